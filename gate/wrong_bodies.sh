@@ -11,7 +11,7 @@
 set -eu
 cd "$(dirname "$0")/.."
 here=$PWD
-[ $# -gt 0 ] || set -- $(cd bench/wrong_bodies && ls -d -- */ | tr -d /)
+[ $# -gt 0 ] || set -- $(cd bench/wrong_bodies && printf '%s\n' */*.edit | cut -d/ -f1 | sort -u)
 work=$(mktemp -d)
 trap 'rm -rf "$work"' EXIT
 

@@ -29,6 +29,7 @@ import golden  # noqa: E402
 VERSION = re.search(rb"(?m)^## (\S+)", pathlib.Path("CHANGELOG.md").read_bytes())[1]
 TABLE, GOLDEN = Table(), golden.Collected()
 case = TABLE.case
+MOST_READS = 40000000
 
 
 def whole(text, brief=True, limit=script.LIMIT):
@@ -452,6 +453,13 @@ def reads():
     for count in (0, 1, 8191, 8192, 8193, 16384, 33554431, 33554432, 33554433, 33562624, 33562625, 2 ** 64 - 1):
         case(f"read counted {count}", f"{count} {count} true" if count <= 33554432 else "too many 33554433 true")
     case("read busy", "broken 40000000")
+    # Each byte comes at the third read, and the last read finds the end.
+    for count in (0, 1, 2, 13333333, 13333334):
+        needed = 3 * count + 1
+        reads = f"{count} {needed}" if needed <= MOST_READS else f"broken {MOST_READS}"
+        case(f"read halting {count}", f"{reads} {'true' if count else 'false'} false")
+    for count in (13333333, 13333334):
+        case(f"run none halting {count}", f"{0 if 3 * count < MOST_READS else 4} {told(b'')}")
 
 
 TEXT = b"""\"func.func\"() <{function_type = (i32) -> i32, sym_name = \"f\"}> ({

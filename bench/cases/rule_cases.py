@@ -317,6 +317,14 @@ def with_ids(lines):
             yield rule, op, MOST_NEXT - made + 1, text, "32 IdsExhausted", None
 
 
+def swaps(count):
+    """Operations one after another, each with its constant first: so many rewrites. A driver that began anew at the
+    root after each of 1,001 would look at half a million operations."""
+    lines = [giver("x0", ty="i32"), constant("c", 5, ty="i32")]
+    lines += (on_two("maxsi", "c", f"x{i}", "i32", "i32").replace("%x =", f"%x{i + 1} =") for i in range(count))
+    return "".join(lines) + f'"test.use"(%x{count}) : (i32) -> ()\n'
+
+
 def main():
     table, count = Table(), collections.Counter()
     for rule, op, least, text, answer, after in itertools.chain(
@@ -324,6 +332,8 @@ def main():
         count[rule, after is not None] += 1
         shown = told((text_of(read(text.encode())) if after is None else after).encode())
         table.case(f"{rule} {op} {least} {given(text.encode())}", f"{answer} {shown}")
+    for limit, answer in ((2000, "converged 1001 within"), (1000, "limit 1000 within")):
+        table.case(f"count {limit} 60000 {given(swaps(1001).encode())}", answer)
     table.write("patterns_cases")
     for rule in WRITTEN:
         print(f"{rule:3}: applies {count[rule, True]}, doesn't {count[rule, False]}")

@@ -1,5 +1,6 @@
 // Stands before the C library: reads of the standard input and writes to the standard output, of one byte each where a
-// number of bytes is given, of which one, or each, has a fault. At the end it is told how many reads there were.
+// number of bytes is given, of which one, or each, has a fault, or so many reads before each that hasn't. At the end it
+// is told how many reads there were.
 #define _GNU_SOURCE
 #include <errno.h>
 #include <stdio.h>
@@ -7,7 +8,7 @@
 #include <sys/syscall.h>
 #include <sys/uio.h>
 #include <unistd.h>
-static unsigned long reads, writes, bad_read, bad_write, every, on, most;
+static unsigned long reads, writes, bad_read, bad_write, every, between, on, most;
 static int error = EIO, teller = -1;
 static unsigned long number_of(const char *name, unsigned long other) {
     const char *text = getenv(name);
@@ -17,13 +18,14 @@ __attribute__((constructor)) static void begin(void) {
     bad_read = number_of("ENDS_READ", 0);
     bad_write = number_of("ENDS_WRITE", 0);
     every = number_of("ENDS_EVERY", 0);
+    between = number_of("ENDS_BETWEEN", 0);
     on = number_of("ENDS_ON", 0);
     most = number_of("ENDS_MOST", -1);
     error = (int)number_of("ENDS_ERROR", EIO);
     teller = (int)number_of("ENDS_TELL", -1);
 }
 static int has_fault(unsigned long count, unsigned long bad) {
-    if (!every && count != bad) return 0;
+    if (!every && count != bad && !(between && count % (between + 1))) return 0;
     errno = error;
     return 1;
 }

@@ -7,6 +7,8 @@ library (bench/faults/ends.c). It needs a C compiler.
 - Every read is interrupted: the program gives up behind 40,000,000 of them, nothing is written, and the status is 4.
   (The table of crates/mlir_work_cases has this of the reading alone; a whole run has no word there, since its answer is
   the same line for 40,000,000 steps of a second program.)
+- Each byte comes behind two reads that are interrupted: of 13,333,332 line feeds all are read, by 39,999,999 reads; of
+  one more 40,000,000 are made, and nothing is written, with status 4.
 - The output takes one byte a write. Each write fails in turn: a front is written, which may be all of it, since what is
   buffered is tried again at the end, and the status is 4. Each from one on fails: what came before is written, and the
   status is 4.
@@ -47,12 +49,12 @@ class Ends:
                        check=True)
         self.wanted = script.run(TEXT, True)
 
-    def run(self, **words):
+    def run(self, text=TEXT, **words):
         """The status, what was written, and how many reads there were."""
         told, teller = os.pipe()
         env = {"LD_PRELOAD": self.library, "ENDS_TELL": str(teller),
                **{f"ENDS_{word.upper()}": str(it) for word, it in words.items()}}
-        ran = subprocess.run([self.program, "--brief"], input=TEXT, stdout=subprocess.PIPE, env=env, pass_fds=[teller],
+        ran = subprocess.run([self.program, "--brief"], input=text, stdout=subprocess.PIPE, env=env, pass_fds=[teller],
                              timeout=600)
         os.close(teller)
         reads = int(os.read(told, 99) or b"-1")
@@ -83,6 +85,12 @@ def main(argv):
         if busy != MOST_READS:
             ends.bad += 1
             print(f"{busy} reads, and not {MOST_READS}")
+        for count, wanted in ((MOST_READS // 3 - 1, 0), (MOST_READS // 3, 4)):
+            status, out, halting = ends.run(b"\n" * count, most=1, between=2, error=errno.EINTR)
+            ends.look(f"{count} bytes, each behind two reads that are interrupted", status, out, (wanted, b""))
+            if halting != min(MOST_READS, 3 * count + 3):
+                ends.bad += 1
+                print(f"{halting} reads of {count} bytes")
     print(f"{reads} reads failed, {reads} interrupted, {len(ends.wanted[1])} writes failed, once and from one on, "
           f"{busy:,} reads interrupted in one run: {ends.bad} not as due")
     return 1 if ends.bad else 0

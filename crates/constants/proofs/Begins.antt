@@ -7,19 +7,19 @@ use Rattle.std.specs.Ordering.{nat_cmp}
 use Rattle.std.specs.Map.{lookup}
 use Rattle.std.specs.BTreeMap.{BTreeMap, is_at}
 use Rattle.ir_types.specs.declared.bits.Bits.{Bits}
-use Rattle.constants_base.specs.Folds.{known_of}
+use Rattle.dialects_int.specs.Folds.{known_of}
 use Rattle.ir_types.specs.Terms.{name_term, type_term, attr_term}
 use Rattle.ir_tree.proofs.Mapped.{map_ids}
 use Rattle.ir_event.specs.declared.world.World.{World}
 use Rattle.ir_event.specs.Modules.{module_in}
 use Rattle.ir_event.proofs.Steps.{formed_meaning}
 use Rattle.ir_event.specs.Heads.{heads}
-use Rattle.constants_base.specs.Facts.{Header, Facts, look, folded, folded_if}
-use Rattle.constants_base.specs.Walk.{with_fact, walk, facts_of, AreOrdered}
-use Rattle.constants_base.proofs.Knowing.{listed}
-use Rattle.constants_base.proofs.Looked.{look_heads}
+use Rattle.constants.specs.Facts.{Header, Facts, look, folded, folded_if}
+use Rattle.constants.specs.Walk.{with_fact, walk, facts_of, AreOrdered}
+use Rattle.constants.proofs.Knowing.{listed}
+use Rattle.constants.proofs.Looked.{look_heads}
 use Rattle.ir_event.proofs.Flat.{heads_ids}
-use Rattle.constants_base.proofs.Ordering.{ordered_tree}
+use Rattle.constants.proofs.Ordering.{ordered_tree}
 use Rattle.constants.specs.Tables.{known_in, look_in, WalkedIds}
 
 -- along the operations that are there

@@ -1,9 +1,9 @@
 -- What was learnt in a world is learnt in the world that it is.
 use Rattle.std.proofs.Common.{◌≡◌, ℕ, Option, List, subst}
 use Rattle.ir_tree_laws.specs.Members.{In}
-use Rattle.constants_base.specs.Facts.{Header, Facts}
-use Rattle.constants_base.specs.Trails.{IsThere}
-use Rattle.constants_base.specs.Phases.{LearntFrom}
+use Rattle.constants.specs.Facts.{Header, Facts}
+use Rattle.constants.specs.Trails.{IsThere}
+use Rattle.constants.specs.Phases.{LearntFrom}
 
 module _ {W : Type 0} (ops : W → ℕ → Option Header) (uses : W → ℕ → ℕ) where
   pub learnt_in : (w v : W) (D : Type 0) (x : ℕ) (forgotten slice : List ℕ) (a b : Facts) (before after : ℕ) → v ≡ w → slice ≡ forgotten

@@ -3,10 +3,10 @@ use Rattle.std.proofs.Common.{◌≡◌, ◌<◌, ◌≤◌, ◌+◌, ℕ, List,
 use Rattle.std.proofs.lemmas.List.{append_assoc, append-nil, take_all}
 use Rattle.ir_types.specs.declared.bits.Bits.{Bits}
 use Rattle.ir_tree_laws.specs.Members.{In}
-use Rattle.constants_base.specs.Folds.{Known, known_of}
-use Rattle.constants_base.specs.Facts.{Facts}
-use Rattle.constants_base.specs.Phases.{Forgotten}
-use Rattle.constants_base.proofs.Forgets.{forgot_none}
+use Rattle.dialects_int.specs.Folds.{Known, known_of}
+use Rattle.constants.specs.Facts.{Facts}
+use Rattle.constants.specs.Phases.{Forgotten}
+use Rattle.constants.proofs.Forgets.{forgot_none}
 use Rattle.constants.specs.Tables.{users_of}
 use Prim.Native.Nat.{suc}
 

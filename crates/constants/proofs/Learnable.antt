@@ -1,12 +1,12 @@
 -- The forms in which the code of the second phase has its facts.
 use Rattle.std.proofs.Common.{◌≡◌, ℕ, List, [], ◌∷◌, ◌++◌, Bool, true, false, true≢false, Option, Some, None, inl, inr, refl, sym, ap, ◌∙◌, cond}
 use Rattle.std.specs.Bool.{OnTrue}
-use Rattle.constants_base.specs.Folds.{Known}
-use Rattle.constants_base.specs.Facts.{Header, Facts, value}
-use Rattle.constants_base.specs.Walk.{with_fact}
-use Rattle.constants_base.specs.Phases.{Noted, Learnt}
-use Rattle.constants_base.proofs.Walks.{not_both}
-use Rattle.constants_base.proofs.Learns.{learnt_nothing}
+use Rattle.dialects_int.specs.Folds.{Known}
+use Rattle.constants.specs.Facts.{Header, Facts, value}
+use Rattle.constants.specs.Walk.{with_fact}
+use Rattle.constants.specs.Phases.{Noted, Learnt}
+use Rattle.constants.proofs.Walks.{not_both}
+use Rattle.constants.proofs.Learns.{learnt_nothing}
 use Rattle.constants.proofs.Forgetful.{never}
 
 pub on_true_is : (b : Bool) (P : Type 0) → b ≡ true → OnTrue b P → P

@@ -8,3 +8,17 @@ pub mod Reporting
 pub mod Begins
 pub mod Entering
 pub mod Settled
+pub mod Walks
+pub mod Ordering
+pub mod Looked
+pub mod Looks
+pub mod Knowing
+pub mod Reaching
+pub mod Forgets
+pub mod Learns
+pub mod Counted
+pub mod Counts
+pub mod Cuts
+pub mod Events
+pub mod Updating
+pub mod Sorted

@@ -17,11 +17,11 @@ use Rattle.ir_event.specs.declared.row.Cell.TheVariants as cell
 use Rattle.ir_tree.specs.declared.value.Value.TheVariants.{Result}
 use Rattle.ir_event.specs.declared.row.Row.{Row as Line}
 use Rattle.ir_event.specs.Rows.{cell_meaning, rows_meaning, CellIsOf, RowIsOf, Shows}
-use Rattle.constants_base.specs.Folds.{Known, known_of}
-use Rattle.constants_base.specs.Walk.{facts_of}
-use Rattle.constants_base.specs.Rows.{constants_of, constant_row, constants_rows}
+use Rattle.dialects_int.specs.Folds.{Known, known_of}
+use Rattle.constants.specs.Walk.{facts_of}
+use Rattle.constants.specs.Rows.{constants_of, constant_row, constants_rows}
 use Rattle.ir_event.proofs.ById.{look, Above, Rising, rising_same}
-use Rattle.constants_base.proofs.Sorted.{constants_rising, constants_look}
+use Rattle.constants.proofs.Sorted.{constants_rising, constants_look}
 use Rattle.constants.specs.Tables.{known_in, cells_of}
 use Rattle.constants.proofs.Tables.{less_than, same_test}
 

@@ -1,8 +1,8 @@
 -- Facts that agree with an operation that changed agree with all operations, and looks that may be spared.
 use Rattle.std.proofs.Common.{◌≡◌, ◌≤◌, ◌+◌, ℕ, Option, inl, inr, sym, ap, ◌∙◌, arith}
 use Rattle.std.proofs.lemmas.Bool.{cases_eq}
-use Rattle.constants_base.specs.Facts.{Header, Facts, value, folded_if, AreLocal}
-use Rattle.constants_base.specs.Phases.{SameBut}
+use Rattle.constants.specs.Facts.{Header, Facts, value, folded_if, AreLocal}
+use Rattle.constants.specs.Phases.{SameBut}
 use Rattle.ir_tree.specs.Meaning.{Operation}
 use Rattle.constants.specs.Tables.{LooksRenewed, LooksWithin}
 

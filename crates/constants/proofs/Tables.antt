@@ -10,9 +10,9 @@ use Rattle.std.proofs.lemmas.Bool.{eq-eqb, ne_eqb}
 use Rattle.std.proofs.lemmas.List.{take_more, map-append}
 use Rattle.ir_types.specs.declared.bits.Bits.{Bits}
 use Rattle.ir_tree.specs.declared.value.Value.{Value}
-use Rattle.constants_base.specs.Folds.{known_of}
-use Rattle.constants_base.specs.Facts.{Facts, known, knowns}
-use Rattle.constants_base.specs.Walk.{with_fact}
+use Rattle.dialects_int.specs.Folds.{known_of}
+use Rattle.constants.specs.Facts.{Facts, known, knowns}
+use Rattle.constants.specs.Walk.{with_fact}
 use Rattle.constants.specs.Tables.{known_in}
 
 pub less_than : (x y : ℕ) → nat_cmp x y ≡ Less → x < y

@@ -6,12 +6,12 @@ use Rattle.ir_event.specs.declared.event.Event.TheVariants.{Put, Take, SetOperan
 use Rattle.ir_event.specs.Modules.{Module}
 use Rattle.ir_event.specs.Step.{Step}
 use Rattle.ir_event.specs.Heads.{heads}
-use Rattle.constants_base.specs.Facts.{Facts, look, folded_if, AreLocal}
-use Rattle.constants_base.specs.Walk.{facts_of}
-use Rattle.constants_base.specs.Reached.{reached, most_over, most_looks}
-use Rattle.constants_base.proofs.Walks.{value_same}
-use Rattle.constants_base.proofs.Looked.{local_facts, same_facts_local}
-use Rattle.constants_base.proofs.Events.{ChangedAt, ordered_after, put_changed, operand_changed, entry_changed, shift_same, taken_local}
+use Rattle.constants.specs.Facts.{Facts, look, folded_if, AreLocal}
+use Rattle.constants.specs.Walk.{facts_of}
+use Rattle.constants.specs.Reached.{reached, most_over, most_looks}
+use Rattle.constants.proofs.Walks.{value_same}
+use Rattle.constants.proofs.Looked.{local_facts, same_facts_local}
+use Rattle.constants.proofs.Events.{ChangedAt, ordered_after, put_changed, operand_changed, entry_changed, shift_same, taken_local}
 use Rattle.constants.specs.Tables.{Updated, FactsFollowed, LooksWithin, LooksFollowed}
 
 module _ (c : Things) (m n : Module) (D : Type 0) (a b : Facts) where

@@ -21,18 +21,18 @@ use Rattle.ir_tree_laws.proofs.Listed.{in_left, in_right, in_parts, in_map, in_m
 use Rattle.ir_tree_laws.proofs.Readings.{stands_uses}
 use Rattle.ir_tree_laws.proofs.Members.{found_stands, stand_found}
 use Rattle.ir_tree_laws.proofs.HeadForm.{in_gather}
-use Rattle.constants_base.specs.Nodes.{Node as Numbers, node_of}
-use Rattle.constants_base.specs.Stored.{known}
-use Rattle.constants_base.specs.Using.{AreUses, EachOnce, is_use, same_use}
+use Rattle.ir_store.specs.Nodes.{Node as Numbers, node_of}
+use Rattle.ir_store.specs.Stored.{known}
+use Rattle.ir_store.specs.Using.{AreUses, EachOnce, is_use, same_use}
 use Rattle.ir_event.specs.declared.world.World.{World}
 use Rattle.ir_event.proofs.Nodes.{known_node}
-use Rattle.constants_base.specs.Folds.{known_of, entries_of, fold_of}
+use Rattle.dialects_int.specs.Folds.{known_of, entries_of, fold_of}
 use Rattle.ir_event.specs.Heads.{heads}
-use Rattle.constants_base.specs.Facts.{Header, Facts, knowns, folded_if, value}
-use Rattle.constants_base.specs.Reached.{uses_among}
-use Rattle.constants_base.specs.Trails.{Uses, IsThere}
-use Rattle.constants_base.specs.Phases.{AreUsers}
-use Rattle.constants_base.proofs.Counts.{length_uses}
+use Rattle.constants.specs.Facts.{Header, Facts, knowns, folded_if, value}
+use Rattle.constants.specs.Reached.{uses_among}
+use Rattle.constants.specs.Trails.{Uses, IsThere}
+use Rattle.constants.specs.Phases.{AreUsers}
+use Rattle.constants.proofs.Counts.{length_uses}
 use Rattle.constants.specs.Tables.{look_in, uses_in, users_of}
 
 -- ---- uses in a list

@@ -2,9 +2,9 @@
 use Rattle.std.specs.Prelude.{◌≡◌, ℕ, false, None}
 use Rattle.ir_tree.specs.Ids.{HasDistinctIds}
 use Rattle.ir_event.specs.Listener.{Listener}
-use Rattle.constants_base.specs.Walk.{facts_of}
-use Rattle.constants_base.specs.Rows.{constants_rows}
-use Rattle.constants_base.specs.Reached.{most_looks}
+use Rattle.constants.specs.Walk.{facts_of}
+use Rattle.constants.specs.Rows.{constants_rows}
+use Rattle.constants.specs.Reached.{most_looks}
 use Rattle.constants.specs.declared.constants.Constants.{Constants}
 use Rattle.constants.specs.Tables.{known_in}
 

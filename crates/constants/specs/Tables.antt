@@ -1,5 +1,5 @@
 -- The table of known values, and how it follows an event.
-use Rattle.std.specs.Prelude.{◌≡◌, ℕ, ◌+◌, ◌≤◌, List, [], ◌∷◌, map, Option, None}
+use Rattle.std.specs.Prelude.{◌≡◌, ℕ, ◌+◌, ◌≤◌, List, [], ◌∷◌, map, Option, None, Bool, true, false}
 use Rattle.std.specs.Ordering.{nat_cmp}
 use Rattle.std.specs.BTreeMap.{BTreeMap}
 use Rattle.std.specs.BTreeMap as tree
@@ -12,13 +12,13 @@ use Rattle.ir_event.specs.declared.row.Cell.TheVariants.{Val, Bits as BitsCell}
 use Rattle.ir_tree.specs.declared.value.Value.TheVariants.{Result}
 use Rattle.ir_event.specs.declared.world.World.{World}
 use Rattle.ir_event.specs.Modules.{module_in}
-use Rattle.constants_base.specs.Folds.{known_of}
+use Rattle.dialects_int.specs.Folds.{known_of}
 use Rattle.ir_event.specs.Heads.{heads}
-use Rattle.constants_base.specs.Facts.{Header, Facts, look, value, AreLocal}
-use Rattle.constants_base.specs.Walk.{with_fact, facts_of, AreOrdered}
-use Rattle.constants_base.specs.Reached.{uses_among, reached, most_over}
-use Rattle.constants_base.specs.Trails.{IsThere}
-use Rattle.constants_base.specs.Phases.{SameBut}
+use Rattle.constants.specs.Facts.{Header, Facts, look, value, AreLocal}
+use Rattle.constants.specs.Walk.{with_fact, facts_of, AreOrdered}
+use Rattle.constants.specs.Reached.{uses_among, reached, most_over}
+use Rattle.constants.specs.Trails.{IsThere}
+use Rattle.constants.specs.Phases.{SameBut}
 
 -- what a table knows
 abbrev pub known_in : BTreeMap ℕ Bits → Facts
@@ -42,6 +42,14 @@ users_of us = map (λ (u : ℕ × ℕ). u.0) us
 -- facts that agreed with operations that differ at x alone agree with these, where it is done
 abbrev pub Updated : Type 0 → (ℕ → Option Header) → ℕ → Facts → Facts → Type 0
 Updated done ops x a b = IsThere ops x → (was : ℕ → Option Header) → SameBut x was ops → AreLocal was a → done → AreLocal ops b
+
+-- whether nothing can be learnt by an event: a table that follows it takes no memory
+abbrev pub teaches_nothing : Event → Bool
+teaches_nothing (Put x place fresh) = false
+teaches_nothing (Take x place fresh) = true
+teaches_nothing (SetOperand x k old new) = false
+teaches_nothing (SetEntry x part key old new) = false
+teaches_nothing (Shift x old new) = true
 
 -- facts followed an event, where these operations are there now
 abbrev pub FactsFollowed : Type 0 → (ℕ → Option Header) → Event → Facts → Facts → Type 0

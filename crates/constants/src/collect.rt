@@ -2,10 +2,10 @@
 ghost use Rattle.std.specs.Prelude.{◌≡◌, ℕ};
 ghost use Rattle.std.specs.Bool.{OnTrue};
 ghost use Rattle.ir_tree.specs.Ids.{ids};
-ghost use Rattle.constants_base.specs.Folds.{known_of};
-ghost use Rattle.constants_base.specs.Facts.{value};
-ghost use Rattle.constants_base.specs.Walk.{with_fact};
-ghost use Rattle.constants_base.specs.Trails.{IsThere};
+ghost use Rattle.dialects_int.specs.Folds.{known_of};
+ghost use Rattle.constants.specs.Facts.{value};
+ghost use Rattle.constants.specs.Walk.{with_fact};
+ghost use Rattle.constants.specs.Trails.{IsThere};
 ghost use Rattle.constants.specs.Tables.{known_in, look_in, WalkedIds};
 
 use crate::table::{drop_fact, note};

@@ -1,11 +1,10 @@
 //! The table follows an event.
 ghost use Rattle.std.specs.Prelude.{◌≡◌, ◌≤◌, ◌+◌, true};
 ghost use Rattle.ir_event.specs.Modules.{module_in};
-ghost use Rattle.ir_event.specs.Listener.{is_take};
-ghost use Rattle.constants_base.specs.Facts.{value};
-ghost use Rattle.constants_base.specs.Folds.{known_of};
-ghost use Rattle.constants_base.specs.Trails.{IsThere};
-ghost use Rattle.constants.specs.Tables.{known_in, look_in, Updated, FactsFollowed, LooksRenewed, LooksWithin, LooksFollowed};
+ghost use Rattle.constants.specs.Facts.{value};
+ghost use Rattle.dialects_int.specs.Folds.{known_of};
+ghost use Rattle.constants.specs.Trails.{IsThere};
+ghost use Rattle.constants.specs.Tables.{known_in, look_in, teaches_nothing, Updated, FactsFollowed, LooksRenewed, LooksWithin, LooksFollowed};
 
 use crate::forget::forget_from;
 use crate::learn::learn_from;
@@ -68,7 +67,7 @@ fn update(alloc: Global, table: &mut BTreeMap<OpId, Bits>, view: &mut View<'_>, 
     renew(alloc, table, view, op)
 }
 
-/// Follows an event. It is false where memory was refused.
+/// Follows an event. It is false where memory was refused, which an operation that is taken or moved doesn't need.
 pub(crate) fn follow(
     alloc: Global,
     table: &mut BTreeMap<OpId, Bits>,
@@ -77,7 +76,7 @@ pub(crate) fn follow(
 ) -> bool
     ensures followed { FactsFollowed (result ≡ true) (look_in view.old.world.now) event.now (known_in table.old) (known_in table.new) }
     ensures looks { LooksFollowed (module_in view.old.world.now).tree event.now (known_in table.old) view.old.looks view.new.looks }
-    ensures take { is_take event.now ≡ true → result ≡ true }
+    ensures grown { teaches_nothing event.now ≡ true → result ≡ true }
     ensures world { view.new.world.now ≡ view.old.world.now }
 {
     match event {

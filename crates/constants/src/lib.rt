@@ -5,6 +5,7 @@ mod collect;
 pub mod constants;
 mod follow;
 mod forget;
+pub mod laws;
 mod learn;
 mod report;
 mod table;

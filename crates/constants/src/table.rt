@@ -1,9 +1,9 @@
 //! The table of known values.
 ghost use Rattle.std.specs.Prelude.{◌≡◌, ℕ, Some, None, false, IfOk, map};
 ghost use Rattle.std.specs.Bool.{OnTrue};
-ghost use Rattle.constants_base.specs.Folds.{known_of};
-ghost use Rattle.constants_base.specs.Facts.{known, knowns};
-ghost use Rattle.constants_base.specs.Walk.{with_fact};
+ghost use Rattle.dialects_int.specs.Folds.{known_of};
+ghost use Rattle.constants.specs.Facts.{known, knowns};
+ghost use Rattle.constants.specs.Walk.{with_fact};
 ghost use Rattle.constants.specs.Tables.{known_in};
 
 use ir_tree::value::Value;

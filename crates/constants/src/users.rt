@@ -1,15 +1,15 @@
 //! The operations that use the result of one, and what an operation folds to.
 ghost use Rattle.std.specs.Prelude.{◌≡◌, ◌≤◌, ◌+◌, length, IfOk};
-ghost use Rattle.constants_base.specs.Folds.{known_of};
-ghost use Rattle.constants_base.specs.Facts.{value};
-ghost use Rattle.constants_base.specs.Trails.{IsThere};
-ghost use Rattle.constants_base.specs.Phases.{AreUsers};
+ghost use Rattle.dialects_int.specs.Folds.{known_of};
+ghost use Rattle.constants.specs.Facts.{value};
+ghost use Rattle.constants.specs.Trails.{IsThere};
+ghost use Rattle.constants.specs.Phases.{AreUsers};
 ghost use Rattle.constants.specs.Tables.{known_in, look_in, uses_in, users_of};
 
 use crate::table::value_facts;
-use constants_base::fold::fold;
-use constants_base::uses::UsesOf;
+use dialects_int::fold::fold;
 use ir_event::view::View;
+use ir_store::uses::UsesOf;
 use ir_tree::value::Value;
 use ir_types::bits::Bits;
 use ir_types::ids::OpId;

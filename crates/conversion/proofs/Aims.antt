@@ -7,7 +7,8 @@ use Rattle.ir_types.specs.Terms.{name_term}
 use Rattle.ir_types.proofs.Growth.{front_agree, front_length}
 use Rattle.ir_tree_laws.proofs.Listed.{both}
 use Rattle.conversion_base.specs.Words.{named}
-use Rattle.conversion_base.specs.Targets.{TargetOf, IsAimIn, IsNamedIn, aim_of, cast_name, each_once, is_accepted, is_for_conversion, names_of}
+use Rattle.conversion_base.specs.RuleNames.{is_converting}
+use Rattle.conversion_base.specs.Targets.{TargetOf, IsAimIn, IsNamedIn, aim_of, cast_name, each_once, is_accepted, names_of}
 
 same_map : {X : Type 0} (P : ℕ → Type 0) (f g : ℕ → X) → ((n : ℕ) → P n → f n ≡ g n) → (ns : List ℕ) → All P ns → map f ns ≡ map g ns
 same_map P f g h [] a = refl
@@ -39,4 +40,4 @@ accepted_aim c g is a =
     let n = names_of (aim_of c g) in
     let all = both (each_once n) _ a in
     let two = both (not (list_any (named cast_name) n)) _ all.1 in
-    record { names = is; rules = (both (list_all is_for_conversion g.rules) _ two.1).0 }
+    record { names = is; rules = (both (list_all is_converting g.rules) _ two.1).0 }

@@ -1,15 +1,18 @@
 -- Calls one after another.
 use Rattle.std.proofs.Common.{refl, ◌∙◌}
 use Rattle.ir_types.proofs.Growth.{grows_refl, grows_trans}
+use Rattle.rewriter.specs.Held.{Held}
 use Rattle.conversion.specs.States.{State, Leads}
+use Rattle.conversion.proofs.Noting.{noted_more, noted_none}
 
-module _ {S : Type 0} (state : S → State) (led : S → S → Type 0) where
-  pub leads_none : ((a : S) → led a a) → (a : S) → Leads state led a a
-  leads_none none a = record { grows = grows_refl (state a).things; marks = refl; told = none a }
+module _ {S : Type 0} (state : S → State) (desk : S → Held) (led : S → S → Type 0) where
+  pub leads_none : ((a : S) → led a a) → (a : S) → Leads state desk led a a
+  leads_none none a = record { grows = grows_refl (state a).things; marks = refl; noted = noted_none (desk a); told = none a }
 
-  pub leads_more : ((a b c : S) → led a b → led b c → led a c) → (a b c : S) → Leads state led a b → Leads state led b c → Leads state led a c
+  pub leads_more : ((a b c : S) → led a b → led b c → led a c) → (a b c : S) → Leads state desk led a b → Leads state desk led b c → Leads state desk led a c
   leads_more more a b c h k = record {
     grows = grows_trans (state a).things (state b).things (state c).things h.grows k.grows;
     marks = k.marks ∙ h.marks;
+    noted = noted_more (desk a) (desk b) (desk c) h.noted k.noted;
     told = more a b c h.told k.told;
   }

@@ -1,9 +1,20 @@
 pub mod Aims
 pub mod Leading
+pub mod Noting
 pub mod Replied
 pub mod Rising
 pub mod Seen
 pub mod Trying
 pub mod Turns
 pub mod Walking
+pub mod Behind
+pub mod Clean
+pub mod From
+pub mod Given
+pub mod Kept
+pub mod Order
+pub mod Steps
+pub mod Used
+pub mod Waiting
+pub mod Walks
 pub use Rattle.rewriter.proofs as of_rewriter_bench

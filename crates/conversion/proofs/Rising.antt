@@ -7,7 +7,9 @@ use Rattle.ir_event.specs.Modules.{Module}
 use Rattle.conversion.specs.declared.tried.Tried.{Tried}
 use Rattle.conversion.specs.States.{Told}
 use Rattle.conversion_base.specs.Rewrites.{Rewrite, none, refused, becomes, rewrite_of}
-use Rattle.conversion_base.specs.Targets.{Aim, is_for_conversion, is_legal}
+use Rattle.conversion_base.specs.Rule.{Rule}
+use Rattle.conversion_base.specs.RuleNames.{is_converting}
+use Rattle.conversion_base.specs.Targets.{Aim, is_legal}
 use Rattle.conversion_base.specs.Legalization.{Outcome, legalised, failed, stopped, behind, and_then, or_else, standing, each_of, after_rule, first_rule, legalization_of, made_since}
 
 -- an outcome's rules, where a number of ids was given out before
@@ -18,7 +20,7 @@ Rises n (stopped e) = Unit {0}
 
 -- rules for conversion make operations
 abbrev pub Makes : Type 0
-Makes = (r x : ℕ) (m n : Module) → is_for_conversion r ≡ true → rewrite_of r m x ≡ becomes n → m.next < n.next
+Makes = (r : Rule) (x : ℕ) (m n : Module) → is_converting r ≡ true → rewrite_of r m x ≡ becomes n → m.next < n.next
 
 rises_behind : (k n l : ℕ) (met : Bool) (o : Outcome) → k + n ≤ l → Rises l o → Rises n (behind k met o)
 rises_behind k n l met (legalised p j deep) h r = omega (arith, h, r)
@@ -52,17 +54,17 @@ module _ (go : Module → ℕ → Outcome) (goes : (m : Module) (x : ℕ) → Ri
   rises_after m (refused e) h = tt
   rises_after m (becomes n) h = let l = h n refl in rises_behind 1 m.next n.next false _ (omega (arith, l)) (rises_each (made_since m.next n) n)
 
-  rises_first : Makes → (rs : List ℕ) → list_all is_for_conversion rs ≡ true → (m : Module) (x : ℕ) → Rises m.next (first_rule go rs m x)
+  rises_first : Makes → (rs : List Rule) → list_all is_converting rs ≡ true → (m : Module) (x : ℕ) → Rises m.next (first_rule go rs m x)
   rises_first makes [] a m x = tt
   rises_first makes (r ∷ rs) a m x =
-      let b = both (is_for_conversion r) (list_all is_for_conversion rs) a in
+      let b = both (is_converting r) (list_all is_converting rs) a in
       rises_else m.next (after_rule go m (rewrite_of r m x)) _ (rises_after m (rewrite_of r m x) (λ n. makes r x m n b.0)) (rises_first makes rs b.1 m x)
 
 rises_unless : (b : Bool) (m : Module) (o : Outcome) → Rises m.next o → Rises m.next (if b then legalised m 0 false else o)
 rises_unless true m o r = omega arith
 rises_unless false m o r = r
 
-pub rises_legalization : Makes → (g : Aim) → list_all is_for_conversion g.rules ≡ true → (d : ℕ) (m : Module) (x : ℕ) → Rises m.next (legalization_of g d m x)
+pub rises_legalization : Makes → (g : Aim) → list_all is_converting g.rules ≡ true → (d : ℕ) (m : Module) (x : ℕ) → Rises m.next (legalization_of g d m x)
 rises_legalization makes g a zero m x = rises_unless (is_legal g x m.tree) m (failed true) tt
 rises_legalization makes g a (suc d) m x =
     rises_unless (is_legal g x m.tree) m _ (rises_first (legalization_of g d) (rises_legalization makes g a d) makes g.rules a m x)

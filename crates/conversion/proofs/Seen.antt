@@ -17,20 +17,21 @@ use Rattle.rewriter.proofs.Calls.{stepped, unstepped}
 use Rattle.rewriter.proofs.Told.{heard_none}
 use Rattle.rewriter.specs.Machine.{Goes, Nothing, Step}
 use Rattle.rewriter.specs.Wholes.{IsFinished}
-use Rattle.patterns_indexed.specs.Interned.{IsFull as AddedFull}
-use Rattle.patterns_indexed.specs.Applied.{Applied, Gave, IsReason}
-use Rattle.patterns_indexed.specs.Benched.{Benched, Led, reply_of, state_of}
-use Rattle.patterns_indexed.specs.Held.{Held, module_held, open_marks}
+use Rattle.patterns.specs.runs.Interning.{IsFull as AddedFull}
+use Rattle.patterns.specs.Applied.{Applied, Gave, IsReason}
+use Rattle.patterns.specs.Benched.{Benched, Keeps, Led, reply_of, state_of}
+use Rattle.patterns.specs.Held.{Held, module_held, open_marks}
 use Rattle.conversion_base.specs.Lists.{AllFit, edits_meaning}
-use Rattle.patterns_indexed.specs.runs.Edit.{Edit as Coded}
-use Rattle.patterns_indexed.specs.runs.Runs.{Along}
+use Rattle.patterns.specs.runs.Edit.{Edit as Coded}
+use Rattle.patterns.specs.runs.Runs.{Along}
 use Rattle.conversion_base.specs.Makes.{made_by}
 use Rattle.conversion_base.specs.Reconciling.{index_edits, index_rewrite}
 use Rattle.conversion_base.proofs.Collapsing.{one_made}
 use Rattle.conversion_base.specs.Rewrites.{Rewrite, none, refused, becomes, carried_out, rewrite_by}
-use Rattle.conversion.specs.Benches.{LedOn, seen}
+use Rattle.conversion.specs.Benches.{LedOn, desk_of, seen}
 use Rattle.conversion.specs.States.{Answers, Committed, IsFull, IsWant, Leads, Refuses, RolledBack, marked}
 use Rattle.conversion.specs.States as state
+use Rattle.conversion.proofs.Noting.{noted_kept, noted_none}
 
 -- ---- what a world shows
 
@@ -54,21 +55,22 @@ all_in_order w h ctx store (Err e) k = tt
 -- ---- what stays
 
 module _ {B : Type 0} (meaning : B → Listener) where
-  pub stay : (a : Benched B) → Leads seen (LedOn meaning) a a
-  stay a = record { grows = grows_refl a.desk.ctx; marks = refl; told = λ holds. (holds, ([], heard_none meaning a)) }
+  pub stay : (a : Benched B) → Leads seen desk_of (LedOn meaning) a a
+  stay a = record { grows = grows_refl a.desk.ctx; marks = refl; noted = noted_none a.desk; told = λ holds. (holds, ([], heard_none meaning a)) }
 
-  pub leads_applied : (a b : Benched B) → Holds b.desk.ctx → Applied meaning a b → Leads seen (LedOn meaning) a b
-  leads_applied a b holds p = record { grows = p.grows; marks = p.opens; told = λ _. (holds, p.led) }
+  pub leads_applied : {A : Type 0} (r : Result A Refusal) (a b : Benched B) → Holds b.desk.ctx → Applied meaning a b → Keeps meaning r a b → Leads seen desk_of (LedOn meaning) a b
+  leads_applied r a b holds p keeps = record { grows = p.grows; marks = p.opens; noted = noted_kept meaning r a b keeps; told = λ _. (holds, p.led) }
 
-  pub leads_on : (a b : Benched B) → Holds b.desk.ctx → b.desk.ctx ≡ a.desk.ctx → open_marks b.desk ≡ open_marks a.desk → Led meaning a b → Leads seen (LedOn meaning) a b
-  leads_on a b holds ctx marks led = record {
+  pub leads_on : {A : Type 0} (r : Result A Refusal) (a b : Benched B) → Holds b.desk.ctx → b.desk.ctx ≡ a.desk.ctx → open_marks b.desk ≡ open_marks a.desk → Led meaning a b → Keeps meaning r a b → Leads seen desk_of (LedOn meaning) a b
+  leads_on r a b holds ctx marks led keeps = record {
     grows = subst (λ (d : Things). Grows a.desk.ctx d) (sym ctx) (grows_refl a.desk.ctx);
     marks = marks;
+    noted = noted_kept meaning r a b keeps;
     told = λ _. (holds, led);
   }
 
-  pub leads_along : (a b : Benched B) → Holds b.desk.ctx → Along meaning a b → Leads seen (LedOn meaning) a b
-  leads_along a b holds p = leads_on a b holds p.ctx p.opens p.led
+  pub leads_along : {A : Type 0} (r : Result A Refusal) (a b : Benched B) → Holds b.desk.ctx → Along meaning a b → Keeps meaning r a b → Leads seen desk_of (LedOn meaning) a b
+  leads_along r a b holds p keeps = leads_on r a b holds p.ctx p.opens p.led keeps
 
   -- ---- marks
 

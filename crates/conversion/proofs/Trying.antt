@@ -1,5 +1,5 @@
 -- Tries, one after another.
-use Rattle.std.proofs.Common.{◌≡◌, refl, ap, sym, ◌∙◌, subst, inr, ℕ, zero, suc, ◌+◌, ◌-◌, ◌<◌, ◌≤◌, Bool, true, false, true≢false, List, [], ◌∷◌, length, take, drop, get_or, slice_index_or, ◌||◌, not, if◌then◌else◌, Result, Ok, Err, arith}
+use Rattle.std.proofs.Common.{◌≡◌, ◌≢◌, refl, ap, sym, ◌∙◌, subst, inr, ℕ, zero, suc, ◌+◌, ◌-◌, ◌<◌, ◌≤◌, Bool, true, false, true≢false, List, [], ◌∷◌, length, take, drop, get_or, ◌||◌, not, if◌then◌else◌, Result, Ok, Err, arith}
 use Rattle.std.specs.List.{list_all, range_with_len}
 use Rattle.std.proofs.Math.Bool.{or-false}
 use Rattle.std.proofs.lemmas.List.{take_all}
@@ -8,11 +8,16 @@ use Rattle.ir_types.specs.declared.refusal.Refusal.{Refusal}
 use Rattle.ir_tree.specs.Ids.{has_id}
 use Rattle.ir_tree_laws.proofs.Listed.{both}
 use Rattle.ir_event.specs.Modules.{Module}
+use Rattle.rewriter.specs.Held.{Held}
+use Rattle.rewriter.specs.Rolling.{Dropped}
 use Rattle.conversion.specs.declared.tried.Tried.{Tried}
 use Rattle.conversion_base.specs.Rewrites.{Rewrite, none, refused, becomes, rewrite_of}
-use Rattle.conversion_base.specs.Targets.{Aim, is_for_conversion, is_legal}
+use Rattle.conversion_base.specs.Rule.{Rule}
+use Rattle.conversion_base.specs.RuleNames.{is_converting}
+use Rattle.conversion_base.specs.Targets.{Aim, is_legal}
 use Rattle.conversion_base.specs.Legalization.{Outcome, legalised, failed, stopped, behind, and_then, or_else, standing, each_of, after_rule, first_rule, legalization_of, made_since}
-use Rattle.conversion.specs.States.{State, Applied, IsWant, Told, ToldBehind, Stops, Comes, ComesBehind, Closed, Leads, marked, went_well}
+use Rattle.conversion.specs.States.{State, Applied, IsWant, Told, ToldBehind, Stops, Comes, ComesBehind, Closed, Leads, marked, marked_desk, went_well}
+use Rattle.conversion.proofs.Noting.{noted_closed}
 
 -- ---- outcomes behind others
 
@@ -53,20 +58,20 @@ stops_then f (stopped g) c e s = s
 -- ---- the of a list
 
 -- what is left of the gives, behind what was met, what all of them give; the module is as it was
-pub record Trying (go : Module → ℕ → Outcome) (x : ℕ) (all rest : List ℕ) (start here : State) (met : Bool) : Type 0 where
+pub record Trying (go : Module → ℕ → Outcome) (x : ℕ) (all rest : List Rule) (start here : State) (met : Bool) : Type 0 where
   pub same : behind 0 met (first_rule go rest start.held x) ≡ first_rule go all start.held x
   pub held : here.held ≡ start.held
-  pub rules_left : list_all is_for_conversion rest ≡ true
+  pub rules_left : list_all is_converting rest ≡ true
 
-pub trying_none : (go : Module → ℕ → Outcome) (x : ℕ) (all : List ℕ) (start : State) → list_all is_for_conversion all ≡ true → Trying go x all all start start false
+pub trying_none : (go : Module → ℕ → Outcome) (x : ℕ) (all : List Rule) (start : State) → list_all is_converting all ≡ true → Trying go x all all start start false
 trying_none go x all start a = record { same = behind_none (first_rule go all start.held x); held = refl; rules_left = a }
 
-module _ (go : Module → ℕ → Outcome) (x : ℕ) (all : List ℕ) (start : State) where
-  pub trying_rule : (r : ℕ) (rest : List ℕ) (here : State) (met : Bool) → Trying go x all (r ∷ rest) start here met → is_for_conversion r ≡ true
-  trying_rule r rest here met h = (both (is_for_conversion r) (list_all is_for_conversion rest) h.rules_left).0
+module _ (go : Module → ℕ → Outcome) (x : ℕ) (all : List Rule) (start : State) where
+  pub trying_rule : (r : Rule) (rest : List Rule) (here : State) (met : Bool) → Trying go x all (r ∷ rest) start here met → is_converting r ≡ true
+  trying_rule r rest here met h = (both (is_converting r) (list_all is_converting rest) h.rules_left).0
 
   -- a rule is refused
-  pub trying_stops : (r : ℕ) (rest : List ℕ) (here next : State) (met : Bool) (e : Refusal) → Trying go x all (r ∷ rest) start here met
+  pub trying_stops : (r : Rule) (rest : List Rule) (here next : State) (met : Bool) (e : Refusal) → Trying go x all (r ∷ rest) start here met
       → Comes (after_rule go here.held (rewrite_of r here.held x)) (Err e) here next → Comes (first_rule go all start.held x) (Err e) start next
   trying_stops r rest here next met e h c =
       let o = after_rule go start.held (rewrite_of r start.held x) in
@@ -81,7 +86,7 @@ module _ (go : Module → ℕ → Outcome) (x : ℕ) (all : List ℕ) (start : S
   went (failed deep) p met t u m n c l k2 d is = absurd (true≢false (sym is ∙ l ∙ c.0))
   went (stopped e) p met t u m n c l k2 d is = absurd c
 
-  pub trying_well : (r : ℕ) (rest : List ℕ) (here next : State) (met : Bool) (t u : Tried) → Trying go x all (r ∷ rest) start here met
+  pub trying_well : (r : Rule) (rest : List Rule) (here next : State) (met : Bool) (t u : Tried) → Trying go x all (r ∷ rest) start here met
       → Comes (after_rule go here.held (rewrite_of r here.held x)) (Ok t) here next → u.legal ≡ t.legal → u.count ≡ t.count → u.met ≡ (met || t.met) → u.legal ≡ true
       → Comes (first_rule go all start.held x) (Ok u) start next
   trying_well r rest here next met t u h c l k d is =
@@ -95,13 +100,13 @@ module _ (go : Module → ℕ → Outcome) (x : ℕ) (all : List ℕ) (start : S
   passed (failed deep) p met t u m n c l d is = (ap (λ b. behind 0 b p) (d ∙ ap (λ b. met || b) c.1.0) ∙ behind_both 0 0 met deep p, c.1.1)
   passed (stopped e) p met t u m n c l d is = absurd c
 
-  pub trying_more : (r : ℕ) (rest : List ℕ) (here next : State) (met : Bool) (t u : Tried) → Trying go x all (r ∷ rest) start here met
+  pub trying_more : (r : Rule) (rest : List Rule) (here next : State) (met : Bool) (t u : Tried) → Trying go x all (r ∷ rest) start here met
       → Comes (after_rule go here.held (rewrite_of r here.held x)) (Ok t) here next → u.legal ≡ t.legal → u.met ≡ (met || t.met) → u.legal ≡ false → Trying go x all rest start next u.met
   trying_more r rest here next met t u h c l d is =
       let o = after_rule go start.held (rewrite_of r start.held x) in
       let s : Told o t start.held next.held = subst (λ (m : Module). Told (after_rule go m (rewrite_of r m x)) t m next.held) h.held c in
       let p = passed o (first_rule go rest start.held x) met t u start.held next.held s l d is in
-      record { same = p.0 ∙ h.same; held = p.1; rules_left = (both (is_for_conversion r) (list_all is_for_conversion rest) h.rules_left).1 }
+      record { same = p.0 ∙ h.same; held = p.1; rules_left = (both (is_converting r) (list_all is_converting rest) h.rules_left).1 }
 
   -- no rule is left
   pub trying_fails : (here : State) (met : Bool) (u : Tried) → Trying go x all [] start here met → u.legal ≡ false → u.met ≡ met → Comes (first_rule go all start.held x) (Ok u) start here
@@ -203,22 +208,17 @@ tried_whole f r start stepped here end e m c well w is =
     whole start here end (λ b k. k (record { marked = start.held; counted = false }) start.marks (noted start stepped here e m)) (f start.things start.held) r (subst (λ (s : State). ComesBehind (f s.things s.held) r here) e c)
     (subst (λ b. Closed b here end) w is)
 
-module _ {S : Type 0} (state : S → State) (led : S → S → Type 0) (more : (a b c : S) → led a b → led b c → led a c) where
-  pub leads_whole : (start stepped here end : S) → state stepped ≡ marked (state start) → led start stepped → Leads state led stepped here → led here end → (well : Bool) → Closed well (state here) (state end) → Leads state led start end
-  leads_whole start stepped here end e l h k well is =
+module _ {S : Type 0} (state : S → State) (desk : S → Held) (led : S → S → Type 0) (more : (a b c : S) → led a b → led b c → led a c) where
+  pub leads_whole : (start stepped here end : S) → state stepped ≡ marked (state start) → led start stepped → Leads state desk led stepped here → led here end → (well : Bool) → Closed well (state here) (state end)
+      → ((desk start).marks ≡ [] → (desk start).journal ≡ []) → desk stepped ≡ marked_desk (desk start) → ((desk here).marks ≢ [] → Dropped well (desk here) (desk end)) → Leads state desk led start end
+  leads_whole start stepped here end e l h k well is unmarked begun dropped =
       let closed = is (record { marked = (state start).held; counted = false }) (state start).marks (noted (state start) (state stepped) (state here) e h.marks) in
       record {
         grows = subst (λ (d : Things). Grows (state start).things d) (sym (ap (λ (s : State). s.things) closed)) (subst (λ (s : State). Grows s.things (state here).things) e h.grows);
         marks = ap (λ (s : State). s.marks) closed;
+        noted = noted_closed (desk start) (desk stepped) (desk here) (desk end) unmarked begun h.noted well dropped;
         told = more start here end (more start stepped here l h.told) k;
       }
-
--- a list that isn't empty
-pub rest_is : (xs : List ℕ) → 1 ≤ length xs → xs ≡ slice_index_or xs 0 0 ∷ take (length xs - 1) (drop 1 xs)
-rest_is [] l = absurd (omega (arith, l))
-rest_is (x ∷ xs) l =
-    let e : length (x ∷ xs) - 1 ≡ length xs = omega arith in
-    ap (λ ys. x ∷ ys) (sym (ap (λ n. take n xs) e ∙ take_all (length xs) xs (omega arith)))
 
 pub not_is : (b : Bool) → not b ≡ true → b ≡ false
 not_is true h = sym h
@@ -228,7 +228,7 @@ pub is_not : (b : Bool) → not b ≡ false → b ≡ true
 is_not true h = refl
 is_not false h = sym h
 
--- the same, where its first is known
-pub rest_at : (xs : List ℕ) (x : ℕ) → 1 ≤ length xs → x ≡ get_or xs 0 x → xs ≡ x ∷ take (length xs - 1) (drop 1 xs)
-rest_at [] x l is = absurd (omega (arith, l))
-rest_at (y ∷ xs) x l is = rest_is (y ∷ xs) l ∙ ap (λ z. z ∷ take (length (y ∷ xs) - 1) (drop 1 (y ∷ xs))) (sym is)
+-- a list that isn't empty, where its first is known
+pub rest_at : {X : Type 0} (xs : List X) (x d : X) → 1 ≤ length xs → x ≡ get_or xs 0 d → xs ≡ x ∷ take (length xs - 1) (drop 1 xs)
+rest_at [] x d l is = absurd (omega (arith, l))
+rest_at (y ∷ xs) x d l is = λ i. sym is i ∷ sym (take_all (length (y ∷ xs) - 1) xs (omega arith)) i

@@ -59,7 +59,7 @@ module _ (f : Module → ℕ → Ended) (all : List ℕ) (start : State) where
 
   turn_is : (xs : List ℕ) (x : ℕ) (count : ℕ) (here : State) → 1 ≤ length xs → x ≡ get_or xs 0 x → Turning xs count here
       → counted count (next_part (in_turn f (take (length xs - 1) (drop 1 xs))) (f here.held x)) ≡ in_turn f all start.held
-  turn_is xs x count here l z h = sym (ap (λ ys. counted count (in_turn f ys here.held)) (rest_at xs x l z)) ∙ h
+  turn_is xs x count here l z h = sym (ap (λ ys. counted count (in_turn f ys here.held)) (rest_at xs x x l z)) ∙ h
 
   pub turning_stops : (xs : List ℕ) (x : ℕ) (count : ℕ) (here next : State) (e : Fault) → 1 ≤ length xs → x ≡ get_or xs 0 x → Turning xs count here → Ends (f here.held x) (Err e) next → Ends (in_turn f all start.held) (Err e) next
   turning_stops xs x count here next e l z h c =
@@ -251,7 +251,7 @@ pub among_more : (t : Operation) (all xs out more : List ℕ) (x : ℕ) → 1 �
 among_more t all xs out more x l z h e =
     let rest = take (length xs - 1) (drop 1 xs) in
     ap (λ l. l ++ casts_among rest t) e ∙ append_assoc out (casts_among (x ∷ []) t) (casts_among rest t)
-    ∙ ap (λ l. out ++ l) (among_cons x rest t ∙ sym (ap (λ ys. casts_among ys t) (rest_at xs x l z))) ∙ h
+    ∙ ap (λ l. out ++ l) (among_cons x rest t ∙ sym (ap (λ ys. casts_among ys t) (rest_at xs x x l z))) ∙ h
 
 pub among_done : (t : Operation) (all xs out : List ℕ) → length xs < 1 → out ++ casts_among xs t ≡ casts_among all t → out ≡ casts_among all t
 among_done t all [] out l h = sym (append-nil out) ∙ h

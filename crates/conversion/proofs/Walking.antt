@@ -12,9 +12,9 @@ use Rattle.conversion_base.specs.Listing.{HaveCasts}
 use Rattle.conversion_base.specs.Reconciling.{collapse, next_collapse, rewrite_or}
 use Rattle.conversion_base.specs.Rewrites.{Rewrite, none, refused, becomes}
 use Rattle.conversion_base.proofs.Listed.{casts_stay, next_listed}
-use Rattle.conversion_casts.specs.Waiting.{ArePlaces, Took}
-use Rattle.conversion_casts.specs.Walks.{Gives, Taken, Walked, collapse_at}
-use Rattle.conversion_casts.proofs.Walks.{none_waits, taken_first, walked_after, walked_on}
+use Rattle.conversion.specs.Waiting.{ArePlaces, Took}
+use Rattle.conversion.specs.Walks.{Gives, Taken, Walked, collapse_at}
+use Rattle.conversion.proofs.Walks.{none_waits, taken_first, walked_after, walked_on}
 use Rattle.conversion.specs.States.{Answers, AnswersBehind, Applied, FreedIf, Looked, Refuses, State}
 
 -- ---- answers

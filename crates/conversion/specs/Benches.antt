@@ -3,13 +3,17 @@ use Rattle.std.specs.Prelude.{[], ◌++◌}
 use Rattle.ir_types.specs.Sound.{Holds}
 use Rattle.ir_event.specs.Listener.{Listener}
 use Rattle.rewriter.proofs.Told.{heard_none, heard_more}
-use Rattle.patterns_indexed.specs.Benched.{Benched, Led}
-use Rattle.patterns_indexed.specs.Held.{module_held, open_marks}
+use Rattle.patterns.specs.Benched.{Benched, Led}
+use Rattle.patterns.specs.Held.{Held, module_held, open_marks}
 use Rattle.conversion.specs.States.{State}
 
 -- its context, the module in contents, and the open marks
 abbrev pub seen : {B : Type 0} → Benched B → State
 seen b = record { things = b.desk.ctx; held = module_held b.desk; marks = open_marks b.desk }
+
+-- all but its listeners
+abbrev pub desk_of : {B : Type 0} → Benched B → Held
+desk_of b = b.desk
 
 -- where one holds a context as it has to be, so does the other; and the listeners were told of what led from the one module to
 -- the other, and of nothing else

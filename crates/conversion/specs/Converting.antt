@@ -1,9 +1,12 @@
 -- Conversion as a transformation, and how it is replied to.
-use Rattle.std.specs.Prelude.{ℕ, true, Result, Ok, Err}
+use Rattle.std.specs.Prelude.{ℕ, true, List, [], ◌∷◌, Option, Some, None, option_map, option_and_then, Result, Ok, Err}
+use Rattle.ir_types.specs.declared.refusal.Refusal.TheVariants.{BadTarget}
 use Rattle.ir_event.specs.Modules.{Module}
 use Rattle.rewriter.specs.Commands.{Target}
 use Rattle.rewriter.specs.Machine.{Converted, DoneWith, Fault as Because, Outcome, Reply, Transformation, fault_reply}
 use Rattle.conversion_base.specs.Conversion.{Ended, converted, given_up, conversion_of}
+use Rattle.conversion_base.specs.Rule.{Rule}
+use Rattle.conversion_base.specs.RuleNames.{by_number}
 use Rattle.conversion_base.specs.Targets.{Aim}
 use Rattle.conversion.specs.declared.fault.Fault.{Fault}
 
@@ -12,17 +15,33 @@ abbrev pub ended_as : Ended → Result (Outcome × Module) Because
 ended_as (converted m k) = Ok (Converted k, m)
 ended_as (given_up refusal x) = Err (record { refusal = refusal; op = x })
 
--- the transformation
-abbrev pub converting : Aim → Transformation
-converting g = record { transformed = λ m. ended_as (conversion_of g m); interns = true }
+-- the transformation that ends so
+abbrev pub ending : (Module → Ended) → Transformation
+ending f = record { transformed = λ m. ended_as (f m); interns = true }
 
--- what the target of a command aims at
-abbrev pub command_aim : Target → Aim
-command_aim t = record { full = t.full; legal = t.legal; illegal = t.illegal; dynamic = t.dynamic; rules = t.rules; depth = t.depth }
+-- that of a conversion
+abbrev pub converting : Aim → Transformation
+converting g = ending (conversion_of g)
+
+-- the rules that numbers name, if each of them names one
+abbrev pub rules_of : List ℕ → Option (List Rule)
+rules_of [] = Some []
+rules_of (n ∷ ns) = option_and_then (λ r. option_map (λ rs. r ∷ rs) (rules_of ns)) (by_number n)
+
+-- what the target of a command aims at, if each of its numbers names a rule
+abbrev pub command_aim : Target → Option Aim
+command_aim t =
+    option_map (λ rules. record { full = t.full; legal = t.legal; illegal = t.illegal; dynamic = t.dynamic; rules = rules; depth = t.depth })
+    (rules_of t.rules)
+
+-- a module converted, where there is something to aim at
+abbrev pub conversion_to : Option Aim → Module → Ended
+conversion_to None m = given_up BadTarget None
+conversion_to (Some g) m = conversion_of g m
 
 -- the transformation of a command
 abbrev pub conversion : Target → Transformation
-conversion t = converting (command_aim t)
+conversion t = ending (conversion_to (command_aim t))
 
 -- how a conversion is replied to
 abbrev pub conversion_reply : Result ℕ Fault → Reply

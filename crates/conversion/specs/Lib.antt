@@ -1,9 +1,15 @@
 pub mod States
 pub mod Benches
 pub mod Converting
+pub mod Givers
+pub mod Waiting
+pub mod Walks
 pub use Rattle.conversion_base.specs.Targets
 pub use Rattle.conversion_base.specs.Legalization
 pub use Rattle.conversion_base.specs.Reconciling
 pub use Rattle.conversion_base.specs.Conversion
 pub use Rattle.conversion_base.specs.Rewrites
+pub use Rattle.conversion_base.specs.Rule
+pub use Rattle.conversion_base.specs.RuleNames
+pub use Rattle.patterns.specs.runs.Runs
 pub use Rattle.rewriter.specs as rewriter_bench

@@ -1,16 +1,18 @@
 -- What a bench holds, as conversions see it, and what their parts make of it.
-use Rattle.std.specs.Prelude.{◌≡◌, ℕ, ◌≤◌, List, ◌∷◌, Bool, true, false, ◌⊎◌, length, if◌then◌else◌, Option, Result, Ok, Err, None}
+use Rattle.std.specs.Prelude.{◌≡◌, ℕ, ◌≤◌, List, [], ◌∷◌, ◌++◌, Bool, true, false, ◌⊎◌, length, if◌then◌else◌, Option, Result, Ok, Err, None}
 use Rattle.ir_types.specs.Things.{Things, Grows}
 use Rattle.ir_types.specs.declared.refusal.Refusal.{Refusal}
 use Rattle.ir_types.specs.declared.refusal.Refusal.TheVariants.{Memory, Full}
 use Rattle.ir_event.specs.Modules.{Module}
+use Rattle.rewriter.specs.Held.{Held}
+use Rattle.patterns.specs.runs.Runs.{Noted}
 use Rattle.conversion_base.specs.Machine.{OpenMark}
 use Rattle.conversion_base.specs.Rewrites.{Rewrite, none, refused, becomes}
 use Rattle.conversion.specs.declared.tried.Tried.{Tried}
 use Rattle.conversion.specs.declared.fault.Fault.{Fault}
 use Rattle.conversion_base.specs.Conversion.{Ended, converted, given_up}
 use Rattle.conversion_base.specs.Legalization.{Outcome, legalised, failed, stopped}
-use Rattle.conversion_casts.specs.Waiting.{Freed}
+use Rattle.conversion.specs.Waiting.{Freed}
 
 -- the context, the module in contents, and the open marks, the newest first
 pub record State : Type 0 where
@@ -18,10 +20,16 @@ pub record State : Type 0 where
   pub held : Module
   pub marks : List OpenMark
 
--- the context stays or grows, the marks stay, and those who listen are led on
-pub record Leads {S : Type 0} (state : S → State) (led : S → S → Type 0) (old new : S) : Type 0 where
+-- a mark more, which isn't counted, at the end of the journal
+abbrev pub marked_desk : Held → Held
+marked_desk h = record h { marks = h.marks ++ record { length = length h.journal; counted = false } ∷ [] }
+
+-- the context stays or grows, the marks stay, what is noted where one is open comes behind what was, and those who listen
+-- are led on
+pub record Leads {S : Type 0} (state : S → State) (desk : S → Held) (led : S → S → Type 0) (old new : S) : Type 0 where
   pub grows : Grows (state old).things (state new).things
   pub marks : (state new).marks ≡ (state old).marks
+  pub noted : Noted (desk old) (desk new)
   pub told : led old new
 
 -- a mark more, which isn't counted, of the module held

@@ -1,57 +1,40 @@
 //! A bench, for conversions.
-ghost use Rattle.std.specs.Prelude.{◌≡◌, ◌≤◌};
-ghost use Rattle.ir_event.specs.Modules.{module_in};
-ghost use Rattle.patterns_indexed.specs.Held.{module_held};
-ghost use Rattle.patterns_indexed.specs.Applied.{limit_reason};
+ghost use Rattle.std.specs.Prelude.{◌≡◌};
+ghost use Rattle.patterns.specs.Held.{module_held};
 ghost use Rattle.conversion_base.specs.Makes.{made_by};
 ghost use Rattle.conversion_base.specs.Contents.{edited};
 ghost use Rattle.conversion_base.specs.Edits.{Erase};
 ghost use Rattle.conversion_base.specs.Lists.{AllFit, edits_meaning};
 ghost use Rattle.conversion_base.specs.Rewrites.{becomes, carried_out, rewrite_of};
-ghost use Rattle.conversion.specs.Benches.{LedOn, seen};
+ghost use Rattle.conversion.specs.Benches.{LedOn, desk_of, seen};
 ghost use Rattle.conversion.specs.States.{Answers, Leads};
 
+use crate::givers::givers;
 use crate::rewriting::Rewriting;
 use conversion_base::casts::{index_edits, is_cast, is_inner_cast, is_unused};
+use conversion_base::rule::Rule;
 use conversion_base::target::Target;
 use conversion_base::{accepted, legal};
-use conversion_casts::givers::givers;
 use ir_event::analysis::Analysis;
-use ir_event::world::World;
-use ir_tree::limits::MOST_OPS;
 use ir_types::ids::OpId;
 use ir_types::refusal::Refusal;
-use patterns_indexed::apply::apply;
-use patterns_indexed::runs::Bench;
-use patterns_indexed::runs::carry::carry_whole;
-use patterns_indexed::runs::edit::Edit;
+use patterns::apply::apply;
+use patterns::limits::limit_reason;
+use patterns::runs::Bench;
+use patterns::runs::carry::carry_whole;
+use patterns::runs::edit::Edit;
 use rewriter::finish::finish;
 use std::alloc::Global;
-
-/// Why a module can't have an operation more, if it can't: it would be too full, or no id is left.
-fn limit_reason(world: &World) -> Option<Refusal>
-    ensures { result ≡ limit_reason 1 (module_in world.now) }
-{
-    if world.store.op_count().saturating_add(1) > MOST_OPS {
-        return Some(Refusal::Full);
-    }
-    if u64::from(world.store.next_id()).saturating_add(1) > 4_294_967_295 {
-        return Some(Refusal::IdsExhausted);
-    }
-    None
-}
 
 /// Applies a rule at an operation, if it is there. The answer is whether it applied.
 pub(crate) fn apply_rule<L: Analysis>(
     alloc: Global,
     bench: &mut Bench<L>,
-    rule: u8,
+    rule: Rule,
     op: OpId,
 ) -> Result<bool, Refusal>
-    requires low { 1 ≤ rule }
-    requires high { rule ≤ 30 }
     ensures answers { Answers (rewrite_of rule (module_held bench.old.desk) op) result (seen bench.old) (seen bench.new) }
-    ensures leads { Leads seen (LedOn L.meaning) bench.old bench.new }
+    ensures leads { Leads seen desk_of (LedOn L.meaning) bench.old bench.new }
 {
     if !bench.world().store.in_tree(op) {
         return Ok(false);
@@ -64,7 +47,7 @@ pub(crate) fn apply_rule<L: Analysis>(
 /// Erases an operation.
 fn erase<L: Analysis>(bench: &mut Bench<L>, op: OpId) -> Result<bool, Refusal>
     ensures answers { Answers (becomes (edited (Erase op) (module_held bench.old.desk))) result (seen bench.old) (seen bench.new) }
-    ensures leads { Leads seen (LedOn L.meaning) bench.old bench.new }
+    ensures leads { Leads seen desk_of (LedOn L.meaning) bench.old bench.new }
 {
     let erased = bench.erase(op);
     bench.is_formed();
@@ -79,9 +62,9 @@ fn carry<L: Analysis>(bench: &mut Bench<L>, edits: &[Edit]) -> Result<bool, Refu
     requires fit { AllFit bench.old.desk.ctx edits.now }
     requires one { made_by (edits_meaning bench.old.desk.ctx edits.now) ≡ 1 }
     ensures answers { Answers (carried_out (edits_meaning bench.old.desk.ctx edits.now) (module_held bench.old.desk)) result (seen bench.old) (seen bench.new) }
-    ensures leads { Leads seen (LedOn L.meaning) bench.old bench.new }
+    ensures leads { Leads seen desk_of (LedOn L.meaning) bench.old bench.new }
 {
-    if let Some(refusal) = limit_reason(bench.world()) {
+    if let Some(refusal) = limit_reason(bench.world(), 1) {
         return Err(refusal);
     }
     let carried = carry_whole(bench, edits);
@@ -93,9 +76,11 @@ fn carry<L: Analysis>(bench: &mut Bench<L>, edits: &[Edit]) -> Result<bool, Refu
 }
 
 impl<L: Analysis> Rewriting for Bench<L> {
-    ghost use Rattle.conversion.specs.Benches.{LedOn, led_more, led_none, seen};
+    ghost use Rattle.conversion.specs.Benches.{LedOn, desk_of, led_more, led_none, seen};
 
     ghost state = { seen };
+
+    ghost desk = { desk_of };
 
     ghost led = { LedOn L.meaning };
 
@@ -146,7 +131,7 @@ impl<L: Analysis> Rewriting for Bench<L> {
         if is_unused(world, op) {
             return erase(self, op);
         }
-        apply_rule(alloc, self, 21, op)
+        apply_rule(alloc, self, Rule::CastBack, op)
     }
 
     fn cast_index(&mut self, alloc: Global, op: OpId) -> Result<bool, Refusal> {
@@ -161,6 +146,7 @@ impl<L: Analysis> Rewriting for Bench<L> {
     }
 
     fn step(&mut self) -> Result<(), Refusal> {
+        self.is_formed();
         let stepped = Bench::step(self);
         self.is_formed();
         stepped

@@ -7,14 +7,14 @@ ghost use Rattle.ir_tree.specs.Ids.{ids};
 ghost use Rattle.conversion_base.specs.Conversion.{ended};
 ghost use Rattle.conversion_base.specs.Listing.{HaveCasts, casts_among};
 ghost use Rattle.conversion_base.specs.Reconciling.{all_collapsed, collapse, collapsed, next_collapse};
-ghost use Rattle.conversion_casts.specs.Waiting.{ArePlaces, Freed};
-ghost use Rattle.conversion_casts.specs.Walks.{Taken, Walked};
+ghost use Rattle.conversion.specs.Waiting.{ArePlaces, Freed};
+ghost use Rattle.conversion.specs.Walks.{Taken, Walked};
 ghost use Rattle.conversion.specs.States.{AnswersBehind, Ends, FreedIf, Leads, Looked, none_of};
 
 use crate::fault::Fault;
+use crate::places::places_of;
 use crate::rewriting::Rewriting;
-use conversion_casts::places::places_of;
-use conversion_casts::walk::{Walk, free, start, take};
+use crate::walk::{Walk, free, start, take};
 use ir_types::ids::OpId;
 use ir_types::refusal::Refusal;
 use std::alloc::Global;
@@ -54,7 +54,7 @@ fn collapse_op<B: Rewriting>(
 ) -> Result<bool, Refusal>
     ensures answers { AnswersBehind (collapse (B.state bench.old).held op) result (B.state bench.old) (B.state bench.new) }
     ensures freed { IfOk result (λ done. FreedIf done (option_map (λ v. v.items) givers.now) (get nat_eq places.now) walk.old.passed walk.old.again.keys walk.new.passed walk.new.again.keys) }
-    ensures leads { Leads B.state B.led bench.old bench.new }
+    ensures leads { Leads B.state B.desk B.led bench.old bench.new }
 {
     match bench.collapse(alloc, op) {
         Ok(true) => freed(walk, places, givers),
@@ -78,7 +78,7 @@ fn collapse_at<B: Rewriting>(
     ensures looked { Looked (next_collapse (B.state bench.old).held) result (B.state bench.old) (B.state bench.new) }
     ensures walked { OnOk result (Walked ops.now walk.new.passed walk.new.again.keys (B.state bench.new).held) }
     ensures kept { IfOk result (λ done. done ≡ false → (walk.new.passed ≡ walk.old.passed) × (walk.new.again.keys ≡ walk.old.again.keys)) }
-    ensures leads { Leads B.state B.led bench.old bench.new }
+    ensures leads { Leads B.state B.desk B.led bench.old bench.new }
 {
     bench.is_whole();
     let Some(op) = op_at(ops, place) else {
@@ -105,7 +105,7 @@ fn collapse_next<B: Rewriting>(
     ensures answers { AnswersBehind (next_collapse (B.state bench.old).held) result (B.state bench.old) (B.state bench.new) }
     ensures listed { OnOk result (HaveCasts ops.now (B.state bench.new).held.tree) }
     ensures walked { OnOk result (Walked ops.now walk.new.passed walk.new.again.keys (B.state bench.new).held) }
-    ensures leads { Leads B.state B.led bench.old bench.new }
+    ensures leads { Leads B.state B.desk B.led bench.old bench.new }
 {
     bench.is_whole();
     'places: while let Some(place) = take(walk, ops.len()) {
@@ -131,7 +131,7 @@ fn collapse_up_to<B: Rewriting>(
     requires listed { HaveCasts ops.now (B.state bench.old).held.tree }
     requires walked { Walked ops.now walk.old.passed walk.old.again.keys (B.state bench.old).held }
     ensures ends { Ends (ended (collapsed most (B.state bench.old).held) (B.state bench.old).held) (none_of result) (B.state bench.new) }
-    ensures leads { Leads B.state B.led bench.old bench.new }
+    ensures leads { Leads B.state B.desk B.led bench.old bench.new }
 {
     let mut left = most;
     'casts: while left > 0 {
@@ -155,7 +155,7 @@ fn collapse_casts<B: Rewriting>(
     requires distinct { IsDistinct eqb casts.now }
     requires listed { HaveCasts casts.now (B.state bench.old).held.tree }
     ensures ends { Ends (ended (collapsed most (B.state bench.old).held) (B.state bench.old).held) (none_of result) (B.state bench.new) }
-    ensures leads { Leads B.state B.led bench.old bench.new }
+    ensures leads { Leads B.state B.desk B.led bench.old bench.new }
 {
     let Ok(places) = places_of(alloc, casts) else {
         return Err(Fault::of(Refusal::Memory));
@@ -197,7 +197,7 @@ fn casts_of<B: Rewriting>(alloc: Global, bench: &B, ops: &[OpId]) -> Result<Vec<
 fn collapse_listed<B: Rewriting>(alloc: Global, bench: &mut B, ops: &[OpId]) -> Result<(), Fault>
     requires ops { ops.now ≡ ids (B.state bench.old).held.tree }
     ensures ends { Ends (ended (all_collapsed (B.state bench.old).held) (B.state bench.old).held) (none_of result) (B.state bench.new) }
-    ensures leads { Leads B.state B.led bench.old bench.new }
+    ensures leads { Leads B.state B.desk B.led bench.old bench.new }
 {
     bench.is_whole();
     match casts_of(alloc, bench, ops) {
@@ -209,7 +209,7 @@ fn collapse_listed<B: Rewriting>(alloc: Global, bench: &mut B, ops: &[OpId]) -> 
 /// Takes casts away, as long as one isn't used or collapses.
 pub(crate) fn collapse_all<B: Rewriting>(alloc: Global, bench: &mut B) -> Result<(), Fault>
     ensures ends { Ends (ended (all_collapsed (B.state bench.old).held) (B.state bench.old).held) (none_of result) (B.state bench.new) }
-    ensures leads { Leads B.state B.led bench.old bench.new }
+    ensures leads { Leads B.state B.desk B.led bench.old bench.new }
 {
     match bench.operations() {
         Ok(ops) => collapse_listed(alloc, bench, &ops),

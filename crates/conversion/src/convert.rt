@@ -1,9 +1,11 @@
 //! Dialect conversion of the module of a bench.
-ghost use Rattle.std.specs.Prelude.{◌≡◌, true, OnOk};
+ghost use Rattle.std.specs.Prelude.{◌≡◌, [], true, MatchResult, OnOk};
 ghost use Rattle.ir_types.specs.Things.{Grows};
 ghost use Rattle.rewriter.specs.Machine.{Change};
 ghost use Rattle.rewriter.specs.Benched.{Does, Led};
-ghost use Rattle.patterns_indexed.specs.Held.{module_held};
+ghost use Rattle.rewriter.specs.Moves.{Recorded};
+ghost use Rattle.patterns.specs.Held.{module_held};
+ghost use Rattle.patterns.specs.runs.Runs.{Noted};
 ghost use Rattle.conversion_base.specs.Conversion.{conversion_of, has_no_cast};
 ghost use Rattle.conversion_base.specs.Targets.{IsNamedIn, aim_of};
 ghost use Rattle.conversion.specs.Benches.{seen};
@@ -14,8 +16,8 @@ use crate::fault::Fault;
 use crate::parts::convert_with;
 use conversion_base::target::Target;
 use ir_event::analysis::Analysis;
-use patterns_indexed::runs::Bench;
-use patterns_indexed::runs::laws::led_benches_are_kept;
+use patterns::runs::Bench;
+use patterns::runs::laws::led_benches_are_kept;
 use std::alloc::Global;
 
 /// Converts the module of a bench (Dialect Conversion, "Modes of Conversion"): each of its operations that isn't legal for a
@@ -36,6 +38,7 @@ pub fn convert<L: Analysis>(
     ensures none { OnOk result (has_no_cast (module_held bench.new.desk).tree ≡ true) }
     ensures grows { Grows bench.old.desk.ctx bench.new.desk.ctx }
     ensures led { Led L.meaning bench.old bench.new }
+    ensures journal { MatchResult result (λ _. Noted bench.old.desk bench.new.desk) (λ _. Recorded [] bench.old.desk bench.new.desk) }
 {
     led_benches_are_kept::<L>();
     bench.is_formed();

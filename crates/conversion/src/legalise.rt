@@ -1,12 +1,15 @@
 //! Operations are legalised: a rule is tried, and what it makes is legalised in turn, or all of it is undone.
-ghost use Rattle.std.specs.Prelude.{◌≡◌, ◌<◌, true, false, ◌||◌};
+ghost use Rattle.std.specs.Prelude.{◌≡◌, ◌≢◌, ◌<◌, [], true, false, ◌||◌};
+ghost use Rattle.rewriter.specs.Rolling.{Dropped};
 ghost use Rattle.conversion_base.specs.Rewrites.{rewrite_of};
 ghost use Rattle.conversion_base.specs.Legalization.{after_rule as rule_outcome, behind, each_of, first_rule as rules_outcome, legalization_of, made_since, standing};
+ghost use Rattle.conversion_base.specs.RuleNames.{is_converting};
 ghost use Rattle.conversion.specs.States.{Closed, Comes, ComesBehind, Leads, went_well};
-ghost use Rattle.conversion_base.specs.Targets.{IsAimIn, aim_of, is_for_conversion};
+ghost use Rattle.conversion_base.specs.Targets.{IsAimIn, aim_of};
 
 use crate::rewriting::{Rewriting, Rules};
 use crate::tried::Tried;
+use conversion_base::rule::Rule;
 use conversion_base::target::Target;
 use ir_types::ids::OpId;
 use ir_types::refusal::Refusal;
@@ -50,7 +53,7 @@ pub(crate) fn legalise<B: Rules>(
 ) -> Result<Tried, Refusal>
     requires aim { IsAimIn (B.state bench.old).things target.now }
     ensures comes { Comes (standing (legalization_of (aim_of (B.state bench.old).things target.now) below) (B.state bench.old).held op) result (B.state bench.old) (B.state bench.new) }
-    ensures leads { Leads B.state B.led bench.old bench.new }
+    ensures leads { Leads B.state B.desk B.led bench.old bench.new }
 {
     if !bench.in_tree(op) {
         return Ok(nothing(true, false));
@@ -75,7 +78,7 @@ fn first_rule<B: Rules>(
 ) -> Result<Tried, Refusal>
     requires aim { IsAimIn (B.state bench.old).things target.now }
     ensures comes { Comes (rules_outcome (legalization_of (aim_of (B.state bench.old).things target.now) below) target.now.rules (B.state bench.old).held op) result (B.state bench.old) (B.state bench.new) }
-    ensures leads { Leads B.state B.led bench.old bench.new }
+    ensures leads { Leads B.state B.desk B.led bench.old bench.new }
 {
     let mut met = false;
     let mut rest = target.rules.as_slice();
@@ -102,13 +105,13 @@ fn try_rule<B: Rules>(
     bench: &mut B,
     target: &Target,
     below: u32,
-    rule: u32,
+    rule: Rule,
     op: OpId,
 ) -> Result<Tried, Refusal>
     requires aim { IsAimIn (B.state bench.old).things target.now }
-    requires rule { is_for_conversion rule ≡ true }
+    requires rule { is_converting rule ≡ true }
     ensures comes { Comes (rule_outcome (legalization_of (aim_of (B.state bench.old).things target.now) below) (B.state bench.old).held (rewrite_of rule (B.state bench.old).held op)) result (B.state bench.old) (B.state bench.new) }
-    ensures leads { Leads B.state B.led bench.old bench.new }
+    ensures leads { Leads B.state B.desk B.led bench.old bench.new }
 {
     if let Err(refusal) = bench.step() {
         return Err(refusal);
@@ -131,6 +134,7 @@ fn is_well(tried: &Result<Tried, Refusal>) -> bool
 /// Drops the newest mark. The module stays, or the one of the mark is held again.
 pub(crate) fn close<B: Rewriting>(bench: &mut B, stays: bool)
     ensures closed { Closed stays (B.state bench.old) (B.state bench.new) }
+    ensures dropped { (B.desk bench.old).marks ≢ [] → Dropped stays (B.desk bench.old) (B.desk bench.new) }
     ensures led { B.led bench.old bench.new }
 {
     if stays {
@@ -147,13 +151,13 @@ fn after_rule<B: Rules>(
     bench: &mut B,
     target: &Target,
     below: u32,
-    rule: u32,
+    rule: Rule,
     op: OpId,
 ) -> Result<Tried, Refusal>
     requires aim { IsAimIn (B.state bench.old).things target.now }
-    requires rule { is_for_conversion rule ≡ true }
+    requires rule { is_converting rule ≡ true }
     ensures comes { ComesBehind (rule_outcome (legalization_of (aim_of (B.state bench.old).things target.now) below) (B.state bench.old).held (rewrite_of rule (B.state bench.old).held op)) result (B.state bench.new) }
-    ensures leads { Leads B.state B.led bench.old bench.new }
+    ensures leads { Leads B.state B.desk B.led bench.old bench.new }
 {
     let from = bench.next_id();
     match bench.apply(alloc, rule, op) {
@@ -176,7 +180,7 @@ fn each_made<B: Rules>(
     requires aim { IsAimIn (B.state bench.old).things target.now }
     requires from { from < (B.state bench.old).held.next }
     ensures comes { ComesBehind (behind 1 false (each_of (legalization_of (aim_of (B.state bench.old).things target.now) below) (made_since from (B.state bench.old).held) (B.state bench.old).held)) result (B.state bench.new) }
-    ensures leads { Leads B.state B.led bench.old bench.new }
+    ensures leads { Leads B.state B.desk B.led bench.old bench.new }
 {
     let end = bench.next_id();
     let mut id = from;

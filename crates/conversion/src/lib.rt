@@ -5,11 +5,14 @@ mod bench;
 mod collapsing;
 pub mod convert;
 pub mod fault;
+mod givers;
 mod legalise;
 mod parts;
+mod places;
 mod rewriting;
 mod rules;
 mod tried;
+mod walk;
 
-pub use conversion_base::{laws, names, target};
+pub use conversion_base::{laws, names, rule, target};
 pub use rewriter as rewriter_bench;

@@ -1,6 +1,7 @@
 //! Dialect conversion: the operations of a module are legalised in turn, then casts are reconciled.
-ghost use Rattle.std.specs.Prelude.{◌≡◌, ◌+◌, ◌≤◌, true, IfOk, OnOk, is_ok};
+ghost use Rattle.std.specs.Prelude.{◌≡◌, ◌+◌, ◌≤◌, [], true, IfOk, OnErr, OnOk, is_ok};
 ghost use Rattle.ir_tree.specs.Ids.{ids};
+ghost use Rattle.rewriter.specs.Moves.{Recorded};
 ghost use Rattle.conversion_base.specs.Conversion.{all_parts, cast_at as cast_end, casts_left, checked, converted, conversion_of, failing as failing_of, first_illegal, has_no_cast, in_turn, later_parts, legalised_at as legalised_end};
 ghost use Rattle.conversion.specs.States.{Converts, Ends, Leads, none_of};
 ghost use Rattle.conversion_base.specs.Targets.{IsAimIn, IsNamedIn, aim_of};
@@ -34,7 +35,7 @@ fn legalise_at<B: Rules>(
     requires aim { IsAimIn (B.state bench.old).things target.now }
     ensures ends { Ends (legalised_end (aim_of (B.state bench.old).things target.now) (B.state bench.old).held op) result (B.state bench.new) }
     ensures few { IfOk result (λ k. k + (B.state bench.old).held.next ≤ (B.state bench.new).held.next) }
-    ensures leads { Leads B.state B.led bench.old bench.new }
+    ensures leads { Leads B.state B.desk B.led bench.old bench.new }
 {
     match legalise(alloc, bench, target, target.depth, op) {
         Ok(tried) => {
@@ -56,7 +57,7 @@ fn legalise_each<B: Rules>(
 ) -> Result<u32, Fault>
     requires aim { IsAimIn (B.state bench.old).things target.now }
     ensures ends { Ends (in_turn (legalised_end (aim_of (B.state bench.old).things target.now)) ops.now (B.state bench.old).held) result (B.state bench.new) }
-    ensures leads { Leads B.state B.led bench.old bench.new }
+    ensures leads { Leads B.state B.desk B.led bench.old bench.new }
 {
     let mut count = 0;
     let mut rest = ops;
@@ -76,7 +77,7 @@ fn legalise_each<B: Rules>(
 /// Puts an `arith.index_cast` in the place of an operation, if it still stands and is a cast.
 fn cast_at<B: Rewriting>(alloc: Global, bench: &mut B, op: OpId) -> Result<(), Fault>
     ensures ends { Ends (cast_end (B.state bench.old).held op) (none_of result) (B.state bench.new) }
-    ensures leads { Leads B.state B.led bench.old bench.new }
+    ensures leads { Leads B.state B.desk B.led bench.old bench.new }
 {
     if !bench.is_cast(op) {
         return Ok(());
@@ -91,7 +92,7 @@ fn cast_at<B: Rewriting>(alloc: Global, bench: &mut B, op: OpId) -> Result<(), F
 /// The same of operations in turn.
 fn cast_each<B: Rewriting>(alloc: Global, bench: &mut B, ops: &[OpId]) -> Result<(), Fault>
     ensures ends { Ends (in_turn cast_end ops.now (B.state bench.old).held) (none_of result) (B.state bench.new) }
-    ensures leads { Leads B.state B.led bench.old bench.new }
+    ensures leads { Leads B.state B.desk B.led bench.old bench.new }
 {
     let mut rest = ops;
     'ops: while let [op, tail @ ..] = rest {
@@ -108,7 +109,7 @@ fn cast_each<B: Rewriting>(alloc: Global, bench: &mut B, ops: &[OpId]) -> Result
 fn cast_all<B: Rewriting>(alloc: Global, bench: &mut B) -> Result<(), Fault>
     ensures ends { Ends (casts_left (B.state bench.old).held) (none_of result) (B.state bench.new) }
     ensures none { OnOk result (has_no_cast (B.state bench.new).held.tree ≡ true) }
-    ensures leads { Leads B.state B.led bench.old bench.new }
+    ensures leads { Leads B.state B.desk B.led bench.old bench.new }
 {
     bench.is_whole();
     match bench.operations() {
@@ -154,7 +155,7 @@ fn convert_parts<B: Rules>(alloc: Global, bench: &mut B, target: &Target) -> Res
     requires aim { IsAimIn (B.state bench.old).things target.now }
     ensures ends { Ends (all_parts (aim_of (B.state bench.old).things target.now) (B.state bench.old).held) result (B.state bench.new) }
     ensures none { OnOk result (has_no_cast (B.state bench.new).held.tree ≡ true) }
-    ensures leads { Leads B.state B.led bench.old bench.new }
+    ensures leads { Leads B.state B.desk B.led bench.old bench.new }
 {
     let count = match legalise_all(alloc, bench, target) {
         Ok(count) => count,
@@ -170,7 +171,7 @@ fn convert_parts<B: Rules>(alloc: Global, bench: &mut B, target: &Target) -> Res
 fn legalise_all<B: Rules>(alloc: Global, bench: &mut B, target: &Target) -> Result<u32, Fault>
     requires aim { IsAimIn (B.state bench.old).things target.now }
     ensures ends { Ends (in_turn (legalised_end (aim_of (B.state bench.old).things target.now)) (ids (B.state bench.old).held.tree) (B.state bench.old).held) result (B.state bench.new) }
-    ensures leads { Leads B.state B.led bench.old bench.new }
+    ensures leads { Leads B.state B.desk B.led bench.old bench.new }
 {
     match bench.operations() {
         Ok(ops) => legalise_each(alloc, bench, target, &ops),
@@ -183,7 +184,7 @@ fn reconcile<B: Rewriting>(alloc: Global, bench: &mut B, target: &Target) -> Res
     requires aim { IsAimIn (B.state bench.old).things target.now }
     ensures ends { Ends (later_parts (aim_of (B.state bench.old).things target.now) (converted (B.state bench.old).held 0)) (none_of result) (B.state bench.new) }
     ensures none { OnOk result (has_no_cast (B.state bench.new).held.tree ≡ true) }
-    ensures leads { Leads B.state B.led bench.old bench.new }
+    ensures leads { Leads B.state B.desk B.led bench.old bench.new }
 {
     if let Err(fault) = collapse_all(alloc, bench) {
         return Err(fault);
@@ -215,7 +216,8 @@ pub(crate) fn convert_with<B: Rules>(
     requires names { IsNamedIn (B.state bench.old).things target.now }
     ensures converts { Converts (conversion_of (aim_of (B.state bench.old).things target.now) (B.state bench.old).held) result (B.state bench.old) (B.state bench.new) }
     ensures none { OnOk result (has_no_cast (B.state bench.new).held.tree ≡ true) }
-    ensures leads { Leads B.state B.led bench.old bench.new }
+    ensures leads { Leads B.state B.desk B.led bench.old bench.new }
+    ensures left { OnErr result (Recorded [] (B.desk bench.old) (B.desk bench.new)) }
 {
     if !bench.is_accepted(target) {
         return Err(Fault::of(Refusal::BadTarget));

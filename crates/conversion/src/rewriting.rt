@@ -1,15 +1,19 @@
 //! What conversions need of a bench and of the rules.
-ghost use Rattle.std.specs.Prelude.{◌≡◌, true, OnOk, OnErr, IfErr, IfOk, IfSome};
+ghost use Rattle.std.specs.Prelude.{◌≡◌, ◌≢◌, [], false, true, OnOk, OnErr, IfErr, IfOk, IfSome};
 ghost use Rattle.ir_types.specs.Words.{is_isolated};
 ghost use Rattle.ir_types.specs.declared.refusal.Refusal.TheVariants.{Memory as NoMemory};
 ghost use Rattle.ir_tree.specs.Ids.{has_id, ids};
 ghost use Rattle.ir_tree.specs.WellFormed.{IsWellFormed};
+ghost use Rattle.rewriter.specs.Held.{Held};
+ghost use Rattle.rewriter.specs.Rolling.{Dropped};
 ghost use Rattle.conversion_base.specs.Rewrites.{rewrite_of};
-ghost use Rattle.conversion_base.specs.Targets.{IsAimIn, IsNamedIn, aim_of, is_accepted, is_for_conversion, is_legal};
+ghost use Rattle.conversion_base.specs.RuleNames.{is_converting};
+ghost use Rattle.conversion_base.specs.Targets.{IsAimIn, IsNamedIn, aim_of, is_accepted, is_legal};
 ghost use Rattle.conversion_base.specs.Reconciling.{collapse, index_rewrite, is_cast};
-ghost use Rattle.conversion_casts.specs.Walks.{Gives};
-ghost use Rattle.conversion.specs.States.{State, Answers, Committed, Leads, RolledBack, marked};
+ghost use Rattle.conversion.specs.Walks.{Gives};
+ghost use Rattle.conversion.specs.States.{State, Answers, Committed, Leads, RolledBack, marked, marked_desk};
 
+use conversion_base::rule::Rule;
 use conversion_base::target::Target;
 use ir_types::ids::OpId;
 use ir_types::refusal::Refusal;
@@ -18,6 +22,9 @@ use std::alloc::Global;
 /// A bench. Each call that is refused leaves the module and the marks as they were.
 pub(crate) trait Rewriting {
     ghost state: { Self → State };
+
+    /// The context, the module, the journal and the marks, in numbers.
+    ghost desk: { Self → Held };
 
     /// All that any calls do to those who listen. It is reflexive and goes through.
     ghost led: { Self → Self → Type 0 };
@@ -60,39 +67,44 @@ pub(crate) trait Rewriting {
     fn givers(&self, alloc: Global, op: OpId) -> Result<Option<Vec<OpId>>, Refusal>
         ensures { IfOk result (λ g. IfSome g (λ v. Gives v.items op (state self.now).held.tree)) };
 
-    /// Takes a cast away that isn't used, or that rule 21 collapses. The answer is whether it did.
+    /// Takes a cast away that isn't used, or that casting back collapses. The answer is whether it did.
     fn collapse(&mut self, alloc: Global, op: OpId) -> Result<bool, Refusal>
         ensures answers { Answers (collapse (state self.old).held op) result (state self.old) (state self.new) }
-        ensures leads { Leads state led self.old self.new };
+        ensures leads { Leads state desk led self.old self.new };
 
     /// Puts an `arith.index_cast` in the place of a cast between index and i64. The answer is whether it did.
     fn cast_index(&mut self, alloc: Global, op: OpId) -> Result<bool, Refusal>
         ensures answers { Answers (index_rewrite (state self.old).held op) result (state self.old) (state self.new) }
-        ensures leads { Leads state led self.old self.new };
+        ensures leads { Leads state desk led self.old self.new };
 
-    /// Makes a mark that isn't counted.
+    /// Makes a mark that isn't counted. Where no mark was open there is no journal.
     fn step(&mut self) -> Result<(), Refusal>
         ensures ok { OnOk result (state self.new ≡ marked (state self.old)) }
         ensures err { OnErr result (state self.new ≡ state self.old) }
+        ensures opened { OnOk result (desk self.new ≡ marked_desk (desk self.old)) }
+        ensures left { OnErr result (desk self.new ≡ desk self.old) }
+        ensures none { (desk self.old).marks ≡ [] → (desk self.old).journal ≡ [] }
         ensures refused { IfErr result (λ e. e ≡ NoMemory) }
         ensures led { led self.old self.new };
 
     /// Drops the newest mark, if there is one. The module stays.
     fn commit(&mut self)
         ensures committed { Committed (state self.old) (state self.new) }
+        ensures dropped { (desk self.old).marks ≢ [] → Dropped true (desk self.old) (desk self.new) }
         ensures led { led self.old self.new };
 
     /// Drops the newest mark, if there is one, and holds its module again.
     fn rollback(&mut self)
         ensures rolled { RolledBack (state self.old) (state self.new) }
+        ensures dropped { (desk self.old).marks ≢ [] → Dropped false (desk self.old) (desk self.new) }
         ensures led { led self.old self.new };
 }
 
 /// A bench with the rules that conversion may try.
 pub(crate) trait Rules: Rewriting {
     /// Applies a rule at an operation. The answer is whether it applied.
-    fn apply(&mut self, alloc: Global, rule: u32, op: OpId) -> Result<bool, Refusal>
-        requires { is_for_conversion rule ≡ true }
+    fn apply(&mut self, alloc: Global, rule: Rule, op: OpId) -> Result<bool, Refusal>
+        requires { is_converting rule ≡ true }
         ensures answers { Answers (rewrite_of rule (Self.state self.old).held op) result (Self.state self.old) (Self.state self.new) }
-        ensures leads { Leads Self.state Self.led self.old self.new };
+        ensures leads { Leads Self.state Self.desk Self.led self.old self.new };
 }

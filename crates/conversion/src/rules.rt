@@ -1,14 +1,15 @@
 //! The rules that conversion may try, at an operation of a bench's module.
 use crate::bench::apply_rule;
 use crate::rewriting::Rules;
+use conversion_base::rule::Rule;
 use ir_event::analysis::Analysis;
 use ir_types::ids::OpId;
 use ir_types::refusal::Refusal;
-use patterns_indexed::runs::Bench;
+use patterns::runs::Bench;
 use std::alloc::Global;
 
 impl<L: Analysis> Rules for Bench<L> {
-    fn apply(&mut self, alloc: Global, rule: u32, op: OpId) -> Result<bool, Refusal> {
-        apply_rule(alloc, self, rule as u8, op)
+    fn apply(&mut self, alloc: Global, rule: Rule, op: OpId) -> Result<bool, Refusal> {
+        apply_rule(alloc, self, rule, op)
     }
 }

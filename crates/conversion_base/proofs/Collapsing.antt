@@ -8,25 +8,27 @@ use Rattle.ir_event.specs.Modules.{Module}
 use Rattle.effects.specs.Dead.{is_unused}
 use Rattle.patterns_edits.specs.Contents.{Edit, edited}
 use Rattle.patterns_edits.specs.Edits.{Erase}
+use Rattle.patterns_base.specs.declared.rule.Rule.TheVariants.{CastBack}
 use Rattle.patterns_base.specs.Keeps.{given}
 use Rattle.patterns_base.specs.Looks.{when, is_clean, front_of, one}
 use Rattle.patterns_base.specs.Made.{cast}
 use Rattle.patterns_base.specs.Makes.{give_new, made_by}
+use Rattle.patterns_base.specs.declared.rule.Rule.{Rule}
 use Rattle.patterns_base.specs.Rewrites.{none, becomes, edits_of, rewrite_by, rewrite_of}
 use Rattle.patterns_base.specs.Rules.{rule}
 use Rattle.conversion_base.specs.Reconciling.{collapse, index_edits, is_cast, rewrite_or, takes_index, unused_erased}
 use Rattle.conversion_base.proofs.Makes.{given_some, when_some}
 
-rewrite_is : (r : ℕ) (m : Module) (x : ℕ) → rewrite_of r m x ≡ rewrite_by (edits_of r m x) m
+rewrite_is : (r : Rule) (m : Module) (x : ℕ) → rewrite_of r m x ≡ rewrite_by (edits_of r m x) m
 unfolding rewrite_of
 rewrite_is r m x = refl
 
-edits_are : (r : ℕ) (m : Module) (x : ℕ) → edits_of r m x ≡ given (find x m.tree) (λ o. given (front_of x m.tree) (λ front. when (is_clean m.tree (head o)) (rule r m.tree m.next front o)))
+edits_are : (r : Rule) (m : Module) (x : ℕ) → edits_of r m x ≡ given (find x m.tree) (λ o. given (front_of x m.tree) (λ front. when (is_clean m.tree (head o)) (rule r m.tree m.next front o)))
 unfolding edits_of
 edits_are r m x = refl
 
 -- no rule applies at an operation that isn't there
-pub none_there : (r : ℕ) (m : Module) (x : ℕ) → has_id x m.tree ≡ false → rewrite_of r m x ≡ none
+pub none_there : (r : Rule) (m : Module) (x : ℕ) → has_id x m.tree ≡ false → rewrite_of r m x ≡ none
 none_there r m x e =
     rewrite_is r m x
     ∙ ap (λ o. rewrite_by o m) (edits_are r m x ∙ ap (λ o. given o (λ o. given (front_of x m.tree) (λ front. when (is_clean m.tree (head o)) (rule r m.tree m.next front o)))) (absent_find x m.tree e))
@@ -37,8 +39,8 @@ none_there r m x e =
 abbrev pub is_inner : ℕ → Module → Bool
 is_inner x m = is_cast x m.tree && not (eqb (head m.tree).id x)
 
-collapse_is : (m : Module) (x : ℕ) (b : Bool) → b ≡ is_inner x m → collapse m x ≡ (if b then rewrite_or (unused_erased m x) (rewrite_of 21 m x) else none)
-collapse_is m x b e = ap (λ c. if c then rewrite_or (unused_erased m x) (rewrite_of 21 m x) else none) (sym e)
+collapse_is : (m : Module) (x : ℕ) (b : Bool) → b ≡ is_inner x m → collapse m x ≡ (if b then rewrite_or (unused_erased m x) (rewrite_of CastBack m x) else none)
+collapse_is m x b e = ap (λ c. if c then rewrite_or (unused_erased m x) (rewrite_of CastBack m x) else none) (sym e)
 
 -- a module that is read, and the one that is meant
 module _ (m n : Module) (same : m ≡ n) (x : ℕ) (b : Bool) (is : b ≡ is_inner x m) where
@@ -46,20 +48,20 @@ module _ (m n : Module) (same : m ≡ n) (x : ℕ) (b : Bool) (is : b ≡ is_inn
   inner = is ∙ ap (is_inner x) same
 
   pub collapse_none : b ≡ false → collapse n x ≡ none
-  collapse_none f = collapse_is n x b inner ∙ ap (λ c. if c then rewrite_or (unused_erased n x) (rewrite_of 21 n x) else none) f
+  collapse_none f = collapse_is n x b inner ∙ ap (λ c. if c then rewrite_or (unused_erased n x) (rewrite_of CastBack n x) else none) f
 
   module _ (here : b ≡ true) (u : Bool) (unused : u ≡ is_unused x m.tree) where
     unused_is : unused_erased n x ≡ (if u then becomes (edited (Erase x) n) else none)
     unused_is = ap (λ c. if c then becomes (edited (Erase x) n) else none) (sym (unused ∙ ap (λ (p : Module). is_unused x p.tree) same))
 
-    either_is : collapse n x ≡ rewrite_or (if u then becomes (edited (Erase x) n) else none) (rewrite_of 21 n x)
-    either_is = collapse_is n x b inner ∙ ap (λ c. if c then rewrite_or (unused_erased n x) (rewrite_of 21 n x) else none) here ∙ ap (λ a. rewrite_or a (rewrite_of 21 n x)) unused_is
+    either_is : collapse n x ≡ rewrite_or (if u then becomes (edited (Erase x) n) else none) (rewrite_of CastBack n x)
+    either_is = collapse_is n x b inner ∙ ap (λ c. if c then rewrite_or (unused_erased n x) (rewrite_of CastBack n x) else none) here ∙ ap (λ a. rewrite_or a (rewrite_of CastBack n x)) unused_is
 
     pub collapse_erased : u ≡ true → collapse n x ≡ becomes (edited (Erase x) n)
-    collapse_erased e = either_is ∙ ap (λ c. rewrite_or (if c then becomes (edited (Erase x) n) else none) (rewrite_of 21 n x)) e
+    collapse_erased e = either_is ∙ ap (λ c. rewrite_or (if c then becomes (edited (Erase x) n) else none) (rewrite_of CastBack n x)) e
 
-    pub collapse_rule : u ≡ false → collapse n x ≡ rewrite_of 21 n x
-    collapse_rule e = either_is ∙ ap (λ c. rewrite_or (if c then becomes (edited (Erase x) n) else none) (rewrite_of 21 n x)) e
+    pub collapse_rule : u ≡ false → collapse n x ≡ rewrite_of CastBack n x
+    collapse_rule e = either_is ∙ ap (λ c. rewrite_or (if c then becomes (edited (Erase x) n) else none) (rewrite_of CastBack n x)) e
 
 -- what puts an `arith.index_cast` in the place of one makes an operation
 pub one_made : (m : Module) (x : ℕ) (es : List Edit) → index_edits m x ≡ Some es → made_by es ≡ 1

@@ -23,7 +23,8 @@ use Rattle.ir_event.specs.Modules.{Module}
 use Rattle.effects.specs.Dead.{is_unused}
 use Rattle.patterns_edits.specs.Contents.{Edit, all_edited, edited}
 use Rattle.patterns_edits.specs.Edits.{Erase}
-use Rattle.patterns_base.specs.Casting.{rule_21, unrealized, back_from}
+use Rattle.patterns_base.specs.declared.rule.Rule.TheVariants.{CastBack}
+use Rattle.patterns_base.specs.Casting.{cast_back, unrealized, back_from}
 use Rattle.patterns_base.specs.Keeps.{given}
 use Rattle.patterns_base.specs.Looks.{One, is_of_type, one, one_from, source}
 use Rattle.patterns_base.specs.Makes.{give}
@@ -89,7 +90,7 @@ module _ {N T A : Type 0} where
 
 -- ---- casts
 
-rule_is : (t : Operation) (n : ℕ) (front : Place) (o : Operation) → rule 21 t n front o ≡ rule_21 t n front o
+rule_is : (t : Operation) (n : ℕ) (front : Place) (o : Operation) → rule CastBack t n front o ≡ cast_back t n front o
 unfolding rule
 rule_is t n front o = refl
 
@@ -100,8 +101,8 @@ one_name name (a ∷ []) (ty ∷ []) p e = (let same : record { name = name; fir
 one_name name (a ∷ []) (ty ∷ u ∷ ts) p e = absurd cc
 one_name name (a ∷ b ∷ vs) ts p e = absurd cc
 
--- rule 21 at a cast gives a value for its result
-pub given_at : (t : Operation) (n : ℕ) (front : Place) (o : Operation) (es : List Edit) → named cast_name (head o).name ≡ true → rule 21 t n front o ≡ Some es → (v : Value) × (es ≡ give (head o).id v)
+-- casting back at a cast gives a value for its result
+pub given_at : (t : Operation) (n : ℕ) (front : Place) (o : Operation) (es : List Edit) → named cast_name (head o).name ≡ true → rule CastBack t n front o ≡ Some es → (v : Value) × (es ≡ give (head o).id v)
 given_at t n front o es c e =
     let p = given_some (one (head o)) _ es (sym (rule_is t n front o) ∙ e) in
     by_test p.0 (named cast_name p.0.name) _ (ap (named cast_name) (one_name (head o).name (head o).operands (head o).results p.0 p.1) ∙ c) p.2
@@ -142,10 +143,10 @@ module _ (m n : Module) (x : ℕ) (root : eqb (head m.tree).id x ≡ false) (cas
       go true e = subst (λ (q : Module). op_count q.tree < op_count m.tree) (becomes_is (edited (Erase x) m) n e) (falls_without x m.tree root there)
       go false e = absurd cc
 
-  rule_falls : rewrite_of 21 m x ≡ becomes n → op_count n.tree < op_count m.tree
+  rule_falls : rewrite_of CastBack m x ≡ becomes n → op_count n.tree < op_count m.tree
   rule_falls e =
-      let w = rewritten 21 m n x e in
-      let a = applies 21 m x w.0 w.1 in
+      let w = rewritten CastBack m n x e in
+      let a = applies CastBack m x w.0 w.1 in
       let o = cast_there x m.tree cast in
       let same : o.0 ≡ a.here = (let two : Some o.0 ≡ Some a.here = sym o.1 ∙ a.found in cc) in
       let v = given_at m.tree m.next a.front a.here w.0 (ap (λ (z : Operation). named cast_name (head z).name) (sym same) ∙ o.2) a.is in
@@ -166,9 +167,9 @@ falls_collapse m n x e = go (is_cast x m.tree && not (eqb (head m.tree).id x)) r
     either_falls (refused r) b f g e = absurd cc
     either_falls (becomes p) b f g e = f e
 
-    go : (b : Bool) → (is_cast x m.tree && not (eqb (head m.tree).id x)) ≡ b → cond b (rewrite_or (unused_erased m x) (rewrite_of 21 m x)) none ≡ becomes n → op_count n.tree < op_count m.tree
+    go : (b : Bool) → (is_cast x m.tree && not (eqb (head m.tree).id x)) ≡ b → cond b (rewrite_or (unused_erased m x) (rewrite_of CastBack m x)) none ≡ becomes n → op_count n.tree < op_count m.tree
     go true f e =
         (let c = both (is_cast x m.tree) (not (eqb (head m.tree).id x)) f in
         let root = not_is (eqb (head m.tree).id x) c.1 in
-        either_falls (unused_erased m x) (rewrite_of 21 m x) (unused_falls m n x root c.0) (rule_falls m n x root c.0) e)
+        either_falls (unused_erased m x) (rewrite_of CastBack m x) (unused_falls m n x root c.0) (rule_falls m n x root c.0) e)
     go false f e = absurd cc

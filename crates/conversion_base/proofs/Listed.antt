@@ -21,6 +21,7 @@ use Rattle.ir_event.specs.Modules.{Module}
 use Rattle.effects.specs.Dead.{is_unused}
 use Rattle.patterns_edits.specs.Contents.{all_edited, edited}
 use Rattle.patterns_edits.specs.Edits.{Erase}
+use Rattle.patterns_base.specs.declared.rule.Rule.TheVariants.{CastBack}
 use Rattle.patterns_base.specs.Looks.{Header}
 use Rattle.patterns_base.specs.Makes.{give}
 use Rattle.patterns_base.specs.Rewrites.{Rewrite, none, refused, becomes, rewrite_of}
@@ -148,10 +149,10 @@ module _ (m n : Module) (x : ℕ) (d : HasDistinctIds m.tree) where
       go true e = subst (λ (q : Module). Fewer m.tree q.tree) (becomes_is (edited (Erase x) m) n e) (fewer_erased x m.tree d)
       go false e = absurd cc
 
-  by_rule : is_cast x m.tree ≡ true → rewrite_of 21 m x ≡ becomes n → Fewer m.tree n.tree
+  by_rule : is_cast x m.tree ≡ true → rewrite_of CastBack m x ≡ becomes n → Fewer m.tree n.tree
   by_rule c e =
-      let w = rewritten 21 m n x e in
-      let a = applies 21 m x w.0 w.1 in
+      let w = rewritten CastBack m n x e in
+      let a = applies CastBack m x w.0 w.1 in
       let o = cast_there x m.tree c in
       let same : o.0 ≡ a.here = (let two : Some o.0 ≡ Some a.here = sym o.1 ∙ a.found in cc) in
       let v = given_at m.tree m.next a.front a.here w.0 (ap (λ (z : Operation). named cast_name (head z).name) (sym same) ∙ o.2) a.is in
@@ -167,8 +168,8 @@ module _ (m n : Module) (x : ℕ) (d : HasDistinctIds m.tree) where
   by_collapse : collapse m x ≡ becomes n → Fewer m.tree n.tree
   by_collapse e = go (is_cast x m.tree && not (eqb (head m.tree).id x)) refl e
     where
-      go : (b : Bool) → (is_cast x m.tree && not (eqb (head m.tree).id x)) ≡ b → cond b (rewrite_or (unused_erased m x) (rewrite_of 21 m x)) none ≡ becomes n → Fewer m.tree n.tree
-      go true f e = by_either (unused_erased m x) (rewrite_of 21 m x) by_unused (by_rule (both (is_cast x m.tree) (not (eqb (head m.tree).id x)) f).0) e
+      go : (b : Bool) → (is_cast x m.tree && not (eqb (head m.tree).id x)) ≡ b → cond b (rewrite_or (unused_erased m x) (rewrite_of CastBack m x)) none ≡ becomes n → Fewer m.tree n.tree
+      go true f e = by_either (unused_erased m x) (rewrite_of CastBack m x) by_unused (by_rule (both (is_cast x m.tree) (not (eqb (head m.tree).id x)) f).0) e
       go false f e = absurd cc
 
 by_first : (m n : Module) → HasDistinctIds m.tree → (xs : List ℕ) → first_rewrite (collapse m) xs ≡ becomes n → Fewer m.tree n.tree
@@ -182,7 +183,7 @@ casts_stay m n xs d h e = still xs m.tree n.tree h (by_first m n d xs e)
 -- ---- the first one that is taken away
 
 not_taken : (m : Module) (x : ℕ) → is_cast x m.tree ≡ false → collapse m x ≡ none
-not_taken m x e = ap (λ b. cond (b && not (eqb (head m.tree).id x)) (rewrite_or (unused_erased m x) (rewrite_of 21 m x)) none) e
+not_taken m x e = ap (λ b. cond (b && not (eqb (head m.tree).id x)) (rewrite_or (unused_erased m x) (rewrite_of CastBack m x)) none) e
 
 first_cast : (m : Module) (xs : List ℕ) → first_rewrite (collapse m) (casts_among xs m.tree) ≡ first_rewrite (collapse m) xs
 first_cast m [] = refl

@@ -1,24 +1,23 @@
 -- Where a rule applies that conversion may try, ids are given out.
-use Rattle.std.proofs.Common.{◌≡◌, refl, ap, sym, ◌∙◌, subst, ℕ, ◌+◌, ◌<◌, ◌≤◌, Bool, true, false, true≢false, List, [], ◌∷◌, eqb, eqb-true, Option, Some, None, cond, inl, inr, arith}
+use Rattle.std.proofs.Common.{◌≡◌, refl, ap, sym, ◌∙◌, ℕ, ◌+◌, ◌<◌, ◌≤◌, Bool, true, false, List, [], ◌∷◌, Option, Some, None, cond, arith}
 use Rattle.std.specs.Prelude.{nat_le}
-use Rattle.std.specs.List.{list_any}
 use Rattle.ir_types.specs.declared.refusal.Refusal.TheVariants.{Full, IdsExhausted}
 use Rattle.ir_tree.specs.declared.place.Place.{Place}
 use Rattle.ir_tree.specs.Tree.{head}
 use Rattle.ir_tree.specs.Ids.{find, op_count}
 use Rattle.ir_tree.specs.Limits.{most_ops, most_next}
 use Rattle.ir_tree.specs.Meaning.{Operation}
-use Rattle.ir_tree_laws.proofs.Listed.{either}
 use Rattle.ir_event.specs.Modules.{Module}
 use Rattle.patterns_edits.specs.Contents.{Edit, all_edited, edited}
 use Rattle.patterns_edits.specs.Edits.{Insert, Make, Erase, Move, SetOperand, Replace, SetAttr, DropAttr}
-use Rattle.patterns_base.specs.Keeps.{given, Each}
+use Rattle.patterns_base.specs.Keeps.{given}
 use Rattle.patterns_base.specs.Looks.{when, is_clean, front_of}
 use Rattle.patterns_base.specs.Makes.{makes, made_by}
+use Rattle.patterns_base.specs.declared.rule.Rule.{Rule}
+use Rattle.patterns_base.specs.RuleNames.{is_converting}
 use Rattle.patterns_base.specs.Rules.{rule}
-use Rattle.patterns_base.specs.Rewrites.{refused, becomes, edits_of, rewrite_of, rewrite_by, carried_out, converting_rules}
+use Rattle.patterns_base.specs.Rewrites.{refused, becomes, edits_of, rewrite_of, rewrite_by, carried_out}
 use Rattle.patterns_base.proofs.Making.{converting_rules_make}
-use Rattle.conversion_base.specs.Targets.{is_for_conversion}
 
 pub given_some : {X Y : Type 0} (o : Option X) (f : X → Option Y) (y : Y) → given o f ≡ Some y → (x : X) × (o ≡ Some x) × (f x ≡ Some y)
 given_some None f y e = absurd cc
@@ -28,23 +27,23 @@ pub when_some : {X : Type 0} (b : Bool) (r : Option X) (y : X) → when b r ≡ 
 when_some true r y e = (refl, e)
 when_some false r y e = absurd cc
 
-edits_are : (r : ℕ) (m : Module) (x : ℕ) → edits_of r m x ≡ given (find x m.tree) (λ o. given (front_of x m.tree) (λ front. when (is_clean m.tree (head o)) (rule r m.tree m.next front o)))
+edits_are : (r : Rule) (m : Module) (x : ℕ) → edits_of r m x ≡ given (find x m.tree) (λ o. given (front_of x m.tree) (λ front. when (is_clean m.tree (head o)) (rule r m.tree m.next front o)))
 unfolding edits_of
 edits_are r m x = refl
 
-rewrite_is : (r : ℕ) (m : Module) (x : ℕ) → rewrite_of r m x ≡ rewrite_by (edits_of r m x) m
+rewrite_is : (r : Rule) (m : Module) (x : ℕ) → rewrite_of r m x ≡ rewrite_by (edits_of r m x) m
 unfolding rewrite_of
 rewrite_is r m x = refl
 
 -- where a rule applies at an operation
-pub record Applies (r : ℕ) (m : Module) (x : ℕ) (es : List Edit) : Type 0 where
+pub record Applies (r : Rule) (m : Module) (x : ℕ) (es : List Edit) : Type 0 where
   pub here : Operation
   pub front : Place
   pub found : find x m.tree ≡ Some here
   pub at : front_of x m.tree ≡ Some front
   pub is : rule r m.tree m.next front here ≡ Some es
 
-pub applies : (r : ℕ) (m : Module) (x : ℕ) (es : List Edit) → edits_of r m x ≡ Some es → Applies r m x es
+pub applies : (r : Rule) (m : Module) (x : ℕ) (es : List Edit) → edits_of r m x ≡ Some es → Applies r m x es
 applies r m x es e =
     let o = given_some (find x m.tree) _ es (sym (edits_are r m x) ∙ e) in
     let f = given_some (front_of x m.tree) _ es o.2 in
@@ -59,7 +58,7 @@ carried es m n e = go (nat_le (op_count m.tree + made_by es) most_ops) (nat_le (
     go true false e = absurd cc
     go false b e = absurd cc
 
-pub rewritten : (r : ℕ) (m n : Module) (x : ℕ) → rewrite_of r m x ≡ becomes n → (es : List Edit) × (edits_of r m x ≡ Some es) × (n ≡ all_edited es m)
+pub rewritten : (r : Rule) (m n : Module) (x : ℕ) → rewrite_of r m x ≡ becomes n → (es : List Edit) × (edits_of r m x ≡ Some es) × (n ≡ all_edited es m)
 rewritten r m n x e = go (edits_of r m x) refl (sym (rewrite_is r m x) ∙ e)
   where
     go : (o : Option (List Edit)) → edits_of r m x ≡ o → rewrite_by o m ≡ becomes n → (es : List Edit) × (edits_of r m x ≡ Some es) × (n ≡ all_edited es m)
@@ -81,25 +80,11 @@ all_rise : (es : List Edit) (m : Module) → made_by es + m.next ≤ (all_edited
 all_rise [] m = omega arith
 all_rise (e ∷ es) m = let one = rises e m in let rest = all_rise es (edited e m) in omega (arith, one, rest)
 
-each_at : (P : ℕ → Type 0) (r : ℕ) (rs : List ℕ) → Each P rs → list_any (eqb r) rs ≡ true → P r
-each_at P r [] h e = absurd (true≢false (sym e))
-each_at P r (s ∷ rs) h e = elim (either (eqb r s) (list_any (eqb r) rs) e) [
-  | inl k ↦ subst P (sym (eqb-true r s k)) h.0
-  | inr k ↦ each_at P r rs h.1 k
-]
-
-makes_some : (r : ℕ) → is_for_conversion r ≡ true → (t : Operation) (n : ℕ) (front : Place) (o : Operation) (es : List Edit) → rule r t n front o ≡ Some es → 1 ≤ made_by es
-makes_some r e = each_at (λ r. (t : Operation) (n : ℕ) (front : Place) (o : Operation) (es : List Edit) → rule r t n front o ≡ Some es → 1 ≤ made_by es) r converting_rules converting_rules_make e
-
--- such a rule's number
-pub converting_within : (r : ℕ) → is_for_conversion r ≡ true → (1 ≤ r) × (r ≤ 30)
-converting_within r e = each_at (λ n. (1 ≤ n) × (n ≤ 30)) r converting_rules ((omega arith, omega arith), ((omega arith, omega arith), ((omega arith, omega arith), ((omega arith, omega arith), ((omega arith, omega arith), ((omega arith, omega arith), ((omega arith, omega arith), tt))))))) e
-
-pub rules_make : (r x : ℕ) (m n : Module) → is_for_conversion r ≡ true → rewrite_of r m x ≡ becomes n → m.next < n.next
+pub rules_make : (r : Rule) (x : ℕ) (m n : Module) → is_converting r ≡ true → rewrite_of r m x ≡ becomes n → m.next < n.next
 rules_make r x m n e f =
     let w = rewritten r m n x f in
     let a = applies r m x w.0 w.1 in
-    let some = makes_some r e m.tree m.next a.front a.here w.0 a.is in
+    let some = converting_rules_make r m.tree m.next a.front a.here w.0 e a.is in
     let all = all_rise w.0 m in
     let same = ap (λ (q : Module). q.next) w.2 in
     omega (arith, some, all, same)

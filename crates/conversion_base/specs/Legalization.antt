@@ -5,6 +5,7 @@ use Rattle.std.specs.List.{range_with_len}
 use Rattle.ir_types.specs.declared.refusal.Refusal.{Refusal}
 use Rattle.ir_tree.specs.Ids.{has_id}
 use Rattle.ir_event.specs.Modules.{Module}
+use Rattle.patterns_base.specs.declared.rule.Rule.{Rule}
 use Rattle.patterns_base.specs.Rewrites.{Rewrite, none, refused, becomes, rewrite_of}
 use Rattle.conversion_base.specs.Targets.{Aim, is_legal}
 
@@ -55,7 +56,7 @@ module _ (go : Module → ℕ → Outcome) where
   after_rule m (becomes n) = behind 1 false (each_of (made_since m.next n) n)
 
   -- the first of some rules after which all goes well
-  abbrev pub first_rule : List ℕ → Module → ℕ → Outcome
+  abbrev pub first_rule : List Rule → Module → ℕ → Outcome
   first_rule [] m x = failed false
   first_rule (r ∷ rs) m x = or_else (after_rule m (rewrite_of r m x)) (first_rule rs m x)
 

@@ -8,6 +8,8 @@ pub mod Repeats
 pub use Rattle.patterns_base.specs.Looks
 pub use Rattle.patterns_base.specs.Makes
 pub use Rattle.patterns_base.specs.Rewrites
+pub use Rattle.patterns_base.specs.RuleNames
+pub use Rattle.patterns_base.specs.declared.rule.Rule
 pub use Rattle.patterns_base.specs.Words
 pub use Rattle.patterns_edits.specs.Contents
 pub use Rattle.patterns_edits.specs.Edits

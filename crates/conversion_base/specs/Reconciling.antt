@@ -10,6 +10,7 @@ use Rattle.ir_event.specs.Modules.{Module}
 use Rattle.effects.specs.Dead.{is_unused}
 use Rattle.patterns_edits.specs.Contents.{Edit, edited}
 use Rattle.patterns_edits.specs.Edits.{Erase}
+use Rattle.patterns_base.specs.declared.rule.Rule.TheVariants.{CastBack}
 use Rattle.patterns_base.specs.Keeps.{given}
 use Rattle.patterns_base.specs.Looks.{when, front_of, is_index, is_index_value, is_of_type, one}
 use Rattle.patterns_base.specs.Made.{i64, cast}
@@ -39,9 +40,9 @@ rewrite_or (becomes n) b = becomes n
 abbrev pub unused_erased : Module → ℕ → Rewrite
 unused_erased m x = if is_unused x m.tree then becomes (edited (Erase x) m) else none
 
--- what becomes of operation x where it is a cast and not the root: it is erased, or rule 21 collapses it
+-- what becomes of operation x where it is a cast and not the root: it is erased, or casting back collapses it
 abbrev pub collapse : Module → ℕ → Rewrite
-collapse m x = if is_cast x m.tree && not (eqb (head m.tree).id x) then rewrite_or (unused_erased m x) (rewrite_of 21 m x) else none
+collapse m x = if is_cast x m.tree && not (eqb (head m.tree).id x) then rewrite_or (unused_erased m x) (rewrite_of CastBack m x) else none
 
 -- the first rewrite at one of some operations
 abbrev pub first_rewrite : (ℕ → Rewrite) → List ℕ → Rewrite

@@ -1,7 +1,6 @@
 -- What a conversion aims at, and which operations are legal then (Dialect Conversion, "Conversion Target").
-use Rattle.std.specs.Prelude.{◌≡◌, ℕ, List, [], ◌∷◌, ◌++◌, codes, map, eqb, Bool, true, false, not, ◌||◌, ◌&&◌, nat_le, Option, Some, None, option_map, refl}
+use Rattle.std.specs.Prelude.{◌≡◌, ℕ, List, [], ◌∷◌, ◌++◌, codes, map, Bool, true, false, not, ◌||◌, ◌&&◌, nat_le, Option, Some, None, option_map}
 use Rattle.std.specs.List.{All, list_any, list_all}
-use Rattle.std.specs.Coded.{Coded, code_by, coded_ℕ, coded_bool, coded_list, coded×}
 use Rattle.ir_types.specs.Things.{Things, IsName}
 use Rattle.ir_types.specs.Terms.{TypeTerm, name_term}
 use Rattle.ir_tree.specs.Ids.{find}
@@ -9,7 +8,8 @@ use Rattle.ir_tree.specs.Meaning.{Operation}
 use Rattle.ir_store.specs.Nodes.{node_of}
 use Rattle.ir_event.specs.Modules.{Node}
 use Rattle.patterns_base.specs.Looks.{is_index, is_index_value}
-use Rattle.patterns_base.specs.Rewrites.{converting_rules}
+use Rattle.patterns_base.specs.RuleNames.{is_converting}
+use Rattle.patterns_base.specs.declared.rule.Rule.{Rule}
 use Rattle.patterns_base.specs.Words.{named, among}
 
 -- a target: whether each operation has to be legal in the end; the names of operations that are legal, that aren't, and
@@ -20,7 +20,7 @@ pub record TargetOf (N : Type 0) : Type 0 where
   pub legal : List N
   pub illegal : List N
   pub dynamic : List N
-  pub rules : List ℕ
+  pub rules : List Rule
   pub depth : ℕ
 
 -- names by their bytes
@@ -47,10 +47,6 @@ abbrev pub each_once : List (List ℕ) → Bool
 each_once [] = true
 each_once (n ∷ ns) = not (among ns n) && each_once ns
 
--- whether conversion may try a rule
-abbrev pub is_for_conversion : ℕ → Bool
-is_for_conversion r = list_any (eqb r) converting_rules
-
 -- the greatest depth
 abbrev pub most_depth : ℕ
 most_depth = 16
@@ -59,7 +55,7 @@ most_depth = 16
 -- rules, and the depth is within its limits
 abbrev pub is_accepted : Aim → Bool
 is_accepted g =
-    each_once (names_of g) && (not (list_any (named cast_name) (names_of g)) && (list_all is_for_conversion g.rules && (nat_le 1 g.depth && nat_le g.depth most_depth)))
+    each_once (names_of g) && (not (list_any (named cast_name) (names_of g)) && (list_all is_converting g.rules && (nat_le 1 g.depth && nat_le g.depth most_depth)))
 
 -- ---- which operations are legal
 
@@ -101,11 +97,4 @@ pub record IsNamedIn (c : Things) (g : TargetOf ℕ) : Type 0 where
 -- and conversion may try each of its rules
 pub record IsAimIn (c : Things) (g : TargetOf ℕ) : Type 0 where
   pub names : IsNamedIn c g
-  pub rules : list_all is_for_conversion g.rules ≡ true
-
-abbrev pub target_code : Coded (TargetOf ℕ)
-target_code =
-    code_by (Bool × (List ℕ × (List ℕ × (List ℕ × (List ℕ × ℕ))))) (coded× coded_bool (coded× (coded_list coded_ℕ) (coded× (coded_list coded_ℕ) (coded× (coded_list coded_ℕ) (coded× (coded_list coded_ℕ) coded_ℕ)))))
-    (λ g. (g.full, (g.legal, (g.illegal, (g.dynamic, (g.rules, g.depth))))))
-    (λ p. record { full = p.0; legal = p.1.0; illegal = p.1.1.0; dynamic = p.1.1.1.0; rules = p.1.1.1.1.0; depth = p.1.1.1.1.1 })
-    (λ _. refl)
+  pub rules : list_all is_converting g.rules ≡ true

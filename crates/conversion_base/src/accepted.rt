@@ -4,8 +4,9 @@ ghost use Rattle.std.specs.List.{All, list_all, list_any};
 ghost use Rattle.ir_types.specs.Things.{IsName};
 ghost use Rattle.ir_types.specs.Terms.{name_term};
 ghost use Rattle.ir_types.specs.WordNames.{word_bytes};
+ghost use Rattle.patterns_base.specs.RuleNames.{is_converting};
 ghost use Rattle.patterns_base.specs.Words.{among, named};
-ghost use Rattle.conversion_base.specs.Targets.{IsNamedIn, aim_of, cast_name, each_once, is_accepted, is_for_conversion, names_of};
+ghost use Rattle.conversion_base.specs.Targets.{IsNamedIn, aim_of, cast_name, each_once, is_accepted, names_of};
 ghost use Rattle.conversion_base.specs.Numbers.{are_apart, lists_apart, lists_once};
 
 use crate::names::Names;
@@ -13,6 +14,7 @@ use crate::target::Target;
 use ir_types::context::Context;
 use ir_types::ids::NameId;
 use ir_types::word::Word;
+use patterns_base::rule::Rule;
 
 /// Whether a name is among names.
 pub(crate) fn is_among(ctx: &Context, names: &Names, name: NameId) -> bool
@@ -63,20 +65,13 @@ fn are_apart(ctx: &Context, names: &Names, others: &Names) -> bool
     true
 }
 
-/// Whether conversion may try a rule.
-fn is_for_conversion(rule: u32) -> bool
-    ensures { result ≡ is_for_conversion rule }
-{
-    rule == 2 || rule == 25 || rule == 26 || rule == 27 || rule == 28 || rule == 29 || rule == 30
-}
-
 /// Whether conversion may try each of some rules.
-fn are_for_conversion(rules: &[u32]) -> bool
-    ensures { result ≡ list_all is_for_conversion rules.now }
+fn are_converting(rules: &[Rule]) -> bool
+    ensures { result ≡ list_all is_converting rules.now }
 {
     let mut rest = rules;
     'rules: while let [rule, tail @ ..] = rest {
-        if !is_for_conversion(*rule) {
+        if !rule.is_converting() {
             return false;
         }
         rest = tail;
@@ -130,7 +125,7 @@ pub fn is_accepted(ctx: &Context, target: &Target) -> bool
 {
     each_once(ctx, target)
         && lacks_casts(ctx, target)
-        && are_for_conversion(&target.rules)
+        && are_converting(&target.rules)
         && 1 <= target.depth
         && target.depth <= 16
 }

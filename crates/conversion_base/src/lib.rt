@@ -7,3 +7,5 @@ pub mod laws;
 pub mod legal;
 pub mod names;
 pub mod target;
+
+pub use patterns_base::rule;

@@ -1,5 +1,6 @@
 //! What a conversion aims at.
 use crate::names::Names;
+use patterns_base::rule::Rule;
 use std::marker::Model;
 
 /// What a conversion aims at (Dialect Conversion, "Conversion Target").
@@ -14,18 +15,16 @@ pub struct Target {
     /// The names of those that are where they have no value of type index.
     pub dynamic: Names,
     /// The rules to be tried, in this order.
-    pub rules: Vec<u32>,
+    pub rules: Vec<Rule>,
     /// How deep the operations that rules make are legalised.
     pub depth: u32,
 }
 
 impl Model for Target {
-    ghost use Rattle.conversion_base.specs.Targets.{TargetOf, target_code};
+    ghost use Rattle.conversion_base.specs.Targets.{TargetOf};
     ghost use Rattle.std.specs.Prelude.{ℕ};
 
     ghost Value = { TargetOf ℕ };
-
-    ghost coded = { target_code };
 
     ghost view = { λ g. record { full = g.full; legal = g.legal; illegal = g.illegal; dynamic = g.dynamic; rules = g.rules.items; depth = g.depth } };
 }

@@ -17,17 +17,15 @@ use Rattle.ir_tree_laws.specs.Reads.{precedes, comes_after}
 use Rattle.ir_tree_laws.proofs.Listed.{both}
 use Rattle.ir_tree_laws.proofs.Members.{stand, itself, found_stands}
 use Rattle.ir_tree_laws.proofs.Formed.{from_formed, ids_below}
-use Rattle.ir_store_walks.specs.Following.{HasFewRegions}
-use Rattle.ir_store_walks.specs.Following as walks
 use Rattle.ir_event.specs.Listener.{Listener}
 use Rattle.patterns.specs.Benched.{Benched, Led, Journaled}
 use Rattle.patterns.specs.Held.{Held, module_held, module_at, open_marks, open_mark}
 use Rattle.rewriter.specs.Journals.{before}
 use Rattle.rewriter.specs.Moves.{all_noted}
 use Rattle.rewriter.specs.Mark.{Mark}
-use Rattle.patterns_orders.proofs.Order.{after_at, after_past, second_there}
+use Rattle.greedy.proofs.Listed.{after_at, after_past, second_there}
 use Rattle.greedy.specs.Benches.{Formed, Onward}
-use Rattle.greedy.specs.Work.{first_id, comes_next, following}
+use Rattle.greedy.specs.Following.{HasFewRegions, comes_next, following}
 
 -- ---- the module of contents and the one of numbers
 pub held_ids : (h : Held) → ids (module_held h).tree ≡ ids h.store.module_of.tree
@@ -48,16 +46,8 @@ held_precedes h a b = ap (comes_after a b) (held_ids h)
 pub held_formed : (h : Held) → IsWellFormed (isolated_in h.ctx) h.store.module_of → Formed (module_held h)
 held_formed h w = record { distinct = subst (IsDistinct eqb) (sym (held_ids h)) w.distinct; below = subst (All (λ y. y < h.store.module_of.next)) (sym (held_ids h)) w.below }
 
-same_first : (xs : List ℕ) → walks.first_id xs ≡ first_id xs
-same_first [] = refl
-same_first (x ∷ xs) = refl
-
-same_next : (a : ℕ) (xs : List ℕ) → walks.comes_next a xs ≡ comes_next a xs
-same_next a [] = refl
-same_next a (x ∷ xs) = λ i. cond (eqb x a) (same_first xs i) (same_next a xs i)
-
-pub held_following : (h : Held) (x : ℕ) → walks.following x h.store.module_of.tree ≡ following x (module_held h).tree
-held_following h x = same_next x (ids h.store.module_of.tree) ∙ ap (comes_next x) (sym (held_ids h))
+pub held_following : (h : Held) (x : ℕ) → following x h.store.module_of.tree ≡ following x (module_held h).tree
+held_following h x = ap (comes_next x) (sym (held_ids h))
 
 -- ---- the outermost operation
 pub root_below : (n : ℕ) (t : Op) → All (λ y. y < n) (ids t) → (head t).id < n

@@ -8,6 +8,7 @@ use Rattle.ir_tree.specs.Ids.{ids, op_count}
 use Rattle.ir_tree.specs.Limits.{most_ops, most_next}
 use Rattle.ir_event.specs.Modules.{Module}
 use Rattle.rewriter_machine.specs.Contents.{Edit}
+use Rattle.patterns_base.specs.declared.rule.Rule.{Rule}
 use Rattle.patterns_base.specs.Makes.{made_by}
 use Rattle.patterns_base.specs.Rewrites.{Rewrite, none, refused, becomes, edits_of, rewrite_by, rewrite_of}
 use Rattle.patterns_base.specs.Canonicalization.{or_else, first_rule, greedy_rules, first_among, next_rewrite, End, converged, limited, stopped, ended, end_of, go_on, canonical_from, canonicalization_of, most_rewrites}
@@ -134,7 +135,7 @@ either_refused none b e h = inr h
 either_refused (refused f) b e h = inl h
 either_refused (becomes p) b e h = inl h
 
-rules_count : (rs : List ℕ) (m : Module) (x : ℕ) (e : Refusal) → first_rule rs m x ≡ refused e → IsCount e
+rules_count : (rs : List Rule) (m : Module) (x : ℕ) (e : Refusal) → first_rule rs m x ≡ refused e → IsCount e
 unfolding first_rule rewrite_of
 rules_count [] m x e h = absurd (not_refused none e refl h)
 rules_count (r ∷ rs) m x e h = elim (either_refused (rewrite_of r m x) (first_rule rs m x) e h) [

@@ -1,23 +1,29 @@
 -- Scans for the first rewrite, and what runs come to.
-use Rattle.std.proofs.Common.{◌≡◌, ◌≢◌, refl, ap, sym, ◌∙◌, subst, ℕ, zero, suc, ◌+◌, ◌≤◌, ◌<◌, inl, inr, Bool, true, false, cond, eqb, eqb-true, eq-eqb, List, [], ◌∷◌, Option, Some, None, true≢false, arith}
+use Rattle.std.proofs.Common.{◌≡◌, ◌≢◌, refl, ap, sym, ◌∙◌, subst, ℕ, zero, suc, ◌+◌, ◌≤◌, ◌<◌, inl, inr, ◌⊎◌, Bool, true, false, ◌||◌, cond, eqb, eqb-true, eq-eqb, List, [], ◌∷◌, Option, Some, None, true≢false, arith}
 use Rattle.std.specs.Prelude.{nat_le}
-use Rattle.std.specs.List.{range_with_len}
-use Rattle.std.proofs.lemmas.Bool.{cases_lt, cases_eq}
+use Rattle.std.specs.List.{filter, list_any}
 use Rattle.ir_types.specs.declared.refusal.Refusal.{Refusal}
-use Rattle.ir_tree.specs.Ids.{ids, has_id, op_count}
+use Rattle.ir_tree.specs.Tree.{op, head}
+use Rattle.ir_tree.specs.Ids.{ids, regions_ids, has_id, op_count, HasDistinctIds}
+use Rattle.ir_tree.specs.Meaning.{Operation}
 use Rattle.ir_tree.specs.Limits.{most_ops, most_next}
 use Rattle.ir_tree_laws.specs.Reads.{comes_after, precedes}
 use Rattle.ir_tree_laws.proofs.Listed.{bool_cases}
 use Rattle.ir_event.specs.Modules.{Module}
 use Rattle.rewriter_machine.specs.Contents.{Edit}
+use Rattle.patterns_base.specs.declared.rule.Rule.{Rule}
+use Rattle.patterns_base.specs.Keeps.{Each}
 use Rattle.patterns_base.specs.Makes.{made_by}
 use Rattle.patterns_base.specs.Rewrites.{Rewrite, none, refused, becomes, edits_of, rewrite_by, rewrite_of}
+use Rattle.patterns_base.specs.RuleNames.{all_rules, is_canonical}
 use Rattle.patterns_base.specs.Canonicalization.{or_else, first_rule, lowest, first_among, next_rewrite}
 use Rattle.greedy.specs.Outcomes.{Applied, Refuses}
 use Rattle.greedy.specs.Work.{waits, IsWork, Right, CoversBut, StillWaits, Taken, NoneWaits}
-use Rattle.patterns_listing.specs.touching.Sights.{is_listed}
-use Rattle.patterns_listing.specs.touching.Listing.{Touched}
-use Rattle.patterns_orders.proofs.Order.{first_there, listed_at, listed_more, listed_past}
+use Rattle.patterns_touched.specs.Sights.{is_listed}
+use Rattle.patterns_touched.specs.Listing.{Touched}
+use Rattle.greedy.proofs.EachRule.{of_each}
+use Rattle.greedy.proofs.Rootless.{rootless}
+use Rattle.greedy.proofs.Listed.{first_there, listed_at, listed_more, listed_past}
 
 -- a rewrite that there is
 becomes_none : (p : Module) → becomes p ≡ none → ⊥
@@ -79,34 +85,52 @@ by_none None m e = refl
 by_none (Some es) m e = absurd (carried (nat_le (op_count m.tree + made_by es) most_ops) (nat_le (m.next + made_by es) most_next) _ _ _ e)
 
 module _ (m : Module) (x : ℕ) where
-  no_edits : (r : ℕ) → rewrite_of r m x ≡ none → edits_of r m x ≡ None
+  no_edits : (r : Rule) → rewrite_of r m x ≡ none → edits_of r m x ≡ None
   unfolding rewrite_of
   no_edits r e = by_none (edits_of r m x) m e
 
-  no_rewrite : (r : ℕ) → edits_of r m x ≡ None → rewrite_of r m x ≡ none
+  no_rewrite : (r : Rule) → edits_of r m x ≡ None → rewrite_of r m x ≡ none
   unfolding rewrite_of
   no_rewrite r e = ap (λ es. rewrite_by es m) e
 
-  each_none : (r k : ℕ) → first_rule (range_with_len r k) m x ≡ none → (j : ℕ) → r ≤ j → j < r + k → edits_of j m x ≡ None
+  no_first : first_rule [] m x ≡ none
   unfolding first_rule
-  each_none r zero e j l u = absurd (omega (arith, l, u))
-  each_none r (suc k) e j l u =
-      let h = or_none (rewrite_of r m x) (first_rule (range_with_len (r + 1) k) m x) e in
-      elim (cases_eq r j) [
-        | inl s ↦ subst (λ i. edits_of i m x ≡ None) s (no_edits r h.0)
-        | inr n ↦ each_none (r + 1) k h.1 j (let v = cases_lt r j in elim v [ inl w ↦ omega (arith, w) | inr w ↦ absurd (n (omega (arith, l, w))) ]) (omega (arith, u))
-      ]
+  no_first = refl
 
-  none_each : (r k : ℕ) → ((j : ℕ) → r ≤ j → j < r + k → edits_of j m x ≡ None) → first_rule (range_with_len r k) m x ≡ none
+  first_is : (r : Rule) (rs : List Rule) → first_rule (r ∷ rs) m x ≡ or_else (rewrite_of r m x) (first_rule rs m x)
   unfolding first_rule
-  none_each r zero h = refl
-  none_each r (suc k) h = ap (λ a. or_else a (first_rule (range_with_len (r + 1) k) m x)) (no_rewrite r (h r (omega arith) (omega arith))) ∙ none_each (r + 1) k (λ j l u. h j (omega (arith, l)) (omega (arith, u)))
+  first_is r rs = refl
 
-  pub none_at : lowest m x ≡ none → (r : ℕ) → 1 ≤ r → r ≤ 24 → edits_of r m x ≡ None
-  none_at e r l u = each_none 1 24 e r l (omega (arith, u))
+  abbrev HasNone : Rule → Type 0
+  HasNone r = is_canonical r ≡ true → edits_of r m x ≡ None
 
-  pub none_of : ((r : ℕ) → 1 ≤ r → r ≤ 24 → edits_of r m x ≡ None) → lowest m x ≡ none
-  none_of h = none_each 1 24 (λ j l u. h j l (omega (arith, u)))
+  each_none : (rs : List Rule) → first_rule (filter is_canonical rs) m x ≡ none → Each HasNone rs
+  each_none [] e = tt
+  each_none (r ∷ rs) e = go (is_canonical r) refl e (each_none rs)
+    where
+      others : List Rule
+      others = filter is_canonical rs
+
+      go : (b : Bool) → is_canonical r ≡ b → first_rule (cond b (r ∷ others) others) m x ≡ none → (first_rule others m x ≡ none → Each HasNone rs) → HasNone r × Each HasNone rs
+      go true c e more = let h = or_none (rewrite_of r m x) (first_rule others m x) (sym (first_is r others) ∙ e) in (λ k. no_edits r h.0, more h.1)
+      go false c e more = (λ k. absurd (true≢false (sym k ∙ c)), more e)
+
+  none_each : ((r : Rule) → HasNone r) → (rs : List Rule) → first_rule (filter is_canonical rs) m x ≡ none
+  none_each h [] = no_first
+  none_each h (r ∷ rs) = go (is_canonical r) refl (none_each h rs)
+    where
+      others : List Rule
+      others = filter is_canonical rs
+
+      go : (b : Bool) → is_canonical r ≡ b → first_rule others m x ≡ none → first_rule (cond b (r ∷ others) others) m x ≡ none
+      go true c e = first_is r others ∙ ap (λ a. or_else a (first_rule others m x)) (no_rewrite r (h r c)) ∙ e
+      go false c e = e
+
+  pub none_at : lowest m x ≡ none → (r : Rule) → is_canonical r ≡ true → edits_of r m x ≡ None
+  none_at e = of_each HasNone (each_none all_rules e)
+
+  pub none_of : ((r : Rule) → is_canonical r ≡ true → edits_of r m x ≡ None) → lowest m x ≡ none
+  none_of h = none_each h all_rules
 
 -- ---- after a rewrite at operation x all that may apply waits
 pub renewed : (m n : Module) (x : ℕ) (listed : List ℕ) (p : ℕ) (a : List ℕ) (p2 : ℕ) (a2 : List ℕ) (p3 : ℕ) (a3 : List ℕ) (p4 : ℕ) (a4 : List ℕ)
@@ -124,9 +148,28 @@ renewed m n x listed p a p2 a2 p3 a3 p4 a4 touched but s1 s2 here s3 all w = rec
           | inl k ↦ absurd (true≢false (sym (s3 z h h (s2 z h h (s1 z s.was h k))) ∙ v))
           | inr k ↦ elim (but z s.was k) [
             | inl q ↦ absurd (true≢false (sym (s3 z h h (subst (λ y. waits p3 a3 n.tree y ≡ true) (sym q) (here (subst (λ y. has_id y n.tree ≡ true) q h)))) ∙ v))
-            | inr q ↦ none_of n z (λ r l u. (s.applies r l u).1 (none_at m z q r l u))
+            | inr q ↦ none_of n z (λ r c. (s.applies r c).1 (none_at m z q r c))
           ]
         ]
+  ];
+}
+
+-- ---- the worklist of the root alone: no rule applies there, and all others come after it
+root_or_behind : (m : Module) (t : Operation) (z : ℕ) → has_id z t ≡ true → (z ≡ (head t).id) ⊎ (precedes (head t).id z t ≡ true)
+root_or_behind m (op h rs) z e = elim (bool_cases (eqb h.id z)) [
+  | inl k ↦ inl (sym (eqb-true h.id z k))
+  | inr k ↦ inr (before_here m h.id z (regions_ids rs) (listed_past h.id z (regions_ids rs) k e))
+]
+
+root_there : (t : Operation) → has_id (head t).id t ≡ true
+root_there (op h rs) = ap (λ b. b || list_any (λ y. eqb y h.id) (regions_ids rs)) (eq-eqb h.id h.id refl)
+
+pub begun : (m : Module) → HasDistinctIds m.tree → Right (head m.tree).id [] m
+begun m d = record {
+  work = record { there = root_there m.tree; inside = λ y k. absurd (true≢false (sym k)); behind = λ y k. absurd (true≢false (sym k)); falls = tt };
+  covers = λ z h w. elim (root_or_behind m m.tree z h) [
+    | inl e ↦ subst (λ y. lowest m y ≡ none) (sym e) (rootless m d)
+    | inr k ↦ absurd (true≢false (sym (ap (λ b. b || is_listed z []) k) ∙ w))
   ];
 }
 

@@ -5,7 +5,7 @@ use Rattle.ir_types.specs.Limits.{most_things}
 use Rattle.ir_types.proofs.Growth.{grows_refl, grows_trans}
 use Rattle.ir_event.specs.Listener.{Listener}
 use Rattle.patterns.specs.Benched.{Benched}
-use Rattle.patterns.specs.Interned.{IsFull}
+use Rattle.patterns.specs.runs.Interning.{IsFull}
 use Rattle.rewriter.proofs.Told.{heard_none, heard_more}
 use Rattle.greedy.specs.Benches.{Onward}
 

@@ -1,26 +1,13 @@
 -- The worklist: the operations at which a rule may apply.
-use Rattle.std.specs.Prelude.{◌≡◌, ◌⊎◌, ◌<◌, ◌+◌, length, ℕ, List, [], ◌∷◌, Bool, true, false, ◌||◌, eqb, if◌then◌else◌, Option, Some, None}
+use Rattle.std.specs.Prelude.{◌≡◌, ◌⊎◌, ◌<◌, ◌+◌, length, ℕ, List, [], ◌∷◌, Bool, true, false, ◌||◌, eqb, if◌then◌else◌}
 use Rattle.ir_tree.specs.Ids.{ids, has_id, HasDistinctIds}
 use Rattle.ir_tree.specs.Meaning.{Operation}
 use Rattle.ir_tree_laws.specs.Reads.{precedes}
 use Rattle.ir_event.specs.Modules.{Module}
 use Rattle.patterns_base.specs.Rewrites.{none}
 use Rattle.patterns_base.specs.Canonicalization.{lowest}
-use Rattle.patterns_orders.specs.Orders.{Orderly}
-use Rattle.patterns_listing.specs.touching.Sights.{is_listed}
-
--- the first of a list, and the one behind the first a in a list
-abbrev pub first_id : List ℕ → Option ℕ
-first_id [] = None
-first_id (x ∷ xs) = Some x
-
-abbrev pub comes_next : ℕ → List ℕ → Option ℕ
-comes_next a [] = None
-comes_next a (x ∷ xs) = if eqb x a then first_id xs else comes_next a xs
-
--- the operation after operation x in pre-order
-abbrev pub following : ℕ → Operation → Option ℕ
-following x t = comes_next x (ids t)
+use Rattle.greedy.specs.Orders.{Orderly}
+use Rattle.patterns_touched.specs.Sights.{is_listed}
 
 -- ---- the worklist
 

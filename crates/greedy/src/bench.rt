@@ -1,12 +1,14 @@
-//! Benches with the rules 1 to 24.
-ghost use Rattle.std.specs.Prelude.{◌≡◌, ◌<◌, All, eqb, IfErr};
+//! Benches with the rules of canonicalization.
+ghost use Rattle.std.specs.Prelude.{◌≡◌, ◌<◌, [], All, eqb, IfErr, MatchResult};
 ghost use Rattle.ir_types.specs.Things.{Grows};
 ghost use Rattle.ir_tree.specs.Ids.{HasDistinctIds, ids};
 ghost use Rattle.ir_tree.specs.Tree.{head};
 ghost use Rattle.rewriter_machine.specs.Machine.{Change};
+ghost use Rattle.rewriter.specs.Moves.{Recorded};
+ghost use Rattle.patterns.specs.runs.Runs.{Noted};
 ghost use Rattle.patterns.specs.Benched.{Does, Led};
 ghost use Rattle.patterns.specs.Held.{module_held};
-ghost use Rattle.patterns.specs.Interned.{IsFull};
+ghost use Rattle.patterns.specs.runs.Interning.{IsFull};
 ghost use Rattle.greedy.specs.Changes.{canonical_reply, canonicalizing};
 ghost use Rattle.greedy.specs.Outcomes.{IsReason};
 
@@ -15,11 +17,11 @@ use crate::rewriting::Rewriting;
 use crate::run::run;
 use ir_event::analysis::Analysis;
 use ir_store::store::Store;
-use ir_store_walks::walk::{following, preceding};
+use crate::walk::{following, preceding};
 use ir_types::ids::OpId;
 use ir_types::refusal::Refusal;
 use patterns::lowest::lowest;
-use patterns_listing::journal::touched;
+use patterns_touched::journal::touched;
 use rewriter::Bench;
 use rewriter::finish::finish;
 use rewriter::laws::led_benches_are_kept;
@@ -59,9 +61,7 @@ fn outermost(store: &Store) -> OpId
 impl<L: Analysis> Rewriting for Bench<L> {
     ghost use Rattle.std.specs.Prelude.{length};
     ghost use Rattle.patterns.specs.Held.{module_at, module_held, open_marks};
-    ghost use Rattle.patterns.specs.Interned.{IsFull};
-    ghost use Rattle.patterns_orders.proofs.Law.{lowest_orderly};
-    ghost use Rattle.patterns_orders.proofs.Rootless.{rootless};
+    ghost use Rattle.patterns.specs.runs.Interning.{IsFull};
     ghost use Rattle.greedy.specs.Benches.{Formed, Onward};
     ghost use Rattle.greedy.specs.Lawful.{full_stays, onward_stays, onward_through};
 
@@ -73,13 +73,13 @@ impl<L: Analysis> Rewriting for Bench<L> {
 
     ghost before = { λ b k. module_at k b.desk };
 
+    ghost desk = { λ b. b.desk };
+
     ghost formed = { Formed };
 
     ghost distinct = { λ m f. f.distinct };
 
-    ghost rootless = { λ m f. rootless m f.distinct };
-
-    ghost orderly = { λ m x n f e. lowest_orderly m f.distinct f.below x n e };
+    ghost below = { λ m f. f.below };
 
     ghost onward = { Onward L.meaning };
 
@@ -139,6 +139,7 @@ impl<L: Analysis> Rewriting for Bench<L> {
     }
 
     fn step(&mut self) -> Result<(), Refusal> {
+        Bench::is_formed(self);
         let made = Bench::step(self);
         Bench::is_formed(self);
         match made {
@@ -158,8 +159,8 @@ impl<L: Analysis> Rewriting for Bench<L> {
     }
 }
 
-/// Canonicalizes the module of a bench: the first operation in pre-order at which a rule of 1 to 24 applies, with the
-/// lowest such rule, again and again, up to a limit of rewrites. It is whole or not made at all.
+/// Canonicalizes the module of a bench: the first operation in pre-order at which one of its rules applies, with the
+/// lowest of them, again and again, up to a limit of rewrites. It is whole or not made at all.
 ///
 /// Refusals: `BadLimit` where the limit isn't one of 1 to 1,000,000; `Full` and `IdsExhausted` where a rewrite is refused
 /// for them; `Full` where the context is full; and `Memory`.
@@ -172,6 +173,7 @@ pub fn canonicalize<L: Analysis>(
     ensures refused { IfErr result (λ e. IsReason limit (module_held bench.old.desk) (IsFull bench.new.desk.ctx) e) }
     ensures led { Led L.meaning bench.old bench.new }
     ensures grows { Grows bench.old.desk.ctx bench.new.desk.ctx }
+    ensures journal { MatchResult result (λ _. Noted bench.old.desk bench.new.desk) (λ _. Recorded [] bench.old.desk bench.new.desk) }
 {
     led_benches_are_kept::<L>();
     bench.is_formed();

@@ -2,7 +2,9 @@
 #![tactic(auto)]
 
 pub mod bench;
+pub mod laws;
 pub mod outcome;
 pub mod rewriting;
 pub mod run;
+mod walk;
 mod work;

@@ -1,17 +1,19 @@
 //! What the driver needs of a bench and of the rules.
-ghost use Rattle.std.specs.Prelude.{◌≡◌, ◌≢◌, ◌≤◌, IfOk, IfErr, OnErr, OnOk, IfSome, IfNone, ◌⊎◌, [], ◌∷◌, List, ℕ, true, false};
+ghost use Rattle.std.specs.Prelude.{◌≡◌, ◌≢◌, ◌<◌, ◌≤◌, All, IfOk, IfErr, OnErr, OnOk, IfSome, IfNone, ◌⊎◌, [], ◌∷◌, List, ℕ, true, false};
 ghost use Rattle.ir_types.specs.declared.refusal.Refusal.TheVariants.{Memory as NoMemory};
-ghost use Rattle.ir_tree.specs.Ids.{HasDistinctIds, has_id};
+ghost use Rattle.ir_tree.specs.Ids.{HasDistinctIds, has_id, ids};
 ghost use Rattle.ir_tree.specs.Tree.{head};
 ghost use Rattle.ir_tree_laws.specs.Reads.{precedes};
 ghost use Rattle.ir_event.specs.Modules.{Module};
 ghost use Rattle.rewriter_machine.specs.Machine.{OpenMark};
-ghost use Rattle.patterns_base.specs.Rewrites.{becomes, none};
+ghost use Rattle.rewriter.specs.Held.{Held};
+ghost use Rattle.rewriter.specs.Rolling.{Dropped};
+ghost use Rattle.patterns.specs.runs.Runs.{Noted};
 ghost use Rattle.patterns_base.specs.Canonicalization.{lowest};
+ghost use Rattle.greedy.specs.Noting.{marked};
 ghost use Rattle.greedy.specs.Outcomes.{Applied, Refuses};
-ghost use Rattle.greedy.specs.Work.{following};
-ghost use Rattle.patterns_orders.specs.Orders.{Orderly};
-ghost use Rattle.patterns_listing.specs.touching.Listing.{Touched};
+ghost use Rattle.greedy.specs.Following.{following};
+ghost use Rattle.patterns_touched.specs.Listing.{Touched};
 
 use ir_types::ids::OpId;
 use ir_types::refusal::Refusal;
@@ -29,14 +31,15 @@ pub trait Rewriting {
 
     ghost before: { Self → ℕ → Module };
 
-    /// Which modules are held, and what the rules do with these.
+    /// The context, the module, the journal and the marks, in numbers.
+    ghost desk: { Self → Held };
+
+    /// Which modules are held: their ids are distinct, and below the next free one.
     ghost formed: { Module → Type 0 };
 
     ghost distinct: { (m : Module) → formed m → HasDistinctIds m.tree };
 
-    ghost rootless: { (m : Module) → formed m → lowest m (head m.tree).id ≡ none };
-
-    ghost orderly: { (m : Module) (x : ℕ) (n : Module) → formed m → lowest m x ≡ becomes n → Orderly x m n };
+    ghost below: { (m : Module) → formed m → All (λ y. y < m.next) (ids m.tree) };
 
     /// What its calls keep beside: of a bench, that its listeners are told of what leads from one module to the other.
     ghost onward: { Self → Self → Type 0 };
@@ -81,7 +84,7 @@ pub trait Rewriting {
     fn journal_len(&self) -> usize
         ensures { result ≡ events self.now };
 
-    /// Applies the lowest rule of 1 to 24 that applies at an operation. The answer is whether there is one.
+    /// Applies the lowest rule of canonicalization that applies at an operation. The answer is whether there is one.
     fn lowest(&mut self, alloc: Global, op: OpId) -> Result<bool, Refusal>
         requires { has_id op (held self.old).tree ≡ true }
         ensures ok { IfOk result (λ done. Applied (lowest (held self.old) op) done (held self.old) (held self.new)) }
@@ -89,6 +92,7 @@ pub trait Rewriting {
         ensures refused { IfErr result (λ e. Refuses (lowest (held self.old) op) (full self.new) e) }
         ensures noted { OnOk result (marks self.old ≢ [] → (events self.old ≤ events self.new) × (before self.new (events self.old) ≡ held self.old)) }
         ensures marks { marks self.new ≡ marks self.old }
+        ensures journal { Noted (desk self.old) (desk self.new) }
         ensures onward { onward self.old self.new };
 
     /// The operations at which the rules may apply otherwise than before the events from one on.
@@ -97,11 +101,14 @@ pub trait Rewriting {
         ensures ok { IfOk result (λ v. Touched (before self.now from) (held self.now) v.items) }
         ensures refused { IfErr result (λ e. e ≡ NoMemory) };
 
-    /// Opens a mark that isn't counted.
+    /// Opens a mark that isn't counted. Where no mark was open there is no journal.
     fn step(&mut self) -> Result<(), Refusal>
         ensures ok { OnOk result (marks self.new ≡ record { marked = held self.old; counted = false } ∷ marks self.old) }
         ensures held { held self.new ≡ held self.old }
         ensures err { OnErr result (marks self.new ≡ marks self.old) }
+        ensures opened { OnOk result (desk self.new ≡ marked (desk self.old)) }
+        ensures left { OnErr result (desk self.new ≡ desk self.old) }
+        ensures none { (desk self.old).marks ≡ [] → (desk self.old).journal ≡ [] }
         ensures refused { IfErr result (λ e. e ≡ NoMemory) }
         ensures onward { onward self.old self.new };
 
@@ -109,10 +116,12 @@ pub trait Rewriting {
     fn commit(&mut self)
         ensures held { held self.new ≡ held self.old }
         ensures marks { (k : OpenMark) (ks : List OpenMark) → marks self.old ≡ k ∷ ks → marks self.new ≡ ks }
+        ensures dropped { (desk self.old).marks ≢ [] → Dropped true (desk self.old) (desk self.new) }
         ensures onward { onward self.old self.new };
 
     /// Closes the newest mark and holds its module again, if there is one.
     fn rollback(&mut self)
         ensures marks { (k : OpenMark) (ks : List OpenMark) → marks self.old ≡ k ∷ ks → (marks self.new ≡ ks) × (held self.new ≡ k.marked) }
+        ensures dropped { (desk self.old).marks ≢ [] → Dropped false (desk self.old) (desk self.new) }
         ensures onward { onward self.old self.new };
 }

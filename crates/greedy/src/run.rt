@@ -4,9 +4,11 @@ ghost use Rattle.ir_types.specs.declared.refusal.Refusal.TheVariants.{Memory as 
 ghost use Rattle.ir_tree.specs.Ids.{has_id};
 ghost use Rattle.patterns_base.specs.Canonicalization.{next_rewrite};
 ghost use Rattle.greedy.specs.Outcomes.{Applied, ComeTo, IsCanonical, IsReason, Refuses, Stop, Tells};
+ghost use Rattle.rewriter.specs.Moves.{Recorded};
+ghost use Rattle.patterns.specs.runs.Runs.{Noted};
 ghost use Rattle.greedy.specs.Work.{IsWork, Right, CoversBut, Rewritten, StillWaits, waits};
-ghost use Rattle.patterns_listing.specs.touching.Sights.{is_listed};
-ghost use Rattle.patterns_listing.specs.touching.Listing.{Touched};
+ghost use Rattle.patterns_touched.specs.Sights.{is_listed};
+ghost use Rattle.patterns_touched.specs.Listing.{Touched};
 
 use crate::outcome::Outcome;
 use crate::rewriting::Rewriting;
@@ -80,6 +82,7 @@ fn one<R: Rewriting>(
     ensures refused { IfErr result (λ e. Refuses (next_rewrite (R.held bench.old)) (R.full bench.new) e) }
     ensures right { IfOk result (λ done. done ≡ true → Right work.new.passed work.new.again.items (R.held bench.new)) }
     ensures marks { R.marks bench.new ≡ R.marks bench.old }
+    ensures journal { Noted (R.desk bench.old) (R.desk bench.new) }
     ensures onward { R.onward bench.old bench.new }
 {
     'waiting: while let Some(op) = take(bench, work) {
@@ -124,6 +127,7 @@ fn applies<R: Rewriting>(
     ensures ok { IfOk result (λ any. Tells (next_rewrite (R.held bench.old)) any) }
     ensures held { R.held bench.new ≡ R.held bench.old }
     ensures marks { R.marks bench.new ≡ R.marks bench.old }
+    ensures left { Recorded [] (R.desk bench.old) (R.desk bench.new) }
     ensures onward { R.onward bench.old bench.new }
     ensures refused { IfErr result (λ e. e ≡ NoMemory) }
 {
@@ -152,6 +156,7 @@ fn rewrites<R: Rewriting>(
     ensures ok { IfOk result (λ o. ComeTo limit (R.held bench.old) o (R.held bench.new)) }
     ensures refused { IfErr result (λ e. Stop limit (R.held bench.old) (R.full bench.new) e) }
     ensures marks { R.marks bench.new ≡ R.marks bench.old }
+    ensures journal { Noted (R.desk bench.old) (R.desk bench.new) }
     ensures onward { R.onward bench.old bench.new }
 {
     let mut count = 0;
@@ -181,6 +186,7 @@ fn rewritten<R: Rewriting>(
     ensures ok { IfOk result (λ o. ComeTo limit (R.held bench.old) o (R.held bench.new)) }
     ensures refused { IfErr result (λ e. Stop limit (R.held bench.old) (R.full bench.new) e) }
     ensures marks { R.marks bench.new ≡ R.marks bench.old }
+    ensures journal { Noted (R.desk bench.old) (R.desk bench.new) }
     ensures onward { R.onward bench.old bench.new }
 {
     bench.is_formed();
@@ -202,6 +208,7 @@ pub fn run_counted<R: Rewriting>(
     ensures err { OnErr result (R.held bench.new ≡ R.held bench.old) }
     ensures refused { IfErr result (λ e. IsReason limit (R.held bench.old) (R.full bench.new) e) }
     ensures marks { R.marks bench.new ≡ R.marks bench.old }
+    ensures journal { MatchResult result (λ _. Noted (R.desk bench.old) (R.desk bench.new)) (λ _. Recorded [] (R.desk bench.old) (R.desk bench.new)) }
     ensures onward { R.onward bench.old bench.new }
 {
     if limit < 1 || limit > 1_000_000 {
@@ -231,6 +238,7 @@ pub fn run<R: Rewriting>(alloc: Global, bench: &mut R, limit: u32) -> Result<Out
     ensures err { OnErr result (R.held bench.new ≡ R.held bench.old) }
     ensures refused { IfErr result (λ e. IsReason limit (R.held bench.old) (R.full bench.new) e) }
     ensures marks { R.marks bench.new ≡ R.marks bench.old }
+    ensures journal { MatchResult result (λ _. Noted (R.desk bench.old) (R.desk bench.new)) (λ _. Recorded [] (R.desk bench.old) (R.desk bench.new)) }
     ensures onward { R.onward bench.old bench.new }
 {
     match run_counted(alloc, bench, limit) {

@@ -8,6 +8,7 @@ mod edits;
 pub mod event;
 pub mod laws;
 mod loads;
+mod of_module;
 pub mod panel;
 pub mod row;
 pub mod step_laws;

@@ -1,5 +1,6 @@
 //! The panel, which owns listeners.
-ghost use Rattle.std.specs.Prelude.{◌≡◌, ◌⊎◌, [], OnOk, OnErr, IfErr, true, false, position, MatchResult, IsErrOf};
+ghost use Rattle.std.specs.Prelude.{◌≡◌, ◌⊎◌, [], OnOk, OnErr, IfErr, true, false, position, MatchResult, IsErrOf, option_map};
+ghost use Rattle.std.specs.List.{find};
 ghost use Rattle.op_registry.specs.types.Things.{Things};
 ghost use Rattle.op_registry.specs.types.declared.refusal.Refusal.TheVariants.{NoSuchKind, Stale, Memory as NoMemory};
 ghost use Rattle.ir_event.specs.Modules.{Module, things_in, module_in, shown_in};
@@ -62,6 +63,17 @@ impl<L: Analysis> Panel<L> {
         ensures { result.now ≡ self.now }
     {
         &self.listeners
+    }
+
+    /// The listener of a kind, if one is attached.
+    pub fn listener(&self, kind: Kind) -> Option<&L>
+        ensures { option_map (λ listener. listener.now) result ≡ find (is_kind L.meaning kind) self.now }
+    {
+        self.listeners.iter().find(
+            |listener: &&L| -> bool
+                ensures { result ≡ is_kind L.meaning kind listener.now.now }
+            { listener.kind() == kind },
+        )
     }
 
     /// Begins a listener and adds it last, or hands it back.

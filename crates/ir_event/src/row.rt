@@ -65,6 +65,9 @@ impl Kind {
     /// The values that are known.
     pub const CONSTANTS: Kind = Kind(6);
 
+    /// The private symbols that nothing reaches.
+    pub const UNREACHED: Kind = Kind(7);
+
     /// The kind with a number.
     pub fn new(number: u8) -> Kind
         ensures { result ≡ number }

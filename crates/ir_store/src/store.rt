@@ -86,6 +86,13 @@ impl Store {
         self.next
     }
 
+    /// The root of the module.
+    pub fn root(&self) -> OpId
+        ensures { result ≡ (head self.now.module_of.tree).id }
+    {
+        self.rows.id(self.root)
+    }
+
     /// How many operations the module has, the root included.
     pub fn op_count(&self) -> u64
         ensures { result ≡ op_count self.now.module_of.tree }

@@ -10,6 +10,7 @@ fn read(alloc: Global, text: &str) -> Result<String, AllocError> {
         "slice" => readers::read_slice(alloc, rest),
         "counted" => readers::read_so_many(alloc, rest),
         "busy" => readers::read_nothing(alloc),
+        "halting" => readers::read_haltingly(alloc, rest),
         _ => readers::read_slowly(alloc, rest),
     }
 }

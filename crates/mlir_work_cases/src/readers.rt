@@ -1,6 +1,7 @@
 //! Readers that give little, fail, are interrupted or never end.
 use mlir_work_cases_base::texts::{bytes, first, number, put_all_shown, small};
 use mlir_work_run::input::{ReadFault, read_all};
+use mlir_work_run::watched::Watched;
 use std::alloc::{AllocError, Global};
 use std::fmt::Write;
 use std::io::{self, ErrorKind, Read};
@@ -56,6 +57,36 @@ impl Read for Busy {
     fn read(&mut self, _buf: &mut [u8]) -> io::Result<usize> {
         self.reads = self.reads.saturating_add(1);
         Err(io::Error::from(ErrorKind::Interrupted))
+    }
+}
+
+/// Gives a number of line feeds, each behind two reads that are interrupted, and then the end.
+#[derive(Drop)]
+pub struct Halting {
+    left: u64,
+    waits: u32,
+}
+
+impl Halting {
+    /// A reader of so many line feeds.
+    pub fn new(left: u64) -> Halting {
+        Halting { left, waits: 2 }
+    }
+}
+
+impl Read for Halting {
+    fn read(&mut self, buf: &mut [u8]) -> io::Result<usize> {
+        if self.left == 0 || buf.is_empty() {
+            return Ok(0);
+        }
+        if self.waits > 0 {
+            self.waits -= 1;
+            return Err(io::Error::from(ErrorKind::Interrupted));
+        }
+        buf[0] = b'\n';
+        self.left -= 1;
+        self.waits = 2;
+        Ok(1)
     }
 }
 
@@ -153,6 +184,17 @@ pub fn read_nothing(alloc: Global) -> Result<String, AllocError> {
     let mut out = String::new(alloc);
     put_length(&mut out, read_all(alloc, &mut reader))?;
     write!(out, " {}", reader.reads)?;
+    Ok(out)
+}
+
+/// How many of so many bytes are read where each comes behind two interruptions, and what is recorded: how many reads
+/// were made, whether one was interrupted, and whether one failed.
+pub fn read_haltingly(alloc: Global, text: &str) -> Result<String, AllocError> {
+    let mut reader = Watched::new(Halting::new(number(text)));
+    let mut out = String::new(alloc);
+    put_length(&mut out, read_all(alloc, &mut reader))?;
+    let (reads, interrupted) = (reader.reads(), reader.was_interrupted());
+    write!(out, " {reads} {interrupted} {}", reader.has_failed())?;
     Ok(out)
 }
 

@@ -1,6 +1,6 @@
 //! Whole runs, from bytes to bytes.
 use crate::boxes::{options, status_of, status_of_bare};
-use crate::readers::Slow;
+use crate::readers::{Halting, Slow};
 use crate::writers::Narrow;
 use mlir_work_cases_base::texts::{bytes, first, number, put_all_shown, small};
 use mlir_work_run::run::Options;
@@ -28,7 +28,7 @@ fn over<R: Read>(
     told(alloc, status, &out)
 }
 
-/// The same, into a writer that has a fault.
+/// The status of a run into a writer that has a fault, and what it wrote.
 fn into(
     alloc: Global,
     names: &str,
@@ -85,6 +85,12 @@ fn run_slowly(alloc: Global, names: &str, text: &str) -> Result<String, AllocErr
     over(alloc, names, options(true), &mut reader)
 }
 
+/// `3`: the input is three line feeds, each behind two reads that are interrupted.
+fn run_haltingly(alloc: Global, names: &str, text: &str) -> Result<String, AllocError> {
+    let mut reader = Halting::new(number(text));
+    over(alloc, names, options(true), &mut reader)
+}
+
 /// `fails 3 print`: the third write fails.
 fn run_narrowly(alloc: Global, names: &str, text: &str) -> Result<String, AllocError> {
     let (word, rest) = first(text);
@@ -113,6 +119,7 @@ pub fn answer(alloc: Global, text: &str) -> Result<String, AllocError> {
         "limited" => run_limited(alloc, names, rest),
         "copies" => run_copies(alloc, names, rest),
         "slow" => run_slowly(alloc, names, rest),
+        "halting" => run_haltingly(alloc, names, rest),
         "narrow" => run_narrowly(alloc, names, rest),
         _ => run_whole(alloc, names, false, rest),
     }

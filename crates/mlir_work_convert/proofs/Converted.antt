@@ -1,18 +1,23 @@
 -- A conversion behind names that were interned is one of the bench before them.
-use Rattle.std.proofs.Common.{◌≡◌, refl, ap, ◌∙◌, subst, inr, ℕ, ◌++◌, Result, Ok, Err, None}
+use Rattle.std.proofs.Common.{◌≡◌, refl, ap, ◌∙◌, subst, inl, inr, ℕ, [], ◌++◌, Result, Ok, Err, Option, Some, None}
+use Rattle.std.specs.Prelude.{MatchResult}
 use Rattle.ir_types.specs.Sound.{Holds}
 use Rattle.ir_types.specs.declared.refusal.Refusal.{Refusal}
+use Rattle.ir_types.specs.declared.refusal.Refusal.TheVariants.{BadTarget}
 use Rattle.ir_event.specs.Listener.{Listener}
 use Rattle.ir_event.specs.Modules.{Module}
 use Rattle.conversion.proofs.of_rewriter_bench.Together.{Ages}
 use Rattle.conversion.proofs.of_rewriter_bench.Told.{heard_more}
 use Rattle.conversion.specs.rewriter_bench.Benched.{Benched, Does, Led, state_of}
 use Rattle.conversion.specs.rewriter_bench.Held.{module_held}
+use Rattle.conversion.specs.rewriter_bench.Moves.{Recorded}
+use Rattle.conversion.proofs.of_rewriter_bench.Noted.{recorded_more}
+use Rattle.conversion.specs.Runs.{Noted}
 use Rattle.conversion.specs.rewriter_bench.Machine.{Change, Goes, Nothing, State as Machine}
 use Rattle.conversion.proofs.Replied.{converts_goes}
 use Rattle.conversion.specs.Benches.{seen}
 use Rattle.conversion.specs.Conversion.{Ended, converted, given_up, conversion_of}
-use Rattle.conversion.specs.Converting.{conversion_reply, converting}
+use Rattle.conversion.specs.Converting.{conversion_reply, conversion_to, converting, ending}
 use Rattle.conversion.specs.States.{State, Converts, Faults, IsWant}
 use Rattle.conversion.specs.Targets.{Aim}
 use Rattle.conversion.specs.declared.fault.Fault.{Fault}
@@ -27,28 +32,43 @@ converts_from : (e : Ended) (r : Result ℕ Fault) (a m b : State) → m.held �
 converts_from e (Ok n) a m b same c = c
 converts_from e (Err f) a m b same c = (c.0, c.1 ∙ same)
 
-module _ {B : Type 0} (meaning : B → Listener) (g : Aim) (a m : Benched B) (interned : Interned meaning a m) where
+module _ {B : Type 0} (meaning : B → Listener) (o : Option Aim) (a m : Benched B) (interned : Interned meaning a m) where
   held_same : module_held m.desk ≡ module_held a.desk
   held_same = ap (λ (s : Machine). s.held) interned.same
 
   -- the names had no room
-  pub refused_converts : (refusal : Refusal) → IsWant m.desk.ctx refusal → Converts (conversion_of g (module_held a.desk)) (Err (record { refusal = refusal; id = None })) (seen a) (seen m)
-  refused_converts refusal w = (wants (conversion_of g (module_held a.desk)) refusal (seen m) w, held_same)
+  pub refused_converts : (refusal : Refusal) → IsWant m.desk.ctx refusal → Converts (conversion_to o (module_held a.desk)) (Err (record { refusal = refusal; id = None })) (seen a) (seen m)
+  refused_converts refusal w = (wants (conversion_to o (module_held a.desk)) refusal (seen m) w, held_same)
 
-  pub refused_does : (refusal : Refusal) → Ages meaning → IsWant m.desk.ctx refusal → Led meaning a m → Does meaning (Change (converting g)) (conversion_reply (Err (record { refusal = refusal; id = None }))) a m
-  refused_does refusal ages w led = converts_goes meaning g a m (ap (λ (s : Machine). s.marks) interned.same) ages (Err (record { refusal = refusal; id = None })) (refused_converts refusal w) led
+  pub refused_does : (refusal : Refusal) → Ages meaning → IsWant m.desk.ctx refusal → Led meaning a m → Does meaning (Change (ending (conversion_to o))) (conversion_reply (Err (record { refusal = refusal; id = None }))) a m
+  refused_does refusal ages w led = converts_goes meaning (conversion_to o) a m (ap (λ (s : Machine). s.marks) interned.same) ages (Err (record { refusal = refusal; id = None })) (refused_converts refusal w) led
+
+  -- a number names no rule
+  abbrev unaimed : Fault
+  unaimed = record { refusal = BadTarget; id = None }
+
+  pub unaimed_converts : None ≡ o → Converts (conversion_to o (module_held a.desk)) (Err unaimed) (seen a) (seen m)
+  unaimed_converts none = subst (λ (p : Option Aim). Converts (conversion_to p (module_held a.desk)) (Err unaimed) (seen a) (seen m)) none (inl (refl, refl), held_same)
+
+  pub unaimed_does : Ages meaning → None ≡ o → Led meaning a m → Does meaning (Change (ending (conversion_to o))) (conversion_reply (Err unaimed)) a m
+  unaimed_does ages none led = converts_goes meaning (conversion_to o) a m (ap (λ (s : Machine). s.marks) interned.same) ages (Err unaimed) (unaimed_converts none) led
 
   pub then_led : (b : Benched B) → Holds a.desk.ctx → Led meaning m b → Led meaning a b
   then_led b holds led = let one = interned.led holds in (one.1.0 ++ led.0, heard_more meaning one.1.0 led.0 a m b one.0 one.1.1 led.1)
 
   -- they had, and the bench was converted
-  module _ (b : Benched B) (aim : Aim) (same : aim ≡ g) (r : Result ℕ Fault) where
-    pub then_converts : Converts (conversion_of aim (module_held m.desk)) r (seen m) (seen b) → Converts (conversion_of g (module_held a.desk)) r (seen a) (seen b)
+  module _ (b : Benched B) (aim : Aim) (same : Some aim ≡ o) (r : Result ℕ Fault) where
+    pub then_converts : Converts (conversion_of aim (module_held m.desk)) r (seen m) (seen b) → Converts (conversion_to o (module_held a.desk)) r (seen a) (seen b)
     then_converts c =
-        converts_from (conversion_of g (module_held a.desk)) r (seen a) (seen m) (seen b) held_same
-        (subst (λ (n : Module). Converts (conversion_of g n) r (seen m) (seen b)) held_same (subst (λ (h : Aim). Converts (conversion_of h (module_held m.desk)) r (seen m) (seen b)) same c))
+        converts_from (conversion_to o (module_held a.desk)) r (seen a) (seen m) (seen b) held_same
+        (subst (λ (n : Module). Converts (conversion_to o n) r (seen m) (seen b)) held_same (subst (λ (h : Option Aim). Converts (conversion_to h (module_held m.desk)) r (seen m) (seen b)) same c))
 
-    pub then_does : Does meaning (Change (converting aim)) (conversion_reply r) m b → Does meaning (Change (converting g)) (conversion_reply r) a b
+    pub then_does : Does meaning (Change (converting aim)) (conversion_reply r) m b → Does meaning (Change (ending (conversion_to o))) (conversion_reply r) a b
     then_does d =
-        subst (λ (s : Machine). Goes s (Change (converting g)) (conversion_reply r) Nothing (state_of meaning b)) interned.same
-        (subst (λ (h : Aim). Goes (state_of meaning m) (Change (converting h)) (conversion_reply r) Nothing (state_of meaning b)) same d)
+        subst (λ (s : Machine). Goes s (Change (ending (conversion_to o))) (conversion_reply r) Nothing (state_of meaning b)) interned.same
+        (subst (λ (h : Option Aim). Goes (state_of meaning m) (Change (ending (conversion_to h))) (conversion_reply r) Nothing (state_of meaning b)) same d)
+
+  -- the journal
+  pub then_journal : {A : Type 0} (r : Result A Fault) (b : Benched B) → MatchResult r (λ _. Noted m.desk b.desk) (λ _. Recorded [] m.desk b.desk) → MatchResult r (λ _. Noted a.desk b.desk) (λ _. Recorded [] a.desk b.desk)
+  then_journal (Ok u) b n = ([] ++ n.0, recorded_more [] n.0 a.desk m.desk b.desk interned.left.marks interned.left n.1)
+  then_journal (Err f) b n = recorded_more [] [] a.desk m.desk b.desk interned.left.marks interned.left n

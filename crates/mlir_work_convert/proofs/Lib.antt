@@ -1,3 +1,4 @@
 pub mod Converted
 pub mod Listed
 pub mod Named
+pub mod Ruled

@@ -1,5 +1,5 @@
 -- Lists that are walked item by item, and what a target of them stands for.
-use Rattle.std.proofs.Common.{◌≡◌, refl, ◌∙◌, ℕ, Bool, List, [], ◌∷◌, ◌++◌, append_assoc, map, Option, Some, None, option_map}
+use Rattle.std.proofs.Common.{◌≡◌, refl, ap, ◌∙◌, ℕ, Bool, List, [], ◌∷◌, ◌++◌, append_assoc, map, Option, Some, None, option_map}
 use Rattle.std.specs.Prelude.{unwrap_or}
 use Rattle.std.specs.Option.{option_copied}
 use Rattle.ir_types.specs.Things.{Things}
@@ -7,8 +7,9 @@ use Rattle.mlir_work_script.specs.Clauses.{clauses_of, target_of}
 use Rattle.mlir_work_script.specs.Items.{items_behind, items_of, number_or_zero, numbers_of}
 use Rattle.mlir_work_script.specs.Numbers.{number_of}
 use Rattle.mlir_work_script.specs.declared.clauses.Clauses.{Clauses as Written}
-use Rattle.conversion.specs.Converting.{command_aim}
-use Rattle.conversion.specs.Targets.{TargetOf, IsNamedIn, aim_of}
+use Rattle.conversion.specs.Converting.{command_aim, rules_of}
+use Rattle.conversion.specs.Rule.{Rule}
+use Rattle.conversion.specs.Targets.{Aim, TargetOf, IsNamedIn, aim_of}
 use Rattle.mlir_work_convert.specs.Interned.{AreNumbers, numbers_behind}
 
 -- ---- walking
@@ -39,12 +40,20 @@ module _ (c : Things) (g : TargetOf ℕ) (full : Bool) (w : Written) (legal : Ar
   pub target_named : IsNamedIn c g
   target_named = record { legal = legal.known; illegal = illegal.known; dynamic = dynamic.known }
 
-  pub target_aims : g.full ≡ full → g.rules ≡ numbers_behind (option_copied w.rules) → g.depth ≡ unwrap_or w.depth 16 → aim_of c g ≡ command_aim (target_of full (clauses_of w))
-  target_aims is_full rules depth = λ i. record {
-    full = is_full i;
-    legal = (legal.are ∙ behind (λ x. x.now) w.legal) i;
-    illegal = (illegal.are ∙ behind (λ x. x.now) w.illegal) i;
-    dynamic = (dynamic.are ∙ behind (λ x. x.now) w.dynamic) i;
-    rules = (rules ∙ numbers_behind_are (λ x. x.now) w.rules) i;
-    depth = depth i;
-  }
+  pub target_aims : g.full ≡ full → Some g.rules ≡ rules_of (numbers_behind (option_copied w.rules)) → g.depth ≡ unwrap_or w.depth 16 → Some (aim_of c g) ≡ command_aim (target_of full (clauses_of w))
+  target_aims is_full rules depth =
+      (λ i. option_map (λ rs. record {
+        full = is_full i;
+        legal = (legal.are ∙ behind (λ x. x.now) w.legal) i;
+        illegal = (illegal.are ∙ behind (λ x. x.now) w.illegal) i;
+        dynamic = (dynamic.are ∙ behind (λ x. x.now) w.dynamic) i;
+        rules = rs;
+        depth = depth i;
+      }) ((rules ∙ ap rules_of (numbers_behind_are (λ x. x.now) w.rules)) i))
+
+-- a number of a clause names no rule
+pub target_unaimed : (full : Bool) (w : Written) → None ≡ rules_of (numbers_behind (option_copied w.rules)) → None ≡ command_aim (target_of full (clauses_of w))
+target_unaimed full w e =
+    let t = target_of full (clauses_of w) in
+    let aim : List Rule → Aim = λ rs. record { full = t.full; legal = t.legal; illegal = t.illegal; dynamic = t.dynamic; rules = rs; depth = t.depth } in
+    ap (option_map aim) (e ∙ ap rules_of (numbers_behind_are (λ x. x.now) w.rules))

@@ -18,8 +18,10 @@ use Rattle.ir_types.proofs.CallNumbers.{new_name, name_stands}
 use Rattle.ir_types.proofs.Growth.{front_agree, front_length, grows_refl, grows_trans}
 use Rattle.ir_event.specs.Listener.{Listener}
 use Rattle.ir_tree_laws.proofs.Listed.{both}
+use Rattle.conversion.proofs.of_rewriter_bench.Noted.{recorded_more, recorded_none}
 use Rattle.conversion.specs.rewriter_bench.Benched.{Benched, Led}
-use Rattle.conversion.specs.rewriter_bench.Moves.{Grown}
+use Rattle.conversion.specs.rewriter_bench.Held.{Held}
+use Rattle.conversion.specs.rewriter_bench.Moves.{Grown, Recorded}
 use Rattle.conversion.specs.rewriter_bench.Panels.{all_shown}
 use Rattle.conversion.specs.Benches.{led_more, led_none}
 use Rattle.conversion.specs.States.{IsWant}
@@ -27,22 +29,33 @@ use Rattle.mlir_work_convert.specs.Interned.{AreNumbers, Interned}
 
 -- ---- a bench whose context grows
 
+grown_left : (a b : Held) → Grown a b → Recorded [] a b
+grown_left a b grown =
+    let none = recorded_none a in
+    record {
+      marks = ap (λ (h : Held). h.marks) grown.held;
+      journal = ap (λ (h : Held). h.journal) grown.held ∙ none.journal;
+      behind = λ some k le. grown.behind k;
+    }
+
 module _ {B : Type 0} (meaning : B → Listener) where
   pub interned_so : (a b : Benched B) → Grown a.desk b.desk → b.listeners ≡ a.listeners → Led meaning a b → Holds b.desk.ctx → Interned meaning a b
   interned_so a b grown same led after = record {
     grows = grown.grows;
     same = λ i. record { held = grown.same i; marks = grown.marked i; panel = all_shown meaning (same i) };
     led = λ before. (after, led);
+    left = grown_left a.desk b.desk grown;
   }
 
   pub interned_none : (a : Benched B) → Interned meaning a a
-  interned_none a = record { grows = grows_refl a.desk.ctx; same = refl; led = led_none meaning a }
+  interned_none a = record { grows = grows_refl a.desk.ctx; same = refl; led = led_none meaning a; left = recorded_none a.desk }
 
   pub interned_more : (a b c : Benched B) → Interned meaning a b → Interned meaning b c → Interned meaning a c
   interned_more a b c h k = record {
     grows = grows_trans a.desk.ctx b.desk.ctx c.desk.ctx h.grows k.grows;
     same = k.same ∙ h.same;
     led = led_more meaning a b c h.led k.led;
+    left = recorded_more [] [] a.desk b.desk c.desk h.left.marks h.left k.left;
   }
 
 -- ---- names

@@ -5,6 +5,7 @@ use Rattle.ir_types.specs.Things.{Things, Grows, IsName}
 use Rattle.ir_types.specs.Terms.{name_term}
 use Rattle.ir_event.specs.Listener.{Listener}
 use Rattle.conversion.specs.rewriter_bench.Benched.{Benched, state_of}
+use Rattle.conversion.specs.rewriter_bench.Moves.{Recorded}
 use Rattle.mlir_work_script.specs.Items.{numbers_of}
 use Rattle.conversion.specs.Benches.{LedOn}
 
@@ -18,8 +19,9 @@ pub record AreNumbers (c : Things) (numbers : List ℕ) (names : List (List ℕ)
   pub known : All (IsName c) numbers
   pub are : map (name_term c) numbers ≡ names
 
--- the context of a bench stayed or grew, and its module, marks and analyses stayed
+-- the context of a bench stayed or grew, and its module, marks, journal and analyses stayed
 pub record Interned {B : Type 0} (meaning : B → Listener) (old new : Benched B) : Type 0 where
   pub grows : Grows old.desk.ctx new.desk.ctx
   pub same : state_of meaning new ≡ state_of meaning old
   pub led : LedOn meaning old new
+  pub left : Recorded [] old.desk new.desk

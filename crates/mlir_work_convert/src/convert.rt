@@ -1,13 +1,15 @@
 //! Converting the module of a bench.
-ghost use Rattle.std.specs.Prelude.{◌≡◌, true, OnOk};
+ghost use Rattle.std.specs.Prelude.{◌≡◌, [], true, MatchResult, OnOk};
 ghost use Rattle.ir_types.specs.Things.{Grows};
 ghost use Rattle.conversion.specs.rewriter_bench.Machine.{Change};
 ghost use Rattle.conversion.specs.rewriter_bench.Benched.{Does, Led};
 ghost use Rattle.conversion.specs.rewriter_bench.Held.{module_held};
+ghost use Rattle.conversion.specs.rewriter_bench.Moves.{Recorded};
+ghost use Rattle.conversion.specs.Runs.{Noted};
 ghost use Rattle.mlir_work_script.specs.Clauses.{clauses_of, target_of as said_target};
-ghost use Rattle.conversion.specs.Conversion.{conversion_of, has_no_cast};
+ghost use Rattle.conversion.specs.Conversion.{has_no_cast};
 ghost use Rattle.conversion.specs.Benches.{seen};
-ghost use Rattle.conversion.specs.Converting.{command_aim, conversion, conversion_reply};
+ghost use Rattle.conversion.specs.Converting.{command_aim, conversion, conversion_reply, conversion_to};
 ghost use Rattle.conversion.specs.States.{Converts};
 
 use crate::target::target_of;
@@ -15,6 +17,7 @@ use conversion::fault::Fault;
 use conversion::rewriter_bench::Bench;
 use conversion::rewriter_bench::laws::led_benches_are_kept;
 use ir_event::analysis::Analysis;
+use ir_types::refusal::Refusal;
 use mlir_work_script::clauses::Clauses;
 use std::alloc::Global;
 
@@ -30,10 +33,11 @@ pub fn convert<L: Analysis>(
     clauses: &Clauses<'_>,
 ) -> Result<u32, Fault>
     ensures does { Does L.meaning (Change (conversion (said_target full (clauses_of clauses.now)))) (conversion_reply result) bench.old bench.new }
-    ensures converts { Converts (conversion_of (command_aim (said_target full (clauses_of clauses.now))) (module_held bench.old.desk)) result (seen bench.old) (seen bench.new) }
+    ensures converts { Converts (conversion_to (command_aim (said_target full (clauses_of clauses.now))) (module_held bench.old.desk)) result (seen bench.old) (seen bench.new) }
     ensures none { OnOk result (has_no_cast (module_held bench.new.desk).tree ≡ true) }
     ensures grows { Grows bench.old.desk.ctx bench.new.desk.ctx }
     ensures led { Led L.meaning bench.old bench.new }
+    ensures journal { MatchResult result (λ _. Noted bench.old.desk bench.new.desk) (λ _. Recorded [] bench.old.desk bench.new.desk) }
 {
     led_benches_are_kept::<L>();
     bench.is_formed();
@@ -42,6 +46,12 @@ pub fn convert<L: Analysis>(
         Err(refusal) => {
             return Err(Fault { refusal, id: None });
         }
+    };
+    let Some(target) = target else {
+        return Err(Fault {
+            refusal: Refusal::BadTarget,
+            id: None,
+        });
     };
     conversion::convert::convert(alloc, bench, &target)
 }

@@ -3,6 +3,7 @@
 
 pub mod convert;
 mod names;
+mod rules;
 mod target;
 
 pub use conversion::fault;

@@ -1,5 +1,5 @@
 //! The target of a command.
-ghost use Rattle.std.specs.Prelude.{◌≡◌, IfOk, IfErr};
+ghost use Rattle.std.specs.Prelude.{◌≡◌, IfOk, IfErr, IfSome, option_map};
 ghost use Rattle.mlir_work_script.specs.Clauses.{clauses_of, target_of as said_target};
 ghost use Rattle.conversion.specs.Converting.{command_aim};
 ghost use Rattle.conversion.specs.States.{IsWant};
@@ -7,6 +7,7 @@ ghost use Rattle.conversion.specs.Targets.{IsNamedIn, aim_of};
 ghost use Rattle.mlir_work_convert.specs.Interned.{Interned};
 
 use crate::names::{names_in, numbers_in};
+use crate::rules::rules_of;
 use conversion::rewriter_bench::Bench;
 use conversion::target::Target;
 use ir_event::analysis::Analysis;
@@ -17,15 +18,16 @@ use std::alloc::Global;
 /// How deep rules may follow one another, where no clause says.
 const DEPTH: u32 = 16;
 
-/// The target that clauses say, in numbers of the context of a bench, which grows with the names of its lists.
+/// The target that clauses say, if each of their numbers names a rule, in numbers of the context of a bench, which grows
+/// with the names of its lists.
 pub(crate) fn target_of<L: Analysis>(
     alloc: Global,
     bench: &mut Bench<L>,
     full: bool,
     clauses: &Clauses<'_>,
-) -> Result<Target, Refusal>
-    ensures names { IfOk result (λ target. IsNamedIn bench.new.desk.ctx target) }
-    ensures aim { IfOk result (λ target. aim_of bench.new.desk.ctx target ≡ command_aim (said_target full (clauses_of clauses.now))) }
+) -> Result<Option<Target>, Refusal>
+    ensures names { IfOk result (λ target. IfSome target (IsNamedIn bench.new.desk.ctx)) }
+    ensures aim { IfOk result (λ target. option_map (aim_of bench.new.desk.ctx) target ≡ command_aim (said_target full (clauses_of clauses.now))) }
     ensures want { IfErr result (IsWant bench.new.desk.ctx) }
     ensures interned { Interned L.meaning bench.old bench.new }
 {
@@ -41,16 +43,23 @@ pub(crate) fn target_of<L: Analysis>(
         Ok(dynamic) => dynamic,
         Err(refusal) => return Err(refusal),
     };
-    let rules = match numbers_in(alloc, clauses.rules) {
+    let numbers = match numbers_in(alloc, clauses.rules) {
+        Ok(numbers) => numbers,
+        Err(refusal) => return Err(refusal),
+    };
+    let rules = match rules_of(alloc, &numbers) {
         Ok(rules) => rules,
         Err(refusal) => return Err(refusal),
     };
-    Ok(Target {
+    let Some(rules) = rules else {
+        return Ok(None);
+    };
+    Ok(Some(Target {
         full,
         legal,
         illegal,
         dynamic,
         rules,
         depth: clauses.depth.unwrap_or(DEPTH),
-    })
+    }))
 }

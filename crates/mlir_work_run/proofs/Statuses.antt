@@ -62,13 +62,13 @@ if_has_status None options boxes a b r status e h = tt
 if_has_status (Some input) options boxes a b r status e h = has_status options boxes input a b r status e h
 
 -- how a run leaves its reader and its writer is known of its exit status
-leaves_status : (taken left : Intake) (a b : Stream) (r : Result ℕ Fault) → Leaves taken left a b r → LeavesAt taken left a b (status_of r)
-leaves_status taken left a b (Ok status) h = inl h
-leaves_status taken left a b (Err ReadFailed) h = inr (refl, inl h)
-leaves_status taken left a b (Err WriteFailed) h = inr (refl, inr h)
+leaves_status : (taken left : Intake) (a b : Stream) (handed : Bool) (r : Result ℕ Fault) → Leaves taken left a b handed r → LeavesAt taken left a b handed (status_of r)
+leaves_status taken left a b handed (Ok status) h = inl h
+leaves_status taken left a b handed (Err ReadFailed) h = inr (refl, inl h)
+leaves_status taken left a b handed (Err WriteFailed) h = inr (refl, inr h)
 
-pub leaves_at : (taken left : Intake) (a b : Stream) (r : Result ℕ Fault) (status : ℕ) → status ≡ status_of r → Leaves taken left a b r → LeavesAt taken left a b status
-leaves_at taken left a b r status e h = subst (λ (n : ℕ). LeavesAt taken left a b n) (sym e) (leaves_status taken left a b r h)
+pub leaves_at : (taken left : Intake) (a b : Stream) (handed : Bool) (r : Result ℕ Fault) (status : ℕ) → status ≡ status_of r → Leaves taken left a b handed r → LeavesAt taken left a b handed status
+leaves_at taken left a b handed r status e h = subst (λ (n : ℕ). LeavesAt taken left a b handed n) (sym e) (leaves_status taken left a b handed r h)
 
 not_final : (status : ℕ) → status ≡ 4 → IsFinal status → ⊥
 not_final status e (inl h) = omega arith
@@ -76,10 +76,10 @@ not_final status e (inr (inl h)) = omega arith
 not_final status e (inr (inr h)) = omega arith
 
 -- status 4 is answered only where a read or a write failed
-pub fault_at : (taken left : Intake) (a b : Stream) (status : ℕ) → LeavesAt taken left a b status → status ≡ 4 → HasFailed left b
-fault_at taken left a b status (inl h) e = absurd (not_final status e h.0)
-fault_at taken left a b status (inr (four, inl h)) e = inl h.0
-fault_at taken left a b status (inr (four, inr h)) e = inr h.1
+pub fault_at : (taken left : Intake) (a b : Stream) (handed : Bool) (status : ℕ) → LeavesAt taken left a b handed status → status ≡ 4 → HasFailed taken left b
+fault_at taken left a b handed status (inl h) e = absurd (not_final status e h.0)
+fault_at taken left a b handed status (inr (four, inl h)) e = inl h.0
+fault_at taken left a b handed status (inr (four, inr h)) e = inr h.1
 
 -- where no read and no write can fail a run has the status of an output
 pub never_four : (P : ℕ → List ℕ → Type 0) (a b : Option (List ℕ)) (status : ℕ) → HasStatus P a b status → (status ≡ 4 → ⊥) → (out : List ℕ) × P status out

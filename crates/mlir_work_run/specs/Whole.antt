@@ -9,7 +9,7 @@ use Rattle.ir_event.specs.Modules.{Module}
 use Rattle.mlir_work_session.specs.Public.{Spells}
 use Rattle.mlir_work_session.specs.Parts.{module_text, script_text}
 use Rattle.mlir_work_session.specs.Replies.{module_refused_line}
-use Rattle.mlir_work_session.specs.TheConstants.{MAX_INPUT_BYTES}
+use Rattle.mlir_work_session.specs.Limits.{most_input_bytes}
 use Rattle.mlir_work_session.specs.Panels.{Shown}
 use Rattle.mlir_work_session.specs.Output.{IsSession}
 use Rattle.mlir_work_session.specs.declared.manner.Manner.{Manner}
@@ -27,7 +27,8 @@ WhyNot text refusal (Some offset) = (number_of refusal ≤ 14) × ((y : Operatio
 
 -- the text is refused for that; which of the fourteen reasons it is, and its offset, are open
 abbrev pub IsUnread : List ℕ → ℕ → List ℕ → Type 0
-IsUnread text status out = (refusal : Refusal) × (offset : Option ℕ) × WhyNot text refusal offset × IsRefusal refusal offset status out
+IsUnread text status out =
+    (refusal : Refusal) × (offset : Option ℕ) × WhyNot text refusal offset × IsRefusal refusal offset status out
 
 -- the module of the tree that a text spells
 abbrev pub IsWorldOf : List ℕ → Module → Type 0
@@ -35,7 +36,7 @@ IsWorldOf text m = (t : Operation) × Spells text t × (m ≡ record { tree = t;
 
 -- there are too many bytes
 abbrev pub IsTooMany : List ℕ → ℕ → List ℕ → Type 0
-IsTooMany input status out = (MAX_INPUT_BYTES < length input) × IsRefusal TooMany (Some MAX_INPUT_BYTES) status out
+IsTooMany input status out = (most_input_bytes < length input) × IsRefusal TooMany (Some most_input_bytes) status out
 
 -- how the script of an input of so many bytes is run
 abbrev pub manner_of : Options → ℕ → Manner
@@ -43,10 +44,13 @@ manner_of options bytes = record { brief = options.brief; bytes = bytes; limit =
 
 -- the text spells a tree; boxes are attached to its module, and the script is run over it
 abbrev pub IsRead : Options → List Shown → List ℕ → ℕ → List ℕ → Type 0
-IsRead options boxes input status out = (m : Module) × IsWorldOf (module_text input) m × IsSession (manner_of options (length input)) boxes m (script_text input) status out
+IsRead options boxes input status out =
+    (m : Module) × IsWorldOf (module_text input) m
+    × IsSession (manner_of options (length input)) boxes m (script_text input) status out
 
 -- this status and these bytes are an output of the input, with these boxes; an input that is too long has but one
 abbrev pub IsOutput : Options → List Shown → List ℕ → ℕ → List ℕ → Type 0
 IsOutput options boxes input status out =
     IsTooMany input status out
-    ⊎ ((length input ≤ MAX_INPUT_BYTES) × (IsUnread (module_text input) status out ⊎ IsRead options boxes input status out))
+    ⊎ ((length input ≤ most_input_bytes)
+    × (IsUnread (module_text input) status out ⊎ IsRead options boxes input status out))

@@ -1,5 +1,5 @@
 //! Dry runs: the input stands in memory and nothing is kept of the output, so no read and no write can fail.
-ghost use Rattle.std.specs.Prelude.{ℕ, List, Some, None, false};
+ghost use Rattle.std.specs.Prelude.{ℕ, List, Some, None, false, true};
 ghost use Rattle.mlir_work_session.specs.Panels.{all_shown};
 ghost use Rattle.mlir_work_session.specs.Reads.{Intake};
 ghost use Rattle.mlir_work_session.specs.Writes.{Stream};
@@ -13,19 +13,19 @@ use mlir_work_session::writing::WriteFault;
 use std::alloc::Global;
 use std::io::Read;
 
-/// Bytes in memory. No read of them fails.
+/// Bytes in memory. No read of them fails or is interrupted, and none is counted.
 #[derive(Drop)]
 struct Bytes<'a> {
     rest: &'a [u8],
 }
 
 impl Source for Bytes<'_> {
-    ghost intake = { λ b. record { remaining = Some b.rest.now; failed = false } };
+    ghost intake = { λ b. record { remaining = Some b.rest.now; failed = false; interrupted = false; reads = None } };
 
     fn read_some(&mut self, buffer: &mut [u8]) -> Result<usize, SourceFault> {
         match self.rest.read(buffer) {
             Ok(taken) => Ok(taken),
-            Err(_) => Err(SourceFault),
+            Err(_) => Err(SourceFault::Failed),
         }
     }
 }
@@ -36,6 +36,8 @@ struct Nowhere;
 
 impl Sink for Nowhere {
     ghost stream = { λ w. record { contents = None; failed = false } };
+
+    ghost handed = { λ w. true };
 
     fn write_some(&mut self, bytes: &[u8]) -> Result<usize, WriteFault> {
         Ok(bytes.len())

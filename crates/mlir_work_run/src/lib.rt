@@ -11,4 +11,3 @@ pub use mlir_work_session::{
     Bench, cells, clauses, command, input, keys, kind, lines, manner, numbers, outcome, reader,
     replies, script, sink, source, spots, values, watched, words, writing,
 };
-pub use rewriter_journal::laws;

@@ -6,17 +6,18 @@ ghost use Rattle.ir_tree.specs.Meaning.{meaning, isolated_in, IsSoundIn};
 ghost use Rattle.ir_tree.specs.WellFormed.{IsFormed};
 ghost use Rattle.ir_event.specs.Modules.{module_in};
 ghost use Rattle.mlir_work_session.specs.Public.{IsOnly, Spells};
-ghost use Rattle.rewriter_journal.specs.Journals.{IsSlotted, IsTidy};
+ghost use Rattle.rewriter_laws.specs.Journals.{IsSlotted, IsTidy};
 ghost use Rattle.mlir_work_session.specs.Panels.{all_shown};
+ghost use Rattle.mlir_work_session.specs.Limits.{most_input_bytes, most_reads, most_script_bytes};
 ghost use Rattle.mlir_work_session.specs.Lines.{lines_of};
 ghost use Rattle.mlir_work_session.specs.Parts.{module_text, script_text};
-ghost use Rattle.mlir_work_session.specs.TheConstants.{MAX_SCRIPT_BYTES};
+ghost use Rattle.mlir_work_session.specs.Reads.{AreMadeAtMost};
 ghost use Rattle.mlir_work_session.specs.Writes.{HandsOn};
 ghost use Rattle.mlir_work_session.specs.Output.{IsSession};
 ghost use Rattle.mlir_work_session.specs.declared.manner.Manner.{Manner as Way};
 ghost use Rattle.mlir_work_session.specs.PrintsAlone.{all_print, kinds_apart};
-ghost use Rattle.mlir_work_session.specs.Ran.{RanOut};
-ghost use Rattle.mlir_work_run.specs.Ends.{EndedSo, HasFailed, HasStatus, Leaves, LeavesAt, ended_of, status_of};
+ghost use Rattle.mlir_work_run.specs.Ends.{EndedSo, HandedOut, HasFailed, HasStatus, Leaves, LeavesAt, ended_of};
+ghost use Rattle.mlir_work_run.specs.Ends.{status_of};
 ghost use Rattle.mlir_work_run.specs.Whole.{IsOutput, IsRefusal, WhyNot, manner_of};
 
 use dialects_int::tables::registry;
@@ -36,7 +37,7 @@ use mlir_work_session::session::run_session;
 use mlir_work_session::sink::Sink;
 use mlir_work_session::source::Source;
 use mlir_work_session::writing::{WriteFault, flush};
-use rewriter_journal::laws::{stores_stay_slotted, stores_stay_tidy};
+use rewriter_laws::journal_laws::{stores_stay_slotted, stores_stay_tidy};
 use std::alloc::Global;
 use std::io::{Read, Write};
 use thiserror::Error;
@@ -136,7 +137,8 @@ fn no_memory() -> Unread
 
 /// Hands on what a buffering writer still holds, and gives the status.
 fn finish<W: Sink>(writer: &mut W, status: u8) -> Result<u8, WriteFault>
-    ensures handed { HandsOn (W.stream writer.old) (W.stream writer.new) result }
+    ensures stays { HandsOn (W.stream writer.old) (W.stream writer.new) result }
+    ensures handed { IfOk result (λ _. W.handed writer.new ≡ true) }
     ensures status { IfOk result (λ s. s ≡ status) }
 {
     match flush(writer) {
@@ -147,7 +149,8 @@ fn finish<W: Sink>(writer: &mut W, status: u8) -> Result<u8, WriteFault>
 
 /// Writes that the module is refused.
 fn refuse<W: Sink>(writer: &mut W, unread: Unread) -> Result<u8, WriteFault>
-    ensures { RanOut (IsRefusal unread.refusal unread.offset) (W.stream writer.old) (W.stream writer.new) result }
+    ensures { HandedOut (IsRefusal unread.refusal unread.offset)
+        (W.stream writer.old) (W.stream writer.new) (W.handed writer.new) result }
 {
     match put_module_refused(writer, unread.refusal, unread.offset) {
         Ok(()) => finish(writer, 3),
@@ -180,7 +183,7 @@ fn taken_apart(
 
 /// Whether a script only prints, and no two listeners have one kind: then no line asks for what a listener keeps.
 fn asks_for_prints<L: Analysis>(script: &[u8], boxes: &[L]) -> bool
-    ensures short { IsTrue result → length script.now ≤ MAX_SCRIPT_BYTES }
+    ensures short { IsTrue result → length script.now ≤ most_script_bytes }
     ensures prints { IsTrue result → all_print (lines_of script.now) ≡ true }
     ensures apart { IsTrue result → kinds_apart L.meaning boxes.now ≡ true }
 {
@@ -200,10 +203,13 @@ fn answer_prints<W: Sink, L: Analysis>(
     boxes: &[L],
 ) -> Result<u8, WriteFault>
     requires sound { IsSoundIn ctx.now tree.now }
-    requires short { length script.now ≤ MAX_SCRIPT_BYTES }
+    requires short { length script.now ≤ most_script_bytes }
     requires prints { all_print (lines_of script.now) ≡ true }
     requires apart { kinds_apart L.meaning boxes.now ≡ true }
-    ensures { (way : Way) (next : ℕ) → RanOut (IsSession way (all_shown L.meaning boxes.now) (record { tree = meaning ctx.now tree.now; next = next }) script.now) (W.stream writer.old) (W.stream writer.new) result }
+    ensures { (way : Way) (next : ℕ) → HandedOut
+        (IsSession way (all_shown L.meaning boxes.now)
+        (record { tree = meaning ctx.now tree.now; next = next }) script.now)
+        (W.stream writer.old) (W.stream writer.new) (W.handed writer.new) result }
 {
     match print_session(alloc, ctx, tree, script, writer, boxes) {
         Ok(status) => finish(writer, status),
@@ -222,7 +228,8 @@ fn answer_script<W: Sink, L: Analysis>(
 ) -> Result<u8, WriteFault>
     requires slotted { IsSlotted world.store }
     requires tidy { IsTidy world.store }
-    ensures { RanOut (IsSession manner.now (all_shown L.meaning boxes.items) (module_in world) script.now) (W.stream writer.old) (W.stream writer.new) result }
+    ensures { HandedOut (IsSession manner.now (all_shown L.meaning boxes.items) (module_in world) script.now)
+        (W.stream writer.old) (W.stream writer.new) (W.handed writer.new) result }
 {
     match run_session(alloc, manner, world, script, writer, boxes) {
         Ok(status) => finish(writer, status),
@@ -250,8 +257,9 @@ fn answer_input<W: Sink, L: Analysis>(
     writer: &mut W,
     boxes: Vec<L>,
 ) -> Result<u8, WriteFault>
-    requires { length input.items ≤ MAX_INPUT_BYTES }
-    ensures { RanOut (IsOutput options (all_shown L.meaning boxes.items) input.items) (W.stream writer.old) (W.stream writer.new) result }
+    requires { length input.items ≤ most_input_bytes }
+    ensures { HandedOut (IsOutput options (all_shown L.meaning boxes.items) input.items)
+        (W.stream writer.old) (W.stream writer.new) (W.handed writer.new) result }
 {
     let manner = manner_of(options, input.len());
     let ((ctx, tree), script) = match taken_apart(alloc, key, input) {
@@ -277,8 +285,9 @@ fn ended(ran: Result<u8, WriteFault>) -> Result<u8, Fault>
 }
 
 /// Reads the whole input, and then runs it, with a reader and a writer of which it may be known whether they failed.
-/// After a read fault nothing is written; after a write fault a front of an output is. A fault is answered only where a
-/// read or a write failed. Nothing that is written depends on the key with which names are hashed.
+/// After a read fault nothing is written; after a write fault a front of an output is. At most `MAX_READS` reads are
+/// made. A fault is answered only where a read or a write failed, or one more read was wanted. Nothing that is written
+/// depends on the key with which names are hashed.
 pub fn read_and_answer_watched<R: Source, W: Sink, L: Analysis>(
     alloc: Global,
     key: u64,
@@ -287,8 +296,12 @@ pub fn read_and_answer_watched<R: Source, W: Sink, L: Analysis>(
     writer: &mut W,
     boxes: Vec<L>,
 ) -> Result<u8, Fault>
-    ensures ran { IfSome (R.intake reader.old).remaining (λ input. EndedSo (IsOutput options (all_shown L.meaning boxes.items) input) (W.stream writer.old).contents (W.stream writer.new).contents result) }
-    ensures leaves { Leaves (R.intake reader.old) (R.intake reader.new) (W.stream writer.old) (W.stream writer.new) result }
+    ensures ran { IfSome (R.intake reader.old).remaining (λ input. EndedSo
+        (IsOutput options (all_shown L.meaning boxes.items) input)
+        (W.stream writer.old).contents (W.stream writer.new).contents result) }
+    ensures leaves { Leaves (R.intake reader.old) (R.intake reader.new)
+        (W.stream writer.old) (W.stream writer.new) (W.handed writer.new) result }
+    ensures made { AreMadeAtMost (R.intake reader.old).reads (R.intake reader.new).reads most_reads }
 {
     let input = match read_all(alloc, reader) {
         Ok(input) => input,
@@ -315,7 +328,9 @@ pub fn read_and_answer<R: Read, W: Write, L: Analysis>(
     writer: &mut W,
     boxes: Vec<L>,
 ) -> Result<u8, Fault>
-    ensures ran { IfSome (R.remaining reader.old) (λ input. EndedSo (IsOutput options (all_shown L.meaning boxes.items) input) (W.contents writer.old) (W.contents writer.new) result) }
+    ensures ran { IfSome (R.remaining reader.old) (λ input. EndedSo
+        (IsOutput options (all_shown L.meaning boxes.items) input)
+        (W.contents writer.old) (W.contents writer.new) result) }
     ensures unread { IfErr result (λ e. e ≡ Fault.Read → Keeps (W.contents writer.old) (W.contents writer.new)) }
 {
     read_and_answer_watched(alloc, key, options, reader, writer, boxes)
@@ -333,8 +348,9 @@ fn exit_status(ended: Result<u8, Fault>) -> u8
 /// Reads the whole input, a module and a script, then writes the output, with a reader and a writer of which it may be
 /// known whether they failed. What is written is an output of what was read, and the answer is the exit status: 0 where
 /// all was accepted, 1 where a command or a box was refused, 3 where the module was, and 4 only where a read or a write
-/// failed. After a failed read nothing was written; all is read before the first byte is written. Nothing that is
-/// written depends on the key with which names are hashed.
+/// failed, or one more read than `MAX_READS` was wanted. After a read fault nothing was written; all is read before the
+/// first byte is written, and all that is written is handed on where the answer isn't 4. Nothing that is written
+/// depends on the key with which names are hashed.
 pub fn run_watched<L: Analysis, R: Source, W: Sink>(
     alloc: Global,
     key: u64,
@@ -343,9 +359,13 @@ pub fn run_watched<L: Analysis, R: Source, W: Sink>(
     writer: &mut W,
     boxes: Vec<L>,
 ) -> u8
-    ensures ran { IfSome (R.intake reader.old).remaining (λ input. HasStatus (IsOutput options (all_shown L.meaning boxes.items) input) (W.stream writer.old).contents (W.stream writer.new).contents result) }
-    ensures leaves { LeavesAt (R.intake reader.old) (R.intake reader.new) (W.stream writer.old) (W.stream writer.new) result }
-    ensures fault { result ≡ 4 → HasFailed (R.intake reader.new) (W.stream writer.new) }
+    ensures ran { IfSome (R.intake reader.old).remaining (λ input. HasStatus
+        (IsOutput options (all_shown L.meaning boxes.items) input)
+        (W.stream writer.old).contents (W.stream writer.new).contents result) }
+    ensures leaves { LeavesAt (R.intake reader.old) (R.intake reader.new)
+        (W.stream writer.old) (W.stream writer.new) (W.handed writer.new) result }
+    ensures fault { result ≡ 4 → HasFailed (R.intake reader.old) (R.intake reader.new) (W.stream writer.new) }
+    ensures made { AreMadeAtMost (R.intake reader.old).reads (R.intake reader.new).reads most_reads }
 {
     exit_status(read_and_answer_watched(alloc, key, options, reader, writer, boxes))
 }
@@ -361,13 +381,15 @@ pub fn run<L: Analysis, R: Read, W: Write>(
     writer: &mut W,
     boxes: Vec<L>,
 ) -> u8
-    ensures { IfSome (R.remaining reader.old) (λ input. HasStatus (IsOutput options (all_shown L.meaning boxes.items) input) (W.contents writer.old) (W.contents writer.new) result) }
+    ensures { IfSome (R.remaining reader.old) (λ input. HasStatus
+        (IsOutput options (all_shown L.meaning boxes.items) input)
+        (W.contents writer.old) (W.contents writer.new) result) }
 {
     run_keyed(alloc, 0, options, reader, writer, boxes)
 }
 
-/// The same, where names are hashed with a key that nobody who writes a text knows, so that no text can be written
-/// whose names collide. Nothing that is written depends on it.
+/// Runs as `run` does, but names are hashed with a key that nobody who writes a text knows, so that no text can be
+/// written whose names collide. Nothing that is written depends on it.
 pub fn run_keyed<L: Analysis, R: Read, W: Write>(
     alloc: Global,
     key: u64,
@@ -376,7 +398,9 @@ pub fn run_keyed<L: Analysis, R: Read, W: Write>(
     writer: &mut W,
     boxes: Vec<L>,
 ) -> u8
-    ensures { IfSome (R.remaining reader.old) (λ input. HasStatus (IsOutput options (all_shown L.meaning boxes.items) input) (W.contents writer.old) (W.contents writer.new) result) }
+    ensures { IfSome (R.remaining reader.old) (λ input. HasStatus
+        (IsOutput options (all_shown L.meaning boxes.items) input)
+        (W.contents writer.old) (W.contents writer.new) result) }
 {
     run_watched(alloc, key, options, reader, writer, boxes)
 }

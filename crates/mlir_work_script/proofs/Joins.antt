@@ -1,4 +1,4 @@
-use Rattle.std.proofs.Common.{◌≡◌, ℕ, List, [], ◌++◌, Option, Some, None, Result, Ok, Err, refl, ap, sym, ◌∙◌, append_assoc, append-nil, ◌+◌, ◌-◌, ◌<◌, ◌≤◌, zero, suc, length, take, drop, map, get_or, arith, Bor, add-one}
+use Rattle.std.proofs.Common.{◌≡◌, ℕ, List, [], ◌++◌, Option, Some, None, Result, Ok, Err, refl, ap, sym, ◌∙◌, append_assoc, append-nil, length-append, ◌+◌, ◌-◌, ◌<◌, length, take, drop, map, get_or, arith, Bor, add-one}
 use Rattle.std.proofs.Math.Seq.{drop-cons}
 use Rattle.std.proofs.lemmas.Grind.{common_steps}
 use Rattle.std.specs.Prelude.{IfSome}
@@ -83,13 +83,15 @@ consumes_kept (Some ws) None c xs h k = absurd h
 consumes_kept (Some ws) (Some us) None xs h k = absurd k
 consumes_kept (Some ws) (Some us) (Some vs) xs h k = h ∙ ap (λ zs. xs ++ zs) (sym k)
 
+-- what two reads consumed is no longer than what there was
+pub too_long : (a b c : Option (List ℕ)) (xs ys : List ℕ) (most : ℕ) → Consumes a b xs → Consumes b c ys → most < length xs + length ys → IfSome a (λ zs. most < length zs)
+too_long None b c xs ys most h k more = tt
+too_long (Some ws) None c xs ys most h k more = absurd h
+too_long (Some ws) (Some us) None xs ys most h k more = absurd k
+too_long (Some ws) (Some us) (Some vs) xs ys most h k more = omega (arith, ap length h, ap length k, length-append xs us, length-append ys vs)
+
 -- bytes that are kept, if any are
 pub kept_more : {V : Type 0} (items : V → List ℕ) (a b : Option V) (front bytes : List ℕ) → (a ≡ None → b ≡ None) → IfSome b (λ all. IfSome a (λ before. items all ≡ items before ++ bytes)) → IfSome a (λ all. items all ≡ front) → IfSome b (λ all. items all ≡ front ++ bytes)
 kept_more items a None front bytes lost more h = tt
 kept_more items None (Some all) front bytes lost more h = absurd (let f : Some all ≡ None = lost refl in cc)
 kept_more items (Some before) (Some all) front bytes lost more h = more ∙ ap (λ xs. xs ++ bytes) h
-
--- each read gives a byte at least
-pub grows_on : (turn count taken : ℕ) → turn ≤ count → (taken ≡ 0 → ⊥) → turn + 1 ≤ count + taken
-grows_on turn count zero h some = absurd (some refl)
-grows_on turn count (suc taken) h some = omega arith

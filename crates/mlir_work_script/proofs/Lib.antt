@@ -1,4 +1,5 @@
 pub mod Joins
+pub mod Made
 pub mod Cutting
 pub mod Trimming
 pub mod Digits

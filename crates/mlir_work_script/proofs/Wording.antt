@@ -91,7 +91,7 @@ pub clauses_step : (text : List ℕ) (c : Clauses) → 0 < length text → start
     → with_clauses (words_of text) (Some c) ≡ with_clauses (words_of (after_word (after_word text))) (with_named (word_of text) (word_of (after_word text)) c)
 clauses_step text c h e = rw (words_step text h e) (one_left (word_of text) (after_word text) c (skipped (after is_blank text)))
 
--- the same of a text that may begin with blanks, and of its rest without them
+-- a text that may begin with blanks has the clauses of its rest without them
 pub clauses_end : (text rest : List ℕ) (c : Clauses) → rest ≡ skip_blanks text → length rest ≡ 0 → Some c ≡ with_clauses (words_of text) (Some c)
 clauses_end text [] c is e = rw (← skip_words text, ← is) refl
 clauses_end text (b ∷ bs) c is e = absurd (omega arith)

@@ -1,6 +1,7 @@
--- The clauses of a conversion: `legal NAMES`, `illegal NAMES`, `dynamic NAMES`, `rules NUMBERS` and `depth N`, each at most
--- once and in any order. NAMES and NUMBERS are one word each, of items between commas.
-use Rattle.std.specs.Prelude.{ℕ, List, [], ◌∷◌, ◌&&◌, Bool, true, false, Option, Some, None, is_none, if◌then◌else◌, codes}
+-- The clauses of a conversion: `legal NAMES`, `illegal NAMES`, `dynamic NAMES`, `rules NUMBERS` and `depth N`, each at
+-- most once and in any order. NAMES and NUMBERS are one word each, of items between commas.
+use Rattle.std.specs.Prelude.{ℕ, List, [], ◌∷◌, ◌&&◌, Bool, true, false, Option, Some, None, is_none, if◌then◌else◌}
+use Rattle.std.specs.Prelude.{codes}
 use Rattle.std.specs.Option.{option_map, unwrap_or}
 use Rattle.std.specs.Str.{bytes_eq}
 use Rattle.rewriter_machine.specs.Commands.{Target}
@@ -16,7 +17,7 @@ pub record Clauses : Type 0 where
   pub rules : Option (List ℕ)
   pub depth : Option ℕ
 
--- the same, of clauses whose lists are still words
+-- what clauses say whose lists are still words
 abbrev pub clauses_of : Written → Clauses
 clauses_of c =
     record {
@@ -37,13 +38,16 @@ abbrev pub with_legal : List ℕ → Clauses → Option Clauses
 with_legal word c = if is_none c.legal && are_names word then Some (record c { legal = Some (items_of word) }) else None
 
 abbrev pub with_illegal : List ℕ → Clauses → Option Clauses
-with_illegal word c = if is_none c.illegal && are_names word then Some (record c { illegal = Some (items_of word) }) else None
+with_illegal word c =
+    if is_none c.illegal && are_names word then Some (record c { illegal = Some (items_of word) }) else None
 
 abbrev pub with_dynamic : List ℕ → Clauses → Option Clauses
-with_dynamic word c = if is_none c.dynamic && are_names word then Some (record c { dynamic = Some (items_of word) }) else None
+with_dynamic word c =
+    if is_none c.dynamic && are_names word then Some (record c { dynamic = Some (items_of word) }) else None
 
 abbrev pub with_rules : List ℕ → Clauses → Option Clauses
-with_rules word c = if is_none c.rules && are_numbers word then Some (record c { rules = Some (numbers_of word) }) else None
+with_rules word c =
+    if is_none c.rules && are_numbers word then Some (record c { rules = Some (numbers_of word) }) else None
 
 abbrev pub depth_from : Option ℕ → Clauses → Option Clauses
 depth_from None c = None

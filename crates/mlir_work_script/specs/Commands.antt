@@ -1,5 +1,6 @@
 -- What a line of a script says.
-use Rattle.std.specs.Prelude.{ℕ, List, [], ◌∷◌, ◌==◌, ◌||◌, Bool, Option, Some, None, if◌then◌else◌, codes, length, nat_eq}
+use Rattle.std.specs.Prelude.{ℕ, List, [], ◌∷◌, ◌==◌, ◌||◌, Bool, Option, Some, None, if◌then◌else◌, codes, length}
+use Rattle.std.specs.Prelude.{nat_eq}
 use Rattle.std.specs.List.{starts_with}
 use Rattle.std.specs.Option.{option_map}
 use Rattle.std.specs.Str.{bytes_eq, is_utf8}
@@ -69,7 +70,8 @@ set_operand_from None operand value = None
 abbrev pub set_operand_in : List ℕ → Option Said
 set_operand_in rest =
     alone (after_word (after_word (after_word rest)))
-    (set_operand_from (op_of (word_of rest)) (number_of (word_of (after_word rest))) (value_of (word_of (after_word (after_word rest)))))
+    (set_operand_from (op_of (word_of rest)) (number_of (word_of (after_word rest)))
+    (value_of (word_of (after_word (after_word rest)))))
 
 abbrev pub move_from : Option ℕ → Option (Spot × List ℕ) → Option Said
 move_from (Some op) (Some p) = alone p.1 (Some (said.Move op p.0))
@@ -117,12 +119,15 @@ replace_from None new = None
 
 -- replace VALUE VALUE
 abbrev pub replace_in : List ℕ → Option Said
-replace_in rest = alone (after_word (after_word rest)) (replace_from (value_of (word_of rest)) (value_of (word_of (after_word rest))))
+replace_in rest =
+    alone (after_word (after_word rest)) (replace_from (value_of (word_of rest)) (value_of (word_of (after_word rest))))
 
 -- limit N
 abbrev pub limit_in : List ℕ → Option Said
 limit_in text =
-    if bytes_eq (word_of text) (codes "limit") then alone (after_word (after_word text)) (option_map (λ n. said.Canon (Some n)) (number_of (word_of (after_word text))))
+    if bytes_eq (word_of text) (codes "limit")
+    then alone (after_word (after_word text))
+    (option_map (λ n. said.Canon (Some n)) (number_of (word_of (after_word text))))
     else None
 
 -- canon [limit N]
@@ -190,7 +195,8 @@ obey_from (Some said) = Obey said
 
 -- what a trimmed line of UTF-8 says: an empty one and a comment say nothing
 abbrev pub trimmed_says : List ℕ → Spoken
-trimmed_says text = if (length text == 0) || starts_with nat_eq text (codes "//") then Nothing else obey_from (command_of text)
+trimmed_says text =
+    if (length text == 0) || starts_with nat_eq text (codes "//") then Nothing else obey_from (command_of text)
 
 -- what a line says; one that isn't UTF-8 is no command, also where it is a comment
 abbrev pub line_says : List ℕ → Spoken

@@ -1,5 +1,6 @@
 -- Lists that are one word: items between commas.
-use Rattle.std.specs.Prelude.{ℕ, List, [], ◌∷◌, ◌==◌, Bool, not, Option, Some, None, is_some, length, if◌then◌else◌, map}
+use Rattle.std.specs.Prelude.{ℕ, List, [], ◌∷◌, ◌==◌, Bool, not, Option, Some, None, is_some, length, if◌then◌else◌}
+use Rattle.std.specs.Prelude.{map}
 use Rattle.std.specs.List.{list_all}
 use Rattle.mlir_work_script.specs.Lines.{onto_first}
 use Rattle.mlir_work_script.specs.Numbers.{number_of}

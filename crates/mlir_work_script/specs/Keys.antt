@@ -1,5 +1,5 @@
--- Keys of entries: KEY is a bare identifier or a string literal (MLIR Language Reference, "Identifiers and keywords" and
--- "Common syntax"), and ends at a blank or with the line.
+-- Keys of entries: KEY is a bare identifier or a string literal (MLIR Language Reference, "Identifiers and keywords"
+-- and "Common syntax"), and ends at a blank or with the line.
 use Rattle.std.specs.Prelude.{ℕ, List, [], ◌∷◌, ◌==◌, Bool, true, Option, Some, None, if◌then◌else◌}
 use Rattle.ir_text_tokens.specs.Printing.{is_bare_id}
 use Rattle.ir_text_tokens.specs.Strings.{string_bytes}

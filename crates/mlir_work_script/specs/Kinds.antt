@@ -1,5 +1,6 @@
 -- The words of the kinds of analysis.
-use Rattle.std.specs.Prelude.{ℕ, List, ◌++◌, ◌==◌, ◌&&◌, not, Option, Some, None, if◌then◌else◌, codes, drop, nat_lt, nat_eq}
+use Rattle.std.specs.Prelude.{ℕ, List, ◌++◌, ◌==◌, ◌&&◌, not, Option, Some, None, if◌then◌else◌, codes, drop, nat_lt}
+use Rattle.std.specs.Prelude.{nat_eq}
 use Rattle.std.specs.Fmt.{decimal}
 use Rattle.std.specs.List.{starts_with}
 use Rattle.std.specs.Option.{is_some}
@@ -29,11 +30,13 @@ kind_word n = named_or_numbered (kind_name n) n
 -- a number is a kind's that has no name, and the digits are as it is printed
 abbrev pub numbered_from : Option ℕ → List ℕ → Option ℕ
 numbered_from None digits = None
-numbered_from (Some n) digits = if nat_lt n 256 && (not (is_some (kind_name n)) && bytes_eq digits (decimal n)) then Some n else None
+numbered_from (Some n) digits =
+    if nat_lt n 256 && (not (is_some (kind_name n)) && bytes_eq digits (decimal n)) then Some n else None
 
 -- the kind of which `kind` with its number is the word
 abbrev pub numbered_kind : List ℕ → Option ℕ
-numbered_kind word = if starts_with nat_eq word (codes "kind") then numbered_from (number_of (drop 4 word)) (drop 4 word) else None
+numbered_kind word =
+    if starts_with nat_eq word (codes "kind") then numbered_from (number_of (drop 4 word)) (drop 4 word) else None
 
 -- the kind, from 0 to 255, of which this is the word
 abbrev pub kind_of : List ℕ → Option ℕ

@@ -11,6 +11,7 @@ pub mod Spots
 pub mod Keys
 pub mod Commands
 pub mod Writes
+pub mod Limits
 pub mod Reads
 pub mod Outcomes
 pub mod Replies

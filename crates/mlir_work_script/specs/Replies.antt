@@ -18,7 +18,8 @@ made_line n op = decimal n ++ (codes " ok " ++ (op_text op ++ codes "\n"))
 
 -- `1 swept 2`, `1 converged 3`, `1 limit 1`, `1 converted 2`
 abbrev pub outcome_line : ℕ → Outcome → List ℕ
-outcome_line n outcome = decimal n ++ (codes " " ++ (outcome_word outcome ++ (codes " " ++ (decimal (outcome_count outcome) ++ codes "\n"))))
+outcome_line n outcome =
+    decimal n ++ (codes " " ++ (outcome_word outcome ++ (codes " " ++ (decimal (outcome_count outcome) ++ codes "\n"))))
 
 -- `1 refused 22 HasUses`
 abbrev pub refused_line : ℕ → Refusal → List ℕ
@@ -26,7 +27,8 @@ refused_line n refusal = decimal n ++ (codes " refused " ++ (text_of refusal ++ 
 
 -- `1 refused 51 NotLegalised #2`
 abbrev pub refused_on_line : ℕ → Refusal → ℕ → List ℕ
-refused_on_line n refusal op = decimal n ++ (codes " refused " ++ (text_of refusal ++ (codes " " ++ (op_text op ++ codes "\n"))))
+refused_on_line n refusal op =
+    decimal n ++ (codes " refused " ++ (text_of refusal ++ (codes " " ++ (op_text op ++ codes "\n"))))
 
 -- where a text is refused, counted in bytes from its first
 abbrev pub at_offset : Option ℕ → List ℕ
@@ -43,7 +45,8 @@ module_refused_line refusal offset = codes "module refused " ++ (text_of refusal
 
 -- `attach uses refused 36 Memory`
 abbrev pub attach_refused_line : ℕ → Refusal → List ℕ
-attach_refused_line kind refusal = codes "attach " ++ (kind_word kind ++ (codes " refused " ++ (text_of refusal ++ codes "\n")))
+attach_refused_line kind refusal =
+    codes "attach " ++ (kind_word kind ++ (codes " refused " ++ (text_of refusal ++ codes "\n")))
 
 -- `-- uses`, over the rows of a kind
 abbrev pub kind_line : ℕ → List ℕ

@@ -26,7 +26,8 @@ inside_from make None region rest = None
 
 -- a place in a block of an operation, and what stands behind it
 abbrev pub inside_in : (ℕ → ℕ → spots.Spot) → List ℕ → Option (spots.Spot × List ℕ)
-inside_in make text = inside_from make (op_of (word_of text)) (number_of (word_of (after_word text))) (after_word (after_word text))
+inside_in make text =
+    inside_from make (op_of (word_of text)) (number_of (word_of (after_word text))) (after_word (after_word text))
 
 -- the place of this name
 abbrev pub spot_named : List ℕ → List ℕ → Option (spots.Spot × List ℕ)

@@ -15,7 +15,8 @@ op_text op = codes "#" ++ decimal op
 -- a result by its operation and place, `%v2.0`; an argument by its operation, region and place, `%a1.0.0`
 abbrev pub value_text : Value → List ℕ
 value_text (Result op place) = codes "%v" ++ (decimal op ++ (codes "." ++ decimal place))
-value_text (Arg op region place) = codes "%a" ++ (decimal op ++ (codes "." ++ (decimal region ++ (codes "." ++ decimal place))))
+value_text (Arg op region place) =
+    codes "%a" ++ (decimal op ++ (codes "." ++ (decimal region ++ (codes "." ++ decimal place))))
 
 -- ---- as they are read
 
@@ -45,7 +46,8 @@ result_of text = result_from (number_of (before is_dot text)) (number_of (after 
 -- the argument that `N.R.K` names
 abbrev pub argument_of : List ℕ → Option Value
 argument_of text =
-    argument_from (number_of (before is_dot text)) (number_of (before is_dot (after is_dot text))) (number_of (after is_dot (after is_dot text)))
+    argument_from (number_of (before is_dot text)) (number_of (before is_dot (after is_dot text)))
+    (number_of (after is_dot (after is_dot text)))
 
 -- the value that a word names
 abbrev pub value_of : List ℕ → Option Value

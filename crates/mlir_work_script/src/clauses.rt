@@ -1,7 +1,8 @@
 //! The clauses of a conversion.
 ghost use Rattle.std.specs.Prelude.{◌≡◌, Some};
 ghost use Rattle.std.specs.Option.{option_map};
-ghost use Rattle.mlir_work_script.specs.Clauses.{clauses_of, mode_of, no_clauses, with_clauses, with_depth, with_dynamic, with_illegal, with_legal, with_named, with_rules};
+ghost use Rattle.mlir_work_script.specs.Clauses.{clauses_of, mode_of, no_clauses, with_clauses, with_depth};
+ghost use Rattle.mlir_work_script.specs.Clauses.{with_dynamic, with_illegal, with_legal, with_named, with_rules};
 ghost use Rattle.mlir_work_script.specs.Words.{words_of};
 
 use crate::items::{are_names, are_numbers};

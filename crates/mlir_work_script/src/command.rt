@@ -3,7 +3,10 @@ ghost use Rattle.std.specs.Prelude.{◌≡◌, Some};
 ghost use Rattle.std.specs.Option.{option_map};
 ghost use Rattle.std.specs.Str.{is_utf8};
 ghost use Rattle.rewriter_machine.specs.Commands as said;
-ghost use Rattle.mlir_work_script.specs.Commands.{said_of, spoken_of, with_kind, set_operand_in, move_in, set_attr_in, drop_attr_in, erase_in, insert_in, replace_in, alone, limit_in, canon_in, convert_in, entry_command, mark_command, panel_command, transforming_command, command_of, line_says};
+ghost use Rattle.mlir_work_script.specs.Commands.{said_of, spoken_of, with_kind, set_operand_in, move_in, set_attr_in};
+ghost use Rattle.mlir_work_script.specs.Commands.{drop_attr_in, erase_in, insert_in, replace_in, alone, limit_in};
+ghost use Rattle.mlir_work_script.specs.Commands.{canon_in, convert_in, entry_command, mark_command, panel_command};
+ghost use Rattle.mlir_work_script.specs.Commands.{transforming_command, command_of, line_says};
 
 use crate::clauses::{Clauses, clauses_in, mode_named};
 use crate::keys::{Key, split_key};

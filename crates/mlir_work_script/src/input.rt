@@ -1,9 +1,10 @@
 //! The input of a run: read whole, under limits, and split into a module and a script.
 ghost use Rattle.std.specs.Prelude.{◌≡◌, ◌<◌, ◌≤◌, ◌++◌, length, None, IfErr, IfOk, IfSome, IsTrue, ◌↔◌};
 ghost use Rattle.mlir_work_script.specs.declared.input.ReadFault.TheVariants.{TooMany, Memory as NoMemory};
+ghost use Rattle.mlir_work_script.specs.Limits.{most_input_bytes, most_reads, most_script_bytes};
 ghost use Rattle.mlir_work_script.specs.Lines.{after_line};
 ghost use Rattle.mlir_work_script.specs.Parts.{at_divider, module_text, script_text};
-ghost use Rattle.mlir_work_script.specs.Reads.{ReadsWhole};
+ghost use Rattle.mlir_work_script.specs.Reads.{AreMadeAtMost, ReadsWhole};
 
 use crate::lines::split_line;
 use crate::source::{Source, SourceFault};
@@ -17,8 +18,9 @@ pub const MAX_INPUT_BYTES: usize = 33_554_432;
 /// The most bytes of a script.
 pub const MAX_SCRIPT_BYTES: usize = 16_777_216;
 
-/// More reads than an input has bytes. Each but the last gives one.
-const MAX_READS: usize = 33_554_433;
+/// The most reads of a run, interrupted ones among them: more than an input has bytes, and each other one but the last
+/// gives one.
+pub const MAX_READS: u32 = 40_000_000;
 
 /// The bytes that one read asks for.
 const CHUNK: usize = 8192;
@@ -29,7 +31,7 @@ const DIVIDER: &[u8] = b"// -----";
 /// Why an input wasn't read.
 #[derive(Clone, Copy, Debug, PartialEq, Eq, Error)]
 pub enum ReadFault {
-    /// A read failed.
+    /// A read failed, or would have been more than `MAX_READS`.
     #[error("a read failed")]
     Broken,
     /// There are more than `MAX_INPUT_BYTES` bytes.
@@ -53,19 +55,22 @@ fn keep(kept: &mut Option<Vec<u8>>, bytes: &[u8])
     }
 }
 
-/// Reads to the end. Where there is no memory for the bytes it reads on, so that an input that is too long is
-/// always told to be so.
+/// Reads to the end, by at most `MAX_READS` reads; one that is interrupted is made again, and is one of them. Where
+/// there is no memory for the bytes it reads on, so that an input that is too long is always told to be so.
 pub fn read_all<R: Source>(alloc: Global, reader: &mut R) -> Result<Vec<u8>, ReadFault>
     ensures whole { IfOk result (λ all. IfSome (R.intake reader.old).remaining (λ input. all.items ≡ input)) }
-    ensures within { IfOk result (λ all. length all.items ≤ MAX_INPUT_BYTES) }
-    ensures too_many { IfErr result (λ fault. fault ≡ TooMany → IfSome (R.intake reader.old).remaining (λ input. MAX_INPUT_BYTES < length input)) }
-    ensures memory { IfErr result (λ fault. fault ≡ NoMemory → IfSome (R.intake reader.old).remaining (λ input. length input ≤ MAX_INPUT_BYTES)) }
+    ensures within { IfOk result (λ all. length all.items ≤ most_input_bytes) }
+    ensures too_many { IfErr result (λ fault. fault ≡ TooMany →
+        IfSome (R.intake reader.old).remaining (λ input. most_input_bytes < length input)) }
+    ensures memory { IfErr result (λ fault. fault ≡ NoMemory →
+        IfSome (R.intake reader.old).remaining (λ input. length input ≤ most_input_bytes)) }
     ensures read { ReadsWhole (R.intake reader.old) (R.intake reader.new) result }
+    ensures made { AreMadeAtMost (R.intake reader.old).reads (R.intake reader.new).reads most_reads }
 {
     let mut kept = Some(Vec::new(alloc));
     let mut count = 0usize;
     let mut buffer = [0u8; CHUNK];
-    for _turn in 0..MAX_READS {
+    for _made in 0..MAX_READS {
         match reader.read_some(&mut buffer) {
             Ok(0) => return kept.ok_or(ReadFault::Memory),
             Ok(taken) => {
@@ -75,10 +80,11 @@ pub fn read_all<R: Source>(alloc: Global, reader: &mut R) -> Result<Vec<u8>, Rea
                 count += taken;
                 keep(&mut kept, &buffer[..taken]);
             }
-            Err(SourceFault) => return Err(ReadFault::Broken),
+            Err(SourceFault::Interrupted) => {}
+            Err(SourceFault::Failed) => return Err(ReadFault::Broken),
         }
     }
-    Err(ReadFault::TooMany)
+    Err(ReadFault::Broken)
 }
 
 /// Whether the first line of a text is exactly the divider. Of another line than a comment only the first
@@ -127,7 +133,7 @@ pub fn split(input: &[u8]) -> (&[u8], &[u8])
 
 /// Whether a script has more than `MAX_SCRIPT_BYTES` bytes.
 pub fn script_is_too_long(script: &[u8]) -> bool
-    ensures { IsTrue result ↔ (MAX_SCRIPT_BYTES < length script.now) }
+    ensures { IsTrue result ↔ (most_script_bytes < length script.now) }
 {
     MAX_SCRIPT_BYTES < script.len()
 }

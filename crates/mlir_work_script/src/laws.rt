@@ -11,8 +11,10 @@ ghost use Rattle.mlir_work_script.specs.Values.{op_of, op_text, value_of, value_
 pub fn names_read_back()
     ensures number { (n : ℕ) → n < 2 ^ 32 → number_of (decimal n) ≡ Some n }
     ensures op { (n : ℕ) → n < 2 ^ 32 → op_of (op_text n) ≡ Some n }
-    ensures result_value { (op place : ℕ) → op < 2 ^ 32 → place < 2 ^ 32 → value_of (value_text (ResultOf op place)) ≡ Some (ResultOf op place) }
-    ensures argument { (op region place : ℕ) → op < 2 ^ 32 → region < 2 ^ 32 → place < 2 ^ 32 → value_of (value_text (Arg op region place)) ≡ Some (Arg op region place) }
+    ensures result_value { (op place : ℕ) → op < 2 ^ 32 → place < 2 ^ 32 →
+        value_of (value_text (ResultOf op place)) ≡ Some (ResultOf op place) }
+    ensures argument { (op region place : ℕ) → op < 2 ^ 32 → region < 2 ^ 32 → place < 2 ^ 32 →
+        value_of (value_text (Arg op region place)) ≡ Some (Arg op region place) }
 {}
 
 /// A word is a kind's where it is printed for it, and nowhere else.

@@ -3,7 +3,9 @@ ghost use Rattle.std.specs.Prelude.{◌++◌, Some, None, codes};
 ghost use Rattle.ir_types.specs.Refusals.{text_of};
 ghost use Rattle.mlir_work_script.specs.Kinds.{kind_word};
 ghost use Rattle.mlir_work_script.specs.Outcomes.{outcome_of};
-ghost use Rattle.mlir_work_script.specs.Replies.{made_line, ok_line, outcome_line, refused_line, refused_at_line, refused_on_line, module_refused_line, attach_refused_line, kind_line, stale_line, kind_memory_line, module_memory_line};
+ghost use Rattle.mlir_work_script.specs.Replies.{made_line, ok_line, outcome_line, refused_line, refused_at_line};
+ghost use Rattle.mlir_work_script.specs.Replies.{refused_on_line, module_refused_line, attach_refused_line, kind_line};
+ghost use Rattle.mlir_work_script.specs.Replies.{stale_line, kind_memory_line, module_memory_line};
 ghost use Rattle.mlir_work_script.specs.Writes.{Puts};
 
 use crate::kind::{Kind, name_of};
@@ -196,7 +198,8 @@ fn put_between<'a, W: Sink>(
     digits: &'a [u8],
     back: &'a [u8],
 ) -> Result<(), WriteFault>
-    ensures { Puts (W.stream writer.old) (W.stream writer.new) (front.now ++ (stem.now ++ (digits.now ++ back.now))) result }
+    ensures { Puts (W.stream writer.old) (W.stream writer.new)
+        (front.now ++ (stem.now ++ (digits.now ++ back.now))) result }
 {
     put_all(writer, &[front, stem, digits, back])
 }

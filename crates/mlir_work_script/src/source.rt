@@ -1,5 +1,5 @@
-//! Readers that keep a record of whether a read failed.
-ghost use Rattle.std.specs.Prelude.{true};
+//! Readers that keep a record of the reads that were made of them.
+ghost use Rattle.std.specs.Prelude.{None, Some, true};
 ghost use Rattle.std.specs.Io.{ReadsAtMost};
 ghost use Rattle.std.specs.Io.KnownBytes.{ReadConsumes};
 ghost use Rattle.mlir_work_script.specs.Reads.{Intake, Takes};
@@ -8,62 +8,79 @@ use crate::watched::Watched;
 use std::io::{ErrorKind, Read};
 use thiserror::Error;
 
-/// The most times that a read is made which is interrupted each time.
-pub const MAX_TRIES: u32 = 40_000_000;
-
-/// A read failed, or was interrupted `MAX_TRIES` times.
+/// Why a read gave nothing.
 #[derive(Clone, Copy, Debug, PartialEq, Eq, Error)]
-#[error("a read failed")]
-pub struct SourceFault;
+pub enum SourceFault {
+    /// It was interrupted, and may be made again.
+    #[error("a read was interrupted")]
+    Interrupted,
+    /// It failed.
+    #[error("a read failed")]
+    Failed,
+}
 
-/// What bytes are read from. Each reader of the library is one; of a `Watched` one it is also known whether a read
-/// failed.
+/// What bytes are read from. Each reader of the library is one; of a `Watched` one it is also known how many reads were
+/// made, and whether one was interrupted or failed.
 pub trait Source {
     ghost intake: { Self → Intake };
 
-    /// Reads some bytes into the buffer, and says how many; none only at the end, or where the buffer has no room.
+    /// Makes one read into the buffer, and says how many bytes it gave; none only at the end, or where the buffer has
+    /// no room.
     fn read_some(&mut self, buffer: &mut [u8]) -> Result<usize, SourceFault>
         ensures bound { ReadsAtMost result buffer.new }
         ensures took { Takes (intake self.old) (intake self.new) result buffer.new };
 }
 
-/// Reads some bytes. A read that is interrupted is made again.
-fn read_again<R: Read>(reader: &mut R, buffer: &mut [u8]) -> Result<usize, SourceFault>
+/// Makes one read.
+fn read_once<R: Read>(reader: &mut R, buffer: &mut [u8]) -> Result<usize, SourceFault>
     ensures bound { ReadsAtMost result buffer.new }
     ensures took { ReadConsumes (R.remaining reader.old) (R.remaining reader.new) result buffer.new }
 {
-    'tries: for _try in 0..MAX_TRIES {
-        match reader.read(buffer) {
-            Ok(taken) => return Ok(taken),
-            Err(error) => {
-                if error.kind() != ErrorKind::Interrupted {
-                    return Err(SourceFault);
-                }
+    match reader.read(buffer) {
+        Ok(taken) => Ok(taken),
+        Err(error) => {
+            if error.kind() == ErrorKind::Interrupted {
+                Err(SourceFault::Interrupted)
+            } else {
+                Err(SourceFault::Failed)
             }
         }
     }
-    Err(SourceFault)
 }
 
 /// No record is kept.
 impl<R: Read> Source for R {
-    ghost intake = { λ r. record { remaining = R.remaining r; failed = true } };
+    ghost intake = { λ r. record { remaining = R.remaining r; failed = true; interrupted = true; reads = None } };
 
     fn read_some(&mut self, buffer: &mut [u8]) -> Result<usize, SourceFault> {
-        read_again(self, buffer)
+        read_once(self, buffer)
     }
 }
 
-/// The record is kept.
+/// The record is kept. Where no more reads can be counted none is made, which counts as one that failed.
 impl<R: Read> Source for Watched<R> {
-    ghost intake = { λ r. record { remaining = R.remaining r.inner; failed = r.failed } };
+    ghost intake = { λ r. record {
+      remaining = R.remaining r.inner;
+      failed = r.failed;
+      interrupted = r.interrupted;
+      reads = Some r.reads;
+    } };
 
     fn read_some(&mut self, buffer: &mut [u8]) -> Result<usize, SourceFault> {
-        match read_again(&mut self.inner, buffer) {
+        let Some(reads) = self.reads.checked_add(1) else {
+            self.failed = true;
+            return Err(SourceFault::Failed);
+        };
+        self.reads = reads;
+        match read_once(&mut self.inner, buffer) {
             Ok(taken) => Ok(taken),
-            Err(fault) => {
+            Err(SourceFault::Interrupted) => {
+                self.interrupted = true;
+                Err(SourceFault::Interrupted)
+            }
+            Err(SourceFault::Failed) => {
                 self.failed = true;
-                Err(fault)
+                Err(SourceFault::Failed)
             }
         }
     }

@@ -1,6 +1,7 @@
 //! The words of a line.
 ghost use Rattle.std.specs.Prelude.{◌≡◌, position};
-ghost use Rattle.mlir_work_script.specs.Words.{is_blank, is_edge, trim_front, trim_back, trim, skip_blanks, word_of, after_word};
+ghost use Rattle.mlir_work_script.specs.Words.{is_blank, is_edge, trim_front, trim_back, trim, skip_blanks, word_of};
+ghost use Rattle.mlir_work_script.specs.Words.{after_word};
 
 /// A space or a tab.
 pub(crate) fn is_blank(b: u8) -> bool

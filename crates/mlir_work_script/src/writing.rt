@@ -1,5 +1,5 @@
 //! Writing, with nothing kept in memory.
-ghost use Rattle.std.specs.Prelude.{map};
+ghost use Rattle.std.specs.Prelude.{◌≡◌, map, true, IfOk};
 ghost use Rattle.mlir_work_script.specs.Writes.{HandsOn, Puts, joined};
 
 use crate::sink::Sink;
@@ -39,7 +39,8 @@ pub fn put_all<W: Sink>(writer: &mut W, pieces: &[&[u8]]) -> Result<(), WriteFau
 
 /// Hands on what a buffering writer still holds.
 pub fn flush<W: Sink>(writer: &mut W) -> Result<(), WriteFault>
-    ensures { HandsOn (W.stream writer.old) (W.stream writer.new) result }
+    ensures stays { HandsOn (W.stream writer.old) (W.stream writer.new) result }
+    ensures handed { IfOk result (λ _. W.handed writer.new ≡ true) }
 {
     writer.hand_on()
 }

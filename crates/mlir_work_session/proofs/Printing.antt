@@ -16,7 +16,7 @@ use Rattle.rewriter.specs.Panels.{Shown, all_shown, has_kind, is_kind}
 use Rattle.mlir_work_script.specs.Commands.{Spoken, Nothing, Bad, Obey, line_says}
 use Rattle.mlir_work_script.specs.Lines.{lines_of}
 use Rattle.mlir_work_script.specs.Writes.{Stream}
-use Rattle.mlir_work_script.specs.declared.input.TheConstants.{MAX_SCRIPT_BYTES}
+use Rattle.mlir_work_script.specs.Limits.{most_script_bytes}
 use Rattle.mlir_work_session.specs.Machine.{Obeys, response_of}
 use Rattle.mlir_work_session.specs.Output.{Attaches, IsBounded, IsReplied, IsSession, Manner, Replies, Runs, asks, is_accepted, reply_line, says_nothing, shows_alone, worse}
 use Rattle.mlir_work_session.specs.PrintsAlone.{IsPrinted, all_print, is_print, kinds_apart, prints_alone}
@@ -196,7 +196,7 @@ print_step manner n s text line more reply shows e is f p later rest h =
 -- ---- sessions
 
 -- what the lines may give is what a session may give whose boxes have different kinds
-print_ran : {E : Type 0} (manner : Manner) (boxes : List Shown) (m : Module) (script : List ℕ) (a b : Stream) (r : Result ℕ E) → length script ≤ MAX_SCRIPT_BYTES → are_apart boxes ≡ true →
+print_ran : {E : Type 0} (manner : Manner) (boxes : List Shown) (m : Module) (script : List ℕ) (a b : Stream) (r : Result ℕ E) → length script ≤ most_script_bytes → are_apart boxes ≡ true →
     RanOut (Runs manner 1 (record { held = m; marks = []; panel = map begun boxes }) (lines_of script)) a b r → RanOut (IsSession manner boxes m script) a b r
 print_ran manner boxes m script a b r short apart ran =
     ran_weaker (Runs manner 1 (record { held = m; marks = []; panel = map begun boxes }) (lines_of script)) (IsSession manner boxes m script) a b r
@@ -215,6 +215,6 @@ print_ran manner boxes m script a b r short apart ran =
       },
     )) ran
 
-pub prints_ran : {B E : Type 0} (meaning : B → Listener) (manner : Manner) (bs : List B) (m : Module) (script : List ℕ) (a b : Stream) (r : Result ℕ E) → length script ≤ MAX_SCRIPT_BYTES → kinds_apart meaning bs ≡ true →
+pub prints_ran : {B E : Type 0} (meaning : B → Listener) (manner : Manner) (bs : List B) (m : Module) (script : List ℕ) (a b : Stream) (r : Result ℕ E) → length script ≤ most_script_bytes → kinds_apart meaning bs ≡ true →
     ((panel : List Shown) → RanOut (Runs manner 1 (record { held = m; marks = []; panel = panel }) (lines_of script)) a b r) → RanOut (IsSession manner (all_shown meaning bs) m script) a b r
 prints_ran meaning manner bs m script a b r short apart ran = print_ran manner (all_shown meaning bs) m script a b r short (apart_shown meaning bs ∙ apart) (ran _)

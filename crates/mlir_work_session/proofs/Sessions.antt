@@ -3,7 +3,7 @@ use Rattle.std.proofs.Common.{◌≡◌, ◌≤◌, ◌<◌, ◌++◌, ◌↔◌
 use Rattle.ir_event.specs.Modules.{Module}
 use Rattle.mlir_work_script.specs.Lines.{lines_of}
 use Rattle.mlir_work_script.specs.Writes.{Grows, GrowsFront, Stream}
-use Rattle.mlir_work_script.specs.declared.input.TheConstants.{MAX_SCRIPT_BYTES}
+use Rattle.mlir_work_script.specs.Limits.{most_script_bytes}
 use Rattle.mlir_work_script.proofs.Joins.{grows_join, front_join, front_more}
 use Rattle.rewriter.specs.Panels.{Shown}
 use Rattle.mlir_work_session.specs.Output.{Attaches, Manner, Runs, Session, worse}
@@ -31,7 +31,7 @@ module _ (manner : Manner) (boxes : List Shown) (m : Module) (script : List ℕ)
       let some = some_runs manner (lines_of script) 1 (record { held = m; marks = []; panel = panel }) in
       (worse accepted some.0, front ++ some.1, session_of panel accepted front some.0 some.1 h some.2, front_more a b front some.1 wrote)
 
-pub short : (n : ℕ) (long : Bool) → (IsTrue long ↔ (MAX_SCRIPT_BYTES < n)) → long ≡ false → n ≤ MAX_SCRIPT_BYTES
+pub short : (n : ℕ) (long : Bool) → (IsTrue long ↔ (most_script_bytes < n)) → long ≡ false → n ≤ most_script_bytes
 short n long h e = grind (arith, h.1, e)
 
 pub ran_weaker : {E : Type 0} (P Q : ℕ → List ℕ → Type 0) (a b : Stream) (r : Result ℕ E) → ((st : ℕ) (o : List ℕ) → P st o → Q st o) → RanOut P a b r → RanOut Q a b r

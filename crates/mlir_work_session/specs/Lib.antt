@@ -5,12 +5,12 @@ pub mod Output
 pub mod Ran
 pub mod PrintsAlone
 pub use Rattle.mlir_work_script.specs.Commands
+pub use Rattle.mlir_work_script.specs.Limits
 pub use Rattle.mlir_work_script.specs.Lines
 pub use Rattle.mlir_work_script.specs.Parts
 pub use Rattle.mlir_work_script.specs.Replies
 pub use Rattle.mlir_work_script.specs.Reads
 pub use Rattle.mlir_work_script.specs.Writes
-pub use Rattle.mlir_work_script.specs.declared.input.TheConstants
 pub use Rattle.mlir_work_script.specs.declared.writing.WriteFault
 pub use Rattle.ir_text.specs.Public
 pub use Rattle.ir_store.specs.Calls

@@ -11,8 +11,8 @@ use Rattle.rewriter.specs.Commands.{Command, Report, Print, Response, Replied as
 use Rattle.rewriter.specs.Machine.{State, Done, DoneAs, DoneWith, Refused, RefusedOn}
 use Rattle.rewriter.specs.Panels.{Shown, Attached, has_kind}
 use Rattle.mlir_work_script.specs.Commands.{Spoken, Nothing, Bad, Obey, line_says}
+use Rattle.mlir_work_script.specs.Limits.{most_script_bytes}
 use Rattle.mlir_work_script.specs.Lines.{lines_of}
-use Rattle.mlir_work_script.specs.declared.input.TheConstants.{MAX_SCRIPT_BYTES}
 use Rattle.mlir_work_script.specs.Replies.{ok_line, made_line, outcome_line, refused_line, refused_on_line, refused_at_line, attach_refused_line, kind_line, stale_line, kind_memory_line, module_memory_line}
 use Rattle.mlir_work_session.specs.RowText.{rows_text}
 use Rattle.mlir_work_session.specs.Machine.{Obeys}
@@ -169,4 +169,4 @@ IsBadScript status out = (status ≡ 1) × (out ≡ refused_line 1 BadCommand)
 -- this status and these bytes are an output of a script over a module, with these boxes
 abbrev pub IsSession : Manner → List Shown → Module → List ℕ → ℕ → List ℕ → Type 0
 IsSession manner boxes m script status out =
-    ((MAX_SCRIPT_BYTES < length script) × IsBadScript status out) ⊎ ((length script ≤ MAX_SCRIPT_BYTES) × Session manner boxes m script status out)
+    ((most_script_bytes < length script) × IsBadScript status out) ⊎ ((length script ≤ most_script_bytes) × Session manner boxes m script status out)

@@ -6,7 +6,7 @@ ghost use Rattle.ir_event.specs.Panels.{has_kind as has_this_kind, is_kind as is
 ghost use Rattle.mlir_work_script.specs.Commands.{said_of, spoken_of};
 ghost use Rattle.mlir_work_script.specs.Lines.{lines_of};
 ghost use Rattle.mlir_work_script.specs.Writes.{Puts};
-ghost use Rattle.mlir_work_script.specs.declared.input.TheConstants.{MAX_SCRIPT_BYTES};
+ghost use Rattle.mlir_work_script.specs.Limits.{most_script_bytes};
 ghost use Rattle.rewriter.specs.Panels.{Shown, all_shown};
 ghost use Rattle.mlir_work_session.specs.Machine.{response_of};
 ghost use Rattle.mlir_work_session.specs.Output.{IsSession, Manner, Runs, reply_line};
@@ -168,7 +168,7 @@ pub fn print_session<L: Analysis, W: Sink>(
     boxes: &[L],
 ) -> Result<u8, WriteFault>
     requires known { IsTrue (is_known ctx.now tree.now) }
-    requires short { length script.now ≤ MAX_SCRIPT_BYTES }
+    requires short { length script.now ≤ most_script_bytes }
     requires prints { all_print (lines_of script.now) ≡ true }
     requires apart { kinds_apart L.meaning boxes.now ≡ true }
     ensures { (manner : Manner) (next : ℕ) → RanOut (IsSession manner (all_shown L.meaning boxes.now) (record { tree = meaning ctx.now tree.now; next = next }) script.now) (W.stream writer.old) (W.stream writer.new) result }

@@ -1,5 +1,5 @@
 -- Erasing operations one after another, under a mark, is a sweep.
-use Rattle.std.proofs.Common.{◌≡◌, refl, ap, sym, ◌∙◌, ◌⊎◌, inl, inr, ℕ, List, [], ◌∷◌, ◌++◌, length, reverse, Bool, true, false, Option, Some, None, Result, Ok, Err}
+use Rattle.std.proofs.Common.{◌≡◌, refl, ap, sym, ◌∙◌, subst, ◌⊎◌, inl, inr, ℕ, List, [], ◌∷◌, ◌++◌, length, reverse, Bool, true, false, Option, Some, None, Result, Ok, Err}
 use Rattle.std.proofs.lemmas.List.{reverse-append}
 use Rattle.ir_types.specs.Things.{Things}
 use Rattle.ir_store.specs.Stored.{Stored}
@@ -12,14 +12,22 @@ use Rattle.rewriter.specs.Contents.{edited, edit_reason}
 use Rattle.rewriter.specs.Edits.{Erase}
 use Rattle.rewriter.specs.Machine.{State, Answer, Do, Change, Done, DoneWith, Swept, Refused, Nothing, Goes, due_edit, due_change}
 use Rattle.rewriter.specs.Panels.{AllAge}
-use Rattle.rewriter.specs.Benched.{Benched, Led, state_of}
-use Rattle.rewriter.specs.Held.{module_held, open_marks}
-use Rattle.rewriter.specs.Wholes.{IsFinished}
+use Rattle.rewriter.specs.Benched.{Benched, Heard, Journaled, Led, state_of}
+use Rattle.rewriter.specs.Held.{Held, module_held, open_marks}
+use Rattle.rewriter.specs.Moves.{Recorded}
+use Rattle.rewriter.specs.Wholes.{IsFinished, Onward}
 use Rattle.rewriter.proofs.Calls.{stepped}
-use Rattle.rewriter.proofs.Together.{Ages, Composes, Stays, IsBegun, led_on}
+use Rattle.rewriter.proofs.Noted.{recorded_more, recorded_none, recorded_undone}
+use Rattle.rewriter.proofs.Together.{Ages, Composes, Stays, IsBegun, led_on, marked_on, whole_journaled}
 use Rattle.listeners_unreached.specs.Unreached.{unreached_of}
 use Rattle.mlir_work_sweep.specs.Sweep.{unless_refused, all_erased, counted, sweep_of, sweeping}
-use Rattle.mlir_work_sweep.specs.Erasing.{Erases}
+use Rattle.mlir_work_sweep.specs.Erasing.{Erases, Noted}
+
+-- ---- marks
+
+-- a mark more, which isn't counted
+abbrev pub marked_more : Held → Held
+marked_more h = record h { marks = h.marks ++ record { length = length h.journal; counted = false } ∷ [] }
 
 -- ---- one operation
 
@@ -91,19 +99,29 @@ module _ {B : Type 0} (means : B → Listener) where
     pub marks : open_marks b.desk ≡ open_marks a.desk
     pub ctx : b.desk.ctx ≡ a.desk.ctx
     pub led : Led means a b
+    pub noted : Journaled means a b
 
   pub erasing_none : Stays means → (xs : List ℕ) (a : Benched B) → IsErasing xs xs a a
-  erasing_none none xs a = record { same = refl; marks = refl; ctx = refl; led = ([], none a) }
+  erasing_none none xs a = record { same = refl; marks = refl; ctx = refl; led = ([], none a); noted = ([], none a, recorded_none a.desk) }
 
-  pub erasing_more : Composes means → (xs ys left : List ℕ) (x : ℕ) (a b d : Benched B) → Holds a.desk.ctx → IsErasing xs ys a b → ys ≡ left ++ x ∷ [] → Goes (state_of means b) (Do (Erase x)) Done Nothing (state_of means d) → Led means b d → d.desk.ctx ≡ b.desk.ctx → IsErasing xs left a d
-  erasing_more more xs ys left x a b d holds h parts goes led ctx =
+  pub erasing_more : Composes means → (xs ys left : List ℕ) (x : ℕ) (a b d : Benched B) → Holds a.desk.ctx → IsErasing xs ys a b → ys ≡ left ++ x ∷ [] → Goes (state_of means b) (Do (Erase x)) Done Nothing (state_of means d) → Led means b d → d.desk.ctx ≡ b.desk.ctx → Journaled means b d → IsErasing xs left a d
+  erasing_more more xs ys left x a b d holds h parts goes led ctx noted =
       let e = erased_done (state_of means b) (state_of means d) x goes in
       record {
         same = erased_more xs ys left x (module_held a.desk) (module_held b.desk) (module_held d.desk) h.same parts e.0 e.1;
         marks = e.2 ∙ h.marks;
         ctx = ctx ∙ h.ctx;
         led = led_on means more a b d holds h.ctx (ctx ∙ h.ctx) h.led led;
+        noted = (
+          h.noted.0 ++ noted.0,
+          more h.noted.0 noted.0 a b d (subst Holds (sym h.ctx) holds) (subst Holds (sym (ctx ∙ h.ctx)) holds) h.noted.1 noted.1,
+          recorded_more h.noted.0 noted.0 a.desk b.desk d.desk h.noted.2.marks h.noted.2 noted.2,
+        );
       }
+
+  -- what was noted before one that is refused
+  pub erasing_noted : (xs ys : List ℕ) (a b d : Benched B) → IsErasing xs ys a b → Recorded [] b.desk d.desk → Noted a.desk d.desk
+  erasing_noted xs ys a b d h left = (h.noted.0 ++ [], recorded_more h.noted.0 [] a.desk b.desk d.desk h.noted.2.marks h.noted.2 left)
 
   pub erasing_refused : (xs ys left : List ℕ) (x : ℕ) (r : Refusal) (a b d : Benched B) → IsErasing xs ys a b → ys ≡ left ++ x ∷ [] → Goes (state_of means b) (Do (Erase x)) (Refused r) Nothing (state_of means d) → d.desk.ctx ≡ b.desk.ctx → Erases {A = Unit {0}} (reverse xs) (Err r) a.desk d.desk
   erasing_refused xs ys left x r a b d h parts goes ctx =
@@ -162,3 +180,14 @@ module _ {B : Type 0} (means : B → Listener) where
             })
         | inr memory ↦ sweep_unmade (state_of means a) (state_of means d) r memory (f.held _ _ mark) (f.marks _ _ mark) (ages a d led)
       ]
+
+  -- the journal behind a sweep: the events of all are at its end where a mark is open, or it is as it was
+  pub swept_journaled : Composes means → (xs : List ℕ) (a b c d : Benched B) → Holds a.desk.ctx → (a.desk.marks ≡ [] → a.desk.journal ≡ []) → b.desk ≡ marked_more a.desk → Heard means [] a b
+      → Erases {A = Unit {0}} xs (Ok tt) b.desk c.desk → Journaled means b c → IsFinished true c.desk d.desk → Heard means [] c d → Journaled means a d
+  swept_journaled more xs a b c d holds none begun untold e noted f silent =
+      let on : Onward means b c = record { ctx = e.ctx; marks = noted.2.marks; opens = e.marks; noted = noted } in
+      whole_journaled means more a b c d holds none begun untold on f silent
+
+-- where they were undone
+pub swept_back : (a b c d : Held) → (a.marks ≡ [] → a.journal ≡ []) → b ≡ marked_more a → Noted b c → IsFinished false c d → Recorded [] a d
+swept_back a b c d none begun noted f = recorded_undone false a b c d begun noted.1.marks noted.0 noted.1 (f.dropped (marked_on a b c begun noted.1.marks)) none refl

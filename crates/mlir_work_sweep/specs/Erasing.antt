@@ -3,13 +3,19 @@ use Rattle.std.specs.Prelude.{◌≡◌, ◌⊎◌, ℕ, List, Result, Ok, Err}
 use Rattle.ir_types.specs.declared.refusal.Refusal.{Refusal}
 use Rattle.ir_types.specs.declared.refusal.Refusal.TheVariants.{Memory}
 use Rattle.ir_event.specs.Modules.{Module}
+use Rattle.ir_event.specs.declared.event.Event.{Event}
 use Rattle.rewriter.specs.Held.{Held, module_held, open_marks}
+use Rattle.rewriter.specs.Moves.{Recorded}
 use Rattle.mlir_work_sweep.specs.Sweep.{all_erased}
 
 -- they were erased, or one of them was refused, for its reason or for want of memory
 abbrev pub AreErased : {A : Type 0} → List ℕ → Result A Refusal → Module → Module → Type 0
 AreErased xs (Ok u) m after = all_erased xs m ≡ Ok after
 AreErased xs (Err refusal) m after = (all_erased xs m ≡ Err refusal) ⊎ (refusal ≡ Memory)
+
+-- some events were noted where a mark is open, and the marks stay
+abbrev pub Noted : Held → Held → Type 0
+Noted old new = (es : List Event) × Recorded es old new
 
 -- so they were; the context and the marks stay
 pub record Erases {A : Type 0} (xs : List ℕ) (result : Result A Refusal) (old new : Held) : Type 0 where

@@ -1,9 +1,9 @@
 //! Erasing the private symbols that nothing reaches.
-ghost use Rattle.std.specs.Prelude.{◌≡◌, ◌⊎◌, reverse, IfErr};
+ghost use Rattle.std.specs.Prelude.{◌≡◌, ◌⊎◌, reverse, IfErr, OnErr, OnOk};
 ghost use Rattle.ir_types.specs.declared.refusal.Refusal.TheVariants.{HasUses, Memory};
 ghost use Rattle.rewriter.specs.Machine.{Change};
-ghost use Rattle.rewriter.specs.Benched.{Does, Led};
-ghost use Rattle.mlir_work_sweep.specs.Erasing.{Erases};
+ghost use Rattle.rewriter.specs.Benched.{Does, Journaled, Keeps, Led};
+ghost use Rattle.mlir_work_sweep.specs.Erasing.{Erases, Noted};
 ghost use Rattle.mlir_work_sweep.specs.Sweep.{sweep_reply, sweeping};
 
 use ir_event::analysis::Analysis;
@@ -19,6 +19,8 @@ use std::alloc::Global;
 fn erase_each<L: Analysis>(bench: &mut Bench<L>, ops: &mut Vec<OpId>) -> Result<(), Refusal>
     ensures erases { Erases (reverse ops.old.items) result bench.old.desk bench.new.desk }
     ensures led { Led L.meaning bench.old bench.new }
+    ensures journal { OnOk result (Journaled L.meaning bench.old bench.new) }
+    ensures noted { OnErr result (Noted bench.old.desk bench.new.desk) }
 {
     led_benches_are_kept::<L>();
     bench.is_formed();
@@ -39,6 +41,7 @@ pub fn sweep<L: Analysis>(alloc: Global, bench: &mut Bench<L>) -> Result<usize, 
     ensures refused { IfErr result (λ refusal. (refusal ≡ HasUses) ⊎ (refusal ≡ Memory)) }
     ensures led { Led L.meaning bench.old bench.new }
     ensures ctx { bench.new.desk.ctx ≡ bench.old.desk.ctx }
+    ensures journal { Keeps L.meaning result bench.old bench.new }
 {
     led_benches_are_kept::<L>();
     bench.is_formed();

@@ -10,14 +10,15 @@ use Rattle.ir_tree.specs.Limits.{most_ops, most_next}
 use Rattle.ir_tree_laws.proofs.Contents.{map_has_id}
 use Rattle.ir_event.specs.Modules.{Module, module_in, module_meaning}
 use Rattle.ir_event.specs.declared.world.World.{World}
-use Rattle.patterns_makes.specs.runs.Contents.{Edit, all_edited}
-use Rattle.patterns_makes.specs.runs.Held.{Held, module_held}
+use Rattle.patterns_runs.specs.Contents.{Edit, all_edited}
+use Rattle.patterns_runs.specs.Held.{Held, module_held}
 use Rattle.patterns_base.specs.Makes.{made_by}
+use Rattle.patterns_base.specs.declared.rule.Rule.{Rule}
 use Rattle.patterns_base.specs.Rewrites.{Rewrite, none, refused, becomes, edits_of, rewrite_of, rewrite_by, carried_out}
 use Rattle.patterns.specs.Applied.{Gave, IsReason, IsRefusedSo}
 use Rattle.patterns.specs.Planned.{IsStopped}
 
-rewrite_is : (r : ℕ) (m : Module) (x : ℕ) → rewrite_of r m x ≡ rewrite_by (edits_of r m x) m
+rewrite_is : (r : Rule) (m : Module) (x : ℕ) → rewrite_of r m x ≡ rewrite_by (edits_of r m x) m
 unfolding rewrite_of
 rewrite_is r m x = refl
 
@@ -45,11 +46,17 @@ module _ (w : World) (h : Held) (ctx : w.ctx ≡ h.ctx) (store : w.store ≡ h.s
   pub same_module : module_in w ≡ module_held h
   same_module i = module_meaning (ctx i) (store i).module_of
 
+  -- an operation that isn't there isn't in the store either
+  pub is_there : (b : Bool) → b ≡ has_id x w.store.module_of.tree → b ≡ true → has_id x (module_held h).tree ≡ false → ⊥
+  is_there b e is gone =
+      let n : true ≡ false = sym is ∙ e ∙ sym (map_has_id (name_term w.ctx) (type_term w.ctx) (attr_term w.ctx) x w.store.module_of.tree) ∙ ap (λ (m : Module). has_id x m.tree) same_module ∙ gone in
+      absurd cc
+
   pub not_there : (rewrite : Rewrite) (c : Things) (b : Bool) → b ≡ has_id x w.store.module_of.tree → b ≡ false → IsReason rewrite x (module_held h) c NoSuchOp
   not_there rewrite c b e n = inr (inl (refl, ap (λ (m : Module). has_id x m.tree) (sym same_module) ∙ map_has_id (name_term w.ctx) (type_term w.ctx) (attr_term w.ctx) x w.store.module_of.tree ∙ sym e ∙ n))
 
   -- what was found of a rule, where this says which edits that stands for
-  module _ {P : Type 0} (edits : Things → ℕ → P → List Edit) (r : ℕ) (p : Option P) (is : option_map (edits w.ctx (module_in w).next) p ≡ edits_of r (module_in w) x) where
+  module _ {P : Type 0} (edits : Things → ℕ → P → List Edit) (r : Rule) (p : Option P) (is : option_map (edits w.ctx (module_in w).next) p ≡ edits_of r (module_in w) x) where
     rewritten : rewrite_of r (module_held h) x ≡ rewrite_by (option_map (edits w.ctx (module_in w).next) p) (module_held h)
     rewritten = rewrite_is r (module_held h) x ∙ ap (λ m. rewrite_by (edits_of r m x) (module_held h)) (sym same_module) ∙ ap (λ q. rewrite_by q (module_held h)) (sym is)
 
@@ -63,3 +70,8 @@ module _ (w : World) (h : Held) (ctx : w.ctx ≡ h.ctx) (store : w.store ≡ h.s
     rewrite_due q found =
         rewritten ∙ ap (λ q. rewrite_by (option_map (edits w.ctx (module_in w).next) q) (module_held h)) found
         ∙ λ i. carried_out (edits (ctx i) (same_module i).next q) (module_held h)
+
+    pub edits_due : (q : P) → p ≡ Some q → edits_of r (module_held h) x ≡ Some (edits h.ctx (module_held h).next q)
+    edits_due q found =
+        ap (λ m. edits_of r m x) (sym same_module) ∙ sym is ∙ ap (option_map (edits w.ctx (module_in w).next)) found
+        ∙ λ i. Some (edits (ctx i) (same_module i).next q)

@@ -5,7 +5,7 @@ use Rattle.ir_event.specs.declared.event.Event.{Event}
 use Rattle.ir_types.specs.Things.{Things, Grows}
 use Rattle.ir_types.specs.Sound.{Holds}
 use Rattle.ir_types.specs.declared.refusal.Refusal.{Refusal}
-use Rattle.ir_types.specs.declared.refusal.Refusal.TheVariants.{Full, IdsExhausted}
+use Rattle.ir_types.specs.declared.refusal.Refusal.TheVariants.{Full, IdsExhausted, Memory}
 use Rattle.ir_types.proofs.Growth.{grows_refl}
 use Rattle.ir_tree.specs.Ids.{op_count}
 use Rattle.ir_tree.specs.Limits.{most_ops, most_next}
@@ -13,20 +13,22 @@ use Rattle.ir_tree_laws.specs.Reasons.{unless}
 use Rattle.ir_event.specs.Listener.{Listener}
 use Rattle.ir_event.specs.Modules.{Module, module_in, module_meaning}
 use Rattle.ir_event.specs.declared.world.World.{World}
-use Rattle.patterns_makes.specs.rewriter_bench.Moves.{Grown, Recorded, all_noted}
-use Rattle.patterns_makes.proofs.of_rewriter_bench.Told.{heard_none, heard_more}
-use Rattle.patterns_makes.specs.runs.Benched.{Benched, Journaled}
-use Rattle.patterns_makes.specs.runs.Contents.{Edit, all_edited}
-use Rattle.patterns_makes.specs.runs.Held.{Held, module_held}
-use Rattle.patterns_makes.specs.runs.Runs.{Along}
-use Rattle.patterns_makes.proofs.of_runs.Journals.{recorded_none}
+use Rattle.patterns_runs.specs.rewriter_bench.Moves.{Grown, Recorded, all_noted}
+use Rattle.patterns_runs.proofs.of_rewriter_bench.Told.{heard_none, heard_more}
+use Rattle.patterns_runs.specs.Benched.{Benched, Journaled}
+use Rattle.patterns_runs.specs.Contents.{Edit, all_edited}
+use Rattle.patterns_runs.specs.Held.{Held, module_held}
+use Rattle.patterns_runs.specs.Runs.{Along}
+use Rattle.patterns_runs.specs.Lists.{IsWhy}
+use Rattle.patterns_runs.proofs.Free.{free_wants}
+use Rattle.patterns_runs.proofs.Journals.{recorded_none}
 use Rattle.patterns_base.specs.Makes.{made_by}
 use Rattle.patterns_base.specs.Rewrites.{becomes, refused, carried_out}
-use Rattle.patterns_makes.specs.Interned.{Added, IsNoRoom}
-use Rattle.patterns_makes.specs.Making.{plan_makes}
-use Rattle.patterns_makes.proofs.Counted.{plan_made}
+use Rattle.patterns_runs.specs.Interning.{Added, IsNoRoom}
+use Rattle.patterns.specs.Making.{made_makes}
+use Rattle.patterns.proofs.Counted.{made_counted}
 use Rattle.patterns.specs.Applied.{Applied, limit_reason}
-use Rattle.patterns.specs.Planned.{IsStopped, planned_edits}
+use Rattle.patterns.specs.Planned.{IsFree, IsStopped, MadeIsOf, planned_edits}
 use Rattle.patterns.specs.declared.plan.Planned.{Planned}
 
 -- ---- limits
@@ -98,33 +100,39 @@ module _ {B : Type 0} (meaning : B → Listener) where
 
 -- ---- a plan at operation x, where a world shows what a bench holds
 
-module _ (w : World) (h : Held) (ctx : w.ctx ≡ h.ctx) (store : w.store ≡ h.store) (x : ℕ) (p : Planned) where
+module _ (w : World) (h : Held) (ctx : w.ctx ≡ h.ctx) (store : w.store ≡ h.store) (x : ℕ) (p : Planned) (of : MadeIsOf h.ctx p.made) where
   same_module : module_in w ≡ module_held h
   same_module i = module_meaning (ctx i) (store i).module_of
 
   abbrev es : List Edit
   es = planned_edits h.ctx (module_held h).next x p
 
-  makes : made_by es ≡ plan_makes p.plan
-  makes = plan_made h.ctx (module_held h).next x p.front p.plan
+  makes : made_by es ≡ made_makes p.made
+  makes = made_counted h.ctx (module_held h).next x p.front p.made of
 
-  pub was_limited : (k : ℕ) (r : Refusal) (reason : Option Refusal) → k ≡ plan_makes p.plan → reason ≡ limit_reason k (module_in w) → reason ≡ Some r → IsStopped es (module_held h) h.ctx r
+  pub was_limited : (k : ℕ) (r : Refusal) (reason : Option Refusal) → k ≡ made_makes p.made → reason ≡ limit_reason k (module_in w) → reason ≡ Some r → IsStopped es (module_held h) h.ctx r
   was_limited k r reason count is due = inr (inl (limited es (module_held h) k r (makes ∙ sym count) (ap (limit_reason k) (sym same_module) ∙ sym is ∙ due)))
 
-  module _ (k : ℕ) (reason : Option Refusal) (count : k ≡ plan_makes p.plan) (is : reason ≡ limit_reason k (module_in w)) (none : reason ≡ None) (n : ℕ) (next : n ≡ w.store.module_of.next) where
+  module _ (k : ℕ) (reason : Option Refusal) (count : k ≡ made_makes p.made) (is : reason ≡ limit_reason k (module_in w)) (none : reason ≡ None) (n : ℕ) (next : n ≡ w.store.module_of.next) where
     no_reason : limit_reason k (module_held h) ≡ None
     no_reason = ap (limit_reason k) (sym same_module) ∙ sym is ∙ none
 
     same_next : (module_held h).next ≡ n
     same_next = ap (λ (m : Module). m.next) (sym same_module) ∙ sym next
 
-    pub has_ids : n + plan_makes p.plan ≤ most_next
+    pub has_ids : n + made_makes p.made ≤ most_next
     has_ids = subst (λ (z : ℕ × ℕ). z.0 + z.1 ≤ most_next) (λ i. (same_next i, count i)) (ids_left (module_held h) k no_reason)
 
     pub was_carried : (g after : Held) (made : List Edit) → module_held g ≡ module_held h → made ≡ planned_edits h.ctx n x p → module_held after ≡ all_edited made (module_held g) → carried_out es (module_held h) ≡ becomes (module_held after)
     was_carried g after made same due e =
         unlimited es (module_held h) k (makes ∙ sym count) no_reason
         ∙ ap becomes (sym (e ∙ λ i. all_edited ((due ∙ ap (λ j. planned_edits h.ctx j x p) (sym same_next)) i) (same i)))
+
+    -- they are refused for want of memory alone
+    pub wanting : IsFree es (module_held h) → (g : Held) (made : List Edit) (e : Refusal) → module_held g ≡ module_held h → made ≡ planned_edits h.ctx n x p → IsWhy made (module_held g) e → e ≡ Memory
+    wanting free g made e same due why =
+        free_wants es (module_held h) e (free (all_edited es (module_held h)) (unlimited es (module_held h) k (makes ∙ sym count) no_reason))
+        (subst (λ (z : List Edit × Module). IsWhy z.0 z.1 e) (λ i. ((due ∙ ap (λ j. planned_edits h.ctx j x p) (sym same_next)) i, same i)) why)
 
 pub no_room : (edits : List Edit) (m : Module) (c : Things) (e : Refusal) → IsNoRoom c e → IsStopped edits m c e
 no_room edits m c e (inl h) = inl h

@@ -1,22 +1,23 @@
 -- The first of some rules that applies.
-use Rattle.std.proofs.Common.{◌≡◌, refl, ap, sym, ◌∙◌, ℕ, ◌+◌, ◌≤◌, ◌<◌, List, [], ◌∷◌, Bool, true, false, Some, None, arith, le-leb}
+use Rattle.std.proofs.Common.{◌≡◌, refl, ap, sym, ◌∙◌, ℕ, ◌+◌, List, [], ◌∷◌, Bool, true, false, Some, None}
 use Rattle.std.specs.Prelude.{nat_le, if◌then◌else◌}
-use Rattle.std.proofs.lemmas.Bool.{leb-true}
 use Rattle.ir_tree.specs.Ids.{op_count}
 use Rattle.ir_tree.specs.Limits.{most_ops, most_next}
 use Rattle.ir_event.specs.Modules.{Module}
 use Rattle.ir_types.specs.declared.refusal.Refusal.TheVariants.{Full, IdsExhausted}
-use Rattle.patterns_makes.specs.runs.Contents.{Edit, all_edited}
+use Rattle.patterns_runs.specs.Contents.{Edit, all_edited}
 use Rattle.patterns_base.specs.Canonicalization.{first_rule, or_else, greedy_rules, lowest}
 use Rattle.patterns_base.specs.Makes.{made_by}
 use Rattle.patterns_base.specs.Rewrites.{Rewrite, none, refused, becomes, edits_of, rewrite_of, rewrite_by, carried_out}
+use Rattle.patterns_base.specs.RuleNames.{is_canonical}
+use Rattle.patterns_base.specs.declared.rule.Rule.{Rule}
 use Rattle.patterns.specs.Lowest.{greedy}
 
-rewrite_is : (r : ℕ) (m : Module) (x : ℕ) → rewrite_of r m x ≡ rewrite_by (edits_of r m x) m
+rewrite_is : (r : Rule) (m : Module) (x : ℕ) → rewrite_of r m x ≡ rewrite_by (edits_of r m x) m
 unfolding rewrite_of
 rewrite_is r m x = refl
 
-first_more : (r : ℕ) (rs : List ℕ) (m : Module) (x : ℕ) → first_rule (r ∷ rs) m x ≡ or_else (rewrite_of r m x) (first_rule rs m x)
+first_more : (r : Rule) (rs : List Rule) (m : Module) (x : ℕ) → first_rule (r ∷ rs) m x ≡ or_else (rewrite_of r m x) (first_rule rs m x)
 unfolding first_rule
 first_more r rs m x = refl
 
@@ -32,36 +33,29 @@ kept es m w = go (nat_le (op_count m.tree + made_by es) most_ops) (nat_le (m.nex
     go true false = refl
     go false b = refl
 
-not_le : (a b : ℕ) → b < a → nat_le a b ≡ false
-not_le a b h = go (nat_le a b) refl
-  where
-    go : (c : Bool) → nat_le a b ≡ c → nat_le a b ≡ false
-    go true e = (let n = leb-true a b e in absurd (omega (arith, h, n)))
-    go false e = e
-
-filtered : (r : ℕ) (rs : List ℕ) (b : Bool) → nat_le r 24 ≡ b → greedy (r ∷ rs) ≡ (if b then r ∷ greedy rs else greedy rs)
+filtered : (r : Rule) (rs : List Rule) (b : Bool) → is_canonical r ≡ b → greedy (r ∷ rs) ≡ (if b then r ∷ greedy rs else greedy rs)
 filtered r rs b e = ap (λ b. if b then r ∷ greedy rs else greedy rs) e
 
-pub past : (r : ℕ) (m : Module) (x : ℕ) → 24 < r → (rs : List ℕ) → first_rule (greedy (r ∷ rs)) m x ≡ first_rule (greedy rs) m x
-past r m x l rs = ap (λ z. first_rule z m x) (filtered r rs false (not_le r 24 l))
+pub past : (r : Rule) (m : Module) (x : ℕ) → is_canonical r ≡ false → (rs : List Rule) → first_rule (greedy (r ∷ rs)) m x ≡ first_rule (greedy rs) m x
+past r m x untried rs = ap (λ z. first_rule z m x) (filtered r rs false untried)
 
-pub left_out : (r : ℕ) (m : Module) (x : ℕ) → r ≤ 24 → None ≡ edits_of r m x → (rs : List ℕ) → first_rule (greedy (r ∷ rs)) m x ≡ first_rule (greedy rs) m x
-left_out r m x l e rs =
-    ap (λ z. first_rule z m x) (filtered r rs true (le-leb r 24 l)) ∙ first_more r (greedy rs) m x
+pub left_out : (r : Rule) (m : Module) (x : ℕ) → is_canonical r ≡ true → None ≡ edits_of r m x → (rs : List Rule) → first_rule (greedy (r ∷ rs)) m x ≡ first_rule (greedy rs) m x
+left_out r m x is e rs =
+    ap (λ z. first_rule z m x) (filtered r rs true is) ∙ first_more r (greedy rs) m x
     ∙ ap (λ w. or_else w (first_rule (greedy rs) m x)) (rewrite_is r m x ∙ ap (λ p. rewrite_by p m) (sym e))
 
-pub taken : (r : ℕ) (m : Module) (x : ℕ) (es : List Edit) → r ≤ 24 → Some es ≡ edits_of r m x → (rs : List ℕ) → first_rule (greedy (r ∷ rs)) m x ≡ rewrite_of r m x
-taken r m x es l e rs =
+pub taken : (r : Rule) (m : Module) (x : ℕ) (es : List Edit) → is_canonical r ≡ true → Some es ≡ edits_of r m x → (rs : List Rule) → first_rule (greedy (r ∷ rs)) m x ≡ rewrite_of r m x
+taken r m x es tries e rs =
     let is : rewrite_of r m x ≡ carried_out es m = rewrite_is r m x ∙ ap (λ p. rewrite_by p m) (sym e) in
-    ap (λ z. first_rule z m x) (filtered r rs true (le-leb r 24 l)) ∙ first_more r (greedy rs) m x
+    ap (λ z. first_rule z m x) (filtered r rs true tries) ∙ first_more r (greedy rs) m x
     ∙ ap (λ w. or_else w (first_rule (greedy rs) m x)) is ∙ kept es m (first_rule (greedy rs) m x) ∙ sym is
 
 -- where none applies at all
-none_of : (rs : List ℕ) (m : Module) (x : ℕ) → ((r : ℕ) → None ≡ edits_of r m x) → first_rule rs m x ≡ none
+none_of : (rs : List Rule) (m : Module) (x : ℕ) → ((r : Rule) → None ≡ edits_of r m x) → first_rule rs m x ≡ none
 none_of [] m x h = first_none m x
 none_of (r ∷ rs) m x h = first_more r rs m x ∙ ap (λ w. or_else w (first_rule rs m x)) (rewrite_is r m x ∙ ap (λ p. rewrite_by p m) (sym (h r))) ∙ none_of rs m x h
 
-pub none_lowest : (m : Module) (x : ℕ) → ((r : ℕ) → None ≡ edits_of r m x) → lowest m x ≡ none
+pub none_lowest : (m : Module) (x : ℕ) → ((r : Rule) → None ≡ edits_of r m x) → lowest m x ≡ none
 none_lowest m x h = none_of greedy_rules m x h
 
 pub none_first : (m : Module) (x : ℕ) → first_rule (greedy []) m x ≡ none

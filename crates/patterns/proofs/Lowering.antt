@@ -1,38 +1,39 @@
 -- What comes of the lowest rule that applies.
-use Rattle.std.proofs.Common.{◌≡◌, refl, ap, sym, ◌∙◌, subst, ℕ, ◌≤◌, ◌<◌, List, false, Option, Some, None, Result, Ok, Err, option_map}
+use Rattle.std.proofs.Common.{◌≡◌, refl, ap, sym, ◌∙◌, subst, ℕ, List, true, false, Option, Some, None, Result, Ok, Err, option_map}
 use Rattle.std.specs.Prelude.{IfOk, IfSome}
 use Rattle.ir_tree.specs.declared.place.Place.{Place}
 use Rattle.ir_tree.specs.Tree.{head}
 use Rattle.ir_event.specs.Modules.{Module, module_in}
 use Rattle.ir_event.specs.declared.world.World.{World}
-use Rattle.patterns_makes.specs.runs.Held.{Held, module_held}
+use Rattle.patterns_runs.specs.Held.{Held, module_held}
 use Rattle.patterns_plans.specs.Planned.{IsPlanAt}
-use Rattle.patterns_plans.specs.Reads.{head_at}
+use Rattle.patterns_reads.specs.Reads.{head_at}
 use Rattle.patterns_base.specs.Looks.{Header}
+use Rattle.patterns_base.specs.RuleNames.{is_canonical}
 use Rattle.patterns_base.specs.Rules.{rules_for}
+use Rattle.patterns_base.specs.declared.rule.Rule.{Rule}
 use Rattle.patterns_base.specs.Canonicalization.{TableSuffices, first_rule, lowest}
 use Rattle.patterns_base.specs.Rewrites.{none, edits_of, rewrite_of, carried_out}
-use Rattle.patterns_makes.specs.Plan.{Plan}
-use Rattle.patterns_makes.specs.Plans.{PlanIsOf, plan_meaning}
 use Rattle.patterns.specs.Applied.{Gave}
 use Rattle.patterns.specs.Lowest.{IsFirst, IsLeftOut, IsLowest, TriedFirst, greedy}
-use Rattle.patterns.specs.Planned.{planned_edits}
+use Rattle.patterns.specs.Planned.{MadeIsOf, made_edits, planned_edits}
+use Rattle.patterns.specs.declared.plan.Made.{Made}
 use Rattle.patterns.specs.declared.lowest.Found.{Found}
 use Rattle.patterns.proofs.Applying.{rewrite_due, same_module}
 use Rattle.patterns.proofs.Firsts.{left_out, past, taken}
 use Rattle.patterns.proofs.Planned.{found, none_rule}
 
-module _ (w : World) (x : ℕ) (front : Place) (r : ℕ) (low : r ≤ 24) where
-  tried : (p : Option Plan) → option_map (plan_meaning w.ctx (module_in w).next x front) p ≡ edits_of r (module_in w) x → IfSome p (PlanIsOf w.ctx) → TriedFirst r w x front p
-  tried None e of = left_out r (module_in w) x low e
-  tried (Some p) e of = (record { edits = e; of = of }, taken r (module_in w) x (plan_meaning w.ctx (module_in w).next x front p) low e)
+module _ (w : World) (x : ℕ) (front : Place) (r : Rule) (tries : is_canonical r ≡ true) where
+  tried : (p : Option Made) → option_map (made_edits w.ctx (module_in w).next x front) p ≡ edits_of r (module_in w) x → IfSome p (MadeIsOf w.ctx) → TriedFirst r w x front p
+  tried None e of = left_out r (module_in w) x tries e
+  tried (Some p) e of = (record { edits = e; of = of }, taken r (module_in w) x (made_edits w.ctx (module_in w).next x front p) tries e)
 
-  pub tried_ok : {E : Type 0} (result : Result (Option Plan) E) → IfOk result (λ p. option_map (plan_meaning w.ctx (module_in w).next x front) p ≡ edits_of r (module_in w) x) → IfOk result (λ p. IfSome p (PlanIsOf w.ctx)) → IfOk result (TriedFirst r w x front)
+  pub tried_ok : {E : Type 0} (result : Result (Option Made) E) → IfOk result (λ p. option_map (made_edits w.ctx (module_in w).next x front) p ≡ edits_of r (module_in w) x) → IfOk result (λ p. IfSome p (MadeIsOf w.ctx)) → IfOk result (TriedFirst r w x front)
   tried_ok (Ok p) e of = tried p e of
   tried_ok (Err f) e of = tt
 
 -- the row of an operation's name
-module _ (table : TableSuffices) (m : Module) (x : ℕ) (h : Header) (shown : Some h ≡ head_at x m.tree) (rules : List ℕ) (row : rules ≡ rules_for h.name) where
+module _ (table : TableSuffices) (m : Module) (x : ℕ) (h : Header) (shown : Some h ≡ head_at x m.tree) (rules : List Rule) (row : rules ≡ rules_for h.name) where
   name_is : rules ≡ rules_for (head (found x m.tree h shown).here).name
   name_is = row ∙ ap (λ (k : Header). rules_for k.name) (found x m.tree h shown).same
 
@@ -40,11 +41,11 @@ module _ (table : TableSuffices) (m : Module) (x : ℕ) (h : Header) (shown : So
   row_suffices = table m x (found x m.tree h shown).here (found x m.tree h shown).is ∙ ap (λ rs. first_rule (greedy rs) m x) (sym name_is)
 
 -- the first that applies of those that suffice is the lowest
-module _ (w : World) (x : ℕ) (front : Place) (rules : List ℕ) (suffices : lowest (module_in w) x ≡ first_rule (greedy rules) (module_in w) x) where
-  pub none_first_lowest : (f : Option (ℕ × Plan)) → IsFirst rules w x front f → f ≡ None → IsLowest w x None
+module _ (w : World) (x : ℕ) (front : Place) (rules : List Rule) (suffices : lowest (module_in w) x ≡ first_rule (greedy rules) (module_in w) x) where
+  pub none_first_lowest : (f : Option (Rule × Made)) → IsFirst rules w x front f → f ≡ None → IsLowest w x None
   none_first_lowest f is e = suffices ∙ subst (IsFirst rules w x front) e is
 
-  pub first_lowest : (f : Option (ℕ × Plan)) (r : ℕ) (p : Plan) → IsFirst rules w x front f → f ≡ Some (r, p) → IsLowest w x (Some (record { rule = r; planned = record { front = front; plan = p } }))
+  pub first_lowest : (f : Option (Rule × Made)) (r : Rule) (p : Made) → IsFirst rules w x front f → f ≡ Some (r, p) → IsLowest w x (Some (record { rule = r; planned = record { front = front; made = p } }))
   first_lowest f r p is e = (let first = subst (IsFirst rules w x front) e is in (first.0, suffices ∙ first.1))
 
 -- what a bench's world shows, and what the bench holds
@@ -53,8 +54,8 @@ module _ (w : World) (b : Held) (ctx : w.ctx ≡ b.ctx) (store : w.store ≡ b.s
   none_held e = subst (λ a. Gave a false (module_held b) (module_held b)) (sym (ap (λ m. lowest m x) (sym (same_module w b ctx store x)) ∙ e)) (refl, refl)
 
   module _ (f : Found) (is : IsLowest w x (Some f)) where
-    pub fits_held : PlanIsOf b.ctx f.planned.plan
-    fits_held = subst (λ c. PlanIsOf c f.planned.plan) ctx is.0.of
+    pub fits_held : MadeIsOf b.ctx f.planned.made
+    fits_held = subst (λ c. MadeIsOf c f.planned.made) ctx is.0.of
 
     pub rule_held : lowest (module_held b) x ≡ rewrite_of f.rule (module_held b) x
     rule_held = subst (λ m. lowest m x ≡ rewrite_of f.rule m x) (same_module w b ctx store x) is.1
@@ -63,8 +64,8 @@ module _ (w : World) (b : Held) (ctx : w.ctx ≡ b.ctx) (store : w.store ≡ b.s
     lowest_due = rule_held ∙ rewrite_due w b ctx store x (λ c n q. planned_edits c n x q) f.rule (Some f.planned) is.0.edits f.planned refl
 
 -- rules that may be left out
-pub never : (w : World) (x r : ℕ) → r ≤ 24 → IsPlanAt r w x None → IsLeftOut r w x
-never w x r low is = left_out r (module_in w) x low (none_rule r (module_in w) x is)
+pub never : (w : World) (x : ℕ) (r : Rule) → is_canonical r ≡ true → IsPlanAt r w x None → IsLeftOut r w x
+never w x r tries is = left_out r (module_in w) x tries (none_rule r (module_in w) x is)
 
-pub high : (w : World) (x r : ℕ) → 24 < r → IsLeftOut r w x
-high w x r above = past r (module_in w) x above
+pub untried : (w : World) (x : ℕ) (r : Rule) → is_canonical r ≡ false → IsLeftOut r w x
+untried w x r out = past r (module_in w) x out

@@ -6,25 +6,26 @@ use Rattle.ir_tree.specs.Ids.{find}
 use Rattle.ir_tree.specs.Meaning.{Operation}
 use Rattle.ir_tree_laws.proofs.Members.{found_stands}
 use Rattle.ir_event.specs.Modules.{Module}
-use Rattle.patterns_makes.specs.runs.Contents.{Edit}
-use Rattle.patterns_plans.specs.Keeps.{given}
+use Rattle.patterns_runs.specs.Contents.{Edit}
+use Rattle.patterns_base.specs.Keeps.{given}
 use Rattle.patterns_base.specs.Looks.{Header, when, is_clean, front_of}
 use Rattle.patterns_base.specs.Rules.{rule}
+use Rattle.patterns_base.specs.declared.rule.Rule.{Rule}
 use Rattle.patterns_base.specs.Rewrites.{edits_of}
-use Rattle.patterns_plans.specs.Reads.{head_at}
+use Rattle.patterns_reads.specs.Reads.{head_at}
 
-edits_are : (r : ℕ) (m : Module) (x : ℕ) → edits_of r m x ≡ given (find x m.tree) (λ o. given (front_of x m.tree) (λ front. when (is_clean m.tree (head o)) (rule r m.tree m.next front o)))
+edits_are : (r : Rule) (m : Module) (x : ℕ) → edits_of r m x ≡ given (find x m.tree) (λ o. given (front_of x m.tree) (λ front. when (is_clean m.tree (head o)) (rule r m.tree m.next front o)))
 unfolding edits_of
 edits_are r m x = refl
 
-pub none_there : (r : ℕ) (m : Module) (x : ℕ) → None ≡ head_at x m.tree → None ≡ edits_of r m x
+pub none_there : (r : Rule) (m : Module) (x : ℕ) → None ≡ head_at x m.tree → None ≡ edits_of r m x
 none_there r m x e = go (find x m.tree) e ∙ sym (edits_are r m x)
   where
     go : (o : Option Operation) → None ≡ option_map (λ o. head o) o → None ≡ given o (λ o. given (front_of x m.tree) (λ front. when (is_clean m.tree (head o)) (rule r m.tree m.next front o)))
     go None e = refl
     go (Some o) e = absurd cc
 
-pub none_front : (r : ℕ) (m : Module) (x : ℕ) → None ≡ front_of x m.tree → None ≡ edits_of r m x
+pub none_front : (r : Rule) (m : Module) (x : ℕ) → None ≡ front_of x m.tree → None ≡ edits_of r m x
 none_front r m x e = go (find x m.tree) ∙ sym (edits_are r m x)
   where
     go : (o : Option Operation) → None ≡ given o (λ o. given (front_of x m.tree) (λ front. when (is_clean m.tree (head o)) (rule r m.tree m.next front o)))
@@ -48,7 +49,7 @@ found x t h e = go (find x t) refl e
         let id : x ≡ (head o).id = sym w.2 ∙ ap (λ (z : Operation). (head z).id) w.3 in
         record { here = o; is = f; same = λ i. record (one i) { id = id i } }
 
-pub none_clean : (r : ℕ) (m : Module) (x : ℕ) (h : Header) (b : Bool) → Some h ≡ head_at x m.tree → b ≡ is_clean m.tree (record h { id = x }) → b ≡ false → None ≡ edits_of r m x
+pub none_clean : (r : Rule) (m : Module) (x : ℕ) (h : Header) (b : Bool) → Some h ≡ head_at x m.tree → b ≡ is_clean m.tree (record h { id = x }) → b ≡ false → None ≡ edits_of r m x
 none_clean r m x h b e c n =
     let w = found x m.tree h e in
     go w.here (ap (is_clean m.tree) (sym w.same) ∙ sym c ∙ n) (front_of x m.tree) ∙ sym (edits_are r m x ∙ ap (λ o. given o (λ o. given (front_of x m.tree) (λ front. when (is_clean m.tree (head o)) (rule r m.tree m.next front o)))) w.is)
@@ -57,7 +58,7 @@ none_clean r m x h b e c n =
     go o e None = refl
     go o e (Some front) = sym (ap (λ c. when c (rule r m.tree m.next front o)) e)
 
-pub none_rule : (r : ℕ) (m : Module) (x : ℕ) → ((o : Operation) → find x m.tree ≡ Some o → (n : ℕ) (front : Place) → None ≡ rule r m.tree n front o) → None ≡ edits_of r m x
+pub none_rule : (r : Rule) (m : Module) (x : ℕ) → ((o : Operation) → find x m.tree ≡ Some o → (n : ℕ) (front : Place) → None ≡ rule r m.tree n front o) → None ≡ edits_of r m x
 none_rule r m x is = go (find x m.tree) refl ∙ sym (edits_are r m x)
   where
     none_when : (b : Bool) (p : Option (List Edit)) → None ≡ p → None ≡ when b p
@@ -72,7 +73,7 @@ none_rule r m x is = go (find x m.tree) refl ∙ sym (edits_are r m x)
     go None e = refl
     go (Some o) e = none_in o e (front_of x m.tree)
 
-pub by_rule : (r : ℕ) (m : Module) (x : ℕ) (h : Header) (f : Place) (p : Option (List Edit)) → Some h ≡ head_at x m.tree → Some f ≡ front_of x m.tree → is_clean m.tree (record h { id = x }) ≡ true
+pub by_rule : (r : Rule) (m : Module) (x : ℕ) (h : Header) (f : Place) (p : Option (List Edit)) → Some h ≡ head_at x m.tree → Some f ≡ front_of x m.tree → is_clean m.tree (record h { id = x }) ≡ true
     → ((o : Operation) → find x m.tree ≡ Some o → p ≡ rule r m.tree m.next f o) → p ≡ edits_of r m x
 by_rule r m x h f p e g y is =
     let w = found x m.tree h e in

@@ -1,5 +1,5 @@
 -- What applying a rule makes of a module.
-use Rattle.std.specs.Prelude.{◌≡◌, ◌≢◌, ◌⊎◌, ℕ, ◌+◌, ◌≤◌, nat_le, Bool, true, false, Option, None}
+use Rattle.std.specs.Prelude.{◌≡◌, ◌≢◌, ◌⊎◌, ℕ, ◌+◌, nat_le, Bool, true, false, Option, None}
 use Rattle.ir_types.specs.Things.{Things, Grows}
 use Rattle.ir_types.specs.declared.refusal.Refusal.{Refusal}
 use Rattle.ir_types.specs.declared.refusal.Refusal.TheVariants.{Full, IdsExhausted, Memory, NoSuchOp}
@@ -9,13 +9,9 @@ use Rattle.ir_tree_laws.specs.Reasons.{unless}
 use Rattle.ir_event.specs.Listener.{Listener}
 use Rattle.ir_event.specs.Modules.{Module}
 use Rattle.patterns_base.specs.Rewrites.{Rewrite, none, refused, becomes}
-use Rattle.patterns_makes.specs.Interned.{IsFull}
-use Rattle.patterns_makes.specs.runs.Benched.{Benched, Led}
-use Rattle.patterns_makes.specs.runs.Held.{open_marks}
-
--- the rules that are applied by their numbers: all but those that conversion alone tries
-abbrev pub IsWritten : ℕ → Type 0
-IsWritten r = (1 ≤ r) × (r ≤ 27)
+use Rattle.patterns_runs.specs.Interning.{IsFull}
+use Rattle.patterns_runs.specs.Benched.{Benched, Led}
+use Rattle.patterns_runs.specs.Held.{open_marks}
 
 -- why a module can't have k operations more, if it can't: there would be too many, or ids wouldn't be enough
 abbrev pub limit_reason : ℕ → Module → Option Refusal

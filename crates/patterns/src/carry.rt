@@ -1,39 +1,38 @@
-//! A plan, carried out.
+//! What a rule makes, carried out.
 ghost use Rattle.ir_event.specs.Modules.{module_meaning};
-ghost use Rattle.patterns_makes.specs.runs.Benched.{Keeps};
-ghost use Rattle.patterns_makes.specs.runs.Held.{module_held};
-ghost use Rattle.patterns_makes.specs.Plans.{PlanIsOf};
+ghost use Rattle.patterns_runs.specs.Benched.{Keeps};
+ghost use Rattle.patterns_runs.specs.Held.{module_held};
 ghost use Rattle.patterns.specs.Applied.{Applied};
-ghost use Rattle.patterns.specs.Planned.{WereCarried, planned_edits};
+ghost use Rattle.patterns.specs.Planned.{MadeIsOf, WereCarried, planned_edits};
 
+use crate::count::made_makes;
 use crate::limits::limit_reason;
+use crate::make::edits_for;
 use crate::plan::Planned;
+use crate::site::Site;
 use ir_event::analysis::Analysis;
 use ir_types::ids::OpId;
 use ir_types::refusal::Refusal;
-use patterns_makes::Bench;
-use patterns_makes::carry::carry_whole;
-use patterns_makes::count::plan_makes;
-use patterns_makes::make::edits_for;
-use patterns_makes::site::Site;
+use patterns_runs::Bench;
+use patterns_runs::carry::carry_whole;
 use std::alloc::Global;
 
-/// Carries out a plan at an operation, or leaves the module, its marks and the journal as they were.
+/// Carries out what a rule makes of an operation, or leaves the module, its marks and the journal as they were.
 ///
 /// Refusals, in order: `Full`; `IdsExhausted`; `Full` where the context is full; and `Memory`.
-pub fn carry_plan<L: Analysis>(
+pub(crate) fn carry_plan<L: Analysis>(
     alloc: Global,
     bench: &mut Bench<L>,
     op: OpId,
     planned: Planned,
 ) -> Result<(), Refusal>
-    requires { PlanIsOf bench.old.desk.ctx planned.plan }
+    requires { MadeIsOf bench.old.desk.ctx planned.made }
     ensures carried { WereCarried (planned_edits bench.old.desk.ctx (module_held bench.old.desk).next op planned) result (module_held bench.old.desk) (module_held bench.new.desk) bench.new.desk.ctx }
     ensures stays { Applied L.meaning bench.old bench.new }
     ensures journal { Keeps L.meaning result bench.old bench.new }
 {
     let world = bench.world();
-    if let Some(refusal) = limit_reason(world, plan_makes(&planned.plan)) {
+    if let Some(refusal) = limit_reason(world, made_makes(&planned.made)) {
         return Err(refusal);
     }
     let site = Site {
@@ -41,7 +40,7 @@ pub fn carry_plan<L: Analysis>(
         next: OpId::new(world.store.next_id()),
         op,
     };
-    let edits = match edits_for(alloc, bench, &site, planned.plan) {
+    let edits = match edits_for(alloc, bench, &site, planned.made) {
         Ok(edits) => edits,
         Err(refusal) => return Err(refusal),
     };

@@ -1,9 +1,20 @@
 //! The rules, at an operation of a bench's module: the plan of one of them, carried out, or the lowest that applies.
 #![tactic(auto)]
 
-pub mod carry;
+pub mod apply;
+mod carry;
+mod count;
+mod edits;
+mod interned;
 pub mod laws;
 mod likely;
 pub mod limits;
 pub mod lowest;
-pub mod plan;
+mod make;
+mod operations;
+mod plan;
+mod plans;
+mod site;
+
+pub use patterns_base::rule;
+pub use patterns_runs as runs;

@@ -1,18 +1,20 @@
 //! The lowest rule that applies at an operation.
-ghost use Rattle.std.specs.Prelude.{◌≡◌, ◌≤◌, true, is_some, IfOk, IfErr, IfSome, OnErr, Some};
+ghost use Rattle.std.specs.Prelude.{◌≡◌, false, true, is_some, Err, IfOk, IfErr, IfSome, OnErr, Some};
+ghost use Rattle.ir_types.specs.declared.refusal.Refusal.TheVariants.{NoSuchOp};
+ghost use Rattle.ir_tree.specs.Ids.{has_id};
 ghost use Rattle.ir_event.specs.Modules.{NodeIsOf, module_in};
 ghost use Rattle.patterns_base.specs.Canonicalization.{lowest as lowest_of};
 ghost use Rattle.patterns_base.specs.Looks.{front_of, is_clean as clean_at};
 ghost use Rattle.patterns_base.specs.Rewrites.{rewrite_of};
-ghost use Rattle.patterns_plans.specs.Reads.{head_at, head_in};
-ghost use Rattle.patterns_makes.specs.runs.Benched.{Keeps};
-ghost use Rattle.patterns_makes.specs.runs.Held.{module_held};
-ghost use Rattle.patterns.specs.Applied.{Applied, Gave, IsReason, IsWritten};
-ghost use Rattle.patterns.specs.Lowest.{AreWritten, IsFirst, IsLowest, TriedFirst};
+ghost use Rattle.patterns_reads.specs.Reads.{head_at, head_in};
+ghost use Rattle.patterns_runs.specs.Benched.{Keeps};
+ghost use Rattle.patterns_runs.specs.Held.{module_held};
+ghost use Rattle.patterns.specs.Applied.{Applied, Gave, IsReason};
+ghost use Rattle.patterns.specs.Lowest.{IsFirst, IsLowest, TriedFirst};
 
 use crate::carry::carry_plan;
 use crate::likely::{is_likely, likely};
-use crate::plan::{Planned, plan_at};
+use crate::plan::{Made, Planned, made_at};
 use ir_event::analysis::Analysis;
 use ir_event::world::World;
 use ir_store::node::Node;
@@ -20,30 +22,29 @@ use ir_tree::place::Place;
 use ir_types::ids::OpId;
 use ir_types::refusal::Refusal;
 use patterns_base::laws::only_listed_rules_apply;
+use patterns_base::rule::Rule;
 use patterns_base::table::rules_of;
-use patterns_makes::Bench;
-use patterns_makes::plan::Plan;
-use patterns_plans::clean::is_clean;
-use patterns_plans::look::{front, shown};
+use patterns_reads::clean::is_clean;
+use patterns_reads::look::{front, shown};
+use patterns_runs::Bench;
 use std::alloc::{AllocError, Global};
 
 /// A rule that applies, with what it makes.
 #[derive(Drop)]
 pub struct Found {
-    pub rule: u8,
+    pub rule: Rule,
     pub planned: Planned,
 }
 
-/// The plan of a rule that canonicalization tries, at a clean operation, of which this is shown, behind its place.
+/// What a rule makes that canonicalization tries, at a clean operation, of which this is shown, behind its place.
 fn try_rule(
     alloc: Global,
     world: &World,
-    rule: u8,
+    rule: Rule,
     front: &Place,
     op: OpId,
     node: &Node<'_>,
-) -> Result<Option<Plan>, AllocError>
-    requires written { rule ≤ 24 → IsWritten rule }
+) -> Result<Option<Made>, AllocError>
     requires shown { Some (head_in world.now.ctx node.now) ≡ head_at op (module_in world.now).tree }
     requires of { NodeIsOf world.now.ctx node.now }
     requires front { Some front.now ≡ front_of op (module_in world.now).tree }
@@ -53,19 +54,18 @@ fn try_rule(
     if !is_likely(world, rule, op, node) {
         return Ok(None);
     }
-    plan_at(alloc, world, rule, front, op, node)
+    made_at(alloc, world, rule, front, op, node)
 }
 
 /// The first of some rules that applies at a clean operation, of which this is shown, behind its place.
-fn first_plan(
+fn first_made(
     alloc: Global,
     world: &World,
-    rules: &[u8],
+    rules: &[Rule],
     front: &Place,
     op: OpId,
     node: &Node<'_>,
-) -> Result<Option<(u8, Plan)>, AllocError>
-    requires written { AreWritten rules.now }
+) -> Result<Option<(Rule, Made)>, AllocError>
     requires shown { Some (head_in world.now.ctx node.now) ≡ head_at op (module_in world.now).tree }
     requires of { NodeIsOf world.now.ctx node.now }
     requires front { Some front.now ≡ front_of op (module_in world.now).tree }
@@ -74,8 +74,8 @@ fn first_plan(
 {
     let mut rest = rules;
     'rules: while let [rule, tail @ ..] = rest {
-        if let Some(plan) = try_rule(alloc, world, *rule, front, op, node)? {
-            return Ok(Some((*rule, plan)));
+        if let Some(made) = try_rule(alloc, world, *rule, front, op, node)? {
+            return Ok(Some((*rule, made)));
         }
         rest = tail;
     }
@@ -101,17 +101,17 @@ fn find_lowest(alloc: Global, world: &World, op: OpId) -> Result<Option<Found>, 
     if !is_clean(alloc, world, op, &node)? {
         return Ok(None);
     }
-    match first_plan(alloc, world, rules, &front, op, &node)? {
-        Some((rule, plan)) => Ok(Some(Found {
+    match first_made(alloc, world, rules, &front, op, &node)? {
+        Some((rule, made)) => Ok(Some(Found {
             rule,
-            planned: Planned { front, plan },
+            planned: Planned { front, made },
         })),
         None => Ok(None),
     }
 }
 
-/// Applies the lowest of the rules 1 to 24 that applies at an operation, or leaves the module, its marks and the journal
-/// as they were. The answer is that rule.
+/// Applies the lowest rule of canonicalization that applies at an operation, or leaves the module, its marks and the
+/// journal as they were. The answer is that rule.
 ///
 /// Refusals, in order: `NoSuchOp` where the operation isn't in the module; `Full`; `IdsExhausted`; `Full` where the context
 /// is full; and `Memory`.
@@ -119,7 +119,8 @@ pub fn lowest<L: Analysis>(
     alloc: Global,
     bench: &mut Bench<L>,
     op: OpId,
-) -> Result<Option<u8>, Refusal>
+) -> Result<Option<Rule>, Refusal>
+    ensures there { has_id op (module_held bench.old.desk).tree ≡ false → result ≡ Err NoSuchOp }
     ensures ok { IfOk result (λ r. Gave (lowest_of (module_held bench.old.desk) op) (is_some r) (module_held bench.old.desk) (module_held bench.new.desk)) }
     ensures rule { IfOk result (λ r. IfSome r (λ r. lowest_of (module_held bench.old.desk) op ≡ rewrite_of r (module_held bench.old.desk) op)) }
     ensures err { OnErr result (module_held bench.new.desk ≡ module_held bench.old.desk) }

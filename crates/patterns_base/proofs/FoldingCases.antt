@@ -14,24 +14,30 @@ use Rattle.patterns_laws.specs.integers.Arithmetic as arithmetic
 use Rattle.patterns_laws.specs.integers.Folds as folds
 use Rattle.patterns_laws.specs.Made.{i1, i64}
 use Rattle.patterns_laws.specs.Words as named
+use Rattle.patterns_base.specs.declared.rule.Rule.TheVariants.{EraseDead, FoldToConstant, SwapConstant, DropZero}
+use Rattle.patterns_base.specs.declared.rule.Rule.TheVariants.{DropOne, DropAllOnes, CancelItself, KeepItself}
+use Rattle.patterns_base.specs.declared.rule.Rule.TheVariants.{ZeroRemainder, RegroupConstants, AddNegative}
+use Rattle.patterns_base.specs.declared.rule.Rule.TheVariants.{CompareItself, MirrorComparison, CompareZero}
+use Rattle.patterns_base.specs.declared.rule.Rule.TheVariants.{ChooseSame, ChooseKnown, ChooseTruth, ChooseOpposite}
+use Rattle.patterns_base.specs.declared.rule.Rule.TheVariants.{ExpandMinMax, ExpandDifference, ExpandRemainder}
 use Rattle.patterns_base.specs.Looks.{is_clean, may_go, known}
 use Rattle.patterns_base.specs.Casting.{resizing}
 use Rattle.patterns_base.specs.Rules.{rule}
 use Rattle.patterns_base.specs.Rewrites.{none, refused, becomes, edits_of, rewrite_of}
 use Rattle.patterns_base.proofs.Small.{i8, i32, Case, at_rule, answer, holding, source, number, user, plain, kept, compared, whole}
 
-abbrev rule_1_dead : Case
-rule_1_dead =
-    at_rule 1 2
+abbrev erase_dead_dead : Case
+erase_dead_dead =
+    at_rule EraseDead 2
     (holding 3 (
     source 1 i32
     ∷ plain 2 (codes "arith.addi") (Result 1 0 ∷ Result 1 0 ∷ []) (i32 ∷ [])
     ∷ []))
     (becomes (holding 3 (source 1 i32 ∷ [])))
 
-abbrev rule_1_used : Case
-rule_1_used =
-    at_rule 1 2
+abbrev erase_dead_used : Case
+erase_dead_used =
+    at_rule EraseDead 2
     (holding 4 (
     source 1 i32
     ∷ plain 2 (codes "arith.addi") (Result 1 0 ∷ Result 1 0 ∷ []) (i32 ∷ [])
@@ -39,9 +45,9 @@ rule_1_used =
     ∷ []))
     none
 
-abbrev rule_2_i1_sum_wraps : Case
-rule_2_i1_sum_wraps =
-    at_rule 2 3
+abbrev fold_to_constant_i1_sum_wraps : Case
+fold_to_constant_i1_sum_wraps =
+    at_rule FoldToConstant 3
     (holding 5 (
     number 1 i1 1
     ∷ number 2 i1 1
@@ -55,9 +61,9 @@ rule_2_i1_sum_wraps =
     ∷ user 4 (Result 5 0)
     ∷ [])))
 
-abbrev rule_2_zero_alone : Case
-rule_2_zero_alone =
-    at_rule 2 3
+abbrev fold_to_constant_zero_alone : Case
+fold_to_constant_zero_alone =
+    at_rule FoldToConstant 3
     (holding 5 (
     source 1 i32
     ∷ number 2 i32 0
@@ -71,9 +77,9 @@ rule_2_zero_alone =
     ∷ user 4 (Result 5 0)
     ∷ [])))
 
-abbrev rule_2_division_by_zero : Case
-rule_2_division_by_zero =
-    at_rule 2 3
+abbrev fold_to_constant_division_by_zero : Case
+fold_to_constant_division_by_zero =
+    at_rule FoldToConstant 3
     (holding 5 (
     number 1 i32 4
     ∷ number 2 i32 0
@@ -82,9 +88,9 @@ rule_2_division_by_zero =
     ∷ []))
     none
 
-abbrev rule_2_bad_constant : Case
-rule_2_bad_constant =
-    at_rule 2 3
+abbrev fold_to_constant_bad_constant : Case
+fold_to_constant_bad_constant =
+    at_rule FoldToConstant 3
     (holding 5 (
     source 1 i32
     ∷ kept 2 (codes "arith.constant") [] (i32 ∷ []) ((codes "other", IntegerOf i32 1) ∷ (codes "value", IntegerOf i32 0) ∷ [])
@@ -93,9 +99,9 @@ rule_2_bad_constant =
     ∷ []))
     none
 
-abbrev rule_3_swaps : Case
-rule_3_swaps =
-    at_rule 3 3
+abbrev swap_constant_swaps : Case
+swap_constant_swaps =
+    at_rule SwapConstant 3
     (holding 4 (
     number 1 i32 4
     ∷ source 2 i32
@@ -107,9 +113,9 @@ rule_3_swaps =
     ∷ plain 3 (codes "arith.addi") (Result 2 0 ∷ Result 1 0 ∷ []) (i32 ∷ [])
     ∷ [])))
 
-abbrev rule_3_two_constants : Case
-rule_3_two_constants =
-    at_rule 3 3
+abbrev swap_constant_two_constants : Case
+swap_constant_two_constants =
+    at_rule SwapConstant 3
     (holding 4 (
     number 1 i32 4
     ∷ number 2 i32 4
@@ -117,9 +123,9 @@ rule_3_two_constants =
     ∷ []))
     none
 
-abbrev rule_3_bad_second_constant : Case
-rule_3_bad_second_constant =
-    at_rule 3 3
+abbrev swap_constant_bad_second_constant : Case
+swap_constant_bad_second_constant =
+    at_rule SwapConstant 3
     (holding 4 (
     number 1 i32 4
     ∷ kept 2 (codes "arith.constant") [] (i32 ∷ []) ((codes "value", IntegerOf i64 0) ∷ [])
@@ -127,9 +133,9 @@ rule_3_bad_second_constant =
     ∷ []))
     none
 
-abbrev rule_4_shift_by_zero : Case
-rule_4_shift_by_zero =
-    at_rule 4 3
+abbrev drop_zero_shift_by_zero : Case
+drop_zero_shift_by_zero =
+    at_rule DropZero 3
     (holding 5 (
     source 1 i8
     ∷ number 2 i8 0
@@ -142,9 +148,9 @@ rule_4_shift_by_zero =
     ∷ user 4 (Result 1 0)
     ∷ [])))
 
-abbrev rule_4_not_muli : Case
-rule_4_not_muli =
-    at_rule 4 3
+abbrev drop_zero_not_muli : Case
+drop_zero_not_muli =
+    at_rule DropZero 3
     (holding 5 (
     source 1 i8
     ∷ number 2 i8 0
@@ -153,9 +159,9 @@ rule_4_not_muli =
     ∷ []))
     none
 
-abbrev rule_5_by_true : Case
-rule_5_by_true =
-    at_rule 5 3
+abbrev drop_one_by_true : Case
+drop_one_by_true =
+    at_rule DropOne 3
     (holding 5 (
     source 1 i1
     ∷ number 2 i1 1
@@ -168,9 +174,9 @@ rule_5_by_true =
     ∷ user 4 (Result 1 0)
     ∷ [])))
 
-abbrev rule_6_all_ones : Case
-rule_6_all_ones =
-    at_rule 6 3
+abbrev drop_all_ones_all_ones : Case
+drop_all_ones_all_ones =
+    at_rule DropAllOnes 3
     (holding 5 (
     source 1 Index
     ∷ number 2 Index 18446744073709551615
@@ -183,9 +189,9 @@ rule_6_all_ones =
     ∷ user 4 (Result 1 0)
     ∷ [])))
 
-abbrev rule_6_one_bit_short : Case
-rule_6_one_bit_short =
-    at_rule 6 3
+abbrev drop_all_ones_one_bit_short : Case
+drop_all_ones_one_bit_short =
+    at_rule DropAllOnes 3
     (holding 5 (
     source 1 i8
     ∷ number 2 i8 127
@@ -194,9 +200,9 @@ rule_6_one_bit_short =
     ∷ []))
     none
 
-abbrev rule_7_itself : Case
-rule_7_itself =
-    at_rule 7 2
+abbrev cancel_itself_itself : Case
+cancel_itself_itself =
+    at_rule CancelItself 2
     (holding 4 (
     source 1 i8
     ∷ plain 2 (codes "arith.xori") (Result 1 0 ∷ Result 1 0 ∷ []) (i8 ∷ [])
@@ -208,9 +214,9 @@ rule_7_itself =
     ∷ user 3 (Result 4 0)
     ∷ [])))
 
-abbrev rule_8_itself : Case
-rule_8_itself =
-    at_rule 8 2
+abbrev keep_itself_itself : Case
+keep_itself_itself =
+    at_rule KeepItself 2
     (holding 4 (
     source 1 i8
     ∷ plain 2 (codes "arith.minui") (Result 1 0 ∷ Result 1 0 ∷ []) (i8 ∷ [])
@@ -221,9 +227,9 @@ rule_8_itself =
     ∷ user 3 (Result 1 0)
     ∷ [])))
 
-abbrev rule_9_by_one : Case
-rule_9_by_one =
-    at_rule 9 3
+abbrev zero_remainder_by_one : Case
+zero_remainder_by_one =
+    at_rule ZeroRemainder 3
     (holding 5 (
     source 1 i8
     ∷ number 2 i8 1
@@ -237,9 +243,9 @@ rule_9_by_one =
     ∷ user 4 (Result 5 0)
     ∷ [])))
 
-abbrev rule_10_sums : Case
-rule_10_sums =
-    at_rule 10 5
+abbrev regroup_constants_sums : Case
+regroup_constants_sums =
+    at_rule RegroupConstants 5
     (holding 7 (
     source 1 i8
     ∷ number 2 i8 100
@@ -258,9 +264,9 @@ rule_10_sums =
     ∷ user 6 (Result 8 0)
     ∷ [])))
 
-abbrev rule_10_another_operation : Case
-rule_10_another_operation =
-    at_rule 10 5
+abbrev regroup_constants_another_operation : Case
+regroup_constants_another_operation =
+    at_rule RegroupConstants 5
     (holding 7 (
     source 1 i8
     ∷ number 2 i8 100
@@ -271,9 +277,9 @@ rule_10_another_operation =
     ∷ []))
     none
 
-abbrev rule_10_constant_first : Case
-rule_10_constant_first =
-    at_rule 10 5
+abbrev regroup_constants_constant_first : Case
+regroup_constants_constant_first =
+    at_rule RegroupConstants 5
     (holding 7 (
     source 1 i8
     ∷ number 2 i8 100
@@ -284,9 +290,9 @@ rule_10_constant_first =
     ∷ []))
     none
 
-abbrev rule_11_negated : Case
-rule_11_negated =
-    at_rule 11 3
+abbrev add_negative_negated : Case
+add_negative_negated =
+    at_rule AddNegative 3
     (holding 5 (
     source 1 i8
     ∷ number 2 i8 1
@@ -301,9 +307,9 @@ rule_11_negated =
     ∷ user 4 (Result 6 0)
     ∷ [])))
 
-abbrev rule_12_itself : Case
-rule_12_itself =
-    at_rule 12 2
+abbrev compare_itself_itself : Case
+compare_itself_itself =
+    at_rule CompareItself 2
     (holding 4 (
     source 1 i8
     ∷ compared 2 3 (Result 1 0) (Result 1 0)
@@ -315,9 +321,9 @@ rule_12_itself =
     ∷ user 3 (Result 4 0)
     ∷ [])))
 
-abbrev rule_12_not_itself : Case
-rule_12_not_itself =
-    at_rule 12 2
+abbrev compare_itself_not_itself : Case
+compare_itself_not_itself =
+    at_rule CompareItself 2
     (holding 4 (
     source 1 i8
     ∷ compared 2 6 (Result 1 0) (Result 1 0)
@@ -329,9 +335,9 @@ rule_12_not_itself =
     ∷ user 3 (Result 4 0)
     ∷ [])))
 
-abbrev rule_13_mirrored : Case
-rule_13_mirrored =
-    at_rule 13 3
+abbrev mirror_comparison_mirrored : Case
+mirror_comparison_mirrored =
+    at_rule MirrorComparison 3
     (holding 4 (
     number 1 i8 3
     ∷ source 2 i8
@@ -343,9 +349,9 @@ rule_13_mirrored =
     ∷ compared 3 9 (Result 2 0) (Result 1 0)
     ∷ [])))
 
-abbrev rule_13_equal_stays : Case
-rule_13_equal_stays =
-    at_rule 13 3
+abbrev mirror_comparison_equal_stays : Case
+mirror_comparison_equal_stays =
+    at_rule MirrorComparison 3
     (holding 4 (
     number 1 i8 3
     ∷ source 2 i8
@@ -357,9 +363,9 @@ rule_13_equal_stays =
     ∷ compared 3 0 (Result 2 0) (Result 1 0)
     ∷ [])))
 
-abbrev rule_14_below_zero : Case
-rule_14_below_zero =
-    at_rule 14 3
+abbrev compare_zero_below_zero : Case
+compare_zero_below_zero =
+    at_rule CompareZero 3
     (holding 5 (
     source 1 i8
     ∷ number 2 i8 0
@@ -373,9 +379,9 @@ rule_14_below_zero =
     ∷ user 4 (Result 5 0)
     ∷ [])))
 
-abbrev rule_14_at_least_zero : Case
-rule_14_at_least_zero =
-    at_rule 14 3
+abbrev compare_zero_at_least_zero : Case
+compare_zero_at_least_zero =
+    at_rule CompareZero 3
     (holding 5 (
     source 1 i8
     ∷ number 2 i8 0
@@ -389,9 +395,9 @@ rule_14_at_least_zero =
     ∷ user 4 (Result 5 0)
     ∷ [])))
 
-abbrev rule_14_signed : Case
-rule_14_signed =
-    at_rule 14 3
+abbrev compare_zero_signed : Case
+compare_zero_signed =
+    at_rule CompareZero 3
     (holding 5 (
     source 1 i8
     ∷ number 2 i8 0
@@ -400,9 +406,9 @@ rule_14_signed =
     ∷ []))
     none
 
-abbrev rule_15_same : Case
-rule_15_same =
-    at_rule 15 3
+abbrev choose_same_same : Case
+choose_same_same =
+    at_rule ChooseSame 3
     (holding 5 (
     source 1 i1
     ∷ source 2 (Memref (Some 2 ∷ []) i8)
@@ -415,9 +421,9 @@ rule_15_same =
     ∷ user 4 (Result 2 0)
     ∷ [])))
 
-abbrev rule_16_true : Case
-rule_16_true =
-    at_rule 16 4
+abbrev choose_known_true : Case
+choose_known_true =
+    at_rule ChooseKnown 4
     (holding 6 (
     number 1 i1 1
     ∷ source 2 i8
@@ -432,9 +438,9 @@ rule_16_true =
     ∷ user 5 (Result 2 0)
     ∷ [])))
 
-abbrev rule_16_false : Case
-rule_16_false =
-    at_rule 16 4
+abbrev choose_known_false : Case
+choose_known_false =
+    at_rule ChooseKnown 4
     (holding 6 (
     number 1 i1 0
     ∷ source 2 i8
@@ -449,9 +455,9 @@ rule_16_false =
     ∷ user 5 (Result 3 0)
     ∷ [])))
 
-abbrev rule_17_itself : Case
-rule_17_itself =
-    at_rule 17 4
+abbrev choose_truth_itself : Case
+choose_truth_itself =
+    at_rule ChooseTruth 4
     (holding 6 (
     source 1 i1
     ∷ number 2 i1 1
@@ -466,9 +472,9 @@ rule_17_itself =
     ∷ user 5 (Result 1 0)
     ∷ [])))
 
-abbrev rule_17_wider : Case
-rule_17_wider =
-    at_rule 17 4
+abbrev choose_truth_wider : Case
+choose_truth_wider =
+    at_rule ChooseTruth 4
     (holding 6 (
     source 1 i1
     ∷ number 2 i8 1
@@ -478,9 +484,9 @@ rule_17_wider =
     ∷ []))
     none
 
-abbrev rule_18_opposite : Case
-rule_18_opposite =
-    at_rule 18 6
+abbrev choose_opposite_opposite : Case
+choose_opposite_opposite =
+    at_rule ChooseOpposite 6
     (holding 7 (
     source 1 i1
     ∷ number 2 i1 1
@@ -498,9 +504,9 @@ rule_18_opposite =
     ∷ plain 6 (codes "arith.select") (Result 1 0 ∷ Result 5 0 ∷ Result 4 0 ∷ []) (i8 ∷ [])
     ∷ [])))
 
-abbrev rule_25_maxui : Case
-rule_25_maxui =
-    at_rule 25 3
+abbrev expand_min_max_maxui : Case
+expand_min_max_maxui =
+    at_rule ExpandMinMax 3
     (holding 5 (
     source 1 i8
     ∷ source 2 i8
@@ -515,9 +521,9 @@ rule_25_maxui =
     ∷ user 4 (Result 6 0)
     ∷ [])))
 
-abbrev rule_26_index : Case
-rule_26_index =
-    at_rule 26 3
+abbrev expand_difference_index : Case
+expand_difference_index =
+    at_rule ExpandDifference 3
     (holding 5 (
     source 1 Index
     ∷ source 2 Index
@@ -535,9 +541,9 @@ rule_26_index =
     ∷ user 4 (Result 9 0)
     ∷ [])))
 
-abbrev rule_27_remsi : Case
-rule_27_remsi =
-    at_rule 27 3
+abbrev expand_remainder_remsi : Case
+expand_remainder_remsi =
+    at_rule ExpandRemainder 3
     (holding 5 (
     source 1 i8
     ∷ source 2 i8
@@ -553,24 +559,24 @@ rule_27_remsi =
     ∷ user 4 (Result 7 0)
     ∷ [])))
 
-abbrev rule_1_root : Case
-rule_1_root = at_rule 1 0 (holding 2 (source 1 i32 ∷ [])) none
+abbrev erase_dead_root : Case
+erase_dead_root = at_rule EraseDead 0 (holding 2 (source 1 i32 ∷ [])) none
 
-abbrev rule_1_not_there : Case
-rule_1_not_there = at_rule 1 7 (holding 2 (source 1 i32 ∷ [])) none
+abbrev erase_dead_not_there : Case
+erase_dead_not_there = at_rule EraseDead 7 (holding 2 (source 1 i32 ∷ [])) none
 
-abbrev rule_1_past_the_last_id : Case
-rule_1_past_the_last_id =
-    at_rule 1 2
+abbrev erase_dead_past_the_last_id : Case
+erase_dead_past_the_last_id =
+    at_rule EraseDead 2
     (holding 4294967295 (
     source 1 i32
     ∷ plain 2 (codes "arith.addi") (Result 1 0 ∷ Result 1 0 ∷ []) (i32 ∷ [])
     ∷ []))
     (becomes (holding 4294967295 (source 1 i32 ∷ [])))
 
-abbrev rule_7_last_id : Case
-rule_7_last_id =
-    at_rule 7 2
+abbrev cancel_itself_last_id : Case
+cancel_itself_last_id =
+    at_rule CancelItself 2
     (holding 4294967294 (
     source 1 i8
     ∷ plain 2 (codes "arith.xori") (Result 1 0 ∷ Result 1 0 ∷ []) (i8 ∷ [])
@@ -582,9 +588,9 @@ rule_7_last_id =
     ∷ user 3 (Result 4294967294 0)
     ∷ [])))
 
-abbrev rule_7_past_the_last_id : Case
-rule_7_past_the_last_id =
-    at_rule 7 2
+abbrev cancel_itself_past_the_last_id : Case
+cancel_itself_past_the_last_id =
+    at_rule CancelItself 2
     (holding 4294967295 (
     source 1 i8
     ∷ plain 2 (codes "arith.xori") (Result 1 0 ∷ Result 1 0 ∷ []) (i8 ∷ [])
@@ -592,9 +598,9 @@ rule_7_past_the_last_id =
     ∷ []))
     (refused IdsExhausted)
 
-abbrev rule_25_second_past_the_last_id : Case
-rule_25_second_past_the_last_id =
-    at_rule 25 3
+abbrev expand_min_max_second_past_the_last_id : Case
+expand_min_max_second_past_the_last_id =
+    at_rule ExpandMinMax 3
     (holding 4294967294 (
     source 1 i8
     ∷ source 2 i8
@@ -605,15 +611,15 @@ rule_25_second_past_the_last_id =
 
 abbrev cases : List Case
 cases =
-    rule_1_dead ∷ rule_1_used ∷ rule_2_i1_sum_wraps ∷ rule_2_zero_alone ∷ rule_2_division_by_zero
-    ∷ rule_2_bad_constant ∷ rule_3_swaps ∷ rule_3_two_constants ∷ rule_3_bad_second_constant ∷ rule_4_shift_by_zero
-    ∷ rule_4_not_muli ∷ rule_5_by_true ∷ rule_6_all_ones ∷ rule_6_one_bit_short ∷ rule_7_itself ∷ rule_8_itself
-    ∷ rule_9_by_one ∷ rule_10_sums ∷ rule_10_another_operation ∷ rule_10_constant_first ∷ rule_11_negated
-    ∷ rule_12_itself ∷ rule_12_not_itself ∷ rule_13_mirrored ∷ rule_13_equal_stays ∷ rule_14_below_zero
-    ∷ rule_14_at_least_zero ∷ rule_14_signed ∷ rule_15_same ∷ rule_16_true ∷ rule_16_false ∷ rule_17_itself
-    ∷ rule_17_wider ∷ rule_18_opposite ∷ rule_25_maxui ∷ rule_26_index ∷ rule_27_remsi
-    ∷ rule_1_root ∷ rule_1_not_there ∷ rule_1_past_the_last_id ∷ rule_7_last_id ∷ rule_7_past_the_last_id
-    ∷ rule_25_second_past_the_last_id ∷ []
+    erase_dead_dead ∷ erase_dead_used ∷ fold_to_constant_i1_sum_wraps ∷ fold_to_constant_zero_alone ∷ fold_to_constant_division_by_zero
+    ∷ fold_to_constant_bad_constant ∷ swap_constant_swaps ∷ swap_constant_two_constants ∷ swap_constant_bad_second_constant ∷ drop_zero_shift_by_zero
+    ∷ drop_zero_not_muli ∷ drop_one_by_true ∷ drop_all_ones_all_ones ∷ drop_all_ones_one_bit_short ∷ cancel_itself_itself ∷ keep_itself_itself
+    ∷ zero_remainder_by_one ∷ regroup_constants_sums ∷ regroup_constants_another_operation ∷ regroup_constants_constant_first ∷ add_negative_negated
+    ∷ compare_itself_itself ∷ compare_itself_not_itself ∷ mirror_comparison_mirrored ∷ mirror_comparison_equal_stays ∷ compare_zero_below_zero
+    ∷ compare_zero_at_least_zero ∷ compare_zero_signed ∷ choose_same_same ∷ choose_known_true ∷ choose_known_false ∷ choose_truth_itself
+    ∷ choose_truth_wider ∷ choose_opposite_opposite ∷ expand_min_max_maxui ∷ expand_difference_index ∷ expand_remainder_remsi
+    ∷ erase_dead_root ∷ erase_dead_not_there ∷ erase_dead_past_the_last_id ∷ cancel_itself_last_id ∷ cancel_itself_past_the_last_id
+    ∷ expand_min_max_second_past_the_last_id ∷ []
 
 -- each is what the definitions say (to find one that is not, shorten the list)
 pub answered : map answer cases ≡ map (λ c. c.after) cases

@@ -1,3 +1,4 @@
+pub mod RuleLaws
 pub mod Dispatch
 pub mod Suffices
 pub mod TableNumbers

@@ -13,15 +13,16 @@ use Rattle.patterns_laws.specs.integers.Arithmetic as arithmetic
 use Rattle.patterns_laws.specs.integers.Folds as folds
 use Rattle.patterns_laws.specs.Made.{i1, i64}
 use Rattle.patterns_laws.specs.Words as named
+use Rattle.patterns_base.specs.declared.rule.Rule.TheVariants.{LowerIndex, LowerLoop, LowerChoice}
 use Rattle.patterns_base.specs.Looks.{is_clean, may_go, known}
 use Rattle.patterns_base.specs.Casting.{resizing}
 use Rattle.patterns_base.specs.Rules.{rule}
 use Rattle.patterns_base.specs.Rewrites.{none, becomes, edits_of, rewrite_of}
 use Rattle.patterns_base.proofs.Small.{i8, Case, at_rule, answer, body, holding, source, number, user, bridged, plain, compared, whole}
 
-abbrev rule_28_sum : Case
-rule_28_sum =
-    at_rule 28 2
+abbrev lower_index_sum : Case
+lower_index_sum =
+    at_rule LowerIndex 2
     (holding 4 (
     source 1 Index
     ∷ whole 2 (codes "arith.addi") (Result 1 0 ∷ Result 1 0 ∷ []) (Index ∷ []) ((codes "overflowFlags", Overflow false true) ∷ []) ((codes "note", Flag) ∷ []) no_regions
@@ -36,9 +37,9 @@ rule_28_sum =
     ∷ user 3 (Result 7 0)
     ∷ [])))
 
-abbrev rule_28_constant : Case
-rule_28_constant =
-    at_rule 28 1
+abbrev lower_index_constant : Case
+lower_index_constant =
+    at_rule LowerIndex 1
     (holding 3 (
     number 1 Index 18446744073709551615
     ∷ user 2 (Result 1 0)
@@ -49,9 +50,9 @@ rule_28_constant =
     ∷ user 2 (Result 4 0)
     ∷ [])))
 
-abbrev rule_28_comparison : Case
-rule_28_comparison =
-    at_rule 28 2
+abbrev lower_index_comparison : Case
+lower_index_comparison =
+    at_rule LowerIndex 2
     (holding 4 (
     source 1 Index
     ∷ compared 2 2 (Result 1 0) (Result 1 0)
@@ -65,9 +66,9 @@ rule_28_comparison =
     ∷ user 3 (Result 6 0)
     ∷ [])))
 
-abbrev rule_28_choice : Case
-rule_28_choice =
-    at_rule 28 3
+abbrev lower_index_choice : Case
+lower_index_choice =
+    at_rule LowerIndex 3
     (holding 5 (
     source 1 i1
     ∷ source 2 Index
@@ -84,9 +85,9 @@ rule_28_choice =
     ∷ user 4 (Result 8 0)
     ∷ [])))
 
-abbrev rule_28_no_index : Case
-rule_28_no_index =
-    at_rule 28 2
+abbrev lower_index_no_index : Case
+lower_index_no_index =
+    at_rule LowerIndex 2
     (holding 4 (
     source 1 i8
     ∷ plain 2 (codes "arith.addi") (Result 1 0 ∷ Result 1 0 ∷ []) (i8 ∷ [])
@@ -94,9 +95,9 @@ rule_28_no_index =
     ∷ []))
     none
 
-abbrev rule_29_loop : Case
-rule_29_loop =
-    at_rule 29 3
+abbrev lower_loop_loop : Case
+lower_loop_loop =
+    at_rule LowerLoop 3
     (holding 7 (
     source 1 Index
     ∷ source 2 i8
@@ -126,9 +127,9 @@ rule_29_loop =
     ∷ user 6 (Result 18 0)
     ∷ [])))
 
-abbrev rule_29_no_index : Case
-rule_29_no_index =
-    at_rule 29 2
+abbrev lower_loop_no_index : Case
+lower_loop_no_index =
+    at_rule LowerLoop 2
     (holding 4 (
     source 1 i8
     ∷ whole 2 (codes "scf.for") (Result 1 0 ∷ Result 1 0 ∷ Result 1 0 ∷ []) [] [] []
@@ -136,9 +137,9 @@ rule_29_no_index =
     ∷ []))
     none
 
-abbrev rule_30_if : Case
-rule_30_if =
-    at_rule 30 3
+abbrev lower_choice_if : Case
+lower_choice_if =
+    at_rule LowerChoice 3
     (holding 8 (
     source 1 i1
     ∷ source 2 Index
@@ -165,9 +166,9 @@ rule_30_if =
     ∷ user 7 (Result 11 0)
     ∷ [])))
 
-abbrev rule_30_no_index : Case
-rule_30_no_index =
-    at_rule 30 2
+abbrev lower_choice_no_index : Case
+lower_choice_no_index =
+    at_rule LowerChoice 2
     (holding 4 (
     source 1 i1
     ∷ whole 2 (codes "scf.if") (Result 1 0 ∷ []) [] [] []
@@ -177,8 +178,8 @@ rule_30_no_index =
 
 abbrev cases : List Case
 cases =
-    rule_28_sum ∷ rule_28_constant ∷ rule_28_comparison ∷ rule_28_choice ∷ rule_28_no_index ∷ rule_29_loop
-    ∷ rule_29_no_index ∷ rule_30_if ∷ rule_30_no_index ∷ []
+    lower_index_sum ∷ lower_index_constant ∷ lower_index_comparison ∷ lower_index_choice ∷ lower_index_no_index ∷ lower_loop_loop
+    ∷ lower_loop_no_index ∷ lower_choice_if ∷ lower_choice_no_index ∷ []
 
 -- each is what the definitions say (to find one that is not, shorten the list)
 pub answered : map answer cases ≡ map (λ c. c.after) cases

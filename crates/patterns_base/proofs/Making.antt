@@ -12,10 +12,12 @@ use Rattle.rewriter_machine.specs.Contents.{Edit}
 use Rattle.rewriter_machine.specs.Edits.{Make}
 use Rattle.patterns_laws.specs.Keeps.{given}
 use Rattle.patterns_laws.specs.Words.{asking, dividing}
+use Rattle.patterns_base.specs.declared.rule.Rule.TheVariants.{FoldToConstant, ExpandMinMax, ExpandDifference}
+use Rattle.patterns_base.specs.declared.rule.Rule.TheVariants.{ExpandRemainder, LowerIndex, LowerLoop, LowerChoice}
 use Rattle.patterns_base.specs.Looks.{Ended, when, two, body}
 use Rattle.patterns_base.specs.Makes.{made_by}
-use Rattle.patterns_base.specs.Folding.{folded_to, rule_2, rule_25, rule_26, rule_27}
-use Rattle.patterns_base.specs.Lowering.{make_lowered, lowered_loop, lowered_if, rule_28, rule_29, rule_30}
+use Rattle.patterns_base.specs.Folding.{folded_to, fold_to_constant, expand_min_max, expand_difference, expand_remainder}
+use Rattle.patterns_base.specs.Lowering.{make_lowered, lowered_loop, lowered_if, lower_index, lower_loop, lower_choice}
 use Rattle.patterns_base.specs.Rules.{rule}
 use Rattle.patterns_base.specs.Rewrites.{ConvertingRulesMake}
 
@@ -61,51 +63,43 @@ folding_makes t n front o (ty ∷ []) (Some k) = there _ (first _ _ _)
 folding_makes t n front o (ty ∷ u ∷ us) k = none_there
 
 module _ (t : Operation) (n : ℕ) (front : Place) (o : Operation) where
-  makes_2 : MakesSome (rule_2 t n front o)
-  makes_2 = tested _ _ (folding_makes t n front o _ _)
+  makes_fold_to_constant : MakesSome (fold_to_constant t n front o)
+  makes_fold_to_constant = tested _ _ (folding_makes t n front o _ _)
 
-  makes_25 : MakesSome (rule_25 t n front o)
-  makes_25 = of_some (two (head o)) _ (λ p. of_some (beside p.name asking) _ (λ asks. there _ (first _ _ _)))
+  makes_expand_min_max : MakesSome (expand_min_max t n front o)
+  makes_expand_min_max = of_some (two (head o)) _ (λ p. of_some (beside p.name asking) _ (λ asks. there _ (first _ _ _)))
 
-  makes_26 : MakesSome (rule_26 t n front o)
-  makes_26 = of_some (two (head o)) _ (λ p. tested _ _ (there _ (first _ _ _)))
+  makes_expand_difference : MakesSome (expand_difference t n front o)
+  makes_expand_difference = of_some (two (head o)) _ (λ p. tested _ _ (there _ (first _ _ _)))
 
-  makes_27 : MakesSome (rule_27 t n front o)
-  makes_27 = of_some (two (head o)) _ (λ p. of_some (beside p.name dividing) _ (λ division. there _ (first _ _ _)))
+  makes_expand_remainder : MakesSome (expand_remainder t n front o)
+  makes_expand_remainder = of_some (two (head o)) _ (λ p. of_some (beside p.name dividing) _ (λ division. there _ (first _ _ _)))
 
   lowered : Making (make_lowered t n front o)
   lowered = first _ _ _
 
-  makes_28 : MakesSome (rule_28 t n front o)
-  makes_28 = tested _ _ (there _ (in_front _ _ (behind _ (make_lowered t n front o) lowered)))
+  makes_lower_index : MakesSome (lower_index t n front o)
+  makes_lower_index = tested _ _ (there _ (in_front _ _ (behind _ (make_lowered t n front o) lowered)))
 
   loop_makes : (args : List TypeTerm) (e : Ended) → Making (lowered_loop t n front o args e)
   loop_makes args e = in_front _ _ (in_front _ _ (in_front _ _ (in_front _ _ (in_front _ _ (in_front _ _ (behind _ (make_lowered t n front o) lowered))))))
 
-  makes_29 : MakesSome (rule_29 t n front o)
-  makes_29 = tested _ _ (of_some (arguments_at 0 o) _ (λ args. of_some (body t o 0) _ (λ e. there _ (loop_makes args e))))
+  makes_lower_loop : MakesSome (lower_loop t n front o)
+  makes_lower_loop = tested _ _ (of_some (arguments_at 0 o) _ (λ args. of_some (body t o 0) _ (λ e. there _ (loop_makes args e))))
 
   if_makes : (e f : Ended) → Making (lowered_if t n front o e f)
   if_makes e f = first _ _ _
 
-  makes_30 : MakesSome (rule_30 t n front o)
-  makes_30 = tested _ _ (of_some (body t o 0) _ (λ e. of_some (body t o 1) _ (λ f. there _ (if_makes e f))))
+  makes_lower_choice : MakesSome (lower_choice t n front o)
+  makes_lower_choice = tested _ _ (of_some (body t o 0) _ (λ e. of_some (body t o 1) _ (λ f. there _ (if_makes e f))))
 
 pub converting_rules_make : ConvertingRulesMake
 unfolding rule
-converting_rules_make = (
-  λ t n front o. (makes_2 t n front o).each,
-  (
-    λ t n front o. (makes_25 t n front o).each,
-    (
-      λ t n front o. (makes_26 t n front o).each,
-      (
-        λ t n front o. (makes_27 t n front o).each,
-        (
-          λ t n front o. (makes_28 t n front o).each,
-          (λ t n front o. (makes_29 t n front o).each, (λ t n front o. (makes_30 t n front o).each, tt)),
-        ),
-      ),
-    ),
-  ),
-)
+converting_rules_make FoldToConstant t n front o es listed = (makes_fold_to_constant t n front o).each es
+converting_rules_make ExpandMinMax t n front o es listed = (makes_expand_min_max t n front o).each es
+converting_rules_make ExpandDifference t n front o es listed = (makes_expand_difference t n front o).each es
+converting_rules_make ExpandRemainder t n front o es listed = (makes_expand_remainder t n front o).each es
+converting_rules_make LowerIndex t n front o es listed = (makes_lower_index t n front o).each es
+converting_rules_make LowerLoop t n front o es listed = (makes_lower_loop t n front o).each es
+converting_rules_make LowerChoice t n front o es listed = (makes_lower_choice t n front o).each es
+converting_rules_make _ t n front o es listed = absurd (grind arith)

@@ -13,15 +13,17 @@ use Rattle.patterns_laws.specs.integers.Arithmetic as arithmetic
 use Rattle.patterns_laws.specs.integers.Folds as folds
 use Rattle.patterns_laws.specs.Made.{i1, i64}
 use Rattle.patterns_laws.specs.Words as named
+use Rattle.patterns_base.specs.declared.rule.Rule.TheVariants.{ExtendExtension, CutCast, CastBack, OpenBranch}
+use Rattle.patterns_base.specs.declared.rule.Rule.TheVariants.{OpenLoop, StopLoop}
 use Rattle.patterns_base.specs.Looks.{is_clean, may_go, known}
 use Rattle.patterns_base.specs.Casting.{resizing}
 use Rattle.patterns_base.specs.Rules.{rule}
 use Rattle.patterns_base.specs.Rewrites.{none, becomes, edits_of, rewrite_of}
 use Rattle.patterns_base.proofs.Small.{i8, i16, i32, i63, i65, Case, at_rule, answer, body, holding, source, number, user, bridged, plain, whole}
 
-abbrev rule_19_signed_of_unsigned : Case
-rule_19_signed_of_unsigned =
-    at_rule 19 3
+abbrev extend_extension_signed_of_unsigned : Case
+extend_extension_signed_of_unsigned =
+    at_rule ExtendExtension 3
     (holding 5 (
     source 1 i8
     ∷ plain 2 (codes "arith.extui") (Result 1 0 ∷ []) (i16 ∷ [])
@@ -35,9 +37,9 @@ rule_19_signed_of_unsigned =
     ∷ user 4 (Result 5 0)
     ∷ [])))
 
-abbrev rule_19_unsigned_of_signed : Case
-rule_19_unsigned_of_signed =
-    at_rule 19 3
+abbrev extend_extension_unsigned_of_signed : Case
+extend_extension_unsigned_of_signed =
+    at_rule ExtendExtension 3
     (holding 5 (
     source 1 i8
     ∷ plain 2 (codes "arith.extsi") (Result 1 0 ∷ []) (i16 ∷ [])
@@ -46,9 +48,9 @@ rule_19_unsigned_of_signed =
     ∷ []))
     none
 
-abbrev rule_20_cut_twice : Case
-rule_20_cut_twice =
-    at_rule 20 3
+abbrev cut_cast_cut_twice : Case
+cut_cast_cut_twice =
+    at_rule CutCast 3
     (holding 5 (
     source 1 i32
     ∷ plain 2 (codes "arith.trunci") (Result 1 0 ∷ []) (i16 ∷ [])
@@ -62,9 +64,9 @@ rule_20_cut_twice =
     ∷ user 4 (Result 5 0)
     ∷ [])))
 
-abbrev rule_20_back : Case
-rule_20_back =
-    at_rule 20 3
+abbrev cut_cast_back : Case
+cut_cast_back =
+    at_rule CutCast 3
     (holding 5 (
     source 1 i8
     ∷ plain 2 (codes "arith.extsi") (Result 1 0 ∷ []) (i16 ∷ [])
@@ -77,9 +79,9 @@ rule_20_back =
     ∷ user 4 (Result 1 0)
     ∷ [])))
 
-abbrev rule_20_another_width : Case
-rule_20_another_width =
-    at_rule 20 3
+abbrev cut_cast_another_width : Case
+cut_cast_another_width =
+    at_rule CutCast 3
     (holding 5 (
     source 1 i8
     ∷ plain 2 (codes "arith.extsi") (Result 1 0 ∷ []) (i32 ∷ [])
@@ -88,9 +90,9 @@ rule_20_another_width =
     ∷ []))
     none
 
-abbrev rule_21_back_to_64 : Case
-rule_21_back_to_64 =
-    at_rule 21 3
+abbrev cast_back_back_to_64 : Case
+cast_back_back_to_64 =
+    at_rule CastBack 3
     (holding 5 (
     source 1 i64
     ∷ plain 2 (codes "arith.index_cast") (Result 1 0 ∷ []) (Index ∷ [])
@@ -103,9 +105,9 @@ rule_21_back_to_64 =
     ∷ user 4 (Result 1 0)
     ∷ [])))
 
-abbrev rule_21_65_bits : Case
-rule_21_65_bits =
-    at_rule 21 3
+abbrev rule_cast_back_65_bits : Case
+rule_cast_back_65_bits =
+    at_rule CastBack 3
     (holding 5 (
     source 1 i65
     ∷ plain 2 (codes "arith.index_cast") (Result 1 0 ∷ []) (Index ∷ [])
@@ -114,9 +116,9 @@ rule_21_65_bits =
     ∷ []))
     none
 
-abbrev rule_21_index_through_65 : Case
-rule_21_index_through_65 =
-    at_rule 21 3
+abbrev cast_back_index_through_65 : Case
+cast_back_index_through_65 =
+    at_rule CastBack 3
     (holding 5 (
     source 1 Index
     ∷ plain 2 (codes "arith.index_castui") (Result 1 0 ∷ []) (i65 ∷ [])
@@ -129,9 +131,9 @@ rule_21_index_through_65 =
     ∷ user 4 (Result 1 0)
     ∷ [])))
 
-abbrev rule_21_index_through_63 : Case
-rule_21_index_through_63 =
-    at_rule 21 3
+abbrev cast_back_index_through_63 : Case
+cast_back_index_through_63 =
+    at_rule CastBack 3
     (holding 5 (
     source 1 Index
     ∷ plain 2 (codes "arith.index_cast") (Result 1 0 ∷ []) (i63 ∷ [])
@@ -140,9 +142,9 @@ rule_21_index_through_63 =
     ∷ []))
     none
 
-abbrev rule_21_unrealized : Case
-rule_21_unrealized =
-    at_rule 21 3
+abbrev cast_back_unrealized : Case
+cast_back_unrealized =
+    at_rule CastBack 3
     (holding 5 (
     source 1 i64
     ∷ bridged 2 Index (Result 1 0)
@@ -155,9 +157,9 @@ rule_21_unrealized =
     ∷ user 4 (Result 1 0)
     ∷ [])))
 
-abbrev rule_21_unrealized_same : Case
-rule_21_unrealized_same =
-    at_rule 21 2
+abbrev cast_back_unrealized_same : Case
+cast_back_unrealized_same =
+    at_rule CastBack 2
     (holding 4 (
     source 1 i64
     ∷ bridged 2 i64 (Result 1 0)
@@ -168,9 +170,9 @@ rule_21_unrealized_same =
     ∷ user 3 (Result 1 0)
     ∷ [])))
 
-abbrev rule_22_then : Case
-rule_22_then =
-    at_rule 22 3
+abbrev open_branch_then : Case
+open_branch_then =
+    at_rule OpenBranch 3
     (holding 9 (
     number 1 i1 1
     ∷ source 2 i8
@@ -190,9 +192,9 @@ rule_22_then =
     ∷ user 8 (Result 4 0)
     ∷ [])))
 
-abbrev rule_22_no_else : Case
-rule_22_no_else =
-    at_rule 22 2
+abbrev open_branch_no_else : Case
+open_branch_no_else =
+    at_rule OpenBranch 2
     (holding 5 (
     number 1 i1 0
     ∷ whole 2 (codes "scf.if") (Result 1 0 ∷ []) [] [] []
@@ -203,9 +205,9 @@ rule_22_no_else =
     ∷ []))
     (becomes (holding 5 (number 1 i1 0 ∷ [])))
 
-abbrev rule_23_never : Case
-rule_23_never =
-    at_rule 23 5
+abbrev open_loop_never : Case
+open_loop_never =
+    at_rule OpenLoop 5
     (holding 9 (
     number 1 i8 5
     ∷ number 2 i8 251
@@ -226,9 +228,9 @@ rule_23_never =
     ∷ user 8 (Result 4 0)
     ∷ [])))
 
-abbrev rule_23_once : Case
-rule_23_once =
-    at_rule 23 5
+abbrev open_loop_once : Case
+open_loop_once =
+    at_rule OpenLoop 5
     (holding 9 (
     number 1 i8 100
     ∷ number 2 i8 127
@@ -250,9 +252,9 @@ rule_23_once =
     ∷ user 8 (Result 6 0)
     ∷ [])))
 
-abbrev rule_23_once_hands_on_argument : Case
-rule_23_once_hands_on_argument =
-    at_rule 23 5
+abbrev open_loop_once_hands_on_argument : Case
+open_loop_once_hands_on_argument =
+    at_rule OpenLoop 5
     (holding 9 (
     number 1 Index 0
     ∷ number 2 Index 1
@@ -274,9 +276,9 @@ rule_23_once_hands_on_argument =
     ∷ user 8 (Result 4 0)
     ∷ [])))
 
-abbrev rule_23_twice : Case
-rule_23_twice =
-    at_rule 23 5
+abbrev open_loop_twice : Case
+open_loop_twice =
+    at_rule OpenLoop 5
     (holding 9 (
     number 1 i8 0
     ∷ number 2 i8 2
@@ -291,9 +293,9 @@ rule_23_twice =
     ∷ []))
     none
 
-abbrev rule_23_step_below_zero : Case
-rule_23_step_below_zero =
-    at_rule 23 5
+abbrev open_loop_step_below_zero : Case
+open_loop_step_below_zero =
+    at_rule OpenLoop 5
     (holding 9 (
     number 1 i8 0
     ∷ number 2 i8 2
@@ -308,9 +310,9 @@ rule_23_step_below_zero =
     ∷ []))
     none
 
-abbrev rule_24_false : Case
-rule_24_false =
-    at_rule 24 2
+abbrev stop_loop_false : Case
+stop_loop_false =
+    at_rule StopLoop 2
     (holding 8 (
     source 1 i8
     ∷ whole 2 (codes "scf.while") (Result 1 0 ∷ []) (i8 ∷ []) [] []
@@ -328,9 +330,9 @@ rule_24_false =
     ∷ user 7 (Result 1 0)
     ∷ [])))
 
-abbrev rule_24_true : Case
-rule_24_true =
-    at_rule 24 2
+abbrev stop_loop_true : Case
+stop_loop_true =
+    at_rule StopLoop 2
     (holding 8 (
     source 1 i8
     ∷ whole 2 (codes "scf.while") (Result 1 0 ∷ []) (i8 ∷ []) [] []
@@ -345,11 +347,11 @@ rule_24_true =
 
 abbrev cases : List Case
 cases =
-    rule_19_signed_of_unsigned ∷ rule_19_unsigned_of_signed ∷ rule_20_cut_twice ∷ rule_20_back
-    ∷ rule_20_another_width ∷ rule_21_back_to_64 ∷ rule_21_65_bits ∷ rule_21_index_through_65
-    ∷ rule_21_index_through_63 ∷ rule_21_unrealized ∷ rule_21_unrealized_same ∷ rule_22_then ∷ rule_22_no_else
-    ∷ rule_23_never ∷ rule_23_once ∷ rule_23_once_hands_on_argument ∷ rule_23_twice ∷ rule_23_step_below_zero
-    ∷ rule_24_false ∷ rule_24_true ∷ []
+    extend_extension_signed_of_unsigned ∷ extend_extension_unsigned_of_signed ∷ cut_cast_cut_twice ∷ cut_cast_back
+    ∷ cut_cast_another_width ∷ cast_back_back_to_64 ∷ rule_cast_back_65_bits ∷ cast_back_index_through_65
+    ∷ cast_back_index_through_63 ∷ cast_back_unrealized ∷ cast_back_unrealized_same ∷ open_branch_then ∷ open_branch_no_else
+    ∷ open_loop_never ∷ open_loop_once ∷ open_loop_once_hands_on_argument ∷ open_loop_twice ∷ open_loop_step_below_zero
+    ∷ stop_loop_false ∷ stop_loop_true ∷ []
 
 -- each is what the definitions say (to find one that is not, shorten the list)
 pub answered : map answer cases ≡ map (λ c. c.after) cases

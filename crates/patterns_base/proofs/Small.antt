@@ -7,6 +7,7 @@ use Rattle.ir_tree.specs.Tree.{op, RegionsOf, no_regions, region, RegionOf, bloc
 use Rattle.ir_tree.specs.Meaning.{Operation}
 use Rattle.rewriter_machine.specs.events.Modules.{Module}
 use Rattle.patterns_laws.specs.Made.{Entries, i1, value_entry, predicate_entry}
+use Rattle.patterns_base.specs.declared.rule.Rule.{Rule}
 use Rattle.patterns_base.specs.Rewrites.{Rewrite, rewrite_of}
 
 -- types of integers
@@ -75,12 +76,12 @@ holding free os = record { tree = whole 0 (codes "builtin.module") [] [] [] [] (
 
 -- a rule at an operation of a module, and what is to come of it
 pub record Case : Type 0 where
-  pub rule : ℕ
+  pub rule : Rule
   pub at : ℕ
   pub before : Module
   pub after : Rewrite
 
-abbrev pub at_rule : ℕ → ℕ → Module → Rewrite → Case
+abbrev pub at_rule : Rule → ℕ → Module → Rewrite → Case
 at_rule r x before after = record { rule = r; at = x; before = before; after = after }
 
 -- what comes of it by the definitions

@@ -8,6 +8,8 @@ use Rattle.ir_tree.specs.Meaning.{Operation}
 use Rattle.rewriter_machine.specs.events.Modules.{Module}
 use Rattle.op_registry.specs.Registry.{beside}
 use Rattle.patterns_laws.specs.Keeps.{given, Each}
+use Rattle.patterns_base.specs.declared.rule.Rule.{Rule}
+use Rattle.patterns_base.specs.RuleNames.{all_rules}
 use Rattle.patterns_base.specs.Looks.{when, is_clean, front_of}
 use Rattle.patterns_base.specs.Rules.{table, rules_for, has_rule, rule}
 use Rattle.patterns_base.specs.Rewrites.{none, rewrite_by, edits_of, rewrite_of}
@@ -22,18 +24,18 @@ none_in_front (Some y) b f h = by (b y)
     by true = h y
     by false = refl
 
-no_edits : (r : ℕ) (m : Module) (x : ℕ) (o : Operation) → find x m.tree ≡ Some o → has_rule r (head o).name ≡ false → edits_of r m x ≡ None
+no_edits : (r : Rule) (m : Module) (x : ℕ) (o : Operation) → find x m.tree ≡ Some o → has_rule r (head o).name ≡ false → edits_of r m x ≡ None
 unfolding edits_of
 no_edits r m x o e lacks =
     ap (λ z. given z (λ o. given (front_of x m.tree) (λ front. when (is_clean m.tree (head o)) (rule r m.tree m.next front o)))) e
     ∙ none_in_front (front_of x m.tree) (λ front. is_clean m.tree (head o)) (λ front. rule r m.tree m.next front o) (λ front. only_listed r m.tree m.next front o lacks)
 
-no_rewrite : (r : ℕ) (m : Module) (x : ℕ) (o : Operation) → find x m.tree ≡ Some o → has_rule r (head o).name ≡ false → rewrite_of r m x ≡ none
+no_rewrite : (r : Rule) (m : Module) (x : ℕ) (o : Operation) → find x m.tree ≡ Some o → has_rule r (head o).name ≡ false → rewrite_of r m x ≡ none
 unfolding rewrite_of
 no_rewrite r m x o e lacks = ap (λ es. rewrite_by es m) (no_edits r m x o e lacks)
 
 -- rules that the table doesn't have may be left out
-left_out : (rs : List ℕ) (m : Module) (x : ℕ) (o : Operation) → find x m.tree ≡ Some o → first_rule rs m x ≡ first_rule (filter (λ r. has_rule r (head o).name) rs) m x
+left_out : (rs : List Rule) (m : Module) (x : ℕ) (o : Operation) → find x m.tree ≡ Some o → first_rule rs m x ≡ first_rule (filter (λ r. has_rule r (head o).name) rs) m x
 unfolding first_rule
 left_out [] m x o e = refl
 left_out (r ∷ rs) m x o e = by (has_rule r (head o).name) refl (left_out rs m x o e)
@@ -47,12 +49,12 @@ left_out (r ∷ rs) m x o e = by (has_rule r (head o).name) refl (left_out rs m 
 abbrev Rises : List ℕ → Type 0
 Rises name = filter (λ r. has_rule r name) greedy_rules ≡ greedy_rules_for name
 
-rows_rise : Each (λ (row : List ℕ × List ℕ). Rises row.0) table
-unfolding rules_for table
+rows_rise : Each (λ (row : List ℕ × List Rule). Rises row.0) table
+unfolding all_rules rules_for table
 rows_rise = (refl, (refl, (refl, (refl, (refl, (refl, (refl, (refl, (refl, (refl, (refl, (refl, (refl, (refl, (refl, (refl, (refl, (refl, (refl, (refl, (refl, (refl, (refl, (refl, (refl, (refl, (refl, (refl, (refl, (refl, (refl, (refl, (refl, (refl, (refl, (refl, (refl, (refl, (refl, tt)))))))))))))))))))))))))))))))))))))))
 
 others_rise : (name : List ℕ) → beside name table ≡ None → Rises name
-unfolding rules_for
+unfolding all_rules rules_for
 others_rise name e = rw (e) refl
 
 rises : (name : List ℕ) → Rises name

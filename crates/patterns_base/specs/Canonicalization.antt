@@ -1,13 +1,15 @@
 -- Greedy canonicalization (`applyPatternsGreedily`): the first operation in pre-order at which a rule applies, with
 -- the lowest such rule, again and again, up to a limit.
 use Rattle.std.specs.Prelude.{◌≡◌, ℕ, zero, suc, ◌+◌, ◌&&◌, nat_le, List, [], ◌∷◌, if◌then◌else◌, Some}
-use Rattle.std.specs.List.{filter, range_with_len}
+use Rattle.std.specs.List.{filter}
 use Rattle.ir_types.specs.declared.refusal.Refusal.{Refusal}
 use Rattle.ir_types.specs.declared.refusal.Refusal.TheVariants.{BadLimit}
 use Rattle.ir_tree.specs.Ids.{ids, find}
 use Rattle.ir_tree.specs.Tree.{head}
 use Rattle.ir_tree.specs.Meaning.{Operation}
 use Rattle.rewriter_machine.specs.events.Modules.{Module}
+use Rattle.patterns_base.specs.declared.rule.Rule.{Rule}
+use Rattle.patterns_base.specs.RuleNames.{all_rules, is_canonical}
 use Rattle.patterns_base.specs.Rules.{rules_for}
 use Rattle.patterns_base.specs.Rewrites.{Rewrite, none, refused, becomes, rewrite_of}
 
@@ -18,13 +20,13 @@ or_else (refused e) b = refused e
 or_else (becomes m) b = becomes m
 
 -- the first of some rules that applies at an operation
-unfoldable pub first_rule : List ℕ → Module → ℕ → Rewrite
+unfoldable pub first_rule : List Rule → Module → ℕ → Rewrite
 first_rule [] m x = none
 first_rule (r ∷ rs) m x = or_else (rewrite_of r m x) (first_rule rs m x)
 
 -- the rules that canonicalization tries
-abbrev pub greedy_rules : List ℕ
-greedy_rules = range_with_len 1 24
+abbrev pub greedy_rules : List Rule
+greedy_rules = filter is_canonical all_rules
 
 -- the lowest of them at an operation
 abbrev pub lowest : Module → ℕ → Rewrite
@@ -72,12 +74,14 @@ most_rewrites = 1000000
 
 -- at most so many rewrites of a module
 unfoldable pub canonicalization_of : ℕ → Module → Canonical
-canonicalization_of limit m = if nat_le 1 limit && nat_le limit most_rewrites then canonical_from limit 0 m else stopped BadLimit
+canonicalization_of limit m =
+    if nat_le 1 limit && nat_le limit most_rewrites then canonical_from limit 0 m else stopped BadLimit
 
 -- those of the table for a name
-abbrev pub greedy_rules_for : List ℕ → List ℕ
-greedy_rules_for name = filter (λ r. nat_le r 24) (rules_for name)
+abbrev pub greedy_rules_for : List ℕ → List Rule
+greedy_rules_for name = filter is_canonical (rules_for name)
 
 -- that no others need be tried
 abbrev pub TableSuffices : Type 0
-TableSuffices = (m : Module) (x : ℕ) (o : Operation) → find x m.tree ≡ Some o → lowest m x ≡ first_rule (greedy_rules_for (head o).name) m x
+TableSuffices = (m : Module) (x : ℕ) (o : Operation) → find x m.tree ≡ Some o
+    → lowest m x ≡ first_rule (greedy_rules_for (head o).name) m x

@@ -1,4 +1,4 @@
--- Rules 19 to 21: casts of casts. In brackets stands where MLIR has the rule.
+-- Rules on casts of casts. In brackets stands where MLIR has the rule.
 use Rattle.std.specs.Prelude.{ℕ, List, ◌∷◌, codes, ◌||◌, nat_le, if◌then◌else◌, Option, Some}
 use Rattle.ir_types.specs.Readings.{type_width}
 use Rattle.ir_tree.specs.declared.place.Place.{Place}
@@ -30,17 +30,20 @@ module _ (t : Operation) (n : ℕ) (front : Place) (o : Operation) where
   abbrev pub recast : One → One → List Edit
   recast p q = give_new front n x (cast q.name p.ty q.first)
 
-  -- rule 19: an extension of one by the same, or by zeros, then one like that (`ExtSIOp::fold`, `ExtUIOp::fold`,
-  -- `ExtSIOfExtUI`)
-  abbrev pub rule_19 : Option (List Edit)
-  rule_19 = on_one (λ p. when (among extensions p.name) (given (source_among t extensions p.first) (λ y. given (one y) (λ q.
+  -- `extend-extension`: an extension of one by the same, or by zeros, then one like that (`ExtSIOp::fold`,
+  -- `ExtUIOp::fold`, `ExtSIOfExtUI`)
+  abbrev pub extend_extension : Option (List Edit)
+  extend_extension =
+      on_one (λ p. when (among extensions p.name) (given (source_among t extensions p.first) (λ y. given (one y) (λ q.
       when (named p.name q.name || named (codes "arith.extsi") p.name) (Some (recast p q))))))
 
-  -- rule 20: a cut of a cut, then one; a cut of an extension back to the type that it came from, then what was
+  -- `cut-cast`: a cut of a cut, then one; a cut of an extension back to the type that it came from, then what was
   -- extended (`TruncIOp::fold`)
-  abbrev pub rule_20 : Option (List Edit)
-  rule_20 = on_one (λ p. when (named (codes "arith.trunci") p.name) (given (source_among t resizing p.first) (λ y. given (one y) (λ q.
-      if named (codes "arith.trunci") q.name then Some (recast p q) else when (is_of_type t p.ty q.first) (Some (give x q.first))))))
+  abbrev pub cut_cast : Option (List Edit)
+  cut_cast = on_one (λ p. when (named (codes "arith.trunci") p.name)
+      (given (source_among t resizing p.first) (λ y. given (one y) (λ q.
+      if named (codes "arith.trunci") q.name then Some (recast p q)
+      else when (is_of_type t p.ty q.first) (Some (give x q.first))))))
 
   -- cast p of cast q back to the type that q came from, then what was cast
   abbrev pub back_from : One → One → Option (List Edit)
@@ -49,17 +52,22 @@ module _ (t : Operation) (n : ℕ) (front : Place) (o : Operation) where
   -- an unrealized cast to the type that there is, then its operand; of such a cast back, then what was cast
   -- (`UnrealizedConversionCastOp::fold`)
   abbrev pub unrealized : One → Option (List Edit)
-  unrealized p = if is_of_type t p.ty p.first then Some (give x p.first) else given (source t p.name p.first) (λ y. given (one y) (back_from p))
+  unrealized p =
+      if is_of_type t p.ty p.first then Some (give x p.first)
+      else given (source t p.name p.first) (λ y. given (one y) (back_from p))
 
   -- a cast between an integer and index, and back, where the middle has at least as many bits (`IndexCastOfIndexCast`,
   -- `IndexCastUIOfIndexCastUI`)
   abbrev pub through_index : One → Option (List Edit)
-  through_index p = given (source t p.name p.first) (λ y. given (one y) (λ q. when (nat_le (type_width p.ty) (type_width q.ty)) (back_from p q)))
+  through_index p = given (source t p.name p.first)
+      (λ y. given (one y) (λ q. when (nat_le (type_width p.ty) (type_width q.ty)) (back_from p q)))
 
-  -- rule 21 of unrealized casts alone
-  abbrev pub rule_21_unrealized : Option (List Edit)
-  rule_21_unrealized = on_one (λ p. when (named (codes "builtin.unrealized_conversion_cast") p.name) (unrealized p))
+  -- `cast-back` of unrealized casts alone
+  abbrev pub cast_back_unrealized : Option (List Edit)
+  cast_back_unrealized = on_one (λ p. when (named (codes "builtin.unrealized_conversion_cast") p.name) (unrealized p))
 
-  -- rule 21: a cast back
-  abbrev pub rule_21 : Option (List Edit)
-  rule_21 = on_one (λ p. if named (codes "builtin.unrealized_conversion_cast") p.name then unrealized p else when (among index_casts p.name) (through_index p))
+  -- `cast-back`: a cast back
+  abbrev pub cast_back : Option (List Edit)
+  cast_back = on_one (λ p.
+      if named (codes "builtin.unrealized_conversion_cast") p.name then unrealized p
+      else when (among index_casts p.name) (through_index p))

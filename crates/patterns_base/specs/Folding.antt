@@ -1,6 +1,7 @@
--- Rules 1 to 18, 25 to 27: on values, their constants and what they are computed from. An operation that a rule makes
--- stands in front of x; the first of them has the id n. In brackets stands where MLIR has the rule.
-use Rattle.std.specs.Prelude.{ℕ, ◌+◌, List, [], ◌∷◌, codes, map, Bool, ◌&&◌, ◌||◌, not, eqb, if◌then◌else◌, Option, Some, None}
+-- Rules on values, their constants and what they are computed from, and those that expand. An operation that a rule
+-- makes stands in front of x; the first of them has the id n. In brackets stands where MLIR has the rule.
+use Rattle.std.specs.Prelude.{ℕ, ◌+◌, List, [], ◌∷◌, codes, map, Bool, ◌&&◌, ◌||◌, not, eqb, if◌then◌else◌, Option}
+use Rattle.std.specs.Prelude.{Some, None}
 use Rattle.std.specs.List.{list_all}
 use Rattle.ir_types.specs.Readings.{type_width}
 use Rattle.ir_types.specs.Terms.{TypeTerm, IntegerOf}
@@ -18,8 +19,10 @@ use Rattle.rewriter_machine.specs.Contents.{Edit}
 use Rattle.rewriter_machine.specs.Edits.{Make, Erase, SetOperand, SetAttr}
 use Rattle.patterns_laws.specs.Made.{i1, i64, constant, binary, comparison, choice}
 use Rattle.patterns_laws.specs.Keeps.{given, holds_of_itself, mirrored}
-use Rattle.patterns_laws.specs.Words.{named, among, swapping, ignoring_zero, ignoring_one, cancelling, keeping, remainders, regrouping, asking, dividing}
-use Rattle.patterns_base.specs.Looks.{Header, Two, Three, when, may_go, source, is_constant, known, is_known, is_number, passes, two, three, predicate}
+use Rattle.patterns_laws.specs.Words.{named, among, swapping, ignoring_zero, ignoring_one, cancelling, keeping}
+use Rattle.patterns_laws.specs.Words.{remainders, regrouping, asking, dividing}
+use Rattle.patterns_base.specs.Looks.{Header, Two, Three, when, may_go, source, is_constant, known, is_known}
+use Rattle.patterns_base.specs.Looks.{is_number, passes, two, three, predicate}
 use Rattle.patterns_base.specs.Makes.{give, give_new, give_constant}
 
 -- whether a known value has all bits set
@@ -42,9 +45,9 @@ module _ (t : Operation) (n : ℕ) (front : Place) (o : Operation) where
   abbrev pub on_three : (Three → Option (List Edit)) → Option (List Edit)
   on_three f = given (three h) f
 
-  -- rule 1: dead, then erased (`isOpTriviallyDead`)
-  abbrev pub rule_1 : Option (List Edit)
-  rule_1 = when (may_go t o) (Some (Erase x ∷ []))
+  -- `erase-dead`: dead, then erased (`isOpTriviallyDead`)
+  abbrev pub erase_dead : Option (List Edit)
+  erase_dead = when (may_go t o) (Some (Erase x ∷ []))
 
   -- whether an operand is no constant, or known; a constant that isn't clean is neither
   abbrev pub may_read : Value → Bool
@@ -55,9 +58,10 @@ module _ (t : Operation) (n : ℕ) (front : Place) (o : Operation) where
   folded_to (ty ∷ []) (Some k) = Some (give_constant front n x ty k.1)
   folded_to _ _ = None
 
-  -- rule 2: no constant, and folds over its constant operands, then the constant (`Operation::fold`)
-  abbrev pub rule_2 : Option (List Edit)
-  rule_2 = when (not (named (codes "arith.constant") h.name) && list_all may_read h.operands) (folded_to h.results (fold_of h.name h.properties (map (known t) h.operands) h.results))
+  -- `fold-to-constant`: no constant, and folds over its constant operands, then the constant (`Operation::fold`)
+  abbrev pub fold_to_constant : Option (List Edit)
+  fold_to_constant = when (not (named (codes "arith.constant") h.name) && list_all may_read h.operands)
+      (folded_to h.results (fold_of h.name h.properties (map (known t) h.operands) h.results))
 
   -- both operands swapped in place
   abbrev pub swap : Two → List Edit
@@ -67,101 +71,120 @@ module _ (t : Operation) (n : ℕ) (front : Place) (o : Operation) where
   abbrev pub is_to_swap : Two → Bool
   is_to_swap p = is_known t p.first && not (is_constant t p.second)
 
-  -- rule 3: a constant goes second (`OpTrait::IsCommutative`)
-  abbrev pub rule_3 : Option (List Edit)
-  rule_3 = on_two (λ p. when (among swapping p.name && is_to_swap p) (Some (swap p)))
+  -- `swap-constant`: a constant goes second (`OpTrait::IsCommutative`)
+  abbrev pub swap_constant : Option (List Edit)
+  swap_constant = on_two (λ p. when (among swapping p.name && is_to_swap p) (Some (swap p)))
 
-  -- rule 4: 0 second, then the first (`AddIOp::fold` and its like)
-  abbrev pub rule_4 : Option (List Edit)
-  rule_4 = on_two (λ p. when (among ignoring_zero p.name && is_number t 0 p.second) (Some (give x p.first)))
+  -- `drop-zero`: 0 second, then the first (`AddIOp::fold` and its like)
+  abbrev pub drop_zero : Option (List Edit)
+  drop_zero = on_two (λ p. when (among ignoring_zero p.name && is_number t 0 p.second) (Some (give x p.first)))
 
-  -- rule 5: 1 second, then the first (`MulIOp::fold`, `DivSIOp::fold`, `DivUIOp::fold`)
-  abbrev pub rule_5 : Option (List Edit)
-  rule_5 = on_two (λ p. when (among ignoring_one p.name && is_number t 1 p.second) (Some (give x p.first)))
+  -- `drop-one`: 1 second, then the first (`MulIOp::fold`, `DivSIOp::fold`, `DivUIOp::fold`)
+  abbrev pub drop_one : Option (List Edit)
+  drop_one = on_two (λ p. when (among ignoring_one p.name && is_number t 1 p.second) (Some (give x p.first)))
 
-  -- rule 6: all ones second, then the first (`AndIOp::fold`)
-  abbrev pub rule_6 : Option (List Edit)
-  rule_6 = on_two (λ p. when (named (codes "arith.andi") p.name && passes (is_all_ones p.ty) (known t p.second)) (Some (give x p.first)))
+  -- `drop-all-ones`: all ones second, then the first (`AndIOp::fold`)
+  abbrev pub drop_all_ones : Option (List Edit)
+  drop_all_ones = on_two (λ p.
+      when (named (codes "arith.andi") p.name && passes (is_all_ones p.ty) (known t p.second)) (Some (give x p.first)))
 
-  -- rule 7: a value and itself, then 0 (`SubIOp::fold`, `XOrIOp::fold`)
-  abbrev pub rule_7 : Option (List Edit)
-  rule_7 = on_two (λ p. when (among cancelling p.name && same_value p.first p.second) (Some (give_constant front n x p.ty 0)))
+  -- `cancel-itself`: a value and itself, then 0 (`SubIOp::fold`, `XOrIOp::fold`)
+  abbrev pub cancel_itself : Option (List Edit)
+  cancel_itself = on_two (λ p.
+      when (among cancelling p.name && same_value p.first p.second) (Some (give_constant front n x p.ty 0)))
 
-  -- rule 8: a value and itself, then the value (`OpTrait::IsIdempotent`, `MaxSIOp::fold` and its like)
-  abbrev pub rule_8 : Option (List Edit)
-  rule_8 = on_two (λ p. when (among keeping p.name && same_value p.first p.second) (Some (give x p.first)))
+  -- `keep-itself`: a value and itself, then the value (`OpTrait::IsIdempotent`, `MaxSIOp::fold` and its like)
+  abbrev pub keep_itself : Option (List Edit)
+  keep_itself = on_two (λ p. when (among keeping p.name && same_value p.first p.second) (Some (give x p.first)))
 
-  -- rule 9: a remainder by 1, then 0 (`RemSIOp::fold`, `RemUIOp::fold`)
-  abbrev pub rule_9 : Option (List Edit)
-  rule_9 = on_two (λ p. when (among remainders p.name && is_number t 1 p.second) (Some (give_constant front n x p.ty 0)))
+  -- `zero-remainder`: a remainder by 1, then 0 (`RemSIOp::fold`, `RemUIOp::fold`)
+  abbrev pub zero_remainder : Option (List Edit)
+  zero_remainder =
+      on_two (λ p. when (among remainders p.name && is_number t 1 p.second) (Some (give_constant front n x p.ty 0)))
 
   -- the constant c op d, and a op it
   abbrev pub regrouped : Two → Value → Known → Known → Option (List Edit)
-  regrouped p a c d = given (fold_of p.name [] (Some c ∷ Some d ∷ []) (p.ty ∷ [])) (λ k. Some (Make front (constant p.ty k.1) ∷ give_new front (n + 1) x (binary p.name p.ty a (Result n 0))))
+  regrouped p a c d = given (fold_of p.name [] (Some c ∷ Some d ∷ []) (p.ty ∷ []))
+      (λ k. Some (Make front (constant p.ty k.1) ∷ give_new front (n + 1) x (binary p.name p.ty a (Result n 0))))
 
-  -- rule 10: (a op c) op d, with constants c and d, then a op (c op d) (`AddIAddConstant`, `MulIMulIConstant`)
-  abbrev pub rule_10 : Option (List Edit)
-  rule_10 = on_two (λ p. when (among regrouping p.name)
-      (given (known t p.second) (λ d. given (source t p.name p.first) (λ y. given (two y) (λ q. given (known t q.second) (λ c. regrouped p q.first c d))))))
+  -- `regroup-constants`: (a op c) op d, with constants c and d, then a op (c op d) (`AddIAddConstant`,
+  -- `MulIMulIConstant`)
+  abbrev pub regroup_constants : Option (List Edit)
+  regroup_constants = on_two (λ p. when (among regrouping p.name)
+      (given (known t p.second) (λ d. given (source t p.name p.first) (λ y. given (two y) (λ q.
+      given (known t q.second) (λ c. regrouped p q.first c d))))))
 
-  -- rule 11: a - c, with a constant c, then a + (-c)
-  abbrev pub rule_11 : Option (List Edit)
-  rule_11 = on_two (λ p. when (named (codes "arith.subi") p.name)
-      (given (known t p.second) (λ c. Some (Make front (constant p.ty (difference_of (type_width p.ty) 0 c.1)) ∷ give_new front (n + 1) x (binary (codes "arith.addi") p.ty p.first (Result n 0))))))
+  -- `add-negative`: a - c, with a constant c, then a + (-c)
+  abbrev pub add_negative : Option (List Edit)
+  add_negative = on_two (λ p. when (named (codes "arith.subi") p.name)
+      (given (known t p.second) (λ c.
+      Some (Make front (constant p.ty (difference_of (type_width p.ty) 0 c.1))
+      ∷ give_new front (n + 1) x (binary (codes "arith.addi") p.ty p.first (Result n 0))))))
 
   -- something made of a comparison and its predicate's number
   abbrev pub on_comparison : (Two → ℕ → Option (List Edit)) → Option (List Edit)
   on_comparison f = on_two (λ p. when (named (codes "arith.cmpi") p.name) (given (predicate h) (f p)))
 
-  -- rule 12: a comparison of a value and itself, then true or false (`CmpIOp::fold`)
-  abbrev pub rule_12 : Option (List Edit)
-  rule_12 = on_comparison (λ p asks. when (same_value p.first p.second) (Some (give_constant front n x p.ty (holds_of_itself asks))))
+  -- `compare-itself`: a comparison of a value and itself, then true or false (`CmpIOp::fold`)
+  abbrev pub compare_itself : Option (List Edit)
+  compare_itself = on_comparison
+      (λ p asks. when (same_value p.first p.second) (Some (give_constant front n x p.ty (holds_of_itself asks))))
 
-  -- rule 13: a comparison of a constant first and none second, swapped and mirrored in place (`CmpIOp::fold`)
-  abbrev pub rule_13 : Option (List Edit)
-  rule_13 = on_comparison (λ p asks. when (is_to_swap p) (Some (SetAttr x (codes "predicate") (IntegerOf i64 (mirrored asks)) ∷ swap p)))
+  -- `mirror-comparison`: a comparison of a constant first and none second, swapped and mirrored in place
+  -- (`CmpIOp::fold`)
+  abbrev pub mirror_comparison : Option (List Edit)
+  mirror_comparison = on_comparison
+      (λ p asks. when (is_to_swap p) (Some (SetAttr x (codes "predicate") (IntegerOf i64 (mirrored asks)) ∷ swap p)))
 
-  -- rule 14: a comparison with 0, which nothing is below, then true or false
-  abbrev pub rule_14 : Option (List Edit)
-  rule_14 = on_comparison (λ p asks. when (is_number t 0 p.second && (eqb asks 6 || eqb asks 9)) (Some (give_constant front n x p.ty (if eqb asks 9 then 1 else 0))))
+  -- `compare-zero`: a comparison with 0, which nothing is below, then true or false
+  abbrev pub compare_zero : Option (List Edit)
+  compare_zero = on_comparison (λ p asks.
+      when (is_number t 0 p.second && (eqb asks 6 || eqb asks 9))
+      (Some (give_constant front n x p.ty (if eqb asks 9 then 1 else 0))))
 
   -- something made of a choice
   abbrev pub on_choice : (Three → Option (List Edit)) → Option (List Edit)
   on_choice f = on_three (λ p. when (named (codes "arith.select") p.name) (f p))
 
-  -- rule 15: a choice between a value and itself, then the value (`SelectOp::fold`)
-  abbrev pub rule_15 : Option (List Edit)
-  rule_15 = on_choice (λ p. when (same_value p.second p.third) (Some (give x p.second)))
+  -- `choose-same`: a choice between a value and itself, then the value (`SelectOp::fold`)
+  abbrev pub choose_same : Option (List Edit)
+  choose_same = on_choice (λ p. when (same_value p.second p.third) (Some (give x p.second)))
 
-  -- rule 16: a choice by a constant, then the chosen one (`SelectOp::fold`)
-  abbrev pub rule_16 : Option (List Edit)
-  rule_16 = on_choice (λ p. given (known t p.first) (λ c. Some (give x (choice_of c.1 p.second p.third))))
+  -- `choose-known`: a choice by a constant, then the chosen one (`SelectOp::fold`)
+  abbrev pub choose_known : Option (List Edit)
+  choose_known = on_choice (λ p. given (known t p.first) (λ c. Some (give x (choice_of c.1 p.second p.third))))
 
-  -- rule 17: a choice between true and false, then the condition (`SelectOp::fold`)
-  abbrev pub rule_17 : Option (List Edit)
-  rule_17 = on_choice (λ p. when (same_type p.ty i1 && (is_number t 1 p.second && is_number t 0 p.third)) (Some (give x p.first)))
+  -- `choose-truth`: a choice between true and false, then the condition (`SelectOp::fold`)
+  abbrev pub choose_truth : Option (List Edit)
+  choose_truth = on_choice
+      (λ p. when (same_type p.ty i1 && (is_number t 1 p.second && is_number t 0 p.third)) (Some (give x p.first)))
 
-  -- rule 18: a choice by the opposite of a condition, by the condition with both swapped in place (`SelectNotCond`)
-  abbrev pub rule_18 : Option (List Edit)
-  rule_18 = on_choice (λ p. given (source t (codes "arith.xori") p.first) (λ y. given (two y) (λ q. when (is_number t 1 q.second)
+  -- `choose-opposite`: a choice by the opposite of a condition, by the condition with both swapped in place
+  -- (`SelectNotCond`)
+  abbrev pub choose_opposite : Option (List Edit)
+  choose_opposite = on_choice (λ p.
+      given (source t (codes "arith.xori") p.first) (λ y. given (two y) (λ q. when (is_number t 1 q.second)
       (Some (SetOperand x 0 q.first ∷ SetOperand x 1 p.third ∷ SetOperand x 2 p.second ∷ [])))))
 
-  -- rule 25: the greater or the lesser, then a comparison and a choice (`MaxMinIOpConverter` of `arith-expand`)
-  abbrev pub rule_25 : Option (List Edit)
-  rule_25 = on_two (λ p. given (beside p.name asking) (λ asks. Some (Make front (comparison asks p.first p.second) ∷ give_new front (n + 1) x (choice p.ty (Result n 0) p.first p.second))))
+  -- `expand-min-max`: the greater or the lesser, then a comparison and a choice (`MaxMinIOpConverter` of
+  -- `arith-expand`)
+  abbrev pub expand_min_max : Option (List Edit)
+  expand_min_max = on_two (λ p. given (beside p.name asking) (λ asks.
+      Some (Make front (comparison asks p.first p.second)
+      ∷ give_new front (n + 1) x (choice p.ty (Result n 0) p.first p.second))))
 
-  -- rule 26: a - b, then a + ((b xor -1) + 1)
-  abbrev pub rule_26 : Option (List Edit)
-  rule_26 = on_two (λ p. when (named (codes "arith.subi") p.name) (Some (
+  -- `expand-difference`: a - b, then a + ((b xor -1) + 1)
+  abbrev pub expand_difference : Option (List Edit)
+  expand_difference = on_two (λ p. when (named (codes "arith.subi") p.name) (Some (
       Make front (constant p.ty (all_ones (type_width p.ty)))
       ∷ Make front (binary (codes "arith.xori") p.ty p.second (Result n 0))
       ∷ Make front (constant p.ty 1)
       ∷ Make front (binary (codes "arith.addi") p.ty (Result (n + 1) 0) (Result (n + 2) 0))
       ∷ give_new front (n + 4) x (binary (codes "arith.addi") p.ty p.first (Result (n + 3) 0)))))
 
-  -- rule 27: a remainder, then a - (a / b) * b
-  abbrev pub rule_27 : Option (List Edit)
-  rule_27 = on_two (λ p. given (beside p.name dividing) (λ division. Some (
+  -- `expand-remainder`: a remainder, then a - (a / b) * b
+  abbrev pub expand_remainder : Option (List Edit)
+  expand_remainder = on_two (λ p. given (beside p.name dividing) (λ division. Some (
       Make front (binary division p.ty p.first p.second)
       ∷ Make front (binary (codes "arith.muli") p.ty (Result n 0) p.second)
       ∷ give_new front (n + 2) x (binary (codes "arith.subi") p.ty p.first (Result (n + 1) 0)))))

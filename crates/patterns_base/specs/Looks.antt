@@ -1,6 +1,7 @@
 -- What rules look at in a tree of operations: which operation gives a value, whether it is clean, and what is known of
 -- it.
-use Rattle.std.specs.Prelude.{ℕ, List, [], ◌∷◌, Bool, true, false, ◌&&◌, eqb, codes, is_some, Option, Some, None, option_map}
+use Rattle.std.specs.Prelude.{ℕ, List, [], ◌∷◌, Bool, true, false, ◌&&◌, eqb, codes, is_some, Option, Some, None}
+use Rattle.std.specs.Prelude.{option_map}
 use Rattle.std.specs.List.{list_all}
 use Rattle.std.specs.Option.{option_eq}
 use Rattle.ir_types.specs.Words.{is_inherent}
@@ -37,7 +38,8 @@ breaks_none _ = false
 -- whether the operation of a header is clean: it breaks no rule of the verifier, and each of its properties is
 -- inherent to its name
 unfoldable pub is_clean : Operation → Header → Bool
-is_clean t h = breaks_none (broken_at h.id t) && list_all (λ (e : List ℕ × AttrTerm). is_inherent h.name e.0) h.properties
+is_clean t h =
+    breaks_none (broken_at h.id t) && list_all (λ (e : List ℕ × AttrTerm). is_inherent h.name e.0) h.properties
 
 -- whether an operation may go: nobody uses what it gives, and nobody would miss what it does (`isOpTriviallyDead`)
 unfoldable pub may_go : Operation → Operation → Bool

@@ -1,6 +1,7 @@
--- Rules 28 to 30: operations on index become operations on i64, with unrealized casts around them (as a type
--- converter's materializations). In brackets stands where MLIR has the rule.
-use Rattle.std.specs.Prelude.{ℕ, ◌+◌, List, [], ◌∷◌, ◌++◌, codes, map, length, reverse, Bool, true, false, ◌&&◌, ◌||◌, Option, Some, None}
+-- Lowering: operations on index become operations on i64, with unrealized casts around them (as a type converter's
+-- materializations). In brackets stands where MLIR has the rule.
+use Rattle.std.specs.Prelude.{ℕ, ◌+◌, List, [], ◌∷◌, ◌++◌, codes, map, length, reverse, Bool, true, false, ◌&&◌, ◌||◌}
+use Rattle.std.specs.Prelude.{Option, Some, None}
 use Rattle.std.specs.List.{list_any, range_with_len}
 use Rattle.ir_types.specs.Terms.{TypeTerm, Index, AttrTerm, IntegerOf}
 use Rattle.ir_tree.specs.declared.value.Value.{Value}
@@ -91,7 +92,7 @@ before_in x r y = record { parent = x; region = r; before = Some y }
 abbrev pub beside : Place → ℕ → Place
 beside front y = record { parent = front.parent; region = front.region; before = Some y }
 
--- operations come into block r of operation y, each in front of the one named before it, the first of them in front of z
+-- operations come into block r of operation y, each in front of the one named before it, the first of them before z
 abbrev pub gathering : ℕ → ℕ → ℕ → List ℕ → List Edit
 gathering y r z [] = []
 gathering y r z (x ∷ xs) = Move x (before_in y r z) ∷ gathering y r x xs
@@ -100,7 +101,8 @@ gathering y r z (x ∷ xs) = Move x (before_in y r z) ∷ gathering y r x xs
 -- order, in front of y, and then, the last of them first, into the block. So each one sees its operands and is seen by
 -- its users wherever it stands meanwhile, as it wouldn't be where they came from the one block into the other
 abbrev pub brought : Place → ℕ → ℕ → List ℕ → ℕ → List Edit
-brought front y r ops last = moving (beside front y) ops ++ Move last (beside front y) ∷ Move last (end_of y r) ∷ gathering y r last (reverse ops)
+brought front y r ops last = moving (beside front y) ops
+    ++ Move last (beside front y) ∷ Move last (end_of y r) ∷ gathering y r last (reverse ops)
 
 module _ (t : Operation) (n : ℕ) (front : Place) (o : Operation) where
   abbrev h : Header
@@ -121,7 +123,8 @@ module _ (t : Operation) (n : ℕ) (front : Place) (o : Operation) where
   abbrev pub give_lowered : ℕ → ℕ → List Edit
   give_lowered y c =
       let results = results_from y 0 h.results in
-      bridges Index front index_results results ++ replacing (results_from x 0 h.results) (crossed c index_results results) ++ Erase x ∷ []
+      bridges Index front index_results results
+      ++ replacing (results_from x 0 h.results) (crossed c index_results results) ++ Erase x ∷ []
 
   -- the id of the operation on i64: its operands' casts have the first ones, and it the next
   abbrev pub lowered_id : ℕ
@@ -131,16 +134,17 @@ module _ (t : Operation) (n : ℕ) (front : Place) (o : Operation) where
   abbrev pub make_lowered : List Edit
   make_lowered = Make front (lowered_op o (crossed n index_operands h.operands)) ∷ []
 
-  -- rule 28: an operation of arith on index, then one on i64
-  abbrev pub rule_28 : Option (List Edit)
-  rule_28 = when (among index_users h.name && (any index_operands || any index_results))
+  -- `lower-index`: an operation of arith on index, then one on i64
+  abbrev pub lower_index : Option (List Edit)
+  lower_index = when (among index_users h.name && (any index_operands || any index_results))
       (Some (bridges i64 front index_operands h.operands ++ make_lowered ++ give_lowered lowered_id (lowered_id + 1)))
 
   -- the operations of block r of x become those of block r of operation y, and what the last of them hands on goes
   -- through casts whose ids begin with c; values of x were replaced there by others
   abbrev pub take_over : ℕ → ℕ → ℕ → Ended → List Value → List Value → List Edit
   take_over y r c e olds news =
-      bridges i64 (before_in y r e.last.id) index_results (map (replaced olds news) e.last.operands) ++ crossing e.last.id 0 c index_results
+      bridges i64 (before_in y r e.last.id) index_results (map (replaced olds news) e.last.operands)
+      ++ crossing e.last.id 0 c index_results
 
   -- all operations of block r, the last of them too, brought there
   abbrev pub move_over : ℕ → ℕ → Ended → List Edit
@@ -171,9 +175,10 @@ module _ (t : Operation) (n : ℕ) (front : Place) (o : Operation) where
       ++ take_over y 0 yields_id e olds news
       ++ give_lowered y results_id
 
-  -- rule 29: a loop over index, then one over i64 (`ConvertForOpTypes`)
-  abbrev pub rule_29 : Option (List Edit)
-  rule_29 = when (named (codes "scf.for") h.name && any index_operands) (given (arguments_at 0 o) (λ args. given (body t o 0) (λ e. Some (lowered_loop args e))))
+  -- `lower-loop`: a loop over index, then one over i64 (`ConvertForOpTypes`)
+  abbrev pub lower_loop : Option (List Edit)
+  lower_loop = when (named (codes "scf.for") h.name && any index_operands)
+      (given (arguments_at 0 o) (λ args. given (body t o 0) (λ e. Some (lowered_loop args e))))
 
   -- an if: the new one, casts of what its blocks hand on, casts of its results
   abbrev pub lowered_if : Ended → Ended → List Edit
@@ -186,6 +191,7 @@ module _ (t : Operation) (n : ℕ) (front : Place) (o : Operation) where
       ++ move_over lowered_id 1 f ++ take_over lowered_id 1 second_id f [] []
       ++ give_lowered lowered_id results_id
 
-  -- rule 30: an if that gives an index, then one that gives an i64 (`ConvertIfOpTypes`)
-  abbrev pub rule_30 : Option (List Edit)
-  rule_30 = when (named (codes "scf.if") h.name && any index_results) (given (body t o 0) (λ e. given (body t o 1) (λ f. Some (lowered_if e f))))
+  -- `lower-choice`: an if that gives an index, then one that gives an i64 (`ConvertIfOpTypes`)
+  abbrev pub lower_choice : Option (List Edit)
+  lower_choice = when (named (codes "scf.if") h.name && any index_results)
+      (given (body t o 0) (λ e. given (body t o 1) (λ f. Some (lowered_if e f))))

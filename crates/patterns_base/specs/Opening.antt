@@ -1,6 +1,7 @@
--- Rules 22 to 24: branches that are known, and loops that are gone through once or not at all. In brackets stands
--- where MLIR has the rule.
-use Rattle.std.specs.Prelude.{ℕ, List, [], ◌∷◌, ◌++◌, codes, map, eqb, Bool, ◌&&◌, pos, ◌+ℤ◌, int_lt, int_le, if◌then◌else◌, ℤ, Option, Some, None}
+-- Rules on branches that are known, and on loops that are gone through once or not at all. In brackets stands where
+-- MLIR has the rule.
+use Rattle.std.specs.Prelude.{ℕ, List, [], ◌∷◌, ◌++◌, codes, map, eqb, Bool, ◌&&◌, pos, ◌+ℤ◌, int_lt, int_le}
+use Rattle.std.specs.Prelude.{if◌then◌else◌, ℤ, Option, Some, None}
 use Rattle.ir_types.specs.Readings.{signed_of}
 use Rattle.ir_types.specs.Bits.{width_of}
 use Rattle.ir_types.specs.Terms.{TypeTerm, AttrTerm}
@@ -54,12 +55,13 @@ module _ (t : Operation) (front : Place) (o : Operation) where
 
   -- the region that a known condition chooses
   abbrev pub by_condition : List Value → Option (List Edit)
-  by_condition (c ∷ []) = given (known t c) (λ k. let r = if eqb k.1 0 then 1 else 0 in given (region_at r (regions o)) (λ g. chosen g r))
+  by_condition (c ∷ []) =
+      given (known t c) (λ k. let r = if eqb k.1 0 then 1 else 0 in given (region_at r (regions o)) (λ g. chosen g r))
   by_condition _ = None
 
-  -- rule 22: an if by a known condition, then the block that it chooses (`RemoveStaticCondition`)
-  abbrev pub rule_22 : Option (List Edit)
-  rule_22 = when (named (codes "scf.if") h.name) (by_condition h.operands)
+  -- `open-branch`: an if by a known condition, then the block that it chooses (`RemoveStaticCondition`)
+  abbrev pub open_branch : Option (List Edit)
+  open_branch = when (named (codes "scf.if") h.name) (by_condition h.operands)
 
   -- whether a loop whose lower bound is below its upper one is gone through once
   abbrev pub goes_once : ℤ → ℤ → ℤ → Bool
@@ -77,18 +79,19 @@ module _ (t : Operation) (front : Place) (o : Operation) where
   -- which of both known bounds and a known step tell; where lower isn't below upper, the step isn't looked at
   abbrev pub by_bounds : Loop → Option (List Edit)
   by_bounds l = given (known t l.lower) (λ low. given (known t l.upper) (λ high.
-      if int_lt (reading low) (reading high) then given (known t l.step) (λ step. when (goes_once (reading low) (reading high) (reading step)) (once l))
+      if int_lt (reading low) (reading high)
+      then given (known t l.step) (λ step. when (goes_once (reading low) (reading high) (reading step)) (once l))
       else Some (never l)))
 
-  -- rule 23: a loop that is gone through once or never (`SimplifyTrivialLoops`)
-  abbrev pub rule_23 : Option (List Edit)
-  rule_23 = when (named (codes "scf.for") h.name) (given (loop_from h.operands) by_bounds)
+  -- `open-loop`: a loop that is gone through once or never (`SimplifyTrivialLoops`)
+  abbrev pub open_loop : Option (List Edit)
+  open_loop = when (named (codes "scf.for") h.name) (given (loop_from h.operands) by_bounds)
 
   -- where a block's condition is known to be false: the block, and what the condition hands on
   abbrev pub by_end : Ended → List Value → Option (List Edit)
   by_end e (c ∷ handed) = when (is_number t 0 c) (Some (opened e h.operands handed))
   by_end e _ = None
 
-  -- rule 24: a loop whose condition is known to be false, then its first block
-  abbrev pub rule_24 : Option (List Edit)
-  rule_24 = when (named (codes "scf.while") h.name) (given (body t o 0) (λ e. by_end e e.last.operands))
+  -- `stop-loop`: a loop whose condition is known to be false, then its first block
+  abbrev pub stop_loop : Option (List Edit)
+  stop_loop = when (named (codes "scf.while") h.name) (given (body t o 0) (λ e. by_end e e.last.operands))

@@ -1,5 +1,5 @@
 -- What a rule makes of a module at an operation.
-use Rattle.std.specs.Prelude.{◌≡◌, ℕ, ◌+◌, ◌≤◌, nat_le, List, [], ◌∷◌, if◌then◌else◌, Option, Some, None}
+use Rattle.std.specs.Prelude.{◌≡◌, ℕ, ◌+◌, ◌≤◌, nat_le, List, true, if◌then◌else◌, Option, Some, None}
 use Rattle.ir_types.specs.declared.refusal.Refusal.{Refusal}
 use Rattle.ir_types.specs.declared.refusal.Refusal.TheVariants.{Full, IdsExhausted}
 use Rattle.ir_tree.specs.declared.place.Place.{Place}
@@ -9,9 +9,11 @@ use Rattle.ir_tree.specs.Limits.{most_ops, most_next}
 use Rattle.ir_tree.specs.Meaning.{Operation}
 use Rattle.rewriter_machine.specs.events.Modules.{Module}
 use Rattle.rewriter_machine.specs.Contents.{Edit, all_edited}
-use Rattle.patterns_laws.specs.Keeps.{given, Each}
+use Rattle.patterns_laws.specs.Keeps.{given}
 use Rattle.patterns_base.specs.Looks.{when, is_clean, front_of}
 use Rattle.patterns_base.specs.Makes.{made_by}
+use Rattle.patterns_base.specs.declared.rule.Rule.{Rule}
+use Rattle.patterns_base.specs.RuleNames.{is_converting}
 use Rattle.patterns_base.specs.Rules.{rule}
 
 -- what comes of a rule: nothing, where it doesn't apply, a refusal, or the module after it
@@ -21,14 +23,17 @@ pub data Rewrite : Type 0 where
   becomes : Module → Rewrite
 
 -- the edits of rule r at operation x, which is clean and not the root
-unfoldable pub edits_of : ℕ → Module → ℕ → Option (List Edit)
-edits_of r m x = given (find x m.tree) (λ o. given (front_of x m.tree) (λ front. when (is_clean m.tree (head o)) (rule r m.tree m.next front o)))
+unfoldable pub edits_of : Rule → Module → ℕ → Option (List Edit)
+edits_of r m x = given (find x m.tree)
+    (λ o. given (front_of x m.tree) (λ front. when (is_clean m.tree (head o)) (rule r m.tree m.next front o)))
 
 -- what edits make of a module, where the operations with those that they make, and then the ids, are within their
 -- limits
 abbrev pub carried_out : List Edit → Module → Rewrite
 carried_out es m =
-    if nat_le (op_count m.tree + made_by es) most_ops then (if nat_le (m.next + made_by es) most_next then becomes (all_edited es m) else refused IdsExhausted) else refused Full
+    if nat_le (op_count m.tree + made_by es) most_ops
+    then (if nat_le (m.next + made_by es) most_next then becomes (all_edited es m) else refused IdsExhausted)
+    else refused Full
 
 -- what comes of a rule's edits, if there are some
 abbrev pub rewrite_by : Option (List Edit) → Module → Rewrite
@@ -36,13 +41,11 @@ rewrite_by None m = none
 rewrite_by (Some es) m = carried_out es m
 
 -- what rule r makes of a module at operation x
-unfoldable pub rewrite_of : ℕ → Module → ℕ → Rewrite
+unfoldable pub rewrite_of : Rule → Module → ℕ → Rewrite
 rewrite_of r m x = rewrite_by (edits_of r m x) m
 
--- the rules that conversion may try
-abbrev pub converting_rules : List ℕ
-converting_rules = 2 ∷ 25 ∷ 26 ∷ 27 ∷ 28 ∷ 29 ∷ 30 ∷ []
-
--- where one of them applies, it makes an operation
+-- where a rule applies that conversion may try, it makes an operation
 abbrev pub ConvertingRulesMake : Type 0
-ConvertingRulesMake = Each (λ r. (t : Operation) (n : ℕ) (front : Place) (o : Operation) (es : List Edit) → rule r t n front o ≡ Some es → 1 ≤ made_by es) converting_rules
+ConvertingRulesMake =
+    (r : Rule) (t : Operation) (n : ℕ) (front : Place) (o : Operation) (es : List Edit)
+    → is_converting r ≡ true → rule r t n front o ≡ Some es → 1 ≤ made_by es

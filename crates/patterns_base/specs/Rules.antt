@@ -1,105 +1,136 @@
--- The rules by their numbers, and which of them there are for the operations of a name.
-use Rattle.std.specs.Prelude.{◌≡◌, false, ℕ, List, [], ◌∷◌, codes, eqb, Bool, if◌then◌else◌, unwrap_or, Option, None}
+-- What each rule makes, and which of them there are for the operations of a name.
+use Rattle.std.specs.Prelude.{◌≡◌, false, ℕ, List, [], ◌∷◌, codes, Bool, unwrap_or, Option, None}
 use Rattle.std.specs.List.{list_any}
 use Rattle.ir_tree.specs.declared.place.Place.{Place}
 use Rattle.ir_tree.specs.Tree.{head}
 use Rattle.ir_tree.specs.Meaning.{Operation}
 use Rattle.op_registry.specs.Registry.{beside}
 use Rattle.rewriter_machine.specs.Contents.{Edit}
-use Rattle.patterns_base.specs.Folding.{rule_1, rule_2, rule_3, rule_4, rule_5, rule_6, rule_7, rule_8, rule_9, rule_10, rule_11, rule_12, rule_13, rule_14, rule_15, rule_16, rule_17, rule_18, rule_25, rule_26, rule_27}
-use Rattle.patterns_base.specs.Casting.{rule_19, rule_20, rule_21}
-use Rattle.patterns_base.specs.Opening.{rule_22, rule_23, rule_24}
-use Rattle.patterns_base.specs.Lowering.{rule_28, rule_29, rule_30}
+use Rattle.patterns_base.specs.declared.rule.Rule.{Rule}
+use Rattle.patterns_base.specs.declared.rule.Rule.TheVariants.{EraseDead, FoldToConstant, SwapConstant, DropZero}
+use Rattle.patterns_base.specs.declared.rule.Rule.TheVariants.{DropOne, DropAllOnes, CancelItself, KeepItself}
+use Rattle.patterns_base.specs.declared.rule.Rule.TheVariants.{ZeroRemainder, RegroupConstants, AddNegative}
+use Rattle.patterns_base.specs.declared.rule.Rule.TheVariants.{CompareItself, MirrorComparison, CompareZero}
+use Rattle.patterns_base.specs.declared.rule.Rule.TheVariants.{ChooseSame, ChooseKnown, ChooseTruth, ChooseOpposite}
+use Rattle.patterns_base.specs.declared.rule.Rule.TheVariants.{ExtendExtension, CutCast, CastBack, OpenBranch}
+use Rattle.patterns_base.specs.declared.rule.Rule.TheVariants.{OpenLoop, StopLoop, ExpandMinMax, ExpandDifference}
+use Rattle.patterns_base.specs.declared.rule.Rule.TheVariants.{ExpandRemainder, LowerIndex, LowerLoop, LowerChoice}
+use Rattle.patterns_base.specs.RuleNames.{same_rule}
+use Rattle.patterns_base.specs.Folding.{erase_dead, fold_to_constant, swap_constant, drop_zero, drop_one}
+use Rattle.patterns_base.specs.Folding.{drop_all_ones, cancel_itself, keep_itself, zero_remainder, regroup_constants}
+use Rattle.patterns_base.specs.Folding.{add_negative, compare_itself, mirror_comparison, compare_zero, choose_same}
+use Rattle.patterns_base.specs.Folding.{choose_known, choose_truth, choose_opposite, expand_min_max}
+use Rattle.patterns_base.specs.Folding.{expand_difference, expand_remainder}
+use Rattle.patterns_base.specs.Casting.{extend_extension, cut_cast, cast_back}
+use Rattle.patterns_base.specs.Opening.{open_branch, open_loop, stop_loop}
+use Rattle.patterns_base.specs.Lowering.{lower_index, lower_loop, lower_choice}
 
 -- the rules that there may be at operations of a name, rising: each listed operation's in a row, in the order of the
 -- operations' words
-unfoldable pub table : List (List ℕ × List ℕ)
+unfoldable pub table : List (List ℕ × List Rule)
 table =
     (codes "builtin.module", [])
-    ∷ (codes "builtin.unrealized_conversion_cast", 1 ∷ 21 ∷ [])
+    ∷ (codes "builtin.unrealized_conversion_cast", EraseDead ∷ CastBack ∷ [])
     ∷ (codes "func.func", [])
     ∷ (codes "func.call", [])
     ∷ (codes "func.return", [])
-    ∷ (codes "arith.constant", 1 ∷ 28 ∷ [])
-    ∷ (codes "arith.addi", 1 ∷ 2 ∷ 3 ∷ 4 ∷ 10 ∷ 28 ∷ [])
-    ∷ (codes "arith.subi", 1 ∷ 2 ∷ 4 ∷ 7 ∷ 11 ∷ 26 ∷ 28 ∷ [])
-    ∷ (codes "arith.muli", 1 ∷ 2 ∷ 3 ∷ 5 ∷ 10 ∷ 28 ∷ [])
-    ∷ (codes "arith.shli", 1 ∷ 2 ∷ 4 ∷ 28 ∷ [])
-    ∷ (codes "arith.divsi", 1 ∷ 2 ∷ 5 ∷ 28 ∷ [])
-    ∷ (codes "arith.divui", 1 ∷ 2 ∷ 5 ∷ 28 ∷ [])
-    ∷ (codes "arith.remsi", 1 ∷ 2 ∷ 9 ∷ 27 ∷ 28 ∷ [])
-    ∷ (codes "arith.remui", 1 ∷ 2 ∷ 9 ∷ 27 ∷ 28 ∷ [])
-    ∷ (codes "arith.andi", 1 ∷ 2 ∷ 3 ∷ 6 ∷ 8 ∷ 10 ∷ 28 ∷ [])
-    ∷ (codes "arith.ori", 1 ∷ 2 ∷ 3 ∷ 4 ∷ 8 ∷ 10 ∷ 28 ∷ [])
-    ∷ (codes "arith.xori", 1 ∷ 2 ∷ 3 ∷ 4 ∷ 7 ∷ 10 ∷ 28 ∷ [])
-    ∷ (codes "arith.shrsi", 1 ∷ 2 ∷ 4 ∷ 28 ∷ [])
-    ∷ (codes "arith.shrui", 1 ∷ 2 ∷ 4 ∷ 28 ∷ [])
-    ∷ (codes "arith.maxsi", 1 ∷ 2 ∷ 3 ∷ 8 ∷ 25 ∷ 28 ∷ [])
-    ∷ (codes "arith.maxui", 1 ∷ 2 ∷ 3 ∷ 8 ∷ 25 ∷ 28 ∷ [])
-    ∷ (codes "arith.minsi", 1 ∷ 2 ∷ 3 ∷ 8 ∷ 25 ∷ 28 ∷ [])
-    ∷ (codes "arith.minui", 1 ∷ 2 ∷ 3 ∷ 8 ∷ 25 ∷ 28 ∷ [])
-    ∷ (codes "arith.cmpi", 1 ∷ 2 ∷ 12 ∷ 13 ∷ 14 ∷ 28 ∷ [])
-    ∷ (codes "arith.select", 1 ∷ 2 ∷ 15 ∷ 16 ∷ 17 ∷ 18 ∷ 28 ∷ [])
-    ∷ (codes "arith.extsi", 1 ∷ 2 ∷ 19 ∷ [])
-    ∷ (codes "arith.extui", 1 ∷ 2 ∷ 19 ∷ [])
-    ∷ (codes "arith.trunci", 1 ∷ 2 ∷ 20 ∷ [])
-    ∷ (codes "arith.index_cast", 1 ∷ 2 ∷ 21 ∷ [])
-    ∷ (codes "arith.index_castui", 1 ∷ 2 ∷ 21 ∷ [])
-    ∷ (codes "scf.for", 1 ∷ 23 ∷ 29 ∷ [])
-    ∷ (codes "scf.if", 1 ∷ 22 ∷ 30 ∷ [])
-    ∷ (codes "scf.while", 1 ∷ 24 ∷ [])
+    ∷ (codes "arith.constant", EraseDead ∷ LowerIndex ∷ [])
+    ∷ (codes "arith.addi", EraseDead ∷ FoldToConstant ∷ SwapConstant ∷ DropZero ∷ RegroupConstants ∷ LowerIndex ∷ [])
+    ∷ (
+      codes "arith.subi",
+      EraseDead ∷ FoldToConstant ∷ DropZero ∷ CancelItself ∷ AddNegative ∷ ExpandDifference ∷ LowerIndex ∷ [],
+    )
+    ∷ (codes "arith.muli", EraseDead ∷ FoldToConstant ∷ SwapConstant ∷ DropOne ∷ RegroupConstants ∷ LowerIndex ∷ [])
+    ∷ (codes "arith.shli", EraseDead ∷ FoldToConstant ∷ DropZero ∷ LowerIndex ∷ [])
+    ∷ (codes "arith.divsi", EraseDead ∷ FoldToConstant ∷ DropOne ∷ LowerIndex ∷ [])
+    ∷ (codes "arith.divui", EraseDead ∷ FoldToConstant ∷ DropOne ∷ LowerIndex ∷ [])
+    ∷ (codes "arith.remsi", EraseDead ∷ FoldToConstant ∷ ZeroRemainder ∷ ExpandRemainder ∷ LowerIndex ∷ [])
+    ∷ (codes "arith.remui", EraseDead ∷ FoldToConstant ∷ ZeroRemainder ∷ ExpandRemainder ∷ LowerIndex ∷ [])
+    ∷ (
+      codes "arith.andi",
+      EraseDead ∷ FoldToConstant ∷ SwapConstant ∷ DropAllOnes ∷ KeepItself ∷ RegroupConstants ∷ LowerIndex ∷ [],
+    )
+    ∷ (
+      codes "arith.ori",
+      EraseDead ∷ FoldToConstant ∷ SwapConstant ∷ DropZero ∷ KeepItself ∷ RegroupConstants ∷ LowerIndex ∷ [],
+    )
+    ∷ (
+      codes "arith.xori",
+      EraseDead ∷ FoldToConstant ∷ SwapConstant ∷ DropZero ∷ CancelItself ∷ RegroupConstants ∷ LowerIndex ∷ [],
+    )
+    ∷ (codes "arith.shrsi", EraseDead ∷ FoldToConstant ∷ DropZero ∷ LowerIndex ∷ [])
+    ∷ (codes "arith.shrui", EraseDead ∷ FoldToConstant ∷ DropZero ∷ LowerIndex ∷ [])
+    ∷ (codes "arith.maxsi", EraseDead ∷ FoldToConstant ∷ SwapConstant ∷ KeepItself ∷ ExpandMinMax ∷ LowerIndex ∷ [])
+    ∷ (codes "arith.maxui", EraseDead ∷ FoldToConstant ∷ SwapConstant ∷ KeepItself ∷ ExpandMinMax ∷ LowerIndex ∷ [])
+    ∷ (codes "arith.minsi", EraseDead ∷ FoldToConstant ∷ SwapConstant ∷ KeepItself ∷ ExpandMinMax ∷ LowerIndex ∷ [])
+    ∷ (codes "arith.minui", EraseDead ∷ FoldToConstant ∷ SwapConstant ∷ KeepItself ∷ ExpandMinMax ∷ LowerIndex ∷ [])
+    ∷ (
+      codes "arith.cmpi",
+      EraseDead ∷ FoldToConstant ∷ CompareItself ∷ MirrorComparison ∷ CompareZero ∷ LowerIndex ∷ [],
+    )
+    ∷ (
+      codes "arith.select",
+      EraseDead ∷ FoldToConstant ∷ ChooseSame ∷ ChooseKnown ∷ ChooseTruth ∷ ChooseOpposite ∷ LowerIndex ∷ [],
+    )
+    ∷ (codes "arith.extsi", EraseDead ∷ FoldToConstant ∷ ExtendExtension ∷ [])
+    ∷ (codes "arith.extui", EraseDead ∷ FoldToConstant ∷ ExtendExtension ∷ [])
+    ∷ (codes "arith.trunci", EraseDead ∷ FoldToConstant ∷ CutCast ∷ [])
+    ∷ (codes "arith.index_cast", EraseDead ∷ FoldToConstant ∷ CastBack ∷ [])
+    ∷ (codes "arith.index_castui", EraseDead ∷ FoldToConstant ∷ CastBack ∷ [])
+    ∷ (codes "scf.for", EraseDead ∷ OpenLoop ∷ LowerLoop ∷ [])
+    ∷ (codes "scf.if", EraseDead ∷ OpenBranch ∷ LowerChoice ∷ [])
+    ∷ (codes "scf.while", EraseDead ∷ StopLoop ∷ [])
     ∷ (codes "scf.yield", [])
     ∷ (codes "scf.condition", [])
-    ∷ (codes "memref.alloc", 1 ∷ [])
+    ∷ (codes "memref.alloc", EraseDead ∷ [])
     ∷ (codes "memref.dealloc", [])
-    ∷ (codes "memref.load", 1 ∷ [])
+    ∷ (codes "memref.load", EraseDead ∷ [])
     ∷ (codes "memref.store", [])
     ∷ []
 
 -- those for a name; none for one that isn't listed
-unfoldable pub rules_for : List ℕ → List ℕ
+unfoldable pub rules_for : List ℕ → List Rule
 rules_for name = unwrap_or (beside name table) []
 
 -- whether rule r is among them
-abbrev pub has_rule : ℕ → List ℕ → Bool
-has_rule r name = list_any (eqb r) (rules_for name)
+abbrev pub has_rule : Rule → List ℕ → Bool
+has_rule r name = list_any (same_rule r) (rules_for name)
 
 -- the edits of rule r at an operation that is clean, in a tree whose next free id is n, where a place is in front of
 -- it; none where the rule doesn't apply
-unfoldable pub rule : ℕ → Operation → ℕ → Place → Operation → Option (List Edit)
-rule r t n front o =
-    if eqb r 1 then rule_1 t n front o
-    else if eqb r 2 then rule_2 t n front o
-    else if eqb r 3 then rule_3 t n front o
-    else if eqb r 4 then rule_4 t n front o
-    else if eqb r 5 then rule_5 t n front o
-    else if eqb r 6 then rule_6 t n front o
-    else if eqb r 7 then rule_7 t n front o
-    else if eqb r 8 then rule_8 t n front o
-    else if eqb r 9 then rule_9 t n front o
-    else if eqb r 10 then rule_10 t n front o
-    else if eqb r 11 then rule_11 t n front o
-    else if eqb r 12 then rule_12 t n front o
-    else if eqb r 13 then rule_13 t n front o
-    else if eqb r 14 then rule_14 t n front o
-    else if eqb r 15 then rule_15 t n front o
-    else if eqb r 16 then rule_16 t n front o
-    else if eqb r 17 then rule_17 t n front o
-    else if eqb r 18 then rule_18 t n front o
-    else if eqb r 19 then rule_19 t n front o
-    else if eqb r 20 then rule_20 t n front o
-    else if eqb r 21 then rule_21 t n front o
-    else if eqb r 22 then rule_22 t front o
-    else if eqb r 23 then rule_23 t front o
-    else if eqb r 24 then rule_24 t front o
-    else if eqb r 25 then rule_25 t n front o
-    else if eqb r 26 then rule_26 t n front o
-    else if eqb r 27 then rule_27 t n front o
-    else if eqb r 28 then rule_28 t n front o
-    else if eqb r 29 then rule_29 t n front o
-    else if eqb r 30 then rule_30 t n front o
-    else None
+unfoldable pub rule : Rule → Operation → ℕ → Place → Operation → Option (List Edit)
+rule EraseDead t n front o = erase_dead t n front o
+rule FoldToConstant t n front o = fold_to_constant t n front o
+rule SwapConstant t n front o = swap_constant t n front o
+rule DropZero t n front o = drop_zero t n front o
+rule DropOne t n front o = drop_one t n front o
+rule DropAllOnes t n front o = drop_all_ones t n front o
+rule CancelItself t n front o = cancel_itself t n front o
+rule KeepItself t n front o = keep_itself t n front o
+rule ZeroRemainder t n front o = zero_remainder t n front o
+rule RegroupConstants t n front o = regroup_constants t n front o
+rule AddNegative t n front o = add_negative t n front o
+rule CompareItself t n front o = compare_itself t n front o
+rule MirrorComparison t n front o = mirror_comparison t n front o
+rule CompareZero t n front o = compare_zero t n front o
+rule ChooseSame t n front o = choose_same t n front o
+rule ChooseKnown t n front o = choose_known t n front o
+rule ChooseTruth t n front o = choose_truth t n front o
+rule ChooseOpposite t n front o = choose_opposite t n front o
+rule ExtendExtension t n front o = extend_extension t n front o
+rule CutCast t n front o = cut_cast t n front o
+rule CastBack t n front o = cast_back t n front o
+rule OpenBranch t n front o = open_branch t front o
+rule OpenLoop t n front o = open_loop t front o
+rule StopLoop t n front o = stop_loop t front o
+rule ExpandMinMax t n front o = expand_min_max t n front o
+rule ExpandDifference t n front o = expand_difference t n front o
+rule ExpandRemainder t n front o = expand_remainder t n front o
+rule LowerIndex t n front o = lower_index t n front o
+rule LowerLoop t n front o = lower_loop t n front o
+rule LowerChoice t n front o = lower_choice t n front o
 
 -- at an operation of a name that the table doesn't have with a rule, the rule doesn't apply
 abbrev pub OnlyListed : Type 0
-OnlyListed = (r : ℕ) (t : Operation) (n : ℕ) (front : Place) (o : Operation) → has_rule r (head o).name ≡ false → rule r t n front o ≡ None
+OnlyListed = (r : Rule) (t : Operation) (n : ℕ) (front : Place) (o : Operation) → has_rule r (head o).name ≡ false
+    → rule r t n front o ≡ None

@@ -1,16 +1,26 @@
 //! Answers the rules at operations of modules that standard input has, one a line, one answer a line. A line is a rule, an
-//! operation, the least next free id and a module's text, which has `\n`, `\t`, `\r` and `\xff` for bytes.
+//! operation, the least next free id and a module's text, which has `\n`, `\t`, `\r` and `\xff` for bytes; or it is `count`,
+//! a limit of rewrites, how many operations may be looked at, and a module's text.
 #![tactic(auto)]
 
+mod counts;
 mod rules;
 
-use std::alloc::AllocError;
+use std::alloc::{AllocError, Global};
 use std::io;
 use std::io::{ErrorKind, Read};
 
+/// The answer to a line.
+fn answer(alloc: Global, line: &str) -> Result<String, AllocError> {
+    match line.strip_prefix("count ") {
+        Some(rest) => counts::answer(alloc, rest),
+        None => rules::answer(alloc, line),
+    }
+}
+
 /// Prints the answer to a line.
 fn print_answer(rt: &HostRuntime, line: &str) -> Result<(), AllocError> {
-    let answer = rules::answer(rt.alloc(), line)?;
+    let answer = answer(rt.alloc(), line)?;
     let _ = println!(rt; "{answer}");
     Ok(())
 }

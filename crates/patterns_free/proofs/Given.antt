@@ -1,4 +1,4 @@
--- Rules 4 to 6, 8, 15 to 17, 20 and 21: the result is given by a value that is there.
+-- Rules by which the result is given by a value that is there.
 use Rattle.std.proofs.Common.{◌≡◌, refl, ap, sym, ◌∙◌, subst, ℕ, ◌+◌, ◌≤◌, Bool, true, false, ◌&&◌, List, [], ◌∷◌, Option, Some, None, if◌then◌else◌, inl, inr}
 use Rattle.std.specs.Prelude.{codes, ◌==◌, nat_le}
 use Rattle.std.specs.Option.{option_eq}
@@ -25,8 +25,8 @@ use Rattle.patterns_base.specs.Words.{among, ignoring_one, ignoring_zero, index_
 use Rattle.patterns_base.specs.Made.{i1}
 use Rattle.patterns_base.specs.Looks.{Header, One, is_number, is_of_type, known, one, passes, source, when}
 use Rattle.patterns_base.specs.Makes.{give, made_by}
-use Rattle.patterns_base.specs.Casting.{rule_21, through_index, unrealized}
-use Rattle.patterns_base.specs.Folding.{is_all_ones, rule_4, rule_5, rule_6, rule_8, rule_15, rule_16, rule_17}
+use Rattle.patterns_base.specs.Casting.{cast_back, through_index, unrealized}
+use Rattle.patterns_base.specs.Folding.{is_all_ones, drop_zero, drop_one, drop_all_ones, keep_itself, choose_same, choose_known, choose_truth}
 use Rattle.patterns_free.proofs.Typed.{ChoiceTypes, a_choice, among_each, choice_is, choices_are, conjunction_is, ignoring_one_are, ignoring_zero_are, keeping_are, named_is, number_is, two_numbers, typed, types_at}
 use Rattle.patterns_free.proofs.Spots.{Giver, Spot, here_is, sees_behind, sees_operand, stands_there}
 use Rattle.patterns_free.proofs.Fit as fit
@@ -73,26 +73,26 @@ module _ (m : Module) (o : Operation) (front : Place) (s : Spot m o front) where
       → Some (give (head o).id a) ≡ Some es → HasRoom m es → Free es m
   of_two es a b ty words rows name = gives_number es a b ty (among_each (λ name. types_at name ≡ Some two_numbers) words (head o).name rows name)
 
-  pub free_4 : (n : ℕ) (es : List Edit) → rule_4 m.tree n front o ≡ Some es → HasRoom m es → Free es m
-  free_4 n es e =
+  pub free_drop_zero : (n : ℕ) (es : List Edit) → drop_zero m.tree n front o ≡ Some es → HasRoom m es → Free es m
+  free_drop_zero n es e =
       let p = two_is (head o) _ es e in
       let w = when_is (among ignoring_zero (head o).name && is_number t 0 p.second) (Some (give x p.first)) es p.makes in
       of_two es p.first p.second p.ty ignoring_zero ignoring_zero_are (both (among ignoring_zero (head o).name) _ w.0).0 p.operands p.results w.1
 
-  pub free_5 : (n : ℕ) (es : List Edit) → rule_5 m.tree n front o ≡ Some es → HasRoom m es → Free es m
-  free_5 n es e =
+  pub free_drop_one : (n : ℕ) (es : List Edit) → drop_one m.tree n front o ≡ Some es → HasRoom m es → Free es m
+  free_drop_one n es e =
       let p = two_is (head o) _ es e in
       let w = when_is (among ignoring_one (head o).name && is_number t 1 p.second) (Some (give x p.first)) es p.makes in
       of_two es p.first p.second p.ty ignoring_one ignoring_one_are (both (among ignoring_one (head o).name) _ w.0).0 p.operands p.results w.1
 
-  pub free_6 : (n : ℕ) (es : List Edit) → rule_6 m.tree n front o ≡ Some es → HasRoom m es → Free es m
-  free_6 n es e =
+  pub free_drop_all_ones : (n : ℕ) (es : List Edit) → drop_all_ones m.tree n front o ≡ Some es → HasRoom m es → Free es m
+  free_drop_all_ones n es e =
       let p = two_is (head o) _ es e in
       let w = when_is (named (codes "arith.andi") (head o).name && passes (is_all_ones p.ty) (known t p.second)) (Some (give x p.first)) es p.makes in
       gives_number es p.first p.second p.ty (named_is (λ name. types_at name ≡ Some two_numbers) (codes "arith.andi") (head o).name conjunction_is (both (named (codes "arith.andi") (head o).name) _ w.0).0) p.operands p.results w.1
 
-  pub free_8 : (n : ℕ) (es : List Edit) → rule_8 m.tree n front o ≡ Some es → HasRoom m es → Free es m
-  free_8 n es e =
+  pub free_keep_itself : (n : ℕ) (es : List Edit) → keep_itself m.tree n front o ≡ Some es → HasRoom m es → Free es m
+  free_keep_itself n es e =
       let p = two_is (head o) _ es e in
       let w = when_is (among keeping (head o).name && same_value p.first p.second) (Some (give x p.first)) es p.makes in
       of_two es p.first p.second p.ty keeping keeping_are (both (among keeping (head o).name) _ w.0).0 p.operands p.results w.1
@@ -110,15 +110,15 @@ module _ (m : Module) (o : Operation) (front : Place) (s : Spot m o front) where
       gives es b ty results is (sees_operand m o front s b (subst (In b) (sym operands) (inr (inr (inl refl))))) w.second w.other
       (subst (λ z. same_type z w.second ≡ true) (type_is w.first ty w.same) w.like)
 
-  pub free_15 : (n : ℕ) (es : List Edit) → rule_15 m.tree n front o ≡ Some es → HasRoom m es → Free es m
-  free_15 n es e =
+  pub free_choose_same : (n : ℕ) (es : List Edit) → choose_same m.tree n front o ≡ Some es → HasRoom m es → Free es m
+  free_choose_same n es e =
       let p = three_is (head o) _ es e in
       let w = when_is (named (codes "arith.select") (head o).name) _ es p.makes in
       let u = when_is (same_value p.second p.third) (Some (give x p.second)) es w.1 in
       gives_second es p.first p.second p.third p.ty p.operands p.results (chosen w.0 p.first p.second p.third p.ty p.operands p.results) u.1
 
-  pub free_16 : (n : ℕ) (es : List Edit) → rule_16 m.tree n front o ≡ Some es → HasRoom m es → Free es m
-  free_16 n es e =
+  pub free_choose_known : (n : ℕ) (es : List Edit) → choose_known m.tree n front o ≡ Some es → HasRoom m es → Free es m
+  free_choose_known n es e =
       let p = three_is (head o) _ es e in
       let w = when_is (named (codes "arith.select") (head o).name) _ es p.makes in
       let u = given_is (known t p.first) _ es w.1 in
@@ -128,8 +128,8 @@ module _ (m : Module) (o : Operation) (front : Place) (s : Spot m o front) where
       by_bit c a b ty operands results w true is = gives_third es c a b ty operands results w is
       by_bit c a b ty operands results w false is = gives_second es c a b ty operands results w is
 
-  pub free_17 : (n : ℕ) (es : List Edit) → rule_17 m.tree n front o ≡ Some es → HasRoom m es → Free es m
-  free_17 n es e =
+  pub free_choose_truth : (n : ℕ) (es : List Edit) → choose_truth m.tree n front o ≡ Some es → HasRoom m es → Free es m
+  free_choose_truth n es e =
       let p = three_is (head o) _ es e in
       let w = when_is (named (codes "arith.select") (head o).name) _ es p.makes in
       let u = when_is (same_type p.ty i1 && (is_number t 1 p.second && is_number t 0 p.third)) (Some (give x p.first)) es w.1 in
@@ -145,8 +145,8 @@ module _ (m : Module) (o : Operation) (front : Place) (s : Spot m o front) where
       let u = of_type (type_of_value v t) ty w.0 in
       gives es v ty results w.1 (sees_behind m o front s a (subst (In a) (sym operands) (inl refl)) h g v (subst (In v) (sym inner) (inl refl))) u.0 u.1 u.2
 
-  pub free_21 : (n : ℕ) (es : List Edit) → rule_21 m.tree n front o ≡ Some es → HasRoom m es → Free es m
-  free_21 n es e =
+  pub free_cast_back : (n : ℕ) (es : List Edit) → cast_back m.tree n front o ≡ Some es → HasRoom m es → Free es m
+  free_cast_back n es e =
       let p = one_is (head o) _ es e in
       by_name p.first p.ty p.operands p.results (named (codes "builtin.unrealized_conversion_cast") (head o).name) p.makes
     where

@@ -1,4 +1,4 @@
--- Rules 1, 3, 13 and 18: an operation is erased, or changed in place.
+-- Rules that erase an operation, or change it in place.
 use Rattle.std.proofs.Common.{◌≡◌, refl, ap, sym, ◌∙◌, subst, ℕ, ◌+◌, Bool, true, false, ◌&&◌, not, cond, List, [], ◌∷◌, ◌++◌, length, Option, Some, None, inl, inr, eqb, eq-eqb, eqb-true, if◌then◌else◌}
 use Rattle.std.specs.Prelude.{codes, is_some, nat_lt, option_map}
 use Rattle.std.specs.List.{list_all}
@@ -40,7 +40,7 @@ use Rattle.patterns_base.specs.Keeps.{mirrored}
 use Rattle.patterns_base.specs.Words.{among, named, swapping}
 use Rattle.patterns_base.specs.Made.{i64}
 use Rattle.patterns_base.specs.Looks.{Header, is_constant, is_known, is_number, may_go, predicate, source}
-use Rattle.patterns_base.specs.Folding.{rule_1, rule_3, rule_13, rule_18}
+use Rattle.patterns_base.specs.Folding.{erase_dead, swap_constant, mirror_comparison, choose_opposite}
 use Rattle.patterns_free.proofs.Spots.{Spot, here_is, sees_behind, sees_operand, stands_there}
 use Rattle.patterns_free.proofs.Shapes.{given_is, some_is, source_is, three_is, two_is, when_is}
 
@@ -176,8 +176,8 @@ module _ (m : Module) (o : Operation) (front : Place) (s : Spot m o front) where
   third_seen a b c vs e = sees_operand m o front s c (subst (In c) (sym e) (inr (inr (inl refl))))
 
   -- it is erased
-  pub free_1 : (n : ℕ) (es : List Edit) → rule_1 m.tree n front o ≡ Some es → Free es m
-  free_1 n es e =
+  pub free_erase_dead : (n : ℕ) (es : List Edit) → erase_dead m.tree n front o ≡ Some es → Free es m
+  free_erase_dead n es e =
       let w = when_is (may_go t o) (Some (Erase x ∷ [])) es e in
       subst (λ z. Free z m) (some_is (Erase x ∷ []) es w.1) (plans.erase_free x front m (stands_there m o front s) (λ k l. unused_result x t (dead_unused t o w.0) k), tt)
 
@@ -187,8 +187,8 @@ module _ (m : Module) (o : Operation) (front : Place) (s : Spot m o front) where
       set_first x front 2 n h 0 b refl q (SetOperand x 1 a ∷ [])
       (set_first x front 2 (edited (SetOperand x 0 b) n) (set_holds x front 2 n h 0 b refl q) 1 a refl (set_sees x front 2 n h 0 b refl q a p) [] tt)
 
-  pub free_3 : (n : ℕ) (es : List Edit) → rule_3 m.tree n front o ≡ Some es → Free es m
-  free_3 n es e =
+  pub free_swap_constant : (n : ℕ) (es : List Edit) → swap_constant m.tree n front o ≡ Some es → Free es m
+  free_swap_constant n es e =
       let p = two_is (head o) _ es e in
       let w = when_is (among swapping (head o).name && (is_known t p.first && not (is_constant t p.second))) (Some (SetOperand x 0 p.second ∷ SetOperand x 1 p.first ∷ [])) es p.makes in
       subst (λ z. Free z m) (some_is (SetOperand x 0 p.second ∷ SetOperand x 1 p.first ∷ []) es w.1)
@@ -231,8 +231,8 @@ module _ (m : Module) (o : Operation) (front : Place) (s : Spot m o front) where
     entry_sees : (v : Value) → sees (head o).id v m ≡ true → sees (head o).id v (edited (SetAttr (head o).id k a) m) ≡ true
     entry_sees v e = headed.sees_headed is_isolated (at x change) alike t x v ∙ e
 
-  pub free_13 : (n : ℕ) (es : List Edit) → rule_13 m.tree n front o ≡ Some es → Free es m
-  free_13 n es e =
+  pub free_mirror_comparison : (n : ℕ) (es : List Edit) → mirror_comparison m.tree n front o ≡ Some es → Free es m
+  free_mirror_comparison n es e =
       let p = two_is (head o) _ es e in
       let w = when_is (named (codes "arith.cmpi") (head o).name) _ es p.makes in
       let asks = given_is (predicate (head o)) _ es w.1 in
@@ -257,8 +257,8 @@ module _ (m : Module) (o : Operation) (front : Place) (s : Spot m o front) where
       (set_first x front 3 n1 one 1 b refl q1 (SetOperand x 2 c ∷ [])
       (set_first x front 3 (edited (SetOperand x 1 b) n1) (set_holds x front 3 n1 one 1 b refl q1) 2 c refl (set_sees x front 3 n1 one 1 b refl q1 c r1) [] tt))
 
-  pub free_18 : (n : ℕ) (es : List Edit) → rule_18 m.tree n front o ≡ Some es → Free es m
-  free_18 n es e =
+  pub free_choose_opposite : (n : ℕ) (es : List Edit) → choose_opposite m.tree n front o ≡ Some es → Free es m
+  free_choose_opposite n es e =
       let p = three_is (head o) _ es e in
       let w = when_is (named (codes "arith.select") (head o).name) _ es p.makes in
       let y = given_is (source t (codes "arith.xori") p.first) _ es w.1 in

@@ -7,7 +7,15 @@ pub mod Results
 pub mod Emptied
 pub mod Blocks
 pub mod Opened
+pub mod Arguments
+pub mod LoopTypes
+pub mod Loops
+pub mod Ordered
+pub mod Moving
+pub mod Kept
+pub mod Casts
 pub mod Given
 pub mod New
 pub mod InPlace
+pub mod Indexed
 pub mod Accepted

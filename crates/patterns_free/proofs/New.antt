@@ -29,8 +29,8 @@ use Rattle.patterns_base.specs.Words.{among, asking, cancelling, dividing, exten
 use Rattle.patterns_base.specs.Made.{Entries, binary, cast, choice, comparison, constant, flags, i1, made, predicate_entry, value_entry}
 use Rattle.patterns_base.specs.Looks.{Header, is_number, is_of_type, known, one, predicate, source, source_among, when}
 use Rattle.patterns_base.specs.Makes.{give, give_constant, give_new}
-use Rattle.patterns_base.specs.Casting.{resizing, rule_19, rule_20}
-use Rattle.patterns_base.specs.Folding.{folded_to, may_read, rule_2, rule_7, rule_9, rule_10, rule_11, rule_12, rule_14, rule_25, rule_26, rule_27}
+use Rattle.patterns_base.specs.Casting.{resizing, extend_extension, cut_cast}
+use Rattle.patterns_base.specs.Folding.{folded_to, may_read, fold_to_constant, cancel_itself, zero_remainder, regroup_constants, add_negative, compare_itself, compare_zero, expand_min_max, expand_difference, expand_remainder}
 use Rattle.patterns_free.proofs.Spots.{Giver, Spot, sees_behind, sees_operand}
 use Rattle.patterns_free.proofs.Fit as fit
 use Rattle.patterns_free.proofs.Fit.{Fit}
@@ -144,8 +144,8 @@ module _ (m : Module) (o : Operation) (front : Place) (s : Spot m o front) where
   is_constant es ty bits one is room =
       these es (give_constant front m.next x ty bits) is room (λ r. by_constant x front ty m (fits m o front s ty one 1 r.0 r.1) m.next refl bits)
 
-  pub free_2 : (es : List Edit) → rule_2 m.tree m.next front o ≡ Some es → HasRoom m es → Free es m
-  free_2 es e = (let w = when_is (not (named (codes "arith.constant") (head o).name) && list_all (may_read t m.next front o) (head o).operands) _ es e in go (head o).results refl _ w.1)
+  pub free_fold_to_constant : (es : List Edit) → fold_to_constant m.tree m.next front o ≡ Some es → HasRoom m es → Free es m
+  free_fold_to_constant es e = (let w = when_is (not (named (codes "arith.constant") (head o).name) && list_all (may_read t m.next front o) (head o).operands) _ es e in go (head o).results refl _ w.1)
     where
       go : (ts : List TypeTerm) → (head o).results ≡ ts → (k : Option Known) → folded_to t m.next front o ts k ≡ Some es → HasRoom m es → Free es m
       go [] p k e = absurd cc
@@ -153,22 +153,22 @@ module _ (m : Module) (o : Operation) (front : Place) (s : Spot m o front) where
       go (ty ∷ []) p (Some k) e = is_constant es ty k.1 p e
       go (ty ∷ u ∷ ts) p k e = absurd cc
 
-  pub free_7 : (es : List Edit) → rule_7 m.tree m.next front o ≡ Some es → HasRoom m es → Free es m
-  free_7 es e = (let p = two_is (head o) _ es e in let w = when_is (among cancelling (head o).name && same_value p.first p.second) _ es p.makes in is_constant es p.ty 0 p.results w.1)
+  pub free_cancel_itself : (es : List Edit) → cancel_itself m.tree m.next front o ≡ Some es → HasRoom m es → Free es m
+  free_cancel_itself es e = (let p = two_is (head o) _ es e in let w = when_is (among cancelling (head o).name && same_value p.first p.second) _ es p.makes in is_constant es p.ty 0 p.results w.1)
 
-  pub free_9 : (es : List Edit) → rule_9 m.tree m.next front o ≡ Some es → HasRoom m es → Free es m
-  free_9 es e = (let p = two_is (head o) _ es e in let w = when_is (among remainders (head o).name && is_number t 1 p.second) _ es p.makes in is_constant es p.ty 0 p.results w.1)
+  pub free_zero_remainder : (es : List Edit) → zero_remainder m.tree m.next front o ≡ Some es → HasRoom m es → Free es m
+  free_zero_remainder es e = (let p = two_is (head o) _ es e in let w = when_is (among remainders (head o).name && is_number t 1 p.second) _ es p.makes in is_constant es p.ty 0 p.results w.1)
 
-  pub free_12 : (es : List Edit) → rule_12 m.tree m.next front o ≡ Some es → HasRoom m es → Free es m
-  free_12 es e =
+  pub free_compare_itself : (es : List Edit) → compare_itself m.tree m.next front o ≡ Some es → HasRoom m es → Free es m
+  free_compare_itself es e =
       let p = two_is (head o) _ es e in
       let w = when_is (named (codes "arith.cmpi") (head o).name) _ es p.makes in
       let asks = given_is (predicate (head o)) _ es w.1 in
       let u = when_is (same_value p.first p.second) _ es asks.2 in
       is_constant es p.ty (holds_of_itself asks.0) p.results u.1
 
-  pub free_14 : (es : List Edit) → rule_14 m.tree m.next front o ≡ Some es → HasRoom m es → Free es m
-  free_14 es e =
+  pub free_compare_zero : (es : List Edit) → compare_zero m.tree m.next front o ≡ Some es → HasRoom m es → Free es m
+  free_compare_zero es e =
       let p = two_is (head o) _ es e in
       let w = when_is (named (codes "arith.cmpi") (head o).name) _ es p.makes in
       let asks = given_is (predicate (head o)) _ es w.1 in
@@ -182,8 +182,8 @@ module _ (m : Module) (o : Operation) (front : Place) (s : Spot m o front) where
       these es (Make front (constant ty bits) ∷ give_new front (m.next + 1) x (binary name ty a (Result m.next 0))) is room
       (λ r. by_binary_constant x front ty m (fits m o front s ty one 2 r.0 r.1) bits name a seen)
 
-  pub free_10 : (es : List Edit) → rule_10 m.tree m.next front o ≡ Some es → HasRoom m es → Free es m
-  free_10 es e =
+  pub free_regroup_constants : (es : List Edit) → regroup_constants m.tree m.next front o ≡ Some es → HasRoom m es → Free es m
+  free_regroup_constants es e =
       let p = two_is (head o) _ es e in
       let w = when_is (among regrouping (head o).name) _ es p.makes in
       let d = given_is (known t p.second) _ es w.1 in
@@ -194,8 +194,8 @@ module _ (m : Module) (o : Operation) (front : Place) (s : Spot m o front) where
       let behind = sees_behind m o front s p.first (subst (In p.first) (sym p.operands) (inl refl)) y.0 (source_is t (head o).name p.first y.0 y.1) q.first (subst (In q.first) (sym q.operands) (inl refl)) in
       is_binary es p.ty k.0.1 (head o).name q.first p.results behind k.2
 
-  pub free_11 : (es : List Edit) → rule_11 m.tree m.next front o ≡ Some es → HasRoom m es → Free es m
-  free_11 es e =
+  pub free_add_negative : (es : List Edit) → add_negative m.tree m.next front o ≡ Some es → HasRoom m es → Free es m
+  free_add_negative es e =
       let p = two_is (head o) _ es e in
       let w = when_is (named (codes "arith.subi") (head o).name) _ es p.makes in
       let c = given_is (known t p.second) _ es w.1 in
@@ -209,8 +209,8 @@ module _ (m : Module) (o : Operation) (front : Place) (s : Spot m o front) where
       (λ r. by_new x front ty m (fits m o front s ty results 1 r.0 r.1) m.next refl name (v ∷ []) [] refl refl
       (both_hold (sees x v m) true (sees_behind m o front s a (subst (In a) (sym operands) (inl refl)) h g v (subst (In v) (sym inner) (inl refl))) refl))
 
-  pub free_19 : (es : List Edit) → rule_19 m.tree m.next front o ≡ Some es → HasRoom m es → Free es m
-  free_19 es e =
+  pub free_extend_extension : (es : List Edit) → extend_extension m.tree m.next front o ≡ Some es → HasRoom m es → Free es m
+  free_extend_extension es e =
       let p = one_is (head o) _ es e in
       let w = when_is (among extensions (head o).name) _ es p.makes in
       let y = given_is (source_among t extensions p.first) _ es w.1 in
@@ -218,8 +218,8 @@ module _ (m : Module) (o : Operation) (front : Place) (s : Spot m o front) where
       let u = when_is (named (head o).name y.0.name || named (codes "arith.extsi") (head o).name) _ es q.makes in
       recasts es p.first p.ty y.0.name y.0 q.first p.operands p.results (source_among_is t extensions p.first y.0 y.1) q.operands u.1
 
-  pub free_20 : (es : List Edit) → rule_20 m.tree m.next front o ≡ Some es → HasRoom m es → Free es m
-  free_20 es e =
+  pub free_cut_cast : (es : List Edit) → cut_cast m.tree m.next front o ≡ Some es → HasRoom m es → Free es m
+  free_cut_cast es e =
       let p = one_is (head o) _ es e in
       let w = when_is (named (codes "arith.trunci") (head o).name) _ es p.makes in
       let y = given_is (source_among t resizing p.first) _ es w.1 in
@@ -231,22 +231,22 @@ module _ (m : Module) (o : Operation) (front : Place) (s : Spot m o front) where
       by_name a ty h v operands results g inner true is = recasts es a ty h.name h v operands results g inner is
       by_name a ty h v operands results g inner false is = gives_behind m o front s es a ty h v operands results g inner is
 
-  pub free_25 : (es : List Edit) → rule_25 m.tree m.next front o ≡ Some es → HasRoom m es → Free es m
-  free_25 es e room =
+  pub free_expand_min_max : (es : List Edit) → expand_min_max m.tree m.next front o ≡ Some es → HasRoom m es → Free es m
+  free_expand_min_max es e room =
       let p = two_is (head o) _ es e in
       let asks = given_is (beside (head o).name asking) _ es p.makes in
       these es (Make front (comparison asks.0 p.first p.second) ∷ give_new front (m.next + 1) x (choice p.ty (Result m.next 0) p.first p.second)) asks.2 room
       (λ r. by_comparison x front p.ty m (fits m o front s p.ty p.results 2 r.0 r.1) asks.0 p.first p.second (first_seen p.first p.second p.operands) (second_seen p.first p.second p.operands))
 
-  pub free_26 : (es : List Edit) → rule_26 m.tree m.next front o ≡ Some es → HasRoom m es → Free es m
-  free_26 es e room =
+  pub free_expand_difference : (es : List Edit) → expand_difference m.tree m.next front o ≡ Some es → HasRoom m es → Free es m
+  free_expand_difference es e room =
       let p = two_is (head o) _ es e in
       let w = when_is (named (codes "arith.subi") (head o).name) _ es p.makes in
       these es _ w.1 room
       (λ r. by_complement x front p.ty m (fits m o front s p.ty p.results 5 r.0 r.1) (all_ones (type_width p.ty)) p.first p.second (first_seen p.first p.second p.operands) (second_seen p.first p.second p.operands))
 
-  pub free_27 : (es : List Edit) → rule_27 m.tree m.next front o ≡ Some es → HasRoom m es → Free es m
-  free_27 es e room =
+  pub free_expand_remainder : (es : List Edit) → expand_remainder m.tree m.next front o ≡ Some es → HasRoom m es → Free es m
+  free_expand_remainder es e room =
       let p = two_is (head o) _ es e in
       let division = given_is (beside (head o).name dividing) _ es p.makes in
       these es _ division.2 room

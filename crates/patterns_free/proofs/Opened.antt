@@ -1,4 +1,4 @@
--- Rules 22 to 24: blocks come in front of the operation that has them, or go with it.
+-- Branches and loops that are known: blocks come in front of the operation that has them, or go with it.
 use Rattle.std.proofs.Common.{◌≡◌, refl, ap, sym, ◌∙◌, subst, ℕ, ◌≤◌, Bool, true, false, List, [], ◌∷◌, length, map, Some, option_map, option_and_then, if◌then◌else◌, arith}
 use Rattle.std.specs.Prelude.{codes, eqb}
 use Rattle.std.proofs.lemmas.Slice.Eq.{bytes_eq-Decides}
@@ -25,7 +25,7 @@ use Rattle.patterns_base.specs.Keeps.{given}
 use Rattle.patterns_base.specs.Words.{named}
 use Rattle.patterns_base.specs.Looks.{Ended, Header, body, known}
 use Rattle.patterns_base.specs.Makes.{give_body, replaced}
-use Rattle.patterns_base.specs.Opening.{by_condition, chosen, opened, rule_22}
+use Rattle.patterns_base.specs.Opening.{by_condition, chosen, opened, open_branch}
 use Rattle.patterns_yields.specs.Yields.{IsCleanOf}
 use Rattle.patterns_yields.proofs.Ends.{ending}
 use Rattle.patterns_yields.proofs.Yielding.{choice_types}
@@ -46,7 +46,7 @@ module _ (m : Module) (o : Operation) (front : Place) (s : Spot m o front) where
   t = m.tree
 
   -- the last operation of a block is there
-  last_there : (r : ℕ) (e : Ended) → body m.tree o r ≡ Some e → option_map head (find e.last.id m.tree) ≡ Some e.last
+  pub last_there : (r : ℕ) (e : Ended) → body m.tree o r ≡ Some e → option_map head (find e.last.id m.tree) ≡ Some e.last
   last_there r e k =
       let n = ending t o r e k in
       let w = found_stands x t o s.found in
@@ -96,5 +96,5 @@ module _ (m : Module) (o : Operation) (front : Place) (s : Spot m o front) where
         by_bit false e = (let g = given_is (region_at 0 (regions o)) (λ g. chosen t front o g 0) es e in by_region es 0 (omega arith) g.0 g.1 g.2)
     by_operands es (c ∷ d ∷ vs) e = absurd cc
 
-  pub free_22 : (es : List Edit) → rule_22 m.tree front o ≡ Some es → Free es m
-  free_22 es e = (let w = when_is (named (codes "scf.if") (head o).name) _ es e in by_operands w.0 es (head o).operands w.1)
+  pub free_open_branch : (es : List Edit) → open_branch m.tree front o ≡ Some es → Free es m
+  free_open_branch es e = (let w = when_is (named (codes "scf.if") (head o).name) _ es e in by_operands w.0 es (head o).operands w.1)

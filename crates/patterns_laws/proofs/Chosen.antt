@@ -68,7 +68,7 @@ asks_of (suc (suc (suc (suc (suc (suc (suc (suc zero)))))))) h = record { what =
 asks_of (suc (suc (suc (suc (suc (suc (suc (suc (suc zero))))))))) h = record { what = asks.UnsignedGreaterOrEqual; there = refl; turned = refl; fine = number_fine _; itself = refl }
 asks_of (suc (suc (suc (suc (suc (suc (suc (suc (suc (suc n)))))))))) h = absurd (past n (sym (number_fine _) ∙ h))
 
--- ---- rules 12 to 14
+-- ---- comparisons
 asked_of : (k : BitsKind) (n a b : ℕ) (v : Known) → given_by (codes "arith.cmpi") (predicate_entry n) i1 ((k, a) ∷ (k, b) ∷ []) ≡ Some v → Asks n
 asked_of k n a b v h = asks_of n (fine_of (codes "arith.cmpi") (predicate_entry n) (Some (k, a) ∷ Some (k, b) ∷ []) i1 v h)
 
@@ -101,7 +101,7 @@ all_at_least k a v h =
     constant_gives truth_kind 1 ∙ ap (λ t. Some (truth_kind, truth t)) (sym (not_below_zero (width_of k) a))
     ∙ sym (compare_gives 9 asks.UnsignedGreaterOrEqual k a 0 (fine_at k 9 a 0 v h) refl) ∙ h
 
--- ---- rules 15 to 18
+-- ---- choices
 pub select_gives : (p : Entries) (k : BitsKind) (c a b : ℕ) → list_all (is_property (codes "arith.select")) p ≡ true → given_by (codes "arith.select") p (type_of k) ((truth_kind, c) ∷ (k, a) ∷ (k, b) ∷ []) ≡ Some (k, choice_of c a b)
 select_gives p k c a b fine = select_folds (codes "arith.select") p (type_of k) k (record { by = by_select; fine = fine; kind = kind_back k }) c a b
 

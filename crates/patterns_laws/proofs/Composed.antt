@@ -44,7 +44,7 @@ regrouped_total op.Or w a b s = (bit_or a b, refl)
 regrouped_total op.ExclusiveOr w a b s = (bit_xor a b, refl)
 regrouped_total _ w a b s = absurd (grind arith)
 
--- ---- rule 10
+-- ---- `regroup-constants`
 regrouped : (name : List ℕ) (o : Arithmetic) → rule_of name ≡ Some (rule.Pair o) → associates o ≡ true → list_all (is_property name) (flags name) ≡ true → Regrouping name
 regrouped name o r s fine k p q a c d v ha hc hd h =
     let w : ℕ = width_of k in
@@ -81,7 +81,7 @@ all_regrouped = (
   ),
 )
 
--- ---- rules 11, 26, 27
+-- ---- `add-negative`, `expand-difference`, `expand-remainder`
 by_add : rule_of (codes "arith.addi") ≡ Some (rule.Pair op.Add)
 unfolding rule_of rules
 by_add = refl

@@ -28,7 +28,7 @@ use Rattle.patterns_laws.specs.Keeps.{Each, truth_kind, Folding, Choosing, lower
 use Rattle.patterns_laws.proofs.KnownFolds.{some_bits, below, fine_of, mapped_some, pair_gives, pair_gave, constant_gives, some_one, given_at}
 use Rattle.patterns_laws.proofs.Chosen.{asks_of, compare_gives, select_gives, select_gave, select_fine}
 
--- ---- rule 25
+-- ---- `expand-min-max`
 chosen : (name : List ℕ) (o : Arithmetic) (n : ℕ) (p : Predicate) → rule_of name ≡ Some (rule.Pair o) → list_all (is_property (codes "arith.cmpi")) (predicate_entry n) ≡ true → slice_get predicates n ≡ Some p
     → ((w a b : ℕ) → 1 ≤ w → a < 2 ^ w → b < 2 ^ w → value_of o w a b ≡ Some (choice_of (truth (comparison_of w p a b)) a b)) → Choosing (name, n)
 chosen name o n p r fine there law k q a b v ha hb h =
@@ -52,7 +52,7 @@ all_chosen = (
   ),
 )
 
--- ---- rule 2
+-- ---- `fold-to-constant`
 type_back : (ty : TypeTerm) (k : BitsKind) → kind_of ty ≡ Some k → type_of k ≡ ty
 type_back (term.Integer Signless w) k h = ap type_of (sym (some_one (kind.Int w) k h))
 type_back (term.Integer Signed w) k h = absurd (grind arith)
@@ -80,7 +80,7 @@ folded name p ty some values c v more e h =
     let back : type_of c.0 ≡ ty = type_back ty c.0 (kind_of_fold name p some ty c e) in
     subst (λ t. gives (constant t c.1) [] ≡ Some v) back (constant_gives c.0 c.1 ∙ same)
 
--- ---- rule 28
+-- ---- `lower-index`
 lowered_two : (name : List ℕ) (o : Arithmetic) → rule_of name ≡ Some (rule.Pair o) → LoweringTwo name
 lowered_two name o r p a b v ha hb h =
     let g = pair_gave name o p kind.Index a b v r (below kind.Index a ha) (below kind.Index b hb) h in

@@ -20,7 +20,7 @@ use Rattle.patterns_laws.proofs.KnownFolds.{some_bits, below, pair_gives, pair_g
 pub one_below : (w : ℕ) → 1 ≤ w → 1 < 2 ^ w
 one_below w h = omega (arith, pow-le-pow_right {n = 2} (lit< tt) {i = 1} {j = w} h)
 
--- ---- rule 3
+-- ---- `swap-constant`
 swapped : (name : List ℕ) (o : Arithmetic) → rule_of name ≡ Some (rule.Pair o) → commutes o ≡ true → Swapping name
 swapped name o r c k p a b v ha hb h =
     let g = pair_gave name o p k a b v r (below k a ha) (below k b hb) h in
@@ -54,7 +54,7 @@ all_swapped = (
   ),
 )
 
--- ---- rules 4, 5, 6, 8: the first operand
+-- ---- `drop-zero`, `drop-one`, `drop-all-ones`, `keep-itself`: the first operand
 -- where the arithmetic gives the first operand whenever it gives something
 keeps_first : (name : List ℕ) (o : Arithmetic) (k : BitsKind) (p : Entries) (a b : ℕ) (v : Known) → rule_of name ≡ Some (rule.Pair o) → a < 2 ^ width_of k → b < 2 ^ width_of k
     → ((n : ℕ) → value_of o (width_of k) a b ≡ Some n → n ≡ a) → given_by name p (type_of k) ((k, a) ∷ (k, b) ∷ []) ≡ Some v → (k, a) ≡ v
@@ -133,7 +133,7 @@ all_itself_given = (
   ),
 )
 
--- ---- rules 7, 9: 0
+-- ---- `cancel-itself`, `zero-remainder`: 0
 gives_number : (name : List ℕ) (o : Arithmetic) (k : BitsKind) (p : Entries) (a b c : ℕ) (v : Known) → rule_of name ≡ Some (rule.Pair o) → a < 2 ^ width_of k → b < 2 ^ width_of k
     → ((n : ℕ) → value_of o (width_of k) a b ≡ Some n → n ≡ c) → given_by name p (type_of k) ((k, a) ∷ (k, b) ∷ []) ≡ Some v → gives (constant (type_of k) c) [] ≡ Some v
 gives_number name o k p a b c v r ha hb number h =

@@ -66,7 +66,7 @@ by_trunci : rule_of (codes "arith.trunci") ≡ Some (rule.Resize cast.Truncate)
 unfolding rule_of rules
 by_trunci = refl
 
--- ---- rule 19
+-- ---- `extend-extension`
 recast : (inner outer new : List ℕ) (c d e : Cast) → rule_of inner ≡ Some (rule.Resize c) → rule_of outer ≡ Some (rule.Resize d) → rule_of new ≡ Some (rule.Resize e)
     → ((u v w a m n : ℕ) → u < v → v < w → 1 ≤ u → a < 2 ^ u → cast_of c u v a ≡ Some m → cast_of d v w m ≡ Some n → cast_of e u w a ≡ Some n) → Extending inner outer new
 recast inner outer new c d e rc rd re law u v w p q a z uv vw ha h =
@@ -85,7 +85,7 @@ pub signed_of_unsigned : Extending (codes "arith.extui") (codes "arith.extsi") (
 signed_of_unsigned = recast (codes "arith.extui") (codes "arith.extsi") (codes "arith.extui") cast.ExtendUnsigned cast.ExtendSigned cast.ExtendUnsigned by_extui by_extsi by_extui
     (λ u v w a m n uv vw su la e f. ap Some (sym (sign_of_zeros u v w a uv la) ∙ ap (sign_extended v w) (some_one (zero_extended v a) m e) ∙ some_one (sign_extended v w m) n f))
 
--- ---- rule 20
+-- ---- `cut-cast`
 cut_less : (v w a n : ℕ) → truncated v w a ≡ Some n → w < v
 unfolding truncated
 cut_less v w a n e = grind (arith, nat_tests)
@@ -108,7 +108,7 @@ pub cut_back_unsigned : CuttingBack (codes "arith.extui")
 cut_back_unsigned = cut_back (codes "arith.extui") cast.ExtendUnsigned by_extui
     (λ u v a m n uv su la e f. some_one n a (sym f ∙ ap (truncated v u) (sym (some_one (zero_extended v a) m e)) ∙ truncated_zeros_back u v a uv la))
 
--- ---- rule 21
+-- ---- `cast-back`
 index_gave : (name : List ℕ) (c : Cast) (p : Entries) (j k : BitsKind) (a : ℕ) (z : Known) → rule_of name ≡ Some (rule.IndexCast c) → given_by name p (type_of k) ((j, a) ∷ []) ≡ Some z
     → (n : ℕ) × (cast_of c (width_of j) (width_of k) a ≡ Some n) × ((k, n) ≡ z)
 index_gave name c p j k a z r h =

@@ -1,6 +1,7 @@
 -- That rules keep values: what each says of folds. For all values of the operands for which the old operations fold,
 -- the new ones give the same value.
-use Rattle.std.specs.Prelude.{◌≡◌, ℕ, ◌<◌, ◌≤◌, List, [], ◌∷◌, codes, map, eqb, IsTrue, if◌then◌else◌, slice_index_or, Option, Some, None}
+use Rattle.std.specs.Prelude.{◌≡◌, ℕ, ◌<◌, ◌≤◌, List, [], ◌∷◌, codes, map, eqb, IsTrue, if◌then◌else◌, slice_index_or}
+use Rattle.std.specs.Prelude.{Option, Some, None}
 use Rattle.std.specs.List.{list_any}
 use Rattle.ir_types.specs.declared.bits.BitsKind.{BitsKind}
 use Rattle.ir_types.specs.declared.bits.BitsKind.TheVariants as kind
@@ -36,10 +37,11 @@ abbrev pub Each : {X : Type 0} → (X → Type 0) → List X → Type 0
 Each P [] = Unit {0}
 Each P (x ∷ xs) = P x × Each P xs
 
--- rule 2: what an operation folds to over those operands that are known, the others being whatever they are
+-- `fold-to-constant`: what an operation folds to over those operands that are known, the others being whatever they are
 abbrev pub Folding : Type 0
 Folding = (name : List ℕ) (p : Entries) (ty : TypeTerm) (some : List (Option Known)) (values : List Known) (c v : Known)
-    → KnowsMore some (map Some values) → fold_of name p some (ty ∷ []) ≡ Some c → given_by name p ty values ≡ Some v → gives (constant ty c.1) [] ≡ Some v
+    → KnowsMore some (map Some values) → fold_of name p some (ty ∷ []) ≡ Some c → given_by name p ty values ≡ Some v
+    → gives (constant ty c.1) [] ≡ Some v
 
 -- something said of two values of a kind, of properties, and of what the old operations give
 abbrev OfTwo : (BitsKind → Entries → ℕ → ℕ → Known → Type 0) → Type 0
@@ -49,118 +51,146 @@ OfTwo P = (k : BitsKind) (p : Entries) (a b : ℕ) (v : Known) → IsOf k a → 
 abbrev OfOne : (BitsKind → Entries → ℕ → Known → Type 0) → Type 0
 OfOne P = (k : BitsKind) (p : Entries) (a : ℕ) (v : Known) → IsOf k a → P k p a v
 
--- rule 3: with its operands swapped an operation gives the same
+-- `swap-constant`: with its operands swapped an operation gives the same
 abbrev pub Swapping : List ℕ → Type 0
-Swapping name = OfTwo (λ k p a b v. given_by name p (type_of k) ((k, a) ∷ (k, b) ∷ []) ≡ Some v → given_by name p (type_of k) ((k, b) ∷ (k, a) ∷ []) ≡ Some v)
+Swapping name = OfTwo (λ k p a b v. given_by name p (type_of k) ((k, a) ∷ (k, b) ∷ []) ≡ Some v
+    → given_by name p (type_of k) ((k, b) ∷ (k, a) ∷ []) ≡ Some v)
 
--- rules 4 and 5: with a second operand n, which is 0 or 1, an operation gives its first
+-- `drop-zero` and `drop-one`: with a second operand n, which is 0 or 1, an operation gives its first
 abbrev pub Ignoring : ℕ → List ℕ → Type 0
 Ignoring n name = OfOne (λ k p a v. given_by name p (type_of k) ((k, a) ∷ (k, n) ∷ []) ≡ Some v → (k, a) ≡ v)
 
--- rule 6: with all ones a conjunction gives its first operand
+-- `drop-all-ones`: with all ones a conjunction gives its first operand
 abbrev pub IgnoringOnes : Type 0
-IgnoringOnes = OfOne (λ k p a v. given_by (codes "arith.andi") p (type_of k) ((k, a) ∷ (k, all_ones (width_of k)) ∷ []) ≡ Some v → (k, a) ≡ v)
+IgnoringOnes =
+    OfOne (λ k p a v. given_by (codes "arith.andi") p (type_of k) ((k, a) ∷ (k, all_ones (width_of k)) ∷ []) ≡ Some v
+    → (k, a) ≡ v)
 
--- rule 7: of a value and itself an operation gives 0
+-- `cancel-itself`: of a value and itself an operation gives 0
 abbrev pub Cancelling : List ℕ → Type 0
-Cancelling name = OfOne (λ k p a v. given_by name p (type_of k) ((k, a) ∷ (k, a) ∷ []) ≡ Some v → gives (constant (type_of k) 0) [] ≡ Some v)
+Cancelling name = OfOne (λ k p a v. given_by name p (type_of k) ((k, a) ∷ (k, a) ∷ []) ≡ Some v
+    → gives (constant (type_of k) 0) [] ≡ Some v)
 
--- rule 8: of a value and itself an operation gives the value
+-- `keep-itself`: of a value and itself an operation gives the value
 abbrev pub KeepingItself : List ℕ → Type 0
 KeepingItself name = OfOne (λ k p a v. given_by name p (type_of k) ((k, a) ∷ (k, a) ∷ []) ≡ Some v → (k, a) ≡ v)
 
--- rule 9: a remainder by 1 is 0
+-- `zero-remainder`: a remainder by 1 is 0
 abbrev pub LeavingNothing : List ℕ → Type 0
-LeavingNothing name = OfOne (λ k p a v. given_by name p (type_of k) ((k, a) ∷ (k, 1) ∷ []) ≡ Some v → gives (constant (type_of k) 0) [] ≡ Some v)
+LeavingNothing name = OfOne (λ k p a v. given_by name p (type_of k) ((k, a) ∷ (k, 1) ∷ []) ≡ Some v
+    → gives (constant (type_of k) 0) [] ≡ Some v)
 
--- rule 10: (a op c) op d is a op (c op d)
+-- `regroup-constants`: (a op c) op d is a op (c op d)
 abbrev pub Regrouping : List ℕ → Type 0
 Regrouping name = (k : BitsKind) (p q : Entries) (a c d : ℕ) (v : Known) → IsOf k a → IsOf k c → IsOf k d
-    → given (given_by name p (type_of k) ((k, a) ∷ (k, c) ∷ [])) (λ y. given_by name q (type_of k) (y ∷ (k, d) ∷ [])) ≡ Some v
-    → given (given_by name [] (type_of k) ((k, c) ∷ (k, d) ∷ [])) (λ n. given (gives (constant (type_of k) n.1) []) (λ e. given_by name (flags name) (type_of k) ((k, a) ∷ e ∷ []))) ≡ Some v
+    → given (given_by name p (type_of k) ((k, a) ∷ (k, c) ∷ []))
+    (λ y. given_by name q (type_of k) (y ∷ (k, d) ∷ [])) ≡ Some v
+    → given (given_by name [] (type_of k) ((k, c) ∷ (k, d) ∷ []))
+    (λ n. given (gives (constant (type_of k) n.1) [])
+    (λ e. given_by name (flags name) (type_of k) ((k, a) ∷ e ∷ []))) ≡ Some v
 
--- rule 11: a - c is a + (-c)
+-- `add-negative`: a - c is a + (-c)
 abbrev pub AddingTheNegative : Type 0
 AddingTheNegative = OfTwo (λ k p a c v. given_by (codes "arith.subi") p (type_of k) ((k, a) ∷ (k, c) ∷ []) ≡ Some v
-    → given (gives (constant (type_of k) (difference_of (width_of k) 0 c)) []) (λ e. given_by (codes "arith.addi") (flags (codes "arith.addi")) (type_of k) ((k, a) ∷ e ∷ [])) ≡ Some v)
+    → given (gives (constant (type_of k) (difference_of (width_of k) 0 c)) [])
+    (λ e. given_by (codes "arith.addi") (flags (codes "arith.addi")) (type_of k) ((k, a) ∷ e ∷ [])) ≡ Some v)
 
--- rule 12: a comparison of a value and itself is known by its predicate
+-- `compare-itself`: a comparison of a value and itself is known by its predicate
 abbrev pub ComparingItself : Type 0
-ComparingItself = (k : BitsKind) (n a : ℕ) (v : Known) → given_by (codes "arith.cmpi") (predicate_entry n) i1 ((k, a) ∷ (k, a) ∷ []) ≡ Some v → gives (constant i1 (holds_of_itself n)) [] ≡ Some v
+ComparingItself = (k : BitsKind) (n a : ℕ) (v : Known)
+    → given_by (codes "arith.cmpi") (predicate_entry n) i1 ((k, a) ∷ (k, a) ∷ []) ≡ Some v
+    → gives (constant i1 (holds_of_itself n)) [] ≡ Some v
 
--- rule 13: a comparison of swapped operands by the mirrored predicate gives the same
+-- `mirror-comparison`: a comparison of swapped operands by the mirrored predicate gives the same
 abbrev pub Mirroring : Type 0
-Mirroring = (k : BitsKind) (n a b : ℕ) (v : Known) → given_by (codes "arith.cmpi") (predicate_entry n) i1 ((k, a) ∷ (k, b) ∷ []) ≡ Some v
+Mirroring = (k : BitsKind) (n a b : ℕ) (v : Known)
+    → given_by (codes "arith.cmpi") (predicate_entry n) i1 ((k, a) ∷ (k, b) ∷ []) ≡ Some v
     → given_by (codes "arith.cmpi") (predicate_entry (mirrored n)) i1 ((k, b) ∷ (k, a) ∷ []) ≡ Some v
 
--- rule 14: a comparison with 0 by predicate n gives c
+-- `compare-zero`: a comparison with 0 by predicate n gives c
 abbrev pub NotBelowZero : ℕ → ℕ → Type 0
-NotBelowZero n c = (k : BitsKind) (a : ℕ) (v : Known) → given_by (codes "arith.cmpi") (predicate_entry n) i1 ((k, a) ∷ (k, 0) ∷ []) ≡ Some v → gives (constant i1 c) [] ≡ Some v
+NotBelowZero n c = (k : BitsKind) (a : ℕ) (v : Known)
+    → given_by (codes "arith.cmpi") (predicate_entry n) i1 ((k, a) ∷ (k, 0) ∷ []) ≡ Some v
+    → gives (constant i1 c) [] ≡ Some v
 
 -- something said of a choice between two values of a kind, by a truth value
 abbrev OfChoice : (BitsKind → Entries → ℕ → ℕ → ℕ → Known → Type 0) → Type 0
 OfChoice P = (k : BitsKind) (p : Entries) (c a b : ℕ) (v : Known) → IsOf truth_kind c → P k p c a b v
 
--- rule 15: a choice between a value and itself is the value
+-- `choose-same`: a choice between a value and itself is the value
 abbrev pub ChoosingOne : Type 0
-ChoosingOne = OfChoice (λ k p c a b v. given_by (codes "arith.select") p (type_of k) ((truth_kind, c) ∷ (k, a) ∷ (k, a) ∷ []) ≡ Some v → (k, a) ≡ v)
+ChoosingOne = OfChoice (λ k p c a b v.
+    given_by (codes "arith.select") p (type_of k) ((truth_kind, c) ∷ (k, a) ∷ (k, a) ∷ []) ≡ Some v → (k, a) ≡ v)
 
--- rule 16: a choice by a constant is the one that it chooses
+-- `choose-known`: a choice by a constant is the one that it chooses
 abbrev pub ChoosingByConstant : Type 0
-ChoosingByConstant = OfChoice (λ k p c a b v. given_by (codes "arith.select") p (type_of k) ((truth_kind, c) ∷ (k, a) ∷ (k, b) ∷ []) ≡ Some v → (k, choice_of c a b) ≡ v)
+ChoosingByConstant = OfChoice (λ k p c a b v.
+    given_by (codes "arith.select") p (type_of k) ((truth_kind, c) ∷ (k, a) ∷ (k, b) ∷ []) ≡ Some v
+    → (k, choice_of c a b) ≡ v)
 
--- rule 17: a choice between true and false is its condition
+-- `choose-truth`: a choice between true and false is its condition
 abbrev pub ChoosingTruth : Type 0
-ChoosingTruth = (p : Entries) (c : ℕ) (v : Known) → IsOf truth_kind c → given_by (codes "arith.select") p i1 ((truth_kind, c) ∷ (truth_kind, 1) ∷ (truth_kind, 0) ∷ []) ≡ Some v → (truth_kind, c) ≡ v
+ChoosingTruth = (p : Entries) (c : ℕ) (v : Known) → IsOf truth_kind c
+    → given_by (codes "arith.select") p i1 ((truth_kind, c) ∷ (truth_kind, 1) ∷ (truth_kind, 0) ∷ []) ≡ Some v
+    → (truth_kind, c) ≡ v
 
--- rule 18: a choice by the opposite of a condition is that by the condition, between the same values swapped
+-- `choose-opposite`: a choice by the opposite of a condition is that by the condition, between the same values swapped
 abbrev pub ChoosingByOpposite : Type 0
 ChoosingByOpposite = (k : BitsKind) (p q : Entries) (c a b : ℕ) (v : Known) → IsOf truth_kind c
-    → given (given_by (codes "arith.xori") p i1 ((truth_kind, c) ∷ (truth_kind, 1) ∷ [])) (λ y. given_by (codes "arith.select") q (type_of k) (y ∷ (k, a) ∷ (k, b) ∷ [])) ≡ Some v
+    → given (given_by (codes "arith.xori") p i1 ((truth_kind, c) ∷ (truth_kind, 1) ∷ []))
+    (λ y. given_by (codes "arith.select") q (type_of k) (y ∷ (k, a) ∷ (k, b) ∷ [])) ≡ Some v
     → given_by (codes "arith.select") q (type_of k) ((truth_kind, c) ∷ (k, b) ∷ (k, a) ∷ []) ≡ Some v
 
 -- a cast of a cast: from a kind to a second one, and from there to a third
 abbrev twice : List ℕ → List ℕ → Entries → Entries → BitsKind → BitsKind → BitsKind → ℕ → Option Known
-twice inner outer p q i j k a = given (given_by inner p (type_of j) ((i, a) ∷ [])) (λ y. given_by outer q (type_of k) (y ∷ []))
+twice inner outer p q i j k a =
+    given (given_by inner p (type_of j) ((i, a) ∷ [])) (λ y. given_by outer q (type_of k) (y ∷ []))
 
--- rule 19: an extension of an extension is one
+-- `extend-extension`: an extension of an extension is one
 abbrev pub Extending : List ℕ → List ℕ → List ℕ → Type 0
 Extending inner outer new = (u v w : ℕ) (p q : Entries) (a : ℕ) (z : Known) → u < v → v < w → IsOf (kind.Int u) a
-    → twice inner outer p q (kind.Int u) (kind.Int v) (kind.Int w) a ≡ Some z → given_by new [] (type_of (kind.Int w)) ((kind.Int u, a) ∷ []) ≡ Some z
+    → twice inner outer p q (kind.Int u) (kind.Int v) (kind.Int w) a ≡ Some z
+    → given_by new [] (type_of (kind.Int w)) ((kind.Int u, a) ∷ []) ≡ Some z
 
--- rule 20: a cut of a cut is one
+-- `cut-cast`: a cut of a cut is one
 abbrev pub CuttingTwice : Type 0
 CuttingTwice = (u v w : ℕ) (p q : Entries) (a : ℕ) (z : Known)
-    → twice (codes "arith.trunci") (codes "arith.trunci") p q (kind.Int u) (kind.Int v) (kind.Int w) a ≡ Some z → given_by (codes "arith.trunci") [] (type_of (kind.Int w)) ((kind.Int u, a) ∷ []) ≡ Some z
+    → twice (codes "arith.trunci") (codes "arith.trunci") p q (kind.Int u) (kind.Int v) (kind.Int w) a ≡ Some z
+    → given_by (codes "arith.trunci") [] (type_of (kind.Int w)) ((kind.Int u, a) ∷ []) ≡ Some z
 
--- rule 20: an extension that is cut back to its width is what was extended
+-- `cut-cast`: an extension that is cut back to its width is what was extended
 abbrev pub CuttingBack : List ℕ → Type 0
 CuttingBack name = (u v : ℕ) (p q : Entries) (a : ℕ) (z : Known) → u < v → IsOf (kind.Int u) a
     → twice name (codes "arith.trunci") p q (kind.Int u) (kind.Int v) (kind.Int u) a ≡ Some z → (kind.Int u, a) ≡ z
 
--- rule 21: a cast to as many bits or more, and back, is what was cast
+-- `cast-back`: a cast to as many bits or more, and back, is what was cast
 abbrev pub ComingBack : List ℕ → Type 0
-ComingBack name = (j k : BitsKind) (p q : Entries) (a : ℕ) (z : Known) → width_of j ≤ width_of k → IsOf j a → twice name name p q j k j a ≡ Some z → (j, a) ≡ z
+ComingBack name = (j k : BitsKind) (p q : Entries) (a : ℕ) (z : Known) → width_of j ≤ width_of k → IsOf j a
+    → twice name name p q j k j a ≡ Some z → (j, a) ≡ z
 
--- rule 25: the greater or the lesser by a comparison and a choice
+-- `expand-min-max`: the greater or the lesser by a comparison and a choice
 abbrev pub Choosing : List ℕ × ℕ → Type 0
 Choosing e = OfTwo (λ k p a b v. given_by e.0 p (type_of k) ((k, a) ∷ (k, b) ∷ []) ≡ Some v
-    → given (given_by (codes "arith.cmpi") (predicate_entry e.1) i1 ((k, a) ∷ (k, b) ∷ [])) (λ c. given_by (codes "arith.select") [] (type_of k) (c ∷ (k, a) ∷ (k, b) ∷ [])) ≡ Some v)
+    → given (given_by (codes "arith.cmpi") (predicate_entry e.1) i1 ((k, a) ∷ (k, b) ∷ []))
+    (λ c. given_by (codes "arith.select") [] (type_of k) (c ∷ (k, a) ∷ (k, b) ∷ [])) ≡ Some v)
 
--- rule 26: a - b is a + ((b xor -1) + 1)
+-- `expand-difference`: a - b is a + ((b xor -1) + 1)
 abbrev pub AddingTheComplement : Type 0
 AddingTheComplement = OfTwo (λ k p a b v. given_by (codes "arith.subi") p (type_of k) ((k, a) ∷ (k, b) ∷ []) ≡ Some v
-    → given (gives (constant (type_of k) (all_ones (width_of k))) []) (λ m. given (given_by (codes "arith.xori") (flags (codes "arith.xori")) (type_of k) ((k, b) ∷ m ∷ []))
-    (λ x. given (gives (constant (type_of k) 1) []) (λ one. given (given_by (codes "arith.addi") (flags (codes "arith.addi")) (type_of k) (x ∷ one ∷ []))
+    → given (gives (constant (type_of k) (all_ones (width_of k))) [])
+    (λ m. given (given_by (codes "arith.xori") (flags (codes "arith.xori")) (type_of k) ((k, b) ∷ m ∷ []))
+    (λ x. given (gives (constant (type_of k) 1) [])
+    (λ one. given (given_by (codes "arith.addi") (flags (codes "arith.addi")) (type_of k) (x ∷ one ∷ []))
     (λ n. given_by (codes "arith.addi") (flags (codes "arith.addi")) (type_of k) ((k, a) ∷ n ∷ []))))) ≡ Some v)
 
--- rule 27: a remainder is a - (a / b) * b
+-- `expand-remainder`: a remainder is a - (a / b) * b
 abbrev pub Dividing : List ℕ × List ℕ → Type 0
 Dividing e = OfTwo (λ k p a b v. given_by e.0 p (type_of k) ((k, a) ∷ (k, b) ∷ []) ≡ Some v
-    → given (given_by e.1 (flags e.1) (type_of k) ((k, a) ∷ (k, b) ∷ [])) (λ q. given (given_by (codes "arith.muli") (flags (codes "arith.muli")) (type_of k) (q ∷ (k, b) ∷ []))
+    → given (given_by e.1 (flags e.1) (type_of k) ((k, a) ∷ (k, b) ∷ []))
+    (λ q. given (given_by (codes "arith.muli") (flags (codes "arith.muli")) (type_of k) (q ∷ (k, b) ∷ []))
     (λ m. given_by (codes "arith.subi") (flags (codes "arith.subi")) (type_of k) ((k, a) ∷ m ∷ []))) ≡ Some v)
 
--- rule 28: a value of index as one of i64, by the same number; other values stay
+-- `lower-index`: a value of index as one of i64, by the same number; other values stay
 abbrev pub lowered : Known → Known
 lowered (kind.Index, a) = (kind.Int 64, a)
 lowered (kind.Int w, a) = (kind.Int w, a)
@@ -170,21 +200,27 @@ abbrev pub lowered_type : TypeTerm → TypeTerm
 lowered_type Index = i64
 lowered_type ty = ty
 
--- rule 28: an operation on two values of index
+-- `lower-index`: an operation on two values of index
 abbrev pub LoweringTwo : List ℕ → Type 0
 LoweringTwo name = (p : Entries) (a b : ℕ) (v : Known) → IsOf kind.Index a → IsOf kind.Index b
-    → given_by name p Index ((kind.Index, a) ∷ (kind.Index, b) ∷ []) ≡ Some v → given_by name p i64 (lowered (kind.Index, a) ∷ lowered (kind.Index, b) ∷ []) ≡ Some (lowered v)
+    → given_by name p Index ((kind.Index, a) ∷ (kind.Index, b) ∷ []) ≡ Some v
+    → given_by name p i64 (lowered (kind.Index, a) ∷ lowered (kind.Index, b) ∷ []) ≡ Some (lowered v)
 
 -- a comparison of two values of index
 abbrev pub LoweringComparison : Type 0
-LoweringComparison = (n a b : ℕ) (v : Known) → given_by (codes "arith.cmpi") (predicate_entry n) i1 ((kind.Index, a) ∷ (kind.Index, b) ∷ []) ≡ Some v
-    → given_by (codes "arith.cmpi") (predicate_entry n) i1 (lowered (kind.Index, a) ∷ lowered (kind.Index, b) ∷ []) ≡ Some v
+LoweringComparison = (n a b : ℕ) (v : Known)
+    → given_by (codes "arith.cmpi") (predicate_entry n) i1 ((kind.Index, a) ∷ (kind.Index, b) ∷ []) ≡ Some v
+    → given_by (codes "arith.cmpi") (predicate_entry n) i1
+    (lowered (kind.Index, a) ∷ lowered (kind.Index, b) ∷ []) ≡ Some v
 
 -- a choice between two values of index
 abbrev pub LoweringChoice : Type 0
-LoweringChoice = (p : Entries) (c a b : ℕ) (v : Known) → given_by (codes "arith.select") p Index ((truth_kind, c) ∷ (kind.Index, a) ∷ (kind.Index, b) ∷ []) ≡ Some v
-    → given_by (codes "arith.select") p i64 ((truth_kind, c) ∷ lowered (kind.Index, a) ∷ lowered (kind.Index, b) ∷ []) ≡ Some (lowered v)
+LoweringChoice = (p : Entries) (c a b : ℕ) (v : Known)
+    → given_by (codes "arith.select") p Index ((truth_kind, c) ∷ (kind.Index, a) ∷ (kind.Index, b) ∷ []) ≡ Some v
+    → given_by (codes "arith.select") p i64
+    ((truth_kind, c) ∷ lowered (kind.Index, a) ∷ lowered (kind.Index, b) ∷ []) ≡ Some (lowered v)
 
 -- a constant of index
 abbrev pub LoweringConstant : Type 0
-LoweringConstant = (n : ℕ) (v : Known) → given_by (codes "arith.constant") (value_entry Index n) Index [] ≡ Some v → given_by (codes "arith.constant") (value_entry i64 n) i64 [] ≡ Some (lowered v)
+LoweringConstant = (n : ℕ) (v : Known) → given_by (codes "arith.constant") (value_entry Index n) Index [] ≡ Some v
+    → given_by (codes "arith.constant") (value_entry i64 n) i64 [] ≡ Some (lowered v)

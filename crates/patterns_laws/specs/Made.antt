@@ -22,7 +22,17 @@ Entries = List (List ℕ × AttrTerm)
 
 -- an operation of one result, without regions and attributes; its id is given to it when it is put in
 abbrev pub made : List ℕ → List Value → TypeTerm → Entries → Operation
-made name operands ty properties = op (record { id = 0; name = name; operands = operands; results = ty ∷ []; properties = properties; attributes = [] }) no_regions
+made name operands ty properties =
+    op
+    (record {
+      id = 0;
+      name = name;
+      operands = operands;
+      results = ty ∷ [];
+      properties = properties;
+      attributes = [];
+    })
+    no_regions
 
 -- a constant's property: its bits
 abbrev pub value_entry : TypeTerm → ℕ → Entries

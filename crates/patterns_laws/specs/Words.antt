@@ -33,7 +33,8 @@ cancelling = codes "arith.subi" ∷ codes "arith.xori" ∷ []
 
 -- which give the value for a value and itself
 unfoldable pub keeping : List (List ℕ)
-keeping = codes "arith.andi" ∷ codes "arith.ori" ∷ codes "arith.maxsi" ∷ codes "arith.maxui" ∷ codes "arith.minsi" ∷ codes "arith.minui" ∷ []
+keeping = codes "arith.andi" ∷ codes "arith.ori" ∷ codes "arith.maxsi" ∷ codes "arith.maxui" ∷ codes "arith.minsi"
+    ∷ codes "arith.minui" ∷ []
 
 -- remainders
 unfoldable pub remainders : List (List ℕ)

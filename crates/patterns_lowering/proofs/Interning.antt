@@ -32,7 +32,8 @@ use Rattle.patterns_runs.specs.rewriter_bench.Moves.{Grown}
 use Rattle.patterns_runs.proofs.of_rewriter_bench.Told.{heard_grown}
 use Rattle.patterns_base.specs.Made.{i64}
 use Rattle.patterns_base.specs.Lowering.{lowered_attr}
-use Rattle.patterns_lowering.specs.Interned.{Interned, IsWanting, as_full}
+use Rattle.patterns_runs.specs.Interning.{Added, IsNoRoom}
+use Rattle.patterns_lowering.specs.Refused.{as_full}
 use Rattle.patterns_lowering.specs.Lowered.{IsLowered, AreLowered, AreKnown, AreTypes, IsLowering, index_bits}
 
 -- ---- benches
@@ -47,17 +48,17 @@ grown_on g h k p q = record {
 }
 
 module _ {B : Type 0} (meaning : B → Listener) where
-  pub interned_none : ((z : Benched B) → Heard meaning [] z z) → (a : Benched B) → Interned meaning a a
+  pub interned_none : ((z : Benched B) → Heard meaning [] z z) → (a : Benched B) → Added meaning a a
   interned_none none a = record { grown = record { grows = grows_refl a.desk.ctx; held = refl; same = refl; marked = refl; behind = λ n. refl }; untold = none a }
 
   abbrev pub Composes : Type 0
   Composes = (es fs : List Event) (a b c : Benched B) → Holds b.desk.ctx → Holds c.desk.ctx → Heard meaning es a b → Heard meaning fs b c → Heard meaning (es ++ fs) a c
 
-  pub interned_on : Composes → (a b c : Benched B) → Holds b.desk.ctx → Holds c.desk.ctx → Interned meaning a b → Interned meaning b c → Interned meaning a c
+  pub interned_on : Composes → (a b c : Benched B) → Holds b.desk.ctx → Holds c.desk.ctx → Added meaning a b → Added meaning b c → Added meaning a c
   interned_on more a b c h k p q = record { grown = grown_on a.desk b.desk c.desk p.grown q.grown; untold = more [] [] a b c h k p.untold q.untold }
 
   -- something is interned
-  pub interned_one : (a b : Benched B) → Holds a.desk.ctx → Holds b.desk.ctx → Grown a.desk b.desk → b.listeners ≡ a.listeners → Interned meaning a b
+  pub interned_one : (a b : Benched B) → Holds a.desk.ctx → Holds b.desk.ctx → Grown a.desk b.desk → b.listeners ≡ a.listeners → Added meaning a b
   interned_one a b before after grown same = record {
     grown = grown;
     untold = subst (λ (xs : List B). Heard meaning [] a (record { desk = b.desk; listeners = xs })) (sym same) (heard_grown meaning a.desk b.desk a.listeners before after grown);
@@ -82,7 +83,7 @@ full_wanting is xs e r = elim (bool_cases (not (list_any is xs) && nat_le most_t
 ]
 
 -- why a type without a fault isn't interned
-pub type_wanting : (c : Things) (node : TypeNode) (e : Refusal) → type_fault (type_node_term c node) ≡ None → IsRefusedFor {A = ℕ} (type_reason node c) (Err e) → IsWanting c (as_full e)
+pub type_wanting : (c : Things) (node : TypeNode) (e : Refusal) → type_fault (type_node_term c node) ≡ None → IsRefusedFor {A = ℕ} (type_reason node c) (Err e) → IsNoRoom c (as_full e)
 type_wanting c node e fine r = elim (full_wanting (same_type node) c.types e (subst (λ o. IsRefusedFor {A = ℕ} (first_reason o (full_reason (same_type node) c.types)) (Err e)) fine r)) [
   | inl h ↦ inl (ap as_full h)
   | inr h ↦ inr (ap as_full h.0, inl h.1)
@@ -112,7 +113,7 @@ attr_interned c d ty bits id h e =
     (slice_get_within ((with_attr (Int ty bits) c).1).attrs (with_attr (Int ty bits) c).0 (kept c.names (Int ty bits)) (attr_stands (Int ty bits) c), new_attr (Int ty bits) c h ∙ ap (attr_node_term c) (int_kept c.names ty bits))
 
 -- why one without a fault isn't
-pub attr_wanting : (c : Things) (ty bits : ℕ) (e : Refusal) → attr_fault (IntegerOf (type_term c ty) bits) ≡ None → IsRefusedFor {A = ℕ} (attr_reason (Int ty bits) c) (Err e) → IsWanting c (as_full e)
+pub attr_wanting : (c : Things) (ty bits : ℕ) (e : Refusal) → attr_fault (IntegerOf (type_term c ty) bits) ≡ None → IsRefusedFor {A = ℕ} (attr_reason (Int ty bits) c) (Err e) → IsNoRoom c (as_full e)
 attr_wanting c ty bits e fine r = elim (full_wanting (same_attr (kept c.names (Int ty bits))) c.attrs e (alone (full_reason (same_attr (kept c.names (Int ty bits))) c.attrs) (subst (λ o. IsRefusedFor {A = ℕ} (first_reason o (first_reason None (first_reason (full_reason (same_attr (kept c.names (Int ty bits))) c.attrs) None))) (Err e)) fine r))) [
   | inl h ↦ inl (ap as_full h)
   | inr h ↦ inr (ap as_full h.0, inr h.1)

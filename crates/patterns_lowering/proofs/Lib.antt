@@ -14,6 +14,6 @@ pub mod LoopFitting
 pub mod LoopEdited
 pub mod Shown
 pub mod Ruled
-pub mod Numbered
+pub mod Named
 pub mod Asked
 pub use Rattle.patterns_runs.proofs as of_runs

@@ -1,4 +1,4 @@
--- What is read of an operation, and rule 28.
+-- What is read of an operation, and how one of arith is lowered.
 use Rattle.std.proofs.Common.{◌≡◌, refl, ap, sym, ℕ, ◌+◌, ◌++◌, List, [], ◌∷◌, map, Bool, ◌&&◌, ◌||◌, Some}
 use Rattle.ir_types.specs.Terms.{TypeTerm, AttrTerm}
 use Rattle.ir_tree.specs.declared.value.Value.{Value}
@@ -11,7 +11,7 @@ use Rattle.patterns_base.specs.Looks.{when, is_index_value}
 use Rattle.patterns_edits.specs.Edits.{Make}
 use Rattle.patterns_base.specs.Made.{i64}
 use Rattle.patterns_base.specs.Keeps.{lowered_type}
-use Rattle.patterns_base.specs.Lowering.{bridges, crossed, marked, indices, any, lowered_header, lowered_regions, lowered_op, rule_28}
+use Rattle.patterns_base.specs.Lowering.{bridges, crossed, marked, indices, any, lowered_header, lowered_regions, lowered_op, lower_index}
 use Rattle.patterns_lowering.specs.Bare.{bare, bare_regions}
 use Rattle.patterns_lowering.specs.Meanings.{operation_lowered, results_given}
 
@@ -24,17 +24,17 @@ lowered_bare (region (block args os) rs) = ap (region (block (map lowered_type a
 pub op_bare : (o : Operation) (vs : List Value) → lowered_op (bare o) vs ≡ lowered_op o vs
 op_bare (op h rs) vs = ap (op (lowered_header h vs)) (lowered_bare rs)
 
--- whether rule 28 is one for an operation
-abbrev pub applies_28 : Operation → Operation → Bool
-applies_28 t o = among index_users (head o).name && (any (map (is_index_value t) (head o).operands) || any (indices (head o).results))
+-- whether an operation is one of arith that is lowered
+abbrev pub applies_lower_index : Operation → Operation → Bool
+applies_lower_index t o = among index_users (head o).name && (any (map (is_index_value t) (head o).operands) || any (indices (head o).results))
 
 -- its edits, by what is read
-pub rule_28_read : (t : Operation) (n : ℕ) (front : Place) (o : Operation)
-    → rule_28 t n front o ≡ when (applies_28 t o) (Some (operation_lowered n front (map (is_index_value t) (head o).operands) (indices (head o).results) (bare o)))
-rule_28_read t n front (op h rs) =
+pub lower_index_read : (t : Operation) (n : ℕ) (front : Place) (o : Operation)
+    → lower_index t n front o ≡ when (applies_lower_index t o) (Some (operation_lowered n front (map (is_index_value t) (head o).operands) (indices (head o).results) (bare o)))
+lower_index_read t n front (op h rs) =
     ap
     (λ (m : Operation).
-    when (applies_28 t (op h rs))
+    when (applies_lower_index t (op h rs))
     (Some
     (bridges i64 front (map (is_index_value t) h.operands) h.operands
     ++ Make front m ∷ []

@@ -1,4 +1,4 @@
--- What rules 28 to 30 come to at an operation that a node shows.
+-- What the rules that lower come to at an operation that a node shows.
 use Rattle.std.proofs.Common.{◌≡◌, refl, ap, sym, ◌∙◌, subst, ℕ, ◌+◌, ◌≤◌, List, [], ◌∷◌, ◌++◌, length, map, Bool, true, false, ◌&&◌, ◌||◌, Option, Some, None, arith}
 use Rattle.std.specs.Prelude.{codes, option_map, option_and_then, slice_get}
 use Rattle.std.specs.List.{list_all, range_with_len}
@@ -23,7 +23,7 @@ use Rattle.patterns_base.specs.Made.{i64, placeholder}
 use Rattle.patterns_base.specs.Words.{among, index_users, named}
 use Rattle.patterns_base.specs.Looks.{Ended, body, is_index_value, when}
 use Rattle.patterns_base.specs.Makes.{arguments_from, replacing, replaced, erasing}
-use Rattle.patterns_base.specs.Lowering.{any, bridges, brought, crossed, crossing, marked, indices, lowered_loop, lowered_if, end_of, before_in, rule_28, rule_29, rule_30}
+use Rattle.patterns_base.specs.Lowering.{any, bridges, brought, crossed, crossing, marked, indices, lowered_loop, lowered_if, end_of, before_in, lower_index, lower_loop, lower_choice}
 use Rattle.patterns_regions.specs.Blocks.{Shows, body_at}
 use Rattle.patterns_regions.proofs.Viewed.{block_types}
 use Rattle.patterns_yields.specs.Yields.{IsCleanOf}
@@ -36,9 +36,9 @@ use Rattle.patterns_lowering.specs.declared.plan.Lowering.{Lowering}
 use Rattle.patterns_lowering.specs.declared.plan.Lowering.TheVariants as plan
 use Rattle.patterns_lowering.specs.Bare.{bare}
 use Rattle.patterns_lowering.specs.Meanings.{results_given, operation_lowered, loop_lowered, choice_lowered, lowering_meaning}
-use Rattle.patterns_lowering.specs.Planned.{AreTaken, IsCleanAt, IsLoweredBy, IsReadIn, IsReadOf, IsTaken, Rule}
+use Rattle.patterns_lowering.specs.Planned.{AreTaken, IsCleanAt, IsLoweredBy, IsReadIn, IsReadOf, IsTaken, Making}
 use Rattle.patterns_lowering.specs.Plans.{IsIndexed, IsIndexedChoice, IsIndexedLoop}
-use Rattle.patterns_lowering.proofs.Read.{bare_mapped, op_bare, rule_28_read}
+use Rattle.patterns_lowering.proofs.Read.{bare_mapped, op_bare, lower_index_read}
 use Rattle.patterns_lowering.proofs.Shown.{Raw, bare_head, distinct_in, indexed_at, meant_there, none_there, raw, there_meant, types_few_at, types_known_at}
 
 -- ---- tests
@@ -142,7 +142,7 @@ meant_results : (c : Things) (o : Op) → (head (meaning c o)).results ≡ map (
 meant_results c (op h rs) = refl
 
 -- no operation
-pub not_there : (makes : Rule) (w : World) (x : ℕ) → None ≡ option_map node_of (find x w.store.module_of.tree) → IsLoweredBy makes w x None
+pub not_there : (makes : Making) (w : World) (x : ℕ) → None ≡ option_map node_of (find x w.store.module_of.tree) → IsLoweredBy makes w x None
 not_there makes w x e o f = absurd (none_there w x o e f)
 
 module _ (w : World) (x : ℕ) (n : Node) (shown : Some n ≡ option_map node_of (find x w.store.module_of.tree)) where
@@ -156,21 +156,21 @@ module _ (w : World) (x : ℕ) (n : Node) (shown : Some n ≡ option_map node_of
   m = meaning w.ctx s.here
 
   -- what holds at the operation that is there
-  at : (makes : Rule) (p : Option Lowering) → ((k : ℕ) (front : Place) → option_map (lowering_meaning w.ctx k front) p ≡ makes t k front m) → IsLoweredBy makes w x p
+  at : (makes : Making) (p : Option Lowering) → ((k : ℕ) (front : Place) → option_map (lowering_meaning w.ctx k front) p ≡ makes t k front m) → IsLoweredBy makes w x p
   at makes p h o f k front = h k front ∙ ap (makes t k front) (sym (meant_there w x s.here o s.found f))
 
   named_as : (head m).name ≡ name_term w.ctx n.head.name
   named_as = meant_name w.ctx s.here ∙ ap (λ (z : Node). name_term w.ctx z.head.name) (sym s.node)
 
   -- a name with which there is no rule
-  pub not_28 : (b : Bool) → b ≡ among index_users (name_term w.ctx n.head.name) → b ≡ false → IsLoweredBy rule_28 w x None
-  not_28 b e f = at rule_28 None (λ k front. when_first _ _ _ (ap (among index_users) named_as ∙ sym e ∙ f))
+  pub not_lower_index : (b : Bool) → b ≡ among index_users (name_term w.ctx n.head.name) → b ≡ false → IsLoweredBy lower_index w x None
+  not_lower_index b e f = at lower_index None (λ k front. when_first _ _ _ (ap (among index_users) named_as ∙ sym e ∙ f))
 
-  pub not_29 : (b : Bool) → b ≡ named (codes "scf.for") (name_term w.ctx n.head.name) → b ≡ false → IsLoweredBy rule_29 w x None
-  not_29 b e f = at rule_29 None (λ k front. when_first _ _ _ (ap (named (codes "scf.for")) named_as ∙ sym e ∙ f))
+  pub not_lower_loop : (b : Bool) → b ≡ named (codes "scf.for") (name_term w.ctx n.head.name) → b ≡ false → IsLoweredBy lower_loop w x None
+  not_lower_loop b e f = at lower_loop None (λ k front. when_first _ _ _ (ap (named (codes "scf.for")) named_as ∙ sym e ∙ f))
 
-  pub not_30 : (b : Bool) → b ≡ named (codes "scf.if") (name_term w.ctx n.head.name) → b ≡ false → IsLoweredBy rule_30 w x None
-  not_30 b e f = at rule_30 None (λ k front. when_first _ _ _ (ap (named (codes "scf.if")) named_as ∙ sym e ∙ f))
+  pub not_lower_choice : (b : Bool) → b ≡ named (codes "scf.if") (name_term w.ctx n.head.name) → b ≡ false → IsLoweredBy lower_choice w x None
+  not_lower_choice b e f = at lower_choice None (λ k front. when_first _ _ _ (ap (named (codes "scf.if")) named_as ∙ sym e ∙ f))
 
   module _ (i : Indexed) (was : IsReadOf w x i) where
     abbrev r : IsReadIn w s.here i
@@ -186,41 +186,41 @@ module _ (w : World) (x : ℕ) (n : Node) (shown : Some n ≡ option_map node_of
     op_is = ap (meaning w.ctx) r.op ∙ bare_mapped (name_term w.ctx) (type_term w.ctx) (attr_term w.ctx) s.here
 
     -- nothing of index
-    pub unmarked_28 : (b : Bool) → b ≡ any i.index_operands.items || any i.index_results.items → b ≡ false → IsLoweredBy rule_28 w x None
-    unmarked_28 b e f = at rule_28 None (λ k front. when_second _ _ _ ((λ z. any (sym operands_are z) || any (sym results_are z)) ∙ sym e ∙ f))
+    pub unmarked_lower_index : (b : Bool) → b ≡ any i.index_operands.items || any i.index_results.items → b ≡ false → IsLoweredBy lower_index w x None
+    unmarked_lower_index b e f = at lower_index None (λ k front. when_second _ _ _ ((λ z. any (sym operands_are z) || any (sym results_are z)) ∙ sym e ∙ f))
 
-    pub unmarked_29 : (b : Bool) → b ≡ any i.index_operands.items → b ≡ false → IsLoweredBy rule_29 w x None
-    unmarked_29 b e f = at rule_29 None (λ k front. when_second _ _ _ (ap any (sym operands_are) ∙ sym e ∙ f))
+    pub unmarked_lower_loop : (b : Bool) → b ≡ any i.index_operands.items → b ≡ false → IsLoweredBy lower_loop w x None
+    unmarked_lower_loop b e f = at lower_loop None (λ k front. when_second _ _ _ (ap any (sym operands_are) ∙ sym e ∙ f))
 
-    pub unmarked_30 : (b : Bool) → b ≡ any i.index_results.items → b ≡ false → IsLoweredBy rule_30 w x None
-    unmarked_30 b e f = at rule_30 None (λ k front. when_second _ _ _ (ap any (sym results_are) ∙ sym e ∙ f))
+    pub unmarked_lower_choice : (b : Bool) → b ≡ any i.index_results.items → b ≡ false → IsLoweredBy lower_choice w x None
+    unmarked_lower_choice b e f = at lower_choice None (λ k front. when_second _ _ _ (ap any (sym results_are) ∙ sym e ∙ f))
 
-    -- rule 28
-    pub is_28 : (b d : Bool) → b ≡ among index_users (name_term w.ctx n.head.name) → b ≡ true → d ≡ any i.index_operands.items || any i.index_results.items → d ≡ true → IsLoweredBy rule_28 w x (Some (plan.Operation i))
-    is_28 b d e f g h =
-        at rule_28 (Some (plan.Operation i))
+    -- an operation of arith
+    pub is_lower_index : (b d : Bool) → b ≡ among index_users (name_term w.ctx n.head.name) → b ≡ true → d ≡ any i.index_operands.items || any i.index_results.items → d ≡ true → IsLoweredBy lower_index w x (Some (plan.Operation i))
+    is_lower_index b d e f g h =
+        at lower_index (Some (plan.Operation i))
         (λ k front. (λ z. Some (operation_lowered k front (operands_are z) (results_are z) (op_is z)))
         ∙ when_both _ _ _ (ap (among index_users) named_as ∙ sym e ∙ f) ((λ z. any (sym operands_are z) || any (sym results_are z)) ∙ sym g ∙ h)
-        ∙ sym (rule_28_read t k front m))
+        ∙ sym (lower_index_read t k front m))
 
-    -- ---- rule 29
+    -- ---- a loop
     shows : Shows w.ctx n m
     shows = ap (node_meaning w.ctx) s.node ∙ sym (node_shown w.ctx s.here)
 
     body_here : (q : ℕ) → body_at x q t ≡ body t m q
     body_here q = ap (λ z. given z (λ o. body t o q)) (there_meant w x s.here s.found)
 
-    pub no_block_29 : None ≡ option_and_then (λ a. a) (slice_get n.arguments 0) → IsLoweredBy rule_29 w x None
-    no_block_29 e =
-        at rule_29 None
+    pub no_block_lower_loop : None ≡ option_and_then (λ a. a) (slice_get n.arguments 0) → IsLoweredBy lower_loop w x None
+    no_block_lower_loop e =
+        at lower_loop None
         (λ k front. when_none _ _ (ap (λ a. given a (λ args. given (body t m 0) (λ e. Some (lowered_loop t k front m args e)))) (ap (option_map (map (type_term w.ctx))) e ∙ block_types w.ctx n m 0 shows)))
 
     no_body : (k : ℕ) (front : Place) (a : Option (List TypeTerm)) → None ≡ body t m 0 → None ≡ given a (λ args. given (body t m 0) (λ e. Some (lowered_loop t k front m args e)))
     no_body k front None e = refl
     no_body k front (Some args) e = ap (λ b. given b (λ e. Some (lowered_loop t k front m args e))) e
 
-    pub no_body_29 : AreTaken (body_at x 0 t) None → IsLoweredBy rule_29 w x None
-    no_body_29 e = at rule_29 None (λ k front. when_none _ _ (no_body k front (arguments_at 0 m) (none_of (body_at x 0 t) e ∙ body_here 0)))
+    pub no_body_lower_loop : AreTaken (body_at x 0 t) None → IsLoweredBy lower_loop w x None
+    no_body_lower_loop e = at lower_loop None (λ k front. when_none _ _ (no_body k front (arguments_at 0 m) (none_of (body_at x 0 t) e ∙ body_here 0)))
 
     op_results : length (head i.op).results ≡ length (head m).results
     op_results =
@@ -246,17 +246,17 @@ module _ (w : World) (x : ℕ) (n : Node) (shown : Some n ≡ option_map node_of
     args_are : Some (map (type_term w.ctx) types) ≡ arguments_at 0 m
     args_are = ap (option_map (map (type_term w.ctx))) (sym block) ∙ block_types w.ctx n m 0 (shows l.of was)
 
-    pub is_29 : (d : Bool) → d ≡ any l.of.index_operands.items → d ≡ true → IsLoweredBy rule_29 w x (Some (plan.Loop l))
-    is_29 d g h =
-        at rule_29 (Some (plan.Loop l))
+    pub is_lower_loop : (d : Bool) → d ≡ any l.of.index_operands.items → d ≡ true → IsLoweredBy lower_loop w x (Some (plan.Loop l))
+    is_lower_loop d g h =
+        at lower_loop (Some (plan.Loop l))
         (λ k front. (λ z. Some (loop_lowered k front (operands_are l.of was z) (results_are l.of was z) (op_is l.of was z) (map (type_term w.ctx) (arguments z)) (marks z) l.body))
         ∙ ap Some (loop_is t k front m (map (type_term w.ctx) types) last.ended l.body last.taken)
         ∙ ap (λ q. given q (λ e. Some (lowered_loop t k front m (map (type_term w.ctx) types) e))) (sym last.is)
         ∙ ap (λ a. given a (λ args. given (body t m 0) (λ e. Some (lowered_loop t k front m args e)))) args_are
         ∙ when_both _ _ _ (ap (named (codes "scf.for")) named_as ∙ sym e ∙ f) (ap any (sym (operands_are l.of was)) ∙ sym g ∙ h))
 
-    pub indexed_29 : IsCleanAt w x → IsIndexedLoop w.ctx l
-    indexed_29 clean = record {
+    pub indexed_lower_loop : IsCleanAt w x → IsIndexedLoop w.ctx l
+    indexed_lower_loop clean = record {
       of = indexed l.of was;
       known = ap (list_all (is_type w.ctx)) arguments ∙ types_known_at w x n s 0 types block;
       few = subst (λ (k : ℕ). k ≤ 256) (ap length (sym arguments)) (types_few_at w x n s 0 types block);
@@ -264,7 +264,7 @@ module _ (w : World) (x : ℕ) (n : Node) (shown : Some n ≡ option_map node_of
       handed = ap length last.taken.handed ∙ loops_hand_on_all t m x last.ended (clean_of clean (codes "scf.for") b e f) last.is ∙ sym (op_results l.of was);
     }
 
-  -- ---- rule 30
+  -- ---- a choice
   no_first : (k : ℕ) (front : Place) → None ≡ body t m 0 → None ≡ given (body t m 0) (λ e. given (body t m 1) (λ f. Some (lowered_if t k front m e f)))
   no_first k front e = ap (λ b. given b (λ e. given (body t m 1) (λ f. Some (lowered_if t k front m e f)))) e
 
@@ -273,11 +273,11 @@ module _ (w : World) (x : ℕ) (n : Node) (shown : Some n ≡ option_map node_of
   no_second k front (Some q) e = ap (λ b. given b (λ f. Some (lowered_if t k front m q f))) e
 
   module _ (i : Indexed) (was : IsReadOf w x i) where
-    pub no_first_30 : AreTaken (body_at x 0 t) None → IsLoweredBy rule_30 w x None
-    no_first_30 e = at rule_30 None (λ k front. when_none _ _ (no_first k front (none_of (body_at x 0 t) e ∙ body_here i was 0)))
+    pub no_first_lower_choice : AreTaken (body_at x 0 t) None → IsLoweredBy lower_choice w x None
+    no_first_lower_choice e = at lower_choice None (λ k front. when_none _ _ (no_first k front (none_of (body_at x 0 t) e ∙ body_here i was 0)))
 
-    pub no_second_30 : AreTaken (body_at x 1 t) None → IsLoweredBy rule_30 w x None
-    no_second_30 e = at rule_30 None (λ k front. when_none _ _ (no_second k front (body t m 0) (none_of (body_at x 1 t) e ∙ body_here i was 1)))
+    pub no_second_lower_choice : AreTaken (body_at x 1 t) None → IsLoweredBy lower_choice w x None
+    no_second_lower_choice e = at lower_choice None (λ k front. when_none _ _ (no_second k front (body t m 0) (none_of (body_at x 1 t) e ∙ body_here i was 1)))
 
   module _ (l : IndexedChoice) (was : IsReadOf w x l.of) (b : Bool) (e : b ≡ named (codes "scf.if") (name_term w.ctx n.head.name)) (f : b ≡ true)
       (first : AreTaken (body_at x 0 t) (Some l.first)) (second : AreTaken (body_at x 1 t) (Some l.second)) where
@@ -287,17 +287,17 @@ module _ (w : World) (x : ℕ) (n : Node) (shown : Some n ≡ option_map node_of
     abbrev two : TakenOf (body t m 1) l.second
     two = taken_here l.of was 1 l.second second
 
-    pub is_30 : (d : Bool) → d ≡ any l.of.index_results.items → d ≡ true → IsLoweredBy rule_30 w x (Some (plan.Choice l))
-    is_30 d g h =
-        at rule_30 (Some (plan.Choice l))
+    pub is_lower_choice : (d : Bool) → d ≡ any l.of.index_results.items → d ≡ true → IsLoweredBy lower_choice w x (Some (plan.Choice l))
+    is_lower_choice d g h =
+        at lower_choice (Some (plan.Choice l))
         (λ k front. (λ z. Some (choice_lowered k front (operands_are l.of was z) (results_are l.of was z) (op_is l.of was z) l.first l.second))
         ∙ ap Some (choice_is t k front m one.ended two.ended l.first l.second one.taken two.taken)
         ∙ ap (λ q. given q (λ f. Some (lowered_if t k front m one.ended f))) (sym two.is)
         ∙ ap (λ q. given q (λ e. given (body t m 1) (λ f. Some (lowered_if t k front m e f)))) (sym one.is)
         ∙ when_both _ _ _ (ap (named (codes "scf.if")) named_as ∙ sym e ∙ f) (ap any (sym (results_are l.of was)) ∙ sym g ∙ h))
 
-    pub indexed_30 : IsCleanAt w x → IsIndexedChoice w.ctx l
-    indexed_30 clean =
+    pub indexed_lower_choice : IsCleanAt w x → IsIndexedChoice w.ctx l
+    indexed_lower_choice clean =
         let c = clean_of clean (codes "scf.if") b e f in
         record {
           of = indexed l.of was;

@@ -1,4 +1,4 @@
--- The edits of rules 28 to 30, by what is read of an operation.
+-- The edits of the rules that lower, by what is read of an operation.
 use Rattle.std.specs.Prelude.{ℕ, ◌+◌, List, [], ◌∷◌, ◌++◌, map, length, Bool}
 use Rattle.std.specs.List.{range_with_len}
 use Rattle.ir_types.specs.Things.{Things}

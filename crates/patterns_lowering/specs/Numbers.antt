@@ -141,7 +141,7 @@ behind_edits wide index front ids news l =
     handed_edits wide (before_in ids.op 0 l.body.last) ids.handed l.body.last l.of.index_results.items (map (put_for (head l.of.op).id news) l.body.handed.items)
     ++ give_edits index front l.of.index_results.items l.of.op ids.op ids.results
 
--- the edits of rule 29
+-- the edits by which a loop is lowered
 abbrev pub loop_edits : Things → ℕ → ℕ → List (ℕ × ℕ) → ℕ → Place → IndexedLoop → List Edit
 loop_edits c wide index properties n front l =
     let ids = loop_ids n l in
@@ -156,7 +156,7 @@ loop_edits c wide index properties n front l =
 abbrev pub side_edits : ℕ → Place → ℕ → ℕ → ℕ → List Bool → Taken → List Edit
 side_edits wide front y r n marks b = over_edits front y r b ++ handed_edits wide (before_in y r b.last) n b.last marks b.handed.items
 
--- the edits of rule 30
+-- the edits by which a choice is lowered
 abbrev pub choice_edits : Things → ℕ → ℕ → List (ℕ × ℕ) → ℕ → Place → IndexedChoice → List Edit
 choice_edits c wide index properties n front d =
     let o = d.of.op in

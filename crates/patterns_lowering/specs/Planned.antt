@@ -11,24 +11,25 @@ use Rattle.patterns_edits.specs.Contents.{Edit}
 use Rattle.patterns_base.specs.Looks.{Ended, is_clean, is_index_value}
 use Rattle.patterns_base.specs.Lowering.{indices}
 use Rattle.patterns_base.specs.Rules.{rule}
+use Rattle.patterns_base.specs.declared.rule.Rule.{Rule}
 use Rattle.patterns_lowering.specs.declared.plan.Indexed.{Indexed}
 use Rattle.patterns_lowering.specs.declared.plan.Taken.{Taken}
 use Rattle.patterns_lowering.specs.declared.plan.Lowering.{Lowering}
 use Rattle.patterns_lowering.specs.Bare.{bare}
 use Rattle.patterns_lowering.specs.Meanings.{lowering_meaning}
 
--- a rule: the edits that it makes of an operation of a tree, where an id is the next free one and a place is in front of
--- the operation, if it applies
-abbrev pub Rule : Type 0
-Rule = Operation → ℕ → Place → Operation → Option (List Edit)
+-- what a rule makes: its edits at an operation of a tree, where an id is the next free one and a place is in front of the
+-- operation, if it applies
+abbrev pub Making : Type 0
+Making = Operation → ℕ → Place → Operation → Option (List Edit)
 
 -- a plan, or none, is what a rule makes of operation x of a world's module, if x is there, whatever id is free and
 -- wherever x stands
-abbrev pub IsLoweredBy : Rule → World → ℕ → Option Lowering → Type 0
+abbrev pub IsLoweredBy : Making → World → ℕ → Option Lowering → Type 0
 IsLoweredBy makes w x p = (o : Operation) → find x (module_in w).tree ≡ Some o → (n : ℕ) (front : Place) → option_map (lowering_meaning w.ctx n front) p ≡ makes (module_in w).tree n front o
 
 -- what rule r makes of it
-abbrev pub IsLoweredAt : ℕ → World → ℕ → Option Lowering → Type 0
+abbrev pub IsLoweredAt : Rule → World → ℕ → Option Lowering → Type 0
 IsLoweredAt r w x p = IsLoweredBy (rule r) w x p
 
 -- operation x of a world's module is clean, if x is there

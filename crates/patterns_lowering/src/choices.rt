@@ -1,4 +1,4 @@
-//! Rule 30: a choice of index becomes one of i64, with casts in its blocks and behind it.
+//! `lower-choice`: a choice of index becomes one of i64, with casts in its blocks and behind it.
 ghost use Rattle.std.specs.Prelude.{◌≡◌, ◌≤◌, ◌+◌, IfOk, OnOk, ◌++◌, length};
 ghost use Rattle.ir_tree.specs.Limits.{most_next};
 ghost use Rattle.patterns_base.specs.Lowering.{marked};
@@ -52,7 +52,7 @@ fn push_side(
     )
 }
 
-/// The edits of rule 30, for what was interned.
+/// The edits by which a choice is lowered, for what was interned.
 pub(crate) fn choice_edits(
     alloc: Global,
     ctx: &Context,

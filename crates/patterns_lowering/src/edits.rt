@@ -4,7 +4,7 @@ ghost use Rattle.ir_tree.specs.Limits.{most_next};
 ghost use Rattle.ir_tree.specs.Meaning.{meaning};
 ghost use Rattle.patterns_base.specs.Lowering.{marked};
 ghost use Rattle.patterns_edits.specs.Lists.{AllFit, edits_meaning};
-ghost use Rattle.patterns_lowering.specs.Interned.{Interned, IsWanting};
+ghost use Rattle.patterns_runs.specs.Interning.{Added, IsNoRoom};
 ghost use Rattle.patterns_lowering.specs.Meanings.{lowering_meaning, operation_lowered};
 ghost use Rattle.patterns_lowering.specs.Plans.{IsIndexed, IsIndexedChoice, IsIndexedLoop, LoweringIsOf, lowering_makes};
 ghost use Rattle.patterns_lowering.specs.declared.plan.Lowering.TheVariants.{Loop, Choice};
@@ -21,7 +21,7 @@ use patterns_edits::edit::Edit;
 use patterns_runs::Bench;
 use std::alloc::Global;
 
-/// The edits of rule 28.
+/// The edits by which an operation of arith is lowered.
 fn operation<L: Analysis>(
     alloc: Global,
     bench: &mut Bench<L>,
@@ -32,8 +32,8 @@ fn operation<L: Analysis>(
     requires room { bench.old.desk.store.module_of.next + (marked of.now.index_operands.items + 1 + marked of.now.index_results.items) ≤ most_next }
     ensures edits { IfOk result (λ es. edits_meaning bench.new.desk.ctx es.items ≡ operation_lowered bench.old.desk.store.module_of.next front.now of.now.index_operands.items of.now.index_results.items (meaning bench.old.desk.ctx of.now.op)) }
     ensures fit { IfOk result (λ es. AllFit bench.new.desk.ctx es.items) }
-    ensures refused { IfErr result (λ e. IsWanting bench.new.desk.ctx e) }
-    ensures interned { Interned L.meaning bench.old bench.new }
+    ensures refused { IfErr result (λ e. IsNoRoom bench.new.desk.ctx e) }
+    ensures interned { Added L.meaning bench.old bench.new }
 {
     bench.is_formed();
     let next = bench.world().store.next_id();
@@ -48,7 +48,7 @@ fn operation<L: Analysis>(
     }
 }
 
-/// The edits of rule 29.
+/// The edits by which a loop is lowered.
 fn over_loop<L: Analysis>(
     alloc: Global,
     bench: &mut Bench<L>,
@@ -59,8 +59,8 @@ fn over_loop<L: Analysis>(
     requires room { bench.old.desk.store.module_of.next + lowering_makes (Loop of.now) ≤ most_next }
     ensures edits { IfOk result (λ es. edits_meaning bench.new.desk.ctx es.items ≡ lowering_meaning bench.old.desk.ctx bench.old.desk.store.module_of.next front.now (Loop of.now)) }
     ensures fit { IfOk result (λ es. AllFit bench.new.desk.ctx es.items) }
-    ensures refused { IfErr result (λ e. IsWanting bench.new.desk.ctx e) }
-    ensures interned { Interned L.meaning bench.old bench.new }
+    ensures refused { IfErr result (λ e. IsNoRoom bench.new.desk.ctx e) }
+    ensures interned { Added L.meaning bench.old bench.new }
 {
     bench.is_formed();
     let next = bench.world().store.next_id();
@@ -75,7 +75,7 @@ fn over_loop<L: Analysis>(
     }
 }
 
-/// The edits of rule 30.
+/// The edits by which a choice is lowered.
 fn over_choice<L: Analysis>(
     alloc: Global,
     bench: &mut Bench<L>,
@@ -86,8 +86,8 @@ fn over_choice<L: Analysis>(
     requires room { bench.old.desk.store.module_of.next + lowering_makes (Choice of.now) ≤ most_next }
     ensures edits { IfOk result (λ es. edits_meaning bench.new.desk.ctx es.items ≡ lowering_meaning bench.old.desk.ctx bench.old.desk.store.module_of.next front.now (Choice of.now)) }
     ensures fit { IfOk result (λ es. AllFit bench.new.desk.ctx es.items) }
-    ensures refused { IfErr result (λ e. IsWanting bench.new.desk.ctx e) }
-    ensures interned { Interned L.meaning bench.old bench.new }
+    ensures refused { IfErr result (λ e. IsNoRoom bench.new.desk.ctx e) }
+    ensures interned { Added L.meaning bench.old bench.new }
 {
     bench.is_formed();
     let next = bench.world().store.next_id();
@@ -116,8 +116,8 @@ pub fn lowering_edits<L: Analysis>(
     requires room { bench.old.desk.store.module_of.next + lowering_makes plan.now ≤ most_next }
     ensures edits { IfOk result (λ es. edits_meaning bench.new.desk.ctx es.items ≡ lowering_meaning bench.old.desk.ctx bench.old.desk.store.module_of.next front.now plan.now) }
     ensures fit { IfOk result (λ es. AllFit bench.new.desk.ctx es.items) }
-    ensures refused { IfErr result (λ e. IsWanting bench.new.desk.ctx e) }
-    ensures interned { Interned L.meaning bench.old bench.new }
+    ensures refused { IfErr result (λ e. IsNoRoom bench.new.desk.ctx e) }
+    ensures interned { Added L.meaning bench.old bench.new }
 {
     match plan {
         Lowering::Operation(of) => operation(alloc, bench, front, of),

@@ -7,7 +7,8 @@ ghost use Rattle.ir_tree.specs.Meaning.{IsSoundIn};
 ghost use Rattle.ir_tree.specs.Tree.{head};
 ghost use Rattle.patterns_base.specs.Made.{i64};
 ghost use Rattle.patterns_base.specs.Lowering.{lowered_attr};
-ghost use Rattle.patterns_lowering.specs.Interned.{Interned, IsWanting, as_full};
+ghost use Rattle.patterns_runs.specs.Interning.{Added, IsNoRoom};
+ghost use Rattle.patterns_lowering.specs.Refused.{as_full};
 ghost use Rattle.patterns_lowering.specs.Lowered.{AreKnown, AreLowered, AreTypes, IsLowering, index_bits};
 
 use crate::index::is_index;
@@ -39,8 +40,8 @@ fn interned_type<L: Analysis>(bench: &mut Bench<L>, node: TypeNode) -> Result<Ty
     requires fine { type_fault (type_node_term bench.old.desk.ctx node) ≡ None }
     ensures known { IfOk result (λ id. IsType bench.new.desk.ctx id) }
     ensures is { IfOk result (λ id. type_term bench.new.desk.ctx id ≡ type_node_term bench.old.desk.ctx node) }
-    ensures refused { IfErr result (λ e. IsWanting bench.new.desk.ctx e) }
-    ensures interned { Interned L.meaning bench.old bench.new }
+    ensures refused { IfErr result (λ e. IsNoRoom bench.new.desk.ctx e) }
+    ensures interned { Added L.meaning bench.old bench.new }
 {
     bench.is_formed();
     let made = bench.ty(node);
@@ -78,8 +79,8 @@ fn lowered_attr<L: Analysis>(
     requires known { IsAttr bench.old.desk.ctx attr }
     ensures known { IfOk result (λ id. IsAttr bench.new.desk.ctx id) }
     ensures is { IfOk result (λ id. attr_term bench.new.desk.ctx id ≡ lowered_attr (attr_term bench.old.desk.ctx attr)) }
-    ensures refused { IfErr result (λ e. IsWanting bench.new.desk.ctx e) }
-    ensures interned { Interned L.meaning bench.old bench.new }
+    ensures refused { IfErr result (λ e. IsNoRoom bench.new.desk.ctx e) }
+    ensures interned { Added L.meaning bench.old bench.new }
 {
     led_benches_are_kept::<L>();
     bench.is_formed();
@@ -117,8 +118,8 @@ fn lowered_entry<L: Analysis>(
     requires wide_is { type_term bench.old.desk.ctx wide ≡ i64 }
     requires known { IsAttr bench.old.desk.ctx entry.1 }
     ensures lowered { OnOk result ((all rest : List (ℕ × ℕ)) → IsLowering bench.old.desk.ctx all (entry ∷ rest) lowered.old.items → IsLowering bench.new.desk.ctx all rest lowered.new.items) }
-    ensures refused { IfErr result (λ e. IsWanting bench.new.desk.ctx e) }
-    ensures interned { Interned L.meaning bench.old bench.new }
+    ensures refused { IfErr result (λ e. IsNoRoom bench.new.desk.ctx e) }
+    ensures interned { Added L.meaning bench.old bench.new }
 {
     bench.is_formed();
     let (key, attr) = entry;
@@ -143,8 +144,8 @@ fn lowered_entries<L: Analysis>(
     requires wide_is { type_term bench.old.desk.ctx wide ≡ i64 }
     requires known { AreKnown bench.old.desk.ctx entries.now }
     ensures lowered { IfOk result (λ es. AreLowered bench.new.desk.ctx entries.now es.items) }
-    ensures refused { IfErr result (λ e. IsWanting bench.new.desk.ctx e) }
-    ensures interned { Interned L.meaning bench.old bench.new }
+    ensures refused { IfErr result (λ e. IsNoRoom bench.new.desk.ctx e) }
+    ensures interned { Added L.meaning bench.old bench.new }
 {
     led_benches_are_kept::<L>();
     bench.is_formed();
@@ -164,8 +165,8 @@ fn lowered_entries<L: Analysis>(
 /// The numbers of i64 and of index.
 fn interned_types<L: Analysis>(bench: &mut Bench<L>) -> Result<(TypeId, TypeId), Refusal>
     ensures types { IfOk result (λ p. AreTypes bench.new.desk.ctx p.0 p.1) }
-    ensures refused { IfErr result (λ e. IsWanting bench.new.desk.ctx e) }
-    ensures interned { Interned L.meaning bench.old bench.new }
+    ensures refused { IfErr result (λ e. IsNoRoom bench.new.desk.ctx e) }
+    ensures interned { Added L.meaning bench.old bench.new }
 {
     led_benches_are_kept::<L>();
     let node = TypeNode::Int {
@@ -200,8 +201,8 @@ pub(crate) fn interned<L: Analysis>(
     requires { IsSoundIn bench.old.desk.ctx op.now }
     ensures types { IfOk result (λ n. AreTypes bench.new.desk.ctx n.wide n.index) }
     ensures properties { IfOk result (λ n. AreLowered bench.new.desk.ctx (head op.now).properties n.properties.items) }
-    ensures refused { IfErr result (λ e. IsWanting bench.new.desk.ctx e) }
-    ensures interned { Interned L.meaning bench.old bench.new }
+    ensures refused { IfErr result (λ e. IsNoRoom bench.new.desk.ctx e) }
+    ensures interned { Added L.meaning bench.old bench.new }
 {
     led_benches_are_kept::<L>();
     bench.is_formed();

@@ -2,7 +2,6 @@
 #![tactic(auto)]
 
 mod bare;
-pub mod by_number;
 mod choices;
 pub mod count;
 pub mod edits;
@@ -19,9 +18,10 @@ mod numbers;
 mod operation;
 mod over;
 pub mod plan;
-mod plans;
+pub mod plans;
 mod reading;
 mod users;
 
+pub use patterns_base::rule;
 pub use patterns_regions::reads;
 pub use patterns_runs as runs;

@@ -1,4 +1,4 @@
-//! Rule 29: a loop over index becomes one over i64, with casts around it and in its block.
+//! `lower-loop`: a loop over index becomes one over i64, with casts around it and in its block.
 ghost use Rattle.std.specs.Prelude.{◌≡◌, ◌≤◌, ◌+◌, IfOk, OnOk, ◌++◌};
 ghost use Rattle.ir_tree.specs.Limits.{most_next};
 ghost use Rattle.patterns_base.specs.Lowering.{marked};
@@ -159,7 +159,7 @@ fn push_behind(
     )
 }
 
-/// The edits of rule 29, for what was interned.
+/// The edits by which a loop is lowered, for what was interned.
 pub(crate) fn loop_edits(
     alloc: Global,
     ctx: &Context,

@@ -1,4 +1,4 @@
-//! Rule 28: an operation on index becomes one on i64, with casts around it.
+//! `lower-index`: an operation on index becomes one on i64, with casts around it.
 ghost use Rattle.std.specs.Prelude.{◌≡◌, ◌≤◌, ◌+◌, IfOk, OnOk, ◌++◌, ◌∷◌, []};
 ghost use Rattle.ir_tree.specs.Limits.{most_next};
 ghost use Rattle.ir_tree.specs.Tree.{head};
@@ -39,7 +39,7 @@ pub(crate) fn push_made(
     put(edits, Edit::Make { place: *front, op })
 }
 
-/// The edits of rule 28, for what was interned.
+/// The edits by which an operation of arith is lowered, for what was interned.
 pub(crate) fn operation_edits(
     alloc: Global,
     ctx: &Context,

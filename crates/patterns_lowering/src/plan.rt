@@ -1,4 +1,4 @@
-//! What rules 28 to 30 make of an operation, before anything is interned for it.
+//! What the rules that lower make of an operation, before anything is interned for it.
 use ir_tree::tree::TreeOp;
 use ir_tree::value::Value;
 use ir_types::ids::{OpId, TypeId};

@@ -1,7 +1,8 @@
-//! Rules 28 to 30: what they make of operations on index.
-ghost use Rattle.std.specs.Prelude.{◌≡◌, ◌||◌, IfOk, IfSome};
-ghost use Rattle.patterns_base.specs.Lowering.{any, rule_28, rule_29, rule_30};
-ghost use Rattle.patterns_lowering.specs.Planned.{IsCleanAt, IsLoweredBy};
+//! What the rules that lower make of operations on index.
+ghost use Rattle.std.specs.Prelude.{◌≡◌, ◌||◌, true, IfOk, IfSome};
+ghost use Rattle.patterns_base.specs.Lowering.{any, lower_index, lower_loop, lower_choice};
+ghost use Rattle.patterns_base.specs.RuleNames.{is_lowering};
+ghost use Rattle.patterns_lowering.specs.Planned.{IsCleanAt, IsLoweredAt, IsLoweredBy};
 ghost use Rattle.patterns_lowering.specs.Plans.{LoweringIsOf};
 
 use crate::bare::found;
@@ -13,6 +14,7 @@ use crate::users::is_user;
 use ir_event::world::World;
 use ir_types::ids::OpId;
 use ir_types::word::Word;
+use patterns_base::rule::Rule;
 use std::alloc::{AllocError, Global};
 
 /// Whether one of two lists is marked.
@@ -23,12 +25,12 @@ fn is_either(some: &[bool], others: &[bool]) -> bool
 }
 
 /// An operation of arith on index: one on i64.
-pub(crate) fn plan_28(
+pub(crate) fn plan_lower_index(
     alloc: Global,
     world: &World,
     op: OpId,
 ) -> Result<Option<Lowering>, AllocError>
-    ensures edits { IfOk result (IsLoweredBy rule_28 world.now op) }
+    ensures edits { IfOk result (IsLoweredBy lower_index world.now op) }
     ensures of { IfOk result (λ p. IfSome p (LoweringIsOf world.now.ctx)) }
 {
     let Some(node) = found(world, op) else {
@@ -45,13 +47,13 @@ pub(crate) fn plan_28(
 }
 
 /// A loop over index: one over i64.
-pub(crate) fn plan_29(
+pub(crate) fn plan_lower_loop(
     alloc: Global,
     world: &World,
     op: OpId,
 ) -> Result<Option<Lowering>, AllocError>
     requires { IsCleanAt world.now op }
-    ensures edits { IfOk result (IsLoweredBy rule_29 world.now op) }
+    ensures edits { IfOk result (IsLoweredBy lower_loop world.now op) }
     ensures of { IfOk result (λ p. IfSome p (LoweringIsOf world.now.ctx)) }
 {
     let Some(node) = found(world, op) else {
@@ -81,13 +83,13 @@ pub(crate) fn plan_29(
 }
 
 /// A choice that gives an index: one that gives an i64.
-pub(crate) fn plan_30(
+pub(crate) fn plan_lower_choice(
     alloc: Global,
     world: &World,
     op: OpId,
 ) -> Result<Option<Lowering>, AllocError>
     requires { IsCleanAt world.now op }
-    ensures edits { IfOk result (IsLoweredBy rule_30 world.now op) }
+    ensures edits { IfOk result (IsLoweredBy lower_choice world.now op) }
     ensures of { IfOk result (λ p. IfSome p (LoweringIsOf world.now.ctx)) }
 {
     let Some(node) = found(world, op) else {
@@ -107,4 +109,25 @@ pub(crate) fn plan_30(
         return Ok(None);
     };
     Ok(Some(Lowering::Choice(IndexedChoice { of, first, second })))
+}
+
+/// What a rule that lowers makes of a clean operation of the module, if it applies. That the operation is clean, and stands
+/// at a place, is asked before.
+pub fn plan_lowered(
+    alloc: Global,
+    world: &World,
+    rule: Rule,
+    op: OpId,
+) -> Result<Option<Lowering>, AllocError>
+    requires rule { is_lowering rule ≡ true }
+    requires clean { IsCleanAt world.now op }
+    ensures edits { IfOk result (IsLoweredAt rule world.now op) }
+    ensures of { IfOk result (λ p. IfSome p (LoweringIsOf world.now.ctx)) }
+{
+    match rule {
+        Rule::LowerIndex => plan_lower_index(alloc, world, op),
+        Rule::LowerLoop => plan_lower_loop(alloc, world, op),
+        Rule::LowerChoice => plan_lower_choice(alloc, world, op),
+        _ => Ok(None),
+    }
 }

@@ -1,5 +1,5 @@
 pub mod Folded
-pub mod Numbered
+pub mod Headed
 pub mod Recasts
 pub mod Never
 pub mod Unfolded

@@ -8,9 +8,9 @@ use Rattle.ir_tree.specs.Uses.{same_value}
 use Rattle.ir_tree.specs.Meaning.{Operation}
 use Rattle.dialects_int.specs.Folds.{Known}
 use Rattle.patterns_reads.proofs.Cleaned.{known_not}
-use Rattle.patterns_reads.specs.Casting.{resizing, rule_19, rule_20}
+use Rattle.patterns_reads.specs.Casting.{resizing, extend_extension, cut_cast}
 use Rattle.patterns_reads.specs.Contents.{Edit}
-use Rattle.patterns_reads.specs.Folding.{rule_3, rule_4, rule_5, rule_6, rule_7, rule_8, rule_9, rule_10, rule_11, rule_12, rule_13, rule_14, rule_15, rule_16, rule_17, rule_18}
+use Rattle.patterns_reads.specs.Folding.{swap_constant, drop_zero, drop_one, drop_all_ones, cancel_itself, keep_itself, zero_remainder, regroup_constants, add_negative, compare_itself, mirror_comparison, compare_zero, choose_same, choose_known, choose_truth, choose_opposite}
 use Rattle.patterns_reads.specs.Keeps.{given}
 use Rattle.patterns_reads.specs.Looks.{Header, One, Two, Three, giver, is_clean, is_constant, known, one, passes, predicate, source, source_among, two, three, when}
 use Rattle.patterns_reads.specs.Words.{among, extensions, named}
@@ -78,50 +78,50 @@ twins_chosen a r (Some p) e = nothing (a p) ∙ ap (λ b. when (a p) (when b (r 
 
 -- each rule
 module _ (t : Operation) (n : ℕ) (front : Place) (o : Operation) where
-  pub never_4 : second_is_constant t (head o) ≡ false → None ≡ rule_4 t n front o
-  never_4 e = second_passes t _ _ _ (two (head o)) e
+  pub never_drop_zero : second_is_constant t (head o) ≡ false → None ≡ drop_zero t n front o
+  never_drop_zero e = second_passes t _ _ _ (two (head o)) e
 
-  pub never_5 : second_is_constant t (head o) ≡ false → None ≡ rule_5 t n front o
-  never_5 e = second_passes t _ _ _ (two (head o)) e
+  pub never_drop_one : second_is_constant t (head o) ≡ false → None ≡ drop_one t n front o
+  never_drop_one e = second_passes t _ _ _ (two (head o)) e
 
-  pub never_6 : second_is_constant t (head o) ≡ false → None ≡ rule_6 t n front o
-  never_6 e = second_passes t _ _ _ (two (head o)) e
+  pub never_drop_all_ones : second_is_constant t (head o) ≡ false → None ≡ drop_all_ones t n front o
+  never_drop_all_ones e = second_passes t _ _ _ (two (head o)) e
 
-  pub never_9 : second_is_constant t (head o) ≡ false → None ≡ rule_9 t n front o
-  never_9 e = second_passes t _ _ _ (two (head o)) e
+  pub never_zero_remainder : second_is_constant t (head o) ≡ false → None ≡ zero_remainder t n front o
+  never_zero_remainder e = second_passes t _ _ _ (two (head o)) e
 
-  pub never_10 : second_is_constant t (head o) ≡ false → None ≡ rule_10 t n front o
-  never_10 e = second_given t _ _ (two (head o)) e
+  pub never_regroup_constants : second_is_constant t (head o) ≡ false → None ≡ regroup_constants t n front o
+  never_regroup_constants e = second_given t _ _ (two (head o)) e
 
-  pub never_11 : second_is_constant t (head o) ≡ false → None ≡ rule_11 t n front o
-  never_11 e = second_given t _ _ (two (head o)) e
+  pub never_add_negative : second_is_constant t (head o) ≡ false → None ≡ add_negative t n front o
+  never_add_negative e = second_given t _ _ (two (head o)) e
 
-  pub never_14 : second_is_constant t (head o) ≡ false → None ≡ rule_14 t n front o
-  never_14 e = second_compared t _ (predicate (head o)) _ _ _ (two (head o)) e
+  pub never_compare_zero : second_is_constant t (head o) ≡ false → None ≡ compare_zero t n front o
+  never_compare_zero e = second_compared t _ (predicate (head o)) _ _ _ (two (head o)) e
 
-  pub never_3 : first_is_constant t (head o) ≡ false → None ≡ rule_3 t n front o
-  never_3 e = first_swapped t _ _ _ (two (head o)) e
+  pub never_swap_constant : first_is_constant t (head o) ≡ false → None ≡ swap_constant t n front o
+  never_swap_constant e = first_swapped t _ _ _ (two (head o)) e
 
-  pub never_13 : first_is_constant t (head o) ≡ false → None ≡ rule_13 t n front o
-  never_13 e = first_compared t _ (predicate (head o)) _ _ (two (head o)) e
+  pub never_mirror_comparison : first_is_constant t (head o) ≡ false → None ≡ mirror_comparison t n front o
+  never_mirror_comparison e = first_compared t _ (predicate (head o)) _ _ (two (head o)) e
 
-  pub never_16 : chooses_by_constant t (head o) ≡ false → None ≡ rule_16 t n front o
-  never_16 e = first_chosen t _ _ (three (head o)) e
+  pub never_choose_known : chooses_by_constant t (head o) ≡ false → None ≡ choose_known t n front o
+  never_choose_known e = first_chosen t _ _ (three (head o)) e
 
-  pub never_17 : chooses_constant t (head o) ≡ false → None ≡ rule_17 t n front o
-  never_17 e = second_chosen t _ _ _ _ _ (three (head o)) e
+  pub never_choose_truth : chooses_constant t (head o) ≡ false → None ≡ choose_truth t n front o
+  never_choose_truth e = second_chosen t _ _ _ _ _ (three (head o)) e
 
-  pub never_7 : has_twins (head o) ≡ false → None ≡ rule_7 t n front o
-  never_7 e = twins_pass _ _ (two (head o)) e
+  pub never_cancel_itself : has_twins (head o) ≡ false → None ≡ cancel_itself t n front o
+  never_cancel_itself e = twins_pass _ _ (two (head o)) e
 
-  pub never_8 : has_twins (head o) ≡ false → None ≡ rule_8 t n front o
-  never_8 e = twins_pass _ _ (two (head o)) e
+  pub never_keep_itself : has_twins (head o) ≡ false → None ≡ keep_itself t n front o
+  never_keep_itself e = twins_pass _ _ (two (head o)) e
 
-  pub never_12 : has_twins (head o) ≡ false → None ≡ rule_12 t n front o
-  never_12 e = twins_compared _ (predicate (head o)) _ (two (head o)) e
+  pub never_compare_itself : has_twins (head o) ≡ false → None ≡ compare_itself t n front o
+  never_compare_itself e = twins_compared _ (predicate (head o)) _ (two (head o)) e
 
-  pub never_15 : chooses_twins (head o) ≡ false → None ≡ rule_15 t n front o
-  never_15 e = twins_chosen _ _ (three (head o)) e
+  pub never_choose_same : chooses_twins (head o) ≡ false → None ≡ choose_same t n front o
+  never_choose_same e = twins_chosen _ _ (three (head o)) e
 
 -- by what gives an operand
 never_among : (t : Operation) (names : List (List ℕ)) (v : Value) → is_called (among names) (giver t v) ≡ false → None ≡ source_among t names v
@@ -147,11 +147,11 @@ choice_by t name a f None e = refl
 choice_by t name a f (Some p) e = nothing (a p) ∙ ap (λ s. when (a p) (given s (f p))) (never_named t name p.first e)
 
 module _ (t : Operation) (n : ℕ) (front : Place) (o : Operation) where
-  pub never_18 : chooses_by_opposite t (head o) ≡ false → None ≡ rule_18 t n front o
-  never_18 e = choice_by t (codes "arith.xori") _ _ (three (head o)) e
+  pub never_choose_opposite : chooses_by_opposite t (head o) ≡ false → None ≡ choose_opposite t n front o
+  never_choose_opposite e = choice_by t (codes "arith.xori") _ _ (three (head o)) e
 
-  pub never_19 : extends_extension t (head o) ≡ false → None ≡ rule_19 t n front o
-  never_19 e = cast_of t extensions _ _ (one (head o)) e
+  pub never_extend_extension : extends_extension t (head o) ≡ false → None ≡ extend_extension t n front o
+  never_extend_extension e = cast_of t extensions _ _ (one (head o)) e
 
-  pub never_20 : cuts_cast t (head o) ≡ false → None ≡ rule_20 t n front o
-  never_20 e = cast_of t resizing _ _ (one (head o)) e
+  pub never_cut_cast : cuts_cast t (head o) ≡ false → None ≡ cut_cast t n front o
+  never_cut_cast e = cast_of t resizing _ _ (one (head o)) e

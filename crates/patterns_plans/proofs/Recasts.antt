@@ -4,7 +4,7 @@ use Rattle.std.specs.Prelude.{codes}
 use Rattle.ir_tree.specs.declared.place.Place.{Place}
 use Rattle.ir_tree.specs.Tree.{head}
 use Rattle.ir_tree.specs.Meaning.{Operation}
-use Rattle.patterns_reads.specs.Casting.{rule_21, unrealized, through_index, back_from}
+use Rattle.patterns_reads.specs.Casting.{cast_back, unrealized, through_index, back_from}
 use Rattle.patterns_reads.specs.Contents.{Edit}
 use Rattle.patterns_reads.specs.Keeps.{given}
 use Rattle.patterns_reads.specs.Makes.{give}
@@ -24,12 +24,12 @@ module _ (t : Operation) (n : ℕ) (front : Place) (o : Operation) (p : One) whe
       none_back s h (back_from t n front o p) e i k
       ∙ sym (ap (λ c. if c then Some (give (head o).id p.first) else given (source t p.name p.first) (λ y. given (one y) (back_from t n front o p))) (sym d ∙ g))
 
-  pub by_unrealized : (b : Bool) → Some p ≡ one (head o) → b ≡ named (codes "builtin.unrealized_conversion_cast") p.name → b ≡ true → unrealized t n front o p ≡ rule_21 t n front o
+  pub by_unrealized : (b : Bool) → Some p ≡ one (head o) → b ≡ named (codes "builtin.unrealized_conversion_cast") p.name → b ≡ true → unrealized t n front o p ≡ cast_back t n front o
   by_unrealized b e d g =
       sym (ap (λ c. if c then unrealized t n front o p else when (among index_casts p.name) (through_index t n front o p)) (sym d ∙ g))
       ∙ ap (λ q. given q (λ p. if named (codes "builtin.unrealized_conversion_cast") p.name then unrealized t n front o p else when (among index_casts p.name) (through_index t n front o p))) e
 
-  pub by_index : (b k : Bool) → Some p ≡ one (head o) → b ≡ named (codes "builtin.unrealized_conversion_cast") p.name → b ≡ false → k ≡ among index_casts p.name → k ≡ true → through_index t n front o p ≡ rule_21 t n front o
+  pub by_index : (b k : Bool) → Some p ≡ one (head o) → b ≡ named (codes "builtin.unrealized_conversion_cast") p.name → b ≡ false → k ≡ among index_casts p.name → k ≡ true → through_index t n front o p ≡ cast_back t n front o
   by_index b k e d g i j =
       sym (ap (λ c. when c (through_index t n front o p)) (sym i ∙ j))
       ∙ sym (ap (λ c. if c then unrealized t n front o p else when (among index_casts p.name) (through_index t n front o p)) (sym d ∙ g))

@@ -1,4 +1,4 @@
--- An operation that reads no constant isn't one that rule 2 folds.
+-- An operation that reads no constant isn't folded.
 use Rattle.std.proofs.Common.{◌≡◌, refl, ap, sym, ◌∙◌, ℕ, Bool, true, false, ◌&&◌, ◌||◌, not, List, [], ◌∷◌, map, Option, Some, None, if◌then◌else◌}
 use Rattle.std.specs.Prelude.{codes}
 use Rattle.std.specs.List.{list_all, list_any}
@@ -17,7 +17,7 @@ use Rattle.dialects_int.specs.declared.operations.Rule.{Rule}
 use Rattle.dialects_int.specs.declared.operations.Rule.TheVariants.{Constant, Pair, Compare, Select, Resize, IndexCast}
 use Rattle.dialects_int.specs.Folds.{Known, asked, both, compared, fold_by, fold_of, is_property, kind_of, property_of, rule_of, rules, same_kind, with}
 use Rattle.patterns_reads.proofs.Cleaned.{known_not}
-use Rattle.patterns_reads.specs.Folding.{folded_to, may_read, rule_2}
+use Rattle.patterns_reads.specs.Folding.{folded_to, may_read, fold_to_constant}
 use Rattle.patterns_reads.specs.Looks.{is_constant, known, when}
 use Rattle.patterns_reads.specs.Words.{named}
 use Rattle.patterns_plans.specs.May.{reads_constant}
@@ -112,8 +112,8 @@ none_known t (v ∷ vs) e = go (is_constant t v) refl e (none_known t vs)
     go true i f later = absurd cc
     go false i f later = λ j. sym (known_not t v false (sym i) refl) j ∷ later f j
 
-pub never_2 : (t : Operation) (n : ℕ) (front : Place) (o : Operation) → reads_constant t (head o) ≡ false → None ≡ rule_2 t n front o
-never_2 t n front o e = go (named (codes "arith.constant") (head o).name) refl
+pub never_fold_to_constant : (t : Operation) (n : ℕ) (front : Place) (o : Operation) → reads_constant t (head o) ≡ false → None ≡ fold_to_constant t n front o
+never_fold_to_constant t n front o e = go (named (codes "arith.constant") (head o).name) refl
   where
     never : (tys : List TypeTerm) (a : Bool) → None ≡ when a (folded_to t n front o tys None)
     never [] true = refl

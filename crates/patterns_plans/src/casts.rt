@@ -2,7 +2,7 @@
 ghost use Rattle.std.specs.Prelude.{◌≡◌, IfOk, ℕ};
 ghost use Rattle.ir_types.specs.Things.{IsName, IsType};
 ghost use Rattle.ir_event.specs.Modules.{NodeIsOf};
-ghost use Rattle.patterns_reads.specs.Casting.{rule_19, rule_20, rule_21, through_index, unrealized};
+ghost use Rattle.patterns_reads.specs.Casting.{extend_extension, cut_cast, cast_back, through_index, unrealized};
 ghost use Rattle.patterns_plans.specs.Planned.{FitsIn, IsPlanned};
 ghost use Rattle.patterns_plans.specs.Casts.{IsPlannedOne};
 
@@ -11,21 +11,21 @@ use ir_event::world::World;
 use ir_store::node::Node;
 use ir_types::ids::OpId;
 use ir_types::word::Word;
-use patterns_plans_base::sources::{source_like, source_of_extension, source_of_resizing};
-use patterns_plans_base::types::{is_of_type, type_width};
-use patterns_plans_base::words::{is_extension, is_index_cast, is_same_name};
 use patterns_reads::plan::Plan;
 use patterns_reads::shapes::{Single, one_of};
+use patterns_reads::sources::{source_like, source_of_extension, source_of_resizing};
+use patterns_reads::types::{is_of_type, type_width};
+use patterns_reads::words::{is_extension, is_index_cast, is_same_name};
 use std::alloc::{AllocError, Global};
 
 /// An extension of one by the same, or by zeros: one like that.
-pub(crate) fn plan_19(
+pub(crate) fn plan_extend_extension(
     alloc: Global,
     world: &World,
     node: &Node<'_>,
 ) -> Result<Option<Plan>, AllocError>
     requires of { NodeIsOf world.now.ctx node.now }
-    ensures edits { (x : ℕ) → IfOk result (IsPlanned rule_19 world.now x node.now) }
+    ensures edits { (x : ℕ) → IfOk result (IsPlanned extend_extension world.now x node.now) }
     ensures fit { IfOk result (FitsIn world.now.ctx) }
 {
     let Some(p) = one_of(node) else {
@@ -51,14 +51,14 @@ pub(crate) fn plan_19(
 }
 
 /// A cut of a cut: one. A cut of an extension back to the type that it came from: what was extended.
-pub(crate) fn plan_20(
+pub(crate) fn plan_cut_cast(
     alloc: Global,
     world: &World,
     op: OpId,
     node: &Node<'_>,
 ) -> Result<Option<Plan>, AllocError>
     requires of { NodeIsOf world.now.ctx node.now }
-    ensures edits { IfOk result (IsPlanned rule_20 world.now op node.now) }
+    ensures edits { IfOk result (IsPlanned cut_cast world.now op node.now) }
     ensures fit { IfOk result (FitsIn world.now.ctx) }
 {
     let Some(p) = one_of(node) else {
@@ -145,14 +145,14 @@ fn through_index(
 }
 
 /// A cast back: what was cast.
-pub(crate) fn plan_21(
+pub(crate) fn plan_cast_back(
     alloc: Global,
     world: &World,
     op: OpId,
     node: &Node<'_>,
 ) -> Result<Option<Plan>, AllocError>
     requires of { NodeIsOf world.now.ctx node.now }
-    ensures edits { IfOk result (IsPlanned rule_21 world.now op node.now) }
+    ensures edits { IfOk result (IsPlanned cast_back world.now op node.now) }
     ensures fit { IfOk result (FitsIn world.now.ctx) }
 {
     let Some(p) = one_of(node) else {

@@ -1,29 +1,29 @@
 //! Rules that make a constant and an operation with it.
 ghost use Rattle.std.specs.Prelude.{◌≡◌, IfOk, ℕ};
 ghost use Rattle.ir_event.specs.Modules.{NodeIsOf};
-ghost use Rattle.patterns_reads.specs.Folding.{rule_10, rule_11};
+ghost use Rattle.patterns_reads.specs.Folding.{regroup_constants, add_negative};
 ghost use Rattle.patterns_plans.specs.Planned.{FitsIn, IsPlanned};
 
 use dialects_int::fold::fold;
 use ir_event::world::World;
 use ir_store::node::Node;
 use ir_types::word::Word;
-use patterns_plans_base::sources::source_like;
-use patterns_plans_base::types::{negated, type_width};
-use patterns_plans_base::words::{is_regrouping, word_name};
 use patterns_reads::known::known;
 use patterns_reads::plan::Plan;
 use patterns_reads::shapes::two_of;
+use patterns_reads::sources::source_like;
+use patterns_reads::types::{negated, type_width};
+use patterns_reads::words::{is_regrouping, word_name};
 use std::alloc::{AllocError, Global};
 
 /// A value with a constant, and the result with another: the value with the two.
-pub(crate) fn plan_10(
+pub(crate) fn plan_regroup_constants(
     alloc: Global,
     world: &World,
     node: &Node<'_>,
 ) -> Result<Option<Plan>, AllocError>
     requires of { NodeIsOf world.now.ctx node.now }
-    ensures edits { (x : ℕ) → IfOk result (IsPlanned rule_10 world.now x node.now) }
+    ensures edits { (x : ℕ) → IfOk result (IsPlanned regroup_constants world.now x node.now) }
     ensures fit { IfOk result (FitsIn world.now.ctx) }
 {
     let Some(p) = two_of(node) else {
@@ -62,13 +62,13 @@ pub(crate) fn plan_10(
 }
 
 /// A value less a constant: the value with the opposite constant.
-pub(crate) fn plan_11(
+pub(crate) fn plan_add_negative(
     alloc: Global,
     world: &World,
     node: &Node<'_>,
 ) -> Result<Option<Plan>, AllocError>
     requires of { NodeIsOf world.now.ctx node.now }
-    ensures edits { (x : ℕ) → IfOk result (IsPlanned rule_11 world.now x node.now) }
+    ensures edits { (x : ℕ) → IfOk result (IsPlanned add_negative world.now x node.now) }
     ensures fit { IfOk result (FitsIn world.now.ctx) }
 {
     let Some(p) = two_of(node) else {

@@ -2,7 +2,7 @@
 ghost use Rattle.std.specs.Prelude.{◌≡◌, IfOk, ℕ, map, option_map};
 ghost use Rattle.ir_event.specs.Modules.{NodeIsOf, module_in};
 ghost use Rattle.dialects_int.specs.Folds.{known_of};
-ghost use Rattle.patterns_reads.specs.Folding.{rule_2, rule_7, rule_9, rule_12, rule_14};
+ghost use Rattle.patterns_reads.specs.Folding.{fold_to_constant, cancel_itself, zero_remainder, compare_itself, compare_zero};
 ghost use Rattle.patterns_plans.specs.Numbers.{known_each, readable};
 ghost use Rattle.patterns_plans.specs.Planned.{FitsIn, IsPlanned};
 
@@ -13,12 +13,12 @@ use ir_tree::uses::is_same;
 use ir_tree::value::Value;
 use ir_types::bits::Bits;
 use ir_types::word::Word;
-use patterns_plans_base::predicates::{holds_of_itself, predicate};
-use patterns_plans_base::words::{is_cancelling, is_remainder};
 use patterns_reads::known::{is_number, known};
 use patterns_reads::look::is_constant;
 use patterns_reads::plan::Plan;
+use patterns_reads::predicates::{holds_of_itself, predicate};
 use patterns_reads::shapes::two_of;
+use patterns_reads::words::{is_cancelling, is_remainder};
 use std::alloc::{AllocError, Global};
 
 /// What is known of a value, if it is no constant, or a clean one.
@@ -55,13 +55,13 @@ fn known_each(
 }
 
 /// No constant, and folds over its constant operands: the constant.
-pub(crate) fn plan_2(
+pub(crate) fn plan_fold_to_constant(
     alloc: Global,
     world: &World,
     node: &Node<'_>,
 ) -> Result<Option<Plan>, AllocError>
     requires of { NodeIsOf world.now.ctx node.now }
-    ensures edits { (x : ℕ) → IfOk result (IsPlanned rule_2 world.now x node.now) }
+    ensures edits { (x : ℕ) → IfOk result (IsPlanned fold_to_constant world.now x node.now) }
     ensures fit { IfOk result (FitsIn world.now.ctx) }
 {
     if world.ctx.is_word(node.name(), Word::ArithConstant) {
@@ -89,9 +89,9 @@ pub(crate) fn plan_2(
 }
 
 /// A value and itself: 0.
-pub(crate) fn plan_7(world: &World, node: &Node<'_>) -> Option<Plan>
+pub(crate) fn plan_cancel_itself(world: &World, node: &Node<'_>) -> Option<Plan>
     requires of { NodeIsOf world.now.ctx node.now }
-    ensures edits { (x : ℕ) → IsPlanned rule_7 world.now x node.now result }
+    ensures edits { (x : ℕ) → IsPlanned cancel_itself world.now x node.now result }
     ensures fit { FitsIn world.now.ctx result }
 {
     let Some(p) = two_of(node) else {
@@ -107,13 +107,13 @@ pub(crate) fn plan_7(world: &World, node: &Node<'_>) -> Option<Plan>
 }
 
 /// A remainder by 1: 0.
-pub(crate) fn plan_9(
+pub(crate) fn plan_zero_remainder(
     alloc: Global,
     world: &World,
     node: &Node<'_>,
 ) -> Result<Option<Plan>, AllocError>
     requires of { NodeIsOf world.now.ctx node.now }
-    ensures edits { (x : ℕ) → IfOk result (IsPlanned rule_9 world.now x node.now) }
+    ensures edits { (x : ℕ) → IfOk result (IsPlanned zero_remainder world.now x node.now) }
     ensures fit { IfOk result (FitsIn world.now.ctx) }
 {
     let Some(p) = two_of(node) else {
@@ -129,9 +129,9 @@ pub(crate) fn plan_9(
 }
 
 /// A comparison of a value and itself: true or false.
-pub(crate) fn plan_12(world: &World, node: &Node<'_>) -> Option<Plan>
+pub(crate) fn plan_compare_itself(world: &World, node: &Node<'_>) -> Option<Plan>
     requires of { NodeIsOf world.now.ctx node.now }
-    ensures edits { (x : ℕ) → IsPlanned rule_12 world.now x node.now result }
+    ensures edits { (x : ℕ) → IsPlanned compare_itself world.now x node.now result }
     ensures fit { FitsIn world.now.ctx result }
 {
     let Some(p) = two_of(node) else {
@@ -153,13 +153,13 @@ pub(crate) fn plan_12(world: &World, node: &Node<'_>) -> Option<Plan>
 }
 
 /// A comparison with 0, which nothing is below: true or false.
-pub(crate) fn plan_14(
+pub(crate) fn plan_compare_zero(
     alloc: Global,
     world: &World,
     node: &Node<'_>,
 ) -> Result<Option<Plan>, AllocError>
     requires of { NodeIsOf world.now.ctx node.now }
-    ensures edits { (x : ℕ) → IfOk result (IsPlanned rule_14 world.now x node.now) }
+    ensures edits { (x : ℕ) → IfOk result (IsPlanned compare_zero world.now x node.now) }
     ensures fit { IfOk result (FitsIn world.now.ctx) }
 {
     let Some(p) = two_of(node) else {

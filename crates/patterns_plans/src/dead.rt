@@ -4,6 +4,7 @@ ghost use Rattle.ir_types.specs.Things.{Things};
 ghost use Rattle.ir_tree.specs.declared.place.Place.{Place as At};
 ghost use Rattle.patterns_edits.specs.Edits.{Erase};
 ghost use Rattle.patterns_reads.specs.Plans.{PlanIsOf, plan_meaning};
+ghost use Rattle.patterns_reads.specs.Rule.TheVariants.{EraseDead};
 ghost use Rattle.patterns_plans.specs.Planned.{FitsIn, IsPlanAt};
 
 use effects::dead_op::dead_op;
@@ -24,8 +25,12 @@ fn erase(alloc: Global, op: OpId) -> Result<Plan, AllocError>
 }
 
 /// A dead operation: erased.
-pub(crate) fn plan_1(alloc: Global, world: &World, op: OpId) -> Result<Option<Plan>, AllocError>
-    ensures edits { IfOk result (IsPlanAt 1 world.now op) }
+pub(crate) fn plan_erase_dead(
+    alloc: Global,
+    world: &World,
+    op: OpId,
+) -> Result<Option<Plan>, AllocError>
+    ensures edits { IfOk result (IsPlanAt EraseDead world.now op) }
     ensures fit { IfOk result (FitsIn world.now.ctx) }
 {
     if !dead_op(world, op) {

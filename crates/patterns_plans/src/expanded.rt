@@ -1,21 +1,21 @@
 //! Rules that make several operations of one, for conversion.
 ghost use Rattle.std.specs.Prelude.{◌≡◌, ℕ};
 ghost use Rattle.ir_event.specs.Modules.{NodeIsOf};
-ghost use Rattle.patterns_reads.specs.Folding.{rule_25, rule_26, rule_27};
+ghost use Rattle.patterns_reads.specs.Folding.{expand_min_max, expand_difference, expand_remainder};
 ghost use Rattle.patterns_plans.specs.Planned.{FitsIn, IsPlanned};
 
 use ir_event::world::World;
 use ir_store::node::Node;
 use ir_types::word::Word;
-use patterns_plans_base::types::all_ones;
-use patterns_plans_base::words::{asking, division};
 use patterns_reads::plan::Plan;
 use patterns_reads::shapes::two_of;
+use patterns_reads::types::all_ones;
+use patterns_reads::words::{asking, division};
 
 /// The greater or the lesser: a comparison and a choice.
-pub(crate) fn plan_25(world: &World, node: &Node<'_>) -> Option<Plan>
+pub(crate) fn plan_expand_min_max(world: &World, node: &Node<'_>) -> Option<Plan>
     requires of { NodeIsOf world.now.ctx node.now }
-    ensures edits { (x : ℕ) → IsPlanned rule_25 world.now x node.now result }
+    ensures edits { (x : ℕ) → IsPlanned expand_min_max world.now x node.now result }
     ensures fit { FitsIn world.now.ctx result }
 {
     let Some(p) = two_of(node) else {
@@ -33,9 +33,9 @@ pub(crate) fn plan_25(world: &World, node: &Node<'_>) -> Option<Plan>
 }
 
 /// A difference: a sum with the complement, and 1.
-pub(crate) fn plan_26(world: &World, node: &Node<'_>) -> Option<Plan>
+pub(crate) fn plan_expand_difference(world: &World, node: &Node<'_>) -> Option<Plan>
     requires of { NodeIsOf world.now.ctx node.now }
-    ensures edits { (x : ℕ) → IsPlanned rule_26 world.now x node.now result }
+    ensures edits { (x : ℕ) → IsPlanned expand_difference world.now x node.now result }
     ensures fit { FitsIn world.now.ctx result }
 {
     let Some(p) = two_of(node) else {
@@ -53,9 +53,9 @@ pub(crate) fn plan_26(world: &World, node: &Node<'_>) -> Option<Plan>
 }
 
 /// A remainder: what is left behind a division.
-pub(crate) fn plan_27(world: &World, node: &Node<'_>) -> Option<Plan>
+pub(crate) fn plan_expand_remainder(world: &World, node: &Node<'_>) -> Option<Plan>
     requires of { NodeIsOf world.now.ctx node.now }
-    ensures edits { (x : ℕ) → IsPlanned rule_27 world.now x node.now result }
+    ensures edits { (x : ℕ) → IsPlanned expand_remainder world.now x node.now result }
     ensures fit { FitsIn world.now.ctx result }
 {
     let Some(p) = two_of(node) else {

@@ -4,7 +4,7 @@ ghost use Rattle.ir_types.specs.Things.{Things};
 ghost use Rattle.ir_tree.specs.declared.place.Place.{Place as At};
 ghost use Rattle.ir_event.specs.Modules.{NodeIsOf};
 ghost use Rattle.patterns_reads.specs.Makes.{give};
-ghost use Rattle.patterns_reads.specs.Folding.{rule_4, rule_5, rule_6, rule_8, rule_15, rule_16, rule_17};
+ghost use Rattle.patterns_reads.specs.Folding.{drop_zero, drop_one, drop_all_ones, keep_itself, choose_same, choose_known, choose_truth};
 ghost use Rattle.patterns_reads.specs.Plans.{PlanIsOf, plan_meaning};
 ghost use Rattle.patterns_plans.specs.Planned.{FitsIn, IsPlanned};
 
@@ -15,11 +15,11 @@ use ir_tree::value::Value;
 use ir_types::ids::OpId;
 use ir_types::word::Word;
 use patterns_edits::edit::Edit;
-use patterns_plans_base::types::{all_ones, is_boolean};
-use patterns_plans_base::words::{ignores_one, ignores_zero, is_keeping};
 use patterns_reads::known::{is_number, known};
 use patterns_reads::plan::Plan;
 use patterns_reads::shapes::{three_of, two_of};
+use patterns_reads::types::{all_ones, is_boolean};
+use patterns_reads::words::{ignores_one, ignores_zero, is_keeping};
 use std::alloc::{AllocError, Global};
 
 /// A value is given for an operation's result, and the operation is erased.
@@ -37,13 +37,13 @@ pub(crate) fn give(alloc: Global, op: OpId, value: Value) -> Result<Plan, AllocE
 }
 
 /// 0 second: the first.
-pub(crate) fn plan_4(
+pub(crate) fn plan_drop_zero(
     alloc: Global,
     world: &World,
     op: OpId,
     node: &Node<'_>,
 ) -> Result<Option<Plan>, AllocError>
-    ensures edits { IfOk result (IsPlanned rule_4 world.now op node.now) }
+    ensures edits { IfOk result (IsPlanned drop_zero world.now op node.now) }
     ensures fit { IfOk result (FitsIn world.now.ctx) }
 {
     let Some(p) = two_of(node) else {
@@ -60,13 +60,13 @@ pub(crate) fn plan_4(
 }
 
 /// 1 second: the first.
-pub(crate) fn plan_5(
+pub(crate) fn plan_drop_one(
     alloc: Global,
     world: &World,
     op: OpId,
     node: &Node<'_>,
 ) -> Result<Option<Plan>, AllocError>
-    ensures edits { IfOk result (IsPlanned rule_5 world.now op node.now) }
+    ensures edits { IfOk result (IsPlanned drop_one world.now op node.now) }
     ensures fit { IfOk result (FitsIn world.now.ctx) }
 {
     let Some(p) = two_of(node) else {
@@ -83,14 +83,14 @@ pub(crate) fn plan_5(
 }
 
 /// All ones second: the first.
-pub(crate) fn plan_6(
+pub(crate) fn plan_drop_all_ones(
     alloc: Global,
     world: &World,
     op: OpId,
     node: &Node<'_>,
 ) -> Result<Option<Plan>, AllocError>
     requires of { NodeIsOf world.now.ctx node.now }
-    ensures edits { IfOk result (IsPlanned rule_6 world.now op node.now) }
+    ensures edits { IfOk result (IsPlanned drop_all_ones world.now op node.now) }
     ensures fit { IfOk result (FitsIn world.now.ctx) }
 {
     let Some(p) = two_of(node) else {
@@ -110,13 +110,13 @@ pub(crate) fn plan_6(
 }
 
 /// A value and itself: the value.
-pub(crate) fn plan_8(
+pub(crate) fn plan_keep_itself(
     alloc: Global,
     world: &World,
     op: OpId,
     node: &Node<'_>,
 ) -> Result<Option<Plan>, AllocError>
-    ensures edits { IfOk result (IsPlanned rule_8 world.now op node.now) }
+    ensures edits { IfOk result (IsPlanned keep_itself world.now op node.now) }
     ensures fit { IfOk result (FitsIn world.now.ctx) }
 {
     let Some(p) = two_of(node) else {
@@ -133,13 +133,13 @@ pub(crate) fn plan_8(
 }
 
 /// A choice between a value and itself: the value.
-pub(crate) fn plan_15(
+pub(crate) fn plan_choose_same(
     alloc: Global,
     world: &World,
     op: OpId,
     node: &Node<'_>,
 ) -> Result<Option<Plan>, AllocError>
-    ensures edits { IfOk result (IsPlanned rule_15 world.now op node.now) }
+    ensures edits { IfOk result (IsPlanned choose_same world.now op node.now) }
     ensures fit { IfOk result (FitsIn world.now.ctx) }
 {
     let Some(p) = three_of(node) else {
@@ -156,13 +156,13 @@ pub(crate) fn plan_15(
 }
 
 /// A choice by a constant: the chosen one.
-pub(crate) fn plan_16(
+pub(crate) fn plan_choose_known(
     alloc: Global,
     world: &World,
     op: OpId,
     node: &Node<'_>,
 ) -> Result<Option<Plan>, AllocError>
-    ensures edits { IfOk result (IsPlanned rule_16 world.now op node.now) }
+    ensures edits { IfOk result (IsPlanned choose_known world.now op node.now) }
     ensures fit { IfOk result (FitsIn world.now.ctx) }
 {
     let Some(p) = three_of(node) else {
@@ -180,14 +180,14 @@ pub(crate) fn plan_16(
 }
 
 /// A choice between true and false: the condition.
-pub(crate) fn plan_17(
+pub(crate) fn plan_choose_truth(
     alloc: Global,
     world: &World,
     op: OpId,
     node: &Node<'_>,
 ) -> Result<Option<Plan>, AllocError>
     requires of { NodeIsOf world.now.ctx node.now }
-    ensures edits { IfOk result (IsPlanned rule_17 world.now op node.now) }
+    ensures edits { IfOk result (IsPlanned choose_truth world.now op node.now) }
     ensures fit { IfOk result (FitsIn world.now.ctx) }
 {
     let Some(p) = three_of(node) else {

@@ -1,7 +1,7 @@
 //! Rules that change operands in place.
 ghost use Rattle.std.specs.Prelude.{◌≡◌, IfOk, ℕ};
 ghost use Rattle.ir_event.specs.Modules.{NodeIsOf};
-ghost use Rattle.patterns_reads.specs.Folding.{rule_3, rule_13, rule_18};
+ghost use Rattle.patterns_reads.specs.Folding.{swap_constant, mirror_comparison, choose_opposite};
 ghost use Rattle.patterns_plans.specs.Planned.{FitsIn, IsPlanned};
 
 use ir_event::world::World;
@@ -9,22 +9,22 @@ use ir_store::node::Node;
 use ir_types::ids::OpId;
 use ir_types::word::Word;
 use patterns_edits::edit::Edit;
-use patterns_plans_base::predicates::{mirrored, predicate};
-use patterns_plans_base::words::is_swapping;
 use patterns_reads::known::{is_known, is_number, source};
 use patterns_reads::look::is_constant;
 use patterns_reads::plan::Plan;
+use patterns_reads::predicates::{mirrored, predicate};
 use patterns_reads::shapes::{three_of, two_of};
+use patterns_reads::words::is_swapping;
 use std::alloc::{AllocError, Global};
 
 /// A constant first and none second: swapped.
-pub(crate) fn plan_3(
+pub(crate) fn plan_swap_constant(
     alloc: Global,
     world: &World,
     op: OpId,
     node: &Node<'_>,
 ) -> Result<Option<Plan>, AllocError>
-    ensures edits { IfOk result (IsPlanned rule_3 world.now op node.now) }
+    ensures edits { IfOk result (IsPlanned swap_constant world.now op node.now) }
     ensures fit { IfOk result (FitsIn world.now.ctx) }
 {
     let Some(p) = two_of(node) else {
@@ -54,13 +54,13 @@ pub(crate) fn plan_3(
 }
 
 /// A comparison of a constant first and none second: swapped and mirrored.
-pub(crate) fn plan_13(
+pub(crate) fn plan_mirror_comparison(
     alloc: Global,
     world: &World,
     node: &Node<'_>,
 ) -> Result<Option<Plan>, AllocError>
     requires of { NodeIsOf world.now.ctx node.now }
-    ensures edits { (x : ℕ) → IfOk result (IsPlanned rule_13 world.now x node.now) }
+    ensures edits { (x : ℕ) → IfOk result (IsPlanned mirror_comparison world.now x node.now) }
     ensures fit { IfOk result (FitsIn world.now.ctx) }
 {
     let Some(p) = two_of(node) else {
@@ -86,13 +86,13 @@ pub(crate) fn plan_13(
 }
 
 /// A choice by the opposite of a condition: by the condition, with both swapped.
-pub(crate) fn plan_18(
+pub(crate) fn plan_choose_opposite(
     alloc: Global,
     world: &World,
     op: OpId,
     node: &Node<'_>,
 ) -> Result<Option<Plan>, AllocError>
-    ensures edits { IfOk result (IsPlanned rule_18 world.now op node.now) }
+    ensures edits { IfOk result (IsPlanned choose_opposite world.now op node.now) }
     ensures fit { IfOk result (FitsIn world.now.ctx) }
 {
     let Some(p) = three_of(node) else {

@@ -1,7 +1,6 @@
 //! What rules make of operations, before anything is interned for it: plans by what is shown of an operation.
 #![tactic(auto)]
 
-pub mod by_number;
 mod casts;
 mod combined;
 mod constant;
@@ -10,5 +9,6 @@ mod expanded;
 mod given;
 mod in_place;
 pub mod may;
+pub mod planned;
 
-pub use patterns_reads::{clean, look, plan};
+pub use patterns_reads::{clean, look, plan, rule};

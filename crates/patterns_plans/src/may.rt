@@ -15,9 +15,10 @@ use ir_tree::uses::is_same;
 use ir_tree::value::Value;
 use ir_types::ids::OpId;
 use ir_types::word::Word;
-use patterns_plans_base::words::{is_extension, is_resizing};
 use patterns_reads::look::{giver_node, is_constant};
+use patterns_reads::rule::Rule;
 use patterns_reads::shapes::{one_of, three_of, two_of};
+use patterns_reads::words::{is_extension, is_resizing};
 
 /// Whether the first of two operands is the result of a constant.
 fn first_is_constant(world: &World, node: &Node<'_>) -> bool
@@ -153,90 +154,42 @@ fn chooses_by_opposite(world: &World, node: &Node<'_>) -> bool
     }
 }
 
-/// Rules 2 to 10.
-fn may_to_10(world: &World, rule: u8, op: OpId, node: &Node<'_>) -> bool
-    requires { Some (head_in world.now.ctx node.now) ≡ head_at op (module_in world.now).tree }
-    ensures { result ≡ false → IsPlanAt rule world.now op None }
-{
-    if rule == 2 {
-        return reads_constant(world, node);
-    }
-    if rule == 3 {
-        return first_is_constant(world, node);
-    }
-    if rule == 4 {
-        return second_is_constant(world, node);
-    }
-    if rule == 5 {
-        return second_is_constant(world, node);
-    }
-    if rule == 6 {
-        return second_is_constant(world, node);
-    }
-    if rule == 7 {
-        return has_twins(world, node);
-    }
-    if rule == 8 {
-        return has_twins(world, node);
-    }
-    if rule == 9 {
-        return second_is_constant(world, node);
-    }
-    if rule == 10 {
-        return second_is_constant(world, node);
-    }
-    true
-}
-
-/// Rules 11 to 20.
-fn may_to_20(world: &World, rule: u8, op: OpId, node: &Node<'_>) -> bool
-    requires { Some (head_in world.now.ctx node.now) ≡ head_at op (module_in world.now).tree }
-    ensures { result ≡ false → IsPlanAt rule world.now op None }
-{
-    if rule == 11 {
-        return second_is_constant(world, node);
-    }
-    if rule == 12 {
-        return has_twins(world, node);
-    }
-    if rule == 13 {
-        return first_is_constant(world, node);
-    }
-    if rule == 14 {
-        return second_is_constant(world, node);
-    }
-    if rule == 15 {
-        return chooses_twins(world, node);
-    }
-    if rule == 16 {
-        return chooses_by_constant(world, node);
-    }
-    if rule == 17 {
-        return chooses_constant(world, node);
-    }
-    if rule == 18 {
-        return chooses_by_opposite(world, node);
-    }
-    if rule == 19 {
-        return extends_extension(world, node);
-    }
-    if rule == 20 {
-        return cuts_cast(world, node);
-    }
-    true
-}
-
 /// Whether a rule may apply at an operation, of which this is shown: it doesn't where this is false. No diagnostics are
 /// asked for, and no memory.
-pub fn may_apply(world: &World, rule: u8, op: OpId, node: &Node<'_>) -> bool
+pub fn may_apply(world: &World, rule: Rule, op: OpId, node: &Node<'_>) -> bool
     requires { Some (head_in world.now.ctx node.now) ≡ head_at op (module_in world.now).tree }
     ensures { result ≡ false → IsPlanAt rule world.now op None }
 {
-    if rule == 1 {
-        return dead_op(world, op);
+    match rule {
+        Rule::EraseDead => dead_op(world, op),
+        Rule::FoldToConstant => reads_constant(world, node),
+        Rule::SwapConstant => first_is_constant(world, node),
+        Rule::DropZero => second_is_constant(world, node),
+        Rule::DropOne => second_is_constant(world, node),
+        Rule::DropAllOnes => second_is_constant(world, node),
+        Rule::CancelItself => has_twins(world, node),
+        Rule::KeepItself => has_twins(world, node),
+        Rule::ZeroRemainder => second_is_constant(world, node),
+        Rule::RegroupConstants => second_is_constant(world, node),
+        Rule::AddNegative => second_is_constant(world, node),
+        Rule::CompareItself => has_twins(world, node),
+        Rule::MirrorComparison => first_is_constant(world, node),
+        Rule::CompareZero => second_is_constant(world, node),
+        Rule::ChooseSame => chooses_twins(world, node),
+        Rule::ChooseKnown => chooses_by_constant(world, node),
+        Rule::ChooseTruth => chooses_constant(world, node),
+        Rule::ChooseOpposite => chooses_by_opposite(world, node),
+        Rule::ExtendExtension => extends_extension(world, node),
+        Rule::CutCast => cuts_cast(world, node),
+        Rule::CastBack
+        | Rule::OpenBranch
+        | Rule::OpenLoop
+        | Rule::StopLoop
+        | Rule::ExpandMinMax
+        | Rule::ExpandDifference
+        | Rule::ExpandRemainder
+        | Rule::LowerIndex
+        | Rule::LowerLoop
+        | Rule::LowerChoice => true,
     }
-    if rule <= 10 {
-        return may_to_10(world, rule, op, node);
-    }
-    may_to_20(world, rule, op, node)
 }

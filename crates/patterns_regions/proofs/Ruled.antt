@@ -19,13 +19,13 @@ use Rattle.patterns_reads.specs.Words.{named}
 use Rattle.patterns_reads.specs.Looks.{Ended, body, is_number, known, when}
 use Rattle.patterns_reads.specs.Makes.{replacing, results_from}
 use Rattle.patterns_reads.specs.Reads.{head_in}
-use Rattle.patterns_reads.specs.rules.Opening.{Loop, by_bounds, by_condition, by_end, chosen, goes_once, loop_from, never, once, reading, rule_22, rule_23, rule_24}
+use Rattle.patterns_reads.specs.rules.Opening.{Loop, by_bounds, by_condition, by_end, chosen, goes_once, loop_from, never, once, reading, open_branch, open_loop, stop_loop}
 use Rattle.patterns_regions.specs.declared.bounds.Times.{Times}
 use Rattle.patterns_regions.specs.declared.bounds.Times.TheVariants.{Never, Once}
 use Rattle.patterns_regions.specs.Blocks.{Shows, is_block, body_at}
 use Rattle.patterns_regions.specs.Opened.{opening}
 use Rattle.patterns_regions.specs.Times.{is_once, times_of}
-use Rattle.patterns_regions.specs.Rules.{chosen_at, opened_at, rule_22_at, rule_23_at, rule_24_at}
+use Rattle.patterns_regions.specs.Rules.{chosen_at, opened_at, open_branch_at, open_loop_at, stop_loop_at}
 use Rattle.patterns_regions.proofs.Viewed.{viewed, found_id}
 use Rattle.std.specs.Prelude.{int_lt}
 
@@ -83,38 +83,38 @@ module _ (c : Things) (n : Node) (x : ℕ) (m : Operation) (front : Place) (at :
         go o i (Some empty) e = absurd cc
         go o i (Some (block args os)) e = ap (λ y. given (body m o r) (λ e. Some (opening y front e.before [] e.last.operands))) (sym i)
 
-  -- rule 22
-  pub not_22 : (b : Bool) → b ≡ named (codes "scf.if") (name_term c n.head.name) → b ≡ false → None ≡ rule_22_at x m front
-  not_22 b e f = viewed c n (find x m) (λ z. None ≡ given z (λ o. rule_22 m front o)) at (λ rs s k. when_no b _ _ e f)
+  -- a branch that stands open
+  pub not_open_branch : (b : Bool) → b ≡ named (codes "scf.if") (name_term c n.head.name) → b ≡ false → None ≡ open_branch_at x m front
+  not_open_branch b e f = viewed c n (find x m) (λ z. None ≡ given z (λ o. open_branch m front o)) at (λ rs s k. when_no b _ _ e f)
 
-  pub shape_22 : (length n.head.operands ≡ 1 → ⊥) → None ≡ rule_22_at x m front
-  shape_22 h = viewed c n (find x m) (λ z. None ≡ given z (λ o. rule_22 m front o)) at (λ rs s k. when_none _ _ (go (here rs) n.head.operands h))
+  pub shape_open_branch : (length n.head.operands ≡ 1 → ⊥) → None ≡ open_branch_at x m front
+  shape_open_branch h = viewed c n (find x m) (λ z. None ≡ given z (λ o. open_branch m front o)) at (λ rs s k. when_none _ _ (go (here rs) n.head.operands h))
     where
       go : (o : Operation) (l : List Value) → (length l ≡ 1 → ⊥) → None ≡ by_condition m front o l
       go o [] h = refl
       go o (v ∷ []) h = absurd (h refl)
       go o (v ∷ w ∷ l) h = refl
 
-  pub unknown_22 : (v : Value) → n.head.operands ≡ v ∷ [] → None ≡ known m v → None ≡ rule_22_at x m front
-  unknown_22 v e f =
-      viewed c n (find x m) (λ z. None ≡ given z (λ o. rule_22 m front o)) at
+  pub unknown_open_branch : (v : Value) → n.head.operands ≡ v ∷ [] → None ≡ known m v → None ≡ open_branch_at x m front
+  unknown_open_branch v e f =
+      viewed c n (find x m) (λ z. None ≡ given z (λ o. open_branch m front o)) at
       (λ rs s k. when_none _ _ (ap (λ z. given z (λ k. let r = if eqb k.1 0 then 1 else 0 in given (region_at r rs) (λ g. chosen m front (here rs) g r))) f ∙ ap (by_condition m front (here rs)) (sym e)))
 
-  pub known_22 : (b : Bool) → b ≡ named (codes "scf.if") (name_term c n.head.name) → b ≡ true → (v : Value) → n.head.operands ≡ v ∷ [] → (k : Known) → Some k ≡ known m v
-      → (p : Option (List Edit)) → p ≡ chosen_at x (if eqb k.1 0 then 1 else 0) m front → p ≡ rule_22_at x m front
-  known_22 b e f v g k h p w =
-      viewed c n (find x m) (λ z. p ≡ given z (λ o. rule_22 m front o)) at
+  pub known_open_branch : (b : Bool) → b ≡ named (codes "scf.if") (name_term c n.head.name) → b ≡ true → (v : Value) → n.head.operands ≡ v ∷ [] → (k : Known) → Some k ≡ known m v
+      → (p : Option (List Edit)) → p ≡ chosen_at x (if eqb k.1 0 then 1 else 0) m front → p ≡ open_branch_at x m front
+  known_open_branch b e f v g k h p w =
+      viewed c n (find x m) (λ z. p ≡ given z (λ o. open_branch m front o)) at
       (λ rs s i. w ∙ ap (λ z. given z (λ o. let r = if eqb k.1 0 then 1 else 0 in given (region_at r (regions o)) (λ g. chosen m front o g r))) i
       ∙ ap (λ z. given z (λ k. let r = if eqb k.1 0 then 1 else 0 in given (region_at r rs) (λ g. chosen m front (here rs) g r))) h
       ∙ ap (by_condition m front (here rs)) (sym g)
       ∙ when_yes b _ _ e f)
 
-  -- rule 23
-  pub not_23 : (b : Bool) → b ≡ named (codes "scf.for") (name_term c n.head.name) → b ≡ false → None ≡ rule_23_at x m front
-  not_23 b e f = viewed c n (find x m) (λ z. None ≡ given z (λ o. rule_23 m front o)) at (λ rs s k. when_no b _ _ e f)
+  -- a loop that stands open
+  pub not_open_loop : (b : Bool) → b ≡ named (codes "scf.for") (name_term c n.head.name) → b ≡ false → None ≡ open_loop_at x m front
+  not_open_loop b e f = viewed c n (find x m) (λ z. None ≡ given z (λ o. open_loop m front o)) at (λ rs s k. when_no b _ _ e f)
 
-  pub shape_23 : length n.head.operands < 3 → None ≡ rule_23_at x m front
-  shape_23 h = viewed c n (find x m) (λ z. None ≡ given z (λ o. rule_23 m front o)) at (λ rs s k. when_none _ _ (go (here rs) n.head.operands h))
+  pub shape_open_loop : length n.head.operands < 3 → None ≡ open_loop_at x m front
+  shape_open_loop h = viewed c n (find x m) (λ z. None ≡ given z (λ o. open_loop m front o)) at (λ rs s k. when_none _ _ (go (here rs) n.head.operands h))
     where
       go : (o : Operation) (l : List Value) → length l < 3 → None ≡ given (loop_from l) (by_bounds m front o)
       go o [] h = refl
@@ -158,56 +158,56 @@ module _ (c : Things) (n : Node) (x : ℕ) (m : Operation) (front : Place) (at :
     told : (o : Operation) → given (times_of m lower upper step) (by_times o (loop lower upper step inits)) ≡ given (loop_from n.head.operands) (by_bounds m front o)
     told o = sym (ap (λ l. given (loop_from l) (by_bounds m front o)) shape ∙ bounds_tell o (loop lower upper step inits))
 
-    pub unknown_23 : None ≡ times_of m lower upper step → None ≡ rule_23_at x m front
-    unknown_23 e = viewed c n (find x m) (λ z. None ≡ given z (λ o. rule_23 m front o)) at (λ rs s k. when_none _ _ (ap (λ z. given z (by_times (here rs) (loop lower upper step inits))) e ∙ told (here rs)))
+    pub unknown_open_loop : None ≡ times_of m lower upper step → None ≡ open_loop_at x m front
+    unknown_open_loop e = viewed c n (find x m) (λ z. None ≡ given z (λ o. open_loop m front o)) at (λ rs s k. when_none _ _ (ap (λ z. given z (by_times (here rs) (loop lower upper step inits))) e ∙ told (here rs)))
 
-    pub never_23 : (b : Bool) → b ≡ named (codes "scf.for") (name_term c n.head.name) → b ≡ true → Some Never ≡ times_of m lower upper step
-        → (es : List Edit) → es ≡ replacing (results_from x 0 inits) inits ++ Erase x ∷ [] → Some es ≡ rule_23_at x m front
-    never_23 b e f g es h =
-        viewed c n (find x m) (λ z. Some es ≡ given z (λ o. rule_23 m front o)) at
+    pub never_open_loop : (b : Bool) → b ≡ named (codes "scf.for") (name_term c n.head.name) → b ≡ true → Some Never ≡ times_of m lower upper step
+        → (es : List Edit) → es ≡ replacing (results_from x 0 inits) inits ++ Erase x ∷ [] → Some es ≡ open_loop_at x m front
+    never_open_loop b e f g es h =
+        viewed c n (find x m) (λ z. Some es ≡ given z (λ o. open_loop m front o)) at
         (λ rs s k. ap Some (h ∙ ap (λ y. replacing (results_from y 0 inits) inits ++ Erase y ∷ []) (sym (found_id x m (here rs) k)))
         ∙ ap (λ z. given z (by_times (here rs) (loop lower upper step inits))) g ∙ told (here rs) ∙ when_yes b _ _ e f)
 
-    pub once_23 : (b : Bool) → b ≡ named (codes "scf.for") (name_term c n.head.name) → b ≡ true → Some Once ≡ times_of m lower upper step
-        → (p : Option (List Edit)) → p ≡ opened_at x 0 m front (lower ∷ inits) → p ≡ rule_23_at x m front
-    once_23 b e f g p h =
-        viewed c n (find x m) (λ z. p ≡ given z (λ o. rule_23 m front o)) at
+    pub once_open_loop : (b : Bool) → b ≡ named (codes "scf.for") (name_term c n.head.name) → b ≡ true → Some Once ≡ times_of m lower upper step
+        → (p : Option (List Edit)) → p ≡ opened_at x 0 m front (lower ∷ inits) → p ≡ open_loop_at x m front
+    once_open_loop b e f g p h =
+        viewed c n (find x m) (λ z. p ≡ given z (λ o. open_loop m front o)) at
         (λ rs s k. h ∙ ap (λ z. given (given z (λ o. body m o 0)) (λ e. Some (opening x front e.before (lower ∷ inits) e.last.operands))) k
         ∙ ap (λ y. given (body m (here rs) 0) (λ e. Some (opening y front e.before (lower ∷ inits) e.last.operands))) (sym (found_id x m (here rs) k))
         ∙ ap (λ z. given z (by_times (here rs) (loop lower upper step inits))) g ∙ told (here rs) ∙ when_yes b _ _ e f)
 
-  -- rule 24
-  pub not_24 : (b : Bool) → b ≡ named (codes "scf.while") (name_term c n.head.name) → b ≡ false → None ≡ rule_24_at x m front
-  not_24 b e f = viewed c n (find x m) (λ z. None ≡ given z (λ o. rule_24 m front o)) at (λ rs s k. when_no b _ _ e f)
+  -- a loop that stops
+  pub not_stop_loop : (b : Bool) → b ≡ named (codes "scf.while") (name_term c n.head.name) → b ≡ false → None ≡ stop_loop_at x m front
+  not_stop_loop b e f = viewed c n (find x m) (λ z. None ≡ given z (λ o. stop_loop m front o)) at (λ rs s k. when_no b _ _ e f)
 
   ended_here : (o : Operation) → find x m ≡ Some o → body_at x 0 m ≡ body m o 0
   ended_here o k = ap (λ z. given z (λ o. body m o 0)) k
 
-  pub no_body_24 : None ≡ body_at x 0 m → None ≡ rule_24_at x m front
-  no_body_24 e =
-      viewed c n (find x m) (λ z. None ≡ given z (λ o. rule_24 m front o)) at
+  pub no_body_stop_loop : None ≡ body_at x 0 m → None ≡ stop_loop_at x m front
+  no_body_stop_loop e =
+      viewed c n (find x m) (λ z. None ≡ given z (λ o. stop_loop m front o)) at
       (λ rs s k. when_none _ _ (ap (λ b. given b (λ e. by_end m front (here rs) e e.last.operands)) (e ∙ ended_here (here rs) k)))
 
   module _ (e : Ended) (end : Some e ≡ body_at x 0 m) where
     by_its_end : (o : Operation) → find x m ≡ Some o → by_end m front o e e.last.operands ≡ given (body m o 0) (λ e. by_end m front o e e.last.operands)
     by_its_end o k = ap (λ b. given b (λ e. by_end m front o e e.last.operands)) (end ∙ ended_here o k)
 
-    pub shape_24 : (length e.last.operands < 1) → None ≡ rule_24_at x m front
-    shape_24 h = viewed c n (find x m) (λ z. None ≡ given z (λ o. rule_24 m front o)) at (λ rs s k. when_none _ _ (go (here rs) e.last.operands h ∙ by_its_end (here rs) k))
+    pub shape_stop_loop : (length e.last.operands < 1) → None ≡ stop_loop_at x m front
+    shape_stop_loop h = viewed c n (find x m) (λ z. None ≡ given z (λ o. stop_loop m front o)) at (λ rs s k. when_none _ _ (go (here rs) e.last.operands h ∙ by_its_end (here rs) k))
       where
         go : (o : Operation) (l : List Value) → length l < 1 → None ≡ by_end m front o e l
         go o [] h = refl
         go o (v ∷ l) h = absurd (omega (arith, h))
 
     module _ (v : Value) (handed : List Value) (shape : e.last.operands ≡ v ∷ handed) (t : Bool) (test : t ≡ is_number m 0 v) where
-      pub no_number_24 : t ≡ false → None ≡ rule_24_at x m front
-      no_number_24 f =
-          viewed c n (find x m) (λ z. None ≡ given z (λ o. rule_24 m front o)) at
+      pub no_number_stop_loop : t ≡ false → None ≡ stop_loop_at x m front
+      no_number_stop_loop f =
+          viewed c n (find x m) (λ z. None ≡ given z (λ o. stop_loop m front o)) at
           (λ rs s k. when_none _ _ (when_no t _ _ test f ∙ ap (by_end m front (here rs) e) (sym shape) ∙ by_its_end (here rs) k))
 
-      pub number_24 : (b : Bool) → b ≡ named (codes "scf.while") (name_term c n.head.name) → b ≡ true → t ≡ true
-          → (es : List Edit) → es ≡ opening x front e.before n.head.operands handed → Some es ≡ rule_24_at x m front
-      number_24 b g i f es h =
-          viewed c n (find x m) (λ z. Some es ≡ given z (λ o. rule_24 m front o)) at
+      pub number_stop_loop : (b : Bool) → b ≡ named (codes "scf.while") (name_term c n.head.name) → b ≡ true → t ≡ true
+          → (es : List Edit) → es ≡ opening x front e.before n.head.operands handed → Some es ≡ stop_loop_at x m front
+      number_stop_loop b g i f es h =
+          viewed c n (find x m) (λ z. Some es ≡ given z (λ o. stop_loop m front o)) at
           (λ rs s k. ap Some (h ∙ ap (λ y. opening y front e.before n.head.operands handed) (sym (found_id x m (here rs) k)))
           ∙ when_yes t _ _ test f ∙ ap (by_end m front (here rs) e) (sym shape) ∙ by_its_end (here rs) k ∙ when_yes b _ _ g i)

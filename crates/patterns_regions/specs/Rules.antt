@@ -8,7 +8,7 @@ use Rattle.ir_tree.specs.Meaning.{Operation}
 use Rattle.ir_tree_laws.specs.Values.{region_at}
 use Rattle.patterns_reads.specs.Contents.{Edit}
 use Rattle.patterns_reads.specs.Keeps.{given}
-use Rattle.patterns_reads.specs.rules.Opening.{chosen, rule_22, rule_23, rule_24}
+use Rattle.patterns_reads.specs.rules.Opening.{chosen, open_branch, open_loop, stop_loop}
 use Rattle.patterns_regions.specs.Blocks.{body_at}
 use Rattle.patterns_regions.specs.Opened.{opening}
 
@@ -20,12 +20,12 @@ opened_at x r t front values = given (body_at x r t) (λ e. Some (opening x fron
 abbrev pub chosen_at : ℕ → ℕ → Operation → Place → Option (List Edit)
 chosen_at x r t front = given (find x t) (λ o. given (region_at r (regions o)) (λ g. chosen t front o g r))
 
--- rules 22 to 24 at operation x
-abbrev pub rule_22_at : ℕ → Operation → Place → Option (List Edit)
-rule_22_at x t front = given (find x t) (λ o. rule_22 t front o)
+-- the rules that open branches and loops, at operation x
+abbrev pub open_branch_at : ℕ → Operation → Place → Option (List Edit)
+open_branch_at x t front = given (find x t) (λ o. open_branch t front o)
 
-abbrev pub rule_23_at : ℕ → Operation → Place → Option (List Edit)
-rule_23_at x t front = given (find x t) (λ o. rule_23 t front o)
+abbrev pub open_loop_at : ℕ → Operation → Place → Option (List Edit)
+open_loop_at x t front = given (find x t) (λ o. open_loop t front o)
 
-abbrev pub rule_24_at : ℕ → Operation → Place → Option (List Edit)
-rule_24_at x t front = given (find x t) (λ o. rule_24 t front o)
+abbrev pub stop_loop_at : ℕ → Operation → Place → Option (List Edit)
+stop_loop_at x t front = given (find x t) (λ o. stop_loop t front o)

@@ -1,4 +1,4 @@
-//! Rules 22 to 24: branches that are known, and loops that are gone through once or not at all.
+//! Branches that are known, and loops that are gone through once or not at all.
 ghost use Rattle.std.specs.Prelude.{◌≡◌, ◌∷◌, ◌++◌, [], IfOk, IfSome, option_map};
 ghost use Rattle.patterns_edits.specs.Edits.{Erase};
 ghost use Rattle.patterns_reads.specs.Makes.{replacing, results_from};
@@ -6,7 +6,7 @@ ghost use Rattle.ir_types.specs.Things.{Things};
 ghost use Rattle.ir_event.specs.Modules.{module_in};
 ghost use Rattle.patterns_edits.specs.Lists.{AllFit, edits_meaning};
 ghost use Rattle.patterns_reads.specs.Plans.{PlanIsOf, plan_meaning};
-ghost use Rattle.patterns_regions.specs.Rules.{chosen_at, opened_at, rule_22_at, rule_23_at, rule_24_at};
+ghost use Rattle.patterns_regions.specs.Rules.{chosen_at, opened_at, open_branch_at, open_loop_at, stop_loop_at};
 
 use crate::block::{body_of, has_block, node_at};
 use crate::bounds::{Times, known_times};
@@ -66,13 +66,13 @@ fn choose(
 }
 
 /// A branch by a known condition: the block that it chooses.
-pub fn plan_22(
+pub fn plan_open_branch(
     alloc: Global,
     world: &World,
     front: &Place,
     op: OpId,
 ) -> Result<Option<Plan>, AllocError>
-    ensures edits { IfOk result (λ p. option_map (plan_meaning world.now.ctx (module_in world.now).next op front.now) p ≡ rule_22_at op (module_in world.now).tree front.now) }
+    ensures edits { IfOk result (λ p. option_map (plan_meaning world.now.ctx (module_in world.now).next op front.now) p ≡ open_branch_at op (module_in world.now).tree front.now) }
     ensures of { IfOk result (λ p. IfSome p (PlanIsOf world.now.ctx)) }
 {
     let Some(node) = node_at(world, op) else {
@@ -123,13 +123,13 @@ fn go_never(
 }
 
 /// A loop that is gone through once or never, by its bounds.
-pub fn plan_23(
+pub fn plan_open_loop(
     alloc: Global,
     world: &World,
     front: &Place,
     op: OpId,
 ) -> Result<Option<Plan>, AllocError>
-    ensures edits { IfOk result (λ p. option_map (plan_meaning world.now.ctx (module_in world.now).next op front.now) p ≡ rule_23_at op (module_in world.now).tree front.now) }
+    ensures edits { IfOk result (λ p. option_map (plan_meaning world.now.ctx (module_in world.now).next op front.now) p ≡ open_loop_at op (module_in world.now).tree front.now) }
     ensures of { IfOk result (λ p. IfSome p (PlanIsOf world.now.ctx)) }
 {
     let Some(node) = node_at(world, op) else {
@@ -151,13 +151,13 @@ pub fn plan_23(
 }
 
 /// A loop whose condition is known to be false: its first block, and what the condition hands on.
-pub fn plan_24(
+pub fn plan_stop_loop(
     alloc: Global,
     world: &World,
     front: &Place,
     op: OpId,
 ) -> Result<Option<Plan>, AllocError>
-    ensures edits { IfOk result (λ p. option_map (plan_meaning world.now.ctx (module_in world.now).next op front.now) p ≡ rule_24_at op (module_in world.now).tree front.now) }
+    ensures edits { IfOk result (λ p. option_map (plan_meaning world.now.ctx (module_in world.now).next op front.now) p ≡ stop_loop_at op (module_in world.now).tree front.now) }
     ensures of { IfOk result (λ p. IfSome p (PlanIsOf world.now.ctx)) }
 {
     let Some(node) = node_at(world, op) else {

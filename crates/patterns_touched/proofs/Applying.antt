@@ -1,5 +1,5 @@
--- At an operation that isn't listed each rule of 1 to 24 applies where it applied.
-use Rattle.std.proofs.Common.{◌≡◌, refl, ap, sym, ◌∙◌, subst, ℕ, zero, suc, ◌≤◌, Bool, true, false, true≢false, cond, ◌&&◌, not, eqb, eqb-true, List, [], ◌∷◌, map, Option, Some, None, inl, inr, arith}
+-- At an operation that isn't listed each rule of canonicalization applies where it applied.
+use Rattle.std.proofs.Common.{◌≡◌, refl, ap, sym, ◌∙◌, subst, ℕ, zero, suc, Bool, true, false, true≢false, ◌&&◌, not, List, [], ◌∷◌, map, Option, Some, None, inl, inr}
 use Rattle.std.specs.Prelude.{option_map, option_and_then, is_some}
 use Rattle.ir_types.specs.Things.{Things}
 use Rattle.ir_types.specs.Terms.{TypeTerm, AttrTerm}
@@ -23,21 +23,23 @@ use Rattle.effects.specs.Effects.{effects}
 use Rattle.effects.specs.Dead.{is_unused, is_kept, may_go as may_be_missed}
 use Rattle.listeners_surroundings.specs.Surroundings.{SurroundingsOf, surroundings}
 use Rattle.patterns_laws.specs.Keeps.{given}
+use Rattle.patterns_base.specs.declared.rule.Rule.{Rule}
+use Rattle.patterns_base.specs.RuleNames.{is_canonical}
 use Rattle.patterns_base.specs.Looks.{Header, when, may_go, is_clean, front_of, giver, type_of}
 use Rattle.patterns_base.specs.Rules.{rule}
 use Rattle.patterns_base.specs.Rewrites.{edits_of}
 use Rattle.patterns_touched.specs.Reached.{ends, any_reaches}
 use Rattle.patterns_touched.specs.Sights.{giver as giver_id, operands_of, Uses, is_listed, last_ids}
 use Rattle.patterns_touched.specs.Near.{Leads}
-use Rattle.patterns_touched.specs.Alike.{Same, ShowsAlike, SeesAlike, EndsAlike, last_of, shape_of}
+use Rattle.patterns_facts.specs.Alike.{Same, ShowsAlike, SeesAlike, EndsAlike, LooksAlike, last_of, shape_of}
+use Rattle.patterns_facts.proofs.Looking.{when_alike, given_both}
+use Rattle.patterns_facts.proofs.Facts.{facts, lowers_not}
 use Rattle.patterns_touched.specs.Listing.{Lists, Stayed, Touched}
 use Rattle.patterns_touched.proofs.Ending.{last_ends}
 use Rattle.patterns_touched.proofs.Reaching.{all_far}
 use Rattle.patterns_touched.proofs.Tracked.{effects_stay}
 use Rattle.patterns_touched.proofs.Usings.{unused_stays}
 use Rattle.patterns_touched.proofs.Lasting.{lasts_stay, unreached_all, last_in, same_lasts}
-use Rattle.patterns_touched.proofs.Rules.{when_alike, if_alike, same_2, same_3, same_4, same_5, same_6, same_7, same_8, same_9, same_10, same_11, same_12, same_13, same_14, same_15, same_16, same_17, same_18, same_19, same_20, same_21}
-use Rattle.patterns_touched.proofs.Opened.{given_both, same_22, same_23, same_24}
 use Rattle.patterns_touched.proofs.Unlisted.{found_surroundings, surroundings_found, there_found, found_there, outer_some, last_header, clean_alike, heads_alike, head_id, shows_alike}
 
 not_so : (b : Bool) → (b ≡ true → ⊥) → b ≡ false
@@ -48,9 +50,6 @@ map_member : {X Y : Type 0} (f g : X → Y) (xs : List X) → map f xs ≡ map g
 map_member f g [] e x h = absurd h
 map_member f g (y ∷ ys) e x (inl i) = let k : f y ≡ g y = cc in ap f i ∙ k ∙ ap g (sym i)
 map_member f g (y ∷ ys) e x (inr h) = let k : map f ys ≡ map g ys = cc in map_member f g ys k x h
-
-skip_alike : {X Y : Type 0} (b : Bool) (p q : Option X) (r s : Option Y) → b ≡ false → Same q s → Same (cond b p q) (cond b r s)
-skip_alike b p q r s e h = ap (λ c. is_some (cond c p q)) e ∙ h ∙ sym (ap (λ c. is_some (cond c r s)) e)
 
 none_from : {X Y : Type 0} (a : Option X) (b : Option Y) → Same a b → a ≡ None → b ≡ None
 none_from a None e h = refl
@@ -255,54 +254,21 @@ module _ (shown : ℕ → List Value) (c : Things) (es : List Event) (m n : Modu
     fronts = outer_some t dn x ∙ ap (λ a. is_some (option_and_then (λ (s : SurroundingsOf (List ℕ) TypeTerm AttrTerm). s.outer) a)) own ∙ sym (outer_some u dm x)
 
     -- ---- the rules
-    apart : (r k : ℕ) → r ≤ 24 → 25 ≤ k → eqb r k ≡ false
-    apart r k l g = not_so (eqb r k) (λ e. let i = eqb-true r k e in omega (arith, l, g, i))
+    looks : LooksAlike t u o p
+    looks = record { heads = heads; sees = sees; ends = ends_alike; goes = dead_alike }
 
-    rules_alike : (r : ℕ) → r ≤ 24 → (f g : Place) → Same (rule r t n.next f o) (rule r u m.next g p)
-    unfolding rule
-    rules_alike r l f g =
-        let a = n.next in
-        let b = m.next in
-        if_alike (eqb r 1) (eqb r 1) _ _ _ _ refl (when_alike _ _ _ _ dead_alike refl)
-        (if_alike (eqb r 2) (eqb r 2) _ _ _ _ refl (same_2 t u a b f g o p heads sees)
-        (if_alike (eqb r 3) (eqb r 3) _ _ _ _ refl (same_3 t u a b f g o p heads sees)
-        (if_alike (eqb r 4) (eqb r 4) _ _ _ _ refl (same_4 t u a b f g o p heads sees)
-        (if_alike (eqb r 5) (eqb r 5) _ _ _ _ refl (same_5 t u a b f g o p heads sees)
-        (if_alike (eqb r 6) (eqb r 6) _ _ _ _ refl (same_6 t u a b f g o p heads sees)
-        (if_alike (eqb r 7) (eqb r 7) _ _ _ _ refl (same_7 t u a b f g o p heads sees)
-        (if_alike (eqb r 8) (eqb r 8) _ _ _ _ refl (same_8 t u a b f g o p heads sees)
-        (if_alike (eqb r 9) (eqb r 9) _ _ _ _ refl (same_9 t u a b f g o p heads sees)
-        (if_alike (eqb r 10) (eqb r 10) _ _ _ _ refl (same_10 t u a b f g o p heads sees)
-        (if_alike (eqb r 11) (eqb r 11) _ _ _ _ refl (same_11 t u a b f g o p heads sees)
-        (if_alike (eqb r 12) (eqb r 12) _ _ _ _ refl (same_12 t u a b f g o p heads sees)
-        (if_alike (eqb r 13) (eqb r 13) _ _ _ _ refl (same_13 t u a b f g o p heads sees)
-        (if_alike (eqb r 14) (eqb r 14) _ _ _ _ refl (same_14 t u a b f g o p heads sees)
-        (if_alike (eqb r 15) (eqb r 15) _ _ _ _ refl (same_15 t u a b f g o p heads sees)
-        (if_alike (eqb r 16) (eqb r 16) _ _ _ _ refl (same_16 t u a b f g o p heads sees)
-        (if_alike (eqb r 17) (eqb r 17) _ _ _ _ refl (same_17 t u a b f g o p heads sees)
-        (if_alike (eqb r 18) (eqb r 18) _ _ _ _ refl (same_18 t u a b f g o p heads sees)
-        (if_alike (eqb r 19) (eqb r 19) _ _ _ _ refl (same_19 t u a b f g o p heads sees)
-        (if_alike (eqb r 20) (eqb r 20) _ _ _ _ refl (same_20 t u a b f g o p heads sees)
-        (if_alike (eqb r 21) (eqb r 21) _ _ _ _ refl (same_21 t u a b f g o p heads sees)
-        (if_alike (eqb r 22) (eqb r 22) _ _ _ _ refl (same_22 t u f g o p heads sees.operands ends_alike)
-        (if_alike (eqb r 23) (eqb r 23) _ _ _ _ refl (same_23 t u f g o p heads sees.operands ends_alike)
-        (if_alike (eqb r 24) (eqb r 24) _ _ _ _ refl (same_24 t u f g o p heads sees.operands ends_alike)
-        (skip_alike (eqb r 25) _ _ _ _ (apart r 25 l (omega arith))
-        (skip_alike (eqb r 26) _ _ _ _ (apart r 26 l (omega arith))
-        (skip_alike (eqb r 27) _ _ _ _ (apart r 27 l (omega arith))
-        (skip_alike (eqb r 28) _ _ _ _ (apart r 28 l (omega arith))
-        (skip_alike (eqb r 29) _ _ _ _ (apart r 29 l (omega arith))
-        (skip_alike (eqb r 30) _ _ _ _ (apart r 30 l (omega arith)) refl)))))))))))))))))))))))))))))
+    rules_alike : (r : Rule) → is_canonical r ≡ true → (f g : Place) → Same (rule r t n.next f o) (rule r u m.next g p)
+    rules_alike r canonical f g = (facts r).alike (lowers_not r canonical) t u n.next m.next f g o p looks
 
-    edits_alike : (r : ℕ) → r ≤ 24 → Same (edits_of r n x) (edits_of r m x)
+    edits_alike : (r : Rule) → is_canonical r ≡ true → Same (edits_of r n x) (edits_of r m x)
     unfolding edits_of
-    edits_alike r l =
+    edits_alike r canonical =
         ap (λ a. is_some (given a (λ q. given (front_of x t) (λ front. when (is_clean t (head q)) (rule r t n.next front q))))) is
-        ∙ given_both (front_of x t) (front_of x u) (λ front. when (is_clean t (head o)) (rule r t n.next front o)) (λ front. when (is_clean u (head p)) (rule r u m.next front p)) fronts (λ f g i j. when_alike _ _ _ _ cleans (rules_alike r l f g))
+        ∙ given_both (front_of x t) (front_of x u) (λ front. when (is_clean t (head o)) (rule r t n.next front o)) (λ front. when (is_clean u (head p)) (rule r u m.next front p)) fronts (λ f g i j. when_alike _ _ _ _ cleans (rules_alike r canonical f g))
         ∙ sym (ap (λ a. is_some (given a (λ q. given (front_of x u) (λ front. when (is_clean u (head q)) (rule r u m.next front q))))) was)
 
     stayed : Stayed m n x
-    stayed = record { was = found_there u x p was; applies = λ r k l. (none_from (edits_of r n x) (edits_of r m x) (edits_alike r l), none_from (edits_of r m x) (edits_of r n x) (sym (edits_alike r l))) }
+    stayed = record { was = found_there u x p was; applies = λ r canonical. (none_from (edits_of r n x) (edits_of r m x) (edits_alike r canonical), none_from (edits_of r m x) (edits_of r n x) (sym (edits_alike r canonical))) }
 
   pub touched_all : Touched m n listed
   touched_all x h unlisted =

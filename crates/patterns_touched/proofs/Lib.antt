@@ -7,8 +7,14 @@ pub mod Still
 pub mod Tracking
 pub mod Tracked
 pub mod Usings
-pub mod Rules
-pub mod Opened
 pub mod Lasting
 pub mod Unlisted
 pub mod Applying
+pub mod Leading
+mod Adding
+mod BlockEnds
+mod Using
+mod Climbing
+mod Reached
+mod Gathering
+mod Journaled

@@ -31,14 +31,17 @@ module _ {N T A : Type 0} where
   given_by look v = option_and_then look (giver v)
 
   -- and, with them, of those that give its operands
-  abbrev pub source_by : (ℕ → Option (SurroundingsOf N T A)) → Value → Option (SurroundingsOf N T A) × List (Option (SurroundingsOf N T A))
+  abbrev pub source_by : (ℕ → Option (SurroundingsOf N T A)) → Value
+      → Option (SurroundingsOf N T A) × List (Option (SurroundingsOf N T A))
   source_by look v = (given_by look v, map (given_by look) (operands_of (given_by look v)))
 
   -- what rules see of operation x
-  abbrev pub sight_by : (ℕ → Option (SurroundingsOf N T A)) → ℕ → Option (SurroundingsOf N T A) × List (Option (SurroundingsOf N T A) × List (Option (SurroundingsOf N T A)))
+  abbrev pub sight_by : (ℕ → Option (SurroundingsOf N T A)) → ℕ
+      → Option (SurroundingsOf N T A) × List (Option (SurroundingsOf N T A) × List (Option (SurroundingsOf N T A)))
   sight_by look x = (look x, map (source_by look) (operands_of (look x)))
 
-  abbrev pub sight : ℕ → OpOf N T A → Option (SurroundingsOf N T A) × List (Option (SurroundingsOf N T A) × List (Option (SurroundingsOf N T A)))
+  abbrev pub sight : ℕ → OpOf N T A
+      → Option (SurroundingsOf N T A) × List (Option (SurroundingsOf N T A) × List (Option (SurroundingsOf N T A)))
   sight x t = sight_by (λ y. surroundings y t) x
 
   -- operation x has a result of operation y as an operand

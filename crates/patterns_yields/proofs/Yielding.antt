@@ -74,7 +74,7 @@ if_asks : option_map (λ (row : Row). row.operands) (row_of (codes "scf.if")) �
 unfolding row_of rows
 if_asks = refl
 
--- rule 9, of a loop and of a choice
+-- the verifier's rule on the ends of blocks, of a loop and of a choice
 for_ends : (s : Surroundings) → s.node.head.name ≡ codes "scf.for" → breaks_9 s ≡ false → ends_otherwise 0 (codes "scf.yield") s ≡ false
 for_ends s n e = go s.node.head.name n e
   where

@@ -27,7 +27,7 @@ use ir_types::node::{AttrNode, TypeNode};
 use ir_types::refusal::Refusal;
 use op_registry::registry::Registry;
 use rewriter_desk::desk::Desk;
-use rewriter_desk::laws::stores_stay_slotted;
+use rewriter_laws::journal_laws::stores_stay_slotted;
 use std::alloc::Global;
 use std::marker::Model;
 

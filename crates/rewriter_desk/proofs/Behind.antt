@@ -13,14 +13,14 @@ use Rattle.ir_store.specs.Stored.{Stored}
 use Rattle.ir_event.specs.declared.event.Event.{Event}
 use Rattle.ir_event.specs.Modules.{Module, module_meaning}
 use Rattle.ir_event.specs.Step.{IsOperandStep}
-use Rattle.rewriter_journal.specs.Edits.{IsEntryStep, IsPutStep, IsShiftStep, IsTakeStep}
-use Rattle.rewriter_journal.specs.Undoing.{CameFrom, undone}
-use Rattle.rewriter_journal.specs.Journals.{IsJournal, IsSlotted, IsStoreOf, IsTidy, Noted, before}
-use Rattle.rewriter_journal.proofs.Noting as noting
-use Rattle.rewriter_journal.proofs.Ended as ended
-use Rattle.rewriter_journal.proofs.Grown as grown
-use Rattle.rewriter_journal.proofs.Released as released
-use Rattle.rewriter_journal.proofs.Kept as kept
+use Rattle.ir_event.specs.Edits.{IsEntryStep, IsPutStep, IsShiftStep, IsTakeStep}
+use Rattle.ir_event.specs.Undoing.{CameFrom, undone}
+use Rattle.rewriter_laws.specs.Journals.{IsJournal, IsSlotted, IsStoreOf, IsTidy, Noted, before}
+use Rattle.rewriter_laws.proofs.Noting as noting
+use Rattle.rewriter_laws.proofs.Ended as ended
+use Rattle.rewriter_laws.proofs.Grown as grown
+use Rattle.rewriter_laws.proofs.Released as released
+use Rattle.rewriter_laws.proofs.Kept as kept
 
 abbrev pub then : Things → Stored → Module
 then c u = module_meaning c u.module_of

@@ -16,8 +16,8 @@ use Rattle.ir_event.specs.declared.event.Event.{Event}
 use Rattle.ir_event.specs.Listener.{ShowsTaken}
 use Rattle.ir_event.specs.Modules.{Module, Node}
 use Rattle.ir_event.specs.Step.{IsOperandStep, Step}
-use Rattle.rewriter_journal.specs.Edits.{IsEntryStep, IsPutStep, IsShiftStep, IsTakeStep}
-use Rattle.rewriter_journal.specs.Journals.{IsSlotted, IsStoreOf, IsTidy, Noted}
+use Rattle.ir_event.specs.Edits.{IsEntryStep, IsPutStep, IsShiftStep, IsTakeStep}
+use Rattle.rewriter_laws.specs.Journals.{IsSlotted, IsStoreOf, IsTidy, Noted}
 use Rattle.rewriter_desk.specs.Held.{Held, IsGood, module_held, shown_of}
 use Rattle.rewriter_desk.specs.Moves.{Edited, IsAnswered, noted_as}
 use Rattle.rewriter_desk.proofs.Behind.{entry_noted, operand_noted, put_noted, shift_noted, slotted_entry, slotted_operand, slotted_put, slotted_shift, slotted_take, take_noted, then}

@@ -6,7 +6,7 @@ use Rattle.ir_types.specs.Things.{Things}
 use Rattle.ir_store.specs.Stored.{Stored}
 use Rattle.ir_event.specs.declared.event.Event.{Event}
 use Rattle.rewriter_machine.specs.Machine.{OpenMark}
-use Rattle.rewriter_journal.specs.Journals.{IsJournal, before}
+use Rattle.rewriter_laws.specs.Journals.{IsJournal, before}
 use Rattle.rewriter_desk.specs.declared.mark.Mark.{Mark}
 use Rattle.rewriter_desk.specs.Held.{Held, IsGood, Rising, Within, module_held, open_mark, open_marks}
 use Rattle.rewriter_desk.specs.Marked.{Closed, IsNewest, kept, with_mark}

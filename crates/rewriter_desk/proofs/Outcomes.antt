@@ -21,8 +21,8 @@ use Rattle.ir_event.proofs.Shown.{known_there, none_found}
 use Rattle.ir_event.specs.Listener.{ShowsTaken}
 use Rattle.ir_event.specs.Modules.{module_meaning}
 use Rattle.ir_event.specs.Step.{Step, inverse_of}
-use Rattle.rewriter_journal.specs.Undoing.{CameFrom, undone}
-use Rattle.rewriter_journal.specs.Journals.{IsJournal, IsSlotted, IsStoreOf, Noted, before, undone_all}
+use Rattle.ir_event.specs.Undoing.{CameFrom, undone}
+use Rattle.rewriter_laws.specs.Journals.{IsJournal, IsSlotted, IsStoreOf, Noted, before, undone_all}
 use Rattle.rewriter_desk.specs.declared.mark.Mark.{Mark}
 use Rattle.rewriter_desk.specs.Held.{Held, IsGood, Within, module_at, module_held, open_mark, open_marks, shown_of}
 use Rattle.rewriter_desk.specs.Moves.{Edited, Grown, HoldsModuleAlone, HoldsNone, Tidied, Undone, noted, noted_as}

@@ -7,7 +7,7 @@ use Rattle.ir_store.specs.Stored.{Stored, known}
 use Rattle.ir_event.specs.declared.event.Event.{Event}
 use Rattle.ir_event.specs.Modules.{Module, Node, module_meaning}
 use Rattle.rewriter_machine.specs.Machine.{OpenMark}
-use Rattle.rewriter_journal.specs.Journals.{IsJournal, IsSlotted, before}
+use Rattle.rewriter_laws.specs.Journals.{IsJournal, IsSlotted, before}
 use Rattle.rewriter_desk.specs.declared.mark.Mark.{Mark}
 
 -- a context, a module of its numbers with what is held of it, the events since the oldest open mark, the oldest first,

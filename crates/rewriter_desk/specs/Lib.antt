@@ -2,7 +2,7 @@ pub mod Texts
 pub mod Held
 pub mod Marked
 pub mod Moves
-pub use Rattle.rewriter_journal.specs.Journals
+pub use Rattle.rewriter_laws.specs.Journals
 pub use Rattle.rewriter_machine.specs.Contents
 pub use Rattle.rewriter_machine.specs.Edits
 pub use Rattle.rewriter_machine.specs.Machine

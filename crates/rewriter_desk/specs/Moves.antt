@@ -9,8 +9,8 @@ use Rattle.ir_store.specs.Stored.{Stored}
 use Rattle.ir_event.specs.declared.event.Event.{Event}
 use Rattle.ir_event.specs.Listener.{ShowsTaken}
 use Rattle.ir_event.specs.Step.{Step, inverse_of}
-use Rattle.rewriter_journal.specs.Undoing.{undone}
-use Rattle.rewriter_journal.specs.Journals.{IsTidy}
+use Rattle.ir_event.specs.Undoing.{undone}
+use Rattle.rewriter_laws.specs.Journals.{IsTidy}
 use Rattle.rewriter_desk.specs.declared.mark.Mark.{Mark}
 use Rattle.rewriter_desk.specs.Held.{Held, module_at, module_held, open_marks, shown_of}
 

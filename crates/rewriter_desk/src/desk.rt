@@ -1,7 +1,7 @@
 //! The desk: a world with its journal and its marks.
 ghost use Rattle.std.specs.Prelude.{◌≡◌, ◌≢◌, ◌<◌, ◌-◌, ◌↔◌, ◌∷◌, [], length, not, is_some, slice_get, IsTrue, OnOk, OnErr, IfSome, IfNone};
 ghost use Rattle.ir_event.specs.Modules.{things_in};
-ghost use Rattle.rewriter_journal.specs.Journals.{IsSlotted};
+ghost use Rattle.rewriter_laws.specs.Journals.{IsSlotted};
 ghost use Rattle.rewriter_desk.specs.Held.{IsGood, Within, module_held, open_marks};
 ghost use Rattle.rewriter_desk.specs.Marked.{counted_among, mark_reason, with_mark, IsNewest, Closed};
 ghost use Rattle.rewriter_desk.specs.Moves.{HoldsModuleAlone, HoldsNone, IsAnswered, Tidied, Undone};

@@ -7,7 +7,7 @@ ghost use Rattle.ir_tree.specs.Meaning.{IsSoundIn, isolated_in, key_before_in};
 ghost use Rattle.ir_tree_laws.specs.Reasons.{holds_none, put_reason, set_entry_reason, set_operand_reason, shift_reason, take_reason};
 ghost use Rattle.ir_store.specs.Calls.{after_entry, after_operand, after_put, after_shift, after_take};
 ghost use Rattle.ir_event.specs.declared.event.Event.TheVariants.{Put};
-ghost use Rattle.rewriter_journal.specs.Journals.{IsTidy};
+ghost use Rattle.rewriter_laws.specs.Journals.{IsTidy};
 ghost use Rattle.rewriter_desk.specs.Moves.{Edited, IsAnswered};
 
 use crate::claims::{claim, note};

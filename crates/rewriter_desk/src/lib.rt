@@ -11,4 +11,3 @@ mod release;
 mod texts;
 
 pub use ir_text::reader::ReadError;
-pub use rewriter_journal::laws;

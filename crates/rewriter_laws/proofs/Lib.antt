@@ -13,3 +13,15 @@ pub mod AnyUse
 pub mod AnyType
 pub mod Tried
 pub mod LastFirst
+pub mod Maps
+pub mod Keys
+pub mod Trees
+pub mod Stores
+pub mod Carries
+pub mod Entered
+pub mod Undoings
+pub mod Ended
+pub mod Noting
+pub mod Grown
+pub mod Released
+pub mod Kept

@@ -1,8 +1,8 @@
 use Rattle.std.proofs.Common.{◌≡◌, subst}
 use Rattle.ir_event.specs.declared.world.World.{World}
-use Rattle.constants_base.specs.Folds.{known_of}
-use Rattle.constants_base.specs.Trails.{IsThere}
-use Rattle.constants_base.specs.Facts.{value}
+use Rattle.dialects_int.specs.Folds.{known_of}
+use Rattle.constants.specs.Trails.{IsThere}
+use Rattle.constants.specs.Facts.{value}
 use Rattle.constants.proofs.Entering.{entered}
 use Rattle.constants.specs.Tables.{known_in, look_in}
 use Rattle.constants.proofs.collect.enter.Goals as goal

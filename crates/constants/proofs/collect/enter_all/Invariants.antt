@@ -1,5 +1,5 @@
 use Rattle.std.proofs.Common.{drop}
-use Rattle.constants_base.specs.Facts.{Facts}
+use Rattle.constants.specs.Facts.{Facts}
 use Rattle.constants.specs.Tables.{known_in, look_in, WalkedIds}
 use Rattle.constants.proofs.collect.enter_all.Given as goal
 

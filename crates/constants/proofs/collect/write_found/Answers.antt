@@ -1,8 +1,8 @@
 use Rattle.std.proofs.Common.{◌≡◌, ℕ, Option, sym, subst}
 use Rattle.std.specs.Bool.{OnTrue}
 use Rattle.ir_types.specs.declared.bits.Bits.{Bits}
-use Rattle.constants_base.specs.Folds.{known_of}
-use Rattle.constants_base.specs.Walk.{with_fact}
+use Rattle.dialects_int.specs.Folds.{known_of}
+use Rattle.constants.specs.Walk.{with_fact}
 use Rattle.constants.specs.Tables.{known_in}
 use Rattle.constants.proofs.collect.write_found.Goals as goal
 

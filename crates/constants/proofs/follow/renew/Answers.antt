@@ -1,6 +1,6 @@
 use Rattle.std.proofs.Common.{◌≡◌, true, false, refl, rules}
 use Rattle.ir_event.specs.Modules.{module_in}
-use Rattle.constants_base.proofs.Updating.{trail_there, broken_looks, whole_looks}
+use Rattle.constants.proofs.Updating.{trail_there, broken_looks, whole_looks}
 use Rattle.constants.proofs.Forgetful.{never}
 use Rattle.constants.proofs.Finding.{learnt_in}
 use Rattle.constants.specs.Tables.{known_in, look_in, uses_in}

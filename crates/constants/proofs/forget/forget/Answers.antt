@@ -1,5 +1,5 @@
 use Rattle.std.proofs.Common.{false, refl, rules}
-use Rattle.constants_base.proofs.Forgets.{forgot_unknown, forgot_known}
+use Rattle.constants.proofs.Forgets.{forgot_unknown, forgot_known}
 use Rattle.constants.proofs.Forgetful.{known_none, known_some, never, pushed, not_pushed, forgot_same}
 use Rattle.constants.specs.Tables.{known_in}
 use Rattle.constants.proofs.forget.forget.Goals as goal

@@ -1,8 +1,8 @@
 use Rattle.std.proofs.Common.{◌≡◌, ℕ, true, false, refl, sym, subst, rules, length, take}
 use Rattle.ir_tree_laws.specs.Members.{In}
-use Rattle.constants_base.specs.Phases.{Forgotten}
-use Rattle.constants_base.proofs.Forgets.{forgot_nobody}
-use Rattle.constants_base.proofs.Counted.{forgot_next, forgot_broken, forgot_all}
+use Rattle.constants.specs.Phases.{Forgotten}
+use Rattle.constants.proofs.Forgets.{forgot_nobody}
+use Rattle.constants.proofs.Counted.{forgot_next, forgot_broken, forgot_all}
 use Rattle.constants.proofs.Forgetful.{never, user_at, user_before, user_more, user_next, user_passed, all_read}
 use Rattle.constants.specs.Tables.{known_in, users_of}
 use Rattle.constants.proofs.forget.forget_all.Goals as goal

@@ -1,6 +1,6 @@
 use Rattle.std.proofs.Common.{◌≡◌, ◌++◌, take, length}
 use Rattle.ir_tree_laws.specs.Members.{In}
-use Rattle.constants_base.specs.Phases.{Forgotten}
+use Rattle.constants.specs.Phases.{Forgotten}
 use Rattle.constants.specs.Tables.{known_in, users_of}
 use Rattle.constants.proofs.forget.forget_all.Given as goal
 

@@ -1,6 +1,6 @@
 use Rattle.std.proofs.Common.{◌≡◌, ◌≤◌, ◌<◌, true, rules, length, get_or}
-use Rattle.constants_base.proofs.Forgets.{trail_start, forgetting_from_end}
-use Rattle.constants_base.proofs.Counted.{forgets_start, forgets_more, forgets_looks, forgets_trail, forgets_end}
+use Rattle.constants.proofs.Forgets.{trail_start, forgetting_from_end}
+use Rattle.constants.proofs.Counted.{forgets_start, forgets_more, forgets_looks, forgets_trail, forgets_end}
 use Rattle.constants.specs.Tables.{known_in, look_in, uses_in}
 use Rattle.constants.proofs.forget.forget_from.Goals as goal
 

@@ -1,5 +1,5 @@
 use Rattle.std.proofs.Common.{◌-◌, ◌^◌}
-use Rattle.constants_base.proofs.Counted.{ForgetsFrom}
+use Rattle.constants.proofs.Counted.{ForgetsFrom}
 use Rattle.constants.specs.Tables.{known_in, look_in, uses_in}
 use Rattle.constants.proofs.forget.forget_from.Given as goal
 

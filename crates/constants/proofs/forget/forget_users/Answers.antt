@@ -1,7 +1,7 @@
 use Rattle.std.proofs.Common.{◌≡◌, true}
 use Rattle.ir_tree_laws.specs.Members.{In}
-use Rattle.constants_base.specs.Trails.{Uses}
-use Rattle.constants_base.proofs.Forgets.{forgot_as}
+use Rattle.constants.specs.Trails.{Uses}
+use Rattle.constants.proofs.Forgets.{forgot_as}
 use Rattle.constants.specs.Tables.{known_in, look_in, users_of}
 use Rattle.constants.proofs.forget.forget_users.Goals as goal
 

@@ -1,5 +1,5 @@
 use Rattle.std.proofs.Common.{◌≡◌, ◌≤◌, true, false, refl, rules, length}
-use Rattle.constants_base.proofs.Counted.{learns_start, learns_more, learns_broken, learns_all}
+use Rattle.constants.proofs.Counted.{learns_start, learns_more, learns_broken, learns_all}
 use Rattle.constants.proofs.Forgetful.{never}
 use Rattle.constants.specs.Tables.{known_in, look_in, uses_in}
 use Rattle.constants.proofs.learn.learn_all.Goals as goal

@@ -1,4 +1,4 @@
-use Rattle.constants_base.proofs.Counted.{LearnsAll}
+use Rattle.constants.proofs.Counted.{LearnsAll}
 use Rattle.constants.specs.Tables.{known_in, look_in, uses_in}
 use Rattle.constants.proofs.learn.learn_all.Given as goal
 

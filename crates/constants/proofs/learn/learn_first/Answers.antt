@@ -1,9 +1,9 @@
 use Rattle.std.proofs.Common.{◌≡◌, ℕ, true, false, refl, rules, subst, arith, inl, inr, ◌⊎◌}
 use Rattle.ir_event.specs.declared.world.World.{World}
 use Rattle.ir_tree_laws.specs.Members.{In}
-use Rattle.constants_base.specs.Trails.{IsThere}
-use Rattle.constants_base.specs.Phases.{Learnt}
-use Rattle.constants_base.proofs.Learns.{learnt_more}
+use Rattle.constants.specs.Trails.{IsThere}
+use Rattle.constants.specs.Phases.{Learnt}
+use Rattle.constants.proofs.Learns.{learnt_more}
 use Rattle.constants.proofs.Learnable.{learnt_widen}
 use Rattle.constants.proofs.Forgetful.{never}
 use Rattle.constants.specs.Tables.{known_in, look_in}

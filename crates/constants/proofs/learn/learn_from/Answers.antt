@@ -1,5 +1,5 @@
 use Rattle.std.proofs.Common.{◌≡◌, ◌≤◌, ◌<◌, ◌∙◌, true, false, refl, rules, length, get_or}
-use Rattle.constants_base.proofs.Counted.{learns_from_start, learns_from_more, learns_from_broken, learns_first_broken, learns_from_end}
+use Rattle.constants.proofs.Counted.{learns_from_start, learns_from_more, learns_from_broken, learns_first_broken, learns_from_end}
 use Rattle.constants.proofs.Forgetful.{never}
 use Rattle.constants.specs.Tables.{known_in, look_in, uses_in}
 use Rattle.constants.proofs.learn.learn_from.Goals as goal

@@ -1,7 +1,7 @@
 use Rattle.std.proofs.Common.{◌≡◌, ℕ, ◌-◌, ◌^◌}
 use Rattle.ir_tree_laws.specs.Members.{In}
-use Rattle.constants_base.specs.Trails.{IsThere}
-use Rattle.constants_base.proofs.Counted.{LearnsFrom}
+use Rattle.constants.specs.Trails.{IsThere}
+use Rattle.constants.proofs.Counted.{LearnsFrom}
 use Rattle.constants.specs.Tables.{known_in, look_in, uses_in}
 use Rattle.constants.proofs.learn.learn_from.Given as goal
 

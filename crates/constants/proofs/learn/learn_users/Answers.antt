@@ -1,9 +1,9 @@
 use Rattle.std.proofs.Common.{◌≡◌, ℕ, true, subst, arith}
 use Rattle.ir_event.specs.declared.world.World.{World}
 use Rattle.ir_tree_laws.specs.Members.{In}
-use Rattle.constants_base.specs.Trails.{Uses, IsThere}
-use Rattle.constants_base.specs.Phases.{Learnt}
-use Rattle.constants_base.proofs.Learns.{learnt_as}
+use Rattle.constants.specs.Trails.{Uses, IsThere}
+use Rattle.constants.specs.Phases.{Learnt}
+use Rattle.constants.proofs.Learns.{learnt_as}
 use Rattle.constants.specs.Tables.{known_in, look_in, users_of}
 use Rattle.constants.proofs.learn.learn_users.Goals as goal
 

@@ -1,5 +1,5 @@
 use Rattle.std.proofs.Common.{◌≡◌, ℕ, true, false, refl, sym, subst, rules, length, arith}
-use Rattle.constants_base.proofs.Counted.{LearnsAll, learns_start, learns_more, learns_broken, learns_all}
+use Rattle.constants.proofs.Counted.{LearnsAll, learns_start, learns_more, learns_broken, learns_all}
 use Rattle.constants.proofs.Forgetful.{never, users_length, user_at, user_before, user_more, user_next, user_passed, all_read, read_whole}
 use Rattle.constants.specs.Tables.{known_in, look_in, uses_in, users_of}
 use Rattle.constants.proofs.learn.learn_uses.Goals as goal

@@ -1,5 +1,5 @@
 use Rattle.std.proofs.Common.{◌≡◌, ◌++◌, length}
-use Rattle.constants_base.proofs.Counted.{LearnsAll}
+use Rattle.constants.proofs.Counted.{LearnsAll}
 use Rattle.constants.specs.Tables.{known_in, look_in, uses_in, users_of}
 use Rattle.constants.proofs.learn.learn_uses.Given as goal
 

@@ -1,6 +1,6 @@
 use Rattle.std.proofs.Common.{◌≡◌, true, sym, ap, ◌∙◌}
-use Rattle.constants_base.specs.Folds.{known_of}
-use Rattle.constants_base.proofs.Learns.{learnt_noted}
+use Rattle.dialects_int.specs.Folds.{known_of}
+use Rattle.constants.proofs.Learns.{learnt_noted}
 use Rattle.constants.proofs.Learnable.{learnt_none}
 use Rattle.constants.specs.Tables.{known_in}
 use Rattle.constants.proofs.learn.note_found.Goals as goal

@@ -1,6 +1,6 @@
 use Rattle.std.proofs.Common.{◌≡◌, map, take}
-use Rattle.constants_base.specs.Folds.{known_of}
-use Rattle.constants_base.specs.Facts.{knowns}
+use Rattle.dialects_int.specs.Folds.{known_of}
+use Rattle.constants.specs.Facts.{knowns}
 use Rattle.constants.specs.Tables.{known_in}
 use Rattle.constants.proofs.table.value_facts.Given as goal
 

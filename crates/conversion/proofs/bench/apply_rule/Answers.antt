@@ -1,7 +1,7 @@
 use Rattle.std.proofs.Common.{sym, ◌∙◌}
 use Rattle.conversion_base.specs.Rewrites.{rewrite_of}
 use Rattle.conversion_base.proofs.Collapsing.{none_there}
-use Rattle.patterns_indexed.specs.Held.{module_held}
+use Rattle.patterns.specs.Held.{module_held}
 use Rattle.conversion.proofs.Seen.{answered, answered_none, here_or_gone, leads_applied, stay}
 use Rattle.conversion.proofs.bench.apply_rule.Goals as goal
 
@@ -19,4 +19,4 @@ returns-clause-answers g c =
     answered (rewrite_of c.args.rule (module_held c.args.bench.now.desk) c.args.op) c.args.op c.args.bench.now c.apply-applied.new.bench c.apply-applied.result here c.apply-applied.ensures.ok c.apply-applied.ensures.err c.apply-applied.ensures.refused
 
 pub returns-clause-leads : goal.returns-clause-leads
-returns-clause-leads g c = leads_applied g.L.Analysis.meaning c.args.bench.now c.apply-applied.new.bench c.is_formed.ensures.context.holds c.apply-applied.ensures.stays
+returns-clause-leads g c = leads_applied g.L.Analysis.meaning c.apply-applied.result c.args.bench.now c.apply-applied.new.bench c.is_formed.ensures.context.holds c.apply-applied.ensures.stays c.apply-applied.ensures.journal

@@ -1,9 +1,9 @@
 use Rattle.std.proofs.Common.{ap, inl, refl, sym, ◌∙◌}
 use Rattle.conversion_base.specs.Lists.{edits_meaning}
 use Rattle.conversion_base.specs.Rewrites.{carried_out}
-use Rattle.patterns_indexed.specs.Applied.{limit_reason}
-use Rattle.patterns_indexed.specs.Held.{module_held}
-use Rattle.patterns_indexed.proofs.Carrying.{limited, unlimited}
+use Rattle.patterns.specs.Applied.{limit_reason}
+use Rattle.patterns.specs.Held.{module_held}
+use Rattle.patterns.proofs.Carrying.{limited, unlimited}
 use Rattle.conversion.proofs.Seen.{leads_along, made_so, refused_so, same_module, stay, wanted}
 use Rattle.conversion.proofs.bench.carry.Goals as goal
 
@@ -21,10 +21,10 @@ returns-in-Ok-clause-answers g c =
     made_so (carried_out (edits_meaning c.args.bench.now.desk.ctx c.args.edits.now) (module_held c.args.bench.now.desk)) c.args.bench.now c.carry_whole-carried.new.bench (unlimited (edits_meaning c.args.bench.now.desk.ctx c.args.edits.now) (module_held c.args.bench.now.desk) 1 c.requires.one due) c.in-Ok.ensures.ok
 
 pub returns-in-Ok-clause-leads : goal.returns-in-Ok-clause-leads
-returns-in-Ok-clause-leads g c = leads_along g.L.Analysis.meaning c.args.bench.now c.carry_whole-carried.new.bench c.is_formed.ensures.context.holds c.carry_whole-carried.ensures.along
+returns-in-Ok-clause-leads g c = leads_along g.L.Analysis.meaning c.carry_whole-carried.result c.args.bench.now c.carry_whole-carried.new.bench c.is_formed.ensures.context.holds c.carry_whole-carried.ensures.along c.carry_whole-carried.ensures.journal
 
 pub returns-in-Err-clause-answers : goal.returns-in-Err-clause-answers
 returns-in-Err-clause-answers g c = (wanted (carried_out (edits_meaning c.args.bench.now.desk.ctx c.args.edits.now) (module_held c.args.bench.now.desk)) c.carry_whole-carried.new.bench.desk.ctx _ (inl refl), c.in-Err.ensures.err)
 
 pub returns-in-Err-clause-leads : goal.returns-in-Err-clause-leads
-returns-in-Err-clause-leads g c = leads_along g.L.Analysis.meaning c.args.bench.now c.carry_whole-carried.new.bench c.is_formed.ensures.context.holds c.carry_whole-carried.ensures.along
+returns-in-Err-clause-leads g c = leads_along g.L.Analysis.meaning c.carry_whole-carried.result c.args.bench.now c.carry_whole-carried.new.bench c.is_formed.ensures.context.holds c.carry_whole-carried.ensures.along c.carry_whole-carried.ensures.journal

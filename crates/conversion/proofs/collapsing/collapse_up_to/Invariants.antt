@@ -1,5 +1,5 @@
 use Rattle.conversion_base.specs.Listing.{HaveCasts}
-use Rattle.conversion_casts.specs.Walks.{Walked}
+use Rattle.conversion.specs.Walks.{Walked}
 use Rattle.conversion.specs.States.{Leads}
 use Rattle.conversion.proofs.Turns.{Collapsing}
 use Rattle.conversion.proofs.collapsing.collapse_up_to.Given as goal
@@ -7,7 +7,7 @@ use Rattle.conversion.proofs.collapsing.collapse_up_to.Given as goal
 abbrev pub invariant-casts : goal.invariant-casts
 invariant-casts g l =
     Collapsing l.most (g.B.Rewriting.state l.initial.bench) l.left (g.B.Rewriting.state l.bench)
-    × Leads g.B.Rewriting.state g.B.Rewriting.led l.initial.bench l.bench
+    × Leads g.B.Rewriting.state g.B.Rewriting.desk g.B.Rewriting.led l.initial.bench l.bench
     × HaveCasts l.ops (g.B.Rewriting.state l.bench).held.tree
     × Walked l.ops l.walk.passed l.walk.again.keys (g.B.Rewriting.state l.bench).held
 

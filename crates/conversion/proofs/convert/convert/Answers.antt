@@ -1,10 +1,12 @@
+use Rattle.conversion_base.specs.Conversion.{conversion_of}
 use Rattle.conversion_base.specs.Targets.{aim_of}
+use Rattle.conversion.proofs.Noting.{noted_or_left}
 use Rattle.conversion.proofs.Replied.{converts_goes}
 use Rattle.conversion.proofs.convert.convert.Goals as goal
 
 pub returns-clause-does : goal.returns-clause-does
 returns-clause-does g c =
-    converts_goes g.L.Analysis.meaning (aim_of c.args.bench.now.desk.ctx c.args.target.now) c.args.bench.now c.convert_with.new.bench c.convert_with.ensures.leads.marks c.led_benches_are_kept.ensures.ages c.convert_with.result c.convert_with.ensures.converts
+    converts_goes g.L.Analysis.meaning (conversion_of (aim_of c.args.bench.now.desk.ctx c.args.target.now)) c.args.bench.now c.convert_with.new.bench c.convert_with.ensures.leads.marks c.led_benches_are_kept.ensures.ages c.convert_with.result c.convert_with.ensures.converts
     (c.convert_with.ensures.leads.told c.is_formed.ensures.context.holds).1
 
 pub returns-clause-converts : goal.returns-clause-converts
@@ -18,3 +20,6 @@ returns-clause-grows g c = c.convert_with.ensures.leads.grows
 
 pub returns-clause-led : goal.returns-clause-led
 returns-clause-led g c = (c.convert_with.ensures.leads.told c.is_formed.ensures.context.holds).1
+
+pub returns-clause-journal : goal.returns-clause-journal
+returns-clause-journal g c = noted_or_left c.convert_with.result c.args.bench.now.desk c.convert_with.new.bench.desk c.convert_with.ensures.leads.noted c.convert_with.ensures.left

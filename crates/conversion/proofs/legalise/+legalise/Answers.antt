@@ -1,14 +1,21 @@
-use Rattle.std.proofs.Common.{rules, arith, false, ◌≡◌, ◌∙◌, sym, subst, true, ◌<◌, ℕ, List, slice_index_or, Ok, Err}
+use Rattle.std.proofs.Common.{rules, arith, false, ◌≡◌, ◌∙◌, refl, sym, subst, true, ◌<◌, ℕ, List, slice_index_or, Ok, Err}
+use Rattle.patterns_base.specs.declared.rule.Rule.TheVariants.{EraseDead}
 use Rattle.conversion_base.specs.Rewrites.{rewrite_of}
 use Rattle.conversion_base.specs.Legalization.{Outcome, after_rule as rule_outcome, behind, each_of, legalization_of, made_since, standing}
 use Rattle.conversion.specs.States.{Applied, Comes, ComesBehind}
-use Rattle.conversion_base.specs.Targets.{Aim, IsAimIn, aim_of, is_for_conversion}
+use Rattle.conversion_base.specs.Rule.{Rule}
+use Rattle.conversion_base.specs.RuleNames.{is_converting}
+use Rattle.conversion_base.specs.Targets.{Aim, IsAimIn, aim_of}
 use Rattle.conversion.proofs.Aims.{aim_known, aim_stays}
 use Rattle.conversion.proofs.Leading.{leads_more}
 use Rattle.conversion_base.proofs.Makes.{rules_make}
 use Rattle.conversion.proofs.Rising.{few_told, rises_legalization}
-use Rattle.conversion.proofs.Trying.{Trying, applied, goes_down, leads_whole, made_some, making_fails, making_more, making_stops, is_not, not_is, rest_is, tried_whole, trying_more, trying_rule, trying_stops, trying_well}
+use Rattle.conversion.proofs.Trying.{Trying, applied, goes_down, leads_whole, made_some, making_fails, making_more, making_stops, is_not, not_is, rest_at, tried_whole, trying_more, trying_rule, trying_stops, trying_well}
 use Rattle.conversion.proofs.legalise.+legalise.Goals as goal
+
+-- the first of a list that isn't empty
+abbrev first : List Rule → Rule
+first xs = slice_index_or xs 0 EraseDead
 
 pub after_rule-each_made-requires : goal.after_rule-each_made-requires
 after_rule-each_made-requires g t c κs within =
@@ -56,7 +63,7 @@ each_made-returns-then-not-tried-clause-comes g t c =
 
 pub each_made-returns-then-not-tried-clause-leads : goal.each_made-returns-then-not-tried-clause-leads
 each_made-returns-then-not-tried-clause-leads g t c =
-    leads_more g.B.Rewriting.state g.B.Rewriting.led g.B.Rewriting.led_more c.args.bench.now c.made.bench c.legalise.new.bench c.made.invariant.1 c.in-Ok.ensures.leads
+    leads_more g.B.Rewriting.state g.B.Rewriting.desk g.B.Rewriting.led g.B.Rewriting.led_more c.args.bench.now c.made.bench c.legalise.new.bench c.made.invariant.1 c.in-Ok.ensures.leads
 
 pub each_made-overflow_add-count : goal.each_made-overflow_add-count
 each_made-overflow_add-count g t c =
@@ -98,7 +105,7 @@ each_made-made-preserved g t c =
     let few = few_told go (rises_legalization rules_make a c.requires.aim.rules c.args.below) here.held c.made.id c.in-Ok.tried next.held o (sym c.joined-tried.ensures.legal ∙ is_not c.joined-tried.result.legal c.if-not-tried.false) in (
       making_more go _ c.args.from c.made.id c.next_id-end.result here next c.made.count c.made.met c.in-Ok.tried c.joined-tried.result c.made-test.true c.made.invariant.0 o
           c.joined-tried.ensures.legal c.joined-tried.ensures.count c.joined-tried.ensures.met (is_not c.joined-tried.result.legal c.if-not-tried.false) few,
-      leads_more state g.B.Rewriting.led g.B.Rewriting.led_more c.args.bench.now c.made.bench c.legalise.new.bench c.made.invariant.1 c.in-Ok.ensures.leads,
+      leads_more state g.B.Rewriting.desk g.B.Rewriting.led g.B.Rewriting.led_more c.args.bench.now c.made.bench c.legalise.new.bench c.made.invariant.1 c.in-Ok.ensures.leads,
     )
 
 pub first_rule-try_rule-requires : goal.first_rule-try_rule-requires
@@ -108,9 +115,9 @@ first_rule-try_rule-requires g t c κs within =
     let here = state c.rules.bench in
     let xs = c.rules.rest.now in
     let go = legalization_of (aim_of start.things c.args.target.now) c.args.below in
-    let h = subst (λ (ys : List ℕ). Trying go c.args.op c.args.target.now.rules ys start here c.rules.met) (rest_is xs c.in-len1-up.len_at_least) c.rules.invariant.0 in
+    let h = subst (λ (ys : List Rule). Trying go c.args.op c.args.target.now.rules ys start here c.rules.met) (rest_at xs (first xs) EraseDead c.in-len1-up.len_at_least refl) c.rules.invariant.0 in
     let aim : IsAimIn here.things c.args.target.now = aim_known start.things here.things c.args.target.now c.rules.invariant.1.grows c.requires.aim in
-    let rule : is_for_conversion (slice_index_or xs 0 0) ≡ true = trying_rule go c.args.op c.args.target.now.rules start (slice_index_or xs 0 0) _ here c.rules.met h in
+    let rule : is_converting (first xs) ≡ true = trying_rule go c.args.op c.args.target.now.rules start (first xs) _ here c.rules.met h in
     search rules
 
 pub first_rule-returns-then-tried-clause-comes : goal.first_rule-returns-then-tried-clause-comes
@@ -120,10 +127,10 @@ first_rule-returns-then-tried-clause-comes g t c =
     let here = state c.rules.bench in
     let next = state c.try_rule.new.bench in
     let xs = c.rules.rest.now in
-    let r = slice_index_or xs 0 0 in
+    let r = first xs in
     let go = legalization_of (aim_of start.things c.args.target.now) c.args.below in
     let same = aim_stays start.things here.things c.args.target.now c.rules.invariant.1.grows c.requires.aim in
-    let h = subst (λ (ys : List ℕ). Trying go c.args.op c.args.target.now.rules ys start here c.rules.met) (rest_is xs c.in-len1-up.len_at_least) c.rules.invariant.0 in
+    let h = subst (λ (ys : List Rule). Trying go c.args.op c.args.target.now.rules ys start here c.rules.met) (rest_at xs (first xs) EraseDead c.in-len1-up.len_at_least refl) c.rules.invariant.0 in
     let o = subst (λ (a : Aim). Comes (rule_outcome (legalization_of a c.args.below) here.held (rewrite_of r here.held c.args.op)) (Ok c.in-Ok.tried) here next) same c.in-Ok.ensures.comes in
     trying_well go c.args.op c.args.target.now.rules start r _ here next c.rules.met c.in-Ok.tried c.joined-tried.result h o
     c.joined-tried.ensures.legal c.joined-tried.ensures.count c.joined-tried.ensures.met c.if-tried.true
@@ -135,10 +142,10 @@ first_rule-returns-in-Err-clause-comes g t c =
     let here = state c.rules.bench in
     let next = state c.try_rule.new.bench in
     let xs = c.rules.rest.now in
-    let r = slice_index_or xs 0 0 in
+    let r = first xs in
     let go = legalization_of (aim_of start.things c.args.target.now) c.args.below in
     let same = aim_stays start.things here.things c.args.target.now c.rules.invariant.1.grows c.requires.aim in
-    let h = subst (λ (ys : List ℕ). Trying go c.args.op c.args.target.now.rules ys start here c.rules.met) (rest_is xs c.in-len1-up.len_at_least) c.rules.invariant.0 in
+    let h = subst (λ (ys : List Rule). Trying go c.args.op c.args.target.now.rules ys start here c.rules.met) (rest_at xs (first xs) EraseDead c.in-len1-up.len_at_least refl) c.rules.invariant.0 in
     let o = subst (λ (a : Aim). Comes (rule_outcome (legalization_of a c.args.below) here.held (rewrite_of r here.held c.args.op)) (Err c.in-Err.refusal) here next) same c.in-Err.ensures.comes in
     trying_stops go c.args.op c.args.target.now.rules start r _ here next c.rules.met c.in-Err.refusal h o
 
@@ -149,14 +156,14 @@ first_rule-rules-preserved g t c =
     let here = state c.rules.bench in
     let next = state c.try_rule.new.bench in
     let xs = c.rules.rest.now in
-    let r = slice_index_or xs 0 0 in
+    let r = first xs in
     let go = legalization_of (aim_of start.things c.args.target.now) c.args.below in
     let same = aim_stays start.things here.things c.args.target.now c.rules.invariant.1.grows c.requires.aim in
-    let h = subst (λ (ys : List ℕ). Trying go c.args.op c.args.target.now.rules ys start here c.rules.met) (rest_is xs c.in-len1-up.len_at_least) c.rules.invariant.0 in
+    let h = subst (λ (ys : List Rule). Trying go c.args.op c.args.target.now.rules ys start here c.rules.met) (rest_at xs (first xs) EraseDead c.in-len1-up.len_at_least refl) c.rules.invariant.0 in
     let o = subst (λ (a : Aim). Comes (rule_outcome (legalization_of a c.args.below) here.held (rewrite_of r here.held c.args.op)) (Ok c.in-Ok.tried) here next) same c.in-Ok.ensures.comes in (
       trying_more go c.args.op c.args.target.now.rules start r _ here next c.rules.met c.in-Ok.tried c.joined-tried.result h o
           c.joined-tried.ensures.legal c.joined-tried.ensures.met c.if-tried.false,
-      leads_more state g.B.Rewriting.led g.B.Rewriting.led_more c.args.bench.now c.rules.bench c.try_rule.new.bench c.rules.invariant.1 c.in-Ok.ensures.leads,
+      leads_more state g.B.Rewriting.desk g.B.Rewriting.led g.B.Rewriting.led_more c.args.bench.now c.rules.bench c.try_rule.new.bench c.rules.invariant.1 c.in-Ok.ensures.leads,
     )
 
 pub legalise-returns-clause-comes : goal.legalise-returns-clause-comes
@@ -177,5 +184,17 @@ try_rule-returns-clause-comes g t c =
 pub try_rule-returns-clause-leads : goal.try_rule-returns-clause-leads
 try_rule-returns-clause-leads g t c =
     let state = g.B.Rewriting.state in
-    leads_whole state g.B.Rewriting.led g.B.Rewriting.led_more c.args.bench.now c.step.new.self c.after_rule-tried.new.bench c.close.new.bench c.in_default.ensures.ok c.step.ensures.led c.after_rule-tried.ensures.leads c.close.ensures.led
-    c.is_well.result c.close.ensures.closed
+    leads_whole state g.B.Rewriting.desk g.B.Rewriting.led g.B.Rewriting.led_more c.args.bench.now c.step.new.self c.after_rule-tried.new.bench c.close.new.bench c.in_default.ensures.ok c.step.ensures.led c.after_rule-tried.ensures.leads c.close.ensures.led
+    c.is_well.result c.close.ensures.closed c.step.ensures.none c.in_default.ensures.opened c.close.ensures.dropped
+
+pub after_rule-returns-in-Ok-true-clause-leads : goal.after_rule-returns-in-Ok-true-clause-leads
+after_rule-returns-in-Ok-true-clause-leads g t c = leads_more g.B.Rewriting.state g.B.Rewriting.desk g.B.Rewriting.led g.B.Rewriting.led_more c.args.bench.now c.apply.new.self c.each_made.new.bench c.apply.ensures.leads c.each_made.ensures.leads
+
+pub each_made-returns-in-Err-clause-leads : goal.each_made-returns-in-Err-clause-leads
+each_made-returns-in-Err-clause-leads g t c = leads_more g.B.Rewriting.state g.B.Rewriting.desk g.B.Rewriting.led g.B.Rewriting.led_more c.args.bench.now c.made.bench c.legalise.new.bench c.made.invariant.1 c.in-Err.ensures.leads
+
+pub first_rule-returns-then-tried-clause-leads : goal.first_rule-returns-then-tried-clause-leads
+first_rule-returns-then-tried-clause-leads g t c = leads_more g.B.Rewriting.state g.B.Rewriting.desk g.B.Rewriting.led g.B.Rewriting.led_more c.args.bench.now c.rules.bench c.try_rule.new.bench c.rules.invariant.1 c.in-Ok.ensures.leads
+
+pub first_rule-returns-in-Err-clause-leads : goal.first_rule-returns-in-Err-clause-leads
+first_rule-returns-in-Err-clause-leads g t c = leads_more g.B.Rewriting.state g.B.Rewriting.desk g.B.Rewriting.led g.B.Rewriting.led_more c.args.bench.now c.rules.bench c.try_rule.new.bench c.rules.invariant.1 c.in-Err.ensures.leads

@@ -29,11 +29,11 @@ decreases-each_made-made g l = l.end - l.id
 abbrev pub invariant-first_rule-rules : goal.invariant-first_rule-rules
 invariant-first_rule-rules g l =
     Trying (legalization_of (aim_of (g.B.Rewriting.state l.initial.bench).things l.target) l.below) l.op l.target.rules l.rest (g.B.Rewriting.state l.initial.bench) (g.B.Rewriting.state l.bench) l.met
-    × Leads g.B.Rewriting.state g.B.Rewriting.led l.initial.bench l.bench
+    × Leads g.B.Rewriting.state g.B.Rewriting.desk g.B.Rewriting.led l.initial.bench l.bench
 
 abbrev pub invariant-each_made-made : goal.invariant-each_made-made
 invariant-each_made-made g l =
     Making (legalization_of (aim_of (g.B.Rewriting.state l.initial.bench).things l.target) l.below)
     (behind 1 false (each_of (legalization_of (aim_of (g.B.Rewriting.state l.initial.bench).things l.target) l.below) (made_since l.from (g.B.Rewriting.state l.initial.bench).held) (g.B.Rewriting.state l.initial.bench).held))
     l.from l.id l.end (g.B.Rewriting.state l.bench) l.count l.met
-    × Leads g.B.Rewriting.state g.B.Rewriting.led l.initial.bench l.bench
+    × Leads g.B.Rewriting.state g.B.Rewriting.desk g.B.Rewriting.led l.initial.bench l.bench

@@ -4,6 +4,7 @@ use Rattle.conversion_base.specs.Conversion.{converted, in_turn, later_parts, le
 use Rattle.conversion.specs.States.{Ends}
 use Rattle.conversion_base.specs.Targets.{Aim, aim_of}
 use Rattle.conversion.proofs.Aims.{aim_known, aim_stays}
+use Rattle.conversion.proofs.Leading.{leads_more}
 use Rattle.conversion.proofs.Turns.{parts_fail, parts_go}
 use Rattle.conversion.proofs.parts.convert_parts.Goals as goal
 
@@ -33,3 +34,9 @@ returns-in-Err-reconcile-clause-ends g c =
     let same = aim_stays start.things mid.things c.args.target.now c.legalise_all.ensures.leads.grows c.requires.aim in
     parts_fail a (in_turn (legalised_at a) (ids start.held.tree) start.held) c.in-Ok.count mid.held c.in-Err-reconcile.fault last.things c.in-Ok.ensures.ends
     (subst (λ (b : Aim). Ends (later_parts b (converted mid.held 0)) (Err c.in-Err-reconcile.fault) last) same c.in-Err-reconcile.ensures.ends)
+
+pub returns-in-Ok-reconcile-clause-leads : goal.returns-in-Ok-reconcile-clause-leads
+returns-in-Ok-reconcile-clause-leads g c = leads_more g.B.Rewriting.state g.B.Rewriting.desk g.B.Rewriting.led g.B.Rewriting.led_more c.args.bench.now c.legalise_all.new.bench c.reconcile.new.bench c.legalise_all.ensures.leads c.reconcile.ensures.leads
+
+pub returns-in-Err-reconcile-clause-leads : goal.returns-in-Err-reconcile-clause-leads
+returns-in-Err-reconcile-clause-leads g c = leads_more g.B.Rewriting.state g.B.Rewriting.desk g.B.Rewriting.led g.B.Rewriting.led_more c.args.bench.now c.legalise_all.new.bench c.reconcile.new.bench c.legalise_all.ensures.leads c.reconcile.ensures.leads

@@ -4,6 +4,7 @@ use Rattle.ir_event.specs.Modules.{Module}
 use Rattle.conversion_base.specs.Conversion.{Ended, all_parts, given_up, has_no_cast}
 use Rattle.conversion.specs.States.{Converts}
 use Rattle.conversion_base.specs.Targets.{aim_of}
+use Rattle.conversion.proofs.Noting.{left_closed, left_none, left_same}
 use Rattle.conversion.proofs.Trying.{leads_whole}
 use Rattle.conversion.proofs.Turns.{converted_whole, kept_whole}
 use Rattle.conversion.proofs.parts.convert_with.Goals as goal
@@ -22,11 +23,23 @@ returns-clause-converts g c =
 pub returns-clause-leads : goal.returns-clause-leads
 returns-clause-leads g c =
     let state = g.B.Rewriting.state in
-    leads_whole state g.B.Rewriting.led g.B.Rewriting.led_more c.args.bench.now c.step.new.self c.convert_parts-made.new.bench c.close.new.bench c.in_default.ensures.ok c.step.ensures.led c.convert_parts-made.ensures.leads c.close.ensures.led
-    c.is_converted.result c.close.ensures.closed
+    leads_whole state g.B.Rewriting.desk g.B.Rewriting.led g.B.Rewriting.led_more c.args.bench.now c.step.new.self c.convert_parts-made.new.bench c.close.new.bench c.in_default.ensures.ok c.step.ensures.led c.convert_parts-made.ensures.leads c.close.ensures.led
+    c.is_converted.result c.close.ensures.closed c.step.ensures.none c.in_default.ensures.opened c.close.ensures.dropped
 
 pub returns-clause-none : goal.returns-clause-none
 returns-clause-none g c =
     let state = g.B.Rewriting.state in
     kept_whole (λ (m : Module). has_no_cast m.tree ≡ true) c.convert_parts-made.result (state c.args.bench.now) (state c.step.new.self) (state c.convert_parts-made.new.bench) (state c.close.new.bench)
     c.in_default.ensures.ok c.convert_parts-made.ensures.leads.marks c.convert_parts-made.ensures.none c.is_converted.result c.is_converted.ensures c.close.ensures.closed
+
+pub returns-then-not-is_accepted-clause-left : goal.returns-then-not-is_accepted-clause-left
+returns-then-not-is_accepted-clause-left g c = left_none (g.B.Rewriting.desk c.args.bench.now)
+
+pub returns-in-Err-clause-left : goal.returns-in-Err-clause-left
+returns-in-Err-clause-left g c = left_same _ _ c.in-Err.ensures.left
+
+pub returns-clause-left : goal.returns-clause-left
+returns-clause-left g c =
+    let desk = g.B.Rewriting.desk in
+    left_closed (desk c.args.bench.now) (desk c.step.new.self) (desk c.convert_parts-made.new.bench) (desk c.close.new.bench) c.step.ensures.none c.in_default.ensures.opened c.convert_parts-made.ensures.leads.noted
+    c.convert_parts-made.result c.is_converted.result c.is_converted.ensures c.close.ensures.dropped

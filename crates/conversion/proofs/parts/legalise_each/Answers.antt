@@ -23,7 +23,7 @@ returns-in-Err-clause-ends g c =
     turning_stops (legalised_at (aim_of start.things c.args.target.now)) c.args.ops.now start c.ops.rest.now c.op-item.result c.ops.count here next c.in-Err.fault c.in-len1-up.len_at_least c.op-item.is c.ops.invariant.0 o
 
 pub returns-in-Err-clause-leads : goal.returns-in-Err-clause-leads
-returns-in-Err-clause-leads g c = leads_more g.B.Rewriting.state g.B.Rewriting.led g.B.Rewriting.led_more c.args.bench.now c.ops.bench c.legalise_at.new.bench c.ops.invariant.2 c.in-Err.ensures.leads
+returns-in-Err-clause-leads g c = leads_more g.B.Rewriting.state g.B.Rewriting.desk g.B.Rewriting.led g.B.Rewriting.led_more c.args.bench.now c.ops.bench c.legalise_at.new.bench c.ops.invariant.2 c.in-Err.ensures.leads
 
 pub overflow_add-count : goal.overflow_add-count
 overflow_add-count g c =
@@ -44,5 +44,5 @@ ops-preserved g c =
     let was = c.ops.invariant.1 in (
       turning_more (legalised_at (aim_of start.things c.args.target.now)) c.args.ops.now start c.ops.rest.now c.op-item.result c.ops.count c.in-Ok.more here next c.in-len1-up.len_at_least c.op-item.is c.ops.invariant.0 o,
       omega (arith, few, was),
-      leads_more state g.B.Rewriting.led g.B.Rewriting.led_more c.args.bench.now c.ops.bench c.legalise_at.new.bench c.ops.invariant.2 c.in-Ok.ensures.leads,
+      leads_more state g.B.Rewriting.desk g.B.Rewriting.led g.B.Rewriting.led_more c.args.bench.now c.ops.bench c.legalise_at.new.bench c.ops.invariant.2 c.in-Ok.ensures.leads,
     )

@@ -8,7 +8,7 @@ use Rattle.conversion.proofs.parts.legalise_each.Given as goal
 abbrev pub invariant-ops : goal.invariant-ops
 invariant-ops g l =
     Turning (legalised_at (aim_of (g.B.Rewriting.state l.initial.bench).things l.target)) l.ops (g.B.Rewriting.state l.initial.bench) l.rest l.count (g.B.Rewriting.state l.bench)
-    × (l.count + (g.B.Rewriting.state l.initial.bench).held.next ≤ (g.B.Rewriting.state l.bench).held.next) × Leads g.B.Rewriting.state g.B.Rewriting.led l.initial.bench l.bench
+    × (l.count + (g.B.Rewriting.state l.initial.bench).held.next ≤ (g.B.Rewriting.state l.bench).held.next) × Leads g.B.Rewriting.state g.B.Rewriting.desk g.B.Rewriting.led l.initial.bench l.bench
 
 abbrev pub decreases-ops : goal.decreases-ops
 decreases-ops g l = length l.rest

@@ -1,4 +1,4 @@
-use Rattle.patterns.specs.Interned.{IsFull}
+use Rattle.patterns.specs.runs.Interning.{IsFull}
 use Rattle.greedy.proofs.Changing.{changes}
 use Rattle.greedy.proofs.bench.canonicalize.Goals as goal
 

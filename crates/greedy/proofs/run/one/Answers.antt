@@ -1,8 +1,11 @@
 use Rattle.std.proofs.Common.{◌≡◌, refl, sym, ap, subst, ◌∙◌, true, false}
 use Rattle.patterns_base.specs.Rewrites.{none}
-use Rattle.patterns_base.specs.Canonicalization.{next_rewrite}
+use Rattle.patterns_base.specs.Canonicalization.{lowest, next_rewrite}
 use Rattle.greedy.specs.Outcomes.{Applied, Refuses}
 use Rattle.greedy.specs.Work.{Right, Rewritten}
+use Rattle.greedy.proofs.Law.{lowest_orderly}
+use Rattle.greedy.proofs.Rootless.{rootless}
+use Rattle.greedy.proofs.Noting.{noted_more}
 use Rattle.greedy.proofs.Scans.{took_none, said, said_none, said_refuses, all_none, rewrote}
 use Rattle.greedy.proofs.run.one.Goals as goal
 
@@ -16,7 +19,7 @@ renew-requires-clause-rewritten g c =
     let became = rewrote m x c.in-Ok-true.field-0 n c.in-Ok-true.field-0-test c.in-Ok-true.ensures.ok in
     let at : Rewritten x c.in-Some-preceding.before m n = record {
       distinct = g.R.Rewriting.distinct m c.is_formed.ensures;
-      orderly = g.R.Rewriting.orderly m x n c.is_formed.ensures became;
+      orderly = lowest_orderly m (g.R.Rewriting.distinct m c.is_formed.ensures) (g.R.Rewriting.below m c.is_formed.ensures) x n became;
       nearby = c.in-Some-preceding.ensures.some;
     } in
     subst (λ p. Rewritten x c.in-Some-preceding.before p n) (sym was) at
@@ -52,10 +55,10 @@ returns-clause-ok g c =
     subst (λ p. Applied (next_rewrite p) false p m) h (subst (λ a. Applied a false m m) (sym e) (refl, refl))
 
 pub returns-in-Err-renew-clause-onward : goal.returns-in-Err-renew-clause-onward
-returns-in-Err-renew-clause-onward g c = g.R.Rewriting.through _ _ _ c.waiting.invariant.1.1.1 c.lowest.ensures.onward
+returns-in-Err-renew-clause-onward g c = g.R.Rewriting.through _ _ _ c.waiting.invariant.1.1.1.0 c.lowest.ensures.onward
 
 pub returns-in-Err-clause-onward : goal.returns-in-Err-clause-onward
-returns-in-Err-clause-onward g c = g.R.Rewriting.through _ _ _ c.waiting.invariant.1.1.1 c.lowest.ensures.onward
+returns-in-Err-clause-onward g c = g.R.Rewriting.through _ _ _ c.waiting.invariant.1.1.1.0 c.lowest.ensures.onward
 
 pub waiting-preserved-in-Ok-false : goal.waiting-preserved-in-Ok-false
 waiting-preserved-in-Ok-false g c =
@@ -71,7 +74,40 @@ waiting-preserved-in-Ok-false g c =
         c.lowest.ensures.marks ∙ c.waiting.invariant.1.0,
         (
           subst (λ p. Right v.passed v.again.items p) h (took_none m c.in-Some.op w.passed w.again.items v.passed v.again.items r c.in-Some.ensures q.0),
-          g.R.Rewriting.through _ _ _ c.waiting.invariant.1.1.1 c.lowest.ensures.onward,
+          (
+            g.R.Rewriting.through _ _ _ c.waiting.invariant.1.1.1.0 c.lowest.ensures.onward,
+            noted_more _ _ _ c.waiting.invariant.1.1.1.1 c.lowest.ensures.journal,
+          ),
+        ),
+      ),
+    )
+
+pub returns-in-Ok-clause-journal : goal.returns-in-Ok-clause-journal
+returns-in-Ok-clause-journal g c = noted_more _ _ _ c.waiting.invariant.1.1.1.1 c.lowest.ensures.journal
+
+pub returns-in-Err-renew-clause-journal : goal.returns-in-Err-renew-clause-journal
+returns-in-Err-renew-clause-journal g c = noted_more _ _ _ c.waiting.invariant.1.1.1.1 c.lowest.ensures.journal
+
+pub returns-in-Err-clause-journal : goal.returns-in-Err-clause-journal
+returns-in-Err-clause-journal g c = noted_more _ _ _ c.waiting.invariant.1.1.1.1 c.lowest.ensures.journal
+
+pub returns-clause-journal : goal.returns-clause-journal
+returns-clause-journal g c = c.waiting.invariant.1.1.1.1
+
+pub waiting-preserved : goal.waiting-preserved
+waiting-preserved g c =
+    let m = g.R.Rewriting.held c.waiting.bench in
+    let w = c.waiting.work in
+    let v = c.take.new.work in
+    let h = c.waiting.invariant.0 in
+    let r : Right w.passed w.again.items m = subst (λ p. Right w.passed w.again.items p) (sym h) c.waiting.invariant.1.1.0 in
+    let none_there : lowest m c.in-Some.op ≡ none = subst (λ y. lowest m y ≡ none) (sym c.in_default-preceding.ensures.none) (rootless m (g.R.Rewriting.distinct m c.is_formed.ensures)) in (
+      h,
+      (
+        c.waiting.invariant.1.0,
+        (
+          subst (λ p. Right v.passed v.again.items p) h (took_none m c.in-Some.op w.passed w.again.items v.passed v.again.items r c.in-Some.ensures none_there),
+          c.waiting.invariant.1.1.1,
         ),
       ),
     )

@@ -1,5 +1,6 @@
 use Rattle.std.proofs.Common.{◌≡◌, ◌≤◌, ◌-◌}
 use Rattle.patterns_base.specs.Canonicalization.{canonical_from}
+use Rattle.patterns.specs.runs.Runs.{Noted}
 use Rattle.greedy.specs.Work.{Right}
 use Rattle.greedy.proofs.run.rewrites.Given as goal
 
@@ -9,7 +10,8 @@ invariant-rewrites g l =
     × ((l.count ≤ l.fn.limit)
     × ((g.R.Rewriting.marks l.bench ≡ g.R.Rewriting.marks l.fn.bench)
     × (Right l.work.passed l.work.again.items (g.R.Rewriting.held l.bench)
-    × g.R.Rewriting.onward l.fn.bench l.bench)))
+    × (g.R.Rewriting.onward l.fn.bench l.bench
+    × Noted (g.R.Rewriting.desk l.fn.bench) (g.R.Rewriting.desk l.bench)))))
 
 abbrev pub decreases-rewrites : goal.decreases-rewrites
 decreases-rewrites g l = l.fn.limit - l.count

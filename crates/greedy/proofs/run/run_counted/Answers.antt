@@ -2,6 +2,7 @@ use Rattle.std.proofs.Common.{◌∙◌, refl, sym, ap, inl, inr}
 use Rattle.patterns_base.specs.Canonicalization.{ended}
 use Rattle.greedy.specs.Outcomes.{count_of, ending_of}
 use Rattle.greedy.proofs.Comings.{limit_low, limit_high, limit_fits, from_start_of, limit_reason, stop_reason, stops_alike}
+use Rattle.greedy.proofs.Noting.{left_none, left_same, noted_back, noted_whole}
 use Rattle.greedy.proofs.run.run_counted.Goals as goal
 
 pub returns-then-limit-lt1-clause-refused : goal.returns-then-limit-lt1-clause-refused
@@ -33,3 +34,15 @@ pub returns-in-Err-rewritten-clause-onward : goal.returns-in-Err-rewritten-claus
 returns-in-Err-rewritten-clause-onward g c =
     let r = g.R.Rewriting in
     r.through _ _ _ (r.through _ _ _ c.in-Ok.ensures.onward c.rewritten.ensures.onward) c.rollback.ensures.onward
+
+pub returns-then-limit-lt1-clause-journal : goal.returns-then-limit-lt1-clause-journal
+returns-then-limit-lt1-clause-journal g c = left_none (g.R.Rewriting.desk c.args.bench.now)
+
+pub returns-in-Err-clause-journal : goal.returns-in-Err-clause-journal
+returns-in-Err-clause-journal g c = left_same _ _ c.in-Err.ensures.left
+
+pub returns-in-Ok-rewritten-clause-journal : goal.returns-in-Ok-rewritten-clause-journal
+returns-in-Ok-rewritten-clause-journal g c = noted_whole _ _ _ _ c.step.ensures.none c.in-Ok.ensures.opened c.rewritten.ensures.journal c.commit.ensures.dropped
+
+pub returns-in-Err-rewritten-clause-journal : goal.returns-in-Err-rewritten-clause-journal
+returns-in-Err-rewritten-clause-journal g c = noted_back _ _ _ _ c.step.ensures.none c.in-Ok.ensures.opened c.rewritten.ensures.journal c.rollback.ensures.dropped

@@ -1,7 +1,9 @@
+use Rattle.std.proofs.Common.{ap, option_map, sym, ◌∙◌}
 use Rattle.ir_types.proofs.Growth.{grows_trans}
 use Rattle.mlir_work_script.specs.Clauses.{clauses_of, target_of as said_target}
 use Rattle.conversion.specs.Converting.{command_aim}
-use Rattle.mlir_work_convert.proofs.Converted.{refused_converts, refused_does, then_converts, then_does, then_led}
+use Rattle.conversion.specs.Targets.{aim_of}
+use Rattle.mlir_work_convert.proofs.Converted.{refused_converts, refused_does, then_converts, then_does, then_journal, then_led, unaimed_converts, unaimed_does}
 use Rattle.mlir_work_convert.proofs.convert.convert.Goals as goal
 
 pub returns-in-Err-clause-does : goal.returns-in-Err-clause-does
@@ -19,6 +21,22 @@ returns-in-Err-clause-grows g c = c.target_of.ensures.interned.grows
 pub returns-in-Err-clause-led : goal.returns-in-Err-clause-led
 returns-in-Err-clause-led g c = (c.target_of.ensures.interned.led c.is_formed.ensures.context.holds).1
 
+pub returns-in_default-clause-does : goal.returns-in_default-clause-does
+returns-in_default-clause-does g c =
+    unaimed_does g.L.Analysis.meaning (command_aim (said_target c.args.full (clauses_of c.args.clauses.now))) c.args.bench.now c.target_of.new.bench c.target_of.ensures.interned c.led_benches_are_kept.ensures.ages
+    (ap (option_map (aim_of c.target_of.new.bench.desk.ctx)) (sym c.in_default.is) ∙ c.in-Ok.ensures.aim) (c.target_of.ensures.interned.led c.is_formed.ensures.context.holds).1
+
+pub returns-in_default-clause-converts : goal.returns-in_default-clause-converts
+returns-in_default-clause-converts g c =
+    unaimed_converts g.L.Analysis.meaning (command_aim (said_target c.args.full (clauses_of c.args.clauses.now))) c.args.bench.now c.target_of.new.bench c.target_of.ensures.interned
+    (ap (option_map (aim_of c.target_of.new.bench.desk.ctx)) (sym c.in_default.is) ∙ c.in-Ok.ensures.aim)
+
+pub returns-in_default-clause-grows : goal.returns-in_default-clause-grows
+returns-in_default-clause-grows g c = c.target_of.ensures.interned.grows
+
+pub returns-in_default-clause-led : goal.returns-in_default-clause-led
+returns-in_default-clause-led g c = (c.target_of.ensures.interned.led c.is_formed.ensures.context.holds).1
+
 pub returns-clause-does : goal.returns-clause-does
 returns-clause-does g c =
     then_does g.L.Analysis.meaning (command_aim (said_target c.args.full (clauses_of c.args.clauses.now))) c.args.bench.now c.target_of.new.bench c.target_of.ensures.interned c.convert.new.bench _ c.in-Ok.ensures.aim c.convert.result
@@ -35,3 +53,13 @@ returns-clause-grows g c = grows_trans c.args.bench.now.desk.ctx c.target_of.new
 pub returns-clause-led : goal.returns-clause-led
 returns-clause-led g c =
     then_led g.L.Analysis.meaning (command_aim (said_target c.args.full (clauses_of c.args.clauses.now))) c.args.bench.now c.target_of.new.bench c.target_of.ensures.interned c.convert.new.bench c.is_formed.ensures.context.holds c.convert.ensures.led
+
+pub returns-in-Err-clause-journal : goal.returns-in-Err-clause-journal
+returns-in-Err-clause-journal g c = c.target_of.ensures.interned.left
+
+pub returns-in_default-clause-journal : goal.returns-in_default-clause-journal
+returns-in_default-clause-journal g c = c.target_of.ensures.interned.left
+
+pub returns-clause-journal : goal.returns-clause-journal
+returns-clause-journal g c =
+    then_journal g.L.Analysis.meaning (command_aim (said_target c.args.full (clauses_of c.args.clauses.now))) c.args.bench.now c.target_of.new.bench c.target_of.ensures.interned c.convert.result c.convert.new.bench c.convert.ensures.journal

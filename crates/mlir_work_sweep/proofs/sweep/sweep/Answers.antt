@@ -1,7 +1,8 @@
-use Rattle.std.proofs.Common.{◌≡◌, [], length, reverse, true, false, Ok, Err, rules}
+use Rattle.std.proofs.Common.{◌≡◌, refl, [], length, reverse, true, false, Ok, Err, rules}
+use Rattle.rewriter.proofs.Noted.{keeps_left, recorded_none}
 use Rattle.rewriter.proofs.Together.{IsBegun, begun_held}
 use Rattle.mlir_work_sweep.proofs.Order.{refused_for}
-use Rattle.mlir_work_sweep.proofs.Sweeping.{sweep_unbegun, sweep_goes, sweep_undone, swept_in, swept_led}
+use Rattle.mlir_work_sweep.proofs.Sweeping.{sweep_unbegun, sweep_goes, sweep_undone, swept_back, swept_in, swept_journaled, swept_led}
 use Rattle.mlir_work_sweep.proofs.sweep.sweep.Goals as goal
 
 pub returns-in-Err-clause-does : goal.returns-in-Err-clause-does
@@ -41,3 +42,18 @@ returns-clause-refused g c =
     let begun : IsBegun g.L.Analysis.meaning c.args.bench.now c.step.new.self = record { ctx = c.step.ensures.ctx; goes = c.in_default.ensures.does; led = c.step.ensures.led } in
     let is = swept_in c.in-Ok.ops.items c.world.result.now.ctx c.args.bench.now.desk.ctx c.world.result.now.store c.args.bench.now.desk.store c.world.ensures.ctx c.world.ensures.store c.in-Ok.ensures.ok in
     refused_for c.in-Ok.ops.items c.in-Err-erase_each.refusal c.args.bench.now.desk c.step.new.self.desk c.erase_each.new.bench.desk c.is_formed.ensures.formed.distinct is (begun_held g.L.Analysis.meaning c.args.bench.now c.step.new.self begun) c.in-Err-erase_each.ensures.erases
+
+pub returns-in-Err-clause-journal : goal.returns-in-Err-clause-journal
+returns-in-Err-clause-journal g c = recorded_none c.args.bench.now.desk
+
+pub returns-in-Err-step-clause-journal : goal.returns-in-Err-step-clause-journal
+returns-in-Err-step-clause-journal g c = keeps_left g.L.Analysis.meaning c.args.bench.now c.step.new.self c.in-Err-step.ensures.err
+
+pub returns-in-Ok-erase_each-clause-journal : goal.returns-in-Ok-erase_each-clause-journal
+returns-in-Ok-erase_each-clause-journal g c =
+    swept_journaled g.L.Analysis.meaning c.led_benches_are_kept.ensures.more (reverse c.in-Ok.ops.items) c.args.bench.now c.step.new.self c.erase_each.new.bench c.finish.new.bench c.is_formed.ensures.context.holds c.is_formed.ensures.none
+    c.in_default.ensures.ok c.step.ensures.untold c.in-Ok-erase_each.ensures.erases c.in-Ok-erase_each.ensures.journal c.finish.ensures.finished (c.finish.ensures.untold refl)
+
+pub returns-clause-journal : goal.returns-clause-journal
+returns-clause-journal g c =
+    swept_back c.args.bench.now.desk c.step.new.self.desk c.erase_each.new.bench.desk c.finish-in-Err-erase_each.new.bench.desk c.is_formed.ensures.none c.in_default.ensures.ok c.in-Err-erase_each.ensures.noted c.finish-in-Err-erase_each.ensures.finished

@@ -1,13 +1,13 @@
 use Rattle.std.proofs.Common.{◌∙◌, ap}
 use Rattle.ir_event.specs.Modules.{module_in}
 use Rattle.patterns_base.specs.Canonicalization.{first_rule}
-use Rattle.patterns_makes.proofs.of_runs.Carrying.{none_left}
+use Rattle.patterns_runs.proofs.Carrying.{none_left}
 use Rattle.patterns.specs.Lowest.{greedy}
 use Rattle.patterns.proofs.Firsts.{none_first}
 use Rattle.patterns.proofs.likely.likely.Goals as goal
 
 pub returns-then-is_likely : goal.returns-then-is_likely
-returns-then-is_likely c = (c.rules.invariant.1, c.rules.invariant.0)
+returns-then-is_likely c = c.rules.invariant
 
 pub returns : goal.returns
-returns c = c.rules.invariant.0 ∙ ap (λ z. first_rule (greedy z) (module_in c.args.world.now) c.args.op) (none_left c.rules.rest.now c.in_default.len_below) ∙ none_first (module_in c.args.world.now) c.args.op
+returns c = c.rules.invariant ∙ ap (λ z. first_rule (greedy z) (module_in c.args.world.now) c.args.op) (none_left c.rules.rest.now c.in_default.len_below) ∙ none_first (module_in c.args.world.now) c.args.op

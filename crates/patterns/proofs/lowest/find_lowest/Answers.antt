@@ -2,11 +2,10 @@ use Rattle.std.proofs.Common.{◌∙◌, ap, sym}
 use Rattle.ir_types.specs.Terms.{name_term}
 use Rattle.ir_event.specs.Modules.{module_in}
 use Rattle.patterns_base.specs.Rules.{rules_for}
-use Rattle.patterns_plans.specs.Reads.{head_in}
+use Rattle.patterns_reads.specs.Reads.{head_in}
 use Rattle.patterns.proofs.Firsts.{none_lowest}
 use Rattle.patterns.proofs.Lowering.{row_suffices, none_first_lowest, first_lowest}
 use Rattle.patterns.proofs.Planned.{none_there, none_front, none_clean}
-use Rattle.patterns.proofs.Written.{row_written}
 use Rattle.patterns.proofs.lowest.find_lowest.Goals as goal
 
 pub returns-in_default : goal.returns-in_default
@@ -20,14 +19,8 @@ returns-then-not-branch c =
     none_lowest (module_in c.args.world.now) c.args.op
     (λ r. none_clean r (module_in c.args.world.now) c.args.op (head_in c.args.world.now.ctx c.in-Some.node) _ c.in-Some.ensures.node c.in_ok-is_clean.ensures c.if-not-branch.true)
 
-pub first_plan-requires-clause-clean : goal.first_plan-requires-clause-clean
-first_plan-requires-clause-clean c = sym c.in_ok-is_clean.ensures ∙ c.if-not-branch.false
-
-pub first_plan-requires-clause-written : goal.first_plan-requires-clause-written
-first_plan-requires-clause-written c = c.in-Some-likely.ensures.0
-
-pub likely-requires-clause-written : goal.likely-requires-clause-written
-likely-requires-clause-written c = row_written c.rules_of-listed.result.now _ (c.rules_of-listed.ensures c.args.world.now.ctx c.sound.ensures)
+pub first_made-requires-clause-clean : goal.first_made-requires-clause-clean
+first_made-requires-clause-clean c = sym c.in_ok-is_clean.ensures ∙ c.if-not-branch.false
 
 pub returns-in_default-likely : goal.returns-in_default-likely
 returns-in_default-likely c =
@@ -39,12 +32,12 @@ pub returns-in-None : goal.returns-in-None
 returns-in-None c =
     none_first_lowest c.args.world.now c.args.op c.in-Some-front.front c.in-Some-likely.rules.now
     ((row_suffices c.only_listed_rules_apply.ensures.lowest (module_in c.args.world.now) c.args.op (head_in c.args.world.now.ctx c.in-Some.node) c.in-Some.ensures.node c.rules_of-listed.result.now
-    (c.rules_of-listed.ensures c.args.world.now.ctx c.sound.ensures ∙ ap (λ n. rules_for (name_term c.args.world.now.ctx n)) c.name.ensures)) ∙ c.in-Some-likely.ensures.1)
+    (c.rules_of-listed.ensures c.args.world.now.ctx c.sound.ensures ∙ ap (λ n. rules_for (name_term c.args.world.now.ctx n)) c.name.ensures)) ∙ c.in-Some-likely.ensures)
     _ c.in_ok-rule.ensures c.in-None.is
 
 pub returns-in-Some-2 : goal.returns-in-Some-2
 returns-in-Some-2 c =
     first_lowest c.args.world.now c.args.op c.in-Some-front.front c.in-Some-likely.rules.now
     ((row_suffices c.only_listed_rules_apply.ensures.lowest (module_in c.args.world.now) c.args.op (head_in c.args.world.now.ctx c.in-Some.node) c.in-Some.ensures.node c.rules_of-listed.result.now
-    (c.rules_of-listed.ensures c.args.world.now.ctx c.sound.ensures ∙ ap (λ n. rules_for (name_term c.args.world.now.ctx n)) c.name.ensures)) ∙ c.in-Some-likely.ensures.1)
-    _ c.in-Some-2.rule c.in-Some-2.plan c.in_ok-rule.ensures c.in-Some-2.is
+    (c.rules_of-listed.ensures c.args.world.now.ctx c.sound.ensures ∙ ap (λ n. rules_for (name_term c.args.world.now.ctx n)) c.name.ensures)) ∙ c.in-Some-likely.ensures)
+    _ c.in-Some-2.rule c.in-Some-2.made c.in_ok-rule.ensures c.in-Some-2.is

@@ -1,10 +1,10 @@
 use Rattle.std.proofs.Common.{◌∙◌, refl, inl, subst}
 use Rattle.patterns_base.specs.Canonicalization.{lowest}
-use Rattle.patterns_makes.specs.runs.Held.{module_held}
+use Rattle.patterns_runs.specs.Held.{module_held}
 use Rattle.patterns.specs.Lowest.{IsLowest}
 use Rattle.patterns.specs.Planned.{planned_edits}
-use Rattle.patterns_makes.proofs.of_runs.Journals.{recorded_none}
-use Rattle.patterns.proofs.Applying.{gave, not_there, stopped}
+use Rattle.patterns_runs.proofs.Journals.{recorded_none}
+use Rattle.patterns.proofs.Applying.{gave, is_there, not_there, stopped}
 use Rattle.patterns.proofs.Carrying.{applied_none, journaled_none}
 use Rattle.patterns.proofs.Lowering.{none_held, fits_held, rule_held, lowest_due}
 use Rattle.patterns.proofs.lowest.lowest.Goals as goal
@@ -55,3 +55,15 @@ returns-then-not-in_tree-clause-journal g c = recorded_none c.args.bench.now.des
 
 pub returns-in_default-clause-journal : goal.returns-in_default-clause-journal
 returns-in_default-clause-journal g c = recorded_none c.args.bench.now.desk
+
+pub returns-in_default-clause-there : goal.returns-in_default-clause-there
+returns-in_default-clause-there g c gone = absurd (is_there c.world-world.result.now c.args.bench.now.desk c.world-world.ensures.ctx c.world-world.ensures.store c.args.op c.in_tree.result c.in_tree.ensures c.if-not-in_tree.false gone)
+
+pub returns-in_default-lowest-clause-there : goal.returns-in_default-lowest-clause-there
+returns-in_default-lowest-clause-there g c gone = absurd (is_there c.world-world.result.now c.args.bench.now.desk c.world-world.ensures.ctx c.world-world.ensures.store c.args.op c.in_tree.result c.in_tree.ensures c.if-not-in_tree.false gone)
+
+pub returns-in-Ok-carry_plan-clause-there : goal.returns-in-Ok-carry_plan-clause-there
+returns-in-Ok-carry_plan-clause-there g c gone = absurd (is_there c.world-world.result.now c.args.bench.now.desk c.world-world.ensures.ctx c.world-world.ensures.store c.args.op c.in_tree.result c.in_tree.ensures c.if-not-in_tree.false gone)
+
+pub returns-in-Err-clause-there : goal.returns-in-Err-clause-there
+returns-in-Err-clause-there g c gone = absurd (is_there c.world-world.result.now c.args.bench.now.desk c.world-world.ensures.ctx c.world-world.ensures.store c.args.op c.in_tree.result c.in_tree.ensures c.if-not-in_tree.false gone)

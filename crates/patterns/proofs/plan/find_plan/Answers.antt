@@ -1,12 +1,12 @@
 use Rattle.std.proofs.Common.{option_map, ap, sym, ◌∙◌}
 use Rattle.ir_event.specs.Modules.{module_in}
-use Rattle.patterns_plans.specs.Reads.{head_in}
-use Rattle.patterns_makes.specs.Plans.{plan_meaning}
+use Rattle.patterns_reads.specs.Reads.{head_in}
+use Rattle.patterns.specs.Planned.{made_edits}
 use Rattle.patterns.proofs.Planned.{none_there, none_front, none_clean}
 use Rattle.patterns.proofs.plan.find_plan.Goals as goal
 
-pub plan_at-requires-clause-clean : goal.plan_at-requires-clause-clean
-plan_at-requires-clause-clean c = sym c.in_ok-is_clean.ensures ∙ c.if-not-branch.false
+pub made_at-requires-clause-clean : goal.made_at-requires-clause-clean
+made_at-requires-clause-clean c = sym c.in_ok-is_clean.ensures ∙ c.if-not-branch.false
 
 pub returns-in_default-clause-edits : goal.returns-in_default-clause-edits
 returns-in_default-clause-edits c = none_there c.args.rule (module_in c.args.world.now) c.args.op c.in_default.ensures.node
@@ -19,7 +19,7 @@ returns-then-not-branch-clause-edits c =
     none_clean c.args.rule (module_in c.args.world.now) c.args.op (head_in c.args.world.now.ctx c.in-Some.node) _ c.in-Some.ensures.node c.in_ok-is_clean.ensures c.if-not-branch.true
 
 pub returns-in-Some-2-clause-edits : goal.returns-in-Some-2-clause-edits
-returns-in-Some-2-clause-edits c = ap (option_map (plan_meaning c.args.world.now.ctx (module_in c.args.world.now).next c.args.op c.in-Some-front.front)) (sym c.in-Some-2.is) ∙ c.in_ok-plan.ensures.edits
+returns-in-Some-2-clause-edits c = ap (option_map (made_edits c.args.world.now.ctx (module_in c.args.world.now).next c.args.op c.in-Some-front.front)) (sym c.in-Some-2.is) ∙ c.in_ok-made.ensures.edits
 
 pub returns-in-None-clause-edits : goal.returns-in-None-clause-edits
-returns-in-None-clause-edits c = ap (option_map (plan_meaning c.args.world.now.ctx (module_in c.args.world.now).next c.args.op c.in-Some-front.front)) (sym c.in-None.is) ∙ c.in_ok-plan.ensures.edits
+returns-in-None-clause-edits c = ap (option_map (made_edits c.args.world.now.ctx (module_in c.args.world.now).next c.args.op c.in-Some-front.front)) (sym c.in-None.is) ∙ c.in_ok-made.ensures.edits

@@ -1,7 +1,8 @@
 use Rattle.std.proofs.Common.{ap, sym, subst}
 use Rattle.ir_types.specs.Things.{Things}
 use Rattle.patterns_runs.specs.rewriter_bench.Benched.{Benched}
-use Rattle.patterns_lowering.specs.Interned.{IsWanting, as_full}
+use Rattle.patterns_runs.specs.Interning.{IsNoRoom}
+use Rattle.patterns_lowering.specs.Refused.{as_full}
 use Rattle.patterns_lowering.proofs.Interning.{interned_one, type_interned, type_wanting}
 use Rattle.patterns_lowering.proofs.intern.interned_type.Goals as goal
 
@@ -19,6 +20,6 @@ returns-in-Err-clause-interned g c = interned_one g.L.Analysis.meaning c.args.be
 
 pub returns-in-Err-clause-refused : goal.returns-in-Err-clause-refused
 returns-in-Err-clause-refused g c =
-    subst (IsWanting c.ty-made.new.self.desk.ctx) (sym c.as_full.ensures)
-    (subst (λ (t : Things). IsWanting t (as_full c.in-Err.refusal)) (sym (ap (λ (b : Benched _). b.desk.ctx) c.in-Err.ensures.err))
+    subst (IsNoRoom c.ty-made.new.self.desk.ctx) (sym c.as_full.ensures)
+    (subst (λ (t : Things). IsNoRoom t (as_full c.in-Err.refusal)) (sym (ap (λ (b : Benched _). b.desk.ctx) c.in-Err.ensures.err))
     (type_wanting c.args.bench.now.desk.ctx c.args.node c.in-Err.refusal c.requires.fine c.in-Err.ensures.refused))

@@ -1,7 +1,8 @@
 use Rattle.std.proofs.Common.{◌∙◌, ap, sym, subst}
 use Rattle.ir_types.specs.Things.{Things}
 use Rattle.patterns_runs.specs.rewriter_bench.Benched.{Benched}
-use Rattle.patterns_lowering.specs.Interned.{IsWanting, as_full}
+use Rattle.patterns_runs.specs.Interning.{IsNoRoom}
+use Rattle.patterns_lowering.specs.Refused.{as_full}
 use Rattle.ir_types.specs.Terms.{attr_term, type_term}
 use Rattle.patterns_lowering.proofs.Interning.{attr_fine, attr_interned, attr_lowered, attr_read, attr_wanting, interned_none, interned_one}
 use Rattle.patterns_lowering.proofs.intern.lowered_attr.Goals as goal
@@ -27,8 +28,8 @@ returns-in-Err-clause-interned g c = interned_one g.L.Analysis.meaning c.args.be
 pub returns-in-Err-clause-refused : goal.returns-in-Err-clause-refused
 returns-in-Err-clause-refused g c =
     let old = c.args.bench.now.desk.ctx in
-    subst (IsWanting c.attr-made.new.self.desk.ctx) (sym c.as_full.ensures)
-    (subst (λ (t : Things). IsWanting t (as_full c.in-Err.refusal)) (sym (ap (λ (b : Benched _). b.desk.ctx) c.in-Err.ensures.err))
+    subst (IsNoRoom c.attr-made.new.self.desk.ctx) (sym c.as_full.ensures)
+    (subst (λ (t : Things). IsNoRoom t (as_full c.in-Err.refusal)) (sym (ap (λ (b : Benched _). b.desk.ctx) c.in-Err.ensures.err))
     (attr_wanting old c.args.wide c.in-Some.value c.in-Err.refusal
     (attr_fine old c.args.attr c.args.wide c.in-Some.value c.is_formed.ensures.context.holds c.requires.known (attr_read old c.world.result.now.ctx c.args.attr c.index_bits.result c.in-Some.value c.world.ensures.ctx c.index_bits.ensures c.in-Some.is) c.requires.wide_is)
     c.in-Err.ensures.refused))

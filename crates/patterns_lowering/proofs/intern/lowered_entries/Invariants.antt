@@ -3,14 +3,14 @@ use Rattle.ir_types.specs.Things.{IsType}
 use Rattle.ir_types.specs.Sound.{Holds}
 use Rattle.ir_types.specs.Terms.{type_term}
 use Rattle.patterns_base.specs.Made.{i64}
-use Rattle.patterns_lowering.specs.Interned.{Interned}
+use Rattle.patterns_runs.specs.Interning.{Added}
 use Rattle.patterns_lowering.specs.Lowered.{IsLowering}
 use Rattle.patterns_lowering.proofs.intern.lowered_entries.Given as goal
 
 abbrev pub invariant-entries : goal.invariant-entries
 invariant-entries g l = record {
   lowering : IsLowering l.bench.desk.ctx l.fn.entries l.rest l.lowered.items;
-  interned : Interned g.L.Analysis.meaning l.initial.bench l.bench;
+  interned : Added g.L.Analysis.meaning l.initial.bench l.bench;
   holds : Holds l.bench.desk.ctx;
   known : IsType l.bench.desk.ctx l.fn.wide;
   is : type_term l.bench.desk.ctx l.fn.wide ≡ i64;

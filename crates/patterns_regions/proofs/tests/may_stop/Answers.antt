@@ -3,14 +3,14 @@ use Rattle.ir_event.specs.Modules.{module_in}
 use Rattle.patterns_reads.specs.Reads.{head_in}
 use Rattle.patterns_reads.proofs.Cleaned.{known_not}
 use Rattle.patterns_regions.proofs.Bodies.{body_no_last, body_no_node}
-use Rattle.patterns_regions.proofs.Needed.{no_24, no_24_body, no_24_shape}
+use Rattle.patterns_regions.proofs.Needed.{no_stop_loop, no_stop_loop_body, no_stop_loop_shape}
 use Rattle.patterns_regions.proofs.Slices.{first_item}
 use Rattle.patterns_regions.proofs.tests.may_stop.Goals as goal
 
 pub returns-in_default : goal.returns-in_default
 returns-in_default c front e =
     let w = c.args.world.now in
-    no_24_body c.args.op (module_in w).tree front (body_no_last w.ctx c.args.op 0 w.store.module_of.tree c.in_default.ensures)
+    no_stop_loop_body c.args.op (module_in w).tree front (body_no_last w.ctx c.args.op 0 w.store.module_of.tree c.in_default.ensures)
 
 pub returns-in_default-shown : goal.returns-in_default-shown
 returns-in_default-shown c front e =
@@ -22,12 +22,12 @@ returns-in_default-operands c front e =
     let w = c.args.world.now in
     let k = ap length c.operands.ensures in
     let below = c.in_default-operands.len_below in
-    no_24_shape w.ctx c.args.op w.store.module_of.tree front w.formed.distinct c.in-Some.last c.in-Some.ensures (head_in w.ctx c.in-Some-shown.node) c.in-Some-shown.ensures.node (omega (arith, k, below))
+    no_stop_loop_shape w.ctx c.args.op w.store.module_of.tree front w.formed.distinct c.in-Some.last c.in-Some.ensures (head_in w.ctx c.in-Some-shown.node) c.in-Some-shown.ensures.node (omega (arith, k, below))
 
 pub returns : goal.returns
 returns c front f =
     let w = c.args.world.now in
     let xs = c.operands.result.now in
     let v = c.condition-item.result in
-    no_24 w.ctx c.args.op w.store.module_of.tree front w.formed.distinct c.in-Some.last c.in-Some.ensures (head_in w.ctx c.in-Some-shown.node) c.in-Some-shown.ensures.node
+    no_stop_loop w.ctx c.args.op w.store.module_of.tree front w.formed.distinct c.in-Some.last c.in-Some.ensures (head_in w.ctx c.in-Some-shown.node) c.in-Some-shown.ensures.node
     v (take (length xs - 1) (drop 1 xs)) (sym c.operands.ensures ∙ first_item xs v _ c.in-len1-up.len_at_least c.condition-item.is) (known_not (module_in w).tree v _ c.is_constant.ensures f)

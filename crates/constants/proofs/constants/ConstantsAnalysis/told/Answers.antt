@@ -21,10 +21,10 @@ returns-else-not-follow-clause-looks c m step shows (inl held) =
     followed_looks w.ctx m (module_in w) (known_in c.args.self.now.table) c.args.view.looks c.follow.new.view.looks c.args.event step held.1.1 c.follow.ensures.looks
 returns-else-not-follow-clause-looks c m step shows (inr stale) = absurd (true≢false (sym stale ∙ c.if-self.false))
 
-pub returns-else-not-follow-clause-take : goal.returns-else-not-follow-clause-take
-returns-else-not-follow-clause-take c m take step held =
+pub returns-else-not-follow-clause-grown : goal.returns-else-not-follow-clause-grown
+returns-else-not-follow-clause-grown c m grown step held =
     let w = c.args.view.world.now in
-    (held.0, (step.after.distinct, followed_facts w.ctx m (module_in w) (c.follow.result ≡ true) (known_in c.args.self.now.table) (known_in c.follow.new.table) c.args.event step c.follow.ensures.followed (c.follow.ensures.take take) held.1.1))
+    (held.0, (step.after.distinct, followed_facts w.ctx m (module_in w) (c.follow.result ≡ true) (known_in c.args.self.now.table) (known_in c.follow.new.table) c.args.event step c.follow.ensures.followed (c.follow.ensures.grown grown) held.1.1))
 
 pub returns-then-not-follow-clause-looks : goal.returns-then-not-follow-clause-looks
 returns-then-not-follow-clause-looks c m step shows (inl held) =

@@ -1,10 +1,10 @@
 use Rattle.std.proofs.Common.{ap, inl, refl, subst, sym, ◌∙◌, List}
-use Rattle.patterns_indexed.specs.runs.Edit.{Edit as Coded}
+use Rattle.patterns.specs.runs.Edit.{Edit as Coded}
 use Rattle.conversion_base.specs.Lists.{AllFit, edits_meaning}
 use Rattle.conversion_base.specs.Rewrites.{Rewrite, carried_out}
 use Rattle.conversion_base.specs.Reconciling.{index_rewrite}
 use Rattle.conversion_base.specs.Makes.{made_by}
-use Rattle.patterns_indexed.specs.Held.{module_held}
+use Rattle.patterns.specs.Held.{module_held}
 use Rattle.conversion.specs.Benches.{seen}
 use Rattle.conversion.specs.States.{Answers}
 use Rattle.conversion.proofs.Seen.{answered_none, index_due, index_fits, index_gone, index_one, stay, wanted}

@@ -3,7 +3,7 @@ use Rattle.ir_event.specs.Modules.{module_in}
 use Rattle.conversion_base.specs.Rewrites.{Rewrite}
 use Rattle.conversion_base.specs.Reconciling.{collapse}
 use Rattle.conversion_base.proofs.Collapsing.{collapse_erased, collapse_none, collapse_rule}
-use Rattle.patterns_indexed.specs.Held.{module_held}
+use Rattle.patterns.specs.Held.{module_held}
 use Rattle.conversion.specs.Benches.{seen}
 use Rattle.conversion.specs.States.{Answers}
 use Rattle.conversion.proofs.Seen.{answered_none, same_module, stay}

@@ -1,5 +1,5 @@
 use Rattle.ir_event.specs.Modules.{module_in}
-use Rattle.patterns_indexed.specs.Held.{module_held}
+use Rattle.patterns.specs.Held.{module_held}
 use Rattle.conversion.proofs.Seen.{same_module}
 use Rattle.conversion.proofs.Walking.{gives_held}
 use Rattle.conversion.proofs.bench.BenchRewriting.givers.Goals as goal

@@ -1,6 +1,6 @@
 use Rattle.std.proofs.Common.{◌≡◌, rules}
 use Rattle.ir_store.specs.Calls.{after_shift}
-use Rattle.rewriter_journal.specs.Journals.{IsStoreOf}
+use Rattle.rewriter_laws.specs.Journals.{IsStoreOf}
 use Rattle.rewriter_desk.specs.Held.{Held}
 use Rattle.rewriter_desk.specs.Moves.{noted_as}
 use Rattle.rewriter_desk.proofs.Made.{Made, answered_exactly, shift_made, made_edited, made_good, tidy_if}

@@ -1,5 +1,5 @@
 use Rattle.std.proofs.Common.{arith}
-use Rattle.rewriter_journal.specs.Journals.{IsStoreOf}
+use Rattle.rewriter_laws.specs.Journals.{IsStoreOf}
 use Rattle.rewriter_desk.specs.Held.{Held}
 use Rattle.rewriter_desk.proofs.Outcomes.{release_done, release_good}
 use Rattle.rewriter_desk.proofs.Released.{some_given}

@@ -1,4 +1,4 @@
-use Rattle.rewriter_journal.specs.Journals.{IsStoreOf}
+use Rattle.rewriter_laws.specs.Journals.{IsStoreOf}
 use Rattle.rewriter_desk.specs.Held.{Held}
 use Rattle.rewriter_desk.proofs.Outcomes.{grow_done, grow_good}
 use Rattle.rewriter_desk.proofs.desk.Desk.ty.Goals as goal

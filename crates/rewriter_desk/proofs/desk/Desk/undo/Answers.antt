@@ -1,4 +1,4 @@
-use Rattle.rewriter_journal.specs.Journals.{IsStoreOf}
+use Rattle.rewriter_laws.specs.Journals.{IsStoreOf}
 use Rattle.rewriter_desk.specs.Held.{Held}
 use Rattle.rewriter_desk.proofs.Outcomes.{came_from, undo_done, undo_good}
 use Rattle.rewriter_desk.proofs.desk.Desk.undo.Goals as goal

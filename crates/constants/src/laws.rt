@@ -1,0 +1,15 @@
+//! Laws of what is known of operations' results. Each is a function that does nothing: its contract is the law.
+ghost use Rattle.std.specs.Prelude.{◌≡◌, ℕ, IsTrue};
+ghost use Rattle.ir_types.specs.Words.{is_isolated};
+ghost use Rattle.ir_tree.specs.Ids.{HasDistinctIds};
+ghost use Rattle.ir_tree.specs.Meaning.{Operation};
+ghost use Rattle.ir_tree.specs.Sites.{operands_visible};
+ghost use Rattle.constants.specs.Facts.{Facts, look, AreLocal};
+ghost use Rattle.constants.specs.Walk.{facts_of};
+
+/// What a walk in order finds agrees with each operation looked at alone, and nothing else does, where operations
+/// see their operands.
+pub fn the_walk_is_what_agrees_with_each_operation()
+    ensures agrees { (t : Operation) → HasDistinctIds t → IsTrue (operands_visible is_isolated t) → AreLocal (look t) (facts_of t) }
+    ensures alone { (t : Operation) (facts : Facts) → HasDistinctIds t → IsTrue (operands_visible is_isolated t) → AreLocal (look t) facts → (x : ℕ) → facts x ≡ facts_of t x }
+{}

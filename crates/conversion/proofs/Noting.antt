@@ -1,0 +1,49 @@
+-- What is noted, one call after another and under a mark.
+use Rattle.std.proofs.Common.{◌≡◌, ◌≢◌, refl, subst, [], ◌++◌, ℕ, Bool, true, false, Result, Ok, Err}
+use Rattle.std.specs.Prelude.{MatchResult, OnErr, is_ok}
+use Rattle.ir_types.specs.declared.refusal.Refusal.{Refusal}
+use Rattle.ir_event.specs.Listener.{Listener}
+use Rattle.rewriter.specs.Benched.{Benched, Keeps}
+use Rattle.rewriter.specs.Held.{Held}
+use Rattle.rewriter.specs.Moves.{Recorded}
+use Rattle.rewriter.specs.Rolling.{Dropped}
+use Rattle.rewriter.proofs.Noted.{recorded_left, recorded_more, recorded_none, recorded_undone, recorded_whole}
+use Rattle.rewriter.proofs.Together.{marked_on}
+use Rattle.patterns.specs.runs.Runs.{Noted}
+use Rattle.conversion.specs.declared.fault.Fault.{Fault}
+use Rattle.conversion.specs.States.{marked_desk}
+
+pub noted_none : (h : Held) → Noted h h
+noted_none h = ([], recorded_none h)
+
+pub noted_more : (a b c : Held) → Noted a b → Noted b c → Noted a c
+noted_more a b c h k = (h.0 ++ k.0, recorded_more h.0 k.0 a b c h.1.marks h.1 k.1)
+
+-- a call that is whole or not made at all
+pub noted_kept : {A B : Type 0} (meaning : B → Listener) (r : Result A Refusal) (a b : Benched B) → Keeps meaning r a b → Noted a.desk b.desk
+noted_kept meaning (Ok u) a b k = (k.0, k.2)
+noted_kept meaning (Err e) a b k = ([], k)
+
+-- nothing was noted
+pub left_none : (h : Held) → Recorded [] h h
+left_none h = recorded_none h
+
+pub left_same : (a b : Held) → b ≡ a → Recorded [] a b
+left_same a b same = recorded_left a b same
+
+-- under a mark that is dropped
+module _ (a b c d : Held) (none : a.marks ≡ [] → a.journal ≡ []) (begun : b ≡ marked_desk a) (h : Noted b c) where
+  pub noted_back : (c.marks ≢ [] → Dropped false c d) → Recorded [] a d
+  noted_back dropped = recorded_undone false a b c d begun h.1.marks h.0 h.1 (dropped (marked_on a b c begun h.1.marks)) none refl
+
+  pub noted_closed : (stays : Bool) → (c.marks ≢ [] → Dropped stays c d) → Noted a d
+  noted_closed true dropped = (h.0, recorded_whole true a b c d begun h.1.marks h.0 h.1 (dropped (marked_on a b c begun h.1.marks)) none refl)
+  noted_closed false dropped = ([], noted_back dropped)
+
+  pub left_closed : (r : Result ℕ Fault) (stays : Bool) → stays ≡ is_ok r → (c.marks ≢ [] → Dropped stays c d) → OnErr r (Recorded [] a d)
+  left_closed (Ok n) stays is dropped = tt
+  left_closed (Err f) stays is dropped = noted_back (subst (λ (s : Bool). c.marks ≢ [] → Dropped s c d) is dropped)
+
+pub noted_or_left : {A : Type 0} (r : Result A Fault) (a b : Held) → Noted a b → OnErr r (Recorded [] a b) → MatchResult r (λ _. Noted a b) (λ _. Recorded [] a b)
+noted_or_left (Ok u) a b n l = n
+noted_or_left (Err f) a b n l = l

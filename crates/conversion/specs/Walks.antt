@@ -1,0 +1,40 @@
+-- A walk over the casts of a module, in the order of a list.
+use Rattle.std.specs.Prelude.{◌≡◌, ◌⊎◌, ◌<◌, ℕ, List, Bool, true, not, ◌&&◌, eqb, Option, Some, None, slice_get}
+use Rattle.ir_tree.specs.Tree.{no_regions, head, regions}
+use Rattle.ir_tree.specs.Ids.{find}
+use Rattle.ir_tree.specs.Meaning.{Operation}
+use Rattle.ir_tree_laws.specs.Members.{In}
+use Rattle.ir_event.specs.Modules.{Module}
+use Rattle.patterns_base.specs.declared.rule.Rule.TheVariants.{CastBack}
+use Rattle.patterns_base.specs.Rewrites.{Rewrite, none, edits_of}
+use Rattle.conversion_base.specs.Reconciling.{collapse, is_cast}
+use Rattle.conversion.specs.Givers.{givers_of}
+use Rattle.conversion.specs.Waiting.{Took}
+
+-- whether operation x is a cast, and not the root
+abbrev pub is_inner : ℕ → Module → Bool
+is_inner x m = is_cast x m.tree && not (eqb (head m.tree).id x)
+
+-- where it is, casting back doesn't apply
+abbrev pub NoRule : ℕ → Module → Type 0
+NoRule x m = is_inner x m ≡ true → edits_of CastBack m x ≡ None
+
+-- no operation stands in operation x, and these give its operands
+abbrev pub Gives : List ℕ → ℕ → Operation → Type 0
+Gives gs x t = (o : Operation) → find x t ≡ Some o → (regions o ≡ no_regions) × (gs ≡ givers_of (head o).operands)
+
+-- of the places of a list so many were passed, and some of them are to be looked at again: no passed cast collapses, and
+-- each that isn't used is to be looked at again
+pub record Walked (xs : List ℕ) (passed : ℕ) (again : List ℕ) (m : Module) : Type 0 where
+  pub within : (q : ℕ) → In q again → q < passed
+  pub stuck : (q x : ℕ) → q < passed → slice_get xs q ≡ Some x → NoRule x m
+  pub settled : (q x : ℕ) → q < passed → slice_get xs q ≡ Some x → In q again ⊎ (collapse m x ≡ none)
+
+-- a walk from which place p was taken
+abbrev pub Taken : List ℕ → ℕ → List ℕ → ℕ → Module → Type 0
+Taken xs passed2 again2 p m = (passed : ℕ) × (again : List ℕ) × Walked xs passed again m × Took passed again passed2 again2 p
+
+-- what is taken away of the cast at a place
+abbrev pub collapse_at : Module → Option ℕ → Rewrite
+collapse_at m None = none
+collapse_at m (Some x) = collapse m x

@@ -1,3 +1,0 @@
-pub mod Givers
-pub mod Waiting
-pub mod Walks

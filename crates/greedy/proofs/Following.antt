@@ -1,0 +1,384 @@
+-- What comes behind an operation in pre-order.
+use Rattle.std.proofs.Common.{◌≡◌, refl, ap, sym, ◌∙◌, subst, ℕ, zero, suc, ◌+◌, ◌≤◌, ◌<◌, Bool, true, false, true≢false, cond, ◌||◌, eqb, eq-eqb, eqb-true, List, [], ◌∷◌, ◌++◌, append_assoc, arith, length, map, Option, Some, None, inl, inr}
+use Rattle.std.specs.Prelude.{option_map, option_and_then}
+use Rattle.std.specs.List.{list_any, IsDistinct}
+use Rattle.std.proofs.lemmas.Map.Keys.{IsDistinct-tail}
+use Rattle.ir_tree.specs.declared.place.Place.{Place}
+use Rattle.ir_tree.specs.Tree.{OpOf, op, RegionsOf, no_regions, region, RegionOf, empty, block, OpsOf, no_ops, next, head, regions, region_count}
+use Rattle.ir_tree.specs.Ids.{ids, regions_ids, region_ids, ops_ids, HasDistinctIds, has_id, find}
+use Rattle.ir_tree.specs.Places.{place_of, first_id as first_op}
+use Rattle.ir_tree.proofs.Returns.{absent_first}
+use Rattle.ir_tree.specs.Ids.{first_of}
+use Rattle.ir_store.specs.Nodes.{NodeOf, node_of, regions_arguments}
+use Rattle.ir_tree_laws.specs.Values.{region_at}
+use Rattle.ir_tree.specs.Tree.{ops_of}
+use Rattle.ir_tree_laws.specs.Reads.{ops_at, ops_in, last_id, id_before, prev_of, parent_of, precedes, comes_after}
+use Rattle.ir_tree_laws.specs.Stands.{StepOf, StandOf, stand_id, stand_in, place_in, stands, regions_stands, region_stands, ops_stands, stand_of}
+use Rattle.ir_tree_laws.specs.Members.{In}
+use Rattle.ir_tree_laws.proofs.Listed.{bool_cases, in_parts}
+use Rattle.ir_tree_laws.proofs.Readings.{step, stands_ids}
+use Rattle.ir_tree_laws.proofs.Members.{stand, member, stand_of_member, stand_found, joined_ops, within, ops_child, has_around}
+use Rattle.ir_tree_laws.proofs.Put.{child}
+use Rattle.ir_tree_laws.proofs.Neighbours.{prev_there}
+use Rattle.ir_tree_laws.proofs.Around.{around_there, place_of_member, member_of_place}
+use Rattle.ir_tree_laws.proofs.Values.{shape}
+use Rattle.greedy.specs.Following.{first_id, comes_next, following, regions_from, first_inside, behind, behind_of, height_of, HasFewRegions, count_of}
+
+there : ℕ → List ℕ → Bool
+there x xs = list_any (λ y. eqb y x) xs
+
+-- in a list without doubles, the one behind x
+next_first : (x : ℕ) (xs : List ℕ) → comes_next x (x ∷ xs) ≡ first_id xs
+next_first x xs = ap (λ b. cond b (first_id xs) (comes_next x xs)) (eq-eqb x x refl)
+
+list_later : (x : ℕ) (front back : List ℕ) → list_any (λ y. eqb y x) (front ++ x ∷ back) ≡ true
+list_later x [] back = ap (λ b. b || list_any (λ y. eqb y x) back) (eq-eqb x x refl)
+list_later x (y ∷ front) back = elim (bool_cases (eqb y x)) [
+  | inl e ↦ ap (λ b. b || list_any (λ z. eqb z x) (front ++ x ∷ back)) e
+  | inr e ↦ ap (λ b. b || list_any (λ z. eqb z x) (front ++ x ∷ back)) e ∙ list_later x front back
+]
+
+pub next_at : (x : ℕ) (front back : List ℕ) → IsDistinct eqb (front ++ x ∷ back) → comes_next x (front ++ x ∷ back) ≡ first_id back
+next_at x [] back d = next_first x back
+next_at x (y ∷ front) back d = elim (bool_cases (eqb y x)) [
+  | inl e ↦ absurd (true≢false (sym (list_later x front back) ∙ subst (λ z. list_any (λ v. eqb v z) (front ++ x ∷ back) ≡ false) (eqb-true y x e) (absent_first y (front ++ x ∷ back) d)))
+  | inr e ↦ ap (λ b. cond b (first_id (front ++ x ∷ back)) (comes_next x (front ++ x ∷ back))) e ∙ next_at x front back (IsDistinct-tail eqb y (front ++ x ∷ back) d)
+]
+
+append_none : (xs : List ℕ) → xs ++ [] ≡ xs
+append_none [] = refl
+append_none (x ∷ xs) = ap (λ l. x ∷ l) (append_none xs)
+
+-- the first of two lists
+pub first_joined : (xs ys : List ℕ) (y : ℕ) → first_id xs ≡ Some y → first_id (xs ++ ys) ≡ Some y
+first_joined [] ys y e = absurd cc
+first_joined (x ∷ xs) ys y e = e
+
+pub none_joined : (xs ys : List ℕ) → first_id xs ≡ None → first_id (xs ++ ys) ≡ first_id ys
+none_joined [] ys e = refl
+none_joined (x ∷ xs) ys e = absurd cc
+
+module _ {N T A : Type 0} where
+  from_more : (k : ℕ) (g : RegionOf N T A) (rs all : RegionsOf N T A) → regions_from k all ≡ region g rs → regions_from (k + 1) all ≡ rs
+  from_more zero g rs (region h os) e = cc
+  from_more zero g rs no_regions e = absurd cc
+  from_more (suc k) g rs no_regions e = absurd cc
+  from_more (suc k) g rs (region h os) e = let one : suc (k + 1) ≡ suc k + 1 = omega arith in subst (λ j. regions_from j (region h os) ≡ rs) one (from_more k g rs os e)
+
+  -- the ids of a tree, cut where what is inside an operation ends
+  abbrev Cut : List ℕ → StandOf N T A → Type 0
+  Cut all s = (front : List ℕ) × (all ≡ front ++ (ids s.here ++ behind s.path))
+
+  cut_more : (more xs : List ℕ) (s : StandOf N T A) → Cut xs s → Cut (more ++ xs) s
+  cut_more more xs s c = (more ++ c.0, ap (λ l. more ++ l) c.1 ∙ sym (append_assoc more c.0 (ids s.here ++ behind s.path)))
+
+  mutual
+    cut_op : (b : List (StepOf N T A)) (t : OpOf N T A) (s : StandOf N T A) → In s (stands b t) → Cut (ids t ++ behind b) s
+    cut_op b (op h rs) s (inl e) = ([], ap (λ (z : StandOf N T A). ids z.here ++ behind z.path) (sym e))
+    cut_op b (op h rs) s (inr k) = cut_more (h.id ∷ []) (regions_ids rs ++ behind b) s (cut_regions (op h rs) b 0 rs s refl k)
+
+    cut_regions : (p : OpOf N T A) (b : List (StepOf N T A)) (r : ℕ) (rs : RegionsOf N T A) (s : StandOf N T A) → regions_from r (regions p) ≡ rs → In s (regions_stands p b r rs) → Cut (regions_ids rs ++ behind b) s
+    cut_regions p b r no_regions s e k = absurd k
+    cut_regions p b r (region g rs) s e k =
+        let later = from_more r g rs (regions p) e in
+        elim (in_parts s (region_stands p b r g) (regions_stands p b (r + 1) rs) k) [
+          | inl l ↦ subst (λ xs. Cut xs s) (sym (append_assoc (region_ids g) (regions_ids rs) (behind b)) ∙ refl)
+              (subst (λ us. Cut (region_ids g ++ (regions_ids us ++ behind b)) s) later (cut_region p b r g s l))
+          | inr l ↦ subst (λ xs. Cut xs s) (sym (append_assoc (region_ids g) (regions_ids rs) (behind b)))
+              (cut_more (region_ids g) (regions_ids rs ++ behind b) s (cut_regions p b (r + 1) rs s later l))
+        ]
+
+    cut_region : (p : OpOf N T A) (b : List (StepOf N T A)) (r : ℕ) (g : RegionOf N T A) (s : StandOf N T A) → In s (region_stands p b r g) → Cut (region_ids g ++ (regions_ids (regions_from (r + 1) (regions p)) ++ behind b)) s
+    cut_region p b r empty s k = absurd k
+    cut_region p b r (block args os) s k = cut_ops p b r args [] os s k
+
+    cut_ops : (p : OpOf N T A) (b : List (StepOf N T A)) (r : ℕ) (args : List T) (front : List (OpOf N T A)) (os : OpsOf N T A) (s : StandOf N T A) → In s (ops_stands p b r args front os) → Cut (ops_ids os ++ (regions_ids (regions_from (r + 1) (regions p)) ++ behind b)) s
+    cut_ops p b r args front no_ops s k = absurd k
+    cut_ops p b r args front (next o os) s k =
+        let a = step p r args front os in
+        let end = regions_ids (regions_from (r + 1) (regions p)) ++ behind b in
+        elim (in_parts s (stands (a ∷ b) o) (ops_stands p b r args (front ++ o ∷ []) os) k) [
+          | inl l ↦ subst (λ xs. Cut xs s) (sym (append_assoc (ids o) (ops_ids os) end)) (cut_op (a ∷ b) o s l)
+          | inr l ↦ subst (λ xs. Cut xs s) (sym (append_assoc (ids o) (ops_ids os) end)) (cut_more (ids o) (ops_ids os ++ end) s (cut_ops p b r args (front ++ o ∷ []) os s l))
+        ]
+
+  ids_head : (o : OpOf N T A) → ids o ≡ (head o).id ∷ regions_ids (regions o)
+  ids_head (op h rs) = refl
+
+  -- the one after an operation: the first inside it, else the first behind it
+  pub follows : (t : OpOf N T A) → HasDistinctIds t → (s : StandOf N T A) → In s (stands [] t) → following (stand_id s) t ≡ first_id (regions_ids (regions s.here) ++ behind s.path)
+  follows t d s h =
+      let c = cut_op [] t s h in
+      let is : ids t ≡ c.0 ++ (stand_id s ∷ (regions_ids (regions s.here) ++ behind s.path)) = sym (append_none (ids t)) ∙ c.1 ∙ ap (λ l. c.0 ++ (l ++ behind s.path)) (ids_head s.here) in
+      ap (comes_next (stand_id s)) is ∙ next_at (stand_id s) c.0 (regions_ids (regions s.here) ++ behind s.path) (subst (IsDistinct eqb) is d)
+
+  -- ---- the regions of an operation, one after another
+  first_ops : (os : OpsOf N T A) → first_id (ops_ids os) ≡ first_op os
+  first_ops no_ops = refl
+  first_ops (next (op h rs) os) = refl
+
+  region_first : (g : RegionOf N T A) → first_id (region_ids g) ≡ option_and_then first_op (ops_in g)
+  region_first empty = refl
+  region_first (block args os) = first_ops os
+
+  pub step_found : (r : ℕ) (rs : RegionsOf N T A) (f : ℕ) → option_and_then first_op (option_and_then ops_in (region_at r rs)) ≡ Some f → first_id (regions_ids (regions_from r rs)) ≡ Some f
+  step_found r no_regions f e = absurd cc
+  step_found zero (region g rs) f e = first_joined (region_ids g) (regions_ids rs) f (region_first g ∙ e)
+  step_found (suc r) (region g rs) f e = step_found r rs f e
+
+  pub step_none : (r : ℕ) (rs : RegionsOf N T A) → option_and_then first_op (option_and_then ops_in (region_at r rs)) ≡ None → first_id (regions_ids (regions_from r rs)) ≡ first_id (regions_ids (regions_from (r + 1) rs))
+  step_none zero no_regions e = refl
+  step_none (suc r) no_regions e = let one : suc (r + 1) ≡ suc r + 1 = omega arith in ap (λ j. first_id (regions_ids (regions_from {N = N} {T = T} {A = A} j no_regions))) one
+  step_none zero (region g rs) e = none_joined (region_ids g) (regions_ids rs) (region_first g ∙ e)
+  step_none (suc r) (region g rs) e = let one : suc (r + 1) ≡ suc r + 1 = omega arith in step_none r rs e ∙ ap (λ j. first_id (regions_ids (regions_from j (region g rs)))) one
+
+  pub step_past : (r : ℕ) (rs : RegionsOf N T A) → region_count rs ≤ r → first_id (regions_ids (regions_from r rs)) ≡ None
+  step_past zero no_regions l = refl
+  step_past (suc r) no_regions l = refl
+  step_past zero (region g rs) l = absurd (omega (arith, l))
+  step_past (suc r) (region g rs) l = step_past r rs (omega (arith, l))
+
+  -- of an operation that there may be
+  pub inside_found : (r : ℕ) (f : Option (OpOf N T A)) (y : ℕ) → option_and_then first_op (option_and_then (λ o. option_and_then ops_in (region_at r (regions o))) f) ≡ Some y → first_inside r f ≡ Some y
+  inside_found r None y e = absurd cc
+  inside_found r (Some o) y e = step_found r (regions o) y e
+
+  pub inside_none : (r : ℕ) (f : Option (OpOf N T A)) → option_and_then first_op (option_and_then (λ o. option_and_then ops_in (region_at r (regions o))) f) ≡ None → first_inside r f ≡ first_inside (r + 1) f
+  inside_none r None e = refl
+  inside_none r (Some o) e = step_none r (regions o) e
+
+  pub inside_past : (r : ℕ) (f : Option (OpOf N T A)) → count_of f ≤ r → first_inside r f ≡ None
+  inside_past r None l = refl
+  inside_past r (Some o) l = step_past r (regions o) l
+
+  -- ---- from an operation up
+  region_below : (r : ℕ) (rs : RegionsOf N T A) (g : RegionOf N T A) → region_at r rs ≡ Some g → r < region_count rs
+  region_below r no_regions g e = absurd cc
+  region_below zero (region h rs) g e = omega arith
+  region_below (suc r) (region h rs) g e = omega (arith, region_below r rs g e)
+
+  find_stand : (x : ℕ) (ss : List (StandOf N T A)) → list_any (λ y. eqb y x) (map (λ (s : StandOf N T A). stand_id s) ss) ≡ true → (s : StandOf N T A) × (stand_in x ss ≡ Some s)
+  find_stand x [] h = absurd (true≢false (sym h))
+  find_stand x (s ∷ ss) h = elim (bool_cases (eqb (stand_id s) x)) [
+    | inl e ↦ (s, ap (λ b. cond b (Some s) (stand_in x ss)) e)
+    | inr e ↦ let w = find_stand x ss (sym (ap (λ b. b || list_any (λ y. eqb y x) (map (λ (z : StandOf N T A). stand_id z) ss)) e) ∙ h) in (w.0, ap (λ b. cond b (Some s) (stand_in x ss)) e ∙ w.1)
+  ]
+
+  in_ids : (s : StandOf N T A) (ss : List (StandOf N T A)) → In s ss → list_any (λ y. eqb y (stand_id s)) (map (λ (z : StandOf N T A). stand_id z) ss) ≡ true
+  in_ids s [] h = absurd h
+  in_ids s (u ∷ ss) (inl e) = ap (λ b. b || list_any (λ y. eqb y (stand_id s)) (map (λ (z : StandOf N T A). stand_id z) ss)) (eq-eqb (stand_id u) (stand_id s) (ap (λ (z : StandOf N T A). stand_id z) (sym e)))
+  in_ids s (u ∷ ss) (inr h) = elim (bool_cases (eqb (stand_id u) (stand_id s))) [
+    | inl e ↦ ap (λ b. b || list_any (λ y. eqb y (stand_id s)) (map (λ (z : StandOf N T A). stand_id z) ss)) e
+    | inr e ↦ ap (λ b. b || list_any (λ y. eqb y (stand_id s)) (map (λ (z : StandOf N T A). stand_id z) ss)) e ∙ in_ids s ss h
+  ]
+
+  stands_there : (t : OpOf N T A) (s : StandOf N T A) → In s (stands [] t) → has_id (stand_id s) t ≡ true
+  stands_there t s h = subst (λ xs. list_any (λ y. eqb y (stand_id s)) xs ≡ true) (stands_ids [] t) (in_ids s (stands [] t) h)
+
+  module _ (t : OpOf N T A) (d : HasDistinctIds t) where
+    stood : (x : ℕ) → has_id x t ≡ true → (s : StandOf N T A) × (stand_of x t ≡ Some s) × In s (stands [] t) × (stand_id s ≡ x)
+    stood x h =
+        let w = find_stand x (stands [] t) (subst (λ xs. list_any (λ y. eqb y x) xs ≡ true) (sym (stands_ids [] t)) h) in
+        let m = member x (stands [] t) w.0 w.1 in
+        (w.0, w.1, m.0, m.1)
+
+    -- nothing is inside: what follows is behind
+    pub from_behind : (x : ℕ) → has_id x t ≡ true → first_inside 0 (find x t) ≡ None → following x t ≡ first_id (behind_of (stand_of x t))
+    from_behind x h e =
+        let s = stood x h in
+        let found : find x t ≡ Some s.0.here = ap (λ y. find y t) (sym s.3) ∙ stand_found t d s.0 s.2 in
+        ap (λ y. following y t) (sym s.3) ∙ follows t d s.0 s.2 ∙ none_joined (regions_ids (regions s.0.here)) (behind s.0.path) (ap (first_inside 0) (sym found) ∙ e) ∙ ap (λ o. first_id (behind_of o)) (sym s.1)
+
+    pub from_inside : (x y : ℕ) → has_id x t ≡ true → first_inside 0 (find x t) ≡ Some y → following x t ≡ Some y
+    from_inside x y h e =
+        let s = stood x h in
+        let found : find x t ≡ Some s.0.here = ap (λ z. find z t) (sym s.3) ∙ stand_found t d s.0 s.2 in
+        ap (λ z. following z t) (sym s.3) ∙ follows t d s.0 s.2 ∙ first_joined (regions_ids (regions s.0.here)) (behind s.0.path) y (ap (first_inside 0) (sym found) ∙ e)
+
+    -- at the root nothing is behind
+    pub behind_root : (x : ℕ) → has_id x t ≡ true → place_of x t ≡ None → first_id (behind_of (stand_of x t)) ≡ None
+    behind_root x h e = let s = stood x h in ap (λ o. first_id (behind_of o)) s.1 ∙ go s.0 s.0.path refl s.2 s.3
+      where
+        go : (s : StandOf N T A) (p : List (StepOf N T A)) → s.path ≡ p → In s (stands [] t) → stand_id s ≡ x → first_id (behind s.path) ≡ None
+        go s [] q k i = ap (λ l. first_id (behind l)) q
+        go s (a ∷ p) q k i =
+            let at = place_of_member t d s.here a p (subst (λ l. In (stand s.here l) (stands [] t)) q k) in
+            let no : None ≡ Some (record { parent = (head a.parent).id; region = a.region; before = first_op a.rest }) = sym e ∙ ap (λ z. place_of z t) (sym i) ∙ at in
+            absurd cc
+
+    -- the step from an operation that has a place
+    pub record Up (x : ℕ) (place : Place) : Type 0 where
+      pub next : (y : ℕ) → place.before ≡ Some y → first_id (behind_of (stand_of x t)) ≡ Some y
+      pub later : (y : ℕ) → place.before ≡ None → first_inside (place.region + 1) (find place.parent t) ≡ Some y → first_id (behind_of (stand_of x t)) ≡ Some y
+      pub around : place.before ≡ None → first_inside (place.region + 1) (find place.parent t) ≡ None → first_id (behind_of (stand_of x t)) ≡ first_id (behind_of (stand_of place.parent t))
+      pub there : has_id place.parent t ≡ true
+      pub lower : height_of (stand_of place.parent t) < height_of (stand_of x t)
+      pub few : HasFewRegions t → place.region < 16
+
+    pub up : (x : ℕ) (place : Place) → has_id x t ≡ true → place_of x t ≡ Some place → Up x place
+    up x place h e = let w = member_of_place x place t e in go w.0 w.0.path refl (ap (λ y. stand_of y t) (sym w.2) ∙ stand_of_member t d w.0 w.1) w.1 w.2 w.3
+      where
+        go : (s : StandOf N T A) (p : List (StepOf N T A)) → s.path ≡ p → stand_of x t ≡ Some s → In s (stands [] t) → stand_id s ≡ x → place_in s.path ≡ Some place → Up x place
+        go s [] q f k i u = let no : None ≡ Some place = ap place_in (sym q) ∙ u in absurd cc
+        go s (a ∷ p) q f k i u =
+            let mem = subst (λ l. In (stand s.here l) (stands [] t)) q k in
+            let at = place_of_member t d s.here a p mem in
+            let two : Some place ≡ Some (record { parent = (head a.parent).id; region = a.region; before = first_op a.rest }) = sym e ∙ ap (λ z. place_of z t) (sym i) ∙ at in
+            let one : place ≡ record { parent = (head a.parent).id; region = a.region; before = first_op a.rest } = cc in
+            let around = (around_there t s.here a p mem).1 in
+            let found : find place.parent t ≡ Some a.parent = ap (λ (z : Place). find z.parent t) one ∙ stand_found t d (stand a.parent p) around in
+            let outer : stand_of place.parent t ≡ Some (stand a.parent p) = ap (λ (z : Place). stand_of z.parent t) one ∙ stand_of_member t d (stand a.parent p) around in
+            let here : behind_of (stand_of x t) ≡ ops_ids a.rest ++ (regions_ids (regions_from (a.region + 1) (regions a.parent)) ++ behind p) = ap behind_of f ∙ ap behind q in
+            let rest : first_id (ops_ids a.rest) ≡ place.before = first_ops a.rest ∙ ap (λ (z : Place). z.before) (sym one) in
+            let inside : first_inside (place.region + 1) (find place.parent t) ≡ first_id (regions_ids (regions_from (a.region + 1) (regions a.parent))) = (λ j. first_inside ((one j).region + 1) (found j)) in
+            let more = regions_ids (regions_from (a.region + 1) (regions a.parent)) in
+            record {
+              next = λ y b. ap first_id here ∙ first_joined (ops_ids a.rest) (more ++ behind p) y (rest ∙ b);
+              later = λ y b g. ap first_id here ∙ none_joined (ops_ids a.rest) (more ++ behind p) (rest ∙ b) ∙ first_joined more (behind p) y (sym inside ∙ g);
+              around = λ b g. ap first_id here ∙ none_joined (ops_ids a.rest) (more ++ behind p) (rest ∙ b) ∙ none_joined more (behind p) (sym inside ∙ g) ∙ ap (λ o. first_id (behind_of o)) (sym outer);
+              there = subst (λ z. has_id z t ≡ true) (ap (λ (z : Place). z.parent) (sym one)) (stands_there t (stand a.parent p) around);
+              lower = let l : height_of (stand_of place.parent t) ≡ length p = ap height_of outer in let g : height_of (stand_of x t) ≡ suc (length p) = ap height_of f ∙ ap length q in omega (arith, l, g);
+              few = λ fw. let l = region_below a.region (regions a.parent) (block a.args (joined_ops a.front (next s.here a.rest))) (shape t s.here a p mem) in let c = fw place.parent a.parent found in let r : place.region ≡ a.region = ap (λ (z : Place). z.region) one in omega (arith, l, c, r);
+            }
+
+    -- how many regions an operation shows
+    arguments_count : (rs : RegionsOf N T A) → length (regions_arguments rs) ≡ region_count rs
+    arguments_count no_regions = refl
+    arguments_count (region g rs) = omega (arith, arguments_count rs)
+
+    node_count : (o : OpOf N T A) → length (node_of o).arguments ≡ region_count (regions o)
+    node_count (op h rs) = arguments_count rs
+
+    found_op : (x : ℕ) → has_id x t ≡ true → (o : OpOf N T A) × (find x t ≡ Some o)
+    found_op x h = let s = stood x h in (s.0.here, ap (λ y. find y t) (sym s.3) ∙ stand_found t d s.0 s.2)
+
+    pub shown_count : (x : ℕ) (held : Option (OpOf N T A)) (n : NodeOf N T A) → has_id x t ≡ true → Some n ≡ option_map (λ o. node_of o) (first_of (find x t) held) → length n.arguments ≡ count_of (find x t)
+    shown_count x held n h e =
+        let w = found_op x h in
+        let two : Some n ≡ Some (node_of w.0) = e ∙ ap (λ f. option_map (λ o. node_of o) (first_of f held)) w.1 in
+        let one : n ≡ node_of w.0 = cc in
+        ap (λ (k : NodeOf N T A). length k.arguments) one ∙ node_count w.0 ∙ sym (ap count_of w.1)
+
+    pub few_shown : (x : ℕ) → HasFewRegions t → has_id x t ≡ true → count_of (find x t) ≤ 16
+    few_shown x f h = let w = found_op x h in subst (λ o. count_of o ≤ 16) (sym w.1) (f x w.0 w.1)
+
+-- ---- what comes before an operation
+after_cut : (a x : ℕ) (front back : List ℕ) → IsDistinct eqb (front ++ a ∷ back) → list_any (λ y. eqb y x) back ≡ true → comes_after a x (front ++ a ∷ back) ≡ true
+after_cut a x [] back d h = ap (λ b. cond b (list_any (λ y. eqb y x) back) (comes_after a x back)) (eq-eqb a a refl) ∙ h
+after_cut a x (y ∷ front) back d h = elim (bool_cases (eqb y a)) [
+  | inl e ↦ absurd (true≢false (sym (list_later a front back) ∙ subst (λ z. list_any (λ v. eqb v z) (front ++ a ∷ back) ≡ false) (eqb-true y a e) (absent_first y (front ++ a ∷ back) d)))
+  | inr e ↦ ap (λ b. cond b (list_any (λ v. eqb v x) (front ++ a ∷ back)) (comes_after a x (front ++ a ∷ back))) e ∙ after_cut a x front back (IsDistinct-tail eqb y (front ++ a ∷ back) d) h
+]
+
+any_left : (x : ℕ) (xs ys : List ℕ) → list_any (λ y. eqb y x) xs ≡ true → list_any (λ y. eqb y x) (xs ++ ys) ≡ true
+any_left x [] ys h = absurd (true≢false (sym h))
+any_left x (z ∷ xs) ys h = elim (bool_cases (eqb z x)) [
+  | inl e ↦ ap (λ b. b || list_any (λ y. eqb y x) (xs ++ ys)) e
+  | inr e ↦ ap (λ b. b || list_any (λ y. eqb y x) (xs ++ ys)) e ∙ any_left x xs ys (sym (ap (λ b. b || list_any (λ y. eqb y x) xs) e) ∙ h)
+]
+
+any_right : (x : ℕ) (xs ys : List ℕ) → list_any (λ y. eqb y x) ys ≡ true → list_any (λ y. eqb y x) (xs ++ ys) ≡ true
+any_right x [] ys h = h
+any_right x (z ∷ xs) ys h = elim (bool_cases (eqb z x)) [
+  | inl e ↦ ap (λ b. b || list_any (λ y. eqb y x) (xs ++ ys)) e
+  | inr e ↦ ap (λ b. b || list_any (λ y. eqb y x) (xs ++ ys)) e ∙ any_right x xs ys h
+]
+
+module _ {N T A : Type 0} where
+  -- a list's last, split off
+  front_split : (y : ℕ) (front : List (OpOf N T A)) → last_id (ops_of front) ≡ Some y → (f : List (OpOf N T A)) × (u : OpOf N T A) × (front ≡ f ++ u ∷ []) × ((head u).id ≡ y)
+  front_split y [] e = absurd cc
+  front_split y (o ∷ []) e = ([], o, refl, let i : (head o).id ≡ y = cc in i)
+  front_split y (o ∷ (u ∷ us)) e =
+      let w = front_split y (u ∷ us) (sym (later u us) ∙ e) in
+      (o ∷ w.0, w.1, ap (λ l. o ∷ l) w.2, w.3)
+    where
+      some_last : (u : OpOf N T A) (us : List (OpOf N T A)) → (z : ℕ) × (last_id (ops_of (u ∷ us)) ≡ Some z)
+      some_last u [] = ((head u).id, refl)
+      some_last u (v ∷ vs) = let w = some_last v vs in (w.0, ap (λ l. first_of l (Some (head u).id)) w.1)
+
+      later : (u : OpOf N T A) (us : List (OpOf N T A)) → last_id (ops_of (o ∷ (u ∷ us))) ≡ last_id (ops_of (u ∷ us))
+      later u us = let w = some_last u us in ap (λ l. first_of l (Some (head o).id)) w.1 ∙ sym w.1
+
+  joined_end : (f : List (OpOf N T A)) (u : OpOf N T A) (os : OpsOf N T A) → joined_ops (f ++ u ∷ []) os ≡ joined_ops f (next u os)
+  joined_end [] u os = refl
+  joined_end (o ∷ f) u os = ap (next o) (joined_end f u os)
+
+  module _ (t : OpOf N T A) (d : HasDistinctIds t) where
+    -- what is inside an operation or behind it comes after it
+    pub comes_later : (s : StandOf N T A) (x : ℕ) → In s (stands [] t) → list_any (λ y. eqb y x) (regions_ids (regions s.here) ++ behind s.path) ≡ true → precedes (stand_id s) x t ≡ true
+    comes_later s x h k =
+        let c = cut_op [] t s h in
+        let is : ids t ≡ c.0 ++ (stand_id s ∷ (regions_ids (regions s.here) ++ behind s.path)) = sym (append_none (ids t)) ∙ c.1 ∙ ap (λ l. c.0 ++ (l ++ behind s.path)) (ids_head s.here) in
+        ap (comes_after (stand_id s) x) is ∙ after_cut (stand_id s) x c.0 (regions_ids (regions s.here) ++ behind s.path) (subst (IsDistinct eqb) is d) k
+
+    own_id : (o : OpOf N T A) → list_any (λ y. eqb y (head o).id) (ids o) ≡ true
+    own_id (op h rs) = ap (λ b. b || list_any (λ y. eqb y h.id) (regions_ids rs)) (eq-eqb h.id h.id refl)
+
+    -- the one before it in its block
+    pub prev_precedes : (x y : ℕ) → prev_of x t ≡ Some y → precedes y x t ≡ true
+    prev_precedes x y e = placed (place_of x t) refl
+      where
+        go : (s : StandOf N T A) (place : Place) (p : List (StepOf N T A)) → s.path ≡ p → In s (stands [] t) → stand_id s ≡ x → place_in s.path ≡ Some place → precedes y x t ≡ true
+        go s place [] q k i f = let no : None ≡ Some place = ap place_in (sym q) ∙ f in absurd cc
+        go s place (a ∷ p) q k i f =
+            let mem = subst (λ l. In (stand s.here l) (stands [] t)) q k in
+            let w = front_split y a.front (sym (prev_there t d s.here a p mem) ∙ ap (λ z. prev_of z t) i ∙ e) in
+            let u = stand w.1 (step a.parent a.region a.args w.0 (next s.here a.rest) ∷ p) in
+            let shaped : region_at a.region (regions a.parent) ≡ Some (block a.args (joined_ops w.0 (next w.1 (next s.here a.rest)))) = shape t s.here a p mem ∙ ap (λ l. Some (block a.args l)) (ap (λ f. joined_ops f (next s.here a.rest)) w.2 ∙ joined_end w.0 w.1 (next s.here a.rest)) in
+            let there : In u (stands [] t) = within a.parent p u (child a.parent p a.region a.args (joined_ops w.0 (next w.1 (next s.here a.rest))) u shaped (ops_child a.parent p a.region a.args [] w.0 w.1 (next s.here a.rest))) [] t (around_there t s.here a p mem).1 in
+            let x_in : list_any (λ z. eqb z x) (ids s.here) ≡ true = subst (λ z. list_any (λ v. eqb v z) (ids s.here) ≡ true) i (own_id s.here) in
+            subst (λ z. precedes z x t ≡ true) w.3 (comes_later u x there
+            (any_right x (regions_ids (regions w.1)) (behind u.path) (any_left x (ops_ids (next s.here a.rest)) (regions_ids (regions_from (a.region + 1) (regions a.parent)) ++ behind p) (any_left x (ids s.here) (ops_ids a.rest) x_in))))
+
+        placed : (f : Option Place) → place_of x t ≡ f → precedes y x t ≡ true
+        placed None f =
+            let no : Some y ≡ None = sym e ∙ ap (λ (g : Option Place). option_and_then (id_before x None) (option_and_then (λ (p : Place). ops_at p.parent p.region t) g)) f in
+            absurd cc
+        placed (Some place) f = let w = member_of_place x place t f in go w.0 place w.0.path refl w.1 w.2 w.3
+
+    inside_joined : (x : ℕ) (f : List (OpOf N T A)) (o : OpOf N T A) (rest : OpsOf N T A) → list_any (λ z. eqb z x) (ids o) ≡ true → list_any (λ z. eqb z x) (ops_ids (joined_ops f (next o rest))) ≡ true
+    inside_joined x [] o rest h = any_left x (ids o) (ops_ids rest) h
+    inside_joined x (u ∷ f) o rest h = any_right x (ids u) (ops_ids (joined_ops f (next o rest))) (inside_joined x f o rest h)
+
+    inside_regions : (x r : ℕ) (rs : RegionsOf N T A) (g : RegionOf N T A) → region_at r rs ≡ Some g → list_any (λ z. eqb z x) (region_ids g) ≡ true → list_any (λ z. eqb z x) (regions_ids rs) ≡ true
+    inside_regions x r no_regions g e h = absurd cc
+    inside_regions x zero (region g rs) k e h = let same : g ≡ k = cc in any_left x (region_ids g) (regions_ids rs) (subst (λ v. list_any (λ z. eqb z x) (region_ids v) ≡ true) (sym same) h)
+    inside_regions x (suc r) (region g rs) k e h = any_right x (region_ids g) (regions_ids rs) (inside_regions x r rs k e h)
+
+    -- the one around it
+    pub parent_precedes : (x y : ℕ) → parent_of x t ≡ Some y → precedes y x t ≡ true
+    parent_precedes x y e = placed (place_of x t) refl
+      where
+        go : (s : StandOf N T A) (place : Place) (p : List (StepOf N T A)) → s.path ≡ p → In s (stands [] t) → stand_id s ≡ x → place_in s.path ≡ Some place → place.parent ≡ y → precedes y x t ≡ true
+        go s place [] q k i f g = let no : None ≡ Some place = ap place_in (sym q) ∙ f in absurd cc
+        go s place (a ∷ p) q k i f g =
+            let mem = subst (λ l. In (stand s.here l) (stands [] t)) q k in
+            let two : Some (record { parent = (head a.parent).id; region = a.region; before = first_op a.rest }) ≡ Some place = ap place_in (sym q) ∙ f in
+            let one : record { parent = (head a.parent).id; region = a.region; before = first_op a.rest } ≡ place = cc in
+            let is : (head a.parent).id ≡ y = ap (λ (z : Place). z.parent) one ∙ g in
+            let x_in : list_any (λ z. eqb z x) (ids s.here) ≡ true = subst (λ z. list_any (λ v. eqb v z) (ids s.here) ≡ true) i (own_id s.here) in
+            let held = inside_regions x a.region (regions a.parent) (block a.args (joined_ops a.front (next s.here a.rest))) (shape t s.here a p mem) (inside_joined x a.front s.here a.rest x_in) in
+            subst (λ z. precedes z x t ≡ true) is (comes_later (stand a.parent p) x (around_there t s.here a p mem).1 (any_left x (regions_ids (regions a.parent)) (behind p) held))
+
+        placed : (f : Option Place) → place_of x t ≡ f → precedes y x t ≡ true
+        placed None f = let no : Some y ≡ None = sym e ∙ ap (option_map (λ (p : Place). p.parent)) f in absurd cc
+        placed (Some place) f =
+            let w = member_of_place x place t f in
+            let same : Some place.parent ≡ Some y = sym (ap (option_map (λ (p : Place). p.parent)) f) ∙ e in
+            let parent : place.parent ≡ y = cc in
+            go w.0 place w.0.path refl w.1 w.2 w.3 parent
+
+    -- the root alone has none around it
+    pub rootless : (x : ℕ) → has_id x t ≡ true → parent_of x t ≡ None → x ≡ (head t).id
+    rootless x h e = let s = stood t d x h in go s.0 s.0.path refl s.2 s.3
+      where
+        go : (s : StandOf N T A) (p : List (StepOf N T A)) → s.path ≡ p → In s (stands [] t) → stand_id s ≡ x → x ≡ (head t).id
+        go s [] q k i = elim (has_around [] t s k) [
+          | inl u ↦ sym i ∙ ap (λ (z : StandOf N T A). stand_id z) u
+          | inr w ↦ (let bad : [] ≡ w.0 ∷ w.1 = sym q ∙ w.2 in absurd cc)
+        ]
+        go s (a ∷ p) q k i =
+            let at = place_of_member t d s.here a p (subst (λ l. In (stand s.here l) (stands [] t)) q k) in
+            let no : None ≡ Some (head a.parent).id = sym e ∙ ap (λ z. parent_of z t) (sym i) ∙ ap (option_map (λ (z : Place). z.parent)) at in
+            absurd cc

@@ -1,0 +1,41 @@
+-- What is noted, one call after another and under a mark.
+use Rattle.std.proofs.Common.{◌≡◌, ◌≢◌, refl, [], ◌++◌, true, false, Result, Ok, Err}
+use Rattle.ir_types.specs.declared.refusal.Refusal.{Refusal}
+use Rattle.ir_event.specs.Listener.{Listener}
+use Rattle.rewriter.specs.Benched.{Benched, Keeps}
+use Rattle.rewriter.specs.Held.{Held}
+use Rattle.rewriter.specs.Moves.{Recorded}
+use Rattle.rewriter.specs.Rolling.{Dropped}
+use Rattle.rewriter.proofs.Noted.{recorded_left, recorded_more, recorded_none, recorded_undone, recorded_whole}
+use Rattle.rewriter.proofs.Together.{marked_on}
+use Rattle.patterns.specs.runs.Runs.{Noted}
+use Rattle.greedy.specs.Noting.{marked}
+
+pub noted_none : (h : Held) → Noted h h
+noted_none h = ([], recorded_none h)
+
+pub noted_more : (a b c : Held) → Noted a b → Noted b c → Noted a c
+noted_more a b c h k = (h.0 ++ k.0, recorded_more h.0 k.0 a b c h.1.marks h.1 k.1)
+
+-- a call that is whole or not made at all
+pub noted_kept : {A B : Type 0} (meaning : B → Listener) (r : Result A Refusal) (a b : Benched B) → Keeps meaning r a b → Noted a.desk b.desk
+noted_kept meaning (Ok u) a b k = (k.0, k.2)
+noted_kept meaning (Err e) a b k = ([], k)
+
+-- nothing was noted
+pub left_none : (h : Held) → Recorded [] h h
+left_none h = recorded_none h
+
+pub left_same : (a b : Held) → b ≡ a → Recorded [] a b
+left_same a b same = recorded_left a b same
+
+pub noted_left : (a b c : Held) → Noted a b → Recorded [] b c → Noted a c
+noted_left a b c h k = noted_more a b c h ([], k)
+
+-- under a mark that is dropped
+module _ (a b c d : Held) (none : a.marks ≡ [] → a.journal ≡ []) (begun : b ≡ marked a) (h : Noted b c) where
+  pub noted_whole : (c.marks ≢ [] → Dropped true c d) → Noted a d
+  noted_whole dropped = (h.0, recorded_whole true a b c d begun h.1.marks h.0 h.1 (dropped (marked_on a b c begun h.1.marks)) none refl)
+
+  pub noted_back : (c.marks ≢ [] → Dropped false c d) → Recorded [] a d
+  noted_back dropped = recorded_undone false a b c d begun h.1.marks h.0 h.1 (dropped (marked_on a b c begun h.1.marks)) none refl

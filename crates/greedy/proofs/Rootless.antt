@@ -1,0 +1,47 @@
+-- No rule applies at the root.
+use Rattle.std.proofs.Common.{◌≡◌, refl, ap, sym, ◌∙◌, ℕ, List, [], ◌∷◌, Option, Some, None}
+use Rattle.std.specs.Prelude.{option_map}
+use Rattle.ir_types.specs.Terms.{TypeTerm, AttrTerm}
+use Rattle.ir_tree.specs.declared.place.Place.{Place}
+use Rattle.ir_tree.specs.Tree.{head}
+use Rattle.ir_tree.specs.Ids.{HasDistinctIds, find}
+use Rattle.ir_tree.specs.Places.{place_of}
+use Rattle.ir_tree.specs.Meaning.{Operation}
+use Rattle.ir_tree_laws.specs.Stands.{StandOf, place_in}
+use Rattle.ir_tree_laws.proofs.Members.{stand, itself, same_stand}
+use Rattle.ir_tree_laws.proofs.Around.{member_of_place}
+use Rattle.ir_event.specs.Modules.{Module}
+use Rattle.patterns_base.specs.declared.rule.Rule.{Rule}
+use Rattle.patterns_base.specs.Keeps.{given}
+use Rattle.patterns_base.specs.Looks.{when, is_clean, in_front, front_of}
+use Rattle.patterns_base.specs.Rules.{rule}
+use Rattle.patterns_base.specs.Rewrites.{none, edits_of, rewrite_by, rewrite_of}
+use Rattle.patterns_base.specs.Canonicalization.{or_else, first_rule, greedy_rules, lowest}
+
+-- it stands at no place
+pub unplaced : (t : Operation) → HasDistinctIds t → place_of (head t).id t ≡ None
+unplaced t d = go (place_of (head t).id t) refl
+  where
+    go : (a : Option Place) → place_of (head t).id t ≡ a → place_of (head t).id t ≡ None
+    go None e = e
+    go (Some place) e =
+        let u = member_of_place (head t).id place t e in
+        let same = same_stand t d u.0 (stand t []) u.1 (itself [] t) u.2 in
+        let no_place : None ≡ Some place = sym (ap (λ (s : StandOf (List ℕ) TypeTerm AttrTerm). place_in s.path) same) ∙ u.3 in
+        absurd cc
+
+no_edits : (r : Rule) (m : Module) → HasDistinctIds m.tree → edits_of r m (head m.tree).id ≡ None
+unfolding edits_of
+no_edits r m d = go (find (head m.tree).id m.tree) (ap (option_map (in_front (head m.tree).id)) (unplaced m.tree d))
+  where
+    go : (a : Option Operation) → front_of (head m.tree).id m.tree ≡ None → given a (λ o. given (front_of (head m.tree).id m.tree) (λ front. when (is_clean m.tree (head o)) (rule r m.tree m.next front o))) ≡ None
+    go None e = refl
+    go (Some o) e = ap (λ f. given f (λ front. when (is_clean m.tree (head o)) (rule r m.tree m.next front o))) e
+
+no_rules : (rs : List Rule) (m : Module) → HasDistinctIds m.tree → first_rule rs m (head m.tree).id ≡ none
+unfolding first_rule rewrite_of
+no_rules [] m d = refl
+no_rules (r ∷ rs) m d = ap (λ es. or_else (rewrite_by es m) (first_rule rs m (head m.tree).id)) (no_edits r m d) ∙ no_rules rs m d
+
+pub rootless : (m : Module) → HasDistinctIds m.tree → lowest m (head m.tree).id ≡ none
+rootless m d = no_rules greedy_rules m d

@@ -1,0 +1,117 @@
+-- Where an operation stands in a tree, and the operations of a block in it.
+use Rattle.std.proofs.Common.{◌≡◌, refl, ap, sym, ◌∙◌, ℕ, zero, suc, ◌≤◌, false, true≢false, eqb, eq-eqb, List, [], ◌∷◌, ◌++◌, length, map, append_assoc, append-nil, Some, arith}
+use Rattle.ir_tree.specs.Tree.{OpOf, RegionsOf, no_regions, region, RegionOf, block, OpsOf, no_ops, next, head, regions}
+use Rattle.ir_tree.specs.Ids.{ids, regions_ids, region_ids, ops_ids, HasDistinctIds, find}
+use Rattle.ir_tree_laws.specs.Stands.{StandOf, stand_id}
+use Rattle.ir_tree_laws.specs.Values.{region_at}
+use Rattle.ir_tree_laws.proofs.Readings.{step}
+use Rattle.ir_tree_laws.proofs.Members.{stand, joined_ops, ops_child, stand_found}
+use Rattle.ir_tree_laws.proofs.Put.{child}
+use Rattle.ir_tree_laws.proofs.Shift.{Inner, inner_of, own_distinct}
+use Rattle.ir_tree_laws.proofs.Stretches.{Parted, part, parted_ids}
+use Rattle.greedy.proofs.Cut.{own_ids}
+use Rattle.greedy.proofs.Nearby.{Wide, widths, Hold, Near}
+
+module _ {N T A : Type 0} where
+  -- what comes before an operation and behind it
+  pub record Between (x : ℕ) (t o : OpOf N T A) : Type 0 where
+    pub front : List ℕ
+    pub back : List ℕ
+    pub is : ids t ≡ front ++ (ids o ++ back)
+    pub further : 1 ≤ length front
+
+  pub between : (x : ℕ) (t o : OpOf N T A) → HasDistinctIds t → find x t ≡ Some o → eqb (head t).id x ≡ false → Between x t o
+  between x t o d e root = record { front = us; back = vs; is = cut; further = some us refl }
+    where
+      i : Inner x t o
+      i = inner_of x t o e root
+
+      w : Parted (head o).id (i.step_in ∷ i.path) o t
+      w = part t d o i.step_in i.path i.there
+
+      us : List ℕ
+      us = map (λ (z : StandOf N T A). stand_id z) w.front
+
+      vs : List ℕ
+      vs = map (λ (z : StandOf N T A). stand_id z) w.back
+
+      cut : ids t ≡ us ++ (ids o ++ vs)
+      cut = parted_ids (head o).id (i.step_in ∷ i.path) o t w
+
+      some : (l : List ℕ) → us ≡ l → 1 ≤ length us
+      some [] k = absurd (
+          let whole : (head t).id ∷ regions_ids (regions t) ≡ (head o).id ∷ (regions_ids (regions o) ++ vs) = sym (own_ids t) ∙ cut ∙ ap (λ l. l ++ (ids o ++ vs)) k ∙ ap (λ l. l ++ vs) (own_ids o) in
+          let same : (head t).id ≡ (head o).id = cc in
+          true≢false (sym (eq-eqb (head t).id x (same ∙ i.id)) ∙ root))
+      some (y ∷ ys) k = let n = ap length k in omega (arith, n)
+
+  -- alone
+  pub start : (x : ℕ) (t o : OpOf N T A) → HasDistinctIds t → find x t ≡ Some o → (head o).id ≡ x → (b : Between x t o) → Near x b.front b.back [] (regions_ids (regions o)) [] t
+  start x t o d e id b = record { distinct = d; at = o; found = e; is = b.is; own = own_ids o ∙ ap (λ y. y ∷ regions_ids (regions o)) id; hold = tt; further = b.further }
+
+  -- ---- the operations of a block but the last
+  abbrev pub wide : OpOf N T A → OpsOf N T A → Wide
+  wide o no_ops = []
+  wide o (next p os) = ((head o).id, ids o) ∷ wide p os
+
+  -- and the last
+  abbrev pub final : OpOf N T A → OpsOf N T A → OpOf N T A
+  final o no_ops = o
+  final o (next p os) = final p os
+
+  list_ids : (o : OpOf N T A) (os : OpsOf N T A) → ops_ids (next o os) ≡ widths (wide o os) ++ ids (final o os)
+  list_ids o no_ops = append-nil (ids o)
+  list_ids o (next p os) = ap (λ l. ids o ++ l) (list_ids p os) ∙ sym (append_assoc (ids o) (widths (wide p os)) (ids (final p os)))
+
+  abbrev Around : RegionOf N T A → RegionsOf N T A → Type 0
+  Around g rs = (inner : List ℕ) × (outer : List ℕ) × (regions_ids rs ≡ inner ++ (region_ids g ++ outer))
+
+  around_region : (r : ℕ) (g : RegionOf N T A) (rs : RegionsOf N T A) → region_at r rs ≡ Some g → Around g rs
+  around_region zero g no_regions e = absurd cc
+  around_region (suc r) g no_regions e = absurd cc
+  around_region zero g (region h rs) e = let same : h ≡ g = cc in ([], regions_ids rs, ap (λ z. region_ids z ++ regions_ids rs) same)
+  around_region (suc r) g (region h rs) e =
+      let w = around_region r g rs e in
+      (region_ids h ++ w.0, w.1, ap (λ l. region_ids h ++ l) w.2 ∙ sym (append_assoc (region_ids h) w.0 (region_ids g ++ w.1)))
+
+  joined_more : (fs : List (OpOf N T A)) (o : OpOf N T A) (os : OpsOf N T A) → joined_ops (fs ++ o ∷ []) os ≡ joined_ops fs (next o os)
+  joined_more [] o os = refl
+  joined_more (f ∷ fs) o os = ap (next f) (joined_more fs o os)
+
+  module _ (p : OpOf N T A) (d : HasDistinctIds p) (r : ℕ) (args : List T) where
+    holds : (fs : List (OpOf N T A)) (o : OpOf N T A) (os : OpsOf N T A) → region_at r (regions p) ≡ Some (block args (joined_ops fs (next o os))) → Hold p (wide o os)
+    holds fs o no_ops e = tt
+    holds fs o (next q os) e = (
+      (o, stand_found p d (stand o (step p r args fs (next q os) ∷ [])) (child p [] r args (joined_ops fs (next o (next q os))) (stand o (step p r args fs (next q os) ∷ [])) e (ops_child p [] r args [] fs o (next q os))), refl),
+      holds (fs ++ o ∷ []) q os (e ∙ ap (λ z. Some (block args z)) (sym (joined_more fs o (next q os)))),
+    )
+
+  -- x with the operations of a block of it but the last
+  pub record Opened (x : ℕ) (t p : OpOf N T A) (ys : Wide) : Type 0 where
+    pub front : List ℕ
+    pub back : List ℕ
+    pub inner : List ℕ
+    pub outer : List ℕ
+    pub is : ids t ≡ front ++ ((x ∷ (inner ++ (widths ys ++ outer))) ++ back)
+    pub own : ids p ≡ x ∷ (inner ++ (widths ys ++ outer))
+    pub near : Near x front back inner outer ys t
+
+  pub opened : (x : ℕ) (t p : OpOf N T A) → HasDistinctIds t → find x t ≡ Some p → (head p).id ≡ x → eqb (head t).id x ≡ false → (r : ℕ) (args : List T) (o : OpOf N T A) (os : OpsOf N T A) → region_at r (regions p) ≡ Some (block args (next o os)) → Opened x t p (wide o os)
+  opened x t p d e id root r args o os g = record {
+    front = b.front;
+    back = b.back;
+    inner = w.0;
+    outer = ids (final o os) ++ w.1;
+    is = b.is ∙ ap (λ l. b.front ++ (l ++ b.back)) mine;
+    own = mine;
+    near = record { distinct = d; at = p; found = e; is = b.is; own = mine; hold = holds p (own_distinct x t p d e) r args [] o os g; further = b.further };
+  }
+    where
+      b : Between x t p
+      b = between x t p d e root
+
+      w : (inner : List ℕ) × (outer : List ℕ) × (regions_ids (regions p) ≡ inner ++ (region_ids (block args (next o os)) ++ outer))
+      w = around_region r (block args (next o os)) (regions p) g
+
+      mine : ids p ≡ x ∷ (w.0 ++ (widths (wide o os) ++ (ids (final o os) ++ w.1)))
+      mine = own_ids p ∙ (λ i. id i ∷ w.2 i) ∙ ap (λ l. x ∷ (w.0 ++ l)) (ap (λ l. l ++ w.1) (list_ids o os) ∙ append_assoc (widths (wide o os)) (ids (final o os)) w.1)

@@ -1,0 +1,10 @@
+use Rattle.std.proofs.Common.{[], subst, sym, ℕ, List}
+use Rattle.ir_tree.specs.Tree.{head}
+use Rattle.greedy.specs.Work.{Right}
+use Rattle.greedy.proofs.Scans.{begun}
+use Rattle.greedy.proofs.run.rewritten.Goals as goal
+
+pub rewrites-requires-clause-right : goal.rewrites-requires-clause-right
+rewrites-requires-clause-right g c =
+    let m = g.R.Rewriting.held c.args.bench.now in
+    subst (λ (p : ℕ). Right p c.new.result.items m) (sym c.root.ensures) (subst (λ (l : List ℕ). Right (head m.tree).id l m) (sym c.new.ensures.items) (begun m (g.R.Rewriting.distinct m c.is_formed.ensures)))

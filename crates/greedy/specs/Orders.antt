@@ -1,0 +1,24 @@
+-- The order of operations, before and after a rewrite.
+use Rattle.std.specs.Prelude.{◌≡◌, ◌<◌, All, ℕ, true}
+use Rattle.ir_tree.specs.Ids.{ids, has_id, HasDistinctIds}
+use Rattle.ir_tree.specs.Tree.{head}
+use Rattle.ir_tree_laws.specs.Reads.{precedes}
+use Rattle.ir_event.specs.Modules.{Module}
+use Rattle.patterns_base.specs.Rewrites.{none, becomes}
+use Rattle.patterns_base.specs.Canonicalization.{lowest}
+
+-- the operations before x stay, and those that stay are in the order in which they were
+pub record Orderly (x : ℕ) (m n : Module) : Type 0 where
+  pub stays : (y : ℕ) → precedes y x m.tree ≡ true → has_id y n.tree ≡ true
+  pub order : (a b : ℕ) → has_id a m.tree ≡ true → has_id b m.tree ≡ true → has_id a n.tree ≡ true
+      → has_id b n.tree ≡ true → precedes a b n.tree ≡ precedes a b m.tree
+
+-- in a module whose ids are distinct and below the next free one, the lowest rule of canonicalization that applies at
+-- an operation leaves it so
+abbrev pub RewritesAreOrderly : Type 0
+RewritesAreOrderly = (m : Module) → HasDistinctIds m.tree → All (λ y. y < m.next) (ids m.tree) → (x : ℕ) (n : Module)
+    → lowest m x ≡ becomes n → Orderly x m n
+
+-- no rule applies at the root
+abbrev pub RootHasNone : Type 0
+RootHasNone = (m : Module) → HasDistinctIds m.tree → lowest m (head m.tree).id ≡ none

@@ -1,0 +1,6 @@
+use Rattle.std.proofs.Common.{subst}
+use Rattle.patterns.specs.Planned.{MadeIsOf}
+use Rattle.patterns.proofs.count.made_makes.Goals as goal
+
+pub lowering_makes-requires : goal.lowering_makes-requires
+lowering_makes-requires c = (c.requires.0, subst (MadeIsOf c.requires.0) c.in-Lowering.is c.requires.1)

@@ -1,0 +1,5 @@
+use Rattle.patterns.proofs.Adding.{added_none}
+use Rattle.patterns.proofs.make.plan_edits.Goals as goal
+
+pub returns-in-Edits-clause-added : goal.returns-in-Edits-clause-added
+returns-in-Edits-clause-added g c = added_none g.L.Analysis.meaning c.args.bench.now

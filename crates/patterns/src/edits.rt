@@ -1,0 +1,251 @@
+//! The edits of plans, in numbers.
+ghost use Rattle.std.specs.Prelude.{◌≡◌, ◌+◌, ◌≤◌, ◌++◌, [], ◌∷◌, IfOk, OnOk};
+ghost use Rattle.ir_tree.specs.Limits.{most_next};
+ghost use Rattle.patterns_edits.specs.declared.edit.Edit.TheVariants.{Make as Made};
+ghost use Rattle.patterns.specs.New.{new_constant, new_op};
+ghost use Rattle.patterns.specs.Numbered.{cast_edits, chosen_edits, combined_edits, constant_edits, difference_edits, first_result, giving, mirrored_edits, remainder_edits, result_at};
+
+use crate::operations::{flag_entry, new_op};
+use crate::site::Site;
+use ir_tree::value::Value;
+use ir_types::ids::{AttrId, NameId, OpId, TypeId};
+use ir_types::word::Word;
+use patterns_runs::edit::Edit;
+use std::alloc::{AllocError, Global};
+
+/// The result of the operation that is made first at a site.
+fn first_result(site: &Site) -> Value
+    ensures { result ≡ first_result site.now }
+{
+    Value::Result(site.next, 0)
+}
+
+/// That of the operation that is made as number `count` behind it.
+fn result_at(site: &Site, count: u32) -> Value
+    requires { site.now.next + count ≤ most_next }
+    ensures { result ≡ result_at site.now count }
+{
+    Value::Result(OpId::new(site.next.number() + count), 0)
+}
+
+/// A new operation is put in front.
+fn put(
+    alloc: Global,
+    edits: &mut Vec<Edit>,
+    site: &Site,
+    name: NameId,
+    operands: &[Value],
+    ty: TypeId,
+    entry: &Option<(NameId, AttrId)>,
+) -> Result<(), AllocError>
+    ensures { OnOk result (edits.new.items ≡ edits.old.items ++ Made site.now.front (new_op name operands.now ty entry.now) ∷ []) }
+{
+    let op = new_op(alloc, name, operands, ty, entry)?;
+    edits.push(Edit::Make {
+        place: site.front,
+        op,
+    })?;
+    Ok(())
+}
+
+/// A constant, of its attribute, is put in front.
+fn put_constant(
+    alloc: Global,
+    edits: &mut Vec<Edit>,
+    site: &Site,
+    ty: TypeId,
+    value: AttrId,
+) -> Result<(), AllocError>
+    ensures { OnOk result (edits.new.items ≡ edits.old.items ++ Made site.now.front (new_constant ty value) ∷ []) }
+{
+    let entry = Some((Word::Value.id(), value));
+    put(
+        alloc,
+        edits,
+        site,
+        Word::ArithConstant.id(),
+        &[],
+        ty,
+        &entry,
+    )
+}
+
+/// A value is given for the result of the operation, which is erased.
+fn give(edits: &mut Vec<Edit>, site: &Site, value: Value) -> Result<(), AllocError>
+    ensures { OnOk result (edits.new.items ≡ edits.old.items ++ giving site.now value) }
+{
+    edits.push(Edit::Replace {
+        old: Value::Result(site.op, 0),
+        new: value,
+    })?;
+    edits.push(Edit::Erase { op: site.op })?;
+    Ok(())
+}
+
+/// Those of a new constant, of its attribute.
+pub(crate) fn constant_edits(
+    alloc: Global,
+    site: &Site,
+    ty: TypeId,
+    value: AttrId,
+) -> Result<Vec<Edit>, AllocError>
+    requires { site.now.next + 1 ≤ most_next }
+    ensures { IfOk result (λ es. es.items ≡ constant_edits site.now ty value) }
+{
+    let mut edits = Vec::new(alloc);
+    put_constant(alloc, &mut edits, site, ty, value)?;
+    give(&mut edits, site, first_result(site))?;
+    Ok(edits)
+}
+
+/// Those of a new operation of one operand.
+pub(crate) fn cast_edits(
+    alloc: Global,
+    site: &Site,
+    name: NameId,
+    ty: TypeId,
+    value: &Value,
+) -> Result<Vec<Edit>, AllocError>
+    requires { site.now.next + 1 ≤ most_next }
+    ensures { IfOk result (λ es. es.items ≡ cast_edits site.now name ty value.now) }
+{
+    let mut edits = Vec::new(alloc);
+    put(alloc, &mut edits, site, name, &[*value], ty, &None)?;
+    give(&mut edits, site, first_result(site))?;
+    Ok(edits)
+}
+
+/// Those of a new constant, of its attribute, and an operation on a value and it.
+pub(crate) fn combined_edits(
+    alloc: Global,
+    site: &Site,
+    name: NameId,
+    ty: TypeId,
+    operand: &Value,
+    value: AttrId,
+    flags: Option<AttrId>,
+) -> Result<Vec<Edit>, AllocError>
+    requires { site.now.next + 2 ≤ most_next }
+    ensures { IfOk result (λ es. es.items ≡ combined_edits site.now name ty operand.now value flags) }
+{
+    let operands = [*operand, first_result(site)];
+    let flags = flag_entry(flags);
+    let mut edits = Vec::new(alloc);
+    put_constant(alloc, &mut edits, site, ty, value)?;
+    put(alloc, &mut edits, site, name, &operands, ty, &flags)?;
+    give(&mut edits, site, result_at(site, 1))?;
+    Ok(edits)
+}
+
+/// Those by which a comparison gets another predicate, of its attribute, and other operands.
+pub(crate) fn mirrored_edits(
+    alloc: Global,
+    site: &Site,
+    predicate: AttrId,
+    first: &Value,
+    second: &Value,
+) -> Result<Vec<Edit>, AllocError>
+    ensures { IfOk result (λ es. es.items ≡ mirrored_edits site.now predicate first.now second.now) }
+{
+    let mut edits = Vec::new(alloc);
+    edits.push(Edit::SetAttr {
+        op: site.op,
+        key: Word::Predicate.id(),
+        attr: predicate,
+    })?;
+    edits.push(Edit::SetOperand {
+        op: site.op,
+        operand: 0,
+        value: *first,
+    })?;
+    edits.push(Edit::SetOperand {
+        op: site.op,
+        operand: 1,
+        value: *second,
+    })?;
+    Ok(edits)
+}
+
+/// Those of a new comparison, by its result's type and its predicate's attribute, and a choice by it.
+pub(crate) fn chosen_edits(
+    alloc: Global,
+    site: &Site,
+    truth: TypeId,
+    predicate: AttrId,
+    ty: TypeId,
+    first: &Value,
+    second: &Value,
+) -> Result<Vec<Edit>, AllocError>
+    requires { site.now.next + 2 ≤ most_next }
+    ensures { IfOk result (λ es. es.items ≡ chosen_edits site.now truth predicate ty first.now second.now) }
+{
+    let compared = [*first, *second];
+    let chosen = [first_result(site), *first, *second];
+    let asks = Some((Word::Predicate.id(), predicate));
+    let comparison = Word::ArithCmpi.id();
+    let choice = Word::ArithSelect.id();
+    let mut edits = Vec::new(alloc);
+    put(alloc, &mut edits, site, comparison, &compared, truth, &asks)?;
+    put(alloc, &mut edits, site, choice, &chosen, ty, &None)?;
+    give(&mut edits, site, result_at(site, 1))?;
+    Ok(edits)
+}
+
+/// Those of the first value with the second one's complement, and 1 added.
+pub(crate) fn difference_edits(
+    alloc: Global,
+    site: &Site,
+    ty: TypeId,
+    first: &Value,
+    second: &Value,
+    ones: AttrId,
+    one: AttrId,
+    flags: AttrId,
+) -> Result<Vec<Edit>, AllocError>
+    requires { site.now.next + 5 ≤ most_next }
+    ensures { IfOk result (λ es. es.items ≡ difference_edits site.now ty first.now second.now ones one flags) }
+{
+    let complement = [*second, first_result(site)];
+    let negative = [result_at(site, 1), result_at(site, 2)];
+    let sum = [*first, result_at(site, 3)];
+    let flags = flag_entry(Some(flags));
+    let xori = Word::ArithXori.id();
+    let addi = Word::ArithAddi.id();
+    let mut edits = Vec::new(alloc);
+    put_constant(alloc, &mut edits, site, ty, ones)?;
+    put(alloc, &mut edits, site, xori, &complement, ty, &None)?;
+    put_constant(alloc, &mut edits, site, ty, one)?;
+    put(alloc, &mut edits, site, addi, &negative, ty, &flags)?;
+    put(alloc, &mut edits, site, addi, &sum, ty, &flags)?;
+    give(&mut edits, site, result_at(site, 4))?;
+    Ok(edits)
+}
+
+/// Those of what is left of the first value behind a division by the second.
+pub(crate) fn remainder_edits(
+    alloc: Global,
+    site: &Site,
+    division: NameId,
+    ty: TypeId,
+    first: &Value,
+    second: &Value,
+    flags: Option<AttrId>,
+    set: AttrId,
+) -> Result<Vec<Edit>, AllocError>
+    requires { site.now.next + 3 ≤ most_next }
+    ensures { IfOk result (λ es. es.items ≡ remainder_edits site.now division ty first.now second.now flags set) }
+{
+    let divided = [*first, *second];
+    let product = [first_result(site), *second];
+    let rest = [*first, result_at(site, 1)];
+    let flags = flag_entry(flags);
+    let set = flag_entry(Some(set));
+    let muli = Word::ArithMuli.id();
+    let subi = Word::ArithSubi.id();
+    let mut edits = Vec::new(alloc);
+    put(alloc, &mut edits, site, division, &divided, ty, &flags)?;
+    put(alloc, &mut edits, site, muli, &product, ty, &set)?;
+    put(alloc, &mut edits, site, subi, &rest, ty, &set)?;
+    give(&mut edits, site, result_at(site, 2))?;
+    Ok(edits)
+}

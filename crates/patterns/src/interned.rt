@@ -1,0 +1,117 @@
+//! What is interned for new operations.
+ghost use Rattle.std.specs.Prelude.{false, IfOk, IfErr};
+ghost use Rattle.ir_types.specs.Things.{IsName, IsType, TypeIsOf, AttrIsOf};
+ghost use Rattle.ir_types.specs.Terms.{Integer, IntegerOf, Overflow, attr_node_term, name_term, type_node_term, type_term};
+ghost use Rattle.ir_types.specs.declared.node.Sign.TheVariants.{Signless};
+ghost use Rattle.patterns_base.specs.Made.{i64};
+ghost use Rattle.patterns_runs.specs.Interning.{Added, IsNoRoom};
+ghost use Rattle.patterns.specs.Interned.{FlagsOf, IsAttrOf, IsPlain, IsTypeOf};
+
+use crate::operations::is_flagged;
+use ir_event::analysis::Analysis;
+use ir_types::ids::{AttrId, NameId, TypeId};
+use ir_types::node::{AttrNode, Sign, TypeNode};
+use ir_types::refusal::Refusal;
+use patterns_runs::Bench;
+
+/// The number of an attribute that is no dictionary.
+fn attr<L: Analysis>(bench: &mut Bench<L>, node: AttrNode) -> Result<AttrId, Refusal>
+    requires of { AttrIsOf bench.old.desk.ctx node }
+    requires plain { IsPlain node }
+    ensures ok { IfOk result (λ a. IsAttrOf bench.new.desk.ctx a (attr_node_term bench.old.desk.ctx node)) }
+    ensures refused { IfErr result (λ e. IsNoRoom bench.new.desk.ctx e) }
+    ensures added { Added L.meaning bench.old bench.new }
+{
+    bench.is_formed();
+    let made = bench.attr(node);
+    bench.is_formed();
+    match made {
+        Ok(attr) => Ok(attr),
+        Err(Refusal::TooMany) => Err(Refusal::Full),
+        Err(_) => Err(Refusal::Memory),
+    }
+}
+
+/// The number of a signless integer type.
+pub(crate) fn integer_type<L: Analysis>(bench: &mut Bench<L>, width: u32) -> Result<TypeId, Refusal>
+    ensures ok { IfOk result (λ t. IsTypeOf bench.new.desk.ctx t (Integer Signless width)) }
+    ensures refused { IfErr result (λ e. IsNoRoom bench.new.desk.ctx e) }
+    ensures added { Added L.meaning bench.old bench.new }
+{
+    bench.is_formed();
+    let made = bench.ty(TypeNode::Int {
+        sign: Sign::Signless,
+        width,
+    });
+    bench.is_formed();
+    match made {
+        Ok(ty) => Ok(ty),
+        Err(Refusal::TooMany) => Err(Refusal::Full),
+        Err(_) => Err(Refusal::Memory),
+    }
+}
+
+/// The attribute of a constant's bits.
+pub(crate) fn value_attr<L: Analysis>(
+    bench: &mut Bench<L>,
+    ty: TypeId,
+    value: u128,
+) -> Result<AttrId, Refusal>
+    requires { IsType bench.old.desk.ctx ty }
+    ensures ok { IfOk result (λ a. IsAttrOf bench.new.desk.ctx a (IntegerOf (type_term bench.old.desk.ctx ty) value)) }
+    ensures refused { IfErr result (λ e. IsNoRoom bench.new.desk.ctx e) }
+    ensures added { Added L.meaning bench.old bench.new }
+{
+    attr(bench, AttrNode::Int { ty, value })
+}
+
+/// The attribute of a comparison's predicate.
+pub(crate) fn predicate_attr<L: Analysis>(
+    bench: &mut Bench<L>,
+    predicate: u128,
+) -> Result<AttrId, Refusal>
+    ensures ok { IfOk result (λ a. IsAttrOf bench.new.desk.ctx a (IntegerOf i64 predicate)) }
+    ensures refused { IfErr result (λ e. IsNoRoom bench.new.desk.ctx e) }
+    ensures added { Added L.meaning bench.old bench.new }
+{
+    let ty = match integer_type(bench, 64) {
+        Ok(ty) => ty,
+        Err(refusal) => return Err(refusal),
+    };
+    bench.is_formed();
+    value_attr(bench, ty, predicate)
+}
+
+/// The attribute of flags of which none are set.
+pub(crate) fn flags_attr<L: Analysis>(bench: &mut Bench<L>) -> Result<AttrId, Refusal>
+    ensures ok { IfOk result (λ a. IsAttrOf bench.new.desk.ctx a (Overflow false false)) }
+    ensures refused { IfErr result (λ e. IsNoRoom bench.new.desk.ctx e) }
+    ensures added { Added L.meaning bench.old bench.new }
+{
+    attr(
+        bench,
+        AttrNode::Overflow {
+            nsw: false,
+            nuw: false,
+        },
+    )
+}
+
+/// The same, where operations of a name have flags.
+pub(crate) fn flags_for<L: Analysis>(
+    bench: &mut Bench<L>,
+    name: NameId,
+) -> Result<Option<AttrId>, Refusal>
+    requires { IsName bench.old.desk.ctx name }
+    ensures ok { IfOk result (λ flags. FlagsOf bench.new.desk.ctx (name_term bench.old.desk.ctx name) flags) }
+    ensures refused { IfErr result (λ e. IsNoRoom bench.new.desk.ctx e) }
+    ensures added { Added L.meaning bench.old bench.new }
+{
+    if !is_flagged(&bench.world().ctx, name) {
+        return Ok(None);
+    }
+    match flags_attr(bench) {
+        Ok(flags) => Ok(Some(flags)),
+        Err(refusal) => Err(refusal),
+    }
+}

@@ -1,0 +1,71 @@
+//! New operations.
+ghost use Rattle.std.specs.Prelude.{◌≡◌, IfOk, option_map};
+ghost use Rattle.ir_types.specs.Terms.{name_term};
+ghost use Rattle.patterns_laws.specs.Words.{among, flagged};
+ghost use Rattle.patterns.specs.New.{entries, flag_entry, new_op};
+
+use ir_tree::tree::TreeOp;
+use ir_tree::value::Value;
+use ir_types::context::Context;
+use ir_types::ids::{AttrId, NameId, OpId, TypeId};
+use ir_types::word::Word;
+use std::alloc::{AllocError, Global};
+
+/// Whether operations of a name are made with overflow flags.
+#[tactic(auto, unfolding(patterns_laws::specs::Words::flagged))]
+pub(crate) fn is_flagged(ctx: &Context, name: NameId) -> bool
+    ensures { result ≡ among flagged (name_term ctx.now name) }
+{
+    ctx.is_word(name, Word::ArithAddi)
+        || ctx.is_word(name, Word::ArithSubi)
+        || ctx.is_word(name, Word::ArithMuli)
+}
+
+/// The property of an operation's flags.
+pub(crate) fn flag_entry(flags: Option<AttrId>) -> Option<(NameId, AttrId)>
+    ensures { result ≡ flag_entry flags }
+{
+    match flags {
+        Some(flags) => Some((Word::OverflowFlags.id(), flags)),
+        None => None,
+    }
+}
+
+/// A dictionary of at most one entry.
+fn entries(
+    alloc: Global,
+    entry: &Option<(NameId, AttrId)>,
+) -> Result<Vec<(NameId, AttrId)>, AllocError>
+    ensures { IfOk result (λ es. es.items ≡ entries entry.now) }
+{
+    let mut entries = Vec::new(alloc);
+    if let Some(entry) = entry {
+        entries.push(*entry)?;
+    }
+    Ok(entries)
+}
+
+/// An operation of one result, with at most one property.
+pub(crate) fn new_op(
+    alloc: Global,
+    name: NameId,
+    operands: &[Value],
+    ty: TypeId,
+    entry: &Option<(NameId, AttrId)>,
+) -> Result<TreeOp, AllocError>
+    ensures { IfOk result (λ o. o ≡ new_op name operands.now ty entry.now) }
+{
+    let operands = Vec::from_slice(alloc, operands)?;
+    let mut results = Vec::new(alloc);
+    results.push(ty)?;
+    let props = entries(alloc, entry)?;
+    Ok(TreeOp {
+        id: OpId::new(0),
+        name,
+        operands,
+        results,
+        props,
+        attrs: Vec::new(alloc),
+        regions: Vec::new(alloc),
+    })
+}

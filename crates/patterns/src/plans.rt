@@ -1,0 +1,250 @@
+//! The edits of each plan: what is new is interned, and then put in.
+ghost use Rattle.std.specs.Prelude.{◌≡◌, ◌+◌, ◌≤◌, IfOk, IfErr};
+ghost use Rattle.ir_types.specs.Things.{IsName, IsType};
+ghost use Rattle.ir_types.specs.Terms.{name_term, type_term};
+ghost use Rattle.ir_tree.specs.Limits.{most_next};
+ghost use Rattle.patterns_base.specs.Made.{cast};
+ghost use Rattle.patterns_base.specs.Makes.{give_constant, give_new};
+ghost use Rattle.patterns_reads.specs.Plans.{choosing, combined, dividing_by, mirroring, subtracting};
+ghost use Rattle.patterns_runs.specs.Interning.{Added, IsNoRoom};
+ghost use Rattle.patterns.specs.Interned.{DifferenceAttrs};
+ghost use Rattle.patterns.specs.Making.{StandsFor};
+
+use crate::edits::{
+    cast_edits, chosen_edits, combined_edits, constant_edits, difference_edits, mirrored_edits,
+    remainder_edits,
+};
+use crate::interned::{flags_attr, flags_for, integer_type, predicate_attr, value_attr};
+use crate::site::Site;
+use ir_event::analysis::Analysis;
+use ir_tree::value::Value;
+use ir_types::ids::{AttrId, NameId, TypeId};
+use ir_types::refusal::Refusal;
+use patterns_runs::Bench;
+use patterns_runs::edit::Edit;
+use std::alloc::Global;
+
+/// A new constant.
+pub(crate) fn constant<L: Analysis>(
+    alloc: Global,
+    bench: &mut Bench<L>,
+    site: &Site,
+    ty: TypeId,
+    bits: u128,
+) -> Result<Vec<Edit>, Refusal>
+    requires of { IsType bench.old.desk.ctx ty }
+    requires room { site.now.next + 1 ≤ most_next }
+    ensures stands { IfOk result (λ es. StandsFor bench.new.desk.ctx es.items (give_constant site.now.front site.now.next site.now.op (type_term bench.old.desk.ctx ty) bits)) }
+    ensures refused { IfErr result (λ e. IsNoRoom bench.new.desk.ctx e) }
+    ensures added { Added L.meaning bench.old bench.new }
+{
+    let value = match value_attr(bench, ty, bits) {
+        Ok(value) => value,
+        Err(refusal) => return Err(refusal),
+    };
+    bench.is_formed();
+    match constant_edits(alloc, site, ty, value) {
+        Ok(edits) => Ok(edits),
+        Err(_) => Err(Refusal::Memory),
+    }
+}
+
+/// A new operation of one operand.
+pub(crate) fn recast<L: Analysis>(
+    alloc: Global,
+    bench: &mut Bench<L>,
+    site: &Site,
+    name: NameId,
+    ty: TypeId,
+    value: &Value,
+) -> Result<Vec<Edit>, Refusal>
+    requires name { IsName bench.old.desk.ctx name }
+    requires ty { IsType bench.old.desk.ctx ty }
+    requires room { site.now.next + 1 ≤ most_next }
+    ensures stands { IfOk result (λ es. StandsFor bench.new.desk.ctx es.items (give_new site.now.front site.now.next site.now.op (cast (name_term bench.old.desk.ctx name) (type_term bench.old.desk.ctx ty) value.now))) }
+    ensures refused { IfErr result (λ e. IsNoRoom bench.new.desk.ctx e) }
+    ensures added { Added L.meaning bench.old bench.new }
+{
+    bench.is_formed();
+    match cast_edits(alloc, site, name, ty, value) {
+        Ok(edits) => Ok(edits),
+        Err(_) => Err(Refusal::Memory),
+    }
+}
+
+/// A new constant, and an operation on a value and it.
+pub(crate) fn combination<L: Analysis>(
+    alloc: Global,
+    bench: &mut Bench<L>,
+    site: &Site,
+    name: NameId,
+    ty: TypeId,
+    operand: &Value,
+    bits: u128,
+) -> Result<Vec<Edit>, Refusal>
+    requires name { IsName bench.old.desk.ctx name }
+    requires ty { IsType bench.old.desk.ctx ty }
+    requires room { site.now.next + 2 ≤ most_next }
+    ensures stands { IfOk result (λ es. StandsFor bench.new.desk.ctx es.items (combined site.now.next site.now.op site.now.front (name_term bench.old.desk.ctx name) (type_term bench.old.desk.ctx ty) operand.now bits)) }
+    ensures refused { IfErr result (λ e. IsNoRoom bench.new.desk.ctx e) }
+    ensures added { Added L.meaning bench.old bench.new }
+{
+    let value = match value_attr(bench, ty, bits) {
+        Ok(value) => value,
+        Err(refusal) => return Err(refusal),
+    };
+    bench.is_formed();
+    let flags = match flags_for(bench, name) {
+        Ok(flags) => flags,
+        Err(refusal) => return Err(refusal),
+    };
+    bench.is_formed();
+    match combined_edits(alloc, site, name, ty, operand, value, flags) {
+        Ok(edits) => Ok(edits),
+        Err(_) => Err(Refusal::Memory),
+    }
+}
+
+/// Another predicate and other operands, in place.
+pub(crate) fn mirrored<L: Analysis>(
+    alloc: Global,
+    bench: &mut Bench<L>,
+    site: &Site,
+    predicate: u128,
+    first: &Value,
+    second: &Value,
+) -> Result<Vec<Edit>, Refusal>
+    ensures stands { IfOk result (λ es. StandsFor bench.new.desk.ctx es.items (mirroring site.now.op predicate first.now second.now)) }
+    ensures refused { IfErr result (λ e. IsNoRoom bench.new.desk.ctx e) }
+    ensures added { Added L.meaning bench.old bench.new }
+{
+    let predicate = match predicate_attr(bench, predicate) {
+        Ok(predicate) => predicate,
+        Err(refusal) => return Err(refusal),
+    };
+    bench.is_formed();
+    match mirrored_edits(alloc, site, predicate, first, second) {
+        Ok(edits) => Ok(edits),
+        Err(_) => Err(Refusal::Memory),
+    }
+}
+
+/// A new comparison, and a choice by it.
+pub(crate) fn choice<L: Analysis>(
+    alloc: Global,
+    bench: &mut Bench<L>,
+    site: &Site,
+    predicate: u128,
+    ty: TypeId,
+    first: &Value,
+    second: &Value,
+) -> Result<Vec<Edit>, Refusal>
+    requires ty { IsType bench.old.desk.ctx ty }
+    requires room { site.now.next + 2 ≤ most_next }
+    ensures stands { IfOk result (λ es. StandsFor bench.new.desk.ctx es.items (choosing site.now.next site.now.op site.now.front predicate (type_term bench.old.desk.ctx ty) first.now second.now)) }
+    ensures refused { IfErr result (λ e. IsNoRoom bench.new.desk.ctx e) }
+    ensures added { Added L.meaning bench.old bench.new }
+{
+    let predicate = match predicate_attr(bench, predicate) {
+        Ok(predicate) => predicate,
+        Err(refusal) => return Err(refusal),
+    };
+    bench.is_formed();
+    let truth = match integer_type(bench, 1) {
+        Ok(truth) => truth,
+        Err(refusal) => return Err(refusal),
+    };
+    bench.is_formed();
+    match chosen_edits(alloc, site, truth, predicate, ty, first, second) {
+        Ok(edits) => Ok(edits),
+        Err(_) => Err(Refusal::Memory),
+    }
+}
+
+/// The attributes of two constants of one type, and of flags of which none are set.
+fn difference_attrs<L: Analysis>(
+    bench: &mut Bench<L>,
+    ty: TypeId,
+    ones: u128,
+) -> Result<(AttrId, AttrId, AttrId), Refusal>
+    requires ty { IsType bench.old.desk.ctx ty }
+    ensures ok { IfOk result (λ a. DifferenceAttrs bench.new.desk.ctx (type_term bench.old.desk.ctx ty) ones a) }
+    ensures refused { IfErr result (λ e. IsNoRoom bench.new.desk.ctx e) }
+    ensures added { Added L.meaning bench.old bench.new }
+{
+    let ones = match value_attr(bench, ty, ones) {
+        Ok(value) => value,
+        Err(refusal) => return Err(refusal),
+    };
+    bench.is_formed();
+    let one = match value_attr(bench, ty, 1) {
+        Ok(value) => value,
+        Err(refusal) => return Err(refusal),
+    };
+    bench.is_formed();
+    let flags = match flags_attr(bench) {
+        Ok(flags) => flags,
+        Err(refusal) => return Err(refusal),
+    };
+    Ok((ones, one, flags))
+}
+
+/// The first value with the second one's complement, and 1 added.
+pub(crate) fn difference<L: Analysis>(
+    alloc: Global,
+    bench: &mut Bench<L>,
+    site: &Site,
+    ty: TypeId,
+    first: &Value,
+    second: &Value,
+    ones: u128,
+) -> Result<Vec<Edit>, Refusal>
+    requires ty { IsType bench.old.desk.ctx ty }
+    requires room { site.now.next + 5 ≤ most_next }
+    ensures stands { IfOk result (λ es. StandsFor bench.new.desk.ctx es.items (subtracting site.now.next site.now.op site.now.front (type_term bench.old.desk.ctx ty) first.now second.now ones)) }
+    ensures refused { IfErr result (λ e. IsNoRoom bench.new.desk.ctx e) }
+    ensures added { Added L.meaning bench.old bench.new }
+{
+    let (ones, one, flags) = match difference_attrs(bench, ty, ones) {
+        Ok(attrs) => attrs,
+        Err(refusal) => return Err(refusal),
+    };
+    bench.is_formed();
+    match difference_edits(alloc, site, ty, first, second, ones, one, flags) {
+        Ok(edits) => Ok(edits),
+        Err(_) => Err(Refusal::Memory),
+    }
+}
+
+/// What is left of the first value behind a division by the second.
+pub(crate) fn remainder<L: Analysis>(
+    alloc: Global,
+    bench: &mut Bench<L>,
+    site: &Site,
+    division: NameId,
+    ty: TypeId,
+    first: &Value,
+    second: &Value,
+) -> Result<Vec<Edit>, Refusal>
+    requires name { IsName bench.old.desk.ctx division }
+    requires ty { IsType bench.old.desk.ctx ty }
+    requires room { site.now.next + 3 ≤ most_next }
+    ensures stands { IfOk result (λ es. StandsFor bench.new.desk.ctx es.items (dividing_by site.now.next site.now.op site.now.front (name_term bench.old.desk.ctx division) (type_term bench.old.desk.ctx ty) first.now second.now)) }
+    ensures refused { IfErr result (λ e. IsNoRoom bench.new.desk.ctx e) }
+    ensures added { Added L.meaning bench.old bench.new }
+{
+    let flags = match flags_for(bench, division) {
+        Ok(flags) => flags,
+        Err(refusal) => return Err(refusal),
+    };
+    bench.is_formed();
+    let set = match flags_attr(bench) {
+        Ok(flags) => flags,
+        Err(refusal) => return Err(refusal),
+    };
+    bench.is_formed();
+    match remainder_edits(alloc, site, division, ty, first, second, flags, set) {
+        Ok(edits) => Ok(edits),
+        Err(_) => Err(Refusal::Memory),
+    }
+}

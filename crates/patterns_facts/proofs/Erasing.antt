@@ -1,0 +1,35 @@
+-- Erasing what is dead.
+use Rattle.std.proofs.Common.{refl, ℕ}
+use Rattle.ir_tree.specs.declared.place.Place.{Place}
+use Rattle.ir_tree.specs.Tree.{head}
+use Rattle.ir_tree.specs.Meaning.{Operation}
+use Rattle.patterns_base.specs.Looks.{Header}
+use Rattle.patterns_base.specs.Folding.{erase_dead}
+use Rattle.patterns_base.specs.Rules.{rule}
+use Rattle.patterns_base.specs.declared.rule.Rule.TheVariants.{EraseDead}
+use Rattle.patterns_base.proofs.Dispatch.{only_listed}
+use Rattle.patterns_facts.specs.Facts.{Facts}
+use Rattle.patterns_facts.proofs.Near.{still, tested, Fine}
+use Rattle.patterns_facts.proofs.Looking.{when_alike}
+use Rattle.patterns_facts.proofs.Accepting.{are_accepted_at}
+
+module _ (t : Operation) (n : ℕ) (place : Place) (o : Operation) where
+  abbrev h : Header
+  h = head o
+
+  abbrev x : ℕ
+  x = h.id
+
+  near_erase_dead : Fine place o (erase_dead t n place o)
+  near_erase_dead = tested place o _ _ (still place o _ refl)
+
+pub erase_dead_facts : Facts EraseDead
+unfolding rule
+erase_dead_facts = record {
+  keeps = tt;
+  listed = only_listed EraseDead;
+  near = λ lowers t n place o. (near_erase_dead t n place o).each;
+  alike = λ lowers t u n k f g o p looks. when_alike _ _ _ _ looks.goes refl;
+  accepted = are_accepted_at EraseDead;
+  makes = λ converts. absurd cc;
+}

@@ -1,0 +1,13 @@
+pub mod Near
+pub mod Looking
+pub mod Accepting
+pub mod Erasing
+pub mod Pairs
+pub mod Constants
+pub mod Comparisons
+pub mod Choices
+pub mod Casts
+pub mod Blocks
+pub mod Expanding
+pub mod Lowering
+pub mod Facts

@@ -1,0 +1,4 @@
+pub mod Near
+pub mod Alike
+pub mod Values
+pub mod Facts

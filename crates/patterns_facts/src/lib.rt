@@ -1,0 +1,4 @@
+//! All that is known of each rewrite rule, in one record a rule.
+#![tactic(auto)]
+
+pub mod laws;

@@ -1,5 +1,0 @@
-use Rattle.patterns_laws.proofs.Chosen.{one_chosen}
-use Rattle.patterns_laws.proofs.laws.rule_15.Goals as goal
-
-pub returns : goal.returns
-returns c = one_chosen

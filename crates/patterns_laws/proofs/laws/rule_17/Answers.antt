@@ -1,5 +1,0 @@
-use Rattle.patterns_laws.proofs.Chosen.{truth_chosen}
-use Rattle.patterns_laws.proofs.laws.rule_17.Goals as goal
-
-pub returns : goal.returns
-returns c = truth_chosen

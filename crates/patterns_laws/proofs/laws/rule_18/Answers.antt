@@ -1,5 +1,0 @@
-use Rattle.patterns_laws.proofs.Chosen.{chosen_by_opposite}
-use Rattle.patterns_laws.proofs.laws.rule_18.Goals as goal
-
-pub returns : goal.returns
-returns c = chosen_by_opposite

@@ -1,5 +1,0 @@
-use Rattle.patterns_laws.proofs.Recast.{all_came_back}
-use Rattle.patterns_laws.proofs.laws.rule_21.Goals as goal
-
-pub returns : goal.returns
-returns c = all_came_back

@@ -1,5 +1,0 @@
-use Rattle.patterns_laws.proofs.Lowered.{all_chosen}
-use Rattle.patterns_laws.proofs.laws.rule_25.Goals as goal
-
-pub returns : goal.returns
-returns c = all_chosen

@@ -1,5 +1,0 @@
-use Rattle.patterns_laws.proofs.PairRules.{all_swapped}
-use Rattle.patterns_laws.proofs.laws.rule_3.Goals as goal
-
-pub returns : goal.returns
-returns c = all_swapped

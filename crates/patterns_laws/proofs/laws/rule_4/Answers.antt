@@ -1,5 +1,0 @@
-use Rattle.patterns_laws.proofs.PairRules.{all_zero_kept}
-use Rattle.patterns_laws.proofs.laws.rule_4.Goals as goal
-
-pub returns : goal.returns
-returns c = all_zero_kept

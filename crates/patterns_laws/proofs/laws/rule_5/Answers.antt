@@ -1,5 +1,0 @@
-use Rattle.patterns_laws.proofs.PairRules.{all_one_kept}
-use Rattle.patterns_laws.proofs.laws.rule_5.Goals as goal
-
-pub returns : goal.returns
-returns c = all_one_kept

@@ -1,5 +1,0 @@
-use Rattle.patterns_laws.proofs.PairRules.{all_itself_given}
-use Rattle.patterns_laws.proofs.laws.rule_8.Goals as goal
-
-pub returns : goal.returns
-returns c = all_itself_given

@@ -1,5 +1,0 @@
-use Rattle.patterns_laws.proofs.PairRules.{all_left_nothing}
-use Rattle.patterns_laws.proofs.laws.rule_9.Goals as goal
-
-pub returns : goal.returns
-returns c = all_left_nothing

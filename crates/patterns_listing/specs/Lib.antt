@@ -1,4 +1,0 @@
-pub mod Shown
-pub mod Adding
-pub mod Parts
-pub use Rattle.patterns_touched.specs as touching

@@ -1,0 +1,20 @@
+-- The rules that lower, by their names.
+use Rattle.std.proofs.Common.{◌≡◌, ap, sym, ℕ}
+use Rattle.ir_tree.specs.declared.place.Place.{Place}
+use Rattle.ir_tree.specs.Meaning.{Operation}
+use Rattle.patterns_base.specs.Lowering.{lower_index, lower_loop, lower_choice}
+use Rattle.patterns_base.specs.Rules.{rule}
+use Rattle.patterns_base.specs.declared.rule.Rule.{Rule}
+use Rattle.patterns_base.specs.declared.rule.Rule.TheVariants.{LowerIndex, LowerLoop, LowerChoice}
+
+pub at_lower_index : (r : Rule) → r ≡ LowerIndex → (t : Operation) (n : ℕ) (front : Place) (o : Operation) → lower_index t n front o ≡ rule r t n front o
+unfolding rule
+at_lower_index r k t n front o = ap (λ r. rule r t n front o) (sym k)
+
+pub at_lower_loop : (r : Rule) → r ≡ LowerLoop → (t : Operation) (n : ℕ) (front : Place) (o : Operation) → lower_loop t n front o ≡ rule r t n front o
+unfolding rule
+at_lower_loop r k t n front o = ap (λ r. rule r t n front o) (sym k)
+
+pub at_lower_choice : (r : Rule) → r ≡ LowerChoice → (t : Operation) (n : ℕ) (front : Place) (o : Operation) → lower_choice t n front o ≡ rule r t n front o
+unfolding rule
+at_lower_choice r k t n front o = ap (λ r. rule r t n front o) (sym k)

@@ -1,0 +1,46 @@
+use Rattle.std.proofs.Common.{sym, ap, ◌∙◌, subst}
+use Rattle.std.specs.Prelude.{codes}
+use Rattle.ir_types.specs.Terms.{name_term}
+use Rattle.ir_event.specs.Modules.{module_in}
+use Rattle.patterns_base.specs.Words.{named}
+use Rattle.patterns_base.specs.Lowering.{any, lower_loop}
+use Rattle.patterns_regions.specs.Blocks.{body_at}
+use Rattle.patterns_lowering.specs.Planned.{AreTaken}
+use Rattle.patterns_lowering.proofs.Shown.{raw, types_known_at}
+use Rattle.patterns_lowering.proofs.Ruled.{not_there, not_lower_loop, unmarked_lower_loop, no_block_lower_loop, is_lower_loop, indexed_lower_loop}
+use Rattle.patterns_lowering.proofs.plans.plan_lower_loop.Goals as goal
+
+pub returns-in_default-clause-edits : goal.returns-in_default-clause-edits
+returns-in_default-clause-edits c = not_there lower_loop c.args.world.now c.args.op c.in_default.ensures
+
+pub returns-then-not-is_word-clause-edits : goal.returns-then-not-is_word-clause-edits
+returns-then-not-is_word-clause-edits c =
+    not_lower_loop c.args.world.now c.args.op c.in-Some.node c.in-Some.ensures c.is_word.result (c.is_word.ensures ∙ ap (λ n. named (codes "scf.for") (name_term c.args.world.now.ctx n)) c.name.ensures) c.if-not-is_word.true
+
+pub returns-then-not-any-clause-edits : goal.returns-then-not-any-clause-edits
+returns-then-not-any-clause-edits c =
+    unmarked_lower_loop c.args.world.now c.args.op c.in-Some.node c.in-Some.ensures c.in_ok-of.of c.in_ok-of.ensures c.any.result (c.any.ensures ∙ ap any c.deref.ensures.value) c.if-not-any.true
+
+pub returns-in_default-arguments-clause-edits : goal.returns-in_default-arguments-clause-edits
+returns-in_default-arguments-clause-edits c = no_block_lower_loop c.args.world.now c.args.op c.in-Some.node c.in-Some.ensures c.in_ok-of.of c.in_ok-of.ensures c.in_default-arguments.ensures
+
+pub indices-requires : goal.indices-requires
+indices-requires c = types_known_at c.args.world.now c.args.op c.in-Some.node (raw c.args.world.now c.args.op c.in-Some.node c.in-Some.ensures) 0 c.in-Some-arguments.types.now (sym c.in-Some-arguments.ensures)
+
+pub returns-clause-edits : goal.returns-clause-edits
+returns-clause-edits c =
+    is_lower_loop c.args.world.now c.args.op c.in-Some.node c.in-Some.ensures
+    (record { of = c.in_ok-of.of; arguments = c.in_ok-arguments.arguments; index_arguments = c.in_ok-index_arguments.index_arguments; body = c.in-Some-2.body })
+    c.in_ok-of.ensures c.is_word.result (c.is_word.ensures ∙ ap (λ n. named (codes "scf.for") (name_term c.args.world.now.ctx n)) c.name.ensures) c.if-not-is_word.false
+    c.in-Some-arguments.types.now (sym c.in-Some-arguments.ensures) c.in_ok-arguments.ensures.items c.in_ok-index_arguments.ensures
+    (subst (λ b. AreTaken (body_at c.args.op 0 (module_in c.args.world.now).tree) b) c.in-Some-2.is c.in_ok-body.ensures)
+    c.any.result (c.any.ensures ∙ ap any c.deref.ensures.value) c.if-not-any.false
+
+pub returns-clause-of : goal.returns-clause-of
+returns-clause-of c =
+    indexed_lower_loop c.args.world.now c.args.op c.in-Some.node c.in-Some.ensures
+    (record { of = c.in_ok-of.of; arguments = c.in_ok-arguments.arguments; index_arguments = c.in_ok-index_arguments.index_arguments; body = c.in-Some-2.body })
+    c.in_ok-of.ensures c.is_word.result (c.is_word.ensures ∙ ap (λ n. named (codes "scf.for") (name_term c.args.world.now.ctx n)) c.name.ensures) c.if-not-is_word.false
+    c.in-Some-arguments.types.now (sym c.in-Some-arguments.ensures) c.in_ok-arguments.ensures.items c.in_ok-index_arguments.ensures
+    (subst (λ b. AreTaken (body_at c.args.op 0 (module_in c.args.world.now).tree) b) c.in-Some-2.is c.in_ok-body.ensures)
+    c.requires

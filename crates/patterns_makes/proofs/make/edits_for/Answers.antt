@@ -1,5 +1,0 @@
-use Rattle.patterns_makes.proofs.Adding.{added_none}
-use Rattle.patterns_makes.proofs.make.edits_for.Goals as goal
-
-pub returns-in-Edits-clause-added : goal.returns-in-Edits-clause-added
-returns-in-Edits-clause-added g c = added_none g.L.Analysis.meaning c.args.bench.now

@@ -1,6 +1,0 @@
-use Rattle.patterns_makes.proofs.Standing.{mirrored_edits_stand}
-use Rattle.patterns_makes.proofs.plans.mirrored.Goals as goal
-
-pub returns-in-Ok-mirrored_edits-clause-stands : goal.returns-in-Ok-mirrored_edits-clause-stands
-returns-in-Ok-mirrored_edits-clause-stands g c =
-    mirrored_edits_stand c.predicate_attr.new.bench.desk.ctx c.is_formed.ensures.context c.args.site.now c.in-Ok.predicate c.args.predicate c.in-Ok.ensures.ok c.args.first.now c.args.second.now _ c.in-Ok-mirrored_edits.ensures

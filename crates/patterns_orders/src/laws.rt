@@ -1,9 +1,0 @@
-//! Laws of the order of operations. Each is a function that does nothing: its contract is the law.
-ghost use Rattle.patterns_orders.specs.Orders.{RewritesAreOrderly, RootHasNone};
-
-/// The lowest rule of 1 to 24 that applies at an operation leaves the operations before it, and those that stay keep
-/// their order. None applies at the root.
-pub fn rewrites_are_orderly()
-    ensures orderly { RewritesAreOrderly }
-    ensures root { RootHasNone }
-{}

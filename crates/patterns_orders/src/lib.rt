@@ -1,4 +1,0 @@
-//! Rewrites keep the order of the operations that stay.
-#![tactic(auto)]
-
-pub mod laws;

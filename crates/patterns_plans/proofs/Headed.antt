@@ -1,0 +1,152 @@
+-- The rules that are planned by what is shown of an operation look at its head alone.
+use Rattle.std.proofs.Common.{◌≡◌, ap, sym, ◌∙◌, ℕ, Bool, true, false, [], ◌∷◌, Option, Some, None, option_map}
+use Rattle.ir_tree.specs.declared.place.Place.{Place}
+use Rattle.ir_tree.specs.Tree.{op, no_regions, head}
+use Rattle.ir_tree.specs.Ids.{find}
+use Rattle.ir_tree.specs.Meaning.{Operation}
+use Rattle.ir_tree_laws.proofs.Members.{found_stands}
+use Rattle.ir_store.specs.Nodes.{Node}
+use Rattle.ir_event.specs.declared.world.World.{World}
+use Rattle.ir_event.specs.Modules.{module_in}
+use Rattle.effects.specs.Dead.{dead_at, dead_in, is_dead}
+use Rattle.patterns_edits.specs.Edits.{Erase}
+use Rattle.patterns_reads.specs.Folding.{fold_to_constant, swap_constant, drop_zero, drop_one, drop_all_ones, cancel_itself, keep_itself, zero_remainder, regroup_constants, add_negative, compare_itself, mirror_comparison, compare_zero, choose_same, choose_known, choose_truth, choose_opposite, expand_min_max, expand_difference, expand_remainder}
+use Rattle.patterns_reads.specs.Casting.{extend_extension, cut_cast, cast_back}
+use Rattle.patterns_reads.specs.Looks.{Header, may_go, when}
+use Rattle.patterns_reads.specs.Reads.{head_at, head_in}
+use Rattle.patterns_reads.specs.Rule.{Rule}
+use Rattle.patterns_reads.specs.Rule.TheVariants.{EraseDead, FoldToConstant, SwapConstant, DropZero, DropOne, DropAllOnes, CancelItself, KeepItself}
+use Rattle.patterns_reads.specs.Rule.TheVariants.{ZeroRemainder, RegroupConstants, AddNegative, CompareItself, MirrorComparison, CompareZero, ChooseSame}
+use Rattle.patterns_reads.specs.Rule.TheVariants.{ChooseKnown, ChooseTruth, ChooseOpposite, ExtendExtension, CutCast, CastBack, ExpandMinMax}
+use Rattle.patterns_reads.specs.Rule.TheVariants.{ExpandDifference, ExpandRemainder}
+use Rattle.patterns_reads.specs.Rules.{rule}
+use Rattle.patterns_reads.specs.declared.plan.Plan.{Plan}
+use Rattle.patterns_plans.specs.Planned.{Making, IsPlanned, IsPlanAt}
+
+-- what is shown of x, with its id, is its head
+same_head : (x : ℕ) (t : Operation) (h : Header) (o : Operation) → Some h ≡ head_at x t → find x t ≡ Some o → record h { id = x } ≡ head o
+same_head x t h o e f =
+    let w = found_stands x t o f in
+    let shown : Some h ≡ Some (head o) = e ∙ ap (option_map (λ o. head o)) f in
+    let one : h ≡ head o = cc in
+    let id : x ≡ (head o).id = sym w.2 ∙ ap (λ (z : Operation). (head z).id) w.3 in
+    λ i. record (one i) { id = id i }
+
+-- a rule makes those edits, and looks at the head of an operation alone
+abbrev LooksAtHead : Making → Rule → Type 0
+LooksAtHead makes r = (t : Operation) (n : ℕ) (front : Place) (h : Header) (o : Operation) → h ≡ head o → makes t n front (op h no_regions) ≡ rule r t n front o
+
+-- what is planned by a head is planned of the operation
+pub planned_at : (makes : Making) (s : Rule) → LooksAtHead makes s → (r : Rule) → r ≡ s → (w : World) (x : ℕ) (node : Node) (p : Option Plan)
+    → Some (head_in w.ctx node) ≡ head_at x (module_in w).tree → IsPlanned makes w x node p → IsPlanAt r w x p
+planned_at makes s looks r is w x node p e planned o f n front =
+    planned n front
+    ∙ looks (module_in w).tree n front (record (head_in w.ctx node) { id = x }) o (same_head x (module_in w).tree (head_in w.ctx node) o e f)
+    ∙ ap (λ r. rule r (module_in w).tree n front o) (sym is)
+
+pub at_fold_to_constant : LooksAtHead fold_to_constant FoldToConstant
+unfolding rule
+at_fold_to_constant t n front h o e = ap (λ z. fold_to_constant t n front (op z no_regions)) e
+
+pub at_swap_constant : LooksAtHead swap_constant SwapConstant
+unfolding rule
+at_swap_constant t n front h o e = ap (λ z. swap_constant t n front (op z no_regions)) e
+
+pub at_drop_zero : LooksAtHead drop_zero DropZero
+unfolding rule
+at_drop_zero t n front h o e = ap (λ z. drop_zero t n front (op z no_regions)) e
+
+pub at_drop_one : LooksAtHead drop_one DropOne
+unfolding rule
+at_drop_one t n front h o e = ap (λ z. drop_one t n front (op z no_regions)) e
+
+pub at_drop_all_ones : LooksAtHead drop_all_ones DropAllOnes
+unfolding rule
+at_drop_all_ones t n front h o e = ap (λ z. drop_all_ones t n front (op z no_regions)) e
+
+pub at_cancel_itself : LooksAtHead cancel_itself CancelItself
+unfolding rule
+at_cancel_itself t n front h o e = ap (λ z. cancel_itself t n front (op z no_regions)) e
+
+pub at_keep_itself : LooksAtHead keep_itself KeepItself
+unfolding rule
+at_keep_itself t n front h o e = ap (λ z. keep_itself t n front (op z no_regions)) e
+
+pub at_zero_remainder : LooksAtHead zero_remainder ZeroRemainder
+unfolding rule
+at_zero_remainder t n front h o e = ap (λ z. zero_remainder t n front (op z no_regions)) e
+
+pub at_regroup_constants : LooksAtHead regroup_constants RegroupConstants
+unfolding rule
+at_regroup_constants t n front h o e = ap (λ z. regroup_constants t n front (op z no_regions)) e
+
+pub at_add_negative : LooksAtHead add_negative AddNegative
+unfolding rule
+at_add_negative t n front h o e = ap (λ z. add_negative t n front (op z no_regions)) e
+
+pub at_compare_itself : LooksAtHead compare_itself CompareItself
+unfolding rule
+at_compare_itself t n front h o e = ap (λ z. compare_itself t n front (op z no_regions)) e
+
+pub at_mirror_comparison : LooksAtHead mirror_comparison MirrorComparison
+unfolding rule
+at_mirror_comparison t n front h o e = ap (λ z. mirror_comparison t n front (op z no_regions)) e
+
+pub at_compare_zero : LooksAtHead compare_zero CompareZero
+unfolding rule
+at_compare_zero t n front h o e = ap (λ z. compare_zero t n front (op z no_regions)) e
+
+pub at_choose_same : LooksAtHead choose_same ChooseSame
+unfolding rule
+at_choose_same t n front h o e = ap (λ z. choose_same t n front (op z no_regions)) e
+
+pub at_choose_known : LooksAtHead choose_known ChooseKnown
+unfolding rule
+at_choose_known t n front h o e = ap (λ z. choose_known t n front (op z no_regions)) e
+
+pub at_choose_truth : LooksAtHead choose_truth ChooseTruth
+unfolding rule
+at_choose_truth t n front h o e = ap (λ z. choose_truth t n front (op z no_regions)) e
+
+pub at_choose_opposite : LooksAtHead choose_opposite ChooseOpposite
+unfolding rule
+at_choose_opposite t n front h o e = ap (λ z. choose_opposite t n front (op z no_regions)) e
+
+pub at_extend_extension : LooksAtHead extend_extension ExtendExtension
+unfolding rule
+at_extend_extension t n front h o e = ap (λ z. extend_extension t n front (op z no_regions)) e
+
+pub at_cut_cast : LooksAtHead cut_cast CutCast
+unfolding rule
+at_cut_cast t n front h o e = ap (λ z. cut_cast t n front (op z no_regions)) e
+
+pub at_cast_back : LooksAtHead cast_back CastBack
+unfolding rule
+at_cast_back t n front h o e = ap (λ z. cast_back t n front (op z no_regions)) e
+
+pub at_expand_min_max : LooksAtHead expand_min_max ExpandMinMax
+unfolding rule
+at_expand_min_max t n front h o e = ap (λ z. expand_min_max t n front (op z no_regions)) e
+
+pub at_expand_difference : LooksAtHead expand_difference ExpandDifference
+unfolding rule
+at_expand_difference t n front h o e = ap (λ z. expand_difference t n front (op z no_regions)) e
+
+pub at_expand_remainder : LooksAtHead expand_remainder ExpandRemainder
+unfolding rule
+at_expand_remainder t n front h o e = ap (λ z. expand_remainder t n front (op z no_regions)) e
+
+-- that a dead operation goes is asked of the operation itself
+found_id : (x : ℕ) (t o : Operation) → find x t ≡ Some o → (head o).id ≡ x
+found_id x t o e = let w = found_stands x t o e in ap (λ (z : Operation). (head z).id) (sym w.3) ∙ w.2
+
+dead_is : (x : ℕ) (t o : Operation) (b : Bool) → b ≡ dead_at x t → find x t ≡ Some o → b ≡ is_dead t o
+dead_is x t o b e f = e ∙ ap (dead_in t) f
+
+pub none_dead : (x : ℕ) (t o : Operation) (b : Bool) → b ≡ dead_at x t → b ≡ false → find x t ≡ Some o → (n : ℕ) (front : Place) → None ≡ rule EraseDead t n front o
+unfolding rule may_go
+none_dead x t o b e k f n front = sym (ap (λ c. when c (Some (Erase (head o).id ∷ []))) (sym (dead_is x t o b e f) ∙ k))
+
+pub one_dead : (x : ℕ) (t o : Operation) (b : Bool) → b ≡ dead_at x t → b ≡ true → find x t ≡ Some o → (n : ℕ) (front : Place) → Some (Erase x ∷ []) ≡ rule EraseDead t n front o
+unfolding rule may_go
+one_dead x t o b e k f n front = sym (ap (λ c. when c (Some (Erase (head o).id ∷ []))) (sym (dead_is x t o b e f) ∙ k) ∙ ap (λ y. Some (Erase y ∷ [])) (found_id x t o f))

@@ -1,4 +1,0 @@
-pub mod Bits
-pub mod Booleans
-pub mod Names
-pub mod Resizing

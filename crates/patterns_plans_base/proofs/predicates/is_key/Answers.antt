@@ -1,8 +1,0 @@
-use Rattle.std.proofs.Common.{◌∙◌}
-use Rattle.std.specs.Prelude.{codes}
-use Rattle.ir_types.specs.Terms.{name_term}
-use Rattle.dialects_int.proofs.RuleTable.{turned}
-use Rattle.patterns_plans_base.proofs.predicates.is_key.Goals as goal
-
-pub returns : goal.returns
-returns c = c.is_word.ensures ∙ turned (name_term c.args.ctx.now c.args.name) (codes "predicate")

@@ -1,0 +1,15 @@
+-- The type of true and false.
+use Rattle.std.proofs.Common.{◌≡◌, refl}
+use Rattle.ir_types.specs.Terms.{TypeTerm, Integer, Index, Function, Memref}
+use Rattle.ir_types.specs.declared.node.Sign.TheVariants.{Signless, Signed, Unsigned}
+use Rattle.ir_types.specs.SameTypes.{same_type}
+use Rattle.ir_verify_base.specs.Types.{is_boolean}
+use Rattle.patterns_base.specs.Made.{i1}
+
+pub boolean_is : (ty : TypeTerm) → is_boolean ty ≡ same_type ty i1
+boolean_is (Integer Signless w) = refl
+boolean_is (Integer Signed w) = refl
+boolean_is (Integer Unsigned w) = refl
+boolean_is Index = refl
+boolean_is (Function is os) = refl
+boolean_is (Memref ds e) = refl

@@ -1,0 +1,81 @@
+//! What rules ask of types.
+ghost use Rattle.std.specs.Prelude.{◌≡◌, ◌≤◌, List};
+ghost use Rattle.ir_types.specs.Limits.{most_width};
+ghost use Rattle.ir_types.specs.Readings.{type_width};
+ghost use Rattle.ir_types.specs.Things.{IsType};
+ghost use Rattle.ir_types.specs.Terms.{TypeTerm, type_from, type_term};
+ghost use Rattle.ir_types.specs.SameTypes.{same_type};
+ghost use Rattle.dialects_int.specs.Arithmetic.{all_ones, difference_of};
+ghost use Rattle.ir_event.specs.Modules.{module_in};
+ghost use Rattle.patterns_base.specs.Looks.{is_of_type};
+ghost use Rattle.patterns_base.specs.Made.{i1};
+
+use ir_event::world::World;
+use ir_tree::value::Value;
+use ir_types::context::Context;
+use ir_types::ids::TypeId;
+use ir_types::node::TypeNode;
+use ir_types::readings::mask;
+use ir_types::things::type_of;
+use ir_verify_base::types;
+
+/// Whether a type is `i1`.
+pub fn is_boolean(ctx: &Context, ty: TypeId) -> bool
+    requires { IsType ctx.now ty }
+    ensures { result ≡ same_type (type_term ctx.now ty) i1 }
+{
+    types::is_boolean(ctx, ty)
+}
+
+/// Whether a value is of a type.
+pub fn is_of_type(world: &World, ty: TypeId, value: Value) -> bool
+    requires { IsType world.now.ctx ty }
+    ensures { result ≡ is_of_type (module_in world.now).tree (type_term world.now.ctx ty) value }
+{
+    match world.store.value_type(value) {
+        Some(own) => types::same(&world.ctx, own, ty),
+        None => false,
+    }
+}
+
+/// How many bits an integer of a type has, or 0 where it has no integers.
+pub fn type_width(ctx: &Context, ty: TypeId) -> u32
+    requires { IsType ctx.now ty }
+    ensures width { result ≡ type_width (type_term ctx.now ty) }
+    ensures narrow { result ≤ most_width }
+{
+    ctx.sound();
+    width_in(type_of(ctx, ty))
+}
+
+fn width_in(node: &TypeNode) -> u32
+    ensures { (known : List TypeTerm) → result ≡ type_width (type_from known node.now) }
+{
+    match node {
+        TypeNode::Int { width, .. } => *width,
+        TypeNode::Index => 64,
+        TypeNode::Func { .. } => 0,
+        TypeNode::Memref { .. } => 0,
+    }
+}
+
+/// The bits of a type, all set.
+pub fn all_ones(ctx: &Context, ty: TypeId) -> u128
+    requires { IsType ctx.now ty }
+    ensures { result ≡ all_ones (type_width (type_term ctx.now ty)) }
+{
+    let width = type_width(ctx, ty);
+    if width == 0 { 0 } else { mask(width) }
+}
+
+/// The bits of what is left of 0 behind others are taken off, in a width.
+pub fn negated(width: u32, bits: u128) -> u128
+    requires { width ≤ most_width }
+    ensures { result ≡ difference_of width 0 bits }
+{
+    if width == 0 {
+        0
+    } else {
+        0u128.wrapping_sub(bits) & mask(width)
+    }
+}

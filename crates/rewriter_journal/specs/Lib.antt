@@ -1,3 +1,0 @@
-pub mod Journals
-pub use Rattle.ir_event.specs.Edits
-pub use Rattle.ir_event.specs.Undoing
