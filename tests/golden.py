@@ -71,8 +71,9 @@ def stands(pieces):
     if len(pieces) == 1 and pieces[0][0] == 1 and is_plain(pieces[0][1]):
         text = pieces[0][1]
         return ([], text) if not text or text.endswith(b"\n") else (["open"], text + b"\n")
-    lines = [f"{times} {part}" for times, text in pieces for part in [escaped(text)]]
-    return ["pieces"], "".join(line + "\n" for line in lines).encode()
+    parts_of = [(times, part) for times, text in pieces
+                for part in (re.findall(rb"[^\n]*\n|[^\n]+", text) if times == 1 else [text])]
+    return ["pieces"], "".join(f"{times} {escaped(part)}\n" for times, part in parts_of).encode()
 
 
 def header(*words):
@@ -140,14 +141,19 @@ def answers_of(file):
     return found
 
 
+def cut_text(answers):
+    """What is written for all beginnings of an input, a line for each, of their statuses and bytes."""
+    lines = (b"%d %d %s" % (count, status, out.rstrip(b"\n").replace(b"\n", b" | "))
+             for count, (status, out) in enumerate(answers))
+    return max(status for status, _ in answers), b"".join(line.rstrip() + b"\n" for line in lines)
+
+
 def told(case, run):
     """What is written for a case, as it stands in a file, where `run` gives status and bytes for words and an input."""
     answers = [run(case.words, text) for text in case.inputs()]
     if not case.is_cut:
         return out_text(case.name, *answers[0])
-    lines = [b"%d %d %s\n" % (count, status, out.rstrip(b"\n").replace(b"\n", b" | "))
-             for count, (status, out) in enumerate(answers)]
-    return out_text(case.name, max(status for status, _ in answers), b"".join(lines))
+    return out_text(case.name, *cut_text(answers))
 
 
 class Collected:

@@ -58,8 +58,7 @@ def built():
 
 def agree_on_version():
     """Stops where the program that was built says another version than CHANGELOG.md."""
-    ran = subprocess.run([sources.BUILT, "--version"], stdout=subprocess.PIPE, stderr=subprocess.DEVNULL, text=True,
-                         check=False)
+    ran = subprocess.run([sources.BUILT, "--version"], capture_output=True, text=True, check=False)
     if not ran.returncode and ran.stdout.split()[1:] != [version()]:
         sys.exit(f"the program says {ran.stdout.strip()}, and CHANGELOG.md {version()}")
 
@@ -84,8 +83,8 @@ def compare():
         return
     shipped, (program, _) = sources.unpacked(), built()
     if program != shipped:
-        place = next((at for at, (one, other) in enumerate(zip(program, shipped)) if one != other),
-                     min(len(program), len(shipped)))
+        pairs = enumerate(zip(program, shipped))
+        place = next((at for at, (one, other) in pairs if one != other), min(len(program), len(shipped)))
         sys.exit(f"dist/ says that it is of these sources, but what was built of them is another program: "
                  f"{len(program)} bytes and {len(shipped)}, first different at byte {place}")
 

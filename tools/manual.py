@@ -29,9 +29,9 @@ def man(text, version):
     about, _, rest = text.partition("\nUsage: ")
     usage, _, rest = rest.partition("\n")
     found = [f'.TH MLIR_WORK 1 "" "mlir_work {version}"', ".SH NAME",
-             f"{PROGRAM} \\- {plain(' '.join(about.split('.')[0].split()).replace('Edits', 'edits'))}", ".SH SYNOPSIS",
-             plain(usage), ".br",
-             f"{PROMPT} MODULE [SCRIPT]", ".SH DESCRIPTION", plain(about.strip()), ".PP",
+             f"{PROGRAM} \\- {plain(' '.join(about.split('.')[0].split()).replace('Edits', 'edits'))}",
+             ".SH SYNOPSIS", plain(usage), ".br", f"{PROMPT} MODULE [SCRIPT]",
+             ".SH DESCRIPTION", plain(about.strip()), ".PP",
              f"{PROMPT} is a prompt over a module: it takes one command after another, and `help` there lists them."]
     for part in rest.strip("\n").split("\n\n"):
         title = re.match(r"([A-Z][\w ]*):\n|(?=(Commands), )", part)
@@ -57,8 +57,8 @@ complete -f -X '!*.@(mlir|script)' -o plusdirs {PROMPT}
 def zsh(text, _):
     """Completion for zsh."""
     quoted = [about.replace("'", "").replace("[", "\\[").replace("]", "\\]") for *_, about in options(text)]
-    rows = [f"  '--{word}[{about}]{':' + takes if takes else ''}'" for (_, word, takes, _),
-            about in zip(options(text), quoted)]
+    rows = [f"  '--{word}[{about}]{':' + takes if takes else ''}'"
+            for (_, word, takes, _), about in zip(options(text), quoted)]
     return f"""#compdef {PROGRAM} {PROMPT}
 if [[ $service = {PROMPT} ]]; then
   _arguments '--help[Print help]' '--version[Print version]' '*:file:_files'

@@ -107,8 +107,7 @@ def unpacked():
     except lzma.LZMAError as fault:
         sys.exit(f"dist/{PACKED.name} can't be unpacked: {fault}")
     if digest_of(program) != entries(MANIFEST).get("program"):
-        sys.exit(f"dist/{PACKED.name} isn't the program that dist/MANIFEST speaks of: its SHA-256 is "
-                 f"{digest_of(program)}")
+        sys.exit(f"dist/{PACKED.name} isn't the program of dist/MANIFEST: its SHA-256 is {digest_of(program)}")
     return program
 
 
@@ -125,9 +124,9 @@ def unpack():
 def built(of_sources):
     """The program that was built here, where it is of these sources."""
     said = entries(RECORD)
-    is_same = said.get("sources") == of_sources and BUILT.is_file() and said.get("program") == digest_of(
-        BUILT.read_bytes())
-    return BUILT if is_same else None
+    if said.get("sources") != of_sources or not BUILT.is_file():
+        return None
+    return BUILT if said.get("program") == digest_of(BUILT.read_bytes()) else None
 
 
 def record(of_sources):
@@ -162,9 +161,9 @@ def main():
         record(digest())
     elif sys.argv[1:] == ["--program"]:
         found = program()
-        print(found or "no program is of these sources: `./run --help` builds one", file=sys.stdout if found
-              else sys.stderr)
-        sys.exit(not found)
+        if not found:
+            sys.exit("no program is of these sources: `./run --help` builds one")
+        print(found)
     elif sys.argv[1:2] == ["--version"] and len(sys.argv) == 3:
         print(version(sys.argv[2]))
     elif sys.argv[1:]:

@@ -5,7 +5,8 @@ the top of the repository.
 
 What is said is taken from the rules in Python (bench/reference/rules.py and printing.py), which share nothing with the
 crates, and from answers written by hand here and in ir_text_tables.py; where there are both they must be one. A text
-that is accepted also stands there as it is printed, and must then be printed so again. """
+that is accepted also stands there as it is printed, and must then be printed so again.
+"""
 
 import itertools
 import pathlib

@@ -83,10 +83,9 @@ class Golden:
             self.cases.case(["--brief"], pieces, (0, b""))
         else:
             behind = b"" if text.endswith(b"\n") or not text else b"\n"
-            pieces = [*pieces[:-1],
-                      (1, pieces[-1][1] + behind + DIVIDER
-                       + b"print\n")] if len(pieces) == 1 and pieces[0][0] == 1 else \
-                [*pieces, (1, behind + DIVIDER + b"print\n")]
+            asked = behind + DIVIDER + b"print\n"
+            is_one = len(pieces) == 1 and pieces[0][0] == 1
+            pieces = [(1, text + asked)] if is_one else [*pieces, (1, asked)]
             self.cases.case(["--brief"], pieces, (0, b"1 ok\n" + answer.encode()))
 
     def cuts(self, part, text):
@@ -95,16 +94,14 @@ class Golden:
         for number in range(len(text)):
             try:
                 rules.Reader(text[:number]).source()
-                said.append((0, b"%d 0 \n" % number))
+                said.append((0, b""))
             except rules.Refused as fault:
-                said.append((3, f"{number} 3 module refused {printing.refusal(fault)}\n".encode()))
+                said.append((3, f"module refused {printing.refusal(fault)}\n".encode()))
         self.cases.begin(f"texts/{part}")
-        self.cases.case(["--brief"], text, (max(status for status, _ in said), b"".join(line for _, line in said)),
-                        True)
+        self.cases.case(["--brief"], text, golden.cut_text(said), True)
 
     def attribute(self, part, text):
-        """An attribute: behind `set-attr`, and in a module where a line can't have it as it stands. Whether it is
-        there."""
+        """An attribute behind `set-attr`, and in a module where no line can have it so. Whether it is there."""
         if len(text) >= MOST_HELD:
             return False
         held = is_held(text)
@@ -170,8 +167,7 @@ def one_of(golden_files, made):
 
 
 def printed_large(made):
-    """What is printed for a module of very many operations `"t"() : () -> ()`, some of which stand in a module
-    inside."""
+    """What is printed for a module of very many operations `"t"() : () -> ()`, some of them in a module inside."""
     pieces = pieces_of(made.text)
     many = max(times for times, _ in pieces)
     front, one, back = '"builtin.module"() ({\n', '"t"() : () -> ()\n', "}) : () -> ()\n"

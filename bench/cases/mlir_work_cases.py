@@ -26,6 +26,7 @@ from reference.lines import Table, given, told  # noqa: E402
 sys.path.append(str(pathlib.Path("tests").resolve()))
 import golden  # noqa: E402
 
+VERSION = re.search(rb"(?m)^## (\S+)", pathlib.Path("CHANGELOG.md").read_bytes())[1]
 TABLE, GOLDEN = Table(), golden.Collected()
 case = TABLE.case
 MOST_READS = 40000000
@@ -778,18 +779,15 @@ def sweeps():
 
 def whole_cut(text):
     """A golden case of all beginnings of a module's text."""
-    lines = []
-    for count in range(len(text)):
-        status, out = script.run(text[:count], True, script.BOXES, script.ALL)
-        lines.append((status, b"%d %d %s\n" % (count, status, out.rstrip(b"\n"))))
-    GOLDEN.case(["--brief"], text, (max(status for status, _ in lines), b"".join(line for _, line in lines)), True)
+    answers = [script.run(text[:count], True, script.BOXES, script.ALL) for count in range(len(text))]
+    GOLDEN.case(["--brief"], text, golden.cut_text(answers), True)
 
 
 def sums(count):
     """A module in which so many rewrites can be made: sums of two constants, each used."""
     one = b'%0 = "arith.constant"() <{value = 1 : i32}> : () -> i32\n'
-    return one + b"".join(b'%%%d = "arith.addi"(%%0, %%0) : (i32, i32) -> i32\n"t.u"(%%%d) : (i32) -> ()\n' % (n, n)
-                          for n in range(1, count + 1))
+    used = b'%%%d = "arith.addi"(%%0, %%0) : (i32, i32) -> i32\n"t.u"(%%%d) : (i32) -> ()\n'
+    return one + b"".join(used % (number, number) for number in range(1, count + 1))
 
 
 def command_lines():
@@ -802,8 +800,8 @@ def command_lines():
         brief = "--brief" in words
         status, out = script.run(text, brief, script.BOXES, script.ALL, limit)
         # One rewrite folds a sum, and the last erases the constant.
-        assert out.startswith(b"1 limit %d\n" % limit if count >= limit else b"1 converged %d\n"
-                              % (count + 1)), out[:80]
+        said = b"1 limit %d\n" % limit if count >= limit else b"1 converged %d\n" % (count + 1)
+        assert out.startswith(said), out[:80]
         GOLDEN.case(words.split(), text, (status, out))
 
     def wrong(words, why):
@@ -817,10 +815,9 @@ def command_lines():
     for count, reply in ((999, b"1 converged 1000\n"), (1000, b"1 limit 1000\n")):
         GOLDEN.case(["--brief"], sums(count) + DIVIDER + b"canon\n", (0, reply))
     limited("", script.LIMIT, 2)
-    for word, why in (("0", "0 is not in 1..=1000000"), ("1000001", "1000001 is not in 1..=1000000"),
-                      ("4294967297", "4294967297 is not in 1..=1000000"), ("-1", "-1 is not in 1..=1000000"),
-                      ("x", "invalid digit found in string"), ("1.5", "invalid digit found in string"),
-                      ("1_0", "invalid digit found in string"), ("", "cannot parse integer from empty string"),
+    for word, why in (*((number, f"{number} is not in 1..=1000000") for number in ("0", "1000001", "4294967297", "-1")),
+                      *((word, "invalid digit found in string") for word in ("x", "1.5", "1_0")),
+                      ("", "cannot parse integer from empty string"),
                       ("99999999999999999999", "number too large to fit in target type")):
         wrong([f"--limit={word}"], f"invalid value '{word}' for '--limit <N>': {why}\n".encode() + more)
     for words in ("--limit", "--limit --brief", "--brief --limit"):
@@ -830,7 +827,9 @@ def command_lines():
         wrong(words.split(), b"unexpected argument '%s' found" % word.encode() + usage + more)
     for words in ("--help", "-h", "--brief --help"):
         GOLDEN.case(words.split(), b"", (0, help_text))
-    for words in ("--nonsense", "x", "-b", "--version", "-V"):
+    for words in ("--version", "-V"):
+        GOLDEN.case([words], b"", (0, b"mlir_work %s\n" % VERSION))
+    for words in ("--nonsense", "x", "-b"):
         wrong([words], b"unexpected argument '%s' found" % words.encode() + usage + more)
     wrong(["--brief", "--brief"], b"the argument '--brief' cannot be used multiple times" + usage + more)
     # The example of the help.
@@ -874,9 +873,8 @@ def beginnings():
     """The first text, cut behind each byte: a module, or none."""
     for count in range(len(TEXT)):
         status, out = script.run(TEXT[:count], True, script.BOXES, script.ALL)
-        assert (status, out) == (0,
-                                 b"") or status == 3 and re.fullmatch(
-                                     rb"module refused [0-9]+ [A-Z][A-Za-z0-9]+ at [0-9]+\n", out), count
+        said = re.fullmatch(rb"module refused [0-9]+ [A-Z][A-Za-z0-9]+ at [0-9]+\n", out)
+        assert (status, out) == (0, b"") or status == 3 and said, count
     whole_cut(TEXT)
 
 

@@ -49,7 +49,7 @@ fn key_of<R: RandomSource>(rt: &R) -> u64 {
     }
 }
 
-/// Prints the help that was asked for, or what is wrong with the command line, and gives the status.
+/// Prints the help or the version that was asked for, or what is wrong with the command line, and gives the status.
 fn answer_words(rt: &HostRuntime, error: &Error) -> u8 {
     if error.kind() == ErrorKind::OutOfMemory {
         return no_memory(rt);

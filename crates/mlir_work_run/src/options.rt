@@ -33,6 +33,7 @@ fn limit<'a>(alloc: Global) -> Arg<'a> {
 /// The command line of the program.
 fn command<'a>(alloc: Global) -> Result<Command<'a>, AllocError> {
     Command::new(alloc, "mlir_work")
+        .version(text::VERSION)
         .about(text::ABOUT)
         .after_help(text::AFTER)
         .arg(brief(alloc))?
@@ -41,7 +42,7 @@ fn command<'a>(alloc: Global) -> Result<Command<'a>, AllocError> {
 
 /// Reads the words of a command line, the name of the program first.
 ///
-/// An error is what is wrong with them, or the text of `--help`, or want of memory.
+/// An error is what is wrong with them, or the text of `--help` or `--version`, or want of memory.
 pub fn options_of(alloc: Global, words: &[String]) -> Result<Options, Error> {
     let command = command(alloc)?;
     let matches = command.try_get_matches_from(words)?;

@@ -1,4 +1,7 @@
-//! The texts of `--help`.
+//! The texts of `--help` and `--version`.
+
+/// What `--version` says behind the program's name: the newest version of CHANGELOG.md.
+pub(crate) const VERSION: &str = "1.0.0";
 
 /// What stands above the usage.
 pub(crate) const ABOUT: &str = "\

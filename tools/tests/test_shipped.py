@@ -1,0 +1,119 @@
+"""Golden files as they are read and written, and which program is started of which sources."""
+import lzma
+import pathlib
+import shutil
+import sys
+import tempfile
+import unittest
+from unittest import mock
+
+import support
+
+sys.path.append(str(support.ROOT / "tests"))
+
+import dist  # noqa: E402
+import golden  # noqa: E402
+import sources  # noqa: E402
+
+TEXTS = [b"", b"\n", b"a", b"a\n", b"a\nb", b"\xff\n", b"=== 1\n", b"a \n", b"\\\t\r\n", b"\x00", b"\xc3\xa4\n"]
+
+
+class Golden(unittest.TestCase):
+    def test_each_text_is_read_as_it_was_written(self):
+        with tempfile.TemporaryDirectory() as name:
+            file = pathlib.Path(name) / "x.cases"
+            cases = [golden.Case(str(number), ["--limit", "5", ""], [(1, text)]) for number, text in enumerate(TEXTS)]
+            cases.append(golden.Case("many", [], [(3, b"ab\n"), (1, b"\\x00")]))
+            file.write_bytes(b"".join(map(golden.case_text, cases)))
+            answers = [golden.out_text(case.name, 1, case.given()) for case in cases]
+            file.with_suffix(".out").write_bytes(b"".join(answers))
+            read, others = golden.cases_in(file)
+        self.assertEqual([(it.name, it.words, it.given()) for it, _ in read],
+                         [(it.name, it.words, it.given()) for it in cases])
+        self.assertEqual(([answer for _, answer in read], others), (answers, []))
+
+    def test_beginnings(self):
+        case = golden.Case("1", [], [(1, b"ab")], True)
+        told = golden.told(case, lambda words, text: (len(text), text + b"\n"))
+        self.assertEqual(told, b"=== 1 status 1\n0 0\n1 1 a\n")
+
+    def test_a_large_text_is_told_by_its_digest(self):
+        self.assertIn(b"[digest]\n65537 bytes, SHA-256 ", golden.out_text("1", 0, b"a" * 65537))
+
+
+class Sources(unittest.TestCase):
+    """A checkout of one crate, in a folder of its own."""
+
+    def setUp(self):
+        made = tempfile.TemporaryDirectory()
+        self.addCleanup(made.cleanup)
+        folder = pathlib.Path(made.name)
+        (folder / "crates/mlir_work/src").mkdir(parents=True)
+        (folder / "crates/mlir_work/out").mkdir()
+        (folder / "dist").mkdir()
+        (folder / "crates.txt").write_text("mlir_work: low clap\nlow:\nother:\n")
+        self.file = folder / "crates/mlir_work/src/main.rt"
+        self.file.write_text("fn main() {}\n")
+        places = {"ROOT": folder, "DIST": folder / "dist", "MANIFEST": folder / "dist/MANIFEST",
+                  "PACKED": folder / "dist/mlir_work.xz", "UNPACKED": folder / "dist/out/mlir_work",
+                  "BUILT": folder / "crates/mlir_work/out/mlir_work",
+                  "RECORD": folder / "crates/mlir_work/out/mlir_work.sources"}
+        patched = mock.patch.multiple(sources, **places)
+        patched.start()
+        self.addCleanup(patched.stop)
+        self.folder = folder
+
+    def shipped(self, program):
+        sources.PACKED.write_bytes(lzma.compress(program))
+        sources.MANIFEST.write_text(f"sources: {sources.digest()}\nprogram: {sources.digest_of(program)}\n")
+
+    def test_a_changed_source_has_no_program(self):
+        self.shipped(b"shipped")
+        self.assertEqual(sources.program().read_bytes(), b"shipped")
+        self.file.write_text("fn main() { }\n")
+        self.assertIsNone(sources.program())
+
+    def test_only_crates_below_the_program_count(self):
+        before = sources.digest()
+        (self.folder / "crates/other/src").mkdir(parents=True)
+        (self.folder / "crates/other/src/lib.rt").write_text("fn f() {}\n")
+        self.assertEqual(sources.digest(), before)
+        (self.folder / "crates.txt").write_text("mlir_work: low\nlow:\nother:\n")
+        self.assertNotEqual(sources.digest(), before)
+
+    def test_what_was_built_is_started_while_it_is_what_was_built(self):
+        sources.BUILT.write_bytes(b"built")
+        self.assertIsNone(sources.program())
+        sources.record(sources.digest())
+        self.assertEqual(sources.program(), sources.BUILT)
+        sources.BUILT.write_bytes(b"other")
+        self.assertIsNone(sources.program())
+
+    def test_a_changed_byte_of_dist_is_found(self):
+        self.shipped(b"shipped")
+        sources.PACKED.write_bytes(lzma.compress(b"another"))
+        with self.assertRaises(SystemExit):
+            sources.program()
+
+    def test_another_program_than_the_built_one_is_found(self):
+        with mock.patch.object(dist, "stripped", lambda program: program):
+            sources.BUILT.write_bytes(b"built")
+            sources.record(sources.digest())
+            self.shipped(b"built")
+            dist.compare()
+            self.shipped(b"bytes")
+            with self.assertRaises(SystemExit):
+                dist.compare()
+
+
+@unittest.skipUnless(sys.platform == "linux", "programs are of Linux")
+class Stripped(unittest.TestCase):
+    def test_a_program_runs_without_what_is_behind_its_segments(self):
+        program = pathlib.Path(shutil.which("true")).read_bytes()
+        kept = dist.stripped(program)
+        self.assertLess(len(kept), len(program) + 1)
+        self.assertEqual(dist.stripped(kept), kept)
+
+
+if __name__ == "__main__":
+    unittest.main()
