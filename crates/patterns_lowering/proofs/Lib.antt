@@ -16,4 +16,3 @@ pub mod Shown
 pub mod Ruled
 pub mod Named
 pub mod Asked
-pub use Rattle.patterns_runs.proofs as of_runs

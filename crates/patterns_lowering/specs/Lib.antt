@@ -6,5 +6,3 @@ pub mod Refused
 pub mod Lowered
 pub mod Numbers
 pub mod Counts
-pub use Rattle.patterns_regions.specs.reads
-pub use Rattle.patterns_runs.specs as runs
