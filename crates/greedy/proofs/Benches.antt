@@ -49,43 +49,6 @@ held_formed h w = record { distinct = subst (IsDistinct eqb) (sym (held_ids h)) 
 pub held_following : (h : Held) (x : ℕ) → following x h.store.module_of.tree ≡ following x (module_held h).tree
 held_following h x = ap (comes_next x) (sym (held_ids h))
 
--- ---- the outermost operation
-pub root_below : (n : ℕ) (t : Op) → All (λ y. y < n) (ids t) → (head t).id < n
-root_below n (op h rs) a = ids_below n (op h rs) a (stand (op h rs) []) (itself [] (op h rs))
-
-pub root_there : (t : Op) → has_id (head t).id t ≡ true
-root_there (op h rs) = ap (λ b. b || list_any (λ y. eqb y h.id) (regions_ids rs)) (eq-eqb h.id h.id refl)
-
--- nothing comes before it
-pub root_first : (p : ℕ) (t : Op) → HasDistinctIds t → precedes p (head t).id t ≡ true → ⊥
-root_first p (op h rs) d e = true≢false (sym (by_first (bool_cases (eqb h.id p))) ∙ absent_first h.id (regions_ids rs) d)
-  where
-    by_first : (eqb h.id p ≡ true) ⊎ (eqb h.id p ≡ false) → list_any (λ y. eqb y h.id) (regions_ids rs) ≡ true
-    by_first (inl k) = sym (after_at p h.id h.id (regions_ids rs) k) ∙ e
-    by_first (inr k) = second_there p h.id (regions_ids rs) (sym (after_past p h.id h.id (regions_ids rs) k) ∙ e)
-
-pub outermost_there : (t : Op) (x : ℕ) → has_id x t ≡ false → false ≡ eqb (head t).id x
-outermost_there t x n = elim (bool_cases (eqb (head t).id x)) [
-  | inr k ↦ sym k
-  | inl k ↦ absurd (true≢false (sym (root_there t) ∙ ap (λ y. has_id y t) (eqb-true (head t).id x k) ∙ n))
-]
-
-pub outermost_behind : (t : Op) (x p : ℕ) → HasDistinctIds t → precedes p x t ≡ true → false ≡ eqb (head t).id x
-outermost_behind t x p d h = elim (bool_cases (eqb (head t).id x)) [
-  | inr k ↦ sym k
-  | inl k ↦ absurd (root_first p t d (ap (λ y. precedes p y t) (eqb-true (head t).id x k) ∙ h))
-]
-
--- a number that isn't its id
-pub passed : (n r : ℕ) → n ≤ r → eqb r n ≡ false → n + 1 ≤ r
-passed n r l e = elim (bool_cases (nat_le (n + 1) r)) [
-  | inl k ↦ leb-true (n + 1) r k
-  | inr k ↦ absurd (
-      let over : (n + 1 ≤ r → ⊥) = λ m. true≢false (sym (le-leb (n + 1) r m) ∙ k) in
-      let same : r ≡ n = omega (arith, l, over) in
-      true≢false (sym (eq-eqb r n same) ∙ e))
-]
-
 -- ---- no operation has more regions than so many
 module _ {N T A : Type 0} where
   fits : (o : OpOf N T A) → op_fits o ≡ true → region_count (regions o) ≤ 16

@@ -1,8 +1,6 @@
 //! Benches with the rules of canonicalization.
-ghost use Rattle.std.specs.Prelude.{◌≡◌, ◌<◌, [], All, eqb, IfErr, MatchResult};
+ghost use Rattle.std.specs.Prelude.{◌≡◌, [], IfErr, MatchResult};
 ghost use Rattle.ir_types.specs.Things.{Grows};
-ghost use Rattle.ir_tree.specs.Ids.{HasDistinctIds, ids};
-ghost use Rattle.ir_tree.specs.Tree.{head};
 ghost use Rattle.rewriter_machine.specs.Machine.{Change};
 ghost use Rattle.rewriter.specs.Moves.{Recorded};
 ghost use Rattle.patterns.specs.runs.Runs.{Noted};
@@ -17,7 +15,6 @@ use crate::rewriting::Rewriting;
 use crate::run::run;
 use crate::walk::{following, preceding};
 use ir_event::analysis::Analysis;
-use ir_store::store::Store;
 use ir_types::ids::OpId;
 use ir_types::refusal::Refusal;
 use patterns::lowest::lowest;
@@ -26,37 +23,6 @@ use rewriter::Bench;
 use rewriter::finish::finish;
 use rewriter::laws::led_benches_are_kept;
 use std::alloc::Global;
-
-/// Whether an operation is the outermost one of a module: it is there, and none comes before it.
-fn is_outermost(store: &Store, op: OpId) -> bool
-    requires { HasDistinctIds store.now.module_of.tree }
-    ensures { result ≡ eqb (head store.now.module_of.tree).id op }
-{
-    if !store.in_tree(op) {
-        return false;
-    }
-    match preceding(store, op) {
-        Some(_) => false,
-        None => true,
-    }
-}
-
-/// The outermost operation of a module. It mostly has the lowest id.
-fn outermost(store: &Store) -> OpId
-    requires distinct { HasDistinctIds store.now.module_of.tree }
-    requires below { All (λ y. y < store.now.module_of.next) (ids store.now.module_of.tree) }
-    ensures { result ≡ (head store.now.module_of.tree).id }
-{
-    let mut number = 0;
-    'numbers: while number < store.next_id() {
-        let op = OpId::new(number);
-        if is_outermost(store, op) {
-            return op;
-        }
-        number += 1;
-    }
-    OpId::new(number)
-}
 
 impl<L: Analysis> Rewriting for Bench<L> {
     ghost use Rattle.std.specs.Prelude.{length};
@@ -97,7 +63,7 @@ impl<L: Analysis> Rewriting for Bench<L> {
 
     fn root(&self) -> OpId {
         Bench::is_formed(self);
-        outermost(&self.world().store)
+        self.world().store.root()
     }
 
     fn in_tree(&self, op: OpId) -> bool {

@@ -29,7 +29,7 @@ impl Unreached {
     ghost use Rattle.listeners_unreached.specs.Listeners.{unreached_listener};
 
     /// The kind of the analysis.
-    pub const KIND: Kind = Kind(7);
+    pub const KIND: Kind = Kind::UNREACHED;
 
     /// A listener that has not begun, and is stale.
     pub fn new(alloc: Global) -> Unreached

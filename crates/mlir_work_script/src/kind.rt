@@ -63,7 +63,7 @@ pub fn kind_named(word: &[u8]) -> Option<Kind>
         return Some(Kind::CONSTANTS);
     }
     if word == b"unreached".as_slice() {
-        return Some(Kind::new(7));
+        return Some(Kind::UNREACHED);
     }
     numbered_kind(word)
 }
