@@ -1,8 +1,7 @@
 -- That no edit is refused, as a fact of one rule.
 use Rattle.patterns_base.specs.declared.rule.Rule.{Rule}
-use Rattle.patterns_free.specs.Accepted.{IsAcceptedRule}
 use Rattle.patterns_free.proofs.Accepted.{are_accepted}
 use Rattle.patterns_facts.specs.Facts.{IsAccepted}
 
-pub are_accepted_at : (r : Rule) → IsAcceptedRule r → IsAccepted r
-are_accepted_at r known m x = are_accepted r m x known
+pub are_accepted_at : (r : Rule) → IsAccepted r
+are_accepted_at r m x = are_accepted r m x

@@ -12,7 +12,7 @@ use Rattle.patterns_base.specs.declared.rule.Rule.{Rule}
 use Rattle.patterns_base.specs.RuleNames.{is_converting, is_lowering}
 use Rattle.patterns_base.specs.Makes.{made_by}
 use Rattle.patterns_base.specs.Rules.{has_rule, rule}
-use Rattle.patterns_free.specs.Accepted.{IsAcceptedAt, IsAcceptedRule}
+use Rattle.patterns_free.specs.Accepted.{IsAcceptedAt}
 use Rattle.patterns_facts.specs.Alike.{LooksAlike, Same}
 use Rattle.patterns_facts.specs.Near.{AreNear}
 use Rattle.patterns_facts.specs.Values.{KeepsValues}
@@ -51,5 +51,5 @@ pub record Facts (r : Rule) : Type 0 where
   pub listed : IsListed r
   pub near : is_lowering r ≡ false → IsNear r
   pub alike : is_lowering r ≡ false → IsAlike r
-  pub accepted : IsAcceptedRule r → IsAccepted r
+  pub accepted : IsAccepted r
   pub makes : is_converting r ≡ true → IsMaking r

@@ -25,7 +25,7 @@ use Rattle.patterns_base.specs.Looks.{front_of, is_clean, when}
 use Rattle.patterns_base.specs.Makes.{made_by}
 use Rattle.patterns_base.specs.Rules.{rule}
 use Rattle.patterns_base.specs.Rewrites.{becomes, carried_out, edits_of, refused}
-use Rattle.patterns_free.specs.Accepted.{AreAccepted, IsAcceptedRule}
+use Rattle.patterns_free.specs.Accepted.{AreAccepted}
 use Rattle.patterns_free.proofs.Spots.{Spot}
 use Rattle.patterns_free.proofs.Shapes.{given_is, when_is}
 use Rattle.patterns_free.proofs.Given.{HasRoom, free_drop_zero, free_drop_one, free_drop_all_ones, free_keep_itself, free_choose_same, free_choose_known, free_choose_truth, free_cast_back}
@@ -33,6 +33,8 @@ use Rattle.patterns_free.proofs.New.{free_fold_to_constant, free_cancel_itself, 
 use Rattle.patterns_free.proofs.Opened.{free_open_branch}
 use Rattle.patterns_free.proofs.Loops.{free_open_loop, free_stop_loop}
 use Rattle.patterns_free.proofs.Indexed.{free_lower_index}
+use Rattle.patterns_free.proofs.Chosen.{free_lower_choice}
+use Rattle.patterns_free.proofs.LoweredLoop.{free_lower_loop}
 use Rattle.patterns_free.proofs.InPlace.{free_erase_dead, free_swap_constant, free_mirror_comparison, free_choose_opposite}
 
 -- a rule's edits at a clean operation are accepted
@@ -40,38 +42,38 @@ abbrev IsFree : Rule → Type 0
 IsFree r = (m : Module) (o : Operation) (front : Place) → Spot m o front → (es : List Edit) → rule r m.tree m.next front o ≡ Some es → HasRoom m es → Free es m
 
 -- so are those of each of them
-each_rule : (r : Rule) → IsAcceptedRule r → IsFree r
+each_rule : (r : Rule) → IsFree r
 unfolding rule
-each_rule EraseDead known m o front s es e room = free_erase_dead m o front s m.next es e
-each_rule FoldToConstant known m o front s es e room = free_fold_to_constant m o front s es e room
-each_rule SwapConstant known m o front s es e room = free_swap_constant m o front s m.next es e
-each_rule DropZero known m o front s es e room = free_drop_zero m o front s m.next es e room
-each_rule DropOne known m o front s es e room = free_drop_one m o front s m.next es e room
-each_rule DropAllOnes known m o front s es e room = free_drop_all_ones m o front s m.next es e room
-each_rule CancelItself known m o front s es e room = free_cancel_itself m o front s es e room
-each_rule KeepItself known m o front s es e room = free_keep_itself m o front s m.next es e room
-each_rule ZeroRemainder known m o front s es e room = free_zero_remainder m o front s es e room
-each_rule RegroupConstants known m o front s es e room = free_regroup_constants m o front s es e room
-each_rule AddNegative known m o front s es e room = free_add_negative m o front s es e room
-each_rule CompareItself known m o front s es e room = free_compare_itself m o front s es e room
-each_rule MirrorComparison known m o front s es e room = free_mirror_comparison m o front s m.next es e
-each_rule CompareZero known m o front s es e room = free_compare_zero m o front s es e room
-each_rule ChooseSame known m o front s es e room = free_choose_same m o front s m.next es e room
-each_rule ChooseKnown known m o front s es e room = free_choose_known m o front s m.next es e room
-each_rule ChooseTruth known m o front s es e room = free_choose_truth m o front s m.next es e room
-each_rule ChooseOpposite known m o front s es e room = free_choose_opposite m o front s m.next es e
-each_rule ExtendExtension known m o front s es e room = free_extend_extension m o front s es e room
-each_rule CutCast known m o front s es e room = free_cut_cast m o front s es e room
-each_rule CastBack known m o front s es e room = free_cast_back m o front s m.next es e room
-each_rule OpenBranch known m o front s es e room = free_open_branch m o front s es e
-each_rule OpenLoop known m o front s es e room = free_open_loop m o front s es e
-each_rule StopLoop known m o front s es e room = free_stop_loop m o front s es e
-each_rule ExpandMinMax known m o front s es e room = free_expand_min_max m o front s es e room
-each_rule ExpandDifference known m o front s es e room = free_expand_difference m o front s es e room
-each_rule ExpandRemainder known m o front s es e room = free_expand_remainder m o front s es e room
-each_rule LowerIndex known m o front s es e room = free_lower_index m o front s es e room
-each_rule LowerLoop known m o front s es e room = absurd cc
-each_rule LowerChoice known m o front s es e room = absurd cc
+each_rule EraseDead m o front s es e room = free_erase_dead m o front s m.next es e
+each_rule FoldToConstant m o front s es e room = free_fold_to_constant m o front s es e room
+each_rule SwapConstant m o front s es e room = free_swap_constant m o front s m.next es e
+each_rule DropZero m o front s es e room = free_drop_zero m o front s m.next es e room
+each_rule DropOne m o front s es e room = free_drop_one m o front s m.next es e room
+each_rule DropAllOnes m o front s es e room = free_drop_all_ones m o front s m.next es e room
+each_rule CancelItself m o front s es e room = free_cancel_itself m o front s es e room
+each_rule KeepItself m o front s es e room = free_keep_itself m o front s m.next es e room
+each_rule ZeroRemainder m o front s es e room = free_zero_remainder m o front s es e room
+each_rule RegroupConstants m o front s es e room = free_regroup_constants m o front s es e room
+each_rule AddNegative m o front s es e room = free_add_negative m o front s es e room
+each_rule CompareItself m o front s es e room = free_compare_itself m o front s es e room
+each_rule MirrorComparison m o front s es e room = free_mirror_comparison m o front s m.next es e
+each_rule CompareZero m o front s es e room = free_compare_zero m o front s es e room
+each_rule ChooseSame m o front s es e room = free_choose_same m o front s m.next es e room
+each_rule ChooseKnown m o front s es e room = free_choose_known m o front s m.next es e room
+each_rule ChooseTruth m o front s es e room = free_choose_truth m o front s m.next es e room
+each_rule ChooseOpposite m o front s es e room = free_choose_opposite m o front s m.next es e
+each_rule ExtendExtension m o front s es e room = free_extend_extension m o front s es e room
+each_rule CutCast m o front s es e room = free_cut_cast m o front s es e room
+each_rule CastBack m o front s es e room = free_cast_back m o front s m.next es e room
+each_rule OpenBranch m o front s es e room = free_open_branch m o front s es e
+each_rule OpenLoop m o front s es e room = free_open_loop m o front s es e
+each_rule StopLoop m o front s es e room = free_stop_loop m o front s es e
+each_rule ExpandMinMax m o front s es e room = free_expand_min_max m o front s es e room
+each_rule ExpandDifference m o front s es e room = free_expand_difference m o front s es e room
+each_rule ExpandRemainder m o front s es e room = free_expand_remainder m o front s es e room
+each_rule LowerIndex m o front s es e room = free_lower_index m o front s es e room
+each_rule LowerLoop m o front s es e room = free_lower_loop m o front s es e room
+each_rule LowerChoice m o front s es e room = free_lower_choice m o front s es e room
 
 -- what edits make is within the limits where they are carried out
 has_room : (es : List Edit) (m n : Module) → carried_out es m ≡ becomes n → HasRoom m es
@@ -87,10 +89,10 @@ unfolding edits_of
 edits_are r m x = refl
 
 pub are_accepted : AreAccepted
-are_accepted r m x known formed sorted es n e carried =
+are_accepted r m x formed sorted es n e carried =
     let o = given_is (find x m.tree) _ es (sym (edits_are r m x) ∙ e) in
     let front = given_is (front_of x m.tree) _ es o.2 in
     let w = when_is (is_clean m.tree (head o.0)) _ es front.2 in
     let id : (head o.0).id ≡ x = (let s = found_stands x m.tree o.0 o.1 in ap (λ (z : Operation). (head z).id) (sym s.3) ∙ s.2) in
     let spot : Spot m o.0 front.0 = record { formed = formed; sorted = sorted; found = ap (λ z. find z m.tree) id ∙ o.1; place = ap (λ z. front_of z m.tree) id ∙ front.1; clean = w.0 } in
-    each_rule r known m o.0 front.0 spot es w.1 (has_room es m n carried)
+    each_rule r m o.0 front.0 spot es w.1 (has_room es m n carried)

@@ -12,22 +12,24 @@ use Rattle.ir_tree.specs.declared.value.Value.{Value}
 use Rattle.ir_tree.specs.declared.value.Value.TheVariants.{Arg}
 use Rattle.ir_tree.specs.declared.place.Place.{Place}
 use Rattle.ir_tree.specs.Tree.{OpOf, op, RegionsOf, no_regions, region, block, OpsOf, no_ops, next, head, regions}
-use Rattle.ir_tree.specs.Ids.{HasDistinctIds, find}
+use Rattle.ir_tree.specs.Ids.{HasDistinctIds, find, has_id, op_count}
 use Rattle.ir_tree.specs.Frames.{owner_of}
 use Rattle.ir_tree.specs.Sites.{arguments, operands_visible, results_of, shows, visible}
-use Rattle.ir_tree.specs.Edits.{each_head, ops_each_head, put_value, put_values, region_each_head, regions_each_head}
-use Rattle.ir_tree.specs.Uses.{same_value, uses_of}
+use Rattle.ir_tree.specs.Edits.{each_head, ops_each_head, put_value, put_values, region_each_head, regions_each_head, with_value_replaced}
+use Rattle.ir_tree.specs.Uses.{operand_uses, same_value, uses_of}
 use Rattle.ir_tree.specs.Meaning.{Operation}
 use Rattle.ir_tree.proofs.Heads.{head_find}
-use Rattle.ir_tree.proofs.Replaced.{old_unused, others_stay, same_value_true}
+use Rattle.ir_tree.proofs.Replaced.{old_unused, others_stay, same_value_refl, same_value_true}
 use Rattle.ir_tree_laws.specs.Members.{In}
 use Rattle.ir_tree_laws.specs.Reasons.{users_see}
-use Rattle.ir_tree_laws.specs.Stands.{StandOf, StepOf, sees as sees_from, stands}
+use Rattle.ir_tree_laws.specs.Stands.{StandOf, StepOf, edit_stand, sees as sees_from, stand_id, stands}
 use Rattle.ir_tree_laws.specs.Values.{arguments_at, arguments_of, region_at, type_of_value}
 use Rattle.ir_tree_laws.proofs.Around.{around_there}
-use Rattle.ir_tree_laws.proofs.HeadForm.{replaced_keeps}
-use Rattle.ir_tree_laws.proofs.Listed.{all_each, both, both_hold, each_all, either, or_right}
-use Rattle.ir_tree_laws.proofs.Members.{same_stand, stand}
+use Rattle.ir_tree_laws.proofs.HeadForm.{edit_ids, in_gather, replaced_keeps, used_here}
+use Rattle.ir_tree_laws.proofs.Heads.{Alike, each_id, each_stands}
+use Rattle.ir_tree_laws.proofs.Readings.{stands_uses}
+use Rattle.ir_tree_laws.proofs.Listed.{all_each, both, both_hold, each_all, either, in_mapped, or_right}
+use Rattle.ir_tree_laws.proofs.Members.{joined_ops, same_stand, stand}
 use Rattle.ir_tree_laws.proofs.Sees.{stands_operands, visible_there}
 use Rattle.ir_tree_laws.proofs.Values.{not_own}
 use Rattle.ir_event.specs.Modules.{Module}
@@ -41,6 +43,7 @@ use Rattle.patterns_edits.proofs.Made.{passes}
 use Rattle.patterns_edits.proofs.Plans.{StandsAt, sees}
 use Rattle.patterns_base.specs.Looks.{Header}
 use Rattle.patterns_base.specs.Makes.{arguments_from, replaced, replacing}
+use Rattle.patterns_free.proofs.Ordered.{Before, before_headed}
 use Rattle.patterns_free.proofs.Results.{AreGiven, type_kept}
 
 -- who uses an argument of a block of an operation that isn't isolated sees what that sees
@@ -75,7 +78,7 @@ module _ (f : Header → Header) where
   region_each (region g rs) zero = refl
   region_each (region g rs) (suc r) = region_each rs r
 
-  each_region : (o : Operation) (r : ℕ) → region_at r (regions (each_head f o)) ≡ option_map (region_each_head f) (region_at r (regions o))
+  pub each_region : (o : Operation) (r : ℕ) → region_at r (regions (each_head f o)) ≡ option_map (region_each_head f) (region_at r (regions o))
   each_region (op h rs) r = region_each rs r
 
   each_ids : (os : OpsOf (List ℕ) TypeTerm AttrTerm) → ((h : Header) → (f h).id ≡ h.id) → list_ids (ops_each_head f os) ≡ list_ids os
@@ -91,6 +94,56 @@ untouched : (x : ℕ) (w : Value) → ((j : ℕ) → same_value (Arg x 0 j) w �
 untouched x w apart k [] ws = refl
 untouched x w apart k (v ∷ vs) [] = refl
 untouched x w apart k (v ∷ vs) (u ∷ ws) = ap (λ b. cond b u (replaced (arguments_from x (k + 1) vs) ws w)) (apart k) ∙ untouched x w apart (k + 1) vs ws
+
+-- operations with the same ids inside, one by one
+abbrev pub Similar : List Operation → List Operation → Type 0
+Similar [] [] = Unit {0}
+Similar (o ∷ os) (p ∷ ps) = (((head p).id ≡ (head o).id) × ((z : ℕ) → has_id z p ≡ has_id z o)) × Similar os ps
+Similar _ _ = ⊥
+
+similar_none : (os : List Operation) → Similar os os
+similar_none [] = tt
+similar_none (o ∷ os) = ((refl, λ z. refl), similar_none os)
+
+similar_both : (os ps qs : List Operation) → Similar os ps → Similar ps qs → Similar os qs
+similar_both [] [] [] a b = tt
+similar_both (o ∷ os) (p ∷ ps) (q ∷ qs) a b = ((b.0.0 ∙ a.0.0, λ z. b.0.1 z ∙ a.0.1 z), similar_both os ps qs a.1 b.1)
+similar_both [] [] (q ∷ qs) a b = absurd b
+similar_both [] (p ∷ ps) qs a b = absurd a
+similar_both (o ∷ os) [] qs a b = absurd a
+similar_both (o ∷ os) (p ∷ ps) [] a b = absurd b
+
+-- who uses a value where one was replaced used it, or the one
+module _ (a v : Value) (t : Operation) where
+  pub replaced_uses : (w : Value) (u : ℕ × ℕ) → In u (uses_of w (with_value_replaced a v t)) → (e : ℕ × ℕ) × (e.0 ≡ u.0) × (In e (uses_of w t) ⊎ In e (uses_of a t))
+  replaced_uses w u h =
+      let s = user w (with_value_replaced a v t) u h in
+      let m = in_mapped (edit_stand (put_values a v)) s.0 (stands [] t) (subst (λ (k : List (StandOf (List ℕ) TypeTerm AttrTerm)). In s.0 k) (each_stands (put_values a v) [] t) s.1) in
+      let i : In w (map (put_value a v) (head m.0.here).operands) = subst (λ (z : Header). In w z.operands) (head_of m.0.here) (subst (λ (z : StandOf (List ℕ) TypeTerm AttrTerm). In w (head z.here).operands) m.2 s.3) in
+      let p = in_mapped (put_value a v) w (head m.0.here).operands i in
+      let id : stand_id m.0 ≡ u.0 = sym (ap (λ (h : Header). h.id) (head_of m.0.here)) ∙ ap (λ (z : StandOf (List ℕ) TypeTerm AttrTerm). stand_id z) (sym m.2) ∙ sym s.2 in
+      go m.0 m.1 id p.0 p.1 (same_value a p.0) refl p.2
+    where
+      head_of : (o : Operation) → head (each_head (put_values a v) o) ≡ put_values a v (head o)
+      head_of (op h rs) = refl
+
+      used_at : (s : StandOf (List ℕ) TypeTerm AttrTerm) → In s (stands [] t) → (q : Value) → In q (head s.here).operands → (e : ℕ × ℕ) × (e.0 ≡ stand_id s) × In e (uses_of q t)
+      used_at s h q i =
+          let n = used_here q (stand_id s) 0 (head s.here).operands q i (same_value_refl q) in
+          ((stand_id s, n.0), refl, subst (In (stand_id s, n.0)) (stands_uses q [] t) (in_gather (λ (z : StandOf (List ℕ) TypeTerm AttrTerm). operand_uses q (stand_id z) 0 (head z.here).operands) (stand_id s, n.0) s (stands [] t) h n.1))
+
+      go : (s : StandOf (List ℕ) TypeTerm AttrTerm) → In s (stands [] t) → stand_id s ≡ u.0 → (q : Value) → In q (head s.here).operands → (b : Bool) → same_value a q ≡ b → w ≡ cond (same_value a q) v q → (e : ℕ × ℕ) × (e.0 ≡ u.0) × (In e (uses_of w t) ⊎ In e (uses_of a t))
+      go s h id q i true e f = (let k = used_at s h q i in (k.0, k.1 ∙ id, inr (subst (λ z. In k.0 (uses_of z t)) (sym (same_value_true a q e)) k.2)))
+      go s h id q i false e f = (let k = used_at s h q i in (k.0, k.1 ∙ id, inl (subst (λ z. In k.0 (uses_of z t)) (sym (f ∙ ap (λ b. cond b v q) e)) k.2)))
+
+-- heads edited in a list of operations
+each_joined : (f : Header → Header) (ws : List Operation) → ops_each_head f (joined_ops ws no_ops) ≡ joined_ops (map (each_head f) ws) no_ops
+each_joined f [] = refl
+each_joined f (w ∷ ws) = ap (next (each_head f w)) (each_joined f ws)
+
+each_similar : (f : Header → Header) → ((h : Header) → Alike (f h) h) → (ws : List Operation) → Similar ws (map (each_head f) ws)
+each_similar f alike [] = tt
+each_similar f alike (w ∷ ws) = ((each_id f alike w, λ z. ap (list_any (λ y. eqb y z)) (edit_ids f alike w)), each_similar f alike ws)
 
 -- operation x, which isn't isolated and no table, has a first block with these arguments and operations
 pub record Taking (x : ℕ) (front : Place) (args : List TypeTerm) (held : List ℕ) (m : Module) : Type 0 where
@@ -237,6 +290,13 @@ module _ (x : ℕ) (front : Place) (args : List TypeTerm) (held : List ℕ) wher
     pub changed_types : (v : Value) → type_of_value (changed n vs v) m.tree ≡ type_of_value v m.tree
     pub sight : (v : Value) → sees x v (after n vs m) ≡ sees x v m
     pub numbers : (after n vs m).next ≡ m.next
+    pub lists : (s : StandsAt x front m) (ws : List Operation) → region_at 0 (regions s.at.here) ≡ Some (block args (joined_ops ws no_ops)) → (zs : List Operation) × (region_at 0 (regions taking.stood.at.here) ≡ Some (block args (joined_ops zs no_ops))) × Similar ws zs
+    pub users : (w : Value) (u : ℕ × ℕ) → In u (uses_of w (after n vs m).tree) → (e : ℕ × ℕ) × (e.0 ≡ u.0) × (In e (uses_of w m.tree) ⊎ ((j : ℕ) × In e (uses_of (Arg x 0 j) m.tree)))
+    pub counts : op_count (after n vs m).tree ≡ op_count m.tree
+    pub befores : (a b : ℕ) → Before a b m.tree → Before a b (after n vs m).tree
+
+  pub one_here : (m : Module) (s k : StandsAt x front m) → s.at.here ≡ k.at.here
+  one_here m s k = (let two : Some s.at.here ≡ Some k.at.here = sym (headed.found_there is_isolated x front m s) ∙ headed.found_there is_isolated x front m k in cc)
 
   none_changed : (vs : List Value) → map (replaced [] []) vs ≡ vs
   none_changed [] = refl
@@ -253,6 +313,10 @@ module _ (x : ℕ) (front : Place) (args : List TypeTerm) (held : List ℕ) wher
     changed_types = λ v. refl;
     sight = λ v. refl;
     numbers = refl;
+    lists = λ s ws is. (ws, ap (λ o. region_at 0 (regions o)) (one_here m h.stood s) ∙ is, similar_none ws);
+    users = λ w u i. (u, refl, inl i);
+    counts = refl;
+    befores = λ a b k. k;
   }
     where
       all_out : (j : ℕ) (b : Bool) → nat_lt j n ≡ b → (j < n) ⊎ (length args ≤ j)
@@ -274,8 +338,22 @@ module _ (x : ℕ) (front : Place) (args : List TypeTerm) (held : List ℕ) wher
         changed_types = λ w. changed_type next_one w (same_value (Arg x 0 n) w) refl;
         sight = λ w. next_one.sight w ∙ sees_after m h v g.0.0 n w;
         numbers = next_one.numbers;
+        lists = λ s ws is. (let p = next_one.lists (stood_after m h v g.0.0 n) (map (each_head (put_values (Arg x 0 n) v)) ws) (list_after ws (ap (λ o. region_at 0 (regions o)) (one_here m h.stood s) ∙ is)) in (p.0, p.1, similar_both ws (map (each_head (put_values (Arg x 0 n) v)) ws) p.0 (each_similar (put_values (Arg x 0 n) v) (λ k. record { id = refl; name = refl; results = refl }) ws) p.2));
+        users = λ w u i. users_both next_one w u i;
+        befores = λ a b k. next_one.befores a b (before_headed (put_values (Arg x 0 n) v) (λ j. record { id = refl; name = refl; results = refl }) m.tree a b k);
+        counts = next_one.counts ∙ ap length (edit_ids (put_values (Arg x 0 n) v) (λ k. record { id = refl; name = refl; results = refl }) m.tree);
       }
     where
+      list_after : (ws : List Operation) → region_at 0 (regions h.stood.at.here) ≡ Some (block args (joined_ops ws no_ops)) → region_at 0 (regions (stood_after m h v g.0.0 n).at.here) ≡ Some (block args (joined_ops (map (each_head (put_values (Arg x 0 n) v)) ws) no_ops))
+      list_after ws is = each_region (put_values (Arg x 0 n) v) h.stood.at.here 0 ∙ ap (option_map (region_each_head (put_values (Arg x 0 n) v))) is ∙ ap (λ l. Some (block args l)) (each_joined (put_values (Arg x 0 n) v) ws)
+
+      users_both : Outcome (n + 1) vs (edited (Replace (Arg x 0 n) v) m) → (w : Value) (u : ℕ × ℕ) → In u (uses_of w (after n (v ∷ vs) m).tree) → (e : ℕ × ℕ) × (e.0 ≡ u.0) × (In e (uses_of w m.tree) ⊎ ((j : ℕ) × In e (uses_of (Arg x 0 j) m.tree)))
+      users_both later w u i = (let p = later.users w u i in by_first p.0 p.1 p.2)
+        where
+          by_first : (e : ℕ × ℕ) → e.0 ≡ u.0 → In e (uses_of w (edited (Replace (Arg x 0 n) v) m).tree) ⊎ ((j : ℕ) × In e (uses_of (Arg x 0 j) (edited (Replace (Arg x 0 n) v) m).tree)) → (e : ℕ × ℕ) × (e.0 ≡ u.0) × (In e (uses_of w m.tree) ⊎ ((j : ℕ) × In e (uses_of (Arg x 0 j) m.tree)))
+          by_first e id (inl k) = (let r = replaced_uses (Arg x 0 n) v m.tree w e k in (r.0, r.1 ∙ id, elim r.2 [ inl a ↦ inl a | inr a ↦ inr (n, a) ]))
+          by_first e id (inr k) = (let r = replaced_uses (Arg x 0 n) v m.tree (Arg x 0 k.0) e k.1 in (r.0, r.1 ∙ id, elim r.2 [ inl a ↦ inr (k.0, a) | inr a ↦ inr (n, a) ]))
+
       one : (w : Value) → changed (n + 1) vs (put_value (Arg x 0 n) v w) ≡ changed n (v ∷ vs) w
       one w = go (same_value (Arg x 0 n) w)
         where

@@ -119,6 +119,9 @@ module _ {N T A : Type 0} (isolated : N → Bool) (m : ModuleOf N T A) (w : IsWe
       arounds = λ b h. sym (around_stays m.next after made_distinct b (still b h)) ∙ ap (around b) made_back;
     }
 
+  pub made_sight : (b : ℕ) → has_id b m.tree ≡ true → (v : Value) → eqb (owner_of v).0 m.next ≡ false → visible isolated (put place (with_id m.next o) m.tree) b v ≡ visible isolated m.tree b v
+  made_sight b h v e = sym (sight_stays m.next after made_distinct b (ap (has_id b) made_back ∙ h) isolated v e) ∙ ap (λ q. visible isolated q b v) made_back
+
   -- who uses a value then used it, or is the new one
   pub made_uses : (v : Value) (u : ℕ × ℕ) → In u (uses_of v (put place (with_id m.next o) m.tree)) → In u (uses_of v m.tree) ⊎ In u (uses_of v (with_id m.next o))
   made_uses v u h =

@@ -7,11 +7,12 @@ use Rattle.ir_tree.specs.declared.value.Value.TheVariants.{Result, Arg}
 use Rattle.ir_tree.specs.declared.place.Place.{Place}
 use Rattle.ir_tree.specs.Tree.{HeadOf, OpOf, op, RegionOf, block, OpsOf, no_ops, next, head, regions}
 use Rattle.ir_tree.specs.Ids.{HasDistinctIds, find, has_id}
+use Rattle.ir_tree.specs.Edits.{each_head}
 use Rattle.ir_tree.specs.Frames.{owner_of}
 use Rattle.ir_tree.specs.Sites.{arguments, shows, results_of, visible}
 use Rattle.ir_tree.specs.Places.{each_list, first_id, put, without}
 use Rattle.ir_tree.proofs.Moves.{unput, untouched}
-use Rattle.ir_tree_laws.specs.Stands.{StepOf, StandOf, stand_id, stands, ops_stands, sees, gone_in, is_gone, left_stand, left_step, dropping, table_in}
+use Rattle.ir_tree_laws.specs.Stands.{StepOf, StandOf, edit_stand, edit_step, stand_id, stands, ops_stands, sees, gone_in, is_gone, left_stand, left_step, dropping, table_in}
 use Rattle.ir_tree_laws.specs.Tables.{table_of}
 use Rattle.ir_tree_laws.specs.Members.{In}
 use Rattle.ir_tree_laws.specs.Reads.{around}
@@ -21,6 +22,7 @@ use Rattle.ir_tree_laws.proofs.Listed.{any_one, bool_cases, both, both_hold, eit
 use Rattle.ir_tree_laws.proofs.Readings.{stands_table, step}
 use Rattle.ir_tree_laws.proofs.Members.{found_stands, joined_ops, ops_child, same_stand, stand, stand_found, stand_of_member, within}
 use Rattle.ir_tree_laws.proofs.Around.{around_there, gone_within, present_stand, stand_present, stands_around}
+use Rattle.ir_tree_laws.proofs.Heads.{Alike, each_id, each_stands}
 use Rattle.ir_tree_laws.proofs.Put.{Landed, child}
 use Rattle.ir_tree_laws.proofs.PutForm as put_form
 use Rattle.ir_tree_laws.proofs.Sees.{visible_there}
@@ -146,6 +148,31 @@ module _ {N T A : Type 0} where
         region = ap (λ (s : StepOf N T A). s.region) (sym w.step_is) ∙ e.region;
       }
 
+  -- where heads are edited
+  module _ (f : HeadOf N T A → HeadOf N T A) (alike : (h : HeadOf N T A) → Alike (f h) h) (t : OpOf N T A) where
+    pub before_headed : (a b : ℕ) → Before a b t → Before a b (each_head f t)
+    before_headed a b e = record {
+      here = each_head f e.here;
+      step_in = edit_step f e.step_in;
+      path = map (edit_step f) e.path;
+      there = subst (In (edit_stand f (stand e.here (e.step_in ∷ e.path)))) (sym (each_stands f [] t)) (in_map (edit_stand f) (stand e.here (e.step_in ∷ e.path)) (stands [] t) e.there);
+      id = each_id f alike e.here ∙ e.id;
+      first = each_head f e.first;
+      among = in_map (each_head f) e.first e.step_in.front e.among;
+      is = each_id f alike e.first ∙ e.is;
+    }
+
+    pub inside_headed : (p r b : ℕ) → Inside p r b t → Inside p r b (each_head f t)
+    inside_headed p r b e = record {
+      here = each_head f e.here;
+      step_in = edit_step f e.step_in;
+      path = map (edit_step f) e.path;
+      there = subst (In (edit_stand f (stand e.here (e.step_in ∷ e.path)))) (sym (each_stands f [] t)) (in_map (edit_stand f) (stand e.here (e.step_in ∷ e.path)) (stands [] t) e.there);
+      id = each_id f alike e.here ∙ e.id;
+      parent = each_id f alike e.step_in.parent ∙ e.parent;
+      region = e.region;
+    }
+
   -- one before one before another
   pub before_both : (a b c : ℕ) (t : OpOf N T A) → HasDistinctIds t → Before a b t → Before b c t → Before a c t
   before_both a b c t d e f =
@@ -236,7 +263,7 @@ module _ {N T A : Type 0} where
         ∙ sym (ap (λ i. table_of is_table i t) (sym e.parent) ∙ table_at (stand e.step_in.parent e.path) up)
 
   module _ (t : OpOf N T A) (d : HasDistinctIds t) where
-    around_at : (s : StandOf N T A) → In s (stands [] t) → around (stand_id s) t ≡ Some (length s.path)
+    pub around_at : (s : StandOf N T A) → In s (stands [] t) → around (stand_id s) t ≡ Some (length s.path)
     around_at s h = sym (stands_around (stand_id s) [] t) ∙ ap (option_map (λ (z : StandOf N T A). length z.path)) (stand_of_member t d s h)
 
     pub later_around : (a b : ℕ) → Before a b t → around a t ≡ around b t
@@ -309,6 +336,32 @@ module _ {N T A : Type 0} where
               | inl k ↦ record { here = o; step_in = l.step_in; path = l.path; there = l.there; id = refl; first = i.here; among = k; is = i.id }
               | inr k ↦ elim k [
                 | inl m ↦ absurd (true≢false (sym (eq-eqb c (head o).id (sym i.id ∙ ap (λ (z : OpOf N T A). (head z).id) m)) ∙ apart))
+                | inr m ↦ absurd m
+              ]
+            ]
+
+    -- what came before the one that it is put in front of comes before it
+    pub put_behind : (a b : ℕ) → place.before ≡ Some b → Before a b (put place o t) → eqb a (head o).id ≡ false → Before a (head o).id (put place o t)
+    put_behind a b e f apart = go l.step_in.rest refl (l.before ∙ e)
+      where
+        distinct : HasDistinctIds (put place o t)
+        distinct = put_form.put_distinct place o t may
+
+        go : (os : OpsOf N T A) → l.step_in.rest ≡ os → first_id os ≡ Some b → Before a (head o).id (put place o t)
+        go no_ops p q = (let bad : None ≡ Some b = q in absurd cc)
+        go (next r os) p q =
+            let id : (head r).id ≡ b = cc in
+            let new = step l.step_in.parent l.step_in.region l.step_in.args (l.step_in.front ++ o ∷ []) os in
+            let list : joined_ops l.step_in.front (next o l.step_in.rest) ≡ joined_ops (l.step_in.front ++ o ∷ []) (next r os) = ap (λ z. joined_ops l.step_in.front (next o z)) p ∙ sym (joined_more l.step_in.front o (next r os)) in
+            let there : In (stand r (new ∷ l.path)) (stands [] (put place o t)) = within l.step_in.parent l.path (stand r (new ∷ l.path)) (child l.step_in.parent l.path l.step_in.region l.step_in.args (joined_ops l.step_in.front (next o l.step_in.rest)) (stand r (new ∷ l.path)) (shape after o l.step_in l.path l.there)
+            (subst (λ z. In (stand r (new ∷ l.path)) (ops_stands l.step_in.parent l.path l.step_in.region l.step_in.args [] z)) (sym list) (ops_child l.step_in.parent l.path l.step_in.region l.step_in.args [] (l.step_in.front ++ o ∷ []) r os))) [] after l.around in
+            let same = same_stand after distinct (stand f.here (f.step_in ∷ f.path)) (stand r (new ∷ l.path)) f.there there (f.id ∙ sym id) in
+            let paths : f.step_in ∷ f.path ≡ new ∷ l.path = ap (λ (z : StandOf N T A). z.path) same in
+            let steps : f.step_in ≡ new = cc in
+            elim (in_parts f.first l.step_in.front (o ∷ []) (subst (λ (s : StepOf N T A). In f.first s.front) steps f.among)) [
+              | inl k ↦ record { here = o; step_in = l.step_in; path = l.path; there = l.there; id = refl; first = f.first; among = k; is = f.is }
+              | inr k ↦ elim k [
+                | inl m ↦ absurd (true≢false (sym (eq-eqb a (head o).id (sym f.is ∙ ap (λ (z : OpOf N T A). (head z).id) m)) ∙ apart))
                 | inr m ↦ absurd m
               ]
             ]

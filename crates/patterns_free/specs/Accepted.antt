@@ -1,5 +1,5 @@
 -- No edit of a rule is refused for a reason.
-use Rattle.std.specs.Prelude.{◌≡◌, ℕ, List, Bool, true, false, Some}
+use Rattle.std.specs.Prelude.{◌≡◌, ℕ, List, Some}
 use Rattle.ir_types.specs.Words.{is_isolated}
 use Rattle.ir_tree.specs.WellFormed.{IsWellFormed}
 use Rattle.ir_event.specs.Modules.{Module}
@@ -7,25 +7,13 @@ use Rattle.ir_event.specs.Step.{IsSorted}
 use Rattle.rewriter_machine.specs.Contents.{Edit}
 use Rattle.patterns_edits.specs.Lists.{Free}
 use Rattle.patterns_base.specs.declared.rule.Rule.{Rule}
-use Rattle.patterns_base.specs.declared.rule.Rule.TheVariants.{LowerChoice, LowerLoop}
 use Rattle.patterns_base.specs.Rewrites.{becomes, carried_out, edits_of}
-
--- the rules whose edits are known to be accepted: those that lower no block
-abbrev pub is_accepted : Rule → Bool
-is_accepted LowerLoop = false
-is_accepted LowerChoice = false
-is_accepted r = true
-
--- a rule is one of them
-abbrev pub IsAcceptedRule : Rule → Type 0
-IsAcceptedRule r = is_accepted r ≡ true
 
 -- the edits of rule r at operation x of a module, where there are some and what they make is within the limits, can be
 -- made one after another: no reason stands against any where it is made
 abbrev pub IsAcceptedAt : Rule → Module → ℕ → Type 0
 IsAcceptedAt r m x = (es : List Edit) (n : Module) → edits_of r m x ≡ Some es → carried_out es m ≡ becomes n → Free es m
 
--- so it is for each of them, at each operation of a well-formed module with sorted dictionaries
+-- so it is for each rule, at each operation of a well-formed module with sorted dictionaries
 abbrev pub AreAccepted : Type 0
-AreAccepted = (r : Rule) (m : Module) (x : ℕ) → IsAcceptedRule r → IsWellFormed is_isolated m → IsSorted m
-    → IsAcceptedAt r m x
+AreAccepted = (r : Rule) (m : Module) (x : ℕ) → IsWellFormed is_isolated m → IsSorted m → IsAcceptedAt r m x
