@@ -15,7 +15,8 @@ use Rattle.patterns_runs.specs.Held.{open_marks}
 
 -- why a module can't have k operations more, if it can't: there would be too many, or ids wouldn't be enough
 abbrev pub limit_reason : ℕ → Module → Option Refusal
-limit_reason k m = unless (nat_le (op_count m.tree + k) most_ops) Full (unless (nat_le (m.next + k) most_next) IdsExhausted None)
+limit_reason k m =
+    unless (nat_le (op_count m.tree + k) most_ops) Full (unless (nat_le (m.next + k) most_next) IdsExhausted None)
 
 -- an answer, and what was made of the module
 abbrev pub Gave : Rewrite → Bool → Module → Module → Type 0
@@ -32,10 +33,11 @@ IsRefusedSo (refused f) e = f ≡ e
 -- why a rewrite wasn't made at operation x, where c is the context after it: memory was refused, x isn't there, the
 -- rewrite is refused, or there is one and the context is full
 abbrev pub IsReason : Rewrite → ℕ → Module → Things → Refusal → Type 0
-IsReason w x m c e = (e ≡ Memory) ⊎ (((e ≡ NoSuchOp) × (has_id x m.tree ≡ false)) ⊎ (IsRefusedSo w e ⊎ ((e ≡ Full) × ((w ≢ none) × IsFull c))))
+IsReason w x m c e = (e ≡ Memory) ⊎ (((e ≡ NoSuchOp) × (has_id x m.tree ≡ false))
+    ⊎ (IsRefusedSo w e ⊎ ((e ≡ Full) × ((w ≢ none) × IsFull c))))
 
--- what stays: the context grew at most, the open marks are there with their modules, and the listeners were told of what
--- led from the one module to the other, and of nothing else
+-- what stays: the context grew at most, the open marks are there with their modules, and the listeners were told of
+-- what led from the one module to the other, and of nothing else
 pub record Applied {B : Type 0} (meaning : B → Listener) (old new : Benched B) : Type 0 where
   pub grows : Grows old.desk.ctx new.desk.ctx
   pub opens : open_marks new.desk ≡ open_marks old.desk

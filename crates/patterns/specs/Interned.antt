@@ -28,4 +28,5 @@ FlagsOf c name (Some a) = (among flagged name ≡ true) × IsAttrOf c a (Overflo
 
 -- the attributes of two constants of one type, of bits and of 1, and of flags of which none are set
 abbrev pub DifferenceAttrs : Things → TypeTerm → ℕ → ℕ × ℕ × ℕ → Type 0
-DifferenceAttrs c ty ones a = IsAttrOf c a.0 (IntegerOf ty ones) × IsAttrOf c a.1 (IntegerOf ty 1) × IsAttrOf c a.2 (Overflow false false)
+DifferenceAttrs c ty ones a =
+    IsAttrOf c a.0 (IntegerOf ty ones) × IsAttrOf c a.1 (IntegerOf ty 1) × IsAttrOf c a.2 (Overflow false false)

@@ -23,7 +23,8 @@ pub record IsMadeOf (w : World) (x : ℕ) (front : Place) (r : Rule) (p : Made) 
 
 -- rule r may be left out at operation x
 abbrev pub IsLeftOut : Rule → World → ℕ → Type 0
-IsLeftOut r w x = (rs : List Rule) → first_rule (greedy (r ∷ rs)) (module_in w) x ≡ first_rule (greedy rs) (module_in w) x
+IsLeftOut r w x = (rs : List Rule) → first_rule (greedy (r ∷ rs)) (module_in w) x
+    ≡ first_rule (greedy rs) (module_in w) x
 
 -- some rules from the first on that may apply, or none may
 abbrev pub AreLikely : List Rule → World → ℕ → Option (List Rule) → Type 0
@@ -33,14 +34,18 @@ AreLikely rs w x (Some ks) = first_rule (greedy rs) (module_in w) x ≡ first_ru
 -- the first of rules that is tried applies, with what it makes, or may be left out
 abbrev pub TriedFirst : Rule → World → ℕ → Place → Option Made → Type 0
 TriedFirst r w x front None = IsLeftOut r w x
-TriedFirst r w x front (Some p) = IsMadeOf w x front r p × ((rs : List Rule) → first_rule (greedy (r ∷ rs)) (module_in w) x ≡ rewrite_of r (module_in w) x)
+TriedFirst r w x front (Some p) =
+    IsMadeOf w x front r p × ((rs : List Rule)
+    → first_rule (greedy (r ∷ rs)) (module_in w) x ≡ rewrite_of r (module_in w) x)
 
 -- the first of some rules that applies, with what it makes, or that none does
 abbrev pub IsFirst : List Rule → World → ℕ → Place → Option (Rule × Made) → Type 0
 IsFirst rs w x front None = first_rule (greedy rs) (module_in w) x ≡ none
-IsFirst rs w x front (Some f) = IsMadeOf w x front f.0 f.1 × (first_rule (greedy rs) (module_in w) x ≡ rewrite_of f.0 (module_in w) x)
+IsFirst rs w x front (Some f) =
+    IsMadeOf w x front f.0 f.1 × (first_rule (greedy rs) (module_in w) x ≡ rewrite_of f.0 (module_in w) x)
 
 -- the lowest rule that applies, with what it makes, or that none does
 abbrev pub IsLowest : World → ℕ → Option Found → Type 0
 IsLowest w x None = lowest (module_in w) x ≡ none
-IsLowest w x (Some f) = IsMadeOf w x f.planned.front f.rule f.planned.made × (lowest (module_in w) x ≡ rewrite_of f.rule (module_in w) x)
+IsLowest w x (Some f) =
+    IsMadeOf w x f.planned.front f.rule f.planned.made × (lowest (module_in w) x ≡ rewrite_of f.rule (module_in w) x)

@@ -1,6 +1,7 @@
 -- New operations, in the numbers of a context.
 use Rattle.std.specs.Prelude.{ℕ, List, [], ◌∷◌, Option, Some, None, option_map}
-use Rattle.ir_types.specs.declared.word.Word.TheVariants.{ArithConstant, ArithCmpi, ArithSelect, Value as ValueKey, OverflowFlags, Predicate}
+use Rattle.ir_types.specs.declared.word.Word.TheVariants.{ArithConstant, ArithCmpi, ArithSelect, Value as ValueKey}
+use Rattle.ir_types.specs.declared.word.Word.TheVariants.{OverflowFlags, Predicate}
 use Rattle.ir_types.specs.WordNames.{word_number}
 use Rattle.ir_tree.specs.Tree.{Op, op, no_regions}
 use Rattle.ir_tree.specs.declared.value.Value.{Value}
@@ -12,7 +13,15 @@ entries (Some e) = e ∷ []
 
 -- an operation of one result, with at most one property
 abbrev pub new_op : ℕ → List Value → ℕ → Option (ℕ × ℕ) → Op
-new_op name operands ty entry = op (record { id = 0; name = name; operands = operands; results = ty ∷ []; properties = entries entry; attributes = [] }) no_regions
+new_op name operands ty entry =
+    op (record {
+      id = 0;
+      name = name;
+      operands = operands;
+      results = ty ∷ [];
+      properties = entries entry;
+      attributes = [];
+    }) no_regions
 
 -- a constant, of its attribute
 abbrev pub new_constant : ℕ → ℕ → Op
@@ -27,7 +36,8 @@ new_binary name ty a b flags = new_op name (a ∷ b ∷ []) ty (flag_entry flags
 
 -- a comparison, of its result's type and its predicate's attribute
 abbrev pub new_comparison : ℕ → ℕ → Value → Value → Op
-new_comparison truth predicate a b = new_op (word_number ArithCmpi) (a ∷ b ∷ []) truth (Some (word_number Predicate, predicate))
+new_comparison truth predicate a b =
+    new_op (word_number ArithCmpi) (a ∷ b ∷ []) truth (Some (word_number Predicate, predicate))
 
 -- a choice
 abbrev pub new_choice : ℕ → Value → Value → Value → Op

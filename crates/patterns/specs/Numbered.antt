@@ -28,13 +28,18 @@ abbrev pub cast_edits : Site → ℕ → ℕ → Value → List Edit
 cast_edits s name ty v = Make s.front (new_cast name ty v) ∷ giving s (first_result s)
 
 abbrev pub combined_edits : Site → ℕ → ℕ → Value → ℕ → Option ℕ → List Edit
-combined_edits s name ty v value flags = Make s.front (new_constant ty value) ∷ Make s.front (new_binary name ty v (first_result s) flags) ∷ giving s (result_at s 1)
+combined_edits s name ty v value flags =
+    Make s.front (new_constant ty value) ∷ Make s.front (new_binary name ty v (first_result s) flags)
+    ∷ giving s (result_at s 1)
 
 abbrev pub mirrored_edits : Site → ℕ → Value → Value → List Edit
-mirrored_edits s predicate a b = SetAttr s.op (word_number Predicate) predicate ∷ SetOperand s.op 0 a ∷ SetOperand s.op 1 b ∷ []
+mirrored_edits s predicate a b =
+    SetAttr s.op (word_number Predicate) predicate ∷ SetOperand s.op 0 a ∷ SetOperand s.op 1 b ∷ []
 
 abbrev pub chosen_edits : Site → ℕ → ℕ → ℕ → Value → Value → List Edit
-chosen_edits s truth predicate ty a b = Make s.front (new_comparison truth predicate a b) ∷ Make s.front (new_choice ty (first_result s) a b) ∷ giving s (result_at s 1)
+chosen_edits s truth predicate ty a b =
+    Make s.front (new_comparison truth predicate a b) ∷ Make s.front (new_choice ty (first_result s) a b)
+    ∷ giving s (result_at s 1)
 
 abbrev pub difference_edits : Site → ℕ → Value → Value → ℕ → ℕ → ℕ → List Edit
 difference_edits s ty a b ones one flags =

@@ -41,11 +41,14 @@ planned_edits c n x p = made_edits c n x p.front p.made
 
 -- a plan, or none, is what rule r makes of operation x behind a place, if x is there
 abbrev pub IsPlanFor : Rule → World → ℕ → Place → Option Plan → Type 0
-IsPlanFor r w x front p = (o : Operation) → find x (module_in w).tree ≡ Some o → option_map (plan_meaning w.ctx (module_in w).next x front) p ≡ rule r (module_in w).tree (module_in w).next front o
+IsPlanFor r w x front p = (o : Operation) → find x (module_in w).tree ≡ Some o
+    → option_map (plan_meaning w.ctx (module_in w).next x front) p
+    ≡ rule r (module_in w).tree (module_in w).next front o
 
 -- what is made of x, or nothing, is what rule r makes of it
 abbrev pub IsMadeFor : Rule → World → ℕ → Place → Option Made → Type 0
-IsMadeFor r w x front p = (o : Operation) → find x (module_in w).tree ≡ Some o → option_map (made_edits w.ctx (module_in w).next x front) p ≡ rule r (module_in w).tree (module_in w).next front o
+IsMadeFor r w x front p = (o : Operation) → find x (module_in w).tree ≡ Some o
+    → option_map (made_edits w.ctx (module_in w).next x front) p ≡ rule r (module_in w).tree (module_in w).next front o
 
 -- why edits aren't carried out, where c is the context after it: memory was refused, a limit stands against them, or
 -- the context is full

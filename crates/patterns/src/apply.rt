@@ -16,11 +16,11 @@ use patterns_base::rule::Rule;
 use patterns_runs::Bench;
 use std::alloc::Global;
 
-/// Applies a rule at an operation, or leaves the module, its marks and the journal as they were. The answer is whether it
-/// applied.
+/// Applies a rule at an operation, or leaves the module, its marks and the journal as they were. The answer is whether
+/// it applied.
 ///
-/// Refusals, in order: `NoSuchOp` where the operation isn't in the module; `Full`; `IdsExhausted`; `Full` where the context
-/// is full; and `Memory`.
+/// Refusals, in order: `NoSuchOp` where the operation isn't in the module; `Full`; `IdsExhausted`; `Full` where the
+/// context is full; and `Memory`.
 pub fn apply<L: Analysis>(
     alloc: Global,
     bench: &mut Bench<L>,
@@ -28,9 +28,11 @@ pub fn apply<L: Analysis>(
     op: OpId,
 ) -> Result<bool, Refusal>
     ensures there { has_id op (module_held bench.old.desk).tree ≡ false → result ≡ Err NoSuchOp }
-    ensures ok { IfOk result (λ done. Gave (rewrite_of rule (module_held bench.old.desk) op) done (module_held bench.old.desk) (module_held bench.new.desk)) }
+    ensures ok { IfOk result (λ done. Gave (rewrite_of rule (module_held bench.old.desk) op) done
+        (module_held bench.old.desk) (module_held bench.new.desk)) }
     ensures err { OnErr result (module_held bench.new.desk ≡ module_held bench.old.desk) }
-    ensures refused { IfErr result (λ e. IsReason (rewrite_of rule (module_held bench.old.desk) op) op (module_held bench.old.desk) bench.new.desk.ctx e) }
+    ensures refused { IfErr result (λ e. IsReason (rewrite_of rule (module_held bench.old.desk) op) op
+        (module_held bench.old.desk) bench.new.desk.ctx e) }
     ensures stays { Applied L.meaning bench.old bench.new }
     ensures journal { Keeps L.meaning result bench.old bench.new }
 {

@@ -27,7 +27,8 @@ pub(crate) fn carry_plan<L: Analysis>(
     planned: Planned,
 ) -> Result<(), Refusal>
     requires { MadeIsOf bench.old.desk.ctx planned.made }
-    ensures carried { WereCarried (planned_edits bench.old.desk.ctx (module_held bench.old.desk).next op planned) result (module_held bench.old.desk) (module_held bench.new.desk) bench.new.desk.ctx }
+    ensures carried { WereCarried (planned_edits bench.old.desk.ctx (module_held bench.old.desk).next op planned) result
+        (module_held bench.old.desk) (module_held bench.new.desk) bench.new.desk.ctx }
     ensures stays { Applied L.meaning bench.old bench.new }
     ensures journal { Keeps L.meaning result bench.old bench.new }
 {

@@ -3,7 +3,8 @@ ghost use Rattle.std.specs.Prelude.{◌≡◌, ◌+◌, ◌≤◌, ◌++◌, [],
 ghost use Rattle.ir_tree.specs.Limits.{most_next};
 ghost use Rattle.patterns_edits.specs.declared.edit.Edit.TheVariants.{Make as Made};
 ghost use Rattle.patterns.specs.New.{new_constant, new_op};
-ghost use Rattle.patterns.specs.Numbered.{cast_edits, chosen_edits, combined_edits, constant_edits, difference_edits, first_result, giving, mirrored_edits, remainder_edits, result_at};
+ghost use Rattle.patterns.specs.Numbered.{cast_edits, chosen_edits, combined_edits, constant_edits, difference_edits};
+ghost use Rattle.patterns.specs.Numbered.{first_result, giving, mirrored_edits, remainder_edits, result_at};
 
 use crate::operations::{flag_entry, new_op};
 use crate::site::Site;
@@ -38,7 +39,8 @@ fn put(
     ty: TypeId,
     entry: &Option<(NameId, AttrId)>,
 ) -> Result<(), AllocError>
-    ensures { OnOk result (edits.new.items ≡ edits.old.items ++ Made site.now.front (new_op name operands.now ty entry.now) ∷ []) }
+    ensures { OnOk result (edits.new.items ≡ edits.old.items
+        ++ Made site.now.front (new_op name operands.now ty entry.now) ∷ []) }
 {
     let op = new_op(alloc, name, operands, ty, entry)?;
     edits.push(Edit::Make {

@@ -1,7 +1,8 @@
 //! What is interned for new operations.
 ghost use Rattle.std.specs.Prelude.{false, IfOk, IfErr};
 ghost use Rattle.ir_types.specs.Things.{IsName, IsType, TypeIsOf, AttrIsOf};
-ghost use Rattle.ir_types.specs.Terms.{Integer, IntegerOf, Overflow, attr_node_term, name_term, type_node_term, type_term};
+ghost use Rattle.ir_types.specs.Terms.{Integer, IntegerOf, Overflow, attr_node_term, name_term, type_node_term};
+ghost use Rattle.ir_types.specs.Terms.{type_term};
 ghost use Rattle.ir_types.specs.declared.node.Sign.TheVariants.{Signless};
 ghost use Rattle.patterns_base.specs.Made.{i64};
 ghost use Rattle.patterns_runs.specs.Interning.{Added, IsNoRoom};

@@ -113,18 +113,21 @@ fn find_lowest(alloc: Global, world: &World, op: OpId) -> Result<Option<Found>, 
 /// Applies the lowest rule of canonicalization that applies at an operation, or leaves the module, its marks and the
 /// journal as they were. The answer is that rule.
 ///
-/// Refusals, in order: `NoSuchOp` where the operation isn't in the module; `Full`; `IdsExhausted`; `Full` where the context
-/// is full; and `Memory`.
+/// Refusals, in order: `NoSuchOp` where the operation isn't in the module; `Full`; `IdsExhausted`; `Full` where the
+/// context is full; and `Memory`.
 pub fn lowest<L: Analysis>(
     alloc: Global,
     bench: &mut Bench<L>,
     op: OpId,
 ) -> Result<Option<Rule>, Refusal>
     ensures there { has_id op (module_held bench.old.desk).tree ≡ false → result ≡ Err NoSuchOp }
-    ensures ok { IfOk result (λ r. Gave (lowest_of (module_held bench.old.desk) op) (is_some r) (module_held bench.old.desk) (module_held bench.new.desk)) }
-    ensures rule { IfOk result (λ r. IfSome r (λ r. lowest_of (module_held bench.old.desk) op ≡ rewrite_of r (module_held bench.old.desk) op)) }
+    ensures ok { IfOk result (λ r. Gave (lowest_of (module_held bench.old.desk) op) (is_some r)
+        (module_held bench.old.desk) (module_held bench.new.desk)) }
+    ensures rule { IfOk result (λ r. IfSome r (λ r. lowest_of (module_held bench.old.desk) op
+        ≡ rewrite_of r (module_held bench.old.desk) op)) }
     ensures err { OnErr result (module_held bench.new.desk ≡ module_held bench.old.desk) }
-    ensures refused { IfErr result (λ e. IsReason (lowest_of (module_held bench.old.desk) op) op (module_held bench.old.desk) bench.new.desk.ctx e) }
+    ensures refused { IfErr result (λ e. IsReason (lowest_of (module_held bench.old.desk) op) op
+        (module_held bench.old.desk) bench.new.desk.ctx e) }
     ensures stays { Applied L.meaning bench.old bench.new }
     ensures journal { Keeps L.meaning result bench.old bench.new }
 {

@@ -28,7 +28,8 @@ fn plan_edits<L: Analysis>(
 ) -> Result<Vec<Edit>, Refusal>
     requires of { PlanIsOf bench.old.desk.ctx plan }
     requires room { site.now.next + plan_makes plan ≤ most_next }
-    ensures stands { IfOk result (λ es. StandsFor bench.new.desk.ctx es.items (plan_meaning bench.old.desk.ctx site.now.next site.now.op site.now.front plan)) }
+    ensures stands { IfOk result (λ es. StandsFor bench.new.desk.ctx es.items
+        (plan_meaning bench.old.desk.ctx site.now.next site.now.op site.now.front plan)) }
     ensures refused { IfErr result (λ e. IsNoRoom bench.new.desk.ctx e) }
     ensures added { Added L.meaning bench.old bench.new }
 {
@@ -81,7 +82,8 @@ pub(crate) fn edits_for<L: Analysis>(
     requires of { MadeIsOf bench.old.desk.ctx made }
     requires next { site.now.next ≡ bench.old.desk.store.module_of.next }
     requires room { site.now.next + made_makes made ≤ most_next }
-    ensures stands { IfOk result (λ es. StandsFor bench.new.desk.ctx es.items (made_edits bench.old.desk.ctx site.now.next site.now.op site.now.front made)) }
+    ensures stands { IfOk result (λ es. StandsFor bench.new.desk.ctx es.items
+        (made_edits bench.old.desk.ctx site.now.next site.now.op site.now.front made)) }
     ensures refused { IfErr result (λ e. IsNoRoom bench.new.desk.ctx e) }
     ensures added { Added L.meaning bench.old bench.new }
 {

@@ -63,8 +63,8 @@ fn plan_of(
     }
 }
 
-/// What a rule makes of a clean operation of the module, of which this is shown, behind a place, if it applies. That the
-/// operation stands there is asked before.
+/// What a rule makes of a clean operation of the module, of which this is shown, behind a place, if it applies. That
+/// the operation stands there is asked before.
 fn made_of(
     alloc: Global,
     world: &World,
@@ -104,7 +104,8 @@ pub(crate) fn made_at(
     requires of { NodeIsOf world.now.ctx node.now }
     requires front { Some front.now ≡ front_of op (module_in world.now).tree }
     requires clean { clean_at (module_in world.now).tree (record (head_in world.now.ctx node.now) { id = op }) ≡ true }
-    ensures edits { IfOk result (λ p. option_map (made_edits world.now.ctx (module_in world.now).next op front.now) p ≡ edits_of rule (module_in world.now) op) }
+    ensures edits { IfOk result (λ p. option_map (made_edits world.now.ctx (module_in world.now).next op front.now) p
+        ≡ edits_of rule (module_in world.now) op) }
     ensures of { IfOk result (λ p. IfSome p (MadeIsOf world.now.ctx)) }
 {
     made_of(alloc, world, rule, front, op, node)
@@ -117,7 +118,8 @@ pub(crate) fn find_plan(
     rule: Rule,
     op: OpId,
 ) -> Result<Option<Planned>, AllocError>
-    ensures edits { IfOk result (λ p. option_map (planned_edits world.now.ctx (module_in world.now).next op) p ≡ edits_of rule (module_in world.now) op) }
+    ensures edits { IfOk result (λ p. option_map (planned_edits world.now.ctx (module_in world.now).next op) p
+        ≡ edits_of rule (module_in world.now) op) }
     ensures of { IfOk result (λ p. IfSome p (λ p. MadeIsOf world.now.ctx p.made)) }
 {
     let Some(node) = shown(world, op) else {

@@ -34,7 +34,8 @@ pub(crate) fn constant<L: Analysis>(
 ) -> Result<Vec<Edit>, Refusal>
     requires of { IsType bench.old.desk.ctx ty }
     requires room { site.now.next + 1 ≤ most_next }
-    ensures stands { IfOk result (λ es. StandsFor bench.new.desk.ctx es.items (give_constant site.now.front site.now.next site.now.op (type_term bench.old.desk.ctx ty) bits)) }
+    ensures stands { IfOk result (λ es. StandsFor bench.new.desk.ctx es.items
+        (give_constant site.now.front site.now.next site.now.op (type_term bench.old.desk.ctx ty) bits)) }
     ensures refused { IfErr result (λ e. IsNoRoom bench.new.desk.ctx e) }
     ensures added { Added L.meaning bench.old bench.new }
 {
@@ -61,7 +62,9 @@ pub(crate) fn recast<L: Analysis>(
     requires name { IsName bench.old.desk.ctx name }
     requires ty { IsType bench.old.desk.ctx ty }
     requires room { site.now.next + 1 ≤ most_next }
-    ensures stands { IfOk result (λ es. StandsFor bench.new.desk.ctx es.items (give_new site.now.front site.now.next site.now.op (cast (name_term bench.old.desk.ctx name) (type_term bench.old.desk.ctx ty) value.now))) }
+    ensures stands { IfOk result (λ es. StandsFor bench.new.desk.ctx es.items
+        (give_new site.now.front site.now.next site.now.op
+        (cast (name_term bench.old.desk.ctx name) (type_term bench.old.desk.ctx ty) value.now))) }
     ensures refused { IfErr result (λ e. IsNoRoom bench.new.desk.ctx e) }
     ensures added { Added L.meaning bench.old bench.new }
 {
@@ -85,7 +88,9 @@ pub(crate) fn combination<L: Analysis>(
     requires name { IsName bench.old.desk.ctx name }
     requires ty { IsType bench.old.desk.ctx ty }
     requires room { site.now.next + 2 ≤ most_next }
-    ensures stands { IfOk result (λ es. StandsFor bench.new.desk.ctx es.items (combined site.now.next site.now.op site.now.front (name_term bench.old.desk.ctx name) (type_term bench.old.desk.ctx ty) operand.now bits)) }
+    ensures stands { IfOk result (λ es. StandsFor bench.new.desk.ctx es.items
+        (combined site.now.next site.now.op site.now.front (name_term bench.old.desk.ctx name)
+        (type_term bench.old.desk.ctx ty) operand.now bits)) }
     ensures refused { IfErr result (λ e. IsNoRoom bench.new.desk.ctx e) }
     ensures added { Added L.meaning bench.old bench.new }
 {
@@ -114,7 +119,8 @@ pub(crate) fn mirrored<L: Analysis>(
     first: &Value,
     second: &Value,
 ) -> Result<Vec<Edit>, Refusal>
-    ensures stands { IfOk result (λ es. StandsFor bench.new.desk.ctx es.items (mirroring site.now.op predicate first.now second.now)) }
+    ensures stands { IfOk result (λ es. StandsFor bench.new.desk.ctx es.items
+        (mirroring site.now.op predicate first.now second.now)) }
     ensures refused { IfErr result (λ e. IsNoRoom bench.new.desk.ctx e) }
     ensures added { Added L.meaning bench.old bench.new }
 {
@@ -141,7 +147,9 @@ pub(crate) fn choice<L: Analysis>(
 ) -> Result<Vec<Edit>, Refusal>
     requires ty { IsType bench.old.desk.ctx ty }
     requires room { site.now.next + 2 ≤ most_next }
-    ensures stands { IfOk result (λ es. StandsFor bench.new.desk.ctx es.items (choosing site.now.next site.now.op site.now.front predicate (type_term bench.old.desk.ctx ty) first.now second.now)) }
+    ensures stands { IfOk result (λ es. StandsFor bench.new.desk.ctx es.items
+        (choosing site.now.next site.now.op site.now.front predicate
+        (type_term bench.old.desk.ctx ty) first.now second.now)) }
     ensures refused { IfErr result (λ e. IsNoRoom bench.new.desk.ctx e) }
     ensures added { Added L.meaning bench.old bench.new }
 {
@@ -201,7 +209,9 @@ pub(crate) fn difference<L: Analysis>(
 ) -> Result<Vec<Edit>, Refusal>
     requires ty { IsType bench.old.desk.ctx ty }
     requires room { site.now.next + 5 ≤ most_next }
-    ensures stands { IfOk result (λ es. StandsFor bench.new.desk.ctx es.items (subtracting site.now.next site.now.op site.now.front (type_term bench.old.desk.ctx ty) first.now second.now ones)) }
+    ensures stands { IfOk result (λ es. StandsFor bench.new.desk.ctx es.items
+        (subtracting site.now.next site.now.op site.now.front
+        (type_term bench.old.desk.ctx ty) first.now second.now ones)) }
     ensures refused { IfErr result (λ e. IsNoRoom bench.new.desk.ctx e) }
     ensures added { Added L.meaning bench.old bench.new }
 {
@@ -229,7 +239,9 @@ pub(crate) fn remainder<L: Analysis>(
     requires name { IsName bench.old.desk.ctx division }
     requires ty { IsType bench.old.desk.ctx ty }
     requires room { site.now.next + 3 ≤ most_next }
-    ensures stands { IfOk result (λ es. StandsFor bench.new.desk.ctx es.items (dividing_by site.now.next site.now.op site.now.front (name_term bench.old.desk.ctx division) (type_term bench.old.desk.ctx ty) first.now second.now)) }
+    ensures stands { IfOk result (λ es. StandsFor bench.new.desk.ctx es.items
+        (dividing_by site.now.next site.now.op site.now.front (name_term bench.old.desk.ctx division)
+        (type_term bench.old.desk.ctx ty) first.now second.now)) }
     ensures refused { IfErr result (λ e. IsNoRoom bench.new.desk.ctx e) }
     ensures added { Added L.meaning bench.old bench.new }
 {

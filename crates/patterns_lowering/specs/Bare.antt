@@ -1,6 +1,7 @@
 -- Operations without the operations in their blocks.
 use Rattle.std.specs.Prelude.{ℕ, List, map, Option, Some, None}
-use Rattle.ir_tree.specs.Tree.{OpOf, Op, op, RegionsOf, no_regions, region, RegionOf, Region, empty, block, no_ops, regions_of}
+use Rattle.ir_tree.specs.Tree.{OpOf, Op, op, RegionsOf, no_regions, region, RegionOf, Region, empty, block, no_ops}
+use Rattle.ir_tree.specs.Tree.{regions_of}
 use Rattle.ir_store.specs.Nodes.{Node}
 
 -- a region whose block has its arguments alone

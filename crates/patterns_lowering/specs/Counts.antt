@@ -9,4 +9,5 @@ use Rattle.patterns_lowering.specs.Plans.{LoweringIsOf, lowering_makes}
 
 -- the edits of a plan of a context make as many operations as is counted, whatever id is free and wherever they go
 abbrev pub CountsAreMade : Type 0
-CountsAreMade = (c : Things) (n : ℕ) (front : Place) (p : Lowering) → LoweringIsOf c p → made_by (lowering_meaning c n front p) ≡ lowering_makes p
+CountsAreMade = (c : Things) (n : ℕ) (front : Place) (p : Lowering) → LoweringIsOf c p
+    → made_by (lowering_meaning c n front p) ≡ lowering_makes p

@@ -24,7 +24,8 @@ module _ (n : ℕ) (front : Place) (operands results : List Bool) (o : Operation
   abbrev pub results_given : ℕ → ℕ → List Edit
   results_given y c =
       let given = results_from y 0 (head o).results in
-      bridges Index front results given ++ replacing (results_from (head o).id 0 (head o).results) (crossed c results given) ++ Erase (head o).id ∷ []
+      bridges Index front results given ++ replacing (results_from (head o).id 0 (head o).results)
+      (crossed c results given) ++ Erase (head o).id ∷ []
 
   -- the operation on i64, in front of o
   abbrev pub operation_made : List Edit
@@ -36,7 +37,8 @@ module _ (n : ℕ) (front : Place) (operands results : List Bool) (o : Operation
 
   -- casts of operands, the operation on i64, casts of its results, which are given for those of o
   abbrev pub operation_lowered : List Edit
-  operation_lowered = bridges i64 front operands (head o).operands ++ operation_made ++ results_given operation_id (operation_id + 1)
+  operation_lowered =
+      bridges i64 front operands (head o).operands ++ operation_made ++ results_given operation_id (operation_id + 1)
 
   -- the operations of a block come into block r of operation y
   abbrev pub moved_over : ℕ → ℕ → Taken → List Edit
@@ -84,7 +86,10 @@ module _ (n : ℕ) (front : Place) (operands results : List Bool) (o : Operation
 
 -- the edits of a plan, where n is the next free id, and a place is in front of the operation
 abbrev pub lowering_meaning : Things → ℕ → Place → Lowering → List Edit
-lowering_meaning c n front (plan.Operation i) = operation_lowered n front i.index_operands.items i.index_results.items (meaning c i.op)
+lowering_meaning c n front (plan.Operation i) =
+    operation_lowered n front i.index_operands.items i.index_results.items (meaning c i.op)
 lowering_meaning c n front (plan.Loop l) =
-    loop_lowered n front l.of.index_operands.items l.of.index_results.items (meaning c l.of.op) (map (type_term c) l.arguments.items) l.index_arguments.items l.body
-lowering_meaning c n front (plan.Choice d) = choice_lowered n front d.of.index_operands.items d.of.index_results.items (meaning c d.of.op) d.first d.second
+    loop_lowered n front l.of.index_operands.items l.of.index_results.items (meaning c l.of.op)
+    (map (type_term c) l.arguments.items) l.index_arguments.items l.body
+lowering_meaning c n front (plan.Choice d) =
+    choice_lowered n front d.of.index_operands.items d.of.index_results.items (meaning c d.of.op) d.first d.second

@@ -21,7 +21,15 @@ use Rattle.patterns_lowering.specs.declared.loops.LoopIds.{LoopIds}
 
 -- a cast of some values to a type
 abbrev pub cast_op : ℕ → List Value → Op
-cast_op ty vs = op (record { id = 0; name = word_number BuiltinUnrealizedConversionCast; operands = vs; results = ty ∷ []; properties = []; attributes = [] }) no_regions
+cast_op ty vs =
+    op (record {
+      id = 0;
+      name = word_number BuiltinUnrealizedConversionCast;
+      operands = vs;
+      results = ty ∷ [];
+      properties = [];
+      attributes = [];
+    }) no_regions
 
 -- casts to a type, at a place, of those values that are marked
 abbrev pub bridge_edits : ℕ → Place → List Bool → List Value → List Edit
@@ -52,13 +60,19 @@ regions_lowered c wide (region g rs) = region (region_lowered c wide g) (regions
 -- an operation with other operands and properties, and another type for index
 abbrev pub op_lowered : Things → ℕ → List (ℕ × ℕ) → List Value → Op → Op
 op_lowered c wide properties operands o =
-    op (record (head o) { operands = operands; results = map (type_lowered c wide) (head o).results; properties = properties }) (regions_lowered c wide (regions o))
+    op (record (head o) {
+      operands = operands;
+      results = map (type_lowered c wide) (head o).results;
+      properties = properties;
+    }) (regions_lowered c wide (regions o))
 
 -- the results of o are given by those of operation y, through casts to index whose ids begin with k, and o is erased
 abbrev pub give_edits : ℕ → Place → List Bool → Op → ℕ → ℕ → List Edit
 give_edits index front results o y k =
     let given = results_from y 0 (head o).results in
-    bridge_edits index front results given ++ replace_edits (results_from (head o).id 0 (head o).results) (crossed k results given) ++ Erase (head o).id ∷ []
+    bridge_edits index front results given
+    ++ replace_edits (results_from (head o).id 0 (head o).results) (crossed k results given) ++ Erase (head o).id
+    ∷ []
 
 -- casts of operands, the operation on i64, casts of its results, which are given for those of o
 abbrev pub operation_edits : Things → ℕ → ℕ → List (ℕ × ℕ) → ℕ → Place → List Bool → List Bool → Op → List Edit
@@ -90,14 +104,17 @@ abbrev pub erase_edits : List ℕ → List Edit
 erase_edits [] = []
 erase_edits (x ∷ xs) = Erase x ∷ erase_edits xs
 
--- operations come into block r of operation y, each in front of the one named before it, the first of them in front of z
+-- operations come into block r of operation y, each in front of the one named before it, the first of them in front of
+-- z
 abbrev pub gather_edits : ℕ → ℕ → ℕ → List ℕ → List Edit
 gather_edits y r z [] = []
 gather_edits y r z (x ∷ xs) = Move x (before_in y r z) ∷ gather_edits y r x xs
 
 -- the operations of a block come in front of operation y, which stands at a place, and from there into its block r
 abbrev pub over_edits : Place → ℕ → ℕ → Taken → List Edit
-over_edits front y r b = move_edits (beside front y) b.before.items ++ Move b.last (beside front y) ∷ Move b.last (end_of y r) ∷ gather_edits y r b.last (reverse b.before.items)
+over_edits front y r b =
+    move_edits (beside front y) b.before.items ++ Move b.last (beside front y) ∷ Move b.last (end_of y r)
+    ∷ gather_edits y r b.last (reverse b.before.items)
 
 -- casts, whose ids begin with n, set as operands of x from number k on, where these are marked
 abbrev pub crossing_edits : ℕ → ℕ → ℕ → List Bool → List Edit
@@ -116,16 +133,24 @@ loop_ids n l = record {
   op = n + marked l.of.index_operands.items + length l.arguments.items;
   arguments = n + marked l.of.index_operands.items + length l.arguments.items + 1;
   handed = n + marked l.of.index_operands.items + length l.arguments.items + 1 + marked l.index_arguments.items;
-  results = n + marked l.of.index_operands.items + length l.arguments.items + 1 + marked l.index_arguments.items + marked l.of.index_results.items;
+  results =
+      n + marked l.of.index_operands.items + length l.arguments.items + 1 + marked l.index_arguments.items
+      + marked l.of.index_results.items;
 }
 
--- what comes in front of a loop: casts of its operands, what stands for its arguments, and the loop on i64
-abbrev pub front_edits : Things → ℕ → List (ℕ × ℕ) → ℕ → Place → List Value → IndexedLoop → List Edit
-front_edits c wide properties n front holders l =
+-- what comes in front of a loop on i64: casts of its operands, and what stands for its arguments
+abbrev pub held_edits : ℕ → Place → List Value → IndexedLoop → List Edit
+held_edits wide front holders l =
     bridge_edits wide front l.of.index_operands.items (head l.of.op).operands
     ++ holder_edits front l.arguments.items
     ++ replace_edits (arguments_from (head l.of.op).id 0 l.arguments.items) holders
-    ++ Make front (op_lowered c wide properties (crossed n l.of.index_operands.items (head l.of.op).operands) l.of.op) ∷ []
+
+-- with the loop
+abbrev pub front_edits : Things → ℕ → List (ℕ × ℕ) → ℕ → Place → List Value → IndexedLoop → List Edit
+front_edits c wide properties n front holders l =
+    held_edits wide front holders l
+    ++ Make front (op_lowered c wide properties (crossed n l.of.index_operands.items (head l.of.op).operands) l.of.op)
+    ∷ []
 
 -- what comes in its block: casts of its arguments, the operations, which are given these, and what stood for them goes
 abbrev pub inside_edits : ℕ → Place → ℕ → List ℕ → List Value → List Value → List Value → IndexedLoop → List Edit
@@ -138,7 +163,8 @@ inside_edits index front y ids holders arguments news l =
 -- what the block hands on goes through casts, and so do the results
 abbrev pub behind_edits : ℕ → ℕ → Place → LoopIds → List Value → IndexedLoop → List Edit
 behind_edits wide index front ids news l =
-    handed_edits wide (before_in ids.op 0 l.body.last) ids.handed l.body.last l.of.index_results.items (map (put_for (head l.of.op).id news) l.body.handed.items)
+    handed_edits wide (before_in ids.op 0 l.body.last) ids.handed l.body.last l.of.index_results.items
+    (map (put_for (head l.of.op).id news) l.body.handed.items)
     ++ give_edits index front l.of.index_results.items l.of.op ids.op ids.results
 
 -- the edits by which a loop is lowered
@@ -149,12 +175,15 @@ loop_edits c wide index properties n front l =
     let holders = first_results holder_ids in
     let arguments = arguments_from ids.op 0 l.arguments.items in
     let news = crossed ids.arguments l.index_arguments.items arguments in
-    front_edits c wide properties n front holders l ++ inside_edits index front ids.op holder_ids holders arguments news l ++ behind_edits wide index front ids news l
+    front_edits c wide properties n front holders l
+    ++ inside_edits index front ids.op holder_ids holders arguments news l
+    ++ behind_edits wide index front ids news l
 
 -- the operations of a block become those of block r of operation y, and what they hand on goes through casts whose ids
 -- begin with n
 abbrev pub side_edits : ℕ → Place → ℕ → ℕ → ℕ → List Bool → Taken → List Edit
-side_edits wide front y r n marks b = over_edits front y r b ++ handed_edits wide (before_in y r b.last) n b.last marks b.handed.items
+side_edits wide front y r n marks b =
+    over_edits front y r b ++ handed_edits wide (before_in y r b.last) n b.last marks b.handed.items
 
 -- the edits by which a choice is lowered
 abbrev pub choice_edits : Things → ℕ → ℕ → List (ℕ × ℕ) → ℕ → Place → IndexedChoice → List Edit

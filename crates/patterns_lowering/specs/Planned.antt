@@ -18,15 +18,16 @@ use Rattle.patterns_lowering.specs.declared.plan.Lowering.{Lowering}
 use Rattle.patterns_lowering.specs.Bare.{bare}
 use Rattle.patterns_lowering.specs.Meanings.{lowering_meaning}
 
--- what a rule makes: its edits at an operation of a tree, where an id is the next free one and a place is in front of the
--- operation, if it applies
+-- what a rule makes: its edits at an operation of a tree, where an id is the next free one and a place is in front of
+-- the operation, if it applies
 abbrev pub Making : Type 0
 Making = Operation → ℕ → Place → Operation → Option (List Edit)
 
 -- a plan, or none, is what a rule makes of operation x of a world's module, if x is there, whatever id is free and
 -- wherever x stands
 abbrev pub IsLoweredBy : Making → World → ℕ → Option Lowering → Type 0
-IsLoweredBy makes w x p = (o : Operation) → find x (module_in w).tree ≡ Some o → (n : ℕ) (front : Place) → option_map (lowering_meaning w.ctx n front) p ≡ makes (module_in w).tree n front o
+IsLoweredBy makes w x p = (o : Operation) → find x (module_in w).tree ≡ Some o → (n : ℕ) (front : Place)
+    → option_map (lowering_meaning w.ctx n front) p ≡ makes (module_in w).tree n front o
 
 -- what rule r makes of it
 abbrev pub IsLoweredAt : Rule → World → ℕ → Option Lowering → Type 0

@@ -51,7 +51,9 @@ LoweringIsOf c (plan.Choice d) = IsIndexedChoice c d
 -- arguments, casts of these, and of what its block hands on; for a choice casts of what its blocks hand on
 abbrev pub lowering_makes : Lowering → ℕ
 lowering_makes (plan.Operation i) = marked i.index_operands.items + 1 + marked i.index_results.items
-lowering_makes (plan.Loop l) = marked l.of.index_operands.items + 1 + marked l.of.index_results.items + length l.arguments.items + marked l.index_arguments.items + marked l.of.index_results.items
+lowering_makes (plan.Loop l) =
+    marked l.of.index_operands.items + 1 + marked l.of.index_results.items + length l.arguments.items
+    + marked l.index_arguments.items + marked l.of.index_results.items
 lowering_makes (plan.Choice d) = 1 + 3 * marked d.of.index_results.items
 
 -- its numbers are of some context

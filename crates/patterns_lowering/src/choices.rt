@@ -8,7 +8,7 @@ ghost use Rattle.patterns_lowering.specs.Plans.{IsIndexedChoice, lowering_makes}
 
 use crate::give::push_given;
 use crate::marks::marked;
-use crate::numbers::Numbers;
+use crate::numbers::{Numbers, before, casts_at};
 use crate::operation::push_made;
 use crate::over::{push_handed, push_over};
 use crate::plan::{IndexedChoice, Taken};
@@ -18,38 +18,38 @@ use ir_types::ids::{OpId, TypeId};
 use patterns_edits::edit::Edit;
 use std::alloc::{AllocError, Global};
 
+/// A block that operations come into: its operation and region, and the type and the first id of the casts of what it
+/// hands on.
+#[derive(Clone, Copy)]
+pub(crate) struct Side {
+    /// The operation.
+    pub(crate) op: OpId,
+    /// The region.
+    pub(crate) region: u32,
+    /// The type.
+    pub(crate) wide: TypeId,
+    /// The first id.
+    pub(crate) first: u32,
+}
+
 /// The operations of a block become those of another one, and what they hand on goes through casts.
 fn push_side(
     alloc: Global,
     edits: &mut Vec<Edit>,
-    wide: TypeId,
     front: &Place,
-    op: OpId,
-    region: u32,
-    first: u32,
+    side: &Side,
     marks: &[bool],
     block: &Taken,
 ) -> Result<(), AllocError>
     requires few { length marks.now ≤ 256 }
-    requires room { first + marked marks.now ≤ most_next }
-    ensures { OnOk result (edits.new.items ≡ edits.old.items ++ side_edits wide front.now op region first marks.now block.now) }
+    requires room { side.now.first + marked marks.now ≤ most_next }
+    ensures { OnOk result (edits.new.items ≡ edits.old.items
+        ++ side_edits side.now.wide front.now side.now.op side.now.region side.now.first marks.now block.now) }
 {
-    push_over(edits, front, op, region, block)?;
-    let place = Place {
-        parent: op,
-        region,
-        before: Some(block.last),
-    };
-    push_handed(
-        alloc,
-        edits,
-        wide,
-        &place,
-        first,
-        block.last,
-        marks,
-        &block.handed,
-    )
+    push_over(edits, front, side.op, side.region, block)?;
+    let place = before(side.op, side.region, block.last);
+    let casts = casts_at(side.wide, &place, side.first);
+    push_handed(alloc, edits, &casts, block.last, marks, &block.handed)
 }
 
 /// The edits by which a choice is lowered, for what was interned.
@@ -63,7 +63,8 @@ pub(crate) fn choice_edits(
 ) -> Result<Vec<Edit>, AllocError>
     requires of { IsIndexedChoice ctx.now of.now }
     requires room { next + lowering_makes (Choice of.now) ≤ most_next }
-    ensures { IfOk result (λ es. es.items ≡ choice_edits ctx.now numbers.wide numbers.index numbers.properties.items next front.now of.now) }
+    ensures { IfOk result (λ es. es.items
+        ≡ choice_edits ctx.now numbers.wide numbers.index numbers.properties.items next front.now of.now) }
 {
     let Numbers {
         wide,
@@ -71,23 +72,26 @@ pub(crate) fn choice_edits(
         properties,
     } = numbers;
     let mut edits = Vec::new(alloc);
-    push_made(
-        alloc, ctx, &mut edits, wide, properties, next, front, &of.of,
-    )?;
+    let casts = casts_at(wide, front, next);
+    push_made(alloc, ctx, &mut edits, &casts, properties, &of.of)?;
     let marks = &of.of.index_results;
     let id = next + marked(&of.of.index_operands);
     let op = OpId::new(id);
-    let first = id + 1;
-    let second = first + marked(marks);
-    push_side(
-        alloc, &mut edits, wide, front, op, 0, first, marks, &of.first,
-    )?;
-    push_side(
-        alloc, &mut edits, wide, front, op, 1, second, marks, &of.second,
-    )?;
-    let results = second + marked(marks);
-    push_given(
-        alloc, &mut edits, index, front, marks, &of.of.op, op, results,
-    )?;
+    let first = Side {
+        op,
+        region: 0,
+        wide,
+        first: id + 1,
+    };
+    push_side(alloc, &mut edits, front, &first, marks, &of.first)?;
+    let second = Side {
+        op,
+        region: 1,
+        wide,
+        first: id + 1 + marked(marks),
+    };
+    push_side(alloc, &mut edits, front, &second, marks, &of.second)?;
+    let given = casts_at(index, front, second.first + marked(marks));
+    push_given(alloc, &mut edits, &given, marks, &of.of.op, op)?;
     Ok(edits)
 }

@@ -6,7 +6,8 @@ ghost use Rattle.patterns_base.specs.Lowering.{marked};
 ghost use Rattle.patterns_edits.specs.Lists.{AllFit, edits_meaning};
 ghost use Rattle.patterns_runs.specs.Interning.{Added, IsNoRoom};
 ghost use Rattle.patterns_lowering.specs.Meanings.{lowering_meaning, operation_lowered};
-ghost use Rattle.patterns_lowering.specs.Plans.{IsIndexed, IsIndexedChoice, IsIndexedLoop, LoweringIsOf, lowering_makes};
+ghost use Rattle.patterns_lowering.specs.Plans.{IsIndexed, IsIndexedChoice, IsIndexedLoop, LoweringIsOf};
+ghost use Rattle.patterns_lowering.specs.Plans.{lowering_makes};
 ghost use Rattle.patterns_lowering.specs.declared.plan.Lowering.TheVariants.{Loop, Choice};
 
 use crate::choices::choice_edits;
@@ -29,8 +30,11 @@ fn operation<L: Analysis>(
     of: &Indexed,
 ) -> Result<Vec<Edit>, Refusal>
     requires of { IsIndexed bench.old.desk.ctx of.now }
-    requires room { bench.old.desk.store.module_of.next + (marked of.now.index_operands.items + 1 + marked of.now.index_results.items) ≤ most_next }
-    ensures edits { IfOk result (λ es. edits_meaning bench.new.desk.ctx es.items ≡ operation_lowered bench.old.desk.store.module_of.next front.now of.now.index_operands.items of.now.index_results.items (meaning bench.old.desk.ctx of.now.op)) }
+    requires room { bench.old.desk.store.module_of.next
+        + (marked of.now.index_operands.items + 1 + marked of.now.index_results.items) ≤ most_next }
+    ensures edits { IfOk result (λ es. edits_meaning bench.new.desk.ctx es.items
+        ≡ operation_lowered bench.old.desk.store.module_of.next front.now of.now.index_operands.items
+        of.now.index_results.items (meaning bench.old.desk.ctx of.now.op)) }
     ensures fit { IfOk result (λ es. AllFit bench.new.desk.ctx es.items) }
     ensures refused { IfErr result (λ e. IsNoRoom bench.new.desk.ctx e) }
     ensures interned { Added L.meaning bench.old bench.new }
@@ -57,7 +61,8 @@ fn over_loop<L: Analysis>(
 ) -> Result<Vec<Edit>, Refusal>
     requires of { IsIndexedLoop bench.old.desk.ctx of.now }
     requires room { bench.old.desk.store.module_of.next + lowering_makes (Loop of.now) ≤ most_next }
-    ensures edits { IfOk result (λ es. edits_meaning bench.new.desk.ctx es.items ≡ lowering_meaning bench.old.desk.ctx bench.old.desk.store.module_of.next front.now (Loop of.now)) }
+    ensures edits { IfOk result (λ es. edits_meaning bench.new.desk.ctx es.items
+        ≡ lowering_meaning bench.old.desk.ctx bench.old.desk.store.module_of.next front.now (Loop of.now)) }
     ensures fit { IfOk result (λ es. AllFit bench.new.desk.ctx es.items) }
     ensures refused { IfErr result (λ e. IsNoRoom bench.new.desk.ctx e) }
     ensures interned { Added L.meaning bench.old bench.new }
@@ -84,7 +89,8 @@ fn over_choice<L: Analysis>(
 ) -> Result<Vec<Edit>, Refusal>
     requires of { IsIndexedChoice bench.old.desk.ctx of.now }
     requires room { bench.old.desk.store.module_of.next + lowering_makes (Choice of.now) ≤ most_next }
-    ensures edits { IfOk result (λ es. edits_meaning bench.new.desk.ctx es.items ≡ lowering_meaning bench.old.desk.ctx bench.old.desk.store.module_of.next front.now (Choice of.now)) }
+    ensures edits { IfOk result (λ es. edits_meaning bench.new.desk.ctx es.items
+        ≡ lowering_meaning bench.old.desk.ctx bench.old.desk.store.module_of.next front.now (Choice of.now)) }
     ensures fit { IfOk result (λ es. AllFit bench.new.desk.ctx es.items) }
     ensures refused { IfErr result (λ e. IsNoRoom bench.new.desk.ctx e) }
     ensures interned { Added L.meaning bench.old bench.new }
@@ -114,7 +120,8 @@ pub fn lowering_edits<L: Analysis>(
 ) -> Result<Vec<Edit>, Refusal>
     requires of { LoweringIsOf bench.old.desk.ctx plan.now }
     requires room { bench.old.desk.store.module_of.next + lowering_makes plan.now ≤ most_next }
-    ensures edits { IfOk result (λ es. edits_meaning bench.new.desk.ctx es.items ≡ lowering_meaning bench.old.desk.ctx bench.old.desk.store.module_of.next front.now plan.now) }
+    ensures edits { IfOk result (λ es. edits_meaning bench.new.desk.ctx es.items
+        ≡ lowering_meaning bench.old.desk.ctx bench.old.desk.store.module_of.next front.now plan.now) }
     ensures fit { IfOk result (λ es. AllFit bench.new.desk.ctx es.items) }
     ensures refused { IfErr result (λ e. IsNoRoom bench.new.desk.ctx e) }
     ensures interned { Added L.meaning bench.old bench.new }

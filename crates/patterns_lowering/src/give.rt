@@ -6,32 +6,30 @@ ghost use Rattle.patterns_base.specs.Lowering.{marked};
 ghost use Rattle.patterns_lowering.specs.Numbers.{give_edits};
 
 use crate::lists::{crossed, push_bridges, push_replaced, put, results_of};
-use ir_tree::place::Place;
+use crate::numbers::Casts;
 use ir_tree::tree::TreeOp;
-use ir_types::ids::{OpId, TypeId};
+use ir_types::ids::OpId;
 use patterns_edits::edit::Edit;
 use std::alloc::{AllocError, Global};
 
-/// The results of an operation are given for those of `op`, through casts to index whose ids begin with `first`, and
-/// `op` is erased.
+/// The results of an operation are given for those of `op`, through casts to index, and `op` is erased.
 pub(crate) fn push_given(
     alloc: Global,
     edits: &mut Vec<Edit>,
-    index: TypeId,
-    front: &Place,
+    casts: &Casts,
     marks: &[bool],
     op: &TreeOp,
     giver: OpId,
-    first: u32,
 ) -> Result<(), AllocError>
     requires few { length (head op.now).results ≤ 256 }
-    requires room { first + marked marks.now ≤ most_next }
-    ensures { OnOk result (edits.new.items ≡ edits.old.items ++ give_edits index front.now marks.now op.now giver first) }
+    requires room { casts.now.first + marked marks.now ≤ most_next }
+    ensures { OnOk result (edits.new.items ≡ edits.old.items
+        ++ give_edits casts.now.ty casts.now.place marks.now op.now giver casts.now.first) }
 {
     let given = results_of(alloc, giver, &op.results)?;
-    push_bridges(alloc, edits, index, front, marks, &given)?;
-    let casts = crossed(alloc, first, marks, &given)?;
+    push_bridges(alloc, edits, casts.ty, &casts.place, marks, &given)?;
+    let news = crossed(alloc, casts.first, marks, &given)?;
     let olds = results_of(alloc, op.id, &op.results)?;
-    push_replaced(edits, &olds, &casts)?;
+    push_replaced(edits, &olds, &news)?;
     put(edits, Edit::Erase { op: op.id })
 }

@@ -78,7 +78,8 @@ fn lowered_attr<L: Analysis>(
     requires wide_is { type_term bench.old.desk.ctx wide ≡ i64 }
     requires known { IsAttr bench.old.desk.ctx attr }
     ensures known { IfOk result (λ id. IsAttr bench.new.desk.ctx id) }
-    ensures is { IfOk result (λ id. attr_term bench.new.desk.ctx id ≡ lowered_attr (attr_term bench.old.desk.ctx attr)) }
+    ensures is { IfOk result (λ id. attr_term bench.new.desk.ctx id
+        ≡ lowered_attr (attr_term bench.old.desk.ctx attr)) }
     ensures refused { IfErr result (λ e. IsNoRoom bench.new.desk.ctx e) }
     ensures interned { Added L.meaning bench.old bench.new }
 {
@@ -117,7 +118,9 @@ fn lowered_entry<L: Analysis>(
     requires wide_known { IsType bench.old.desk.ctx wide }
     requires wide_is { type_term bench.old.desk.ctx wide ≡ i64 }
     requires known { IsAttr bench.old.desk.ctx entry.1 }
-    ensures lowered { OnOk result ((all rest : List (ℕ × ℕ)) → IsLowering bench.old.desk.ctx all (entry ∷ rest) lowered.old.items → IsLowering bench.new.desk.ctx all rest lowered.new.items) }
+    ensures lowered { OnOk result ((all rest : List (ℕ × ℕ))
+        → IsLowering bench.old.desk.ctx all (entry ∷ rest) lowered.old.items
+        → IsLowering bench.new.desk.ctx all rest lowered.new.items) }
     ensures refused { IfErr result (λ e. IsNoRoom bench.new.desk.ctx e) }
     ensures interned { Added L.meaning bench.old bench.new }
 {

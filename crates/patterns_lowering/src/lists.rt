@@ -48,7 +48,9 @@ fn push_bridge(
     mark: bool,
     value: Value,
 ) -> Result<(), AllocError>
-    ensures { OnOk result ((ms : List Bool) (vs : List TreeValue) → edits.new.items ++ bridge_edits ty place.now ms vs ≡ edits.old.items ++ bridge_edits ty place.now (mark ∷ ms) (value ∷ vs)) }
+    ensures { OnOk result ((ms : List Bool) (vs : List TreeValue)
+        → edits.new.items ++ bridge_edits ty place.now ms vs ≡ edits.old.items
+        ++ bridge_edits ty place.now (mark ∷ ms) (value ∷ vs)) }
 {
     if !mark {
         return Ok(());
@@ -113,7 +115,8 @@ pub(crate) fn push_replaced(
 /// A value, or the cast with the next id, if it is marked. The next id behind it.
 fn cross(values: &mut Vec<Value>, next: u32, mark: bool, value: Value) -> Result<u32, AllocError>
     requires { next + marked (mark ∷ []) ≤ most_next }
-    ensures values { IfOk result (λ n. (ms : List Bool) (vs : List TreeValue) → values.new.items ++ crossed n ms vs ≡ values.old.items ++ crossed next (mark ∷ ms) (value ∷ vs)) }
+    ensures values { IfOk result (λ n. (ms : List Bool) (vs : List TreeValue)
+        → values.new.items ++ crossed n ms vs ≡ values.old.items ++ crossed next (mark ∷ ms) (value ∷ vs)) }
     ensures next { IfOk result (λ n. (ms : List Bool) → n + marked ms ≡ next + marked (mark ∷ ms)) }
 {
     if !mark {

@@ -1,23 +1,26 @@
 //! `lower-loop`: a loop over index becomes one over i64, with casts around it and in its block.
-ghost use Rattle.std.specs.Prelude.{◌≡◌, ◌≤◌, ◌+◌, IfOk, OnOk, ◌++◌};
+ghost use Rattle.std.specs.Prelude.{◌≡◌, ◌≤◌, ◌+◌, IfOk, OnOk, ◌++◌, length, map};
 ghost use Rattle.ir_tree.specs.Limits.{most_next};
+ghost use Rattle.ir_tree.specs.Tree.{head};
 ghost use Rattle.patterns_base.specs.Lowering.{marked};
 ghost use Rattle.patterns_lowering.specs.declared.plan.Lowering.TheVariants.{Loop};
-ghost use Rattle.patterns_lowering.specs.Numbers.{behind_edits, front_edits, inside_edits, loop_edits, loop_ids};
+ghost use Rattle.patterns_lowering.specs.Numbers.{give_edits, handed_edits, held_edits, inside_edits};
+ghost use Rattle.patterns_lowering.specs.Numbers.{loop_edits, loop_ids};
+ghost use Rattle.patterns_regions.specs.Opened.{put_for};
 ghost use Rattle.patterns_lowering.specs.Plans.{IsIndexedLoop, lowering_makes};
 
 use crate::give::push_given;
 use crate::holders::{first_results, ids_from, push_erased, push_holders};
 use crate::lists::{crossed, push_bridges, push_replaced};
 use crate::marks::marked;
-use crate::numbers::Numbers;
+use crate::numbers::{Casts, Numbers, before, casts_at};
 use crate::operation::push_made;
 use crate::over::{all_put, arguments_of, push_handed, push_over};
 use crate::plan::IndexedLoop;
 use ir_tree::place::Place;
 use ir_tree::value::Value;
 use ir_types::context::Context;
-use ir_types::ids::{AttrId, NameId, OpId, TypeId};
+use ir_types::ids::{OpId, TypeId};
 use patterns_edits::edit::Edit;
 use std::alloc::{AllocError, Global};
 
@@ -56,21 +59,33 @@ fn loop_ids(ctx: &Context, next: u32, of: &IndexedLoop) -> LoopIds
     }
 }
 
-/// What comes in front of a loop: casts of its operands, what stands for its arguments, and the loop on i64.
-fn push_front(
+/// What a loop's block has: its operation, what stands for its arguments meanwhile, by the operations and their values,
+/// its arguments, and their casts.
+#[derive(Drop)]
+pub(crate) struct LoopParts {
+    /// The loop.
+    pub(crate) op: OpId,
+    /// The operations that stand for arguments.
+    pub(crate) ids: Vec<OpId>,
+    /// Their results.
+    pub(crate) holders: Vec<Value>,
+    /// The arguments of its block.
+    pub(crate) arguments: Vec<Value>,
+    /// These, or their casts.
+    pub(crate) news: Vec<Value>,
+}
+
+/// What comes in front of a loop on i64: casts of its operands, and what stands for its arguments.
+fn push_held(
     alloc: Global,
-    ctx: &Context,
     edits: &mut Vec<Edit>,
     wide: TypeId,
-    properties: Vec<(NameId, AttrId)>,
-    next: u32,
     front: &Place,
     holders: &[Value],
     of: &IndexedLoop,
 ) -> Result<(), AllocError>
-    requires of { IsIndexedLoop ctx.now of.now }
-    requires room { next + marked of.now.of.index_operands.items ≤ most_next }
-    ensures { OnOk result (edits.new.items ≡ edits.old.items ++ front_edits ctx.now wide properties.items next front.now holders.now of.now) }
+    requires { length of.now.arguments.items ≤ 256 }
+    ensures { OnOk result (edits.new.items ≡ edits.old.items ++ held_edits wide front.now holders.now of.now) }
 {
     push_bridges(
         alloc,
@@ -82,81 +97,64 @@ fn push_front(
     )?;
     push_holders(alloc, edits, front, &of.arguments)?;
     let olds = arguments_of(alloc, of.of.op.id, &of.arguments)?;
-    push_replaced(edits, &olds, holders)?;
-    push_made(alloc, ctx, edits, wide, properties, next, front, &of.of)
+    push_replaced(edits, &olds, holders)
 }
 
-/// What comes in its block: casts of its arguments, the operations, which are given these, and what stood for them goes.
+/// What comes in its block: casts of its arguments, the operations, which are given these, and what stood for them
+/// goes.
 fn push_inside(
     alloc: Global,
     edits: &mut Vec<Edit>,
     index: TypeId,
     front: &Place,
-    op: OpId,
-    ids: &[OpId],
-    holders: &[Value],
-    arguments: &[Value],
-    news: &[Value],
+    parts: &LoopParts,
     of: &IndexedLoop,
 ) -> Result<(), AllocError>
-    ensures { OnOk result (edits.new.items ≡ edits.old.items ++ inside_edits index front.now op ids.now holders.now arguments.now news.now of.now) }
+    ensures { OnOk result (edits.new.items ≡ edits.old.items
+        ++ inside_edits index front.now parts.now.op parts.now.ids.items parts.now.holders.items
+        parts.now.arguments.items parts.now.news.items of.now) }
 {
     let end = Place {
-        parent: op,
+        parent: parts.op,
         region: 0,
         before: None,
     };
-    push_bridges(alloc, edits, index, &end, &of.index_arguments, arguments)?;
-    push_over(edits, front, op, 0, &of.body)?;
-    push_replaced(edits, holders, news)?;
-    push_erased(edits, ids)
-}
-
-/// What the block hands on goes through casts, and so do the results.
-fn push_behind(
-    alloc: Global,
-    ctx: &Context,
-    edits: &mut Vec<Edit>,
-    wide: TypeId,
-    index: TypeId,
-    front: &Place,
-    ids: &LoopIds,
-    news: &[Value],
-    of: &IndexedLoop,
-) -> Result<(), AllocError>
-    requires of { IsIndexedLoop ctx.now of.now }
-    requires handed { ids.now.handed + marked of.now.of.index_results.items ≤ most_next }
-    requires results { ids.now.results + marked of.now.of.index_results.items ≤ most_next }
-    ensures { OnOk result (edits.new.items ≡ edits.old.items ++ behind_edits wide index front.now ids.now news.now of.now) }
-{
-    let op = OpId::new(ids.op);
-    let place = Place {
-        parent: op,
-        region: 0,
-        before: Some(of.body.last),
-    };
-    let marks = &of.of.index_results;
-    let handed = all_put(alloc, of.of.op.id, news, &of.body.handed)?;
-    push_handed(
-        alloc,
-        edits,
-        wide,
-        &place,
-        ids.handed,
-        of.body.last,
-        marks,
-        &handed,
-    )?;
-    push_given(
+    push_bridges(
         alloc,
         edits,
         index,
-        front,
-        marks,
-        &of.of.op,
-        op,
-        ids.results,
-    )
+        &end,
+        &of.index_arguments,
+        &parts.arguments,
+    )?;
+    push_over(edits, front, parts.op, 0, &of.body)?;
+    push_replaced(edits, &parts.holders, &parts.news)?;
+    push_erased(edits, &parts.ids)
+}
+
+/// What the block hands on goes through casts, and so do the results, which are given.
+fn push_behind(
+    alloc: Global,
+    edits: &mut Vec<Edit>,
+    handed: &Casts,
+    given: &Casts,
+    parts: &LoopParts,
+    of: &IndexedLoop,
+) -> Result<(), AllocError>
+    requires few { length of.now.of.index_results.items ≤ 256 }
+    requires all { length (head of.now.of.op).results ≤ 256 }
+    requires handed { handed.now.first + marked of.now.of.index_results.items ≤ most_next }
+    requires given { given.now.first + marked of.now.of.index_results.items ≤ most_next }
+    ensures { OnOk result (edits.new.items ≡ edits.old.items
+        ++ (handed_edits handed.now.ty handed.now.place handed.now.first of.now.body.last of.now.of.index_results.items
+        (map (put_for (head of.now.of.op).id parts.now.news.items) of.now.body.handed.items)
+        ++ give_edits given.now.ty given.now.place of.now.of.index_results.items of.now.of.op parts.now.op
+        given.now.first)) }
+{
+    let marks = &of.of.index_results;
+    let values = all_put(alloc, of.of.op.id, &parts.news, &of.body.handed)?;
+    push_handed(alloc, edits, handed, of.body.last, marks, &values)?;
+    push_given(alloc, edits, given, marks, &of.of.op, parts.op)
 }
 
 /// The edits by which a loop is lowered, for what was interned.
@@ -170,7 +168,8 @@ pub(crate) fn loop_edits(
 ) -> Result<Vec<Edit>, AllocError>
     requires of { IsIndexedLoop ctx.now of.now }
     requires room { next + lowering_makes (Loop of.now) ≤ most_next }
-    ensures { IfOk result (λ es. es.items ≡ loop_edits ctx.now numbers.wide numbers.index numbers.properties.items next front.now of.now) }
+    ensures { IfOk result (λ es. es.items
+        ≡ loop_edits ctx.now numbers.wide numbers.index numbers.properties.items next front.now of.now) }
 {
     let Numbers {
         wide,
@@ -178,27 +177,25 @@ pub(crate) fn loop_edits(
         properties,
     } = numbers;
     let ids = loop_ids(ctx, next, of);
+    let op = OpId::new(ids.op);
     let holder_ids = ids_from(alloc, ids.holders, &of.arguments)?;
     let holders = first_results(alloc, &holder_ids)?;
-    let op = OpId::new(ids.op);
     let arguments = arguments_of(alloc, op, &of.arguments)?;
     let news = crossed(alloc, ids.arguments, &of.index_arguments, &arguments)?;
-    let mut edits = Vec::new(alloc);
-    push_front(
-        alloc, ctx, &mut edits, wide, properties, next, front, &holders, of,
-    )?;
-    push_inside(
-        alloc,
-        &mut edits,
-        index,
-        front,
+    let parts = LoopParts {
         op,
-        &holder_ids,
-        &holders,
-        &arguments,
-        &news,
-        of,
-    )?;
-    push_behind(alloc, ctx, &mut edits, wide, index, front, &ids, &news, of)?;
+        ids: holder_ids,
+        holders,
+        arguments,
+        news,
+    };
+    let casts = casts_at(wide, front, next);
+    let handed = casts_at(wide, &before(op, 0, of.body.last), ids.handed);
+    let given = casts_at(index, front, ids.results);
+    let mut edits = Vec::new(alloc);
+    push_held(alloc, &mut edits, wide, front, &parts.holders, of)?;
+    push_made(alloc, ctx, &mut edits, &casts, properties, &of.of)?;
+    push_inside(alloc, &mut edits, index, front, &parts, of)?;
+    push_behind(alloc, &mut edits, &handed, &given, &parts, of)?;
     Ok(edits)
 }

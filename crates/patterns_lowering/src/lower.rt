@@ -69,7 +69,8 @@ fn lowered_regions(
     regions: &[TreeRegion],
 ) -> Result<Vec<TreeRegion>, AllocError>
     requires { all_arguments_pass (list_all (is_type ctx.now)) (regions_of (map region_view regions.now)) ≡ true }
-    ensures { IfOk result (λ rs. regions_of (map region_view rs.items) ≡ regions_lowered ctx.now wide (regions_of (map region_view regions.now))) }
+    ensures { IfOk result (λ rs. regions_of (map region_view rs.items)
+        ≡ regions_lowered ctx.now wide (regions_of (map region_view regions.now))) }
 {
     let mut lowered = Vec::new(alloc);
     'regions: for region in regions {

@@ -11,32 +11,38 @@ use crate::give::push_given;
 use crate::lists::{crossed, push_bridges, put};
 use crate::lower::lowered;
 use crate::marks::marked;
-use crate::numbers::Numbers;
+use crate::numbers::{Casts, Numbers, casts_at};
 use crate::plan::Indexed;
 use ir_tree::place::Place;
 use ir_types::context::Context;
-use ir_types::ids::{AttrId, NameId, OpId, TypeId};
+use ir_types::ids::{AttrId, NameId, OpId};
 use patterns_edits::edit::Edit;
 use std::alloc::{AllocError, Global};
 
-/// The operation on i64 is made at a place. The casts of its operands have the ids from `next` on.
+/// The operation on i64 is made at a place, behind casts of its operands.
 pub(crate) fn push_made(
     alloc: Global,
     ctx: &Context,
     edits: &mut Vec<Edit>,
-    wide: TypeId,
+    casts: &Casts,
     properties: Vec<(NameId, AttrId)>,
-    next: u32,
-    front: &Place,
     of: &Indexed,
 ) -> Result<(), AllocError>
     requires of { IsIndexed ctx.now of.now }
-    requires room { next + marked of.now.index_operands.items ≤ most_next }
-    ensures { OnOk result (edits.new.items ≡ edits.old.items ++ Make front.now (op_lowered ctx.now wide properties.items (crossed next of.now.index_operands.items (head of.now.op).operands) of.now.op) ∷ []) }
+    requires room { casts.now.first + marked of.now.index_operands.items ≤ most_next }
+    ensures { OnOk result (edits.new.items ≡ edits.old.items
+        ++ Make casts.now.place (op_lowered ctx.now casts.now.ty properties.items
+        (crossed casts.now.first of.now.index_operands.items (head of.now.op).operands) of.now.op) ∷ []) }
 {
-    let operands = crossed(alloc, next, &of.index_operands, &of.op.operands)?;
-    let op = lowered(alloc, ctx, wide, properties, operands, &of.op)?;
-    put(edits, Edit::Make { place: *front, op })
+    let operands = crossed(alloc, casts.first, &of.index_operands, &of.op.operands)?;
+    let op = lowered(alloc, ctx, casts.ty, properties, operands, &of.op)?;
+    put(
+        edits,
+        Edit::Make {
+            place: casts.place,
+            op,
+        },
+    )
 }
 
 /// The edits by which an operation of arith is lowered, for what was interned.
@@ -50,7 +56,9 @@ pub(crate) fn operation_edits(
 ) -> Result<Vec<Edit>, AllocError>
     requires of { IsIndexed ctx.now of.now }
     requires room { next + marked of.now.index_operands.items + 1 + marked of.now.index_results.items ≤ most_next }
-    ensures { IfOk result (λ es. es.items ≡ operation_edits ctx.now numbers.wide numbers.index numbers.properties.items next front.now of.now.index_operands.items of.now.index_results.items of.now.op) }
+    ensures { IfOk result (λ es. es.items
+        ≡ operation_edits ctx.now numbers.wide numbers.index numbers.properties.items next front.now
+        of.now.index_operands.items of.now.index_results.items of.now.op) }
 {
     let Numbers {
         wide,
@@ -58,6 +66,7 @@ pub(crate) fn operation_edits(
         properties,
     } = numbers;
     let mut edits = Vec::new(alloc);
+    let casts = casts_at(wide, front, next);
     push_bridges(
         alloc,
         &mut edits,
@@ -66,17 +75,16 @@ pub(crate) fn operation_edits(
         &of.index_operands,
         &of.op.operands,
     )?;
-    push_made(alloc, ctx, &mut edits, wide, properties, next, front, of)?;
+    push_made(alloc, ctx, &mut edits, &casts, properties, of)?;
     let id = next + marked(&of.index_operands);
+    let given = casts_at(index, front, id + 1);
     push_given(
         alloc,
         &mut edits,
-        index,
-        front,
+        &given,
         &of.index_results,
         &of.op,
         OpId::new(id),
-        id + 1,
     )?;
     Ok(edits)
 }

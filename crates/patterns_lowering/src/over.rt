@@ -7,6 +7,7 @@ ghost use Rattle.patterns_regions.specs.Opened.{put_for};
 ghost use Rattle.patterns_lowering.specs.Numbers.{crossing_edits, gather_edits, handed_edits, move_edits, over_edits};
 
 use crate::lists::{push_bridges, put};
+use crate::numbers::Casts;
 use crate::plan::Taken;
 use ir_tree::place::Place;
 use ir_tree::value::Value;
@@ -42,7 +43,8 @@ fn push_gathered(
     region: u32,
     block: &Taken,
 ) -> Result<(), AllocError>
-    ensures { OnOk result (edits.new.items ≡ edits.old.items ++ gather_edits op region block.now.last (reverse block.now.before.items)) }
+    ensures { OnOk result (edits.new.items ≡ edits.old.items
+        ++ gather_edits op region block.now.last (reverse block.now.before.items)) }
 {
     let mut next = block.last;
     let mut left = block.before.len();
@@ -112,7 +114,9 @@ fn push_cross(
     mark: bool,
 ) -> Result<u32, AllocError>
     requires { next + marked (mark ∷ []) ≤ most_next }
-    ensures edits { IfOk result (λ n. (ms : List Bool) → edits.new.items ++ crossing_edits op (operand + 1) n ms ≡ edits.old.items ++ crossing_edits op operand next (mark ∷ ms)) }
+    ensures edits { IfOk result (λ n. (ms : List Bool)
+        → edits.new.items ++ crossing_edits op (operand + 1) n ms ≡ edits.old.items
+        ++ crossing_edits op operand next (mark ∷ ms)) }
     ensures next { IfOk result (λ n. (ms : List Bool) → n + marked ms ≡ next + marked (mark ∷ ms)) }
 {
     if !mark {
@@ -151,23 +155,22 @@ fn push_crossing(
     Ok(())
 }
 
-/// What the last operation of a block hands on there goes through casts, whose ids begin with one, where it is marked.
+/// What the last operation of a block hands on there goes through casts, where it is marked.
 pub(crate) fn push_handed(
     alloc: Global,
     edits: &mut Vec<Edit>,
-    wide: TypeId,
-    place: &Place,
-    first: u32,
+    casts: &Casts,
     last: OpId,
     marks: &[bool],
     handed: &[Value],
 ) -> Result<(), AllocError>
     requires few { length marks.now ≤ 256 }
-    requires room { first + marked marks.now ≤ most_next }
-    ensures { OnOk result (edits.new.items ≡ edits.old.items ++ handed_edits wide place.now first last marks.now handed.now) }
+    requires room { casts.now.first + marked marks.now ≤ most_next }
+    ensures { OnOk result (edits.new.items ≡ edits.old.items
+        ++ handed_edits casts.now.ty casts.now.place casts.now.first last marks.now handed.now) }
 {
-    push_bridges(alloc, edits, wide, place, marks, handed)?;
-    push_crossing(edits, last, first, marks)
+    push_bridges(alloc, edits, casts.ty, &casts.place, marks, handed)?;
+    push_crossing(edits, last, casts.first, marks)
 }
 
 /// The arguments of the block of an operation's region 0, as many as there are types.

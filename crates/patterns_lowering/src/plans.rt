@@ -111,8 +111,8 @@ pub(crate) fn plan_lower_choice(
     Ok(Some(Lowering::Choice(IndexedChoice { of, first, second })))
 }
 
-/// What a rule that lowers makes of a clean operation of the module, if it applies. That the operation is clean, and stands
-/// at a place, is asked before.
+/// What a rule that lowers makes of a clean operation of the module, if it applies. That the operation is clean, and
+/// stands at a place, is asked before.
 pub fn plan_lowered(
     alloc: Global,
     world: &World,

@@ -13,5 +13,8 @@ use Rattle.patterns_reads.specs.declared.plan.Plan.{Plan}
 use Rattle.patterns_reads.specs.declared.shapes.Single.{Single}
 
 -- a plan, or none, is what a part of a rule makes of operation x, which has this operand, name and result
-abbrev pub IsPlannedOne : (Operation → ℕ → Place → Operation → One → Option (List Edit)) → World → ℕ → Single → Option Plan → Type 0
-IsPlannedOne part w x p plan = (node : Node) (n : ℕ) (front : Place) → option_map (plan_meaning w.ctx n x front) plan ≡ part (module_in w).tree n front (bare_in w.ctx x node) (one_in w.ctx p)
+abbrev pub IsPlannedOne : (Operation → ℕ → Place → Operation → One → Option (List Edit)) → World → ℕ → Single
+    → Option Plan → Type 0
+IsPlannedOne part w x p plan = (node : Node) (n : ℕ) (front : Place)
+    → option_map (plan_meaning w.ctx n x front) plan
+    ≡ part (module_in w).tree n front (bare_in w.ctx x node) (one_in w.ctx p)

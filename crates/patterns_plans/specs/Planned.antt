@@ -16,19 +16,21 @@ use Rattle.patterns_reads.specs.RuleNames.{is_lowering}
 use Rattle.patterns_reads.specs.Rules.{rule}
 use Rattle.patterns_reads.specs.declared.plan.Plan.{Plan}
 
--- what a rule makes: its edits at an operation of a tree, where an id is the next free one and a place is in front of the
--- operation, if it applies
+-- what a rule makes: its edits at an operation of a tree, where an id is the next free one and a place is in front of
+-- the operation, if it applies
 abbrev pub Making : Type 0
 Making = Operation → ℕ → Place → Operation → Option (List Edit)
 
 -- a plan, or none, is what a rule makes of operation x of a world's module, of which this node is shown, whatever id is
 -- free and wherever x stands
 abbrev pub IsPlanned : Making → World → ℕ → Node → Option Plan → Type 0
-IsPlanned makes w x node p = (n : ℕ) (front : Place) → option_map (plan_meaning w.ctx n x front) p ≡ makes (module_in w).tree n front (bare_in w.ctx x node)
+IsPlanned makes w x node p = (n : ℕ) (front : Place)
+    → option_map (plan_meaning w.ctx n x front) p ≡ makes (module_in w).tree n front (bare_in w.ctx x node)
 
 -- a plan, or none, is what rule r makes of operation x, if x is there, whatever id is free and wherever x stands
 abbrev pub IsPlanAt : Rule → World → ℕ → Option Plan → Type 0
-IsPlanAt r w x p = (o : Operation) → find x (module_in w).tree ≡ Some o → (n : ℕ) (front : Place) → option_map (plan_meaning w.ctx n x front) p ≡ rule r (module_in w).tree n front o
+IsPlanAt r w x p = (o : Operation) → find x (module_in w).tree ≡ Some o → (n : ℕ) (front : Place)
+    → option_map (plan_meaning w.ctx n x front) p ≡ rule r (module_in w).tree n front o
 
 -- whether a rule opens a branch or a loop, so that operations inside it move
 abbrev pub is_opening : Rule → Bool

@@ -2,7 +2,8 @@
 ghost use Rattle.std.specs.Prelude.{◌≡◌, IfOk, ℕ, map, option_map};
 ghost use Rattle.ir_event.specs.Modules.{NodeIsOf, module_in};
 ghost use Rattle.dialects_int.specs.Folds.{known_of};
-ghost use Rattle.patterns_reads.specs.Folding.{fold_to_constant, cancel_itself, zero_remainder, compare_itself, compare_zero};
+ghost use Rattle.patterns_reads.specs.Folding.{fold_to_constant, cancel_itself, zero_remainder, compare_itself};
+ghost use Rattle.patterns_reads.specs.Folding.{compare_zero};
 ghost use Rattle.patterns_plans.specs.Numbers.{known_each, readable};
 ghost use Rattle.patterns_plans.specs.Planned.{FitsIn, IsPlanned};
 
@@ -40,7 +41,8 @@ fn known_each(
     world: &World,
     values: &[Value],
 ) -> Result<Option<Vec<Option<Bits>>>, AllocError>
-    ensures { IfOk result (λ r. option_map (λ v. map known_of v.items) r ≡ known_each (module_in world.now).tree values.now) }
+    ensures { IfOk result (λ r. option_map (λ v. map known_of v.items) r
+        ≡ known_each (module_in world.now).tree values.now) }
 {
     let mut known = Vec::new(alloc);
     let mut rest = values;

@@ -4,7 +4,8 @@ ghost use Rattle.ir_types.specs.Things.{Things};
 ghost use Rattle.ir_tree.specs.declared.place.Place.{Place as At};
 ghost use Rattle.ir_event.specs.Modules.{NodeIsOf};
 ghost use Rattle.patterns_reads.specs.Makes.{give};
-ghost use Rattle.patterns_reads.specs.Folding.{drop_zero, drop_one, drop_all_ones, keep_itself, choose_same, choose_known, choose_truth};
+ghost use Rattle.patterns_reads.specs.Folding.{drop_zero, drop_one, drop_all_ones, keep_itself, choose_same};
+ghost use Rattle.patterns_reads.specs.Folding.{choose_known, choose_truth};
 ghost use Rattle.patterns_reads.specs.Plans.{PlanIsOf, plan_meaning};
 ghost use Rattle.patterns_plans.specs.Planned.{FitsIn, IsPlanned};
 

@@ -5,7 +5,9 @@ ghost use Rattle.patterns_reads.specs.Casting.{resizing};
 ghost use Rattle.patterns_reads.specs.Looks.{giver};
 ghost use Rattle.patterns_laws.specs.Words.{among, extensions, named};
 ghost use Rattle.patterns_reads.specs.Reads.{head_at, head_in};
-ghost use Rattle.patterns_plans.specs.May.{chooses_by_constant, chooses_by_opposite, chooses_constant, chooses_twins, cuts_cast, extends_extension, first_is_constant, has_twins, is_called, reads_constant, second_is_constant};
+ghost use Rattle.patterns_plans.specs.May.{chooses_by_constant, chooses_by_opposite, chooses_constant, chooses_twins};
+ghost use Rattle.patterns_plans.specs.May.{cuts_cast, extends_extension, first_is_constant, has_twins, is_called};
+ghost use Rattle.patterns_plans.specs.May.{reads_constant, second_is_constant};
 ghost use Rattle.patterns_plans.specs.Planned.{IsPlanAt};
 
 use effects::dead_op::dead_op;

@@ -24,8 +24,8 @@ use patterns_reads::plan::Plan;
 use patterns_reads::rule::Rule;
 use std::alloc::{AllocError, Global};
 
-/// What a rule makes of an operation of the module, of which this is shown, if it applies. That the operation is clean, and
-/// stands at a place, is asked before.
+/// What a rule makes of an operation of the module, of which this is shown, if it applies. That the operation is clean,
+/// and stands at a place, is asked before.
 pub fn plan(
     alloc: Global,
     world: &World,

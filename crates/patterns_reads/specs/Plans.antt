@@ -15,7 +15,8 @@ use Rattle.patterns_reads.specs.declared.plan.Plan.TheVariants as plan
 
 -- a new constant, and an operation on a value and it, which is given for x's result
 abbrev pub combined : ℕ → ℕ → Place → List ℕ → TypeTerm → Value → ℕ → List Edit
-combined n x front name ty v bits = Make front (constant ty bits) ∷ give_new front (n + 1) x (binary name ty v (Result n 0))
+combined n x front name ty v bits =
+    Make front (constant ty bits) ∷ give_new front (n + 1) x (binary name ty v (Result n 0))
 
 -- another predicate and other operands for x, in place
 abbrev pub mirroring : ℕ → ℕ → Value → Value → List Edit
@@ -50,7 +51,8 @@ plan_meaning c n x front (plan.Combined name ty v bits) = combined n x front (na
 plan_meaning c n x front (plan.Mirrored p a b) = mirroring x p a b
 plan_meaning c n x front (plan.Chosen p ty a b) = choosing n x front p (type_term c ty) a b
 plan_meaning c n x front (plan.Difference ty a b ones) = subtracting n x front (type_term c ty) a b ones
-plan_meaning c n x front (plan.Remainder division ty a b) = dividing_by n x front (name_term c division) (type_term c ty) a b
+plan_meaning c n x front (plan.Remainder division ty a b) =
+    dividing_by n x front (name_term c division) (type_term c ty) a b
 
 -- a plan's numbers are of a context
 abbrev pub PlanIsOf : Things → Plan → Type 0

@@ -37,4 +37,5 @@ abbrev pub two_in : Things → Pair → Two
 two_in c p = record { name = name_term c p.name; first = p.first; second = p.second; ty = type_term c p.ty }
 
 abbrev pub three_in : Things → Triple → Three
-three_in c p = record { name = name_term c p.name; first = p.first; second = p.second; third = p.third; ty = type_term c p.ty }
+three_in c p =
+    record { name = name_term c p.name; first = p.first; second = p.second; third = p.third; ty = type_term c p.ty }

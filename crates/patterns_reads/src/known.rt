@@ -31,7 +31,8 @@ pub fn clean_giver<'a>(
     world: &'a World,
     value: &Value,
 ) -> Result<Option<Node<'a>>, AllocError>
-    ensures node { IfOk result (λ n. option_map (head_in world.now.ctx) n ≡ clean_giver (module_in world.now).tree value.now) }
+    ensures node { IfOk result (λ n. option_map (head_in world.now.ctx) n
+        ≡ clean_giver (module_in world.now).tree value.now) }
     ensures of { IfOk result (λ n. IfSome n (NodeIsOf world.now.ctx)) }
 {
     let Value::Result(op, _) = value else {
@@ -53,7 +54,8 @@ pub fn source<'a>(
     word: Word,
     value: &Value,
 ) -> Result<Option<Node<'a>>, AllocError>
-    ensures node { IfOk result (λ n. option_map (head_in world.now.ctx) n ≡ source (module_in world.now).tree (word_bytes word) value.now) }
+    ensures node { IfOk result (λ n. option_map (head_in world.now.ctx) n
+        ≡ source (module_in world.now).tree (word_bytes word) value.now) }
     ensures of { IfOk result (λ n. IfSome n (NodeIsOf world.now.ctx)) }
 {
     let Some(giver) = giver_node(world, value) else {

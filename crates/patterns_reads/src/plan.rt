@@ -19,8 +19,8 @@ pub enum Plan {
         ty: TypeId,
         value: Value,
     },
-    /// A new constant of these bits, and behind it an operation of that name on a value and the constant, which is given for
-    /// the result.
+    /// A new constant of these bits, and behind it an operation of that name on a value and the constant, which is
+    /// given for the result.
     Combined {
         name: NameId,
         ty: TypeId,

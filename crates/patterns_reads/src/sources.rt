@@ -25,7 +25,8 @@ pub fn source_like<'a>(
     value: &Value,
 ) -> Result<Option<Node<'a>>, AllocError>
     requires { IsName world.now.ctx name }
-    ensures node { IfOk result (λ n. option_map (head_in world.now.ctx) n ≡ source (module_in world.now).tree (name_term world.now.ctx name) value.now) }
+    ensures node { IfOk result (λ n. option_map (head_in world.now.ctx) n
+        ≡ source (module_in world.now).tree (name_term world.now.ctx name) value.now) }
     ensures of { IfOk result (λ n. IfSome n (NodeIsOf world.now.ctx)) }
 {
     let Some(giver) = giver_node(world, value) else {
@@ -44,7 +45,8 @@ pub fn source_of_extension<'a>(
     world: &'a World,
     value: &Value,
 ) -> Result<Option<Node<'a>>, AllocError>
-    ensures node { IfOk result (λ n. option_map (head_in world.now.ctx) n ≡ source_among (module_in world.now).tree extensions value.now) }
+    ensures node { IfOk result (λ n. option_map (head_in world.now.ctx) n
+        ≡ source_among (module_in world.now).tree extensions value.now) }
     ensures of { IfOk result (λ n. IfSome n (NodeIsOf world.now.ctx)) }
 {
     let Some(giver) = giver_node(world, value) else {
@@ -63,7 +65,8 @@ pub fn source_of_resizing<'a>(
     world: &'a World,
     value: &Value,
 ) -> Result<Option<Node<'a>>, AllocError>
-    ensures node { IfOk result (λ n. option_map (head_in world.now.ctx) n ≡ source_among (module_in world.now).tree resizing value.now) }
+    ensures node { IfOk result (λ n. option_map (head_in world.now.ctx) n
+        ≡ source_among (module_in world.now).tree resizing value.now) }
     ensures of { IfOk result (λ n. IfSome n (NodeIsOf world.now.ctx)) }
 {
     let Some(giver) = giver_node(world, value) else {

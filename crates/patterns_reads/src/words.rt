@@ -5,7 +5,8 @@ ghost use Rattle.ir_types.specs.Things.{IsName};
 ghost use Rattle.ir_types.specs.Terms.{name_term};
 ghost use Rattle.ir_types.specs.WordNames.{word_bytes};
 ghost use Rattle.op_registry.specs.Registry.{beside};
-ghost use Rattle.patterns_laws.specs.Words.{among, asking, cancelling, dividing, extensions, ignoring_zero, ignoring_one, index_casts, keeping, regrouping, remainders, swapping};
+ghost use Rattle.patterns_laws.specs.Words.{among, asking, cancelling, dividing, extensions, ignoring_zero};
+ghost use Rattle.patterns_laws.specs.Words.{ignoring_one, index_casts, keeping, regrouping, remainders, swapping};
 ghost use Rattle.patterns_base.specs.Casting.{resizing};
 
 use ir_types::context::Context;

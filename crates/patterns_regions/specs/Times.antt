@@ -15,4 +15,5 @@ is_once low high step = int_lt (pos 0) step && int_le high (low +ℤ step)
 -- never or once, where that is known of its bounds and its step
 abbrev pub times_of : Operation → Value → Value → Value → Option Times
 times_of t lower upper step = given (known t lower) (λ low. given (known t upper) (λ high.
-    if int_lt (reading low) (reading high) then given (known t step) (λ by. when (is_once (reading low) (reading high) (reading by)) (Some Once)) else Some Never))
+    if int_lt (reading low) (reading high) then given (known t step)
+    (λ by. when (is_once (reading low) (reading high) (reading by)) (Some Once)) else Some Never))

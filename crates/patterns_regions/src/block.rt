@@ -31,7 +31,8 @@ pub struct Body<'a> {
 
 /// What an operation of the module has, with the types of its blocks' arguments.
 pub fn node_at(world: &World, op: OpId) -> Option<Node<'_>>
-    ensures node { option_map (node_meaning world.now.ctx) result ≡ option_map (λ o. node_of o) (find op (module_in world.now).tree) }
+    ensures node { option_map (node_meaning world.now.ctx) result
+        ≡ option_map (λ o. node_of o) (find op (module_in world.now).tree) }
     ensures of { IfSome result (NodeIsOf world.now.ctx) }
 {
     nodes_are_of_the_context();
@@ -43,7 +44,8 @@ pub fn node_at(world: &World, op: OpId) -> Option<Node<'_>>
 
 /// Whether a region of the operation that a node shows has a block. None where there is no such region.
 pub fn has_block(node: &Node<'_>, region: u32) -> Option<bool>
-    ensures { (c : Things) (o : Operation) → Shows c node.now o → result ≡ option_map is_block (region_at region (regions o)) }
+    ensures { (c : Things) (o : Operation) → Shows c node.now o
+        → result ≡ option_map is_block (region_at region (regions o)) }
 {
     if region as usize >= node.region_count() {
         return None;
@@ -53,7 +55,8 @@ pub fn has_block(node: &Node<'_>, region: u32) -> Option<bool>
 
 /// The types of the arguments of the block of a region of the operation that a node shows, if it has one.
 pub fn block_arguments<'a>(node: &'a Node<'_>, region: u32) -> Option<&'a [TypeId]>
-    ensures { (c : Things) (o : Operation) → Shows c node.now o → option_map (λ a. map (type_term c) a.now) result ≡ arguments_at region o }
+    ensures { (c : Things) (o : Operation) → Shows c node.now o
+        → option_map (λ a. map (type_term c) a.now) result ≡ arguments_at region o }
 {
     node.arguments(region)
 }
@@ -82,7 +85,8 @@ pub fn body_of<'a>(
     op: OpId,
     region: u32,
 ) -> Result<Option<Body<'a>>, AllocError>
-    ensures body { IfOk result (λ b. option_map (ended_in world.now.ctx) b ≡ body_at op region (module_in world.now).tree) }
+    ensures body { IfOk result (λ b. option_map (ended_in world.now.ctx) b
+        ≡ body_at op region (module_in world.now).tree) }
     ensures of { IfOk result (λ b. IfSome b (λ e. NodeIsOf world.now.ctx e.node)) }
 {
     let Some(last) = world.store.last(op, region) else {

@@ -90,7 +90,8 @@ pub(crate) fn opened(
     values: &[Value],
     handed: &[Value],
 ) -> Result<Vec<Edit>, AllocError>
-    ensures edits { IfOk result (λ es. (c : Things) → edits_meaning c es.items ≡ opening op front.now ops.now values.now handed.now) }
+    ensures edits { IfOk result (λ es. (c : Things)
+        → edits_meaning c es.items ≡ opening op front.now ops.now values.now handed.now) }
     ensures fit { IfOk result (λ es. (c : Things) → AllFit c es.items) }
 {
     let mut edits = Vec::new(alloc);

@@ -30,7 +30,8 @@ fn open_block(
     region: u32,
     values: &[Value],
 ) -> Result<Option<Plan>, AllocError>
-    ensures edits { IfOk result (λ p. option_map (plan_meaning world.now.ctx (module_in world.now).next op front.now) p ≡ opened_at op region (module_in world.now).tree front.now values.now) }
+    ensures edits { IfOk result (λ p. option_map (plan_meaning world.now.ctx (module_in world.now).next op front.now) p
+        ≡ opened_at op region (module_in world.now).tree front.now values.now) }
     ensures of { IfOk result (λ p. IfSome p (PlanIsOf world.now.ctx)) }
 {
     let Some(body) = body_of(alloc, world, op, region)? else {
@@ -48,7 +49,8 @@ fn choose(
     op: OpId,
     region: u32,
 ) -> Result<Option<Plan>, AllocError>
-    ensures edits { IfOk result (λ p. option_map (plan_meaning world.now.ctx (module_in world.now).next op front.now) p ≡ chosen_at op region (module_in world.now).tree front.now) }
+    ensures edits { IfOk result (λ p. option_map (plan_meaning world.now.ctx (module_in world.now).next op front.now) p
+        ≡ chosen_at op region (module_in world.now).tree front.now) }
     ensures of { IfOk result (λ p. IfSome p (PlanIsOf world.now.ctx)) }
 {
     let Some(node) = node_at(world, op) else {
@@ -72,7 +74,8 @@ pub fn plan_open_branch(
     front: &Place,
     op: OpId,
 ) -> Result<Option<Plan>, AllocError>
-    ensures edits { IfOk result (λ p. option_map (plan_meaning world.now.ctx (module_in world.now).next op front.now) p ≡ open_branch_at op (module_in world.now).tree front.now) }
+    ensures edits { IfOk result (λ p. option_map (plan_meaning world.now.ctx (module_in world.now).next op front.now) p
+        ≡ open_branch_at op (module_in world.now).tree front.now) }
     ensures of { IfOk result (λ p. IfSome p (PlanIsOf world.now.ctx)) }
 {
     let Some(node) = node_at(world, op) else {
@@ -100,7 +103,8 @@ fn go_once(
     lower: &Value,
     inits: &[Value],
 ) -> Result<Option<Plan>, AllocError>
-    ensures edits { IfOk result (λ p. option_map (plan_meaning world.now.ctx (module_in world.now).next op front.now) p ≡ opened_at op 0 (module_in world.now).tree front.now (lower.now ∷ inits.now)) }
+    ensures edits { IfOk result (λ p. option_map (plan_meaning world.now.ctx (module_in world.now).next op front.now) p
+        ≡ opened_at op 0 (module_in world.now).tree front.now (lower.now ∷ inits.now)) }
     ensures of { IfOk result (λ p. IfSome p (PlanIsOf world.now.ctx)) }
 {
     let mut values = Vec::with_capacity(alloc, inits.len() + 1)?;
@@ -116,7 +120,8 @@ fn go_never(
     op: OpId,
     inits: &[Value],
 ) -> Result<Vec<Edit>, AllocError>
-    ensures edits { IfOk result (λ es. (c : Things) → edits_meaning c es.items ≡ replacing (results_from op 0 inits.now) inits.now ++ Erase op ∷ []) }
+    ensures edits { IfOk result (λ es. (c : Things)
+        → edits_meaning c es.items ≡ replacing (results_from op 0 inits.now) inits.now ++ Erase op ∷ []) }
     ensures fit { IfOk result (λ es. (c : Things) → AllFit c es.items) }
 {
     opened(alloc, op, front, &[], &[], inits)
@@ -129,7 +134,8 @@ pub fn plan_open_loop(
     front: &Place,
     op: OpId,
 ) -> Result<Option<Plan>, AllocError>
-    ensures edits { IfOk result (λ p. option_map (plan_meaning world.now.ctx (module_in world.now).next op front.now) p ≡ open_loop_at op (module_in world.now).tree front.now) }
+    ensures edits { IfOk result (λ p. option_map (plan_meaning world.now.ctx (module_in world.now).next op front.now) p
+        ≡ open_loop_at op (module_in world.now).tree front.now) }
     ensures of { IfOk result (λ p. IfSome p (PlanIsOf world.now.ctx)) }
 {
     let Some(node) = node_at(world, op) else {
@@ -157,7 +163,8 @@ pub fn plan_stop_loop(
     front: &Place,
     op: OpId,
 ) -> Result<Option<Plan>, AllocError>
-    ensures edits { IfOk result (λ p. option_map (plan_meaning world.now.ctx (module_in world.now).next op front.now) p ≡ stop_loop_at op (module_in world.now).tree front.now) }
+    ensures edits { IfOk result (λ p. option_map (plan_meaning world.now.ctx (module_in world.now).next op front.now) p
+        ≡ stop_loop_at op (module_in world.now).tree front.now) }
     ensures of { IfOk result (λ p. IfSome p (PlanIsOf world.now.ctx)) }
 {
     let Some(node) = node_at(world, op) else {

@@ -1,4 +1,5 @@
-//! Tests that the rules that open branches and loops pass wherever they apply. They look at names, and ask for no memory.
+//! Tests that the rules that open branches and loops pass wherever they apply. They look at names, and ask for no
+//! memory.
 ghost use Rattle.std.specs.Prelude.{◌≡◌, false, None};
 ghost use Rattle.ir_tree.specs.declared.place.Place.{Place as At};
 ghost use Rattle.ir_tree.specs.Tree.{head};
@@ -15,7 +16,8 @@ use patterns_reads::look::{is_constant, shown};
 
 /// Whether the one operand of an operation is the result of a constant.
 pub fn may_choose(world: &World, node: &Node<'_>) -> bool
-    ensures { (front : At) (o : Operation) → head o ≡ head_in world.now.ctx node.now → result ≡ false → open_branch (module_in world.now).tree front o ≡ None }
+    ensures { (front : At) (o : Operation) → head o ≡ head_in world.now.ctx node.now → result ≡ false
+        → open_branch (module_in world.now).tree front o ≡ None }
 {
     let [condition] = node.operands() else {
         return false;
@@ -25,7 +27,8 @@ pub fn may_choose(world: &World, node: &Node<'_>) -> bool
 
 /// Whether the first two operands of an operation are results of constants.
 pub fn may_go_once(world: &World, node: &Node<'_>) -> bool
-    ensures { (front : At) (o : Operation) → head o ≡ head_in world.now.ctx node.now → result ≡ false → open_loop (module_in world.now).tree front o ≡ None }
+    ensures { (front : At) (o : Operation) → head o ≡ head_in world.now.ctx node.now → result ≡ false
+        → open_loop (module_in world.now).tree front o ≡ None }
 {
     let [lower, upper, ..] = node.operands() else {
         return false;

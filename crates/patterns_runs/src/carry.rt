@@ -16,8 +16,10 @@ use rewriter::laws::led_benches_are_kept;
 /// Makes edits, one after another, up to the first that is refused.
 fn carry<L: Analysis>(bench: &mut Bench<L>, edits: &[Edit]) -> Result<(), Refusal>
     requires fit { AllFit bench.old.desk.ctx edits.now }
-    ensures ok { OnOk result (module_held bench.new.desk ≡ all_edited (edits_meaning bench.old.desk.ctx edits.now) (module_held bench.old.desk)) }
-    ensures refused { IfErr result (λ e. IsWhy (edits_meaning bench.old.desk.ctx edits.now) (module_held bench.old.desk) e) }
+    ensures ok { OnOk result (module_held bench.new.desk
+        ≡ all_edited (edits_meaning bench.old.desk.ctx edits.now) (module_held bench.old.desk)) }
+    ensures refused { IfErr result (λ e. IsWhy (edits_meaning bench.old.desk.ctx edits.now)
+        (module_held bench.old.desk) e) }
     ensures along { Along L.meaning bench.old bench.new }
     ensures journal { OnOk result (Journaled L.meaning bench.old bench.new) }
     ensures noted { OnErr result (Noted bench.old.desk bench.new.desk) }
@@ -39,9 +41,11 @@ fn carry<L: Analysis>(bench: &mut Bench<L>, edits: &[Edit]) -> Result<(), Refusa
 /// Refusals: that of the first edit against which a reason stands; and `Memory`.
 pub fn carry_whole<L: Analysis>(bench: &mut Bench<L>, edits: &[Edit]) -> Result<(), Refusal>
     requires fit { AllFit bench.old.desk.ctx edits.now }
-    ensures ok { OnOk result (module_held bench.new.desk ≡ all_edited (edits_meaning bench.old.desk.ctx edits.now) (module_held bench.old.desk)) }
+    ensures ok { OnOk result (module_held bench.new.desk
+        ≡ all_edited (edits_meaning bench.old.desk.ctx edits.now) (module_held bench.old.desk)) }
     ensures err { OnErr result (module_held bench.new.desk ≡ module_held bench.old.desk) }
-    ensures refused { IfErr result (λ e. IsWhy (edits_meaning bench.old.desk.ctx edits.now) (module_held bench.old.desk) e) }
+    ensures refused { IfErr result (λ e. IsWhy (edits_meaning bench.old.desk.ctx edits.now)
+        (module_held bench.old.desk) e) }
     ensures along { Along L.meaning bench.old bench.new }
     ensures journal { Keeps L.meaning result bench.old bench.new }
 {

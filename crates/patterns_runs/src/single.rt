@@ -22,7 +22,8 @@ use rewriter::Bench;
 fn make_one<L: Analysis>(bench: &mut Bench<L>, place: Place, op: &TreeOp) -> Result<(), Refusal>
     requires sound { IsSoundIn bench.old.desk.ctx op.now }
     requires bare { holds_none (Some op.now) ≡ true }
-    ensures tried { Tried (edit_meaning bench.old.desk.ctx (edit.Make place op.now)) result (module_held bench.old.desk) (module_held bench.new.desk) }
+    ensures tried { Tried (edit_meaning bench.old.desk.ctx (edit.Make place op.now)) result (module_held bench.old.desk)
+        (module_held bench.new.desk) }
     ensures along { Along L.meaning bench.old bench.new }
     ensures journal { Keeps L.meaning result bench.old bench.new }
 {
@@ -38,7 +39,8 @@ fn set_one<L: Analysis>(
     operand: u32,
     value: Value,
 ) -> Result<(), Refusal>
-    ensures tried { Tried (edit_meaning bench.old.desk.ctx (edit.SetOperand op operand value)) result (module_held bench.old.desk) (module_held bench.new.desk) }
+    ensures tried { Tried (edit_meaning bench.old.desk.ctx (edit.SetOperand op operand value)) result
+        (module_held bench.old.desk) (module_held bench.new.desk) }
     ensures along { Along L.meaning bench.old bench.new }
     ensures journal { Keeps L.meaning result bench.old bench.new }
 {
@@ -46,7 +48,8 @@ fn set_one<L: Analysis>(
 }
 
 fn replace_one<L: Analysis>(bench: &mut Bench<L>, old: Value, new: Value) -> Result<(), Refusal>
-    ensures tried { Tried (edit_meaning bench.old.desk.ctx (edit.Replace old new)) result (module_held bench.old.desk) (module_held bench.new.desk) }
+    ensures tried { Tried (edit_meaning bench.old.desk.ctx (edit.Replace old new)) result (module_held bench.old.desk)
+        (module_held bench.new.desk) }
     ensures along { Along L.meaning bench.old bench.new }
     ensures journal { Keeps L.meaning result bench.old bench.new }
 {
@@ -54,7 +57,8 @@ fn replace_one<L: Analysis>(bench: &mut Bench<L>, old: Value, new: Value) -> Res
 }
 
 fn move_one<L: Analysis>(bench: &mut Bench<L>, op: OpId, place: Place) -> Result<(), Refusal>
-    ensures tried { Tried (edit_meaning bench.old.desk.ctx (edit.Move op place)) result (module_held bench.old.desk) (module_held bench.new.desk) }
+    ensures tried { Tried (edit_meaning bench.old.desk.ctx (edit.Move op place)) result (module_held bench.old.desk)
+        (module_held bench.new.desk) }
     ensures along { Along L.meaning bench.old bench.new }
     ensures journal { Keeps L.meaning result bench.old bench.new }
 {
@@ -62,7 +66,8 @@ fn move_one<L: Analysis>(bench: &mut Bench<L>, op: OpId, place: Place) -> Result
 }
 
 fn erase_one<L: Analysis>(bench: &mut Bench<L>, op: OpId) -> Result<(), Refusal>
-    ensures tried { Tried (edit_meaning bench.old.desk.ctx (edit.Erase op)) result (module_held bench.old.desk) (module_held bench.new.desk) }
+    ensures tried { Tried (edit_meaning bench.old.desk.ctx (edit.Erase op)) result (module_held bench.old.desk)
+        (module_held bench.new.desk) }
     ensures along { Along L.meaning bench.old bench.new }
     ensures journal { Keeps L.meaning result bench.old bench.new }
 {
@@ -77,7 +82,8 @@ fn enter_one<L: Analysis>(
 ) -> Result<(), Refusal>
     requires key { IsName bench.old.desk.ctx key }
     requires attr { IsAttr bench.old.desk.ctx attr }
-    ensures tried { Tried (edit_meaning bench.old.desk.ctx (edit.SetAttr op key attr)) result (module_held bench.old.desk) (module_held bench.new.desk) }
+    ensures tried { Tried (edit_meaning bench.old.desk.ctx (edit.SetAttr op key attr)) result
+        (module_held bench.old.desk) (module_held bench.new.desk) }
     ensures along { Along L.meaning bench.old bench.new }
     ensures journal { Keeps L.meaning result bench.old bench.new }
 {
@@ -87,7 +93,8 @@ fn enter_one<L: Analysis>(
 /// Makes one edit, or leaves all as it was.
 pub(crate) fn carry_one<L: Analysis>(bench: &mut Bench<L>, edit: &Edit) -> Result<(), Refusal>
     requires fits { Fits bench.old.desk.ctx edit.now }
-    ensures tried { Tried (edit_meaning bench.old.desk.ctx (numbered edit.now)) result (module_held bench.old.desk) (module_held bench.new.desk) }
+    ensures tried { Tried (edit_meaning bench.old.desk.ctx (numbered edit.now)) result (module_held bench.old.desk)
+        (module_held bench.new.desk) }
     ensures along { Along L.meaning bench.old bench.new }
     ensures journal { Keeps L.meaning result bench.old bench.new }
 {
