@@ -3,6 +3,8 @@ use Rattle.std.proofs.Common.{◌≡◌, refl, ap, sym, ◌∙◌, subst, ℕ, L
 use Rattle.std.specs.Prelude.{IfOk, IfSome}
 use Rattle.ir_tree.specs.declared.place.Place.{Place}
 use Rattle.ir_tree.specs.Tree.{head}
+use Rattle.ir_tree.specs.Meaning.{IsSoundIn, isolated_in}
+use Rattle.ir_tree.specs.WellFormed.{IsWellFormed}
 use Rattle.ir_event.specs.Modules.{Module, module_in}
 use Rattle.ir_event.specs.declared.world.World.{World}
 use Rattle.patterns_runs.specs.Held.{Held, module_held}
@@ -12,14 +14,16 @@ use Rattle.patterns_base.specs.Looks.{Header}
 use Rattle.patterns_base.specs.RuleNames.{is_canonical}
 use Rattle.patterns_base.specs.Rules.{rules_for}
 use Rattle.patterns_base.specs.declared.rule.Rule.{Rule}
+use Rattle.patterns_free.specs.Accepted.{AreAccepted}
 use Rattle.patterns_base.specs.Canonicalization.{TableSuffices, first_rule, lowest}
 use Rattle.patterns_base.specs.Rewrites.{none, edits_of, rewrite_of, carried_out}
 use Rattle.patterns.specs.Applied.{Gave}
 use Rattle.patterns.specs.Lowest.{IsFirst, IsLeftOut, IsLowest, TriedFirst, greedy}
-use Rattle.patterns.specs.Planned.{MadeIsOf, made_edits, planned_edits}
+use Rattle.patterns.specs.Planned.{IsFree, MadeIsOf, made_edits, planned_edits}
 use Rattle.patterns.specs.declared.plan.Made.{Made}
 use Rattle.patterns.specs.declared.lowest.Found.{Found}
-use Rattle.patterns.proofs.Applying.{rewrite_due, same_module}
+use Rattle.patterns.proofs.Acceptance.{accepted_of}
+use Rattle.patterns.proofs.Applying.{edits_due, rewrite_due, same_module}
 use Rattle.patterns.proofs.Firsts.{left_out, past, taken}
 use Rattle.patterns.proofs.Planned.{found, none_rule}
 
@@ -62,6 +66,11 @@ module _ (w : World) (b : Held) (ctx : w.ctx ≡ b.ctx) (store : w.store ≡ b.s
 
     pub lowest_due : lowest (module_held b) x ≡ carried_out (planned_edits b.ctx (module_held b).next x f.planned) (module_held b)
     lowest_due = rule_held ∙ rewrite_due w b ctx store x (λ c n q. planned_edits c n x q) f.rule (Some f.planned) is.0.edits f.planned refl
+
+    pub free_held : AreAccepted → IsSoundIn b.ctx b.store.module_of.tree → IsWellFormed (isolated_in b.ctx) b.store.module_of → IsFree (planned_edits b.ctx (module_held b).next x f.planned) (module_held b)
+    free_held accepted sound formed n e =
+        accepted_of accepted b sound formed f.rule x (planned_edits b.ctx (module_held b).next x f.planned) n
+        (edits_due w b ctx store x (λ c n q. planned_edits c n x q) f.rule (Some f.planned) is.0.edits f.planned refl) e
 
 -- rules that may be left out
 pub never : (w : World) (x : ℕ) (r : Rule) → is_canonical r ≡ true → IsPlanAt r w x None → IsLeftOut r w x

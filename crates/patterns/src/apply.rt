@@ -13,6 +13,7 @@ use ir_event::analysis::Analysis;
 use ir_types::ids::OpId;
 use ir_types::refusal::Refusal;
 use patterns_base::rule::Rule;
+use patterns_free::laws::no_edit_is_refused;
 use patterns_runs::Bench;
 use std::alloc::Global;
 
@@ -36,6 +37,8 @@ pub fn apply<L: Analysis>(
     ensures stays { Applied L.meaning bench.old bench.new }
     ensures journal { Keeps L.meaning result bench.old bench.new }
 {
+    no_edit_is_refused();
+    bench.is_formed();
     let world = bench.world();
     if !world.store.in_tree(op) {
         return Err(Refusal::NoSuchOp);

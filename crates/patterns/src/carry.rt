@@ -3,7 +3,7 @@ ghost use Rattle.ir_event.specs.Modules.{module_meaning};
 ghost use Rattle.patterns_runs.specs.Benched.{Keeps};
 ghost use Rattle.patterns_runs.specs.Held.{module_held};
 ghost use Rattle.patterns.specs.Applied.{Applied};
-ghost use Rattle.patterns.specs.Planned.{MadeIsOf, WereCarried, planned_edits};
+ghost use Rattle.patterns.specs.Planned.{IsFree, MadeIsOf, WereCarried, planned_edits};
 
 use crate::count::made_makes;
 use crate::limits::limit_reason;
@@ -17,7 +17,8 @@ use patterns_runs::Bench;
 use patterns_runs::carry::carry_whole;
 use std::alloc::Global;
 
-/// Carries out what a rule makes of an operation, or leaves the module, its marks and the journal as they were.
+/// Carries out what a rule makes of an operation, or leaves the module, its marks and the journal as they were. No
+/// reason stands against the edits, so that they are refused for want of memory alone.
 ///
 /// Refusals, in order: `Full`; `IdsExhausted`; `Full` where the context is full; and `Memory`.
 pub(crate) fn carry_plan<L: Analysis>(
@@ -26,7 +27,9 @@ pub(crate) fn carry_plan<L: Analysis>(
     op: OpId,
     planned: Planned,
 ) -> Result<(), Refusal>
-    requires { MadeIsOf bench.old.desk.ctx planned.made }
+    requires of { MadeIsOf bench.old.desk.ctx planned.made }
+    requires free { IsFree (planned_edits bench.old.desk.ctx (module_held bench.old.desk).next op planned)
+        (module_held bench.old.desk) }
     ensures carried { WereCarried (planned_edits bench.old.desk.ctx (module_held bench.old.desk).next op planned) result
         (module_held bench.old.desk) (module_held bench.new.desk) bench.new.desk.ctx }
     ensures stays { Applied L.meaning bench.old bench.new }
@@ -48,6 +51,6 @@ pub(crate) fn carry_plan<L: Analysis>(
     bench.is_formed();
     match carry_whole(bench, &edits) {
         Ok(()) => Ok(()),
-        Err(_) => Err(Refusal::Memory),
+        Err(refusal) => Err(refusal),
     }
 }

@@ -24,6 +24,7 @@ use ir_types::refusal::Refusal;
 use patterns_base::laws::only_listed_rules_apply;
 use patterns_base::rule::Rule;
 use patterns_base::table::rules_of;
+use patterns_free::laws::no_edit_is_refused;
 use patterns_reads::clean::is_clean;
 use patterns_reads::look::{front, shown};
 use patterns_runs::Bench;
@@ -131,6 +132,8 @@ pub fn lowest<L: Analysis>(
     ensures stays { Applied L.meaning bench.old bench.new }
     ensures journal { Keeps L.meaning result bench.old bench.new }
 {
+    no_edit_is_refused();
+    bench.is_formed();
     let world = bench.world();
     if !world.store.in_tree(op) {
         return Err(Refusal::NoSuchOp);

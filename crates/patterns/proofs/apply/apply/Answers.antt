@@ -2,9 +2,10 @@ use Rattle.std.proofs.Common.{◌∙◌, refl, inl}
 use Rattle.patterns_base.specs.Rewrites.{rewrite_of}
 use Rattle.patterns_runs.specs.Held.{module_held}
 use Rattle.patterns.specs.Planned.{planned_edits}
-use Rattle.patterns.proofs.Applying.{gave, is_there, not_there, rewrite_due, stopped, was_none}
+use Rattle.patterns.proofs.Applying.{edits_due, gave, is_there, not_there, rewrite_due, stopped, was_none}
 use Rattle.patterns.proofs.Carrying.{applied_none, journaled_none}
 use Rattle.patterns_runs.proofs.Journals.{recorded_none}
+use Rattle.patterns.proofs.Acceptance.{accepted_of}
 use Rattle.patterns.proofs.apply.apply.Goals as goal
 
 pub returns-then-not-in_tree-clause-refused : goal.returns-then-not-in_tree-clause-refused
@@ -46,6 +47,12 @@ returns-then-not-in_tree-clause-journal g c = recorded_none c.args.bench.now.des
 
 pub returns-in_default-clause-journal : goal.returns-in_default-clause-journal
 returns-in_default-clause-journal g c = recorded_none c.args.bench.now.desk
+
+pub carry_plan-requires-clause-free : goal.carry_plan-requires-clause-free
+carry_plan-requires-clause-free g c n e =
+    accepted_of c.no_edit_is_refused.ensures c.args.bench.now.desk c.is_formed.ensures.sound c.is_formed.ensures.formed c.args.rule c.args.op
+    (planned_edits c.args.bench.now.desk.ctx (module_held c.args.bench.now.desk).next c.args.op c.in-Some.planned) n
+    (edits_due c.world-world.result.now c.args.bench.now.desk c.world-world.ensures.ctx c.world-world.ensures.store c.args.op (λ d n p. planned_edits d n c.args.op p) c.args.rule c.in-Ok.found c.in-Ok.ensures.edits c.in-Some.planned c.in-Some.is) e
 
 pub returns-in_default-clause-there : goal.returns-in_default-clause-there
 returns-in_default-clause-there g c gone = absurd (is_there c.world-world.result.now c.args.bench.now.desk c.world-world.ensures.ctx c.world-world.ensures.store c.args.op c.in_tree.result c.in_tree.ensures c.if-not-in_tree.false gone)

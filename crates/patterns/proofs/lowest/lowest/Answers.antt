@@ -6,7 +6,7 @@ use Rattle.patterns.specs.Planned.{planned_edits}
 use Rattle.patterns_runs.proofs.Journals.{recorded_none}
 use Rattle.patterns.proofs.Applying.{gave, is_there, not_there, stopped}
 use Rattle.patterns.proofs.Carrying.{applied_none, journaled_none}
-use Rattle.patterns.proofs.Lowering.{none_held, fits_held, rule_held, lowest_due}
+use Rattle.patterns.proofs.Lowering.{none_held, fits_held, free_held, rule_held, lowest_due}
 use Rattle.patterns.proofs.lowest.lowest.Goals as goal
 
 pub returns-then-not-in_tree-clause-refused : goal.returns-then-not-in_tree-clause-refused
@@ -27,8 +27,8 @@ returns-in_default-lowest-clause-ok g c = none_held c.world-world.result.now c.a
 pub returns-in_default-lowest-clause-stays : goal.returns-in_default-lowest-clause-stays
 returns-in_default-lowest-clause-stays g c = applied_none g.L.Analysis.meaning c.args.bench.now
 
-pub carry_plan-requires : goal.carry_plan-requires
-carry_plan-requires g c = fits_held c.world-world.result.now c.args.bench.now.desk c.world-world.ensures.ctx c.world-world.ensures.store c.args.op c.in-Some.found (subst (IsLowest c.world-world.result.now c.args.op) c.in-Some.is c.in-Ok.ensures)
+pub carry_plan-requires-clause-of : goal.carry_plan-requires-clause-of
+carry_plan-requires-clause-of g c = fits_held c.world-world.result.now c.args.bench.now.desk c.world-world.ensures.ctx c.world-world.ensures.store c.args.op c.in-Some.found (subst (IsLowest c.world-world.result.now c.args.op) c.in-Some.is c.in-Ok.ensures)
 
 pub returns-in-Ok-carry_plan-clause-ok : goal.returns-in-Ok-carry_plan-clause-ok
 returns-in-Ok-carry_plan-clause-ok g c =
@@ -55,6 +55,11 @@ returns-then-not-in_tree-clause-journal g c = recorded_none c.args.bench.now.des
 
 pub returns-in_default-clause-journal : goal.returns-in_default-clause-journal
 returns-in_default-clause-journal g c = recorded_none c.args.bench.now.desk
+
+pub carry_plan-requires-clause-free : goal.carry_plan-requires-clause-free
+carry_plan-requires-clause-free g c =
+    free_held c.world-world.result.now c.args.bench.now.desk c.world-world.ensures.ctx c.world-world.ensures.store c.args.op c.in-Some.found (subst (IsLowest c.world-world.result.now c.args.op) c.in-Some.is c.in-Ok.ensures)
+    c.no_edit_is_refused.ensures c.is_formed.ensures.sound c.is_formed.ensures.formed
 
 pub returns-in_default-clause-there : goal.returns-in_default-clause-there
 returns-in_default-clause-there g c gone = absurd (is_there c.world-world.result.now c.args.bench.now.desk c.world-world.ensures.ctx c.world-world.ensures.store c.args.op c.in_tree.result c.in_tree.ensures c.if-not-in_tree.false gone)
