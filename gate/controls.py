@@ -99,16 +99,14 @@ def try_all(rt, name):
 def every():
     """The crates with controls, or whose edits the gate tries."""
     of_gate = {it.parents[1].name for it in ROOT.glob("crates/*/must-fail/*.edit")}
-    return sorted(of_gate | {it.parent.name for it in BODIES.glob("controls/*/*.edit")})
+    return sorted(of_gate | {it.parent.name for it in WRONG_BODIES.glob("*/*.control")})
 
 
 def main(names):
     rt = toolchain()
     rt.rtlib.guarded()
     count = wrong = 0
-    all_names = {it.parent.parent.name for it in ROOT.glob("crates/*/must-fail/*.edit")}
-    all_names |= {it.parent.name for it in WRONG_BODIES.glob("*/*.control")}
-    for name in names or sorted(all_names):
+    for name in names or every():
         for edit, is_well, said in try_all(rt, name):
             print(f"control {name}/{edit}: {said}", flush=True)
             count, wrong = count + 1, wrong + (not is_well)
