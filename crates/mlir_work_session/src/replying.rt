@@ -12,8 +12,8 @@ use crate::reply::Reply;
 use greedy::outcome::Outcome as Ended;
 use ir_types::ids::OpId;
 use ir_types::refusal::Refusal;
-use mlir_work_transforms::fault::Fault;
 use mlir_work_script::outcome::Outcome;
+use mlir_work_transforms::fault::Fault;
 
 /// The reply to a call that changes.
 pub(crate) fn reply_to(called: Result<(), Refusal>) -> Reply
