@@ -216,8 +216,9 @@ def opened(given, screen):
 
 def arguments(parser):
     """What stands on the command line."""
-    parser.add_argument("module", metavar="MODULE", help="a file with a module; what isn't in generic form goes through "
-                                                         "mlir-opt, which MLIR_OPT in the environment names")
+    parser.add_argument("module", metavar="MODULE",
+                        help="a file with a module; what isn't in generic form goes through mlir-opt, which MLIR_OPT "
+                             "in the environment names")
     parser.add_argument("script", metavar="SCRIPT", nargs="?", help="a file with lines that are taken first")
     parser.add_argument("--color", choices=["auto", "always", "never"], default="auto",
                         help="whether to colour what is shown [default: auto, on a terminal without NO_COLOR]")

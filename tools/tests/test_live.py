@@ -14,8 +14,8 @@ import ways
 LIVE = shlex.join([sys.executable, str(pathlib.Path(__file__).with_name("live.py"))])
 LINES = {
     "strength": ["ids", "at #8 1", "uses %v8.0", "begin here", 'insert before #8 "test.a"() : () -> ()', "erase #4",
-                 "diff", "undo", "diff here", "redo", "ids", "begin", "erase #19", "rollback here", "diff start", "dead",
-                 "erase #1", "print"],
+                 "diff", "undo", "diff here", "redo", "ids", "begin", "erase #19", "rollback here", "diff start",
+                 "dead", "erase #1", "print"],
     "canon": ["canon limit 1", "canon limit 3", "undo 2", "diff", "canon", "diff start", "erase #3", "ids"],
     "index": ["convert partial dynamic arith.constant,scf.for rules 28", "detach dead", "dead", "undo", "dead",
               "convert partial dynamic arith.constant,arith.addi,arith.muli,scf.for rules 28,29", "at #10 1"],

@@ -197,7 +197,9 @@ class Fails(Terminals):
         read, write = os.pipe()
         here = self.open(until="", out=write)
         os.close(write)
-        self.assertIn(b"`help`", os.read(read, 1000))
+        shown = b""
+        while not shown.endswith(b"\n> "):
+            shown += os.read(read, 1000)
         os.close(read)
         here.type("erase #1\n", "")
         self.assertEqual(here.end(), 4)
