@@ -14,6 +14,7 @@ NAME = "mlir-work"
 COMMANDS = {
     "open": ("a prompt over a module: lines are typed one by one, and each is answered at once", "prompt"),
     "reduce": ("a smaller module that still shows something", "reduce"),
+    "compare": ("whether two modules give the same, by running their functions on numbers", "comparison"),
     "explain": ("why what a script does was refused, in words", "explain"),
 }
 STATUS = """exit status: 0 where nothing was refused, 1 where something was, 2 where the command line is wrong, 3 where
