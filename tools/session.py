@@ -136,7 +136,7 @@ class Session:
     def run(self, line):
         """Runs the edits and a line behind them, and gives its reply, and what is written below it."""
         reply, below, count = self.way.answer(self.kept(), line)
-        self.count = count or self.count + line.count('"(') + MADE_MOSTLY
+        self.count = count or self.count + line.count('"(')
         return reply or REFUSED[0], below
 
     def keep(self, lines, listing):

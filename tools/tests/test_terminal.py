@@ -170,6 +170,14 @@ class Typed(Terminals):
         here.end()
         self.assertEqual([*self.scripts().values()], ["// begin here\nbegin\nerase #1\n"])
 
+    def test_a_pager(self):
+        self.environment["PAGER"] = "sed 's/^/|/'"
+        here = self.open()
+        self.assertIn("\n|  erase #N\n", here.type("help\n"))
+        self.assertIn("\nok\n", here.type("erase #1\n"))
+        self.environment["PAGER"] = "/none/pager"
+        self.assertIn("\n  erase #N\n", self.open().type("help\n"))
+
     def test_nothing_is_typed(self):
         here = self.open()
         here.type("\x04", "")
