@@ -54,8 +54,8 @@ fn renew(alloc: Global, table: &mut BTreeMap<OpId, Bits>, view: &mut View<'_>, o
     learn_from(alloc, view, table, op, &forgotten)
 }
 
-/// Follows a change of one operation. Where it folds to what is known of its result all stays as it is. It is false where
-/// memory was refused.
+/// Follows a change of one operation. Where it folds to what is known of its result all stays as it is. It is false
+/// where memory was refused.
 fn update(alloc: Global, table: &mut BTreeMap<OpId, Bits>, view: &mut View<'_>, op: OpId) -> bool
     ensures updated { Updated (result ≡ true) (look_in view.old.world.now) op (known_in table.old) (known_in table.new) }
     ensures looks { LooksWithin (module_in view.old.world.now).tree op (known_in table.old) view.old.looks view.new.looks }

@@ -63,7 +63,8 @@ fn collapse_op<B: Rewriting>(
     }
 }
 
-/// The same at the first place of a list of casts that waits.
+/// Takes the operation at a place of a list away, the first that waits, if it is a cast that isn't used or that
+/// collapses. The answer is whether it did.
 fn collapse_at<B: Rewriting>(
     alloc: Global,
     bench: &mut B,
@@ -145,7 +146,7 @@ fn collapse_up_to<B: Rewriting>(
     Ok(())
 }
 
-/// The same, by one walk over the list.
+/// Takes casts of a list away by one walk over it, as long as one isn't used or collapses, and at most so many.
 fn collapse_casts<B: Rewriting>(
     alloc: Global,
     bench: &mut B,

@@ -89,7 +89,7 @@ fn cast_at<B: Rewriting>(alloc: Global, bench: &mut B, op: OpId) -> Result<(), F
     }
 }
 
-/// The same of operations in turn.
+/// Puts an `arith.index_cast` in the place of each of some operations in turn, if it still stands and is a cast.
 fn cast_each<B: Rewriting>(alloc: Global, bench: &mut B, ops: &[OpId]) -> Result<(), Fault>
     ensures ends { Ends (in_turn cast_end ops.now (B.state bench.old).held) (none_of result) (B.state bench.new) }
     ensures leads { Leads B.state B.desk B.led bench.old bench.new }

@@ -73,7 +73,7 @@ fn has_index_argument(ctx: &Context, node: &Node<'_>, region: u32) -> bool
     requires of { NodeIsOf ctx.now node.now }
     ensures { result ≡ index_argument (option_and_then (λ a. a) (slice_get (node_meaning ctx.now node.now).arguments region)) }
 {
-    match node.arguments(region) {
+    match node.arguments(region as usize) {
         Some(types) => any_index(ctx, types),
         None => false,
     }

@@ -10,6 +10,7 @@ ghost use Rattle.patterns.specs.runs.Interning.{IsFull};
 ghost use Rattle.greedy.specs.Changes.{canonical_reply, canonicalizing};
 ghost use Rattle.greedy.specs.Outcomes.{IsReason};
 
+use crate::journal::touched;
 use crate::outcome::Outcome;
 use crate::rewriting::Rewriting;
 use crate::run::run;
@@ -18,7 +19,6 @@ use ir_event::analysis::Analysis;
 use ir_types::ids::OpId;
 use ir_types::refusal::Refusal;
 use patterns::lowest::lowest;
-use patterns_touched::journal::touched;
 use rewriter::Bench;
 use rewriter::finish::finish;
 use rewriter::laws::led_benches_are_kept;

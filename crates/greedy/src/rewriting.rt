@@ -13,7 +13,7 @@ ghost use Rattle.patterns_base.specs.Canonicalization.{lowest};
 ghost use Rattle.greedy.specs.Noting.{marked};
 ghost use Rattle.greedy.specs.Outcomes.{Applied, Refuses};
 ghost use Rattle.greedy.specs.Following.{following};
-ghost use Rattle.patterns_touched.specs.Listing.{Touched};
+ghost use Rattle.greedy.specs.Listing.{Touched};
 
 use ir_types::ids::OpId;
 use ir_types::refusal::Refusal;

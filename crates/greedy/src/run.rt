@@ -7,8 +7,8 @@ ghost use Rattle.greedy.specs.Outcomes.{Applied, ComeTo, IsCanonical, IsReason, 
 ghost use Rattle.rewriter.specs.Moves.{Recorded};
 ghost use Rattle.patterns.specs.runs.Runs.{Noted};
 ghost use Rattle.greedy.specs.Work.{IsWork, Right, CoversBut, Rewritten, StillWaits, waits};
-ghost use Rattle.patterns_touched.specs.Sights.{is_listed};
-ghost use Rattle.patterns_touched.specs.Listing.{Touched};
+ghost use Rattle.greedy.specs.Sights.{is_listed};
+ghost use Rattle.greedy.specs.Listing.{Touched};
 
 use crate::outcome::Outcome;
 use crate::rewriting::Rewriting;

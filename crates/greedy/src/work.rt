@@ -6,7 +6,7 @@ ghost use Rattle.ir_tree.specs.Tree.{head};
 ghost use Rattle.ir_tree_laws.specs.Reads.{precedes};
 ghost use Rattle.ir_event.specs.Modules.{Module};
 ghost use Rattle.greedy.specs.Work.{begins_with, Parted, Rewritten, IsWork, waits, Taken, NoneWaits, StillWaits, Falls};
-ghost use Rattle.patterns_touched.specs.Sights.{is_listed};
+ghost use Rattle.greedy.specs.Sights.{is_listed};
 
 use crate::rewriting::Rewriting;
 use ir_types::ids::OpId;

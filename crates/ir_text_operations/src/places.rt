@@ -2,8 +2,8 @@
 ghost use Rattle.ir_text_operations.specs.Openings.{IsOfText};
 
 use crate::front::begin_refusal;
-use ir_text_grammar::error::{ReadError, wrong};
-use ir_text_grammar::steps::after;
+use ir_text_types::error::{ReadError, wrong};
+use ir_text_types::steps::after;
 use ir_text_names::named::{counted, results};
 use ir_text_names::pack::Pack;
 use ir_text_tokens::fault::Fault;

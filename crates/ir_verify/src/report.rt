@@ -34,7 +34,7 @@ fn push_rows(alloc: Global, op: OpId, rules: &[u8], out: &mut Vec<Row>) -> Resul
     Ok(())
 }
 
-/// The same, where the rules are a set.
+/// Adds a row for each rule of a set that an operation breaks.
 fn push_set(alloc: Global, op: OpId, set: &RuleSet, out: &mut Vec<Row>) -> Result<(), AllocError>
     ensures { OnOk result (map (λ (r : Line). r.cells.items) out.new.items ≡ map (λ (r : Line). r.cells.items) out.old.items ++ rules_cells op (rules_in set.now)) }
 {

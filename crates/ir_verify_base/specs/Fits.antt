@@ -1,5 +1,5 @@
 -- Whether types are those that a row of the operation table names.
-use Rattle.std.specs.Prelude.{if◌then◌else◌, ℕ, ◌+◌, List, [], ◌∷◌, map, length, drop, codes, Bool, true, false, ◌==◌, ◌&&◌, ◌||◌, nat_le, Option, Some, None, option_map, option_and_then, unwrap_or, slice_get}
+use Rattle.std.specs.Prelude.{if◌then◌else◌, ℕ, suc, ◌+◌, List, [], ◌∷◌, map, length, drop, codes, Bool, true, false, ◌==◌, ◌&&◌, ◌||◌, nat_le, Option, Some, None, option_map, option_and_then, unwrap_or, slice_get}
 use Rattle.std.specs.List.{list_all}
 use Rattle.std.specs.Str.{bytes_eq}
 use Rattle.std.specs.Option.{option_eq}
@@ -40,11 +40,14 @@ function_type node = option_and_then function_of (option_and_then type_of (prope
 abbrev pub block_at : ℕ → Node → Option (List TypeTerm)
 block_at k node = option_and_then (λ args. args) (slice_get node.arguments k)
 
--- whether one of the regions of a row passes a test with its number; no row has more than two
+-- whether one of the regions of a row, from the one of number k on, passes a test with its number
+abbrev pub any_from : (ℕ → RegionRow → Bool) → ℕ → List RegionRow → Bool
+any_from test k [] = false
+any_from test k (region ∷ more) = test k region || any_from test (suc k) more
+
+-- whether one of the regions of a row passes a test with its number
 abbrev pub any_region : (ℕ → RegionRow → Bool) → List RegionRow → Bool
-any_region test [] = false
-any_region test (region ∷ []) = test 0 region
-any_region test (region ∷ second ∷ more) = test 0 region || test 1 second
+any_region test regions = any_from test 0 regions
 
 -- types that are all there
 abbrev pub there : List TypeTerm → List (Option TypeTerm)

@@ -105,7 +105,8 @@ pub(crate) fn renew<F: Fact>(
     Ok(())
 }
 
-/// The same of an operation that there may be, where it isn't renewed later.
+/// Makes what is kept about an operation that there may be what it is in the module that the view shows, where it
+/// isn't renewed later.
 fn renew_first<F: Fact>(
     alloc: Global,
     table: &mut BTreeMap<u32, F>,

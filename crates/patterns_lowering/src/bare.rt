@@ -43,7 +43,7 @@ fn bare_regions(alloc: Global, node: &Node<'_>) -> Result<Vec<TreeRegion>, Alloc
     let mut regions = Vec::new(alloc);
     let count = node.region_count() as u32;
     'regions: for number in 0..count {
-        let region = bare_region(alloc, node.arguments(number))?;
+        let region = bare_region(alloc, node.arguments(number as usize))?;
         regions.push(region)?;
     }
     Ok(regions)

@@ -50,7 +50,7 @@ pub fn has_block(node: &Node<'_>, region: u32) -> Option<bool>
     if region as usize >= node.region_count() {
         return None;
     }
-    Some(node.arguments(region).is_some())
+    Some(node.arguments(region as usize).is_some())
 }
 
 /// The types of the arguments of the block of a region of the operation that a node shows, if it has one.
@@ -58,7 +58,7 @@ pub fn block_arguments<'a>(node: &'a Node<'_>, region: u32) -> Option<&'a [TypeI
     ensures { (c : Things) (o : Operation) → Shows c node.now o
         → option_map (λ a. map (type_term c) a.now) result ≡ arguments_at region o }
 {
-    node.arguments(region)
+    node.arguments(region as usize)
 }
 
 /// The operations of a block but the last, in order.
