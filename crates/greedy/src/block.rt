@@ -5,7 +5,7 @@ ghost use Rattle.greedy.specs.Reached.{at_end, ends};
 ghost use Rattle.greedy.specs.Adding.{Adds, OneOf};
 ghost use Rattle.greedy.specs.Parts.{IsAround, IsOrAtEnd, IsOrEnds};
 
-use crate::push::{found, push};
+use crate::push::push;
 use ir_event::world::World;
 use ir_store::store::Store;
 use ir_tree::place::Place;
@@ -55,7 +55,7 @@ fn push_last(store: &Store, ops: &mut Vec<OpId>, op: OpId, region: u32) -> Resul
 fn push_lasts(world: &World, ops: &mut Vec<OpId>, op: OpId) -> Result<(), AllocError>
     ensures { OnOk result (Adds (λ x. ends op x world.now.store.module_of.tree ≡ true) ops.old.items ops.new.items) }
 {
-    let Some(node) = found(world, op) else {
+    let Some(node) = world.shown(op) else {
         return Ok(());
     };
     let count = node.region_count() as u32;

@@ -5,7 +5,7 @@ ghost use Rattle.greedy.specs.Climbs.{recursive_at};
 ghost use Rattle.greedy.specs.Adding.{Adds};
 ghost use Rattle.greedy.specs.Parts.{IsClimbed, IsOuter};
 
-use crate::push::{found, push};
+use crate::push::push;
 use ir_event::event::Event;
 use ir_event::world::World;
 use ir_types::ids::{NameId, OpId};
@@ -24,7 +24,7 @@ fn is_recursive(world: &World, name: NameId) -> bool
 fn is_recursive_at(world: &World, op: OpId) -> bool
     ensures { result ≡ recursive_at (own_by world.now.ctx) op world.now.store.module_of.tree }
 {
-    match found(world, op) {
+    match world.shown(op) {
         None => false,
         Some(node) => is_recursive(world, node.name()),
     }

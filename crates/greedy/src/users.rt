@@ -4,7 +4,7 @@ ghost use Rattle.greedy.specs.Sights.{Uses};
 ghost use Rattle.greedy.specs.Adding.{Adds, OneOf};
 ghost use Rattle.greedy.specs.Parts.{IsIn, IsOrUses, IsUser};
 
-use crate::push::{found, push};
+use crate::push::push;
 use ir_event::world::World;
 use ir_store::store::Store;
 use ir_store::uses::UsesOf;
@@ -33,7 +33,7 @@ fn push_uses(store: &Store, ops: &mut Vec<OpId>, value: Value) -> Result<(), All
 fn push_users(world: &World, ops: &mut Vec<OpId>, op: OpId) -> Result<(), AllocError>
     ensures { OnOk result (Adds (λ x. Uses x op world.now.store.module_of.tree) ops.old.items ops.new.items) }
 {
-    let Some(node) = found(world, op) else {
+    let Some(node) = world.shown(op) else {
         return Ok(());
     };
     let count = node.results().len() as u32;

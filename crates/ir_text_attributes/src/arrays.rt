@@ -5,10 +5,10 @@ ghost use Rattle.ir_text_types.specs.Outcomes.{Gives};
 ghost use Rattle.ir_text_attributes.specs.AttrReading.{attrs_by, array_by, attr_at};
 
 use crate::attributes::{attr, kept};
-use ir_text_types::error::{ReadError, wrong};
-use ir_text_types::steps::{after, expect};
 use ir_text_tokens::refusal::TextRefusal;
 use ir_text_tokens::token::Mark;
+use ir_text_types::error::{ReadError, wrong};
+use ir_text_types::steps::{after, expect};
 use ir_text_types::types::MANY;
 use ir_types::context::Context;
 use ir_types::ids::AttrId;

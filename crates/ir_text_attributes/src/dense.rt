@@ -11,12 +11,12 @@ ghost use Rattle.ir_text_attributes.specs.AttrReading.{element_at, truth_item, n
 
 use crate::attributes::kept;
 use crate::element::Element;
-use ir_text_types::error::{ReadError, wrong};
-use ir_text_types::steps::{after, expect, token};
 use ir_text_tokens::numbers::integer_value;
 use ir_text_tokens::refusal::TextRefusal;
 use ir_text_tokens::token::{Mark, Token};
+use ir_text_types::error::{ReadError, wrong};
 use ir_text_types::scalars::word_refusal;
+use ir_text_types::steps::{after, expect, token};
 use ir_text_types::types::{self, MANY, token_refusal};
 use ir_types::context::Context;
 use ir_types::ids::AttrId;

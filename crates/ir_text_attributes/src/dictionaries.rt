@@ -7,12 +7,12 @@ ghost use Rattle.ir_text_attributes.specs.AttrReading.{key_at, unit_value_at, va
 
 use crate::attributes::{attr, kept};
 use crate::symbols::named;
-use ir_text_types::error::{ReadError, wrong};
-use ir_text_types::steps::{after, expect, token};
 use ir_text_tokens::fault::Fault;
 use ir_text_tokens::refusal::TextRefusal;
 use ir_text_tokens::strings::string_value;
 use ir_text_tokens::token::{Mark, Token};
+use ir_text_types::error::{ReadError, wrong};
+use ir_text_types::steps::{after, expect, token};
 use ir_types::context::Context;
 use ir_types::ids::{AttrId, NameId};
 use ir_types::limits::MOST_ENTRIES;

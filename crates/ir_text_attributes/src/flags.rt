@@ -6,10 +6,10 @@ ghost use Rattle.ir_text_attributes.specs.Literals.{flag_of, is_nsw, is_nuw, has
 ghost use Rattle.ir_text_attributes.specs.AttrReading.{flag_at, some_flags_at, no_flags_at, flags_at};
 
 use crate::flag::Flag;
-use ir_text_types::error::{ReadError, wrong};
-use ir_text_types::steps::{after, expect, token};
 use ir_text_tokens::refusal::TextRefusal;
 use ir_text_tokens::token::{Mark, Token};
+use ir_text_types::error::{ReadError, wrong};
+use ir_text_types::steps::{after, expect, token};
 use ir_text_types::types::MANY;
 use std::alloc::Global;
 

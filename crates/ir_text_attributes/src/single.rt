@@ -9,10 +9,10 @@ ghost use Rattle.ir_text_attributes.specs.Spelling.{SpellsAttr};
 ghost use Rattle.ir_text_attributes.specs.Claims.{IsOnlyAttr, IsNoAttr};
 
 use crate::attributes::attr;
-use ir_text_types::error::{ReadError, within_limits};
-use ir_text_types::steps::expect;
 use ir_text_tokens::token::Mark;
+use ir_text_types::error::{ReadError, within_limits};
 use ir_text_types::full::told;
+use ir_text_types::steps::expect;
 use ir_types::context::Context;
 use ir_types::ids::AttrId;
 use ir_types::limits::MOST_DEPTH;

@@ -6,11 +6,11 @@ ghost use Rattle.ir_text_types.specs.TypeReading.{many};
 ghost use Rattle.ir_text_attributes.specs.AttrReading.{name_done, part_at, parts_at, symbol_attr_at};
 
 use crate::attributes::kept;
-use ir_text_types::error::{ReadError, wrong};
-use ir_text_types::steps::{self, after, token};
 use ir_text_tokens::refusal::TextRefusal;
 use ir_text_tokens::strings::string_value;
 use ir_text_tokens::token::{Mark, Token};
+use ir_text_types::error::{ReadError, wrong};
+use ir_text_types::steps::{self, after, token};
 use ir_text_types::types::MANY;
 use ir_types::context::Context;
 use ir_types::ids::{AttrId, NameId};

@@ -7,13 +7,13 @@ ghost use Rattle.ir_text_names.specs.Packs.{named_view};
 ghost use Rattle.ir_text_names.specs.NameReading.{value_name_at, written_at, count_at, result_at, names_at, results_at};
 
 use crate::lists::{Behind, behind_item};
-use ir_text_types::error::{ReadError, wrong};
-use ir_text_types::steps::{after, token};
 use ir_text_tokens::fault::Fault;
 use ir_text_tokens::lexer;
 use ir_text_tokens::numbers::integer_value;
 use ir_text_tokens::refusal::TextRefusal;
 use ir_text_tokens::token::{Mark, Token};
+use ir_text_types::error::{ReadError, wrong};
+use ir_text_types::steps::{after, token};
 use ir_tree::limits::MOST_ITEMS;
 use std::alloc::Global;
 

@@ -7,11 +7,11 @@ ghost use Rattle.ir_text_operations.specs.EntryReading.{refused_in, entry_at, en
 use crate::dictionaries::no_room;
 use crate::limits::MOST_WRITTEN;
 use ir_text_attributes::dictionaries::{Entry, has_key, key, value};
-use ir_text_types::error::{ReadError, wrong};
-use ir_text_types::steps::{after, expect};
 use ir_text_names::lists::{Behind, behind_item};
 use ir_text_tokens::refusal::TextRefusal;
 use ir_text_tokens::token::Mark;
+use ir_text_types::error::{ReadError, wrong};
+use ir_text_types::steps::{after, expect};
 use ir_types::context::Context;
 use ir_types::ids::NameId;
 use ir_types::limits::MOST_DEPTH;

@@ -11,8 +11,6 @@ ghost use Rattle.ir_text_operations.specs.Openings.{called_at};
 ghost use Rattle.ir_text_operations.specs.FrontReading.{op_name_at, first_at, member_at, member_of, use_at, uses_at, start_at, start_view};
 
 use crate::free::free_bound;
-use ir_text_types::error::{ReadError, wrong};
-use ir_text_types::steps::{after, expect, token};
 use ir_text_names::bound::Bound;
 use ir_text_names::lists::{Behind, behind_item};
 use ir_text_names::named::{Named, name, one_too_many, results};
@@ -23,6 +21,8 @@ use ir_text_tokens::numbers::{are_digits, integer_value};
 use ir_text_tokens::refusal::TextRefusal;
 use ir_text_tokens::strings::string_value;
 use ir_text_tokens::token::{Mark, Token};
+use ir_text_types::error::{ReadError, wrong};
+use ir_text_types::steps::{after, expect, token};
 use ir_tree::limits::MOST_ITEMS;
 use ir_tree::outer::Outer;
 use std::alloc::{AllocError, Global};

@@ -70,7 +70,7 @@ impl HeadEdit for Replacement {
     }
 }
 
-/// Puts one value in place of another.
+/// Puts one value in place of another, wherever that is in a list.
 fn replace_in(values: &mut [Value], old: &Value, new: &Value)
     ensures { values.new ≡ map (put_value old.now new.now) values.old }
 {

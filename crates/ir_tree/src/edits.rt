@@ -112,7 +112,7 @@ fn edited_region<H: HeadEdit, L: ListEdit>(
     }
 }
 
-/// An operation with these regions and a copy of its head, edited.
+/// An operation with an edited copy of the head of another, and with these regions.
 fn op_of<H: HeadEdit>(
     alloc: Global,
     root: &TreeOp,
@@ -126,7 +126,7 @@ fn op_of<H: HeadEdit>(
     Ok(copy)
 }
 
-/// A copy of an operation's own head, with these regions.
+/// An operation with a copy of the head of another, and with these regions.
 fn with_regions(
     alloc: Global,
     root: &TreeOp,
@@ -145,7 +145,7 @@ fn with_regions(
     })
 }
 
-/// A block with these operations, edited, and a copy of its arguments.
+/// A region whose block has these operations, edited as a list, and a copy of the arguments.
 fn block_of<L: ListEdit>(
     alloc: Global,
     owner: OpId,

@@ -11,6 +11,7 @@ use ir_types::context::Context;
 use ir_types::ids::{AttrId, NameId, OpId};
 use std::alloc::{AllocError, Global};
 
+/// The entries of a dictionary: keys and attributes.
 type Entries = Vec<(NameId, AttrId)>;
 
 /// An entry that is set, or removed.
@@ -89,7 +90,7 @@ fn changed(
     }
 }
 
-/// Entries in the order of their keys, with an attribute at a key.
+/// A copy of entries, in the order of their keys, with an attribute at a key.
 fn placed(
     alloc: Global,
     ctx: &Context,
@@ -114,7 +115,7 @@ fn placed(
     ended(placed, &(key, attr), rest)
 }
 
-/// Entries with one more, and then others.
+/// Entries with one more behind them, and then others.
 fn ended(
     entries: Entries,
     entry: &(NameId, AttrId),
@@ -128,7 +129,7 @@ fn ended(
     Ok(entries)
 }
 
-/// Entries without a key.
+/// A copy of entries without the one of a key, if there is one.
 fn dropped(
     alloc: Global,
     ctx: &Context,

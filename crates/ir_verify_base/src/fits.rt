@@ -19,11 +19,11 @@ use op_registry::definition::{TypeRule, Types};
 pub struct Known<'a> {
     /// The type of the first operand that the row calls a number.
     pub number: Option<TypeId>,
-    /// That of the first operand that the row calls any.
+    /// The type of the first operand that the row calls any.
     pub same: Option<TypeId>,
-    /// Those of the operands after the fixed ones.
+    /// The types of the operands after the fixed ones.
     pub initial: &'a [TypeId],
-    /// Those of the results.
+    /// The types of the results.
     pub results: &'a [TypeId],
     /// The inputs of the function type that is a property.
     pub inputs: &'a [TypeId],
@@ -50,7 +50,7 @@ pub fn types_fit(ctx: &Context, known: &Known<'_>, row: &Types, types: &[TypeId]
     more_fit(ctx, known, row.more, rest)
 }
 
-/// Whether the types after the fixed ones are.
+/// Whether the types after the fixed ones are what a row calls them, or there are none where it names none.
 fn more_fit(ctx: &Context, known: &Known<'_>, more: Option<TypeRule>, types: &[TypeId]) -> bool
     requires known { AreKnown ctx.now known.now }
     requires types { All (λ t. IsType ctx.now t) types.now }

@@ -31,7 +31,7 @@ pub fn breaks_1(_ctx: &Context, def: &OpDef, node: &Node<'_>) -> bool
     !count_fits(initial, &def.operands, node.operands().len())
 }
 
-/// Rule 3: the number of results isn't.
+/// Rule 3: the number of results isn't one that the row names.
 pub fn breaks_3(_ctx: &Context, def: &OpDef, node: &Node<'_>) -> bool
     ensures { result ≡ shapes.breaks_3 (row_from def.now) (node_in _ctx.now node.now) }
 {

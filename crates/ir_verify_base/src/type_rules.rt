@@ -61,7 +61,7 @@ fn first_called(wanted: TypeRule, rules: &[TypeRule], types: &[TypeId]) -> Optio
     None
 }
 
-/// Whether a row calls a type so. Only by a number, and by any, are others compared with it.
+/// Whether a rule is the one that is wanted, where that is a number or any: with no others are types compared.
 fn is_called(wanted: TypeRule, rule: TypeRule) -> bool
     ensures { result ≡ fits.is_called wanted rule }
 {
@@ -236,7 +236,7 @@ fn isnt_greater(ctx: &Context, operands: &[TypeId], results: &[TypeId]) -> bool
     }
 }
 
-/// Whether it isn't smaller.
+/// Whether the one operand and the one result have widths, and that of the result isn't smaller.
 fn isnt_smaller(ctx: &Context, operands: &[TypeId], results: &[TypeId]) -> bool
     requires operands { All (λ t. IsType ctx.now t) operands.now }
     requires results { All (λ t. IsType ctx.now t) results.now }

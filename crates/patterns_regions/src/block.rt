@@ -10,7 +10,6 @@ ghost use Rattle.ir_store.specs.Nodes.{node_of};
 ghost use Rattle.ir_event.specs.Modules.{NodeIsOf, module_in, node_meaning};
 ghost use Rattle.patterns_regions.specs.Blocks.{Shows, before_at, body_at, ended_in, is_block};
 
-use ir_event::laws::nodes_are_of_the_context;
 use ir_event::world::World;
 use ir_store::node::Node;
 use ir_types::ids::{OpId, TypeId};
@@ -35,11 +34,7 @@ pub fn node_at(world: &World, op: OpId) -> Option<Node<'_>>
         ≡ option_map (λ o. node_of o) (find op (module_in world.now).tree) }
     ensures of { IfSome result (NodeIsOf world.now.ctx) }
 {
-    nodes_are_of_the_context();
-    if !world.store.in_tree(op) {
-        return None;
-    }
-    world.store.node(op)
+    world.shown(op)
 }
 
 /// Whether a region of the operation that a node shows has a block. None where there is no such region.

@@ -6,23 +6,23 @@ use Rattle.greedy.proofs.Using.{users_absent, users_begin, users_more, users_end
 use Rattle.greedy.proofs.users.push_users.Goals as goal
 
 pub returns-in_default : goal.returns-in_default
-returns-in_default c = adds_nothing (λ x. Uses x c.args.op c.args.world.now.store.module_of.tree) c.args.ops.now.items (users_absent c.args.world.now c.args.op (sym c.in_default.is ∙ c.found.ensures))
+returns-in_default c = adds_nothing (λ x. Uses x c.args.op c.args.world.now.store.module_of.tree) c.args.ops.now.items (users_absent c.args.world.now c.args.op (sym c.in_default.is ∙ c.shown.ensures.node))
 
 pub overflow_cast-count : goal.overflow_cast-count
 overflow_cast-count c =
-    let few = few_results c.args.world.now c.args.op c.in-Some.node (sym c.in-Some.is ∙ c.found.ensures) in
+    let few = few_results c.args.world.now c.args.op c.in-Some.node (sym c.in-Some.is ∙ c.shown.ensures.node) in
     let same = ap length c.results.ensures in
     omega (arith, few, same)
 
 pub overflow_add-number : goal.overflow_add-number
 overflow_add-number c =
-    let few = few_results c.args.world.now c.args.op c.in-Some.node (sym c.in-Some.is ∙ c.found.ensures) in
+    let few = few_results c.args.world.now c.args.op c.in-Some.node (sym c.in-Some.is ∙ c.shown.ensures.node) in
     let same = ap length c.results.ensures in
     let low = c.numbers-test.true in
     omega (arith, few, same, low)
 
 pub numbers-init : goal.numbers-init
-numbers-init c = users_begin c.args.world.now c.args.op _ c.in-Some.node (sym c.in-Some.is ∙ c.found.ensures) (ap length c.results.ensures) c.args.ops.now.items
+numbers-init c = users_begin c.args.world.now c.args.op _ c.in-Some.node (sym c.in-Some.is ∙ c.shown.ensures.node) (ap length c.results.ensures) c.args.ops.now.items
 
 pub numbers-preserved : goal.numbers-preserved
 numbers-preserved c =
