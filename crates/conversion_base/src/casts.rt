@@ -151,8 +151,8 @@ fn index_cast(alloc: Global, ends: &Ends) -> Result<TreeOp, AllocError>
     })
 }
 
-/// The edits that put an `arith.index_cast` in the place of an operation. A place is in front of the operation, and an id is the
-/// next free one.
+/// The edits that put an `arith.index_cast` in the place of an operation. A place is in front of the operation, and an
+/// id is the next free one.
 fn cast_edits(
     alloc: Global,
     front: Place,
@@ -176,10 +176,11 @@ fn cast_edits(
     Ok(edits)
 }
 
-/// The edits that put an `arith.index_cast` in the place of an operation of the module, if it has one operand and one result and
-/// takes index to i64 or back.
+/// The edits that put an `arith.index_cast` in the place of an operation of the module, if it has one operand and one
+/// result and takes index to i64 or back.
 pub fn index_edits(alloc: Global, world: &World, op: OpId) -> Result<Option<Vec<Edit>>, AllocError>
-    ensures edits { IfOk result (λ p. option_map (λ es. edits_meaning world.now.ctx es.items) p ≡ index_edits (module_in world.now) op) }
+    ensures edits { IfOk result
+        (λ p. option_map (λ es. edits_meaning world.now.ctx es.items) p ≡ index_edits (module_in world.now) op) }
     ensures fit { IfOk result (λ p. IfSome p (λ es. AllFit world.now.ctx es.items)) }
 {
     world.ctx.sound();

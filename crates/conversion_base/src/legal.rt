@@ -6,7 +6,8 @@ ghost use Rattle.ir_types.specs.Terms.{name_term, type_term};
 ghost use Rattle.ir_event.specs.Modules.{NodeIsOf, module_in, node_meaning};
 ghost use Rattle.patterns_base.specs.Looks.{is_index, is_index_value};
 ghost use Rattle.patterns_base.specs.Words.{among};
-ghost use Rattle.conversion_base.specs.Targets.{IsNamedIn, aim_of, has_index, index_argument, is_legal, is_legal_node, names_of};
+ghost use Rattle.conversion_base.specs.Targets.{IsNamedIn, aim_of, has_index, index_argument, is_legal, is_legal_node};
+ghost use Rattle.conversion_base.specs.Targets.{names_of};
 
 use crate::accepted::is_among;
 use crate::target::Target;
@@ -68,7 +69,8 @@ fn any_index_value(world: &World, values: &[Value]) -> bool
 /// Whether the block of a region of an operation, of which this is shown, has an argument of type `index`.
 fn has_index_argument(ctx: &Context, node: &Node<'_>, region: u32) -> bool
     requires of { NodeIsOf ctx.now node.now }
-    ensures { result ≡ index_argument (option_and_then (λ a. a) (slice_get (node_meaning ctx.now node.now).arguments region)) }
+    ensures { result ≡ index_argument
+        (option_and_then (λ a. a) (slice_get (node_meaning ctx.now node.now).arguments region)) }
 {
     match node.arguments(region as usize) {
         Some(types) => any_index(ctx, types),
@@ -120,7 +122,8 @@ fn is_legal_node(world: &World, target: &Target, node: &Node<'_>) -> bool
     requires names { IsNamedIn world.now.ctx target.now }
     requires of { NodeIsOf world.now.ctx node.now }
     requires few { length node.now.arguments ≤ 16 }
-    ensures { result ≡ is_legal_node (aim_of world.now.ctx target.now) (module_in world.now).tree (node_meaning world.now.ctx node.now) }
+    ensures { result ≡ is_legal_node (aim_of world.now.ctx target.now) (module_in world.now).tree
+        (node_meaning world.now.ctx node.now) }
 {
     let ctx = &world.ctx;
     let name = node.name();

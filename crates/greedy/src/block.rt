@@ -31,7 +31,8 @@ pub(crate) fn push_all_around(
     ops: &mut Vec<OpId>,
     near: &[OpId],
 ) -> Result<(), AllocError>
-    ensures { OnOk result (Adds (OneOf (IsAround world.now.store.module_of.tree) near.now) ops.old.items ops.new.items) }
+    ensures { OnOk result (Adds
+        (OneOf (IsAround world.now.store.module_of.tree) near.now) ops.old.items ops.new.items) }
 {
     let mut rest = near;
     'near: while let [op, tail @ ..] = rest {
@@ -43,7 +44,8 @@ pub(crate) fn push_all_around(
 
 /// Lists the last operation of the block of a region.
 fn push_last(store: &Store, ops: &mut Vec<OpId>, op: OpId, region: u32) -> Result<(), AllocError>
-    ensures { OnOk result (Adds (λ x. last_at op region store.now.module_of.tree ≡ Some x) ops.old.items ops.new.items) }
+    ensures { OnOk result (Adds
+        (λ x. last_at op region store.now.module_of.tree ≡ Some x) ops.old.items ops.new.items) }
 {
     match store.last(op, region) {
         Some(last) => push(ops, last),
@@ -81,7 +83,8 @@ pub(crate) fn push_with_lasts(
 
 /// Lists the operation around a place, and the last one of each of its blocks, where the place is the end of a block.
 fn push_end(world: &World, ops: &mut Vec<OpId>, place: &Place) -> Result<(), AllocError>
-    ensures { OnOk result (Adds (λ x. at_end place.now x world.now.store.module_of.tree ≡ true) ops.old.items ops.new.items) }
+    ensures { OnOk result (Adds
+        (λ x. at_end place.now x world.now.store.module_of.tree ≡ true) ops.old.items ops.new.items) }
 {
     match place.before {
         Some(_) => Ok(()),

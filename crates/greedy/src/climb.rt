@@ -47,7 +47,8 @@ fn push_climb(world: &World, ops: &mut Vec<OpId>, op: OpId) -> Result<(), AllocE
 
 /// Lists what is so around two operations.
 fn push_climbs(world: &World, ops: &mut Vec<OpId>, op: OpId, other: OpId) -> Result<(), AllocError>
-    ensures { OnOk result (Adds (λ x. IsClimbed world.now op x ⊎ IsClimbed world.now other x) ops.old.items ops.new.items) }
+    ensures { OnOk result (Adds
+        (λ x. IsClimbed world.now op x ⊎ IsClimbed world.now other x) ops.old.items ops.new.items) }
 {
     push_climb(world, ops, op)?;
     push_climb(world, ops, other)

@@ -27,7 +27,8 @@ pub fn rewrites_are_orderly()
 pub fn events_leave_what_they_do_not_reach()
     ensures one { (c : Things) (e : Edit) (m n : Module) → Step c e m n → (y : ℕ) → reaches e y n.tree ≡ false
         → surroundings y n.tree ≡ surroundings y m.tree }
-    ensures all { (c : Things) (es : List Edit) (m n : Module) → Steps c es m n → (y : ℕ) → any_reaches es y n.tree ≡ false
+    ensures all { (c : Things) (es : List Edit) (m n : Module) → Steps c es m n → (y : ℕ)
+        → any_reaches es y n.tree ≡ false
         → surroundings y n.tree ≡ surroundings y m.tree }
 {}
 

@@ -29,7 +29,8 @@ pub(crate) fn push_all_reached(
     ops: &mut Vec<OpId>,
     events: &[Event],
 ) -> Result<(), AllocError>
-    ensures { OnOk result (Adds (OneOf (IsReached world.now.store.module_of.tree) events.now) ops.old.items ops.new.items) }
+    ensures { OnOk result (Adds
+        (OneOf (IsReached world.now.store.module_of.tree) events.now) ops.old.items ops.new.items) }
 {
     let mut rest = events;
     'events: while let [event, tail @ ..] = rest {

@@ -46,7 +46,8 @@ fn any_puts_last(events: &[Event]) -> bool
 
 /// The operations near events, where none of these puts anything at the end of a block.
 fn near(alloc: Global, world: &World, events: &[Event]) -> Result<Vec<OpId>, AllocError>
-    ensures { IfOk result (λ v. any_puts_last events.now ≡ false → Lists (shown_operands world.now.store) events.now v.items (module_in world.now).tree) }
+    ensures { IfOk result (λ v. any_puts_last events.now ≡ false
+        → Lists (shown_operands world.now.store) events.now v.items (module_in world.now).tree) }
 {
     let mut reached = Vec::new(alloc);
     push_all_reached(world, &mut reached, events)?;
@@ -69,13 +70,15 @@ pub fn touched_all(world: &World) -> Result<Vec<OpId>, Refusal>
     world.store.operations()
 }
 
-/// The operations of a world's module at which the rules of canonicalization may apply otherwise than before events that
-/// led to it, and some beside. How many they are depends on what is near the events, and not on how large the module is,
-/// but for events that put something at the end of a block, which no rule does: after these all are listed.
+/// The operations of a world's module at which the rules of canonicalization may apply otherwise than before events
+/// that led to it, and some beside. How many they are depends on what is near the events, and not on how large the
+/// module is, but for events that put something at the end of a block, which no rule does: after these all are listed.
 ///
 /// Refusals: `Memory`.
 pub fn touched_by(alloc: Global, world: &World, events: &[Event]) -> Result<Vec<OpId>, Refusal>
-    ensures ok { IfOk result (λ v. (m : Module) → Leads (shown_operands world.now.store) world.now.ctx events.now m (module_in world.now) → Touched m (module_in world.now) v.items) }
+    ensures ok { IfOk result
+        (λ v. (m : Module) → Leads (shown_operands world.now.store) world.now.ctx events.now m (module_in world.now)
+        → Touched m (module_in world.now) v.items) }
     ensures refused { IfErr result (λ e. e ≡ NoMemory) }
 {
     if any_puts_last(events) {

@@ -59,7 +59,8 @@ pub(crate) fn push_all_with_users(
     ops: &mut Vec<OpId>,
     near: &[OpId],
 ) -> Result<(), AllocError>
-    ensures { OnOk result (Adds (OneOf (IsOrUses world.now.store.module_of.tree) near.now) ops.old.items ops.new.items) }
+    ensures { OnOk result (Adds
+        (OneOf (IsOrUses world.now.store.module_of.tree) near.now) ops.old.items ops.new.items) }
 {
     let mut rest = near;
     'near: while let [op, tail @ ..] = rest {

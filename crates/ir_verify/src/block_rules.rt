@@ -29,7 +29,8 @@ fn last(ctx: &Context, around: &Around<'_>, region: usize) -> Option<NameId>
 }
 
 fn last_of(_ctx: &Context, lasts: &[Option<NameId>], region: usize) -> Option<NameId>
-    ensures { option_map (name_term _ctx.now) result ≡ option_and_then (λ last. last) (slice_get (map (option_map (name_term _ctx.now)) lasts.now) region) }
+    ensures { option_map (name_term _ctx.now) result
+        ≡ option_and_then (λ last. last) (slice_get (map (option_map (name_term _ctx.now)) lasts.now) region) }
 {
     match lasts.get(region) {
         None => None,
@@ -165,7 +166,8 @@ fn is_public(ctx: &Context, visibility: Option<NameId>) -> bool
 /// The visibility of a symbol, if it says one (Symbols and Symbol Tables, "Symbol Visibility").
 fn visibility(ctx: &Context, node: &Node<'_>) -> Option<NameId>
     requires { NodeIsOf ctx.now node.now }
-    ensures { option_map (name_term ctx.now) result ≡ option_and_then string_in (fits.property (word_bytes Word.SymVisibility) (node_in ctx.now node.now)) }
+    ensures { option_map (name_term ctx.now) result
+        ≡ option_and_then string_in (fits.property (word_bytes Word.SymVisibility) (node_in ctx.now node.now)) }
 {
     string_of(ctx, property(ctx, node, Word::SymVisibility)?)
 }

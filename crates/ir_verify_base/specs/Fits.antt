@@ -1,5 +1,7 @@
 -- Whether types are those that a row of the operation table names.
-use Rattle.std.specs.Prelude.{if◌then◌else◌, ℕ, suc, ◌+◌, List, [], ◌∷◌, map, length, drop, codes, Bool, true, false, ◌==◌, ◌&&◌, ◌||◌, nat_le, Option, Some, None, option_map, option_and_then, unwrap_or, slice_get}
+use Rattle.std.specs.Prelude.{if◌then◌else◌, ℕ, suc, ◌+◌, List, [], ◌∷◌, map, length, drop, codes, Bool, true, false}
+use Rattle.std.specs.Prelude.{◌==◌, ◌&&◌, ◌||◌, nat_le, Option, Some, None, option_map, option_and_then, unwrap_or}
+use Rattle.std.specs.Prelude.{slice_get}
 use Rattle.std.specs.List.{list_all}
 use Rattle.std.specs.Str.{bytes_eq}
 use Rattle.std.specs.Option.{option_eq}
@@ -88,7 +90,8 @@ abbrev pub is_there : (TypeTerm → Bool) → Option TypeTerm → Bool
 is_there test None = false
 is_there test (Some t) = test t
 
--- whether a type is the number of the row: the first operand's that the row calls so, or any number where it calls none so
+-- whether a type is the number of the row: the first operand's that the row calls so, or any number where it calls none
+-- so
 abbrev pub is_the_number : Option TypeTerm → Option TypeTerm → Bool
 is_the_number None t = is_there is_number t
 is_the_number (Some u) t = is_there (same_type u) t
@@ -108,8 +111,8 @@ fits known type.Initial t = true
 fits known type.Result t = true
 fits known type.Input t = true
 
--- whether the types after the fixed ones are what a row calls them: none; those of the operands after the fixed ones, of
--- the results, of the inputs, one by one; or any number of one kind
+-- whether the types after the fixed ones are what a row calls them: none; those of the operands after the fixed ones,
+-- of the results, of the inputs, one by one; or any number of one kind
 abbrev pub more_fit : Known → Option TypeRule → List (Option TypeTerm) → Bool
 more_fit known None ts = length ts == 0
 more_fit known (Some type.Initial) ts = same_types known.initial ts
@@ -126,8 +129,8 @@ first_fit known (rule ∷ rules) more (t ∷ ts) = fits known rule t && first_fi
 abbrev pub types_fit : Known → TypesRow → List (Option TypeTerm) → Bool
 types_fit known row ts = first_fit known row.first row.more ts
 
--- whether so many types may be where a row has some first ones and perhaps more, and an operation so many operands after
--- the fixed ones
+-- whether so many types may be where a row has some first ones and perhaps more, and an operation so many operands
+-- after the fixed ones
 abbrev pub more_count : ℕ → ℕ → Option TypeRule → ℕ → Bool
 more_count initial first None n = n == first
 more_count initial first (Some type.Initial) n = n == first + initial

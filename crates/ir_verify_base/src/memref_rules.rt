@@ -36,7 +36,8 @@ struct Memref {
 /// What a type says, if it is a memref.
 fn memref_of(ctx: &Context, ty: TypeId) -> Option<Memref>
     requires { IsType ctx.now ty }
-    ensures memref { option_map (λ m. (m.rank, m.unknown, type_term ctx.now m.elem)) result ≡ types.memref_of (type_term ctx.now ty) }
+    ensures memref { option_map (λ m. (m.rank, m.unknown, type_term ctx.now m.elem)) result
+        ≡ types.memref_of (type_term ctx.now ty) }
     ensures elem { IfSome result (λ m. IsType ctx.now m.elem) }
 {
     memref_in(type_of(ctx, ty))
@@ -44,7 +45,8 @@ fn memref_of(ctx: &Context, ty: TypeId) -> Option<Memref>
 
 /// What a type's node says, if it is a memref.
 fn memref_in(node: &TypeNode) -> Option<Memref>
-    ensures memref { (known : List TypeTerm) → option_map (λ m. (m.rank, m.unknown, type_at known m.elem)) result ≡ types.memref_of (type_from known node.now) }
+    ensures memref { (known : List TypeTerm) → option_map (λ m. (m.rank, m.unknown, type_at known m.elem)) result
+        ≡ types.memref_of (type_from known node.now) }
     ensures elem { (c : Things) → TypeIsOf c node.now → IfSome result (λ m. IsType c m.elem) }
 {
     match node {
@@ -120,7 +122,8 @@ fn store_differs(ctx: &Context, operands: &[TypeId]) -> bool
 fn element_differs(ctx: &Context, memref: TypeId, indices: usize, ty: TypeId) -> bool
     requires memref { IsType ctx.now memref }
     requires ty { IsType ctx.now ty }
-    ensures { result ≡ rules.element_differs (types.memref_of (type_term ctx.now memref)) indices (Some (type_term ctx.now ty)) }
+    ensures { result ≡ rules.element_differs (types.memref_of (type_term ctx.now memref)) indices
+        (Some (type_term ctx.now ty)) }
 {
     match memref_of(ctx, memref) {
         None => false,
@@ -162,7 +165,8 @@ pub fn breaks_24(ctx: &Context, around: &Around<'_>) -> bool
 /// Whether an operation has segment sizes, and they aren't a number of sizes and 0.
 fn segments_differ(ctx: &Context, sizes: usize, node: &Node<'_>) -> bool
     requires { NodeIsOf ctx.now node.now }
-    ensures { result ≡ rules.segments_differ sizes (fits.property (word_bytes Word.OperandSegmentSizes) (node_in ctx.now node.now)) }
+    ensures { result ≡ rules.segments_differ sizes
+        (fits.property (word_bytes Word.OperandSegmentSizes) (node_in ctx.now node.now)) }
 {
     match property(ctx, node, Word::OperandSegmentSizes) {
         None => false,
@@ -172,7 +176,8 @@ fn segments_differ(ctx: &Context, sizes: usize, node: &Node<'_>) -> bool
 
 /// Whether an attribute is a list of segment sizes, and they aren't a number of sizes and 0.
 fn are_others(node: &AttrNode, sizes: usize) -> bool
-    ensures { (names : List (List ℕ)) (known : List TypeTerm) (attrs : List AttrTerm) → result ≡ rules.segments_differ sizes (Some (attr_from names known attrs node.now)) }
+    ensures { (names : List (List ℕ)) (known : List TypeTerm) (attrs : List AttrTerm)
+        → result ≡ rules.segments_differ sizes (Some (attr_from names known attrs node.now)) }
 {
     match node {
         AttrNode::Int { .. } => false,

@@ -43,7 +43,8 @@ pub fn known_of<'a>(ctx: &'a Context, def: &OpDef, around: &'a Around<'_>) -> Kn
 
 /// The type of the first operand that a row calls as is wanted.
 fn first_called(wanted: TypeRule, rules: &[TypeRule], types: &[TypeId]) -> Option<TypeId>
-    ensures is { (c : Things) → option_map (type_term c) result ≡ fits.first_called wanted rules.now (typed c types.now) }
+    ensures is { (c : Things)
+        → option_map (type_term c) result ≡ fits.first_called wanted rules.now (typed c types.now) }
     ensures known { (c : Things) → All (λ t. IsType c t) types.now → IfSome result (λ t. IsType c t) }
 {
     let mut named = rules;
@@ -86,7 +87,8 @@ fn after(types: &[TypeId], count: usize) -> &[TypeId]
 /// The inputs of the function type that an operation has as property.
 fn inputs_of<'a>(ctx: &'a Context, node: &Node<'_>) -> &'a [TypeId]
     requires { NodeIsOf ctx.now node.now }
-    ensures inputs { typed ctx.now result.now ≡ unwrap_or (option_map (λ f. fits.there f.0) (fits.function_type (node_in ctx.now node.now))) [] }
+    ensures inputs { typed ctx.now result.now
+        ≡ unwrap_or (option_map (λ f. fits.there f.0) (fits.function_type (node_in ctx.now node.now))) [] }
     ensures known { All (λ t. IsType ctx.now t) result.now }
 {
     match function_type(ctx, node) {
@@ -141,7 +143,8 @@ pub fn breaks_7(ctx: &Context, def: &OpDef, around: &Around<'_>, known: &Known<'
 fn any_differ(ctx: &Context, known: &Known<'_>, regions: &[RegionRule], node: &Node<'_>) -> bool
     requires node { NodeIsOf ctx.now node.now }
     requires known { AreKnown ctx.now known.now }
-    ensures { result ≡ rules.any_differ (known_in ctx.now known.now) (map region_row regions.now) (node_in ctx.now node.now) }
+    ensures { result ≡ rules.any_differ (known_in ctx.now known.now) (map region_row regions.now)
+        (node_in ctx.now node.now) }
 {
     let mut number = 0;
     let mut rest = regions;
@@ -165,7 +168,8 @@ fn arguments_differ(
 ) -> bool
     requires node { NodeIsOf ctx.now node.now }
     requires known { AreKnown ctx.now known.now }
-    ensures { result ≡ rules.arguments_differ (known_in ctx.now known.now) (region_row region.now) (fits.block_at number (node_in ctx.now node.now)) }
+    ensures { result ≡ rules.arguments_differ (known_in ctx.now known.now) (region_row region.now)
+        (fits.block_at number (node_in ctx.now node.now)) }
 {
     match block(ctx, node, number) {
         None => false,
@@ -184,7 +188,9 @@ pub fn breaks_14(ctx: &Context, around: &Around<'_>) -> bool
 /// Whether an operation's property `value` is an integer of another type than its one result.
 fn is_of_another(ctx: &Context, node: &Node<'_>) -> bool
     requires { NodeIsOf ctx.now node.now }
-    ensures { result ≡ rules.is_of_another (option_and_then integer_in (fits.property (word_bytes Word.Value) (node_in ctx.now node.now))) (map (type_term ctx.now) node.now.head.results) }
+    ensures { result ≡ rules.is_of_another
+        (option_and_then integer_in (fits.property (word_bytes Word.Value) (node_in ctx.now node.now)))
+        (map (type_term ctx.now) node.now.head.results) }
 {
     let Some(ty) = value_type(ctx, node) else {
         return false;
@@ -198,7 +204,8 @@ fn is_of_another(ctx: &Context, node: &Node<'_>) -> bool
 /// The type of the value of a constant.
 fn value_type(ctx: &Context, node: &Node<'_>) -> Option<TypeId>
     requires { NodeIsOf ctx.now node.now }
-    ensures is { option_map (type_term ctx.now) result ≡ option_map (λ i. i.0) (option_and_then integer_in (fits.property (word_bytes Word.Value) (node_in ctx.now node.now))) }
+    ensures is { option_map (type_term ctx.now) result ≡ option_map (λ i. i.0)
+        (option_and_then integer_in (fits.property (word_bytes Word.Value) (node_in ctx.now node.now))) }
     ensures known { IfSome result (λ t. IsType ctx.now t) }
 {
     let attr = property(ctx, node, Word::Value)?;

@@ -1,5 +1,5 @@
-//! The commands that transform the module of a bench, beside canonicalization: a sweep of the private symbols that nothing
-//! reaches, and a conversion for the target that clauses say.
+//! The commands that transform the module of a bench, beside canonicalization: a sweep of the private symbols that
+//! nothing reaches, and a conversion for the target that clauses say.
 #![tactic(auto)]
 
 pub mod convert;

@@ -29,8 +29,8 @@ fn counted(
     }
 }
 
-/// `LIMIT MOST TEXT`: how the canonicalization of the module that a text spells ends, after how many rewrites, and whether
-/// at most so many operations were looked at.
+/// `LIMIT MOST TEXT`: how the canonicalization of the module that a text spells ends, after how many rewrites, and
+/// whether at most so many operations were looked at.
 pub fn answer(alloc: Global, line: &str) -> Result<String, AllocError> {
     let (limit, rest) = first(line);
     let (most, text) = first(rest);

@@ -1,6 +1,6 @@
-//! Answers the rules at operations of modules that standard input has, one a line, one answer a line. A line is a rule, an
-//! operation, the least next free id and a module's text, which has `\n`, `\t`, `\r` and `\xff` for bytes; or it is `count`,
-//! a limit of rewrites, how many operations may be looked at, and a module's text.
+//! Answers the rules at operations of modules that standard input has, one a line, one answer a line. A line is a rule,
+//! an operation, the least next free id and a module's text, which has `\n`, `\t`, `\r` and `\xff` for bytes; or it is
+//! `count`, a limit of rewrites, how many operations may be looked at, and a module's text.
 #![tactic(auto)]
 
 mod counts;

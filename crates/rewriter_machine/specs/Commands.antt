@@ -72,10 +72,12 @@ CanFill bytes = most_things ≤ length words + bytes
 
 -- a text of such an input was refused: nothing is spelled, or no room is left for what it names, or no memory
 abbrev pub TextRefused : {X : Type 0} → ℕ → (Refusal → Option ℕ → Type 0) → (X → Type 0) → Refusal → Option ℕ → Type 0
-TextRefused bytes IsRefusal Spelled refusal offset = IsRefusal refusal offset × (((x : _) → Spelled x → ⊥) ⊎ (((refusal ≡ TooMany) × CanFill bytes) ⊎ (refusal ≡ Memory)))
+TextRefused bytes IsRefusal Spelled refusal offset =
+    IsRefusal refusal offset
+    × (((x : _) → Spelled x → ⊥) ⊎ (((refusal ≡ TooMany) × CanFill bytes) ⊎ (refusal ≡ Memory)))
 
--- `bytes` is the length of the input; `SpellsOp` tells which operation bytes spell beside a module, and `SpellsAttr` which
--- attribute; `canonicalization`, `conversion` and `sweeping` are the transformations
+-- `bytes` is the length of the input; `SpellsOp` tells which operation bytes spell beside a module, and `SpellsAttr`
+-- which attribute; `canonicalization`, `conversion` and `sweeping` are the transformations
 module _ (bytes : ℕ) (SpellsOp : Module → List ℕ → Operation → Type 0) (SpellsAttr : List ℕ → AttrTerm → Type 0) (canonicalization : Option ℕ → Transformation) (conversion : Target → Transformation) (sweeping : Transformation) where
   -- an operation that was read goes to its spot
   abbrev pub Inserts : Spot → Operation → Module → Asked → Type 0
@@ -133,5 +135,7 @@ text_response refusal (Some offset) = TextRefusedAt refusal offset
 abbrev pub Follows : State → Asked → Response → Shows → State → Type 0
 Follows s (Ask c) (Replied reply) shows t = Goes s c reply shows t
 Follows s (Ask c) (TextRefusedAt refusal offset) shows t = ⊥
-Follows s (Misplaced refusal) response shows t = (response ≡ Replied (call.Refused refusal)) × (shows ≡ Nothing) × (t ≡ s)
-Follows s (Unread refusal offset) response shows t = (response ≡ text_response refusal offset) × (shows ≡ Nothing) × (t ≡ s)
+Follows s (Misplaced refusal) response shows t =
+    (response ≡ Replied (call.Refused refusal)) × (shows ≡ Nothing) × (t ≡ s)
+Follows s (Unread refusal offset) response shows t =
+    (response ≡ text_response refusal offset) × (shows ≡ Nothing) × (t ≡ s)
