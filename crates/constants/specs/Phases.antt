@@ -26,7 +26,8 @@ pub record Forgetting (ops : ℕ → Option Header) (x : ℕ) (t : Facts) (trail
 
 -- of the operations that P tells, some of which nothing was known were learnt, and added to the trail; where it is
 -- done, those of which nothing is known give nothing, but where an operand was learnt
-pub record Learnt (done : Type 0) (ops : ℕ → Option Header) (P : ℕ → Type 0) (old new : Facts) (trail longer : List ℕ) : Type 0 where
+pub record Learnt (done : Type 0) (ops : ℕ → Option Header) (P : ℕ → Type 0) (old new : Facts)
+    (trail longer : List ℕ) : Type 0 where
   pub more : List ℕ
   pub is : longer ≡ trail ++ more
   pub once : OnceEach more
@@ -52,7 +53,8 @@ pub record Learning (ops : ℕ → Option Header) (t : Facts) (rest : List ℕ) 
 
 -- what the second phase does, where `uses` counts the uses of an operation's results: the facts agree with the
 -- operations where it is done, and it looks at what it learnt
-pub record LearntFrom (done : Type 0) (ops : ℕ → Option Header) (uses : ℕ → ℕ) (x : ℕ) (forgotten : List ℕ) (old new : Facts) (before after : ℕ) : Type 0 where
+pub record LearntFrom (done : Type 0) (ops : ℕ → Option Header) (uses : ℕ → ℕ) (x : ℕ) (forgotten : List ℕ)
+    (old new : Facts) (before after : ℕ) : Type 0 where
   pub trail : List ℕ
   pub path : IsTrail ops (λ y. (y ≡ x) ⊎ In y forgotten) new trail
   pub sound : Follows ops old → Follows ops new

@@ -13,7 +13,8 @@ abbrev pub ArePlaces : List ℕ → (ℕ → Option ℕ) → Type 0
 ArePlaces xs f = (q x : ℕ) → slice_get xs q ≡ Some x → f x ≡ Some q
 
 -- the passed places of some operations are to be looked at again, beside others
-pub record Again (gs : List ℕ) (f : ℕ → Option ℕ) (passed : ℕ) (again : List ℕ) (passed2 : ℕ) (again2 : List ℕ) : Type 0 where
+pub record Again (gs : List ℕ) (f : ℕ → Option ℕ) (passed : ℕ) (again : List ℕ) (passed2 : ℕ)
+    (again2 : List ℕ) : Type 0 where
   pub same : passed2 ≡ passed
   pub more : (q : ℕ) → In q again → In q again2
   pub within : (q : ℕ) → In q again2 → In q again ⊎ (q < passed)

@@ -183,7 +183,8 @@ tables_for table x is_table None =
 tables_for table x is_table (Some p) = option_map (tables_in p) (table p)
 
 -- what is read of an operation that has these tables, with the types of its operands
-pub record IsReadAs (c : Things) (h : Head) (types : List (Option TypeTerm)) (tables : Tables) (r : Numbers) : Type 0 where
+pub record IsReadAs (c : Things) (h : Head) (types : List (Option TypeTerm)) (tables : Tables)
+    (r : Numbers) : Type 0 where
   pub is : role_meaning c r ≡ role_from tables.parent tables.home tables.table h types
   pub known : RoleIsOf c r
 

@@ -78,7 +78,9 @@ TextRefused bytes IsRefusal Spelled refusal offset =
 
 -- `bytes` is the length of the input; `SpellsOp` tells which operation bytes spell beside a module, and `SpellsAttr`
 -- which attribute; `canonicalization`, `conversion` and `sweeping` are the transformations
-module _ (bytes : ℕ) (SpellsOp : Module → List ℕ → Operation → Type 0) (SpellsAttr : List ℕ → AttrTerm → Type 0) (canonicalization : Option ℕ → Transformation) (conversion : Target → Transformation) (sweeping : Transformation) where
+module _ (bytes : ℕ) (SpellsOp : Module → List ℕ → Operation → Type 0) (SpellsAttr : List ℕ → AttrTerm → Type 0)
+    (canonicalization : Option ℕ → Transformation) (conversion : Target → Transformation)
+    (sweeping : Transformation) where
   -- an operation that was read goes to its spot
   abbrev pub Inserts : Spot → Operation → Module → Asked → Type 0
   Inserts spot o m (Ask c) = (place : Place) × (spot_place None spot m.tree ≡ Ok place) × (c ≡ Do (edit.Insert place o))
