@@ -47,6 +47,8 @@ pub data Outcome : Type 0 where
   Limited : ℕ → Outcome
   -- so many rules of a conversion stand
   Converted : ℕ → Outcome
+  -- a rule was applied so often: once, or not at all
+  Applied : ℕ → Outcome
 
 -- why one isn't made, and the operation that this is about, where it is about one
 pub record Fault : Type 0 where
