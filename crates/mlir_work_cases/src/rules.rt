@@ -49,7 +49,7 @@ fn applied(
     Ok(out)
 }
 
-/// `RULE OP NEXT TEXT`: whether a rule applies at an operation of the module that a text spells, whose next free id is
+/// `apply RULE OP NEXT TEXT`, behind its name: whether a rule applies at an operation of the module that a text spells, whose next free id is
 /// at least `NEXT`, and the module after it.
 pub fn answer(alloc: Global, line: &str) -> Result<String, AllocError> {
     let (rule, rest) = first(line);
