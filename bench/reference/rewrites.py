@@ -415,6 +415,11 @@ RULES = [one, two, three, four, five, six, seven, eight, nine, ten, eleven, twel
          sixteen, seventeen, eighteen,
          nineteen, twenty, twenty_one, twenty_two, twenty_three, twenty_four, twenty_five, twenty_six, twenty_seven,
          twenty_eight, twenty_nine, thirty]
+# The words of the rules, in the order of their numbers.
+WORDS = """erase-dead fold-to-constant swap-constant drop-zero drop-one drop-all-ones cancel-itself keep-itself
+zero-remainder regroup-constants add-negative compare-itself mirror-comparison compare-zero choose-same choose-known
+choose-truth choose-opposite extend-extension cut-cast cast-back open-branch open-loop stop-loop expand-min-max
+expand-difference expand-remainder lower-index lower-loop lower-choice""".split()
 
 
 def is_clean(module, number):

@@ -17,7 +17,7 @@ KIND_WORDS = {KINDS.get(kind, f"kind{kind}") for kind in range(256)}
 MOST_MARKS = 16
 FIRST = {"report", "print", "set-operand", "move", "set-attr", "drop-attr", "resync", "detach"}
 EDITS = FIRST | {"erase", "insert", "replace"}
-ALL = EDITS | {"begin", "commit", "rollback", "sweep", "canon", "convert"}
+ALL = EDITS | {"begin", "commit", "rollback", "sweep", "canon", "convert", "apply"}
 MOST_LIMIT, LIMIT = 1000000, 1000
 
 
@@ -35,6 +35,14 @@ def op_of(word):
     if not word.startswith("#"):
         raise Bad
     return number(word[1:])
+
+
+def rule_of(word):
+    """The number of a rule, by its number or its word; none where no rule has the word."""
+    if not re.match("[0-9]", word):
+        return rewrites.WORDS.index(word) + 1 if word in rewrites.WORDS else None
+    need(1 <= number(word) <= len(rewrites.WORDS))
+    return number(word)
 
 
 def value_of(word):
@@ -207,6 +215,16 @@ class Run:
         numbers = unreached_ops(self.module)
         self.edit(edits.sweep, numbers)
         return f"swept {len(numbers)}", ""
+
+    def apply(self, text):
+        words = re.split("[ \t]+", text)
+        need(len(words) == 2 and words[0])
+        rule, op = rule_of(words[0]), op_of(words[1])
+        edits.refuse(26, rule is None)
+        edits.refuse(20, op not in self.module.ops())
+        found = rewrites.apply(self.module, rule, op)
+        self.module = found or self.module
+        return f"applied {int(found is not None)}", ""
 
     def reply(self, line):
         """The reply to a line that is no comment, and whether it has a listing."""
