@@ -1,7 +1,7 @@
 """Whole runs: a module, a script, and what is written."""
 import re
 
-from . import conversion, edits, rewrites
+from . import aliases, conversion, edits, opaque, rewrites
 from .analyses import ANALYSES, KINDS, unreached_ops
 from .module import printing, read, read_attr, read_op, rules, text_of
 
@@ -90,7 +90,9 @@ def need(is_so):
 
 
 class Run:
-    """A module with its marks and the kinds that are attached."""
+    """A module with its marks and the kinds that are attached; `reader` reads what a line has."""
+
+    reader = rules.Reader
 
     def __init__(self, module, boxes=BOXES, commands=ALL, limit=LIMIT):
         self.limit = limit
@@ -146,7 +148,7 @@ class Run:
     def insert(self, text):
         words, rest = cut_place(text)
         need(rest != "")
-        tree = read_op(rest.encode("latin-1"), self.module)
+        tree = read_op(rest.encode("latin-1"), self.module, self.reader)
         self.edit(edits.insert, edits.resolved(self.module, words), tree)
         return f"ok #{tree.id}", ""
 
@@ -155,7 +157,7 @@ class Run:
         op = op_of(op)
         key, rest = cut_key(rest)
         need(rest != "")
-        self.edit(edits.set_attr, op, key, read_attr(rest.encode("latin-1")))
+        self.edit(edits.set_attr, op, key, read_attr(rest.encode("latin-1"), self.reader))
 
     def drop_attr(self, text):
         op, rest = cut(text)
@@ -289,4 +291,15 @@ def run(text, brief=True, boxes=BOXES, commands=ALL, limit=LIMIT, make=Run):
         here = make(read(text), boxes, commands, limit)
     except rules.Refused as fault:
         return 3, f"module refused {printing.refusal(fault)}\n".encode()
+    return obey(here, script, brief)
+
+
+def run_opaque(text, brief=True, boxes=BOXES, commands=ALL, limit=LIMIT):
+    """The same with opaque terms, aliases and locations in the module, and opaque terms in the script."""
+    text, script = split(text)
+    try:
+        here = Run(aliases.read(text), boxes, commands, limit)
+    except rules.Refused as fault:
+        return 3, f"module refused {printing.refusal(fault)}\n".encode()
+    here.reader = opaque.Reader
     return obey(here, script, brief)
