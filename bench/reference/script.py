@@ -277,7 +277,8 @@ def obey(here, script, brief):
     out, status = [], 0
     for count, line in enumerate(lines_of(script), 1):
         reply, is_listed = here.reply(line) if line is not None else (" refused 60 BadCommand\n", True)
-        status = 1 if reply.startswith(" refused") else status
+        # (a check of a pattern of one's own fails)
+        status = 1 if reply.startswith((" refused", " fails")) else status
         out.append(f"{count}{reply}")
         if is_listed and not brief:
             out.append(here.all_rows())
