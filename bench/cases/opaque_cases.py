@@ -1,6 +1,6 @@
 #!/usr/bin/env python3
-"""Texts with opaque terms, aliases and locations, by hand, each with what is said of it with `--opaque` and without; and
-the modules of tests/opaque. At the top of the repository
+"""Texts with opaque terms, aliases and locations, by hand, each with what is said of it with `--opaque` and without;
+and the modules of tests/opaque. At the top of the repository
 
     bench/cases/opaque_cases.py [PROGRAM]
 
@@ -99,7 +99,8 @@ WHOLES = [
     # A fault in what is put in a place is told where the alias stands.
     ('#a = i0\n"t.u"() {x = #a} : () -> ()', (6, 21), (13, 0)),
     # Locations.
-    (FUNCTION + '#loc1 = loc("h":3:4)', '"t.f"() ({\n^bb0(%arg0: i32):\n  "t.g"(%arg0) : (i32) -> ()\n}) : () -> ()', (13, 24)),
+    (FUNCTION + '#loc1 = loc("h":3:4)',
+     '"t.f"() ({\n^bb0(%arg0: i32):\n  "t.g"(%arg0) : (i32) -> ()\n}) : () -> ()', (13, 24)),
     ('#l = loc("f":1:2)\n"t.u"() {x = loc(callsite(#l at "g"))} : () -> () loc(#l)',
      '"t.u"() {x = loc(callsite("f":1:2 at "g"))} : () -> ()', (13, 0)),
     ('"t.u"() : () -> () loc("f"', (2, 26), (13, 19)),

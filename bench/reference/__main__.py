@@ -15,8 +15,8 @@ from .script import LIMIT, MOST_LIMIT, run, run_opaque
 
 
 class Options:
-    """Whether to be brief, the limit, whether opaque terms are read, and the files of patterns; none of these where there
-    are to be no patterns."""
+    """Whether to be brief, the limit, whether opaque terms are read, and the files of patterns; none of these where
+    there are to be no patterns."""
 
     def __init__(self, words):
         self.brief, self.limit, self.is_open, self.files = False, None, False, None
