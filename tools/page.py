@@ -172,7 +172,7 @@ def asked(words):
                         help="without one it stands in MODULE, behind a line `// -----`")
     parser.add_argument("-o", metavar="FILE", dest="out", default="replay.html", help="the page [%(default)s]")
     parser.add_argument("--most", metavar="N", type=int, default=replay.MOST,
-                        help="the most steps: what is behind them is one [%(default)s]")
+                        help="the most steps, and half as many of one line: the others are one [%(default)s]")
     return parser.parse_args(words)
 
 
@@ -183,7 +183,8 @@ def main():
         if text is not None:
             pathlib.Path(it.out).write_text(text)
     except (OSError, program.Fault) as fault:
-        sys.exit(2 if print(fault, file=sys.stderr) is None else 0)
+        print(fault, file=sys.stderr)
+        sys.exit(2)
     print(*lines, sep="\n", end="\n" if lines else "", file=sys.stderr)
     sys.exit(3 if lines else 0)
 

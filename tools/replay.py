@@ -51,9 +51,10 @@ class Step:
         return self.reply.startswith("refused")
 
     def says(self):
-        """What the refusal says, the byte that it points at or None, and the operation that it names or None."""
+        """What the refusal says behind its number and word, the byte that it points at or None, and the operation that
+        it names or None."""
         fault = mistakes.explained(self.reply, self.line.encode("utf-8", "surrogateescape"))
-        return fault.words, fault.column, mistakes.named(self.reply)
+        return fault.words.partition(": ")[2], fault.column, mistakes.named(self.reply)
 
 
 def rewrites(line, reply, most):

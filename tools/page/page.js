@@ -58,10 +58,19 @@ function listsAt(number) {
   return lists;
 }
 
+// How many come and go by splices, and how that is shown.
+function sums(splices) {
+  return {come: splices.reduce((sum, splice) => sum + splice[2].length, 0),
+    go: splices.reduce((sum, splice) => sum + splice[1], 0)};
+}
+
+function counts({come, go}) {
+  return [...(come ? [" ", make("span", "come", `+${come}`)] : []), ...(go ? [" ", make("span", "go", `−${go}`)] : [])];
+}
+
 steps.forEach((step, at) => {
   step.absent = step.module ? step.without || {} : steps[at - 1].absent;
-  step.go = changesOf(at, "module").reduce((sum, splice) => sum + splice[1], 0);
-  step.come = changesOf(at, "module").reduce((sum, splice) => sum + splice[2].length, 0);
+  Object.assign(step, sums(changesOf(at, "module")));
   step.acts = at === 0 || step.come + step.go > 0 || Boolean(step.rows);
 });
 
@@ -271,8 +280,8 @@ function lightAll() {
 }
 
 function refs(uses) {
-  const found = uses.slice(0, MOST_REFS).flatMap(([user, operand]) => [ref(user), ` operand ${operand}  `]);
-  return uses.length > MOST_REFS ? [...found, `and ${uses.length - MOST_REFS} more`] : found;
+  const found = uses.slice(0, MOST_REFS).flatMap(([user, operand], at) => [at ? ", " : "", ref(user), ` operand ${operand}`]);
+  return uses.length > MOST_REFS ? [...found, `, and ${uses.length - MOST_REFS} more`] : found;
 }
 
 function ref(op) {
@@ -314,7 +323,7 @@ const ruleTold = rule => data.rules[rule] ? `${rule} ${data.rules[rule]}` : rule
 // The module
 
 const now = {number: -1, lists: null, old: null, view: new View(), rowView: new View(), kind: kinds[0], uses: null,
-  starts: [], start: -1, found: -1};
+  starts: [], start: -1, found: -1, shown: null};
 
 function moduleRow(at) {
   const id = now.view.ids[at], mark = now.view.marks[at], other = now.view.others.get(at);
@@ -337,13 +346,8 @@ const moduleList = new List(get("module"), moduleRow);
 
 function reportRow(at) {
   const id = now.rowView.ids[at], mark = now.rowView.marks[at], text = data.rows[now.kind][id];
-  const row = make("div", `row report ${CLASSES[mark]}`, make("span", "sign", SIGNS[mark])), word = make("span", "word");
-  text.split(/( )/).forEach((part, place) => {
-    const isOp = /^#\d+$/.test(part), isValue = /^%[va]/.test(part);
-    const it = isOp ? ref(Number(part.slice(1))) : isValue ? make("span", "value", part) : part;
-    if (isValue) it.dataset.value = part;
-    word.append(it);
-  });
+  const row = make("div", `row report ${CLASSES[mark]}`, make("span", "sign", SIGNS[mark]));
+  const word = make("span", "word", ...withRefs(text));
   row.append(word);
   const rule = now.kind === "diagnostics" && data.rules[text.split(" ")[1]];
   if (rule) row.append(make("span", "rule", `  ${rule}`));
@@ -365,19 +369,20 @@ function showModule() {
   now.starts = now.view.marks.flatMap((mark, at) => mark && !now.view.marks[at - 1] ? [at] : []);
   now.start = now.found = -1;
   moduleList.set(now.view.ids.length, longest(now.view.ids, data.texts) + 12);
-  const {come, go} = now.number ? steps[now.number] : {come: 0, go: 0};
   get("size").textContent = many(now.lists.module.filter(isHead).length, "operation");
-  get("changed").replaceChildren(...(come ? [make("span", "come", `+${come}`), " "] : []),
-    ...(go ? [make("span", "go", `−${go}`)] : []));
+  get("changed").replaceChildren(...delta("module"));
   get("before").disabled = get("behind").disabled = now.starts.length === 0;
 }
 
+// (the rows that are shown stay, where they are the same, and none of them is marked)
 function showRows() {
-  const other = get("other").checked, kind = now.kind, list = now.lists[kind];
+  const other = get("other").checked, kind = now.kind, list = now.lists[kind], absent = steps[now.number].absent[kind];
+  const isSame = now.shown === list && !spliced(kind).length && !other && !absent;
+  now.shown = spliced(kind).length || other || absent ? null : list;
+  if (isSame) return;
   now.rowView = viewed(kind, list, now.old?.[kind], spliced(kind), true, other);
   get("rows").setAttribute("aria-label", `${kind}: ${many(list.length, "row")}`);
   rowList.set(now.rowView.ids.length, longest(now.rowView.ids, data.rows[kind]) + 8);
-  const absent = steps[now.number].absent[kind];
   if (!now.rowView.ids.length) {
     rowList.all.replaceChildren(make("div", "empty", absent || (other && list.length ? "No row changed" : "No rows")));
   }
@@ -386,10 +391,7 @@ function showRows() {
 }
 
 function delta(kind) {
-  const splices = spliced(kind);
-  const come = splices.reduce((sum, splice) => sum + splice[2].length, 0);
-  const go = splices.reduce((sum, splice) => sum + splice[1], 0);
-  return [...(come ? [" ", make("span", "come", `+${come}`)] : []), ...(go ? [" ", make("span", "go", `−${go}`)] : [])];
+  return counts(sums(spliced(kind)));
 }
 
 function showKinds() {
@@ -448,6 +450,10 @@ function partName(step) {
   return `${step.part[0]}  ${told.join(" ")}${step.ops?.more ? " .." : ""}`;
 }
 
+function select(row) {
+  if (row.dataset.step) row.setAttribute("aria-selected", Number(row.dataset.step) === now.number);
+}
+
 function stepRow(place) {
   const {title, at} = items[place], step = steps[at], isPart = Boolean(step.part);
   const name = title ?? (at === 0 ? "the module as it is read" : isPart ? partName(step) : step.line);
@@ -455,30 +461,37 @@ function stepRow(place) {
   const row = make("div", `row step ${kind}`, make("span", "number", title === undefined ? `${at}` : ""),
     make("span", "name", name));
   row.title = name;
-  if (title !== undefined) return row;
-  row.setAttribute("role", "option");
-  row.setAttribute("aria-selected", at === now.number);
-  row.dataset.step = at;
-  if (step.says) row.append(make("span", "count", make("span", "go", /\d+/.exec(step.reply)[0])));
-  else if (at && step.come + step.go) {
-    row.append(make("span", "count", make("span", "come", `+${step.come}`), " ", make("span", "go", `−${step.go}`)));
+  if (title !== undefined) {
+    row.append(make("span", "count dim", many(step.part[1], "rewrite")));
+    return row;
   }
+  row.setAttribute("role", "option");
+  row.dataset.step = at;
+  select(row);
+  if (step.says) row.append(make("span", "count", make("span", "go", /\d+/.exec(step.reply)[0])));
+  else if (at) row.append(make("span", "count", ...counts(step)));
   return row;
 }
 
+// A text with its operations and values, which light up and can be held.
 function withRefs(text) {
-  return text.split(/(#\d+\b)/).map(part => /^#\d+$/.test(part) ? ref(Number(part.slice(1))) : part);
+  return text.split(/(#\d+\b|%[va][\d.]+\d)/).map(part => {
+    const isValue = /^%[va]/.test(part);
+    const it = /^#\d+$/.test(part) ? ref(Number(part.slice(1))) : isValue ? make("span", "value", part) : part;
+    if (isValue) it.dataset.value = part;
+    return it;
+  });
 }
 
 function tell(step) {
-  const line = make("div", "line", make("pre", "", step.line || "The module as it is read"),
+  const line = make("div", "line", make("pre", "", ...(step.line ? withRefs(step.line) : ["The module as it is read"])),
     make("span", `reply${step.says ? " refused" : ""}`, ...(step.line ? withRefs(step.reply) : [])));
   const found = [...(step.notes || []).map(note => make("div", "note", note)), line];
   if (step.says) {
     const caret = `${" ".repeat(Math.max(step.column || 0, 0))}^`;
     if (step.column !== null) found.push(make("pre", "caret", caret));
     found.push(make("div", "says", ...withRefs(step.says)));
-    if (step.about !== null) found.push(make("div", "note", "About ", ref(step.about), ` ${nameOf(step.about)}`));
+    if (step.about !== null) found.push(make("div", "note", "Told of ", ref(step.about), ` ${nameOf(step.about)}`));
   }
   get("told").replaceChildren(...found);
 }
@@ -499,8 +512,9 @@ function go(number) {
   moduleList.show(now.starts.find(at => moduleList.isSeen(at)) ?? now.starts[0] ?? -1);
   showKinds();
   showRows();
-  stepList.again();
+  for (const row of stepList.drawn.values()) select(row);
   stepList.show(items.findIndex(it => it.at === to && it.title === undefined));
+  if (steps[to].says) goTo(steps[to].about ?? Number(/#(\d+)/.exec(steps[to].line)?.[1]));
   lightAll();
   history.replaceState(null, "", `#step=${to}`);
 }
