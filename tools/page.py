@@ -22,7 +22,7 @@ import replay  # noqa: E402
 from changes import in_order  # noqa: E402
 from forms import kinds  # noqa: E402
 
-PARTS = pathlib.Path(__file__).resolve().parent / "page"
+PARTS = pathlib.Path(__file__).resolve().parent / "web"
 # Letters that end or begin something in HTML, in a text of JSON.
 MOST_NAMED = 6
 ESCAPES = {ord(letter): f"\\u{ord(letter):04x}" for letter in "<>&"}

@@ -119,7 +119,8 @@ class Steps(unittest.TestCase):
         module, _ = example("canon")
         whole = filled(module, b"canon\nset-attr #1 k 1\n")
         steps = filled(module, b"canon\nset-attr #1 k 1\n", 12)
-        self.assertEqual([step.reply for step in steps[6:]], ["rewrite 6 of 15", "rewrites 7 to 15: converged 15", "ok"])
+        self.assertEqual([step.reply for step in steps[6:]],
+                         ["rewrite 6 of 15", "rewrites 7 to 15: converged 15", "ok"])
         self.assertEqual(steps[-1].state.lines, whole[-1].state.lines)
         short = filled(module, b"canon\nset-attr #1 k 1\n", 3)
         self.assertEqual([step.line for step in short], ["", "canon", "canon", "// 1 more steps"])
@@ -140,7 +141,8 @@ class Steps(unittest.TestCase):
     def test_refused(self):
         module, _ = example("fold")
         (_, refused, unknown, bytes_), data = filled(module, b"erase #2\nerase 8\n\xff\n"), page.Data()
-        self.assertEqual(refused.says(), ("A value of the operation, or of one inside it, is used outside it", None, None))
+        words = "A value of the operation, or of one inside it, is used outside it"
+        self.assertEqual(refused.says(), (words, None, None))
         self.assertEqual(unknown.says()[1], 6)
         self.assertEqual(data.step(bytes_, True)["line"], "\\xff")
 
@@ -296,7 +298,8 @@ class Clicked(unittest.TestCase):
         steps = [replay.Step("", "")]
         steps[0].state, lines = begun, list(begun.lines)
         for at in range(1, 200):
-            lines = lines[:at * 40] + [(f"{at + 10000}", f'  %v{at + 10000}.0 = "b"() : () -> i32')] + lines[at * 40 + 1:]
+            it = str(at + 10000), f'  %v{at + 10000}.0 = "b"() : () -> i32'
+            lines = lines[:at * 40] + [it] + lines[at * 40 + 1:]
             steps.append(replay.Step(f"erase #{at}", "ok", (), [f"erase #{at}"]))
             steps[-1].state = replay.State(lines, begun.rows)
         data = {**page.Data().all("many", steps), "kinds": ["uses"]}

@@ -65,7 +65,8 @@ function sums(splices) {
 }
 
 function counts({come, go}) {
-  return [...(come ? [" ", make("span", "come", `+${come}`)] : []), ...(go ? [" ", make("span", "go", `−${go}`)] : [])];
+  return [...(come ? [" ", make("span", "come", `+${come}`)] : []),
+    ...(go ? [" ", make("span", "go", `−${go}`)] : [])];
 }
 
 steps.forEach((step, at) => {
@@ -185,11 +186,14 @@ class List {
 // Words of a line
 
 const WORDS = new RegExp([
-  "(?<value>%[va][0-9.]+[0-9])", '(?<op>"(?:[^"\\\\]|\\\\.)*"(?=\\())', '(?<symbol>@(?:[\\w$.-]+|"(?:[^"\\\\]|\\\\.)*"))',
-  '(?<string>"(?:[^"\\\\]|\\\\.)*")', "(?<type>memref<[^>]*>|\\b[su]?i[0-9]+\\b|\\bindex\\b)", "(?<key>\\^\\w+|[\\w$.]+(?= =))",
+  "(?<value>%[va][0-9.]+[0-9])", '(?<op>"(?:[^"\\\\]|\\\\.)*"(?=\\())',
+  '(?<symbol>@(?:[\\w$.-]+|"(?:[^"\\\\]|\\\\.)*"))',
+  '(?<string>"(?:[^"\\\\]|\\\\.)*")', "(?<type>memref<[^>]*>|\\b[su]?i[0-9]+\\b|\\bindex\\b)",
+  "(?<key>\\^\\w+|[\\w$.]+(?= =))",
   "(?<number>#[\\w.]+(?:<[^>]*>)?|-?\\b[0-9]+\\b|\\btrue\\b|\\bfalse\\b)",
 ].join("|"), "g");
-const LOOKS = {op: "op", symbol: "symbol", string: "symbol", type: "type", key: "key", number: "number-of", value: "value"};
+const LOOKS = {op: "op", symbol: "symbol", string: "symbol", type: "type", key: "key", number: "number-of",
+  value: "value"};
 
 function words(text) {
   const found = [];
@@ -216,7 +220,8 @@ function otherThan(those, its) {
 function putWords(row, text, its) {
   const those = words(text), [first, end] = otherThan(those, its);
   those.forEach(([word, kind], at) => {
-    const names = [LOOKS[kind] || "", at >= first && at < end ? "other" : ""].filter(Boolean).join(" ");
+    const isOther = at >= first && at < end && word.trim();
+    const names = [LOOKS[kind], isOther && "other"].filter(Boolean).join(" ");
     const span = names ? make("span", names, word) : word;
     if (kind === "value") span.dataset.value = word;
     row.append(span);
@@ -280,7 +285,8 @@ function lightAll() {
 }
 
 function refs(uses) {
-  const found = uses.slice(0, MOST_REFS).flatMap(([user, operand], at) => [at ? ", " : "", ref(user), ` operand ${operand}`]);
+  const found = uses.slice(0, MOST_REFS)
+    .flatMap(([user, operand], at) => [at ? ", " : "", ref(user), ` operand ${operand}`]);
   return uses.length > MOST_REFS ? [...found, `, and ${uses.length - MOST_REFS} more`] : found;
 }
 
@@ -368,7 +374,7 @@ function showModule() {
   now.view = viewed("module", now.lists.module, now.old?.module, spliced("module"), get("gone").checked, false);
   now.starts = now.view.marks.flatMap((mark, at) => mark && !now.view.marks[at - 1] ? [at] : []);
   now.start = now.found = -1;
-  moduleList.set(now.view.ids.length, longest(now.view.ids, data.texts) + 12);
+  moduleList.set(now.view.ids.length, longest(now.view.ids, data.texts) + 16);
   get("size").textContent = many(now.lists.module.filter(isHead).length, "operation");
   get("changed").replaceChildren(...delta("module"));
   get("before").disabled = get("behind").disabled = now.starts.length === 0;
@@ -457,7 +463,8 @@ function select(row) {
 function stepRow(place) {
   const {title, at} = items[place], step = steps[at], isPart = Boolean(step.part);
   const name = title ?? (at === 0 ? "the module as it is read" : isPart ? partName(step) : step.line);
-  const kind = title !== undefined ? "title" : `${isPart ? "part " : ""}${step.acts ? "" : "same "}${step.says ? "refused" : ""}`;
+  const kind = title !== undefined ? "title"
+    : `${isPart ? "part " : ""}${step.acts ? "" : "same "}${step.says ? "refused" : ""}`;
   const row = make("div", `row step ${kind}`, make("span", "number", title === undefined ? `${at}` : ""),
     make("span", "name", name));
   row.title = name;
@@ -528,7 +535,8 @@ function showFound(at) {
 }
 
 function goTo(op) {
-  const at = now.view.ids.findIndex((id, place) => data.owners[id] === op && isHead(id) && now.view.marks[place] !== GO);
+  const {ids, marks} = now.view;
+  const at = ids.findIndex((id, place) => data.owners[id] === op && isHead(id) && marks[place] !== GO);
   if (at >= 0) showFound(at);
 }
 
@@ -651,7 +659,8 @@ get("steps").addEventListener("click", event => {
 });
 get("strip").addEventListener("click", event => {
   const most = Math.max(now.view.ids.length, Math.floor(moduleList.box.clientHeight / HEIGHT));
-  moduleList.box.scrollTop = (event.offsetY / get("strip").clientHeight * most) * HEIGHT - moduleList.box.clientHeight / 2;
+  const place = event.offsetY / get("strip").clientHeight * most;
+  moduleList.box.scrollTop = place * HEIGHT - moduleList.box.clientHeight / 2;
 });
 window.addEventListener("hashchange", () => go(asked()));
 matchMedia("(prefers-color-scheme: dark)").addEventListener("change", drawStrip);
@@ -661,5 +670,7 @@ function asked() {
   return Number(/^#step=(\d+)$/.exec(location.hash)?.[1] || 0);
 }
 
+const digits = String(data.owners.reduce((most, op) => Math.max(most, op), 0)).length;
+document.documentElement.style.setProperty("--gutter", `${digits + 3}ch`);
 listSteps();
 go(asked());
