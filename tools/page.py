@@ -6,8 +6,8 @@ behind each, with what changed marked; the seven reports beside it; and what is 
 value and the operation that makes it light up under the pointer. `?` in the page shows its keys; `#step=N` behind its
 address opens it at a step.
 
-The status is 0, 3 where the module is refused, and 2 where the command line is wrong or a file can't be read."""
-import argparse
+usage: tools/page.py MODULE [SCRIPT] [-o FILE] [--most N]     (without a SCRIPT it stands in MODULE, behind a line
+`// -----`; without a FILE the page is replay.html)"""
 import html
 import json
 import pathlib
@@ -17,6 +17,7 @@ import sys
 sys.dont_write_bytecode = True
 
 import explain  # noqa: E402
+import pages  # noqa: E402
 import program  # noqa: E402
 import replay  # noqa: E402
 from changes import in_order  # noqa: E402
@@ -138,9 +139,9 @@ def owner(key):
 
 
 def rules():
-    """What the rules of the verifier are about, by their words, where its page is at hand."""
-    page = program.ROOT / "docs/VERIFIER.md"
-    return dict(re.findall(r"^### (V\d+): (.*)$", page.read_text(), re.M)) if page.exists() else {}
+    """What the rules of the verifier are about, by their words."""
+    titles = [title.partition(": ") for title in pages.sections("VERIFIER.md")]
+    return {rule: about for rule, _, about in titles if re.fullmatch(r"V\d+", rule)}
 
 
 def written(data):
@@ -162,32 +163,24 @@ def made(names, most):
     return written(Data().all(pathlib.Path(names[0]).name, steps)), []
 
 
-def asked(words):
-    """What is asked for."""
-    about, _, more = __doc__.partition("\n\n")
-    parser = argparse.ArgumentParser(prog="page.py", description=about, epilog=more,
-                                     formatter_class=argparse.RawDescriptionHelpFormatter)
-    parser.add_argument("module", metavar="MODULE", help="in generic form")
-    parser.add_argument("script", metavar="SCRIPT", nargs="?",
-                        help="without one it stands in MODULE, behind a line `// -----`")
+def arguments(parser):
+    """What stands on the command line."""
+    explain.arguments(parser)
     parser.add_argument("-o", metavar="FILE", dest="out", default="replay.html", help="the page [%(default)s]")
     parser.add_argument("--most", metavar="N", type=int, default=replay.MOST,
                         help="the most steps, and half as many of one line: the others are one [%(default)s]")
-    return parser.parse_args(words)
 
 
-def main():
-    it = asked(sys.argv[1:])
-    try:
-        text, lines = made([name for name in (it.module, it.script) if name], it.most)
-        if text is not None:
-            pathlib.Path(it.out).write_text(text)
-    except (OSError, program.Fault) as fault:
-        print(fault, file=sys.stderr)
-        sys.exit(2)
-    print(*lines, sep="\n", end="\n" if lines else "", file=sys.stderr)
-    sys.exit(3 if lines else 0)
+def run(given):
+    """Writes the page, or says why the module is refused, and gives the status."""
+    text, lines = made([given.module] + [given.script] * bool(given.script), given.most)
+    if text is None:
+        print(*lines, sep="\n", file=sys.stderr)
+        return 3
+    pathlib.Path(given.out).write_text(text)
+    return 0
 
 
 if __name__ == "__main__":
-    main()
+    import mlir_work
+    sys.exit(mlir_work.main(["page", *sys.argv[1:]]))

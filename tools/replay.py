@@ -7,13 +7,13 @@ import itertools
 import re
 
 import mistakes
-from forms import kinds
+from forms import kinds, looks
 from listing import PROBE, Listing, listed, numbering, unused_key
 from program import answered, is_counted, joined, ran, replies
 
-# Commands that only look, which aren't run again; those that make neither the module nor a report another; how many
-# marks more there are behind one.
-LOOKS, KEEPS, MARKS = {"print", "report"}, {"begin", "commit"}, {"begin": 1, "commit": -1, "rollback": -1}
+# Commands that make neither the module nor a report another, and are run again; how many marks more there are behind
+# one.
+KEEPS, MARKS = {"begin", "commit"}, {"begin": 1, "commit": -1, "rollback": -1}
 MOST_MARKS = 16
 REWRITES = re.compile(r"(?:converged|limit) (\d+)")
 # A script that is too long has one reply in place of one for each line.
@@ -68,7 +68,7 @@ def rewrites(line, reply, most):
 
 def of_line(line, reply, notes, most):
     """The steps of a line of a script."""
-    if reply.startswith("refused") or line.split()[0] in LOOKS:
+    if reply.startswith("refused") or line.split()[0] in looks():
         return [Step(line, reply, notes)]
     parts = rewrites(line, reply, most)
     if len(parts) == 1:
