@@ -153,7 +153,7 @@ def is_written(lines, wanted):
 
 
 def cooked(text, folder):
-    """What is wrong with a task of the cookbook, whose program, where it has one, is named in front of it."""
+    """What is wrong with a task of the cookbook. A program there has its name in the first line."""
     parts = blocks(text)
     most = sum(len(re.findall(r"^[$>] ", block, re.M)) if kind == "console" else block.count("\n")
                for kind, block in parts)
@@ -161,7 +161,7 @@ def cooked(text, folder):
         yield f"{most} lines are typed"
     for kind, block in parts:
         if kind == "python":
-            (folder / re.search(r"`(\w+\.py)`", text).group(1)).write_text(block)
+            (folder / block.split()[1]).write_text(block)
             continue
         for line, given, wanted in typed(block):
             if re.search(r"\bmlir-opt\b", line) and not tool():
