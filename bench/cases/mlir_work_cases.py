@@ -17,6 +17,7 @@ sys.path.append(str(pathlib.Path(__file__).resolve().parents[1]))  # bench/, whe
 import analyses_cases  # noqa: E402
 import conversion_cases  # noqa: E402
 import heard_cases  # noqa: E402
+import rule_cases  # noqa: E402
 import verifier_cases  # noqa: E402
 import worked_rows  # noqa: E402
 from compare import refusals  # noqa: E402
@@ -905,6 +906,8 @@ def main():
     analyses_cases.all_cases(analyses, GOLDEN.begin)
     conversion_cases.all_cases(analyses, GOLDEN.begin)
     heard_cases.all_cases(case)
+    GOLDEN.begin("rules/applied")
+    rule_cases.all_cases(GOLDEN.case, case)
     TABLE.write("mlir_work_cases")
     GOLDEN.write()
 
