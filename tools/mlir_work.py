@@ -13,6 +13,7 @@ NAME = "mlir-work"
 # Each word, what it does, and the file that does it.
 COMMANDS = {
     "open": ("a prompt over a module: lines are typed one by one, and each is answered at once", "prompt"),
+    "reduce": ("a smaller module that still shows something", "reduce"),
     "explain": ("why what a script does was refused, in words", "explain"),
     "page": ("a page for a browser that shows a script over a module, step by step", "page"),
 }

@@ -9,7 +9,7 @@ import subprocess
 
 import listing
 import program
-from forms import looks
+from forms import kinds, looks
 
 # Commands that want the analyses.
 WITH_ANALYSES = {"attach", "detach", "report", "resync"}
@@ -45,6 +45,15 @@ class Again:
         """The reply to a line, and the listings before it, where that isn't known, and behind it."""
         before, behind = listing.rewritten(self.module, kept, line, bounds, known)
         return behind.reply, before, behind
+
+    def tried(self, kept, lines, question):
+        """The replies to some lines behind some edits, and the reply to a question behind them with the lines below."""
+        kind = question.split()[1] if question.startswith("report ") else None
+        run = listing.Run(self.module, [f"detach {it}" for it in kinds() if it != kind] + kept, False)
+        before = run.count
+        run.add(*lines, question)
+        *replies, last = program.replies(run.go().written.text.splitlines())[before:]
+        return [reply for reply, _ in replies], last
 
     def stop(self):
         """Nothing waits."""
@@ -167,6 +176,11 @@ class Live:
         if not reply.startswith("refused") and line.split()[0] not in looks():
             self.held.append(line)
         return reply, below, None
+
+    def tried(self, kept, lines, question):
+        """The replies to some lines behind some edits, and the reply to a question behind them with the lines below."""
+        _, *replies, last, _ = self.asked(kept, ["begin", *lines, question, "rollback"])
+        return [reply for reply, _ in replies], last
 
     def listed(self, kept, bound):
         """The listing behind some edits. The numbers are taken back with a mark; where none can be made the process
