@@ -170,7 +170,7 @@ def cooked(text, folder):
             how = Typed("", given="".join(it + "\n" for it in given))
             it = run(line, how, folder)
             print(f"typed: {line}")
-            if it.stderr or not is_written(it.stdout.splitlines(), wanted):
+            if it.returncode > 1 or not is_written(it.stdout.splitlines(), wanted):
                 yield f"`{line}` writes {it.stdout[-600:]!r} {it.stderr.strip()[-300:]}"
 
 
