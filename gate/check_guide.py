@@ -2,8 +2,9 @@
 """Types the commands of README.md, docs/GUIDE.md, docs/REFUSALS.md, docs/FROM_MLIR_OPT.md and examples/README.md as
 they stand there, in a folder that has what is at the top of the repository, and looks at what they write. A command on
 those pages that isn't known here is a fault, and so is one that is known and isn't there. (What is typed in a session
-of docs/GUIDE.md is typed by tools/tests/test_pages.py.) What stands in docs/COOKBOOK.md it types too, and compares all
-that is written with what stands below it; a task there takes at most ten lines.
+of docs/GUIDE.md is typed by tools/tests/test_pages.py.) What stands in docs/COOKBOOK.md and in
+docs/LISTENER_TUTORIAL.md it types too, and compares all that is written with what stands below it; a task of the
+cookbook takes at most ten lines.
 
 usage: gate/check_guide.py [--all]     with --all also those that take minutes, since they build
 
@@ -25,7 +26,9 @@ import program  # noqa: E402
 
 ROOT = program.ROOT
 PAGES = ["README.md", "docs/GUIDE.md", "docs/REFUSALS.md", "docs/FROM_MLIR_OPT.md", "examples/README.md"]
-COOKBOOK, MOST_TYPED = "docs/COOKBOOK.md", 10
+COOKBOOK, TUTORIAL, MOST_TYPED = "docs/COOKBOOK.md", "docs/LISTENER_TUTORIAL.md", 10
+# What the tutorial copies and edits.
+EDITED = ["crates.txt", "crates/listeners_example", "crates/mlir_work/src"]
 BEGINS = ("./run", "./test", "rt ", "tools/", "mlir-opt ", "MLIR_WORK", "(cat ", "(head ", ".. | ", "tr ", "cat ")
 # Words in a sentence that are typed, and not only named.
 SAID = re.compile(r"MLIR_WORK\w*=\S+ .*|\./run .*|\./test.*|rt .*|tools/\w+\.(?:py|sh) .*|gate/check_\w+\.py|tr .*")
@@ -152,14 +155,15 @@ def is_written(lines, wanted):
     return re.fullmatch(r"(?:\n[^\n]*)*".join(parts), "\n".join(["", *lines])) is not None
 
 
+def lines_typed(text):
+    """How many lines a text has typed."""
+    return sum(len(re.findall(r"^[$>] ", block, re.M)) if kind == "console" else block.count("\n")
+               for kind, block in blocks(text))
+
+
 def cooked(text, folder):
-    """What is wrong with a task of the cookbook. A program there has its name in the first line."""
-    parts = blocks(text)
-    most = sum(len(re.findall(r"^[$>] ", block, re.M)) if kind == "console" else block.count("\n")
-               for kind, block in parts)
-    if most > MOST_TYPED:
-        yield f"{most} lines are typed"
-    for kind, block in parts:
+    """What is wrong with what a text has typed. A program there has its name in the first line."""
+    for kind, block in blocks(text):
         if kind == "python":
             (folder / block.split()[1]).write_text(block)
             continue
@@ -167,8 +171,10 @@ def cooked(text, folder):
             if re.search(r"\bmlir-opt\b", line) and not tool():
                 print(f"not typed, mlir-opt isn't installed: {line}")
                 continue
-            how = Typed("", given="".join(it + "\n" for it in given))
-            it = run(line, how, folder)
+            if line.startswith("cd "):
+                folder = folder / line[3:]
+                continue
+            it = run(line, Typed("", given="".join(it + "\n" for it in given)), folder)
             print(f"typed: {line}")
             if it.returncode > 1 or not is_written(it.stdout.splitlines(), wanted):
                 yield f"`{line}` writes {it.stdout[-600:]!r} {it.stderr.strip()[-300:]}"
@@ -179,8 +185,23 @@ def cookbook():
     for part in re.split(r"^## ", (ROOT / COOKBOOK).read_text(), flags=re.M)[1:]:
         with tempfile.TemporaryDirectory() as name:
             prepared(pathlib.Path(name))
-            title = part.partition("\n")[0]
+            title, most = part.partition("\n")[0], lines_typed(part)
             yield from (f"{COOKBOOK}, {title}: {fault}" for fault in cooked(part, pathlib.Path(name)))
+            if most > MOST_TYPED:
+                yield f"{COOKBOOK}, {title}: {most} lines are typed"
+
+
+def tutorial():
+    """What is wrong with what the tutorial has typed, but for what wants the kit."""
+    with tempfile.TemporaryDirectory() as name:
+        for path in EDITED:
+            copy = pathlib.Path(name) / path
+            copy.parent.mkdir(parents=True, exist_ok=True)
+            if (ROOT / path).is_dir():
+                shutil.copytree(ROOT / path, copy, ignore=shutil.ignore_patterns("out"))
+            else:
+                shutil.copy(ROOT / path, copy)
+        yield from (f"{TUTORIAL}: {fault}" for fault in cooked((ROOT / TUTORIAL).read_text(), pathlib.Path(name)))
 
 
 def main():
@@ -197,7 +218,7 @@ def main():
             said = "" if why else fault_of(command, how, pathlib.Path(name))
             print(f"not typed, {why}: {command}" if why else f"typed: {command}")
             faults += [f"{found[command]}: `{command}`: {said}"] if said else []
-    faults += cookbook()
+    faults += [*cookbook(), *tutorial()]
     print(*faults, f"{len(found)} commands, {len(faults)} faults", sep="\n")
     sys.exit(bool(faults))
 
