@@ -188,15 +188,29 @@ def pieces(steps, size):
     return [found[at:at + most] for at in range(0, len(found), most)]
 
 
+class Once:
+    """Lines and rows of many states, each of which is kept once, since most are those of the state before."""
+
+    def __init__(self):
+        self.known, self.lists = {}, {}
+
+    def list(self, name, things):
+        """A list of things, or the last one of its name where it is the same."""
+        if self.lists.get(name) != things and not isinstance(things, str):
+            self.lists[name] = [self.known.setdefault(it, it) for it in things]
+        return things if isinstance(things, str) else self.lists[name]
+
+
 def fill(module, steps):
     """Gives each step its state. Those that change nothing have that of the step before."""
     key, before = unused_key(module, [step.line for step in steps]), []
-    known = module.count(b'"(') + MADE_MOSTLY
+    known, once = module.count(b'"(') + MADE_MOSTLY, Once()
     for piece in pieces(steps, known):
         found = list(reported(module, before, piece))
         shown = listings(module, before, piece, [free for _, free in found], key)
-        for (step, lines), (rows, free), listing in zip(piece, found, shown):
-            before, known = before + lines, free or known + MADE_MOSTLY
-            step.state = State(keyed(listing or listed(module, before, known)), rows)
+        for (step, run), (rows, free), listing in zip(piece, found, shown):
+            before, known = before + run, free or known + MADE_MOSTLY
+            lines = once.list("", keyed(listing or listed(module, before, known)))
+            step.state = State(lines, {kind: once.list(kind, those) for kind, those in rows.items()})
     for last, step in zip(steps, steps[1:]):
         step.state = step.state or last.state

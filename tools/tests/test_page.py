@@ -245,6 +245,19 @@ class Clicked(unittest.TestCase):
         self.check(len(self.steps) - 1)
         self.here.press("ArrowLeft")
         self.check(len(self.steps) - 2)
+        self.here.value("get('steps').focus()")
+        self.here.press("ArrowUp")
+        self.check(len(self.steps) - 3)
+
+    def test_only_changes(self):
+        self.here.open(self.address)
+        self.here.point("document.getElementById('effective')", True)
+        self.here.press("ArrowRight")
+        self.check(2)
+        acting = [at for at, (step, last) in enumerate(zip(self.steps[1:], self.steps), 1)
+                  if vars(step.state) != vars(last.state)]
+        shown = self.here.value("items.filter(it => it.title === undefined).map(it => it.at)")
+        self.assertEqual(shown, [0, *acting])
 
     def test_at_a_step(self):
         self.here.open(self.address + "#step=4")

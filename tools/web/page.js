@@ -457,7 +457,16 @@ function partName(step) {
 }
 
 function select(row) {
-  if (row.dataset.step) row.setAttribute("aria-selected", Number(row.dataset.step) === now.number);
+  const isIt = Number(row.dataset.step) === now.number;
+  if (row.dataset.step) row.setAttribute("aria-selected", isIt);
+  if (isIt) get("steps").setAttribute("aria-activedescendant", row.id);
+}
+
+// The next step of those that are listed, or the one before.
+function walk(by) {
+  const listed = items.filter(it => it.title === undefined).map(it => it.at);
+  const to = by > 0 ? listed.find(at => at > now.number) : listed.findLast(at => at < now.number);
+  if (to !== undefined) go(to);
 }
 
 function stepRow(place) {
@@ -474,6 +483,7 @@ function stepRow(place) {
   }
   row.setAttribute("role", "option");
   row.dataset.step = at;
+  row.id = `step-${at}`;
   select(row);
   if (step.says) row.append(make("span", "count", make("span", "go", /\d+/.exec(step.reply)[0])));
   else if (at) row.append(make("span", "count", ...counts(step)));
@@ -604,7 +614,7 @@ for (const box of ["module", "rows", "detail", "told"].map(get)) {
 }
 
 const KEYS = {
-  ArrowLeft: () => go(now.number - 1), ArrowRight: () => go(now.number + 1), Home: () => go(0),
+  ArrowLeft: () => walk(-1), ArrowRight: () => walk(1), Home: () => go(0),
   End: () => go(steps.length - 1), n: () => change(1), p: () => change(-1), "/": () => get("find").focus(),
   u: nextUse, d: () => held && goTo(held.value ? makerOf(held.value) : held.op), Escape: () => hold(null),
   "?": () => get("keys").showModal(),
@@ -626,7 +636,8 @@ document.addEventListener("keydown", event => {
     return;
   }
   const tab = tabBeside(event), kind = kinds[Number(event.key) - 1];
-  const does = tab ? () => choose(tab) : kind ? () => choose(kind) : KEYS[event.key];
+  const by = event.target === get("steps") && {ArrowUp: -1, ArrowDown: 1}[event.key];
+  const does = by ? () => walk(by) : tab ? () => choose(tab) : kind ? () => choose(kind) : KEYS[event.key];
   if (!does || isSlider && /^(Arrow|Home|End)/.test(event.key)) return;
   event.preventDefault();
   does();
@@ -634,8 +645,8 @@ document.addEventListener("keydown", event => {
 
 get("slider").max = steps.length - 1;
 get("slider").addEventListener("input", event => go(Number(event.target.value)));
-get("previous").addEventListener("click", () => go(now.number - 1));
-get("next").addEventListener("click", () => go(now.number + 1));
+get("previous").addEventListener("click", () => walk(-1));
+get("next").addEventListener("click", () => walk(1));
 get("before").addEventListener("click", () => change(-1));
 get("behind").addEventListener("click", () => change(1));
 get("help").addEventListener("click", () => get("keys").showModal());
