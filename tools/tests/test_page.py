@@ -292,6 +292,12 @@ class Clicked(unittest.TestCase):
         self.assertIn("move #10 before #7refused 23 NotVisibleThe value can't be seen where", told)
         self.assertIn("A load must not be moved before the index that it reads at:", told)
 
+    def test_not_attached(self):
+        self.here.open(self.put("bare", page_of(example("fold")[0], b"detach uses\n")) + "#step=1")
+        self.assertEqual(self.texts("#rows .empty"), ["uses isn't told: refused 41 NoSuchKind"])
+        self.here.point("""document.querySelector('#module [data-value="%v2.0"]')""")
+        self.assertTrue(self.texts("#detail")[0].endswith("uses aren't told"))
+
     def test_find(self):
         self.here.open(self.address)
         self.here.press("/")

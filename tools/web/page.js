@@ -309,7 +309,8 @@ function describe(it) {
   const makes = it.value ? [value, it.value.startsWith("%a") ? " is an argument of " : " is a result of "] : [];
   const op = it.value ? makerOf(it.value) : it.op;
   box.replaceChildren(...makes, ref(op), " ", make("code", "op", nameOf(op)), it.value ? "" : ` ${toldOf(op)}`,
-    ` · ${many(uses.length, "use")}${uses.length ? ": " : ""}`, ...refs(uses));
+    steps[now.number].absent.uses ? " · uses aren't told" : ` · ${many(uses.length, "use")}${uses.length ? ": " : ""}`,
+    ...refs(uses));
 }
 
 // What the reports on operations say of one.
@@ -390,7 +391,8 @@ function showRows() {
   get("rows").setAttribute("aria-label", `${kind}: ${many(list.length, "row")}`);
   rowList.set(now.rowView.ids.length, longest(now.rowView.ids, data.rows[kind]) + 8);
   if (!now.rowView.ids.length) {
-    rowList.all.replaceChildren(make("div", "empty", absent || (other && list.length ? "No row changed" : "No rows")));
+    rowList.all.replaceChildren(make("div", "empty",
+      absent ? `${kind} isn't told: ${absent}` : other && list.length ? "No row changed" : "No rows"));
   }
   const first = now.rowView.marks.findIndex(Boolean);
   rowList.show(first);
@@ -507,7 +509,7 @@ function tell(step) {
   if (step.says) {
     const caret = `${" ".repeat(Math.max(step.column || 0, 0))}^`;
     if (step.column !== null) found.push(make("pre", "caret", caret));
-    found.push(make("div", "says", ...withRefs(step.says)));
+    found.push(make("div", "says", step.says));
     if (step.about !== null) found.push(make("div", "note", "Told of ", ref(step.about), ` ${nameOf(step.about)}`));
   }
   get("told").replaceChildren(...found);
