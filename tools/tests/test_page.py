@@ -293,7 +293,7 @@ class Clicked(unittest.TestCase):
         self.assertIn("A load must not be moved before the index that it reads at:", told)
 
     def test_not_attached(self):
-        self.here.open(self.put("bare", page_of(example("fold")[0], b"detach uses\n")) + "#step=1")
+        self.here.open(self.put("bare", page_of(example("fold")[0], b"detach uses\nprint\n")) + "#step=2")
         self.assertEqual(self.texts("#rows .empty"), ["uses isn't told: refused 41 NoSuchKind"])
         self.here.point("""document.querySelector('#module [data-value="%v2.0"]')""")
         self.assertTrue(self.texts("#detail")[0].endswith("uses aren't told"))
