@@ -14,6 +14,7 @@ NAME = "mlir-work"
 COMMANDS = {
     "open": ("a prompt over a module: lines are typed one by one, and each is answered at once", "prompt"),
     "reduce": ("a smaller module that still shows something", "reduce"),
+    "compare": ("whether two modules give the same, by running their functions on numbers", "comparison"),
     "explain": ("why what a script does was refused, in words", "explain"),
     "page": ("a page for a browser that shows a script over a module, step by step", "page"),
 }
