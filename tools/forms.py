@@ -53,6 +53,11 @@ def forms():
     return help_part("Commands", "Kinds")
 
 
+def looks():
+    """The commands that change nothing."""
+    return help_part("To look", "To edit")
+
+
 def kinds():
     """The kinds of analyses."""
     return list(help_part("Kinds", "Exit status"))

@@ -17,7 +17,9 @@ cp "$program" "$prefix/bin/mlir_work.new"
 chmod 755 "$prefix/bin/mlir_work.new"
 mv "$prefix/bin/mlir_work.new" "$prefix/bin/mlir_work"
 cp "$here"/tools/*.py "$share/tools"
+cp -R "$here/tools/web" "$share/tools"
 cp "$here/docs/REFUSALS.md" "$share/docs"
+cp "$here/docs/VERIFIER.md" "$share/docs"
 [ ! -f "$here/dist/MANIFEST" ] || cp "$here/dist/MANIFEST" "$share/dist"
 
 # All of these are made of one table, the help of the program that is installed.
