@@ -76,12 +76,19 @@ def make():
 
 
 def compare():
-    """Whether dist/ has what was built here; it is silent where dist/ is of other sources, or is the same."""
+    """Whether dist/ has what was built here, byte for byte where the kit is the one that built dist/; another kit may
+    make other bytes of the same sources, and then both have to answer the same, by all tests. It is silent where they
+    are the same bytes."""
     said = sources.entries(sources.MANIFEST)
     if said.get("sources") != sources.digest():
         print("dist/ is of other sources, so it isn't compared: `./run` builds; `tools/dist.sh` makes dist/ anew")
         return
     shipped, (program, _) = sources.unpacked(), built()
+    if said.get("kit") != kit():
+        print(f"dist/ was built by {said.get('kit')}, and this is {kit()}: its answers are tested, not its bytes",
+              flush=True)
+        sources.unpack()
+        sys.exit(subprocess.run([sources.ROOT / "test", sources.UNPACKED], check=False).returncode)
     if program != shipped:
         pairs = enumerate(zip(program, shipped))
         place = next((at for at, (one, other) in pairs if one != other), min(len(program), len(shipped)))

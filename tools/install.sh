@@ -17,6 +17,7 @@ cp "$program" "$prefix/bin/mlir_work.new"
 chmod 755 "$prefix/bin/mlir_work.new"
 mv "$prefix/bin/mlir_work.new" "$prefix/bin/mlir_work"
 cp "$here"/tools/*.py "$share/tools"
+cp -R "$here/tools/web" "$share/tools"
 cp "$here"/bench/reference/*.py "$share/bench/reference"
 for page in REFUSALS VERIFIER CANONICALIZE CONVERT REPORTS; do
     cp "$here/docs/$page.md" "$share/docs"

@@ -26,7 +26,7 @@ from listing import MADE  # noqa: E402
 
 WIDTH = 100
 # Commands that edit what they don't name: behind them stands what they changed, up to so many lines.
-WITH_DIFF, MOST_DIFF = {"canon", "convert", "sweep"}, 60
+WITH_DIFF, MOST_DIFF = {"apply", "canon", "convert", "sweep"}, 60
 # So many operations they make mostly for each that there is, and so many besides; so often a plain `canon` rewrites.
 MAKES, MADE_MOSTLY, LIMIT = {"canon": 2, "convert": 4}, 64, 1000
 # So many listings are kept.

@@ -1,7 +1,7 @@
 #!/usr/bin/env python3
-"""Writes stdin and stdout of crates/patterns_cases: a rule, an operation and a module a line, with the module that
-comes of it or that the rule doesn't apply. It prints how many there are of each rule. Run it at the top of the
-repository.
+"""Each rule at operations of modules: the module that comes of it, or that the rule doesn't apply. Those that a script
+can ask are golden files of tests/rules; those of a module whose ids are nearly used up, and how many operations a
+canonicalization looks at, are lines of crates/mlir_work_cases. `bench/cases/mlir_work_cases.py` writes both.
 
 Each rule has templates of modules at which it applies, in which `T` is a type and `$NAME` a number. Each is tried at
 every type that it is for; with each of its constants a little off, or none at all; with operands in the other order;
@@ -17,7 +17,7 @@ sys.dont_write_bytecode = True
 sys.path.append(str(pathlib.Path(__file__).resolve().parents[1]))  # bench/, where the other rooms are
 
 from reference import rewrites  # noqa: E402
-from reference.lines import Table, given, told  # noqa: E402
+from reference.lines import given, told  # noqa: E402
 from reference.module import read, rules, text_of  # noqa: E402
 
 MOST_NEXT = 4294967295
@@ -325,19 +325,27 @@ def swaps(count):
     return "".join(lines) + f'"test.use"(%x{count}) : (i32) -> ()\n'
 
 
-def main():
-    table, count = Table(), collections.Counter()
-    for rule, op, least, text, answer, after in itertools.chain(
-        with_ids(line for line in cases() if line[0] in WRITTEN), edges()):
+def asked(rule, op, text, answer, after):
+    """A script that applies a rule at an operation and prints the module, and what is written for it."""
+    shown = text_of(read(text.encode())) if after is None else after
+    reply = {"applied": "applied 1", "none": "applied 0"}.get(answer, f"refused {answer}")
+    script = f"{text}// -----\napply {rule} #{op}\nprint\n"
+    return script.encode(), (int(reply.startswith("refused")), f"1 {reply}\n2 ok\n{shown}".encode())
+
+
+def all_cases(case, line):
+    """All cases, and how many there are of each rule; `case` takes words, a text and an answer, `line` a line of
+    crates/mlir_work_cases and its answer."""
+    count = collections.Counter()
+    lines = with_ids(line for line in cases() if line[0] in WRITTEN)
+    for rule, op, least, text, answer, after in itertools.chain(lines, edges()):
         count[rule, after is not None] += 1
-        shown = told((text_of(read(text.encode())) if after is None else after).encode())
-        table.case(f"{rule} {op} {least} {given(text.encode())}", f"{answer} {shown}")
+        if least:
+            shown = told((text_of(read(text.encode())) if after is None else after).encode())
+            line(f"apply {rule} {op} {least} {given(text.encode())}", f"{answer} {shown}")
+        else:
+            case(["--brief"], *asked(rule, op, text, answer, after))
     for limit, answer in ((2000, "converged 1001 within"), (1000, "limit 1000 within")):
-        table.case(f"count {limit} 60000 {given(swaps(1001).encode())}", answer)
-    table.write("patterns_cases")
+        line(f"count {limit} 60000 {given(swaps(1001).encode())}", answer)
     for rule in WRITTEN:
-        print(f"{rule:3}: applies {count[rule, True]}, doesn't {count[rule, False]}")
-
-
-if __name__ == "__main__":
-    main()
+        print(f"rule {rule}: applies {count[rule, True]}, doesn't {count[rule, False]}")

@@ -161,6 +161,9 @@ EDGES = [
             '-> memref<i32>\n', []),
     (ONE + '%0 = "arith.select"(%one, %one, %one) : (i32, i32, i32) -> i32\n', ["#2 V2"]),
     (BOTH + TRUE + '%0 = "arith.select"(%true, %one, %two) : (i1, i32, i64) -> i64\n', ["#4 V2", "#4 V4"]),
+    # A third region is one too many, whatever stands in it, and then the blocks of none are looked at.
+    (TRUE + f'"scf.if"(%true) ({{\n{YIELD}}}, {{\n{YIELD}}}, {{\n{YIELD}}}) : (i1) -> ()\n', ["#2 V5"]),
+    (TRUE + f'"scf.if"(%true) ({{}}, {{}}, {{\n^bb0(%k: i32):\n{YIELD}}}) : (i1) -> ()\n', ["#2 V5"]),
     # Loops: bounds and step are of one T, and inits, results and arguments go together.
     (ONE + f'"scf.for"(%one, %one, %one) ({{\n^bb0(%k: i32):\n{YIELD}}}) : (i32, i32, i32) -> ()\n', []),
     (ONE + INDICES + f'"scf.for"(%i, %one, %i) ({{\n^bb0(%k: index):\n{YIELD}}}) : (index, i32, index) -> ()\n',

@@ -65,7 +65,7 @@ class Sources(unittest.TestCase):
 
     def shipped(self, program):
         sources.PACKED.write_bytes(lzma.compress(program))
-        sources.MANIFEST.write_text(f"sources: {sources.digest()}\nprogram: {sources.digest_of(program)}\n")
+        sources.MANIFEST.write_text(f"sources: {sources.digest()}\nprogram: {sources.digest_of(program)}\nkit: one\n")
 
     def test_a_changed_source_has_no_program(self):
         self.shipped(b"shipped")
@@ -95,15 +95,27 @@ class Sources(unittest.TestCase):
         with self.assertRaises(SystemExit):
             sources.program()
 
-    def test_another_program_than_the_built_one_is_found(self):
-        with mock.patch.object(dist, "stripped", lambda program: program):
+    def compared(self, shipped, kit):
+        """Compares what is shipped with a program that was built here by a kit."""
+        with mock.patch.multiple(dist, stripped=lambda program: program, kit=lambda: kit):
             sources.BUILT.write_bytes(b"built")
             sources.record(sources.digest())
-            self.shipped(b"built")
+            self.shipped(shipped)
             dist.compare()
-            self.shipped(b"bytes")
-            with self.assertRaises(SystemExit):
-                dist.compare()
+
+    def test_another_program_than_the_built_one_is_found(self):
+        self.compared(b"built", "one")
+        with self.assertRaises(SystemExit):
+            self.compared(b"bytes", "one")
+
+    def test_what_another_kit_built_is_asked_all_tests(self):
+        file = self.folder / "test"
+        file.write_text("#!/bin/sh\ngrep -q bytes $1\n")
+        file.chmod(0o755)
+        for shipped, status in (b"bytes", 0), (b"other", 1):
+            with self.assertRaises(SystemExit) as ended:
+                self.compared(shipped, "another")
+            self.assertEqual(ended.exception.code, status)
 
 
 @unittest.skipUnless(sys.platform == "linux", "programs are of Linux")

@@ -24,9 +24,10 @@ pub record Forgetting (ops : ℕ → Option Header) (x : ℕ) (t : Facts) (trail
   pub known : (y : ℕ) (v : Known) → t y ≡ Some v → ((d : ℕ) → In d rest → Uses ops d y → ⊥) → value ops t y ≡ Some v
   pub unknown : (y : ℕ) → t y ≡ None → (y ≡ x → ⊥) → (In y trail → ⊥) → value ops t y ≡ None
 
--- of the operations that P tells, some of which nothing was known were learnt, and added to the trail; where it is done,
--- those of which nothing is known give nothing, but where an operand was learnt
-pub record Learnt (done : Type 0) (ops : ℕ → Option Header) (P : ℕ → Type 0) (old new : Facts) (trail longer : List ℕ) : Type 0 where
+-- of the operations that P tells, some of which nothing was known were learnt, and added to the trail; where it is
+-- done, those of which nothing is known give nothing, but where an operand was learnt
+pub record Learnt (done : Type 0) (ops : ℕ → Option Header) (P : ℕ → Type 0) (old new : Facts)
+    (trail longer : List ℕ) : Type 0 where
   pub more : List ℕ
   pub is : longer ≡ trail ++ more
   pub once : OnceEach more
@@ -38,7 +39,8 @@ pub record Learnt (done : Type 0) (ops : ℕ → Option Header) (P : ℕ → Typ
   pub kept : done → (y : ℕ) → (In y more → ⊥) → new y ≡ old y
   pub settled : done → (y : ℕ) → P y → new y ≡ None → ((d : ℕ) → In d more → Uses ops d y → ⊥) → value ops new y ≡ None
 
--- a known value was written at x, and x was added to the trail; where it isn't done, the value alone may have been written
+-- a known value was written at x, and x was added to the trail; where it isn't done, the value alone may have been
+-- written
 abbrev pub Noted : Type 0 → ℕ → Known → Facts → Facts → List ℕ → List ℕ → Type 0
 Noted done x v old new trail longer =
     (((y : ℕ) → new y ≡ with_fact x (Some v) old y) × (longer ≡ trail ++ x ∷ []))
@@ -49,9 +51,10 @@ pub record Learning (ops : ℕ → Option Header) (t : Facts) (rest : List ℕ) 
   pub known : Follows ops t
   pub unknown : (y : ℕ) → t y ≡ None → ((d : ℕ) → In d rest → Uses ops d y → ⊥) → value ops t y ≡ None
 
--- what the second phase does, where `uses` counts the uses of an operation's results: the facts agree with the operations
--- where it is done, and it looks at what it learnt
-pub record LearntFrom (done : Type 0) (ops : ℕ → Option Header) (uses : ℕ → ℕ) (x : ℕ) (forgotten : List ℕ) (old new : Facts) (before after : ℕ) : Type 0 where
+-- what the second phase does, where `uses` counts the uses of an operation's results: the facts agree with the
+-- operations where it is done, and it looks at what it learnt
+pub record LearntFrom (done : Type 0) (ops : ℕ → Option Header) (uses : ℕ → ℕ) (x : ℕ) (forgotten : List ℕ)
+    (old new : Facts) (before after : ℕ) : Type 0 where
   pub trail : List ℕ
   pub path : IsTrail ops (λ y. (y ≡ x) ⊎ In y forgotten) new trail
   pub sound : Follows ops old → Follows ops new

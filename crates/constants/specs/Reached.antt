@@ -1,5 +1,6 @@
 -- Which operations an event reaches, and how often they may be looked at.
-use Rattle.std.specs.Prelude.{ℕ, ◌+◌, ◌*◌, ◌==◌, eqb, if◌then◌else◌, Bool, false, ◌||◌, ◌&&◌, List, [], ◌∷◌, length, is_some}
+use Rattle.std.specs.Prelude.{ℕ, ◌+◌, ◌*◌, ◌==◌, eqb, if◌then◌else◌, Bool, false, ◌||◌, ◌&&◌, List, [], ◌∷◌, length}
+use Rattle.std.specs.Prelude.{is_some}
 use Rattle.std.specs.List.{list_any}
 use Rattle.ir_tree.specs.declared.value.Value.{Value}
 use Rattle.ir_tree.specs.declared.value.Value.TheVariants.{Result, Arg}
@@ -45,7 +46,8 @@ with_op x b r y = if y == x then b else r y
 -- reached and whose result is known
 abbrev pub reached_along : (ℕ → Bool) → List Header → (ℕ → Bool) → ℕ → Bool
 reached_along knows [] r = r
-reached_along knows (h ∷ hs) r = reached_along knows hs (with_op h.id (r h.id || list_any (is_result_in (λ y. r y && knows y)) h.operands) r)
+reached_along knows (h ∷ hs) r =
+    reached_along knows hs (with_op h.id (r h.id || list_any (is_result_in (λ y. r y && knows y)) h.operands) r)
 
 -- those that a change of operation x reaches, where these facts were known before and after it
 abbrev pub reached : Facts → Facts → List Header → ℕ → ℕ → Bool

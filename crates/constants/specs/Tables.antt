@@ -41,7 +41,8 @@ users_of us = map (λ (u : ℕ × ℕ). u.0) us
 
 -- facts that agreed with operations that differ at x alone agree with these, where it is done
 abbrev pub Updated : Type 0 → (ℕ → Option Header) → ℕ → Facts → Facts → Type 0
-Updated done ops x a b = IsThere ops x → (was : ℕ → Option Header) → SameBut x was ops → AreLocal was a → done → AreLocal ops b
+Updated done ops x a b = IsThere ops x → (was : ℕ → Option Header) → SameBut x was ops → AreLocal was a → done
+    → AreLocal ops b
 
 -- whether nothing can be learnt by an event: a table that follows it takes no memory
 abbrev pub teaches_nothing : Event → Bool
@@ -62,12 +63,14 @@ FactsFollowed done ops (Shift x old new) a b = (y : ℕ) → b y ≡ a y
 -- the looks of an update of x in a tree: at no more than what it reaches
 abbrev pub LooksWithin : Operation → ℕ → Facts → ℕ → ℕ → Type 0
 LooksWithin t x a before after =
-    IsThere (look t) x → (was : ℕ → Option Header) → SameBut x was (look t) → AreLocal was a → AreOrdered [] (heads t) → after ≤ before + most_over (reached a (facts_of t) (heads t) x) (heads t)
+    IsThere (look t) x → (was : ℕ → Option Header) → SameBut x was (look t) → AreLocal was a → AreOrdered [] (heads t)
+    → after ≤ before + most_over (reached a (facts_of t) (heads t) x) (heads t)
 
 -- the same with one look to spare
 abbrev pub LooksRenewed : Operation → ℕ → Facts → ℕ → ℕ → Type 0
 LooksRenewed t x a before after =
-    IsThere (look t) x → (was : ℕ → Option Header) → SameBut x was (look t) → AreLocal was a → AreOrdered [] (heads t) → 1 + after ≤ before + most_over (reached a (facts_of t) (heads t) x) (heads t)
+    IsThere (look t) x → (was : ℕ → Option Header) → SameBut x was (look t) → AreLocal was a → AreOrdered [] (heads t)
+    → 1 + after ≤ before + most_over (reached a (facts_of t) (heads t) x) (heads t)
 
 -- those of following an event
 abbrev pub LooksFollowed : Operation → Event → Facts → ℕ → ℕ → Type 0
@@ -80,4 +83,5 @@ LooksFollowed t (Shift x old new) a before after = after ≡ before
 -- operations were folded one after another
 abbrev pub WalkedIds : (ℕ → Option Header) → List ℕ → Facts → Facts → Type 0
 WalkedIds ops [] a b = (y : ℕ) → b y ≡ a y
-WalkedIds ops (x ∷ xs) a b = (m : Facts) × (IsThere ops x → (y : ℕ) → m y ≡ with_fact x (value ops a x) a y) × WalkedIds ops xs m b
+WalkedIds ops (x ∷ xs) a b =
+    (m : Facts) × (IsThere ops x → (y : ℕ) → m y ≡ with_fact x (value ops a x) a y) × WalkedIds ops xs m b

@@ -38,4 +38,5 @@ Follows ops t = (y : ℕ) (v : Known) → t y ≡ Some v → value ops t y ≡ S
 pub record IsTrail (ops : ℕ → Option Header) (first : ℕ → Type 0) (t : Facts) (trail : List ℕ) : Type 0 where
   pub once : OnceEach trail
   pub known : (y : ℕ) → In y trail → IsKnown t y
-  pub reached : (r : ℕ → Bool) → ((y : ℕ) → first y → r y ≡ true) → ((d y : ℕ) → r d ≡ true → IsKnown t d → Uses ops d y → r y ≡ true) → (y : ℕ) → In y trail → r y ≡ true
+  pub reached : (r : ℕ → Bool) → ((y : ℕ) → first y → r y ≡ true)
+      → ((d y : ℕ) → r d ≡ true → IsKnown t d → Uses ops d y → r y ≡ true) → (y : ℕ) → In y trail → r y ≡ true

@@ -19,7 +19,8 @@ use std::collections::BTreeMap;
 
 /// Writes what is known of an operation's result, or that nothing is. It is false where memory was refused.
 fn write_found(table: &mut BTreeMap<OpId, Bits>, op: OpId, found: &Option<Bits>) -> bool
-    ensures { OnTrue result ((y : ℕ) → known_in table.new y ≡ with_fact op (known_of found.now) (known_in table.old) y) }
+    ensures { OnTrue result ((y : ℕ)
+        → known_in table.new y ≡ with_fact op (known_of found.now) (known_in table.old) y) }
 {
     match found {
         Some(bits) => note(table, op, bits),
@@ -32,7 +33,8 @@ fn write_found(table: &mut BTreeMap<OpId, Bits>, op: OpId, found: &Option<Bits>)
 
 /// Writes what an operation folds to, from what is known so far. It is false where memory was refused.
 fn enter(alloc: Global, world: &World, table: &mut BTreeMap<OpId, Bits>, op: OpId) -> bool
-    ensures { OnTrue result (IsThere (look_in world.now) op → (y : ℕ) → known_in table.new y ≡ with_fact op (value (look_in world.now) (known_in table.old) op) (known_in table.old) y) }
+    ensures { OnTrue result (IsThere (look_in world.now) op → (y : ℕ) → known_in table.new y
+        ≡ with_fact op (value (look_in world.now) (known_in table.old) op) (known_in table.old) y) }
 {
     let mut view = View::new(world);
     match folded(alloc, &mut view, table, op) {
@@ -55,7 +57,8 @@ fn enter_all(alloc: Global, world: &World, ops: &[OpId], table: &mut BTreeMap<Op
 
 /// Writes what the operations of a world's module fold to, in order. It is false where memory was refused.
 pub(crate) fn enter_module(alloc: Global, world: &World, table: &mut BTreeMap<OpId, Bits>) -> bool
-    ensures { OnTrue result (WalkedIds (look_in world.now) (ids world.now.store.module_of.tree) (known_in table.old) (known_in table.new)) }
+    ensures { OnTrue result (WalkedIds (look_in world.now) (ids world.now.store.module_of.tree) (known_in table.old)
+        (known_in table.new)) }
 {
     let Ok(ops) = world.store.operations() else {
         return false;

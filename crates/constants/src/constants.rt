@@ -67,11 +67,18 @@ impl Analysis for Constants {
 
     /// Where it agreed before an operation was taken or moved it agrees afterwards, and isn't stale.
     fn told<'a>(&mut self, view: View<'a>, event: Event) -> View<'a>
-        ensures told { Told event (things_in view.entry.world.now) (module_in view.entry.world.now) (shown_in view.entry.world.now) (constants_listener self.old) (constants_listener self.new) }
-        ensures looks { (m : Module) → Step (things_in view.entry.world.now) event m (module_in view.entry.world.now) → ShowsTaken event m (shown_in view.entry.world.now)
-            → ((constants_listener self.old).agrees (things_in view.entry.world.now) m ⊎ ((constants_listener self.old).stale ≡ true)) → result.looks ≤ view.entry.looks + (constants_listener self.old).most event m (module_in view.entry.world.now) }
+        ensures told { Told event (things_in view.entry.world.now) (module_in view.entry.world.now)
+            (shown_in view.entry.world.now) (constants_listener self.old) (constants_listener self.new) }
+        ensures looks { (m : Module) → Step (things_in view.entry.world.now) event m (module_in view.entry.world.now)
+            → ShowsTaken event m (shown_in view.entry.world.now)
+            → ((constants_listener self.old).agrees (things_in view.entry.world.now) m
+            ⊎ ((constants_listener self.old).stale ≡ true)) → result.looks
+            ≤ view.entry.looks + (constants_listener self.old).most event m (module_in view.entry.world.now) }
         ensures world { result.world.now ≡ view.entry.world.now }
-        ensures grown { (m : Module) → teaches_nothing event ≡ true → Step (things_in view.entry.world.now) event m (module_in view.entry.world.now) → (constants_listener self.old).agrees (things_in view.entry.world.now) m → (constants_listener self.new).agrees (things_in view.entry.world.now) (module_in view.entry.world.now) }
+        ensures grown { (m : Module) → teaches_nothing event ≡ true
+            → Step (things_in view.entry.world.now) event m (module_in view.entry.world.now)
+            → (constants_listener self.old).agrees (things_in view.entry.world.now) m
+            → (constants_listener self.new).agrees (things_in view.entry.world.now) (module_in view.entry.world.now) }
     {
         if self.stale {
             return view;

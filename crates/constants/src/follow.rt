@@ -4,7 +4,8 @@ ghost use Rattle.ir_event.specs.Modules.{module_in};
 ghost use Rattle.constants.specs.Facts.{value};
 ghost use Rattle.dialects_int.specs.Folds.{known_of};
 ghost use Rattle.constants.specs.Trails.{IsThere};
-ghost use Rattle.constants.specs.Tables.{known_in, look_in, teaches_nothing, Updated, FactsFollowed, LooksRenewed, LooksWithin, LooksFollowed};
+ghost use Rattle.constants.specs.Tables.{known_in, look_in, teaches_nothing, Updated, FactsFollowed, LooksRenewed};
+ghost use Rattle.constants.specs.Tables.{LooksWithin, LooksFollowed};
 
 use crate::forget::forget_from;
 use crate::learn::learn_from;
@@ -30,7 +31,8 @@ fn are_same(one: &Option<Bits>, other: &Option<Bits>) -> bool
 
 /// Whether an operation is seen to fold to what is known of its result.
 fn is_settled(alloc: Global, view: &mut View<'_>, table: &BTreeMap<OpId, Bits>, op: OpId) -> bool
-    ensures settled { result ≡ true → IsThere (look_in view.old.world.now) op → known_in table.now op ≡ value (look_in view.old.world.now) (known_in table.now) op }
+    ensures settled { result ≡ true → IsThere (look_in view.old.world.now) op
+        → known_in table.now op ≡ value (look_in view.old.world.now) (known_in table.now) op }
     ensures looks { view.new.looks ≤ view.old.looks + 1 }
     ensures world { view.new.world.now ≡ view.old.world.now }
 {
@@ -43,8 +45,10 @@ fn is_settled(alloc: Global, view: &mut View<'_>, table: &BTreeMap<OpId, Bits>, 
 /// Forgets what may have changed with an operation, then learns what can be known. It is false where memory was
 /// refused.
 fn renew(alloc: Global, table: &mut BTreeMap<OpId, Bits>, view: &mut View<'_>, op: OpId) -> bool
-    ensures updated { Updated (result ≡ true) (look_in view.old.world.now) op (known_in table.old) (known_in table.new) }
-    ensures looks { LooksRenewed (module_in view.old.world.now).tree op (known_in table.old) view.old.looks view.new.looks }
+    ensures updated { Updated (result ≡ true) (look_in view.old.world.now) op (known_in table.old)
+        (known_in table.new) }
+    ensures looks { LooksRenewed (module_in view.old.world.now).tree op
+        (known_in table.old) view.old.looks view.new.looks }
     ensures world { view.new.world.now ≡ view.old.world.now }
 {
     let mut forgotten = Vec::new(alloc);
@@ -54,11 +58,13 @@ fn renew(alloc: Global, table: &mut BTreeMap<OpId, Bits>, view: &mut View<'_>, o
     learn_from(alloc, view, table, op, &forgotten)
 }
 
-/// Follows a change of one operation. Where it folds to what is known of its result all stays as it is. It is false where
-/// memory was refused.
+/// Follows a change of one operation. Where it folds to what is known of its result all stays as it is. It is false
+/// where memory was refused.
 fn update(alloc: Global, table: &mut BTreeMap<OpId, Bits>, view: &mut View<'_>, op: OpId) -> bool
-    ensures updated { Updated (result ≡ true) (look_in view.old.world.now) op (known_in table.old) (known_in table.new) }
-    ensures looks { LooksWithin (module_in view.old.world.now).tree op (known_in table.old) view.old.looks view.new.looks }
+    ensures updated { Updated (result ≡ true) (look_in view.old.world.now) op (known_in table.old)
+        (known_in table.new) }
+    ensures looks { LooksWithin (module_in view.old.world.now).tree op
+        (known_in table.old) view.old.looks view.new.looks }
     ensures world { view.new.world.now ≡ view.old.world.now }
 {
     if is_settled(alloc, view, table, op) {
@@ -74,8 +80,10 @@ pub(crate) fn follow(
     view: &mut View<'_>,
     event: &Event,
 ) -> bool
-    ensures followed { FactsFollowed (result ≡ true) (look_in view.old.world.now) event.now (known_in table.old) (known_in table.new) }
-    ensures looks { LooksFollowed (module_in view.old.world.now).tree event.now (known_in table.old) view.old.looks view.new.looks }
+    ensures followed { FactsFollowed (result ≡ true) (look_in view.old.world.now) event.now (known_in table.old)
+        (known_in table.new) }
+    ensures looks { LooksFollowed (module_in view.old.world.now).tree event.now
+        (known_in table.old) view.old.looks view.new.looks }
     ensures grown { teaches_nothing event.now ≡ true → result ≡ true }
     ensures world { view.new.world.now ≡ view.old.world.now }
 {

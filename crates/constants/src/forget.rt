@@ -27,7 +27,8 @@ pub(crate) fn push(trail: &mut Vec<OpId>, op: OpId) -> bool
 /// Forgets what is known of an operation's result, and adds it to the trail if something was known. It is false
 /// where memory was refused.
 fn forget(table: &mut BTreeMap<OpId, Bits>, op: OpId, trail: &mut Vec<OpId>) -> bool
-    ensures { Forgotten (result ≡ true) (λ y. y ≡ op) (known_in table.old) (known_in table.new) trail.old.items trail.new.items }
+    ensures { Forgotten (result ≡ true) (λ y. y ≡ op) (known_in table.old)
+        (known_in table.new) trail.old.items trail.new.items }
 {
     let Some(_) = fact(table, op) else {
         return true;
@@ -41,7 +42,8 @@ fn forget(table: &mut BTreeMap<OpId, Bits>, op: OpId, trail: &mut Vec<OpId>) -> 
 
 /// Forgets the operations of these uses.
 fn forget_all(table: &mut BTreeMap<OpId, Bits>, uses: UsesOf<'_>, trail: &mut Vec<OpId>) -> bool
-    ensures { Forgotten (result ≡ true) (λ y. In y (users_of uses.entry)) (known_in table.old) (known_in table.new) trail.old.items trail.new.items }
+    ensures { Forgotten (result ≡ true) (λ y. In y (users_of uses.entry)) (known_in table.old)
+        (known_in table.new) trail.old.items trail.new.items }
 {
     for (user, _) in uses {
         if !forget(table, user, trail) {
@@ -58,7 +60,8 @@ fn forget_users(
     op: OpId,
     trail: &mut Vec<OpId>,
 ) -> bool
-    ensures forgotten { Forgotten (result ≡ true) (Uses (look_in view.old.world.now) op) (known_in table.old) (known_in table.new) trail.old.items trail.new.items }
+    ensures forgotten { Forgotten (result ≡ true) (Uses (look_in view.old.world.now) op) (known_in table.old)
+        (known_in table.new) trail.old.items trail.new.items }
     ensures looks { view.new.looks ≤ view.old.looks + (1 + uses_in view.old.world.now op) }
     ensures world { view.new.world.now ≡ view.old.world.now }
 {
@@ -74,7 +77,8 @@ pub(crate) fn forget_from(
     trail: &mut Vec<OpId>,
 ) -> bool
     requires { trail.old.items ≡ [] }
-    ensures forgotten { result ≡ true → (was : ℕ → Option Header) → SameBut op was (look_in view.old.world.now) → AreLocal was (known_in table.old)
+    ensures forgotten { result ≡ true → (was : ℕ → Option Header) → SameBut op was (look_in view.old.world.now)
+        → AreLocal was (known_in table.old)
         → Forgetting (look_in view.old.world.now) op (known_in table.new) trail.new.items [] }
     ensures trail { IsTrail (look_in view.old.world.now) (λ y. y ≡ op) (known_in table.old) trail.new.items }
     ensures looks { view.new.looks ≤ view.old.looks + total (λ d. 1 + uses_in view.old.world.now d) trail.new.items }

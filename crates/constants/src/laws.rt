@@ -10,6 +10,8 @@ ghost use Rattle.constants.specs.Walk.{facts_of};
 /// What a walk in order finds agrees with each operation looked at alone, and nothing else does, where operations
 /// see their operands.
 pub fn the_walk_is_what_agrees_with_each_operation()
-    ensures agrees { (t : Operation) → HasDistinctIds t → IsTrue (operands_visible is_isolated t) → AreLocal (look t) (facts_of t) }
-    ensures alone { (t : Operation) (facts : Facts) → HasDistinctIds t → IsTrue (operands_visible is_isolated t) → AreLocal (look t) facts → (x : ℕ) → facts x ≡ facts_of t x }
+    ensures agrees { (t : Operation) → HasDistinctIds t → IsTrue (operands_visible is_isolated t)
+        → AreLocal (look t) (facts_of t) }
+    ensures alone { (t : Operation) (facts : Facts) → HasDistinctIds t → IsTrue (operands_visible is_isolated t)
+        → AreLocal (look t) facts → (x : ℕ) → facts x ≡ facts_of t x }
 {}

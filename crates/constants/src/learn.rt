@@ -19,7 +19,8 @@ use std::collections::BTreeMap;
 
 /// Writes a value, and adds the operation to the trail. It is false where memory was refused.
 fn note_on(table: &mut BTreeMap<OpId, Bits>, op: OpId, bits: &Bits, trail: &mut Vec<OpId>) -> bool
-    ensures { Noted (result ≡ true) op (bits.now.kind, bits.now.value) (known_in table.old) (known_in table.new) trail.old.items trail.new.items }
+    ensures { Noted (result ≡ true) op (bits.now.kind, bits.now.value) (known_in table.old)
+        (known_in table.new) trail.old.items trail.new.items }
 {
     if !note(table, op, bits) {
         return false;
@@ -34,7 +35,9 @@ fn note_found(
     found: &Option<Bits>,
     trail: &mut Vec<OpId>,
 ) -> bool
-    ensures { (ops : ℕ → Option Header) → known_in table.old op ≡ None → known_of found.now ≡ value ops (known_in table.old) op → Learnt (result ≡ true) ops (λ y. y ≡ op) (known_in table.old) (known_in table.new) trail.old.items trail.new.items }
+    ensures { (ops : ℕ → Option Header) → known_in table.old op ≡ None
+        → known_of found.now ≡ value ops (known_in table.old) op → Learnt (result ≡ true) ops (λ y. y ≡ op)
+        (known_in table.old) (known_in table.new) trail.old.items trail.new.items }
 {
     match found {
         Some(bits) => note_on(table, op, bits, trail),
@@ -51,7 +54,8 @@ fn learn(
     op: OpId,
     trail: &mut Vec<OpId>,
 ) -> bool
-    ensures learnt { IsThere (look_in view.old.world.now) op → Learnt (result ≡ true) (look_in view.old.world.now) (λ y. y ≡ op) (known_in table.old) (known_in table.new) trail.old.items trail.new.items }
+    ensures learnt { IsThere (look_in view.old.world.now) op → Learnt (result ≡ true) (look_in view.old.world.now)
+        (λ y. y ≡ op) (known_in table.old) (known_in table.new) trail.old.items trail.new.items }
     ensures looks { view.new.looks ≤ view.old.looks + 1 }
     ensures world { view.new.world.now ≡ view.old.world.now }
 {
@@ -73,7 +77,8 @@ fn learn_uses(
     trail: &mut Vec<OpId>,
 ) -> bool
     ensures learnt { ((y : ℕ) → In y (users_of uses.entry) → IsThere (look_in view.old.world.now) y)
-        → Learnt (result ≡ true) (look_in view.old.world.now) (λ y. In y (users_of uses.entry)) (known_in table.old) (known_in table.new) trail.old.items trail.new.items }
+        → Learnt (result ≡ true) (look_in view.old.world.now) (λ y. In y (users_of uses.entry)) (known_in table.old)
+        (known_in table.new) trail.old.items trail.new.items }
     ensures looks { view.new.looks ≤ view.old.looks + length uses.entry }
     ensures world { view.new.world.now ≡ view.old.world.now }
 {
@@ -94,7 +99,8 @@ fn learn_all(
     trail: &mut Vec<OpId>,
 ) -> bool
     ensures learnt { ((y : ℕ) → In y ops.now → IsThere (look_in view.old.world.now) y)
-        → Learnt (result ≡ true) (look_in view.old.world.now) (λ y. In y ops.now) (known_in table.old) (known_in table.new) trail.old.items trail.new.items }
+        → Learnt (result ≡ true) (look_in view.old.world.now) (λ y. In y ops.now) (known_in table.old)
+        (known_in table.new) trail.old.items trail.new.items }
     ensures looks { view.new.looks ≤ view.old.looks + length ops.now }
     ensures world { view.new.world.now ≡ view.old.world.now }
 {
@@ -115,8 +121,10 @@ fn learn_first(
     forgotten: &[OpId],
     trail: &mut Vec<OpId>,
 ) -> bool
-    ensures learnt { IsThere (look_in view.old.world.now) op → ((y : ℕ) → In y forgotten.now → IsThere (look_in view.old.world.now) y)
-        → Learnt (result ≡ true) (look_in view.old.world.now) (λ y. (y ≡ op) ⊎ In y forgotten.now) (known_in table.old) (known_in table.new) trail.old.items trail.new.items }
+    ensures learnt { IsThere (look_in view.old.world.now) op
+        → ((y : ℕ) → In y forgotten.now → IsThere (look_in view.old.world.now) y)
+        → Learnt (result ≡ true) (look_in view.old.world.now) (λ y. (y ≡ op) ⊎ In y forgotten.now) (known_in table.old)
+        (known_in table.new) trail.old.items trail.new.items }
     ensures looks { view.new.looks ≤ view.old.looks + (1 + length forgotten.now) }
     ensures world { view.new.world.now ≡ view.old.world.now }
 {
@@ -134,8 +142,10 @@ fn learn_users(
     op: OpId,
     trail: &mut Vec<OpId>,
 ) -> bool
-    ensures learnt { Learnt (result ≡ true) (look_in view.old.world.now) (Uses (look_in view.old.world.now) op) (known_in table.old) (known_in table.new) trail.old.items trail.new.items }
-    ensures looks { view.new.looks ≤ view.old.looks + (1 + uses_in view.old.world.now op + uses_in view.old.world.now op) }
+    ensures learnt { Learnt (result ≡ true) (look_in view.old.world.now) (Uses (look_in view.old.world.now) op)
+        (known_in table.old) (known_in table.new) trail.old.items trail.new.items }
+    ensures looks { view.new.looks
+        ≤ view.old.looks + (1 + uses_in view.old.world.now op + uses_in view.old.world.now op) }
     ensures world { view.new.world.now ≡ view.old.world.now }
 {
     let uses = uses_of(view, op);
@@ -151,8 +161,10 @@ pub(crate) fn learn_from(
     op: OpId,
     forgotten: &[OpId],
 ) -> bool
-    ensures learnt { IsThere (look_in view.old.world.now) op → ((y : ℕ) → In y forgotten.now → IsThere (look_in view.old.world.now) y)
-        → LearntFrom (result ≡ true) (look_in view.old.world.now) (uses_in view.old.world.now) op forgotten.now (known_in table.old) (known_in table.new) view.old.looks view.new.looks }
+    ensures learnt { IsThere (look_in view.old.world.now) op
+        → ((y : ℕ) → In y forgotten.now → IsThere (look_in view.old.world.now) y)
+        → LearntFrom (result ≡ true) (look_in view.old.world.now) (uses_in view.old.world.now) op forgotten.now
+        (known_in table.old) (known_in table.new) view.old.looks view.new.looks }
     ensures world { view.new.world.now ≡ view.old.world.now }
 {
     let mut trail = Vec::new(alloc);

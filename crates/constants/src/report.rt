@@ -24,7 +24,8 @@ fn line(alloc: Global, op: OpId, bits: &Bits) -> Result<Row, AllocError>
 
 /// Adds the row of a known value.
 fn push_line(alloc: Global, op: OpId, bits: &Bits, out: &mut Vec<Row>) -> Result<(), AllocError>
-    ensures { OnOk result (map (λ (r : Line). r.cells.items) out.new.items ≡ map (λ (r : Line). r.cells.items) out.old.items ++ cells_of (op, bits.now) ∷ []) }
+    ensures { OnOk result (map (λ (r : Line). r.cells.items) out.new.items
+        ≡ map (λ (r : Line). r.cells.items) out.old.items ++ cells_of (op, bits.now) ∷ []) }
 {
     out.push(line(alloc, op, bits)?)?;
     Ok(())
@@ -36,7 +37,8 @@ fn push_lines(
     table: &BTreeMap<OpId, Bits>,
     out: &mut Vec<Row>,
 ) -> Result<(), AllocError>
-    ensures { OnOk result (map (λ (r : Line). r.cells.items) out.new.items ≡ map (λ (r : Line). r.cells.items) out.old.items ++ map cells_of table.now.entries) }
+    ensures { OnOk result (map (λ (r : Line). r.cells.items) out.new.items
+        ≡ map (λ (r : Line). r.cells.items) out.old.items ++ map cells_of table.now.entries) }
 {
     for (op, bits) in table {
         push_line(alloc, *op, bits, out)?;

@@ -28,7 +28,8 @@ pub(crate) fn drop_fact(table: &mut BTreeMap<OpId, Bits>, op: OpId)
 
 /// Writes what is known of an operation's result. It is false where memory was refused.
 pub(crate) fn note(table: &mut BTreeMap<OpId, Bits>, op: OpId, bits: &Bits) -> bool
-    ensures noted { OnTrue result ((y : ℕ) → known_in table.new y ≡ with_fact op (known_of (Some bits.now)) (known_in table.old) y) }
+    ensures noted { OnTrue result
+        ((y : ℕ) → known_in table.new y ≡ with_fact op (known_of (Some bits.now)) (known_in table.old) y) }
     ensures refused { result ≡ false → (y : ℕ) → known_in table.new y ≡ known_in table.old y }
 {
     match table.insert(op, *bits) {

@@ -33,7 +33,9 @@ pub(crate) fn folded(
     table: &BTreeMap<OpId, Bits>,
     op: OpId,
 ) -> Result<Option<Bits>, AllocError>
-    ensures value { IfOk result (λ r. IsThere (look_in view.old.world.now) op → known_of r ≡ value (look_in view.old.world.now) (known_in table.now) op) }
+    ensures value { IfOk result
+        (λ r. IsThere (look_in view.old.world.now) op
+        → known_of r ≡ value (look_in view.old.world.now) (known_in table.now) op) }
     ensures looks { view.new.looks ≤ view.old.looks + 1 }
     ensures world { view.new.world.now ≡ view.old.world.now }
 {

@@ -15,8 +15,8 @@ seen b = record { things = b.desk.ctx; held = module_held b.desk; marks = open_m
 abbrev pub desk_of : {B : Type 0} → Benched B → Held
 desk_of b = b.desk
 
--- where one holds a context as it has to be, so does the other; and the listeners were told of what led from the one module to
--- the other, and of nothing else
+-- where one holds a context as it has to be, so does the other; and the listeners were told of what led from the one
+-- module to the other, and of nothing else
 module _ {B : Type 0} (meaning : B → Listener) where
   abbrev pub LedOn : Benched B → Benched B → Type 0
   LedOn a b = Holds a.desk.ctx → Holds b.desk.ctx × Led meaning a b

@@ -31,7 +31,14 @@ rules_of (n ∷ ns) = option_and_then (λ r. option_map (λ rs. r ∷ rs) (rules
 -- what the target of a command aims at, if each of its numbers names a rule
 abbrev pub command_aim : Target → Option Aim
 command_aim t =
-    option_map (λ rules. record { full = t.full; legal = t.legal; illegal = t.illegal; dynamic = t.dynamic; rules = rules; depth = t.depth })
+    option_map (λ rules. record {
+      full = t.full;
+      legal = t.legal;
+      illegal = t.illegal;
+      dynamic = t.dynamic;
+      rules = rules;
+      depth = t.depth;
+    })
     (rules_of t.rules)
 
 -- a module converted, where there is something to aim at

@@ -1,5 +1,6 @@
 -- What a bench holds, as conversions see it, and what their parts make of it.
-use Rattle.std.specs.Prelude.{◌≡◌, ℕ, ◌≤◌, List, [], ◌∷◌, ◌++◌, Bool, true, false, ◌⊎◌, length, if◌then◌else◌, Option, Result, Ok, Err, None}
+use Rattle.std.specs.Prelude.{◌≡◌, ℕ, ◌≤◌, List, [], ◌∷◌, ◌++◌, Bool, true, false, ◌⊎◌, length, if◌then◌else◌, Option}
+use Rattle.std.specs.Prelude.{Result, Ok, Err, None}
 use Rattle.ir_types.specs.Things.{Things, Grows}
 use Rattle.ir_types.specs.declared.refusal.Refusal.{Refusal}
 use Rattle.ir_types.specs.declared.refusal.Refusal.TheVariants.{Memory, Full}
@@ -24,8 +25,8 @@ pub record State : Type 0 where
 abbrev pub marked_desk : Held → Held
 marked_desk h = record h { marks = h.marks ++ record { length = length h.journal; counted = false } ∷ [] }
 
--- the context stays or grows, the marks stay, what is noted where one is open comes behind what was, and those who listen
--- are led on
+-- the context stays or grows, the marks stay, what is noted where one is open comes behind what was, and those who
+-- listen are led on
 pub record Leads {S : Type 0} (state : S → State) (desk : S → Held) (led : S → S → Type 0) (old new : S) : Type 0 where
   pub grows : Grows (state old).things (state new).things
   pub marks : (state new).marks ≡ (state old).marks
@@ -38,11 +39,13 @@ marked s = record { things = s.things; held = s.held; marks = record { marked = 
 
 -- the newest mark was dropped, and the module stays
 abbrev pub Committed : State → State → Type 0
-Committed old new = (k : OpenMark) (ks : List OpenMark) → old.marks ≡ k ∷ ks → new ≡ record { things = old.things; held = old.held; marks = ks }
+Committed old new = (k : OpenMark) (ks : List OpenMark) → old.marks ≡ k ∷ ks
+    → new ≡ record { things = old.things; held = old.held; marks = ks }
 
 -- or the module of the mark is held again
 abbrev pub RolledBack : State → State → Type 0
-RolledBack old new = (k : OpenMark) (ks : List OpenMark) → old.marks ≡ k ∷ ks → new ≡ record { things = old.things; held = k.marked; marks = ks }
+RolledBack old new = (k : OpenMark) (ks : List OpenMark) → old.marks ≡ k ∷ ks
+    → new ≡ record { things = old.things; held = k.marked; marks = ks }
 
 -- a context that takes no more
 abbrev pub IsFull : Things → Type 0
@@ -54,8 +57,8 @@ IsWant c e = (e ≡ Memory) ⊎ ((e ≡ Full) × IsFull c)
 
 -- ---- rules
 
--- an answer, and how the call of a rule ended: whether it applied, or a refusal, which is the answer's or a want, and leaves
--- the module
+-- an answer, and how the call of a rule ended: whether it applied, or a refusal, which is the answer's or a want, and
+-- leaves the module
 abbrev pub Applied : Rewrite → Bool → Module → Module → Type 0
 Applied none done m n = (done ≡ false) × (n ≡ m)
 Applied (becomes p) done m n = (done ≡ true) × (n ≡ p)
@@ -88,8 +91,8 @@ FreedIf false gs f passed again passed2 again2 = (passed2 ≡ passed) × (again2
 
 -- ---- legalising
 
--- an outcome, and how a try to get there ended: where it fails or is refused, the module stays; a refusal is the outcome's, or
--- a want
+-- an outcome, and how a try to get there ended: where it fails or is refused, the module stays; a refusal is the
+-- outcome's, or a want
 abbrev pub Told : Outcome → Tried → Module → Module → Type 0
 Told (legalised p k deep) t m n = (t.legal ≡ true) × ((t.count ≡ k) × ((t.met ≡ deep) × (n ≡ p)))
 Told (failed deep) t m n = (t.legal ≡ false) × ((t.met ≡ deep) × (n ≡ m))
@@ -121,11 +124,13 @@ went_well (Err e) = false
 
 -- the newest mark was dropped, and the module stays or not
 abbrev pub Closed : Bool → State → State → Type 0
-Closed stays old new = (k : OpenMark) (ks : List OpenMark) → old.marks ≡ k ∷ ks → new ≡ record { things = old.things; held = if stays then old.held else k.marked; marks = ks }
+Closed stays old new = (k : OpenMark) (ks : List OpenMark) → old.marks ≡ k ∷ ks
+    → new ≡ record { things = old.things; held = if stays then old.held else k.marked; marks = ks }
 
 -- ---- converting
 
--- an end, and how a call came to it, behind a mark: where it is given up, the module may be any. A fault is the end's, or a want
+-- an end, and how a call came to it, behind a mark: where it is given up, the module may be any. A fault is the end's,
+-- or a want
 abbrev pub Wants : Things → Fault → Type 0
 Wants c f = (f.id ≡ None) × IsWant c f.refusal
 

@@ -4,7 +4,8 @@ use Rattle.ir_tree_laws.specs.Members.{In}
 
 -- place p is taken, the first that waits: of those that are to be looked at again, or the next one
 pub data Took (passed : ℕ) (again : List ℕ) (passed2 : ℕ) (again2 : List ℕ) (p : ℕ) : Type 0 where
-  of_again : again ≡ p ∷ again2 → passed2 ≡ passed → ((q : ℕ) → In q again2 → p < q) → Took passed again passed2 again2 p
+  of_again : again ≡ p ∷ again2 → passed2 ≡ passed → ((q : ℕ) → In q again2 → p < q)
+      → Took passed again passed2 again2 p
   of_next : again ≡ [] → again2 ≡ [] → p ≡ passed → passed2 ≡ suc passed → Took passed again passed2 again2 p
 
 -- each operation of a list is at its place
@@ -12,14 +13,15 @@ abbrev pub ArePlaces : List ℕ → (ℕ → Option ℕ) → Type 0
 ArePlaces xs f = (q x : ℕ) → slice_get xs q ≡ Some x → f x ≡ Some q
 
 -- the passed places of some operations are to be looked at again, beside others
-pub record Again (gs : List ℕ) (f : ℕ → Option ℕ) (passed : ℕ) (again : List ℕ) (passed2 : ℕ) (again2 : List ℕ) : Type 0 where
+pub record Again (gs : List ℕ) (f : ℕ → Option ℕ) (passed : ℕ) (again : List ℕ) (passed2 : ℕ)
+    (again2 : List ℕ) : Type 0 where
   pub same : passed2 ≡ passed
   pub more : (q : ℕ) → In q again → In q again2
   pub within : (q : ℕ) → In q again2 → In q again ⊎ (q < passed)
   pub added : (g q : ℕ) → In g gs → f g ≡ Some q → q < passed → In q again2
 
--- where an operation was taken away to which some gave operands, these are looked at again; if it isn't known which they
--- are, all places wait
+-- where an operation was taken away to which some gave operands, these are looked at again; if it isn't known which
+-- they are, all places wait
 abbrev pub Freed : Option (List ℕ) → (ℕ → Option ℕ) → ℕ → List ℕ → ℕ → List ℕ → Type 0
 Freed None f passed again passed2 again2 = (passed2 ≡ 0) × (again2 ≡ [])
 Freed (Some gs) f passed again passed2 again2 = Again gs f passed again passed2 again2

@@ -23,8 +23,8 @@ NoRule x m = is_inner x m ≡ true → edits_of CastBack m x ≡ None
 abbrev pub Gives : List ℕ → ℕ → Operation → Type 0
 Gives gs x t = (o : Operation) → find x t ≡ Some o → (regions o ≡ no_regions) × (gs ≡ givers_of (head o).operands)
 
--- of the places of a list so many were passed, and some of them are to be looked at again: no passed cast collapses, and
--- each that isn't used is to be looked at again
+-- of the places of a list so many were passed, and some of them are to be looked at again: no passed cast collapses,
+-- and each that isn't used is to be looked at again
 pub record Walked (xs : List ℕ) (passed : ℕ) (again : List ℕ) (m : Module) : Type 0 where
   pub within : (q : ℕ) → In q again → q < passed
   pub stuck : (q x : ℕ) → q < passed → slice_get xs q ≡ Some x → NoRule x m
@@ -32,7 +32,8 @@ pub record Walked (xs : List ℕ) (passed : ℕ) (again : List ℕ) (m : Module)
 
 -- a walk from which place p was taken
 abbrev pub Taken : List ℕ → ℕ → List ℕ → ℕ → Module → Type 0
-Taken xs passed2 again2 p m = (passed : ℕ) × (again : List ℕ) × Walked xs passed again m × Took passed again passed2 again2 p
+Taken xs passed2 again2 p m =
+    (passed : ℕ) × (again : List ℕ) × Walked xs passed again m × Took passed again passed2 again2 p
 
 -- what is taken away of the cast at a place
 abbrev pub collapse_at : Module → Option ℕ → Rewrite

@@ -33,7 +33,8 @@ pub(crate) fn apply_rule<L: Analysis>(
     rule: Rule,
     op: OpId,
 ) -> Result<bool, Refusal>
-    ensures answers { Answers (rewrite_of rule (module_held bench.old.desk) op) result (seen bench.old) (seen bench.new) }
+    ensures answers { Answers (rewrite_of rule (module_held bench.old.desk) op) result (seen bench.old)
+        (seen bench.new) }
     ensures leads { Leads seen desk_of (LedOn L.meaning) bench.old bench.new }
 {
     if !bench.world().store.in_tree(op) {
@@ -46,7 +47,8 @@ pub(crate) fn apply_rule<L: Analysis>(
 
 /// Erases an operation.
 fn erase<L: Analysis>(bench: &mut Bench<L>, op: OpId) -> Result<bool, Refusal>
-    ensures answers { Answers (becomes (edited (Erase op) (module_held bench.old.desk))) result (seen bench.old) (seen bench.new) }
+    ensures answers { Answers (becomes (edited (Erase op) (module_held bench.old.desk))) result (seen bench.old)
+        (seen bench.new) }
     ensures leads { Leads seen desk_of (LedOn L.meaning) bench.old bench.new }
 {
     let erased = bench.erase(op);
@@ -61,7 +63,9 @@ fn erase<L: Analysis>(bench: &mut Bench<L>, op: OpId) -> Result<bool, Refusal>
 fn carry<L: Analysis>(bench: &mut Bench<L>, edits: &[Edit]) -> Result<bool, Refusal>
     requires fit { AllFit bench.old.desk.ctx edits.now }
     requires one { made_by (edits_meaning bench.old.desk.ctx edits.now) ≡ 1 }
-    ensures answers { Answers (carried_out (edits_meaning bench.old.desk.ctx edits.now) (module_held bench.old.desk)) result (seen bench.old) (seen bench.new) }
+    ensures answers { Answers
+        (carried_out (edits_meaning bench.old.desk.ctx edits.now) (module_held bench.old.desk)) result (seen bench.old)
+        (seen bench.new) }
     ensures leads { Leads seen desk_of (LedOn L.meaning) bench.old bench.new }
 {
     if let Some(refusal) = limit_reason(bench.world(), 1) {

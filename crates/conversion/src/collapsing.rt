@@ -1,5 +1,7 @@
-//! Casts that aren't used, or that collapse, are taken away one after another: as long as there is one, the first in pre-order.
-ghost use Rattle.std.specs.Prelude.{◌≡◌, ◌++◌, ◌∷◌, [], false, IfErr, IfOk, OnOk, eqb, nat_eq, option_map, slice_get, true};
+//! Casts that aren't used, or that collapse, are taken away one after another: as long as there is one, the first in
+//! pre-order.
+ghost use Rattle.std.specs.Prelude.{◌≡◌, ◌++◌, ◌∷◌, [], false, IfErr, IfOk, OnOk, eqb, nat_eq, option_map, slice_get};
+ghost use Rattle.std.specs.Prelude.{true};
 ghost use Rattle.std.specs.List.{IsDistinct};
 ghost use Rattle.std.specs.HashMap.{get};
 ghost use Rattle.ir_types.specs.declared.refusal.Refusal.TheVariants.{Memory as NoMemory};
@@ -33,7 +35,9 @@ fn freed(
     places: &HashMap<u32, usize>,
     givers: &Option<Vec<OpId>>,
 ) -> Result<bool, Refusal>
-    ensures ok { IfOk result (λ done. (done ≡ true) × Freed (option_map (λ v. v.items) givers.now) (get nat_eq places.now) walk.old.passed walk.old.again.keys walk.new.passed walk.new.again.keys) }
+    ensures ok { IfOk result
+        (λ done. (done ≡ true) × Freed (option_map (λ v. v.items) givers.now)
+        (get nat_eq places.now) walk.old.passed walk.old.again.keys walk.new.passed walk.new.again.keys) }
     ensures err { IfErr result (λ e. e ≡ NoMemory) }
 {
     match free(walk, places, givers) {
@@ -42,8 +46,8 @@ fn freed(
     }
 }
 
-/// Takes an operation away if it is a cast that isn't used or that collapses, where these give its operands. The answer is
-/// whether it did.
+/// Takes an operation away if it is a cast that isn't used or that collapses, where these give its operands. The answer
+/// is whether it did.
 fn collapse_op<B: Rewriting>(
     alloc: Global,
     bench: &mut B,
@@ -52,8 +56,11 @@ fn collapse_op<B: Rewriting>(
     op: OpId,
     givers: &Option<Vec<OpId>>,
 ) -> Result<bool, Refusal>
-    ensures answers { AnswersBehind (collapse (B.state bench.old).held op) result (B.state bench.old) (B.state bench.new) }
-    ensures freed { IfOk result (λ done. FreedIf done (option_map (λ v. v.items) givers.now) (get nat_eq places.now) walk.old.passed walk.old.again.keys walk.new.passed walk.new.again.keys) }
+    ensures answers { AnswersBehind (collapse (B.state bench.old).held op) result (B.state bench.old)
+        (B.state bench.new) }
+    ensures freed { IfOk result
+        (λ done. FreedIf done (option_map (λ v. v.items) givers.now)
+        (get nat_eq places.now) walk.old.passed walk.old.again.keys walk.new.passed walk.new.again.keys) }
     ensures leads { Leads B.state B.desk B.led bench.old bench.new }
 {
     match bench.collapse(alloc, op) {
@@ -63,7 +70,8 @@ fn collapse_op<B: Rewriting>(
     }
 }
 
-/// The same at the first place of a list of casts that waits.
+/// Takes the operation at a place of a list away, the first that waits, if it is a cast that isn't used or that
+/// collapses. The answer is whether it did.
 fn collapse_at<B: Rewriting>(
     alloc: Global,
     bench: &mut B,
@@ -77,7 +85,8 @@ fn collapse_at<B: Rewriting>(
     requires taken { Taken ops.now walk.old.passed walk.old.again.keys place (B.state bench.old).held }
     ensures looked { Looked (next_collapse (B.state bench.old).held) result (B.state bench.old) (B.state bench.new) }
     ensures walked { OnOk result (Walked ops.now walk.new.passed walk.new.again.keys (B.state bench.new).held) }
-    ensures kept { IfOk result (λ done. done ≡ false → (walk.new.passed ≡ walk.old.passed) × (walk.new.again.keys ≡ walk.old.again.keys)) }
+    ensures kept { IfOk result
+        (λ done. done ≡ false → (walk.new.passed ≡ walk.old.passed) × (walk.new.again.keys ≡ walk.old.again.keys)) }
     ensures leads { Leads B.state B.desk B.led bench.old bench.new }
 {
     bench.is_whole();
@@ -90,8 +99,8 @@ fn collapse_at<B: Rewriting>(
     }
 }
 
-/// Takes the first cast away that isn't used or collapses, of a list with the casts of the module among it, in pre-order. The
-/// answer is whether there is one. The list still has the casts.
+/// Takes the first cast away that isn't used or collapses, of a list with the casts of the module among it, in
+/// pre-order. The answer is whether there is one. The list still has the casts.
 fn collapse_next<B: Rewriting>(
     alloc: Global,
     bench: &mut B,
@@ -102,7 +111,8 @@ fn collapse_next<B: Rewriting>(
     requires places { ArePlaces ops.now (get nat_eq places.now) }
     requires listed { HaveCasts ops.now (B.state bench.old).held.tree }
     requires walked { Walked ops.now walk.old.passed walk.old.again.keys (B.state bench.old).held }
-    ensures answers { AnswersBehind (next_collapse (B.state bench.old).held) result (B.state bench.old) (B.state bench.new) }
+    ensures answers { AnswersBehind (next_collapse (B.state bench.old).held) result (B.state bench.old)
+        (B.state bench.new) }
     ensures listed { OnOk result (HaveCasts ops.now (B.state bench.new).held.tree) }
     ensures walked { OnOk result (Walked ops.now walk.new.passed walk.new.again.keys (B.state bench.new).held) }
     ensures leads { Leads B.state B.desk B.led bench.old bench.new }
@@ -130,7 +140,8 @@ fn collapse_up_to<B: Rewriting>(
     requires places { ArePlaces ops.now (get nat_eq places.now) }
     requires listed { HaveCasts ops.now (B.state bench.old).held.tree }
     requires walked { Walked ops.now walk.old.passed walk.old.again.keys (B.state bench.old).held }
-    ensures ends { Ends (ended (collapsed most (B.state bench.old).held) (B.state bench.old).held) (none_of result) (B.state bench.new) }
+    ensures ends { Ends (ended (collapsed most (B.state bench.old).held) (B.state bench.old).held) (none_of result)
+        (B.state bench.new) }
     ensures leads { Leads B.state B.desk B.led bench.old bench.new }
 {
     let mut left = most;
@@ -145,7 +156,7 @@ fn collapse_up_to<B: Rewriting>(
     Ok(())
 }
 
-/// The same, by one walk over the list.
+/// Takes casts of a list away by one walk over it, as long as one isn't used or collapses, and at most so many.
 fn collapse_casts<B: Rewriting>(
     alloc: Global,
     bench: &mut B,
@@ -154,7 +165,8 @@ fn collapse_casts<B: Rewriting>(
 ) -> Result<(), Fault>
     requires distinct { IsDistinct eqb casts.now }
     requires listed { HaveCasts casts.now (B.state bench.old).held.tree }
-    ensures ends { Ends (ended (collapsed most (B.state bench.old).held) (B.state bench.old).held) (none_of result) (B.state bench.new) }
+    ensures ends { Ends (ended (collapsed most (B.state bench.old).held) (B.state bench.old).held) (none_of result)
+        (B.state bench.new) }
     ensures leads { Leads B.state B.desk B.led bench.old bench.new }
 {
     let Ok(places) = places_of(alloc, casts) else {
@@ -196,7 +208,8 @@ fn casts_of<B: Rewriting>(alloc: Global, bench: &B, ops: &[OpId]) -> Result<Vec<
 /// Takes casts away, as long as one isn't used or collapses, where these are all operations in pre-order.
 fn collapse_listed<B: Rewriting>(alloc: Global, bench: &mut B, ops: &[OpId]) -> Result<(), Fault>
     requires ops { ops.now ≡ ids (B.state bench.old).held.tree }
-    ensures ends { Ends (ended (all_collapsed (B.state bench.old).held) (B.state bench.old).held) (none_of result) (B.state bench.new) }
+    ensures ends { Ends (ended (all_collapsed (B.state bench.old).held) (B.state bench.old).held) (none_of result)
+        (B.state bench.new) }
     ensures leads { Leads B.state B.desk B.led bench.old bench.new }
 {
     bench.is_whole();
@@ -208,7 +221,8 @@ fn collapse_listed<B: Rewriting>(alloc: Global, bench: &mut B, ops: &[OpId]) -> 
 
 /// Takes casts away, as long as one isn't used or collapses.
 pub(crate) fn collapse_all<B: Rewriting>(alloc: Global, bench: &mut B) -> Result<(), Fault>
-    ensures ends { Ends (ended (all_collapsed (B.state bench.old).held) (B.state bench.old).held) (none_of result) (B.state bench.new) }
+    ensures ends { Ends (ended (all_collapsed (B.state bench.old).held) (B.state bench.old).held) (none_of result)
+        (B.state bench.new) }
     ensures leads { Leads B.state B.desk B.led bench.old bench.new }
 {
     match bench.operations() {

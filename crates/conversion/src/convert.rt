@@ -20,25 +20,29 @@ use patterns::runs::Bench;
 use patterns::runs::laws::led_benches_are_kept;
 use std::alloc::Global;
 
-/// Converts the module of a bench (Dialect Conversion, "Modes of Conversion"): each of its operations that isn't legal for a
-/// target is legalised by rules, then casts between types are reconciled, so that none is left, and in full mode every operation
-/// has to be legal then. The answer is how many rules stand. It is whole or not made at all.
+/// Converts the module of a bench (Dialect Conversion, "Modes of Conversion"): each of its operations that isn't legal
+/// for a target is legalised by rules, then casts between types are reconciled, so that none is left, and in full mode
+/// every operation has to be legal then. The answer is how many rules stand. It is whole or not made at all.
 ///
-/// Refusals: `BadTarget`; `NotLegalised` or `ChainTooDeep` for an operation of the start, `Unreconciled` for a cast, and
-/// `NotLegalised` in full mode, each with its id; `Full` and `IdsExhausted`, where a rule has no room; `Full` where the context is
-/// full; and `Memory`.
+/// Refusals: `BadTarget`; `NotLegalised` or `ChainTooDeep` for an operation of the start, `Unreconciled` for a cast,
+/// and `NotLegalised` in full mode, each with its id; `Full` and `IdsExhausted`, where a rule has no room; `Full` where
+/// the context is full; and `Memory`.
 pub fn convert<L: Analysis>(
     alloc: Global,
     bench: &mut Bench<L>,
     target: &Target,
 ) -> Result<u32, Fault>
     requires names { IsNamedIn bench.old.desk.ctx target.now }
-    ensures does { Does L.meaning (Change (converting (aim_of bench.old.desk.ctx target.now))) (conversion_reply result) bench.old bench.new }
-    ensures converts { Converts (conversion_of (aim_of bench.old.desk.ctx target.now) (module_held bench.old.desk)) result (seen bench.old) (seen bench.new) }
+    ensures does { Does L.meaning (Change (converting (aim_of bench.old.desk.ctx target.now)))
+        (conversion_reply result) bench.old bench.new }
+    ensures converts { Converts
+        (conversion_of (aim_of bench.old.desk.ctx target.now) (module_held bench.old.desk)) result (seen bench.old)
+        (seen bench.new) }
     ensures none { OnOk result (has_no_cast (module_held bench.new.desk).tree ≡ true) }
     ensures grows { Grows bench.old.desk.ctx bench.new.desk.ctx }
     ensures led { Led L.meaning bench.old bench.new }
-    ensures journal { MatchResult result (λ _. Noted bench.old.desk bench.new.desk) (λ _. Recorded [] bench.old.desk bench.new.desk) }
+    ensures journal { MatchResult result (λ _. Noted bench.old.desk bench.new.desk)
+        (λ _. Recorded [] bench.old.desk bench.new.desk) }
 {
     led_benches_are_kept::<L>();
     bench.is_formed();

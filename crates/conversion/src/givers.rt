@@ -4,7 +4,6 @@ ghost use Rattle.ir_event.specs.Modules.{module_in};
 ghost use Rattle.conversion.specs.Givers.{givers_of};
 ghost use Rattle.conversion.specs.Walks.{Gives};
 
-use conversion_base::legal::shown;
 use ir_event::world::World;
 use ir_tree::value::Value;
 use ir_types::ids::OpId;
@@ -44,7 +43,7 @@ pub(crate) fn givers(
 ) -> Result<Option<Vec<OpId>>, AllocError>
     ensures { IfOk result (λ g. IfSome g (λ v. Gives v.items op (module_in world.now).tree)) }
 {
-    let Some(node) = shown(world, op) else {
+    let Some(node) = world.shown(op) else {
         return Ok(Some(Vec::new(alloc)));
     };
     if node.region_count() > 0 {

@@ -2,7 +2,9 @@
 ghost use Rattle.std.specs.Prelude.{◌≡◌, ◌≢◌, ◌<◌, [], true, false, ◌||◌};
 ghost use Rattle.rewriter.specs.Rolling.{Dropped};
 ghost use Rattle.conversion_base.specs.Rewrites.{rewrite_of};
-ghost use Rattle.conversion_base.specs.Legalization.{after_rule as rule_outcome, behind, each_of, first_rule as rules_outcome, legalization_of, made_since, standing};
+ghost use Rattle.conversion_base.specs.Legalization.{after_rule as rule_outcome, behind, each_of};
+ghost use Rattle.conversion_base.specs.Legalization.{first_rule as rules_outcome, legalization_of, made_since};
+ghost use Rattle.conversion_base.specs.Legalization.{standing};
 ghost use Rattle.conversion_base.specs.RuleNames.{is_converting};
 ghost use Rattle.conversion.specs.States.{Closed, Comes, ComesBehind, Leads, went_well};
 ghost use Rattle.conversion_base.specs.Targets.{IsAimIn, aim_of};
@@ -41,8 +43,8 @@ fn joined(met: bool, tried: Tried) -> Tried
     }
 }
 
-/// Legalises an operation, if it still stands, where what rules make may be so many levels below it. Where it fails, or is refused, the module
-/// is as it was.
+/// Legalises an operation, if it still stands, where what rules make may be so many levels below it. Where it fails, or
+/// is refused, the module is as it was.
 #[cycle(legalise)]
 pub(crate) fn legalise<B: Rules>(
     alloc: Global,
@@ -52,7 +54,8 @@ pub(crate) fn legalise<B: Rules>(
     op: OpId,
 ) -> Result<Tried, Refusal>
     requires aim { IsAimIn (B.state bench.old).things target.now }
-    ensures comes { Comes (standing (legalization_of (aim_of (B.state bench.old).things target.now) below) (B.state bench.old).held op) result (B.state bench.old) (B.state bench.new) }
+    ensures comes { Comes (standing (legalization_of (aim_of (B.state bench.old).things target.now) below)
+        (B.state bench.old).held op) result (B.state bench.old) (B.state bench.new) }
     ensures leads { Leads B.state B.desk B.led bench.old bench.new }
 {
     if !bench.in_tree(op) {
@@ -77,7 +80,9 @@ fn first_rule<B: Rules>(
     op: OpId,
 ) -> Result<Tried, Refusal>
     requires aim { IsAimIn (B.state bench.old).things target.now }
-    ensures comes { Comes (rules_outcome (legalization_of (aim_of (B.state bench.old).things target.now) below) target.now.rules (B.state bench.old).held op) result (B.state bench.old) (B.state bench.new) }
+    ensures comes { Comes (rules_outcome
+        (legalization_of (aim_of (B.state bench.old).things target.now) below) target.now.rules
+        (B.state bench.old).held op) result (B.state bench.old) (B.state bench.new) }
     ensures leads { Leads B.state B.desk B.led bench.old bench.new }
 {
     let mut met = false;
@@ -110,7 +115,9 @@ fn try_rule<B: Rules>(
 ) -> Result<Tried, Refusal>
     requires aim { IsAimIn (B.state bench.old).things target.now }
     requires rule { is_converting rule ≡ true }
-    ensures comes { Comes (rule_outcome (legalization_of (aim_of (B.state bench.old).things target.now) below) (B.state bench.old).held (rewrite_of rule (B.state bench.old).held op)) result (B.state bench.old) (B.state bench.new) }
+    ensures comes { Comes (rule_outcome (legalization_of (aim_of (B.state bench.old).things target.now) below)
+        (B.state bench.old).held (rewrite_of rule (B.state bench.old).held op)) result (B.state bench.old)
+        (B.state bench.new) }
     ensures leads { Leads B.state B.desk B.led bench.old bench.new }
 {
     if let Err(refusal) = bench.step() {
@@ -156,7 +163,9 @@ fn after_rule<B: Rules>(
 ) -> Result<Tried, Refusal>
     requires aim { IsAimIn (B.state bench.old).things target.now }
     requires rule { is_converting rule ≡ true }
-    ensures comes { ComesBehind (rule_outcome (legalization_of (aim_of (B.state bench.old).things target.now) below) (B.state bench.old).held (rewrite_of rule (B.state bench.old).held op)) result (B.state bench.new) }
+    ensures comes { ComesBehind
+        (rule_outcome (legalization_of (aim_of (B.state bench.old).things target.now) below) (B.state bench.old).held
+        (rewrite_of rule (B.state bench.old).held op)) result (B.state bench.new) }
     ensures leads { Leads B.state B.desk B.led bench.old bench.new }
 {
     let from = bench.next_id();
@@ -179,7 +188,9 @@ fn each_made<B: Rules>(
 ) -> Result<Tried, Refusal>
     requires aim { IsAimIn (B.state bench.old).things target.now }
     requires from { from < (B.state bench.old).held.next }
-    ensures comes { ComesBehind (behind 1 false (each_of (legalization_of (aim_of (B.state bench.old).things target.now) below) (made_since from (B.state bench.old).held) (B.state bench.old).held)) result (B.state bench.new) }
+    ensures comes { ComesBehind
+        (behind 1 false (each_of (legalization_of (aim_of (B.state bench.old).things target.now) below)
+        (made_since from (B.state bench.old).held) (B.state bench.old).held)) result (B.state bench.new) }
     ensures leads { Leads B.state B.desk B.led bench.old bench.new }
 {
     let end = bench.next_id();

@@ -1,4 +1,5 @@
-//! Dialect conversion: the operations of a module are legalised for a target by rules, and casts between types are reconciled.
+//! Dialect conversion: the operations of a module are legalised for a target by rules, and casts between types are
+//! reconciled.
 #![tactic(auto)]
 
 mod bench;

@@ -2,7 +2,9 @@
 ghost use Rattle.std.specs.Prelude.{◌≡◌, ◌+◌, ◌≤◌, [], true, IfOk, OnErr, OnOk, is_ok};
 ghost use Rattle.ir_tree.specs.Ids.{ids};
 ghost use Rattle.rewriter.specs.Moves.{Recorded};
-ghost use Rattle.conversion_base.specs.Conversion.{all_parts, cast_at as cast_end, casts_left, checked, converted, conversion_of, failing as failing_of, first_illegal, has_no_cast, in_turn, later_parts, legalised_at as legalised_end};
+ghost use Rattle.conversion_base.specs.Conversion.{all_parts, cast_at as cast_end, casts_left, checked, converted};
+ghost use Rattle.conversion_base.specs.Conversion.{conversion_of, failing as failing_of, first_illegal, has_no_cast};
+ghost use Rattle.conversion_base.specs.Conversion.{in_turn, later_parts, legalised_at as legalised_end};
 ghost use Rattle.conversion.specs.States.{Converts, Ends, Leads, none_of};
 ghost use Rattle.conversion_base.specs.Targets.{IsAimIn, IsNamedIn, aim_of};
 
@@ -33,7 +35,8 @@ fn legalise_at<B: Rules>(
     op: OpId,
 ) -> Result<u32, Fault>
     requires aim { IsAimIn (B.state bench.old).things target.now }
-    ensures ends { Ends (legalised_end (aim_of (B.state bench.old).things target.now) (B.state bench.old).held op) result (B.state bench.new) }
+    ensures ends { Ends (legalised_end (aim_of (B.state bench.old).things target.now)
+        (B.state bench.old).held op) result (B.state bench.new) }
     ensures few { IfOk result (λ k. k + (B.state bench.old).held.next ≤ (B.state bench.new).held.next) }
     ensures leads { Leads B.state B.desk B.led bench.old bench.new }
 {
@@ -56,7 +59,8 @@ fn legalise_each<B: Rules>(
     ops: &[OpId],
 ) -> Result<u32, Fault>
     requires aim { IsAimIn (B.state bench.old).things target.now }
-    ensures ends { Ends (in_turn (legalised_end (aim_of (B.state bench.old).things target.now)) ops.now (B.state bench.old).held) result (B.state bench.new) }
+    ensures ends { Ends (in_turn (legalised_end (aim_of (B.state bench.old).things target.now)) ops.now
+        (B.state bench.old).held) result (B.state bench.new) }
     ensures leads { Leads B.state B.desk B.led bench.old bench.new }
 {
     let mut count = 0;
@@ -89,7 +93,7 @@ fn cast_at<B: Rewriting>(alloc: Global, bench: &mut B, op: OpId) -> Result<(), F
     }
 }
 
-/// The same of operations in turn.
+/// Puts an `arith.index_cast` in the place of each of some operations in turn, if it still stands and is a cast.
 fn cast_each<B: Rewriting>(alloc: Global, bench: &mut B, ops: &[OpId]) -> Result<(), Fault>
     ensures ends { Ends (in_turn cast_end ops.now (B.state bench.old).held) (none_of result) (B.state bench.new) }
     ensures leads { Leads B.state B.desk B.led bench.old bench.new }
@@ -121,7 +125,8 @@ fn cast_all<B: Rewriting>(alloc: Global, bench: &mut B) -> Result<(), Fault>
 /// The first of some operations that isn't legal.
 fn illegal_of<B: Rewriting>(bench: &B, target: &Target, ops: &[OpId]) -> Option<OpId>
     requires aim { IsAimIn (B.state bench.now).things target.now }
-    ensures { result ≡ first_illegal (aim_of (B.state bench.now).things target.now) (B.state bench.now).held.tree ops.now }
+    ensures { result ≡ first_illegal (aim_of (B.state bench.now).things target.now)
+        (B.state bench.now).held.tree ops.now }
 {
     let mut rest = ops;
     'ops: while let [op, tail @ ..] = rest {
@@ -136,7 +141,8 @@ fn illegal_of<B: Rewriting>(bench: &B, target: &Target, ops: &[OpId]) -> Option<
 /// In full mode every operation has to be legal.
 fn check<B: Rewriting>(bench: &B, target: &Target) -> Result<(), Fault>
     requires aim { IsAimIn (B.state bench.now).things target.now }
-    ensures ends { Ends (checked (aim_of (B.state bench.now).things target.now) (B.state bench.now).held) (none_of result) (B.state bench.now) }
+    ensures ends { Ends (checked (aim_of (B.state bench.now).things target.now) (B.state bench.now).held)
+        (none_of result) (B.state bench.now) }
 {
     if !target.full {
         return Ok(());
@@ -153,7 +159,8 @@ fn check<B: Rewriting>(bench: &B, target: &Target) -> Result<(), Fault>
 /// Converts a module behind a mark: where it is refused, the module may be any.
 fn convert_parts<B: Rules>(alloc: Global, bench: &mut B, target: &Target) -> Result<u32, Fault>
     requires aim { IsAimIn (B.state bench.old).things target.now }
-    ensures ends { Ends (all_parts (aim_of (B.state bench.old).things target.now) (B.state bench.old).held) result (B.state bench.new) }
+    ensures ends { Ends (all_parts (aim_of (B.state bench.old).things target.now) (B.state bench.old).held) result
+        (B.state bench.new) }
     ensures none { OnOk result (has_no_cast (B.state bench.new).held.tree ≡ true) }
     ensures leads { Leads B.state B.desk B.led bench.old bench.new }
 {
@@ -170,7 +177,8 @@ fn convert_parts<B: Rules>(alloc: Global, bench: &mut B, target: &Target) -> Res
 /// Legalises the operations of the module, as they are at the start, in pre-order. The answer is how many rules stand.
 fn legalise_all<B: Rules>(alloc: Global, bench: &mut B, target: &Target) -> Result<u32, Fault>
     requires aim { IsAimIn (B.state bench.old).things target.now }
-    ensures ends { Ends (in_turn (legalised_end (aim_of (B.state bench.old).things target.now)) (ids (B.state bench.old).held.tree) (B.state bench.old).held) result (B.state bench.new) }
+    ensures ends { Ends (in_turn (legalised_end (aim_of (B.state bench.old).things target.now))
+        (ids (B.state bench.old).held.tree) (B.state bench.old).held) result (B.state bench.new) }
     ensures leads { Leads B.state B.desk B.led bench.old bench.new }
 {
     match bench.operations() {
@@ -182,7 +190,8 @@ fn legalise_all<B: Rules>(alloc: Global, bench: &mut B, target: &Target) -> Resu
 /// Reconciles casts, and checks.
 fn reconcile<B: Rewriting>(alloc: Global, bench: &mut B, target: &Target) -> Result<(), Fault>
     requires aim { IsAimIn (B.state bench.old).things target.now }
-    ensures ends { Ends (later_parts (aim_of (B.state bench.old).things target.now) (converted (B.state bench.old).held 0)) (none_of result) (B.state bench.new) }
+    ensures ends { Ends (later_parts (aim_of (B.state bench.old).things target.now)
+        (converted (B.state bench.old).held 0)) (none_of result) (B.state bench.new) }
     ensures none { OnOk result (has_no_cast (B.state bench.new).held.tree ≡ true) }
     ensures leads { Leads B.state B.desk B.led bench.old bench.new }
 {
@@ -202,19 +211,22 @@ fn is_converted(made: &Result<u32, Fault>) -> bool
     made.is_ok()
 }
 
-/// Converts the module of a bench: each of its operations that isn't legal for a target is legalised by rules, then casts
-/// between types are reconciled, and in full mode every operation has to be legal then. The answer is how many rules stand.
-/// It is whole or not made at all.
+/// Converts the module of a bench: each of its operations that isn't legal for a target is legalised by rules, then
+/// casts between types are reconciled, and in full mode every operation has to be legal then. The answer is how many
+/// rules stand. It is whole or not made at all.
 ///
-/// Refusals: `BadTarget`; `NotLegalised` or `ChainTooDeep` for an operation of the start, and `Unreconciled` for a cast, and
-/// `NotLegalised` in full mode, each with its id; `Full` and `IdsExhausted`, where a rule has no room; and `Memory`.
+/// Refusals: `BadTarget`; `NotLegalised` or `ChainTooDeep` for an operation of the start, and `Unreconciled` for a
+/// cast, and `NotLegalised` in full mode, each with its id; `Full` and `IdsExhausted`, where a rule has no room; and
+/// `Memory`.
 pub(crate) fn convert_with<B: Rules>(
     alloc: Global,
     bench: &mut B,
     target: &Target,
 ) -> Result<u32, Fault>
     requires names { IsNamedIn (B.state bench.old).things target.now }
-    ensures converts { Converts (conversion_of (aim_of (B.state bench.old).things target.now) (B.state bench.old).held) result (B.state bench.old) (B.state bench.new) }
+    ensures converts { Converts
+        (conversion_of (aim_of (B.state bench.old).things target.now) (B.state bench.old).held) result
+        (B.state bench.old) (B.state bench.new) }
     ensures none { OnOk result (has_no_cast (B.state bench.new).held.tree ≡ true) }
     ensures leads { Leads B.state B.desk B.led bench.old bench.new }
     ensures left { OnErr result (Recorded [] (B.desk bench.old) (B.desk bench.new)) }

@@ -105,6 +105,7 @@ pub(crate) trait Rules: Rewriting {
     /// Applies a rule at an operation. The answer is whether it applied.
     fn apply(&mut self, alloc: Global, rule: Rule, op: OpId) -> Result<bool, Refusal>
         requires { is_converting rule ≡ true }
-        ensures answers { Answers (rewrite_of rule (Self.state self.old).held op) result (Self.state self.old) (Self.state self.new) }
+        ensures answers { Answers (rewrite_of rule (Self.state self.old).held op) result (Self.state self.old)
+            (Self.state self.new) }
         ensures leads { Leads Self.state Self.desk Self.led self.old self.new };
 }

@@ -30,8 +30,11 @@ pub(crate) fn start(alloc: Global) -> Walk
 
 /// Takes the first place that waits, of a list of so many.
 pub(crate) fn take(walk: &mut Walk, count: usize) -> Option<usize>
-    ensures taken { MatchOption result ((walk.old.again.keys ≡ []) × (count ≤ walk.old.passed)) (λ p. Took walk.old.passed walk.old.again.keys walk.new.passed walk.new.again.keys p) }
-    ensures fewer { MatchOption result (walk.new ≡ walk.old) (λ p. length walk.new.again.keys + (count - walk.new.passed) < length walk.old.again.keys + (count - walk.old.passed)) }
+    ensures taken { MatchOption result ((walk.old.again.keys ≡ []) × (count ≤ walk.old.passed))
+        (λ p. Took walk.old.passed walk.old.again.keys walk.new.passed walk.new.again.keys p) }
+    ensures fewer { MatchOption result (walk.new ≡ walk.old)
+        (λ p. length walk.new.again.keys + (count - walk.new.passed)
+        < length walk.old.again.keys + (count - walk.old.passed)) }
 {
     if let Some(place) = walk.again.pop_first() {
         return Some(place);
@@ -59,7 +62,8 @@ fn add(walk: &mut Walk, place: usize) -> Result<(), AllocError>
 
 /// Lets the place of an operation wait again, if it was passed.
 fn add_op(walk: &mut Walk, places: &HashMap<u32, usize>, op: OpId) -> Result<(), AllocError>
-    ensures { OnOk result (Again (op ∷ []) (get nat_eq places.now) walk.old.passed walk.old.again.keys walk.new.passed walk.new.again.keys) }
+    ensures { OnOk result (Again (op ∷ [])
+        (get nat_eq places.now) walk.old.passed walk.old.again.keys walk.new.passed walk.new.again.keys) }
 {
     match place_of(places, op) {
         Some(place) => add(walk, place),
@@ -69,7 +73,8 @@ fn add_op(walk: &mut Walk, places: &HashMap<u32, usize>, op: OpId) -> Result<(),
 
 /// Lets the places of operations wait again that were passed.
 fn look_again(walk: &mut Walk, places: &HashMap<u32, usize>, ops: &[OpId]) -> Result<(), AllocError>
-    ensures { OnOk result (Again ops.now (get nat_eq places.now) walk.old.passed walk.old.again.keys walk.new.passed walk.new.again.keys) }
+    ensures { OnOk result (Again ops.now
+        (get nat_eq places.now) walk.old.passed walk.old.again.keys walk.new.passed walk.new.again.keys) }
 {
     let mut rest = ops;
     'ops: while let [op, tail @ ..] = rest {
@@ -79,14 +84,15 @@ fn look_again(walk: &mut Walk, places: &HashMap<u32, usize>, ops: &[OpId]) -> Re
     Ok(())
 }
 
-/// After an operation was taken away: those that gave operands of it are looked at again, or all, where it isn't known which
-/// they are.
+/// After an operation was taken away: those that gave operands of it are looked at again, or all, where it isn't known
+/// which they are.
 pub(crate) fn free(
     walk: &mut Walk,
     places: &HashMap<u32, usize>,
     givers: &Option<Vec<OpId>>,
 ) -> Result<(), AllocError>
-    ensures { OnOk result (Freed (option_map (λ v. v.items) givers.now) (get nat_eq places.now) walk.old.passed walk.old.again.keys walk.new.passed walk.new.again.keys) }
+    ensures { OnOk result (Freed (option_map (λ v. v.items) givers.now)
+        (get nat_eq places.now) walk.old.passed walk.old.again.keys walk.new.passed walk.new.again.keys) }
 {
     match givers {
         Some(ops) => look_again(walk, places, ops),

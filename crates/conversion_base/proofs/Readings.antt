@@ -1,6 +1,6 @@
 -- What is read of a module, in contents.
-use Rattle.std.proofs.Common.{◌≡◌, refl, ap, sym, ◌∙◌, subst, ℕ, ◌+◌, ◌<◌, ◌≤◌, Bool, true, false, true≢false, ◌||◌, not, eqb, eqb-true, List, [], ◌∷◌, length, map, drop, Option, Some, None, option_map, zero, suc, inl, inr, arith}
-use Rattle.std.specs.Prelude.{MatchOption, IfSome, is_some, slice_get, option_and_then}
+use Rattle.std.proofs.Common.{◌≡◌, refl, ap, sym, ◌∙◌, subst, ℕ, ◌+◌, ◌<◌, Bool, true, false, true≢false, ◌||◌, not, eqb, eqb-true, List, [], ◌∷◌, length, map, drop, Option, Some, None, option_map, zero, suc, inl, inr, arith}
+use Rattle.std.specs.Prelude.{MatchOption, is_some, slice_get, option_and_then}
 use Rattle.std.specs.List.{list_any, list_all}
 use Rattle.std.specs.Option.{option_eq}
 use Rattle.std.specs.Str.{bytes_eq}
@@ -15,7 +15,6 @@ use Rattle.ir_tree.specs.Ids.{HasDistinctIds, find, has_id}
 use Rattle.ir_tree.specs.Places.{place_of}
 use Rattle.ir_tree.specs.Uses.{uses_of}
 use Rattle.ir_tree.specs.Meaning.{meaning}
-use Rattle.ir_tree.specs.WellFormed.{IsFormed}
 use Rattle.ir_tree.proofs.Mapped.{map_every, map_find}
 use Rattle.ir_tree_laws.specs.Members.{In}
 use Rattle.ir_tree_laws.specs.Stands.{StandOf, place_in}
@@ -33,12 +32,8 @@ use Rattle.patterns_base.specs.Looks.{is_of_type}
 use Rattle.conversion_base.specs.Targets.{Aim, cast_name, is_legal, is_legal_found}
 use Rattle.conversion_base.specs.Reconciling.{is_cast, is_cast_found}
 use Rattle.conversion_base.proofs.Falls.{cast_there, found_id, map_length}
-use Rattle.conversion_base.proofs.Shown.{few_shown, found, meant}
+use Rattle.conversion_base.proofs.Shown.{found, meant}
 use Rattle.conversion_base.proofs.Unused.{one_used}
-
-pub few_if : (isolated : ℕ → Bool) (x : ℕ) (t : Op) → IsFormed isolated t → (r : Option Node) → r ≡ option_map node_of (find x t) → IfSome r (λ n. (length n.arguments ≤ 16) × (length n.head.results ≤ 256))
-few_if isolated x t formed None e = tt
-few_if isolated x t formed (Some n) e = few_shown isolated x t formed n e
 
 -- ---- the root
 

@@ -1,43 +1,23 @@
 -- What is shown of an operation, in numbers and in contents.
-use Rattle.std.proofs.Common.{◌≡◌, refl, ap, sym, ◌∙◌, subst, ℕ, ◌<◌, ◌≤◌, Bool, true, false, true≢false, ◌&&◌, [], length, Option, Some, None, option_map, arith, leb-true}
+use Rattle.std.proofs.Common.{◌≡◌, refl, ap, sym, ◌∙◌, subst, ℕ, ◌<◌, ◌≤◌, Bool, true, false, true≢false, ◌&&◌, length, Option, Some, None, option_map, arith, leb-true}
 use Rattle.std.specs.Prelude.{nat_le, slice_get, is_some, option_and_then}
-use Rattle.std.specs.FinMap as finmap
 use Rattle.ir_types.specs.Things.{Things}
 use Rattle.ir_types.specs.Terms.{name_term, type_term, attr_term}
 use Rattle.ir_tree.specs.declared.value.Value.TheVariants.{Result}
 use Rattle.ir_tree.specs.Tree.{Op, op, RegionsOf, no_regions, region, head, region_count}
-use Rattle.ir_tree.specs.Ids.{HasDistinctIds, find, has_id, first_of}
+use Rattle.ir_tree.specs.Ids.{find}
 use Rattle.ir_tree.specs.Limits.{most_items, most_regions, items_fit, head_fits, all_arguments_pass, op_fits}
 use Rattle.ir_tree.specs.Meaning.{meaning}
 use Rattle.ir_tree.specs.WellFormed.{IsFormed}
 use Rattle.ir_tree.proofs.Mapped.{map_find}
 use Rattle.ir_tree_laws.specs.Values.{has_value}
-use Rattle.ir_tree_laws.proofs.Around.{absent_find, present_stand}
 use Rattle.ir_tree_laws.proofs.Formed.{from_formed}
 use Rattle.ir_tree_laws.proofs.Listed.{both}
-use Rattle.ir_tree_laws.proofs.Members.{found_stands, stand_found}
+use Rattle.ir_tree_laws.proofs.Members.{found_stands}
 use Rattle.ir_tree_laws.proofs.Reverted.{got_below}
 use Rattle.ir_store.specs.Nodes.{Node, node_of, regions_arguments}
-use Rattle.ir_store.specs.Stored.{Stored, known}
 use Rattle.ir_event.specs.Modules.{node_meaning}
 use Rattle.ir_event.proofs.Nodes.{node_shown}
-
-pub shown_none : (x : ℕ) (t : Op) (b : Bool) → b ≡ has_id x t → b ≡ false → None ≡ option_map node_of (find x t)
-shown_none x t b e f = sym (ap (option_map node_of) (absent_find x t (sym e ∙ f)))
-
-there_is : (x : ℕ) (t : Op) → HasDistinctIds t → has_id x t ≡ true → find x t ≡ None → ⊥
-there_is x t d h g =
-    let w = present_stand [] t x h in
-    let e = ap (λ z. find z t) (sym w.2) ∙ stand_found t d w.0 w.1 in
-    let no : None ≡ Some w.0.here = sym g ∙ e in
-    absurd cc
-
-pub shown_some : (x : ℕ) (s : Stored) → HasDistinctIds s.module_of.tree → (r : Option Node) (b : Bool) → b ≡ has_id x s.module_of.tree → b ≡ true → r ≡ option_map node_of (known x s) → r ≡ option_map node_of (find x s.module_of.tree)
-shown_some x s d r b e f is = is ∙ go (find x s.module_of.tree) refl
-  where
-    go : (o : Option Op) → find x s.module_of.tree ≡ o → option_map node_of (first_of o (finmap.get s.held x)) ≡ option_map node_of o
-    go None g = absurd (there_is x s.module_of.tree d (sym e ∙ f) g)
-    go (Some o) g = refl
 
 -- what it stands for
 pub meant : (c : Things) (x : ℕ) (t : Op) → option_map node_of (find x (meaning c t)) ≡ option_map (node_meaning c) (option_map node_of (find x t))

@@ -13,8 +13,8 @@ use Rattle.conversion_base.specs.Targets.{Aim, cast_name, is_accepted, is_legal}
 use Rattle.conversion_base.specs.Legalization.{Outcome, legalised, failed, stopped, legalization_of, standing}
 use Rattle.conversion_base.specs.Reconciling.{all_collapsed, index_rewrite, is_cast}
 
--- how a conversion ends: with a module, and how many rules stand in it; or with a refusal, and the id of an operation, if it is
--- for one
+-- how a conversion ends: with a module, and how many rules stand in it; or with a refusal, and the id of an operation,
+-- if it is for one
 pub data Ended : Type 0 where
   converted : Module → ℕ → Ended
   given_up : Refusal → Option ℕ → Ended

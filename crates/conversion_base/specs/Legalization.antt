@@ -1,5 +1,5 @@
--- Legalising an operation (Dialect Conversion, "Conversion Patterns": what a pattern makes is legalised in turn). Modules stand
--- for marks: what fails gives nothing of its module.
+-- Legalising an operation (Dialect Conversion, "Conversion Patterns": what a pattern makes is legalised in turn).
+-- Modules stand for marks: what fails gives nothing of its module.
 use Rattle.std.specs.Prelude.{ℕ, zero, suc, ◌+◌, ◌-◌, List, [], ◌∷◌, Bool, true, false, ◌||◌, if◌then◌else◌}
 use Rattle.std.specs.List.{range_with_len}
 use Rattle.ir_types.specs.declared.refusal.Refusal.{Refusal}
@@ -63,4 +63,5 @@ module _ (go : Module → ℕ → Outcome) where
 -- operation x of a module legalised, where the operations that rules make may be so many levels below
 abbrev pub legalization_of : Aim → ℕ → Module → ℕ → Outcome
 legalization_of g zero m x = if is_legal g x m.tree then legalised m 0 false else failed true
-legalization_of g (suc d) m x = if is_legal g x m.tree then legalised m 0 false else first_rule (legalization_of g d) g.rules m x
+legalization_of g (suc d) m x =
+    if is_legal g x m.tree then legalised m 0 false else first_rule (legalization_of g d) g.rules m x

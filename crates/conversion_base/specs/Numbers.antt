@@ -26,7 +26,15 @@ lists_apart g = are_apart g.legal g.illegal && (are_apart g.legal g.dynamic && a
 
 -- an `arith.index_cast` of a value, to a type
 abbrev pub new_cast : Value → ℕ → Op
-new_cast v ty = op (record { id = 0; name = word_number ArithIndexCast; operands = v ∷ []; results = ty ∷ []; properties = []; attributes = [] }) no_regions
+new_cast v ty =
+    op (record {
+      id = 0;
+      name = word_number ArithIndexCast;
+      operands = v ∷ [];
+      results = ty ∷ [];
+      properties = [];
+      attributes = [];
+    }) no_regions
 
 -- it is put in the place of operation x, where a place is in front of that, and an id is the next free one
 abbrev pub cast_edits : Place → ℕ → ℕ → Value → ℕ → List Edit

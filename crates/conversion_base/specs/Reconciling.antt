@@ -1,5 +1,7 @@
--- Casts between types that a conversion left are reconciled (Dialect Conversion, "Type Conversion", on unrealized casts).
-use Rattle.std.specs.Prelude.{ℕ, zero, suc, List, [], ◌∷◌, codes, Bool, false, not, ◌&&◌, ◌||◌, eqb, if◌then◌else◌, Option, Some, None}
+-- Casts between types that a conversion left are reconciled (Dialect Conversion, "Type Conversion", on unrealized
+-- casts).
+use Rattle.std.specs.Prelude.{ℕ, zero, suc, List, [], ◌∷◌, codes, Bool, false, not, ◌&&◌, ◌||◌, eqb, if◌then◌else◌}
+use Rattle.std.specs.Prelude.{Option, Some, None}
 use Rattle.ir_types.specs.Terms.{TypeTerm}
 use Rattle.ir_types.specs.SameTypes.{same_type}
 use Rattle.ir_tree.specs.declared.value.Value.{Value}
@@ -42,7 +44,9 @@ unused_erased m x = if is_unused x m.tree then becomes (edited (Erase x) m) else
 
 -- what becomes of operation x where it is a cast and not the root: it is erased, or casting back collapses it
 abbrev pub collapse : Module → ℕ → Rewrite
-collapse m x = if is_cast x m.tree && not (eqb (head m.tree).id x) then rewrite_or (unused_erased m x) (rewrite_of CastBack m x) else none
+collapse m x =
+    if is_cast x m.tree && not (eqb (head m.tree).id x) then rewrite_or (unused_erased m x) (rewrite_of CastBack m x)
+    else none
 
 -- the first rewrite at one of some operations
 abbrev pub first_rewrite : (ℕ → Rewrite) → List ℕ → Rewrite
@@ -74,11 +78,12 @@ all_collapsed m = collapsed (op_count m.tree) m
 abbrev pub takes_index : Operation → Value → TypeTerm → Bool
 takes_index t v ty = is_index_value t v && same_type ty i64 || is_of_type t i64 v && is_index ty
 
--- the edits that put an `arith.index_cast` in the place of operation x, where it has one operand and one result and takes
--- index to i64 or back
+-- the edits that put an `arith.index_cast` in the place of operation x, where it has one operand and one result and
+-- takes index to i64 or back
 abbrev pub index_edits : Module → ℕ → Option (List Edit)
 index_edits m x = given (find x m.tree) (λ o. given (front_of x m.tree) (λ front. given (one (head o)) (λ p.
-    when (takes_index m.tree p.first p.ty) (Some (give_new front m.next x (cast (codes "arith.index_cast") p.ty p.first))))))
+    when (takes_index m.tree p.first p.ty)
+    (Some (give_new front m.next x (cast (codes "arith.index_cast") p.ty p.first))))))
 
 -- what becomes of operation x then
 abbrev pub index_rewrite : Module → ℕ → Rewrite

@@ -1,5 +1,6 @@
 -- What a conversion aims at, and which operations are legal then (Dialect Conversion, "Conversion Target").
-use Rattle.std.specs.Prelude.{◌≡◌, ℕ, List, [], ◌∷◌, ◌++◌, codes, map, Bool, true, false, not, ◌||◌, ◌&&◌, nat_le, Option, Some, None, option_map}
+use Rattle.std.specs.Prelude.{◌≡◌, ℕ, List, [], ◌∷◌, ◌++◌, codes, map, Bool, true, false, not, ◌||◌, ◌&&◌, nat_le}
+use Rattle.std.specs.Prelude.{Option, Some, None, option_map}
 use Rattle.std.specs.List.{All, list_any, list_all}
 use Rattle.ir_types.specs.Things.{Things, IsName}
 use Rattle.ir_types.specs.Terms.{TypeTerm, name_term}
@@ -13,8 +14,8 @@ use Rattle.patterns_base.specs.declared.rule.Rule.{Rule}
 use Rattle.patterns_base.specs.Words.{named, among}
 
 -- a target: whether each operation has to be legal in the end; the names of operations that are legal, that aren't, and
--- that are where they have no value of type index; the rules to be tried, in this order; how deep the operations that rules
--- make are legalised
+-- that are where they have no value of type index; the rules to be tried, in this order; how deep the operations that
+-- rules make are legalised
 pub record TargetOf (N : Type 0) : Type 0 where
   pub full : Bool
   pub legal : List N
@@ -30,7 +31,14 @@ Aim = TargetOf (List ℕ)
 -- what a target of numbers of a context stands for
 abbrev pub aim_of : Things → TargetOf ℕ → Aim
 aim_of c g =
-    record { full = g.full; legal = map (name_term c) g.legal; illegal = map (name_term c) g.illegal; dynamic = map (name_term c) g.dynamic; rules = g.rules; depth = g.depth }
+    record {
+      full = g.full;
+      legal = map (name_term c) g.legal;
+      illegal = map (name_term c) g.illegal;
+      dynamic = map (name_term c) g.dynamic;
+      rules = g.rules;
+      depth = g.depth;
+    }
 
 -- the names of a target
 abbrev pub names_of : {N : Type 0} → TargetOf N → List N
@@ -55,7 +63,8 @@ most_depth = 16
 -- rules, and the depth is within its limits
 abbrev pub is_accepted : Aim → Bool
 is_accepted g =
-    each_once (names_of g) && (not (list_any (named cast_name) (names_of g)) && (list_all is_converting g.rules && (nat_le 1 g.depth && nat_le g.depth most_depth)))
+    each_once (names_of g) && (not (list_any (named cast_name) (names_of g))
+    && (list_all is_converting g.rules && (nat_le 1 g.depth && nat_le g.depth most_depth)))
 
 -- ---- which operations are legal
 
@@ -66,10 +75,12 @@ index_argument (Some types) = list_any is_index types
 
 -- whether an operation of a tree has an operand, a result or an argument of type index
 abbrev pub has_index : Operation → Node → Bool
-has_index t n = list_any (is_index_value t) n.head.operands || (list_any is_index n.head.results || list_any index_argument n.arguments)
+has_index t n =
+    list_any (is_index_value t) n.head.operands
+    || (list_any is_index n.head.results || list_any index_argument n.arguments)
 
--- whether an operation of a tree is legal: it is such a cast; it is named as legal, or, without a value of type index, as
--- dynamic; or it isn't named, and need not be
+-- whether an operation of a tree is legal: it is such a cast; it is named as legal, or, without a value of type index,
+-- as dynamic; or it isn't named, and need not be
 abbrev pub is_legal_node : Aim → Operation → Node → Bool
 is_legal_node g t n =
     named cast_name n.head.name

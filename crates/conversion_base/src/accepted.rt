@@ -117,8 +117,8 @@ fn lacks_casts(ctx: &Context, target: &Target) -> bool
         && !has_word(ctx, &target.dynamic, word)
 }
 
-/// Whether a target is accepted: each name stands once in its lists, casts stand in none, conversion may try each of its
-/// rules, and the depth is within its limits.
+/// Whether a target is accepted: each name stands once in its lists, casts stand in none, conversion may try each of
+/// its rules, and the depth is within its limits.
 pub fn is_accepted(ctx: &Context, target: &Target) -> bool
     requires names { IsNamedIn ctx.now target.now }
     ensures { result ≡ is_accepted (aim_of ctx.now target.now) }

@@ -15,7 +15,7 @@ ghost use Rattle.patterns_base.specs.Made.{i64};
 ghost use Rattle.conversion_base.specs.Reconciling.{index_edits, is_cast, takes_index};
 ghost use Rattle.conversion_base.specs.Numbers.{cast_edits, ends_from, new_cast};
 
-use crate::legal::{is_index, is_index_value, shown};
+use crate::legal::{is_index, is_index_value};
 use ir_event::world::World;
 use ir_store::node::Node;
 use ir_tree::place::Place;
@@ -32,7 +32,7 @@ use std::alloc::{AllocError, Global};
 pub fn is_cast(world: &World, op: OpId) -> bool
     ensures { result ≡ is_cast op (module_in world.now).tree }
 {
-    let Some(node) = shown(world, op) else {
+    let Some(node) = world.shown(op) else {
         return false;
     };
     world
@@ -59,7 +59,7 @@ pub fn is_inner_cast(world: &World, op: OpId) -> bool
 fn result_count(world: &World, op: OpId) -> u32
     ensures { (k : ℕ) → has_value (result_of op k) world.now.store.module_of.tree ≡ true → k < result }
 {
-    match shown(world, op) {
+    match world.shown(op) {
         Some(node) => node.results().len() as u32,
         None => 0,
     }
@@ -151,8 +151,8 @@ fn index_cast(alloc: Global, ends: &Ends) -> Result<TreeOp, AllocError>
     })
 }
 
-/// The edits that put an `arith.index_cast` in the place of an operation. A place is in front of the operation, and an id is the
-/// next free one.
+/// The edits that put an `arith.index_cast` in the place of an operation. A place is in front of the operation, and an
+/// id is the next free one.
 fn cast_edits(
     alloc: Global,
     front: Place,
@@ -176,14 +176,15 @@ fn cast_edits(
     Ok(edits)
 }
 
-/// The edits that put an `arith.index_cast` in the place of an operation of the module, if it has one operand and one result and
-/// takes index to i64 or back.
+/// The edits that put an `arith.index_cast` in the place of an operation of the module, if it has one operand and one
+/// result and takes index to i64 or back.
 pub fn index_edits(alloc: Global, world: &World, op: OpId) -> Result<Option<Vec<Edit>>, AllocError>
-    ensures edits { IfOk result (λ p. option_map (λ es. edits_meaning world.now.ctx es.items) p ≡ index_edits (module_in world.now) op) }
+    ensures edits { IfOk result
+        (λ p. option_map (λ es. edits_meaning world.now.ctx es.items) p ≡ index_edits (module_in world.now) op) }
     ensures fit { IfOk result (λ p. IfSome p (λ es. AllFit world.now.ctx es.items)) }
 {
     world.ctx.sound();
-    let Some(node) = shown(world, op) else {
+    let Some(node) = world.shown(op) else {
         return Ok(None);
     };
     let Some(place) = world.store.place(op) else {

@@ -10,8 +10,8 @@ ghost use Rattle.conversion_base.specs.Conversion.{casts_left, conversion_of, co
 ghost use Rattle.conversion_base.specs.Reconciling.{all_collapsed, collapse, next_collapse};
 ghost use Rattle.conversion_base.specs.Targets.{Aim, is_legal};
 
-/// A cast that is taken away takes an operation away; so as many steps as there are operations are enough, and behind them no
-/// cast is left that isn't used or that collapses.
+/// A cast that is taken away takes an operation away; so as many steps as there are operations are enough, and behind
+/// them no cast is left that isn't used or that collapses.
 pub fn none_is_left()
     ensures falls { (m n : Module) (x : ℕ) → collapse m x ≡ becomes n → op_count n.tree < op_count m.tree }
     ensures none { (m n : Module) → all_collapsed m ≡ becomes n → next_collapse n ≡ none }
@@ -19,10 +19,12 @@ pub fn none_is_left()
 
 /// Where all casts of a well-formed module became others, no cast is left.
 pub fn no_cast_is_left()
-    ensures { (m n : Module) (k : ℕ) → IsWellFormed is_isolated m → casts_left m ≡ converted n k → has_no_cast n.tree ≡ true }
+    ensures { (m n : Module) (k : ℕ) → IsWellFormed is_isolated m → casts_left m ≡ converted n k
+        → has_no_cast n.tree ≡ true }
 {}
 
 /// After a full conversion every operation is legal.
 pub fn full_conversions_are_legal()
-    ensures { (g : Aim) (m n : Module) (k : ℕ) → g.full ≡ true → conversion_of g m ≡ converted n k → list_all (λ x. is_legal g x n.tree) (ids n.tree) ≡ true }
+    ensures { (g : Aim) (m n : Module) (k : ℕ) → g.full ≡ true → conversion_of g m ≡ converted n k
+        → list_all (λ x. is_legal g x n.tree) (ids n.tree) ≡ true }
 {}

@@ -1,18 +1,16 @@
 //! Which operations are legal for a target.
-ghost use Rattle.std.specs.Prelude.{◌≡◌, ◌≤◌, length, map, option_map, option_and_then, slice_get, IfSome};
+ghost use Rattle.std.specs.Prelude.{◌≡◌, ◌≤◌, length, map, option_and_then, slice_get};
 ghost use Rattle.std.specs.List.{All, list_any};
 ghost use Rattle.ir_types.specs.Things.{IsName, IsType};
 ghost use Rattle.ir_types.specs.Terms.{name_term, type_term};
-ghost use Rattle.ir_store.specs.Nodes.{node_of};
-ghost use Rattle.ir_tree.specs.Ids.{find};
 ghost use Rattle.ir_event.specs.Modules.{NodeIsOf, module_in, node_meaning};
 ghost use Rattle.patterns_base.specs.Looks.{is_index, is_index_value};
 ghost use Rattle.patterns_base.specs.Words.{among};
-ghost use Rattle.conversion_base.specs.Targets.{IsNamedIn, aim_of, has_index, index_argument, is_legal, is_legal_node, names_of};
+ghost use Rattle.conversion_base.specs.Targets.{IsNamedIn, aim_of, has_index, index_argument, is_legal, is_legal_node};
+ghost use Rattle.conversion_base.specs.Targets.{names_of};
 
 use crate::accepted::is_among;
 use crate::target::Target;
-use ir_event::laws::nodes_are_of_the_context;
 use ir_event::world::World;
 use ir_store::node::Node;
 use ir_tree::value::Value;
@@ -71,9 +69,10 @@ fn any_index_value(world: &World, values: &[Value]) -> bool
 /// Whether the block of a region of an operation, of which this is shown, has an argument of type `index`.
 fn has_index_argument(ctx: &Context, node: &Node<'_>, region: u32) -> bool
     requires of { NodeIsOf ctx.now node.now }
-    ensures { result ≡ index_argument (option_and_then (λ a. a) (slice_get (node_meaning ctx.now node.now).arguments region)) }
+    ensures { result ≡ index_argument
+        (option_and_then (λ a. a) (slice_get (node_meaning ctx.now node.now).arguments region)) }
 {
-    match node.arguments(region) {
+    match node.arguments(region as usize) {
         Some(types) => any_index(ctx, types),
         None => false,
     }
@@ -123,7 +122,8 @@ fn is_legal_node(world: &World, target: &Target, node: &Node<'_>) -> bool
     requires names { IsNamedIn world.now.ctx target.now }
     requires of { NodeIsOf world.now.ctx node.now }
     requires few { length node.now.arguments ≤ 16 }
-    ensures { result ≡ is_legal_node (aim_of world.now.ctx target.now) (module_in world.now).tree (node_meaning world.now.ctx node.now) }
+    ensures { result ≡ is_legal_node (aim_of world.now.ctx target.now) (module_in world.now).tree
+        (node_meaning world.now.ctx node.now) }
 {
     let ctx = &world.ctx;
     let name = node.name();
@@ -133,25 +133,12 @@ fn is_legal_node(world: &World, target: &Target, node: &Node<'_>) -> bool
         || !target.full && !is_named(ctx, target, name)
 }
 
-/// What an operation of the module has.
-pub fn shown<'a>(world: &'a World, op: OpId) -> Option<Node<'a>>
-    ensures of { IfSome result (NodeIsOf world.now.ctx) }
-    ensures node { result ≡ option_map node_of (find op world.now.store.module_of.tree) }
-    ensures few { IfSome result (λ n. (length n.arguments ≤ 16) × (length n.head.results ≤ 256)) }
-{
-    nodes_are_of_the_context();
-    if !world.store.in_tree(op) {
-        return None;
-    }
-    world.store.node(op)
-}
-
 /// Whether an operation of the module is legal for a target.
 pub fn is_legal(world: &World, target: &Target, op: OpId) -> bool
     requires names { IsNamedIn world.now.ctx target.now }
     ensures { result ≡ is_legal (aim_of world.now.ctx target.now) op (module_in world.now).tree }
 {
-    let Some(node) = shown(world, op) else {
+    let Some(node) = world.shown(op) else {
         return false;
     };
     is_legal_node(world, target, &node)

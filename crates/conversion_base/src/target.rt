@@ -26,5 +26,12 @@ impl Model for Target {
 
     ghost Value = { TargetOf ℕ };
 
-    ghost view = { λ g. record { full = g.full; legal = g.legal; illegal = g.illegal; dynamic = g.dynamic; rules = g.rules.items; depth = g.depth } };
+    ghost view = { λ g. record {
+      full = g.full;
+      legal = g.legal;
+      illegal = g.illegal;
+      dynamic = g.dynamic;
+      rules = g.rules.items;
+      depth = g.depth;
+    } };
 }

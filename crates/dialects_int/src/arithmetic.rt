@@ -36,6 +36,7 @@ pub fn compute(operation: Arithmetic, width: u32, a: u128, b: u128) -> Option<u1
     }
 }
 
+/// The sum modulo 2^width (`arith` Dialect, "arith.addi").
 fn add(width: u32, a: u128, b: u128) -> u128
     requires low { 1 ≤ width }
     requires high { width ≤ most_width }
@@ -45,6 +46,7 @@ fn add(width: u32, a: u128, b: u128) -> u128
     a.wrapping_add(b) & mask(width)
 }
 
+/// The difference modulo 2^width (`arith` Dialect, "arith.subi").
 fn subtract(width: u32, a: u128, b: u128) -> u128
     requires low { 1 ≤ width }
     requires high { width ≤ most_width }
@@ -55,6 +57,7 @@ fn subtract(width: u32, a: u128, b: u128) -> u128
     a.wrapping_sub(b) & mask(width)
 }
 
+/// The product modulo 2^width (`arith` Dialect, "arith.muli").
 fn multiply(width: u32, a: u128, b: u128) -> u128
     requires low { 1 ≤ width }
     requires high { width ≤ most_width }
@@ -82,6 +85,8 @@ fn divide_signed(width: u32, a: u128, b: u128) -> Option<u128>
     Some(wrapped(width, dividend / divisor))
 }
 
+/// The remainder of the signed readings, with the sign of the dividend, or none where their quotient is no value of
+/// the width.
 #[tactic(auto, unfolding(crate::specs::Arithmetic::signed_remainder_of))]
 fn remainder_signed(width: u32, a: u128, b: u128) -> Option<u128>
     requires low { 1 ≤ width }
@@ -109,6 +114,7 @@ fn divides(width: u32, a: u128, b: u128) -> bool
     b != 0 && !(a == mask / 2 + 1 && b == mask)
 }
 
+/// The quotient of the unsigned readings, rounded down, or none by 0.
 #[tactic(auto, unfolding(crate::specs::Arithmetic::quotient_of))]
 fn divide(width: u32, a: u128, b: u128) -> Option<u128>
     requires left { a < 2 ^ width }
@@ -118,6 +124,7 @@ fn divide(width: u32, a: u128, b: u128) -> Option<u128>
     if b == 0 { None } else { Some(a / b) }
 }
 
+/// The remainder of the unsigned readings, or none by 0.
 #[tactic(auto, unfolding(crate::specs::Arithmetic::remainder_of))]
 fn remainder(width: u32, a: u128, b: u128) -> Option<u128>
     requires left { a < 2 ^ width }
@@ -127,6 +134,8 @@ fn remainder(width: u32, a: u128, b: u128) -> Option<u128>
     if b == 0 { None } else { Some(a % b) }
 }
 
+/// The value shifted left, with zeros at the right and what passes the width cut off, or none where the shift is not
+/// below the width.
 #[tactic(auto, unfolding(crate::specs::Arithmetic::left_shift_of))]
 fn shift_left(width: u32, a: u128, b: u128) -> Option<u128>
     requires low { 1 ≤ width }
@@ -141,6 +150,7 @@ fn shift_left(width: u32, a: u128, b: u128) -> Option<u128>
     }
 }
 
+/// The value shifted right, with zeros at the left, or none where the shift is not below the width.
 #[tactic(auto, unfolding(crate::specs::Arithmetic::right_shift_of))]
 fn shift_right(width: u32, a: u128, b: u128) -> Option<u128>
     requires high { width ≤ most_width }
@@ -171,6 +181,7 @@ fn shift_right_signed(width: u32, a: u128, b: u128) -> Option<u128>
     }
 }
 
+/// The conjunction, bit by bit.
 fn and(width: u32, a: u128, b: u128) -> u128
     requires left { a < 2 ^ width }
     ensures value { result ≡ bit_and a b }
@@ -179,6 +190,7 @@ fn and(width: u32, a: u128, b: u128) -> u128
     a & b
 }
 
+/// The disjunction, bit by bit.
 fn or(width: u32, a: u128, b: u128) -> u128
     requires left { a < 2 ^ width }
     requires right { b < 2 ^ width }
@@ -188,6 +200,7 @@ fn or(width: u32, a: u128, b: u128) -> u128
     a | b
 }
 
+/// The exclusive disjunction, bit by bit.
 fn exclusive_or(width: u32, a: u128, b: u128) -> u128
     requires left { a < 2 ^ width }
     requires right { b < 2 ^ width }
@@ -197,6 +210,7 @@ fn exclusive_or(width: u32, a: u128, b: u128) -> u128
     a ^ b
 }
 
+/// The value whose signed reading is the greater.
 #[tactic(auto, unfolding(crate::specs::Arithmetic::signed_maximum_of))]
 fn maximum_signed(width: u32, a: u128, b: u128) -> u128
     requires low { 1 ≤ width }
@@ -213,6 +227,7 @@ fn maximum_signed(width: u32, a: u128, b: u128) -> u128
     }
 }
 
+/// The value whose unsigned reading is the greater.
 #[tactic(auto, unfolding(crate::specs::Arithmetic::maximum_of))]
 fn maximum(width: u32, a: u128, b: u128) -> u128
     requires left { a < 2 ^ width }
@@ -223,6 +238,7 @@ fn maximum(width: u32, a: u128, b: u128) -> u128
     if a < b { b } else { a }
 }
 
+/// The value whose signed reading is the smaller.
 #[tactic(auto, unfolding(crate::specs::Arithmetic::signed_minimum_of))]
 fn minimum_signed(width: u32, a: u128, b: u128) -> u128
     requires low { 1 ≤ width }
@@ -239,6 +255,7 @@ fn minimum_signed(width: u32, a: u128, b: u128) -> u128
     }
 }
 
+/// The value whose unsigned reading is the smaller.
 #[tactic(auto, unfolding(crate::specs::Arithmetic::minimum_of))]
 fn minimum(width: u32, a: u128, b: u128) -> u128
     requires left { a < 2 ^ width }
@@ -289,6 +306,7 @@ pub fn resize(cast: Cast, from: u32, to: u32, a: u128) -> Option<u128>
     }
 }
 
+/// The signed reading of a value as a value of `to` bits, modulo 2^to.
 #[tactic(auto, unfolding(crate::specs::Arithmetic::sign_extended))]
 fn extend_signed(from: u32, to: u32, a: u128) -> u128
     requires from_low { 1 ≤ from }
@@ -302,6 +320,7 @@ fn extend_signed(from: u32, to: u32, a: u128) -> u128
     wrapped(to, signed_number(from, a))
 }
 
+/// The unsigned reading of a value as a value of `to` bits, modulo 2^to.
 fn extend(to: u32, a: u128) -> u128
     requires low { 1 ≤ to }
     requires high { to ≤ most_width }
@@ -311,6 +330,7 @@ fn extend(to: u32, a: u128) -> u128
     a & mask(to)
 }
 
+/// The low `to` bits of a value, or none where that is not a smaller width.
 #[tactic(auto, unfolding(crate::specs::Arithmetic::truncated, crate::specs::Arithmetic::zero_extended))]
 fn truncate(from: u32, to: u32, a: u128) -> Option<u128>
     requires low { 1 ≤ to }

@@ -75,6 +75,7 @@ fn fold_by(
     }
 }
 
+/// The bits of an arithmetic operation's result, of two operands of the result's kind.
 fn pair_fold(operation: Arithmetic, kind: BitsKind, operands: &[Option<Bits>]) -> Option<u128>
     requires low { 1 ≤ width_of kind }
     requires high { width_of kind ≤ most_width }
@@ -137,6 +138,7 @@ fn absorbs(operation: Arithmetic, width: u32, a: u128) -> bool
     }
 }
 
+/// 1 or 0, as two known operands of one kind are as the property `predicate` asks or not.
 fn compare_fold(
     ctx: &Context,
     props: &[(NameId, AttrId)],
@@ -157,7 +159,7 @@ fn compare_fold(
     both_compared(predicate_at(number)?, x, y)
 }
 
-/// The same of operands, where both are known.
+/// 1 or 0, as two operands are as a predicate asks or not, where both are known and of one kind.
 fn both_compared(predicate: Predicate, x: &Option<Bits>, y: &Option<Bits>) -> Option<u128>
     ensures value { result ≡ both (folds.compared predicate) (known_of x.now) (known_of y.now) }
     ensures below { IfSome result (λ v. v < 2 ^ 1) }
@@ -182,6 +184,7 @@ fn compared(predicate: Predicate, x: &Bits, y: &Bits) -> Option<u128>
     Some(compare(predicate, width(x.kind), x.value, y.value) as u128)
 }
 
+/// The bits of the operand that a known condition chooses: the second operand by 1, the third by 0.
 fn select_fold(kind: BitsKind, operands: &[Option<Bits>]) -> Option<u128>
     ensures value { result ≡ folds.select_fold kind (map known_of operands.now) }
     ensures below { IfSome result (λ v. v < 2 ^ width_of kind) }
@@ -196,6 +199,7 @@ fn select_fold(kind: BitsKind, operands: &[Option<Bits>]) -> Option<u128>
     }
 }
 
+/// The bits of a cast from one integer type to another, of one known operand.
 fn resize_fold(cast: Cast, kind: BitsKind, operands: &[Option<Bits>]) -> Option<u128>
     requires low { 1 ≤ width_of kind }
     requires high { width_of kind ≤ most_width }
@@ -226,6 +230,7 @@ fn resized(cast: Cast, kind: BitsKind, x: &Bits) -> Option<u128>
     }
 }
 
+/// The bits of a cast between an integer type and index, of one known operand.
 fn index_cast_fold(cast: Cast, kind: BitsKind, operands: &[Option<Bits>]) -> Option<u128>
     requires low { 1 ≤ width_of kind }
     requires high { width_of kind ≤ most_width }
@@ -241,6 +246,7 @@ fn index_cast_fold(cast: Cast, kind: BitsKind, operands: &[Option<Bits>]) -> Opt
     }
 }
 
+/// The bits of a constant's property `value`, where it is of the result's kind.
 fn constant_fold(
     ctx: &Context,
     props: &[(NameId, AttrId)],

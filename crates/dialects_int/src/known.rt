@@ -32,6 +32,7 @@ pub(crate) fn kind_of(ctx: &Context, ty: TypeId) -> Option<BitsKind>
     kind_in(type_of(ctx, ty))
 }
 
+/// The kind of the values of a type's node, if they have any.
 fn kind_in(node: &TypeNode) -> Option<BitsKind>
     ensures { (known : List TypeTerm) → result ≡ folds.kind_of (type_from known node.now) }
 {

@@ -158,6 +158,7 @@ fn rule_at(place: usize) -> Option<Rule>
     entry(&RULES, place)
 }
 
+/// The item at a place of a table, or none past its end.
 fn entry<T: Copy>(table: &[T], place: usize) -> Option<T>
     ensures { result ≡ slice_get table.now place }
 {

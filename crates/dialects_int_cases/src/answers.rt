@@ -51,7 +51,8 @@ fn folded_by(
     told(alloc, checked_fold(context, name, props, &known, results))
 }
 
-/// The same, with its results alone: `OPERANDS PROPERTIES`.
+/// The fold of an operation of a name, with its results, by a text of its operands and properties: `OPERANDS
+/// PROPERTIES`.
 fn folded_to(
     alloc: Global,
     context: &mut Context,

@@ -1,5 +1,6 @@
 -- How many uses the results of operations have: a table of counts, as it follows a tree.
-use Rattle.std.specs.Prelude.{◌≡◌, ℕ, ◌+◌, ◌-◌, nat_lt, List, [], ◌∷◌, eqb, Bool, false, Option, Some, None, option_map, if◌then◌else◌}
+use Rattle.std.specs.Prelude.{◌≡◌, ℕ, ◌+◌, ◌-◌, nat_lt, List, [], ◌∷◌, eqb, Bool, false, Option, Some, None, option_map}
+use Rattle.std.specs.Prelude.{if◌then◌else◌}
 use Rattle.std.specs.Ordering.{nat_cmp}
 use Rattle.std.specs.BTreeMap.{BTreeMap}
 use Rattle.std.specs.BTreeMap as tree
@@ -31,7 +32,8 @@ results_among x (v ∷ vs) = one_if (is_result_of x v) + results_among x vs
 
 -- a table counts a tree: each operation has one for each use of a result of it, and one more where it is kept
 abbrev pub Counted : Counts → Operation → Type 0
-Counted a t = (x : ℕ) → a x ≡ option_map (λ o. results_among x (all_operands (heads t)) + one_if (is_kept (head o).name)) (find x t)
+Counted a t = (x : ℕ) → a x
+    ≡ option_map (λ o. results_among x (all_operands (heads t)) + one_if (is_kept (head o).name)) (find x t)
 
 -- a table with another count for x
 abbrev pub with_count : ℕ → Option ℕ → Counts → Counts
@@ -68,7 +70,8 @@ LeftWith x vs a b = Lowered vs (with_count x None a) b
 
 -- one value is used in the place of another
 abbrev pub Exchanged : Value → Value → Counts → Counts → Type 0
-Exchanged old new a b = (y : ℕ) → b y ≡ option_map (λ n. (n + one_if (is_result_of y new)) - one_if (is_result_of y old)) (a y)
+Exchanged old new a b = (y : ℕ)
+    → b y ≡ option_map (λ n. (n + one_if (is_result_of y new)) - one_if (is_result_of y old)) (a y)
 
 -- whether an operation has a count, and that is 0
 abbrev pub is_zero : Option ℕ → Bool
@@ -77,7 +80,8 @@ is_zero (Some n) = nat_lt n 1
 
 -- a table followed an event, where these operations were shown
 abbrev pub CountsFollowed : (ℕ → Option Node) → Event → Counts → Counts → Type 0
-CountsFollowed shown (Put x place fresh) a b = (n : Node) → shown x ≡ Some n → EnteredWith x (is_kept n.head.name) n.head.operands a b
+CountsFollowed shown (Put x place fresh) a b = (n : Node) → shown x ≡ Some n
+    → EnteredWith x (is_kept n.head.name) n.head.operands a b
 CountsFollowed shown (Take x place fresh) a b = (n : Node) → shown x ≡ Some n → LeftWith x n.head.operands a b
 CountsFollowed shown (SetOperand x k old new) a b = Exchanged old new a b
 CountsFollowed shown (SetEntry x part key old new) a b = (y : ℕ) → b y ≡ a y

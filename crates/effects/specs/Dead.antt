@@ -25,7 +25,8 @@ is_unused x t = every (λ o. list_all (λ v. not (is_result_of x v)) (head o).op
 
 -- terminators, modules and functions stay whatever they do
 abbrev pub is_kept : List ℕ → Bool
-is_kept name = has_trait Terminator name || (bytes_eq name (codes "builtin.module") || bytes_eq name (codes "func.func"))
+is_kept name =
+    has_trait Terminator name || (bytes_eq name (codes "builtin.module") || bytes_eq name (codes "func.func"))
 
 -- whether there is no effect but those that nobody would miss: an allocation and a read
 abbrev pub may_go : EffectKinds → Bool

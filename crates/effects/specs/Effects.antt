@@ -34,7 +34,14 @@ is_none a = not (a.unknown || (a.allocate || (a.free || (a.read || a.write))))
 
 -- what is in one of two sets
 abbrev pub union : EffectKinds → EffectKinds → EffectKinds
-union a b = record { unknown = a.unknown || b.unknown; allocate = a.allocate || b.allocate; free = a.free || b.free; read = a.read || b.read; write = a.write || b.write }
+union a b =
+    record {
+      unknown = a.unknown || b.unknown;
+      allocate = a.allocate || b.allocate;
+      free = a.free || b.free;
+      read = a.read || b.read;
+      write = a.write || b.write;
+    }
 
 -- what an operation has by itself, as a set; where that is what others have it is empty
 abbrev pub own_kinds : Own → EffectKinds

@@ -40,7 +40,9 @@ tag_if tag b n = if b then tag n ∷ [] else []
 -- the row of an operation with effects: the operation, and the words unknown, allocate, free, read, write
 abbrev pub cells_of : {C : Type 0} → (ℕ → C) → (ℕ → C) → ℕ × EffectKinds → List C
 cells_of op tag p =
-    ((((op p.0 ∷ [] ++ tag_if tag p.1.unknown (tag_number word.Unknown)) ++ tag_if tag p.1.allocate (tag_number word.Allocate)) ++ tag_if tag p.1.free (tag_number word.Free)) ++ tag_if tag p.1.read (tag_number word.Read))
+    ((((op p.0 ∷ [] ++ tag_if tag p.1.unknown (tag_number word.Unknown))
+    ++ tag_if tag p.1.allocate (tag_number word.Allocate)) ++ tag_if tag p.1.free (tag_number word.Free))
+    ++ tag_if tag p.1.read (tag_number word.Read))
     ++ tag_if tag p.1.write (tag_number word.Write)
 
 -- the row of an operation alone

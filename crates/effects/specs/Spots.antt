@@ -1,5 +1,6 @@
 -- Operations in a list, each with the one around it, and a table that keeps their effects.
-use Rattle.std.specs.Prelude.{◌≡◌, ℕ, ◌+◌, List, [], ◌∷◌, ◌++◌, eqb, nat_lt, Bool, false, ◌&&◌, if◌then◌else◌, Option, Some, None}
+use Rattle.std.specs.Prelude.{◌≡◌, ℕ, ◌+◌, List, [], ◌∷◌, ◌++◌, eqb, nat_lt, Bool, false, ◌&&◌, if◌then◌else◌, Option}
+use Rattle.std.specs.Prelude.{Some, None}
 use Rattle.ir_tree_laws.specs.Members.{In}
 use Rattle.ir_tree.specs.Tree.{OpOf, op, RegionsOf, no_regions, region, RegionOf, empty, block, OpsOf, no_ops, next}
 use Rattle.effects.specs.declared.kinds.EffectKinds.{EffectKinds}
@@ -110,5 +111,6 @@ pub record Holds (rows : Rows) (ns : List Spot) (p : Option ℕ) (more less : Ef
   pub known : (n : Spot) → In n ns → Keeps rows n
   pub only : (x : ℕ) → Lacks x ns → rows x ≡ None
   pub counts : (e : Effect) (n : Spot) → In n ns →
-      count_at e rows n.id + one_if (is_in n.id p && has e more) ≡ weight (has_at e rows) n.id ns + one_if (is_in n.id p && has e less)
+      count_at e rows n.id + one_if (is_in n.id p && has e more)
+      ≡ weight (has_at e rows) n.id ns + one_if (is_in n.id p && has e less)
   pub each : (e : Effect) (n : Spot) → In n ns → has_at e rows n.id ≡ given e n.own (count_at e rows n.id)

@@ -12,22 +12,57 @@ use Rattle.effects.specs.Spots.{one_if, Rows}
 
 -- what is in one set and not in another
 abbrev pub minus : EffectKinds → EffectKinds → EffectKinds
-minus a b = record { unknown = a.unknown && not b.unknown; allocate = a.allocate && not b.allocate; free = a.free && not b.free; read = a.read && not b.read; write = a.write && not b.write }
+minus a b =
+    record {
+      unknown = a.unknown && not b.unknown;
+      allocate = a.allocate && not b.allocate;
+      free = a.free && not b.free;
+      read = a.read && not b.read;
+      write = a.write && not b.write;
+    }
 
 -- what is in both of two sets
 abbrev pub both : EffectKinds → EffectKinds → EffectKinds
-both a b = record { unknown = a.unknown && b.unknown; allocate = a.allocate && b.allocate; free = a.free && b.free; read = a.read && b.read; write = a.write && b.write }
+both a b =
+    record {
+      unknown = a.unknown && b.unknown;
+      allocate = a.allocate && b.allocate;
+      free = a.free && b.free;
+      read = a.read && b.read;
+      write = a.write && b.write;
+    }
 
 -- the effects that are counted
 abbrev pub present : Counts → EffectKinds
-present c = record { unknown = nat_lt 0 c.unknown; allocate = nat_lt 0 c.allocate; free = nat_lt 0 c.free; read = nat_lt 0 c.read; write = nat_lt 0 c.write }
+present c =
+    record {
+      unknown = nat_lt 0 c.unknown;
+      allocate = nat_lt 0 c.allocate;
+      free = nat_lt 0 c.free;
+      read = nat_lt 0 c.read;
+      write = nat_lt 0 c.write;
+    }
 
 -- one less, or one more, of each effect of a set
 abbrev pub lowered : Counts → EffectKinds → Counts
-lowered c s = record { unknown = c.unknown - one_if s.unknown; allocate = c.allocate - one_if s.allocate; free = c.free - one_if s.free; read = c.read - one_if s.read; write = c.write - one_if s.write }
+lowered c s =
+    record {
+      unknown = c.unknown - one_if s.unknown;
+      allocate = c.allocate - one_if s.allocate;
+      free = c.free - one_if s.free;
+      read = c.read - one_if s.read;
+      write = c.write - one_if s.write;
+    }
 
 abbrev pub raised : Counts → EffectKinds → Counts
-raised c s = record { unknown = c.unknown + one_if s.unknown; allocate = c.allocate + one_if s.allocate; free = c.free + one_if s.free; read = c.read + one_if s.read; write = c.write + one_if s.write }
+raised c s =
+    record {
+      unknown = c.unknown + one_if s.unknown;
+      allocate = c.allocate + one_if s.allocate;
+      free = c.free + one_if s.free;
+      read = c.read + one_if s.read;
+      write = c.write + one_if s.write;
+    }
 
 -- no effect is counted
 abbrev pub no_counts : Counts
@@ -39,10 +74,22 @@ new_row p own = record { parent = p; recursive = is_recursive own; has = own_kin
 
 -- a row where one operation less, or one more, directly inside has each of these effects
 abbrev pub lost_row : Row → EffectKinds → Row
-lost_row r s = record { parent = r.parent; recursive = r.recursive; has = if r.recursive then both r.has (present (lowered r.counts s)) else r.has; counts = lowered r.counts s }
+lost_row r s =
+    record {
+      parent = r.parent;
+      recursive = r.recursive;
+      has = if r.recursive then both r.has (present (lowered r.counts s)) else r.has;
+      counts = lowered r.counts s;
+    }
 
 abbrev pub gained_row : Row → EffectKinds → Row
-gained_row r s = record { parent = r.parent; recursive = r.recursive; has = if r.recursive then union r.has s else r.has; counts = raised r.counts s }
+gained_row r s =
+    record {
+      parent = r.parent;
+      recursive = r.recursive;
+      has = if r.recursive then union r.has s else r.has;
+      counts = raised r.counts s;
+    }
 
 -- what a map keeps of an operation
 abbrev pub row_at : BTreeMap ℕ Row → Rows
@@ -54,7 +101,9 @@ size a = one_if a.unknown + (one_if a.allocate + (one_if a.free + (one_if a.read
 
 -- and how many it lacks
 abbrev pub room : EffectKinds → ℕ
-room a = one_if (not a.unknown) + (one_if (not a.allocate) + (one_if (not a.free) + (one_if (not a.read) + one_if (not a.write))))
+room a =
+    one_if (not a.unknown) + (one_if (not a.allocate)
+    + (one_if (not a.free) + (one_if (not a.read) + one_if (not a.write))))
 
 -- the sum of such a number over all entries
 abbrev pub total : (EffectKinds → ℕ) → List (ℕ × Row) → ℕ

@@ -16,7 +16,8 @@ use std::collections::BTreeMap;
 
 /// Puts in the operations of a world's module. It is false where memory was refused.
 pub(crate) fn put_module(world: &World, rows: &mut BTreeMap<OpId, Row>) -> bool
-    ensures { OnTrue result (PutAll (spots (own_by world.now.ctx) None world.now.store.module_of.tree) (row_at rows.old) (row_at rows.new)) }
+    ensures { OnTrue result (PutAll (spots (own_by world.now.ctx) None world.now.store.module_of.tree) (row_at rows.old)
+        (row_at rows.new)) }
 {
     let Ok(ops) = world.store.operations() else {
         return false;
@@ -26,7 +27,9 @@ pub(crate) fn put_module(world: &World, rows: &mut BTreeMap<OpId, Row>) -> bool
 
 /// Puts in operations, each behind the one that it stands in.
 fn put_all(world: &World, ops: &[OpId], rows: &mut BTreeMap<OpId, Row>) -> bool
-    ensures { OnTrue result (PutAll (spots_by (own_by world.now.ctx) (parent_at world.now.store) (head_at world.now.store) ops.now) (row_at rows.old) (row_at rows.new)) }
+    ensures { OnTrue result (PutAll
+        (spots_by (own_by world.now.ctx) (parent_at world.now.store) (head_at world.now.store) ops.now)
+        (row_at rows.old) (row_at rows.new)) }
 {
     for op in ops {
         if !put_found(world, *op, rows) {
@@ -38,7 +41,9 @@ fn put_all(world: &World, ops: &[OpId], rows: &mut BTreeMap<OpId, Row>) -> bool
 
 /// Puts in an operation, if it is there.
 fn put_found(world: &World, op: OpId, rows: &mut BTreeMap<OpId, Row>) -> bool
-    ensures { OnTrue result (PutAll (with_spot (own_by world.now.ctx) op (parent_at world.now.store op) (head_at world.now.store op) []) (row_at rows.old) (row_at rows.new)) }
+    ensures { OnTrue result (PutAll
+        (with_spot (own_by world.now.ctx) op (parent_at world.now.store op) (head_at world.now.store op) [])
+        (row_at rows.old) (row_at rows.new)) }
 {
     let Some(node) = world.store.node(op) else {
         return true;

@@ -17,7 +17,9 @@ use std::collections::BTreeMap;
 
 /// Puts in an operation that is shown. It is false where it isn't, or memory was refused.
 fn put_shown(counts: &mut BTreeMap<OpId, u32>, view: &mut View<'_>, op: OpId) -> bool
-    ensures put { OnTrue result ((n : Shown) → shown_in view.old.world.now op ≡ Some n → EnteredWith op (is_kept n.head.name) n.head.operands (counts_in counts.old) (counts_in counts.new)) }
+    ensures put { OnTrue result
+        ((n : Shown) → shown_in view.old.world.now op ≡ Some n
+        → EnteredWith op (is_kept n.head.name) n.head.operands (counts_in counts.old) (counts_in counts.new)) }
     ensures world { view.new.world.now ≡ view.old.world.now }
     ensures looks { view.new.looks ≡ one_more view.old.looks }
 {
@@ -30,7 +32,9 @@ fn put_shown(counts: &mut BTreeMap<OpId, u32>, view: &mut View<'_>, op: OpId) ->
 
 /// Takes out an operation that is shown. It is false where it isn't.
 fn take_shown(counts: &mut BTreeMap<OpId, u32>, view: &mut View<'_>, op: OpId) -> bool
-    ensures taken { OnTrue result ((n : Shown) → shown_in view.old.world.now op ≡ Some n → LeftWith op n.head.operands (counts_in counts.old) (counts_in counts.new)) }
+    ensures taken { OnTrue result
+        ((n : Shown) → shown_in view.old.world.now op ≡ Some n
+        → LeftWith op n.head.operands (counts_in counts.old) (counts_in counts.new)) }
     ensures shown { (n : Shown) → shown_in view.old.world.now op ≡ Some n → result ≡ true }
     ensures world { view.new.world.now ≡ view.old.world.now }
     ensures looks { view.new.looks ≡ one_more view.old.looks }
@@ -48,10 +52,12 @@ pub(crate) fn follow_counts(
     view: &mut View<'_>,
     event: &Event,
 ) -> bool
-    ensures followed { OnTrue result (CountsFollowed (shown_in view.old.world.now) event.now (counts_in counts.old) (counts_in counts.new)) }
+    ensures followed { OnTrue result
+        (CountsFollowed (shown_in view.old.world.now) event.now (counts_in counts.old) (counts_in counts.new)) }
     ensures world { view.new.world.now ≡ view.old.world.now }
     ensures looks { view.new.looks ≤ view.old.looks + 1 }
-    ensures take { (n : Shown) → is_take event.now ≡ true → shown_in view.old.world.now (op_of event.now) ≡ Some n → result ≡ true }
+    ensures take { (n : Shown) → is_take event.now ≡ true → shown_in view.old.world.now (op_of event.now) ≡ Some n
+        → result ≡ true }
 {
     match event {
         Event::Put { op, .. } => put_shown(counts, view, *op),

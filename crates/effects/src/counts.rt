@@ -2,7 +2,8 @@
 //! operation stays whatever it does.
 ghost use Rattle.std.specs.Prelude.{◌≡◌, ℕ, Some, [], ◌∷◌, IsTrue};
 ghost use Rattle.std.specs.Bool.{OnTrue};
-ghost use Rattle.effects.specs.Counts.{counts_in, with_count, Raised, Lowered, Entered, EnteredWith, LeftWith, Exchanged};
+ghost use Rattle.effects.specs.Counts.{counts_in, with_count, Raised, Lowered, Entered, EnteredWith, LeftWith};
+ghost use Rattle.effects.specs.Counts.{Exchanged};
 ghost use Rattle.effects.specs.Spots.{one_if};
 
 use ir_tree::value::Value;
@@ -18,7 +19,8 @@ pub(crate) fn count_of(counts: &BTreeMap<OpId, u32>, op: OpId) -> Option<u32>
 
 /// Writes a count in place of another.
 fn write(counts: &mut BTreeMap<OpId, u32>, op: OpId, count: u32)
-    ensures { (n : ℕ) → counts_in counts.old op ≡ Some n → (y : ℕ) → counts_in counts.new y ≡ with_count op (Some count) (counts_in counts.old) y }
+    ensures { (n : ℕ) → counts_in counts.old op ≡ Some n → (y : ℕ)
+        → counts_in counts.new y ≡ with_count op (Some count) (counts_in counts.old) y }
 {
     if let Some(slot) = counts.get_mut(&op) {
         *slot = count;

@@ -50,7 +50,8 @@ impl Dead {
 /// Counts the uses of results in a world's module, where no operation has a count so far. It is false where memory
 /// was refused.
 fn tally(world: &World, counts: &mut BTreeMap<OpId, u32>) -> bool
-    ensures { ((y : ℕ) → counts_in counts.old y ≡ None) → OnTrue result (Counted (counts_in counts.new) (module_in world.now).tree) }
+    ensures { ((y : ℕ) → counts_in counts.old y ≡ None)
+        → OnTrue result (Counted (counts_in counts.new) (module_in world.now).tree) }
 {
     let Ok(ops) = world.store.operations() else {
         return false;
@@ -85,13 +86,19 @@ impl Analysis for Dead {
     /// Where it agreed before an operation was taken, and that one is shown, it agrees afterwards, and isn't stale. It
     /// looks at most twice, at an operation that was put or taken.
     fn told<'a>(&mut self, view: View<'a>, event: Event) -> View<'a>
-        ensures told { Told event (things_in view.entry.world.now) (module_in view.entry.world.now) (shown_in view.entry.world.now) (dead_listener self.old) (dead_listener self.new) }
-        ensures looks { (m : Module) → Step (things_in view.entry.world.now) event m (module_in view.entry.world.now) → ShowsTaken event m (shown_in view.entry.world.now)
-            → ((dead_listener self.old).agrees (things_in view.entry.world.now) m ⊎ ((dead_listener self.old).stale ≡ true)) → result.looks ≤ view.entry.looks + (dead_listener self.old).most event m (module_in view.entry.world.now) }
+        ensures told { Told event (things_in view.entry.world.now) (module_in view.entry.world.now)
+            (shown_in view.entry.world.now) (dead_listener self.old) (dead_listener self.new) }
+        ensures looks { (m : Module) → Step (things_in view.entry.world.now) event m (module_in view.entry.world.now)
+            → ShowsTaken event m (shown_in view.entry.world.now)
+            → ((dead_listener self.old).agrees (things_in view.entry.world.now) m
+            ⊎ ((dead_listener self.old).stale ≡ true))
+            → result.looks ≤ view.entry.looks + (dead_listener self.old).most event m (module_in view.entry.world.now) }
         ensures world { result.world.now ≡ view.entry.world.now }
         ensures twice { result.looks ≤ view.entry.looks + 2 }
-        ensures take { (m : Module) → is_take event ≡ true → Step (things_in view.entry.world.now) event m (module_in view.entry.world.now) → ShowsTaken event m (shown_in view.entry.world.now)
-            → (dead_listener self.old).agrees (things_in view.entry.world.now) m → (dead_listener self.new).agrees (things_in view.entry.world.now) (module_in view.entry.world.now) }
+        ensures take { (m : Module) → is_take event ≡ true → Step (things_in view.entry.world.now) event m
+            (module_in view.entry.world.now) → ShowsTaken event m (shown_in view.entry.world.now)
+            → (dead_listener self.old).agrees (things_in view.entry.world.now) m
+            → (dead_listener self.new).agrees (things_in view.entry.world.now) (module_in view.entry.world.now) }
     {
         if self.stale {
             return view;

@@ -27,7 +27,8 @@ fn may_go(own: &Own) -> bool
 
 /// What an operation of the module has by itself, and how many regions, if it is there.
 fn own_at(world: &World, op: OpId) -> Option<(Own, u32)>
-    ensures own { option_map (λ l. l.0) result ≡ option_map (λ o. own_by world.now.ctx (head o).name) (find op world.now.store.module_of.tree) }
+    ensures own { option_map (λ l. l.0) result
+        ≡ option_map (λ o. own_by world.now.ctx (head o).name) (find op world.now.store.module_of.tree) }
     ensures regions { IfSome result (λ l. l.1 ≡ region_count (regions_of (find op world.now.store.module_of.tree))) }
 {
     let Some(node) = world.shown(op) else {

@@ -74,12 +74,19 @@ impl Analysis for Effects {
     /// Where it agreed before an operation was taken it agrees afterwards, and isn't stale. It looks once, at an
     /// operation that was put.
     fn told<'a>(&mut self, view: View<'a>, event: Event) -> View<'a>
-        ensures told { Told event (things_in view.entry.world.now) (module_in view.entry.world.now) (shown_in view.entry.world.now) (effects_listener self.old) (effects_listener self.new) }
-        ensures looks { (m : Module) → Step (things_in view.entry.world.now) event m (module_in view.entry.world.now) → ShowsTaken event m (shown_in view.entry.world.now)
-            → ((effects_listener self.old).agrees (things_in view.entry.world.now) m ⊎ ((effects_listener self.old).stale ≡ true)) → result.looks ≤ view.entry.looks + (effects_listener self.old).most event m (module_in view.entry.world.now) }
+        ensures told { Told event (things_in view.entry.world.now) (module_in view.entry.world.now)
+            (shown_in view.entry.world.now) (effects_listener self.old) (effects_listener self.new) }
+        ensures looks { (m : Module) → Step (things_in view.entry.world.now) event m (module_in view.entry.world.now)
+            → ShowsTaken event m (shown_in view.entry.world.now)
+            → ((effects_listener self.old).agrees (things_in view.entry.world.now) m
+            ⊎ ((effects_listener self.old).stale ≡ true)) → result.looks
+            ≤ view.entry.looks + (effects_listener self.old).most event m (module_in view.entry.world.now) }
         ensures world { result.world.now ≡ view.entry.world.now }
         ensures once { result.looks ≤ view.entry.looks + 1 }
-        ensures take { (m : Module) → is_take event ≡ true → Step (things_in view.entry.world.now) event m (module_in view.entry.world.now) → (effects_listener self.old).agrees (things_in view.entry.world.now) m → (effects_listener self.new).agrees (things_in view.entry.world.now) (module_in view.entry.world.now) }
+        ensures take { (m : Module) → is_take event ≡ true
+            → Step (things_in view.entry.world.now) event m (module_in view.entry.world.now)
+            → (effects_listener self.old).agrees (things_in view.entry.world.now) m
+            → (effects_listener self.new).agrees (things_in view.entry.world.now) (module_in view.entry.world.now) }
     {
         if self.stale {
             return view;

@@ -29,7 +29,8 @@ fn own_at(view: &mut View<'_>, op: OpId) -> Option<Own>
 
 /// Follows an event. It is false where memory was refused, or an operation that was put isn't shown.
 pub(crate) fn follow(rows: &mut BTreeMap<OpId, Row>, view: &mut View<'_>, event: &Event) -> bool
-    ensures followed { OnTrue result (Followed (shown_in view.old.world.now) event.now (row_at rows.old) (row_at rows.new)) }
+    ensures followed { OnTrue result
+        (Followed (shown_in view.old.world.now) event.now (row_at rows.old) (row_at rows.new)) }
     ensures world { view.new.world.now ≡ view.old.world.now }
     ensures looks { view.new.looks ≤ view.old.looks + 1 }
     ensures take { is_take event.now ≡ true → result ≡ true }

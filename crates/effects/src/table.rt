@@ -56,7 +56,8 @@ fn detach(rows: &mut BTreeMap<OpId, Row>, op: OpId)
 
 /// Puts an operation that stands in none into another. It is false where a count would pass its type.
 fn attach(rows: &mut BTreeMap<OpId, Row>, op: OpId, parent: OpId) -> bool
-    ensures { OnTrue result ((n : Spot) (ns : List Spot) → n.id ≡ op → n.parent ≡ None → Apart (n ∷ ns) → Whole (row_at rows.old) (n ∷ ns) → Whole (row_at rows.new) (record n { parent = Some parent } ∷ ns)) }
+    ensures { OnTrue result ((n : Spot) (ns : List Spot) → n.id ≡ op → n.parent ≡ None → Apart (n ∷ ns)
+        → Whole (row_at rows.old) (n ∷ ns) → Whole (row_at rows.new) (record n { parent = Some parent } ∷ ns)) }
 {
     let Some(row) = row_of(rows, op) else {
         return false;

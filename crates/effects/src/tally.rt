@@ -28,7 +28,8 @@ pub(crate) fn is_kept(ctx: &Context, registry: &Registry, name: NameId) -> bool
 
 /// Gives operations their counts. It is false where memory was refused.
 pub(crate) fn enter_all(world: &World, ops: &[OpId], counts: &mut BTreeMap<OpId, u32>) -> bool
-    ensures { OnTrue result (AllEntered (kept_by world.now.ctx) (heads_by (head_at world.now.store) ops.now) (counts_in counts.old) (counts_in counts.new)) }
+    ensures { OnTrue result (AllEntered (kept_by world.now.ctx) (heads_by (head_at world.now.store) ops.now)
+        (counts_in counts.old) (counts_in counts.new)) }
 {
     for op in ops {
         if !enter_found(world, *op, counts) {
@@ -40,7 +41,8 @@ pub(crate) fn enter_all(world: &World, ops: &[OpId], counts: &mut BTreeMap<OpId,
 
 /// Gives an operation its count, if it is there.
 fn enter_found(world: &World, op: OpId, counts: &mut BTreeMap<OpId, u32>) -> bool
-    ensures { OnTrue result (AllEntered (kept_by world.now.ctx) (with_head op (head_at world.now.store op) []) (counts_in counts.old) (counts_in counts.new)) }
+    ensures { OnTrue result (AllEntered (kept_by world.now.ctx) (with_head op (head_at world.now.store op) [])
+        (counts_in counts.old) (counts_in counts.new)) }
 {
     let Some(node) = world.store.node(op) else {
         return true;
@@ -51,7 +53,8 @@ fn enter_found(world: &World, op: OpId, counts: &mut BTreeMap<OpId, u32>) -> boo
 
 /// Counts the operands of operations. It is false where a count would pass its type.
 pub(crate) fn raise_each(store: &Store, ops: &[OpId], counts: &mut BTreeMap<OpId, u32>) -> bool
-    ensures { OnTrue result (Raised (all_operands (heads_by (head_at store.now) ops.now)) (counts_in counts.old) (counts_in counts.new)) }
+    ensures { OnTrue result (Raised (all_operands (heads_by (head_at store.now) ops.now)) (counts_in counts.old)
+        (counts_in counts.new)) }
 {
     for op in ops {
         if !raise_found(store, *op, counts) {
@@ -63,7 +66,8 @@ pub(crate) fn raise_each(store: &Store, ops: &[OpId], counts: &mut BTreeMap<OpId
 
 /// Counts the operands of an operation, if it is there.
 fn raise_found(store: &Store, op: OpId, counts: &mut BTreeMap<OpId, u32>) -> bool
-    ensures { OnTrue result (Raised (all_operands (with_head op (head_at store.now op) [])) (counts_in counts.old) (counts_in counts.new)) }
+    ensures { OnTrue result (Raised (all_operands (with_head op (head_at store.now op) [])) (counts_in counts.old)
+        (counts_in counts.new)) }
 {
     let Some(node) = store.node(op) else {
         return true;

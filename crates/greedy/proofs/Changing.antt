@@ -1,12 +1,12 @@
 -- A run of the driver is what the machine has of a canonicalization.
-use Rattle.std.proofs.Common.{◌≡◌, refl, ap, sym, ◌∙◌, inl, inr, ℕ, false, cond, Result, Ok, Err}
-use Rattle.std.specs.Prelude.{IfOk, IfErr, OnErr}
+use Rattle.std.proofs.Common.{◌≡◌, refl, ap, sym, ◌∙◌, ◌⊎◌, inl, inr, ℕ, false, cond, Result, Ok, Err}
+use Rattle.std.specs.Prelude.{IfOk, IfErr, OnErr, ⊥}
 use Rattle.ir_types.specs.declared.refusal.Refusal.{Refusal}
-use Rattle.ir_types.specs.declared.refusal.Refusal.TheVariants.{BadLimit}
+use Rattle.ir_types.specs.declared.refusal.Refusal.TheVariants.{BadLimit, Full, Memory}
 use Rattle.ir_tree.proofs.Returns.{bool_cases}
 use Rattle.ir_event.specs.Listener.{Listener}
 use Rattle.ir_event.specs.Modules.{Module}
-use Rattle.rewriter_machine.specs.Machine.{State, Answer, Change, Reply, DoneWith, Refused, Nothing, due_change, IsAnswer}
+use Rattle.rewriter_machine.specs.Machine.{State, Answer, Change, Reply, DoneWith, Refused, Nothing, due, due_change, IsAnswer, IsFullSo}
 use Rattle.rewriter_machine.specs.Panels.{AllAge}
 use Rattle.rewriter.specs.Benched.{Benched, Does, state_of}
 use Rattle.rewriter.specs.Held.{module_held, open_marks}
@@ -53,3 +53,24 @@ module _ {B : Type 0} (meaning : B → Listener) where
       → open_marks b.desk ≡ open_marks a.desk → AllAge (state_of meaning a).panel (state_of meaning b).panel → Does meaning (Change (canonicalizing limit)) (canonical_reply r) a b
   changes limit a b (Ok o) full ok err why marks ages = record { answer = done_answer limit (state_of meaning a) (state_of meaning b) marks o ok; panel = ages }
   changes limit a b (Err e) full ok err why marks ages = record { answer = err_answer limit (state_of meaning a) (state_of meaning b) marks e full why err; panel = ages }
+
+-- a canonicalization is refused with 31 only where that is due, or the context is full
+pub canon_full : (limit : ℕ) (s : State) (r : Result Ended Refusal) (full : Type 0) → IfErr r (λ e. IsReason limit s.held full e) → IsFullSo full s (canonicalizing limit) (canonical_reply r)
+canon_full limit s (Ok (Converged k)) full why is = absurd cc
+canon_full limit s (Ok (Limit k)) full why is = absurd cc
+canon_full limit s (Err e) full why is = elim (bool_cases (is_limit limit)) [
+  | inr k ↦ inl (as_due (no_limit limit s.held k ∙ ap stopped (sym (why.limited.1 k))))
+  | inl k ↦ elim (why.others k) [
+    | inl m ↦ absurd (no_want (ap Refused (sym m) ∙ is))
+    | inr l ↦ elim l [
+      | inl m ↦ inl (as_due m)
+      | inr m ↦ inr m.1
+    ]
+  ]
+]
+  where
+    as_due : canonicalization_of limit s.held ≡ stopped e → Refused e ≡ (due s (Change (canonicalizing limit))).reply
+    as_due k = sym (ap (λ (c : Canonical). (due_change (made_of c) s).reply) k)
+
+    no_want : Refused Memory ≡ Refused Full → ⊥
+    no_want e = absurd cc

@@ -8,7 +8,7 @@ use Rattle.ir_tree_laws.proofs.Listed.{bool_cases}
 use Rattle.greedy.specs.Following.{first_id, comes_next}
 use Rattle.greedy.specs.Work.{count_after}
 use Rattle.greedy.proofs.Listed.{listed_past, listed_at, listed_more, after_at, after_past, second_there}
-use Rattle.patterns_touched.specs.Sights.{is_listed}
+use Rattle.greedy.specs.Sights.{is_listed}
 
 -- where a number stands in a list
 abbrev pub rank : ℕ → List ℕ → ℕ

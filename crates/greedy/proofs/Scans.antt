@@ -19,8 +19,8 @@ use Rattle.patterns_base.specs.RuleNames.{all_rules, is_canonical}
 use Rattle.patterns_base.specs.Canonicalization.{or_else, first_rule, lowest, first_among, next_rewrite}
 use Rattle.greedy.specs.Outcomes.{Applied, Refuses}
 use Rattle.greedy.specs.Work.{waits, IsWork, Right, CoversBut, StillWaits, Taken, NoneWaits}
-use Rattle.patterns_touched.specs.Sights.{is_listed}
-use Rattle.patterns_touched.specs.Listing.{Touched}
+use Rattle.greedy.specs.Sights.{is_listed}
+use Rattle.greedy.specs.Listing.{Touched}
 use Rattle.greedy.proofs.EachRule.{of_each}
 use Rattle.greedy.proofs.Rootless.{rootless}
 use Rattle.greedy.proofs.Listed.{first_there, listed_at, listed_more, listed_past}

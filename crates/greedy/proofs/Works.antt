@@ -10,7 +10,7 @@ use Rattle.ir_tree_laws.proofs.Listed.{bool_cases}
 use Rattle.ir_event.specs.Modules.{Module}
 use Rattle.greedy.specs.Following.{following}
 use Rattle.greedy.specs.Work.{Falls, IsWork, Parted, Rewritten, begins_with, waits, Taken, NoneWaits, StillWaits}
-use Rattle.patterns_touched.specs.Sights.{is_listed}
+use Rattle.greedy.specs.Sights.{is_listed}
 use Rattle.greedy.proofs.Listed.{listed_past, listed_at, listed_more, first_there, second_there}
 use Rattle.greedy.proofs.Order.{rank, same_rank, rises, after_from_rank, next_there, next_rank, next_none, counted}
 

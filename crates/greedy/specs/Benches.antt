@@ -12,8 +12,8 @@ pub record Formed (m : Module) : Type 0 where
   pub distinct : HasDistinctIds m.tree
   pub below : All (λ y. y < m.next) (ids m.tree)
 
--- the context of a bench grew at most, and where it was sound, its listeners were told of what leads from the one module
--- to the other, and of nothing else
+-- the context of a bench grew at most, and where it was sound, its listeners were told of what leads from the one
+-- module to the other, and of nothing else
 pub record Onward {B : Type 0} (meaning : B → Listener) (old new : Benched B) : Type 0 where
   pub grows : Grows old.desk.ctx new.desk.ctx
   pub led : Holds old.desk.ctx → Holds new.desk.ctx × Led meaning old new

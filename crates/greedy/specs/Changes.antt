@@ -4,7 +4,8 @@ use Rattle.ir_types.specs.declared.refusal.Refusal.{Refusal}
 use Rattle.ir_event.specs.Modules.{Module}
 use Rattle.rewriter_machine.specs.Machine.{Fault, Outcome, Reply, Refused, DoneWith, Transformation}
 use Rattle.rewriter_machine.specs.Machine as machine
-use Rattle.patterns_base.specs.Canonicalization.{End, converged, limited, Canonical, stopped, ended, canonicalization_of}
+use Rattle.patterns_base.specs.Canonicalization.{End, converged, limited, Canonical, stopped, ended}
+use Rattle.patterns_base.specs.Canonicalization.{canonicalization_of}
 use Rattle.greedy.specs.declared.outcome.Outcome.{Outcome as Ended}
 use Rattle.greedy.specs.declared.outcome.Outcome.TheVariants.{Converged, Limit}
 

@@ -4,7 +4,8 @@ use Rattle.ir_types.specs.declared.refusal.Refusal.{Refusal}
 use Rattle.ir_types.specs.declared.refusal.Refusal.TheVariants.{Memory, BadLimit, Full}
 use Rattle.ir_event.specs.Modules.{Module}
 use Rattle.patterns_base.specs.Rewrites.{Rewrite, none, refused, becomes}
-use Rattle.patterns_base.specs.Canonicalization.{End, converged, limited, stopped, ended, canonical_from, canonicalization_of, most_rewrites}
+use Rattle.patterns_base.specs.Canonicalization.{End, converged, limited, stopped, ended, canonical_from}
+use Rattle.patterns_base.specs.Canonicalization.{canonicalization_of, most_rewrites}
 use Rattle.greedy.specs.declared.outcome.Outcome.{Outcome}
 use Rattle.greedy.specs.declared.outcome.Outcome.TheVariants.{Converged, Limit}
 
@@ -52,4 +53,5 @@ is_limit limit = nat_le 1 limit && nat_le limit most_rewrites
 -- want of memory, by the definition, or because no more can be numbered
 pub record IsReason (limit : ℕ) (m : Module) (is_full : Type 0) (e : Refusal) : Type 0 where
   pub limited : (e ≡ BadLimit) ↔ (is_limit limit ≡ false)
-  pub others : is_limit limit ≡ true → (e ≡ Memory) ⊎ ((canonicalization_of limit m ≡ stopped e) ⊎ ((e ≡ Full) × is_full))
+  pub others : is_limit limit ≡ true
+      → (e ≡ Memory) ⊎ ((canonicalization_of limit m ≡ stopped e) ⊎ ((e ≡ Full) × is_full))

@@ -7,7 +7,7 @@ use Rattle.ir_event.specs.Modules.{Module}
 use Rattle.patterns_base.specs.Rewrites.{none}
 use Rattle.patterns_base.specs.Canonicalization.{lowest}
 use Rattle.greedy.specs.Orders.{Orderly}
-use Rattle.patterns_touched.specs.Sights.{is_listed}
+use Rattle.greedy.specs.Sights.{is_listed}
 
 -- ---- the worklist
 
@@ -61,7 +61,8 @@ NoneWaits passed again t = (z : ℕ) → has_id z t ≡ true → waits passed ag
 
 -- what waited in one tree, and is in another, waits there
 abbrev pub StillWaits : ℕ → List ℕ → Operation → ℕ → List ℕ → Operation → Type 0
-StillWaits passed again t passed2 again2 u = (z : ℕ) → has_id z t ≡ true → has_id z u ≡ true → waits passed again t z ≡ true → waits passed2 again2 u z ≡ true
+StillWaits passed again t passed2 again2 u = (z : ℕ) → has_id z t ≡ true → has_id z u ≡ true
+    → waits passed again t z ≡ true → waits passed2 again2 u z ≡ true
 
 -- a list that falls, parted by operation x: those that x comes before, and the others
 pub record Parted (x : ℕ) (t : Operation) (front back : List ℕ) : Type 0 where
@@ -70,7 +71,8 @@ pub record Parted (x : ℕ) (t : Operation) (front back : List ℕ) : Type 0 whe
 
 -- no rule applies at an operation that doesn't wait, but perhaps at operation x
 abbrev pub CoversBut : ℕ → ℕ → List ℕ → Module → Type 0
-CoversBut x passed again m = (z : ℕ) → has_id z m.tree ≡ true → waits passed again m.tree z ≡ false → (z ≡ x) ⊎ (lowest m z ≡ none)
+CoversBut x passed again m = (z : ℕ) → has_id z m.tree ≡ true → waits passed again m.tree z ≡ false
+    → (z ≡ x) ⊎ (lowest m z ≡ none)
 
 -- a worklist from which operation x was taken, at which a rule was applied, which led from m to n
 pub record Rewritten (x before : ℕ) (m n : Module) : Type 0 where

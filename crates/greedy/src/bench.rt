@@ -10,6 +10,7 @@ ghost use Rattle.patterns.specs.runs.Interning.{IsFull};
 ghost use Rattle.greedy.specs.Changes.{canonical_reply, canonicalizing};
 ghost use Rattle.greedy.specs.Outcomes.{IsReason};
 
+use crate::journal::touched;
 use crate::outcome::Outcome;
 use crate::rewriting::Rewriting;
 use crate::run::run;
@@ -18,7 +19,6 @@ use ir_event::analysis::Analysis;
 use ir_types::ids::OpId;
 use ir_types::refusal::Refusal;
 use patterns::lowest::lowest;
-use patterns_touched::journal::touched;
 use rewriter::Bench;
 use rewriter::finish::finish;
 use rewriter::laws::led_benches_are_kept;
@@ -128,8 +128,8 @@ impl<L: Analysis> Rewriting for Bench<L> {
 /// Canonicalizes the module of a bench: the first operation in pre-order at which one of its rules applies, with the
 /// lowest of them, again and again, up to a limit of rewrites. It is whole or not made at all.
 ///
-/// Refusals: `BadLimit` where the limit isn't one of 1 to 1,000,000; `Full` and `IdsExhausted` where a rewrite is refused
-/// for them; `Full` where the context is full; and `Memory`.
+/// Refusals: `BadLimit` where the limit isn't one of 1 to 1,000,000; `Full` and `IdsExhausted` where a rewrite is
+/// refused for them; `Full` where the context is full; and `Memory`.
 pub fn canonicalize<L: Analysis>(
     alloc: Global,
     bench: &mut Bench<L>,
@@ -139,7 +139,8 @@ pub fn canonicalize<L: Analysis>(
     ensures refused { IfErr result (λ e. IsReason limit (module_held bench.old.desk) (IsFull bench.new.desk.ctx) e) }
     ensures led { Led L.meaning bench.old bench.new }
     ensures grows { Grows bench.old.desk.ctx bench.new.desk.ctx }
-    ensures journal { MatchResult result (λ _. Noted bench.old.desk bench.new.desk) (λ _. Recorded [] bench.old.desk bench.new.desk) }
+    ensures journal { MatchResult result (λ _. Noted bench.old.desk bench.new.desk)
+        (λ _. Recorded [] bench.old.desk bench.new.desk) }
 {
     led_benches_are_kept::<L>();
     bench.is_formed();

@@ -1,10 +1,19 @@
-//! The greedy driver: the first operation in pre-order at which a rule applies, again and again.
+//! The greedy driver: the first operation in pre-order at which a rule applies, again and again; and which operations
+//! the rules see otherwise after some events.
 #![tactic(auto)]
 
 pub mod bench;
+mod beside;
+mod block;
+mod climb;
+pub mod journal;
 pub mod laws;
 pub mod outcome;
+mod push;
+mod reach;
 pub mod rewriting;
 pub mod run;
+pub mod touched;
+mod users;
 mod walk;
 mod work;

@@ -1,5 +1,6 @@
 //! What the driver needs of a bench and of the rules.
-ghost use Rattle.std.specs.Prelude.{◌≡◌, ◌≢◌, ◌<◌, ◌≤◌, All, IfOk, IfErr, OnErr, OnOk, IfSome, IfNone, ◌⊎◌, [], ◌∷◌, List, ℕ, true, false};
+ghost use Rattle.std.specs.Prelude.{◌≡◌, ◌≢◌, ◌<◌, ◌≤◌, All, IfOk, IfErr, OnErr, OnOk, IfSome, IfNone, ◌⊎◌, [], ◌∷◌};
+ghost use Rattle.std.specs.Prelude.{List, ℕ, true, false};
 ghost use Rattle.ir_types.specs.declared.refusal.Refusal.TheVariants.{Memory as NoMemory};
 ghost use Rattle.ir_tree.specs.Ids.{HasDistinctIds, has_id, ids};
 ghost use Rattle.ir_tree.specs.Tree.{head};
@@ -13,7 +14,7 @@ ghost use Rattle.patterns_base.specs.Canonicalization.{lowest};
 ghost use Rattle.greedy.specs.Noting.{marked};
 ghost use Rattle.greedy.specs.Outcomes.{Applied, Refuses};
 ghost use Rattle.greedy.specs.Following.{following};
-ghost use Rattle.patterns_touched.specs.Listing.{Touched};
+ghost use Rattle.greedy.specs.Listing.{Touched};
 
 use ir_types::ids::OpId;
 use ir_types::refusal::Refusal;
@@ -90,7 +91,9 @@ pub trait Rewriting {
         ensures ok { IfOk result (λ done. Applied (lowest (held self.old) op) done (held self.old) (held self.new)) }
         ensures err { OnErr result (held self.new ≡ held self.old) }
         ensures refused { IfErr result (λ e. Refuses (lowest (held self.old) op) (full self.new) e) }
-        ensures noted { OnOk result (marks self.old ≢ [] → (events self.old ≤ events self.new) × (before self.new (events self.old) ≡ held self.old)) }
+        ensures noted { OnOk result
+            (marks self.old ≢ [] → (events self.old ≤ events self.new)
+            × (before self.new (events self.old) ≡ held self.old)) }
         ensures marks { marks self.new ≡ marks self.old }
         ensures journal { Noted (desk self.old) (desk self.new) }
         ensures onward { onward self.old self.new };
@@ -103,7 +106,8 @@ pub trait Rewriting {
 
     /// Opens a mark that isn't counted. Where no mark was open there is no journal.
     fn step(&mut self) -> Result<(), Refusal>
-        ensures ok { OnOk result (marks self.new ≡ record { marked = held self.old; counted = false } ∷ marks self.old) }
+        ensures ok { OnOk result
+            (marks self.new ≡ record { marked = held self.old; counted = false } ∷ marks self.old) }
         ensures held { held self.new ≡ held self.old }
         ensures err { OnErr result (marks self.new ≡ marks self.old) }
         ensures opened { OnOk result (desk self.new ≡ marked (desk self.old)) }
@@ -121,7 +125,8 @@ pub trait Rewriting {
 
     /// Closes the newest mark and holds its module again, if there is one.
     fn rollback(&mut self)
-        ensures marks { (k : OpenMark) (ks : List OpenMark) → marks self.old ≡ k ∷ ks → (marks self.new ≡ ks) × (held self.new ≡ k.marked) }
+        ensures marks { (k : OpenMark) (ks : List OpenMark) → marks self.old ≡ k ∷ ks
+            → (marks self.new ≡ ks) × (held self.new ≡ k.marked) }
         ensures dropped { (desk self.old).marks ≢ [] → Dropped false (desk self.old) (desk self.new) }
         ensures onward { onward self.old self.new };
 }

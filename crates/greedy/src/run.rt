@@ -1,5 +1,6 @@
 //! The driver.
-ghost use Rattle.std.specs.Prelude.{◌≡◌, ◌≢◌, ◌⊎◌, ◌≤◌, ℕ, IfOk, IfErr, OnErr, OnOk, MatchResult, List, [], ◌++◌, ◌∷◌, true, false};
+ghost use Rattle.std.specs.Prelude.{◌≡◌, ◌≢◌, ◌⊎◌, ◌≤◌, ℕ, IfOk, IfErr, OnErr, OnOk, MatchResult, List, [], ◌++◌, ◌∷◌};
+ghost use Rattle.std.specs.Prelude.{true, false};
 ghost use Rattle.ir_types.specs.declared.refusal.Refusal.TheVariants.{Memory as NoMemory};
 ghost use Rattle.ir_tree.specs.Ids.{has_id};
 ghost use Rattle.patterns_base.specs.Canonicalization.{next_rewrite};
@@ -7,8 +8,8 @@ ghost use Rattle.greedy.specs.Outcomes.{Applied, ComeTo, IsCanonical, IsReason, 
 ghost use Rattle.rewriter.specs.Moves.{Recorded};
 ghost use Rattle.patterns.specs.runs.Runs.{Noted};
 ghost use Rattle.greedy.specs.Work.{IsWork, Right, CoversBut, Rewritten, StillWaits, waits};
-ghost use Rattle.patterns_touched.specs.Sights.{is_listed};
-ghost use Rattle.patterns_touched.specs.Listing.{Touched};
+ghost use Rattle.greedy.specs.Sights.{is_listed};
+ghost use Rattle.greedy.specs.Listing.{Touched};
 
 use crate::outcome::Outcome;
 use crate::rewriting::Rewriting;
@@ -21,8 +22,11 @@ use std::alloc::Global;
 fn add_all<R: Rewriting>(bench: &R, work: &mut Work, ops: &[OpId]) -> Result<(), Refusal>
     requires { IsWork work.old.passed work.old.again.items (R.held bench.now).tree }
     ensures work { IsWork work.new.passed work.new.again.items (R.held bench.now).tree }
-    ensures added { OnOk result ((z : ℕ) → is_listed z ops.now ≡ true → has_id z (R.held bench.now).tree ≡ true → waits work.new.passed work.new.again.items (R.held bench.now).tree z ≡ true) }
-    ensures others { StillWaits work.old.passed work.old.again.items (R.held bench.now).tree work.new.passed work.new.again.items (R.held bench.now).tree }
+    ensures added { OnOk result
+        ((z : ℕ) → is_listed z ops.now ≡ true → has_id z (R.held bench.now).tree ≡ true
+        → waits work.new.passed work.new.again.items (R.held bench.now).tree z ≡ true) }
+    ensures others { StillWaits work.old.passed work.old.again.items
+        (R.held bench.now).tree work.new.passed work.new.again.items (R.held bench.now).tree }
     ensures refused { IfErr result (λ e. e ≡ NoMemory) }
 {
     let mut rest = ops;
@@ -68,8 +72,8 @@ fn renew<R: Rewriting>(
     }
 }
 
-/// Whether a rule applies anywhere; if so, one rewrite: the first operation in pre-order at which a rule applies, with the
-/// lowest such rule.
+/// Whether a rule applies anywhere; if so, one rewrite: the first operation in pre-order at which a rule applies, with
+/// the lowest such rule.
 fn one<R: Rewriting>(
     alloc: Global,
     bench: &mut R,
@@ -78,7 +82,8 @@ fn one<R: Rewriting>(
 ) -> Result<bool, Refusal>
     requires marked { R.marks bench.old ≢ [] }
     requires right { Right work.old.passed work.old.again.items (R.held bench.old) }
-    ensures ok { IfOk result (λ done. Applied (next_rewrite (R.held bench.old)) done (R.held bench.old) (R.held bench.new)) }
+    ensures ok { IfOk result
+        (λ done. Applied (next_rewrite (R.held bench.old)) done (R.held bench.old) (R.held bench.new)) }
     ensures refused { IfErr result (λ e. Refuses (next_rewrite (R.held bench.old)) (R.full bench.new) e) }
     ensures right { IfOk result (λ done. done ≡ true → Right work.new.passed work.new.again.items (R.held bench.new)) }
     ensures marks { R.marks bench.new ≡ R.marks bench.old }
@@ -198,7 +203,8 @@ fn rewritten<R: Rewriting>(
 }
 
 /// Rewrites, as often as a rule applies and up to a limit: the first operation in pre-order at which a rule
-/// applies, with the lowest such rule. The answer is also how many operations were looked at. Refused, all is as it was.
+/// applies, with the lowest such rule. The answer is also how many operations were looked at. Refused, all is as it
+/// was.
 pub fn run_counted<R: Rewriting>(
     alloc: Global,
     bench: &mut R,
@@ -208,7 +214,8 @@ pub fn run_counted<R: Rewriting>(
     ensures err { OnErr result (R.held bench.new ≡ R.held bench.old) }
     ensures refused { IfErr result (λ e. IsReason limit (R.held bench.old) (R.full bench.new) e) }
     ensures marks { R.marks bench.new ≡ R.marks bench.old }
-    ensures journal { MatchResult result (λ _. Noted (R.desk bench.old) (R.desk bench.new)) (λ _. Recorded [] (R.desk bench.old) (R.desk bench.new)) }
+    ensures journal { MatchResult result (λ _. Noted (R.desk bench.old) (R.desk bench.new))
+        (λ _. Recorded [] (R.desk bench.old) (R.desk bench.new)) }
     ensures onward { R.onward bench.old bench.new }
 {
     if limit < 1 || limit > 1_000_000 {
@@ -238,7 +245,8 @@ pub fn run<R: Rewriting>(alloc: Global, bench: &mut R, limit: u32) -> Result<Out
     ensures err { OnErr result (R.held bench.new ≡ R.held bench.old) }
     ensures refused { IfErr result (λ e. IsReason limit (R.held bench.old) (R.full bench.new) e) }
     ensures marks { R.marks bench.new ≡ R.marks bench.old }
-    ensures journal { MatchResult result (λ _. Noted (R.desk bench.old) (R.desk bench.new)) (λ _. Recorded [] (R.desk bench.old) (R.desk bench.new)) }
+    ensures journal { MatchResult result (λ _. Noted (R.desk bench.old) (R.desk bench.new))
+        (λ _. Recorded [] (R.desk bench.old) (R.desk bench.new)) }
     ensures onward { R.onward bench.old bench.new }
 {
     match run_counted(alloc, bench, limit) {

@@ -1,12 +1,13 @@
 //! The worklist.
-ghost use Rattle.std.specs.Prelude.{◌≡◌, ◌≢◌, ◌⊎◌, ◌≤◌, ℕ, ◌||◌, length, take, drop, not, IfOk, IfErr, OnErr, OnOk, IfSome, IfNone, MatchOption, true, false};
+ghost use Rattle.std.specs.Prelude.{◌≡◌, ◌≢◌, ◌⊎◌, ◌≤◌, ℕ, ◌||◌, length, take, drop, not, IfOk, IfErr, OnErr, OnOk};
+ghost use Rattle.std.specs.Prelude.{IfSome, IfNone, MatchOption, true, false};
 ghost use Rattle.ir_types.specs.declared.refusal.Refusal.TheVariants.{Memory as NoMemory};
 ghost use Rattle.ir_tree.specs.Ids.{HasDistinctIds, has_id};
 ghost use Rattle.ir_tree.specs.Tree.{head};
 ghost use Rattle.ir_tree_laws.specs.Reads.{precedes};
 ghost use Rattle.ir_event.specs.Modules.{Module};
 ghost use Rattle.greedy.specs.Work.{begins_with, Parted, Rewritten, IsWork, waits, Taken, NoneWaits, StillWaits, Falls};
-ghost use Rattle.patterns_touched.specs.Sights.{is_listed};
+ghost use Rattle.greedy.specs.Sights.{is_listed};
 
 use crate::rewriting::Rewriting;
 use ir_types::ids::OpId;
@@ -24,7 +25,9 @@ pub(crate) struct Work {
 /// Takes the first operation that waits.
 pub(crate) fn take<R: Rewriting>(bench: &R, work: &mut Work) -> Option<OpId>
     requires { IsWork work.old.passed work.old.again.items (R.held bench.now).tree }
-    ensures { MatchOption result (NoneWaits work.old.passed work.old.again.items (R.held bench.now).tree) (λ x. Taken x work.old.passed work.old.again.items work.new.passed work.new.again.items (R.held bench.now).tree) }
+    ensures { MatchOption result (NoneWaits work.old.passed work.old.again.items (R.held bench.now).tree)
+        (λ x. Taken x work.old.passed work.old.again.items work.new.passed work.new.again.items
+        (R.held bench.now).tree) }
 {
     bench.is_formed();
     if let Some(op) = work.again.pop() {
@@ -66,8 +69,11 @@ fn is_at(again: &[OpId], place: usize, op: OpId) -> bool
 pub(crate) fn add<R: Rewriting>(bench: &R, work: &mut Work, op: OpId) -> Result<(), Refusal>
     requires { IsWork work.old.passed work.old.again.items (R.held bench.now).tree }
     ensures work { IsWork work.new.passed work.new.again.items (R.held bench.now).tree }
-    ensures added { OnOk result (has_id op (R.held bench.now).tree ≡ true → waits work.new.passed work.new.again.items (R.held bench.now).tree op ≡ true) }
-    ensures others { StillWaits work.old.passed work.old.again.items (R.held bench.now).tree work.new.passed work.new.again.items (R.held bench.now).tree }
+    ensures added { OnOk result
+        (has_id op (R.held bench.now).tree ≡ true
+        → waits work.new.passed work.new.again.items (R.held bench.now).tree op ≡ true) }
+    ensures others { StillWaits work.old.passed work.old.again.items
+        (R.held bench.now).tree work.new.passed work.new.again.items (R.held bench.now).tree }
     ensures refused { IfErr result (λ e. e ≡ NoMemory) }
 {
     bench.is_formed();
@@ -90,8 +96,13 @@ pub(crate) fn add<R: Rewriting>(bench: &R, work: &mut Work, op: OpId) -> Result<
 /// Keeps what is still in the module after a rewrite. Where the operation that was passed last is gone, another that
 /// comes before the rewrite is the one that was passed last.
 pub(crate) fn settle<R: Rewriting>(bench: &R, work: &mut Work, before: OpId)
-    ensures work { (m : Module) (x : ℕ) → Rewritten x before m (R.held bench.now) → IsWork work.old.passed work.old.again.items m.tree → IsWork work.new.passed work.new.again.items (R.held bench.now).tree }
-    ensures others { (m : Module) (x : ℕ) → Rewritten x before m (R.held bench.now) → IsWork work.old.passed work.old.again.items m.tree → StillWaits work.old.passed work.old.again.items m.tree work.new.passed work.new.again.items (R.held bench.now).tree }
+    ensures work { (m : Module) (x : ℕ) → Rewritten x before m (R.held bench.now)
+        → IsWork work.old.passed work.old.again.items m.tree
+        → IsWork work.new.passed work.new.again.items (R.held bench.now).tree }
+    ensures others { (m : Module) (x : ℕ) → Rewritten x before m (R.held bench.now)
+        → IsWork work.old.passed work.old.again.items m.tree
+        → StillWaits work.old.passed work.old.again.items m.tree work.new.passed work.new.again.items
+        (R.held bench.now).tree }
 {
     work.again.retain(
         |op: &OpId| -> bool

@@ -40,7 +40,7 @@ impl World {
         })
     }
 
-    /// The same world of a tree that is handed over, and is known to be formed: it isn't checked again.
+    /// A world of a tree that is handed over, and is known to be formed: it isn't checked again.
     ///
     /// Refusals: `Memory` alone.
     pub fn hold(

@@ -25,7 +25,7 @@ impl Store {
         }
     }
 
-    /// The same in a slot that was given up, if one fits. Whether there was such a slot.
+    /// Holds a new operation like a header in a slot that was given up, if one fits. Whether there was such a slot.
     fn refill(&mut self, op: OpId, header: &TreeOp) -> Result<bool, AllocError>
         requires { known op self.old ≡ None }
         ensures ok { IfOk result (λ b. self.new ≡ (if b then after_grow op header.now self.old else self.old)) }
@@ -71,7 +71,7 @@ impl Store {
 }
 
 impl Store {
-    /// The same in a new slot.
+    /// Holds a new operation like a header in a new slot.
     fn extend(&mut self, op: OpId, header: &TreeOp) -> Result<(), AllocError>
         requires { known op self.old ≡ None }
         ensures ok { OnOk result (self.new ≡ after_grow op header.now self.old) }

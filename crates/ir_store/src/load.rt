@@ -155,7 +155,8 @@ impl Store {
         }
     }
 
-    /// The same module of a tree that is handed over, and is known to be formed: it isn't checked again.
+    /// A module with a next free id and a tree that is handed over, and is known to be formed: it isn't checked
+    /// again.
     ///
     /// Refusals: `Memory`.
     pub fn hold(alloc: Global, ctx: &Context, tree: TreeOp, next: u32) -> Result<Store, Refusal>

@@ -256,7 +256,7 @@ impl Store {
         Store::seed_in(alloc, rows, sibs, uses, cells, keys, header, next)
     }
 
-    /// The same in what was made for it.
+    /// A module of one operation like a header, in rows, lists and tables that were made for it and hold nothing.
     fn seed_in(
         alloc: Global,
         rows: Rows,

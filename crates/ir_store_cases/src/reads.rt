@@ -81,7 +81,7 @@ fn put_node(out: &mut String, node: &Node<'_>) -> Result<(), AllocError> {
     put_entries(out, " attr:", node.attributes())?;
     put_number(out, " regions:", node.region_count() as u64)?;
     for region in 0..3u32 {
-        put_arguments(out, node.arguments(region))?;
+        put_arguments(out, node.arguments(region as usize))?;
     }
     Ok(())
 }

@@ -89,7 +89,7 @@ impl Short {
         Some(Short { operands, results })
     }
 
-    /// The same with room for more.
+    /// The operands and the results, with room for more.
     pub fn plain(&self, alloc: Global) -> Result<Plain, AllocError>
         ensures { IfOk result (λ p. plain_contents p ≡ short_contents self.now) }
     {

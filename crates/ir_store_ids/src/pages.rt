@@ -146,7 +146,8 @@ pub(crate) fn learn(pages: &mut Vec<Page>, id: u32, slot: u32)
     }
 }
 
-/// The same in a page that is there, by the place of the id and how far its slot is behind it.
+/// Counts an id with its slot in a page that is there, by the place of the id in it and how far the slot is behind
+/// the id.
 fn learn_in(pages: &mut Vec<Page>, at: usize, place: u8, shift: u32)
     requires at { at < length pages.old.items }
     requires place { place < 64 }

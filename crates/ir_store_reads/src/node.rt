@@ -79,10 +79,10 @@ impl<'a> Node<'a> {
 
     /// The types of the arguments of the block of a region, or none where it has no such region, or the
     /// region no block.
-    pub fn arguments(&self, region: u32) -> Option<&[TypeId]>
+    pub fn arguments(&self, region: usize) -> Option<&[TypeId]>
         ensures { option_map (λ a. a.now) result ≡ option_and_then (λ a. a) (slice_get self.now.arguments region) }
     {
-        block_arguments(self.rows.areas(self.slot), region as usize)
+        block_arguments(self.rows.areas(self.slot), region)
     }
 }
 

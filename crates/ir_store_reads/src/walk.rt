@@ -104,7 +104,7 @@ pub fn last_slot(rows: &Rows, sibs: &Ordered, key: usize) -> Option<usize>
     last_listed(sibs, rows.areas(key))
 }
 
-/// The same of some regions.
+/// The slot that stands last in the last block of some regions, if there is one.
 fn last_listed(sibs: &Ordered, areas: &[Area]) -> Option<usize>
     requires { AllHeads sibs.now.homes (map shape_of areas.now) }
     ensures { result ≡ last_in sibs.now.lists None (map shape_of areas.now) }

@@ -234,7 +234,8 @@ impl Rows {
         self.push(Held::Nothing(0), 0)
     }
 
-    /// One slot more: the head of the block of a region of the operation in a slot, with the first head of its arguments.
+    /// One slot more: the head of the block of a region of the operation in a slot, with the first head of its
+    /// arguments.
     pub fn push_head(&mut self, owner: u32, region: u32, values: u32) -> Result<(), AllocError>
         ensures ok { OnOk result (self.new ≡ self.old ++ row_spare owner region values ∷ []) }
         ensures err { OnErr result (self.new ≡ self.old) }

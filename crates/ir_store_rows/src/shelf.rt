@@ -171,7 +171,8 @@ impl Shelf {
         self.change_entry(ctx, held, part, key, value)
     }
 
-    /// The same where an operation with entries keeps its key.
+    /// Sets a key of a dictionary of an operation with room for entries to an attribute, or takes it out. The
+    /// operation stays under its own key.
     fn change_entry(
         &mut self,
         ctx: &Context,
@@ -329,8 +330,8 @@ fn add<T: Drop>(slab: &mut Slab<T>, value: T) -> Result<u32, AllocError>
     }
 }
 
-/// An operation with room for entries in place of one that has none, under another key; or, where there is no memory, as
-/// it was.
+/// An operation with room for entries in place of one that has none, under another key; or, where there is no memory,
+/// as it was.
 fn widened(
     alloc: Global,
     plain: &mut Slab<Plain>,
@@ -350,7 +351,8 @@ fn widened(
     Ok(at)
 }
 
-/// The same of an operation with few operands and results.
+/// An operation with room for entries in place of one with few operands and results, under another key; or, where
+/// there is no memory, as it was.
 fn lengthened(
     alloc: Global,
     short: &mut Slab<Short>,
@@ -384,7 +386,7 @@ fn put_plain(slab: &mut Slab<Plain>, key: u32, place: usize, value: Value) -> Va
     it.put_operand(place, value)
 }
 
-/// The same of one with few operands and results.
+/// Makes a value an operand of an operation with few operands and results, and gives the one that was there.
 fn put_short(slab: &mut Slab<Short>, key: u32, place: usize, value: Value) -> Value
     requires { place < length (or_none (option_map short_contents (get slab.old key))).operands }
     ensures put { Sets short_contents slab.old slab.new key (with_operand place value (or_none (option_map short_contents (get slab.old key)))) }
@@ -394,7 +396,7 @@ fn put_short(slab: &mut Slab<Short>, key: u32, place: usize, value: Value) -> Va
     it.put_operand(place, value)
 }
 
-/// The same of an operation without regions.
+/// Makes a value an operand of an operation without regions, and gives the one that was there.
 fn put_entered(slab: &mut Slab<Entered>, key: u32, place: usize, value: Value) -> Value
     requires { place < length (or_none (option_map entered_contents (get slab.old key))).operands }
     ensures put { Sets entered_contents slab.old slab.new key (with_operand place value (or_none (option_map entered_contents (get slab.old key)))) }
@@ -404,7 +406,7 @@ fn put_entered(slab: &mut Slab<Entered>, key: u32, place: usize, value: Value) -
     it.plain.put_operand(place, value)
 }
 
-/// The same of any operation.
+/// Makes a value an operand of any operation, and gives the one that was there.
 fn put_whole(slab: &mut Slab<Whole>, key: u32, place: usize, value: Value) -> Value
     requires { place < length (or_none (option_map whole_contents (get slab.old key))).operands }
     ensures put { Sets whole_contents slab.old slab.new key (with_operand place value (or_none (option_map whole_contents (get slab.old key)))) }
@@ -434,7 +436,7 @@ fn change_entered(
     it.entries.change(ctx, part, key, value)
 }
 
-/// The same of any operation.
+/// Sets a key of a dictionary of any operation to an attribute, or takes it out.
 fn change_whole(
     ctx: &Context,
     slab: &mut Slab<Whole>,
@@ -472,7 +474,7 @@ fn revert_entered(
     it.entries.revert(ctx, part, key, value);
 }
 
-/// The same of any operation.
+/// Sets a key that has a slot in a dictionary of any operation, or takes it out, without memory.
 fn revert_whole(
     ctx: &Context,
     slab: &mut Slab<Whole>,
@@ -499,7 +501,7 @@ fn drop_entered(slab: &mut Slab<Entered>, at: u32)
     it.entries.drop_gone();
 }
 
-/// The same of any operation.
+/// Gives up the slots of the keys that are gone of any operation.
 fn drop_whole(slab: &mut Slab<Whole>, at: u32)
     requires { is_some (get slab.old at) ≡ true }
     ensures { Sets whole_contents slab.old slab.new at (without_gone (or_none (option_map whole_contents (get slab.old at)))) }

@@ -55,7 +55,7 @@ fn entry_fault(
     }
 }
 
-/// The same of one dictionary of the operation in a slot.
+/// Why a key of one dictionary of the operation in a slot can't be set to an attribute, or taken out.
 fn row_fault(
     ctx: &Context,
     rows: &Rows,

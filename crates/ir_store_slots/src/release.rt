@@ -35,7 +35,8 @@ fn is_given(rows: &Rows, key: usize, from: u32) -> bool
     rows.is_used(key) && !rows.is_live(key) && rows.id(key).number() >= from
 }
 
-/// The same of the slot of a node in the list of those that hold something.
+/// Gives up what the slot of a node in the list of those that hold something holds, where its id is one of those that
+/// are given up.
 fn release_node(
     rows: &mut Rows,
     keys: &mut Keys,
@@ -56,7 +57,7 @@ fn release_node(
     }
 }
 
-/// The same of the slot of an id, if it has one.
+/// Gives up what the slot of an id holds, if it has one and the id is one of those that are given up.
 fn release_id(
     rows: &mut Rows,
     keys: &mut Keys,
@@ -77,7 +78,7 @@ fn release_id(
     release_node(rows, keys, marks, spare, key + 2, from);
 }
 
-/// The same of the slots of all ids from `from` on, the greatest first.
+/// Gives up the held operations with ids from `from` on, by their ids, the greatest first.
 fn release_ids(rows: &mut Rows, keys: &mut Keys, marks: &mut Chains, spare: &mut u32, from: u32)
     requires keyed { IsKeyed rows.old (finmap.get keys.old) }
     requires marked { Marked rows.old marks.old.homes }
@@ -91,7 +92,7 @@ fn release_ids(rows: &mut Rows, keys: &mut Keys, marks: &mut Chains, spare: &mut
     }
 }
 
-/// The same of all slots.
+/// Gives up the held operations with ids from `from` on, by a walk along the slots that hold something.
 fn release_held(rows: &mut Rows, keys: &mut Keys, marks: &mut Chains, spare: &mut u32, from: u32)
     requires keyed { IsKeyed rows.old (finmap.get keys.old) }
     requires marked { Marked rows.old marks.old.homes }
@@ -107,8 +108,8 @@ fn release_held(rows: &mut Rows, keys: &mut Keys, marks: &mut Chains, spare: &mu
     }
 }
 
-/// The same of all slots, along the ids where those from `from` on are no more than the slots: a few that came last are
-/// given up in as many steps, whatever else is held.
+/// Gives up the held operations with ids from `from` on, along the ids where those are no more than the slots: a few
+/// that came last are given up in as many steps, whatever else is held.
 fn release_from(rows: &mut Rows, keys: &mut Keys, marks: &mut Chains, spare: &mut u32, from: u32)
     requires keyed { IsKeyed rows.old (finmap.get keys.old) }
     requires marked { Marked rows.old marks.old.homes }
@@ -122,7 +123,7 @@ fn release_from(rows: &mut Rows, keys: &mut Keys, marks: &mut Chains, spare: &mu
     }
 }
 
-/// The same of each operation of the module.
+/// Gives up the slots of the keys that are gone of each operation of the module.
 fn forget_keys(rows: &mut Rows, marks: &mut Chains)
     requires { Marked rows.old marks.old.homes }
     ensures forgets { Forgets rows.old rows.new }

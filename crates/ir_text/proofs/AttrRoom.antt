@@ -26,11 +26,11 @@ use Rattle.ir_types.specs.Terms as terms
 use Rattle.ir_types.specs.Things.{Things}
 use Rattle.ir_types.proofs.Growth.{attr_names, attr_types, attr_attrs}
 use Rattle.ir_types.proofs.Placing.{length-with_last}
-use Rattle.ir_text_grammar.specs.Outcomes.{Outcome, Read, Wrong, Full, ◌>>=◌, of_option, interned, Parse}
-use Rattle.ir_text_grammar.specs.Typed.{Typed, after_typed, name_step, attr_step}
+use Rattle.ir_text_types.specs.Outcomes.{Outcome, Read, Wrong, Full, ◌>>=◌, of_option, interned, Parse}
+use Rattle.ir_text_types.specs.Typed.{Typed, after_typed, name_step, attr_step}
 use Rattle.ir_text_types.specs.TypeReading.{many, type_done, type_at}
-use Rattle.ir_text_grammar.specs.Lists.{more_at, more_from, list_at, list_from}
-use Rattle.ir_text_grammar.proofs.Worlds.{bind_read, option_read}
+use Rattle.ir_text_types.specs.Lists.{more_at, more_from, list_at, list_from}
+use Rattle.ir_text_types.proofs.Worlds.{bind_read, option_read}
 use Rattle.ir_text_operations.specs.attributes.declared.flag.Flag.{Flag}
 use Rattle.ir_text_operations.specs.attributes.Literals.{Word, Truth, UnitWord, ArrayWord, TypeWord, word_of, truth_bits, overflow_word, none_word, flag_of, has_nsw, has_nuw}
 use Rattle.ir_text_operations.specs.attributes.Elements.{bits_of, type_of, element_named, is_bit, item_value}

@@ -2,8 +2,8 @@
 use Rattle.std.proofs.Common.{◌≡◌, ◌+◌, ℕ, [], Option, Some, None, refl, arith}
 use Rattle.std.specs.Prelude.{if◌then◌else◌}
 use Rattle.ir_text_tokens.specs.declared.token.Mark.TheVariants.{OpenCurly, CloseCurly, Less, Greater}
-use Rattle.ir_text_grammar.specs.Outcomes.{Outcome, Read, Wrong, Full}
-use Rattle.ir_text_grammar.specs.Typed.{Typed, after_typed}
+use Rattle.ir_text_types.specs.Outcomes.{Outcome, Read, Wrong, Full}
+use Rattle.ir_text_types.specs.Typed.{Typed, after_typed}
 use Rattle.ir_text_operations.specs.attributes.AttrReading.{Entries, key_at, value_at, attr_at}
 use Rattle.ir_text_operations.specs.EntryReading.{refused_in, entry_at, entries_at, some_properties, properties_from, properties_at, attributes_from, attributes_at}
 use Rattle.ir_text.proofs.Fits.{fits_to, Has, Good, wrong, reads, good_then, good_some, unless_good, list_good, text, things}

@@ -4,8 +4,8 @@ use Rattle.std.specs.Prelude.{Result, Err}
 use Rattle.ir_types.specs.declared.refusal.Refusal.{Refusal}
 use Rattle.ir_text_tokens.proofs.Reasons.{of_texts}
 use Rattle.ir_text_tokens.specs.declared.fault.Fault.{Fault}
-use Rattle.ir_text_grammar.specs.declared.error.ReadError.{ReadError as Inner}
-use Rattle.ir_text_grammar.specs.declared.error.ReadError.TheVariants as inner
+use Rattle.ir_text_types.specs.declared.error.ReadError.{ReadError as Inner}
+use Rattle.ir_text_types.specs.declared.error.ReadError.TheVariants as inner
 use Rattle.ir_text_operations.specs.declared.single.OpError.{OpError}
 use Rattle.ir_text_operations.specs.declared.single.OpError.TheVariants.{Text}
 use Rattle.ir_text.specs.declared.error.ReadError.{ReadError}

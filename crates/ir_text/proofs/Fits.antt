@@ -5,11 +5,11 @@ use Rattle.ir_text_tokens.specs.declared.token.Mark.{Mark}
 use Rattle.ir_text_tokens.specs.declared.token.Mark.TheVariants.{Comma}
 use Rattle.ir_text_tokens.specs.Tokens.{mark}
 use Rattle.ir_types.specs.Things.{Things}
-use Rattle.ir_text_grammar.specs.Marks.{after}
-use Rattle.ir_text_grammar.specs.Outcomes.{Outcome, Read, Wrong, Full, ◌>>=◌, of_option, Parse}
-use Rattle.ir_text_grammar.specs.Lists.{more_at, more_from, list_at, list_from}
-use Rattle.ir_text_grammar.specs.Typed.{Typed}
-use Rattle.ir_text_grammar.proofs.TextLaws.{after_found}
+use Rattle.ir_text_types.specs.Marks.{after}
+use Rattle.ir_text_types.specs.Outcomes.{Outcome, Read, Wrong, Full, ◌>>=◌, of_option, Parse}
+use Rattle.ir_text_types.specs.Lists.{more_at, more_from, list_at, list_from}
+use Rattle.ir_text_types.specs.Typed.{Typed}
+use Rattle.ir_text_types.proofs.TextLaws.{after_found}
 use Rattle.ir_text.specs.Room.{Fits}
 use Rattle.ir_text.proofs.Lengths.{gain, next_length}
 

@@ -10,11 +10,11 @@ use Rattle.ir_text_tokens.specs.Strings.{string_bytes}
 use Rattle.ir_text_tokens.specs.Numbers.{integer_of, place_value}
 use Rattle.ir_text_tokens.specs.Scopes.{Binding}
 use Rattle.ir_types.specs.Things.{Things}
-use Rattle.ir_text_grammar.specs.Marks.{after}
-use Rattle.ir_text_grammar.specs.Outcomes.{Outcome, Read, Wrong}
+use Rattle.ir_text_types.specs.Marks.{after}
+use Rattle.ir_text_types.specs.Outcomes.{Outcome, Read, Wrong}
 use Rattle.ir_text_operations.specs.names.declared.bound.Bound.{Bound}
 use Rattle.ir_text_operations.specs.names.Packs.{Counted, counts}
-use Rattle.ir_text_grammar.specs.Typed.{Text}
+use Rattle.ir_text_types.specs.Typed.{Text}
 use Rattle.ir_text_operations.specs.names.NameReading.{name_from, value_name_at, number_from, nonzero_at, some_count, count_within, count_at, result_at, names_at, results_from, results_at}
 use Rattle.ir_text_operations.specs.Free.{seen_as}
 use Rattle.ir_text_operations.specs.FrontReading.{op_name_from, op_name_at, place_of, place_from, place_at, member_at, Frees, use_from, use_at, uses_at, start_at}

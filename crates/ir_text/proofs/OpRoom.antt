@@ -14,9 +14,9 @@ use Rattle.ir_types.specs.Things.{Things}
 use Rattle.ir_tree.specs.declared.value.Value.TheVariants as values
 use Rattle.ir_tree.specs.Meaning.{isolated_in}
 use Rattle.ir_tree.specs.Tree.{Op, Region}
-use Rattle.ir_text_grammar.specs.Marks.{after}
-use Rattle.ir_text_grammar.specs.Outcomes.{Outcome, Read, Wrong, Full, ◌>>=◌, interned, Parse}
-use Rattle.ir_text_grammar.specs.Typed.{Typed, after_typed, name_step}
+use Rattle.ir_text_types.specs.Marks.{after}
+use Rattle.ir_text_types.specs.Outcomes.{Outcome, Read, Wrong, Full, ◌>>=◌, interned, Parse}
+use Rattle.ir_text_types.specs.Typed.{Typed, after_typed, name_step}
 use Rattle.ir_text_types.specs.TypeReading.{type_at, function_type_at}
 use Rattle.ir_text_operations.specs.names.declared.bound.Bound.{Bound}
 use Rattle.ir_text_operations.specs.names.BlockReading.{bind, results_of, bind_results, finish, arg_at, args_at, label_args_from, some_args_at, label_args_at, head_from, head_at}

@@ -8,7 +8,7 @@ use Rattle.ir_text_tokens.specs.declared.refusal.TextRefusal.TheVariants.{TooMan
 use Rattle.ir_types.specs.Things.{Things}
 use Rattle.ir_tree.specs.Tree.{Op}
 use Rattle.ir_text_tokens.specs.Limits.{most_bytes, text_reason}
-use Rattle.ir_text_grammar.specs.declared.error.ReadError.{ReadError}
+use Rattle.ir_text_types.specs.declared.error.ReadError.{ReadError}
 use Rattle.ir_text_operations.specs.Claims.{IsOnly, IsNone, IsBody, IsSource}
 use Rattle.ir_text_operations.specs.Spelling.{IsExplicit}
 use Rattle.ir_text_operations.proofs.Modules.{body_is_source}

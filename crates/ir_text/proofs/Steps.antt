@@ -17,10 +17,10 @@ use Rattle.ir_types.specs.Terms as terms
 use Rattle.ir_types.specs.Things.{Things}
 use Rattle.ir_types.proofs.Growth.{name_names, name_types, name_attrs, type_names, type_types, type_attrs}
 use Rattle.ir_types.proofs.Placing.{length-with_last}
-use Rattle.ir_text_grammar.specs.Outcomes.{Read, Full, ◌>>=◌, interned}
-use Rattle.ir_text_grammar.specs.Typed.{Typed, after_typed, type_step}
+use Rattle.ir_text_types.specs.Outcomes.{Read, Full, ◌>>=◌, interned}
+use Rattle.ir_text_types.specs.Typed.{Typed, after_typed, type_step}
 use Rattle.ir_text_types.specs.TypeReading.{type_done}
-use Rattle.ir_text_grammar.specs.Marks.{after}
+use Rattle.ir_text_types.specs.Marks.{after}
 use Rattle.ir_text.specs.Room.{Fits}
 use Rattle.ir_text.proofs.Lengths.{gain, next_length}
 use Rattle.ir_text.proofs.Fits.{fits_to, after_length, Has, Good, wrong, reads, text, things}

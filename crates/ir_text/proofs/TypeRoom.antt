@@ -6,8 +6,8 @@ use Rattle.std.specs.Str.{bytes_eq}
 use Rattle.ir_text_tokens.specs.declared.token.Mark.TheVariants.{OpenRound, CloseRound, Less, Greater, Arrow}
 use Rattle.ir_text_tokens.specs.Tokens.{Lexeme, bare, next, skip, digits_len}
 use Rattle.ir_types.specs.declared.node.TypeNode.TheVariants.{Func, Memref}
-use Rattle.ir_text_grammar.specs.Outcomes.{Read, ◌>>=◌, of_option, Parse}
-use Rattle.ir_text_grammar.specs.Typed.{Typed, after_typed}
+use Rattle.ir_text_types.specs.Outcomes.{Read, ◌>>=◌, of_option, Parse}
+use Rattle.ir_text_types.specs.Typed.{Typed, after_typed}
 use Rattle.ir_text_types.specs.Scalars.{scalar_of, memref_word}
 use Rattle.ir_text_types.specs.ShapeGrammar.{begins_dimension}
 use Rattle.ir_text_types.specs.ShapeReading.{cross_from, cross_at, crossed, size_of, sized, dimension_from, dimension_at, dimensions_at}

@@ -9,8 +9,8 @@ use Rattle.ir_types.specs.Things.{Things}
 use Rattle.ir_types.specs.Words.{words}
 use Rattle.ir_types.proofs.WordNumbers.{word_count}
 use Rattle.ir_tree.specs.Tree.{Op}
-use Rattle.ir_text_grammar.specs.Outcomes.{Outcome, Read, Full}
-use Rattle.ir_text_grammar.specs.Typed.{name_step}
+use Rattle.ir_text_types.specs.Outcomes.{Outcome, Read, Full}
+use Rattle.ir_text_types.specs.Typed.{name_step}
 use Rattle.ir_text_types.specs.TypeReading.{type_at, function_type_at}
 use Rattle.ir_text_operations.specs.attributes.AttrReading.{attr_at}
 use Rattle.ir_text_operations.specs.names.States.{State, fresh}

@@ -3,8 +3,8 @@ use Rattle.std.specs.Prelude.{◌≡◌, ◌≤◌, ◌-◌, ◌⊎◌, ℕ, Lis
 use Rattle.ir_types.specs.Refusals.{number_of}
 use Rattle.ir_types.specs.declared.refusal.Refusal.TheVariants.{IdsExhausted}
 use Rattle.ir_text_tokens.specs.Refusals.{refusal_of}
-use Rattle.ir_text_grammar.specs.declared.error.ReadError.{ReadError as Inner}
-use Rattle.ir_text_grammar.specs.declared.error.ReadError.TheVariants as inner
+use Rattle.ir_text_types.specs.declared.error.ReadError.{ReadError as Inner}
+use Rattle.ir_text_types.specs.declared.error.ReadError.TheVariants as inner
 use Rattle.ir_text.specs.declared.error.ReadError.{ReadError}
 use Rattle.ir_text.specs.declared.error.ReadError.TheVariants as errors
 

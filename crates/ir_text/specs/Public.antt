@@ -1,6 +1,6 @@
 -- The words of reading and printing, for whoever stands on this crate.
 pub use Rattle.ir_text_tokens.specs.Printing.{symbol_text}
-pub use Rattle.ir_text_grammar.specs.Laws.{IsFull}
+pub use Rattle.ir_text_types.specs.Laws.{IsFull}
 pub use Rattle.ir_text_operations.specs.attributes.Claims.{IsNoAttr}
 pub use Rattle.ir_text_operations.specs.attributes.Spelling.{SpellsAttr}
 pub use Rattle.ir_text_operations.specs.Free.{free_term, bound_term, value_named}

@@ -7,9 +7,9 @@ ghost use Rattle.ir_text_operations.specs.Filling.{new_things, RootFills, BodyFi
 ghost use Rattle.ir_text_operations.specs.Limits.{most_levels};
 ghost use Rattle.ir_text_operations.specs.Spelling.{Spells};
 
-use ir_text_grammar::error::{ReadError, within_limits};
 use ir_text_operations::module::{Root, as_written, explicit, implicit, looked_at};
 use ir_text_tokens::fault::Fault;
+use ir_text_types::error::{ReadError, within_limits};
 use ir_tree::tree::TreeOp;
 use ir_types::context::Context;
 use std::alloc::Global;

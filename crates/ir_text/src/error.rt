@@ -1,9 +1,9 @@
 //! Why a text is not read, and where.
 ghost use Rattle.std.specs.Prelude.{◌≡◌, length};
-ghost use Rattle.ir_text_grammar.specs.declared.error.ReadError.{ReadError as Inner};
+ghost use Rattle.ir_text_types.specs.declared.error.ReadError.{ReadError as Inner};
 ghost use Rattle.ir_text.specs.Answers.{IsTold, error_at};
 
-use ir_text_grammar::error;
+use ir_text_types::error;
 use ir_types::refusal::Refusal;
 use thiserror::Error;
 

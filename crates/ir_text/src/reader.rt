@@ -4,7 +4,7 @@ ghost use Rattle.std.specs.Prelude.{◌≡◌, ℕ, IfOk, IfErr, IfSome, Err};
 ghost use Rattle.ir_types.specs.Things.{IsType, Grows};
 ghost use Rattle.ir_tree.specs.declared.value.Value.{Value as TreeValue};
 ghost use Rattle.ir_tree.specs.Meaning.{IsSoundIn};
-ghost use Rattle.ir_text_grammar.specs.Laws.{IsFull};
+ghost use Rattle.ir_text_types.specs.Laws.{IsFull};
 ghost use Rattle.ir_text_operations.specs.attributes.Spelling.{SpellsAttr};
 ghost use Rattle.ir_text_operations.specs.attributes.Claims.{IsOnlyAttr, IsNoAttr};
 ghost use Rattle.ir_text_operations.specs.Free.{free_term};

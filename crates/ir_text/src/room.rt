@@ -6,7 +6,7 @@ ghost use Rattle.ir_tree.specs.Limits.{most_ops};
 ghost use Rattle.ir_tree.specs.Tree.{Op};
 ghost use Rattle.ir_text_tokens.specs.Limits.{most_bytes};
 ghost use Rattle.ir_text_tokens.specs.declared.token.Mark.{Mark};
-ghost use Rattle.ir_text_grammar.specs.Outcomes.{Read, Full};
+ghost use Rattle.ir_text_types.specs.Outcomes.{Read, Full};
 ghost use Rattle.ir_text_types.specs.TypeReading.{type_at, function_type_at};
 ghost use Rattle.ir_text_operations.specs.attributes.AttrReading.{attr_at};
 ghost use Rattle.ir_text_operations.specs.names.States.{State, fresh};

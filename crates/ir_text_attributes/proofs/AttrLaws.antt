@@ -12,16 +12,16 @@ use Rattle.ir_types.specs.Things as of
 use Rattle.ir_types.specs.Terms.{Integer, AttrTerm, IntegerOf, String, Flag, attr_term}
 use Rattle.ir_types.specs.Sound.{IsSound}
 use Rattle.ir_types.proofs.Growth.{grows_refl}
-use Rattle.ir_text_grammar.specs.Outcomes.{Outcome, Read, Full, Parse}
-use Rattle.ir_text_grammar.specs.Typed.{Text, Typed}
+use Rattle.ir_text_types.specs.Outcomes.{Outcome, Read, Full, Parse}
+use Rattle.ir_text_types.specs.Typed.{Text, Typed}
 use Rattle.ir_text_attributes.specs.Literals.{Word, Truth, UnitWord, ArrayWord, TypeWord, word_of, truth_bits, overflow_word}
 use Rattle.ir_text_attributes.specs.AttrReading.{attr_done, truth_at, string_attr_at, literal_at, negative_at, overflow_at, word_attr, dense_at, array_by, dictionary_by, mark_attr, attr_from, attr_at}
-use Rattle.ir_text_grammar.specs.Grammars.{Grammar}
+use Rattle.ir_text_types.specs.Grammars.{Grammar}
 use Rattle.ir_text_attributes.specs.AttrGrammar.{IsFine, IsLiteral, IsNegative, IsOverflow, IsWordAttr, IsMarkAttr, IsAttrFrom, IsAttr, IsDense, IsArray, IsDictionary}
-use Rattle.ir_text_grammar.specs.Standing.{AttrStands}
-use Rattle.ir_text_grammar.proofs.Worlds.{Exact, Step, nothing_exact, guard_exact}
-use Rattle.ir_text_grammar.proofs.TextLaws.{things, Same, text_now}
-use Rattle.ir_text_grammar.proofs.TokenLaws.{behind_exact, token_exact}
+use Rattle.ir_text_types.specs.Standing.{AttrStands}
+use Rattle.ir_text_types.proofs.Worlds.{Exact, Step, nothing_exact, guard_exact}
+use Rattle.ir_text_types.proofs.TextLaws.{things, Same, text_now}
+use Rattle.ir_text_types.proofs.TokenLaws.{behind_exact, token_exact}
 use Rattle.ir_text_attributes.proofs.NodeLaws.{zero_exact, attr_done_exact}
 use Rattle.ir_text_attributes.proofs.LeafLaws.{unit_node, string_exact, truth_exact, type_attr_exact, literal_exact, negative_exact, overflow_exact}
 use Rattle.ir_text_attributes.proofs.SymbolLaws.{symbol_exact}

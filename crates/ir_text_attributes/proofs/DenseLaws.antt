@@ -14,15 +14,15 @@ use Rattle.ir_types.specs.Readings.{literal_bits, reading_of}
 use Rattle.ir_types.specs.Dictionaries.{kept}
 use Rattle.ir_types.specs.Reasons.{type_fault}
 use Rattle.ir_types.proofs.Growth.{grows_trans}
-use Rattle.ir_text_grammar.specs.Outcomes.{Read, ◌>>=◌, of_option}
-use Rattle.ir_text_grammar.specs.Typed.{Text, after_typed}
+use Rattle.ir_text_types.specs.Outcomes.{Read, ◌>>=◌, of_option}
+use Rattle.ir_text_types.specs.Typed.{Text, after_typed}
 use Rattle.ir_text_types.specs.TypeReading.{many, type_done}
-use Rattle.ir_text_grammar.specs.Grammars.{Grammar, Then, Done, After, IsMore, IsMark, Token}
-use Rattle.ir_text_grammar.specs.Standing.{TypeStands, AttrStands}
-use Rattle.ir_text_grammar.specs.Laws.{Each}
-use Rattle.ir_text_grammar.proofs.Worlds.{Exact, exact_spelled, exact_for, nothing_exact, guard_exact, some_exact, then_exact, done_exact, after_exact, either_exact, more_exact}
-use Rattle.ir_text_grammar.proofs.TextLaws.{things, Same, typed_marks}
-use Rattle.ir_text_grammar.proofs.TokenLaws.{behind_exact, token_exact}
+use Rattle.ir_text_types.specs.Grammars.{Grammar, Then, Done, After, IsMore, IsMark, Token}
+use Rattle.ir_text_types.specs.Standing.{TypeStands, AttrStands}
+use Rattle.ir_text_types.specs.Laws.{Each}
+use Rattle.ir_text_types.proofs.Worlds.{Exact, exact_spelled, exact_for, nothing_exact, guard_exact, some_exact, then_exact, done_exact, after_exact, either_exact, more_exact}
+use Rattle.ir_text_types.proofs.TextLaws.{things, Same, typed_marks}
+use Rattle.ir_text_types.proofs.TokenLaws.{behind_exact, token_exact}
 use Rattle.ir_text_attributes.specs.declared.element.Element.{Element}
 use Rattle.ir_text_attributes.specs.declared.element.Element.TheVariants.{I1, I8, I16, I32, I64}
 use Rattle.ir_text_attributes.specs.Literals.{Word, Truth, word_of, truth_bits}

@@ -15,20 +15,20 @@ use Rattle.ir_types.specs.Dictionaries.{kept}
 use Rattle.ir_types.specs.Readings.{literal_bits}
 use Rattle.ir_types.specs.Reasons.{type_fault}
 use Rattle.ir_text_attributes.specs.declared.flag.Flag as code
-use Rattle.ir_text_grammar.specs.Outcomes.{Read, ◌>>=◌, of_option, Parse}
-use Rattle.ir_text_grammar.specs.Typed.{Text, Typed, after_typed, name_step}
+use Rattle.ir_text_types.specs.Outcomes.{Read, ◌>>=◌, of_option, Parse}
+use Rattle.ir_text_types.specs.Typed.{Text, Typed, after_typed, name_step}
 use Rattle.ir_text_attributes.specs.Literals.{truth_bits, none_word, flag_of, has_nsw, has_nuw}
 use Rattle.ir_text_types.specs.TypeReading.{many, type_done, type_at}
 use Rattle.ir_text_attributes.specs.AttrReading.{attr_done, truth_at, string_attr_at, type_attr_at, suffix_from, suffix_at, literal_done, literal_at, negative_from, negative_at, flag_from, flag_at, some_flags_at, no_flags_at, flags_from, flags_at, overflow_at}
-use Rattle.ir_text_grammar.specs.Grammars.{Grammar, Then, Done, After, IsMore, IsMark, Token}
+use Rattle.ir_text_types.specs.Grammars.{Grammar, Then, Done, After, IsMore, IsMark, Token}
 use Rattle.ir_text_types.specs.TypeGrammar.{IsType}
 use Rattle.ir_text_attributes.specs.AttrGrammar.{IsFine, IsTypeAttr, IsSuffix, IsLiteralOf, IsLiteral, IsNegative, IsFlag, IsFlags, IsOverflow}
-use Rattle.ir_text_grammar.specs.Worlds.{From}
-use Rattle.ir_text_grammar.specs.Standing.{NameStands, TypeStands, AttrStands}
-use Rattle.ir_text_grammar.specs.Laws.{Each}
-use Rattle.ir_text_grammar.proofs.Worlds.{bind_assoc, Exact, exact_where, exact_spelled, exact_for, nothing_exact, choice_exact, some_exact, then_exact, done_exact, after_exact, either_exact, more_exact}
-use Rattle.ir_text_grammar.proofs.TextLaws.{things, Same, typed_marks}
-use Rattle.ir_text_grammar.proofs.TokenLaws.{behind_exact, token_exact}
+use Rattle.ir_text_types.specs.Worlds.{From}
+use Rattle.ir_text_types.specs.Standing.{NameStands, TypeStands, AttrStands}
+use Rattle.ir_text_types.specs.Laws.{Each}
+use Rattle.ir_text_types.proofs.Worlds.{bind_assoc, Exact, exact_where, exact_spelled, exact_for, nothing_exact, choice_exact, some_exact, then_exact, done_exact, after_exact, either_exact, more_exact}
+use Rattle.ir_text_types.proofs.TextLaws.{things, Same, typed_marks}
+use Rattle.ir_text_types.proofs.TokenLaws.{behind_exact, token_exact}
 use Rattle.ir_text_types.proofs.TypeLaws.{type_done_exact, type_exact}
 use Rattle.ir_text_attributes.proofs.NodeLaws.{IsNodeOf, moved, done, name_at, name_exact, attr_done_exact, done_then, then_done, done_if_exact}
 

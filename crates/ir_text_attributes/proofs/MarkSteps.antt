@@ -3,7 +3,7 @@ use Rattle.std.proofs.Common.{◌≡◌, ℕ, zero, suc, ◌-◌, ◌≤◌, Lis
 use Rattle.ir_text_tokens.specs.declared.token.Mark.{Mark}
 use Rattle.ir_text_tokens.specs.Tokens.{mark, next}
 use Rattle.ir_types.specs.Things.{Things}
-use Rattle.ir_text_grammar.specs.Outcomes.{Read, ◌>>=◌, of_option}
+use Rattle.ir_text_types.specs.Outcomes.{Read, ◌>>=◌, of_option}
 use Rattle.ir_text_attributes.specs.AttrReading.{mark_attr, attr_from, attr_at}
 
 pub attr_mark : (depth : ℕ) (bytes rest : List ℕ) (c : Things) (m : Mark) → 1 ≤ depth → of_option (next bytes) ≡ Read (mark m, rest) → attr_at depth (bytes, c) ≡ mark_attr depth (depth - 1) (attr_at (depth - 1)) m (bytes, c) rest

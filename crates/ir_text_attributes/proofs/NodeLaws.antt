@@ -18,13 +18,13 @@ use Rattle.ir_types.proofs.KeptOrder.{kept_of, kept_fault}
 use Rattle.ir_types.proofs.CallNumbers.{name_stands, attr_stands, place_in}
 use Rattle.ir_types.proofs.Calls.{no_first}
 use Rattle.ir_types.proofs.AcceptedCalls.{accepted_name, accepted_attr, neither_back}
-use Rattle.ir_text_grammar.specs.Outcomes.{Outcome, Read, Wrong, ◌>>=◌, interned, Parse}
-use Rattle.ir_text_grammar.specs.Typed.{Text, Typed, name_step, attr_step}
-use Rattle.ir_text_grammar.specs.Grammars.{Grammar, Then, Done, DoneIf}
-use Rattle.ir_text_grammar.specs.Worlds.{From}
-use Rattle.ir_text_grammar.specs.Standing.{NameStands, AttrStands}
-use Rattle.ir_text_grammar.proofs.Worlds.{bind_read, Exact, Step, Comes, Reads, exact_spelled, nothing_exact}
-use Rattle.ir_text_grammar.proofs.TextLaws.{things, Same, text_now}
+use Rattle.ir_text_types.specs.Outcomes.{Outcome, Read, Wrong, ◌>>=◌, interned, Parse}
+use Rattle.ir_text_types.specs.Typed.{Text, Typed, name_step, attr_step}
+use Rattle.ir_text_types.specs.Grammars.{Grammar, Then, Done, DoneIf}
+use Rattle.ir_text_types.specs.Worlds.{From}
+use Rattle.ir_text_types.specs.Standing.{NameStands, AttrStands}
+use Rattle.ir_text_types.proofs.Worlds.{bind_read, Exact, Step, Comes, Reads, exact_spelled, nothing_exact}
+use Rattle.ir_text_types.proofs.TextLaws.{things, Same, text_now}
 use Rattle.ir_text_types.proofs.TypeLaws.{read_interned, full_cases}
 use Rattle.ir_text_attributes.specs.AttrReading.{name_done, attr_done}
 

@@ -18,17 +18,17 @@ use Rattle.ir_types.specs.Dictionaries.{comes_before, placed_among, sorted, kept
 use Rattle.ir_types.specs.Sound.{IsSound}
 use Rattle.ir_types.proofs.Growth.{grows_refl, grows_trans, name_is, name_refl}
 use Rattle.ir_types.proofs.Terms.{name_term_one}
-use Rattle.ir_text_grammar.specs.Outcomes.{Outcome, Read, Wrong, ◌>>=◌, Parse}
-use Rattle.ir_text_grammar.specs.Lists.{more_at, more_from, list_at, list_from}
-use Rattle.ir_text_grammar.specs.Typed.{Text, Typed, after_typed}
+use Rattle.ir_text_types.specs.Outcomes.{Outcome, Read, Wrong, ◌>>=◌, Parse}
+use Rattle.ir_text_types.specs.Lists.{more_at, more_from, list_at, list_from}
+use Rattle.ir_text_types.specs.Typed.{Text, Typed, after_typed}
 use Rattle.ir_text_types.specs.TypeReading.{many}
-use Rattle.ir_text_grammar.specs.Grammars.{When, Grammar, Then, Done, IsList, IsMark, Token}
-use Rattle.ir_text_grammar.specs.Worlds.{From}
-use Rattle.ir_text_grammar.specs.Standing.{NameStands, AttrStands}
-use Rattle.ir_text_grammar.specs.Laws.{Each}
-use Rattle.ir_text_grammar.proofs.Worlds.{bind_read, option_read, Exact, exact_where, exact_spelled, nothing_exact, then_exact, done_exact, either_exact, list_exact}
-use Rattle.ir_text_grammar.proofs.TextLaws.{things, Same, typed_marks}
-use Rattle.ir_text_grammar.proofs.TokenLaws.{behind_exact, token_exact}
+use Rattle.ir_text_types.specs.Grammars.{When, Grammar, Then, Done, IsList, IsMark, Token}
+use Rattle.ir_text_types.specs.Worlds.{From}
+use Rattle.ir_text_types.specs.Standing.{NameStands, AttrStands}
+use Rattle.ir_text_types.specs.Laws.{Each}
+use Rattle.ir_text_types.proofs.Worlds.{bind_read, option_read, Exact, exact_where, exact_spelled, nothing_exact, then_exact, done_exact, either_exact, list_exact}
+use Rattle.ir_text_types.proofs.TextLaws.{things, Same, typed_marks}
+use Rattle.ir_text_types.proofs.TokenLaws.{behind_exact, token_exact}
 use Rattle.ir_text_attributes.specs.AttrReading.{Entries, name_done, attr_done, key_from, key_at, unit_value_at, value_from, value_by, entry_by, entries_by, dictionary_by, attrs_by, array_by}
 use Rattle.ir_text_attributes.specs.AttrGrammar.{EntryTerm, IsFine, IsKey, IsUnitValue, IsValue, IsEntry, IsArray, IsDictionary, attrs_of, entries_of}
 use Rattle.ir_tree.specs.Meaning.{key_before}

@@ -1,10 +1,10 @@
 -- The parts of a symbol reference read one after the other, as a loop does.
 use Rattle.std.proofs.Common.{◌≡◌, ℕ, suc, ◌+◌, ◌-◌, ◌<◌, ◌≤◌, List, [], ◌∷◌, ◌++◌, Some, None, refl, sym, ◌∙◌, arith}
 use Rattle.ir_text_tokens.specs.declared.token.Mark.TheVariants.{DoubleColon}
-use Rattle.ir_text_grammar.specs.declared.error.ReadError.{ReadError}
-use Rattle.ir_text_grammar.specs.Outcomes.{Outcome, Read, Wrong, Fails}
-use Rattle.ir_text_grammar.specs.Typed.{Typed, after_typed}
-use Rattle.ir_text_grammar.proofs.ListSteps.{fails_with}
+use Rattle.ir_text_types.specs.declared.error.ReadError.{ReadError}
+use Rattle.ir_text_types.specs.Outcomes.{Outcome, Read, Wrong, Fails}
+use Rattle.ir_text_types.specs.Typed.{Typed, after_typed}
+use Rattle.ir_text_types.proofs.ListSteps.{fails_with}
 use Rattle.ir_text_attributes.specs.AttrReading.{part_at, parts_at}
 
 module _ (items : List ℕ) (room i : ℕ) (s : Typed) (total : Outcome (List ℕ × Typed)) (so_far : parts_at (room - i) items s ≡ total) (lt : i < room) where

@@ -8,15 +8,15 @@ use Rattle.ir_text_tokens.specs.declared.refusal.TextRefusal.{TextRefusal}
 use Rattle.ir_types.specs.Things.{Things, Grows}
 use Rattle.ir_types.specs.Sound.{IsSound}
 use Rattle.ir_types.specs.Terms.{AttrTerm, attr_term}
-use Rattle.ir_text_grammar.specs.declared.error.ReadError.{ReadError}
-use Rattle.ir_text_grammar.specs.declared.error.ReadError.TheVariants as errors
-use Rattle.ir_text_grammar.specs.Grammars.{IsMark}
-use Rattle.ir_text_grammar.specs.Marks.{after}
-use Rattle.ir_text_grammar.specs.Outcomes.{Outcome, Read, Wrong, Full, ◌>>=◌, of_option, Fails}
-use Rattle.ir_text_grammar.specs.Standing.{AttrStands}
-use Rattle.ir_text_grammar.specs.Typed.{Typed}
-use Rattle.ir_text_grammar.proofs.TextLaws.{after_found, after_only}
-use Rattle.ir_text_grammar.proofs.Worlds.{bind_read, option_read}
+use Rattle.ir_text_types.specs.declared.error.ReadError.{ReadError}
+use Rattle.ir_text_types.specs.declared.error.ReadError.TheVariants as errors
+use Rattle.ir_text_types.specs.Grammars.{IsMark}
+use Rattle.ir_text_types.specs.Marks.{after}
+use Rattle.ir_text_types.specs.Outcomes.{Outcome, Read, Wrong, Full, ◌>>=◌, of_option, Fails}
+use Rattle.ir_text_types.specs.Standing.{AttrStands}
+use Rattle.ir_text_types.specs.Typed.{Typed}
+use Rattle.ir_text_types.proofs.TextLaws.{after_found, after_only}
+use Rattle.ir_text_types.proofs.Worlds.{bind_read, option_read}
 use Rattle.ir_text_attributes.specs.AttrReading.{attr_at}
 use Rattle.ir_text_attributes.specs.AttrGrammar.{IsAttr}
 use Rattle.ir_text_attributes.specs.SingleReading.{single_attr_at}

@@ -6,8 +6,8 @@ use Rattle.ir_types.specs.declared.node.Sign.TheVariants.{Signless}
 use Rattle.ir_types.specs.Things.{Things, IsType}
 use Rattle.ir_types.specs.Sound.{IsSound}
 use Rattle.ir_text_tokens.specs.declared.token.Mark.TheVariants.{Colon}
-use Rattle.ir_text_grammar.specs.Marks.{after}
-use Rattle.ir_text_grammar.specs.Outcomes.{Read}
+use Rattle.ir_text_types.specs.Marks.{after}
+use Rattle.ir_text_types.specs.Outcomes.{Read}
 use Rattle.ir_text_attributes.specs.AttrReading.{suffix_from, suffix_at}
 use Rattle.ir_text_types.proofs.Numbered.{type_done_known, type_known}
 

@@ -11,16 +11,16 @@ use Rattle.ir_types.specs.Terms.{Symbol}
 use Rattle.ir_types.specs.Dictionaries.{kept}
 use Rattle.ir_types.specs.Sound.{IsSound}
 use Rattle.ir_types.proofs.Growth.{grows_refl, grows_trans}
-use Rattle.ir_text_grammar.specs.Outcomes.{Read, ◌>>=◌}
-use Rattle.ir_text_grammar.specs.Typed.{Text, after_typed}
+use Rattle.ir_text_types.specs.Outcomes.{Read, ◌>>=◌}
+use Rattle.ir_text_types.specs.Typed.{Text, after_typed}
 use Rattle.ir_text_types.specs.TypeReading.{many}
-use Rattle.ir_text_grammar.specs.Grammars.{Grammar, Then, Done, Either, Not, IsMark, Token}
-use Rattle.ir_text_grammar.specs.Worlds.{From}
-use Rattle.ir_text_grammar.specs.Standing.{NameStands, AttrStands}
-use Rattle.ir_text_grammar.specs.Laws.{Each}
-use Rattle.ir_text_grammar.proofs.Worlds.{Exact, exact_spelled, nothing_exact, then_exact, done_exact, either_exact, each_push}
-use Rattle.ir_text_grammar.proofs.TextLaws.{things, Same, typed_marks}
-use Rattle.ir_text_grammar.proofs.TokenLaws.{behind_exact, token_exact}
+use Rattle.ir_text_types.specs.Grammars.{Grammar, Then, Done, Either, Not, IsMark, Token}
+use Rattle.ir_text_types.specs.Worlds.{From}
+use Rattle.ir_text_types.specs.Standing.{NameStands, AttrStands}
+use Rattle.ir_text_types.specs.Laws.{Each}
+use Rattle.ir_text_types.proofs.Worlds.{Exact, exact_spelled, nothing_exact, then_exact, done_exact, either_exact, each_push}
+use Rattle.ir_text_types.proofs.TextLaws.{things, Same, typed_marks}
+use Rattle.ir_text_types.proofs.TokenLaws.{behind_exact, token_exact}
 use Rattle.ir_text_attributes.specs.AttrReading.{name_done, attr_done, part_from, part_at, parts_from, parts_at, symbol_attr_at}
 use Rattle.ir_text_attributes.specs.AttrGrammar.{IsFine, IsPart, IsParts, IsSymbol}
 use Rattle.ir_text_attributes.proofs.NodeLaws.{IsNodeOf, name_done_exact, attr_done_exact}

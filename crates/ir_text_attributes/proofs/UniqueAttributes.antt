@@ -17,8 +17,8 @@ use Rattle.ir_text_attributes.specs.AttrGrammar.{EntryTerm, IsPart, IsParts, IsS
 use Rattle.ir_text_attributes.specs.Keyed.{has_key, in_order}
 use Rattle.ir_tree.specs.Meaning.{key_before}
 use Rattle.ir_text_types.specs.TypeReading.{many}
-use Rattle.ir_text_grammar.specs.Grammars.{When, Grammar, Then, Done, After, Not, IsMore, IsList, Token, IsMark}
-use Rattle.ir_text_grammar.specs.Typed.{Text}
+use Rattle.ir_text_types.specs.Grammars.{When, Grammar, Then, Done, After, Not, IsMore, IsList, Token, IsMark}
+use Rattle.ir_text_types.specs.Typed.{Text}
 use Rattle.ir_text_types.specs.TypeGrammar.{IsType}
 use Rattle.ir_text_types.proofs.Unique.{IsOne, then_one, done_one, done_if_one, after_one, either_one, more_one, list_one, token_one, mark_one, type_one}
 

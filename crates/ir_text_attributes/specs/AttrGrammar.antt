@@ -14,9 +14,9 @@ use Rattle.ir_types.specs.Readings.{literal_bits, reading_of}
 use Rattle.ir_types.specs.Reasons.{attr_fault}
 use Rattle.ir_tree.specs.Meaning.{key_before}
 use Rattle.ir_text_attributes.specs.declared.flag.Flag as code
-use Rattle.ir_text_grammar.specs.Grammars.{Grammar, Then, Done, DoneIf, When, After, Not, Either, IsMore, IsList, Token, IsMark}
+use Rattle.ir_text_types.specs.Grammars.{Grammar, Then, Done, DoneIf, When, After, Not, Either, IsMore, IsList, Token, IsMark}
 use Rattle.ir_text_types.specs.TypeReading.{many}
-use Rattle.ir_text_grammar.specs.Typed.{Text}
+use Rattle.ir_text_types.specs.Typed.{Text}
 use Rattle.ir_text_types.specs.TypeGrammar.{IsType}
 use Rattle.ir_text_attributes.specs.Literals.{Word, Truth, UnitWord, ArrayWord, TypeWord, word_of, truth_bits, overflow_word, none_word, flag_of, has_nsw, has_nuw}
 use Rattle.ir_text_attributes.specs.Keyed.{has_key, in_order}

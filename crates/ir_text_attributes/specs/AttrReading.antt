@@ -16,9 +16,9 @@ use Rattle.ir_types.specs.Terms.{TypeTerm, type_term}
 use Rattle.ir_types.specs.Readings.{literal_bits, reading_of}
 use Rattle.ir_text_attributes.specs.declared.flag.Flag.{Flag}
 use Rattle.ir_text_attributes.specs.declared.element.Element.{Element}
-use Rattle.ir_text_grammar.specs.Outcomes.{Outcome, Read, Wrong, ◌>>=◌, of_option, Parse}
-use Rattle.ir_text_grammar.specs.Lists.{more_at, list_at}
-use Rattle.ir_text_grammar.specs.Typed.{Typed, after_typed, name_step, attr_step}
+use Rattle.ir_text_types.specs.Outcomes.{Outcome, Read, Wrong, ◌>>=◌, of_option, Parse}
+use Rattle.ir_text_types.specs.Lists.{more_at, list_at}
+use Rattle.ir_text_types.specs.Typed.{Typed, after_typed, name_step, attr_step}
 use Rattle.ir_text_types.specs.TypeReading.{many, type_done, type_at}
 use Rattle.ir_text_attributes.specs.Literals.{Word, Truth, UnitWord, ArrayWord, TypeWord, word_of, truth_bits, overflow_word, none_word, flag_of, has_nsw, has_nuw}
 use Rattle.ir_text_attributes.specs.Elements.{bits_of, type_of, element_named, is_bit, item_value}

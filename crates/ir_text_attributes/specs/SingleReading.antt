@@ -3,8 +3,8 @@ use Rattle.std.specs.Prelude.{ℕ, List}
 use Rattle.ir_text_tokens.specs.declared.token.Mark.TheVariants.{End}
 use Rattle.ir_types.specs.Limits.{most_depth}
 use Rattle.ir_types.specs.Things.{Things}
-use Rattle.ir_text_grammar.specs.Marks.{after}
-use Rattle.ir_text_grammar.specs.Outcomes.{Outcome, Read, ◌>>=◌, of_option}
+use Rattle.ir_text_types.specs.Marks.{after}
+use Rattle.ir_text_types.specs.Outcomes.{Outcome, Read, ◌>>=◌, of_option}
 use Rattle.ir_text_attributes.specs.AttrReading.{attr_at}
 
 unfoldable pub single_attr_at : List ℕ → Things → Outcome (ℕ × Things)

@@ -4,7 +4,7 @@ use Rattle.ir_text_tokens.specs.declared.token.Mark.TheVariants.{End}
 use Rattle.ir_text_tokens.specs.Limits.{text_reason}
 use Rattle.ir_types.specs.Limits.{most_depth}
 use Rattle.ir_types.specs.Terms.{AttrTerm}
-use Rattle.ir_text_grammar.specs.Grammars.{IsMark}
+use Rattle.ir_text_types.specs.Grammars.{IsMark}
 use Rattle.ir_text_attributes.specs.AttrGrammar.{IsAttr}
 
 -- the text is one attribute, no deeper than it may be, and nothing after it

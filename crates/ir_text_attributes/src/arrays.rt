@@ -1,14 +1,14 @@
 //! Arrays. Builtin Dialect, "ArrayAttr".
 ghost use Rattle.std.specs.Prelude.{◌≡◌};
 ghost use Rattle.ir_types.specs.Things.{Grows};
-ghost use Rattle.ir_text_grammar.specs.Outcomes.{Gives};
+ghost use Rattle.ir_text_types.specs.Outcomes.{Gives};
 ghost use Rattle.ir_text_attributes.specs.AttrReading.{attrs_by, array_by, attr_at};
 
 use crate::attributes::{attr, kept};
-use ir_text_grammar::error::{ReadError, wrong};
-use ir_text_grammar::steps::{after, expect};
 use ir_text_tokens::refusal::TextRefusal;
 use ir_text_tokens::token::Mark;
+use ir_text_types::error::{ReadError, wrong};
+use ir_text_types::steps::{after, expect};
 use ir_text_types::types::MANY;
 use ir_types::context::Context;
 use ir_types::ids::AttrId;
@@ -18,7 +18,7 @@ use std::alloc::Global;
 
 /// Attributes up to a closing bracket.
 #[cycle(attr)]
-#[tactic(auto, using(ir_types::proofs::Growth::grows_refl, ir_types::proofs::Growth::grows_trans), unfolding(ir_text_grammar::specs::Lists::list_at, crate::specs::AttrReading::attrs_by))]
+#[tactic(auto, using(ir_types::proofs::Growth::grows_refl, ir_types::proofs::Growth::grows_trans), unfolding(ir_text_types::specs::Lists::list_at, crate::specs::AttrReading::attrs_by))]
 fn attrs<'a>(
     alloc: Global,
     ctx: &mut Context,

@@ -2,7 +2,7 @@
 ghost use Rattle.std.specs.Prelude.{◌≡◌, if◌then◌else◌};
 ghost use Rattle.std.specs.Str.{bytes_eq};
 ghost use Rattle.ir_types.specs.Things.{AttrIsOf, Grows};
-ghost use Rattle.ir_text_grammar.specs.Outcomes.{Gives, Wrong};
+ghost use Rattle.ir_text_types.specs.Outcomes.{Gives, Wrong};
 ghost use Rattle.ir_text_attributes.specs.Literals.{word_of, overflow_word};
 ghost use Rattle.ir_text_attributes.specs.AttrReading.{attr_done, truth_at, string_attr_at, type_attr_at, overflow_at, word_attr, mark_attr, attr_at};
 
@@ -12,11 +12,11 @@ use crate::dictionaries::dictionary;
 use crate::flags::{flags, has_nsw, has_nuw};
 use crate::literals::{literal, negative};
 use crate::symbols::symbol;
-use ir_text_grammar::error::{ReadError, wrong};
-use ir_text_grammar::steps::{self, expect, token};
 use ir_text_tokens::refusal::TextRefusal;
 use ir_text_tokens::strings::string_value;
 use ir_text_tokens::token::{Mark, Token};
+use ir_text_types::error::{ReadError, wrong};
+use ir_text_types::steps::{self, expect, token};
 use ir_text_types::types::{self, token_refusal, ty};
 use ir_types::context::Context;
 use ir_types::ids::AttrId;

@@ -3,7 +3,7 @@ ghost use Rattle.std.specs.Prelude.{◌≡◌, ◌<◌, ◌≤◌, ◌^◌, IfSo
 ghost use Rattle.ir_types.specs.Things.{Things, Grows};
 ghost use Rattle.ir_types.specs.Readings as readings;
 ghost use Rattle.ir_types.specs.Readings.{reading_of};
-ghost use Rattle.ir_text_grammar.specs.Outcomes.{Gives};
+ghost use Rattle.ir_text_types.specs.Outcomes.{Gives};
 ghost use Rattle.ir_text_attributes.specs.Elements.{bits_of, type_of, element_named, item_bits, item_value};
 ghost use Rattle.ir_text_attributes.specs.Literals.{truth_bits, word_of};
 ghost use Rattle.ir_text_attributes.specs.declared.element.Element.TheVariants.{I1};
@@ -11,12 +11,12 @@ ghost use Rattle.ir_text_attributes.specs.AttrReading.{element_at, truth_item, n
 
 use crate::attributes::kept;
 use crate::element::Element;
-use ir_text_grammar::error::{ReadError, wrong};
-use ir_text_grammar::steps::{after, expect, token};
 use ir_text_tokens::numbers::integer_value;
 use ir_text_tokens::refusal::TextRefusal;
 use ir_text_tokens::token::{Mark, Token};
+use ir_text_types::error::{ReadError, wrong};
 use ir_text_types::scalars::word_refusal;
+use ir_text_types::steps::{after, expect, token};
 use ir_text_types::types::{self, MANY, token_refusal};
 use ir_types::context::Context;
 use ir_types::ids::AttrId;

@@ -1,18 +1,18 @@
 //! Dictionaries. Builtin Dialect, "DictionaryAttr"; Language Reference, "Attributes".
 ghost use Rattle.std.specs.Prelude.{◌≡◌, nat_eq};
 ghost use Rattle.ir_types.specs.Things.{Grows};
-ghost use Rattle.ir_text_grammar.specs.Outcomes.{Gives};
+ghost use Rattle.ir_text_types.specs.Outcomes.{Gives};
 ghost use Rattle.ir_text_attributes.specs.Keyed.{has_key};
 ghost use Rattle.ir_text_attributes.specs.AttrReading.{key_at, unit_value_at, value_at, entry_by, entries_by, dictionary_by, attr_at};
 
 use crate::attributes::{attr, kept};
 use crate::symbols::named;
-use ir_text_grammar::error::{ReadError, wrong};
-use ir_text_grammar::steps::{after, expect, token};
 use ir_text_tokens::fault::Fault;
 use ir_text_tokens::refusal::TextRefusal;
 use ir_text_tokens::strings::string_value;
 use ir_text_tokens::token::{Mark, Token};
+use ir_text_types::error::{ReadError, wrong};
+use ir_text_types::steps::{after, expect, token};
 use ir_types::context::Context;
 use ir_types::ids::{AttrId, NameId};
 use ir_types::limits::MOST_ENTRIES;
@@ -138,7 +138,7 @@ fn past_fault(alloc: Global, ctx: &mut Context, before: &[Entry], bytes: &[u8]) 
 
 /// Entries up to the closing brace.
 #[cycle(attr)]
-#[tactic(auto, using(ir_types::proofs::Growth::grows_refl, ir_types::proofs::Growth::grows_trans), unfolding(ir_text_grammar::specs::Lists::list_at, crate::specs::AttrReading::entries_by))]
+#[tactic(auto, using(ir_types::proofs::Growth::grows_refl, ir_types::proofs::Growth::grows_trans), unfolding(ir_text_types::specs::Lists::list_at, crate::specs::AttrReading::entries_by))]
 fn entries<'a>(
     alloc: Global,
     ctx: &mut Context,

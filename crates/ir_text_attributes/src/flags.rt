@@ -1,15 +1,15 @@
 //! The flags of integer operations in a text. `arith` Dialect, "IntegerOverflowFlagsAttr".
 ghost use Rattle.std.specs.Prelude.{◌≡◌};
 ghost use Rattle.ir_types.specs.Things.{Things};
-ghost use Rattle.ir_text_grammar.specs.Outcomes.{Gives};
+ghost use Rattle.ir_text_types.specs.Outcomes.{Gives};
 ghost use Rattle.ir_text_attributes.specs.Literals.{flag_of, is_nsw, is_nuw, has_nsw, has_nuw};
 ghost use Rattle.ir_text_attributes.specs.AttrReading.{flag_at, some_flags_at, no_flags_at, flags_at};
 
 use crate::flag::Flag;
-use ir_text_grammar::error::{ReadError, wrong};
-use ir_text_grammar::steps::{after, expect, token};
 use ir_text_tokens::refusal::TextRefusal;
 use ir_text_tokens::token::{Mark, Token};
+use ir_text_types::error::{ReadError, wrong};
+use ir_text_types::steps::{after, expect, token};
 use ir_text_types::types::MANY;
 use std::alloc::Global;
 

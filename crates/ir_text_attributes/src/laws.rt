@@ -8,8 +8,8 @@ ghost use Rattle.ir_tree.specs.Meaning.{key_before};
 ghost use Rattle.ir_text_attributes.specs.AttrGrammar.{EntryTerm, IsAttr};
 ghost use Rattle.ir_text_attributes.specs.AttrReading.{attr_at};
 ghost use Rattle.ir_text_attributes.specs.Keyed.{IsInOrder, in_order};
-ghost use Rattle.ir_text_grammar.specs.Outcomes.{Read, Full};
-ghost use Rattle.ir_text_grammar.specs.Standing.{AttrStands};
+ghost use Rattle.ir_text_types.specs.Outcomes.{Read, Full};
+ghost use Rattle.ir_text_types.specs.Standing.{AttrStands};
 
 /// An attribute that is read is spelled by the grammar, as the grown context has it; and each attribute
 /// that is spelled is read, unless the context grows full on the way.

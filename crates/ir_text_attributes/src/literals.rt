@@ -1,16 +1,16 @@
 //! Integer literals. Builtin Dialect, "IntegerAttr".
 ghost use Rattle.std.specs.Prelude.{◌≡◌};
 ghost use Rattle.ir_types.specs.Things.{IsType, Grows};
-ghost use Rattle.ir_text_grammar.specs.Outcomes.{Gives};
+ghost use Rattle.ir_text_types.specs.Outcomes.{Gives};
 ghost use Rattle.ir_text_attributes.specs.AttrReading.{suffix_at, literal_done, literal_at, negative_at};
 
 use crate::attributes::kept;
-use ir_text_grammar::error::{ReadError, wrong};
-use ir_text_grammar::steps::{after, token};
 use ir_text_tokens::fault::Fault;
 use ir_text_tokens::numbers::integer_value;
 use ir_text_tokens::refusal::TextRefusal;
 use ir_text_tokens::token::{Mark, Token};
+use ir_text_types::error::{ReadError, wrong};
+use ir_text_types::steps::{after, token};
 use ir_text_types::types::{self, ty};
 use ir_types::context::Context;
 use ir_types::ids::{AttrId, TypeId};

@@ -2,17 +2,17 @@
 ghost use Rattle.std.specs.Prelude.{◌≡◌, ℕ, IfOk, Err};
 ghost use Rattle.ir_types.specs.Things.{Grows};
 ghost use Rattle.ir_text_tokens.specs.declared.fault.Fault.{Fault as TextFault};
-ghost use Rattle.ir_text_grammar.specs.Laws.{IsFull};
-ghost use Rattle.ir_text_grammar.specs.Outcomes.{Gives};
+ghost use Rattle.ir_text_types.specs.Laws.{IsFull};
+ghost use Rattle.ir_text_types.specs.Outcomes.{Gives};
 ghost use Rattle.ir_text_attributes.specs.SingleReading.{single_attr_at};
 ghost use Rattle.ir_text_attributes.specs.Spelling.{SpellsAttr};
 ghost use Rattle.ir_text_attributes.specs.Claims.{IsOnlyAttr, IsNoAttr};
 
 use crate::attributes::attr;
-use ir_text_grammar::error::{ReadError, within_limits};
-use ir_text_grammar::steps::expect;
 use ir_text_tokens::token::Mark;
+use ir_text_types::error::{ReadError, within_limits};
 use ir_text_types::full::told;
+use ir_text_types::steps::expect;
 use ir_types::context::Context;
 use ir_types::ids::AttrId;
 use ir_types::limits::MOST_DEPTH;

@@ -1,16 +1,16 @@
 //! Symbol references. Language Reference, "Symbols and Symbol Tables"; Builtin Dialect, "SymbolRefAttr".
 ghost use Rattle.std.specs.Prelude.{◌≡◌, []};
 ghost use Rattle.ir_types.specs.Things.{Grows};
-ghost use Rattle.ir_text_grammar.specs.Outcomes.{Gives};
+ghost use Rattle.ir_text_types.specs.Outcomes.{Gives};
 ghost use Rattle.ir_text_types.specs.TypeReading.{many};
 ghost use Rattle.ir_text_attributes.specs.AttrReading.{name_done, part_at, parts_at, symbol_attr_at};
 
 use crate::attributes::kept;
-use ir_text_grammar::error::{ReadError, wrong};
-use ir_text_grammar::steps::{self, after, token};
 use ir_text_tokens::refusal::TextRefusal;
 use ir_text_tokens::strings::string_value;
 use ir_text_tokens::token::{Mark, Token};
+use ir_text_types::error::{ReadError, wrong};
+use ir_text_types::steps::{self, after, token};
 use ir_text_types::types::MANY;
 use ir_types::context::Context;
 use ir_types::ids::{AttrId, NameId};

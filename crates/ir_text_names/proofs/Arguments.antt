@@ -5,13 +5,13 @@ use Rattle.ir_text_tokens.specs.declared.token.Mark.TheVariants.{CloseRound, Com
 use Rattle.ir_text_tokens.specs.Scopes.{Scopes}
 use Rattle.ir_types.specs.Things.{Things}
 use Rattle.ir_tree.specs.declared.value.Value.TheVariants as values
-use Rattle.ir_text_grammar.specs.declared.error.ReadError.{ReadError}
-use Rattle.ir_text_grammar.specs.declared.error.ReadError.TheVariants as errors
-use Rattle.ir_text_grammar.specs.Marks.{after}
-use Rattle.ir_text_grammar.specs.Outcomes.{Outcome, Read, ◌>>=◌, of_option, Fails}
-use Rattle.ir_text_grammar.specs.Typed.{Typed}
+use Rattle.ir_text_types.specs.declared.error.ReadError.{ReadError}
+use Rattle.ir_text_types.specs.declared.error.ReadError.TheVariants as errors
+use Rattle.ir_text_types.specs.Marks.{after}
+use Rattle.ir_text_types.specs.Outcomes.{Outcome, Read, ◌>>=◌, of_option, Fails}
+use Rattle.ir_text_types.specs.Typed.{Typed}
 use Rattle.ir_text_types.specs.TypeReading.{type_at}
-use Rattle.ir_text_grammar.proofs.ListSteps.{fails_with, fails_option}
+use Rattle.ir_text_types.proofs.ListSteps.{fails_with, fails_option}
 use Rattle.ir_text_names.specs.declared.bound.Bound.{Bound}
 use Rattle.ir_text_names.specs.declared.lists.Behind.{Behind}
 use Rattle.ir_text_names.specs.declared.lists.Behind.TheVariants.{End, More}

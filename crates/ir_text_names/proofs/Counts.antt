@@ -3,11 +3,11 @@ use Rattle.std.specs.Prelude.{nat_le, if◌then◌else◌}
 use Rattle.std.proofs.Common.{◌≡◌, ◌≤◌, ◌+◌, ℕ, Bool, true, false, List, [], ◌∷◌, ◌++◌, refl, ap, arith}
 use Rattle.std.proofs.lemmas.Bool.{leb-true}
 use Rattle.ir_text_tokens.specs.declared.token.Mark.TheVariants.{Colon}
-use Rattle.ir_text_grammar.specs.Marks.{after}
-use Rattle.ir_text_grammar.specs.Outcomes.{Outcome, Read, Wrong, Full, ◌>>=◌}
-use Rattle.ir_text_grammar.proofs.Worlds.{bind_read}
+use Rattle.ir_text_types.specs.Marks.{after}
+use Rattle.ir_text_types.specs.Outcomes.{Outcome, Read, Wrong, Full, ◌>>=◌}
+use Rattle.ir_text_types.proofs.Worlds.{bind_read}
 use Rattle.ir_text_names.specs.Packs.{Counted, counts}
-use Rattle.ir_text_grammar.specs.Typed.{Text}
+use Rattle.ir_text_types.specs.Typed.{Text}
 use Rattle.ir_text_names.specs.NameReading.{value_name_at, some_count, count_within, count_at, result_at}
 
 -- one name more

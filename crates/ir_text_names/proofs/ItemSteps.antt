@@ -2,10 +2,10 @@
 use Rattle.std.proofs.Common.{◌≡◌, ℕ, suc, ◌+◌, ◌-◌, ◌<◌, List, [], ◌∷◌, ◌++◌, Option, Some, None, Result, Ok, Err, refl, sym, ◌∙◌, arith}
 use Rattle.ir_text_tokens.specs.declared.token.Mark.{Mark}
 use Rattle.ir_text_tokens.specs.declared.token.Mark.TheVariants.{Comma}
-use Rattle.ir_text_grammar.specs.declared.error.ReadError.{ReadError}
-use Rattle.ir_text_grammar.specs.Lists.{more_at}
-use Rattle.ir_text_grammar.specs.Outcomes.{Outcome, Read, of_option, Parse, Fails}
-use Rattle.ir_text_grammar.proofs.ListSteps.{fails_with, fails_option}
+use Rattle.ir_text_types.specs.declared.error.ReadError.{ReadError}
+use Rattle.ir_text_types.specs.Lists.{more_at}
+use Rattle.ir_text_types.specs.Outcomes.{Outcome, Read, of_option, Parse, Fails}
+use Rattle.ir_text_types.proofs.ListSteps.{fails_with, fails_option}
 use Rattle.ir_text_names.specs.declared.lists.Behind.{Behind}
 use Rattle.ir_text_names.specs.declared.lists.Behind.TheVariants.{End, More}
 use Rattle.ir_text_names.specs.ListSteps.{Steps}

@@ -6,9 +6,9 @@ use Rattle.ir_text_tokens.specs.Scopes.{Scopes, bound, find}
 use Rattle.ir_types.specs.Limits.{most_depth}
 use Rattle.ir_tree.specs.Limits.{most_items}
 use Rattle.ir_tree.specs.declared.value.Value.TheVariants as values
-use Rattle.ir_text_grammar.specs.Outcomes.{Outcome, Read, Wrong, ◌>>=◌, of_option, Parse}
-use Rattle.ir_text_grammar.specs.Lists.{list_at}
-use Rattle.ir_text_grammar.specs.Typed.{Typed, after_typed}
+use Rattle.ir_text_types.specs.Outcomes.{Outcome, Read, Wrong, ◌>>=◌, of_option, Parse}
+use Rattle.ir_text_types.specs.Lists.{list_at}
+use Rattle.ir_text_types.specs.Typed.{Typed, after_typed}
 use Rattle.ir_text_types.specs.TypeReading.{type_at}
 use Rattle.ir_text_names.specs.declared.bound.Bound.{Bound}
 use Rattle.ir_text_names.specs.States.{State, to_bytes, after_in, typed, with_typed, with_scopes, inside}

@@ -2,10 +2,10 @@
 use Rattle.std.specs.Prelude.{◌≡◌, ℕ, suc, List, Option, Some, None, Result, Ok, Err}
 use Rattle.ir_text_tokens.specs.declared.token.Mark.{Mark}
 use Rattle.ir_text_tokens.specs.declared.token.Mark.TheVariants.{Comma}
-use Rattle.ir_text_grammar.specs.declared.error.ReadError.{ReadError}
-use Rattle.ir_text_grammar.specs.Lists.{more_at}
-use Rattle.ir_text_grammar.specs.Marks.{after}
-use Rattle.ir_text_grammar.specs.Outcomes.{Read, of_option, Parse, Fails}
+use Rattle.ir_text_types.specs.declared.error.ReadError.{ReadError}
+use Rattle.ir_text_types.specs.Lists.{more_at}
+use Rattle.ir_text_types.specs.Marks.{after}
+use Rattle.ir_text_types.specs.Outcomes.{Read, of_option, Parse, Fails}
 use Rattle.ir_text_names.specs.declared.lists.Behind.{Behind}
 use Rattle.ir_text_names.specs.declared.lists.Behind.TheVariants.{End, More}
 

@@ -4,10 +4,10 @@ use Rattle.ir_text_tokens.specs.declared.token.Mark.TheVariants.{Equal, Colon}
 use Rattle.ir_text_tokens.specs.Tokens.{Lexeme, integer, value, next}
 use Rattle.ir_text_tokens.specs.Numbers.{integer_of}
 use Rattle.ir_tree.specs.Limits.{most_items}
-use Rattle.ir_text_grammar.specs.Marks.{after}
-use Rattle.ir_text_grammar.specs.Outcomes.{Outcome, Read, Wrong, ◌>>=◌, of_option, Parse}
-use Rattle.ir_text_grammar.specs.Lists.{more_at}
-use Rattle.ir_text_grammar.specs.Typed.{Text}
+use Rattle.ir_text_types.specs.Marks.{after}
+use Rattle.ir_text_types.specs.Outcomes.{Outcome, Read, Wrong, ◌>>=◌, of_option, Parse}
+use Rattle.ir_text_types.specs.Lists.{more_at}
+use Rattle.ir_text_types.specs.Typed.{Text}
 use Rattle.ir_text_names.specs.Packs.{Counted, counts}
 
 abbrev pub name_from : Lexeme → List ℕ → Outcome (List ℕ × Text)

@@ -1,12 +1,12 @@
 //! Names that come into sight. Language Reference, "Identifiers and keywords".
-ghost use Rattle.ir_text_grammar.specs.Outcomes.{Gives};
+ghost use Rattle.ir_text_types.specs.Outcomes.{Gives};
 ghost use Rattle.ir_text_names.specs.BlockReading.{bind};
 
 use crate::pack::Pack;
-use ir_text_grammar::error::ReadError;
 use ir_text_tokens::fault::Fault;
 use ir_text_tokens::names::Names;
 use ir_text_tokens::refusal::TextRefusal;
+use ir_text_types::error::ReadError;
 
 /// Binds a name that is not bound yet; so many bytes are left where it stands.
 #[tactic(auto, unfolding(crate::specs::BlockReading::bind))]

@@ -2,9 +2,9 @@
 ghost use Rattle.std.specs.Prelude.{◌≡◌, ◌≤◌, ◌+◌, [], length, option_map, OnOk};
 ghost use Rattle.ir_types.specs.Things.{Grows};
 ghost use Rattle.ir_tree.specs.Limits.{most_items};
-ghost use Rattle.ir_text_grammar.specs.Outcomes.{Gives, of_option};
+ghost use Rattle.ir_text_types.specs.Outcomes.{Gives, of_option};
 ghost use Rattle.ir_text_names.specs.Alike.{IsAlike};
-ghost use Rattle.ir_text_grammar.specs.Marks.{after};
+ghost use Rattle.ir_text_types.specs.Marks.{after};
 ghost use Rattle.ir_text_tokens.specs.declared.token.Mark.TheVariants.{CloseRound, Comma};
 ghost use Rattle.ir_text_names.specs.States.{after_in, state_of};
 ghost use Rattle.ir_text_names.specs.ListSteps.{IsBehind, Steps};
@@ -16,11 +16,11 @@ use crate::lists::Behind;
 use crate::named::{name, one_too_many};
 use crate::pack::Pack;
 use crate::scope::Scope;
-use ir_text_grammar::error::{ReadError, wrong};
-use ir_text_grammar::steps::{after, expect, token};
 use ir_text_tokens::lexer::{self, skip};
 use ir_text_tokens::refusal::TextRefusal;
 use ir_text_tokens::token::{Mark, Token};
+use ir_text_types::error::{ReadError, wrong};
+use ir_text_types::steps::{after, expect, token};
 use ir_text_types::types::ty;
 use ir_tree::limits::MOST_ITEMS;
 use ir_tree::value::Value;
@@ -144,7 +144,7 @@ fn push_argument<'a>(
 }
 
 /// Puts arguments behind each other up to the closing parenthesis, as many as a block may have.
-#[tactic(auto, using(ir_types::proofs::Growth::grows_refl, ir_types::proofs::Growth::grows_trans), unfolding(ir_text_grammar::specs::Lists::list_at, crate::specs::BlockReading::args_at))]
+#[tactic(auto, using(ir_types::proofs::Growth::grows_refl, ir_types::proofs::Growth::grows_trans), unfolding(ir_text_types::specs::Lists::list_at, crate::specs::BlockReading::args_at))]
 fn push_arguments<'a>(
     alloc: Global,
     scope: &mut Scope<'a>,

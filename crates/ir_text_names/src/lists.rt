@@ -1,9 +1,9 @@
 //! Lists in which items are parted by commas.
 ghost use Rattle.ir_text_names.specs.ListSteps.{IsBehind};
 
-use ir_text_grammar::error::ReadError;
-use ir_text_grammar::steps::{after, expect};
 use ir_text_tokens::token::Mark;
+use ir_text_types::error::ReadError;
+use ir_text_types::steps::{after, expect};
 
 /// What stands behind an item of a list.
 #[derive(Clone, Copy)]

@@ -2,18 +2,18 @@
 ghost use Rattle.std.specs.Prelude.{◌≡◌, ◌+◌, ◌≤◌, [], map, option_map, SomeIff};
 ghost use Rattle.ir_tree.specs.Limits.{most_items};
 ghost use Rattle.ir_text_tokens.specs.Numbers.{integer_of};
-ghost use Rattle.ir_text_grammar.specs.Outcomes.{Gives};
+ghost use Rattle.ir_text_types.specs.Outcomes.{Gives};
 ghost use Rattle.ir_text_names.specs.Packs.{named_view};
 ghost use Rattle.ir_text_names.specs.NameReading.{value_name_at, written_at, count_at, result_at, names_at, results_at};
 
 use crate::lists::{Behind, behind_item};
-use ir_text_grammar::error::{ReadError, wrong};
-use ir_text_grammar::steps::{after, token};
 use ir_text_tokens::fault::Fault;
 use ir_text_tokens::lexer;
 use ir_text_tokens::numbers::integer_value;
 use ir_text_tokens::refusal::TextRefusal;
 use ir_text_tokens::token::{Mark, Token};
+use ir_text_types::error::{ReadError, wrong};
+use ir_text_types::steps::{after, token};
 use ir_tree::limits::MOST_ITEMS;
 use std::alloc::Global;
 

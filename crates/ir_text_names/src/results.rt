@@ -1,6 +1,6 @@
 //! The names of results. Language Reference, "Operations".
 ghost use Rattle.std.specs.Prelude.{◌≡◌, ◌+◌, ◌≤◌, ◌==◌, map, option_map, length, IfOk};
-ghost use Rattle.ir_text_grammar.specs.Outcomes.{Gives};
+ghost use Rattle.ir_text_types.specs.Outcomes.{Gives};
 ghost use Rattle.ir_tree.specs.Limits.{most_items};
 ghost use Rattle.ir_text_names.specs.Packs.{counts, named_view};
 ghost use Rattle.ir_text_names.specs.BlockReading.{results_of, bind_results, finish};
@@ -9,10 +9,10 @@ use crate::binding::bind;
 use crate::bound::Bound;
 use crate::named::Named;
 use crate::pack::Pack;
-use ir_text_grammar::error::ReadError;
 use ir_text_tokens::fault::Fault;
 use ir_text_tokens::names::Names;
 use ir_text_tokens::refusal::TextRefusal;
+use ir_text_types::error::ReadError;
 use ir_tree::value::Value;
 use ir_types::ids::{OpId, TypeId};
 use std::alloc::{AllocError, Global};

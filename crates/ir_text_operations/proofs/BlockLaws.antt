@@ -18,17 +18,17 @@ use Rattle.ir_tree.specs.Maps.{map_ops}
 use Rattle.ir_tree.specs.Passing.{op_passes}
 use Rattle.ir_tree.specs.Meaning.{Operation, is_name, is_type, is_attr}
 use Rattle.ir_tree.proofs.Meanings.{both_hold}
-use Rattle.ir_text_grammar.specs.Marks.{after}
-use Rattle.ir_text_grammar.specs.Outcomes.{Outcome, Read, ◌>>=◌, of_option, Parse}
-use Rattle.ir_text_grammar.specs.Grammars.{Grammar, Then, Done, After, Not, Either, IsMore, IsList}
-use Rattle.ir_text_grammar.specs.Lists.{more_at}
+use Rattle.ir_text_types.specs.Marks.{after}
+use Rattle.ir_text_types.specs.Outcomes.{Outcome, Read, ◌>>=◌, of_option, Parse}
+use Rattle.ir_text_types.specs.Grammars.{Grammar, Then, Done, After, Not, Either, IsMore, IsList}
+use Rattle.ir_text_types.specs.Lists.{more_at}
 use Rattle.ir_text_types.specs.TypeReading.{type_at}
 use Rattle.ir_text_types.specs.TypeGrammar.{IsType}
-use Rattle.ir_text_grammar.specs.Typed.{Text, Typed}
-use Rattle.ir_text_grammar.specs.Worlds.{From}
-use Rattle.ir_text_grammar.specs.Standing.{TypeStands}
-use Rattle.ir_text_grammar.specs.Laws.{Each}
-use Rattle.ir_text_grammar.proofs.Worlds.{bind_assoc, later, Exact, exact_where, exact_spelled, then_exact, done_exact, after_exact, either_exact, list_exact}
+use Rattle.ir_text_types.specs.Typed.{Text, Typed}
+use Rattle.ir_text_types.specs.Worlds.{From}
+use Rattle.ir_text_types.specs.Standing.{TypeStands}
+use Rattle.ir_text_types.specs.Laws.{Each}
+use Rattle.ir_text_types.proofs.Worlds.{bind_assoc, later, Exact, exact_where, exact_spelled, then_exact, done_exact, after_exact, either_exact, list_exact}
 use Rattle.ir_text_types.proofs.TypeLaws.{type_exact}
 use Rattle.ir_text_names.specs.States.{State, to_bytes, after_in, typed, with_typed, with_scopes, inside, outside}
 use Rattle.ir_text_names.specs.NameReading.{value_name_at}

@@ -9,16 +9,16 @@ use Rattle.ir_types.specs.Terms.{name_term}
 use Rattle.ir_types.specs.Words.{is_inherent}
 use Rattle.ir_types.specs.Sound.{IsSound}
 use Rattle.ir_types.proofs.Growth.{grows_trans}
-use Rattle.ir_text_grammar.specs.Outcomes.{Outcome, Read, Wrong, ◌>>=◌}
-use Rattle.ir_text_grammar.specs.Grammars.{When, Then, Done, After, IsMark}
-use Rattle.ir_text_grammar.specs.Typed.{Typed, after_typed}
+use Rattle.ir_text_types.specs.Outcomes.{Outcome, Read, Wrong, ◌>>=◌}
+use Rattle.ir_text_types.specs.Grammars.{When, Then, Done, After, IsMark}
+use Rattle.ir_text_types.specs.Typed.{Typed, after_typed}
 use Rattle.ir_text_attributes.specs.AttrReading.{Entries, key_at, value_at, attr_at}
 use Rattle.ir_text_attributes.specs.AttrGrammar.{EntryTerm, IsKey, IsAttr}
-use Rattle.ir_text_grammar.specs.Worlds.{From}
-use Rattle.ir_text_grammar.specs.Standing.{NameStands, AttrStands}
-use Rattle.ir_text_grammar.specs.Laws.{Each}
-use Rattle.ir_text_grammar.proofs.Worlds.{Exact, exact_where, exact_spelled, nothing_exact, then_exact, done_exact, after_exact, either_exact}
-use Rattle.ir_text_grammar.proofs.TextLaws.{things, Same, typed_marks}
+use Rattle.ir_text_types.specs.Worlds.{From}
+use Rattle.ir_text_types.specs.Standing.{NameStands, AttrStands}
+use Rattle.ir_text_types.specs.Laws.{Each}
+use Rattle.ir_text_types.proofs.Worlds.{Exact, exact_where, exact_spelled, nothing_exact, then_exact, done_exact, after_exact, either_exact}
+use Rattle.ir_text_types.proofs.TextLaws.{things, Same, typed_marks}
 use Rattle.ir_text_attributes.proofs.PartLaws.{keys_agree, key_exact, value_exact}
 use Rattle.ir_text_attributes.proofs.AttrLaws.{attr_exact}
 use Rattle.ir_text_operations.specs.Entries.{moved, staying, is_refused}

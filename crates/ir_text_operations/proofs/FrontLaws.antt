@@ -14,16 +14,16 @@ use Rattle.ir_text_tokens.specs.Scopes.{Binding, find, or_else}
 use Rattle.ir_types.specs.Things.{Things, Grows}
 use Rattle.ir_types.specs.Sound.{IsSound}
 use Rattle.ir_types.proofs.Growth.{grows_refl, grows_trans}
-use Rattle.ir_text_grammar.specs.Marks.{after}
-use Rattle.ir_text_grammar.specs.Outcomes.{Outcome, Read, Wrong, ◌>>=◌, of_option, Parse}
-use Rattle.ir_text_grammar.specs.Lists.{more_at, list_at}
-use Rattle.ir_text_grammar.specs.Grammars.{When, Grammar, Then, Done, Not, Either, IsMore, IsList, Token, IsMark}
-use Rattle.ir_text_grammar.specs.Worlds.{From}
-use Rattle.ir_text_grammar.specs.Laws.{Each}
-use Rattle.ir_text_grammar.proofs.Worlds.{bind_assoc, option_read, later, Agree, Exact, Step, Reads, Marks, step_on, reads_on, exact_where, exact_spelled, exact_for, nothing_exact, choice_exact, guard_exact, then_exact, done_exact, after_exact, either_exact, more_exact, list_exact}
-use Rattle.ir_text_grammar.proofs.TextLaws.{after_found, after_only, after_none, none_after}
+use Rattle.ir_text_types.specs.Marks.{after}
+use Rattle.ir_text_types.specs.Outcomes.{Outcome, Read, Wrong, ◌>>=◌, of_option, Parse}
+use Rattle.ir_text_types.specs.Lists.{more_at, list_at}
+use Rattle.ir_text_types.specs.Grammars.{When, Grammar, Then, Done, Not, Either, IsMore, IsList, Token, IsMark}
+use Rattle.ir_text_types.specs.Worlds.{From}
+use Rattle.ir_text_types.specs.Laws.{Each}
+use Rattle.ir_text_types.proofs.Worlds.{bind_assoc, option_read, later, Agree, Exact, Step, Reads, Marks, step_on, reads_on, exact_where, exact_spelled, exact_for, nothing_exact, choice_exact, guard_exact, then_exact, done_exact, after_exact, either_exact, more_exact, list_exact}
+use Rattle.ir_text_types.proofs.TextLaws.{after_found, after_only, after_none, none_after}
 use Rattle.ir_text_names.specs.declared.bound.Bound.{Bound}
-use Rattle.ir_text_grammar.specs.Typed.{Text}
+use Rattle.ir_text_types.specs.Typed.{Text}
 use Rattle.ir_text_names.specs.NameReading.{name_from, value_name_at, number_from, nonzero_at, some_count, count_at, result_at, names_at, results_from, results_at}
 use Rattle.ir_text_operations.specs.FrontReading.{Frees, member_of, op_name_from, op_name_at, place_of, place_from, place_at, member_at, use_from, use_at, uses_at, start_at}
 use Rattle.ir_text_operations.specs.Free.{seen_as}

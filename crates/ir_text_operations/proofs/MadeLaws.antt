@@ -13,8 +13,8 @@ use Rattle.ir_tree.specs.Maps.{map_entry, map_regions}
 use Rattle.ir_tree.specs.Passing.{entry_passes, op_passes}
 use Rattle.ir_tree.specs.Meaning.{is_name, is_type, is_attr, key_before, key_before_in}
 use Rattle.ir_tree.proofs.Meanings.{both_hold}
-use Rattle.ir_text_grammar.specs.Standing.{NameStands, TypeStands}
-use Rattle.ir_text_grammar.specs.Laws.{Each}
+use Rattle.ir_text_types.specs.Standing.{NameStands, TypeStands}
+use Rattle.ir_text_types.specs.Laws.{Each}
 use Rattle.ir_text_names.specs.declared.bound.Bound.{Bound}
 use Rattle.ir_text_operations.specs.Entries.{moved, staying, properties_of, attributes_of}
 use Rattle.ir_text_attributes.specs.Keyed.{put_among, in_order}

@@ -13,15 +13,15 @@ use Rattle.std.proofs.lemmas.Option.{slice_get_within}
 use Rattle.ir_types.proofs.CallNumbers.{name_stands, new_name}
 use Rattle.ir_types.specs.Interning.{with_name}
 use Rattle.ir_text_tokens.specs.declared.fault.Fault.{Fault}
-use Rattle.ir_text_grammar.specs.declared.error.ReadError.{ReadError}
-use Rattle.ir_text_grammar.specs.declared.error.ReadError.TheVariants as errors
+use Rattle.ir_text_types.specs.declared.error.ReadError.{ReadError}
+use Rattle.ir_text_types.specs.declared.error.ReadError.TheVariants as errors
 use Rattle.std.specs.Prelude.{Result, Err}
 use Rattle.ir_tree.specs.Tree.{op, Op, region, block, no_regions, ops_of, next}
 use Rattle.std.specs.List.{range_with_len}
 use Rattle.ir_text_tokens.specs.declared.refusal.TextRefusal.{TextRefusal}
 use Rattle.ir_types.specs.declared.refusal.Refusal.TheVariants.{TooMany}
 use Rattle.ir_types.specs.Reasons.{name_reason}
-use Rattle.ir_text_grammar.specs.Typed.{name_step}
+use Rattle.ir_text_types.specs.Typed.{name_step}
 use Rattle.ir_tree.specs.Ids.{IsNumberedFrom, ids}
 use Rattle.ir_tree.specs.Limits.{every, ops_every}
 use Rattle.ir_tree.specs.Maps.{map_entry, map_ops}
@@ -29,13 +29,13 @@ use Rattle.ir_tree.specs.Passing.{op_passes}
 use Rattle.ir_tree.specs.Meaning.{Operation, meaning, is_known, is_name, is_type, is_attr, key_before, key_before_in, rises, rises_after, dictionaries_rise}
 use Rattle.ir_tree.proofs.Mapped.{map_ids, map_operands_visible, map_depth, map_counts, map_every}
 use Rattle.ir_tree.specs.WellFormed.{IsFormed}
-use Rattle.ir_text_grammar.specs.Grammars.{Grammar, IsMark}
-use Rattle.ir_text_grammar.specs.Worlds.{From}
-use Rattle.ir_text_grammar.specs.Laws.{Each}
-use Rattle.ir_text_grammar.specs.Marks.{after}
-use Rattle.ir_text_grammar.specs.Outcomes.{Outcome, Read, Wrong, Full, Parse, Fails}
-use Rattle.ir_text_grammar.proofs.TextLaws.{after_found, after_only}
-use Rattle.ir_text_grammar.proofs.Worlds.{Step, Agree}
+use Rattle.ir_text_types.specs.Grammars.{Grammar, IsMark}
+use Rattle.ir_text_types.specs.Worlds.{From}
+use Rattle.ir_text_types.specs.Laws.{Each}
+use Rattle.ir_text_types.specs.Marks.{after}
+use Rattle.ir_text_types.specs.Outcomes.{Outcome, Read, Wrong, Full, Parse, Fails}
+use Rattle.ir_text_types.proofs.TextLaws.{after_found, after_only}
+use Rattle.ir_text_types.proofs.Worlds.{Step, Agree}
 use Rattle.ir_text_names.specs.States.{State, fresh}
 use Rattle.ir_text_operations.specs.Seen.{Seen, seen_fresh}
 use Rattle.ir_tree.specs.declared.value.Value.{Value}

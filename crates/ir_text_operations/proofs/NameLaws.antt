@@ -9,16 +9,16 @@ use Rattle.ir_types.specs.Things.{Things, Grows}
 use Rattle.ir_types.specs.Sound.{IsSound}
 use Rattle.ir_types.proofs.Growth.{grows_refl, grows_trans}
 use Rattle.ir_types.specs.Terms.{TypeTerm}
-use Rattle.ir_text_grammar.specs.Marks.{after}
-use Rattle.ir_text_grammar.specs.Outcomes.{Outcome, Read, Wrong, ◌>>=◌, of_option, Parse}
-use Rattle.ir_text_grammar.specs.Grammars.{Grammar, Done, IsMark, Token}
-use Rattle.ir_text_grammar.specs.Typed.{Text, Typed}
-use Rattle.ir_text_grammar.specs.Worlds.{From}
-use Rattle.ir_text_grammar.specs.Standing.{TypeStands}
-use Rattle.ir_text_grammar.specs.Laws.{Each}
-use Rattle.ir_text_grammar.proofs.Worlds.{bind_read, later, Agree, Exact, Step, Comes, Reads, Marks, done_exact}
-use Rattle.ir_text_grammar.proofs.TextLaws.{after_found, after_only, after_none, none_after}
-use Rattle.ir_text_grammar.proofs.TextLaws as typed
+use Rattle.ir_text_types.specs.Marks.{after}
+use Rattle.ir_text_types.specs.Outcomes.{Outcome, Read, Wrong, ◌>>=◌, of_option, Parse}
+use Rattle.ir_text_types.specs.Grammars.{Grammar, Done, IsMark, Token}
+use Rattle.ir_text_types.specs.Typed.{Text, Typed}
+use Rattle.ir_text_types.specs.Worlds.{From}
+use Rattle.ir_text_types.specs.Standing.{TypeStands}
+use Rattle.ir_text_types.specs.Laws.{Each}
+use Rattle.ir_text_types.proofs.Worlds.{bind_read, later, Agree, Exact, Step, Comes, Reads, Marks, done_exact}
+use Rattle.ir_text_types.proofs.TextLaws.{after_found, after_only, after_none, none_after}
+use Rattle.ir_text_types.proofs.TextLaws as typed
 use Rattle.ir_text_names.specs.declared.bound.Bound.{Bound}
 use Rattle.ir_text_names.specs.States as states
 use Rattle.ir_text_names.specs.States.{State, to_bytes, after_in, with_typed, with_scopes, inside, outside}

@@ -15,16 +15,16 @@ use Rattle.ir_types.proofs.Terms.{type_term_one}
 use Rattle.ir_tree.specs.Tree.{Op, Region}
 use Rattle.ir_tree.specs.Meaning.{Operation, meaning, is_known, isolated_in, key_before}
 use Rattle.ir_tree.proofs.Meanings.{both_hold}
-use Rattle.ir_text_grammar.specs.Marks.{after}
-use Rattle.ir_text_grammar.specs.Outcomes.{Outcome, Read, Wrong, Full, ◌>>=◌, of_option, Parse}
-use Rattle.ir_text_grammar.specs.Grammars.{When, Grammar, Then, Done, After}
-use Rattle.ir_text_grammar.specs.Typed.{Text, Typed, after_typed, name_step}
+use Rattle.ir_text_types.specs.Marks.{after}
+use Rattle.ir_text_types.specs.Outcomes.{Outcome, Read, Wrong, Full, ◌>>=◌, of_option, Parse}
+use Rattle.ir_text_types.specs.Grammars.{When, Grammar, Then, Done, After}
+use Rattle.ir_text_types.specs.Typed.{Text, Typed, after_typed, name_step}
 use Rattle.ir_text_types.specs.TypeReading.{function_type_at}
 use Rattle.ir_text_types.specs.TypeGrammar.{IsFunctionType}
-use Rattle.ir_text_grammar.specs.Worlds.{From}
-use Rattle.ir_text_grammar.specs.Standing.{NameStands, TypeStands}
-use Rattle.ir_text_grammar.specs.Laws.{Each, SignatureStands}
-use Rattle.ir_text_grammar.proofs.Worlds.{bind_assoc, later, Exact, Step, Reads, exact_where, exact_spelled, nothing_exact, then_exact, after_exact}
+use Rattle.ir_text_types.specs.Worlds.{From}
+use Rattle.ir_text_types.specs.Standing.{NameStands, TypeStands}
+use Rattle.ir_text_types.specs.Laws.{Each, SignatureStands}
+use Rattle.ir_text_types.proofs.Worlds.{bind_assoc, later, Exact, Step, Reads, exact_where, exact_spelled, nothing_exact, then_exact, after_exact}
 use Rattle.ir_text_types.proofs.TypeLaws.{function_type_exact}
 use Rattle.ir_text_attributes.proofs.NodeLaws as attrs
 use Rattle.ir_text_names.specs.declared.bound.Bound.{Bound}

@@ -8,14 +8,14 @@ use Rattle.ir_text_tokens.specs.Scopes.{Scopes, Binding}
 use Rattle.ir_types.specs.Things.{Things}
 use Rattle.ir_tree.specs.Tree.{Op, Region}
 use Rattle.ir_tree.specs.Meaning.{isolated_in}
-use Rattle.ir_text_grammar.specs.declared.error.ReadError.{ReadError}
-use Rattle.ir_text_grammar.specs.declared.error.ReadError.TheVariants as errors
-use Rattle.ir_text_grammar.specs.Marks.{after}
-use Rattle.ir_text_grammar.specs.Outcomes.{Outcome, Read, Wrong, Full, ◌>>=◌, of_option, Parse, Fails}
-use Rattle.ir_text_grammar.specs.Typed.{Text, Typed, after_typed, name_step}
+use Rattle.ir_text_types.specs.declared.error.ReadError.{ReadError}
+use Rattle.ir_text_types.specs.declared.error.ReadError.TheVariants as errors
+use Rattle.ir_text_types.specs.Marks.{after}
+use Rattle.ir_text_types.specs.Outcomes.{Outcome, Read, Wrong, Full, ◌>>=◌, of_option, Parse, Fails}
+use Rattle.ir_text_types.specs.Typed.{Text, Typed, after_typed, name_step}
 use Rattle.ir_text_types.specs.TypeReading.{function_type_at}
-use Rattle.ir_text_grammar.proofs.ListSteps.{fails_with}
-use Rattle.ir_text_grammar.proofs.Worlds.{bind_assoc}
+use Rattle.ir_text_types.proofs.ListSteps.{fails_with}
+use Rattle.ir_text_types.proofs.Worlds.{bind_assoc}
 use Rattle.ir_text_names.specs.declared.bound.Bound.{Bound}
 use Rattle.ir_text_names.specs.BlockReading.{finish, head_at, region_head_at}
 use Rattle.ir_text_names.specs.NameReading.{results_at}

@@ -2,9 +2,9 @@
 use Rattle.std.proofs.Common.{◌≡◌, ℕ, suc, ◌+◌, ◌-◌, ◌<◌, ◌≤◌, List, [], ◌∷◌, ◌++◌, Some, None, refl, sym, ◌∙◌, arith}
 use Rattle.ir_text_tokens.specs.declared.token.Mark.{Mark}
 use Rattle.ir_tree.specs.Tree.{Op}
-use Rattle.ir_text_grammar.specs.declared.error.ReadError.{ReadError}
-use Rattle.ir_text_grammar.specs.Outcomes.{Outcome, Read, Wrong, Parse, Fails}
-use Rattle.ir_text_grammar.proofs.ListSteps.{fails_with}
+use Rattle.ir_text_types.specs.declared.error.ReadError.{ReadError}
+use Rattle.ir_text_types.specs.Outcomes.{Outcome, Read, Wrong, Parse, Fails}
+use Rattle.ir_text_types.proofs.ListSteps.{fails_with}
 use Rattle.ir_text_names.specs.States.{State, after_in}
 use Rattle.ir_text_operations.specs.OpReading.{ops_at}
 

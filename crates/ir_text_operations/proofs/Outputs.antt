@@ -5,11 +5,11 @@ use Rattle.std.proofs.Common.{◌≡◌, ℕ, zero, suc, ◌+◌, ◌≤◌, Boo
 use Rattle.std.proofs.lemmas.List.{length-append}
 use Rattle.ir_text_tokens.specs.declared.token.Mark.{Mark}
 use Rattle.ir_text_tokens.specs.declared.token.Mark.TheVariants.{Comma, Colon, OpenRound, CloseRound, Arrow}
-use Rattle.ir_text_grammar.specs.Outcomes.{Outcome, Read, Wrong, ◌>>=◌, of_option, Parse}
-use Rattle.ir_text_grammar.specs.Lists.{more_from, more_at, list_from, list_at}
-use Rattle.ir_text_grammar.specs.Typed.{Typed, after_typed}
+use Rattle.ir_text_types.specs.Outcomes.{Outcome, Read, Wrong, ◌>>=◌, of_option, Parse}
+use Rattle.ir_text_types.specs.Lists.{more_from, more_at, list_from, list_at}
+use Rattle.ir_text_types.specs.Typed.{Typed, after_typed}
 use Rattle.ir_text_types.specs.TypeReading.{types_at, outputs_from, outputs_at, signature_at, many, type_at, function_type_at}
-use Rattle.ir_text_grammar.proofs.Worlds.{bind_read, option_read}
+use Rattle.ir_text_types.proofs.Worlds.{bind_read, option_read}
 use Rattle.ir_text_operations.specs.Openings.{result_types_at}
 
 abbrev pair : {A S : Type 0} → A → S → Outcome (A × S)

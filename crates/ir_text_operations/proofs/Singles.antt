@@ -16,14 +16,14 @@ use Rattle.ir_tree.specs.Ids.{IsNumberedFrom, ids}
 use Rattle.ir_tree.specs.Limits.{every, depth, counts_fit, most_around}
 use Rattle.ir_tree.specs.Meaning.{Operation, meaning, key_before, dictionaries_rise}
 use Rattle.ir_tree.proofs.Mapped.{map_depth, map_counts}
-use Rattle.ir_text_grammar.specs.Grammars.{IsMark}
-use Rattle.ir_text_grammar.specs.Marks.{after}
-use Rattle.ir_text_grammar.specs.Outcomes.{Outcome, Read, Wrong, Full, ◌>>=◌, of_option}
-use Rattle.ir_text_grammar.specs.Worlds.{From}
-use Rattle.ir_text_grammar.proofs.TextLaws.{after_found, after_only}
-use Rattle.ir_text_grammar.proofs.Worlds.{bind_read, option_read, Step}
+use Rattle.ir_text_types.specs.Grammars.{IsMark}
+use Rattle.ir_text_types.specs.Marks.{after}
+use Rattle.ir_text_types.specs.Outcomes.{Outcome, Read, Wrong, Full, ◌>>=◌, of_option}
+use Rattle.ir_text_types.specs.Worlds.{From}
+use Rattle.ir_text_types.proofs.TextLaws.{after_found, after_only}
+use Rattle.ir_text_types.proofs.Worlds.{bind_read, option_read, Step}
 use Rattle.ir_text_names.specs.States.{State, fresh}
-use Rattle.ir_text_grammar.specs.declared.error.ReadError.{ReadError}
+use Rattle.ir_text_types.specs.declared.error.ReadError.{ReadError}
 use Rattle.ir_text_operations.specs.declared.single.OpError.{OpError}
 use Rattle.ir_text_operations.specs.declared.single.OpError.TheVariants.{Text}
 use Rattle.ir_text_operations.specs.Free.{value_named, free_bound, free_term, bound_term}

@@ -2,11 +2,11 @@
 use Rattle.std.proofs.Common.{◌≡◌, ℕ, List, Option, Some, None, refl, ◌∙◌}
 use Rattle.ir_text_tokens.specs.Scopes.{Binding}
 use Rattle.ir_text_tokens.specs.Tokens.{Lexeme, value, next}
-use Rattle.ir_text_grammar.specs.declared.error.ReadError.{ReadError}
-use Rattle.ir_text_grammar.specs.Outcomes.{Outcome, Read, ◌>>=◌, of_option, Fails}
-use Rattle.ir_text_grammar.proofs.ListSteps.{fails_with}
+use Rattle.ir_text_types.specs.declared.error.ReadError.{ReadError}
+use Rattle.ir_text_types.specs.Outcomes.{Outcome, Read, ◌>>=◌, of_option, Fails}
+use Rattle.ir_text_types.proofs.ListSteps.{fails_with}
 use Rattle.ir_text_names.specs.declared.bound.Bound.{Bound}
-use Rattle.ir_text_grammar.specs.Typed.{Text}
+use Rattle.ir_text_types.specs.Typed.{Text}
 use Rattle.ir_text_names.specs.NameReading.{name_from, value_name_at}
 use Rattle.ir_text_operations.specs.Free.{seen_as}
 use Rattle.ir_text_operations.specs.FrontReading.{Frees, member_of, use_from, use_at}

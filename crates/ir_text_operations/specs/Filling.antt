@@ -5,8 +5,8 @@ use Rattle.ir_types.specs.Things.{Things}
 use Rattle.ir_types.specs.Interning.{with_name}
 use Rattle.ir_types.specs.Words.{words}
 use Rattle.ir_tree.specs.Limits.{most_ops, most_around}
-use Rattle.ir_text_grammar.specs.Outcomes.{Full}
-use Rattle.ir_text_grammar.specs.Typed.{name_step}
+use Rattle.ir_text_types.specs.Outcomes.{Full}
+use Rattle.ir_text_types.specs.Typed.{name_step}
 use Rattle.ir_text_names.specs.States.{fresh}
 use Rattle.ir_text_operations.specs.Free.{free_bound, no_types}
 use Rattle.ir_text_operations.specs.Limits.{most_levels}

@@ -17,8 +17,8 @@ use Rattle.ir_tree.specs.declared.value.Value.TheVariants as values
 use Rattle.ir_tree.specs.Limits.{most_items, most_regions, most_ops}
 use Rattle.ir_tree.specs.Tree.{RegionOf}
 use Rattle.ir_tree.specs.Meaning.{Operation, key_before}
-use Rattle.ir_text_grammar.specs.Grammars.{When, Grammar, Then, Done, After, Not, Either, IsMore, IsList, Token, IsMark}
-use Rattle.ir_text_grammar.specs.Typed.{Text}
+use Rattle.ir_text_types.specs.Grammars.{When, Grammar, Then, Done, After, Not, Either, IsMore, IsList, Token, IsMark}
+use Rattle.ir_text_types.specs.Typed.{Text}
 use Rattle.ir_text_types.specs.TypeGrammar.{IsType, IsFunctionType}
 use Rattle.ir_text_attributes.specs.AttrGrammar.{EntryTerm, IsKey, IsValue, IsAttr}
 use Rattle.ir_text_operations.specs.Limits.{most_written}

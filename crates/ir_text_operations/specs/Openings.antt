@@ -5,11 +5,11 @@ use Rattle.ir_text_tokens.specs.declared.token.Mark.TheVariants.{OpenRound, Colo
 use Rattle.ir_text_tokens.specs.Scopes.{Binding}
 use Rattle.ir_types.specs.Things.{Things}
 use Rattle.ir_tree.specs.Meaning.{isolated_in, key_before_in}
-use Rattle.ir_text_grammar.specs.declared.error.ReadError.{ReadError}
-use Rattle.ir_text_grammar.specs.declared.error.ReadError.TheVariants as errors
-use Rattle.ir_text_grammar.specs.Marks.{after}
-use Rattle.ir_text_grammar.specs.Outcomes.{Read, Wrong, ◌>>=◌, of_option, Parse}
-use Rattle.ir_text_grammar.specs.Typed.{Text, Typed, after_typed, name_step}
+use Rattle.ir_text_types.specs.declared.error.ReadError.{ReadError}
+use Rattle.ir_text_types.specs.declared.error.ReadError.TheVariants as errors
+use Rattle.ir_text_types.specs.Marks.{after}
+use Rattle.ir_text_types.specs.Outcomes.{Read, Wrong, ◌>>=◌, of_option, Parse}
+use Rattle.ir_text_types.specs.Typed.{Text, Typed, after_typed, name_step}
 use Rattle.ir_text_types.specs.TypeReading.{function_type_at}
 use Rattle.ir_text_names.specs.declared.bound.Bound.{Bound}
 use Rattle.ir_text_names.specs.BlockReading.{finish}

@@ -4,7 +4,7 @@ use Rattle.ir_types.specs.Terms.{TypeTerm}
 use Rattle.ir_tree.specs.declared.value.Value.{Value}
 use Rattle.ir_text_tokens.specs.declared.token.Mark.{Mark}
 use Rattle.ir_text_tokens.specs.Scopes.{Scopes, find, bound, entered, left}
-use Rattle.ir_text_grammar.specs.Grammars.{Grammar, IsMark}
+use Rattle.ir_text_types.specs.Grammars.{Grammar, IsMark}
 
 -- a value and its type
 pub record BoundTerm : Type 0 where

@@ -11,7 +11,7 @@ use Rattle.ir_tree.specs.Limits.{every, depth, counts_fit, most_around, most_ops
 use Rattle.ir_tree.specs.Meaning.{Operation, key_before, dictionaries_rise}
 use Rattle.ir_tree.specs.Ids.{IsNumberedFrom}
 use Rattle.ir_tree.specs.WellFormed.{IsFormed}
-use Rattle.ir_text_grammar.specs.Grammars.{IsMark}
+use Rattle.ir_text_types.specs.Grammars.{IsMark}
 use Rattle.ir_text_operations.specs.Seen.{Seen, seen_fresh}
 use Rattle.ir_text_operations.specs.Free.{no_names}
 use Rattle.ir_text_operations.specs.Limits.{most_levels}

@@ -9,8 +9,8 @@ use Rattle.ir_tree.specs.Limits.{region_every, arguments_pass}
 use Rattle.ir_tree.specs.Maps.{map_region}
 use Rattle.ir_tree.specs.Passing.{op_passes}
 use Rattle.ir_tree.specs.Meaning.{Operation, meaning, is_name, is_type, is_attr, is_known}
-use Rattle.ir_text_grammar.specs.Standing.{NameStands, TypeStands, AttrStands}
-use Rattle.ir_text_grammar.specs.Laws.{Each}
+use Rattle.ir_text_types.specs.Standing.{NameStands, TypeStands, AttrStands}
+use Rattle.ir_text_types.specs.Laws.{Each}
 use Rattle.ir_text_attributes.specs.AttrGrammar.{EntryTerm}
 use Rattle.ir_text_names.specs.declared.bound.Bound.{Bound}
 use Rattle.ir_text_names.specs.States.{State}

@@ -1,17 +1,17 @@
 //! Dictionaries as they are written. Language Reference, "Attributes" and "Properties".
 ghost use Rattle.std.specs.Prelude.{◌≡◌, is_some};
 ghost use Rattle.ir_types.specs.Things.{Grows};
-ghost use Rattle.ir_text_grammar.specs.Outcomes.{Gives};
+ghost use Rattle.ir_text_types.specs.Outcomes.{Gives};
 ghost use Rattle.ir_text_operations.specs.EntryReading.{refused_in, entry_at, entries_at, some_properties, properties_at, attributes_at};
 
 use crate::dictionaries::no_room;
 use crate::limits::MOST_WRITTEN;
 use ir_text_attributes::dictionaries::{Entry, has_key, key, value};
-use ir_text_grammar::error::{ReadError, wrong};
-use ir_text_grammar::steps::{after, expect};
 use ir_text_names::lists::{Behind, behind_item};
 use ir_text_tokens::refusal::TextRefusal;
 use ir_text_tokens::token::Mark;
+use ir_text_types::error::{ReadError, wrong};
+use ir_text_types::steps::{after, expect};
 use ir_types::context::Context;
 use ir_types::ids::NameId;
 use ir_types::limits::MOST_DEPTH;
@@ -64,7 +64,7 @@ fn entry<'a>(
 }
 
 /// Entries up to the closing brace.
-#[tactic(auto, using(ir_types::proofs::Growth::grows_refl, ir_types::proofs::Growth::grows_trans), unfolding(ir_text_grammar::specs::Lists::list_at, crate::specs::EntryReading::entries_at))]
+#[tactic(auto, using(ir_types::proofs::Growth::grows_refl, ir_types::proofs::Growth::grows_trans), unfolding(ir_text_types::specs::Lists::list_at, crate::specs::EntryReading::entries_at))]
 fn entries<'a>(
     alloc: Global,
     ctx: &mut Context,

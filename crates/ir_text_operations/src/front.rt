@@ -5,14 +5,12 @@ ghost use Rattle.std.specs.Cow.{cow_slice_items};
 ghost use Rattle.std.specs.Char.{is_ascii_digit};
 ghost use Rattle.ir_text_tokens.specs.Numbers.{place_value};
 ghost use Rattle.ir_text_tokens.specs.Strings.{string_bytes};
-ghost use Rattle.ir_text_grammar.specs.Outcomes.{Gives};
+ghost use Rattle.ir_text_types.specs.Outcomes.{Gives};
 ghost use Rattle.ir_text_operations.specs.Free.{free_bound};
 ghost use Rattle.ir_text_operations.specs.Openings.{called_at};
 ghost use Rattle.ir_text_operations.specs.FrontReading.{op_name_at, first_at, member_at, member_of, use_at, uses_at, start_at, start_view};
 
 use crate::free::free_bound;
-use ir_text_grammar::error::{ReadError, wrong};
-use ir_text_grammar::steps::{after, expect, token};
 use ir_text_names::bound::Bound;
 use ir_text_names::lists::{Behind, behind_item};
 use ir_text_names::named::{Named, name, one_too_many, results};
@@ -23,6 +21,8 @@ use ir_text_tokens::numbers::{are_digits, integer_value};
 use ir_text_tokens::refusal::TextRefusal;
 use ir_text_tokens::strings::string_value;
 use ir_text_tokens::token::{Mark, Token};
+use ir_text_types::error::{ReadError, wrong};
+use ir_text_types::steps::{after, expect, token};
 use ir_tree::limits::MOST_ITEMS;
 use ir_tree::outer::Outer;
 use std::alloc::{AllocError, Global};
@@ -196,7 +196,7 @@ fn operand<'a, O: Outer>(
 }
 
 /// Operands up to the closing parenthesis, as many as an operation may have.
-#[tactic(auto, unfolding(ir_text_grammar::specs::Lists::list_at, crate::specs::FrontReading::uses_at))]
+#[tactic(auto, unfolding(ir_text_types::specs::Lists::list_at, crate::specs::FrontReading::uses_at))]
 fn operands<'a, O: Outer>(
     alloc: Global,
     outer: &O,

@@ -1,16 +1,16 @@
 //! What stands before an operation's regions. Language Reference, "Operations".
 ghost use Rattle.ir_types.specs.Things.{Grows};
-ghost use Rattle.ir_text_grammar.specs.Outcomes.{Gives};
+ghost use Rattle.ir_text_types.specs.Outcomes.{Gives};
 ghost use Rattle.ir_text_operations.specs.Free.{free_bound};
 ghost use Rattle.ir_text_operations.specs.Openings.{opening_view, opening_at};
 
 use crate::entries::properties;
 use crate::front::{Front, start};
 use ir_text_attributes::dictionaries::Entry;
-use ir_text_grammar::error::ReadError;
-use ir_text_grammar::steps;
 use ir_text_names::pack::Pack;
 use ir_text_tokens::names::Names;
+use ir_text_types::error::ReadError;
+use ir_text_types::steps;
 use ir_tree::outer::Outer;
 use ir_types::context::Context;
 use ir_types::ids::NameId;

@@ -2,8 +2,6 @@
 ghost use Rattle.ir_text_operations.specs.Openings.{IsOfText};
 
 use crate::front::begin_refusal;
-use ir_text_grammar::error::{ReadError, wrong};
-use ir_text_grammar::steps::after;
 use ir_text_names::named::{counted, results};
 use ir_text_names::pack::Pack;
 use ir_text_tokens::fault::Fault;
@@ -11,6 +9,8 @@ use ir_text_tokens::lexer::{skip, token};
 use ir_text_tokens::names::Names;
 use ir_text_tokens::refusal::TextRefusal;
 use ir_text_tokens::token::{Mark, Token};
+use ir_text_types::error::{ReadError, wrong};
+use ir_text_types::steps::after;
 use ir_tree::limits::MOST_ITEMS;
 use ir_tree::value::Value;
 use ir_types::ids::OpId;

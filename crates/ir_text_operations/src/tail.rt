@@ -2,7 +2,7 @@
 ghost use Rattle.std.specs.Prelude.{◌≡◌, map, IfOk};
 ghost use Rattle.ir_tree.specs.View.{region_view};
 ghost use Rattle.ir_types.specs.Things.{Grows};
-ghost use Rattle.ir_text_grammar.specs.Outcomes.{Gives};
+ghost use Rattle.ir_text_types.specs.Outcomes.{Gives};
 ghost use Rattle.ir_text_names.specs.States.{state_of};
 ghost use Rattle.ir_text_operations.specs.FrontReading.{start_view};
 ghost use Rattle.ir_text_operations.specs.Openings.{AreDictionaries, result_types_at, finished_at};
@@ -15,14 +15,14 @@ use crate::opening::Opening;
 use crate::operands::{agrees, values_of};
 use crate::places::placed;
 use ir_text_attributes::dictionaries::Entry;
-use ir_text_grammar::error::{ReadError, wrong};
-use ir_text_grammar::steps::expect;
 use ir_text_names::bound::Bound;
 use ir_text_names::results::finish;
 use ir_text_names::scope::Scope;
 use ir_text_tokens::lexer::skip;
 use ir_text_tokens::refusal::TextRefusal;
 use ir_text_tokens::token::Mark;
+use ir_text_types::error::{ReadError, wrong};
+use ir_text_types::steps::expect;
 use ir_text_types::types::function_type;
 use ir_tree::tree::{TreeOp, TreeRegion};
 use ir_types::context::Context;
@@ -161,8 +161,9 @@ fn tail<'a>(
     }
 }
 
-/// The same for the operation that begins at `start`. A fault is told where it stands: `Successors` where
-/// they stand behind its operands, and a name that is bound already at the name.
+/// The attributes and the function type of the operation that begins at `start`. Then the names of its results are
+/// bound. A fault is told where it stands: `Successors` where they stand behind its operands, and a name that is
+/// bound already at the name.
 #[tactic(auto, using(ir_types::proofs::Growth::grows_refl, ir_types::proofs::Growth::grows_trans))]
 pub(crate) fn closing<'a>(
     alloc: Global,

@@ -3,7 +3,7 @@ use Rattle.std.proofs.Common.{◌≡◌, ℕ, zero, suc, List, [], ◌∷◌, re
 use Rattle.ir_text_tokens.specs.declared.token.Mark.{Mark}
 use Rattle.ir_text_tokens.specs.Tokens.{Lexeme, next}
 use Rattle.ir_text_tokens.proofs.Printed.{blank_passed}
-use Rattle.ir_text_grammar.specs.Grammars.{Grammar, Then, After, Not, Either, IsMore, IsList, Token, IsMark}
+use Rattle.ir_text_types.specs.Grammars.{Grammar, Then, After, Not, Either, IsMore, IsList, Token, IsMark}
 
 abbrev pub Ahead : {B : Type 0} → Grammar (List ℕ) B → Type 0
 Ahead {B = B} P = (y : B) (a b new : List ℕ) → next a ≡ next b → P y a new → P y b new

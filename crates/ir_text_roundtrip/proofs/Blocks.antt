@@ -15,7 +15,7 @@ use Rattle.ir_text_tokens.specs.Bytes.{is_blank}
 use Rattle.ir_text_tokens.specs.Tokens.{mark, value, next as next_token}
 use Rattle.ir_text_tokens.specs.Scopes.{Scopes, find, bound}
 use Rattle.ir_text_tokens.proofs.Printed.{mark_token, value_token, blank_passed}
-use Rattle.ir_text_grammar.specs.Grammars.{Not, IsMore, IsMark, Token}
+use Rattle.ir_text_types.specs.Grammars.{Not, IsMore, IsMark, Token}
 use Rattle.ir_text_types.specs.TypeGrammar.{IsType}
 use Rattle.ir_text_operations.specs.Seen.{PackTerm, Seen, seen_rest, IsMarkSeen}
 use Rattle.ir_text_operations.specs.OpGrammar.{IsArg}

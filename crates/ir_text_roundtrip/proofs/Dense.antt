@@ -19,7 +19,7 @@ use Rattle.ir_text_tokens.proofs.Printed.{bare_token, decimal_token, mark_token,
 use Rattle.ir_text.specs.Rows.{parted}
 use Rattle.ir_text.specs.TypeText.{type_text}
 use Rattle.ir_text.specs.AttrText.{is_truth, number_text, items_text, dense_text}
-use Rattle.ir_text_grammar.specs.Grammars.{IsMore, IsMark}
+use Rattle.ir_text_types.specs.Grammars.{IsMore, IsMark}
 use Rattle.ir_text_types.specs.TypeReading.{many}
 use Rattle.ir_text_attributes.specs.Literals.{true_word, false_word, array_word}
 use Rattle.ir_text_attributes.specs.Elements.{element_of}

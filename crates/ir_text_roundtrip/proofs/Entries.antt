@@ -10,7 +10,7 @@ use Rattle.ir_text_tokens.specs.Printing.{AreBytes, Stops, is_bare_id, key_text,
 use Rattle.ir_text_tokens.proofs.Escapes.{either, value_again}
 use Rattle.ir_text_tokens.proofs.Printed.{mark_token, bare_key, string_key}
 use Rattle.ir_text.specs.AttrText.{is_flag, entry_text, attr_text, entry_texts}
-use Rattle.ir_text_grammar.specs.Grammars.{Grammar, Not, Either, IsMark}
+use Rattle.ir_text_types.specs.Grammars.{Grammar, Not, Either, IsMark}
 use Rattle.ir_text_attributes.specs.AttrGrammar.{EntryTerm, IsKey}
 use Rattle.ir_text_roundtrip.specs.WrittenAttributes.{entries_list, EndsAttr}
 use Rattle.ir_text_roundtrip.proofs.Small.{lacks_token}

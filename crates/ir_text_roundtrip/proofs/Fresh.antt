@@ -13,7 +13,7 @@ use Rattle.ir_text_tokens.specs.Tokens.{value, string}
 use Rattle.ir_text_tokens.specs.Printing.{raw_text}
 use Rattle.ir_text_tokens.specs.Scopes.{Scopes, left, left_to}
 use Rattle.ir_text_tokens.proofs.Printed.{string_token}
-use Rattle.ir_text_grammar.specs.Grammars.{Grammar, Not, IsMore}
+use Rattle.ir_text_types.specs.Grammars.{Grammar, Not, IsMore}
 use Rattle.ir_text_operations.specs.Free.{no_names}
 use Rattle.ir_text_operations.specs.Seen.{PackTerm, Seen, IsMarkSeen}
 use Rattle.ir_text_operations.specs.OpGrammar.{IsOps, IsOpWith, IsOp}

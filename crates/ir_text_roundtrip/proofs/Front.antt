@@ -16,7 +16,7 @@ use Rattle.ir_text_tokens.specs.Printing.{AreBytes, Stops, is_suffix_id, raw_tex
 use Rattle.ir_text_tokens.proofs.Escapes.{value_again}
 use Rattle.ir_text_tokens.proofs.Decimals.{decimal_number, integer_again, eqb_self, first_passes}
 use Rattle.ir_text_tokens.proofs.Printed.{mark_token, value_token, hash_token, string_token, decimal_token, decimal_name}
-use Rattle.ir_text_grammar.specs.Grammars.{Not, IsMore, IsList, IsMark, Token}
+use Rattle.ir_text_types.specs.Grammars.{Not, IsMore, IsList, IsMark, Token}
 use Rattle.ir_text_operations.specs.Free.{no_names, seen_as}
 use Rattle.ir_text_names.specs.Packs.{Counted, counts}
 use Rattle.ir_text_operations.specs.Seen.{BoundTerm}

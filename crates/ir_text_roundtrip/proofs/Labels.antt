@@ -13,7 +13,7 @@ use Rattle.ir_text_tokens.specs.declared.token.Mark.{Mark}
 use Rattle.ir_text_tokens.specs.declared.token.Mark.TheVariants.{OpenRound, CloseRound, Colon}
 use Rattle.ir_text_tokens.specs.Tokens.{Lexeme, mark, value, label, next as next_token}
 use Rattle.ir_text_tokens.proofs.Printed.{mark_token, value_token, label_token, blank_passed}
-use Rattle.ir_text_grammar.specs.Grammars.{Not, IsList, IsMark, Token}
+use Rattle.ir_text_types.specs.Grammars.{Not, IsList, IsMark, Token}
 use Rattle.ir_text_operations.specs.Seen.{Seen, seen_rest}
 use Rattle.ir_text_operations.specs.Made.{region_of}
 use Rattle.ir_text_operations.specs.OpGrammar.{IsHeadFrom, IsHead}

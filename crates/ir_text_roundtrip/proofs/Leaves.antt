@@ -19,7 +19,7 @@ use Rattle.ir_text_tokens.proofs.Escapes.{value_again}
 use Rattle.ir_text_tokens.proofs.Printed.{bare_token, decimal_token, hash_token, mark_token, minus_token, string_token}
 use Rattle.ir_text.specs.TypeText.{type_text}
 use Rattle.ir_text.specs.AttrText.{is_truth, number_text, integer_text, flags_text, attr_text}
-use Rattle.ir_text_grammar.specs.Grammars.{Token}
+use Rattle.ir_text_types.specs.Grammars.{Token}
 use Rattle.ir_text_types.specs.TypeGrammar.{IsType}
 use Rattle.ir_text_attributes.specs.Literals.{TypeWord, word_of, true_word, false_word, unit_word, none_word, overflow_word}
 use Rattle.ir_text_attributes.specs.AttrGrammar.{IsSuffix, IsLiteral, IsFlags, IsWordAttr, IsAttrFrom, IsAttr}
@@ -29,7 +29,7 @@ use Rattle.ir_text_attributes.specs.Literals.{array_word, has_nsw, has_nuw}
 use Rattle.ir_text_tokens.proofs.Escapes.{either}
 use Rattle.ir_types.proofs.Growth.{name_is}
 use Rattle.ir_types.specs.declared.node.TypeNode.{TypeNode}
-use Rattle.ir_text_grammar.specs.Grammars.{IsMore}
+use Rattle.ir_text_types.specs.Grammars.{IsMore}
 use Rattle.ir_text_types.specs.Scalars.{memref_word, scalar_of}
 use Rattle.ir_text_types.specs.TypeGrammar.{IsWordFrom}
 use Rattle.ir_text_roundtrip.specs.Written.{is_written_type}

@@ -15,7 +15,7 @@ use Rattle.ir_text_tokens.proofs.Printed.{mark_token}
 use Rattle.ir_text.specs.Rows.{parted}
 use Rattle.ir_text.specs.AttrText.{entry_texts}
 use Rattle.ir_text.specs.Printing.{properties_text, attributes_text}
-use Rattle.ir_text_grammar.specs.Grammars.{Not, IsMark}
+use Rattle.ir_text_types.specs.Grammars.{Not, IsMark}
 use Rattle.ir_text_attributes.specs.AttrGrammar.{entries_of, EntryTerm, IsAttr, IsFine, IsKey}
 use Rattle.ir_text_attributes.specs.Keyed.{has_key}
 use Rattle.ir_text_operations.specs.Entries.{staying, is_refused}

@@ -18,7 +18,7 @@ use Rattle.ir_text_tokens.specs.declared.token.Mark.TheVariants.{OpenRound, Clos
 use Rattle.ir_text_tokens.specs.Tokens.{mark, next as next_token}
 use Rattle.ir_text_tokens.specs.Scopes.{Scopes, left}
 use Rattle.ir_text_tokens.proofs.Printed.{mark_token, blank_passed}
-use Rattle.ir_text_grammar.specs.Grammars.{Grammar, Not, IsMore, IsMark, Token}
+use Rattle.ir_text_types.specs.Grammars.{Grammar, Not, IsMore, IsMark, Token}
 use Rattle.ir_text_operations.specs.Free.{no_names}
 use Rattle.ir_text_operations.specs.Seen.{PackTerm, Seen, seen_rest, seen_inside, seen_outside, IsMarkSeen}
 use Rattle.ir_text_operations.specs.OpGrammar.{IsHead, IsOps, IsRegion, IsRegions, IsOp, IsTail, RegionTerm}

@@ -5,7 +5,7 @@ use Rattle.ir_text_tokens.specs.declared.token.Mark.{Mark}
 use Rattle.ir_text_tokens.specs.declared.token.Mark.TheVariants.{Comma}
 use Rattle.ir_text_tokens.specs.Printing.{mark_text}
 use Rattle.ir_text_tokens.proofs.Printed.{mark_token}
-use Rattle.ir_text_grammar.specs.Grammars.{Grammar, Not, IsMore, IsList, IsMark}
+use Rattle.ir_text_types.specs.Grammars.{Grammar, Not, IsMore, IsList, IsMark}
 use Rattle.ir_text.specs.Rows.{parted}
 use Rattle.ir_text_roundtrip.proofs.Ahead.{Ahead, Lacks, more_ahead, space}
 

@@ -13,7 +13,7 @@ use Rattle.ir_text_tokens.specs.Printing.{is_bare_id}
 use Rattle.ir_text_tokens.proofs.Decimals.{decimal_number, first_passes}
 use Rattle.ir_text_tokens.proofs.Fronts.{next_front}
 use Rattle.ir_text_tokens.proofs.Wholes.{next_whole}
-use Rattle.ir_text_grammar.specs.Grammars.{Token}
+use Rattle.ir_text_types.specs.Grammars.{Token}
 use Rattle.ir_text_types.specs.ShapeGrammar.{is_decimal, begins_dimension, AreDimensions}
 use Rattle.ir_text.specs.TypeText.{dimension_text}
 use Rattle.ir_text_roundtrip.proofs.Small.{both}

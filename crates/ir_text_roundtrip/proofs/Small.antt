@@ -9,7 +9,7 @@ use Rattle.ir_text_tokens.specs.Tokens.{Lexeme, mark}
 use Rattle.ir_text_tokens.specs.Printing.{AreBytes, Stops}
 use Rattle.ir_text_tokens.specs.Bytes.{is_word, is_suffix}
 use Rattle.ir_text_tokens.proofs.Escapes.{either}
-use Rattle.ir_text_grammar.specs.Grammars.{Not, Token, IsMark}
+use Rattle.ir_text_types.specs.Grammars.{Not, Token, IsMark}
 
 pub both : (a b : Bool) → (a && b) ≡ true → (a ≡ true) × (b ≡ true)
 both true b e = (refl, e)

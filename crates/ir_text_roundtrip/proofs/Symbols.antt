@@ -11,7 +11,7 @@ use Rattle.ir_text_tokens.proofs.Escapes.{either, value_again}
 use Rattle.ir_text_tokens.proofs.Printed.{mark_token, symbol_token, quoted_token}
 use Rattle.ir_text.specs.Rows.{parted}
 use Rattle.ir_text.specs.AttrText.{part_text, attr_text}
-use Rattle.ir_text_grammar.specs.Grammars.{Token}
+use Rattle.ir_text_types.specs.Grammars.{Token}
 use Rattle.ir_text_types.specs.TypeReading.{many}
 use Rattle.ir_text_attributes.specs.AttrGrammar.{IsPart, IsParts, IsSymbol}
 use Rattle.ir_text_roundtrip.specs.WrittenAttributes.{are_bytes as are_bytes_test, are_parts, EndsAttr}

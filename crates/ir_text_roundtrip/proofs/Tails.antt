@@ -12,7 +12,7 @@ use Rattle.ir_text_tokens.specs.declared.token.Mark.TheVariants.{OpenCurly, Colo
 use Rattle.ir_text_tokens.specs.Tokens.{mark}
 use Rattle.ir_text_tokens.specs.Scopes.{Scopes, find, bound}
 use Rattle.ir_text_tokens.proofs.Printed.{mark_token}
-use Rattle.ir_text_grammar.specs.Grammars.{Not, IsMark, Token}
+use Rattle.ir_text_types.specs.Grammars.{Not, IsMark, Token}
 use Rattle.ir_text_types.specs.TypeGrammar.{types_of, IsFunctionType}
 use Rattle.ir_text_attributes.specs.AttrGrammar.{entries_of, EntryTerm}
 use Rattle.ir_text_operations.specs.Made.{made}

@@ -19,7 +19,7 @@ use Rattle.ir_text.specs.Rows.{parted}
 use Rattle.ir_text.specs.TypeText.{sign_text, dimension_text, is_function, is_lone, in_round, outputs_text, type_text, type_texts}
 use Rattle.ir_text_types.specs.Scalars.{index_word, memref_word, scalar_of}
 use Rattle.ir_text_types.specs.TypeReading.{many}
-use Rattle.ir_text_grammar.specs.Grammars.{Then, Done, After, Not, IsMark}
+use Rattle.ir_text_types.specs.Grammars.{Then, Done, After, Not, IsMark}
 use Rattle.ir_text_types.specs.TypeGrammar.{types_of, IsScalar, IsMemref, IsWordFrom, IsWordType, IsTypes, IsOutputs, IsSignature, IsFunction, IsType, IsFunctionType}
 use Rattle.std.specs.Str.{bytes_eq}
 use Rattle.ir_text_roundtrip.specs.Written.{types_list, is_written_type, are_written_types, FitsType}

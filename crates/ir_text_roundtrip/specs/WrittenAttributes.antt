@@ -13,7 +13,7 @@ use Rattle.ir_tree.specs.Meaning.{key_before, rises}
 use Rattle.ir_text_tokens.specs.declared.token.Mark.TheVariants.{DoubleColon}
 use Rattle.ir_text_tokens.specs.Bytes.{is_suffix}
 use Rattle.ir_text_tokens.specs.Printing.{Stops}
-use Rattle.ir_text_grammar.specs.Grammars.{Not, IsMark}
+use Rattle.ir_text_types.specs.Grammars.{Not, IsMark}
 use Rattle.ir_text_types.specs.TypeReading.{many}
 use Rattle.ir_text_attributes.specs.Keyed.{has_key}
 use Rattle.ir_text_roundtrip.specs.Written.{is_written_type}

@@ -9,7 +9,7 @@ ghost use Rattle.ir_tree.specs.Meaning.{key_before, rises};
 ghost use Rattle.ir_text_tokens.specs.declared.token.Mark.TheVariants.{Less, OpenCurly};
 ghost use Rattle.ir_text_tokens.specs.Bytes.{is_word};
 ghost use Rattle.ir_text_tokens.specs.Printing.{Stops};
-ghost use Rattle.ir_text_grammar.specs.Grammars.{IsMark, Not};
+ghost use Rattle.ir_text_types.specs.Grammars.{IsMark, Not};
 ghost use Rattle.ir_text_types.specs.TypeGrammar.{types_of, IsFunctionType, IsType};
 ghost use Rattle.ir_text_types.specs.TypeReading.{many};
 ghost use Rattle.ir_text_attributes.specs.AttrGrammar.{EntryTerm, IsAttr};

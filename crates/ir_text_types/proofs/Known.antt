@@ -4,7 +4,7 @@ use Rattle.ir_types.specs.declared.node.TypeNode.TheVariants.{Func}
 use Rattle.ir_types.specs.Things.{Things, IsType, TypeIsOf}
 use Rattle.ir_types.specs.Sound.{IsSound}
 use Rattle.ir_types.proofs.Growth.{grows_refl}
-use Rattle.ir_text_grammar.specs.Outcomes.{Read}
+use Rattle.ir_text_types.specs.Outcomes.{Read}
 use Rattle.ir_text_types.specs.TypeReading.{scalar_at, type_at, signature_at}
 use Rattle.ir_text_types.specs.TypeGrammar.{IsType as IsTypeText}
 use Rattle.ir_text_types.proofs.TypeLaws.{scalar_exact, type_exact, signature_exact, func_stands}

@@ -1,3 +1,9 @@
+pub mod ListSteps
+pub mod Marked
+pub mod Stepping
+pub mod TextLaws
+pub mod TokenLaws
+pub mod Worlds
 pub mod Widths
 pub mod Known
 pub mod ShapeSteps

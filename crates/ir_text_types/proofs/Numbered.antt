@@ -8,10 +8,10 @@ use Rattle.ir_types.specs.Reasons.{name_reason, type_reason}
 use Rattle.ir_types.specs.Sound.{IsSound}
 use Rattle.ir_types.proofs.Growth.{grows_refl}
 use Rattle.ir_types.proofs.CallNumbers.{name_stands, type_stands}
-use Rattle.ir_text_grammar.specs.Outcomes.{Read}
-use Rattle.ir_text_grammar.specs.Typed.{Typed, name_step, type_step}
+use Rattle.ir_text_types.specs.Outcomes.{Read}
+use Rattle.ir_text_types.specs.Typed.{Typed, name_step, type_step}
 use Rattle.ir_text_types.specs.TypeReading.{type_done, type_at}
-use Rattle.ir_text_grammar.proofs.Worlds.{bind_read}
+use Rattle.ir_text_types.proofs.Worlds.{bind_read}
 use Rattle.ir_text_types.proofs.TypeLaws.{read_interned, type_exact}
 
 pub name_known : (bytes : List ℕ) (c d : Things) (n : ℕ) → name_step bytes c ≡ Read (n, d) → IsName d n

@@ -1,11 +1,11 @@
 -- Dimensions read one after the other, as a loop does.
 use Rattle.std.proofs.Common.{◌≡◌, ℕ, suc, ◌+◌, ◌-◌, ◌<◌, ◌≤◌, true, false, List, [], ◌∷◌, ◌++◌, Option, Some, None, refl, sym, ◌∙◌, arith}
 use Rattle.ir_text_tokens.specs.Tokens.{skip}
-use Rattle.ir_text_grammar.specs.declared.error.ReadError.{ReadError}
-use Rattle.ir_text_grammar.specs.Outcomes.{Fails, of_option}
+use Rattle.ir_text_types.specs.declared.error.ReadError.{ReadError}
+use Rattle.ir_text_types.specs.Outcomes.{Fails, of_option}
 use Rattle.ir_text_types.specs.ShapeGrammar.{begins_dimension}
 use Rattle.ir_text_types.specs.ShapeReading.{dimension_at, dimensions_at}
-use Rattle.ir_text_grammar.proofs.ListSteps.{fails_option}
+use Rattle.ir_text_types.proofs.ListSteps.{fails_option}
 
 module _ (items : List (Option ℕ)) (room i : ℕ) (bytes : List ℕ) (total : Option (List (Option ℕ) × List ℕ)) (so_far : dimensions_at (room - i) items bytes ≡ total) where
   module _ (lt : i < room) where

@@ -29,20 +29,20 @@ use Rattle.ir_types.proofs.Terms.{type_term_is}
 use Rattle.ir_types.proofs.CallNumbers.{type_stands, place_in}
 use Rattle.ir_types.proofs.Calls.{no_first}
 use Rattle.ir_types.proofs.AcceptedCalls.{accepted_type, neither_back}
-use Rattle.ir_text_grammar.specs.Outcomes.{Outcome, Read, Wrong, Full, ◌>>=◌, of_option, interned, Parse}
-use Rattle.ir_text_grammar.specs.Typed.{Typed, after_typed, type_step}
+use Rattle.ir_text_types.specs.Outcomes.{Outcome, Read, Wrong, Full, ◌>>=◌, of_option, interned, Parse}
+use Rattle.ir_text_types.specs.Typed.{Typed, after_typed, type_step}
 use Rattle.ir_text_types.specs.Scalars.{within, width_of, begins_zero, signed_of_word, integer_type_of, scalar_of, index_word, memref_word}
 use Rattle.ir_text_types.specs.ShapeGrammar.{IsShape}
 use Rattle.ir_text_types.specs.ShapeReading.{dimensions_at}
 use Rattle.ir_text_types.specs.TypeReading.{many, type_done, scalar_from, scalar_at, shape_at, memref_at, word_from, word_type_from, word_type_at, types_at, outputs_from, outputs_at, signature_at, function_at, type_from as type_read_from, type_at, function_type_at}
-use Rattle.ir_text_grammar.specs.Grammars.{Grammar, Then, Done, DoneIf, After, IsMark, Token}
+use Rattle.ir_text_types.specs.Grammars.{Grammar, Then, Done, DoneIf, After, IsMark, Token}
 use Rattle.ir_text_types.specs.TypeGrammar.{types_of, IsScalar, IsMemref, IsWordFrom, IsWordType, IsTypes, IsOutputs, IsSignature, IsFunction, IsType, IsFunctionType}
-use Rattle.ir_text_grammar.specs.Worlds.{From}
-use Rattle.ir_text_grammar.specs.Standing.{TypeStands}
-use Rattle.ir_text_grammar.specs.Laws.{TypesStand, SignatureStands}
-use Rattle.ir_text_grammar.proofs.Worlds.{bind_read, option_read, Exact, Step, Comes, Reads, step_on, reads_on, exact_spelled, nothing_exact, then_exact, done_exact, after_exact, either_exact, list_exact}
-use Rattle.ir_text_grammar.proofs.TextLaws.{things, Same, text_now, typed_marks}
-use Rattle.ir_text_grammar.proofs.TokenLaws.{text_exact, behind_exact, token_exact}
+use Rattle.ir_text_types.specs.Worlds.{From}
+use Rattle.ir_text_types.specs.Standing.{TypeStands}
+use Rattle.ir_text_types.specs.Laws.{TypesStand, SignatureStands}
+use Rattle.ir_text_types.proofs.Worlds.{bind_read, option_read, Exact, Step, Comes, Reads, step_on, reads_on, exact_spelled, nothing_exact, then_exact, done_exact, after_exact, either_exact, list_exact}
+use Rattle.ir_text_types.proofs.TextLaws.{things, Same, text_now, typed_marks}
+use Rattle.ir_text_types.proofs.TokenLaws.{text_exact, behind_exact, token_exact}
 use Rattle.ir_text_types.proofs.ShapeLaws.{dimensions_only, dimensions_found}
 
 -- ---- a node that is interned

@@ -10,7 +10,7 @@ use Rattle.ir_types.specs.Reasons.{type_fault}
 use Rattle.ir_text_types.specs.Scalars.{scalar_of, memref_word}
 use Rattle.ir_text_types.specs.ShapeGrammar.{IsShape}
 use Rattle.ir_text_types.specs.TypeReading.{many}
-use Rattle.ir_text_grammar.specs.Grammars.{Grammar, Then, Done, DoneIf, After, Not, Either, IsMore, IsList, Token, IsMark}
+use Rattle.ir_text_types.specs.Grammars.{Grammar, Then, Done, DoneIf, After, Not, Either, IsMore, IsList, Token, IsMark}
 use Rattle.ir_text_types.specs.TypeGrammar.{types_of, IsScalar, IsMemref, IsWordFrom, IsWordType, IsTypes, IsOutputs, IsSignature, IsFunction, IsType, IsFunctionType}
 use Rattle.ir_text_types.proofs.ShapeLaws.{dimensions_one}
 

@@ -1,3 +1,12 @@
+pub mod Errors
+pub mod Outcomes
+pub mod Marks
+pub mod Lists
+pub mod Grammars
+pub mod Worlds
+pub mod Typed
+pub mod Standing
+pub mod Laws
 pub mod Scalars
 pub mod ShapeGrammar
 pub mod ShapeReading

@@ -4,7 +4,7 @@ use Rattle.std.specs.List.{list_all}
 use Rattle.std.specs.Char.{is_ascii_digit}
 use Rattle.ir_text_tokens.specs.Tokens.{skip}
 use Rattle.ir_text_tokens.specs.Numbers.{place_value}
-use Rattle.ir_text_grammar.specs.Grammars.{Grammar}
+use Rattle.ir_text_types.specs.Grammars.{Grammar}
 
 -- one decimal digit or more
 abbrev pub is_decimal : List ℕ → Bool

@@ -9,8 +9,8 @@ use Rattle.ir_tree.specs.Limits.{most_items}
 use Rattle.ir_types.specs.Limits.{most_depth}
 use Rattle.ir_types.specs.Terms.{TypeTerm, TypeTerms, no_types, next_type, Function, Memref, type_from}
 use Rattle.ir_types.specs.Reasons.{type_fault}
-use Rattle.ir_text_grammar.specs.Grammars.{Grammar, Then, Done, DoneIf, After, Either, IsList, Token, IsMark}
-use Rattle.ir_text_grammar.specs.Typed.{Text}
+use Rattle.ir_text_types.specs.Grammars.{Grammar, Then, Done, DoneIf, After, Either, IsList, Token, IsMark}
+use Rattle.ir_text_types.specs.Typed.{Text}
 use Rattle.ir_text_types.specs.Scalars.{scalar_of, memref_word}
 use Rattle.ir_text_types.specs.ShapeGrammar.{IsShape}
 use Rattle.ir_text_types.specs.TypeReading.{many}

@@ -9,9 +9,9 @@ use Rattle.ir_types.specs.declared.node.TypeNode.{TypeNode}
 use Rattle.ir_types.specs.declared.node.TypeNode.TheVariants.{Func, Memref}
 use Rattle.ir_types.specs.Limits.{most_depth}
 use Rattle.ir_types.specs.Things.{Things}
-use Rattle.ir_text_grammar.specs.Outcomes.{Outcome, Read, Wrong, ◌>>=◌, of_option, Parse}
-use Rattle.ir_text_grammar.specs.Lists.{list_at}
-use Rattle.ir_text_grammar.specs.Typed.{Typed, after_typed, type_step}
+use Rattle.ir_text_types.specs.Outcomes.{Outcome, Read, Wrong, ◌>>=◌, of_option, Parse}
+use Rattle.ir_text_types.specs.Lists.{list_at}
+use Rattle.ir_text_types.specs.Typed.{Typed, after_typed, type_step}
 use Rattle.ir_text_types.specs.Scalars.{scalar_of, memref_word}
 use Rattle.ir_text_types.specs.ShapeReading.{dimensions_at}
 

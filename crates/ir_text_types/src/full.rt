@@ -1,8 +1,8 @@
 //! Whether a context is full.
 ghost use Rattle.std.specs.Prelude.{◌≡◌, ◌⊎◌, ℕ, IsTrue};
-ghost use Rattle.ir_text_grammar.specs.Laws.{IsFull};
+ghost use Rattle.ir_text_types.specs.Laws.{IsFull};
 
-use ir_text_grammar::error::ReadError;
+use crate::error::ReadError;
 use ir_types::context::Context;
 use ir_types::ids::{AttrId, NameId, TypeId};
 use ir_types::limits::MOST_THINGS;

@@ -5,9 +5,9 @@ ghost use Rattle.std.specs.List.{All};
 ghost use Rattle.ir_types.specs.Sound.{IsSound};
 ghost use Rattle.ir_types.specs.Terms.{TypeTerm, type_term};
 ghost use Rattle.ir_types.specs.Things.{Things, Grows, IsType as IsTypeOf};
-ghost use Rattle.ir_text_grammar.specs.Laws.{SignatureStands};
-ghost use Rattle.ir_text_grammar.specs.Outcomes.{Read, Full};
-ghost use Rattle.ir_text_grammar.specs.Standing.{TypeStands};
+ghost use Rattle.ir_text_types.specs.Laws.{SignatureStands};
+ghost use Rattle.ir_text_types.specs.Outcomes.{Read, Full};
+ghost use Rattle.ir_text_types.specs.Standing.{TypeStands};
 ghost use Rattle.ir_text_types.specs.TypeGrammar.{IsType, IsFunctionType};
 ghost use Rattle.ir_text_types.specs.TypeReading.{type_at, function_type_at};
 

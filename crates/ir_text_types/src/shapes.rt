@@ -1,12 +1,12 @@
 //! The dimensions of memrefs, byte by byte. Builtin Dialect, "MemRefType".
 ghost use Rattle.std.specs.Prelude.{◌≡◌, ◌≤◌, [], length};
 ghost use Rattle.ir_text_tokens.specs.Tokens.{digits_len, skip};
-ghost use Rattle.ir_text_grammar.specs.Outcomes.{Gives, of_option};
+ghost use Rattle.ir_text_types.specs.Outcomes.{Gives, of_option};
 ghost use Rattle.ir_text_types.specs.ShapeGrammar.{begins_dimension};
 ghost use Rattle.ir_text_types.specs.ShapeReading.{cross_at, size_of, sized, dimension_at, dimensions_at};
 ghost use Rattle.ir_text_types.specs.TypeReading.{many};
 
-use ir_text_grammar::error::{ReadError, wrong};
+use crate::error::{ReadError, wrong};
 use ir_text_tokens::lexer::skip;
 use ir_text_tokens::limits::MOST_BYTES;
 use ir_text_tokens::numbers::integer_value;

@@ -4,14 +4,14 @@ ghost use Rattle.std.specs.List.{All};
 ghost use Rattle.ir_types.specs.Things.{Things, IsType, TypeIsOf, Grows};
 ghost use Rattle.ir_text_tokens.specs.declared.token.Mark.TheVariants.{Greater};
 ghost use Rattle.ir_text_tokens.specs.Tokens.{lexeme_of};
-ghost use Rattle.ir_text_grammar.specs.Outcomes.{Gives, of_option};
-ghost use Rattle.ir_text_grammar.specs.Marks.{after};
+ghost use Rattle.ir_text_types.specs.Outcomes.{Gives, of_option};
+ghost use Rattle.ir_text_types.specs.Marks.{after};
 ghost use Rattle.ir_text_types.specs.TypeReading.{type_done, scalar_done, scalar_at, memref_at, word_type_at, types_at, outputs_at, signature_at, function_at, type_at, function_type_at, many};
 
+use crate::error::{ReadError, wrong};
 use crate::scalars::{is_memref, scalar_of, word_refusal};
 use crate::shapes::dimensions;
-use ir_text_grammar::error::{ReadError, wrong};
-use ir_text_grammar::steps::{self, after, expect, token};
+use crate::steps::{self, after, expect, token};
 use ir_text_tokens::limits::MOST_BYTES;
 use ir_text_tokens::refusal::TextRefusal;
 use ir_text_tokens::token::{Mark, Token};
@@ -168,7 +168,7 @@ fn closing_refusal(bytes: &[u8]) -> TextRefusal {
 
 /// Types up to a closing parenthesis, at most so many.
 #[cycle(types)]
-#[tactic(auto, using(ir_types::proofs::Growth::grows_refl, ir_types::proofs::Growth::grows_trans), unfolding(ir_text_grammar::specs::Lists::list_at, crate::specs::TypeReading::types_at))]
+#[tactic(auto, using(ir_types::proofs::Growth::grows_refl, ir_types::proofs::Growth::grows_trans), unfolding(crate::specs::Lists::list_at, crate::specs::TypeReading::types_at))]
 fn types<'a>(
     alloc: Global,
     ctx: &mut Context,

@@ -14,7 +14,7 @@ use crate::value::Value;
 use ir_types::ids::OpId;
 use std::alloc::{AllocError, Global};
 
-// A value that becomes an operand of an operation.
+/// A value that becomes an operand of an operation.
 #[derive(Drop)]
 struct NewOperand {
     op: OpId,
@@ -25,6 +25,7 @@ struct NewOperand {
 impl HeadEdit for NewOperand {
     ghost gives = { λ e. at e.op (put_operand e.place e.value) };
 
+    /// Sets the operand where the operation is the one meant and has such an operand.
     fn apply(&self, op: &mut TreeOp) -> Result<(), AllocError> {
         if op.id == self.op && self.place < op.operands.len() {
             op.operands[self.place] = self.value;
@@ -52,7 +53,7 @@ pub fn with_operand_set(
     edited(alloc, root, &edit, &Nothing)
 }
 
-// A value that takes another's place.
+/// A value that takes another's place.
 #[derive(Drop)]
 struct Replacement {
     old: Value,
@@ -62,13 +63,14 @@ struct Replacement {
 impl HeadEdit for Replacement {
     ghost gives = { λ e. put_values e.old e.new };
 
+    /// Puts the new value in place of the old one among the operands of the operation.
     fn apply(&self, op: &mut TreeOp) -> Result<(), AllocError> {
         replace_in(&mut op.operands, &self.old, &self.new);
         Ok(())
     }
 }
 
-// Puts one value in place of another.
+/// Puts one value in place of another, wherever that is in a list.
 fn replace_in(values: &mut [Value], old: &Value, new: &Value)
     ensures { values.new ≡ map (put_value old.now new.now) values.old }
 {
@@ -77,6 +79,7 @@ fn replace_in(values: &mut [Value], old: &Value, new: &Value)
     }
 }
 
+/// The new value where a value is the old one, and the value itself otherwise.
 fn exchanged(value: &Value, old: &Value, new: &Value) -> Value
     ensures { result ≡ put_value old.now new.now value.now }
 {
@@ -100,7 +103,7 @@ pub fn with_replaced(
     edited(alloc, root, &edit, &Nothing)
 }
 
-// An operation that is put at a place.
+/// An operation that is put at a place.
 #[derive(Drop)]
 struct Putting<'a> {
     place: Place,
@@ -110,6 +113,7 @@ struct Putting<'a> {
 impl<'a> ListEdit for Putting<'a> {
     ghost gives = { λ e. put_here e.place e.op.now };
 
+    /// Puts a copy of the operation into the list where that is the list of the place.
     fn apply(&self, owner: OpId, region: usize, ops: &mut Vec<TreeOp>) -> Result<(), AllocError> {
         if owner == self.place.parent && region == self.place.region as usize {
             put_among(ops, self.place.before, self.op)?;
@@ -118,7 +122,7 @@ impl<'a> ListEdit for Putting<'a> {
     }
 }
 
-// Puts a copy of an operation before another, or at the end.
+/// Puts a copy of an operation before another, or at the end.
 #[tactic(auto, using(crate::proofs::Lists::put_last_of))]
 fn put_among(ops: &mut Vec<TreeOp>, before: Option<OpId>, op: &TreeOp) -> Result<(), AllocError>
     ensures { OnOk result (ops_of ops.new.items ≡ put_in before op.now (ops_of ops.old.items)) }
@@ -132,7 +136,7 @@ fn put_among(ops: &mut Vec<TreeOp>, before: Option<OpId>, op: &TreeOp) -> Result
     }
 }
 
-// Puts a copy of an operation before the first with an id, if there is one.
+/// Puts a copy of an operation before the first with an id, if there is one.
 fn put_before(ops: &mut Vec<TreeOp>, id: OpId, op: &TreeOp) -> Result<(), AllocError>
     ensures { OnOk result (ops_of ops.new.items ≡ before_of id op.now (ops_of ops.old.items)) }
 {
@@ -142,6 +146,7 @@ fn put_before(ops: &mut Vec<TreeOp>, id: OpId, op: &TreeOp) -> Result<(), AllocE
     Ok(())
 }
 
+/// The index in a list of the first operation with an id, if there is one.
 fn index_of(ops: &Vec<TreeOp>, id: OpId) -> Option<usize>
     ensures { result ≡ position (λ o. eqb (head o).id id) ops.now.items }
 {
@@ -158,7 +163,7 @@ pub fn put(alloc: Global, root: &TreeOp, place: &Place, op: &TreeOp) -> Result<T
     edited(alloc, root, &Nothing, &edit)
 }
 
-// An operation that is taken from its list.
+/// An operation that is taken from its list.
 #[derive(Drop)]
 struct Taking {
     op: OpId,
@@ -167,6 +172,7 @@ struct Taking {
 impl ListEdit for Taking {
     ghost gives = { λ e p r os. drop_op e.op os };
 
+    /// Takes each operation with the id from the list.
     fn apply(&self, _owner: OpId, _region: usize, ops: &mut Vec<TreeOp>) -> Result<(), AllocError> {
         ops.retain(|op| op.id != self.op);
         Ok(())

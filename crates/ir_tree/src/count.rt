@@ -20,6 +20,7 @@ pub fn op_count(root: &TreeOp) -> u64
     count
 }
 
+/// The number of operations in a region, at any depth, or the greatest u64 where there are more.
 #[cycle(count)]
 fn region_op_count(region: &TreeRegion) -> u64
     ensures { result ≡ min (length (region_ids (region_view region.now))) (2 ^ 64 - 1) }
@@ -46,6 +47,8 @@ pub fn depth(root: &TreeOp) -> u64
     most
 }
 
+/// The most operations around one operation of a region, that with the region included, or the greatest u64 where
+/// there are more.
 #[cycle(depth)]
 fn depth_of_region(region: &TreeRegion) -> u64
     ensures { result ≡ min (region_depth (region_view region.now)) (2 ^ 64 - 1) }

@@ -36,6 +36,7 @@ pub struct Nothing;
 impl HeadEdit for Nothing {
     ghost gives = { λ _ h. h };
 
+    /// Leaves the operation as it is.
     fn apply(&self, _op: &mut TreeOp) -> Result<(), AllocError> {
         Ok(())
     }
@@ -44,6 +45,7 @@ impl HeadEdit for Nothing {
 impl ListEdit for Nothing {
     ghost gives = { λ _ p r os. os };
 
+    /// Leaves the list as it is.
     fn apply(
         &self,
         _owner: OpId,
@@ -68,6 +70,7 @@ pub fn edited<H: HeadEdit, L: ListEdit>(
     op_of(alloc, root, regions, heads)
 }
 
+/// Copies of the regions of `owner` with the edits made inside them.
 #[cycle(edit)]
 fn edited_regions<H: HeadEdit, L: ListEdit>(
     alloc: Global,
@@ -85,6 +88,7 @@ fn edited_regions<H: HeadEdit, L: ListEdit>(
     Ok(copies)
 }
 
+/// A copy of region `number` of `owner` with the edits made inside it.
 #[cycle(edit)]
 fn edited_region<H: HeadEdit, L: ListEdit>(
     alloc: Global,
@@ -108,7 +112,7 @@ fn edited_region<H: HeadEdit, L: ListEdit>(
     }
 }
 
-// An operation with these regions and a copy of its head, edited.
+/// An operation with an edited copy of the head of another, and with these regions.
 fn op_of<H: HeadEdit>(
     alloc: Global,
     root: &TreeOp,
@@ -122,7 +126,7 @@ fn op_of<H: HeadEdit>(
     Ok(copy)
 }
 
-// A copy of an operation's own head, with these regions.
+/// An operation with a copy of the head of another, and with these regions.
 fn with_regions(
     alloc: Global,
     root: &TreeOp,
@@ -141,7 +145,7 @@ fn with_regions(
     })
 }
 
-// A block with these operations, edited, and a copy of its arguments.
+/// A region whose block has these operations, edited as a list, and a copy of the arguments.
 fn block_of<L: ListEdit>(
     alloc: Global,
     owner: OpId,

@@ -11,9 +11,10 @@ use ir_types::context::Context;
 use ir_types::ids::{AttrId, NameId, OpId};
 use std::alloc::{AllocError, Global};
 
+/// The entries of a dictionary: keys and attributes.
 type Entries = Vec<(NameId, AttrId)>;
 
-// An entry that is set, or removed.
+/// An entry that is set, or removed.
 #[derive(Drop)]
 struct NewEntry<'a> {
     alloc: Global,
@@ -27,6 +28,7 @@ struct NewEntry<'a> {
 impl<'a> HeadEdit for NewEntry<'a> {
     ghost gives = { λ e. at e.op (change_part e.part (change_entry (key_before_in e.ctx.now) e.key e.value)) };
 
+    /// Sets or removes the entry in the dictionary meant, where the operation is the one meant.
     fn apply(&self, op: &mut TreeOp) -> Result<(), AllocError> {
         if op.id != self.op {
             return Ok(());
@@ -39,7 +41,7 @@ impl<'a> HeadEdit for NewEntry<'a> {
 }
 
 impl<'a> NewEntry<'a> {
-    // Sets the entry in a dictionary, or removes it.
+    /// Sets the entry in a dictionary, or removes it.
     fn change(&self, entries: &mut Entries) -> Result<(), AllocError>
         ensures { OnOk result (entries.new.items ≡ change_entry (key_before_in self.now.ctx.now) self.now.key self.now.value entries.old.items) }
     {
@@ -72,6 +74,7 @@ pub fn with_entry_set(
     edited(alloc, root, &edit, &Nothing)
 }
 
+/// A copy of entries with an attribute at a key, or without that key.
 fn changed(
     alloc: Global,
     ctx: &Context,
@@ -87,7 +90,7 @@ fn changed(
     }
 }
 
-// Entries in the order of their keys, with an attribute at a key.
+/// A copy of entries, in the order of their keys, with an attribute at a key.
 fn placed(
     alloc: Global,
     ctx: &Context,
@@ -112,7 +115,7 @@ fn placed(
     ended(placed, &(key, attr), rest)
 }
 
-// Entries with one more, and then others.
+/// Entries with one more behind them, and then others.
 fn ended(
     entries: Entries,
     entry: &(NameId, AttrId),
@@ -126,7 +129,7 @@ fn ended(
     Ok(entries)
 }
 
-// Entries without a key.
+/// A copy of entries without the one of a key, if there is one.
 fn dropped(
     alloc: Global,
     ctx: &Context,

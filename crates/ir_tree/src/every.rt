@@ -33,6 +33,7 @@ pub fn every_op<T: OpTest>(root: &TreeOp, test: &T) -> bool
     true
 }
 
+/// Whether every operation in a region, at any depth, passes a test.
 #[cycle(every)]
 fn every_op_of_region<T: OpTest>(region: &TreeRegion, test: &T) -> bool
     ensures { result ≡ region_every (T.passes test.now) (region_view region.now) }

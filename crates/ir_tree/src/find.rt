@@ -24,6 +24,7 @@ pub fn find(root: &TreeOp, id: OpId) -> Option<&TreeOp>
     None
 }
 
+/// The first operation with an id in a region, each operation before those inside it.
 #[cycle(find)]
 fn find_in_region(region: &TreeRegion, id: OpId) -> Option<&TreeOp>
     ensures { option_map (λ o. o.now) result ≡ region_find id (region_view region.now) }
@@ -48,6 +49,7 @@ pub fn list_ids(alloc: Global, root: &TreeOp) -> Result<Vec<OpId>, AllocError>
     Ok(out)
 }
 
+/// Adds the ids of a tree to a list, in pre-order.
 #[cycle(ids)]
 fn push_ids(root: &TreeOp, out: &mut Vec<OpId>) -> Result<(), AllocError>
     ensures { OnOk result (out.new.items ≡ out.old.items ++ ids_of root.now) }
@@ -59,6 +61,7 @@ fn push_ids(root: &TreeOp, out: &mut Vec<OpId>) -> Result<(), AllocError>
     Ok(())
 }
 
+/// Adds the ids of the operations in a region to a list, in pre-order.
 #[cycle(ids)]
 fn push_region_ids(region: &TreeRegion, out: &mut Vec<OpId>) -> Result<(), AllocError>
     ensures { OnOk result (out.new.items ≡ out.old.items ++ region_ids (region_view region.now)) }

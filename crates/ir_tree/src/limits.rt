@@ -20,12 +20,13 @@ pub const MOST_ITEMS: usize = 256;
 /// The most regions of an operation.
 pub const MOST_REGIONS: usize = 16;
 
-// The test of what an operation has of its own.
+/// The test of what an operation has of its own.
 struct Counts;
 
 impl OpTest for Counts {
     ghost passes = { λ _. op_fits };
 
+    /// Whether each count of the operation is within its limit.
     fn test(&self, op: &TreeOp) -> bool {
         fits(op)
     }
@@ -47,6 +48,7 @@ pub(crate) fn fits(op: &TreeOp) -> bool
     head_is_within(op) && op.regions.len() <= MOST_REGIONS && all_arguments_are_within(&op.regions)
 }
 
+/// Whether an operation has no more operands, results, properties and attributes than it may, each.
 fn head_is_within(op: &TreeOp) -> bool
     ensures { result ≡ head_fits (head op.now) }
 {
@@ -56,6 +58,7 @@ fn head_is_within(op: &TreeOp) -> bool
         && op.attrs.len() <= MOST_ITEMS
 }
 
+/// Whether no block of some regions has more arguments than it may.
 fn all_arguments_are_within(regions: &Vec<TreeRegion>) -> bool
     ensures { result ≡ all_arguments_pass items_fit (regions_of (map region_view regions.now.items)) }
 {
@@ -67,6 +70,7 @@ fn all_arguments_are_within(regions: &Vec<TreeRegion>) -> bool
     true
 }
 
+/// Whether the block of a region, if it has one, has no more arguments than it may.
 fn arguments_are_within(region: &TreeRegion) -> bool
     ensures { result ≡ arguments_pass items_fit (region_view region.now) }
 {

@@ -19,7 +19,7 @@ pub fn numbered(tree: &TreeOp, from: u32) -> bool
     number_after(tree, u64::from(from)).is_some()
 }
 
-// The number after those of the tree, where its ids are `from`, `from + 1`, ..
+/// The number after those of the tree, where its ids are `from`, `from + 1`, ..
 #[cycle(numbered)]
 fn number_after(tree: &TreeOp, from: u64) -> Option<u64>
     requires { from ≤ 2 ^ 32 }
@@ -39,6 +39,7 @@ fn number_after(tree: &TreeOp, from: u64) -> Option<u64>
     Some(next)
 }
 
+/// The number after the ids in a region, where they are `from`, `from + 1`, .. in pre-order.
 #[cycle(numbered)]
 fn number_after_region(region: &TreeRegion, from: u64) -> Option<u64>
     requires { from ≤ 2 ^ 32 }

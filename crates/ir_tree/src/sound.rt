@@ -21,7 +21,7 @@ pub fn sound(ctx: &Context, tree: &TreeOp) -> bool
     every_op(tree, &Known { ctx }) && every_op(tree, &Sorted { ctx })
 }
 
-// The test of an operation's own numbers.
+/// The test of an operation's own numbers.
 #[derive(Drop)]
 struct Known<'a> {
     ctx: &'a Context,
@@ -30,11 +30,13 @@ struct Known<'a> {
 impl<'a> OpTest for Known<'a> {
     ghost passes = { λ t. op_passes (is_name t.ctx.now) (is_type t.ctx.now) (is_attr t.ctx.now) };
 
+    /// Whether each number that the operation has of its own is the context's.
     fn test(&self, op: &TreeOp) -> bool {
         head_is_known(self.ctx, op) && arguments_are_known(self.ctx, &op.regions)
     }
 }
 
+/// Whether the name of an operation, the types of its results and its entries are a context's.
 fn head_is_known(ctx: &Context, op: &TreeOp) -> bool
     ensures { result ≡ head_passes (is_name ctx.now) (is_type ctx.now) (is_attr ctx.now) (head op.now) }
 {
@@ -44,6 +46,7 @@ fn head_is_known(ctx: &Context, op: &TreeOp) -> bool
         && entries_are_known(ctx, &op.attrs)
 }
 
+/// Whether the types of the arguments of the blocks of some regions are a context's.
 fn arguments_are_known(ctx: &Context, regions: &Vec<TreeRegion>) -> bool
     ensures { result ≡ all_arguments_pass (list_all (is_type ctx.now)) (regions_of (map region_view regions.now.items)) }
 {
@@ -57,12 +60,14 @@ fn arguments_are_known(ctx: &Context, regions: &Vec<TreeRegion>) -> bool
     true
 }
 
+/// Whether each of some types is a context's.
 fn types_are_known(ctx: &Context, types: &Vec<TypeId>) -> bool
     ensures { result ≡ list_all (is_type ctx.now) types.now.items }
 {
     types.iter().all(|ty| ctx.has_type(*ty))
 }
 
+/// Whether the key and the attribute of each entry are a context's.
 fn entries_are_known(ctx: &Context, entries: &Vec<(NameId, AttrId)>) -> bool
     ensures { result ≡ list_all (entry_passes (is_name ctx.now) (is_attr ctx.now)) entries.now.items }
 {
@@ -71,7 +76,7 @@ fn entries_are_known(ctx: &Context, entries: &Vec<(NameId, AttrId)>) -> bool
         .all(|entry| ctx.has_name(entry.0) && ctx.has_attr(entry.1))
 }
 
-// The test of the order of an operation's dictionaries.
+/// The test of the order of an operation's dictionaries.
 #[derive(Drop)]
 struct Sorted<'a> {
     ctx: &'a Context,
@@ -80,11 +85,13 @@ struct Sorted<'a> {
 impl<'a> OpTest for Sorted<'a> {
     ghost passes = { λ t. dictionaries_rise (key_before_in t.ctx.now) };
 
+    /// Whether both dictionaries of the operation are sorted by their keys, each key once.
     fn test(&self, op: &TreeOp) -> bool {
         is_sorted(self.ctx, &op.props) && is_sorted(self.ctx, &op.attrs)
     }
 }
 
+/// Whether entries rise by the bytes of their keys, so that no key is there twice.
 fn is_sorted(ctx: &Context, entries: &Vec<(NameId, AttrId)>) -> bool
     ensures { result ≡ rises (key_before_in ctx.now) entries.now.items }
 {
@@ -110,7 +117,7 @@ pub fn comes_before(ctx: &Context, one: NameId, other: NameId) -> bool
         .is_lt()
 }
 
-// The bytes of a name, or none where the number is no name's.
+/// The bytes of a name, or none where the number is no name's.
 fn bytes_or_none(ctx: &Context, name: NameId) -> &[u8]
     ensures { result.now ≡ name_term ctx.now name }
 {

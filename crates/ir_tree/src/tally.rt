@@ -9,8 +9,11 @@ use crate::tree::TreeOp;
 /// each has of its own is within its limits. The count stays at the greatest u64 where there are more.
 #[derive(Drop)]
 pub struct Tally {
+    /// How many operations were met.
     pub ops: u64,
+    /// Whether none of them stands in too many others.
     pub shallow: bool,
+    /// Whether what each has of its own is within its limits.
     pub fits: bool,
 }
 

@@ -10,12 +10,19 @@ use std::marker::Model;
 #[cycle(tree)]
 #[derive(Drop)]
 pub struct TreeOp {
+    /// Its id, by which it is found in the tree.
     pub id: OpId,
+    /// Its name, with the dialect.
     pub name: NameId,
+    /// The values that it takes.
     pub operands: Vec<Value>,
+    /// The types of its results.
     pub results: Vec<TypeId>,
+    /// Its properties, by key.
     pub props: Vec<(NameId, AttrId)>,
+    /// Its discardable attributes, by key.
     pub attrs: Vec<(NameId, AttrId)>,
+    /// Its regions, by number.
     pub regions: Vec<TreeRegion>,
 }
 
@@ -24,7 +31,9 @@ pub struct TreeOp {
 #[cycle(tree)]
 #[derive(Drop)]
 pub enum TreeRegion {
+    /// A region without a block.
     Empty,
+    /// A region whose block has arguments of types `args`, and the operations `ops` in their order.
     Block { args: Vec<TypeId>, ops: Vec<TreeOp> },
 }
 

@@ -21,6 +21,7 @@ pub fn list_uses(
     Ok(out)
 }
 
+/// Adds the uses of a value in a tree to a list, in pre-order.
 #[cycle(uses)]
 fn push_uses(root: &TreeOp, value: &Value, out: &mut Vec<(OpId, usize)>) -> Result<(), AllocError>
     ensures { OnOk result (out.new.items ≡ out.old.items ++ uses_of value.now root.now) }
@@ -32,6 +33,7 @@ fn push_uses(root: &TreeOp, value: &Value, out: &mut Vec<(OpId, usize)>) -> Resu
     Ok(())
 }
 
+/// Adds the uses of a value by the operations in a region to a list, in pre-order.
 #[cycle(uses)]
 fn push_region_uses(
     region: &TreeRegion,
@@ -48,6 +50,7 @@ fn push_region_uses(
     Ok(())
 }
 
+/// Adds the uses of a value among the operands of `user` to a list, by the operands' numbers.
 fn push_own_uses(
     user: OpId,
     operands: &Vec<Value>,
@@ -62,6 +65,7 @@ fn push_own_uses(
     Ok(())
 }
 
+/// Adds operand `number` of `user` to a list where it is the value.
 fn push_use(
     user: OpId,
     number: usize,

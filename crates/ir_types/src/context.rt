@@ -58,8 +58,8 @@ impl Context {
         Context::keyed(alloc, 0)
     }
 
-    /// The same with a key of its own, so that nobody who doesn't know it can write a text whose names
-    /// collide.
+    /// A context that holds the words of the operation table alone, and has a key of its own, so that nobody who
+    /// doesn't know it can write a text whose names collide.
     ///
     /// Refusals: `Memory` alone.
     pub fn keyed(alloc: Global, key: u64) -> Result<Context, Refusal>

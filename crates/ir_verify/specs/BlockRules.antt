@@ -1,5 +1,6 @@
 -- The rules on the blocks of an operation of right form.
-use Rattle.std.specs.Prelude.{if◌then◌else◌, ℕ, List, codes, length, Bool, true, not, ◌==◌, ◌&&◌, ◌||◌, Option, Some, None, option_and_then, is_some, is_none, slice_get}
+use Rattle.std.specs.Prelude.{if◌then◌else◌, ℕ, List, codes, length, Bool, true, not, ◌==◌, ◌&&◌, ◌||◌, Option, Some}
+use Rattle.std.specs.Prelude.{None, option_and_then, is_some, is_none, slice_get}
 use Rattle.std.specs.Str.{bytes_eq}
 use Rattle.ir_types.specs.Words.{is_listed}
 use Rattle.op_registry.specs.declared.definition.Trait.TheVariants.{Terminator}
@@ -37,8 +38,10 @@ ends_otherwise k wanted s = is_some (block_at k s.node) && isnt_wanted wanted (l
 
 abbrev pub breaks_9 : Surroundings → Bool
 breaks_9 s =
-    if is_named s.node (codes "scf.while") then ends_otherwise 0 (codes "scf.condition") s || ends_otherwise 1 (codes "scf.yield") s
-    else if is_named s.node (codes "scf.if") then ends_otherwise 0 (codes "scf.yield") s || ends_otherwise 1 (codes "scf.yield") s
+    if is_named s.node (codes "scf.while")
+    then ends_otherwise 0 (codes "scf.condition") s || ends_otherwise 1 (codes "scf.yield") s
+    else if is_named s.node (codes "scf.if")
+    then ends_otherwise 0 (codes "scf.yield") s || ends_otherwise 1 (codes "scf.yield") s
     else is_named s.node (codes "scf.for") && ends_otherwise 0 (codes "scf.yield") s
 
 -- rule 21: a condition with results has no second block
@@ -51,4 +54,6 @@ is_public None = true
 is_public (Some visibility) = bytes_eq visibility (codes "public")
 
 abbrev pub breaks_22 : Surroundings → Bool
-breaks_22 s = is_named s.node (codes "func.func") && (is_none (block_at 0 s.node) && is_public (option_and_then string_of (property (codes "sym_visibility") s.node)))
+breaks_22 s =
+    is_named s.node (codes "func.func")
+    && (is_none (block_at 0 s.node) && is_public (option_and_then string_of (property (codes "sym_visibility") s.node)))

@@ -4,12 +4,13 @@ use Rattle.op_registry.specs.Rows.{Row}
 use Rattle.op_registry.specs.Registry.{row_of}
 use Rattle.ir_verify_base.specs.Fits.{Surroundings}
 use Rattle.ir_verify_base.specs.Shapes.{breaks_1, breaks_3, breaks_5, breaks_12, breaks_13, is_well_shaped}
-use Rattle.ir_verify_base.specs.TypeRules.{breaks_2, breaks_4, breaks_7, breaks_14, breaks_18, breaks_19, breaks_20, breaks_24}
+use Rattle.ir_verify_base.specs.TypeRules.{breaks_2, breaks_4, breaks_7, breaks_14, breaks_18, breaks_19, breaks_20}
+use Rattle.ir_verify_base.specs.TypeRules.{breaks_24}
 use Rattle.ir_verify.specs.BlockRules.{breaks_6, breaks_8, breaks_9, breaks_21, breaks_22}
 use Rattle.ir_verify.specs.PlaceRules.{breaks_10, breaks_11, breaks_15, breaks_16, breaks_17, breaks_23}
 
--- for each rule in order whether a listed operation breaks it. Where its own form isn't right only the rules on its form,
--- and those on its place alone, are told
+-- for each rule in order whether a listed operation breaks it. Where its own form isn't right only the rules on its
+-- form, and those on its place alone, are told
 abbrev pub told_of : Row → Surroundings → List Bool
 told_of row s =
     breaks_1 row s.node

@@ -8,8 +8,8 @@ use Rattle.ir_verify.specs.declared.diagnostics.Diagnostics.{Diagnostics}
 use Rattle.ir_verify.specs.Sets.{has_any, set_of}
 use Rattle.ir_verify.specs.Diagnostics.{diagnostics_of}
 
--- the table keeps of each operation of the module that breaks rules which they are. It looks at most eight times, and six times at
--- each operation near an event, once at each of its operands, and three times at each of its regions
+-- the table keeps of each operation of the module that breaks rules which they are. It looks at most eight times, and
+-- six times at each operation near an event, once at each of its operands, and three times at each of its regions
 abbrev pub diagnostics_listener : Diagnostics → Listener
 diagnostics_listener s = record {
   kind = 3;

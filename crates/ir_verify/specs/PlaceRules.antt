@@ -1,5 +1,6 @@
 -- The rules on where an operation stands.
-use Rattle.std.specs.Prelude.{if◌then◌else◌, ℕ, List, [], ◌∷◌, codes, drop, Bool, true, false, not, ◌&&◌, ◌||◌, Option, Some, None, option_map, option_and_then}
+use Rattle.std.specs.Prelude.{if◌then◌else◌, ℕ, List, [], ◌∷◌, codes, drop, Bool, true, false, not, ◌&&◌, ◌||◌, Option}
+use Rattle.std.specs.Prelude.{Some, None, option_map, option_and_then}
 use Rattle.std.specs.Str.{bytes_eq}
 use Rattle.std.specs.List.{list_any}
 use Rattle.ir_types.specs.Terms.{TypeTerm}
@@ -59,13 +60,16 @@ differ (Some wanted) types = not (same_types wanted types)
 
 -- the types that a function returns
 abbrev pub returned : Node → Option (List (Option TypeTerm))
-returned parent = if is_named parent (codes "func.func") then option_map (λ (f : List TypeTerm × List TypeTerm). there f.1) (function_type parent) else None
+returned parent =
+    if is_named parent (codes "func.func")
+    then option_map (λ (f : List TypeTerm × List TypeTerm). there f.1) (function_type parent) else None
 
 -- rule 15: a return at the end of a function has operands of other types than the function's outputs
 abbrev pub breaks_15 : Surroundings → Bool
 breaks_15 s = is_named s.node (codes "func.return") && differ (option_and_then returned (ended_of s)) s.types
 
--- the types that an operation wants from a yield: of its results, or in a while loop of the arguments of the first block
+-- the types that an operation wants from a yield: of its results, or in a while loop of the arguments of the first
+-- block
 abbrev pub yielded : Node → Option (List (Option TypeTerm))
 yielded parent =
     if is_named parent (codes "scf.while") then option_map there (block_at 0 parent)

@@ -22,16 +22,17 @@ use op_registry::definition::{OpDef, RegionRule, Trait};
 use op_registry::registry::Registry;
 
 /// The name of the last operation of the block of a region.
-fn last(ctx: &Context, around: &Around<'_>, region: u32) -> Option<NameId>
+fn last(ctx: &Context, around: &Around<'_>, region: usize) -> Option<NameId>
     ensures { option_map (name_term ctx.now) result ≡ rules.last_at region (around_in ctx.now around.now) }
 {
     last_of(ctx, &around.lasts, region)
 }
 
-fn last_of(_ctx: &Context, lasts: &[Option<NameId>], region: u32) -> Option<NameId>
-    ensures { option_map (name_term _ctx.now) result ≡ option_and_then (λ last. last) (slice_get (map (option_map (name_term _ctx.now)) lasts.now) region) }
+fn last_of(_ctx: &Context, lasts: &[Option<NameId>], region: usize) -> Option<NameId>
+    ensures { option_map (name_term _ctx.now) result
+        ≡ option_and_then (λ last. last) (slice_get (map (option_map (name_term _ctx.now)) lasts.now) region) }
 {
-    match lasts.get(region as usize) {
+    match lasts.get(region) {
         None => None,
         Some(last) => *last,
     }
@@ -50,14 +51,19 @@ fn any_without(ctx: &Context, regions: &[RegionRule], node: &Node<'_>) -> bool
     requires { NodeIsOf ctx.now node.now }
     ensures { result ≡ fits.any_region (rules.is_without (node_in ctx.now node.now)) (map region_row regions.now) }
 {
-    match regions {
-        [] => false,
-        [one] => is_without(ctx, one, node, 0),
-        [one, two, ..] => is_without(ctx, one, node, 0) || is_without(ctx, two, node, 1),
+    let mut number = 0;
+    let mut rest = regions;
+    'regions: while let [region, tail @ ..] = rest {
+        if is_without(ctx, region, node, number) {
+            return true;
+        }
+        number += 1;
+        rest = tail;
     }
+    false
 }
 
-fn is_without(ctx: &Context, region: &RegionRule, node: &Node<'_>, number: u32) -> bool
+fn is_without(ctx: &Context, region: &RegionRule, node: &Node<'_>, number: usize) -> bool
     requires { NodeIsOf ctx.now node.now }
     ensures { result ≡ rules.is_without (node_in ctx.now node.now) number (region_row region.now) }
 {
@@ -106,7 +112,7 @@ pub(crate) fn breaks_9(ctx: &Context, around: &Around<'_>) -> bool
     is_named(ctx, &around.node, Word::ScfFor) && ends_otherwise(ctx, around, 0, Word::ScfYield)
 }
 
-fn ends_otherwise(ctx: &Context, around: &Around<'_>, region: u32, wanted: Word) -> bool
+fn ends_otherwise(ctx: &Context, around: &Around<'_>, region: usize, wanted: Word) -> bool
     requires { AroundIsOf ctx.now around.now }
     ensures { result ≡ rules.ends_otherwise region (word_bytes wanted) (around_in ctx.now around.now) }
 {
@@ -160,7 +166,8 @@ fn is_public(ctx: &Context, visibility: Option<NameId>) -> bool
 /// The visibility of a symbol, if it says one (Symbols and Symbol Tables, "Symbol Visibility").
 fn visibility(ctx: &Context, node: &Node<'_>) -> Option<NameId>
     requires { NodeIsOf ctx.now node.now }
-    ensures { option_map (name_term ctx.now) result ≡ option_and_then string_in (fits.property (word_bytes Word.SymVisibility) (node_in ctx.now node.now)) }
+    ensures { option_map (name_term ctx.now) result
+        ≡ option_and_then string_in (fits.property (word_bytes Word.SymVisibility) (node_in ctx.now node.now)) }
 {
     string_of(ctx, property(ctx, node, Word::SymVisibility)?)
 }

@@ -17,16 +17,18 @@ use std::alloc::Global;
 ///
 /// Refusals: `NoSuchOp` where the operation isn't in the module; `Memory`.
 pub fn check_op(alloc: Global, world: &World, op: OpId) -> Result<Vec<u8>, Refusal>
-    ensures { MatchResult result (λ rules. broken_at op (module_in world.now).tree ≡ Some rules.items) (Unchecked op (module_in world.now).tree) }
+    ensures { MatchResult result (λ rules. broken_at op (module_in world.now).tree ≡ Some rules.items)
+        (Unchecked op (module_in world.now).tree) }
 {
     let mut view = View::new(world);
     check_in(alloc, &mut view, op)
 }
 
-/// The same of the module that a view shows. It looks no more often than it takes to gather what is around the
-/// operation.
+/// The numbers of the rules, rising, that an operation breaks in the module that a view shows. It looks no more often
+/// than it takes to gather what is around the operation.
 pub fn check_in(alloc: Global, view: &mut View<'_>, op: OpId) -> Result<Vec<u8>, Refusal>
-    ensures rules { MatchResult result (λ rules. broken_at op (module_in view.old.world.now).tree ≡ Some rules.items) (Unchecked op (module_in view.old.world.now).tree) }
+    ensures rules { MatchResult result (λ rules. broken_at op (module_in view.old.world.now).tree ≡ Some rules.items)
+        (Unchecked op (module_in view.old.world.now).tree) }
     ensures looks { view.new.looks ≤ view.old.looks + gather_looks (find op (tree_in view.old.world.now)) }
     ensures world { view.new.world.now ≡ view.old.world.now }
 {

@@ -162,7 +162,8 @@ fn differ(ctx: &Context, wanted: Option<&[TypeId]>, types: &[TypeId]) -> bool
 /// The types that a function returns.
 fn returned<'a>(ctx: &'a Context, parent: Option<&Node<'_>>) -> Option<&'a [TypeId]>
     requires { IfSome parent (λ n. NodeIsOf ctx.now n.now) }
-    ensures is { option_map (λ ts. typed ctx.now ts.now) result ≡ option_and_then rules.returned (option_map (λ n. node_in ctx.now n.now) parent.entry) }
+    ensures is { option_map (λ ts. typed ctx.now ts.now) result
+        ≡ option_and_then rules.returned (option_map (λ n. node_in ctx.now n.now) parent.entry) }
     ensures known { IfSome result (λ ts. All (λ t. IsType ctx.now t) ts.now) }
 {
     let parent = parent?;
@@ -186,7 +187,8 @@ pub(crate) fn breaks_16(ctx: &Context, around: &Around<'_>, ended: Option<&Node<
 /// The types that an operation wants from a yield.
 fn yielded<'a>(ctx: &Context, parent: Option<&'a Node<'_>>) -> Option<&'a [TypeId]>
     requires { IfSome parent (λ n. NodeIsOf ctx.now n.now) }
-    ensures is { option_map (λ ts. typed ctx.now ts.now) result ≡ option_and_then rules.yielded (option_map (λ n. node_in ctx.now n.now) parent.entry) }
+    ensures is { option_map (λ ts. typed ctx.now ts.now) result
+        ≡ option_and_then rules.yielded (option_map (λ n. node_in ctx.now n.now) parent.entry) }
     ensures known { IfSome result (λ ts. All (λ t. IsType ctx.now t) ts.now) }
 {
     let parent = parent?;
@@ -213,7 +215,8 @@ pub(crate) fn breaks_17(ctx: &Context, around: &Around<'_>, ended: Option<&Node<
 /// The types that a while loop wants from a condition.
 fn passed<'a>(ctx: &Context, parent: Option<&'a Node<'_>>) -> Option<&'a [TypeId]>
     requires { IfSome parent (λ n. NodeIsOf ctx.now n.now) }
-    ensures is { option_map (λ ts. typed ctx.now ts.now) result ≡ option_and_then rules.passed (option_map (λ n. node_in ctx.now n.now) parent.entry) }
+    ensures is { option_map (λ ts. typed ctx.now ts.now) result
+        ≡ option_and_then rules.passed (option_map (λ n. node_in ctx.now n.now) parent.entry) }
     ensures known { IfSome result (λ ts. All (λ t. IsType ctx.now t) ts.now) }
 {
     let parent = parent?;

@@ -26,7 +26,8 @@ fn row(alloc: Global, op: OpId, rule: u8) -> Result<Row, AllocError>
 
 /// Adds a row for each of the rules that an operation breaks.
 fn push_rows(alloc: Global, op: OpId, rules: &[u8], out: &mut Vec<Row>) -> Result<(), AllocError>
-    ensures { OnOk result (map (λ (r : Line). r.cells.items) out.new.items ≡ map (λ (r : Line). r.cells.items) out.old.items ++ rules_cells op rules.now) }
+    ensures { OnOk result (map (λ (r : Line). r.cells.items) out.new.items
+        ≡ map (λ (r : Line). r.cells.items) out.old.items ++ rules_cells op rules.now) }
 {
     for rule in rules {
         out.push(row(alloc, op, *rule)?)?;
@@ -34,9 +35,10 @@ fn push_rows(alloc: Global, op: OpId, rules: &[u8], out: &mut Vec<Row>) -> Resul
     Ok(())
 }
 
-/// The same, where the rules are a set.
+/// Adds a row for each rule of a set that an operation breaks.
 fn push_set(alloc: Global, op: OpId, set: &RuleSet, out: &mut Vec<Row>) -> Result<(), AllocError>
-    ensures { OnOk result (map (λ (r : Line). r.cells.items) out.new.items ≡ map (λ (r : Line). r.cells.items) out.old.items ++ rules_cells op (rules_in set.now)) }
+    ensures { OnOk result (map (λ (r : Line). r.cells.items) out.new.items
+        ≡ map (λ (r : Line). r.cells.items) out.old.items ++ rules_cells op (rules_in set.now)) }
 {
     let rules = set.numbers(alloc)?;
     push_rows(alloc, op, &rules, out)
@@ -57,7 +59,8 @@ fn push_all(
     table: &BTreeMap<u32, RuleSet>,
     out: &mut Vec<Row>,
 ) -> Result<(), AllocError>
-    ensures { OnOk result (map (λ (r : Line). r.cells.items) out.new.items ≡ map (λ (r : Line). r.cells.items) out.old.items ++ all_cells table.now.entries) }
+    ensures { OnOk result (map (λ (r : Line). r.cells.items) out.new.items
+        ≡ map (λ (r : Line). r.cells.items) out.old.items ++ all_cells table.now.entries) }
 {
     for (op, rules) in table {
         push_set(alloc, OpId::new(*op), rules, out)?;

@@ -86,7 +86,8 @@ impl Fact for RuleSet {
 
 /// Whether an operation with a name may break rules: no other than a listed one does.
 fn may_break(ctx: &Context, name: NameId) -> bool
-    ensures { result ≡ false → (s : Surroundings) → s.node.head.name ≡ name_term ctx.now name → has_any (set_of s) ≡ false }
+    ensures { result ≡ false → (s : Surroundings) → s.node.head.name ≡ name_term ctx.now name
+        → has_any (set_of s) ≡ false }
 {
     listed_has_row();
     ctx.listed(name)

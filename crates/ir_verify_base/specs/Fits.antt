@@ -1,5 +1,7 @@
 -- Whether types are those that a row of the operation table names.
-use Rattle.std.specs.Prelude.{if◌then◌else◌, ℕ, ◌+◌, List, [], ◌∷◌, map, length, drop, codes, Bool, true, false, ◌==◌, ◌&&◌, ◌||◌, nat_le, Option, Some, None, option_map, option_and_then, unwrap_or, slice_get}
+use Rattle.std.specs.Prelude.{if◌then◌else◌, ℕ, suc, ◌+◌, List, [], ◌∷◌, map, length, drop, codes, Bool, true, false}
+use Rattle.std.specs.Prelude.{◌==◌, ◌&&◌, ◌||◌, nat_le, Option, Some, None, option_map, option_and_then, unwrap_or}
+use Rattle.std.specs.Prelude.{slice_get}
 use Rattle.std.specs.List.{list_all}
 use Rattle.std.specs.Str.{bytes_eq}
 use Rattle.std.specs.Option.{option_eq}
@@ -40,11 +42,14 @@ function_type node = option_and_then function_of (option_and_then type_of (prope
 abbrev pub block_at : ℕ → Node → Option (List TypeTerm)
 block_at k node = option_and_then (λ args. args) (slice_get node.arguments k)
 
--- whether one of the regions of a row passes a test with its number; no row has more than two
+-- whether one of the regions of a row, from the one of number k on, passes a test with its number
+abbrev pub any_from : (ℕ → RegionRow → Bool) → ℕ → List RegionRow → Bool
+any_from test k [] = false
+any_from test k (region ∷ more) = test k region || any_from test (suc k) more
+
+-- whether one of the regions of a row passes a test with its number
 abbrev pub any_region : (ℕ → RegionRow → Bool) → List RegionRow → Bool
-any_region test [] = false
-any_region test (region ∷ []) = test 0 region
-any_region test (region ∷ second ∷ more) = test 0 region || test 1 second
+any_region test regions = any_from test 0 regions
 
 -- types that are all there
 abbrev pub there : List TypeTerm → List (Option TypeTerm)
@@ -85,7 +90,8 @@ abbrev pub is_there : (TypeTerm → Bool) → Option TypeTerm → Bool
 is_there test None = false
 is_there test (Some t) = test t
 
--- whether a type is the number of the row: the first operand's that the row calls so, or any number where it calls none so
+-- whether a type is the number of the row: the first operand's that the row calls so, or any number where it calls none
+-- so
 abbrev pub is_the_number : Option TypeTerm → Option TypeTerm → Bool
 is_the_number None t = is_there is_number t
 is_the_number (Some u) t = is_there (same_type u) t
@@ -105,8 +111,8 @@ fits known type.Initial t = true
 fits known type.Result t = true
 fits known type.Input t = true
 
--- whether the types after the fixed ones are what a row calls them: none; those of the operands after the fixed ones, of
--- the results, of the inputs, one by one; or any number of one kind
+-- whether the types after the fixed ones are what a row calls them: none; those of the operands after the fixed ones,
+-- of the results, of the inputs, one by one; or any number of one kind
 abbrev pub more_fit : Known → Option TypeRule → List (Option TypeTerm) → Bool
 more_fit known None ts = length ts == 0
 more_fit known (Some type.Initial) ts = same_types known.initial ts
@@ -123,8 +129,8 @@ first_fit known (rule ∷ rules) more (t ∷ ts) = fits known rule t && first_fi
 abbrev pub types_fit : Known → TypesRow → List (Option TypeTerm) → Bool
 types_fit known row ts = first_fit known row.first row.more ts
 
--- whether so many types may be where a row has some first ones and perhaps more, and an operation so many operands after
--- the fixed ones
+-- whether so many types may be where a row has some first ones and perhaps more, and an operation so many operands
+-- after the fixed ones
 abbrev pub more_count : ℕ → ℕ → Option TypeRule → ℕ → Bool
 more_count initial first None n = n == first
 more_count initial first (Some type.Initial) n = n == first + initial

@@ -1,5 +1,6 @@
 -- The rules on types, of an operation of right form.
-use Rattle.std.specs.Prelude.{if◌then◌else◌, ℕ, pos, List, [], ◌∷◌, codes, length, Bool, true, false, not, ◌==◌, ◌&&◌, ◌||◌, nat_le, Option, Some, None, option_and_then}
+use Rattle.std.specs.Prelude.{if◌then◌else◌, ℕ, pos, List, [], ◌∷◌, codes, length, Bool, true, false, not, ◌==◌, ◌&&◌}
+use Rattle.std.specs.Prelude.{◌||◌, nat_le, Option, Some, None, option_and_then}
 use Rattle.std.specs.Ordering.{int_eq}
 use Rattle.std.specs.Cmp.Lexicographic.{pointwise}
 use Rattle.ir_types.specs.Terms.{TypeTerm, AttrTerm, DenseArray}
@@ -7,7 +8,8 @@ use Rattle.op_registry.specs.Rows.{Row, RegionRow}
 use Rattle.op_registry.specs.Properties.{integer_of}
 use Rattle.ir_types.specs.SameTypes.{same_type}
 use Rattle.ir_verify_base.specs.Types.{width_of, is_index, is_number, memref_of}
-use Rattle.ir_verify_base.specs.Fits.{Node, Surroundings, Known, known_of, is_named, property, block_at, any_region, there, types_fit}
+use Rattle.ir_verify_base.specs.Fits.{Node, Surroundings, Known, known_of, is_named, property, block_at, any_region}
+use Rattle.ir_verify_base.specs.Fits.{there, types_fit}
 
 -- rule 2: the first operand that the row calls a number is none, or an operand's type isn't what the row calls it
 abbrev pub is_no_number : Option TypeTerm → Bool
@@ -38,7 +40,9 @@ is_of_another (Some integer) (t ∷ []) = not (same_type integer.0 t)
 is_of_another _ _ = false
 
 abbrev pub breaks_14 : Surroundings → Bool
-breaks_14 s = is_named s.node (codes "arith.constant") && is_of_another (option_and_then integer_of (property (codes "value") s.node)) s.node.head.results
+breaks_14 s =
+    is_named s.node (codes "arith.constant")
+    && is_of_another (option_and_then integer_of (property (codes "value") s.node)) s.node.head.results
 
 -- the widths of the one operand and the one result, where both are signless integers
 abbrev pub both_widths : Option ℕ → Option ℕ → Option (ℕ × ℕ)
@@ -93,8 +97,8 @@ is_index_cast node = is_named node (codes "arith.index_cast") || is_named node (
 abbrev pub breaks_19 : Surroundings → Bool
 breaks_19 s = is_index_cast s.node && not_one_index s.types s.node.head.results
 
--- rule 20: a memref is read or written by another number of indices than its rank, or as another type than its elements';
--- or a memref is made by another number of operands than it has dimensions that aren't known
+-- rule 20: a memref is read or written by another number of indices than its rank, or as another type than its
+-- elements'; or a memref is made by another number of operands than it has dimensions that aren't known
 abbrev pub element_differs : Option (ℕ × ℕ × TypeTerm) → ℕ → Option TypeTerm → Bool
 element_differs (Some memref) indices (Some t) = not (indices == memref.0) || not (same_type t memref.2)
 element_differs (Some memref) indices None = not (indices == memref.0)
@@ -128,4 +132,6 @@ segments_differ n (Some (DenseArray ty values)) = not (pointwise int_eq values (
 segments_differ n _ = false
 
 abbrev pub breaks_24 : Surroundings → Bool
-breaks_24 s = is_named s.node (codes "memref.alloc") && segments_differ (length s.types) (property (codes "operandSegmentSizes") s.node)
+breaks_24 s =
+    is_named s.node (codes "memref.alloc")
+    && segments_differ (length s.types) (property (codes "operandSegmentSizes") s.node)

@@ -19,10 +19,11 @@ use op_registry::definition::{TypeRule, Types};
 pub struct Known<'a> {
     /// The type of the first operand that the row calls a number.
     pub number: Option<TypeId>,
-    /// That of the first operand that the row calls any.
+    /// The type of the first operand that the row calls any.
     pub same: Option<TypeId>,
-    /// Those of the operands after the fixed ones.
+    /// The types of the operands after the fixed ones.
     pub initial: &'a [TypeId],
+    /// The types of the results.
     pub results: &'a [TypeId],
     /// The inputs of the function type that is a property.
     pub inputs: &'a [TypeId],
@@ -49,7 +50,7 @@ pub fn types_fit(ctx: &Context, known: &Known<'_>, row: &Types, types: &[TypeId]
     more_fit(ctx, known, row.more, rest)
 }
 
-/// Whether the types after the fixed ones are.
+/// Whether the types after the fixed ones are what a row calls them, or there are none where it names none.
 fn more_fit(ctx: &Context, known: &Known<'_>, more: Option<TypeRule>, types: &[TypeId]) -> bool
     requires known { AreKnown ctx.now known.now }
     requires types { All (λ t. IsType ctx.now t) types.now }
@@ -61,6 +62,7 @@ fn more_fit(ctx: &Context, known: &Known<'_>, more: Option<TypeRule>, types: &[T
     }
 }
 
+/// Whether the types after the fixed ones are those of a list that a rule names, or each is what it calls one type.
 fn rest_fit(ctx: &Context, known: &Known<'_>, rule: TypeRule, types: &[TypeId]) -> bool
     requires known { AreKnown ctx.now known.now }
     requires types { All (λ t. IsType ctx.now t) types.now }
@@ -156,6 +158,7 @@ pub fn count_fits(initial: usize, row: &Types, count: usize) -> bool
     }
 }
 
+/// Whether a count may be that of `first` fixed types and more ones by a rule, after `initial` operands.
 fn more_count(initial: usize, first: usize, rule: TypeRule, count: usize) -> bool
     ensures { result ≡ fits.more_count initial first (Some rule) count }
 {

@@ -36,14 +36,17 @@ struct Memref {
 /// What a type says, if it is a memref.
 fn memref_of(ctx: &Context, ty: TypeId) -> Option<Memref>
     requires { IsType ctx.now ty }
-    ensures memref { option_map (λ m. (m.rank, m.unknown, type_term ctx.now m.elem)) result ≡ types.memref_of (type_term ctx.now ty) }
+    ensures memref { option_map (λ m. (m.rank, m.unknown, type_term ctx.now m.elem)) result
+        ≡ types.memref_of (type_term ctx.now ty) }
     ensures elem { IfSome result (λ m. IsType ctx.now m.elem) }
 {
     memref_in(type_of(ctx, ty))
 }
 
+/// What a type's node says, if it is a memref.
 fn memref_in(node: &TypeNode) -> Option<Memref>
-    ensures memref { (known : List TypeTerm) → option_map (λ m. (m.rank, m.unknown, type_at known m.elem)) result ≡ types.memref_of (type_from known node.now) }
+    ensures memref { (known : List TypeTerm) → option_map (λ m. (m.rank, m.unknown, type_at known m.elem)) result
+        ≡ types.memref_of (type_from known node.now) }
     ensures elem { (c : Things) → TypeIsOf c node.now → IfSome result (λ m. IsType c m.elem) }
 {
     match node {
@@ -89,6 +92,7 @@ pub fn breaks_20(ctx: &Context, around: &Around<'_>) -> bool
         && alloc_differs(ctx, &around.types, around.node.results())
 }
 
+/// Whether a load has other indices than its memref's rank, or another result than its elements' type.
 fn load_differs(ctx: &Context, operands: &[TypeId], results: &[TypeId]) -> bool
     requires operands { All (λ t. IsType ctx.now t) operands.now }
     requires results { All (λ t. IsType ctx.now t) results.now }
@@ -103,6 +107,7 @@ fn load_differs(ctx: &Context, operands: &[TypeId], results: &[TypeId]) -> bool
     element_differs(ctx, *memref, indices.len(), *result)
 }
 
+/// Whether a store has other indices than its memref's rank, or another value than its elements' type.
 fn store_differs(ctx: &Context, operands: &[TypeId]) -> bool
     requires { All (λ t. IsType ctx.now t) operands.now }
     ensures { result ≡ rules.store_differs (typed ctx.now operands.now) }
@@ -113,10 +118,12 @@ fn store_differs(ctx: &Context, operands: &[TypeId]) -> bool
     element_differs(ctx, *memref, indices.len(), *value)
 }
 
+/// Whether a number of indices isn't a memref's rank, or a type isn't that of its elements.
 fn element_differs(ctx: &Context, memref: TypeId, indices: usize, ty: TypeId) -> bool
     requires memref { IsType ctx.now memref }
     requires ty { IsType ctx.now ty }
-    ensures { result ≡ rules.element_differs (types.memref_of (type_term ctx.now memref)) indices (Some (type_term ctx.now ty)) }
+    ensures { result ≡ rules.element_differs (types.memref_of (type_term ctx.now memref)) indices
+        (Some (type_term ctx.now ty)) }
 {
     match memref_of(ctx, memref) {
         None => false,
@@ -124,6 +131,7 @@ fn element_differs(ctx: &Context, memref: TypeId, indices: usize, ty: TypeId) ->
     }
 }
 
+/// Whether an allocation has another number of operands than its result has dimensions that aren't known.
 fn alloc_differs(ctx: &Context, sizes: &[TypeId], results: &[TypeId]) -> bool
     requires { All (λ t. IsType ctx.now t) results.now }
     ensures { result ≡ rules.alloc_differs (typed ctx.now sizes.now) (map (type_term ctx.now) results.now) }
@@ -134,6 +142,7 @@ fn alloc_differs(ctx: &Context, sizes: &[TypeId], results: &[TypeId]) -> bool
     sizes_differ(ctx, sizes.len(), *result)
 }
 
+/// Whether a number of sizes isn't that of a memref's dimensions that aren't known.
 fn sizes_differ(ctx: &Context, sizes: usize, memref: TypeId) -> bool
     requires { IsType ctx.now memref }
     ensures { result ≡ rules.sizes_differ sizes (types.memref_of (type_term ctx.now memref)) }
@@ -153,9 +162,11 @@ pub fn breaks_24(ctx: &Context, around: &Around<'_>) -> bool
         && segments_differ(ctx, around.types.len(), &around.node)
 }
 
+/// Whether an operation has segment sizes, and they aren't a number of sizes and 0.
 fn segments_differ(ctx: &Context, sizes: usize, node: &Node<'_>) -> bool
     requires { NodeIsOf ctx.now node.now }
-    ensures { result ≡ rules.segments_differ sizes (fits.property (word_bytes Word.OperandSegmentSizes) (node_in ctx.now node.now)) }
+    ensures { result ≡ rules.segments_differ sizes
+        (fits.property (word_bytes Word.OperandSegmentSizes) (node_in ctx.now node.now)) }
 {
     match property(ctx, node, Word::OperandSegmentSizes) {
         None => false,
@@ -163,8 +174,10 @@ fn segments_differ(ctx: &Context, sizes: usize, node: &Node<'_>) -> bool
     }
 }
 
+/// Whether an attribute is a list of segment sizes, and they aren't a number of sizes and 0.
 fn are_others(node: &AttrNode, sizes: usize) -> bool
-    ensures { (names : List (List ℕ)) (known : List TypeTerm) (attrs : List AttrTerm) → result ≡ rules.segments_differ sizes (Some (attr_from names known attrs node.now)) }
+    ensures { (names : List (List ℕ)) (known : List TypeTerm) (attrs : List AttrTerm)
+        → result ≡ rules.segments_differ sizes (Some (attr_from names known attrs node.now)) }
 {
     match node {
         AttrNode::Int { .. } => false,
@@ -189,6 +202,7 @@ fn are_sizes(values: &[i64], sizes: usize) -> bool
     is_number(*first, sizes) && *second == 0
 }
 
+/// Whether a signed value is a number.
 fn is_number(value: i64, number: usize) -> bool
     ensures { result ≡ int_eq value (pos number) }
 {

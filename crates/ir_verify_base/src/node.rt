@@ -34,16 +34,17 @@ pub fn property(ctx: &Context, node: &Node<'_>, key: Word) -> Option<AttrId>
 }
 
 /// The types of the arguments of the block of a region, if it has one.
-pub fn block<'a>(ctx: &Context, node: &'a Node<'_>, region: u32) -> Option<&'a [TypeId]>
+pub fn block<'a>(ctx: &Context, node: &'a Node<'_>, region: usize) -> Option<&'a [TypeId]>
     requires { NodeIsOf ctx.now node.now }
-    ensures args { option_map (λ args. map (type_term ctx.now) args.now) result ≡ fits.block_at region (node_in ctx.now node.now) }
+    ensures args { option_map (λ args. map (type_term ctx.now) args.now) result
+        ≡ fits.block_at region (node_in ctx.now node.now) }
     ensures types { IfSome result (λ args. All (λ t. IsType ctx.now t) args.now) }
 {
     node.arguments(region)
 }
 
 /// Whether the region has a block.
-pub fn has_block(ctx: &Context, node: &Node<'_>, region: u32) -> bool
+pub fn has_block(ctx: &Context, node: &Node<'_>, region: usize) -> bool
     requires { NodeIsOf ctx.now node.now }
     ensures { result ≡ is_some (fits.block_at region (node_in ctx.now node.now)) }
 {
@@ -53,7 +54,9 @@ pub fn has_block(ctx: &Context, node: &Node<'_>, region: u32) -> bool
 /// The function type that an operation has as property.
 pub fn function_type<'a>(ctx: &'a Context, node: &Node<'_>) -> Option<Signature<'a>>
     requires { NodeIsOf ctx.now node.now }
-    ensures signature { option_map (λ s. (map (type_term ctx.now) s.inputs.now, map (type_term ctx.now) s.outputs.now)) result ≡ fits.function_type (node_in ctx.now node.now) }
+    ensures signature { option_map
+        (λ s. (map (type_term ctx.now) s.inputs.now, map (type_term ctx.now) s.outputs.now)) result
+        ≡ fits.function_type (node_in ctx.now node.now) }
     ensures inputs { IfSome result (λ s. All (λ t. IsType ctx.now t) s.inputs.now) }
     ensures outputs { IfSome result (λ s. All (λ t. IsType ctx.now t) s.outputs.now) }
 {

@@ -31,7 +31,7 @@ pub fn breaks_1(_ctx: &Context, def: &OpDef, node: &Node<'_>) -> bool
     !count_fits(initial, &def.operands, node.operands().len())
 }
 
-/// Rule 3: the number of results isn't.
+/// Rule 3: the number of results isn't one that the row names.
 pub fn breaks_3(_ctx: &Context, def: &OpDef, node: &Node<'_>) -> bool
     ensures { result ≡ shapes.breaks_3 (row_from def.now) (node_in _ctx.now node.now) }
 {
@@ -56,6 +56,7 @@ pub fn breaks_12(ctx: &Context, def: &OpDef, node: &Node<'_>) -> bool
     any_missing(ctx, def.properties, node)
 }
 
+/// Whether one of some properties is required, and an operation lacks it.
 fn any_missing(ctx: &Context, properties: &[Property], node: &Node<'_>) -> bool
     requires { NodeIsOf ctx.now node.now }
     ensures { result ≡ list_any (shapes.is_missing (node_in ctx.now node.now)) (map property_row properties.now) }
@@ -70,6 +71,7 @@ fn any_missing(ctx: &Context, properties: &[Property], node: &Node<'_>) -> bool
     false
 }
 
+/// Whether a property is required, and an operation lacks it.
 fn is_missing(ctx: &Context, wanted: &Property, node: &Node<'_>) -> bool
     requires { NodeIsOf ctx.now node.now }
     ensures { result ≡ shapes.is_missing (node_in ctx.now node.now) (property_row wanted.now) }
@@ -86,6 +88,7 @@ pub fn breaks_13(ctx: &Context, def: &OpDef, node: &Node<'_>) -> bool
     any_wrong(ctx, def.properties, node)
 }
 
+/// Whether one of some properties is there, and isn't of the kind that its key asks.
 fn any_wrong(ctx: &Context, properties: &[Property], node: &Node<'_>) -> bool
     requires { NodeIsOf ctx.now node.now }
     ensures { result ≡ list_any (shapes.is_wrong (node_in ctx.now node.now)) (map property_row properties.now) }
@@ -100,6 +103,7 @@ fn any_wrong(ctx: &Context, properties: &[Property], node: &Node<'_>) -> bool
     false
 }
 
+/// Whether a property is there, and isn't of the kind that its key asks.
 #[tactic(auto, using(crate::proofs::Words::word_named))]
 fn is_wrong(ctx: &Context, given: &Property, node: &Node<'_>) -> bool
     requires { NodeIsOf ctx.now node.now }

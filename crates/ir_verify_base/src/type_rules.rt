@@ -43,7 +43,8 @@ pub fn known_of<'a>(ctx: &'a Context, def: &OpDef, around: &'a Around<'_>) -> Kn
 
 /// The type of the first operand that a row calls as is wanted.
 fn first_called(wanted: TypeRule, rules: &[TypeRule], types: &[TypeId]) -> Option<TypeId>
-    ensures is { (c : Things) → option_map (type_term c) result ≡ fits.first_called wanted rules.now (typed c types.now) }
+    ensures is { (c : Things)
+        → option_map (type_term c) result ≡ fits.first_called wanted rules.now (typed c types.now) }
     ensures known { (c : Things) → All (λ t. IsType c t) types.now → IfSome result (λ t. IsType c t) }
 {
     let mut named = rules;
@@ -61,7 +62,7 @@ fn first_called(wanted: TypeRule, rules: &[TypeRule], types: &[TypeId]) -> Optio
     None
 }
 
-/// Whether a row calls a type so. Only by a number, and by any, are others compared with it.
+/// Whether a rule is the one that is wanted, where that is a number or any: with no others are types compared.
 fn is_called(wanted: TypeRule, rule: TypeRule) -> bool
     ensures { result ≡ fits.is_called wanted rule }
 {
@@ -86,7 +87,8 @@ fn after(types: &[TypeId], count: usize) -> &[TypeId]
 /// The inputs of the function type that an operation has as property.
 fn inputs_of<'a>(ctx: &'a Context, node: &Node<'_>) -> &'a [TypeId]
     requires { NodeIsOf ctx.now node.now }
-    ensures inputs { typed ctx.now result.now ≡ unwrap_or (option_map (λ f. fits.there f.0) (fits.function_type (node_in ctx.now node.now))) [] }
+    ensures inputs { typed ctx.now result.now
+        ≡ unwrap_or (option_map (λ f. fits.there f.0) (fits.function_type (node_in ctx.now node.now))) [] }
     ensures known { All (λ t. IsType ctx.now t) result.now }
 {
     match function_type(ctx, node) {
@@ -106,6 +108,7 @@ pub fn breaks_2(ctx: &Context, def: &OpDef, around: &Around<'_>, known: &Known<'
     is_no_number(ctx, known.number) || !types_fit(ctx, known, &def.operands, &around.types)
 }
 
+/// Whether there is a type, and it is neither a signless integer type nor `index`.
 fn is_no_number(ctx: &Context, ty: Option<TypeId>) -> bool
     requires { IfSome ty (λ t. IsType ctx.now t) }
     ensures { result ≡ rules.is_no_number (option_map (type_term ctx.now) ty) }
@@ -136,30 +139,37 @@ pub fn breaks_7(ctx: &Context, def: &OpDef, around: &Around<'_>, known: &Known<'
     any_differ(ctx, known, def.regions, &around.node)
 }
 
+/// Whether the block of one of some regions has arguments whose types aren't what the row calls them.
 fn any_differ(ctx: &Context, known: &Known<'_>, regions: &[RegionRule], node: &Node<'_>) -> bool
     requires node { NodeIsOf ctx.now node.now }
     requires known { AreKnown ctx.now known.now }
-    ensures { result ≡ rules.any_differ (known_in ctx.now known.now) (map region_row regions.now) (node_in ctx.now node.now) }
+    ensures { result ≡ rules.any_differ (known_in ctx.now known.now) (map region_row regions.now)
+        (node_in ctx.now node.now) }
 {
-    match regions {
-        [] => false,
-        [one] => arguments_differ(ctx, known, one, node, 0),
-        [one, two, ..] => {
-            arguments_differ(ctx, known, one, node, 0) || arguments_differ(ctx, known, two, node, 1)
+    let mut number = 0;
+    let mut rest = regions;
+    'regions: while let [region, tail @ ..] = rest {
+        if arguments_differ(ctx, known, region, node, number) {
+            return true;
         }
+        number += 1;
+        rest = tail;
     }
+    false
 }
 
+/// Whether a region has a block whose arguments' types aren't what the row calls them.
 fn arguments_differ(
     ctx: &Context,
     known: &Known<'_>,
     region: &RegionRule,
     node: &Node<'_>,
-    number: u32,
+    number: usize,
 ) -> bool
     requires node { NodeIsOf ctx.now node.now }
     requires known { AreKnown ctx.now known.now }
-    ensures { result ≡ rules.arguments_differ (known_in ctx.now known.now) (region_row region.now) (fits.block_at number (node_in ctx.now node.now)) }
+    ensures { result ≡ rules.arguments_differ (known_in ctx.now known.now) (region_row region.now)
+        (fits.block_at number (node_in ctx.now node.now)) }
 {
     match block(ctx, node, number) {
         None => false,
@@ -175,9 +185,12 @@ pub fn breaks_14(ctx: &Context, around: &Around<'_>) -> bool
     is_named(ctx, &around.node, Word::ArithConstant) && is_of_another(ctx, &around.node)
 }
 
+/// Whether an operation's property `value` is an integer of another type than its one result.
 fn is_of_another(ctx: &Context, node: &Node<'_>) -> bool
     requires { NodeIsOf ctx.now node.now }
-    ensures { result ≡ rules.is_of_another (option_and_then integer_in (fits.property (word_bytes Word.Value) (node_in ctx.now node.now))) (map (type_term ctx.now) node.now.head.results) }
+    ensures { result ≡ rules.is_of_another
+        (option_and_then integer_in (fits.property (word_bytes Word.Value) (node_in ctx.now node.now)))
+        (map (type_term ctx.now) node.now.head.results) }
 {
     let Some(ty) = value_type(ctx, node) else {
         return false;
@@ -191,7 +204,8 @@ fn is_of_another(ctx: &Context, node: &Node<'_>) -> bool
 /// The type of the value of a constant.
 fn value_type(ctx: &Context, node: &Node<'_>) -> Option<TypeId>
     requires { NodeIsOf ctx.now node.now }
-    ensures is { option_map (type_term ctx.now) result ≡ option_map (λ i. i.0) (option_and_then integer_in (fits.property (word_bytes Word.Value) (node_in ctx.now node.now))) }
+    ensures is { option_map (type_term ctx.now) result ≡ option_map (λ i. i.0)
+        (option_and_then integer_in (fits.property (word_bytes Word.Value) (node_in ctx.now node.now))) }
     ensures known { IfSome result (λ t. IsType ctx.now t) }
 {
     let attr = property(ctx, node, Word::Value)?;
@@ -210,6 +224,7 @@ pub fn breaks_18(ctx: &Context, around: &Around<'_>) -> bool
     is_extension(ctx, &around.node) && isnt_greater(ctx, &around.types, around.node.results())
 }
 
+/// Whether an operation extends an integer, by its sign or by zeros.
 fn is_extension(ctx: &Context, node: &Node<'_>) -> bool
     ensures { result ≡ rules.is_extension (node_in ctx.now node.now) }
 {
@@ -228,7 +243,7 @@ fn isnt_greater(ctx: &Context, operands: &[TypeId], results: &[TypeId]) -> bool
     }
 }
 
-/// Whether it isn't smaller.
+/// Whether the one operand and the one result have widths, and that of the result isn't smaller.
 fn isnt_smaller(ctx: &Context, operands: &[TypeId], results: &[TypeId]) -> bool
     requires operands { All (λ t. IsType ctx.now t) operands.now }
     requires results { All (λ t. IsType ctx.now t) results.now }
@@ -265,12 +280,14 @@ pub fn breaks_19(ctx: &Context, around: &Around<'_>) -> bool
     is_index_cast(ctx, &around.node) && not_one_index(ctx, &around.types, around.node.results())
 }
 
+/// Whether an operation casts between integers and `index`, signed or unsigned.
 fn is_index_cast(ctx: &Context, node: &Node<'_>) -> bool
     ensures { result ≡ rules.is_index_cast (node_in ctx.now node.now) }
 {
     is_named(ctx, node, Word::ArithIndexCast) || is_named(ctx, node, Word::ArithIndexCastui)
 }
 
+/// Whether both the one operand and the one result are of type `index`, or neither is.
 fn not_one_index(ctx: &Context, operands: &[TypeId], results: &[TypeId]) -> bool
     requires operands { All (λ t. IsType ctx.now t) operands.now }
     requires results { All (λ t. IsType ctx.now t) results.now }

@@ -53,6 +53,7 @@ pub fn width_of(ctx: &Context, ty: TypeId) -> Option<u32>
     width_in(type_of(ctx, ty))
 }
 
+/// The width that a type's node gives, if it is a signless integer type.
 fn width_in(node: &TypeNode) -> Option<u32>
     ensures { (known : List TypeTerm) → result ≡ types.width_of (type_from known node.now) }
 {
@@ -76,6 +77,7 @@ pub fn is_integer(ctx: &Context, ty: TypeId) -> bool
     node_is_integer(type_of(ctx, ty))
 }
 
+/// Whether a type's node is a signless integer type.
 fn node_is_integer(node: &TypeNode) -> bool
     ensures { (known : List TypeTerm) → result ≡ types.is_integer (type_from known node.now) }
 {
@@ -99,6 +101,7 @@ pub fn is_index(ctx: &Context, ty: TypeId) -> bool
     node_is_index(type_of(ctx, ty))
 }
 
+/// Whether a type's node is `index`.
 fn node_is_index(node: &TypeNode) -> bool
     ensures { (known : List TypeTerm) → result ≡ types.is_index (type_from known node.now) }
 {
@@ -126,6 +129,7 @@ pub fn is_boolean(ctx: &Context, ty: TypeId) -> bool
     node_is_boolean(type_of(ctx, ty))
 }
 
+/// Whether a type's node is `i1`.
 fn node_is_boolean(node: &TypeNode) -> bool
     ensures { (known : List TypeTerm) → result ≡ types.is_boolean (type_from known node.now) }
 {
@@ -149,6 +153,7 @@ pub fn is_memref(ctx: &Context, ty: TypeId) -> bool
     node_is_memref(type_of(ctx, ty))
 }
 
+/// Whether a type's node is a memref type.
 fn node_is_memref(node: &TypeNode) -> bool
     ensures { (known : List TypeTerm) → result ≡ types.is_memref (type_from known node.now) }
 {

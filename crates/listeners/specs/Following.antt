@@ -25,11 +25,13 @@ operands_in s x = option_map (λ (n : Node). n.head.operands) (option_map node_o
 abbrev pub HasNow : ℕ → List Value → List Use → List Use → Type 0
 HasNow x vs before after = in_order after ≡ in_order (operand_uses x 0 vs ++ others x before)
 
--- the uses before and after an event, where `operands` gives the operands of an operation: those of one that is put, or has
--- an operand set, take the place of what it had, and those of one that is taken go
+-- the uses before and after an event, where `operands` gives the operands of an operation: those of one that is put, or
+-- has an operand set, take the place of what it had, and those of one that is taken go
 abbrev pub IsFollowed : (ℕ → Option (List Value)) → Event → List Use → List Use → Type 0
-IsFollowed operands (Put x place fresh) before after = (vs : List Value) → operands x ≡ Some vs → HasNow x vs before after
+IsFollowed operands (Put x place fresh) before after = (vs : List Value) → operands x ≡ Some vs
+    → HasNow x vs before after
 IsFollowed operands (Take x place fresh) before after = in_order after ≡ in_order (others x before)
-IsFollowed operands (SetOperand x k old new) before after = (vs : List Value) → operands x ≡ Some vs → HasNow x vs before after
+IsFollowed operands (SetOperand x k old new) before after = (vs : List Value) → operands x ≡ Some vs
+    → HasNow x vs before after
 IsFollowed operands (SetEntry x part key old new) before after = after ≡ before
 IsFollowed operands (Shift x old new) before after = after ≡ before

@@ -10,7 +10,14 @@ use Rattle.listeners.specs.declared.key.Key.{Key}
 
 -- the key of a use
 abbrev pub key_of : Use → Key
-key_of u = record { owner = (owner_of u.value).0; region = (owner_of u.value).1; place = place_of u.value; user = u.user; operand = u.operand }
+key_of u =
+    record {
+      owner = (owner_of u.value).0;
+      region = (owner_of u.value).1;
+      place = place_of u.value;
+      user = u.user;
+      operand = u.operand;
+    }
 
 -- the keys of uses
 abbrev pub keys_of : List Use → List Key

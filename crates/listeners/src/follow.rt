@@ -14,7 +14,8 @@ use std::alloc::Global;
 
 /// Gives an operation the operands that the view shows. It is false where memory was refused, or it isn't shown.
 fn put(alloc: Global, table: &mut Table, view: &mut View<'_>, op: OpId) -> bool
-    ensures followed { (vs : List TreeValue) → operands_in view.old.world.now.store op ≡ Some vs → OnTrue result (HasNow op vs (table_uses table.old) (table_uses table.new)) }
+    ensures followed { (vs : List TreeValue) → operands_in view.old.world.now.store op ≡ Some vs
+        → OnTrue result (HasNow op vs (table_uses table.old) (table_uses table.new)) }
     ensures world { view.new.world.now ≡ view.old.world.now }
     ensures looks { view.new.looks ≡ one_more view.old.looks }
 {
@@ -27,7 +28,8 @@ fn put(alloc: Global, table: &mut Table, view: &mut View<'_>, op: OpId) -> bool
 /// Follows an event, with one look where an operation was put or an operand was set. It is false where memory was
 /// refused, which only these two events need.
 pub(crate) fn follow(alloc: Global, table: &mut Table, view: &mut View<'_>, event: &Event) -> bool
-    ensures followed { OnTrue result (IsFollowed (operands_in view.old.world.now.store) event.now (table_uses table.old) (table_uses table.new)) }
+    ensures followed { OnTrue result
+        (IsFollowed (operands_in view.old.world.now.store) event.now (table_uses table.old) (table_uses table.new)) }
     ensures grown { adds_no_use event.now ≡ true → result ≡ true }
     ensures looks { view.new.looks ≤ view.old.looks + 1 }
     ensures world { view.new.world.now ≡ view.old.world.now }

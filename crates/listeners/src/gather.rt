@@ -61,7 +61,8 @@ fn push_user(
     changed: &BTreeMap<OpId, Changed>,
     keys: &mut Vec<Key>,
 ) -> Result<(), AllocError>
-    ensures { OnOk result (keys.new.items ≡ keys.old.items ++ keys_of (only (is_unchanged changed.now) (user_uses user.now operands.now))) }
+    ensures { OnOk result (keys.new.items
+        ≡ keys.old.items ++ keys_of (only (is_unchanged changed.now) (user_uses user.now operands.now))) }
 {
     if !user.live || changed.contains_key(&user.id) {
         return Ok(());
@@ -77,7 +78,8 @@ pub(crate) fn push_listed(
     keys: &mut Vec<Key>,
 ) -> Result<(), AllocError>
     requires { operand_count users.now ≡ length operands.now }
-    ensures { OnOk result (keys.new.items ≡ keys.old.items ++ keys_of (only (is_unchanged changed.now) (listed_uses users.now operands.now))) }
+    ensures { OnOk result (keys.new.items
+        ≡ keys.old.items ++ keys_of (only (is_unchanged changed.now) (listed_uses users.now operands.now))) }
 {
     let mut rest = operands;
     for user in users {

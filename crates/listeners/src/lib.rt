@@ -13,3 +13,5 @@ mod user;
 pub mod uses;
 
 pub use listeners_symbols::symbols::Symbols;
+pub use listeners_unreached::list::unreached;
+pub use listeners_unreached::unreached::Unreached;

@@ -46,7 +46,8 @@ fn row(alloc: Global, key: &Key) -> Result<Row, AllocError>
 
 /// Adds the row of a key.
 fn push_row(alloc: Global, key: &Key, rows: &mut Vec<Row>) -> Result<(), AllocError>
-    ensures { OnOk result (map (λ (r : Line). r.cells.items) rows.new.items ≡ map (λ (r : Line). r.cells.items) rows.old.items ++ key_cells key.now ∷ []) }
+    ensures { OnOk result (map (λ (r : Line). r.cells.items) rows.new.items
+        ≡ map (λ (r : Line). r.cells.items) rows.old.items ++ key_cells key.now ∷ []) }
 {
     rows.push(row(alloc, key)?)?;
     Ok(())
@@ -65,7 +66,8 @@ fn rows_of_keys(alloc: Global, keys: &[Key]) -> Result<Vec<Row>, AllocError>
 
 /// The rows of a table, in order.
 pub(crate) fn rows_of_table(alloc: Global, table: &Table) -> Result<Vec<Row>, AllocError>
-    ensures { IfOk result (λ rows. map (λ (r : Line). r.cells.items) rows.items ≡ map key_cells (keys_of (in_order (table_uses table.now)))) }
+    ensures { IfOk result (λ rows. map (λ (r : Line). r.cells.items) rows.items
+        ≡ map key_cells (keys_of (in_order (table_uses table.now)))) }
 {
     let keys = sorted_keys(alloc, table)?;
     rows_of_keys(alloc, &keys)

@@ -33,7 +33,8 @@ impl Table {
 
     /// Gives an operation operands, in place of those that it had, if any. It is false where memory was refused.
     pub(crate) fn put(&mut self, alloc: Global, op: OpId, operands: &[Value]) -> bool
-        ensures { OnTrue result (in_order (table_uses self.new) ≡ in_order (operand_uses op 0 operands.now ++ others op (table_uses self.old))) }
+        ensures { OnTrue result (in_order (table_uses self.new)
+            ≡ in_order (operand_uses op 0 operands.now ++ others op (table_uses self.old))) }
     {
         let Ok(operands) = Vec::from_slice(alloc, operands) else {
             return false;

@@ -75,14 +75,21 @@ impl Analysis for Uses {
         }
     }
 
-    /// Where it agreed before an operation was taken or moved, or an entry was set, it agrees afterwards, and isn't stale.
+    /// Where it agreed before an operation was taken or moved, or an entry was set, it agrees afterwards, and isn't
+    /// stale.
     fn told<'a>(&mut self, view: View<'a>, event: Event) -> View<'a>
-        ensures told { Told event (things_in view.entry.world.now) (module_in view.entry.world.now) (shown_in view.entry.world.now) (uses_listener self.old) (uses_listener self.new) }
-        ensures looks { (m : Module) → Step (things_in view.entry.world.now) event m (module_in view.entry.world.now) → ShowsTaken event m (shown_in view.entry.world.now)
-            → ((uses_listener self.old).agrees (things_in view.entry.world.now) m ⊎ ((uses_listener self.old).stale ≡ true)) → result.looks ≤ view.entry.looks + (uses_listener self.old).most event m (module_in view.entry.world.now) }
+        ensures told { Told event (things_in view.entry.world.now) (module_in view.entry.world.now)
+            (shown_in view.entry.world.now) (uses_listener self.old) (uses_listener self.new) }
+        ensures looks { (m : Module) → Step (things_in view.entry.world.now) event m (module_in view.entry.world.now)
+            → ShowsTaken event m (shown_in view.entry.world.now)
+            → ((uses_listener self.old).agrees (things_in view.entry.world.now) m
+            ⊎ ((uses_listener self.old).stale ≡ true))
+            → result.looks ≤ view.entry.looks + (uses_listener self.old).most event m (module_in view.entry.world.now) }
         ensures world { result.world.now ≡ view.entry.world.now }
-        ensures grown { (m : Module) → adds_no_use event ≡ true → Step (things_in view.entry.world.now) event m (module_in view.entry.world.now) → ShowsTaken event m (shown_in view.entry.world.now)
-            → (uses_listener self.old).agrees (things_in view.entry.world.now) m → (uses_listener self.new).agrees (things_in view.entry.world.now) (module_in view.entry.world.now) }
+        ensures grown { (m : Module) → adds_no_use event ≡ true → Step (things_in view.entry.world.now) event m
+            (module_in view.entry.world.now) → ShowsTaken event m (shown_in view.entry.world.now)
+            → (uses_listener self.old).agrees (things_in view.entry.world.now) m
+            → (uses_listener self.new).agrees (things_in view.entry.world.now) (module_in view.entry.world.now) }
     {
         if self.stale {
             return view;

@@ -1,5 +1,6 @@
 -- Facts about the operations of a tree, where those that a test holds of are kept.
-use Rattle.std.specs.Prelude.{◌≡◌, ℕ, ◌+◌, ◌*◌, List, [], ◌∷◌, length, eqb, Bool, if◌then◌else◌, Option, Some, None, option_map, option_and_then}
+use Rattle.std.specs.Prelude.{◌≡◌, ℕ, ◌+◌, ◌*◌, List, [], ◌∷◌, length, eqb, Bool, if◌then◌else◌, Option, Some, None}
+use Rattle.std.specs.Prelude.{option_map, option_and_then}
 use Rattle.std.specs.List.{list_any, filter}
 use Rattle.std.specs.Ordering.{nat_cmp}
 use Rattle.std.specs.FinMap.Entries.{put}
@@ -35,7 +36,8 @@ abbrev pub Renewed : {F : Type 0} → (ℕ → Option F) → List ℕ → (ℕ �
 Renewed facts ys before after = (y : ℕ) → after y ≡ (if is_one_of y ys then facts y else before y)
 
 -- the facts about the operations that stand in a tree, in the order of their ids
-abbrev pub sorted_in : {N T A F : Type 0} → (SurroundingsOf N T A → F) → OpOf N T A → List (StandOf N T A) → List (ℕ × F)
+abbrev pub sorted_in : {N T A F : Type 0} → (SurroundingsOf N T A → F) → OpOf N T A → List (StandOf N T A)
+    → List (ℕ × F)
 sorted_in fact t [] = []
 sorted_in fact t (s ∷ ss) = put nat_cmp (stand_id s) (fact (surround t s)) (sorted_in fact t ss)
 

@@ -1,5 +1,6 @@
 -- What an operation is and has around it, as it is gathered.
-use Rattle.std.specs.Prelude.{if◌then◌else◌, ℕ, zero, suc, ◌+◌, ◌*◌, List, [], ◌∷◌, length, map, Option, Some, None, option_map, option_and_then, IfSome}
+use Rattle.std.specs.Prelude.{if◌then◌else◌, ℕ, zero, suc, ◌+◌, ◌*◌, List, [], ◌∷◌, length, map, Option, Some, None}
+use Rattle.std.specs.Prelude.{option_map, option_and_then, IfSome}
 use Rattle.std.specs.List.{All}
 use Rattle.ir_types.specs.Things.{Things, IsType}
 use Rattle.ir_tree.specs.Tree.{OpOf, Op, head, regions, region_count}

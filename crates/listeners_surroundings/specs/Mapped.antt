@@ -13,7 +13,8 @@ abbrev pub map_outer : {N T A M U B : Type 0} → (N → M) → (T → U) → (A
 map_outer f g h o = record { name = f o.name; ended = option_map (map_node f g h) o.ended }
 
 -- and all its surroundings
-abbrev pub map_surroundings : {N T A M U B : Type 0} → (N → M) → (T → U) → (A → B) → SurroundingsOf N T A → SurroundingsOf M U B
+abbrev pub map_surroundings : {N T A M U B : Type 0} → (N → M) → (T → U) → (A → B) → SurroundingsOf N T A
+    → SurroundingsOf M U B
 map_surroundings f g h s = record {
   node = map_node f g h s.node;
   lasts = map (option_map f) s.lasts;

@@ -31,7 +31,8 @@ near (Put x place fresh) t = x ∷ place.parent ∷ if_any (prev_of x t) []
 near (Take x place fresh) t = x ∷ place.parent ∷ if_any (last_at place.parent place.region t) []
 near (SetOperand x k old new) t = x ∷ lasts_in x t
 near (SetEntry x part key old new) t = x ∷ lasts_in x t
-near (Shift x old new) t = x ∷ old.parent ∷ new.parent ∷ if_any (last_at old.parent old.region t) (if_any (prev_of x t) [])
+near (Shift x old new) t =
+    x ∷ old.parent ∷ new.parent ∷ if_any (last_at old.parent old.region t) (if_any (prev_of x t) [])
 
 -- those that there are of a list
 abbrev pub somes : {X : Type 0} → List (Option X) → List X

@@ -8,7 +8,8 @@ ghost use Rattle.ir_event.specs.Modules.{module_in};
 ghost use Rattle.listeners_surroundings.specs.Surroundings.{SurroundingsOf};
 ghost use Rattle.listeners_surroundings.specs.Near.{near, somes, if_any, lasts_in};
 ghost use Rattle.listeners_surroundings.specs.Facts.{is_one_of, fact_of, if_kept, kept_of, Renewed, most_looks};
-ghost use Rattle.listeners_surroundings.specs.Gathered.{AroundIsOf, gathered_in, gather_looks, gathers_for, near_looks, regions_found, tree_in};
+ghost use Rattle.listeners_surroundings.specs.Gathered.{AroundIsOf, gathered_in, gather_looks, gathers_for, near_looks};
+ghost use Rattle.listeners_surroundings.specs.Gathered.{regions_found, tree_in};
 
 use crate::around::Around;
 use crate::gather::{around_of, gather, shown};
@@ -35,7 +36,8 @@ pub trait Fact: Drop {
 
     /// Whether a table may keep the fact about an operation with a name, whatever there is around it.
     fn concerns(ctx: &Context, name: NameId) -> bool
-        ensures { result ≡ false → (s : SurroundingsOf (List ℕ) TypeTerm AttrTerm) → s.node.head.name ≡ name_term ctx.now name → kept (fact s) ≡ false };
+        ensures { result ≡ false → (s : SurroundingsOf (List ℕ) TypeTerm AttrTerm)
+            → s.node.head.name ≡ name_term ctx.now name → kept (fact s) ≡ false };
 
     /// Whether a table keeps it.
     fn is_kept(&self) -> bool
@@ -90,7 +92,9 @@ pub(crate) fn renew<F: Fact>(
     view: &mut View<'_>,
     op: OpId,
 ) -> Result<(), AllocError>
-    ensures renewed { OnOk result (Renewed (kept_of F.fact F.kept (module_in view.old.world.now).tree) (op ∷ []) (get nat_cmp table.old) (get nat_cmp table.new)) }
+    ensures renewed { OnOk result
+        (Renewed (kept_of F.fact F.kept (module_in view.old.world.now).tree) (op ∷ []) (get nat_cmp table.old)
+        (get nat_cmp table.new)) }
     ensures looks { view.new.looks ≤ view.old.looks + gather_looks (find op (tree_in view.old.world.now)) }
     ensures world { view.new.world.now ≡ view.old.world.now }
 {
@@ -105,7 +109,8 @@ pub(crate) fn renew<F: Fact>(
     Ok(())
 }
 
-/// The same of an operation that there may be, where it isn't renewed later.
+/// Makes what is kept about an operation that there may be what it is in the module that the view shows, where it
+/// isn't renewed later.
 fn renew_first<F: Fact>(
     alloc: Global,
     table: &mut BTreeMap<u32, F>,
@@ -113,9 +118,13 @@ fn renew_first<F: Fact>(
     op: &Option<OpId>,
     later: &[Option<OpId>],
 ) -> Result<(), AllocError>
-    ensures renewed { OnOk result ((final : ℕ → Option F) → Renewed (kept_of F.fact F.kept (module_in view.old.world.now).tree) (somes later.now) (get nat_cmp table.new) final
-        → Renewed (kept_of F.fact F.kept (module_in view.old.world.now).tree) (if_any op.now (somes later.now)) (get nat_cmp table.old) final) }
-    ensures looks { view.new.looks + gathers_for (tree_in view.old.world.now) (somes later.now) ≤ view.old.looks + gathers_for (tree_in view.old.world.now) (if_any op.now (somes later.now)) }
+    ensures renewed { OnOk result
+        ((final : ℕ → Option F) → Renewed (kept_of F.fact F.kept (module_in view.old.world.now).tree) (somes later.now)
+        (get nat_cmp table.new) final
+        → Renewed (kept_of F.fact F.kept (module_in view.old.world.now).tree) (if_any op.now (somes later.now))
+        (get nat_cmp table.old) final) }
+    ensures looks { view.new.looks + gathers_for (tree_in view.old.world.now) (somes later.now)
+        ≤ view.old.looks + gathers_for (tree_in view.old.world.now) (if_any op.now (somes later.now)) }
     ensures world { view.new.world.now ≡ view.old.world.now }
 {
     let Some(op) = op else {
@@ -157,7 +166,9 @@ fn renew_each<F: Fact>(
     view: &mut View<'_>,
     ops: &[Option<OpId>],
 ) -> Result<(), AllocError>
-    ensures renewed { OnOk result (Renewed (kept_of F.fact F.kept (module_in view.old.world.now).tree) (somes ops.now) (get nat_cmp table.old) (get nat_cmp table.new)) }
+    ensures renewed { OnOk result
+        (Renewed (kept_of F.fact F.kept (module_in view.old.world.now).tree) (somes ops.now) (get nat_cmp table.old)
+        (get nat_cmp table.new)) }
     ensures looks { view.new.looks ≤ view.old.looks + gathers_for (tree_in view.old.world.now) (somes ops.now) }
     ensures world { view.new.world.now ≡ view.old.world.now }
 {
@@ -236,7 +247,9 @@ pub fn follow<F: Fact>(
     view: &mut View<'_>,
     event: &Event,
 ) -> Result<(), AllocError>
-    ensures renewed { OnOk result (Renewed (kept_of F.fact F.kept (module_in view.old.world.now).tree) (near event.now (module_in view.old.world.now).tree) (get nat_cmp table.old) (get nat_cmp table.new)) }
+    ensures renewed { OnOk result
+        (Renewed (kept_of F.fact F.kept (module_in view.old.world.now).tree)
+        (near event.now (module_in view.old.world.now).tree) (get nat_cmp table.old) (get nat_cmp table.new)) }
     ensures looks { view.new.looks ≤ view.old.looks + most_looks event.now (module_in view.old.world.now).tree }
     ensures world { view.new.world.now ≡ view.old.world.now }
 {

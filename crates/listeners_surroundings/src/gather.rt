@@ -1,5 +1,6 @@
 //! What an operation is and has around it is gathered from a view.
-ghost use Rattle.std.specs.Prelude.{◌≡◌, ◌≤◌, ◌<◌, ◌+◌, ◌*◌, ◌^◌, true, Some, None, IfOk, OnErr, IfSome, length, map, option_map, option_and_then};
+ghost use Rattle.std.specs.Prelude.{◌≡◌, ◌≤◌, ◌<◌, ◌+◌, ◌*◌, ◌^◌, true, Some, None, IfOk, OnErr, IfSome, length, map};
+ghost use Rattle.std.specs.Prelude.{option_map, option_and_then};
 ghost use Rattle.std.specs.List.{All};
 ghost use Rattle.ir_types.specs.Things.{IsType};
 ghost use Rattle.ir_tree.specs.Ids.{find, has_id};
@@ -8,7 +9,8 @@ ghost use Rattle.ir_event.specs.store.Stored.{known};
 ghost use Rattle.ir_tree_laws.specs.Values.{type_of_value, has_value};
 ghost use Rattle.ir_event.specs.Modules.{NodeIsOf};
 ghost use Rattle.listeners_surroundings.specs.Surroundings.{surroundings};
-ghost use Rattle.listeners_surroundings.specs.Gathered.{AroundIsOf, gathered, outer_in, tree_in, last_name_at, from_on, outer_at, gather_looks};
+ghost use Rattle.listeners_surroundings.specs.Gathered.{AroundIsOf, gathered, outer_in, tree_in, last_name_at, from_on};
+ghost use Rattle.listeners_surroundings.specs.Gathered.{outer_at, gather_looks};
 ghost use Rattle.listeners_surroundings.specs.declared.around.Outer.{Outer as GatheredOuter};
 
 use crate::around::{Around, Outer};
@@ -84,7 +86,8 @@ pub(crate) fn around_of<'a>(
 /// The types of the operands of an operation of the module.
 fn types_of(alloc: Global, view: &mut View<'_>, values: &[Value]) -> Result<Vec<TypeId>, AllocError>
     requires { All (λ v. has_value v (tree_in view.old.world.now) ≡ true) values.now }
-    ensures types { IfOk result (λ v. map Some v.items ≡ map (λ x. type_of_value x (tree_in view.old.world.now)) values.now) }
+    ensures types { IfOk result
+        (λ v. map Some v.items ≡ map (λ x. type_of_value x (tree_in view.old.world.now)) values.now) }
     ensures known { IfOk result (λ v. All (λ t. IsType view.old.world.now.ctx t) v.items) }
     ensures looks { view.new.looks ≤ view.old.looks + length values.now }
     ensures world { view.new.world.now ≡ view.old.world.now }

@@ -32,7 +32,9 @@ fn renew_all<F: Fact>(
     view: &mut View<'_>,
     ops: &[OpId],
 ) -> Result<(), AllocError>
-    ensures renewed { OnOk result (Renewed (kept_of F.fact F.kept (module_in view.old.world.now).tree) ops.now (get nat_cmp table.old) (get nat_cmp table.new)) }
+    ensures renewed { OnOk result
+        (Renewed (kept_of F.fact F.kept (module_in view.old.world.now).tree) ops.now (get nat_cmp table.old)
+        (get nat_cmp table.new)) }
     ensures world { view.new.world.now ≡ view.old.world.now }
 {
     for op in ops {
@@ -68,7 +70,8 @@ impl<F: Fact> Kept<F> {
 
     /// Begins anew with a module. Refused for want of memory, it is stale.
     pub fn begin(&mut self, world: &World) -> Result<(), Memory>
-        ensures ok { OnOk result ((self.new.stale ≡ false) × Keeps F.fact F.kept (module_in world.now).tree (get nat_cmp self.new.table)) }
+        ensures ok { OnOk result
+            ((self.new.stale ≡ false) × Keeps F.fact F.kept (module_in world.now).tree (get nat_cmp self.new.table)) }
         ensures err { OnErr result (self.new.stale ≡ true) }
     {
         // What was kept goes first, so that there is room for what is kept now.
@@ -86,7 +89,8 @@ impl<F: Fact> Kept<F> {
     pub fn told<'a>(&mut self, view: View<'a>, event: Event) -> View<'a>
         ensures agrees { (m : Module) → Step (things_in view.entry.world.now) event m (module_in view.entry.world.now)
             → (self.old.stale ≡ false) × Keeps F.fact F.kept m.tree (get nat_cmp self.old.table)
-            → ((self.new.stale ≡ false) × Keeps F.fact F.kept (module_in view.entry.world.now).tree (get nat_cmp self.new.table)) ⊎ (self.new.stale ≡ true) }
+            → ((self.new.stale ≡ false) × Keeps F.fact F.kept (module_in view.entry.world.now).tree
+            (get nat_cmp self.new.table)) ⊎ (self.new.stale ≡ true) }
         ensures stale { self.old.stale ≡ true → self.new.stale ≡ true }
         ensures looks { result.looks ≤ view.entry.looks + most_looks event (module_in view.entry.world.now).tree }
         ensures world { result.world.now ≡ view.entry.world.now }
@@ -108,7 +112,8 @@ impl<F: Fact> Kept<F> {
     /// order.
     pub fn facts(&self) -> &BTreeMap<u32, F>
         ensures is { result.now ≡ self.now.table }
-        ensures in_order { (t : Operation) → Keeps F.fact F.kept t (get nat_cmp self.now.table) → result.now.entries ≡ kept_facts F.fact F.kept t }
+        ensures in_order { (t : Operation) → Keeps F.fact F.kept t (get nat_cmp self.now.table)
+            → result.now.entries ≡ kept_facts F.fact F.kept t }
     {
         // By its length the prover knows that the keys rise.
         let _ = self.table.len();

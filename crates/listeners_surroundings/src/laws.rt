@@ -16,25 +16,31 @@ ghost use Rattle.listeners_surroundings.specs.Mapped.{map_surroundings};
 
 /// An event that leads from one module to another leaves the surroundings of each operation that isn't near it.
 pub fn far_operations_keep_their_surroundings()
-    ensures { (c : Things) (e : Edit) (m n : Module) → Step c e m n → (y : ℕ) → is_one_of y (near e n.tree) ≡ false → surroundings y n.tree ≡ surroundings y m.tree }
+    ensures { (c : Things) (e : Edit) (m n : Module) → Step c e m n → (y : ℕ) → is_one_of y (near e n.tree) ≡ false
+        → surroundings y n.tree ≡ surroundings y m.tree }
 {}
 
 /// A table of facts that are read off surroundings, where what is kept about the operations near an event was renewed,
 /// keeps the facts of the module after it.
 pub fn renewed_tables_keep<F>()
-    ensures { (fact : SurroundingsOf (List ℕ) TypeTerm AttrTerm → F) (is_kept : F → Bool) (c : Things) (e : Edit) (m n : Module) (before after : ℕ → Option F)
-        → Step c e m n → Keeps fact is_kept m.tree before → Renewed (kept_of fact is_kept n.tree) (near e n.tree) before after → Keeps fact is_kept n.tree after }
+    ensures { (fact : SurroundingsOf (List ℕ) TypeTerm AttrTerm → F) (is_kept : F → Bool) (c : Things) (e : Edit)
+        (m n : Module) (before after : ℕ → Option F)
+        → Step c e m n → Keeps fact is_kept m.tree before
+        → Renewed (kept_of fact is_kept n.tree) (near e n.tree) before after → Keeps fact is_kept n.tree after }
 {}
 
 /// A table in the order of ids that keeps the facts of a tree has them in that order, so its rows are those of
 /// the tree.
 pub fn kept_facts_are_in_order<F>()
-    ensures { (fact : SurroundingsOf (List ℕ) TypeTerm AttrTerm → F) (is_kept : F → Bool) (t : Operation) (es : List (ℕ × F)) → IsTrue (is_sorted nat_cmp es) → Keeps fact is_kept t (λ q. look_up nat_cmp q es) → es ≡ kept_facts fact is_kept t }
+    ensures { (fact : SurroundingsOf (List ℕ) TypeTerm AttrTerm → F) (is_kept : F → Bool) (t : Operation)
+        (es : List (ℕ × F)) → IsTrue (is_sorted nat_cmp es) → Keeps fact is_kept t (λ q. look_up nat_cmp q es)
+        → es ≡ kept_facts fact is_kept t }
 {}
 
 /// The surroundings in what a tree of numbers stands for are what those in the tree stand for, and the operations
 /// near an event are the same.
 pub fn surroundings_have_a_meaning()
-    ensures around { (c : Things) (x : ℕ) (t : Op) → surroundings x (meaning c t) ≡ option_map (map_surroundings (name_term c) (type_term c) (attr_term c)) (surroundings x t) }
+    ensures around { (c : Things) (x : ℕ) (t : Op) → surroundings x (meaning c t)
+        ≡ option_map (map_surroundings (name_term c) (type_term c) (attr_term c)) (surroundings x t) }
     ensures near { (c : Things) (e : Edit) (t : Op) → near e (meaning c t) ≡ near e t }
 {}

@@ -19,7 +19,8 @@ use ir_types::word::Word;
 /// The attribute at a key of a dictionary, if there is one.
 pub fn entry(ctx: &Context, entries: &[(NameId, AttrId)], key: Word) -> Option<AttrId>
     requires { All (λ e. IsName ctx.now e.0 × IsAttr ctx.now e.1) entries.now }
-    ensures entry { option_map (attr_term ctx.now) result ≡ beside (word_bytes key) (map (map_entry (name_term ctx.now) (attr_term ctx.now)) entries.now) }
+    ensures entry { option_map (attr_term ctx.now) result
+        ≡ beside (word_bytes key) (map (map_entry (name_term ctx.now) (attr_term ctx.now)) entries.now) }
     ensures attr { IfSome result (λ a. IsAttr ctx.now a) }
 {
     let mut rest = entries;
@@ -50,7 +51,8 @@ pub fn string_of(ctx: &Context, attr: AttrId) -> Option<NameId>
 }
 
 fn string_in(node: &AttrNode) -> Option<NameId>
-    ensures string { (names : List (List ℕ)) (types : List TypeTerm) (attrs : List AttrTerm) → option_map (λ n. slice_index_or names n []) result ≡ properties.string_of (attr_from names types attrs node.now) }
+    ensures string { (names : List (List ℕ)) (types : List TypeTerm) (attrs : List AttrTerm) → option_map
+        (λ n. slice_index_or names n []) result ≡ properties.string_of (attr_from names types attrs node.now) }
     ensures known { (c : Things) → AttrIsOf c node.now → IfSome result (λ n. IsName c n) }
 {
     match node {

@@ -25,5 +25,9 @@ symbols_listener s = record {
   heard = None;
   most = λ e m n. 2 + operands_of e m n;
   fresh = λ c m h. h.0;
-  grows = λ c d m holds also g h. (h.0, record { from = h.1.from; sound = h.1.sound; grown = grows_trans h.1.from c d h.1.grown g; keeps = h.1.keeps });
+  grows =
+      λ c d m holds also g h. (
+        h.0,
+        record { from = h.1.from; sound = h.1.sound; grown = grows_trans h.1.from c d h.1.grown g; keeps = h.1.keeps },
+      );
 }

@@ -1,10 +1,13 @@
 -- What the operations of a tree have to do with symbols: where they stand among symbol tables, which symbols they are,
 -- which they refer to, and what they call (Symbols and Symbol Tables).
-use Rattle.std.specs.Prelude.{ℕ, List, [], ◌∷◌, ◌++◌, map, codes, Bool, false, ◌||◌, if◌then◌else◌, Option, Some, None, option_map, option_and_then}
+use Rattle.std.specs.Prelude.{ℕ, List, [], ◌∷◌, ◌++◌, map, codes, Bool, false, ◌||◌, if◌then◌else◌, Option, Some, None}
+use Rattle.std.specs.Prelude.{option_map, option_and_then}
 use Rattle.std.specs.List.{list_any}
 use Rattle.std.specs.Str.{bytes_eq}
 use Rattle.std.specs.Cmp.Lexicographic.{pointwise}
-use Rattle.ir_types.specs.Terms.{TypeTerm, AttrTerm, IntegerOf, String, TypeOf, Flag, Array, Dictionary, Symbol, DenseArray, Overflow, AttrTerms, no_attrs, next_attr, EntryTerms, no_entries, next_entry}
+use Rattle.ir_types.specs.Terms.{TypeTerm, AttrTerm, IntegerOf, String, TypeOf, Flag, Array, Dictionary, Symbol}
+use Rattle.ir_types.specs.Terms.{DenseArray, Overflow, AttrTerms, no_attrs, next_attr, EntryTerms, no_entries}
+use Rattle.ir_types.specs.Terms.{next_entry}
 use Rattle.ir_types.specs.Words.{is_table}
 use Rattle.ir_tree.specs.Tree.{HeadOf, head}
 use Rattle.ir_tree.specs.Meaning.{Operation}
@@ -18,7 +21,8 @@ use Rattle.ir_types.specs.SameTypes.{function_of}
 abbrev pub ReferenceOf : Type 0 → Type 0 → Type 0
 ReferenceOf N A = A × List N
 
--- a call: the parts of the symbol that it calls, the types of its operands, as far as these have one, and of its results
+-- a call: the parts of the symbol that it calls, the types of its operands, as far as these have one, and of its
+-- results
 pub record CallOf (N T : Type 0) : Type 0 where
   pub callee : List N
   pub inputs : List (Option T)
@@ -62,7 +66,9 @@ abbrev pub is_call : List ℕ → Bool
 is_call name = bytes_eq name (codes "func.call")
 
 abbrev pub symbol_of : Head → Option (List ℕ)
-symbol_of h = if is_table h.name || is_function h.name then option_and_then string_of (beside (codes "sym_name") h.properties) else None
+symbol_of h =
+    if is_table h.name || is_function h.name then option_and_then string_of (beside (codes "sym_name") h.properties)
+    else None
 
 -- whether a visibility is private
 abbrev pub says_private : Option (List ℕ) → Bool
@@ -75,7 +81,9 @@ is_private h = says_private (option_and_then string_of (beside (codes "sym_visib
 
 -- the inputs and outputs of a function, by its `function_type`
 abbrev pub signature_of : Head → Option (List TypeTerm × List TypeTerm)
-signature_of h = if is_function h.name then option_and_then function_of (option_and_then type_of (beside (codes "function_type") h.properties)) else None
+signature_of h =
+    if is_function h.name
+    then option_and_then function_of (option_and_then type_of (beside (codes "function_type") h.properties)) else None
 
 -- the parts of a symbol reference
 abbrev pub parts_of : AttrTerm → Option (List (List ℕ))
@@ -162,7 +170,9 @@ role_from parent home table h types = record {
 
 -- the role of an operation where it stands in a tree
 abbrev pub role : Operation → Stand → Role
-role t s = role_from (parent_in s.path) (home_of s.path) (table_at (head s.here) s.path) (head s.here) (map (λ v. type_of_value v t) (head s.here).operands)
+role t s =
+    role_from (parent_in s.path) (home_of s.path) (table_at (head s.here) s.path) (head s.here)
+    (map (λ v. type_of_value v t) (head s.here).operands)
 
 -- that of operation x, if it is there
 abbrev pub role_of : Operation → ℕ → Option Role

@@ -1,5 +1,6 @@
 -- The analysis: which symbols are defined, and what the references to symbols resolve to (Symbols and Symbol Tables).
-use Rattle.std.specs.Prelude.{ℕ, List, [], ◌∷◌, ◌++◌, map, eqb, Bool, true, false, ◌&&◌, not, if◌then◌else◌, Option, Some, None}
+use Rattle.std.specs.Prelude.{ℕ, List, [], ◌∷◌, ◌++◌, map, eqb, Bool, true, false, ◌&&◌, not, if◌then◌else◌, Option}
+use Rattle.std.specs.Prelude.{Some, None}
 use Rattle.std.specs.Ordering.{nat_cmp}
 use Rattle.std.specs.FinMap.Entries.{put}
 use Rattle.std.specs.Str.{bytes_eq}
@@ -65,7 +66,8 @@ module _ {N : Type 0} (same_name : N → N → Bool) where
   -- the operation that a name is in a table: of several definitions that with the lowest id counts
   abbrev pub first_defined : ℕ → N → List (DefinitionOf N) → Option ℕ
   first_defined table name [] = None
-  first_defined table name (d ∷ ds) = if eqb d.0.0 table && same_name d.0.1 name then Some d.1 else first_defined table name ds
+  first_defined table name (d ∷ ds) =
+      if eqb d.0.0 table && same_name d.0.1 name then Some d.1 else first_defined table name ds
 
   -- whether a definition isn't the one that counts
   abbrev pub is_duplicate : List (DefinitionOf N) → DefinitionOf N → Bool
@@ -96,9 +98,12 @@ definition_lines [] = []
 definition_lines (d ∷ ds) = Definition d.0.0 d.0.1 d.1 ∷ definition_lines ds
 
 -- those of duplicates among all definitions
-abbrev pub duplicate_lines : {N A : Type 0} → (N → N → Bool) → List (DefinitionOf N) → List (DefinitionOf N) → List (LineOf N A)
+abbrev pub duplicate_lines : {N A : Type 0} → (N → N → Bool) → List (DefinitionOf N) → List (DefinitionOf N)
+    → List (LineOf N A)
 duplicate_lines same_name all [] = []
-duplicate_lines same_name all (d ∷ ds) = if is_duplicate same_name all d then Duplicate d.0.0 d.0.1 d.1 ∷ duplicate_lines same_name all ds else duplicate_lines same_name all ds
+duplicate_lines same_name all (d ∷ ds) =
+    if is_duplicate same_name all d then Duplicate d.0.0 d.0.1 d.1 ∷ duplicate_lines same_name all ds
+    else duplicate_lines same_name all ds
 
 -- the row of a reference of operation y, among those that resolve, or among the others
 abbrev pub reference_line : {N A : Type 0} → Bool → ℕ → A → Option ℕ → List (LineOf N A)
@@ -108,35 +113,49 @@ reference_line false y p (Some x) = []
 reference_line false y p None = Unresolved y p ∷ []
 
 -- the rows of an operation's references
-abbrev pub reference_lines : {N T A : Type 0} → (N → N → Bool) → RoleAt N T A → List (DefinitionOf N) → Bool → ℕ → Option ℕ → List (ReferenceOf N A) → List (LineOf N A)
+abbrev pub reference_lines : {N T A : Type 0} → (N → N → Bool) → RoleAt N T A → List (DefinitionOf N) → Bool → ℕ
+    → Option ℕ → List (ReferenceOf N A) → List (LineOf N A)
 reference_lines same_name roles ds resolved y table [] = []
-reference_lines same_name roles ds resolved y table (p ∷ ps) = reference_line resolved y p.0 (resolve same_name roles ds table p.1) ++ reference_lines same_name roles ds resolved y table ps
+reference_lines same_name roles ds resolved y table (p ∷ ps) =
+    reference_line resolved y p.0 (resolve same_name roles ds table p.1)
+    ++ reference_lines same_name roles ds resolved y table ps
 
-abbrev pub all_reference_lines : {N T A : Type 0} → (N → N → Bool) → RoleAt N T A → List (DefinitionOf N) → Bool → RolesOf N T A → List (LineOf N A)
+abbrev pub all_reference_lines : {N T A : Type 0} → (N → N → Bool) → RoleAt N T A → List (DefinitionOf N) → Bool
+    → RolesOf N T A → List (LineOf N A)
 all_reference_lines same_name roles ds resolved [] = []
-all_reference_lines same_name roles ds resolved (e ∷ es) = reference_lines same_name roles ds resolved e.0 e.1.table e.1.references ++ all_reference_lines same_name roles ds resolved es
+all_reference_lines same_name roles ds resolved (e ∷ es) =
+    reference_lines same_name roles ds resolved e.0 e.1.table e.1.references
+    ++ all_reference_lines same_name roles ds resolved es
 
 -- the row of a call of operation y that resolves to what isn't a function of its types
-abbrev pub mismatch_line : {N T A : Type 0} → (T → T → Bool) → RoleAt N T A → ℕ → CallOf N T → Option ℕ → List (LineOf N A)
+abbrev pub mismatch_line : {N T A : Type 0} → (T → T → Bool) → RoleAt N T A → ℕ → CallOf N T → Option ℕ
+    → List (LineOf N A)
 mismatch_line same roles y call None = []
 mismatch_line same roles y call (Some x) = if fits same call (function_at (roles x)) then [] else Mismatch y x ∷ []
 
-abbrev pub call_line : {N T A : Type 0} → (N → N → Bool) → (T → T → Bool) → RoleAt N T A → List (DefinitionOf N) → ℕ → Option ℕ → Option (CallOf N T) → List (LineOf N A)
+abbrev pub call_line : {N T A : Type 0} → (N → N → Bool) → (T → T → Bool) → RoleAt N T A → List (DefinitionOf N) → ℕ
+    → Option ℕ → Option (CallOf N T) → List (LineOf N A)
 call_line same_name same roles ds y table None = []
-call_line same_name same roles ds y table (Some call) = mismatch_line same roles y call (resolve same_name roles ds table call.callee)
+call_line same_name same roles ds y table (Some call) =
+    mismatch_line same roles y call (resolve same_name roles ds table call.callee)
 
-abbrev pub mismatch_lines : {N T A : Type 0} → (N → N → Bool) → (T → T → Bool) → RoleAt N T A → List (DefinitionOf N) → RolesOf N T A → List (LineOf N A)
+abbrev pub mismatch_lines : {N T A : Type 0} → (N → N → Bool) → (T → T → Bool) → RoleAt N T A → List (DefinitionOf N)
+    → RolesOf N T A → List (LineOf N A)
 mismatch_lines same_name same roles ds [] = []
-mismatch_lines same_name same roles ds (e ∷ es) = call_line same_name same roles ds e.0 e.1.table e.1.call ++ mismatch_lines same_name same roles ds es
+mismatch_lines same_name same roles ds (e ∷ es) =
+    call_line same_name same roles ds e.0 e.1.table e.1.call ++ mismatch_lines same_name same roles ds es
 
 -- the rows: definitions, duplicates, references that resolve and that don't, and mismatches of calls
-abbrev pub lines_with : {N T A : Type 0} → (N → N → Bool) → (T → T → Bool) → RoleAt N T A → List (DefinitionOf N) → RolesOf N T A → List (LineOf N A)
+abbrev pub lines_with : {N T A : Type 0} → (N → N → Bool) → (T → T → Bool) → RoleAt N T A → List (DefinitionOf N)
+    → RolesOf N T A → List (LineOf N A)
 lines_with same_name same roles ds es =
     definition_lines ds
     ++ (duplicate_lines same_name ds ds
-    ++ (all_reference_lines same_name roles ds true es ++ (all_reference_lines same_name roles ds false es ++ mismatch_lines same_name same roles ds es)))
+    ++ (all_reference_lines same_name roles ds true es
+    ++ (all_reference_lines same_name roles ds false es ++ mismatch_lines same_name same roles ds es)))
 
-abbrev pub symbol_lines : {N T A : Type 0} → (N → N → Bool) → (T → T → Bool) → RoleAt N T A → RolesOf N T A → List (LineOf N A)
+abbrev pub symbol_lines : {N T A : Type 0} → (N → N → Bool) → (T → T → Bool) → RoleAt N T A → RolesOf N T A
+    → List (LineOf N A)
 symbol_lines same_name same roles es = lines_with same_name same roles (definitions es) es
 
 -- the symbols of a tree

@@ -1,5 +1,6 @@
 -- Roles in numbers of a context, and tables of them.
-use Rattle.std.specs.Prelude.{◌≡◌, ◌⊎◌, ℕ, List, map, eqb, Bool, true, false, if◌then◌else◌, Option, Some, None, option_map, is_some, IfSome}
+use Rattle.std.specs.Prelude.{◌≡◌, ◌⊎◌, ℕ, List, map, eqb, Bool, true, false, if◌then◌else◌, Option, Some, None}
+use Rattle.std.specs.Prelude.{option_map, is_some, IfSome}
 use Rattle.std.specs.List.{All, list_any}
 use Rattle.ir_types.specs.Things.{Things, IsName, IsType, IsAttr, Grows}
 use Rattle.ir_types.specs.Terms.{TypeTerm, AttrTerm, name_term, type_term, attr_term}
@@ -125,7 +126,8 @@ pub record IsKept (c : Things) (t : Operation) (table : Table) : Type 0 where
 
 -- what a table says of x, whatever it says of the operations that x isn't in, is right
 abbrev pub IsRight : Things → Operation → ℕ → Table → Option Numbers → Type 0
-IsRight c t x table kept = has_id x t ≡ true → ((p : ℕ) → parent_of x t ≡ Some p → Says c (role_of t p) (table p)) → Says c (role_of t x) kept
+IsRight c t x table kept = has_id x t ≡ true → ((p : ℕ) → parent_of x t ≡ Some p → Says c (role_of t p) (table p))
+    → Says c (role_of t x) kept
 
 -- a table where what is said of x is right, where what was said of the operation around it is, which was there
 pub record Renewed (c : Things) (t : Operation) (x : ℕ) (before after : Table) : Type 0 where
@@ -140,7 +142,8 @@ AreRight c t table = (x : ℕ) (r : Numbers) → table x ≡ Some r → Says c (
 
 -- a table with the roles of more operations of a tree
 pub record Added (c : Things) (t : Operation) (xs : List ℕ) (before after : Table) : Type 0 where
-  pub right : ((x : ℕ) → list_any (λ y. eqb y x) xs ≡ true → has_id x t ≡ true) → AreRight c t before → AreRight c t after
+  pub right : ((x : ℕ) → list_any (λ y. eqb y x) xs ≡ true → has_id x t ≡ true) → AreRight c t before
+      → AreRight c t after
   pub there : (x : ℕ) → list_any (λ y. eqb y x) xs ≡ true → is_some (after x) ≡ true
   pub others : (x : ℕ) → list_any (λ y. eqb y x) xs ≡ false → after x ≡ before x
 
@@ -166,15 +169,22 @@ Followed c t (Shift x old new) = Renewed c t x
 
 -- the tables of an operation that stands in operation p, of which this is kept
 abbrev pub tables_in : ℕ → Numbers → Tables
-tables_in p r = record { parent = Some p; home = if r.is_table then Some p else None; table = if r.is_table then Some p else r.table }
+tables_in p r =
+    record {
+      parent = Some p;
+      home = if r.is_table then Some p else None;
+      table = if r.is_table then Some p else r.table;
+    }
 
 -- those of an operation x whose parent, if it has one, is this
 abbrev pub tables_for : Table → ℕ → Bool → Option ℕ → Option Tables
-tables_for table x is_table None = Some (record { parent = None; home = None; table = if is_table then Some x else None })
+tables_for table x is_table None =
+    Some (record { parent = None; home = None; table = if is_table then Some x else None })
 tables_for table x is_table (Some p) = option_map (tables_in p) (table p)
 
 -- what is read of an operation that has these tables, with the types of its operands
-pub record IsReadAs (c : Things) (h : Head) (types : List (Option TypeTerm)) (tables : Tables) (r : Numbers) : Type 0 where
+pub record IsReadAs (c : Things) (h : Head) (types : List (Option TypeTerm)) (tables : Tables)
+    (r : Numbers) : Type 0 where
   pub is : role_meaning c r ≡ role_from tables.parent tables.home tables.table h types
   pub known : RoleIsOf c r
 

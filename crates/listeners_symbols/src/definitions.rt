@@ -79,7 +79,8 @@ fn add_first(
     definition: &Definition,
     first: &mut BTreeMap<(OpId, NameId), OpId>,
 ) -> Result<(), AllocError>
-    ensures { OnOk result ((table name : ℕ) → first_in first.new table name ≡ first_of (first_in first.old table name) (first_defined eqb table name (definition.now ∷ []))) }
+    ensures { OnOk result ((table name : ℕ) → first_in first.new table name
+        ≡ first_of (first_in first.old table name) (first_defined eqb table name (definition.now ∷ []))) }
 {
     let (key, op) = *definition;
     if first.get(&key).is_some() {

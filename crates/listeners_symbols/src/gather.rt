@@ -1,5 +1,6 @@
 //! What an operation has to do with symbols is gathered from a view, with at most two looks and one for each operand.
-ghost use Rattle.std.specs.Prelude.{◌≡◌, ◌≤◌, ◌+◌, ℕ, List, Option, Some, true, IfOk, IfSome, is_some, length, map, option_map};
+ghost use Rattle.std.specs.Prelude.{◌≡◌, ◌≤◌, ◌+◌, ℕ, List, Option, Some, true, IfOk, IfSome, is_some, length, map};
+ghost use Rattle.std.specs.Prelude.{option_map};
 ghost use Rattle.std.specs.List.{All};
 ghost use Rattle.ir_types.specs.Things.{IsName, IsType};
 ghost use Rattle.ir_types.specs.Terms.{TypeTerm, type_term, name_term};
@@ -11,7 +12,8 @@ ghost use Rattle.ir_event.specs.Bounds.{operand_count};
 ghost use Rattle.ir_event.specs.Modules.{NodeIsOf, module_in};
 ghost use Rattle.listeners_symbols.specs.Roles.{call_of as call_from};
 ghost use Rattle.listeners_symbols.specs.Listeners.{kept_at};
-ghost use Rattle.listeners_symbols.specs.Table.{CallIsOf, IsReadAs, IsRight, call_meaning, head_meaning, tables_for, tables_in, tree_in};
+ghost use Rattle.listeners_symbols.specs.Table.{CallIsOf, IsReadAs, IsRight, call_meaning, head_meaning, tables_for};
+ghost use Rattle.listeners_symbols.specs.Table.{tables_in, tree_in};
 
 use crate::properties::{callee_of, function_of, is_private, symbol_of};
 use crate::references::references_of;
@@ -66,7 +68,8 @@ fn tables_of(
 
 /// The types of the operands of an operation of the module.
 fn types_of(alloc: Global, view: &mut View<'_>, values: &[Value]) -> Result<Vec<TypeId>, AllocError>
-    ensures types { IfOk result (λ v. map Some v.items ≡ map (λ x. type_of_value x (tree_in view.old.world.now)) values.now) }
+    ensures types { IfOk result
+        (λ v. map Some v.items ≡ map (λ x. type_of_value x (tree_in view.old.world.now)) values.now) }
     ensures known { IfOk result (λ v. All (λ t. IsType view.old.world.now.ctx t) v.items) }
     ensures looks { view.new.looks ≤ view.old.looks + length values.now }
     ensures world { view.new.world.now ≡ view.old.world.now }
@@ -98,7 +101,13 @@ fn call_with(
 ) -> Result<Call, AllocError>
     requires node { NodeIsOf view.old.world.now.ctx node.now }
     requires callee { All (IsName view.old.world.now.ctx) callee.now }
-    ensures call { IfOk result (λ k. call_meaning view.old.world.now.ctx k ≡ record { callee = map (name_term view.old.world.now.ctx) callee.now; inputs = map (λ v. type_of_value v (module_in view.old.world.now).tree) node.now.head.operands; outputs = map (type_term view.old.world.now.ctx) node.now.head.results }) }
+    ensures call { IfOk result
+        (λ k. call_meaning view.old.world.now.ctx k
+        ≡ record {
+          callee = map (name_term view.old.world.now.ctx) callee.now;
+          inputs = map (λ v. type_of_value v (module_in view.old.world.now).tree) node.now.head.operands;
+          outputs = map (type_term view.old.world.now.ctx) node.now.head.results;
+        }) }
     ensures known { IfOk result (CallIsOf view.old.world.now.ctx) }
     ensures looks { view.new.looks ≤ view.old.looks + length node.now.head.operands }
     ensures world { view.new.world.now ≡ view.old.world.now }
@@ -116,7 +125,10 @@ fn call_with(
 /// The call of an operation, where it calls a symbol.
 fn call_of(alloc: Global, view: &mut View<'_>, node: &Node<'_>) -> Result<Option<Call>, AllocError>
     requires { NodeIsOf view.old.world.now.ctx node.now }
-    ensures call { IfOk result (λ k. option_map (call_meaning view.old.world.now.ctx) k ≡ call_from (head_meaning view.old.world.now.ctx node.now.head) (map (λ v. type_of_value v (module_in view.old.world.now).tree) node.now.head.operands)) }
+    ensures call { IfOk result
+        (λ k. option_map (call_meaning view.old.world.now.ctx) k
+        ≡ call_from (head_meaning view.old.world.now.ctx node.now.head)
+        (map (λ v. type_of_value v (module_in view.old.world.now).tree) node.now.head.operands)) }
     ensures known { IfOk result (λ k. IfSome k (CallIsOf view.old.world.now.ctx)) }
     ensures looks { view.new.looks ≤ view.old.looks + length node.now.head.operands }
     ensures world { view.new.world.now ≡ view.old.world.now }
@@ -137,7 +149,9 @@ fn role_with(
 ) -> Result<Role, AllocError>
     requires node { NodeIsOf ctx.now node.now }
     requires call { IfSome call (CallIsOf ctx.now) }
-    ensures { IfOk result (λ r. (types : List (Option TypeTerm)) → option_map (call_meaning ctx.now) call ≡ call_from (head_meaning ctx.now node.now.head) types → IsReadAs ctx.now (head_meaning ctx.now node.now.head) types tables.now r) }
+    ensures { IfOk result (λ r. (types : List (Option TypeTerm))
+        → option_map (call_meaning ctx.now) call ≡ call_from (head_meaning ctx.now node.now.head) types
+        → IsReadAs ctx.now (head_meaning ctx.now node.now.head) types tables.now r) }
 {
     let references = references_of(alloc, ctx, node)?;
     let function = function_of(alloc, ctx, node)?;
@@ -164,8 +178,11 @@ pub(crate) fn gather(
     node: &Node<'_>,
 ) -> Result<Role, AllocError>
     requires { option_map node_of (known op view.old.world.now.store) ≡ Some node.now }
-    ensures parent { IfOk result (λ _. (p : ℕ) → parent_of op (module_in view.old.world.now).tree ≡ Some p → is_some (kept_at roles.now p) ≡ true) }
-    ensures role { IfOk result (λ r. IsRight view.old.world.now.ctx (module_in view.old.world.now).tree op (kept_at roles.now) (Some r)) }
+    ensures parent { IfOk result
+        (λ _. (p : ℕ) → parent_of op (module_in view.old.world.now).tree ≡ Some p
+        → is_some (kept_at roles.now p) ≡ true) }
+    ensures role { IfOk result
+        (λ r. IsRight view.old.world.now.ctx (module_in view.old.world.now).tree op (kept_at roles.now) (Some r)) }
     ensures looks { view.new.looks ≤ view.old.looks + (1 + operand_count (known op view.old.world.now.store)) }
     ensures world { view.new.world.now ≡ view.old.world.now }
 {

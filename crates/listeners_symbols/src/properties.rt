@@ -38,7 +38,8 @@ pub(crate) fn symbol_of(ctx: &Context, node: &Node<'_>) -> Option<NameId>
 /// The visibility of an operation as a symbol, if it says one.
 fn visibility_of(ctx: &Context, node: &Node<'_>) -> Option<NameId>
     requires { NodeIsOf ctx.now node.now }
-    ensures { option_map (name_term ctx.now) result ≡ option_and_then properties.string_of (beside (word_bytes Word.SymVisibility) (head_meaning ctx.now node.now.head).properties) }
+    ensures { option_map (name_term ctx.now) result ≡ option_and_then properties.string_of
+        (beside (word_bytes Word.SymVisibility) (head_meaning ctx.now node.now.head).properties) }
 {
     let attr = entry(ctx, node.properties(), Word::SymVisibility)?;
     string_of(ctx, attr)
@@ -65,7 +66,8 @@ pub(crate) fn is_private(ctx: &Context, node: &Node<'_>) -> bool
 /// The parts of the symbol that an operation calls, if it calls one.
 pub(crate) fn callee_of<'a>(ctx: &'a Context, node: &Node<'_>) -> Option<&'a [NameId]>
     requires { NodeIsOf ctx.now node.now }
-    ensures parts { option_map (λ parts. map (name_term ctx.now) parts.now) result ≡ roles.callee_of (head_meaning ctx.now node.now.head) }
+    ensures parts { option_map (λ parts. map (name_term ctx.now) parts.now) result
+        ≡ roles.callee_of (head_meaning ctx.now node.now.head) }
     ensures known { IfSome result (λ parts. All (IsName ctx.now) parts.now) }
 {
     if !ctx.is_word(node.name(), Word::FuncCall) {
@@ -78,14 +80,17 @@ pub(crate) fn callee_of<'a>(ctx: &'a Context, node: &Node<'_>) -> Option<&'a [Na
 /// The parts of a symbol reference.
 fn parts_of(ctx: &Context, attr: AttrId) -> Option<&[NameId]>
     requires { IsAttr ctx.now attr }
-    ensures parts { option_map (λ parts. map (name_term ctx.now) parts.now) result ≡ roles.parts_of (attr_term ctx.now attr) }
+    ensures parts { option_map (λ parts. map (name_term ctx.now) parts.now) result
+        ≡ roles.parts_of (attr_term ctx.now attr) }
     ensures known { IfSome result (λ parts. All (IsName ctx.now) parts.now) }
 {
     parts_in(attr_of(ctx, attr))
 }
 
 fn parts_in(node: &AttrNode) -> Option<&[NameId]>
-    ensures parts { (names : List (List ℕ)) (types : List TypeTerm) (attrs : List AttrTerm) → option_map (λ parts. map (λ n. slice_index_or names n []) parts.now) result ≡ roles.parts_of (attr_from names types attrs node.now) }
+    ensures parts { (names : List (List ℕ)) (types : List TypeTerm) (attrs : List AttrTerm)
+        → option_map (λ parts. map (λ n. slice_index_or names n []) parts.now) result
+        ≡ roles.parts_of (attr_from names types attrs node.now) }
     ensures known { (c : Things) → AttrIsOf c node.now → IfSome result (λ parts. All (IsName c) parts.now) }
 {
     match node {
@@ -104,7 +109,9 @@ fn parts_in(node: &AttrNode) -> Option<&[NameId]>
 /// The function type that an operation has as property, where it is a function.
 fn function_type<'a>(ctx: &'a Context, node: &Node<'_>) -> Option<signature::Signature<'a>>
     requires { NodeIsOf ctx.now node.now }
-    ensures signature { option_map (λ s. (map (type_term ctx.now) s.inputs.now, map (type_term ctx.now) s.outputs.now)) result ≡ roles.signature_of (head_meaning ctx.now node.now.head) }
+    ensures signature { option_map
+        (λ s. (map (type_term ctx.now) s.inputs.now, map (type_term ctx.now) s.outputs.now)) result
+        ≡ roles.signature_of (head_meaning ctx.now node.now.head) }
     ensures inputs { IfSome result (λ s. All (λ t. IsType ctx.now t) s.inputs.now) }
     ensures outputs { IfSome result (λ s. All (λ t. IsType ctx.now t) s.outputs.now) }
 {
@@ -122,7 +129,8 @@ pub(crate) fn function_of(
     node: &Node<'_>,
 ) -> Result<Option<Signature>, AllocError>
     requires { NodeIsOf ctx.now node.now }
-    ensures signature { IfOk result (λ s. option_map (signature_meaning ctx.now) s ≡ roles.signature_of (head_meaning ctx.now node.now.head)) }
+    ensures signature { IfOk result
+        (λ s. option_map (signature_meaning ctx.now) s ≡ roles.signature_of (head_meaning ctx.now node.now.head)) }
     ensures known { IfOk result (λ s. IfSome s (SignatureIsOf ctx.now)) }
 {
     let Some(types) = function_type(ctx, node) else {

@@ -6,7 +6,8 @@ ghost use Rattle.ir_types.specs.Terms.{attr_term, attr_terms, attrs_at, entries_
 ghost use Rattle.ir_tree.specs.Maps.{map_entry};
 ghost use Rattle.ir_event.specs.Modules.{NodeIsOf};
 ghost use Rattle.listeners_symbols.specs.Found.{found_meaning, IsFound};
-ghost use Rattle.listeners_symbols.specs.Roles.{references_of, with_dictionary, with_each, with_entries, with_reference, with_symbols};
+ghost use Rattle.listeners_symbols.specs.Roles.{references_of, with_dictionary, with_each, with_entries};
+ghost use Rattle.listeners_symbols.specs.Roles.{with_reference, with_symbols};
 ghost use Rattle.listeners_symbols.specs.Table.{head_meaning, reference_meaning, ReferenceIsOf};
 
 use crate::role::Reference;
@@ -39,7 +40,9 @@ fn add(
     requires symbol { attr_term ctx.now path ≡ Symbol (map (name_term ctx.now) parts.now) }
     requires parts { All (IsName ctx.now) parts.now }
     requires out { IsFound ctx.now out.old }
-    ensures added { OnOk result (found_meaning ctx.now out.new ≡ with_reference (found_meaning ctx.now out.old) (attr_term ctx.now path, map (name_term ctx.now) parts.now)) }
+    ensures added { OnOk result
+        (found_meaning ctx.now out.new
+        ≡ with_reference (found_meaning ctx.now out.old) (attr_term ctx.now path, map (name_term ctx.now) parts.now)) }
     ensures found { OnOk result (IsFound ctx.now out.new) }
 {
     ctx.sound();
@@ -57,7 +60,8 @@ fn add(
 fn add_attr(alloc: Global, ctx: &Context, id: AttrId, out: &mut Found) -> Result<(), AllocError>
     requires id { IsAttr ctx.now id }
     requires out { IsFound ctx.now out.old }
-    ensures added { OnOk result (found_meaning ctx.now out.new ≡ with_symbols (found_meaning ctx.now out.old) (attr_term ctx.now id)) }
+    ensures added { OnOk result
+        (found_meaning ctx.now out.new ≡ with_symbols (found_meaning ctx.now out.old) (attr_term ctx.now id)) }
     ensures found { OnOk result (IsFound ctx.now out.new) }
 {
     match attr_of(ctx, id) {
@@ -83,7 +87,9 @@ fn add_attrs(
 ) -> Result<(), AllocError>
     requires ids { All (λ a. a < length ctx.now.attrs) ids.now }
     requires out { IsFound ctx.now out.old }
-    ensures added { OnOk result (found_meaning ctx.now out.new ≡ with_each (found_meaning ctx.now out.old) (attrs_at (attr_terms ctx.now) ids.now)) }
+    ensures added { OnOk result
+        (found_meaning ctx.now out.new
+        ≡ with_each (found_meaning ctx.now out.old) (attrs_at (attr_terms ctx.now) ids.now)) }
     ensures found { OnOk result (IsFound ctx.now out.new) }
 {
     let mut rest = ids;
@@ -104,7 +110,9 @@ fn add_entries(
 ) -> Result<(), AllocError>
     requires entries { All (λ e. e.1 < length ctx.now.attrs) entries.now }
     requires out { IsFound ctx.now out.old }
-    ensures added { OnOk result (found_meaning ctx.now out.new ≡ with_entries (found_meaning ctx.now out.old) (entries_at ctx.now.names (attr_terms ctx.now) entries.now)) }
+    ensures added { OnOk result
+        (found_meaning ctx.now out.new
+        ≡ with_entries (found_meaning ctx.now out.old) (entries_at ctx.now.names (attr_terms ctx.now) entries.now)) }
     ensures found { OnOk result (IsFound ctx.now out.new) }
 {
     let mut rest = entries;
@@ -124,7 +132,9 @@ fn add_dictionary(
 ) -> Result<(), AllocError>
     requires entries { All (λ e. IsName ctx.now e.0 × IsAttr ctx.now e.1) entries.now }
     requires out { IsFound ctx.now out.old }
-    ensures added { OnOk result (found_meaning ctx.now out.new ≡ with_dictionary (found_meaning ctx.now out.old) (map (map_entry (name_term ctx.now) (attr_term ctx.now)) entries.now)) }
+    ensures added { OnOk result
+        (found_meaning ctx.now out.new ≡ with_dictionary (found_meaning ctx.now out.old)
+        (map (map_entry (name_term ctx.now) (attr_term ctx.now)) entries.now)) }
     ensures found { OnOk result (IsFound ctx.now out.new) }
 {
     add_entries(alloc, ctx, entries, out)
@@ -137,7 +147,8 @@ pub(crate) fn references_of(
     node: &Node<'_>,
 ) -> Result<Vec<Reference>, AllocError>
     requires { NodeIsOf ctx.now node.now }
-    ensures references { IfOk result (λ v. map (reference_meaning ctx.now) v.items ≡ references_of (head_meaning ctx.now node.now.head)) }
+    ensures references { IfOk result
+        (λ v. map (reference_meaning ctx.now) v.items ≡ references_of (head_meaning ctx.now node.now.head)) }
     ensures known { IfOk result (λ v. All (ReferenceIsOf ctx.now) v.items) }
 {
     let mut found = Found {

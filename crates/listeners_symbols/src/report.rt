@@ -5,7 +5,9 @@ ghost use Rattle.std.specs.BTreeMap as tree;
 ghost use Rattle.ir_event.specs.declared.row.Cell.TheVariants as cell;
 ghost use Rattle.ir_event.specs.declared.tag.Tag.TheVariants as word;
 ghost use Rattle.ir_event.specs.Tags.{tag_number};
-ghost use Rattle.listeners_symbols.specs.Symbols.{all_reference_lines, call_line, definition_lines, duplicate_lines, is_duplicate, mismatch_line, mismatch_lines, reference_line, reference_lines, symbol_lines, lines_with};
+ghost use Rattle.listeners_symbols.specs.Symbols.{all_reference_lines, call_line, definition_lines, duplicate_lines};
+ghost use Rattle.listeners_symbols.specs.Symbols.{is_duplicate, mismatch_line, mismatch_lines, reference_line};
+ghost use Rattle.listeners_symbols.specs.Symbols.{reference_lines, symbol_lines, lines_with};
 ghost use Rattle.listeners_symbols.specs.Table.{call_numbers, reference_of};
 ghost use Rattle.listeners_symbols.specs.Lines.{cells_of, lines_cells, numbered, numbers_at};
 
@@ -29,7 +31,10 @@ fn push_definition(
     definition: &Definition,
     out: &mut Vec<Row>,
 ) -> Result<(), AllocError>
-    ensures { OnOk result (cells_of out.new.items ≡ cells_of out.old.items ++ (cell.Tag (tag_number tag) ∷ cell.Op definition.now.0.0 ∷ cell.Name definition.now.0.1 ∷ cell.Op definition.now.1 ∷ []) ∷ []) }
+    ensures { OnOk result (cells_of out.new.items
+        ≡ cells_of out.old.items
+        ++ (cell.Tag (tag_number tag) ∷ cell.Op definition.now.0.0 ∷ cell.Name definition.now.0.1
+        ∷ cell.Op definition.now.1 ∷ []) ∷ []) }
 {
     let ((table, name), op) = *definition;
     let _value = Value::Result(op, 0);
@@ -48,7 +53,8 @@ fn push_definitions(
     definitions: &Definitions,
     out: &mut Vec<Row>,
 ) -> Result<(), AllocError>
-    ensures { OnOk result (cells_of out.new.items ≡ cells_of out.old.items ++ lines_cells (definition_lines definitions.now)) }
+    ensures { OnOk result (cells_of out.new.items
+        ≡ cells_of out.old.items ++ lines_cells (definition_lines definitions.now)) }
 {
     let mut rest = definitions.list();
     while let [definition, more @ ..] = rest {
@@ -75,7 +81,8 @@ fn push_duplicates(
     definitions: &Definitions,
     out: &mut Vec<Row>,
 ) -> Result<(), AllocError>
-    ensures { OnOk result (cells_of out.new.items ≡ cells_of out.old.items ++ lines_cells (duplicate_lines eqb definitions.now definitions.now)) }
+    ensures { OnOk result (cells_of out.new.items
+        ≡ cells_of out.old.items ++ lines_cells (duplicate_lines eqb definitions.now definitions.now)) }
 {
     let mut rest = definitions.list();
     while let [definition, more @ ..] = rest {
@@ -95,7 +102,8 @@ fn push_use(
     op: OpId,
     out: &mut Vec<Row>,
 ) -> Result<(), AllocError>
-    ensures { OnOk result (cells_of out.new.items ≡ cells_of out.old.items ++ (cell.Tag (tag_number word.Use) ∷ cell.Op user ∷ cell.Path path ∷ cell.Op op ∷ []) ∷ []) }
+    ensures { OnOk result (cells_of out.new.items ≡ cells_of out.old.items
+        ++ (cell.Tag (tag_number word.Use) ∷ cell.Op user ∷ cell.Path path ∷ cell.Op op ∷ []) ∷ []) }
 {
     let _value = Value::Result(op, 0);
     let mut cells = Vec::with_capacity(alloc, 4)?;
@@ -114,7 +122,8 @@ fn push_unresolved(
     path: AttrId,
     out: &mut Vec<Row>,
 ) -> Result<(), AllocError>
-    ensures { OnOk result (cells_of out.new.items ≡ cells_of out.old.items ++ (cell.Tag (tag_number word.Unresolved) ∷ cell.Op user ∷ cell.Path path ∷ []) ∷ []) }
+    ensures { OnOk result (cells_of out.new.items
+        ≡ cells_of out.old.items ++ (cell.Tag (tag_number word.Unresolved) ∷ cell.Op user ∷ cell.Path path ∷ []) ∷ []) }
 {
     let _value = Value::Result(user, 0);
     let mut cells = Vec::with_capacity(alloc, 3)?;
@@ -134,7 +143,8 @@ fn push_reference(
     found: Option<OpId>,
     out: &mut Vec<Row>,
 ) -> Result<(), AllocError>
-    ensures { OnOk result (cells_of out.new.items ≡ cells_of out.old.items ++ lines_cells (reference_line resolved user path found)) }
+    ensures { OnOk result (cells_of out.new.items
+        ≡ cells_of out.old.items ++ lines_cells (reference_line resolved user path found)) }
 {
     match found {
         Some(op) => {
@@ -161,7 +171,10 @@ fn push_references(
     role: &Role,
     out: &mut Vec<Row>,
 ) -> Result<(), AllocError>
-    ensures { OnOk result (cells_of out.new.items ≡ cells_of out.old.items ++ lines_cells (reference_lines eqb (numbers_at roles.now) definitions.now resolved user role.now.table (map reference_of role.now.references.items))) }
+    ensures { OnOk result (cells_of out.new.items
+        ≡ cells_of out.old.items
+        ++ lines_cells (reference_lines eqb (numbers_at roles.now) definitions.now resolved user role.now.table
+        (map reference_of role.now.references.items))) }
 {
     let mut rest = role.references.as_slice();
     while let [reference, more @ ..] = rest {
@@ -180,7 +193,8 @@ fn push_all_references(
     definitions: &Definitions,
     out: &mut Vec<Row>,
 ) -> Result<(), AllocError>
-    ensures { OnOk result (cells_of out.new.items ≡ cells_of out.old.items ++ lines_cells (all_reference_lines eqb (numbers_at roles.now) definitions.now resolved (numbered roles.now.entries))) }
+    ensures { OnOk result (cells_of out.new.items ≡ cells_of out.old.items ++ lines_cells
+        (all_reference_lines eqb (numbers_at roles.now) definitions.now resolved (numbered roles.now.entries))) }
 {
     for (op, role) in roles {
         push_references(alloc, resolved, roles, definitions, *op, role, out)?;
@@ -190,7 +204,8 @@ fn push_all_references(
 
 /// Adds the row of a mismatch.
 fn push_mismatch(alloc: Global, user: OpId, op: OpId, out: &mut Vec<Row>) -> Result<(), AllocError>
-    ensures { OnOk result (cells_of out.new.items ≡ cells_of out.old.items ++ (cell.Tag (tag_number word.Mismatch) ∷ cell.Op user ∷ cell.Op op ∷ []) ∷ []) }
+    ensures { OnOk result (cells_of out.new.items
+        ≡ cells_of out.old.items ++ (cell.Tag (tag_number word.Mismatch) ∷ cell.Op user ∷ cell.Op op ∷ []) ∷ []) }
 {
     let _value = Value::Result(op, 0);
     let mut cells = Vec::with_capacity(alloc, 3)?;
@@ -210,7 +225,8 @@ fn push_call(
     found: Option<OpId>,
     out: &mut Vec<Row>,
 ) -> Result<(), AllocError>
-    ensures { OnOk result (cells_of out.new.items ≡ cells_of out.old.items ++ lines_cells (mismatch_line eqb (numbers_at roles.now) user (call_numbers call.now) found)) }
+    ensures { OnOk result (cells_of out.new.items ≡ cells_of out.old.items
+        ++ lines_cells (mismatch_line eqb (numbers_at roles.now) user (call_numbers call.now) found)) }
 {
     let Some(op) = found else {
         return Ok(());
@@ -230,7 +246,10 @@ fn push_call_of(
     role: &Role,
     out: &mut Vec<Row>,
 ) -> Result<(), AllocError>
-    ensures { OnOk result (cells_of out.new.items ≡ cells_of out.old.items ++ lines_cells (call_line eqb eqb (numbers_at roles.now) definitions.now user role.now.table (option_map call_numbers role.now.call))) }
+    ensures { OnOk result (cells_of out.new.items
+        ≡ cells_of out.old.items
+        ++ lines_cells (call_line eqb eqb (numbers_at roles.now) definitions.now user role.now.table
+        (option_map call_numbers role.now.call))) }
 {
     let Some(call) = &role.call else {
         return Ok(());
@@ -246,7 +265,8 @@ fn push_mismatches(
     definitions: &Definitions,
     out: &mut Vec<Row>,
 ) -> Result<(), AllocError>
-    ensures { OnOk result (cells_of out.new.items ≡ cells_of out.old.items ++ lines_cells (mismatch_lines eqb eqb (numbers_at roles.now) definitions.now (numbered roles.now.entries))) }
+    ensures { OnOk result (cells_of out.new.items ≡ cells_of out.old.items
+        ++ lines_cells (mismatch_lines eqb eqb (numbers_at roles.now) definitions.now (numbered roles.now.entries))) }
 {
     for (op, role) in roles {
         push_call_of(alloc, roles, definitions, *op, role, out)?;
@@ -261,7 +281,8 @@ fn push_lines(
     definitions: &Definitions,
     out: &mut Vec<Row>,
 ) -> Result<(), AllocError>
-    ensures { OnOk result (cells_of out.new.items ≡ cells_of out.old.items ++ lines_cells (lines_with eqb eqb (numbers_at roles.now) definitions.now (numbered roles.now.entries))) }
+    ensures { OnOk result (cells_of out.new.items ≡ cells_of out.old.items
+        ++ lines_cells (lines_with eqb eqb (numbers_at roles.now) definitions.now (numbered roles.now.entries))) }
 {
     push_definitions(alloc, definitions, out)?;
     push_duplicates(alloc, definitions, out)?;
@@ -272,7 +293,9 @@ fn push_lines(
 
 /// The rows of a table of roles.
 pub(crate) fn lines(alloc: Global, roles: &BTreeMap<OpId, Role>) -> Result<Vec<Row>, AllocError>
-    ensures rows { IfOk result (λ out. cells_of out.items ≡ lines_cells (symbol_lines eqb eqb (numbers_at roles.now) (numbered roles.now.entries))) }
+    ensures rows { IfOk result
+        (λ out. cells_of out.items
+        ≡ lines_cells (symbol_lines eqb eqb (numbers_at roles.now) (numbered roles.now.entries))) }
     ensures ordered { IfOk result (λ _. tree.IsOrdered nat_cmp roles.now) }
 {
     let _ = roles.len();

@@ -36,7 +36,7 @@ fn look_up(
     definitions.first(op, name)
 }
 
-/// The same in what there may be.
+/// The operation that a name is in another that there may be.
 pub fn look_in(
     roles: &BTreeMap<OpId, Role>,
     definitions: &Definitions,

@@ -28,7 +28,9 @@ fn renew_by(
     node: &Node<'_>,
 ) -> Result<(), AllocError>
     requires { option_map node_of (known op view.old.world.now.store) ≡ Some node.now }
-    ensures renewed { OnOk result (Renewed view.old.world.now.ctx (module_in view.old.world.now).tree op (kept_at roles.old) (kept_at roles.new)) }
+    ensures renewed { OnOk result
+        (Renewed view.old.world.now.ctx (module_in view.old.world.now).tree op (kept_at roles.old)
+        (kept_at roles.new)) }
     ensures looks { view.new.looks ≤ view.old.looks + (1 + operand_count (known op view.old.world.now.store)) }
     ensures world { view.new.world.now ≡ view.old.world.now }
 {
@@ -44,7 +46,9 @@ fn renew(
     view: &mut View<'_>,
     op: OpId,
 ) -> Result<(), AllocError>
-    ensures renewed { OnOk result (Renewed view.old.world.now.ctx (module_in view.old.world.now).tree op (kept_at roles.old) (kept_at roles.new)) }
+    ensures renewed { OnOk result
+        (Renewed view.old.world.now.ctx (module_in view.old.world.now).tree op (kept_at roles.old)
+        (kept_at roles.new)) }
     ensures looks { view.new.looks ≤ view.old.looks + (2 + operand_count (known op view.old.world.now.store)) }
     ensures world { view.new.world.now ≡ view.old.world.now }
 {
@@ -61,7 +65,9 @@ fn follow_operand(
     view: &mut View<'_>,
     op: OpId,
 ) -> Result<(), AllocError>
-    ensures followed { OnOk result (OperandFollowed view.old.world.now.ctx (module_in view.old.world.now).tree op (kept_at roles.old) (kept_at roles.new)) }
+    ensures followed { OnOk result
+        (OperandFollowed view.old.world.now.ctx (module_in view.old.world.now).tree op (kept_at roles.old)
+        (kept_at roles.new)) }
     ensures looks { view.new.looks ≤ view.old.looks + (2 + operand_count (known op view.old.world.now.store)) }
     ensures world { view.new.world.now ≡ view.old.world.now }
 {
@@ -81,8 +87,11 @@ pub fn follow(
     view: &mut View<'_>,
     event: &Event,
 ) -> Result<(), AllocError>
-    ensures followed { OnOk result (Followed view.old.world.now.ctx (module_in view.old.world.now).tree event.now (kept_at roles.old) (kept_at roles.new)) }
-    ensures looks { view.new.looks ≤ view.old.looks + (2 + operand_count (known (op_of event.now) view.old.world.now.store)) }
+    ensures followed { OnOk result
+        (Followed view.old.world.now.ctx (module_in view.old.world.now).tree event.now (kept_at roles.old)
+        (kept_at roles.new)) }
+    ensures looks { view.new.looks
+        ≤ view.old.looks + (2 + operand_count (known (op_of event.now) view.old.world.now.store)) }
     ensures take { is_take event.now ≡ true → view.new.looks ≡ view.old.looks }
     ensures world { view.new.world.now ≡ view.old.world.now }
 {
@@ -106,7 +115,8 @@ fn renew_all(
     view: &mut View<'_>,
     ops: &[OpId],
 ) -> Result<(), AllocError>
-    ensures { OnOk result (Added view.old.world.now.ctx (module_in view.old.world.now).tree ops.now (kept_at roles.old) (kept_at roles.new)) }
+    ensures { OnOk result (Added view.old.world.now.ctx (module_in view.old.world.now).tree ops.now (kept_at roles.old)
+        (kept_at roles.new)) }
 {
     for op in ops {
         renew(alloc, roles, view, *op)?;

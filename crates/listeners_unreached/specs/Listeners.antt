@@ -19,5 +19,10 @@ unreached_listener s = record {
   heard = None;
   most = λ e m n. 2 + operands_of e m n;
   fresh = λ c m h. h.0;
-  grows = λ c d m holds also g h. (h.0, h.1, record { from = h.2.from; sound = h.2.sound; grown = grows_trans h.2.from c d h.2.grown g; keeps = h.2.keeps });
+  grows =
+      λ c d m holds also g h. (
+        h.0,
+        h.1,
+        record { from = h.2.from; sound = h.2.sound; grown = grows_trans h.2.from c d h.2.grown g; keeps = h.2.keeps },
+      );
 }

@@ -32,13 +32,16 @@ module _ (IsPrivate : ℕ → Type 0) (Under Reaches : ℕ → ℕ → Type 0) w
     pub placed : (y : ℕ) → In y todo ⊎ (IsPending queue y ⊎ (Waits left y ⊎ IsDone left y))
 
   -- these were taken out, as far as they were left
-  pub record Removed (xs : List ℕ) (queue : List (List ℕ)) (left : Left) (queued : List (List ℕ)) (after : Left) : Type 0 where
+  pub record Removed (xs : List ℕ) (queue : List (List ℕ)) (left : Left) (queued : List (List ℕ))
+      (after : Left) : Type 0 where
     pub shrinks : (z : ℕ) → left z ≡ None → after z ≡ None
     pub gone : (x : ℕ) → In x xs → after x ≡ None
-    pub keeps : (todo : List ℕ) → ((x : ℕ) → In x xs → IsPrivate x → IsReached IsPrivate Under Reaches x) → Marks todo queue left → Marks todo queued after
+    pub keeps : (todo : List ℕ) → ((x : ℕ) → In x xs → IsPrivate x → IsReached IsPrivate Under Reaches x)
+        → Marks todo queue left → Marks todo queued after
 
   -- these operations were looked at: each waits now, or what it reaches was taken out
-  pub record Considered (ys : List ℕ) (queue : List (List ℕ)) (left : Left) (queued : List (List ℕ)) (after : Left) : Type 0 where
+  pub record Considered (ys : List ℕ) (queue : List (List ℕ)) (left : Left) (queued : List (List ℕ))
+      (after : Left) : Type 0 where
     pub shrinks : (z : ℕ) → left z ≡ None → after z ≡ None
     pub keeps : (todo : List ℕ) → Marks (ys ++ todo) queue left → Marks todo queued after
 

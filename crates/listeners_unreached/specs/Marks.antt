@@ -1,5 +1,6 @@
 -- What marking makes of a table of roles in numbers.
-use Rattle.std.specs.Prelude.{◌≡◌, ◌⊎◌, ◌*◌, ◌+◌, ℕ, List, [], ◌∷◌, ◌++◌, map, length, eqb, true, if◌then◌else◌, Option, Some, None, option_map, is_some, Vec}
+use Rattle.std.specs.Prelude.{◌≡◌, ◌⊎◌, ◌*◌, ◌+◌, ℕ, List, [], ◌∷◌, ◌++◌, map, length, eqb, true, if◌then◌else◌, Option}
+use Rattle.std.specs.Prelude.{Some, None, option_map, is_some, Vec}
 use Rattle.std.specs.Ordering.{nat_cmp}
 use Rattle.std.specs.BTreeMap.{BTreeMap, btree_map_len}
 use Rattle.std.specs.BTreeMap as tree
@@ -48,13 +49,20 @@ queue_of {Y} q = map (λ (v : Vec ℕ Y). v.items) q.items
 
 -- the same with the relations of a table of roles
 abbrev pub MarksIn : {Y Z : Type 0} → RoleAt ℕ ℕ ℕ → List (DefinitionOf ℕ) → List ℕ → Queue Y Z → Waitings Y → Type 0
-MarksIn roles ds todo q m = Marks (IsDefinition roles) (StandsUnder roles) (Reaches roles ds) todo (queue_of q) (left_at m)
+MarksIn roles ds todo q m =
+    Marks (IsDefinition roles) (StandsUnder roles) (Reaches roles ds) todo (queue_of q) (left_at m)
 
-abbrev pub RemovedIn : {Y Z : Type 0} → RoleAt ℕ ℕ ℕ → List (DefinitionOf ℕ) → List ℕ → Queue Y Z → Waitings Y → Queue Y Z → Waitings Y → Type 0
-RemovedIn roles ds xs q m r n = Removed (IsDefinition roles) (StandsUnder roles) (Reaches roles ds) xs (queue_of q) (left_at m) (queue_of r) (left_at n)
+abbrev pub RemovedIn : {Y Z : Type 0} → RoleAt ℕ ℕ ℕ → List (DefinitionOf ℕ) → List ℕ → Queue Y Z → Waitings Y
+    → Queue Y Z → Waitings Y → Type 0
+RemovedIn roles ds xs q m r n =
+    Removed (IsDefinition roles) (StandsUnder roles) (Reaches roles ds) xs (queue_of q) (left_at m) (queue_of r)
+    (left_at n)
 
-abbrev pub ConsideredIn : {Y Z : Type 0} → RoleAt ℕ ℕ ℕ → List (DefinitionOf ℕ) → List ℕ → Queue Y Z → Waitings Y → Queue Y Z → Waitings Y → Type 0
-ConsideredIn roles ds ys q m r n = Considered (IsDefinition roles) (StandsUnder roles) (Reaches roles ds) ys (queue_of q) (left_at m) (queue_of r) (left_at n)
+abbrev pub ConsideredIn : {Y Z : Type 0} → RoleAt ℕ ℕ ℕ → List (DefinitionOf ℕ) → List ℕ → Queue Y Z → Waitings Y
+    → Queue Y Z → Waitings Y → Type 0
+ConsideredIn roles ds ys q m r n =
+    Considered (IsDefinition roles) (StandsUnder roles) (Reaches roles ds) ys (queue_of q) (left_at m) (queue_of r)
+    (left_at n)
 
 -- x was taken out, where it was left, and what waited for it is pending
 abbrev pub TakesOut : ℕ → List (List ℕ) → Left → List (List ℕ) → Left → Type 0

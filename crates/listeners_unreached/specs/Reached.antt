@@ -6,7 +6,8 @@ use Rattle.std.specs.List.{list_any, list_all, filter}
 -- the least set of private definitions that holds x whenever an operation y reaches x and all private definitions that
 -- y stands under are in the set
 pub data IsReached (IsPrivate : ℕ → Type 0) (Under Reaches : ℕ → ℕ → Type 0) : ℕ → Type 0 where
-  reached : (y x : ℕ) → IsPrivate x → Reaches y x → ((p : ℕ) → IsPrivate p → Under y p → IsReached IsPrivate Under Reaches p) → IsReached IsPrivate Under Reaches x
+  reached : (y x : ℕ) → IsPrivate x → Reaches y x
+      → ((p : ℕ) → IsPrivate p → Under y p → IsReached IsPrivate Under Reaches p) → IsReached IsPrivate Under Reaches x
 
 -- whether x is one of a list
 abbrev pub among : ℕ → List ℕ → Bool

@@ -1,5 +1,6 @@
 -- The analysis: the private symbols that nothing reaches (Symbols and Symbol Tables, "Symbol Visibility").
-use Rattle.std.specs.Prelude.{◌≡◌, ℕ, List, [], ◌∷◌, ◌++◌, map, filter, Bool, true, false, not, ◌&&◌, if◌then◌else◌, Option, Some, None, is_some, option_to_list}
+use Rattle.std.specs.Prelude.{◌≡◌, ℕ, List, [], ◌∷◌, ◌++◌, map, filter, Bool, true, false, not, ◌&&◌, if◌then◌else◌}
+use Rattle.std.specs.Prelude.{Option, Some, None, is_some, option_to_list}
 use Rattle.std.specs.Str.{bytes_eq}
 use Rattle.ir_tree.specs.Tree.{head}
 use Rattle.ir_tree.specs.Ids.{ids}
@@ -30,10 +31,13 @@ module _ {N : Type 0} (same_name : N → N → Bool) where
   -- resolve to
   abbrev pub prefixes : {T A : Type 0} → RoleAt N T A → List (DefinitionOf N) → Option ℕ → List N → List ℕ
   prefixes roles ds found [] = []
-  prefixes roles ds found (name ∷ names) = option_to_list (look_in same_name roles ds found name) ++ prefixes roles ds (look_in same_name roles ds found name) names
+  prefixes roles ds found (name ∷ names) =
+      option_to_list (look_in same_name roles ds found name)
+      ++ prefixes roles ds (look_in same_name roles ds found name) names
 
   -- those of some references, in a table
-  abbrev pub targets : {T A : Type 0} → RoleAt N T A → List (DefinitionOf N) → Option ℕ → List (ReferenceOf N A) → List ℕ
+  abbrev pub targets : {T A : Type 0} → RoleAt N T A → List (DefinitionOf N) → Option ℕ → List (ReferenceOf N A)
+      → List ℕ
   targets roles ds table [] = []
   targets roles ds table (p ∷ ps) = prefixes roles ds table p.1 ++ targets roles ds table ps
 

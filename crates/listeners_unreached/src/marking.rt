@@ -3,7 +3,8 @@ ghost use Rattle.std.specs.Prelude.{◌≡◌, ◌≤◌, ℕ, List, ◌∷◌, 
 ghost use Rattle.listeners_symbols.specs.Symbols.{DefinitionOf, definitions};
 ghost use Rattle.listeners_symbols.specs.Table.{reference_of};
 ghost use Rattle.listeners_symbols.specs.Lines.{numbered, numbers_at};
-ghost use Rattle.listeners_unreached.specs.Marks.{ConsideredIn, IsMarked, MarksIn, RemovedIn, SettledIn, StartsIn, TakesFound, left_at, queue_of, size};
+ghost use Rattle.listeners_unreached.specs.Marks.{ConsideredIn, IsMarked, MarksIn, RemovedIn, SettledIn, StartsIn};
+ghost use Rattle.listeners_unreached.specs.Marks.{TakesFound, left_at, queue_of, size};
 ghost use Rattle.std.specs.Map.{keys_of};
 ghost use Rattle.listeners_unreached.specs.Unreached.{prefixes, reached_from, targets};
 
@@ -21,7 +22,8 @@ fn take_found(
     pending: &mut Vec<Vec<OpId>>,
     found: &Option<OpId>,
 ) -> Result<(), AllocError>
-    ensures taken { OnOk result (TakesFound found.now (queue_of pending.old) (left_at left.old) (queue_of pending.new) (left_at left.new)) }
+    ensures taken { OnOk result
+        (TakesFound found.now (queue_of pending.old) (left_at left.old) (queue_of pending.new) (left_at left.new)) }
     ensures size { OnOk result (size left.new pending.new ≤ size left.old pending.old) }
 {
     match *found {
@@ -39,7 +41,10 @@ fn reach(
     left: &mut BTreeMap<OpId, Vec<OpId>>,
     pending: &mut Vec<Vec<OpId>>,
 ) -> Result<(), AllocError>
-    ensures removed { OnOk result (RemovedIn (numbers_at roles.now) definitions.now (prefixes eqb (numbers_at roles.now) definitions.now table.now parts.now) pending.old left.old pending.new left.new) }
+    ensures removed { OnOk result
+        (RemovedIn (numbers_at roles.now) definitions.now
+        (prefixes eqb (numbers_at roles.now) definitions.now table.now parts.now) pending.old left.old pending.new
+        left.new) }
     ensures size { OnOk result (size left.new pending.new ≤ size left.old pending.old) }
 {
     let mut found = *table;
@@ -61,7 +66,10 @@ fn reach_each(
     left: &mut BTreeMap<OpId, Vec<OpId>>,
     pending: &mut Vec<Vec<OpId>>,
 ) -> Result<(), AllocError>
-    ensures removed { OnOk result (RemovedIn (numbers_at roles.now) definitions.now (targets eqb (numbers_at roles.now) definitions.now table.now (map reference_of references.now)) pending.old left.old pending.new left.new) }
+    ensures removed { OnOk result
+        (RemovedIn (numbers_at roles.now) definitions.now
+        (targets eqb (numbers_at roles.now) definitions.now table.now
+        (map reference_of references.now)) pending.old left.old pending.new left.new) }
     ensures size { OnOk result (size left.new pending.new ≤ size left.old pending.old) }
 {
     let mut rest = references;
@@ -80,7 +88,10 @@ fn reach_from(
     left: &mut BTreeMap<OpId, Vec<OpId>>,
     pending: &mut Vec<Vec<OpId>>,
 ) -> Result<(), AllocError>
-    ensures removed { OnOk result (RemovedIn (numbers_at roles.now) definitions.now (reached_from eqb (numbers_at roles.now) definitions.now (numbers_at roles.now op)) pending.old left.old pending.new left.new) }
+    ensures removed { OnOk result
+        (RemovedIn (numbers_at roles.now) definitions.now
+        (reached_from eqb (numbers_at roles.now) definitions.now
+        (numbers_at roles.now op)) pending.old left.old pending.new left.new) }
     ensures size { OnOk result (size left.new pending.new ≤ size left.old pending.old) }
 {
     match roles.get(&op) {
@@ -98,7 +109,8 @@ fn reach_from(
 
 /// Whether an operation refers to nothing.
 fn refers_to_none(roles: &BTreeMap<OpId, Role>, op: OpId) -> bool
-    ensures { (ds : List (DefinitionOf ℕ)) → result ≡ true → reached_from eqb (numbers_at roles.now) ds (numbers_at roles.now op) ≡ [] }
+    ensures { (ds : List (DefinitionOf ℕ)) → result ≡ true
+        → reached_from eqb (numbers_at roles.now) ds (numbers_at roles.now op) ≡ [] }
 {
     match roles.get(&op) {
         None => true,
@@ -115,7 +127,8 @@ fn consider(
     left: &mut BTreeMap<OpId, Vec<OpId>>,
     pending: &mut Vec<Vec<OpId>>,
 ) -> Result<(), AllocError>
-    ensures considered { OnOk result (ConsideredIn (numbers_at roles.now) definitions.now (op ∷ []) pending.old left.old pending.new left.new) }
+    ensures considered { OnOk result
+        (ConsideredIn (numbers_at roles.now) definitions.now (op ∷ []) pending.old left.old pending.new left.new) }
     ensures size { OnOk result (size left.new pending.new ≤ size left.old pending.old) }
 {
     if refers_to_none(roles, op) {
@@ -135,7 +148,8 @@ fn consider_each(
     left: &mut BTreeMap<OpId, Vec<OpId>>,
     pending: &mut Vec<Vec<OpId>>,
 ) -> Result<(), AllocError>
-    ensures considered { OnOk result (ConsideredIn (numbers_at roles.now) definitions.now ops.now pending.old left.old pending.new left.new) }
+    ensures considered { OnOk result
+        (ConsideredIn (numbers_at roles.now) definitions.now ops.now pending.old left.old pending.new left.new) }
     ensures size { OnOk result (size left.new pending.new ≤ size left.old pending.old) }
 {
     let mut rest = ops;
@@ -153,7 +167,8 @@ fn consider_all(
     left: &mut BTreeMap<OpId, Vec<OpId>>,
     pending: &mut Vec<Vec<OpId>>,
 ) -> Result<(), AllocError>
-    ensures { OnOk result (ConsideredIn (numbers_at roles.now) definitions.now (keys_of roles.now.entries) pending.old left.old pending.new left.new) }
+    ensures { OnOk result (ConsideredIn (numbers_at roles.now) definitions.now
+        (keys_of roles.now.entries) pending.old left.old pending.new left.new) }
 {
     for (op, _) in roles {
         consider(roles, definitions, *op, left, pending)?;
@@ -168,7 +183,8 @@ fn settle(
     left: &mut BTreeMap<OpId, Vec<OpId>>,
     pending: Vec<Vec<OpId>>,
 ) -> Result<(), AllocError>
-    ensures { OnOk result (MarksIn (numbers_at roles.now) definitions.now [] pending left.old → SettledIn (numbers_at roles.now) definitions.now left.new) }
+    ensures { OnOk result (MarksIn (numbers_at roles.now) definitions.now [] pending left.old
+        → SettledIn (numbers_at roles.now) definitions.now left.new) }
 {
     let mut pending = pending;
     'pending: while let Some(waiting) = pending.pop() {
@@ -184,7 +200,8 @@ fn mark(
     definitions: &Definitions,
     left: &mut BTreeMap<OpId, Vec<OpId>>,
 ) -> Result<(), AllocError>
-    ensures { OnOk result (StartsIn (numbers_at roles.now) (left_at left.old) → SettledIn (numbers_at roles.now) definitions.now left.new) }
+    ensures { OnOk result (StartsIn (numbers_at roles.now) (left_at left.old)
+        → SettledIn (numbers_at roles.now) definitions.now left.new) }
 {
     let mut pending = Vec::new(alloc);
     consider_all(roles, definitions, left, &mut pending)?;
@@ -196,7 +213,8 @@ pub(crate) fn unreached(
     alloc: Global,
     roles: &BTreeMap<OpId, Role>,
 ) -> Result<BTreeMap<OpId, Vec<OpId>>, AllocError>
-    ensures { IfOk result (λ left. IsMarked (numbers_at roles.now) (definitions (numbered roles.now.entries)) (left_at left)) }
+    ensures { IfOk result (λ left. IsMarked (numbers_at roles.now) (definitions (numbered roles.now.entries))
+        (left_at left)) }
 {
     let definitions = definitions_of(alloc, roles)?;
     let mut left = all_left(alloc, roles)?;

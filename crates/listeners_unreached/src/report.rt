@@ -44,7 +44,8 @@ fn push_line_of(
     role: &Role,
     out: &mut Vec<Row>,
 ) -> Result<(), AllocError>
-    ensures { OnOk result (cells_of out.new.items ≡ cells_of out.old.items ++ lines_cells (line_of (is_out (left_at left.now) op) op (unreached.private_name (role_numbers role.now)))) }
+    ensures { OnOk result (cells_of out.new.items ≡ cells_of out.old.items
+        ++ lines_cells (line_of (is_out (left_at left.now) op) op (unreached.private_name (role_numbers role.now)))) }
 {
     if !left.contains_key(&op) {
         return Ok(());
@@ -62,7 +63,8 @@ fn push_lines(
     left: &BTreeMap<OpId, Vec<OpId>>,
     out: &mut Vec<Row>,
 ) -> Result<(), AllocError>
-    ensures { OnOk result (cells_of out.new.items ≡ cells_of out.old.items ++ lines_cells (lines_with (is_out (left_at left.now)) (numbered roles.now.entries))) }
+    ensures { OnOk result (cells_of out.new.items
+        ≡ cells_of out.old.items ++ lines_cells (lines_with (is_out (left_at left.now)) (numbered roles.now.entries))) }
 {
     for (op, role) in roles {
         push_line_of(alloc, left, *op, role, out)?;
@@ -72,7 +74,9 @@ fn push_lines(
 
 /// The rows of a table of roles.
 pub(crate) fn lines(alloc: Global, roles: &BTreeMap<OpId, Role>) -> Result<Vec<Row>, AllocError>
-    ensures rows { IfOk result (λ out. (left : Left) × IsMarked (numbers_at roles.now) (definitions (numbered roles.now.entries)) left × (cells_of out.items ≡ lines_cells (lines_with (is_out left) (numbered roles.now.entries)))) }
+    ensures rows { IfOk result
+        (λ out. (left : Left) × IsMarked (numbers_at roles.now) (definitions (numbered roles.now.entries)) left
+        × (cells_of out.items ≡ lines_cells (lines_with (is_out left) (numbered roles.now.entries)))) }
     ensures ordered { IfOk result (λ _. tree.IsOrdered nat_cmp roles.now) }
 {
     let _ = roles.len();

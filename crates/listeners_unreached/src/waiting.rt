@@ -62,7 +62,9 @@ pub(crate) fn wait(
     op: OpId,
     definition: OpId,
 ) -> Result<(), AllocError>
-    ensures waiting { OnOk result ((ws : List ℕ) → left_at left.old definition ≡ Some ws → Waiting op definition ws (left_at left.old) (left_at left.new)) }
+    ensures waiting { OnOk result
+        ((ws : List ℕ) → left_at left.old definition ≡ Some ws
+        → Waiting op definition ws (left_at left.old) (left_at left.new)) }
     ensures len { btree_map_len left.new ≡ btree_map_len left.old }
 {
     if let Some(waiting) = left.get_mut(&definition) {
@@ -77,7 +79,8 @@ pub(crate) fn take_out(
     pending: &mut Vec<Vec<OpId>>,
     definition: OpId,
 ) -> Result<(), AllocError>
-    ensures taken { OnOk result (TakesOut definition (queue_of pending.old) (left_at left.old) (queue_of pending.new) (left_at left.new)) }
+    ensures taken { OnOk result
+        (TakesOut definition (queue_of pending.old) (left_at left.old) (queue_of pending.new) (left_at left.new)) }
     ensures size { OnOk result (size left.new pending.new ≤ size left.old pending.old) }
 {
     if let Some(waiting) = left.remove(&definition) {
@@ -93,7 +96,8 @@ fn add(
     role: &Role,
     left: &mut BTreeMap<OpId, Vec<OpId>>,
 ) -> Result<(), AllocError>
-    ensures { OnOk result ((z : ℕ) → left_at left.new z ≡ added op (unreached.private_name (role_numbers role.now)) z (left_at left.old z)) }
+    ensures { OnOk result ((z : ℕ)
+        → left_at left.new z ≡ added op (unreached.private_name (role_numbers role.now)) z (left_at left.old z)) }
 {
     if private_name(role).is_some() {
         left.insert(op, Vec::new(alloc))?;
@@ -106,7 +110,8 @@ pub(crate) fn all_left(
     alloc: Global,
     roles: &BTreeMap<OpId, Role>,
 ) -> Result<BTreeMap<OpId, Vec<OpId>>, AllocError>
-    ensures { IfOk result (λ left. (x : ℕ) → left_at left x ≡ (if says_definition (numbers_at roles.now x) then Some [] else None)) }
+    ensures { IfOk result (λ left. (x : ℕ)
+        → left_at left x ≡ (if says_definition (numbers_at roles.now x) then Some [] else None)) }
 {
     let _ = roles.len();
     let mut left = BTreeMap::new(alloc);

@@ -1,5 +1,5 @@
 //! The answer to a line.
-use crate::{lines, readers, replies, runs, traces, writers};
+use crate::{counts, lines, readers, replies, rules, runs, traces, writers};
 use mlir_work_cases_base::texts::first;
 use std::alloc::{AllocError, Global};
 
@@ -37,6 +37,8 @@ pub fn answer(alloc: Global, line: &str) -> Result<String, AllocError> {
         "write" => write(alloc, rest),
         "run" => runs::answer(alloc, rest),
         "bare" => runs::run_bare(alloc, rest),
+        "apply" => rules::answer(alloc, rest),
+        "count" => counts::answer(alloc, rest),
         "trace" => traces::trace(alloc, rest),
         "check" => traces::checked(alloc, rest),
         _ => String::from_str(alloc, line),

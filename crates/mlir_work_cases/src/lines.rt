@@ -9,6 +9,7 @@ use mlir_work_run::keys::{Key, bytes_of};
 use mlir_work_run::kind::kind_named;
 use mlir_work_run::lines::split_line;
 use mlir_work_run::numbers;
+use mlir_work_run::rule_name::RuleName;
 use mlir_work_run::spots::Spot;
 use mlir_work_run::values::{op_named, value_named};
 use mlir_work_run::words::{split_word, trim};
@@ -118,6 +119,17 @@ fn told_convert(alloc: Global, full: bool, clauses: &Clauses<'_>) -> Result<Stri
     format!(in alloc; "convert {mode}{lists} depth {depth}")
 }
 
+/// A rule at an operation.
+fn told_apply(alloc: Global, rule: &RuleName<'_>, op: OpId) -> Result<String, AllocError> {
+    match rule {
+        RuleName::Numbered(number) => format!(in alloc; "apply {number} {}", op.number()),
+        RuleName::Worded(word) => {
+            let word = shown(alloc, word)?;
+            format!(in alloc; "apply {word} {}", op.number())
+        }
+    }
+}
+
 /// A command that edits.
 fn told_edit(alloc: Global, command: &Command<'_>) -> Result<String, AllocError> {
     match command {
@@ -142,6 +154,7 @@ fn told_command(alloc: Global, command: &Command<'_>) -> Result<String, AllocErr
         Command::Canon(limit) => told_canon(alloc, *limit),
         Command::Convert { full, clauses } => told_convert(alloc, *full, clauses),
         Command::Sweep => String::from_str(alloc, "sweep"),
+        Command::Apply { rule, op } => told_apply(alloc, rule, *op),
         Command::Begin => String::from_str(alloc, "begin"),
         Command::Commit => String::from_str(alloc, "commit"),
         Command::Rollback => String::from_str(alloc, "rollback"),

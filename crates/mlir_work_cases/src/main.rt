@@ -5,9 +5,11 @@
 
 mod answers;
 mod boxes;
+mod counts;
 mod lines;
 mod readers;
 mod replies;
+mod rules;
 mod runs;
 mod traces;
 mod writers;

@@ -111,6 +111,7 @@ fn outcome(word: &str, count: usize) -> Outcome {
         "swept" => Outcome::Swept(count),
         "converged" => Outcome::Converged(count),
         "limit" => Outcome::Limited(count),
+        "applied" => Outcome::Applied(count),
         _ => Outcome::Converted(count),
     }
 }

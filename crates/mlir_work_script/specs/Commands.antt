@@ -6,7 +6,7 @@ use Rattle.std.specs.Option.{option_map}
 use Rattle.std.specs.Str.{bytes_eq, is_utf8}
 use Rattle.ir_tree.specs.declared.value.Value.{Value}
 use Rattle.rewriter_machine.specs.Commands as said
-use Rattle.rewriter_machine.specs.Commands.{Command as Said}
+use Rattle.rewriter_machine.specs.Commands.{Command as Said, RuleName}
 use Rattle.rewriter_machine.specs.Spots.{Spot}
 use Rattle.mlir_work_script.specs.Clauses.{Clauses, clauses_of, mode_of, no_clauses, target_of, with_clauses}
 use Rattle.mlir_work_script.specs.declared.command.Command.{Command}
@@ -16,6 +16,7 @@ use Rattle.mlir_work_script.specs.declared.command.Line.TheVariants as line
 use Rattle.mlir_work_script.specs.Keys.{key_bytes, key_in}
 use Rattle.mlir_work_script.specs.Kinds.{kind_of}
 use Rattle.mlir_work_script.specs.Numbers.{number_of}
+use Rattle.mlir_work_script.specs.RuleNames.{name_of, rule_in}
 use Rattle.mlir_work_script.specs.Spots.{spot_of, spot_in}
 use Rattle.mlir_work_script.specs.Values.{op_of, value_of}
 use Rattle.mlir_work_script.specs.Words.{trim, word_of, after_word, words_of}
@@ -40,6 +41,7 @@ said_of (code.Replace old new) = said.Replace old new
 said_of (code.Canon limit) = said.Canon limit
 said_of (code.Convert full clauses) = said.Convert (target_of full (clauses_of clauses))
 said_of code.Sweep = said.Sweep
+said_of (code.Apply rule op) = said.Apply (name_of rule) op
 said_of code.Begin = said.Begin
 said_of code.Commit = said.Commit
 said_of code.Rollback = said.Rollback
@@ -143,6 +145,16 @@ convert_from None clauses = None
 abbrev pub convert_in : List ℕ → Option Said
 convert_in rest = convert_from (mode_of (word_of rest)) (with_clauses (words_of (after_word rest)) (Some no_clauses))
 
+abbrev pub apply_from : Option RuleName → Option ℕ → Option Said
+apply_from (Some rule) (Some op) = Some (said.Apply rule op)
+apply_from (Some rule) None = None
+apply_from None op = None
+
+-- apply RULE #N
+abbrev pub apply_in : List ℕ → Option Said
+apply_in rest =
+    alone (after_word (after_word rest)) (apply_from (rule_in (word_of rest)) (op_of (word_of (after_word rest))))
+
 -- the command of this name, with the text behind the name: one on marks
 abbrev pub mark_command : List ℕ → List ℕ → Option Said
 mark_command name rest =
@@ -157,6 +169,7 @@ transforming_command name rest =
     if bytes_eq name (codes "canon") then canon_in rest
     else if bytes_eq name (codes "convert") then convert_in rest
     else if bytes_eq name (codes "sweep") then alone rest (Some said.Sweep)
+    else if bytes_eq name (codes "apply") then apply_in rest
     else mark_command name rest
 
 -- one that shows or follows

@@ -9,6 +9,7 @@ pub mod Values
 pub mod Kinds
 pub mod Spots
 pub mod Keys
+pub mod RuleNames
 pub mod Commands
 pub mod Writes
 pub mod Limits

@@ -16,7 +16,7 @@ ok_line n = decimal n ++ codes " ok\n"
 abbrev pub made_line : ℕ → ℕ → List ℕ
 made_line n op = decimal n ++ (codes " ok " ++ (op_text op ++ codes "\n"))
 
--- `1 swept 2`, `1 converged 3`, `1 limit 1`, `1 converted 2`
+-- `1 swept 2`, `1 converged 3`, `1 limit 1`, `1 converted 2`, `1 applied 1`
 abbrev pub outcome_line : ℕ → Outcome → List ℕ
 outcome_line n outcome =
     decimal n ++ (codes " " ++ (outcome_word outcome ++ (codes " " ++ (decimal (outcome_count outcome) ++ codes "\n"))))

@@ -5,13 +5,14 @@ ghost use Rattle.std.specs.Str.{is_utf8};
 ghost use Rattle.rewriter_machine.specs.Commands as said;
 ghost use Rattle.mlir_work_script.specs.Commands.{said_of, spoken_of, with_kind, set_operand_in, move_in, set_attr_in};
 ghost use Rattle.mlir_work_script.specs.Commands.{drop_attr_in, erase_in, insert_in, replace_in, alone, limit_in};
-ghost use Rattle.mlir_work_script.specs.Commands.{canon_in, convert_in, entry_command, mark_command, panel_command};
+ghost use Rattle.mlir_work_script.specs.Commands.{apply_in, canon_in, convert_in, entry_command, mark_command, panel_command};
 ghost use Rattle.mlir_work_script.specs.Commands.{transforming_command, command_of, line_says};
 
 use crate::clauses::{Clauses, clauses_in, mode_named};
 use crate::keys::{Key, split_key};
 use crate::kind::{Kind, kind_named};
 use crate::numbers::number;
+use crate::rule_name::{RuleName, rule_named};
 use crate::spots::{Spot, split_spot};
 use crate::values::{op_named, value_named};
 use crate::words::{split_word, trim};
@@ -84,6 +85,13 @@ pub enum Command<'a> {
     },
     /// `sweep` takes the private symbols away that nothing reaches.
     Sweep,
+    /// `apply RULE #N` applies a rule at an operation, where it applies there.
+    Apply {
+        /// The rule, by its number or its word.
+        rule: RuleName<'a>,
+        /// The operation.
+        op: OpId,
+    },
     /// `begin` makes a mark of the module.
     Begin,
     /// `commit` drops the newest mark.
@@ -260,6 +268,20 @@ fn sweep(rest: &[u8]) -> Option<Command<'_>>
     Some(Command::Sweep)
 }
 
+/// `apply RULE #N`, behind its name.
+fn apply(rest: &[u8]) -> Option<Command<'_>>
+    ensures { option_map said_of result ≡ apply_in rest.now }
+{
+    let (rule, rest) = split_word(rest);
+    let (op, left) = split_word(rest);
+    if !left.is_empty() {
+        return None;
+    }
+    let rule = rule_named(rule)?;
+    let op = op_named(op)?;
+    Some(Command::Apply { rule, op })
+}
+
 /// `begin`, behind its name.
 fn begin(rest: &[u8]) -> Option<Command<'_>>
     ensures { option_map said_of result ≡ alone rest.now (Some said.Begin) }
@@ -343,6 +365,9 @@ fn transforming_command<'a>(name: &[u8], rest: &'a [u8]) -> Option<Command<'a>>
     }
     if name == b"sweep".as_slice() {
         return sweep(rest);
+    }
+    if name == b"apply".as_slice() {
+        return apply(rest);
     }
     mark_command(name, rest)
 }

@@ -15,6 +15,7 @@ pub mod lines;
 pub mod numbers;
 pub mod outcome;
 pub mod replies;
+pub mod rule_name;
 pub mod sink;
 pub mod source;
 pub mod spots;

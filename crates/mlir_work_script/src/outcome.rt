@@ -13,6 +13,8 @@ pub enum Outcome {
     Limited(usize),
     /// So many rules of a conversion stand.
     Converted(usize),
+    /// A rule was applied so often: once, or not at all.
+    Applied(usize),
 }
 
 impl Outcome {
@@ -25,6 +27,7 @@ impl Outcome {
             Outcome::Converged(_) => b"converged",
             Outcome::Limited(_) => b"limit",
             Outcome::Converted(_) => b"converted",
+            Outcome::Applied(_) => b"applied",
         }
     }
 
@@ -37,6 +40,7 @@ impl Outcome {
             Outcome::Converged(n) => n,
             Outcome::Limited(n) => n,
             Outcome::Converted(n) => n,
+            Outcome::Applied(n) => n,
         }
     }
 }

@@ -74,7 +74,7 @@ fn has_block(store: &Store, op: OpId, region: u32) -> bool
     }
     match store.node(op) {
         None => false,
-        Some(node) => node.arguments(region).is_some(),
+        Some(node) => node.arguments(region as usize).is_some(),
     }
 }
 

@@ -1,9 +1,9 @@
 -- A conversion behind names that were interned is one of the bench before them.
-use Rattle.std.proofs.Common.{◌≡◌, refl, ap, ◌∙◌, subst, inl, inr, ℕ, [], ◌++◌, Result, Ok, Err, Option, Some, None}
-use Rattle.std.specs.Prelude.{MatchResult}
+use Rattle.std.proofs.Common.{◌≡◌, refl, ap, sym, ◌∙◌, ◌⊎◌, subst, inl, inr, ℕ, [], ◌++◌, Result, Ok, Err, Option, Some, None}
+use Rattle.std.specs.Prelude.{MatchResult, ⊥}
 use Rattle.ir_types.specs.Sound.{Holds}
 use Rattle.ir_types.specs.declared.refusal.Refusal.{Refusal}
-use Rattle.ir_types.specs.declared.refusal.Refusal.TheVariants.{BadTarget}
+use Rattle.ir_types.specs.declared.refusal.Refusal.TheVariants.{BadTarget, Full, Memory}
 use Rattle.ir_event.specs.Listener.{Listener}
 use Rattle.ir_event.specs.Modules.{Module}
 use Rattle.conversion.proofs.of_rewriter_bench.Together.{Ages}
@@ -13,12 +13,12 @@ use Rattle.conversion.specs.rewriter_bench.Held.{module_held}
 use Rattle.conversion.specs.rewriter_bench.Moves.{Recorded}
 use Rattle.conversion.proofs.of_rewriter_bench.Noted.{recorded_more}
 use Rattle.conversion.specs.Runs.{Noted}
-use Rattle.conversion.specs.rewriter_bench.Machine.{Change, Goes, Nothing, State as Machine}
+use Rattle.conversion.specs.rewriter_bench.Machine.{Change, Goes, IsFullSo, Nothing, Refused, State as Machine, due, due_change, fault_reply}
 use Rattle.conversion.proofs.Replied.{converts_goes}
 use Rattle.conversion.specs.Benches.{seen}
 use Rattle.conversion.specs.Conversion.{Ended, converted, given_up, conversion_of}
-use Rattle.conversion.specs.Converting.{conversion_reply, conversion_to, converting, ending}
-use Rattle.conversion.specs.States.{State, Converts, Faults, IsWant}
+use Rattle.conversion.specs.Converting.{conversion_reply, conversion_to, converting, ended_as, ending}
+use Rattle.conversion.specs.States.{State, Converts, Faults, IsFull, IsWant, Wants}
 use Rattle.conversion.specs.Targets.{Aim}
 use Rattle.conversion.specs.declared.fault.Fault.{Fault}
 use Rattle.mlir_work_transforms.specs.Interned.{Interned}
@@ -31,6 +31,23 @@ wants (given_up f x) refusal s w = inr (refl, w)
 converts_from : (e : Ended) (r : Result ℕ Fault) (a m b : State) → m.held ≡ a.held → Converts e r m b → Converts e r a b
 converts_from e (Ok n) a m b same c = c
 converts_from e (Err f) a m b same c = (c.0, c.1 ∙ same)
+
+-- a conversion is refused with 31 only where that is due, or the context is full
+pub convert_full : (o : Option Aim) (s : Machine) (a b : State) (r : Result ℕ Fault) → Converts (conversion_to o s.held) r a b → IsFullSo (IsFull b.things) s (ending (conversion_to o)) (conversion_reply r)
+convert_full o s a b (Ok n) c is = absurd cc
+convert_full o s a b (Err f) c is = go (conversion_to o s.held) refl c.0
+  where
+    no_want : Refused Memory ≡ Refused Full → ⊥
+    no_want e = absurd cc
+
+    wanted : Wants b.things f → (conversion_reply (Err f) ≡ (due s (Change (ending (conversion_to o)))).reply) ⊎ IsFull b.things
+    wanted (none, inl m) = absurd (no_want (sym (λ i. fault_reply (m i) (none i)) ∙ is))
+    wanted (none, inr (m, full)) = inr full
+
+    go : (e : Ended) → conversion_to o s.held ≡ e → Faults e f b.things → (conversion_reply (Err f) ≡ (due s (Change (ending (conversion_to o)))).reply) ⊎ IsFull b.things
+    go (converted m k) so w = wanted w
+    go (given_up x y) so (inl (p, q)) = inl ((λ i. fault_reply (p i) (q i)) ∙ sym (ap (λ (e : Ended). (due_change (ended_as e) s).reply) so))
+    go (given_up x y) so (inr w) = wanted w
 
 module _ {B : Type 0} (meaning : B → Listener) (o : Option Aim) (a m : Benched B) (interned : Interned meaning a m) where
   held_same : module_held m.desk ≡ module_held a.desk

@@ -1,5 +1,6 @@
 pub mod Sweeping
 pub mod Order
+pub mod Applied
 pub mod Converted
 pub mod Listed
 pub mod Named

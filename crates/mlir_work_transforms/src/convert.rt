@@ -21,8 +21,8 @@ use ir_types::refusal::Refusal;
 use mlir_work_script::clauses::Clauses;
 use std::alloc::Global;
 
-/// Converts the module of a bench (Dialect Conversion, "Modes of Conversion") for the target that clauses say. The names of
-/// its lists are interned first. The answer is how many rules stand. It is whole or not made at all.
+/// Converts the module of a bench (Dialect Conversion, "Modes of Conversion") for the target that clauses say. The
+/// names of its lists are interned first. The answer is how many rules stand. It is whole or not made at all.
 ///
 /// Refusals: those of `conversion::convert::convert`; and `Full` or `Memory` where a name of a list has no room in the
 /// context, before the target is looked at.
@@ -32,12 +32,16 @@ pub fn convert<L: Analysis>(
     full: bool,
     clauses: &Clauses<'_>,
 ) -> Result<u32, Fault>
-    ensures does { Does L.meaning (Change (conversion (said_target full (clauses_of clauses.now)))) (conversion_reply result) bench.old bench.new }
-    ensures converts { Converts (conversion_to (command_aim (said_target full (clauses_of clauses.now))) (module_held bench.old.desk)) result (seen bench.old) (seen bench.new) }
+    ensures does { Does L.meaning (Change (conversion (said_target full (clauses_of clauses.now))))
+        (conversion_reply result) bench.old bench.new }
+    ensures converts { Converts
+        (conversion_to (command_aim (said_target full (clauses_of clauses.now))) (module_held bench.old.desk)) result
+        (seen bench.old) (seen bench.new) }
     ensures none { OnOk result (has_no_cast (module_held bench.new.desk).tree ≡ true) }
     ensures grows { Grows bench.old.desk.ctx bench.new.desk.ctx }
     ensures led { Led L.meaning bench.old bench.new }
-    ensures journal { MatchResult result (λ _. Noted bench.old.desk bench.new.desk) (λ _. Recorded [] bench.old.desk bench.new.desk) }
+    ensures journal { MatchResult result (λ _. Noted bench.old.desk bench.new.desk)
+        (λ _. Recorded [] bench.old.desk bench.new.desk) }
 {
     led_benches_are_kept::<L>();
     bench.is_formed();

@@ -21,7 +21,8 @@ use std::alloc::Global;
 
 /// Why a conversion is refused where a name finds no number: the context is full, or there is no memory.
 fn wanting(refusal: Refusal) -> Refusal
-    ensures { (bytes : List ℕ) (c : Things) (named : Named ℕ Reason) → named ≡ Err refusal → IsRefusedFor (name_reason bytes c) named → IsWant c result }
+    ensures { (bytes : List ℕ) (c : Things) (named : Named ℕ Reason) → named ≡ Err refusal
+        → IsRefusedFor (name_reason bytes c) named → IsWant c result }
 {
     if refusal == Refusal::TooMany {
         return Refusal::Full;
@@ -49,7 +50,9 @@ fn intern_onto<L: Analysis>(
     numbers: &mut Names,
     bytes: &[u8],
 ) -> Result<(), Refusal>
-    ensures named { OnOk result ((names : List (List ℕ)) → AreNumbers bench.old.desk.ctx numbers.old names → AreNumbers bench.new.desk.ctx numbers.new (names ++ bytes.now ∷ [])) }
+    ensures named { OnOk result
+        ((names : List (List ℕ)) → AreNumbers bench.old.desk.ctx numbers.old names
+        → AreNumbers bench.new.desk.ctx numbers.new (names ++ bytes.now ∷ [])) }
     ensures want { IfErr result (IsWant bench.new.desk.ctx) }
     ensures interned { Interned L.meaning bench.old bench.new }
 {

@@ -18,8 +18,8 @@ use std::alloc::Global;
 /// How deep rules may follow one another, where no clause says.
 const DEPTH: u32 = 16;
 
-/// The target that clauses say, if each of their numbers names a rule, in numbers of the context of a bench, which grows
-/// with the names of its lists.
+/// The target that clauses say, if each of their numbers names a rule, in numbers of the context of a bench, which
+/// grows with the names of its lists.
 pub(crate) fn target_of<L: Analysis>(
     alloc: Global,
     bench: &mut Bench<L>,
@@ -27,7 +27,9 @@ pub(crate) fn target_of<L: Analysis>(
     clauses: &Clauses<'_>,
 ) -> Result<Option<Target>, Refusal>
     ensures names { IfOk result (λ target. IfSome target (IsNamedIn bench.new.desk.ctx)) }
-    ensures aim { IfOk result (λ target. option_map (aim_of bench.new.desk.ctx) target ≡ command_aim (said_target full (clauses_of clauses.now))) }
+    ensures aim { IfOk result
+        (λ target. option_map (aim_of bench.new.desk.ctx) target
+        ≡ command_aim (said_target full (clauses_of clauses.now))) }
     ensures want { IfErr result (IsWant bench.new.desk.ctx) }
     ensures interned { Interned L.meaning bench.old bench.new }
 {

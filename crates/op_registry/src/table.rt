@@ -81,7 +81,7 @@ const ARITHMETIC: OpDef = OpDef {
     ..BARE
 };
 
-/// The same, with overflow flags.
+/// Two numbers of one type, which is that of the result, with overflow flags.
 const FLAGGED: OpDef = OpDef {
     properties: &[OVERFLOW],
     ..ARITHMETIC

@@ -4,7 +4,7 @@ use Rattle.ir_tree.specs.Meaning.{IsSoundIn, isolated_in}
 use Rattle.ir_tree.specs.WellFormed.{IsWellFormed}
 use Rattle.ir_event.proofs.Steps.{formed_meaning, sorted_meaning}
 use Rattle.patterns_base.specs.declared.rule.Rule.{Rule}
-use Rattle.patterns_free.specs.Accepted.{AreAccepted, IsAcceptedAt}
+use Rattle.patterns_facts.specs.Accepted.{AreAccepted, IsAcceptedAt}
 use Rattle.patterns_runs.specs.Held.{Held, module_held}
 
 pub accepted_of : AreAccepted → (h : Held) → IsSoundIn h.ctx h.store.module_of.tree → IsWellFormed (isolated_in h.ctx) h.store.module_of → (r : Rule) (x : ℕ) → IsAcceptedAt r (module_held h) x

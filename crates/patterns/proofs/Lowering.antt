@@ -14,7 +14,7 @@ use Rattle.patterns_base.specs.Looks.{Header}
 use Rattle.patterns_base.specs.RuleNames.{is_canonical}
 use Rattle.patterns_base.specs.Rules.{rules_for}
 use Rattle.patterns_base.specs.declared.rule.Rule.{Rule}
-use Rattle.patterns_free.specs.Accepted.{AreAccepted}
+use Rattle.patterns_facts.specs.Accepted.{AreAccepted}
 use Rattle.patterns_base.specs.Canonicalization.{TableSuffices, first_rule, lowest}
 use Rattle.patterns_base.specs.Rewrites.{none, edits_of, rewrite_of, carried_out}
 use Rattle.patterns.specs.Applied.{Gave}

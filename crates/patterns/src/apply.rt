@@ -13,7 +13,7 @@ use ir_event::analysis::Analysis;
 use ir_types::ids::OpId;
 use ir_types::refusal::Refusal;
 use patterns_base::rule::Rule;
-use patterns_free::laws::no_edit_is_refused;
+use patterns_facts::laws::no_edit_is_refused;
 use patterns_runs::Bench;
 use std::alloc::Global;
 

@@ -98,7 +98,7 @@ pub(crate) fn flags_attr<L: Analysis>(bench: &mut Bench<L>) -> Result<AttrId, Re
     )
 }
 
-/// The same, where operations of a name have flags.
+/// The attribute of flags of which none are set, where operations of a name have flags.
 pub(crate) fn flags_for<L: Analysis>(
     bench: &mut Bench<L>,
     name: NameId,

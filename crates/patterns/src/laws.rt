@@ -1,6 +1,6 @@
 //! Laws of the rules on values: the operations that a rule makes give the values that the old one gave. And of the
 //! edits of all rules: none is refused for a reason.
-pub use patterns_free::laws::no_edit_is_refused;
+pub use patterns_facts::laws::no_edit_is_refused;
 pub use patterns_laws::laws::{
     add_negative, cancel_itself, cast_back, choose_known, choose_opposite, choose_same,
     choose_truth, compare_itself, compare_zero, cut_cast, drop_all_ones, drop_one, drop_zero,

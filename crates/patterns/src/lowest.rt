@@ -24,7 +24,7 @@ use ir_types::refusal::Refusal;
 use patterns_base::laws::only_listed_rules_apply;
 use patterns_base::rule::Rule;
 use patterns_base::table::rules_of;
-use patterns_free::laws::no_edit_is_refused;
+use patterns_facts::laws::no_edit_is_refused;
 use patterns_reads::clean::is_clean;
 use patterns_reads::look::{front, shown};
 use patterns_runs::Bench;

@@ -1,6 +1,6 @@
 -- That no edit is refused, as a fact of one rule.
 use Rattle.patterns_base.specs.declared.rule.Rule.{Rule}
-use Rattle.patterns_free.proofs.Accepted.{are_accepted}
+use Rattle.patterns_facts.proofs.Accepted.{are_accepted}
 use Rattle.patterns_facts.specs.Facts.{IsAccepted}
 
 pub are_accepted_at : (r : Rule) → IsAccepted r

@@ -12,7 +12,7 @@ use Rattle.patterns_base.specs.declared.rule.Rule.{Rule}
 use Rattle.patterns_base.specs.RuleNames.{is_converting, is_lowering}
 use Rattle.patterns_base.specs.Makes.{made_by}
 use Rattle.patterns_base.specs.Rules.{has_rule, rule}
-use Rattle.patterns_free.specs.Accepted.{IsAcceptedAt}
+use Rattle.patterns_facts.specs.Accepted.{IsAcceptedAt}
 use Rattle.patterns_facts.specs.Alike.{LooksAlike, Same}
 use Rattle.patterns_facts.specs.Near.{AreNear}
 use Rattle.patterns_facts.specs.Values.{KeepsValues}

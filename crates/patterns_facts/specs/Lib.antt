@@ -1,3 +1,4 @@
+pub mod Accepted
 pub mod Near
 pub mod Alike
 pub mod Values

@@ -1,5 +1,5 @@
--- Edits near an operation: they make operations in front of it, change heads, move the operations of one of its blocks in
--- front of it, and erase it.
+-- Edits near an operation: they make operations in front of it, change heads, move the operations of one of its blocks
+-- in front of it, and erase it.
 use Rattle.std.specs.Prelude.{◌≡◌, ◌⊎◌, ℕ, List, [], ◌∷◌, Some}
 use Rattle.ir_types.specs.Terms.{TypeTerm, AttrTerm}
 use Rattle.ir_tree.specs.declared.place.Place.{Place}

@@ -1,5 +1,5 @@
--- What each rule keeps of values: for all values of the operands for which the old operations fold, the new ones give the
--- same value, at every width. Rules on blocks make no value.
+-- What each rule keeps of values: for all values of the operands for which the old operations fold, the new ones give
+-- the same value, at every width. Rules on blocks make no value.
 use Rattle.std.specs.Prelude.{codes}
 use Rattle.patterns_laws.specs.Words.{swapping, ignoring_zero, ignoring_one, cancelling, keeping, remainders}
 use Rattle.patterns_laws.specs.Words.{regrouping, index_casts, arithmetic, asking, dividing}

@@ -1,26 +1,13 @@
 //! Operations are read without the operations in their blocks.
 ghost use Rattle.std.specs.Prelude.{◌≡◌, ◌≤◌, IfOk, length, map, option_map};
-ghost use Rattle.ir_tree.specs.Ids.{find};
 ghost use Rattle.ir_tree.specs.Limits.{most_regions};
 ghost use Rattle.ir_tree.specs.View.{region_view};
-ghost use Rattle.ir_store.specs.Nodes.{node_of};
 ghost use Rattle.patterns_lowering.specs.Bare.{bare_read, region_with};
 
-use ir_event::world::World;
 use ir_store::node::Node;
 use ir_tree::tree::{TreeOp, TreeRegion};
 use ir_types::ids::{OpId, TypeId};
 use std::alloc::{AllocError, Global};
-
-/// An operation of the module, to be read.
-pub(crate) fn found(world: &World, op: OpId) -> Option<Node<'_>>
-    ensures { result ≡ option_map node_of (find op world.now.store.module_of.tree) }
-{
-    if !world.store.in_tree(op) {
-        return None;
-    }
-    world.store.node(op)
-}
 
 /// A region whose block has these arguments, if there is one.
 fn bare_region(alloc: Global, arguments: Option<&[TypeId]>) -> Result<TreeRegion, AllocError>
@@ -43,7 +30,7 @@ fn bare_regions(alloc: Global, node: &Node<'_>) -> Result<Vec<TreeRegion>, Alloc
     let mut regions = Vec::new(alloc);
     let count = node.region_count() as u32;
     'regions: for number in 0..count {
-        let region = bare_region(alloc, node.arguments(number))?;
+        let region = bare_region(alloc, node.arguments(number as usize))?;
         regions.push(region)?;
     }
     Ok(regions)

@@ -5,7 +5,6 @@ ghost use Rattle.patterns_base.specs.RuleNames.{is_lowering};
 ghost use Rattle.patterns_lowering.specs.Planned.{IsCleanAt, IsLoweredAt, IsLoweredBy};
 ghost use Rattle.patterns_lowering.specs.Plans.{LoweringIsOf};
 
-use crate::bare::found;
 use crate::index::indices;
 use crate::marks::any;
 use crate::plan::{IndexedChoice, IndexedLoop, Lowering};
@@ -33,7 +32,7 @@ pub(crate) fn plan_lower_index(
     ensures edits { IfOk result (IsLoweredBy lower_index world.now op) }
     ensures of { IfOk result (λ p. IfSome p (LoweringIsOf world.now.ctx)) }
 {
-    let Some(node) = found(world, op) else {
+    let Some(node) = world.shown(op) else {
         return Ok(None);
     };
     if !is_user(&world.ctx, node.name()) {
@@ -56,7 +55,7 @@ pub(crate) fn plan_lower_loop(
     ensures edits { IfOk result (IsLoweredBy lower_loop world.now op) }
     ensures of { IfOk result (λ p. IfSome p (LoweringIsOf world.now.ctx)) }
 {
-    let Some(node) = found(world, op) else {
+    let Some(node) = world.shown(op) else {
         return Ok(None);
     };
     if !world.ctx.is_word(node.name(), Word::ScfFor) {
@@ -92,7 +91,7 @@ pub(crate) fn plan_lower_choice(
     ensures edits { IfOk result (IsLoweredBy lower_choice world.now op) }
     ensures of { IfOk result (λ p. IfSome p (LoweringIsOf world.now.ctx)) }
 {
-    let Some(node) = found(world, op) else {
+    let Some(node) = world.shown(op) else {
         return Ok(None);
     };
     if !world.ctx.is_word(node.name(), Word::ScfIf) {

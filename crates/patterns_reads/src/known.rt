@@ -47,7 +47,7 @@ pub fn clean_giver<'a>(
     Ok(Some(node))
 }
 
-/// The same, if its name is a word.
+/// What the operation has of which a value is a result, if that is clean and its name is a word.
 pub fn source<'a>(
     alloc: Global,
     world: &'a World,

@@ -1,37 +1,29 @@
 -- Nodes, and the operations that they show.
-use Rattle.std.proofs.Common.{Bor, ◌≡◌, refl, ap, sym, ◌∙◌, subst, ℕ, zero, suc, ◌≤◌, ◌<◌, List, [], ◌∷◌, length, map, Bool, true, false, Option, Some, None, arith}
+use Rattle.std.proofs.Common.{Bor, ◌≡◌, refl, ap, sym, ◌∙◌, subst, ℕ, zero, suc, ◌≤◌, ◌<◌, List, [], ◌∷◌, length, map, Bool, true, Option, Some, None, arith}
 use Rattle.std.specs.Prelude.{is_some, slice_get, option_map, option_and_then}
-use Rattle.std.specs.FinMap as finmap
 use Rattle.std.proofs.lemmas.Option.{slice_get-map}
 use Rattle.ir_types.specs.Things.{Things}
 use Rattle.ir_types.specs.Terms.{TypeTerm, AttrTerm, name_term, type_term, attr_term}
 use Rattle.ir_tree.specs.Tree.{op, Op, RegionsOf, no_regions, region, RegionOf, empty, block, head, regions}
-use Rattle.ir_tree.specs.Ids.{HasDistinctIds, find, has_id, first_of}
+use Rattle.ir_tree.specs.Ids.{find}
 use Rattle.ir_tree.specs.Meaning.{Operation, meaning}
 use Rattle.ir_tree.proofs.Mapped.{map_find}
 use Rattle.ir_tree_laws.specs.Values.{region_at, arguments_of, arguments_at}
-use Rattle.ir_tree_laws.proofs.Members.{stand_found, found_stands}
-use Rattle.ir_tree_laws.proofs.Around.{absent_find, present_stand}
+use Rattle.ir_tree_laws.proofs.Members.{found_stands}
 use Rattle.ir_store.specs.Nodes.{NodeOf, Node, node_of, regions_arguments}
-use Rattle.ir_store.specs.Stored.{Stored, known}
 use Rattle.ir_event.specs.Modules.{node_meaning}
 use Rattle.ir_event.proofs.Nodes.{node_shown}
 use Rattle.patterns_reads.specs.Reads.{head_in}
 use Rattle.patterns_regions.specs.Blocks.{Shows, is_block}
 
--- an operation that isn't there, and one that is
-pub none_at : (c : Things) (x : ℕ) (t : Op) (b : Bool) → b ≡ has_id x t → b ≡ false → None ≡ option_map (λ o. node_of o) (find x (meaning c t))
-none_at c x t b e f = sym (ap (option_map (λ o. node_of o)) (map_find (name_term c) (type_term c) (attr_term c) x t ∙ ap (option_map (meaning c)) (absent_find x t (sym e ∙ f))))
-
-pub some_at : (c : Things) (x : ℕ) (s : Stored) → HasDistinctIds s.module_of.tree → (r : Option Node) (b : Bool) → b ≡ has_id x s.module_of.tree → b ≡ true → r ≡ option_map node_of (known x s)
-    → option_map (node_meaning c) r ≡ option_map (λ o. node_of o) (find x (meaning c s.module_of.tree))
-some_at c x s d r b e f is =
-    let t = s.module_of.tree in
-    let w = present_stand [] t x (sym e ∙ f) in
-    let found : find x t ≡ Some w.0.here = ap (λ y. find y t) (sym w.2) ∙ stand_found t d w.0 w.1 in
-    ap (option_map (node_meaning c)) (is ∙ ap (λ o. option_map node_of (first_of o (finmap.get s.held x))) found)
-    ∙ ap Some (sym (node_shown c w.0.here))
-    ∙ sym (ap (option_map (λ o. node_of o)) (map_find (name_term c) (type_term c) (attr_term c) x t ∙ ap (option_map (meaning c)) found))
+-- what a world shows of an operation
+pub shown_at : (c : Things) (x : ℕ) (t : Op) (r : Option Node) → r ≡ option_map node_of (find x t) → option_map (node_meaning c) r ≡ option_map (λ o. node_of o) (find x (meaning c t))
+shown_at c x t r is =
+    ap (option_map (node_meaning c)) is ∙ go (find x t) ∙ sym (ap (option_map (λ o. node_of o)) (map_find (name_term c) (type_term c) (attr_term c) x t))
+  where
+    go : (o : Option Op) → option_map (node_meaning c) (option_map node_of o) ≡ option_map (λ o. node_of o) (option_map (meaning c) o)
+    go None = refl
+    go (Some o) = ap Some (sym (node_shown c o))
 
 -- what is true of the operation that a node shows, whatever is in its blocks, is true of the one that is there
 module _ (c : Things) (n : Node) (f : Option Operation) (P : Option Operation → Type 0) where

@@ -10,7 +10,6 @@ ghost use Rattle.ir_store.specs.Nodes.{node_of};
 ghost use Rattle.ir_event.specs.Modules.{NodeIsOf, module_in, node_meaning};
 ghost use Rattle.patterns_regions.specs.Blocks.{Shows, before_at, body_at, ended_in, is_block};
 
-use ir_event::laws::nodes_are_of_the_context;
 use ir_event::world::World;
 use ir_store::node::Node;
 use ir_types::ids::{OpId, TypeId};
@@ -35,11 +34,7 @@ pub fn node_at(world: &World, op: OpId) -> Option<Node<'_>>
         ≡ option_map (λ o. node_of o) (find op (module_in world.now).tree) }
     ensures of { IfSome result (NodeIsOf world.now.ctx) }
 {
-    nodes_are_of_the_context();
-    if !world.store.in_tree(op) {
-        return None;
-    }
-    world.store.node(op)
+    world.shown(op)
 }
 
 /// Whether a region of the operation that a node shows has a block. None where there is no such region.
@@ -50,7 +45,7 @@ pub fn has_block(node: &Node<'_>, region: u32) -> Option<bool>
     if region as usize >= node.region_count() {
         return None;
     }
-    Some(node.arguments(region).is_some())
+    Some(node.arguments(region as usize).is_some())
 }
 
 /// The types of the arguments of the block of a region of the operation that a node shows, if it has one.
@@ -58,7 +53,7 @@ pub fn block_arguments<'a>(node: &'a Node<'_>, region: u32) -> Option<&'a [TypeI
     ensures { (c : Things) (o : Operation) → Shows c node.now o
         → option_map (λ a. map (type_term c) a.now) result ≡ arguments_at region o }
 {
-    node.arguments(region)
+    node.arguments(region as usize)
 }
 
 /// The operations of a block but the last, in order.

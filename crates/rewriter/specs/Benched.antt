@@ -52,7 +52,8 @@ module _ {B : Type 0} (meaning : B → Listener) where
   pub record Heard (es : List Event) (old new : Benched B) : Type 0 where
     pub grows : Grows old.desk.ctx new.desk.ctx
     pub steps : Steps new.desk.ctx es (module_held old.desk) (module_held new.desk)
-    pub told : AllFollowed meaning es old.desk.ctx (module_held old.desk) new.desk.ctx (module_held new.desk) old.listeners new.listeners
+    pub told : AllFollowed meaning es old.desk.ctx (module_held old.desk) new.desk.ctx
+        (module_held new.desk) old.listeners new.listeners
 
   -- the listeners were told of events that lead from the one module to the other, and of no others
   abbrev pub Led : Benched B → Benched B → Type 0

@@ -13,7 +13,8 @@ use Rattle.rewriter_laws.specs.Inserting.{all_made}
 
 -- each of these operations is of a context, and holds none in its blocks
 abbrev pub AreHeadersOf : Things → List (Place × Op) → Type 0
-AreHeadersOf c hs = (us vs : List (Place × Op)) (u : Place × Op) → us ++ u ∷ vs ≡ hs → IsSoundIn c u.1 × (hold_none (regions u.1) ≡ true)
+AreHeadersOf c hs = (us vs : List (Place × Op)) (u : Place × Op) → us ++ u ∷ vs ≡ hs
+    → IsSoundIn c u.1 × (hold_none (regions u.1) ≡ true)
 
 -- one of some headers, which are made in their order in a module, is refused for a reason
 pub record IsRefusedAmong (w : TestsOf ℕ ℕ) (hs : List (Place × Op)) (m : Module) (reason : Refusal) : Type 0 where

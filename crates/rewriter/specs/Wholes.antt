@@ -16,12 +16,13 @@ IsDoneOrNoted h (Err e) = (e ≡ Memory) × (h.marks ≢ [])
 -- the newest open mark was dropped, and the module stays, or the one of the mark is held again
 pub record IsFinished (stays : Bool) (old new : Held) : Type 0 where
   pub ctx : new.ctx ≡ old.ctx
-  pub held : (k : OpenMark) (ks : List OpenMark) → open_marks old ≡ k ∷ ks → module_held new ≡ (if stays then module_held old else k.marked)
+  pub held : (k : OpenMark) (ks : List OpenMark) → open_marks old ≡ k ∷ ks
+      → module_held new ≡ (if stays then module_held old else k.marked)
   pub marks : (k : OpenMark) (ks : List OpenMark) → open_marks old ≡ k ∷ ks → open_marks new ≡ ks
   pub dropped : old.marks ≢ [] → Dropped stays old new
 
--- the context, the marks and the modules that they are of stay, the listeners, which mean this, were told of the events,
--- and the journal has them
+-- the context, the marks and the modules that they are of stay, the listeners, which mean this, were told of the
+-- events, and the journal has them
 pub record Onward {B : Type 0} (meaning : B → Listener) (old new : Benched B) : Type 0 where
   pub ctx : new.desk.ctx ≡ old.desk.ctx
   pub marks : new.desk.marks ≡ old.desk.marks

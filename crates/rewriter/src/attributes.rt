@@ -35,8 +35,8 @@ fn has_entry(ctx: &Context, entries: &[(NameId, AttrId)], key: NameId) -> bool
     false
 }
 
-/// The dictionary of an operation in which a key belongs: the properties, where it is inherent or they have it, else the
-/// attributes.
+/// The dictionary of an operation in which a key belongs: the properties, where it is inherent or they have it, else
+/// the attributes.
 fn part_for(ctx: &Context, store: &Store, op: OpId, key: NameId) -> Part
     ensures { result ≡ part_for (tests_in ctx.now) op key store.now.module_of.tree }
 {
@@ -57,15 +57,20 @@ fn part_for(ctx: &Context, store: &Store, op: OpId, key: NameId) -> Part
 
 impl<L: Analysis> Bench<L> {
     /// Sets a key of an operation to an attribute: a property, where the key is inherent to the operation or its
-    /// properties have it, else an attribute (Language Reference, "Operations", on inherent and discardable attributes).
+    /// properties have it, else an attribute (Language Reference, "Operations", on inherent and discardable
+    /// attributes).
     ///
     /// Refusals, in order: `NoSuchOp`; `Full` where the dictionary has no room for one more; and `Memory`.
     pub fn set_attr(&mut self, op: OpId, key: NameId, attr: AttrId) -> Result<(), Refusal>
         requires key { IsName self.old.desk.ctx key }
         requires attr { IsAttr self.old.desk.ctx attr }
-        ensures ok { OnOk result (Made L.meaning (after_entry (key_before_in self.old.desk.ctx) op (part_for (tests_in self.old.desk.ctx) op key self.old.desk.store.module_of.tree) key (Some attr) self.old.desk.store) self.old self.new) }
+        ensures ok { OnOk result
+            (Made L.meaning (after_entry (key_before_in self.old.desk.ctx) op
+            (part_for (tests_in self.old.desk.ctx) op key self.old.desk.store.module_of.tree) key
+            (Some attr) self.old.desk.store) self.old self.new) }
         ensures err { OnErr result (self.new ≡ self.old) }
-        ensures does { Does L.meaning (Do (edit_meaning self.old.desk.ctx (SetAttr op key attr))) (reply_of result) self.old self.new }
+        ensures does { Does L.meaning (Do (edit_meaning self.old.desk.ctx (SetAttr op key attr)))
+            (reply_of result) self.old self.new }
         ensures led { Led L.meaning self.old self.new }
         ensures ctx { self.new.desk.ctx ≡ self.old.desk.ctx }
         ensures journal { Keeps L.meaning result self.old self.new }
@@ -78,9 +83,13 @@ impl<L: Analysis> Bench<L> {
     /// Refusals, in order: `NoSuchOp`; `NoSuchKey`; and `Memory`.
     pub fn drop_attr(&mut self, op: OpId, key: NameId) -> Result<(), Refusal>
         requires key { IsName self.old.desk.ctx key }
-        ensures ok { OnOk result (Made L.meaning (after_entry (key_before_in self.old.desk.ctx) op (part_for (tests_in self.old.desk.ctx) op key self.old.desk.store.module_of.tree) key None self.old.desk.store) self.old self.new) }
+        ensures ok { OnOk result
+            (Made L.meaning (after_entry (key_before_in self.old.desk.ctx) op
+            (part_for (tests_in self.old.desk.ctx) op key self.old.desk.store.module_of.tree) key None
+            self.old.desk.store) self.old self.new) }
         ensures err { OnErr result (self.new ≡ self.old) }
-        ensures does { Does L.meaning (Do (edit_meaning self.old.desk.ctx (DropAttr op key))) (reply_of result) self.old self.new }
+        ensures does { Does L.meaning (Do (edit_meaning self.old.desk.ctx (DropAttr op key)))
+            (reply_of result) self.old self.new }
         ensures led { Led L.meaning self.old self.new }
         ensures ctx { self.new.desk.ctx ≡ self.old.desk.ctx }
         ensures journal { Keeps L.meaning result self.old self.new }
@@ -94,8 +103,14 @@ impl<L: Analysis> Bench<L> {
     fn enter(&mut self, op: OpId, key: NameId, value: Option<AttrId>) -> Result<(), Refusal>
         requires key { IsName self.old.desk.ctx key }
         requires value { IfSome value (λ a. IsAttr self.old.desk.ctx a) }
-        ensures ok { OnOk result (Made L.meaning (after_entry (key_before_in self.old.desk.ctx) op (part_for (tests_in self.old.desk.ctx) op key self.old.desk.store.module_of.tree) key value self.old.desk.store) self.old self.new) }
-        ensures refused { IsAnswered (Unit {0}) (set_entry_reason (key_before_in self.old.desk.ctx) op (part_for (tests_in self.old.desk.ctx) op key self.old.desk.store.module_of.tree) key value self.old.desk.store.module_of.tree) result }
+        ensures ok { OnOk result
+            (Made L.meaning (after_entry (key_before_in self.old.desk.ctx) op
+            (part_for (tests_in self.old.desk.ctx) op key self.old.desk.store.module_of.tree) key value
+            self.old.desk.store) self.old self.new) }
+        ensures refused { IsAnswered (Unit {0})
+            (set_entry_reason (key_before_in self.old.desk.ctx) op
+            (part_for (tests_in self.old.desk.ctx) op key self.old.desk.store.module_of.tree) key value
+            self.old.desk.store.module_of.tree) result }
         ensures err { OnErr result (self.new ≡ self.old) }
         ensures led { Led L.meaning self.old self.new }
         ensures ctx { self.new.desk.ctx ≡ self.old.desk.ctx }

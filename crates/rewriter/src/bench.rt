@@ -1,5 +1,6 @@
 //! The bench.
-ghost use Rattle.std.specs.Prelude.{◌≡◌, [], length, slice_get, ◌↔◌, ◌≢◌, ◌<◌, ◌⊎◌, IsTrue, OnErr, IfErr, IfOk, IsOk, Some, true, None};
+ghost use Rattle.std.specs.Prelude.{◌≡◌, [], length, slice_get, ◌↔◌, ◌≢◌, ◌<◌, ◌⊎◌, IsTrue, OnErr, IfErr, IfOk, IsOk};
+ghost use Rattle.std.specs.Prelude.{Some, true, None};
 ghost use Rattle.std.specs.List.{All};
 ghost use Rattle.ir_types.specs.Things.{TypeIsOf, AttrIsOf};
 ghost use Rattle.ir_types.specs.Interning.{with_name, with_type, with_attr, knows_name, knows_type, knows_attr};
@@ -85,7 +86,12 @@ impl<L: Analysis> Bench<L> {
     /// A bench without marks or listeners, over the module of a world. What was taken from it is given up.
     pub fn over(alloc: Global, world: World) -> Bench<L>
         requires slotted { IsSlotted world.store }
-        ensures desk { Settled (record { ctx = things_in world; store = world.store; journal = []; marks = [] }) result.desk }
+        ensures desk { Settled (record {
+          ctx = things_in world;
+          store = world.store;
+          journal = [];
+          marks = [];
+        }) result.desk }
         ensures listeners { result.listeners ≡ [] }
     {
         let mut desk = Desk::new(alloc, world);
@@ -180,7 +186,8 @@ impl<L: Analysis> Bench<L> {
         requires { TypeIsOf self.old.desk.ctx node }
         ensures ok { IfOk result (λ id. (id, self.new.desk.ctx) ≡ with_type node self.old.desk.ctx) }
         ensures refused { IsRefusedFor (type_reason node self.old.desk.ctx) result }
-        ensures known { knows_type node self.old.desk.ctx ≡ true → type_reason node self.old.desk.ctx ≡ None → IsOk result }
+        ensures known { knows_type node self.old.desk.ctx ≡ true → type_reason node self.old.desk.ctx ≡ None
+            → IsOk result }
         ensures err { OnErr result (self.new ≡ self.old) }
         ensures grown { Grown self.old.desk self.new.desk }
         ensures listeners { self.new.listeners ≡ self.old.listeners }
@@ -199,7 +206,8 @@ impl<L: Analysis> Bench<L> {
         requires { AttrIsOf self.old.desk.ctx node }
         ensures ok { IfOk result (λ id. (id, self.new.desk.ctx) ≡ with_attr node self.old.desk.ctx) }
         ensures refused { IsRefusedFor (attr_reason node self.old.desk.ctx) result }
-        ensures known { knows_attr node self.old.desk.ctx ≡ true → attr_reason node self.old.desk.ctx ≡ None → IsOk result }
+        ensures known { knows_attr node self.old.desk.ctx ≡ true → attr_reason node self.old.desk.ctx ≡ None
+            → IsOk result }
         ensures err { OnErr result (self.new ≡ self.old) }
         ensures grown { Grown self.old.desk self.new.desk }
         ensures listeners { self.new.listeners ≡ self.old.listeners }

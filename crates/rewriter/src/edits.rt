@@ -32,9 +32,12 @@ impl<L: Analysis> Bench<L> {
         requires bare { holds_none (Some header.now) ≡ true }
         ensures id { IfOk result (λ x. x ≡ self.old.desk.store.module_of.next) }
         ensures ok { OnOk result (Made L.meaning (after_put place header.now self.old.desk.store) self.old self.new) }
-        ensures refused { IsAnswered (Unit {0}) (put_reason (isolated_in self.old.desk.ctx) place header.now self.old.desk.store.module_of.next self.old.desk.store.module_of.tree) result }
+        ensures refused { IsAnswered (Unit {0})
+            (put_reason (isolated_in self.old.desk.ctx) place header.now self.old.desk.store.module_of.next
+            self.old.desk.store.module_of.tree) result }
         ensures err { OnErr result (self.new ≡ self.old) }
-        ensures does { Does L.meaning (Do (edit_meaning self.old.desk.ctx (Make place header.now))) (id_reply_of result) self.old self.new }
+        ensures does { Does L.meaning (Do (edit_meaning self.old.desk.ctx (Make place header.now)))
+            (id_reply_of result) self.old self.new }
         ensures led { Led L.meaning self.old self.new }
         ensures ctx { self.new.desk.ctx ≡ self.old.desk.ctx }
         ensures journal { Keeps L.meaning result self.old self.new }
@@ -56,7 +59,8 @@ impl<L: Analysis> Bench<L> {
     /// value of it is used; and `Memory` where a mark is open.
     pub(crate) fn take(&mut self, op: OpId) -> Result<(), Refusal>
         ensures ok { OnOk result (Made L.meaning (after_take op self.old.desk.store) self.old self.new) }
-        ensures refused { IsAnswered (self.old.desk.marks ≢ []) (take_reason op self.old.desk.store.module_of.tree) result }
+        ensures refused { IsAnswered (self.old.desk.marks ≢ [])
+            (take_reason op self.old.desk.store.module_of.tree) result }
         ensures err { OnErr result (self.new ≡ self.old) }
         ensures led { Led L.meaning self.old self.new }
         ensures ctx { self.new.desk.ctx ≡ self.old.desk.ctx }
@@ -74,14 +78,16 @@ impl<L: Analysis> Bench<L> {
 
     /// Makes a value an operand of an operation, in place of the one that was there. The types may differ.
     ///
-    /// Refusals, in order: `NoSuchOp`; `NoSuchIndex` where it has no such operand; `NoSuchValue`; `NotVisible` where the
-    /// operation doesn't see the value (Language Reference, "Regions", on value scoping); and `Memory` where a mark is
-    /// open.
+    /// Refusals, in order: `NoSuchOp`; `NoSuchIndex` where it has no such operand; `NoSuchValue`; `NotVisible` where
+    /// the operation doesn't see the value (Language Reference, "Regions", on value scoping); and `Memory` where a mark
+    /// is open.
     pub fn set_operand(&mut self, op: OpId, k: u32, value: Value) -> Result<(), Refusal>
         ensures ok { OnOk result (Made L.meaning (after_operand op k value self.old.desk.store) self.old self.new) }
-        ensures refused { IsAnswered (self.old.desk.marks ≢ []) (set_operand_reason (isolated_in self.old.desk.ctx) op k value self.old.desk.store.module_of.tree) result }
+        ensures refused { IsAnswered (self.old.desk.marks ≢ [])
+            (set_operand_reason (isolated_in self.old.desk.ctx) op k value self.old.desk.store.module_of.tree) result }
         ensures err { OnErr result (self.new ≡ self.old) }
-        ensures does { Does L.meaning (Do (edit_meaning self.old.desk.ctx (SetOperand op k value))) (reply_of result) self.old self.new }
+        ensures does { Does L.meaning (Do (edit_meaning self.old.desk.ctx (SetOperand op k value)))
+            (reply_of result) self.old self.new }
         ensures led { Led L.meaning self.old self.new }
         ensures ctx { self.new.desk.ctx ≡ self.old.desk.ctx }
         ensures journal { Keeps L.meaning result self.old self.new }
@@ -104,9 +110,12 @@ impl<L: Analysis> Bench<L> {
     /// mark is open.
     pub fn move_op(&mut self, op: OpId, place: Place) -> Result<(), Refusal>
         ensures ok { OnOk result (Made L.meaning (after_shift op place self.old.desk.store) self.old self.new) }
-        ensures refused { IsAnswered (self.old.desk.marks ≢ []) (shift_reason (isolated_in self.old.desk.ctx) (λ n. is_table (name_term self.old.desk.ctx n)) op place self.old.desk.store.module_of.tree) result }
+        ensures refused { IsAnswered (self.old.desk.marks ≢ [])
+            (shift_reason (isolated_in self.old.desk.ctx)
+            (λ n. is_table (name_term self.old.desk.ctx n)) op place self.old.desk.store.module_of.tree) result }
         ensures err { OnErr result (self.new ≡ self.old) }
-        ensures does { Does L.meaning (Do (edit_meaning self.old.desk.ctx (Move op place))) (reply_of result) self.old self.new }
+        ensures does { Does L.meaning (Do (edit_meaning self.old.desk.ctx (Move op place)))
+            (reply_of result) self.old self.new }
         ensures led { Led L.meaning self.old self.new }
         ensures ctx { self.new.desk.ctx ≡ self.old.desk.ctx }
         ensures journal { Keeps L.meaning result self.old self.new }

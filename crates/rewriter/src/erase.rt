@@ -19,7 +19,9 @@ use rewriter_laws::turns::erasing_by_last;
 fn take_all<L: Analysis>(bench: &mut Bench<L>, op: OpId) -> Result<(), Refusal>
     requires { reason_by (tests_in bench.old.desk.ctx) (Erase op) bench.old.desk.store.module_of ≡ None }
     ensures onward { Onward L.meaning bench.old bench.new }
-    ensures ok { OnOk result (bench.new.desk.store.module_of ≡ edited_by (tests_in bench.old.desk.ctx) (Erase op) bench.old.desk.store.module_of) }
+    ensures ok { OnOk result
+        (bench.new.desk.store.module_of
+        ≡ edited_by (tests_in bench.old.desk.ctx) (Erase op) bench.old.desk.store.module_of) }
     ensures refused { IsDoneOrNoted bench.old.desk result }
 {
     erasing_by_last::<u32, u32, u32>();
@@ -42,7 +44,8 @@ impl<L: Analysis> Bench<L> {
     /// Refusals, in order: `NoSuchOp`; `IsRoot`; `HasUses` where an operation outside it uses a value from inside; and
     /// `Memory` where a mark is open.
     pub fn erase(&mut self, op: OpId) -> Result<(), Refusal>
-        ensures does { Does L.meaning (Do (edit_meaning self.old.desk.ctx (Erase op))) (reply_of result) self.old self.new }
+        ensures does { Does L.meaning (Do (edit_meaning self.old.desk.ctx (Erase op)))
+            (reply_of result) self.old self.new }
         ensures led { Led L.meaning self.old self.new }
         ensures ctx { self.new.desk.ctx ≡ self.old.desk.ctx }
         ensures journal { Keeps L.meaning result self.old self.new }

@@ -25,7 +25,8 @@ fn fits_beside(others: u64, tree: &TreeOp, most: u64) -> bool
 
 /// Whether no count passes its limit where a tree is put into the module.
 fn fits_limits(store: &Store, tree: &TreeOp) -> bool
-    ensures { result ≡ (nat_le (count_of store.now.module_of.tree + count_of tree.now) most_ops && every op_fits tree.now) }
+    ensures { result ≡ (nat_le (count_of store.now.module_of.tree + count_of tree.now) most_ops
+        && every op_fits tree.now) }
 {
     fits_beside(store.op_count(), tree, MOST_OPS) && counts_are_within(tree)
 }

@@ -2,7 +2,8 @@
 ghost use Rattle.std.specs.Prelude.{◌≡◌, ◌++◌, IfOk, OnOk, map};
 ghost use Rattle.ir_tree.specs.Tree.{regions_of};
 ghost use Rattle.ir_tree.specs.View.{region_view};
-ghost use Rattle.rewriter_laws.specs.Inserting.{bare, bare_region as bare_one, bare_regions as bare_all, end_of as last_place, headers, region_headers, regions_headers};
+ghost use Rattle.rewriter_laws.specs.Inserting.{bare, bare_region as bare_one, bare_regions as bare_all};
+ghost use Rattle.rewriter_laws.specs.Inserting.{end_of as last_place, headers, region_headers, regions_headers};
 
 use ir_tree::place::Place;
 use ir_tree::tree::{TreeOp, TreeRegion};
@@ -24,7 +25,8 @@ fn bare_region(alloc: Global, region: &TreeRegion) -> Result<TreeRegion, AllocEr
 
 /// Copies of regions without the operations in their blocks.
 fn bare_regions(alloc: Global, regions: &Vec<TreeRegion>) -> Result<Vec<TreeRegion>, AllocError>
-    ensures { IfOk result (λ v. regions_of (map region_view v.items) ≡ bare_all (regions_of (map region_view regions.now.items))) }
+    ensures { IfOk result (λ v. regions_of (map region_view v.items)
+        ≡ bare_all (regions_of (map region_view regions.now.items))) }
 {
     let mut copies = Vec::with_capacity(alloc, regions.len())?;
     for region in regions {
@@ -93,7 +95,8 @@ fn push_inner_headers(
     parent: OpId,
     regions: &Vec<TreeRegion>,
 ) -> Result<(), AllocError>
-    ensures { OnOk result (out.new.items ≡ out.old.items ++ regions_headers parent 0 (regions_of (map region_view regions.now.items))) }
+    ensures { OnOk result (out.new.items
+        ≡ out.old.items ++ regions_headers parent 0 (regions_of (map region_view regions.now.items))) }
 {
     let mut number = 0;
     for region in regions {

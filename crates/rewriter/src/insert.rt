@@ -20,16 +20,17 @@ use ir_types::refusal::Refusal;
 use rewriter_laws::turns::inserts_are_tried;
 
 impl<L: Analysis> Bench<L> {
-    /// Puts an operation, with what is inside it, at a place of the module. Its ids are the next free ones, in pre-order.
-    /// It is whole or not made at all.
+    /// Puts an operation, with what is inside it, at a place of the module. Its ids are the next free ones, in
+    /// pre-order. It is whole or not made at all.
     ///
-    /// Refusals, in order: `NoSuchOp` where the place's parent isn't in the module; `NoSuchIndex` where that has no such
-    /// place; `Full`; `IdsExhausted`; `TooDeepHere`; `NotVisible` where an operand would not be seen (Language Reference,
-    /// "Regions", on value scoping); and `Memory`.
+    /// Refusals, in order: `NoSuchOp` where the place's parent isn't in the module; `NoSuchIndex` where that has no
+    /// such place; `Full`; `IdsExhausted`; `TooDeepHere`; `NotVisible` where an operand would not be seen (Language
+    /// Reference, "Regions", on value scoping); and `Memory`.
     pub fn insert(&mut self, place: Place, tree: &TreeOp) -> Result<OpId, Refusal>
         requires sound { IsSoundIn self.old.desk.ctx tree.now }
         requires numbered { IsNumberedFrom self.old.desk.store.module_of.next tree.now }
-        ensures does { Does L.meaning (Do (edit_meaning self.old.desk.ctx (Insert place tree.now))) (id_reply_of result) self.old self.new }
+        ensures does { Does L.meaning (Do (edit_meaning self.old.desk.ctx (Insert place tree.now)))
+            (id_reply_of result) self.old self.new }
         ensures led { Led L.meaning self.old self.new }
         ensures ctx { self.new.desk.ctx ≡ self.old.desk.ctx }
         ensures journal { Keeps L.meaning result self.old self.new }

@@ -12,7 +12,9 @@ use ir_event::analysis::Analysis;
 /// twice is being led.
 pub fn led_benches_are_kept<L: Analysis>()
     ensures kept { (a b : Benched L) → Led L.meaning a b → IsKept L.meaning a → IsKept L.meaning b }
-    ensures ages { (a b : Benched L) → Led L.meaning a b → AllAge (all_shown L.meaning a.listeners) (all_shown L.meaning b.listeners) }
+    ensures ages { (a b : Benched L) → Led L.meaning a b
+        → AllAge (all_shown L.meaning a.listeners) (all_shown L.meaning b.listeners) }
     ensures none { (a : Benched L) → Heard L.meaning [] a a }
-    ensures more { (es fs : List Change) (a b c : Benched L) → Holds b.desk.ctx → Holds c.desk.ctx → Heard L.meaning es a b → Heard L.meaning fs b c → Heard L.meaning (es ++ fs) a c }
+    ensures more { (es fs : List Change) (a b c : Benched L) → Holds b.desk.ctx → Holds c.desk.ctx
+        → Heard L.meaning es a b → Heard L.meaning fs b c → Heard L.meaning (es ++ fs) a c }
 {}

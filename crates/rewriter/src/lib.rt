@@ -1,6 +1,6 @@
-//! The bench: a module under edits, with its marks, its journal and the listeners that follow it. An edit of several events,
-//! as replacing a value wherever it is used, erasing an operation and inserting one with what is inside it, is whole or
-//! undone.
+//! The bench: a module under edits, with its marks, its journal and the listeners that follow it. An edit of several
+//! events, as replacing a value wherever it is used, erasing an operation and inserting one with what is inside it, is
+//! whole or undone.
 #![tactic(auto)]
 
 mod attributes;

@@ -27,7 +27,8 @@ fn make_each<L: Analysis>(
 ) -> Result<(), Refusal>
     requires { AreHeadersOf bench.old.desk.ctx headers.now.items }
     ensures onward { Onward L.meaning bench.old bench.new }
-    ensures tries { Tries (tests_in bench.old.desk.ctx) headers.now.items bench.old.desk.store.module_of result bench.new.desk.store.module_of }
+    ensures tries { Tries (tests_in bench.old.desk.ctx) headers.now.items bench.old.desk.store.module_of result
+        bench.new.desk.store.module_of }
 {
     inserting_is_making::<u32, u32, u32>();
     led_benches_are_kept::<L>();
@@ -58,10 +59,14 @@ pub(crate) fn make_all<L: Analysis>(
 ) -> Result<(), Refusal>
     requires sound { IsSoundIn bench.old.desk.ctx tree.now }
     requires numbered { IsNumberedFrom bench.old.desk.store.module_of.next tree.now }
-    requires free { insert_fault place tree.now bench.old.desk.store.module_of.next bench.old.desk.store.module_of.tree ≡ None }
+    requires free { insert_fault place tree.now bench.old.desk.store.module_of.next bench.old.desk.store.module_of.tree
+        ≡ None }
     ensures onward { Onward L.meaning bench.old bench.new }
-    ensures ok { OnOk result (bench.new.desk.store.module_of ≡ edited_by (tests_in bench.old.desk.ctx) (Insert place tree.now) bench.old.desk.store.module_of) }
-    ensures answered { IsAnswered (Unit {0}) (reason_by (tests_in bench.old.desk.ctx) (Insert place tree.now) bench.old.desk.store.module_of) result }
+    ensures ok { OnOk result
+        (bench.new.desk.store.module_of
+        ≡ edited_by (tests_in bench.old.desk.ctx) (Insert place tree.now) bench.old.desk.store.module_of) }
+    ensures answered { IsAnswered (Unit {0})
+        (reason_by (tests_in bench.old.desk.ctx) (Insert place tree.now) bench.old.desk.store.module_of) result }
 {
     headers_are_bare();
     inserts_are_tried::<u32, u32, u32>();

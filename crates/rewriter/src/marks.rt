@@ -18,7 +18,8 @@ fn undo_to<L: Analysis>(desk: &mut Desk, panel: &mut Panel<L>, mark: usize)
     requires above { Within mark desk.old.marks }
     requires within { mark ≤ length desk.old.journal }
     ensures undone { UndoneTo mark desk.old desk.new }
-    ensures told { Heard L.meaning (inverses (drop mark desk.old.journal)) (record { desk = desk.old; listeners = panel.old }) (record { desk = desk.new; listeners = panel.new }) }
+    ensures told { Heard L.meaning (inverses (drop mark desk.old.journal))
+        (record { desk = desk.old; listeners = panel.old }) (record { desk = desk.new; listeners = panel.new }) }
 {
     while desk.journal_len() > mark {
         let event = desk.undo();
@@ -96,8 +97,8 @@ impl<L: Analysis> Bench<L> {
         Ok(())
     }
 
-    /// Goes back to the module of the newest mark, with its ids and its next id, and drops the mark: each event since is
-    /// undone, the newest first, and the listeners are told its inverse. It takes no memory but what they take.
+    /// Goes back to the module of the newest mark, with its ids and its next id, and drops the mark: each event since
+    /// is undone, the newest first, and the listeners are told its inverse. It takes no memory but what they take.
     ///
     /// Refusals: `NoMark`.
     pub fn rollback(&mut self) -> Result<(), Refusal>

@@ -19,10 +19,13 @@ use rewriter_laws::turns::replacing_by_uses;
 
 /// Sets a value as each use of another, which differs from it, where nothing stands against it.
 fn set_uses<L: Analysis>(bench: &mut Bench<L>, old: &Value, new: &Value) -> Result<(), Refusal>
-    requires free { reason_by (tests_in bench.old.desk.ctx) (Replace old.now new.now) bench.old.desk.store.module_of ≡ None }
+    requires free { reason_by (tests_in bench.old.desk.ctx) (Replace old.now new.now) bench.old.desk.store.module_of
+        ≡ None }
     requires differ { same_value old.now new.now ≡ false }
     ensures onward { Onward L.meaning bench.old bench.new }
-    ensures ok { OnOk result (bench.new.desk.store.module_of ≡ edited_by (tests_in bench.old.desk.ctx) (Replace old.now new.now) bench.old.desk.store.module_of) }
+    ensures ok { OnOk result
+        (bench.new.desk.store.module_of
+        ≡ edited_by (tests_in bench.old.desk.ctx) (Replace old.now new.now) bench.old.desk.store.module_of) }
     ensures refused { IsDoneOrNoted bench.old.desk result }
 {
     replacing_by_uses::<u32, u32, u32>();
@@ -37,14 +40,15 @@ fn set_uses<L: Analysis>(bench: &mut Bench<L>, old: &Value, new: &Value) -> Resu
 }
 
 impl<L: Analysis> Bench<L> {
-    /// Puts a value in the place of another wherever that is used. The types have to be one. Where the two are one value,
-    /// nothing changes. It is whole or not made at all.
+    /// Puts a value in the place of another wherever that is used. The types have to be one. Where the two are one
+    /// value, nothing changes. It is whole or not made at all.
     ///
     /// Refusals, in order: `NoSuchValue` where the first or the second isn't a value of the module; `TypeDiffers`;
-    /// `NotVisible` where an operation that uses the first doesn't see the second (Language Reference, "Regions", on value
-    /// scoping); and `Memory` where a mark is open.
+    /// `NotVisible` where an operation that uses the first doesn't see the second (Language Reference, "Regions", on
+    /// value scoping); and `Memory` where a mark is open.
     pub fn replace_all(&mut self, old: Value, new: Value) -> Result<(), Refusal>
-        ensures does { Does L.meaning (Do (edit_meaning self.old.desk.ctx (Replace old new))) (reply_of result) self.old self.new }
+        ensures does { Does L.meaning (Do (edit_meaning self.old.desk.ctx (Replace old new)))
+            (reply_of result) self.old self.new }
         ensures led { Led L.meaning self.old self.new }
         ensures ctx { self.new.desk.ctx ≡ self.old.desk.ctx }
         ensures journal { Keeps L.meaning result self.old self.new }

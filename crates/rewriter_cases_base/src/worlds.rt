@@ -54,7 +54,8 @@ pub fn world_of(alloc: Global, text: &[u8]) -> Result<World, Refusal> {
     World::load(alloc, ctx, registry, &tree, next)
 }
 
-/// A bench over the module that a text spells, whose next free id is at least a number, or `BadToken` where it spells none.
+/// A bench over the module that a text spells, whose next free id is at least a number, or `BadToken` where it spells
+/// none.
 pub fn bench_from<L: Analysis>(alloc: Global, text: &[u8], least: u32) -> Result<Bench<L>, Refusal>
     ensures { IfOk result (λ b. b.listeners ≡ []) }
 {

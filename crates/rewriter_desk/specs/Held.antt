@@ -48,7 +48,8 @@ abbrev pub Within : ℕ → List Mark → Type 0
 Within n [] = Unit {0}
 Within n (k ∷ ks) = (k.length ≤ n) × Within n ks
 
--- each operation has a list of gone keys, the events can be undone one after another, the marks lie in the journal, and there is none without a mark
+-- each operation has a list of gone keys, the events can be undone one after another, the marks lie in the journal, and
+-- there is none without a mark
 pub record IsGood (h : Held) : Type 0 where
   pub slotted : IsSlotted h.store
   pub leads : IsJournal h.ctx h.journal h.store

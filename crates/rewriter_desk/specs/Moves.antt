@@ -1,5 +1,6 @@
 -- Edits of a desk, and events that are undone.
-use Rattle.std.specs.Prelude.{◌≡◌, ◌≢◌, ◌≤◌, ℕ, List, [], ◌∷◌, ◌++◌, length, Option, Some, None, ◌⊎◌, Result, Ok, Err, MatchResult}
+use Rattle.std.specs.Prelude.{◌≡◌, ◌≢◌, ◌≤◌, ℕ, List, [], ◌∷◌, ◌++◌, length, Option, Some, None, ◌⊎◌, Result, Ok, Err}
+use Rattle.std.specs.Prelude.{MatchResult}
 use Rattle.std.specs.FinMap as map
 use Rattle.ir_types.specs.declared.refusal.Refusal.{Refusal}
 use Rattle.ir_types.specs.declared.refusal.Refusal.TheVariants.{Memory}
@@ -16,7 +17,8 @@ use Rattle.rewriter_desk.specs.Held.{Held, module_at, module_held, open_marks, s
 
 -- a call is accepted where no reason stands; it is refused for its reason, or, where it takes memory, for want of it
 abbrev pub IsAnswered : {A : Type 0} → Type 0 → Option Refusal → Result A Refusal → Type 0
-IsAnswered takes reason result = MatchResult result (λ _. reason ≡ None) (λ e. (reason ≡ Some e) ⊎ ((e ≡ Memory) × takes))
+IsAnswered takes reason result =
+    MatchResult result (λ _. reason ≡ None) (λ e. (reason ≡ Some e) ⊎ ((e ≡ Memory) × takes))
 
 -- the journal after an event: it is kept only where a mark is open
 abbrev pub noted : List Mark → List Event → Event → List Event
@@ -59,7 +61,12 @@ pub record Undone (e : Event) (old new : Held) : Type 0 where
   pub last : Event
   pub is : e ≡ inverse_of last
   pub journal : old.journal ≡ new.journal ++ last ∷ []
-  pub held : new ≡ record { ctx = old.ctx; store = undone old.ctx last old.store; journal = new.journal; marks = old.marks }
+  pub held : new ≡ record {
+    ctx = old.ctx;
+    store = undone old.ctx last old.store;
+    journal = new.journal;
+    marks = old.marks;
+  }
   pub step : Step old.ctx e (module_held old) (module_held new)
   pub shown : ShowsTaken e (module_held old) (shown_of new)
   pub marked : open_marks new ≡ open_marks old

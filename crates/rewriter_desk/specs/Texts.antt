@@ -20,7 +20,8 @@ pub record Grown (v w : World) : Type 0 where
 
 -- what a name stands for that an operation's text leaves free: a value of the module
 abbrev pub free_in : Operation → List ℕ → Option BoundTerm
-free_in t name = option_and_then (λ v. option_map (λ type. record { value = v; type = type }) (type_of_value v t)) (value_named name)
+free_in t name =
+    option_and_then (λ v. option_map (λ type. record { value = v; type = type }) (type_of_value v t)) (value_named name)
 
 -- the operation that a text spells beside a module
 abbrev pub SpellsBeside : Module → List ℕ → Operation → Type 0

@@ -1,5 +1,6 @@
 //! The desk: a world with its journal and its marks.
-ghost use Rattle.std.specs.Prelude.{◌≡◌, ◌≢◌, ◌<◌, ◌-◌, ◌↔◌, ◌∷◌, [], length, not, is_some, slice_get, IsTrue, OnOk, OnErr, IfSome, IfNone};
+ghost use Rattle.std.specs.Prelude.{◌≡◌, ◌≢◌, ◌<◌, ◌-◌, ◌↔◌, ◌∷◌, [], length, not, is_some, slice_get, IsTrue, OnOk};
+ghost use Rattle.std.specs.Prelude.{OnErr, IfSome, IfNone};
 ghost use Rattle.ir_event.specs.Modules.{things_in};
 ghost use Rattle.rewriter_laws.specs.Journals.{IsSlotted};
 ghost use Rattle.rewriter_desk.specs.Held.{IsGood, Within, module_held, open_marks};
@@ -32,9 +33,15 @@ impl Model for Desk {
 
     ghost coded = { Prim.hlevel (codes, stored_code) };
 
-    ghost view = { λ d. record { ctx = d.world.ctx; store = d.world.store; journal = d.journal.items; marks = d.marks.items } };
+    ghost view = { λ d. record {
+      ctx = d.world.ctx;
+      store = d.world.store;
+      journal = d.journal.items;
+      marks = d.marks.items;
+    } };
 
-    ghost invariant = { λ d. IsGood (record { ctx = d.world.ctx; store = d.world.store; journal = d.journal.items; marks = d.marks.items }) };
+    ghost invariant = { λ d. IsGood
+        (record { ctx = d.world.ctx; store = d.world.store; journal = d.journal.items; marks = d.marks.items }) };
 }
 
 /// The most marks that count of which all may be open.
@@ -94,7 +101,8 @@ impl Desk {
     /// Refusals: `TooManyMarks` where it counts and sixteen marks that count are open; `Memory`.
     pub fn mark(&mut self, counted: bool) -> Result<(), Refusal>
         ensures ok { OnOk result (self.new ≡ with_mark counted self.old) }
-        ensures marked { OnOk result (open_marks self.new ≡ record { marked = module_held self.old; counted = counted } ∷ open_marks self.old) }
+        ensures marked { OnOk result
+            (open_marks self.new ≡ record { marked = module_held self.old; counted = counted } ∷ open_marks self.old) }
         ensures err { OnErr result (self.new ≡ self.old) }
         ensures refused { IsAnswered (Unit {0}) (mark_reason counted self.old.marks) result }
     {

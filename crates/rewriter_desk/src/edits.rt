@@ -4,7 +4,8 @@ ghost use Rattle.ir_types.specs.Terms.{name_term};
 ghost use Rattle.ir_types.specs.Things.{IsName, IsAttr};
 ghost use Rattle.ir_types.specs.Words.{is_table};
 ghost use Rattle.ir_tree.specs.Meaning.{IsSoundIn, isolated_in, key_before_in};
-ghost use Rattle.ir_tree_laws.specs.Reasons.{holds_none, put_reason, set_entry_reason, set_operand_reason, shift_reason, take_reason};
+ghost use Rattle.ir_tree_laws.specs.Reasons.{holds_none, put_reason, set_entry_reason, set_operand_reason};
+ghost use Rattle.ir_tree_laws.specs.Reasons.{shift_reason, take_reason};
 ghost use Rattle.ir_store.specs.Calls.{after_entry, after_operand, after_put, after_shift, after_take};
 ghost use Rattle.ir_event.specs.declared.event.Event.TheVariants.{Put};
 ghost use Rattle.rewriter_laws.specs.Journals.{IsTidy};
@@ -31,7 +32,9 @@ impl Desk {
         ensures ok { IfOk result (λ e. Edited e (after_put place header.now self.old.store) self.old self.new) }
         ensures event { IfOk result (λ e. e ≡ Put self.old.store.module_of.next place true) }
         ensures err { OnErr result (self.new ≡ self.old) }
-        ensures refused { IsAnswered (Unit {0}) (put_reason (isolated_in self.old.ctx) place header.now self.old.store.module_of.next self.old.store.module_of.tree) result }
+        ensures refused { IsAnswered (Unit {0})
+            (put_reason (isolated_in self.old.ctx) place header.now self.old.store.module_of.next
+            self.old.store.module_of.tree) result }
         ensures tidy { IsTidy self.new.store }
     {
         let Ok(()) = claim(&mut self.journal, &self.marks) else {
@@ -67,7 +70,8 @@ impl Desk {
     pub fn set_operand(&mut self, op: OpId, k: u32, value: Value) -> Result<Event, Refusal>
         ensures ok { IfOk result (λ e. Edited e (after_operand op k value self.old.store) self.old self.new) }
         ensures err { OnErr result (self.new ≡ self.old) }
-        ensures refused { IsAnswered (self.old.marks ≢ []) (set_operand_reason (isolated_in self.old.ctx) op k value self.old.store.module_of.tree) result }
+        ensures refused { IsAnswered (self.old.marks ≢ [])
+            (set_operand_reason (isolated_in self.old.ctx) op k value self.old.store.module_of.tree) result }
         ensures tidy { IsTidy self.old.store → IsTidy self.new.store }
     {
         let Ok(()) = claim(&mut self.journal, &self.marks) else {
@@ -91,9 +95,12 @@ impl Desk {
     ) -> Result<Event, Refusal>
         requires key { IsName self.old.ctx key }
         requires value { IfSome value (λ a. IsAttr self.old.ctx a) }
-        ensures ok { IfOk result (λ e. Edited e (after_entry (key_before_in self.old.ctx) op part key value self.old.store) self.old self.new) }
+        ensures ok { IfOk result
+            (λ e. Edited e (after_entry
+            (key_before_in self.old.ctx) op part key value self.old.store) self.old self.new) }
         ensures err { OnErr result (self.new ≡ self.old) }
-        ensures refused { IsAnswered (Unit {0}) (set_entry_reason (key_before_in self.old.ctx) op part key value self.old.store.module_of.tree) result }
+        ensures refused { IsAnswered (Unit {0})
+            (set_entry_reason (key_before_in self.old.ctx) op part key value self.old.store.module_of.tree) result }
         ensures tidy { IsTidy self.old.store → IsTidy self.new.store }
     {
         let Ok(()) = claim(&mut self.journal, &self.marks) else {
@@ -111,7 +118,9 @@ impl Desk {
     pub fn shift(&mut self, op: OpId, place: Place) -> Result<Event, Refusal>
         ensures ok { IfOk result (λ e. Edited e (after_shift op place self.old.store) self.old self.new) }
         ensures err { OnErr result (self.new ≡ self.old) }
-        ensures refused { IsAnswered (self.old.marks ≢ []) (shift_reason (isolated_in self.old.ctx) (λ n. is_table (name_term self.old.ctx n)) op place self.old.store.module_of.tree) result }
+        ensures refused { IsAnswered (self.old.marks ≢ [])
+            (shift_reason (isolated_in self.old.ctx)
+            (λ n. is_table (name_term self.old.ctx n)) op place self.old.store.module_of.tree) result }
         ensures tidy { IsTidy self.old.store → IsTidy self.new.store }
     {
         let Ok(()) = claim(&mut self.journal, &self.marks) else {

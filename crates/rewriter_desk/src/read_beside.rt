@@ -42,7 +42,8 @@ pub fn read_op(alloc: Global, world: &mut World, text: &[u8]) -> Result<TreeOp, 
     ensures read { IfOk result (λ t. SpellsBeside (module_in world.old) text.now (meaning world.new.ctx t)) }
     ensures sound { IfOk result (λ t. IsSoundIn world.new.ctx t) }
     ensures numbered { IfOk result (λ t. IsNumberedFrom world.old.store.module_of.next t) }
-    ensures refused { (r : Reason) (o : ℕ) → result ≡ Err (ReadError.Refused r o) → IsNone (SpellsBeside (module_in world.old) text.now) }
+    ensures refused { (r : Reason) (o : ℕ) → result ≡ Err (ReadError.Refused r o)
+        → IsNone (SpellsBeside (module_in world.old) text.now) }
     ensures told { IfErr result (λ e. IsOpTold text.now e) }
     ensures full { (o : ℕ) → result ≡ Err (ReadError.Full o) → IsFull world.new.ctx }
     ensures grown { Grown world.old world.new }

@@ -44,7 +44,8 @@ impl Desk {
         ensures read { IfOk result (λ t. SpellsBeside (module_held self.old) text.now (meaning self.new.ctx t)) }
         ensures sound { IfOk result (λ t. IsSoundIn self.new.ctx t) }
         ensures numbered { IfOk result (λ t. IsNumberedFrom self.old.store.module_of.next t) }
-        ensures refused { (r : Reason) (o : ℕ) → result ≡ Err (ReadError.Refused r o) → IsNone (SpellsBeside (module_held self.old) text.now) }
+        ensures refused { (r : Reason) (o : ℕ) → result ≡ Err (ReadError.Refused r o)
+            → IsNone (SpellsBeside (module_held self.old) text.now) }
         ensures told { IfErr result (λ e. IsOpTold text.now e) }
         ensures full { (o : ℕ) → result ≡ Err (ReadError.Full o) → IsFull self.new.ctx }
         ensures grown { Grown self.old self.new }

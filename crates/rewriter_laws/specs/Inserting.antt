@@ -52,8 +52,8 @@ all_made w [] m = m
 all_made w (u ∷ us) m = all_made w us (edited_by w (Make u.0 u.1) m)
 
 -- what an operation, with what is inside it, is refused for at a place before anything is said of what its operations
--- see, where `free` is the next free id: the place's parent isn't there; no such place; a count would pass its limit; not
--- enough ids are left; too many operations would stand around one
+-- see, where `free` is the next free id: the place's parent isn't there; no such place; a count would pass its limit;
+-- not enough ids are left; too many operations would stand around one
 abbrev pub insert_fault : {N T A : Type 0} → Place → OpOf N T A → ℕ → OpOf N T A → Option Refusal
 insert_fault place o free t =
     unless (has_id place.parent t) NoSuchOp

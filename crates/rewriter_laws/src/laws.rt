@@ -23,12 +23,17 @@ ghost use Rattle.rewriter_laws.specs.Replacing.{all_set};
 /// are the uses that the old value has, if the two differ; where no reason stands against replacing it, the module is
 /// well-formed there, and no reason stands against the next one.
 pub fn replacing_is_setting<N, T, A>()
-    ensures parts { (v : TreeValue) (us vs : List (ℕ × ℕ)) (t : OpOf N T A) → all_set v (us ++ vs) t ≡ all_set v vs (all_set v us t) }
-    ensures whole { (w : TestsOf N T) (old new : TreeValue) (m : ModuleOf N T A) → HasDistinctIds m.tree → record m { tree = all_set new (uses_of old m.tree) m.tree } ≡ edited_by w (Replace old new) m }
-    ensures left { (old new : TreeValue) (us vs : List (ℕ × ℕ)) (t : OpOf N T A) → HasDistinctIds t → same_value old new ≡ false → us ++ vs ≡ uses_of old t → uses_of old (all_set new us t) ≡ vs }
-    ensures formed { (w : TestsOf N T) (old new : TreeValue) (us vs : List (ℕ × ℕ)) (m : ModuleOf N T A) → IsWellFormed w.isolated m → reason_by w (Replace old new) m ≡ None → us ++ vs ≡ uses_of old m.tree
+    ensures parts { (v : TreeValue) (us vs : List (ℕ × ℕ)) (t : OpOf N T A)
+        → all_set v (us ++ vs) t ≡ all_set v vs (all_set v us t) }
+    ensures whole { (w : TestsOf N T) (old new : TreeValue) (m : ModuleOf N T A) → HasDistinctIds m.tree
+        → record m { tree = all_set new (uses_of old m.tree) m.tree } ≡ edited_by w (Replace old new) m }
+    ensures left { (old new : TreeValue) (us vs : List (ℕ × ℕ)) (t : OpOf N T A) → HasDistinctIds t
+        → same_value old new ≡ false → us ++ vs ≡ uses_of old t → uses_of old (all_set new us t) ≡ vs }
+    ensures formed { (w : TestsOf N T) (old new : TreeValue) (us vs : List (ℕ × ℕ)) (m : ModuleOf N T A)
+        → IsWellFormed w.isolated m → reason_by w (Replace old new) m ≡ None → us ++ vs ≡ uses_of old m.tree
         → IsWellFormed w.isolated (record m { tree = all_set new us m.tree }) }
-    ensures reason { (w : TestsOf N T) (old new : TreeValue) (us vs : List (ℕ × ℕ)) (u : ℕ × ℕ) (m : ModuleOf N T A) → IsWellFormed w.isolated m → reason_by w (Replace old new) m ≡ None → us ++ u ∷ vs ≡ uses_of old m.tree
+    ensures reason { (w : TestsOf N T) (old new : TreeValue) (us vs : List (ℕ × ℕ)) (u : ℕ × ℕ) (m : ModuleOf N T A)
+        → IsWellFormed w.isolated m → reason_by w (Replace old new) m ≡ None → us ++ u ∷ vs ≡ uses_of old m.tree
         → set_operand_reason w.isolated u.0 u.1 new (all_set new us m.tree) ≡ None }
 {}
 
@@ -37,23 +42,39 @@ pub fn replacing_is_setting<N, T, A>()
 /// well-formed there, and no reason stands against taking the next one.
 pub fn erasing_is_taking<N, T, A>()
     ensures parts { (ys zs : List ℕ) (t : OpOf N T A) → all_taken (ys ++ zs) t ≡ all_taken zs (all_taken ys t) }
-    ensures whole { (w : TestsOf N T) (x : ℕ) (m : ModuleOf N T A) → IsWellFormed w.isolated m → reason_by w (Erase x) m ≡ None → record m { tree = all_taken (erase_order x m.tree) m.tree } ≡ edited_by w (Erase x) m }
-    ensures left { (w : TestsOf N T) (x : ℕ) (ys zs : List ℕ) (m : ModuleOf N T A) → IsWellFormed w.isolated m → reason_by w (Erase x) m ≡ None → ys ++ zs ≡ erase_order x m.tree → erase_order x (all_taken ys m.tree) ≡ zs }
-    ensures formed { (w : TestsOf N T) (x : ℕ) (ys zs : List ℕ) (m : ModuleOf N T A) → IsWellFormed w.isolated m → reason_by w (Erase x) m ≡ None → ys ++ zs ≡ erase_order x m.tree → IsWellFormed w.isolated (record m { tree = all_taken ys m.tree }) }
-    ensures reason { (w : TestsOf N T) (x : ℕ) (ys zs : List ℕ) (y : ℕ) (m : ModuleOf N T A) → IsWellFormed w.isolated m → reason_by w (Erase x) m ≡ None → ys ++ y ∷ zs ≡ erase_order x m.tree → take_reason y (all_taken ys m.tree) ≡ None }
+    ensures whole { (w : TestsOf N T) (x : ℕ) (m : ModuleOf N T A) → IsWellFormed w.isolated m → reason_by w (Erase x) m
+        ≡ None → record m { tree = all_taken (erase_order x m.tree) m.tree } ≡ edited_by w (Erase x) m }
+    ensures left { (w : TestsOf N T) (x : ℕ) (ys zs : List ℕ) (m : ModuleOf N T A) → IsWellFormed w.isolated m
+        → reason_by w (Erase x) m ≡ None → ys ++ zs ≡ erase_order x m.tree → erase_order x (all_taken ys m.tree) ≡ zs }
+    ensures formed { (w : TestsOf N T) (x : ℕ) (ys zs : List ℕ) (m : ModuleOf N T A) → IsWellFormed w.isolated m
+        → reason_by w (Erase x) m ≡ None → ys ++ zs ≡ erase_order x m.tree
+        → IsWellFormed w.isolated (record m { tree = all_taken ys m.tree }) }
+    ensures reason { (w : TestsOf N T) (x : ℕ) (ys zs : List ℕ) (y : ℕ) (m : ModuleOf N T A) → IsWellFormed w.isolated m
+        → reason_by w (Erase x) m ≡ None → ys ++ y ∷ zs ≡ erase_order x m.tree
+        → take_reason y (all_taken ys m.tree) ≡ None }
 {}
 
 /// Inserting an operation whose ids are the next free ones, where no reason stands against it, is making the header of
 /// it and of each one inside it, in pre-order, those inside at the ends of their blocks. After the headers us, where vs
 /// are left, the module is well-formed, no reason stands against the next one, and its id is the next free one.
 pub fn inserting_is_making<N, T, A>()
-    ensures parts { (w : TestsOf N T) (us vs : List (Spot × OpOf N T A)) (m : ModuleOf N T A) → all_made w (us ++ vs) m ≡ all_made w vs (all_made w us m) }
-    ensures whole { (w : TestsOf N T) (place : Spot) (o : OpOf N T A) (m : ModuleOf N T A) → IsWellFormed w.isolated m → IsNumberedFrom m.next o → reason_by w (Insert place o) m ≡ None → all_made w (headers place o) m ≡ edited_by w (Insert place o) m }
-    ensures formed { (w : TestsOf N T) (place : Spot) (o : OpOf N T A) (us vs : List (Spot × OpOf N T A)) (m : ModuleOf N T A) → IsWellFormed w.isolated m → IsNumberedFrom m.next o → reason_by w (Insert place o) m ≡ None → us ++ vs ≡ headers place o
+    ensures parts { (w : TestsOf N T) (us vs : List (Spot × OpOf N T A)) (m : ModuleOf N T A)
+        → all_made w (us ++ vs) m ≡ all_made w vs (all_made w us m) }
+    ensures whole { (w : TestsOf N T) (place : Spot) (o : OpOf N T A) (m : ModuleOf N T A) → IsWellFormed w.isolated m
+        → IsNumberedFrom m.next o → reason_by w (Insert place o) m ≡ None
+        → all_made w (headers place o) m ≡ edited_by w (Insert place o) m }
+    ensures formed { (w : TestsOf N T) (place : Spot) (o : OpOf N T A) (us vs : List (Spot × OpOf N T A))
+        (m : ModuleOf N T A) → IsWellFormed w.isolated m → IsNumberedFrom m.next o
+        → reason_by w (Insert place o) m ≡ None → us ++ vs ≡ headers place o
         → IsWellFormed w.isolated (all_made w us m) }
-    ensures reason { (w : TestsOf N T) (place : Spot) (o : OpOf N T A) (us vs : List (Spot × OpOf N T A)) (u : Spot × OpOf N T A) (m : ModuleOf N T A) → IsWellFormed w.isolated m → IsNumberedFrom m.next o → reason_by w (Insert place o) m ≡ None
-        → us ++ u ∷ vs ≡ headers place o → put_reason w.isolated u.0 u.1 (all_made w us m).next (all_made w us m).tree ≡ None }
-    ensures id { (w : TestsOf N T) (place : Spot) (o : OpOf N T A) (us vs : List (Spot × OpOf N T A)) (u : Spot × OpOf N T A) (m : ModuleOf N T A) → IsWellFormed w.isolated m → IsNumberedFrom m.next o → reason_by w (Insert place o) m ≡ None
+    ensures reason { (w : TestsOf N T) (place : Spot) (o : OpOf N T A) (us vs : List (Spot × OpOf N T A))
+        (u : Spot × OpOf N T A) (m : ModuleOf N T A) → IsWellFormed w.isolated m → IsNumberedFrom m.next o
+        → reason_by w (Insert place o) m ≡ None
+        → us ++ u ∷ vs ≡ headers place o
+        → put_reason w.isolated u.0 u.1 (all_made w us m).next (all_made w us m).tree ≡ None }
+    ensures id { (w : TestsOf N T) (place : Spot) (o : OpOf N T A) (us vs : List (Spot × OpOf N T A))
+        (u : Spot × OpOf N T A) (m : ModuleOf N T A) → IsWellFormed w.isolated m → IsNumberedFrom m.next o
+        → reason_by w (Insert place o) m ≡ None
         → us ++ u ∷ vs ≡ headers place o → (head u.1).id ≡ (all_made w us m).next }
 {}
 
@@ -61,13 +82,17 @@ pub fn inserting_is_making<N, T, A>()
 /// is.
 pub fn headers_are_bare()
     ensures count { (place : Spot) (o : Op) → length (headers place o) ≡ op_count o }
-    ensures empty { (place : Spot) (o : Op) (us vs : List (Spot × Op)) (u : Spot × Op) → us ++ u ∷ vs ≡ headers place o → hold_none (regions u.1) ≡ true }
-    ensures sound { (c : Things) (place : Spot) (o : Op) (us vs : List (Spot × Op)) (u : Spot × Op) → IsSoundIn c o → us ++ u ∷ vs ≡ headers place o → IsSoundIn c u.1 }
+    ensures empty { (place : Spot) (o : Op) (us vs : List (Spot × Op)) (u : Spot × Op) → us ++ u ∷ vs ≡ headers place o
+        → hold_none (regions u.1) ≡ true }
+    ensures sound { (c : Things) (place : Spot) (o : Op) (us vs : List (Spot × Op)) (u : Spot × Op) → IsSoundIn c o
+        → us ++ u ∷ vs ≡ headers place o → IsSoundIn c u.1 }
 {}
 
-/// An edit of a module of a context, against which no reason stands, is a list of steps, one after another: one for each
-/// operation that is inserted or erased, one for each use that is replaced, and one for an edit of another kind.
+/// An edit of a module of a context, against which no reason stands, is a list of steps, one after another: one for
+/// each operation that is inserted or erased, one for each use that is replaced, and one for an edit of another kind.
 pub fn edits_are_lists_of_steps()
-    ensures { (c : Things) (e : NumberedEdit) (m : Numbered) → IsWellFormed (isolated_in c) m → IsSoundIn c m.tree → EditIsOf c m e → reason_by (tests_in c) e m ≡ None
-        → (what : List Change) × (length what ≡ event_count e m) × Steps c what (module_meaning c m) (edited (edit_meaning c e) (module_meaning c m)) }
+    ensures { (c : Things) (e : NumberedEdit) (m : Numbered) → IsWellFormed (isolated_in c) m → IsSoundIn c m.tree
+        → EditIsOf c m e → reason_by (tests_in c) e m ≡ None
+        → (what : List Change) × (length what ≡ event_count e m)
+        × Steps c what (module_meaning c m) (edited (edit_meaning c e) (module_meaning c m)) }
 {}

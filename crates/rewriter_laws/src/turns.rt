@@ -22,23 +22,33 @@ ghost use Rattle.rewriter_laws.specs.Erasing.{ids_in};
 ghost use Rattle.rewriter_laws.specs.Inserting.{all_made, headers, insert_fault};
 
 /// Where no reason stands against replacing a value by another, none stands against setting the other as any one use of
-/// it. Then it has one use fewer, the module is well-formed, no reason stands against replacing it there, and that makes
-/// the same module. Where it has no use left, replacing it changes nothing. A value that is replaced by itself stays as
-/// it is, and no reason stands against it where the module has it.
+/// it. Then it has one use fewer, the module is well-formed, no reason stands against replacing it there, and that
+/// makes the same module. Where it has no use left, replacing it changes nothing. A value that is replaced by itself
+/// stays as it is, and no reason stands against it where the module has it.
 pub fn replacing_by_uses<N, T, A>()
-    ensures reason { (w : TestsOf N T) (old new : TreeValue) (x k : ℕ) (m : ModuleOf N T A) → IsWellFormed w.isolated m → reason_by w (Replace old new) m ≡ None → is_use x k (uses_of old m.tree) ≡ true
+    ensures reason { (w : TestsOf N T) (old new : TreeValue) (x k : ℕ) (m : ModuleOf N T A) → IsWellFormed w.isolated m
+        → reason_by w (Replace old new) m ≡ None → is_use x k (uses_of old m.tree) ≡ true
         → set_operand_reason w.isolated x k new m.tree ≡ None }
-    ensures still { (w : TestsOf N T) (old new : TreeValue) (x k : ℕ) (m : ModuleOf N T A) → IsWellFormed w.isolated m → reason_by w (Replace old new) m ≡ None → same_value old new ≡ false → is_use x k (uses_of old m.tree) ≡ true
+    ensures still { (w : TestsOf N T) (old new : TreeValue) (x k : ℕ) (m : ModuleOf N T A) → IsWellFormed w.isolated m
+        → reason_by w (Replace old new) m ≡ None → same_value old new ≡ false → is_use x k (uses_of old m.tree) ≡ true
         → reason_by w (Replace old new) (record m { tree = with_operand x k new m.tree }) ≡ None }
-    ensures same { (w : TestsOf N T) (old new : TreeValue) (x k : ℕ) (m : ModuleOf N T A) → IsWellFormed w.isolated m → is_use x k (uses_of old m.tree) ≡ true
-        → edited_by w (Replace old new) (record m { tree = with_operand x k new m.tree }) ≡ edited_by w (Replace old new) m }
-    ensures fewer { (w : TestsOf N T) (old new : TreeValue) (x k : ℕ) (m : ModuleOf N T A) → IsWellFormed w.isolated m → same_value old new ≡ false → is_use x k (uses_of old m.tree) ≡ true
+    ensures same { (w : TestsOf N T) (old new : TreeValue) (x k : ℕ) (m : ModuleOf N T A) → IsWellFormed w.isolated m
+        → is_use x k (uses_of old m.tree) ≡ true
+        → edited_by w (Replace old new) (record m { tree = with_operand x k new m.tree })
+        ≡ edited_by w (Replace old new) m }
+    ensures fewer { (w : TestsOf N T) (old new : TreeValue) (x k : ℕ) (m : ModuleOf N T A) → IsWellFormed w.isolated m
+        → same_value old new ≡ false → is_use x k (uses_of old m.tree) ≡ true
         → suc (length (uses_of old (with_operand x k new m.tree))) ≡ length (uses_of old m.tree) }
-    ensures formed { (w : TestsOf N T) (old new : TreeValue) (x k : ℕ) (m : ModuleOf N T A) → IsWellFormed w.isolated m → reason_by w (Replace old new) m ≡ None → is_use x k (uses_of old m.tree) ≡ true
+    ensures formed { (w : TestsOf N T) (old new : TreeValue) (x k : ℕ) (m : ModuleOf N T A) → IsWellFormed w.isolated m
+        → reason_by w (Replace old new) m ≡ None → is_use x k (uses_of old m.tree) ≡ true
         → IsWellFormed w.isolated (record m { tree = with_operand x k new m.tree }) }
-    ensures done { (w : TestsOf N T) (old new : TreeValue) (m : ModuleOf N T A) → uses_of old m.tree ≡ [] → edited_by w (Replace old new) m ≡ m }
-    ensures equal { (w : TestsOf N T) (old new : TreeValue) (m : ModuleOf N T A) → same_value old new ≡ true → edited_by w (Replace old new) m ≡ m }
-    ensures equal_seen { (w : TestsOf N T) (old new : TreeValue) (m : ModuleOf N T A) → ((t : T) → w.same_type t t ≡ true) → IsWellFormed w.isolated m → same_value old new ≡ true → has_value old m.tree ≡ true
+    ensures done { (w : TestsOf N T) (old new : TreeValue) (m : ModuleOf N T A) → uses_of old m.tree ≡ []
+        → edited_by w (Replace old new) m ≡ m }
+    ensures equal { (w : TestsOf N T) (old new : TreeValue) (m : ModuleOf N T A) → same_value old new ≡ true
+        → edited_by w (Replace old new) m ≡ m }
+    ensures equal_seen { (w : TestsOf N T) (old new : TreeValue) (m : ModuleOf N T A)
+        → ((t : T) → w.same_type t t ≡ true) → IsWellFormed w.isolated m → same_value old new ≡ true
+        → has_value old m.tree ≡ true
         → reason_by w (Replace old new) m ≡ None }
 {}
 
@@ -47,32 +57,45 @@ pub fn types_are_themselves()
     ensures { (c : Things) (t : ℕ) → (tests_in c).same_type t t ≡ true }
 {}
 
-/// Where no reason stands against erasing an operation, none stands against taking the last one of it in pre-order. Then
-/// those before it are left, and the module is well-formed. Where that was not the operation itself, no reason stands
-/// against erasing it there, and that makes the same module; where it was, the operation is erased.
+/// Where no reason stands against erasing an operation, none stands against taking the last one of it in pre-order.
+/// Then those before it are left, and the module is well-formed. Where that was not the operation itself, no reason
+/// stands against erasing it there, and that makes the same module; where it was, the operation is erased.
 pub fn erasing_by_last<N, T, A>()
-    ensures reason { (w : TestsOf N T) (x y : ℕ) (ys : List ℕ) (m : ModuleOf N T A) → IsWellFormed w.isolated m → reason_by w (Erase x) m ≡ None → ids_in (find x m.tree) ≡ ys ++ y ∷ [] → take_reason y m.tree ≡ None }
-    ensures still { (w : TestsOf N T) (x y : ℕ) (ys : List ℕ) (m : ModuleOf N T A) → IsWellFormed w.isolated m → reason_by w (Erase x) m ≡ None → ids_in (find x m.tree) ≡ ys ++ y ∷ [] → eqb y x ≡ false
+    ensures reason { (w : TestsOf N T) (x y : ℕ) (ys : List ℕ) (m : ModuleOf N T A) → IsWellFormed w.isolated m
+        → reason_by w (Erase x) m ≡ None → ids_in (find x m.tree) ≡ ys ++ y ∷ [] → take_reason y m.tree ≡ None }
+    ensures still { (w : TestsOf N T) (x y : ℕ) (ys : List ℕ) (m : ModuleOf N T A) → IsWellFormed w.isolated m
+        → reason_by w (Erase x) m ≡ None → ids_in (find x m.tree) ≡ ys ++ y ∷ [] → eqb y x ≡ false
         → reason_by w (Erase x) (record m { tree = without y m.tree }) ≡ None }
-    ensures same { (w : TestsOf N T) (x y : ℕ) (ys : List ℕ) (m : ModuleOf N T A) → IsWellFormed w.isolated m → reason_by w (Erase x) m ≡ None → ids_in (find x m.tree) ≡ ys ++ y ∷ [] → eqb y x ≡ false
+    ensures same { (w : TestsOf N T) (x y : ℕ) (ys : List ℕ) (m : ModuleOf N T A) → IsWellFormed w.isolated m
+        → reason_by w (Erase x) m ≡ None → ids_in (find x m.tree) ≡ ys ++ y ∷ [] → eqb y x ≡ false
         → edited_by w (Erase x) (record m { tree = without y m.tree }) ≡ edited_by w (Erase x) m }
-    ensures last { (w : TestsOf N T) (x y : ℕ) (m : ModuleOf N T A) → eqb y x ≡ true → edited_by w (Erase x) m ≡ record m { tree = without y m.tree } }
-    ensures fewer { (w : TestsOf N T) (x y : ℕ) (ys : List ℕ) (m : ModuleOf N T A) → IsWellFormed w.isolated m → reason_by w (Erase x) m ≡ None → ids_in (find x m.tree) ≡ ys ++ y ∷ [] → ids_in (find x (without y m.tree)) ≡ ys }
-    ensures formed { (w : TestsOf N T) (x y : ℕ) (ys : List ℕ) (m : ModuleOf N T A) → IsWellFormed w.isolated m → reason_by w (Erase x) m ≡ None → ids_in (find x m.tree) ≡ ys ++ y ∷ []
+    ensures last { (w : TestsOf N T) (x y : ℕ) (m : ModuleOf N T A) → eqb y x ≡ true
+        → edited_by w (Erase x) m ≡ record m { tree = without y m.tree } }
+    ensures fewer { (w : TestsOf N T) (x y : ℕ) (ys : List ℕ) (m : ModuleOf N T A) → IsWellFormed w.isolated m
+        → reason_by w (Erase x) m ≡ None → ids_in (find x m.tree) ≡ ys ++ y ∷ []
+        → ids_in (find x (without y m.tree)) ≡ ys }
+    ensures formed { (w : TestsOf N T) (x y : ℕ) (ys : List ℕ) (m : ModuleOf N T A) → IsWellFormed w.isolated m
+        → reason_by w (Erase x) m ≡ None → ids_in (find x m.tree) ≡ ys ++ y ∷ []
         → IsWellFormed w.isolated (record m { tree = without y m.tree }) }
 {}
 
-/// Inserting an operation whose ids are the next free ones is refused by the first reason of two: what stands against its
-/// place and its size, and that an operation would not see its operands. Where the first does not stand, making its
+/// Inserting an operation whose ids are the next free ones is refused by the first reason of two: what stands against
+/// its place and its size, and that an operation would not see its operands. Where the first does not stand, making its
 /// headers in their order makes the module that inserting it does. It may be inserted where that is well-formed, and an
 /// operand would not be seen where one of the headers is refused.
 pub fn inserts_are_tried<N, T, A>()
-    ensures split { (isolated : N → Bool) (place : Spot) (o : OpOf N T A) (free : ℕ) (t : OpOf N T A) → insert_reason isolated place o free t ≡ first_reason (insert_fault place o free t) (unless (operands_visible isolated (put place o t)) NotVisible None) }
-    ensures failed { (w : TestsOf N T) (place : Spot) (o : OpOf N T A) (us vs : List (Spot × OpOf N T A)) (u : Spot × OpOf N T A) (r : Refusal) (m : ModuleOf N T A) → IsWellFormed w.isolated m → IsNumberedFrom m.next o
-        → insert_fault place o m.next m.tree ≡ None → us ++ u ∷ vs ≡ headers place o → put_reason w.isolated u.0 u.1 (all_made w us m).next (all_made w us m).tree ≡ Some r
+    ensures split { (isolated : N → Bool) (place : Spot) (o : OpOf N T A) (free : ℕ) (t : OpOf N T A)
+        → insert_reason isolated place o free t ≡ first_reason (insert_fault place o free t)
+        (unless (operands_visible isolated (put place o t)) NotVisible None) }
+    ensures failed { (w : TestsOf N T) (place : Spot) (o : OpOf N T A) (us vs : List (Spot × OpOf N T A))
+        (u : Spot × OpOf N T A) (r : Refusal) (m : ModuleOf N T A) → IsWellFormed w.isolated m → IsNumberedFrom m.next o
+        → insert_fault place o m.next m.tree ≡ None → us ++ u ∷ vs ≡ headers place o
+        → put_reason w.isolated u.0 u.1 (all_made w us m).next (all_made w us m).tree ≡ Some r
         → reason_by w (Insert place o) m ≡ Some NotVisible }
-    ensures whole { (w : TestsOf N T) (place : Spot) (o : OpOf N T A) (m : ModuleOf N T A) → IsWellFormed w.isolated m → IsNumberedFrom m.next o → insert_fault place o m.next m.tree ≡ None
+    ensures whole { (w : TestsOf N T) (place : Spot) (o : OpOf N T A) (m : ModuleOf N T A) → IsWellFormed w.isolated m
+        → IsNumberedFrom m.next o → insert_fault place o m.next m.tree ≡ None
         → all_made w (headers place o) m ≡ edited_by w (Insert place o) m }
-    ensures through { (w : TestsOf N T) (place : Spot) (o : OpOf N T A) (m : ModuleOf N T A) → IsWellFormed w.isolated m → IsNumberedFrom m.next o → insert_fault place o m.next m.tree ≡ None
+    ensures through { (w : TestsOf N T) (place : Spot) (o : OpOf N T A) (m : ModuleOf N T A) → IsWellFormed w.isolated m
+        → IsNumberedFrom m.next o → insert_fault place o m.next m.tree ≡ None
         → IsWellFormed w.isolated (all_made w (headers place o) m) → reason_by w (Insert place o) m ≡ None }
 {}

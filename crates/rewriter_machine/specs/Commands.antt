@@ -5,7 +5,7 @@ use Rattle.ir_types.specs.Limits.{most_things}
 use Rattle.ir_types.specs.Refusals.{number_of}
 use Rattle.ir_types.specs.Words.{words}
 use Rattle.ir_types.specs.declared.refusal.Refusal.{Refusal}
-use Rattle.ir_types.specs.declared.refusal.Refusal.TheVariants.{TooMany, IdsExhausted, Memory}
+use Rattle.ir_types.specs.declared.refusal.Refusal.TheVariants.{TooMany, NoSuchKey, IdsExhausted, Memory}
 use Rattle.ir_tree.specs.declared.value.Value.{Value}
 use Rattle.ir_tree.specs.declared.place.Place.{Place}
 use Rattle.ir_tree.specs.Meaning.{Operation}
@@ -27,6 +27,11 @@ pub record Target : Type 0 where
   pub rules : List ℕ
   pub depth : ℕ
 
+-- how a command names a rule: by its number, or by its word
+pub data RuleName : Type 0 where
+  Numbered : ℕ → RuleName
+  Worded : List ℕ → RuleName
+
 -- a command; the texts of operations and attributes are bytes
 pub data Command : Type 0 where
   Erase : ℕ → Command
@@ -40,6 +45,7 @@ pub data Command : Type 0 where
   Canon : Option ℕ → Command
   Convert : Target → Command
   Sweep : Command
+  Apply : RuleName → ℕ → Command
   Begin : Command
   Commit : Command
   Rollback : Command
@@ -72,11 +78,21 @@ CanFill bytes = most_things ≤ length words + bytes
 
 -- a text of such an input was refused: nothing is spelled, or no room is left for what it names, or no memory
 abbrev pub TextRefused : {X : Type 0} → ℕ → (Refusal → Option ℕ → Type 0) → (X → Type 0) → Refusal → Option ℕ → Type 0
-TextRefused bytes IsRefusal Spelled refusal offset = IsRefusal refusal offset × (((x : _) → Spelled x → ⊥) ⊎ (((refusal ≡ TooMany) × CanFill bytes) ⊎ (refusal ≡ Memory)))
+TextRefused bytes IsRefusal Spelled refusal offset =
+    IsRefusal refusal offset
+    × (((x : _) → Spelled x → ⊥) ⊎ (((refusal ≡ TooMany) × CanFill bytes) ⊎ (refusal ≡ Memory)))
 
--- `bytes` is the length of the input; `SpellsOp` tells which operation bytes spell beside a module, and `SpellsAttr` which
--- attribute; `canonicalization`, `conversion` and `sweeping` are the transformations
-module _ (bytes : ℕ) (SpellsOp : Module → List ℕ → Operation → Type 0) (SpellsAttr : List ℕ → AttrTerm → Type 0) (canonicalization : Option ℕ → Transformation) (conversion : Target → Transformation) (sweeping : Transformation) where
+-- a rule that is named is applied, where there is one of that name; else that is refused as an entry of no key is
+abbrev pub AppliesRule : Option Transformation → Asked → Type 0
+AppliesRule None asked = asked ≡ Misplaced NoSuchKey
+AppliesRule (Some f) asked = asked ≡ Ask (call.Change f)
+
+-- `bytes` is the length of the input; `SpellsOp` tells which operation bytes spell beside a module, and `SpellsAttr`
+-- which attribute; `canonicalization`, `conversion` and `sweeping` are the transformations, and `application` that of a
+-- rule at an operation, where there is a rule of that name
+module _ (bytes : ℕ) (SpellsOp : Module → List ℕ → Operation → Type 0) (SpellsAttr : List ℕ → AttrTerm → Type 0)
+    (canonicalization : Option ℕ → Transformation) (conversion : Target → Transformation)
+    (sweeping : Transformation) (application : RuleName → ℕ → Option Transformation) where
   -- an operation that was read goes to its spot
   abbrev pub Inserts : Spot → Operation → Module → Asked → Type 0
   Inserts spot o m (Ask c) = (place : Place) × (spot_place None spot m.tree ≡ Ok place) × (c ≡ Do (edit.Insert place o))
@@ -111,6 +127,7 @@ module _ (bytes : ℕ) (SpellsOp : Module → List ℕ → Operation → Type 0)
   Asks (Canon limit) m asked = asked ≡ Ask (call.Change (canonicalization limit))
   Asks (Convert target) m asked = asked ≡ Ask (call.Change (conversion target))
   Asks Sweep m asked = asked ≡ Ask (call.Change sweeping)
+  Asks (Apply name x) m asked = AppliesRule (application name x) asked
   Asks Begin m asked = asked ≡ Ask call.Mark
   Asks Commit m asked = asked ≡ Ask call.Commit
   Asks Rollback m asked = asked ≡ Ask call.Rollback
@@ -133,5 +150,7 @@ text_response refusal (Some offset) = TextRefusedAt refusal offset
 abbrev pub Follows : State → Asked → Response → Shows → State → Type 0
 Follows s (Ask c) (Replied reply) shows t = Goes s c reply shows t
 Follows s (Ask c) (TextRefusedAt refusal offset) shows t = ⊥
-Follows s (Misplaced refusal) response shows t = (response ≡ Replied (call.Refused refusal)) × (shows ≡ Nothing) × (t ≡ s)
-Follows s (Unread refusal offset) response shows t = (response ≡ text_response refusal offset) × (shows ≡ Nothing) × (t ≡ s)
+Follows s (Misplaced refusal) response shows t =
+    (response ≡ Replied (call.Refused refusal)) × (shows ≡ Nothing) × (t ≡ s)
+Follows s (Unread refusal offset) response shows t =
+    (response ≡ text_response refusal offset) × (shows ≡ Nothing) × (t ≡ s)

@@ -11,11 +11,19 @@ use Rattle.ir_tree.specs.WellFormed.{Module as Numbered}
 use Rattle.ir_event.specs.tree_laws.Reasons.{hold_none}
 use Rattle.ir_event.specs.Modules.{Module}
 use Rattle.ir_types.specs.SameTypes.{same_type}
-use Rattle.rewriter_machine.specs.Edits.{TestsOf, EditOf, Insert, Make, Erase, Move, SetOperand, Replace, SetAttr, DropAttr, edited_by, reason_by}
+use Rattle.rewriter_machine.specs.Edits.{TestsOf, EditOf, Insert, Make, Erase, Move, SetOperand, Replace, SetAttr}
+use Rattle.rewriter_machine.specs.Edits.{DropAttr, edited_by, reason_by}
 
 -- the tests of contents
 abbrev pub tests : TestsOf (List ℕ) TypeTerm
-tests = record { isolated = is_isolated; table = is_table; inherent = is_inherent; before = key_before; same_type = same_type }
+tests =
+    record {
+      isolated = is_isolated;
+      table = is_table;
+      inherent = is_inherent;
+      before = key_before;
+      same_type = same_type;
+    }
 
 -- and of the numbers of a context
 abbrev pub tests_in : Things → TestsOf ℕ ℕ

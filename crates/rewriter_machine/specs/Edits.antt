@@ -2,7 +2,8 @@
 use Rattle.std.specs.Prelude.{ℕ, ◌+◌, nat_le, eqb, Bool, not, ◌||◌, Option, Some, None, is_some, if◌then◌else◌}
 use Rattle.std.specs.Option.{option_eq}
 use Rattle.ir_types.specs.declared.refusal.Refusal.{Refusal}
-use Rattle.ir_types.specs.declared.refusal.Refusal.TheVariants.{NoSuchOp, NoSuchValue, HasUses, NotVisible, TypeDiffers, NoSuchIndex, IsRoot, Full, IdsExhausted, TooDeepHere}
+use Rattle.ir_types.specs.declared.refusal.Refusal.TheVariants.{NoSuchOp, NoSuchValue, HasUses, NotVisible, TypeDiffers}
+use Rattle.ir_types.specs.declared.refusal.Refusal.TheVariants.{NoSuchIndex, IsRoot, Full, IdsExhausted, TooDeepHere}
 use Rattle.ir_tree.specs.declared.value.Value.{Value}
 use Rattle.ir_tree.specs.declared.place.Place.{Place}
 use Rattle.ir_tree.specs.declared.place.Part.{Part}
@@ -16,7 +17,8 @@ use Rattle.ir_tree.specs.Places.{put, without, shifted}
 use Rattle.ir_tree.specs.WellFormed.{ModuleOf}
 use Rattle.ir_event.specs.tree_laws.Values.{type_of_value, has_value}
 use Rattle.ir_event.specs.tree_laws.Reads.{around}
-use Rattle.ir_event.specs.tree_laws.Reasons.{unless, has_place, fits_around, with_id, put_reason, unused_outside, users_see, set_operand_reason, set_entry_reason, shift_reason}
+use Rattle.ir_event.specs.tree_laws.Reasons.{unless, has_place, fits_around, with_id, put_reason, unused_outside}
+use Rattle.ir_event.specs.tree_laws.Reasons.{users_see, set_operand_reason, set_entry_reason, shift_reason}
 
 -- the tests of names, keys and types by which modules are edited
 pub record TestsOf (N T : Type 0) : Type 0 where
@@ -54,7 +56,8 @@ pub data EditOf (N T A : Type 0) : Type 0 where
 -- the attributes
 abbrev pub part_in : {N T A : Type 0} → TestsOf N T → N → Option (OpOf N T A) → Part
 part_in w k None = Attrs
-part_in w k (Some o) = if w.inherent (head o).name k || is_some (entry_at w.before k (head o).properties) then Props else Attrs
+part_in w k (Some o) =
+    if w.inherent (head o).name k || is_some (entry_at w.before k (head o).properties) then Props else Attrs
 
 -- the same for operation x of a tree
 abbrev pub part_for : {N T A : Type 0} → TestsOf N T → ℕ → N → OpOf N T A → Part

@@ -1,9 +1,11 @@
 -- The machine: what a bench is, and what each call makes of it, as a relation, since memory may be refused and an
 -- analysis may turn stale where it is told of an edit. All else is determined.
-use Rattle.std.specs.Prelude.{◌≡◌, ℕ, nat_lt, length, List, [], ◌∷◌, Bool, true, false, ◌⊎◌, Option, Some, None, Result, Ok, Err, if◌then◌else◌, filter, IsTrue}
+use Rattle.std.specs.Prelude.{◌≡◌, ℕ, nat_lt, length, List, [], ◌∷◌, Bool, true, false, ◌⊎◌, Option, Some, None, Result}
+use Rattle.std.specs.Prelude.{Ok, Err, if◌then◌else◌, filter, IsTrue}
 use Rattle.std.specs.List.{find}
 use Rattle.ir_types.specs.declared.refusal.Refusal.{Refusal}
-use Rattle.ir_types.specs.declared.refusal.Refusal.TheVariants.{Full, Memory, Stale, NoSuchKind, KindTaken, TooManyMarks, NoMark}
+use Rattle.ir_types.specs.declared.refusal.Refusal.TheVariants.{Full, Memory, Stale, NoSuchKind, KindTaken}
+use Rattle.ir_types.specs.declared.refusal.Refusal.TheVariants.{TooManyMarks, NoMark}
 use Rattle.ir_tree.specs.Tree.{head}
 use Rattle.ir_tree.specs.Meaning.{Operation}
 use Rattle.ir_event.specs.Modules.{Module}
@@ -45,6 +47,8 @@ pub data Outcome : Type 0 where
   Limited : ℕ → Outcome
   -- so many rules of a conversion stand
   Converted : ℕ → Outcome
+  -- a rule was applied so often: once, or not at all
+  Applied : ℕ → Outcome
 
 -- why one isn't made, and the operation that this is about, where it is about one
 pub record Fault : Type 0 where
@@ -140,7 +144,8 @@ fault_reply refusal (Some x) = RefusedOn refusal x
 -- a transformation is made whole, or refused
 abbrev pub due_change : Result (Outcome × Module) Fault → State → Answer
 due_change (Ok made) s = record { reply = DoneWith made.0; shows = Nothing; held = made.1; marks = s.marks }
-due_change (Err fault) s = record { reply = fault_reply fault.refusal fault.op; shows = Nothing; held = s.held; marks = s.marks }
+due_change (Err fault) s =
+    record { reply = fault_reply fault.refusal fault.op; shows = Nothing; held = s.held; marks = s.marks }
 
 -- the module held, with a mark of it more
 abbrev pub marked : Bool → State → Answer
@@ -209,6 +214,10 @@ takes_memory s Print = true
 abbrev pub IsUnmade : State → Call → Answer → Type 0
 IsUnmade s (Change f) a = (a ≡ refused Memory s) ⊎ (IsTrue f.interns × (a ≡ refused Full s))
 IsUnmade s _ a = a ≡ refused Memory s
+
+-- where a transformation is refused with 31, that is due in the module, or `full` is so, which says that the context is
+abbrev pub IsFullSo : Type 0 → State → Transformation → Reply → Type 0
+IsFullSo full s f reply = reply ≡ Refused Full → (reply ≡ (due s (Change f)).reply) ⊎ full
 
 -- the answer that is due, or a refusal for want of memory or of room in the context
 abbrev pub IsAnswer : State → Call → Answer → Type 0

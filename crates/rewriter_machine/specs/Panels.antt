@@ -1,5 +1,6 @@
 -- The attached analyses: what may be seen of them, and what calls make of them.
-use Rattle.std.specs.Prelude.{◌≡◌, ℕ, List, [], ◌∷◌, ◌++◌, Bool, true, false, ◌==◌, Some, is_some, map, position, remove, slice_get, slice_set}
+use Rattle.std.specs.Prelude.{◌≡◌, ℕ, List, [], ◌∷◌, ◌++◌, Bool, true, false, ◌==◌, Some, is_some, map, position}
+use Rattle.std.specs.Prelude.{remove, slice_get, slice_set}
 use Rattle.std.specs.List.{AllZip}
 use Rattle.ir_tree.specs.Meaning.{Operation}
 use Rattle.ir_event.specs.Rows.{RowTerm}

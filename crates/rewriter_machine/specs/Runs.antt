@@ -1,8 +1,11 @@
 -- Lists of calls, with their replies.
-use Rattle.std.specs.Prelude.{◌≡◌, ℕ, zero, suc, List, [], ◌∷◌, Bool, true, false, Option, Some, None, Ok, option_and_then}
+use Rattle.std.specs.Prelude.{◌≡◌, ℕ, zero, suc, List, [], ◌∷◌, Bool, true, false, Option, Some, None, Ok}
+use Rattle.std.specs.Prelude.{option_and_then}
 use Rattle.ir_event.specs.Modules.{Module}
 use Rattle.rewriter_machine.specs.Contents.{edited, edit_reason}
-use Rattle.rewriter_machine.specs.Machine.{OpenMark, State, Outcome, Call, Do, Change, Mark, Step, Commit, Rollback, Attach, Detach, Resync, Report, Print, Reply, Done, DoneAs, DoneWith, Refused, RefusedOn, Shows, Goes}
+use Rattle.rewriter_machine.specs.Machine.{OpenMark, State, Outcome, Call, Do, Change, Mark, Step, Commit, Rollback}
+use Rattle.rewriter_machine.specs.Machine.{Attach, Detach, Resync, Report, Print, Reply, Done, DoneAs, DoneWith}
+use Rattle.rewriter_machine.specs.Machine.{Refused, RefusedOn, Shows, Goes}
 
 -- a call and how it was answered
 pub record Answered : Type 0 where

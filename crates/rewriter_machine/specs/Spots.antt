@@ -1,5 +1,6 @@
 -- Where a command says that an operation is to stand.
-use Rattle.std.specs.Prelude.{ℕ, eqb, Bool, true, false, if◌then◌else◌, Option, Some, None, option_map, is_some, Result, Ok, Err}
+use Rattle.std.specs.Prelude.{ℕ, eqb, Bool, true, false, if◌then◌else◌, Option, Some, None, option_map, is_some, Result}
+use Rattle.std.specs.Prelude.{Ok, Err}
 use Rattle.std.specs.Option.{option_eq}
 use Rattle.ir_types.specs.declared.refusal.Refusal.{Refusal}
 use Rattle.ir_types.specs.declared.refusal.Refusal.TheVariants.{NoSuchOp, NoSuchIndex, IsRoot}
@@ -45,5 +46,8 @@ in_block true true place = Ok place
 abbrev pub spot_place : {N T A : Type 0} → Option ℕ → Spot → OpOf N T A → Result Place Refusal
 spot_place moved (Before x) t = beside (has_id x t) (option_map (coming (Some x)) (place_of x t))
 spot_place moved (After x) t = beside (has_id x t) (option_map (behind moved t) (place_of x t))
-spot_place moved (Start x r) t = in_block (has_id x t) (is_some (ops_at x r t)) (record { parent = x; region = r; before = passing moved (first_at x r t) t })
-spot_place moved (End x r) t = in_block (has_id x t) (is_some (ops_at x r t)) (record { parent = x; region = r; before = None })
+spot_place moved (Start x r) t =
+    in_block (has_id x t) (is_some (ops_at x r t))
+    (record { parent = x; region = r; before = passing moved (first_at x r t) t })
+spot_place moved (End x r) t =
+    in_block (has_id x t) (is_some (ops_at x r t)) (record { parent = x; region = r; before = None })

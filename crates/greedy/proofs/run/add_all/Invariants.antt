@@ -1,7 +1,7 @@
 use Rattle.std.proofs.Common.{◌≡◌, ◌⊎◌, ℕ, length, true}
 use Rattle.ir_tree.specs.Ids.{has_id}
 use Rattle.greedy.specs.Work.{IsWork, StillWaits, waits}
-use Rattle.patterns_touched.specs.Sights.{is_listed}
+use Rattle.greedy.specs.Sights.{is_listed}
 use Rattle.greedy.proofs.run.add_all.Given as goal
 
 abbrev pub invariant-ops : goal.invariant-ops

@@ -1,5 +1,5 @@
 use Rattle.std.proofs.Common.{◌≡◌, subst, sym, true}
-use Rattle.patterns_touched.specs.Sights.{is_listed}
+use Rattle.greedy.specs.Sights.{is_listed}
 use Rattle.greedy.proofs.Scans.{renewed}
 use Rattle.greedy.proofs.run.renew.Goals as goal
 

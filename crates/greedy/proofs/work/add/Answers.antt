@@ -1,7 +1,7 @@
 use Rattle.std.proofs.Common.{◌≡◌, sym, ap, subst, ◌∙◌, take, drop, ◌++◌, true, false, inl, inr}
 use Rattle.std.proofs.lemmas.List.{take-append-drop}
 use Rattle.greedy.specs.Work.{IsWork, Parted, begins_with, StillWaits}
-use Rattle.patterns_touched.specs.Sights.{is_listed}
+use Rattle.greedy.specs.Sights.{is_listed}
 use Rattle.ir_tree_laws.specs.Reads.{precedes}
 use Rattle.greedy.proofs.Works.{put_between, begins_listed, or_right, or_left, either, listed_still}
 use Rattle.greedy.proofs.work.add.Goals as goal

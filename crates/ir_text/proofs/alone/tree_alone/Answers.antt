@@ -1,5 +1,5 @@
 use Rattle.std.proofs.Common.{sym}
-use Rattle.ir_text_grammar.specs.declared.error.ReadError.TheVariants as errors
+use Rattle.ir_text_types.specs.declared.error.ReadError.TheVariants as errors
 use Rattle.ir_text_operations.proofs.Modules.{spelled_of, none_of, source_none, error_is}
 use Rattle.ir_text.proofs.Sources.{within_limit}
 use Rattle.ir_text.proofs.WholeRoom.{text_fits}

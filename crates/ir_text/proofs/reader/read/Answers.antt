@@ -1,5 +1,5 @@
 use Rattle.std.proofs.Common.{◌≡◌, ℕ, length}
-use Rattle.ir_text_grammar.specs.Laws.{IsFull}
+use Rattle.ir_text_types.specs.Laws.{IsFull}
 use Rattle.ir_text_operations.specs.Spelling.{Spells}
 use Rattle.ir_text_operations.specs.Claims.{IsNone}
 use Rattle.ir_text.proofs.Errors.{refused_so, full_so}

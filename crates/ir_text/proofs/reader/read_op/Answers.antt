@@ -1,9 +1,9 @@
 use Rattle.std.proofs.Common.{◌≡◌, ℕ, length}
 use Rattle.std.specs.Prelude.{Result, Err}
 use Rattle.ir_tree.specs.Tree.{Op}
-use Rattle.ir_text_grammar.specs.declared.error.ReadError.{ReadError as Inner}
-use Rattle.ir_text_grammar.specs.declared.error.ReadError.TheVariants as inner
-use Rattle.ir_text_grammar.specs.Laws.{IsFull}
+use Rattle.ir_text_types.specs.declared.error.ReadError.{ReadError as Inner}
+use Rattle.ir_text_types.specs.declared.error.ReadError.TheVariants as inner
+use Rattle.ir_text_types.specs.Laws.{IsFull}
 use Rattle.ir_text_operations.specs.Free.{free_term}
 use Rattle.ir_text_operations.specs.Spelling.{SpellsOp}
 use Rattle.ir_text_operations.specs.Claims.{IsNone}

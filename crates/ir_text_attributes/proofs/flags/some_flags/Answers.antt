@@ -2,12 +2,12 @@ use Rattle.std.proofs.Common.{◌≡◌, ◌++◌, ◌∷◌, [], ◌+◌, Some,
 use Rattle.std.proofs.lemmas.Result.{err_from_is_err_and}
 use Rattle.std.proofs.lemmas.List.{length-append}
 use Rattle.ir_text_tokens.specs.declared.token.Mark.TheVariants.{Greater, Comma}
-use Rattle.ir_text_grammar.specs.Marks.{after}
-use Rattle.ir_text_grammar.specs.Outcomes.{of_option}
-use Rattle.ir_text_grammar.specs.Typed.{after_typed}
+use Rattle.ir_text_types.specs.Marks.{after}
+use Rattle.ir_text_types.specs.Outcomes.{of_option}
+use Rattle.ir_text_types.specs.Typed.{after_typed}
 use Rattle.ir_text_types.specs.TypeReading.{many}
 use Rattle.ir_text_attributes.specs.AttrReading.{flag_at}
-use Rattle.ir_text_grammar.proofs.ListSteps.{goes_on, closes, no_item, no_comma, is_full, fails_option, got}
+use Rattle.ir_text_types.proofs.ListSteps.{goes_on, closes, no_item, no_comma, is_full, fails_option, got}
 use Rattle.ir_text_attributes.proofs.flags.some_flags.Goals as goal
 
 pub returns-in-Err : goal.returns-in-Err

@@ -1,8 +1,8 @@
 use Rattle.std.proofs.Common.{◌≡◌, ◌-◌, length}
 use Rattle.ir_text_tokens.specs.declared.token.Mark.TheVariants.{Greater}
 use Rattle.ir_types.specs.Things.{Things}
-use Rattle.ir_text_grammar.specs.Lists.{more_at}
-use Rattle.ir_text_grammar.specs.Typed.{after_typed}
+use Rattle.ir_text_types.specs.Lists.{more_at}
+use Rattle.ir_text_types.specs.Typed.{after_typed}
 use Rattle.ir_text_types.specs.TypeReading.{many}
 use Rattle.ir_text_attributes.specs.AttrReading.{flag_at, some_flags_at}
 use Rattle.ir_text_attributes.proofs.flags.some_flags.Given as goal

@@ -1,7 +1,7 @@
 use Rattle.std.proofs.Common.{◌≡◌, ◌++◌, ◌∷◌, [], ◌+◌, Some, None, length, refl, arith}
 use Rattle.std.proofs.lemmas.List.{length-append}
 use Rattle.ir_text_tokens.specs.declared.token.Mark.TheVariants.{DoubleColon}
-use Rattle.ir_text_grammar.specs.Typed.{after_typed}
+use Rattle.ir_text_types.specs.Typed.{after_typed}
 use Rattle.ir_text_types.specs.TypeReading.{many}
 use Rattle.ir_types.proofs.Growth.{grows_trans}
 use Rattle.ir_text_attributes.proofs.PartSteps.{goes_on, ends, no_part, is_full}

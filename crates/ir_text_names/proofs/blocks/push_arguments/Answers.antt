@@ -1,7 +1,7 @@
 use Rattle.std.proofs.Common.{◌+◌, ap, ◌∙◌, arith}
 use Rattle.ir_text_tokens.specs.declared.token.Mark.TheVariants.{CloseRound}
 use Rattle.ir_types.proofs.Growth.{grows_trans}
-use Rattle.ir_text_grammar.proofs.ListSteps.{is_full}
+use Rattle.ir_text_types.proofs.ListSteps.{is_full}
 use Rattle.ir_text_names.specs.States.{after_in, state_of}
 use Rattle.ir_text_names.specs.BlockReading.{arg_at}
 use Rattle.ir_text_names.proofs.ItemSteps.{closes, fails, goes_on}

@@ -1,7 +1,7 @@
 use Rattle.std.proofs.Common.{◌≡◌, ◌-◌, length}
 use Rattle.ir_text_tokens.specs.declared.token.Mark.TheVariants.{CloseRound}
 use Rattle.ir_types.specs.Things.{Grows}
-use Rattle.ir_text_grammar.specs.Lists.{more_at}
+use Rattle.ir_text_types.specs.Lists.{more_at}
 use Rattle.ir_text_names.specs.States.{after_in, state_of}
 use Rattle.ir_text_names.specs.BlockReading.{arg_at, args_at}
 use Rattle.ir_text_names.proofs.blocks.push_arguments.Given as goal

@@ -1,11 +1,11 @@
 use Rattle.std.proofs.Common.{◌≡◌, ◌++◌, ◌∷◌, [], List, map, arith}
 use Rattle.std.proofs.lemmas.List.{map_push}
 use Rattle.ir_text_tokens.specs.declared.token.Mark.TheVariants.{Equal}
-use Rattle.ir_text_grammar.specs.Marks.{after}
-use Rattle.ir_text_grammar.specs.Outcomes.{Parse}
-use Rattle.ir_text_grammar.proofs.ListSteps.{goes_on, closes, no_item, no_comma, is_full}
+use Rattle.ir_text_types.specs.Marks.{after}
+use Rattle.ir_text_types.specs.Outcomes.{Parse}
+use Rattle.ir_text_types.proofs.ListSteps.{goes_on, closes, no_item, no_comma, is_full}
 use Rattle.ir_text_names.specs.Packs.{Counted, counts, named_view}
-use Rattle.ir_text_grammar.specs.Typed.{Text}
+use Rattle.ir_text_types.specs.Typed.{Text}
 use Rattle.ir_text_names.specs.NameReading.{result_at}
 use Rattle.ir_text_names.proofs.Counts.{counts_push, result_fits}
 use Rattle.ir_text_names.proofs.named.push_names.Goals as goal

@@ -1,7 +1,7 @@
 use Rattle.std.proofs.Common.{◌≡◌, ◌≤◌, ◌-◌, map}
 use Rattle.ir_text_tokens.specs.declared.token.Mark.TheVariants.{Equal}
-use Rattle.ir_text_grammar.specs.Marks.{after}
-use Rattle.ir_text_grammar.specs.Lists.{more_at}
+use Rattle.ir_text_types.specs.Marks.{after}
+use Rattle.ir_text_types.specs.Lists.{more_at}
 use Rattle.ir_text_names.specs.Packs.{counts, named_view}
 use Rattle.ir_text_names.specs.NameReading.{result_at, names_at}
 use Rattle.ir_text_names.proofs.named.push_names.Given as goal

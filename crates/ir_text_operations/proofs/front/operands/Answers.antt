@@ -1,8 +1,8 @@
 use Rattle.std.proofs.Common.{◌≡◌, ◌∷◌, [], ◌+◌, length, arith}
 use Rattle.std.proofs.lemmas.List.{length-append}
 use Rattle.ir_text_tokens.specs.declared.token.Mark.TheVariants.{CloseRound}
-use Rattle.ir_text_grammar.specs.Marks.{after}
-use Rattle.ir_text_grammar.proofs.ListSteps.{goes_on, closes, no_item, no_comma, is_full}
+use Rattle.ir_text_types.specs.Marks.{after}
+use Rattle.ir_text_types.proofs.ListSteps.{goes_on, closes, no_item, no_comma, is_full}
 use Rattle.ir_text_operations.specs.Free.{free_bound}
 use Rattle.ir_text_operations.specs.FrontReading.{use_at}
 use Rattle.ir_text_operations.proofs.front.operands.Goals as goal

@@ -1,7 +1,7 @@
 use Rattle.std.proofs.Common.{◌≡◌, ◌-◌, length}
 use Rattle.ir_text_tokens.specs.declared.token.Mark.TheVariants.{CloseRound}
-use Rattle.ir_text_grammar.specs.Marks.{after}
-use Rattle.ir_text_grammar.specs.Lists.{more_at}
+use Rattle.ir_text_types.specs.Marks.{after}
+use Rattle.ir_text_types.specs.Lists.{more_at}
 use Rattle.ir_text_operations.specs.Free.{free_bound}
 use Rattle.ir_text_operations.specs.FrontReading.{use_at, uses_at}
 use Rattle.ir_text_operations.proofs.front.operands.Given as goal

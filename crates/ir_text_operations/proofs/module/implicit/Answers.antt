@@ -1,5 +1,5 @@
 use Rattle.std.proofs.Common.{inl}
-use Rattle.ir_text_grammar.specs.declared.error.ReadError.TheVariants as errors
+use Rattle.ir_text_types.specs.declared.error.ReadError.TheVariants as errors
 use Rattle.ir_text_names.specs.States.{state_of}
 use Rattle.ir_types.proofs.Growth.{grows_trans}
 use Rattle.ir_text_operations.proofs.Modules.{body_read, body_wrong, fails_wrong, named_module, name_fills, error_is}

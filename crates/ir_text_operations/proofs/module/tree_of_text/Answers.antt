@@ -1,4 +1,4 @@
-use Rattle.ir_text_grammar.specs.declared.error.ReadError.TheVariants as errors
+use Rattle.ir_text_types.specs.declared.error.ReadError.TheVariants as errors
 use Rattle.ir_text_operations.proofs.Modules.{spelled_of, none_of, source_none, error_is}
 use Rattle.ir_text_operations.proofs.module.tree_of_text.Goals as goal
 

@@ -3,10 +3,10 @@ use Rattle.std.specs.Prelude.{option_map}
 use Rattle.std.proofs.lemmas.List.{map_push, length-append, length-map}
 use Rattle.ir_text_tokens.specs.declared.token.Mark.TheVariants.{CloseRound, CloseCurly, Comma}
 use Rattle.ir_tree.specs.View.{region_view}
-use Rattle.ir_text_grammar.specs.Marks.{after}
-use Rattle.ir_text_grammar.specs.Outcomes.{of_option}
+use Rattle.ir_text_types.specs.Marks.{after}
+use Rattle.ir_text_types.specs.Outcomes.{of_option}
 use Rattle.ir_types.proofs.Growth.{grows_trans}
-use Rattle.ir_text_grammar.proofs.ListSteps.{goes_on, closes, no_item, no_comma, is_full, fails_option}
+use Rattle.ir_text_types.proofs.ListSteps.{goes_on, closes, no_item, no_comma, is_full, fails_option}
 use Rattle.ir_tree.specs.Limits.{most_ops}
 use Rattle.ir_text_operations.specs.Free.{free_bound}
 use Rattle.ir_text_names.specs.States.{after_in, state_of}

@@ -2,7 +2,7 @@ use Rattle.std.proofs.Common.{◌≡◌, ◌*◌, ◌+◌, ◌-◌, [], length, 
 use Rattle.ir_text_tokens.specs.declared.token.Mark.TheVariants.{CloseRound, CloseCurly}
 use Rattle.ir_types.specs.Things.{Grows}
 use Rattle.ir_tree.specs.View.{region_view}
-use Rattle.ir_text_grammar.specs.Lists.{more_at}
+use Rattle.ir_text_types.specs.Lists.{more_at}
 use Rattle.ir_tree.specs.Limits.{most_ops}
 use Rattle.ir_text_operations.specs.Free.{free_bound}
 use Rattle.ir_text_names.specs.States.{after_in, state_of}

@@ -1,5 +1,5 @@
 use Rattle.std.proofs.Common.{subst}
-use Rattle.ir_text_grammar.specs.declared.error.ReadError.TheVariants as errors
+use Rattle.ir_text_types.specs.declared.error.ReadError.TheVariants as errors
 use Rattle.ir_text_operations.specs.Free.{free_bound, free_term}
 use Rattle.ir_text_operations.specs.Spelling.{IsSingleOp}
 use Rattle.ir_text_operations.specs.Claims.{IsOnly, IsNone}

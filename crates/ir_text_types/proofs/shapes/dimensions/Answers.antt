@@ -1,11 +1,11 @@
 use Rattle.std.proofs.Common.{◌≡◌, ◌++◌, ◌∷◌, [], ◌+◌, true, false, Some, length, ap, arith}
 use Rattle.std.proofs.lemmas.List.{length-append}
 use Rattle.ir_text_tokens.specs.Tokens.{skip}
-use Rattle.ir_text_grammar.specs.Outcomes.{of_option}
+use Rattle.ir_text_types.specs.Outcomes.{of_option}
 use Rattle.ir_text_types.specs.ShapeGrammar.{begins_dimension}
 use Rattle.ir_text_types.specs.ShapeReading.{dimension_at}
 use Rattle.ir_text_types.specs.TypeReading.{many}
-use Rattle.ir_text_grammar.proofs.ListSteps.{got}
+use Rattle.ir_text_types.proofs.ListSteps.{got}
 use Rattle.ir_text_types.proofs.ShapeSteps.{goes_on, ends, no_dimension, last_ends, is_full}
 use Rattle.ir_text_types.proofs.shapes.dimensions.Goals as goal
 

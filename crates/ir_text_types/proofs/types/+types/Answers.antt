@@ -2,11 +2,11 @@ use Rattle.std.proofs.Common.{◌≡◌, ◌++◌, ◌∷◌, [], ◌+◌, Some,
 use Rattle.std.proofs.lemmas.Result.{err_from_is_err_and}
 use Rattle.std.proofs.lemmas.List.{length-append}
 use Rattle.ir_text_tokens.specs.declared.token.Mark.TheVariants.{CloseRound, Comma}
-use Rattle.ir_text_grammar.specs.Marks.{after}
-use Rattle.ir_text_grammar.specs.Outcomes.{of_option}
-use Rattle.ir_text_grammar.specs.Typed.{after_typed}
+use Rattle.ir_text_types.specs.Marks.{after}
+use Rattle.ir_text_types.specs.Outcomes.{of_option}
+use Rattle.ir_text_types.specs.Typed.{after_typed}
 use Rattle.ir_text_types.specs.TypeReading.{type_at, many}
-use Rattle.ir_text_grammar.proofs.ListSteps.{goes_on, closes, no_item, no_comma, is_full, fails_option, got}
+use Rattle.ir_text_types.proofs.ListSteps.{goes_on, closes, no_item, no_comma, is_full, fails_option, got}
 use Rattle.ir_types.proofs.Growth.{grows_trans}
 use Rattle.ir_text_types.proofs.Known.{signature_known}
 use Rattle.ir_text_types.proofs.types.+types.Goals as goal

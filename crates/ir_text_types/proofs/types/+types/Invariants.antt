@@ -1,7 +1,7 @@
 use Rattle.std.proofs.Common.{◌≡◌, ◌*◌, ◌+◌, ◌-◌, length}
 use Rattle.ir_text_tokens.specs.declared.token.Mark.TheVariants.{CloseRound}
-use Rattle.ir_text_grammar.specs.Lists.{more_at}
-use Rattle.ir_text_grammar.specs.Typed.{after_typed}
+use Rattle.ir_text_types.specs.Lists.{more_at}
+use Rattle.ir_text_types.specs.Typed.{after_typed}
 use Rattle.ir_text_types.specs.TypeReading.{types_at, type_at}
 use Rattle.ir_types.specs.Things.{Grows}
 use Rattle.ir_text_types.proofs.types.+types.Given as goal

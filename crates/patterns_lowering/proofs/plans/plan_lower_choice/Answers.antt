@@ -10,19 +10,19 @@ use Rattle.patterns_lowering.proofs.Ruled.{not_there, not_lower_choice, unmarked
 use Rattle.patterns_lowering.proofs.plans.plan_lower_choice.Goals as goal
 
 pub returns-in_default-clause-edits : goal.returns-in_default-clause-edits
-returns-in_default-clause-edits c = not_there lower_choice c.args.world.now c.args.op c.in_default.ensures
+returns-in_default-clause-edits c = not_there lower_choice c.args.world.now c.args.op c.in_default.ensures.node
 
 pub returns-then-not-is_word-clause-edits : goal.returns-then-not-is_word-clause-edits
 returns-then-not-is_word-clause-edits c =
-    not_lower_choice c.args.world.now c.args.op c.in-Some.node c.in-Some.ensures c.is_word.result (c.is_word.ensures ∙ ap (λ n. named (codes "scf.if") (name_term c.args.world.now.ctx n)) c.name.ensures) c.if-not-is_word.true
+    not_lower_choice c.args.world.now c.args.op c.in-Some.node c.in-Some.ensures.node c.is_word.result (c.is_word.ensures ∙ ap (λ n. named (codes "scf.if") (name_term c.args.world.now.ctx n)) c.name.ensures) c.if-not-is_word.true
 
 pub returns-then-not-any-clause-edits : goal.returns-then-not-any-clause-edits
 returns-then-not-any-clause-edits c =
-    unmarked_lower_choice c.args.world.now c.args.op c.in-Some.node c.in-Some.ensures c.in_ok-of.of c.in_ok-of.ensures c.any.result (c.any.ensures ∙ ap any c.deref.ensures.value) c.if-not-any.true
+    unmarked_lower_choice c.args.world.now c.args.op c.in-Some.node c.in-Some.ensures.node c.in_ok-of.of c.in_ok-of.ensures c.any.result (c.any.ensures ∙ ap any c.deref.ensures.value) c.if-not-any.true
 
 pub returns-clause-edits : goal.returns-clause-edits
 returns-clause-edits c =
-    is_lower_choice c.args.world.now c.args.op c.in-Some.node c.in-Some.ensures (record { of = c.in_ok-of.of; first = c.in-Some-2.first; second = c.in-Some-3.second })
+    is_lower_choice c.args.world.now c.args.op c.in-Some.node c.in-Some.ensures.node (record { of = c.in_ok-of.of; first = c.in-Some-2.first; second = c.in-Some-3.second })
     c.in_ok-of.ensures c.is_word.result (c.is_word.ensures ∙ ap (λ n. named (codes "scf.if") (name_term c.args.world.now.ctx n)) c.name.ensures) c.if-not-is_word.false
     (subst (λ b. AreTaken (body_at c.args.op 0 (module_in c.args.world.now).tree) b) c.in-Some-2.is c.in_ok-first.ensures)
     (subst (λ b. AreTaken (body_at c.args.op 1 (module_in c.args.world.now).tree) b) c.in-Some-3.is c.in_ok-second.ensures)
@@ -30,7 +30,7 @@ returns-clause-edits c =
 
 pub returns-clause-of : goal.returns-clause-of
 returns-clause-of c =
-    indexed_lower_choice c.args.world.now c.args.op c.in-Some.node c.in-Some.ensures (record { of = c.in_ok-of.of; first = c.in-Some-2.first; second = c.in-Some-3.second })
+    indexed_lower_choice c.args.world.now c.args.op c.in-Some.node c.in-Some.ensures.node (record { of = c.in_ok-of.of; first = c.in-Some-2.first; second = c.in-Some-3.second })
     c.in_ok-of.ensures c.is_word.result (c.is_word.ensures ∙ ap (λ n. named (codes "scf.if") (name_term c.args.world.now.ctx n)) c.name.ensures) c.if-not-is_word.false
     (subst (λ b. AreTaken (body_at c.args.op 0 (module_in c.args.world.now).tree) b) c.in-Some-2.is c.in_ok-first.ensures)
     (subst (λ b. AreTaken (body_at c.args.op 1 (module_in c.args.world.now).tree) b) c.in-Some-3.is c.in_ok-second.ensures)

@@ -11,25 +11,25 @@ use Rattle.patterns_lowering.proofs.Ruled.{not_there, not_lower_loop, unmarked_l
 use Rattle.patterns_lowering.proofs.plans.plan_lower_loop.Goals as goal
 
 pub returns-in_default-clause-edits : goal.returns-in_default-clause-edits
-returns-in_default-clause-edits c = not_there lower_loop c.args.world.now c.args.op c.in_default.ensures
+returns-in_default-clause-edits c = not_there lower_loop c.args.world.now c.args.op c.in_default.ensures.node
 
 pub returns-then-not-is_word-clause-edits : goal.returns-then-not-is_word-clause-edits
 returns-then-not-is_word-clause-edits c =
-    not_lower_loop c.args.world.now c.args.op c.in-Some.node c.in-Some.ensures c.is_word.result (c.is_word.ensures ∙ ap (λ n. named (codes "scf.for") (name_term c.args.world.now.ctx n)) c.name.ensures) c.if-not-is_word.true
+    not_lower_loop c.args.world.now c.args.op c.in-Some.node c.in-Some.ensures.node c.is_word.result (c.is_word.ensures ∙ ap (λ n. named (codes "scf.for") (name_term c.args.world.now.ctx n)) c.name.ensures) c.if-not-is_word.true
 
 pub returns-then-not-any-clause-edits : goal.returns-then-not-any-clause-edits
 returns-then-not-any-clause-edits c =
-    unmarked_lower_loop c.args.world.now c.args.op c.in-Some.node c.in-Some.ensures c.in_ok-of.of c.in_ok-of.ensures c.any.result (c.any.ensures ∙ ap any c.deref.ensures.value) c.if-not-any.true
+    unmarked_lower_loop c.args.world.now c.args.op c.in-Some.node c.in-Some.ensures.node c.in_ok-of.of c.in_ok-of.ensures c.any.result (c.any.ensures ∙ ap any c.deref.ensures.value) c.if-not-any.true
 
 pub returns-in_default-arguments-clause-edits : goal.returns-in_default-arguments-clause-edits
-returns-in_default-arguments-clause-edits c = no_block_lower_loop c.args.world.now c.args.op c.in-Some.node c.in-Some.ensures c.in_ok-of.of c.in_ok-of.ensures c.in_default-arguments.ensures
+returns-in_default-arguments-clause-edits c = no_block_lower_loop c.args.world.now c.args.op c.in-Some.node c.in-Some.ensures.node c.in_ok-of.of c.in_ok-of.ensures c.in_default-arguments.ensures
 
 pub indices-requires : goal.indices-requires
-indices-requires c = types_known_at c.args.world.now c.args.op c.in-Some.node (raw c.args.world.now c.args.op c.in-Some.node c.in-Some.ensures) 0 c.in-Some-arguments.types.now (sym c.in-Some-arguments.ensures)
+indices-requires c = types_known_at c.args.world.now c.args.op c.in-Some.node (raw c.args.world.now c.args.op c.in-Some.node c.in-Some.ensures.node) 0 c.in-Some-arguments.types.now (sym c.in-Some-arguments.ensures)
 
 pub returns-clause-edits : goal.returns-clause-edits
 returns-clause-edits c =
-    is_lower_loop c.args.world.now c.args.op c.in-Some.node c.in-Some.ensures
+    is_lower_loop c.args.world.now c.args.op c.in-Some.node c.in-Some.ensures.node
     (record { of = c.in_ok-of.of; arguments = c.in_ok-arguments.arguments; index_arguments = c.in_ok-index_arguments.index_arguments; body = c.in-Some-2.body })
     c.in_ok-of.ensures c.is_word.result (c.is_word.ensures ∙ ap (λ n. named (codes "scf.for") (name_term c.args.world.now.ctx n)) c.name.ensures) c.if-not-is_word.false
     c.in-Some-arguments.types.now (sym c.in-Some-arguments.ensures) c.in_ok-arguments.ensures.items c.in_ok-index_arguments.ensures
@@ -38,7 +38,7 @@ returns-clause-edits c =
 
 pub returns-clause-of : goal.returns-clause-of
 returns-clause-of c =
-    indexed_lower_loop c.args.world.now c.args.op c.in-Some.node c.in-Some.ensures
+    indexed_lower_loop c.args.world.now c.args.op c.in-Some.node c.in-Some.ensures.node
     (record { of = c.in_ok-of.of; arguments = c.in_ok-arguments.arguments; index_arguments = c.in_ok-index_arguments.index_arguments; body = c.in-Some-2.body })
     c.in_ok-of.ensures c.is_word.result (c.is_word.ensures ∙ ap (λ n. named (codes "scf.for") (name_term c.args.world.now.ctx n)) c.name.ensures) c.if-not-is_word.false
     c.in-Some-arguments.types.now (sym c.in-Some-arguments.ensures) c.in_ok-arguments.ensures.items c.in_ok-index_arguments.ensures

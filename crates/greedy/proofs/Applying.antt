@@ -1,0 +1,279 @@
+-- At an operation that isn't listed each rule of canonicalization applies where it applied.
+use Rattle.std.proofs.Common.{◌≡◌, refl, ap, sym, ◌∙◌, subst, ℕ, zero, suc, Bool, true, false, true≢false, ◌&&◌, not, List, [], ◌∷◌, map, Option, Some, None, inl, inr}
+use Rattle.std.specs.Prelude.{option_map, option_and_then, is_some}
+use Rattle.ir_types.specs.Things.{Things}
+use Rattle.ir_types.specs.Terms.{TypeTerm, AttrTerm}
+use Rattle.ir_tree.specs.declared.value.Value.{Value}
+use Rattle.ir_tree.specs.declared.value.Value.TheVariants.{Result, Arg}
+use Rattle.ir_tree.specs.declared.place.Place.{Place}
+use Rattle.ir_tree.specs.Tree.{op, RegionsOf, no_regions, region, RegionOf, empty, block, head, regions}
+use Rattle.ir_tree.specs.Ids.{HasDistinctIds, find}
+use Rattle.ir_tree.specs.Meaning.{Operation}
+use Rattle.ir_store.specs.Nodes.{NodeOf, node_of, regions_arguments}
+use Rattle.ir_tree_laws.specs.Members.{In}
+use Rattle.ir_tree_laws.specs.Reads.{last_id, ops_in}
+use Rattle.ir_tree_laws.specs.Values.{region_at, type_of_value, arguments_of}
+use Rattle.ir_tree_laws.specs.Stands.{StepOf, StandOf, stands}
+use Rattle.ir_tree_laws.proofs.Members.{stand, found_stands}
+use Rattle.ir_event.specs.declared.event.Event.{Event}
+use Rattle.ir_event.specs.Modules.{Module}
+use Rattle.ir_event.specs.Step.{Steps}
+use Rattle.op_registry.specs.Registry.{own_of}
+use Rattle.effects.specs.Effects.{effects}
+use Rattle.effects.specs.Dead.{is_unused, is_kept, may_go as may_be_missed}
+use Rattle.listeners_surroundings.specs.Surroundings.{SurroundingsOf, surroundings}
+use Rattle.patterns_laws.specs.Keeps.{given}
+use Rattle.patterns_base.specs.declared.rule.Rule.{Rule}
+use Rattle.patterns_base.specs.RuleNames.{is_canonical}
+use Rattle.patterns_base.specs.Looks.{Header, when, may_go, is_clean, front_of, giver, type_of}
+use Rattle.patterns_base.specs.Rules.{rule}
+use Rattle.patterns_base.specs.Rewrites.{edits_of}
+use Rattle.greedy.specs.Reached.{ends, any_reaches}
+use Rattle.greedy.specs.Sights.{giver as giver_id, operands_of, Uses, is_listed, last_ids}
+use Rattle.greedy.specs.Near.{Leads}
+use Rattle.patterns_facts.specs.Alike.{Same, ShowsAlike, SeesAlike, EndsAlike, LooksAlike, last_of, shape_of}
+use Rattle.patterns_facts.proofs.Looking.{when_alike, given_both}
+use Rattle.patterns_facts.proofs.Facts.{facts, lowers_not}
+use Rattle.greedy.specs.Listing.{Lists, Stayed, Touched}
+use Rattle.greedy.proofs.Ending.{last_ends}
+use Rattle.greedy.proofs.Reaching.{all_far}
+use Rattle.greedy.proofs.Tracked.{effects_stay}
+use Rattle.greedy.proofs.Usings.{unused_stays}
+use Rattle.greedy.proofs.Lasting.{lasts_stay, unreached_all, last_in, same_lasts}
+use Rattle.greedy.proofs.Unlisted.{found_surroundings, surroundings_found, there_found, found_there, outer_some, last_header, clean_alike, heads_alike, head_id, shows_alike}
+
+not_so : (b : Bool) → (b ≡ true → ⊥) → b ≡ false
+not_so true h = absurd (h refl)
+not_so false h = refl
+
+map_member : {X Y : Type 0} (f g : X → Y) (xs : List X) → map f xs ≡ map g xs → (x : X) → In x xs → f x ≡ g x
+map_member f g [] e x h = absurd h
+map_member f g (y ∷ ys) e x (inl i) = let k : f y ≡ g y = cc in ap f i ∙ k ∙ ap g (sym i)
+map_member f g (y ∷ ys) e x (inr h) = let k : map f ys ≡ map g ys = cc in map_member f g ys k x h
+
+none_from : {X Y : Type 0} (a : Option X) (b : Option Y) → Same a b → a ≡ None → b ≡ None
+none_from a None e h = refl
+none_from a (Some y) e h = absurd (true≢false (sym e ∙ ap is_some h))
+
+steps_of : (shown : ℕ → List Value) (c : Things) (es : List Event) (m n : Module) → Leads shown c es m n → Steps c es m n
+steps_of shown c [] m n s = s.0
+steps_of shown c (e ∷ es) m n s = (s.0, s.1, steps_of shown c es s.0 n s.3)
+
+first_distinct : (c : Things) (es : List Event) (m n : Module) → Steps c es m n → HasDistinctIds n.tree → HasDistinctIds m.tree
+first_distinct c [] m n s d = subst (λ (p : Module). HasDistinctIds p.tree) s d
+first_distinct c (e ∷ es) m n s d = s.1.before.distinct
+
+-- regions of one shape
+same_shapes : (r : ℕ) (rs qs : RegionsOf (List ℕ) TypeTerm AttrTerm) → regions_arguments rs ≡ regions_arguments qs → shape_of (region_at r rs) ≡ shape_of (region_at r qs)
+same_shapes r no_regions no_regions e = refl
+same_shapes r no_regions (region h qs) e = absurd cc
+same_shapes r (region g rs) no_regions e = absurd cc
+same_shapes zero (region g rs) (region h qs) e = by g h (front_of_lists e)
+  where
+    front_of_lists : {X : Type 0} {a b : X} {xs ys : List X} → a ∷ xs ≡ b ∷ ys → a ≡ b
+    front_of_lists e = cc
+
+    by : (g h : RegionOf (List ℕ) TypeTerm AttrTerm) → arguments_of g ≡ arguments_of h → shape_of (Some g) ≡ shape_of (Some h)
+    by empty empty e = refl
+    by empty (block bs us) e = absurd cc
+    by (block args os) empty e = absurd cc
+    by (block args os) (block bs us) e = refl
+same_shapes (suc r) (region g rs) (region h qs) e = same_shapes r rs qs (rest_of_lists e)
+  where
+    rest_of_lists : {X : Type 0} {a b : X} {xs ys : List X} → a ∷ xs ≡ b ∷ ys → xs ≡ ys
+    rest_of_lists e = cc
+
+node_heads : (o p : Operation) → node_of o ≡ node_of p → head o ≡ head p
+node_heads (op h rs) (op k qs) e = λ i. (e i).head
+
+node_regions : (o p : Operation) → node_of o ≡ node_of p → regions_arguments (regions o) ≡ regions_arguments (regions p)
+node_regions (op h rs) (op k qs) e = λ i. (e i).arguments
+
+-- the last of a block ends it
+last_in_ends : (t : Operation) → HasDistinctIds t → (o : Operation) (path : List (StepOf (List ℕ) TypeTerm AttrTerm)) → In (stand o path) (stands [] t) → (r l : ℕ) → last_in r (regions o) ≡ Some l → ends (head o).id l t ≡ true
+last_in_ends t d o path h r l e = go (region_at r (regions o)) refl e
+  where
+    go : (a : Option (RegionOf (List ℕ) TypeTerm AttrTerm)) → region_at r (regions o) ≡ a → option_and_then last_id (option_and_then ops_in a) ≡ Some l → ends (head o).id l t ≡ true
+    go None i k = absurd cc
+    go (Some empty) i k = absurd cc
+    go (Some (block args os)) i k = last_ends t d o path r args os l h i k
+
+module _ (shown : ℕ → List Value) (c : Things) (es : List Event) (m n : Module) (leads : Leads shown c es m n) (dn : HasDistinctIds n.tree) (listed : List ℕ) (lists : Lists shown es listed n.tree) where
+  abbrev t : Operation
+  t = n.tree
+
+  abbrev u : Operation
+  u = m.tree
+
+  steps : Steps c es m n
+  steps = steps_of shown c es m n leads
+
+  dm : HasDistinctIds u
+  dm = first_distinct c es m n steps dn
+
+  far : (y : ℕ) → (any_reaches es y t ≡ true → ⊥) → surroundings y t ≡ surroundings y u
+  far y f = all_far c es m n steps y (not_so (any_reaches es y t) f)
+
+  -- a value of an operation
+  uses_found : (z : ℕ) (q : Operation) → find z t ≡ Some q → (v : Value) → In v (head q).operands → (y : ℕ) → giver_id v ≡ Some y → Uses z y t
+  uses_found z q f v h y e =
+      let s = found_surroundings t z q f in
+      (v, subst (λ vs. In v vs) (sym (ap operands_of s.1 ∙ shown_node s.0 q s.2)) h, e)
+    where
+      node_head : (q : Operation) → (node_of q).head ≡ head q
+      node_head (op h rs) = refl
+
+      shown_node : (s : SurroundingsOf (List ℕ) TypeTerm AttrTerm) (q : Operation) → s.node ≡ node_of q → s.node.head.operands ≡ (head q).operands
+      shown_node s q e = ap (λ (k : NodeOf (List ℕ) TypeTerm AttrTerm). k.head.operands) e ∙ ap (λ (k : Header). k.operands) (node_head q)
+
+  -- the types of an operation's operands
+  types_found : (z : ℕ) → surroundings z t ≡ surroundings z u → (q : Operation) → find z t ≡ Some q → (v : Value) → In v (head q).operands → type_of t v ≡ type_of u v
+  types_found z same q f v h =
+      let s = found_surroundings t z q f in
+      let other = surroundings_found u z s.0 (sym same ∙ s.1) in
+      let r = found_surroundings u z other.0 other.1 in
+      let one : Some s.0 ≡ Some r.0 = sym s.1 ∙ same ∙ r.1 in
+      let both : s.0 ≡ r.0 = cc in
+      let heads = node_heads q other.0 (sym s.2 ∙ ap (λ (k : SurroundingsOf (List ℕ) TypeTerm AttrTerm). k.node) both ∙ r.2) in
+      map_member (λ w. type_of_value w t) (λ w. type_of_value w u) (head q).operands
+      (sym s.3 ∙ ap (λ (k : SurroundingsOf (List ℕ) TypeTerm AttrTerm). k.types) both ∙ r.3 ∙ ap (λ (k : Header). map (λ w. type_of_value w u) k.operands) (sym heads)) v h
+
+  module _ (x : ℕ) (unlisted : is_listed x listed ≡ false) (o p : Operation) (is : find x t ≡ Some o) (was : find x u ≡ Some p) where
+    away : is_listed x listed ≡ true → ⊥
+    away e = true≢false (sym e ∙ unlisted)
+
+    unreached : any_reaches es x t ≡ true → ⊥
+    unreached e = away (lists.seers.itself x e)
+
+    own : surroundings x t ≡ surroundings x u
+    own = far x unreached
+
+    nodes : node_of o ≡ node_of p
+    nodes =
+        let s = found_surroundings t x o is in
+        let r = found_surroundings u x p was in
+        let one : Some s.0 ≡ Some r.0 = sym s.1 ∙ own ∙ r.1 in
+        let both : s.0 ≡ r.0 = cc in
+        sym s.2 ∙ ap (λ (k : SurroundingsOf (List ℕ) TypeTerm AttrTerm). k.node) both ∙ r.2
+
+    heads : head o ≡ head p
+    heads = node_heads o p nodes
+
+    id_of : (head o).id ≡ x
+    id_of = let s = found_stands x t o is in ap (λ (z : Operation). (head z).id) (sym s.3) ∙ s.2
+
+    far_giver : (v : Value) → In v (head o).operands → (y : ℕ) → giver_id v ≡ Some y → surroundings y t ≡ surroundings y u
+    far_giver v h y e = far y (λ r. away (lists.seers.users y x r (uses_found x o is v h y e)))
+
+    sees : SeesAlike t u (head o)
+    sees = record {
+      operands = λ v h. shows_alike t u v (far_giver v h);
+      types = λ v h. types_found x own o is v h;
+      inner = λ v h y e w k. inside v h y e w k;
+    }
+      where
+        by_found : (z : ℕ) (k : ℕ) → In (Result z k) (head o).operands → (y : Header) (a : Option Operation) → find z t ≡ a → option_map head a ≡ Some y → (w : Value) → In w y.operands → ShowsAlike t u w × (type_of t w ≡ type_of u w)
+        by_found z k h y None i e w j = absurd cc
+        by_found z k h y (Some q) i e w j =
+            let same : head q ≡ y = cc in
+            let there : In w (head q).operands = subst (λ (d : Header). In w d.operands) (sym same) j in (
+              shows_alike t u w (λ b g. far b (λ r. away (lists.seers.users_of_users b z x r (uses_found z q i w there b g) (uses_found x o is (Result z k) h z refl)))),
+              types_found z (far_giver (Result z k) h z refl) q i w there,
+            )
+
+        inside : (v : Value) → In v (head o).operands → (y : Header) → giver t v ≡ Some y → (w : Value) → In w y.operands → ShowsAlike t u w × (type_of t w ≡ type_of u w)
+        inside (Arg a r k) h y e w j = absurd cc
+        inside (Result z k) h y e w j = by_found z k h y (find z t) refl e w j
+
+    -- ---- what ends its blocks
+    o_path : (s : StandOf (List ℕ) TypeTerm AttrTerm) × In (stand o s.path) (stands [] t)
+    o_path = let s = found_stands x t o is in (s.0, subst (λ (q : Operation). In (stand q s.0.path) (stands [] t)) s.3 s.1)
+
+    p_path : (s : StandOf (List ℕ) TypeTerm AttrTerm) × In (stand p s.path) (stands [] u)
+    p_path = let s = found_stands x u p was in (s.0, subst (λ (q : Operation). In (stand q s.0.path) (stands [] u)) s.3 s.1)
+
+    same_last : (r : ℕ) → last_in r (regions o) ≡ last_in r (regions p)
+    same_last r =
+        let w = lasts_stay c es m n steps x (not_so (any_reaches es x t) unreached) p was in
+        let one : Some o ≡ Some w.0 = sym is ∙ w.1 in
+        let same : o ≡ w.0 = cc in
+        same_lasts r (regions o) (regions p) (ap (λ (q : Operation). last_ids (regions q)) same ∙ w.2)
+
+    ends_there : (r l : ℕ) → last_in r (regions o) ≡ Some l → ends x l t ≡ true
+    ends_there r l e = ap (λ z. ends z l t) (sym id_of) ∙ last_in_ends t dn o o_path.0.path o_path.1 r l e
+
+    far_end : (r l : ℕ) → last_in r (regions o) ≡ Some l → surroundings l t ≡ surroundings l u
+    far_end r l e = far l (λ k. away (lists.around.around l x k (ends_there r l e)))
+
+    -- the last one, by its id
+    last_by : (r : ℕ) (h : Header) → last_of o r ≡ Some h → (l : ℕ) × (last_in r (regions o) ≡ Some l) × (option_map head (find l t) ≡ Some h)
+    last_by r h e = go (last_in r (regions o)) refl (sym (last_header t dn o o_path.0.path o_path.1 r) ∙ e)
+      where
+        go : (a : Option ℕ) → last_in r (regions o) ≡ a → option_and_then (λ l. option_map head (find l t)) (last_in r (regions o)) ≡ Some h → (l : ℕ) × (last_in r (regions o) ≡ Some l) × (option_map head (find l t) ≡ Some h)
+        go None i k = let none : None ≡ Some h = sym (ap (option_and_then (λ l. option_map head (find l t))) i) ∙ k in absurd cc
+        go (Some l) i k = (l, i, sym (ap (option_and_then (λ l. option_map head (find l t))) i) ∙ k)
+
+    last_alike : (r : ℕ) → last_of o r ≡ last_of p r
+    last_alike r = last_header t dn o o_path.0.path o_path.1 r ∙ go (last_in r (regions o)) refl ∙ ap (option_and_then (λ l. option_map head (find l u))) (same_last r) ∙ sym (last_header u dm p p_path.0.path p_path.1 r)
+      where
+        go : (a : Option ℕ) → last_in r (regions o) ≡ a → option_and_then (λ l. option_map head (find l t)) (last_in r (regions o)) ≡ option_and_then (λ l. option_map head (find l u)) (last_in r (regions o))
+        go None i = ap (option_and_then (λ l. option_map head (find l t))) i ∙ sym (ap (option_and_then (λ l. option_map head (find l u))) i)
+        go (Some l) i = ap (option_and_then (λ l. option_map head (find l t))) i ∙ heads_alike t u l (far_end r l i) ∙ sym (ap (option_and_then (λ l. option_map head (find l u))) i)
+
+    ends_alike : EndsAlike t u o p
+    ends_alike = record {
+      shapes = λ r. same_shapes r (regions o) (regions p) (node_regions o p nodes);
+      lasts = last_alike;
+      clean = λ r h e. let w = last_by r h e in let i = head_id t u w.0 h w.2 in clean_alike t u h (ap (λ z. surroundings z t) i ∙ far_end r w.0 w.1 ∙ ap (λ z. surroundings z u) (sym i));
+      operands = λ r h e v k. let w = last_by r h e in by_found r w.0 w.1 (find w.0 t) refl h w.2 v k;
+    }
+      where
+        by_found : (r l : ℕ) → last_in r (regions o) ≡ Some l → (a : Option Operation) → find l t ≡ a → (h : Header) → option_map head (find l t) ≡ Some h → (v : Value) → In v h.operands → ShowsAlike t u v
+        by_found r l i None j h e v k = let none : None ≡ Some h = sym (ap (option_map head) j) ∙ e in absurd cc
+        by_found r l i (Some q) j h e v k =
+            let some : Some (head q) ≡ Some h = sym (ap (option_map head) j) ∙ e in
+            let same : head q ≡ h = cc in
+            shows_alike t u v (λ z g. far z (λ b. away (lists.around.around_users z l x b (uses_found l q j v (subst (λ (d : Header). In v d.operands) (sym same) k) z g) (ends_there r l i))))
+
+    -- ---- whether it is dead, and clean
+    dead_alike : may_go t o ≡ may_go u p
+    unfolding may_go
+    dead_alike =
+        let w = effects_stay c es m n steps x (unreached_all es x t (not_so (any_reaches es x t) unreached)) (λ e i v j k g. away (lists.climbs e i v j k x g)) p was in
+        let one : Some o ≡ Some w.0 = sym is ∙ w.1 in
+        let same : o ≡ w.0 = cc in
+        let sets : effects own_of o ≡ effects own_of p = ap (effects own_of) same ∙ w.2 in
+        let unused : is_unused (head o).id t ≡ is_unused (head p).id u =
+        ap (λ z. is_unused z t) id_of ∙ unused_stays shown c es m n leads x (λ e i v j g. away (lists.givers e i v j x g)) ∙ ap (λ z. is_unused z u) (sym id_of ∙ ap (λ (z : Header). z.id) heads) in
+        λ i. unused i && (not (is_kept (heads i).name) && may_be_missed (sets i))
+
+    cleans : is_clean t (head o) ≡ is_clean u (head p)
+    cleans = clean_alike t u (head o) (ap (λ z. surroundings z t) id_of ∙ own ∙ ap (λ z. surroundings z u) (sym id_of)) ∙ ap (is_clean u) heads
+
+    fronts : is_some (front_of x t) ≡ is_some (front_of x u)
+    fronts = outer_some t dn x ∙ ap (λ a. is_some (option_and_then (λ (s : SurroundingsOf (List ℕ) TypeTerm AttrTerm). s.outer) a)) own ∙ sym (outer_some u dm x)
+
+    -- ---- the rules
+    looks : LooksAlike t u o p
+    looks = record { heads = heads; sees = sees; ends = ends_alike; goes = dead_alike }
+
+    rules_alike : (r : Rule) → is_canonical r ≡ true → (f g : Place) → Same (rule r t n.next f o) (rule r u m.next g p)
+    rules_alike r canonical f g = (facts r).alike (lowers_not r canonical) t u n.next m.next f g o p looks
+
+    edits_alike : (r : Rule) → is_canonical r ≡ true → Same (edits_of r n x) (edits_of r m x)
+    unfolding edits_of
+    edits_alike r canonical =
+        ap (λ a. is_some (given a (λ q. given (front_of x t) (λ front. when (is_clean t (head q)) (rule r t n.next front q))))) is
+        ∙ given_both (front_of x t) (front_of x u) (λ front. when (is_clean t (head o)) (rule r t n.next front o)) (λ front. when (is_clean u (head p)) (rule r u m.next front p)) fronts (λ f g i j. when_alike _ _ _ _ cleans (rules_alike r canonical f g))
+        ∙ sym (ap (λ a. is_some (given a (λ q. given (front_of x u) (λ front. when (is_clean u (head q)) (rule r u m.next front q))))) was)
+
+    stayed : Stayed m n x
+    stayed = record { was = found_there u x p was; applies = λ r canonical. (none_from (edits_of r n x) (edits_of r m x) (edits_alike r canonical), none_from (edits_of r m x) (edits_of r n x) (sym (edits_alike r canonical))) }
+
+  pub touched_all : Touched m n listed
+  touched_all x h unlisted =
+      let o = there_found t dn x h in
+      let own = far x (λ e. true≢false (sym (lists.seers.itself x e) ∙ unlisted)) in
+      let s = found_surroundings t x o.0 o.1 in
+      let p = surroundings_found u x s.0 (sym own ∙ s.1) in
+      stayed x unlisted o.0 p.0 o.1 p.1

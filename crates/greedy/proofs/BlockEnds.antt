@@ -1,0 +1,90 @@
+-- Operations that end blocks, by what is read of them.
+use Rattle.std.proofs.Common.{◌≡◌, refl, ap, sym, ◌∙◌, subst, ℕ, zero, suc, ◌<◌, Bool, true, true≢false, eqb-true, List, [], ◌∷◌, Option, Some, None, arith}
+use Rattle.std.specs.Prelude.{option_map, option_and_then}
+use Rattle.ir_tree.specs.Tree.{HeadOf, OpOf, op, RegionsOf, no_regions, region, RegionOf, OpsOf, no_ops, next, head, regions, region_count}
+use Rattle.ir_tree.specs.Ids.{HasDistinctIds, find}
+use Rattle.ir_tree.specs.Places.{place_of, first_id}
+use Rattle.ir_store.specs.Nodes.{NodeOf, node_of}
+use Rattle.ir_tree_laws.specs.Values.{region_at}
+use Rattle.ir_tree_laws.specs.Reads.{ops_in, last_id, last_at}
+use Rattle.ir_tree_laws.specs.Stands.{StepOf, StandOf, stand_id, stands, stand_of}
+use Rattle.ir_tree_laws.specs.Members.{In}
+use Rattle.ir_tree_laws.proofs.Members.{stand, member}
+use Rattle.ir_tree_laws.proofs.Around.{place_of_member}
+use Rattle.listeners_surroundings.specs.Surroundings.{surround, ended_by}
+use Rattle.listeners_surroundings.proofs.Spots.{last_is}
+use Rattle.greedy.specs.Reached.{ends, ends_of}
+
+module _ {N T A : Type 0} where
+  node_head : (o : OpOf N T A) → (node_of o).head ≡ head o
+  node_head (op h rs) = refl
+
+  -- what ends a block stands there with nothing behind it
+  pub record Ending (p y : ℕ) (t : OpOf N T A) : Type 0 where
+    pub here : OpOf N T A
+    pub step : StepOf N T A
+    pub path : List (StepOf N T A)
+    pub there : In (stand here (step ∷ path)) (stands [] t)
+    pub id : (head here).id ≡ y
+    pub last : step.rest ≡ no_ops
+    pub parent : (head step.parent).id ≡ p
+
+  pub ending : (p y : ℕ) (t : OpOf N T A) → ends p y t ≡ true → Ending p y t
+  ending p y t e = go (stand_of y t) refl
+    where
+      by_end : (s : StandOf N T A) → Option (NodeOf N T A) → Bool
+      by_end s z = ends_of p (Some (record { node = node_of s.here; lasts = []; types = []; outer = Some (record { name = (head s.here).name; ended = z }) }))
+
+      by_rest : (s : StandOf N T A) → In s (stands [] t) → stand_id s ≡ y → (a : StepOf N T A) (q : List (StepOf N T A)) → s.path ≡ a ∷ q → (os : OpsOf N T A) → a.rest ≡ os → by_end s (ended_by a.parent os) ≡ true → Ending p y t
+      by_rest s h i a q j no_ops k f = record {
+        here = s.here;
+        step = a;
+        path = q;
+        there = subst (λ l. In (stand s.here l) (stands [] t)) j h;
+        id = i;
+        last = k;
+        parent = ap (λ (z : HeadOf N T A). z.id) (sym (node_head a.parent)) ∙ eqb-true (node_of a.parent).head.id p f;
+      }
+      by_rest s h i a q j (next o os) k f = absurd (true≢false (sym f))
+
+      by_path : (s : StandOf N T A) → In s (stands [] t) → stand_id s ≡ y → (l : List (StepOf N T A)) → s.path ≡ l → ends_of p (Some (surround t (stand s.here l))) ≡ true → Ending p y t
+      by_path s h i [] j f = absurd (true≢false (sym f))
+      by_path s h i (a ∷ q) j f = by_rest s h i a q j a.rest refl f
+
+      go : (f : Option (StandOf N T A)) → stand_of y t ≡ f → Ending p y t
+      go None i = absurd (true≢false (sym e ∙ ap (λ f. ends_of p (option_map (surround t) f)) i))
+      go (Some s) i =
+          let m = member y (stands [] t) s i in
+          by_path s m.0 m.1 s.path refl (sym (ap (λ f. ends_of p (option_map (surround t) f)) i) ∙ e)
+
+  module _ (t : OpOf N T A) (d : HasDistinctIds t) where
+    -- where it stands
+    pub ending_place : (p y : ℕ) → ends p y t ≡ true → (r : ℕ) × (place_of y t ≡ Some (record { parent = p; region = r; before = None }))
+    ending_place p y e =
+        let z = ending p y t e in (
+          z.step.region,
+          ap (λ k. place_of k t) (sym z.id) ∙ place_of_member t d z.here z.step z.path z.there ∙ (λ i. Some (record { parent = z.parent i; region = z.step.region; before = first_id (z.last i) })),
+        )
+
+    -- and how it is read
+    pub ending_last : (p y : ℕ) → ends p y t ≡ true → (r : ℕ) × (last_at p r t ≡ Some y)
+    ending_last p y e =
+        let z = ending p y t e in
+        (z.step.region, ap (λ k. last_at k z.step.region t) (sym z.parent) ∙ last_is t d z.here z.step z.path z.there z.last ∙ ap Some z.id)
+
+  region_below : (r : ℕ) (rs : RegionsOf N T A) (g : RegionOf N T A) → region_at r rs ≡ Some g → r < region_count rs
+  region_below r no_regions g e = absurd cc
+  region_below zero (region h rs) g e = omega arith
+  region_below (suc r) (region h rs) g e = omega (arith, region_below r rs g e)
+
+  -- a block that has a last operation is there
+  pub last_below : (p r y : ℕ) (t : OpOf N T A) → last_at p r t ≡ Some y → (o : OpOf N T A) × (find p t ≡ Some o) × (r < region_count (regions o))
+  last_below p r y t e = go (find p t) refl e
+    where
+      inside : (o : OpOf N T A) (g : Option (RegionOf N T A)) → region_at r (regions o) ≡ g → option_and_then last_id (option_and_then ops_in g) ≡ Some y → r < region_count (regions o)
+      inside o None i k = absurd cc
+      inside o (Some g) i k = region_below r (regions o) g i
+
+      go : (f : Option (OpOf N T A)) → find p t ≡ f → option_and_then last_id (option_and_then (λ o. option_and_then ops_in (region_at r (regions o))) f) ≡ Some y → (o : OpOf N T A) × (find p t ≡ Some o) × (r < region_count (regions o))
+      go None i k = absurd cc
+      go (Some o) i k = (o, i, inside o (region_at r (regions o)) refl k)

@@ -1,0 +1,124 @@
+-- What is listed after events, put together.
+use Rattle.std.proofs.Common.{◌≡◌, refl, ap, sym, ◌∙◌, subst, ℕ, true, false, true≢false, ◌||◌, ◌&&◌, eqb, List, [], ◌∷◌, Option, Some, None, inl, inr}
+use Rattle.std.specs.Prelude.{option_map}
+use Rattle.std.specs.List.{list_any, IsDistinct}
+use Rattle.ir_types.specs.Things.{Things}
+use Rattle.ir_types.specs.Terms.{name_term, type_term, attr_term}
+use Rattle.ir_tree.specs.Tree.{Op}
+use Rattle.ir_tree.specs.Ids.{HasDistinctIds, ids}
+use Rattle.ir_tree.specs.Meaning.{meaning}
+use Rattle.ir_tree.proofs.Mapped.{map_ids}
+use Rattle.ir_store.specs.Nodes.{NodeOf}
+use Rattle.ir_tree_laws.specs.Members.{In}
+use Rattle.ir_tree_laws.proofs.Listed.{either, neither}
+use Rattle.ir_event.specs.declared.event.Event.{Event}
+use Rattle.ir_event.specs.declared.event.Event.TheVariants.{Put, Take, SetOperand, SetEntry, Shift}
+use Rattle.ir_event.specs.declared.world.World.{World}
+use Rattle.ir_event.specs.Modules.{Module, module_in}
+use Rattle.listeners_surroundings.specs.Surroundings.{SurroundingsOf, OuterOf, surroundings}
+use Rattle.listeners_surroundings.specs.Mapped.{map_node, map_outer, map_surroundings}
+use Rattle.listeners_surroundings.proofs.Meanings.{mapped_surroundings}
+use Rattle.greedy.specs.Listing.{Lists, Touched}
+use Rattle.greedy.specs.Near.{Leads}
+use Rattle.greedy.specs.Reached.{ends, ends_of, is_end, reaches, any_reaches}
+use Rattle.greedy.specs.Sights.{Uses, is_listed, operands_of}
+use Rattle.greedy.proofs.Applying.{touched_all}
+use Rattle.greedy.specs.Adding.{Adds, OneOf}
+use Rattle.greedy.specs.Parts.{IsOrUses, IsAround, IsReached, IsBeside, puts_last, any_puts_last}
+use Rattle.greedy.specs.Shown.{shown_operands}
+use Rattle.greedy.proofs.Adding.{listed_in}
+use Rattle.greedy.proofs.Climbing.{same_climbs}
+
+-- ---- what is read of contents is what is read of numbers
+module _ {N T A M U B : Type 0} (f : N → M) (g : T → U) (h : A → B) where
+  same_end : (p : ℕ) (s : Option (SurroundingsOf N T A)) → ends_of p (option_map (map_surroundings f g h) s) ≡ ends_of p s
+  same_end p None = refl
+  same_end p (Some s) = outer s.outer
+    where
+      ended : (u : OuterOf N T A) (n : Option (NodeOf N T A)) → ends_of p (Some (record (map_surroundings f g h s) { outer = Some (record (map_outer f g h u) { ended = option_map (map_node f g h) n }) })) ≡ ends_of p (Some (record s { outer = Some (record u { ended = n }) }))
+      ended u None = refl
+      ended u (Some n) = refl
+
+      outer : (o : Option (OuterOf N T A)) → ends_of p (Some (record (map_surroundings f g h s) { outer = option_map (map_outer f g h) o })) ≡ ends_of p (Some (record s { outer = o }))
+      outer None = refl
+      outer (Some u) = ended u u.ended
+
+  same_operands : (s : Option (SurroundingsOf N T A)) → operands_of (option_map (map_surroundings f g h) s) ≡ operands_of s
+  same_operands None = refl
+  same_operands (Some s) = refl
+
+module _ (c : Things) (t : Op) where
+  meant : (y : ℕ) → surroundings y (meaning c t) ≡ option_map (map_surroundings (name_term c) (type_term c) (attr_term c)) (surroundings y t)
+  meant y = mapped_surroundings (name_term c) (type_term c) (attr_term c) y t
+
+  same_ends : (p y : ℕ) → ends p y (meaning c t) ≡ ends p y t
+  same_ends p y = ap (ends_of p) (meant y) ∙ same_end (name_term c) (type_term c) (attr_term c) p (surroundings y t)
+
+  same_uses : (x y : ℕ) → Uses x y (meaning c t) → Uses x y t
+  same_uses x y u = (u.0, subst (In u.0) (ap operands_of (meant x) ∙ same_operands (name_term c) (type_term c) (attr_term c) (surroundings x t)) u.1, u.2)
+
+  same_reach : (e : Event) (y : ℕ) → reaches e y (meaning c t) ≡ reaches e y t
+  same_reach (Put x place fresh) y = refl
+  same_reach (Take x place fresh) y = ap (λ b. eqb x y || (is_end place && (eqb place.parent y || b))) (same_ends place.parent y)
+  same_reach (SetOperand x k old new) y = ap (λ b. eqb x y || b) (same_ends x y)
+  same_reach (SetEntry x part key old new) y = ap (λ b. eqb x y || b) (same_ends x y)
+  same_reach (Shift x old new) y = ap (λ b. eqb x y || (is_end new || (is_end old && (eqb old.parent y || b)))) (same_ends old.parent y)
+
+  one_reaches : (es : List Event) → any_puts_last es ≡ false → (y : ℕ) → any_reaches es y (meaning c t) ≡ true → OneOf (IsReached t) es y
+  one_reaches [] i y h = absurd (true≢false (sym h))
+  one_reaches (e ∷ es) i y h =
+      let n = neither (puts_last e) (any_puts_last es) i in
+      elim (either (reaches e y (meaning c t)) (any_reaches es y (meaning c t)) h) [
+        | inl k ↦ (e, inl refl, (n.0, sym (same_reach e y) ∙ k))
+        | inr k ↦ (let w = one_reaches es n.1 y k in (w.0, inr w.1, w.2))
+      ]
+
+-- ---- all parts
+pub moved : {X : Type 0} (R : X → ℕ → Type 0) (l k : List X) (xs ys zs : List ℕ) → l ≡ k → xs ≡ ys → Adds (OneOf R l) xs zs → Adds (OneOf R k) ys zs
+moved R l k xs ys zs e f a = subst (λ z. Adds (OneOf R k) z zs) f (subst (λ z. Adds (OneOf R z) xs zs) e a)
+
+module _ (w : World) (es : List Event) (inner : any_puts_last es ≡ false) (reached seen first second listed : List ℕ)
+    (at_reached : Adds (OneOf (IsReached w.store.module_of.tree) es) [] reached)
+    (at_seen : Adds (OneOf (IsOrUses w.store.module_of.tree) reached) [] seen)
+    (at_users : Adds (OneOf (IsOrUses w.store.module_of.tree) seen) [] first)
+    (at_around : Adds (OneOf (IsAround w.store.module_of.tree) seen) first second)
+    (at_beside : Adds (OneOf (IsBeside w) es) second listed) where
+  seen_one : (y x : ℕ) → any_reaches es y (module_in w).tree ≡ true → IsOrUses w.store.module_of.tree y x → is_listed x seen ≡ true
+  seen_one y x h k = at_seen.added x (y, listed_in y reached (at_reached.added y (one_reaches w.ctx w.store.module_of.tree es inner y h)), k)
+
+  user_one : (y x : ℕ) → is_listed y seen ≡ true → IsOrUses w.store.module_of.tree y x → is_listed x listed ≡ true
+  user_one y x h k = at_beside.kept x (at_around.kept x (at_users.added x (y, listed_in y seen h, k)))
+
+  around_one : (y x : ℕ) → is_listed y seen ≡ true → ends x y (module_in w).tree ≡ true → is_listed x listed ≡ true
+  around_one y x h k = at_beside.kept x (at_around.added x (y, listed_in y seen h, sym (same_ends w.ctx w.store.module_of.tree x y) ∙ k))
+
+  used : (x y : ℕ) → Uses x y (module_in w).tree → IsOrUses w.store.module_of.tree y x
+  used x y u = inr (same_uses w.ctx w.store.module_of.tree x y u)
+
+  pub all_listed : Lists (shown_operands w.store) es listed (module_in w).tree
+  all_listed = record {
+    seers = record {
+      itself = λ y h. user_one y y (seen_one y y h (inl refl)) (inl refl);
+      users = λ y x h u. user_one x x (seen_one y x h (used x y u)) (inl refl);
+      users_of_users = λ z y x h u v. user_one y x (seen_one z y h (used y z u)) (used x y v);
+    };
+    around = record {
+      around = λ l x h e. around_one l x (seen_one l l h (inl refl)) e;
+      around_users = λ z l x h u e. around_one l x (seen_one z l h (used l z u)) e;
+    };
+    givers = λ e h v k y g. at_beside.added y (e, h, inl (v, k, g));
+    climbs = λ e h o k n y c. at_beside.added y (e, h, inr (o, k, (n, same_climbs w.ctx w.store.module_of.tree n y o c)));
+  }
+
+-- ---- all operations
+pub all_touched : (w : World) (listed : List ℕ) → listed ≡ ids w.store.module_of.tree → (m : Module) → Touched m (module_in w) listed
+all_touched w listed e m x h none =
+    let is : is_listed x listed ≡ true = ap (list_any (λ y. eqb y x)) (e ∙ sym (map_ids (name_term w.ctx) (type_term w.ctx) (attr_term w.ctx) w.store.module_of.tree)) ∙ h in
+    absurd (true≢false (sym is ∙ none))
+
+-- what the law makes of that
+pub near_touched : (w : World) (es : List Event) (listed : List ℕ) → Lists (shown_operands w.store) es listed (module_in w).tree → (m : Module) → Leads (shown_operands w.store) w.ctx es m (module_in w) → Touched m (module_in w) listed
+near_touched w es listed k m l = touched_all (shown_operands w.store) w.ctx es m (module_in w) l distinct listed k
+  where
+    distinct : HasDistinctIds (module_in w).tree
+    distinct = subst (IsDistinct eqb) (sym (map_ids (name_term w.ctx) (type_term w.ctx) (attr_term w.ctx) w.store.module_of.tree)) w.formed.distinct

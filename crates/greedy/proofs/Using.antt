@@ -1,0 +1,164 @@
+-- The users of an operation, by the uses of its results.
+use Rattle.std.proofs.Common.{◌≡◌, refl, ap, sym, ◌∙◌, subst, ℕ, zero, suc, ◌+◌, ◌<◌, ◌≤◌, Bool, true, false, true≢false, cond, ◌||◌, ◌&&◌, eqb, eq-eqb, eqb-true, List, [], ◌∷◌, length, Option, Some, None, inl, inr, ◌⊎◌, arith}
+use Rattle.std.specs.Prelude.{option_map, option_and_then, is_some, slice_get}
+use Rattle.ir_tree.specs.declared.value.Value.{Value}
+use Rattle.ir_tree.specs.declared.value.Value.TheVariants.{Result, Arg}
+use Rattle.ir_tree.specs.Tree.{Op, op, head}
+use Rattle.ir_tree.specs.Ids.{find}
+use Rattle.ir_tree.specs.Meaning.{isolated_in}
+use Rattle.ir_tree.specs.Uses.{same_value, operand_uses, uses_of}
+use Rattle.ir_store.specs.Nodes.{Node, node_of}
+use Rattle.ir_store.specs.Using.{is_use, same_use, AreUses}
+use Rattle.ir_tree_laws.specs.Values.{has_value}
+use Rattle.ir_tree_laws.specs.Stands.{StandOf, stand_id, stands, stand_of, sees}
+use Rattle.ir_tree_laws.specs.Members.{In}
+use Rattle.ir_tree_laws.proofs.Listed.{both_hold, bool_cases, all_each}
+use Rattle.ir_tree_laws.proofs.Readings.{stands_uses}
+use Rattle.ir_tree_laws.proofs.Members.{member}
+use Rattle.ir_tree_laws.proofs.HeadForm.{in_gather}
+use Rattle.ir_tree_laws.proofs.Values.{seen_by}
+use Rattle.ir_tree_laws.proofs.Formed.{from_formed}
+use Rattle.ir_event.specs.declared.world.World.{World}
+use Rattle.listeners_surroundings.specs.Surroundings.{surround}
+use Rattle.greedy.specs.Sights.{Uses, giver, operands_of}
+use Rattle.greedy.specs.Adding.{Adding, Adds}
+use Rattle.greedy.specs.Parts.{IsIn, IsUser}
+use Rattle.greedy.proofs.Adding.{adding_none, adding_more, adding_done}
+
+same_self : (v : Value) → same_value v v ≡ true
+same_self (Result x k) = both_hold (eqb x x) (eqb k k) (eq-eqb x x refl) (eq-eqb k k refl)
+same_self (Arg x r k) = both_hold (eqb x x) (eqb r r && eqb k k) (eq-eqb x x refl) (both_hold (eqb r r) (eqb k k) (eq-eqb r r refl) (eq-eqb k k refl))
+
+-- a use is listed where its operand is
+listed_use : (v : Value) (x k : ℕ) (vs : List Value) → In v vs → (j : ℕ) × In (x, j) (operand_uses v x k vs)
+listed_use v x k [] h = absurd h
+listed_use v x k (w ∷ ws) (inl e) = (k, subst (λ b. In (x, k) (cond b ((x, k) ∷ operand_uses v x (k + 1) ws) (operand_uses v x (k + 1) ws))) (sym (ap (λ z. same_value v z) (sym e) ∙ same_self v)) (inl refl))
+listed_use v x k (w ∷ ws) (inr h) =
+    let r = listed_use v x (k + 1) ws h in
+    (r.0, elim (same_value v w) as (λ b. In (x, r.0) (cond b ((x, k) ∷ operand_uses v x (k + 1) ws) (operand_uses v x (k + 1) ws))) [ true ↦ inr r.1 | false ↦ r.1 ])
+
+in_is_use : (x j : ℕ) (us : List (ℕ × ℕ)) → In (x, j) us → is_use x j us ≡ true
+in_is_use x j [] h = absurd h
+in_is_use x j (u ∷ us) (inl e) =
+    ap (λ b. b || is_use x j us) (both_hold (eqb u.0 x) (eqb u.1 j) (eq-eqb u.0 x (ap (λ (p : ℕ × ℕ). p.0) (sym e))) (eq-eqb u.1 j (ap (λ (p : ℕ × ℕ). p.1) (sym e))))
+in_is_use x j (u ∷ us) (inr h) = later (same_use u (x, j)) (in_is_use x j us h)
+  where
+    later : (b : Bool) → is_use x j us ≡ true → (b || is_use x j us) ≡ true
+    later true e = refl
+    later false e = e
+
+-- an operand that a result gives
+gives_result : (v : Value) (y : ℕ) → giver v ≡ Some y → (k : ℕ) × (v ≡ Result y k)
+gives_result (Result z k) y e = let same : z ≡ y = cc in (k, ap (λ q. Result q k) same)
+gives_result (Arg z r k) y e = absurd cc
+
+below : {X : Type 0} (xs : List X) (k : ℕ) → is_some (slice_get xs k) ≡ true → k < length xs
+below [] k e = absurd (true≢false (sym e))
+below (x ∷ xs) zero e = omega arith
+below (x ∷ xs) (suc k) e = omega (arith, below xs k e)
+
+module _ (w : World) where
+  operands_shown : (o : Op) → (node_of o).head.operands ≡ (head o).operands
+  operands_shown (op h rs) = refl
+
+  results_shown : (o : Op) → (node_of o).head.results ≡ (head o).results
+  results_shown (op h rs) = refl
+
+  -- a user stands in the module, has a result as an operand, and that is a value of the module
+  record Used (x y : ℕ) : Type 0 where
+    number : ℕ
+    user : IsUser (Result y number) w.store.module_of.tree x
+    value : has_value (Result y number) w.store.module_of.tree ≡ true
+
+  used : (x y : ℕ) → Uses x y w.store.module_of.tree → Used x y
+  used x y u = go (stand_of x w.store.module_of.tree) refl
+    where
+      by_stand : (s : StandOf ℕ ℕ ℕ) → In s (stands [] w.store.module_of.tree) → stand_id s ≡ x → (v : Value) → In v (head s.here).operands → (k : ℕ) → v ≡ Result y k → Used x y
+      by_stand s h i v k n e =
+          let l = listed_use v (stand_id s) 0 (head s.here).operands k in
+          let g : In (stand_id s, l.0) (uses_of v w.store.module_of.tree) =
+          subst (In (stand_id s, l.0)) (stands_uses v [] w.store.module_of.tree)
+          (in_gather (λ (u : StandOf ℕ ℕ ℕ). operand_uses v (stand_id u) 0 (head u.here).operands) (stand_id s, l.0) s (stands [] w.store.module_of.tree) h l.1) in
+          let each = (from_formed (isolated_in w.ctx) w.store.module_of.tree w.formed.formed).sees_own s h in
+          let is = (seen_by (isolated_in w.ctx) w.store.module_of.tree w.formed.distinct s h v (all_each (sees (isolated_in w.ctx) s.path) (head s.here).operands each v k)).is in
+          record {
+            number = n;
+            user = (
+              l.0,
+              subst (λ q. is_use q l.0 (uses_of (Result y n) w.store.module_of.tree) ≡ true) i
+                  (ap (λ q. is_use (stand_id s) l.0 (uses_of q w.store.module_of.tree)) (sym e) ∙ in_is_use (stand_id s) l.0 (uses_of v w.store.module_of.tree) g),
+            );
+            value = ap (λ q. has_value q w.store.module_of.tree) (sym e) ∙ is;
+          }
+
+      go : (f : Option (StandOf ℕ ℕ ℕ)) → stand_of x w.store.module_of.tree ≡ f → Used x y
+      go None i = absurd (subst (λ f. In u.0 (operands_of (option_map (surround w.store.module_of.tree) f))) i u.1)
+      go (Some s) i =
+          let m = member x (stands [] w.store.module_of.tree) s i in
+          let h : In u.0 (head s.here).operands = subst (In u.0) (operands_shown s.here) (subst (λ f. In u.0 (operands_of (option_map (surround w.store.module_of.tree) f))) i u.1) in
+          let r = gives_result u.0 y u.2 in
+          by_stand s m.0 m.1 u.0 h r.0 r.1
+
+  -- it uses one of the results of operation y from one on, of so many
+  abbrev pub IsUserAmong : ℕ → ℕ → ℕ → ℕ → Type 0
+  IsUserAmong y from count x = (k : ℕ) × (from ≤ k) × (k < count) × IsUser (Result y k) w.store.module_of.tree x
+
+  pub users_absent : (y : ℕ) → None ≡ option_map node_of (find y w.store.module_of.tree) → (x : ℕ) → Uses x y w.store.module_of.tree → ⊥
+  users_absent y e x u = go (find y w.store.module_of.tree) refl
+    where
+      go : (f : Option Op) → find y w.store.module_of.tree ≡ f → ⊥
+      go None i = true≢false (sym (used x y u).value ∙ ap (λ f. is_some (option_and_then (λ (o : Op). slice_get (head o).results (used x y u).number) f)) i)
+      go (Some o) i = let no : None ≡ Some (node_of o) = e ∙ ap (option_map node_of) i in absurd cc
+
+  pub users_begin : (y count : ℕ) (n : Node) → Some n ≡ option_map node_of (find y w.store.module_of.tree) → count ≡ length n.head.results → (xs : List ℕ) → Adding (λ x. Uses x y w.store.module_of.tree) (IsUserAmong y 0 count) xs xs
+  users_begin y count n e c xs = adding_none (λ x. Uses x y w.store.module_of.tree) (IsUserAmong y 0 count) xs (λ x u. let z = used x y u in (z.number, omega arith, few z.number z.value, z.user))
+    where
+      few : (k : ℕ) → has_value (Result y k) w.store.module_of.tree ≡ true → k < count
+      few k h = go (find y w.store.module_of.tree) refl
+        where
+          go : (f : Option Op) → find y w.store.module_of.tree ≡ f → k < count
+          go None i = absurd (true≢false (sym h ∙ ap (λ f. is_some (option_and_then (λ (o : Op). slice_get (head o).results k) f)) i))
+          go (Some o) i =
+              let some : Some n ≡ Some (node_of o) = e ∙ ap (option_map node_of) i in
+              let same : n ≡ node_of o = cc in
+              let size : count ≡ length (head o).results = c ∙ ap (λ (m : Node). length m.head.results) same ∙ ap length (results_shown o) in
+              let at = below (head o).results k (sym (ap (λ f. is_some (option_and_then (λ (o : Op). slice_get (head o).results k) f)) i) ∙ h) in
+              omega (arith, size, at)
+
+  pub users_more : (P : ℕ → Type 0) (y from count : ℕ) (xs ys zs : List ℕ) → Adding P (IsUserAmong y from count) xs ys → Adds (IsUser (Result y from) w.store.module_of.tree) ys zs → Adding P (IsUserAmong y (from + 1) count) xs zs
+  users_more P y from count xs ys zs a b =
+      adding_more P (IsUserAmong y from count) (IsUser (Result y from) w.store.module_of.tree) (IsUserAmong y (from + 1) count) xs ys zs
+      (λ x q. elim (bool_cases (eqb q.0 from)) [
+        | inl e ↦ inl (subst (λ k. IsUser (Result y k) w.store.module_of.tree x) (eqb-true q.0 from e) q.3)
+        | inr e ↦ inr (q.0, later q.0 q.1 (λ i. true≢false (sym (eq-eqb q.0 from i) ∙ e)), q.2, q.3)
+      ]) a b
+    where
+      later : (k : ℕ) → from ≤ k → (k ≡ from → ⊥) → from + 1 ≤ k
+      later k l apart = omega (arith, l, apart)
+
+  pub users_end : (P : ℕ → Type 0) (y from count : ℕ) (xs ys : List ℕ) → count ≤ from → Adding P (IsUserAmong y from count) xs ys → Adds P xs ys
+  users_end P y from count xs ys l a = adding_done P (IsUserAmong y from count) xs ys (λ x q. let low = q.1 in let high = q.2 in omega (arith, low, high, l)) a
+
+-- uses that are listed are those of the value
+pub are_users : (v : Value) (t : Op) (us : List (ℕ × ℕ)) → AreUses v t us → (x : ℕ) → IsUser v t x → IsIn us x
+are_users v t us a x u = (u.0, a.same x u.0 ∙ u.1)
+
+-- a walk over uses
+pub uses_begin : (whole us : List (ℕ × ℕ)) (xs : List ℕ) → us ≡ whole → Adding (IsIn whole) (IsIn us) xs xs
+uses_begin whole us xs e = adding_none (IsIn whole) (IsIn us) xs (λ x h. subst (λ l. IsIn l x) (sym e) h)
+
+pub uses_more : (P : ℕ → Type 0) (u : ℕ × ℕ) (left rest : List (ℕ × ℕ)) (xs ys zs : List ℕ) → left ≡ u ∷ rest → Adding P (IsIn left) xs ys → Adds (λ x. x ≡ u.0) ys zs → Adding P (IsIn rest) xs zs
+uses_more P u left rest xs ys zs e a b =
+    adding_more P (IsIn (u ∷ rest)) (λ x. x ≡ u.0) (IsIn rest) xs ys zs (λ x q. split x q.0 (bool_cases (same_use u (x, q.0))) q.1)
+    (subst (λ l. Adding P (IsIn l) xs ys) e a) b
+  where
+    front : (a b : Bool) → (a && b) ≡ true → a ≡ true
+    front true b e = refl
+    front false b e = absurd (true≢false (sym e))
+
+    split : (x j : ℕ) → (same_use u (x, j) ≡ true) ⊎ (same_use u (x, j) ≡ false) → is_use x j (u ∷ rest) ≡ true → (x ≡ u.0) ⊎ IsIn rest x
+    split x j (inl i) h = inl (sym (eqb-true u.0 x (front (eqb u.0 x) (eqb u.1 j) i)))
+    split x j (inr i) h = inr (j, sym (ap (λ b. b || is_use x j rest) i) ∙ h)
+
+pub uses_end : (P : ℕ → Type 0) (left : List (ℕ × ℕ)) (xs ys : List ℕ) → left ≡ [] → Adding P (IsIn left) xs ys → Adds P xs ys
+uses_end P left xs ys e a = adding_done P (IsIn []) xs ys (λ x q. true≢false (sym q.1)) (subst (λ l. Adding P (IsIn l) xs ys) e a)

@@ -1,0 +1,269 @@
+-- Whether an operation's results are used stays, where no event puts or takes a use of them, as told from what the
+-- operations show at the end.
+use Rattle.std.proofs.Common.{◌≡◌, refl, ap, sym, ◌∙◌, subst, ℕ, zero, suc, Bool, true, false, true≢false, cond, ◌&&◌, not, eqb, eq-eqb, eqb-true, List, [], ◌∷◌, Some, inl, inr, ◌⊎◌, slice_get}
+use Rattle.std.specs.Prelude.{option_map, option_and_then, slice_set}
+use Rattle.std.specs.List.{list_all}
+use Rattle.ir_types.specs.Things.{Things}
+use Rattle.ir_types.specs.Terms.{TypeTerm, AttrTerm, name_term, attr_term}
+use Rattle.ir_tree.specs.declared.place.Place.{Place}
+use Rattle.ir_tree.specs.declared.value.Value.{Value}
+use Rattle.ir_tree.specs.declared.value.Value.TheVariants.{Result, Arg}
+use Rattle.ir_tree.specs.Tree.{HeadOf, OpOf, op, head}
+use Rattle.ir_tree.specs.Ids.{HasDistinctIds, find}
+use Rattle.ir_tree.specs.Edits.{at, put_operand, change_part, change_entry, each_head}
+use Rattle.ir_tree.specs.Meaning.{Operation, key_before}
+use Rattle.ir_store.specs.Nodes.{node_of}
+use Rattle.ir_tree_laws.specs.Changes.{operand_at}
+use Rattle.ir_tree_laws.specs.Stands.{StandOf, stand_id, stands, edit_stand}
+use Rattle.ir_tree_laws.specs.Members.{In}
+use Rattle.ir_tree_laws.proofs.Listed.{bool_cases}
+use Rattle.ir_tree_laws.proofs.Readings.{stands_every}
+use Rattle.ir_tree_laws.proofs.Members.{stand_found, found_stands}
+use Rattle.ir_event.specs.declared.event.Event.{Event}
+use Rattle.ir_event.specs.declared.event.Event.TheVariants.{Put, Take, SetOperand, SetEntry, Shift}
+use Rattle.ir_event.specs.Modules.{Module}
+use Rattle.ir_event.specs.Step.{Step}
+use Rattle.op_registry.specs.Registry.{own_of}
+use Rattle.effects.specs.Dead.{is_result_of, is_unused}
+use Rattle.greedy.specs.Sights.{giver}
+use Rattle.greedy.specs.Near.{moved_values, Leads, IsShown, Ungiven}
+use Rattle.greedy.proofs.Still.{Like, Goes, goes_out, goes_in, goes_on, goes_edited, edited_there, edit_id}
+use Rattle.greedy.proofs.Tracked.{operand_id, operand_name, part_id, part_name, part_operands, gone_found}
+
+-- ---- tests of all operations
+all_true : {X : Type 0} (f : X → Bool) (xs : List X) → ((x : X) → In x xs → f x ≡ true) → list_all f xs ≡ true
+all_true f [] h = refl
+all_true f (x ∷ xs) h = ap (λ b. b && list_all f xs) (h x (inl refl)) ∙ all_true f xs (λ y k. h y (inr k))
+
+each_true : {X : Type 0} (f : X → Bool) (xs : List X) → list_all f xs ≡ true → (x : X) → In x xs → f x ≡ true
+each_true f [] e x h = absurd h
+each_true f (y ∷ ys) e x (inl i) = ap f i ∙ (parts (f y) (list_all f ys) e).0
+  where
+    parts : (a b : Bool) → (a && b) ≡ true → (a ≡ true) × (b ≡ true)
+    parts true b e = (refl, e)
+    parts false b e = absurd (true≢false (sym e))
+each_true f (y ∷ ys) e x (inr k) = each_true f ys (parts (f y) (list_all f ys) e).1 x k
+  where
+    parts : (a b : Bool) → (a && b) ≡ true → (a ≡ true) × (b ≡ true)
+    parts true b e = (refl, e)
+    parts false b e = absurd (true≢false (sym e))
+
+same_bool : (a b : Bool) → (a ≡ true → b ≡ true) → (b ≡ true → a ≡ true) → a ≡ b
+same_bool true b f g = sym (f refl)
+same_bool false true f g = absurd (true≢false (sym (g refl)))
+same_bool false false f g = refl
+
+-- an operation of no values that x gives
+freed : (x : ℕ) (vs : List Value) → ((v : Value) → In v vs → giver v ≡ Some x → ⊥) → list_all (λ v. not (is_result_of x v)) vs ≡ true
+freed x vs f = all_true (λ v. not (is_result_of x v)) vs (λ v h. none v (f v h))
+  where
+    none : (v : Value) → (giver v ≡ Some x → ⊥) → not (is_result_of x v) ≡ true
+    none (Arg y r k) n = refl
+    none (Result y k) n = elim (bool_cases (eqb y x)) [ inl e ↦ absurd (n (ap Some (eqb-true y x e))) | inr e ↦ ap not e ]
+
+-- a list with another value at one place
+set_at : (f : Value → Bool) (vs : List Value) (k : ℕ) (old new : Value) → slice_get vs k ≡ Some old → f old ≡ true → f new ≡ true → list_all f (slice_set vs k new) ≡ list_all f vs
+set_at f [] k old new e a b = absurd cc
+set_at f (v ∷ vs) zero old new e a b = let same : v ≡ old = cc in (λ i. b i && list_all f vs) ∙ sym (ap (λ w. f w && list_all f vs) same ∙ λ i. a i && list_all f vs)
+set_at f (v ∷ vs) (suc k) old new e a b = ap (λ c. f v && c) (set_at f vs k old new e a b)
+
+-- a value of it is the old one there, or still one
+set_keeps : (vs : List Value) (k : ℕ) (old new v : Value) → slice_get vs k ≡ Some old → In v vs → (v ≡ old) ⊎ In v (slice_set vs k new)
+set_keeps [] k old new v e h = absurd h
+set_keeps (w ∷ vs) zero old new v e (inl i) = let same : w ≡ old = cc in inl (i ∙ same)
+set_keeps (w ∷ vs) zero old new v e (inr h) = inr (inr h)
+set_keeps (w ∷ vs) (suc k) old new v e (inl i) = inr (inl i)
+set_keeps (w ∷ vs) (suc k) old new v e (inr h) = elim (set_keeps vs k old new v e h) [ inl i ↦ inl i | inr i ↦ inr (inr i) ]
+
+module _ {N T A : Type 0} where
+  -- the test on an operation's operands
+  abbrev free_of : ℕ → OpOf N T A → Bool
+  free_of x o = list_all (λ v. not (is_result_of x v)) (head o).operands
+
+  implied : (x : ℕ) (t u : OpOf N T A) → ((s : StandOf N T A) → In s (stands [] t) → (free_of x s.here ≡ true) ⊎ ((r : StandOf N T A) × In r (stands [] u) × (free_of x r.here ≡ free_of x s.here))) → is_unused x u ≡ true → is_unused x t ≡ true
+  implied x t u f e =
+      sym (stands_every (free_of x) [] t)
+      ∙ all_true (λ (s : StandOf N T A). free_of x s.here) (stands [] t) (λ s h. elim (f s h) [
+        | inl k ↦ k
+        | inr r ↦ sym r.2 ∙ each_true (λ (z : StandOf N T A). free_of x z.here) (stands [] u) (stands_every (free_of x) [] u ∙ e) r.0 r.1
+      ])
+
+  shown_operands : (o : OpOf N T A) → (node_of o).head.operands ≡ (head o).operands
+  shown_operands (op h rs) = refl
+
+  node_operands : (o q : OpOf N T A) → node_of o ≡ node_of q → (head o).operands ≡ (head q).operands
+  node_operands o q e = sym (shown_operands o) ∙ ap (λ n. n.head.operands) e ∙ shown_operands q
+
+  same_free : (x : ℕ) (o q : OpOf N T A) → (head o).operands ≡ (head q).operands → free_of x o ≡ free_of x q
+  same_free x o q e = ap (list_all (λ v. not (is_result_of x v))) e
+
+  -- the operands of an operation in a tree with an operand set
+  set_operands : (x k : ℕ) (v : Value) (o : OpOf N T A) → (head o).id ≡ x → (head (each_head (at x (put_operand k v)) o)).operands ≡ slice_set (head o).operands k v
+  set_operands x k v (op h rs) e = ap (λ b. (cond b (put_operand k v h) h).operands) (eq-eqb h.id x e)
+
+  edit_operands : (g : HeadOf N T A → HeadOf N T A) → ((h : HeadOf N T A) → (g h).operands ≡ h.operands) → (o : OpOf N T A) → (head (each_head g o)).operands ≡ (head o).operands
+  edit_operands g f (op h rs) = f h
+
+  operand_there : (x k : ℕ) (old : Value) (t o : OpOf N T A) → operand_at x k t ≡ Some old → find x t ≡ Some o → slice_get (head o).operands k ≡ Some old
+  operand_there x k old t o e f = sym (ap (option_and_then (λ o. slice_get (head o).operands k)) f) ∙ e
+
+-- ---- one event
+module _ (c : Things) (y : ℕ) where
+  -- all operations but the event's own keep their operands
+  others : (x : ℕ) (t u : Operation) → Goes (Like own_of x) x t u → (s : StandOf (List ℕ) TypeTerm AttrTerm) → In s (stands [] t) → (stand_id s ≡ x → ⊥) → (r : StandOf (List ℕ) TypeTerm AttrTerm) × In r (stands [] u) × (free_of y r.here ≡ free_of y s.here)
+  others x t u goes s h apart = let w = goes s h apart in (w.0, w.1, same_free y w.0.here s.here (node_operands w.0.here s.here (sym w.3.node)))
+
+  by_subject : (x : ℕ) (t u : Operation) → Goes (Like own_of x) x t u → ((s : StandOf (List ℕ) TypeTerm AttrTerm) → In s (stands [] t) → stand_id s ≡ x → (free_of y s.here ≡ true) ⊎ ((r : StandOf (List ℕ) TypeTerm AttrTerm) × In r (stands [] u) × (free_of y r.here ≡ free_of y s.here)))
+      → is_unused y u ≡ true → is_unused y t ≡ true
+  by_subject x t u goes own = implied y t u (λ s h. elim (bool_cases (eqb (stand_id s) x)) [
+    | inl e ↦ own s h (eqb-true (stand_id s) x e)
+    | inr e ↦ inr (others x t u goes s h (λ i. true≢false (sym (eq-eqb (stand_id s) x i) ∙ e)))
+  ])
+
+  -- it takes a use with it alone where it has one
+  pub put_unused : (x : ℕ) (t w : Operation) → HasDistinctIds t → Goes (Like own_of x) x t w → Goes (Like own_of x) x w t → ((s : StandOf (List ℕ) TypeTerm AttrTerm) → In s (stands [] w) → stand_id s ≡ x → ⊥)
+      → ((o : Operation) → find x t ≡ Some o → (v : Value) → In v (head o).operands → giver v ≡ Some y → ⊥) → is_unused y w ≡ is_unused y t
+  put_unused x t w d out back none free = same_bool (is_unused y w) (is_unused y t)
+      (by_subject x t w out (λ s h i. inl (freed y (head s.here).operands (free s.here (ap (λ z. find z t) (sym i) ∙ stand_found t d s h)))))
+      (by_subject x w t back (λ s h i. absurd (none s h i)))
+
+  pub step_unused : (e : Event) (m n : Module) → Step c e m n
+      → ((x : ℕ) (place : Place) (fresh : Bool) → e ≡ Put x place fresh → (o : Operation) → find x n.tree ≡ Some o → (v : Value) → In v (head o).operands → giver v ≡ Some y → ⊥)
+      → ((x : ℕ) (place : Place) (fresh : Bool) → e ≡ Take x place fresh → (o : Operation) → find x m.tree ≡ Some o → (v : Value) → In v (head o).operands → giver v ≡ Some y → ⊥)
+      → ((x k : ℕ) (old new : Value) → e ≡ SetOperand x k old new → (giver old ≡ Some y → ⊥) × (giver new ≡ Some y → ⊥))
+      → is_unused y n.tree ≡ is_unused y m.tree
+  step_unused (Put x place fresh) m n s put take set =
+      let t = s.changes in
+      sym (put_unused x n.tree m.tree s.after.distinct (goes_out own_of x n.tree m.tree s.after.distinct s.before.distinct t.left t.empty) (goes_in own_of x n.tree m.tree t.left) (gone_found x n.tree m.tree t.left t.inner) (put x place fresh refl))
+  step_unused (Take x place fresh) m n s put take set =
+      let t = s.changes in
+      put_unused x m.tree n.tree s.before.distinct (goes_out own_of x m.tree n.tree s.before.distinct s.after.distinct t.left t.empty) (goes_in own_of x m.tree n.tree t.left) (gone_found x m.tree n.tree t.left t.inner) (take x place fresh refl)
+  step_unused (SetOperand x k old new) m n s put take set =
+      let w = set x k old new refl in
+      let f = free_value old w.0 in
+      let g = free_value new w.1 in
+      same_bool (is_unused y n.tree) (is_unused y m.tree)
+      (by_subject x m.tree n.tree (goes_edited own_of x (put_operand k new) (operand_id x k new) (operand_name x k new) m.tree n.tree s.changes.after) (λ z h i. inr (
+        edit_stand (at x (put_operand k new)) z,
+        edited_there own_of x (put_operand k new) (operand_id x k new) (operand_name x k new) m.tree n.tree s.changes.after z h,
+        ap (list_all (λ v. not (is_result_of y v))) (set_operands x k new z.here i) ∙ set_at (λ v. not (is_result_of y v)) (head z.here).operands k old new (operand_there x k old m.tree z.here s.changes.was (ap (λ j. find j m.tree) (sym i) ∙ stand_found m.tree s.before.distinct z h)) f g,
+      )))
+      (by_subject x n.tree m.tree (goes_edited own_of x (put_operand k old) (operand_id x k old) (operand_name x k old) n.tree m.tree s.changes.before) (λ z h i. inr (
+        edit_stand (at x (put_operand k old)) z,
+        edited_there own_of x (put_operand k old) (operand_id x k old) (operand_name x k old) n.tree m.tree s.changes.before z h,
+        ap (list_all (λ v. not (is_result_of y v))) (set_operands x k old z.here i) ∙ set_at (λ v. not (is_result_of y v)) (head z.here).operands k new old (operand_there x k new n.tree z.here s.changes.is (ap (λ j. find j n.tree) (sym i) ∙ stand_found n.tree s.after.distinct z h)) g f,
+      )))
+    where
+      free_value : (v : Value) → (giver v ≡ Some y → ⊥) → not (is_result_of y v) ≡ true
+      free_value (Arg a r j) n = refl
+      free_value (Result a j) n = elim (bool_cases (eqb a y)) [ inl e ↦ absurd (n (ap Some (eqb-true a y e))) | inr e ↦ ap not e ]
+  step_unused (SetEntry x part key old new) m n s put take set =
+      let f = change_entry key_before (name_term c key) (option_map (attr_term c) new) in
+      let g = change_entry key_before (name_term c key) (option_map (attr_term c) old) in
+      same_bool (is_unused y n.tree) (is_unused y m.tree)
+      (by_subject x m.tree n.tree (goes_edited own_of x (change_part part f) (part_id x part f) (part_name x part f) m.tree n.tree s.changes.after) (λ z h i. inr (
+        edit_stand (at x (change_part part f)) z,
+        edited_there own_of x (change_part part f) (part_id x part f) (part_name x part f) m.tree n.tree s.changes.after z h,
+        same_free y (each_head (at x (change_part part f)) z.here) z.here (edit_operands (at x (change_part part f)) (part_operands x part f) z.here),
+      )))
+      (by_subject x n.tree m.tree (goes_edited own_of x (change_part part g) (part_id x part g) (part_name x part g) n.tree m.tree s.changes.before) (λ z h i. inr (
+        edit_stand (at x (change_part part g)) z,
+        edited_there own_of x (change_part part g) (part_id x part g) (part_name x part g) n.tree m.tree s.changes.before z h,
+        same_free y (each_head (at x (change_part part g)) z.here) z.here (edit_operands (at x (change_part part g)) (part_operands x part g) z.here),
+      )))
+  step_unused (Shift x old new) m n s put take set =
+      let t = s.changes in
+      same_bool (is_unused y n.tree) (is_unused y m.tree)
+      (by_subject x m.tree n.tree (goes_on own_of x m.tree n.tree s.before.distinct (sym t.rest) (sym t.same)) (λ z h i. inr (itself x m.tree n.tree s.before.distinct t.same z h i)))
+      (by_subject x n.tree m.tree (goes_on own_of x n.tree m.tree s.after.distinct t.rest t.same) (λ z h i. inr (itself x n.tree m.tree s.after.distinct (sym t.same) z h i)))
+    where
+      itself : (x : ℕ) (t u : Operation) → HasDistinctIds t → find x u ≡ find x t → (z : StandOf (List ℕ) TypeTerm AttrTerm) → In z (stands [] t) → stand_id z ≡ x → (r : StandOf (List ℕ) TypeTerm AttrTerm) × In r (stands [] u) × (free_of y r.here ≡ free_of y z.here)
+      itself x t u d same z h i =
+          let r = found_stands x u z.here (same ∙ ap (λ j. find j t) (sym i) ∙ stand_found t d z h) in
+          (r.0, r.1, ap (free_of y) r.3)
+
+-- ---- what is shown at the end
+-- a value that an operation had as an operand is shown by it, or an event says that it was replaced there
+abbrev Said : (ℕ → List Value) → List Event → ℕ → Value → Type 0
+Said shown es x v = In v (shown x) ⊎ ((e : Event) × In e es × ((k : ℕ) × ((new : Value) × (e ≡ SetOperand x k v new))))
+
+later : (shown : ℕ → List Value) (e : Event) (es : List Event) (x : ℕ) (v : Value) → Said shown es x v → Said shown (e ∷ es) x v
+later shown e es x v (inl h) = inl h
+later shown e es x v (inr h) = inr (h.0, inr h.1, h.2)
+
+-- what is known of it after an event
+abbrev After : (ℕ → List Value) → Event → List Event → Module → ℕ → Value → Type 0
+After shown e es p x v = (q : Operation) → find x p.tree ≡ Some q → In v (head q).operands → Said shown (e ∷ es) x v
+
+-- one that the event isn't about goes on with its operands
+goes_said : (shown : ℕ → List Value) (e : Event) (es : List Event) (z : ℕ) (m p : Module) → HasDistinctIds p.tree → Goes (Like own_of z) z m.tree p.tree → (x : ℕ) (o : Operation) → find x m.tree ≡ Some o → eqb x z ≡ false → (v : Value) → In v (head o).operands
+    → After shown e es p x v → Said shown (e ∷ es) x v
+goes_said shown e es z m p dp w x o f apart v h more =
+    let r = found_stands x m.tree o f in
+    let u = w r.0 r.1 (λ i. true≢false (sym (eq-eqb x z (sym r.2 ∙ i)) ∙ apart)) in
+    let same : (head o).operands ≡ (head u.0.here).operands = ap (λ (q : Operation). (head q).operands) (sym r.3) ∙ node_operands r.0.here u.0.here u.3.node in
+    more u.0.here (ap (λ j. find j p.tree) (sym (u.2 ∙ r.2)) ∙ stand_found p.tree dp u.0 u.1) (subst (λ vs. In v vs) same h)
+
+edited_found : (z : ℕ) (g : HeadOf (List ℕ) TypeTerm AttrTerm → HeadOf (List ℕ) TypeTerm AttrTerm) → ((h : HeadOf (List ℕ) TypeTerm AttrTerm) → (at z g h).id ≡ h.id) → ((h : HeadOf (List ℕ) TypeTerm AttrTerm) → (at z g h).name ≡ h.name) → (m p : Module) → HasDistinctIds p.tree → p.tree ≡ each_head (at z g) m.tree
+    → (x : ℕ) (o : Operation) → find x m.tree ≡ Some o → find x p.tree ≡ Some (each_head (at z g) o)
+edited_found z g ids names m p dp is x o f =
+    let r = found_stands x m.tree o f in
+    let there = edited_there own_of z g ids names m.tree p.tree is r.0 r.1 in
+    ap (λ j. find j p.tree) (sym (edit_id own_of z g ids names r.0.here ∙ r.2)) ∙ stand_found p.tree dp (edit_stand (at z g) r.0) there ∙ ap (λ q. Some (each_head (at z g) q)) r.3
+
+found_id : (x : ℕ) (t o : Operation) → find x t ≡ Some o → (head o).id ≡ x
+found_id x t o f = let r = found_stands x t o f in ap (λ (q : Operation). (head q).id) (sym r.3) ∙ r.2
+
+step_said : (shown : ℕ → List Value) (c : Things) (e : Event) (es : List Event) (m p : Module) → Step c e m p → IsShown shown e m → (x : ℕ) (o : Operation) → find x m.tree ≡ Some o → (v : Value) → In v (head o).operands → After shown e es p x v → Said shown (e ∷ es) x v
+step_said shown c (Put z place fresh) es m p s k x o f v h more =
+    let t = s.changes in
+    elim (bool_cases (eqb x z)) [
+      | inl i ↦ (let r = found_stands x m.tree o f in absurd (gone_found z p.tree m.tree t.left t.inner r.0 r.1 (r.2 ∙ eqb-true x z i)))
+      | inr i ↦ goes_said shown (Put z place fresh) es z m p s.after.distinct (goes_in own_of z p.tree m.tree t.left) x o f i v h more
+    ]
+step_said shown c (Take z place fresh) es m p s k x o f v h more =
+    let t = s.changes in
+    elim (bool_cases (eqb x z)) [
+      | inl i ↦ (let same = eqb-true x z i in inl (subst (λ vs. In v vs) (k o (ap (λ j. find j m.tree) (sym same) ∙ f) ∙ ap shown (sym same)) h))
+      | inr i ↦ goes_said shown (Take z place fresh) es z m p s.after.distinct (goes_out own_of z m.tree p.tree s.before.distinct s.after.distinct t.left t.empty) x o f i v h more
+    ]
+step_said shown c (SetOperand z j old new) es m p s k x o f v h more =
+    elim (bool_cases (eqb x z)) [
+      | inl i ↦ (let same = eqb-true x z i in
+          let there = operand_there z j old m.tree o s.changes.was (ap (λ a. find a m.tree) (sym same) ∙ f) in
+          elim (set_keeps (head o).operands j old new v there h) [
+            | inl q ↦ inr (SetOperand z j old new, inl refl, (j, (new, λ a. SetOperand (sym same a) j (sym q a) new)))
+            | inr q ↦ more (each_head (at z (put_operand j new)) o) (edited_found z (put_operand j new) (operand_id z j new) (operand_name z j new) m p s.after.distinct s.changes.after x o f)
+                (subst (λ vs. In v vs) (sym (set_operands z j new o (found_id x m.tree o f ∙ same))) q)
+          ])
+      | inr i ↦ goes_said shown (SetOperand z j old new) es z m p s.after.distinct (goes_edited own_of z (put_operand j new) (operand_id z j new) (operand_name z j new) m.tree p.tree s.changes.after) x o f i v h more
+    ]
+step_said shown c (SetEntry z part key old new) es m p s k x o f v h more =
+    more _ (edited_found z (change_part part _) (part_id z part _) (part_name z part _) m p s.after.distinct s.changes.after x o f)
+    (subst (λ vs. In v vs) (sym (edit_operands (at z (change_part part _)) (part_operands z part _) o)) h)
+step_said shown c (Shift z old new) es m p s k x o f v h more =
+    let t = s.changes in
+    elim (bool_cases (eqb x z)) [
+      | inl i ↦ (let same = eqb-true x z i in more o (ap (λ j. find j p.tree) same ∙ t.same ∙ ap (λ j. find j m.tree) (sym same) ∙ f) h)
+      | inr i ↦ goes_said shown (Shift z old new) es z m p s.after.distinct (goes_on own_of z m.tree p.tree s.before.distinct (sym t.rest) (sym t.same)) x o f i v h more
+    ]
+
+pub said : (shown : ℕ → List Value) (c : Things) (es : List Event) (m n : Module) → Leads shown c es m n → (x : ℕ) (o : Operation) → find x m.tree ≡ Some o → (v : Value) → In v (head o).operands → Said shown es x v
+said shown c [] m n s x o f v h = inl (subst (λ vs. In v vs) (s.1 x o (ap (λ (p : Module). find x p.tree) s.0 ∙ f)) h)
+said shown c (e ∷ es) m n s x o f v h = step_said shown c e es m s.0 s.1 s.2 x o f v h (λ q g k. later shown e es x v (said shown c es s.0 n s.3 x q g v k))
+
+-- so whether the results of an operation are used stays, where it gives none of the values that come and go
+value_ungiven : (shown : ℕ → List Value) (es ds : List Event) (y x : ℕ) (v : Value) → ((e : Event) → In e ds → In e es) → Ungiven shown es y → ((v : Value) → In v (shown x) → giver v ≡ Some y → ⊥) → Said shown ds x v → giver v ≡ Some y → ⊥
+value_ungiven shown es ds y x v within away own (inl h) = own v h
+value_ungiven shown es ds y x v within away own (inr h) =
+    let e : h.0 ≡ SetOperand x h.2.0 v h.2.1.0 = h.2.1.1 in
+    away h.0 (within h.0 h.1) v (subst (λ vs. In v vs) (ap (moved_values shown) (sym e)) (inl refl))
+
+pub unused_stays : (shown : ℕ → List Value) (c : Things) (es : List Event) (m n : Module) → Leads shown c es m n → (y : ℕ) → Ungiven shown es y → is_unused y n.tree ≡ is_unused y m.tree
+unused_stays shown c [] m n s y away = ap (λ (p : Module). is_unused y p.tree) s.0
+unused_stays shown c (e ∷ es) m n s y away =
+    unused_stays shown c es s.0 n s.3 y (λ d i. away d (inr i))
+    ∙ step_unused c y e m s.0 s.1
+    (λ x place fresh i o f v h. value_ungiven shown (e ∷ es) es y x v (λ d j. inr j) away (λ w k. away e (inl refl) w (subst (λ vs. In w vs) (ap (moved_values shown) (sym i)) k)) (said shown c es s.0 n s.3 x o f v h))
+    (λ x place fresh i o f v h. value_ungiven shown (e ∷ es) (e ∷ es) y x v (λ d j. j) away (λ w k. away e (inl refl) w (subst (λ vs. In w vs) (ap (moved_values shown) (sym i)) k)) (said shown c (e ∷ es) m n s x o f v h))
+    (λ x k old new i. (away e (inl refl) old (subst (λ vs. In old vs) (ap (moved_values shown) (sym i)) (inl refl)), away e (inl refl) new (subst (λ vs. In new vs) (ap (moved_values shown) (sym i)) (inr (inl refl)))))

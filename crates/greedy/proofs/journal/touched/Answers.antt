@@ -1,0 +1,17 @@
+use Rattle.std.proofs.Common.{◌∙◌, Vec, Global}
+use Rattle.ir_types.specs.declared.ids.OpId.{OpId}
+use Rattle.ir_event.specs.Modules.{Module, module_in}
+use Rattle.rewriter.specs.Held.{module_at, module_held}
+use Rattle.greedy.specs.Listing.{Touched}
+use Rattle.greedy.specs.Near.{Leads}
+use Rattle.greedy.specs.Shown.{shown_operands}
+use Rattle.greedy.proofs.Adding.{if_ok}
+use Rattle.greedy.proofs.Journaled.{journal_touched}
+use Rattle.greedy.proofs.journal.touched.Goals as goal
+
+pub returns-clause-ok : goal.returns-clause-ok
+returns-clause-ok g c =
+    let w = c.world.result.now in
+    let h = c.args.bench.now.desk in
+    if_ok (λ (v : Vec OpId Global). (m : Module) → Leads (shown_operands w.store) w.ctx c.deref.result.now m (module_in w) → Touched m (module_in w) v.items) (λ (v : Vec OpId Global). Touched (module_at c.args.from h) (module_held h) v.items) c.touched_by.result
+    (λ v f. journal_touched w h c.args.from c.deref.result.now v.items c.world.ensures.ctx c.world.ensures.store (c.deref.ensures.value ∙ c.in-Ok.ensures) c.is_formed.ensures.leads f) c.touched_by.ensures.ok

@@ -1,0 +1,62 @@
+-- What is near events: the operation that each is about, those around its places, and the values that come and go with
+-- it.
+use Rattle.std.specs.Prelude.{◌≡◌, ℕ, List, [], ◌∷◌, Some}
+use Rattle.ir_types.specs.Things.{Things}
+use Rattle.ir_tree.specs.declared.value.Value.{Value}
+use Rattle.ir_tree.specs.Tree.{head}
+use Rattle.ir_tree.specs.Ids.{find}
+use Rattle.ir_tree.specs.Meaning.{Operation}
+use Rattle.ir_tree_laws.specs.Members.{In}
+use Rattle.ir_event.specs.declared.event.Event.{Event}
+use Rattle.ir_event.specs.declared.event.Event.TheVariants.{Put, Take, SetOperand, SetEntry, Shift}
+use Rattle.ir_event.specs.Modules.{Module}
+use Rattle.ir_event.specs.Step.{Step}
+use Rattle.op_registry.specs.Registry.{own_of}
+use Rattle.greedy.specs.Climbs.{Climbs}
+use Rattle.greedy.specs.Sights.{giver}
+
+-- the operation that an event is about
+abbrev pub subject : Event → ℕ
+subject (Put x place fresh) = x
+subject (Take x place fresh) = x
+subject (SetOperand x k old new) = x
+subject (SetEntry x part key old new) = x
+subject (Shift x old new) = x
+
+-- the operations around its places
+abbrev pub outer_ids : Event → List ℕ
+outer_ids (Put x place fresh) = place.parent ∷ []
+outer_ids (Take x place fresh) = place.parent ∷ []
+outer_ids (SetOperand x k old new) = []
+outer_ids (SetEntry x part key old new) = []
+outer_ids (Shift x old new) = old.parent ∷ new.parent ∷ []
+
+-- the values of which uses come or go, where an operation that was put or taken shows these operands
+abbrev pub moved_values : (ℕ → List Value) → Event → List Value
+moved_values shown (Put x place fresh) = shown x
+moved_values shown (Take x place fresh) = shown x
+moved_values shown (SetOperand x k old new) = old ∷ new ∷ []
+moved_values shown (SetEntry x part key old new) = []
+moved_values shown (Shift x old new) = []
+
+-- an operation that is taken shows the operands that it has
+abbrev pub IsShown : (ℕ → List Value) → Event → Module → Type 0
+IsShown shown (Put x place fresh) m = Unit {0}
+IsShown shown (Take x place fresh) m = (o : Operation) → find x m.tree ≡ Some o → (head o).operands ≡ shown x
+IsShown shown (SetOperand x k old new) m = Unit {0}
+IsShown shown (SetEntry x part key old new) m = Unit {0}
+IsShown shown (Shift x old new) m = Unit {0}
+
+-- events lead from one module to another, where each operation that is taken shows what it has, and so does each of the
+-- module at the end
+abbrev pub Leads : (ℕ → List Value) → Things → List Event → Module → Module → Type 0
+Leads shown c [] m n = (n ≡ m) × ((x : ℕ) (o : Operation) → find x n.tree ≡ Some o → (head o).operands ≡ shown x)
+Leads shown c (e ∷ es) m n = (p : Module) × Step c e m p × IsShown shown e m × Leads shown c es p n
+
+-- no climb to operation y begins around the place of an event
+abbrev pub Unclimbed : List Event → ℕ → Operation → Type 0
+Unclimbed es y t = (e : Event) → In e es → (w : ℕ) → In w (outer_ids e) → (k : ℕ) → Climbs own_of k y w t → ⊥
+
+-- operation y gives none of the values of which uses come or go
+abbrev pub Ungiven : (ℕ → List Value) → List Event → ℕ → Type 0
+Ungiven shown es y = (e : Event) → In e es → (v : Value) → In v (moved_values shown e) → giver v ≡ Some y → ⊥

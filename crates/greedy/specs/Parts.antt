@@ -1,0 +1,79 @@
+-- What is listed, part by part, as read from a world.
+use Rattle.std.specs.Prelude.{◌≡◌, ◌⊎◌, ℕ, eqb, List, [], ◌∷◌, Bool, true, false, ◌||◌, Some}
+use Rattle.ir_tree.specs.declared.value.Value.{Value}
+use Rattle.ir_tree.specs.declared.place.Place.{Place}
+use Rattle.ir_tree.specs.Tree.{OpOf}
+use Rattle.ir_tree.specs.Uses.{uses_of}
+use Rattle.ir_store.specs.Using.{is_use}
+use Rattle.ir_event.specs.declared.event.Event.{Event}
+use Rattle.ir_event.specs.declared.event.Event.TheVariants.{Put, Take, SetOperand, SetEntry, Shift}
+use Rattle.ir_event.specs.declared.world.World.{World}
+use Rattle.effects.specs.Effects.{own_by}
+use Rattle.greedy.specs.Reached.{is_end, ends, at_end, reaches}
+use Rattle.greedy.specs.Sights.{Uses, giver}
+use Rattle.greedy.specs.Climbs.{Climbs}
+use Rattle.greedy.specs.Near.{moved_values, outer_ids}
+use Rattle.greedy.specs.Adding.{OneOf}
+use Rattle.greedy.specs.Shown.{shown_operands}
+
+-- operation x is in some uses
+abbrev pub IsIn : List (ℕ × ℕ) → ℕ → Type 0
+IsIn us x = (j : ℕ) × (is_use x j us ≡ true)
+
+module _ {N T A : Type 0} where
+  -- operation x uses a value
+  abbrev pub IsUser : Value → OpOf N T A → ℕ → Type 0
+  IsUser v t x = IsIn (uses_of v t) x
+
+  -- it is operation y, or uses a result of that
+  abbrev pub IsOrUses : OpOf N T A → ℕ → ℕ → Type 0
+  IsOrUses t y x = (x ≡ y) ⊎ Uses x y t
+
+  -- it is around operation y, which ends its block
+  abbrev pub IsAround : OpOf N T A → ℕ → ℕ → Type 0
+  IsAround t y x = ends x y t ≡ true
+
+  -- it is operation p, or ends a block of that
+  abbrev pub IsOrEnds : ℕ → OpOf N T A → ℕ → Type 0
+  IsOrEnds p t x = (eqb p x || ends p x t) ≡ true
+
+  -- it is operation y, or is around a place or ends its block, where that is the end
+  abbrev pub IsOrAtEnd : ℕ → Place → OpOf N T A → ℕ → Type 0
+  IsOrAtEnd y place t x = (eqb y x || at_end place x t) ≡ true
+
+-- whether an event puts something at the end of a block
+abbrev pub puts_last : Event → Bool
+puts_last (Put x place fresh) = is_end place
+puts_last (Take x place fresh) = false
+puts_last (SetOperand x k old new) = false
+puts_last (SetEntry x part key old new) = false
+puts_last (Shift x old new) = is_end new
+
+-- one of some events
+abbrev pub any_puts_last : List Event → Bool
+any_puts_last [] = false
+any_puts_last (e ∷ es) = puts_last e || any_puts_last es
+
+-- an event that puts nothing at the end of a block reaches operation x
+abbrev pub IsReached : {N T A : Type 0} → OpOf N T A → Event → ℕ → Type 0
+IsReached t e x = (puts_last e ≡ false) × (reaches e x t ≡ true)
+
+-- operation x gives a value
+abbrev pub Gives : Value → ℕ → Type 0
+Gives v x = giver v ≡ Some x
+
+-- it gives a value of which uses come or go with an event
+abbrev pub GivesMoved : World → Event → ℕ → Type 0
+GivesMoved w e x = OneOf Gives (moved_values (shown_operands w.store) e) x
+
+-- it is around operation y, or that itself, and all from y on to x have the effects of what is directly inside
+abbrev pub IsClimbed : World → ℕ → ℕ → Type 0
+IsClimbed w y x = (k : ℕ) × Climbs (own_by w.ctx) k x y w.store.module_of.tree
+
+-- it is so around a place of an event
+abbrev pub IsOuter : World → Event → ℕ → Type 0
+IsOuter w e x = OneOf (IsClimbed w) (outer_ids e) x
+
+-- it is one or the other
+abbrev pub IsBeside : World → Event → ℕ → Type 0
+IsBeside w e x = GivesMoved w e x ⊎ IsOuter w e x

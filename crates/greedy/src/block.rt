@@ -1,0 +1,106 @@
+//! Operations that end blocks, and the operations around them.
+ghost use Rattle.std.specs.Prelude.{◌≡◌, OnOk, true, Some};
+ghost use Rattle.ir_tree_laws.specs.Reads.{last_at};
+ghost use Rattle.greedy.specs.Reached.{at_end, ends};
+ghost use Rattle.greedy.specs.Adding.{Adds, OneOf};
+ghost use Rattle.greedy.specs.Parts.{IsAround, IsOrAtEnd, IsOrEnds};
+
+use crate::push::push;
+use ir_event::world::World;
+use ir_store::store::Store;
+use ir_tree::place::Place;
+use ir_types::ids::OpId;
+use std::alloc::AllocError;
+
+/// Lists the operation around one that ends its block.
+fn push_around(world: &World, ops: &mut Vec<OpId>, op: OpId) -> Result<(), AllocError>
+    ensures { OnOk result (Adds (IsAround world.now.store.module_of.tree op) ops.old.items ops.new.items) }
+{
+    let Some(place) = world.store.place(op) else {
+        return Ok(());
+    };
+    match place.before {
+        Some(_) => Ok(()),
+        None => push(ops, place.parent),
+    }
+}
+
+/// Lists the operations around those that end their blocks.
+pub(crate) fn push_all_around(
+    world: &World,
+    ops: &mut Vec<OpId>,
+    near: &[OpId],
+) -> Result<(), AllocError>
+    ensures { OnOk result (Adds
+        (OneOf (IsAround world.now.store.module_of.tree) near.now) ops.old.items ops.new.items) }
+{
+    let mut rest = near;
+    'near: while let [op, tail @ ..] = rest {
+        push_around(world, ops, *op)?;
+        rest = tail;
+    }
+    Ok(())
+}
+
+/// Lists the last operation of the block of a region.
+fn push_last(store: &Store, ops: &mut Vec<OpId>, op: OpId, region: u32) -> Result<(), AllocError>
+    ensures { OnOk result (Adds
+        (λ x. last_at op region store.now.module_of.tree ≡ Some x) ops.old.items ops.new.items) }
+{
+    match store.last(op, region) {
+        Some(last) => push(ops, last),
+        None => Ok(()),
+    }
+}
+
+/// Lists the last operation of each block of an operation.
+fn push_lasts(world: &World, ops: &mut Vec<OpId>, op: OpId) -> Result<(), AllocError>
+    ensures { OnOk result (Adds (λ x. ends op x world.now.store.module_of.tree ≡ true) ops.old.items ops.new.items) }
+{
+    let Some(node) = world.shown(op) else {
+        return Ok(());
+    };
+    let count = node.region_count() as u32;
+    let mut region = 0;
+    'regions: while region < count {
+        push_last(&world.store, ops, op, region)?;
+        region += 1;
+    }
+    Ok(())
+}
+
+/// Lists an operation, and the last one of each of its blocks.
+pub(crate) fn push_with_lasts(
+    world: &World,
+    ops: &mut Vec<OpId>,
+    op: OpId,
+) -> Result<(), AllocError>
+    ensures { OnOk result (Adds (IsOrEnds op world.now.store.module_of.tree) ops.old.items ops.new.items) }
+{
+    push(ops, op)?;
+    push_lasts(world, ops, op)
+}
+
+/// Lists the operation around a place, and the last one of each of its blocks, where the place is the end of a block.
+fn push_end(world: &World, ops: &mut Vec<OpId>, place: &Place) -> Result<(), AllocError>
+    ensures { OnOk result (Adds
+        (λ x. at_end place.now x world.now.store.module_of.tree ≡ true) ops.old.items ops.new.items) }
+{
+    match place.before {
+        Some(_) => Ok(()),
+        None => push_with_lasts(world, ops, place.parent),
+    }
+}
+
+/// Lists an operation that left a place, and what is changed by that at the end of a block.
+pub(crate) fn push_left(
+    world: &World,
+    ops: &mut Vec<OpId>,
+    op: OpId,
+    place: &Place,
+) -> Result<(), AllocError>
+    ensures { OnOk result (Adds (IsOrAtEnd op place.now world.now.store.module_of.tree) ops.old.items ops.new.items) }
+{
+    push(ops, op)?;
+    push_end(world, ops, place)
+}

@@ -1,0 +1,91 @@
+//! The operations at which rules may apply otherwise.
+ghost use Rattle.std.specs.Prelude.{◌≡◌, IfOk, IfErr, false};
+ghost use Rattle.ir_types.specs.declared.refusal.Refusal.TheVariants.{Memory as NoMemory};
+ghost use Rattle.ir_event.specs.Modules.{Module, module_in};
+ghost use Rattle.greedy.specs.Listing.{Lists, Touched};
+ghost use Rattle.greedy.specs.Near.{Leads};
+ghost use Rattle.greedy.specs.Parts.{puts_last, any_puts_last};
+ghost use Rattle.greedy.specs.Shown.{shown_operands};
+
+use crate::beside::push_all_beside;
+use crate::block::push_all_around;
+use crate::reach::push_all_reached;
+use crate::users::push_all_with_users;
+use ir_event::event::Event;
+use ir_event::world::World;
+use ir_types::ids::OpId;
+use ir_types::refusal::Refusal;
+use std::alloc::{AllocError, Global};
+
+/// Whether an event puts something at the end of a block.
+fn puts_last(event: &Event) -> bool
+    ensures { result ≡ puts_last event.now }
+{
+    match event {
+        Event::Put { place, .. } => place.before.is_none(),
+        Event::Take { .. } => false,
+        Event::SetOperand { .. } => false,
+        Event::SetEntry { .. } => false,
+        Event::Shift { new, .. } => new.before.is_none(),
+    }
+}
+
+/// Whether one of some events does.
+fn any_puts_last(events: &[Event]) -> bool
+    ensures { result ≡ any_puts_last events.now }
+{
+    let mut rest = events;
+    'events: while let [event, tail @ ..] = rest {
+        if puts_last(event) {
+            return true;
+        }
+        rest = tail;
+    }
+    false
+}
+
+/// The operations near events, where none of these puts anything at the end of a block.
+fn near(alloc: Global, world: &World, events: &[Event]) -> Result<Vec<OpId>, AllocError>
+    ensures { IfOk result (λ v. any_puts_last events.now ≡ false
+        → Lists (shown_operands world.now.store) events.now v.items (module_in world.now).tree) }
+{
+    let mut reached = Vec::new(alloc);
+    push_all_reached(world, &mut reached, events)?;
+    let mut seen = Vec::new(alloc);
+    push_all_with_users(world, &mut seen, &reached)?;
+    let mut ops = Vec::new(alloc);
+    push_all_with_users(world, &mut ops, &seen)?;
+    push_all_around(world, &mut ops, &seen)?;
+    push_all_beside(world, &mut ops, events)?;
+    Ok(ops)
+}
+
+/// All operations of a world's module: at no other does a rule apply, whatever led to it.
+///
+/// Refusals: `Memory`.
+pub fn touched_all(world: &World) -> Result<Vec<OpId>, Refusal>
+    ensures ok { IfOk result (λ v. (m : Module) → Touched m (module_in world.now) v.items) }
+    ensures refused { IfErr result (λ e. e ≡ NoMemory) }
+{
+    world.store.operations()
+}
+
+/// The operations of a world's module at which the rules of canonicalization may apply otherwise than before events
+/// that led to it, and some beside. How many they are depends on what is near the events, and not on how large the
+/// module is, but for events that put something at the end of a block, which no rule does: after these all are listed.
+///
+/// Refusals: `Memory`.
+pub fn touched_by(alloc: Global, world: &World, events: &[Event]) -> Result<Vec<OpId>, Refusal>
+    ensures ok { IfOk result
+        (λ v. (m : Module) → Leads (shown_operands world.now.store) world.now.ctx events.now m (module_in world.now)
+        → Touched m (module_in world.now) v.items) }
+    ensures refused { IfErr result (λ e. e ≡ NoMemory) }
+{
+    if any_puts_last(events) {
+        return touched_all(world);
+    }
+    match near(alloc, world, events) {
+        Ok(ops) => Ok(ops),
+        Err(_) => Err(Refusal::Memory),
+    }
+}

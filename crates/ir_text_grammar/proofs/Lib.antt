@@ -1,6 +1,0 @@
-pub mod ListSteps
-pub mod Marked
-pub mod Stepping
-pub mod TextLaws
-pub mod TokenLaws
-pub mod Worlds

@@ -1,9 +1,0 @@
-pub mod Errors
-pub mod Outcomes
-pub mod Marks
-pub mod Lists
-pub mod Grammars
-pub mod Worlds
-pub mod Typed
-pub mod Standing
-pub mod Laws

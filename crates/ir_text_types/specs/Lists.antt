@@ -1,0 +1,23 @@
+-- Lists of items that are parted by commas, over any state. An item may look at the items before it.
+use Rattle.std.specs.Prelude.{ℕ, zero, suc, List, [], ◌∷◌, ◌++◌, Option, Some, None}
+use Rattle.ir_text_tokens.specs.declared.token.Mark.{Mark}
+use Rattle.ir_text_tokens.specs.declared.token.Mark.TheVariants.{Comma}
+use Rattle.ir_text_types.specs.Outcomes.{Outcome, Read, Wrong, ◌>>=◌, of_option, Parse}
+
+module _ {S A : Type 0} (after : Mark → S → Option S) (close : Mark) (p : List A → Parse S A) where
+  abbrev pub more_from : (List A → Parse S (List A)) → List A → S → Option S → Outcome (List A × S)
+  more_from go items s (Some end) = Read (items, end)
+  more_from go items s None = of_option (after Comma s) >>= go items
+
+  -- the items so far and those that are left, of which there are at most `room`, at least one, up to
+  -- the closing mark
+  unfoldable pub more_at : ℕ → List A → Parse S (List A)
+  more_at zero items s = Wrong
+  more_at (suc room) items s = p items s >>= λ x. more_from (more_at room) (items ++ x.0 ∷ []) x.1 (after close x.1)
+
+  abbrev pub list_from : ℕ → S → Option S → Outcome (List A × S)
+  list_from room s (Some end) = Read ([], end)
+  list_from room s None = more_at room [] s
+
+  unfoldable pub list_at : ℕ → Parse S (List A)
+  list_at room s = list_from room s (after close s)

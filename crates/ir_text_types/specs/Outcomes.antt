@@ -1,0 +1,42 @@
+-- What reading gives: a value, or nothing since the text is wrong, or nothing since the context is full.
+use Rattle.std.specs.Prelude.{◌≡◌, Option, Some, None, Result, Ok, Err}
+use Rattle.ir_types.specs.declared.refusal.Refusal.{Refusal}
+use Rattle.ir_types.specs.declared.refusal.Refusal.TheVariants.{TooMany}
+use Rattle.ir_text_types.specs.declared.error.ReadError.{ReadError}
+use Rattle.ir_text_types.specs.declared.error.ReadError.TheVariants as errors
+
+pub data Outcome (A : Type 0) : Type 0 where
+  Read : A → Outcome A
+  Wrong : Outcome A
+  Full : Outcome A
+
+infixl 10 ◌>>=◌
+abbrev pub ◌>>=◌ : {A B : Type 0} → Outcome A → (A → Outcome B) → Outcome B
+Read x >>= f = f x
+Wrong >>= f = Wrong
+Full >>= f = Full
+
+-- nothing is wrong
+abbrev pub of_option : {A : Type 0} → Option A → Outcome A
+of_option (Some x) = Read x
+of_option None = Wrong
+
+-- what is interned, unless the context refuses it: it refuses for `TooMany` where it is full
+abbrev pub interned : {A : Type 0} → Option Refusal → A → Outcome A
+interned None x = Read x
+interned (Some TooMany) x = Full
+interned (Some refusal) x = Wrong
+
+-- a reader of values of A goes from a state to a value and a state
+abbrev pub Parse : Type 0 → Type 0 → Type 0
+Parse S A = S → Outcome (A × S)
+
+-- what a function returned, seen by view, is what reading gives, unless memory ran out
+abbrev pub Fails : {Y : Type 0} → ReadError → Outcome Y → Type 0
+Fails errors.Memory outcome = Unit {0}
+Fails (errors.Full left) outcome = outcome ≡ Full
+Fails (errors.Refused fault) outcome = outcome ≡ Wrong
+
+abbrev pub Gives : {X Y : Type 0} → (X → Y) → Result X ReadError → Outcome Y → Type 0
+Gives view (Ok x) outcome = outcome ≡ Read (view x)
+Gives view (Err e) outcome = Fails e outcome

@@ -1,0 +1,45 @@
+-- Applying a rule as a transformation.
+use Rattle.std.specs.Prelude.{ℕ, Bool, true, false, Option, None, option_map, Result, Ok, Err, if◌then◌else◌}
+use Rattle.ir_types.specs.declared.refusal.Refusal.{Refusal}
+use Rattle.ir_types.specs.declared.refusal.Refusal.TheVariants.{NoSuchOp}
+use Rattle.ir_tree.specs.Ids.{has_id}
+use Rattle.ir_event.specs.Modules.{Module}
+use Rattle.rewriter.specs.Commands.{RuleName, Numbered, Worded}
+use Rattle.rewriter.specs.Machine.{Applied, DoneWith, Fault, Outcome, Refused, Reply, Transformation}
+use Rattle.patterns_base.specs.Rewrites.{Rewrite, none, refused, becomes, rewrite_of}
+use Rattle.patterns_base.specs.RuleNames.{by_number, by_word}
+use Rattle.patterns_base.specs.declared.rule.Rule.{Rule}
+
+-- how often a rule was applied
+abbrev pub applied_times : Bool → ℕ
+applied_times true = 1
+applied_times false = 0
+
+-- what comes of a rewrite of a module
+abbrev pub made_of : Rewrite → Module → Result (Outcome × Module) Fault
+made_of none m = Ok (Applied (applied_times false), m)
+made_of (becomes n) m = Ok (Applied (applied_times true), n)
+made_of (refused e) m = Err (record { refusal = e; op = None })
+
+-- rule r at operation x of a module, which has to be there
+abbrev pub applied_at : Rule → ℕ → Module → Result (Outcome × Module) Fault
+applied_at r x m =
+    if has_id x m.tree then made_of (rewrite_of r m x) m else Err (record { refusal = NoSuchOp; op = None })
+
+-- the transformation, which makes types and attributes
+abbrev pub applying : Rule → ℕ → Transformation
+applying r x = record { transformed = applied_at r x; interns = true }
+
+-- the rule of a name
+abbrev pub rule_named : RuleName → Option Rule
+rule_named (Numbered n) = by_number n
+rule_named (Worded word) = by_word word
+
+-- and the transformation of a command
+abbrev pub application : RuleName → ℕ → Option Transformation
+application name x = option_map (λ r. applying r x) (rule_named name)
+
+-- how applying a rule is replied to
+abbrev pub applied_reply : Result Bool Refusal → Reply
+applied_reply (Ok done) = DoneWith (Applied (applied_times done))
+applied_reply (Err refusal) = Refused refusal

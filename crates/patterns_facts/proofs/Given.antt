@@ -1,0 +1,174 @@
+-- Rules by which the result is given by a value that is there.
+use Rattle.std.proofs.Common.{◌≡◌, refl, ap, sym, ◌∙◌, subst, ℕ, ◌+◌, ◌≤◌, Bool, true, false, ◌&&◌, List, [], ◌∷◌, Option, Some, None, if◌then◌else◌, inl, inr}
+use Rattle.std.specs.Prelude.{codes, ◌==◌, nat_le}
+use Rattle.std.specs.Option.{option_eq}
+use Rattle.ir_types.specs.Readings.{type_width}
+use Rattle.ir_types.specs.Terms.{TypeTerm}
+use Rattle.ir_types.specs.SameTypes.{same_type}
+use Rattle.ir_types.proofs.SameTerms.{type_is, type_refl}
+use Rattle.ir_tree.specs.declared.value.Value.{Value}
+use Rattle.ir_tree.specs.declared.place.Place.{Place}
+use Rattle.ir_tree.specs.Tree.{head}
+use Rattle.ir_tree.specs.Ids.{op_count}
+use Rattle.ir_tree.specs.Limits.{most_ops, most_next}
+use Rattle.ir_tree.specs.Uses.{same_value}
+use Rattle.ir_tree.specs.Meaning.{Operation}
+use Rattle.ir_tree_laws.specs.Members.{In}
+use Rattle.ir_tree_laws.proofs.Listed.{both}
+use Rattle.ir_tree_laws.specs.Values.{type_of_value}
+use Rattle.ir_event.specs.Modules.{Module}
+use Rattle.rewriter_machine.specs.Contents.{Edit}
+use Rattle.patterns_edits.specs.Lists.{Free}
+use Rattle.patterns_edits.proofs.Plans.{sees}
+use Rattle.patterns_base.specs.Keeps.{Each, given}
+use Rattle.patterns_base.specs.Words.{among, ignoring_one, ignoring_zero, index_casts, keeping, named}
+use Rattle.patterns_base.specs.Made.{i1}
+use Rattle.patterns_base.specs.Looks.{Header, One, is_number, is_of_type, known, one, passes, source, when}
+use Rattle.patterns_base.specs.Makes.{give, made_by}
+use Rattle.patterns_base.specs.Casting.{cast_back, through_index, unrealized}
+use Rattle.patterns_base.specs.Folding.{is_all_ones, drop_zero, drop_one, drop_all_ones, keep_itself, choose_same, choose_known, choose_truth}
+use Rattle.patterns_facts.proofs.Typed.{ChoiceTypes, a_choice, among_each, choice_is, choices_are, conjunction_is, ignoring_one_are, ignoring_zero_are, keeping_are, named_is, number_is, two_numbers, typed, types_at}
+use Rattle.patterns_facts.proofs.Spots.{Giver, Spot, here_is, sees_behind, sees_operand, stands_there}
+use Rattle.patterns_facts.proofs.Fit as fit
+use Rattle.patterns_facts.proofs.Fit.{Fit}
+use Rattle.patterns_facts.proofs.Shapes.{given_is, one_is, some_is, source_is, three_is, two_is, when_is}
+
+-- what edits make is within the limits
+abbrev pub HasRoom : Module → List Edit → Type 0
+HasRoom m es = (op_count m.tree + made_by es ≤ most_ops) × (m.next + made_by es ≤ most_next)
+
+pub turned : (a b : TypeTerm) → same_type a b ≡ true → same_type b a ≡ true
+turned a b e = subst (λ z. same_type z a ≡ true) (type_is a b e) (type_refl a)
+
+of_type : (o : Option TypeTerm) (ty : TypeTerm) → option_eq same_type o (Some ty) ≡ true → (u : TypeTerm) × (o ≡ Some u) × (same_type ty u ≡ true)
+of_type None ty e = absurd cc
+of_type (Some u) ty e = (u, refl, turned u ty e)
+
+module _ (m : Module) (o : Operation) (front : Place) (s : Spot m o front) where
+  abbrev x : ℕ
+  x = (head o).id
+
+  abbrev t : Operation
+  t = m.tree
+
+  -- it is one around which edits go
+  pub fits : (ty : TypeTerm) → (head o).results ≡ ty ∷ [] → (k : ℕ) → op_count m.tree + k ≤ most_ops → m.next + k ≤ most_next → Fit (head o).id front ty k m
+  fits ty one k ops ids = record { stood = stands_there m o front s; one = ap (λ z. (head z).results) (here_is m o front s) ∙ one; ops = ops; ids = ids }
+
+  -- a value of its type that it sees is given for it
+  pub gives : (es : List Edit) (v : Value) (ty : TypeTerm) → (head o).results ≡ ty ∷ [] → Some (give (head o).id v) ≡ Some es → sees (head o).id v m ≡ true → (u : TypeTerm) → type_of_value v m.tree ≡ Some u → same_type ty u ≡ true
+      → HasRoom m es → Free es m
+  gives es v ty one is seen u of same room =
+      subst (λ z. HasRoom m z → Free z m) (some_is (give x v) es is)
+      (λ (r : HasRoom m (give x v)). fit.given x front ty 0 m (fits ty one 0 r.0 r.1) v seen u of same) room
+
+  -- the first of two numbers
+  gives_number : (es : List Edit) (a b : Value) (ty : TypeTerm) → types_at (head o).name ≡ Some two_numbers → (head o).operands ≡ a ∷ b ∷ [] → (head o).results ≡ ty ∷ [] → Some (give (head o).id a) ≡ Some es → HasRoom m es → Free es m
+  gives_number es a b ty row operands results is room =
+      let w = number_is t o a b ty (typed t o two_numbers.0 two_numbers.1 s.formed.distinct s.found s.clean row) operands results in
+      gives es a ty results is (sees_operand m o front s a (subst (In a) (sym operands) (inl refl))) w.0 w.1 (turned w.0 ty w.2) room
+
+  -- rules on two operands: the first is given, where the row asks for numbers
+  of_two : (es : List Edit) (a b : Value) (ty : TypeTerm) (words : List (List ℕ)) → Each (λ name. types_at name ≡ Some two_numbers) words → among words (head o).name ≡ true → (head o).operands ≡ a ∷ b ∷ [] → (head o).results ≡ ty ∷ []
+      → Some (give (head o).id a) ≡ Some es → HasRoom m es → Free es m
+  of_two es a b ty words rows name = gives_number es a b ty (among_each (λ name. types_at name ≡ Some two_numbers) words (head o).name rows name)
+
+  pub free_drop_zero : (n : ℕ) (es : List Edit) → drop_zero m.tree n front o ≡ Some es → HasRoom m es → Free es m
+  free_drop_zero n es e =
+      let p = two_is (head o) _ es e in
+      let w = when_is (among ignoring_zero (head o).name && is_number t 0 p.second) (Some (give x p.first)) es p.makes in
+      of_two es p.first p.second p.ty ignoring_zero ignoring_zero_are (both (among ignoring_zero (head o).name) _ w.0).0 p.operands p.results w.1
+
+  pub free_drop_one : (n : ℕ) (es : List Edit) → drop_one m.tree n front o ≡ Some es → HasRoom m es → Free es m
+  free_drop_one n es e =
+      let p = two_is (head o) _ es e in
+      let w = when_is (among ignoring_one (head o).name && is_number t 1 p.second) (Some (give x p.first)) es p.makes in
+      of_two es p.first p.second p.ty ignoring_one ignoring_one_are (both (among ignoring_one (head o).name) _ w.0).0 p.operands p.results w.1
+
+  pub free_drop_all_ones : (n : ℕ) (es : List Edit) → drop_all_ones m.tree n front o ≡ Some es → HasRoom m es → Free es m
+  free_drop_all_ones n es e =
+      let p = two_is (head o) _ es e in
+      let w = when_is (named (codes "arith.andi") (head o).name && passes (is_all_ones p.ty) (known t p.second)) (Some (give x p.first)) es p.makes in
+      gives_number es p.first p.second p.ty (named_is (λ name. types_at name ≡ Some two_numbers) (codes "arith.andi") (head o).name conjunction_is (both (named (codes "arith.andi") (head o).name) _ w.0).0) p.operands p.results w.1
+
+  pub free_keep_itself : (n : ℕ) (es : List Edit) → keep_itself m.tree n front o ≡ Some es → HasRoom m es → Free es m
+  free_keep_itself n es e =
+      let p = two_is (head o) _ es e in
+      let w = when_is (among keeping (head o).name && same_value p.first p.second) (Some (give x p.first)) es p.makes in
+      of_two es p.first p.second p.ty keeping keeping_are (both (among keeping (head o).name) _ w.0).0 p.operands p.results w.1
+
+  -- choices
+  chosen : (name : named (codes "arith.select") (head o).name ≡ true) (c a b : Value) (ty : TypeTerm) → (head o).operands ≡ c ∷ a ∷ b ∷ [] → (head o).results ≡ ty ∷ [] → ChoiceTypes m.tree c a b ty
+  chosen name c a b ty operands results =
+      choice_is t o c a b ty (typed t o a_choice.0 a_choice.1 s.formed.distinct s.found s.clean (named_is (λ name. types_at name ≡ Some a_choice) (codes "arith.select") (head o).name choices_are name)) operands results
+
+  gives_second : (es : List Edit) (c a b : Value) (ty : TypeTerm) → (head o).operands ≡ c ∷ a ∷ b ∷ [] → (head o).results ≡ ty ∷ [] → ChoiceTypes m.tree c a b ty → Some (give (head o).id a) ≡ Some es → HasRoom m es → Free es m
+  gives_second es c a b ty operands results w is = gives es a ty results is (sees_operand m o front s a (subst (In a) (sym operands) (inr (inl refl)))) w.first w.taken (turned w.first ty w.same)
+
+  gives_third : (es : List Edit) (c a b : Value) (ty : TypeTerm) → (head o).operands ≡ c ∷ a ∷ b ∷ [] → (head o).results ≡ ty ∷ [] → ChoiceTypes m.tree c a b ty → Some (give (head o).id b) ≡ Some es → HasRoom m es → Free es m
+  gives_third es c a b ty operands results w is =
+      gives es b ty results is (sees_operand m o front s b (subst (In b) (sym operands) (inr (inr (inl refl))))) w.second w.other
+      (subst (λ z. same_type z w.second ≡ true) (type_is w.first ty w.same) w.like)
+
+  pub free_choose_same : (n : ℕ) (es : List Edit) → choose_same m.tree n front o ≡ Some es → HasRoom m es → Free es m
+  free_choose_same n es e =
+      let p = three_is (head o) _ es e in
+      let w = when_is (named (codes "arith.select") (head o).name) _ es p.makes in
+      let u = when_is (same_value p.second p.third) (Some (give x p.second)) es w.1 in
+      gives_second es p.first p.second p.third p.ty p.operands p.results (chosen w.0 p.first p.second p.third p.ty p.operands p.results) u.1
+
+  pub free_choose_known : (n : ℕ) (es : List Edit) → choose_known m.tree n front o ≡ Some es → HasRoom m es → Free es m
+  free_choose_known n es e =
+      let p = three_is (head o) _ es e in
+      let w = when_is (named (codes "arith.select") (head o).name) _ es p.makes in
+      let u = given_is (known t p.first) _ es w.1 in
+      by_bit p.first p.second p.third p.ty p.operands p.results (chosen w.0 p.first p.second p.third p.ty p.operands p.results) (u.0.1 == 0) u.2
+    where
+      by_bit : (c a b : Value) (ty : TypeTerm) → (head o).operands ≡ c ∷ a ∷ b ∷ [] → (head o).results ≡ ty ∷ [] → ChoiceTypes m.tree c a b ty → (bit : Bool) → Some (give (head o).id (if bit then b else a)) ≡ Some es → HasRoom m es → Free es m
+      by_bit c a b ty operands results w true is = gives_third es c a b ty operands results w is
+      by_bit c a b ty operands results w false is = gives_second es c a b ty operands results w is
+
+  pub free_choose_truth : (n : ℕ) (es : List Edit) → choose_truth m.tree n front o ≡ Some es → HasRoom m es → Free es m
+  free_choose_truth n es e =
+      let p = three_is (head o) _ es e in
+      let w = when_is (named (codes "arith.select") (head o).name) _ es p.makes in
+      let u = when_is (same_type p.ty i1 && (is_number t 1 p.second && is_number t 0 p.third)) (Some (give x p.first)) es w.1 in
+      let c = chosen w.0 p.first p.second p.third p.ty p.operands p.results in
+      gives es p.first p.ty p.results u.1 (sees_operand m o front s p.first (subst (In p.first) (sym p.operands) (inl refl))) c.asked c.condition
+      (subst (λ z. same_type p.ty z ≡ true) (sym c.truth) (both (same_type p.ty i1) _ u.0).0)
+
+  -- what an operand's giver was given, where that has the type of the result
+  pub gives_behind : (es : List Edit) (a : Value) (ty : TypeTerm) (h : Header) (v : Value) → (head o).operands ≡ a ∷ [] → (head o).results ≡ ty ∷ [] → Giver m.tree a h → h.operands ≡ v ∷ []
+      → when (is_of_type m.tree ty v) (Some (give (head o).id v)) ≡ Some es → HasRoom m es → Free es m
+  gives_behind es a ty h v operands results g inner e =
+      let w = when_is (is_of_type t ty v) (Some (give x v)) es e in
+      let u = of_type (type_of_value v t) ty w.0 in
+      gives es v ty results w.1 (sees_behind m o front s a (subst (In a) (sym operands) (inl refl)) h g v (subst (In v) (sym inner) (inl refl))) u.0 u.1 u.2
+
+  pub free_cast_back : (n : ℕ) (es : List Edit) → cast_back m.tree n front o ≡ Some es → HasRoom m es → Free es m
+  free_cast_back n es e =
+      let p = one_is (head o) _ es e in
+      by_name p.first p.ty p.operands p.results (named (codes "builtin.unrealized_conversion_cast") (head o).name) p.makes
+    where
+      of_name : Value → TypeTerm → One
+      of_name a ty = record { name = (head o).name; first = a; ty = ty }
+
+      by_type : (a : Value) (ty : TypeTerm) → (head o).operands ≡ a ∷ [] → (head o).results ≡ ty ∷ [] → (c : Bool) → is_of_type t ty a ≡ c
+          → (if c then Some (give x a) else given (source t (head o).name a) (λ y. given (one y) (λ q. when (is_of_type t ty q.first) (Some (give x q.first))))) ≡ Some es → HasRoom m es → Free es m
+      by_type a ty operands results true f is =
+          let u = of_type (type_of_value a t) ty f in
+          gives es a ty results is (sees_operand m o front s a (subst (In a) (sym operands) (inl refl))) u.0 u.1 u.2
+      by_type a ty operands results false f is =
+          let y = given_is (source t (head o).name a) _ es is in
+          let q = one_is y.0 _ es y.2 in
+          gives_behind es a ty y.0 q.first operands results (source_is t (head o).name a y.0 y.1) q.operands q.makes
+
+      by_name : (a : Value) (ty : TypeTerm) → (head o).operands ≡ a ∷ [] → (head o).results ≡ ty ∷ [] → (b : Bool)
+          → (if b then unrealized t n front o (record { name = (head o).name; first = a; ty = ty }) else when (among index_casts (head o).name) (through_index t n front o (record { name = (head o).name; first = a; ty = ty }))) ≡ Some es → HasRoom m es → Free es m
+      by_name a ty operands results true is = by_type a ty operands results (is_of_type t ty a) refl is
+      by_name a ty operands results false is =
+          let w = when_is (among index_casts (head o).name) _ es is in
+          let y = given_is (source t (head o).name a) _ es w.1 in
+          let q = one_is y.0 _ es y.2 in
+          let v = when_is (nat_le (type_width ty) (type_width q.ty)) _ es q.makes in
+          gives_behind es a ty y.0 q.first operands results (source_is t (head o).name a y.0 y.1) q.operands v.1

@@ -1,5 +1,0 @@
-use Rattle.patterns_touched.proofs.Applying.{touched_all}
-use Rattle.patterns_touched.proofs.laws.rules_apply_alike_at_unlisted_operations.Goals as goal
-
-pub returns : goal.returns
-returns c = λ shown c es m n listed leads d lists. touched_all shown c es m n leads d listed lists

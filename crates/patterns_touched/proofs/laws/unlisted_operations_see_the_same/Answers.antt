@@ -1,5 +1,0 @@
-use Rattle.patterns_touched.proofs.Seeing.{sees_the_same}
-use Rattle.patterns_touched.proofs.laws.unlisted_operations_see_the_same.Goals as goal
-
-pub returns : goal.returns
-returns c = sees_the_same
