@@ -59,7 +59,8 @@ BEGUN = {
     "diff ": ["start", "here"],
     "convert partial ": ["legal", "rules"], "convert partial illegal arith.mu": ["arith.muli"], "help HasU": [],
     "convert partial illegal arith.addi,arith.mu": ["arith.muli"], "convert partial rules 2": ["2", "25"],
-    "apply drop-z": ["drop-zero"], "apply 4 #1": ["#1", "#10"], "help v1": ["v15"], "at #1": ["#1", "#10"], "find arith.mu": ["arith.muli"], "rollback ": ["here"],
+    "apply drop-z": ["drop-zero"], "apply 4 #1": ["#1", "#10"], "help v1": ["v15"],
+    "at #1": ["#1", "#10"], "find arith.mu": ["arith.muli"], "rollback ": ["here"],
     'insert before #8 "arith.mu': ['"arith.muli"'], "save /etc/hos": ["/etc/hosts"],
 }
 
