@@ -53,8 +53,8 @@ class Prompt(cmd.Cmd):
     # What is typed.
 
     def precmd(self, line):
-        """A line as it is answered. An `insert` goes on until its brackets are closed. Where nobody types the lines are
-        shown, as if somebody did."""
+        """A line as it is answered. An `insert` goes on until its brackets are closed, or a line is empty. Where nobody
+        types the lines are shown, as if somebody did."""
         if not self.is_typed and line != "EOF":
             print(PROMPT + line)
         self.remember(line)
@@ -69,6 +69,8 @@ class Prompt(cmd.Cmd):
             if not self.is_typed:
                 print(MORE + more)
             self.remember(more)
+            if not more.strip():
+                break
             more, deeper = bare(more)
             line, depth = f"{line.rstrip()} {more.strip()}", depth + deeper
         return line
@@ -184,9 +186,11 @@ def left_script(script):
         other = "" if it.is_of_module else ", over the file as it was then"
         print(f"A session over this file didn't end by itself{other}: {len(it.script.splitlines())} lines of {when}, "
               f"in {it.path}")
-        answer = input("Take them up? [y/n] ").strip().lower()
+        answer = input("Take them up: yes, not now, or drop them? [y/n/d] ").strip().lower()
         if answer in ("y", "yes"):
             return it
+        if answer in ("d", "drop"):
+            it.drop()
     return None
 
 
@@ -210,7 +214,7 @@ def opened(given, screen):
     if taken:
         session.start = []
         script.save(session.script())
-        taken.drop()
+        taken.taken()
     return session, script
 
 

@@ -73,7 +73,7 @@ class Session:
         self.listings, self.seen, self.start, self.refusals = {}, None, [], 0
         self.words = {"ids": self.ids, "at": self.at, "find": self.find, "diff": self.diff, "undo": self.undo,
                       "redo": self.redo, "save": self.save, "source": self.source, "write": self.write,
-                      "help": self.help}
+                      "help": self.help, "quit": list}
         self.named = {"begin": self.begin_named, "rollback": self.rollback_named}
 
     # What was typed.
@@ -136,7 +136,7 @@ class Session:
     def run(self, line):
         """Runs the edits and a line behind them, and gives its reply, and what is written below it."""
         reply, below, count = self.way.answer(self.kept(), line)
-        self.count = count or self.count + line.count('"(') + MADE_MOSTLY
+        self.count = count or self.count + line.count('"(')
         return reply or REFUSED[0], below
 
     def keep(self, lines, listing):
