@@ -62,6 +62,12 @@ COMMANDS = {
     "tools/session.py examples/fold.mlir": Typed('    #0  "builtin.module"', given=SESSION),
     "tools/explain.py MODULE SCRIPT": Typed("s:1:1: 22 HasUses: ", line="tools/explain.py module.mlir s", status=1),
     "tools/explain.py module.mlir FILE": Typed(""),
+    "tools/mlir_work.py reduce module.mlir --keep 'diagnostics #8 V15' -o small.mlir": Typed("", status=1),
+    "tools/mlir_work.py reduce module.mlir --refused 'convert partial illegal arith.subi rules 28 = 51'":
+        Typed('"arith.subi"('),
+    "tools/mlir_work.py reduce module.mlir --test 'grep -q arith.muli'": Typed('"arith.muli"('),
+    "tools/mlir_work.py compare BEFORE AFTER --function f":
+        Typed("@price: the same on ", line="tools/mlir_work.py compare module.mlir module.mlir --function price"),
     "gate/check_examples.py": Typed(", 0 faults"),
     "tools/page.py MODULE SCRIPT": Typed("<!doctype html>", line="tools/page.py module.mlir s && head -1 replay.html"),
     "mlir-opt --mlir-print-op-generic FILE.mlir > module.mlir": Typed("", wants="mlir-opt"),

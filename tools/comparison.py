@@ -162,7 +162,7 @@ class Comparison:
             if left < 0:
                 break
         if count < len(inputs):
-            told = f"{count:,} of {chosen.many()} inputs, small and random ones, where it was left off, since they take long"
+            told = f"{count:,} of {chosen.many()} inputs, small and random; no more were tried, since they take long"
         more = f"; for {undefined:,} of them {self.names[0]} has no end, or leaves undefined what it gives"
         return True, [f"{name}: the same on {told}{more * bool(undefined)}"]
 

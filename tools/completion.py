@@ -37,6 +37,8 @@ class Completion:
             return self.session.listing().values
         if kind == "MODE":
             return ["partial", "full"]
+        if kind == "RULE":
+            return [name for name in pages.rules() if not re.fullmatch(r"v\d+", name)]
         return kind.strip("()").split("|") if forms.LITERAL.fullmatch(kind) else []
 
     def wanted(self, before):

@@ -7,6 +7,7 @@ For each refused line it prints `FILE:LINE:COLUMN: NUMBER WORD: ` and the senten
 caret where the fault has a place; of a line that is no command, how the command is written that was meant. Below
 that stands the operation that a refusal names, as `ids` of tools/session.py shows it. Columns count bytes from 1. The
 status is the program's."""
+import re
 import sys
 
 sys.dont_write_bytecode = True
@@ -25,8 +26,20 @@ def told(name, number, line, fault):
     return [f"{name}:{number}:{column + 1}: {fault.words}", *mistakes.pointed(line, fault.column)]
 
 
+def like_dividers(name, module):
+    """What is told of lines that look like the one between module and script, and aren't."""
+    return [f"{name}:{number}:1: this line looks like the divider, but the module goes on behind it: that is exactly "
+            f"`{program.DIVIDER.decode()}`" for number, line in enumerate(module.split(b"\n"), 1)
+            if re.fullmatch(rb"//[ \t]*-----", line.strip(program.BLANKS)) and line != program.DIVIDER]
+
+
 def module_refused(name, module, number, word, offset):
     """What is told where the module itself is refused."""
+    return text_refused(name, module, number, word, offset) + like_dividers(name, module)
+
+
+def text_refused(name, module, number, word, offset):
+    """What is told of a text that is refused."""
     says = f"{number} {word}: {mistakes.sentence(number)}"
     if offset is None:
         return [f"{name}: {says}"]

@@ -8,6 +8,7 @@ a session that did is kept as `last.script`, the newest alone."""
 import contextlib
 import fcntl
 import hashlib
+import itertools
 import os
 import pathlib
 import stat
@@ -74,7 +75,8 @@ class Kept:
         whole = os.path.abspath(name)
         self.head = f"{HEAD}{whole}\n{DIGEST}{hashlib.sha256(module).hexdigest()}\n".encode("utf-8", "surrogateescape")
         self.begins = begins(whole)
-        self.path, self.lock, self.text = folder() / f"{self.begins}{os.getpid()}.script", None, None
+        names = (folder() / f"{self.begins}{os.getpid()}-{number}.script" for number in itertools.count(1))
+        self.path, self.lock, self.text = next(path for path in names if not path.exists()), None, None
 
     def save(self, script):
         """Keeps a script, if it isn't the one that is kept, or empty and none is."""
@@ -128,10 +130,15 @@ class Left:
         self.script = lines[2] if len(lines) == 3 and text.startswith(HEAD.encode()) else text
         self.is_of_module = text.startswith(head)
 
-    def drop(self):
+    def taken(self):
         """It was taken up, and stands in another file now."""
         with contextlib.suppress(OSError):
             self.path.unlink()
+
+    def drop(self):
+        """It is the last one that there was, and not offered again."""
+        with contextlib.suppress(OSError):
+            os.replace(self.path, self.path.parent / LAST)
 
 
 def begins(whole):

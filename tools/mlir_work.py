@@ -8,6 +8,7 @@ import sys
 sys.dont_write_bytecode = True
 
 import program  # noqa: E402
+import sources  # noqa: E402
 
 NAME = "mlir-work"
 # Each word, what it does, and the file that does it.
@@ -22,9 +23,18 @@ STATUS = """exit status: 0 where nothing was refused, 1 where something was, 2 w
 the module was refused, 4 where a read or a write failed. `mlir-work FILE` is `mlir-work open FILE`."""
 
 
+class Version(argparse.Action):
+    """Says which program is started."""
+
+    def __call__(self, parser, *_):
+        print(sources.version(program.of_sources()) if program.of_sources() else "no program is of these sources")
+        parser.exit()
+
+
 def parser():
     """What may stand on the command line."""
     whole = argparse.ArgumentParser(prog=NAME, description=__doc__, epilog=STATUS)
+    whole.add_argument("--version", action=Version, nargs=0, help="show which program is started, and exit")
     parts = whole.add_subparsers(dest="command", metavar="COMMAND", required=True)
     for word, (about, name) in COMMANDS.items():
         part = importlib.import_module(name)

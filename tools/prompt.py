@@ -184,9 +184,11 @@ def left_script(script):
         other = "" if it.is_of_module else ", over the file as it was then"
         print(f"A session over this file didn't end by itself{other}: {len(it.script.splitlines())} lines of {when}, "
               f"in {it.path}")
-        answer = input("Take them up? [y/n] ").strip().lower()
+        answer = input("Take them up: yes, not now, or drop them? [y/n/d] ").strip().lower()
         if answer in ("y", "yes"):
             return it
+        if answer in ("d", "drop"):
+            it.drop()
     return None
 
 
@@ -210,7 +212,7 @@ def opened(given, screen):
     if taken:
         session.start = []
         script.save(session.script())
-        taken.drop()
+        taken.taken()
     return session, script
 
 

@@ -7,7 +7,6 @@ are dropped; and all of this again, until nothing more goes. What is refused on 
 import argparse
 import os
 import re
-import shlex
 import subprocess
 import sys
 import tempfile
@@ -66,7 +65,7 @@ class Refusal:
 
 
 class Test:
-    """A command of the shell is to end with status 0, given the name of a file with the module."""
+    """A command of the shell is to end with status 0, given the module on its input, and its file as $1."""
 
     question = "print"
 
@@ -78,8 +77,9 @@ class Test:
         with tempfile.NamedTemporaryFile(suffix=".mlir") as file:
             file.write("\n".join([*answer[1], ""]).encode("utf-8", "surrogateescape"))
             file.flush()
-            return not subprocess.run(f"{self.command} {shlex.quote(file.name)}", shell=True, check=False,
-                                      stdin=subprocess.DEVNULL, stdout=subprocess.DEVNULL).returncode
+            file.seek(0)
+            return not subprocess.run(["sh", "-c", self.command, "sh", file.name], check=False, stdin=file,
+                                      stdout=subprocess.DEVNULL, stderr=subprocess.DEVNULL).returncode
 
     def renamed(self, _):
         """It speaks of no numbers."""
@@ -224,7 +224,7 @@ def arguments(parser):
     goal.add_argument("--refused", metavar="COMMAND=REASON", type=Refusal, dest="goal",
                       help="a command that is refused, and its number or word, as 'convert full rules 28 = 51'")
     goal.add_argument("--test", metavar="CMD", type=Test, dest="goal",
-                      help="a command of the shell that ends with status 0, given a file with the module")
+                      help="a command of the shell that ends with status 0: the module is its input, and $1 its file")
     parser.add_argument("-o", "--output", metavar="FILE",
                         help="where the module is written; the script goes beside it, as FILE.script")
 

@@ -26,7 +26,7 @@ from listing import MADE  # noqa: E402
 
 WIDTH = 100
 # Commands that edit what they don't name: behind them stands what they changed, up to so many lines.
-WITH_DIFF, MOST_DIFF = {"canon", "convert", "sweep"}, 60
+WITH_DIFF, MOST_DIFF = {"apply", "canon", "convert", "sweep"}, 60
 # So many operations they make mostly for each that there is, and so many besides; so often a plain `canon` rewrites.
 MAKES, MADE_MOSTLY, LIMIT = {"canon": 2, "convert": 4}, 64, 1000
 # So many listings are kept.
@@ -73,7 +73,7 @@ class Session:
         self.listings, self.seen, self.start, self.refusals = {}, None, [], 0
         self.words = {"ids": self.ids, "at": self.at, "find": self.find, "diff": self.diff, "undo": self.undo,
                       "redo": self.redo, "save": self.save, "source": self.source, "write": self.write,
-                      "help": self.help}
+                      "help": self.help, "quit": list}
         self.named = {"begin": self.begin_named, "rollback": self.rollback_named}
 
     # What was typed.
@@ -136,7 +136,7 @@ class Session:
     def run(self, line):
         """Runs the edits and a line behind them, and gives its reply, and what is written below it."""
         reply, below, count = self.way.answer(self.kept(), line)
-        self.count = count or self.count + line.count('"(') + MADE_MOSTLY
+        self.count = count or self.count + line.count('"(')
         return reply or REFUSED[0], below
 
     def keep(self, lines, listing):

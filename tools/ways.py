@@ -74,7 +74,8 @@ class Process:
                                     start_new_session=True)
         try:
             self.tell(program.joined(module, b""))
-            self.is_refused = "".join(self.answer()[:1]).startswith("module refused")
+            self.is_refused = False
+            self.answer()
         except BaseException:
             self.stop()
             raise
@@ -92,12 +93,15 @@ class Process:
         return f"{self.run.args[0]} ended with status {self.run.wait()}"
 
     def answer(self):
-        """The lines of its next answer."""
+        """The lines of its next answer. Behind that to a module that is refused there may be no more."""
         lines = []
         for line in iter(self.run.stdout.readline, b""):
+            self.is_refused |= line.startswith(b"module refused")
             if line == b"\n":
                 return lines
             lines.append(line.rstrip(b"\n").decode("utf-8", "surrogateescape"))
+        if self.is_refused:
+            return lines
         raise Ended(self.end())
 
     def reply(self):

@@ -137,6 +137,14 @@ def convert_says(words):
     return f"convert {words[0].decode()}{''.join(lists)} depth {int(found[b'depth']) if b'depth' in found else 'none'}"
 
 
+def apply_says(rule, op):
+    """A rule by its number, or by a word, which begins with no digit."""
+    if not rule[:1].isdigit():
+        return f"apply {told(rule)} {op_of(op)[0]}"
+    number = number_of(rule)
+    return f"apply {number} {op_of(op)[0]}" if number in range(1, 31) else "bad"
+
+
 def line_says(line):
     try:
         line.decode()
@@ -148,6 +156,8 @@ def line_says(line):
     words = re.split(rb"[ \t]+", text)
     if words in ([b"print"], [b"begin"], [b"commit"], [b"rollback"], [b"sweep"]):
         return words[0].decode()
+    if len(words) == 3 and words[0] == b"apply" and op_of(words[2]):
+        return apply_says(*words[1:])
     if words == [b"canon"]:
         return "canon"
     if len(words) == 3 and words[:2] == [b"canon", b"limit"] and number_of(words[2]) is not None:
@@ -202,7 +212,10 @@ KINDS_ALONE = {"detach uses": "detach 1", "resync uses": "resync 1", "detach kin
 ALONE = {"begin": "begin", "\tcommit \r": "commit", "rollback\t": "rollback", "sweep": "sweep", " sweep\t\r": "sweep",
          "erase #1": "erase 1", " erase\t#0004294967295": "erase 4294967295",
          "replace %v1.0 %a2.0.1": "replace 1.0 2.0.1", "replace\t%a1.2.3  %v01.00\r": "replace 1.2.3 1.0",
-         "replace %v1.0 %v1.0": "replace 1.0 1.0"}
+         "replace %v1.0 %v1.0": "replace 1.0 1.0",
+         "apply 1 #2": "apply 1 2", "\tapply  030\t#0004294967295 \r": "apply 30 4294967295",
+         "apply drop-zero #3": "apply [drop-zero] 3", "apply no_rule.x #0": "apply [no_rule.x] 0",
+         "apply -1 #3": "apply [-1] 3", "apply #1 #2": "apply [#1] 2"}
 INSERTS = {"insert end #0 0 x": "insert end 0 0 [x]",
            "insert before #3 \"test.a\"() : () -> ()": 'insert before 3 ["test.a"() : () -> ()]',
            "insert\tafter\t#03\t\t%a  =  \r": "insert after 3 [%a  =]",
@@ -268,7 +281,9 @@ insert under #1 x|insert end #0 4294967296 x|insert "test.a"() : () -> ()|begin 
 rollback #1|rollback  x|roll back|undo|report|report nonsense|report Uses|report use|report uses uses|report uses \r x
 reportuses|Report uses|report kind|report kind1|report kind6|report kind07|report kind00|report kind256
 report kind4294967305|report kind-1|report kind9x|report 1|report kind7|report Unreached|sweep x|sweep //|Sweep|sweeps
-swee|sweep #1|print x|print //|Print|prin|prints|/print|print\x0b|\x0cprint|jump|set-operand|set-operand #3
+swee|sweep #1|apply|apply 1|apply #1|apply 1 #|apply 1 2|apply 0 #1|apply 31 #1|apply 00031 #1|apply 1x #1|apply 1 #1 x
+apply 4294967297 #1|apply drop-zero|apply drop-zero 3|apply drop-zero #3 #4|apply drop zero #3|Apply 1 #2|applies 1 #2
+apply 1 #4294967296|print x|print //|Print|prin|prints|/print|print\x0b|\x0cprint|jump|set-operand|set-operand #3
 set-operand #3 0|set-operand #3 0 %v2.0 x|set-operand 3 0 %v2.0|set-operand # 0 %v2.0|set-operand ##3 0 %v2.0
 set-operand # 3 0 %v2.0|set-operand #3 x %v2.0|set-operand #3 -1 %v2.0|set-operand #3 +1 %v2.0
 set-operand #0x3 0 %v2.0|set-operand #3 0 #2|set_operand #3 0 %v2.0|set-operand #3 0 v2.0|set-operand #3 0 %
@@ -393,7 +408,8 @@ def replies():
     for n in (0, 1, 9, 10, 12, 99, 100, 4294967295, 4294967296, 2 ** 64 - 1):
         out += [(f"ok {n}", f"{n} ok\n"), (f"number {n}", f"{n}"),
                 (f"refused {n} HasUses", f"{n} refused 22 HasUses\n")]
-        out += [(f"came {n} {word} {n}", f"{n} {word} {n}\n") for word in ("swept", "converged", "limit", "converted")]
+        words = ("swept", "converged", "limit", "converted", "applied")
+        out += [(f"came {n} {word} {n}", f"{n} {word} {n}\n") for word in words]
         out += [(f"refused-on {n} NotLegalised {op}", f"{n} refused 51 NotLegalised #{op}\n")
                 for op in (0, 2, 4294967295)]
     for refusal in REFUSALS:

@@ -40,7 +40,7 @@ def main():
     try:
         here = script.Run(read(module_text()))
     except rules.Refused as fault:
-        answer(f"module refused {printing.refusal(fault)}\n")
+        OUT.write(f"module refused {printing.refusal(fault)}\n".encode())
         return 3
     answer("")
     count = 0

@@ -14,8 +14,8 @@ def function(body, takes="i4, i4", gives="i4", name="f", more=""):
     """A function of two arguments %a and %b."""
     types = takes.split(", ")
     inside = ", ".join(f"%{letter}: {ty}" for letter, ty in zip("abc", types))
-    return (f'"func.func"() <{{function_type = ({takes}) -> {gives}, sym_name = "{name}"{more}}}> ({{\n^bb0({inside}):\n'
-            f'{body}\n}}) : () -> ()\n')
+    head = f'"func.func"() <{{function_type = ({takes}) -> {gives}, sym_name = "{name}"{more}}}>'
+    return f"{head} ({{\n^bb0({inside}):\n{body}\n}}) : () -> ()\n"
 
 
 def binary(word, operands, ty="i4"):

@@ -78,9 +78,10 @@ class Reduced(unittest.TestCase):
         self.assertEqual(self.reduced(reduce.Refusal("erase #13=HasUses"))[0].goal.reason, ["HasUses"])
 
     def test_a_command(self):
-        _, left = self.reduced(reduce.Test("grep -q arith.muli"))
-        self.assertIn('"arith.muli"(', left)
-        self.assertLessEqual(left.count('"arith.'), 2)
+        for command in ("cat | grep -q arith.muli", 'grep -q arith.muli "$1"'):
+            _, left = self.reduced(reduce.Test(command))
+            self.assertIn('"arith.muli"(', left)
+            self.assertEqual(left.count('"arith.'), 1)
 
     def test_a_live_process(self):
         goals = [reduce.Row("diagnostics #14 V15"), reduce.Refusal("convert full rules 28 = 51 NotLegalised")]

@@ -153,22 +153,32 @@ class Typed(Terminals):
         here.type("begin here\n")
         here.type("erase #1\n")
         other = self.open()
-        self.assertNotIn("[y/n]", self.shown)
+        self.assertNotIn("[y/n/d]", self.shown)
         other.type("\x04", "")
         here.kill()
-        here = self.open(until="[y/n] ")
+        here = self.open(until="[y/n/d] ")
         self.assertIn("3 lines", self.shown)
         self.assertIn("1 ok", here.type("y\n"))
         self.assertIn('-    #1    "test.a"', here.type("diff here\n"))
         here.run.send_signal(signal.SIGHUP)
         here.end()
         self.file.write_text(MODULE + '"test.c"() : () -> ()\n')
-        here = self.open(until="[y/n] ")
+        here = self.open(until="[y/n/d] ")
         self.assertIn("as it was then", self.shown)
         here.type("n\n")
         here.type("\x04", "")
         here.end()
         self.assertEqual([*self.scripts().values()], ["// begin here\nbegin\nerase #1\n"])
+        self.open(until="[y/n/d] ").type("d\n")
+        self.assertEqual(self.scripts(), {"last.script": "// begin here\nbegin\nerase #1\n"})
+
+    def test_a_pager(self):
+        self.environment["PAGER"] = "sed 's/^/|/'"
+        here = self.open()
+        self.assertIn("\n|  erase #N\n", here.type("help\n"))
+        self.assertIn("\nok\n", here.type("erase #1\n"))
+        self.environment["PAGER"] = "/none/pager"
+        self.assertIn("\n  erase #N\n", self.open().type("help\n"))
 
     def test_nothing_is_typed(self):
         here = self.open()

@@ -22,6 +22,7 @@ import screen
 import words
 
 WRONG = {
+    "quit now": "`now` can't stand behind `quit`: write `quit`",
     "ids #3": "`#3` can't stand behind `ids`: write `ids`",
     "at": "`at` alone is too little: write `at #N [K]`",
     "at x": "write `at #N [K]`",
@@ -58,7 +59,8 @@ BEGUN = {
     "diff ": ["start", "here"],
     "convert partial ": ["legal", "rules"], "convert partial illegal arith.mu": ["arith.muli"], "help HasU": [],
     "convert partial illegal arith.addi,arith.mu": ["arith.muli"], "convert partial rules 2": ["2", "25"],
-    "help v1": ["v15"], "at #1": ["#1", "#10"], "find arith.mu": ["arith.muli"], "rollback ": ["here"],
+    "apply drop-z": ["drop-zero"], "apply 4 #1": ["#1", "#10"], "help v1": ["v15"],
+    "at #1": ["#1", "#10"], "find arith.mu": ["arith.muli"], "rollback ": ["here"],
     'insert before #8 "arith.mu': ['"arith.muli"'], "save /etc/hos": ["/etc/hosts"],
 }
 
@@ -161,7 +163,7 @@ class Edited(unittest.TestCase):
         self.assertEqual(len([line for line in self.said("help refusal 22") if re.match("22 ", line)]), 1)
 
     def test_each_has_help(self):
-        self.assertEqual(set(words.WORDS), {*self.here.words, "quit"})
+        self.assertEqual(set(words.WORDS), set(self.here.words))
         those = [*words.WORDS, *mistakes.forms(), *mistakes.kinds(), *map(str, range(1, 31)), "60"]
         self.assertEqual([word for word in those if not pages.about(word)], [])
         self.assertEqual([f"v{number}" for number in range(1, 25) if not pages.about(f"V{number}")], [])

@@ -1,6 +1,6 @@
 -- A rule that was applied, or not, goes as the machine has it.
-use Rattle.std.proofs.Common.{◌≡◌, refl, absurd, ap, sym, ◌∙◌, ◌⊎◌, inl, inr, ℕ, Bool, true, false, cond, Result, Ok, Err}
-use Rattle.std.specs.Prelude.{IfErr, IfOk, None, OnErr, ⊥, ◌×◌}
+use Rattle.std.proofs.Common.{◌≡◌, refl, ap, sym, ◌∙◌, ◌⊎◌, inl, inr, ℕ, Bool, true, false, cond, Result, Ok, Err}
+use Rattle.std.specs.Prelude.{IfErr, IfOk, None, OnErr, ⊥}
 use Rattle.ir_types.specs.Things.{Things}
 use Rattle.ir_types.specs.declared.refusal.Refusal.{Refusal}
 use Rattle.ir_types.specs.declared.refusal.Refusal.TheVariants.{Full, Memory, NoSuchOp}
@@ -35,11 +35,11 @@ module _ (r : Rule) (x : ℕ) (s t : State) (marks : t.marks ≡ s.marks) where
   IsDue reply = IsAnswer s (Change (applying r x)) (record { reply = reply; shows = Nothing; held = t.held; marks = t.marks })
 
   done_answer : (w : Rewrite) (done : Bool) → has_id x s.held.tree ≡ true → rewrite_of r s.held x ≡ w → Gave w done s.held t.held → IsDue (applied_reply (Ok done))
-  done_answer none done there e (no, same) = inl (
-      (λ i. record { reply = applied_reply (Ok (no i)); shows = Nothing; held = same i; marks = marks i })
+  done_answer none done there e (isnt, same) = inl (
+      (λ i. record { reply = applied_reply (Ok (isnt i)); shows = Nothing; held = same i; marks = marks i })
       ∙ sym (ap (λ (o : Result (Outcome × Module) Because). due_change o s) (at_one r x s.held there ∙ ap (λ (w : Rewrite). made_of w s.held) e)))
-  done_answer (becomes n) done there e (yes, same) = inl (
-      (λ i. record { reply = applied_reply (Ok (yes i)); shows = Nothing; held = same i; marks = marks i })
+  done_answer (becomes n) done there e (is_so, same) = inl (
+      (λ i. record { reply = applied_reply (Ok (is_so i)); shows = Nothing; held = same i; marks = marks i })
       ∙ sym (ap (λ (o : Result (Outcome × Module) Because). due_change o s) (at_one r x s.held there ∙ ap (λ (w : Rewrite). made_of w s.held) e)))
   done_answer (refused f) done there e gave = absurd gave
 
