@@ -1,9 +1,9 @@
-"""Aliases and locations of a module's text: a pass in front of the grammar, which puts the spelling of each alias in its
-place and takes `loc(..)` away behind a function type or the type of a block's argument.
+"""Aliases and locations of a module's text: a pass in front of the grammar, which puts the spelling of each alias in
+its place and takes `loc(..)` away behind a function type or the type of a block's argument.
 
-Definitions stand in front of the first operation; behind the last one only `#name = loc(..)`, which goes. A definition's
-value ends in front of the next string, value or definition outside all brackets. A text that defines no alias keeps all
-that look like one, which the grammar refuses."""
+Definitions stand in front of the first operation; behind the last one only `#name = loc(..)`, which goes. What a
+definition spells ends in front of the next string, value or definition outside all brackets. A text that defines no
+alias keeps all that look like one, which the grammar refuses."""
 
 import bisect
 import re
@@ -247,8 +247,8 @@ def expanded(text):
 
 
 def read(text):
-    """The module that a text spells with its aliases and locations; raises `rules.Refused`. A fault of the grammar counts
-    where it stands further left than one of the aliases."""
+    """The module that a text spells with its aliases and locations; raises `rules.Refused`. A fault of the grammar
+    counts where it stands further left than one of the aliases."""
     opaque.Reader(text)
     found = expanded(text)
     try:
