@@ -164,7 +164,7 @@ def is_written(lines, wanted):
 def lines_typed(text):
     """How many lines a text has typed."""
     return sum(len(re.findall(r"^[$>] ", block, re.M)) if kind == "console" else block.count("\n")
-               for kind, block in blocks(text))
+               for kind, block in blocks(text) if kind in ("console", "python"))
 
 
 def cooked(text, folder):
@@ -173,7 +173,7 @@ def cooked(text, folder):
         if kind == "python":
             (folder / block.split()[1]).write_text(block)
             continue
-        for line, given, wanted in typed(block):
+        for line, given, wanted in typed(block) if kind == "console" else ():
             if re.search(r"\bmlir-opt\b", line) and not tool():
                 print(f"not typed, mlir-opt isn't installed: {line}")
                 continue
