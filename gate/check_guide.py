@@ -28,7 +28,7 @@ ROOT = program.ROOT
 PAGES = ["README.md", "docs/GUIDE.md", "docs/REFUSALS.md", "docs/FROM_MLIR_OPT.md", "examples/README.md"]
 COOKBOOK, TUTORIAL, MOST_TYPED = "docs/COOKBOOK.md", "docs/LISTENER_TUTORIAL.md", 10
 # What the tutorial copies and edits.
-EDITED = ["crates.txt", "crates/listeners_example", "crates/mlir_work/src"]
+EDITED = ["crates.txt", "crates/listeners_example", "crates/mlir_work/src", "examples"]
 BEGINS = ("./run", "./test", "rt ", "tools/", "mlir-opt ", "MLIR_WORK", "(cat ", "(head ", ".. | ", "tr ", "cat ")
 # Words in a sentence that are typed, and not only named.
 SAID = re.compile(r"MLIR_WORK\w*=\S+ .*|\./run .*|\./test.*|rt .*|tools/\w+\.(?:py|sh) .*|gate/check_\w+\.py|tr .*")
