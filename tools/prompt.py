@@ -53,8 +53,8 @@ class Prompt(cmd.Cmd):
     # What is typed.
 
     def precmd(self, line):
-        """A line as it is answered. An `insert` goes on until its brackets are closed. Where nobody types the lines are
-        shown, as if somebody did."""
+        """A line as it is answered. An `insert` goes on until its brackets are closed, or a line is empty. Where nobody
+        types the lines are shown, as if somebody did."""
         if not self.is_typed and line != "EOF":
             print(PROMPT + line)
         self.remember(line)
@@ -69,6 +69,8 @@ class Prompt(cmd.Cmd):
             if not self.is_typed:
                 print(MORE + more)
             self.remember(more)
+            if not more.strip():
+                break
             more, deeper = bare(more)
             line, depth = f"{line.rstrip()} {more.strip()}", depth + deeper
         return line

@@ -110,6 +110,40 @@ WHOLES = [
     ('"t.u"() : () -> ()\n#l = loc("f")\n#l = loc("g")', (4, 33), (13, 19)),
 ]
 
+# A module with operations beyond the table, lines, and what is replied to each.
+BEYOND = """"func.func"() <{function_type = (f32, vector<4xi32>, i32) -> (), sym_name = "f"}> ({
+^bb0(%f: f32, %v: vector<4xi32>, %i: i32):
+  %c = "arith.constant"() <{value = 1.0 : f32}> : () -> f32
+  %z = "arith.constant"() <{value = dense<0> : vector<4xi32>}> : () -> vector<4xi32>
+  %s = "arith.addi"(%v, %z) : (vector<4xi32>, vector<4xi32>) -> vector<4xi32>
+  %t = "arith.constant"() <{value = true}> : () -> i1
+  %u = "arith.select"(%t, %f, %c) : (i1, f32, f32) -> f32
+  %d = "arith.constant"() <{value = 2.0 : f64}> : () -> f64
+  "t.use"(%s, %u) : (vector<4xi32>, f32) -> ()
+  "func.return"() : () -> ()
+}) : () -> ()
+// -----
+"""
+LINES = [
+    ("report diagnostics", "ok"),
+    # (an opaque constant isn't known, and no fold is made with one)
+    ("report constants", "ok\n%v5.0 true"),
+    ("report dead", "ok\n#7"),
+    ("set-attr #2 k dense<[1, 2]> : tensor<2xi8>", "ok"),
+    ("set-attr #2 k #m", "refused 13 LeftOut at 0"),
+    ('set-attr #2 k {a = !d.t, b = #d.a<"x">}', "ok"),
+    ('insert before #9 "t.n"(%a1.0.0) : (f32) -> !d.t', "ok #10"),
+    ('insert before #9 "t.n"(%a1.0.0) : (f64) -> ()', "refused 5 TypeMismatch at 15"),
+    ("replace %v2.0 %a1.0.0", "ok"),
+    ("replace %v2.0 %a1.0.1", "refused 24 TypeDiffers"),
+    # (`select` takes any type; the first rule takes the unused ones away; the sum of vectors stays, with its zero)
+    ("canon", "converged 4"),
+    ("report uses", "ok\n%a1.0.0 #8 1\n%a1.0.0 #10 0\n%a1.0.1 #4 0\n%v3.0 #4 1\n%v4.0 #8 0"),
+    ("set-attr #3 value 1 : i32", "ok"),
+    ("report diagnostics", "ok"),
+    ("convert partial illegal arith.addi rules 25,26", "refused 51 NotLegalised #4"),
+]
+
 
 def texts():
     """Each text, with the answers."""
@@ -158,6 +192,14 @@ def told(program, text, answer, is_open):
     return f"{text!r}, {'' if is_open else 'not '}opaque: {found}, and not {(status, output)}"
 
 
+def script_told(program):
+    """What is wrong with the replies to the lines, or none."""
+    given = BEYOND + "".join(f"{line}\n" for line, _ in LINES)
+    wanted = "".join(f"{number} {reply}\n" for number, (_, reply) in enumerate(LINES, 1))
+    found = asked(program, given.encode(), True)
+    return None if found == (1, wanted.encode()) else f"beyond the table: {found[1].decode()}, and not {wanted}"
+
+
 def module_told(program, name, text, answer):
     """What is wrong with the answers for a module: it is printed so, without a row of diagnostics, or refused so."""
     if name.split("/")[-2] == "refused":
@@ -170,7 +212,7 @@ def module_told(program, name, text, answer):
 
 def faults(program):
     """What is answered otherwise, and how much was asked."""
-    count, found = 0, []
+    count, found = 1, [script_told(program)]
     for text, answers in texts():
         for answer, is_open in zip(answers, (True, False)):
             count += 1

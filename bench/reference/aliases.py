@@ -1,9 +1,9 @@
 """Aliases and locations of a module's text: a pass in front of the grammar, which puts the spelling of each alias in
 its place and takes `loc(..)` away behind a function type or the type of a block's argument.
 
-Definitions stand in front of the first operation; behind the last one only `#name = loc(..)`, which goes. The value of
-a definition ends in front of the next string, value or definition outside all brackets. A text that defines no alias
-keeps all that look like one, which the grammar refuses."""
+Definitions stand in front of the first operation; behind the last one only `#name = loc(..)`, which goes. What a
+definition spells ends in front of the next string, value or definition outside all brackets. A text that defines no
+alias keeps all that look like one, which the grammar refuses."""
 
 import bisect
 import re
@@ -99,18 +99,18 @@ class Pass:
     # Definitions.
 
     def definitions(self):
-        """Reads the definitions in front of the first operation, and gives the byte behind them."""
-        at = 0
+        """Reads the definitions in front of the first operation, and gives the byte behind the last."""
+        behind = 0
         while True:
-            at = COMMENT.match(self.text, at).end()
+            at = COMMENT.match(self.text, behind).end()
             if at == len(self.text) or self.text[at:at + 1] not in (b"#", b"!"):
-                return at
+                return behind
             piece = Piece(self.text, at)
             equal = behind_equal(self.text, piece)
             if equal is None:
-                return at
+                return behind
             self.named(piece)
-            value, at = self.value(equal)
+            value, behind = self.value(equal)
             self.values[piece.bytes] = value if len(value) <= MOST_BYTES else None
 
     def named(self, piece):
@@ -159,17 +159,17 @@ class Pass:
 
     def operations(self, at):
         """Puts spellings in the operations from a byte on, and takes locations away."""
-        brackets, last, is_typed, is_begun = [], b"", False, False
+        brackets, last, is_typed, is_ended = [], b"", False, False
         while at < len(self.text):
             piece = Piece(self.text, at)
             at = piece.end
             kind = brackets[-1][1] if brackets else OPS
-            if not brackets and is_begun and behind_equal(self.text, piece) is not None:
+            if not brackets and (is_typed or is_ended) and behind_equal(self.text, piece) is not None:
                 self.endings(piece.start)
                 return
             behind = self.location(piece, kind, is_typed, last)
             if behind is not None:
-                at, last, is_typed = behind, b")", False
+                at, last, is_typed, is_ended = behind, b")", False, True
                 continue
             if piece.is_alias and self.values:
                 found = self.spelling(piece, last, brackets)
@@ -180,8 +180,8 @@ class Pass:
                 self.out.add(piece.bytes, piece.start)
             if piece.is_blank():
                 continue
+            is_ended = False
             if kind == OPS:
-                is_begun = True
                 is_typed = piece.bytes == b"->" or is_typed and piece.bytes[:1] not in (b'"', b"%", b"^")
             if self.nest(piece, brackets, kind, last) == OPS:
                 is_typed = False

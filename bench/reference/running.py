@@ -1,19 +1,18 @@
 """Runs the functions of a module, and those that they call, and compares what two modules make of the same numbers.
 
-It stands on the evaluator, which gives operations of arith and scf their meaning. Here a call of a function that has a
-body runs it. Any other operation gives numbers that its text and its turn determine, and what it was given is noted, in
-order. Memory isn't kept: an operation that only reads gives numbers that its text, what it is given and all that was
-noted before determine, and isn't noted; nor is an allocation, whose address its turn determines. So a load may be left
-out, or made twice, but not past a store."""
+It stands on the evaluator, which gives the operations of arith and scf that are in the table their meaning. Here a call
+of a function that has a body runs it. Any other operation gives numbers that its text and its turn determine, and what
+it was given is noted, in order. Memory isn't kept: an operation that only reads gives numbers that its text, what it is
+given and all that was noted before determine, and isn't noted; nor is an allocation, whose address its turn determines.
+So a load may be left out, or made twice, but not past a store."""
 import zlib
 
 from . import evaluator, printing
 from .analyses import Symbols, diagnostics, effects_of
 from .module import INDEX, walk
-from .operations import CALL, FUNC
+from .operations import CALL, FUNC, ROWS
 
 UNNOTED = {"read", "allocate"}
-KNOWN = ("arith.", "scf.", "func.return", "builtin.unrealized_conversion_cast")
 MOST_CALLS = 40
 
 
@@ -66,7 +65,7 @@ def unknown(function):
     if not function.regions or function.regions[0] is None:
         return "it has no body"
     for op in walk(function):
-        if op is not function and op.blocks() and not op.name.decode("latin-1").startswith(KNOWN):
+        if op is not function and op.blocks() and op.name not in ROWS:
             return f"nothing is known of what is inside {printing.string_text(op.name)}"
     return ""
 
@@ -79,6 +78,10 @@ class Run(evaluator.Machine):
         self.values, self.trace, self.seen, self.fuel, self.calls = {}, [], {}, fuel, 0
         # (of all that was noted)
         self.sum = 0
+
+    def results(self, op, numbers):
+        """What an operation gives."""
+        return super().results(op, numbers) if op.name in ROWS else self.opaque(op, numbers)
 
     def opaque(self, op, numbers):
         """What an operation gives that has no meaning of its own."""

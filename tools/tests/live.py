@@ -1,4 +1,4 @@
-"""A program for tests that has `--interactive`: it answers by bench/reference, a line at a time. With FAIL_AT in the
+"""A program for tests that has `--interactive`: it answers by bench/reference, a line at a time, or a whole run. With FAIL_AT in the
 environment it ends at the line of that number, once: the file that GONE names says that it did."""
 import os
 import pathlib
@@ -37,6 +37,10 @@ def main():
     if "--help" in sys.argv[1:]:
         print("Options:\n      --brief        Leave out\n      --interactive  Answer each line at once")
         return 0
+    if "--interactive" not in sys.argv[1:]:
+        status, out = script.run(sys.stdin.buffer.read(), "--brief" in sys.argv[1:])
+        OUT.write(out)
+        return status
     try:
         here = script.Run(read(module_text()))
     except rules.Refused as fault:

@@ -55,6 +55,7 @@ SAME = {
                   function(ends("%b", "index"), MEMORY, "index")),
     "loaded twice": (function(LOAD + LOAD.replace("%r", "%s") + ends("%s"), MEMORY),
                      function(LOAD + ends(), MEMORY)),
+    "not in the table": (binary("ceildivsi", "%a, %b"), binary("ceildivsi", "%a, %b")),
     "by chance": (binary("muli", "%a, %b", "i64"), binary("muli", "%b, %a", "i64")),
 }
 DIFFERENT = {
@@ -64,6 +65,7 @@ DIFFERENT = {
     "met in another order": (function(USE.format("%a") + USE.format("%b") + ends("%a")),
                              function(USE.format("%b") + USE.format("%a") + ends("%a"))),
     "other types": (binary("addi", "%a, %b"), binary("addi", "%a, %b", "i8")),
+    "not in the table": (binary("ceildivsi", "%a, %b"), binary("ceildivsi", "%b, %a")),
     "more undefined": SAME["undefined"][::-1],
     "gone": (binary("addi", "%a, %b") + CALLED.replace(PRIVATE, ""), binary("addi", "%a, %b")),
 }

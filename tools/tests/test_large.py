@@ -5,6 +5,8 @@ import unittest.mock
 
 from support import ROOT, changes, listing, program, session
 
+import ways
+
 NAMES = sorted(file.stem for file in (ROOT / "examples").glob("*.mlir"))
 # The line that each example is rewritten by, with the one before it.
 REWRITES = {"canon": ("set-attr #1 k 1", "canon"), "sweep": ("set-attr #1 k 1", "sweep"),
@@ -20,7 +22,7 @@ def module(name):
 
 def begun(text):
     """A session over a module."""
-    here = session.Session(text)
+    here = session.Session(text, ways.Again(text))
     here.begin(b"")
     return here
 

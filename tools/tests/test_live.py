@@ -69,9 +69,10 @@ class Live(unittest.TestCase):
 
     def test_many_lines(self):
         way = self.live(b"")
-        kept = ['insert end #0 0 "test.a"() : () -> ()'] * 1000
-        self.assertEqual(way.answer(kept, "erase #1001")[0], "refused 20 NoSuchOp")
-        self.assertEqual(way.answer(kept, "erase #1000")[0], "ok")
+        kept = ['insert end #0 0 "test.a"() : () -> ()'] * 100
+        with unittest.mock.patch.multiple(ways, MOST_LINES=16, MOST_BYTES=300):
+            self.assertEqual(way.answer(kept, "erase #101")[0], "refused 20 NoSuchOp")
+        self.assertEqual(way.answer(kept, "erase #100")[0], "ok")
 
     def test_all_marks_are_open(self):
         said, here = self.ask(module("canon"), [*["begin"] * 16, "ids", "erase #14", "rollback", "commit"])

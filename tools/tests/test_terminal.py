@@ -187,17 +187,38 @@ class Typed(Terminals):
 
 
 class Fails(Terminals):
-    def test_a_killed_program(self):
+    def mortal(self, does):
+        """Has sessions ask a program that does something else while a file is there; gives that file. (Its help names
+        no option, so that it is run for each line; test_live.py has those that live.)"""
         words, more = program.words()
-        mortal, gone = self.folder / "program", self.folder / "program.gone"
-        mortal.write_text(f'#!/bin/sh\n[ ! -e {gone} ] || kill -9 $$\nexec {shlex.join(words)} "$@"\n')
+        mortal, there = self.folder / "program", self.folder / "there"
+        mortal.write_text(f'#!/bin/sh\n[ "$1" != --help ] || exit 0\n[ ! -e {there} ] || {does}\n'
+                          f'exec {shlex.join(words)} "$@"\n')
         mortal.chmod(0o755)
         self.environment.update(more, MLIR_WORK=str(mortal))
+        return there
+
+    def test_a_program_that_takes_long(self):
+        slow = self.mortal("exec sleep 600")
         here = self.open()
         here.type("erase #1\n")
-        gone.touch()
+        slow.touch()
+        here.type("canon\n", "\n")
+        time.sleep(1)
+        self.assertIn("interrupted", here.interrupt())
+        slow.unlink()
+        self.assertIn("converged 0", here.type("canon\n"))
+        here.type("\x04", "")
+        here.end()
+        self.assertEqual(self.scripts()["last.script"], "erase #1\ncanon\n")
+
+    def test_a_killed_program(self):
+        killed = self.mortal("kill -9 $$")
+        here = self.open()
+        here.type("erase #1\n")
+        killed.touch()
         self.assertIn("never typed", here.type("erase #2\n"))
-        gone.unlink()
+        killed.unlink()
         self.assertIn("ok", here.type("erase #2\n"))
         here.type("\x04", "")
         here.end()

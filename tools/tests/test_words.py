@@ -219,6 +219,9 @@ class CommandLine(unittest.TestCase):
     def test_lines_that_go_on(self):
         it = self.ran(str(ROOT / "examples/fold.mlir"), text='insert end #0 0 "a"() ({ // one\n}) : () -> ()\ndead\n')
         self.assertIn("\n.. }) : () -> ()\nok #12\n> dead\n", it.stdout)
+        it = self.ran(str(ROOT / "examples/fold.mlir"), text='insert end #0 0 "a"(\n\ndead\n')
+        self.assertTrue(it.stdout.startswith("> insert end #0 0 \"a\"(\n.. \nrefused 2 Unexpected"))
+        self.assertIn("\n> dead\n", it.stdout)
 
     def test_each_is_described(self):
         with contextlib.redirect_stdout(io.StringIO()) as out, self.assertRaises(SystemExit):

@@ -1,6 +1,7 @@
 use Rattle.std.proofs.Common.{refl}
 use Rattle.rewriter.specs.Commands as command
 use Rattle.rewriter.specs.Machine as call
+use Rattle.rewriter.specs.Benched.{state_of}
 use Rattle.mlir_work_script.specs.Clauses.{clauses_of, target_of}
 use Rattle.mlir_work_transforms.specs.Converting.{command_aim, conversion}
 use Rattle.mlir_work_transforms.proofs.Converted.{convert_full}
@@ -17,4 +18,7 @@ pub returns-clause-kept : goal.returns-clause-kept
 returns-clause-kept g c = c.led_benches_are_kept.ensures.kept _ _ c.convert.ensures.led c.requires
 
 pub returns-clause-room : goal.returns-clause-room
-returns-clause-room g c = replied _ _ _ _ _ c.reply_converted.ensures (convert_full (command_aim (target_of c.args.full (clauses_of c.args.clauses.now))) _ _ _ c.convert.result c.convert.ensures.converts)
+returns-clause-room g c =
+    let target = target_of c.args.full (clauses_of c.args.clauses.now) in
+    let before = state_of g.L.Analysis.meaning c.args.bench.now in
+    replied _ before (conversion target) _ _ c.reply_converted.ensures (convert_full (command_aim target) before _ _ c.convert.result c.convert.ensures.converts)
