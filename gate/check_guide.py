@@ -28,7 +28,7 @@ ROOT = program.ROOT
 PAGES = ["README.md", "docs/GUIDE.md", "docs/REFUSALS.md", "docs/FROM_MLIR_OPT.md", "examples/README.md"]
 COOKBOOK, TUTORIAL, MOST_TYPED = "docs/COOKBOOK.md", "docs/LISTENER_TUTORIAL.md", 10
 # What the tutorial copies and edits.
-EDITED = ["crates.txt", "crates/listeners_example", "crates/mlir_work/src"]
+EDITED = ["crates.txt", "crates/listeners_example", "crates/mlir_work/src", "examples"]
 BEGINS = ("./run", "./test", "rt ", "tools/", "mlir-opt ", "MLIR_WORK", "(cat ", "(head ", ".. | ", "tr ", "cat ")
 # Words in a sentence that are typed, and not only named.
 SAID = re.compile(r"MLIR_WORK\w*=\S+ .*|\./run .*|\./test.*|rt .*|tools/\w+\.(?:py|sh) .*|gate/check_\w+\.py|tr .*")
@@ -69,6 +69,7 @@ COMMANDS = {
     "tools/mlir_work.py compare BEFORE AFTER --function f":
         Typed("@price: the same on ", line="tools/mlir_work.py compare module.mlir module.mlir --function price"),
     "gate/check_examples.py": Typed(", 0 faults"),
+    "tools/page.py examples/fold.mlir examples/fold.script -o replay.html": Typed(""),
     "tools/page.py MODULE SCRIPT": Typed("<!doctype html>", line="tools/page.py module.mlir s && head -1 replay.html"),
     "mlir-opt --mlir-print-op-generic FILE.mlir > module.mlir": Typed("", wants="mlir-opt"),
     "mlir-opt --allow-unregistered-dialect --mlir-print-op-generic FILE.mlir > module.mlir":

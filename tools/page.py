@@ -17,6 +17,7 @@ import sys
 sys.dont_write_bytecode = True
 
 import explain  # noqa: E402
+import generic  # noqa: E402
 import pages  # noqa: E402
 import program  # noqa: E402
 import replay  # noqa: E402
@@ -153,9 +154,15 @@ def written(data):
 
 
 def made(names, most):
-    """The page of a module and a script, by their files; or the lines that say why the module is refused."""
+    """The page of a module and a script, by their files; or the lines that say why the module is refused, in generic
+    form too, where there is an mlir-opt that reads it."""
     module, script, _ = program.inputs(names)
     steps, refused = replay.read(module, script, most)
+    if refused:
+        other, said = generic.tried(names[0], module)
+        print(*said, sep="\n", end="\n" * bool(said), file=sys.stderr)
+        module = module if other is None else other
+        steps, refused = replay.read(module, script, most)
     if refused:
         found = program.REFUSED_MODULE.fullmatch(refused).groups()
         return None, explain.module_refused(names[0], module, *found)
