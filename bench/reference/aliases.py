@@ -78,6 +78,7 @@ class Expansion:
 class Pass:
     def __init__(self, text):
         self.text, self.values, self.names, self.out = text, {}, set(), Expansion()
+        self.spelled = 0
 
     # Spellings.
 
@@ -88,8 +89,6 @@ class Pass:
         if last == b"-":
             raise Refused(2, piece.start)
         value = self.values[piece.bytes]
-        if value is None:
-            raise Refused(11, piece.start)
         if any(kind == PLACE for _, kind in brackets) and LOC.match(value) and value.endswith(b")"):
             value = value[value.index(b"(") + 1:-1]
         before = self.text[piece.start - 1:piece.start]
@@ -110,8 +109,8 @@ class Pass:
             if equal is None:
                 return behind
             self.named(piece)
-            value, behind = self.value(equal)
-            self.values[piece.bytes] = value if len(value) <= MOST_BYTES else None
+            self.values[piece.bytes], behind = self.value(equal)
+            self.spelled += len(self.values[piece.bytes])
 
     def named(self, piece):
         if piece.bytes in self.names:
@@ -119,9 +118,9 @@ class Pass:
         self.names.add(piece.bytes)
 
     def value(self, at):
-        """The value of a definition, and the byte behind it."""
+        """The value of a definition, and the byte behind it. All of them together are no longer than a text."""
         begin = COMMENT.match(self.text, at).end()
-        out, at, end, brackets, last = b"", begin, begin, [], b""
+        parts, size, at, end, brackets, last = [], 0, begin, begin, [], b""
         while at < len(self.text):
             piece = Piece(self.text, at)
             if not brackets and (piece.bytes[:1] in (b'"', b"%") or behind_equal(self.text, piece) is not None):
@@ -131,18 +130,21 @@ class Pass:
                 continue
             if piece.fault:
                 raise piece.fault
-            out += self.text[end:piece.start]
             if piece.is_alias:
-                out += self.spelling(piece, last, brackets)
+                found = self.spelling(piece, last, brackets)
             else:
                 self.bracket(piece, brackets, last)
-                out += piece.bytes
+                found = piece.bytes
+            size += piece.start - end + len(found)
+            if self.spelled + size > MOST_BYTES:
+                raise Refused(11, piece.start)
+            parts += [self.text[end:piece.start], found]
             end, last = piece.end, piece.bytes
         if brackets:
             raise Refused(2, len(self.text))
-        if not out:
+        if not parts:
             raise Refused(2, begin)
-        return out, end
+        return b"".join(parts), end
 
     @staticmethod
     def bracket(piece, brackets, last):
