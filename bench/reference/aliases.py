@@ -15,6 +15,8 @@ from .rules import COMMENT, MOST_BYTES, Refused
 PIECE = re.compile(rb"[%^@](?:[0-9]+|[A-Za-z$._-][A-Za-z0-9$._-]*)|[A-Za-z_][A-Za-z0-9_$.]*|[0-9]+|->|.", re.S)
 # Behind one of these bytes a spelling can be no part of the token in front of it.
 APART = b" \t\r\n([{<,=:>"
+# Behind one of these an `x` parts dimensions.
+COUNTS = b"0123456789?]*"
 LOC = re.compile(rb"loc(?![A-Za-z0-9_$.])")
 # What a bracket holds: operations, operands or types or regions, arguments of a block, all else; a location.
 OPS, LIST, ARGS, OTHER, PLACE = range(5)
@@ -40,8 +42,6 @@ class Piece:
             self.end = COMMENT.match(text, start).end()
             if self.end == start:
                 self.end = PIECE.match(text, start).end()
-                if byte == b"%" and text[self.end:self.end + 1] == b"#":
-                    self.end = name_end(text, self.end + 1)
         self.bytes = text[start:self.end]
 
     def is_blank(self):
@@ -91,9 +91,9 @@ class Pass:
         value = self.values[piece.bytes]
         if any(kind == PLACE for _, kind in brackets) and LOC.match(value) and value.endswith(b")"):
             value = value[value.index(b"(") + 1:-1]
-        before = self.text[piece.start - 1:piece.start]
-        is_dimension = before == b"x" and bool(brackets) and brackets[-1][0] == b">"
-        return value if before in APART or is_dimension else b" " + value
+        before = self.text[max(piece.start - 2, 0):piece.start]
+        is_dimension = before[-1:] == b"x" and before[:1] in COUNTS
+        return value if before[-1:] in APART or is_dimension else b" " + value
 
     # Definitions.
 
@@ -175,7 +175,7 @@ class Pass:
                 continue
             if piece.is_alias and self.values:
                 found = self.spelling(piece, last, brackets)
-                if self.out.size + len(found) > MOST_BYTES:
+                if self.out.size + len(found) >= MOST_BYTES:
                     raise Refused(11, piece.start)
                 self.out.add(found, piece.start, True)
             else:

@@ -49,7 +49,7 @@ fn is_undivided(name: &[u8]) -> bool
 }
 
 /// What follows the name behind the sign with which all begins.
-fn behind_name<'a>(byte: u8, all: &'a [u8], tail: &'a [u8]) -> &'a [u8]
+pub fn behind_name<'a>(byte: u8, all: &'a [u8], tail: &'a [u8]) -> &'a [u8]
     requires all { all.now ≡ byte ∷ tail.now }
     requires sign { is_sign byte ≡ true }
     ensures { result.now ≡ drop (suffix_len tail.now) tail.now }
@@ -57,6 +57,32 @@ fn behind_name<'a>(byte: u8, all: &'a [u8], tail: &'a [u8]) -> &'a [u8]
     match token(all) {
         Ok((_, rest)) => rest,
         Err(_) => tail,
+    }
+}
+
+/// What follows a name behind its sign, where it is an alias.
+fn alias_name<'a>(byte: u8, all: &'a [u8], tail: &'a [u8]) -> Option<&'a [u8]>
+    requires all { all.now ≡ byte ∷ tail.now }
+    requires sign { is_sign byte ≡ true }
+    ensures { option_map (λ r. r.now) result ≡ (if is_alias byte tail.now then Some (drop (suffix_len tail.now) tail.now) else None) }
+{
+    let rest = behind_name(byte, all, tail);
+    if names_alias(&tail[..tail.len() - rest.len()], rest) {
+        Some(rest)
+    } else {
+        None
+    }
+}
+
+/// What follows the alias that begins with the byte, with which all begins, where one does.
+pub fn behind_alias<'a>(byte: u8, all: &'a [u8], tail: &'a [u8]) -> Option<&'a [u8]>
+    requires all { all.now ≡ byte ∷ tail.now }
+    ensures { option_map (λ r. r.now) result ≡ (if is_alias byte tail.now then Some (drop (suffix_len tail.now) tail.now) else None) }
+{
+    if byte == b'#' || byte == b'!' {
+        alias_name(byte, all, tail)
+    } else {
+        None
     }
 }
 
