@@ -15,6 +15,8 @@ from .rules import COMMENT, MOST_BYTES, Refused
 PIECE = re.compile(rb"[%^@](?:[0-9]+|[A-Za-z$._-][A-Za-z0-9$._-]*)|[A-Za-z_][A-Za-z0-9_$.]*|[0-9]+|->|.", re.S)
 # Behind one of these bytes a spelling can be no part of the token in front of it.
 APART = b" \t\r\n([{<,=:>"
+# Behind one of these an `x` parts dimensions.
+COUNTS = b"0123456789?]*"
 LOC = re.compile(rb"loc(?![A-Za-z0-9_$.])")
 # What a bracket holds: operations, operands or types or regions, arguments of a block, all else; a location.
 OPS, LIST, ARGS, OTHER, PLACE = range(5)
@@ -40,8 +42,6 @@ class Piece:
             self.end = COMMENT.match(text, start).end()
             if self.end == start:
                 self.end = PIECE.match(text, start).end()
-                if byte == b"%" and text[self.end:self.end + 1] == b"#":
-                    self.end = name_end(text, self.end + 1)
         self.bytes = text[start:self.end]
 
     def is_blank(self):
@@ -78,6 +78,7 @@ class Expansion:
 class Pass:
     def __init__(self, text):
         self.text, self.values, self.names, self.out = text, {}, set(), Expansion()
+        self.spelled = 0
 
     # Spellings.
 
@@ -88,13 +89,11 @@ class Pass:
         if last == b"-":
             raise Refused(2, piece.start)
         value = self.values[piece.bytes]
-        if value is None:
-            raise Refused(11, piece.start)
         if any(kind == PLACE for _, kind in brackets) and LOC.match(value) and value.endswith(b")"):
             value = value[value.index(b"(") + 1:-1]
-        before = self.text[piece.start - 1:piece.start]
-        is_dimension = before == b"x" and bool(brackets) and brackets[-1][0] == b">"
-        return value if before in APART or is_dimension else b" " + value
+        before = self.text[max(piece.start - 2, 0):piece.start]
+        is_dimension = before[-1:] == b"x" and before[:1] in COUNTS
+        return value if before[-1:] in APART or is_dimension else b" " + value
 
     # Definitions.
 
@@ -110,8 +109,8 @@ class Pass:
             if equal is None:
                 return behind
             self.named(piece)
-            value, behind = self.value(equal)
-            self.values[piece.bytes] = value if len(value) <= MOST_BYTES else None
+            self.values[piece.bytes], behind = self.value(equal)
+            self.spelled += len(self.values[piece.bytes])
 
     def named(self, piece):
         if piece.bytes in self.names:
@@ -119,9 +118,9 @@ class Pass:
         self.names.add(piece.bytes)
 
     def value(self, at):
-        """The value of a definition, and the byte behind it."""
+        """The value of a definition, and the byte behind it. All of them together are no longer than a text."""
         begin = COMMENT.match(self.text, at).end()
-        out, at, end, brackets, last = b"", begin, begin, [], b""
+        parts, size, at, end, brackets, last = [], 0, begin, begin, [], b""
         while at < len(self.text):
             piece = Piece(self.text, at)
             if not brackets and (piece.bytes[:1] in (b'"', b"%") or behind_equal(self.text, piece) is not None):
@@ -131,18 +130,21 @@ class Pass:
                 continue
             if piece.fault:
                 raise piece.fault
-            out += self.text[end:piece.start]
             if piece.is_alias:
-                out += self.spelling(piece, last, brackets)
+                found = self.spelling(piece, last, brackets)
             else:
                 self.bracket(piece, brackets, last)
-                out += piece.bytes
+                found = piece.bytes
+            size += piece.start - end + len(found)
+            if self.spelled + size > MOST_BYTES:
+                raise Refused(11, piece.start)
+            parts += [self.text[end:piece.start], found]
             end, last = piece.end, piece.bytes
         if brackets:
             raise Refused(2, len(self.text))
-        if not out:
+        if not parts:
             raise Refused(2, begin)
-        return out, end
+        return b"".join(parts), end
 
     @staticmethod
     def bracket(piece, brackets, last):
@@ -173,7 +175,7 @@ class Pass:
                 continue
             if piece.is_alias and self.values:
                 found = self.spelling(piece, last, brackets)
-                if self.out.size + len(found) > MOST_BYTES:
+                if self.out.size + len(found) >= MOST_BYTES:
                     raise Refused(11, piece.start)
                 self.out.add(found, piece.start, True)
             else:

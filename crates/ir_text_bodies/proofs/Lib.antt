@@ -3,3 +3,4 @@ pub mod Kept
 pub mod Again
 pub mod Parts
 pub mod Walk
+pub mod Ahead

@@ -13,10 +13,10 @@ use Rattle.ir_text_bodies.proofs.Kept.{part_within}
 refused : (f : Fault) (x : TextRefusal) (bytes : List ℕ) → f.refusal ≡ x → f.left ≡ length bytes → refused_at x bytes ≡ Err f
 refused f x bytes e h = λ i. Err (record { refusal = sym e i; left = sym h i })
 
-pushed : (items : List ℕ) (o : ℕ) → reverse (items ++ o ∷ []) ≡ o ∷ reverse items
+pub pushed : (items : List ℕ) (o : ℕ) → reverse (items ++ o ∷ []) ≡ o ∷ reverse items
 pushed items o = reverse-append items (o ∷ [])
 
-counted : (items new : List ℕ) (o : ℕ) → new ≡ items ++ o ∷ [] → length (o ∷ reverse items) ≡ length new
+pub counted : (items new : List ℕ) (o : ℕ) → new ≡ items ++ o ∷ [] → length (o ∷ reverse items) ≡ length new
 counted items new o p = omega (arith, ap length p, length-append items (o ∷ []), length-reverse items)
 
 pub closed : (items : List ℕ) (o c : ℕ) (all tail : List ℕ) → all ≡ c ∷ tail → c ≡ o → scan (o ∷ reverse items) 0 all ≡ scan (reverse items) 0 tail

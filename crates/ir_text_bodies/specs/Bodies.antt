@@ -7,7 +7,7 @@ use Rattle.ir_text_tokens.specs.declared.refusal.TextRefusal.TheVariants.{BadTok
 use Rattle.ir_text_tokens.specs.declared.fault.Fault.{Fault}
 use Rattle.ir_text_tokens.specs.Bytes.{is_blank}
 use Rattle.ir_text_tokens.specs.Strings.{closing}
-use Rattle.ir_text_tokens.specs.Tokens.{suffix_len}
+use Rattle.ir_text_tokens.specs.Tokens.{skip, suffix_len}
 
 -- the most brackets that stand within one another
 abbrev pub most_open : ℕ
@@ -113,6 +113,10 @@ opened (Some closer) open' = closer ∷ open'
 abbrev pub is_opener : ℕ → Bool
 is_opener c = is_closed (closer_of c)
 
+abbrev pub is_fine : Option TextRefusal → Bool
+is_fine None = true
+is_fine (Some refusal) = false
+
 -- what follows a body, or why it is refused and how many bytes are left there: the brackets to come
 -- are given, the nearest first, and how many of the bytes belong to what was read before them
 unfoldable pub scan : (coming : List ℕ) → (passed : ℕ) → List ℕ → Result (List ℕ) Fault
@@ -132,6 +136,34 @@ behind_first (Some closer) all tail = scan (closer ∷ []) 0 tail
 abbrev pub scanned : List ℕ → Result (List ℕ) Fault
 scanned [] = refused_at Unexpected []
 scanned (c ∷ cs) = behind_first (closer_of c) (c ∷ cs) cs
+
+-- ---- a memref's body
+
+abbrev pub is_none : List ℕ → Bool
+is_none [] = true
+is_none (o ∷ os) = false
+
+-- whether a comma stands in no bracket but the first, in front of what the body is refused for
+unfoldable pub comma_ahead : (coming : List ℕ) → (passed : ℕ) → List ℕ → Bool
+comma_ahead [] n bytes = false
+comma_ahead (o ∷ os) n [] = false
+comma_ahead (o ∷ os) (suc n) (c ∷ cs) = comma_ahead (o ∷ os) n cs
+comma_ahead (o ∷ os) zero (c ∷ cs) =
+    if c == 44 && is_none os then true
+    else if c == o then comma_ahead os 0 cs
+    else if is_opener c then not (length (o ∷ os) == most_open) && comma_ahead (opened (closer_of c) (o ∷ os)) 0 cs
+    else is_fine (fault_of c cs) && comma_ahead (o ∷ os) (part_len c cs) cs
+
+-- a body whose first byte behind its bracket is `*`, or that has such a comma, is no known memref's
+abbrev pub is_plain_body : List ℕ → Bool
+is_plain_body [] = true
+is_plain_body (c ∷ cs) = not (c == 60) || not (begins 42 (skip cs) || comma_ahead (62 ∷ []) 0 cs)
+
+-- what stands behind the word `memref` is read as a known one's dimensions and element
+abbrev pub is_plain_memref : List ℕ → Bool
+is_plain_memref bytes = is_plain_body (skip bytes)
+
+-- ---- bodies
 
 -- what stands in front of the rest, with the rest
 abbrev pub parted : List ℕ → Result (List ℕ) Fault → Option (List ℕ × List ℕ)

@@ -3,11 +3,12 @@ ghost use Rattle.std.specs.Prelude.{◌≡◌, ◌==◌, ◌<◌, ◌≤◌, ◌
 ghost use Rattle.std.specs.Result.{result_map_both, result_ok, result_err};
 ghost use Rattle.arrayvec.specs.ArrayVec.{array_vec_len};
 ghost use Rattle.ir_text_tokens.specs.Tokens.{suffix_len};
-ghost use Rattle.ir_text_bodies.specs.Bodies.{are_slashes, begins, body_at, closer_of, closes_nearest, fault_of, has_dot, is_alias, is_arrow, is_plain, is_printable, is_sign, is_undivided, part_len, scan, scanned};
+ghost use Rattle.ir_text_bodies.specs.Bodies.{begins, body_at, closer_of, comma_ahead, fault_of, has_dot, is_alias, is_none, is_plain_memref, is_sign, is_undivided, part_len, scan, scanned};
+ghost use Rattle.ir_text_bodies.specs.Commas.{IsNoComma};
 
 use arrayvec::ArrayVec;
 use ir_text_tokens::fault::Fault;
-use ir_text_tokens::lexer::token;
+use ir_text_tokens::lexer::{skip, token};
 use ir_text_tokens::refusal::TextRefusal;
 
 /// The bracket that closes one.
@@ -48,7 +49,7 @@ fn is_undivided(name: &[u8]) -> bool
 }
 
 /// What follows the name behind the sign with which all begins.
-fn behind_name<'a>(byte: u8, all: &'a [u8], tail: &'a [u8]) -> &'a [u8]
+pub fn behind_name<'a>(byte: u8, all: &'a [u8], tail: &'a [u8]) -> &'a [u8]
     requires all { all.now ≡ byte ∷ tail.now }
     requires sign { is_sign byte ≡ true }
     ensures { result.now ≡ drop (suffix_len tail.now) tail.now }
@@ -56,6 +57,32 @@ fn behind_name<'a>(byte: u8, all: &'a [u8], tail: &'a [u8]) -> &'a [u8]
     match token(all) {
         Ok((_, rest)) => rest,
         Err(_) => tail,
+    }
+}
+
+/// What follows a name behind its sign, where it is an alias.
+fn alias_name<'a>(byte: u8, all: &'a [u8], tail: &'a [u8]) -> Option<&'a [u8]>
+    requires all { all.now ≡ byte ∷ tail.now }
+    requires sign { is_sign byte ≡ true }
+    ensures { option_map (λ r. r.now) result ≡ (if is_alias byte tail.now then Some (drop (suffix_len tail.now) tail.now) else None) }
+{
+    let rest = behind_name(byte, all, tail);
+    if names_alias(&tail[..tail.len() - rest.len()], rest) {
+        Some(rest)
+    } else {
+        None
+    }
+}
+
+/// What follows the alias that begins with the byte, with which all begins, where one does.
+pub fn behind_alias<'a>(byte: u8, all: &'a [u8], tail: &'a [u8]) -> Option<&'a [u8]>
+    requires all { all.now ≡ byte ∷ tail.now }
+    ensures { option_map (λ r. r.now) result ≡ (if is_alias byte tail.now then Some (drop (suffix_len tail.now) tail.now) else None) }
+{
+    if byte == b'#' || byte == b'!' {
+        alias_name(byte, all, tail)
+    } else {
+        None
     }
 }
 
@@ -157,9 +184,11 @@ fn inner<'a>(
     requires other { (byte == nearest) ≡ false }
     requires room { array_vec_len coming.old < 32 }
     ensures ok { IfOk result (λ r. scan (nearest ∷ reverse coming.old.items) 0 all.now ≡ scan (reverse coming.new.items) 0 r.now) }
+    ensures ahead { IfOk result (λ r. IsNoComma byte (reverse coming.old.items) → comma_ahead (nearest ∷ reverse coming.old.items) 0 all.now ≡ comma_ahead (reverse coming.new.items) 0 r.now) }
     ensures shorter { IfOk result (λ r. length r.now ≤ length tail.now) }
     ensures room { array_vec_len coming.new ≤ 32 }
     ensures err { IfErr result (λ f. scan (nearest ∷ reverse coming.old.items) 0 all.now ≡ Err f) }
+    ensures stuck { IfErr result (λ f. IsNoComma byte (reverse coming.old.items) → comma_ahead (nearest ∷ reverse coming.old.items) 0 all.now ≡ false) }
 {
     coming.push(nearest);
     let Some(closer) = closer_of(byte) else {
@@ -187,9 +216,11 @@ fn step<'a>(
     requires all { all.now ≡ byte ∷ tail.now }
     requires room { array_vec_len coming.old < 32 }
     ensures ok { IfOk result (λ r. scan (nearest ∷ reverse coming.old.items) 0 all.now ≡ scan (reverse coming.new.items) 0 r.now) }
+    ensures ahead { IfOk result (λ r. IsNoComma byte (reverse coming.old.items) → comma_ahead (nearest ∷ reverse coming.old.items) 0 all.now ≡ comma_ahead (reverse coming.new.items) 0 r.now) }
     ensures shorter { IfOk result (λ r. length r.now ≤ length tail.now) }
     ensures room { array_vec_len coming.new ≤ 32 }
     ensures err { IfErr result (λ f. scan (nearest ∷ reverse coming.old.items) 0 all.now ≡ Err f) }
+    ensures stuck { IfErr result (λ f. IsNoComma byte (reverse coming.old.items) → comma_ahead (nearest ∷ reverse coming.old.items) 0 all.now ≡ false) }
 {
     if byte == nearest {
         return Ok(tail);
@@ -215,6 +246,50 @@ fn inside<'a>(bytes: &'a [u8], close: u8) -> Result<&'a [u8], Fault>
             Ok(behind) => rest = behind,
             Err(fault) => return Err(fault),
         }
+    }
+}
+
+/// Whether the byte is a comma, and no bracket is to come.
+#[tactic(auto, using(crate::proofs::Ahead::none_left))]
+fn is_comma(byte: u8, coming: &ArrayVec<u8, 32>) -> bool
+    ensures { result ≡ (byte == 44 && is_none (reverse coming.now.items)) }
+{
+    byte == b',' && coming.is_empty()
+}
+
+/// Whether a comma stands in no bracket but the one that opens the body, of which these are the bytes
+/// behind it.
+fn has_comma(bytes: &[u8]) -> bool
+    ensures { result ≡ comma_ahead (62 ∷ []) 0 bytes.now }
+{
+    let mut coming: ArrayVec<u8, 32> = ArrayVec::new();
+    coming.push(b'>');
+    let mut rest = bytes;
+    'bytes: loop {
+        let Some(nearest) = coming.pop() else {
+            return false;
+        };
+        let [byte, tail @ ..] = rest else {
+            return false;
+        };
+        if is_comma(*byte, &coming) {
+            return true;
+        }
+        match step(&mut coming, nearest, *byte, rest, tail) {
+            Ok(behind) => rest = behind,
+            Err(_) => return false,
+        }
+    }
+}
+
+/// Whether what stands behind the word `memref` is read as the dimensions and the element of one: not
+/// where its body begins with `*`, or has a comma that stands in no further bracket.
+pub fn is_plain_memref(bytes: &[u8]) -> bool
+    ensures { result ≡ is_plain_memref bytes.now }
+{
+    match skip(bytes) {
+        [b'<', tail @ ..] => !matches!(skip(tail), [b'*', ..]) && !has_comma(tail),
+        _ => true,
     }
 }
 

@@ -1,0 +1,77 @@
+-- What a piece is, and how long.
+use Rattle.std.proofs.Common.{◌≡◌, ℕ, zero, suc, ◌+◌, ◌-◌, ◌≤◌, Bool, true, false, cond, List, [], ◌∷◌, length, take, drop, Option, Some, None, refl, sym, ap, ◌∙◌, arith}
+use Rattle.std.specs.Prelude.{◌==◌, ◌&&◌, not, option_map}
+use Rattle.std.proofs.lemmas.List.{length-drop}
+use Rattle.std.proofs.lemmas.List.Sums.{prefix_len-le-length}
+use Rattle.std.proofs.lemmas.Option.{some_pair_parts}
+use Rattle.std.proofs.Math.Seq.{drop-length}
+use Rattle.ir_text_tokens.specs.Strings.{closing}
+use Rattle.ir_text_tokens.specs.Tokens.{Lexeme, string, next, skip, string_at, suffix_len}
+use Rattle.ir_text_bodies.specs.Bodies.{are_slashes, is_arrow, is_sign}
+use Rattle.ir_text_bodies.specs.Bodies as bodies
+use Rattle.ir_text_bodies.proofs.Kept.{string_within, name_within}
+use Rattle.ir_text_aliases.specs.Pieces.{line_len, piece_len, string_len}
+
+-- ---- strings
+
+string_token : (cs : List ℕ) → next (34 ∷ cs) ≡ string_at string cs
+unfolding next skip
+string_token [] = refl
+string_token (d ∷ ds) = refl
+
+pub behind_string : (cs rest : List ℕ) (t : Lexeme) → next (34 ∷ cs) ≡ Some (t, rest) → rest ≡ drop (piece_len 34 cs) cs
+behind_string cs rest t e = from (closing cs) (sym (string_token cs) ∙ e)
+  where
+    from : (o : Option ℕ) → option_map {U = Lexeme × List ℕ} (λ (x : List ℕ × List ℕ). (string x.0, x.1)) (option_map {U = List ℕ × List ℕ} (λ n. (take n cs, drop (n + 1) cs)) o) ≡ Some (t, rest)
+        → rest ≡ drop (string_len o cs) cs
+    from None e = absurd cc
+    from (Some n) e =
+        let k : n + 1 ≡ suc n = omega arith in
+        sym (some_pair_parts (string (take n cs)) t (drop (n + 1) cs) rest e).1 ∙ ap (λ m. drop m cs) k
+
+pub open_string : (cs rest : List ℕ) → next (34 ∷ cs) ≡ None → rest ≡ drop (length cs) cs → rest ≡ drop (piece_len 34 cs) cs
+open_string cs rest e r = from (closing cs) (sym (string_token cs) ∙ e)
+  where
+    from : (o : Option ℕ) → option_map {U = Lexeme × List ℕ} (λ (x : List ℕ × List ℕ). (string x.0, x.1)) (option_map {U = List ℕ × List ℕ} (λ n. (take n cs, drop (n + 1) cs)) o) ≡ None → rest ≡ drop (string_len o cs) cs
+    from None e = r
+    from (Some n) e = absurd cc
+
+nothing : (n : ℕ) → take {A = ℕ} n [] ≡ []
+nothing zero = refl
+nothing (suc n) = refl
+
+pub at_the_end : (cs : List ℕ) → take (length cs - length cs) (drop (length cs) cs) ≡ drop (length cs) cs
+at_the_end cs = rw (drop-length cs) (nothing (length cs - length cs))
+
+-- ---- lengths
+
+quoted_within : (cs : List ℕ) → string_len (closing cs) cs ≤ length cs
+quoted_within cs = from (closing cs) (string_within cs)
+  where
+    from : (o : Option ℕ) → bodies.string_len o ≤ length cs → string_len o cs ≤ length cs
+    from None h = omega arith
+    from (Some n) h = h
+
+arrow_within : (c : ℕ) (cs : List ℕ) → is_arrow c cs ≡ true → 1 ≤ length cs
+arrow_within c [] e = from (c == 45) e
+  where
+    from : (t : Bool) → (t && false) ≡ true → 1 ≤ 0
+    from true e = absurd cc
+    from false e = absurd cc
+arrow_within c (d ∷ ds) e = omega arith
+
+pub piece_within : (c : ℕ) (cs : List ℕ) → piece_len c cs ≤ length cs
+piece_within c cs = from (c == 34) (are_slashes c cs) (is_sign c) (is_arrow c cs) refl
+  where
+    from : (t s u v : Bool) → is_arrow c cs ≡ v → cond t (string_len (closing cs) cs) (cond s (line_len cs) (cond u (suffix_len cs) (cond v 1 0))) ≤ length cs
+    from true s u v e = quoted_within cs
+    from false true u v e = prefix_len-le-length (λ b. not (b == 10)) cs
+    from false false true v e = name_within cs
+    from false false false true e = arrow_within c cs e
+    from false false false false e = omega arith
+
+-- the front that was passed over
+pub front_is : (c n : ℕ) (all tail rest : List ℕ) → all ≡ c ∷ tail → n ≤ length tail → rest ≡ drop n tail → take (length all - length rest) all ≡ c ∷ take n tail
+front_is c n all tail rest a le r =
+    let k : length all - length rest ≡ suc n = omega (arith, ap length a, ap length r, length-drop n tail) in
+    rw (k, a) refl

@@ -1,0 +1,4 @@
+pub mod Pieces
+pub mod Uses
+pub mod Spelled
+pub mod Steps
