@@ -1,0 +1,5 @@
+pub mod Syntax
+pub mod Heads
+pub mod Grammar
+pub mod Reading
+pub mod Laws
