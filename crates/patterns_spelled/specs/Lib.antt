@@ -3,3 +3,4 @@ pub mod Heads
 pub mod Grammar
 pub mod Reading
 pub mod Laws
+pub mod Samples
