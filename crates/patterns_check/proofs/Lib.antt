@@ -1,4 +1,5 @@
 pub mod Judged
+pub mod Keeping
 pub mod Logs
 pub mod Products
 pub mod Verdicts

@@ -3,4 +3,5 @@ pub mod Contents
 pub mod Checks
 pub mod Families
 pub mod Folded
+pub mod Kept
 pub use Rattle.exhaustive.specs.Cases

@@ -4,8 +4,7 @@
 use Rattle.std.specs.Prelude.{ℕ, ◌^◌, ◌==◌, List, [], ◌∷◌, ◌++◌, Bool, true, false, ◌&&◌, not, if◌then◌else◌, Option, Some, None, slice_get}
 use Rattle.ir_types.specs.declared.bits.BitsKind.{BitsKind}
 use Rattle.ir_types.specs.declared.bits.BitsKind.TheVariants as kind
-use Rattle.ir_types.specs.declared.bits.Bits.{Bits}
-use Rattle.ir_types.specs.Bits.{width_of}
+use Rattle.ir_types.specs.Bits.{bits_of, width_of}
 use Rattle.ir_types.specs.Reasons.{is_width}
 use Rattle.dialects_int.specs.declared.operations.Arithmetic.{Arithmetic}
 use Rattle.dialects_int.specs.declared.operations.Arithmetic.TheVariants as op
@@ -106,12 +105,13 @@ abbrev pub required : Outcome → Option Outcome
 required None = None
 required (Some c) = if c.1 == 0 then None else Some (Some c)
 
-abbrev pub known_bits : Bits → Known
-known_bits b = (b.kind, b.value)
+-- a number, where its kind has it
+abbrev pub constant_outcome : BitsKind → ℕ → Option Outcome
+constant_outcome k v = given (bits_of k v) (λ b. Some (Some b))
 
 -- what a step gives, by what stands before it
 abbrev pub step_of : Step → List Outcome → Option Outcome
-step_of (step.Constant bits) env = Some (Some (known_bits bits))
+step_of (step.Constant k v) env = constant_outcome k v
 step_of (step.Pair o i j) env = given (slice_get env i) (λ x. given (slice_get env j) (λ y. pair_outcome o x y))
 step_of (step.Compare p i j) env = given (slice_get env i) (λ x. given (slice_get env j) (λ y. compare_outcome p x y))
 step_of (step.Select c i j) env = given (slice_get env c) (λ b. given (slice_get env i) (λ x. given (slice_get env j) (λ y. select_outcome b x y)))

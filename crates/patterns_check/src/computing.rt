@@ -5,7 +5,7 @@ ghost use Rattle.ir_types.specs.Bits.{width_of};
 ghost use Rattle.ir_types.specs.Reasons.{is_width};
 ghost use Rattle.dialects_int.specs.Folds.{known_of};
 ghost use Rattle.dialects_int.specs.Folds as folds;
-ghost use Rattle.patterns_check.specs.Outcomes.{divides, is_signed_remainder, no_value, without_value, known_pair, pair_outcome, compare_outcome, select_outcome, resize_outcome, log_outcome, log_of, required, step_of};
+ghost use Rattle.patterns_check.specs.Outcomes.{constant_outcome, divides, is_signed_remainder, no_value, without_value, known_pair, pair_outcome, compare_outcome, select_outcome, resize_outcome, log_outcome, log_of, required, step_of};
 
 use crate::step::Step;
 use dialects_int::arithmetic::{compare, compute, resize};
@@ -224,6 +224,16 @@ fn requirement(x: &Option<Bits>) -> Option<Option<Bits>>
     Some(Some(*x))
 }
 
+/// A number, where its kind has it.
+fn constant(kind: BitsKind, value: u128) -> Option<Option<Bits>>
+    ensures { option_map known_of result ≡ constant_outcome kind value }
+{
+    match Bits::new(kind, value) {
+        Some(bits) => Some(Some(bits)),
+        None => None,
+    }
+}
+
 /// What stands at a place.
 pub(crate) fn at(env: &[Option<Bits>], place: usize) -> Option<Option<Bits>>
     ensures { option_map known_of result ≡ slice_get (map known_of env.now) place }
@@ -240,7 +250,7 @@ pub fn step(step: &Step, env: &[Option<Bits>]) -> Option<Option<Bits>>
     ensures { option_map known_of result ≡ step_of step.now (map known_of env.now) }
 {
     match step {
-        Step::Constant(bits) => Some(Some(*bits)),
+        Step::Constant(kind, value) => constant(*kind, *value),
         Step::Pair(operation, i, j) => {
             let x = at(env, *i)?;
             let y = at(env, *j)?;

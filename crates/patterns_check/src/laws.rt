@@ -1,5 +1,6 @@
 //! Laws of outcomes.
 ghost use Rattle.patterns_check.specs.Folded.{CastsGive, ChoicesGive, ComparisonsGive, FoldsGive, IndexCastsGive};
+ghost use Rattle.patterns_check.specs.Kept.{StaysDefined, StaysTheValue};
 
 use dialects_int::fold_laws::folds_of_known_operands;
 
@@ -13,3 +14,10 @@ pub fn folds_give_outcomes()
 {
     folds_of_known_operands();
 }
+
+/// What a pattern that keeps what is there gives: it is defined where the old steps are, and gives the old value where
+/// there is one.
+pub fn what_is_kept()
+    ensures defined { StaysDefined }
+    ensures value { StaysTheValue }
+{}

@@ -1,12 +1,12 @@
 //! The steps of which patterns are made.
 use dialects_int::operations::{Arithmetic, Cast, Predicate};
-use ir_types::bits::{Bits, BitsKind};
+use ir_types::bits::BitsKind;
 
 /// A step, which computes one value more of those that stand before it, by their places.
 #[derive(Clone, Copy)]
 pub enum Step {
-    /// A number.
-    Constant(Bits),
+    /// A number of a kind.
+    Constant(BitsKind, u128),
     /// `arith.addi` and its like.
     Pair(Arithmetic, usize, usize),
     /// `arith.cmpi`.

@@ -1,0 +1,6 @@
+pub mod Syntax
+pub mod Heads
+pub mod Grammar
+pub mod Reading
+pub mod Laws
+pub mod Samples

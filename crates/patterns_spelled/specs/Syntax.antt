@@ -1,0 +1,54 @@
+-- What a pattern's text spells, before its names are looked up and its types are told.
+use Rattle.std.specs.Prelude.{ℕ, Bool, true, false, List, [], ◌∷◌, Option}
+
+-- a type: `iN`, `index`, or a variable's name
+pub data Written : Type 0 where
+  integer_type : ℕ → Written
+  index_type : Written
+  variable_type : List ℕ → Written
+
+mutual
+  -- a number: a literal, with a minus or none, a name, or a function of numbers
+  pub data Number : Type 0 where
+    literal : Bool → ℕ → Number
+    named : List ℕ → Number
+    called : List ℕ → Numbers → Number
+
+  pub data Numbers : Type 0 where
+    no_numbers : Numbers
+    next_number : Number → Numbers → Numbers
+
+mutual
+  -- a term: an operation by its name, with what it asks, its operands and its type; a value; or a constant
+  pub data Term : Type 0 where
+    operation : List ℕ → Option (List ℕ) → Terms → Option Written → Term
+    value_of : List ℕ → Option Written → Term
+    constant_of : Number → Option Written → Term
+
+  pub data Terms : Type 0 where
+    no_terms : Terms
+    next_term : Term → Terms → Terms
+
+abbrev pub numbers_of : List Number → Numbers
+numbers_of [] = no_numbers
+numbers_of (n ∷ ns) = next_number n (numbers_of ns)
+
+abbrev pub terms_of : List Term → Terms
+terms_of [] = no_terms
+terms_of (t ∷ ts) = next_term t (terms_of ts)
+
+-- a condition: types of which the first is narrower, or numbers of which something is asked
+pub data Condition : Type 0 where
+  narrower : List Written → Condition
+  asking : List ℕ → List Number → Condition
+
+pub record Pattern : Type 0 where
+  pub name : List ℕ
+  pub old : Term
+  pub new : Term
+  pub conditions : List Condition
+
+abbrev pub is_operation : Term → Bool
+is_operation (operation name asks operands ty) = true
+is_operation (value_of name ty) = false
+is_operation (constant_of number ty) = false
