@@ -16,3 +16,4 @@ pub mod OpRoom
 pub mod WholeRoom
 pub mod Sources
 pub mod Errors
+pub mod Digits

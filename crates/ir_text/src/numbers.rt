@@ -1,5 +1,5 @@
 //! Numbers.
-ghost use Rattle.std.specs.Prelude.{◌≡◌, ◌++◌, ℤ, pos, int_lt, unsigned_abs, OnOk};
+ghost use Rattle.std.specs.Prelude.{◌≡◌, ◌++◌, ◌<◌, ℤ, pos, int_lt, unsigned_abs, OnOk};
 ghost use Rattle.std.specs.Fmt.{decimal, signed_decimal};
 
 use ir_text_tokens::print;
@@ -7,10 +7,28 @@ use ir_types::readings::Reading;
 use itoa::Buffer;
 use std::alloc::AllocError;
 
+/// Appends a number below 100, as most widths are: its digits, and no buffer.
+#[tactic(auto, using(crate::proofs::Digits::one_digit, crate::proofs::Digits::put_two))]
+fn put_small(out: &mut Vec<u8>, number: u8) -> Result<(), AllocError>
+    requires { number < 100 }
+    ensures { OnOk result (out.new.items ≡ out.old.items ++ decimal number) }
+{
+    if number < 10 {
+        out.push(b'0' + number)?;
+        return Ok(());
+    }
+    out.push(b'0' + number / 10)?;
+    out.push(b'0' + number % 10)?;
+    Ok(())
+}
+
 /// Appends an unsigned number.
 pub(crate) fn put_number(out: &mut Vec<u8>, number: u64) -> Result<(), AllocError>
     ensures { OnOk result (out.new.items ≡ out.old.items ++ decimal number) }
 {
+    if number < 100 {
+        return put_small(out, number as u8);
+    }
     let mut buffer = Buffer::new();
     out.extend_from_slice(buffer.format(number).as_bytes())
 }

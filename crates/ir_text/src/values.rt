@@ -29,6 +29,7 @@ fn source_of(value: Value) -> Source
 }
 
 /// The name and the type of a value, where it has them.
+#[inline(always)]
 #[tactic(auto, using(crate::proofs::Entries::naming_found))]
 fn naming_of(named: &IndexMap<Source, NamedValue>, value: Value) -> Option<NamedValue>
     ensures { (c : Things) → option_map (naming_in c) result ≡ naming_of (named_in c named.now.entries) value }

@@ -15,6 +15,7 @@ pub enum Behind<'a> {
 }
 
 /// What stands behind an item of a list with this closing mark. `Unexpected` where it is neither.
+#[inline(always)]
 pub fn behind_item(bytes: &[u8], close: Mark) -> Result<Behind<'_>, ReadError>
     ensures { IsBehind close bytes.now result }
 {

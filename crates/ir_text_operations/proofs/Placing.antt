@@ -1,8 +1,11 @@
 -- Entries put among sorted ones, as places in a list.
 use Rattle.std.specs.Prelude.{not}
 use Rattle.std.specs.List.{prefix_len}
-use Rattle.std.proofs.Common.{◌≡◌, refl, ap, subst, suc, ◌+◌, arith, Bool, true, false, List, [], ◌∷◌, ◌++◌, take, drop}
+use Rattle.std.proofs.Common.{◌≡◌, ◌≤◌, ℕ, refl, ap, subst, suc, ◌+◌, arith, Bool, true, false, List, [], ◌∷◌, ◌++◌, length, take, drop}
+use Rattle.ir_types.specs.Things.{Things}
 use Rattle.ir_text_attributes.specs.Keyed.{put_among, put_all}
+use Rattle.ir_text_attributes.specs.AttrReading.{Entries}
+use Rattle.ir_text_operations.specs.Openings.{AreDictionaries}
 
 module _ {K A : Type 0} (before : K → K → Bool) where
   -- an entry stands behind those before which its key does not come
@@ -22,3 +25,10 @@ module _ {K A : Type 0} (before : K → K → Bool) where
   pub put_both : (done front back : List (K × A)) → put_all before done (front ++ back) ≡ put_all before (put_all before done back) front
   put_both done [] back = refl
   put_both done (f ∷ fs) back = ap (put_among before f) (put_both done fs back)
+
+-- one property alone is in order as it stands
+pub lone_dictionaries : (c : Things) (name : ℕ) (written others : Entries) → length written ≤ 1 → length others ≡ 0 → AreDictionaries c name written others written []
+lone_dictionaries c name [] [] le e = (refl, refl)
+lone_dictionaries c name (x ∷ []) [] le e = (refl, refl)
+lone_dictionaries c name (x ∷ y ∷ zs) others le e = absurd (omega arith)
+lone_dictionaries c name written (z ∷ zs) le e = absurd (omega arith)

@@ -63,7 +63,7 @@ fn entry<'a>(
     Ok(((key, attr), rest))
 }
 
-/// Entries up to the closing brace.
+/// Entries up to the closing brace. Most dictionaries have one, which takes no more memory than that.
 #[tactic(auto, using(ir_types::proofs::Growth::grows_refl, ir_types::proofs::Growth::grows_trans), unfolding(ir_text_types::specs::Lists::list_at, crate::specs::EntryReading::entries_at))]
 fn entries<'a>(
     alloc: Global,
@@ -79,6 +79,7 @@ fn entries<'a>(
     if let Some(rest) = after(bytes, Mark::CloseCurly) {
         return Ok((items, rest));
     }
+    items.reserve_exact(1)?;
     let mut rest = bytes;
     'items: for _ in 0..MOST_WRITTEN {
         let (item, tail) = match entry(alloc, ctx, op, properties, &items, rest) {

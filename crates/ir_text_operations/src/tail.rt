@@ -79,20 +79,20 @@ fn finished<'a>(
     }
 }
 
-/// The properties and the other attributes of an operation, each sorted.
+/// The properties and the other attributes of an operation, each sorted. One property alone stays as it was written.
 fn dictionaries(
     alloc: Global,
     ctx: &Context,
     name: NameId,
-    written: &[Entry],
+    written: Vec<Entry>,
     others: &[Entry],
 ) -> Result<(Vec<Entry>, Vec<Entry>), AllocError>
-    ensures { IfOk result (λ d. AreDictionaries ctx.now name written.now others.now d.0.items d.1.items) }
+    ensures { IfOk result (λ d. AreDictionaries ctx.now name written.items others.now d.0.items d.1.items) }
 {
-    if let ([], []) = (written, others) {
-        return Ok((Vec::new(alloc), Vec::new(alloc)));
+    if others.len() == 0 && written.len() <= 1 {
+        return Ok((written, Vec::new(alloc)));
     }
-    let props = match properties_of(alloc, ctx, name, written, others) {
+    let props = match properties_of(alloc, ctx, name, &written, others) {
         Ok(props) => props,
         Err(e) => return Err(e),
     };
@@ -107,24 +107,30 @@ fn made(
     alloc: Global,
     ctx: &Context,
     id: u32,
-    opening: &Opening<'_>,
+    opening: Opening<'_>,
     others: &[Entry],
     results: Vec<TypeId>,
     regions: Vec<TreeRegion>,
 ) -> Result<TreeOp, AllocError>
-    ensures { IfOk result (λ o. o ≡ op_of ctx.now id opening.now.name opening.now.front.operands.items opening.now.written.items others.now results.items (map region_view regions.items)) }
+    ensures { IfOk result (λ o. o ≡ op_of ctx.now id opening.entry.name opening.entry.front.operands.items opening.entry.written.items others.now results.items (map region_view regions.items)) }
 {
-    let (props, attrs) = match dictionaries(alloc, ctx, opening.name, &opening.written, others) {
+    let Opening {
+        front,
+        name,
+        written,
+        ..
+    } = opening;
+    let (props, attrs) = match dictionaries(alloc, ctx, name, written, others) {
         Ok(found) => found,
         Err(e) => return Err(e),
     };
-    let operands = match values_of(alloc, &opening.front.operands) {
+    let operands = match values_of(alloc, &front.operands) {
         Ok(operands) => operands,
         Err(e) => return Err(e),
     };
     Ok(TreeOp {
         id: OpId::new(id),
-        name: opening.name,
+        name,
         operands,
         results,
         props,
@@ -140,11 +146,11 @@ fn tail<'a>(
     scope: &mut Scope<'a>,
     ctx: &mut Context,
     id: u32,
-    opening: &Opening<'a>,
+    opening: Opening<'a>,
     regions: Vec<TreeRegion>,
     bytes: &'a [u8],
 ) -> Result<(TreeOp, &'a [u8]), ReadError>
-    ensures reads { Gives (λ x. (x.0, state_of x.1.now scope.new ctx.new)) result (tail_at id opening.now.name (start_view opening.now.front) opening.now.written.items (map region_view regions.items) (state_of bytes.now scope.old ctx.old)) }
+    ensures reads { Gives (λ x. (x.0, state_of x.1.now scope.new ctx.new)) result (tail_at id opening.entry.name (start_view opening.entry.front) opening.entry.written.items (map region_view regions.items) (state_of bytes.now scope.old ctx.old)) }
     ensures grows { Grows ctx.old ctx.new }
 {
     let (others, rest) = match attributes(alloc, ctx, opening.name, &opening.written, bytes) {
@@ -178,10 +184,11 @@ pub(crate) fn closing<'a>(
     ensures reads { Gives (λ x. (x.0, state_of x.1.now scope.new ctx.new)) result (tail_at id opening.entry.name (start_view opening.entry.front) opening.entry.written.items (map region_view regions.items) (state_of bytes.now scope.old ctx.old)) }
     ensures grows { Grows ctx.old ctx.new }
 {
-    match tail(alloc, scope, ctx, id, &opening, regions, bytes) {
+    let behind = opening.behind;
+    match tail(alloc, scope, ctx, id, opening, regions, bytes) {
         Ok(found) => Ok(found),
         Err(ReadError::Refused(fault)) => {
-            let fault = placed(&scope.names, id, start, opening.behind, fault);
+            let fault = placed(&scope.names, id, start, behind, fault);
             Err(ReadError::Refused(fault))
         }
         Err(e) => Err(e),

@@ -109,12 +109,15 @@ not_mark m c bs single e =
     let far = others m single in
     not_if m (c == 58) _ _ (not_longer m 58 DoubleColon Colon bs far.1 far.0) (not_if m (c == 45) _ _ (not_longer m 62 Arrow Minus bs far.3 far.2) (not_of m c bs (mark_of c) (code_is c) e))
 
-not_token : (m : Mark) (c : ℕ) (bs : List ℕ) → is_single m ≡ true → (c == mark_code m) ≡ false → picked m (only_mark (token_at c bs)) ≡ None
-not_token m c bs single e =
+no_token : (m : Mark) (c : ℕ) (bs : List ℕ) → picked m (only_mark (mark_at c bs)) ≡ None → picked m (only_mark (token_at c bs)) ≡ None
+no_token m c bs e =
     (elim (begins_other c) as (λ t. begins_other c ≡ t → picked m (only_mark (token_at c bs)) ≡ None) [
       | true ↦ λ t. ap (picked m) (other_is_none c bs t)
-      | false ↦ λ t. ap (λ o. picked m (only_mark o)) (mark_is_one c bs t) ∙ not_mark m c bs single e
+      | false ↦ λ t. ap (λ o. picked m (only_mark o)) (mark_is_one c bs t) ∙ e
     ]) refl
+
+not_token : (m : Mark) (c : ℕ) (bs : List ℕ) → is_single m ≡ true → (c == mark_code m) ≡ false → picked m (only_mark (token_at c bs)) ≡ None
+not_token m c bs single e = no_token m c bs (not_mark m c bs single e)
 
 first_is : (m : Mark) (bytes : List ℕ) → is_single m ≡ true → picked m (only_mark (first_token bytes)) ≡ behind_first (mark_code m) bytes
 first_is m [] single = rw (others m single).4 refl
@@ -128,3 +131,66 @@ first_is m (c ∷ cs) single =
 pub single_is : (m : Mark) (bytes : List ℕ) → is_single m ≡ true → after m bytes ≡ behind_first (mark_code m) (skip bytes)
 unfolding next_mark next
 single_is m bytes single = after_is m bytes ∙ first_is m (skip bytes) single
+
+-- ---- a colon, and an arrow
+
+-- what follows a colon, of what follows its byte
+abbrev pub colon_behind : Option (List ℕ) → Option (List ℕ)
+colon_behind None = None
+colon_behind (Some []) = Some []
+colon_behind (Some (c ∷ cs)) = if c == 58 then None else Some (c ∷ cs)
+
+-- and an arrow
+abbrev pub arrow_behind : Option (List ℕ) → Option (List ℕ)
+arrow_behind None = None
+arrow_behind (Some bs) = behind_first 62 bs
+
+if_other : (m : Mark) (t : Bool) (a b : Option (Lexeme × List ℕ)) → t ≡ false → picked m (only_mark b) ≡ None → picked m (only_mark (cond t a b)) ≡ None
+if_other m true a b e f = absurd cc
+if_other m false a b e f = f
+
+no_colon : (c : ℕ) (bs : List ℕ) → (c == 58) ≡ false → picked Colon (only_mark (mark_at c bs)) ≡ None
+no_colon c bs e = if_other Colon (c == 58) _ _ e (not_if Colon (c == 45) _ _ (not_longer Colon 62 Arrow Minus bs refl refl) (not_of Colon c bs (mark_of c) (code_is c) e))
+
+colon_token : (bs : List ℕ) → picked Colon (only_mark (token_at 58 bs)) ≡ colon_behind (Some bs)
+colon_token [] = refl
+colon_token (c ∷ cs) = elim (c == 58) as (λ t. picked Colon (only_mark (cond t (Some (mark DoubleColon, cs)) (Some (mark Colon, c ∷ cs)))) ≡ cond t None (Some (c ∷ cs))) [ true ↦ refl | false ↦ refl ]
+
+colon_first : (bytes : List ℕ) → picked Colon (only_mark (first_token bytes)) ≡ colon_behind (behind_first 58 bytes)
+colon_first [] = refl
+colon_first (c ∷ cs) =
+    (elim (c == 58) as (λ t. (c == 58) ≡ t → picked Colon (only_mark (token_at c cs)) ≡ colon_behind (cond t (Some cs) None)) [
+      | true ↦ λ t. ap (λ b. picked Colon (only_mark (token_at b cs))) (eqb-true c 58 t) ∙ colon_token cs
+      | false ↦ λ t. no_token Colon c cs (no_colon c cs t)
+    ]) refl
+
+pub colon_is : (bytes : List ℕ) → after Colon bytes ≡ colon_behind (behind_first 58 (skip bytes))
+unfolding next_mark next
+colon_is bytes = after_is Colon bytes ∙ colon_first (skip bytes)
+
+-- the byte that is an arrow's code begins no mark
+no_arrow : (c : ℕ) (bs : List ℕ) → (c == 45) ≡ false → picked Arrow (only_mark (mark_at c bs)) ≡ None
+no_arrow c bs e = not_if Arrow (c == 58) _ _ (not_longer Arrow 58 DoubleColon Colon bs refl refl) (if_other Arrow (c == 45) _ _ e (no_of c bs))
+  where
+    no_of : (c : ℕ) (bs : List ℕ) → picked Arrow (only_mark (option_map (λ k. (mark k, bs)) (mark_of c))) ≡ None
+    no_of c bs =
+        (elim (c == 1) as (λ t. (c == 1) ≡ t → picked Arrow (only_mark (option_map (λ k. (mark k, bs)) (mark_of c))) ≡ None) [
+          | true ↦ λ t. ap (λ b. picked Arrow (only_mark (option_map (λ k. (mark k, bs)) (mark_of b)))) (eqb-true c 1 t)
+          | false ↦ λ t. not_of Arrow c bs (mark_of c) (code_is c) t
+        ]) refl
+
+arrow_token : (bs : List ℕ) → picked Arrow (only_mark (token_at 45 bs)) ≡ arrow_behind (Some bs)
+arrow_token [] = refl
+arrow_token (c ∷ cs) = elim (c == 62) as (λ t. picked Arrow (only_mark (cond t (Some (mark Arrow, cs)) (Some (mark Minus, c ∷ cs)))) ≡ cond t (Some cs) None) [ true ↦ refl | false ↦ refl ]
+
+arrow_first : (bytes : List ℕ) → picked Arrow (only_mark (first_token bytes)) ≡ arrow_behind (behind_first 45 bytes)
+arrow_first [] = refl
+arrow_first (c ∷ cs) =
+    (elim (c == 45) as (λ t. (c == 45) ≡ t → picked Arrow (only_mark (token_at c cs)) ≡ arrow_behind (cond t (Some cs) None)) [
+      | true ↦ λ t. ap (λ b. picked Arrow (only_mark (token_at b cs))) (eqb-true c 45 t) ∙ arrow_token cs
+      | false ↦ λ t. no_token Arrow c cs (no_arrow c cs t)
+    ]) refl
+
+pub arrow_is : (bytes : List ℕ) → after Arrow bytes ≡ arrow_behind (behind_first 45 (skip bytes))
+unfolding next_mark next
+arrow_is bytes = after_is Arrow bytes ∙ arrow_first (skip bytes)

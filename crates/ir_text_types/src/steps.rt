@@ -1,7 +1,8 @@
 //! Tokens that must stand next, or may, and what is interned on the way.
 ghost use Rattle.std.specs.Prelude.{◌≡◌, option_map, length};
 ghost use Rattle.ir_types.specs.Things.{TypeIsOf, AttrIsOf, Grows};
-ghost use Rattle.ir_text_tokens.specs.Tokens.{lexeme_of, next};
+ghost use Rattle.ir_text_tokens.specs.declared.token.Mark.TheVariants.{Arrow, Colon};
+ghost use Rattle.ir_text_tokens.specs.Tokens.{behind_first, lexeme_of, next};
 ghost use Rattle.ir_text_types.specs.Outcomes.{Gives, of_option};
 ghost use Rattle.ir_text_types.specs.Marks.{mark_code, is_single, after};
 ghost use Rattle.ir_text_types.specs.Typed.{name_step, type_step, attr_step};
@@ -65,7 +66,51 @@ fn after_any(bytes: &[u8], mark: Mark) -> Option<&[u8]>
     }
 }
 
+/// What follows a colon that is the next token: a second one behind it makes another mark of it.
+#[tactic(auto, using(crate::proofs::Marked::colon_is))]
+fn after_colon(bytes: &[u8]) -> Option<&[u8]>
+    ensures { option_map (λ r. r.now) result ≡ after Colon bytes.now }
+{
+    match lexer::after_byte(bytes, b':') {
+        Some([b':', ..]) => None,
+        found => found,
+    }
+}
+
+/// What follows the byte, where it is the first.
+fn after_first(bytes: &[u8], byte: u8) -> Option<&[u8]>
+    ensures { option_map (λ r. r.now) result ≡ behind_first byte bytes.now }
+{
+    match bytes {
+        [first, rest @ ..] if *first == byte => Some(rest),
+        _ => None,
+    }
+}
+
+/// What follows an arrow that is the next token.
+#[tactic(auto, using(crate::proofs::Marked::arrow_is))]
+fn after_arrow(bytes: &[u8]) -> Option<&[u8]>
+    ensures { option_map (λ r. r.now) result ≡ after Arrow bytes.now }
+{
+    match lexer::after_byte(bytes, b'-') {
+        Some(rest) => after_first(rest, b'>'),
+        None => None,
+    }
+}
+
+/// What follows a mark with which a longer one begins, or that is longer, where it is the next token.
+fn after_other(bytes: &[u8], mark: Mark) -> Option<&[u8]>
+    ensures { option_map (λ r. r.now) result ≡ after mark bytes.now }
+{
+    match mark {
+        Mark::Colon => after_colon(bytes),
+        Mark::Arrow => after_arrow(bytes),
+        _ => after_any(bytes, mark),
+    }
+}
+
 /// What follows the mark, where it is the next token.
+#[inline(always)]
 #[tactic(auto, using(crate::proofs::Marked::single_is))]
 pub fn after(bytes: &[u8], mark: Mark) -> Option<&[u8]>
     ensures { option_map (λ r. r.now) result ≡ after mark bytes.now }
@@ -73,10 +118,11 @@ pub fn after(bytes: &[u8], mark: Mark) -> Option<&[u8]>
     if is_single(mark) {
         return lexer::after_byte(bytes, code(mark));
     }
-    after_any(bytes, mark)
+    after_other(bytes, mark)
 }
 
 /// What follows the mark, which must be the next token.
+#[inline(always)]
 pub fn expect(bytes: &[u8], mark: Mark) -> Result<&[u8], ReadError>
     ensures { Gives (λ r. r.now) result (of_option (after mark bytes.now)) }
 {
@@ -87,6 +133,7 @@ pub fn expect(bytes: &[u8], mark: Mark) -> Result<&[u8], ReadError>
 }
 
 /// The next token, and what follows it.
+#[inline(always)]
 pub fn token(bytes: &[u8]) -> Result<(Token<'_>, &[u8]), ReadError>
     ensures { Gives (λ x. (lexeme_of x.0, x.1.now)) result (of_option (next bytes.now)) }
 {
@@ -109,6 +156,7 @@ pub fn name(ctx: &mut Context, bytes: &[u8], rest: &[u8]) -> Result<NameId, Read
 }
 
 /// The number of a type that stands in a text where these bytes are left.
+#[inline(always)]
 #[tactic(auto, using(ir_types::proofs::Growth::grows_refl, ir_types::proofs::Growth::grows_trans, crate::proofs::Stepping::step_fails, crate::proofs::Stepping::step_reads), unfolding(crate::specs::Typed::type_step))]
 pub fn ty(ctx: &mut Context, node: TypeNode, rest: &[u8]) -> Result<TypeId, ReadError>
     requires { TypeIsOf ctx.old node }

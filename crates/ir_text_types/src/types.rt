@@ -27,6 +27,7 @@ use std::alloc::{AllocError, Global};
 pub const MANY: usize = MOST_BYTES;
 
 /// The number of a type that stands in front of these bytes.
+#[inline(always)]
 #[tactic(auto, using(ir_types::proofs::Growth::grows_refl, ir_types::proofs::Growth::grows_trans), unfolding(crate::specs::TypeReading::type_done))]
 pub fn kept<'a>(
     ctx: &mut Context,
@@ -42,6 +43,7 @@ pub fn kept<'a>(
 }
 
 /// The integer type or index that a word is, which stands at `start`.
+#[inline(always)]
 #[tactic(auto, using(ir_types::proofs::Growth::grows_refl, ir_types::proofs::Growth::grows_trans))]
 fn scalar<'a>(
     ctx: &mut Context,
@@ -116,6 +118,7 @@ fn memref<'a>(
 }
 
 /// A type that begins with a word: a memref, an integer type or index.
+#[inline(always)]
 #[tactic(auto, using(ir_types::proofs::Growth::grows_refl, ir_types::proofs::Growth::grows_trans), unfolding(crate::specs::TypeReading::word_type_at))]
 fn word_type<'a>(
     alloc: Global,
@@ -201,7 +204,7 @@ fn types<'a>(
 fn one(alloc: Global, item: TypeId) -> Result<Vec<TypeId>, AllocError>
     ensures { IfOk result (λ v. v.items ≡ item ∷ []) }
 {
-    let mut items = Vec::new(alloc);
+    let mut items = Vec::with_capacity(alloc, 1)?;
     items.push(item)?;
     Ok(items)
 }
