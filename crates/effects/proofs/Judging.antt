@@ -43,12 +43,12 @@ module _ (counts : Counts) where
   above_judged x [] a = tt
   above_judged x (e ∷ es) a = (less_than x e.0 a.0, above_judged x es a.1)
 
-  judged_rising : (es : List (ℕ × Row)) → IsStrictlySortedBy nat_cmp (keys_of es) → Rising (judged counts es)
+  pub judged_rising : (es : List (ℕ × Row)) → IsStrictlySortedBy nat_cmp (keys_of es) → Rising (judged counts es)
   unfolding IsStrictlySortedBy
   judged_rising [] s = tt
   judged_rising (e ∷ es) s = (above_judged e.0 es s.0, judged_rising es s.1)
 
-  look_judged : (x : ℕ) (es : List (ℕ × Row)) → look x (judged counts es) ≡ option_map (λ (r : Row). is_zero (counts x) && may_go r.has) (lookup (is_at (nat_cmp x)) es)
+  pub look_judged : (x : ℕ) (es : List (ℕ × Row)) → look x (judged counts es) ≡ option_map (λ (r : Row). is_zero (counts x) && may_go r.has) (lookup (is_at (nat_cmp x)) es)
   look_judged x [] = refl
   look_judged x (e ∷ es) =
       ap (cond (eqb x e.0) (Some (is_zero (counts e.0) && may_go e.1.has))) (look_judged x es)

@@ -1,8 +1,7 @@
 -- How many uses the results of operations have: a table of counts, as it follows a tree.
-use Rattle.std.specs.Prelude.{◌≡◌, ℕ, ◌+◌, ◌-◌, nat_lt, List, [], ◌∷◌, eqb, Bool, false, Option, Some, None, option_map}
+use Rattle.std.specs.Prelude.{◌≡◌, ℕ, ◌+◌, ◌-◌, List, [], ◌∷◌, eqb, Bool, Option, Some, None, option_map}
 use Rattle.std.specs.Prelude.{if◌then◌else◌}
 use Rattle.std.specs.Ordering.{nat_cmp}
-use Rattle.std.specs.BTreeMap.{BTreeMap}
 use Rattle.std.specs.BTreeMap as tree
 use Rattle.ir_types.specs.Things.{Things}
 use Rattle.ir_types.specs.Terms.{name_term}
@@ -14,6 +13,8 @@ use Rattle.ir_event.specs.declared.event.Event.{Event}
 use Rattle.ir_event.specs.declared.event.Event.TheVariants.{Put, Take, SetOperand, SetEntry, Shift}
 use Rattle.ir_event.specs.Modules.{Node}
 use Rattle.effects.specs.Spots.{one_if}
+pub use Rattle.effects.specs.Marks.{is_zero}
+use Rattle.effects.specs.declared.use_counts.UseCounts.{UseCounts}
 use Rattle.effects.specs.Dead.{is_result_of, is_kept}
 use Rattle.ir_event.specs.Heads.{heads, all_operands}
 
@@ -21,9 +22,9 @@ use Rattle.ir_event.specs.Heads.{heads, all_operands}
 abbrev pub Counts : Type 0
 Counts = ℕ → Option ℕ
 
--- what a map has
-abbrev pub counts_in : BTreeMap ℕ ℕ → Counts
-counts_in m = tree.get nat_cmp m
+-- what the counts of a listener are
+abbrev pub counts_in : UseCounts → Counts
+counts_in m = tree.get nat_cmp m.counts
 
 -- how many of these values are results of x
 abbrev pub results_among : ℕ → List Value → ℕ
@@ -72,11 +73,6 @@ LeftWith x vs a b = Lowered vs (with_count x None a) b
 abbrev pub Exchanged : Value → Value → Counts → Counts → Type 0
 Exchanged old new a b = (y : ℕ)
     → b y ≡ option_map (λ n. (n + one_if (is_result_of y new)) - one_if (is_result_of y old)) (a y)
-
--- whether an operation has a count, and that is 0
-abbrev pub is_zero : Option ℕ → Bool
-is_zero None = false
-is_zero (Some n) = nat_lt n 1
 
 -- a table followed an event, where these operations were shown
 abbrev pub CountsFollowed : (ℕ → Option Node) → Event → Counts → Counts → Type 0

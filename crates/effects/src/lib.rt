@@ -15,4 +15,5 @@ mod report;
 pub mod row;
 mod table;
 mod tally;
+pub mod use_counts;
 mod walk;

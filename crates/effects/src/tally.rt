@@ -8,13 +8,13 @@ ghost use Rattle.effects.specs.Found.{head_at, heads_by, with_head};
 ghost use Rattle.effects.specs.Counts.{counts_in, kept_by, Raised, AllEntered};
 
 use crate::counts::{enter, raise_all};
+use crate::use_counts::UseCounts;
 use ir_event::store::store::Store;
 use ir_event::world::World;
 use ir_types::context::Context;
 use ir_types::ids::{NameId, OpId};
 use op_registry::definition::Trait;
 use op_registry::registry::Registry;
-use std::collections::BTreeMap;
 
 /// Whether an operation of a name stays whatever it does: a terminator, or what defines a symbol, as modules and
 /// functions do.
@@ -27,7 +27,7 @@ pub(crate) fn is_kept(ctx: &Context, registry: &Registry, name: NameId) -> bool
 }
 
 /// Gives operations their counts. It is false where memory was refused.
-pub(crate) fn enter_all(world: &World, ops: &[OpId], counts: &mut BTreeMap<OpId, u32>) -> bool
+pub(crate) fn enter_all(world: &World, ops: &[OpId], counts: &mut UseCounts) -> bool
     ensures { OnTrue result (AllEntered (kept_by world.now.ctx) (heads_by (head_at world.now.store) ops.now)
         (counts_in counts.old) (counts_in counts.new)) }
 {
@@ -40,7 +40,7 @@ pub(crate) fn enter_all(world: &World, ops: &[OpId], counts: &mut BTreeMap<OpId,
 }
 
 /// Gives an operation its count, if it is there.
-fn enter_found(world: &World, op: OpId, counts: &mut BTreeMap<OpId, u32>) -> bool
+fn enter_found(world: &World, op: OpId, counts: &mut UseCounts) -> bool
     ensures { OnTrue result (AllEntered (kept_by world.now.ctx) (with_head op (head_at world.now.store op) [])
         (counts_in counts.old) (counts_in counts.new)) }
 {
@@ -52,7 +52,7 @@ fn enter_found(world: &World, op: OpId, counts: &mut BTreeMap<OpId, u32>) -> boo
 }
 
 /// Counts the operands of operations. It is false where a count would pass its type.
-pub(crate) fn raise_each(store: &Store, ops: &[OpId], counts: &mut BTreeMap<OpId, u32>) -> bool
+pub(crate) fn raise_each(store: &Store, ops: &[OpId], counts: &mut UseCounts) -> bool
     ensures { OnTrue result (Raised (all_operands (heads_by (head_at store.now) ops.now)) (counts_in counts.old)
         (counts_in counts.new)) }
 {
@@ -65,7 +65,7 @@ pub(crate) fn raise_each(store: &Store, ops: &[OpId], counts: &mut BTreeMap<OpId
 }
 
 /// Counts the operands of an operation, if it is there.
-fn raise_found(store: &Store, op: OpId, counts: &mut BTreeMap<OpId, u32>) -> bool
+fn raise_found(store: &Store, op: OpId, counts: &mut UseCounts) -> bool
     ensures { OnTrue result (Raised (all_operands (with_head op (head_at store.now op) [])) (counts_in counts.old)
         (counts_in counts.new)) }
 {

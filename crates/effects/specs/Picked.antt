@@ -1,0 +1,34 @@
+-- What a function says of numbers, in their order.
+use Rattle.std.specs.Prelude.{ℕ, zero, suc, List, [], ◌∷◌, map, Bool, true, false, ◌&&◌, Option, Some, None}
+use Rattle.bit_set.specs.Bits.{has}
+use Rattle.effects.specs.declared.row.Row.{Row}
+use Rattle.effects.specs.Dead.{may_go}
+use Rattle.effects.specs.Spots.{Rows}
+
+-- what is said of a number in front of a list, where something is
+abbrev pub with_said : {V : Type 0} → ℕ → Option V → List (ℕ × V) → List (ℕ × V)
+with_said x None ps = ps
+with_said x (Some v) ps = (x, v) ∷ ps
+
+-- what is said of `count` numbers, from one on
+abbrev pub picked : {V : Type 0} → (ℕ → Option V) → ℕ → ℕ → List (ℕ × V)
+picked f from zero = []
+picked f from (suc count) = with_said from (f from) (picked f (suc from) count)
+
+-- true, where it is true
+abbrev pub if_true : Bool → Option Bool
+if_true true = Some true
+if_true false = None
+
+-- whether nobody would miss what an operation does, by its row
+abbrev pub idle_row : Option Row → Bool
+idle_row None = false
+idle_row (Some r) = may_go r.has
+
+-- whether an operation that a set has is idle
+abbrev pub idle_in_set : List ℕ → Rows → ℕ → Option Bool
+idle_in_set set rows x = if_true (has set x && idle_row (rows x))
+
+-- those among `count` numbers, from one on
+abbrev pub idle_numbers : List ℕ → Rows → ℕ → ℕ → List ℕ
+idle_numbers set rows from count = map (λ (p : ℕ × Bool). p.0) (picked (idle_in_set set rows) from count)
