@@ -15,7 +15,7 @@ use Rattle.ir_event.specs.Modules.{Node}
 use Rattle.effects.specs.Spots.{one_if}
 pub use Rattle.effects.specs.Marks.{is_zero}
 use Rattle.effects.specs.declared.use_counts.UseCounts.{UseCounts}
-use Rattle.effects.specs.Dead.{is_result_of, is_kept}
+use Rattle.effects.specs.Dead.{is_result_of, stays}
 use Rattle.ir_event.specs.Heads.{heads, all_operands}
 
 -- a table of counts: that of an operation, if it has one
@@ -34,7 +34,7 @@ results_among x (v ∷ vs) = one_if (is_result_of x v) + results_among x vs
 -- a table counts a tree: each operation has one for each use of a result of it, and one more where it is kept
 abbrev pub Counted : Counts → Operation → Type 0
 Counted a t = (x : ℕ) → a x
-    ≡ option_map (λ o. results_among x (all_operands (heads t)) + one_if (is_kept (head o).name)) (find x t)
+    ≡ option_map (λ o. results_among x (all_operands (heads t)) + one_if (stays (head o).name)) (find x t)
 
 -- a table with another count for x
 abbrev pub with_count : ℕ → Option ℕ → Counts → Counts
@@ -59,7 +59,7 @@ AllEntered kept (h ∷ hs) a b = (m : Counts) × Entered h.id (kept h.name) a m 
 
 -- whether the operations of a name's number are kept
 abbrev pub kept_by : Things → ℕ → Bool
-kept_by c n = is_kept (name_term c n)
+kept_by c n = stays (name_term c n)
 
 -- an operation with these operands was put in
 abbrev pub EnteredWith : ℕ → Bool → List Value → Counts → Counts → Type 0
@@ -77,7 +77,7 @@ Exchanged old new a b = (y : ℕ)
 -- a table followed an event, where these operations were shown
 abbrev pub CountsFollowed : (ℕ → Option Node) → Event → Counts → Counts → Type 0
 CountsFollowed shown (Put x place fresh) a b = (n : Node) → shown x ≡ Some n
-    → EnteredWith x (is_kept n.head.name) n.head.operands a b
+    → EnteredWith x (stays n.head.name) n.head.operands a b
 CountsFollowed shown (Take x place fresh) a b = (n : Node) → shown x ≡ Some n → LeftWith x n.head.operands a b
 CountsFollowed shown (SetOperand x k old new) a b = Exchanged old new a b
 CountsFollowed shown (SetEntry x part key old new) a b = (y : ℕ) → b y ≡ a y

@@ -2,18 +2,21 @@
 ghost use Rattle.std.specs.Prelude.{◌≡◌, []};
 ghost use Rattle.std.specs.Bool.{OnTrue};
 ghost use Rattle.ir_types.specs.Terms.{name_term};
-ghost use Rattle.effects.specs.Dead.{is_kept};
+ghost use Rattle.effects.specs.Dead.{is_kept, is_missed, stays};
 ghost use Rattle.ir_event.specs.Heads.{all_operands};
 ghost use Rattle.effects.specs.Found.{head_at, heads_by, with_head};
 ghost use Rattle.effects.specs.Counts.{counts_in, kept_by, Raised, AllEntered};
 
 use crate::counts::{enter, raise_all};
+use crate::kinds::{EffectKinds, recursive};
+use crate::own::own;
 use crate::use_counts::UseCounts;
 use ir_event::store::store::Store;
 use ir_event::world::World;
 use ir_types::context::Context;
 use ir_types::ids::{NameId, OpId};
 use op_registry::definition::Trait;
+use op_registry::own::Own;
 use op_registry::registry::Registry;
 
 /// Whether an operation of a name stays whatever it does: a terminator, or what defines a symbol, as modules and
@@ -24,6 +27,21 @@ pub(crate) fn is_kept(ctx: &Context, registry: &Registry, name: NameId) -> bool
 {
     ctx.sound();
     registry.has(name, Trait::Terminator) || registry.has(name, Trait::Symbol)
+}
+
+/// Whether someone would miss what an operation has by itself.
+fn is_missed(own: &Own) -> bool
+    ensures { result ≡ is_missed own.now }
+{
+    let kinds = EffectKinds::of(own);
+    !(recursive(own) || !(kinds.unknown || kinds.free || kinds.write))
+}
+
+/// Whether an operation of a name is never dead: it stays whatever it does, or has by itself what someone would miss.
+pub(crate) fn stays(ctx: &Context, registry: &Registry, name: NameId) -> bool
+    ensures { result ≡ stays (name_term ctx.now name) }
+{
+    is_kept(ctx, registry, name) || is_missed(&own(ctx, registry, name))
 }
 
 /// Gives operations their counts. It is false where memory was refused.
@@ -47,7 +65,7 @@ fn enter_found(world: &World, op: OpId, counts: &mut UseCounts) -> bool
     let Some(node) = world.store.node(op) else {
         return true;
     };
-    let kept = is_kept(&world.ctx, &world.registry, node.name());
+    let kept = stays(&world.ctx, &world.registry, node.name());
     enter(counts, op, kept)
 }
 
