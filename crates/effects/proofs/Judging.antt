@@ -27,7 +27,7 @@ use Rattle.op_registry.specs.declared.own.Own.{Own}
 use Rattle.op_registry.specs.declared.own.Own.TheVariants.{Pure, Only, Recursive, Unknown}
 use Rattle.effects.specs.Dead.{is_unused, is_kept, is_missed, stays, may_go, is_dead}
 use Rattle.effects.specs.Spots.{spots, one_if}
-use Rattle.effects.specs.Walks.{row_at}
+use Rattle.effects.specs.Walks.{rows_at}
 use Rattle.effects.specs.Following.{Whole}
 use Rattle.ir_event.specs.Heads.{heads, all_operands}
 use Rattle.effects.specs.Counts.{Counts, results_among, Counted, is_zero}
@@ -128,10 +128,10 @@ module _ (t : Operation) (counts : Counts) (counted : Counted counts t) where
       each None f = refl
       each (Some o) f = ap Some (judged_one x o f)
 
-pub judged_listed : (m : BTreeMap ℕ Row) (counts : Counts) (t : Operation) → tree.IsOrdered nat_cmp m → HasDistinctIds t → Whole (row_at m) (spots own_of None t) → Counted counts t → judged counts m.entries ≡ by_id (of_each (is_dead t) t)
+pub judged_listed : (m : BTreeMap ℕ Row) (counts : Counts) (t : Operation) → tree.IsOrdered nat_cmp m → HasDistinctIds t → Whole (rows_at m) (spots own_of None t) → Counted counts t → judged counts m.entries ≡ by_id (of_each (is_dead t) t)
 judged_listed m counts t ordered d h counted =
     rising_same (judged counts m.entries) (by_id (of_each (is_dead t) t)) (judged_rising counts m.entries ordered) (each_rising (is_dead t) t d)
-    (λ x. look_judged counts x m.entries ∙ judged_all t counts counted x (row_at m x) (shown_found own_of t (row_at m) d h x) ∙ sym (each_look (is_dead t) t d x))
+    (λ x. look_judged counts x m.entries ∙ judged_all t counts counted x (rows_at m x) (shown_found own_of t (rows_at m) d h x) ∙ sym (each_look (is_dead t) t d x))
 
 -- ---- rows
 
@@ -154,12 +154,12 @@ module _ (c : Things) where
       All-cons (RowIsOf c) r rs (subst (All (CellIsOf c)) (sym one) (All-cons (CellIsOf c) (cell.Op x) [] (tt {0}) (All-nil (CellIsOf c)))) (rows_known rs xs rest)
 
   pub shows_dead : (m : BTreeMap ℕ Row) (counts : Counts) (rows : List Line) (t : Operation) → tree.IsOrdered nat_cmp m → map (λ (r : Line). r.cells.items) rows ≡ map (cell_of cell.Op) (those (judged counts m.entries))
-      → HasDistinctIds t → Whole (row_at m) (spots own_of None t) → Counted counts t → Shows c rows (dead_rows t)
+      → HasDistinctIds t → Whole (rows_at m) (spots own_of None t) → Counted counts t → Shows c rows (dead_rows t)
   shows_dead m counts rows t ordered is d h counted =
       let e = is ∙ ap (λ l. map (cell_of cell.Op) (those l)) (judged_listed m counts t ordered d h counted) in
       record { says = rows_say rows (dead_of t) e; known = rows_known rows (dead_of t) e }
 
   -- the same of a table that is lent
   pub shown_by : (m lent : BTreeMap ℕ Row) (counts : Counts) (rows : List Line) (t : Operation) → lent ≡ m → tree.IsOrdered nat_cmp lent → map (λ (r : Line). r.cells.items) rows ≡ map (cell_of cell.Op) (those (judged counts lent.entries))
-      → HasDistinctIds t → Whole (row_at m) (spots own_of None t) → Counted counts t → Shows c rows (dead_rows t)
-  shown_by m lent counts rows t same ordered is d h counted = shows_dead lent counts rows t ordered is d (subst (λ (z : BTreeMap ℕ Row). Whole (row_at z) (spots own_of None t)) (sym same) h) counted
+      → HasDistinctIds t → Whole (rows_at m) (spots own_of None t) → Counted counts t → Shows c rows (dead_rows t)
+  shown_by m lent counts rows t same ordered is d h counted = shows_dead lent counts rows t ordered is d (subst (λ (z : BTreeMap ℕ Row). Whole (rows_at z) (spots own_of None t)) (sym same) h) counted

@@ -7,6 +7,7 @@ mod counting;
 mod counts;
 pub mod dead;
 pub mod dead_op;
+pub mod effect_rows;
 pub mod effects;
 mod follow;
 pub mod kinds;

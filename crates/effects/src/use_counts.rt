@@ -1,7 +1,7 @@
 //! How many uses the results of operations have.
 ghost use Rattle.std.specs.Ordering.{nat_cmp};
 ghost use Rattle.std.specs.BTreeMap as tree;
-ghost use Rattle.effects.specs.Marks.{AreUnused, AreUnused-prop, HasRoom, HasRoom-prop};
+ghost use Rattle.effects.specs.Marks.{is_zero, AreMarked, AreMarked-prop, HasRoom, HasRoom-prop};
 
 use bit_set::BitSet;
 use ir_types::ids::OpId;
@@ -13,6 +13,6 @@ use std::collections::BTreeMap;
 pub struct UseCounts {
     pub(crate) counts: BTreeMap<OpId, u32>,
     pub(crate) unused: BitSet,
-    pub(crate) ghost marked: { AreUnused (tree.get nat_cmp counts) unused } by { AreUnused-prop (tree.get nat_cmp counts) unused },
+    pub(crate) ghost marked: { AreMarked is_zero (tree.get nat_cmp counts) unused } by { AreMarked-prop is_zero (tree.get nat_cmp counts) unused },
     pub(crate) ghost room: { HasRoom (tree.get nat_cmp counts) unused } by { HasRoom-prop (tree.get nat_cmp counts) unused },
 }

@@ -2,6 +2,7 @@ use Rattle.std.proofs.Common.{◌≡◌, ℕ, ◌*◌, ◌<◌, ◌≤◌, Some,
 use Rattle.std.specs.Ordering.{nat_cmp}
 use Rattle.std.specs.BTreeMap as tree
 use Rattle.effects.specs.Counts.{counts_in}
+use Rattle.effects.specs.Marks.{is_zero}
 use Rattle.effects.proofs.Changes.{on_true_is}
 use Rattle.effects.proofs.Marked.{marked, roomy, same_marks, more_room}
 use Rattle.effects.proofs.counts.enter.Goals as goal
@@ -19,6 +20,6 @@ invariant_of-counts-2 c =
     let wide : length mid ≤ length new = omega (arith, c.mark.ensures.room) in
     let here : c.args.op < 64 * length mid = search rules in
     record {
-      marked = marked f g mid new c.args.op n is (same_marks f set mid c.args.counts.now.marked c.reserve.ensures.same) c.mark.ensures.has;
+      marked = marked f g mid new c.args.op n is is_zero (same_marks is_zero f set mid c.args.counts.now.marked c.reserve.ensures.same) c.mark.ensures.has;
       room = roomy f g mid new c.args.op n is (more_room f set mid c.args.counts.now.room c.reserve.ensures.grows) wide (λ h. omega (arith, here, wide));
     }

@@ -3,6 +3,7 @@ use Rattle.std.specs.Prelude.{IsSome}
 use Rattle.std.specs.Ordering.{nat_cmp}
 use Rattle.std.specs.BTreeMap as tree
 use Rattle.effects.specs.Counts.{counts_in, with_count}
+use Rattle.effects.specs.Marks.{is_zero}
 use Rattle.effects.proofs.Marked.{marked, roomy}
 use Rattle.effects.proofs.Reporting.{same_test}
 use Rattle.effects.proofs.counts.write.Goals as goal
@@ -24,6 +25,6 @@ invariant_of-counts c =
     let new = c.mark.new.unused in
     let wide : length set ≤ length new = omega (arith, c.mark.ensures.room) in
     record {
-      marked = marked f g set new c.args.op (Some c.args.count) is c.args.counts.now.marked c.mark.ensures.has;
+      marked = marked f g set new c.args.op (Some c.args.count) is is_zero c.args.counts.now.marked c.mark.ensures.has;
       room = roomy f g set new c.args.op (Some c.args.count) is c.args.counts.now.room wide (λ h. omega (arith, room, wide));
     }

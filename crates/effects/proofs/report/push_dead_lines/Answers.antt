@@ -5,18 +5,18 @@ use Rattle.ir_event.specs.declared.row.Cell.TheVariants.{Op}
 use Rattle.effects.specs.Counts.{counts_in}
 use Rattle.effects.specs.Picked.{idle_row, idle_numbers}
 use Rattle.effects.specs.Reports.{cell_of, those}
-use Rattle.effects.specs.Walks.{row_at}
+use Rattle.effects.specs.Walks.{rows_at, row_at}
 use Rattle.effects.proofs.Picking.{dead_numbers, next_idle, one_more}
 use Rattle.effects.proofs.report.push_dead_lines.Goals as goal
 
 pub returns : goal.returns
 returns c ordered =
     let set = c.args.counts.now.unused in
-    let m = c.args.rows.now in
+    let m = c.args.rows.now.rows in
     let front : List (List Cell) = map (λ (r : Row). r.cells.items) c.args.out.now.items in
     let whole : c.ops.from + 0 ≡ c.ops.from = omega arith in
     sym (append-nil _) ∙ c.ops.invariant 0
-    ∙ ap (λ k. front ++ map (cell_of Op) (idle_numbers set (row_at m) 0 k)) whole
+    ∙ ap (λ k. front ++ map (cell_of Op) (idle_numbers set (rows_at m) 0 k)) whole
     ∙ ap (λ xs. front ++ map (cell_of Op) xs) (dead_numbers set (counts_in c.args.counts.now) m c.args.counts.now.marked ordered c.ops.from c.in_default.ensures)
 
 pub ops-preserved : goal.ops-preserved
