@@ -28,7 +28,7 @@ use Rattle.ir_event.specs.Step.{Step}
 use Rattle.ir_event.specs.Bounds.{op_of}
 use Rattle.effects.proofs.Changes.{on_true_is}
 use Rattle.effects.specs.Spots.{one_if}
-use Rattle.effects.specs.Dead.{is_kept}
+use Rattle.effects.specs.Dead.{stays}
 use Rattle.ir_event.specs.Heads.{heads, regions_heads, all_operands}
 use Rattle.effects.specs.Counts.{Counts, results_among, Counted, Raised, AllEntered, EnteredWith, LeftWith, Exchanged, CountsFollowed, kept_by}
 use Rattle.ir_event.proofs.ById.{look}
@@ -74,34 +74,34 @@ module _ {N T A : Type 0} where
 
 module _ (t : Operation) where
   -- a table counts a tree where it counts its heads
-  counts_heads : (x : ℕ) → option_map (λ (o : Operation). results_among x (all_operands (heads t)) + one_if (is_kept (head o).name)) (find x t) ≡ tallied is_kept (heads t) x
+  counts_heads : (x : ℕ) → option_map (λ (o : Operation). results_among x (all_operands (heads t)) + one_if (stays (head o).name)) (find x t) ≡ tallied stays (heads t) x
   counts_heads x =
       twice (find x t)
       ∙ ap (option_map (λ k. results_among x (all_operands (heads t)) + one_if k))
-      (sym (look_each (λ (o : Operation). is_kept (head o).name) t x) ∙ ap (look x) (sym (heads_tagged (λ (h : HeadOf (List ℕ) TypeTerm AttrTerm). is_kept h.name) t)))
+      (sym (look_each (λ (o : Operation). stays (head o).name) t x) ∙ ap (look x) (sym (heads_tagged (λ (h : HeadOf (List ℕ) TypeTerm AttrTerm). stays h.name) t)))
     where
-      twice : (f : Option Operation) → option_map (λ (o : Operation). results_among x (all_operands (heads t)) + one_if (is_kept (head o).name)) f
-          ≡ option_map (λ k. results_among x (all_operands (heads t)) + one_if k) (option_map (λ (o : Operation). is_kept (head o).name) f)
+      twice : (f : Option Operation) → option_map (λ (o : Operation). results_among x (all_operands (heads t)) + one_if (stays (head o).name)) f
+          ≡ option_map (λ k. results_among x (all_operands (heads t)) + one_if k) (option_map (λ (o : Operation). stays (head o).name) f)
       twice None = refl
       twice (Some o) = refl
 
-  pub heads_counted : (a : Counts) → Counted a t → (y : ℕ) → a y ≡ tallied is_kept (heads t) y
+  pub heads_counted : (a : Counts) → Counted a t → (y : ℕ) → a y ≡ tallied stays (heads t) y
   heads_counted a c y = c y ∙ counts_heads y
 
-  pub counted_heads : (a : Counts) → ((y : ℕ) → a y ≡ tallied is_kept (heads t) y) → Counted a t
+  pub counted_heads : (a : Counts) → ((y : ℕ) → a y ≡ tallied stays (heads t) y) → Counted a t
   counted_heads a c y = c y ∙ sym (counts_heads y)
 
 put_counts : (x : ℕ) (place : Place) (fresh : Bool) (m n : Module) (a b : Counts) → HasDistinctIds n.tree → Takes x place fresh n m
-    → ((o : Operation) → find x n.tree ≡ Some o → EnteredWith x (is_kept (head o).name) (head o).operands a b) → Counted a m.tree → Counted b n.tree
+    → ((o : Operation) → find x n.tree ≡ Some o → EnteredWith x (stays (head o).name) (head o).operands a b) → Counted a m.tree → Counted b n.tree
 put_counts x place fresh m n a b d takes put was =
     let c = cut_heads x n.tree place d takes.there in
     let h = head c.here in
     let whole : heads n.tree ≡ c.front ++ (h ∷ c.back) = c.was ∙ ap (λ l. c.front ++ (l ++ c.back)) (one_head c.here (takes.empty c.here c.is)) in
     let left : heads m.tree ≡ c.front ++ c.back = ap heads takes.left ∙ c.rest in
     let unused : results_among h.id (all_operands (c.front ++ (h ∷ c.back))) ≡ 0 = ap (λ y. results_among y (all_operands (c.front ++ (h ∷ c.back)))) c.id ∙ ap (λ (l : List (HeadOf (List ℕ) TypeTerm AttrTerm)). results_among x (all_operands l)) (sym whole) ∙ unused_among x n.tree takes.unused in
-    let entered : EnteredWith h.id (is_kept h.name) h.operands a b = subst (λ y. EnteredWith y (is_kept h.name) h.operands a b) (sym c.id) (put c.here c.is) in
-    counted_heads n.tree b (λ y. put_tally is_kept c.front c.back h (subst (Different is_kept) whole (different is_kept n.tree d)) a b unused
-    (λ z. heads_counted m.tree a was z ∙ ap (λ l. tallied is_kept l z) left) entered y ∙ ap (λ l. tallied is_kept l y) (sym whole))
+    let entered : EnteredWith h.id (stays h.name) h.operands a b = subst (λ y. EnteredWith y (stays h.name) h.operands a b) (sym c.id) (put c.here c.is) in
+    counted_heads n.tree b (λ y. put_tally stays c.front c.back h (subst (Different stays) whole (different stays n.tree d)) a b unused
+    (λ z. heads_counted m.tree a was z ∙ ap (λ l. tallied stays l z) left) entered y ∙ ap (λ l. tallied stays l y) (sym whole))
 
 take_counts : (x : ℕ) (place : Place) (fresh : Bool) (m n : Module) (a b : Counts) → HasDistinctIds m.tree → Takes x place fresh m n
     → ((o : Operation) → find x m.tree ≡ Some o → LeftWith x (head o).operands a b) → Counted a m.tree → Counted b n.tree
@@ -111,15 +111,15 @@ take_counts x place fresh m n a b d takes take was =
     let whole : heads m.tree ≡ c.front ++ (h ∷ c.back) = c.was ∙ ap (λ l. c.front ++ (l ++ c.back)) (one_head c.here (takes.empty c.here c.is)) in
     let left : heads n.tree ≡ c.front ++ c.back = ap heads takes.left ∙ c.rest in
     let gone : LeftWith h.id h.operands a b = subst (λ y. LeftWith y h.operands a b) (sym c.id) (take c.here c.is) in
-    counted_heads n.tree b (λ y. take_tally is_kept c.front c.back h (subst (Different is_kept) whole (different is_kept m.tree d)) a b
-    (λ z. heads_counted m.tree a was z ∙ ap (λ l. tallied is_kept l z) whole) gone y ∙ ap (λ l. tallied is_kept l y) (sym left))
+    counted_heads n.tree b (λ y. take_tally stays c.front c.back h (subst (Different stays) whole (different stays m.tree d)) a b
+    (λ z. heads_counted m.tree a was z ∙ ap (λ l. tallied stays l z) whole) gone y ∙ ap (λ l. tallied stays l y) (sym left))
 
 set_counts : (x k : ℕ) (old new : Value) (m n : Module) (a b : Counts) → HasDistinctIds m.tree → SetsOperand x k old new m n → Exchanged old new a b → Counted a m.tree → Counted b n.tree
 set_counts x k old new m n a b d sets exchanged was =
     let o = holder x k old m.tree sets.was in
     let after : heads n.tree ≡ map (at x (put_operand k new)) (heads m.tree) = ap heads sets.after ∙ each_heads (at x (put_operand k new)) m.tree in
-    counted_heads n.tree b (λ y. set_tally is_kept x k old new a b o.here (heads m.tree) (λ h. (alike_operand x k new h).id) (λ h. (alike_operand x k new h).name) o.there o.id (different is_kept m.tree d) o.has
-    (heads_counted m.tree a was) exchanged y ∙ ap (λ l. tallied is_kept l y) (sym after))
+    counted_heads n.tree b (λ y. set_tally stays x k old new a b o.here (heads m.tree) (λ h. (alike_operand x k new h).id) (λ h. (alike_operand x k new h).name) o.there o.id (different stays m.tree d) o.has
+    (heads_counted m.tree a was) exchanged y ∙ ap (λ l. tallied stays l y) (sym after))
 
 shift_counts : (is_table : List ℕ → Bool) (x : ℕ) (old new : Place) (m n : Module) (a b : Counts) → HasDistinctIds m.tree → HasDistinctIds n.tree → Shifts is_table x old new m n → ((y : ℕ) → b y ≡ a y) → Counted a m.tree → Counted b n.tree
 shift_counts is_table x old new m n a b d e shifts same was =
@@ -130,11 +130,11 @@ shift_counts is_table x old new m n a b d e shifts same was =
     let left : c.front ++ c.back ≡ k.front ++ k.back = sym c.rest ∙ ap heads (sym shifts.rest) ∙ k.rest in
     counted_heads n.tree b (λ y. same y
     ∙ heads_counted m.tree a was y
-    ∙ ap (λ l. tallied is_kept l y) c.was
-    ∙ moved_tally is_kept c.front (heads c.here) c.back (subst (Different is_kept) c.was (different is_kept m.tree d)) y
-    ∙ ap (λ l. tallied is_kept (heads c.here ++ l) y) left
-    ∙ sym (moved_tally is_kept k.front (heads c.here) k.back (subst (Different is_kept) is (different is_kept n.tree e)) y)
-    ∙ ap (λ l. tallied is_kept l y) (sym is))
+    ∙ ap (λ l. tallied stays l y) c.was
+    ∙ moved_tally stays c.front (heads c.here) c.back (subst (Different stays) c.was (different stays m.tree d)) y
+    ∙ ap (λ l. tallied stays (heads c.here ++ l) y) left
+    ∙ sym (moved_tally stays k.front (heads c.here) k.back (subst (Different stays) is (different stays n.tree e)) y)
+    ∙ ap (λ l. tallied stays l y) (sym is))
   where
     some_same : (p q : Operation) → Some p ≡ Some q → p ≡ q
     some_same p q e = cc
@@ -144,7 +144,7 @@ node_head (op h rs) = refl
 
 pub followed_counts : (c : Things) (e : Event) (m n : Module) (shown : ℕ → Option Node) (a b : Counts) → Step c e m n → ShowsAll shown n → ShowsTaken e m shown → CountsFollowed shown e a b → Counted a m.tree → Counted b n.tree
 followed_counts c (Put x place fresh) m n shown a b s all taken f was =
-    put_counts x place fresh m n a b s.after.distinct s.changes (λ o there. subst (λ (h : HeadOf (List ℕ) TypeTerm AttrTerm). EnteredWith x (is_kept h.name) h.operands a b) (node_head o) (f (node_of o) (all x o there))) was
+    put_counts x place fresh m n a b s.after.distinct s.changes (λ o there. subst (λ (h : HeadOf (List ℕ) TypeTerm AttrTerm). EnteredWith x (stays h.name) h.operands a b) (node_head o) (f (node_of o) (all x o there))) was
 followed_counts c (Take x place fresh) m n shown a b s all taken f was =
     take_counts x place fresh m n a b s.before.distinct s.changes (λ o there. subst (λ (h : HeadOf (List ℕ) TypeTerm AttrTerm). LeftWith x h.operands a b) (node_head o) (f (node_of o) (taken ∙ ap (option_map node_of) there))) was
 followed_counts c (SetOperand x k old new) m n shown a b s all taken f was = set_counts x k old new m n a b s.before.distinct s.changes f was
@@ -154,16 +154,16 @@ followed_counts c (SetEntry x part key old new) m n shown a b s all taken f was 
     let after : heads n.tree ≡ map g (heads m.tree) = ap heads s.changes.after ∙ each_heads g m.tree in
     counted_heads n.tree b (λ y. f y
     ∙ heads_counted m.tree a was y
-    ∙ sym (same_tally is_kept g (λ h. (like h).id) (λ h. (like h).name) (entry_operands key_before x part (name_term c key) (option_map (attr_term c) new)) (heads m.tree) y)
-    ∙ ap (λ l. tallied is_kept l y) (sym after))
+    ∙ sym (same_tally stays g (λ h. (like h).id) (λ h. (like h).name) (entry_operands key_before x part (name_term c key) (option_map (attr_term c) new)) (heads m.tree) y)
+    ∙ ap (λ l. tallied stays l y) (sym after))
 followed_counts c (Shift x old new) m n shown a b s all taken f was = shift_counts is_table x old new m n a b s.before.distinct s.after.distinct s.changes f was
 
 -- a table that was made for a tree of numbers counts what it stands for
 pub begun_counts : (c : Things) (t : Op) (a m b : Counts) → HasDistinctIds t → ((y : ℕ) → a y ≡ None) → AllEntered (kept_by c) (heads t) a m → Raised (all_operands (heads t)) m b → Counted b (meaning c t)
 begun_counts c t a m b d vacant entered raised =
     counted_heads (meaning c t) b (λ y. begun_tally (kept_by c) (heads t) a m b (different (kept_by c) t d) vacant entered raised y
-    ∙ sym (mapped_tally (name_term c) (type_term c) (attr_term c) is_kept (heads t) y)
-    ∙ ap (λ l. tallied is_kept l y) (sym (mapped_heads (name_term c) (type_term c) (attr_term c) t)))
+    ∙ sym (mapped_tally (name_term c) (type_term c) (attr_term c) stays (heads t) y)
+    ∙ ap (λ l. tallied stays l y) (sym (mapped_heads (name_term c) (type_term c) (attr_term c) t)))
 
 -- an operation that is taken is shown
 taken_shown : (c : Things) (e : Event) (m n : Module) (shown : ℕ → Option Node) → is_take e ≡ true → Step c e m n → ShowsTaken e m shown → (k : Node) × (shown (op_of e) ≡ Some k)

@@ -1,5 +1,5 @@
 -- What a report of dead operations shows.
-use Rattle.std.proofs.Common.{◌≡◌, ℕ, ◌+◌, List, [], ◌∷◌, Bool, true, false, Option, Some, None, refl, sym, ap, ◌∙◌, subst, arith, cond, eqb, ◌&&◌, map}
+use Rattle.std.proofs.Common.{◌≡◌, ℕ, ◌+◌, List, [], ◌∷◌, Bool, true, false, true≢false, ◌||◌, Option, Some, None, refl, sym, ap, ◌∙◌, subst, arith, cond, eqb, ◌&&◌, map}
 use Rattle.std.specs.Prelude.{option_map, nat_lt, not}
 use Rattle.std.specs.List.{AllByRecursion, All}
 use Rattle.std.specs.List.Sorted.{IsStrictlySortedBy}
@@ -12,7 +12,7 @@ use Rattle.std.proofs.lemmas.Bool.{eqb-true}
 use Rattle.std.proofs.lemmas.Bool.Decides.{nat_tests}
 use Rattle.std.proofs.lemmas.List.Elements.{All-cons, All-nil}
 use Rattle.ir_types.specs.Things.{Things}
-use Rattle.ir_tree.specs.Tree.{head}
+use Rattle.ir_tree.specs.Tree.{op, head}
 use Rattle.ir_tree.specs.Ids.{HasDistinctIds, find}
 use Rattle.ir_tree.specs.Meaning.{Operation}
 use Rattle.ir_tree_laws.proofs.Members.{found_stands}
@@ -20,11 +20,14 @@ use Rattle.ir_event.specs.declared.row.Cell.TheVariants as cell
 use Rattle.ir_event.specs.declared.row.Row.{Row as Line}
 use Rattle.ir_event.specs.Rows.{Op, cell_meaning, rows_meaning, CellIsOf, RowIsOf, Shows}
 use Rattle.op_registry.specs.Registry.{own_of}
+use Rattle.effects.specs.declared.kinds.EffectKinds.{EffectKinds}
 use Rattle.effects.specs.declared.row.Row.{Row}
-use Rattle.effects.specs.Effects.{effects}
-use Rattle.effects.specs.Dead.{is_unused, is_kept, may_go, is_dead}
+use Rattle.effects.specs.Effects.{own_kinds, is_recursive, effects_by, regions_effects, effects}
+use Rattle.op_registry.specs.declared.own.Own.{Own}
+use Rattle.op_registry.specs.declared.own.Own.TheVariants.{Pure, Only, Recursive, Unknown}
+use Rattle.effects.specs.Dead.{is_unused, is_kept, is_missed, stays, may_go, is_dead}
 use Rattle.effects.specs.Spots.{spots, one_if}
-use Rattle.effects.specs.Walks.{row_at}
+use Rattle.effects.specs.Walks.{rows_at}
 use Rattle.effects.specs.Following.{Whole}
 use Rattle.ir_event.specs.Heads.{heads, all_operands}
 use Rattle.effects.specs.Counts.{Counts, results_among, Counted, is_zero}
@@ -43,12 +46,12 @@ module _ (counts : Counts) where
   above_judged x [] a = tt
   above_judged x (e ∷ es) a = (less_than x e.0 a.0, above_judged x es a.1)
 
-  judged_rising : (es : List (ℕ × Row)) → IsStrictlySortedBy nat_cmp (keys_of es) → Rising (judged counts es)
+  pub judged_rising : (es : List (ℕ × Row)) → IsStrictlySortedBy nat_cmp (keys_of es) → Rising (judged counts es)
   unfolding IsStrictlySortedBy
   judged_rising [] s = tt
   judged_rising (e ∷ es) s = (above_judged e.0 es s.0, judged_rising es s.1)
 
-  look_judged : (x : ℕ) (es : List (ℕ × Row)) → look x (judged counts es) ≡ option_map (λ (r : Row). is_zero (counts x) && may_go r.has) (lookup (is_at (nat_cmp x)) es)
+  pub look_judged : (x : ℕ) (es : List (ℕ × Row)) → look x (judged counts es) ≡ option_map (λ (r : Row). is_zero (counts x) && may_go r.has) (lookup (is_at (nat_cmp x)) es)
   look_judged x [] = refl
   look_judged x (e ∷ es) =
       ap (cond (eqb x e.0) (Some (is_zero (counts e.0) && may_go e.1.has))) (look_judged x es)
@@ -78,9 +81,26 @@ none_left n false = ap (λ m. nat_lt m 1) (let same : n + 0 ≡ n = omega arith 
     and_true true = refl
     and_true false = refl
 
-and_right : (a b c : Bool) → ((a && b) && c) ≡ (a && (b && c))
-and_right true b c = refl
-and_right false b c = refl
+not_true : (b : Bool) → not b ≡ true → b ≡ false
+not_true true e = absurd (true≢false (sym e))
+not_true false e = refl
+
+-- an operation that is missed for what it has by itself is missed
+missed_stays : (w : Own) (inner : EffectKinds) → is_missed w ≡ true → may_go (effects_by w inner) ≡ false
+missed_stays Pure inner e = absurd (true≢false (sym e))
+missed_stays (Only s) inner e = not_true (may_go (own_kinds (Only s))) e
+missed_stays Recursive inner e = absurd (true≢false (sym e))
+missed_stays Unknown inner e = refl
+
+missed_one : (o : Operation) → is_missed (own_of (head o).name) ≡ true → may_go (effects own_of o) ≡ false
+missed_one (op h rs) e = missed_stays (own_of h.name) (regions_effects own_of rs) e
+
+-- one that isn't used, isn't kept and isn't missed
+same_judgement : (unused kept missed goes : Bool) → (missed ≡ true → goes ≡ false) → ((unused && not (kept || missed)) && goes) ≡ (unused && (not kept && goes))
+same_judgement false kept missed goes h = refl
+same_judgement true true missed goes h = refl
+same_judgement true false true goes h = sym (h refl)
+same_judgement true false false goes h = refl
 
 module _ (t : Operation) (counts : Counts) (counted : Counted counts t) where
   -- the judgement on an operation of the tree
@@ -89,12 +109,13 @@ module _ (t : Operation) (counts : Counts) (counted : Counted counts t) where
       let s = found_stands x t o e in
       let id : (head o).id ≡ x = ap (λ (p : Operation). (head p).id) (sym s.3) ∙ s.2 in
       let n = results_among x (all_operands (heads t)) in
-      let k = is_kept (head o).name in
+      let k = stays (head o).name in
       let zero : is_zero (counts x) ≡ (is_unused (head o).id t && not k) =
-      ap is_zero (counted x ∙ ap (option_map (λ (o : Operation). results_among x (all_operands (heads t)) + one_if (is_kept (head o).name))) e)
+      ap is_zero (counted x ∙ ap (option_map (λ (o : Operation). results_among x (all_operands (heads t)) + one_if (stays (head o).name))) e)
       ∙ none_left n k
       ∙ ap (λ b. b && not k) (sym (unused_is x t) ∙ ap (λ y. is_unused y t) (sym id)) in
-      ap (λ b. b && may_go (effects own_of o)) zero ∙ and_right (is_unused (head o).id t) (not k) (may_go (effects own_of o))
+      ap (λ b. b && may_go (effects own_of o)) zero
+      ∙ same_judgement (is_unused (head o).id t) (is_kept (head o).name) (is_missed (own_of (head o).name)) (may_go (effects own_of o)) (missed_one o)
 
   judged_all : (x : ℕ) (rows : Option Row) → option_map (effects own_of) (find x t) ≡ option_map (λ (r : Row). r.has) rows → option_map (λ (r : Row). is_zero (counts x) && may_go r.has) rows ≡ option_map (is_dead t) (find x t)
   judged_all x rows e = twice rows ∙ ap (option_map (λ s. is_zero (counts x) && may_go s)) (sym e) ∙ each (find x t) refl
@@ -107,10 +128,10 @@ module _ (t : Operation) (counts : Counts) (counted : Counted counts t) where
       each None f = refl
       each (Some o) f = ap Some (judged_one x o f)
 
-pub judged_listed : (m : BTreeMap ℕ Row) (counts : Counts) (t : Operation) → tree.IsOrdered nat_cmp m → HasDistinctIds t → Whole (row_at m) (spots own_of None t) → Counted counts t → judged counts m.entries ≡ by_id (of_each (is_dead t) t)
+pub judged_listed : (m : BTreeMap ℕ Row) (counts : Counts) (t : Operation) → tree.IsOrdered nat_cmp m → HasDistinctIds t → Whole (rows_at m) (spots own_of None t) → Counted counts t → judged counts m.entries ≡ by_id (of_each (is_dead t) t)
 judged_listed m counts t ordered d h counted =
     rising_same (judged counts m.entries) (by_id (of_each (is_dead t) t)) (judged_rising counts m.entries ordered) (each_rising (is_dead t) t d)
-    (λ x. look_judged counts x m.entries ∙ judged_all t counts counted x (row_at m x) (shown_found own_of t (row_at m) d h x) ∙ sym (each_look (is_dead t) t d x))
+    (λ x. look_judged counts x m.entries ∙ judged_all t counts counted x (rows_at m x) (shown_found own_of t (rows_at m) d h x) ∙ sym (each_look (is_dead t) t d x))
 
 -- ---- rows
 
@@ -133,12 +154,12 @@ module _ (c : Things) where
       All-cons (RowIsOf c) r rs (subst (All (CellIsOf c)) (sym one) (All-cons (CellIsOf c) (cell.Op x) [] (tt {0}) (All-nil (CellIsOf c)))) (rows_known rs xs rest)
 
   pub shows_dead : (m : BTreeMap ℕ Row) (counts : Counts) (rows : List Line) (t : Operation) → tree.IsOrdered nat_cmp m → map (λ (r : Line). r.cells.items) rows ≡ map (cell_of cell.Op) (those (judged counts m.entries))
-      → HasDistinctIds t → Whole (row_at m) (spots own_of None t) → Counted counts t → Shows c rows (dead_rows t)
+      → HasDistinctIds t → Whole (rows_at m) (spots own_of None t) → Counted counts t → Shows c rows (dead_rows t)
   shows_dead m counts rows t ordered is d h counted =
       let e = is ∙ ap (λ l. map (cell_of cell.Op) (those l)) (judged_listed m counts t ordered d h counted) in
       record { says = rows_say rows (dead_of t) e; known = rows_known rows (dead_of t) e }
 
   -- the same of a table that is lent
   pub shown_by : (m lent : BTreeMap ℕ Row) (counts : Counts) (rows : List Line) (t : Operation) → lent ≡ m → tree.IsOrdered nat_cmp lent → map (λ (r : Line). r.cells.items) rows ≡ map (cell_of cell.Op) (those (judged counts lent.entries))
-      → HasDistinctIds t → Whole (row_at m) (spots own_of None t) → Counted counts t → Shows c rows (dead_rows t)
-  shown_by m lent counts rows t same ordered is d h counted = shows_dead lent counts rows t ordered is d (subst (λ (z : BTreeMap ℕ Row). Whole (row_at z) (spots own_of None t)) (sym same) h) counted
+      → HasDistinctIds t → Whole (rows_at m) (spots own_of None t) → Counted counts t → Shows c rows (dead_rows t)
+  shown_by m lent counts rows t same ordered is d h counted = shows_dead lent counts rows t ordered is d (subst (λ (z : BTreeMap ℕ Row). Whole (rows_at z) (spots own_of None t)) (sym same) h) counted

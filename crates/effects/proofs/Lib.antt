@@ -20,3 +20,5 @@ pub mod Down
 pub mod Idling
 pub mod Reached
 pub mod Unused
+pub mod Picking
+pub mod Marked

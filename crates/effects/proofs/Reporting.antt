@@ -24,7 +24,7 @@ use Rattle.effects.specs.declared.kinds.EffectKinds.{EffectKinds}
 use Rattle.effects.specs.declared.row.Row.{Row}
 use Rattle.effects.specs.Effects.{effects}
 use Rattle.effects.specs.Spots.{spots}
-use Rattle.effects.specs.Walks.{row_at}
+use Rattle.effects.specs.Walks.{rows_at}
 use Rattle.op_registry.specs.Registry.{own_of}
 use Rattle.effects.specs.Following.{Whole}
 use Rattle.ir_event.specs.Rows.{by_id}
@@ -50,12 +50,12 @@ above_said : (x : ℕ) (es : List (ℕ × Row)) → AllByRecursion (λ y. nat_cm
 above_said x [] a = tt
 above_said x (e ∷ es) a = (less_than x e.0 a.0, above_said x es a.1)
 
-said_rising : (es : List (ℕ × Row)) → IsStrictlySortedBy nat_cmp (keys_of es) → Rising (said es)
+pub said_rising : (es : List (ℕ × Row)) → IsStrictlySortedBy nat_cmp (keys_of es) → Rising (said es)
 unfolding IsStrictlySortedBy
 said_rising [] s = tt
 said_rising (e ∷ es) s = (above_said e.0 es s.0, said_rising es s.1)
 
-look_said : (x : ℕ) (es : List (ℕ × Row)) → look x (said es) ≡ option_map (λ (r : Row). r.has) (lookup (is_at (nat_cmp x)) es)
+pub look_said : (x : ℕ) (es : List (ℕ × Row)) → look x (said es) ≡ option_map (λ (r : Row). r.has) (lookup (is_at (nat_cmp x)) es)
 look_said x [] = refl
 look_said x (e ∷ es) =
     ap (λ b. cond b (Some e.1.has) (look x (said es))) (sym (same_test x e.0))
@@ -63,10 +63,10 @@ look_said x (e ∷ es) =
     ∙ elim (is_eq (nat_cmp x e.0)) as (λ b. cond b (Some e.1.has) (option_map (λ (r : Row). r.has) (lookup (is_at (nat_cmp x)) es)) ≡ option_map (λ (r : Row). r.has) (cond b (Some e.1) (lookup (is_at (nat_cmp x)) es)))
     [ true ↦ refl | false ↦ refl ]
 
-pub said_listed : (m : BTreeMap ℕ Row) (t : Operation) → tree.IsOrdered nat_cmp m → HasDistinctIds t → Whole (row_at m) (spots own_of None t) → said m.entries ≡ by_id (of_each (effects own_of) t)
+pub said_listed : (m : BTreeMap ℕ Row) (t : Operation) → tree.IsOrdered nat_cmp m → HasDistinctIds t → Whole (rows_at m) (spots own_of None t) → said m.entries ≡ by_id (of_each (effects own_of) t)
 said_listed m t ordered d h =
     rising_same (said m.entries) (by_id (of_each (effects own_of) t)) (said_rising m.entries ordered) (each_rising (effects own_of) t d)
-    (λ x. look_said x m.entries ∙ sym (each_look (effects own_of) t d x ∙ shown_found own_of t (row_at m) d h x))
+    (λ x. look_said x m.entries ∙ sym (each_look (effects own_of) t d x ∙ shown_found own_of t (rows_at m) d h x))
 
 -- ---- rows
 
@@ -125,7 +125,7 @@ module _ (c : Things) where
       All-cons (RowIsOf c) r rs (subst (All (CellIsOf c)) (sym one) (row_known p)) (rows_known rs ps rest)
 
   pub shows_effects : (m : BTreeMap ℕ Row) (rows : List Line) (t : Operation) → tree.IsOrdered nat_cmp m → map (λ (r : Line). r.cells.items) rows ≡ map (cells_of cell.Op cell.Tag) (having (said m.entries))
-      → HasDistinctIds t → Whole (row_at m) (spots own_of None t) → Shows c rows (effects_rows t)
+      → HasDistinctIds t → Whole (rows_at m) (spots own_of None t) → Shows c rows (effects_rows t)
   shows_effects m rows t ordered is d h =
       let e = is ∙ ap (λ l. map (cells_of cell.Op cell.Tag) (having l)) (said_listed m t ordered d h) in
       record { says = rows_say rows (effects_of t) e; known = rows_known rows (effects_of t) e }

@@ -1,8 +1,7 @@
 -- How many uses the results of operations have: a table of counts, as it follows a tree.
-use Rattle.std.specs.Prelude.{◌≡◌, ℕ, ◌+◌, ◌-◌, nat_lt, List, [], ◌∷◌, eqb, Bool, false, Option, Some, None, option_map}
+use Rattle.std.specs.Prelude.{◌≡◌, ℕ, ◌+◌, ◌-◌, List, [], ◌∷◌, eqb, Bool, Option, Some, None, option_map}
 use Rattle.std.specs.Prelude.{if◌then◌else◌}
 use Rattle.std.specs.Ordering.{nat_cmp}
-use Rattle.std.specs.BTreeMap.{BTreeMap}
 use Rattle.std.specs.BTreeMap as tree
 use Rattle.ir_types.specs.Things.{Things}
 use Rattle.ir_types.specs.Terms.{name_term}
@@ -14,16 +13,18 @@ use Rattle.ir_event.specs.declared.event.Event.{Event}
 use Rattle.ir_event.specs.declared.event.Event.TheVariants.{Put, Take, SetOperand, SetEntry, Shift}
 use Rattle.ir_event.specs.Modules.{Node}
 use Rattle.effects.specs.Spots.{one_if}
-use Rattle.effects.specs.Dead.{is_result_of, is_kept}
+pub use Rattle.effects.specs.Marks.{is_zero}
+use Rattle.effects.specs.declared.use_counts.UseCounts.{UseCounts}
+use Rattle.effects.specs.Dead.{is_result_of, stays}
 use Rattle.ir_event.specs.Heads.{heads, all_operands}
 
 -- a table of counts: that of an operation, if it has one
 abbrev pub Counts : Type 0
 Counts = ℕ → Option ℕ
 
--- what a map has
-abbrev pub counts_in : BTreeMap ℕ ℕ → Counts
-counts_in m = tree.get nat_cmp m
+-- what the counts of a listener are
+abbrev pub counts_in : UseCounts → Counts
+counts_in m = tree.get nat_cmp m.counts
 
 -- how many of these values are results of x
 abbrev pub results_among : ℕ → List Value → ℕ
@@ -33,7 +34,7 @@ results_among x (v ∷ vs) = one_if (is_result_of x v) + results_among x vs
 -- a table counts a tree: each operation has one for each use of a result of it, and one more where it is kept
 abbrev pub Counted : Counts → Operation → Type 0
 Counted a t = (x : ℕ) → a x
-    ≡ option_map (λ o. results_among x (all_operands (heads t)) + one_if (is_kept (head o).name)) (find x t)
+    ≡ option_map (λ o. results_among x (all_operands (heads t)) + one_if (stays (head o).name)) (find x t)
 
 -- a table with another count for x
 abbrev pub with_count : ℕ → Option ℕ → Counts → Counts
@@ -58,7 +59,7 @@ AllEntered kept (h ∷ hs) a b = (m : Counts) × Entered h.id (kept h.name) a m 
 
 -- whether the operations of a name's number are kept
 abbrev pub kept_by : Things → ℕ → Bool
-kept_by c n = is_kept (name_term c n)
+kept_by c n = stays (name_term c n)
 
 -- an operation with these operands was put in
 abbrev pub EnteredWith : ℕ → Bool → List Value → Counts → Counts → Type 0
@@ -73,15 +74,10 @@ abbrev pub Exchanged : Value → Value → Counts → Counts → Type 0
 Exchanged old new a b = (y : ℕ)
     → b y ≡ option_map (λ n. (n + one_if (is_result_of y new)) - one_if (is_result_of y old)) (a y)
 
--- whether an operation has a count, and that is 0
-abbrev pub is_zero : Option ℕ → Bool
-is_zero None = false
-is_zero (Some n) = nat_lt n 1
-
 -- a table followed an event, where these operations were shown
 abbrev pub CountsFollowed : (ℕ → Option Node) → Event → Counts → Counts → Type 0
 CountsFollowed shown (Put x place fresh) a b = (n : Node) → shown x ≡ Some n
-    → EnteredWith x (is_kept n.head.name) n.head.operands a b
+    → EnteredWith x (stays n.head.name) n.head.operands a b
 CountsFollowed shown (Take x place fresh) a b = (n : Node) → shown x ≡ Some n → LeftWith x n.head.operands a b
 CountsFollowed shown (SetOperand x k old new) a b = Exchanged old new a b
 CountsFollowed shown (SetEntry x part key old new) a b = (y : ℕ) → b y ≡ a y

@@ -12,7 +12,8 @@ use Rattle.ir_tree.specs.Meaning.{Operation}
 use Rattle.op_registry.specs.declared.definition.Trait.TheVariants.{Terminator}
 use Rattle.op_registry.specs.Registry.{own_of, has_trait}
 use Rattle.effects.specs.declared.kinds.EffectKinds.{EffectKinds}
-use Rattle.effects.specs.Effects.{effects}
+use Rattle.op_registry.specs.declared.own.Own.{Own}
+use Rattle.effects.specs.Effects.{own_kinds, is_recursive, effects}
 
 -- whether a value is a result of operation x
 abbrev pub is_result_of : ℕ → Value → Bool
@@ -31,6 +32,14 @@ is_kept name =
 -- whether there is no effect but those that nobody would miss: an allocation and a read
 abbrev pub may_go : EffectKinds → Bool
 may_go s = not (s.unknown || (s.free || s.write))
+
+-- whether someone would miss what an operation has by itself
+abbrev pub is_missed : Own → Bool
+is_missed own = not (is_recursive own || may_go (own_kinds own))
+
+-- whether an operation of a name is never dead: it stays whatever it does, or has by itself what someone would miss
+abbrev pub stays : List ℕ → Bool
+stays name = is_kept name || is_missed (own_of name)
 
 -- whether an operation of a whole tree is dead
 abbrev pub is_dead : Operation → Operation → Bool

@@ -10,3 +10,5 @@ pub mod Listed
 pub mod Listeners
 pub mod Idle
 pub mod Within
+pub mod Marks
+pub mod Picked

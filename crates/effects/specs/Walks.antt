@@ -7,6 +7,7 @@ use Rattle.effects.specs.declared.kinds.EffectKinds.{EffectKinds}
 use Rattle.op_registry.specs.declared.own.Own.{Own}
 use Rattle.effects.specs.declared.row.Counts.{Counts}
 use Rattle.effects.specs.declared.row.Row.{Row}
+use Rattle.effects.specs.declared.effect_rows.EffectRows.{EffectRows}
 use Rattle.effects.specs.Effects.{union, own_kinds, is_recursive}
 use Rattle.effects.specs.Spots.{one_if, Rows}
 
@@ -92,8 +93,12 @@ gained_row r s =
     }
 
 -- what a map keeps of an operation
-abbrev pub row_at : BTreeMap ℕ Row → Rows
-row_at m = tree.get nat_cmp m
+abbrev pub rows_at : BTreeMap ℕ Row → Rows
+rows_at m = tree.get nat_cmp m
+
+-- what a table keeps of it
+abbrev pub row_at : EffectRows → Rows
+row_at t = rows_at t.rows
 
 -- how many effects a set has
 abbrev pub size : EffectKinds → ℕ

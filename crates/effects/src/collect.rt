@@ -7,15 +7,14 @@ ghost use Rattle.effects.specs.Effects.{own_by};
 ghost use Rattle.effects.specs.Following.{PutAll};
 ghost use Rattle.effects.specs.Found.{head_at, parent_at, spots_by, with_spot};
 
+use crate::effect_rows::EffectRows;
 use crate::own::own;
-use crate::row::Row;
 use crate::table::put;
 use ir_event::world::World;
 use ir_types::ids::OpId;
-use std::collections::BTreeMap;
 
 /// Puts in the operations of a world's module. It is false where memory was refused.
-pub(crate) fn put_module(world: &World, rows: &mut BTreeMap<OpId, Row>) -> bool
+pub(crate) fn put_module(world: &World, rows: &mut EffectRows) -> bool
     ensures { OnTrue result (PutAll (spots (own_by world.now.ctx) None world.now.store.module_of.tree) (row_at rows.old)
         (row_at rows.new)) }
 {
@@ -26,7 +25,7 @@ pub(crate) fn put_module(world: &World, rows: &mut BTreeMap<OpId, Row>) -> bool
 }
 
 /// Puts in operations, each behind the one that it stands in.
-fn put_all(world: &World, ops: &[OpId], rows: &mut BTreeMap<OpId, Row>) -> bool
+fn put_all(world: &World, ops: &[OpId], rows: &mut EffectRows) -> bool
     ensures { OnTrue result (PutAll
         (spots_by (own_by world.now.ctx) (parent_at world.now.store) (head_at world.now.store) ops.now)
         (row_at rows.old) (row_at rows.new)) }
@@ -40,7 +39,7 @@ fn put_all(world: &World, ops: &[OpId], rows: &mut BTreeMap<OpId, Row>) -> bool
 }
 
 /// Puts in an operation, if it is there.
-fn put_found(world: &World, op: OpId, rows: &mut BTreeMap<OpId, Row>) -> bool
+fn put_found(world: &World, op: OpId, rows: &mut EffectRows) -> bool
     ensures { OnTrue result (PutAll
         (with_spot (own_by world.now.ctx) op (parent_at world.now.store op) (head_at world.now.store op) [])
         (row_at rows.old) (row_at rows.new)) }

@@ -5,33 +5,33 @@ ghost use Rattle.ir_event.specs.Looks.{one_more};
 ghost use Rattle.ir_event.specs.Modules.{Node as Shown, shown_in};
 ghost use Rattle.ir_event.specs.Bounds.{op_of};
 ghost use Rattle.ir_event.specs.Listener.{is_take};
-ghost use Rattle.effects.specs.Dead.{is_kept};
+ghost use Rattle.effects.specs.Dead.{stays};
 ghost use Rattle.effects.specs.Counts.{counts_in, EnteredWith, LeftWith, CountsFollowed};
 
 use crate::counts::{exchange, put, take};
-use crate::tally::is_kept;
+use crate::tally::stays;
+use crate::use_counts::UseCounts;
 use ir_event::event::Event;
 use ir_event::view::View;
 use ir_types::ids::OpId;
-use std::collections::BTreeMap;
 
 /// Puts in an operation that is shown. It is false where it isn't, or memory was refused.
-fn put_shown(counts: &mut BTreeMap<OpId, u32>, view: &mut View<'_>, op: OpId) -> bool
+fn put_shown(counts: &mut UseCounts, view: &mut View<'_>, op: OpId) -> bool
     ensures put { OnTrue result
         ((n : Shown) → shown_in view.old.world.now op ≡ Some n
-        → EnteredWith op (is_kept n.head.name) n.head.operands (counts_in counts.old) (counts_in counts.new)) }
+        → EnteredWith op (stays n.head.name) n.head.operands (counts_in counts.old) (counts_in counts.new)) }
     ensures world { view.new.world.now ≡ view.old.world.now }
     ensures looks { view.new.looks ≡ one_more view.old.looks }
 {
     let Some(node) = view.node(op) else {
         return false;
     };
-    let kept = is_kept(view.context(), view.registry(), node.name());
+    let kept = stays(view.context(), view.registry(), node.name());
     put(counts, op, kept, node.operands())
 }
 
 /// Takes out an operation that is shown. It is false where it isn't.
-fn take_shown(counts: &mut BTreeMap<OpId, u32>, view: &mut View<'_>, op: OpId) -> bool
+fn take_shown(counts: &mut UseCounts, view: &mut View<'_>, op: OpId) -> bool
     ensures taken { OnTrue result
         ((n : Shown) → shown_in view.old.world.now op ≡ Some n
         → LeftWith op n.head.operands (counts_in counts.old) (counts_in counts.new)) }
@@ -47,11 +47,7 @@ fn take_shown(counts: &mut BTreeMap<OpId, u32>, view: &mut View<'_>, op: OpId) -
 }
 
 /// Follows an event. It is false where memory was refused, or an operation that was put or taken isn't shown.
-pub(crate) fn follow_counts(
-    counts: &mut BTreeMap<OpId, u32>,
-    view: &mut View<'_>,
-    event: &Event,
-) -> bool
+pub(crate) fn follow_counts(counts: &mut UseCounts, view: &mut View<'_>, event: &Event) -> bool
     ensures followed { OnTrue result
         (CountsFollowed (shown_in view.old.world.now) event.now (counts_in counts.old) (counts_in counts.new)) }
     ensures world { view.new.world.now ≡ view.old.world.now }

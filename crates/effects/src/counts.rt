@@ -1,35 +1,81 @@
 //! How many uses the results of operations have: a count for each operation, which is one higher where the
 //! operation stays whatever it does.
-ghost use Rattle.std.specs.Prelude.{◌≡◌, ℕ, Some, [], ◌∷◌, IsTrue};
+ghost use Rattle.std.specs.Prelude.{◌≡◌, ℕ, ◌*◌, ◌<◌, nat_lt, length, Some, None, [], ◌∷◌, IsTrue, false};
+ghost use Rattle.std.specs.Ordering.{nat_cmp};
+ghost use Rattle.std.specs.BTreeMap as tree;
+ghost use Rattle.bit_set.specs.Bits.{has, has_with};
 ghost use Rattle.std.specs.Bool.{OnTrue};
 ghost use Rattle.effects.specs.Counts.{counts_in, with_count, Raised, Lowered, Entered, EnteredWith, LeftWith};
 ghost use Rattle.effects.specs.Counts.{Exchanged};
 ghost use Rattle.effects.specs.Spots.{one_if};
 
+use crate::use_counts::UseCounts;
+use bit_set::BitSet;
 use ir_tree::value::Value;
 use ir_types::ids::OpId;
+use std::alloc::Global;
 use std::collections::BTreeMap;
 
+/// No operation has a count.
+pub(crate) fn no_counts(alloc: Global) -> UseCounts
+    ensures { (y : ℕ) → counts_in result y ≡ None }
+{
+    UseCounts {
+        counts: BTreeMap::new(alloc),
+        unused: BitSet::new(alloc),
+    }
+}
+
 /// The count of an operation.
-pub(crate) fn count_of(counts: &BTreeMap<OpId, u32>, op: OpId) -> Option<u32>
+pub(crate) fn count_of(counts: &UseCounts, op: OpId) -> Option<u32>
     ensures { result ≡ counts_in counts.now op }
 {
-    counts.get(&op).copied()
+    counts.counts.get(&op).copied()
+}
+
+/// Adds an operation to the set of those that nobody uses, or takes it out of it, by its count.
+fn mark(unused: &mut BitSet, op: OpId, count: u32)
+    requires { op < 64 * length unused.old }
+    ensures room { length unused.new ≡ length unused.old }
+    ensures has { (x : ℕ) → has unused.new x ≡ has_with op (nat_lt count 1) unused.old x }
+{
+    if count == 0 {
+        unused.insert(op.number());
+    } else {
+        unused.remove(op.number());
+    }
+}
+
+/// Gives an operation a count. It is false where memory was refused.
+fn record_count(counts: &mut BTreeMap<OpId, u32>, op: OpId, count: u32) -> bool
+    ensures there { OnTrue result
+        ((y : ℕ) → tree.get nat_cmp counts.new y ≡ with_count op (Some count) (tree.get nat_cmp counts.old) y) }
+    ensures same { result ≡ false → tree.IsUnchanged counts.old counts.new }
+{
+    counts.insert(op, count).is_ok()
+}
+
+/// Takes a count out. This needs no memory.
+fn drop_count(counts: &mut BTreeMap<OpId, u32>, op: OpId)
+    ensures { (y : ℕ) → tree.get nat_cmp counts.new y ≡ with_count op None (tree.get nat_cmp counts.old) y }
+{
+    counts.remove(&op);
 }
 
 /// Writes a count in place of another.
-fn write(counts: &mut BTreeMap<OpId, u32>, op: OpId, count: u32)
+fn write(counts: &mut UseCounts, op: OpId, count: u32)
     ensures { (n : ℕ) → counts_in counts.old op ≡ Some n → (y : ℕ)
         → counts_in counts.new y ≡ with_count op (Some count) (counts_in counts.old) y }
 {
-    if let Some(slot) = counts.get_mut(&op) {
+    if let Some(slot) = counts.counts.get_mut(&op) {
         *slot = count;
+        mark(&mut counts.unused, op, count);
     }
 }
 
 /// Counts a use more of a value, where it is a result of an operation that has a count. It is false where the
 /// count would pass its type.
-fn raise(counts: &mut BTreeMap<OpId, u32>, value: &Value) -> bool
+fn raise(counts: &mut UseCounts, value: &Value) -> bool
     ensures { OnTrue result (Raised (value.now ∷ []) (counts_in counts.old) (counts_in counts.new)) }
 {
     let Value::Result(op, _) = *value else {
@@ -46,7 +92,7 @@ fn raise(counts: &mut BTreeMap<OpId, u32>, value: &Value) -> bool
 }
 
 /// Counts a use less of a value.
-fn lower(counts: &mut BTreeMap<OpId, u32>, value: &Value)
+fn lower(counts: &mut UseCounts, value: &Value)
     ensures { Lowered (value.now ∷ []) (counts_in counts.old) (counts_in counts.new) }
 {
     let Value::Result(op, _) = *value else {
@@ -59,7 +105,7 @@ fn lower(counts: &mut BTreeMap<OpId, u32>, value: &Value)
 }
 
 /// Counts a use more of each of these values. It is false where a count would pass its type.
-pub(crate) fn raise_all(counts: &mut BTreeMap<OpId, u32>, values: &[Value]) -> bool
+pub(crate) fn raise_all(counts: &mut UseCounts, values: &[Value]) -> bool
     ensures { OnTrue result (Raised values.now (counts_in counts.old) (counts_in counts.new)) }
 {
     for value in values {
@@ -71,7 +117,7 @@ pub(crate) fn raise_all(counts: &mut BTreeMap<OpId, u32>, values: &[Value]) -> b
 }
 
 /// Counts a use less of each of these values.
-fn lower_all(counts: &mut BTreeMap<OpId, u32>, values: &[Value])
+fn lower_all(counts: &mut UseCounts, values: &[Value])
     ensures { Lowered values.now (counts_in counts.old) (counts_in counts.new) }
 {
     for value in values {
@@ -80,21 +126,23 @@ fn lower_all(counts: &mut BTreeMap<OpId, u32>, values: &[Value])
 }
 
 /// Gives an operation that nobody uses its count. It is false where memory was refused.
-pub(crate) fn enter(counts: &mut BTreeMap<OpId, u32>, op: OpId, kept: bool) -> bool
+pub(crate) fn enter(counts: &mut UseCounts, op: OpId, kept: bool) -> bool
     ensures { OnTrue result (Entered op kept (counts_in counts.old) (counts_in counts.new)) }
 {
     let count: u32 = if kept { 1 } else { 0 };
-    counts.insert(op, count).is_ok()
+    if counts.unused.reserve(op.number()).is_err() {
+        return false;
+    }
+    if !record_count(&mut counts.counts, op, count) {
+        return false;
+    }
+    mark(&mut counts.unused, op, count);
+    true
 }
 
 /// Puts in an operation that nobody uses, with its operands. It is false where memory was refused, or a count
 /// would pass its type.
-pub(crate) fn put(
-    counts: &mut BTreeMap<OpId, u32>,
-    op: OpId,
-    kept: bool,
-    operands: &[Value],
-) -> bool
+pub(crate) fn put(counts: &mut UseCounts, op: OpId, kept: bool, operands: &[Value]) -> bool
     ensures { OnTrue result (EnteredWith op kept operands.now (counts_in counts.old) (counts_in counts.new)) }
 {
     if !enter(counts, op, kept) {
@@ -104,15 +152,16 @@ pub(crate) fn put(
 }
 
 /// Takes out an operation that nobody uses, with its operands. This needs no memory.
-pub(crate) fn take(counts: &mut BTreeMap<OpId, u32>, op: OpId, operands: &[Value])
+pub(crate) fn take(counts: &mut UseCounts, op: OpId, operands: &[Value])
     ensures { LeftWith op operands.now (counts_in counts.old) (counts_in counts.new) }
 {
-    counts.remove(&op);
+    drop_count(&mut counts.counts, op);
+    counts.unused.remove(op.number());
     lower_all(counts, operands);
 }
 
 /// Counts a use more of one value and a use less of another. It is false where a count would pass its type.
-pub(crate) fn exchange(counts: &mut BTreeMap<OpId, u32>, old: &Value, new: &Value) -> bool
+pub(crate) fn exchange(counts: &mut UseCounts, old: &Value, new: &Value) -> bool
     ensures { OnTrue result (Exchanged old.now new.now (counts_in counts.old) (counts_in counts.new)) }
 {
     if !raise(counts, new) {

@@ -7,18 +7,18 @@ ghost use Rattle.ir_event.specs.Step.{Step};
 ghost use Rattle.effects.specs.Counts.{counts_in, Counted};
 
 use crate::counting::follow_counts;
+use crate::counts::no_counts;
 use crate::effects::Effects;
 use crate::report::dead_lines;
 use crate::tally::{enter_all, raise_each};
+use crate::use_counts::UseCounts;
 use ir_event::analysis::Analysis;
 use ir_event::event::Event;
 use ir_event::row as report;
 use ir_event::row::{Kind, Memory, ReportFault};
 use ir_event::view::View;
 use ir_event::world::World;
-use ir_types::ids::OpId;
 use std::alloc::Global;
-use std::collections::BTreeMap;
 
 /// The analysis `dead`: which operations nobody would miss (Operation Canonicalization, "General Design").
 ///
@@ -27,7 +27,7 @@ use std::collections::BTreeMap;
 pub struct Dead {
     alloc: Global,
     effects: Effects,
-    counts: BTreeMap<OpId, u32>,
+    counts: UseCounts,
     stale: bool,
 }
 
@@ -41,7 +41,7 @@ impl Dead {
         Dead {
             alloc,
             effects: Effects::new(alloc),
-            counts: BTreeMap::new(alloc),
+            counts: no_counts(alloc),
             stale: true,
         }
     }
@@ -49,7 +49,7 @@ impl Dead {
 
 /// Counts the uses of results in a world's module, where no operation has a count so far. It is false where memory
 /// was refused.
-fn tally(world: &World, counts: &mut BTreeMap<OpId, u32>) -> bool
+fn tally(world: &World, counts: &mut UseCounts) -> bool
     ensures { ((y : ℕ) → counts_in counts.old y ≡ None)
         → OnTrue result (Counted (counts_in counts.new) (module_in world.now).tree) }
 {
@@ -73,7 +73,7 @@ impl Analysis for Dead {
 
     fn begin(&mut self, world: &World) -> Result<(), Memory> {
         // What was kept goes first, so that there is room for what is kept now.
-        self.counts = BTreeMap::new(self.alloc);
+        self.counts = no_counts(self.alloc);
         self.stale = true;
         self.effects.begin(world)?;
         if !tally(world, &mut self.counts) {

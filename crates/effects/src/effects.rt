@@ -5,18 +5,17 @@ ghost use Rattle.ir_event.specs.Listener.{Told, ShowsTaken, is_take};
 ghost use Rattle.ir_event.specs.Step.{Step};
 
 use crate::collect::put_module;
+use crate::effect_rows::EffectRows;
 use crate::follow::follow;
 use crate::report::lines;
-use crate::row::Row;
+use crate::table::no_rows;
 use ir_event::analysis::Analysis;
 use ir_event::event::Event;
 use ir_event::row as report;
 use ir_event::row::{Kind, Memory, ReportFault};
 use ir_event::view::View;
 use ir_event::world::World;
-use ir_types::ids::OpId;
 use std::alloc::Global;
-use std::collections::BTreeMap;
 
 /// The analysis `effects`: which effects each operation has (Rationale, "Side Effects & Speculation").
 ///
@@ -25,7 +24,7 @@ use std::collections::BTreeMap;
 #[derive(Drop)]
 pub struct Effects {
     alloc: Global,
-    rows: BTreeMap<OpId, Row>,
+    rows: EffectRows,
     stale: bool,
 }
 
@@ -38,13 +37,13 @@ impl Effects {
     {
         Effects {
             alloc,
-            rows: BTreeMap::new(alloc),
+            rows: no_rows(alloc),
             stale: true,
         }
     }
 
     /// The table.
-    pub(crate) fn rows(&self) -> &BTreeMap<OpId, Row>
+    pub(crate) fn rows(&self) -> &EffectRows
         ensures { result.now ≡ self.now.rows }
     {
         &self.rows
@@ -62,7 +61,7 @@ impl Analysis for Effects {
 
     fn begin(&mut self, world: &World) -> Result<(), Memory> {
         // What was kept goes first, so that there is room for what is kept now.
-        self.rows = BTreeMap::new(self.alloc);
+        self.rows = no_rows(self.alloc);
         self.stale = true;
         if !put_module(world, &mut self.rows) {
             return Err(Memory);

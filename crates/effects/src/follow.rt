@@ -8,14 +8,13 @@ ghost use Rattle.ir_event.specs.Listener.{is_take};
 ghost use Rattle.effects.specs.Walks.{row_at};
 ghost use Rattle.effects.specs.Following.{Followed};
 
+use crate::effect_rows::EffectRows;
 use crate::own::own;
-use crate::row::Row;
 use crate::table::{put, shift, take};
 use ir_event::event::Event;
 use ir_event::view::View;
 use ir_types::ids::OpId;
 use op_registry::own::Own;
-use std::collections::BTreeMap;
 
 /// What an operation that is shown has by itself.
 fn own_at(view: &mut View<'_>, op: OpId) -> Option<Own>
@@ -28,7 +27,7 @@ fn own_at(view: &mut View<'_>, op: OpId) -> Option<Own>
 }
 
 /// Follows an event. It is false where memory was refused, or an operation that was put isn't shown.
-pub(crate) fn follow(rows: &mut BTreeMap<OpId, Row>, view: &mut View<'_>, event: &Event) -> bool
+pub(crate) fn follow(rows: &mut EffectRows, view: &mut View<'_>, event: &Event) -> bool
     ensures followed { OnTrue result
         (Followed (shown_in view.old.world.now) event.now (row_at rows.old) (row_at rows.new)) }
     ensures world { view.new.world.now ≡ view.old.world.now }

@@ -1,28 +1,55 @@
 //! Changes of the table.
-ghost use Rattle.std.specs.Prelude.{◌≡◌, Some, None, ℕ, List, ◌∷◌};
+ghost use Rattle.std.specs.BTreeMap as tree;
+ghost use Rattle.std.specs.Prelude.{◌≡◌, false, Some, None, ℕ, List, ◌∷◌};
 ghost use Rattle.std.specs.Bool.{OnTrue};
 ghost use Rattle.effects.specs.Spots.{Spot, Apart, with_row};
-ghost use Rattle.effects.specs.Walks.{row_at};
+ghost use Rattle.effects.specs.Walks.{rows_at, row_at};
 ghost use Rattle.effects.specs.Following.{Whole, PutIn, TakenOut, ShiftedTo};
 
+use crate::effect_rows::EffectRows;
 use crate::row::Row;
-use crate::walk::{drop_row, gain, lose, row_of, write};
+use crate::walk::{drop_row, gain, lose, mark, row_of, write};
+use bit_set::BitSet;
 use ir_types::ids::OpId;
 use op_registry::own::Own;
+use std::alloc::Global;
 use std::collections::BTreeMap;
 
-/// Adds a row, or writes it in place of another. It is false where memory was refused.
-fn add(rows: &mut BTreeMap<OpId, Row>, op: OpId, row: Row) -> bool
-    ensures { OnTrue result ((x : ℕ) → row_at rows.new x ≡ with_row op (Some row) (row_at rows.old) x) }
+/// No operation has a row.
+pub(crate) fn no_rows(alloc: Global) -> EffectRows
+    ensures { (x : ℕ) → row_at result x ≡ None }
 {
-    match rows.insert(op, row) {
-        Ok(_) => true,
-        Err(_) => false,
+    EffectRows {
+        rows: BTreeMap::new(alloc),
+        acting: BitSet::new(alloc),
     }
 }
 
+/// Adds a row to a map, or writes it in place of another. It is false where memory was refused.
+fn record_row(rows: &mut BTreeMap<OpId, Row>, op: OpId, row: Row) -> bool
+    ensures there { OnTrue result ((x : ℕ) → rows_at rows.new x ≡ with_row op (Some row) (rows_at rows.old) x) }
+    ensures same { result ≡ false → tree.IsUnchanged rows.old rows.new }
+{
+    rows.insert(op, row).is_ok()
+}
+
+/// Adds a row, or writes it in place of another. It is false where memory was refused.
+fn add(rows: &mut EffectRows, op: OpId, row: Row) -> bool
+    ensures { OnTrue result ((x : ℕ) → row_at rows.new x ≡ with_row op (Some row) (row_at rows.old) x) }
+{
+    if rows.acting.reserve(op.number()).is_err() {
+        return false;
+    }
+    let has = row.has;
+    if !record_row(&mut rows.rows, op, row) {
+        return false;
+    }
+    mark(&mut rows.acting, op, &has);
+    true
+}
+
 /// Puts in an operation that holds none. It is false where memory was refused.
-pub(crate) fn put(rows: &mut BTreeMap<OpId, Row>, op: OpId, parent: Option<OpId>, own: &Own) -> bool
+pub(crate) fn put(rows: &mut EffectRows, op: OpId, parent: Option<OpId>, own: &Own) -> bool
     ensures { OnTrue result (PutIn op parent own.now (row_at rows.old) (row_at rows.new)) }
 {
     let row = Row::leaf(parent, own);
@@ -35,7 +62,7 @@ pub(crate) fn put(rows: &mut BTreeMap<OpId, Row>, op: OpId, parent: Option<OpId>
 }
 
 /// Takes out an operation that holds none. This needs no memory.
-pub(crate) fn take(rows: &mut BTreeMap<OpId, Row>, op: OpId)
+pub(crate) fn take(rows: &mut EffectRows, op: OpId)
     ensures { TakenOut op (row_at rows.old) (row_at rows.new) }
 {
     if let Some(gone) = drop_row(rows, op) {
@@ -44,7 +71,7 @@ pub(crate) fn take(rows: &mut BTreeMap<OpId, Row>, op: OpId)
 }
 
 /// Takes an operation out of the one around it.
-fn detach(rows: &mut BTreeMap<OpId, Row>, op: OpId)
+fn detach(rows: &mut EffectRows, op: OpId)
     ensures { ShiftedTo op None (row_at rows.old) (row_at rows.new) }
 {
     if let Some(row) = row_of(rows, op) {
@@ -55,7 +82,7 @@ fn detach(rows: &mut BTreeMap<OpId, Row>, op: OpId)
 }
 
 /// Puts an operation that stands in none into another. It is false where a count would pass its type.
-fn attach(rows: &mut BTreeMap<OpId, Row>, op: OpId, parent: OpId) -> bool
+fn attach(rows: &mut EffectRows, op: OpId, parent: OpId) -> bool
     ensures { OnTrue result ((n : Spot) (ns : List Spot) → n.id ≡ op → n.parent ≡ None → Apart (n ∷ ns)
         → Whole (row_at rows.old) (n ∷ ns) → Whole (row_at rows.new) (record n { parent = Some parent } ∷ ns)) }
 {
@@ -68,7 +95,7 @@ fn attach(rows: &mut BTreeMap<OpId, Row>, op: OpId, parent: OpId) -> bool
 }
 
 /// Moves an operation, with what is inside it, into another. It is false where a count would pass its type.
-pub(crate) fn shift(rows: &mut BTreeMap<OpId, Row>, op: OpId, parent: OpId) -> bool
+pub(crate) fn shift(rows: &mut EffectRows, op: OpId, parent: OpId) -> bool
     ensures { OnTrue result (ShiftedTo op (Some parent) (row_at rows.old) (row_at rows.new)) }
 {
     detach(rows, op);

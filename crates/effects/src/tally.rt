@@ -2,19 +2,22 @@
 ghost use Rattle.std.specs.Prelude.{◌≡◌, []};
 ghost use Rattle.std.specs.Bool.{OnTrue};
 ghost use Rattle.ir_types.specs.Terms.{name_term};
-ghost use Rattle.effects.specs.Dead.{is_kept};
+ghost use Rattle.effects.specs.Dead.{is_kept, is_missed, stays};
 ghost use Rattle.ir_event.specs.Heads.{all_operands};
 ghost use Rattle.effects.specs.Found.{head_at, heads_by, with_head};
 ghost use Rattle.effects.specs.Counts.{counts_in, kept_by, Raised, AllEntered};
 
 use crate::counts::{enter, raise_all};
+use crate::kinds::{EffectKinds, recursive};
+use crate::own::own;
+use crate::use_counts::UseCounts;
 use ir_event::store::store::Store;
 use ir_event::world::World;
 use ir_types::context::Context;
 use ir_types::ids::{NameId, OpId};
 use op_registry::definition::Trait;
+use op_registry::own::Own;
 use op_registry::registry::Registry;
-use std::collections::BTreeMap;
 
 /// Whether an operation of a name stays whatever it does: a terminator, or what defines a symbol, as modules and
 /// functions do.
@@ -26,8 +29,23 @@ pub(crate) fn is_kept(ctx: &Context, registry: &Registry, name: NameId) -> bool
     registry.has(name, Trait::Terminator) || registry.has(name, Trait::Symbol)
 }
 
+/// Whether someone would miss what an operation has by itself.
+fn is_missed(own: &Own) -> bool
+    ensures { result ≡ is_missed own.now }
+{
+    let kinds = EffectKinds::of(own);
+    !(recursive(own) || !(kinds.unknown || kinds.free || kinds.write))
+}
+
+/// Whether an operation of a name is never dead: it stays whatever it does, or has by itself what someone would miss.
+pub(crate) fn stays(ctx: &Context, registry: &Registry, name: NameId) -> bool
+    ensures { result ≡ stays (name_term ctx.now name) }
+{
+    is_kept(ctx, registry, name) || is_missed(&own(ctx, registry, name))
+}
+
 /// Gives operations their counts. It is false where memory was refused.
-pub(crate) fn enter_all(world: &World, ops: &[OpId], counts: &mut BTreeMap<OpId, u32>) -> bool
+pub(crate) fn enter_all(world: &World, ops: &[OpId], counts: &mut UseCounts) -> bool
     ensures { OnTrue result (AllEntered (kept_by world.now.ctx) (heads_by (head_at world.now.store) ops.now)
         (counts_in counts.old) (counts_in counts.new)) }
 {
@@ -40,19 +58,19 @@ pub(crate) fn enter_all(world: &World, ops: &[OpId], counts: &mut BTreeMap<OpId,
 }
 
 /// Gives an operation its count, if it is there.
-fn enter_found(world: &World, op: OpId, counts: &mut BTreeMap<OpId, u32>) -> bool
+fn enter_found(world: &World, op: OpId, counts: &mut UseCounts) -> bool
     ensures { OnTrue result (AllEntered (kept_by world.now.ctx) (with_head op (head_at world.now.store op) [])
         (counts_in counts.old) (counts_in counts.new)) }
 {
     let Some(node) = world.store.node(op) else {
         return true;
     };
-    let kept = is_kept(&world.ctx, &world.registry, node.name());
+    let kept = stays(&world.ctx, &world.registry, node.name());
     enter(counts, op, kept)
 }
 
 /// Counts the operands of operations. It is false where a count would pass its type.
-pub(crate) fn raise_each(store: &Store, ops: &[OpId], counts: &mut BTreeMap<OpId, u32>) -> bool
+pub(crate) fn raise_each(store: &Store, ops: &[OpId], counts: &mut UseCounts) -> bool
     ensures { OnTrue result (Raised (all_operands (heads_by (head_at store.now) ops.now)) (counts_in counts.old)
         (counts_in counts.new)) }
 {
@@ -65,7 +83,7 @@ pub(crate) fn raise_each(store: &Store, ops: &[OpId], counts: &mut BTreeMap<OpId
 }
 
 /// Counts the operands of an operation, if it is there.
-fn raise_found(store: &Store, op: OpId, counts: &mut BTreeMap<OpId, u32>) -> bool
+fn raise_found(store: &Store, op: OpId, counts: &mut UseCounts) -> bool
     ensures { OnTrue result (Raised (all_operands (with_head op (head_at store.now op) [])) (counts_in counts.old)
         (counts_in counts.new)) }
 {

@@ -14,5 +14,5 @@ returns c =
     let b = counts_in c.enter.new.counts in
     on_true_more c.enter.result _ _
     (λ p. subst (λ o. AllEntered kept (with_head x o []) a b) (ap (option_map (λ (n : Node). n.head)) c.in-Some.ensures)
-    (b, subst (λ k. Entered x k a b) (c.is_kept-kept.ensures ∙ ap kept c.name.ensures) p, λ y. refl))
+    (b, subst (λ k. Entered x k a b) (c.stays-kept.ensures ∙ ap kept c.name.ensures) p, λ y. refl))
     c.enter.ensures

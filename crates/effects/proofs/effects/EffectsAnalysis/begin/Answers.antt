@@ -16,7 +16,7 @@ returns-clause-ok c =
       refl,
       (
         meaning_distinct ctx t distinct,
-        begun_agrees ctx t (row_at c.new.result) (row_at c.put_module.new.rows) distinct (λ x. ap (lookup (is_at (nat_cmp x))) c.new.ensures.empty)
+        begun_agrees ctx t (row_at c.no_rows.result) (row_at c.put_module.new.rows) distinct c.no_rows.ensures
             (on_true_is c.put_module.result _ yes c.put_module.ensures),
       ),
     )

@@ -1,0 +1,30 @@
+use Rattle.std.proofs.Common.{◌≡◌, ℕ, ◌≤◌, Some, ap, ◌∙◌, arith, cond, rules, length, ltb-true}
+use Rattle.std.specs.Prelude.{IsSome}
+use Rattle.std.specs.Ordering.{nat_cmp}
+use Rattle.std.specs.BTreeMap as tree
+use Rattle.effects.specs.Counts.{counts_in, with_count}
+use Rattle.effects.specs.Marks.{is_zero}
+use Rattle.effects.proofs.Marked.{marked, roomy}
+use Rattle.effects.proofs.Reporting.{same_test}
+use Rattle.effects.proofs.counts.write.Goals as goal
+
+pub mark-requires : goal.mark-requires
+mark-requires c =
+    let some : IsSome (counts_in c.args.counts.now c.args.op) = search rules in
+    ltb-true _ _ (c.args.counts.now.room c.args.op some)
+
+pub invariant_of-counts : goal.invariant_of-counts
+invariant_of-counts c =
+    let f = counts_in c.args.counts.now in
+    let g = tree.get nat_cmp (c.get_mut.follows.lender c.args.count) in
+    let some : IsSome (f c.args.op) = search rules in
+    let is : (y : ℕ) → g y ≡ with_count c.args.op (Some c.args.count) f y =
+    λ y. ((c.get_mut.follows.holds c.args.count).3 some).0 y ∙ ap (λ b. cond b (Some c.args.count) (f y)) (same_test c.args.op y) in
+    let room = ltb-true _ _ (c.args.counts.now.room c.args.op some) in
+    let set = c.args.counts.now.unused in
+    let new = c.mark.new.unused in
+    let wide : length set ≤ length new = omega (arith, c.mark.ensures.room) in
+    record {
+      marked = marked f g set new c.args.op (Some c.args.count) is is_zero c.args.counts.now.marked c.mark.ensures.has;
+      room = roomy f g set new c.args.op (Some c.args.count) is c.args.counts.now.room wide (λ h. omega (arith, room, wide));
+    }
