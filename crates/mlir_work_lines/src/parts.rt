@@ -1,0 +1,54 @@
+//! The module of an input, up to the divider.
+ghost use Rattle.std.specs.Prelude.{◌≡◌, true, IfOk, IfErr};
+ghost use Rattle.mlir_work_script.specs.Limits.{most_input_bytes};
+ghost use Rattle.mlir_work_script.specs.Parts.{at_divider as is_at_divider};
+ghost use Rattle.mlir_work_lines.specs.Feeding.{IsMore, TakesModule, waiting};
+ghost use Rattle.mlir_work_lines.specs.declared.feed.Stop.TheVariants.{Broken as WasBroken, TooMany as WereTooMany};
+
+use crate::feed::{Stop, take_line};
+use mlir_work_script::input::MAX_INPUT_BYTES;
+use mlir_work_script::lines::split_line;
+use mlir_work_script::sink::Sink;
+use mlir_work_script::source::Source;
+use std::alloc::Global;
+
+/// The line between a module and its script.
+const DIVIDER: &[u8] = b"// -----";
+
+/// Whether the first line of a text is exactly the divider.
+fn at_divider(text: &[u8]) -> bool
+    ensures { result ≡ is_at_divider text.now }
+{
+    let (line, _) = split_line(text);
+    line == DIVIDER
+}
+
+/// Takes the text of the module, which is what stands before the first line that is exactly the divider, and that line.
+pub fn take_module<R: Source, W: Sink>(
+    alloc: Global,
+    kept: &mut Vec<u8>,
+    reader: &mut R,
+    writer: &W,
+) -> Result<Vec<u8>, Stop>
+    requires handed { W.handed writer.now ≡ true }
+    ensures module { IfOk result (λ text. TakesModule (waiting kept.old.items (R.intake reader.old).remaining) (waiting kept.new.items (R.intake reader.new).remaining) text.items) }
+    ensures failed { IfOk result (λ _. (R.intake reader.new).failed ≡ (R.intake reader.old).failed) }
+    ensures broken { IfErr result (λ stop. stop ≡ WasBroken → (R.intake reader.new).failed ≡ true) }
+    ensures many { IfErr result (λ stop. stop ≡ WereTooMany → IsMore most_input_bytes (waiting kept.old.items (R.intake reader.old).remaining)) }
+{
+    let mut text = Vec::new(alloc);
+    'lines: loop {
+        let line = match take_line(alloc, MAX_INPUT_BYTES - text.len(), kept, reader, writer) {
+            Ok(Some(line)) => line,
+            Ok(None) => return Ok(text),
+            Err(stop) => return Err(stop),
+        };
+        if at_divider(&line) {
+            return Ok(text);
+        }
+        match text.extend_from_slice(&line) {
+            Ok(()) => {}
+            Err(_) => return Err(Stop::Memory),
+        }
+    }
+}
