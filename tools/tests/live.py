@@ -1,5 +1,5 @@
-"""A program for tests that has `--interactive`: it answers by bench/reference, a line at a time, or a whole run. With FAIL_AT in the
-environment it ends at the line of that number, once: the file that GONE names says that it did."""
+"""A program for tests that has `--interactive`: it answers by bench/reference, a line at a time, or a whole run. With
+FAIL_AT in the environment it ends at the line of that number, once: the file that GONE names says that it did."""
 import os
 import pathlib
 import sys

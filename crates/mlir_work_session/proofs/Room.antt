@@ -1,8 +1,8 @@
 -- Where canonicalization and conversion are refused with 31: where that is due, or the context is full.
-use Rattle.std.proofs.Common.{◌≡◌, ◌∙◌, sym, ap, ◌⊎◌, inl, inr, subst, ℕ, Option, Some, None, option_map, Result, Ok, Err}
+use Rattle.std.proofs.Common.{◌≡◌, ◌∙◌, sym, ap, ◌⊎◌, inl, inr, subst, ℕ, List, [], Option, Some, None, option_map, Result, Ok, Err}
 use Rattle.std.specs.Prelude.{IfErr}
 use Rattle.ir_types.specs.declared.refusal.Refusal.{Refusal}
-use Rattle.rewriter.specs.Commands.{Response, Replied, RuleName}
+use Rattle.rewriter.specs.Commands.{Command, Response, Replied, RuleName}
 use Rattle.rewriter.specs.Machine.{Change, IsFullSo, Reply, State, Transformation, due}
 use Rattle.greedy.specs.Changes.{canonical_reply, canonicalizing}
 use Rattle.greedy.specs.Outcomes.{IsReason}
@@ -10,7 +10,8 @@ use Rattle.greedy.specs.declared.outcome.Outcome.{Outcome as Ended}
 use Rattle.greedy.proofs.Changing.{canon_full}
 use Rattle.mlir_work_transforms.specs.Applying.{application, applying, rule_named}
 use Rattle.mlir_work_transforms.specs.Rule.{Rule}
-use Rattle.mlir_work_session.specs.Machine.{FullSo}
+use Rattle.mlir_work_session.specs.declared.manner.Manner.{Manner}
+use Rattle.mlir_work_session.specs.Machine.{AsksRoom, FullSo, Obeys}
 
 -- a reply that is the response is as the response is
 pub replied : (full : Type 0) (s : State) (f : Transformation) (response : Response) (reply : Reply) → response ≡ Replied reply → IsFullSo full s f reply → FullSo full s f response
@@ -43,3 +44,10 @@ rule_room s response name x r added full more {f} {reply} some is replies so =
     wider : {A : Type 0} → A ⊎ added → A ⊎ full
     wider (inl a) = inl a
     wider (inr b) = inr (more b)
+
+-- what is said of a command in one form is said of it in another, and of the reply to it
+pub obeys_plainly : (manner : Manner) (s t : State) (said spoken : Command) (r q : Response) (bytes : List ℕ) → said ≡ spoken → r ≡ q → bytes ≡ [] → Obeys manner s spoken q [] t → Obeys manner s said r bytes t
+obeys_plainly manner s t said spoken r q bytes a b c h = rw a (rw b (rw c h))
+
+pub room_plainly : (full : Type 0) (manner : Manner) (s : State) (said spoken : Command) (r q : Response) → said ≡ spoken → r ≡ q → AsksRoom full manner s spoken q → AsksRoom full manner s said r
+room_plainly full manner s said spoken r q a b h = subst (λ (c : Command). AsksRoom full manner s c r) (sym a) (subst (AsksRoom full manner s spoken) (sym b) h)
