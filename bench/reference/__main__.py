@@ -1,33 +1,76 @@
 """Runs a module and a script by the rules, as the program does, in bench/:
 
-python3 -m reference [--brief] [--limit N] < INPUT"""
+python3 -m reference [--brief] [--limit N] [--opaque] < INPUT
+python3 -m reference [--brief] [--limit N] --own-patterns [--patterns FILE].. < INPUT
+
+With --opaque, which the program doesn't have yet, opaque terms, aliases and locations are read. With --own-patterns it
+knows the commands of docs/PATTERNS.md too, which the program doesn't have; a file has patterns, one a line, which are
+there from the start."""
+import pathlib
 import re
 import sys
 
-from .script import ALL, BOXES, LIMIT, MOST_LIMIT, run
+from . import own
+from .script import LIMIT, MOST_LIMIT, run, run_opaque
 
 
-def options(words):
-    """Whether to be brief, and the limit; none where the words say something else."""
-    brief, limit = False, None
-    while words:
-        if words[0] == "--brief" and not brief:
-            brief, words = True, words[1:]
-        elif words[0] == "--limit" and limit is None and re.fullmatch("[+]?[0-9]+", "".join(words[1:2])) and 1 <= int(
-            words[1]) <= MOST_LIMIT:
-            limit, words = int(words[1]), words[2:]
-        else:
-            return None
-    return brief, limit or LIMIT
+class Options:
+    """Whether to be brief, the limit, whether opaque terms are read, and the files of patterns; none of these where
+    there are to be no patterns."""
+
+    def __init__(self, words):
+        self.brief, self.limit, self.is_open, self.files = False, None, False, None
+        while words:
+            words = self.after(*words)
+        self.limit = self.limit or LIMIT
+
+    def after(self, word, *rest):
+        """Takes an option, and gives the words behind it; raises `ValueError` where it is none."""
+        if word == "--brief" and not self.brief:
+            self.brief = True
+            return rest
+        if word == "--opaque" and not self.is_open:
+            self.is_open = True
+            return rest
+        if word == "--own-patterns" and self.files is None:
+            self.files = []
+            return rest
+        if word == "--patterns" and self.files is not None and rest:
+            self.files.append(rest[0])
+            return rest[1:]
+        if word == "--limit" and self.limit is None and rest and re.fullmatch("[+]?[0-9]+", rest[0]) and 1 <= int(
+                rest[0]) <= MOST_LIMIT:
+            self.limit = int(rest[0])
+            return rest[1:]
+        raise ValueError
+
+    def run(self, text):
+        if self.files is None:
+            return (run_opaque if self.is_open else run)(text, self.brief, limit=self.limit)
+        book = {}
+        for file in self.files:
+            own.read_book(pathlib.Path(file).read_bytes(), book)
+        return own.run(text, self.brief, self.limit, book)
 
 
-if "--help" in sys.argv[1:]:
-    print(__doc__)
-    sys.exit(0)
-asked = options(sys.argv[1:])
-if asked is None:
-    print(__doc__, file=sys.stderr)
-    sys.exit(2)
-status, out = run(sys.stdin.buffer.read(), asked[0], BOXES, ALL, asked[1])
-sys.stdout.buffer.write(out)
-sys.exit(status)
+def main(words):
+    if "--help" in words:
+        print(__doc__)
+        return 0
+    try:
+        options = Options(words)
+        if options.is_open and options.files is not None:
+            raise ValueError
+    except ValueError:
+        print(__doc__, file=sys.stderr)
+        return 2
+    try:
+        status, out = options.run(sys.stdin.buffer.read())
+    except (OSError, own.BookRefused) as fault:
+        print(fault, file=sys.stderr)
+        return 2
+    sys.stdout.buffer.write(out)
+    return status
+
+
+sys.exit(main(sys.argv[1:]))

@@ -1,0 +1,4 @@
+pub mod Judged
+pub mod Logs
+pub mod Products
+pub mod Verdicts
