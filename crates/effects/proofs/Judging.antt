@@ -22,7 +22,7 @@ use Rattle.ir_event.specs.Rows.{Op, cell_meaning, rows_meaning, CellIsOf, RowIsO
 use Rattle.op_registry.specs.Registry.{own_of}
 use Rattle.effects.specs.declared.kinds.EffectKinds.{EffectKinds}
 use Rattle.effects.specs.declared.row.Row.{Row}
-use Rattle.effects.specs.Effects.{own_kinds, is_recursive, effects_by, regions_effects, effects}
+use Rattle.effects.specs.Effects.{own_kinds, effects_by, regions_effects, effects}
 use Rattle.op_registry.specs.declared.own.Own.{Own}
 use Rattle.op_registry.specs.declared.own.Own.TheVariants.{Pure, Only, Recursive, Unknown}
 use Rattle.effects.specs.Dead.{is_unused, is_kept, is_missed, stays, may_go, is_dead}

@@ -1,4 +1,4 @@
-use Rattle.std.proofs.Common.{◌≡◌, ◌+◌, Some, sym, ◌∙◌, rules}
+use Rattle.std.proofs.Common.{◌≡◌, Some, sym, ◌∙◌, rules}
 use Rattle.effects.specs.Counts.{counts_in}
 use Rattle.effects.proofs.Raising.{raised_one}
 use Rattle.effects.proofs.counts.raise.Goals as goal

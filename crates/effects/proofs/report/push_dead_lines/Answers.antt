@@ -1,4 +1,4 @@
-use Rattle.std.proofs.Common.{◌≡◌, ℕ, ◌+◌, ◌-◌, List, ◌++◌, [], ◌∷◌, refl, sym, ap, ◌∙◌, arith, map, rules, append-nil}
+use Rattle.std.proofs.Common.{◌≡◌, ◌+◌, ◌-◌, List, ◌++◌, [], ◌∷◌, sym, ap, ◌∙◌, arith, map, rules, append-nil}
 use Rattle.ir_event.specs.declared.row.Row.{Row}
 use Rattle.ir_event.specs.declared.row.Cell.{Cell}
 use Rattle.ir_event.specs.declared.row.Cell.TheVariants.{Op}

@@ -1,4 +1,4 @@
-use Rattle.std.proofs.Common.{◌≡◌, ℕ, ◌*◌, ◌<◌, ◌≤◌, Some, true, arith, rules, length}
+use Rattle.std.proofs.Common.{◌≡◌, ◌*◌, ◌<◌, ◌≤◌, Some, true, arith, rules, length}
 use Rattle.effects.specs.Marks.{acts}
 use Rattle.effects.specs.Walks.{rows_at, row_at}
 use Rattle.effects.proofs.Changes.{on_true_is}

@@ -1,7 +1,4 @@
-use Rattle.std.proofs.Common.{◌≡◌, true, refl, ap, rules}
-use Rattle.std.specs.Ordering.{nat_cmp}
-use Rattle.std.specs.Map.{lookup}
-use Rattle.std.specs.BTreeMap.{is_at}
+use Rattle.std.proofs.Common.{◌≡◌, true, refl, rules}
 use Rattle.effects.specs.Walks.{row_at}
 use Rattle.effects.proofs.Changes.{on_true_is}
 use Rattle.effects.proofs.Agreed.{begun_agrees, meaning_distinct}
