@@ -23,6 +23,8 @@ KEY = re.compile(r'(?<=[{ ])("[^"]*"|[A-Za-z_][\w$.]*)(?= = |[,}])')
 ARGUMENT = re.compile(r"(%a[\d.]+):")
 # So many values before an operation are tried in place of its results.
 NEAR = 8
+# So many pairs of values are tried by one run.
+MOST_PAIRS = 20000
 TYPE = re.compile(r"i\d+|index")
 OPERATION = re.compile(r"(#|%v|%a)(\d+)")
 EPILOG = """The module is written to standard output, behind its script in comments, or into a file, with the script
@@ -132,25 +134,28 @@ class Reducer:
         self.count = found.count or self.count
         return found
 
-    def does(self, lines):
-        """Tries some lines, keeps those that are accepted if it still is shown behind them, and says whether it does
-        and one is."""
+    def shows(self, lines):
+        """Tries some lines, and keeps those that are accepted if it still is shown behind them; says whether it is.
+        (Where none is accepted it is, as before.)"""
         self.tries += 1
         replies, answer = self.way.tried(self.kept, lines, self.goal.question)
         done = [line for line, reply in zip(lines, replies) if not reply.startswith("refused")]
-        if not (done or not lines) or not self.goal.is_shown(answer):
+        if lines and not done:
+            return True
+        if not self.goal.is_shown(answer):
             return False
         self.kept += done
         return True
 
     def shrink(self, units):
-        """Tries units of lines, all at once, then halves of them, and so on; what is done isn't tried again."""
+        """Tries units of lines, all at once, then halves of them, and so on; what is done isn't tried again, nor is
+        what is refused line by line: alone it would be too."""
         size = len(units)
         while size:
             left = []
             for begin in range(0, len(units), size):
                 part = units[begin:begin + size]
-                left += [] if self.does([line for unit in part for line in unit]) else part
+                left += [] if self.shows([line for unit in part for line in unit]) else part
             units, size = left, min(size // 2, len(left))
 
     def erase(self, numbers):
@@ -161,9 +166,15 @@ class Reducer:
         """For each result an operand of its operation that has its type, or else a value before it, if there is one."""
         pairs = [(result, other) for it in those for result in it.results
                  for other in dict.fromkeys(it.operands + it.before)]
-        lines = [line for pair in pairs for line in ("begin", "replace {} {}".format(*pair), "rollback")]
-        replies, _ = self.way.tried(self.kept, lines, "print")
-        return dict(reversed([pair for pair, reply in zip(pairs, replies[1::3]) if reply == "ok"]))
+        found = {}
+        for begin in range(0, len(pairs), MOST_PAIRS):
+            part = pairs[begin:begin + MOST_PAIRS]
+            lines = [line for pair in part for line in ("begin", "replace {} {}".format(*pair), "rollback")]
+            replies, _ = self.way.tried(self.kept, lines, self.goal.question)
+            for (result, other), reply in zip(part, replies[1::3]):
+                if reply == "ok":
+                    found.setdefault(result, other)
+        return found
 
     def bypass(self, those):
         """Puts operands in the place of results, and erases their operations."""
@@ -180,7 +191,7 @@ class Reducer:
 
     def go(self):
         """Makes the module as small as it gets; false where it doesn't show what it is to show."""
-        if not self.does([]):
+        if not self.shows([]):
             return False
         before, (size, _) = None, self.size()
         while size != before:
