@@ -1,2 +1,5 @@
 pub mod Exact
 pub mod Spelled
+pub mod Shown
+pub mod Terms
+pub mod Whole
