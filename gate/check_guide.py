@@ -1,8 +1,10 @@
 #!/usr/bin/env python3
-"""Types the commands of README.md, docs/GUIDE.md, docs/REFUSALS.md and examples/README.md as they stand there, in a
-folder that has what is at the top of the repository, and looks at what they write. A command on those pages that isn't
-known here is a fault, and so is one that is known and isn't there. (What is typed in a session of docs/GUIDE.md is
-typed by tools/tests/test_pages.py.)
+"""Types the commands of README.md, docs/GUIDE.md, docs/REFUSALS.md, docs/FROM_MLIR_OPT.md and examples/README.md as
+they stand there, in a folder that has what is at the top of the repository, and looks at what they write. A command on
+those pages that isn't known here is a fault, and so is one that is known and isn't there. (What is typed in a session
+of docs/GUIDE.md is typed by tools/tests/test_pages.py.) What stands in docs/COOKBOOK.md and in
+docs/LISTENER_TUTORIAL.md it types too, and compares all that is written with what stands below it; a task of the
+cookbook takes at most ten lines.
 
 usage: gate/check_guide.py [--all]     with --all also those that take minutes, since they build
 
@@ -23,7 +25,10 @@ sys.path.append(str(pathlib.Path(__file__).resolve().parents[1] / "tools"))
 import program  # noqa: E402
 
 ROOT = program.ROOT
-PAGES = ["README.md", "docs/GUIDE.md", "docs/REFUSALS.md", "examples/README.md"]
+PAGES = ["README.md", "docs/GUIDE.md", "docs/REFUSALS.md", "docs/FROM_MLIR_OPT.md", "examples/README.md"]
+COOKBOOK, TUTORIAL, MOST_TYPED = "docs/COOKBOOK.md", "docs/LISTENER_TUTORIAL.md", 10
+# What the tutorial copies and edits.
+EDITED = ["crates.txt", "crates/listeners_example", "crates/mlir_work/src"]
 BEGINS = ("./run", "./test", "rt ", "tools/", "mlir-opt ", "MLIR_WORK", "(cat ", "(head ", ".. | ", "tr ", "cat ")
 # Words in a sentence that are typed, and not only named.
 SAID = re.compile(r"MLIR_WORK\w*=\S+ .*|\./run .*|\./test.*|rt .*|tools/\w+\.(?:py|sh) .*|gate/check_\w+\.py|tr .*")
@@ -57,13 +62,24 @@ COMMANDS = {
     "tools/session.py examples/fold.mlir": Typed('    #0  "builtin.module"', given=SESSION),
     "tools/explain.py MODULE SCRIPT": Typed("s:1:1: 22 HasUses: ", line="tools/explain.py module.mlir s", status=1),
     "tools/explain.py module.mlir FILE": Typed(""),
+    "tools/mlir_work.py reduce module.mlir --keep 'diagnostics #8 V15' -o small.mlir": Typed("", status=1),
+    "tools/mlir_work.py reduce module.mlir --refused 'convert partial illegal arith.subi rules 28 = 51'":
+        Typed('"arith.subi"('),
+    "tools/mlir_work.py reduce module.mlir --test 'grep -q arith.muli'": Typed('"arith.muli"('),
+    "tools/mlir_work.py compare BEFORE AFTER --function f":
+        Typed("@price: the same on ", line="tools/mlir_work.py compare module.mlir module.mlir --function price"),
     "gate/check_examples.py": Typed(", 0 faults"),
+    "tools/page.py MODULE SCRIPT": Typed("<!doctype html>", line="tools/page.py module.mlir s && head -1 replay.html"),
     "mlir-opt --mlir-print-op-generic FILE.mlir > module.mlir": Typed("", wants="mlir-opt"),
+    "mlir-opt --allow-unregistered-dialect --mlir-print-op-generic FILE.mlir > module.mlir":
+        Typed("", wants="mlir-opt"),
     RUN: Typed("\n2 ok #12\n"),
     RUN.replace("module.mlir", "examples/fold.mlir").replace("FILE", "examples/fold.script"): Typed("\n2 ok #12\n"),
     ".. | sed -n '/^\"builtin.module\"/,$p' | mlir-opt":
         Typed("%0 = arith.muli %arg0, %c42_i32 : i32", line=f"{RUN} | sed -n '/^\"builtin.module\"/,$p' | mlir-opt",
               wants="mlir-opt"),
+    f"{RUN} | sed -n '/^\"builtin.module\"/,$p' | mlir-opt":
+        Typed("%0 = arith.muli %arg0, %c42_i32 : i32", wants="mlir-opt"),
     "tr '\\n' ' '": Typed('"a"() : () -> () "b"() : () -> () ', given='"a"() : () -> ()\n"b"() : () -> ()\n'),
     "(head -c 28 FILE; echo x) | LC_ALL=C awk 'END { print NR, length($0) }'": Typed("1 29\n"),
     "tr -d '\\r' <FILE": Typed("// What is known"),
@@ -101,18 +117,97 @@ def tool():
     return shutil.which("mlir-opt-22") or shutil.which("mlir-opt")
 
 
-def fault_of(command, how, folder):
-    """What is wrong with what a command writes, or nothing."""
+def run(command, how, folder):
+    """A command as it ended."""
     words, more = program.words()
     line = re.sub(r"\bmlir-opt\b", str(tool()), how.line or command)
     if "MLIR_WORK" in os.environ and how.wants != "minutes":
         line = line.replace("./run", shlex.join(words))
-    environment, there = {**os.environ, **more}, folder if how.wants != "minutes" else ROOT
-    it = subprocess.run(["sh", "-c", line], cwd=there / how.folder, env=environment, input=how.given, text=True,
-                        capture_output=True, check=False)
+    environment = {**os.environ, **more, "XDG_STATE_HOME": str(folder / "state")}
+    there = folder if how.wants != "minutes" else ROOT
+    return subprocess.run(["sh", "-c", line], cwd=there / how.folder, env=environment, input=how.given, text=True,
+                          capture_output=True, check=False)
+
+
+def fault_of(command, how, folder):
+    """What is wrong with what a command writes, or nothing."""
+    it = run(command, how, folder)
     if it.returncode != how.status:
         return f"status {it.returncode}: {it.stderr.strip()[-300:]}"
     return "" if how.writes in it.stdout else f"it writes {it.stdout[:300]!r}"
+
+
+def blocks(text):
+    """The blocks of a text that has code, with the words behind their first ticks."""
+    return re.findall(r"^```(\w+)\n(.*?)^```$", text, re.M | re.S)
+
+
+def typed(block):
+    """The commands of a block, each with the lines that are typed to it, and all that is written then."""
+    found = []
+    for line in block.splitlines():
+        if line.startswith("$ "):
+            found.append((line[2:], [], []))
+            continue
+        if line.startswith("> "):
+            found[-1][1].append(line[2:])
+        found[-1][2].append(line)
+    return found
+
+
+def is_written(lines, wanted):
+    """Whether lines are those that are wanted, where `..` stands for any."""
+    parts = ["" if not it else re.escape(it) for it in "\n".join(["", *wanted]).split("\n..")]
+    return re.fullmatch(r"(?:\n[^\n]*)*".join(parts), "\n".join(["", *lines])) is not None
+
+
+def lines_typed(text):
+    """How many lines a text has typed."""
+    return sum(len(re.findall(r"^[$>] ", block, re.M)) if kind == "console" else block.count("\n")
+               for kind, block in blocks(text) if kind in ("console", "python"))
+
+
+def cooked(text, folder):
+    """What is wrong with what a text has typed. A program there has its name in the first line."""
+    for kind, block in blocks(text):
+        if kind == "python":
+            (folder / block.split()[1]).write_text(block)
+            continue
+        for line, given, wanted in typed(block) if kind == "console" else ():
+            if re.search(r"\bmlir-opt\b", line) and not tool():
+                print(f"not typed, mlir-opt isn't installed: {line}")
+                continue
+            if line.startswith("cd "):
+                folder = folder / line[3:]
+                continue
+            it = run(line, Typed("", given="".join(it + "\n" for it in given)), folder)
+            print(f"typed: {line}")
+            if it.returncode > 1 or not is_written(it.stdout.splitlines(), wanted):
+                yield f"`{line}` writes {it.stdout[-600:]!r} {it.stderr.strip()[-300:]}"
+
+
+def cookbook():
+    """What is wrong with the cookbook."""
+    for part in re.split(r"^## ", (ROOT / COOKBOOK).read_text(), flags=re.M)[1:]:
+        with tempfile.TemporaryDirectory() as name:
+            prepared(pathlib.Path(name))
+            title, most = part.partition("\n")[0], lines_typed(part)
+            yield from (f"{COOKBOOK}, {title}: {fault}" for fault in cooked(part, pathlib.Path(name)))
+            if most > MOST_TYPED:
+                yield f"{COOKBOOK}, {title}: {most} lines are typed"
+
+
+def tutorial():
+    """What is wrong with what the tutorial has typed, but for what wants the kit."""
+    with tempfile.TemporaryDirectory() as name:
+        for path in EDITED:
+            copy = pathlib.Path(name) / path
+            copy.parent.mkdir(parents=True, exist_ok=True)
+            if (ROOT / path).is_dir():
+                shutil.copytree(ROOT / path, copy, ignore=shutil.ignore_patterns("out"))
+            else:
+                shutil.copy(ROOT / path, copy)
+        yield from (f"{TUTORIAL}: {fault}" for fault in cooked((ROOT / TUTORIAL).read_text(), pathlib.Path(name)))
 
 
 def main():
@@ -129,6 +224,7 @@ def main():
             said = "" if why else fault_of(command, how, pathlib.Path(name))
             print(f"not typed, {why}: {command}" if why else f"typed: {command}")
             faults += [f"{found[command]}: `{command}`: {said}"] if said else []
+    faults += [*cookbook(), *tutorial()]
     print(*faults, f"{len(found)} commands, {len(faults)} faults", sep="\n")
     sys.exit(bool(faults))
 

@@ -1,6 +1,5 @@
 """What changed between two listings of a module."""
 import bisect
-import itertools
 
 
 def alike(old, new, way=iter):
@@ -75,7 +74,7 @@ class Changes:
         return sum(len(places) for _, places in self.parts)
 
     def lines(self, most=None):
-        """The first lines, or all of them, each behind its sign."""
+        """The first lines, or all of them, each behind its sign; above those in a function stands what it is called."""
         parts, left = [], len(self) if most is None else most
         for sign, places in self.parts:
             parts.append((sign, places[:left]))
@@ -83,4 +82,10 @@ class Changes:
         shown = {}
         for sign, it in (("-", self.old), ("+", self.new)):
             shown[sign] = iter(it.shown([place for other, places in parts if other == sign for place in places]))
-        return [sign + line for sign, places in parts for line in itertools.islice(shown[sign], len(places))]
+        found, last = [], "#0"
+        for sign, places in parts:
+            for place, line in zip(places, shown[sign]):
+                around = (self.old if sign == "-" else self.new).around(place)
+                found += [f"@@ {around}"] * (around != last) + [sign + line]
+                last = around
+        return found

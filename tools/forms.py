@@ -16,6 +16,7 @@ NUMBER = r"[0-9]+"
 VALUE = rf"%v{NUMBER}\.{NUMBER}|%a{NUMBER}\.{NUMBER}\.{NUMBER}"
 PLACE = rf"(?:before|after)[ \t]+#{NUMBER}|(?:start|end)[ \t]+#{NUMBER}[ \t]+{NUMBER}"
 KEY = r'"(?:[^"\\]|\\(?:[nt"\\]|[0-9A-Fa-f]{2}))*"|[A-Za-z_][A-Za-z0-9_$.]*'
+RULE = r"0*(?:[1-9]|[12][0-9]|30)(?![^ \t])|[^ \t0-9][^ \t]*"
 # What may stand for a word of a form, and what it is.
 PARTS = {
     "#N": (f"#{NUMBER}", "an operation is written as #3"),
@@ -24,6 +25,7 @@ PARTS = {
     "MODE": ("partial|full", "a mode is `partial` or `full`"),
     "VALUE": (VALUE, "a value is %vN.K, result K of #N, or %aN.R.K, argument K of the block of its region R"),
     "PLACE": (PLACE, "a place is `before #N`, `after #N`, `start #N R` or `end #N R`"),
+    "RULE": (RULE, "a rule is a number of 1 to 30, or its word, as drop-zero"),
     "KEY": (KEY, 'a key is a bare identifier, or a string as "a b"'),
 }
 # Words of the rest of a line: what is refused in it is told by a byte, counted from its first.
@@ -49,6 +51,11 @@ def help_part(title, end):
 def forms():
     """The forms of each command, by its first word."""
     return help_part("Commands", "Kinds")
+
+
+def looks():
+    """The commands that change nothing."""
+    return help_part("To look", "To edit")
 
 
 def kinds():

@@ -1,6 +1,6 @@
 #!/bin/sh
-# Installs what `./run` starts: the program `mlir_work`, the prompt `mlir-work` over it, which wants Python 3, a man
-# page, and completions for bash and zsh. MLIR_WORK names another program to be installed.
+# Installs what `./run` starts: the program `mlir_work`; the tools over it, `mlir-work`, which want Python 3: a prompt,
+# and what explains, reduces and compares; a man page; completions for bash and zsh. MLIR_WORK names another program.
 #
 # usage: tools/install.sh PREFIX
 set -eu
@@ -12,15 +12,19 @@ program=${MLIR_WORK-$(python3 "$here/tools/sources.py" --program)}
 share=$prefix/share/mlir_work
 
 mkdir -p "$prefix/bin" "$share/tools" "$share/docs" "$share/dist" "$prefix/share/man/man1" \
-    "$prefix/share/bash-completion/completions" "$prefix/share/zsh/site-functions"
+    "$prefix/share/bash-completion/completions" "$prefix/share/zsh/site-functions" "$share/bench/reference"
 cp "$program" "$prefix/bin/mlir_work.new"
 chmod 755 "$prefix/bin/mlir_work.new"
 mv "$prefix/bin/mlir_work.new" "$prefix/bin/mlir_work"
 cp "$here"/tools/*.py "$share/tools"
-cp "$here/docs/REFUSALS.md" "$share/docs"
+cp -R "$here/tools/web" "$share/tools"
+cp "$here"/bench/reference/*.py "$share/bench/reference"
+for page in REFUSALS VERIFIER CANONICALIZE CONVERT REPORTS; do
+    cp "$here/docs/$page.md" "$share/docs"
+done
 [ ! -f "$here/dist/MANIFEST" ] || cp "$here/dist/MANIFEST" "$share/dist"
 
-# All of these are made of one table, the help of the program that is installed.
+# These are made of the help of the program that is installed, and of what the tools say of themselves.
 "$prefix/bin/mlir_work" --help >"$share/tools/help.txt"
 version=$(sed -n 's/^## \([^ ]*\).*/\1/p' "$here/CHANGELOG.md" | head -n 1)
 made() {
@@ -34,12 +38,12 @@ made zsh >"$prefix/share/zsh/site-functions/_mlir_work"
 
 cat >"$prefix/bin/mlir-work" <<'END'
 #!/bin/sh
-# A prompt over a module: mlir-work MODULE [SCRIPT]
+# A prompt over a module, and what is made of single runs: mlir-work --help
 prefix=$(cd "$(dirname "$(readlink -f "$0")")/.." && pwd)
 if [ "${1-}" = --version ]; then
     exec python3 "$prefix/share/mlir_work/tools/sources.py" --version "$prefix/bin/mlir_work"
 fi
-MLIR_WORK_INSTALLED=$prefix/bin/mlir_work exec python3 "$prefix/share/mlir_work/tools/session.py" "$@"
+MLIR_WORK_INSTALLED=$prefix/bin/mlir_work exec python3 "$prefix/share/mlir_work/tools/mlir_work.py" "$@"
 END
 chmod 755 "$prefix/bin/mlir-work"
 echo "installed in $prefix: bin/mlir_work, bin/mlir-work, share/man/man1/mlir_work.1, completions for bash and zsh"

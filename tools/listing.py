@@ -3,10 +3,11 @@
 `print` shows no numbers and names values anew, so the numbers are set as attributes, printed and cut out again: nothing
 here is worked out that the program doesn't say. Where a module is large most is done by a few calls for all its lines,
 or for those that are shown: a call for each line takes longer than the program."""
+import bisect
 import functools
 import re
 
-from forms import kinds
+from forms import PARTS, kinds
 from program import MOST_SCRIPT, answered
 
 OPENED = re.compile(r"\((\{\}, )*\{$")
@@ -14,6 +15,10 @@ NEXT_REGION = re.compile(r"\}, ((?:\{\}, )*)\{$")
 ARGUMENT = re.compile(r"%(\w+):")
 NAMED = re.compile(r"%([^,) ]+)")
 NEW = re.compile(r"ok #(\d+)")
+SYMBOL = re.compile(r'sym_name = ("[^"]*")')
+BARE = re.compile(r'"([A-Za-z_][\w$.]*)"')
+VALUE = re.compile(r"%v(\d+)\.(\d+)|%a(\d+)\.\d+\.\d+")
+RESULTS = re.compile(r" *%\d+(?::(\d+))? = ")
 MARGIN = 6
 # Stands in place of an operation that a refusal names and that isn't in the module.
 MADE = "        (made on the way, and gone again)"
@@ -177,6 +182,63 @@ class Listing:
             opened[-1].take(place, head)
             if head[0] == "}" and head[-1] != "{":
                 opened.pop().end(self.numbers[place], self.keys, arguments)
+
+    @functools.cached_property
+    def values(self):
+        """What a script calls all values, each with the number of its operation."""
+        found = {name: name[2:].partition(".")[0] for name in self.names.arguments.values() if name[-1] != ":"}
+        heads = [(place, RESULTS.match(text)) for place, text in enumerate(self.texts)]
+        counts = [int(head[1] or 1) for _, head in heads if head]
+        for number, count in zip(self.names.owners, counts):
+            found.update((f"%v{number}.{place}", number) for place in range(count))
+        return found
+
+    @functools.cached_property
+    def operations(self):
+        """The numbers of all operations."""
+        return {key for key in self.keys if not isinstance(key, tuple)}
+
+    def missing(self, word):
+        """What is said of a word that names an operation or a value that isn't in the module; empty where it is."""
+        if re.fullmatch(r"#\d+", word):
+            return "" if word[1:] in self.operations else f"{word} isn't in the module"
+        if not word.startswith("%") or word in self.values:
+            return ""
+        found = VALUE.fullmatch(word)
+        if not found:
+            return f"`{word}` is no value: {PARTS['VALUE'][1]}"
+        number = found[1] or found[3]
+        if number not in self.operations:
+            return f"there is no {word}: #{number} isn't in the module"
+        many = sum(owner == number and name[1] == word[1] for name, owner in self.values.items())
+        return f"there is no {word}: #{number} has {many} {'results' if word[1] == 'v' else 'arguments of blocks'}"
+
+    @functools.cached_property
+    def symbols(self):
+        """The places at which other symbols are around a line than before it, in order, and what these are called: the
+        name and the number of the innermost operation that defines one, or #0."""
+        places, called, opened = [0], ["#0"], [("#0", -1)]
+        for place in [place for place, text in enumerate(self.texts) if text[-1] == "{" or text.lstrip(" ")[0] == "}"]:
+            text = self.texts[place]
+            if text.lstrip(" ")[0] != "}":
+                found = SYMBOL.search(text)
+                name = found and f"@{BARE.sub(lambda it: it[1], found[1])} #{self.keys[place]}"
+                opened.append((name or opened[-1][0], place))
+                begins = place
+            elif text[-1] != "{":
+                opened.pop()
+                begins = place + 1
+            else:
+                continue
+            if called[-1] != opened[-1][0]:
+                places.append(begins)
+                called.append(opened[-1][0])
+        return places, called
+
+    def around(self, place):
+        """What the innermost symbol around a line, or defined by it, is called."""
+        places, called = self.symbols
+        return called[bisect.bisect_right(places, place) - 1]
 
     def named(self, places):
         """The lines at some places, without numbers and with values as a script names them."""

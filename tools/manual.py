@@ -1,12 +1,17 @@
-"""The man page and the completions of shells, made of the text of `mlir_work --help`, so that there is one table of
-options and commands.
+"""The man page and the completions of shells. For the program they are made of the text of `mlir_work --help`, so that
+there is one table of options and commands; for `mlir-work` of what its parts say of their command lines
+(tools/mlir_work.py), and of the words of the prompt (tools/words.py).
 
 usage: tools/manual.py man|bash|zsh [HELP [VERSION]]     (HELP is a file, tools/help.txt where none is named)"""
+import importlib
 import pathlib
 import re
 import sys
 
 sys.dont_write_bytecode = True
+
+import mlir_work  # noqa: E402
+import words  # noqa: E402
 
 HERE = pathlib.Path(__file__).resolve().parent
 OPTION = re.compile(r"^ +(?:-(\w), )?--([\w-]+)(?: <(\w+)>)? +(.*)$", re.M)
@@ -16,6 +21,43 @@ PROMPT, PROGRAM = "mlir-work", "mlir_work"
 def options(text):
     """The options: the letter, the word, what it takes, and what it is for."""
     return OPTION.findall(text.partition("\nOptions:\n")[2].partition("\n\n")[0] + "\n")
+
+
+class Part:
+    """What a part of `mlir-work` says of its command line: what stands there, and the options."""
+
+    def __init__(self, word):
+        self.word, (self.about, name) = word, mlir_work.COMMANDS[word]
+        self.places, self.options = [], []
+        importlib.import_module(name).arguments(self)
+
+    def add_argument(self, *names, **how):
+        """Takes what the part tells."""
+        shown = how.get("metavar") or "|".join(how.get("choices", []))
+        if names[0].startswith("-"):
+            self.options.append((names, shown, how["help"]))
+        else:
+            self.places.append((f"[{shown}]" if how.get("nargs") == "?" else shown, how["help"]))
+
+    def add_mutually_exclusive_group(self, **_):
+        """Takes what the part tells of options of which one stands there."""
+        return self
+
+    def usage(self):
+        """How it is called."""
+        return " ".join([PROMPT, self.word, *["[OPTIONS]"] * bool(self.options), *(shown for shown, _ in self.places)])
+
+    def rows(self):
+        """It with its options, as they stand in the man page."""
+        those = [(", ".join(f"{name} {shown}".strip() for name in names), about)
+                 for names, shown, about in self.options]
+        lines = [f"{self.usage()}", f"    {self.about}"]
+        return "\n".join(lines + [f"      {name}\n          {about}" for name, about in self.places + those])
+
+
+def parts():
+    """The parts of `mlir-work`."""
+    return [Part(word) for word in mlir_work.COMMANDS]
 
 
 def plain(text):
@@ -30,9 +72,12 @@ def man(text, version):
     usage, _, rest = rest.partition("\n")
     found = [f'.TH MLIR_WORK 1 "" "mlir_work {version}"', ".SH NAME",
              f"{PROGRAM} \\- {plain(' '.join(about.split('.')[0].split()).replace('Edits', 'edits'))}",
-             ".SH SYNOPSIS", plain(usage), ".br", f"{PROMPT} MODULE [SCRIPT]",
+             ".SH SYNOPSIS", plain(usage), *(f".br\n{plain(part.usage())}" for part in parts()),
              ".SH DESCRIPTION", plain(about.strip()), ".PP",
-             f"{PROMPT} is a prompt over a module: it takes one command after another, and `help` there lists them."]
+             plain(f"{PROMPT} open is a prompt over a module: it takes one command after another, and `help` there "
+                   f"lists them. {PROMPT} FILE is the same."),
+             ".SH MLIR-WORK", ".nf", plain("\n\n".join(part.rows() for part in parts())), ".fi",
+             ".SH AT THE PROMPT", ".nf", plain("\n".join(words.rows(76))), ".fi"]
     for part in rest.strip("\n").split("\n\n"):
         title = re.match(r"([A-Z][\w ]*):\n|(?=(Commands), )", part)
         if title:
@@ -44,24 +89,59 @@ def man(text, version):
 
 def bash(text, _):
     """Completion for bash: the options of the program, and files for the prompt."""
-    words = " ".join(f"--{word}" for _, word, _, _ in options(text))
+    of_program = " ".join(f"--{word}" for _, word, _, _ in options(text))
+    cases = "\n".join(f"        {part.word}) options='{' '.join(names[-1] for names, *_ in part.options)}' ;;"
+                      for part in parts())
     return f"""_{PROGRAM}() {{
     [ "${{COMP_WORDS[COMP_CWORD-1]}}" = --limit ] ||
-        COMPREPLY=($(compgen -W "{words}" -- "${{COMP_WORDS[COMP_CWORD]}}"))
+        COMPREPLY=($(compgen -W "{of_program}" -- "${{COMP_WORDS[COMP_CWORD]}}"))
 }}
 complete -F _{PROGRAM} {PROGRAM}
-complete -f -X '!*.@(mlir|script)' -o plusdirs {PROMPT}
+_{PROGRAM}_prompt() {{
+    local options= word=${{COMP_WORDS[COMP_CWORD]}}
+    case ${{COMP_WORDS[1]}} in
+{cases}
+    esac
+    if [ "$COMP_CWORD" = 1 ]; then
+        COMPREPLY=($(compgen -W "{' '.join(mlir_work.COMMANDS)}" -- "$word"; compgen -f -- "$word"))
+    elif [[ $word == -* ]]; then
+        COMPREPLY=($(compgen -W "$options" -- "$word"))
+    fi
+}}
+complete -o default -F _{PROGRAM}_prompt {PROMPT}
 """
+
+
+def of_zsh(text):
+    """A text as it stands in brackets there."""
+    return re.sub(r"([\[\]:])", r"\\\1", text.replace("'", ""))
+
+
+def zsh_options(part):
+    """The options of a part of `mlir-work`."""
+    return " ".join(f"'{names[-1]}[{of_zsh(about)}]{':' + shown if shown else ''}'"
+                    for names, shown, about in part.options)
 
 
 def zsh(text, _):
     """Completion for zsh."""
-    quoted = [about.replace("'", "").replace("[", "\\[").replace("]", "\\]") for *_, about in options(text)]
+    quoted = [of_zsh(about) for *_, about in options(text)]
     rows = [f"  '--{word}[{about}]{':' + takes if takes else ''}'"
             for (_, word, takes, _), about in zip(options(text), quoted)]
+    commands = " ".join(f"'{part.word}:{of_zsh(part.about)}'" for part in parts())
+    cases = "\n".join(f"    {part.word}) _arguments {zsh_options(part)} '*:file:_files' ;;" for part in parts())
     return f"""#compdef {PROGRAM} {PROMPT}
 if [[ $service = {PROMPT} ]]; then
-  _arguments '--help[Print help]' '--version[Print version]' '*:file:_files'
+  if (( CURRENT == 2 )); then
+    local -a commands=({commands})
+    _describe command commands
+    _files
+    return
+  fi
+  case $words[2] in
+{cases}
+    *) _files ;;
+  esac
 else
   _arguments \\
 """ + " \\\n".join("  " + row for row in rows) + "\nfi\n"

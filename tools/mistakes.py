@@ -14,6 +14,9 @@ REFUSAL = re.compile(r"refused (\d+) (\w+)(?: at (\d+))?(?: #(\d+))?$")
 # Words that are typed for commands which are named otherwise.
 MEANT = {"abort": "rollback", "add": "insert", "canonicalize": "canon", "delete": "erase", "legalize": "convert",
          "mark": "begin", "remove": "erase", "show": "print", "symbol-dce": "sweep", "undo": "rollback"}
+# The same for words of the prompt.
+MEANT_THERE = {"?": "help", "exit": "quit", "info": "help", "list": "ids", "load": "source", "ls": "ids", "man": "help",
+               "output": "write", "q": "quit", "read": "source", "search": "find", "u": "undo", "verify": "diagnostics"}
 
 
 @functools.lru_cache(maxsize=None)
@@ -29,22 +32,25 @@ def sentence(number):
     return sentences().get(int(number), "docs/REFUSALS.md has the refusals").rstrip(".")
 
 
-def unknown(word):
-    """What is said of a line whose first word is no command."""
+def unknown(word, own=()):
+    """What is said of a line whose first word is no command; `own` has the forms of words that are no commands of a
+    script, where there are such."""
     if word[:1] in tuple('"%^(){}'):
         return "no command begins so: an operation stands on one line, behind `insert PLACE`"
-    known = {**{kind: [f"report {kind}"] for kind in kinds()}, **forms()}
-    near = [MEANT[word]] if MEANT.get(word) in known else difflib.get_close_matches(word, known, 1)
+    known = {**{kind: [f"report {kind}"] for kind in kinds()}, **forms(), **dict(own)}
+    meant = {**MEANT, **(MEANT_THERE if own else {})}.get(word)
+    near = [meant] if meant in known else difflib.get_close_matches(word, known, 1)
     if near:
         return f"`{word}` is no command: write {shown(known[near[0]])}"
-    return f"`{word}` is no command: they are {', '.join(forms())}"
+    more = f"; and here {', '.join(own)}, and the kinds {', '.join(kinds())}" if own else ""
+    return f"`{word}` is no command: they are {', '.join(forms())}{more}"
 
 
-def misspelt(line):
+def misspelt(line, own=()):
     """Why a line is no command, or None where its form is right."""
     line = line.rstrip(" \t\r")
     word, begin = first_word(line)
-    return misfit(line) if word in forms() else Fault(begin, unknown(word))
+    return misfit(line) if word in forms() else Fault(begin, unknown(word, own))
 
 
 def hint(number, line, column):
@@ -65,12 +71,13 @@ def unfit(line, title):
     return Fault(column, ": ".join(filter(None, (title, words or sentence(54)))))
 
 
-def explained(refusal, line):
-    """What a refusal of a command says, and where: `line` is the command, in bytes."""
+def explained(refusal, line, own=()):
+    """What a refusal of a command says, and where: `line` is the command, in bytes; `own` has the words of the prompt,
+    where it was typed there."""
     number, word, offset, op = REFUSAL.match(refusal).groups()
     line, title = line.decode("latin-1"), f"{number} {word}" + (f" #{op}" if op else "")
     if number == "60":
-        fault = misspelt(line) or Fault(None, sentence(60))
+        fault = misspelt(line, own) or Fault(None, sentence(60))
         return Fault(fault.column, f"{title}: {fault.words}")
     if number == "54":
         return unfit(line, title)

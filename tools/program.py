@@ -48,14 +48,33 @@ def words():
     return [str(of_sources())], {}
 
 
+@functools.lru_cache(maxsize=None)
+def helped(program, more):
+    """What the program's help says."""
+    environment = {**os.environ, **dict(more)}
+    it = subprocess.run([*program, "--help"], stdin=subprocess.DEVNULL, stdout=subprocess.PIPE,
+                        stderr=subprocess.DEVNULL, env=environment, check=False)
+    return it.stdout.decode("utf-8", "replace")
+
+
+def has_option(option):
+    """Whether the program's help names an option."""
+    program, more = words()
+    try:
+        return re.search(rf"^ +(?:-\w, )?{option}\b", helped(tuple(program), tuple(more.items())), re.M) is not None
+    except OSError as fault:
+        raise Fault(f"{program[0]}: {fault.strerror}") from None
+
+
 def joined(module, script):
     """The input of a module and a script."""
     return module + (b"" if module.endswith(b"\n") or not module else b"\n") + DIVIDER + b"\n" + script
 
 
 def inputs(names):
-    """The module and the script of one or two files, and the line at which the script begins in the last."""
-    texts = [pathlib.Path(name).read_bytes() for name in names]
+    """The module and the script of one or two files, and the line at which the script begins in the last; `-` is
+    standard input."""
+    texts = [sys.stdin.buffer.read() if name == "-" else pathlib.Path(name).read_bytes() for name in names]
     if len(texts) == 1:
         return parted(texts[0])
     if DIVIDER in texts[0].split(b"\n"):

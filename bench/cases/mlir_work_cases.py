@@ -408,7 +408,8 @@ def replies():
     for n in (0, 1, 9, 10, 12, 99, 100, 4294967295, 4294967296, 2 ** 64 - 1):
         out += [(f"ok {n}", f"{n} ok\n"), (f"number {n}", f"{n}"),
                 (f"refused {n} HasUses", f"{n} refused 22 HasUses\n")]
-        out += [(f"came {n} {word} {n}", f"{n} {word} {n}\n") for word in ("swept", "converged", "limit", "converted", "applied")]
+        words = ("swept", "converged", "limit", "converted", "applied")
+        out += [(f"came {n} {word} {n}", f"{n} {word} {n}\n") for word in words]
         out += [(f"refused-on {n} NotLegalised {op}", f"{n} refused 51 NotLegalised #{op}\n")
                 for op in (0, 2, 4294967295)]
     for refusal in REFUSALS:

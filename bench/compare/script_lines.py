@@ -1,6 +1,6 @@
 """Lines of scripts by chance: edits, rewrites, conversions that fit a module, marks, and lines that are no commands.
 by_chance.py makes its scripts of them."""
-from reference import script
+from reference import rewrites, script
 from reference.module import walk
 
 MOST_COMMANDS, MOST_OPS = 24, 18
@@ -35,7 +35,10 @@ MADE |= {"scf.for", "scf.if", "scf.yield"}
 
 
 def rewriting(maker):
-    """A canonicalization or a conversion."""
+    """A canonicalization, a conversion, or a rule at an operation."""
+    if maker.random() < 0.2:
+        rule = maker.choice([maker.randrange(32), maker.choice(rewrites.WORDS), "1", "2"])
+        return f"apply {rule} #{maker.randrange(20)}"
     if maker.random() < 0.5:
         return maker.choice(["canon", "canon", "canon limit 1", "canon limit 3", "canon limit 0", "canon limit"])
     return conversion(maker)

@@ -163,11 +163,12 @@ COMMANDS = [
     ([], "begin"), (["begin"] * 3, "begin"),
     ([], "report uses"), ([], "print"), ([], "resync uses"), ([f"insert end #0 0 {PRIVATE}"], "sweep"), ([], "sweep"),
     ([], "canon"), ([], "canon limit 1"),
-    (["set-operand #3 0 %v2.0"], "canon"),
+    (["set-operand #3 0 %v2.0"], "canon"), ([], "apply 1 #2"), ([], "apply 2 #3"), ([], "apply drop-zero #3"),
     (["begin", "set-operand #3 0 %v2.0", "erase #4", "insert end #1 0 \"test.z\"(%v3.0) : (i32) -> ()"], "rollback"),
     ([f"insert before #4 {REMAINDER}"], TOO_DEEP),
     ([f"insert before #4 {REMAINDER}"], "convert partial illegal arith.remsi rules 27"), ([], "convert partial")]
-MARKED = {"set-operand", "move", "replace", "erase", "drop-attr", "set-attr", "insert", "sweep", "canon", "convert"}
+MARKED = {"set-operand", "move", "replace", "erase", "drop-attr", "set-attr", "insert", "sweep", "canon", "convert",
+          "apply"}
 SIZES = [0, 1, 2, 3, 4, 7, 8, 11, 14, 15, 16]
 
 

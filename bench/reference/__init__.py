@@ -1,7 +1,8 @@
 """What the rules say of modules, analyses, edits and scripts, worked out slowly and simply, apart from the crates, so
 that tables of cases don't come from the program that they test. Written from the rules in words.
 
-module.py has modules as plain trees, read by rules.py and printed by printing.py; operations.py the operation table;
+module.py has modules as plain trees, read by rules.py and printed by printing.py; opaque.py reads opaque terms too, and
+aliases.py aliases and locations; operations.py the operation table;
 verifier.py the verifier's rules; analyses.py uses, symbols, effects, dead operations and constants, with folds.py;
 edits.py the edits and why they are refused; rewrites.py the rewrite rules; conversion.py dialect conversion; script.py
 whole runs; patterns.py, pattern_uses.py and pattern_checks.py patterns of one's own, read, used and checked, and own.py

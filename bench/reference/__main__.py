@@ -1,23 +1,25 @@
 """Runs a module and a script by the rules, as the program does, in bench/:
 
-python3 -m reference [--brief] [--limit N] < INPUT
+python3 -m reference [--brief] [--limit N] [--opaque] < INPUT
 python3 -m reference [--brief] [--limit N] --own-patterns [--patterns FILE].. < INPUT
 
-With --own-patterns it knows the commands of docs/PATTERNS.md too, which the program doesn't have; a file has patterns,
-one a line, which are there from the start."""
+With --opaque, which the program doesn't have yet, opaque terms, aliases and locations are read. With --own-patterns it
+knows the commands of docs/PATTERNS.md too, which the program doesn't have; a file has patterns, one a line, which are
+there from the start."""
 import pathlib
 import re
 import sys
 
 from . import own
-from .script import LIMIT, MOST_LIMIT, run
+from .script import LIMIT, MOST_LIMIT, run, run_opaque
 
 
 class Options:
-    """Whether to be brief, the limit, and the files of patterns; none of these where there are to be no patterns."""
+    """Whether to be brief, the limit, whether opaque terms are read, and the files of patterns; none of these where
+    there are to be no patterns."""
 
     def __init__(self, words):
-        self.brief, self.limit, self.files = False, None, None
+        self.brief, self.limit, self.is_open, self.files = False, None, False, None
         while words:
             words = self.after(*words)
         self.limit = self.limit or LIMIT
@@ -26,6 +28,9 @@ class Options:
         """Takes an option, and gives the words behind it; raises `ValueError` where it is none."""
         if word == "--brief" and not self.brief:
             self.brief = True
+            return rest
+        if word == "--opaque" and not self.is_open:
+            self.is_open = True
             return rest
         if word == "--own-patterns" and self.files is None:
             self.files = []
@@ -41,7 +46,7 @@ class Options:
 
     def run(self, text):
         if self.files is None:
-            return run(text, self.brief, limit=self.limit)
+            return (run_opaque if self.is_open else run)(text, self.brief, limit=self.limit)
         book = {}
         for file in self.files:
             own.read_book(pathlib.Path(file).read_bytes(), book)
@@ -54,6 +59,8 @@ def main(words):
         return 0
     try:
         options = Options(words)
+        if options.is_open and options.files is not None:
+            raise ValueError
     except ValueError:
         print(__doc__, file=sys.stderr)
         return 2

@@ -6,7 +6,7 @@ dialects. A value is a number below 2^w, or None where the documents leave it un
 much); what is computed of None is None."""
 import zlib
 
-from .module import INDEX, walk
+from .module import walk
 
 FUEL, MORE_FUEL = 400, 20000
 
@@ -20,7 +20,8 @@ class Endless(Exception):
 
 
 def bits(ty):
-    return 64 if ty == INDEX else ty[1]
+    """The width of an integer; an index, and what stands for an address, has 64."""
+    return ty[1] if ty[0] == "i" else 64
 
 
 def by_sign(number, width):

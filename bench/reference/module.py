@@ -129,9 +129,9 @@ def taken(source, next):
     return op(source)
 
 
-def read(text):
+def read(text, reader=rules.Reader):
     """The module that a text spells; raises `rules.Refused`."""
-    root = taken(rules.Reader(text).source(), 0)
+    root = taken(reader(text).source(), 0)
     return Module(root, sum(1 for _ in walk(root)))
 
 
@@ -154,13 +154,13 @@ class Outer(rules.Outer):
         return self.module.type_of(("v" if len(numbers) == 2 else "a",) + numbers, self.ops)
 
 
-def read_op(text, module):
+def read_op(text, module, reader=rules.Reader):
     """The operation that a text spells for a module, numbered from its next id."""
-    return taken(rules.Reader(text, Outer(module)).single(), module.next)
+    return taken(reader(text, Outer(module)).single(), module.next)
 
 
-def read_attr(text):
-    return rules.Reader(text).one_attr()
+def read_attr(text, reader=rules.Reader):
+    return reader(text).one_attr()
 
 
 class Printer(printing.Printer):

@@ -101,3 +101,30 @@ def has_kind(key, attr):
     if key == b"overflowFlags":
         return kind == "overflow"
     return True
+
+
+# What the table doesn't speak of: an operation beyond it breaks no rule on integers, and none but the first of the
+# rewrite rules applies at it.
+
+MEMREFS = {b"memref.load": (0, None), b"memref.store": (1, None), b"memref.dealloc": (0, None),
+           b"memref.alloc": (None, 0)}
+
+
+def places_of(op):
+    """The operands and the results that an operation's row calls T, an integer or i1, or a memref, by place."""
+    if op.name in MEMREFS:
+        return [{place} for place in MEMREFS[op.name]]
+    if not op.name.startswith(b"arith.") or not is_listed(op):
+        return [set(), set()]
+    if op.name == b"arith.select":
+        return [{0}, set()]
+    row = ROWS[op.name]
+    return [set(range(row.operands[1])), set(range(row.results[1]))]
+
+
+def is_beyond(op, types):
+    """Whether an operation, whose operands have these types, is beyond the table: one of those places is opaque."""
+    for wanted, them in zip(places_of(op), (types, op.results)):
+        if any(ty is not None and ty[0] == "opaque" for place, ty in enumerate(them) if place in wanted):
+            return True
+    return False

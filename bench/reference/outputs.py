@@ -12,7 +12,7 @@ from .script import ALL, BOXES, Run, lines_of, split
 
 MEMORY = " refused 36 Memory\n"
 # These tell a listener of events also where they are refused; the others of the edits only where they are accepted.
-UNDONE = {"insert", "erase", "replace", "canon", "convert", "sweep"}
+UNDONE = {"insert", "erase", "replace", "canon", "convert", "sweep", "apply"}
 EDITS = UNDONE | {"set-operand", "set-attr", "drop-attr", "move", "rollback"}
 QUIET = {"report", "print"}
 State = collections.namedtuple("State", "module boxes marks")

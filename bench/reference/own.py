@@ -36,13 +36,14 @@ class Run(script.Run):
         self.book, self.verdicts = dict(book or {}), {}
 
     def rule(self, word, most):
-        """A rule by its number, or a pattern by its name."""
-        if re.fullmatch("[0-9]+", word):
-            need(1 <= int(word) <= most)
-            return int(word)
-        need(re.fullmatch(NAME, word))
-        edits.refuse(26, word not in self.book)
-        return self.book[word]
+        """A rule by its number or its word, or a pattern by its name."""
+        if word in self.book:
+            return self.book[word]
+        need(word)
+        number = script.rule_of(word)
+        edits.refuse(26, number is None)
+        need(number <= most)
+        return number
 
     def pattern(self, text):
         need(text != "")

@@ -32,6 +32,8 @@ def type_text(ty):
         return "(" + ", ".join(map(type_text, ty[1])) + ") -> " + outs_text(ty[2])
     if ty[0] == "memref":
         return "memref<" + "".join(("?" if it is None else str(it)) + "x" for it in ty[1]) + type_text(ty[2]) + ">"
+    if ty[0] == "opaque":
+        return ty[1].decode()
     return f"{ty[0]}{ty[1]}"
 
 
@@ -45,6 +47,8 @@ def attr_text(attr):
         return string_text(attr[1])
     if kind == "ty":
         return type_text(attr[1])
+    if kind == "opaque":
+        return attr[1].decode() + (" : " + type_text(attr[2]) if attr[2] else "")
     if kind == "unit":
         return "unit"
     if kind == "array":

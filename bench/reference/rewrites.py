@@ -2,7 +2,8 @@
 from .analyses import effects_of
 from .folds import attribute_of, fold, known, signed, width
 from .module import I1, I64, INDEX, Block, Op, walk
-from .operations import BINARY, FOR, FUNC, IF, INDEX_CASTS, MODULE, ROWS, WHILE, is_signless, is_terminator
+from .operations import (BINARY, FOR, FUNC, IF, INDEX_CASTS, MODULE, ROWS, WHILE, is_beyond, is_signless,
+                         is_terminator)
 from .verifier import Here, broken
 
 CAST, CONSTANT = b"builtin.unrealized_conversion_cast", b"arith.constant"
@@ -31,11 +32,20 @@ class Site:
     def type(self, value):
         return self.module.type_of(value)
 
-    def clean(self, op):
-        """Asks that an operation that the rule names has no diagnostic and no property outside its row."""
+    def right(self, op):
+        """Asks that an operation has no diagnostic and no property outside its row."""
         need(op.name in ROWS and all(key in ROWS[op.name].props for key in op.props))
         need(not broken(Here(self.module, op, self.ops, self.places)))
         return op
+
+    def within(self, op):
+        """Asks that an operation is not beyond the table."""
+        need(not is_beyond(op, [self.module.type_of(value, self.ops) for value in op.operands]))
+        return op
+
+    def clean(self, op):
+        """Asks both of an operation that the rule names."""
+        return self.within(self.right(op))
 
     def owner(self, value, *names):
         """The operation whose result a value is, which is one of some names; it is named."""
@@ -415,23 +425,32 @@ RULES = [one, two, three, four, five, six, seven, eight, nine, ten, eleven, twel
          sixteen, seventeen, eighteen,
          nineteen, twenty, twenty_one, twenty_two, twenty_three, twenty_four, twenty_five, twenty_six, twenty_seven,
          twenty_eight, twenty_nine, thirty]
+# The words of the rules, in the order of their numbers.
+WORDS = """erase-dead fold-to-constant swap-constant drop-zero drop-one drop-all-ones cancel-itself keep-itself
+zero-remainder regroup-constants add-negative compare-itself mirror-comparison compare-zero choose-same choose-known
+choose-truth choose-opposite extend-extension cut-cast cast-back open-branch open-loop stop-loop expand-min-max
+expand-difference expand-remainder lower-index lower-loop lower-choice""".split()
 
 
 def is_clean(module, number):
     """Whether an operation isn't the root, and has no diagnostic and no property outside its row."""
     site = Site(module, number)
     try:
-        site.clean(site.x)
+        site.right(site.x)
     except No:
         return False
     return site.x is not module.root
 
 
 def after(module, rule, number):
-    """The module after a rule at an operation that is clean, or none where it doesn't apply."""
+    """The module after a rule at an operation that is clean, or none where it doesn't apply. Beyond the table the first
+    rule alone does."""
     tried = module.copy()
+    site = Site(tried, number)
     try:
-        RULES[rule - 1](Site(tried, number))
+        if rule != 1:
+            site.within(site.x)
+        RULES[rule - 1](site)
     except No:
         return None
     return tried

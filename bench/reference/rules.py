@@ -212,10 +212,14 @@ class Reader:
         if it.kind != "bare":
             raise Refused(2, it.start)
         if depth > MOST_DEPTH:
-            if it.text in (b"index", b"memref") or (INTEGER.match(it.text) and self.is_good(it)):
+            if self.begins_type(it):
                 raise Refused(10, it.start)
             raise Open()
-        return self.word_type(it)
+        return self.word_type(it, depth)
+
+    def begins_type(self, it):
+        """Whether a bare identifier begins a type."""
+        return it.text in (b"index", b"memref") or bool(INTEGER.match(it.text)) and self.is_good(it)
 
     def is_good(self, it):
         try:
@@ -223,11 +227,11 @@ class Reader:
         except Refused:
             return False
 
-    def word_type(self, it):
+    def word_type(self, it, depth):
         if it.text == b"index":
             return ("index",), it.end
         if it.text == b"memref":
-            return self.memref(it.end)
+            return self.memref(it.end, depth)
         found = integer_type(it.text, it.start)
         if found is None:
             raise Refused(13, it.start)
@@ -248,7 +252,7 @@ class Reader:
         found, at = self.type(at, depth)
         return [found], at
 
-    def memref(self, at):
+    def memref(self, at, depth):
         at, dims = self.expect(at, b"<"), []
         while True:
             start = COMMENT.match(self.text, at).end()
@@ -262,7 +266,12 @@ class Reader:
             if self.text[at:at + 1] != b"x":
                 raise Refused(2, self.look(at).start)
             at += 1
-        it = self.look(at)
+        elem, at = self.element(self.look(at), depth)
+        if self.see(at, b",") is not None:
+            raise Refused(13, self.look(at).start)
+        return ("memref", tuple(dims), elem), self.expect(at, b">")
+
+    def element(self, it, _depth):
         if it.is_mark(b"*") or it.is_mark(b"(") or it.kind in ("bang", "hash", "float"):
             raise Refused(13, it.start)
         if it.kind != "bare":
@@ -270,9 +279,7 @@ class Reader:
         elem = ("index",) if it.text == b"index" else integer_type(it.text, it.start)
         if elem is None:
             raise Refused(13, it.start)
-        if self.see(it.end, b",") is not None:
-            raise Refused(13, self.look(it.end).start)
-        return ("memref", tuple(dims), elem), self.expect(it.end, b">")
+        return elem, it.end
 
     # Attributes.
 
@@ -300,8 +307,7 @@ class Reader:
 
     def too_deep(self, it):
         if it.kind == "bare":
-            known = it.text in (b"true", b"false", b"unit", b"array", b"index", b"memref") or (
-                INTEGER.match(it.text) and self.is_good(it))
+            known = it.text in (b"true", b"false", b"unit", b"array") or self.begins_type(it)
             raise Refused(10, it.start) if known else Open()
         if it.kind == "integer" or it.is_mark(b"-"):
             good = it.kind == "integer" or self.is_integer(it.end)
@@ -325,7 +331,7 @@ class Reader:
             return ("unit",), it.end
         if it.text == b"array":
             return self.dense(it.end)
-        found, at = self.word_type(it)
+        found, at = self.word_type(it, depth)
         return ("ty", found), at
 
     def magnitude(self, it):
@@ -511,9 +517,7 @@ class Reader:
         def output(at):
             it = self.look(at)
             if count[0] == MOST_ITEMS:
-                good = it.is_mark(b"(") or it.kind == "bare" and (
-                    it.text in (b"index", b"memref") or INTEGER.match(it.text) and self.is_good(it))
-                if good:
+                if it.is_mark(b"(") or it.kind == "bare" and self.begins_type(it):
                     raise Refused(11, it.start)
                 if it.kind in ("bare", "bang", "hash", "float"):
                     raise Open()

@@ -1,7 +1,7 @@
 """Whole runs: a module, a script, and what is written."""
 import re
 
-from . import conversion, edits, rewrites
+from . import aliases, conversion, edits, opaque, rewrites
 from .analyses import ANALYSES, KINDS, unreached_ops
 from .module import printing, read, read_attr, read_op, rules, text_of
 
@@ -17,7 +17,7 @@ KIND_WORDS = {KINDS.get(kind, f"kind{kind}") for kind in range(256)}
 MOST_MARKS = 16
 FIRST = {"report", "print", "set-operand", "move", "set-attr", "drop-attr", "resync", "detach"}
 EDITS = FIRST | {"erase", "insert", "replace"}
-ALL = EDITS | {"begin", "commit", "rollback", "sweep", "canon", "convert"}
+ALL = EDITS | {"begin", "commit", "rollback", "sweep", "canon", "convert", "apply"}
 MOST_LIMIT, LIMIT = 1000000, 1000
 
 
@@ -35,6 +35,14 @@ def op_of(word):
     if not word.startswith("#"):
         raise Bad
     return number(word[1:])
+
+
+def rule_of(word):
+    """The number of a rule, by its number or its word; none where no rule has the word."""
+    if not re.match("[0-9]", word):
+        return rewrites.WORDS.index(word) + 1 if word in rewrites.WORDS else None
+    need(1 <= number(word) <= len(rewrites.WORDS))
+    return number(word)
 
 
 def value_of(word):
@@ -82,7 +90,9 @@ def need(is_so):
 
 
 class Run:
-    """A module with its marks and the kinds that are attached."""
+    """A module with its marks and the kinds that are attached; `reader` reads what a line has."""
+
+    reader = rules.Reader
 
     def __init__(self, module, boxes=BOXES, commands=ALL, limit=LIMIT):
         self.limit = limit
@@ -138,7 +148,7 @@ class Run:
     def insert(self, text):
         words, rest = cut_place(text)
         need(rest != "")
-        tree = read_op(rest.encode("latin-1"), self.module)
+        tree = read_op(rest.encode("latin-1"), self.module, self.reader)
         self.edit(edits.insert, edits.resolved(self.module, words), tree)
         return f"ok #{tree.id}", ""
 
@@ -147,7 +157,7 @@ class Run:
         op = op_of(op)
         key, rest = cut_key(rest)
         need(rest != "")
-        self.edit(edits.set_attr, op, key, read_attr(rest.encode("latin-1")))
+        self.edit(edits.set_attr, op, key, read_attr(rest.encode("latin-1"), self.reader))
 
     def drop_attr(self, text):
         op, rest = cut(text)
@@ -207,6 +217,16 @@ class Run:
         numbers = unreached_ops(self.module)
         self.edit(edits.sweep, numbers)
         return f"swept {len(numbers)}", ""
+
+    def apply(self, text):
+        words = re.split("[ \t]+", text)
+        need(len(words) == 2 and words[0])
+        rule, op = rule_of(words[0]), op_of(words[1])
+        edits.refuse(26, rule is None)
+        edits.refuse(20, op not in self.module.ops())
+        found = rewrites.apply(self.module, rule, op)
+        self.module = found or self.module
+        return f"applied {int(found is not None)}", ""
 
     def reply(self, line):
         """The reply to a line that is no comment, and whether it has a listing."""
@@ -272,4 +292,15 @@ def run(text, brief=True, boxes=BOXES, commands=ALL, limit=LIMIT, make=Run):
         here = make(read(text), boxes, commands, limit)
     except rules.Refused as fault:
         return 3, f"module refused {printing.refusal(fault)}\n".encode()
+    return obey(here, script, brief)
+
+
+def run_opaque(text, brief=True, boxes=BOXES, commands=ALL, limit=LIMIT):
+    """The same with opaque terms, aliases and locations in the module, and opaque terms in the script."""
+    text, script = split(text)
+    try:
+        here = Run(aliases.read(text), boxes, commands, limit)
+    except rules.Refused as fault:
+        return 3, f"module refused {printing.refusal(fault)}\n".encode()
+    here.reader = opaque.Reader
     return obey(here, script, brief)

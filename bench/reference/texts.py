@@ -18,6 +18,21 @@ PIECES = [b"(", b")", b"{", b"}", b"[", b"]", b"<", b">", b",", b"=", b":", b"::
           b"$", b"\n", b"%v1.0", b"memref",
           b"\xC3\xA4", b"\xFF", b"//", b"99999999999999999999", b"#1", b"#0", b":2", b"none", b"nsw", b"256", b"-129"]
 
+# With opaque terms.
+OPEN_TYPES = [b"f32", b"none", b"tensor<4xf32>", b"tensor< 4xf32>", b"vector<[4]x2xi8>", b"complex<f64>",
+              b"tuple<i8, f32>", b"!d.t", b"!d.t<>", b'!d<"a>b", (x)>', b"memref<4xf32>", b"memref<2x?x!d.t>",
+              b"memref<4xi8, 1>", b"memref<*xf32>", b"(f32) -> !d.t", b"memref<4xmemref<2xbf16>>",
+              b"memref<?xf32, affine_map<(d0) -> (d0)>>"]
+OPEN_ATTRS = [b"1.5", b"-2.0e+1 : f32", b"- 1.0", b"0x7F : f16", b"-0x7f : f32", b"dense<1> : tensor<i8>",
+              b"dense<[[1, -2], [3, 4]]> : tensor<2x2xi8>", b"affine_map<(d0)[s0] -> (d0 + s0)>",
+              b"affine_set<(d0) : (d0 >= 0)>", b"#d.a", b"#d.a<x -> y> : index", b"#d<a>", b'"s" : !d.t',
+              b"array<f32: 1.0>", b"distinct[0]<42 : i32>", b"distinct[1]", b'loc("f":1:2)',
+              b"sparse<0, 1> : tensor<4xi8>", b"dense_resource<r> : tensor<4xf32>", b"strided<[1, ?], offset: 3>",
+              b"array<i7: 1>", b'#d.a<"\\"}">', b"#d.a<a != b>", b"f32", b"tensor<2xi8>", b"memref<4xf32, 3>"]
+OPEN_PIECES = [b"<", b">", b"->", b"#m", b"!t", b"#d.a", b"!d", b"@f", b"//", b"\t", b"f32", b"tensor", b"dense",
+               b"memref", b": f32", b": i8", b"loc(", b"1.5", b"0x1", b"distinct", b"\xC3\xA4", b"#m = 1 ",
+               b"!t = f32\n"]
+
 
 def blank(chance):
     return chance.choice(BLANKS)
@@ -27,12 +42,12 @@ def listing(chance, most, part):
     return b", ".join(part() for _ in range(chance.randrange(most + 1)))
 
 
-def entries(chance, depth, apart=()):
-    """Entries whose keys differ, most of the time."""
+def entries(chance, depth, apart=(), more=()):
+    """Entries whose keys differ, most of the time; some of the attributes are among further ones."""
     keys = chance.sample([it for it in KEYS if it not in apart], chance.randrange(4))
     if chance.random() < 0.03:
         keys += [chance.choice(KEYS)]
-    return keys, b"{" + b", ".join(entry(chance, key, depth) for key in keys) + b"}"
+    return keys, b"{" + b", ".join(entry(chance, key, depth, more) for key in keys) + b"}"
 
 
 def number(chance):
@@ -47,8 +62,10 @@ def string(chance):
                            for _ in range(chance.randrange(4))) + b'"'
 
 
-def attr(chance, depth):
-    inner = lambda: attr(chance, depth - 1)
+def attr(chance, depth, more=()):
+    if more and chance.random() < 0.4:
+        return chance.choice(more)
+    inner = lambda: attr(chance, depth - 1, more)
     kind = chance.randrange(14 if depth else 10)
     if kind < 3:
         value = chance.choice([0, 1, 2, 7, 100])
@@ -72,18 +89,18 @@ def attr(chance, depth):
                                           b"i64"]) + (b": " + items if items else b"") + b">"
     if kind < 12:
         return b"[" + listing(chance, 3, inner) + b"]"
-    return entries(chance, depth - 1)[1]
+    return entries(chance, depth - 1, (), more)[1]
 
 
-def entry(chance, key, depth):
-    return key if chance.random() < 0.3 else key + blank(chance) + b"=" + blank(chance) + attr(chance, depth)
+def entry(chance, key, depth, more=()):
+    return key if chance.random() < 0.3 else key + blank(chance) + b"=" + blank(chance) + attr(chance, depth, more)
 
 
 class Maker:
-    """Operations whose operands are bound, most of the time."""
+    """Operations whose operands are bound, most of the time, of some types, and with some attributes beside others."""
 
-    def __init__(self, chance):
-        self.chance, self.count = chance, 0
+    def __init__(self, chance, types=TYPES, more=()):
+        self.chance, self.types, self.more, self.count = chance, types, more, 0
 
     def fresh(self):
         self.count += 1
@@ -95,17 +112,17 @@ class Maker:
         operands = [chance.choice(seen) for _ in range(chance.randrange(4)) if seen]
         for _ in range(chance.choice([0, 0, 1, 1, 2, 3])):
             count = chance.choice([None, 1, 2])
-            results.append((self.fresh(), count, [chance.choice(TYPES) for _ in range(count or 1)]))
+            results.append((self.fresh(), count, [chance.choice(self.types) for _ in range(count or 1)]))
         if results:
             text = b", ".join(name + (b":%d" % count if count else b"") for name, count, _ in results) + b" = "
         text += b'"' + inside[0] + b'"(' + b", ".join(name for name, _ in operands) + b")"
         keys = []
         if chance.random() < 0.3:
-            keys, some = entries(chance, 2)
+            keys, some = entries(chance, 2, (), self.more)
             text += b" <" + some + b">"
         text += inside[1]
         if chance.random() < 0.3:
-            text += blank(chance) + entries(chance, 2, keys)[1]
+            text += blank(chance) + entries(chance, 2, keys, self.more)[1]
         outs = [ty for _, _, types in results for ty in types]
         plain = len(outs) == 1 and not outs[0].startswith(b"(") and chance.random() < 0.7
         text += b" : (" + b", ".join(ty for _,
@@ -131,7 +148,7 @@ class Maker:
         if chance.random() < 0.2:
             return b"{}"
         if chance.random() < 0.5:
-            args = [(self.fresh(), chance.choice(TYPES)) for _ in range(chance.randrange(3))]
+            args = [(self.fresh(), chance.choice(self.types)) for _ in range(chance.randrange(3))]
             text += b"^bb" + (b"(" + b", ".join(name + b": " + ty for name, ty in args) + b")" if args
                               else b"") + b":" + blank(chance)
             seen += args
@@ -139,15 +156,20 @@ class Maker:
                                          for _ in range(chance.randrange(3))) + blank(chance) + b"}"
 
 
-def source(chance):
-    maker, seen = Maker(chance), []
+def source(chance, types=TYPES, more=()):
+    maker, seen = Maker(chance, types, more), []
     return b"\n".join(maker.op(seen, 3) for _ in range(chance.randrange(1, 4)))
 
 
-def changed(chance, text):
-    """The text with one to three changes of a token or of bytes."""
+def open_source(chance):
+    """A text with opaque terms."""
+    return source(chance, TYPES + OPEN_TYPES, OPEN_ATTRS)
+
+
+def changed(chance, text, more=()):
+    """The text with one to three changes of a token or of bytes, which may put further pieces there."""
     for _ in range(chance.choice([1, 1, 1, 2, 3])):
-        text = changed_token(chance, text) if chance.random() < 0.6 else changed_bytes(chance, text)
+        text = changed_token(chance, text) if chance.random() < 0.6 else changed_bytes(chance, text, more)
     return text
 
 
@@ -173,8 +195,8 @@ def changed_token(chance, text):
     return b"".join(found)
 
 
-def changed_bytes(chance, text):
+def changed_bytes(chance, text, more=()):
     at = chance.randrange(len(text) + 1)
     size = chance.choice([0, 0, 1, 1, 2, 5])
-    put = chance.choice(PIECES) if chance.random() < 0.7 else b""
+    put = chance.choice([*PIECES, *more]) if chance.random() < 0.7 else b""
     return text[:at] + put + text[at + size:]

@@ -1,9 +1,11 @@
 """The verifier's rules V1 to V24."""
 from .module import I1, INDEX
 from .operations import (BINARY, CONDITION, EXTENSIONS, FOR, FUNC, IF, INDEX_CASTS, MODULE, RETURN, ROWS, WHILE, YIELD,
-                         has_kind, is_listed, is_signless, is_T, is_terminator, result_count)
+                         has_kind, is_beyond, is_listed, is_signless, is_T, is_terminator, result_count)
 
 BASIC = (1, 3, 5, 12, 13)
+# (what an operation beyond the table doesn't break)
+OF_INTEGERS = {2, 4, 14, 18, 19, 20, 24}
 
 
 def is_memref(ty):
@@ -19,6 +21,7 @@ class Here:
         self.parent = self.where and self.where.parent
         self.row = ROWS.get(op.name)
         self.types = [module.type_of(value, ops) for value in op.operands]
+        self.is_beyond = is_beyond(op, self.types)
 
     def at(self, op):
         return Here(self.module, op, self.ops, self.places)
@@ -39,7 +42,8 @@ def basic(here):
         found.add(5)
     if any(key not in op.props for key in row.required):
         found.add(12)
-    if any(not has_kind(key, attr) for key, attr in op.props.items() if key in row.props):
+    asked = [(key, attr) for key, attr in op.props.items() if key in row.props]
+    if any(not has_kind(key, attr) for key, attr in asked if not (key == b"value" and here.is_beyond)):
         found.add(13)
     return found
 
@@ -199,7 +203,7 @@ def others(here):
         found.add(8)
     if breaks_last(here):
         found.add(9)
-    if op.name == b"arith.constant" and op.props[b"value"][1] != op.results[0]:
+    if op.name == b"arith.constant" and not here.is_beyond and op.props[b"value"][1] != op.results[0]:
         found.add(14)
     wanted = wanted_of_terminator(here) if is_terminator(op) else None
     if wanted and (here.types[1:] if op.name == CONDITION else here.types) != wanted[1]:
@@ -217,7 +221,7 @@ def others(here):
         found.add(22)
     if breaks_segments(op):
         found.add(24)
-    return found
+    return found - OF_INTEGERS if here.is_beyond else found
 
 
 def broken(here):

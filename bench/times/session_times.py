@@ -89,7 +89,7 @@ def say(lines):
     """Prints what is answered, which has to be no refusal."""
     if lines[0].startswith("refused"):
         sys.exit(lines[0])
-    session.say(lines)
+    print(*lines, sep="\n")
 
 
 def typed(shape, n, clock):

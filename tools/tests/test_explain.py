@@ -112,6 +112,12 @@ class Explained(unittest.TestCase):
         self.assertEqual((status, lines[0].partition(" ")[0], lines[2]), (3, "m:2:6:", "        ^"))
         self.assertEqual(explained(b'"a"(')[1][0].partition(" ")[0], "m:1:5:")
 
+    def test_what_looks_like_a_divider(self):
+        for line in ("// ----- ", "  // -----", "//-----", "// -----\r"):
+            _, lines = explained(f'"a"() : () -> ()\n{line}\nprint\n'.encode())
+            self.assertTrue(lines[0].startswith("m:3:1: 13 LeftOut"))
+            self.assertTrue(lines[-1].startswith("m:2:1: this line looks like the divider"), lines)
+
     def test_a_bad_byte(self):
         status, lines = explained(b"", b"print\n// \xff\n")
         self.assertEqual((status, lines[0].partition(" ")[0]), (1, "s:2:1:"))

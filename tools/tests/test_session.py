@@ -106,8 +106,8 @@ class Changed(unittest.TestCase):
     def test_out_of_a_region(self):
         here = example("hoist")
         here.answer("move #8 before #7")
-        came, gone = here.answer("diff")
-        self.assertEqual((came[:7], gone[:7]), ("+    #8", "-    #8"))
+        around, came, gone = here.answer("diff")
+        self.assertEqual((around, came[:7], gone[:7]), ("@@ @rows #1", "+    #8", "-    #8"))
         self.assertEqual(came[7:].strip(), gone[7:].strip())
 
 

@@ -1,6 +1,6 @@
 -- A run of the driver is what the machine has of a canonicalization.
-use Rattle.std.proofs.Common.{◌≡◌, refl, absurd, ap, sym, ◌∙◌, ◌⊎◌, inl, inr, ℕ, false, cond, Result, Ok, Err}
-use Rattle.std.specs.Prelude.{IfOk, IfErr, OnErr, ⊥}
+use Rattle.std.proofs.Common.{◌≡◌, refl, ap, sym, ◌∙◌, ◌⊎◌, inl, inr, ℕ, false, cond, Result, Ok, Err}
+use Rattle.std.specs.Prelude.{IfOk, IfErr, OnErr}
 use Rattle.ir_types.specs.declared.refusal.Refusal.{Refusal}
 use Rattle.ir_types.specs.declared.refusal.Refusal.TheVariants.{BadLimit, Full, Memory}
 use Rattle.ir_tree.proofs.Returns.{bool_cases}

@@ -9,5 +9,5 @@ mod text;
 
 pub use mlir_work_session::{
     Bench, cells, clauses, command, input, keys, kind, lines, manner, numbers, outcome, reader,
-    replies, script, sink, source, spots, values, watched, words, writing,
+    replies, rule_name, script, sink, source, spots, values, watched, words, writing,
 };

@@ -55,6 +55,8 @@ To rewrite:
                              where each operation has to be legal in the end
   sweep                      the private symbols that nothing reaches are taken
                              away, with what is inside them, or none of them
+  apply RULE #N              one of the rules 1 to 30 is applied at operation #N,
+                             where it applies there
 
 Marks, of which 16 may be open:
   begin                      a mark is made of the module
@@ -73,6 +75,7 @@ Operations are numbered in the order of the text, and the module around them is
   PLACE      `before #N`, `after #N`, or `start #N R` or `end #N R`, of the
              block of region R of #N
   OPERATION  one line in generic form; it names values of the module as above
+  RULE       the number of a rule, or its word, as 4 or drop-zero
   KEY        a bare identifier or a string literal; it is one of the properties
              where it is inherent to the operation or they have it, else one of
              the attributes
@@ -87,7 +90,8 @@ Each command is replied to by a line that begins with its number: `1 ok`, and
 behind an insert the number of the new operation, as `1 ok #4`; a sweep by how
 many symbols it took, as `1 swept 2`; a `canon` by how many rewrites it made, as
 `1 converged 3`, or `1 limit 3` where a rule still applies; a `convert` by how
-many rules stand, as `1 converted 2`. What is refused, as
+many rules stand, as `1 converted 2`; an `apply` by `1 applied 1`, or
+`1 applied 0` where the rule doesn't apply. What is refused, as
 `1 refused 23 NotVisible`, changes nothing, and the next command is tried;
 `1 refused 2 Unexpected at 4` says at which byte the ATTRIBUTE or the OPERATION
 is wrong, and `1 refused 51 NotLegalised #3` for which operation a `convert` is.

@@ -2,6 +2,7 @@ pub mod Placed
 pub mod Panels
 pub mod Reading
 pub mod Obeying
+pub mod Room
 pub mod Listings
 pub mod Runs
 pub mod Attaching

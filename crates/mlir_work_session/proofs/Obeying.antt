@@ -3,7 +3,7 @@ use Rattle.std.proofs.Common.{◌≡◌, ◌∙◌, sym, ap, subst, refl, ◌⊎
 use Rattle.std.specs.Prelude.{position, remove, is_some, option_map, false, true}
 use Rattle.std.specs.List.{find}
 use Rattle.ir_types.specs.declared.refusal.Refusal.{Refusal}
-use Rattle.ir_types.specs.declared.refusal.Refusal.TheVariants.{Memory, NoSuchKind, Stale}
+use Rattle.ir_types.specs.declared.refusal.Refusal.TheVariants.{Memory, NoSuchKey, NoSuchKind, Stale}
 use Rattle.ir_tree.specs.declared.place.Place.{Place}
 use Rattle.ir_tree.specs.Meaning.{Operation}
 use Rattle.ir_event.specs.Listener.{Listener}
@@ -14,7 +14,7 @@ use Rattle.rewriter.specs.Texts.{SpellsBeside}
 use Rattle.rewriter.specs.Held.{module_held}
 use Rattle.rewriter.specs.Benched.{Benched, state_of}
 use Rattle.rewriter.specs.Commands as command
-use Rattle.rewriter.specs.Commands.{Command, Asked, Ask, Misplaced, Unread, Follows, IsAttrRefusal, IsOpRefusal, Response, Replied, TextRefusedAt, TextRefused}
+use Rattle.rewriter.specs.Commands.{AppliesRule, RuleName, Command, Asked, Ask, Misplaced, Unread, Follows, IsAttrRefusal, IsOpRefusal, Response, Replied, TextRefusedAt, TextRefused}
 use Rattle.rewriter.specs.Edits as edit
 use Rattle.rewriter.specs.Machine as call
 use Rattle.rewriter.specs.Machine.{State, OpenMark, Call, Do, Reply, Done, Refused, Shows, Nothing, Rows, Tree, Answer, Goes, due, due_rollback, grows_under, PanelGoes}
@@ -22,7 +22,9 @@ use Rattle.rewriter.specs.Panels.{Shown, is_kind, has_kind, shown}
 use Rattle.rewriter.specs.Spots.{Spot, spot_place}
 use Rattle.mlir_work_session.specs.Texts.{NotRead}
 use Rattle.greedy.specs.Changes.{canonicalizing}
+use Rattle.mlir_work_transforms.specs.Applying.{applying, rule_named}
 use Rattle.mlir_work_transforms.specs.Converting.{conversion}
+use Rattle.mlir_work_transforms.specs.Rule.{Rule}
 use Rattle.mlir_work_transforms.specs.Sweep.{sweeping}
 use Rattle.mlir_work_session.specs.declared.manner.Manner.{Manner}
 use Rattle.mlir_work_session.specs.Machine.{AsksIn, Obeys, limit_or, shows_text}
@@ -53,6 +55,14 @@ module _ (manner : Manner) where
   pub obeys_unplaced : (spot : Spot) (text : List ℕ) (s t : State) (o : Operation) (refusal : Refusal) → t ≡ s → SpellsBeside s.held text o → spot_place None spot s.held.tree ≡ Err refusal → Obeys manner s (command.Insert spot text) (Replied (Refused refusal)) [] t
   obeys_unplaced spot text s t o refusal same spelled e =
       record { asked = Misplaced refusal; shows = Nothing; asks = (o, spelled, e); follows = (refl, refl, same); text = refl }
+
+  -- a rule of no name, and one that there is
+  pub obeys_unruled : (name : RuleName) (x : ℕ) (s : State) → rule_named name ≡ None → Obeys manner s (command.Apply name x) (Replied (Refused NoSuchKey)) [] s
+  obeys_unruled name x s e =
+      record { asked = Misplaced NoSuchKey; shows = Nothing; asks = subst (λ (o : Option Rule). AppliesRule (option_map (λ r. applying r x) o) (Misplaced NoSuchKey)) (sym e) refl; follows = (refl, refl, refl); text = refl }
+
+  pub asks_ruled : (name : RuleName) (x : ℕ) (r : Rule) → rule_named name ≡ Some r → AppliesRule (option_map (λ r. applying r x) (rule_named name)) (Ask (call.Change (applying r x)))
+  asks_ruled name x r e = subst (λ (o : Option Rule). AppliesRule (option_map (λ r. applying r x) o) (Ask (call.Change (applying r x)))) (sym e) refl
 
   -- an entry that isn't dropped since its key finds no memory
   pub obeys_unnamed : (x : ℕ) (key : List ℕ) (s t : State) → t ≡ s → Obeys manner s (command.DropAttr x key) (Replied (Refused Memory)) [] t
@@ -149,6 +159,11 @@ module _ (manner : Manner) where
   memory_too s t (command.DropAttr x key) (Unread refusal at_byte) shows why offset asks follows = absurd (let e : Unread refusal at_byte ≡ Ask (Do (edit.DropAttr x key)) = asks in cc)
   memory_too s t (command.Canon limit) (Unread refusal at_byte) shows why offset asks follows = absurd (let e : Unread refusal at_byte ≡ Ask (call.Change (canonicalizing (limit_or manner.limit limit))) = asks in cc)
   memory_too s t (command.Convert target) (Unread refusal at_byte) shows why offset asks follows = absurd (let e : Unread refusal at_byte ≡ Ask (call.Change (conversion target)) = asks in cc)
+  memory_too s t (command.Apply name x) (Unread refusal at_byte) shows why offset asks follows = absurd (no_unread (option_map (λ r. applying r x) (rule_named name)) asks)
+    where
+      no_unread : (o : Option call.Transformation) → AppliesRule o (Unread refusal at_byte) → ⊥
+      no_unread None e = absurd cc
+      no_unread (Some f) e = absurd cc
   memory_too s t command.Sweep (Unread refusal at_byte) shows why offset asks follows = absurd (let e : Unread refusal at_byte ≡ Ask (call.Change sweeping) = asks in cc)
   memory_too s t command.Begin (Unread refusal at_byte) shows why offset asks follows = absurd (let e : Unread refusal at_byte ≡ Ask call.Mark = asks in cc)
   memory_too s t command.Commit (Unread refusal at_byte) shows why offset asks follows = absurd (let e : Unread refusal at_byte ≡ Ask call.Commit = asks in cc)
@@ -164,6 +179,10 @@ module _ (manner : Manner) where
       let m = memory_too s t c h.asked h.shows why offset h.asks (subst (λ (r : Response). Follows s h.asked r h.shows t) is h.follows) in
       record { asked = Unread Memory None; shows = Nothing; asks = m.0; follows = (then, refl, m.2); text = h.text ∙ ap shows_text m.1 }
 
+  by_name : (s : State) (name : RuleName) (x : ℕ) (o : Option Rule) → rule_named name ≡ o → SomeAnswer s (command.Apply name x)
+  by_name s name x None e = (Replied (Refused NoSuchKey), [], s, obeys_unruled name x s e, λ why offset e. cc)
+  by_name s name x (Some r) e = by_call s (command.Apply name x) (call.Change (applying r x)) (asks_ruled name x r e)
+
   pub some_answer : (s : State) (c : Command) → SomeAnswer s c
   some_answer s (command.Erase x) = by_call s (command.Erase x) (Do (edit.Erase x)) refl
   some_answer s (command.Move x spot) = by_place s x spot (spot_place (Some x) spot s.held.tree) refl
@@ -174,6 +193,7 @@ module _ (manner : Manner) where
   some_answer s (command.DropAttr x key) = by_call s (command.DropAttr x key) (Do (edit.DropAttr x key)) refl
   some_answer s (command.Canon limit) = by_call s (command.Canon limit) (call.Change (canonicalizing (limit_or manner.limit limit))) refl
   some_answer s (command.Convert target) = by_call s (command.Convert target) (call.Change (conversion target)) refl
+  some_answer s (command.Apply name x) = by_name s name x (rule_named name) refl
   some_answer s command.Sweep = by_call s command.Sweep (call.Change sweeping) refl
   some_answer s command.Begin = by_call s command.Begin call.Mark refl
   some_answer s command.Commit = by_call s command.Commit call.Commit refl

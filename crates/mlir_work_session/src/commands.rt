@@ -2,7 +2,8 @@
 ghost use Rattle.std.specs.Prelude.{◌≡◌};
 ghost use Rattle.mlir_work_script.specs.Commands.{said_of};
 ghost use Rattle.rewriter.specs.Benched.{IsKept, state_of};
-ghost use Rattle.mlir_work_session.specs.Machine.{Obeys, response_of};
+ghost use Rattle.ir_text.specs.Public.{IsFull};
+ghost use Rattle.mlir_work_session.specs.Machine.{AsksRoom, Obeys, response_of};
 
 use crate::manner::Manner;
 use crate::shows::{Answered, plain, show_module, show_rows};
@@ -21,6 +22,7 @@ pub fn obey<L: Analysis>(
 ) -> Answered
     requires { IsKept L.meaning bench.old }
     ensures obeys { Obeys manner.now (state_of L.meaning bench.old) (said_of command.now) (response_of result.reply) result.shows.items (state_of L.meaning bench.new) }
+    ensures room { AsksRoom (IsFull bench.new.desk.ctx) manner.now (state_of L.meaning bench.old) (said_of command.now) (response_of result.reply) }
     ensures kept { IsKept L.meaning bench.new }
 {
     match command {
@@ -47,6 +49,7 @@ pub fn obey<L: Analysis>(
             plain(alloc, transforming::convert(alloc, bench, *full, clauses))
         }
         Command::Sweep => plain(alloc, transforming::sweep(alloc, bench)),
+        Command::Apply { rule, op } => plain(alloc, transforming::apply(alloc, bench, rule, *op)),
         Command::Begin => plain(alloc, marks::begin(bench)),
         Command::Commit => plain(alloc, marks::commit(bench)),
         Command::Rollback => plain(alloc, marks::rollback(bench)),

@@ -24,7 +24,7 @@ mod unread;
 
 pub use ir_text::reader;
 pub use mlir_work_script::{
-    cells, clauses, command, input, items, keys, kind, lines, numbers, outcome, replies, sink,
-    source, spots, values, watched, words, writing,
+    cells, clauses, command, input, items, keys, kind, lines, numbers, outcome, replies, rule_name,
+    sink, source, spots, values, watched, words, writing,
 };
 pub use rewriter::Bench;

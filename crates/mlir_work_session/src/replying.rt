@@ -4,6 +4,7 @@ ghost use Rattle.rewriter.specs.Commands.{Replied};
 ghost use Rattle.rewriter.specs.Machine.{fault_reply};
 ghost use Rattle.rewriter.specs.Benched.{id_reply_of, reply_of};
 ghost use Rattle.greedy.specs.Changes.{canonical_reply};
+ghost use Rattle.mlir_work_transforms.specs.Applying.{applied_reply};
 ghost use Rattle.mlir_work_transforms.specs.Converting.{conversion_reply};
 ghost use Rattle.mlir_work_transforms.specs.Sweep.{sweep_reply};
 ghost use Rattle.mlir_work_session.specs.Machine.{response_of};
@@ -62,6 +63,17 @@ pub(crate) fn reply_swept(called: Result<usize, Refusal>) -> Reply
 {
     match called {
         Ok(count) => Reply::DoneWith(Outcome::Swept(count)),
+        Err(refusal) => Reply::Refused(refusal),
+    }
+}
+
+/// The reply to a rule at an operation: it was applied once, or not at all.
+pub(crate) fn reply_applied(called: Result<bool, Refusal>) -> Reply
+    ensures { response_of result ≡ Replied (applied_reply called) }
+{
+    match called {
+        Ok(true) => Reply::DoneWith(Outcome::Applied(1)),
+        Ok(false) => Reply::DoneWith(Outcome::Applied(0)),
         Err(refusal) => Reply::Refused(refusal),
     }
 }

@@ -1,18 +1,28 @@
 //! Commands that transform the module of a bench.
 ghost use Rattle.std.specs.Prelude.{◌≡◌, []};
-ghost use Rattle.rewriter.specs.Commands.{Canon, Convert, Sweep};
+ghost use Rattle.std.specs.Prelude.{Some};
+ghost use Rattle.rewriter.specs.Commands.{Apply, Canon, Convert, Sweep};
+ghost use Rattle.rewriter.specs.Machine.{Transformation};
+ghost use Rattle.mlir_work_script.specs.RuleNames.{name_of};
+ghost use Rattle.mlir_work_transforms.specs.Applying.{application};
 ghost use Rattle.rewriter.specs.Benched.{IsKept, state_of};
 ghost use Rattle.mlir_work_script.specs.Clauses.{clauses_of, target_of};
-ghost use Rattle.mlir_work_session.specs.Machine.{Obeys, limit_or, response_of};
+ghost use Rattle.ir_text.specs.Public.{IsFull};
+ghost use Rattle.greedy.specs.Changes.{canonicalizing};
+ghost use Rattle.mlir_work_transforms.specs.Converting.{conversion};
+ghost use Rattle.mlir_work_session.specs.Machine.{FullSo, Obeys, limit_or, response_of};
 ghost use Rattle.mlir_work_session.specs.Output.{Manner as Way};
 
 use crate::manner::Manner;
 use crate::reply::Reply;
-use crate::replying::{reply_canonical, reply_converted, reply_swept};
+use crate::replying::{reply_applied, reply_canonical, reply_converted, reply_swept};
 use greedy::bench::canonicalize;
 use ir_event::analysis::Analysis;
+use ir_types::ids::OpId;
+use ir_types::refusal::Refusal;
 use mlir_work_script::clauses::Clauses;
-use mlir_work_transforms::{convert, sweep};
+use mlir_work_script::rule_name::RuleName;
+use mlir_work_transforms::{apply, convert, sweep};
 use rewriter::Bench;
 use rewriter::laws::led_benches_are_kept;
 use std::alloc::Global;
@@ -36,6 +46,7 @@ pub(crate) fn canon<L: Analysis>(
 ) -> Reply
     requires { IsKept L.meaning bench.old }
     ensures obeys { Obeys manner.now (state_of L.meaning bench.old) (Canon limit) (response_of result) [] (state_of L.meaning bench.new) }
+    ensures room { FullSo (IsFull bench.new.desk.ctx) (state_of L.meaning bench.old) (canonicalizing (limit_or manner.now.limit limit)) (response_of result) }
     ensures kept { IsKept L.meaning bench.new }
 {
     led_benches_are_kept::<L>();
@@ -61,8 +72,28 @@ pub(crate) fn convert<L: Analysis>(
 ) -> Reply
     requires { IsKept L.meaning bench.old }
     ensures obeys { (way : Way) → Obeys way (state_of L.meaning bench.old) (Convert (target_of full (clauses_of clauses.now))) (response_of result) [] (state_of L.meaning bench.new) }
+    ensures room { FullSo (IsFull bench.new.desk.ctx) (state_of L.meaning bench.old) (conversion (target_of full (clauses_of clauses.now))) (response_of result) }
     ensures kept { IsKept L.meaning bench.new }
 {
     led_benches_are_kept::<L>();
     reply_converted(convert::convert(alloc, bench, full, clauses))
+}
+
+/// Applies a rule at an operation, where there is one of that name.
+pub(crate) fn apply<L: Analysis>(
+    alloc: Global,
+    bench: &mut Bench<L>,
+    name: &RuleName<'_>,
+    op: OpId,
+) -> Reply
+    requires { IsKept L.meaning bench.old }
+    ensures obeys { (way : Way) → Obeys way (state_of L.meaning bench.old) (Apply (name_of name.now) op) (response_of result) [] (state_of L.meaning bench.new) }
+    ensures room { (f : Transformation) → application (name_of name.now) op ≡ Some f → FullSo (IsFull bench.new.desk.ctx) (state_of L.meaning bench.old) f (response_of result) }
+    ensures kept { IsKept L.meaning bench.new }
+{
+    led_benches_are_kept::<L>();
+    let Some(rule) = apply::rule_named(name) else {
+        return Reply::Refused(Refusal::NoSuchKey);
+    };
+    reply_applied(apply::apply(alloc, bench, rule, op))
 }

@@ -1,6 +1,6 @@
 -- A rule that was applied, or not, goes as the machine has it.
-use Rattle.std.proofs.Common.{◌≡◌, refl, absurd, ap, sym, ◌∙◌, ◌⊎◌, inl, inr, ℕ, Bool, true, false, cond, Result, Ok, Err}
-use Rattle.std.specs.Prelude.{IfErr, IfOk, None, OnErr, ⊥, ◌×◌}
+use Rattle.std.proofs.Common.{◌≡◌, refl, ap, sym, ◌∙◌, ◌⊎◌, inl, inr, ℕ, Bool, true, false, cond, Result, Ok, Err}
+use Rattle.std.specs.Prelude.{IfErr, IfOk, None, OnErr}
 use Rattle.ir_types.specs.Things.{Things}
 use Rattle.ir_types.specs.declared.refusal.Refusal.{Refusal}
 use Rattle.ir_types.specs.declared.refusal.Refusal.TheVariants.{Full, Memory, NoSuchOp}
@@ -35,11 +35,11 @@ module _ (r : Rule) (x : ℕ) (s t : State) (marks : t.marks ≡ s.marks) where
   IsDue reply = IsAnswer s (Change (applying r x)) (record { reply = reply; shows = Nothing; held = t.held; marks = t.marks })
 
   done_answer : (w : Rewrite) (done : Bool) → has_id x s.held.tree ≡ true → rewrite_of r s.held x ≡ w → Gave w done s.held t.held → IsDue (applied_reply (Ok done))
-  done_answer none done there e (no, same) = inl (
-      (λ i. record { reply = applied_reply (Ok (no i)); shows = Nothing; held = same i; marks = marks i })
+  done_answer none done there e (isnt, same) = inl (
+      (λ i. record { reply = applied_reply (Ok (isnt i)); shows = Nothing; held = same i; marks = marks i })
       ∙ sym (ap (λ (o : Result (Outcome × Module) Because). due_change o s) (at_one r x s.held there ∙ ap (λ (w : Rewrite). made_of w s.held) e)))
-  done_answer (becomes n) done there e (yes, same) = inl (
-      (λ i. record { reply = applied_reply (Ok (yes i)); shows = Nothing; held = same i; marks = marks i })
+  done_answer (becomes n) done there e (is_so, same) = inl (
+      (λ i. record { reply = applied_reply (Ok (is_so i)); shows = Nothing; held = same i; marks = marks i })
       ∙ sym (ap (λ (o : Result (Outcome × Module) Because). due_change o s) (at_one r x s.held there ∙ ap (λ (w : Rewrite). made_of w s.held) e)))
   done_answer (refused f) done there e gave = absurd gave
 
@@ -52,23 +52,23 @@ module _ (r : Rule) (x : ℕ) (s t : State) (marks : t.marks ≡ s.marks) where
   by_reason e c there (inr (inr (inl so))) h = due_refusal e (at_one r x s.held there ∙ ap (λ (w : Rewrite). made_of w s.held) (refused_so (rewrite_of r s.held x) e so)) h
   by_reason e c there (inr (inr (inr (m, full)))) h = inr (refl, inr (refl, λ i. record { reply = Refused (m i); shows = Nothing; held = h i; marks = marks i }))
 
+  gone : (o : Result Bool Refusal) → o ≡ Err NoSuchOp → has_id x s.held.tree ≡ false → OnErr o (t.held ≡ s.held) → IsDue (applied_reply o)
+  gone (Ok done) e k h = absurd cc
+  gone (Err f) e k h = due_refusal f (at_none r x s.held k ∙ (λ i. Err (record { refusal = sym same i; op = None }))) h
+    where
+      same : f ≡ NoSuchOp
+      same = (let i : Err f ≡ Err NoSuchOp = e in cc)
+
+  is_there : (o : Result Bool Refusal) (c : Things) → has_id x s.held.tree ≡ true → IfOk o (λ done. Gave (rewrite_of r s.held x) done s.held t.held) → OnErr o (t.held ≡ s.held) → IfErr o (λ e. IsReason (rewrite_of r s.held x) x s.held c e) → IsDue (applied_reply o)
+  is_there (Ok done) c k gave h i = done_answer (rewrite_of r s.held x) done k refl gave
+  is_there (Err f) c k gave h i = by_reason f c k i h
+
   answered : (res : Result Bool Refusal) (c : Things) → (has_id x s.held.tree ≡ false → res ≡ Err NoSuchOp) → IfOk res (λ done. Gave (rewrite_of r s.held x) done s.held t.held) → OnErr res (t.held ≡ s.held)
       → IfErr res (λ e. IsReason (rewrite_of r s.held x) x s.held c e) → IsDue (applied_reply res)
   answered res c there ok err why = elim (bool_cases (has_id x s.held.tree)) [
     | inr k ↦ gone res (there k) k err
-    | inl k ↦ is_there res k ok err why
+    | inl k ↦ is_there res c k ok err why
   ]
-    where
-      gone : (o : Result Bool Refusal) → o ≡ Err NoSuchOp → has_id x s.held.tree ≡ false → OnErr o (t.held ≡ s.held) → IsDue (applied_reply o)
-      gone (Ok done) e k h = absurd cc
-      gone (Err f) e k h = due_refusal f (at_none r x s.held k ∙ (λ i. Err (record { refusal = sym (same e) i; op = None }))) h
-        where
-          same : Err f ≡ Err NoSuchOp → f ≡ NoSuchOp
-          same i = cc
-
-      is_there : (o : Result Bool Refusal) → has_id x s.held.tree ≡ true → IfOk o (λ done. Gave (rewrite_of r s.held x) done s.held t.held) → OnErr o (t.held ≡ s.held) → IfErr o (λ e. IsReason (rewrite_of r s.held x) x s.held c e) → IsDue (applied_reply o)
-      is_there (Ok done) k gave h i = done_answer (rewrite_of r s.held x) done k refl gave
-      is_there (Err f) k gave h i = by_reason f c k i h
 
 -- where it is refused with 31, that is due, or the context is full
 pub applied_full : (r : Rule) (x : ℕ) (s : State) (res : Result Bool Refusal) (c : Things) → (has_id x s.held.tree ≡ false → res ≡ Err NoSuchOp) → IfErr res (λ e. IsReason (rewrite_of r s.held x) x s.held c e) → IsFullSo (IsFull c) s (applying r x) (applied_reply res)

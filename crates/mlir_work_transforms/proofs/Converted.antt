@@ -1,6 +1,6 @@
 -- A conversion behind names that were interned is one of the bench before them.
-use Rattle.std.proofs.Common.{◌≡◌, refl, absurd, ap, sym, ◌∙◌, ◌⊎◌, subst, inl, inr, ℕ, [], ◌++◌, Result, Ok, Err, Option, Some, None}
-use Rattle.std.specs.Prelude.{MatchResult, ⊥}
+use Rattle.std.proofs.Common.{◌≡◌, refl, ap, sym, ◌∙◌, ◌⊎◌, subst, inl, inr, ℕ, [], ◌++◌, Result, Ok, Err, Option, Some, None}
+use Rattle.std.specs.Prelude.{MatchResult}
 use Rattle.ir_types.specs.Sound.{Holds}
 use Rattle.ir_types.specs.declared.refusal.Refusal.{Refusal}
 use Rattle.ir_types.specs.declared.refusal.Refusal.TheVariants.{BadTarget, Full, Memory}

@@ -1,8 +1,9 @@
-use Rattle.std.proofs.Common.{ap}
+use Rattle.std.proofs.Common.{ap, inr}
 use Rattle.rewriter.specs.Commands as command
 use Rattle.rewriter.specs.Machine as call
 use Rattle.greedy.specs.Changes.{canonicalizing}
 use Rattle.mlir_work_session.proofs.Obeying.{obeys_plain}
+use Rattle.mlir_work_session.proofs.Room.{canon_room}
 use Rattle.mlir_work_session.proofs.transforming.canon.Goals as goal
 
 pub returns-clause-obeys : goal.returns-clause-obeys
@@ -11,3 +12,6 @@ returns-clause-obeys g c =
 
 pub returns-clause-kept : goal.returns-clause-kept
 returns-clause-kept g c = c.led_benches_are_kept.ensures.kept _ _ c.canonicalize.ensures.led c.requires
+
+pub returns-clause-room : goal.returns-clause-room
+returns-clause-room g c = canon_room _ _ _ _ _ _ _ (λ more. inr more) c.limit_of.ensures c.reply_canonical.ensures c.canonicalize.ensures.refused

@@ -1,9 +1,12 @@
 use Rattle.std.proofs.Common.{refl}
 use Rattle.rewriter.specs.Commands as command
 use Rattle.rewriter.specs.Machine as call
+use Rattle.rewriter.specs.Benched.{state_of}
 use Rattle.mlir_work_script.specs.Clauses.{clauses_of, target_of}
-use Rattle.mlir_work_transforms.specs.Converting.{conversion}
+use Rattle.mlir_work_transforms.specs.Converting.{command_aim, conversion}
+use Rattle.mlir_work_transforms.proofs.Converted.{convert_full}
 use Rattle.mlir_work_session.proofs.Obeying.{obeys_plain}
+use Rattle.mlir_work_session.proofs.Room.{replied}
 use Rattle.mlir_work_session.proofs.transforming.convert.Goals as goal
 
 pub returns-clause-obeys : goal.returns-clause-obeys
@@ -13,3 +16,9 @@ returns-clause-obeys g c manner =
 
 pub returns-clause-kept : goal.returns-clause-kept
 returns-clause-kept g c = c.led_benches_are_kept.ensures.kept _ _ c.convert.ensures.led c.requires
+
+pub returns-clause-room : goal.returns-clause-room
+returns-clause-room g c =
+    let target = target_of c.args.full (clauses_of c.args.clauses.now) in
+    let before = state_of g.L.Analysis.meaning c.args.bench.now in
+    replied _ before (conversion target) _ _ c.reply_converted.ensures (convert_full (command_aim target) before _ _ c.convert.result c.convert.ensures.converts)

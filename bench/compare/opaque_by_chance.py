@@ -1,0 +1,92 @@
+#!/usr/bin/env python3
+"""Texts by chance with opaque terms, aliases and locations, most of them changed: what the rules in Python say of each
+with `--opaque`, beside what they have to agree with.
+
+usage: bench/compare/opaque_by_chance.py [--program PROGRAM] [TEXTS [SEED]]
+
+What is read is printed as a text that is read again as the same. What is read without the flag is read with it as the
+same, and what is refused with it isn't read without. A text whose terms are put in as aliases, with locations beside
+them, is read as the text without. A program that knows the flag answers as the rules do. TEXTS is 2000, SEED 1; each
+difference is printed, and the status is 1 where there is one."""
+import argparse
+import pathlib
+import random
+import re
+import subprocess
+import sys
+
+sys.dont_write_bytecode = True
+sys.path.append(str(pathlib.Path(__file__).resolve().parents[1]))  # bench/, where the other rooms are
+
+from reference import aliases, module, opaque, printing, rules, script, texts  # noqa: E402
+
+DIVIDER = b"\n// -----\nprint\n"
+# What stands in front of a type or of an attribute, and behind a term, in a text that was printed.
+FRONTS = {b"!": rb"(?<=[(,:<= \[x])", b"#": rb"(?<=[= \[])"}
+BEHIND = rb"(?=[),>}\]\n]| \{\n|$)"
+SIGNATURE = re.compile(rb"( : \([^\n{:]*\) -> [^\n{:]*[^{\n:])\n")
+
+
+def said(read, text):
+    """The text of a module that is read, or the number and place of its refusal; none where that is left open."""
+    try:
+        return module.text_of(read(text)).encode()
+    except rules.Refused as fault:
+        return fault.number, fault.at
+    except rules.Open:
+        return None
+
+
+def with_aliases(maker, text):
+    """A printed text with some of its terms as aliases, and with locations."""
+    found = b""
+    for number in range(4):
+        sign = maker.choice([b"!", b"#"])
+        term = maker.choice([it for it in texts.OPEN_TYPES if it[:1] != b"("] if sign == b"!" else texts.OPEN_ATTRS)
+        if sign == b"#":
+            term = printing.attr_text(opaque.Reader(term).one_attr()).encode()
+        if term[:1] in b'"0123456789-':
+            continue
+        name = sign + b"n%d" % number
+        text = re.sub(FRONTS[sign] + re.escape(term) + BEHIND, lambda _: name, text)
+        found += name + b" = " + term + maker.choice([b"\n", b" ", b" // c\n"])
+    return found + (SIGNATURE.sub(rb'\1 loc("f":1:2)\n', text) if maker.random() < 0.5 else text)
+
+
+def differences(maker, program):
+    """The text of a number, and what is said otherwise of it."""
+    text = texts.open_source(maker)
+    if maker.random() < 0.7:
+        text = texts.changed(maker, text, texts.OPEN_PIECES)
+    plain, found = said(module.read, text), said(aliases.read, text)
+    if isinstance(plain, bytes) and found != plain:
+        yield text, "read otherwise without the flag", plain, found
+    if isinstance(found, bytes):
+        again, spelled = said(aliases.read, found), with_aliases(maker, found)
+        if again != found:
+            yield text, "printed, and read otherwise", found, again
+        if said(aliases.read, spelled) != found:
+            yield spelled, "with aliases, and read otherwise", found, said(aliases.read, spelled)
+    if program is not None and found is not None:
+        ran = subprocess.run([program, "--brief", "--opaque"], input=text + DIVIDER, capture_output=True, check=False)
+        wanted = script.run_opaque(text + DIVIDER)
+        if (ran.returncode, ran.stdout) != wanted:
+            yield text, "answered otherwise by the program", wanted, (ran.returncode, ran.stdout)
+
+
+def main():
+    parser = argparse.ArgumentParser(description=__doc__, formatter_class=argparse.RawDescriptionHelpFormatter)
+    parser.add_argument("--program")
+    parser.add_argument("texts", nargs="?", type=int, default=2000)
+    parser.add_argument("seed", nargs="?", type=int, default=1)
+    asked, wrong = parser.parse_args(), 0
+    for number in range(asked.texts):
+        for text, what, wanted, found in differences(random.Random(f"{asked.seed} {number}"), asked.program):
+            wrong += 1
+            print(f"{number}: {what}: {text!r}\n  {wanted!r}\n  {found!r}")
+    print(f"{asked.texts} texts, {wrong} differences")
+    sys.exit(bool(wrong))
+
+
+if __name__ == "__main__":
+    main()

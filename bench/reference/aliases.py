@@ -1,0 +1,262 @@
+"""Aliases and locations of a module's text: a pass in front of the grammar, which puts the spelling of each alias in
+its place and takes `loc(..)` away behind a function type or the type of a block's argument.
+
+Definitions stand in front of the first operation; behind the last one only `#name = loc(..)`, which goes. What a
+definition spells ends in front of the next string, value or definition outside all brackets. A text that defines no
+alias keeps all that look like one, which the grammar refuses."""
+
+import bisect
+import re
+
+from . import module, opaque, rules
+from .opaque import CLOSERS, body_end, is_alias, name_end
+from .rules import COMMENT, MOST_BYTES, Refused
+
+PIECE = re.compile(rb"[%^@](?:[0-9]+|[A-Za-z$._-][A-Za-z0-9$._-]*)|[A-Za-z_][A-Za-z0-9_$.]*|[0-9]+|->|.", re.S)
+# Behind one of these bytes a spelling can be no part of the token in front of it.
+APART = b" \t\r\n([{<,=:>"
+LOC = re.compile(rb"loc(?![A-Za-z0-9_$.])")
+# What a bracket holds: operations, operands or types or regions, arguments of a block, all else; a location.
+OPS, LIST, ARGS, OTHER, PLACE = range(5)
+
+
+class Piece:
+    """A part of a text from a byte on: a blank, a string, a name with its sign, a word, a number, a mark or a byte. A
+    string that nothing ends goes on to the end of the text, with the fault."""
+
+    def __init__(self, text, start):
+        self.text, self.start = text, start
+        byte = text[start:start + 1]
+        self.is_alias = byte in (b"#", b"!") and is_alias(text, start)
+        self.fault = None
+        if byte == b'"' or text[start:start + 2] == b'@"':
+            try:
+                self.end = rules.string_end(text, start + (byte == b"@"))
+            except Refused as fault:
+                self.end, self.fault = len(text), fault
+        elif byte in (b"#", b"!"):
+            self.end = name_end(text, start + 1)
+        else:
+            self.end = COMMENT.match(text, start).end()
+            if self.end == start:
+                self.end = PIECE.match(text, start).end()
+                if byte == b"%" and text[self.end:self.end + 1] == b"#":
+                    self.end = name_end(text, self.end + 1)
+        self.bytes = text[start:self.end]
+
+    def is_blank(self):
+        return COMMENT.match(self.bytes).end() == len(self.bytes)
+
+
+def behind_equal(text, piece):
+    """The byte behind the `=` of a definition, where an alias is one."""
+    at = COMMENT.match(text, piece.end).end()
+    return at + 1 if piece.is_alias and text[at:at + 1] == b"=" else None
+
+
+class Expansion:
+    """A text with the spellings in place, where each byte of it came from, and the fault at which it ends, if any."""
+
+    def __init__(self):
+        self.parts, self.size, self.marks, self.fault = [], 0, [], None
+
+    def add(self, part, start, is_spelling=False):
+        """Adds bytes that stand in the text from `start` on, or that are spelled for the alias there."""
+        self.marks.append((self.size, start, is_spelling))
+        self.parts.append(part)
+        self.size += len(part)
+
+    def text(self):
+        return b"".join(self.parts)
+
+    def place(self, at):
+        """Where a byte came from."""
+        begin, start, is_spelling = self.marks[bisect.bisect_right(self.marks, (at, MOST_BYTES + 1)) - 1]
+        return start if is_spelling else start + at - begin
+
+
+class Pass:
+    def __init__(self, text):
+        self.text, self.values, self.names, self.out = text, {}, set(), Expansion()
+
+    # Spellings.
+
+    def spelling(self, piece, last, brackets):
+        """What is put in the place of an alias, behind a piece and in these brackets."""
+        if piece.bytes not in self.values:
+            raise Refused(3, piece.start)
+        if last == b"-":
+            raise Refused(2, piece.start)
+        value = self.values[piece.bytes]
+        if value is None:
+            raise Refused(11, piece.start)
+        if any(kind == PLACE for _, kind in brackets) and LOC.match(value) and value.endswith(b")"):
+            value = value[value.index(b"(") + 1:-1]
+        before = self.text[piece.start - 1:piece.start]
+        is_dimension = before == b"x" and bool(brackets) and brackets[-1][0] == b">"
+        return value if before in APART or is_dimension else b" " + value
+
+    # Definitions.
+
+    def definitions(self):
+        """Reads the definitions in front of the first operation, and gives the byte behind the last."""
+        behind = 0
+        while True:
+            at = COMMENT.match(self.text, behind).end()
+            if at == len(self.text) or self.text[at:at + 1] not in (b"#", b"!"):
+                return behind
+            piece = Piece(self.text, at)
+            equal = behind_equal(self.text, piece)
+            if equal is None:
+                return behind
+            self.named(piece)
+            value, behind = self.value(equal)
+            self.values[piece.bytes] = value if len(value) <= MOST_BYTES else None
+
+    def named(self, piece):
+        if piece.bytes in self.names:
+            raise Refused(4, piece.start)
+        self.names.add(piece.bytes)
+
+    def value(self, at):
+        """The value of a definition, and the byte behind it."""
+        begin = COMMENT.match(self.text, at).end()
+        out, at, end, brackets, last = b"", begin, begin, [], b""
+        while at < len(self.text):
+            piece = Piece(self.text, at)
+            if not brackets and (piece.bytes[:1] in (b'"', b"%") or behind_equal(self.text, piece) is not None):
+                break
+            at = piece.end
+            if piece.is_blank():
+                continue
+            if piece.fault:
+                raise piece.fault
+            out += self.text[end:piece.start]
+            if piece.is_alias:
+                out += self.spelling(piece, last, brackets)
+            else:
+                self.bracket(piece, brackets, last)
+                out += piece.bytes
+            end, last = piece.end, piece.bytes
+        if brackets:
+            raise Refused(2, len(self.text))
+        if not out:
+            raise Refused(2, begin)
+        return out, end
+
+    @staticmethod
+    def bracket(piece, brackets, last):
+        """Opens or closes a bracket of a value; outside all of them no comma stands."""
+        byte = piece.bytes
+        if byte in CLOSERS:
+            brackets.append((CLOSERS[byte], PLACE if last == b"loc" else OTHER))
+        elif brackets and byte == brackets[-1][0]:
+            brackets.pop()
+        elif byte in (b")", b"]", b"}") or not brackets and byte in (b">", b","):
+            raise Refused(2, piece.start)
+
+    # Operations.
+
+    def operations(self, at):
+        """Puts spellings in the operations from a byte on, and takes locations away."""
+        brackets, last, is_typed, is_ended = [], b"", False, False
+        while at < len(self.text):
+            piece = Piece(self.text, at)
+            at = piece.end
+            kind = brackets[-1][1] if brackets else OPS
+            if not brackets and (is_typed or is_ended) and behind_equal(self.text, piece) is not None:
+                self.endings(piece.start)
+                return
+            behind = self.location(piece, kind, is_typed, last)
+            if behind is not None:
+                at, last, is_typed, is_ended = behind, b")", False, True
+                continue
+            if piece.is_alias and self.values:
+                found = self.spelling(piece, last, brackets)
+                if self.out.size + len(found) > MOST_BYTES:
+                    raise Refused(11, piece.start)
+                self.out.add(found, piece.start, True)
+            else:
+                self.out.add(piece.bytes, piece.start)
+            if piece.is_blank():
+                continue
+            is_ended = False
+            if kind == OPS:
+                is_typed = piece.bytes == b"->" or is_typed and piece.bytes[:1] not in (b'"', b"%", b"^")
+            if self.nest(piece, brackets, kind, last) == OPS:
+                is_typed = False
+            last = piece.bytes
+
+    @staticmethod
+    def nest(piece, brackets, kind, last):
+        """Opens or closes a bracket, and gives what it holds, or none."""
+        byte = piece.bytes
+        if brackets and byte == brackets[-1][0]:
+            return brackets.pop()[1]
+        if byte not in CLOSERS:
+            return None
+        inner = PLACE if last == b"loc" else OTHER
+        if kind == OPS and byte == b"(":
+            inner = ARGS if last[:1] == b"^" else LIST
+        elif kind == LIST and byte == b"{":
+            inner = OPS
+        brackets.append((CLOSERS[byte], inner))
+        return inner
+
+    def location(self, piece, kind, is_typed, last):
+        """The byte behind a location that goes, where a piece begins one."""
+        opened = COMMENT.match(self.text, piece.end).end()
+        if piece.bytes != b"loc" or self.text[opened:opened + 1] != b"(":
+            return None
+        is_behind_type = last[-1:].isalnum() or last[-1:] in (b")", b">", b"_", b"$", b".")
+        if not is_behind_type or last == b"->" or not (kind == ARGS or kind == OPS and is_typed):
+            return None
+        return body_end(self.text, opened, True)
+
+    def endings(self, at):
+        """What stands behind the last operation: definitions of locations, which go."""
+        while True:
+            at = COMMENT.match(self.text, at).end()
+            if at == len(self.text):
+                return
+            piece = Piece(self.text, at)
+            equal = behind_equal(self.text, piece)
+            if equal is None:
+                raise Refused(2, at)
+            begin = COMMENT.match(self.text, equal).end()
+            found = LOC.match(self.text, begin)
+            if piece.bytes[:1] != b"#" or not found:
+                raise Refused(13, at)
+            self.named(piece)
+            opened = COMMENT.match(self.text, found.end()).end()
+            if self.text[opened:opened + 1] != b"(":
+                raise Refused(2, opened)
+            at = body_end(self.text, opened, True)
+
+
+def expanded(text):
+    """The expansion of a text."""
+    them = Pass(text)
+    them.out.add(b"", 0)
+    try:
+        them.operations(them.definitions())
+    except Refused as fault:
+        them.out.fault = fault
+    them.out.add(b"", them.out.fault.at if them.out.fault else len(text))
+    return them.out
+
+
+def read(text):
+    """The module that a text spells with its aliases and locations; raises `rules.Refused`. A fault of the grammar
+    counts where it stands further left than one of the aliases."""
+    opaque.Reader(text)
+    found = expanded(text)
+    try:
+        made = module.read(found.text(), opaque.Reader)
+    except Refused as fault:
+        at = found.place(fault.at)
+        if found.fault is None or at < found.fault.at:
+            raise Refused(fault.number, at) from None
+    if found.fault is not None:
+        raise found.fault
+    return made

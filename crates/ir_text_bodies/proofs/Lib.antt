@@ -1,0 +1,5 @@
+pub mod Steps
+pub mod Kept
+pub mod Again
+pub mod Parts
+pub mod Walk
