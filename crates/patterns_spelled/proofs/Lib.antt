@@ -3,3 +3,4 @@ pub mod Spelled
 pub mod Shown
 pub mod Terms
 pub mod Whole
+pub mod Printable

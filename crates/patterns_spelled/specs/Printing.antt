@@ -163,3 +163,7 @@ IsPrintable p =
 -- what is printed is read again
 abbrev pub IsReadAgain : Type 0
 IsReadAgain = (p : Pattern) → IsPrintable p → read (text_of p) ≡ Some (p, [])
+
+-- and so is what was read of any text
+abbrev pub WhatIsReadIsReadAgain : Type 0
+WhatIsReadIsReadAgain = (text rest : Text) (p : Pattern) → read text ≡ Some (p, rest) → read (text_of p) ≡ Some (p, [])
