@@ -1,5 +1,5 @@
 -- A reader gives exactly what a grammar spells; how readers and grammars are joined.
-use Rattle.std.proofs.Common.{◌≡◌, ◌∙◌, ℕ, zero, suc, Bool, true, false, not, List, [], ◌∷◌, ◌++◌, Option, Some, None, refl, sym, ap, subst, if◌then◌else◌, ◌⊎◌, inl, inr}
+use Rattle.std.proofs.Common.{◌≡◌, ℕ, zero, suc, Bool, true, false, not, List, [], ◌∷◌, ◌++◌, Option, Some, None, refl, sym, ap, subst, if◌then◌else◌, ◌⊎◌, inl, inr}
 use Rattle.std.proofs.lemmas.Option.{same_Some}
 use Rattle.ir_text_tokens.specs.declared.token.Mark.{Mark}
 use Rattle.ir_text_tokens.specs.declared.token.Mark.TheVariants.{Comma}
@@ -9,7 +9,7 @@ use Rattle.ir_text_types.specs.Marks.{after}
 use Rattle.ir_text_types.specs.Typed.{Text}
 use Rattle.ir_text_types.proofs.TextLaws.{after_found, after_only, after_none, none_after}
 use Rattle.patterns_spelled.specs.Grammar.{Behind, Never}
-use Rattle.patterns_spelled.specs.Reading.{Reader, given, fail, done, done_if, when, and_then, behind_mark, either_from, either, behind, more, more_from, listed, option_done}
+use Rattle.patterns_spelled.specs.Reading.{Reader, given, fail, done, done_if, when, and_then, behind_mark, either_from, either, behind, more, more_from, listed}
 
 pub record Exact {A : Type 0} (p : Reader A) (P : Grammar Text A) : Type 0 where
   pub found : (s r : Text) (x : A) → p s ≡ Some (x, r) → P x s r
@@ -68,15 +68,6 @@ pub done_unless_exact : {A : Type 0} (b : Bool) (y : A) → Exact (done_if (not 
 done_unless_exact b y = record {
   found = λ s r x e. (let h = if_some (not b) (Some (y, s)) (x, r) e in let k = same_pair h.1 in (not_true b h.0, k.0, k.1));
   only = λ s r x h. some_if (not b) (Some (y, s)) (x, r) (true_not b h.0) (pair_same h.1 h.2);
-}
-
-pub option_exact : {A : Type 0} (o : Option A) → Exact (option_done o) (λ y old new. (o ≡ Some y) × (new ≡ old))
-option_exact o = record {
-  found = λ s r y e.
-      let g = given_some o (λ x. Some (x, s)) (y, r) e in
-      let k = same_pair g.2 in
-      (g.1 ∙ ap (λ x. Some x) (sym k.0), k.1);
-  only = λ s r y h. rw h.0 (pair_same refl h.1);
 }
 
 module _ {A : Type 0} {p : Reader A} {P : Grammar Text A} (k : Exact p P) where

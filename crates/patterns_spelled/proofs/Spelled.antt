@@ -4,10 +4,10 @@ use Rattle.ir_text_tokens.specs.declared.token.Mark.TheVariants.{OpenRound, Clos
 use Rattle.ir_text_types.specs.Grammars.{Grammar}
 use Rattle.ir_text_types.specs.Typed.{Text}
 use Rattle.patterns_spelled.specs.Syntax.{Number, literal, named, called, numbers_of, Term, operation, value_of, constant_of, terms_of, narrower, asking, is_operation}
-use Rattle.patterns_spelled.specs.Heads.{Head, of_value, of_operation, of_word, of_digits, of_minus, of_other, head_of, magnitude_of, type_word, is_one_of, folding, may_ask, may_be_asked, must_be_asked}
+use Rattle.patterns_spelled.specs.Heads.{Head, of_value, of_operation, of_word, of_digits, of_minus, of_other, head_of, magnitude_of, is_type_word, is_one_of, folding, may_ask, may_be_asked, must_be_asked}
 use Rattle.patterns_spelled.specs.Grammar.{most, old_depth, new_depth, IsWordOf, IsWord, IsType, IsTyped, IsDigits, IsMagnitudeOf, IsMagnitude, IsCalled, IsNumberOf, IsNumber, IsAsked, IsAskedBy, IsOldNumberOf, IsValue, IsOperation, IsConstant, IsTermOf, IsValueOf, IsOld, IsNew, IsConditionOf, IsCondition, IsAskedAtEnd, IsPattern}
 use Rattle.patterns_spelled.specs.Reading.{Reader, word_of, word, type, typed, digits, magnitude_from, magnitude, call, number_from, number, asked, asked_by, old_number_from, value_from, operation_from, constant_from, term_from, deep_value, old_term, new_term, condition_from, condition, conditions, read}
-use Rattle.patterns_spelled.proofs.Exact.{Exact, fail_exact, done_exact, done_if_exact, done_unless_exact, option_exact, when_exact, mark_exact, then_exact, either_exact, behind_exact, more_exact, listed_exact, given_some, same_pair}
+use Rattle.patterns_spelled.proofs.Exact.{Exact, fail_exact, done_exact, done_if_exact, done_unless_exact, when_exact, mark_exact, then_exact, either_exact, behind_exact, more_exact, listed_exact, given_some, same_pair}
 
 word_of_exact : (h : Head) → Exact (word_of h) (IsWordOf h)
 word_of_exact (of_word w) = done_exact w
@@ -21,7 +21,7 @@ word_exact : Exact word IsWord
 word_exact = behind_exact (λ l. word_of_exact (head_of l))
 
 type_exact : Exact type IsType
-type_exact = then_exact word_exact (λ w. option_exact (type_word w))
+type_exact = then_exact word_exact (λ w. done_if_exact (is_type_word w) w)
 
 typed_exact : Exact typed IsTyped
 typed_exact = either_exact (then_exact type_exact (λ ty. done_exact (Some ty))) (done_exact None) Colon

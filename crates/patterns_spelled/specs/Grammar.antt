@@ -4,8 +4,8 @@ use Rattle.ir_text_tokens.specs.declared.token.Mark.TheVariants.{OpenRound, Clos
 use Rattle.ir_text_tokens.specs.Tokens.{Lexeme}
 use Rattle.ir_text_types.specs.Grammars.{Grammar, Then, Done, DoneIf, When, After, Either, IsList, IsMore, Token, IsMark}
 use Rattle.ir_text_types.specs.Typed.{Text}
-use Rattle.patterns_spelled.specs.Syntax.{Written, Number, literal, named, called, numbers_of, Term, operation, value_of, constant_of, terms_of, Condition, narrower, asking, Pattern, is_operation}
-use Rattle.patterns_spelled.specs.Heads.{Head, of_value, of_operation, of_word, of_digits, of_minus, of_other, head_of, magnitude_of, type_word, is_one_of, folding, may_ask, may_be_asked, must_be_asked}
+use Rattle.patterns_spelled.specs.Syntax.{Number, literal, named, called, numbers_of, Term, operation, value_of, constant_of, terms_of, Condition, narrower, asking, Pattern, is_operation}
+use Rattle.patterns_spelled.specs.Heads.{Head, of_value, of_operation, of_word, of_digits, of_minus, of_other, head_of, magnitude_of, is_type_word, is_one_of, folding, may_ask, may_be_asked, must_be_asked}
 
 -- the most items of a list, and how deep terms are nested on the left and on the right
 abbrev pub most : ℕ
@@ -38,11 +38,11 @@ abbrev pub IsWord : Grammar Text (List ℕ)
 IsWord = Behind (λ l. IsWordOf (head_of l))
 
 -- a type
-abbrev pub IsType : Grammar Text Written
-IsType = Then IsWord (λ w y old new. (type_word w ≡ Some y) × (new ≡ old))
+abbrev pub IsType : Grammar Text (List ℕ)
+IsType = Then IsWord (λ w. DoneIf (is_type_word w ≡ true) w)
 
 -- a type behind a colon, or none
-abbrev pub IsTyped : Grammar Text (Option Written)
+abbrev pub IsTyped : Grammar Text (Option (List ℕ))
 IsTyped = Either IsMark Colon (Then IsType (λ ty. Done (Some ty))) (Done None)
 
 -- ---- numbers

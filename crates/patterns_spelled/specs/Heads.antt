@@ -1,5 +1,5 @@
 -- What the first token of a term or a number says, and words.
-use Rattle.std.specs.Prelude.{ℕ, Bool, false, ◌&&◌, ◌||◌, ◌==◌, if◌then◌else◌, List, [], ◌∷◌, codes, Option, Some, None, option_map}
+use Rattle.std.specs.Prelude.{ℕ, Bool, false, ◌&&◌, ◌||◌, ◌==◌, if◌then◌else◌, List, [], ◌∷◌, codes, Option, Some, None, option_map, is_some}
 use Rattle.std.specs.List.{list_all, list_any}
 use Rattle.std.specs.Str.{bytes_eq}
 use Rattle.std.specs.Char.{is_ascii_digit}
@@ -7,7 +7,12 @@ use Rattle.ir_text_tokens.specs.Tokens.{Lexeme, mark, integer, float, string, ba
 use Rattle.ir_text_tokens.specs.Numbers.{below_limit, integer_of}
 use Rattle.ir_text_types.specs.Marks.{mark_code}
 use Rattle.ir_text_types.specs.Scalars.{width_of}
-use Rattle.patterns_spelled.specs.Syntax.{Written, integer_type, index_type, variable_type}
+
+-- a type: `iN`, `index`, or a variable's name
+pub data Written : Type 0 where
+  integer_type : ℕ → Written
+  index_type : Written
+  variable_type : List ℕ → Written
 
 -- a word with a dot names an operation, one without anything else
 pub data Head : Type 0 where
@@ -54,6 +59,9 @@ type_word w =
     if bytes_eq w (codes "index") then Some index_type
     else if is_integer_word w then option_map integer_type (behind_i w)
     else Some (variable_type w)
+
+abbrev pub is_type_word : List ℕ → Bool
+is_type_word w = is_some (type_word w)
 
 -- the operations that fold, with how they may be asked
 abbrev pub is_one_of : List (List ℕ) → List ℕ → Bool

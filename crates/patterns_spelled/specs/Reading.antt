@@ -5,8 +5,8 @@ use Rattle.ir_text_tokens.specs.declared.token.Mark.TheVariants.{OpenRound, Clos
 use Rattle.ir_text_tokens.specs.Tokens.{Lexeme, next}
 use Rattle.ir_text_types.specs.Marks.{after}
 use Rattle.ir_text_types.specs.Typed.{Text}
-use Rattle.patterns_spelled.specs.Syntax.{Written, Number, literal, named, called, numbers_of, Term, operation, value_of, constant_of, terms_of, Condition, narrower, asking, Pattern, is_operation}
-use Rattle.patterns_spelled.specs.Heads.{Head, of_value, of_operation, of_word, of_digits, of_minus, of_other, head_of, magnitude_of, type_word, is_one_of, folding, may_ask, may_be_asked, must_be_asked}
+use Rattle.patterns_spelled.specs.Syntax.{Number, literal, named, called, numbers_of, Term, operation, value_of, constant_of, terms_of, Condition, narrower, asking, Pattern, is_operation}
+use Rattle.patterns_spelled.specs.Heads.{Head, of_value, of_operation, of_word, of_digits, of_minus, of_other, head_of, magnitude_of, is_type_word, is_one_of, folding, may_ask, may_be_asked, must_be_asked}
 use Rattle.patterns_spelled.specs.Grammar.{most, old_depth, new_depth}
 
 -- what is read, and the rest of the text
@@ -70,13 +70,10 @@ word_of of_other = fail
 abbrev pub word : Reader (List ℕ)
 word = behind (λ l. word_of (head_of l))
 
-abbrev pub option_done : {A : Type 0} → Option A → Reader A
-option_done o s = given o (λ x. Some (x, s))
+abbrev pub type : Reader (List ℕ)
+type = and_then word (λ w. done_if (is_type_word w) w)
 
-abbrev pub type : Reader Written
-type = and_then word (λ w. option_done (type_word w))
-
-abbrev pub typed : Reader (Option Written)
+abbrev pub typed : Reader (Option (List ℕ))
 typed = either Colon (and_then type (λ ty. done (Some ty))) (done None)
 
 -- ---- numbers

@@ -1,11 +1,6 @@
--- What a pattern's text spells, before its names are looked up and its types are told.
+-- What a pattern's text spells, before its names are looked up and its types are told. A type is the word that is
+-- written.
 use Rattle.std.specs.Prelude.{ℕ, Bool, true, false, List, [], ◌∷◌, Option}
-
--- a type: `iN`, `index`, or a variable's name
-pub data Written : Type 0 where
-  integer_type : ℕ → Written
-  index_type : Written
-  variable_type : List ℕ → Written
 
 mutual
   -- a number: a literal, with a minus or none, a name, or a function of numbers
@@ -21,9 +16,9 @@ mutual
 mutual
   -- a term: an operation by its name, with what it asks, its operands and its type; a value; or a constant
   pub data Term : Type 0 where
-    operation : List ℕ → Option (List ℕ) → Terms → Option Written → Term
-    value_of : List ℕ → Option Written → Term
-    constant_of : Number → Option Written → Term
+    operation : List ℕ → Option (List ℕ) → Terms → Option (List ℕ) → Term
+    value_of : List ℕ → Option (List ℕ) → Term
+    constant_of : Number → Option (List ℕ) → Term
 
   pub data Terms : Type 0 where
     no_terms : Terms
@@ -39,7 +34,7 @@ terms_of (t ∷ ts) = next_term t (terms_of ts)
 
 -- a condition: types of which the first is narrower, or numbers of which something is asked
 pub data Condition : Type 0 where
-  narrower : List Written → Condition
+  narrower : List (List ℕ) → Condition
   asking : List ℕ → List Number → Condition
 
 pub record Pattern : Type 0 where
@@ -52,3 +47,12 @@ abbrev pub is_operation : Term → Bool
 is_operation (operation name asks operands ty) = true
 is_operation (value_of name ty) = false
 is_operation (constant_of number ty) = false
+
+-- numbers and terms as lists
+abbrev pub number_list : Numbers → List Number
+number_list no_numbers = []
+number_list (next_number n ns) = n ∷ number_list ns
+
+abbrev pub term_list : Terms → List Term
+term_list no_terms = []
+term_list (next_term t ts) = t ∷ term_list ts
