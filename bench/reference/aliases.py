@@ -9,7 +9,7 @@ import bisect
 import re
 
 from . import module, opaque, rules
-from .opaque import CLOSERS, body_end, is_alias, name_end
+from .opaque import CLOSERS, MOST_OPEN, body_end, is_alias, name_end
 from .rules import COMMENT, MOST_BYTES, Refused
 
 PIECE = re.compile(rb"[%^@](?:[0-9]+|[A-Za-z$._-][A-Za-z0-9$._-]*)|[A-Za-z_][A-Za-z0-9_$.]*|[0-9]+|->|.", re.S)
@@ -129,7 +129,7 @@ class Pass:
             if piece.is_blank():
                 continue
             if piece.fault:
-                raise piece.fault
+                raise Refused(1, piece.start + (piece.bytes[:1] == b"@"))
             if piece.is_alias:
                 found = self.spelling(piece, last, brackets)
             else:
@@ -150,10 +150,12 @@ class Pass:
     def bracket(piece, brackets, last):
         """Opens or closes a bracket of a value; outside all of them no comma stands."""
         byte = piece.bytes
-        if byte in CLOSERS:
-            brackets.append((CLOSERS[byte], PLACE if last == b"loc" else OTHER))
-        elif brackets and byte == brackets[-1][0]:
+        if brackets and byte == brackets[-1][0]:
             brackets.pop()
+        elif byte in CLOSERS:
+            if len(brackets) == MOST_OPEN:
+                raise Refused(10, piece.start)
+            brackets.append((CLOSERS[byte], PLACE if last == b"loc" else OTHER))
         elif byte in (b")", b"]", b"}") or not brackets and byte in (b">", b","):
             raise Refused(2, piece.start)
 

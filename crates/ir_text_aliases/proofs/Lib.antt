@@ -1,2 +1,3 @@
 pub mod Parted
 pub mod Putting
+pub mod Nesting

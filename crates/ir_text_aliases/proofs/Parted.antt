@@ -14,7 +14,7 @@ use Rattle.ir_text_aliases.specs.Pieces.{line_len, piece_len, string_len}
 
 -- ---- strings
 
-string_token : (cs : List ℕ) → next (34 ∷ cs) ≡ string_at string cs
+pub string_token : (cs : List ℕ) → next (34 ∷ cs) ≡ string_at string cs
 unfolding next skip
 string_token [] = refl
 string_token (d ∷ ds) = refl

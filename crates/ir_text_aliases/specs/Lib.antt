@@ -2,3 +2,4 @@ pub mod Pieces
 pub mod Uses
 pub mod Spelled
 pub mod Steps
+pub mod Values

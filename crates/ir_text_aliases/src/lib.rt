@@ -8,3 +8,4 @@ pub mod mark;
 mod pieces;
 pub mod spell;
 mod uses;
+pub mod values;

@@ -48,7 +48,7 @@ fn is_count(byte: u8) -> bool
     byte.is_ascii_digit() || matches!(byte, b'?' | b']' | b'*')
 }
 
-fn is_gap(byte: u8, tail: &[u8]) -> bool
+pub(crate) fn is_gap(byte: u8, tail: &[u8]) -> bool
     ensures { result ≡ is_gap byte tail.now }
 {
     matches!(byte, b' ' | b'\t' | b'\n' | b'\r') || are_slashes(byte, tail)
