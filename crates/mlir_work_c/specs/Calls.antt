@@ -1,0 +1,32 @@
+-- What calls make of a handle: closed, or with a session.
+use Rattle.std.specs.Prelude.{◌≡◌, ℕ, List, [], ◌⊎◌, Option, Some, None}
+use Rattle.ir_types.specs.declared.refusal.Refusal.{Refusal}
+use Rattle.ir_types.specs.declared.refusal.Refusal.TheVariants.{Memory}
+use Rattle.rewriter.specs.Benched.{IsKept}
+use Rattle.mlir_work_listeners.specs.Listeners.{seven_listener}
+use Rattle.mlir_work_held.specs.Answers.{closed, opened, unopened}
+use Rattle.mlir_work_held.specs.Opened.{Opened, WhyNotOpened}
+use Rattle.mlir_work_held.specs.Stepped.{Stepped}
+use Rattle.mlir_work_held.specs.declared.answer.Answer.{Answer}
+use Rattle.mlir_work_held.specs.declared.session.Session.{Session}
+
+-- each analysis of a session that is held agrees with its module, or is stale
+abbrev pub IsHeld : Option Session → Type 0
+IsHeld None = Unit {0}
+IsHeld (Some s) = IsKept seven_listener s.bench
+
+-- what the last line showed
+abbrev pub ShownOf : Option Session → List ℕ
+ShownOf None = []
+ShownOf (Some s) = s.shows.items
+
+-- a session was opened over the text, or why there is none
+abbrev pub OpenGoes : List ℕ → ℕ → Option Session → Answer → Type 0
+OpenGoes text limit None a = (refusal : Refusal) × (offset : Option ℕ) × WhyNotOpened text refusal offset × (a ≡ unopened refusal offset)
+OpenGoes text limit (Some s) a = Opened text limit s × (a ≡ opened)
+
+-- a line goes as the machine has it; a closed handle stays closed
+abbrev pub CommandGoes : Option Session → List ℕ → Answer → Option Session → Type 0
+CommandGoes None line a new = (a ≡ closed) × (new ≡ None)
+CommandGoes (Some s) line a None = ⊥
+CommandGoes (Some s) line a (Some t) = Stepped s line a t

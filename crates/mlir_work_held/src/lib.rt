@@ -1,0 +1,7 @@
+//! A session that is held between calls: a module with its seven analyses, to which one line at a time is said. What a
+//! line makes of it is what the machine makes of that line in a script.
+#![tactic(auto)]
+
+pub mod answer;
+pub mod opening;
+pub mod session;
