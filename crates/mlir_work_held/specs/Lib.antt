@@ -1,3 +1,4 @@
 pub mod Answers
 pub mod Stepped
 pub mod Opened
+pub mod Queries

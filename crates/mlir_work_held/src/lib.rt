@@ -3,5 +3,7 @@
 #![tactic(auto)]
 
 pub mod answer;
+pub mod edits;
 pub mod opening;
+pub mod queries;
 pub mod session;

@@ -2,7 +2,7 @@
 ghost use Rattle.std.specs.Prelude.{◌≡◌, ◌≤◌, ℕ, List, [], length, min, take, drop, ◌++◌, true, false};
 ghost use Rattle.rewriter.specs.Benched.{IsKept};
 ghost use Rattle.mlir_work_listeners.specs.Listeners.{seven_listener};
-ghost use Rattle.mlir_work_script.specs.Commands.{spoken_of};
+ghost use Rattle.mlir_work_script.specs.Commands.{Obey, said_of, spoken_of};
 ghost use Rattle.mlir_work_session.specs.Output.{says_nothing};
 ghost use Rattle.mlir_work_session.specs.declared.manner.Manner.{Manner as Way};
 ghost use Rattle.mlir_work_held.specs.Stepped.{Stepped, way, Answered};
@@ -10,7 +10,7 @@ ghost use Rattle.mlir_work_held.specs.Stepped.{Stepped, way, Answered};
 use crate::answer::{Answer, answer_of, nothing, refused};
 use ir_types::refusal::Refusal;
 use mlir_work_listeners::seven::Seven;
-use mlir_work_session::command::{Line, read_line};
+use mlir_work_session::command::{Command, Line, read_line};
 use mlir_work_session::lines::split_line;
 use mlir_work_session::manner::Manner;
 use mlir_work_session::script::{answer, is_nothing};
@@ -39,6 +39,17 @@ fn way(session: &Session, line: &[u8]) -> Manner
         bytes: session.bytes.saturating_add(line.len()),
         limit: session.limit,
     }
+}
+
+/// Makes a command of a session, whose text was handed in by numbers: the answer and the session are what the machine
+/// makes of it in a script that is run briefly.
+pub fn command(alloc: Global, session: &mut Session, command: Command<'_>) -> Answer
+    requires kept { IsKept seven_listener session.old.bench }
+    ensures answered { Answered (way session.old []) session.old (Obey (said_of command)) result session.new }
+    ensures kept { IsKept seven_listener session.new.bench }
+{
+    let manner = way(session, &[]);
+    obey_line(alloc, session, &manner, &Line::Obey(command))
 }
 
 /// Obeys a line that isn't nothing.
