@@ -202,12 +202,12 @@ class Pipe:
 
     def _lost(self, words: str) -> Lost:
         """What is raised where the process is of no use any more, once it is gone."""
-        try:
-            self.status = self.run.wait(PATIENCE if words == ENDED else 0)
-            words = f"ended with status {self.status}"
-        except subprocess.TimeoutExpired:
-            self.run.kill()
-            self.run.wait()
+        if words == ENDED:
+            try:
+                self.status = self.run.wait(PATIENCE)
+                words = f"ended with status {self.status}"
+            except subprocess.TimeoutExpired:
+                pass
         self._said.seek(0)
         said = self._said.read(MOST_SAID).decode("utf-8", "replace").strip()
         self.stop()
