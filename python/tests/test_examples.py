@@ -1,10 +1,13 @@
 """The examples, and the comparison of ways, with few cases."""
 import os
+import pathlib
 import shlex
 import subprocess
 import sys
+import tarfile
 import tempfile
 import unittest
+import zipfile
 
 from support import IS_FAST, LIVE, PROGRAM, ROOT
 
@@ -25,6 +28,27 @@ class Examples(unittest.TestCase):
         many = 2000 if IS_FAST else 40
         status, out, fault = ran([sys.executable, str(ROOT / "examples/python/edits.py"), str(many)], PROGRAM)
         self.assertEqual((status, out), (0, f"{many} erased, asked {many + 1} times, 0 left\n"), fault)
+
+
+class Packed(unittest.TestCase):
+    def test_a_wheel(self):
+        code = "import sys; sys.path.insert(0, {!r}); import mlir_work; print(mlir_work.__file__, mlir_work.Result(1))"
+        with tempfile.TemporaryDirectory() as folder:
+            build = "from backend import *; import sys; print(build_wheel(sys.argv[1]), build_sdist(sys.argv[1]))"
+            names = subprocess.run([sys.executable, "-B", "-c", build, folder], cwd=ROOT / "python", stdout=subprocess.PIPE,
+                                   text=True, check=True).stdout.split()
+            self.assertEqual(names, ["mlir_work-1.0.0-py3-none-any.whl", "mlir_work-1.0.0.tar.gz"])
+            wheel, sources = (pathlib.Path(folder, name) for name in names)
+            ran_there = subprocess.run([sys.executable, "-I", "-c", code.format(str(wheel))], stdout=subprocess.PIPE,
+                                       text=True, check=True).stdout
+            self.assertEqual(ran_there, f"{wheel}/mlir_work/__init__.py %v1.0\n")
+            inside = {it.name for it in (ROOT / "python/mlir_work").glob("*") if it.is_file()}
+            with zipfile.ZipFile(wheel) as archive:
+                self.assertEqual(archive.testzip(), None)
+                self.assertEqual({it.partition("/")[2] for it in archive.namelist() if it.startswith("mlir_work/")},
+                                 inside)
+            with tarfile.open(sources) as archive:
+                self.assertIn("mlir_work-1.0.0/pyproject.toml", archive.getnames())
 
 
 class Ways(unittest.TestCase):

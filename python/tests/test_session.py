@@ -20,7 +20,8 @@ PAIR = """%a = "arith.constant"() <{value = 1 : i32}> : () -> i32
 %b = "arith.constant"() <{value = 2 : i32}> : () -> i32
 "test.pair"(%a, %b) : (i32, i32) -> ()
 """
-ODD = '''"func.func"() <{function_type = () -> (), sym_name = "a b\\0A\\"#3", sym_visibility = "private"}> ({}) : () -> ()
+ODD = '''"func.func"() <{function_type = () -> (), sym_name = "a b\\0A\\"#3",
+                  sym_visibility = "private"}> ({}) : () -> ()
 "func.func"() <{function_type = () -> (), sym_name = "f"}> ({}) : () -> ()
 "func.func"() <{function_type = () -> (), sym_name = "f"}> ({}) : () -> ()
 "func.call"() <{callee = @f}> : () -> i32
@@ -346,7 +347,8 @@ class Rows(Case):
 
     def test_words(self):
         self.assertEqual((str(Result(3)), str(Argument(1, 0, 2))), ("%v3.0", "%a1.0.2"))
-        self.assertEqual([before(3), after(4), start(1), end(0, 2)], ["before #3", "after #4", "start #1 0", "end #0 2"])
+        self.assertEqual([before(3), after(4), start(1), end(0, 2)],
+                         ["before #3", "after #4", "start #1 0", "end #0 2"])
         self.assertEqual(quoted("a\"\\\n\x7fä"), r'"a\22\5C\0A\7F\C3\A4"')
 
 
@@ -371,7 +373,7 @@ def wanted(module):
 
 
 def found(s):
-    """The same of a session's."""
+    """Those of a session, in the same form."""
     for it in s:
         yield (it.number, it.name, [str(value) for value in it.operands], list(it.operand_types),
                list(it.results.values()), it.properties, it.attributes, it.regions, list(it.arguments.values()),
