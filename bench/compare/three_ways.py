@@ -27,8 +27,7 @@ sys.path[:0] = [str(ROOT / "python"), str(ROOT / "bench"), str(ROOT / "bench/com
 
 import by_chance  # noqa: E402
 import mlir_work  # noqa: E402
-from mlir_work.pipe import Lost, Pipe  # noqa: E402
-from mlir_work.process import FIRST  # noqa: E402
+from mlir_work.pipe import FIRST, Lost, Pipe  # noqa: E402
 from reference import script  # noqa: E402
 
 # How the lines of a case are told, each as often as it stands here.

@@ -6,6 +6,7 @@ import re
 from dataclasses import dataclass
 from typing import Dict, List, Optional, Tuple
 
+from .reply import lines_of
 from .values import Argument, Result, Value
 
 KEY = "N."
@@ -82,7 +83,7 @@ def unused_key(text: str) -> str:
 
 def count(text: str) -> int:
     """How many operations a printed module has."""
-    return sum(line.lstrip(" ")[:1] not in ("", "}", "^") for line in text.splitlines())
+    return sum(line.lstrip(" ")[:1] not in ("", "}", "^") for line in lines_of(text))
 
 
 def unescaped(literal: str) -> str:
@@ -143,7 +144,7 @@ class _Listing:
         self.owners: List[int] = []
         self.named: Dict[str, Argument] = {}
         around: List[_Lines] = []
-        for line in text.splitlines():
+        for line in lines_of(text):
             line = line.lstrip(" ")
             if line[0] == "^":
                 around[-1].arguments.append((around[-1].inside, line[line.find("(") + 1:-2] if "(" in line else ""))

@@ -12,6 +12,8 @@ from typing import IO, Dict, List, Optional, Sequence, Tuple, Union
 
 # One of these begins an answer.
 Begins = Union[bytes, Tuple[bytes, ...]]
+# What begins the answer to a module; a line of it is that an analysis wasn't attached, or that the module is refused.
+FIRST = (b"\n", b"attach ", b"module refused ")
 CHUNK = 65536
 # So long it is waited for a process that closed its output; and so much is told of what it said.
 PATIENCE, MOST_SAID, MOST_SHOWN = 1.0, 300, 60

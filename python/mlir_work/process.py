@@ -6,8 +6,8 @@ import shutil
 from typing import Dict, Iterable, List, Optional, Sequence, Union
 
 from .errors import ModuleRefused, ProcessLost, SessionClosed
-from .pipe import Begins, Lost, Pipe
-from .reply import Reply
+from .pipe import FIRST, Begins, Lost, Pipe
+from .reply import Reply, lines_of
 from .way import Way
 
 Program = Union[str, "os.PathLike[str]", Sequence[str]]
@@ -16,7 +16,6 @@ NAME, VARIABLE = "mlir_work", "MLIR_WORK"
 DIVIDER = b"// -----"
 # Pages of two megabytes: a large module waits less for memory.
 PAGES = {"GLIBC_TUNABLES": "glibc.malloc.hugetlb=1"}
-FIRST = (b"\n", b"attach ", b"module refused ")
 _REFUSED = re.compile(rb"module refused (\d+) (\w+)(?: at (\d+))?\n")
 # So many bytes of lines are under way at once.
 MOST_BYTES = 1 << 20
@@ -69,7 +68,7 @@ class Process(Way):
             self._pipe.close()
             at = None if refused[3] is None else min(int(refused[3]), len(text))
             raise ModuleRefused(int(refused[1]), decoded(refused[2]), at)
-        return decoded(answer).splitlines()
+        return lines_of(decoded(answer))
 
     def line(self, line: bytes) -> Reply:
         self._count += 1

@@ -1,11 +1,16 @@
 """What a line comes to."""
 import re
-from typing import NamedTuple, Optional
+from typing import List, NamedTuple, Optional
 
 from .errors import Refused
 
 _REFUSED = re.compile(r"refused (\d+) (\w+)(?: at (\d+))?(?: #(\d+))?")
 _NUMBER = re.compile(r"\w+ #?(\d+)")
+
+
+def lines_of(text: str) -> List[str]:
+    """The lines of what is shown, each of which has its line feed."""
+    return text.split("\n")[:-1]
 
 
 class Reply(NamedTuple):

@@ -2,6 +2,7 @@
 import re
 from typing import Callable, Dict, List, NamedTuple, Optional, Tuple, Union
 
+from .reply import lines_of
 from .values import Value, value_of
 
 
@@ -114,4 +115,4 @@ KINDS = tuple(_READERS)
 def rows_of(kind: str, text: str) -> List[Row]:
     """The rows of a report, by what is written of it."""
     read = _READERS.get(kind)
-    return [read(line) if read else tuple(line.split(" ")) for line in text.splitlines()]
+    return [read(line) if read else tuple(line.split(" ")) for line in lines_of(text)]

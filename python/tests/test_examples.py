@@ -35,8 +35,8 @@ class Packed(unittest.TestCase):
         code = "import sys; sys.path.insert(0, {!r}); import mlir_work; print(mlir_work.__file__, mlir_work.Result(1))"
         with tempfile.TemporaryDirectory() as folder:
             build = "from backend import *; import sys; print(build_wheel(sys.argv[1]), build_sdist(sys.argv[1]))"
-            names = subprocess.run([sys.executable, "-B", "-c", build, folder], cwd=ROOT / "python", stdout=subprocess.PIPE,
-                                   text=True, check=True).stdout.split()
+            names = subprocess.run([sys.executable, "-B", "-c", build, folder], cwd=ROOT / "python",
+                                   stdout=subprocess.PIPE, text=True, check=True).stdout.split()
             self.assertEqual(names, ["mlir_work-1.0.0-py3-none-any.whl", "mlir_work-1.0.0.tar.gz"])
             wheel, sources = (pathlib.Path(folder, name) for name in names)
             ran_there = subprocess.run([sys.executable, "-I", "-c", code.format(str(wheel))], stdout=subprocess.PIPE,
