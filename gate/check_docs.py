@@ -20,6 +20,7 @@ SPAN = re.compile(r"(?<!`)`([^`\n]+)`(?!`)")
 PATH = re.compile(r"[\w.{},*/-]+")
 ENDINGS = {".md", ".py", ".sh", ".rt", ".antt", ".txt", ".c", ".edit", ".mlir", ".script", ".out"}
 INSIDE = {"src", "specs", "proofs", "must-fail"}
+LINES = ("bench", "examples", "gate", "python", "tools")
 PLACEHOLDER = re.compile(r"\b(NAME|CRATE|MODULE|FUNCTION|FILE|FOLDER|OLD|NEW|WORD)\b")
 NO_EDITS = {"with_capacity"}  # a function that the table of planted bodies names
 ROW_OF_EDIT = re.compile(r"^\| `(\w+)` \| `(\w+)` \|", re.MULTILINE)
@@ -82,7 +83,7 @@ def wrong_in(page):
 
 def long_lines():
     """Lines of programs beside the crates that are too long."""
-    for path in sorted(it for folder in ("bench", "gate", "tools") for it in (root / folder).rglob("*")):
+    for path in sorted(it for folder in LINES for it in (root / folder).rglob("*")):
         if path.suffix in {".py", ".sh", ".c"}:
             for number, line in enumerate(path.read_text().splitlines(), 1):
                 if len(line) > COLUMNS:

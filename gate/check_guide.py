@@ -2,9 +2,10 @@
 """Types the commands of README.md, docs/GUIDE.md, docs/REFUSALS.md, docs/FROM_MLIR_OPT.md and examples/README.md as
 they stand there, in a folder that has what is at the top of the repository, and looks at what they write. A command on
 those pages that isn't known here is a fault, and so is one that is known and isn't there. (What is typed in a session
-of docs/GUIDE.md is typed by tools/tests/test_pages.py.) What stands in docs/COOKBOOK.md and in
+of docs/GUIDE.md is typed by tools/tests/test_pages.py.) What stands in docs/COOKBOOK.md, docs/EMBED.md and
 docs/LISTENER_TUTORIAL.md it types too, and compares all that is written with what stands below it; a task of the
-cookbook takes at most ten lines.
+cookbook takes at most ten lines. Where the program hasn't `--interactive`, tools/tests/live.py is asked in its place
+for docs/EMBED.md.
 
 usage: gate/check_guide.py [--all]     with --all also those that take minutes, since they build
 
@@ -26,14 +27,15 @@ import program  # noqa: E402
 
 ROOT = program.ROOT
 PAGES = ["README.md", "docs/GUIDE.md", "docs/REFUSALS.md", "docs/FROM_MLIR_OPT.md", "examples/README.md"]
-COOKBOOK, TUTORIAL, MOST_TYPED = "docs/COOKBOOK.md", "docs/LISTENER_TUTORIAL.md", 10
+COOKBOOK, EMBED, TUTORIAL, MOST_TYPED = "docs/COOKBOOK.md", "docs/EMBED.md", "docs/LISTENER_TUTORIAL.md", 10
+LIVE = [sys.executable, "-S", "-E", str(ROOT / "tools/tests/live.py")]
 # What the tutorial copies and edits.
 EDITED = ["crates.txt", "crates/listeners_example", "crates/mlir_work/src", "examples"]
 BEGINS = ("./run", "./test", "rt ", "tools/", "mlir-opt ", "MLIR_WORK", "(cat ", "(head ", ".. | ", "tr ", "cat ")
 # Words in a sentence that are typed, and not only named.
 SAID = re.compile(r"MLIR_WORK\w*=\S+ .*|\./run .*|\./test.*|rt .*|tools/\w+\.(?:py|sh) .*|gate/check_\w+\.py|tr .*")
 RUN = "(cat module.mlir; echo '// -----'; cat FILE) | ./run --brief"
-TOP = "README.md CHANGELOG.md run test bench crates docs examples gate tests tools crates.txt".split()
+TOP = "README.md CHANGELOG.md run test bench crates docs examples gate python tests tools crates.txt".split()
 SESSION = "ids\ndead\nhelp\n"
 
 
@@ -123,6 +125,7 @@ def run(command, how, folder):
     words, more = program.words()
     line = re.sub(r"\bmlir-opt\b", str(tool()), how.line or command)
     if "MLIR_WORK" in os.environ and how.wants != "minutes":
+        line = line.replace("MLIR_WORK=./run", f"MLIR_WORK={shlex.quote(shlex.join(words))}")
         line = line.replace("./run", shlex.join(words))
     environment = {**os.environ, **more, "XDG_STATE_HOME": str(folder / "state")}
     there = folder if how.wants != "minutes" else ROOT
@@ -198,6 +201,15 @@ def cookbook():
                 yield f"{COOKBOOK}, {title}: {most} lines are typed"
 
 
+def embedding():
+    """What is wrong with what is typed to embed the program."""
+    if not program.has_option("--interactive"):
+        os.environ["MLIR_WORK"] = shlex.join(LIVE)
+    with tempfile.TemporaryDirectory() as name:
+        prepared(pathlib.Path(name))
+        yield from (f"{EMBED}: {fault}" for fault in cooked((ROOT / EMBED).read_text(), pathlib.Path(name)))
+
+
 def tutorial():
     """What is wrong with what the tutorial has typed, but for what wants the kit."""
     with tempfile.TemporaryDirectory() as name:
@@ -225,7 +237,7 @@ def main():
             said = "" if why else fault_of(command, how, pathlib.Path(name))
             print(f"not typed, {why}: {command}" if why else f"typed: {command}")
             faults += [f"{found[command]}: `{command}`: {said}"] if said else []
-    faults += [*cookbook(), *tutorial()]
+    faults += [*cookbook(), *tutorial(), *embedding()]
     print(*faults, f"{len(found)} commands, {len(faults)} faults", sep="\n")
     sys.exit(bool(faults))
 

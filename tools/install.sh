@@ -1,10 +1,11 @@
 #!/bin/sh
 # Installs what `./run` starts: the program `mlir_work`; the tools over it, `mlir-work`, which want Python 3: a prompt,
-# and what explains, reduces and compares; a man page; completions for bash and zsh. MLIR_WORK names another program.
+# and what explains, reduces and compares; a man page; completions for bash and zsh; the package for Python, in
+# share/mlir_work/python. MLIR_WORK names another program.
 #
 # usage: tools/install.sh PREFIX
 set -eu
-[ $# -eq 1 ] || { sed -n '2,5s/^# \{0,1\}//p' "$0" >&2; exit 2; }
+[ $# -eq 1 ] || { sed -n '2,6s/^# \{0,1\}//p' "$0" >&2; exit 2; }
 mkdir -p "$1"
 prefix=$(cd "$1" && pwd)
 here=$(cd "$(dirname "$(readlink -f "$0")")/.." && pwd)
@@ -12,13 +13,16 @@ program=${MLIR_WORK-$(python3 "$here/tools/sources.py" --program)}
 share=$prefix/share/mlir_work
 
 mkdir -p "$prefix/bin" "$share/tools" "$share/docs" "$share/dist" "$prefix/share/man/man1" \
-    "$prefix/share/bash-completion/completions" "$prefix/share/zsh/site-functions" "$share/bench/reference"
+    "$prefix/share/bash-completion/completions" "$prefix/share/zsh/site-functions" "$share/bench/reference" \
+    "$share/python/mlir_work"
 cp "$program" "$prefix/bin/mlir_work.new"
 chmod 755 "$prefix/bin/mlir_work.new"
 mv "$prefix/bin/mlir_work.new" "$prefix/bin/mlir_work"
 cp "$here"/tools/*.py "$share/tools"
 cp -R "$here/tools/web" "$share/tools"
 cp "$here"/bench/reference/*.py "$share/bench/reference"
+cp "$here/python/pyproject.toml" "$here/python/backend.py" "$share/python"
+cp "$here"/python/mlir_work/*.py "$here/python/mlir_work/py.typed" "$share/python/mlir_work"
 for page in REFUSALS VERIFIER CANONICALIZE CONVERT REPORTS; do
     cp "$here/docs/$page.md" "$share/docs"
 done
@@ -46,4 +50,5 @@ fi
 MLIR_WORK_INSTALLED=$prefix/bin/mlir_work exec python3 "$prefix/share/mlir_work/tools/mlir_work.py" "$@"
 END
 chmod 755 "$prefix/bin/mlir-work"
-echo "installed in $prefix: bin/mlir_work, bin/mlir-work, share/man/man1/mlir_work.1, completions for bash and zsh"
+echo "installed in $prefix: bin/mlir_work, bin/mlir-work, share/man/man1/mlir_work.1, completions for bash and zsh,
+share/mlir_work/python"

@@ -4,17 +4,20 @@
 reads the module, a line `// -----`, and then a line at a time, and each of its answers, that of the module first, ends
 with an empty line. Where that process isn't in the state that is asked about, since an edit was taken back, or is gone,
 another one begins and is told all edits."""
+import importlib.util
 import os
-import subprocess
 
 import listing
 import program
 from forms import kinds, looks
 
+# (the package can't be imported from here, where another file has its name)
+PIPE = importlib.util.spec_from_file_location("pipe", program.ROOT / "python/mlir_work/pipe.py")
+pipe = importlib.util.module_from_spec(PIPE)
+PIPE.loader.exec_module(pipe)
+
 # Commands that want the analyses.
 WITH_ANALYSES = {"attach", "detach", "report", "resync"}
-# So many lines, and so many bytes but for the last line, are written before their answers are read: a pipe takes more.
-MOST_LINES, MOST_BYTES = 256, 32768
 
 
 def fitting(module):
@@ -64,75 +67,40 @@ class Ended(program.Fault):
 
 
 class Process:
-    """A process of the program that is told a line at a time. It is no process of the terminal's, so that Ctrl-C comes
-    to the session alone."""
+    """A process of the program that is told lines."""
 
     def __init__(self, module):
         words, more = program.words()
-        self.run = subprocess.Popen([*words, "--brief", "--interactive"], stdin=subprocess.PIPE,
-                                    stdout=subprocess.PIPE, env={**program.PAGES, **os.environ, **more},
-                                    start_new_session=True)
+        self.pipe = pipe.Pipe([*words, "--brief", "--interactive"], {**program.PAGES, **os.environ, **more})
+        self.count = 0
+        answer, = self.told(program.joined(module, b""), [pipe.FIRST], True)
+        self.is_refused = answer.startswith(b"module refused")
+
+    def told(self, text, begins, may_end=False):
+        """The answers to a text, each of which begins so."""
         try:
-            self.tell(program.joined(module, b""))
-            self.is_refused = False
-            self.answer()
-        except BaseException:
-            self.stop()
-            raise
-
-    def tell(self, text):
-        """Writes to it."""
-        try:
-            self.run.stdin.write(text)
-            self.run.stdin.flush()
-        except BrokenPipeError:
-            raise Ended(self.end()) from None
-
-    def end(self):
-        """What is said where it is gone."""
-        return f"{self.run.args[0]} ended with status {self.run.wait()}"
-
-    def answer(self):
-        """The lines of its next answer. Behind that to a module that is refused there may be no more."""
-        lines = []
-        for line in iter(self.run.stdout.readline, b""):
-            self.is_refused |= line.startswith(b"module refused")
-            if line == b"\n":
-                return lines
-            lines.append(line.rstrip(b"\n").decode("utf-8", "surrogateescape"))
-        if self.is_refused:
-            return lines
-        raise Ended(self.end())
-
-    def reply(self):
-        """The reply to a line, without its number, and the lines below it."""
-        first, *below = self.answer() or [""]
-        return first.partition(" ")[2], below
+            return self.pipe.ask(text, begins, may_end)
+        except pipe.Lost as fault:
+            raise Ended(str(fault)) from None
 
     def ask(self, lines):
         """The replies to some lines, each with the lines below it; empty ones where the module was refused."""
         if self.is_refused:
             return [("", [])] * len(lines)
-        replies, waiting, size = [], [], 0
-        for line in [*lines, None]:
-            if line is None or len(waiting) == MOST_LINES or size > MOST_BYTES:
-                self.tell(b"".join(waiting))
-                replies += [self.reply() for _ in waiting]
-                waiting, size = [], 0
-            if line is not None:
-                waiting.append(f"{line}\n".encode("utf-8", "surrogateescape"))
-                size += len(waiting[-1])
-        return replies
+        begins = [b"%d " % number for number in range(self.count + 1, self.count + len(lines) + 1)]
+        self.count += len(lines)
+        text = "".join(line + "\n" for line in lines).encode("utf-8", "surrogateescape")
+        return [reply(it.decode("utf-8", "surrogateescape")) for it in self.told(text, begins)]
 
     def stop(self):
         """Ends it."""
-        self.run.kill()
-        self.run.wait()
-        for pipe in (self.run.stdin, self.run.stdout):
-            try:
-                pipe.close()
-            except OSError:
-                pass
+        self.pipe.stop()
+
+
+def reply(answer):
+    """A reply without its number, and the lines below it."""
+    first, *below = answer.split("\n")[:-1]
+    return first.partition(" ")[2], below
 
 
 class Live:

@@ -11,6 +11,7 @@ from reference.module import read, rules  # noqa: E402
 from reference.script import printing  # noqa: E402
 
 OUT = sys.stdout.buffer
+BAD = " refused 60 BadCommand\n", True
 
 
 def answer(text):
@@ -20,9 +21,10 @@ def answer(text):
 
 
 def module_text():
-    """The lines of the module, up to the divider."""
+    """The lines of the module, up to the divider, which may be the last line without its end."""
     lines = iter(sys.stdin.buffer.readline, b"")
-    return b"".join(iter(lambda: next(lines, b"// -----\n"), b"// -----\n"))
+    text = b"".join(iter(lambda: next(lines, b"// -----\n"), b"// -----\n"))
+    return text[:-len(b"// -----")] if ("\n" + text.decode("latin-1")).endswith("\n// -----") else text
 
 
 def fail(count):
@@ -33,27 +35,38 @@ def fail(count):
         os.kill(os.getpid(), 9)
 
 
-def main():
-    if "--help" in sys.argv[1:]:
-        print("Options:\n      --brief        Leave out\n      --interactive  Answer each line at once")
-        return 0
-    if "--interactive" not in sys.argv[1:]:
-        status, out = script.run(sys.stdin.buffer.read(), "--brief" in sys.argv[1:])
-        OUT.write(out)
-        return status
+def live(brief, limit):
+    """Answers a line at a time, and gives the status."""
     try:
-        here = script.Run(read(module_text()))
+        here = script.Run(read(module_text()), limit=limit)
     except rules.Refused as fault:
         OUT.write(f"module refused {printing.refusal(fault)}\n".encode())
         return 3
     answer("")
-    count = 0
+    count, status = 0, 0
     for line in iter(sys.stdin.buffer.readline, b""):
-        for text in script.lines_of(line):
+        for text in script.lines_of(line.removesuffix(b"\n")):
             count += 1
             fail(count)
-            answer(f"{count}{here.reply(text)[0]}")
-    return 0
+            reply, is_listed = BAD if text is None else here.reply(text)
+            status |= reply.startswith(" refused")
+            answer(f"{count}{reply}" + (here.all_rows() if is_listed and not brief else ""))
+    return status
+
+
+def main():
+    words = sys.argv[1:]
+    if "--help" in words:
+        print("Options:\n      --brief        Leave out\n      --interactive  Answer each line at once")
+        return 0
+    brief, limit = "--brief" in words, script.LIMIT
+    if "--limit" in words:
+        limit = int(words[words.index("--limit") + 1])
+    if "--interactive" in words:
+        return live(brief, limit)
+    status, out = script.run(sys.stdin.buffer.read(), brief, limit=limit)
+    OUT.write(out)
+    return status
 
 
 if __name__ == "__main__":

@@ -4,6 +4,7 @@ import pathlib
 import shlex
 import shutil
 import subprocess
+import sys
 import tempfile
 import unittest
 
@@ -78,6 +79,14 @@ class Installed(unittest.TestCase):
         self.assertEqual(self.ran("compare", "fold.mlir", "fold.mlir", "--inputs", "9")[0], 0)
         self.assertEqual(self.ran("explain", "fold.mlir", "-", text="erase #2\n")[1][:16], "-:1:1: 22 HasUse")
         self.assertIn("erase-dead", (self.prefix / "share/man/man1/mlir-work.1").read_text().replace("\\", ""))
+
+    def test_the_package(self):
+        """It finds the program that is installed."""
+        there = {"PYTHONPATH": self.prefix / "share/mlir_work/python", "PATH": self.prefix / "bin"}
+        code = "import mlir_work.process as it; print(it.words_of(None)[0], it.__file__)"
+        said = subprocess.run([sys.executable, "-c", code], stdout=subprocess.PIPE, text=True, env=there, check=True)
+        self.assertEqual(said.stdout.split(), [f"{self.prefix}/bin/mlir_work",
+                                               f"{self.prefix}/share/mlir_work/python/mlir_work/process.py"])
 
 
 if __name__ == "__main__":

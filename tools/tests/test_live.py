@@ -70,8 +70,7 @@ class Live(unittest.TestCase):
     def test_many_lines(self):
         way = self.live(b"")
         kept = ['insert end #0 0 "test.a"() : () -> ()'] * 100
-        with unittest.mock.patch.multiple(ways, MOST_LINES=16, MOST_BYTES=300):
-            self.assertEqual(way.answer(kept, "erase #101")[0], "refused 20 NoSuchOp")
+        self.assertEqual(way.answer(kept, "erase #101")[0], "refused 20 NoSuchOp")
         self.assertEqual(way.answer(kept, "erase #100")[0], "ok")
 
     def test_all_marks_are_open(self):

@@ -1,0 +1,230 @@
+"""A process that is told lines through a pipe, and writes an empty line behind each of its answers.
+
+This file imports nothing of its package, so that whatever drives the program can take it by itself."""
+import os
+import select
+import subprocess
+import tempfile
+import time
+import warnings
+import weakref
+from typing import IO, Dict, List, Optional, Sequence, Tuple, Union
+
+# One of these begins an answer.
+Begins = Union[bytes, Tuple[bytes, ...]]
+# What begins the answer to a module; a line of it is that an analysis wasn't attached, or that the module is refused.
+FIRST = (b"\n", b"attach ", b"module refused ")
+CHUNK = 65536
+# So long it is waited for a process that closed its output; and so much is told of what it said.
+PATIENCE, MOST_SAID, MOST_SHOWN = 1.0, 300, 60
+ENDED = "closed its output"
+# An answer of which so much is there shows how it begins.
+BEGUN = 32
+
+
+class Lost(Exception):
+    """The process ended, closed an end of a pipe, wrote what is no answer, or kept silent for too long. It is gone;
+    `status` is what it ended with by itself, if it did."""
+
+    def __init__(self, words: str, status: Optional[int]) -> None:
+        super().__init__(words)
+        self.status = status
+
+
+class Pipe:
+    """A process and its two ends. It is no process of the terminal's, so that Ctrl-C comes to the caller alone.
+    Whatever a call raises, also an interrupt, the process is ended then: what it would answer next isn't known."""
+
+    def __init__(self, words: Sequence[str], environment: Optional[Dict[str, str]] = None,
+                 timeout: Optional[float] = None) -> None:
+        self.words, self.timeout = list(words), timeout
+        self.status: Optional[int] = None
+        self._kept, self._seen, self._is_deaf = bytearray(), 0, False
+        # What it says of a wrong command line is told where it ends.
+        self._said: IO[bytes] = tempfile.TemporaryFile()
+        try:
+            self.run = subprocess.Popen(self.words, bufsize=0, stdin=subprocess.PIPE, stdout=subprocess.PIPE,
+                                        stderr=self._said, env=environment, start_new_session=True)
+        except BaseException:
+            self._said.close()
+            raise
+        assert self.run.stdin and self.run.stdout
+        self._ends: Tuple[IO[bytes], IO[bytes]] = self.run.stdin, self.run.stdout
+        self._input, self._output = self.run.stdin.fileno(), self.run.stdout.fileno()
+        os.set_blocking(self._input, False)
+        self.is_open, self._is_busy = True, False
+        _open.add(self)
+
+    def __del__(self) -> None:
+        if getattr(self, "is_open", False):
+            warnings.warn(f"{self.words[0]} was never closed", ResourceWarning, source=self)
+            self.stop()
+
+    # What is asked.
+
+    def ask(self, text: bytes, begins: Sequence[Begins], may_end: bool = False) -> List[bytes]:
+        """Writes a text, and gives the next answers, each without the empty line behind it: as many as there are
+        beginnings, which they have to have; `\\n` is that of an answer without lines. Where the process may end, what
+        it wrote last stands for the answer that it didn't end."""
+        return self._whole(text, begins, may_end, False)
+
+    def finish(self, text: bytes = b"", begins: Sequence[Begins] = ()) -> Tuple[List[bytes], Optional[int]]:
+        """Writes a text that may have no line feed at its end, ends the input, and gives the answers to it, and the
+        status."""
+        answers = self._whole(text, begins, False, True)
+        return answers, self.close()
+
+    def close(self) -> Optional[int]:
+        """Ends the input, waits until the process ended, and gives its status. To close it again does nothing."""
+        if not self.is_open:
+            return self.status
+        try:
+            self._ends[0].close()
+            self._drain()
+            self.status = self.run.wait(self.timeout)
+        except subprocess.TimeoutExpired:
+            raise self._lost(f"didn't end within {self.timeout} s") from None
+        finally:
+            self.stop()
+        return self.status
+
+    def stop(self) -> None:
+        """Ends the process at once, and waits for it. A process that ended by itself keeps its status."""
+        self.is_open = False
+        _open.discard(self)
+        try:
+            if self.run.poll() is None:
+                self.run.kill()
+            self.run.wait()
+        finally:
+            self.forget()
+
+    def forget(self) -> None:
+        """Closes the ends that this process has."""
+        self.is_open = False
+        for it in (*self._ends, self._said):
+            it.close()
+
+    # How it is written and read.
+
+    def _whole(self, text: bytes, begins: Sequence[Begins], may_end: bool, is_last: bool) -> List[bytes]:
+        if not self.is_open:
+            raise ValueError(f"{self.words[0]} was closed")
+        if self._is_busy:
+            raise RuntimeError("a call was made while another one waits for its answer: one thread, one session")
+        self._is_busy = True
+        try:
+            return self._answers(memoryview(text), begins, may_end, is_last)
+        except BaseException:
+            self.stop()
+            raise
+        finally:
+            self._is_busy = False
+
+    def _answers(self, left: memoryview, begins: Sequence[Begins], may_end: bool, is_last: bool) -> List[bytes]:
+        answers: List[bytes] = []
+        left = self._written(left, is_last)
+        while left or len(answers) < len(begins):
+            begin = begins[len(answers)] if len(answers) < len(begins) else b""
+            answer = self._cut(begin) if begin else None
+            if answer is not None:
+                answers.append(answer)
+                continue
+            left, is_more = self._more(left, is_last)
+            if not is_more:
+                if not (may_end and begin and self._kept.startswith(begin)):
+                    raise self._lost(ENDED)
+                answers.append(bytes(self._kept))
+                self._kept.clear()
+        return answers
+
+    def _written(self, left: memoryview, is_last: bool) -> memoryview:
+        """Writes what the pipe takes now, and gives what is left. Where nobody reads it none is, since an answer may
+        be there all the same; but that isn't waited for long."""
+        try:
+            while left:
+                left = left[os.write(self._input, left):]
+        except BlockingIOError:
+            return left
+        except BrokenPipeError:
+            left, self._is_deaf = left[:0], True
+        if is_last:
+            self._ends[0].close()
+        return left
+
+    def _more(self, left: memoryview, is_last: bool) -> Tuple[memoryview, bool]:
+        """Reads once, and writes what the pipe takes meanwhile; gives what is left to write, and whether the output
+        goes on."""
+        timeout = PATIENCE if self._is_deaf and self.timeout is None else self.timeout
+        if left or timeout is not None:
+            poll = select.poll()
+            poll.register(self._output, select.POLLIN)
+            if left:
+                poll.register(self._input, select.POLLOUT)
+            found = [number for number, _ in poll.poll(None if timeout is None else timeout * 1000)]
+            if not found:
+                raise self._lost("reads no more" if self._is_deaf else f"wrote no answer within {timeout} s")
+            left = self._written(left, is_last) if self._input in found else left
+            if self._output not in found:
+                return left, True
+        more = os.read(self._output, CHUNK)
+        self._kept += more
+        return left, bool(more)
+
+    def _cut(self, begin: Begins) -> Optional[bytes]:
+        """Takes the next answer from what was read, where it is whole."""
+        kept = self._kept
+        if not kept:
+            return None
+        if kept[0] == 10 and kept.startswith(begin):
+            del kept[:1]
+            return b""
+        if not kept.startswith(begin) and (len(kept) >= BEGUN or b"\n" in kept):
+            raise self._lost(f"wrote what is no answer: {bytes(kept[:MOST_SHOWN])!r}")
+        place = kept.find(b"\n\n", max(self._seen - 1, 0))
+        if place < 0:
+            self._seen = len(kept)
+            return None
+        answer = bytes(memoryview(kept)[:place + 1])
+        del kept[:place + 2]
+        self._seen = 0
+        return answer
+
+    def _drain(self) -> None:
+        """Reads what is written behind the last answer, so that no writer waits."""
+        ends = None if self.timeout is None else time.monotonic() + self.timeout
+        poll = select.poll()
+        poll.register(self._output, select.POLLIN)
+        while True:
+            rest = None if ends is None else max(ends - time.monotonic(), 0) * 1000
+            if not poll.poll(rest):
+                raise subprocess.TimeoutExpired(self.words, self.timeout or 0)
+            if not os.read(self._output, CHUNK):
+                return
+
+    def _lost(self, words: str) -> Lost:
+        """What is raised where the process is of no use any more, once it is gone."""
+        if words == ENDED:
+            try:
+                self.status = self.run.wait(PATIENCE)
+                words = f"ended with status {self.status}"
+            except subprocess.TimeoutExpired:
+                pass
+        self._said.seek(0)
+        said = self._said.read(MOST_SAID).decode("utf-8", "replace").strip()
+        self.stop()
+        return Lost(f"{self.words[0]} {words}" + (f": {said}" if said else ""), self.status)
+
+
+_open: "weakref.WeakSet[Pipe]" = weakref.WeakSet()
+
+
+def _forget_all() -> None:
+    """A process that was forked off has no session: an end that it kept open would keep the program from its end."""
+    for it in list(_open):
+        it.run.returncode = 0  # it isn't this process's to wait for
+        it.forget()
+    _open.clear()
+
+
+os.register_at_fork(after_in_child=_forget_all)

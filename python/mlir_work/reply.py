@@ -1,0 +1,40 @@
+"""What a line comes to."""
+import re
+from typing import List, NamedTuple, Optional
+
+from .errors import Refused
+
+_REFUSED = re.compile(r"refused (\d+) (\w+)(?: at (\d+))?(?: #(\d+))?")
+_NUMBER = re.compile(r"\w+ #?(\d+)")
+
+
+def lines_of(text: str) -> List[str]:
+    """The lines of what is shown, each of which has its line feed."""
+    return text.split("\n")[:-1]
+
+
+class Reply(NamedTuple):
+    """The reply to a line, without its number, as `ok`, `ok #4`, `swept 2` or `refused 22 HasUses`, and what is written
+    below it. Both are empty for an empty line and a comment."""
+
+    text: str
+    shown: str = ""
+
+    @property
+    def outcome(self) -> str:
+        """The first word, as `ok` or `refused`."""
+        return self.text.partition(" ")[0]
+
+    @property
+    def number(self) -> Optional[int]:
+        """The operation that was put in, or how many symbols, rewrites or rules it were; None for a bare `ok`."""
+        found = None if self.outcome == "refused" else _NUMBER.fullmatch(self.text)
+        return int(found[1]) if found else None
+
+    def refusal(self, line: str = "") -> Optional[Refused]:
+        """Why it was refused, or None where it wasn't."""
+        found = _REFUSED.fullmatch(self.text)
+        if not found:
+            return None
+        at, operation = (None if it is None else int(it) for it in found.groups()[2:])
+        return Refused(int(found[1]), found[2], at, operation, line)

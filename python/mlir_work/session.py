@@ -1,0 +1,331 @@
+"""A module that is held, edited and asked."""
+import contextlib
+import re
+import threading
+from typing import (Iterable, Iterator, List, Literal, NamedTuple, Optional, Sequence, SupportsIndex, Type, Union,
+                    overload)
+from types import TracebackType
+
+from . import operations as listings
+from .errors import Error, Refused, SessionClosed
+from .operations import Operation
+from .process import DIVIDER, Process, Program
+from .reply import Reply
+from .rows import KINDS, Constant, Dead, Diagnostic, Effect, Row, Symbol, Unreached, Use, rows_of
+from .values import Value, key_text, op_text
+from .way import Way
+
+Text = Union[str, bytes]
+ValueText = Union[Value, str]
+_BLANKS = b" \t\r"
+_WORD = re.compile(rb"[^ \t]*")
+_LOOKS = (b"print", b"report", b"begin", b"commit", b"detach", b"resync")
+_COMMENT = re.compile(rb'("(?:[^"\\\n]|\\.)*")|//[^\n]*')
+# The reply where an operation isn't there.
+_NO_SUCH_OP = 20
+
+
+class Canonicalized(NamedTuple):
+    """How many rewrites a `canon` made, and whether no rule applies behind them."""
+
+    rewrites: int
+    is_done: bool
+
+
+def _bytes(text: Text) -> bytes:
+    return text.encode("utf-8", "surrogateescape") if isinstance(text, str) else text
+
+
+def _one_line(text: Text) -> str:
+    """The text of an operation on one line: line feeds and comments become as many blanks, so that the bytes of a
+    refusal are those of the text."""
+    data = _bytes(text)
+    if b"\n" in data:
+        data = _COMMENT.sub(lambda it: it[1] or b" " * len(it[0]), data).replace(b"\n", b" ")
+    return data.decode("utf-8", "surrogateescape")
+
+
+class Session:
+    """Holds the module that a text spells.
+
+    `program` is the file or the words of `mlir_work`; without it those of MLIR_WORK in the environment, or else it is
+    looked for on the path. `kinds` are the analyses that are wanted, all where nothing is said; `limit` is the most
+    rewrites of a plain `canon`. A program that keeps silent for longer than `timeout` seconds is given up; without one
+    it is waited for. `way` is another way to the workbench than a process of its own.
+
+    Raises ModuleRefused. Each call below raises Refused where the command is refused, which changes nothing, and
+    ProcessLost where the program ended, which closes the session, as an interrupt within a call does. A session is one
+    thread's, the one that opened it; several sessions are independent."""
+
+    def __init__(self, text: Text, program: Optional[Program] = None, kinds: Optional[Iterable[str]] = None,
+                 limit: Optional[int] = None, *, timeout: Optional[float] = None, way: Optional[Way] = None) -> None:
+        wanted = None if kinds is None else list(kinds)
+        unknown = [kind for kind in wanted or () if kind not in KINDS]
+        if unknown:
+            raise ValueError(f"there is no kind {unknown[0]!r}: they are {', '.join(KINDS)}")
+        if DIVIDER in _bytes(text).split(b"\n"):
+            raise ValueError("a line `// -----` ends the text of a module")
+        self._way: Way = Process(program, timeout=timeout) if way is None else way
+        self._thread = threading.get_ident()
+        self._listing: Optional[List[Operation]] = None
+        self.marks, self.refused, self.closed = 0, 0, False
+        """How many marks are open; how many commands were refused; whether it is closed."""
+        self.status: Optional[int] = None
+        """The program's status once it is closed: 0, or 1 where a command was refused."""
+        self.unattached: List[str] = []
+        """A line for each analysis for which there was no memory, as `attach uses refused 36 Memory`."""
+        try:
+            self.unattached = self._way.open(_bytes(text), limit)
+        except BaseException:
+            self._abandon()
+            raise
+        for kind in KINDS if wanted is not None else ():
+            if kind not in (wanted or ()) and not any(it.split()[1] == kind for it in self.unattached):
+                self.detach(kind)
+
+    # Its end.
+
+    def __enter__(self) -> "Session":
+        return self
+
+    def __exit__(self, kind: Optional[Type[BaseException]], fault: Optional[BaseException],
+                 trace: Optional[TracebackType]) -> None:
+        self.close()
+
+    def close(self) -> Optional[int]:
+        """Ends the input, waits for the program's end, and gives its status. To close it again does nothing."""
+        if not self.closed:
+            self.closed = True
+            self.status = self._way.close()
+        return self.status
+
+    def _abandon(self) -> None:
+        """Closes the session at once, behind whatever was raised in a call, also an interrupt: it could be out of
+        step."""
+        self.closed = True
+        self._way.abandon()
+
+    # Lines.
+
+    def command(self, line: Text) -> Reply:
+        """Obeys any line of a script, and gives its reply, with what is written below it. An empty line and a comment
+        have none."""
+        data = self._line(line)
+        if not data:
+            return Reply("")
+        try:
+            reply = self._way.line(data)
+            refusal = self._follow(data, reply)
+        except BaseException:
+            self._abandon()
+            raise
+        if refusal:
+            raise refusal
+        return reply
+
+    def commands(self, lines: Iterable[Text]) -> List[Reply]:
+        """Obeys some lines, one after another, whatever their replies are: it isn't waited for one before the next is
+        written. Refusals are among the replies, and raise nothing."""
+        data = [it for it in map(self._line, lines) if it]
+        try:
+            replies = self._way.lines(data)
+            for line, reply in zip(data, replies):
+                self._follow(line, reply)
+        except BaseException:
+            self._abandon()
+            raise
+        return replies
+
+    def _line(self, line: Text) -> bytes:
+        """A line as it is written; empty where it says nothing."""
+        if self.closed:
+            raise SessionClosed("the session is closed")
+        if threading.get_ident() != self._thread:
+            raise RuntimeError("a session is called from the thread that opened it")
+        data = _bytes(line).strip(_BLANKS)
+        if b"\n" in data:
+            raise ValueError("a line has no line feed")
+        return b"" if data.startswith(b"//") and _is_text(data) else data
+
+    def _follow(self, line: bytes, reply: Reply) -> Optional[Refused]:
+        """Follows what a line did, and says why it was refused, if it was."""
+        if reply.outcome == "refused":
+            self.refused += 1
+            return reply.refusal(line.decode("utf-8", "replace"))
+        word = _WORD.match(line)[0]  # type: ignore[index]
+        if word == b"begin":
+            self.marks += 1
+        elif word in (b"commit", b"rollback"):
+            self.marks -= 1
+        if word not in _LOOKS:
+            self._listing = None
+        return None
+
+    # What it shows.
+
+    def print(self) -> str:
+        """The text of the module."""
+        return self.command("print").shown
+
+    @overload
+    def report(self, kind: Literal["uses"]) -> List[Use]: ...
+    @overload
+    def report(self, kind: Literal["symbols"]) -> List[Symbol]: ...
+    @overload
+    def report(self, kind: Literal["diagnostics"]) -> List[Diagnostic]: ...
+    @overload
+    def report(self, kind: Literal["effects"]) -> List[Effect]: ...
+    @overload
+    def report(self, kind: Literal["dead"]) -> List[Dead]: ...
+    @overload
+    def report(self, kind: Literal["constants"]) -> List[Constant]: ...
+    @overload
+    def report(self, kind: Literal["unreached"]) -> List[Unreached]: ...
+    @overload
+    def report(self, kind: str) -> Sequence[Row]: ...
+
+    def report(self, kind: str) -> Sequence[Row]:
+        """The rows of an analysis, cut into cells; of a kind that isn't known here the words of its lines."""
+        return rows_of(kind, self.command(f"report {kind}").shown)
+
+    def operations(self) -> List[Operation]:
+        """The operations, in the order of the text, as they are now.
+
+        Their numbers are written into the module under a mark, printed and taken back. So it wants a mark that is free,
+        and in each operation an entry that is: else it is refused, by 34 or 31. It costs a line for each number that
+        was ever given out; and the program's status is 1 where one of these operations is gone, since its line is
+        refused."""
+        if self._listing is None:
+            refused, text = self.refused, self.print()
+            key, many = listings.unused_key(text), listings.count(text)
+            self.begin()
+            try:
+                self._number(key, many)
+                found = listings.read(self.print(), key)
+            finally:
+                if not self.closed:
+                    self.rollback()
+                self.refused = refused
+            self._listing = found
+        return list(self._listing)
+
+    def _number(self, key: str, many: int) -> None:
+        """Sets the number of each operation as its attribute, where there are so many."""
+        first, last = 0, many
+        while many > 0:
+            lines = [f"set-attr #{number} {key} {number}" for number in range(first, last)]
+            for line, reply in zip(lines, self.commands(lines)):
+                refusal = reply.refusal(line)
+                if refusal and refusal.number != _NO_SUCH_OP:
+                    raise refusal
+                many -= refusal is None
+            first, last = last, 2 * last
+
+    def __iter__(self) -> Iterator[Operation]:
+        return iter(self.operations())
+
+    # Edits.
+
+    def set_operand(self, operation: SupportsIndex, place: int, value: ValueText) -> None:
+        """The value becomes the operand of an operation at a place, from 0."""
+        self.command(f"set-operand {op_text(operation)} {place} {value}")
+
+    def replace(self, old: ValueText, new: ValueText) -> None:
+        """The second value is used in place of the first, everywhere."""
+        self.command(f"replace {old} {new}")
+
+    def insert(self, place: str, operation: Text) -> int:
+        """Puts an operation of generic form in, with what is inside it, and gives its number; those inside it have the
+        next. It names values as lines do. The place is as `before` and its like give it."""
+        number = self.command(f"insert {place} {_one_line(operation)}").number
+        if number is None:
+            raise Error("the reply to an insert has no number")
+        return number
+
+    def move(self, operation: SupportsIndex, place: str) -> None:
+        """Moves an operation, with what is inside it, to a place, as `before` and its like give it."""
+        self.command(f"move {op_text(operation)} {place}")
+
+    def erase(self, operation: SupportsIndex) -> None:
+        """Takes an operation away, with what is inside it."""
+        self.command(f"erase {op_text(operation)}")
+
+    def set_attr(self, operation: SupportsIndex, key: str, attribute: Text) -> None:
+        """The attribute, as `5 : i32`, becomes the entry of an operation at a key; `quoted` makes one of a text."""
+        self.command(f"set-attr {op_text(operation)} {key_text(key)} {_one_line(attribute)}")
+
+    def drop_attr(self, operation: SupportsIndex, key: str) -> None:
+        """Takes the entry at a key out of an operation."""
+        self.command(f"drop-attr {op_text(operation)} {key_text(key)}")
+
+    # Rewrites.
+
+    def canon(self, limit: Optional[int] = None) -> Canonicalized:
+        """Rewrites by the rules of docs/CANONICALIZE.md until none applies, or so many times."""
+        reply = self.command("canon" if limit is None else f"canon limit {limit}")
+        return Canonicalized(reply.number or 0, reply.outcome == "converged")
+
+    def convert(self, mode: str = "partial", *, legal: Iterable[str] = (), illegal: Iterable[str] = (),
+                dynamic: Iterable[str] = (), rules: Iterable[int] = (), depth: Optional[int] = None) -> int:
+        """Converts to a target (docs/CONVERT.md), and gives how many rules stand. The mode is `partial` or `full`."""
+        lists = {"legal": legal, "illegal": illegal, "dynamic": dynamic, "rules": map(str, rules),
+                 "depth": [] if depth is None else [str(depth)]}
+        clauses = [f"{word} {','.join(them)}" for word, them in ((it, list(those)) for it, those in lists.items())
+                   if them]
+        return self.command(" ".join(["convert", mode, *clauses])).number or 0
+
+    def sweep(self) -> int:
+        """Takes away the private symbols that nothing reaches, and gives how many they were."""
+        return self.command("sweep").number or 0
+
+    def apply(self, rule: Union[int, str], operation: SupportsIndex) -> bool:
+        """Applies a rule of 1 to 30, by its number or its word, at an operation; whether it applied there."""
+        return bool(self.command(f"apply {rule} {op_text(operation)}").number)
+
+    # Marks and analyses.
+
+    def begin(self) -> None:
+        """Makes a mark of the module; 16 may be open."""
+        self.command("begin")
+
+    def commit(self) -> None:
+        """Drops the newest mark."""
+        self.command("commit")
+
+    def rollback(self) -> None:
+        """The module of the newest mark is held again, with its numbers, and the mark is dropped."""
+        self.command("rollback")
+
+    @contextlib.contextmanager
+    def mark(self) -> Iterator["Session"]:
+        """A mark that is committed at the end of a `with`, with those made within it that are open; where that raises
+        the module of the mark is held again. Where the session is closed then there is nothing to go back to."""
+        self.begin()
+        depth = self.marks
+        try:
+            yield self
+        except BaseException:
+            while not self.closed and self.marks >= depth:
+                self.rollback()
+            raise
+        if self.marks < depth:
+            raise Error("the mark was dropped within its own `with`")
+        while self.marks >= depth:
+            self.commit()
+
+    def detach(self, kind: str) -> None:
+        """Drops an analysis; no rollback brings it back."""
+        self.command(f"detach {kind}")
+
+    def resync(self, kind: str) -> None:
+        """An analysis begins again, as where it is stale."""
+        self.command(f"resync {kind}")
+
+
+def _is_text(data: bytes) -> bool:
+    """Whether bytes are UTF-8: a line that isn't is no comment."""
+    try:
+        data.decode()
+    except UnicodeDecodeError:
+        return False
+    return True

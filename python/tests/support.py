@@ -1,0 +1,95 @@
+"""What the tests stand on: the package, over the program of MLIR_WORK or the one of these sources where its help names
+`--interactive`. Where it doesn't, or there is none, sessions go over bench/reference in this process, and what has to
+be a process is tools/tests/live.py, which answers by it."""
+import gc
+import os
+import pathlib
+import sys
+import unittest
+import warnings
+
+sys.dont_write_bytecode = True
+ROOT = pathlib.Path(__file__).resolve().parents[2]
+# (tools/ has a file of the package's name)
+sys.path[:0] = [str(ROOT / "python"), str(ROOT / "tools")]
+sys.path.append(str(ROOT / "bench"))
+
+import mlir_work  # noqa: E402
+import program  # noqa: E402
+from reference import rules, script  # noqa: E402
+
+LIVE = [sys.executable, "-S", "-E", str(ROOT / "tools/tests/live.py")]
+
+
+def of_sources():
+    """The words of a program that has `--interactive`, or None."""
+    try:
+        return program.words()[0] if program.has_option("--interactive") else None
+    except program.Fault:
+        return None
+
+
+REAL = of_sources()
+# Many sessions are many starts, which are slow where the stand-in is started.
+PROGRAM, IS_FAST = REAL or LIVE, REAL is not None
+
+
+class Referred(mlir_work.Way):
+    """A way over bench/reference, in this process."""
+
+    def __init__(self):
+        self.run, self.status = None, 0
+
+    def open(self, text, limit=None):
+        try:
+            self.run = script.Run(script.read(text), limit=script.LIMIT if limit is None else limit)
+        except rules.Refused as fault:
+            raise mlir_work.ModuleRefused(fault.number, rules.WORDS[fault.number], fault.at) from None
+        return []
+
+    def line(self, line):
+        kept, = script.lines_of(line)
+        reply = self.run.reply(kept)[0] if kept is not None else " refused 60 BadCommand\n"
+        text, _, shown = reply[1:].partition("\n")
+        self.status |= text.startswith("refused")
+        return mlir_work.Reply(text, shown)
+
+    def close(self):
+        return self.status
+
+
+def session(text, **more):
+    """A session over a text."""
+    return mlir_work.Session(text, REAL, **more) if REAL else mlir_work.Session(text, way=Referred(), **more)
+
+
+def example(name):
+    """The text of an example."""
+    return (ROOT / f"examples/{name}.mlir").read_text()
+
+
+def descriptors():
+    """How many files this process has open."""
+    return len(os.listdir("/proc/self/fd"))
+
+
+class Case(unittest.TestCase):
+    """A test that fails where a process or the end of a pipe is left."""
+
+    def setUp(self):
+        gc.collect()
+        self.unraisable = []
+        hook, sys.unraisablehook = sys.unraisablehook, self.unraisable.append
+        self.addCleanup(setattr, sys, "unraisablehook", hook)
+        caught = warnings.catch_warnings()
+        caught.__enter__()
+        self.addCleanup(caught.__exit__, None, None, None)
+        warnings.simplefilter("error", ResourceWarning)
+        self.before = descriptors()
+
+    def tearDown(self):
+        gc.collect()
+        self.assertEqual([str(it.exc_value) for it in self.unraisable], [])
+        self.assertEqual(descriptors(), self.before)
+        with self.assertRaises(ChildProcessError):
+            os.waitpid(-1, os.WNOHANG)

@@ -1,0 +1,459 @@
+"""What a session says and does, call by call."""
+import pathlib
+import random
+import sys
+import threading
+import typing
+import unittest
+
+from support import ROOT, Case, Referred, example, session
+
+import mlir_work
+from mlir_work import Argument, Dead, Result, Symbol, after, before, end, quoted, start
+from reference import chance, script
+from reference.module import printing, text_of, value_text, walk
+
+sys.path.append(str(ROOT / "bench/compare"))
+import script_lines  # noqa: E402
+
+PAIR = """%a = "arith.constant"() <{value = 1 : i32}> : () -> i32
+%b = "arith.constant"() <{value = 2 : i32}> : () -> i32
+"test.pair"(%a, %b) : (i32, i32) -> ()
+"""
+ODD = '''"func.func"() <{function_type = () -> (), sym_name = "a b\\0A\\"#3",
+                  sym_visibility = "private"}> ({}) : () -> ()
+"func.func"() <{function_type = () -> (), sym_name = "f"}> ({}) : () -> ()
+"func.func"() <{function_type = () -> (), sym_name = "f"}> ({}) : () -> ()
+"func.call"() <{callee = @f}> : () -> i32
+"test.a"() {k = @"a b\\0A\\"#3"::@"#1 @x", l = @none} : () -> ()
+'''
+
+
+def lines(s):
+    """The lines of a module, without the module around them."""
+    return [it.strip() for it in s.print().splitlines()[1:-1]]
+
+
+class Calls(Case):
+    def setUp(self):
+        super().setUp()
+        self.s = session(PAIR)
+        self.addCleanup(self.s.close)
+
+    def tearDown(self):
+        self.s.close()
+        super().tearDown()
+
+    def test_operands(self):
+        s = self.s
+        s.set_operand(3, 1, Result(1))
+        self.assertEqual(s.report("uses"), [(Result(1, 0), 3, 0), (Result(1, 0), 3, 1)])
+        s.set_operand(3, 0, "%v2.0")
+        self.assertEqual([it.value for it in s.report("uses")], [Result(1), Result(2)])
+        s.replace(Result(1), "%v2.0")
+        self.assertEqual(s.report("dead"), [Dead(1)])
+        s.erase(1)
+        self.assertEqual(s.report("dead"), [])
+
+    def test_places(self):
+        s = self.s
+        self.assertEqual(s.insert(before(3), '"test.a"() ({}) : () -> ()'), 4)
+        self.assertEqual(s.insert(after(3), '"test.b"() ({^bb0: }) : () -> ()'), 5)
+        self.assertEqual(s.insert(start(5), '"test.c"() : () -> ()'), 6)
+        self.assertEqual(s.insert(end(5, 0), '"test.d"() ({"test.e"() : () -> ()}) : () -> ()'), 7)
+        self.assertEqual(s.insert(end(0), '"test.f"() : () -> ()'), 9)
+        self.assertEqual([it.number for it in s], [0, 1, 2, 4, 3, 5, 6, 7, 8, 9])
+        s.move(9, before(1))
+        s.move(4, start(7))
+        self.assertEqual([it.number for it in s], [0, 9, 1, 2, 3, 5, 6, 7, 4, 8])
+
+    def test_entries(self):
+        s = self.s
+        for key, attribute in (("k", "5"), ("a b", "@f"), ('"\\', quoted('x"y\\z\n')), ("ä", quoted("ö"))):
+            s.set_attr(3, key, attribute)
+        operation = s.operations()[3]
+        self.assertEqual(operation.attributes, {"k": "5 : i64", "a b": "@f", '"\\': r'"x\22y\\z\0A"',
+                                                "ä": r'"\C3\B6"'})
+        for key in operation.attributes:
+            s.drop_attr(operation, key)
+        self.assertEqual(s.operations()[3].attributes, {})
+        s.set_attr(1, "value", "7 : i32")
+        self.assertEqual(s.operations()[1].properties, {"value": "7 : i32"})
+
+    def test_marks(self):
+        s = self.s
+        s.begin()
+        s.erase(3)
+        s.begin()
+        self.assertEqual(s.marks, 2)
+        s.erase(2)
+        s.commit()
+        s.rollback()
+        self.assertEqual((s.marks, len(lines(s))), (0, 3))
+        with self.assertRaises(mlir_work.Refused) as caught:
+            s.commit()
+        self.assertEqual((caught.exception.number, caught.exception.word), (35, "NoMark"))
+        self.assertEqual(s.marks, 0)
+
+    def test_analyses(self):
+        s = self.s
+        s.resync("dead")
+        s.detach("dead")
+        with self.assertRaises(mlir_work.Refused) as caught:
+            s.report("dead")
+        self.assertEqual(caught.exception.number, 41)
+        self.assertEqual(s.report("constants"), [(Result(1), "1 : i32"), (Result(2), "2 : i32")])
+
+    def test_rewrites(self):
+        with session(example("canon")) as s:
+            self.assertEqual(s.canon(1), (1, False))
+            self.assertEqual(s.canon(limit=3), (3, False))
+            self.assertEqual(s.canon(), (11, True))
+            self.assertEqual(s.canon(), (0, True))
+        with session(example("index")) as s:
+            named = ["arith.constant", "arith.addi", "arith.muli", "scf.for"]
+            with self.assertRaises(mlir_work.Refused) as caught:
+                s.convert(dynamic=named, rules=[28])
+            fault = caught.exception
+            self.assertEqual((fault.number, fault.word, fault.at, fault.operation), (51, "NotLegalised", None, 7))
+            self.assertEqual(s.convert("partial", dynamic=named, rules=[28, 29], depth=16), 7)
+            self.assertEqual(s.convert("full", legal={it.name for it in s}), 0)
+        with session(example("sweep")) as s:
+            self.assertEqual(s.report("unreached"), [(7, "@even"), (10, "@odd"), (13, "@log")])
+            self.assertEqual((s.sweep(), s.sweep()), (3, 0))
+        with session(PAIR) as s:
+            self.assertFalse(s.apply(4, 3))
+            s.erase(3)
+            self.assertTrue(s.apply("erase-dead", 2))
+
+    def test_the_limit(self):
+        with session(example("canon"), limit=2) as s:
+            self.assertEqual(s.canon(), (2, False))
+
+    def test_the_kinds(self):
+        with session(PAIR, kinds=["dead", "uses"]) as s:
+            self.assertEqual(len(s.report("uses")), 2)
+            self.assertRaises(mlir_work.Refused, s.report, "constants")
+        with session(PAIR, kinds=[]) as s:
+            self.assertRaises(mlir_work.Refused, s.report, "uses")
+        with self.assertRaises(ValueError):
+            session(PAIR, kinds=["ded"])
+
+    def test_the_end(self):
+        with session(PAIR) as s:
+            s.erase(3)
+        self.assertEqual((s.status, s.closed, s.close()), (0, True, 0))
+        with session(PAIR) as s:
+            self.assertRaises(mlir_work.Refused, s.erase, 2)
+        self.assertEqual((s.status, s.refused), (1, 1))
+        for call in (s.print, s.operations, lambda: s.erase(1), lambda: s.command(""), s.mark().__enter__):
+            with self.assertRaises(mlir_work.SessionClosed):
+                call()
+
+    def test_another_thread(self):
+        found = []
+
+        def call():
+            try:
+                self.s.print()
+            except RuntimeError as fault:
+                found.append(fault)
+        thread = threading.Thread(target=call)
+        thread.start()
+        thread.join()
+        self.assertEqual(len(found), 1)
+        self.assertEqual(len(lines(self.s)), 3)
+
+
+class Lines(Case):
+    def setUp(self):
+        super().setUp()
+        self.s = session(PAIR.encode())
+
+    def tearDown(self):
+        self.s.close()
+        super().tearDown()
+
+    def test_replies(self):
+        s = self.s
+        for line, text, outcome, number in (("set-attr #1 k 1", "ok", "ok", None),
+                                            ('insert end #0 0 "a"() : () -> ()', "ok #4", "ok", 4),
+                                            ("canon", "converged 0", "converged", 0), ("sweep", "swept 0", "swept", 0),
+                                            (b" \tbegin \r", "ok", "ok", None)):
+            reply = s.command(line)
+            self.assertEqual((reply.text, reply.outcome, reply.number, reply.shown), (text, outcome, number, ""))
+        self.assertEqual(s.marks, 1)
+        self.assertIn('"test.pair"', s.command("print").shown)
+
+    def test_what_says_nothing(self):
+        for line in ("", " \t\r", "// a comment", "  // ä"):
+            self.assertEqual(self.s.command(line), ("", ""))
+        self.assertEqual(self.s.commands(["", "print", "// x"]), [("ok", self.s.print())])
+
+    def test_what_is_no_line(self):
+        for line in (b"\xff", b"// \xff", "jump", "erase 3", "print x", "report none", "\0", "erase #3\rx"):
+            with self.subTest(line), self.assertRaises(mlir_work.Refused) as caught:
+                self.s.command(line)
+            self.assertEqual(caught.exception.number, 60)
+        with self.assertRaises(ValueError):
+            self.s.command("print\nprint")
+        self.assertEqual(len(lines(self.s)), 3)
+
+    def test_refusals(self):
+        for line, number, word, at, operation in (
+                ("erase #2", 22, "HasUses", None, None), ("erase #9", 20, "NoSuchOp", None, None),
+                ("set-attr #1 k f", 13, "LeftOut", 0, None), ("set-attr #1 k [1,", 2, "Unexpected", 3, None),
+                ("convert full rules 25", 51, "NotLegalised", None, 0)):
+            with self.subTest(line), self.assertRaises(mlir_work.Refused) as caught:
+                self.s.command(line)
+            fault = caught.exception
+            self.assertEqual((fault.number, fault.word, fault.at, fault.operation, fault.line),
+                             (number, word, at, operation, line))
+            self.assertIn(word, str(fault))
+        self.assertEqual(self.s.refused, 5)
+
+    def test_many(self):
+        replies = self.s.commands(["begin", "erase #2", "erase #3", "commit"])
+        self.assertEqual([it.text for it in replies], ["ok", "refused 22 HasUses", "ok", "ok"])
+        self.assertEqual((replies[1].refusal().number, replies[0].refusal()), (22, None))
+        self.assertEqual((self.s.marks, self.s.refused), (0, 1))
+        self.assertEqual(self.s.commands([]), [])
+
+    def test_an_operation_on_several_lines(self):
+        s = self.s
+        text = '"test.a"() ({ // "a comment"\n  "test.b"() {k = "// no \\" comment"} : () -> () // ä\n}) : () -> ()'
+        self.assertEqual(s.insert(end(0), text), 4)
+        self.assertEqual(s.operations()[5].attributes, {"k": r'"// no \22 comment"'})
+        for wrong in ('"a"() // ä\n : () -> ) ', '"a"()         : () -> ) '):
+            with self.assertRaises(mlir_work.Refused) as caught:
+                s.insert(end(0), wrong)
+            self.assertEqual(caught.exception.at, wrong.encode().index(b"-> )") + 3)
+
+    def test_modules_that_are_refused(self):
+        for text, number, word, at in (('"a"(', 2, "Unexpected", 4), ('"a"(\n', 2, "Unexpected", 5),
+                                       ("print", 13, "LeftOut", 0), (b"\xff", 14, "NotUtf8", 0)):
+            with self.subTest(text), self.assertRaises(mlir_work.ModuleRefused) as caught:
+                session(text)
+            fault = caught.exception
+            self.assertEqual((fault.number, fault.word, fault.at), (number, word, at))
+        with self.assertRaises(ValueError):
+            session(PAIR + "// -----\nprint\n")
+        with session(PAIR + " // -----") as s:
+            self.assertEqual(len(lines(s)), 3)
+
+
+class Marks(Case):
+    def setUp(self):
+        super().setUp()
+        self.s = session(PAIR)
+
+    def tearDown(self):
+        self.s.close()
+        super().tearDown()
+
+    def test_it_is_committed(self):
+        with self.s.mark() as s:
+            s.erase(3)
+            with s.mark():
+                s.erase(2)
+            s.begin()
+        self.assertEqual((self.s.marks, len(lines(self.s))), (0, 1))
+
+    def test_it_is_rolled_back(self):
+        text = self.s.print()
+        with self.assertRaises(KeyError), self.s.mark() as s:
+            s.erase(3)
+            s.begin()
+            s.erase(2)
+            s.begin()
+            raise KeyError
+        self.assertEqual((self.s.marks, self.s.print()), (0, text))
+        self.assertEqual(self.s.insert(end(0), '"test.a"() : () -> ()'), 4)
+
+    def test_the_inner_one(self):
+        with self.s.mark() as s:
+            s.erase(3)
+            with self.assertRaises(mlir_work.Refused), s.mark():
+                s.erase(2)
+                s.erase(2)
+        self.assertEqual(len(lines(self.s)), 2)
+
+    def test_a_refusal_that_is_caught(self):
+        with self.s.mark() as s:
+            self.assertRaises(mlir_work.Refused, s.erase, 2)
+            s.erase(3)
+        self.assertEqual(len(lines(self.s)), 2)
+
+    def test_an_interrupt_in_between(self):
+        with self.assertRaises(KeyboardInterrupt), self.s.mark() as s:
+            s.erase(3)
+            raise KeyboardInterrupt
+        self.assertEqual((self.s.closed, self.s.marks, len(lines(self.s))), (False, 0, 3))
+
+    def test_it_is_dropped_within(self):
+        with self.assertRaises(mlir_work.Error), self.s.mark() as s:
+            s.rollback()
+        with self.assertRaises(KeyError), self.s.mark() as s:
+            s.commit()
+            raise KeyError
+        self.assertEqual(self.s.marks, 0)
+
+    def test_the_session_is_closed_within(self):
+        with self.assertRaises(mlir_work.SessionClosed), self.s.mark() as s:
+            s.close()
+            s.erase(3)
+
+    def test_all_that_there_are(self):
+        for _ in range(16):
+            self.s.begin()
+        with self.assertRaises(mlir_work.Refused) as caught, self.s.mark():
+            self.fail("there are 16 marks")
+        self.assertEqual(caught.exception.number, 34)
+        with self.assertRaises(mlir_work.Refused) as caught:
+            self.s.operations()
+        self.assertEqual((caught.exception.number, self.s.marks), (34, 16))
+        self.s.commit()
+        self.assertEqual(len(self.s.operations()), 4)
+
+
+class Rows(Case):
+    def test_symbols(self):
+        name = '@"a b\\0A\\22#3"'
+        with session(ODD) as s:
+            self.assertEqual(s.report("symbols"), [
+                Symbol("def", 1, name, table=0), Symbol("def", 2, "@f", table=0), Symbol("def", 3, "@f", table=0),
+                Symbol("duplicate", 3, "@f", table=0), Symbol("use", 4, "@f", target=2),
+                Symbol("unresolved", 5, name + '::@"#1 @x"'), Symbol("unresolved", 5, "@none"),
+                Symbol("mismatch", 4, target=2)])
+            self.assertEqual(s.report("unreached"), [])
+            s.drop_attr(5, "k")
+            self.assertEqual(s.report("unreached"), [(1, name)])
+
+    def test_the_others(self):
+        with session(example("branch")) as s:
+            self.assertEqual(s.report("uses")[0], (Argument(1, 0, 0), 6, 0))
+            self.assertEqual([it for it in s.report("effects") if it.operation > 1],
+                             [(5, ("read", "write")), (6, ("read",)), (8, ("write",))])
+            self.assertEqual(s.report("constants")[2], (Result(4), "true"))
+            s.set_operand(5, 0, Result(2))
+            self.assertEqual([(it.operation, it.rule) for it in s.report("diagnostics")], [(5, 2)])
+
+    def test_a_kind_that_is_not_known(self):
+        class Other(Referred):
+            def line(self, line):
+                return mlir_work.Reply("ok", "#1 a b\n#2\n")
+        with mlir_work.Session("", way=Other()) as s:
+            self.assertEqual(s.report("loops"), [("#1", "a", "b"), ("#2",)])
+
+    def test_words(self):
+        self.assertEqual((str(Result(3)), str(Argument(1, 0, 2))), ("%v3.0", "%a1.0.2"))
+        self.assertEqual([before(3), after(4), start(1), end(0, 2)],
+                         ["before #3", "after #4", "start #1 0", "end #0 2"])
+        self.assertEqual(quoted("a\"\\\n\x7fä"), r'"a\22\5C\0A\7F\C3\A4"')
+
+
+def wanted(module):
+    """The operations of a module of bench/reference, as a session has them."""
+    places = module.places()
+
+    def depth(op):
+        where = places.get(op.id)
+        return 0 if where is None else 1 + depth(where.parent)
+    for op in walk(module.root):
+        where = places.get(op.id)
+        entries = [{key.decode(): "unit" if it == ("unit",) else printing.attr_text(it) for key, it in those.items()}
+                   for those in (op.props, op.attrs)]
+        region = 0 if where is None else next(k for k, it in enumerate(where.parent.regions)
+                                              if it and any(one is op for one in it.ops))
+        yield (op.id, op.name.decode(), [value_text(it) for it in op.operands],
+               [printing.type_text(module.type_of(it, module.ops())) for it in op.operands],
+               [printing.type_text(it) for it in op.results], *entries, len(op.regions),
+               [printing.type_text(it) for block in op.regions if block for it in block.args],
+               None if where is None else where.parent.id, region, depth(op))
+
+
+def found(s):
+    """Those of a session, in the same form."""
+    for it in s:
+        yield (it.number, it.name, [str(value) for value in it.operands], list(it.operand_types),
+               list(it.results.values()), it.properties, it.attributes, it.regions, list(it.arguments.values()),
+               it.parent, it.region, it.depth)
+
+
+class Operations(Case):
+    def compare(self, text, more):
+        """Compares the operations of a module, before and behind lines."""
+        run = script.Run(script.read(text.encode()))
+        with session(text) as s:
+            self.assertEqual(list(found(s)), list(wanted(run.module)))
+            for line in more(run):
+                run.reply(line)
+                s.commands([line])
+            self.assertEqual(list(found(s)), list(wanted(run.module)))
+            self.assertEqual(s.print(), text_of(run.module))
+            for it in s:
+                for place, value in enumerate(it.results):
+                    self.assertEqual(value, (it.number, place))
+
+    def test_by_chance(self):
+        for number in range(12):
+            maker = random.Random(f"operations {number}")
+            text = text_of(chance.module(maker, 24, 0.2, maker.choice(sorted(chance.TASTES))))
+
+            def lines_by_chance(run, maker=maker):
+                scripter = chance.Scripter(maker, run)
+                for _ in range(12):
+                    yield from (it for it in [script_lines.line_of(maker, scripter)] if it.isascii())
+            with self.subTest(number):
+                self.compare(text, lines_by_chance)
+
+    def test_by_hand(self):
+        texts = {"examples": [path.read_text() for path in sorted((ROOT / "examples").glob("*.mlir"))],
+                 "by hand": ["", ODD, '"builtin.module"() ({}, {}) : () -> ()',
+                             '"builtin.module"() ({^bb0: }, {"a"() : () -> ()}) {N., N._ = "N.__"} : () -> ()',
+                             '%0:2 = "a"() ({^bb0(%x: (i32, i1) -> (i8), %y: memref<2x?xi32>): "b"(%x, %y) {c = {d, '
+                             'e = [1, @f::@g]}, "x = y" = array<i32: 1, 2>, h = (i32) -> ()} : ((i32, i1) -> i8, '
+                             'memref<2x?xi32>) -> (() -> ())}, {}, {"c"() : () -> ()}) : () -> (i32, (i32) -> i32)'
+                             '"d"(%0#1, %0#0) : ((i32) -> i32, i32) -> ()']}
+        for text in (it for those in texts.values() for it in those):
+            with self.subTest(text):
+                self.compare(text, lambda run: ["set-attr #1 N. 5", "erase #2", 'insert end #0 0 "z"() : () -> i1'])
+
+    def test_they_are_asked_for_once(self):
+        with session(PAIR) as s:
+            first = s.operations()
+            self.assertIs(s.operations()[1], first[1])
+            s.report("dead")
+            with s.mark():
+                self.assertIs(s.operations()[1], first[1])
+                s.erase(first[3])
+            self.assertEqual([str(it) for it in s], ["#0 builtin.module", "#1 arith.constant", "#2 arith.constant"])
+            self.assertEqual((s.marks, s.refused), (0, 0))
+
+    def test_there_is_no_entry_left(self):
+        with session(PAIR) as s:
+            s.commands(f"set-attr #3 k{number} 1" for number in range(256))
+            with self.assertRaises(mlir_work.Refused) as caught:
+                s.operations()
+            self.assertEqual((caught.exception.number, s.marks), (31, 0))
+
+
+class Package(unittest.TestCase):
+    def test_types(self):
+        """All that is public has types that are there."""
+        for name in mlir_work.__all__:
+            it = getattr(mlir_work, name)
+            for call in [it, *vars(it).values()] if isinstance(it, type) else [it]:
+                if callable(call) and getattr(call, "__module__", "").startswith("mlir_work"):
+                    typing.get_type_hints(call)
+        self.assertTrue((pathlib.Path(mlir_work.__file__).parent / "py.typed").is_file())
+
+    def test_each_command_has_a_method(self):
+        import forms
+        for word in forms.forms():
+            self.assertTrue(callable(getattr(mlir_work.Session, word.replace("-", "_"))), word)
+        self.assertEqual(list(mlir_work.KINDS), forms.kinds())
+
+
+if __name__ == "__main__":
+    unittest.main()
