@@ -1,3 +1,5 @@
 pub mod Numbered
 pub mod Ended
 pub mod Statuses
+pub mod Lives
+pub mod Within
