@@ -3,9 +3,9 @@
 python3 -m reference [--brief] [--limit N] [--opaque | --interactive] < INPUT
 python3 -m reference [--brief] [--limit N] --own-patterns [--patterns FILE].. < INPUT
 
-With --interactive each line is answered as soon as it is there. With --opaque, which the program doesn't have yet, opaque terms, aliases and locations are read. With --own-patterns it
-knows the commands of docs/PATTERNS.md too, which the program doesn't have; a file has patterns, one a line, which are
-there from the start."""
+With --interactive each line is answered as soon as it is there. With --opaque, which the program doesn't have yet,
+opaque terms, aliases and locations are read. With --own-patterns it knows the commands of docs/PATTERNS.md too, which
+the program doesn't have; a file has patterns, one a line, which are there from the start."""
 import pathlib
 import re
 import sys
@@ -15,8 +15,8 @@ from .script import LIMIT, MOST_LIMIT, run, run_opaque
 
 
 class Options:
-    """Whether to be brief, the limit, whether opaque terms are read, whether lines are answered one by one, and the files
-    of patterns; none of these where there are to be no patterns."""
+    """Whether to be brief, the limit, whether opaque terms are read, whether lines are answered one by one, and the
+    files of patterns; none of these where there are to be no patterns."""
 
     def __init__(self, words):
         self.brief, self.limit, self.is_open, self.is_live, self.files = False, None, False, False, None

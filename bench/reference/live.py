@@ -1,6 +1,6 @@
-"""Runs that answer each line as soon as it is there, as the program does with `--interactive`: the answer to the module,
-which is the lines of the analyses that aren't attached, so mostly nothing, and that to each line, as a whole run has it
-for the input up to that line. Each ends with an empty line."""
+"""Runs that answer each line as soon as it is there, as the program does with `--interactive`: the answer to the
+module, which is the lines of the analyses that aren't attached, so mostly nothing, and that to each line, as a
+whole run has it for the input up to that line. Each ends with an empty line."""
 import io
 import itertools
 
