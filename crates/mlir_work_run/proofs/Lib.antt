@@ -3,3 +3,4 @@ pub mod Ended
 pub mod Statuses
 pub mod Lives
 pub mod Within
+pub mod Beginnings

@@ -32,16 +32,21 @@ use Rattle.mlir_work_run.specs.declared.run.Options.{Options}
 
 -- ---- lines
 
+-- a line that ends with its line feed, or is the last one
+abbrev pub IsWhole : List ℕ → List ℕ → Type 0
+IsWhole line rest = ((xs : List ℕ) → whole_lines (line ++ xs) ≡ line ∷ whole_lines xs) ⊎ ((rest ≡ []) × (whole_lines line ≡ line ∷ []))
+
 -- the first line of a text, with its line feed, and the others
-abbrev FirstOf : List ℕ → Type 0
-FirstOf bs = (line : List ℕ) × (bs ≡ line ++ after_line bs) × (whole_lines bs ≡ line ∷ whole_lines (after_line bs))
+abbrev pub FirstOf : List ℕ → Type 0
+FirstOf bs = (line : List ℕ) × (bs ≡ line ++ after_line bs) × (whole_lines bs ≡ line ∷ whole_lines (after_line bs)) × IsWhole line (after_line bs)
 
 first_at : (b : ℕ) (bs : List ℕ) (t : Bool) → is_newline b ≡ t → (bs ≡ []) ⊎ FirstOf bs → FirstOf (b ∷ bs)
-first_at b bs true e h = (b ∷ [], rw e refl, rw e refl)
-first_at b bs false e (inl none) = (b ∷ [], rw (e, none) refl, rw (e, none) refl)
-first_at b bs false e (inr (line, is, lines)) = (b ∷ line, rw e (ap (λ (xs : List ℕ). b ∷ xs) is), rw e (ap (onto_first b) lines))
+first_at b bs true e h = (b ∷ [], rw e refl, rw e refl, inl (λ xs. rw e refl))
+first_at b bs false e (inl none) = (b ∷ [], rw (e, none) refl, rw (e, none) refl, inr (rw (e, none) refl, rw e refl))
+first_at b bs false e (inr (line, is, lines, inl closed)) = (b ∷ line, rw e (ap (λ (xs : List ℕ). b ∷ xs) is), rw e (ap (onto_first b) lines), inl (λ xs. rw e (ap (onto_first b) (closed xs))))
+first_at b bs false e (inr (line, is, lines, inr (none, one))) = (b ∷ line, rw e (ap (λ (xs : List ℕ). b ∷ xs) is), rw e (ap (onto_first b) lines), inr (rw e none, rw e (ap (onto_first b) one)))
 
-first_of : (bs : List ℕ) → (bs ≡ []) ⊎ FirstOf bs
+pub first_of : (bs : List ℕ) → (bs ≡ []) ⊎ FirstOf bs
 first_of [] = inl refl
 first_of (b ∷ bs) = inr (first_at b bs (is_newline b) refl (first_of bs))
 
@@ -53,7 +58,7 @@ IsNext (Some all) (Some rest) line = whole_lines all ≡ line ∷ whole_lines re
 
 next_of : (all rest line : List ℕ) → all ≡ line ++ rest → rest ≡ after_line all → 0 < length line → (all ≡ []) ⊎ FirstOf all → whole_lines all ≡ line ∷ whole_lines rest
 next_of all rest line is behind lt (inl none) = absurd (omega (arith, lt, sym (ap length is) ∙ ap length none, length-append line rest))
-next_of all rest line is behind lt (inr (first, cut, lines)) =
+next_of all rest line is behind lt (inr (first, cut, lines, whole)) =
     let same : line ≡ first = append_cancel_right line first (after_line all) (sym (ap (λ (xs : List ℕ). line ++ xs) behind) ∙ sym is ∙ cut) in
     lines ∙ ap (λ (xs : List ℕ). xs ∷ whole_lines (after_line all)) (sym same) ∙ ap (λ (xs : List ℕ). line ∷ whole_lines xs) (sym behind)
 

@@ -39,7 +39,7 @@ joined_at : (b : ℕ) (bs : List ℕ) (t : Bool) → is_newline b ≡ t → join
 joined_at b bs true e h = rw e (ap (λ (xs : List ℕ). b ∷ xs) h)
 joined_at b bs false e h = rw e (onto_joined b (whole_lines bs) ∙ ap (λ (xs : List ℕ). b ∷ xs) h)
 
-joined_same : (bs : List ℕ) → joined (whole_lines bs) ≡ bs
+pub joined_same : (bs : List ℕ) → joined (whole_lines bs) ≡ bs
 joined_same [] = refl
 joined_same (b ∷ bs) = joined_at b bs (is_newline b) refl (joined_same bs)
 

@@ -1,20 +1,20 @@
 -- What a live run writes: an answer to the module, and an answer to each line as soon as it is there.
-use Rattle.std.specs.Prelude.{◌≡◌, ◌≤◌, ℕ, ◌+◌, List, [], ◌∷◌, ◌++◌, length, Bool, true, ◌⊎◌, Result, Ok, Err, if◌then◌else◌, ⊤}
+use Rattle.std.specs.Prelude.{◌≡◌, ◌≤◌, ℕ, ◌+◌, List, [], ◌∷◌, ◌++◌, length, Bool, true, ◌⊎◌, Result, Ok, Err, if◌then◌else◌, ⊤, codes}
 use Rattle.ir_event.specs.Modules.{Module}
 use Rattle.mlir_work_lines.specs.declared.feed.Stop.{Stop}
 use Rattle.mlir_work_lines.specs.declared.feed.Stop.TheVariants.{Broken, Memory as OutOfMemory, TooMany}
 use Rattle.mlir_work_session.specs.Commands.{line_says}
 use Rattle.mlir_work_session.specs.Lines.{is_newline, line_of, onto_first}
-use Rattle.mlir_work_session.specs.Limits.{most_script_bytes}
+use Rattle.mlir_work_session.specs.Limits.{most_input_bytes, most_script_bytes}
 use Rattle.mlir_work_session.specs.Machine.{State}
 use Rattle.mlir_work_session.specs.Output.{Begun, Line, worse}
 use Rattle.mlir_work_session.specs.Panels.{Shown}
 use Rattle.mlir_work_session.specs.Parts.{module_text}
 use Rattle.mlir_work_session.specs.Reads.{Intake}
 use Rattle.mlir_work_session.specs.WriteFault.{WriteFault}
-use Rattle.mlir_work_session.specs.Writes.{Grows, GrowsFront, Stays, Stream}
+use Rattle.mlir_work_session.specs.Writes.{Grows, GrowsFront, Stays, Stream, joined}
 use Rattle.mlir_work_run.specs.Ends.{IsFinal}
-use Rattle.mlir_work_run.specs.Whole.{IsTooMany, IsUnread, IsWorldOf, manner_of}
+use Rattle.mlir_work_run.specs.Whole.{IsOutput, IsTooMany, IsUnread, IsWorldOf, manner_of}
 use Rattle.mlir_work_run.specs.declared.live.Halt.{Halt}
 use Rattle.mlir_work_run.specs.declared.live.Halt.TheVariants.{Read as ReadFailed, Write as WriteFailed, Memory as NoMemory, TooLong}
 use Rattle.mlir_work_run.specs.declared.run.Options.{Options}
@@ -59,6 +59,17 @@ IsLive options boxes text lines status out =
 abbrev pub IsLiveOf : Options → List Shown → List ℕ → List (List ℕ) → ℕ → List ℕ → Type 0
 IsLiveOf options boxes input lines status out =
     IsTooMany input status out ⊎ IsLive options boxes (module_text input) lines status out
+
+-- an input up to a line, where there are any: the text of the module, the divider, and these lines
+abbrev pub up_to : List ℕ → List (List ℕ) → List ℕ
+up_to text [] = text
+up_to text (line ∷ lines) = text ++ (codes "// -----" ++ 10 ∷ joined (line ∷ lines))
+
+-- what a whole run writes for an input up to a line, where that is within the limits
+abbrev pub IsWholeUpTo : Options → List Shown → List ℕ → List (List ℕ) → ℕ → List ℕ → Type 0
+IsWholeUpTo options boxes input lines status out =
+    length input ≤ most_input_bytes → length (joined lines) ≤ most_script_bytes
+    → IsOutput options boxes (up_to (module_text input) lines) status out
 
 -- ---- how a live run ends
 

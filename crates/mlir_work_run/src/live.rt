@@ -12,7 +12,7 @@ ghost use Rattle.mlir_work_session.specs.Limits.{most_input_bytes, most_script_b
 ghost use Rattle.mlir_work_session.specs.Panels.{Shown, all_shown};
 ghost use Rattle.mlir_work_session.specs.Parts.{module_text, script_text};
 ghost use Rattle.mlir_work_session.specs.Ran.{AttachedOut, RanOut};
-ghost use Rattle.mlir_work_run.specs.Live.{IsLive, IsLiveOf, Live, LiveEnded, LiveEndedAt, LiveRead, Lives, divider_bytes};
+ghost use Rattle.mlir_work_run.specs.Live.{AreFirst, IsLive, IsLiveOf, IsWholeUpTo, Live, LiveEnded, LiveEndedAt, LiveRead, Lives, divider_bytes};
 ghost use Rattle.mlir_work_run.specs.Live.{exit_of, halt_of, halted_of, whole_lines};
 ghost use Rattle.mlir_work_run.specs.Whole.{IsOutput, IsWorldOf, WhyNot};
 ghost use Rattle.mlir_work_run.specs.declared.run.Options.{Options as Way};
@@ -337,12 +337,16 @@ fn exit_status(ended: Result<u8, Halt>) -> u8
 }
 
 /// What answers an input's module and its lines as they come is an output of the input, as a whole run has one with those
-/// ends, where the input and its script are within their limits.
+/// ends, where the input and its script are within their limits; and what answers the first of these lines is one of the
+/// input up to them.
 pub fn live_runs_are_whole()
-    ensures { (options : Way) (boxes : List Shown) (input : List ℕ) (status : ℕ) (out : List ℕ)
+    ensures all { (options : Way) (boxes : List Shown) (input : List ℕ) (status : ℕ) (out : List ℕ)
         → length input ≤ most_input_bytes → length (script_text input) ≤ most_script_bytes
         → IsLive options boxes (module_text input) (whole_lines (script_text input)) status out
         → IsOutput options boxes input status out }
+    ensures up_to { (options : Way) (boxes : List Shown) (input : List ℕ) (lines : List (List ℕ)) (status : ℕ)
+        (out : List ℕ) → AreFirst (whole_lines (script_text input)) lines
+        → IsLiveOf options boxes input lines status out → IsWholeUpTo options boxes input lines status out }
 {}
 
 /// Runs as `answer_live` does, and gives the exit status: 0 where all was accepted, 1 where a command or a listener was
@@ -357,8 +361,11 @@ pub fn run_live<L: Analysis, R: Source, W: Sink>(
     writer: &mut W,
     boxes: Vec<L>,
 ) -> u8
-    ensures { IfSome (R.intake reader.old).remaining (λ input. LiveEndedAt
+    ensures live { IfSome (R.intake reader.old).remaining (λ input. LiveEndedAt
         (IsLiveOf options (all_shown L.meaning boxes.items) input) (whole_lines (script_text input))
+        (W.stream writer.old) (W.stream writer.new) (W.handed writer.new) result) }
+    ensures whole { IfSome (R.intake reader.old).remaining (λ input. LiveEndedAt
+        (IsWholeUpTo options (all_shown L.meaning boxes.items) input) (whole_lines (script_text input))
         (W.stream writer.old) (W.stream writer.new) (W.handed writer.new) result) }
 {
     exit_status(answer_live(alloc, key, options, reader, writer, boxes))
