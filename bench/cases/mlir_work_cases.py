@@ -21,12 +21,13 @@ import rule_cases  # noqa: E402
 import verifier_cases  # noqa: E402
 import worked_rows  # noqa: E402
 from compare import refusals  # noqa: E402
-from reference import script  # noqa: E402
+from reference import live, script  # noqa: E402
 from reference.lines import Table, given, told  # noqa: E402
 
 sys.path.append(str(pathlib.Path("tests").resolve()))
 import golden  # noqa: E402
 
+MOST_LINE = 16777216
 VERSION = re.search(rb"(?m)^## (\S+)", pathlib.Path("CHANGELOG.md").read_bytes())[1]
 TABLE, GOLDEN = Table(), golden.Collected()
 case = TABLE.case
@@ -848,11 +849,47 @@ def command_lines():
         GOLDEN.case([words], b"", (0, b"mlir_work %s\n" % VERSION))
     for words in ("--nonsense", "x", "-b"):
         wrong([words], b"unexpected argument '%s' found" % words.encode() + usage + more)
+    wrong(["--interactive", "--interactive"],
+          b"the argument '--interactive' cannot be used multiple times" + usage + more)
     wrong(["--brief", "--brief"], b"the argument '--brief' cannot be used multiple times" + usage + more)
     # The example of the help.
     example = re.search(rb"<<'END'\n(.*)  END\n(.*)", help_text, re.S)
     module, out = (re.sub(rb"(?m)^  ", b"", part) for part in example.groups())
     run("brief", module, 0, out, script.BOXES)
+
+
+def interactive():
+    """Runs that answer each line as soon as it is there: what is written, whenever that is."""
+    def lived(text, *words):
+        limit = int(words[words.index("--limit") + 1]) if "--limit" in words else script.LIMIT
+        answer = live.run(text, "--brief" in words, limit)
+        # (a whole run writes the same, but for the ends)
+        whole = script.run(text, "--brief" in words, limit=limit)
+        assert answer[0] == whole[0] and answer[1].replace(b"\n\n", b"\n").lstrip(b"\n") == whole[1], text
+        GOLDEN.case(["--interactive", *words], text, answer)
+
+    looks = b"report uses\n// none\n\nprint\njump\n\xff\nreport dead"
+    edits = b"set-operand #3 0 %v2.0\nbegin\nerase #3\nset-attr #3 k 256 : i8\nmove #9 end #1 0\nrollback\nprint\n"
+    for text in (b"", DIVIDER, DIVIDER[:-1], TEXT, TEXT + DIVIDER, TEXT + DIVIDER[:-1], b'"a"(', b'"a"(\n' + DIVIDER
+                 + looks, TEXT + DIVIDER + looks, TEXT + DIVIDER + looks + b"\n", TEXT + DIVIDER + edits,
+                 TEXT + DIVIDER + edits + DIVIDER + looks, DIVIDER + DIVIDER + b"print\n", b"// ----- \n" + DIVIDER
+                 + b"print\n", TEXT.replace(b"\n", b"\r\n") + DIVIDER + b"print\r\nreport uses\r\n"):
+        for words in ((), ("--brief",)):
+            lived(text, *words)
+    for words in (("--limit", "2"), ("--brief", "--limit", "4"), ()):
+        lived(sums(3) + DIVIDER + b"canon\ncanon limit 1\ncanon\nprint\n", *words)
+    # All beginnings of a short input.
+    short = b'%0 = "t.a"() : () -> i8\n' + DIVIDER + b"erase #1\nprint\n"
+    answers = [live.run(short[:count]) for count in range(len(short))]
+    GOLDEN.case(["--brief", "--interactive"], short, golden.cut_text(answers), True)
+    # Both sides of the limit of a line, and a script that has no limit as a whole.
+    line, told = b"1 ok\n\n", b"2 ok\n\n"
+    for size, status in ((MOST_LINE, 0), (MOST_LINE + 1, 4)):
+        pieces = [(1, DIVIDER + b"report dead\n//"), (size - 3, b" "), (1, b"\nreport dead\n")]
+        GOLDEN.case(["--brief", "--interactive"], pieces, (status, b"\n" + line + told * (status == 0)))
+    pieces = [(1, DIVIDER), (MOST_LINE // 8 + 2, b"//      \n"), (1, b"report dead\n")]
+    GOLDEN.case(["--brief", "--interactive"], pieces, (0, b"\n" + line))
+    GOLDEN.case(["--brief", "--interactive"], [(16777217, b"\n")], (3, b"module refused 11 TooMany at 16777216\n"))
 
 
 def over_limits():
@@ -905,7 +942,8 @@ def analyses(kinds, text, brief=True):
 
 
 GOLDEN_PARTS = {
-    "runs": (runs, moves, entries, wholes, panels, sweeps, over_limits, beginnings, byte_limits, failing_ends),
+    "runs": (runs, moves, entries, wholes, panels, sweeps, over_limits, beginnings, byte_limits, failing_ends,
+             interactive),
     "pages": (refused, worked),
     "command_line": (command_lines,),
 }

@@ -1,28 +1,30 @@
 """Runs a module and a script by the rules, as the program does, in bench/:
 
-python3 -m reference [--brief] [--limit N] [--opaque] < INPUT
+python3 -m reference [--brief] [--limit N] [--opaque | --interactive] < INPUT
 python3 -m reference [--brief] [--limit N] --own-patterns [--patterns FILE].. < INPUT
 
-With --opaque, which the program doesn't have yet, opaque terms, aliases and locations are read. With --own-patterns it
-knows the commands of docs/PATTERNS.md too, which the program doesn't have; a file has patterns, one a line, which are
-there from the start."""
+With --interactive each line is answered as soon as it is there. With --opaque, which the program doesn't have yet,
+opaque terms, aliases and locations are read. With --own-patterns it knows the commands of docs/PATTERNS.md too, which
+the program doesn't have; a file has patterns, one a line, which are there from the start."""
 import pathlib
 import re
 import sys
 
-from . import own
+from . import live, own
 from .script import LIMIT, MOST_LIMIT, run, run_opaque
 
 
 class Options:
-    """Whether to be brief, the limit, whether opaque terms are read, and the files of patterns; none of these where
-    there are to be no patterns."""
+    """Whether to be brief, the limit, whether opaque terms are read, whether lines are answered one by one, and the
+    files of patterns; none of these where there are to be no patterns."""
 
     def __init__(self, words):
-        self.brief, self.limit, self.is_open, self.files = False, None, False, None
+        self.brief, self.limit, self.is_open, self.is_live, self.files = False, None, False, False, None
         while words:
             words = self.after(*words)
         self.limit = self.limit or LIMIT
+        if self.is_open + self.is_live + (self.files is not None) > 1:
+            raise ValueError
 
     def after(self, word, *rest):
         """Takes an option, and gives the words behind it; raises `ValueError` where it is none."""
@@ -31,6 +33,9 @@ class Options:
             return rest
         if word == "--opaque" and not self.is_open:
             self.is_open = True
+            return rest
+        if word == "--interactive" and not self.is_live:
+            self.is_live = True
             return rest
         if word == "--own-patterns" and self.files is None:
             self.files = []
@@ -44,7 +49,19 @@ class Options:
             return rest[1:]
         raise ValueError
 
-    def run(self, text):
+    def run(self, given, out):
+        """Runs an input, and gives the status."""
+        if self.is_live:
+            for status, told in live.answers(live.lines_of(given), self.brief, self.limit):
+                out.write(told)
+                out.flush()
+            return status
+        status, told = self.run_whole(given.read())
+        out.write(told)
+        return status
+
+    def run_whole(self, text):
+        """The status of a whole run over an input, and what it writes."""
         if self.files is None:
             return (run_opaque if self.is_open else run)(text, self.brief, limit=self.limit)
         book = {}
@@ -59,18 +76,14 @@ def main(words):
         return 0
     try:
         options = Options(words)
-        if options.is_open and options.files is not None:
-            raise ValueError
     except ValueError:
         print(__doc__, file=sys.stderr)
         return 2
     try:
-        status, out = options.run(sys.stdin.buffer.read())
+        return options.run(sys.stdin.buffer, sys.stdout.buffer)
     except (OSError, own.BookRefused) as fault:
         print(fault, file=sys.stderr)
         return 2
-    sys.stdout.buffer.write(out)
-    return status
 
 
 sys.exit(main(sys.argv[1:]))

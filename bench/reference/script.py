@@ -272,17 +272,18 @@ def lines_of(script):
             yield line.decode("latin-1")
 
 
+def answer(here, count, line, brief):
+    """Whether a line is accepted, and what is written for it, where it is the one of that number."""
+    reply, is_listed = here.reply(line) if line is not None else (" refused 60 BadCommand\n", True)
+    listing = here.all_rows() if is_listed and not brief else ""
+    # (a check of a pattern of one's own fails)
+    return not reply.startswith((" refused", " fails")), f"{count}{reply}{listing}"
+
+
 def obey(here, script, brief):
     """The status of a run from a state on, over the lines of a script, and what it writes."""
-    out, status = [], 0
-    for count, line in enumerate(lines_of(script), 1):
-        reply, is_listed = here.reply(line) if line is not None else (" refused 60 BadCommand\n", True)
-        # (a check of a pattern of one's own fails)
-        status = 1 if reply.startswith((" refused", " fails")) else status
-        out.append(f"{count}{reply}")
-        if is_listed and not brief:
-            out.append(here.all_rows())
-    return status, "".join(out).encode()
+    answers = [answer(here, count, line, brief) for count, line in enumerate(lines_of(script), 1)]
+    return int(not all(is_accepted for is_accepted, _ in answers)), "".join(told for _, told in answers).encode()
 
 
 def run(text, brief=True, boxes=BOXES, commands=ALL, limit=LIMIT, make=Run):

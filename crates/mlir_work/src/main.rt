@@ -1,16 +1,10 @@
-//! Runs a script over a module: `mlir_work [--brief] [--limit N]`.
+//! Runs a script over a module: `mlir_work [--brief] [--limit N] [--interactive]`.
 #![tactic(auto)]
 
 use clap::Error;
 use clap::error::ErrorKind;
-use constants::constants::Constants;
-use effects::dead::Dead;
-use effects::effects::Effects;
-use ir_event::analysis::Analysis;
-use ir_verify::diagnostics::Diagnostics;
-use listeners::Symbols;
-use listeners::uses::Uses;
-use listeners_unreached::unreached::Unreached;
+use mlir_work_listeners::seven::all_listeners;
+use mlir_work_run::live::run_live;
 use mlir_work_run::options::options_of;
 use mlir_work_run::run::{Options, run_watched};
 use mlir_work_run::watched::Watched;
@@ -61,29 +55,21 @@ fn answer_words(rt: &HostRuntime, error: &Error) -> u8 {
     if printed.is_ok() { 0 } else { 4 }
 }
 
-/// Runs with the analyses of the program, in the order of their kinds, and gives the status.
+/// Runs with the analyses of the program, in the order of their kinds, and gives the status. With `--interactive` each
+/// line is answered as soon as it is there, and else all is read first.
 fn run_all(rt: &HostRuntime, options: Options) -> Result<u8, AllocError> {
-    let mut boxes: Vec<Box<dyn Analysis>> = Vec::new(rt.alloc());
-    boxes.push(Box::new(rt.alloc(), Uses::new(rt.alloc()))?)?;
-    boxes.push(Box::new(rt.alloc(), Symbols::new(rt.alloc()))?)?;
-    boxes.push(Box::new(rt.alloc(), Diagnostics::new(rt.alloc()))?)?;
-    boxes.push(Box::new(rt.alloc(), Effects::new(rt.alloc()))?)?;
-    boxes.push(Box::new(rt.alloc(), Dead::new(rt.alloc()))?)?;
-    boxes.push(Box::new(rt.alloc(), Constants::new(rt.alloc()))?)?;
-    boxes.push(Box::new(rt.alloc(), Unreached::new(rt.alloc()))?)?;
+    let listeners = all_listeners(rt.alloc())?;
     let Ok(writer) = BufWriter::new(rt.alloc(), io::writer(rt)) else {
         return Err(AllocError);
     };
     let mut reader = Watched::new(rt.stdin());
     let mut writer = Watched::new(writer);
-    Ok(run_watched(
-        rt.alloc(),
-        key_of(rt),
-        options,
-        &mut reader,
-        &mut writer,
-        boxes,
-    ))
+    let key = key_of(rt);
+    Ok(if options.ends {
+        run_live(rt.alloc(), key, options, &mut reader, &mut writer, listeners)
+    } else {
+        run_watched(rt.alloc(), key, options, &mut reader, &mut writer, listeners)
+    })
 }
 
 fn main(rt: HostRuntime) -> ExitCode {

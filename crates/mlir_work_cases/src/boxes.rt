@@ -17,7 +17,11 @@ use std::io::{Read, Write};
 
 /// What the command line of a run says, but for a limit.
 pub fn options(brief: bool) -> Options {
-    Options { brief, limit: 1000 }
+    Options {
+        brief,
+        limit: 1000,
+        ends: false,
+    }
 }
 
 /// The texts between `+`.

@@ -52,7 +52,12 @@ fn run_limited(alloc: Global, names: &str, text: &str) -> Result<String, AllocEr
     let input = bytes(alloc, text)?;
     let mut reader = input.as_slice();
     let limit = small(word);
-    over(alloc, names, Options { brief: true, limit }, &mut reader)
+    let options = Options {
+        brief: true,
+        limit,
+        ends: false,
+    };
+    over(alloc, names, options, &mut reader)
 }
 
 /// So many copies of a text, and another behind them.

@@ -77,6 +77,7 @@ fn run_heard<L: Analysis>(
         brief: true,
         bytes,
         limit: 1000,
+        ends: false,
     };
     Ok(run_script(alloc, &manner, bench, script, written).unwrap_or(4))
 }

@@ -18,14 +18,14 @@ use Rattle.mlir_work_run.specs.declared.run.Fault.{Fault}
 use Rattle.mlir_work_run.specs.declared.run.Fault.TheVariants.{Read as ReadFailed, Write as WriteFailed}
 
 -- of a script: 0 or 1
-abbrev IsLow : ℕ → Type 0
+abbrev pub IsLow : ℕ → Type 0
 IsLow status = (status ≡ 0) ⊎ (status ≡ 1)
 
-low_worse : (accepted : Bool) (later : ℕ) → IsLow later → IsLow (worse accepted later)
+pub low_worse : (accepted : Bool) (later : ℕ) → IsLow later → IsLow (worse accepted later)
 low_worse true later h = h
 low_worse false later h = inr refl
 
-low_line : (Rest : ℕ → State → ℕ → List ℕ → Type 0) (manner : Manner) (n : ℕ) (s : State) (spoken : Spoken) (status : ℕ) (out : List ℕ) → ((m : ℕ) (t : State) (st : ℕ) (o : List ℕ) → Rest m t st o → IsLow st) → Line Rest manner n s spoken status out → IsLow status
+pub low_line : (Rest : ℕ → State → ℕ → List ℕ → Type 0) (manner : Manner) (n : ℕ) (s : State) (spoken : Spoken) (status : ℕ) (out : List ℕ) → ((m : ℕ) (t : State) (st : ℕ) (o : List ℕ) → Rest m t st o → IsLow st) → Line Rest manner n s spoken status out → IsLow status
 low_line Rest manner n s Nothing status out f h = f n s status out h
 low_line Rest manner n s Bad status out f h = rw h.status_is (low_worse (is_accepted h.response) h.later (f (n + 1) h.after h.later h.rest h.goes_on))
 low_line Rest manner n s (Obey said) status out f h = rw h.status_is (low_worse (is_accepted h.response) h.later (f (n + 1) h.after h.later h.rest h.goes_on))
@@ -38,7 +38,7 @@ low_session : (manner : Manner) (boxes : List Shown) (m : Module) (script : List
 low_session manner boxes m script status out (inl h) = inr h.1.0
 low_session manner boxes m script status out (inr h) = rw h.1.status_is (low_worse h.1.accepted h.1.later (low_runs manner (lines_of script) 1 (record { held = m; marks = []; panel = h.1.panel }) h.1.later h.1.rest h.1.runs))
 
-final_low : (status : ℕ) → IsLow status → IsFinal status
+pub final_low : (status : ℕ) → IsLow status → IsFinal status
 final_low status (inl e) = inl e
 final_low status (inr e) = inr (inl e)
 

@@ -1,4 +1,5 @@
 pub mod Whole
 pub mod Ends
+pub mod Live
 pub use Rattle.mlir_work_session.specs.Benched
 pub use Rattle.rewriter_laws.specs.Journals

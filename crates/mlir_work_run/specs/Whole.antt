@@ -40,7 +40,7 @@ IsTooMany input status out = (most_input_bytes < length input) × IsRefusal TooM
 
 -- how the script of an input of so many bytes is run
 abbrev pub manner_of : Options → ℕ → Manner
-manner_of options bytes = record { brief = options.brief; bytes = bytes; limit = options.limit }
+manner_of options bytes = record { brief = options.brief; bytes = bytes; limit = options.limit; ends = options.ends }
 
 -- the text spells a tree; boxes are attached to its module, and the script is run over it
 abbrev pub IsRead : Options → List Shown → List ℕ → ℕ → List ℕ → Type 0

@@ -3,6 +3,7 @@
 #![tactic(auto)]
 
 pub mod dry;
+pub mod live;
 pub mod options;
 pub mod run;
 mod text;

@@ -30,6 +30,14 @@ fn limit<'a>(alloc: Global) -> Arg<'a> {
         .value_parser(value_parser!(u32).range(1..=MOST_LIMIT))
 }
 
+/// The option that answers each line as soon as it is there.
+fn interactive<'a>(alloc: Global) -> Arg<'a> {
+    Arg::new(alloc, "interactive")
+        .long("interactive")
+        .help(text::INTERACTIVE)
+        .action(ArgAction::SetTrue)
+}
+
 /// The command line of the program.
 fn command<'a>(alloc: Global) -> Result<Command<'a>, AllocError> {
     Command::new(alloc, "mlir_work")
@@ -37,7 +45,8 @@ fn command<'a>(alloc: Global) -> Result<Command<'a>, AllocError> {
         .about(text::ABOUT)
         .after_help(text::AFTER)
         .arg(brief(alloc))?
-        .arg(limit(alloc))
+        .arg(limit(alloc))?
+        .arg(interactive(alloc))
 }
 
 /// Reads the words of a command line, the name of the program first.
@@ -49,5 +58,6 @@ pub fn options_of(alloc: Global, words: &[String]) -> Result<Options, Error> {
     Ok(Options {
         brief: matches.get_flag("brief"),
         limit: matches.get_one::<u32>("limit").unwrap_or(DEFAULT_LIMIT),
+        ends: matches.get_flag("interactive"),
     })
 }

@@ -1,5 +1,5 @@
 //! A whole run, from bytes to bytes.
-ghost use Rattle.std.specs.Prelude.{◌≡◌, ◌≤◌, ℕ, IsTrue, length, IfOk, IfErr, IfSome, None, Some, true};
+ghost use Rattle.std.specs.Prelude.{◌≡◌, ◌≤◌, ℕ, IsTrue, length, IfOk, IfErr, IfSome, None, Some, false, true};
 ghost use Rattle.std.specs.Io.KnownBytes.{Keeps};
 ghost use Rattle.ir_tree.specs.Ids.{IsNumberedFrom, op_count};
 ghost use Rattle.ir_tree.specs.Meaning.{meaning, isolated_in, IsSoundIn};
@@ -49,6 +49,9 @@ pub struct Options {
     pub brief: bool,
     /// The most rewrites of a `canon` that says no limit.
     pub limit: u32,
+    /// An empty line follows each answer, that to the module among them. The program answers each line as soon as it is
+    /// there then (`live::run_live`).
+    pub ends: bool,
 }
 
 /// Why a run has no status of its own.
@@ -71,7 +74,7 @@ pub struct Unread {
 }
 
 /// The tree that a text spells, and a context that holds what it names. No text within its limit fills it.
-fn tree_of(alloc: Global, key: u64, text: &[u8]) -> Result<(Context, TreeOp), Unread>
+pub(crate) fn tree_of(alloc: Global, key: u64, text: &[u8]) -> Result<(Context, TreeOp), Unread>
     ensures read { IfOk result (λ x. IsOnly (Spells text.now) x.0 x.1) }
     ensures sound { IfOk result (λ x. IsSoundIn x.0 x.1) }
     ensures unread { IfErr result (λ e. WhyNot text.now e.refusal e.offset) }
@@ -102,7 +105,7 @@ fn next_free(tree: &TreeOp) -> Option<u32>
 
 /// The world of a tree that was read, or none where it has more operations than there are ids, or memory is
 /// refused.
-fn hold(alloc: Global, ctx: Context, tree: TreeOp) -> Option<World>
+pub(crate) fn hold(alloc: Global, ctx: Context, tree: TreeOp) -> Option<World>
     requires sound { IsSoundIn ctx tree }
     requires numbered { IsNumberedFrom 0 tree }
     requires formed { IsFormed (isolated_in ctx) tree }
@@ -125,7 +128,7 @@ fn hold(alloc: Global, ctx: Context, tree: TreeOp) -> Option<World>
 }
 
 /// Why there is no memory.
-fn no_memory() -> Unread
+pub(crate) fn no_memory() -> Unread
     ensures refusal { result.refusal ≡ Refusal.Memory }
     ensures offset { result.offset ≡ None }
 {
@@ -148,7 +151,7 @@ fn finish<W: Sink>(writer: &mut W, status: u8) -> Result<u8, WriteFault>
 }
 
 /// Writes that the module is refused.
-fn refuse<W: Sink>(writer: &mut W, unread: Unread) -> Result<u8, WriteFault>
+pub(crate) fn refuse<W: Sink>(writer: &mut W, unread: Unread) -> Result<u8, WriteFault>
     ensures { HandedOut (IsRefusal unread.refusal unread.offset)
         (W.stream writer.old) (W.stream writer.new) (W.handed writer.new) result }
 {
@@ -181,13 +184,15 @@ fn taken_apart(
     Ok((found, script))
 }
 
-/// Whether a script only prints, and no two listeners have one kind: then no line asks for what a listener keeps.
-fn asks_for_prints<L: Analysis>(script: &[u8], boxes: &[L]) -> bool
+/// Whether a script only prints, and no two listeners have one kind, where no answer has an end: then no line asks for
+/// what a listener keeps.
+fn asks_for_prints<L: Analysis>(ends: bool, script: &[u8], boxes: &[L]) -> bool
+    ensures endless { IsTrue result → ends ≡ false }
     ensures short { IsTrue result → length script.now ≤ most_script_bytes }
     ensures prints { IsTrue result → all_print (lines_of script.now) ≡ true }
     ensures apart { IsTrue result → kinds_apart L.meaning boxes.now ≡ true }
 {
-    if script_is_too_long(script) {
+    if ends || script_is_too_long(script) {
         return false;
     }
     only_prints(script, boxes)
@@ -206,7 +211,7 @@ fn answer_prints<W: Sink, L: Analysis>(
     requires short { length script.now ≤ most_script_bytes }
     requires prints { all_print (lines_of script.now) ≡ true }
     requires apart { kinds_apart L.meaning boxes.now ≡ true }
-    ensures { (way : Way) (next : ℕ) → HandedOut
+    ensures { (way : Way) (next : ℕ) → way.ends ≡ false → HandedOut
         (IsSession way (all_shown L.meaning boxes.now)
         (record { tree = meaning ctx.now tree.now; next = next }) script.now)
         (W.stream writer.old) (W.stream writer.new) (W.handed writer.new) result }
@@ -238,13 +243,14 @@ fn answer_script<W: Sink, L: Analysis>(
 }
 
 /// How the script of an input of so many bytes is run.
-fn manner_of(options: Options, bytes: usize) -> Manner
+pub(crate) fn manner_of(options: Options, bytes: usize) -> Manner
     ensures { result ≡ manner_of options bytes }
 {
     Manner {
         brief: options.brief,
         bytes,
         limit: options.limit,
+        ends: options.ends,
     }
 }
 
@@ -266,7 +272,7 @@ fn answer_input<W: Sink, L: Analysis>(
         Ok(parts) => parts,
         Err(unread) => return refuse(writer, unread),
     };
-    if asks_for_prints(&script, &boxes) {
+    if asks_for_prints(options.ends, &script, &boxes) {
         return answer_prints(alloc, &ctx, &tree, &script, writer, &boxes);
     }
     let Some(world) = hold(alloc, ctx, tree) else {

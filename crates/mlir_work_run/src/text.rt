@@ -21,6 +21,9 @@ pub(crate) const LIMIT: &str = "The most rewrites of a plain `canon`";
 /// Its number, where it isn't there.
 pub(crate) const DEFAULT_LIMIT: &str = "1000";
 
+/// What `--interactive` says.
+pub(crate) const INTERACTIVE: &str = "Answer each line at once; an empty line ends each answer";
+
 /// What stands below the options.
 pub(crate) const AFTER: &str = "\
 Commands, one a line; empty lines and lines that begin with `//` are skipped and
@@ -119,7 +122,8 @@ Exit status:
   2  the command line is wrong, or there was no memory to begin
   3  the module was refused, as in `module refused 3 UnknownValue at 9`: the
      number and word of the reason, and the byte where it stands
-  4  a read or a write failed
+  4  a read or a write failed; with `--interactive` also where a line found no
+     memory, or is longer than 16 MiB
 
 Custom forms are not read: print them with `mlir-opt --mlir-print-op-generic`
 first.

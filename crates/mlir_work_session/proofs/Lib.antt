@@ -9,4 +9,6 @@ pub mod Attaching
 pub mod Sessions
 pub mod Printing
 pub mod RowWalks
+pub mod Wider
+pub use Rattle.mlir_work_script.proofs.Dividing
 pub use Rattle.mlir_work_script.proofs.Joins

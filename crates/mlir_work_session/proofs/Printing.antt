@@ -18,7 +18,7 @@ use Rattle.mlir_work_script.specs.Lines.{lines_of}
 use Rattle.mlir_work_script.specs.Writes.{Stream}
 use Rattle.mlir_work_script.specs.Limits.{most_script_bytes}
 use Rattle.mlir_work_session.specs.Machine.{Obeys, response_of}
-use Rattle.mlir_work_session.specs.Output.{Attaches, IsBounded, IsReplied, IsSession, Manner, Replies, Runs, asks, is_accepted, reply_line, says_nothing, shows_alone, worse}
+use Rattle.mlir_work_session.specs.Output.{Attaches, IsBounded, IsEnded, IsReplied, IsSession, Manner, Replies, Runs, asks, end_of, is_accepted, reply_line, says_nothing, shows_alone, worse}
 use Rattle.mlir_work_session.specs.PrintsAlone.{IsPrinted, all_print, is_print, kinds_apart, prints_alone}
 use Rattle.mlir_work_session.specs.Ran.{RanOut}
 use Rattle.mlir_work_session.specs.declared.reply.Reply.{Reply}
@@ -177,6 +177,10 @@ unlisted brief s n Nothing reply shows e f = absurd (true≢false f)
 unlisted brief s n Bad reply shows e f = absurd (true≢false (sym e))
 unlisted brief s n (Obey command) reply shows e f = subst (λ (k : Command). IsReplied (not brief && not (shows_alone k)) s n (response_of reply) shows (reply_line n (response_of reply) ++ shows)) (sym (the_print command e)) (bare brief s n reply shows)
 
+-- and no end
+unended : (ends : Bool) (P : List ℕ → Type 0) (out : List ℕ) → ends ≡ false → P out → IsEnded ends P out
+unended ends P out e p = (out, p, sym (ap (λ (b : Bool). out ++ end_of b) e ∙ append-nil out))
+
 -- the first line, and the others
 pub first_prints : (text line more : List ℕ) → lines_of text ≡ line ∷ lines_of more → all_print (lines_of text) ≡ (prints_alone (line_says line) && all_print (lines_of more))
 first_prints text line more e = ap all_print e
@@ -189,17 +193,17 @@ printed_bounded : (bytes : ℕ) (t : Operation) (reply : Reply) (shows : List �
 printed_bounded bytes t reply shows (inl h) = subst (λ (r : Reply). IsBounded bytes (response_of r)) (sym h.0) (λ why offset e. absurd (let f : Replied Done ≡ TextRefusedAt why offset = e in cc))
 printed_bounded bytes t reply shows (inr h) = subst (λ (r : Reply). IsBounded bytes (response_of r)) (sym h.0) (λ why offset e. absurd (let f : Replied (Refused Memory) ≡ TextRefusedAt why offset = e in cc))
 
-pub print_step : (manner : Manner) (n : ℕ) (s : State) (text line more : List ℕ) (reply : Reply) (shows : List ℕ) → lines_of text ≡ line ∷ lines_of more → prints_alone (line_says line) ≡ true → false ≡ says_nothing (line_says line) → IsPrinted s.held.tree reply shows →
+pub print_step : (manner : Manner) → manner.ends ≡ false → (n : ℕ) (s : State) (text line more : List ℕ) (reply : Reply) (shows : List ℕ) → lines_of text ≡ line ∷ lines_of more → prints_alone (line_says line) ≡ true → false ≡ says_nothing (line_says line) → IsPrinted s.held.tree reply shows →
     (later : ℕ) (rest : List ℕ) → Runs manner (n + 1) s (lines_of more) later rest → Runs manner n s (lines_of text) (worse (is_accepted (response_of reply)) later) ((reply_line n (response_of reply) ++ shows) ++ rest)
-print_step manner n s text line more reply shows e is f p later rest h =
-    run_step manner n s text line more (line_says line) (response_of reply) shows s (reply_line n (response_of reply) ++ shows) e refl f (printed manner s (line_says line) reply shows is (sym f) p) (unlisted manner.brief s n (line_says line) reply shows is (sym f)) (printed_bounded manner.bytes s.held.tree reply shows p) later rest h
+print_step manner unend n s text line more reply shows e is f p later rest h =
+    run_step manner n s text line more (line_says line) (response_of reply) shows s (reply_line n (response_of reply) ++ shows) e refl f (printed manner s (line_says line) reply shows is (sym f) p) (unended manner.ends (IsReplied (not manner.brief && not (asks (line_says line))) s n (response_of reply) shows) (reply_line n (response_of reply) ++ shows) unend (unlisted manner.brief s n (line_says line) reply shows is (sym f))) (printed_bounded manner.bytes s.held.tree reply shows p) later rest h
 
 -- ---- sessions
 
 -- what the lines may give is what a session may give whose boxes have different kinds
-print_ran : {E : Type 0} (manner : Manner) (boxes : List Shown) (m : Module) (script : List ℕ) (a b : Stream) (r : Result ℕ E) → length script ≤ most_script_bytes → are_apart boxes ≡ true →
+print_ran : {E : Type 0} (manner : Manner) → manner.ends ≡ false → (boxes : List Shown) (m : Module) (script : List ℕ) (a b : Stream) (r : Result ℕ E) → length script ≤ most_script_bytes → are_apart boxes ≡ true →
     RanOut (Runs manner 1 (record { held = m; marks = []; panel = map begun boxes }) (lines_of script)) a b r → RanOut (IsSession manner boxes m script) a b r
-print_ran manner boxes m script a b r short apart ran =
+print_ran manner unend boxes m script a b r short apart ran =
     ran_weaker (Runs manner 1 (record { held = m; marks = []; panel = map begun boxes }) (lines_of script)) (IsSession manner boxes m script) a b r
     (λ st o h. inr (
       short,
@@ -212,10 +216,10 @@ print_ran manner boxes m script a b r short apart ran =
         attached = apart_attach boxes [] (all_new boxes) apart;
         runs = h;
         status_is = refl;
-        out_is = refl;
+        out_is = ap (λ (ends : Bool). end_of ends ++ o) (sym unend);
       },
     )) ran
 
-pub prints_ran : {B E : Type 0} (meaning : B → Listener) (manner : Manner) (bs : List B) (m : Module) (script : List ℕ) (a b : Stream) (r : Result ℕ E) → length script ≤ most_script_bytes → kinds_apart meaning bs ≡ true →
+pub prints_ran : {B E : Type 0} (meaning : B → Listener) (manner : Manner) → manner.ends ≡ false → (bs : List B) (m : Module) (script : List ℕ) (a b : Stream) (r : Result ℕ E) → length script ≤ most_script_bytes → kinds_apart meaning bs ≡ true →
     ((panel : List Shown) → RanOut (Runs manner 1 (record { held = m; marks = []; panel = panel }) (lines_of script)) a b r) → RanOut (IsSession manner (all_shown meaning bs) m script) a b r
-prints_ran meaning manner bs m script a b r short apart ran = print_ran manner (all_shown meaning bs) m script a b r short (apart_shown meaning bs ∙ apart) (ran _)
+prints_ran meaning manner unend bs m script a b r short apart ran = print_ran manner unend (all_shown meaning bs) m script a b r short (apart_shown meaning bs ∙ apart) (ran _)

@@ -1,5 +1,5 @@
 -- Runs of scripts, step by step.
-use Rattle.std.proofs.Common.{◌≡◌, ℕ, ◌+◌, ◌&&◌, List, [], ◌∷◌, ◌++◌, Bool, true, false, not, refl, sym, ◌∙◌, inr, length, ◌≤◌, ◌<◌, ◌==◌, arith, Result, Ok, Err}
+use Rattle.std.proofs.Common.{◌≡◌, ℕ, ◌+◌, ◌&&◌, List, [], ◌∷◌, ◌++◌, Bool, true, false, not, refl, sym, subst, ◌∙◌, inr, length, ◌≤◌, ◌<◌, ◌==◌, arith, Option, Some, None, Result, Ok, Err}
 use Rattle.std.proofs.lemmas.Bool.Decides.{nat_tests}
 use Rattle.ir_types.specs.declared.refusal.Refusal.{Refusal}
 use Rattle.ir_types.specs.declared.refusal.Refusal.TheVariants.{BadCommand}
@@ -9,7 +9,7 @@ use Rattle.mlir_work_script.specs.Commands.{Spoken, Nothing, Bad, Obey, line_say
 use Rattle.mlir_work_script.specs.Lines.{lines_of}
 use Rattle.mlir_work_script.specs.Writes.{Stream}
 use Rattle.rewriter.specs.Machine.{State}
-use Rattle.mlir_work_session.specs.Output.{IsBounded, Line, Manner, Replied, Replies, IsReplied, Runs, worse, says_nothing, asks, reply_line, is_accepted}
+use Rattle.mlir_work_session.specs.Output.{IsAnswered, IsBounded, IsEnded, IsToldOf, Line, Manner, Replied, Replies, IsReplied, Runs, accepted_behind, end_of, number_behind, worse, says_nothing, asks, reply_line, is_accepted}
 use Rattle.mlir_work_session.specs.Ran.{RanOut}
 use Rattle.mlir_work_session.proofs.Listings.{some_listing_if}
 use Rattle.mlir_work_session.proofs.Obeying.{some_answer}
@@ -29,15 +29,12 @@ line_replied Rest manner n s Nothing status out e h = absurd (let f : true ≡ f
 line_replied Rest manner n s Bad status out e h = h
 line_replied Rest manner n s (Obey command) status out e h = h
 
-pub runs_skipped : (manner : Manner) (n : ℕ) (s : State) (text : List ℕ) (line : List ℕ) (more : List ℕ) (status : ℕ) (out : List ℕ) → lines_of text ≡ line ∷ lines_of more → says_nothing (line_says line) ≡ true → Runs manner n s (lines_of more) status out → Runs manner n s (lines_of text) status out
-runs_skipped manner n s text line more status out e f h = rw e (line_skipped (λ m t st o. Runs manner m t (lines_of more) st o) manner n s (line_says line) status out f h)
-
 pub runs_replied : (manner : Manner) (n : ℕ) (s : State) (text : List ℕ) (line : List ℕ) (more : List ℕ) (status : ℕ) (out : List ℕ) → lines_of text ≡ line ∷ lines_of more → says_nothing (line_says line) ≡ false → Replied (λ m t st o. Runs manner m t (lines_of more) st o) manner n s (line_says line) status out → Runs manner n s (lines_of text) status out
 runs_replied manner n s text line more status out e f h = rw e (line_replied (λ m t st o. Runs manner m t (lines_of more) st o) manner n s (line_says line) status out f h)
 
 -- a reply, and then what may follow, is what may be from here
 pub run_step : (manner : Manner) (n : ℕ) (s : State) (text line more : List ℕ) (spoken : Spoken) (reply : Response) (shows : List ℕ) (t : State) (told : List ℕ) →
-    lines_of text ≡ line ∷ lines_of more → spoken ≡ line_says line → false ≡ says_nothing spoken → Replies manner s spoken reply shows t → IsReplied (not manner.brief && not (asks spoken)) t n reply shows told → IsBounded manner.bytes reply →
+    lines_of text ≡ line ∷ lines_of more → spoken ≡ line_says line → false ≡ says_nothing spoken → Replies manner s spoken reply shows t → IsEnded manner.ends (IsReplied (not manner.brief && not (asks spoken)) t n reply shows) told → IsBounded manner.bytes reply →
     (later : ℕ) (rest : List ℕ) → Runs manner (n + 1) t (lines_of more) later rest → Runs manner n s (lines_of text) (worse (is_accepted reply) later) (told ++ rest)
 run_step manner n s text line more spoken reply shows t told e is f r told_is full later rest h =
     rw e (line_replied (λ m t st o. Runs manner m t (lines_of more) st o) manner n s (line_says line) _ _ (rw (← is) (sym f)) (record {
@@ -55,11 +52,63 @@ run_step manner n s text line more spoken reply shows t told e is f r told_is fu
       out_is = refl;
     }))
 
+-- ---- what follows an answer
+
+-- the status, where that of what follows is known
+abbrev pub status_before : Option Bool → ℕ → ℕ
+status_before None later = later
+status_before (Some accepted) later = worse accepted later
+
+pub worse_behind : (accepted : Bool) (told : Option Bool) (later : ℕ) → worse accepted (status_before told later) ≡ worse (accepted_behind accepted told) later
+worse_behind accepted None later = refl
+worse_behind accepted (Some more) later = worse_both accepted more later
+
+-- an answer, and then what may follow it, is what may be from here
+pub line_answered : (Rest : ℕ → State → ℕ → List ℕ → Type 0) (manner : Manner) (n : ℕ) (s : State) (spoken : Spoken) (t : State) (told : Option Bool) (out : List ℕ) → IsAnswered manner n s spoken t told out →
+    (later : ℕ) (rest : List ℕ) → Rest (number_behind n told) t later rest → Line Rest manner n s spoken (status_before told later) (out ++ rest)
+line_answered Rest manner n s spoken t None out (nothing, same, none) later rest h = rw none (line_skipped Rest manner n s spoken later rest nothing (subst (λ (x : State). Rest n x later rest) same h))
+line_answered Rest manner n s spoken t (Some accepted) out told later rest h =
+    line_replied Rest manner n s spoken (worse accepted later) (out ++ rest) told.something (record {
+      response = told.response;
+      shows = told.shows;
+      after = t;
+      text = out;
+      later = later;
+      rest = rest;
+      replies = told.replies;
+      replied = told.replied;
+      full = told.full;
+      goes_on = h;
+      status_is = rw told.accepted_is refl;
+      out_is = refl;
+    })
+
+pub run_answered : (manner : Manner) (n : ℕ) (s : State) (text line more : List ℕ) (t : State) (told : Option Bool) (out : List ℕ) → lines_of text ≡ line ∷ lines_of more → IsAnswered manner n s (line_says line) t told out →
+    (later : ℕ) (rest : List ℕ) → Runs manner (number_behind n told) t (lines_of more) later rest → Runs manner n s (lines_of text) (status_before told later) (out ++ rest)
+run_answered manner n s text line more t told out e answered later rest h = rw e (line_answered (λ m x st o. Runs manner m x (lines_of more) st o) manner n s (line_says line) t told out answered later rest h)
+
+-- a reply, what it shows, a listing and the end of the answer
+pub told_of : (manner : Manner) (n : ℕ) (s : State) (spoken line_spoken : Spoken) (reply : Response) (shows : List ℕ) (t : State) (text : List ℕ) (accepted : Bool) →
+    spoken ≡ line_spoken → false ≡ says_nothing spoken → Replies manner s spoken reply shows t → IsReplied (not manner.brief && not (asks spoken)) t n reply shows text → IsBounded manner.bytes reply → accepted ≡ is_accepted reply →
+    IsToldOf manner n s line_spoken t accepted (text ++ end_of manner.ends)
+told_of manner n s spoken line_spoken reply shows t text accepted is f r told full yes =
+    rw (← is) (record {
+      response = reply;
+      shows = shows;
+      something = sym f;
+      replies = r;
+      replied = (text, told, refl);
+      full = full;
+      accepted_is = yes;
+    })
+
+-- ---- there is an output
+
 some_replied : (Rest : ℕ → State → ℕ → List ℕ → Type 0) (manner : Manner) (n : ℕ) (s : State) (spoken : Spoken) (reply : Response) (shows : List ℕ) (t : State) → Replies manner s spoken reply shows t → IsBounded manner.bytes reply → ((m : ℕ) (t : State) → (st : ℕ) × (o : List ℕ) × Rest m t st o) → (st : ℕ) × (o : List ℕ) × Replied Rest manner n s spoken st o
 some_replied Rest manner n s spoken reply shows t r full some =
     let more = some_listing_if (not manner.brief && not (asks spoken)) t in
     let rest = some (n + 1) t in
-    let told = reply_line n reply ++ (shows ++ more.0) in (
+    let told = (reply_line n reply ++ (shows ++ more.0)) ++ end_of manner.ends in (
       worse (is_accepted reply) rest.0,
       told ++ rest.1,
       record {
@@ -70,7 +119,7 @@ some_replied Rest manner n s spoken reply shows t r full some =
         later = rest.0;
         rest = rest.1;
         replies = r;
-        replied = (more.0, more.1, refl);
+        replied = (reply_line n reply ++ (shows ++ more.0), (more.0, more.1, refl), refl);
         full = full;
         goes_on = rest.2;
         status_is = refl;

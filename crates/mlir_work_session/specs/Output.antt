@@ -1,6 +1,6 @@
 -- The output of a script, as a relation: memory may be refused at any command, and a listener may turn stale
 -- where it is told of an edit. All else is determined.
-use Rattle.std.specs.Prelude.{◌≡◌, ℕ, ◌+◌, ◌<◌, ◌≤◌, List, [], ◌∷◌, ◌++◌, length, Bool, true, false, not, ◌&&◌, ◌⊎◌, Option, Some, None, is_none, if◌then◌else◌}
+use Rattle.std.specs.Prelude.{◌≡◌, ℕ, ◌+◌, ◌<◌, ◌≤◌, List, [], ◌∷◌, ◌++◌, length, Bool, true, false, not, ◌&&◌, ◌⊎◌, Option, Some, None, is_none, if◌then◌else◌, codes}
 use Rattle.ir_types.specs.declared.refusal.Refusal.{Refusal}
 use Rattle.ir_types.specs.declared.refusal.Refusal.TheVariants.{BadCommand, KindTaken, Memory}
 use Rattle.ir_event.specs.Modules.{Module}
@@ -98,6 +98,15 @@ Replies manner s (Obey command) response shows t = Obeys manner s command respon
 abbrev pub IsReplied : Bool → State → ℕ → Response → List ℕ → List ℕ → Type 0
 IsReplied listed t n response shows out = (more : List ℕ) × IsListingIf listed t more × (out ≡ reply_line n response ++ (shows ++ more))
 
+-- the end of an answer: an empty line, where one is due
+abbrev pub end_of : Bool → List ℕ
+end_of true = codes "\n"
+end_of false = []
+
+-- an answer with P, and its end
+abbrev pub IsEnded : Bool → (List ℕ → Type 0) → List ℕ → Type 0
+IsEnded ends P out = (text : List ℕ) × P text × (out ≡ text ++ end_of ends)
+
 -- the byte at which a text is refused stands in the input, or right behind it
 abbrev pub IsBounded : ℕ → Response → Type 0
 IsBounded bytes response = (refusal : Refusal) (offset : ℕ) → response ≡ TextRefusedAt refusal offset → offset ≤ bytes
@@ -111,7 +120,7 @@ pub record Replied (Rest : ℕ → State → ℕ → List ℕ → Type 0) (manne
   pub later : ℕ
   pub rest : List ℕ
   pub replies : Replies manner s spoken response shows after
-  pub replied : IsReplied (not manner.brief && not (asks spoken)) after n response shows text
+  pub replied : IsEnded manner.ends (IsReplied (not manner.brief && not (asks spoken)) after n response shows) text
   pub full : IsBounded manner.bytes response
   pub goes_on : Rest (n + 1) after later rest
   pub status_is : status ≡ worse (is_accepted response) later
@@ -126,6 +135,33 @@ Line Rest manner n s (Obey command) status out = Replied Rest manner n s (Obey c
 abbrev pub Runs : Manner → ℕ → State → List (List ℕ) → ℕ → List ℕ → Type 0
 Runs manner n s [] status out = (status ≡ 0) × (out ≡ [])
 Runs manner n s (line ∷ lines) status out = Line (λ m t st o. Runs manner m t lines st o) manner n s (line_says line) status out
+
+-- ---- one line
+
+-- a line with the number n is replied to: it is accepted or not, this is written, and the state is then t
+pub record IsToldOf (manner : Manner) (n : ℕ) (s : State) (spoken : Spoken) (t : State) (accepted : Bool) (out : List ℕ) : Type 0 where
+  pub response : Response
+  pub shows : List ℕ
+  pub something : says_nothing spoken ≡ false
+  pub replies : Replies manner s spoken response shows t
+  pub replied : IsEnded manner.ends (IsReplied (not manner.brief && not (asks spoken)) t n response shows) out
+  pub full : IsBounded manner.bytes response
+  pub accepted_is : accepted ≡ is_accepted response
+
+-- one step of the machine: a line says nothing, and nothing is written; or it is replied to, and accepted or not
+abbrev pub IsAnswered : Manner → ℕ → State → Spoken → State → Option Bool → List ℕ → Type 0
+IsAnswered manner n s spoken t None out = (says_nothing spoken ≡ true) × (t ≡ s) × (out ≡ [])
+IsAnswered manner n s spoken t (Some accepted) out = IsToldOf manner n s spoken t accepted out
+
+-- the number of the next reply, behind what came of a line
+abbrev pub number_behind : ℕ → Option Bool → ℕ
+number_behind n None = n
+number_behind n (Some accepted) = n + 1
+
+-- whether all was accepted, behind what came of a line
+abbrev pub accepted_behind : Bool → Option Bool → Bool
+accepted_behind accepted None = accepted
+accepted_behind accepted (Some more) = accepted && more
 
 -- ---- boxes that are attached
 
@@ -150,6 +186,15 @@ Attaches (b ∷ bs) old new accepted out =
 
 -- ---- a module that was read
 
+-- the answer to a module: boxes are attached to a panel that has none; whether all were accepted, the state with which
+-- lines begin, and what is written
+pub record Begun (ends : Bool) (boxes : List Shown) (m : Module) (s : State) (accepted : Bool) (out : List ℕ) : Type 0 where
+  pub panel : List Shown
+  pub front : List ℕ
+  pub attached : Attaches boxes [] panel accepted front
+  pub state_is : s ≡ record { held = m; marks = []; panel = panel }
+  pub out_is : out ≡ front ++ end_of ends
+
 -- boxes are attached to a panel that has none, and then the lines of a script are run
 pub record Session (manner : Manner) (boxes : List Shown) (m : Module) (script : List ℕ) (status : ℕ) (out : List ℕ) : Type 0 where
   pub panel : List Shown
@@ -160,7 +205,7 @@ pub record Session (manner : Manner) (boxes : List Shown) (m : Module) (script :
   pub attached : Attaches boxes [] panel accepted front
   pub runs : Runs manner 1 (record { held = m; marks = []; panel = panel }) (lines_of script) later rest
   pub status_is : status ≡ worse accepted later
-  pub out_is : out ≡ front ++ rest
+  pub out_is : out ≡ (front ++ end_of manner.ends) ++ rest
 
 -- a script that is too long is one command that is none
 abbrev pub IsBadScript : ℕ → List ℕ → Type 0

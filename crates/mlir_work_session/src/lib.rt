@@ -9,6 +9,7 @@ mod edits;
 pub mod listing;
 pub mod manner;
 mod marks;
+pub mod opening;
 mod operations;
 mod places;
 pub mod prints;

@@ -9,4 +9,7 @@ pub struct Manner {
     pub bytes: usize,
     /// The most rewrites of a `canon` that doesn't say.
     pub limit: u32,
+    /// An empty line follows each answer: that to the module, which is the lines of the listeners that are refused, and
+    /// that to each command.
+    pub ends: bool,
 }

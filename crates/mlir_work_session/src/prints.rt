@@ -1,6 +1,6 @@
 //! Scripts that only print: the text of the tree that was read is written, and neither a world nor an analysis is
 //! begun for it.
-ghost use Rattle.std.specs.Prelude.{◌≡◌, ◌≤◌, ◌++◌, ◌&&◌, Bool, ℕ, List, [], IsTrue, length, position, true};
+ghost use Rattle.std.specs.Prelude.{◌≡◌, ◌≤◌, ◌++◌, ◌&&◌, Bool, ℕ, List, [], IsTrue, length, position, false, true};
 ghost use Rattle.ir_tree.specs.Meaning.{is_known, meaning};
 ghost use Rattle.ir_event.specs.Panels.{has_kind as has_this_kind, is_kind as is_of_kind};
 ghost use Rattle.mlir_work_script.specs.Commands.{said_of, spoken_of};
@@ -134,7 +134,7 @@ fn print_lines<W: Sink>(
 ) -> Result<u8, WriteFault>
     requires known { IsTrue (is_known ctx.now tree.now) }
     requires prints { all_print (lines_of script.now) ≡ true }
-    ensures { (manner : Manner) (next : ℕ) (panel : List Shown) → RanOut (Runs manner 1 (record { held = record { tree = meaning ctx.now tree.now; next = next }; marks = []; panel = panel }) (lines_of script.now)) (W.stream writer.old) (W.stream writer.new) result }
+    ensures { (manner : Manner) (next : ℕ) (panel : List Shown) → manner.ends ≡ false → RanOut (Runs manner 1 (record { held = record { tree = meaning ctx.now tree.now; next = next }; marks = []; panel = panel }) (lines_of script.now)) (W.stream writer.old) (W.stream writer.new) result }
 {
     let mut text = script;
     let mut n = 1u64;
@@ -157,8 +157,8 @@ fn print_lines<W: Sink>(
     Ok(if accepted { 0 } else { 1 })
 }
 
-/// Runs a script that only prints over the module of a tree, as a session with listeners of different kinds would: no
-/// line asks for what they keep, so none of them begins.
+/// Runs a script that only prints over the module of a tree, as a session with listeners of different kinds would whose
+/// answers have no ends: no line asks for what they keep, so none of them begins.
 pub fn print_session<L: Analysis, W: Sink>(
     alloc: Global,
     ctx: &Context,
@@ -171,7 +171,7 @@ pub fn print_session<L: Analysis, W: Sink>(
     requires short { length script.now ≤ most_script_bytes }
     requires prints { all_print (lines_of script.now) ≡ true }
     requires apart { kinds_apart L.meaning boxes.now ≡ true }
-    ensures { (manner : Manner) (next : ℕ) → RanOut (IsSession manner (all_shown L.meaning boxes.now) (record { tree = meaning ctx.now tree.now; next = next }) script.now) (W.stream writer.old) (W.stream writer.new) result }
+    ensures { (manner : Manner) (next : ℕ) → manner.ends ≡ false → RanOut (IsSession manner (all_shown L.meaning boxes.now) (record { tree = meaning ctx.now tree.now; next = next }) script.now) (W.stream writer.old) (W.stream writer.new) result }
 {
     print_lines(alloc, ctx, tree, script, writer)
 }

@@ -1,11 +1,12 @@
 //! Scripts, over a module and its listeners.
-ghost use Rattle.std.specs.Prelude.{◌≡◌, false, ◌&&◌, not};
-ghost use Rattle.mlir_work_script.specs.Commands.{said_of, spoken_of};
+ghost use Rattle.std.specs.Prelude.{◌≡◌, ◌+◌, ◌<◌, ◌^◌, false, ◌&&◌, not};
+ghost use Rattle.mlir_work_script.specs.Commands.{line_says, said_of, spoken_of};
 ghost use Rattle.mlir_work_script.specs.Lines.{lines_of};
 ghost use Rattle.mlir_work_script.specs.Writes.{Puts, PutsSome};
 ghost use Rattle.rewriter.specs.Benched.{IsKept, state_of};
 ghost use Rattle.mlir_work_session.specs.Machine.{response_of};
-ghost use Rattle.mlir_work_session.specs.Output.{IsBounded, IsReplied, Replies, Runs, asks as asks_to, says_nothing, shows_alone, reply_line};
+ghost use Rattle.mlir_work_session.specs.Output.{IsAnswered, IsBounded, IsReplied, Replies, Runs, accepted_behind as still_accepted, asks as asks_to};
+ghost use Rattle.mlir_work_session.specs.Output.{end_of, number_behind as next_number, says_nothing, shows_alone, reply_line};
 ghost use Rattle.mlir_work_session.specs.Ran.{RanOut};
 
 use crate::commands::obey;
@@ -138,6 +139,68 @@ fn put_answer<L: Analysis, W: Sink>(
     Ok(())
 }
 
+/// Ends an answer by an empty line, where one is due.
+pub(crate) fn put_end<W: Sink>(writer: &mut W, ends: bool) -> Result<(), WriteFault>
+    ensures { Puts (W.stream writer.old) (W.stream writer.new) (end_of ends) result }
+{
+    if ends {
+        return put(writer, b"\n");
+    }
+    Ok(())
+}
+
+/// Answers a line of a script over a module and listeners that each agree with it or are stale: `n` is the number of the
+/// next reply, and `line` has no line feed. Writes what is written for it, and says whether the command was accepted, or
+/// nothing of a line that says nothing, for which nothing is written.
+pub fn answer_line<L: Analysis, W: Sink>(
+    alloc: Global,
+    manner: &Manner,
+    bench: &mut Bench<L>,
+    n: u64,
+    line: &[u8],
+    writer: &mut W,
+) -> Result<Option<bool>, WriteFault>
+    requires { IsKept L.meaning bench.old }
+    ensures answered { RanOut (IsAnswered manner.now n (state_of L.meaning bench.old) (line_says line.now) (state_of L.meaning bench.new)) (W.stream writer.old) (W.stream writer.new) result }
+    ensures kept { IsKept L.meaning bench.new }
+{
+    let line = read_line(line);
+    if is_nothing(&line) {
+        return Ok(None);
+    }
+    let answered = answer(alloc, manner, bench, &line);
+    let listed = is_listed(manner.brief, &line);
+    match put_answer(alloc, listed, bench, n, &answered, writer) {
+        Ok(()) => {}
+        Err(fault) => return Err(fault),
+    }
+    match put_end(writer, manner.ends) {
+        Ok(()) => Ok(Some(answered.reply.is_accepted())),
+        Err(fault) => Err(fault),
+    }
+}
+
+/// The number of the next reply, behind what came of a line.
+pub fn number_behind(n: u64, told: Option<bool>) -> u64
+    requires { n + 1 < 2 ^ 64 }
+    ensures { result ≡ next_number n told }
+{
+    match told {
+        None => n,
+        Some(_) => n + 1,
+    }
+}
+
+/// Whether all was accepted, behind what came of a line.
+pub fn accepted_behind(accepted: bool, told: Option<bool>) -> bool
+    ensures { result ≡ still_accepted accepted told }
+{
+    match told {
+        None => accepted,
+        Some(more) => both(accepted, more),
+    }
+}
+
 /// Runs a script over a module and listeners that each agree with it or are stale, and writes as it goes.
 /// The status is 1 where a command was refused.
 pub fn run_script<L: Analysis, W: Sink>(
@@ -156,18 +219,12 @@ pub fn run_script<L: Analysis, W: Sink>(
     while !text.is_empty() {
         let (first, rest) = split_line(text);
         text = rest;
-        let line = read_line(first);
-        if is_nothing(&line) {
-            continue;
-        }
-        let answered = answer(alloc, manner, bench, &line);
-        let listed = is_listed(manner.brief, &line);
-        match put_answer(alloc, listed, bench, n, &answered, writer) {
-            Ok(()) => {}
+        let told = match answer_line(alloc, manner, bench, n, first, writer) {
+            Ok(told) => told,
             Err(fault) => return Err(fault),
-        }
-        accepted = both(accepted, answered.reply.is_accepted());
-        n += 1;
+        };
+        n = number_behind(n, told);
+        accepted = accepted_behind(accepted, told);
     }
     Ok(if accepted { 0 } else { 1 })
 }

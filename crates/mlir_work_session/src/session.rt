@@ -7,8 +7,8 @@ ghost use Rattle.rewriter.specs.Panels.{all_shown};
 ghost use Rattle.mlir_work_session.specs.Output.{IsSession, IsBadScript, Session, worse as worst};
 ghost use Rattle.mlir_work_session.specs.Ran.{RanOut};
 
-use crate::boxes::attach_all;
 use crate::manner::Manner;
+use crate::opening::begin;
 use crate::script::run_script;
 use ir_event::analysis::Analysis;
 use ir_event::world::World;
@@ -26,7 +26,7 @@ fn worse(accepted: bool, status: u8) -> u8
     if accepted { status } else { 1 }
 }
 
-/// Attaches listeners to a panel without any, and runs a script.
+/// Begins a session, and runs a script.
 fn attach_and_run<L: Analysis, W: Sink>(
     alloc: Global,
     manner: &Manner,
@@ -39,7 +39,7 @@ fn attach_and_run<L: Analysis, W: Sink>(
     requires unmarked { open_marks bench.old.desk ≡ [] }
     ensures { RanOut (Session manner.now (all_shown L.meaning boxes.items) (module_held bench.old.desk) script.now) (W.stream writer.old) (W.stream writer.new) result }
 {
-    let accepted = match attach_all(bench, boxes, writer) {
+    let accepted = match begin(manner.ends, bench, boxes, writer) {
         Ok(accepted) => accepted,
         Err(fault) => return Err(fault),
     };

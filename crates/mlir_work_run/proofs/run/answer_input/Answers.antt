@@ -24,7 +24,7 @@ pub returns-then-asks_for_prints : goal.returns-then-asks_for_prints
 returns-then-asks_for_prints g c =
     let meant : Module = record { tree = meaning c.in-Ok.parts.0.0 c.in-Ok.parts.0.1; next = op_count c.in-Ok.parts.0.1 } in
     let world = world_is (module_text c.args.input.items) c.in-Ok.parts.0.0 c.in-Ok.parts.0.1 meant c.in-Ok.ensures.read refl in
-    let ran = rw (c.deref-then-asks_for_prints.ensures.value, c.deref-then-asks_for_prints-2.ensures.value, c.in-Ok.ensures.script) at (c.answer_prints.ensures (manner_of c.args.options (length c.args.input.items)) (op_count c.in-Ok.parts.0.1)) in
+    let ran = rw (c.deref-then-asks_for_prints.ensures.value, c.deref-then-asks_for_prints-2.ensures.value, c.in-Ok.ensures.script) at (c.answer_prints.ensures (manner_of c.args.options (length c.args.input.items)) (op_count c.in-Ok.parts.0.1) (c.if-asks_for_prints.ensures.endless refl)) in
     ran_so (IsSession (manner_of c.args.options (length c.args.input.items)) (all_shown g.L.Analysis.meaning c.args.boxes.items) meant (script_text c.args.input.items)) (IsOutput c.args.options (all_shown g.L.Analysis.meaning c.args.boxes.items) c.args.input.items) (g.W.Sink.stream c.args.writer.now) (g.W.Sink.stream c.answer_prints.new.writer) (g.W.Sink.handed c.answer_prints.new.writer) c.answer_prints.result (λ st o h. inr (c.requires, inr (meant, world, h))) ran
 
 pub returns-in_default : goal.returns-in_default

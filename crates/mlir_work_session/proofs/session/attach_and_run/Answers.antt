@@ -1,8 +1,3 @@
-use Rattle.std.proofs.Common.{subst}
-use Rattle.rewriter.specs.Machine.{State}
-use Rattle.mlir_work_script.specs.Lines.{lines_of}
-use Rattle.mlir_work_session.specs.Output.{Runs}
-use Rattle.mlir_work_session.proofs.Reading.{begun_state}
 use Rattle.rewriter.specs.Held.{module_held}
 use Rattle.rewriter.specs.Panels.{all_shown}
 use Rattle.mlir_work_session.proofs.Sessions.{session_ran, session_cut, session_begun}
@@ -10,19 +5,17 @@ use Rattle.mlir_work_session.proofs.session.attach_and_run.Goals as goal
 
 pub returns-in-Err : goal.returns-in-Err
 returns-in-Err g c =
-    let had = rw c.requires.none at c.in-Err.ensures.attached in
-    session_begun c.args.manner.now (all_shown g.L.Analysis.meaning c.args.boxes.items) (module_held c.args.bench.now.desk) c.args.script.now (g.W.Sink.stream c.args.writer.now) (g.W.Sink.stream c.attach_all.new.writer) had.0 had.1 had.2 had.3 had.4
+    let had = c.in-Err.ensures.begun in
+    session_begun c.args.manner.now (all_shown g.L.Analysis.meaning c.args.boxes.items) (module_held c.args.bench.now.desk) c.args.script.now (g.W.Sink.stream c.args.writer.now) (g.W.Sink.stream c.begin.new.writer) had.0 had.1 had.2 had.3 had.4
 
 pub returns-in-Ok-run_script : goal.returns-in-Ok-run_script
 returns-in-Ok-run_script g c =
-    let had = rw c.requires.none at c.in-Ok.ensures.attached in
-    let same = begun_state g.L.Analysis.meaning c.args.bench.now c.attach_all.new.bench c.attach_all.ensures.desk c.requires.unmarked in
+    let had = c.in-Ok.ensures.begun in
     let ran = c.in-Ok-run_script.ensures in
-    rw c.worse.ensures (session_ran c.args.manner.now (all_shown g.L.Analysis.meaning c.args.boxes.items) (module_held c.args.bench.now.desk) c.args.script.now _ _ _ _ c.in-Ok.accepted had.0 c.in-Ok-run_script.status ran.0 had.1 had.2 (subst (λ (s : State). Runs c.args.manner.now 1 s (lines_of c.args.script.now) c.in-Ok-run_script.status ran.0) same ran.1) ran.2)
+    rw c.worse.ensures (session_ran c.args.manner.now (all_shown g.L.Analysis.meaning c.args.boxes.items) (module_held c.args.bench.now.desk) c.args.script.now _ _ _ _ c.in-Ok.accepted had.0 c.in-Ok-run_script.status ran.0 had.1 had.2 ran.1 ran.2)
 
 pub returns-in-Err-run_script : goal.returns-in-Err-run_script
 returns-in-Err-run_script g c =
-    let had = rw c.requires.none at c.in-Ok.ensures.attached in
-    let same = begun_state g.L.Analysis.meaning c.args.bench.now c.attach_all.new.bench c.attach_all.ensures.desk c.requires.unmarked in
+    let had = c.in-Ok.ensures.begun in
     let ran = c.in-Err-run_script.ensures in
-    session_cut c.args.manner.now (all_shown g.L.Analysis.meaning c.args.boxes.items) (module_held c.args.bench.now.desk) c.args.script.now _ _ _ _ c.in-Ok.accepted had.0 ran.0 ran.1 had.1 had.2 (subst (λ (s : State). Runs c.args.manner.now 1 s (lines_of c.args.script.now) ran.0 ran.1) same ran.2) ran.3
+    session_cut c.args.manner.now (all_shown g.L.Analysis.meaning c.args.boxes.items) (module_held c.args.bench.now.desk) c.args.script.now _ _ _ _ c.in-Ok.accepted had.0 ran.0 ran.1 had.1 had.2 ran.2 ran.3

@@ -1,0 +1,161 @@
+-- Inputs up to a line.
+use Rattle.std.proofs.Common.{◌≡◌, ◌∙◌, sym, ap, subst, refl, ℕ, ◌+◌, ◌<◌, ◌≤◌, List, [], ◌∷◌, ◌++◌, length, length-append, append_assoc, append-nil, arith, Bool, true, false, ◌&&◌, ◌⊎◌, inl, inr, Option, Some, None}
+use Rattle.std.specs.Prelude.{IfSome, codes, if◌then◌else◌}
+use Rattle.std.specs.Str.{bytes_eq}
+use Rattle.mlir_work_session.specs.Lines.{is_newline, line_of, after_line}
+use Rattle.mlir_work_session.specs.Limits.{most_input_bytes, most_script_bytes}
+use Rattle.mlir_work_session.specs.Panels.{Shown}
+use Rattle.mlir_work_session.specs.Parts.{IsSplit, at_divider, module_from, module_text, script_from, script_text}
+use Rattle.mlir_work_session.specs.Writes.{Stream, joined}
+use Rattle.mlir_work_session.proofs.Dividing.{divided}
+use Rattle.mlir_work_run.specs.Live.{AreFirst, IsLive, IsLiveOf, IsWholeUpTo, LiveEndedAt, up_to, whole_lines}
+use Rattle.mlir_work_run.specs.Whole.{IsOutput}
+use Rattle.mlir_work_run.specs.declared.run.Options.{Options}
+use Rattle.mlir_work_run.proofs.Lives.{FirstOf, IsWhole, first_of}
+use Rattle.mlir_work_run.proofs.Within.{joined_same, live_whole}
+
+-- ---- lines
+
+tail_of : {A : Type 0} {x y : A} {xs ys : List A} → x ∷ xs ≡ y ∷ ys → (x ≡ y) × (xs ≡ ys)
+tail_of e = (cc, cc)
+
+none_left : {A : Type 0} (xs ys : List A) → [] ≡ xs ++ ys → xs ≡ []
+none_left [] ys e = refl
+none_left (x ∷ xs) ys e = absurd (cc)
+
+-- the first lines of a text are the lines of these bytes
+again : (line : List ℕ) (lines : List (List ℕ)) (rest : List ℕ) (others : List (List ℕ)) → IsWhole line rest → whole_lines rest ≡ lines ++ others → whole_lines (joined lines) ≡ lines → whole_lines (joined (line ∷ lines)) ≡ line ∷ lines
+again line lines rest others (inl closed) more ih = closed (joined lines) ∙ ap (λ (ls : List (List ℕ)). line ∷ ls) ih
+again line lines rest others (inr (none, one)) more ih =
+    let ended : lines ≡ [] = none_left lines others (rw none at more) in
+    rw ended (rw append-nil one)
+
+lines_again : (lines : List (List ℕ)) (bs : List ℕ) (others : List (List ℕ)) → whole_lines bs ≡ lines ++ others → whole_lines (joined lines) ≡ lines
+lines_again [] bs others e = refl
+lines_again (line ∷ lines) bs others e = go (first_of bs)
+  where
+    go : (bs ≡ []) ⊎ FirstOf bs → whole_lines (joined (line ∷ lines)) ≡ line ∷ lines
+    go (inl none) = absurd (let f : [] ≡ line ∷ (lines ++ others) = rw none at e in cc)
+    go (inr (first, is, cut, whole)) =
+        let both = tail_of (sym cut ∙ e) in
+        again line lines (after_line bs) others (rw both.0 at whole) both.1 (lines_again lines (after_line bs) others both.1)
+
+joined_both : (xs ys : List (List ℕ)) → joined (xs ++ ys) ≡ joined xs ++ joined ys
+joined_both [] ys = refl
+joined_both (x ∷ xs) ys = ap (λ (zs : List ℕ). x ++ zs) (joined_both xs ys) ∙ sym (append_assoc x (joined xs) (joined ys))
+
+-- ---- a module by itself
+
+line_at : (b : ℕ) (bs cs : List ℕ) (t : Bool) → is_newline b ≡ t → line_of bs ≡ line_of cs → line_of (b ∷ bs) ≡ line_of (b ∷ cs)
+line_at b bs cs true e h = rw (e, e) refl
+line_at b bs cs false e h = rw (e, e) (ap (λ (xs : List ℕ). b ∷ xs) h)
+
+line_stays : (bs : List ℕ) → line_of (module_from false bs) ≡ line_of bs
+line_stays [] = refl
+line_stays (b ∷ bs) = go (is_newline b) refl
+  where
+    go : (t : Bool) → is_newline b ≡ t → line_of (b ∷ module_from (is_newline b) bs) ≡ line_of (b ∷ bs)
+    go true e = rw e refl
+    go false e = rw e (ap (λ (xs : List ℕ). b ∷ xs) (line_stays bs))
+
+first_stays : (b : ℕ) (bs : List ℕ) (t : Bool) → is_newline b ≡ t → line_of (b ∷ module_from (is_newline b) bs) ≡ line_of (b ∷ bs)
+first_stays b bs true e = rw e refl
+first_stays b bs false e = rw e (ap (λ (xs : List ℕ). b ∷ xs) (line_stays bs))
+
+same_divider : (start : Bool) (xs ys : List ℕ) (t : Bool) → line_of xs ≡ line_of ys → (start && at_divider ys) ≡ t → (start && at_divider xs) ≡ t
+same_divider start xs ys t e h = ap (λ (zs : List ℕ). start && bytes_eq zs (codes "// -----")) e ∙ h
+
+-- it has no divider
+abbrev IsModule : Bool → List ℕ → Type 0
+IsModule start bs = (module_from start (module_from start bs) ≡ module_from start bs) × (script_from start (module_from start bs) ≡ [])
+
+module_at : (start : Bool) (b : ℕ) (bs : List ℕ) (t : Bool) → (start && at_divider (b ∷ bs)) ≡ t → IsModule (is_newline b) bs → IsModule start (b ∷ bs)
+module_at start b bs true e h = rw e (refl, refl)
+module_at start b bs false e h =
+    let here : (start && at_divider (b ∷ module_from (is_newline b) bs)) ≡ false = same_divider start (b ∷ module_from (is_newline b) bs) (b ∷ bs) false (first_stays b bs (is_newline b) refl) e in
+    rw e (rw here (ap (λ (xs : List ℕ). b ∷ xs) h.0, h.1))
+
+module_alone : (start : Bool) (bs : List ℕ) → IsModule start bs
+module_alone start [] = (refl, refl)
+module_alone start (b ∷ bs) = module_at start b bs (start && at_divider (b ∷ bs)) refl (module_alone (is_newline b) bs)
+
+-- ---- a module with another script
+
+abbrev dividing : List ℕ → List ℕ → List ℕ
+dividing text script = text ++ (codes "// -----" ++ 10 ∷ script)
+
+line_before : (text xs ys : List ℕ) → line_of (dividing text xs) ≡ line_of (dividing text ys)
+line_before [] xs ys = refl
+line_before (b ∷ text) xs ys = line_at b (dividing text xs) (dividing text ys) (is_newline b) refl (line_before text xs ys)
+
+abbrev Has : Bool → List ℕ → List ℕ → Type 0
+Has start text script = (module_from start (dividing text script) ≡ text) × (script_from start (dividing text script) ≡ script)
+
+other_at : (start : Bool) (b : ℕ) (text xs ys : List ℕ) (t : Bool) → (start && at_divider (b ∷ dividing text xs)) ≡ t → module_from start (b ∷ dividing text xs) ≡ b ∷ text → (module_from (is_newline b) (dividing text xs) ≡ text → Has (is_newline b) text ys) → Has start (b ∷ text) ys
+other_at start b text xs ys true e h ih = absurd (let f : [] ≡ b ∷ text = rw e at h in cc)
+other_at start b text xs ys false e h ih =
+    let here : (start && at_divider (b ∷ dividing text ys)) ≡ false = same_divider start (b ∷ dividing text ys) (b ∷ dividing text xs) false (line_before (b ∷ text) ys xs) e in
+    let rest = ih (tail_of (rw e at h)).1 in
+    rw here (ap (λ (zs : List ℕ). b ∷ zs) rest.0, rest.1)
+
+other_script : (start : Bool) (text xs ys : List ℕ) → module_from start (dividing text xs) ≡ text → Has start text ys
+other_script true [] xs ys h = (refl, refl)
+other_script false [] xs ys h = absurd (cc)
+other_script start (b ∷ text) xs ys h = other_at start b text xs ys (start && at_divider (b ∷ dividing text xs)) refl h (λ k. other_script (is_newline b) text xs ys k)
+
+-- an input is divided where it has a script
+is_divided : (input text : List ℕ) (b : ℕ) (bs : List ℕ) → IsSplit input text (b ∷ bs) → input ≡ dividing text (b ∷ bs)
+is_divided input text b bs (inl (end, is, inl ends)) = is ∙ ap (λ (xs : List ℕ). text ++ (codes "// -----" ++ xs)) ends
+is_divided input text b bs (inl (end, is, inr (ends, none))) = absurd (cc)
+is_divided input text b bs (inr (is, none)) = absurd (cc)
+
+-- ---- both
+
+-- an input up to a line has the module of the input, and the lines up to this one
+abbrev Begins : List ℕ → List (List ℕ) → Type 0
+Begins input lines = (module_text (up_to (module_text input) lines) ≡ module_text input) × (whole_lines (script_text (up_to (module_text input) lines)) ≡ lines) × (script_text (up_to (module_text input) lines) ≡ joined lines) × (length (up_to (module_text input) lines) ≤ length input)
+
+shorter : (input text : List ℕ) (script : List ℕ) → IsSplit input text script → length text ≤ length input
+shorter input text script (inl (end, is, ends)) = omega (arith, ap length is, length-append text (codes "// -----" ++ end))
+shorter input text script (inr (is, none)) = omega (arith, ap length is)
+
+begins_some : (input script line : List ℕ) (lines others : List (List ℕ)) → script_text input ≡ script → whole_lines script ≡ (line ∷ lines) ++ others → Begins input (line ∷ lines)
+begins_some input [] line lines others is e = absurd (cc)
+begins_some input (b ∷ bs) line lines others is e =
+    let text = module_text input in
+    let new = joined (line ∷ lines) in
+    let split : IsSplit input text (b ∷ bs) = rw is at (divided true input) in
+    let cut : input ≡ dividing text (b ∷ bs) = is_divided input text b bs split in
+    let had : module_from true (dividing text (b ∷ bs)) ≡ text = sym (ap (module_from true) cut) in
+    let has = other_script true text (b ∷ bs) new had in
+    let all : b ∷ bs ≡ new ++ joined others = sym (joined_same (b ∷ bs)) ∙ ap joined e ∙ joined_both (line ∷ lines) others in (
+      has.0,
+      ap whole_lines has.1 ∙ lines_again (line ∷ lines) (b ∷ bs) others e,
+      has.1,
+      omega (arith, ap length cut, ap length all, length-append new (joined others), length-append text (codes "// -----" ++ 10 ∷ (b ∷ bs)), length-append text (codes "// -----" ++ 10 ∷ new), length-append (codes "// -----") (10 ∷ (b ∷ bs)), length-append (codes "// -----") (10 ∷ new)),
+    )
+
+begins : (input : List ℕ) (lines : List (List ℕ)) → AreFirst (whole_lines (script_text input)) lines → Begins input lines
+begins input [] first =
+    let alone = module_alone true input in
+    (alone.0, ap whole_lines alone.1, alone.1, shorter input (module_text input) (script_text input) (divided true input))
+begins input (line ∷ lines) (others, e) = begins_some input (script_text input) line lines others refl e
+
+module _ (options : Options) (boxes : List Shown) (input : List ℕ) where
+  -- what answers some lines of an input is an output of the input up to them
+  pub live_up_to : (lines : List (List ℕ)) (status : ℕ) (out : List ℕ) → AreFirst (whole_lines (script_text input)) lines → IsLiveOf options boxes input lines status out → IsWholeUpTo options boxes input lines status out
+  live_up_to lines status out first (inl many) short few = absurd (let long = many.0 in omega (arith, long, short))
+  live_up_to lines status out first (inr live) short few =
+      let new = up_to (module_text input) lines in
+      let b = begins input lines first in
+      live_whole options boxes new status out (let l = b.3 in omega (arith, l, short)) (rw (b.2) few) (rw (b.0, b.1) live)
+
+  so_at : (a b : Stream) (handed : Bool) (status : ℕ) → LiveEndedAt (IsLiveOf options boxes input) (whole_lines (script_text input)) a b handed status → LiveEndedAt (IsWholeUpTo options boxes input) (whole_lines (script_text input)) a b handed status
+  so_at a b handed status (inl (final, (o, p, h))) = inl (final, (o, live_up_to (whole_lines (script_text input)) status o ([], sym (append-nil (whole_lines (script_text input)))) p, h))
+  so_at a b handed status (inr (four, inl (on, inl h))) = inr (four, inl (on, inl h))
+  so_at a b handed status (inr (four, inl (on, inr (lines, st, o, first, p, h)))) = inr (four, inl (on, inr (lines, st, o, first, live_up_to lines st o first p, h)))
+  so_at a b handed status (inr (four, inr (lines, st, o, first, p, h))) = inr (four, inr (lines, st, o, first, live_up_to lines st o first p, h))
+
+pub live_at_whole : (options : Options) (boxes : List Shown) (o : Option (List ℕ)) (a b : Stream) (handed : Bool) (status : ℕ) → IfSome o (λ input. LiveEndedAt (IsLiveOf options boxes input) (whole_lines (script_text input)) a b handed status) → IfSome o (λ input. LiveEndedAt (IsWholeUpTo options boxes input) (whole_lines (script_text input)) a b handed status)
+live_at_whole options boxes None a b handed status h = tt
+live_at_whole options boxes (Some input) a b handed status h = so_at options boxes input a b handed status h

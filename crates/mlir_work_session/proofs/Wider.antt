@@ -1,0 +1,73 @@
+-- What is an answer in an input is one in a longer input.
+use Rattle.std.proofs.Common.{◌≡◌, ◌+◌, ◌≤◌, ◌⊎◌, inl, inr, ℕ, List, length, arith, Option, Some, None}
+use Rattle.ir_types.specs.declared.refusal.Refusal.{Refusal}
+use Rattle.ir_event.specs.Modules.{Module}
+use Rattle.rewriter.specs.Commands as command
+use Rattle.rewriter.specs.Commands.{Asked, Ask, CanFill, Command, Misplaced, Response, TextRefused, TextRefusedAt, Unread}
+use Rattle.rewriter.specs.Machine.{State}
+use Rattle.mlir_work_script.specs.Commands.{Spoken, Nothing, Bad, Obey}
+use Rattle.mlir_work_session.specs.Machine.{AsksIn, Obeys}
+use Rattle.mlir_work_session.specs.Output.{IsBounded, Line, Manner, Replied, Replies}
+
+module _ (manner : Manner) (bytes : ℕ) (longer : manner.bytes ≤ bytes) where
+  abbrev pub wider : Manner
+  wider = record manner { bytes = bytes }
+
+  fills : CanFill manner.bytes → CanFill bytes
+  fills h = omega (arith, h, longer)
+
+  text_wider : {X : Type 0} (IsRefusal : Refusal → Option ℕ → Type 0) (Spelled : X → Type 0) (refusal : Refusal) (offset : Option ℕ) → TextRefused manner.bytes IsRefusal Spelled refusal offset → TextRefused bytes IsRefusal Spelled refusal offset
+  text_wider IsRefusal Spelled refusal offset (is, inl none) = (is, inl none)
+  text_wider IsRefusal Spelled refusal offset (is, inr (inl (many, h))) = (is, inr (inl (many, fills h)))
+  text_wider IsRefusal Spelled refusal offset (is, inr (inr memory)) = (is, inr (inr memory))
+
+  asks_wider : (c : Command) (m : Module) (asked : Asked) → AsksIn manner c m asked → AsksIn wider c m asked
+  asks_wider (command.Erase x) m asked h = h
+  asks_wider (command.Move x spot) m asked h = h
+  asks_wider (command.Insert spot text) m (Ask call) h = h
+  asks_wider (command.Insert spot text) m (Misplaced refusal) h = h
+  asks_wider (command.Insert spot text) m (Unread refusal offset) h = text_wider _ _ refusal offset h
+  asks_wider (command.SetOperand x k v) m asked h = h
+  asks_wider (command.Replace old new) m asked h = h
+  asks_wider (command.SetAttr x key text) m (Ask call) h = h
+  asks_wider (command.SetAttr x key text) m (Misplaced refusal) h = h
+  asks_wider (command.SetAttr x key text) m (Unread refusal offset) h = text_wider _ _ refusal offset h
+  asks_wider (command.DropAttr x key) m asked h = h
+  asks_wider (command.Canon limit) m asked h = h
+  asks_wider (command.Convert target) m asked h = h
+  asks_wider (command.Apply name x) m asked h = h
+  asks_wider command.Sweep m asked h = h
+  asks_wider command.Begin m asked h = h
+  asks_wider command.Commit m asked h = h
+  asks_wider command.Rollback m asked h = h
+  asks_wider (command.Detach kind) m asked h = h
+  asks_wider (command.Resync kind) m asked h = h
+  asks_wider (command.Report kind) m asked h = h
+  asks_wider command.Print m asked h = h
+
+  replies_wider : (s : State) (spoken : Spoken) (response : Response) (shows : List ℕ) (t : State) → Replies manner s spoken response shows t → Replies wider s spoken response shows t
+  replies_wider s Nothing response shows t h = absurd h
+  replies_wider s Bad response shows t h = h
+  replies_wider s (Obey said) response shows t h = record { asked = h.asked; shows = h.shows; asks = asks_wider said s.held h.asked h.asks; follows = h.follows; text = h.text }
+
+  module _ (Rest More : ℕ → State → ℕ → List ℕ → Type 0) (goes_on : (m : ℕ) (t : State) (st : ℕ) (o : List ℕ) → Rest m t st o → More m t st o) where
+    replied_wider : (n : ℕ) (s : State) (spoken : Spoken) (status : ℕ) (out : List ℕ) → Replied Rest manner n s spoken status out → Replied More wider n s spoken status out
+    replied_wider n s spoken status out h = record {
+      response = h.response;
+      shows = h.shows;
+      after = h.after;
+      text = h.text;
+      later = h.later;
+      rest = h.rest;
+      replies = replies_wider s spoken h.response h.shows h.after h.replies;
+      replied = h.replied;
+      full = λ refusal offset is. (let least = h.full refusal offset is in omega (arith, least, longer));
+      goes_on = goes_on (n + 1) h.after h.later h.rest h.goes_on;
+      status_is = h.status_is;
+      out_is = h.out_is;
+    }
+
+    pub line_wider : (n : ℕ) (s : State) (spoken : Spoken) (status : ℕ) (out : List ℕ) → Line Rest manner n s spoken status out → Line More wider n s spoken status out
+    line_wider n s Nothing status out h = goes_on n s status out h
+    line_wider n s Bad status out h = replied_wider n s Bad status out h
+    line_wider n s (Obey said) status out h = replied_wider n s (Obey said) status out h

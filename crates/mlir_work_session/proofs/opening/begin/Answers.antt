@@ -1,0 +1,41 @@
+use Rattle.std.proofs.Common.{◌++◌, refl}
+use Rattle.rewriter.specs.Held.{module_held}
+use Rattle.rewriter.specs.Panels.{all_shown}
+use Rattle.mlir_work_script.proofs.Joins.{front_join, front_more, grows_join}
+use Rattle.mlir_work_session.specs.Output.{end_of}
+use Rattle.mlir_work_session.proofs.Reading.{begun_state}
+use Rattle.mlir_work_session.proofs.opening.begin.Goals as goal
+
+pub returns-in-Err-clause-begun : goal.returns-in-Err-clause-begun
+returns-in-Err-clause-begun g c =
+    let had = rw c.requires.none at c.in-Err.ensures.attached in (
+      record { held = module_held c.args.bench.now.desk; marks = []; panel = had.0 },
+      had.1,
+      had.2 ++ end_of c.args.ends,
+      record { panel = had.0; front = had.2; attached = had.3; state_is = refl; out_is = refl },
+      front_more _ _ had.2 (end_of c.args.ends) had.4,
+    )
+
+pub returns-in-Ok-put_end-clause-begun : goal.returns-in-Ok-put_end-clause-begun
+returns-in-Ok-put_end-clause-begun g c =
+    let had = rw c.requires.none at c.in-Ok.ensures.attached in (
+      had.0 ++ end_of c.args.ends,
+      record {
+        panel = all_shown g.L.Analysis.meaning c.attach_all.new.bench.listeners;
+        front = had.0;
+        attached = had.1;
+        state_is = begun_state g.L.Analysis.meaning c.args.bench.now c.attach_all.new.bench c.attach_all.ensures.desk c.requires.unmarked;
+        out_is = refl;
+      },
+      grows_join _ _ _ had.0 (end_of c.args.ends) had.2 c.in-Ok-put_end.ensures,
+    )
+
+pub returns-in-Err-put_end-clause-begun : goal.returns-in-Err-put_end-clause-begun
+returns-in-Err-put_end-clause-begun g c =
+    let had = rw c.requires.none at c.in-Ok.ensures.attached in (
+      record { held = module_held c.args.bench.now.desk; marks = []; panel = all_shown g.L.Analysis.meaning c.attach_all.new.bench.listeners },
+      c.in-Ok.accepted,
+      had.0 ++ end_of c.args.ends,
+      record { panel = all_shown g.L.Analysis.meaning c.attach_all.new.bench.listeners; front = had.0; attached = had.1; state_is = refl; out_is = refl },
+      front_join _ _ _ had.0 (end_of c.args.ends) had.2 c.in-Err-put_end.ensures,
+    )

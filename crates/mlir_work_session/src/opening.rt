@@ -1,0 +1,37 @@
+//! How a session begins: listeners are attached to a module that was read.
+ghost use Rattle.std.specs.Prelude.{◌≡◌, []};
+ghost use Rattle.rewriter.specs.Benched.{IsKept, state_of};
+ghost use Rattle.rewriter.specs.Held.{module_held, open_marks};
+ghost use Rattle.rewriter.specs.Panels.{all_shown};
+ghost use Rattle.mlir_work_session.specs.Output.{Begun};
+ghost use Rattle.mlir_work_session.specs.Ran.{AttachedOut};
+
+use crate::boxes::attach_all;
+use crate::script::put_end;
+use ir_event::analysis::Analysis;
+use mlir_work_script::sink::Sink;
+use mlir_work_script::writing::WriteFault;
+use rewriter::Bench;
+
+/// Begins a session over a bench without listeners and without open marks: attaches these, in order, writes a line for
+/// each that is refused, and, where `ends` says so, an empty line behind them. It is true where none is refused.
+pub fn begin<L: Analysis, W: Sink>(
+    ends: bool,
+    bench: &mut Bench<L>,
+    boxes: Vec<L>,
+    writer: &mut W,
+) -> Result<bool, WriteFault>
+    requires none { bench.old.listeners ≡ [] }
+    requires unmarked { open_marks bench.old.desk ≡ [] }
+    ensures begun { AttachedOut (Begun ends (all_shown L.meaning boxes.items) (module_held bench.old.desk)) (state_of L.meaning bench.new) (W.stream writer.old) (W.stream writer.new) result }
+    ensures kept { IsKept L.meaning bench.new }
+{
+    let accepted = match attach_all(bench, boxes, writer) {
+        Ok(accepted) => accepted,
+        Err(fault) => return Err(fault),
+    };
+    match put_end(writer, ends) {
+        Ok(()) => Ok(accepted),
+        Err(fault) => Err(fault),
+    }
+}
