@@ -1,18 +1,22 @@
-//! Runs a script over a module: `mlir_work [--brief] [--limit N] [--interactive]`.
+//! Runs a script over a module: `mlir_work [OPTIONS] [MODULE]`.
 #![tactic(auto)]
 
+mod files;
+
+use crate::files::{Fault, input, names_any, output_of};
 use clap::Error;
 use clap::error::ErrorKind;
 use mlir_work_listeners::seven::all_listeners;
+use mlir_work_run::dry::Bytes;
 use mlir_work_run::live::run_live;
-use mlir_work_run::options::options_of;
+use mlir_work_run::options::{Given, options_of};
 use mlir_work_run::run::{Options, run_watched};
 use mlir_work_run::watched::Watched;
 use std::alloc::AllocError;
 use std::io::BufWriter;
 use std::process::ExitCode;
 use std::random::RandomSource;
-use std::{env, io};
+use std::{env, fs, io};
 
 /// Says that there is no memory to begin a run, and gives the status.
 fn no_memory(rt: &HostRuntime) -> u8 {
@@ -55,6 +59,55 @@ fn answer_words(rt: &HostRuntime, error: &Error) -> u8 {
     if printed.is_ok() { 0 } else { 4 }
 }
 
+/// Says why there is no input, and gives the status.
+fn refuse_input(rt: &HostRuntime, fault: &Fault<'_>) -> u8 {
+    match fault {
+        Fault::Memory => return no_memory(rt),
+        Fault::Unread(name) => {
+            let _ = eprintln!(rt; "error: {name}: it can't be read");
+        }
+        Fault::TooLong(name) => {
+            let _ = eprintln!(rt; "error: {name}: it is longer than an input may be");
+        }
+    }
+    2
+}
+
+/// Runs an input that is there, and gives the status.
+fn run_input<W: io::Write + Drop>(
+    rt: &HostRuntime,
+    options: Options,
+    input: &[u8],
+    writer: W,
+) -> Result<u8, AllocError> {
+    let listeners = all_listeners(rt.alloc())?;
+    let Ok(writer) = BufWriter::new(rt.alloc(), writer) else {
+        return Err(AllocError);
+    };
+    let mut reader = Bytes { rest: input };
+    let mut writer = Watched::new(writer);
+    let key = key_of(rt);
+    Ok(run_watched(rt.alloc(), key, options, &mut reader, &mut writer, listeners))
+}
+
+/// Runs what the command line names, and gives the status.
+fn run_named(rt: &HostRuntime, given: &Given<'_>) -> Result<u8, AllocError> {
+    let input = match input(rt, given) {
+        Ok(input) => input,
+        Err(fault) => return Ok(refuse_input(rt, &fault)),
+    };
+    let Some(name) = output_of(given) else {
+        return run_input(rt, given.options, &input, io::writer(rt));
+    };
+    match fs::create(rt, name) {
+        Ok(file) => run_input(rt, given.options, &input, file),
+        Err(_) => {
+            let _ = eprintln!(rt; "error: {name}: it can't be written");
+            Ok(2)
+        }
+    }
+}
+
 /// Runs with the analyses of the program, in the order of their kinds, and gives the status. With `--interactive` each
 /// line is answered as soon as it is there, and else all is read first.
 fn run_all(rt: &HostRuntime, options: Options) -> Result<u8, AllocError> {
@@ -72,16 +125,24 @@ fn run_all(rt: &HostRuntime, options: Options) -> Result<u8, AllocError> {
     })
 }
 
+/// Runs what the command line says, and gives the status.
+fn run_given(rt: &HostRuntime, given: &Given<'_>) -> Result<u8, AllocError> {
+    if names_any(given) || output_of(given).is_some() {
+        return run_named(rt, given);
+    }
+    run_all(rt, given.options)
+}
+
 fn main(rt: HostRuntime) -> ExitCode {
     let words = match words_of(&rt) {
         Ok(words) => words,
         Err(error) => return ExitCode::from(refuse_words(&rt, &error)),
     };
-    let options = match options_of(rt.alloc(), &words) {
-        Ok(options) => options,
+    let given = match options_of(rt.alloc(), &words) {
+        Ok(given) => given,
         Err(error) => return ExitCode::from(answer_words(&rt, &error)),
     };
-    match run_all(&rt, options) {
+    match run_given(&rt, &given) {
         Ok(status) => ExitCode::from(status),
         Err(_) => ExitCode::from(no_memory(&rt)),
     }

@@ -15,8 +15,9 @@ use std::io::Read;
 
 /// Bytes in memory. No read of them fails or is interrupted, and none is counted.
 #[derive(Drop)]
-struct Bytes<'a> {
-    rest: &'a [u8],
+pub struct Bytes<'a> {
+    /// Those that weren't read yet.
+    pub rest: &'a [u8],
 }
 
 impl Source for Bytes<'_> {

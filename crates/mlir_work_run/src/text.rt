@@ -8,9 +8,21 @@ pub(crate) const ABOUT: &str = "\
 Edits an MLIR module in generic text form by a script, and reports analyses that
 are kept up to date.
 
-Standard input is the module, a line that is exactly `// -----`, and the script;
-without such a line the script is empty. The replies, the module and the rows of
-analyses go to standard output.";
+Standard input, or the file MODULE, is the module, a line that is exactly
+`// -----`, and the script; without such a line the script is empty. The replies,
+the module and the rows of analyses go to standard output.";
+
+/// What is said of MODULE.
+pub(crate) const MODULE: &str = "The module, with a script behind it or without; `-` is standard input";
+
+/// What `--script` says.
+pub(crate) const SCRIPT: &str = "A further script, behind the one of MODULE; it may stand more than once";
+
+/// What `--command` says.
+pub(crate) const COMMAND: &str = "A further command, behind all scripts; it may stand more than once";
+
+/// What `--output` says.
+pub(crate) const OUTPUT: &str = "Where the output goes to, in place of standard output";
 
 /// What `--brief` says.
 pub(crate) const BRIEF: &str = "Leave out the module and all rows behind each edit";

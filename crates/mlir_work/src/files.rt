@@ -1,0 +1,96 @@
+//! The input of a run from files and commands that the command line names, and its output to a file.
+
+use mlir_work_inputs::inputs::input_of;
+use mlir_work_run::input::{ReadFault, read_all};
+use mlir_work_run::options::Given;
+use std::alloc::Global;
+use std::{fs, io};
+
+/// The name that stands for standard input and standard output.
+const STANDARD: &str = "-";
+
+/// Why there is no input.
+#[derive(Clone, Copy)]
+pub(crate) enum Fault<'a> {
+    /// There is no memory for it.
+    Memory,
+    /// The file can't be opened or read.
+    Unread(&'a str),
+    /// The file has more bytes than an input may have.
+    TooLong(&'a str),
+}
+
+/// The file that the output goes to, where it isn't standard output.
+pub(crate) fn output_of<'a>(given: &Given<'a>) -> Option<&'a str> {
+    match given.output {
+        Some(name) => {
+            if name == STANDARD {
+                return None;
+            }
+            Some(name)
+        }
+        None => None,
+    }
+}
+
+/// Whether the input comes from files or commands.
+pub(crate) fn names_any(given: &Given<'_>) -> bool {
+    given.module.is_some() || !given.scripts.is_empty() || !given.commands.is_empty()
+}
+
+/// The bytes of a file that was opened.
+fn read<'a, R: io::Read>(alloc: Global, reader: &mut R, name: &'a str) -> Result<Vec<u8>, Fault<'a>> {
+    match read_all(alloc, reader) {
+        Ok(bytes) => Ok(bytes),
+        Err(ReadFault::Memory) => Err(Fault::Memory),
+        Err(ReadFault::TooMany) => Err(Fault::TooLong(name)),
+        Err(ReadFault::Broken) => Err(Fault::Unread(name)),
+    }
+}
+
+/// The bytes of a file, or of standard input.
+fn text_of<'a>(rt: &HostRuntime, name: &'a str) -> Result<Vec<u8>, Fault<'a>> {
+    if name == STANDARD {
+        return read(rt.alloc(), &mut rt.stdin(), name);
+    }
+    match fs::open(rt, name) {
+        Ok(mut file) => read(rt.alloc(), &mut file, name),
+        Err(_) => Err(Fault::Unread(name)),
+    }
+}
+
+/// Puts the scripts of files behind others.
+fn put_files<'a>(rt: &HostRuntime, scripts: &mut Vec<Vec<u8>>, names: &[&'a str]) -> Result<(), Fault<'a>> {
+    for name in names {
+        let text = text_of(rt, *name)?;
+        if scripts.push(text).is_err() {
+            return Err(Fault::Memory);
+        }
+    }
+    Ok(())
+}
+
+/// Puts commands behind scripts.
+fn put_commands<'a>(alloc: Global, scripts: &mut Vec<Vec<u8>>, commands: &[&'a str]) -> Result<(), Fault<'a>> {
+    for command in commands {
+        let Ok(text) = Vec::from_slice(alloc, command.as_bytes()) else {
+            return Err(Fault::Memory);
+        };
+        if scripts.push(text).is_err() {
+            return Err(Fault::Memory);
+        }
+    }
+    Ok(())
+}
+
+/// One input of all that the command line names. Without the name of a module standard input has it.
+pub(crate) fn input<'a>(rt: &HostRuntime, given: &Given<'a>) -> Result<Vec<u8>, Fault<'a>> {
+    let module = text_of(rt, given.module.unwrap_or(STANDARD))?;
+    let mut scripts = Vec::new(rt.alloc());
+    put_files(rt, &mut scripts, &given.scripts)?;
+    put_commands(rt.alloc(), &mut scripts, &given.commands)?;
+    match input_of(rt.alloc(), module, &scripts) {
+        Ok(input) => Ok(input),
+        Err(_) => Err(Fault::Memory),
+    }
+}
