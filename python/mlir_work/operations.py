@@ -121,8 +121,9 @@ def _entries(text: str, opens: str) -> Tuple[Dict[str, str], str]:
     `unit`."""
     if not text.startswith(opens):
         return {}, text
+    found: Dict[str, str] = {}
     text, margin = text[1:], len(opens) - 1
-    end, found = _closed(text), {}
+    end = _closed(text)
     for part in _parts(text[margin:end - margin]):
         entry = _ENTRY.fullmatch(part)
         if entry:
@@ -175,7 +176,7 @@ class _Listing:
         head = _HEAD.match(it.text)
         if not head:
             raise ValueError(f"{it.text!r} is no operation")
-        arguments = {}
+        arguments: Dict[Argument, str] = {}
         for region, text in it.arguments:
             for place, part in enumerate(_parts(text)):
                 name, of_type = part[1:].split(": ", 1)

@@ -118,6 +118,7 @@ class Calls(Case):
             self.assertEqual((fault.number, fault.word, fault.at, fault.operation), (51, "NotLegalised", None, 7))
             self.assertEqual(s.convert("partial", dynamic=named, rules=[28, 29], depth=16), 7)
             self.assertEqual(s.convert("full", legal={it.name for it in s}), 0)
+            self.assertEqual(s.convert(legal="arith.constant"), 0)
         with session(example("sweep")) as s:
             self.assertEqual(s.report("unreached"), [(7, "@even"), (10, "@odd"), (13, "@log")])
             self.assertEqual((s.sweep(), s.sweep()), (3, 0))
@@ -134,6 +135,8 @@ class Calls(Case):
         with session(PAIR, kinds=["dead", "uses"]) as s:
             self.assertEqual(len(s.report("uses")), 2)
             self.assertRaises(mlir_work.Refused, s.report, "constants")
+        with session(PAIR, kinds="dead") as s:
+            self.assertRaises(mlir_work.Refused, s.report, "uses")
         with session(PAIR, kinds=[]) as s:
             self.assertRaises(mlir_work.Refused, s.report, "uses")
         with self.assertRaises(ValueError):
