@@ -107,13 +107,12 @@ def _parts(text: str) -> List[str]:
 
 def _closed(text: str) -> int:
     """How long the part of a text is that its first bracket holds together, that bracket and its end included."""
-    depth = place = 0
-    for token in _TOKEN.findall(text):
-        place += len(token)
-        depth += _DEPTH.get(token, 0)
+    depth = 0
+    for token in _TOKEN.finditer(text):
+        depth += _DEPTH.get(token[0], 0)
         if not depth:
-            break
-    return place
+            return token.end()
+    return len(text)
 
 
 def _entries(text: str, opens: str) -> Tuple[Dict[str, str], str]:

@@ -188,7 +188,7 @@ class Pipe:
         if place < 0:
             self._seen = len(kept)
             return None
-        answer = bytes(memoryview(kept)[:place + 1])
+        answer = bytes(kept[:place + 1])
         del kept[:place + 2]
         self._seen = 0
         return answer

@@ -2,9 +2,9 @@
 import contextlib
 import re
 import threading
+from types import TracebackType
 from typing import (Iterable, Iterator, List, Literal, NamedTuple, Optional, Sequence, SupportsIndex, Type, Union,
                     overload)
-from types import TracebackType
 
 from . import operations as listings
 from .errors import Error, Refused, SessionClosed

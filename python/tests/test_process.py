@@ -6,7 +6,6 @@ import signal
 import subprocess
 import sys
 import tempfile
-import time
 import unittest
 import unittest.mock
 
@@ -200,12 +199,11 @@ class Lost(Case):
                 s.erase(1)
 
     def test_it_does_not_end(self):
-        code = ANSWERS + "import signal; line(); " + SILENT
-        s = mlir_work.Session(TEXT, fake(code), timeout=0.2)
-        number = number_of(s)
+        s = mlir_work.Session(TEXT, fake(ANSWERS + "line(); " + SILENT), timeout=20)
+        number, s._way._pipe.timeout = number_of(s), 0.1
         with self.assertRaises(mlir_work.ProcessLost) as caught:
             s.close()
-        self.assertIn("didn't end within 0.2 s", str(caught.exception))
+        self.assertIn("didn't end within 0.1 s", str(caught.exception))
         self.assertEqual((is_gone(number), s.close()), (True, None))
 
     def test_what_it_still_does_is_waited_for(self):
@@ -234,9 +232,9 @@ class Interrupted(Case):
         self.assertRaises(mlir_work.SessionClosed, s.erase, 1)
 
     def test_while_it_opens(self):
-        self.interrupt()
+        self.interrupt(0.2)
         with self.assertRaises(KeyboardInterrupt):
-            mlir_work.Session(TEXT * 100000, fake(SILENT))
+            mlir_work.Session(TEXT * 10000, fake(SILENT))
 
     def test_while_it_closes(self):
         s = mlir_work.Session(TEXT, fake(ANSWERS + SILENT))
@@ -286,20 +284,23 @@ with mlir_work.Session({TEXT!r}, {PROGRAM!r}) as s:
 
 class Apart(Case):
     def test_a_fork_keeps_no_end(self):
-        s = mlir_work.Session(TEXT, fake(ANSWERS + "line()"))
+        """A process that is forked off has no session, and goes on when the program ends."""
+        s = mlir_work.Session(TEXT, fake(ANSWERS + "line()"), timeout=20)
+        waits, ends = os.pipe()
         number = os.fork()
         if not number:
+            os.close(ends)
             try:
                 s.print()
             except mlir_work.SessionClosed:
-                time.sleep(0.5)
+                os.read(waits, 1)
                 os._exit(3)
             finally:
                 os._exit(4)
-        began = time.monotonic()
         self.assertEqual(s.close(), 0)
-        self.assertLess(time.monotonic() - began, 0.4)
+        os.close(ends)
         self.assertEqual(os.waitstatus_to_exitcode(os.waitpid(number, 0)[1]), 3)
+        os.close(waits)
 
     def test_where_the_program_is_looked_for(self):
         with tempfile.TemporaryDirectory() as folder, unittest.mock.patch.dict(os.environ):
