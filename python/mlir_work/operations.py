@@ -58,12 +58,12 @@ class _Lines:
 
     def __init__(self, text: str, around: "Optional[_Lines]") -> None:
         self.text, self.around = text, around
-        self.region = around.inside if around else 0
-        self.depth = around.depth + 1 if around else 0
+        self.region: int = around.inside if around else 0
+        self.depth: int = around.depth + 1 if around else 0
         self.arguments: List[Tuple[int, str]] = []
         self.number = -1
         opened = _OPENED.search(text)
-        self.inside = opened[1].count("{}") if opened else 0
+        self.inside: int = opened[1].count("{}") if opened else 0
 
     def take(self, line: str) -> bool:
         """Takes a line that ends a region; whether another one begins in it."""

@@ -167,6 +167,29 @@ class Lost(Case):
         self.fails(ANSWERS + "line(); say('1 ok\\n'); sys.exit(4)", "ended with status 4", 4)
         self.fails(ANSWERS + "line(); os.kill(os.getpid(), 15)", "ended with status -15", -15)
 
+    def test_it_ends_behind_each_byte(self):
+        """Of what it is to write it writes the first bytes, and ends, whatever is asked: each answer that is whole is
+        had, and the next call says that it is lost."""
+        answers = ["", "1 ok\n", "2 ok\n#1\n#2\n", "3 refused 20 NoSuchOp\n", "4 ok #3\n"]
+        text = "".join(it + "\n" for it in answers)
+        calls = [lambda s: s.erase(1), lambda s: s.report("dead"),
+                 lambda s: self.assertRaises(mlir_work.Refused, s.erase, 9), lambda s: s.insert("end #0 0", "x")]
+        with tempfile.NamedTemporaryFile("w") as file:
+            file.write(text)
+            file.flush()
+            for count in range(len(text) + 1):
+                had = 0
+                try:
+                    with mlir_work.Session(TEXT, ["sh", "-c", 'exec head -c "$0" "$1"', str(count), file.name]) as s:
+                        for call in calls:
+                            had += 1
+                            call(s)
+                        had += 1
+                except mlir_work.ProcessLost as fault:
+                    self.assertEqual(fault.status, 0)
+                whole = sum(len("".join(it + "\n" for it in answers[:place])) <= count for place in range(1, 6))
+                self.assertEqual(had, whole, count)
+
     def test_it_counts_otherwise(self):
         self.fails(ANSWERS + "line(); say('2 ok\\n\\n'); line()", "wrote what is no answer: b'2 ok", None)
         self.fails(ANSWERS + "line(); say('\\n'); line()", "wrote what is no answer: b'\\n'", None)
