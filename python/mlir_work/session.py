@@ -81,12 +81,13 @@ class Session:
         """A line for each analysis for which there was no memory, as `attach uses refused 36 Memory`."""
         try:
             self.unattached = self._way.open(_bytes(text), limit)
+            there = set(KINDS) - {it.split()[1] for it in self.unattached}
+            for kind in KINDS if wanted is not None else ():
+                if kind in there and kind not in (wanted or ()):
+                    self.detach(kind)
         except BaseException:
             self._abandon()
             raise
-        for kind in KINDS if wanted is not None else ():
-            if kind not in (wanted or ()) and not any(it.split()[1] == kind for it in self.unattached):
-                self.detach(kind)
 
     # Its end.
 
@@ -95,7 +96,12 @@ class Session:
 
     def __exit__(self, kind: Optional[Type[BaseException]], fault: Optional[BaseException],
                  trace: Optional[TracebackType]) -> None:
-        self.close()
+        try:
+            self.close()
+        except Error:
+            # (what was raised within says more)
+            if fault is None:
+                raise
 
     def close(self) -> Optional[int]:
         """Ends the input, waits for the program's end, and gives its status. To close it again does nothing."""

@@ -229,6 +229,10 @@ class Lost(Case):
         self.assertIn("didn't end within 0.1 s", str(caught.exception))
         self.assertEqual((is_gone(number), s.close()), (True, None))
 
+        with self.assertRaises(KeyError), mlir_work.Session(TEXT, fake(ANSWERS + "line(); " + SILENT), timeout=20) as s:
+            s._way._pipe.timeout = 0.1
+            raise KeyError
+
     def test_what_it_still_does_is_waited_for(self):
         """It is at work when its input ends, and isn't ended."""
         with mlir_work.Session(TEXT, fake(ANSWERS + "line(); time.sleep(0.2); say('x' * 100000); sys.exit(7)")) as s:

@@ -348,6 +348,26 @@ class Rows(Case):
         with mlir_work.Session("", way=Other()) as s:
             self.assertEqual(s.report("loops"), [("#1", "a", "b"), ("#2",)])
 
+    def test_other_replies(self):
+        """Words that a later program may say, a refusal within `kinds`, and an analysis that wasn't attached."""
+        class Other(Referred):
+            def open(self, text, limit=None):
+                return ["attach dead refused 36 Memory"]
+
+            def line(self, line):
+                words = {b"detach uses": "refused 36 Memory", b"erase #1": "refused 70 NewWord at 3 of 5"}
+                return mlir_work.Reply(words.get(line, "checked 7"))
+        with mlir_work.Session("", way=Other()) as s:
+            self.assertEqual(s.unattached, ["attach dead refused 36 Memory"])
+            with self.assertRaises(mlir_work.Refused) as caught:
+                s.erase(1)
+            self.assertEqual((caught.exception.number, caught.exception.word, caught.exception.at), (70, "NewWord", 3))
+            self.assertEqual((s.command("check f").outcome, s.command("check f").number), ("checked", 7))
+        with mlir_work.Session("", kinds=[it for it in mlir_work.KINDS if it != "dead"], way=Other()) as s:
+            self.assertEqual(s.refused, 0)
+        with self.assertRaises(mlir_work.Refused):
+            mlir_work.Session("", kinds=[], way=Other())
+
     def test_words(self):
         self.assertEqual((str(Result(3)), str(Argument(1, 0, 2))), ("%v3.0", "%a1.0.2"))
         self.assertEqual([before(3), after(4), start(1), end(0, 2)],
