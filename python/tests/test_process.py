@@ -69,7 +69,7 @@ class Whole(Case):
             self.assertEqual(caught.exception.at, at)
 
     def test_sessions_in_turn(self):
-        for _ in range(64 if IS_FAST else 4):
+        for _ in range(64 if IS_FAST else 2):
             with mlir_work.Session(TEXT, PROGRAM) as s:
                 s.erase(1)
                 self.assertEqual(len(s.operations()), 2)
@@ -84,7 +84,7 @@ class Whole(Case):
             self.assertEqual((s.status, descriptors_now()), (0, self.before))
 
     def test_several_at_once(self):
-        sessions = [mlir_work.Session(TEXT, PROGRAM) for _ in range(16 if IS_FAST else 3)]
+        sessions = [mlir_work.Session(TEXT, PROGRAM) for _ in range(16 if IS_FAST else 2)]
         for place, s in enumerate(sessions):
             s.set_attr(1, "k", str(place))
         for place, s in enumerate(sessions):

@@ -419,7 +419,7 @@ class Operations(Case):
                     self.assertEqual(value, (it.number, place))
 
     def test_by_chance(self):
-        for number in range(12):
+        for number in range(8):
             maker = random.Random(f"operations {number}")
             text = text_of(chance.module(maker, 24, 0.2, maker.choice(sorted(chance.TASTES))))
 
