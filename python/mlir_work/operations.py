@@ -58,12 +58,12 @@ class _Lines:
 
     def __init__(self, text: str, around: "Optional[_Lines]") -> None:
         self.text, self.around = text, around
-        self.region = around.inside if around else 0
-        self.depth = around.depth + 1 if around else 0
+        self.region: int = around.inside if around else 0
+        self.depth: int = around.depth + 1 if around else 0
         self.arguments: List[Tuple[int, str]] = []
         self.number = -1
         opened = _OPENED.search(text)
-        self.inside = opened[1].count("{}") if opened else 0
+        self.inside: int = opened[1].count("{}") if opened else 0
 
     def take(self, line: str) -> bool:
         """Takes a line that ends a region; whether another one begins in it."""
@@ -107,13 +107,12 @@ def _parts(text: str) -> List[str]:
 
 def _closed(text: str) -> int:
     """How long the part of a text is that its first bracket holds together, that bracket and its end included."""
-    depth = place = 0
-    for token in _TOKEN.findall(text):
-        place += len(token)
-        depth += _DEPTH.get(token, 0)
+    depth = 0
+    for token in _TOKEN.finditer(text):
+        depth += _DEPTH.get(token[0], 0)
         if not depth:
-            break
-    return place
+            return token.end()
+    return len(text)
 
 
 def _entries(text: str, opens: str) -> Tuple[Dict[str, str], str]:
@@ -121,8 +120,9 @@ def _entries(text: str, opens: str) -> Tuple[Dict[str, str], str]:
     `unit`."""
     if not text.startswith(opens):
         return {}, text
+    found: Dict[str, str] = {}
     text, margin = text[1:], len(opens) - 1
-    end, found = _closed(text), {}
+    end = _closed(text)
     for part in _parts(text[margin:end - margin]):
         entry = _ENTRY.fullmatch(part)
         if entry:
@@ -175,7 +175,7 @@ class _Listing:
         head = _HEAD.match(it.text)
         if not head:
             raise ValueError(f"{it.text!r} is no operation")
-        arguments = {}
+        arguments: Dict[Argument, str] = {}
         for region, text in it.arguments:
             for place, part in enumerate(_parts(text)):
                 name, of_type = part[1:].split(": ", 1)

@@ -18,6 +18,7 @@ CHUNK = 65536
 # So long it is waited for a process that closed its output; and so much is told of what it said.
 PATIENCE, MOST_SAID, MOST_SHOWN = 1.0, 300, 60
 ENDED = "closed its output"
+BUSY = "a call was made while another one waits for its answer: a session is one thread's"
 # An answer of which so much is there shows how it begins.
 BEGUN = 32
 
@@ -78,6 +79,8 @@ class Pipe:
         """Ends the input, waits until the process ended, and gives its status. To close it again does nothing."""
         if not self.is_open:
             return self.status
+        if self._is_busy:
+            raise RuntimeError(BUSY)
         try:
             self._ends[0].close()
             self._drain()
@@ -111,7 +114,7 @@ class Pipe:
         if not self.is_open:
             raise ValueError(f"{self.words[0]} was closed")
         if self._is_busy:
-            raise RuntimeError("a call was made while another one waits for its answer: one thread, one session")
+            raise RuntimeError(BUSY)
         self._is_busy = True
         try:
             return self._answers(memoryview(text), begins, may_end, is_last)
@@ -185,7 +188,7 @@ class Pipe:
         if place < 0:
             self._seen = len(kept)
             return None
-        answer = bytes(memoryview(kept)[:place + 1])
+        answer = bytes(kept[:place + 1])
         del kept[:place + 2]
         self._seen = 0
         return answer

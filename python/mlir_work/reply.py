@@ -4,7 +4,7 @@ from typing import List, NamedTuple, Optional
 
 from .errors import Refused
 
-_REFUSED = re.compile(r"refused (\d+) (\w+)(?: at (\d+))?(?: #(\d+))?")
+_REFUSED = re.compile(r"refused (\d+) (\w+)(?: at (\d+))?(?: #(\d+))?.*", re.S)
 _NUMBER = re.compile(r"\w+ #?(\d+)")
 
 

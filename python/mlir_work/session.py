@@ -2,9 +2,9 @@
 import contextlib
 import re
 import threading
+from types import TracebackType
 from typing import (Iterable, Iterator, List, Literal, NamedTuple, Optional, Sequence, SupportsIndex, Type, Union,
                     overload)
-from types import TracebackType
 
 from . import operations as listings
 from .errors import Error, Refused, SessionClosed
@@ -36,6 +36,11 @@ def _bytes(text: Text) -> bytes:
     return text.encode("utf-8", "surrogateescape") if isinstance(text, str) else text
 
 
+def _listed(names: Iterable[str]) -> List[str]:
+    """Names as a list; a string is one name."""
+    return [names] if isinstance(names, str) else list(names)
+
+
 def _one_line(text: Text) -> str:
     """The text of an operation on one line: line feeds and comments become as many blanks, so that the bytes of a
     refusal are those of the text."""
@@ -59,7 +64,7 @@ class Session:
 
     def __init__(self, text: Text, program: Optional[Program] = None, kinds: Optional[Iterable[str]] = None,
                  limit: Optional[int] = None, *, timeout: Optional[float] = None, way: Optional[Way] = None) -> None:
-        wanted = None if kinds is None else list(kinds)
+        wanted = None if kinds is None else _listed(kinds)
         unknown = [kind for kind in wanted or () if kind not in KINDS]
         if unknown:
             raise ValueError(f"there is no kind {unknown[0]!r}: they are {', '.join(KINDS)}")
@@ -76,12 +81,13 @@ class Session:
         """A line for each analysis for which there was no memory, as `attach uses refused 36 Memory`."""
         try:
             self.unattached = self._way.open(_bytes(text), limit)
+            there = set(KINDS) - {it.split()[1] for it in self.unattached}
+            for kind in KINDS if wanted is not None else ():
+                if kind in there and kind not in (wanted or ()):
+                    self.detach(kind)
         except BaseException:
             self._abandon()
             raise
-        for kind in KINDS if wanted is not None else ():
-            if kind not in (wanted or ()) and not any(it.split()[1] == kind for it in self.unattached):
-                self.detach(kind)
 
     # Its end.
 
@@ -90,7 +96,12 @@ class Session:
 
     def __exit__(self, kind: Optional[Type[BaseException]], fault: Optional[BaseException],
                  trace: Optional[TracebackType]) -> None:
-        self.close()
+        try:
+            self.close()
+        except Error:
+            # (what was raised within says more)
+            if fault is None:
+                raise
 
     def close(self) -> Optional[int]:
         """Ends the input, waits for the program's end, and gives its status. To close it again does nothing."""
@@ -268,10 +279,9 @@ class Session:
     def convert(self, mode: str = "partial", *, legal: Iterable[str] = (), illegal: Iterable[str] = (),
                 dynamic: Iterable[str] = (), rules: Iterable[int] = (), depth: Optional[int] = None) -> int:
         """Converts to a target (docs/CONVERT.md), and gives how many rules stand. The mode is `partial` or `full`."""
-        lists = {"legal": legal, "illegal": illegal, "dynamic": dynamic, "rules": map(str, rules),
-                 "depth": [] if depth is None else [str(depth)]}
-        clauses = [f"{word} {','.join(them)}" for word, them in ((it, list(those)) for it, those in lists.items())
-                   if them]
+        lists = {"legal": _listed(legal), "illegal": _listed(illegal), "dynamic": _listed(dynamic),
+                 "rules": [str(it) for it in rules], "depth": [] if depth is None else [str(depth)]}
+        clauses = [f"{word} {','.join(them)}" for word, them in lists.items() if them]
         return self.command(" ".join(["convert", mode, *clauses])).number or 0
 
     def sweep(self) -> int:

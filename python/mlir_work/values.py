@@ -1,5 +1,6 @@
 """How values, places and strings stand in a line."""
 import re
+from operator import index
 from typing import NamedTuple, SupportsIndex, Union
 
 _VALUE = re.compile(r"%v(\d+)\.(\d+)|%a(\d+)\.(\d+)\.(\d+)")
@@ -41,7 +42,7 @@ def value_of(text: str) -> Value:
 
 def op_text(operation: SupportsIndex) -> str:
     """An operation as it stands in a line: `#3`."""
-    return f"#{operation.__index__()}"
+    return f"#{index(operation)}"
 
 
 def before(operation: SupportsIndex) -> str:

@@ -25,7 +25,7 @@ def ran(words, program=None):
 
 class Examples(unittest.TestCase):
     def test_edits(self):
-        many = 2000 if IS_FAST else 40
+        many = 2000 if IS_FAST else 25
         status, out, fault = ran([sys.executable, str(ROOT / "examples/python/edits.py"), str(many)], PROGRAM)
         self.assertEqual((status, out), (0, f"{many} erased, asked {many + 1} times, 0 left\n"), fault)
 
@@ -53,7 +53,7 @@ class Packed(unittest.TestCase):
 
 class Ways(unittest.TestCase):
     def test_they_are_the_same(self):
-        cases = 100 if IS_FAST else 6
+        cases = 100 if IS_FAST else 4
         status, out, fault = ran([*THREE_WAYS, shlex.join(PROGRAM), str(cases), "5", "--library", "support:Referred"])
         self.assertEqual((status, fault), (0, ""), out)
         self.assertRegex(out, r"^seed 5: [1-9][0-9]* cases, .* [1-9][0-9]* by the library too;")

@@ -6,7 +6,6 @@ import signal
 import subprocess
 import sys
 import tempfile
-import time
 import unittest
 import unittest.mock
 
@@ -70,7 +69,7 @@ class Whole(Case):
             self.assertEqual(caught.exception.at, at)
 
     def test_sessions_in_turn(self):
-        for _ in range(64 if IS_FAST else 4):
+        for _ in range(64 if IS_FAST else 2):
             with mlir_work.Session(TEXT, PROGRAM) as s:
                 s.erase(1)
                 self.assertEqual(len(s.operations()), 2)
@@ -85,7 +84,7 @@ class Whole(Case):
             self.assertEqual((s.status, descriptors_now()), (0, self.before))
 
     def test_several_at_once(self):
-        sessions = [mlir_work.Session(TEXT, PROGRAM) for _ in range(16 if IS_FAST else 3)]
+        sessions = [mlir_work.Session(TEXT, PROGRAM) for _ in range(16 if IS_FAST else 2)]
         for place, s in enumerate(sessions):
             s.set_attr(1, "k", str(place))
         for place, s in enumerate(sessions):
@@ -168,6 +167,29 @@ class Lost(Case):
         self.fails(ANSWERS + "line(); say('1 ok\\n'); sys.exit(4)", "ended with status 4", 4)
         self.fails(ANSWERS + "line(); os.kill(os.getpid(), 15)", "ended with status -15", -15)
 
+    def test_it_ends_behind_each_byte(self):
+        """Of what it is to write it writes the first bytes, and ends, whatever is asked: each answer that is whole is
+        had, and the next call says that it is lost."""
+        answers = ["", "1 ok\n", "2 ok\n#1\n#2\n", "3 refused 20 NoSuchOp\n", "4 ok #3\n"]
+        text = "".join(it + "\n" for it in answers)
+        calls = [lambda s: s.erase(1), lambda s: s.report("dead"),
+                 lambda s: self.assertRaises(mlir_work.Refused, s.erase, 9), lambda s: s.insert("end #0 0", "x")]
+        with tempfile.NamedTemporaryFile("w") as file:
+            file.write(text)
+            file.flush()
+            for count in range(len(text) + 1):
+                had = 0
+                try:
+                    with mlir_work.Session(TEXT, ["sh", "-c", 'exec head -c "$0" "$1"', str(count), file.name]) as s:
+                        for call in calls:
+                            had += 1
+                            call(s)
+                        had += 1
+                except mlir_work.ProcessLost as fault:
+                    self.assertEqual(fault.status, 0)
+                whole = sum(len("".join(it + "\n" for it in answers[:place])) <= count for place in range(1, 6))
+                self.assertEqual(had, whole, count)
+
     def test_it_counts_otherwise(self):
         self.fails(ANSWERS + "line(); say('2 ok\\n\\n'); line()", "wrote what is no answer: b'2 ok", None)
         self.fails(ANSWERS + "line(); say('\\n'); line()", "wrote what is no answer: b'\\n'", None)
@@ -200,13 +222,16 @@ class Lost(Case):
                 s.erase(1)
 
     def test_it_does_not_end(self):
-        code = ANSWERS + "import signal; line(); " + SILENT
-        s = mlir_work.Session(TEXT, fake(code), timeout=0.2)
-        number = number_of(s)
+        s = mlir_work.Session(TEXT, fake(ANSWERS + "line(); " + SILENT), timeout=20)
+        number, s._way._pipe.timeout = number_of(s), 0.1
         with self.assertRaises(mlir_work.ProcessLost) as caught:
             s.close()
-        self.assertIn("didn't end within 0.2 s", str(caught.exception))
+        self.assertIn("didn't end within 0.1 s", str(caught.exception))
         self.assertEqual((is_gone(number), s.close()), (True, None))
+
+        with self.assertRaises(KeyError), mlir_work.Session(TEXT, fake(ANSWERS + "line(); " + SILENT), timeout=20) as s:
+            s._way._pipe.timeout = 0.1
+            raise KeyError
 
     def test_what_it_still_does_is_waited_for(self):
         """It is at work when its input ends, and isn't ended."""
@@ -234,9 +259,9 @@ class Interrupted(Case):
         self.assertRaises(mlir_work.SessionClosed, s.erase, 1)
 
     def test_while_it_opens(self):
-        self.interrupt()
+        self.interrupt(0.2)
         with self.assertRaises(KeyboardInterrupt):
-            mlir_work.Session(TEXT * 100000, fake(SILENT))
+            mlir_work.Session(TEXT * 10000, fake(SILENT))
 
     def test_while_it_closes(self):
         s = mlir_work.Session(TEXT, fake(ANSWERS + SILENT))
@@ -286,20 +311,23 @@ with mlir_work.Session({TEXT!r}, {PROGRAM!r}) as s:
 
 class Apart(Case):
     def test_a_fork_keeps_no_end(self):
-        s = mlir_work.Session(TEXT, fake(ANSWERS + "line()"))
+        """A process that is forked off has no session, and goes on when the program ends."""
+        s = mlir_work.Session(TEXT, fake(ANSWERS + "line()"), timeout=20)
+        waits, ends = os.pipe()
         number = os.fork()
         if not number:
+            os.close(ends)
             try:
                 s.print()
             except mlir_work.SessionClosed:
-                time.sleep(0.5)
+                os.read(waits, 1)
                 os._exit(3)
             finally:
                 os._exit(4)
-        began = time.monotonic()
         self.assertEqual(s.close(), 0)
-        self.assertLess(time.monotonic() - began, 0.4)
+        os.close(ends)
         self.assertEqual(os.waitstatus_to_exitcode(os.waitpid(number, 0)[1]), 3)
+        os.close(waits)
 
     def test_where_the_program_is_looked_for(self):
         with tempfile.TemporaryDirectory() as folder, unittest.mock.patch.dict(os.environ):

@@ -118,6 +118,7 @@ class Calls(Case):
             self.assertEqual((fault.number, fault.word, fault.at, fault.operation), (51, "NotLegalised", None, 7))
             self.assertEqual(s.convert("partial", dynamic=named, rules=[28, 29], depth=16), 7)
             self.assertEqual(s.convert("full", legal={it.name for it in s}), 0)
+            self.assertEqual(s.convert(legal="arith.constant"), 0)
         with session(example("sweep")) as s:
             self.assertEqual(s.report("unreached"), [(7, "@even"), (10, "@odd"), (13, "@log")])
             self.assertEqual((s.sweep(), s.sweep()), (3, 0))
@@ -134,6 +135,8 @@ class Calls(Case):
         with session(PAIR, kinds=["dead", "uses"]) as s:
             self.assertEqual(len(s.report("uses")), 2)
             self.assertRaises(mlir_work.Refused, s.report, "constants")
+        with session(PAIR, kinds="dead") as s:
+            self.assertRaises(mlir_work.Refused, s.report, "uses")
         with session(PAIR, kinds=[]) as s:
             self.assertRaises(mlir_work.Refused, s.report, "uses")
         with self.assertRaises(ValueError):
@@ -345,6 +348,26 @@ class Rows(Case):
         with mlir_work.Session("", way=Other()) as s:
             self.assertEqual(s.report("loops"), [("#1", "a", "b"), ("#2",)])
 
+    def test_other_replies(self):
+        """Words that a later program may say, a refusal within `kinds`, and an analysis that wasn't attached."""
+        class Other(Referred):
+            def open(self, text, limit=None):
+                return ["attach dead refused 36 Memory"]
+
+            def line(self, line):
+                words = {b"detach uses": "refused 36 Memory", b"erase #1": "refused 70 NewWord at 3 of 5"}
+                return mlir_work.Reply(words.get(line, "checked 7"))
+        with mlir_work.Session("", way=Other()) as s:
+            self.assertEqual(s.unattached, ["attach dead refused 36 Memory"])
+            with self.assertRaises(mlir_work.Refused) as caught:
+                s.erase(1)
+            self.assertEqual((caught.exception.number, caught.exception.word, caught.exception.at), (70, "NewWord", 3))
+            self.assertEqual((s.command("check f").outcome, s.command("check f").number), ("checked", 7))
+        with mlir_work.Session("", kinds=[it for it in mlir_work.KINDS if it != "dead"], way=Other()) as s:
+            self.assertEqual(s.refused, 0)
+        with self.assertRaises(mlir_work.Refused):
+            mlir_work.Session("", kinds=[], way=Other())
+
     def test_words(self):
         self.assertEqual((str(Result(3)), str(Argument(1, 0, 2))), ("%v3.0", "%a1.0.2"))
         self.assertEqual([before(3), after(4), start(1), end(0, 2)],
@@ -396,7 +419,7 @@ class Operations(Case):
                     self.assertEqual(value, (it.number, place))
 
     def test_by_chance(self):
-        for number in range(12):
+        for number in range(8):
             maker = random.Random(f"operations {number}")
             text = text_of(chance.module(maker, 24, 0.2, maker.choice(sorted(chance.TASTES))))
 
