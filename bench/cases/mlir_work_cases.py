@@ -624,6 +624,27 @@ def failing_ends():
             run(f"narrow {fault} {at}", text, 4, out[:at - 1], script.BOXES)
 
 
+def failing_lives():
+    """Lines that are answered as soon as they are there, of a reader that gives a byte a read, each of which fails in
+    turn: the lines that were read by then are answered. And listeners that are refused."""
+    text = TEXT + DIVIDER + b"report uses\n// none\njump\nset-operand #3 0 %v2.0\nreport uses\n"
+    wrong = b'"a"(\n' + DIVIDER + b"print\n"
+    for input_text in (text, wrong):
+        status, out = live.run(input_text)
+        for at in range(1, len(input_text) + 3):
+            seen = input_text[:at - 1]
+            seen = seen[:seen.rfind(b"\n") + 1]
+            status_so_far, answered = live.run(seen) if DIVIDER in seen else (4, b"")
+            is_over = status_so_far == 3 or at == len(input_text) + 2
+            run(f"live-slow other {at}", input_text, status_so_far if is_over else 4, answered)
+        run(f"live-slow interrupted {len(input_text) // 2}", input_text, status, out)
+    again = b"attach uses refused 42 KindTaken\n" * 2
+    for line, more in ((b"report uses\n", b"1 ok\n" + USES + b"\n"), (b"", b"")):
+        case(f"run uses,uses,uses live {given(TEXT + DIVIDER + line)}", f"1 {told(again + bytes([10]) + more)}")
+    refused_kind = b"\n1 refused 41 NoSuchKind\n\n"
+    case(f"run none live {given(DIVIDER + b'report uses')}", f"1 {told(refused_kind)}")
+
+
 def byte_limits():
     """Both sides of the limits of bytes, of a module's text, of a script's, and of an input: copies of a piece, and the
     rest."""
@@ -943,7 +964,7 @@ def analyses(kinds, text, brief=True):
 
 GOLDEN_PARTS = {
     "runs": (runs, moves, entries, wholes, panels, sweeps, over_limits, beginnings, byte_limits, failing_ends,
-             interactive),
+             failing_lives, interactive),
     "pages": (refused, worked),
     "command_line": (command_lines,),
 }

@@ -11,6 +11,7 @@ use listeners_unreached::unreached::Unreached;
 use mlir_work_cases_base::at_most::AtMost;
 use mlir_work_cases_base::texts::number;
 use mlir_work_cases_base::witness::{Plan, Witness};
+use mlir_work_run::live::run_live;
 use mlir_work_run::run::{Options, run};
 use std::alloc::{AllocError, Global};
 use std::io::{Read, Write};
@@ -21,6 +22,15 @@ pub fn options(brief: bool) -> Options {
         brief,
         limit: 1000,
         ends: false,
+    }
+}
+
+/// What it says of a run that answers each line as soon as it is there.
+pub fn live() -> Options {
+    Options {
+        brief: true,
+        limit: 1000,
+        ends: true,
     }
 }
 
@@ -72,6 +82,9 @@ pub fn status_of<R: Read, W: Write>(
             _ => Box::new(alloc, AtMost::new(Uses::new(alloc), most))?,
         };
         boxes.push(listener)?;
+    }
+    if options.ends {
+        return Ok(run_live(alloc, 0, options, reader, writer, boxes));
     }
     Ok(run(alloc, options, reader, writer, boxes))
 }

@@ -1,5 +1,5 @@
 //! Whole runs, from bytes to bytes.
-use crate::boxes::{options, status_of, status_of_bare};
+use crate::boxes::{live, options, status_of, status_of_bare};
 use crate::readers::{Halting, Slow};
 use crate::writers::Narrow;
 use mlir_work_cases_base::texts::{bytes, first, number, put_all_shown, small};
@@ -40,10 +40,15 @@ fn into(
     told(alloc, status, writer.taken())
 }
 
-fn run_whole(alloc: Global, names: &str, brief: bool, text: &str) -> Result<String, AllocError> {
+fn run_whole(
+    alloc: Global,
+    names: &str,
+    options: Options,
+    text: &str,
+) -> Result<String, AllocError> {
     let input = bytes(alloc, text)?;
     let mut reader = input.as_slice();
-    over(alloc, names, options(brief), &mut reader)
+    over(alloc, names, options, &mut reader)
 }
 
 /// `2 print`: the limit is 2.
@@ -82,12 +87,17 @@ fn run_copies(alloc: Global, names: &str, text: &str) -> Result<String, AllocErr
 }
 
 /// `other 3 print`: the third read fails.
-fn run_slowly(alloc: Global, names: &str, text: &str) -> Result<String, AllocError> {
+fn run_slowly(
+    alloc: Global,
+    names: &str,
+    options: Options,
+    text: &str,
+) -> Result<String, AllocError> {
     let (word, rest) = first(text);
     let (at, text) = first(rest);
     let input = bytes(alloc, text)?;
     let mut reader = Slow::new(&input, word, at);
-    over(alloc, names, options(true), &mut reader)
+    over(alloc, names, options, &mut reader)
 }
 
 /// `3`: the input is three line feeds, each behind two reads that are interrupted.
@@ -120,12 +130,14 @@ pub fn answer(alloc: Global, text: &str) -> Result<String, AllocError> {
     let (names, rest) = first(text);
     let (how, rest) = first(rest);
     match how {
-        "brief" => run_whole(alloc, names, true, rest),
+        "brief" => run_whole(alloc, names, options(true), rest),
+        "live" => run_whole(alloc, names, live(), rest),
         "limited" => run_limited(alloc, names, rest),
         "copies" => run_copies(alloc, names, rest),
-        "slow" => run_slowly(alloc, names, rest),
+        "slow" => run_slowly(alloc, names, options(true), rest),
+        "live-slow" => run_slowly(alloc, names, live(), rest),
         "halting" => run_haltingly(alloc, names, rest),
         "narrow" => run_narrowly(alloc, names, rest),
-        _ => run_whole(alloc, names, false, rest),
+        _ => run_whole(alloc, names, options(false), rest),
     }
 }

@@ -30,15 +30,15 @@ again line lines rest others (inr (none, one)) more ih =
     let ended : lines ≡ [] = none_left lines others (rw none at more) in
     rw ended (rw append-nil one)
 
+again_first : (line : List ℕ) (lines : List (List ℕ)) (bs : List ℕ) (others : List (List ℕ)) → whole_lines bs ≡ line ∷ (lines ++ others) → (bs ≡ []) ⊎ FirstOf bs → ((rest : List ℕ) → whole_lines rest ≡ lines ++ others → whole_lines (joined lines) ≡ lines) → whole_lines (joined (line ∷ lines)) ≡ line ∷ lines
+again_first line lines bs others e (inl none) ih = absurd (let f : [] ≡ line ∷ (lines ++ others) = rw none at e in cc)
+again_first line lines bs others e (inr (first, is, cut, whole)) ih =
+    let both = tail_of (sym cut ∙ e) in
+    again line lines (after_line bs) others (subst (λ (x : List ℕ). IsWhole x (after_line bs)) both.0 whole) both.1 (ih (after_line bs) both.1)
+
 lines_again : (lines : List (List ℕ)) (bs : List ℕ) (others : List (List ℕ)) → whole_lines bs ≡ lines ++ others → whole_lines (joined lines) ≡ lines
 lines_again [] bs others e = refl
-lines_again (line ∷ lines) bs others e = go (first_of bs)
-  where
-    go : (bs ≡ []) ⊎ FirstOf bs → whole_lines (joined (line ∷ lines)) ≡ line ∷ lines
-    go (inl none) = absurd (let f : [] ≡ line ∷ (lines ++ others) = rw none at e in cc)
-    go (inr (first, is, cut, whole)) =
-        let both = tail_of (sym cut ∙ e) in
-        again line lines (after_line bs) others (rw both.0 at whole) both.1 (lines_again lines (after_line bs) others both.1)
+lines_again (line ∷ lines) bs others e = again_first line lines bs others e (first_of bs) (λ rest k. lines_again lines rest others k)
 
 joined_both : (xs ys : List (List ℕ)) → joined (xs ++ ys) ≡ joined xs ++ joined ys
 joined_both [] ys = refl
@@ -47,35 +47,34 @@ joined_both (x ∷ xs) ys = ap (λ (zs : List ℕ). x ++ zs) (joined_both xs ys)
 -- ---- a module by itself
 
 line_at : (b : ℕ) (bs cs : List ℕ) (t : Bool) → is_newline b ≡ t → line_of bs ≡ line_of cs → line_of (b ∷ bs) ≡ line_of (b ∷ cs)
-line_at b bs cs true e h = rw (e, e) refl
-line_at b bs cs false e h = rw (e, e) (ap (λ (xs : List ℕ). b ∷ xs) h)
+line_at b bs cs true e h = rw e refl
+line_at b bs cs false e h = rw e (ap (λ (xs : List ℕ). b ∷ xs) h)
+
+stays_at : (b : ℕ) (bs : List ℕ) (t : Bool) → is_newline b ≡ t → line_of (module_from false bs) ≡ line_of bs → line_of (b ∷ module_from t bs) ≡ line_of (b ∷ bs)
+stays_at b bs true e h = rw e refl
+stays_at b bs false e h = rw e (ap (λ (xs : List ℕ). b ∷ xs) h)
 
 line_stays : (bs : List ℕ) → line_of (module_from false bs) ≡ line_of bs
 line_stays [] = refl
-line_stays (b ∷ bs) = go (is_newline b) refl
-  where
-    go : (t : Bool) → is_newline b ≡ t → line_of (b ∷ module_from (is_newline b) bs) ≡ line_of (b ∷ bs)
-    go true e = rw e refl
-    go false e = rw e (ap (λ (xs : List ℕ). b ∷ xs) (line_stays bs))
+line_stays (b ∷ bs) = stays_at b bs (is_newline b) refl (line_stays bs)
 
-first_stays : (b : ℕ) (bs : List ℕ) (t : Bool) → is_newline b ≡ t → line_of (b ∷ module_from (is_newline b) bs) ≡ line_of (b ∷ bs)
-first_stays b bs true e = rw e refl
-first_stays b bs false e = rw e (ap (λ (xs : List ℕ). b ∷ xs) (line_stays bs))
+first_stays : (b : ℕ) (bs : List ℕ) → line_of (b ∷ module_from (is_newline b) bs) ≡ line_of (b ∷ bs)
+first_stays b bs = stays_at b bs (is_newline b) refl (line_stays bs)
 
 same_divider : (start : Bool) (xs ys : List ℕ) (t : Bool) → line_of xs ≡ line_of ys → (start && at_divider ys) ≡ t → (start && at_divider xs) ≡ t
 same_divider start xs ys t e h = ap (λ (zs : List ℕ). start && bytes_eq zs (codes "// -----")) e ∙ h
 
 -- it has no divider
-abbrev IsModule : Bool → List ℕ → Type 0
-IsModule start bs = (module_from start (module_from start bs) ≡ module_from start bs) × (script_from start (module_from start bs) ≡ [])
+abbrev IsAlone : Bool → List ℕ → Type 0
+IsAlone start bs = (module_from start (module_from start bs) ≡ module_from start bs) × (script_from start (module_from start bs) ≡ [])
 
-module_at : (start : Bool) (b : ℕ) (bs : List ℕ) (t : Bool) → (start && at_divider (b ∷ bs)) ≡ t → IsModule (is_newline b) bs → IsModule start (b ∷ bs)
+module_at : (start : Bool) (b : ℕ) (bs : List ℕ) (t : Bool) → (start && at_divider (b ∷ bs)) ≡ t → IsAlone (is_newline b) bs → IsAlone start (b ∷ bs)
 module_at start b bs true e h = rw e (refl, refl)
 module_at start b bs false e h =
-    let here : (start && at_divider (b ∷ module_from (is_newline b) bs)) ≡ false = same_divider start (b ∷ module_from (is_newline b) bs) (b ∷ bs) false (first_stays b bs (is_newline b) refl) e in
+    let here : (start && at_divider (b ∷ module_from (is_newline b) bs)) ≡ false = same_divider start (b ∷ module_from (is_newline b) bs) (b ∷ bs) false (first_stays b bs) e in
     rw e (rw here (ap (λ (xs : List ℕ). b ∷ xs) h.0, h.1))
 
-module_alone : (start : Bool) (bs : List ℕ) → IsModule start bs
+module_alone : (start : Bool) (bs : List ℕ) → IsAlone start bs
 module_alone start [] = (refl, refl)
 module_alone start (b ∷ bs) = module_at start b bs (start && at_divider (b ∷ bs)) refl (module_alone (is_newline b) bs)
 
@@ -151,7 +150,7 @@ module _ (options : Options) (boxes : List Shown) (input : List ℕ) where
       live_whole options boxes new status out (let l = b.3 in omega (arith, l, short)) (rw (b.2) few) (rw (b.0, b.1) live)
 
   so_at : (a b : Stream) (handed : Bool) (status : ℕ) → LiveEndedAt (IsLiveOf options boxes input) (whole_lines (script_text input)) a b handed status → LiveEndedAt (IsWholeUpTo options boxes input) (whole_lines (script_text input)) a b handed status
-  so_at a b handed status (inl (final, (o, p, h))) = inl (final, (o, live_up_to (whole_lines (script_text input)) status o ([], sym (append-nil (whole_lines (script_text input)))) p, h))
+  so_at a b handed status (inl (final, (o, p, h, on))) = inl (final, (o, live_up_to (whole_lines (script_text input)) status o ([], sym (append-nil (whole_lines (script_text input)))) p, h, on))
   so_at a b handed status (inr (four, inl (on, inl h))) = inr (four, inl (on, inl h))
   so_at a b handed status (inr (four, inl (on, inr (lines, st, o, first, p, h)))) = inr (four, inl (on, inr (lines, st, o, first, live_up_to lines st o first p, h)))
   so_at a b handed status (inr (four, inr (lines, st, o, first, p, h))) = inr (four, inr (lines, st, o, first, live_up_to lines st o first p, h))

@@ -125,8 +125,8 @@ module _ (options : Options) (before : ℕ) (begun : State) where
       let all_lines : whole_lines all ≡ lines = cut ∙ ap (λ (xs : List ℕ). lines ++ whole_lines xs) none ∙ append-nil lines in
       (out, rw (all_lines, is) (goes_so_far lines read n s accepted out goes), grows, on)
 
-  up_to : (all left : List ℕ) (read n : ℕ) (s : State) (accepted : Bool) (a b : Stream) → Lived (Some all) (Some left) read n s accepted a b → IsUpTo (Lives options before 1 begun) (whole_lines all) a b
-  up_to all left read n s accepted a b (lines, out, cut, grows, goes) = (lines, worse accepted 0, out, (whole_lines left, cut), goes_so_far lines read n s accepted out goes, grows)
+  so_far : (all left : List ℕ) (read n : ℕ) (s : State) (accepted : Bool) (a b : Stream) → Lived (Some all) (Some left) read n s accepted a b → IsUpTo (Lives options before 1 begun) (whole_lines all) a b
+  so_far all left read n s accepted a b (lines, out, cut, grows, goes) = (lines, worse accepted 0, out, (whole_lines left, cut), goes_so_far lines read n s accepted out goes, grows)
 
   -- the next line isn't taken
   halted_so : (halt : Stop) (all : List ℕ) (a b : Stream) (handed : Bool) → handed ≡ true → IsUpTo (Lives options before 1 begun) (whole_lines all) a b → LiveEnded (Lives options before 1 begun) (whole_lines all) a b handed (Err (halt_of halt))
@@ -137,7 +137,7 @@ module _ (options : Options) (before : ℕ) (begun : State) where
   pub lived_halts : (o left : Option (List ℕ)) (read n : ℕ) (s : State) (accepted handed : Bool) (a b : Stream) (stop : Stop) (halt : Halt) → Lived o left read n s accepted a b → handed ≡ true → halt ≡ halt_of stop → IfSome o (λ script. LiveEnded (Lives options before 1 begun) (whole_lines script) a b handed (Err halt))
   lived_halts None left read n s accepted handed a b stop halt h on is = tt
   lived_halts (Some all) None read n s accepted handed a b stop halt h on is = absurd h
-  lived_halts (Some all) (Some left) read n s accepted handed a b stop halt h on is = rw is (halted_so stop all a b handed on (up_to all left read n s accepted a b h))
+  lived_halts (Some all) (Some left) read n s accepted handed a b stop halt h on is = rw is (halted_so stop all a b handed on (so_far all left read n s accepted a b h))
 
   -- a write of its answer failed
   pub lived_cut : (o mid new : Option (List ℕ)) (read more n : ℕ) (s t : State) (accepted handed : Bool) (a b c : Stream) (line told_out : List ℕ) (told : Option Bool) → Lived o mid read n s accepted a b → TakesLine mid new line → 0 < length line → length line ≤ most_script_bytes → more ≡ read + length line →
@@ -221,7 +221,7 @@ refused_so P R all a b handed (Err e) q is so (st, o, p, h) = rw is ([], st, o, 
 -- nothing was written before
 module _ (P : List (List ℕ) → ℕ → List ℕ → Type 0) (all : List (List ℕ)) (a b c : Stream) (stays : Stays a b) where
   then_grows : (o : List ℕ) → Grows b c o → Grows a c o
-  then_grows o h = grows_join a b c [] o (rw append-nil at (grows_stays a a b [] (grows_none a) stays)) h
+  then_grows o h = grows_join a b c [] o (grows_stays a a b [] (grows_none a) stays) h
 
   then_up_to : IsUpTo P all b c → IsUpTo P all a c
   then_up_to (lines, st, o, first, p, h) = (lines, st, o, first, p, then_grows o h)
@@ -265,7 +265,7 @@ module _ (options : Options) (boxes : List Shown) where
   live_failed None a b handed fails = tt
   live_failed (Some input) a b handed fails =
       let line = module_refused_line Memory None in
-      ([], 3, line, (whole_lines (script_text input), refl), inr (inl (Memory, None, refl, refl, refl)), grows_fails a a b line [] line refl (grows_none a) fails)
+      ([], 3, line, (whole_lines (script_text input), refl), inr (inl (Memory, None, refl, (refl, refl))), grows_fails a a b line [] line refl (grows_none a) fails)
 
   -- ---- statuses
 

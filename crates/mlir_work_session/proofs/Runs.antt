@@ -91,7 +91,7 @@ run_answered manner n s text line more t told out e answered later rest h = rw e
 pub told_of : (manner : Manner) (n : ℕ) (s : State) (spoken line_spoken : Spoken) (reply : Response) (shows : List ℕ) (t : State) (text : List ℕ) (accepted : Bool) →
     spoken ≡ line_spoken → false ≡ says_nothing spoken → Replies manner s spoken reply shows t → IsReplied (not manner.brief && not (asks spoken)) t n reply shows text → IsBounded manner.bytes reply → accepted ≡ is_accepted reply →
     IsToldOf manner n s line_spoken t accepted (text ++ end_of manner.ends)
-told_of manner n s spoken line_spoken reply shows t text accepted is f r told full yes =
+told_of manner n s spoken line_spoken reply shows t text accepted is f r told full well =
     rw (← is) (record {
       response = reply;
       shows = shows;
@@ -99,7 +99,7 @@ told_of manner n s spoken line_spoken reply shows t text accepted is f r told fu
       replies = r;
       replied = (text, told, refl);
       full = full;
-      accepted_is = yes;
+      accepted_is = well;
     })
 
 -- ---- there is an output
