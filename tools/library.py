@@ -46,11 +46,9 @@ def shared(archive, folder):
 
 
 def found():
-    """The archive of these sources, if there is one: the one that MLIR_WORK_ARCHIVE names, or that is shipped, or that
-    was built here."""
+    """The archive of these sources, if there is one: the one that MLIR_WORK_ARCHIVE names, or that of dist/."""
     named = os.environ.get("MLIR_WORK_ARCHIVE")
-    shipped = sources.unpacked_library()
-    return pathlib.Path(named) if named else shipped
+    return pathlib.Path(named) if named else sources.library()
 
 
 def main():

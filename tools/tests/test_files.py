@@ -1,0 +1,115 @@
+"""The module, scripts and the output in files: `mlir_work [MODULE] [-s FILE].. [-e COMMAND].. [-o FILE]`, over the
+program where its help names `--script`. What is written is what the rules write for the input that they make together."""
+import os
+import pathlib
+import subprocess
+import tempfile
+import unittest
+
+from support import program, referred
+
+MODULE = b'%0 = "arith.constant"() <{value = 1 : i32}> : () -> i32\n%1 = "t.u"(%0) : (i32) -> i32\n'
+SCRIPT = b"report uses\nerase #2\n"
+DIVIDER = b"// -----\n"
+
+
+def has_files():
+    try:
+        return program.words()[0][0] != os.sys.executable and program.has_option("--script")
+    except program.Fault:
+        return False
+
+
+@unittest.skipUnless(has_files(), "the program takes no files")
+class Files(unittest.TestCase):
+    def setUp(self):
+        self.room = tempfile.TemporaryDirectory()
+        self.addCleanup(self.room.cleanup)
+        self.folder = pathlib.Path(self.room.name)
+
+    def named(self, name, text):
+        file = self.folder / name
+        file.write_bytes(text)
+        return str(file)
+
+    def ran(self, *words, given=b""):
+        """The status, and what is written to both ends."""
+        before, more = program.words()
+        it = subprocess.run([*before, "--brief", *words], input=given, capture_output=True, check=False,
+                            env={**os.environ, **more})
+        return it.returncode, it.stdout.decode(), it.stderr.decode()
+
+    def check_runs(self, text, *words, given=b""):
+        """Says the same as a run over the input that is meant."""
+        self.assertEqual(self.ran(*words, given=given), (*referred(text), ""))
+
+    def test_module(self):
+        module = self.named("m.mlir", MODULE)
+        self.check_runs(MODULE, module)
+        self.check_runs(MODULE + DIVIDER + b"print\n", module, "-e", "print")
+        self.check_runs(MODULE + DIVIDER + b"print\n", "-e", "print", given=MODULE)
+        self.check_runs(MODULE + DIVIDER + b"print\n", "-", "-e", "print", given=MODULE)
+
+    def test_order(self):
+        module, first = self.named("m.mlir", MODULE), self.named("a.script", SCRIPT)
+        second = self.named("b.script", b"print")
+        wanted = MODULE + DIVIDER + SCRIPT + b"print\nreport dead\nerase #1\n"
+        self.check_runs(wanted, module, "-s", first, "-s", second, "-e", "report dead", "-e", "erase #1")
+        self.check_runs(wanted, "-e", "report dead", "--script", first, "--command=erase #1", "-s", second, module)
+        self.check_runs(MODULE + DIVIDER + SCRIPT, module, "-s", "-", given=SCRIPT)
+
+    def test_script_behind_the_module(self):
+        whole = self.named("m.mlir", MODULE + DIVIDER + b"erase #9")
+        self.check_runs(MODULE + DIVIDER + b"erase #9\nprint\n", whole, "-e", "print")
+
+    def test_last_lines(self):
+        for text in (MODULE[:-1], MODULE + DIVIDER[:-1], b""):
+            module = self.named("m.mlir", text)
+            ended = text + (b"" if text.endswith(b"\n") or not text else b"\n")
+            divided = ended if DIVIDER in ended else ended + DIVIDER
+            with self.subTest(text=text):
+                self.check_runs(divided + b"print\nprint\n", module, "-e", "print", "-e", "print")
+
+    def test_refused_module(self):
+        module = self.named("m.mlir", b'"a"(')
+        status, out, told = self.ran(module, "-e", "print")
+        self.assertEqual((status, told), (3, ""))
+        self.assertTrue(out.startswith("module refused "))
+
+    def test_output(self):
+        module, out = self.named("m.mlir", MODULE), self.folder / "out"
+        out.write_bytes(b"x" * 10000)
+        self.assertEqual(self.ran(module, "-e", "print", "-o", str(out)), (0, "", ""))
+        self.assertEqual(out.read_text(), referred(MODULE + DIVIDER + b"print\n")[1])
+        self.check_runs(MODULE, module, "-o", "-")
+        self.assertEqual(self.ran("-o", str(out), given=MODULE + DIVIDER + b"print"), (0, "", ""))
+        self.assertEqual(out.read_text(), referred(MODULE + DIVIDER + b"print")[1])
+
+    def test_what_is_not_there(self):
+        module, none = self.named("m.mlir", MODULE), str(self.folder / "none")
+        for words, name in (((none,), none), ((module, "-s", none), none), ((str(self.folder),), str(self.folder))):
+            self.assertEqual(self.ran(*words), (2, "", f"error: {name}: it can't be read\n"))
+        there = f"{none}/out"
+        self.assertEqual(self.ran(module, "-o", there), (2, "", f"error: {there}: it can't be written\n"))
+
+    def test_too_long(self):
+        long = self.folder / "long"
+        with open(long, "wb") as file:
+            file.truncate(33_554_433)
+        self.assertEqual(self.ran(str(long)), (2, "", f"error: {long}: it is longer than an input may be\n"))
+
+    def test_not_with_interactive(self):
+        module = self.named("m.mlir", MODULE)
+        for words in ((module,), ("-e", "print"), ("-s", module), ("-o", "-")):
+            status, out, told = self.ran("--interactive", *words)
+            self.assertEqual((status, out), (2, ""))
+            self.assertIn("cannot be used with", told)
+
+    @unittest.skipUnless(os.path.exists("/dev/full"), "there is no /dev/full")
+    def test_full(self):
+        status, out, told = self.ran(self.named("m.mlir", MODULE), "-e", "print", "-o", "/dev/full")
+        self.assertEqual((status, out, told), (4, "", ""))
+
+
+if __name__ == "__main__":
+    unittest.main()
