@@ -9,20 +9,20 @@ Edits an MLIR module in generic text form by a script, and reports analyses that
 are kept up to date.
 
 Standard input, or the file MODULE, is the module, a line that is exactly
-`// -----`, and the script; without such a line the script is empty. The replies,
+`// -----`, and the script; without such a line the script is empty. Replies,
 the module and the rows of analyses go to standard output.";
 
 /// What is said of MODULE.
-pub(crate) const MODULE: &str = "The module, with a script behind it or without; `-` is standard input";
+pub(crate) const MODULE: &str = "The module, with a script behind it or not; `-` is standard input";
 
 /// What `--script` says.
-pub(crate) const SCRIPT: &str = "A further script, behind the one of MODULE; it may stand more than once";
+pub(crate) const SCRIPT: &str = "A further script; it may stand more than once";
 
 /// What `--command` says.
-pub(crate) const COMMAND: &str = "A further command, behind all scripts; it may stand more than once";
+pub(crate) const COMMAND: &str = "A further command, behind all scripts; likewise";
 
 /// What `--output` says.
-pub(crate) const OUTPUT: &str = "Where the output goes to, in place of standard output";
+pub(crate) const OUTPUT: &str = "Where the output goes, not to standard output";
 
 /// What `--brief` says.
 pub(crate) const BRIEF: &str = "Leave out the module and all rows behind each edit";
@@ -34,7 +34,7 @@ pub(crate) const LIMIT: &str = "The most rewrites of a plain `canon`";
 pub(crate) const DEFAULT_LIMIT: &str = "1000";
 
 /// What `--interactive` says.
-pub(crate) const INTERACTIVE: &str = "Answer each line at once; an empty line ends each answer";
+pub(crate) const INTERACTIVE: &str = "Answer each line at once, and end it by an empty line";
 
 /// What stands below the options.
 pub(crate) const AFTER: &str = "\
