@@ -1,5 +1,5 @@
 """The module, scripts and the output in files: `mlir_work [MODULE] [-s FILE].. [-e COMMAND].. [-o FILE]`, over the
-program where its help names `--script`. What is written is what the rules write for the input that they make together."""
+program where its help names `--script`. What is written is what the rules write for the input that they make."""
 import os
 import pathlib
 import subprocess
