@@ -102,17 +102,17 @@ module _ (options : Options) (before : ℕ) (begun : State) where
   lived_none None a = tt
   lived_none (Some all) a = ([], [], refl, grows_none a, goes_none)
 
-  pub lived_step : (o mid new : Option (List ℕ)) (read more n : ℕ) (s t : State) (accepted : Bool) (a b c d : Stream) (line told_out : List ℕ) (told : Option Bool) → Lived o mid read n s accepted a b → TakesLine mid new line → 0 < length line → length line ≤ most_script_bytes → more ≡ read + length line →
-      IsAnswered (manner_of options more) n s (line_says (line_of line)) t told told_out → Grows b c told_out → Stays c d → Lived o new more (number_behind n told) t (accepted_behind accepted told) a d
-  lived_step None mid new read more n s t accepted a b c d line told_out told h takes some short is answered wrote stays = tt
-  lived_step (Some all) None new read more n s t accepted a b c d line told_out told h takes some short is answered wrote stays = absurd h
-  lived_step (Some all) (Some left) None read more n s t accepted a b c d line told_out told h takes some short is answered wrote stays = absurd takes
-  lived_step (Some all) (Some left) (Some rest) read more n s t accepted a b c d line told_out told (lines, out, cut, grows, goes) takes some short is answered wrote stays =
+  pub lived_step : (o mid new : Option (List ℕ)) (read more n : ℕ) (s t : State) (accepted : Bool) (a b c : Stream) (line told_out : List ℕ) (told : Option Bool) → Lived o mid read n s accepted a b → TakesLine mid new line → 0 < length line → length line ≤ most_script_bytes → more ≡ read + length line →
+      IsAnswered (manner_of options more) n s (line_says (line_of line)) t told told_out → Grows b c told_out → Lived o new more (number_behind n told) t (accepted_behind accepted told) a c
+  lived_step None mid new read more n s t accepted a b c line told_out told h takes some short is answered wrote = tt
+  lived_step (Some all) None new read more n s t accepted a b c line told_out told h takes some short is answered wrote = absurd h
+  lived_step (Some all) (Some left) None read more n s t accepted a b c line told_out told h takes some short is answered wrote = absurd takes
+  lived_step (Some all) (Some left) (Some rest) read more n s t accepted a b c line told_out told (lines, out, cut, grows, goes) takes some short is answered wrote =
       let next = next_line (Some left) (Some rest) line takes some in (
         lines ++ line ∷ [],
         out ++ told_out,
         cut ∙ ap (λ (xs : List (List ℕ)). lines ++ xs) next ∙ sym (append_assoc lines (line ∷ []) (whole_lines rest)),
-        grows_stays a c d (out ++ told_out) (grows_join a b c out told_out grows wrote) stays,
+        grows_join a b c out told_out grows wrote,
         rw is (goes_step lines read n s t accepted out line told_out told goes short (rw is at answered)),
       )
 
@@ -155,6 +155,11 @@ module _ (options : Options) (before : ℕ) (begun : State) where
         goes_so_far (lines ++ line ∷ []) (read + length line) (number_behind n told) t (accepted_behind accepted told) (out ++ told_out) step,
         front_join a b c out told_out grows wrote,
       )
+
+-- a line takes one number at most
+pub one_number : (n : ℕ) (told : Option Bool) → number_behind n told ≤ n + 1
+one_number n None = omega arith
+one_number n (Some accepted) = omega arith
 
 -- ---- modules, and lines behind them
 
