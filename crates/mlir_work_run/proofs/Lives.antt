@@ -5,7 +5,7 @@ use Rattle.std.specs.Io.KnownBytes.{IsAtEnd, Keeps}
 use Rattle.ir_types.specs.declared.refusal.Refusal.TheVariants.{Memory}
 use Rattle.std.proofs.lemmas.List.{append_cancel_right}
 use Rattle.ir_event.specs.Modules.{Module}
-use Rattle.mlir_work_lines.specs.Feeding.{TakesLine, TakesModule, waiting}
+use Rattle.mlir_work_lines.specs.Feeding.{IfBroken, IsMore, TakesLine, TakesModule, waiting}
 use Rattle.mlir_work_lines.proofs.Feeds.{keeps_join}
 use Rattle.mlir_work_lines.specs.declared.feed.Stop.{Stop}
 use Rattle.mlir_work_lines.specs.declared.feed.Stop.TheVariants.{Broken, Memory as OutOfMemory, TooMany}
@@ -223,6 +223,10 @@ pub refused_so : (P : List (List ℕ) → ℕ → List ℕ → Type 0) (R : ℕ 
 refused_so P R all a b handed (Ok st) q is so (o, p, h, on) = rw is (o, so all st o p, h, on)
 refused_so P R all a b handed (Err e) q is so (st, o, p, h) = rw is ([], st, o, (all, refl), so [] st o p, h)
 
+pub refused_if : (P : List (List ℕ) → ℕ → List ℕ → Type 0) (R : ℕ → List ℕ → Type 0) (o : Option (List ℕ)) (a b : Stream) (handed : Bool) (r : Result ℕ WriteFault) (q : Result ℕ Halt) → q ≡ halted_of r → ((lines : List (List ℕ)) (st : ℕ) (out : List ℕ) → R st out → P lines st out) → HandedOut R a b handed r → IfSome o (λ script. LiveEnded P (whole_lines script) a b handed q)
+refused_if P R None a b handed r q is so h = tt
+refused_if P R (Some script) a b handed r q is so h = refused_so P R (whole_lines script) a b handed r q is so h
+
 -- nothing was written before
 module _ (P : List (List ℕ) → ℕ → List ℕ → Type 0) (all : List (List ℕ)) (a b c : Stream) (stays : Stays a b) where
   then_grows : (o : List ℕ) → Grows b c o → Grows a c o
@@ -296,18 +300,27 @@ module _ (options : Options) (boxes : List Shown) where
 
 -- ---- reads
 
-pub read_halts : (taken left : Intake) (stop : Stop) (halt : Halt) → halt ≡ halt_of stop → (stop ≡ Broken → left.failed ≡ true) → LiveRead taken left (Err halt)
-read_halts taken left Broken halt is failed = rw is (failed refl)
-read_halts taken left OutOfMemory halt is failed = rw is tt
-read_halts taken left TooMany halt is failed = rw is tt
+pub read_halts : (taken mid left : Intake) (stop : Stop) (halt : Halt) → halt ≡ halt_of stop → mid.failed ≡ taken.failed → IfBroken stop (left.failed ≡ true) (left.failed ≡ mid.failed) → LiveRead taken left (Err halt)
+read_halts taken mid left Broken halt is same failed = rw is failed
+read_halts taken mid left OutOfMemory halt is same failed = rw is (failed ∙ same)
+read_halts taken mid left TooMany halt is same failed = rw is (failed ∙ same)
 
 pub read_behind : (taken mid left : Intake) (r : Result ℕ Halt) → mid.failed ≡ taken.failed → LiveRead mid left r → LiveRead taken left r
 read_behind taken mid left (Ok st) same h = h ∙ same
 read_behind taken mid left (Err ReadFailed) same h = h
 read_behind taken mid left (Err WriteFailed) same h = h ∙ same
-read_behind taken mid left (Err NoMemory) same h = tt
-read_behind taken mid left (Err TooLong) same h = tt
+read_behind taken mid left (Err NoMemory) same h = h ∙ same
+read_behind taken mid left (Err TooLong) same h = h ∙ same
 
 pub read_halted : (taken left : Intake) (r : Result ℕ WriteFault) (q : Result ℕ Halt) → q ≡ halted_of r → left.failed ≡ taken.failed → LiveRead taken left q
 read_halted taken left (Ok st) q is same = rw is same
 read_halted taken left (Err e) q is same = rw is same
+
+-- what is known of the bytes that wait before any is kept
+pub true_of : (o : Option (List ℕ)) → IfSome o (λ input. input ≡ input)
+true_of None = tt
+true_of (Some input) = refl
+
+pub more_of : (most : ℕ) (o : Option (List ℕ)) → IsMore most (waiting [] o) → IfSome o (λ input. most < length input)
+more_of most None h = tt
+more_of most (Some input) h = h
