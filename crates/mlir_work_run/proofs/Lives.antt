@@ -5,7 +5,7 @@ use Rattle.std.specs.Io.KnownBytes.{IsAtEnd, Keeps}
 use Rattle.ir_types.specs.declared.refusal.Refusal.TheVariants.{Memory}
 use Rattle.std.proofs.lemmas.List.{append_cancel_right}
 use Rattle.ir_event.specs.Modules.{Module}
-use Rattle.mlir_work_lines.specs.Feeding.{IfBroken, IsMore, TakesLine, TakesModule, waiting}
+use Rattle.mlir_work_lines.specs.Feeding.{IsMore, TakesLine, TakesModule, waiting}
 use Rattle.mlir_work_lines.proofs.Feeds.{keeps_join}
 use Rattle.mlir_work_lines.specs.declared.feed.Stop.{Stop}
 use Rattle.mlir_work_lines.specs.declared.feed.Stop.TheVariants.{Broken, Memory as OutOfMemory, TooMany}
@@ -299,11 +299,6 @@ module _ (options : Options) (boxes : List Shown) where
   live_at (Some input) a b handed r status is h = rw is (at_status input (whole_lines (script_text input)) a b handed r h)
 
 -- ---- reads
-
-pub read_halts : (taken mid left : Intake) (stop : Stop) (halt : Halt) → halt ≡ halt_of stop → mid.failed ≡ taken.failed → IfBroken stop (left.failed ≡ true) (left.failed ≡ mid.failed) → LiveRead taken left (Err halt)
-read_halts taken mid left Broken halt is same failed = rw is failed
-read_halts taken mid left OutOfMemory halt is same failed = rw is (failed ∙ same)
-read_halts taken mid left TooMany halt is same failed = rw is (failed ∙ same)
 
 pub read_behind : (taken mid left : Intake) (r : Result ℕ Halt) → mid.failed ≡ taken.failed → LiveRead mid left r → LiveRead taken left r
 read_behind taken mid left (Ok st) same h = h ∙ same

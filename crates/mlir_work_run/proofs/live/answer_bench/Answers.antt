@@ -9,7 +9,7 @@ use Rattle.mlir_work_run.proofs.live.answer_bench.Goals as goal
 pub returns-in-Err-clause-ended : goal.returns-in-Err-clause-ended
 returns-in-Err-clause-ended g c =
     let begun = c.in-Err.ensures.begun in
-    begun_cut c.args.options (all_shown g.L.Analysis.meaning c.args.boxes.items) (module_held c.args.bench.now.desk) c.args.before (waiting c.args.kept.now.items (g.R.Source.intake c.args.reader.now).remaining) begun.0 begun.1 begun.2 _ _ _ begun.3 begun.4
+    begun_cut c.args.options (all_shown g.L.Analysis.meaning c.args.boxes.items) (module_held c.args.bench.now.desk) c.args.before (waiting c.args.kept.now.items (g.R.Source.intake c.args.reader.now).remaining) begun.0 begun.1 begun.2 (g.W.Sink.stream c.args.writer.now) (g.W.Sink.stream c.begin_live.new.writer) (g.W.Sink.handed c.begin_live.new.writer) begun.3 begun.4
 
 pub returns-in-Ok-answer_lines-clause-ended : goal.returns-in-Ok-answer_lines-clause-ended
 returns-in-Ok-answer_lines-clause-ended g c =
