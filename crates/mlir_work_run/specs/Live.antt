@@ -35,7 +35,7 @@ Lives options read n s [] status out = (status ≡ 0) × (out ≡ [])
 Lives options read n s (line ∷ lines) status out =
     (length line ≤ most_script_bytes)
     × Line (λ m t st o. Lives options (read + length line) m t lines st o) (manner_of options (read + length line)) n s
-      (line_says (line_of line)) status out
+    (line_says (line_of line)) status out
 
 -- boxes are attached to a module, and then lines are answered
 pub record Live (options : Options) (boxes : List Shown) (m : Module) (read : ℕ) (lines : List (List ℕ)) (status : ℕ) (out : List ℕ) : Type 0 where

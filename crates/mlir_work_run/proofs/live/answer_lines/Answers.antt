@@ -48,6 +48,6 @@ lines-preserved g c =
       count = (let had = c.lines.invariant.count in let one = one_number c.lines.n c.in-Ok.told in let next = c.number_behind-n.ensures in omega (arith, had, one, next, is, some));
       failed = c.in-Ok-Some.ensures.failed ∙ c.lines.invariant.failed;
       lived = rw (c.number_behind-n.ensures, c.accepted_behind-accepted.ensures) (lived_step c.args.options c.args.before (state_of g.L.Analysis.meaning c.args.bench.now) (waiting c.args.kept.now.items (g.R.Source.intake c.args.reader.now).remaining) (waiting c.lines.kept.items (g.R.Source.intake c.lines.reader).remaining) (waiting c.take_line.new.kept.items (g.R.Source.intake c.take_line.new.reader).remaining)
-      c.lines.read c.in-Some.more c.lines.n (state_of g.L.Analysis.meaning c.lines.bench) (state_of g.L.Analysis.meaning c.live_step.new.bench) c.lines.accepted (g.W.Sink.stream c.args.writer.now) (g.W.Sink.stream c.lines.writer) (g.W.Sink.stream c.live_step.new.writer) line told.0 c.in-Ok.told c.lines.invariant.lived
-      (rw c.in-Ok-Some.field-0-is at c.in-Ok-Some.ensures.line) some (rw c.in-Ok-Some.field-0-is at c.in-Ok-Some.ensures.short) is (rw (c.manner_of-manner.ensures, c.deref.ensures.value) at told.1) told.2);
+          c.lines.read c.in-Some.more c.lines.n (state_of g.L.Analysis.meaning c.lines.bench) (state_of g.L.Analysis.meaning c.live_step.new.bench) c.lines.accepted (g.W.Sink.stream c.args.writer.now) (g.W.Sink.stream c.lines.writer) (g.W.Sink.stream c.live_step.new.writer) line told.0 c.in-Ok.told c.lines.invariant.lived
+          (rw c.in-Ok-Some.field-0-is at c.in-Ok-Some.ensures.line) some (rw c.in-Ok-Some.field-0-is at c.in-Ok-Some.ensures.short) is (rw (c.manner_of-manner.ensures, c.deref.ensures.value) at told.1) told.2);
     }
