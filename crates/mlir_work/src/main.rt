@@ -119,9 +119,23 @@ fn run_all(rt: &HostRuntime, options: Options) -> Result<u8, AllocError> {
     let mut writer = Watched::new(writer);
     let key = key_of(rt);
     Ok(if options.ends {
-        run_live(rt.alloc(), key, options, &mut reader, &mut writer, listeners)
+        run_live(
+            rt.alloc(),
+            key,
+            options,
+            &mut reader,
+            &mut writer,
+            listeners,
+        )
     } else {
-        run_watched(rt.alloc(), key, options, &mut reader, &mut writer, listeners)
+        run_watched(
+            rt.alloc(),
+            key,
+            options,
+            &mut reader,
+            &mut writer,
+            listeners,
+        )
     })
 }
 

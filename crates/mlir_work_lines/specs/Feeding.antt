@@ -4,6 +4,8 @@ use Rattle.std.specs.Io.KnownBytes.{IsAtEnd, prepend_known}
 use Rattle.std.specs.List.{position_or_len}
 use Rattle.mlir_work_script.specs.Lines.{is_newline, line_of, after_line}
 use Rattle.mlir_work_script.specs.Parts.{module_text, script_text}
+use Rattle.mlir_work_lines.specs.declared.feed.Stop.{Stop}
+use Rattle.mlir_work_lines.specs.declared.feed.Stop.TheVariants.{Broken, Memory, TooMany}
 
 -- what waits: the bytes that are kept, and then those that the reader has left, where they are known
 abbrev pub waiting : List ℕ → Option (List ℕ) → Option (List ℕ)
@@ -33,3 +35,9 @@ HasLine kept left = HasFeed kept ⊎ IsAtEnd left
 abbrev pub IsMore : ℕ → Option (List ℕ) → Type 0
 IsMore most None = ⊤
 IsMore most (Some all) = most < length all
+
+-- where a read failed, the one, and else the other
+abbrev pub IfBroken : Stop → Type 0 → Type 0 → Type 0
+IfBroken Broken A B = A
+IfBroken Memory A B = B
+IfBroken TooMany A B = B

@@ -2,9 +2,9 @@
 ghost use Rattle.std.specs.Prelude.{◌≡◌, ◌<◌, ◌≤◌, IsTrue, true, length, position, None, IfOk, IfErr, IfSome};
 ghost use Rattle.std.specs.Io.KnownBytes.{IsAtEnd, Keeps};
 ghost use Rattle.mlir_work_script.specs.Lines.{is_newline};
-ghost use Rattle.mlir_work_lines.specs.Feeding.{HasFeed, HasLine, IsMore, TakesLine, waiting};
+ghost use Rattle.mlir_work_lines.specs.Feeding.{HasFeed, HasLine, IfBroken, IsMore, TakesLine, waiting};
 ghost use Rattle.mlir_work_lines.specs.declared.feed.Got.TheVariants.{End as AtEnd, Line as GotLine};
-ghost use Rattle.mlir_work_lines.specs.declared.feed.Stop.TheVariants.{Broken as WasBroken, TooMany as WereTooMany};
+ghost use Rattle.mlir_work_lines.specs.declared.feed.Stop.TheVariants.{TooMany as WereTooMany};
 
 use mlir_work_script::lines::split_line;
 use mlir_work_script::sink::Sink;
@@ -75,7 +75,7 @@ fn more<R: Source, W: Sink>(kept: &mut Vec<u8>, reader: &mut R, _writer: &W) -> 
     ensures line { IfOk result (λ got. got ≡ GotLine → HasFeed kept.new.items) }
     ensures end { IfOk result (λ got. got ≡ AtEnd → IsAtEnd (R.intake reader.new).remaining) }
     ensures failed { IfOk result (λ _. (R.intake reader.new).failed ≡ (R.intake reader.old).failed) }
-    ensures broken { IfErr result (λ stop. stop ≡ WasBroken → (R.intake reader.new).failed ≡ true) }
+    ensures broken { IfErr result (λ stop. IfBroken stop ((R.intake reader.new).failed ≡ true) ((R.intake reader.new).failed ≡ (R.intake reader.old).failed)) }
     ensures enough { IfErr result (λ stop. stop ≡ WereTooMany → ⊥) }
 {
     let mut buffer = [0u8; CHUNK];
@@ -105,7 +105,7 @@ fn fill<R: Source, W: Sink>(
     ensures whole { IfOk result (λ _. Keeps (waiting kept.old.items (R.intake reader.old).remaining) (waiting kept.new.items (R.intake reader.new).remaining)) }
     ensures line { IfOk result (λ _. HasLine kept.new.items (R.intake reader.new).remaining) }
     ensures failed { IfOk result (λ _. (R.intake reader.new).failed ≡ (R.intake reader.old).failed) }
-    ensures broken { IfErr result (λ stop. stop ≡ WasBroken → (R.intake reader.new).failed ≡ true) }
+    ensures broken { IfErr result (λ stop. IfBroken stop ((R.intake reader.new).failed ≡ true) ((R.intake reader.new).failed ≡ (R.intake reader.old).failed)) }
     ensures many { IfErr result (λ stop. stop ≡ WereTooMany → IsMore most (waiting kept.old.items (R.intake reader.old).remaining)) }
 {
     if has_feed(kept) {
@@ -140,7 +140,7 @@ pub fn take_line<R: Source, W: Sink>(
     ensures end { IfOk result (λ found. found ≡ None → IsAtEnd (waiting kept.old.items (R.intake reader.old).remaining)) }
     ensures stays { IfOk result (λ found. found ≡ None → Keeps (waiting kept.old.items (R.intake reader.old).remaining) (waiting kept.new.items (R.intake reader.new).remaining)) }
     ensures failed { IfOk result (λ _. (R.intake reader.new).failed ≡ (R.intake reader.old).failed) }
-    ensures broken { IfErr result (λ stop. stop ≡ WasBroken → (R.intake reader.new).failed ≡ true) }
+    ensures broken { IfErr result (λ stop. IfBroken stop ((R.intake reader.new).failed ≡ true) ((R.intake reader.new).failed ≡ (R.intake reader.old).failed)) }
     ensures many { IfErr result (λ stop. stop ≡ WereTooMany → IsMore most (waiting kept.old.items (R.intake reader.old).remaining)) }
 {
     match fill(most, kept, reader, writer) {

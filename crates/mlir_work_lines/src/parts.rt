@@ -2,8 +2,8 @@
 ghost use Rattle.std.specs.Prelude.{◌≡◌, true, IfOk, IfErr};
 ghost use Rattle.mlir_work_script.specs.Limits.{most_input_bytes};
 ghost use Rattle.mlir_work_script.specs.Parts.{at_divider as is_at_divider};
-ghost use Rattle.mlir_work_lines.specs.Feeding.{IsMore, TakesModule, waiting};
-ghost use Rattle.mlir_work_lines.specs.declared.feed.Stop.TheVariants.{Broken as WasBroken, TooMany as WereTooMany};
+ghost use Rattle.mlir_work_lines.specs.Feeding.{IfBroken, IsMore, TakesModule, waiting};
+ghost use Rattle.mlir_work_lines.specs.declared.feed.Stop.TheVariants.{TooMany as WereTooMany};
 
 use crate::feed::{Stop, take_line};
 use mlir_work_script::input::MAX_INPUT_BYTES;
@@ -33,7 +33,7 @@ pub fn take_module<R: Source, W: Sink>(
     requires handed { W.handed writer.now ≡ true }
     ensures module { IfOk result (λ text. TakesModule (waiting kept.old.items (R.intake reader.old).remaining) (waiting kept.new.items (R.intake reader.new).remaining) text.items) }
     ensures failed { IfOk result (λ _. (R.intake reader.new).failed ≡ (R.intake reader.old).failed) }
-    ensures broken { IfErr result (λ stop. stop ≡ WasBroken → (R.intake reader.new).failed ≡ true) }
+    ensures broken { IfErr result (λ stop. IfBroken stop ((R.intake reader.new).failed ≡ true) ((R.intake reader.new).failed ≡ (R.intake reader.old).failed)) }
     ensures many { IfErr result (λ stop. stop ≡ WereTooMany → IsMore most_input_bytes (waiting kept.old.items (R.intake reader.old).remaining)) }
 {
     let mut text = Vec::new(alloc);

@@ -5,7 +5,7 @@ use Rattle.std.specs.Io.KnownBytes.{IsAtEnd, Keeps}
 use Rattle.ir_types.specs.declared.refusal.Refusal.TheVariants.{Memory}
 use Rattle.std.proofs.lemmas.List.{append_cancel_right}
 use Rattle.ir_event.specs.Modules.{Module}
-use Rattle.mlir_work_lines.specs.Feeding.{TakesLine, TakesModule, waiting}
+use Rattle.mlir_work_lines.specs.Feeding.{IsMore, TakesLine, TakesModule, waiting}
 use Rattle.mlir_work_lines.proofs.Feeds.{keeps_join}
 use Rattle.mlir_work_lines.specs.declared.feed.Stop.{Stop}
 use Rattle.mlir_work_lines.specs.declared.feed.Stop.TheVariants.{Broken, Memory as OutOfMemory, TooMany}
@@ -102,17 +102,17 @@ module _ (options : Options) (before : ℕ) (begun : State) where
   lived_none None a = tt
   lived_none (Some all) a = ([], [], refl, grows_none a, goes_none)
 
-  pub lived_step : (o mid new : Option (List ℕ)) (read more n : ℕ) (s t : State) (accepted : Bool) (a b c d : Stream) (line told_out : List ℕ) (told : Option Bool) → Lived o mid read n s accepted a b → TakesLine mid new line → 0 < length line → length line ≤ most_script_bytes → more ≡ read + length line →
-      IsAnswered (manner_of options more) n s (line_says (line_of line)) t told told_out → Grows b c told_out → Stays c d → Lived o new more (number_behind n told) t (accepted_behind accepted told) a d
-  lived_step None mid new read more n s t accepted a b c d line told_out told h takes some short is answered wrote stays = tt
-  lived_step (Some all) None new read more n s t accepted a b c d line told_out told h takes some short is answered wrote stays = absurd h
-  lived_step (Some all) (Some left) None read more n s t accepted a b c d line told_out told h takes some short is answered wrote stays = absurd takes
-  lived_step (Some all) (Some left) (Some rest) read more n s t accepted a b c d line told_out told (lines, out, cut, grows, goes) takes some short is answered wrote stays =
+  pub lived_step : (o mid new : Option (List ℕ)) (read more n : ℕ) (s t : State) (accepted : Bool) (a b c : Stream) (line told_out : List ℕ) (told : Option Bool) → Lived o mid read n s accepted a b → TakesLine mid new line → 0 < length line → length line ≤ most_script_bytes → more ≡ read + length line →
+      IsAnswered (manner_of options more) n s (line_says (line_of line)) t told told_out → Grows b c told_out → Lived o new more (number_behind n told) t (accepted_behind accepted told) a c
+  lived_step None mid new read more n s t accepted a b c line told_out told h takes some short is answered wrote = tt
+  lived_step (Some all) None new read more n s t accepted a b c line told_out told h takes some short is answered wrote = absurd h
+  lived_step (Some all) (Some left) None read more n s t accepted a b c line told_out told h takes some short is answered wrote = absurd takes
+  lived_step (Some all) (Some left) (Some rest) read more n s t accepted a b c line told_out told (lines, out, cut, grows, goes) takes some short is answered wrote =
       let next = next_line (Some left) (Some rest) line takes some in (
         lines ++ line ∷ [],
         out ++ told_out,
         cut ∙ ap (λ (xs : List (List ℕ)). lines ++ xs) next ∙ sym (append_assoc lines (line ∷ []) (whole_lines rest)),
-        grows_stays a c d (out ++ told_out) (grows_join a b c out told_out grows wrote) stays,
+        grows_join a b c out told_out grows wrote,
         rw is (goes_step lines read n s t accepted out line told_out told goes short (rw is at answered)),
       )
 
@@ -155,6 +155,11 @@ module _ (options : Options) (before : ℕ) (begun : State) where
         goes_so_far (lines ++ line ∷ []) (read + length line) (number_behind n told) t (accepted_behind accepted told) (out ++ told_out) step,
         front_join a b c out told_out grows wrote,
       )
+
+-- a line takes one number at most
+pub one_number : (n : ℕ) (told : Option Bool) → number_behind n told ≤ n + 1
+one_number n None = omega arith
+one_number n (Some accepted) = omega arith
 
 -- ---- modules, and lines behind them
 
@@ -217,6 +222,10 @@ module _ (P Q : List (List ℕ) → ℕ → List ℕ → Type 0) (so : (lines : 
 pub refused_so : (P : List (List ℕ) → ℕ → List ℕ → Type 0) (R : ℕ → List ℕ → Type 0) (all : List (List ℕ)) (a b : Stream) (handed : Bool) (r : Result ℕ WriteFault) (q : Result ℕ Halt) → q ≡ halted_of r → ((lines : List (List ℕ)) (st : ℕ) (o : List ℕ) → R st o → P lines st o) → HandedOut R a b handed r → LiveEnded P all a b handed q
 refused_so P R all a b handed (Ok st) q is so (o, p, h, on) = rw is (o, so all st o p, h, on)
 refused_so P R all a b handed (Err e) q is so (st, o, p, h) = rw is ([], st, o, (all, refl), so [] st o p, h)
+
+pub refused_if : (P : List (List ℕ) → ℕ → List ℕ → Type 0) (R : ℕ → List ℕ → Type 0) (o : Option (List ℕ)) (a b : Stream) (handed : Bool) (r : Result ℕ WriteFault) (q : Result ℕ Halt) → q ≡ halted_of r → ((lines : List (List ℕ)) (st : ℕ) (out : List ℕ) → R st out → P lines st out) → HandedOut R a b handed r → IfSome o (λ script. LiveEnded P (whole_lines script) a b handed q)
+refused_if P R None a b handed r q is so h = tt
+refused_if P R (Some script) a b handed r q is so h = refused_so P R (whole_lines script) a b handed r q is so h
 
 -- nothing was written before
 module _ (P : List (List ℕ) → ℕ → List ℕ → Type 0) (all : List (List ℕ)) (a b c : Stream) (stays : Stays a b) where
@@ -291,18 +300,22 @@ module _ (options : Options) (boxes : List Shown) where
 
 -- ---- reads
 
-pub read_halts : (taken left : Intake) (stop : Stop) (halt : Halt) → halt ≡ halt_of stop → (stop ≡ Broken → left.failed ≡ true) → LiveRead taken left (Err halt)
-read_halts taken left Broken halt is failed = rw is (failed refl)
-read_halts taken left OutOfMemory halt is failed = rw is tt
-read_halts taken left TooMany halt is failed = rw is tt
-
 pub read_behind : (taken mid left : Intake) (r : Result ℕ Halt) → mid.failed ≡ taken.failed → LiveRead mid left r → LiveRead taken left r
 read_behind taken mid left (Ok st) same h = h ∙ same
 read_behind taken mid left (Err ReadFailed) same h = h
 read_behind taken mid left (Err WriteFailed) same h = h ∙ same
-read_behind taken mid left (Err NoMemory) same h = tt
-read_behind taken mid left (Err TooLong) same h = tt
+read_behind taken mid left (Err NoMemory) same h = h ∙ same
+read_behind taken mid left (Err TooLong) same h = h ∙ same
 
 pub read_halted : (taken left : Intake) (r : Result ℕ WriteFault) (q : Result ℕ Halt) → q ≡ halted_of r → left.failed ≡ taken.failed → LiveRead taken left q
 read_halted taken left (Ok st) q is same = rw is same
 read_halted taken left (Err e) q is same = rw is same
+
+-- what is known of the bytes that wait before any is kept
+pub true_of : (o : Option (List ℕ)) → IfSome o (λ input. input ≡ input)
+true_of None = tt
+true_of (Some input) = refl
+
+pub more_of : (most : ℕ) (o : Option (List ℕ)) → IsMore most (waiting [] o) → IfSome o (λ input. most < length input)
+more_of most None h = tt
+more_of most (Some input) h = h

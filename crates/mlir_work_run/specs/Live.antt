@@ -1,5 +1,5 @@
 -- What a live run writes: an answer to the module, and an answer to each line as soon as it is there.
-use Rattle.std.specs.Prelude.{◌≡◌, ◌≤◌, ℕ, ◌+◌, List, [], ◌∷◌, ◌++◌, length, Bool, true, ◌⊎◌, Result, Ok, Err, if◌then◌else◌, ⊤, codes}
+use Rattle.std.specs.Prelude.{◌≡◌, ◌≤◌, ℕ, ◌+◌, List, [], ◌∷◌, ◌++◌, length, Bool, true, ◌⊎◌, Result, Ok, Err, if◌then◌else◌, codes}
 use Rattle.ir_event.specs.Modules.{Module}
 use Rattle.mlir_work_lines.specs.declared.feed.Stop.{Stop}
 use Rattle.mlir_work_lines.specs.declared.feed.Stop.TheVariants.{Broken, Memory as OutOfMemory, TooMany}
@@ -35,7 +35,7 @@ Lives options read n s [] status out = (status ≡ 0) × (out ≡ [])
 Lives options read n s (line ∷ lines) status out =
     (length line ≤ most_script_bytes)
     × Line (λ m t st o. Lives options (read + length line) m t lines st o) (manner_of options (read + length line)) n s
-      (line_says (line_of line)) status out
+    (line_says (line_of line)) status out
 
 -- boxes are attached to a module, and then lines are answered
 pub record Live (options : Options) (boxes : List Shown) (m : Module) (read : ℕ) (lines : List (List ℕ)) (status : ℕ) (out : List ℕ) : Type 0 where
@@ -120,10 +120,10 @@ LiveEndedAt P all old new handed status =
     ⊎ ((status ≡ 4)
     × (((handed ≡ true) × (Stays old new ⊎ IsUpTo P all old new)) ⊎ IsCutOff P all old new))
 
--- whether a read failed: not where a run came to its end or a write failed
+-- whether a read failed: only where the run ends for that
 abbrev pub LiveRead : Intake → Intake → Result ℕ Halt → Type 0
 LiveRead taken left (Ok status) = left.failed ≡ taken.failed
 LiveRead taken left (Err ReadFailed) = left.failed ≡ true
 LiveRead taken left (Err WriteFailed) = left.failed ≡ taken.failed
-LiveRead taken left (Err NoMemory) = ⊤
-LiveRead taken left (Err TooLong) = ⊤
+LiveRead taken left (Err NoMemory) = left.failed ≡ taken.failed
+LiveRead taken left (Err TooLong) = left.failed ≡ taken.failed

@@ -230,7 +230,9 @@ fn answer_world<L: Analysis, R: Source, W: Sink>(
     ensures read { LiveRead (R.intake reader.old) (R.intake reader.new) result }
 {
     let mut bench = Bench::over(alloc, world);
-    answer_bench(alloc, options, before, &mut bench, kept, reader, writer, boxes)
+    answer_bench(
+        alloc, options, before, &mut bench, kept, reader, writer, boxes,
+    )
 }
 
 /// The world of the module that a text spells, or why there is none.

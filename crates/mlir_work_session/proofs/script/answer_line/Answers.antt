@@ -19,7 +19,7 @@ returns-in-Err-clause-answered g c =
       Some (is_accepted reply),
       text ++ end_of manner.ends,
       told_of manner c.args.n (state_of meaning c.args.bench.now) (spoken_of c.read_line-line.result) (line_says c.args.line.now) reply c.answer-answered.result.shows.items (state_of meaning c.answer-answered.new.bench) text (is_accepted reply)
-      c.read_line-line.ensures c.if-is_nothing.ensures c.answer-answered.ensures.replies (rw c.is_listed-listed.ensures at c.in-Err.ensures.1) c.answer-answered.ensures.bounded refl,
+          c.read_line-line.ensures c.if-is_nothing.ensures c.answer-answered.ensures.replies (rw c.is_listed-listed.ensures at c.in-Err.ensures.1) c.answer-answered.ensures.bounded refl,
       front_more _ _ text (end_of manner.ends) c.in-Err.ensures.2,
     )
 
@@ -31,7 +31,7 @@ returns-in-Ok-put_end-clause-answered g c =
     let reply = response_of c.answer-answered.result.reply in (
       text ++ end_of manner.ends,
       told_of manner c.args.n (state_of meaning c.args.bench.now) (spoken_of c.read_line-line.result) (line_says c.args.line.now) reply c.answer-answered.result.shows.items (state_of meaning c.answer-answered.new.bench) text _
-      c.read_line-line.ensures c.if-is_nothing.ensures c.answer-answered.ensures.replies (rw c.is_listed-listed.ensures at c.in-Ok.ensures.1) c.answer-answered.ensures.bounded c.is_accepted.ensures,
+          c.read_line-line.ensures c.if-is_nothing.ensures c.answer-answered.ensures.replies (rw c.is_listed-listed.ensures at c.in-Ok.ensures.1) c.answer-answered.ensures.bounded c.is_accepted.ensures,
       grows_join _ _ _ text (end_of manner.ends) c.in-Ok.ensures.2 c.in-Ok-put_end.ensures,
     )
 
@@ -44,6 +44,6 @@ returns-in-Err-put_end-clause-answered g c =
       Some (is_accepted reply),
       text ++ end_of manner.ends,
       told_of manner c.args.n (state_of meaning c.args.bench.now) (spoken_of c.read_line-line.result) (line_says c.args.line.now) reply c.answer-answered.result.shows.items (state_of meaning c.answer-answered.new.bench) text (is_accepted reply)
-      c.read_line-line.ensures c.if-is_nothing.ensures c.answer-answered.ensures.replies (rw c.is_listed-listed.ensures at c.in-Ok.ensures.1) c.answer-answered.ensures.bounded refl,
+          c.read_line-line.ensures c.if-is_nothing.ensures c.answer-answered.ensures.replies (rw c.is_listed-listed.ensures at c.in-Ok.ensures.1) c.answer-answered.ensures.bounded refl,
       front_join _ _ _ text (end_of manner.ends) c.in-Ok.ensures.2 c.in-Err-put_end.ensures,
     )
