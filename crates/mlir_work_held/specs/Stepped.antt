@@ -1,5 +1,5 @@
 -- What a line makes of a session that is held between calls.
-use Rattle.std.specs.Prelude.{◌≡◌, ℕ, ◌+◌, List, [], ◌∷◌, length, true, min}
+use Rattle.std.specs.Prelude.{◌≡◌, ℕ, ◌+◌, List, [], ◌∷◌, length, true, false, min}
 use Rattle.ir_types.specs.declared.refusal.Refusal.TheVariants.{BadCommand}
 use Rattle.rewriter.specs.Commands.{Response}
 use Rattle.rewriter.specs.Benched.{state_of}
@@ -23,7 +23,7 @@ most_counted = 18446744073709551615
 
 -- how a line is answered: briefly, with the bytes counted that were handed in so far
 abbrev pub way : Session → List ℕ → Manner
-way s line = record { brief = true; bytes = min (s.bytes + length line) most_counted; limit = s.limit }
+way s line = record { brief = true; bytes = min (s.bytes + length line) most_counted; limit = s.limit; ends = false }
 
 -- what is said is replied to as the machine does, and the answer tells that reply
 pub record Answered (manner : Manner) (s : Session) (spoken : Spoken) (a : Answer) (t : Session) : Type 0 where

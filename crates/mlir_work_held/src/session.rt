@@ -38,6 +38,7 @@ fn way(session: &Session, line: &[u8]) -> Manner
         brief: true,
         bytes: session.bytes.saturating_add(line.len()),
         limit: session.limit,
+        ends: false,
     }
 }
 
@@ -89,7 +90,7 @@ pub fn say(alloc: Global, session: &mut Session, line: &[u8]) -> Answer
 
 /// Copies what the last line showed, from a byte on, and says how many bytes were copied.
 pub fn read_shown(session: &Session, from: usize, into: &mut [u8]) -> usize
-    ensures { into.new ≡ take result (drop from session.now.shows.items) ++ drop result into.old }
+    ensures copied { into.new ≡ take result (drop from session.now.shows.items) ++ drop result into.old }
     ensures count { result ≡ min (length (drop from session.now.shows.items)) (length into.old) }
 {
     let shown = match session.shows.get(from..) {

@@ -74,7 +74,7 @@ pub struct Unread {
 }
 
 /// The tree that a text spells, and a context that holds what it names. No text within its limit fills it.
-pub(crate) fn tree_of(alloc: Global, key: u64, text: &[u8]) -> Result<(Context, TreeOp), Unread>
+pub fn tree_of(alloc: Global, key: u64, text: &[u8]) -> Result<(Context, TreeOp), Unread>
     ensures read { IfOk result (λ x. IsOnly (Spells text.now) x.0 x.1) }
     ensures sound { IfOk result (λ x. IsSoundIn x.0 x.1) }
     ensures unread { IfErr result (λ e. WhyNot text.now e.refusal e.offset) }
@@ -105,7 +105,7 @@ fn next_free(tree: &TreeOp) -> Option<u32>
 
 /// The world of a tree that was read, or none where it has more operations than there are ids, or memory is
 /// refused.
-pub(crate) fn hold(alloc: Global, ctx: Context, tree: TreeOp) -> Option<World>
+pub fn hold(alloc: Global, ctx: Context, tree: TreeOp) -> Option<World>
     requires sound { IsSoundIn ctx tree }
     requires numbered { IsNumberedFrom 0 tree }
     requires formed { IsFormed (isolated_in ctx) tree }

@@ -49,7 +49,8 @@ fn asks(line: &Line<'_>) -> bool
     }
 }
 
-pub(crate) fn is_nothing(line: &Line<'_>) -> bool
+/// Whether a line says nothing: it is empty, or a comment.
+pub fn is_nothing(line: &Line<'_>) -> bool
     ensures { result ≡ says_nothing (spoken_of line.now) }
 {
     match line {
@@ -72,7 +73,7 @@ pub(crate) fn both(a: bool, b: bool) -> bool
 }
 
 /// What a line that isn't nothing is answered, in a script that is run so.
-fn answer<L: Analysis>(
+pub fn answer<L: Analysis>(
     alloc: Global,
     manner: &Manner,
     bench: &mut Bench<L>,
