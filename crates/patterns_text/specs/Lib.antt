@@ -1,0 +1,4 @@
+pub mod Parts
+pub mod Views
+pub mod Refusing
+pub mod Reading
