@@ -1,5 +1,7 @@
 //! A pattern is read.
-ghost use Rattle.std.specs.Prelude.{◌≡◌, [], map};
+ghost use Rattle.std.specs.Prelude.{◌≡◌, [], map, IfOk};
+ghost use Rattle.patterns_spelled.specs.Syntax.{Pattern as Spelled};
+ghost use Rattle.patterns_text.specs.Spelled.{IsReadAs, IsSpelled, Spells, whole_at};
 ghost use Rattle.patterns_text.specs.Parts.{part_view, pattern_view, views};
 ghost use Rattle.patterns_text.specs.Refusing.{Gives};
 ghost use Rattle.patterns_text.specs.Reading.{begins_operation, behind_arrow, pattern_at, root_at, sides_at};
@@ -10,6 +12,7 @@ use crate::numbers::word;
 use crate::parts::{Kind, Part, Pattern};
 use crate::steps::{begins, expect, refused};
 use crate::terms::term;
+use ir_text_tokens::limits::check_text;
 use ir_text_tokens::refusal::TextRefusal;
 use ir_text_tokens::token::Mark;
 use std::alloc::Global;
@@ -74,11 +77,40 @@ fn sides<'a>(alloc: Global, name: &'a [u8], bytes: &'a [u8]) -> Result<Pattern<'
     })
 }
 
-/// The pattern that a text spells.
+/// A pattern, up to the end of the text.
 #[tactic(auto, unfolding(crate::specs::Reading::pattern_at))]
-pub fn pattern(alloc: Global, bytes: &[u8]) -> Result<Pattern<'_>, PatternError>
+fn pattern(alloc: Global, bytes: &[u8]) -> Result<Pattern<'_>, PatternError>
     ensures { Gives (λ p. pattern_view p) result (pattern_at bytes.now) }
 {
     let (name, rest) = word(bytes)?;
     sides(alloc, name, rest)
+}
+
+/// A pattern, of a text that is within the limits of texts.
+#[tactic(auto, unfolding(crate::specs::Spelled::whole_at))]
+fn whole(alloc: Global, bytes: &[u8]) -> Result<Pattern<'_>, PatternError>
+    ensures { Gives pattern_view result (whole_at bytes.now) }
+{
+    match check_text(bytes) {
+        Ok(()) => pattern(alloc, bytes),
+        Err((refusal, offset)) => Err(refused(refusal, bytes.len().saturating_sub(offset))),
+    }
+}
+
+/// The pattern that a text spells: its name, both sides and the conditions.
+///
+/// Refusals, the first from left to right, each with how many bytes of the text are left where it stands: `TooMany` of a
+/// text of too many bytes, and `NotUtf8`; `BadToken` where no token begins; `Unexpected` at one that can't stand there;
+/// `BadWidth` at a width that no type has; `BadValue` at a number from 2^128 on; `TooDeep` at a term or a number that is
+/// too deep; `TooMany` at an operand, a number, a type or a condition past the sixteenth; `LeftOut` at an operation that
+/// doesn't fold.
+pub fn read(alloc: Global, bytes: &[u8]) -> Result<Pattern<'_>, PatternError>
+    // What is read is spelled.
+    ensures found { IfOk result (IsSpelled bytes.now) }
+    // What is spelled is read; so what is refused is spelled by nothing.
+    ensures only { (q : Spelled) → Spells bytes.now q → IsReadAs result q }
+    // Which parts, and which refusal.
+    ensures exact { Gives pattern_view result (whole_at bytes.now) }
+{
+    whole(alloc, bytes)
 }
