@@ -8,8 +8,8 @@ mod heads;
 mod numbers;
 pub mod parts;
 pub mod reading;
-mod steps;
+pub mod steps;
 mod terms;
 #[cfg(test)]
 mod tests;
-mod words;
+pub mod words;

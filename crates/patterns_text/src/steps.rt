@@ -19,7 +19,7 @@ pub(crate) fn begins(bytes: &[u8]) -> usize
 }
 
 /// A refusal where so many bytes are left.
-pub(crate) fn refused(refusal: TextRefusal, left: usize) -> PatternError
+pub fn refused(refusal: TextRefusal, left: usize) -> PatternError
     ensures { result ≡ PatternError.Refused (fault refusal left) }
 {
     PatternError::Refused(Fault { refusal, left })

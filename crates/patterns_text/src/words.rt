@@ -132,7 +132,7 @@ pub(crate) fn is_where(word: &[u8]) -> bool
 }
 
 /// Whether a word is `i` and digits.
-fn is_integer_word(word: &[u8]) -> bool
+pub fn is_integer_word(word: &[u8]) -> bool
     ensures { result ≡ is_integer_word word.now }
 {
     match word {
