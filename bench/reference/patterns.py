@@ -72,6 +72,11 @@ def walk(term):
         yield from walk(operand)
 
 
+def begins_number(it):
+    """Whether a token begins a number."""
+    return it.kind == "integer" or it.is_mark(b"-") or it.kind == "bare" and b"." not in it.text
+
+
 class Reader(rules.Reader):
     """Reads parts of a pattern from a byte on; each call gives the part and the byte behind it."""
 
@@ -103,10 +108,24 @@ class Reader(rules.Reader):
         refuse(7, it.start, found > rules.MOST_MAGNITUDE)
         return (found if behind is None else -found), it.end
 
+    def some(self, at, close, part, most=MOST):
+        """Parts up to a mark, one or more. One too many is refused behind all that is wrong in it."""
+        parts = []
+        while True:
+            start = self.look(at).start
+            found, at = part(at)
+            refuse(11, start, len(parts) == most)
+            parts.append(found)
+            end = self.see(at, close)
+            if end is not None:
+                return parts, end
+            at = self.expect(at, b",")
+
     def term(self, at, is_left, depth):
         it = self.look(at)
         if it.kind == "bare" and b"." in it.text:
             return self.operation(it, is_left, depth)
+        refuse(2, it.start, it.kind != "value" and not begins_number(it))
         refuse(10, it.start, not is_left and depth > NESTED)
         if it.kind == "value":
             written, end = self.typed(it.end)
@@ -114,8 +133,6 @@ class Reader(rules.Reader):
         refuse(10, it.start, is_left and depth > DEPTH)
         number, end = self.left_number(at) if is_left else self.number(at, depth)
         written, end = self.typed(end)
-        if number.is_literal() and isinstance(written, tuple):
-            rules.value_of(written, number.word, it.start)
         return Constant(it.start, number, written), end
 
     def operation(self, it, is_left, depth):
@@ -149,7 +166,9 @@ class Reader(rules.Reader):
         return Number(start, word), end
 
     def number(self, at, depth):
-        start = self.look(at).start
+        it = self.look(at)
+        start = it.start
+        refuse(2, start, not begins_number(it))
         refuse(10, start, depth > NESTED)
         found = self.literal(at)
         if found:
@@ -284,6 +303,8 @@ class Pattern:
             self.tell_operation(term, found)
         elif isinstance(term, Value) or term.number.is_name():
             self.types.one(self.variables[variable(term)], found, term.at)
+        elif term.number.is_literal() and isinstance(term.written, tuple):
+            rules.value_of(term.written, term.number.word, term.at)
         else:
             self.tell_number(term.number, found)
 

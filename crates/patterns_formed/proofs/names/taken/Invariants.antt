@@ -1,0 +1,14 @@
+use Rattle.std.proofs.Common.{◌≡◌, ◌≤◌, [], length, map}
+use Rattle.patterns_text.specs.Parts.{part_view}
+use Rattle.patterns_formed.specs.Views.{variable_views}
+use Rattle.patterns_formed.specs.Names.{taken}
+use Rattle.patterns_formed.proofs.names.taken.Given as goal
+
+abbrev pub invariant-parts : goal.invariant-parts
+invariant-parts l = record {
+  taken : taken (variable_views l.variables.items) (map part_view l.rest) ≡ taken [] (map part_view l.fn.parts);
+  few : length l.variables.items ≤ 16;
+}
+
+abbrev pub decreases-parts : goal.decreases-parts
+decreases-parts l = length l.rest

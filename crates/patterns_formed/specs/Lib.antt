@@ -1,0 +1,4 @@
+pub mod Words
+pub mod Views
+pub mod Names
+pub mod NameViews

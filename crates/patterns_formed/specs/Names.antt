@@ -1,0 +1,114 @@
+-- The names of a pattern: those on the left are taken, in the order of the text, and others have to be among them.
+use Rattle.std.specs.Prelude.{ℕ, ◌+◌, ◌-◌, Bool, true, false, not, ◌&&◌, ◌||◌, nat_lt, if◌then◌else◌, List, [], ◌∷◌, ◌++◌, length, Option, Some, None, is_some, is_none, Ok, Err}
+use Rattle.std.specs.Str.{bytes_eq}
+use Rattle.ir_text_tokens.specs.declared.refusal.TextRefusal.TheVariants.{UnknownValue, TooMany}
+use Rattle.patterns_spelled.specs.Grammar.{most}
+use Rattle.patterns_text.specs.Parts.{Part, operation_part, value_part, literal_part, name_part, function_part, condition_part, type_part, end_part, Placed, Pattern}
+use Rattle.patterns_text.specs.Refusing.{Outcome, ◌>>=◌, refused}
+use Rattle.patterns_formed.specs.declared.names.Count.{Count}
+use Rattle.patterns_formed.specs.declared.names.Count.TheVariants as count
+use Rattle.patterns_formed.specs.declared.words.Function.{Function}
+use Rattle.patterns_formed.specs.declared.words.Function.TheVariants as function
+use Rattle.patterns_formed.specs.Words.{function_named, is_condition, is_narrower, is_power}
+use Rattle.patterns_formed.specs.Views.{Variable}
+
+abbrev pub is_variable : Bool → List ℕ → Variable → Bool
+is_variable true name v = v.0 && bytes_eq v.1 name
+is_variable false name v = not v.0 && bytes_eq v.1 name
+
+-- the place of a variable, where they are counted from a number on
+unfoldable pub place_from : ℕ → Bool → List ℕ → List Variable → Option ℕ
+place_from k is_value name [] = None
+place_from k is_value name (v ∷ vs) = if is_variable is_value name v then Some k else place_from (k + 1) is_value name vs
+
+abbrev pub place_of : Bool → List ℕ → List Variable → Option ℕ
+place_of is_value name vs = place_from 0 is_value name vs
+
+-- ---- what is taken
+
+abbrev pub with_variable : ℕ → Bool → List ℕ → List Variable → Outcome (List Variable)
+with_variable at is_value name vs =
+    if is_some (place_of is_value name vs) then Ok vs
+    else if nat_lt (length vs) most then Ok (vs ++ (is_value, name) ∷ [])
+    else refused TooMany at
+
+abbrev pub with_part : List Variable → Placed → Outcome (List Variable)
+with_part vs (at, value_part name) = with_variable at true name vs
+with_part vs (at, name_part name) = with_variable at false name vs
+with_part vs (at, operation_part name asks) = Ok vs
+with_part vs (at, literal_part negative magnitude) = Ok vs
+with_part vs (at, function_part name) = Ok vs
+with_part vs (at, condition_part name) = Ok vs
+with_part vs (at, type_part name) = Ok vs
+with_part vs (at, end_part) = Ok vs
+
+unfoldable pub taken : List Variable → List Placed → Outcome (List Variable)
+taken vs [] = Ok vs
+taken vs (p ∷ ps) = with_part vs p >>= λ more. taken more ps
+
+-- ---- how many there are
+
+-- for a function: itself, and for two of them the constant that they take
+abbrev pub function_weight : Option Function → ℕ
+function_weight (Some function.Negated) = 2
+function_weight (Some function.Inverted) = 2
+function_weight _ = 1
+
+-- for a condition: what is compared, and that it has to be so
+abbrev pub condition_weight : List ℕ → ℕ
+condition_weight w = if is_narrower w then 0 else if is_power w then 1 else 2
+
+-- operations, constants on the left, and numbers that are computed
+abbrev pub weight : Count → Part → ℕ
+weight count.Operations (operation_part name asks) = 1
+weight count.Constants (literal_part negative magnitude) = 1
+weight count.Constants (name_part name) = 1
+weight count.Numbers (literal_part negative magnitude) = 1
+weight count.Numbers (function_part name) = function_weight (function_named name)
+weight count.Numbers (condition_part name) = condition_weight name
+weight _ _ = 0
+
+-- the most operations a side, and the most of the others
+abbrev pub most_of : Count → ℕ
+most_of count.Operations = most
+most_of count.Constants = 256
+most_of count.Numbers = 256
+
+unfoldable pub counted : Count → ℕ → List Placed → Outcome ℕ
+counted c n [] = Ok n
+counted c n (p ∷ ps) = if nat_lt (most_of c) (n + weight c p.1) then refused TooMany p.0 else counted c (n + weight c p.1) ps
+
+-- ---- what is known
+
+abbrev pub is_unknown : List Variable → Part → Bool
+is_unknown vs (value_part name) = is_none (place_of true name vs)
+is_unknown vs (name_part name) = is_none (place_of false name vs)
+is_unknown vs (function_part name) = is_none (function_named name)
+is_unknown vs (condition_part name) = not (is_condition name)
+is_unknown vs (operation_part name asks) = false
+is_unknown vs (literal_part negative magnitude) = false
+is_unknown vs (type_part name) = false
+is_unknown vs end_part = false
+
+unfoldable pub all_known : List Variable → List Placed → Outcome (Unit {0})
+all_known vs [] = Ok tt
+all_known vs (p ∷ ps) = if is_unknown vs p.1 then refused UnknownValue p.0 else all_known vs ps
+
+-- the variables, and how many constants on the left, operations on the left, and numbers there are
+pub record Names : Type 0 where
+  pub variables : List Variable
+  pub constants : ℕ
+  pub old : ℕ
+  pub numbers : ℕ
+
+unfoldable pub names_of : Pattern → Outcome Names
+names_of p = do
+  vs ← taken [] p.old
+  old ← counted count.Operations 0 p.old
+  new ← counted count.Operations 0 p.new
+  constants ← counted count.Constants 0 p.old
+  numbers ← counted count.Numbers 0 p.new
+  all ← counted count.Numbers numbers p.conditions
+  known ← all_known vs p.new
+  asked ← all_known vs p.conditions
+  Ok (record { variables = vs; constants = constants; old = old; numbers = all })

@@ -1,0 +1,13 @@
+-- What the code holds of names and types.
+use Rattle.std.specs.Prelude.{ℕ, Bool, List, map}
+use Rattle.patterns_formed.specs.declared.names.Variable.{Variable as VariableCode}
+
+-- a variable is one of a value or of a number, by its name
+abbrev pub Variable : Type 0
+Variable = Bool × List ℕ
+
+abbrev pub variable_view : VariableCode → Variable
+variable_view v = (v.is_value, v.name.now)
+
+abbrev pub variable_views : List VariableCode → List Variable
+variable_views vs = map variable_view vs

@@ -1,0 +1,15 @@
+//! The text of a pattern of one's own is read into its parts, or refused at the first byte where it is wrong.
+#![tactic(auto)]
+
+mod bad;
+mod conditions;
+pub mod error;
+mod heads;
+mod numbers;
+pub mod parts;
+pub mod reading;
+pub mod steps;
+mod terms;
+#[cfg(test)]
+mod tests;
+pub mod words;
