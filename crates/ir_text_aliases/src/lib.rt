@@ -3,9 +3,11 @@
 #![tactic(auto)]
 
 pub mod front;
-pub mod laws;
 pub mod mark;
+mod nests;
+pub mod part;
 mod pieces;
-pub mod spell;
+mod places;
 mod uses;
 pub mod values;
+pub mod walk;

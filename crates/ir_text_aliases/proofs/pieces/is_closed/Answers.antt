@@ -1,7 +1,7 @@
 use Rattle.std.proofs.Common.{sym, ap, ◌∙◌}
 use Rattle.ir_text_tokens.specs.Tokens.{next}
 use Rattle.ir_text_aliases.proofs.Nesting.{closed_string, open_string}
-use Rattle.ir_text_aliases.proofs.values.is_closed.Goals as goal
+use Rattle.ir_text_aliases.proofs.pieces.is_closed.Goals as goal
 
 pub returns-in-Ok : goal.returns-in-Ok
 returns-in-Ok c = closed_string c.args.tail.now _ _ (ap next (sym c.requires.all) ∙ c.in-Ok.ensures.token)
