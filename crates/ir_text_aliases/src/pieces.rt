@@ -70,7 +70,7 @@ fn suffixes_len(bytes: &[u8]) -> usize
 }
 
 /// How many bytes a name has.
-pub(crate) fn name_len(bytes: &[u8]) -> usize
+pub fn name_len(bytes: &[u8]) -> usize
     ensures len { result ≡ suffix_len bytes.now }
     ensures within { result ≤ length bytes.now }
 {
@@ -98,7 +98,8 @@ pub(crate) fn is_arrow(byte: u8, tail: &[u8]) -> bool
     byte == b'-' && matches!(tail, [b'>', ..])
 }
 
-pub(crate) fn is_gap(byte: u8, tail: &[u8]) -> bool
+/// Whether a blank or a comment begins with the byte.
+pub fn is_gap(byte: u8, tail: &[u8]) -> bool
     ensures { result ≡ is_gap byte tail.now }
 {
     matches!(byte, b' ' | b'\t' | b'\n' | b'\r') || are_slashes(byte, tail)
@@ -154,7 +155,7 @@ fn behind_plain(byte: u8, tail: &[u8]) -> &[u8]
 }
 
 /// What follows the piece that begins with the byte.
-pub(crate) fn behind_piece<'a>(byte: u8, all: &'a [u8], tail: &'a [u8]) -> &'a [u8]
+pub fn behind_piece<'a>(byte: u8, all: &'a [u8], tail: &'a [u8]) -> &'a [u8]
     requires all { all.now ≡ byte ∷ tail.now }
     ensures { result.now ≡ drop (piece_len byte tail.now) tail.now }
 {

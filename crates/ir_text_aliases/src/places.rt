@@ -91,7 +91,7 @@ fn place_end(bytes: &[u8]) -> Result<&[u8], Fault>
 }
 
 /// What follows a location from its bracket on.
-pub(crate) fn located(bytes: &[u8]) -> Result<&[u8], Fault>
+pub fn located(bytes: &[u8]) -> Result<&[u8], Fault>
     ensures { result_map_both (λ r. r.now) (λ f. f) result ≡ located bytes.now }
 {
     match bytes {
@@ -101,7 +101,7 @@ pub(crate) fn located(bytes: &[u8]) -> Result<&[u8], Fault>
 }
 
 /// What follows the word `loc` and the blanks behind it, behind the first byte of the word.
-pub(crate) fn behind_loc(tail: &[u8]) -> &[u8]
+pub fn behind_loc(tail: &[u8]) -> &[u8]
     ensures { result.now ≡ behind_loc tail.now }
 {
     skip(&tail[word_len(tail)..])

@@ -25,7 +25,7 @@ fn between(values: &[u8], start: usize, past: usize) -> &[u8]
 // ---- within a location
 
 /// Whether the word `loc` begins the value.
-pub(crate) fn begins_loc(value: &[u8]) -> bool
+pub fn begins_loc(value: &[u8]) -> bool
     ensures { result ≡ begins_loc value.now }
 {
     match value {

@@ -1,0 +1,5 @@
+pub mod Definitions
+pub mod Steps
+pub mod Endings
+pub mod Marks
+pub mod Expanded
