@@ -1,5 +1,6 @@
 -- A text without its aliases and locations.
 use Rattle.std.specs.Prelude.{ℕ, ◌-◌, Bool, true, false, not, nat_lt, if◌then◌else◌, List, [], ◌∷◌, ◌++◌, length, Option, Some, None}
+use Rattle.ir_text_tokens.specs.declared.refusal.TextRefusal.{TextRefusal}
 use Rattle.ir_text_tokens.specs.declared.fault.Fault.{Fault}
 use Rattle.ir_text_bodies.specs.Bodies.{is_none}
 use Rattle.ir_text_aliases.specs.declared.front.Holds.TheVariants.{Operations}
@@ -33,9 +34,13 @@ with_end env w = record {
   fault = or_else w.fault (endings env 0 w.rest);
 }
 
+abbrev pub operations_expanded : List ℕ → Aliases → List ℕ → Expanded
+operations_expanded values env bytes = with_end env (walk_text (operations_part values) values env Operations bytes [] [])
+
+-- behind the definitions
 abbrev pub behind : Option Fault → Defined → Expanded
 behind (Some fault) d = record { text = []; marks = []; fault = Some fault }
-behind None d = with_end d.aliases (walk_text (operations_part d.values) d.values d.aliases Operations d.rest [] [])
+behind None d = operations_expanded d.values d.aliases d.rest
 
 -- definitions, operations, and definitions of locations
 abbrev pub expanded : List ℕ → Expanded
@@ -43,19 +48,20 @@ expanded bytes = behind (definitions [] [] bytes 0 bytes).fault (definitions [] 
 
 -- ---- a fault of the expansion
 
--- where an expansion ends: how many bytes of the text are left there
-abbrev pub end_of : Option Fault → ℕ
-end_of None = 0
-end_of (Some fault) = fault.left
+-- the byte at which an expansion of a text of so many bytes ends
+abbrev pub end_of : ℕ → Option Fault → ℕ
+end_of len None = len
+end_of len (Some fault) = len - fault.left
 
-abbrev pub carried_back : Expanded → Fault → Fault
-carried_back e f = record { refusal = f.refusal; left = carried e.marks (end_of e.fault) (length e.text - f.left) }
+-- the byte of the text from which one of the expansion comes
+abbrev pub place_in : ℕ → Expanded → ℕ → ℕ
+place_in len e at = carried len e.marks (end_of len e.fault) at
 
--- of two faults the one further left
-abbrev pub further_left : Option Fault → Fault → Fault
-further_left None f = f
-further_left (Some fault) f = if nat_lt fault.left f.left then f else fault
+-- of two faults the one further left: the expansion's, or one at a byte of the text
+abbrev pub further_left : ℕ → Option Fault → TextRefusal × ℕ → TextRefusal × ℕ
+further_left len None x = x
+further_left len (Some fault) x = if nat_lt x.1 (len - fault.left) then x else (fault.refusal, len - fault.left)
 
--- what is told of a fault of the expansion's grammar: the fault further left, each where the text has it
-abbrev pub told : Expanded → Fault → Fault
-told e f = further_left e.fault (carried_back e f)
+-- what is told of a fault with which the expansion is refused, and where
+abbrev pub told : List ℕ → Expanded → Fault → TextRefusal × ℕ
+told bytes e f = further_left (length bytes) e.fault (f.refusal, place_in (length bytes) e (length e.text - f.left))

@@ -3,3 +3,4 @@ pub mod Steps
 pub mod Endings
 pub mod Marks
 pub mod Expanded
+pub mod Expansions

@@ -60,3 +60,46 @@ fn add<'a>(names: &mut Names<'a, (usize, usize)>, name: &'a [u8]) -> Result<(), 
 {
     names.bind(name, (0, 0))
 }
+
+/// What follows the definition or the blanks that begin with the byte.
+fn next<'a>(
+    names: &mut Names<'a, (usize, usize)>,
+    byte: u8,
+    all: &'a [u8],
+    tail: &'a [u8],
+) -> Result<Result<&'a [u8], Fault>, AllocError>
+    requires all { all.now ≡ byte ∷ tail.now }
+    ensures on { IfOk result (λ s. IfOk s (λ r. endings names.old.here 0 all.now ≡ endings names.new.here 0 r.now)) }
+    ensures ends { IfOk result (λ s. IfErr s (λ f. endings names.old.here 0 all.now ≡ Some f)) }
+    ensures shorter { IfOk result (λ s. IfOk s (λ r. length r.now ≤ length tail.now)) }
+{
+    if is_gap(byte, tail) {
+        return Ok(Ok(behind_piece(byte, all, tail)));
+    }
+    match ending(names, byte, all, tail) {
+        Ok(rest) => {
+            add(names, name_of(byte, all, tail))?;
+            Ok(Ok(rest))
+        }
+        Err(fault) => Ok(Err(fault)),
+    }
+}
+
+/// Why what stands behind the last operation is refused: anything but a definition (Unexpected), one of
+/// another value than a location or of a type (LeftOut), the second of a name (Redefined), and a location that
+/// does not end.
+pub(crate) fn endings<'a>(
+    names: &mut Names<'a, (usize, usize)>,
+    bytes: &'a [u8],
+) -> Result<Option<Fault>, AllocError>
+    ensures { IfOk result (λ f. f ≡ endings names.old.here 0 bytes.now) }
+{
+    let mut rest = bytes;
+    'pieces: while let [byte, tail @ ..] = rest {
+        match next(names, *byte, rest, tail)? {
+            Ok(behind) => rest = behind,
+            Err(fault) => return Ok(Some(fault)),
+        }
+    }
+    Ok(None)
+}
