@@ -18,27 +18,35 @@ MOST_SHOWN, LONGEST = 400, 1200
 PIECE = re.compile(rb"[#!%^@]?[A-Za-z0-9$._-]+|\s+|->|.", re.S)
 # Texts by hand, beside those of opaque_cases.py.
 TEXTS = [
-    b"", b" ", b"// c", b"#", b"!t", b"#a = 1", b"#a", b"#a=1#b=#a#c=#b\"t\"(){x=#c,y=#b}:()->()",
+    b"", b" ", b"// c", b"#", b"!t", b"#a = 1", b"#a", b'#a=1#b=#a#c=#b"t"(){x=#c,y=#b}:()->()',
     # Symbols in quotes end no value, and a string in one that nothing ends is refused at its quote.
-    b'#a = @"x" #b = @"y"::@z\n"t"() {x = #b, y = #a} : () -> ()', b'#a = @"x', b'#a = [@"x', b'#a = ["x',
+    b'#a = @"x" #b = @"y"::@z\n"t"() {x = #b, y = #a} : () -> ()',
+    b'#a = @"x', b'#a = [@"x', b'#a = ["x',
     # A name may end with a minus, behind which no alias is refused; and may be the type that a location follows.
-    b'#a = 1\n"t"(%b-#a', b'!t- = i8\n"t"() : () -> !t- loc("f")', b'#a = 1\n"t"() {x = - #a}', b'#a = 1\n"t"() {x = - // c\n #a}',
+    b'#a = 1\n"t"(%b-#a', b'!t- = i8\n"t"() : () -> !t- loc("f")',
+    b'#a = 1\n"t"() {x = - #a}', b'#a = 1\n"t"() {x = - // c\n #a}',
     # Dimensions, and what only looks like them.
-    b"!e = i8\n!t = tensor<4x!e>\n!u = vector<[4]x!e>\n!v = memref<?x!e>\n!w = memref<*x!e>\n\"t\"() {a = !t, b = !u, c = !v, d = !w}",
-    b"!e = i8\n\"t\"() {a4x!e, %4x!e, 4 x!e, x!e, xx!e, 4xx!e, 12x!e}",
+    b"!e = i8\n!t = tensor<4x!e>\n!u = vector<[4]x!e>\n!v = memref<?x!e>\n!w = memref<*x!e>\n"
+    b'"t"() {a = !t, b = !u, c = !v, d = !w}',
+    b'!e = i8\n"t"() {a4x!e, %4x!e, 4 x!e, x!e, xx!e, 4xx!e, 12x!e}',
     # Locations within locations, and what is none.
-    b'#l = loc("f":1:2)\n#m = loc(fused[#l, #l])\n#n = loc ( callsite(#l at #m) )\n"t"() {x = #n, y = loc(#n), z = loc2(#l), w = [loc(#l)]} : () -> ()',
+    b'#l = loc("f":1:2)\n#m = loc(fused[#l, #l])\n#n = loc ( callsite(#l at #m) )\n'
+    b'"t"() {x = #n, y = loc(#n), z = loc2(#l), w = [loc(#l)]} : () -> ()',
     b'#l = location\n"t"() {x = loc(#l)}', b'#l = loc()\n"t"() {x = loc(#l), y = loc(-#l)}',
-    b'"t"() : () -> i8 loc("f" "g") loc("h")', b'"t"() : () -> i8 loc', b'"t"() : () -> i8 loc("f', b'"t"() : () -> i8 loc(@f)',
-    b'"t"() : () -> i8 loc("f"\n)', b'"t"() : () -> i8 loc(#a)', b'"t"() : () -> i8 loc(\xc3\xa4)', b'"t"() : () -> i8 loc(// c\n)',
-    b'"t"() : () -> loc("f")', b'"t"() : loc("f")', b'"t"() : () -> (i8 loc("f"))', b'"t"() : () -> i8 // c\n loc // d\n ("f")',
+    b'"t"() : () -> i8 loc("f" "g") loc("h")',
+    b'"t"() : () -> i8 loc', b'"t"() : () -> i8 loc("f', b'"t"() : () -> i8 loc(@f)', b'"t"() : () -> i8 loc("f"\n)',
+    b'"t"() : () -> i8 loc(#a)', b'"t"() : () -> i8 loc(\xc3\xa4)', b'"t"() : () -> i8 loc(// c\n)',
+    b'"t"() : () -> loc("f")', b'"t"() : loc("f")', b'"t"() : () -> (i8 loc("f"))',
+    b'"t"() : () -> i8 // c\n loc // d\n ("f")',
     b'"t"() : () -> i8 loc(' + 31 * b"[" + 31 * b"]" + b")", b'"t"() : () -> i8 loc(' + 32 * b"[" + 32 * b"]" + b")",
     b'"t"() ({\n^b(%a: i8 loc("f"), %c: !d.t loc("g")):\n "u"() : () -> () loc("h")\n}) : () -> () loc("i")',
-    b'"t"() ({\n^b(%a loc("f"):\n "u"() : () -> () loc("h")\n "v"() : () -> ()\n}, {}) {a = loc("k")} : (i8) -> (i8) loc("i")\n#l = loc("m")',
+    b'"t"() ({\n^b(%a loc("f"):\n "u"() : () -> () loc("h")\n "v"() : () -> ()\n}, {}) {a = loc("k")} : (i8) -> (i8)'
+    b' loc("i")\n#l = loc("m")',
     # Behind the last operation.
-    b'"t"() : () -> ()\n#l = loc("f")\n!t = i8', b'"t"() : () -> ()\n#l = loc("f")\n\n// c\n#m = loc("g") ', b'"t"() : () -> () loc("f")\n#l = loc',
-    b'"t"() : () -> ()\n#l = loc "f"', b'"t"() : () -> ()\n#l = loc(', b'#l = 1\n"t"() : () -> ()\n#l = loc("f")', b'"t"() : () -> ()\n#l = loc("f"',
-    b'"t"() : () -> () #l = loc2("f")', b'#a = i8\n"t"() : () -> #a\n#b = loc(#a)', b'"t"()\n#l = loc("f")',
+    b'"t"() : () -> ()\n#l = loc("f")\n!t = i8', b'"t"() : () -> ()\n#l = loc("f")\n\n// c\n#m = loc("g") ',
+    b'"t"() : () -> () loc("f")\n#l = loc', b'"t"() : () -> ()\n#l = loc "f"', b'"t"() : () -> ()\n#l = loc(',
+    b'#l = 1\n"t"() : () -> ()\n#l = loc("f")', b'"t"() : () -> ()\n#l = loc("f"', b'"t"() : () -> () #l = loc2("f")',
+    b'#a = i8\n"t"() : () -> #a\n#b = loc(#a)', b'"t"()\n#l = loc("f")',
 ]
 
 

@@ -52,7 +52,9 @@ def ends_type(piece):
     """Whether a type may end with a piece: a word, a number, a name with its sign, a label, `)` or `>`."""
     if piece[:1] in (b"#", b"!", b"%", b"@"):
         return len(piece) > 1 and piece[1:2] != b'"'
-    return piece[:1] == b"^" or piece != b"->" and (piece[-1:].isalnum() or piece[-1:] in (b")", b">", b"_", b"$", b"."))
+    if piece in (b"", b"->"):
+        return False
+    return piece[:1] == b"^" or piece[-1:].isalnum() or piece[-1:] in b")>_$."
 
 
 class Front:

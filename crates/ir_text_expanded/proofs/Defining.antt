@@ -6,10 +6,10 @@ use Rattle.std.proofs.lemmas.List.{length-drop}
 use Rattle.ir_text_tokens.specs.declared.fault.Fault.{Fault}
 use Rattle.ir_text_aliases.specs.Pieces.{is_gap, name_of, piece_len}
 use Rattle.ir_text_aliases.specs.Uses.{Aliases}
-use Rattle.ir_text_aliases.specs.Values.{definition_at}
+use Rattle.ir_text_aliases.specs.Values.{definition_at, is_defined}
 use Rattle.ir_text_aliases.proofs.Parted.{piece_within}
 use Rattle.ir_text_aliases.proofs.Tails.{IsTail, is_drop, shorter, within}
-use Rattle.ir_text_expanded.specs.Definitions.{Value, defined, definitions, has_value, more_aliases, more_values, rest_of, text_of, unless, value_here, value_in, value_of_name, with_alias}
+use Rattle.ir_text_expanded.specs.Definitions.{Value, defined, definitions, more_aliases, more_values, rest_of, text_of, unless, value_here, value_in, value_of_name, with_alias}
 use Rattle.ir_text_expanded.specs.Steps.{Adds}
 use Rattle.ir_text_expanded.proofs.Parts.{definition_tail, named_tail}
 
@@ -33,7 +33,7 @@ module _ (values : List ℕ) (env : Aliases) (behind : List ℕ) where
   unfolding definitions
   some c cs value v e d k =
       let here : value_here values env c cs ≡ v = ap (λ o. value_of_name values env (name_of c cs) (c ∷ cs) (value_in o)) d ∙ k in
-      rw e (ap (λ o. if has_value o then unless (result_err (value_here values env c cs)) values env (c ∷ cs) (definitions (more_values values (value_here values env c cs)) (more_aliases values env c cs (value_here values env c cs)) (rest_of (value_here values env c cs)) (length cs - length (rest_of (value_here values env c cs))) cs) else defined values env behind None) d
+      rw e (ap (λ o. if is_defined o then unless (result_err (value_here values env c cs)) values env (c ∷ cs) (definitions (more_values values (value_here values env c cs)) (more_aliases values env c cs (value_here values env c cs)) (rest_of (value_here values env c cs)) (length cs - length (rest_of (value_here values env c cs))) cs) else defined values env behind None) d
       ∙ ap (λ v. unless (result_err v) values env (c ∷ cs) (definitions (more_values values v) (more_aliases values env c cs v) (rest_of v) (length cs - length (rest_of v)) cs)) here)
 
   -- ---- of a text from a byte on

@@ -1,3 +1,4 @@
 pub mod Parts
 pub mod Defining
 pub mod Ending
+pub mod Stays

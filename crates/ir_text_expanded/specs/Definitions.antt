@@ -9,7 +9,7 @@ use Rattle.ir_text_aliases.specs.declared.front.Holds.TheVariants.{Others}
 use Rattle.ir_text_aliases.specs.declared.part.Part.{Part}
 use Rattle.ir_text_aliases.specs.Pieces.{is_gap, name_of, piece_len}
 use Rattle.ir_text_aliases.specs.Uses.{Aliases}
-use Rattle.ir_text_aliases.specs.Values.{Ends, definition_at, value_end}
+use Rattle.ir_text_aliases.specs.Values.{Ends, definition_at, is_defined, value_end}
 use Rattle.ir_text_aliases.specs.Walk.{Walked, fault_at, walk_text}
 
 -- ---- one value
@@ -93,10 +93,6 @@ more_values values v = values ++ text_of v
 abbrev pub more_aliases : List ℕ → Aliases → ℕ → List ℕ → Value → Aliases
 more_aliases values env c cs v = with_alias (name_of c cs) (length values) (length (more_values values v)) env
 
-abbrev pub has_value : Option (List ℕ) → Bool
-has_value None = false
-has_value (Some value) = true
-
 abbrev pub value_in : Option (List ℕ) → List ℕ
 value_in None = []
 value_in (Some value) = value
@@ -110,7 +106,7 @@ definitions values env behind n [] = defined values env behind None
 definitions values env behind (suc n) (c ∷ cs) = definitions values env behind n cs
 definitions values env behind zero (c ∷ cs) =
     if is_gap c cs then definitions values env behind (piece_len c cs) cs
-    else if has_value (definition_at c cs) then
+    else if is_defined (definition_at c cs) then
     unless (result_err (value_here values env c cs)) values env (c ∷ cs)
     (definitions (more_values values (value_here values env c cs)) (more_aliases values env c cs (value_here values env c cs)) (rest_of (value_here values env c cs)) (length cs - length (rest_of (value_here values env c cs))) cs)
     else defined values env behind None

@@ -4,3 +4,4 @@ pub mod Endings
 pub mod Marks
 pub mod Expanded
 pub mod Expansions
+pub mod Stays

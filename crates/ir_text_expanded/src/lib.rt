@@ -4,3 +4,4 @@
 mod definitions;
 mod endings;
 pub mod expansion;
+pub mod laws;
