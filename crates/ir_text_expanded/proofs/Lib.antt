@@ -2,3 +2,4 @@ pub mod Parts
 pub mod Defining
 pub mod Ending
 pub mod Stays
+pub mod Keeping

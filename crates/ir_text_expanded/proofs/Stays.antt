@@ -1,6 +1,7 @@
 -- A text without definitions and locations stays as it is.
-use Rattle.std.proofs.Common.{◌≡◌, ℕ, zero, suc, Bool, true, false, cond, List, [], ◌∷◌, ◌++◌, length, take, drop, Some, None, refl, sym, ap, ◌∙◌, append_assoc}
-use Rattle.std.specs.Prelude.{◌&&◌, ◌||◌}
+use Rattle.std.proofs.Common.{◌≡◌, ℕ, zero, suc, Bool, true, false, cond, List, [], ◌∷◌, ◌++◌, length, take, drop, Some, None, refl, sym, ap, ◌∙◌, append_assoc, arith}
+use Rattle.std.specs.Prelude.{◌&&◌, ◌||◌, nat_le}
+use Rattle.std.proofs.lemmas.Bool.{leb-true}
 use Rattle.std.proofs.lemmas.List.{append-nil, take-append-drop}
 use Rattle.ir_text_bodies.specs.Bodies.{begins, is_alias}
 use Rattle.ir_text_aliases.specs.declared.front.Bracket.{Bracket}
@@ -15,6 +16,7 @@ use Rattle.ir_text_aliases.specs.Values.{definition_at, is_defined}
 use Rattle.ir_text_aliases.specs.Walk.{ends_operations, move, piece_move, stops, unless, walk, walk_text, walked}
 use Rattle.ir_text_expanded.specs.Definitions.{defined, definitions}
 use Rattle.ir_text_expanded.specs.Definitions as definitions
+use Rattle.ir_text_expanded.specs.Endings.{endings}
 use Rattle.ir_text_expanded.specs.Expanded.{behind, expanded, operations_expanded, operations_part, with_end}
 use Rattle.ir_text_expanded.specs.Stays.{as_it_is, has_more}
 
@@ -30,6 +32,13 @@ none_of false b c = refl
 none_of true false c = refl
 none_of true true false = refl
 none_of true true true = refl
+
+no_more : (n : ℕ) → nat_le (suc n) 0 ≡ false
+no_more n = from (nat_le (suc n) 0) refl
+  where
+    from : (b : Bool) → nat_le (suc n) 0 ≡ b → b ≡ false
+    from false e = refl
+    from true e = absurd (omega (arith, leb-true (suc n) 0 e))
 
 -- ---- no definition
 
@@ -61,7 +70,7 @@ module _ (env : Aliases) where
   one : (f : Front) (outer : List Bracket) (c : ℕ) (cs out : List ℕ) (marks : List Mark) → is_loc c cs ≡ false → is_defined (definition_at c cs) ≡ false
       → walk (operations_part []) [] env f outer 0 (c ∷ cs) out marks ≡ walk (operations_part []) [] env (next_front f outer c cs) (outer_behind f outer c) (piece_len c cs) cs (out ++ piece_of c cs) (marks ++ [])
   unfolding walk
-  one f outer c cs out marks l d = rw (ends_not f c cs d, goes_not f c cs l) refl
+  one f outer c cs out marks l d = rw (no_more (length cs), ends_not f c cs d, goes_not f c cs l) refl
 
   copied : (f : Front) (outer : List Bracket) (n : ℕ) (bytes out : List ℕ) (marks : List Mark) → has_more n bytes ≡ false → walk (operations_part []) [] env f outer n bytes out marks ≡ walked (out ++ drop n bytes) marks [] None
   unfolding walk has_more
@@ -75,6 +84,7 @@ module _ (env : Aliases) where
       ∙ (λ i. walked ((append_assoc out (piece_of c cs) (drop n cs) ∙ ap (λ l. out ++ c ∷ l) (take-append-drop n cs)) i) (append-nil marks i) [] None)
 
 pub stays : (bytes : List ℕ) → has_more 0 bytes ≡ false → expanded bytes ≡ as_it_is bytes
+unfolding endings
 stays bytes e =
     ap (λ d. behind d.fault d) (undefined [] [] bytes 0 bytes e)
     ∙ ap (with_end []) (copied [] (at_first Operations) [] 0 bytes [] [] e)
