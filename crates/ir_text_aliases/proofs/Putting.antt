@@ -1,6 +1,6 @@
 -- What a step comes to.
-use Rattle.std.proofs.Common.{◌≡◌, ℕ, zero, suc, ◌+◌, ◌-◌, ◌<◌, ◌≤◌, Bool, true, false, cond, List, [], ◌∷◌, ◌++◌, length, take, drop, Option, Some, None, refl, sym, ap, ◌∙◌, arith}
-use Rattle.std.specs.Prelude.{option_map, Ok, Err}
+use Rattle.std.proofs.Common.{◌≡◌, ℕ, ◌+◌, ◌-◌, List, [], ◌∷◌, ◌++◌, length, take, drop, Some, None, refl, sym, ap, ◌∙◌}
+use Rattle.std.specs.Prelude.{option_map, Ok}
 use Rattle.std.specs.Result.{result_err}
 use Rattle.std.proofs.lemmas.List.{append-nil, length-append}
 use Rattle.ir_text_tokens.specs.declared.refusal.TextRefusal.{TextRefusal}
@@ -12,7 +12,7 @@ use Rattle.ir_text_aliases.specs.declared.front.Front.{Front}
 use Rattle.ir_text_aliases.specs.declared.mark.Mark.{Mark}
 use Rattle.ir_text_aliases.specs.declared.part.Part.{Part}
 use Rattle.ir_text_aliases.specs.Fronts.{behind_alias, behind_place, next_front, outer_behind}
-use Rattle.ir_text_aliases.specs.Pieces.{name_of, piece_len, piece_of}
+use Rattle.ir_text_aliases.specs.Pieces.{name_of, piece_len}
 use Rattle.ir_text_aliases.specs.Places.{behind_loc, located, place_len}
 use Rattle.ir_text_aliases.specs.Uses.{Aliases, spelling, use_fault, value_of}
 use Rattle.ir_text_aliases.specs.Walk.{alias_move, fault_at, piece_move, place_move}

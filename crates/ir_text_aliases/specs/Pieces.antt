@@ -1,6 +1,6 @@
 -- A text piece by piece, as an alias or a location can stand in it. MLIR Language Reference, "Common
 -- syntax" and "Identifiers and keywords".
-use Rattle.std.specs.Prelude.{ℕ, suc, Bool, true, false, not, ◌&&◌, ◌||◌, ◌==◌, if◌then◌else◌, List, [], ◌∷◌, length, take, drop, Option, Some, None}
+use Rattle.std.specs.Prelude.{ℕ, suc, Bool, false, not, ◌&&◌, ◌||◌, ◌==◌, if◌then◌else◌, List, [], ◌∷◌, length, take, drop, Option, Some, None}
 use Rattle.std.specs.List.{prefix_len}
 use Rattle.ir_text_tokens.specs.Bytes.{is_blank, is_letter, is_word}
 use Rattle.ir_text_tokens.specs.Strings.{closing}

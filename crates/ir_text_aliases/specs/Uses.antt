@@ -7,7 +7,7 @@ use Rattle.ir_text_tokens.specs.Limits.{most_bytes}
 use Rattle.ir_text_tokens.specs.Scopes.{Binding, find}
 use Rattle.ir_text_bodies.specs.Bodies.{begins}
 use Rattle.ir_text_aliases.specs.declared.front.Front.{Front}
-use Rattle.ir_text_aliases.specs.Pieces.{is_loc, name_of}
+use Rattle.ir_text_aliases.specs.Pieces.{is_loc}
 use Rattle.ir_text_aliases.specs.Fronts.{is_minus, is_place}
 
 -- the aliases that are known, each with where its value begins and ends among all values, which stand

@@ -1,6 +1,6 @@
 -- One step of the definitions.
-use Rattle.std.proofs.Common.{◌≡◌, ℕ, zero, suc, ◌+◌, ◌-◌, ◌<◌, ◌≤◌, Bool, true, false, cond, List, [], ◌∷◌, ◌++◌, length, drop, Option, Some, None, refl, sym, ap, ◌∙◌, subst, arith}
-use Rattle.std.specs.Prelude.{Result, Ok, Err, if◌then◌else◌}
+use Rattle.std.proofs.Common.{◌≡◌, ℕ, zero, suc, ◌-◌, ◌<◌, ◌≤◌, true, false, List, [], ◌∷◌, length, drop, Some, None, refl, sym, ap, ◌∙◌, arith}
+use Rattle.std.specs.Prelude.{Ok, Err, if◌then◌else◌}
 use Rattle.std.specs.Result.{result_err}
 use Rattle.std.proofs.lemmas.List.{length-drop}
 use Rattle.ir_text_tokens.specs.declared.fault.Fault.{Fault}
@@ -9,7 +9,7 @@ use Rattle.ir_text_aliases.specs.Uses.{Aliases}
 use Rattle.ir_text_aliases.specs.Values.{definition_at, is_defined}
 use Rattle.ir_text_aliases.proofs.Parted.{piece_within}
 use Rattle.ir_text_aliases.proofs.Tails.{IsTail, is_drop, shorter, within}
-use Rattle.ir_text_expanded.specs.Definitions.{Value, defined, definitions, more_aliases, more_values, rest_of, text_of, unless, value_here, value_in, value_of_name, with_alias}
+use Rattle.ir_text_expanded.specs.Definitions.{Value, defined, definitions, more_aliases, more_values, rest_of, unless, value_here, value_in, value_of_name, with_alias}
 use Rattle.ir_text_expanded.specs.Steps.{Adds}
 use Rattle.ir_text_expanded.proofs.Parts.{definition_tail, named_tail}
 

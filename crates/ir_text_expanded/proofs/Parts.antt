@@ -1,7 +1,7 @@
 -- What follows a definition or its value is the end of the text.
-use Rattle.std.proofs.Common.{◌≡◌, ℕ, zero, suc, ◌+◌, ◌-◌, ◌≤◌, Bool, true, false, cond, List, [], ◌∷◌, length, drop, Option, Some, None, refl, sym, ap, ◌∙◌, subst, arith}
-use Rattle.std.specs.Prelude.{◌==◌, Result, Ok, Err}
-use Rattle.ir_text_tokens.specs.declared.refusal.TextRefusal.TheVariants.{LeftOut, Redefined, Unexpected}
+use Rattle.std.proofs.Common.{◌≡◌, ℕ, Bool, true, false, cond, List, [], ◌∷◌, length, drop, Option, Some, None, refl, ap, ◌∙◌, subst}
+use Rattle.std.specs.Prelude.{◌==◌, Ok, Err}
+use Rattle.ir_text_tokens.specs.declared.refusal.TextRefusal.TheVariants.{Redefined, Unexpected}
 use Rattle.ir_text_tokens.specs.declared.fault.Fault.{Fault}
 use Rattle.ir_text_tokens.specs.Tokens.{skip, suffix_len}
 use Rattle.ir_text_bodies.specs.Bodies.{is_alias}

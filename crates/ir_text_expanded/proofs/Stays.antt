@@ -1,23 +1,21 @@
 -- A text without definitions and locations stays as it is.
-use Rattle.std.proofs.Common.{◌≡◌, ℕ, zero, suc, Bool, true, false, cond, List, [], ◌∷◌, ◌++◌, length, take, drop, Some, None, refl, sym, ap, ◌∙◌, append_assoc, arith}
+use Rattle.std.proofs.Common.{◌≡◌, ℕ, zero, suc, Bool, true, false, cond, List, [], ◌∷◌, ◌++◌, length, drop, None, refl, sym, ap, ◌∙◌, append_assoc, arith}
 use Rattle.std.specs.Prelude.{◌&&◌, ◌||◌, nat_le}
 use Rattle.std.proofs.lemmas.Bool.{leb-true}
 use Rattle.std.proofs.lemmas.List.{append-nil, take-append-drop}
-use Rattle.ir_text_bodies.specs.Bodies.{begins, is_alias}
 use Rattle.ir_text_aliases.specs.declared.front.Bracket.{Bracket}
 use Rattle.ir_text_aliases.specs.declared.front.Front.{Front}
 use Rattle.ir_text_aliases.specs.declared.front.Holds.TheVariants.{Operations}
 use Rattle.ir_text_aliases.specs.declared.mark.Mark.{Mark}
-use Rattle.ir_text_aliases.specs.Fronts.{at_first, is_arguments, is_behind, is_ending, is_operations, is_outside, is_typed, next_front, outer_behind}
+use Rattle.ir_text_aliases.specs.Fronts.{at_first, is_behind, is_operations, is_outside, next_front, outer_behind}
 use Rattle.ir_text_aliases.specs.Pieces.{is_gap, is_loc, piece_len, piece_of}
-use Rattle.ir_text_aliases.specs.Places.{behind_loc, goes}
+use Rattle.ir_text_aliases.specs.Places.{goes}
 use Rattle.ir_text_aliases.specs.Uses.{Aliases}
 use Rattle.ir_text_aliases.specs.Values.{definition_at, is_defined}
-use Rattle.ir_text_aliases.specs.Walk.{ends_operations, move, piece_move, stops, unless, walk, walk_text, walked}
+use Rattle.ir_text_aliases.specs.Walk.{ends_operations, walk, walked}
 use Rattle.ir_text_expanded.specs.Definitions.{defined, definitions}
-use Rattle.ir_text_expanded.specs.Definitions as definitions
 use Rattle.ir_text_expanded.specs.Endings.{endings}
-use Rattle.ir_text_expanded.specs.Expanded.{behind, expanded, operations_expanded, operations_part, with_end}
+use Rattle.ir_text_expanded.specs.Expanded.{behind, expanded, operations_part, with_end}
 use Rattle.ir_text_expanded.specs.Stays.{as_it_is, has_more}
 
 -- ---- tests

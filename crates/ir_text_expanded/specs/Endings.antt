@@ -1,5 +1,5 @@
 -- The definitions of locations behind the last operation, which go.
-use Rattle.std.specs.Prelude.{ℕ, zero, suc, Bool, true, false, ◌&&◌, ◌==◌, if◌then◌else◌, List, [], ◌∷◌, drop, Option, Some, None, Result, Ok, Err}
+use Rattle.std.specs.Prelude.{ℕ, zero, suc, ◌&&◌, ◌==◌, if◌then◌else◌, List, [], ◌∷◌, drop, Option, Some, None, Result, Err}
 use Rattle.std.specs.Result.{result_err}
 use Rattle.ir_text_tokens.specs.declared.refusal.TextRefusal.TheVariants.{LeftOut, Redefined, Unexpected}
 use Rattle.ir_text_tokens.specs.declared.fault.Fault.{Fault}

@@ -1,4 +1,4 @@
-use Rattle.std.proofs.Common.{◌≡◌, sym, subst, ◌∙◌}
+use Rattle.std.proofs.Common.{◌≡◌, sym, subst}
 use Rattle.std.specs.Prelude.{Err, IfOk, IfErr}
 use Rattle.ir_text_expanded.specs.Definitions.{value_of_name}
 use Rattle.ir_text_expanded.specs.Steps.{Adds}
