@@ -15,7 +15,7 @@ from .rules import COMMENT, MOST_BYTES, Refused
 PIECE = re.compile(rb"[%^@](?:[0-9]+|[A-Za-z$._-][A-Za-z0-9$._-]*)|[A-Za-z_][A-Za-z0-9_$.]*|[0-9]+|->|.", re.S)
 # Behind one of these bytes a spelling can be no part of the token in front of it.
 APART = b" \t\r\n([{<,=:>"
-# Behind one of these an `x` parts dimensions.
+# A piece that begins with one of these, and directly behind it the word `x`, parts dimensions.
 COUNTS = b"0123456789?]*"
 LOC = re.compile(rb"loc(?![A-Za-z0-9_$.])")
 # What a bracket holds: operations, operands or types or regions, arguments of a block, all else; a location.
@@ -46,6 +46,32 @@ class Piece:
 
     def is_blank(self):
         return COMMENT.match(self.bytes).end() == len(self.bytes)
+
+
+def ends_type(piece):
+    """Whether a type may end with a piece: a word, a number, a name with its sign, a label, `)` or `>`."""
+    if piece[:1] in (b"#", b"!", b"%", b"@"):
+        return len(piece) > 1 and piece[1:2] != b'"'
+    if piece in (b"", b"->"):
+        return False
+    return piece[:1] == b"^" or piece[-1:].isalnum() or piece[-1:] in b")>_$."
+
+
+class Front:
+    """The two pieces in front of a place, blanks among them, and the last that is no blank."""
+
+    def __init__(self):
+        self.two, self.last = (b"", b" "), b""
+
+    def passed(self, piece):
+        self.two = (self.two[1], piece.bytes)
+        if not piece.is_blank():
+            self.last = piece.bytes
+
+    def is_apart(self):
+        """Whether a spelling is no part of the token in front of it."""
+        count, near = self.two
+        return near[-1:] in APART or near == b"x" and count[:1] != b"" and count[:1] in COUNTS
 
 
 def behind_equal(text, piece):
@@ -82,18 +108,20 @@ class Pass:
 
     # Spellings.
 
-    def spelling(self, piece, last, brackets):
-        """What is put in the place of an alias, behind a piece and in these brackets."""
+    def spelling(self, piece, front, brackets, size):
+        """What is put in the place of an alias, in these brackets and behind so many bytes, with those of all values
+        where it stands in a value."""
         if piece.bytes not in self.values:
             raise Refused(3, piece.start)
-        if last == b"-":
+        if front.last == b"-":
             raise Refused(2, piece.start)
         value = self.values[piece.bytes]
         if any(kind == PLACE for _, kind in brackets) and LOC.match(value) and value.endswith(b")"):
             value = value[value.index(b"(") + 1:-1]
-        before = self.text[max(piece.start - 2, 0):piece.start]
-        is_dimension = before[-1:] == b"x" and before[:1] in COUNTS
-        return value if before[-1:] in APART or is_dimension else b" " + value
+        found = value if front.is_apart() else b" " + value
+        if size + len(found) > MOST_BYTES:
+            raise Refused(11, piece.start)
+        return found
 
     # Definitions.
 
@@ -118,28 +146,29 @@ class Pass:
         self.names.add(piece.bytes)
 
     def value(self, at):
-        """The value of a definition, and the byte behind it. All of them together are no longer than a text."""
+        """The value of a definition, and the byte behind it. At no use all of them together are longer than a text."""
         begin = COMMENT.match(self.text, at).end()
-        parts, size, at, end, brackets, last = [], 0, begin, begin, [], b""
+        parts, size, at, end, brackets, front = [], 0, begin, begin, [], Front()
         while at < len(self.text):
             piece = Piece(self.text, at)
             if not brackets and (piece.bytes[:1] in (b'"', b"%") or behind_equal(self.text, piece) is not None):
                 break
             at = piece.end
             if piece.is_blank():
+                front.passed(piece)
                 continue
             if piece.fault:
                 raise Refused(1, piece.start + (piece.bytes[:1] == b"@"))
+            size += piece.start - end
             if piece.is_alias:
-                found = self.spelling(piece, last, brackets)
+                found = self.spelling(piece, front, brackets, self.spelled + size)
             else:
-                self.bracket(piece, brackets, last)
+                self.bracket(piece, brackets, front.last)
                 found = piece.bytes
-            size += piece.start - end + len(found)
-            if self.spelled + size > MOST_BYTES:
-                raise Refused(11, piece.start)
+            size += len(found)
             parts += [self.text[end:piece.start], found]
-            end, last = piece.end, piece.bytes
+            end = piece.end
+            front.passed(piece)
         if brackets:
             raise Refused(2, len(self.text))
         if not parts:
@@ -163,7 +192,7 @@ class Pass:
 
     def operations(self, at):
         """Puts spellings in the operations from a byte on, and takes locations away."""
-        brackets, last, is_typed, is_ended = [], b"", False, False
+        brackets, front, is_typed, is_ended = [], Front(), False, False
         while at < len(self.text):
             piece = Piece(self.text, at)
             at = piece.end
@@ -171,17 +200,16 @@ class Pass:
             if not brackets and (is_typed or is_ended) and behind_equal(self.text, piece) is not None:
                 self.endings(piece.start)
                 return
-            behind = self.location(piece, kind, is_typed, last)
+            behind = self.location(piece, kind, is_typed, front.last)
             if behind is not None:
-                at, last, is_typed, is_ended = behind, b")", False, True
+                at, front.two, front.last, is_typed, is_ended = behind, (b"", b")"), b")", False, True
                 continue
             if piece.is_alias and self.values:
-                found = self.spelling(piece, last, brackets)
-                if self.out.size + len(found) >= MOST_BYTES:
-                    raise Refused(11, piece.start)
-                self.out.add(found, piece.start, True)
+                self.out.add(self.spelling(piece, front, brackets, self.out.size), piece.start, True)
             else:
                 self.out.add(piece.bytes, piece.start)
+            last = front.last
+            front.passed(piece)
             if piece.is_blank():
                 continue
             is_ended = False
@@ -189,7 +217,6 @@ class Pass:
                 is_typed = piece.bytes == b"->" or is_typed and piece.bytes[:1] not in (b'"', b"%", b"^")
             if self.nest(piece, brackets, kind, last) == OPS:
                 is_typed = False
-            last = piece.bytes
 
     @staticmethod
     def nest(piece, brackets, kind, last):
@@ -212,8 +239,7 @@ class Pass:
         opened = COMMENT.match(self.text, piece.end).end()
         if piece.bytes != b"loc" or self.text[opened:opened + 1] != b"(":
             return None
-        is_behind_type = last[-1:].isalnum() or last[-1:] in (b")", b">", b"_", b"$", b".")
-        if not is_behind_type or last == b"->" or not (kind == ARGS or kind == OPS and is_typed):
+        if not ends_type(last) or not (kind == ARGS or kind == OPS and is_typed):
             return None
         return body_end(self.text, opened, True)
 

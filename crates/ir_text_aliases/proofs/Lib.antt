@@ -1,3 +1,6 @@
 pub mod Parted
-pub mod Putting
 pub mod Nesting
+pub mod Placing
+pub mod Tails
+pub mod Putting
+pub mod Moving

@@ -11,7 +11,7 @@ use Rattle.ir_text_bodies.specs.Bodies.{closer_of, is_closed, is_none, opened}
 use Rattle.ir_text_bodies.proofs.Ahead as bodies
 use Rattle.ir_text_bodies.proofs.Walk.{pushed, popped}
 use Rattle.ir_text_tokens.specs.declared.fault.Fault.{Fault}
-use Rattle.ir_text_aliases.specs.Pieces.{is_gap, piece_len}
+use Rattle.ir_text_aliases.specs.Pieces.{from_quote, is_gap, piece_len}
 use Rattle.ir_text_aliases.specs.Values.{bracket_fault, coming_behind, ends_value, is_first, is_misplaced, open_fault, unless, value_end, value_fault}
 use Rattle.ir_text_aliases.proofs.Parted.{piece_within, string_token}
 
@@ -81,7 +81,7 @@ ends_here : (c : ℕ) (os cs last : List ℕ) → ends_value c cs os ≡ true �
 unfolding value_end
 ends_here c os cs last e = rw e refl
 
-further : (c : ℕ) (os cs last : List ℕ) → ends_value c cs os ≡ false → value_end os 0 (c ∷ cs) last ≡ unless (value_fault c cs os) (c ∷ cs) (value_end (coming_behind c os) (piece_len c cs) cs (if is_gap c cs then last else drop (piece_len c cs) cs))
+further : (c : ℕ) (os cs last : List ℕ) → ends_value c cs os ≡ false → value_end os 0 (c ∷ cs) last ≡ unless (value_fault c cs os) (from_quote c cs) (value_end (coming_behind c os) (piece_len c cs) cs (if is_gap c cs then last else drop (piece_len c cs) cs))
 unfolding value_end
 further c os cs last e = rw e refl
 
@@ -98,16 +98,16 @@ pub goes_on : (c : ℕ) (os new all tail last behind then' : List ℕ) → all �
     → then' ≡ (if is_gap c tail then last else behind) → value_end os 0 all last ≡ value_end new 0 behind then'
 goes_on c os new all tail last behind then' a e f n b t =
     ap (λ l. value_end os 0 l last) a ∙ further c os tail last e
-    ∙ ap (λ x. unless x (c ∷ tail) (value_end (coming_behind c os) (piece_len c tail) tail (if is_gap c tail then last else drop (piece_len c tail) tail))) f
+    ∙ ap (λ x. unless x (from_quote c tail) (value_end (coming_behind c os) (piece_len c tail) tail (if is_gap c tail then last else drop (piece_len c tail) tail))) f
     ∙ passed (coming_behind c os) (piece_len c tail) tail (if is_gap c tail then last else drop (piece_len c tail) tail) (piece_within c tail)
     ∙ (λ i. value_end (sym n i) 0 (sym b i) (if is_gap c tail then last else sym b i))
     ∙ ap (value_end new 0 behind) (sym t)
 
-pub stops : (c : ℕ) (os all tail last : List ℕ) (f : Fault) (x : TextRefusal) → all ≡ c ∷ tail → ends_value c tail os ≡ false → value_fault c tail os ≡ Some x → f.refusal ≡ x → f.left ≡ length all → value_end os 0 all last ≡ Err f
+pub stops : (c : ℕ) (os all tail last : List ℕ) (f : Fault) (x : TextRefusal) → all ≡ c ∷ tail → ends_value c tail os ≡ false → value_fault c tail os ≡ Some x → f.refusal ≡ x → f.left ≡ length (from_quote c tail) → value_end os 0 all last ≡ Err f
 stops c os all tail last f x a e k h l =
     ap (λ l. value_end os 0 l last) a ∙ further c os tail last e
-    ∙ ap (λ x. unless x (c ∷ tail) (value_end (coming_behind c os) (piece_len c tail) tail (if is_gap c tail then last else drop (piece_len c tail) tail))) k
-    ∙ (λ i. Err (record { refusal = sym h i; left = (ap length (sym a) ∙ sym l) i }))
+    ∙ ap (λ x. unless x (from_quote c tail) (value_end (coming_behind c os) (piece_len c tail) tail (if is_gap c tail then last else drop (piece_len c tail) tail))) k
+    ∙ (λ i. Err (record { refusal = sym h i; left = sym l i }))
 
 pub end_closed : (os rest last : List ℕ) → length rest < 1 → is_none os ≡ true → value_end os 0 rest last ≡ Ok (last, rest)
 unfolding value_end

@@ -7,10 +7,11 @@ use Rattle.std.proofs.lemmas.Option.{some_pair_parts}
 use Rattle.std.proofs.Math.Seq.{drop-length}
 use Rattle.ir_text_tokens.specs.Strings.{closing}
 use Rattle.ir_text_tokens.specs.Tokens.{Lexeme, string, next, skip, string_at, suffix_len}
-use Rattle.ir_text_bodies.specs.Bodies.{are_slashes, is_arrow, is_sign}
+use Rattle.ir_text_tokens.specs.Bytes.{is_letter, is_word}
+use Rattle.ir_text_bodies.specs.Bodies.{are_slashes, begins, is_arrow}
 use Rattle.ir_text_bodies.specs.Bodies as bodies
 use Rattle.ir_text_bodies.proofs.Kept.{string_within, name_within}
-use Rattle.ir_text_aliases.specs.Pieces.{line_len, piece_len, string_len}
+use Rattle.ir_text_aliases.specs.Pieces.{is_name_sign, is_quoted, line_len, piece_len, quoted_len, string_len, word_len}
 
 -- ---- strings
 
@@ -19,7 +20,7 @@ unfolding next skip
 string_token [] = refl
 string_token (d ∷ ds) = refl
 
-pub behind_string : (cs rest : List ℕ) (t : Lexeme) → next (34 ∷ cs) ≡ Some (t, rest) → rest ≡ drop (piece_len 34 cs) cs
+pub behind_string : (cs rest : List ℕ) (t : Lexeme) → next (34 ∷ cs) ≡ Some (t, rest) → rest ≡ drop (quoted_len cs) cs
 behind_string cs rest t e = from (closing cs) (sym (string_token cs) ∙ e)
   where
     from : (o : Option ℕ) → option_map {U = Lexeme × List ℕ} (λ (x : List ℕ × List ℕ). (string x.0, x.1)) (option_map {U = List ℕ × List ℕ} (λ n. (take n cs, drop (n + 1) cs)) o) ≡ Some (t, rest)
@@ -29,7 +30,7 @@ behind_string cs rest t e = from (closing cs) (sym (string_token cs) ∙ e)
         let k : n + 1 ≡ suc n = omega arith in
         sym (some_pair_parts (string (take n cs)) t (drop (n + 1) cs) rest e).1 ∙ ap (λ m. drop m cs) k
 
-pub open_string : (cs rest : List ℕ) → next (34 ∷ cs) ≡ None → rest ≡ drop (length cs) cs → rest ≡ drop (piece_len 34 cs) cs
+pub open_string : (cs rest : List ℕ) → next (34 ∷ cs) ≡ None → rest ≡ drop (length cs) cs → rest ≡ drop (quoted_len cs) cs
 open_string cs rest e r = from (closing cs) (sym (string_token cs) ∙ e)
   where
     from : (o : Option ℕ) → option_map {U = Lexeme × List ℕ} (λ (x : List ℕ × List ℕ). (string x.0, x.1)) (option_map {U = List ℕ × List ℕ} (λ n. (take n cs, drop (n + 1) cs)) o) ≡ None → rest ≡ drop (string_len o cs) cs
@@ -45,7 +46,7 @@ at_the_end cs = rw (drop-length cs) (nothing (length cs - length cs))
 
 -- ---- lengths
 
-quoted_within : (cs : List ℕ) → string_len (closing cs) cs ≤ length cs
+quoted_within : (cs : List ℕ) → quoted_len cs ≤ length cs
 quoted_within cs = from (closing cs) (string_within cs)
   where
     from : (o : Option ℕ) → bodies.string_len o ≤ length cs → string_len o cs ≤ length cs
@@ -60,15 +61,26 @@ arrow_within c [] e = from (c == 45) e
     from false e = absurd cc
 arrow_within c (d ∷ ds) e = omega arith
 
-pub piece_within : (c : ℕ) (cs : List ℕ) → piece_len c cs ≤ length cs
-piece_within c cs = from (c == 34) (are_slashes c cs) (is_sign c) (is_arrow c cs) refl
+symbol_within : (c : ℕ) (cs : List ℕ) → is_quoted c cs ≡ true → suc (quoted_len (drop 1 cs)) ≤ length cs
+symbol_within c [] e = from (c == 64) e
   where
-    from : (t s u v : Bool) → is_arrow c cs ≡ v → cond t (string_len (closing cs) cs) (cond s (line_len cs) (cond u (suffix_len cs) (cond v 1 0))) ≤ length cs
-    from true s u v e = quoted_within cs
-    from false true u v e = prefix_len-le-length (λ b. not (b == 10)) cs
-    from false false true v e = name_within cs
-    from false false false true e = arrow_within c cs e
-    from false false false false e = omega arith
+    from : (t : Bool) → (t && false) ≡ true → suc (quoted_len []) ≤ 0
+    from true e = absurd cc
+    from false e = absurd cc
+symbol_within c (d ∷ ds) e = omega (arith, quoted_within ds)
+
+pub piece_within : (c : ℕ) (cs : List ℕ) → piece_len c cs ≤ length cs
+piece_within c cs = from (c == 34) (is_quoted c cs) refl (are_slashes c cs) (is_name_sign c) (is_letter c) (is_arrow c cs) refl
+  where
+    from : (t q : Bool) → is_quoted c cs ≡ q → (s u l v : Bool) → is_arrow c cs ≡ v
+        → cond t (quoted_len cs) (cond q (suc (quoted_len (drop 1 cs))) (cond s (line_len cs) (cond u (suffix_len cs) (cond l (word_len cs) (cond v 1 0))))) ≤ length cs
+    from true q k s u l v e = quoted_within cs
+    from false true k s u l v e = symbol_within c cs k
+    from false false k true u l v e = prefix_len-le-length (λ b. not (b == 10)) cs
+    from false false k false true l v e = name_within cs
+    from false false k false false true v e = prefix_len-le-length is_word cs
+    from false false k false false false true e = arrow_within c cs e
+    from false false k false false false false e = omega arith
 
 -- the front that was passed over
 pub front_is : (c n : ℕ) (all tail rest : List ℕ) → all ≡ c ∷ tail → n ≤ length tail → rest ≡ drop n tail → take (length all - length rest) all ≡ c ∷ take n tail

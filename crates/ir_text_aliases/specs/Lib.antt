@@ -1,5 +1,7 @@
 pub mod Pieces
+pub mod Fronts
 pub mod Uses
-pub mod Spelled
-pub mod Steps
 pub mod Values
+pub mod Places
+pub mod Walk
+pub mod Steps

@@ -1,10 +1,16 @@
 -- One step of putting values in their places.
-use Rattle.std.specs.Prelude.{◌≡◌, List, ℕ, Result, Ok, Err}
-use Rattle.std.specs.Borrow.{Bor}
+use Rattle.std.specs.Prelude.{◌≡◌, List, ◌++◌, ℕ, Some, None, drop}
 use Rattle.ir_text_tokens.specs.declared.fault.Fault.{Fault}
-use Rattle.ir_text_aliases.specs.Spelled.{Spelling}
+use Rattle.ir_text_aliases.specs.declared.front.Bracket.{Bracket}
+use Rattle.ir_text_aliases.specs.declared.front.Front.{Front}
+use Rattle.ir_text_aliases.specs.declared.mark.Mark.{Mark}
+use Rattle.ir_text_aliases.specs.Walk.{Move}
 
--- the whole comes to what comes of the rest, or ends at a fault
-abbrev pub Follows : Result (Bor (List ℕ)) Fault → Spelling → (List ℕ → Spelling) → (Fault → Spelling) → Type 0
-Follows (Ok rest) whole on stop = whole ≡ on rest.now
-Follows (Err fault) whole on stop = whole ≡ stop fault
+-- what was put there, with which marks, and what follows, are the move's
+abbrev pub Moved : Move → (front : Front) (outer : List Bracket) (tail rest old new : List ℕ) (marks more : List Mark) → Type 0
+Moved m front outer tail rest old new marks more =
+    (m.fault ≡ None) × (front ≡ m.front) × (outer ≡ m.outer) × (rest ≡ drop m.len tail) × (new ≡ old ++ m.put) × (more ≡ marks ++ m.marks)
+
+-- the move's fault; nothing was put there
+abbrev pub Stuck : Move → Fault → (old new : List ℕ) (marks more : List Mark) → Type 0
+Stuck m fault old new marks more = (m.fault ≡ Some fault) × (new ≡ old) × (more ≡ marks)

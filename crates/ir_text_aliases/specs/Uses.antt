@@ -1,11 +1,14 @@
 -- What an alias is spelled by.
-use Rattle.std.specs.Prelude.{ℕ, ◌+◌, ◌-◌, Bool, true, false, nat_le, if◌then◌else◌, List, [], ◌∷◌, ◌++◌, length, take, drop, Option, Some, None, option_map}
+use Rattle.std.specs.Prelude.{ℕ, suc, ◌+◌, ◌-◌, Bool, true, false, not, ◌&&◌, ◌==◌, nat_lt, if◌then◌else◌, List, [], ◌∷◌, ◌++◌, length, take, drop, reverse, Option, Some, None, option_map}
+use Rattle.std.specs.List.{prefix_len}
 use Rattle.ir_text_tokens.specs.declared.refusal.TextRefusal.{TextRefusal}
 use Rattle.ir_text_tokens.specs.declared.refusal.TextRefusal.TheVariants.{UnknownValue, Unexpected, TooMany}
 use Rattle.ir_text_tokens.specs.Limits.{most_bytes}
 use Rattle.ir_text_tokens.specs.Scopes.{Binding, find}
+use Rattle.ir_text_bodies.specs.Bodies.{begins}
 use Rattle.ir_text_aliases.specs.declared.front.Front.{Front}
-use Rattle.ir_text_aliases.specs.Pieces.{name_of}
+use Rattle.ir_text_aliases.specs.Pieces.{is_loc}
+use Rattle.ir_text_aliases.specs.Fronts.{is_minus, is_place}
 
 -- the aliases that are known, each with where its value begins and ends among all values, which stand
 -- one behind the other
@@ -15,24 +18,49 @@ Aliases = List (Binding (ℕ × ℕ))
 abbrev pub value_at : List ℕ → ℕ × ℕ → List ℕ
 value_at values r = take (r.1 - r.0) (drop r.0 values)
 
-abbrev pub value_of : List ℕ → Aliases → ℕ → List ℕ → Option (List ℕ)
-value_of values env c cs = option_map (value_at values) (find (name_of c cs) env)
+-- ---- within a location
+
+-- the word `loc` begins it
+abbrev pub begins_loc : List ℕ → Bool
+begins_loc [] = false
+begins_loc (c ∷ cs) = is_loc c cs
+
+-- a location: `)` ends it
+abbrev pub is_location : List ℕ → Bool
+is_location v = begins_loc v && begins 41 (reverse v)
+
+-- how many bytes stand in front of the first bracket
+abbrev pub bracket_len : List ℕ → ℕ
+bracket_len v = prefix_len (λ c. not (c == 40)) v
+
+-- what stands between the first bracket and the last
+abbrev pub inside : List ℕ → List ℕ
+inside v = take (length v - suc (suc (bracket_len v))) (drop (suc (bracket_len v)) v)
+
+abbrev pub bared : Bool → List ℕ → List ℕ
+bared true v = if is_location v then inside v else v
+bared false v = v
+
+-- ---- the value in its place
+
+-- the value of an alias, without its `loc( )` where it is a location within another
+abbrev pub value_of : List ℕ → Aliases → Front → List ℕ → Option (List ℕ)
+value_of values env f name = option_map (λ r. bared (is_place f.around.holds) (value_at values r)) (find name env)
 
 -- a blank, where the value could be a part of what stands in front
 abbrev pub gap_of : Bool → List ℕ
 gap_of true = []
 gap_of false = 32 ∷ []
 
--- what was put there, with the value of an alias
-abbrev pub with_value : Front → Option (List ℕ) → List ℕ → List ℕ
-with_value f None out = out
-with_value f (Some v) out = out ++ gap_of f.apart ++ v
+abbrev pub spelling : Front → Option (List ℕ) → List ℕ
+spelling f None = []
+spelling f (Some v) = gap_of f.apart ++ v
 
 -- why an alias may not stand there, behind so many bytes: it is not known, or stands behind a minus, or
--- more bytes would be put there than a text may have, a blank among them
+-- more bytes would be put there than a text may have
 abbrev pub use_fault : Front → Option (List ℕ) → ℕ → Option TextRefusal
 use_fault f None len = Some UnknownValue
 use_fault f (Some v) len =
-    if f.minus then Some Unexpected
-    else if nat_le most_bytes (len + length v) then Some TooMany
+    if is_minus f.last then Some Unexpected
+    else if nat_lt most_bytes (len + length (gap_of f.apart ++ v)) then Some TooMany
     else None

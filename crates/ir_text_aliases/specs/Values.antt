@@ -1,13 +1,12 @@
 -- Where the value of an alias ends. MLIR Language Reference, "Type Aliases" and "Attribute Value
 -- Aliases".
-use Rattle.std.specs.Prelude.{ℕ, zero, suc, Bool, true, false, not, ◌&&◌, ◌||◌, ◌==◌, if◌then◌else◌, List, [], ◌∷◌, length, drop, Option, Some, None, Result, Ok, Err}
+use Rattle.std.specs.Prelude.{ℕ, zero, suc, Bool, true, false, ◌&&◌, ◌||◌, ◌==◌, if◌then◌else◌, List, [], ◌∷◌, length, drop, Option, Some, None, Result, Ok, Err}
 use Rattle.ir_text_tokens.specs.declared.refusal.TextRefusal.{TextRefusal}
 use Rattle.ir_text_tokens.specs.declared.refusal.TextRefusal.TheVariants.{BadToken, TooDeep, Unexpected}
 use Rattle.ir_text_tokens.specs.declared.fault.Fault.{Fault}
-use Rattle.ir_text_tokens.specs.Strings.{closing}
 use Rattle.ir_text_tokens.specs.Tokens.{skip, suffix_len}
-use Rattle.ir_text_bodies.specs.Bodies.{closer_of, closes_nearest, is_alias, is_closed, is_none, is_opener, most_open, opened}
-use Rattle.ir_text_aliases.specs.Pieces.{is_gap, piece_len}
+use Rattle.ir_text_bodies.specs.Bodies.{closer_of, closes_nearest, is_alias, is_none, is_opener, most_open, opened}
+use Rattle.ir_text_aliases.specs.Pieces.{from_quote, is_gap, is_open_string, piece_len}
 
 -- what follows an equals sign and the blanks behind it
 abbrev pub behind_equal : List ℕ → Option (List ℕ)
@@ -54,9 +53,9 @@ open_fault c coming =
 abbrev pub bracket_fault : ℕ → List ℕ → Option TextRefusal
 bracket_fault c coming = if is_first c coming then None else open_fault c coming
 
--- or a string that nothing ends
+-- or a string that nothing ends, at its quote
 abbrev pub value_fault : ℕ → List ℕ → List ℕ → Option TextRefusal
-value_fault c cs coming = if c == 34 && not (is_closed (closing cs)) then Some BadToken else bracket_fault c coming
+value_fault c cs coming = if is_open_string c cs then Some BadToken else bracket_fault c coming
 
 -- ---- the end
 
@@ -78,4 +77,4 @@ value_end coming n [] last = if is_none coming then Ok (last, []) else refused_a
 value_end coming (suc n) (c ∷ cs) last = value_end coming n cs last
 value_end coming zero (c ∷ cs) last =
     if ends_value c cs coming then Ok (last, c ∷ cs)
-    else unless (value_fault c cs coming) (c ∷ cs) (value_end (coming_behind c coming) (piece_len c cs) cs (if is_gap c cs then last else drop (piece_len c cs) cs))
+    else unless (value_fault c cs coming) (from_quote c cs) (value_end (coming_behind c coming) (piece_len c cs) cs (if is_gap c cs then last else drop (piece_len c cs) cs))

@@ -3,9 +3,11 @@
 #![tactic(auto)]
 
 pub mod front;
-pub mod laws;
 pub mod mark;
-mod pieces;
-pub mod spell;
-mod uses;
+mod nests;
+pub mod part;
+pub mod pieces;
+pub mod places;
+pub mod uses;
 pub mod values;
+pub mod walk;

@@ -1,11 +1,13 @@
 //! A text piece by piece.
-ghost use Rattle.std.specs.Prelude.{◌≡◌, ◌==◌, ◌≤◌, not, ◌∷◌, length, take, drop};
+ghost use Rattle.std.specs.Prelude.{◌≡◌, ◌==◌, ◌≤◌, not, false, ◌∷◌, length, take, drop};
 ghost use Rattle.std.specs.List.{prefix_len};
-ghost use Rattle.ir_text_bodies.specs.Bodies.{are_slashes, is_arrow};
-ghost use Rattle.ir_text_aliases.specs.Pieces.{is_apart, is_count, is_gap, line_len, next_front, piece_len};
+ghost use Rattle.std.specs.Char.{is_ascii_digit};
+ghost use Rattle.ir_text_tokens.specs.Bytes.{is_letter, is_suffix, is_word};
+ghost use Rattle.ir_text_tokens.specs.Strings.{closing};
+ghost use Rattle.ir_text_tokens.specs.Tokens.{suffix_len};
+ghost use Rattle.ir_text_bodies.specs.Bodies.{are_slashes, is_arrow, is_closed};
+ghost use Rattle.ir_text_aliases.specs.Pieces.{from_quote, is_gap, is_loc, is_name_sign, is_open_string, line_len, piece_len, quoted_len, word_len};
 
-use crate::front::Front;
-use ir_text_bodies::bodies::behind_name;
 use ir_text_tokens::lexer::token;
 
 fn is_no_line_end(byte: u8) -> bool
@@ -21,63 +23,99 @@ fn line_len(bytes: &[u8]) -> usize
     bytes.iter().take_while(|b| is_no_line_end(**b)).count()
 }
 
-fn are_slashes(byte: u8, tail: &[u8]) -> bool
+pub(crate) fn is_word(byte: u8) -> bool
+    ensures { result ≡ is_word byte }
+{
+    byte.is_ascii_alphanumeric() || byte == b'_' || byte == b'$' || byte == b'.'
+}
+
+fn is_suffix(byte: u8) -> bool
+    ensures { result ≡ is_suffix byte }
+{
+    is_word(byte) || byte == b'-'
+}
+
+fn is_digit(byte: u8) -> bool
+    ensures { result ≡ is_ascii_digit byte }
+{
+    byte.is_ascii_digit()
+}
+
+fn is_letter(byte: u8) -> bool
+    ensures { result ≡ is_letter byte }
+{
+    byte.is_ascii_alphabetic() || byte == b'_'
+}
+
+/// How many further bytes a word has.
+pub(crate) fn word_len(bytes: &[u8]) -> usize
+    ensures len { result ≡ word_len bytes.now }
+    ensures within { result ≤ length bytes.now }
+{
+    bytes.iter().take_while(|b| is_word(**b)).count()
+}
+
+fn digits_len(bytes: &[u8]) -> usize
+    ensures len { result ≡ prefix_len is_ascii_digit bytes.now }
+    ensures within { result ≤ length bytes.now }
+{
+    bytes.iter().take_while(|b| is_digit(**b)).count()
+}
+
+fn suffixes_len(bytes: &[u8]) -> usize
+    ensures len { result ≡ prefix_len is_suffix bytes.now }
+    ensures within { result ≤ length bytes.now }
+{
+    bytes.iter().take_while(|b| is_suffix(**b)).count()
+}
+
+/// How many bytes a name has.
+pub fn name_len(bytes: &[u8]) -> usize
+    ensures len { result ≡ suffix_len bytes.now }
+    ensures within { result ≤ length bytes.now }
+{
+    match bytes {
+        [byte, ..] if !is_digit(*byte) => suffixes_len(bytes),
+        _ => digits_len(bytes),
+    }
+}
+
+pub(crate) fn is_name_sign(byte: u8) -> bool
+    ensures { result ≡ is_name_sign byte }
+{
+    matches!(byte, b'#' | b'!' | b'%' | b'^' | b'@')
+}
+
+pub(crate) fn are_slashes(byte: u8, tail: &[u8]) -> bool
     ensures { result ≡ are_slashes byte tail.now }
 {
     byte == b'/' && matches!(tail, [b'/', ..])
 }
 
-fn is_arrow(byte: u8, tail: &[u8]) -> bool
+pub(crate) fn is_arrow(byte: u8, tail: &[u8]) -> bool
     ensures { result ≡ is_arrow byte tail.now }
 {
     byte == b'-' && matches!(tail, [b'>', ..])
 }
 
-fn is_apart(byte: u8) -> bool
-    ensures { result ≡ is_apart byte }
-{
-    matches!(
-        byte,
-        b' ' | b'\t' | b'\n' | b'\r' | b'(' | b'[' | b'{' | b'<' | b',' | b'=' | b':' | b'>'
-    )
-}
-
-fn is_count(byte: u8) -> bool
-    ensures { result ≡ is_count byte }
-{
-    byte.is_ascii_digit() || matches!(byte, b'?' | b']' | b'*')
-}
-
-pub(crate) fn is_gap(byte: u8, tail: &[u8]) -> bool
+/// Whether a blank or a comment begins with the byte.
+pub fn is_gap(byte: u8, tail: &[u8]) -> bool
     ensures { result ≡ is_gap byte tail.now }
 {
     matches!(byte, b' ' | b'\t' | b'\n' | b'\r') || are_slashes(byte, tail)
 }
 
-/// What stands in front of what follows a piece that begins with the byte.
-pub(crate) fn next_front(front: &Front, byte: u8, tail: &[u8]) -> Front
-    ensures { result ≡ next_front front.now byte tail.now }
+/// Whether the word is `loc`.
+pub(crate) fn is_loc(byte: u8, tail: &[u8]) -> bool
+    ensures { result ≡ is_loc byte tail.now }
 {
-    if is_arrow(byte, tail) {
-        return Front {
-            apart: true,
-            counts: false,
-            minus: false,
-        };
-    }
-    let apart = is_apart(byte) || byte == b'x' && front.counts;
-    let minus = byte == b'-' || front.minus && is_gap(byte, tail);
-    Front {
-        apart,
-        counts: is_count(byte),
-        minus,
-    }
+    byte == b'l' && matches!(&tail[..word_len(tail)], [b'o', b'c'])
 }
 
 /// What follows a string, with whose quote all begins, or nothing where it does not end.
 fn behind_string<'a>(all: &'a [u8], tail: &'a [u8]) -> &'a [u8]
     requires all { all.now ≡ 34 ∷ tail.now }
-    ensures { result.now ≡ drop (piece_len 34 tail.now) tail.now }
+    ensures { result.now ≡ drop (quoted_len tail.now) tail.now }
 {
     match token(all) {
         Ok((_, rest)) => rest,
@@ -85,22 +123,83 @@ fn behind_string<'a>(all: &'a [u8], tail: &'a [u8]) -> &'a [u8]
     }
 }
 
+/// What follows a symbol, behind its sign.
+fn behind_symbol(tail: &[u8]) -> &[u8]
+    ensures { result.now ≡ drop (piece_len 64 tail.now) tail.now }
+{
+    match tail {
+        [b'"', text @ ..] => behind_string(tail, text),
+        _ => &tail[name_len(tail)..],
+    }
+}
+
+/// What follows the piece that begins with the byte, which is neither a string nor a symbol.
+fn behind_plain(byte: u8, tail: &[u8]) -> &[u8]
+    requires string { (byte == 34) ≡ false }
+    requires symbol { (byte == 64) ≡ false }
+    ensures { result.now ≡ drop (piece_len byte tail.now) tail.now }
+{
+    if are_slashes(byte, tail) {
+        return &tail[line_len(tail)..];
+    }
+    if is_name_sign(byte) {
+        return &tail[name_len(tail)..];
+    }
+    if is_letter(byte) {
+        return &tail[word_len(tail)..];
+    }
+    match tail {
+        [b'>', rest @ ..] if byte == b'-' => rest,
+        _ => tail,
+    }
+}
+
 /// What follows the piece that begins with the byte.
-pub(crate) fn behind_piece<'a>(byte: u8, all: &'a [u8], tail: &'a [u8]) -> &'a [u8]
+pub fn behind_piece<'a>(byte: u8, all: &'a [u8], tail: &'a [u8]) -> &'a [u8]
     requires all { all.now ≡ byte ∷ tail.now }
     ensures { result.now ≡ drop (piece_len byte tail.now) tail.now }
 {
     if byte == b'"' {
         return behind_string(all, tail);
     }
-    if are_slashes(byte, tail) {
-        return &tail[line_len(tail)..];
+    if byte == b'@' {
+        return behind_symbol(tail);
     }
-    if byte == b'#' || byte == b'!' {
-        return behind_name(byte, all, tail);
+    behind_plain(byte, tail)
+}
+
+/// Whether a string ends, with whose quote all begins.
+fn is_closed(all: &[u8], tail: &[u8]) -> bool
+    requires all { all.now ≡ 34 ∷ tail.now }
+    ensures { result ≡ is_closed (closing tail.now) }
+{
+    match token(all) {
+        Ok(_) => true,
+        Err(_) => false,
+    }
+}
+
+/// Whether a string begins with the byte, or a symbol in quotes, and nothing ends it.
+pub(crate) fn is_open_string(byte: u8, all: &[u8], tail: &[u8]) -> bool
+    requires all { all.now ≡ byte ∷ tail.now }
+    ensures { result ≡ is_open_string byte tail.now }
+{
+    if byte == b'"' {
+        return !is_closed(all, tail);
     }
     match tail {
-        [b'>', rest @ ..] if byte == b'-' => rest,
-        _ => tail,
+        [b'"', text @ ..] if byte == b'@' => !is_closed(tail, text),
+        _ => false,
+    }
+}
+
+/// What begins with the quote of a string or symbol that begins with the byte, or else with the byte.
+pub(crate) fn from_quote<'a>(byte: u8, all: &'a [u8], tail: &'a [u8]) -> &'a [u8]
+    requires all { all.now ≡ byte ∷ tail.now }
+    ensures { result.now ≡ from_quote byte tail.now }
+{
+    match tail {
+        [b'"', ..] if byte == b'@' => tail,
+        _ => all,
     }
 }

@@ -1,18 +1,17 @@
 //! Where the value of an alias ends.
-ghost use Rattle.std.specs.Prelude.{◌≡◌, ◌==◌, ◌<◌, ◌≤◌, ◌&&◌, ◌||◌, not, [], ◌∷◌, None, Some, true, false, Ok, Err, length, drop, reverse, option_map, if◌then◌else◌, IfOk, IfErr, IfSome, IfNone};
+ghost use Rattle.std.specs.Prelude.{◌≡◌, ◌==◌, ◌<◌, ◌≤◌, ◌&&◌, ◌||◌, [], ◌∷◌, None, Some, true, false, Ok, Err, length, drop, reverse, option_map, if◌then◌else◌, IfOk, IfErr, IfSome, IfNone};
 ghost use Rattle.std.specs.Result.{result_map_both};
 ghost use Rattle.arrayvec.specs.ArrayVec.{array_vec_len};
-ghost use Rattle.ir_text_tokens.specs.Strings.{closing};
 ghost use Rattle.ir_text_tokens.specs.Tokens.{skip};
-ghost use Rattle.ir_text_bodies.specs.Bodies.{closer_of, is_closed, opened};
+ghost use Rattle.ir_text_bodies.specs.Bodies.{closer_of, opened};
 ghost use Rattle.ir_text_aliases.specs.Values.{behind_equal, bracket_fault, coming_behind, definition_at, ends_value, is_defined, is_misplaced, open_fault, value_end, value_fault};
 ghost use Rattle.ir_text_aliases.specs.Pieces.{piece_len};
 
-use crate::pieces::{behind_piece, is_gap};
+use crate::pieces::{behind_piece, from_quote, is_gap, is_open_string};
 use arrayvec::ArrayVec;
 use ir_text_bodies::bodies::{behind_alias, closer_of};
 use ir_text_tokens::fault::Fault;
-use ir_text_tokens::lexer::{skip, token};
+use ir_text_tokens::lexer::skip;
 use ir_text_tokens::refusal::TextRefusal;
 
 /// What follows an equals sign and the blanks behind it.
@@ -37,7 +36,7 @@ pub fn definition<'a>(byte: u8, all: &'a [u8], tail: &'a [u8]) -> Option<&'a [u8
     }
 }
 
-fn is_defined(byte: u8, all: &[u8], tail: &[u8]) -> bool
+pub(crate) fn is_defined(byte: u8, all: &[u8], tail: &[u8]) -> bool
     requires all { all.now ≡ byte ∷ tail.now }
     ensures { result ≡ is_defined (definition_at byte tail.now) }
 {
@@ -55,29 +54,6 @@ fn ends_value(coming: &ArrayVec<u8, 32>, byte: u8, all: &[u8], tail: &[u8]) -> b
 {
     let defines = is_defined(byte, all, tail);
     coming.is_empty() && (byte == b'"' || byte == b'%' || defines)
-}
-
-/// Whether a string ends, with whose quote all begins.
-fn is_closed(all: &[u8], tail: &[u8]) -> bool
-    requires all { all.now ≡ 34 ∷ tail.now }
-    ensures { result ≡ is_closed (closing tail.now) }
-{
-    match token(all) {
-        Ok(_) => true,
-        Err(_) => false,
-    }
-}
-
-/// Whether a string begins with the byte, and nothing ends it.
-fn is_open_string(byte: u8, all: &[u8], tail: &[u8]) -> bool
-    requires all { all.now ≡ byte ∷ tail.now }
-    ensures { result ≡ (byte == 34 && not (is_closed (closing tail.now))) }
-{
-    if byte == b'"' {
-        !is_closed(all, tail)
-    } else {
-        false
-    }
 }
 
 /// Whether the byte closes another bracket than the nearest, or may not stand outside all brackets.
@@ -126,7 +102,7 @@ fn nest(coming: &mut ArrayVec<u8, 32>, byte: u8) -> Result<(), TextRefusal>
 }
 
 /// What follows the piece of a value that begins with the byte.
-fn value_piece<'a>(
+pub(crate) fn value_piece<'a>(
     coming: &mut ArrayVec<u8, 32>,
     byte: u8,
     all: &'a [u8],
@@ -176,7 +152,7 @@ fn value_step<'a>(
     }
     match value_piece(coming, byte, all, tail) {
         Ok(behind) => Ok(Some((behind, later(is_gap(byte, tail), last, behind)))),
-        Err(refusal) => Err(Fault::at(refusal, all)),
+        Err(refusal) => Err(Fault::at(refusal, from_quote(byte, all, tail))),
     }
 }
 

@@ -1,4 +1,4 @@
-use Rattle.std.proofs.Common.{cond, sym, ap, ◌∙◌}
+use Rattle.std.proofs.Common.{cond, length, sym, ap, ◌∙◌}
 use Rattle.std.specs.Prelude.{reverse}
 use Rattle.ir_text_aliases.proofs.Nesting.{ends, goes_on, stops}
 use Rattle.ir_text_aliases.proofs.values.value_step.Goals as goal
@@ -16,4 +16,4 @@ returns-in-Ok-clause-on c =
 pub returns-in-Err-clause-stop : goal.returns-in-Err-clause-stop
 returns-in-Err-clause-stop c =
     stops c.args.byte (reverse c.args.coming.now.items) c.args.all.now c.args.tail.now c.args.last.now c.at.result c.in-Err.refusal
-    c.requires.all (sym c.ends_value.ensures ∙ c.if-ends_value.false) c.in-Err.ensures.err c.at.ensures.refusal c.at.ensures.left
+    c.requires.all (sym c.ends_value.ensures ∙ c.if-ends_value.false) c.in-Err.ensures.err c.at.ensures.refusal (c.at.ensures.left ∙ ap length c.from_quote.ensures)

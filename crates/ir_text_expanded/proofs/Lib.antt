@@ -1,0 +1,5 @@
+pub mod Parts
+pub mod Defining
+pub mod Ending
+pub mod Stays
+pub mod Keeping

@@ -1,0 +1,112 @@
+-- The definitions of aliases in front of the first operation. MLIR Language Reference, "Type Aliases" and
+-- "Attribute Value Aliases".
+use Rattle.std.specs.Prelude.{ℕ, zero, suc, ◌-◌, Bool, true, false, ◌==◌, if◌then◌else◌, List, [], ◌∷◌, ◌++◌, length, Option, Some, None, Result, Ok, Err}
+use Rattle.std.specs.Result.{result_err}
+use Rattle.ir_text_tokens.specs.declared.refusal.TextRefusal.TheVariants.{Redefined, Unexpected}
+use Rattle.ir_text_tokens.specs.declared.fault.Fault.{Fault}
+use Rattle.ir_text_tokens.specs.Scopes.{find}
+use Rattle.ir_text_aliases.specs.declared.front.Holds.TheVariants.{Others}
+use Rattle.ir_text_aliases.specs.declared.part.Part.{Part}
+use Rattle.ir_text_aliases.specs.Pieces.{is_gap, name_of, piece_len}
+use Rattle.ir_text_aliases.specs.Uses.{Aliases}
+use Rattle.ir_text_aliases.specs.Values.{Ends, definition_at, is_defined, value_end}
+use Rattle.ir_text_aliases.specs.Walk.{Walked, fault_at, walk_text}
+
+-- ---- one value
+
+-- what stands in a value in place of its aliases, up to where so many bytes are left; all values together
+-- are no longer than a text
+abbrev pub value_part : List ℕ → ℕ → Part
+value_part values left = record { before = length values; left = left; reads = true }
+
+abbrev pub value_walk : List ℕ → Aliases → List ℕ → ℕ → Walked
+value_walk values env bytes left = walk_text (value_part values left) values env Others bytes [] []
+
+-- the spelling of a value, and what follows it
+abbrev pub Value : Type 0
+Value = Result (List ℕ × List ℕ) Fault
+
+abbrev pub spelled_or : Option Fault → List ℕ → List ℕ → Value
+spelled_or None text last = Ok (text, last)
+spelled_or (Some fault) text last = Err fault
+
+abbrev pub first_fault : Option Fault → Fault → Fault
+first_fault None other = other
+first_fault (Some fault) other = fault
+
+-- a value that ends there; one that does not is refused for an alias in front of that first
+abbrev pub value_up_to : List ℕ → Aliases → List ℕ → Ends → Value
+value_up_to values env bytes (Ok x) =
+    if length x.0 == length bytes then Err (fault_at bytes Unexpected)
+    else spelled_or (value_walk values env bytes (length x.0)).fault (value_walk values env bytes (length x.0)).text x.0
+value_up_to values env bytes (Err fault) = Err (first_fault (value_walk values env bytes fault.left).fault fault)
+
+abbrev pub value_at : List ℕ → Aliases → List ℕ → Value
+value_at values env bytes = value_up_to values env bytes (value_end [] 0 bytes bytes)
+
+-- ---- one definition
+
+abbrev pub is_some : Option (ℕ × ℕ) → Bool
+is_some None = false
+is_some (Some x) = true
+
+abbrev pub is_known : List ℕ → Aliases → Bool
+is_known name env = is_some (find name env)
+
+-- a further alias
+abbrev pub with_alias : List ℕ → ℕ → ℕ → Aliases → Aliases
+with_alias name start past env = env ++ record { name = name; value = (start, past) } ∷ []
+
+-- the value of a name that isn't defined yet, with which the bytes begin
+abbrev pub value_of_name : List ℕ → Aliases → (name bytes value : List ℕ) → Value
+value_of_name values env name bytes value = if is_known name env then Err (fault_at bytes Redefined) else value_at values env value
+
+abbrev pub text_of : Value → List ℕ
+text_of (Ok x) = x.0
+text_of (Err fault) = []
+
+abbrev pub rest_of : Value → List ℕ
+rest_of (Ok x) = x.1
+rest_of (Err fault) = []
+
+-- ---- all definitions
+
+-- the values, one behind the other, the aliases, what follows the last value, or where it is refused, and
+-- the fault there
+pub record Defined : Type 0 where
+  pub values : List ℕ
+  pub aliases : Aliases
+  pub rest : List ℕ
+  pub fault : Option Fault
+
+abbrev pub defined : List ℕ → Aliases → List ℕ → Option Fault → Defined
+defined values env rest fault = record { values = values; aliases = env; rest = rest; fault = fault }
+
+abbrev pub unless : Option Fault → List ℕ → Aliases → List ℕ → Defined → Defined
+unless None values env rest on = on
+unless (Some fault) values env rest on = defined values env rest (Some fault)
+
+-- with a value that was spelled
+abbrev pub more_values : List ℕ → Value → List ℕ
+more_values values v = values ++ text_of v
+
+abbrev pub more_aliases : List ℕ → Aliases → ℕ → List ℕ → Value → Aliases
+more_aliases values env c cs v = with_alias (name_of c cs) (length values) (length (more_values values v)) env
+
+abbrev pub value_in : Option (List ℕ) → List ℕ
+value_in None = []
+value_in (Some value) = value
+
+abbrev pub value_here : List ℕ → Aliases → ℕ → List ℕ → Value
+value_here values env c cs = value_of_name values env (name_of c cs) (c ∷ cs) (value_in (definition_at c cs))
+
+-- behind what follows the last value; some bytes belong to what was read before
+unfoldable pub definitions : (values : List ℕ) (env : Aliases) (behind : List ℕ) (passed : ℕ) (bytes : List ℕ) → Defined
+definitions values env behind n [] = defined values env behind None
+definitions values env behind (suc n) (c ∷ cs) = definitions values env behind n cs
+definitions values env behind zero (c ∷ cs) =
+    if is_gap c cs then definitions values env behind (piece_len c cs) cs
+    else if is_defined (definition_at c cs) then
+    unless (result_err (value_here values env c cs)) values env (c ∷ cs)
+    (definitions (more_values values (value_here values env c cs)) (more_aliases values env c cs (value_here values env c cs)) (rest_of (value_here values env c cs)) (length cs - length (rest_of (value_here values env c cs))) cs)
+    else defined values env behind None

@@ -1,0 +1,15 @@
+-- A text that stays as it is.
+use Rattle.std.specs.Prelude.{ℕ, zero, suc, Bool, false, ◌||◌, List, [], ◌∷◌, length, None}
+use Rattle.ir_text_aliases.specs.Pieces.{is_loc, piece_len}
+use Rattle.ir_text_aliases.specs.Values.{definition_at, is_defined}
+use Rattle.ir_text_expanded.specs.Expanded.{Expanded}
+
+-- whether the word `loc`, or a definition, begins a piece of the text; some bytes belong to the piece before
+unfoldable pub has_more : (passed : ℕ) (bytes : List ℕ) → Bool
+has_more n [] = false
+has_more (suc n) (c ∷ cs) = has_more n cs
+has_more zero (c ∷ cs) = (is_loc c cs || is_defined (definition_at c cs)) || has_more (piece_len c cs) cs
+
+-- a text as it is, with the mark at its end
+abbrev pub as_it_is : List ℕ → Expanded
+as_it_is bytes = record { text = bytes; marks = record { front = length bytes; past = length bytes; left = 0 } ∷ []; fault = None }
