@@ -1,5 +1,5 @@
 -- Lists that grow.
-use Rattle.std.proofs.Common.{◌≡◌, refl, ap, sym, ◌∙◌, subst, ℕ, ◌-◌, ◌<◌, ◌≤◌, eqb, eq-eqb, eqb-true, true, List, [], ◌∷◌, ◌++◌, length, take, drop, inl, inr, ◌⊎◌, Result, Ok, Err, take_all, slice_index_or, arith}
+use Rattle.std.proofs.Common.{◌≡◌, refl, ap, sym, ◌∙◌, subst, ℕ, zero, suc, ◌-◌, ◌<◌, ◌≤◌, eqb, eq-eqb, eqb-true, true, List, [], ◌∷◌, ◌++◌, length, take, drop, inl, inr, ◌⊎◌, Result, Ok, Err, Some, take_all, slice_get, slice_index_or, arith}
 use Rattle.std.specs.Prelude.{OnOk, IfOk}
 use Rattle.ir_tree_laws.specs.Members.{In}
 use Rattle.ir_tree_laws.proofs.Listed.{any_one, one_any, in_left, in_right}
@@ -20,6 +20,15 @@ in_listed x ys h = any_one (λ y. eqb y x) ys x h (eq-eqb x x refl)
 
 pub listed_in : (x : ℕ) (ys : List ℕ) → is_listed x ys ≡ true → In x ys
 listed_in x ys h = let w = one_any (λ y. eqb y x) ys h in subst (λ z. In z ys) (eqb-true w.0 x w.2) w.1
+
+-- what stands at a place of a list is in it
+pub got_listed : (x : ℕ) (ys : List ℕ) (n : ℕ) → slice_get ys n ≡ Some x → is_listed x ys ≡ true
+got_listed x ys n e = in_listed x ys (go ys n e)
+  where
+    go : (ys : List ℕ) (n : ℕ) → slice_get ys n ≡ Some x → In x ys
+    go [] n e = absurd cc
+    go (y ∷ ys) zero e = let same : x ≡ y = cc in inl same
+    go (y ∷ ys) (suc n) e = inr (go ys n e)
 
 -- the first of a list, and what is behind it
 pub from_item : {X : Type 0} (xs : List X) (x d : X) (n : ℕ) → 1 ≤ length xs → x ≡ slice_index_or xs 0 d → n ≡ length xs → xs ≡ x ∷ take (n - 1) (drop 1 xs)
@@ -42,6 +51,9 @@ adds_both P R S xs ys zs f a b = record {
   kept = λ x h. b.kept x (a.kept x h);
   added = λ x h. elim (f x h) [ inl r ↦ b.kept x (a.added x r) | inr s ↦ b.added x s ];
 }
+
+pub adds_present : (x : ℕ) (xs : List ℕ) → is_listed x xs ≡ true → Adds (λ y. y ≡ x) xs xs
+adds_present x xs h = record { kept = λ y k. k; added = λ y i. ap (λ z. is_listed z xs) i ∙ h }
 
 pub adds_pushed : (x : ℕ) (xs ys : List ℕ) → ys ≡ xs ++ x ∷ [] → Adds (λ y. y ≡ x) xs ys
 adds_pushed x xs ys e = record {

@@ -1,102 +1,49 @@
 -- Operations that end a block.
 use Rattle.std.proofs.Common.{◌≡◌, refl, ap, sym, ◌∙◌, subst, ℕ, true, eqb, eq-eqb, List, [], ◌∷◌, Option, Some, None}
 use Rattle.std.specs.Prelude.{option_map, option_and_then}
-use Rattle.ir_tree.specs.declared.place.Place.{Place}
 use Rattle.ir_tree.specs.Tree.{OpOf, op, empty, block, OpsOf, no_ops, next, head, regions}
 use Rattle.ir_tree.specs.Ids.{HasDistinctIds, first_of, find}
-use Rattle.ir_tree.specs.Places.{place_of}
 use Rattle.ir_store.specs.Nodes.{node_of}
 use Rattle.ir_tree_laws.specs.Values.{region_at}
 use Rattle.ir_tree_laws.specs.Reads.{last_id, ops_in, last_at}
 use Rattle.ir_tree_laws.specs.Stands.{StepOf, stands, stand_of}
 use Rattle.ir_tree_laws.specs.Members.{In}
 use Rattle.ir_tree_laws.proofs.Readings.{step}
-use Rattle.ir_tree_laws.proofs.Members.{stand, joined_ops, stand_of_member, found_stands}
-use Rattle.ir_tree_laws.proofs.Around.{around_there, place_of_member}
-use Rattle.ir_tree_laws.proofs.Values.{shape}
+use Rattle.ir_tree_laws.proofs.Members.{stand, stand_of_member, found_stands}
 use Rattle.listeners_surroundings.specs.Surroundings.{surround}
-use Rattle.listeners_surroundings.proofs.Spots.{stands_in}
+use Rattle.listeners_surroundings.proofs.Lasts.{split_last, last_stands}
 use Rattle.greedy.specs.Reached.{ends, ends_of}
 
-some_same : (a b : ℕ) → Some a ≡ Some b → a ≡ b
-some_same a b e = cc
+module _ {N T A : Type 0} (t : OpOf N T A) (d : HasDistinctIds t) where
+  -- the last of a block ends it
+  pub last_ends : (p : OpOf N T A) (path : List (StepOf N T A)) (r : ℕ) (args : List T) (os : OpsOf N T A) (y : ℕ) → In (stand p path) (stands [] t) → region_at r (regions p) ≡ Some (block args os) → last_id os ≡ Some y
+      → ends (head p).id y t ≡ true
+  last_ends p path r args os y h f e =
+      let s = split_last y os e in
+      let z = stand s.last (step p r args s.front no_ops ∷ path) in
+      let there : stand_of y t ≡ Some z = ap (λ k. stand_of k t) (sym s.id) ∙ stand_of_member t d z (last_stands t d p path r args os y h f e) in
+      ap (λ o. ends_of (head p).id (option_map (surround t) o)) there ∙ same p
+    where
+      same : (p : OpOf N T A) → eqb (node_of p).head.id (head p).id ≡ true
+      same (op g rs) = eq-eqb g.id g.id refl
 
-module _ {N T A : Type 0} where
-  -- a list that has a last, up to it
-  pub record Split (y : ℕ) (os : OpsOf N T A) : Type 0 where
-    pub front : List (OpOf N T A)
-    pub last : OpOf N T A
-    pub is : os ≡ joined_ops front (next last no_ops)
-    pub id : (head last).id ≡ y
+  -- by the reading call
+  pub last_at_ends : (p r y : ℕ) → last_at p r t ≡ Some y → ends p y t ≡ true
+  last_at_ends p r y e = go (find p t) refl e
+    where
+      inside : (o : OpOf N T A) → find p t ≡ Some o → (g : Option (OpsOf N T A)) → option_and_then ops_in (region_at r (regions o)) ≡ g → option_and_then last_id g ≡ Some y → ends p y t ≡ true
+      inside o f None k e = absurd cc
+      inside o f (Some os) k e = area (region_at r (regions o)) refl k
+        where
+          area : (g : Option _) → region_at r (regions o) ≡ g → option_and_then ops_in g ≡ Some os → ends p y t ≡ true
+          area None i j = absurd cc
+          area (Some empty) i j = absurd cc
+          area (Some (block args us)) i j =
+              let same : us ≡ os = cc in
+              let s = found_stands p t o f in
+              subst (λ q. ends q y t ≡ true) (ap (λ u. (head u).id) (sym s.3) ∙ s.2)
+              (last_ends o s.0.path r args us y (subst (λ u. In (stand u s.0.path) (stands [] t)) s.3 s.1) i (ap last_id same ∙ e))
 
-  split_more : (o : OpOf N T A) (y : ℕ) (os : OpsOf N T A) → Split y os → Split y (next o os)
-  split_more o y os s = record { front = o ∷ s.front; last = s.last; is = ap (next o) s.is; id = s.id }
-
-  some_last : (o : OpOf N T A) (os : OpsOf N T A) → (z : ℕ) × (last_id (next o os) ≡ Some z)
-  some_last o no_ops = ((head o).id, refl)
-  some_last o (next u us) = let w = some_last u us in (w.0, ap (λ l. first_of l (Some (head o).id)) w.1)
-
-  pub split_last : (y : ℕ) (os : OpsOf N T A) → last_id os ≡ Some y → Split y os
-  split_last y no_ops e = absurd cc
-  split_last y (next o no_ops) e = record { front = []; last = o; is = refl; id = some_same (head o).id y e }
-  split_last y (next o (next u us)) e =
-      let w = some_last u us in
-      split_more o y (next u us) (split_last y (next u us) (w.1 ∙ (sym (ap (λ l. first_of l (Some (head o).id)) w.1) ∙ e)))
-
-  module _ (t : OpOf N T A) (d : HasDistinctIds t) where
-    -- the last of a block stands there with none behind it
-    pub last_stands : (p : OpOf N T A) (path : List (StepOf N T A)) (r : ℕ) (args : List T) (os : OpsOf N T A) (y : ℕ) → In (stand p path) (stands [] t) → region_at r (regions p) ≡ Some (block args os) → (e : last_id os ≡ Some y)
-        → In (stand (split_last y os e).last (step p r args (split_last y os e).front no_ops ∷ path)) (stands [] t)
-    last_stands p path r args os y h f e = let s = split_last y os e in stands_in t p path r args s.front s.last no_ops h (f ∙ ap (λ l. Some (block args l)) s.is)
-
-    pub last_ends : (p : OpOf N T A) (path : List (StepOf N T A)) (r : ℕ) (args : List T) (os : OpsOf N T A) (y : ℕ) → In (stand p path) (stands [] t) → region_at r (regions p) ≡ Some (block args os) → last_id os ≡ Some y
-        → ends (head p).id y t ≡ true
-    last_ends p path r args os y h f e =
-        let s = split_last y os e in
-        let z = stand s.last (step p r args s.front no_ops ∷ path) in
-        let there : stand_of y t ≡ Some z = ap (λ k. stand_of k t) (sym s.id) ∙ stand_of_member t d z (last_stands p path r args os y h f e) in
-        ap (λ o. ends_of (head p).id (option_map (surround t) o)) there ∙ same p
-      where
-        same : (p : OpOf N T A) → eqb (node_of p).head.id (head p).id ≡ true
-        same (op g rs) = eq-eqb g.id g.id refl
-
-    -- by the reading call
-    pub last_at_ends : (p r y : ℕ) → last_at p r t ≡ Some y → ends p y t ≡ true
-    last_at_ends p r y e = go (find p t) refl e
-      where
-        inside : (o : OpOf N T A) → find p t ≡ Some o → (g : Option (OpsOf N T A)) → option_and_then ops_in (region_at r (regions o)) ≡ g → option_and_then last_id g ≡ Some y → ends p y t ≡ true
-        inside o f None k e = absurd cc
-        inside o f (Some os) k e = area (region_at r (regions o)) refl k
-          where
-            area : (g : Option _) → region_at r (regions o) ≡ g → option_and_then ops_in g ≡ Some os → ends p y t ≡ true
-            area None i j = absurd cc
-            area (Some empty) i j = absurd cc
-            area (Some (block args us)) i j =
-                let same : us ≡ os = cc in
-                let s = found_stands p t o f in
-                subst (λ q. ends q y t ≡ true) (ap (λ u. (head u).id) (sym s.3) ∙ s.2)
-                (last_ends o s.0.path r args us y (subst (λ u. In (stand u s.0.path) (stands [] t)) s.3 s.1) i (ap last_id same ∙ e))
-
-        go : (f : Option (OpOf N T A)) → find p t ≡ f → option_and_then last_id (option_and_then (λ o. option_and_then ops_in (region_at r (regions o))) f) ≡ Some y → ends p y t ≡ true
-        go None k h = absurd cc
-        go (Some o) k h = inside o k (option_and_then ops_in (region_at r (regions o))) refl h
-
-    -- an operation in front of which a place is isn't the last of a block
-    pub not_last : (x : ℕ) (place : Place) (b : ℕ) → place_of x t ≡ Some place → place.before ≡ Some b
-        → (p : OpOf N T A) (path : List (StepOf N T A)) (r : ℕ) (args : List T) (os : OpsOf N T A) → In (stand p path) (stands [] t) → region_at r (regions p) ≡ Some (block args os) → last_id os ≡ Some x → ⊥
-    not_last x place b at more p path r args os h f e =
-        let s = split_last x os e in
-        let here = place_of_member t d s.last (step p r args s.front no_ops) path (last_stands p path r args os x h f e) in
-        let two : Some (record { parent = (head p).id; region = r; before = None }) ≡ Some place = sym here ∙ ap (λ k. place_of k t) s.id ∙ at in
-        let none : None ≡ place.before = ap (option_and_then (λ (z : Place). z.before)) two in
-        let no : None ≡ Some b = none ∙ more in
-        absurd cc
-
-    joined_last : (front : List (OpOf N T A)) (o : OpOf N T A) (rest : OpsOf N T A) (y : ℕ) → last_id rest ≡ Some y → last_id (joined_ops front (next o rest)) ≡ Some y
-    joined_last [] o rest y e = ap (λ l. first_of l (Some (head o).id)) e
-    joined_last (u ∷ front) o rest y e = ap (λ l. first_of l (Some (head u).id)) (joined_last front o rest y e)
-
-    pub not_last_behind : (x : ℕ) (place : Place) (b : ℕ) → place_of x t ≡ Some place → place.before ≡ Some b
-        → (o : OpOf N T A) (a : StepOf N T A) (q : List (StepOf N T A)) → In (stand o (a ∷ q)) (stands [] t) → last_id a.rest ≡ Some x → ⊥
-    not_last_behind x place b at more o a q h e =
-        not_last x place b at more a.parent q a.region a.args (joined_ops a.front (next o a.rest)) (around_there t o a q h).1 (shape t o a q h) (joined_last a.front o a.rest x e)
+      go : (f : Option (OpOf N T A)) → find p t ≡ f → option_and_then last_id (option_and_then (λ o. option_and_then ops_in (region_at r (regions o))) f) ≡ Some y → ends p y t ≡ true
+      go None k h = absurd cc
+      go (Some o) k h = inside o k (option_and_then ops_in (region_at r (regions o))) refl h

@@ -16,7 +16,7 @@ use Rattle.effects.specs.declared.kinds.EffectKinds.{EffectKinds}
 use Rattle.effects.specs.Effects.{none, union, own_kinds, is_recursive, effects_by, effects, regions_effects, ops_effects}
 use Rattle.listeners_surroundings.proofs.Left.{left_list}
 use Rattle.greedy.specs.Climbs.{recursive_at, Climbs, feels, regions_feel, ops_feel}
-use Rattle.greedy.proofs.Locality.{kept_next}
+use Rattle.listeners_surroundings.proofs.Locality.{kept_next}
 
 and_parts : (a b : Bool) → (a && b) ≡ true → (a ≡ true) × (b ≡ true)
 and_parts true b e = (refl, e)

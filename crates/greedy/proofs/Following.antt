@@ -12,7 +12,7 @@ use Rattle.ir_tree.specs.Ids.{first_of}
 use Rattle.ir_store.specs.Nodes.{NodeOf, node_of, regions_arguments}
 use Rattle.ir_tree_laws.specs.Values.{region_at}
 use Rattle.ir_tree.specs.Tree.{ops_of}
-use Rattle.ir_tree_laws.specs.Reads.{ops_at, ops_in, last_id, id_before, prev_of, parent_of, precedes, comes_after}
+use Rattle.ir_tree_laws.specs.Reads.{ops_at, ops_in, last_id, id_before, is_among, goes_before, list_of, in_list, is_before, prev_of, parent_of, precedes, comes_after}
 use Rattle.ir_tree_laws.specs.Stands.{StepOf, StandOf, stand_id, stand_in, place_in, stands, regions_stands, region_stands, ops_stands, stand_of}
 use Rattle.ir_tree_laws.specs.Members.{In}
 use Rattle.ir_tree_laws.proofs.Listed.{bool_cases, in_parts}
@@ -22,6 +22,7 @@ use Rattle.ir_tree_laws.proofs.Put.{child}
 use Rattle.ir_tree_laws.proofs.Neighbours.{prev_there}
 use Rattle.ir_tree_laws.proofs.Around.{around_there, place_of_member, member_of_place}
 use Rattle.ir_tree_laws.proofs.Values.{shape}
+use Rattle.greedy.proofs.Order.{rises}
 use Rattle.greedy.specs.Following.{first_id, comes_next, following, regions_from, first_inside, behind, behind_of, height_of, HasFewRegions, count_of}
 
 there : ℕ → List ℕ → Bool
@@ -304,6 +305,27 @@ module _ {N T A : Type 0} where
   joined_end [] u os = refl
   joined_end (o ∷ f) u os = ap (next o) (joined_end f u os)
 
+  -- a list in which x stands behind y, up to the first y
+  first_split : (y x : ℕ) (os : OpsOf N T A) → goes_before y x os ≡ true → (pre : List (OpOf N T A)) × (g : OpOf N T A) × (rest : OpsOf N T A) × ((head g).id ≡ y) × (is_among x rest ≡ true) × (os ≡ joined_ops pre (next g rest))
+  first_split y x no_ops h = absurd (true≢false (sym h))
+  first_split y x (next o os) h = go (eqb (head o).id y) refl h (first_split y x os)
+    where
+      go : (b : Bool) → eqb (head o).id y ≡ b → cond b (is_among x os) (goes_before y x os) ≡ true
+          → (goes_before y x os ≡ true → (pre : List (OpOf N T A)) × (g : OpOf N T A) × (rest : OpsOf N T A) × ((head g).id ≡ y) × (is_among x rest ≡ true) × (os ≡ joined_ops pre (next g rest)))
+          → (pre : List (OpOf N T A)) × (g : OpOf N T A) × (rest : OpsOf N T A) × ((head g).id ≡ y) × (is_among x rest ≡ true) × (next o os ≡ joined_ops pre (next g rest))
+      go true e k later = ([], o, os, eqb-true (head o).id y e, k, refl)
+      go false e k later = let s = later k in (o ∷ s.0, s.1, s.2, s.3, s.4, ap (next o) s.5)
+
+  own_listed : (o : OpOf N T A) → list_any (λ y. eqb y (head o).id) (ids o) ≡ true
+  own_listed (op h rs) = ap (λ b. b || list_any (λ y. eqb y h.id) (regions_ids rs)) (eq-eqb h.id h.id refl)
+
+  among_ids : (x : ℕ) (os : OpsOf N T A) → is_among x os ≡ true → list_any (λ z. eqb z x) (ops_ids os) ≡ true
+  among_ids x no_ops h = absurd (true≢false (sym h))
+  among_ids x (next o os) h = elim (bool_cases (eqb (head o).id x)) [
+    | inl e ↦ any_left x (ids o) (ops_ids os) (subst (λ z. list_any (λ v. eqb v z) (ids o) ≡ true) (eqb-true (head o).id x e) (own_listed o))
+    | inr e ↦ any_right x (ids o) (ops_ids os) (among_ids x os (sym (ap (λ b. b || is_among x os) e) ∙ h))
+  ]
+
   module _ (t : OpOf N T A) (d : HasDistinctIds t) where
     -- what is inside an operation or behind it comes after it
     pub comes_later : (s : StandOf N T A) (x : ℕ) → In s (stands [] t) → list_any (λ y. eqb y x) (regions_ids (regions s.here) ++ behind s.path) ≡ true → precedes (stand_id s) x t ≡ true
@@ -311,9 +333,6 @@ module _ {N T A : Type 0} where
         let c = cut_op [] t s h in
         let is : ids t ≡ c.0 ++ (stand_id s ∷ (regions_ids (regions s.here) ++ behind s.path)) = sym (append_none (ids t)) ∙ c.1 ∙ ap (λ l. c.0 ++ (l ++ behind s.path)) (ids_head s.here) in
         ap (comes_after (stand_id s) x) is ∙ after_cut (stand_id s) x c.0 (regions_ids (regions s.here) ++ behind s.path) (subst (IsDistinct eqb) is d) k
-
-    own_id : (o : OpOf N T A) → list_any (λ y. eqb y (head o).id) (ids o) ≡ true
-    own_id (op h rs) = ap (λ b. b || list_any (λ y. eqb y h.id) (regions_ids rs)) (eq-eqb h.id h.id refl)
 
     -- the one before it in its block
     pub prev_precedes : (x y : ℕ) → prev_of x t ≡ Some y → precedes y x t ≡ true
@@ -327,7 +346,7 @@ module _ {N T A : Type 0} where
             let u = stand w.1 (step a.parent a.region a.args w.0 (next s.here a.rest) ∷ p) in
             let shaped : region_at a.region (regions a.parent) ≡ Some (block a.args (joined_ops w.0 (next w.1 (next s.here a.rest)))) = shape t s.here a p mem ∙ ap (λ l. Some (block a.args l)) (ap (λ f. joined_ops f (next s.here a.rest)) w.2 ∙ joined_end w.0 w.1 (next s.here a.rest)) in
             let there : In u (stands [] t) = within a.parent p u (child a.parent p a.region a.args (joined_ops w.0 (next w.1 (next s.here a.rest))) u shaped (ops_child a.parent p a.region a.args [] w.0 w.1 (next s.here a.rest))) [] t (around_there t s.here a p mem).1 in
-            let x_in : list_any (λ z. eqb z x) (ids s.here) ≡ true = subst (λ z. list_any (λ v. eqb v z) (ids s.here) ≡ true) i (own_id s.here) in
+            let x_in : list_any (λ z. eqb z x) (ids s.here) ≡ true = subst (λ z. list_any (λ v. eqb v z) (ids s.here) ≡ true) i (own_listed s.here) in
             subst (λ z. precedes z x t ≡ true) w.3 (comes_later u x there
             (any_right x (regions_ids (regions w.1)) (behind u.path) (any_left x (ops_ids (next s.here a.rest)) (regions_ids (regions_from (a.region + 1) (regions a.parent)) ++ behind p) (any_left x (ids s.here) (ops_ids a.rest) x_in))))
 
@@ -357,7 +376,7 @@ module _ {N T A : Type 0} where
             let two : Some (record { parent = (head a.parent).id; region = a.region; before = first_op a.rest }) ≡ Some place = ap place_in (sym q) ∙ f in
             let one : record { parent = (head a.parent).id; region = a.region; before = first_op a.rest } ≡ place = cc in
             let is : (head a.parent).id ≡ y = ap (λ (z : Place). z.parent) one ∙ g in
-            let x_in : list_any (λ z. eqb z x) (ids s.here) ≡ true = subst (λ z. list_any (λ v. eqb v z) (ids s.here) ≡ true) i (own_id s.here) in
+            let x_in : list_any (λ z. eqb z x) (ids s.here) ≡ true = subst (λ z. list_any (λ v. eqb v z) (ids s.here) ≡ true) i (own_listed s.here) in
             let held = inside_regions x a.region (regions a.parent) (block a.args (joined_ops a.front (next s.here a.rest))) (shape t s.here a p mem) (inside_joined x a.front s.here a.rest x_in) in
             subst (λ z. precedes z x t ≡ true) is (comes_later (stand a.parent p) x (around_there t s.here a p mem).1 (any_left x (regions_ids (regions a.parent)) (behind p) held))
 
@@ -368,6 +387,33 @@ module _ {N T A : Type 0} where
             let same : Some place.parent ≡ Some y = sym (ap (option_map (λ (p : Place). p.parent)) f) ∙ e in
             let parent : place.parent ≡ y = cc in
             go w.0 place w.0.path refl w.1 w.2 w.3 parent
+
+    -- one before it in its block
+    pub before_precedes : (y x : ℕ) → is_before y x t ≡ true → precedes y x t ≡ true
+    before_precedes y x e = placed (place_of y t) refl
+      where
+        go : (s : StandOf N T A) (place : Place) (p : List (StepOf N T A)) → s.path ≡ p → In s (stands [] t) → stand_id s ≡ y → place_in s.path ≡ Some place → precedes y x t ≡ true
+        go s place [] q k i f = let no : None ≡ Some place = ap place_in (sym q) ∙ f in absurd cc
+        go s place (a ∷ p) q k i f =
+            let mem = subst (λ l. In (stand s.here l) (stands [] t)) q k in
+            let up = (around_there t s.here a p mem).1 in
+            let shaped = shape t s.here a p mem in
+            let list : list_of (head s.here).id t ≡ Some (joined_ops a.front (next s.here a.rest)) =
+            ap (option_and_then (λ z. ops_at z.parent z.region t)) (place_of_member t d s.here a p mem)
+            ∙ ap (option_and_then (λ o. option_and_then ops_in (region_at a.region (regions o)))) (stand_found t d (stand a.parent p) up) ∙ ap (option_and_then ops_in) shaped in
+            let w = first_split y x (joined_ops a.front (next s.here a.rest)) (sym (ap (in_list (goes_before y x)) (ap (λ z. list_of z t) (sym i) ∙ list)) ∙ e) in
+            let u = stand w.1 (step a.parent a.region a.args w.0 w.2 ∷ p) in
+            let there : In u (stands [] t) = within a.parent p u (child a.parent p a.region a.args (joined_ops w.0 (next w.1 w.2)) u (shaped ∙ ap (λ l. Some (block a.args l)) w.5) (ops_child a.parent p a.region a.args [] w.0 w.1 w.2)) [] t up in
+            subst (λ z. precedes z x t ≡ true) w.3 (comes_later u x there
+            (any_right x (regions_ids (regions w.1)) (behind u.path) (any_left x (ops_ids w.2) (regions_ids (regions_from (a.region + 1) (regions a.parent)) ++ behind p) (among_ids x w.2 w.4))))
+
+        placed : (f : Option Place) → place_of y t ≡ f → precedes y x t ≡ true
+        placed None f = absurd (true≢false (sym e ∙ ap (λ (g : Option Place). in_list (goes_before y x) (option_and_then (λ (p : Place). ops_at p.parent p.region t) g)) f))
+        placed (Some place) f = let w = member_of_place y place t f in go w.0 place w.0.path refl w.1 w.2 w.3
+
+    -- of two operations one alone comes before the other
+    pub not_behind : (x y : ℕ) → precedes x y t ≡ true → precedes y x t ≡ false
+    not_behind x y h = elim (bool_cases (precedes y x t)) [ inr k ↦ k | inl k ↦ absurd (omega (arith, rises x y (ids t) d h, rises y x (ids t) d k)) ]
 
     -- the root alone has none around it
     pub rootless : (x : ℕ) → has_id x t ≡ true → parent_of x t ≡ None → x ≡ (head t).id

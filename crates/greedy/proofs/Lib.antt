@@ -1,5 +1,4 @@
 pub mod Ending
-pub mod Locality
 pub mod Reaching
 pub mod Seeing
 pub mod Feeling

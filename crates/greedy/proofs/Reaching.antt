@@ -24,7 +24,7 @@ use Rattle.listeners_surroundings.proofs.Moves.{taken, left_id}
 use Rattle.listeners_surroundings.proofs.Near.{far_same}
 use Rattle.greedy.specs.Reached.{ends, ends_of, is_end, at_end, reaches, any_reaches}
 use Rattle.greedy.proofs.Ending.{last_ends, last_at_ends}
-use Rattle.greedy.proofs.Locality.{taken_leaves, moved_leaves}
+use Rattle.listeners_surroundings.proofs.Locality.{taken_leaves, moved_leaves}
 
 -- a place that isn't the end of its block
 pub not_end : (place : Place) → is_end place ≡ false → place.before ≡ None → ⊥

@@ -23,7 +23,7 @@ use Rattle.listeners_surroundings.proofs.Left.{left_node, left_head}
 use Rattle.listeners_surroundings.proofs.Moves.{taken, left_id}
 use Rattle.greedy.specs.Climbs.{feels}
 use Rattle.greedy.specs.Sights.{last_ids}
-use Rattle.greedy.proofs.Locality.{last_id_kept}
+use Rattle.listeners_surroundings.proofs.Locality.{last_id_kept}
 use Rattle.greedy.proofs.Feeling.{left_effects, edit_effects}
 
 module _ {N T A : Type 0} where

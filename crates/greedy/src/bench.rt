@@ -14,7 +14,7 @@ use crate::journal::touched;
 use crate::outcome::Outcome;
 use crate::rewriting::Rewriting;
 use crate::run::run;
-use crate::walk::{following, preceding};
+use crate::walk::{following, precedes, preceding};
 use ir_event::analysis::Analysis;
 use ir_types::ids::OpId;
 use ir_types::refusal::Refusal;
@@ -71,7 +71,8 @@ impl<L: Analysis> Rewriting for Bench<L> {
     }
 
     fn precedes(&self, op: OpId, other: OpId) -> bool {
-        self.world().store.precedes(op, other)
+        Bench::is_formed(self);
+        precedes(&self.world().store, op, other)
     }
 
     fn following(&self, op: OpId) -> Option<OpId> {

@@ -20,8 +20,8 @@ fn events_from<L: Analysis>(
 ) -> Result<Vec<Event>, AllocError>
     ensures { IfOk result (λ v. v.items ≡ drop from bench.now.desk.journal) }
 {
-    let mut events = Vec::new(alloc);
     let count = bench.journal_len();
+    let mut events = Vec::with_capacity(alloc, count.saturating_sub(from))?;
     let mut place = from;
     'journal: while place < count {
         let Some(event) = bench.journal_at(place) else {

@@ -44,16 +44,19 @@ fn any_puts_last(events: &[Event]) -> bool
     false
 }
 
+/// Room for the operations that are most often near events.
+const ROOM: usize = 16;
+
 /// The operations near events, where none of these puts anything at the end of a block.
 fn near(alloc: Global, world: &World, events: &[Event]) -> Result<Vec<OpId>, AllocError>
     ensures { IfOk result (λ v. any_puts_last events.now ≡ false
         → Lists (shown_operands world.now.store) events.now v.items (module_in world.now).tree) }
 {
-    let mut reached = Vec::new(alloc);
+    let mut reached = Vec::with_capacity(alloc, ROOM)?;
     push_all_reached(world, &mut reached, events)?;
-    let mut seen = Vec::new(alloc);
+    let mut seen = Vec::with_capacity(alloc, ROOM)?;
     push_all_with_users(world, &mut seen, &reached)?;
-    let mut ops = Vec::new(alloc);
+    let mut ops = Vec::with_capacity(alloc, ROOM)?;
     push_all_with_users(world, &mut ops, &seen)?;
     push_all_around(world, &mut ops, &seen)?;
     push_all_beside(world, &mut ops, events)?;

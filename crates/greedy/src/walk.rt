@@ -79,3 +79,17 @@ pub(crate) fn preceding(store: &Store, op: OpId) -> Option<OpId>
     };
     Some(parent)
 }
+
+/// Whether an operation comes before another in pre-order. Most often both stand in one block.
+pub(crate) fn precedes(store: &Store, op: OpId, other: OpId) -> bool
+    requires distinct { HasDistinctIds store.now.module_of.tree }
+    ensures { result ≡ precedes op other store.now.module_of.tree }
+{
+    if store.is_before(op, other) {
+        return true;
+    }
+    if store.is_before(other, op) {
+        return false;
+    }
+    store.precedes(op, other)
+}

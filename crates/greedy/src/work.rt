@@ -65,6 +65,17 @@ fn is_at(again: &[OpId], place: usize, op: OpId) -> bool
     }
 }
 
+/// Whether an operation comes after the one that was passed last.
+fn is_to_come<R: Rewriting>(bench: &R, work: &Work, op: OpId) -> bool
+    ensures { result ≡ precedes work.now.passed op (R.held bench.now).tree }
+{
+    bench.is_formed();
+    if work.passed == op {
+        return false;
+    }
+    bench.precedes(work.passed, op)
+}
+
 /// Lets an operation wait that is in the module.
 pub(crate) fn add<R: Rewriting>(bench: &R, work: &mut Work, op: OpId) -> Result<(), Refusal>
     requires { IsWork work.old.passed work.old.again.items (R.held bench.now).tree }
@@ -80,7 +91,7 @@ pub(crate) fn add<R: Rewriting>(bench: &R, work: &mut Work, op: OpId) -> Result<
     if !bench.in_tree(op) {
         return Ok(());
     }
-    if bench.precedes(work.passed, op) {
+    if is_to_come(bench, work, op) {
         return Ok(());
     }
     let place = behind(bench, &work.again, op);

@@ -1,6 +1,6 @@
 -- Renewing the facts about the operations near an event.
-use Rattle.std.proofs.Common.{◌≡◌, refl, ap, sym, ◌∙◌, subst, ℕ, zero, suc, ◌+◌, ◌-◌, ◌*◌, ◌<◌, ◌≤◌, Bool, true, false, true≢false, cond, ◌||◌, eqb, eq-eqb, eqb-true, List, [], ◌∷◌, length, take, drop, get_or, Option, Some, None, arith}
-use Rattle.std.specs.Prelude.{option_map, option_and_then}
+use Rattle.std.proofs.Common.{◌≡◌, refl, ap, sym, ◌∙◌, subst, ℕ, zero, suc, ◌+◌, ◌-◌, ◌*◌, ◌<◌, ◌≤◌, Bool, true, false, true≢false, cond, ◌||◌, eqb, eq-eqb, eqb-true, List, [], ◌∷◌, length, take, drop, get_or, Option, Some, None, Result, Ok, Err, arith}
+use Rattle.std.specs.Prelude.{option_map, option_and_then, IfOk}
 use Rattle.std.proofs.lemmas.List.{length-drop}
 use Rattle.ir_types.specs.Things.{Things}
 use Rattle.ir_types.specs.Terms.{TypeTerm, AttrTerm, name_term, type_term, attr_term}
@@ -28,6 +28,11 @@ fact_gathered {F} fact c t x r e = go r ∙ ap (λ o. option_map fact (option_ma
     go : (r : Option Around) → option_map (λ a. fact (gathered_in c a)) r ≡ option_map fact (option_map (map_surroundings (name_term c) (type_term c) (attr_term c)) (option_map gathered r))
     go None = refl
     go (Some a) = refl
+
+-- what is so however fresh an operation is
+pub all_fresh : {X E : Type 0} (r : Result X E) (P : X → Bool → Type 0) (fresh : Bool) → IfOk r (λ v. (f : Bool) → P v f) → IfOk r (λ v. P v fresh)
+all_fresh (Ok v) P fresh h = h fresh
+all_fresh (Err e) P fresh h = tt
 
 -- a list from a place on
 pub somes_drop : (xs : List (Option ℕ)) (i : ℕ) (d : Option ℕ) → i < length xs → somes (drop i xs) ≡ if_any (get_or xs i d) (somes (drop (i + 1) xs))

@@ -1,8 +1,10 @@
 pub mod Operands
 pub mod Spots
 pub mod Left
+pub mod Lasts
 pub mod Alike
 pub mod Moves
+pub mod Locality
 pub mod Heads
 pub mod Near
 pub mod Tables

@@ -18,7 +18,7 @@ use Rattle.ir_tree_laws.proofs.Contents.{map_type_of_value}
 use Rattle.ir_event.specs.declared.event.Event.{Event}
 use Rattle.ir_event.specs.declared.event.Event.TheVariants.{Put, Take, SetOperand, SetEntry, Shift}
 use Rattle.listeners_surroundings.specs.Surroundings.{last_name, last_names, ended_by, outer_of, surround, surroundings}
-use Rattle.listeners_surroundings.specs.Near.{if_any, lasts_of, lasts_found, lasts_in, near}
+use Rattle.listeners_surroundings.specs.Near.{if_any, if_end, lasts_of, lasts_found, lasts_in, near}
 use Rattle.listeners_surroundings.specs.Mapped.{map_node, map_outer, map_surroundings}
 
 module _ {N T A M U B : Type 0} (f : N → M) (g : T → U) (h : A → B) where
@@ -177,8 +177,8 @@ module _ {N T A M U B : Type 0} (f : N → M) (g : T → U) (h : A → B) where
       go (Some o) = ap lasts_of (map_regions_of o) ∙ map_lasts_of (regions o)
 
   pub map_near : (e : Event) (t : OpOf N T A) → near e (tree t) ≡ near e t
-  map_near (Put x place fresh) t = ap (λ o. x ∷ place.parent ∷ if_any o []) (map_prev_of x t)
-  map_near (Take x place fresh) t = ap (λ o. x ∷ place.parent ∷ if_any o []) (map_last_at place.parent place.region t)
+  map_near (Put x place fresh) t = ap (λ o. x ∷ if_end place.before (place.parent ∷ if_any o [])) (map_prev_of x t)
+  map_near (Take x place fresh) t = ap (λ o. x ∷ if_end place.before (place.parent ∷ if_any o [])) (map_last_at place.parent place.region t)
   map_near (SetOperand x k old new) t = ap (λ l. x ∷ l) (map_lasts_in x t)
   map_near (SetEntry x part key old new) t = ap (λ l. x ∷ l) (map_lasts_in x t)
   map_near (Shift x old new) t = λ i. x ∷ old.parent ∷ new.parent ∷ if_any (map_last_at old.parent old.region t i) (if_any (map_prev_of x t i) [])

@@ -54,26 +54,15 @@ module _ {N T A : Type 0} (x : ℕ) where
       | inr i ↦ absurd (apart (alone (i.step_in ∷ i.path) i.here s (empty i.here (top_found t d s i)) i.inner ∙ i.id))
     ]
 
-    untaken : (z : ℕ) (r : StandOf N T A) → In r (stands [] w) → stand_id r ≡ z → (s : StandOf N T A) × In s (stands [] t) × (stand_id s ≡ z)
+    pub untaken : (z : ℕ) (r : StandOf N T A) → In r (stands [] w) → stand_id r ≡ z → (s : StandOf N T A) × In s (stands [] t) × (stand_id s ≡ z)
     untaken z r h i = let b = member_left x t r (subst (λ u. In r (stands [] u)) is h) in (b.0, b.1, sym (left_id b.0) ∙ ap (λ (s : StandOf N T A). stand_id s) (sym b.3) ∙ i)
 
-    nodes_taken : (z : ℕ) → (z ≡ x → ⊥) → Both (λ s r. node_of s.here ≡ node_of r.here) z t w
+    pub nodes_taken : (z : ℕ) → (z ≡ x → ⊥) → Both (λ s r. node_of s.here ≡ node_of r.here) z t w
     nodes_taken z apart = both (λ s r. node_of s.here ≡ node_of r.here) z t w d e (λ s h i. (left_stand x s, taken s h (λ k. apart (sym i ∙ k)), left_id s ∙ i, sym (left_node x s.here))) (untaken z)
-
-    -- it leaves the surroundings of all but x, the operation around it and that in front of it
-    pub taken_far : (place : Place) → place_of x t ≡ Some place → ((v : Value) → (owner_of v).0 ≡ x → uses_of v t ≡ []) → (y : ℕ) → (y ≡ x → ⊥) → (y ≡ place.parent → ⊥)
-        → ((s : StandOf N T A) → In s (stands [] t) → stand_id s ≡ y → (a : StepOf N T A) (q : List (StepOf N T A)) (o : OpOf N T A) (rest : OpsOf N T A) → s.path ≡ a ∷ q → a.rest ≡ next o rest → (head o).id ≡ x → left_list x a.rest ≡ no_ops → ⊥)
-        → surroundings y w ≡ surroundings y t
-    taken_far place at unused y apart outside f =
-        sym (same_surroundings y t w
-        (both AlikeStands y t w d e (λ s h i.
-        let a = far_alike x t d place at s h (λ k. outside (sym i ∙ k)) (f s h i) in
-        (left_stand x s, taken s h (λ k. apart (sym i ∙ k)), left_id s ∙ i, record { node = sym a.node; lasts = sym a.lasts; outer = sym a.outer })) (untaken y))
-        (λ s h i v k. same_value_type v t w (nodes_taken (owner_of v).0 (λ j. not_used v s t (unused v j) h k))))
 
   -- ---- moving x, with what is inside it
   -- one that was moved is left as the other, or is the same with what is around it
-  abbrev Moved : StandOf N T A → StandOf N T A → Type 0
+  abbrev pub Moved : StandOf N T A → StandOf N T A → Type 0
   Moved s r = (left_stand x r ≡ left_stand x s) ⊎ ((r.here ≡ s.here) × (outer_of r.path ≡ outer_of s.path))
 
   module _ (t u : OpOf N T A) (d : HasDistinctIds t) (e : HasDistinctIds u) (is : without x t ≡ without x u) (same : find x t ≡ find x u) where
@@ -92,12 +81,12 @@ module _ {N T A : Type 0} (x : ℕ) where
   node_left s r (inl e) = sym (left_node x s.here) ∙ ap (λ (z : StandOf N T A). node_of z.here) (sym e) ∙ left_node x r.here
   node_left s r (inr e) = ap (λ o. node_of o) (sym e.0)
 
-  left_some : (p : List (StepOf N T A)) (c : StepOf N T A) (k : List (StepOf N T A)) → map (left_step x) p ≡ c ∷ k → (a : StepOf N T A) × (q : List (StepOf N T A)) × (p ≡ a ∷ q) × (left_step x a ≡ c)
+  pub left_some : (p : List (StepOf N T A)) (c : StepOf N T A) (k : List (StepOf N T A)) → map (left_step x) p ≡ c ∷ k → (a : StepOf N T A) × (q : List (StepOf N T A)) × (p ≡ a ∷ q) × (left_step x a ≡ c)
   left_some [] c k e = absurd cc
   left_some (a ∷ q) c k e = (a, q, refl, cc)
 
   module _ (m n : OpOf N T A) (d : HasDistinctIds m) (e : HasDistinctIds n) (is : without x n ≡ without x m) (same : find x n ≡ find x m) (old new : Place) (was_at : place_of x m ≡ Some old) (is_at : place_of x n ≡ Some new) where
-    found_moved : (v : Value) → type_of_value v m ≡ type_of_value v n
+    pub found_moved : (v : Value) → type_of_value v m ≡ type_of_value v n
     found_moved v = elim (bool_cases (eqb (owner_of v).0 x)) [
       | inr k ↦ same_value_type v m n (nodes (owner_of v).0 (λ i. true≢false (sym (eq-eqb (owner_of v).0 x i) ∙ k)))
       | inl k ↦ same_value_type v m n (owned (eqb-true (owner_of v).0 x k))

@@ -19,11 +19,12 @@ use Rattle.ir_event.specs.declared.event.Event.TheVariants.{Put, Take, SetOperan
 use Rattle.ir_event.specs.Modules.{Module}
 use Rattle.ir_event.specs.Step.{Step}
 use Rattle.listeners_surroundings.specs.Surroundings.{surroundings}
-use Rattle.listeners_surroundings.specs.Near.{if_any, near, lasts_in}
+use Rattle.listeners_surroundings.specs.Near.{if_any, if_end, near, lasts_in}
 use Rattle.listeners_surroundings.proofs.Spots.{next_in, prev_is, last_is, placed_there}
 use Rattle.listeners_surroundings.proofs.Left.{left_head}
 use Rattle.listeners_surroundings.proofs.Heads.{Keeps, each_far}
-use Rattle.listeners_surroundings.proofs.Moves.{taken_far, moved_far, left_id, taken}
+use Rattle.listeners_surroundings.proofs.Moves.{moved_far, left_id, taken}
+use Rattle.listeners_surroundings.proofs.Locality.{taken_leaves}
 
 in_any : (y : ℕ) (o : Option ℕ) (ys : List ℕ) → o ≡ Some y → In y (if_any o ys)
 in_any y o ys e = subst (λ (p : Option ℕ). In y (if_any p ys)) (sym e) (inl refl)
@@ -31,6 +32,10 @@ in_any y o ys e = subst (λ (p : Option ℕ). In y (if_any p ys)) (sym e) (inl r
 in_later : (y : ℕ) (o : Option ℕ) (ys : List ℕ) → In y ys → In y (if_any o ys)
 in_later y None ys h = h
 in_later y (Some z) ys h = inr h
+
+in_end : (y : ℕ) (b : Option ℕ) (ys : List ℕ) → b ≡ None → In y ys → In y (if_end b ys)
+in_end y None ys e h = h
+in_end y (Some c) ys e h = absurd cc
 
 apart_bool : (x y : ℕ) → (y ≡ x → ⊥) → eqb y x ≡ false
 apart_bool x y f = elim (bool_cases (eqb y x)) [ inl e ↦ absurd (f (eqb-true y x e)) | inr e ↦ e ]
@@ -51,23 +56,25 @@ module _ {N T A : Type 0} where
   there t s a q h p = subst (λ l. In (stand s.here l) (stands [] t)) p h
 
   took : (x : ℕ) (place : Place) (fresh : Bool) (m n : ModuleOf N T A) → HasDistinctIds m.tree → HasDistinctIds n.tree → Takes x place fresh m n
-      → (y : ℕ) → (In y (x ∷ place.parent ∷ if_any (last_at place.parent place.region n.tree) []) → ⊥) → surroundings y n.tree ≡ surroundings y m.tree
+      → (y : ℕ) → (In y (x ∷ if_end place.before (place.parent ∷ if_any (last_at place.parent place.region n.tree) [])) → ⊥) → surroundings y n.tree ≡ surroundings y m.tree
   took x place fresh m n d e k y far =
-      taken_far x m.tree n.tree d e k.left k.empty place k.there k.unused y (λ i. far (inl i)) (λ i. far (inr (inl i)))
-      (λ s h i a q o rest f g l none.
+      let beside = place.parent ∷ if_any (last_at place.parent place.region n.tree) [] in
+      taken_leaves x m.tree n.tree d e k.left k.empty place k.there k.unused y (λ i. far (inl i)) (λ b i. far (inr (in_end y place.before beside b (inl i))))
+      (λ s h i b a q o rest f g l none.
       let apart : stand_id s ≡ x → ⊥ = λ j. far (inl (sym i ∙ j)) in
       let left = taken x m.tree n.tree d e k.left k.empty s h apart in
       let at = placed_there m.tree d x place k.there o _ q (next_in m.tree d s.here a q o rest (there m.tree s a q h f) g) l in
       let last = last_is n.tree e (left_stand x s).here (left_step x a) (map (left_step x) q) (there n.tree (left_stand x s) (left_step x a) (map (left_step x) q) left (ap (map (left_step x)) f)) none in
       let id : (head (left_step x a).parent).id ≡ place.parent = ap (λ (z : HeadOf N T A). z.id) (left_head x a.parent) ∙ at.0 in
-      far (inr (inr (in_any y (last_at place.parent place.region n.tree) [] ((λ w. last_at (sym id w) (sym at.1 w) n.tree) ∙ last ∙ ap Some (left_id x s ∙ i))))))
+      far (inr (in_end y place.before beside b (inr (in_any y (last_at place.parent place.region n.tree) [] ((λ w. last_at (sym id w) (sym at.1 w) n.tree) ∙ last ∙ ap Some (left_id x s ∙ i)))))))
 
   put_in : (x : ℕ) (place : Place) (fresh : Bool) (m n : ModuleOf N T A) → HasDistinctIds m.tree → HasDistinctIds n.tree → Takes x place fresh n m
-      → (y : ℕ) → (In y (x ∷ place.parent ∷ if_any (prev_of x n.tree) []) → ⊥) → surroundings y n.tree ≡ surroundings y m.tree
+      → (y : ℕ) → (In y (x ∷ if_end place.before (place.parent ∷ if_any (prev_of x n.tree) [])) → ⊥) → surroundings y n.tree ≡ surroundings y m.tree
   put_in x place fresh m n d e k y far =
-      sym (taken_far x n.tree m.tree e d k.left k.empty place k.there k.unused y (λ i. far (inl i)) (λ i. far (inr (inl i)))
-      (λ s h i a q o rest f g l none.
-      far (inr (inr (in_any y (prev_of x n.tree) [] (ap (λ z. prev_of z n.tree) (sym l) ∙ prev_is n.tree e s.here a q o rest (there n.tree s a q h f) g ∙ ap Some i))))))
+      let beside = place.parent ∷ if_any (prev_of x n.tree) [] in
+      sym (taken_leaves x n.tree m.tree e d k.left k.empty place k.there k.unused y (λ i. far (inl i)) (λ b i. far (inr (in_end y place.before beside b (inl i))))
+      (λ s h i b a q o rest f g l none.
+      far (inr (in_end y place.before beside b (inr (in_any y (prev_of x n.tree) [] (ap (λ z. prev_of z n.tree) (sym l) ∙ prev_is n.tree e s.here a q o rest (there n.tree s a q h f) g ∙ ap Some i)))))))
 
 pub far_same : (c : Things) (e : Event) (m n : Module) → Step c e m n → (y : ℕ) → (In y (near e n.tree) → ⊥) → surroundings y n.tree ≡ surroundings y m.tree
 far_same c (Put x place fresh) m n s y far = put_in x place fresh m n s.before.distinct s.after.distinct s.changes y far

@@ -25,10 +25,16 @@ lasts_found (Some o) = lasts_of (regions o)
 abbrev pub lasts_in : {N T A : Type 0} → ℕ → OpOf N T A → List ℕ
 lasts_in x t = lasts_found (find x t)
 
+-- a list where nothing is behind a place in its block: elsewhere none sees what is put there, or taken from there
+abbrev pub if_end : {X : Type 0} → Option ℕ → List X → List X
+if_end None xs = xs
+if_end (Some b) xs = []
+
 -- the operations near an event that led to this tree: they alone can have other surroundings than before
 abbrev pub near : {N T A : Type 0} → Event → OpOf N T A → List ℕ
-near (Put x place fresh) t = x ∷ place.parent ∷ if_any (prev_of x t) []
-near (Take x place fresh) t = x ∷ place.parent ∷ if_any (last_at place.parent place.region t) []
+near (Put x place fresh) t = x ∷ if_end place.before (place.parent ∷ if_any (prev_of x t) [])
+near (Take x place fresh) t =
+    x ∷ if_end place.before (place.parent ∷ if_any (last_at place.parent place.region t) [])
 near (SetOperand x k old new) t = x ∷ lasts_in x t
 near (SetEntry x part key old new) t = x ∷ lasts_in x t
 near (Shift x old new) t =

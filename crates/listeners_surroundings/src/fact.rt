@@ -5,6 +5,7 @@ ghost use Rattle.std.specs.BTreeMap.{get};
 ghost use Rattle.ir_types.specs.Terms.{TypeTerm, AttrTerm, name_term};
 ghost use Rattle.ir_tree.specs.Ids.{find, has_id};
 ghost use Rattle.ir_event.specs.Modules.{module_in};
+ghost use Rattle.ir_event.specs.declared.event.Event.TheVariants.{Put, Take};
 ghost use Rattle.listeners_surroundings.specs.Surroundings.{SurroundingsOf};
 ghost use Rattle.listeners_surroundings.specs.Near.{near, somes, if_any, lasts_in};
 ghost use Rattle.listeners_surroundings.specs.Facts.{is_one_of, fact_of, if_kept, kept_of, Renewed, most_looks};
@@ -16,6 +17,7 @@ use crate::gather::{around_of, gather, shown};
 use ir_event::event::Event;
 use ir_event::registry::registry::Registry;
 use ir_event::view::View;
+use ir_tree::place::Place;
 use ir_types::context::Context;
 use ir_types::ids::{NameId, OpId};
 use std::alloc::{AllocError, Global};
@@ -210,6 +212,48 @@ fn lasts(alloc: Global, view: &mut View<'_>, op: OpId) -> Result<Vec<Option<OpId
     Ok(ops)
 }
 
+/// The operations near an event that put an operation at a place.
+fn near_put(
+    alloc: Global,
+    view: &mut View<'_>,
+    op: OpId,
+    place: &Place,
+) -> Result<Vec<Option<OpId>>, AllocError>
+    ensures ops { IfOk result (λ v. (fresh : Bool)
+        → somes v.items ≡ near (Put op place.now fresh) (tree_in view.old.world.now)) }
+    ensures looks { view.new.looks ≤ view.old.looks + 1 }
+    ensures world { view.new.world.now ≡ view.old.world.now }
+{
+    match place.before {
+        Some(_) => [Some(op)].to_vec(alloc),
+        None => {
+            let front = view.prev(op);
+            [Some(op), Some(place.parent), front].to_vec(alloc)
+        }
+    }
+}
+
+/// The operations near an event that took an operation from a place.
+fn near_take(
+    alloc: Global,
+    view: &mut View<'_>,
+    op: OpId,
+    place: &Place,
+) -> Result<Vec<Option<OpId>>, AllocError>
+    ensures ops { IfOk result (λ v. (fresh : Bool)
+        → somes v.items ≡ near (Take op place.now fresh) (tree_in view.old.world.now)) }
+    ensures looks { view.new.looks ≤ view.old.looks + 1 }
+    ensures world { view.new.world.now ≡ view.old.world.now }
+{
+    match place.before {
+        Some(_) => [Some(op)].to_vec(alloc),
+        None => {
+            let last = view.last(place.parent, place.region);
+            [Some(op), Some(place.parent), last].to_vec(alloc)
+        }
+    }
+}
+
 /// The operations near an event, which led to the module that the view shows.
 fn near_ops(
     alloc: Global,
@@ -221,14 +265,8 @@ fn near_ops(
     ensures world { view.new.world.now ≡ view.old.world.now }
 {
     match event {
-        Event::Put { op, place, .. } => {
-            let front = view.prev(*op);
-            [Some(*op), Some(place.parent), front].to_vec(alloc)
-        }
-        Event::Take { op, place, .. } => {
-            let last = view.last(place.parent, place.region);
-            [Some(*op), Some(place.parent), last].to_vec(alloc)
-        }
+        Event::Put { op, place, .. } => near_put(alloc, view, *op, place),
+        Event::Take { op, place, .. } => near_take(alloc, view, *op, place),
         Event::SetOperand { op, .. } => lasts(alloc, view, *op),
         Event::SetEntry { op, .. } => lasts(alloc, view, *op),
         Event::Shift { op, old, new } => {

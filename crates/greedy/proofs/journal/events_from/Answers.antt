@@ -3,7 +3,7 @@ use Rattle.greedy.proofs.Journaled.{one_read, all_read, past_all}
 use Rattle.greedy.proofs.journal.events_from.Goals as goal
 
 pub journal-init : goal.journal-init
-journal-init g c = ap (λ l. l ++ drop c.args.from c.args.bench.now.desk.journal) c.new-events.ensures.items
+journal-init g c = ap (λ l. l ++ drop c.args.from c.args.bench.now.desk.journal) c.in_ok-events.ensures.items
 
 pub returns-in_default : goal.returns-in_default
 returns-in_default g c = all_read c.args.bench.now.desk.journal c.journal.events.items (drop c.args.from c.args.bench.now.desk.journal) c.journal.place (sym c.in_default.is ∙ c.journal_at.ensures) c.journal.invariant

@@ -26,7 +26,7 @@ returns-in-Ok-clause-work g c =
     let b : begins_with op (drop i xs) ≡ false = ap (λ ys. begins_with op (drop i ys)) (sym c.deref-2.ensures.value) ∙ sym c.if-is_at.ensures in
     let p : Parted op t (take i xs) (drop i xs) = subst (λ ys. Parted op t (take i ys) (drop i ys)) c.deref.ensures.value c.behind-place.ensures.parted in
     let w : IsWork passed (take i xs ++ drop i xs) t = subst (λ ys. IsWork passed ys t) (sym (take-append-drop i xs)) c.requires in
-    subst (λ ys. IsWork passed ys t) (sym c.in-Ok.ensures.items) (put_between t d passed op (take i xs) (drop i xs) w (sym c.if-not-in_tree.ensures) (sym c.if-precedes.ensures) p b)
+    subst (λ ys. IsWork passed ys t) (sym c.in-Ok.ensures.items) (put_between t d passed op (take i xs) (drop i xs) w (sym c.if-not-in_tree.ensures) (sym c.if-is_to_come.ensures) p b)
 
 pub returns-in-Ok-clause-others : goal.returns-in-Ok-clause-others
 returns-in-Ok-clause-others g c =

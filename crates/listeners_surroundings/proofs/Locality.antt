@@ -8,7 +8,7 @@ use Rattle.ir_tree.specs.Ids.{HasDistinctIds, first_of, find}
 use Rattle.ir_tree.specs.Places.{each_list, regions_each_list, place_of, without}
 use Rattle.ir_tree.specs.Uses.{uses_of}
 use Rattle.ir_tree.specs.Frames.{owner_of}
-use Rattle.ir_store.specs.Nodes.{node_of}
+use Rattle.ir_event.specs.store.Nodes.{node_of}
 use Rattle.ir_tree_laws.specs.Changes.{HoldNone}
 use Rattle.ir_tree_laws.specs.Values.{region_at}
 use Rattle.ir_tree_laws.specs.Reads.{last_id, last_at}
@@ -20,15 +20,9 @@ use Rattle.listeners_surroundings.specs.Surroundings.{last_name, last_names, end
 use Rattle.listeners_surroundings.proofs.Operands.{not_used}
 use Rattle.listeners_surroundings.proofs.Left.{AlikeStands, left_list, left_head, left_node, first_gone, far_alike}
 use Rattle.listeners_surroundings.proofs.Alike.{both, same_value_type, same_surroundings}
-use Rattle.ir_tree_laws.specs.Values.{type_of_value}
-use Rattle.ir_tree_laws.specs.Stands.{stand_of}
-use Rattle.ir_tree_laws.proofs.Readings.{stands_find}
-use Rattle.ir_tree_laws.proofs.Members.{member}
-use Rattle.ir_tree_laws.proofs.Without.{member_left}
-use Rattle.listeners_surroundings.proofs.Alike.{Both, neither, each}
-use Rattle.listeners_surroundings.proofs.Moves.{taken, moved, left_id}
+use Rattle.listeners_surroundings.proofs.Moves.{taken, untaken, nodes_taken, moved, Moved, left_some, found_moved, left_id}
 use Rattle.listeners_surroundings.proofs.Spots.{next_in, last_is, placed_there}
-use Rattle.greedy.proofs.Ending.{not_last, not_last_behind}
+use Rattle.listeners_surroundings.proofs.Lasts.{not_last, not_last_behind}
 
 module _ {N T A : Type 0} (x : ℕ) where
   abbrev d : ℕ → ℕ → OpsOf N T A → OpsOf N T A
@@ -124,14 +118,6 @@ module _ {N T A : Type 0} (x : ℕ) where
       go None e = far_alike x t dist place at s h (apart e) (f e)
       go (Some b) e = inner_alike t dist place b at e s h
 
-  -- ---- as in `surroundings`, where these aren't handed on
-  module _ (t w : OpOf N T A) (dt : HasDistinctIds t) (dw : HasDistinctIds w) (is : w ≡ without x t) (bare : (o : OpOf N T A) → find x t ≡ Some o → HoldNone (regions o)) where
-    untaken : (z : ℕ) (r : StandOf N T A) → In r (stands [] w) → stand_id r ≡ z → (s : StandOf N T A) × In s (stands [] t) × (stand_id s ≡ z)
-    untaken z r h i = let b = member_left x t r (subst (λ u. In r (stands [] u)) is h) in (b.0, b.1, sym (left_id x b.0) ∙ ap (λ (s : StandOf N T A). stand_id s) (sym b.3) ∙ i)
-
-    nodes_taken : (z : ℕ) → (z ≡ x → ⊥) → Both (λ s r. node_of s.here ≡ node_of r.here) z t w
-    nodes_taken z apart = both (λ s r. node_of s.here ≡ node_of r.here) z t w dt dw (λ s h i. (left_stand x s, taken x t w dt dw is bare s h (λ k. apart (sym i ∙ k)), left_id x s ∙ i, sym (left_node x s.here))) (untaken z)
-
   -- taking it out, or putting it in
   pub taken_leaves : (t w : OpOf N T A) (dt : HasDistinctIds t) (dw : HasDistinctIds w) (is : w ≡ without x t) (bare : (o : OpOf N T A) → find x t ≡ Some o → HoldNone (regions o)) (place : Place) → place_of x t ≡ Some place → ((v : Value) → (owner_of v).0 ≡ x → uses_of v t ≡ [])
       → (y : ℕ) → (y ≡ x → ⊥) → (place.before ≡ None → y ≡ place.parent → ⊥) → ((s : StandOf N T A) → In s (stands [] t) → stand_id s ≡ y → place.before ≡ None → Fronts s) → surroundings y w ≡ surroundings y t
@@ -139,42 +125,11 @@ module _ {N T A : Type 0} (x : ℕ) where
       sym (same_surroundings y t w
       (both AlikeStands y t w dt dw (λ s h i.
       let a = any_alike t dt place at s h (λ e k. outside e (sym i ∙ k)) (f s h i) in
-      (left_stand x s, taken x t w dt dw is bare s h (λ k. apart (sym i ∙ k)), left_id x s ∙ i, record { node = sym a.node; lasts = sym a.lasts; outer = sym a.outer })) (untaken t w dt dw is bare y))
-      (λ s h i v k. same_value_type v t w (nodes_taken t w dt dw is bare (owner_of v).0 (λ j. not_used v s t (unused v j) h k))))
+      (left_stand x s, taken x t w dt dw is bare s h (λ k. apart (sym i ∙ k)), left_id x s ∙ i, record { node = sym a.node; lasts = sym a.lasts; outer = sym a.outer })) (untaken x t w dt dw is bare y))
+      (λ s h i v k. same_value_type v t w (nodes_taken x t w dt dw is bare (owner_of v).0 (λ j. not_used v s t (unused v j) h k))))
 
-  -- ---- moving it, with what is inside it
-  abbrev Moved : StandOf N T A → StandOf N T A → Type 0
-  Moved s r = (left_stand x r ≡ left_stand x s) ⊎ ((r.here ≡ s.here) × (outer_of r.path ≡ outer_of s.path))
-
-  node_left : (s r : StandOf N T A) → Moved s r → node_of s.here ≡ node_of r.here
-  node_left s r (inl e) = sym (left_node x s.here) ∙ ap (λ (z : StandOf N T A). node_of z.here) (sym e) ∙ left_node x r.here
-  node_left s r (inr e) = ap (λ o. node_of o) (sym e.0)
-
-  left_some : (p : List (StepOf N T A)) (c : StepOf N T A) (k : List (StepOf N T A)) → map (left_step x) p ≡ c ∷ k → (a : StepOf N T A) × (q : List (StepOf N T A)) × (p ≡ a ∷ q) × (left_step x a ≡ c)
-  left_some [] c k e = absurd cc
-  left_some (a ∷ q) c k e = (a, q, refl, cc)
-
+  -- moving it, with what is inside it
   module _ (m n : OpOf N T A) (dm : HasDistinctIds m) (dn : HasDistinctIds n) (is : without x n ≡ without x m) (same : find x n ≡ find x m) (old new : Place) (was_at : place_of x m ≡ Some old) (is_at : place_of x n ≡ Some new) where
-    found_moved : (v : Value) → type_of_value v m ≡ type_of_value v n
-    found_moved v = elim (bool_cases (eqb (owner_of v).0 x)) [
-      | inr k ↦ same_value_type v m n (nodes (owner_of v).0 (λ i. true≢false (sym (eq-eqb (owner_of v).0 x i) ∙ k)))
-      | inl k ↦ same_value_type v m n (owned (eqb-true (owner_of v).0 x k))
-    ]
-      where
-        nodes : (z : ℕ) → (z ≡ x → ⊥) → Both (λ s r. node_of s.here ≡ node_of r.here) z m n
-        nodes z apart = both (λ s r. node_of s.here ≡ node_of r.here) z m n dm dn
-            (λ s h i. let r = moved x m n dm dn (sym is) (sym same) s h (λ k. apart (sym i ∙ k)) in (r.0, r.1, r.2 ∙ i, node_left s r.0 r.3))
-            (λ s h i. let r = moved x n m dn dm is same s h (λ k. apart (sym i ∙ k)) in (r.0, r.1, r.2 ∙ i))
-
-        one : (a b : Option (StandOf N T A)) → option_map (λ (z : StandOf N T A). z.here) a ≡ option_map (λ (z : StandOf N T A). z.here) b → stand_of x m ≡ a → stand_of x n ≡ b → Both (λ s r. node_of s.here ≡ node_of r.here) x m n
-        one None None k i j = neither i j
-        one None (Some r) k i j = absurd cc
-        one (Some s) None k i j = absurd cc
-        one (Some s) (Some r) k i j = let both_here : s.here ≡ r.here = cc in each s r (member x (stands [] m) s i).0 i j (ap (λ o. node_of o) both_here)
-
-        owned : (owner_of v).0 ≡ x → Both (λ s r. node_of s.here ≡ node_of r.here) (owner_of v).0 m n
-        owned k = subst (λ z. Both (λ s r. node_of s.here ≡ node_of r.here) z m n) (sym k) (one (stand_of x m) (stand_of x n) (stands_find x [] m ∙ sym same ∙ sym (stands_find x [] n)) refl refl)
-
     -- it leaves the surroundings of all but x and, where a place is the end of its block, of those around it and at it
     pub moved_leaves : (y : ℕ) → (y ≡ x → ⊥) → (old.before ≡ None → y ≡ old.parent → ⊥) → (new.before ≡ None → ⊥) → (old.before ≡ None → last_at old.parent old.region n ≡ Some y → ⊥) → surroundings y n ≡ surroundings y m
     moved_leaves y apart outside_old inner_new not_last =
@@ -182,7 +137,7 @@ module _ {N T A : Type 0} (x : ℕ) where
         (both AlikeStands y m n dm dn
         (λ s h i. let r = moved x m n dm dn (sym is) (sym same) s h (λ k. apart (sym i ∙ k)) in (r.0, r.1, r.2 ∙ i, alike s r.0 h r.1 i (r.2 ∙ i) r.3))
         (λ s h i. let r = moved x n m dn dm is same s h (λ k. apart (sym i ∙ k)) in (r.0, r.1, r.2 ∙ i)))
-        (λ s h i v k. found_moved v))
+        (λ s h i v k. found_moved x m n dm dn is same old new was_at is_at v))
       where
         there : (t : OpOf N T A) (s : StandOf N T A) (a : StepOf N T A) (q : List (StepOf N T A)) → In s (stands [] t) → s.path ≡ a ∷ q → In (stand s.here (a ∷ q)) (stands [] t)
         there t s a q h p = subst (λ l. In (stand s.here l) (stands [] t)) p h
@@ -208,11 +163,11 @@ module _ {N T A : Type 0} (x : ℕ) where
             let number : b.region ≡ old.region = ap (λ (w : StepOf N T A). w.region) f ∙ at.1 in
             not_last old_end ((λ w. last_at (sym id w) (sym number w) n) ∙ last_is n dn r.here b p (there n r b p k c) empty_behind ∙ ap Some i)
 
-        alike : (s r : StandOf N T A) → In s (stands [] m) → In r (stands [] n) → stand_id s ≡ y → stand_id r ≡ y → Moved s r → AlikeStands s r
+        alike : (s r : StandOf N T A) → In s (stands [] m) → In r (stands [] n) → stand_id s ≡ y → stand_id r ≡ y → Moved x s r → AlikeStands s r
         alike s r h k i j (inr q) = record { node = ap (λ o. node_of o) (sym q.0); lasts = ap (λ o. last_names (regions o)) (sym q.0); outer = sym q.1 }
         alike s r h k i j (inl q) =
             let a = any_alike m dm old was_at s h (λ e z. outside_old e (sym i ∙ z)) (λ e a p o rest f g l none.
-            let b = left_some r.path (left_step x a) (map (left_step x) p) (ap (λ (z : StandOf N T A). z.path) q ∙ ap (map (left_step x)) f) in
+            let b = left_some x r.path (left_step x a) (map (left_step x) p) (ap (λ (z : StandOf N T A). z.path) q ∙ ap (map (left_step x)) f) in
             ends s r h k j q e a p o rest f g l none b.0 b.1 b.2 b.3) in
             let w = before_some new.before refl in
             let b = inner_alike n dn new w.0 is_at w.1 r k in

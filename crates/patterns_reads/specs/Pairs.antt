@@ -1,0 +1,49 @@
+-- Arithmetic of two operands that is clean by its own form and its operands' types, wherever it stands.
+use Rattle.std.specs.Prelude.{◌≡◌, ◌⊎◌, ℕ, List, [], ◌∷◌, Bool, true, codes, Some}
+use Rattle.ir_types.specs.Terms.{TypeTerm, AttrTerm, Overflow}
+use Rattle.ir_tree.specs.declared.value.Value.{Value}
+use Rattle.ir_tree.specs.Meaning.{Operation}
+use Rattle.ir_tree_laws.specs.Values.{type_of_value}
+use Rattle.ir_verify_base.specs.Types.{is_number}
+use Rattle.ir_verify_base.specs.Fits.{Node}
+use Rattle.patterns_laws.specs.Words.{among}
+
+-- the operations on two numbers of one type that give one of it, by how often they are met
+unfoldable pub pairs : List (List ℕ)
+pairs =
+    codes "arith.addi"
+    ∷ codes "arith.muli"
+    ∷ codes "arith.subi"
+    ∷ codes "arith.andi"
+    ∷ codes "arith.ori"
+    ∷ codes "arith.xori"
+    ∷ codes "arith.shli"
+    ∷ codes "arith.shrsi"
+    ∷ codes "arith.shrui"
+    ∷ codes "arith.divsi"
+    ∷ codes "arith.divui"
+    ∷ codes "arith.remsi"
+    ∷ codes "arith.remui"
+    ∷ codes "arith.maxsi"
+    ∷ codes "arith.maxui"
+    ∷ codes "arith.minsi"
+    ∷ codes "arith.minui"
+    ∷ []
+
+-- no properties, or overflow flags alone
+abbrev pub AreFlags : List (List ℕ × AttrTerm) → Type 0
+AreFlags es = (es ≡ []) ⊎ ((nsw nuw : Bool) × (es ≡ (codes "overflowFlags", Overflow nsw nuw) ∷ []))
+
+-- what an operation of a tree has is such arithmetic, without regions, on two operands of its result's type
+pub record IsPair (t : Operation) (n : Node) : Type 0 where
+  pub first : Value
+  pub second : Value
+  pub ty : TypeTerm
+  pub name : among pairs n.head.name ≡ true
+  pub operands : n.head.operands ≡ first ∷ second ∷ []
+  pub results : n.head.results ≡ ty ∷ []
+  pub flags : AreFlags n.head.properties
+  pub arguments : n.arguments ≡ []
+  pub number : is_number ty ≡ true
+  pub of_first : type_of_value first t ≡ Some ty
+  pub of_second : type_of_value second t ≡ Some ty

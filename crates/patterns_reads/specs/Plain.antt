@@ -1,0 +1,23 @@
+-- Constants that are clean by their own form, wherever they stand.
+use Rattle.std.specs.Prelude.{◌≡◌, ℕ, List, [], ◌∷◌, true, codes}
+use Rattle.ir_types.specs.Terms.{TypeTerm, AttrTerm, IntegerOf}
+use Rattle.ir_verify_base.specs.Types.{is_number}
+use Rattle.ir_verify_base.specs.Fits.{Node}
+
+-- a constant of some bits, without operands and regions, whose value is its one property
+abbrev pub plain : ℕ → TypeTerm → ℕ → List (List ℕ × AttrTerm) → Node
+plain x ty bits attributes = record {
+  head = record {
+    id = x;
+    name = codes "arith.constant";
+    operands = [];
+    results = ty ∷ [];
+    properties = (codes "value", IntegerOf ty bits) ∷ [];
+    attributes = attributes;
+  };
+  arguments = [];
+}
+
+-- what an operation has is such a constant, of an integer type or index
+abbrev pub IsPlain : Node → Type 0
+IsPlain n = (ty : TypeTerm) × (bits : ℕ) × (is_number ty ≡ true) × (n ≡ plain n.head.id ty bits n.head.attributes)

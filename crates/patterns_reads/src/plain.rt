@@ -1,0 +1,133 @@
+//! Operations that break no rule of the verifier by their own form and the types of their operands, wherever they stand:
+//! constants, and arithmetic of two operands.
+ghost use Rattle.std.specs.Prelude.{◌≡◌, true};
+ghost use Rattle.std.specs.List.{All};
+ghost use Rattle.ir_types.specs.Things.{IsAttr};
+ghost use Rattle.ir_types.specs.Terms.{name_term};
+ghost use Rattle.dialects_int.specs.Folds.{entries_of};
+ghost use Rattle.patterns_laws.specs.Words.{among};
+ghost use Rattle.ir_verify_base.specs.Numbers.{node_in};
+ghost use Rattle.patterns_edits.specs.events.Modules.{NodeIsOf, module_in};
+ghost use Rattle.patterns_base.specs.Looks.{breaks_none};
+ghost use Rattle.patterns_base.specs.Diagnostics.{broken_at};
+ghost use Rattle.patterns_reads.specs.Plain.{IsPlain};
+ghost use Rattle.patterns_reads.specs.Pairs.{AreFlags, IsPair, pairs};
+
+use crate::types::is_of_type;
+use crate::words::word_name;
+use ir_store::node::Node;
+use ir_types::context::Context;
+use ir_types::ids::{AttrId, NameId, OpId};
+use ir_types::word::Word;
+use ir_verify_base::types::is_number;
+use op_registry::property::{allows, integer_of};
+use patterns_edits::events::world::World;
+
+/// Whether an operation of the module is a constant of its result's type, or arithmetic of two operands of that type. Most
+/// operations that rules look at are, and break no rule then, so that none has to be asked.
+pub(crate) fn is_plain(world: &World, op: OpId) -> bool
+    ensures { result ≡ true → breaks_none (broken_at op (module_in world.now).tree) ≡ true }
+{
+    let Some(node) = world.shown(op) else {
+        return false;
+    };
+    has_plain_form(&world.ctx, &node) || has_pair_form(world, &node)
+}
+
+/// Whether what an operation has is that of a constant without operands and regions, of one result, whose value is its
+/// one property and of that result's type.
+fn has_plain_form(ctx: &Context, node: &Node<'_>) -> bool
+    requires { NodeIsOf ctx.now node.now }
+    ensures { result ≡ true → IsPlain (node_in ctx.now node.now) }
+{
+    if !ctx.is_word(node.name(), Word::ArithConstant) {
+        return false;
+    }
+    if node.region_count() != 0 {
+        return false;
+    }
+    let [] = node.operands() else {
+        return false;
+    };
+    let [ty] = node.results() else {
+        return false;
+    };
+    let [entry] = node.properties() else {
+        return false;
+    };
+    if !ctx.is_word(entry.0, Word::Value) {
+        return false;
+    }
+    let Some(integer) = integer_of(ctx, entry.1) else {
+        return false;
+    };
+    integer.0 == *ty && is_number(ctx, *ty)
+}
+
+/// Whether an operation is named as arithmetic of two operands of its result's type.
+#[tactic(auto, unfolding(crate::specs::Pairs::pairs))]
+fn is_pair(ctx: &Context, name: NameId) -> bool
+    ensures { result ≡ among pairs (name_term ctx.now name) }
+{
+    ctx.is_word(name, Word::ArithAddi)
+        || ctx.is_word(name, Word::ArithMuli)
+        || ctx.is_word(name, Word::ArithSubi)
+        || ctx.is_word(name, Word::ArithAndi)
+        || ctx.is_word(name, Word::ArithOri)
+        || ctx.is_word(name, Word::ArithXori)
+        || ctx.is_word(name, Word::ArithShli)
+        || ctx.is_word(name, Word::ArithShrsi)
+        || ctx.is_word(name, Word::ArithShrui)
+        || ctx.is_word(name, Word::ArithDivsi)
+        || ctx.is_word(name, Word::ArithDivui)
+        || ctx.is_word(name, Word::ArithRemsi)
+        || ctx.is_word(name, Word::ArithRemui)
+        || ctx.is_word(name, Word::ArithMaxsi)
+        || ctx.is_word(name, Word::ArithMaxui)
+        || ctx.is_word(name, Word::ArithMinsi)
+        || ctx.is_word(name, Word::ArithMinui)
+}
+
+/// Whether there are no properties, or overflow flags alone.
+fn are_flags(ctx: &Context, entries: &[(NameId, AttrId)]) -> bool
+    requires { All (λ e. IsAttr ctx.now e.1) entries.now }
+    ensures { result ≡ true → AreFlags (entries_of ctx.now entries.now) }
+{
+    match entries {
+        [] => true,
+        [entry] => {
+            ctx.is_word(entry.0, Word::OverflowFlags)
+                && allows(ctx, word_name(ctx, Word::OverflowFlags), entry.1)
+        }
+        _ => false,
+    }
+}
+
+/// Whether what an operation has is arithmetic without regions, on two operands of its result's type.
+fn has_pair_form(world: &World, node: &Node<'_>) -> bool
+    requires { NodeIsOf world.now.ctx node.now }
+    ensures { result ≡ true → IsPair (module_in world.now).tree (node_in world.now.ctx node.now) }
+{
+    if !is_pair(&world.ctx, node.name()) {
+        return false;
+    }
+    if node.region_count() != 0 {
+        return false;
+    }
+    let [first, second] = node.operands() else {
+        return false;
+    };
+    let [ty] = node.results() else {
+        return false;
+    };
+    if !are_flags(&world.ctx, node.properties()) {
+        return false;
+    }
+    if !is_number(&world.ctx, *ty) {
+        return false;
+    }
+    if !is_of_type(world, *ty, *first) {
+        return false;
+    }
+    is_of_type(world, *ty, *second)
+}
