@@ -156,11 +156,6 @@ module _ (options : Options) (before : ℕ) (begun : State) where
         front_join a b c out told_out grows wrote,
       )
 
--- a line takes one number at most
-pub one_number : (n : ℕ) (told : Option Bool) → number_behind n told ≤ n + 1
-one_number n None = omega arith
-one_number n (Some accepted) = omega arith
-
 -- ---- modules, and lines behind them
 
 module _ (options : Options) (boxes : List Shown) (m : Module) (before : ℕ) where

@@ -63,6 +63,11 @@ pub worse_behind : (accepted : Bool) (told : Option Bool) (later : ℕ) → wors
 worse_behind accepted None later = refl
 worse_behind accepted (Some more) later = worse_both accepted more later
 
+-- a line takes one number at most
+pub one_number : (n : ℕ) (told : Option Bool) → number_behind n told ≤ n + 1
+one_number n None = omega arith
+one_number n (Some accepted) = omega arith
+
 -- an answer, and then what may follow it, is what may be from here
 pub line_answered : (Rest : ℕ → State → ℕ → List ℕ → Type 0) (manner : Manner) (n : ℕ) (s : State) (spoken : Spoken) (t : State) (told : Option Bool) (out : List ℕ) → IsAnswered manner n s spoken t told out →
     (later : ℕ) (rest : List ℕ) → Rest (number_behind n told) t later rest → Line Rest manner n s spoken (status_before told later) (out ++ rest)
