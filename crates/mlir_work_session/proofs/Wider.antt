@@ -1,15 +1,15 @@
 -- What is an answer in an input is one in a longer input.
-use Rattle.std.proofs.Common.{◌≡◌, ◌+◌, ◌≤◌, ◌⊎◌, inl, inr, ℕ, List, length, arith, Option, Some, None}
+use Rattle.std.proofs.Common.{◌+◌, ◌≤◌, inl, inr, ℕ, List, arith, Option}
 use Rattle.ir_types.specs.declared.refusal.Refusal.{Refusal}
 use Rattle.ir_event.specs.Modules.{Module}
 use Rattle.ir_text.specs.Public.{SpellsAttr}
 use Rattle.rewriter.specs.Commands as command
-use Rattle.rewriter.specs.Commands.{Asked, Ask, CanFill, Command, IsAttrRefusal, IsOpRefusal, Misplaced, Response, TextRefused, TextRefusedAt, Unread}
+use Rattle.rewriter.specs.Commands.{Asked, Ask, CanFill, Command, IsAttrRefusal, IsOpRefusal, Misplaced, Response, TextRefused, Unread}
 use Rattle.rewriter.specs.Machine.{State}
 use Rattle.rewriter.specs.Texts.{SpellsBeside}
 use Rattle.mlir_work_script.specs.Commands.{Spoken, Nothing, Bad, Obey}
-use Rattle.mlir_work_session.specs.Machine.{AsksIn, Obeys}
-use Rattle.mlir_work_session.specs.Output.{IsBounded, Line, Manner, Replied, Replies}
+use Rattle.mlir_work_session.specs.Machine.{AsksIn}
+use Rattle.mlir_work_session.specs.Output.{Line, Manner, Replied, Replies}
 
 module _ (manner : Manner) (bytes : ℕ) (longer : manner.bytes ≤ bytes) where
   abbrev pub wider : Manner

@@ -1,4 +1,4 @@
-use Rattle.std.proofs.Common.{◌++◌, ◌+◌, [], refl, append-nil, append_assoc, arith}
+use Rattle.std.proofs.Common.{◌++◌, [], refl, append-nil, append_assoc, arith}
 use Rattle.mlir_work_script.specs.Lines.{lines_of}
 use Rattle.mlir_work_session.specs.Output.{Manner, number_behind, worse}
 use Rattle.rewriter.specs.Benched.{state_of}
