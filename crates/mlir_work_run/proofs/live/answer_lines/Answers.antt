@@ -1,4 +1,4 @@
-use Rattle.std.proofs.Common.{◌≡◌, ◌∙◌, ◌≤◌, ◌+◌, arith, length, refl}
+use Rattle.std.proofs.Common.{◌≡◌, ◌∙◌, ◌+◌, arith, length, refl}
 use Rattle.mlir_work_lines.specs.Feeding.{waiting}
 use Rattle.mlir_work_lines.specs.declared.feed.Stop.TheVariants.{TooMany}
 use Rattle.mlir_work_session.specs.Benched.{state_of}
