@@ -1,15 +1,13 @@
 -- Inputs up to a line.
-use Rattle.std.proofs.Common.{◌≡◌, ◌∙◌, sym, ap, subst, refl, ℕ, ◌+◌, ◌<◌, ◌≤◌, List, [], ◌∷◌, ◌++◌, length, length-append, append_assoc, append-nil, arith, Bool, true, false, ◌&&◌, ◌⊎◌, inl, inr, Option, Some, None}
-use Rattle.std.specs.Prelude.{IfSome, codes, if◌then◌else◌}
+use Rattle.std.proofs.Common.{◌≡◌, ◌∙◌, sym, ap, subst, refl, ℕ, ◌≤◌, List, [], ◌∷◌, ◌++◌, length, length-append, append_assoc, append-nil, arith, Bool, true, false, ◌&&◌, ◌⊎◌, inl, inr, Option, Some, None}
+use Rattle.std.specs.Prelude.{IfSome, codes}
 use Rattle.std.specs.Str.{bytes_eq}
 use Rattle.mlir_work_session.specs.Lines.{is_newline, line_of, after_line}
-use Rattle.mlir_work_session.specs.Limits.{most_input_bytes, most_script_bytes}
 use Rattle.mlir_work_session.specs.Panels.{Shown}
 use Rattle.mlir_work_session.specs.Parts.{IsSplit, at_divider, module_from, module_text, script_from, script_text}
 use Rattle.mlir_work_session.specs.Writes.{Stream, joined}
 use Rattle.mlir_work_session.proofs.Dividing.{divided}
-use Rattle.mlir_work_run.specs.Live.{AreFirst, IsLive, IsLiveOf, IsWholeUpTo, LiveEndedAt, up_to, whole_lines}
-use Rattle.mlir_work_run.specs.Whole.{IsOutput}
+use Rattle.mlir_work_run.specs.Live.{AreFirst, IsLiveOf, IsWholeUpTo, LiveEndedAt, up_to, whole_lines}
 use Rattle.mlir_work_run.specs.declared.run.Options.{Options}
 use Rattle.mlir_work_run.proofs.Lives.{FirstOf, IsWhole, first_of}
 use Rattle.mlir_work_run.proofs.Within.{joined_same, live_whole}

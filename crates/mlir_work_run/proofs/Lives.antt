@@ -1,7 +1,7 @@
 -- Live runs, line by line.
-use Rattle.std.proofs.Common.{◌≡◌, ◌∙◌, sym, ap, subst, refl, ℕ, ◌+◌, ◌<◌, ◌≤◌, List, [], ◌∷◌, ◌++◌, length, length-append, append-nil, append_assoc, arith, Bool, true, false, ◌⊎◌, inl, inr, Option, Some, None, Result, Ok, Err, IfOk}
-use Rattle.std.specs.Prelude.{IfErr, IfSome, ⊤}
-use Rattle.std.specs.Io.KnownBytes.{IsAtEnd, Keeps}
+use Rattle.std.proofs.Common.{◌≡◌, ◌∙◌, sym, ap, refl, ℕ, ◌+◌, ◌<◌, ◌≤◌, List, [], ◌∷◌, ◌++◌, length, length-append, append-nil, append_assoc, arith, Bool, true, false, ◌⊎◌, inl, inr, Option, Some, None, Result, Ok, Err}
+use Rattle.std.specs.Prelude.{IfSome, ⊤}
+use Rattle.std.specs.Io.KnownBytes.{IsAtEnd}
 use Rattle.ir_types.specs.declared.refusal.Refusal.TheVariants.{Memory}
 use Rattle.std.proofs.lemmas.List.{append_cancel_right}
 use Rattle.ir_event.specs.Modules.{Module}
@@ -13,17 +13,17 @@ use Rattle.mlir_work_session.specs.Commands.{line_says}
 use Rattle.mlir_work_session.specs.Lines.{is_newline, line_of, after_line, onto_first}
 use Rattle.mlir_work_session.specs.Limits.{most_script_bytes}
 use Rattle.mlir_work_session.specs.Machine.{State}
-use Rattle.mlir_work_session.specs.Output.{Begun, IsAnswered, Line, accepted_behind, number_behind, worse}
+use Rattle.mlir_work_session.specs.Output.{Begun, IsAnswered, accepted_behind, number_behind, worse}
 use Rattle.mlir_work_session.specs.Panels.{Shown}
 use Rattle.mlir_work_session.specs.Parts.{module_text, script_text}
 use Rattle.mlir_work_session.specs.Reads.{Intake}
 use Rattle.mlir_work_session.specs.Replies.{module_refused_line}
 use Rattle.mlir_work_session.specs.WriteFault.{WriteFault}
-use Rattle.mlir_work_session.specs.Writes.{Fails, Grows, GrowsFront, HandsOn, Stays, Stream}
+use Rattle.mlir_work_session.specs.Writes.{Fails, Grows, GrowsFront, Stays, Stream}
 use Rattle.mlir_work_session.proofs.Joins.{front_join, front_more, grows_fails, grows_join, grows_none, grows_stays}
 use Rattle.mlir_work_session.proofs.Runs.{line_answered, status_before, worse_behind}
 use Rattle.mlir_work_run.specs.Ends.{HandedOut, IsFinal}
-use Rattle.mlir_work_run.specs.Live.{AreFirst, IsCutOff, IsLive, IsLiveOf, IsUpTo, Live, LiveEnded, LiveEndedAt, LiveRead, Lives, divider_bytes, exit_of, halt_of, halted_of, whole_lines}
+use Rattle.mlir_work_run.specs.Live.{IsLive, IsLiveOf, IsUpTo, Live, LiveEnded, LiveEndedAt, LiveRead, Lives, divider_bytes, exit_of, halt_of, halted_of, whole_lines}
 use Rattle.mlir_work_run.specs.Whole.{manner_of}
 use Rattle.mlir_work_run.proofs.Statuses.{IsLow, final_low, low_line, low_worse}
 use Rattle.mlir_work_run.specs.declared.live.Halt.{Halt}
@@ -155,11 +155,6 @@ module _ (options : Options) (before : ℕ) (begun : State) where
         goes_so_far (lines ++ line ∷ []) (read + length line) (number_behind n told) t (accepted_behind accepted told) (out ++ told_out) step,
         front_join a b c out told_out grows wrote,
       )
-
--- a line takes one number at most
-pub one_number : (n : ℕ) (told : Option Bool) → number_behind n told ≤ n + 1
-one_number n None = omega arith
-one_number n (Some accepted) = omega arith
 
 -- ---- modules, and lines behind them
 

@@ -6,7 +6,7 @@ use Rattle.ir_types.specs.declared.refusal.Refusal.TheVariants.{KindTaken, Memor
 use Rattle.ir_event.specs.Modules.{Module}
 use Rattle.ir_event.specs.Listener.{Listener}
 use Rattle.ir_event.specs.Panels.{AttachedLast, HandedBack}
-use Rattle.rewriter.specs.Panels.{Shown, shown, all_shown, has_kind, is_kind}
+use Rattle.rewriter.specs.Panels.{Shown, shown, all_shown, has_kind}
 use Rattle.mlir_work_session.specs.Output.{BoxTried, Attaches, box_line}
 use Rattle.mlir_work_session.proofs.Panels.{kind_shown}
 

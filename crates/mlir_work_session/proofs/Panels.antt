@@ -1,16 +1,14 @@
 -- Listeners, and what is shown of them.
-use Rattle.std.proofs.Common.{◌≡◌, ◌∙◌, ap, sym, ℕ, zero, suc, List, [], ◌∷◌, ◌++◌, take, drop, Bool, true, false, cond, Option, Some, None, refl, arith, subst, length, slice_get}
+use Rattle.std.proofs.Common.{◌≡◌, ◌∙◌, ap, sym, ℕ, zero, suc, List, [], ◌∷◌, ◌++◌, take, drop, Bool, true, false, cond, Option, Some, None, refl, arith, subst, slice_get}
 use Rattle.std.specs.Prelude.{remove, slice_set, position, is_some}
 use Rattle.std.specs.Option.{option_map}
 use Rattle.std.specs.List.{AllZip, find, All, position_or_len}
 use Rattle.std.proofs.lemmas.List.{length-map, map-append, take-map, drop-map}
 use Rattle.ir_types.specs.Things.{Things}
-use Rattle.ir_types.specs.declared.refusal.Refusal.{Refusal}
-use Rattle.ir_types.specs.declared.refusal.Refusal.TheVariants.{NoSuchKind, Memory}
 use Rattle.ir_event.specs.declared.event.Event.{Event}
 use Rattle.ir_event.specs.Modules.{Module, Node}
 use Rattle.ir_event.specs.Listener.{Listener}
-use Rattle.ir_event.specs.Panels.{AllTold, is_kind as has_this_kind, has_kind as panel_has, Detached, BegunAgain, NotBegunAgain}
+use Rattle.ir_event.specs.Panels.{AllTold, is_kind as has_this_kind, has_kind as panel_has, Detached, BegunAgain}
 use Rattle.rewriter.specs.Panels.{Shown, IsSame, Ages, shown, all_shown, is_kind, has_kind, Detached as DetachedShown, BegunAgain as BegunShown}
 
 same_self : (a : Shown) → IsSame a a

@@ -1,5 +1,5 @@
 -- The place that a command names is the same in a tree of numbers and in what it stands for.
-use Rattle.std.proofs.Common.{◌≡◌, ◌∙◌, ap, sym, refl, ℕ, zero, suc, eqb, Bool, true, false, Option, Some, None, cond}
+use Rattle.std.proofs.Common.{◌≡◌, ◌∙◌, ap, sym, refl, ℕ, zero, suc, eqb, true, false, Option, Some, None, cond}
 use Rattle.std.specs.Prelude.{is_some, option_map, option_and_then, Result, slice_get}
 use Rattle.std.specs.Option.{option_eq}
 use Rattle.ir_types.specs.Things.{Things}
@@ -12,7 +12,7 @@ use Rattle.ir_tree.specs.Maps.{map_tree, map_region, map_regions, map_ops}
 use Rattle.ir_tree.specs.Meaning.{meaning}
 use Rattle.ir_tree.specs.Places.{place_of, first_id}
 use Rattle.ir_tree.proofs.Mapped.{map_find, map_place}
-use Rattle.ir_tree_laws.specs.Values.{region_at, arguments_of}
+use Rattle.ir_tree_laws.specs.Values.{region_at}
 use Rattle.ir_tree_laws.specs.Reads.{next_of, first_at, ops_in, ops_at}
 use Rattle.ir_tree_laws.proofs.Around.{absent_find}
 use Rattle.ir_tree_laws.proofs.Contents.{map_has_id, same_id}

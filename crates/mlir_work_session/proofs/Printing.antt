@@ -1,5 +1,5 @@
 -- Scripts that only print.
-use Rattle.std.proofs.Common.{◌≡◌, ◌∙◌, ap, sym, subst, refl, ℕ, ◌+◌, ◌==◌, ◌≤◌, List, [], ◌∷◌, ◌++◌, length, arith, Bool, true, false, true≢false, not, ◌&&◌, ◌||◌, cond, eqb, nat_lt, inl, inr, append-nil, append_assoc, map, Option, Some, None, is_some, Result, Ok, Err}
+use Rattle.std.proofs.Common.{◌≡◌, ◌∙◌, ap, sym, subst, refl, ℕ, ◌+◌, ◌==◌, ◌≤◌, List, [], ◌∷◌, ◌++◌, length, arith, Bool, true, false, true≢false, not, ◌&&◌, ◌||◌, cond, nat_lt, inl, inr, append-nil, append_assoc, map, Some, None, is_some, Result}
 use Rattle.std.specs.List.{list_any, list_all}
 use Rattle.std.proofs.lemmas.Bool.{eq-eqb, eqb-true, lt-ltb, ltb-false, ltb-true}
 use Rattle.std.proofs.lemmas.List.Recursion.{is_position_or_len}
@@ -22,7 +22,6 @@ use Rattle.mlir_work_session.specs.Output.{Attaches, IsBounded, IsEnded, IsRepli
 use Rattle.mlir_work_session.specs.PrintsAlone.{IsPrinted, all_print, is_print, kinds_apart, prints_alone}
 use Rattle.mlir_work_session.specs.Ran.{RanOut}
 use Rattle.mlir_work_session.specs.declared.reply.Reply.{Reply}
-use Rattle.mlir_work_session.specs.declared.reply.Reply.TheVariants as code
 use Rattle.mlir_work_session.proofs.Panels.{kind_shown}
 use Rattle.mlir_work_session.proofs.Runs.{run_step}
 use Rattle.mlir_work_session.proofs.Sessions.{ran_weaker}

@@ -1,6 +1,6 @@
 -- Texts and keys that are read, beside the module of a bench whose context grows.
 use Rattle.std.proofs.Common.{◌≡◌, ◌∙◌, sym, ap, subst, refl, inl, inr, ◌⊎◌, ℕ, zero, suc, ◌≤◌, ◌<◌, List, [], ◌∷◌, ◌++◌, length, Option, Some, None, true, arith, slice_get}
-use Rattle.std.specs.Prelude.{Result, Ok, Err, IsTrue, nat_le}
+use Rattle.std.specs.Prelude.{Result, IsTrue, nat_le}
 use Rattle.ir_types.specs.Interning.{with_name}
 use Rattle.ir_types.specs.Refusals.{number_of}
 use Rattle.ir_types.specs.Sound.{Holds, IsSound}

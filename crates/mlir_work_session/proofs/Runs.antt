@@ -1,7 +1,6 @@
 -- Runs of scripts, step by step.
-use Rattle.std.proofs.Common.{◌≡◌, ℕ, ◌+◌, ◌&&◌, List, [], ◌∷◌, ◌++◌, Bool, true, false, not, refl, sym, subst, ◌∙◌, inr, length, ◌≤◌, ◌<◌, ◌==◌, arith, Option, Some, None, Result, Ok, Err}
+use Rattle.std.proofs.Common.{◌≡◌, ℕ, ◌+◌, ◌&&◌, List, [], ◌∷◌, ◌++◌, Bool, true, false, not, refl, sym, subst, ◌∙◌, length, ◌≤◌, ◌<◌, ◌==◌, arith, Option, Some, None, Result, Ok, Err}
 use Rattle.std.proofs.lemmas.Bool.Decides.{nat_tests}
-use Rattle.ir_types.specs.declared.refusal.Refusal.{Refusal}
 use Rattle.ir_types.specs.declared.refusal.Refusal.TheVariants.{BadCommand}
 use Rattle.rewriter.specs.Commands.{Response, Replied as Says}
 use Rattle.rewriter.specs.Machine.{Refused}
@@ -62,6 +61,11 @@ status_before (Some accepted) later = worse accepted later
 pub worse_behind : (accepted : Bool) (told : Option Bool) (later : ℕ) → worse accepted (status_before told later) ≡ worse (accepted_behind accepted told) later
 worse_behind accepted None later = refl
 worse_behind accepted (Some more) later = worse_both accepted more later
+
+-- a line takes one number at most
+pub one_number : (n : ℕ) (told : Option Bool) → number_behind n told ≤ n + 1
+one_number n None = omega arith
+one_number n (Some accepted) = omega arith
 
 -- an answer, and then what may follow it, is what may be from here
 pub line_answered : (Rest : ℕ → State → ℕ → List ℕ → Type 0) (manner : Manner) (n : ℕ) (s : State) (spoken : Spoken) (t : State) (told : Option Bool) (out : List ℕ) → IsAnswered manner n s spoken t told out →

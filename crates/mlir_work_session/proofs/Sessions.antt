@@ -1,5 +1,5 @@
 -- Sessions: boxes are attached, and then a script is run.
-use Rattle.std.proofs.Common.{◌≡◌, ◌≤◌, ◌<◌, ◌++◌, ◌↔◌, IsTrue, refl, ap, subst, ℕ, List, [], Bool, false, arith, Result, Ok, Err}
+use Rattle.std.proofs.Common.{◌≡◌, ◌≤◌, ◌<◌, ◌++◌, ◌↔◌, IsTrue, refl, ap, subst, ℕ, List, Bool, false, arith, Result, Ok, Err}
 use Rattle.ir_event.specs.Modules.{Module}
 use Rattle.mlir_work_script.specs.Lines.{lines_of}
 use Rattle.mlir_work_script.specs.Writes.{Grows, GrowsFront, Stream}

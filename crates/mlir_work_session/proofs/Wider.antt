@@ -1,13 +1,15 @@
 -- What is an answer in an input is one in a longer input.
-use Rattle.std.proofs.Common.{◌≡◌, ◌+◌, ◌≤◌, ◌⊎◌, inl, inr, ℕ, List, length, arith, Option, Some, None}
+use Rattle.std.proofs.Common.{◌+◌, ◌≤◌, inl, inr, ℕ, List, arith, Option}
 use Rattle.ir_types.specs.declared.refusal.Refusal.{Refusal}
 use Rattle.ir_event.specs.Modules.{Module}
+use Rattle.ir_text.specs.Public.{SpellsAttr}
 use Rattle.rewriter.specs.Commands as command
-use Rattle.rewriter.specs.Commands.{Asked, Ask, CanFill, Command, Misplaced, Response, TextRefused, TextRefusedAt, Unread}
+use Rattle.rewriter.specs.Commands.{Asked, Ask, CanFill, Command, IsAttrRefusal, IsOpRefusal, Misplaced, Response, TextRefused, Unread}
 use Rattle.rewriter.specs.Machine.{State}
+use Rattle.rewriter.specs.Texts.{SpellsBeside}
 use Rattle.mlir_work_script.specs.Commands.{Spoken, Nothing, Bad, Obey}
-use Rattle.mlir_work_session.specs.Machine.{AsksIn, Obeys}
-use Rattle.mlir_work_session.specs.Output.{IsBounded, Line, Manner, Replied, Replies}
+use Rattle.mlir_work_session.specs.Machine.{AsksIn}
+use Rattle.mlir_work_session.specs.Output.{Line, Manner, Replied, Replies}
 
 module _ (manner : Manner) (bytes : ℕ) (longer : manner.bytes ≤ bytes) where
   abbrev pub wider : Manner
@@ -26,12 +28,12 @@ module _ (manner : Manner) (bytes : ℕ) (longer : manner.bytes ≤ bytes) where
   asks_wider (command.Move x spot) m asked h = h
   asks_wider (command.Insert spot text) m (Ask call) h = h
   asks_wider (command.Insert spot text) m (Misplaced refusal) h = h
-  asks_wider (command.Insert spot text) m (Unread refusal offset) h = text_wider _ _ refusal offset h
+  asks_wider (command.Insert spot text) m (Unread refusal offset) h = text_wider IsOpRefusal (SpellsBeside m text) refusal offset h
   asks_wider (command.SetOperand x k v) m asked h = h
   asks_wider (command.Replace old new) m asked h = h
   asks_wider (command.SetAttr x key text) m (Ask call) h = h
   asks_wider (command.SetAttr x key text) m (Misplaced refusal) h = h
-  asks_wider (command.SetAttr x key text) m (Unread refusal offset) h = text_wider _ _ refusal offset h
+  asks_wider (command.SetAttr x key text) m (Unread refusal offset) h = text_wider IsAttrRefusal (SpellsAttr text) refusal offset h
   asks_wider (command.DropAttr x key) m asked h = h
   asks_wider (command.Canon limit) m asked h = h
   asks_wider (command.Convert target) m asked h = h

@@ -1,5 +1,5 @@
 -- Texts that commands hand in, and contexts that grow with what they name.
-use Rattle.std.specs.Prelude.{◌≡◌, ℕ, List, Option}
+use Rattle.std.specs.Prelude.{◌≡◌, ℕ, Option}
 use Rattle.ir_types.specs.Sound.{Holds}
 use Rattle.ir_types.specs.Things.{Grows}
 use Rattle.ir_types.specs.declared.refusal.Refusal.{Refusal}

@@ -1,10 +1,11 @@
-use Rattle.std.proofs.Common.{◌≡◌, ◌∙◌, ◌≤◌, ◌+◌, arith, length, refl}
+use Rattle.std.proofs.Common.{◌≡◌, ◌∙◌, ◌+◌, arith, length, refl}
 use Rattle.mlir_work_lines.specs.Feeding.{waiting}
 use Rattle.mlir_work_lines.specs.declared.feed.Stop.TheVariants.{TooMany}
 use Rattle.mlir_work_session.specs.Benched.{state_of}
 use Rattle.mlir_work_session.specs.Limits.{most_script_bytes}
+use Rattle.mlir_work_session.proofs.Runs.{one_number}
 use Rattle.mlir_work_run.specs.declared.live.Halt.TheVariants.{TooLong}
-use Rattle.mlir_work_run.proofs.Lives.{lived_cut, lived_end, lived_halts, lived_none, lived_step, one_number}
+use Rattle.mlir_work_run.proofs.Lives.{lived_cut, lived_end, lived_halts, lived_none, lived_step}
 use Rattle.mlir_work_run.proofs.live.answer_lines.Goals as goal
 
 pub lines-init : goal.lines-init

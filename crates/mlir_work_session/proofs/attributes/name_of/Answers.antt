@@ -1,4 +1,3 @@
-use Rattle.std.proofs.Common.{◌∙◌, ap}
 use Rattle.mlir_work_session.proofs.Reading.{grown_not, sound_holds}
 use Rattle.mlir_work_session.proofs.attributes.name_of.Goals as goal
 

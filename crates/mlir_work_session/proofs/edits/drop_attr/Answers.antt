@@ -1,4 +1,4 @@
-use Rattle.std.proofs.Common.{refl, ap}
+use Rattle.std.proofs.Common.{ap}
 use Rattle.ir_types.specs.Terms.{name_term}
 use Rattle.rewriter.specs.Commands as command
 use Rattle.rewriter.specs.Commands.{Ask}

@@ -1,4 +1,4 @@
-use Rattle.std.proofs.Common.{◌++◌, refl}
+use Rattle.std.proofs.Common.{◌++◌, [], refl}
 use Rattle.rewriter.specs.Held.{module_held}
 use Rattle.rewriter.specs.Panels.{all_shown}
 use Rattle.mlir_work_script.proofs.Joins.{front_join, front_more, grows_join}
@@ -13,7 +13,7 @@ returns-in-Err-clause-begun g c =
       had.1,
       had.2 ++ end_of c.args.ends,
       record { panel = had.0; front = had.2; attached = had.3; state_is = refl; out_is = refl },
-      front_more _ _ had.2 (end_of c.args.ends) had.4,
+      front_more (g.W.Sink.stream c.args.writer.now) (g.W.Sink.stream c.attach_all.new.writer) had.2 (end_of c.args.ends) had.4,
     )
 
 pub returns-in-Ok-put_end-clause-begun : goal.returns-in-Ok-put_end-clause-begun
@@ -27,7 +27,7 @@ returns-in-Ok-put_end-clause-begun g c =
         state_is = begun_state g.L.Analysis.meaning c.args.bench.now c.attach_all.new.bench c.attach_all.ensures.desk c.requires.unmarked;
         out_is = refl;
       },
-      grows_join _ _ _ had.0 (end_of c.args.ends) had.2 c.in-Ok-put_end.ensures,
+      grows_join (g.W.Sink.stream c.args.writer.now) (g.W.Sink.stream c.attach_all.new.writer) (g.W.Sink.stream c.put_end.new.writer) had.0 (end_of c.args.ends) had.2 c.in-Ok-put_end.ensures,
     )
 
 pub returns-in-Err-put_end-clause-begun : goal.returns-in-Err-put_end-clause-begun
@@ -37,5 +37,5 @@ returns-in-Err-put_end-clause-begun g c =
       c.in-Ok.accepted,
       had.0 ++ end_of c.args.ends,
       record { panel = all_shown g.L.Analysis.meaning c.attach_all.new.bench.listeners; front = had.0; attached = had.1; state_is = refl; out_is = refl },
-      front_join _ _ _ had.0 (end_of c.args.ends) had.2 c.in-Err-put_end.ensures,
+      front_join (g.W.Sink.stream c.args.writer.now) (g.W.Sink.stream c.attach_all.new.writer) (g.W.Sink.stream c.put_end.new.writer) had.0 (end_of c.args.ends) had.2 c.in-Err-put_end.ensures,
     )

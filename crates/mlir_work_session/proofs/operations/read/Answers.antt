@@ -1,4 +1,3 @@
-use Rattle.std.proofs.Common.{ap}
 use Rattle.mlir_work_session.proofs.Reading.{grown_so, sound_holds}
 use Rattle.mlir_work_session.proofs.operations.read.Goals as goal
 

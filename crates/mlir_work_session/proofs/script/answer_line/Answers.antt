@@ -1,4 +1,4 @@
-use Rattle.std.proofs.Common.{◌++◌, Some, refl, sym}
+use Rattle.std.proofs.Common.{◌++◌, [], Some, refl, sym}
 use Rattle.mlir_work_script.specs.Commands.{line_says, spoken_of}
 use Rattle.mlir_work_script.proofs.Joins.{front_join, front_more, grows_join, grows_none}
 use Rattle.rewriter.specs.Benched.{state_of}
@@ -8,7 +8,7 @@ use Rattle.mlir_work_session.proofs.Runs.{told_of}
 use Rattle.mlir_work_session.proofs.script.answer_line.Goals as goal
 
 pub returns-then-is_nothing-clause-answered : goal.returns-then-is_nothing-clause-answered
-returns-then-is_nothing-clause-answered g c = ([], (sym (rw c.read_line-line.ensures at c.if-is_nothing.ensures), refl, refl), grows_none _)
+returns-then-is_nothing-clause-answered g c = ([], (sym (rw c.read_line-line.ensures at c.if-is_nothing.ensures), refl, refl), grows_none (g.W.Sink.stream c.args.writer.now))
 
 pub returns-in-Err-clause-answered : goal.returns-in-Err-clause-answered
 returns-in-Err-clause-answered g c =
@@ -20,7 +20,7 @@ returns-in-Err-clause-answered g c =
       text ++ end_of manner.ends,
       told_of manner c.args.n (state_of meaning c.args.bench.now) (spoken_of c.read_line-line.result) (line_says c.args.line.now) reply c.answer-answered.result.shows.items (state_of meaning c.answer-answered.new.bench) text (is_accepted reply)
           c.read_line-line.ensures c.if-is_nothing.ensures c.answer-answered.ensures.replies (rw c.is_listed-listed.ensures at c.in-Err.ensures.1) c.answer-answered.ensures.bounded refl,
-      front_more _ _ text (end_of manner.ends) c.in-Err.ensures.2,
+      front_more (g.W.Sink.stream c.args.writer.now) (g.W.Sink.stream c.put_answer.new.writer) text (end_of manner.ends) c.in-Err.ensures.2,
     )
 
 pub returns-in-Ok-put_end-clause-answered : goal.returns-in-Ok-put_end-clause-answered
@@ -32,11 +32,11 @@ returns-in-Ok-put_end-clause-answered g c =
       text ++ end_of manner.ends,
       told_of manner c.args.n (state_of meaning c.args.bench.now) (spoken_of c.read_line-line.result) (line_says c.args.line.now) reply c.answer-answered.result.shows.items (state_of meaning c.answer-answered.new.bench) text _
           c.read_line-line.ensures c.if-is_nothing.ensures c.answer-answered.ensures.replies (rw c.is_listed-listed.ensures at c.in-Ok.ensures.1) c.answer-answered.ensures.bounded c.is_accepted.ensures,
-      grows_join _ _ _ text (end_of manner.ends) c.in-Ok.ensures.2 c.in-Ok-put_end.ensures,
+      grows_join (g.W.Sink.stream c.args.writer.now) (g.W.Sink.stream c.put_answer.new.writer) (g.W.Sink.stream c.put_end.new.writer) text (end_of manner.ends) c.in-Ok.ensures.2 c.in-Ok-put_end.ensures,
     )
 
-pub returns-in-Err-put_end-clause-answered : goal.returns-in-Err-put_end-clause-answered
-returns-in-Err-put_end-clause-answered g c =
+pub returns-clause-answered : goal.returns-clause-answered
+returns-clause-answered g c =
     let meaning = g.L.Analysis.meaning in
     let manner : Manner = c.args.manner.now in
     let text = c.in-Ok.ensures.0 in
@@ -45,5 +45,5 @@ returns-in-Err-put_end-clause-answered g c =
       text ++ end_of manner.ends,
       told_of manner c.args.n (state_of meaning c.args.bench.now) (spoken_of c.read_line-line.result) (line_says c.args.line.now) reply c.answer-answered.result.shows.items (state_of meaning c.answer-answered.new.bench) text (is_accepted reply)
           c.read_line-line.ensures c.if-is_nothing.ensures c.answer-answered.ensures.replies (rw c.is_listed-listed.ensures at c.in-Ok.ensures.1) c.answer-answered.ensures.bounded refl,
-      front_join _ _ _ text (end_of manner.ends) c.in-Ok.ensures.2 c.in-Err-put_end.ensures,
+      front_join (g.W.Sink.stream c.args.writer.now) (g.W.Sink.stream c.put_answer.new.writer) (g.W.Sink.stream c.put_end.new.writer) text (end_of manner.ends) c.in-Ok.ensures.2 c.in-Err-put_end.ensures,
     )

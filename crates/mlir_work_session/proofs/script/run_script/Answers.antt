@@ -1,9 +1,9 @@
-use Rattle.std.proofs.Common.{◌++◌, ◌+◌, [], refl, append-nil, append_assoc, arith}
+use Rattle.std.proofs.Common.{◌++◌, [], refl, append-nil, append_assoc, arith}
 use Rattle.mlir_work_script.specs.Lines.{lines_of}
 use Rattle.mlir_work_session.specs.Output.{Manner, number_behind, worse}
 use Rattle.rewriter.specs.Benched.{state_of}
 use Rattle.mlir_work_script.proofs.Joins.{grows_join, front_within}
-use Rattle.mlir_work_session.proofs.Runs.{run_answered, some_runs, status_before, worse_behind, runs_end, filled, emptied}
+use Rattle.mlir_work_session.proofs.Runs.{one_number, run_answered, some_runs, status_before, worse_behind, runs_end, filled, emptied}
 use Rattle.mlir_work_session.proofs.script.run_script.Goals as goal
 
 pub returns-in-Err : goal.returns-in-Err
@@ -28,7 +28,7 @@ loop-text-preserved g c =
     (c.split_line.ensures.lines (filled c.loop-text.text.now _ c.is_empty.ensures c.loop-text-test.true)) c.in-Ok.ensures.answered.1 in
     record {
       kept = c.answer_line.ensures.kept;
-      count = (let h = c.split_line.ensures.shorter (filled c.loop-text.text.now _ c.is_empty.ensures c.loop-text-test.true) in omega arith);
+      count = (let h = c.split_line.ensures.shorter (filled c.loop-text.text.now _ c.is_empty.ensures c.loop-text-test.true) in let had = c.loop-text.invariant.count in let next = c.number_behind-n.ensures in let one = one_number c.loop-text.n c.in-Ok.told in omega (arith, h, had, next, one));
       front = front ++ out;
       wrote = grows_join _ _ _ front out c.loop-text.invariant.wrote c.in-Ok.ensures.answered.2;
       whole = λ later rest h. rw (append_assoc, c.accepted_behind-accepted.ensures, ← worse_behind) (c.loop-text.invariant.whole _ (out ++ rest) (step later rest (rw c.number_behind-n.ensures at h)));

@@ -1,4 +1,3 @@
-use Rattle.std.proofs.Common.{ap, ◌∙◌}
 use Rattle.mlir_work_session.proofs.Obeying.{prints}
 use Rattle.mlir_work_session.proofs.Reading.{held_text}
 use Rattle.mlir_work_session.proofs.shows.show_module.Goals as goal

@@ -1,4 +1,4 @@
-use Rattle.std.proofs.Common.{refl, sym, None, ap}
+use Rattle.std.proofs.Common.{refl, sym, None}
 use Rattle.ir_tree.specs.Meaning.{meaning}
 use Rattle.rewriter.specs.Commands as command
 use Rattle.rewriter.specs.Edits as edit

@@ -1,4 +1,4 @@
-use Rattle.std.proofs.Common.{◌≡◌, ◌∙◌, sym, ap, inr, subst, Option, Some, None}
+use Rattle.std.proofs.Common.{◌∙◌, sym, inr}
 use Rattle.rewriter.specs.Commands as command
 use Rattle.rewriter.specs.Machine as call
 use Rattle.mlir_work_script.specs.RuleNames.{name_of}

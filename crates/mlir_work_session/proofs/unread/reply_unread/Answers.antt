@@ -1,4 +1,3 @@
-use Rattle.std.proofs.Common.{refl}
 use Rattle.ir_text.specs.Public.{SpellsAttr}
 use Rattle.rewriter.specs.Texts.{SpellsBeside}
 use Rattle.mlir_work_session.proofs.Reading.{unread_memory, unread_memory_op}
