@@ -1,4 +1,4 @@
-pub mod TypeKinds
+pub mod Widths
 pub mod Placed
 pub mod Ordered
 pub mod Binding

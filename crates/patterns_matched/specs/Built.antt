@@ -1,5 +1,6 @@
 -- What stands for what a pattern makes, in a context where the next free id is n.
-use Rattle.std.specs.Prelude.{◌≡◌, ℕ, ◌+◌, List, [], ◌∷◌, ◌++◌, map, length, Bool, true, false, Option, Some, None, option_map}
+use Rattle.std.specs.Prelude.{◌≡◌, ℕ, ◌+◌, List, [], ◌∷◌, ◌++◌, map, length, Bool, true, false}
+use Rattle.std.specs.Prelude.{Option, Some, None, option_map}
 use Rattle.std.specs.List.{All}
 use Rattle.ir_types.specs.Things.{Things}
 use Rattle.ir_types.specs.WordNames.{word_bytes}
@@ -59,8 +60,12 @@ BuiltIsOf c p = AreMadeOf c p.made.items
 abbrev pub plan_of : Operation → (matching.Header → Bool) → ℕ → Shape → ℕ → Option Plan
 plan_of t clean n p x = when (is_makeable p) (planned t clean n p x)
 
+-- operations that are made, and what stands at places then
+abbrev pub AllMade : Type 0
+AllMade = List Operation × Standing Value
+
 -- all that is made, and what stands at places then, or that something doesn't stand
-abbrev pub AreAllMade : Things → ℕ → Option (List Operation × Standing Value) → Option (List Made) → List (Option Operand) → Type 0
+abbrev pub AreAllMade : Things → ℕ → Option AllMade → Option (List Made) → List (Option Operand) → Type 0
 AreAllMade c n all None operands = all ≡ None
 AreAllMade c n all (Some made) operands = all ≡ Some (map (made_in c n) made, operands_in n operands)
 
@@ -83,16 +88,17 @@ with_more xs None = None
 with_more xs (Some ys) = Some (xs ++ ys)
 
 -- operations in front of what else is made
-abbrev pub behind : List Operation → Option (List Operation × Standing Value) → Option (List Operation × Standing Value)
+abbrev pub behind : List Operation → Option AllMade → Option AllMade
 behind os None = None
 behind os (Some r) = Some (os ++ r.0, r.1)
 
 -- what is made behind others, from a place on
-abbrev pub made_behind : Things → ℕ → Standing TypeTerm → List Outcome → ℕ → List New → List Made → List (Option Operand) → Option (List Operation × Standing Value)
+abbrev pub made_behind : Things → ℕ → Standing TypeTerm → List Outcome → ℕ → List New → List Made
+    → List (Option Operand) → Option AllMade
 made_behind c n ts env k ws made os =
     behind (map (made_in c n) made) (all_made ts env (n + length made) k ws (operands_in n os))
 
 -- one more is made, or something doesn't stand that it has
-abbrev pub IsMadeNext : Bool → Option (List Operation × Standing Value) → Option (List Operation × Standing Value) → Type 0
+abbrev pub IsMadeNext : Bool → Option AllMade → Option AllMade → Type 0
 IsMadeNext true old new = new ≡ old
 IsMadeNext false old new = old ≡ None

@@ -1,5 +1,6 @@
 -- Of which patterns what they make can be put in front of the root, and given for it.
-use Rattle.std.specs.Prelude.{ℕ, ◌+◌, ◌-◌, List, [], ◌∷◌, Bool, true, false, ◌&&◌, not, eqb, nat_le, Option, Some, None, option_map, slice_get, if◌then◌else◌}
+use Rattle.std.specs.Prelude.{ℕ, ◌+◌, ◌-◌, List, [], ◌∷◌, Bool, true, false, ◌&&◌, not, eqb, nat_le}
+use Rattle.std.specs.Prelude.{Option, Some, None, option_map, slice_get, if◌then◌else◌}
 use Rattle.std.specs.List.{list_all}
 use Rattle.dialects_int.specs.declared.operations.Cast.TheVariants.{Truncate}
 use Rattle.patterns_book.specs.declared.pattern.Form.{Form}

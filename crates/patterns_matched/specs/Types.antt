@@ -45,5 +45,7 @@ is_kind k None = false
 is_kind k (Some own) = same_kind k own
 
 -- the types of what is matched, over those that are written
-abbrev pub typed_over : Operation → (Header → Bool) → Shape → Standing Value → Standing TypeTerm → Option (Standing TypeTerm)
-typed_over t clean p b ts = given (types_at t clean 0 p.values b ts) (types_at t clean (old_place p) (map Piece.ty p.old) b)
+abbrev pub typed_over : Operation → (Header → Bool) → Shape → Standing Value → Standing TypeTerm
+    → Option (Standing TypeTerm)
+typed_over t clean p b ts =
+    given (types_at t clean 0 p.values b ts) (types_at t clean (old_place p) (map Piece.ty p.old) b)

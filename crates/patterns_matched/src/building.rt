@@ -8,10 +8,12 @@ ghost use Rattle.dialects_int.specs.Folds.{known_of};
 ghost use Rattle.patterns_book.specs.Matching.{bound, standing};
 ghost use Rattle.patterns_book.specs.Names.{operands_of};
 ghost use Rattle.patterns_book.specs.Planning.{all_made, made_as};
-ghost use Rattle.patterns_matched.specs.Built.{AreAllMade, AreMadeOf, IsMadeNext, as_operands, made_behind, made_in, operand_in, operands_at, operands_in, property_for};
+ghost use Rattle.patterns_matched.specs.Built.{AreAllMade, AreMadeOf, IsMadeNext, as_operands, made_behind, made_in};
+ghost use Rattle.patterns_matched.specs.Built.{operand_in, operands_at, operands_in, property_for};
 ghost use Rattle.patterns_matched.specs.declared.built.Operand.TheVariants.{Old as OldOperand};
 ghost use Rattle.patterns_book.specs.declared.pattern.New.{New};
-ghost use Rattle.patterns_book.specs.declared.pattern.New.TheVariants.{Operation as NewOperation, Constant as NewConstant};
+ghost use Rattle.patterns_book.specs.declared.pattern.New.TheVariants.{Operation as NewOperation};
+ghost use Rattle.patterns_book.specs.declared.pattern.New.TheVariants.{Constant as NewConstant};
 ghost use Rattle.patterns_matched.specs.Makeable.{has_name, is_named};
 ghost use Rattle.patterns_matched.specs.Stands.{Stands};
 ghost use Rattle.patterns_matched.specs.Types.{AreTypesOf, TypeIsOf, type_in, types_in};
@@ -166,7 +168,8 @@ fn make_operation(
     requires name { has_name piece.now.form ≡ true }
     requires of { AreTypesOf ctx.now types.now }
     ensures made { IfOk result (λ m. (n : ℕ) → option_map (made_in ctx.now n) m
-        ≡ made_as (operands_in n operands.now) (types_in ctx.now types.now) (map known_of env.now) (NewOperation piece.now)) }
+        ≡ made_as (operands_in n operands.now) (types_in ctx.now types.now) (map known_of env.now)
+        (NewOperation piece.now)) }
     ensures of { IfOk result (λ m. IfSome m (λ m. TypeIsOf ctx.now m.ty)) }
 {
     let Some(word) = word_of(&piece.form) else {
@@ -198,7 +201,8 @@ fn make_constant(
 ) -> Result<Option<Made>, AllocError>
     requires of { AreTypesOf ctx.now types.now }
     ensures made { IfOk result (λ m. (n : ℕ) → option_map (made_in ctx.now n) m
-        ≡ made_as (operands_in n operands.now) (types_in ctx.now types.now) (map known_of env.now) (NewConstant place number)) }
+        ≡ made_as (operands_in n operands.now) (types_in ctx.now types.now) (map known_of env.now)
+        (NewConstant place number)) }
     ensures of { IfOk result (λ m. IfSome m (λ m. TypeIsOf ctx.now m.ty)) }
 {
     let Some(Some(known)) = at(env, place as u128) else {
@@ -252,8 +256,10 @@ fn make_next(
     requires of { AreTypesOf ctx.now types.now }
     requires made { AreMadeOf ctx.now made.old.items }
     ensures made { IfOk result (λ done. (ws : List New) → IsMadeNext done
-        (made_behind ctx.now next (types_in ctx.now types.now) (map known_of env.now) place (new.now ∷ ws) made.old.items operands.old)
-        (made_behind ctx.now next (types_in ctx.now types.now) (map known_of env.now) (place + 1) ws made.new.items operands.new)) }
+        (made_behind ctx.now next (types_in ctx.now types.now) (map known_of env.now) place (new.now ∷ ws)
+        made.old.items operands.old)
+        (made_behind ctx.now next (types_in ctx.now types.now) (map known_of env.now) (place + 1) ws
+        made.new.items operands.new)) }
     ensures of { AreMadeOf ctx.now made.new.items }
 {
     let Some(one) = make_one(alloc, ctx, new, types, env, operands)? else {
@@ -281,7 +287,8 @@ pub(crate) fn make_all(
     requires names { list_all is_named new.now ≡ true }
     requires of { AreTypesOf ctx.now types.now }
     ensures made { IfOk result (λ ms. AreAllMade ctx.now next
-        (all_made (types_in ctx.now types.now) (map known_of env.now) next begins new.now (operands_in next operands.old))
+        (all_made (types_in ctx.now types.now) (map known_of env.now) next begins new.now
+        (operands_in next operands.old))
         (option_map (λ v. v.items) ms) operands.new) }
     ensures of { IfOk result (λ ms. IfSome ms (λ v. AreMadeOf ctx.now v.items)) }
 {

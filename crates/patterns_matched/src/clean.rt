@@ -16,7 +16,8 @@ use std::alloc::{AllocError, Global};
 
 /// Whether a clean operation gives a value, as its first result.
 fn is_clean_value(alloc: Global, world: &World, value: &Option<Value>) -> Result<bool, AllocError>
-    ensures { IfOk result (λ b. b ≡ is_clean_value (module_in world.now).tree (is_clean (module_in world.now).tree) value.now) }
+    ensures { IfOk result (λ b. b ≡ is_clean_value (module_in world.now).tree (is_clean (module_in world.now).tree)
+        value.now) }
 {
     let Some(value) = value else {
         return Ok(false);
@@ -47,8 +48,8 @@ pub(crate) fn all_clean(
     values: &[Option<Value>],
 ) -> Result<bool, AllocError>
     requires { begins < 2 ^ 100 }
-    ensures { IfOk result (λ b. b ≡ all_clean (module_in world.now).tree (is_clean (module_in world.now).tree) values.now
-        (placed begins old.now)) }
+    ensures { IfOk result (λ b. b ≡ all_clean (module_in world.now).tree (is_clean (module_in world.now).tree)
+        values.now (placed begins old.now)) }
 {
     let mut left = old.len();
     'old: while left > 0 {
@@ -73,7 +74,8 @@ fn is_constant_at(world: &World, place: usize, values: &[Option<Value>]) -> bool
 
 /// Whether constants give the values at places, clean or not.
 pub(crate) fn are_constants(world: &World, constants: &[usize], values: &[Option<Value>]) -> bool
-    ensures { result ≡ list_all (λ (k : ℕ). is_constant_value (module_in world.now).tree (standing k values.now)) constants.now }
+    ensures { result ≡ list_all (λ (k : ℕ). is_constant_value (module_in world.now).tree (standing k values.now))
+        constants.now }
 {
     let mut rest = constants;
     'constants: while let [first, tail @ ..] = rest {

@@ -3,7 +3,8 @@ ghost use Rattle.std.specs.Prelude.{◌≡◌, ◌<◌, ◌^◌, IfOk, Option, m
 ghost use Rattle.ir_event.specs.Modules.{module_in};
 ghost use Rattle.dialects_int.specs.Folds.{known_of};
 ghost use Rattle.patterns_base.specs.Looks.{is_clean};
-ghost use Rattle.patterns_book.specs.Planning.{are_same, constants_known, further_known, further_place, known_at, outcomes};
+ghost use Rattle.patterns_book.specs.Planning.{are_same, constants_known, further_known, further_place};
+ghost use Rattle.patterns_book.specs.Planning.{known_at, outcomes};
 ghost use Rattle.patterns_book.specs.Shapes.{shape};
 ghost use Rattle.patterns_matched.specs.Matched.{outcome_at};
 
@@ -85,8 +86,8 @@ pub(crate) fn outcomes(
     values: &[Option<Value>],
 ) -> Result<Vec<Option<Bits>>, AllocError>
     ensures { IfOk result (λ env. map known_of env.items ≡ outcomes (module_in world.now).tree
-        (is_clean (module_in world.now).tree) (module_in world.now).next (shape pattern.now) 0 (shape pattern.now).values
-        values.now) }
+        (is_clean (module_in world.now).tree) (module_in world.now).next (shape pattern.now) 0
+        (shape pattern.now).values values.now) }
 {
     let mut env = Vec::new(alloc);
     let mut place: usize = 0;

@@ -7,7 +7,8 @@ ghost use Rattle.ir_event.specs.Modules.{NodeIsOf, module_in};
 ghost use Rattle.op_registry.specs.Registry.{beside};
 ghost use Rattle.dialects_int.specs.Folds.{property_of};
 ghost use Rattle.patterns_reads.specs.Reads.{head_in};
-ghost use Rattle.patterns_book.specs.Matching.{all_bound, asks_alike, giver_head, piece_matched, pieces_matched, placed, predicate_is};
+ghost use Rattle.patterns_book.specs.Matching.{all_bound, asks_alike, giver_head, piece_matched};
+ghost use Rattle.patterns_book.specs.Matching.{pieces_matched, placed, predicate_is};
 ghost use Rattle.patterns_book.specs.Names.{are_none, operands_of, predicate_of};
 ghost use Rattle.patterns_book.specs.Planning.{old_place};
 ghost use Rattle.patterns_book.specs.Shapes.{shape};
@@ -70,8 +71,8 @@ fn is_bare(ctx: &Context, node: &Node<'_>) -> bool
 /// Whether an operation of which this is shown has the predicate that is asked.
 fn has_predicate(world: &World, form: &Form, node: &Node<'_>) -> bool
     requires { NodeIsOf world.now.ctx node.now }
-    ensures { result ≡ predicate_is (module_in world.now).tree any (predicate_of form.now) (property_of (codes "predicate")
-        (head_in world.now.ctx node.now).properties) }
+    ensures { result ≡ predicate_is (module_in world.now).tree any (predicate_of form.now)
+        (property_of (codes "predicate") (head_in world.now.ctx node.now).properties) }
 {
     let Form::Compare(asked, _, _) = form else {
         return true;
@@ -125,7 +126,8 @@ fn match_piece(world: &World, place: u128, piece: &Piece, values: &mut [Option<V
 /// Pieces are matched, the last first, where the first has this place. The answer is whether all are.
 fn match_all(world: &World, begins: u128, old: &[Piece], values: &mut [Option<Value>]) -> bool
     requires { begins < 2 ^ 100 }
-    ensures { Stands (pieces_matched (module_in world.now).tree any (placed begins old.now) values.old) values.new result }
+    ensures { Stands (pieces_matched (module_in world.now).tree any (placed begins old.now) values.old)
+        values.new result }
 {
     let mut left = old.len();
     'old: while left > 0 {

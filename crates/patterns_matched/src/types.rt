@@ -19,7 +19,7 @@ pub enum BoundType {
 }
 
 /// The kind of a type's values, if it has any: that of a signless integer type or of index.
-#[tactic(auto, using(crate::proofs::TypeKinds::some_width, crate::proofs::TypeKinds::index_kind, crate::proofs::TypeKinds::no_kind))]
+#[tactic(auto, using(crate::proofs::Widths::of_width, crate::proofs::Widths::of_index, crate::proofs::Widths::no_kind))]
 pub(crate) fn kind_of(ctx: &Context, ty: TypeId) -> Option<BitsKind>
     requires { IsType ctx.now ty }
     ensures { result ≡ kind_of (type_term ctx.now ty) }
@@ -60,7 +60,7 @@ fn is_kind(ctx: &Context, kind: BitsKind, ty: TypeId) -> bool
 }
 
 /// Whether what stands for a type is a type of the context.
-#[tactic(auto, using(crate::proofs::TypeKinds::written_same))]
+#[tactic(auto, using(crate::proofs::Widths::written_same))]
 pub(crate) fn is_same(ctx: &Context, bound: &BoundType, ty: TypeId) -> bool
     requires bound { TypeIsOf ctx.now bound.now }
     requires ty { IsType ctx.now ty }

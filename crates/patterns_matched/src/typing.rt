@@ -122,7 +122,8 @@ fn bind_old_types(
     requires begins { begins < 2 ^ 100 }
     requires of { AreTypesOf world.now.ctx types.old }
     ensures stands { Stands (types_at (module_in world.now).tree (is_clean (module_in world.now).tree) begins
-        (map Piece.ty old.now) values.now (types_in world.now.ctx types.old)) (types_in world.now.ctx types.new) result }
+        (map Piece.ty old.now) values.now (types_in world.now.ctx types.old)) (types_in world.now.ctx types.new)
+        result }
     ensures of { AreTypesOf world.now.ctx types.new }
 {
     let mut place = begins;

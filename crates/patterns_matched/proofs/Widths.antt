@@ -12,19 +12,19 @@ use Rattle.dialects_int.specs.Folds.{kind_of}
 use Rattle.patterns_book.specs.Planning.{kind_standing}
 use Rattle.patterns_matched.specs.Types.{is_kind}
 
-pub some_width : (ty : TypeTerm) (w : ℕ) → types.width_of ty ≡ Some w → Some (kind.Int w) ≡ kind_of ty
-some_width (Integer Signless v) w e = (let one : v ≡ w = cc in ap (λ z. Some (kind.Int z)) (sym one))
-some_width (Integer Signed v) w e = absurd cc
-some_width (Integer Unsigned v) w e = absurd cc
-some_width Index w e = absurd cc
-some_width (Function is os) w e = absurd cc
-some_width (Memref ds t) w e = absurd cc
+pub of_width : (ty : TypeTerm) (w : ℕ) → types.width_of ty ≡ Some w → Some (kind.Int w) ≡ kind_of ty
+of_width (Integer Signless v) w e = (let one : v ≡ w = cc in ap (λ z. Some (kind.Int z)) (sym one))
+of_width (Integer Signed v) w e = absurd cc
+of_width (Integer Unsigned v) w e = absurd cc
+of_width Index w e = absurd cc
+of_width (Function is os) w e = absurd cc
+of_width (Memref ds t) w e = absurd cc
 
-pub index_kind : (ty : TypeTerm) → types.is_index ty ≡ true → Some kind.Index ≡ kind_of ty
-index_kind (Integer s v) e = absurd cc
-index_kind Index e = refl
-index_kind (Function is os) e = absurd cc
-index_kind (Memref ds t) e = absurd cc
+pub of_index : (ty : TypeTerm) → types.is_index ty ≡ true → Some kind.Index ≡ kind_of ty
+of_index (Integer s v) e = absurd cc
+of_index Index e = refl
+of_index (Function is os) e = absurd cc
+of_index (Memref ds t) e = absurd cc
 
 pub no_kind : (ty : TypeTerm) → types.width_of ty ≡ None → types.is_index ty ≡ false → None ≡ kind_of ty
 no_kind (Integer Signless v) e f = absurd cc
