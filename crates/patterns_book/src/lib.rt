@@ -5,5 +5,5 @@ pub mod fitting;
 pub mod laws;
 pub mod literals;
 pub mod pattern;
-mod sides;
+pub mod sides;
 pub mod well_formed;

@@ -1,6 +1,6 @@
 //! A pattern at given widths.
 ghost use Rattle.std.specs.Prelude.{◌≡◌, ◌++◌, IfOk, map};
-ghost use Rattle.patterns_check.specs.Contents.{content};
+ghost use Rattle.patterns_check.specs.Contents.{Content, content};
 ghost use Rattle.patterns_book.specs.Fitting as fitting;
 ghost use Rattle.patterns_book.specs.Shapes.{shape};
 
@@ -102,12 +102,24 @@ fn new_steps(alloc: Global, kinds: &[BitsKind], new: &[New]) -> Result<Vec<Step>
     Ok(steps)
 }
 
+/// The steps of what is asked of the constants of a pattern, and computed of them, where its types are of these kinds.
+pub fn given_steps(
+    alloc: Global,
+    kinds: &[BitsKind],
+    pattern: &Pattern,
+) -> Result<Vec<Step>, AllocError>
+    ensures { IfOk result (λ steps. steps.items ≡ Content.given (fitting.content_with kinds.now (shape pattern.now))) }
+{
+    let mut given = further_steps(alloc, kinds, &pattern.further)?;
+    number_steps(kinds, &pattern.given, &mut given)?;
+    Ok(given)
+}
+
 /// A pattern where its types are of these kinds.
 fn with_kinds(alloc: Global, kinds: &[BitsKind], pattern: &Pattern) -> Result<Sides, AllocError>
     ensures { IfOk result (λ s. content s ≡ fitting.content_with kinds.now (shape pattern.now)) }
 {
-    let mut given = further_steps(alloc, kinds, &pattern.further)?;
-    number_steps(kinds, &pattern.given, &mut given)?;
+    let given = given_steps(alloc, kinds, pattern)?;
     let values = kinds_of(alloc, kinds, &pattern.values)?;
     let old = old_steps(alloc, kinds, &pattern.old)?;
     let new = new_steps(alloc, kinds, &pattern.new)?;

@@ -60,7 +60,7 @@ fn is_variable(pattern: &Pattern, place: usize) -> bool
 }
 
 /// Whether a place is among others.
-fn is_among(places: &[usize], place: usize) -> bool
+pub fn is_among(places: &[usize], place: usize) -> bool
     ensures { result ≡ list_any (eqb place) places.now }
 {
     let mut rest = places;

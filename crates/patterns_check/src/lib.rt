@@ -8,5 +8,5 @@ pub mod family;
 pub mod laws;
 pub mod sides;
 pub mod step;
-mod steps;
+pub mod steps;
 pub mod verdict;

@@ -1,0 +1,9 @@
+pub mod Widths
+pub mod Placed
+pub mod Ordered
+pub mod Binding
+pub mod Additions
+pub mod Found
+pub mod Backwards
+pub mod TypesAt
+pub mod Planned

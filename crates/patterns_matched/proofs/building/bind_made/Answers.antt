@@ -1,0 +1,11 @@
+use Rattle.std.proofs.Common.{refl, ◌+◌, None}
+use Rattle.ir_tree.specs.declared.value.Value.TheVariants.{Result}
+use Rattle.ir_tree.specs.Uses.{same_value}
+use Rattle.patterns_matched.specs.Built.{operand_in}
+use Rattle.patterns_matched.specs.declared.built.Operand.TheVariants.{New}
+use Rattle.patterns_matched.proofs.Binding.{bound_free}
+use Rattle.patterns_matched.proofs.building.bind_made.Goals as goal
+
+pub returns-in-None : goal.returns-in-None
+returns-in-None c =
+    bound_free (operand_in c.args.next) same_value c.args.operands.now c.args.place (Result (c.args.next + c.args.number) 0) _ (New c.args.number) c.if-place-operands.false c.in-None.is refl

@@ -1,0 +1,10 @@
+use Rattle.std.proofs.Common.{refl}
+use Rattle.ir_types.specs.Terms.{type_term}
+use Rattle.ir_types.specs.SameTypes.{same_type}
+use Rattle.patterns_matched.specs.Types.{type_in}
+use Rattle.patterns_matched.specs.declared.types.BoundType.TheVariants.{Found}
+use Rattle.patterns_matched.proofs.Binding.{bound_free}
+use Rattle.patterns_matched.proofs.typing.bind_type.Goals as goal
+
+pub returns-in-None-clause-stands : goal.returns-in-None-clause-stands
+returns-in-None-clause-stands c = bound_free (type_in c.args.ctx.now) same_type c.args.types.now c.args.number (type_term c.args.ctx.now c.args.ty) _ (Found c.args.ty) c.if-number-types.false c.in-None.is refl

@@ -1,0 +1,5 @@
+pub mod Stands
+pub mod Types
+pub mod Matched
+pub mod Makeable
+pub mod Built

@@ -1,0 +1,83 @@
+//! Values at places.
+ghost use Rattle.std.specs.Prelude.{◌≡◌, ◌++◌, IfOk, OnOk};
+ghost use Rattle.ir_tree.specs.Uses.{same_value};
+ghost use Rattle.patterns_book.specs.Matching.{all_bound, bound, nothing, standing};
+ghost use Rattle.patterns_book.specs.Planning.{places};
+ghost use Rattle.patterns_book.specs.Shapes.{shape};
+ghost use Rattle.patterns_matched.specs.Stands.{Stands};
+
+use ir_tree::uses::is_same;
+use ir_tree::value::Value;
+use patterns_book::pattern::Pattern;
+use std::alloc::{AllocError, Global};
+
+/// What stands at a place.
+pub(crate) fn standing(values: &[Option<Value>], place: u128) -> Option<Value>
+    ensures { result ≡ standing place values.now }
+{
+    if place < values.len() as u128 {
+        values[place as usize]
+    } else {
+        None
+    }
+}
+
+/// A value stands at a place from now on. The answer is whether it does.
+pub(crate) fn bind(place: usize, value: &Value, values: &mut [Option<Value>]) -> bool
+    ensures { Stands (bound same_value place value.now values.old) values.new result }
+{
+    if place >= values.len() {
+        return false;
+    }
+    match values[place] {
+        Some(there) => is_same(&there, value),
+        None => {
+            values[place] = Some(*value);
+            true
+        }
+    }
+}
+
+/// Several values stand at places from now on, of which there are as many. The answer is whether they do.
+pub(crate) fn bind_all(places: &[usize], given: &[Value], values: &mut [Option<Value>]) -> bool
+    ensures { Stands (all_bound same_value places.now given.now values.old) values.new result }
+{
+    let mut places = places;
+    let mut given = given;
+    'places: while let [place, places_tail @ ..] = places {
+        let [value, given_tail @ ..] = given else {
+            return false;
+        };
+        if !bind(*place, value, values) {
+            return false;
+        }
+        places = places_tail;
+        given = given_tail;
+    }
+    given.is_empty()
+}
+
+/// Nothing stands at as many places more.
+fn push_nothing(count: usize, values: &mut Vec<Option<Value>>) -> Result<(), AllocError>
+    ensures { OnOk result (values.new.items ≡ values.old.items ++ nothing count) }
+{
+    let mut left = count;
+    'left: while left > 0 {
+        values.push(None)?;
+        left -= 1;
+    }
+    Ok(())
+}
+
+/// Nothing stands at the places of a pattern.
+pub(crate) fn nothing_at(alloc: Global, pattern: &Pattern) -> Result<Vec<Option<Value>>, AllocError>
+    ensures { IfOk result (λ values. values.items ≡ nothing (places (shape pattern.now))) }
+{
+    let mut values = Vec::new(alloc);
+    push_nothing(pattern.values.len(), &mut values)?;
+    push_nothing(pattern.further.len(), &mut values)?;
+    push_nothing(pattern.given.len(), &mut values)?;
+    push_nothing(pattern.old.len(), &mut values)?;
+    push_nothing(pattern.new.len(), &mut values)?;
+    Ok(values)
+}

@@ -1,0 +1,137 @@
+//! What a pattern makes of an operation.
+ghost use Rattle.std.specs.Prelude.{◌≡◌, IfOk, IfSome, map, option_map, true};
+ghost use Rattle.std.specs.List.{list_all};
+ghost use Rattle.ir_event.specs.Modules.{module_in};
+ghost use Rattle.dialects_int.specs.Folds.{known_of};
+ghost use Rattle.patterns_base.specs.Looks.{is_clean};
+ghost use Rattle.patterns_book.specs.Planning.{planned_by, planned_from};
+ghost use Rattle.patterns_book.specs.Shapes.{shape};
+ghost use Rattle.patterns_matched.specs.Built.{BuiltIsOf, plan_in, plan_of};
+ghost use Rattle.patterns_matched.specs.Makeable.{is_named};
+ghost use Rattle.patterns_matched.specs.Types.{AreTypesOf, types_in};
+
+use crate::building::{as_operands, make_all, operand_at};
+use crate::built::Built;
+use crate::clean::{all_clean, are_constants};
+use crate::constants::{all_further, all_known, outcomes};
+use crate::makeable::is_makeable;
+use crate::pieces::{match_pattern, old_begins};
+use crate::types::BoundType;
+use crate::typing::{bound_types, kinds_of};
+use ir_event::world::World;
+use ir_tree::value::Value;
+use ir_types::bits::Bits;
+use ir_types::ids::OpId;
+use patterns_book::fitting::fits;
+use patterns_book::pattern::Pattern;
+use patterns_book::sides::given_steps;
+use patterns_check::steps::run;
+use std::alloc::{AllocError, Global};
+
+/// What a pattern makes, where these values and types stand, and its numbers are these.
+fn build(
+    alloc: Global,
+    world: &World,
+    pattern: &Pattern,
+    values: &[Option<Value>],
+    types: &[Option<BoundType>],
+    env: &[Option<Bits>],
+) -> Result<Option<Built>, AllocError>
+    requires names { list_all is_named (shape pattern.now).new ≡ true }
+    requires of { AreTypesOf world.now.ctx types.now }
+    ensures plan { IfOk result (λ p. option_map (plan_in world.now.ctx (module_in world.now).next) p
+        ≡ planned_from (module_in world.now).tree (is_clean (module_in world.now).tree) (module_in world.now).next
+        (shape pattern.now) values.now (types_in world.now.ctx types.now) (map known_of env.now)) }
+    ensures of { IfOk result (λ p. IfSome p (BuiltIsOf world.now.ctx)) }
+{
+    if !all_further(alloc, world, pattern, values, env)? {
+        return Ok(None);
+    }
+    let mut operands = as_operands(alloc, values)?;
+    let next = world.store.next_id();
+    let begins = old_begins(pattern) + pattern.old.len() as u128;
+    let new = &pattern.new;
+    let Some(made) = make_all(
+        alloc,
+        &world.ctx,
+        next,
+        begins,
+        new,
+        types,
+        env,
+        &mut operands,
+    )?
+    else {
+        return Ok(None);
+    };
+    match operand_at(&operands, pattern.result) {
+        Some(result) => Ok(Some(Built { made, result })),
+        None => Ok(None),
+    }
+}
+
+/// What a pattern makes, where these values and types stand.
+fn plan_by(
+    alloc: Global,
+    world: &World,
+    pattern: &Pattern,
+    values: &[Option<Value>],
+    types: &[Option<BoundType>],
+) -> Result<Option<Built>, AllocError>
+    requires names { list_all is_named (shape pattern.now).new ≡ true }
+    requires of { AreTypesOf world.now.ctx types.now }
+    ensures plan { IfOk result (λ p. option_map (plan_in world.now.ctx (module_in world.now).next) p
+        ≡ planned_by (module_in world.now).tree (is_clean (module_in world.now).tree) (module_in world.now).next
+        (shape pattern.now) values.now (types_in world.now.ctx types.now)) }
+    ensures of { IfOk result (λ p. IfSome p (BuiltIsOf world.now.ctx)) }
+{
+    let kinds = kinds_of(alloc, &world.ctx, types)?;
+    if !fits(&kinds, pattern) {
+        return Ok(None);
+    }
+    if !all_known(alloc, world, pattern, values)? {
+        return Ok(None);
+    }
+    let mut env = outcomes(alloc, world, pattern, values)?;
+    let steps = given_steps(alloc, &kinds, pattern)?;
+    if !run(&steps, &mut env)? {
+        return Ok(None);
+    }
+    let built = build(alloc, world, pattern, values, types, &env)?;
+    Ok(built)
+}
+
+/// What a pattern makes of an operation, before anything is interned, where it applies and that can be put in front of
+/// the operation and given for it.
+///
+/// Cheap tests come first: the names of the operations that are matched, and that constants give what the pattern calls
+/// so. Only then it is asked whether these are clean, which takes memory.
+pub fn plan(
+    alloc: Global,
+    world: &World,
+    pattern: &Pattern,
+    op: OpId,
+) -> Result<Option<Built>, AllocError>
+    ensures plan { IfOk result (λ p. option_map (plan_in world.now.ctx (module_in world.now).next) p
+        ≡ plan_of (module_in world.now).tree (is_clean (module_in world.now).tree) (module_in world.now).next
+        (shape pattern.now) op) }
+    ensures of { IfOk result (λ p. IfSome p (BuiltIsOf world.now.ctx)) }
+{
+    let Some(values) = match_pattern(alloc, world, pattern, op)? else {
+        return Ok(None);
+    };
+    if !are_constants(world, &pattern.constants, &values) {
+        return Ok(None);
+    }
+    if !is_makeable(pattern) {
+        return Ok(None);
+    }
+    if !all_clean(alloc, world, old_begins(pattern), &pattern.old, &values)? {
+        return Ok(None);
+    }
+    let Some(types) = bound_types(alloc, world, pattern, &values)? else {
+        return Ok(None);
+    };
+    let built = plan_by(alloc, world, pattern, &values, &types)?;
+    Ok(built)
+}

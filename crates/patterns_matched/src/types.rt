@@ -1,0 +1,73 @@
+//! The types that stand for those of a pattern.
+ghost use Rattle.std.specs.Prelude.{◌≡◌};
+ghost use Rattle.ir_types.specs.Things.{IsType};
+ghost use Rattle.ir_types.specs.Terms.{type_term};
+ghost use Rattle.ir_types.specs.SameTypes.{same_type};
+ghost use Rattle.dialects_int.specs.Folds.{kind_of, same_kind};
+ghost use Rattle.patterns_matched.specs.Types.{TypeIsOf, is_kind, type_in};
+
+use ir_types::bits::BitsKind;
+use ir_types::context::Context;
+use ir_types::ids::TypeId;
+use ir_verify_base::types::{is_index, same, width_of};
+
+/// What stands for a type of a pattern: a type of the context, or a kind that is written.
+#[derive(Clone, Copy)]
+pub enum BoundType {
+    Found(TypeId),
+    Written(BitsKind),
+}
+
+/// The kind of a type's values, if it has any: that of a signless integer type or of index.
+#[tactic(auto, using(crate::proofs::Widths::of_width, crate::proofs::Widths::of_index, crate::proofs::Widths::no_kind))]
+pub(crate) fn kind_of(ctx: &Context, ty: TypeId) -> Option<BitsKind>
+    requires { IsType ctx.now ty }
+    ensures { result ≡ kind_of (type_term ctx.now ty) }
+{
+    match width_of(ctx, ty) {
+        Some(width) => Some(BitsKind::Int(width)),
+        None => {
+            if is_index(ctx, ty) {
+                Some(BitsKind::Index)
+            } else {
+                None
+            }
+        }
+    }
+}
+
+/// Whether two kinds are one.
+pub(crate) fn same_kind(a: BitsKind, b: BitsKind) -> bool
+    ensures { result ≡ same_kind a b }
+{
+    match (a, b) {
+        (BitsKind::Int(v), BitsKind::Int(w)) => v == w,
+        (BitsKind::Index, BitsKind::Index) => true,
+        (BitsKind::Int(_), BitsKind::Index) => false,
+        (BitsKind::Index, BitsKind::Int(_)) => false,
+    }
+}
+
+/// Whether a type is that of a kind's values.
+fn is_kind(ctx: &Context, kind: BitsKind, ty: TypeId) -> bool
+    requires { IsType ctx.now ty }
+    ensures { result ≡ is_kind kind (kind_of (type_term ctx.now ty)) }
+{
+    match kind_of(ctx, ty) {
+        Some(own) => same_kind(kind, own),
+        None => false,
+    }
+}
+
+/// Whether what stands for a type is a type of the context.
+#[tactic(auto, using(crate::proofs::Widths::written_same))]
+pub(crate) fn is_same(ctx: &Context, bound: &BoundType, ty: TypeId) -> bool
+    requires bound { TypeIsOf ctx.now bound.now }
+    requires ty { IsType ctx.now ty }
+    ensures { result ≡ same_type (type_in ctx.now bound.now) (type_term ctx.now ty) }
+{
+    match bound {
+        BoundType::Found(own) => same(ctx, *own, ty),
+        BoundType::Written(kind) => is_kind(ctx, *kind, ty),
+    }
+}

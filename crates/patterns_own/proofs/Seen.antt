@@ -1,0 +1,109 @@
+-- An operation sees what a pattern matches from it.
+use Rattle.std.proofs.Common.{◌≡◌, ℕ, refl, ap, sym, ◌∙◌, subst, List, [], ◌∷◌, Bool, true, false, ◌&&◌, Option, Some, None, slice_get, inl, inr}
+use Rattle.std.specs.Prelude.{eqb, option_map}
+use Rattle.ir_types.specs.Words.{is_isolated}
+use Rattle.ir_tree.specs.declared.value.Value.{Value}
+use Rattle.ir_tree.specs.declared.value.Value.TheVariants.{Result, Arg}
+use Rattle.ir_tree.specs.declared.place.Place.{Place}
+use Rattle.ir_tree.specs.Tree.{head}
+use Rattle.ir_tree.specs.Ids.{find}
+use Rattle.ir_tree.specs.Places.{place_of}
+use Rattle.ir_tree.specs.Uses.{same_value}
+use Rattle.ir_tree.specs.Meaning.{Operation}
+use Rattle.ir_tree.specs.WellFormed.{IsWellFormed}
+use Rattle.ir_tree.proofs.Replaced.{same_value_true}
+use Rattle.ir_tree_laws.specs.Members.{In}
+use Rattle.ir_tree_laws.specs.Stands.{sees as sees_from}
+use Rattle.ir_tree_laws.proofs.Members.{found_stands}
+use Rattle.ir_tree_laws.proofs.Sees.{visible_there}
+use Rattle.ir_event.specs.Modules.{Module}
+use Rattle.patterns_edits.proofs.Front.{behind_sees}
+use Rattle.patterns_edits.proofs.Given.{seer}
+use Rattle.patterns_edits.proofs.Made.{stood}
+use Rattle.patterns_edits.proofs.Plans.{StandsAt, sees}
+use Rattle.patterns_base.specs.Looks.{front_of, giver, in_front}
+use Rattle.patterns_facts.proofs.Spots.{Giver, giver_is, own_operand}
+use Rattle.patterns_book.specs.Matching.{Header, Standing, all_bound, asks_alike, bound, giver_head, header_matched, nothing, piece_matched, pieces_matched, standing, value_matched, when}
+use Rattle.patterns_book.specs.Names.{name_of, operands_of}
+use Rattle.patterns_book.specs.declared.pattern.Piece.{Piece}
+use Rattle.patterns_book.proofs.Standing.{all_keep}
+use Rattle.patterns_base.specs.Words.{named}
+use Rattle.patterns_matched.proofs.Found.{all_from, bound_at, bound_from, given_is, one_or_not, some_is, standing_is, stands_there, when_is}
+
+module _ (m : Module) (x : ℕ) (formed : IsWellFormed is_isolated m) where
+  -- it stands behind the place in front of it
+  pub stands : (front : Place) → front_of x m.tree ≡ Some front → StandsAt x front m
+  stands front e = go (place_of x m.tree) refl e
+    where
+      go : (p : Option Place) → place_of x m.tree ≡ p → option_map (in_front x) p ≡ Some front → StandsAt x front m
+      go None is e = absurd cc
+      go (Some p) is e = (let one : in_front x p ≡ front = cc in subst (λ z. StandsAt x z m) one (stood is_isolated x p m formed is))
+
+  -- it sees its operands, and those of an operation of which it sees a result
+  pub sees_own : (o : Operation) → find x m.tree ≡ Some o → (v : Value) → In v (head o).operands → sees x v m ≡ true
+  sees_own o e v i =
+      let w = found_stands x m.tree o e in
+      ap (λ z. sees z v m) (sym w.2)
+      ∙ visible_there is_isolated m.tree formed.distinct w.0 w.1 v
+      ∙ own_operand m.tree formed.distinct formed.formed.visible w.0 w.1 v (subst (λ (z : Operation). In v (head z).operands) (sym w.3) i)
+
+  pub sees_far : (v : Value) → sees x v m ≡ true → (h : Header) → Giver m.tree v h → (w : Value) → In w h.operands → sees x w m ≡ true
+  sees_far v seen h g w i =
+      let d = formed.distinct in
+      let far = found_stands g.id m.tree g.there g.found in
+      let inner = own_operand m.tree d formed.formed.visible far.0 far.1 w (subst (λ (z : Operation). In w (head z).operands) (sym far.3) (subst (λ (z : Header). In w z.operands) (sym g.header) i)) in
+      let own = seer is_isolated m.tree d x v seen in
+      ap (λ z. sees z w m) (sym own.2)
+      ∙ visible_there is_isolated m.tree d own.0 own.1 w
+      ∙ behind_sees is_isolated m.tree d far.0.here far.0.path far.1 own.0.here own.0.path own.1 g.number
+      (ap (λ z. sees_from is_isolated own.0.path z) (sym (g.is ∙ ap (λ z. Result z g.number) (sym far.2))) ∙ own.3) w inner
+
+  -- ---- what stands where a pattern is matched
+
+  module _ (root : ℕ) (clean : Header → Bool) where
+    -- the operation's result stands at the root's place, and what it sees elsewhere
+    pub record Sees (b : Standing Value) : Type 0 where
+      pub at : slice_get b root ≡ Some (Some (Result x 0))
+      pub other : (j : ℕ) (u : Value) → (j ≡ root → ⊥) → slice_get b j ≡ Some (Some u) → sees x u m ≡ true
+
+    pub begins : (k : ℕ) (b : Standing Value) → bound same_value root (Result x 0) (nothing k) ≡ Some b → ((j : ℕ) (u : Value) → slice_get (nothing k) j ≡ Some (Some u) → ⊥) → Sees b
+    begins k b e empty =
+        record {
+          at = bound_at same_value same_value_true root (Result x 0) (nothing k) b e;
+          other = λ j u n at. elim (bound_from same_value same_value_true root (Result x 0) (nothing k) b e j u at) [ inl h ↦ absurd (empty j u h) | inr h ↦ absurd (n h.0) ];
+        }
+
+    head_giver : (v : Value) (h : Header) → giver_head m.tree clean v ≡ Some h → giver m.tree v ≡ Some h
+    head_giver (Arg y r k) h e = absurd cc
+    head_giver (Result y k) h e =
+        (let g = given_is (option_map (λ o. head o) (find y m.tree)) (λ h. when (clean h && eqb k 0) (Some h)) h e in
+        let w = when_is (clean g.0 && eqb k 0) (Some g.0) h g.2 in
+        g.1 ∙ w.1)
+
+    goes_on : (p : ℕ × Piece) (b c : Standing Value) → piece_matched m.tree clean p b ≡ Some c → Sees b → Sees c
+    goes_on p b c e s =
+        (let v = given_is (standing p.0 b) (λ v. value_matched m.tree clean p.1 v b) c e in
+        let h = given_is (giver_head m.tree clean v.0) (λ h. header_matched m.tree clean p.1 h b) c v.2 in
+        let w = when_is (named (name_of p.1.form) h.0.name && asks_alike m.tree clean p.1 h.0) (all_bound same_value (operands_of p.1.form) h.0.operands b) c h.2 in
+        record {
+          at = all_keep same_value (operands_of p.1.form) h.0.operands b c w.1 root (Result x 0) s.at;
+          other = λ j u n at. elim (all_from same_value same_value_true (operands_of p.1.form) h.0.operands b c w.1 j u at) [
+            | inl k ↦ s.other j u n k
+            | inr i ↦ operand v.0 (standing_is p.0 b v.0 v.1) h.0 (giver_is m.tree v.0 h.0 (head_giver v.0 h.0 h.1)) u i
+          ];
+        })
+      where
+        own : (v : Value) → v ≡ Result x 0 → (h : Header) → Giver m.tree v h → (u : Value) → In u h.operands → sees x u m ≡ true
+        own v is h g u i =
+            let one : x ≡ g.id = (let two : Result x 0 ≡ Result g.id g.number = sym is ∙ g.is in cc) in
+            sees_own g.there (ap (λ z. find z m.tree) one ∙ g.found) u (subst (λ (z : Header). In u z.operands) (sym g.header) i)
+
+        operand : (v : Value) → slice_get b p.0 ≡ Some (Some v) → (h : Header) → Giver m.tree v h → (u : Value) → In u h.operands → sees x u m ≡ true
+        operand v at h g u i = elim (one_or_not p.0 root) [
+          | inl r ↦ own v (let two : Some (Some v) ≡ Some (Some (Result x 0)) = sym at ∙ ap (slice_get b) r ∙ s.at in cc) h g u i
+          | inr n ↦ sees_far v (s.other p.0 v n at) h g u i
+        ]
+
+    pub pieces_see : (ps : List (ℕ × Piece)) (b c : Standing Value) → pieces_matched m.tree clean ps b ≡ Some c → Sees b → Sees c
+    pieces_see [] b c e s = subst Sees (some_is b c e) s
+    pieces_see (p ∷ ps) b c e s = (let g = given_is (piece_matched m.tree clean p b) (pieces_matched m.tree clean ps) c e in pieces_see ps g.0 c g.2 (goes_on p b g.0 g.1 s))

@@ -1,0 +1,57 @@
+//! Applying a pattern of one's own.
+ghost use Rattle.std.specs.Prelude.{◌≡◌, false, IfOk, IfErr, OnErr, Err};
+ghost use Rattle.ir_types.specs.declared.refusal.Refusal.TheVariants.{NoSuchOp};
+ghost use Rattle.ir_tree.specs.Ids.{has_id};
+ghost use Rattle.patterns_runs.specs.Benched.{Keeps};
+ghost use Rattle.patterns_runs.specs.Held.{module_held};
+ghost use Rattle.patterns.specs.Applied.{Applied, Gave, IsReason};
+ghost use Rattle.patterns_book.specs.Shapes.{shape};
+ghost use Rattle.patterns_own.specs.Own.{own_rewrite};
+
+use crate::carry::carry_plan;
+use crate::find::find_plan;
+use crate::laws::no_edit_of_a_pattern_is_refused;
+use ir_event::analysis::Analysis;
+use ir_types::ids::OpId;
+use ir_types::refusal::Refusal;
+use patterns_book::pattern::Pattern;
+use patterns_runs::Bench;
+use std::alloc::Global;
+
+/// Applies a pattern at an operation, or leaves the module, its marks and the journal as they were. The answer is
+/// whether it applied.
+///
+/// Refusals, in order: `NoSuchOp` where the operation isn't in the module; `Full`; `IdsExhausted`; `Full` where the
+/// context is full; and `Memory`.
+pub fn apply<L: Analysis>(
+    alloc: Global,
+    bench: &mut Bench<L>,
+    pattern: &Pattern,
+    op: OpId,
+) -> Result<bool, Refusal>
+    ensures there { has_id op (module_held bench.old.desk).tree ≡ false → result ≡ Err NoSuchOp }
+    ensures ok { IfOk result (λ done. Gave (own_rewrite (shape pattern.now) (module_held bench.old.desk) op) done
+        (module_held bench.old.desk) (module_held bench.new.desk)) }
+    ensures err { OnErr result (module_held bench.new.desk ≡ module_held bench.old.desk) }
+    ensures refused { IfErr result (λ e. IsReason (own_rewrite (shape pattern.now) (module_held bench.old.desk) op) op
+        (module_held bench.old.desk) bench.new.desk.ctx e) }
+    ensures stays { Applied L.meaning bench.old bench.new }
+    ensures journal { Keeps L.meaning result bench.old bench.new }
+{
+    no_edit_of_a_pattern_is_refused();
+    bench.is_formed();
+    let world = bench.world();
+    if !world.store.in_tree(op) {
+        return Err(Refusal::NoSuchOp);
+    }
+    let Ok(found) = find_plan(alloc, world, pattern, op) else {
+        return Err(Refusal::Memory);
+    };
+    let Some(planned) = found else {
+        return Ok(false);
+    };
+    match carry_plan(alloc, bench, op, &planned) {
+        Ok(()) => Ok(true),
+        Err(refusal) => Err(refusal),
+    }
+}

@@ -1,0 +1,169 @@
+//! What is interned for the operations of a pattern.
+ghost use Rattle.std.specs.Prelude.{◌∷◌, IfErr, IfOk, []};
+ghost use Rattle.ir_types.specs.Things.{AttrIsOf, IsType, TypeIsOf};
+ghost use Rattle.ir_types.specs.Bits.{type_of};
+ghost use Rattle.ir_types.specs.Terms.{IntegerOf, attr_node_term, type_node_term, type_term};
+ghost use Rattle.ir_types.specs.WordNames.{word_bytes};
+ghost use Rattle.patterns_base.specs.Made.{flags, predicate_entry};
+ghost use Rattle.patterns_runs.specs.Interning.{Added, IsNoRoom};
+ghost use Rattle.patterns.specs.Interned.{IsAttrOf, IsPlain, IsTypeOf};
+ghost use Rattle.patterns_matched.specs.Types.{TypeIsOf as IsBoundOf, type_in};
+ghost use Rattle.patterns_own.specs.Planned.{EntryStands, entries_of};
+
+use crate::operations::is_flagged;
+use ir_event::analysis::Analysis;
+use ir_types::bits::BitsKind;
+use ir_types::ids::{AttrId, NameId, TypeId};
+use ir_types::node::{AttrNode, Sign, TypeNode};
+use ir_types::refusal::Refusal;
+use ir_types::word::Word;
+use patterns_matched::built::Property;
+use patterns_matched::types::BoundType;
+use patterns_runs::Bench;
+
+/// The number of an attribute that is no dictionary.
+fn attr<L: Analysis>(bench: &mut Bench<L>, node: AttrNode) -> Result<AttrId, Refusal>
+    requires of { AttrIsOf bench.old.desk.ctx node }
+    requires plain { IsPlain node }
+    ensures ok { IfOk result (λ a. IsAttrOf bench.new.desk.ctx a (attr_node_term bench.old.desk.ctx node)) }
+    ensures refused { IfErr result (λ e. IsNoRoom bench.new.desk.ctx e) }
+    ensures added { Added L.meaning bench.old bench.new }
+{
+    bench.is_formed();
+    let made = bench.attr(node);
+    bench.is_formed();
+    match made {
+        Ok(attr) => Ok(attr),
+        Err(Refusal::TooMany) => Err(Refusal::Full),
+        Err(_) => Err(Refusal::Memory),
+    }
+}
+
+/// The number of a type.
+fn ty<L: Analysis>(bench: &mut Bench<L>, node: TypeNode) -> Result<TypeId, Refusal>
+    requires of { TypeIsOf bench.old.desk.ctx node }
+    ensures ok { IfOk result (λ t. IsTypeOf bench.new.desk.ctx t (type_node_term bench.old.desk.ctx node)) }
+    ensures refused { IfErr result (λ e. IsNoRoom bench.new.desk.ctx e) }
+    ensures added { Added L.meaning bench.old bench.new }
+{
+    bench.is_formed();
+    let made = bench.ty(node);
+    bench.is_formed();
+    match made {
+        Ok(ty) => Ok(ty),
+        Err(Refusal::TooMany) => Err(Refusal::Full),
+        Err(_) => Err(Refusal::Memory),
+    }
+}
+
+/// The number of the type of a kind's values.
+fn kind_type<L: Analysis>(bench: &mut Bench<L>, kind: BitsKind) -> Result<TypeId, Refusal>
+    ensures ok { IfOk result (λ t. IsTypeOf bench.new.desk.ctx t (type_of kind)) }
+    ensures refused { IfErr result (λ e. IsNoRoom bench.new.desk.ctx e) }
+    ensures added { Added L.meaning bench.old bench.new }
+{
+    match kind {
+        BitsKind::Int(width) => ty(
+            bench,
+            TypeNode::Int {
+                sign: Sign::Signless,
+                width,
+            },
+        ),
+        BitsKind::Index => ty(bench, TypeNode::Index),
+    }
+}
+
+/// The number of what stands for a type.
+pub(crate) fn type_number<L: Analysis>(
+    bench: &mut Bench<L>,
+    bound: &BoundType,
+) -> Result<TypeId, Refusal>
+    requires of { IsBoundOf bench.old.desk.ctx bound.now }
+    ensures ok { IfOk result (λ t. IsTypeOf bench.new.desk.ctx t (type_in bench.old.desk.ctx bound.now)) }
+    ensures refused { IfErr result (λ e. IsNoRoom bench.new.desk.ctx e) }
+    ensures added { Added L.meaning bench.old bench.new }
+{
+    match bound {
+        BoundType::Found(ty) => Ok(*ty),
+        BoundType::Written(kind) => kind_type(bench, *kind),
+    }
+}
+
+/// The flags of which none are set, where operations of a name have flags.
+fn flags<L: Analysis>(bench: &mut Bench<L>, word: Word) -> Result<Option<(NameId, AttrId)>, Refusal>
+    ensures ok { IfOk result (λ e. EntryStands bench.new.desk.ctx e (flags (word_bytes word))) }
+    ensures refused { IfErr result (λ e. IsNoRoom bench.new.desk.ctx e) }
+    ensures added { Added L.meaning bench.old bench.new }
+{
+    if !is_flagged(word) {
+        return Ok(None);
+    }
+    let node = AttrNode::Overflow {
+        nsw: false,
+        nuw: false,
+    };
+    let made = attr(bench, node);
+    bench.is_formed();
+    match made {
+        Ok(flags) => Ok(Some((Word::OverflowFlags.id(), flags))),
+        Err(refusal) => Err(refusal),
+    }
+}
+
+/// The bits of an integer at a key.
+fn integer<L: Analysis>(
+    bench: &mut Bench<L>,
+    key: Word,
+    ty: TypeId,
+    value: u128,
+) -> Result<Option<(NameId, AttrId)>, Refusal>
+    requires { IsType bench.old.desk.ctx ty }
+    ensures ok { IfOk result (λ e. EntryStands bench.new.desk.ctx e
+        ((word_bytes key, IntegerOf (type_term bench.old.desk.ctx ty) value) ∷ [])) }
+    ensures refused { IfErr result (λ e. IsNoRoom bench.new.desk.ctx e) }
+    ensures added { Added L.meaning bench.old bench.new }
+{
+    let made = attr(bench, AttrNode::Int { ty, value });
+    bench.is_formed();
+    match made {
+        Ok(attr) => Ok(Some((key.id(), attr))),
+        Err(refusal) => Err(refusal),
+    }
+}
+
+/// The number of a comparison's predicate.
+fn predicate<L: Analysis>(
+    bench: &mut Bench<L>,
+    number: u128,
+) -> Result<Option<(NameId, AttrId)>, Refusal>
+    ensures ok { IfOk result (λ e. EntryStands bench.new.desk.ctx e (predicate_entry number)) }
+    ensures refused { IfErr result (λ e. IsNoRoom bench.new.desk.ctx e) }
+    ensures added { Added L.meaning bench.old bench.new }
+{
+    let ty = match kind_type(bench, BitsKind::Int(64)) {
+        Ok(ty) => ty,
+        Err(refusal) => return Err(refusal),
+    };
+    bench.is_formed();
+    integer(bench, Word::Predicate, ty, number)
+}
+
+/// The properties of an operation of a name and a type, of which it has one at most.
+pub(crate) fn entry<L: Analysis>(
+    bench: &mut Bench<L>,
+    word: Word,
+    ty: TypeId,
+    property: Property,
+) -> Result<Option<(NameId, AttrId)>, Refusal>
+    requires { IsType bench.old.desk.ctx ty }
+    ensures ok { IfOk result (λ e. EntryStands bench.new.desk.ctx e (entries_of bench.old.desk.ctx word ty property)) }
+    ensures refused { IfErr result (λ e. IsNoRoom bench.new.desk.ctx e) }
+    ensures added { Added L.meaning bench.old bench.new }
+{
+    match property {
+        Property::Flags => flags(bench, word),
+        Property::Predicate(number) => predicate(bench, number),
+        Property::Bits(bits) => integer(bench, Word::Value, ty, bits),
+    }
+}
