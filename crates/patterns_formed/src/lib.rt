@@ -2,4 +2,5 @@
 #![tactic(auto)]
 
 pub mod names;
+pub mod types;
 pub mod words;
