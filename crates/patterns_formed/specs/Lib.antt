@@ -4,3 +4,5 @@ pub mod Names
 pub mod NameViews
 pub mod Types
 pub mod TypeViews
+pub mod Forming
+pub mod FormingViews
