@@ -1,6 +1,7 @@
 -- What is added to lists.
-use Rattle.std.proofs.Common.{◌≡◌, ◌∙◌, ℕ, zero, suc, ◌+◌, arith, List, [], ◌∷◌, ◌++◌, refl, ap}
+use Rattle.std.proofs.Common.{◌≡◌, ◌∙◌, ℕ, zero, suc, ◌+◌, arith, List, [], ◌∷◌, ◌++◌, length, refl, ap}
 use Rattle.std.specs.List.{range_with_len}
+use Rattle.std.proofs.lemmas.List.{length-map}
 use Rattle.patterns_formed.specs.declared.names.Variable.{Variable as VariableCode}
 use Rattle.patterns_formed.specs.declared.types.Named.{Named as NamedCode}
 use Rattle.patterns_formed.specs.Views.{Variable, named_view, named_views, variable_view, variable_views}
@@ -22,3 +23,6 @@ range_again n =
     let one : n + 1 ≡ suc n = omega arith in
     let same : 0 + n ≡ n = omega arith in
     ap (range_with_len 0) one ∙ range_more 0 n ∙ ap (λ (k : ℕ). range_with_len 0 n ++ k ∷ []) same
+
+pub variables_length : (vs : List VariableCode) → length (variable_views vs) ≡ length vs
+variables_length vs = length-map vs variable_view

@@ -209,6 +209,14 @@ pub(crate) fn variable_types(alloc: Global, count: usize) -> Result<Vec<usize>, 
     Ok(found)
 }
 
+/// The numbers of the types of variables.
+#[tactic(auto, using(crate::proofs::Lists::variables_length))]
+fn value_types(alloc: Global, variables: &[Variable<'_>]) -> Result<Vec<usize>, AllocError>
+    ensures { IfOk result (λ v. v.items ≡ range_with_len 0 (length (variable_views variables.now))) }
+{
+    variable_types(alloc, variables.len())
+}
+
 /// The places of variables that are constants.
 fn constants_of(alloc: Global, variables: &[Variable<'_>]) -> Result<Vec<usize>, AllocError>
     ensures { IfOk result (λ v. v.items ≡ constants_of 0 (variable_views variables.now)) }
@@ -297,7 +305,7 @@ fn finished_with(
         Ok(found) => found,
         Err(e) => return Err(e),
     };
-    let values = variable_types(alloc, places.variables.len())?;
+    let values = value_types(alloc, &places.variables)?;
     let constants = constants_of(alloc, &places.variables)?;
     checked(Pattern {
         types,

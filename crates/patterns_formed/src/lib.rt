@@ -8,5 +8,7 @@ pub mod names;
 mod numbers;
 pub mod reading;
 mod terms;
+#[cfg(test)]
+mod tests;
 mod types;
 mod words;
