@@ -11,7 +11,7 @@ TRUNCATION, COMPARISON, CHOICE = b"arith.trunci", b"arith.cmpi", b"arith.select"
 CASTS = EXTENSIONS | INDEX_CASTS | {TRUNCATION}
 FOLDING = BINARY | CASTS | {COMPARISON, CHOICE}
 MAY_ASK_FOR_NO_FLAGS = FLAGGED | {TRUNCATION}
-DEPTH, NESTED, MOST, MOST_PATTERNS = 3, 16, 16, 256
+DEPTH, NESTED, MOST, MOST_NUMBERS, MOST_PATTERNS = 3, 16, 16, 256, 256
 
 
 def refuse(number, at, is_so=True):
@@ -53,16 +53,29 @@ class Number:
     def is_name(self):
         return not self.is_literal() and self.parts is None
 
+    def walk(self):
+        """It and the numbers in it, in the order of the text."""
+        yield self
+        for part in self.parts or ():
+            yield from part.walk()
+
+    def weight(self):
+        """How many numbers are computed for it: for two functions also the constant that they take."""
+        return 0 if self.is_name() else 2 if self.parts is not None and self.word in ("neg", "not") else 1
+
     def names(self):
         """The names in it, each a number, in their order."""
         return [self] if self.is_name() else [name for part in self.parts or () for name in part.names()]
 
 
 class Condition:
-    """A predicate or `power_of_two` of numbers, or `narrower` of types."""
+    """A predicate or `power_of_two` of numbers, or `narrower` of types, with the bytes where these begin."""
 
-    def __init__(self, at, word, parts):
-        self.at, self.word, self.parts = at, word, parts
+    def __init__(self, at, word, parts, starts):
+        self.at, self.word, self.parts, self.starts = at, word, parts, starts
+
+    def numbers(self):
+        return self.parts if self.word != "narrower" else ()
 
 
 def walk(term):
@@ -183,10 +196,14 @@ class Reader(rules.Reader):
     def condition(self, at):
         start = self.look(at).start
         word, end = self.word(at)
-        opened = self.expect(end, b"(")
-        part = self.type_name if word == "narrower" else lambda at: self.number(at, 1)
+        opened, starts = self.expect(end, b"("), []
+
+        def part(at):
+            starts.append(self.look(at).start)
+            return self.type_name(at) if word == "narrower" else self.number(at, 1)
+
         parts, end = self.some(opened, b")", part)
-        return Condition(start, word, parts), end
+        return Condition(start, word, parts, starts), end
 
     def conditions(self, at):
         """What stands behind the new side, to the text's end."""
@@ -245,6 +262,7 @@ class Pattern:
     def __init__(self, name, old, new, conditions):
         self.name, self.old, self.new, self.conditions = name, old, new, conditions
         self.types, self.variables, self.narrower, self.integers, self.type_of = Types(), {}, [], [], {}
+        self.asked, self.index_casts = [], []
 
     def typed(self, it):
         """The type of a term or a condition, as far as it is told."""
@@ -265,14 +283,29 @@ class Pattern:
         for side in (self.old, self.new):
             operations = [term for term in walk(side) if isinstance(term, Operation)]
             refuse(11, operations[MOST].at if len(operations) > MOST else 0, len(operations) > MOST)
+        self.count_numbers()
         for term in walk(self.new):
             refuse(3, term.at, isinstance(term, Value) and variable(term) not in self.variables)
             if isinstance(term, Constant):
                 self.look_up_number(term.number)
         for condition in self.conditions:
             refuse(3, condition.at, condition.word not in PREDICATES + ["power_of_two", "narrower"])
-            for part in condition.parts if condition.word != "narrower" else ():
+            for part in condition.numbers():
                 self.look_up_number(part)
+
+    def count_numbers(self):
+        """There are so many constants on the left, and so many numbers that are computed."""
+        constants = [term for term in walk(self.old) if isinstance(term, Constant)]
+        refuse(11, constants[MOST_NUMBERS].at if len(constants) > MOST_NUMBERS else 0, len(constants) > MOST_NUMBERS)
+        weights = [(it.at, it.weight()) for term in walk(self.new) if isinstance(term, Constant)
+                   for it in term.number.walk()]
+        for condition in self.conditions:
+            weights.append((condition.at, {"narrower": 0, "power_of_two": 1}.get(condition.word, 2)))
+            weights += [(it.at, it.weight()) for part in condition.numbers() for it in part.walk()]
+        count = 0
+        for at, weight in weights:
+            count += weight
+            refuse(11, at, count > MOST_NUMBERS)
 
     def look_up_number(self, number):
         refuse(3, number.at, number.is_name() and number.word not in self.variables)
@@ -289,31 +322,34 @@ class Pattern:
         told = {self.typed(term) for term in walk(self.old)} | set(map(self.types.found, self.variables.values()))
         for term in walk(self.new):
             refuse(5, term.at, self.typed(term) in self.types.stands and self.typed(term) not in told)
-        for term in list(walk(self.old)) + list(walk(self.new)):
-            if term in self.type_of and isinstance(term, Operation) and term.name in INDEX_CASTS:
-                self.is_index_cast(term)
+        for at, it in self.asked:
+            refuse(5, at, self.types.found(it) in self.types.stands and self.types.found(it) not in told)
+        for term in self.index_casts:
+            self.is_index_cast(term)
 
     def tell(self, term):
         """Tells the type of a term."""
         if isinstance(term, Operation):
             for operand in term.operands:
                 self.tell(operand)
-        found = self.type_of[term] = self.types.written(term.written)
+        found = self.type_of[term] = self.types.new()
         if isinstance(term, Operation):
             self.tell_operation(term, found)
-        elif isinstance(term, Value) or term.number.is_name():
+        elif isinstance(term, Value):
             self.types.one(self.variables[variable(term)], found, term.at)
-        elif term.number.is_literal() and isinstance(term.written, tuple):
-            rules.value_of(term.written, term.number.word, term.at)
         else:
             self.tell_number(term.number, found)
+            if term.number.is_literal() and isinstance(term.written, tuple):
+                rules.value_of(term.written, term.number.word, term.at)
+        if term.written is not None:
+            self.types.one(found, self.types.written(term.written), term.at)
 
     def tell_number(self, number, found):
-        refuse(5, number.at, number.parts is not None and len(number.parts) != FUNCTIONS[number.word])
         if number.is_name():
             self.types.one(self.variables[number.word], found, number.at)
         for part in number.parts or ():
             self.tell_number(part, found)
+        refuse(5, number.at, number.parts is not None and len(number.parts) != FUNCTIONS[number.word])
 
     def tell_operation(self, term, found):
         operands = [self.type_of[operand] for operand in term.operands]
@@ -329,7 +365,9 @@ class Pattern:
         elif term.name in BINARY:
             self.types.one(operands[0], operands[1], term.operands[1].at)
             self.types.one(operands[0], found, term.at)
-        elif term.name not in INDEX_CASTS:
+        elif term.name in INDEX_CASTS:
+            self.index_casts.append(term)
+        else:
             self.narrower.append((found, operands[0]) if term.name == TRUNCATION else (operands[0], found))
 
     def is_index_cast(self, term):
@@ -340,13 +378,15 @@ class Pattern:
 
     def tell_condition(self, condition):
         if condition.word == "narrower":
-            refuse(5, condition.at, len(condition.parts) != 2)
-            self.narrower.append(tuple(map(self.types.written, condition.parts)))
+            types = [self.types.written(part) for part in condition.parts]
+            refuse(5, condition.at, len(types) != 2)
+            self.asked += zip(condition.starts, types)
+            self.narrower.append(tuple(types))
             return
-        refuse(5, condition.at, len(condition.parts) != (1 if condition.word == "power_of_two" else 2))
         found = self.type_of[condition] = self.types.new()
         for part in condition.parts:
             self.tell_number(part, found)
+        refuse(5, condition.at, len(condition.parts) != (1 if condition.word == "power_of_two" else 2))
         # (numbers without a name are of no type that is known)
         refuse(5, condition.at, not any(part.names() for part in condition.parts))
 

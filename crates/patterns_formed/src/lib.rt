@@ -1,5 +1,14 @@
 //! A pattern of one's own is formed of the parts of its text: its names become places, and its types are told.
 #![tactic(auto)]
 
+mod conditions;
+mod finishing;
+mod forming;
 pub mod names;
-pub mod words;
+mod numbers;
+pub mod reading;
+mod terms;
+#[cfg(test)]
+mod tests;
+mod types;
+mod words;

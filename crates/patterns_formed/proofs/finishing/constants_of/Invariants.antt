@@ -1,0 +1,13 @@
+use Rattle.std.proofs.Common.{◌≡◌, ◌+◌, ◌-◌, ◌≤◌, ◌++◌, [], eqb, length, map}
+use Rattle.patterns_formed.specs.Forming.{constants_of}
+use Rattle.patterns_formed.specs.Views.{variable_views}
+use Rattle.patterns_formed.proofs.finishing.constants_of.Given as goal
+
+abbrev pub invariant-variables : goal.invariant-variables
+invariant-variables l = record {
+  found : l.found.items ++ constants_of l.place (variable_views l.rest) ≡ constants_of 0 (variable_views l.fn.variables);
+  within : l.place + length l.rest ≡ length l.fn.variables;
+}
+
+abbrev pub decreases-variables : goal.decreases-variables
+decreases-variables l = length l.rest

@@ -1,0 +1,9 @@
+use Rattle.std.proofs.Common.{◌≡◌, ◌+◌, ◌-◌, ◌≤◌, ◌++◌, [], eqb, length, map}
+use Rattle.std.specs.List.{list_any, range_with_len}
+use Rattle.patterns_formed.proofs.finishing.is_among.Given as goal
+
+abbrev pub invariant-numbers : goal.invariant-numbers
+invariant-numbers l = list_any (eqb l.fn.number) l.rest ≡ list_any (eqb l.fn.number) l.fn.numbers
+
+abbrev pub decreases-numbers : goal.decreases-numbers
+decreases-numbers l = length l.rest

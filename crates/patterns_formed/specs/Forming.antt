@@ -1,0 +1,530 @@
+-- A pattern is formed of its parts: names become places, and types are told, operands first.
+use Rattle.std.specs.Prelude.{ℕ, zero, suc, ◌+◌, ◌-◌, Bool, true, false, not, ◌&&◌, ◌||◌, eqb, if◌then◌else◌, List, [], ◌∷◌, ◌++◌, codes, length, map, Option, Some, None, is_some, Ok, Err}
+use Rattle.std.specs.Str.{bytes_eq}
+use Rattle.std.specs.List.{list_any, range_with_len}
+use Rattle.ir_text_tokens.specs.declared.refusal.TextRefusal.TheVariants.{Unexpected, UnknownValue, TypeMismatch, BadValue, TooDeep, TooMany}
+use Rattle.ir_types.specs.declared.bits.BitsKind.{BitsKind}
+use Rattle.ir_types.specs.declared.bits.BitsKind.TheVariants as bits
+use Rattle.dialects_int.specs.declared.operations.Arithmetic.TheVariants as op
+use Rattle.dialects_int.specs.declared.operations.Cast.{Cast}
+use Rattle.dialects_int.specs.declared.operations.Cast.TheVariants as cast
+use Rattle.dialects_int.specs.declared.operations.Predicate.{Predicate}
+use Rattle.patterns_spelled.specs.Grammar.{most}
+use Rattle.patterns_text.specs.Parts.{Part, operation_part, value_part, literal_part, name_part, function_part, condition_part, type_part, end_part, Placed, Pattern}
+use Rattle.patterns_text.specs.Refusing.{Outcome, ◌>>=◌, refused}
+use Rattle.patterns_book.specs.declared.pattern.Kind.{Kind}
+use Rattle.patterns_book.specs.declared.pattern.Kind.TheVariants as ty
+use Rattle.patterns_book.specs.declared.pattern.Form.{Form}
+use Rattle.patterns_book.specs.declared.pattern.Form.TheVariants as form
+use Rattle.patterns_book.specs.declared.pattern.Piece.{Piece}
+use Rattle.patterns_book.specs.declared.pattern.Literal.{Literal}
+use Rattle.patterns_book.specs.declared.pattern.Further.{Further}
+use Rattle.patterns_book.specs.declared.pattern.Further.TheVariants as further
+use Rattle.patterns_book.specs.declared.pattern.Number.{Number}
+use Rattle.patterns_book.specs.declared.pattern.Number.TheVariants as number
+use Rattle.patterns_book.specs.declared.pattern.New.{New}
+use Rattle.patterns_book.specs.declared.pattern.New.TheVariants as new
+use Rattle.patterns_book.specs.declared.pattern.Asked.{Asked}
+use Rattle.patterns_book.specs.declared.pattern.Asked.TheVariants as asked
+use Rattle.patterns_book.specs.Fitting.{bits_with}
+use Rattle.patterns_book.specs.Shapes.{Shape}
+use Rattle.patterns_book.specs.WellFormed.{is_well_formed}
+use Rattle.patterns_formed.specs.declared.words.Function.{Function}
+use Rattle.patterns_formed.specs.declared.words.Function.TheVariants as function
+use Rattle.patterns_formed.specs.declared.words.Operation.{Operation}
+use Rattle.patterns_formed.specs.declared.words.Operation.TheVariants as operation
+use Rattle.patterns_formed.specs.declared.forming.Entry.{Entry}
+use Rattle.patterns_formed.specs.declared.forming.Told.{Told}
+use Rattle.patterns_formed.specs.declared.forming.Between.{Between}
+use Rattle.patterns_formed.specs.Words.{operation_named, predicate_named, function_named, is_narrower, is_power}
+use Rattle.patterns_formed.specs.Views.{Variable}
+use Rattle.patterns_formed.specs.Names.{Names, names_of, place_of}
+use Rattle.patterns_formed.specs.Types.{Named, Types, same_kind, kind_of, one, one_with, and_variable, written}
+
+-- the variables, and where the places of what comes behind them begin
+pub record Places : Type 0 where
+  pub variables : List Variable
+  pub further : ℕ
+  pub given : ℕ
+  pub old : ℕ
+  pub new : ℕ
+
+abbrev pub constants_of : ℕ → List Variable → List ℕ
+constants_of k [] = []
+constants_of k (v ∷ vs) = if v.0 then constants_of (k + 1) vs else k ∷ constants_of (k + 1) vs
+
+-- what is formed so far: the types, the numbers of the types of terms, in the order of the text, and the lists of a pattern
+pub record Forming : Type 0 where
+  pub kinds : List Kind
+  pub named : Named
+  -- the types of terms on the left, and of those on the right and in conditions
+  pub old_types : List ℕ
+  pub new_types : List Told
+  pub casts : List Between
+  pub asked : List Asked
+  -- which constants were met
+  pub met : List ℕ
+  pub further : List Further
+  pub given : List Number
+  pub old : List Piece
+  pub new : List New
+
+-- the parts that are left, and what is formed
+abbrev pub State : Type 0
+State = List Placed × Forming
+
+abbrev pub with_kinds : Forming → Outcome (List Kind) → Outcome Forming
+with_kinds f (Ok ks) = Ok (record f { kinds = ks })
+with_kinds f (Err e) = Err e
+
+-- types are one from now on
+unfoldable pub unite : ℕ → ℕ → ℕ → Forming → Outcome Forming
+unite i j at f = with_kinds f (one i j at f.kinds)
+
+unfoldable pub unite_with : ℕ → BitsKind → ℕ → Forming → Outcome Forming
+unite_with i k at f = with_kinds f (one_with i k at f.kinds)
+
+-- the number of the next type
+abbrev pub next_type : Forming → ℕ
+next_type f = length f.kinds
+
+abbrev pub with_type : Forming → Forming
+with_type f = record f { kinds = and_variable f.kinds }
+
+-- a term of this type begins here
+abbrev pub begun : Bool → ℕ → ℕ → Forming → Forming
+begun true slot at f = record f { old_types = f.old_types ++ slot ∷ [] }
+begun false slot at f = record f { new_types = f.new_types ++ record { slot = slot; left = at } ∷ [] }
+
+abbrev pub types_of : Forming → Types
+types_of f = record { kinds = f.kinds; named = f.named }
+
+abbrev pub with_types : Forming → Types → Forming
+with_types f s = record f { kinds = s.kinds; named = s.named }
+
+-- a literal is one of a type, where that is known
+abbrev pub is_of : Option (Bool × ℕ) → Kind → Bool
+is_of (Some l) (ty.Fixed k) = is_some (bits_with (k ∷ []) (record { negative = l.0; magnitude = l.1; ty = 0 }))
+is_of _ _ = true
+
+abbrev pub with_slot : Forming → ℕ × Types → ℕ × Forming
+with_slot f x = (x.0, with_types f x.1)
+
+abbrev pub written_at : List ℕ → Forming → ℕ × Forming
+written_at w f = with_slot f (written w (types_of f))
+
+-- the type that is written is a term's, of which a literal has to be
+abbrev pub typed_as : Option (Bool × ℕ) → ℕ → ℕ → ℕ × Forming → Outcome Forming
+typed_as l slot at x = if is_of l (kind_of x.0 x.1.kinds) then unite slot x.0 at x.1 else refused BadValue at
+
+-- a term behind which a type may be written
+unfoldable pub typed : Option (Bool × ℕ) → ℕ → ℕ → State → Outcome State
+typed l slot at ((left, type_part w) ∷ ps, f) = typed_as l slot at (written_at w f) >>= λ g. Ok (ps, g)
+typed l slot at s = Ok s
+
+-- ---- lists up to an end
+
+abbrev pub behind_end : List Placed → Option (List Placed)
+behind_end ((left, end_part) ∷ ps) = Some ps
+behind_end _ = None
+
+module _ {X : Type 0} (T : State → Outcome (X × State)) where
+  abbrev pub gathered_from : (List X → State → Outcome (List X × State)) → List X → State → Option (List Placed) → Outcome (List X × State)
+  gathered_from go xs s (Some ps) = Ok (xs, (ps, s.1))
+  gathered_from go xs s None = T s >>= λ x. go (xs ++ x.0 ∷ []) x.1
+
+  -- items up to an end, fewer than so many
+  unfoldable pub gathered : ℕ → List X → State → Outcome (List X × State)
+  gathered zero xs s = refused TooMany 0
+  gathered (suc n) xs s = gathered_from (gathered n) xs s (behind_end s.0)
+
+-- ---- numbers
+
+abbrev pub literal_number : Bool → ℕ → ℕ → Number
+literal_number negative magnitude slot = number.Written (record { negative = negative; magnitude = magnitude; ty = slot })
+
+-- the name of a number
+abbrev pub name_from : ℕ → ℕ → Option ℕ → Forming → Outcome (ℕ × Forming)
+name_from slot at (Some i) f = unite slot i at f >>= λ g. Ok (i, g)
+name_from slot at None f = refused UnknownValue at
+
+abbrev pub room : ℕ
+room = 17
+
+abbrev pub behind : {X : Type 0} → List Placed → X × Forming → X × State
+behind ps x = (x.0, (ps, x.1))
+
+abbrev pub entry : ℕ → ℕ → ℕ → Entry
+entry place slot at = record { place = place; slot = slot; left = at }
+
+-- a term, behind which its type may be written
+unfoldable pub typed_entry : Option (Bool × ℕ) → Entry × State → Outcome (Entry × State)
+typed_entry l x = typed l x.0.slot x.0.left x.1 >>= λ s. Ok (x.0, s)
+
+-- a value, or on the right the name of a number
+abbrev pub value_from : Bool → ℕ → Option ℕ → Forming → Outcome (Entry × Forming)
+value_from left at (Some i) f = Ok (entry i i at, begun left i at f)
+value_from left at None f = refused UnknownValue at
+
+abbrev pub and_further : Further → Forming → Forming
+and_further k f = record f { further = f.further ++ k ∷ [] }
+
+abbrev pub and_met : ℕ → Forming → Forming
+and_met i f = record f { met = f.met ++ i ∷ [] }
+
+abbrev pub and_new : New → Forming → Forming
+and_new k f = record f { new = f.new ++ k ∷ [] }
+
+abbrev pub asked_predicate : Option (List ℕ) → Option Predicate
+asked_predicate (Some w) = predicate_named w
+asked_predicate None = None
+
+abbrev pub compared : Option Predicate → Entry → Entry → ℕ → ℕ → Forming → Outcome (Form × Forming)
+compared (Some p) i j slot at f = do
+  g ← unite i.slot j.slot j.left f
+  h ← unite_with slot (bits.Int 1) at g
+  Ok (form.Compare p i.place j.place, h)
+compared None i j slot at f = refused Unexpected at
+
+abbrev pub resized : Cast → ℕ → ℕ → Asked
+resized cast.Truncate from to = asked.Narrower to from
+resized cast.ExtendSigned from to = asked.Narrower from to
+resized cast.ExtendUnsigned from to = asked.Narrower from to
+
+abbrev pub and_asked : Asked → Forming → Forming
+and_asked k f = record f { asked = f.asked ++ k ∷ [] }
+
+abbrev pub and_cast : ℕ → ℕ → ℕ → Forming → Forming
+and_cast from to at f = record f { casts = f.casts ++ record { from = from; to = to; left = at } ∷ [] }
+
+abbrev pub paired : Entry → Entry → ℕ → ℕ → Forming → Outcome Forming
+paired i j slot at f = unite i.slot j.slot j.left f >>= unite i.slot slot at
+
+abbrev pub chosen : Entry → Entry → Entry → ℕ → ℕ → Forming → Outcome Forming
+chosen c i j slot at f = unite_with c.slot (bits.Int 1) c.left f >>= paired i j slot at
+
+abbrev pub shaped_by_one : Option Operation → Entry → ℕ → ℕ → Forming → Outcome (Form × Forming)
+shaped_by_one (Some (operation.Resize c)) i slot at f = Ok (form.Resize c i.place, and_asked (resized c i.slot slot) f)
+shaped_by_one (Some (operation.IndexCast c)) i slot at f = Ok (form.IndexCast c i.place, and_cast i.slot slot at f)
+shaped_by_one _ i slot at f = refused TypeMismatch at
+
+abbrev pub shaped_by_two : Option Operation → Option Predicate → Entry → Entry → ℕ → ℕ → Forming → Outcome (Form × Forming)
+shaped_by_two (Some (operation.Pair o)) p i j slot at f = paired i j slot at f >>= λ g. Ok (form.Pair o i.place j.place, g)
+shaped_by_two (Some operation.Compare) p i j slot at f = compared p i j slot at f
+shaped_by_two _ p i j slot at f = refused TypeMismatch at
+
+abbrev pub shaped_by_three : Option Operation → Entry → Entry → Entry → ℕ → ℕ → Forming → Outcome (Form × Forming)
+shaped_by_three (Some operation.Select) c i j slot at f = chosen c i j slot at f >>= λ g. Ok (form.Select c.place i.place j.place, g)
+shaped_by_three _ c i j slot at f = refused TypeMismatch at
+
+-- what an operation computes of its operands, whose types are as it asks
+unfoldable pub shaped : Option Operation → Option Predicate → List Entry → ℕ → ℕ → Forming → Outcome (Form × Forming)
+shaped o p (i ∷ []) slot at f = shaped_by_one o i slot at f
+shaped o p (i ∷ j ∷ []) slot at f = shaped_by_two o p i j slot at f
+shaped o p (c ∷ i ∷ j ∷ []) slot at f = shaped_by_three o c i j slot at f
+shaped o p _ slot at f = refused TypeMismatch at
+
+-- whether it is asked to have no flags
+abbrev pub is_bare : Option Operation → Option (List ℕ) → Bool
+is_bare (Some operation.Compare) asks = false
+is_bare _ asks = is_some asks
+
+abbrev pub literal_of : List Placed → Option (Bool × ℕ)
+literal_of ((at, literal_part negative magnitude) ∷ ps) = Some (negative, magnitude)
+literal_of _ = None
+
+-- a type that is asked about
+unfoldable pub type_at : State → Outcome (ℕ × State)
+type_at ((at, type_part w) ∷ ps, f) = Ok ((written_at w f).0, (ps, begun false (written_at w f).0 at (written_at w f).1))
+type_at s = refused Unexpected 0
+
+abbrev pub narrowed : List ℕ → ℕ → Forming → Outcome Forming
+narrowed (i ∷ j ∷ []) at f = Ok (and_asked (asked.Narrower i j) f)
+narrowed _ at f = refused TypeMismatch at
+
+abbrev pub is_free : ℕ → Forming → Bool
+is_free slot f = same_kind (kind_of slot f.kinds) (ty.Variable slot)
+
+abbrev pub named_at : ℕ → ℕ → Forming → Outcome Forming
+named_at slot at f = if is_free slot f then refused TypeMismatch at else Ok f
+
+abbrev pub number_depth : ℕ
+number_depth = 17
+
+-- a condition on types, behind its part
+unfoldable pub types_asked : ℕ → State → Outcome State
+types_asked at s = gathered type_at room [] s >>= λ x. narrowed x.0 at x.1.1 >>= λ f. Ok (x.1.0, f)
+
+module _ (b : Places) where
+  abbrev pub next_number : Forming → ℕ
+  next_number f = b.given + length f.given
+
+  -- a number more, and its place
+  abbrev pub and_number : Number → Forming → ℕ × Forming
+  and_number n f = (next_number f, record f { given = f.given ++ n ∷ [] })
+
+  -- a pair of a constant and a place, or of a place and a constant
+  abbrev pub negated : ℕ → ℕ → Forming → ℕ × Forming
+  negated i slot f = and_number (number.Pair op.Subtract (next_number f) i) (and_number (literal_number false 0 slot) f).1
+
+  abbrev pub inverted : ℕ → ℕ → Forming → ℕ × Forming
+  inverted i slot f = and_number (number.Pair op.ExclusiveOr i (next_number f)) (and_number (literal_number true 1 slot) f).1
+
+  -- a function of the numbers at these places
+  abbrev pub applied : Option Function → List ℕ → ℕ → ℕ → Forming → Outcome (ℕ × Forming)
+  applied (Some (function.Pair o)) (i ∷ j ∷ []) slot at f = Ok (and_number (number.Pair o i j) f)
+  applied (Some function.Negated) (i ∷ []) slot at f = Ok (negated i slot f)
+  applied (Some function.Inverted) (i ∷ []) slot at f = Ok (inverted i slot f)
+  applied (Some function.Logarithm) (i ∷ []) slot at f = Ok (and_number (number.Log i) f)
+  applied (Some function.Width) (i ∷ []) slot at f = Ok (and_number (number.Width slot) f)
+  applied _ _ slot at f = refused TypeMismatch at
+
+  -- a function of numbers, behind its part
+  unfoldable pub function_at : (State → Outcome (ℕ × State)) → List ℕ → ℕ → ℕ → State → Outcome (ℕ × State)
+  function_at N name slot at s = gathered N room [] s >>= λ x. applied (function_named name) x.0 slot at x.1.1 >>= λ y. Ok (behind x.1.0 y)
+
+  -- a number of at most that depth, of a type
+  unfoldable pub number_at : ℕ → ℕ → State → Outcome (ℕ × State)
+  number_at zero slot s = refused TooDeep 0
+  number_at (suc depth) slot ((at, literal_part negative magnitude) ∷ ps, f) = Ok (behind ps (and_number (literal_number negative magnitude slot) f))
+  number_at (suc depth) slot ((at, name_part name) ∷ ps, f) = name_from slot at (place_of false name b.variables) f >>= λ x. Ok (behind ps x)
+  number_at (suc depth) slot ((at, function_part name) ∷ ps, f) = function_at (number_at depth slot) name slot at (ps, f)
+  number_at (suc depth) slot s = refused Unexpected 0
+
+  -- ---- terms
+
+  abbrev pub next_further : Forming → ℕ
+  next_further f = b.further + length f.further
+
+  -- a constant on the left that has a name: where it is met again, another one of that number
+  abbrev pub met_from : Bool → ℕ → ℕ → Forming → Entry × Forming
+  met_from true i at f = (entry (next_further f) i at, and_further (further.Again i) (begun true i at f))
+  met_from false i at f = (entry i i at, and_met i (begun true i at f))
+
+  abbrev pub old_name_from : ℕ → Option ℕ → Forming → Outcome (Entry × Forming)
+  old_name_from at (Some i) f = Ok (met_from (list_any (eqb i) f.met) i at f)
+  old_name_from at None f = refused UnknownValue at
+
+  abbrev pub old_literal : ℕ → Bool → ℕ → Forming → Entry × Forming
+  old_literal at negative magnitude f = (
+    entry (next_further f) (next_type f) at,
+    and_further (further.Written (record { negative = negative; magnitude = magnitude; ty = next_type f })) (begun true (next_type f) at (with_type f)),
+  )
+
+  abbrev pub next_new : Forming → ℕ
+  next_new f = b.new + length f.new
+
+  -- a constant that is made, of a number that begins the parts
+  unfoldable pub made_at : ℕ → ℕ → State → Outcome (Entry × State)
+  made_at depth at s =
+      number_at depth (next_type s.1) (s.0, begun false (next_type s.1) at (with_type s.1)) >>= λ x.
+      Ok (entry (next_new x.1.1) (next_type s.1) at, (x.1.0, and_new (new.Constant x.0 (next_type s.1)) x.1.1))
+
+  abbrev pub with_piece : Bool → Piece → ℕ → ℕ → Forming → Entry × Forming
+  with_piece true p slot at f = (entry (b.old + length f.old) slot at, record f { old = f.old ++ p ∷ [] })
+  with_piece false p slot at f = (entry (next_new f) slot at, and_new (new.Operation p) f)
+
+  -- an operation with its operands
+  abbrev pub closed_at : Bool → List ℕ → Option (List ℕ) → List Entry → ℕ → ℕ → Forming → Outcome (Entry × Forming)
+  closed_at left name asks entries slot at f =
+      shaped (operation_named name) (asked_predicate asks) entries slot at f >>= λ y.
+      Ok (with_piece left (record { form = y.0; bare = is_bare (operation_named name) asks; ty = slot }) slot at y.1)
+
+  -- an operation, behind its part
+  unfoldable pub operation_at : (State → Outcome (Entry × State)) → Bool → ℕ → List ℕ → Option (List ℕ) → State → Outcome (Entry × State)
+  operation_at T left at name asks s = do
+    x ← gathered T room [] (s.0, begun left (next_type s.1) at (with_type s.1))
+    e ← closed_at left name asks x.0 (next_type s.1) at x.1.1
+    Ok (behind x.1.0 e)
+
+  -- a constant: on the left a literal or a name, on the right any number
+  unfoldable pub old_constant : State → Outcome (Entry × State)
+  old_constant ((at, literal_part negative magnitude) ∷ ps, f) = Ok (behind ps (old_literal at negative magnitude f))
+  old_constant ((at, name_part name) ∷ ps, f) = old_name_from at (place_of false name b.variables) f >>= λ e. Ok (behind ps e)
+  old_constant s = refused Unexpected 0
+
+  unfoldable pub new_constant : ℕ → State → Outcome (Entry × State)
+  new_constant depth ([], f) = refused Unexpected 0
+  new_constant depth ((at, name_part name) ∷ ps, f) = value_from false at (place_of false name b.variables) f >>= λ e. Ok (behind ps e)
+  new_constant depth ((at, p) ∷ ps, f) = made_at depth at ((at, p) ∷ ps, f)
+
+  abbrev pub constant_at : Bool → ℕ → State → Outcome (Entry × State)
+  constant_at true depth s = old_constant s
+  constant_at false depth s = new_constant depth s
+
+  -- a value, behind its part
+  unfoldable pub value_at : Bool → ℕ → List ℕ → State → Outcome (Entry × State)
+  value_at left at name s = value_from left at (place_of true name b.variables) s.1 >>= λ e. typed_entry None (behind s.0 e)
+
+  -- an operation, behind its part, and its type
+  unfoldable pub typed_operation : (State → Outcome (Entry × State)) → Bool → ℕ → List ℕ → Option (List ℕ) → State → Outcome (Entry × State)
+  typed_operation T left at name asks s = operation_at T left at name asks s >>= typed_entry None
+
+  unfoldable pub typed_constant : Bool → ℕ → State → Outcome (Entry × State)
+  typed_constant left depth s = constant_at left depth s >>= typed_entry (literal_of s.0)
+
+  -- a term of at most that depth
+  unfoldable pub term_at : Bool → ℕ → State → Outcome (Entry × State)
+  term_at left zero s = refused TooDeep 0
+  term_at left (suc depth) ([], f) = refused Unexpected 0
+  term_at left (suc depth) ((at, value_part name) ∷ ps, f) = value_at left at name (ps, f)
+  term_at left (suc depth) ((at, operation_part name asks) ∷ ps, f) = typed_operation (term_at left depth) left at name asks (ps, f)
+  term_at left (suc depth) (p ∷ ps, f) = typed_constant left (suc depth) (p ∷ ps, f)
+
+  abbrev pub required : ℕ × Forming → Forming
+  required x = (and_number (number.Require x.0) x.1).1
+
+  abbrev pub comparing : Option Predicate → List ℕ → ℕ → Forming → Outcome Forming
+  comparing (Some p) (i ∷ j ∷ []) at f = Ok (required (and_number (number.Compare p i j) f))
+  comparing _ _ at f = refused TypeMismatch at
+
+  abbrev pub a_power : List ℕ → ℕ → Forming → Outcome Forming
+  a_power (i ∷ []) at f = Ok (and_number (number.Log i) f).1
+  a_power _ at f = refused TypeMismatch at
+
+  -- something is asked of numbers, of which one has a name at least
+  abbrev pub met_by : List ℕ → List ℕ → ℕ → Forming → Outcome Forming
+  met_by w places at f = if is_power w then a_power places at f else comparing (predicate_named w) places at f
+
+  -- a condition on numbers
+  unfoldable pub numbers_asked : ℕ → List ℕ → State → Outcome State
+  numbers_asked at w s =
+      gathered (number_at number_depth (next_type s.1)) room [] (s.0, with_type s.1) >>= λ x.
+      met_by w x.0 at x.1.1 >>= λ f. named_at (next_type s.1) at f >>= λ g. Ok (x.1.0, g)
+
+  abbrev pub condition_at : ℕ → List ℕ → State → Outcome State
+  condition_at at w s = if is_narrower w then types_asked at s else numbers_asked at w s
+
+  unfoldable pub conditions_at : ℕ → State → Outcome Forming
+  conditions_at zero s = refused TooMany 0
+  conditions_at (suc n) ([], f) = Ok f
+  conditions_at (suc n) ((at, condition_part w) ∷ ps, f) = condition_at at w (ps, f) >>= conditions_at n
+  conditions_at (suc n) (p ∷ ps, f) = refused Unexpected 0
+
+-- ---- what is known in the end
+
+abbrev pub is_told : List Kind → List ℕ → Kind → Bool
+is_told ks olds (ty.Fixed k) = true
+is_told ks olds (ty.Variable r) = list_any (λ i. same_kind (kind_of i ks) (ty.Variable r)) olds
+
+-- the types of terms on the right, and those in conditions, are written or are some on the left
+unfoldable pub all_told : List Kind → List ℕ → List Told → Outcome (Unit {0})
+all_told ks olds [] = Ok tt
+all_told ks olds (t ∷ ts) = if is_told ks olds (kind_of t.slot ks) then all_told ks olds ts else refused TypeMismatch t.left
+
+abbrev pub is_index : Kind → Bool
+is_index k = same_kind k (ty.Fixed bits.Index)
+
+-- a cast of index has index at one end, and an integer type at the other
+abbrev pub cast_asked : List Kind → Between → Outcome Asked
+cast_asked ks c =
+    if is_index (kind_of c.from ks) then (if is_index (kind_of c.to ks) then refused TypeMismatch c.left else Ok (asked.Integer c.to))
+    else (if is_index (kind_of c.to ks) then Ok (asked.Integer c.from) else refused TypeMismatch c.left)
+
+unfoldable pub all_cast : List Kind → List Asked → List Between → Outcome (List Asked)
+all_cast ks found [] = Ok found
+all_cast ks found (c ∷ cs) = cast_asked ks c >>= λ k. all_cast ks (found ++ k ∷ []) cs
+
+-- the variables among types, in the order of terms
+abbrev pub with_kind : List ℕ → Kind → List ℕ
+with_kind found (ty.Fixed k) = found
+with_kind found (ty.Variable r) = if list_any (eqb r) found then found else found ++ r ∷ []
+
+unfoldable pub found_in : List Kind → List ℕ → List ℕ → List ℕ
+found_in ks found [] = found
+found_in ks found (i ∷ is) = found_in ks (with_kind found (kind_of i ks)) is
+
+unfoldable pub place_in : ℕ → ℕ → List ℕ → Option ℕ
+place_in k r [] = None
+place_in k r (s ∷ ss) = if eqb r s then Some k else place_in (k + 1) r ss
+
+abbrev pub told_slots : List Told → List ℕ
+told_slots ts = map (λ t. t.slot) ts
+
+-- a type variable by its place among them; none has another type
+abbrev pub numbered_from : Option ℕ → Kind
+numbered_from (Some v) = ty.Variable v
+numbered_from None = ty.Fixed (bits.Int 0)
+
+abbrev pub numbered : List ℕ → Kind → Kind
+numbered found (ty.Fixed k) = ty.Fixed k
+numbered found (ty.Variable r) = numbered_from (place_in 0 r found)
+
+unfoldable pub all_numbered : List ℕ → List Kind → List Kind
+all_numbered found ks = map (numbered found) ks
+
+abbrev pub checked : Shape → Outcome Shape
+checked p = if is_well_formed p then Ok p else refused Unexpected 0
+
+-- ---- a pattern
+
+abbrev pub begins_with : ℕ → Forming
+begins_with n =
+    record { kinds = map ty.Variable (range_with_len 0 n); named = []; old_types = []; new_types = []; casts = []; asked = []; met = []; further = []; given = []; old = []; new = [] }
+
+abbrev pub count_constants : List Variable → ℕ
+count_constants [] = 0
+count_constants (v ∷ vs) = if v.0 then count_constants vs else 1 + count_constants vs
+
+-- where places begin: further constants are those on the left that aren't the first of their name
+abbrev pub places_of : Names → Places
+places_of n =
+    record {
+      variables = n.variables;
+      further = length n.variables;
+      given = length n.variables + (n.constants - count_constants n.variables);
+      old = length n.variables + (n.constants - count_constants n.variables) + n.numbers;
+      new = length n.variables + (n.constants - count_constants n.variables) + n.numbers + n.old;
+    }
+
+abbrev pub old_depth : ℕ
+old_depth = 5
+
+abbrev pub finished_with : Places → ℕ → ℕ → Forming → ℕ × List Kind → Outcome Shape
+finished_with b root result f found =
+    checked (record {
+      types = found.0;
+      kinds = found.1;
+      values = range_with_len 0 (length b.variables);
+      constants = constants_of 0 b.variables;
+      further = f.further;
+      asked = f.asked;
+      given = f.given;
+      old = f.old;
+      root = root;
+      new = f.new;
+      result = result;
+    })
+
+abbrev pub with_all : Forming → Outcome (List Asked) → Outcome Forming
+with_all f (Ok list) = Ok (record f { asked = list })
+with_all f (Err e) = Err e
+
+abbrev pub with_casts : Forming → Outcome Forming
+with_casts f = with_all f (all_cast f.kinds f.asked f.casts)
+
+-- all types are known, and casts are of index
+abbrev pub settled : Forming → Outcome Forming
+settled f = all_told f.kinds f.old_types f.new_types >>= λ told. with_casts f
+
+abbrev pub variables_found : Forming → List ℕ
+variables_found f = found_in f.kinds (found_in f.kinds [] f.old_types) (told_slots f.new_types)
+
+-- how many type variables there are, and the types
+abbrev pub kinds_found : List ℕ → List Kind → ℕ × List Kind
+kinds_found found ks = (length found, all_numbered found ks)
+
+unfoldable pub finished : Places → ℕ → ℕ → Forming → Outcome Shape
+finished b root result f = settled f >>= λ g. finished_with b root result g (kinds_found (variables_found g) g.kinds)
+
+unfoldable pub sides_formed : Places → Pattern → Outcome Shape
+sides_formed b p = do
+  old ← term_at b true old_depth (p.old, begins_with (length b.variables))
+  new ← term_at b false 17 (p.new, old.1.1)
+  f ← unite old.0.slot new.0.slot new.0.left new.1.1
+  g ← conditions_at b 17 (p.conditions, f)
+  finished b old.0.place new.0.place g
+
+-- the pattern that is formed of parts
+unfoldable pub formed : Pattern → Outcome Shape
+formed p = names_of p >>= λ n. sides_formed (places_of n) p
