@@ -14,7 +14,7 @@ import opaque_cases  # noqa: E402
 from reference import aliases  # noqa: E402
 
 CRATE = ROOT / "crates/ir_text_expanded_cases"
-MOST_SHOWN, LONGEST = 400, 1200
+MOST_SHOWN, MOST_PLACES, LONGEST = 400, 1000, 1200
 PIECE = re.compile(rb"[#!%^@]?[A-Za-z0-9$._-]+|\s+|->|.", re.S)
 # Texts by hand, beside those of opaque_cases.py.
 TEXTS = [
@@ -94,7 +94,8 @@ def answer(text):
     out = aliases.expanded(text)
     found = out.text()
     fault = f"{out.fault.number} at {out.fault.at}" if out.fault else "whole"
-    places = summed(out.place(at) for at in range(len(found) + 1))
+    step = len(found) // MOST_PLACES + 1
+    places = summed(out.place(at) for at in [*range(0, len(found), step), len(found)])
     shown = "".join(chr(byte) if 32 <= byte < 126 else "." for byte in found) if len(found) <= MOST_SHOWN else ""
     return f"{fault}, places {places:016x}, {len(found)} bytes {summed(found):016x} {shown}"
 

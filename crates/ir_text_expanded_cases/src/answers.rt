@@ -5,18 +5,28 @@ use ir_text_tokens::fault::Fault;
 use ir_types_items::keyed::Keyed;
 use std::alloc::{AllocError, Global};
 
-/// A sum of where the bytes of an expansion come from, and its end.
+/// The most places that are summed.
+const MOST_PLACES: usize = 1_000;
+
+/// A sum of where bytes of an expansion come from, all of them where they are few, and of its end.
 fn sum_of_places(text: &[u8], found: &Expansion) -> u64 {
+    let step = found.text.len() / MOST_PLACES + 1;
     let mut sum = 0;
     for at in 0..found.text.len() {
-        sum = summed(sum, found.place(text, at) as u64);
+        if at % step == 0 {
+            sum = summed(sum, found.place(text, at) as u64);
+        }
     }
     summed(sum, found.place(text, found.text.len()) as u64)
 }
 
 fn fault_shown(alloc: Global, text: &[u8], fault: Option<Fault>) -> Result<String, AllocError> {
     match fault {
-        Some(fault) => format!(in alloc; "{} at {}", fault.refusal.refusal().number(), fault.offset(text)),
+        Some(fault) => format!(in alloc;
+            "{} at {}",
+            fault.refusal.refusal().number(),
+            fault.offset(text)
+        ),
         None => format!(in alloc; "whole"),
     }
 }
