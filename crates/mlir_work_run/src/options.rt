@@ -51,7 +51,10 @@ fn interactive<'a>(alloc: Global) -> Result<Arg<'a>, AllocError> {
         .long("interactive")
         .help(text::INTERACTIVE)
         .action(ArgAction::SetTrue)
-        .conflicts_with_all(&["module", "script", "command", "output"])
+        .conflicts_with("module")?
+        .conflicts_with("script")?
+        .conflicts_with("command")?
+        .conflicts_with("output")
 }
 
 /// The file of the module.
