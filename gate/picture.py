@@ -13,7 +13,6 @@ WIDTH, EDGE, GAP, LINE, LETTER = 980, 14, 34, 26, 7.3
 # Where a layer stands from left to right, and what it does. Nothing stands on cases, so they have no arrows.
 LAYERS = {
     "cases": (0, 980, "programs that write tables of cases"),
-    "library": (0, 980, "modules held in process, and what C calls"),
     "program": (0, 980, "bytes in, bytes out: lines, commands, replies"),
     "rules": (0, 980, "canon and convert: lists of edits, applied whole or not at all"),
     "bench": (0, 540, "edits, marks and rollback; listeners are told"),

@@ -1,5 +1,4 @@
-"""The program and the library as they are shipped: `tools/dist.sh` puts them into dist/, or compares them with what was
-built here.
+"""The program as it is shipped: `tools/dist.sh` puts it into dist/, or compares it with what was built here.
 
 Only what was proved is put there: the program in `crates/mlir_work/out`, which `./run` or `.ci/run` built of these
 sources (`tools/sources.py`). It is shipped without its symbols and section headers, which no run reads: so two builds
@@ -9,22 +8,15 @@ of the same sources, in whatever folders, are the same bytes. `dist/MANIFEST` ha
     sources    the digest of the sources that it was made of
     kit        the toolchain that proved and built it, as `rt version` prints it
     program    the SHA-256 of the program, unpacked
-    bytes      how many they are
-    library-sources, library    the digest of the library's sources, and its SHA-256, unpacked
-
-The library is `crates/mlir_work_c/out/libmlir_work_c.a` with the four calls of the toolchain that ask for memory
-(`tools/library.py`)."""
+    bytes      how many they are"""
 import lzma
-import pathlib
 import re
 import struct
 import subprocess
 import sys
-import tempfile
 
 sys.dont_write_bytecode = True
 
-import library  # noqa: E402
 import sources  # noqa: E402
 
 LOADED, ELF, WIDE = 1, b"\x7fELF", 2
@@ -64,23 +56,11 @@ def built():
     return stripped(found.read_bytes()), of_sources
 
 
-def built_library():
-    """The library that was built here, joined; nothing where it wasn't built."""
-    if not library.BUILT.is_file():
-        return None
-    with tempfile.TemporaryDirectory() as room:
-        return library.joined(library.BUILT, pathlib.Path(room)).read_bytes()
-
-
 def agree_on_version():
     """Stops where the program that was built says another version than CHANGELOG.md."""
     ran = subprocess.run([sources.BUILT, "--version"], capture_output=True, text=True, check=False)
     if not ran.returncode and ran.stdout.split()[1:] != [version()]:
         sys.exit(f"the program says {ran.stdout.strip()}, and CHANGELOG.md {version()}")
-
-
-def packed(made):
-    return lzma.compress(made, preset=9 | lzma.PRESET_EXTREME)
 
 
 def make():
@@ -90,11 +70,7 @@ def make():
     said = {"version": version(), "sources": of_sources, "kit": kit(), "program": sources.digest_of(program),
             "bytes": len(program)}
     sources.DIST.mkdir(exist_ok=True)
-    sources.PACKED.write_bytes(packed(program))
-    archive = built_library()
-    if archive:
-        said |= {"library-sources": sources.digest(sources.LIBRARY_TOP), "library": sources.digest_of(archive)}
-        sources.PACKED_LIBRARY.write_bytes(packed(archive))
+    sources.PACKED.write_bytes(lzma.compress(program, preset=9 | lzma.PRESET_EXTREME))
     sources.MANIFEST.write_text("".join(f"{word}: {text}\n" for word, text in said.items()))
     print(f"dist/: {len(program)} bytes, packed {sources.PACKED.stat().st_size}; " + sources.MANIFEST.read_text())
 
@@ -113,18 +89,11 @@ def compare():
               flush=True)
         sources.unpack()
         sys.exit(subprocess.run([sources.ROOT / "test", sources.UNPACKED], check=False).returncode)
-    stop_where_they_differ("program", program, shipped)
-    archive = built_library()
-    if archive and said.get("library-sources") == sources.digest(sources.LIBRARY_TOP):
-        stop_where_they_differ("library", archive, sources.unpacked(sources.PACKED_LIBRARY, "library"))
-
-
-def stop_where_they_differ(word, made, shipped):
-    if made != shipped:
-        pairs = enumerate(zip(made, shipped))
-        place = next((at for at, (one, other) in pairs if one != other), min(len(made), len(shipped)))
-        sys.exit(f"dist/ says that it is of these sources, but what was built of them is another {word}: "
-                 f"{len(made)} bytes and {len(shipped)}, first different at byte {place}")
+    if program != shipped:
+        pairs = enumerate(zip(program, shipped))
+        place = next((at for at, (one, other) in pairs if one != other), min(len(program), len(shipped)))
+        sys.exit(f"dist/ says that it is of these sources, but what was built of them is another program: "
+                 f"{len(program)} bytes and {len(shipped)}, first different at byte {place}")
 
 
 def main():

@@ -17,13 +17,12 @@ import sys
 
 sys.dont_write_bytecode = True
 ROOT = pathlib.Path(__file__).resolve().parent.parent
-TOP, LIBRARY_TOP = "mlir_work", "mlir_work_c"
+TOP = "mlir_work"
 PARTS = ("proofs", "specs", "src")
 BUILT = ROOT / "crates/mlir_work/out/mlir_work"
 RECORD = BUILT.with_suffix(".sources")
 DIST = ROOT / "dist"
 MANIFEST, PACKED, UNPACKED = DIST / "MANIFEST", DIST / "mlir_work.xz", DIST / "out/mlir_work"
-PACKED_LIBRARY, LIBRARY = DIST / "libmlir_work.a.xz", DIST / "out/libmlir_work.a"
 
 
 def digest_of(data):
@@ -40,9 +39,9 @@ def lines():
     return found
 
 
-def crates(top=TOP):
-    """The crates at or below the program, or another one, with the words of their lines."""
-    known, found, left = lines(), {}, [top]
+def crates():
+    """The crates at or below the program, with the words of their lines."""
+    known, found, left = lines(), {}, [TOP]
     while left:
         name = left.pop()
         if name in known and name not in found:
@@ -71,10 +70,10 @@ def bytes_of(path):
     return text
 
 
-def digest(top=TOP):
-    """The digest of the sources of the program, or of another crate."""
+def digest():
+    """The digest of the sources."""
     whole = hashlib.sha256()
-    for name, words in sorted(crates(top).items()):
+    for name, words in sorted(crates().items()):
         whole.update(f"{name}: {' '.join(words)}\n".encode())
         for part in PARTS:
             for path in files(f"crates/{name}/{part}"):
@@ -100,40 +99,26 @@ def shipped(of_sources):
     return UNPACKED
 
 
-def unpacked(packed=PACKED, word="program"):
-    """The program or the library of dist/, which has to be the one that its MANIFEST speaks of."""
+def unpacked():
+    """The program of dist/, which has to be the one that its MANIFEST speaks of."""
     import lzma  # (here, since few starts want it)
     try:
-        made = lzma.decompress(packed.read_bytes())
+        program = lzma.decompress(PACKED.read_bytes())
     except lzma.LZMAError as fault:
-        sys.exit(f"dist/{packed.name} can't be unpacked: {fault}")
-    if digest_of(made) != entries(MANIFEST).get(word):
-        sys.exit(f"dist/{packed.name} isn't the {word} of dist/MANIFEST: its SHA-256 is {digest_of(made)}")
-    return made
-
-
-def put(made, to, mode):
-    """Writes a file whole, or not at all."""
-    to.parent.mkdir(exist_ok=True)
-    new = to.with_name(f"{to.name}.{os.getpid()}")
-    new.write_bytes(made)
-    new.chmod(mode)
-    new.replace(to)
+        sys.exit(f"dist/{PACKED.name} can't be unpacked: {fault}")
+    if digest_of(program) != entries(MANIFEST).get("program"):
+        sys.exit(f"dist/{PACKED.name} isn't the program of dist/MANIFEST: its SHA-256 is {digest_of(program)}")
+    return program
 
 
 def unpack():
     """Writes the program of dist/ to where it is started."""
-    put(unpacked(), UNPACKED, 0o755)
-
-
-def library():
-    """The library of dist/, where that is of these sources; it is unpacked once."""
-    said = entries(MANIFEST)
-    if said.get("library-sources") != digest(LIBRARY_TOP) or not PACKED_LIBRARY.is_file():
-        return None
-    if not LIBRARY.is_file() or digest_of(LIBRARY.read_bytes()) != said.get("library"):
-        put(unpacked(PACKED_LIBRARY, "library"), LIBRARY, 0o644)
-    return LIBRARY
+    program = unpacked()
+    UNPACKED.parent.mkdir(exist_ok=True)
+    new = UNPACKED.with_name(f"mlir_work.{os.getpid()}")
+    new.write_bytes(program)
+    new.chmod(0o755)
+    new.replace(UNPACKED)
 
 
 def built(of_sources):

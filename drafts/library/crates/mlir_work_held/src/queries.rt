@@ -1,5 +1,5 @@
 //! What a session's module has, asked by numbers: no text is read or written for it.
-ghost use Rattle.std.specs.Prelude.{◌≡◌, ◌<◌, None, Some, MatchOption, true, length, option_map, ◌×◌, Option, option_and_then};
+ghost use Rattle.std.specs.Prelude.{◌≡◌, ◌<◌, None, Some, MatchOption, true, length};
 ghost use Rattle.ir_tree.specs.Ids.{find, has_id};
 ghost use Rattle.ir_tree.specs.Tree.{head};
 ghost use Rattle.ir_tree.specs.Uses.{uses_of};

@@ -1,31 +1,20 @@
 //! A session is opened over the text of a module.
-ghost use Rattle.std.specs.Prelude.{◌≡◌, ◌×◌, ◌<◌, ℕ, List, [], length, IfOk, IfErr, IfSome, Bool, true};
-ghost use Rattle.ir_tree.specs.Ids.{IsNumberedFrom, op_count};
-ghost use Rattle.ir_tree.specs.Meaning.{meaning, isolated_in, IsSoundIn};
-ghost use Rattle.ir_tree.specs.WellFormed.{IsFormed};
+ghost use Rattle.std.specs.Prelude.{◌≡◌, [], IfOk, IfErr, IfSome, None};
+ghost use Rattle.ir_types.specs.declared.refusal.Refusal.TheVariants.{Memory};
 ghost use Rattle.ir_event.specs.Modules.{module_in};
 ghost use Rattle.rewriter.specs.Benched.{IsKept, state_of};
-ghost use Rattle.rewriter.specs.Panels.{all_shown};
 ghost use Rattle.rewriter_laws.specs.Journals.{IsSlotted, IsTidy};
-ghost use Rattle.mlir_work_session.specs.Public.{IsOnly, Spells};
-ghost use Rattle.mlir_work_session.specs.Output.{Attaches};
 ghost use Rattle.mlir_work_listeners.specs.Listeners.{seven_listener};
 ghost use Rattle.mlir_work_held.specs.Opened.{AllAttached, Opened, WhyNotOpened};
 
 use crate::session::Session;
-use dialects_int::tables::registry;
 use ir_event::world::World;
-use ir_tree::count::op_count;
-use ir_tree::tree::TreeOp;
-use ir_types::context::Context;
 use ir_types::refusal::Refusal;
 use mlir_work_listeners::seven::{Seven, all_listeners};
+use mlir_work_run::run::{hold, tree_of};
 use mlir_work_session::boxes::attach_all;
 use mlir_work_session::input::MAX_INPUT_BYTES;
-
-use mlir_work_run::run::{hold, tree_of};
 use rewriter::Bench;
-use rewriter_laws::journal_laws::{stores_stay_slotted, stores_stay_tidy};
 use std::alloc::Global;
 
 /// Why a text isn't opened, and at which byte; without a byte it is for want of memory.
@@ -37,13 +26,13 @@ pub struct Unopened {
     pub offset: Option<usize>,
 }
 
-/// A refusal at no byte.
-fn unopened(refusal: Refusal) -> Unopened
-    ensures refusal { result.refusal ≡ refusal }
+/// That there is no memory.
+fn no_memory() -> Unopened
+    ensures refusal { result.refusal ≡ Memory }
     ensures offset { result.offset ≡ None }
 {
     Unopened {
-        refusal,
+        refusal: Refusal::Memory,
         offset: None,
     }
 }
@@ -83,13 +72,18 @@ pub fn open(alloc: Global, key: u64, limit: u32, text: &[u8]) -> Result<Session,
     }
     let (ctx, tree) = match tree_of(alloc, key, text) {
         Ok(found) => found,
-        Err(unread) => return Err(Unopened { refusal: unread.refusal, offset: unread.offset }),
+        Err(unread) => {
+            return Err(Unopened {
+                refusal: unread.refusal,
+                offset: unread.offset,
+            });
+        }
     };
     let Some(world) = hold(alloc, ctx, tree) else {
-        return Err(unopened(Refusal::Memory));
+        return Err(no_memory());
     };
     let Some(bench) = bench_over(alloc, world) else {
-        return Err(unopened(Refusal::Memory));
+        return Err(no_memory());
     };
     Ok(Session {
         bench,

@@ -1,0 +1,140 @@
+"""The program and the library as they are shipped: `tools/dist.sh` puts them into dist/, or compares them with what was
+built here.
+
+Only what was proved is put there: the program in `crates/mlir_work/out`, which `./run` or `.ci/run` built of these
+sources (`tools/sources.py`). It is shipped without its symbols and section headers, which no run reads: so two builds
+of the same sources, in whatever folders, are the same bytes. `dist/MANIFEST` has a line for each of
+
+    version    of CHANGELOG.md
+    sources    the digest of the sources that it was made of
+    kit        the toolchain that proved and built it, as `rt version` prints it
+    program    the SHA-256 of the program, unpacked
+    bytes      how many they are
+    library-sources, library    the digest of the library's sources, and its SHA-256, unpacked
+
+The library is `crates/mlir_work_c/out/libmlir_work_c.a` with the four calls of the toolchain that ask for memory
+(`tools/library.py`)."""
+import lzma
+import pathlib
+import re
+import struct
+import subprocess
+import sys
+import tempfile
+
+sys.dont_write_bytecode = True
+
+import library  # noqa: E402
+import sources  # noqa: E402
+
+LOADED, ELF, WIDE = 1, b"\x7fELF", 2
+
+
+def stripped(program):
+    """A program of 64 bits without what stands behind its last segment: symbols, and the headers of its sections."""
+    if program[:4] != ELF or program[4] != WIDE:
+        sys.exit("it is no program of 64 bits")
+    at, = struct.unpack_from("<Q", program, 32)
+    size, count = struct.unpack_from("<HH", program, 54)
+    end = at + size * count
+    for number in range(count):
+        kind, _, offset, _, _, length = struct.unpack_from("<IIQQQQ", program, at + size * number)
+        end = max(end, offset + length) if kind == LOADED else end
+    kept = bytearray(program[:end])
+    struct.pack_into("<Q", kept, 40, 0)     # where the headers of sections begin
+    struct.pack_into("<HHH", kept, 58, 0, 0, 0)     # how large they are, how many, and which has their names
+    return bytes(kept)
+
+
+def version():
+    """The newest version that CHANGELOG.md tells of."""
+    return re.search(r"^## (\S+)", (sources.ROOT / "CHANGELOG.md").read_text(), re.M)[1]
+
+
+def kit():
+    return subprocess.run(["rt", "version"], stdout=subprocess.PIPE, check=True, text=True).stdout.strip()
+
+
+def built():
+    """The program that was built here of these sources, as it is shipped, and the digest of the sources."""
+    of_sources = sources.digest()
+    found = sources.built(of_sources)
+    if not found:
+        sys.exit("nothing was built here of these sources: `MLIR_WORK_BUILD=1 ./run --help` proves and builds it")
+    return stripped(found.read_bytes()), of_sources
+
+
+def built_library():
+    """The library that was built here, joined; nothing where it wasn't built."""
+    if not library.BUILT.is_file():
+        return None
+    with tempfile.TemporaryDirectory() as room:
+        return library.joined(library.BUILT, pathlib.Path(room)).read_bytes()
+
+
+def agree_on_version():
+    """Stops where the program that was built says another version than CHANGELOG.md."""
+    ran = subprocess.run([sources.BUILT, "--version"], capture_output=True, text=True, check=False)
+    if not ran.returncode and ran.stdout.split()[1:] != [version()]:
+        sys.exit(f"the program says {ran.stdout.strip()}, and CHANGELOG.md {version()}")
+
+
+def packed(made):
+    return lzma.compress(made, preset=9 | lzma.PRESET_EXTREME)
+
+
+def make():
+    """Writes dist/."""
+    program, of_sources = built()
+    agree_on_version()
+    said = {"version": version(), "sources": of_sources, "kit": kit(), "program": sources.digest_of(program),
+            "bytes": len(program)}
+    sources.DIST.mkdir(exist_ok=True)
+    sources.PACKED.write_bytes(packed(program))
+    archive = built_library()
+    if archive:
+        said |= {"library-sources": sources.digest(sources.LIBRARY_TOP), "library": sources.digest_of(archive)}
+        sources.PACKED_LIBRARY.write_bytes(packed(archive))
+    sources.MANIFEST.write_text("".join(f"{word}: {text}\n" for word, text in said.items()))
+    print(f"dist/: {len(program)} bytes, packed {sources.PACKED.stat().st_size}; " + sources.MANIFEST.read_text())
+
+
+def compare():
+    """Whether dist/ has what was built here, byte for byte where the kit is the one that built dist/; another kit may
+    make other bytes of the same sources, and then both have to answer the same, by all tests. It is silent where they
+    are the same bytes."""
+    said = sources.entries(sources.MANIFEST)
+    if said.get("sources") != sources.digest():
+        print("dist/ is of other sources, so it isn't compared: `./run` builds; `tools/dist.sh` makes dist/ anew")
+        return
+    shipped, (program, _) = sources.unpacked(), built()
+    if said.get("kit") != kit():
+        print(f"dist/ was built by {said.get('kit')}, and this is {kit()}: its answers are tested, not its bytes",
+              flush=True)
+        sources.unpack()
+        sys.exit(subprocess.run([sources.ROOT / "test", sources.UNPACKED], check=False).returncode)
+    stop_where_they_differ("program", program, shipped)
+    archive = built_library()
+    if archive and said.get("library-sources") == sources.digest(sources.LIBRARY_TOP):
+        stop_where_they_differ("library", archive, sources.unpacked(sources.PACKED_LIBRARY, "library"))
+
+
+def stop_where_they_differ(word, made, shipped):
+    if made != shipped:
+        pairs = enumerate(zip(made, shipped))
+        place = next((at for at, (one, other) in pairs if one != other), min(len(made), len(shipped)))
+        sys.exit(f"dist/ says that it is of these sources, but what was built of them is another {word}: "
+                 f"{len(made)} bytes and {len(shipped)}, first different at byte {place}")
+
+
+def main():
+    if sys.argv[1:] == ["--compare"]:
+        compare()
+    elif sys.argv[1:]:
+        sys.exit(__doc__)
+    else:
+        make()
+
+
+if __name__ == "__main__":
+    main()
