@@ -1,7 +1,8 @@
 -- Operations that are made one after another.
-use Rattle.std.proofs.Common.{◌≡◌, ℕ, ◌+◌, ◌-◌, ◌≤◌, take, drop, take_all, length, slice_index_or, subst, arith, Bool, true, false, refl, ap, sym, ◌∙◌, List, [], ◌∷◌, ◌++◌, map, Option, Some, None, slice_get}
+use Rattle.std.proofs.Common.{append_assoc, ◌≡◌, ℕ, ◌+◌, ◌-◌, ◌≤◌, take, drop, take_all, length, slice_index_or, subst, arith, Bool, true, false, refl, ap, sym, ◌∙◌, List, [], ◌∷◌, ◌++◌, map, Option, Some, None, slice_get}
 use Rattle.std.specs.Prelude.{option_map}
 use Rattle.std.specs.List.{list_all}
+use Rattle.std.proofs.lemmas.List.{map-append}
 use Rattle.std.proofs.lemmas.Option.{slice_get-map}
 use Rattle.ir_tree_laws.proofs.Listed.{both}
 use Rattle.ir_types.specs.Things.{Things}
@@ -32,10 +33,6 @@ use Rattle.patterns_matched.specs.declared.built.Made.{Made}
 use Rattle.patterns_matched.specs.declared.built.Operand.{Operand}
 use Rattle.patterns_matched.specs.declared.types.BoundType.{BoundType}
 
-joined : {X : Type 0} (xs : List X) (x : X) (ys : List X) → (xs ++ x ∷ []) ++ ys ≡ xs ++ x ∷ ys
-joined [] x ys = refl
-joined (y ∷ xs) x ys = ap (λ z. y ∷ z) (joined xs x ys)
-
 module _ (ts : Standing TypeTerm) (env : List Outcome) (os : List Operation) (n k : ℕ) (w : New) (ws : List New) (b : Standing Value) where
   pub none_made : made_as b ts env w ≡ None → behind os (all_made ts env n k (w ∷ ws) b) ≡ None
   none_made e = ap (λ r. behind os (given r (λ o. given (bound same_value k (Result n 0) b) (λ c. option_map (λ (r : List Operation × Standing Value). (o ∷ r.0, r.1)) (all_made ts env (n + 1) (k + 1) ws c))))) e
@@ -54,7 +51,7 @@ module _ (ts : Standing TypeTerm) (env : List Outcome) (os : List Operation) (n 
       where
         go : (r : Option (List Operation × Standing Value)) → behind (os ++ o ∷ []) r ≡ behind os (option_map (λ (r : List Operation × Standing Value). (o ∷ r.0, r.1)) r)
         go None = refl
-        go (Some r) = ap (λ z. Some (z, r.1)) (joined os o r.0)
+        go (Some r) = ap (λ z. Some (z, r.1)) (append_assoc os (o ∷ []) r.0)
 
 pub nothing_behind : (r : Option (List Operation × Standing Value)) → behind [] r ≡ r
 nothing_behind None = refl
@@ -70,7 +67,7 @@ module _ (vs : List Operand) (k : ℕ) (ks : List ℕ) (os : List (Option Operan
     where
       go : (r : Option (List Operand)) → with_more (vs ++ v ∷ []) r ≡ with_more vs (and_more v r)
       go None = refl
-      go (Some ws) = ap Some (joined vs v ws)
+      go (Some ws) = ap Some (append_assoc vs (v ∷ []) ws)
 
 pub nothing_more : {X : Type 0} (r : Option (List X)) → with_more [] r ≡ r
 nothing_more None = refl
@@ -150,10 +147,6 @@ names_left [] l e = absurd (omega (arith, l))
 names_left (w ∷ ws) l e = ap (list_all is_named) (take_all (length (w ∷ ws) - 1) ws (omega arith)) ∙ (both (is_named w) (list_all is_named ws) e).1
 
 module _ (c : Things) (n : ℕ) (ts : Standing TypeTerm) (env : List Outcome) (k : ℕ) where
-  mapped : {X Y : Type 0} (f : X → Y) (xs : List X) (x : X) → map f (xs ++ x ∷ []) ≡ map f xs ++ f x ∷ []
-  mapped f [] x = refl
-  mapped f (y ∷ xs) x = ap (λ z. f y ∷ z) (mapped f xs x)
-
   counted : {X : Type 0} (xs : List X) (x : X) → length (xs ++ x ∷ []) ≡ length xs + 1
   counted [] x = refl
   counted (y ∷ xs) x = (let e = counted xs x in omega (arith, e))
@@ -161,7 +154,7 @@ module _ (c : Things) (n : ℕ) (ts : Standing TypeTerm) (env : List Outcome) (k
   pushed : (ws : List New) (made : List Made) (one : Made) (os : List (Option Operand)) → made_behind c n ts env k ws (made ++ one ∷ []) os ≡ behind (map (made_in c n) made ++ made_in c n one ∷ []) (all_made ts env (n + length made + 1) k ws (operands_in n os))
   pushed ws made one os =
       let e : n + length (made ++ one ∷ []) ≡ n + length made + 1 = omega (arith, counted made one) in
-      λ i. behind (mapped (made_in c n) made one i) (all_made ts env (e i) k ws (operands_in n os))
+      λ i. behind (map-append (made_in c n) made (one ∷ []) i) (all_made ts env (e i) k ws (operands_in n os))
 
 module _ (c : Things) (n : ℕ) (ts : Standing TypeTerm) (env : List Outcome) (k : ℕ) where
   pub made_next : (w : New) (ws : List New) (made after : List Made) (os bs : List (Option Operand)) (one : Made) → made_as (operands_in n os) ts env w ≡ Some (made_in c n one) → after ≡ made ++ one ∷ []

@@ -1,5 +1,5 @@
 -- Pieces from the last to the first.
-use Rattle.std.proofs.Common.{◌≡◌, ℕ, ◌+◌, ◌-◌, ◌≤◌, ◌<◌, refl, ap, sym, ◌∙◌, subst, List, ◌∷◌, length, take, get_or, Bool, true, false, ◌&&◌, true≢false, Option, Some, None, arith}
+use Rattle.std.proofs.Common.{◌≡◌, ℕ, ◌+◌, ◌-◌, ◌≤◌, ◌<◌, refl, ap, sym, ◌∙◌, subst, List, ◌∷◌, length, take, get_or, Bool, true, false, ◌&&◌, Option, None, arith}
 use Rattle.ir_tree.specs.declared.value.Value.{Value}
 use Rattle.ir_tree.specs.Meaning.{Operation}
 use Rattle.patterns_check.specs.Outcomes.{given}

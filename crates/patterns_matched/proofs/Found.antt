@@ -1,6 +1,6 @@
 -- What stands where a pattern is matched, and where something is made of that.
-use Rattle.std.proofs.Common.{◌≡◌, ℕ, zero, suc, ◌+◌, ◌≤◌, ◌<◌, refl, ap, sym, ◌∙◌, subst, List, [], ◌∷◌, ◌++◌, length, map, get_or, get_or-set_other, Bool, true, false, ◌&&◌, not, true≢false, Option, Some, None, slice_get, slice_set, ◌⊎◌, inl, inr, arith}
-use Rattle.std.specs.Prelude.{option_map, eqb, nat_le}
+use Rattle.std.proofs.Common.{◌≡◌, ℕ, zero, suc, ◌+◌, ◌<◌, refl, ap, sym, ◌∙◌, subst, List, [], ◌∷◌, length, get_or-set_other, Bool, true, false, ◌&&◌, not, true≢false, Option, Some, None, slice_get, slice_set, ◌⊎◌, inl, inr, arith}
+use Rattle.std.specs.Prelude.{option_map, eqb}
 use Rattle.std.specs.List.{list_all}
 use Rattle.std.proofs.lemmas.Bool.Decides.{eqb_tells}
 use Rattle.std.proofs.lemmas.List.{get_or-set_same, length-set}
@@ -11,12 +11,11 @@ use Rattle.ir_tree.specs.declared.value.Value.{Value}
 use Rattle.ir_tree.specs.declared.value.Value.TheVariants.{Result}
 use Rattle.ir_tree.specs.Uses.{same_value}
 use Rattle.ir_tree.specs.Meaning.{Operation}
-use Rattle.ir_tree.proofs.Replaced.{same_value_true}
 use Rattle.ir_tree_laws.specs.Members.{In}
 use Rattle.ir_tree_laws.specs.Values.{type_of_value}
 use Rattle.patterns_check.specs.Outcomes.{Outcome, given}
 use Rattle.patterns_book.specs.declared.pattern.New.{New}
-use Rattle.patterns_book.specs.Matching.{Header, Standing, all_bound, bound, bound_over, nothing, standing, type_at, types_at, when}
+use Rattle.patterns_book.specs.Matching.{Header, Standing, all_bound, bound, bound_over, standing, type_at, types_at, when}
 use Rattle.patterns_book.specs.Planning.{all_made, and_more, made_as, values_at}
 use Rattle.patterns_book.proofs.Standing.{all_keep}
 

@@ -9,7 +9,7 @@ use Rattle.ir_tree.specs.Tree.{head}
 use Rattle.ir_tree.specs.Ids.{find}
 use Rattle.ir_tree.specs.Uses.{same_value}
 use Rattle.ir_tree.specs.Meaning.{Operation}
-use Rattle.dialects_int.specs.Folds.{Known, fold_of}
+use Rattle.dialects_int.specs.Folds.{fold_of}
 use Rattle.patterns_base.specs.Words.{named}
 use Rattle.patterns_base.specs.Keeps.{given as given_base}
 use Rattle.patterns_base.specs.Looks.{is_constant, is_of_constant}
@@ -20,7 +20,7 @@ use Rattle.patterns_check.specs.Outcomes.{given, run}
 use Rattle.patterns_book.specs.declared.pattern.Piece.{Piece}
 use Rattle.patterns_book.specs.Fitting.{content_with, fits}
 use Rattle.patterns_book.specs.Matching.{Header, Standing, bound, giver_head, header_matched, known, nothing, pieces_matched, placed, standing, value_matched, when}
-use Rattle.patterns_book.specs.Planning.{Plan, constants_known, kind_standing, known_at, old_place, outcomes, places, planned, planned_by, planned_from, typed}
+use Rattle.patterns_book.specs.Planning.{Plan, kind_standing, old_place, outcomes, places, planned, planned_by, planned_from, typed}
 use Rattle.patterns_book.specs.Shapes.{Shape}
 use Rattle.patterns_book.proofs.Standing.{pieces_stand}
 use Rattle.patterns_matched.specs.Built.{plan_of}
@@ -127,7 +127,7 @@ module _ (t : Operation) (clean : Header → Bool) where
     abbrev behind_types : Standing Value → Option Plan
     behind_types c = given (typed t clean n p c) (planned_by t clean n p c)
 
-    planned_is : planned t clean n p x ≡ given (bound same_value p.root (Result x 0) (nothing (places p))) (λ b. given (pieces_matched t clean (placed (old_place p) p.old) b) (λ c. given (typed t clean n p c) (planned_by t clean n p c)))
+    pub planned_is : planned t clean n p x ≡ given (bound same_value p.root (Result x 0) (nothing (places p))) (λ b. given (pieces_matched t clean (placed (old_place p) p.old) b) (λ c. given (typed t clean n p c) (planned_by t clean n p c)))
     unfolding planned
     planned_is = refl
 

@@ -1,6 +1,6 @@
 -- From what stands to a plan.
-use Rattle.std.proofs.Common.{◌≡◌, ℕ, zero, suc, ◌+◌, ◌≤◌, ◌<◌, refl, ap, sym, ◌∙◌, subst, List, [], ◌∷◌, ◌++◌, length, take, drop, map, Bool, true, false, ◌&&◌, true≢false, Option, Some, None, arith}
-use Rattle.std.specs.Prelude.{option_map, IfSome}
+use Rattle.std.proofs.Common.{append_assoc, ◌≡◌, ℕ, zero, suc, refl, ap, sym, ◌∙◌, subst, List, [], ◌∷◌, ◌++◌, length, take, drop, map, Bool, true, false, ◌&&◌, true≢false, Option, Some, None, arith}
+use Rattle.std.specs.Prelude.{option_map}
 use Rattle.ir_types.specs.Things.{Things}
 use Rattle.ir_types.specs.Terms.{TypeTerm}
 use Rattle.ir_types.specs.declared.bits.BitsKind.{BitsKind}
@@ -19,16 +19,12 @@ use Rattle.patterns_book.specs.Planning.{Plan, all_made, constants_known, furthe
 use Rattle.patterns_book.specs.Shapes.{Shape}
 use Rattle.patterns_matched.specs.Built.{AreAllMade, as_operands, made_in, operand_in, operands_in}
 use Rattle.patterns_matched.specs.Stands.{Stands}
-use Rattle.patterns_matched.specs.Types.{AreTypesOf, TypeIsOf, type_in, typed_over, types_in, written_of}
+use Rattle.patterns_matched.specs.Types.{AreTypesOf, type_in, typed_over, types_in, written_of}
 use Rattle.patterns_matched.specs.declared.built.Made.{Made}
 use Rattle.patterns_matched.specs.declared.built.Operand.{Operand}
 use Rattle.patterns_matched.specs.declared.types.BoundType.{BoundType}
 use Rattle.patterns_matched.proofs.Additions.{as_values, value_standing}
 use Rattle.patterns_matched.proofs.Binding.{stands_no, stands_yes}
-
-joined : {X : Type 0} (xs : List X) (x : X) (ys : List X) → (xs ++ x ∷ []) ++ ys ≡ xs ++ x ∷ ys
-joined [] x ys = refl
-joined (y ∷ xs) x ys = ap (λ z. y ∷ z) (joined xs x ys)
 
 -- what was lent whole is whole again
 pub whole_again : {X : Type 0} (len : ℕ) (new old : List X) → length new ≡ len → take len (new ++ drop (length new) old) ≡ new
@@ -47,7 +43,7 @@ module _ (c : Things) (ts : List (Option BoundType)) (t : Option BoundType) (res
   pub kinds_more : (ks after : List BitsKind) (k : BitsKind) → after ≡ ks ++ k ∷ [] → k ≡ kind_standing (option_map (type_in c) t) → (total : List BitsKind) → ks ++ map kind_standing (types_in c ts) ≡ total → after ++ map kind_standing (types_in c rest) ≡ total
   kinds_more ks after k push is total same =
       ap (λ z. z ++ map kind_standing (types_in c rest)) (push ∙ ap (λ z. ks ++ z ∷ []) is)
-      ∙ joined ks (kind_standing (option_map (type_in c) t)) (map kind_standing (types_in c rest))
+      ∙ append_assoc ks (kind_standing (option_map (type_in c) t) ∷ []) (map kind_standing (types_in c rest))
       ∙ ap (λ z. ks ++ map kind_standing (types_in c z)) (sym split) ∙ same
 
 -- ---- types that are written

@@ -1,6 +1,5 @@
 -- The kinds of types.
-use Rattle.std.proofs.Common.{◌≡◌, ℕ, refl, ap, sym, ◌∙◌, Bool, true, false, ◌&&◌, Option, Some, None}
-use Rattle.std.specs.Prelude.{◌==◌, option_map, IfSome}
+use Rattle.std.proofs.Common.{◌≡◌, ℕ, refl, ap, sym, true, false, Some, None}
 use Rattle.ir_types.specs.declared.bits.BitsKind.{BitsKind}
 use Rattle.ir_types.specs.declared.bits.BitsKind.TheVariants as kind
 use Rattle.ir_types.specs.declared.node.Sign.TheVariants.{Signless, Signed, Unsigned}

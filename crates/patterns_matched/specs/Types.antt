@@ -1,5 +1,5 @@
 -- The types that stand for those of a pattern, in a context.
-use Rattle.std.specs.Prelude.{ℕ, List, Bool, false, map, Option, Some, None, option_map, IfSome}
+use Rattle.std.specs.Prelude.{List, Bool, false, map, Option, Some, None, option_map, IfSome}
 use Rattle.std.specs.List.{All}
 use Rattle.ir_types.specs.declared.bits.BitsKind.{BitsKind}
 use Rattle.ir_types.specs.Bits.{type_of}

@@ -1,5 +1,5 @@
 -- No edit of a pattern is refused for a reason.
-use Rattle.std.proofs.Common.{◌≡◌, ℕ, zero, suc, ◌+◌, ◌-◌, ◌≤◌, ◌<◌, refl, ap, sym, ◌∙◌, subst, List, [], ◌∷◌, ◌++◌, length, map, Bool, true, false, ◌&&◌, not, leb-true, le-leb, eqb-true, Option, Some, None, slice_get, if◌then◌else◌, inl, inr, arith}
+use Rattle.std.proofs.Common.{◌≡◌, ℕ, zero, suc, ◌+◌, ◌-◌, ◌≤◌, ◌<◌, refl, ap, sym, ◌∙◌, subst, List, [], ◌∷◌, ◌++◌, length, map, Bool, true, false, ◌&&◌, leb-true, eqb-true, Option, Some, None, slice_get, if◌then◌else◌, inl, inr, arith}
 use Rattle.std.specs.Prelude.{codes, eqb, nat_le, option_map, option_and_then}
 use Rattle.std.specs.List.{list_all, range_with_len}
 use Rattle.std.proofs.lemmas.Option.{slice_get-map, slice_get_within}
@@ -22,7 +22,6 @@ use Rattle.ir_tree.proofs.Replaced.{same_value_true}
 use Rattle.ir_tree_laws.specs.Values.{type_of_value}
 use Rattle.ir_tree_laws.proofs.Listed.{both}
 use Rattle.ir_event.specs.Modules.{Module}
-use Rattle.dialects_int.specs.Folds.{Known}
 use Rattle.rewriter_machine.specs.Contents.{Edit, all_edited, edited}
 use Rattle.rewriter_machine.specs.Edits.{Make}
 use Rattle.patterns_edits.specs.Lists.{Free}
@@ -31,7 +30,7 @@ use Rattle.patterns_edits.proofs.Plans.{StandsAt, sees}
 use Rattle.patterns_base.specs.Keeps.{given as given_base}
 use Rattle.patterns_base.specs.Looks.{front_of, is_clean}
 use Rattle.patterns_base.specs.Looks as looks
-use Rattle.patterns_base.specs.Made.{Entries, constant, flags, made, predicate_entry, value_entry}
+use Rattle.patterns_base.specs.Made.{Entries, flags, made, value_entry}
 use Rattle.patterns_base.specs.Makes.{give, made_by}
 use Rattle.patterns_base.specs.Words.{among, flagged}
 use Rattle.patterns_base.specs.Rewrites.{becomes, carried_out, refused}
@@ -47,13 +46,14 @@ use Rattle.patterns_book.specs.declared.pattern.Form.{Form}
 use Rattle.patterns_book.specs.declared.pattern.Form.TheVariants as form
 use Rattle.patterns_book.specs.declared.pattern.Piece.{Piece}
 use Rattle.patterns_book.specs.Fitting.{content_with, fits}
-use Rattle.patterns_book.specs.Matching.{Header, Standing, bound, nothing, pieces_matched, placed, standing, types_at, when, written}
+use Rattle.patterns_book.specs.Matching.{Header, Standing, bound, nothing, pieces_matched, placed, standing, types_at, written}
 use Rattle.patterns_book.specs.Names.{name_of, operands_of, predicate_of}
-use Rattle.patterns_book.specs.Planning.{Plan, all_made, constants_known, entries_by, further_known, further_place, kind_standing, made_as, new_place, old_place, outcomes, places, planned, planned_by, planned_from, typed, values_at}
+use Rattle.patterns_book.specs.Planning.{Plan, all_made, constants_known, entries_by, further_known, further_place, kind_standing, made_as, new_place, old_place, outcomes, places, planned, typed, values_at}
 use Rattle.patterns_book.specs.Shapes.{Shape}
 use Rattle.patterns_matched.specs.Built.{plan_of}
-use Rattle.patterns_matched.specs.Makeable.{given_type, is_makeable, is_named, last_type, new_type, operand_places, result_type, root_type, same_number, spares}
+use Rattle.patterns_matched.specs.Makeable.{given_type, is_makeable, is_named, last_type, new_type, result_type, root_type, same_number, spares}
 use Rattle.patterns_matched.proofs.Found.{bound_at, bound_from, given_is, made_many, some_is, standing_is, stands_there, types_hold, types_keep, values_many, values_pass, when_is}
+use Rattle.patterns_matched.proofs.Ordered.{planned_is}
 use Rattle.patterns_own.specs.Own.{OwnAreAccepted, edits_for, is_one, own_edits}
 use Rattle.patterns_own.proofs.Seen.{Sees, begins, pieces_see, stands}
 
@@ -264,10 +264,6 @@ record Parts (t : Operation) (clean : Header → Bool) (n : ℕ) (p : Shape) (x 
   result : Value
   gives : standing p.result made.1 ≡ Some result
   plan : r ≡ (made.0, result)
-
-planned_is : (t : Operation) (clean : Header → Bool) (n : ℕ) (p : Shape) (x : ℕ) → planned t clean n p x ≡ given (bound same_value p.root (Result x 0) (nothing (places p))) (λ b. given (pieces_matched t clean (placed (old_place p) p.old) b) (λ c. given (typed t clean n p c) (planned_by t clean n p c)))
-unfolding planned
-planned_is t clean n p x = refl
 
 parts : (t : Operation) (clean : Header → Bool) (n : ℕ) (p : Shape) (x : ℕ) (r : Plan) → planned t clean n p x ≡ Some r → Parts t clean n p x r
 parts t clean n p x r e =

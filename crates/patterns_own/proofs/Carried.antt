@@ -1,6 +1,6 @@
 -- What carrying out a plan comes to.
-use Rattle.std.proofs.Common.{◌≡◌, refl, ap, sym, ◌∙◌, subst, ℕ, suc, List, [], ◌∷◌, length, map, Option, Some, None, inl, inr}
-use Rattle.ir_types.specs.Things.{Things}
+use Rattle.std.proofs.Common.{◌≡◌, ap, sym, ◌∙◌, subst, ℕ, List, length, map, Option, Some, None, inl, inr}
+use Rattle.std.proofs.lemmas.List.{length-map}
 use Rattle.ir_types.specs.declared.refusal.Refusal.{Refusal}
 use Rattle.ir_types.specs.declared.refusal.Refusal.TheVariants.{Memory}
 use Rattle.ir_event.specs.Modules.{Module, module_in}
@@ -15,15 +15,10 @@ use Rattle.patterns.specs.Applied.{limit_reason}
 use Rattle.patterns.specs.Planned.{IsFree, IsStopped}
 use Rattle.patterns.proofs.Applying.{same_module}
 use Rattle.patterns.proofs.Carrying.{limited, unlimited}
-use Rattle.patterns_matched.specs.Built.{made_in, operand_in, plan_in}
-use Rattle.patterns_matched.specs.declared.built.Made.{Made}
+use Rattle.patterns_matched.specs.Built.{made_in, operand_in}
 use Rattle.patterns_own.specs.Planned.{planned_edits}
 use Rattle.patterns_own.specs.declared.find.Planned.{Planned}
 use Rattle.patterns_own.proofs.Accepted.{many_made}
-
-many_mapped : {X Y : Type 0} (f : X → Y) (xs : List X) → length (map f xs) ≡ length xs
-many_mapped f [] = refl
-many_mapped f (x ∷ xs) = ap (λ n. suc n) (many_mapped f xs)
 
 module _ (w : World) (h : Held) (ctx : w.ctx ≡ h.ctx) (store : w.store ≡ h.store) (x : ℕ) (p : Planned) where
   same : module_in w ≡ module_held h
@@ -33,7 +28,7 @@ module _ (w : World) (h : Held) (ctx : w.ctx ≡ h.ctx) (store : w.store ≡ h.s
   es = planned_edits h.ctx (module_held h).next x p
 
   makes : made_by es ≡ length p.built.made.items
-  makes = many_made p.front (map (made_in h.ctx (module_held h).next) p.built.made.items) x (operand_in (module_held h).next p.built.result) ∙ many_mapped (made_in h.ctx (module_held h).next) p.built.made.items
+  makes = many_made p.front (map (made_in h.ctx (module_held h).next) p.built.made.items) x (operand_in (module_held h).next p.built.result) ∙ length-map p.built.made.items (made_in h.ctx (module_held h).next)
 
   pub was_limited : (k : ℕ) (r : Refusal) (reason : Option Refusal) → k ≡ length p.built.made.items → reason ≡ limit_reason k (module_in w) → reason ≡ Some r → IsStopped (planned_edits h.ctx (module_held h).next x p) (module_held h) h.ctx r
   was_limited k r reason count is due = inr (inl (limited es (module_held h) k r (makes ∙ sym count) (ap (limit_reason k) (sym same) ∙ sym is ∙ due)))

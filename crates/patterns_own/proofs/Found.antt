@@ -1,5 +1,5 @@
 -- The edits of a pattern, by what is shown of an operation.
-use Rattle.std.proofs.Common.{◌≡◌, refl, ap, sym, ◌∙◌, subst, ℕ, List, Bool, true, false, Option, Some, None, option_map}
+use Rattle.std.proofs.Common.{◌≡◌, refl, ap, sym, ◌∙◌, subst, ℕ, Bool, true, false, Option, Some, None, option_map}
 use Rattle.ir_types.specs.Things.{Things}
 use Rattle.ir_tree.specs.declared.place.Place.{Place}
 use Rattle.ir_tree.specs.Tree.{head}
@@ -7,7 +7,6 @@ use Rattle.ir_tree.specs.Ids.{find}
 use Rattle.ir_tree.specs.Meaning.{Operation}
 use Rattle.ir_event.specs.Modules.{Module, module_in}
 use Rattle.ir_event.specs.declared.world.World.{World}
-use Rattle.patterns_runs.specs.Contents.{Edit}
 use Rattle.patterns_runs.specs.Held.{Held, module_held}
 use Rattle.patterns_base.specs.Keeps.{given}
 use Rattle.patterns_base.specs.Looks.{Header, front_of, is_clean, when}

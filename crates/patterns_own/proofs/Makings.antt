@@ -1,12 +1,10 @@
 -- Edits by which operations are made, while a context grows.
-use Rattle.std.proofs.Common.{◌≡◌, ℕ, suc, ◌+◌, ◌-◌, ◌≤◌, ◌<◌, refl, ap, sym, ◌∙◌, subst, List, [], ◌∷◌, ◌++◌, length, take, drop, take_all, slice_index_or, map, ◌&&◌, Bool, true, false, Option, Some, None, lt-ltb, arith}
-use Rattle.std.specs.List.{All}
+use Rattle.std.proofs.Common.{append_assoc, append-nil, ◌≡◌, ℕ, suc, ◌<◌, refl, ap, sym, ◌∙◌, subst, List, [], ◌∷◌, ◌++◌, length, slice_index_or, map, ◌&&◌, true, false, Option, Some, None, lt-ltb, arith}
 use Rattle.ir_types.specs.Things.{Things, Grows}
 use Rattle.std.specs.Prelude.{codes, if◌then◌else◌}
 use Rattle.ir_types.specs.Terms.{TypeTerm, AttrTerm, Overflow, type_term, name_term, attr_term}
 use Rattle.ir_types.specs.Sound.{Holds}
 use Rattle.ir_types.specs.WordNames.{word_bytes}
-use Rattle.ir_types.specs.declared.word.Word.{Word}
 use Rattle.ir_tree.specs.declared.place.Place.{Place}
 use Rattle.ir_tree.specs.declared.value.Value.{Value}
 use Rattle.ir_tree.specs.declared.value.Value.TheVariants.{Result}
@@ -138,14 +136,6 @@ making_stands a b c m front n ty name entry before t named e o is =
 
 -- ---- one after another
 
-pub from_item : {X : Type 0} (xs : List X) (x d : X) → 1 ≤ length xs → x ≡ slice_index_or xs 0 d → xs ≡ x ∷ take (length xs - 1) (drop 1 xs)
-from_item [] x d l e = absurd (omega (arith, l))
-from_item (y ∷ ys) x d l e = λ i. sym e i ∷ sym (take_all (length (y ∷ ys) - 1) ys (omega arith)) i
-
-joined : {X : Type 0} (xs : List X) (x : X) (ys : List X) → (xs ++ x ∷ []) ++ ys ≡ xs ++ x ∷ ys
-joined [] x ys = refl
-joined (y ∷ xs) x ys = ap (λ z. y ∷ z) (joined xs x ys)
-
 module _ {B : Type 0} (means : B → Listener) (next : ℕ) (front : Place) (all : List Made) (old : Benched B) where
   -- some are made, and the others are left
   pub record Making (rest : List Made) (now : Benched B) (edits : List Coded) : Type 0 where
@@ -177,15 +167,11 @@ module _ {B : Type 0} (means : B → Listener) (next : ℕ) (front : Place) (all
         fit = fit;
         left =
             (λ i. is i ++ makings_stay now.desk.ctx after.desk.ctx g next front rest of i)
-            ∙ joined (edits_meaning now.desk.ctx edits) (edit.Make front (made_in now.desk.ctx next m)) (makings now.desk.ctx next front rest) ∙ s.left;
+            ∙ append_assoc (edits_meaning now.desk.ctx edits) (edit.Make front (made_in now.desk.ctx next m) ∷ []) (makings now.desk.ctx next front rest) ∙ s.left;
       }
 
-  end_empty : (xs : List Edit) → xs ++ [] ≡ xs
-  end_empty [] = refl
-  end_empty (x ∷ xs) = ap (λ z. x ∷ z) (end_empty xs)
-
   pub making_done : (rest : List Made) (now : Benched B) (edits : List Coded) → length rest < 1 → Making rest now edits → edits_meaning now.desk.ctx edits ≡ makings old.desk.ctx next front all
-  making_done [] now edits l s = sym (end_empty (edits_meaning now.desk.ctx edits)) ∙ s.left
+  making_done [] now edits l s = sym (append-nil (edits_meaning now.desk.ctx edits)) ∙ s.left
   making_done (m ∷ rest) now edits l s = absurd (omega (arith, l))
 
 -- ---- what is given

@@ -1,5 +1,5 @@
 -- An operation sees what a pattern matches from it.
-use Rattle.std.proofs.Common.{◌≡◌, ℕ, refl, ap, sym, ◌∙◌, subst, List, [], ◌∷◌, Bool, true, false, ◌&&◌, Option, Some, None, slice_get, inl, inr}
+use Rattle.std.proofs.Common.{◌≡◌, ℕ, refl, ap, sym, ◌∙◌, subst, List, [], ◌∷◌, Bool, true, ◌&&◌, Option, Some, None, slice_get, inl, inr}
 use Rattle.std.specs.Prelude.{eqb, option_map}
 use Rattle.ir_types.specs.Words.{is_isolated}
 use Rattle.ir_tree.specs.declared.value.Value.{Value}
@@ -28,7 +28,7 @@ use Rattle.patterns_book.specs.Names.{name_of, operands_of}
 use Rattle.patterns_book.specs.declared.pattern.Piece.{Piece}
 use Rattle.patterns_book.proofs.Standing.{all_keep}
 use Rattle.patterns_base.specs.Words.{named}
-use Rattle.patterns_matched.proofs.Found.{all_from, bound_at, bound_from, given_is, one_or_not, some_is, standing_is, stands_there, when_is}
+use Rattle.patterns_matched.proofs.Found.{all_from, bound_at, bound_from, given_is, one_or_not, some_is, standing_is, when_is}
 
 module _ (m : Module) (x : ℕ) (formed : IsWellFormed is_isolated m) where
   -- it stands behind the place in front of it

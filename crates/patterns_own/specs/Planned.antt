@@ -4,7 +4,6 @@ use Rattle.ir_types.specs.Things.{Things}
 use Rattle.ir_types.specs.Terms.{AttrTerm, type_term}
 use Rattle.ir_types.specs.WordNames.{word_bytes}
 use Rattle.ir_tree.specs.declared.place.Place.{Place}
-use Rattle.ir_tree.specs.Meaning.{Operation}
 use Rattle.patterns_runs.specs.Contents.{Edit, edit_meaning}
 use Rattle.patterns_runs.specs.Lists.{Fits, numbered}
 use Rattle.patterns_runs.specs.declared.edit.Edit.{Edit as Coded}

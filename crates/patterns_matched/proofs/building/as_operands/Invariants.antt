@@ -1,4 +1,4 @@
-use Rattle.std.proofs.Common.{length, ℕ, ◌++◌, ◌≡◌}
+use Rattle.std.proofs.Common.{length, ◌++◌, ◌≡◌}
 use Rattle.patterns_matched.specs.Built.{as_operands}
 use Rattle.patterns_matched.proofs.building.as_operands.Given as goal
 

@@ -1,4 +1,4 @@
-use Rattle.std.proofs.Common.{refl, ◌+◌, None}
+use Rattle.std.proofs.Common.{refl, ◌+◌}
 use Rattle.ir_tree.specs.declared.value.Value.TheVariants.{Result}
 use Rattle.ir_tree.specs.Uses.{same_value}
 use Rattle.patterns_matched.specs.Built.{operand_in}

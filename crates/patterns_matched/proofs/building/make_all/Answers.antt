@@ -1,4 +1,4 @@
-use Rattle.std.proofs.Common.{◌∙◌, refl, sym, arith, length, map}
+use Rattle.std.proofs.Common.{◌∙◌, refl, sym, arith, map}
 use Rattle.dialects_int.specs.Folds.{known_of}
 use Rattle.patterns_matched.specs.Types.{types_in}
 use Rattle.patterns_matched.proofs.Additions.{goes_on, names_left, stops}

@@ -1,4 +1,4 @@
-use Rattle.std.proofs.Common.{ap, sym, ◌∙◌, map}
+use Rattle.std.proofs.Common.{map}
 use Rattle.dialects_int.specs.Folds.{known_of}
 use Rattle.patterns_matched.proofs.Additions.{constant_untyped}
 use Rattle.patterns_matched.proofs.building.make_constant.Goals as goal

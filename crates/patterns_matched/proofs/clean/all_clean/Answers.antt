@@ -1,4 +1,4 @@
-use Rattle.std.proofs.Common.{◌-◌, arith}
+use Rattle.std.proofs.Common.{arith}
 use Rattle.ir_event.specs.Modules.{module_in}
 use Rattle.patterns_base.specs.Looks.{is_clean}
 use Rattle.patterns_matched.proofs.Backwards.{clean_goes, clean_stops, some_piece}

@@ -1,4 +1,4 @@
-use Rattle.std.proofs.Common.{◌-◌, arith}
+use Rattle.std.proofs.Common.{arith}
 use Rattle.ir_event.specs.Modules.{module_in}
 use Rattle.patterns_matched.proofs.Backwards.{pieces_go, pieces_stop}
 use Rattle.patterns_matched.proofs.pieces.match_all.Goals as goal

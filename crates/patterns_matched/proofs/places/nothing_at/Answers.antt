@@ -1,4 +1,4 @@
-use Rattle.std.proofs.Common.{◌≡◌, ap, sym, ◌∙◌, ◌+◌, length, arith}
+use Rattle.std.proofs.Common.{◌≡◌, ap, ◌∙◌, ◌+◌, length, arith}
 use Rattle.patterns_book.specs.Matching.{nothing}
 use Rattle.patterns_matched.proofs.Placed.{nothing_five}
 use Rattle.patterns_matched.proofs.places.nothing_at.Goals as goal

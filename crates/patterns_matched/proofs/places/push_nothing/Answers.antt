@@ -1,4 +1,4 @@
-use Rattle.std.proofs.Common.{◌≡◌, ap, sym, ◌∙◌, suc, ◌-◌, ◌++◌, arith}
+use Rattle.std.proofs.Common.{ap, ◌∙◌, ◌-◌, ◌++◌}
 use Rattle.patterns_book.specs.Matching.{nothing}
 use Rattle.patterns_matched.proofs.Placed.{one_nothing}
 use Rattle.patterns_matched.proofs.places.push_nothing.Goals as goal

@@ -1,4 +1,4 @@
-use Rattle.std.proofs.Common.{length, ◌++◌, ◌≡◌}
+use Rattle.std.proofs.Common.{◌++◌, ◌≡◌}
 use Rattle.patterns_book.specs.Matching.{nothing}
 use Rattle.patterns_matched.proofs.places.push_nothing.Given as goal
 

@@ -1,4 +1,4 @@
-use Rattle.std.proofs.Common.{ap, sym, ◌∙◌, ◌+◌, ◌≡◌, Some, length, map, arith, rules}
+use Rattle.std.proofs.Common.{ap, sym, ◌∙◌, ◌+◌, ◌≡◌, Some, map, arith}
 use Rattle.std.specs.Prelude.{option_map}
 use Rattle.ir_event.specs.Modules.{module_in}
 use Rattle.dialects_int.specs.Folds.{known_of}

@@ -1,4 +1,4 @@
-use Rattle.std.proofs.Common.{◌≡◌, ℕ, ap, sym, ◌∙◌, Some, None}
+use Rattle.std.proofs.Common.{ℕ, ap, sym, ◌∙◌}
 use Rattle.std.specs.Prelude.{option_map}
 use Rattle.std.specs.List.{list_all}
 use Rattle.ir_event.specs.Modules.{module_in}
@@ -6,7 +6,7 @@ use Rattle.patterns_base.specs.Looks.{is_clean}
 use Rattle.patterns_book.specs.Matching.{placed, standing}
 use Rattle.patterns_book.specs.Planning.{planned_by, typed}
 use Rattle.patterns_book.specs.Shapes.{shape}
-use Rattle.patterns_matched.specs.Matched.{all_clean, any, is_constant_value, matched}
+use Rattle.patterns_matched.specs.Matched.{all_clean, is_constant_value}
 use Rattle.patterns_matched.specs.Types.{types_in}
 use Rattle.patterns_matched.proofs.Ordered.{makes, not_clean, not_constants, not_matched, not_typed}
 use Rattle.patterns_matched.proofs.plan.plan.Goals as goal

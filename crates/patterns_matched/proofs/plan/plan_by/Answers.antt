@@ -1,4 +1,4 @@
-use Rattle.std.proofs.Common.{ap, sym, ◌∙◌, map}
+use Rattle.std.proofs.Common.{ap, ◌∙◌, map}
 use Rattle.ir_event.specs.Modules.{module_in}
 use Rattle.dialects_int.specs.Folds.{known_of}
 use Rattle.patterns_base.specs.Looks.{is_clean}

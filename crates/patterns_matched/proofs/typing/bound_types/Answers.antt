@@ -2,7 +2,7 @@ use Rattle.std.proofs.Common.{ap, map, sym, ◌∙◌, subst, arith}
 use Rattle.ir_event.specs.Modules.{module_in}
 use Rattle.patterns_base.specs.Looks.{is_clean}
 use Rattle.patterns_book.specs.Shapes.{shape}
-use Rattle.patterns_matched.specs.Types.{AreTypesOf, types_in, written_of}
+use Rattle.patterns_matched.specs.Types.{AreTypesOf, written_of}
 use Rattle.patterns_matched.proofs.Planned.{typed_shown, untyped_plan, whole_again, written_are}
 use Rattle.patterns_matched.proofs.typing.bound_types.Goals as goal
 

@@ -1,4 +1,3 @@
-use Rattle.std.proofs.Common.{refl}
 use Rattle.patterns_matched.proofs.Additions.{from_item}
 use Rattle.patterns_matched.proofs.Planned.{kinds_more, types_left}
 use Rattle.patterns_matched.proofs.typing.kinds_of.Goals as goal

@@ -1,7 +1,8 @@
 use Rattle.std.proofs.Common.{List, subst}
 use Rattle.patterns.proofs.Adding.{added_on}
 use Rattle.patterns_matched.specs.declared.built.Made.{Made}
-use Rattle.patterns_own.proofs.Makings.{Making, from_item, making_done, making_more, making_none}
+use Rattle.patterns_matched.proofs.Additions.{from_item}
+use Rattle.patterns_own.proofs.Makings.{Making, making_more, making_none}
 use Rattle.patterns_own.proofs.edits.all_makings.Goals as goal
 
 pub made-init : goal.made-init

@@ -1,4 +1,3 @@
-use Rattle.std.proofs.Common.{refl}
 use Rattle.patterns.proofs.Adding.{added_none}
 use Rattle.patterns_own.proofs.intern.type_number.Goals as goal
 
