@@ -10,6 +10,7 @@ use Rattle.dialects_int.specs.declared.operations.Cast.{Cast}
 use Rattle.dialects_int.specs.declared.operations.Cast.TheVariants as cast
 use Rattle.dialects_int.specs.declared.operations.Predicate.{Predicate}
 use Rattle.patterns_spelled.specs.Grammar.{most}
+use Rattle.patterns_spelled.specs.Heads.{Written, integer_type, index_type, type_word}
 use Rattle.patterns_text.specs.Parts.{Part, operation_part, value_part, literal_part, name_part, function_part, condition_part, type_part, end_part, Placed, Pattern}
 use Rattle.patterns_text.specs.Refusing.{Outcome, ◌>>=◌, refused}
 use Rattle.patterns_book.specs.declared.pattern.Kind.{Kind}
@@ -102,9 +103,10 @@ types_of f = record { kinds = f.kinds; named = f.named }
 abbrev pub with_types : Forming → Types → Forming
 with_types f s = record f { kinds = s.kinds; named = s.named }
 
--- a literal is one of a type, where that is known
-abbrev pub is_of : Option (Bool × ℕ) → Kind → Bool
-is_of (Some l) (ty.Fixed k) = is_some (bits_with (k ∷ []) (record { negative = l.0; magnitude = l.1; ty = 0 }))
+-- a literal is one of a type that is written
+abbrev pub is_of : Option (Bool × ℕ) → Option Written → Bool
+is_of (Some l) (Some (integer_type n)) = is_some (bits_with (bits.Int n ∷ []) (record { negative = l.0; magnitude = l.1; ty = 0 }))
+is_of (Some l) (Some index_type) = is_some (bits_with (bits.Index ∷ []) (record { negative = l.0; magnitude = l.1; ty = 0 }))
 is_of _ _ = true
 
 abbrev pub with_slot : Forming → ℕ × Types → ℕ × Forming
@@ -114,12 +116,12 @@ abbrev pub written_at : List ℕ → Forming → ℕ × Forming
 written_at w f = with_slot f (written w (types_of f))
 
 -- the type that is written is a term's, of which a literal has to be
-abbrev pub typed_as : Option (Bool × ℕ) → ℕ → ℕ → ℕ × Forming → Outcome Forming
-typed_as l slot at x = if is_of l (kind_of x.0 x.1.kinds) then unite slot x.0 at x.1 else refused BadValue at
+abbrev pub typed_as : Option (Bool × ℕ) → ℕ → ℕ → List ℕ → Forming → Outcome Forming
+typed_as l slot at w f = if is_of l (type_word w) then unite slot (written_at w f).0 at (written_at w f).1 else refused BadValue at
 
 -- a term behind which a type may be written
 unfoldable pub typed : Option (Bool × ℕ) → ℕ → ℕ → State → Outcome State
-typed l slot at ((left, type_part w) ∷ ps, f) = typed_as l slot at (written_at w f) >>= λ g. Ok (ps, g)
+typed l slot at ((left, type_part w) ∷ ps, f) = typed_as l slot at w f >>= λ g. Ok (ps, g)
 typed l slot at s = Ok s
 
 -- ---- lists up to an end

@@ -3,10 +3,11 @@ ghost use Rattle.std.specs.Prelude.{◌≡◌, ◌+◌, map, length, IfOk, OnOk,
 ghost use Rattle.patterns_text.specs.Parts.{part_view};
 ghost use Rattle.patterns_text.specs.Refusing.{Gives};
 ghost use Rattle.patterns_formed.specs.FormingViews.{forming_view, places_view};
+ghost use Rattle.patterns_formed.specs.TypeViews.{word_view};
 ghost use Rattle.patterns_formed.specs.Forming.{begun, behind_end, is_of, next_type, typed, typed_as, unite, unite_with, with_type, written_at};
 
 use crate::names::Variable;
-use crate::types::{Types, kind_of, unified, written};
+use crate::types::{Types, Word, kind_of, type_word, unified, written};
 use ir_text_tokens::refusal::TextRefusal;
 use ir_types::bits::BitsKind;
 use patterns_book::literals::bits_with;
@@ -142,13 +143,13 @@ pub(crate) fn begin_new<'a>(
     Ok(slot)
 }
 
-/// Whether a literal is one of a type, where that is known.
-fn is_of(literal: Option<Size>, kind: Kind) -> bool
-    ensures { result ≡ is_of (option_map (λ s. (s.negative, s.magnitude)) literal) kind }
+/// Whether a literal is one of a type that is written.
+fn is_of(literal: Option<Size>, word: Word<'_>) -> bool
+    ensures { result ≡ is_of (option_map (λ s. (s.negative, s.magnitude)) literal) (word_view word.entry) }
 {
     match literal {
-        Some(size) => match kind {
-            Kind::Fixed(kind) => {
+        Some(size) => match word {
+            Word::Fixed(kind) => {
                 let literal = Literal {
                     negative: size.negative,
                     magnitude: size.magnitude,
@@ -156,7 +157,7 @@ fn is_of(literal: Option<Size>, kind: Kind) -> bool
                 };
                 bits_with(&[kind], &literal).is_some()
             }
-            Kind::Variable(_) => true,
+            _ => true,
         },
         None => true,
     }
@@ -180,15 +181,15 @@ fn typed_as<'a>(
     at: usize,
     word: &'a [u8],
 ) -> Result<(), PatternError>
-    ensures { Gives (λ _. forming_view forming.new) result (typed_as (option_map (λ s. (s.negative, s.magnitude)) literal) slot at (written_at word.now (forming_view forming.old))) }
+    ensures { Gives (λ _. forming_view forming.new) result (typed_as (option_map (λ s. (s.negative, s.magnitude)) literal) slot at word.now (forming_view forming.old)) }
 {
+    if !is_of(literal, type_word(word)) {
+        return Err(refused(TextRefusal::BadValue, at));
+    }
     let found = match written_at(forming, word) {
         Ok(found) => found,
         Err(e) => return Err(e),
     };
-    if !is_of(literal, kind_of(found, &forming.types.kinds)) {
-        return Err(refused(TextRefusal::BadValue, at));
-    }
     unite(alloc, forming, slot, found, at)
 }
 

@@ -173,7 +173,7 @@ fn slot_of(name: &[u8], named: &[Named<'_>]) -> Option<usize>
 
 /// A type that is written.
 #[derive(Clone, Copy)]
-enum Word<'a> {
+pub(crate) enum Word<'a> {
     Fixed(BitsKind),
     Name(&'a [u8]),
     Nothing,
@@ -193,7 +193,7 @@ fn width_of(word: &[u8]) -> Option<u32>
 }
 
 #[tactic(auto, unfolding(patterns_spelled::specs::Heads::type_word))]
-fn type_word(word: &[u8]) -> Word<'_>
+pub(crate) fn type_word(word: &[u8]) -> Word<'_>
     ensures { word_view result ≡ type_word word.now }
 {
     if word == b"index".as_slice() {
