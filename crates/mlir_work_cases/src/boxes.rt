@@ -48,6 +48,20 @@ fn wanted(alloc: Global, text: &str) -> Result<Plan, AllocError> {
     Ok(Plan::These(texts(alloc, text)?))
 }
 
+/// Runs whole, or, where answers have ends, so that each line is answered as soon as it is there.
+fn run_either<R: Read, W: Write, L: Analysis>(
+    alloc: Global,
+    options: Options,
+    reader: &mut R,
+    writer: &mut W,
+    boxes: Vec<L>,
+) -> u8 {
+    if options.ends {
+        return run_live(alloc, 0, options, reader, writer, boxes);
+    }
+    run(alloc, options, reader, writer, boxes)
+}
+
 /// Runs with a box for each word of a list of listeners: `uses`, or `uses:2` where it turns stale if it looks more often
 /// than twice at an event; `stale:3`, which turns stale at its third event; `hears:EVENTS`, which is to hear these, `+`
 /// between them, and turns stale at any other.
@@ -83,10 +97,7 @@ pub fn status_of<R: Read, W: Write>(
         };
         boxes.push(listener)?;
     }
-    if options.ends {
-        return Ok(run_live(alloc, 0, options, reader, writer, boxes));
-    }
-    Ok(run(alloc, options, reader, writer, boxes))
+    Ok(run_either(alloc, options, reader, writer, boxes))
 }
 
 /// So many listeners of uses.
