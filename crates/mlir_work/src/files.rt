@@ -39,7 +39,11 @@ pub(crate) fn names_any(given: &Given<'_>) -> bool {
 }
 
 /// The bytes of a file that was opened.
-fn read<'a, R: io::Read>(alloc: Global, reader: &mut R, name: &'a str) -> Result<Vec<u8>, Fault<'a>> {
+fn read<'a, R: io::Read>(
+    alloc: Global,
+    reader: &mut R,
+    name: &'a str,
+) -> Result<Vec<u8>, Fault<'a>> {
     match read_all(alloc, reader) {
         Ok(bytes) => Ok(bytes),
         Err(ReadFault::Memory) => Err(Fault::Memory),
@@ -60,7 +64,11 @@ fn text_of<'a>(rt: &HostRuntime, name: &'a str) -> Result<Vec<u8>, Fault<'a>> {
 }
 
 /// Puts the scripts of files behind others.
-fn put_files<'a>(rt: &HostRuntime, scripts: &mut Vec<Vec<u8>>, names: &[&'a str]) -> Result<(), Fault<'a>> {
+fn put_files<'a>(
+    rt: &HostRuntime,
+    scripts: &mut Vec<Vec<u8>>,
+    names: &[&'a str],
+) -> Result<(), Fault<'a>> {
     for name in names {
         let text = text_of(rt, *name)?;
         if scripts.push(text).is_err() {
@@ -71,7 +79,11 @@ fn put_files<'a>(rt: &HostRuntime, scripts: &mut Vec<Vec<u8>>, names: &[&'a str]
 }
 
 /// Puts commands behind scripts.
-fn put_commands<'a>(alloc: Global, scripts: &mut Vec<Vec<u8>>, commands: &[&'a str]) -> Result<(), Fault<'a>> {
+fn put_commands<'a>(
+    alloc: Global,
+    scripts: &mut Vec<Vec<u8>>,
+    commands: &[&'a str],
+) -> Result<(), Fault<'a>> {
     for command in commands {
         let Ok(text) = Vec::from_slice(alloc, command.as_bytes()) else {
             return Err(Fault::Memory);

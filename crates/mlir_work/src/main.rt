@@ -87,7 +87,14 @@ fn run_input<W: io::Write + Drop>(
     let mut reader = Bytes { rest: input };
     let mut writer = Watched::new(writer);
     let key = key_of(rt);
-    Ok(run_watched(rt.alloc(), key, options, &mut reader, &mut writer, listeners))
+    Ok(run_watched(
+        rt.alloc(),
+        key,
+        options,
+        &mut reader,
+        &mut writer,
+        listeners,
+    ))
 }
 
 /// Runs what the command line names, and gives the status.
