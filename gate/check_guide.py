@@ -86,6 +86,7 @@ COMMANDS = {
     "tr '\\n' ' '": Typed('"a"() : () -> () "b"() : () -> () ', given='"a"() : () -> ()\n"b"() : () -> ()\n'),
     "(head -c 28 FILE; echo x) | LC_ALL=C awk 'END { print NR, length($0) }'": Typed("1 29\n"),
     "tr -d '\\r' <FILE": Typed("// What is known"),
+    "./run --brief examples/fold.mlir -s examples/fold.script -e 'report dead' -e print": Typed("func.return"),
 }
 
 
