@@ -3,7 +3,6 @@ use Rattle.std.proofs.Common.{◌≡◌, refl, ap, sym, ◌∙◌, ◌⊎◌, in
 use Rattle.std.specs.Prelude.{IfOk, IfErr, OnErr}
 use Rattle.ir_types.specs.declared.refusal.Refusal.{Refusal}
 use Rattle.ir_types.specs.declared.refusal.Refusal.TheVariants.{BadLimit, Full, Memory}
-use Rattle.ir_tree.proofs.Returns.{bool_cases}
 use Rattle.ir_event.specs.Listener.{Listener}
 use Rattle.ir_event.specs.Modules.{Module}
 use Rattle.rewriter_machine.specs.Machine.{State, Answer, Change, Reply, DoneWith, Refused, Nothing, due, due_change, IsAnswer, IsFullSo}
@@ -15,6 +14,7 @@ use Rattle.greedy.specs.declared.outcome.Outcome.{Outcome as Ended}
 use Rattle.greedy.specs.declared.outcome.Outcome.TheVariants.{Converged, Limit}
 use Rattle.greedy.specs.Outcomes.{count_of, ending_of, is_limit, IsCanonical, IsReason}
 use Rattle.greedy.specs.Changes.{outcome_of, made_of, canonicalizing, outcome_meaning, canonical_reply}
+use Rattle.std.proofs.lemmas.Bool.{cases_Bool}
 
 outcomes : (o : Ended) → outcome_of (count_of o) (ending_of o) ≡ outcome_meaning o
 outcomes (Converged k) = refl
@@ -37,7 +37,7 @@ module _ (limit : ℕ) (s t : State) (marks : t.marks ≡ s.marks) where
   refused_answer e k h = inl ((λ i. record { reply = Refused e; shows = Nothing; held = h i; marks = marks i }) ∙ sym (ap (λ (r : Canonical). due_change (made_of r) s) k))
 
   pub err_answer : (e : Refusal) (full : Type 0) → IsReason limit s.held full e → t.held ≡ s.held → IsAnswer s (Change (canonicalizing limit)) (record { reply = Refused e; shows = Nothing; held = t.held; marks = t.marks })
-  err_answer e full why h = elim (bool_cases (is_limit limit)) [
+  err_answer e full why h = elim (cases_Bool (is_limit limit)) [
     | inr k ↦ (let is = why.limited.1 k in refused_answer e (no_limit limit s.held k ∙ ap stopped (sym is)) h)
     | inl k ↦ elim (why.others k) [
       | inl m ↦ inr (refl, inl (λ i. record { reply = Refused (m i); shows = Nothing; held = h i; marks = marks i }))
@@ -58,7 +58,7 @@ module _ {B : Type 0} (meaning : B → Listener) where
 pub canon_full : (limit : ℕ) (s : State) (r : Result Ended Refusal) (full : Type 0) → IfErr r (λ e. IsReason limit s.held full e) → IsFullSo full s (canonicalizing limit) (canonical_reply r)
 canon_full limit s (Ok (Converged k)) full why is = absurd cc
 canon_full limit s (Ok (Limit k)) full why is = absurd cc
-canon_full limit s (Err e) full why is = elim (bool_cases (is_limit limit)) [
+canon_full limit s (Err e) full why is = elim (cases_Bool (is_limit limit)) [
   | inr k ↦ inl (as_due (no_limit limit s.held k ∙ ap stopped (sym (why.limited.1 k))))
   | inl k ↦ elim (why.others k) [
     | inl m ↦ absurd (no_want (ap Refused (sym m) ∙ is))

@@ -24,6 +24,7 @@ use Rattle.greedy.specs.Listing.{Touched}
 use Rattle.greedy.proofs.EachRule.{of_each}
 use Rattle.greedy.proofs.Rootless.{rootless}
 use Rattle.greedy.proofs.Listed.{first_there, listed_at, listed_more, listed_past}
+use Rattle.patterns.proofs.Firsts.{first_none as no_first}
 
 -- a rewrite that there is
 becomes_none : (p : Module) → becomes p ≡ none → ⊥
@@ -93,10 +94,6 @@ module _ (m : Module) (x : ℕ) where
   unfolding rewrite_of
   no_rewrite r e = ap (λ es. rewrite_by es m) e
 
-  no_first : first_rule [] m x ≡ none
-  unfolding first_rule
-  no_first = refl
-
   first_is : (r : Rule) (rs : List Rule) → first_rule (r ∷ rs) m x ≡ or_else (rewrite_of r m x) (first_rule rs m x)
   unfolding first_rule
   first_is r rs = refl
@@ -116,7 +113,7 @@ module _ (m : Module) (x : ℕ) where
       go false c e more = (λ k. absurd (true≢false (sym k ∙ c)), more e)
 
   none_each : ((r : Rule) → HasNone r) → (rs : List Rule) → first_rule (filter is_canonical rs) m x ≡ none
-  none_each h [] = no_first
+  none_each h [] = (no_first m x)
   none_each h (r ∷ rs) = go (is_canonical r) refl (none_each h rs)
     where
       others : List Rule

@@ -18,7 +18,9 @@ use Rattle.patterns_text.specs.Parts.{Part, operation_part, value_part, literal_
 use Rattle.patterns_text.specs.Refusing.{Outcome, ◌>>=◌, refused, begins, token_at, wrong, behind}
 use Rattle.patterns_text.specs.Reading as reading
 use Rattle.patterns_text.specs.Reading.{State, Step, ended}
-use Rattle.patterns_text.proofs.Matching.{Same, Matches, unplaced_and, same_then, same_matches, matches_then, matches_into, all_refused, bound_again, given_none, token_same, behind_same, flats, more_matches, listed_matches}
+use Rattle.patterns_text.proofs.Matching.{Same, Matches, unplaced_and, same_then, same_matches, matches_then, matches_into, all_refused, given_none, token_same, behind_same, flats, more_matches, listed_matches}
+use Rattle.ir_text_types.proofs.Worlds.{bind_assoc}
+use Rattle.ir_types.proofs.Truths.{or_false}
 
 -- ---- words and types
 
@@ -214,7 +216,7 @@ module _ (left : Bool) (N : ℕ → Head → Step) (n : Head → Text → Option
       → Matches term_parts (unplaced s.0) ((behind OpenRound a.1 >>= λ rest. Ok (reading.and s.0 at (operation_part name a.0), rest)) >>= reading.operands_at T)
       (given (after OpenRound a.1) (Operands name a.0 true))
   opened_matches at name a s =
-      rw (bound_again (behind OpenRound a.1) (λ rest. Ok (reading.and s.0 at (operation_part name a.0), rest)) (reading.operands_at T))
+      rw (bind_assoc (behind OpenRound a.1) (λ rest. Ok (reading.and s.0 at (operation_part name a.0), rest)) (reading.operands_at T))
       (same_matches term_parts (unplaced s.0) (behind OpenRound a.1) (after OpenRound a.1) _ (Operands name a.0 true) (behind_same OpenRound a.1) (λ rest. operands_matches at name a.0 s rest))
 
   operation_if : (b : Bool) (at : ℕ) (name : List ℕ) (s : State)
@@ -222,7 +224,7 @@ module _ (left : Bool) (N : ℕ → Head → Step) (n : Head → Text → Option
   unfolding reading.opened_at
   operation_if true at name s =
       let o = reading.asked_by (may_be_asked left name) (must_be_asked name) name s.1 in
-      rw (bound_again o (λ a. behind OpenRound a.1 >>= λ rest. Ok (reading.and s.0 at (operation_part name a.0), rest)) (reading.operands_at T))
+      rw (bind_assoc o (λ a. behind OpenRound a.1 >>= λ rest. Ok (reading.and s.0 at (operation_part name a.0), rest)) (reading.operands_at T))
       (same_matches term_parts (unplaced s.0) o (plain.asked_by (may_be_asked left name) (must_be_asked name) name s.1) _ _ (asked_by_same (may_be_asked left name) (must_be_asked name) name s.1)
       (λ a. opened_matches at name a s))
   operation_if false at name s =
@@ -283,13 +285,9 @@ types_flat : (ws : List (List ℕ)) → map type_part ws ≡ flats one_type ws
 types_flat [] = refl
 types_flat (w ∷ ws) = ap (λ (ps : List Part). type_part w ∷ ps) (types_flat ws)
 
-either_word : (b : Bool) → (b || false) ≡ b
-either_word true = refl
-either_word false = refl
-
 -- the word that a list of one word has
 only_word : (v w : List ℕ) → is_one_of (v ∷ []) w ≡ true → w ≡ v
-only_word v w e = (bytes_eq-Decides w v).0 (sym (either_word (bytes_eq w v)) ∙ e)
+only_word v w e = (bytes_eq-Decides w v).0 (sym (or_false (bytes_eq w v)) ∙ e)
 
 narrower_parts : (front : List Part) (w : List ℕ) (tys : List (List ℕ)) (x : State) → w ≡ codes "narrower" → unplaced x.0 ≡ (front ++ condition_part w ∷ []) ++ flats one_type tys
     → unplaced (ended x).0 ≡ front ++ condition_parts (narrower tys)
