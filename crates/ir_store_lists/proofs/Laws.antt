@@ -82,7 +82,7 @@ module _ (labels : List ℕ) (k m : ℕ) where
   rises_still low [] n r = tt
   rises_still low (q ∷ ks) n r =
       let b = or_parts (eqb q k) (has k ks) n in
-      let e = other q ((eqb-false k) q b.0) in
+      let e = other q (eqb-false q k b.0) in
       (subst (λ z. low < z) (sym e) r.0, subst (λ z. RisesFrom labels' z ks) (sym e) (rises_still (label_at labels q) ks b.1 r.1))
 
   -- labels rise when a node comes before another, with a label between those of its neighbours
@@ -91,7 +91,7 @@ module _ (labels : List ℕ) (k m : ℕ) where
   rises_put l low t [] n i o p q r = absurd (false≢true i)
   rises_put l low t (x ∷ ks) n i o p q r =
       let b = or_parts (eqb x k) (has k ks) n in
-      let e = other x ((eqb-false k) x b.0) in
+      let e = other x (eqb-false x k b.0) in
       let own : label_at labels' k ≡ m = get_or-set_same labels k m 0 l in
       ⊎_elim
       (λ z.
@@ -124,7 +124,7 @@ module _ (labels : List ℕ) (k m : ℕ) where
   rises_end l low [] n p r = (subst (λ w. low < w) (sym (get_or-set_same labels k m 0 l)) p, tt)
   rises_end l low (x ∷ ks) n p r =
       let b = or_parts (eqb x k) (has k ks) n in
-      let e = other x ((eqb-false k) x b.0) in
+      let e = other x (eqb-false x k b.0) in
       (subst (λ w. low < w) (sym e) r.0, subst (λ w. RisesFrom labels' w (ks ++ k ∷ [])) (sym e) (rises_end l (label_at labels x) ks b.1 p r.1))
 
 -- labels rise where those of the list's nodes are what they were

@@ -48,7 +48,7 @@ module _ {N T A : Type 0} where
 
   edited : (x : ℕ) (f : HeadOf N T A → HeadOf N T A) → ((h : HeadOf N T A) → Keeps (f h) h) → (m n : OpOf N T A) → n ≡ each_head (at x f) m → HasDistinctIds n
       → (y : ℕ) → (In y (x ∷ lasts_in x n) → ⊥) → surroundings y n ≡ surroundings y m
-  edited x f k m n is d y far = each_far x f (keeps_at x f k) m n is d y (ne_eqb x y (λ e. far (inl e))) (λ h. far (inr h))
+  edited x f k m n is d y far = each_far x f (keeps_at x f k) m n is d y (ne_eqb y x (λ e. far (inl e))) (λ h. far (inr h))
 
   there : (t : OpOf N T A) (s : StandOf N T A) (a : StepOf N T A) (q : List (StepOf N T A)) → In s (stands [] t) → s.path ≡ a ∷ q → In (stand s.here (a ∷ q)) (stands [] t)
   there t s a q h p = subst (λ l. In (stand s.here l) (stands [] t)) p h
