@@ -15,7 +15,7 @@ use Rattle.ir_tree.proofs.Returns.{absent_first}
 use Rattle.ir_tree_laws.specs.Members.{In}
 use Rattle.ir_tree_laws.proofs.Listed.{bool_cases}
 use Rattle.conversion.specs.Waiting.{Again, ArePlaces, Took, Waits, of_again}
-use Rattle.ir_types.proofs.Truths.{less_than, take_all}
+use Rattle.ir_types.proofs.Truths.{less_than, take_whole}
 use Rattle.std.proofs.lemmas.Option.{same_Some}
 
 -- ---- a set's keys
@@ -111,7 +111,7 @@ rest_at : (xs : List ℕ) (x : ℕ) → 1 ≤ length xs → x ≡ get_or xs 0 x 
 rest_at [] x l e = absurd (omega (arith, l))
 rest_at (y ∷ ys) x l e =
     let n : length (y ∷ ys) - 1 ≡ length ys = omega arith in
-    λ i. sym e i ∷ sym (ap (λ k. take k ys) n ∙ take_all ys) i
+    λ i. sym e i ∷ sym (ap (λ k. take k ys) n ∙ take_whole ys) i
 
 pub adding_more : (all rest : List ℕ) (x : ℕ) (f : ℕ → Option ℕ) (passed : ℕ) (again : List ℕ) (passed2 : ℕ) (again2 : List ℕ) (passed3 : ℕ) (again3 : List ℕ) → 1 ≤ length rest → x ≡ get_or rest 0 x → Adding all rest f passed again passed2 again2
     → Again (x ∷ []) f passed2 again2 passed3 again3 → Adding all (take (length rest - 1) (drop 1 rest)) f passed again passed3 again3

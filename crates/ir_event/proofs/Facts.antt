@@ -4,7 +4,7 @@ use Rattle.ir_tree.specs.Meaning.{Operation}
 use Rattle.ir_tree.specs.Tree.{OpOf, OpsOf, head, next, op}
 use Rattle.ir_tree_laws.proofs.Around.{stand_present}
 use Rattle.ir_tree_laws.proofs.Members.{found_stands, joined_ops, stand}
-use Rattle.std.proofs.Common.{List, Some, ap, inl, refl, sym, true, ℕ, ◌&&◌, ◌++◌, ◌+◌, ◌<◌, ◌||◌, ◌∙◌, ◌∷◌, ◌≡◌, ◌≤◌, ◌⊎◌}
+use Rattle.std.proofs.Common.{[], List, Some, ap, inl, refl, sym, true, ℕ, ◌&&◌, ◌++◌, ◌+◌, ◌<◌, ◌||◌, ◌∙◌, ◌∷◌, ◌≡◌, ◌≤◌, ◌⊎◌}
 
 pub found_id : (x : ℕ) (t o : Operation) → find x t ≡ Some o → (head o).id ≡ x
 found_id x t o f = let r = found_stands x t o f in ap (λ (q : Operation). (head q).id) (sym r.3) ∙ r.2

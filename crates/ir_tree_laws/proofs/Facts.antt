@@ -8,7 +8,7 @@ use Rattle.ir_tree_laws.specs.Reasons.{with_id}
 use Rattle.ir_tree_laws.specs.Values.{region_at}
 use Rattle.ir_tree.specs.types.Terms.{attr_term, name_term, type_term}
 use Rattle.ir_tree.specs.types.Things.{Things}
-use Rattle.std.proofs.Common.{List, Some, arith, inl, inr, refl, suc, zero, ℕ, ◌&&◌, ◌++◌, ◌+◌, ◌<◌, ◌∙◌, ◌∷◌, ◌≡◌, ◌≢◌, ◌≤◌, ◌⊎◌}
+use Rattle.std.proofs.Common.{[], List, Some, arith, inl, inr, refl, suc, zero, ℕ, ◌&&◌, ◌++◌, ◌+◌, ◌<◌, ◌∙◌, ◌∷◌, ◌≡◌, ◌≢◌, ◌≤◌, ◌⊎◌}
 use Rattle.std.proofs.lemmas.Bool.{cases_eq}
 
 pub in_or_not : (y : ℕ) (xs : List ℕ) → In y xs ⊎ (In y xs → ⊥)

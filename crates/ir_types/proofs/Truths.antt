@@ -1,5 +1,5 @@
 -- What is asked for in many places and in no library.
-use Rattle.std.proofs.Common.{Bool, List, None, Option, Some, ap, arith, cond, drop, eq-eqb, eqb, false, get_or, if◌then◌else◌, inl, inr, length, max, refl, slice_get, subst, suc, sym, take, true, true≢false, zero, ℕ, ◌&&◌, ◌++◌, ◌+◌, ◌-◌, ◌<◌, ◌^◌, ◌||◌, ◌∙◌, ◌∷◌, ◌≡◌, ◌≢◌, ◌≤◌, ◌⊎◌}
+use Rattle.std.proofs.Common.{[], Bool, List, None, Option, Some, ap, arith, cond, drop, eq-eqb, eqb, false, get_or, if◌then◌else◌, inl, inr, length, max, refl, slice_get, subst, suc, sym, take, true, true≢false, zero, ℕ, ◌&&◌, ◌++◌, ◌+◌, ◌-◌, ◌<◌, ◌^◌, ◌||◌, ◌∙◌, ◌∷◌, ◌≡◌, ◌≢◌, ◌≤◌, ◌⊎◌}
 use Rattle.std.proofs.lemmas.Bool.{and_parts as both, cases_Bool as bool_cases, false≢true, ne_eqb}
 use Rattle.std.proofs.lemmas.Bool.Decides.{nat_tests, same_from_decides}
 use Rattle.std.proofs.lemmas.List.{take_all}
@@ -29,9 +29,9 @@ rest_at (y ∷ xs) x d l is = λ i. sym is i ∷ sym (take_all (length (y ∷ xs
 pub times_more : (times : ℕ) → 0 < times → times ≡ suc (times - 1)
 times_more times l = omega arith
 
-pub take_all : (xs : List ℕ) → take (length xs) xs ≡ xs
-take_all [] = refl
-take_all (x ∷ xs) = ap (λ ys. x ∷ ys) (take_all xs)
+pub take_whole : (xs : List ℕ) → take (length xs) xs ≡ xs
+take_whole [] = refl
+take_whole (x ∷ xs) = ap (λ ys. x ∷ ys) (take_whole xs)
 
 pub same_test : (x y : ℕ) → is_eq (nat_cmp x y) ≡ eqb x y
 same_test x y = go (nat_cmp x y) refl (ranks x y)

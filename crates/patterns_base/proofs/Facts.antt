@@ -14,7 +14,7 @@ use Rattle.patterns_base.specs.Rewrites.{edits_of, rewrite_by, rewrite_of}
 use Rattle.patterns_base.specs.Rules.{rule}
 use Rattle.patterns_base.specs.declared.rule.Rule.{Rule}
 use Rattle.patterns_laws.specs.Keeps.{given, lowered_type}
-use Rattle.std.proofs.Common.{Bool, List, Option, Some, arith, false, if◌then◌else◌, length, refl, true, ℕ, ◌&&◌, ◌++◌, ◌+◌, ◌<◌, ◌||◌, ◌∙◌, ◌∷◌, ◌≡◌, ◌≤◌, ◌⊎◌}
+use Rattle.std.proofs.Common.{[], Bool, List, Option, Some, arith, false, if◌then◌else◌, length, refl, true, ℕ, ◌&&◌, ◌++◌, ◌+◌, ◌<◌, ◌||◌, ◌∙◌, ◌∷◌, ◌≡◌, ◌≤◌, ◌⊎◌}
 use Rattle.std.specs.Prelude.{◌&&◌}
 
 pub rewrite_is : (r : Rule) (m : Module) (x : ℕ) → rewrite_of r m x ≡ rewrite_by (edits_of r m x) m

@@ -4,7 +4,7 @@ use Rattle.ir_types.specs.Things.{Things}
 use Rattle.patterns_edits.specs.Lists.{edits_meaning, numbered}
 use Rattle.patterns_edits.specs.declared.edit.Edit.{Edit}
 use Rattle.rewriter_machine.specs.Contents.{Edit, all_edited, edit_meaning, edited}
-use Rattle.std.proofs.Common.{List, ap, refl, ◌&&◌, ◌++◌, ◌+◌, ◌<◌, ◌∙◌, ◌∷◌, ◌≡◌, ◌≤◌}
+use Rattle.std.proofs.Common.{[], List, ap, refl, ◌&&◌, ◌++◌, ◌+◌, ◌<◌, ◌∙◌, ◌∷◌, ◌≡◌, ◌≤◌}
 
 pub edited_both : (es fs : List Edit) (m : Module) → all_edited (es ++ fs) m ≡ all_edited fs (all_edited es m)
 edited_both [] fs m = refl
