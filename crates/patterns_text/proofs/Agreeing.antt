@@ -18,8 +18,7 @@ use Rattle.patterns_text.specs.Parts.{Part, operation_part, value_part, literal_
 use Rattle.patterns_text.specs.Refusing.{Outcome, ◌>>=◌, refused, begins, token_at, wrong, behind}
 use Rattle.patterns_text.specs.Reading as reading
 use Rattle.patterns_text.specs.Reading.{State, Step, ended}
-use Rattle.patterns_text.proofs.Matching.{Same, Matches, unplaced_and, same_then, same_matches, matches_then, matches_into, all_refused, given_none, token_same, behind_same, flats, more_matches, listed_matches}
-use Rattle.ir_text_types.proofs.Worlds.{bind_assoc}
+use Rattle.patterns_text.proofs.Matching.{Same, Matches, unplaced_and, same_then, same_matches, matches_then, matches_into, all_refused, bound_again, given_none, token_same, behind_same, flats, more_matches, listed_matches}
 use Rattle.ir_types.proofs.Truths.{or_false}
 
 -- ---- words and types
@@ -216,7 +215,7 @@ module _ (left : Bool) (N : ℕ → Head → Step) (n : Head → Text → Option
       → Matches term_parts (unplaced s.0) ((behind OpenRound a.1 >>= λ rest. Ok (reading.and s.0 at (operation_part name a.0), rest)) >>= reading.operands_at T)
       (given (after OpenRound a.1) (Operands name a.0 true))
   opened_matches at name a s =
-      rw (bind_assoc (behind OpenRound a.1) (λ rest. Ok (reading.and s.0 at (operation_part name a.0), rest)) (reading.operands_at T))
+      rw (bound_again (behind OpenRound a.1) (λ rest. Ok (reading.and s.0 at (operation_part name a.0), rest)) (reading.operands_at T))
       (same_matches term_parts (unplaced s.0) (behind OpenRound a.1) (after OpenRound a.1) _ (Operands name a.0 true) (behind_same OpenRound a.1) (λ rest. operands_matches at name a.0 s rest))
 
   operation_if : (b : Bool) (at : ℕ) (name : List ℕ) (s : State)
@@ -224,7 +223,7 @@ module _ (left : Bool) (N : ℕ → Head → Step) (n : Head → Text → Option
   unfolding reading.opened_at
   operation_if true at name s =
       let o = reading.asked_by (may_be_asked left name) (must_be_asked name) name s.1 in
-      rw (bind_assoc o (λ a. behind OpenRound a.1 >>= λ rest. Ok (reading.and s.0 at (operation_part name a.0), rest)) (reading.operands_at T))
+      rw (bound_again o (λ a. behind OpenRound a.1 >>= λ rest. Ok (reading.and s.0 at (operation_part name a.0), rest)) (reading.operands_at T))
       (same_matches term_parts (unplaced s.0) o (plain.asked_by (may_be_asked left name) (must_be_asked name) name s.1) _ _ (asked_by_same (may_be_asked left name) (must_be_asked name) name s.1)
       (λ a. opened_matches at name a s))
   operation_if false at name s =

@@ -10,7 +10,6 @@ use Rattle.patterns_text.specs.Parts.{Part, Placed, unplaced}
 use Rattle.patterns_text.specs.Refusing.{Outcome, ◌>>=◌, token_at, token_from, behind, behind_from}
 use Rattle.patterns_text.specs.Reading as reading
 use Rattle.patterns_text.specs.Reading.{State, Step}
-use Rattle.ir_text_types.proofs.Worlds.{bind_assoc}
 
 -- one gives what the other does, or both nothing
 abbrev pub Same : {X : Type 0} → Outcome X → Option X → Type 0
@@ -64,6 +63,10 @@ module _ {A : Type 0} (flat : A → List Part) where
 pub all_refused : {A X : Type 0} (flat : A → List Part) (front : List Part) (o : Outcome X) (f : X → Outcome State) → ((x : X) → Matches flat front (f x) None) → Matches flat front (o >>= f) None
 all_refused flat front (Ok x) f h = h x
 all_refused flat front (Err e) f h = tt
+
+pub bound_again : {X Y Z : Type 0} (o : Outcome X) (f : X → Outcome Y) (g : Y → Outcome Z) → ((o >>= f) >>= g) ≡ (o >>= λ x. f x >>= g)
+bound_again (Ok x) f g = refl
+bound_again (Err e) f g = refl
 
 pub given_none : {X Y : Type 0} (q : Option X) (g : X → Option Y) → ((x : X) → g x ≡ None) → given q g ≡ None
 given_none (Some x) g h = h x

@@ -22,9 +22,8 @@ use Rattle.patterns_text.specs.Refusing.{Outcome, ◌>>=◌, Gives, refused, beg
 use Rattle.patterns_text.specs.Reading as reading
 use Rattle.patterns_text.specs.Reading.{State}
 use Rattle.patterns_text.specs.Spelled.{whole_at, whole_from, Spells, IsSpelled, IsReadAs}
-use Rattle.patterns_text.proofs.Matching.{Same, Matches, behind_same, flats}
+use Rattle.patterns_text.proofs.Matching.{Same, Matches, bound_again, behind_same, flats}
 use Rattle.patterns_text.proofs.Agreeing.{word_same, old_matches, new_matches, conditions_matches, conditions_flat}
-use Rattle.ir_text_types.proofs.Worlds.{bind_assoc}
 
 -- one gives the parts of what the other does, or both nothing
 abbrev Agrees : Outcome Pattern → Option (syntax.Pattern × Text) → Type 0
@@ -96,7 +95,7 @@ module _ (name : List ℕ) where
       → Agrees (reading.behind_arrow s >>= Code ps) (plain.behind_mark Equal (plain.behind_mark Greater (New old)) s)
   unfolding reading.behind_arrow
   arrow_agrees old ps s e =
-      rw (bind_assoc (behind Equal s) (λ r. behind Greater r) (Code ps))
+      rw (bound_again (behind Equal s) (λ r. behind Greater r) (Code ps))
       (same_agrees (behind Equal s) (after Equal s) _ _ (behind_same Equal s) (λ r. same_agrees (behind Greater r) (after Greater r) (Code ps) (New old) (behind_same Greater r) (λ rest. new_agrees old ps rest e)))
 
   root_if : (b c : Bool) (old : Term) (x : State) (left : ℕ) → b ≡ c → unplaced x.0 ≡ term_parts old
@@ -110,7 +109,7 @@ module _ (name : List ℕ) where
       (given (plain.old_term old_depth s) (λ old. plain.when (is_operation old.0) (plain.behind_mark Equal (plain.behind_mark Greater (New old.0))) old.1))
   unfolding reading.sides_at reading.root_at
   sides_agree s =
-      rw (bind_assoc (reading.term_at true old_depth ([], s)) (λ old. if reading.begins_operation old.0 then Ok old else refused Unexpected (begins s)) (λ o. reading.behind_arrow o.1 >>= Code o.0))
+      rw (bound_again (reading.term_at true old_depth ([], s)) (λ old. if reading.begins_operation old.0 then Ok old else refused Unexpected (begins s)) (λ o. reading.behind_arrow o.1 >>= Code o.0))
       (matches_agrees term_parts [] (reading.term_at true old_depth ([], s)) (plain.old_term old_depth s) _ _ (old_matches old_depth ([], s)) (λ x old e.
       root_if (reading.begins_operation x.0) (is_operation old) old x (begins s) (begins_first x.0 ∙ ap first_is e ∙ first_operation old) e))
 
