@@ -3,7 +3,7 @@ use Rattle.ir_event.specs.Modules.{module_in}
 use Rattle.patterns_base.specs.Canonicalization.{first_rule}
 use Rattle.patterns.specs.Lowest.{greedy}
 use Rattle.patterns.proofs.Firsts.{none_first}
-use Rattle.patterns.proofs.lowest.first_made.Goals as goal
+use Rattle.patterns.proofs.lowest.first_applying.Goals as goal
 use Rattle.ir_types.proofs.Truths.{none_left}
 
 pub returns : goal.returns
