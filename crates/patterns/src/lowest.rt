@@ -59,7 +59,7 @@ fn try_rule(
 }
 
 /// The first of some rules that applies at a clean operation, of which this is shown, behind its place.
-fn first_made(
+pub(crate) fn first_made(
     alloc: Global,
     world: &World,
     rules: &[Rule],
