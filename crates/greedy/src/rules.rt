@@ -1,0 +1,11 @@
+//! The rules of a run.
+
+use patterns::rows::Rows;
+
+/// The rules that a run tries at an operation, in their order.
+pub enum Rules<'a> {
+    /// Those of canonicalization, by rising numbers.
+    OfCanonicalization,
+    /// Those of a list, in its order.
+    OfList(&'a Rows<'a>),
+}
