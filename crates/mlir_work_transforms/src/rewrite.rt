@@ -33,9 +33,9 @@ fn are_named(list: &[u8]) -> bool
     let mut rest = Some(list);
     'items: while let Some(items) = rest {
         let (item, behind) = split_item(items);
-        if canonical_named(&name_in(item)).is_none() {
+        let Some(_) = canonical_named(&name_in(item)) else {
             return false;
-        }
+        };
         rest = behind;
     }
     true
