@@ -3,6 +3,7 @@
 use patterns::rows::Rows;
 
 /// The rules that a run tries at an operation, in their order.
+#[derive(Clone, Copy)]
 pub enum Rules<'a> {
     /// Those of canonicalization, by rising numbers.
     OfCanonicalization,
