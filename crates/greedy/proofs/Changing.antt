@@ -3,7 +3,7 @@ use Rattle.std.proofs.Common.{◌≡◌, refl, ap, sym, ◌∙◌, ◌⊎◌, in
 use Rattle.std.specs.Prelude.{IfOk, IfErr, OnErr}
 use Rattle.ir_types.specs.declared.refusal.Refusal.{Refusal}
 use Rattle.ir_types.specs.declared.refusal.Refusal.TheVariants.{BadLimit, Full, Memory}
-use Rattle.ir_tree.proofs.Returns.{bool_cases}
+use Rattle.std.proofs.lemmas.Bool.{cases_Bool}
 use Rattle.ir_event.specs.Listener.{Listener}
 use Rattle.ir_event.specs.Modules.{Module}
 use Rattle.rewriter_machine.specs.Machine.{State, Answer, Change, Reply, DoneWith, Refused, Nothing, Transformation, due, due_change, IsAnswer, IsFullSo}
@@ -48,7 +48,7 @@ module _ (made : Module → Canonical) (limit : ℕ) (bad : (m : Module) → is_
     refused_answer e k h = inl ((λ i. record { reply = Refused e; shows = Nothing; held = h i; marks = marks i }) ∙ sym (ap (λ (r : Canonical). due_change (made_of r) s) k))
 
     err_answer : (e : Refusal) (full : Type 0) → IsReasonFor (made s.held) limit full e → t.held ≡ s.held → IsAnswer s (Change change) (answer (Refused e))
-    err_answer e full why h = elim (bool_cases (is_limit limit)) [
+    err_answer e full why h = elim (cases_Bool (is_limit limit)) [
       | inr k ↦ (let is = why.limited.1 k in refused_answer e (bad s.held k ∙ ap stopped (sym is)) h)
       | inl k ↦ elim (why.others k) [
         | inl m ↦ inr (refl, inl (λ i. record { reply = Refused (m i); shows = Nothing; held = h i; marks = marks i }))
@@ -68,7 +68,7 @@ module _ (made : Module → Canonical) (limit : ℕ) (bad : (m : Module) → is_
   run_full : (s : State) (r : Result Ended Refusal) (full : Type 0) → IfErr r (λ e. IsReasonFor (made s.held) limit full e) → IsFullSo full s change (canonical_reply r)
   run_full s (Ok (Converged k)) full why is = absurd cc
   run_full s (Ok (Limit k)) full why is = absurd cc
-  run_full s (Err e) full why is = elim (bool_cases (is_limit limit)) [
+  run_full s (Err e) full why is = elim (cases_Bool (is_limit limit)) [
     | inr k ↦ inl (as_due (bad s.held k ∙ ap stopped (sym (why.limited.1 k))))
     | inl k ↦ elim (why.others k) [
       | inl m ↦ absurd (no_want (ap Refused (sym m) ∙ is))

@@ -2,7 +2,7 @@
 use Rattle.std.proofs.Common.{◌≡◌, refl, ap, sym, ◌∙◌, subst, ℕ, Bool, true, false, cond, List, [], ◌∷◌, ◌++◌, append-nil, append_assoc, map, Option, Some, None, option_map}
 use Rattle.std.specs.Prelude.{is_some, option_and_then}
 use Rattle.std.proofs.lemmas.List.Elements.{All-nil, All-cons}
-use Rattle.ir_tree.proofs.Returns.{bool_cases}
+use Rattle.std.proofs.lemmas.Bool.{cases_Bool}
 use Rattle.rewriter.specs.Commands.{RuleName}
 use Rattle.patterns_base.specs.RuleNames.{is_canonical}
 use Rattle.patterns_base.specs.declared.rule.Rule.{Rule}
@@ -74,7 +74,7 @@ IsTried r = is_canonical r ≡ true
 
 if_tried : (o : Option Rule) (r : Rule) → option_and_then if_canonical o ≡ Some r → IsTried r
 if_tried None r e = absurd cc
-if_tried (Some q) r e = elim (bool_cases (is_canonical q)) [
+if_tried (Some q) r e = elim (cases_Bool (is_canonical q)) [
   | inl k ↦ (let same : q ≡ r = of_some (sym (ap (λ b. cond b (Some q) None) k) ∙ e) in ap is_canonical (sym same) ∙ k)
   | inr k ↦ absurd (let z : None ≡ Some r = sym (ap (λ b. cond b (Some q) None) k) ∙ e in cc)
 ]

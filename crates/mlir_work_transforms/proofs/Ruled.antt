@@ -1,10 +1,10 @@
 -- Rules by their numbers, one after another.
 use Rattle.std.proofs.Common.{◌≡◌, refl, ap, sym, ◌∙◌, ℕ, ◌≤◌, ◌<◌, ◌-◌, List, [], ◌∷◌, ◌++◌, append-nil, append_assoc, length, take, drop, get_or, Option, Some, None, option_map, arith}
 use Rattle.std.specs.Prelude.{option_and_then}
-use Rattle.conversion.proofs.Trying.{rest_at}
 use Rattle.conversion.specs.Converting.{rules_of}
 use Rattle.conversion.specs.Rule.{Rule}
 use Rattle.conversion.specs.RuleNames.{by_number}
+use Rattle.ir_types.proofs.Truths.{rest_at}
 
 -- the front of a list, and what comes of its rest
 abbrev pub joined : List Rule → Option (List Rule) → Option (List Rule)

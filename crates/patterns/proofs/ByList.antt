@@ -27,7 +27,8 @@ use Rattle.patterns.specs.declared.plan.Made.{Made}
 use Rattle.patterns.specs.declared.lowest.Found.{Found}
 use Rattle.patterns.proofs.Acceptance.{accepted_of}
 use Rattle.patterns.proofs.Applying.{edits_due, rewrite_due, same_module}
-use Rattle.patterns.proofs.Firsts.{first_more, rewrite_is}
+use Rattle.patterns_base.proofs.Facts.{rewrite_is}
+use Rattle.patterns.proofs.Firsts.{first_more}
 use Rattle.patterns.proofs.Planned.{found, none_rule}
 
 abbrev IsTried : Rule → Type 0

@@ -12,16 +12,13 @@ use Rattle.patterns_base.specs.Rewrites.{Rewrite, none, refused, becomes, edits_
 use Rattle.patterns_base.specs.RuleNames.{is_canonical}
 use Rattle.patterns_base.specs.declared.rule.Rule.{Rule}
 use Rattle.patterns.specs.Lowest.{greedy}
-
-pub rewrite_is : (r : Rule) (m : Module) (x : ℕ) → rewrite_of r m x ≡ rewrite_by (edits_of r m x) m
-unfolding rewrite_of
-rewrite_is r m x = refl
+use Rattle.patterns_base.proofs.Facts.{rewrite_is}
 
 pub first_more : (r : Rule) (rs : List Rule) (m : Module) (x : ℕ) → first_rule (r ∷ rs) m x ≡ or_else (rewrite_of r m x) (first_rule rs m x)
 unfolding first_rule
 first_more r rs m x = refl
 
-first_none : (m : Module) (x : ℕ) → first_rule [] m x ≡ none
+pub first_none : (m : Module) (x : ℕ) → first_rule [] m x ≡ none
 unfolding first_rule
 first_none m x = refl
 
