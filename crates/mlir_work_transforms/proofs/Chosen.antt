@@ -10,6 +10,7 @@ use Rattle.patterns.specs.Rows.{AreCanonical}
 use Rattle.mlir_work_script.specs.Items.{items_behind, items_of}
 use Rattle.mlir_work_script.specs.RuleNames.{name_or_none, names_of, rule_in}
 use Rattle.mlir_work_transforms.specs.Applying.{rule_named}
+use Rattle.mlir_work_transforms.proofs.Ruled.{joined, one_joined}
 use Rattle.mlir_work_transforms.specs.Rewriting.{canonical_named, if_canonical, rules_named}
 
 abbrev pub named_at : List ℕ → RuleName
@@ -18,18 +19,6 @@ named_at item = name_or_none (rule_in item)
 -- the rules of the items of a list that there may be
 abbrev pub rules_behind : Option (List ℕ) → Option (List Rule)
 rules_behind list = rules_named (map named_at (items_behind list))
-
--- the front of a list, and what comes of its rest
-abbrev pub joined : List Rule → Option (List Rule) → Option (List Rule)
-joined done rest = option_map (λ rs. done ++ rs) rest
-
-pub none_done : (o : Option (List Rule)) → joined [] o ≡ o
-none_done None = refl
-none_done (Some rs) = refl
-
-one_joined : (done : List Rule) (r : Rule) (o : Option (List Rule)) → joined done (option_map (λ rs. r ∷ rs) o) ≡ joined (done ++ r ∷ []) o
-one_joined done r None = refl
-one_joined done r (Some rs) = ap Some (sym (append_assoc done (r ∷ []) rs))
 
 abbrev onto : List (List ℕ) → Rule → Option (List Rule)
 onto left r = option_map (λ rs. r ∷ rs) (rules_named (map named_at left))

@@ -3,7 +3,8 @@ use Rattle.std.specs.Option.{option_copied}
 use Rattle.mlir_work_script.specs.RuleNames.{names_of}
 use Rattle.mlir_work_script.proofs.Listed.{left_of}
 use Rattle.mlir_work_transforms.specs.Rewriting.{rules_named}
-use Rattle.mlir_work_transforms.proofs.Chosen.{joined, rules_behind}
+use Rattle.mlir_work_transforms.proofs.Chosen.{rules_behind}
+use Rattle.mlir_work_transforms.proofs.Ruled.{joined}
 use Rattle.mlir_work_transforms.proofs.rewrite.rules_in.Given as goal
 
 -- what is left gives, behind the rules that were found, what the whole list gives
