@@ -130,7 +130,7 @@ module _ (m : Module) (d : HasDistinctIds m.tree) (below : All (λ y. y < m.next
   abbrev IsTried : Rule → Type 0
   IsTried r = is_canonical r ≡ true
 
-  first_orderly : (rs : List Rule) → All IsTried rs → (n : Module) → first_rule rs m x ≡ becomes n → Orderly x m n
+  pub first_orderly : (rs : List Rule) → All IsTried rs → (n : Module) → first_rule rs m x ≡ becomes n → Orderly x m n
   unfolding first_rule
   first_orderly [] h n e = absurd cc
   first_orderly (r ∷ rs) h n e = go (rewrite_of r m x) refl (first_orderly rs (All-tail IsTried r rs h) n) e

@@ -107,7 +107,7 @@ fn first_applying(
 }
 
 /// The first of some rules that applies, of which the first may and needn't be asked whether it may.
-fn first_made(
+pub(crate) fn first_made(
     alloc: Global,
     world: &World,
     rules: &[Rule],
