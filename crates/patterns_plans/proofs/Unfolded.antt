@@ -119,7 +119,7 @@ none_known t (v ∷ vs) e = go (is_constant t v) refl e (none_known t vs)
     go false i f later = λ j. sym (known_not t v false (sym i) refl) j ∷ later f j
 
 -- what is folded of an operation over operands that are known so, nothing
-Unfolded : Operation → List (Option Known) → Type 0
+abbrev Unfolded : Operation → List (Option Known) → Type 0
 Unfolded o ks = named (codes "arith.constant") (head o).name ≡ false → fold_of (head o).name (head o).properties ks (head o).results ≡ None
 
 never_over : (t : Operation) (n : ℕ) (front : Place) (o : Operation) → Unfolded o (map (known t) (head o).operands) → None ≡ fold_to_constant t n front o
