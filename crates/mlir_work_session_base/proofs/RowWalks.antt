@@ -5,7 +5,7 @@ use Rattle.ir_types.specs.Things.{Things}
 use Rattle.ir_event.specs.declared.row.Row.{Row}
 use Rattle.ir_event.specs.Rows.{row_meaning, rows_meaning}
 use Rattle.ir_text.proofs.Rows.{next_item}
-use Rattle.mlir_work_session.specs.RowText.{row_text, rows_text}
+use Rattle.mlir_work_session_base.specs.RowText.{row_text, rows_text}
 
 module _ (d : Things) (rows : List Row) (i : ℕ) where
   abbrev text : List Row → List ℕ
