@@ -466,21 +466,32 @@ def rules_of(op):
     return [1] + list(range(2, 22) if op.name.startswith(b"arith.") else range(21, 25))
 
 
-def first(module):
-    """The module after the first rule of 1 to 24 at the first operation at which one applies, or none."""
+def first(module, asked):
+    """The module after the first of some rules at the first operation at which one applies, or none; `asked` has those
+    that are tried at an operation, in order."""
     for op in walk(module.root):
-        for rule in rules_of(op) if is_clean(module, op.id) else []:
+        for rule in asked(op) if is_clean(module, op.id) else []:
             found = after(module, rule, op.id)
             if found is not None:
                 return found
     return None
 
 
-def canonical(module, limit):
+def repeated(module, asked, limit):
     """The module after at most so many rewrites, how many were made, and whether no rule applies."""
     for count in range(limit):
-        found = first(module)
+        found = first(module, asked)
         if found is None:
             return module, count, True
         module = found
-    return module, limit, first(module) is None
+    return module, limit, first(module, asked) is None
+
+
+def canonical(module, limit):
+    """The same by the rules of 1 to 24, the lowest first."""
+    return repeated(module, rules_of, limit)
+
+
+def rewritten(module, asked, limit):
+    """The same by some of these rules, in their order."""
+    return repeated(module, lambda op: [rule for rule in asked if rule in rules_of(op)], limit)

@@ -18,10 +18,12 @@ KIND_WORDS = {KINDS.get(kind, f"kind{kind}") for kind in range(256)}
 MOST_MARKS = 16
 FIRST = {"report", "print", "set-operand", "move", "set-attr", "drop-attr", "resync", "detach"}
 EDITS = FIRST | {"erase", "insert", "replace"}
-ALL = EDITS | {"begin", "commit", "rollback", "sweep", "canon", "convert", "apply", "attach"}
+ALL = EDITS | {"begin", "commit", "rollback", "sweep", "canon", "convert", "apply", "attach", "rewrite"}
 REFUSALS = {**rules.WORDS, **WORDS}
 NUMBERS = {word: number for number, word in REFUSALS.items()}
 MOST_LIMIT, LIMIT = 1000000, 1000
+# The rules that `rewrite` may try; the others are conversion's.
+MOST_TRIED = 24
 
 
 class Bad(Exception):
@@ -199,10 +201,24 @@ class Run:
 
     def canon(self, text):
         words = re.split("[ \t]+", text) if text else []
+        if words[:1] == ["only"]:
+            return self.rewrite(cut(text)[1])
         need(not words or len(words) == 2 and words[0] == "limit")
         limit = number(words[1]) if words else self.limit
         edits.refuse(50, not 1 <= limit <= MOST_LIMIT)
         self.module, count, is_done = rewrites.canonical(self.module, limit)
+        return ("converged" if is_done else "limit") + f" {count}", ""
+
+    def rewrite(self, text):
+        words = re.split("[ \t]+", text)
+        names = words[0].split(",")
+        need("" not in names and (len(words) == 1 or len(words) == 3 and words[1] == "limit"))
+        need(all(not name[0].isdigit() or rule_of(name) <= MOST_TRIED for name in names))
+        limit = number(words[2]) if len(words) == 3 else self.limit
+        asked = [rule_of(name) for name in names]
+        edits.refuse(26, any(rule is None or rule > MOST_TRIED for rule in asked))
+        edits.refuse(50, not 1 <= limit <= MOST_LIMIT)
+        self.module, count, is_done = rewrites.rewritten(self.module, asked, limit)
         return ("converged" if is_done else "limit") + f" {count}", ""
 
     def convert(self, text):
