@@ -1,8 +1,17 @@
 -- The lines of trees, and lines that are written with their ids.
-use Rattle.std.proofs.Common.{◌≡◌, ap, refl, ℕ, List, [], ◌∷◌, ◌++◌, map}
+use Rattle.std.proofs.Common.{◌≡◌, ◌≤◌, ap, refl, ℕ, List, [], ◌∷◌, ◌++◌, arith, length, map}
 use Rattle.ir_tree.specs.Maps.{map_tree, map_regions, map_region, map_ops}
-use Rattle.ir_tree.specs.Tree.{OpOf, op, RegionsOf, no_regions, region, RegionOf, empty, block, OpsOf, no_ops, next}
-use Rattle.mlir_work_session_base.specs.IdsText.{label_ids, line_ids, ops_line_ids, region_line_ids, regions_line_ids}
+use Rattle.ir_tree.specs.Tree.{Op, OpOf, op, RegionsOf, no_regions, region, RegionOf, empty, block, OpsOf, no_ops, next, ops_of}
+use Rattle.mlir_work_session_base.specs.IdsText.{bare_label_ids, label_ids, line_ids, ops_line_ids, region_line_ids, regions_line_ids}
+
+-- where a block has operations, and where it has no arguments
+pub not_bare : (x : ℕ) (os : List Op) → 1 ≤ length os → bare_label_ids x (ops_of os) ≡ []
+not_bare x [] h = absurd (omega (arith, h))
+not_bare x (o ∷ os) h = refl
+
+pub no_arguments : {T : Type 0} (x : ℕ) (ts : List T) (os : List Op) → length ts ≤ 0 → label_ids x ts (ops_of os) ≡ bare_label_ids x (ops_of os)
+no_arguments x [] os h = refl
+no_arguments x (t ∷ ts) os h = absurd (omega (arith, h))
 
 module _ {N T A M U B : Type 0} (f : N → M) (g : T → U) (h : A → B) where
   label_mapped : (x : ℕ) (ts : List T) (os : OpsOf N T A) → label_ids x (map g ts) (map_ops f g h os) ≡ label_ids x ts os

@@ -6,10 +6,15 @@ use Rattle.ir_text.specs.Printing.{text_of}
 use Rattle.mlir_work_script.specs.Lines.{lines_of}
 use Rattle.mlir_work_script.specs.Values.{op_text}
 
--- a block has a line of its own for its arguments, where it has arguments or no operation: x is the operation around it
+-- a block without arguments has a line of its own in front of its operations where there are none: x is the operation
+-- around it
+abbrev pub bare_label_ids : {N T A : Type 0} → ℕ → OpsOf N T A → List ℕ
+bare_label_ids x no_ops = x ∷ []
+bare_label_ids x (next o os) = []
+
+-- and one with arguments has it always
 abbrev pub label_ids : {N T A : Type 0} → ℕ → List T → OpsOf N T A → List ℕ
-label_ids x [] no_ops = x ∷ []
-label_ids x [] (next o os) = []
+label_ids x [] os = bare_label_ids x os
 label_ids x (t ∷ ts) os = x ∷ []
 
 -- the operations of which the lines of a text are parts, in order: an operation begins a line, and so does the end of each

@@ -5,7 +5,7 @@ ghost use Rattle.ir_tree.specs.Tree.{ops_of};
 ghost use Rattle.ir_tree.specs.View.{region_view};
 ghost use Rattle.mlir_work_script.specs.Lines.{lines_of};
 ghost use Rattle.mlir_work_script.specs.Values.{op_text};
-ghost use Rattle.mlir_work_session_base.specs.IdsText.{ids_text, label_ids, line_end, line_ids, region_line_ids, with_ids};
+ghost use Rattle.mlir_work_session_base.specs.IdsText.{bare_label_ids, ids_text, label_ids, line_end, line_ids, region_line_ids, with_ids};
 
 use ir_text::printer::print;
 use ir_tree::tree::{TreeOp, TreeRegion};
@@ -15,7 +15,20 @@ use mlir_work_script::cells;
 use mlir_work_script::lines::split_line;
 use std::alloc::{AllocError, Global};
 
-/// Adds the operation of the line that a block has for its arguments, where it has one.
+/// Adds the operation of the line that a block without arguments has in front of its operations, where it has one.
+fn push_bare_label(out: &mut Vec<OpId>, around: OpId, ops: &[TreeOp]) -> Result<(), AllocError>
+    ensures { OnOk result (out.new.items ≡ out.old.items ++ bare_label_ids around (ops_of ops.now)) }
+{
+    match ops {
+        [] => {
+            out.push(around)?;
+            Ok(())
+        }
+        [_, ..] => Ok(()),
+    }
+}
+
+/// Adds the operation of the line that a block has in front of its operations, where it has one.
 fn push_label(
     out: &mut Vec<OpId>,
     around: OpId,
@@ -24,10 +37,13 @@ fn push_label(
 ) -> Result<(), AllocError>
     ensures { OnOk result (out.new.items ≡ out.old.items ++ label_ids around args.now (ops_of ops.now)) }
 {
-    if args.is_empty() && !ops.is_empty() {
-        return Ok(());
+    match args {
+        [] => push_bare_label(out, around, ops),
+        [_, ..] => {
+            out.push(around)?;
+            Ok(())
+        }
     }
-    out.push(around)
 }
 
 /// Adds the operations of the lines of an operation's text.
@@ -58,7 +74,8 @@ fn push_region_lines(
             for op in ops {
                 push_lines(out, op)?;
             }
-            out.push(around)
+            out.push(around)?;
+            Ok(())
         }
     }
 }

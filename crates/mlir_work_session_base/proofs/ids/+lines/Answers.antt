@@ -29,4 +29,4 @@ push_region_lines-loop-op-preserved t c =
     let xs = c.deref-op-items.result.now in
     let todo = λ (n : ℕ) (xs : List Op). ops_line_ids (ops_of xs) in
     made_next todo xs c.loop-op.op-index c.op-item.result (line_ids c.op-item.result) c.loop-op.out.items c.push_lines.new.out.items (c.push_label.new.out.items ++ todo 0 xs)
-    c.loop-op-test.true c.op-item.is c.in_ok-push_lines.ensures refl c.loop-op.invariant
+    c.loop-op-test.true c.op-item.is c.in_ok-push_lines-in-Block.ensures refl c.loop-op.invariant
