@@ -70,5 +70,5 @@ not_at way s t o (Misplaced why) shows refusal offset asks follows = absurd (let
 not_at way s t o (Unread why place) shows refusal offset asks follows = never_unread way o why place asks
 
 pub fulfils_bounded : (bytes : ℕ) (way : Way) (s : State) (o : Order) (response : Response) (shown : List ℕ) (t : State) → Fulfils way s o response shown t → IsBounded bytes response
-fulfils_bounded bytes way s o response shown t h refusal offset is =
+fulfils_bounded bytes way s o response shown t h = λ refusal offset is.
     absurd (not_at way s t o h.asked h.shows refusal offset h.asks (subst (λ (r : Response). Follows s h.asked r h.shows t) is h.follows))

@@ -15,7 +15,7 @@ use Rattle.mlir_work_script.specs.Commands.{Spoken, Nothing, Bad, Obey, Ordered,
 use Rattle.mlir_work_script.specs.Expecting.{line_expects}
 use Rattle.mlir_work_script.specs.Limits.{most_script_bytes}
 use Rattle.mlir_work_script.specs.Lines.{lines_of}
-use Rattle.mlir_work_script.specs.Orders.{Attach, Order, PrintIds}
+use Rattle.mlir_work_script.specs.Orders.{Order, PrintIds}
 use Rattle.mlir_work_script.specs.Replies.{expected_line, ok_line, made_line, outcome_line, refused_line, refused_on_line, refused_at_line, attach_refused_line, kind_line, stale_line, kind_memory_line, module_memory_line}
 use Rattle.mlir_work_session_base.specs.RowText.{rows_text}
 use Rattle.mlir_work_session.specs.Machine.{Fulfils, Obeys}

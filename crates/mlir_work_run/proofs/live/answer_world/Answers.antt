@@ -18,4 +18,4 @@ pub returns-clause-ended : goal.returns-clause-ended
 returns-clause-ended g c =
     let is = c.over-bench.ensures.desk in
     let same : module_held c.over-bench.result.desk ≡ module_in c.args.world = (λ i. module_meaning (is.ctx i) (is.module_of i)) in
-    subst (λ (m : Module). IfSome (waiting c.args.kept.now.items (g.R.Source.intake c.args.reader.now).remaining) (λ script. LiveEnded (Live (setting_of g.L.supply c.args.options) (all_shown g.L.Analysis.meaning c.args.boxes.items) m c.args.before) (whole_lines script) (g.W.Sink.stream c.args.writer.now) (g.W.Sink.stream c.answer_bench.new.writer) (g.W.Sink.handed c.answer_bench.new.writer) c.answer_bench.result)) same c.answer_bench.ensures.ended
+    subst (λ (m : Module). IfSome (waiting c.args.kept.now.items (g.R.Source.intake c.args.reader.now).remaining) (λ script. LiveEnded (Live (setting_of g.L.Supplied.supply c.args.options) (all_shown g.L.Analysis.meaning c.args.boxes.items) m c.args.before) (whole_lines script) (g.W.Sink.stream c.args.writer.now) (g.W.Sink.stream c.answer_bench.new.writer) (g.W.Sink.handed c.answer_bench.new.writer) c.answer_bench.result)) same c.answer_bench.ensures.ended

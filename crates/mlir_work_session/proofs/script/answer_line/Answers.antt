@@ -14,7 +14,7 @@ returns-then-is_nothing-clause-answered g c = ([], (sym (rw c.read_line-line.ens
 pub returns-in-Err-clause-answered : goal.returns-in-Err-clause-answered
 returns-in-Err-clause-answered g c =
     let meaning = g.L.Analysis.meaning in
-    let way : Way = way_of g.L.supply c.args.manner.now in
+    let way : Way = way_of g.L.Supplied.supply c.args.manner.now in
     let text = c.in-Err.ensures.0 in
     let reply = response_of c.answer-answered.result.reply in (
       Some (is_right (line_expects c.args.line.now) reply),
@@ -27,7 +27,7 @@ returns-in-Err-clause-answered g c =
 pub returns-in-Ok-put_end-clause-answered : goal.returns-in-Ok-put_end-clause-answered
 returns-in-Ok-put_end-clause-answered g c =
     let meaning = g.L.Analysis.meaning in
-    let way : Way = way_of g.L.supply c.args.manner.now in
+    let way : Way = way_of g.L.Supplied.supply c.args.manner.now in
     let text = c.in-Ok.ensures.0 in
     let reply = response_of c.answer-answered.result.reply in (
       text ++ end_of way.manner.ends,
@@ -39,7 +39,7 @@ returns-in-Ok-put_end-clause-answered g c =
 pub returns-clause-answered : goal.returns-clause-answered
 returns-clause-answered g c =
     let meaning = g.L.Analysis.meaning in
-    let way : Way = way_of g.L.supply c.args.manner.now in
+    let way : Way = way_of g.L.Supplied.supply c.args.manner.now in
     let text = c.in-Ok.ensures.0 in
     let reply = response_of c.answer-answered.result.reply in (
       Some (is_right (line_expects c.args.line.now) reply),

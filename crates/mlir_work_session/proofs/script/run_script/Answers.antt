@@ -9,7 +9,7 @@ use Rattle.mlir_work_session.proofs.script.run_script.Goals as goal
 pub returns-in-Err : goal.returns-in-Err
 returns-in-Err g c =
     let meaning = g.L.Analysis.meaning in
-    let way : Way = way_of g.L.supply c.args.manner.now in
+    let way : Way = way_of g.L.Supplied.supply c.args.manner.now in
     let front = c.loop-text.invariant.front in
     let told = c.in-Err.ensures.answered.0 in
     let out = c.in-Err.ensures.answered.1 in
@@ -21,7 +21,7 @@ returns-in-Err g c =
 pub loop-text-preserved : goal.loop-text-preserved
 loop-text-preserved g c =
     let meaning = g.L.Analysis.meaning in
-    let way : Way = way_of g.L.supply c.args.manner.now in
+    let way : Way = way_of g.L.Supplied.supply c.args.manner.now in
     let front = c.loop-text.invariant.front in
     let out = c.in-Ok.ensures.answered.0 in
     let step = run_answered way c.loop-text.n (state_of meaning c.loop-text.bench) c.loop-text.text.now c.split_line.result.0.now c.split_line.result.1.now (state_of meaning c.answer_line.new.bench) c.in-Ok.told out
@@ -37,9 +37,9 @@ loop-text-preserved g c =
 pub returns-then-accepted : goal.returns-then-accepted
 returns-then-accepted g c =
     let front = c.loop-text.invariant.front in
-    (front, rw (append-nil, c.if-accepted.true) at (c.loop-text.invariant.whole 0 [] (runs_end (way_of g.L.supply c.args.manner.now) c.loop-text.n (state_of g.L.Analysis.meaning c.loop-text.bench) c.loop-text.text.now (emptied c.loop-text.text.now _ c.is_empty.ensures c.loop-text-test.false))), c.loop-text.invariant.wrote)
+    (front, rw (append-nil, c.if-accepted.true) at (c.loop-text.invariant.whole 0 [] (runs_end (way_of g.L.Supplied.supply c.args.manner.now) c.loop-text.n (state_of g.L.Analysis.meaning c.loop-text.bench) c.loop-text.text.now (emptied c.loop-text.text.now _ c.is_empty.ensures c.loop-text-test.false))), c.loop-text.invariant.wrote)
 
 pub returns-else-accepted : goal.returns-else-accepted
 returns-else-accepted g c =
     let front = c.loop-text.invariant.front in
-    (front, rw (append-nil, c.if-accepted.false) at (c.loop-text.invariant.whole 0 [] (runs_end (way_of g.L.supply c.args.manner.now) c.loop-text.n (state_of g.L.Analysis.meaning c.loop-text.bench) c.loop-text.text.now (emptied c.loop-text.text.now _ c.is_empty.ensures c.loop-text-test.false))), c.loop-text.invariant.wrote)
+    (front, rw (append-nil, c.if-accepted.false) at (c.loop-text.invariant.whole 0 [] (runs_end (way_of g.L.Supplied.supply c.args.manner.now) c.loop-text.n (state_of g.L.Analysis.meaning c.loop-text.bench) c.loop-text.text.now (emptied c.loop-text.text.now _ c.is_empty.ensures c.loop-text-test.false))), c.loop-text.invariant.wrote)
