@@ -13,7 +13,7 @@ pub trait Supplied: Analysis {
 
     /// A listener of a kind that has not begun, where there is one.
     fn of_kind(alloc: Global, kind: Kind) -> Option<Self>
-        ensures { option_map (λ b. shown (meaning b)) result ≡ supply kind };
+        ensures { option_map (λ b. shown (Self.meaning b)) result ≡ supply kind };
 }
 
 /// No box is made by its kind.
