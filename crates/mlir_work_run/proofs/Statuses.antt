@@ -1,6 +1,7 @@
 -- Which statuses an output may have.
 use Rattle.std.proofs.Common.{◌≡◌, arith, sym, subst, inl, inr, ◌⊎◌, refl, ℕ, ◌+◌, List, [], ◌∷◌, length, Bool, true, false, Option, Some, None, Result, Ok, Err}
 use Rattle.std.specs.Prelude.{IfSome}
+use Rattle.ir_types.specs.declared.refusal.Refusal.{Refusal}
 use Rattle.ir_event.specs.Modules.{Module}
 use Rattle.mlir_work_session.specs.Commands.{Spoken, Nothing, Bad, Obey, Ordered, line_says}
 use Rattle.mlir_work_session.specs.Expecting.{line_expects}
@@ -10,7 +11,6 @@ use Rattle.mlir_work_session.specs.Machine.{State}
 use Rattle.mlir_work_session.specs.Panels.{Shown}
 use Rattle.mlir_work_session.specs.Reads.{Intake}
 use Rattle.mlir_work_session.specs.Writes.{Stream}
-use Rattle.mlir_work_session.specs.declared.manner.Manner.{Manner}
 use Rattle.mlir_work_session.specs.Output.{Line, Runs, IsSession, Way, worse, is_right}
 use Rattle.mlir_work_run.specs.Ends.{EndedSo, HasFailed, HasStatus, IsFinal, Leaves, LeavesAt, status_of}
 use Rattle.mlir_work_run.specs.Whole.{IsOutput, Setting, way_at}

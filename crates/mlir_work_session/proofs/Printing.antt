@@ -1,8 +1,9 @@
 -- Scripts that only print.
-use Rattle.std.proofs.Common.{◌≡◌, ◌∙◌, ap, sym, subst, refl, ℕ, ◌+◌, ◌==◌, ◌≤◌, List, [], ◌∷◌, ◌++◌, length, arith, Bool, true, false, true≢false, not, ◌&&◌, ◌||◌, cond, nat_lt, inl, inr, append-nil, append_assoc, map, Some, None, is_some, Result}
+use Rattle.std.proofs.Common.{◌≡◌, ◌∙◌, ap, sym, subst, refl, ℕ, ◌+◌, ◌==◌, ◌≤◌, List, [], ◌∷◌, ◌++◌, length, arith, Bool, true, false, true≢false, not, ◌&&◌, ◌||◌, cond, nat_lt, inl, inr, append-nil, append_assoc, map, Option, Some, None, is_some, is_none, Result}
 use Rattle.std.specs.List.{list_any, list_all}
 use Rattle.std.proofs.lemmas.Bool.{eq-eqb, eqb-true, lt-ltb, ltb-false, ltb-true, and_parts, not-true}
 use Rattle.std.proofs.lemmas.List.Recursion.{is_position_or_len}
+use Rattle.ir_types.specs.declared.refusal.Refusal.{Refusal}
 use Rattle.ir_types.specs.declared.refusal.Refusal.TheVariants.{Memory}
 use Rattle.ir_tree.specs.Meaning.{Operation}
 use Rattle.ir_event.specs.Modules.{Module}
