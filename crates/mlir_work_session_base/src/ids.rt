@@ -120,13 +120,13 @@ fn behind_first(ids: &[OpId]) -> &[OpId]
 fn put_lines(out: &mut Vec<u8>, text: &[u8], ids: &[OpId]) -> Result<(), AllocError>
     ensures { OnOk result (out.new.items ≡ out.old.items ++ with_ids (lines_of text.now) ids.now) }
 {
-    let mut text = text;
-    let mut ids = ids;
-    while !text.is_empty() {
-        let (line, rest) = split_line(text);
-        put_line(out, line, ids)?;
-        text = rest;
-        ids = behind_first(ids);
+    let mut rest = text;
+    let mut left = ids;
+    while !rest.is_empty() {
+        let (line, behind) = split_line(rest);
+        put_line(out, line, left)?;
+        rest = behind;
+        left = behind_first(left);
     }
     Ok(())
 }
