@@ -1,10 +1,14 @@
 -- The lines of trees, and lines that are written with their ids.
 use Rattle.std.proofs.Common.{◌≡◌, ◌∙◌, ◌<◌, ◌≤◌, ◌==◌, ap, sym, refl, ℕ, List, [], ◌∷◌, ◌++◌, append-nil, append_assoc, arith, length, map, drop, Bool, true, false}
 use Rattle.std.proofs.lemmas.Bool.Decides.{nat_tests}
+use Rattle.ir_types.specs.Terms.{name_term, type_term, attr_term}
+use Rattle.ir_types.specs.Things.{Things}
+use Rattle.ir_text.specs.Printing.{text_of}
+use Rattle.ir_tree.specs.Meaning.{meaning}
 use Rattle.ir_tree.specs.Maps.{map_tree, map_regions, map_region, map_ops}
 use Rattle.ir_tree.specs.Tree.{Op, OpOf, op, RegionsOf, no_regions, region, RegionOf, empty, block, OpsOf, no_ops, next, ops_of}
 use Rattle.mlir_work_script.specs.Lines.{lines_of}
-use Rattle.mlir_work_session_base.specs.IdsText.{bare_label_ids, label_ids, line_end, line_ids, ops_line_ids, region_line_ids, regions_line_ids, with_ids}
+use Rattle.mlir_work_session_base.specs.IdsText.{bare_label_ids, ids_text, label_ids, line_end, line_ids, ops_line_ids, region_line_ids, regions_line_ids, with_ids}
 
 -- where a block has operations, and where it has no arguments
 pub not_bare : (x : ℕ) (os : List Op) → 1 ≤ length os → bare_label_ids x (ops_of os) ≡ []
@@ -49,9 +53,13 @@ emptied text r e f = grind (arith, nat_tests)
 
 -- one line more is written, and then those that are left
 pub lines_step : (text line rest ids left before after whole : List ℕ) → lines_of text ≡ line ∷ lines_of rest → after ≡ before ++ (line ++ line_end ids) → left ≡ drop 1 ids → before ++ with_ids (lines_of text) ids ≡ whole → after ++ with_ids (lines_of rest) left ≡ whole
-lines_step text line rest ids left before after whole cut put next so_far = rw (put, next, append_assoc, append_assoc) (rw cut at so_far)
+lines_step text line rest ids left before after whole cut put behind so_far = rw (put, behind, append_assoc, append_assoc) (rw cut at so_far)
 
 -- none is left
 pub lines_done : (text ids out whole : List ℕ) → length text ≤ 0 → out ++ with_ids (lines_of text) ids ≡ whole → out ≡ whole
 lines_done [] ids out whole h so_far = sym (append-nil out) ∙ so_far
 lines_done (b ∷ bs) ids out whole h so_far = absurd (omega (arith, h))
+
+-- lines of the text of what a tree stands for have the ids of the tree's
+pub shown_with_ids : (c : Things) (t : Op) (text : List ℕ) → text ≡ text_of (meaning c t) → with_ids (lines_of text) (line_ids t) ≡ ids_text (meaning c t)
+shown_with_ids c t text is = ap (λ (xs : List ℕ). with_ids (lines_of xs) (line_ids t)) is ∙ ap (with_ids (lines_of (text_of (meaning c t)))) (sym (lines_mapped (name_term c) (type_term c) (attr_term c) t))
