@@ -37,10 +37,6 @@ module _ {N T A M U B : Type 0} (f : N → M) (g : T → U) (h : A → B) where
   map_the_head : (o : OpOf N T A) → head (map_tree f g h o) ≡ map_head f g h (head o)
   map_the_head (op x rs) = refl
 
-      go : (o : Option (OpOf N T A)) → option_and_then (λ (o : OpOf M U B). option_and_then ops_in (region_at r (regions o))) (option_map (map_tree f g h) o) ≡ option_map (map_ops f g h) (option_and_then (λ (o : OpOf N T A). option_and_then ops_in (region_at r (regions o))) o)
-      go None = refl
-      go (Some (op y rs)) = ap (option_and_then ops_in) ((map_region_at f g h) r rs) ∙ inside (region_at r rs)
-
   map_but_last : (o : OpOf N T A) (os : OpsOf N T A) → but_last (map_tree f g h o) (map_ops f g h os) ≡ but_last o os
   map_but_last o no_ops = refl
   map_but_last o (next p os) = λ i. (map_the_head o i).id ∷ map_but_last p os i
@@ -87,7 +83,7 @@ module _ (c : Things) (x r : ℕ) (t : Op) where
   moved = map_ops (name_term c) (type_term c) (attr_term c)
 
   whole : body_at x r (meaning c t) ≡ closed (meaning c t) (option_map (map_ops (name_term c) (type_term c) (attr_term c)) (ops_at x r t))
-  whole = body_closed x r m ∙ ap (closed m) ((map_ops_at f g h) (name_term c) (type_term c) (attr_term c) x r t)
+  whole = body_closed x r m ∙ ap (closed m) (map_ops_at (name_term c) (type_term c) (attr_term c) x r t)
 
   -- a block that has no last operation
   pub body_no_last : None ≡ last_at x r t → None ≡ body_at x r (meaning c t)
