@@ -32,7 +32,7 @@ behind (r ∷ rows) (suc n) l = behind rows n (omega (arith, l))
 
 longer : (rows : List Row) (row : Row) → length (rows ++ row ∷ []) ≡ length rows + 1
 longer [] row = refl
-longer (r ∷ rows) row = ap suc (longer rows row)
+longer (r ∷ rows) row = (let e = longer rows row in omega (arith, e))
 
 -- no name behind those of the table has rules
 none_behind : (c : Things) → IsSound c → (n : ℕ) → 39 ≤ n → rules_for (name_term c n) ≡ []
