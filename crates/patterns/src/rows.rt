@@ -50,7 +50,7 @@ fn row(alloc: Global, rules: &[Rule], listed: &[Rule]) -> Result<Vec<Rule>, Allo
 const COUNT: u32 = 39;
 
 /// Those of some rules that there may be at operations of each name, at its number.
-fn rows(alloc: Global, rules: &[Rule]) -> Result<Vec<Vec<Rule>>, AllocError>
+fn by_name(alloc: Global, rules: &[Rule]) -> Result<Vec<Vec<Rule>>, AllocError>
     ensures { IfOk result (λ v. AreRowsOf rules.now v.items) }
 {
     let mut rows = Vec::with_capacity(alloc, COUNT as usize)?;
@@ -70,7 +70,7 @@ impl<'a> Rows<'a> {
         ensures list { IfOk result (λ made. made.rules.now ≡ rules.now) }
         ensures rows { IfOk result IsByName }
     {
-        let rows = rows(alloc, rules)?;
+        let rows = by_name(alloc, rules)?;
         Ok(Rows { rules, rows })
     }
 
