@@ -32,7 +32,7 @@ fn is_among(rule: Rule, listed: &[Rule]) -> bool
 }
 
 /// Those of some rules that are among others, in their order.
-fn row(alloc: Global, rules: &[Rule], listed: &[Rule]) -> Result<Vec<Rule>, AllocError>
+fn row_among(alloc: Global, rules: &[Rule], listed: &[Rule]) -> Result<Vec<Rule>, AllocError>
     ensures { IfOk result (λ v. v.items ≡ filter (λ r. list_any (same_rule r) listed.now) rules.now) }
 {
     let mut row = Vec::new(alloc);
@@ -57,7 +57,7 @@ fn by_name(alloc: Global, rules: &[Rule]) -> Result<Vec<Vec<Rule>>, AllocError>
     let mut number = 0;
     'numbers: while number < COUNT {
         let listed = rules_of(NameId::new(number));
-        let row = row(alloc, rules, listed)?;
+        let row = row_among(alloc, rules, listed)?;
         rows.push(row)?;
         number += 1;
     }
