@@ -9,6 +9,7 @@ ghost use Rattle.constants.specs.Tables.{known_in};
 use ir_tree::value::Value;
 use ir_types::bits::Bits;
 use ir_types::ids::OpId;
+use smallvec::SmallVec;
 use std::alloc::{AllocError, Global};
 use std::collections::BTreeMap;
 
@@ -49,15 +50,15 @@ fn value_fact(table: &BTreeMap<OpId, Bits>, value: &Value) -> Option<Bits>
     }
 }
 
-/// What is known of each of these values.
+/// What is known of each of these values. Most operations have two at most, for which no memory is taken.
 pub(crate) fn value_facts(
     alloc: Global,
     table: &BTreeMap<OpId, Bits>,
     values: &[Value],
-) -> Result<Vec<Option<Bits>>, AllocError>
+) -> Result<SmallVec<Option<Bits>, 2>, AllocError>
     ensures { IfOk result (λ r. map known_of r.items ≡ knowns (known_in table.now) values.now) }
 {
-    let mut facts = Vec::new(alloc);
+    let mut facts = SmallVec::new(alloc);
     for value in values {
         facts.push(value_fact(table, value))?;
     }

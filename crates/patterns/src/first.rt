@@ -21,7 +21,7 @@ use ir_types::refusal::Refusal;
 use patterns_base::laws::only_listed_rules_apply;
 use patterns_base::rule::Rule;
 use patterns_facts::laws::no_edit_is_refused;
-use patterns_reads::clean::is_clean;
+use patterns_reads::clean::is_clean_shown;
 use patterns_reads::look::{front, shown};
 use patterns_runs::Bench;
 use std::alloc::{AllocError, Global};
@@ -48,7 +48,7 @@ fn find_first(
     let Some(front) = front(world, op) else {
         return Ok(None);
     };
-    if !is_clean(alloc, world, op, &node)? {
+    if !is_clean_shown(alloc, world, op, &node)? {
         return Ok(None);
     }
     match first_made(alloc, world, rules, &front, op, &node)? {

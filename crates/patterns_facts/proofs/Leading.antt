@@ -42,6 +42,7 @@ use Rattle.patterns_facts.proofs.NearAccepted.{results_in}
 use Rattle.patterns_facts.proofs.Ordered.{Inside, inner_shows, later_around, put_inside}
 use Rattle.patterns_facts.proofs.Steps.{Across, each_at}
 use Rattle.patterns_facts.proofs.Within as within_y
+use Rattle.ir_tree_laws.proofs.Facts.{new_id}
 
 slice_at : (done : List TypeTerm) (ty : TypeTerm) (tys : List TypeTerm) → slice_get (map lowered_type (done ++ ty ∷ tys)) (length done) ≡ Some (lowered_type ty)
 slice_at [] ty tys = refl
@@ -120,7 +121,7 @@ module _ (x y : ℕ) (front : Place) (hx hy : Header) (deep : ℕ) (y_opened : i
     new_inside = within_put
       where
         within_put : Inside y 0 m.next (edited (Make (end_of y 0) (bridge Index (Arg y 0 k))) m).tree
-        within_put = subst (λ i. Inside y 0 i (edited (Make (end_of y 0) (bridge Index (Arg y 0 k))) m).tree) (kept.new_id m.next (bridge Index (Arg y 0 k))) (put_inside (end_of y 0) (with_id m.next (bridge Index (Arg y 0 k))) m.tree (kept.may is_isolated m w (end_of y 0) spot (bridge Index (Arg y 0 k)) refl) y 0 refl refl)
+        within_put = subst (λ i. Inside y 0 i (edited (Make (end_of y 0) (bridge Index (Arg y 0 k))) m).tree) (new_id m.next (bridge Index (Arg y 0 k))) (put_inside (end_of y 0) (with_id m.next (bridge Index (Arg y 0 k))) m.tree (kept.may is_isolated m w (end_of y 0) spot (bridge Index (Arg y 0 k)) refl) y 0 refl refl)
 
     fresh_of : (b : ℕ) → has_id b m.tree ≡ true → has_id b (with_id m.next (bridge Index (Arg y 0 k))) ≡ false
     fresh_of b h = λ i. (nat_eq_equiv.symm m.next b ∙ kept.not_new is_isolated m w (end_of y 0) spot (bridge Index (Arg y 0 k)) refl b h) i || false

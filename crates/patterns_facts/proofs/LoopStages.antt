@@ -76,6 +76,7 @@ use Rattle.patterns_facts.proofs.Steps.{Across, Fit, nothing, there_of, two_apar
 use Rattle.patterns_base.proofs.Facts.{crossed_length, kept_type}
 use Rattle.std.proofs.lemmas.Option.{slice_get_within, same_Some}
 use Rattle.ir_event.proofs.Facts.{own_id}
+use Rattle.ir_tree_laws.proofs.Facts.{new_id}
 
 pub got_none : (tys : List TypeTerm) (k : ℕ) → length tys ≤ k → is_some (slice_get tys k) ≡ false
 got_none [] zero l = refl
@@ -379,8 +380,8 @@ module _ (m : Module) (o : Operation) (front : Place) (s : Spot m o front) (name
   held_before4 h ty k =
       let at4 = (one4.stays (λ b i. i)).before h x (held_there3 h ty k) (there_is is_isolated x front m3 st3) (held_before3 h ty k) in
       let may = kept.may is_isolated m3 st3.formed front spot3 new leaf in
-      let apart : eqb h (head (with_id y new)).id ≡ false = ap (eqb h) (kept.new_id y new) ∙ kept.not_new is_isolated m3 st3.formed front spot3 new leaf h (held_there3 h ty k) in
-      subst (λ i. Before h i m4.tree) (kept.new_id y new) (put_behind front (with_id y new) m3.tree may h x (before_is x front m3.tree st3.at) at4 apart)
+      let apart : eqb h (head (with_id y new)).id ≡ false = ap (eqb h) (new_id y new) ∙ kept.not_new is_isolated m3 st3.formed front spot3 new leaf h (held_there3 h ty k) in
+      subst (λ i. Before h i m4.tree) (new_id y new) (put_behind front (with_id y new) m3.tree may h x (before_is x front m3.tree st3.at) at4 apart)
 
   abbrev pub B : ℕ → Type 0
   B b = (has_id b m5.tree ≡ true) × ((z : Operation) → In z like.0 → has_id b z ≡ false)

@@ -54,6 +54,7 @@ use Rattle.patterns_facts.proofs.Spots.{own_operand}
 use Rattle.patterns_facts.proofs.Steps.{Across, Fit, Lack, UsedBy, absent_all, each_at, nothing, there_of}
 use Rattle.ir_tree_laws.proofs.Changed.{gather_none}
 use Rattle.effects.proofs.Unused.{none_here}
+use Rattle.ir_tree_laws.proofs.Facts.{new_id}
 
 abbrev Stand : Type 0
 Stand = StandOf (List ℕ) TypeTerm AttrTerm
@@ -232,7 +233,7 @@ module _ (x : ℕ) (front : Place) (m : Module) (s : StandsAt x front m) (new : 
   abbrev pub started : Across x m.next front (head s.at.here) (head (with_id m.next new)) (length (s.at.step_in ∷ s.at.path)) (edited (Make front new) m)
   started = record {
     stood = stood;
-    before = subst (λ i. Before i x after) (kept.new_id n new) (put_before front (with_id n new) m.tree (kept.may is_isolated m s.formed front (made_there.spot is_isolated x front m s) new leaf) x (before_is x front m.tree s.at));
+    before = subst (λ i. Before i x after) (new_id n new) (put_before front (with_id n new) m.tree (kept.may is_isolated m s.formed front (made_there.spot is_isolated x front m s) new leaf) x (before_is x front m.tree s.at));
     x_is = stays.heads x x_there ∙ ap (option_map head) (found_there is_isolated x front m s);
     y_is = ap (option_map head) (kept.made_found is_isolated m s.formed front (made_there.spot is_isolated x front m s) new leaf);
     unused = λ j. nothing (uses_of (Result n j) after) (λ u i. elim (kept.made_uses is_isolated m s.formed front (made_there.spot is_isolated x front m s) new leaf (Result n j) u i) [

@@ -50,6 +50,7 @@ use Rattle.patterns_facts.proofs.Moving.{HasBlock}
 use Rattle.patterns_facts.proofs.Ordered.{Before, Inside, around_at, before_headed, inside_headed, put_inside}
 use Rattle.patterns_facts.proofs.Steps.{Across, absent_all, each_at, nothing, there_of, two_apart, used_there}
 use Rattle.std.proofs.lemmas.Bool.{or_parts}
+use Rattle.ir_tree_laws.proofs.Facts.{new_id}
 
 abbrev Stand : Type 0
 Stand = StandOf (List ℕ) TypeTerm AttrTerm
@@ -152,7 +153,7 @@ module _ (x y r : ℕ) (front : Place) (hx hy : Header) (deep : ℕ) where
     fresh b h = lone b o leaf (kept.not_new is_isolated m w place spot o leaf b h)
 
     pub made_inside : Inside y r m.next (put place (with_id m.next o) m.tree)
-    made_inside = subst (λ i. Inside y r i after) (kept.new_id m.next o) (put_inside place (with_id m.next o) t (kept.may is_isolated m w place spot o leaf) y r in_y in_r)
+    made_inside = subst (λ i. Inside y r i after) (new_id m.next o) (put_inside place (with_id m.next o) t (kept.may is_isolated m w place spot o leaf) y r in_y in_r)
 
     pub across_made : Across x y front hx hy deep (edited (Make place o) m)
     across_made = record {

@@ -22,4 +22,4 @@ returns-clause-value c =
     let w = c.args.view.now.world.now in
     folds_as w c.args.op c.in-Some.node (sym c.node.ensures.answer ∙ c.in-Some.is) (known_in c.args.table.now) c.in_ok-operands.operands.items c.deref.result.now c.fold.result
     c.context.result.now c.name.result c.properties.result.now c.operands.result.now c.results.result.now
-    (c.context.ensures ∙ ap (λ (z : World). z.ctx) c.node.ensures.world) c.name.ensures c.properties.ensures c.operands.ensures c.results.ensures c.deref.ensures.value c.in_ok-operands.ensures c.fold.ensures
+    (c.context.ensures ∙ ap (λ (z : World). z.ctx) c.node.ensures.world) c.name.ensures c.properties.ensures c.operands.ensures c.results.ensures c.deref.ensures c.in_ok-operands.ensures c.fold.ensures

@@ -17,24 +17,24 @@ returns-in_default-front c = none_of c.args.rows.now.rules.now (module_in c.args
 pub returns-then-not-branch : goal.returns-then-not-branch
 returns-then-not-branch c =
     none_of c.args.rows.now.rules.now (module_in c.args.world.now) c.args.op
-    (λ r. none_clean r (module_in c.args.world.now) c.args.op (head_in c.args.world.now.ctx c.in-Some.node) _ c.in-Some.ensures.node c.in_ok-is_clean.ensures c.if-not-branch.true)
+    (λ r. none_clean r (module_in c.args.world.now) c.args.op (head_in c.args.world.now.ctx c.in-Some.node) _ c.in-Some.ensures.node c.in_ok-is_clean_shown.ensures c.if-not-branch.true)
 
 pub first_made-requires-clause-clean : goal.first_made-requires-clause-clean
-first_made-requires-clause-clean c = sym c.in_ok-is_clean.ensures ∙ c.if-not-branch.false
+first_made-requires-clause-clean c = sym c.in_ok-is_clean_shown.ensures ∙ c.if-not-branch.false
 
 pub returns-in_default-likely : goal.returns-in_default-likely
 returns-in_default-likely c =
     let rs = c.args.rows.now.rules.now in
     (list_suffices c.only_listed_rules_apply.ensures.applies (module_in c.args.world.now) c.args.op (head_in c.args.world.now.ctx c.in-Some.node) c.in-Some.ensures.node rs c.requires.canonical c.of-listed.result.now
     (c.of-listed.ensures ∙ c.requires.by_name c.args.world.now.ctx c.sound.ensures _ ∙ ap (λ n. those_for rs (name_term c.args.world.now.ctx n)) c.name.ensures))
-    ∙ c.in_default-likely.ensures
+    ∙ c.in_default-likely.ensures.likely
 
 pub returns-in-None : goal.returns-in-None
 returns-in-None c =
     let rs = c.args.rows.now.rules.now in
     none_of_list c.args.world.now c.args.op c.in-Some-front.front rs c.in-Some-likely.rules.now
     ((list_suffices c.only_listed_rules_apply.ensures.applies (module_in c.args.world.now) c.args.op (head_in c.args.world.now.ctx c.in-Some.node) c.in-Some.ensures.node rs c.requires.canonical c.of-listed.result.now
-    (c.of-listed.ensures ∙ c.requires.by_name c.args.world.now.ctx c.sound.ensures _ ∙ ap (λ n. those_for rs (name_term c.args.world.now.ctx n)) c.name.ensures)) ∙ c.in-Some-likely.ensures)
+    (c.of-listed.ensures ∙ c.requires.by_name c.args.world.now.ctx c.sound.ensures _ ∙ ap (λ n. those_for rs (name_term c.args.world.now.ctx n)) c.name.ensures)) ∙ c.in-Some-likely.ensures.likely)
     _ c.in_ok-rule.ensures c.in-None.is
 
 pub returns-in-Some-2 : goal.returns-in-Some-2
@@ -42,5 +42,5 @@ returns-in-Some-2 c =
     let rs = c.args.rows.now.rules.now in
     some_of_list c.args.world.now c.args.op c.in-Some-front.front rs c.in-Some-likely.rules.now
     ((list_suffices c.only_listed_rules_apply.ensures.applies (module_in c.args.world.now) c.args.op (head_in c.args.world.now.ctx c.in-Some.node) c.in-Some.ensures.node rs c.requires.canonical c.of-listed.result.now
-    (c.of-listed.ensures ∙ c.requires.by_name c.args.world.now.ctx c.sound.ensures _ ∙ ap (λ n. those_for rs (name_term c.args.world.now.ctx n)) c.name.ensures)) ∙ c.in-Some-likely.ensures)
+    (c.of-listed.ensures ∙ c.requires.by_name c.args.world.now.ctx c.sound.ensures _ ∙ ap (λ n. those_for rs (name_term c.args.world.now.ctx n)) c.name.ensures)) ∙ c.in-Some-likely.ensures.likely)
     _ c.in-Some-2.rule c.in-Some-2.made c.in_ok-rule.ensures c.in-Some-2.is
