@@ -18,7 +18,6 @@ use Rattle.listeners_surroundings.proofs.Reading.{head_shown}
 use Rattle.ir_tree_laws.proofs.Facts.{region_below}
 
 module _ {N T A : Type 0} where
-
   -- what ends a block stands there with nothing behind it
   pub record Ending (p y : ℕ) (t : OpOf N T A) : Type 0 where
     pub here : OpOf N T A

@@ -27,7 +27,6 @@ use Rattle.greedy.proofs.Tracking.{recursive_found as recursive_there}
 use Rattle.std.proofs.lemmas.Option.{same_Some}
 
 module _ {N T A : Type 0} (own : N → Own) where
-
   pub recursive_absent : (t : OpOf N T A) (x : ℕ) → find x t ≡ None → recursive_at own x t ≡ false
   recursive_absent t x e = ap (λ z. elim z as (λ _. Bool) [ None ↦ false | Some o ↦ is_recursive (own (head o).name) ]) e
 

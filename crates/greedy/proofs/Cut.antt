@@ -128,7 +128,6 @@ module _ {N T A : Type 0} (place : Place) (o : OpOf N T A) (b : ℕ) (before : p
       go (inr c) = absurd (true≢false (sym (come_there b (ids o) (regions_ids rs) (regions_ids (regions_each_list (put_here place o) h.id 0 rs)) c) ∙ a))
 
 module _ {N T A : Type 0} where
-
   pub found_present : (x : ℕ) (t o : OpOf N T A) → find x t ≡ Some o → Present x (ids t)
   found_present x t o e = let s = found_stands x t o e in subst (λ z. Present z (ids t)) s.2 (stand_present [] t s.0 s.1)
 

@@ -90,10 +90,10 @@ none_still m n x (r ∷ rs) h still e =
     ∙ none_still m n x rs (All-tail IsTried r rs h) still parts.1
 
 -- ---- the root, where no rule applies: all others come after it
-root_or_behind : (m : Module) (t : Operation) (z : ℕ) → has_id z t ≡ true → (z ≡ (head t).id) ⊎ (precedes (head t).id z t ≡ true)
-root_or_behind m (op h rs) z e = elim (bool_cases (eqb h.id z)) [
+root_or_behind : (t : Operation) (z : ℕ) → has_id z t ≡ true → (z ≡ (head t).id) ⊎ (precedes (head t).id z t ≡ true)
+root_or_behind (op h rs) z e = elim (bool_cases (eqb h.id z)) [
   | inl k ↦ inl (sym (eqb-true h.id z k))
-  | inr k ↦ inr (before_here m h.id z (regions_ids rs) (listed_past h.id z (regions_ids rs) k e))
+  | inr k ↦ inr (before_here h.id z (regions_ids rs) (listed_past h.id z (regions_ids rs) k e))
 ]
 
 root_there : (t : Operation) → has_id (head t).id t ≡ true
@@ -144,7 +144,7 @@ module _ (rs : List Rule) where
   pub begun : (m : Module) → HasDistinctIds m.tree → Right rs (head m.tree).id [] m
   begun m d = record {
     work = record { there = root_there m.tree; inside = λ y k. absurd (true≢false (sym k)); behind = λ y k. absurd (true≢false (sym k)); falls = tt };
-    covers = λ z h w. elim (root_or_behind m m.tree z h) [
+    covers = λ z h w. elim (root_or_behind m.tree z h) [
       | inl e ↦ subst (λ y. first_rule rs m y ≡ none) (sym e) (no_rules rs m d)
       | inr k ↦ absurd (true≢false (sym (ap (λ b. b || is_listed z []) k) ∙ w))
     ];

@@ -1,7 +1,8 @@
 -- The rows of a list of rules, by the numbers of names.
-use Rattle.std.proofs.Common.{◌≡◌, refl, ap, sym, ◌∙◌, subst, inl, inr, ◌⊎◌, ℕ, zero, suc, ◌+◌, ◌<◌, ◌≤◌, List, [], ◌∷◌, ◌++◌, length, map, slice_index_or, arith}
+use Rattle.std.proofs.Common.{◌≡◌, refl, ap, sym, ◌∙◌, subst, inl, inr, ℕ, zero, suc, ◌+◌, ◌<◌, ◌≤◌, List, [], ◌∷◌, ◌++◌, length, map, slice_index_or, arith}
 use Rattle.std.specs.Prelude.{Vec}
 use Rattle.std.specs.List.{filter, list_any}
+use Rattle.std.proofs.lemmas.Bool.{cases_lt, cases_order}
 use Rattle.std.specs.declared.alloc.Global.{Global}
 use Rattle.ir_types.specs.Things.{Things}
 use Rattle.ir_types.specs.Terms.{name_term}
@@ -31,7 +32,7 @@ behind (r ∷ rows) (suc n) l = behind rows n (omega (arith, l))
 
 longer : (rows : List Row) (row : Row) → length (rows ++ row ∷ []) ≡ length rows + 1
 longer [] row = refl
-longer (r ∷ rows) row = ap suc (longer rows row)
+longer (r ∷ rows) row = (let e = longer rows row in omega (arith, e))
 
 -- no name behind those of the table has rules
 none_behind : (c : Things) → IsSound c → (n : ℕ) → 39 ≤ n → rules_for (name_term c n) ≡ []
@@ -49,24 +50,24 @@ module _ (rs : List Rule) where
   pub none_yet : AreUpTo 0 []
   none_yet = (refl, λ c sound n l. absurd (omega (arith, l)))
 
-  last_or_earlier : (n k : ℕ) → n < k + 1 → (n ≡ k) ⊎ (n < k)
-  last_or_earlier n k l = omega (arith, l)
-
   pub one_more : (k : ℕ) (rows : List Row) (row : Row) (listed : List Rule) → AreUpTo k rows → row.items ≡ among listed → ((c : Things) → IsSound c → listed ≡ rules_for (name_term c k)) → AreUpTo (k + 1) (rows ++ row ∷ [])
-  one_more k rows row listed is made of = (longer rows row ∙ ap (λ n. n + 1) is.0, λ c sound n l. elim (last_or_earlier n k l) [
-    | inl e ↦ (ap (row_at (rows ++ row ∷ [])) (e ∙ sym is.0) ∙ newest rows row ∙ made ∙ ap among (of c sound) ∙ ap (λ (i : ℕ). those_for rs (name_term c i)) (sym e))
-    | inr h ↦ (earlier rows row n (subst (λ (i : ℕ). n < i) (sym is.0) h) ∙ is.1 c sound n h)
-  ])
+  one_more k rows row listed is made of = (
+    longer rows row ∙ ap (λ n. n + 1) is.0,
+    λ c sound n l. elim (cases_order n k) [
+      | inl e ↦ (ap (row_at (rows ++ row ∷ [])) (e ∙ sym is.0) ∙ newest rows row ∙ made ∙ ap among (of c sound) ∙ ap (λ (i : ℕ). those_for rs (name_term c i)) (sym e))
+      | inr o ↦ elim o [
+        | inl h ↦ (earlier rows row n (subst (λ (i : ℕ). n < i) (sym is.0) h) ∙ is.1 c sound n h)
+        | inr h ↦ absurd (omega (arith, l, h))
+      ]
+    ],
+  )
 
   none_among : (xs : List Rule) → filter (λ r. list_any (same_rule r) []) xs ≡ []
   none_among [] = refl
   none_among (x ∷ xs) = none_among xs
 
-  below_or_behind : (n : ℕ) → (39 ≤ n) ⊎ (n < 39)
-  below_or_behind n = omega arith
-
   pub all_rows : (rows : List Row) → AreUpTo 39 rows → AreRowsOf rs rows
-  all_rows rows is c sound n = elim (below_or_behind n) [
-    | inl l ↦ (behind rows n (subst (λ (i : ℕ). i ≤ n) (sym is.0) l) ∙ sym (none_among rs) ∙ ap among (sym (none_behind c sound n l)))
-    | inr l ↦ is.1 c sound n l
+  all_rows rows is c sound n = elim (cases_lt n 39) [
+    | inr l ↦ (behind rows n (subst (λ (i : ℕ). i ≤ n) (sym is.0) l) ∙ sym (none_among rs) ∙ ap among (sym (none_behind c sound n l)))
+    | inl l ↦ is.1 c sound n l
   ]

@@ -32,7 +32,7 @@ fn is_among(rule: Rule, listed: &[Rule]) -> bool
 }
 
 /// Those of some rules that are among others, in their order.
-fn row(alloc: Global, rules: &[Rule], listed: &[Rule]) -> Result<Vec<Rule>, AllocError>
+fn row_among(alloc: Global, rules: &[Rule], listed: &[Rule]) -> Result<Vec<Rule>, AllocError>
     ensures { IfOk result (λ v. v.items ≡ filter (λ r. list_any (same_rule r) listed.now) rules.now) }
 {
     let mut row = Vec::new(alloc);
@@ -50,14 +50,14 @@ fn row(alloc: Global, rules: &[Rule], listed: &[Rule]) -> Result<Vec<Rule>, Allo
 const COUNT: u32 = 39;
 
 /// Those of some rules that there may be at operations of each name, at its number.
-fn rows(alloc: Global, rules: &[Rule]) -> Result<Vec<Vec<Rule>>, AllocError>
+fn by_name(alloc: Global, rules: &[Rule]) -> Result<Vec<Vec<Rule>>, AllocError>
     ensures { IfOk result (λ v. AreRowsOf rules.now v.items) }
 {
     let mut rows = Vec::with_capacity(alloc, COUNT as usize)?;
     let mut number = 0;
     'numbers: while number < COUNT {
         let listed = rules_of(NameId::new(number));
-        let row = row(alloc, rules, listed)?;
+        let row = row_among(alloc, rules, listed)?;
         rows.push(row)?;
         number += 1;
     }
@@ -70,7 +70,7 @@ impl<'a> Rows<'a> {
         ensures list { IfOk result (λ made. made.rules.now ≡ rules.now) }
         ensures rows { IfOk result IsByName }
     {
-        let rows = rows(alloc, rules)?;
+        let rows = by_name(alloc, rules)?;
         Ok(Rows { rules, rows })
     }
 

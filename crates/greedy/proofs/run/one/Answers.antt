@@ -74,6 +74,9 @@ returns-clause-ok g c =
     let e : next_by rs m ≡ none = all_none rs m w.passed w.again.items r c.in_default.ensures in
     subst (λ p. Applied (next_by rs p) false p m) h (subst (λ a. Applied a false m m) (sym e) (refl, refl))
 
+pub returns-in-Ok-clause-onward : goal.returns-in-Ok-clause-onward
+returns-in-Ok-clause-onward g c = g.R.Rewriting.through _ _ _ c.waiting.invariant.1.1.1.0 c.first.ensures.onward
+
 pub returns-in-Err-renew-clause-onward : goal.returns-in-Err-renew-clause-onward
 returns-in-Err-renew-clause-onward g c = g.R.Rewriting.through _ _ _ c.waiting.invariant.1.1.1.0 c.first.ensures.onward
 

@@ -1,6 +1,6 @@
-use Rattle.std.proofs.Common.{◌≡◌, ap, inl, refl, sym, subst, List}
+use Rattle.std.proofs.Common.{inl, inr, refl, sym, subst, List}
 use Rattle.patterns_base.specs.declared.rule.Rule.{Rule}
-use Rattle.patterns.specs.Rows.{AreCanonical, MayBeTried}
+use Rattle.patterns.specs.Rows.{AreCanonical}
 use Rattle.greedy.specs.Outcomes.{IsReasonBy, IsRewriting}
 use Rattle.greedy.proofs.Comings.{limit_low, limit_high, limit_fits, limit_reason, stop_reason}
 use Rattle.greedy.proofs.Noting.{left_none}
@@ -27,5 +27,5 @@ run_by-requires g c = record { by_name = c.in-Ok.ensures.rows; canonical = subst
 pub returns-in-Ok-run_by-clause-ok : goal.returns-in-Ok-run_by-clause-ok
 returns-in-Ok-run_by-clause-ok g c = subst (λ (rs : List Rule). IsRewriting rs c.args.limit (g.R.Rewriting.held c.args.bench.now) c.in-Ok-run_by.outcome (g.R.Rewriting.held c.run_by.new.bench)) c.in-Ok.ensures.list c.in-Ok-run_by.ensures.ok
 
-pub returns-in-Err-clause-refused : goal.returns-in-Err-clause-refused
-returns-in-Err-clause-refused g c = subst (λ (rs : List Rule). IsReasonBy rs c.args.limit (g.R.Rewriting.held c.args.bench.now) (g.R.Rewriting.full c.run_by.new.bench) c.in-Err.refusal) c.in-Ok.ensures.list c.in-Err.ensures.refused
+pub returns-clause-refused : goal.returns-clause-refused
+returns-clause-refused g c = subst (λ (rs : List Rule). IsReasonBy rs c.args.limit (g.R.Rewriting.held c.args.bench.now) (g.R.Rewriting.full c.run_by.new.bench) c.in-Err.refusal) c.in-Ok.ensures.list c.in-Err.ensures.refused

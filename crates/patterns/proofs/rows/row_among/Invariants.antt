@@ -1,7 +1,7 @@
 use Rattle.std.proofs.Common.{◌≡◌, ◌++◌, length}
 use Rattle.std.specs.List.{filter, list_any}
 use Rattle.patterns_base.specs.RuleNames.{same_rule}
-use Rattle.patterns.proofs.rows.row.Given as goal
+use Rattle.patterns.proofs.rows.row_among.Given as goal
 
 abbrev pub invariant-rules : goal.invariant-rules
 invariant-rules l =
