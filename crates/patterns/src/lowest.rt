@@ -125,10 +125,10 @@ pub(crate) fn first_made(
     let [rule, others @ ..] = rules else {
         return Ok(None);
     };
-    if let Some(made) = try_likely(alloc, world, *rule, front, op, node)? {
-        return Ok(Some((*rule, made)));
+    match try_likely(alloc, world, *rule, front, op, node)? {
+        Some(made) => Ok(Some((*rule, made))),
+        None => first_applying(alloc, world, others, front, op, node),
     }
-    first_applying(alloc, world, others, front, op, node)
 }
 
 /// The lowest rule that applies at an operation. Whether that is clean is asked only where a rule may apply.

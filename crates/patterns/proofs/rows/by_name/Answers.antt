@@ -12,7 +12,7 @@ numbers-preserved c =
     let rs = c.args.rules.now in (
       omega (arith, c.numbers-test.true),
       subst (λ (rows : List (Vec Rule Global)). AreUpTo rs (c.numbers.number + 1) rows) (sym c.in_ok-push.ensures.items)
-      (one_more rs c.numbers.number c.numbers.rows.items c.in_ok-row.row c.rules_of-listed.result.now c.numbers.invariant.1 c.in_ok-row.ensures (λ k s. c.rules_of-listed.ensures k s ∙ ap (λ (n : ℕ). rules_for (name_term k n)) c.new.ensures)),
+          (one_more rs c.numbers.number c.numbers.rows.items c.in_ok-row.row c.rules_of-listed.result.now c.numbers.invariant.1 c.in_ok-row.ensures (λ k s. c.rules_of-listed.ensures k s ∙ ap (λ (n : ℕ). rules_for (name_term k n)) c.new.ensures)),
     )
 
 pub returns : goal.returns
