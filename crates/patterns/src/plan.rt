@@ -31,8 +31,8 @@ use std::alloc::{AllocError, Global};
 pub enum Made {
     /// Operations of the types that there are.
     Plan(Plan),
-    /// Operations on i64 in place of one on index, which are larger.
-    Lowering(Box<Lowering>),
+    /// Operations on i64 in place of one on index.
+    Lowering(Lowering),
 }
 
 /// What a rule makes of an operation, and the place in front of that.
@@ -84,7 +84,7 @@ fn made_of(
 {
     if rule.is_lowering() {
         return match plan_lowered(alloc, world, rule, op)? {
-            Some(lowering) => Ok(Some(Made::Lowering(Box::new(alloc, lowering)?))),
+            Some(lowering) => Ok(Some(Made::Lowering(lowering))),
             None => Ok(None),
         };
     }

@@ -52,7 +52,7 @@ use Rattle.patterns_book.specs.Planning.{Plan, all_made, constants_known, entrie
 use Rattle.patterns_book.specs.Shapes.{Shape}
 use Rattle.patterns_matched.specs.Built.{plan_of}
 use Rattle.patterns_matched.specs.Makeable.{given_type, is_makeable, is_named, last_type, new_type, result_type, root_type, same_number, spares}
-use Rattle.patterns_matched.proofs.Found.{bound_at, bound_from, given_is, made_many, standing_is, stands_there, types_hold, types_keep, values_many, values_pass}
+use Rattle.patterns_matched.proofs.Found.{bound_at, bound_from, given_is, made_many, standing_is, stands_there, types_hold, types_keep, values_many, values_pass, when_is}
 use Rattle.patterns_matched.proofs.Ordered.{planned_is}
 use Rattle.patterns_own.specs.Own.{OwnAreAccepted, edits_for, is_one, own_edits}
 use Rattle.patterns_own.proofs.Seen.{Sees, begins, pieces_see, stands}
@@ -264,9 +264,9 @@ parts t clean n p x r e =
     let c = given_is (pieces_matched t clean (placed (old_place p) p.old) b.0) _ r b.2 in
     let ts = given_is (typed t clean n p c.0) _ r c.2 in
     let us = given_is (types_at t clean 0 p.values c.0 (map written p.kinds)) _ ts.0 ts.1 in
-    let w = when_some (fits (map kind_standing ts.0) p && constants_known t clean n p c.0) _ r ts.2 in
+    let w = when_is (fits (map kind_standing ts.0) p && constants_known t clean n p c.0) _ r ts.2 in
     let env = given_is (run (Content.given (content_with (map kind_standing ts.0) p)) (outcomes t clean n p 0 p.values c.0)) _ r w.1 in
-    let u = when_some (further_known t clean n p (further_place p) p.further c.0 env.0) _ r env.2 in
+    let u = when_is (further_known t clean n p (further_place p) p.further c.0 env.0) _ r env.2 in
     let made = given_is (all_made ts.0 env.0 n (new_place p) p.new c.0) _ r u.1 in
     let v = given_is (standing p.result made.0.1) _ r made.2 in
     record {
@@ -383,7 +383,7 @@ own_are_accepted p m x formed es n e carried =
     go : (o : Operation) → find x m.tree ≡ Some o → (front : Place) → front_of x m.tree ≡ Some front → (one : (ty : TypeTerm) × ((head o).results ≡ ty ∷ [])) → (r : Option Plan) → plan_of m.tree (is_clean m.tree) m.next p x ≡ r → edits_for front x r ≡ Some es → Free es m
     go o found front at one None is e = absurd cc
     go o found front at one (Some r) is e =
-        let w = when_some (is_makeable p) (planned m.tree (is_clean m.tree) m.next p x) r is in
+        let w = when_is (is_makeable p) (planned m.tree (is_clean m.tree) m.next p x) r is in
         let some = both (list_all is_named p.new) _ w.0 in
         let rest = both (list_all (spares p.root) p.new) _ some.1 in
         let number = same_is (result_type p) (root_type p) rest.1 in
