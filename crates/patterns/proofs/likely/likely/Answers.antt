@@ -6,8 +6,8 @@ use Rattle.patterns.proofs.Firsts.{none_first}
 use Rattle.patterns.proofs.likely.likely.Goals as goal
 use Rattle.ir_types.proofs.Truths.{none_left}
 
-pub returns-then-is_likely : goal.returns-then-is_likely
-returns-then-is_likely c = c.rules.invariant
+pub returns-then-is_likely-clause-likely : goal.returns-then-is_likely-clause-likely
+returns-then-is_likely-clause-likely c = c.rules.invariant
 
-pub returns : goal.returns
-returns c = c.rules.invariant ∙ ap (λ z. first_rule (greedy z) (module_in c.args.world.now) c.args.op) (none_left c.rules.rest.now c.in_default.len_below) ∙ none_first (module_in c.args.world.now) c.args.op
+pub returns-clause-likely : goal.returns-clause-likely
+returns-clause-likely c = c.rules.invariant ∙ ap (λ z. first_rule (greedy z) (module_in c.args.world.now) c.args.op) (none_left c.rules.rest.now c.in_default.len_below) ∙ none_first (module_in c.args.world.now) c.args.op
