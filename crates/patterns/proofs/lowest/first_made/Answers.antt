@@ -1,4 +1,4 @@
-use Rattle.std.proofs.Common.{◌∙◌, ap, sym, subst, refl, List, Some, slice_index_or}
+use Rattle.std.proofs.Common.{◌∙◌, ◌-◌, ap, sym, subst, refl, List, Some, slice_index_or, take, drop, length}
 use Rattle.std.specs.Prelude.{IfOk}
 use Rattle.ir_event.specs.Modules.{module_in}
 use Rattle.ir_types.proofs.Truths.{none_left, rest_at}
@@ -14,6 +14,10 @@ use Rattle.patterns.proofs.lowest.first_made.Goals as goal
 abbrev first : List Rule → Rule
 first xs = slice_index_or xs 0 EraseDead
 
+-- and those behind it
+abbrev others : List Rule → List Rule
+others xs = take (length xs - 1) (drop 1 xs)
+
 pub returns-in_default : goal.returns-in_default
 returns-in_default c = ap (λ z. first_rule (greedy z) (module_in c.args.world.now) c.args.op) (none_left c.args.rules.now c.in_default.len_below) ∙ none_first (module_in c.args.world.now) c.args.op
 
@@ -27,7 +31,7 @@ returns-in-Some c =
     let w = c.args.world.now in
     let xs = c.args.rules.now in
     let t = subst (TriedFirst (first xs) w c.args.op c.args.front.now) c.in-Some.is c.in_ok-made.ensures in
-    subst (λ (rs : List Rule). IsFirst rs w c.args.op c.args.front.now (Some (first xs, c.in-Some.made))) (sym (rest_at xs (first xs) EraseDead c.in-len1-up.len_at_least refl)) (t.0, t.1 _)
+    subst (λ (rs : List Rule). IsFirst rs w c.args.op c.args.front.now (Some (first xs, c.in-Some.made))) (sym (rest_at xs (first xs) EraseDead c.in-len1-up.len_at_least refl)) (t.0, t.1 (others xs))
 
 pub returns-in-None : goal.returns-in-None
 returns-in-None c =
@@ -35,4 +39,4 @@ returns-in-None c =
     let xs = c.args.rules.now in
     let t = subst (TriedFirst (first xs) w c.args.op c.args.front.now) c.in-None.is c.in_ok-made.ensures in
     subst (λ (rs : List Rule). IfOk c.first_applying.result (IsFirst rs w c.args.op c.args.front.now)) (sym (rest_at xs (first xs) EraseDead c.in-len1-up.len_at_least refl))
-    (first_others_ok w c.args.op c.args.front.now (first xs) _ c.first_applying.result t c.first_applying.ensures)
+    (first_others_ok w c.args.op c.args.front.now (first xs) (others xs) c.first_applying.result t c.first_applying.ensures)
