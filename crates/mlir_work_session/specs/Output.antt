@@ -1,6 +1,6 @@
 -- The output of a script, as a relation: memory may be refused at any command, and a listener may turn stale
 -- where it is told of an edit. All else is determined.
-use Rattle.std.specs.Prelude.{◌≡◌, ℕ, ◌+◌, ◌<◌, ◌≤◌, List, [], ◌∷◌, ◌++◌, length, Bool, true, false, not, ◌&&◌, ◌⊎◌, Option, Some, None, is_none, if◌then◌else◌, codes}
+use Rattle.std.specs.Prelude.{◌≡◌, ℕ, ◌+◌, ◌<◌, ◌≤◌, List, [], ◌∷◌, ◌++◌, length, Bool, true, false, not, ◌==◌, ◌&&◌, ◌⊎◌, Option, Some, None, is_none, if◌then◌else◌, codes}
 use Rattle.ir_types.specs.Refusals.{number_of}
 use Rattle.ir_types.specs.declared.refusal.Refusal.{Refusal}
 use Rattle.ir_types.specs.declared.refusal.Refusal.TheVariants.{BadCommand, KindTaken, Memory}
@@ -44,27 +44,27 @@ is_accepted (TextRefusedAt refusal offset) = false
 
 -- whether one refusal is another
 abbrev pub same_refusal : Refusal → Refusal → Bool
-same_refusal expected refusal = number_of expected == number_of refusal
+same_refusal wanted refusal = number_of wanted == number_of refusal
 
 -- whether the command was refused for this
 abbrev pub is_refused_for : Refusal → Response → Bool
-is_refused_for expected (Says Done) = false
-is_refused_for expected (Says (DoneAs x)) = false
-is_refused_for expected (Says (DoneWith outcome)) = false
-is_refused_for expected (Says (Refused refusal)) = same_refusal expected refusal
-is_refused_for expected (Says (RefusedOn refusal x)) = same_refusal expected refusal
-is_refused_for expected (TextRefusedAt refusal offset) = same_refusal expected refusal
+is_refused_for wanted (Says Done) = false
+is_refused_for wanted (Says (DoneAs x)) = false
+is_refused_for wanted (Says (DoneWith outcome)) = false
+is_refused_for wanted (Says (Refused refusal)) = same_refusal wanted refusal
+is_refused_for wanted (Says (RefusedOn refusal x)) = same_refusal wanted refusal
+is_refused_for wanted (TextRefusedAt refusal offset) = same_refusal wanted refusal
 
 -- whether a response is as the line wants it: the command is refused as it expects, or is accepted, where it expects
 -- nothing
 abbrev pub is_right : Option Refusal → Response → Bool
 is_right None response = is_accepted response
-is_right (Some expected) response = is_refused_for expected response
+is_right (Some wanted) response = is_refused_for wanted response
 
 -- below the reply stands what was expected, where something else came
 abbrev pub surprise_line : ℕ → Option Refusal → Response → List ℕ
 surprise_line n None response = []
-surprise_line n (Some expected) response = if is_refused_for expected response then [] else expected_line n expected
+surprise_line n (Some wanted) response = if is_refused_for wanted response then [] else expected_line n wanted
 
 -- the reply to command n, of which this was expected
 abbrev pub reply_text : ℕ → Option Refusal → Response → List ℕ

@@ -138,12 +138,12 @@ pub(crate) fn put_reply<W: Sink>(writer: &mut W, n: u64, reply: Reply) -> Result
 fn put_surprise<W: Sink>(
     writer: &mut W,
     n: u64,
-    expected: Option<Refusal>,
-    reply: Reply,
+    expected: &Option<Refusal>,
+    reply: &Reply,
 ) -> Result<(), WriteFault>
-    ensures { Puts (W.stream writer.old) (W.stream writer.new) (surprise_line n expected (response_of reply)) result }
+    ensures { Puts (W.stream writer.old) (W.stream writer.new) (surprise_line n expected.now (response_of reply.now)) result }
 {
-    let Some(refusal) = expected else {
+    let Some(refusal) = *expected else {
         return Ok(());
     };
     if reply.is_refused_for(refusal) {
@@ -156,24 +156,24 @@ fn put_surprise<W: Sink>(
 fn put_reply_text<W: Sink>(
     writer: &mut W,
     n: u64,
-    expected: Option<Refusal>,
-    reply: Reply,
+    expected: &Option<Refusal>,
+    reply: &Reply,
 ) -> Result<(), WriteFault>
-    ensures { Puts (W.stream writer.old) (W.stream writer.new) (reply_text n expected (response_of reply)) result }
+    ensures { Puts (W.stream writer.old) (W.stream writer.new) (reply_text n expected.now (response_of reply.now)) result }
 {
-    match put_reply(writer, n, reply) {
+    match put_reply(writer, n, *reply) {
         Ok(()) => put_surprise(writer, n, expected, reply),
         Err(fault) => Err(fault),
     }
 }
 
 /// Whether a reply is as a line wants it.
-fn is_right(expected: Option<Refusal>, reply: Reply) -> bool
-    ensures { result ≡ is_right expected (response_of reply) }
+fn is_right(expected: &Option<Refusal>, reply: &Reply) -> bool
+    ensures { result ≡ is_right expected.now (response_of reply.now) }
 {
     match expected {
         None => reply.is_accepted(),
-        Some(refusal) => reply.is_refused_for(refusal),
+        Some(refusal) => reply.is_refused_for(*refusal),
     }
 }
 
@@ -183,14 +183,14 @@ fn put_answer<L: Analysis, W: Sink>(
     listed: bool,
     bench: &Bench<L>,
     n: u64,
-    expected: Option<Refusal>,
+    expected: &Option<Refusal>,
     answered: &Answered,
     writer: &mut W,
 ) -> Result<(), WriteFault>
     requires { IsKept L.meaning bench.now }
-    ensures { PutsSome (IsReplied listed (state_of L.meaning bench.now) n expected (response_of answered.now.reply) answered.now.shows.items) (W.stream writer.old) (W.stream writer.new) result }
+    ensures { PutsSome (IsReplied listed (state_of L.meaning bench.now) n expected.now (response_of answered.now.reply) answered.now.shows.items) (W.stream writer.old) (W.stream writer.new) result }
 {
-    match put_reply_text(writer, n, expected, answered.reply) {
+    match put_reply_text(writer, n, expected, &answered.reply) {
         Ok(()) => {}
         Err(fault) => return Err(fault),
     }
@@ -236,12 +236,12 @@ pub fn answer_line<L: Supplied, W: Sink>(
     }
     let answered = answer(alloc, manner, bench, &line);
     let listed = is_listed(manner.brief, &line);
-    match put_answer(alloc, listed, bench, n, expected, &answered, writer) {
+    match put_answer(alloc, listed, bench, n, &expected, &answered, writer) {
         Ok(()) => {}
         Err(fault) => return Err(fault),
     }
     match put_end(writer, manner.ends) {
-        Ok(()) => Ok(Some(is_right(expected, answered.reply))),
+        Ok(()) => Ok(Some(is_right(&expected, &answered.reply))),
         Err(fault) => Err(fault),
     }
 }
