@@ -49,7 +49,7 @@ recursive_found own x t n e = go (find x t) refl
     go (Some o) i =
         let some : Some n ≡ Some (node_of o) = e ∙ ap (option_map node_of) i in
         let same : n ≡ node_of o = cc in
-        ap (λ z. is_recursive (own z)) (ap (λ (m : Node). m.head.name) same ∙ shown o) ∙ sym ((recursive_there own) own t o x i)
+        ap (λ z. is_recursive (own z)) (ap (λ (m : Node). m.head.name) same ∙ shown o) ∙ sym (recursive_there own t o x i)
 
 -- a climb in contents is one in numbers
 module _ (c : Things) (t : Op) where
@@ -64,7 +64,7 @@ module _ (c : Things) (t : Op) where
 
       go : (f : Option Op) → find x t ≡ f → recursive_at own_of x (meaning c t) ≡ recursive_at (own_by c) x t
       go None i = recursive_absent own_of (meaning c t) x (found ∙ ap (option_map (meaning c)) i) ∙ sym (recursive_absent (own_by c) t x i)
-      go (Some o) i = (recursive_there own) own_of (meaning c t) (meaning c o) x (found ∙ ap (option_map (meaning c)) i) ∙ ap (λ n. is_recursive (own_of n)) (name o) ∙ sym ((recursive_there own) (own_by c) t o x i)
+      go (Some o) i = recursive_there own_of (meaning c t) (meaning c o) x (found ∙ ap (option_map (meaning c)) i) ∙ ap (λ n. is_recursive (own_of n)) (name o) ∙ sym (recursive_there (own_by c) t o x i)
 
   same_parent : (x : ℕ) → parent_of x (meaning c t) ≡ parent_of x t
   same_parent x = ap (option_map (λ (p : Place). p.parent)) (map_place (name_term c) (type_term c) (attr_term c) x t)
