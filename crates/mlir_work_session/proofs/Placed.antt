@@ -23,11 +23,6 @@ use Rattle.rewriter.specs.Held.{Held, module_held}
 use Rattle.rewriter.specs.Spots.{Spot, Before, After, Start, End, passing, coming, behind, beside, in_block, spot_place}
 
 module _ {N T A M U B : Type 0} (f : N → M) (g : T → U) (h : A → B) where
-
-      go : (o : Option (OpOf N T A)) → option_and_then (λ (o : OpOf M U B). option_and_then ops_in (region_at r (regions o))) (option_map (map_tree f g h) o) ≡ option_map (map_ops f g h) (option_and_then (λ (o : OpOf N T A). option_and_then ops_in (region_at r (regions o))) o)
-      go None = refl
-      go (Some (op y rs)) = ap (option_and_then ops_in) ((map_region_at f g h) r rs) ∙ inside (region_at r rs)
-
   map_has_block : (p r : ℕ) (t : OpOf N T A) → is_some (ops_at p r (map_tree f g h t)) ≡ is_some (ops_at p r t)
   map_has_block p r t = ap is_some ((map_ops_at f g h) p r t) ∙ go (ops_at p r t)
     where

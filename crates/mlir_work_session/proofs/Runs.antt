@@ -27,6 +27,9 @@ line_skipped Rest way n s expected Bad status out e h = absurd (let f : false �
 line_skipped Rest way n s expected (Obey command) status out e h = absurd (let f : false ≡ true = e in cc)
 line_skipped Rest way n s expected (Ordered order) status out e h = absurd (let f : false ≡ true = e in cc)
 
+pub run_skipped : (way : Way) (n : ℕ) (s : State) (text line more : List ℕ) (later : ℕ) (rest : List ℕ) → lines_of text ≡ line ∷ lines_of more → says_nothing (line_says line) ≡ true → Runs way n s (lines_of more) later rest → Runs way n s (lines_of text) later rest
+run_skipped way n s text line more later rest e nothing h = rw e (line_skipped (λ m t st o. Runs way m t (lines_of more) st o) way n s (line_expects line) (line_says line) later rest nothing h)
+
 pub line_replied : (Rest : ℕ → State → ℕ → List ℕ → Type 0) (way : Way) (n : ℕ) (s : State) (expected : Option Refusal) (spoken : Spoken) (status : ℕ) (out : List ℕ) → says_nothing spoken ≡ false → Replied Rest way n s expected spoken status out → Line Rest way n s expected spoken status out
 line_replied Rest way n s expected Nothing status out e h = absurd (let f : true ≡ false = e in cc)
 line_replied Rest way n s expected Bad status out e h = h
@@ -140,6 +143,7 @@ some_line : (Rest : ℕ → State → ℕ → List ℕ → Type 0) (way : Way) (
 some_line Rest way n s expected Nothing some = some n s
 some_line Rest way n s expected Bad some = some_replied Rest way n s expected Bad (Says (Refused BadCommand)) [] s (refl, refl, refl) (λ why offset e. absurd cc) some
 some_line Rest way n s expected (Obey command) some = let a = some_answer way.manner s command in some_replied Rest way n s expected (Obey command) a.0 a.1 a.2 a.3 (λ why offset e. absurd (a.4 why offset e)) some
+some_line Rest way n s expected (Ordered order) some = let a = some_fulfilled way s order in some_replied Rest way n s expected (Ordered order) a.0 a.1 a.2 a.3 (fulfils_bounded way.manner.bytes way s order a.0 a.1 a.2 a.3) some
 
 -- from each state each script has an output, as each command has an answer
 pub some_runs : (way : Way) (lines : List (List ℕ)) (n : ℕ) (s : State) → (st : ℕ) × (o : List ℕ) × Runs way n s lines st o

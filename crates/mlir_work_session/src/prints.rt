@@ -10,8 +10,7 @@ ghost use Rattle.mlir_work_script.specs.Limits.{most_script_bytes};
 ghost use Rattle.rewriter.specs.Panels.{Shown, all_shown};
 ghost use Rattle.mlir_work_session.specs.Machine.{response_of};
 ghost use Rattle.mlir_work_session.specs.Output.{IsSession, Runs, Way, reply_line};
-ghost use Rattle.mlir_work_session.specs.PrintsAlone.{IsPrinted, all_print, is_print, kinds_apart, line_prints};
-ghost use Rattle.mlir_work_session.specs.PrintsAlone.{prints_alone};
+ghost use Rattle.mlir_work_session.specs.PrintsAlone.{IsPrinted, all_print, is_print, kinds_apart, prints_alone};
 ghost use Rattle.mlir_work_session.specs.Ran.{RanOut};
 
 use crate::reply::Reply;
@@ -52,14 +51,6 @@ fn prints(line: &Line<'_>) -> bool
     }
 }
 
-/// Whether a line says nothing, or asks for the module, and expects nothing.
-fn line_prints(line: &[u8]) -> bool
-    ensures { result ≡ line_prints line.now }
-{
-    let read = read_line(line);
-    expected_of(line).is_none() && prints(&read)
-}
-
 /// Where the first of some listeners stands that has a kind.
 fn place_of_kind<L: Analysis>(listeners: &[L], kind: Kind) -> Option<usize>
     ensures { result ≡ position (is_of_kind L.meaning kind) listeners.now }
@@ -92,14 +83,19 @@ fn kinds_differ<L: Analysis>(listeners: &[L]) -> bool
     true
 }
 
-/// Whether each line of a script says nothing, or asks for the module and expects nothing, and no two of some listeners have one kind.
+/// Whether each line of a script says nothing, or asks for the module and expects nothing, and no two of some listeners
+/// have one kind.
 pub fn only_prints<L: Analysis>(script: &[u8], listeners: &[L]) -> bool
     ensures { result ≡ (all_print (lines_of script.now) && kinds_apart L.meaning listeners.now) }
 {
     let mut text = script;
     while !text.is_empty() {
         let (first, rest) = split_line(text);
-        if !line_prints(first) {
+        if expected_of(first).is_some() {
+            return false;
+        }
+        let line = read_line(first);
+        if !prints(&line) {
             return false;
         }
         text = rest;
