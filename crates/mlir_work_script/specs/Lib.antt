@@ -10,8 +10,6 @@ pub mod Kinds
 pub mod Spots
 pub mod Keys
 pub mod RuleNames
-pub mod Orders
-pub mod Expecting
 pub mod Commands
 pub mod Writes
 pub mod Limits

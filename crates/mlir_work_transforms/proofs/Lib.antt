@@ -5,4 +5,3 @@ pub mod Converted
 pub mod Listed
 pub mod Named
 pub mod Ruled
-pub mod Chosen

@@ -1,5 +1,4 @@
 pub mod Applying
-pub mod Rewriting
 pub mod Sweep
 pub mod Erasing
 pub mod Interned

@@ -1,2 +1,0 @@
-pub mod RowWalks
-pub mod Lines

@@ -1,2 +1,0 @@
-pub mod RowText
-pub mod IdsText
