@@ -1,6 +1,6 @@
 -- The forms in which the code of the first phase has its facts.
 use Rattle.std.proofs.Common.{◌≡◌, ◌<◌, ◌≤◌, ◌+◌, ℕ, List, [], ◌∷◌, ◌++◌, length, get_or, take, Bool, true, false, true≢false, Option, Some, None, refl, sym, ap, ◌∙◌, subst, cond, arith}
-use Rattle.std.proofs.lemmas.List.{append_assoc, append-nil, take_all}
+use Rattle.std.proofs.lemmas.List.{append_assoc, append-nil, take_all, length_push}
 use Rattle.ir_types.specs.declared.bits.Bits.{Bits}
 use Rattle.ir_tree_laws.specs.Members.{In}
 use Rattle.dialects_int.specs.Folds.{Known, known_of}
@@ -37,10 +37,6 @@ user_before us u rest whole e = subst (λ (l : List (ℕ × ℕ)). length us < l
     go : (us : List (ℕ × ℕ)) → length us < length (users_of (us ++ u ∷ rest))
     go [] = omega arith
     go (w ∷ us) = let h = go us in omega (arith, h)
-
-pub user_more : (us : List (ℕ × ℕ)) (u : ℕ × ℕ) → length (us ++ u ∷ []) ≡ length us + 1
-user_more [] u = refl
-user_more (w ∷ us) u = let h = user_more us u in omega (arith, h)
 
 pub user_passed : (us : List (ℕ × ℕ)) (u : ℕ × ℕ) (left rest whole : List (ℕ × ℕ)) → us ++ left ≡ whole → left ≡ u ∷ rest → (us ++ u ∷ []) ++ rest ≡ whole
 user_passed us u left rest whole e f = append_assoc us (u ∷ []) rest ∙ ap (λ l. us ++ l) (sym f) ∙ e

@@ -10,9 +10,10 @@ use Rattle.constants.specs.Facts.{Header, Facts, value, AreLocal, folded_if}
 use Rattle.constants.specs.Walk.{with_fact}
 use Rattle.constants.specs.Trails.{OnceEach, Uses, IsTrail}
 use Rattle.constants.specs.Phases.{Forgotten, Forgetting, SameBut}
-use Rattle.constants.proofs.Walks.{in_or_not, not_both, put_same, put_other}
+use Rattle.constants.proofs.Walks.{not_both, put_same, put_other}
 use Rattle.constants.proofs.Knowing.{value_uses, value_less}
 use Prim.Native.Nat.{zero, suc}
+use Rattle.ir_tree_laws.proofs.Facts.{in_or_not}
 
 pub once_append : (xs ys : List ℕ) → OnceEach xs → OnceEach ys → ((y : ℕ) → In y xs → In y ys → ⊥) → OnceEach (xs ++ ys)
 once_append [] ys a b apart = b

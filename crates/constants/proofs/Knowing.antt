@@ -9,7 +9,8 @@ use Rattle.dialects_int.proofs.KnowingMore.{knowing_more}
 use Rattle.constants.specs.Facts.{Header, Facts, known, knowns, folded, folded_if, value}
 use Rattle.constants.specs.Walk.{nothing, with_fact, walk, look_among, AllMet, AreOrdered, met_after}
 use Rattle.constants.specs.Trails.{Uses, Follows}
-use Rattle.constants.proofs.Walks.{in_or_not, not_both, none_if_not, put_same, put_other, node_here, node_there, node_outside, folded_knowns}
+use Rattle.constants.proofs.Walks.{not_both, none_if_not, put_same, put_other, node_here, node_there, node_outside, folded_knowns}
+use Rattle.ir_tree_laws.proofs.Facts.{in_or_not}
 
 known_uses : (a b : Facts) (v : Value) → ((d : ℕ) → Result d 0 ≡ v → a d ≡ b d) → known a v ≡ known b v
 known_uses a b (Result x k) same = elim (cases_eq k 0) [

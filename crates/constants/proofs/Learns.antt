@@ -11,9 +11,10 @@ use Rattle.constants.specs.Facts.{Header, Facts, value, AreLocal}
 use Rattle.constants.specs.Walk.{with_fact}
 use Rattle.constants.specs.Trails.{Uses, IsKnown, Follows, IsTrail}
 use Rattle.constants.specs.Phases.{Forgetting, Noted, Learnt, Learning}
-use Rattle.constants.proofs.Walks.{in_or_not, some_or_none, not_both, none_if_not, put_same, put_other}
+use Rattle.constants.proofs.Walks.{some_or_none, not_both, none_if_not, put_same, put_other}
 use Rattle.constants.proofs.Knowing.{value_uses, value_more}
 use Rattle.constants.proofs.Forgets.{once_append, in_one, in_read}
+use Rattle.ir_tree_laws.proofs.Facts.{in_or_not}
 
 module _ (ops : ℕ → Option Header) where
   -- nothing was learnt

@@ -14,9 +14,7 @@ use Rattle.constants.specs.Facts.{Header, Facts, look, folded_if, AreLocal}
 use Rattle.constants.specs.Walk.{facts_of, look_among}
 use Rattle.constants.proofs.Walks.{walk_is_local, local_is_walk, value_same}
 use Rattle.constants.proofs.Ordering.{ordered_tree}
-
-flip : (a b : ℕ) → eqb a b ≡ eqb b a
-flip a b = grind (arith, nat_tests)
+use Rattle.ir_types.proofs.Sorting.{flips_eq}
 
 pub among_append : (xs ys : List Header) (x : ℕ) → look_among (xs ++ ys) x ≡ first_of (look_among xs x) (look_among ys x)
 among_append [] ys x = refl
@@ -31,7 +29,7 @@ first_head (Some a) b = refl
 mutual
   pub look_heads : (x : ℕ) (t : Operation) → look_among (heads t) x ≡ look t x
   look_heads x (op h rs) =
-      (λ i. cond (flip x h.id i) (Some h) (regions_look x rs i))
+      (λ i. cond (flips_eq x h.id i) (Some h) (regions_look x rs i))
       ∙ elim (eqb h.id x) as (λ b. cond b (Some h) (option_map head (regions_find x rs)) ≡ option_map head (cond b (Some (op h rs)) (regions_find x rs))) [ true ↦ refl | false ↦ refl ]
 
   regions_look : (x : ℕ) (rs : RegionsOf (List ℕ) TypeTerm AttrTerm) → look_among (regions_heads rs) x ≡ option_map head (regions_find x rs)

@@ -19,6 +19,7 @@ use Rattle.ir_event.proofs.Flat.{heads_ids}
 use Rattle.constants.specs.Facts.{Header}
 use Rattle.constants.specs.Walk.{AllMet, AreOrdered, met_after}
 use Rattle.constants.proofs.Walks.{met_stays}
+use Rattle.ir_types.proofs.Truths.{all_parts}
 
 -- the ids are distinct, and none was met
 abbrev Fresh : List ℕ → List Header → Type 0
@@ -52,13 +53,6 @@ any_parts v (g ∷ scope) f e = go (any_parts v scope f) (shows v g) e
     go : (in_scope (scope ++ f ∷ []) v ≡ true → (in_scope scope v ≡ true) ⊎ (shows v f ≡ true)) → (b : Bool) → (b || in_scope (scope ++ f ∷ []) v) ≡ true → ((b || in_scope scope v) ≡ true) ⊎ (shows v f ≡ true)
     go more true e = inl refl
     go more false e = more e
-
-all_parts : {X : Type 0} (p : X → Bool) (xs ys : List X) → list_all p (xs ++ ys) ≡ true → (list_all p xs ≡ true) × (list_all p ys ≡ true)
-all_parts p [] ys e = (refl, e)
-all_parts p (x ∷ xs) ys e =
-    let b = both (p x) (list_all p (xs ++ ys)) e in
-    let r = all_parts p xs ys b.1 in
-    (ap (λ c. c && list_all p xs) b.0 ∙ r.0, r.1)
 
 all_met : (scope : List Frame) (met : List ℕ) (vs : List Value) → Within scope met → list_all (in_scope scope) vs ≡ true → AllMet met vs
 all_met scope met [] within e = tt

@@ -1,7 +1,7 @@
 -- What an event reaches is closed under uses of what is known, and the trails of both phases are within it.
 use Rattle.std.proofs.Common.{◌≡◌, ◌≢◌, ◌≤◌, ◌+◌, ℕ, List, [], ◌∷◌, Bool, true, false, true≢false, ◌||◌, ◌&&◌, Option, Some, None, is_some, ◌⊎◌, inl, inr, refl, sym, ap, ◌∙◌, subst, cond, eqb, arith}
 use Rattle.std.specs.List.{list_any}
-use Rattle.std.proofs.lemmas.Bool.{eq-eqb, ne_eqb, cases_eq}
+use Rattle.std.proofs.lemmas.Bool.{eq-eqb, ne_eqb, cases_eq, or_left, or_right}
 use Rattle.ir_tree.specs.declared.value.Value.{Value}
 use Rattle.ir_tree.specs.declared.value.Value.TheVariants.{Result, Arg}
 use Rattle.ir_tree_laws.specs.Members.{In}
@@ -18,13 +18,6 @@ with_same x b r = ap (λ c. cond c b (r x)) (eq-eqb x x refl)
 
 with_other : (x y : ℕ) (b : Bool) (r : ℕ → Bool) → y ≢ x → with_op x b r y ≡ r y
 with_other x y b r ne = ap (λ c. cond c b (r y)) (ne_eqb y x ne)
-
-or_left : (a b : Bool) → a ≡ true → (a || b) ≡ true
-or_left a b e = ap (λ c. c || b) e
-
-or_right : (a b : Bool) → b ≡ true → (a || b) ≡ true
-or_right true b e = refl
-or_right false b e = e
 
 module _ (knows : ℕ → Bool) where
   abbrev now : Header → (ℕ → Bool) → Bool

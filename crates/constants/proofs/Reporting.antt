@@ -23,7 +23,9 @@ use Rattle.constants.specs.Rows.{constants_of, constant_row, constants_rows}
 use Rattle.ir_event.proofs.ById.{look, Above, Rising, rising_same}
 use Rattle.constants.proofs.Sorted.{constants_rising, constants_look}
 use Rattle.constants.specs.Tables.{known_in, cells_of}
-use Rattle.constants.proofs.Tables.{less_than, same_test}
+use Rattle.constants.proofs.Tables.{same_test}
+use Rattle.ir_types.proofs.Sorting.{flips_eq}
+use Rattle.ir_types.proofs.Truths.{less_than}
 
 -- what the entries of a table say
 abbrev said : List (ℕ × Bits) → List (ℕ × Known)
@@ -38,13 +40,10 @@ unfolding IsStrictlySortedBy
 said_rising [] s = tt
 said_rising (e ∷ es) s = (above_said e.0 es s.0, said_rising es s.1)
 
-flip : (a b : ℕ) → eqb a b ≡ eqb b a
-flip a b = grind (arith, nat_tests)
-
 look_said : (x : ℕ) (es : List (ℕ × Bits)) → look x (said es) ≡ known_of (lookup (is_at (nat_cmp x)) es)
 look_said x [] = refl
 look_said x (e ∷ es) =
-    ap (λ b. cond b (Some (e.1.kind, e.1.value)) (look x (said es))) (flip x e.0 ∙ sym (same_test x e.0))
+    ap (λ b. cond b (Some (e.1.kind, e.1.value)) (look x (said es))) (flips_eq x e.0 ∙ sym (same_test x e.0))
     ∙ ap (cond (is_eq (nat_cmp x e.0)) (Some (e.1.kind, e.1.value))) (look_said x es)
     ∙ elim (is_eq (nat_cmp x e.0)) as (λ b. cond b (Some (e.1.kind, e.1.value)) (known_of (lookup (is_at (nat_cmp x)) es)) ≡ known_of (cond b (Some e.1) (lookup (is_at (nat_cmp x)) es)))
     [ true ↦ refl | false ↦ refl ]

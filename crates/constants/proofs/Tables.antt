@@ -14,9 +14,7 @@ use Rattle.dialects_int.specs.Folds.{known_of}
 use Rattle.constants.specs.Facts.{Facts, known, knowns}
 use Rattle.constants.specs.Walk.{with_fact}
 use Rattle.constants.specs.Tables.{known_in}
-
-pub less_than : (x y : ℕ) → nat_cmp x y ≡ Less → x < y
-less_than x y e = subst (λ r. MatchOrdering r (x < y) (x ≡ y) (y < x)) e (ranks x y)
+use Rattle.ir_types.proofs.Truths.{less_than}
 
 pub same_test : (x y : ℕ) → is_eq (nat_cmp x y) ≡ eqb y x
 same_test x y = go (nat_cmp x y) refl (ranks x y)

@@ -34,26 +34,14 @@ use Rattle.constants.specs.Trails.{Uses, IsThere}
 use Rattle.constants.specs.Phases.{AreUsers}
 use Rattle.constants.proofs.Counts.{length_uses}
 use Rattle.constants.specs.Tables.{look_in, uses_in, users_of}
+use Rattle.ir_tree.proofs.Replaced.{same_value_true, same_value_refl}
 
 -- ---- uses in a list
-
-same_self : (v : Value) → same_value v v ≡ true
-same_self (Result x k) = both_hold (eqb x x) (eqb k k) (eq-eqb x x refl) (eq-eqb k k refl)
-same_self (Arg x r k) = both_hold (eqb x x) (eqb r r && eqb k k) (eq-eqb x x refl) (both_hold (eqb r r) (eqb k k) (eq-eqb r r refl) (eq-eqb k k refl))
-
-same_one : (v w : Value) → same_value v w ≡ true → v ≡ w
-same_one (Result x k) (Result y l) e = let b = both (eqb x y) (eqb k l) e in λ i. Result (eqb-true x y b.0 i) (eqb-true k l b.1 i)
-same_one (Result x k) (Arg y s l) e = absurd (true≢false (sym e))
-same_one (Arg x r k) (Result y l) e = absurd (true≢false (sym e))
-same_one (Arg x r k) (Arg y s l) e =
-    let b = both (eqb x y) (eqb r s && eqb k l) e in
-    let c = both (eqb r s) (eqb k l) b.1 in
-    λ i. Arg (eqb-true x y b.0 i) (eqb-true r s c.0 i) (eqb-true k l c.1 i)
 
 -- a use is listed where its operand is
 listed_use : (v : Value) (x k : ℕ) (vs : List Value) → In v vs → (j : ℕ) × In (x, j) (operand_uses v x k vs)
 listed_use v x k [] h = absurd h
-listed_use v x k (w ∷ ws) (inl e) = (k, subst (λ b. In (x, k) (cond b ((x, k) ∷ operand_uses v x (k + 1) ws) (operand_uses v x (k + 1) ws))) (sym (ap (λ z. same_value v z) (sym e) ∙ same_self v)) (inl refl))
+listed_use v x k (w ∷ ws) (inl e) = (k, subst (λ b. In (x, k) (cond b ((x, k) ∷ operand_uses v x (k + 1) ws) (operand_uses v x (k + 1) ws))) (sym (ap (λ z. same_value v z) (sym e) ∙ same_value_refl v)) (inl refl))
 listed_use v x k (w ∷ ws) (inr h) =
     let r = listed_use v x (k + 1) ws h in
     (r.0, elim (same_value v w) as (λ b. In (x, r.0) (cond b ((x, k) ∷ operand_uses v x (k + 1) ws) (operand_uses v x (k + 1) ws))) [ true ↦ inr r.1 | false ↦ r.1 ])
@@ -63,7 +51,7 @@ use_operand v x k y j [] h = absurd h
 use_operand v x k y j (w ∷ ws) h = go (use_operand v x (k + 1) y j ws) (same_value v w) refl h
   where
     go : (In (y, j) (operand_uses v x (k + 1) ws) → (y ≡ x) × In v ws) → (b : Bool) → same_value v w ≡ b → In (y, j) (cond b ((x, k) ∷ operand_uses v x (k + 1) ws) (operand_uses v x (k + 1) ws)) → (y ≡ x) × (In v (w ∷ ws))
-    go more true e (inl q) = (ap (λ (p : ℕ × ℕ). p.0) q, inl (same_one v w e))
+    go more true e (inl q) = (ap (λ (p : ℕ × ℕ). p.0) q, inl (same_value_true v w e))
     go more true e (inr g) = (let r = more g in (r.0, inr r.1))
     go more false e g = (let r = more g in (r.0, inr r.1))
 

@@ -7,19 +7,13 @@ use Rattle.ir_tree_laws.specs.Members.{In}
 use Rattle.dialects_int.specs.Folds.{Known, fold_of}
 use Rattle.constants.specs.Facts.{Header, Facts, known, knowns, folded, folded_if, AreLocal}
 use Rattle.constants.specs.Walk.{nothing, with_fact, walk, look_among, AllMet, AreOrdered, met_after}
+use Rattle.ir_tree_laws.proofs.Facts.{in_or_not}
 
 pub put_same : (x : ℕ) (v : Option Known) (t : Facts) → with_fact x v t x ≡ v
 put_same x v t = ap (λ b. cond b v (t x)) (eq-eqb x x refl)
 
 pub put_other : (x y : ℕ) (v : Option Known) (t : Facts) → y ≢ x → with_fact x v t y ≡ t y
 put_other x y v t ne = ap (λ b. cond b v (t y)) (ne_eqb y x ne)
-
-pub in_or_not : (y : ℕ) (xs : List ℕ) → In y xs ⊎ (In y xs → ⊥)
-in_or_not y [] = inr (λ h. h)
-in_or_not y (x ∷ xs) = elim (cases_eq y x) [
-  | inl e ↦ inl (inl e)
-  | inr ne ↦ elim (in_or_not y xs) [ inl h ↦ inl (inr h) | inr non ↦ inr (λ h. elim h [ inl e ↦ ne e | inr h2 ↦ non h2 ]) ]
-]
 
 pub some_or_none : (o : Option Known) → (o ≡ None) ⊎ ((v : Known) × (o ≡ Some v))
 some_or_none None = inl refl

@@ -10,26 +10,24 @@ use Rattle.ir_tree_laws.specs.Stands.{StepOf, StandOf, stand_id, stands, regions
 use Rattle.ir_tree_laws.specs.Members.{In}
 use Rattle.ir_tree_laws.proofs.Listed.{bool_cases, either, in_parts}
 use Rattle.ir_tree_laws.proofs.Readings.{step}
+use Rattle.ir_tree.proofs.Facts.{ids_head}
+use Rattle.std.proofs.lemmas.Bool.{or_right}
 
 -- ---- lists
 
 abbrev pub there : ℕ → List ℕ → Bool
 there x xs = list_any (λ y. eqb y x) xs
 
-pub or_true : (a b : Bool) → b ≡ true → (a || b) ≡ true
-or_true true b e = refl
-or_true false b e = e
-
 pub there_left : (x : ℕ) (xs ys : List ℕ) → there x xs ≡ true → there x (xs ++ ys) ≡ true
 there_left x [] ys h = absurd (true≢false (sym h))
 there_left x (y ∷ xs) ys h = elim (either (eqb y x) (there x xs) h) [
   | inl e ↦ ap (λ b. b || there x (xs ++ ys)) e
-  | inr e ↦ or_true (eqb y x) (there x (xs ++ ys)) (there_left x xs ys e)
+  | inr e ↦ or_right (eqb y x) (there x (xs ++ ys)) (there_left x xs ys e)
 ]
 
 pub there_right : (x : ℕ) (xs ys : List ℕ) → there x ys ≡ true → there x (xs ++ ys) ≡ true
 there_right x [] ys h = h
-there_right x (y ∷ xs) ys h = or_true (eqb y x) (there x (xs ++ ys)) (there_right x xs ys h)
+there_right x (y ∷ xs) ys h = or_right (eqb y x) (there x (xs ++ ys)) (there_right x xs ys h)
 
 pub first_once : (x b : ℕ) (xs : List ℕ) → IsDistinct eqb (x ∷ xs) → there b xs ≡ true → eqb x b ≡ true → ⊥
 first_once x b xs d h e = true≢false (sym h ∙ subst (λ z. there z xs ≡ false) (eqb-true x b e) (absent_first x xs d))
@@ -98,9 +96,6 @@ module _ {N T A : Type 0} where
           | inl l ↦ subst (λ xs. Cut xs s) (sym (append_assoc (ids o) (ops_ids os) end)) (cut_op (a ∷ b) o s l)
           | inr l ↦ subst (λ xs. Cut xs s) (sym (append_assoc (ids o) (ops_ids os) end)) (cut_more (ids o) (ops_ids os ++ end) s (cut_ops p b r args (front ++ o ∷ []) os s l))
         ]
-
-  ids_head : (o : OpOf N T A) → ids o ≡ (head o).id ∷ regions_ids (regions o)
-  ids_head (op h rs) = refl
 
   module _ (t : OpOf N T A) (d : HasDistinctIds t) where
     -- what is inside an operation or behind it comes after it

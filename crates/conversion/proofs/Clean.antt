@@ -22,6 +22,7 @@ use Rattle.ir_verify.specs.Breaks.{told_of, told_in, numbers_from, broken}
 use Rattle.patterns_base.specs.Looks.{Header, breaks_none, is_clean}
 use Rattle.patterns_base.specs.Words.{named}
 use Rattle.conversion_base.specs.Targets.{cast_name}
+use Rattle.effects.proofs.Followed.{node_head}
 
 -- the row of casts
 abbrev cast_row : Row
@@ -102,8 +103,6 @@ broken_alike s r same e =
     ap broken one ∙ ap (numbers_from 1) (told_alike s.node.head s.node.arguments s.lasts r.lasts s.types r.types s.outer r.outer) ∙ sym (ap broken two)
 
 -- ---- in two trees
-node_head : (o : Operation) → (node_of o).head ≡ head o
-node_head (op h rs) = refl
 
 found_around : (x : ℕ) (t o : Operation) → find x t ≡ Some o → (s : Surroundings) × (surroundings x t ≡ Some s) × (s.node ≡ node_of o)
 found_around x t o e = go (stand_of x t) refl (stands_find x [] t ∙ e)

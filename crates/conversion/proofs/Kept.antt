@@ -30,20 +30,17 @@ use Rattle.patterns_base.specs.Rewrites.{edits_of}
 use Rattle.patterns_base.specs.Words.{named, among, index_casts}
 use Rattle.conversion_base.specs.Reconciling.{is_cast, is_cast_found}
 use Rattle.conversion_base.specs.Targets.{cast_name}
-use Rattle.conversion_base.proofs.Falls.{found_id}
-use Rattle.conversion_base.proofs.Makes.{given_some, when_some}
+use Rattle.conversion_base.proofs.Falls.{found_id, rule_is}
+use Rattle.conversion_base.proofs.Makes.{given_some}
 use Rattle.conversion.proofs.Clean.{clean_alike}
 use Rattle.conversion.proofs.From.{From, type_back}
+use Rattle.patterns_base.proofs.Facts.{when_some}
 
 -- ---- how casting back comes to apply at a cast
 
 edits_are : (m : Module) (x : ℕ) → edits_of CastBack m x ≡ given (find x m.tree) (λ o. given (front_of x m.tree) (λ front. when (is_clean m.tree (head o)) (rule CastBack m.tree m.next front o)))
 unfolding edits_of
 edits_are m x = refl
-
-rule_is : (t : Operation) (n : ℕ) (front : Place) (o : Operation) → rule CastBack t n front o ≡ cast_back t n front o
-unfolding rule
-rule_is t n front o = refl
 
 -- its operand has the result's type; or a cast gives it, whose operand has
 abbrev Way : Operation → One → Type 0

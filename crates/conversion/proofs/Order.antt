@@ -17,14 +17,16 @@ use Rattle.ir_tree_laws.proofs.Members.{stand, joined_ops, within, ops_child}
 use Rattle.ir_tree_laws.proofs.Put.{child}
 use Rattle.ir_tree_laws.proofs.Around.{around_there}
 use Rattle.ir_tree_laws.proofs.Values.{shape}
-use Rattle.conversion.proofs.Behind.{behind, comes_later, first_once, or_true, regions_from, there, there_left, there_right}
+use Rattle.conversion.proofs.Behind.{behind, comes_later, first_once, regions_from, there, there_left, there_right}
+use Rattle.patterns_edits.proofs.Front.{joined_cut}
+use Rattle.std.proofs.lemmas.Bool.{or_right}
 
 -- ---- lists
 
 -- which of a list comes behind which
 behind_there : (a b : ℕ) (xs : List ℕ) → comes_after a b xs ≡ true → there b xs ≡ true
 behind_there a b [] h = absurd (true≢false (sym h))
-behind_there a b (x ∷ xs) h = or_true (eqb x b) (there b xs) (go (eqb x a) h (behind_there a b xs))
+behind_there a b (x ∷ xs) h = or_right (eqb x b) (there b xs) (go (eqb x a) h (behind_there a b xs))
   where
     go : (c : Bool) → cond c (there b xs) (comes_after a b xs) ≡ true → (comes_after a b xs ≡ true → there b xs ≡ true) → there b xs ≡ true
     go true k f = k
@@ -63,10 +65,6 @@ module _ {N T A : Type 0} where
   split f (g ∷ front) (inl e) = ([], front, ap (λ z. z ∷ front) (sym e))
   split f (g ∷ front) (inr h) = let r = split f front h in (g ∷ r.0, r.1, ap (λ l. g ∷ l) r.2)
 
-  joined_parts : (pre post : List (OpOf N T A)) (f : OpOf N T A) (os : OpsOf N T A) → joined_ops (pre ++ f ∷ post) os ≡ joined_ops pre (next f (joined_ops post os))
-  joined_parts [] post f os = refl
-  joined_parts (g ∷ pre) post f os = ap (next g) (joined_parts pre post f os)
-
   own_there : (o : OpOf N T A) → there (head o).id (ids o) ≡ true
   own_there (op h rs) = ap (λ b. b || there h.id (regions_ids rs)) (eq-eqb h.id h.id refl)
 
@@ -90,7 +88,7 @@ module _ {N T A : Type 0} where
         let s = split f a.front k in
         let rest = joined_ops s.1 (next o a.rest) in
         let u = stand f (step a.parent a.region a.args s.0 rest ∷ q) in
-        let shaped = shape t o a q h ∙ ap (λ l. Some (block a.args l)) (ap (λ l. joined_ops l (next o a.rest)) s.2 ∙ joined_parts s.0 s.1 f (next o a.rest)) in
+        let shaped = shape t o a q h ∙ ap (λ l. Some (block a.args l)) (ap (λ l. joined_ops l (next o a.rest)) s.2 ∙ joined_cut s.0 s.1 f (next o a.rest)) in
         let there_it : In u (stands [] t) = within a.parent q u (child a.parent q a.region a.args (joined_ops s.0 (next f rest)) u shaped (ops_child a.parent q a.region a.args [] s.0 f rest)) [] t (around_there t o a q h).1 in
         comes_later t d u (head o).id there_it
         (there_right (head o).id (regions_ids (regions f)) (behind u.path) (there_left (head o).id (ops_ids rest) (regions_ids (regions_from (a.region + 1) (regions a.parent)) ++ behind q) (joined_there o s.1 a.rest)))

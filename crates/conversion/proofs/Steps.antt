@@ -38,7 +38,7 @@ use Rattle.patterns_base.specs.Rewrites.{none, refused, becomes, edits_of, rewri
 use Rattle.patterns_base.specs.Words.{named}
 use Rattle.conversion_base.specs.Reconciling.{collapse, is_cast, is_cast_found, rewrite_or, unused_erased}
 use Rattle.conversion_base.specs.Targets.{cast_name}
-use Rattle.conversion_base.proofs.Falls.{becomes_is, cast_there, found_id, given_at}
+use Rattle.conversion_base.proofs.Falls.{cast_there, found_id, given_at}
 use Rattle.conversion_base.proofs.Makes.{applies, rewritten}
 use Rattle.conversion.specs.Givers.{givers_of}
 use Rattle.conversion.specs.Walks.{is_inner, NoRule}
@@ -46,6 +46,7 @@ use Rattle.conversion.proofs.From.{From, from_both, from_edited, from_left}
 use Rattle.conversion.proofs.Kept.{rule_back}
 use Rattle.conversion.proofs.Order.{never_both, precedes_through, seen_precedes}
 use Rattle.conversion.proofs.Used.{freed_erased, freed_replaced}
+use Rattle.conversion_base.proofs.Enough.{becomes_is}
 
 -- ---- a step
 

@@ -18,6 +18,8 @@ use Rattle.conversion_base.specs.Targets.{Aim, is_legal}
 use Rattle.conversion_base.specs.Legalization.{Outcome, legalised, failed, stopped, behind, and_then, or_else, standing, each_of, after_rule, first_rule, legalization_of, made_since}
 use Rattle.conversion.specs.States.{State, Applied, IsWant, Told, ToldBehind, Stops, Comes, ComesBehind, Closed, Leads, marked, marked_desk, went_well}
 use Rattle.conversion.proofs.Noting.{noted_closed}
+use Rattle.std.proofs.lemmas.Bool.{not-false, not-true}
+use Rattle.ir_types.proofs.Truths.{rest_at}
 
 -- ---- outcomes behind others
 
@@ -219,16 +221,3 @@ module _ {S : Type 0} (state : S → State) (desk : S → Held) (led : S → S �
         noted = noted_closed (desk start) (desk stepped) (desk here) (desk end) unmarked begun h.noted well dropped;
         told = more start here end (more start stepped here l h.told) k;
       }
-
-pub not_is : (b : Bool) → not b ≡ true → b ≡ false
-not_is true h = sym h
-not_is false h = refl
-
-pub is_not : (b : Bool) → not b ≡ false → b ≡ true
-is_not true h = refl
-is_not false h = sym h
-
--- a list that isn't empty, where its first is known
-pub rest_at : {X : Type 0} (xs : List X) (x d : X) → 1 ≤ length xs → x ≡ get_or xs 0 d → xs ≡ x ∷ take (length xs - 1) (drop 1 xs)
-rest_at [] x d l is = absurd (omega (arith, l))
-rest_at (y ∷ xs) x d l is = λ i. sym is i ∷ sym (take_all (length (y ∷ xs) - 1) xs (omega arith)) i

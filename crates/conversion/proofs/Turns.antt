@@ -18,7 +18,8 @@ use Rattle.conversion_base.specs.Reconciling.{is_cast, go_on, next_collapse, col
 use Rattle.conversion_base.specs.Conversion.{Ended, converted, given_up, counted, next_part, in_turn, ended, ended_at, failing, cast_ended, casts_left, checked, has_no_cast, later_parts}
 use Rattle.conversion.specs.States.{State, Applied, Refuses, AnswersBehind, IsWant, Comes, Wants, Faults, EndsWith, Ends, none_of, Converts, Closed, marked}
 use Rattle.conversion_base.proofs.Gone.{no_cast_is_left}
-use Rattle.conversion.proofs.Trying.{rest_at, noted}
+use Rattle.conversion.proofs.Trying.{noted}
+use Rattle.ir_types.proofs.Truths.{rest_at, times_more}
 
 -- ---- ends one behind another
 
@@ -84,9 +85,6 @@ turning_none f all start = counted_none (in_turn f all start.held)
 -- what is left of the times gives what all of them give
 abbrev pub Collapsing : ℕ → State → ℕ → State → Type 0
 Collapsing most start times here = collapsed times here.held ≡ collapsed most start.held
-
-times_more : (times : ℕ) → 0 < times → times ≡ suc (times - 1)
-times_more times l = omega arith
 
 module _ (most : ℕ) (start : State) where
   goes : (a b : Rewrite) (m : Module) (f : Module → Rewrite) (n : Module) → Applied a true m n → f n ≡ go_on f m a

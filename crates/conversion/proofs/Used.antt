@@ -17,6 +17,7 @@ use Rattle.ir_tree_laws.proofs.Readings.{stands_every}
 use Rattle.ir_tree_laws.proofs.Without.{left_member, same_head}
 use Rattle.effects.specs.Dead.{is_result_of, is_unused}
 use Rattle.conversion.specs.Givers.{givers_of}
+use Rattle.std.proofs.lemmas.Bool.{not-false}
 
 -- one of a list for which a test fails
 some_fails : {X : Type 0} (p : X → Bool) (xs : List X) → list_all p xs ≡ false → (x : X) × In x xs × (p x ≡ false)
@@ -26,10 +27,6 @@ some_fails {X} p (x ∷ xs) e = go (p x) refl e (some_fails p xs)
     go : (b : Bool) → p x ≡ b → (b && list_all p xs) ≡ false → (list_all p xs ≡ false → (y : X) × In y xs × (p y ≡ false)) → (y : X) × In y (x ∷ xs) × (p y ≡ false)
     go true i k rest = let w = rest k in (w.0, inr w.1, w.2)
     go false i k rest = (x, inl refl, i)
-
-not_not : (b : Bool) → not b ≡ false → b ≡ true
-not_not true e = refl
-not_not false e = absurd (true≢false e)
 
 -- a result that is used is given
 given_among : (z : ℕ) (v : Value) (vs : List Value) → is_result_of z v ≡ true → In v vs → In z (givers_of vs)
@@ -53,7 +50,7 @@ module _ {N T A : Type 0} where
       let p = λ (v : Value). not (is_result_of z v) in
       let s = some_fails (λ (s : StandOf N T A). list_all p (head s.here).operands) (stands [] t) (stands_every (λ o. list_all p (head o).operands) [] t ∙ e) in
       let v = some_fails p (head s.0.here).operands s.2 in
-      record { at = s.0; there = s.1; value = v.0; among = v.1; of = not_not (is_result_of z v.0) v.2 }
+      record { at = s.0; there = s.1; value = v.0; among = v.1; of = not-false (is_result_of z v.0) v.2 }
 
   none_of : (z : ℕ) (t : OpOf N T A) → is_unused z t ≡ true → (s : StandOf N T A) → In s (stands [] t) → (v : Value) → In v (head s.here).operands → is_result_of z v ≡ true → ⊥
   none_of z t e s h v k i =

@@ -15,6 +15,8 @@ use Rattle.ir_tree.proofs.Returns.{absent_first}
 use Rattle.ir_tree_laws.specs.Members.{In}
 use Rattle.ir_tree_laws.proofs.Listed.{bool_cases}
 use Rattle.conversion.specs.Waiting.{Again, ArePlaces, Took, Waits, of_again}
+use Rattle.ir_types.proofs.Truths.{less_than, take_whole}
+use Rattle.std.proofs.lemmas.Option.{same_Some}
 
 -- ---- a set's keys
 
@@ -23,11 +25,8 @@ all_in P [] a q h = absurd h
 all_in P (x ∷ xs) a q (inl e) = subst P (sym e) (All-head P x xs a)
 all_in P (x ∷ xs) a q (inr h) = all_in P xs (All-tail P x xs a) q h
 
-less : (p q : ℕ) → nat_cmp p q ≡ Less → p < q
-less p q e = ranked p q Less (sym e)
-
 pub took_again : (passed : ℕ) (old new : List ℕ) (p : ℕ) → old ≡ p ∷ new → All (λ q. nat_cmp p q ≡ Less) new → Took passed old passed new p
-took_again passed old new p e a = of_again e refl (λ q h. less p q (all_in (λ q. nat_cmp p q ≡ Less) new a q h))
+took_again passed old new p e a = of_again e refl (λ q h. less_than p q (all_in (λ q. nat_cmp p q ≡ Less) new a q h))
 
 in_insert : (xs : List ℕ) (p q : ℕ) → In q xs → In q (insert_key nat_cmp xs p)
 in_insert [] p q h = absurd h
@@ -108,15 +107,11 @@ pub record Adding (all rest : List ℕ) (f : ℕ → Option ℕ) (passed : ℕ) 
 pub adding_none : (all : List ℕ) (f : ℕ → Option ℕ) (passed : ℕ) (again : List ℕ) → Adding all all f passed again passed again
 adding_none all f passed again = record { same = refl; more = λ q h. h; within = λ q h. inl h; added = λ g q h k l. inl h }
 
-take_all : (xs : List ℕ) → take (length xs) xs ≡ xs
-take_all [] = refl
-take_all (x ∷ xs) = ap (λ ys. x ∷ ys) (take_all xs)
-
 rest_at : (xs : List ℕ) (x : ℕ) → 1 ≤ length xs → x ≡ get_or xs 0 x → xs ≡ x ∷ take (length xs - 1) (drop 1 xs)
 rest_at [] x l e = absurd (omega (arith, l))
 rest_at (y ∷ ys) x l e =
     let n : length (y ∷ ys) - 1 ≡ length ys = omega arith in
-    λ i. sym e i ∷ sym (ap (λ k. take k ys) n ∙ take_all ys) i
+    λ i. sym e i ∷ sym (ap (λ k. take k ys) n ∙ take_whole ys) i
 
 pub adding_more : (all rest : List ℕ) (x : ℕ) (f : ℕ → Option ℕ) (passed : ℕ) (again : List ℕ) (passed2 : ℕ) (again2 : List ℕ) (passed3 : ℕ) (again3 : List ℕ) → 1 ≤ length rest → x ≡ get_or rest 0 x → Adding all rest f passed again passed2 again2
     → Again (x ∷ []) f passed2 again2 passed3 again3 → Adding all (take (length rest - 1) (drop 1 rest)) f passed again passed3 again3
@@ -136,7 +131,7 @@ adding_done all (x ∷ rest) f passed again passed2 again2 l a = absurd (omega (
 
 -- ---- places noted
 
-there_at : (zs : List ℕ) (p z : ℕ) → slice_get zs p ≡ Some z → list_any (λ u. eqb u z) zs ≡ true
+pub there_at : (zs : List ℕ) (p z : ℕ) → slice_get zs p ≡ Some z → list_any (λ u. eqb u z) zs ≡ true
 there_at [] p z e = absurd cc
 there_at (u ∷ zs) zero z e = (let same : u ≡ z = cc in ap (λ b. b || list_any (λ v. eqb v z) zs) (eq-eqb u z same))
 there_at (u ∷ zs) (suc p) z e = go (eqb u z) (there_at zs p z e)
@@ -148,14 +143,11 @@ there_at (u ∷ zs) (suc p) z e = go (eqb u z) (there_at zs p z e)
 first_once : (z : ℕ) (zs : List ℕ) → IsDistinct eqb (z ∷ zs) → (p x : ℕ) → z ≡ x → slice_get zs p ≡ Some x → ⊥
 first_once z zs d p x i e = true≢false (sym (there_at zs p z (e ∙ ap Some (sym i))) ∙ absent_first z zs d)
 
-some_is : (x y : ℕ) → Some x ≡ Some y → x ≡ y
-some_is x y e = cc
-
 distinct_at : (xs : List ℕ) → IsDistinct eqb xs → (q p x : ℕ) → slice_get xs q ≡ Some x → slice_get xs p ≡ Some x → q ≡ p
 distinct_at [] d q p x e f = absurd cc
 distinct_at (y ∷ xs) d zero zero x e f = refl
-distinct_at (y ∷ xs) d zero (suc p) x e f = absurd (first_once y xs d p x (some_is y x e) f)
-distinct_at (y ∷ xs) d (suc q) zero x e f = absurd (first_once y xs d q x (some_is y x f) e)
+distinct_at (y ∷ xs) d zero (suc p) x e f = absurd (first_once y xs d p x (same_Some y x e) f)
+distinct_at (y ∷ xs) d (suc q) zero x e f = absurd (first_once y xs d q x (same_Some y x f) e)
 distinct_at (y ∷ xs) d (suc q) (suc p) x e f = ap suc (distinct_at xs (IsDistinct-tail eqb y xs d) q p x e f)
 
 -- a list, of which so many are noted at their places

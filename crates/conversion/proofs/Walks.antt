@@ -20,17 +20,11 @@ use Rattle.conversion_base.proofs.Listed.{next_listed}
 use Rattle.conversion.specs.Waiting.{ArePlaces, Freed, Took, of_again, of_next}
 use Rattle.conversion.specs.Walks.{Gives, NoRule, Walked, collapse_at, is_inner}
 use Rattle.conversion.proofs.Steps.{none_of_parts, none_parts, only_erased, step_gone, step_of, still_none, still_stuck, was_inner}
+use Rattle.ir_tree_laws.proofs.Facts.{in_or_not}
+use Rattle.conversion.proofs.Waiting.{there_at}
+use Rattle.std.proofs.lemmas.Option.{slice_get_within}
 
 -- ---- lists
-
-there_at : (xs : List ℕ) (q x : ℕ) → slice_get xs q ≡ Some x → list_any (λ y. eqb y x) xs ≡ true
-there_at [] q x e = absurd cc
-there_at (y ∷ xs) zero x e = (let same : y ≡ x = cc in ap (λ b. b || list_any (λ z. eqb z x) xs) (eq-eqb y x same))
-there_at (y ∷ xs) (suc q) x e = go (eqb y x) (there_at xs q x e)
-  where
-    go : (b : Bool) → list_any (λ z. eqb z x) xs ≡ true → (b || list_any (λ z. eqb z x) xs) ≡ true
-    go true h = refl
-    go false h = h
 
 -- one at a place comes before those at later places
 after_at : (xs : List ℕ) (q p y x : ℕ) → q < p → slice_get xs q ≡ Some y → slice_get xs p ≡ Some x → comes_after y x xs ≡ true
@@ -71,16 +65,6 @@ filter_after c y x h k (u ∷ xs) = go (c u) refl (filter_after c y x h k xs)
         other false j = j
         other true j = absurd (true≢false (sym h ∙ ap c (sym (eqb-true u y j)) ∙ e))
 
-in_or_not : (x : ℕ) (xs : List ℕ) → In x xs ⊎ (In x xs → ⊥)
-in_or_not x [] = inr (λ h. absurd h)
-in_or_not x (y ∷ xs) = elim (bool_cases (eqb x y)) [
-  | inl e ↦ inl (inl (eqb-true x y e))
-  | inr e ↦ elim (in_or_not x xs) [
-    | inl h ↦ inl (inr h)
-    | inr h ↦ inr (λ k. elim k [ inl i ↦ true≢false (sym (eq-eqb x y i) ∙ e) | inr i ↦ h i ])
-  ]
-]
-
 -- casts of a list are in pre-order
 listed_before : (xs : List ℕ) (t : Operation) → HaveCasts xs t → (q p y x : ℕ) → q < p → slice_get xs q ≡ Some y → slice_get xs p ≡ Some x → is_cast y t ≡ true → is_cast x t ≡ true → precedes y x t ≡ true
 listed_before xs t h q p y x l e f cy cx =
@@ -106,15 +90,10 @@ rewrite_none f (u ∷ xs) h = ap (λ a. rewrite_or a (first_rewrite f xs)) (h ze
 pub walked_none : (xs : List ℕ) (m : Module) → Walked xs 0 [] m
 walked_none xs m = record { within = λ q h. absurd h; stuck = λ q x l e. absurd (omega (arith, l)); settled = λ q x l e. absurd (omega (arith, l)) }
 
-within_length : (xs : List ℕ) (q x : ℕ) → slice_get xs q ≡ Some x → q < length xs
-within_length [] q x e = absurd cc
-within_length (u ∷ xs) zero x e = omega arith
-within_length (u ∷ xs) (suc q) x e = let n = within_length xs q x e in omega (arith, n)
-
 -- where no place waits, no cast is taken away
 pub none_waits : (xs : List ℕ) (passed : ℕ) (again : List ℕ) (m : Module) → HaveCasts xs m.tree → Walked xs passed again m → again ≡ [] → length xs ≤ passed → next_collapse m ≡ none
 none_waits xs passed again m h w e l = sym (next_listed m xs h) ∙ rewrite_none (collapse m) xs (λ q y g.
-    let n = within_length xs q y g in
+    let n = slice_get_within xs q y g in
     elim (w.settled q y (omega (arith, n, l)) g) [ inl k ↦ absurd (subst (In q) e k) | inr k ↦ k ])
 
 module _ (xs : List ℕ) (passed : ℕ) (again : List ℕ) (passed2 : ℕ) (again2 : List ℕ) (p : ℕ) (m : Module) (w : Walked xs passed again m) where

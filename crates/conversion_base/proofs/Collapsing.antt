@@ -17,15 +17,8 @@ use Rattle.patterns_base.specs.declared.rule.Rule.{Rule}
 use Rattle.patterns_base.specs.Rewrites.{none, becomes, edits_of, rewrite_by, rewrite_of}
 use Rattle.patterns_base.specs.Rules.{rule}
 use Rattle.conversion_base.specs.Reconciling.{collapse, index_edits, is_cast, rewrite_or, takes_index, unused_erased}
-use Rattle.conversion_base.proofs.Makes.{given_some, when_some}
-
-rewrite_is : (r : Rule) (m : Module) (x : ℕ) → rewrite_of r m x ≡ rewrite_by (edits_of r m x) m
-unfolding rewrite_of
-rewrite_is r m x = refl
-
-edits_are : (r : Rule) (m : Module) (x : ℕ) → edits_of r m x ≡ given (find x m.tree) (λ o. given (front_of x m.tree) (λ front. when (is_clean m.tree (head o)) (rule r m.tree m.next front o)))
-unfolding edits_of
-edits_are r m x = refl
+use Rattle.conversion_base.proofs.Makes.{given_some}
+use Rattle.patterns_base.proofs.Facts.{edits_are, rewrite_is, when_some}
 
 -- no rule applies at an operation that isn't there
 pub none_there : (r : Rule) (m : Module) (x : ℕ) → has_id x m.tree ≡ false → rewrite_of r m x ≡ none

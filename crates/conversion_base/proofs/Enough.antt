@@ -8,7 +8,7 @@ use Rattle.ir_event.specs.Modules.{Module}
 use Rattle.patterns_base.specs.Rewrites.{Rewrite, none, refused, becomes}
 use Rattle.conversion_base.specs.Reconciling.{rewrite_or, collapse, collapsed, all_collapsed, first_rewrite, go_on, next_collapse}
 
-becomes_is : (m n : Module) → becomes m ≡ becomes n → m ≡ n
+pub becomes_is : (m n : Module) → becomes m ≡ becomes n → m ≡ n
 becomes_is m n e = cc
 
 none_becomes : (n : Module) → none ≡ becomes n → ⊥

@@ -33,17 +33,16 @@ use Rattle.patterns_base.specs.Rewrites.{Rewrite, none, refused, becomes, rewrit
 use Rattle.patterns_base.specs.Words.{named}
 use Rattle.conversion_base.specs.Targets.{cast_name}
 use Rattle.conversion_base.specs.Reconciling.{rewrite_or, collapse, is_cast, is_cast_found, unused_erased}
-use Rattle.conversion_base.proofs.Makes.{applies, given_some, when_some, rewritten}
+use Rattle.conversion_base.proofs.Makes.{applies, given_some, rewritten}
+use Rattle.conversion_base.proofs.Enough.{becomes_is}
+use Rattle.ir_tree_laws.proofs.Formed.{filter_shorter}
+use Rattle.patterns_base.proofs.Facts.{when_some}
 
 -- ---- an operation is taken out of a tree
 
 filter_step : {X : Type 0} (p : X → Bool) (x : X) (xs : List X) (n : ℕ) → (b : Bool) → p x ≡ b → length (filter p xs) ≤ n → length (filter p (x ∷ xs)) ≤ suc n
 filter_step p x xs n true e h = subst (λ b. length (cond b (x ∷ filter p xs) (filter p xs)) ≤ suc n) (sym e) (omega (arith, h))
 filter_step p x xs n false e h = subst (λ b. length (cond b (x ∷ filter p xs) (filter p xs)) ≤ suc n) (sym e) (omega (arith, h))
-
-not_longer : {X : Type 0} (p : X → Bool) (xs : List X) → length (filter p xs) ≤ length xs
-not_longer p [] = omega arith
-not_longer p (x ∷ xs) = filter_step p x xs (length xs) (p x) refl (not_longer p xs)
 
 filter_less : {X : Type 0} (p : X → Bool) (x : X) (xs : List X) (n : ℕ) → (b : Bool) → p x ≡ b → length (filter p xs) < n → length (filter p (x ∷ xs)) < suc n
 filter_less p x xs n true e h = subst (λ b. length (cond b (x ∷ filter p xs) (filter p xs)) < suc n) (sym e) (omega (arith, h))
@@ -52,7 +51,7 @@ filter_less p x xs n false e h = subst (λ b. length (cond b (x ∷ filter p xs)
 shorter : {X : Type 0} (p : X → Bool) (y : X) (xs : List X) → In y xs → p y ≡ false → length (filter p xs) < length xs
 shorter p y [] h e = absurd h
 shorter p y (x ∷ xs) (inl k) e =
-    let n = not_longer p xs in
+    let n = filter_shorter p xs in
     subst (λ b. length (cond b (x ∷ filter p xs) (filter p xs)) < suc (length xs)) (sym (sym (ap p k) ∙ e)) (omega (arith, n))
 shorter p y (x ∷ xs) (inr h) e = filter_less p x xs (length xs) (p x) refl (shorter p y xs h e)
 
@@ -90,7 +89,7 @@ module _ {N T A : Type 0} where
 
 -- ---- casts
 
-rule_is : (t : Operation) (n : ℕ) (front : Place) (o : Operation) → rule CastBack t n front o ≡ cast_back t n front o
+pub rule_is : (t : Operation) (n : ℕ) (front : Place) (o : Operation) → rule CastBack t n front o ≡ cast_back t n front o
 unfolding rule
 rule_is t n front o = refl
 
@@ -120,9 +119,6 @@ given_at t n front o es c e =
     by_test : (p : One) (b : Bool) (r : Option (List Edit)) → b ≡ true → cond b (unrealized t n front o p) r ≡ Some es → (v : Value) × (es ≡ give (head o).id v)
     by_test p true r c e = from_unrealized p (is_of_type t p.ty p.first) e
     by_test p false r c e = absurd (true≢false (sym c))
-
-pub becomes_is : (m n : Module) → becomes m ≡ becomes n → m ≡ n
-becomes_is m n e = cc
 
 -- what is a cast is there
 pub cast_there : (x : ℕ) (t : Operation) → is_cast x t ≡ true → (o : Operation) × (find x t ≡ Some o) × (named cast_name (head o).name ≡ true)

@@ -45,8 +45,9 @@ use Rattle.patterns_base.specs.Words.{named}
 use Rattle.conversion_base.specs.Targets.{cast_name}
 use Rattle.conversion_base.specs.Reconciling.{index_edits, index_rewrite, is_cast, is_cast_found, takes_index}
 use Rattle.conversion_base.specs.Conversion.{Ended, converted, given_up, counted, next_part, in_turn, cast_ended, cast_at, casts_left, has_no_cast}
-use Rattle.conversion_base.proofs.Makes.{given_some, when_some, carried}
+use Rattle.conversion_base.proofs.Makes.{given_some, carried}
 use Rattle.conversion_base.proofs.Falls.{cast_there, found_id}
+use Rattle.patterns_base.proofs.Facts.{when_some}
 
 -- ---- an `arith.index_cast` in the place of an operation
 

@@ -29,8 +29,10 @@ use Rattle.patterns_base.specs.Words.{named}
 use Rattle.conversion_base.specs.Listing.{HaveCasts, casts_among}
 use Rattle.conversion_base.specs.Reconciling.{collapse, first_rewrite, is_cast, is_cast_found, next_collapse, rewrite_or, unused_erased}
 use Rattle.conversion_base.specs.Targets.{cast_name}
-use Rattle.conversion_base.proofs.Falls.{becomes_is, cast_there, found_id, given_at}
+use Rattle.conversion_base.proofs.Falls.{cast_there, found_id, given_at}
 use Rattle.conversion_base.proofs.Makes.{applies, rewritten}
+use Rattle.conversion_base.proofs.Enough.{becomes_is}
+use Rattle.std.proofs.lemmas.Bool.{not-false}
 
 -- ---- lists of which some are left out
 
@@ -40,10 +42,6 @@ Stand = StandOf (List ℕ) TypeTerm AttrTerm
 no_is : (a b : Bool) → (b ≡ true → a ≡ true) → a ≡ false → b ≡ false
 no_is a true h e = absurd (true≢false (sym (h refl) ∙ e))
 no_is a false h e = refl
-
-gone_is : (b : Bool) → not b ≡ false → b ≡ true
-gone_is true e = refl
-gone_is false e = absurd (true≢false e)
 
 -- what passes one test passes the other
 filter_within : (p q : ℕ → Bool) → ((y : ℕ) → q y ≡ true → p y ≡ true) → (xs : List ℕ) → filter q (filter p xs) ≡ filter q xs
@@ -101,7 +99,7 @@ module _ (x : ℕ) (t : Operation) (d : HasDistinctIds t) where
     | inl e ↦ absurd (
         let w = there (stand_id s) e in
         let same : w.stand ≡ s = same_stand t d w.stand s w.in_tree h w.id in
-        true≢false (sym (gone_is (is_gone x s) g) ∙ ap (is_gone x) (sym same) ∙ w.stays))
+        true≢false (sym (not-false (is_gone x s) g) ∙ ap (is_gone x) (sym same) ∙ w.stays))
   ]
 
   left_ids : (ss : List Stand) → map (λ (s : Stand). stand_id s) (map (left_stand x) ss) ≡ map (λ (s : Stand). stand_id s) ss

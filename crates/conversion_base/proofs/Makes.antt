@@ -18,22 +18,11 @@ use Rattle.patterns_base.specs.RuleNames.{is_converting}
 use Rattle.patterns_base.specs.Rules.{rule}
 use Rattle.patterns_base.specs.Rewrites.{refused, becomes, edits_of, rewrite_of, rewrite_by, carried_out}
 use Rattle.patterns_base.proofs.Making.{converting_rules_make}
+use Rattle.patterns_base.proofs.Facts.{edits_are, rewrite_is, when_some}
 
 pub given_some : {X Y : Type 0} (o : Option X) (f : X → Option Y) (y : Y) → given o f ≡ Some y → (x : X) × (o ≡ Some x) × (f x ≡ Some y)
 given_some None f y e = absurd cc
 given_some (Some x) f y e = (x, refl, e)
-
-pub when_some : {X : Type 0} (b : Bool) (r : Option X) (y : X) → when b r ≡ Some y → (b ≡ true) × (r ≡ Some y)
-when_some true r y e = (refl, e)
-when_some false r y e = absurd cc
-
-edits_are : (r : Rule) (m : Module) (x : ℕ) → edits_of r m x ≡ given (find x m.tree) (λ o. given (front_of x m.tree) (λ front. when (is_clean m.tree (head o)) (rule r m.tree m.next front o)))
-unfolding edits_of
-edits_are r m x = refl
-
-rewrite_is : (r : Rule) (m : Module) (x : ℕ) → rewrite_of r m x ≡ rewrite_by (edits_of r m x) m
-unfolding rewrite_of
-rewrite_is r m x = refl
 
 -- where a rule applies at an operation
 pub record Applies (r : Rule) (m : Module) (x : ℕ) (es : List Edit) : Type 0 where

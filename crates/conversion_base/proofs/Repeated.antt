@@ -10,17 +10,9 @@ use Rattle.std.specs.BTreeSet.{BTreeSet}
 use Rattle.std.specs.BTreeSet as set
 use Rattle.std.proofs.lemmas.Bool.{ne_eqb}
 use Rattle.std.proofs.lemmas.List.Folds.{list_any-append}
-use Rattle.ir_tree_laws.proofs.RenumberedPlaces.{eqb_turned}
 use Rattle.conversion_base.specs.Repeats.{AreKnown, stands_twice}
-
--- names compare as equal where they are
-same_test : (x y : ℕ) → is_eq (nat_cmp x y) ≡ eqb x y
-same_test x y = go (nat_cmp x y) refl (ranks x y)
-  where
-    go : (r : Ordering) → nat_cmp x y ≡ r → MatchOrdering (nat_cmp x y) (x < y) (x ≡ y) (y < x) → is_eq (nat_cmp x y) ≡ eqb x y
-    go Less e m = let l = subst (λ r. MatchOrdering r (x < y) (x ≡ y) (y < x)) e m in ap is_eq e ∙ sym (ne_eqb x y (λ q. omega (arith, q, l)))
-    go Equal e m = let l = subst (λ r. MatchOrdering r (x < y) (x ≡ y) (y < x)) e m in ap is_eq e ∙ sym (eq-eqb x y l)
-    go Greater e m = let l = subst (λ r. MatchOrdering r (x < y) (x ≡ y) (y < x)) e m in ap is_eq e ∙ sym (ne_eqb x y (λ q. omega (arith, q, l)))
+use Rattle.ir_types.proofs.Sorting.{flips_eq}
+use Rattle.ir_types.proofs.Truths.{same_test}
 
 -- one more name at the end
 any_last : (p : ℕ → Bool) (ns : List ℕ) (n : ℕ) → list_any p (ns ++ n ∷ []) ≡ cond (p n) true (list_any p ns)
@@ -34,7 +26,7 @@ any_last p ns n = list_any-append p ns (n ∷ []) ∙ go (list_any p ns) (p n)
 
 twice_last : (ns : List ℕ) (n : ℕ) → stands_twice (ns ++ n ∷ []) ≡ (stands_twice ns || list_any (eqb n) ns)
 twice_last [] n = refl
-twice_last (m ∷ ns) n = (λ i. (any_last (eqb m) ns n ∙ ap (λ b. cond b true (list_any (eqb m) ns)) (eqb_turned m n)) i || twice_last ns n i) ∙ go (eqb n m) (list_any (eqb m) ns) (stands_twice ns) (list_any (eqb n) ns)
+twice_last (m ∷ ns) n = (λ i. (any_last (eqb m) ns n ∙ ap (λ b. cond b true (list_any (eqb m) ns)) (flips_eq m n)) i || twice_last ns n i) ∙ go (eqb n m) (list_any (eqb m) ns) (stands_twice ns) (list_any (eqb n) ns)
   where
     go : (a b c d : Bool) → (cond a true b || (c || d)) ≡ ((b || c) || (a || d))
     go true true c d = refl
@@ -49,7 +41,7 @@ twice_last (m ∷ ns) n = (λ i. (any_last (eqb m) ns n ∙ ap (λ b. cond b tru
 pub known_more : (ns : List ℕ) (old new : BTreeSet ℕ) (n : ℕ) (r s : Bool) → AreKnown ns old r → ((q : ℕ) → set.contains nat_cmp new q ≡ cond (is_at (nat_cmp n) q) true (set.contains nat_cmp old q))
     → s ≡ (r || set.contains nat_cmp old n) → AreKnown (ns ++ n ∷ []) new s
 known_more ns old new n r s h up is = record {
-  has = λ q. up q ∙ (λ i. cond ((same_test n q ∙ eqb_turned n q) i) true (h.has q i)) ∙ sym (any_last (eqb q) ns n);
+  has = λ q. up q ∙ (λ i. cond ((same_test n q ∙ flips_eq n q) i) true (h.has q i)) ∙ sym (any_last (eqb q) ns n);
   twice = is ∙ (λ i. h.twice i || h.has n i) ∙ sym (twice_last ns n);
 }
 

@@ -14,10 +14,10 @@ use Rattle.ir_tree_laws.specs.Values.{has_value}
 use Rattle.ir_tree_laws.proofs.Formed.{from_formed}
 use Rattle.ir_tree_laws.proofs.Listed.{both}
 use Rattle.ir_tree_laws.proofs.Members.{found_stands}
-use Rattle.ir_tree_laws.proofs.Reverted.{got_below}
 use Rattle.ir_store.specs.Nodes.{Node, node_of, regions_arguments}
 use Rattle.ir_event.specs.Modules.{node_meaning}
 use Rattle.ir_event.proofs.Nodes.{node_shown}
+use Rattle.std.proofs.lemmas.Option.{slice_get_within}
 
 -- what it stands for
 pub meant : (c : Things) (x : ℕ) (t : Op) → option_map node_of (find x (meaning c t)) ≡ option_map (node_meaning c) (option_map node_of (find x t))
@@ -65,7 +65,7 @@ results_in (op h rs) k e = go (slice_get h.results k) refl e
   where
     go : (f : Option ℕ) → slice_get h.results k ≡ f → is_some f ≡ true → k < length h.results
     go None e h = absurd (true≢false (sym h))
-    go (Some y) e i = got_below h.results k y e
+    go (Some y) e i = slice_get_within h.results k y e
 
 pub counted : (x k : ℕ) (t : Op) (n : Node) → Some n ≡ option_map node_of (find x t) → has_value (Result x k) t ≡ true → k < length n.head.results
 counted x k t n e h =

@@ -22,7 +22,7 @@ use Rattle.std.proofs.lemmas.List.Elements.{All-head, All-tail}
 use Rattle.ir_types.proofs.Terms.{name_stays, type_stays, attr_stays}
 use Rattle.dialects_int.proofs.PairLaws.{absorbed, absorbed_right}
 
-same_itself : (k : BitsKind) → same_kind k k ≡ true
+pub same_itself : (k : BitsKind) → same_kind k k ≡ true
 same_itself (kind.Int w) = grind (arith, nat_tests)
 same_itself kind.Index = refl
 

@@ -11,6 +11,7 @@ use Rattle.ir_types.specs.Sound.{IsSound}
 use Rattle.op_registry.proofs.ByName.{AreWords, beside_word, beside_earlier}
 use Rattle.dialects_int.specs.declared.operations.Rule.{Rule}
 use Rattle.dialects_int.specs.Folds.{rules, rule_of}
+use Rattle.ir_types.proofs.Truths.{turned}
 
 rules_are : AreWords 5 25 rules
 unfolding words operations keys visibilities rules
@@ -23,7 +24,3 @@ rule_is c n sound h = beside_word c n 5 25 rules sound rules_are h
 pub rule_before : (c : Things) (n : ℕ) → IsSound c → n < 5 → rule_of (name_term c n) ≡ None
 unfolding rule_of
 rule_before c n sound h = beside_earlier c n 5 25 rules sound rules_are h
-
--- bytes are equal in either order
-pub turned : (a b : List ℕ) → bytes_eq a b ≡ bytes_eq b a
-turned a b = same_from_decides {P = a ≡ b} (bytes_eq a b) (bytes_eq b a) (bytes_eq-Decides a b) (λ h. sym ((bytes_eq-Decides b a).0 h), λ e. (bytes_eq-Decides b a).1 (sym e))

@@ -9,6 +9,7 @@ use Rattle.effects.specs.Spots.{Spot, one_if, is_in, Apart, Rows, given, count_o
 use Rattle.effects.specs.Walks.{new_row, no_counts}
 use Rattle.effects.specs.Following.{Whole, PutIn, TakenOut, ShiftedTo}
 use Rattle.effects.proofs.Tables.{has_none, and_none, taken, put_in, moved}
+use Rattle.std.proofs.lemmas.Option.{same_Some}
 
 pub on_true_more : (b : Bool) (P Q : Type 0) → (P → Q) → OnTrue b P → OnTrue b Q
 on_true_more true P Q f p = f p
@@ -17,9 +18,6 @@ on_true_more false P Q f p = tt
 pub on_true_is : (b : Bool) (P : Type 0) → b ≡ true → OnTrue b P → P
 on_true_is true P e p = p
 on_true_is false P e p = absurd (true≢false (sym e))
-
-the_same : (r s : Row) → Some r ≡ Some s → r ≡ s
-the_same r s e = cc
 
 -- one table's rows are another's, but for one row
 same_rows : (a b : Rows) (x y : ℕ) (r : Option Row) → y ≡ x → ((z : ℕ) → b z ≡ with_row x r a z) → with_row y r a ≡ b
@@ -43,7 +41,7 @@ pub detach_some : (a mid b : Rows) (x : ℕ) (r : Row) → a x ≡ Some r → ((
     → ((ns : List Spot) → Apart ns → Holds mid ns r.parent none r.has → Whole b ns) → ShiftedTo x None a b
 detach_some a mid b x r here is up n ns id apart h =
     let k = h.known n (inl refl) in
-    let above : n.parent ≡ r.parent = sym k.parent ∙ ap (λ (s : Row). s.parent) (the_same k.row r (sym k.is ∙ ap a id ∙ here)) in
+    let above : n.parent ≡ r.parent = sym k.parent ∙ ap (λ (s : Row). s.parent) (same_Some k.row r (sym k.is ∙ ap a id ∙ here)) in
     let m : Spot = record n { parent = None } in
     let due : (e : Effect) (y : ℕ) → one_if (is_in y n.parent && has e r.has) + one_if (is_in y r.parent && has e none) ≡ one_if (is_in y m.parent && has e r.has) + one_if (is_in y r.parent && has e r.has) =
     λ e y. (let z = and_none (is_in y r.parent) (has e none) (has_none e) in let w : one_if (is_in y n.parent && has e r.has) ≡ one_if (is_in y r.parent && has e r.has) = ap (λ p. one_if (is_in y p && has e r.has)) above in omega (arith, z, w)) in

@@ -2,8 +2,7 @@
 use Rattle.std.proofs.Common.{◌≡◌, ℕ, ◌+◌, ◌-◌, ◌≤◌, ◌<◌, List, [], ◌∷◌, Bool, true, false, true≢false, Option, Some, None, inl, inr, refl, sym, ap, ◌∙◌, subst, arith, cond, eqb, ◌&&◌, ◌||◌, not}
 use Rattle.std.specs.Prelude.{nat_lt}
 use Rattle.std.specs.Map.{lookup, set_value}
-use Rattle.std.proofs.lemmas.Bool.{eq-eqb, cases_eq}
-use Rattle.ir_tree.proofs.Moves.{neither}
+use Rattle.std.proofs.lemmas.Bool.{eq-eqb, cases_eq, or_parts, not-true}
 use Rattle.effects.specs.declared.kinds.EffectKinds.{EffectKinds}
 use Rattle.op_registry.specs.declared.own.Own.{Own}
 use Rattle.effects.specs.declared.row.Counts.{Counts}
@@ -69,24 +68,20 @@ count_raised free c s = refl
 count_raised read c s = refl
 count_raised write c s = refl
 
-not_false : (b : Bool) → not b ≡ true → b ≡ false
-not_false true h = sym h
-not_false false h = refl
-
 pub none_has : (a : EffectKinds) → is_none a ≡ true → (e : Effect) → has e a ≡ false
 none_has a h e = pick e
   where
     p1 : (a.unknown ≡ false) × ((a.allocate || (a.free || (a.read || a.write))) ≡ false)
-    p1 = neither _ _ (not_false _ h)
+    p1 = or_parts _ _ (not-true _ h)
 
     p2 : (a.allocate ≡ false) × ((a.free || (a.read || a.write)) ≡ false)
-    p2 = neither _ _ p1.1
+    p2 = or_parts _ _ p1.1
 
     p3 : (a.free ≡ false) × ((a.read || a.write) ≡ false)
-    p3 = neither _ _ p2.1
+    p3 = or_parts _ _ p2.1
 
     p4 : (a.read ≡ false) × (a.write ≡ false)
-    p4 = neither _ _ p3.1
+    p4 = or_parts _ _ p3.1
 
     pick : (e : Effect) → has e a ≡ false
     pick unknown = p1.0

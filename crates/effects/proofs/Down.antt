@@ -15,6 +15,7 @@ use Rattle.ir_tree_laws.proofs.Around.{around_there, place_of_member, member_of_
 use Rattle.ir_tree_laws.proofs.Put.{child}
 use Rattle.ir_tree_laws.proofs.Values.{shape}
 use Rattle.effects.specs.Within.{behind, some_ops, onward, ops_from, list_at, list_size, op_size}
+use Rattle.ir_event.proofs.Facts.{joined_more}
 
 module _ {N T A : Type 0} (t : OpOf N T A) (d : HasDistinctIds t) where
   -- one that stands somewhere has there what is behind it
@@ -44,10 +45,6 @@ module _ {N T A : Type 0} (t : OpOf N T A) (d : HasDistinctIds t) where
       go : (f : Option (OpOf N T A)) → find p t ≡ f → ops_from (option_and_then first_id (option_and_then (λ o. option_and_then ops_in (region_at r (regions o))) f)) t ≡ some_ops (option_and_then (λ o. option_and_then ops_in (region_at r (regions o))) f)
       go None e = refl
       go (Some o) e = in_region o e (region_at r (regions o)) refl
-
-  joined_more : (front : List (OpOf N T A)) (o : OpOf N T A) (os : OpsOf N T A) → joined_ops front (next o os) ≡ joined_ops (front ++ o ∷ []) os
-  joined_more [] o os = refl
-  joined_more (f ∷ fs) o os = ap (next f) (joined_more fs o os)
 
   -- what is behind an operation
   behind_onward : (o : OpOf N T A) (q : List (StepOf N T A)) → In (stand o q) (stands [] t) → ops_from (next_of (head o).id t) t ≡ behind q

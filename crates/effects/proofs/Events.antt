@@ -17,6 +17,7 @@ use Rattle.effects.specs.Following.{Whole, PutIn, TakenOut, ShiftedTo}
 use Rattle.ir_tree_laws.proofs.Listed.{in_left, in_right, in_parts}
 use Rattle.effects.proofs.Spotted.{weight_joined, lacks_joined, lacks_parts, spot_ids, apart_distinct, spots_ids, childless_op}
 use Rattle.effects.proofs.Cuts.{cut}
+use Rattle.std.proofs.lemmas.Option.{same_Some}
 
 -- ---- the same operations in another order
 
@@ -29,7 +30,7 @@ lacks_if : (x : ℕ) (ns : List Spot) → ((n : Spot) → In n ns → n.id ≡ x
 lacks_if x [] h = tt
 lacks_if x (n ∷ ns) h = (h n (inl refl), lacks_if x ns (λ m a. h m (inr a)))
 
-lacks_then : (x : ℕ) (ns : List Spot) (n : Spot) → Lacks x ns → In n ns → n.id ≡ x → ⊥
+pub lacks_then : (x : ℕ) (ns : List Spot) (n : Spot) → Lacks x ns → In n ns → n.id ≡ x → ⊥
 lacks_then x [] n l a e = absurd a
 lacks_then x (m ∷ ms) n l a e = elim a [ inl eq ↦ l.0 (ap (λ (s : Spot). s.id) (sym eq) ∙ e) | inr b ↦ lacks_then x ms n l.1 b e ]
 
@@ -85,9 +86,6 @@ absent_lacks x (n ∷ ns) l = λ i. ne_eqb n.id x l.0 i || absent_lacks x ns l.1
 
 -- ---- events
 
-some_same : {X : Type 0} (a b : X) → Some a ≡ Some b → a ≡ b
-some_same a b e = cc
-
 module _ {N T A : Type 0} (own : N → Own) where
   pub apart_spots : (t : OpOf N T A) → HasDistinctIds t → Apart (spots own None t)
   apart_spots t d = apart_distinct (spots own None t) (subst (IsDistinct eqb) (sym (spots_ids own None t)) d)
@@ -139,7 +137,7 @@ module _ {N T A : Type 0} (own : N → Own) where
   shift_follows is_table x old new m n a b d e shifts shifted h =
       let c = cut own x m.tree old d shifts.was in
       let k = cut own x n.tree new e shifts.is in
-      let same : k.here ≡ c.here = some_same k.here c.here (sym k.is ∙ shifts.same ∙ c.is) in
+      let same : k.here ≡ c.here = same_Some k.here c.here (sym k.is ∙ shifts.same ∙ c.is) in
       let rest = inside c.here in
       let s = spot_at (Some old.parent) c.here in
       let t = spot_at (Some new.parent) c.here in

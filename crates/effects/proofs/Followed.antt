@@ -33,8 +33,8 @@ use Rattle.ir_event.specs.Heads.{heads, regions_heads, all_operands}
 use Rattle.effects.specs.Counts.{Counts, results_among, Counted, Raised, AllEntered, EnteredWith, LeftWith, Exchanged, CountsFollowed, kept_by}
 use Rattle.ir_event.proofs.ById.{look}
 use Rattle.effects.proofs.Shown.{look_each}
-use Rattle.ir_event.proofs.Flat.{heads_ids}
-use Rattle.effects.proofs.Headed.{cut_heads, heads_tagged, each_heads, mapped_heads, unused_among, head_in, stand_heads}
+use Rattle.ir_event.proofs.Flat.{heads_ids, heads_each}
+use Rattle.effects.proofs.Headed.{cut_heads, heads_tagged, mapped_heads, unused_among, head_in, stand_heads}
 use Rattle.effects.proofs.Tallies.{tallied, Different, put_tally, take_tally, moved_tally, same_tally, set_tally, begun_tally, mapped_tally}
 
 module _ {N T A : Type 0} where
@@ -117,7 +117,7 @@ take_counts x place fresh m n a b d takes take was =
 set_counts : (x k : ℕ) (old new : Value) (m n : Module) (a b : Counts) → HasDistinctIds m.tree → SetsOperand x k old new m n → Exchanged old new a b → Counted a m.tree → Counted b n.tree
 set_counts x k old new m n a b d sets exchanged was =
     let o = holder x k old m.tree sets.was in
-    let after : heads n.tree ≡ map (at x (put_operand k new)) (heads m.tree) = ap heads sets.after ∙ each_heads (at x (put_operand k new)) m.tree in
+    let after : heads n.tree ≡ map (at x (put_operand k new)) (heads m.tree) = ap heads sets.after ∙ heads_each (at x (put_operand k new)) m.tree in
     counted_heads n.tree b (λ y. set_tally stays x k old new a b o.here (heads m.tree) (λ h. (alike_operand x k new h).id) (λ h. (alike_operand x k new h).name) o.there o.id (different stays m.tree d) o.has
     (heads_counted m.tree a was) exchanged y ∙ ap (λ l. tallied stays l y) (sym after))
 
@@ -139,7 +139,7 @@ shift_counts is_table x old new m n a b d e shifts same was =
     some_same : (p q : Operation) → Some p ≡ Some q → p ≡ q
     some_same p q e = cc
 
-node_head : (o : Operation) → (node_of o).head ≡ head o
+pub node_head : (o : Operation) → (node_of o).head ≡ head o
 node_head (op h rs) = refl
 
 pub followed_counts : (c : Things) (e : Event) (m n : Module) (shown : ℕ → Option Node) (a b : Counts) → Step c e m n → ShowsAll shown n → ShowsTaken e m shown → CountsFollowed shown e a b → Counted a m.tree → Counted b n.tree
@@ -151,7 +151,7 @@ followed_counts c (SetOperand x k old new) m n shown a b s all taken f was = set
 followed_counts c (SetEntry x part key old new) m n shown a b s all taken f was =
     let g = at x (change_part part (change_entry key_before (name_term c key) (option_map (attr_term c) new))) in
     let like = alike_entry key_before x part (name_term c key) (option_map (attr_term c) new) in
-    let after : heads n.tree ≡ map g (heads m.tree) = ap heads s.changes.after ∙ each_heads g m.tree in
+    let after : heads n.tree ≡ map g (heads m.tree) = ap heads s.changes.after ∙ heads_each g m.tree in
     counted_heads n.tree b (λ y. f y
     ∙ heads_counted m.tree a was y
     ∙ sym (same_tally stays g (λ h. (like h).id) (λ h. (like h).name) (entry_operands key_before x part (name_term c key) (option_map (attr_term c) new)) (heads m.tree) y)

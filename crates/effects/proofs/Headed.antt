@@ -28,6 +28,7 @@ use Rattle.ir_event.specs.Heads.{heads, regions_heads, region_heads, ops_heads, 
 use Rattle.effects.specs.Counts.{results_among}
 use Rattle.effects.specs.Reports.{of_each}
 use Rattle.effects.proofs.Shown.{says}
+use Rattle.ir_tree.proofs.Replaced.{same_value_refl}
 
 -- the operation that is found stands at a place; the heads are its own and those inside it between a front and a
 -- back, and what is left is these two
@@ -101,24 +102,6 @@ module _ {N T A : Type 0} where
   pub heads_tagged : {V : Type 0} (k : HeadOf N T A → V) (t : OpOf N T A) → tagged k (heads t) ≡ of_each (λ o. k (head o)) t
   heads_tagged k t = ap (tagged k) (sym (stand_heads [] t)) ∙ tagged_in k (stands [] t)
 
-  -- an edit of heads
-  module _ (f : HeadOf N T A → HeadOf N T A) where
-    mutual
-      pub each_heads : (t : OpOf N T A) → heads (each_head f t) ≡ map f (heads t)
-      each_heads (op h rs) = ap (λ l. f h ∷ l) (regions_each_heads rs)
-
-      regions_each_heads : (rs : RegionsOf N T A) → regions_heads (regions_each_head f rs) ≡ map f (regions_heads rs)
-      regions_each_heads no_regions = refl
-      regions_each_heads (region r rs) = (λ i. region_each_heads r i ++ regions_each_heads rs i) ∙ sym (map-append f (region_heads r) (regions_heads rs))
-
-      region_each_heads : (r : RegionOf N T A) → region_heads (region_each_head f r) ≡ map f (region_heads r)
-      region_each_heads empty = refl
-      region_each_heads (block args os) = ops_each_heads os
-
-      ops_each_heads : (os : OpsOf N T A) → ops_heads (ops_each_head f os) ≡ map f (ops_heads os)
-      ops_each_heads no_ops = refl
-      ops_each_heads (next o os) = (λ i. each_heads o i ++ ops_each_heads os i) ∙ sym (map-append f (heads o) (ops_heads os))
-
   -- values that nobody uses
   used_in : (v : Value) (ss : List (StandOf N T A)) → gather (λ (h : HeadOf N T A). operand_uses v h.id 0 h.operands) (map head_in ss) ≡ gather (λ s. operand_uses v (stand_id s) 0 (head s.here).operands) ss
   used_in v [] = refl
@@ -139,10 +122,6 @@ no_back : {X : Type 0} (xs ys : List X) → xs ++ ys ≡ [] → ys ≡ []
 no_back [] ys e = e
 no_back (x ∷ xs) ys e = absurd cc
 
-same_self : (v : Value) → same_value v v ≡ true
-same_self (Result x k) = λ i. eq-eqb x x refl i && eq-eqb k k refl i
-same_self (Arg x r k) = λ i. eq-eqb x x refl i && (eq-eqb r r refl i && eq-eqb k k refl i)
-
 owned : (x : ℕ) (v : Value) → is_result_of x v ≡ true → eqb (owner_of v).0 x ≡ true
 owned x (Result y k) e = e
 owned x (Arg y r k) e = absurd (true≢false (sym e))
@@ -158,7 +137,7 @@ none_used x user k (v ∷ vs) h = go (is_result_of x v) refl (none_used x user (
 
     go : (b : Bool) → is_result_of x v ≡ b → results_among x vs ≡ 0 → one_if (is_result_of x v) + results_among x vs ≡ 0
     go true e more =
-        let bad : (user, k) ∷ operand_uses v user (k + 1) vs ≡ [] = sym (ap (λ b. cond b ((user, k) ∷ operand_uses v user (k + 1) vs) (operand_uses v user (k + 1) vs)) (same_self v)) ∙ h v (owned x v e) in
+        let bad : (user, k) ∷ operand_uses v user (k + 1) vs ≡ [] = sym (ap (λ b. cond b ((user, k) ∷ operand_uses v user (k + 1) vs) (operand_uses v user (k + 1) vs)) (same_value_refl v)) ∙ h v (owned x v e) in
         absurd cc
     go false e more = let none : one_if (is_result_of x v) ≡ 0 = ap one_if e in omega (arith, none, more)
 

@@ -8,7 +8,7 @@ use Rattle.std.specs.declared.cmp.Ordering.TheVariants.{Less}
 use Rattle.std.specs.Map.{lookup, keys_of}
 use Rattle.std.specs.BTreeMap.{BTreeMap, is_at}
 use Rattle.std.specs.BTreeMap as tree
-use Rattle.std.proofs.lemmas.Bool.{eqb-true}
+use Rattle.std.proofs.lemmas.Bool.{eqb-true, not-true}
 use Rattle.std.proofs.lemmas.Bool.Decides.{nat_tests}
 use Rattle.std.proofs.lemmas.List.Elements.{All-cons, All-nil}
 use Rattle.ir_types.specs.Things.{Things}
@@ -37,7 +37,7 @@ use Rattle.effects.specs.Listed.{judged}
 use Rattle.ir_event.proofs.ById.{look, Above, Rising, rising_same}
 use Rattle.effects.proofs.Shown.{each_look, each_rising, shown_found}
 use Rattle.effects.proofs.Headed.{unused_is}
-use Rattle.effects.proofs.Reporting.{less_than, same_test}
+use Rattle.ir_types.proofs.Truths.{less_than, same_test}
 
 -- ---- the entries of a map
 
@@ -81,14 +81,10 @@ none_left n false = ap (λ m. nat_lt m 1) (let same : n + 0 ≡ n = omega arith 
     and_true true = refl
     and_true false = refl
 
-not_true : (b : Bool) → not b ≡ true → b ≡ false
-not_true true e = absurd (true≢false (sym e))
-not_true false e = refl
-
 -- an operation that is missed for what it has by itself is missed
 missed_stays : (w : Own) (inner : EffectKinds) → is_missed w ≡ true → may_go (effects_by w inner) ≡ false
 missed_stays Pure inner e = absurd (true≢false (sym e))
-missed_stays (Only s) inner e = not_true (may_go (own_kinds (Only s))) e
+missed_stays (Only s) inner e = not-true (may_go (own_kinds (Only s))) e
 missed_stays Recursive inner e = absurd (true≢false (sym e))
 missed_stays Unknown inner e = refl
 

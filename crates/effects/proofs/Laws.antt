@@ -1,12 +1,12 @@
 -- A table that is right at each operation has the effects of each.
 use Rattle.std.proofs.Common.{◌≡◌, ℕ, ◌+◌, List, [], ◌∷◌, ◌++◌, Bool, true, false, Option, Some, None, inl, inr, refl, sym, ap, ◌∙◌, arith, cond, eqb, ◌&&◌, ◌||◌}
 use Rattle.std.specs.Prelude.{nat_lt}
-use Rattle.std.proofs.lemmas.Bool.{eq-eqb, cases_eq}
+use Rattle.std.proofs.lemmas.Bool.{eq-eqb, cases_eq, or_parts}
 use Rattle.std.proofs.lemmas.Map.Keys.{IsDistinct-tail}
 use Rattle.std.specs.List.{IsDistinct, AllByRecursion, list_any}
 use Rattle.ir_tree.specs.Tree.{HeadOf, OpOf, op, RegionsOf, no_regions, region, RegionOf, empty, block, OpsOf, no_ops, next}
 use Rattle.ir_tree.specs.Ids.{ids, regions_ids, region_ids, ops_ids}
-use Rattle.ir_tree.proofs.Moves.{Absent, absent_parts, neither}
+use Rattle.ir_tree.proofs.Moves.{Absent, absent_parts}
 use Rattle.ir_tree.proofs.Returns.{Present, halves, differ, absent_first}
 use Rattle.effects.specs.declared.kinds.EffectKinds.{EffectKinds}
 use Rattle.op_registry.specs.declared.own.Own.{Own}
@@ -145,7 +145,7 @@ module _ (e : Effect) (f : ℕ → Bool) (c : ℕ → ℕ) where
           let apart : (x : ℕ) → Present x xs → is_in x (Some p) ≡ false = λ x q. differ p x xs b.0 q in
           law_around (Some p) h rs apart mine counts (law_regions h.id rs (IsDistinct-tail eqb h.id (regions_ids rs) half.left) (absent_first h.id (regions_ids rs) half.left) mine.1 (inside_counted (Some p) h rs apart counts))) in
           let rest = law_ops p os half.right b.1 (all_back _ ms ns each) (back_counted xs ys ms ns (λ x q. childless_op own x (Some p) (op h rs) (differ p x ys b.1 q) (flipped xs ys half x q)) counted) in
-          let inside = neither _ _ b.0 in
+          let inside = or_parts _ _ b.0 in
           let one : weight f p ms ≡ one_if (f h.id) =
           (let z = weight_childless f p (regions_spots own h.id rs) (childless_regions own p h.id rs inside.0 inside.1) in
           let t : one_if (eqb p p && f h.id) ≡ one_if (f h.id) = ap (λ b. one_if (b && f h.id)) (eq-eqb p p refl) in

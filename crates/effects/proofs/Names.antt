@@ -10,6 +10,7 @@ use Rattle.op_registry.specs.declared.definition.Trait.TheVariants.{Terminator, 
 use Rattle.op_registry.specs.Rows.{Row, rows}
 use Rattle.op_registry.specs.Registry.{beside, row_of, is_among, trait_in, has_trait}
 use Rattle.effects.specs.Dead.{is_kept}
+use Rattle.std.proofs.lemmas.Bool.{not-true}
 
 abbrev Named : Type 0
 Named = List ℕ × Row
@@ -26,15 +27,11 @@ module _ (wanted : Trait) (n : List ℕ) where
   abbrev passes : Named → Bool
   passes r = bytes_eq n r.0 && is_among wanted r.1.traits
 
-  not_false : (b : Bool) → not b ≡ true → b ≡ false
-  not_false true e = sym e
-  not_false false e = refl
-
   none_later : (m : List ℕ) (rs : List Named) → n ≡ m → others m rs ≡ true → list_any (λ (r : Named). bytes_eq n r.0 && is_among wanted r.1.traits) rs ≡ false
   none_later m [] e a = refl
   none_later m (r ∷ rs) e a =
       let b = both _ _ a in
-      (λ i. (ap (λ z. bytes_eq z r.0) e ∙ not_false (bytes_eq m r.0) b.0) i && is_among wanted r.1.traits || none_later m rs e b.1 i)
+      (λ i. (ap (λ z. bytes_eq z r.0) e ∙ not-true (bytes_eq m r.0) b.0) i && is_among wanted r.1.traits || none_later m rs e b.1 i)
 
   -- the row of a name has a trait where one of the rows with that trait has that name
   among_rows : (rs : List Named) → apart rs ≡ true → trait_in wanted (beside n rs) ≡ list_any (λ (r : Named). bytes_eq n r.0 && is_among wanted r.1.traits) rs

@@ -24,7 +24,7 @@ known_there x s d e =
     let w = found_one x s.module_of.tree d e in
     ap (λ o. option_map node_of (first_of o (finmap.get s.held x))) w.1 ∙ sym (ap (option_map node_of) w.1)
 
-counted : (o : Op) → length (node_of o).arguments ≡ region_count (regions o)
+pub counted : (o : Op) → length (node_of o).arguments ≡ region_count (regions o)
 counted (op h rs) = go rs
   where
     go : (rs : RegionsOf ℕ ℕ ℕ) → length (regions_arguments rs) ≡ region_count rs

@@ -32,19 +32,9 @@ use Rattle.effects.specs.Reports.{of_each, having, tag_if, cells_of, effects_of,
 use Rattle.effects.specs.Listed.{said}
 use Rattle.ir_event.proofs.ById.{look, Above, Rising, rising_same}
 use Rattle.effects.proofs.Shown.{each_look, each_rising, shown_found}
+use Rattle.ir_types.proofs.Truths.{less_than, same_test}
 
 -- ---- the entries of a map
-
-pub less_than : (x y : ℕ) → nat_cmp x y ≡ Less → x < y
-less_than x y e = subst (λ r. MatchOrdering r (x < y) (x ≡ y) (y < x)) e (ranks x y)
-
-pub same_test : (x y : ℕ) → is_eq (nat_cmp x y) ≡ eqb x y
-same_test x y = go (nat_cmp x y) refl (ranks x y)
-  where
-    go : (r : Ordering) → nat_cmp x y ≡ r → MatchOrdering (nat_cmp x y) (x < y) (x ≡ y) (y < x) → is_eq (nat_cmp x y) ≡ eqb x y
-    go Less e m = let l = subst (λ r. MatchOrdering r (x < y) (x ≡ y) (y < x)) e m in ap is_eq e ∙ sym (ne_eqb x y (λ q. omega (arith, q, l)))
-    go Equal e m = let l = subst (λ r. MatchOrdering r (x < y) (x ≡ y) (y < x)) e m in ap is_eq e ∙ sym (eq-eqb x y l)
-    go Greater e m = let l = subst (λ r. MatchOrdering r (x < y) (x ≡ y) (y < x)) e m in ap is_eq e ∙ sym (ne_eqb x y (λ q. omega (arith, q, l)))
 
 above_said : (x : ℕ) (es : List (ℕ × Row)) → AllByRecursion (λ y. nat_cmp x y ≡ Less) (keys_of es) → Above x (said es)
 above_said x [] a = tt

@@ -1,14 +1,14 @@
 -- The operations of a tree in a list.
 use Rattle.std.proofs.Common.{◌≡◌, ℕ, ◌+◌, List, [], ◌∷◌, ◌++◌, Bool, false, true≢false, Option, Some, inl, inr, refl, sym, ap, ◌∙◌, arith, eqb, ◌||◌, map}
-use Rattle.std.proofs.lemmas.Bool.{eq-eqb}
+use Rattle.std.proofs.lemmas.Bool.{eq-eqb, cases_Bool, or_parts}
 use Rattle.std.proofs.lemmas.List.{map-append}
 use Rattle.std.proofs.lemmas.Map.Keys.{IsDistinct-head, IsDistinct-tail}
 use Rattle.std.specs.List.{IsDistinct, AllByRecursion, list_any}
 use Rattle.ir_tree.specs.Tree.{OpOf, op, RegionsOf, no_regions, region, RegionOf, empty, block, OpsOf, no_ops, next}
 use Rattle.ir_tree.specs.Ids.{ids, regions_ids, region_ids, ops_ids}
 use Rattle.ir_tree.specs.Maps.{map_tree, map_regions, map_region, map_ops}
-use Rattle.ir_tree.proofs.Moves.{Absent, absent_parts, neither}
-use Rattle.ir_tree.proofs.Returns.{Present, Halves, bool_cases}
+use Rattle.ir_tree.proofs.Moves.{Absent, absent_parts}
+use Rattle.ir_tree.proofs.Returns.{Present, Halves}
 use Rattle.ir_tree_laws.proofs.Listed.{or_right}
 use Rattle.std.proofs.lemmas.List.Folds.{list_any-append}
 use Rattle.op_registry.specs.declared.own.Own.{Own}
@@ -41,14 +41,14 @@ pub present_right : (x : ℕ) (xs ys : List ℕ) → Present x ys → Present x 
 present_right x xs ys h = list_any-append (λ y. eqb y x) xs ys ∙ or_right _ _ h
 
 pub flipped : (xs ys : List ℕ) → Halves xs ys → (y : ℕ) → Present y ys → Absent y xs
-flipped xs ys h y p = elim (bool_cases (list_any (λ z. eqb z y) xs)) [ inl q ↦ absurd (true≢false (sym p ∙ h.disjoint y q)) | inr q ↦ q ]
+flipped xs ys h y p = elim (cases_Bool (list_any (λ z. eqb z y) xs)) [ inl q ↦ absurd (true≢false (sym p ∙ h.disjoint y q)) | inr q ↦ q ]
 
 abbrev pub spot_ids : List Spot → List ℕ
 spot_ids ns = map (λ (n : Spot). n.id) ns
 
 pub lacks_absent : (x : ℕ) (ns : List Spot) → Absent x (spot_ids ns) → Lacks x ns
 lacks_absent x [] a = tt
-lacks_absent x (n ∷ ns) a = let b = neither _ _ a in ((λ e. true≢false (sym (eq-eqb n.id x e) ∙ b.0)), lacks_absent x ns b.1)
+lacks_absent x (n ∷ ns) a = let b = or_parts _ _ a in ((λ e. true≢false (sym (eq-eqb n.id x e) ∙ b.0)), lacks_absent x ns b.1)
 
 lacks_all : (x : ℕ) (ns : List Spot) → AllByRecursion (λ y. eqb x y ≡ false) (spot_ids ns) → Lacks x ns
 lacks_all x [] a = tt
@@ -78,7 +78,7 @@ module _ {N T A : Type 0} (own : N → Own) where
   -- nothing stands directly in an operation that isn't in the tree
   mutual
     pub childless_op : (x : ℕ) (p : Option ℕ) (t : OpOf N T A) → is_in x p ≡ false → Absent x (ids t) → Childless x (spots own p t)
-    childless_op x p (op h rs) i a = let b = neither _ _ a in (i, childless_regions x h.id rs b.0 b.1)
+    childless_op x p (op h rs) i a = let b = or_parts _ _ a in (i, childless_regions x h.id rs b.0 b.1)
 
     pub childless_regions : (x p : ℕ) (rs : RegionsOf N T A) → eqb p x ≡ false → Absent x (regions_ids rs) → Childless x (regions_spots own p rs)
     childless_regions x p no_regions i a = tt

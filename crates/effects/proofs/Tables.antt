@@ -6,6 +6,7 @@ use Rattle.effects.specs.declared.row.Row.{Row}
 use Rattle.effects.specs.Effects.{Effect, unknown, allocate, free, read, write, has, none, is_recursive}
 use Rattle.ir_tree_laws.specs.Members.{In}
 use Rattle.effects.specs.Spots.{Spot, one_if, is_in, weight, Lacks, Childless, Apart, given, count_of, Rows, row_has, row_count, has_at, count_at, with_row, Keeps, Holds}
+use Rattle.effects.proofs.Events.{lacks_then}
 
 -- ---- tables
 
@@ -27,10 +28,6 @@ has_none write = refl
 pub and_none : (b c : Bool) → c ≡ false → one_if (b && c) ≡ 0
 and_none true c h = ap one_if h
 and_none false c h = refl
-
-pub lacks_apart : (x : ℕ) (ns : List Spot) (n : Spot) → Lacks x ns → In n ns → n.id ≡ x → ⊥
-lacks_apart x [] n l a e = absurd a
-lacks_apart x (m ∷ ms) n l a e = elim a [ inl eq ↦ l.0 (ap (λ (s : Spot). s.id) (sym eq) ∙ e) | inr b ↦ lacks_apart x ms n l.1 b e ]
 
 -- the operation with an id, if it is there
 pub spot_of : (x : ℕ) (ns : List Spot) → Lacks x ns ⊎ ((n : Spot) × In n ns × (n.id ≡ x))
@@ -54,11 +51,11 @@ pub weight_change : (f g : ℕ → Bool) (y : ℕ) (ns : List Spot) (n : Spot) �
 weight_change f g y [] n d a same = absurd a
 weight_change f g y (m ∷ ms) n d a same = elim a [
   | inl e ↦ let lacks : Lacks n.id ms = subst (λ (s : Spot). Lacks s.id ms) (sym e) d.0 in
-      let rest = weight_same f g y ms (λ k b. same k.id (lacks_apart n.id ms k lacks b)) in
+      let rest = weight_same f g y ms (λ k b. same k.id (lacks_then n.id ms k lacks b)) in
       let was : one_if (is_in y m.parent && f m.id) ≡ one_if (is_in y n.parent && f n.id) = λ i. one_if (is_in y (sym e i).parent && f (sym e i).id) in
       let is : one_if (is_in y m.parent && g m.id) ≡ one_if (is_in y n.parent && g n.id) = λ i. one_if (is_in y (sym e i).parent && g (sym e i).id) in
       omega (arith, rest, was, is)
-  | inr b ↦ let ne : m.id ≡ n.id → ⊥ = λ e. lacks_apart m.id ms n d.0 b (sym e) in
+  | inr b ↦ let ne : m.id ≡ n.id → ⊥ = λ e. lacks_then m.id ms n d.0 b (sym e) in
       let here : one_if (is_in y m.parent && g m.id) ≡ one_if (is_in y m.parent && f m.id) = ap (λ c. one_if (is_in y m.parent && c)) (same m.id ne) in
       let rest = weight_change f g y ms n d.1 b same in
       omega (arith, here, rest)
@@ -181,7 +178,7 @@ taken rows n ns r apart here h =
     let both : Some k.row ≡ Some r = sym k.is ∙ here in
     let same : k.row ≡ r = cc in
     let up : n.parent ≡ r.parent = sym k.parent ∙ ap (λ (x : Row). x.parent) same in
-    let other : (m : Spot) → In m ns → with_row n.id None rows m.id ≡ rows m.id = λ m a. at_other n.id None rows m.id (lacks_apart n.id ns m apart.0 a) in
+    let other : (m : Spot) → In m ns → with_row n.id None rows m.id ≡ rows m.id = λ m a. at_other n.id None rows m.id (lacks_then n.id ns m apart.0 a) in
     record {
       known = λ m a. let j = h.known m (inr a) in record { row = j.row; is = other m a ∙ j.is; parent = j.parent; recursive = j.recursive };
       only = λ x l. elim (cases_eq x n.id) [
@@ -204,7 +201,7 @@ pub put_in : (rows : Rows) (n : Spot) (ns : List Spot) (r : Row) → Lacks n.id 
 put_in rows n ns r lacks childless parent recursive empty own h =
     let after : Rows = with_row n.id (Some r) rows in
     let now : after n.id ≡ Some r = at_here n.id (Some r) rows in
-    let other : (m : Spot) → In m ns → after m.id ≡ rows m.id = λ m a. at_other n.id (Some r) rows m.id (lacks_apart n.id ns m lacks a) in
+    let other : (m : Spot) → In m ns → after m.id ≡ rows m.id = λ m a. at_other n.id (Some r) rows m.id (lacks_then n.id ns m lacks a) in
     record {
       known = λ m a. elim a [
         | inl q ↦ record { row = r; is = ap (λ (s : Spot). after s.id) q ∙ now; parent = parent ∙ ap (λ (s : Spot). s.parent) (sym q); recursive = recursive ∙ ap (λ (s : Spot). is_recursive s.own) (sym q) }
@@ -246,7 +243,7 @@ module _ (rows : Rows) (n m : Spot) (ns : List Spot) (r s : Row) (id : m.id ≡ 
   same_kept = let both : Some was.row ≡ Some r = sym was.is ∙ here in cc
 
   elsewhere : (k : Spot) → In k ns → later k.id ≡ rows k.id
-  elsewhere k a = at_other n.id (Some s) rows k.id (lacks_apart n.id ns k apart a)
+  elsewhere k a = at_other n.id (Some s) rows k.id (lacks_then n.id ns k apart a)
 
   has_later : (e : Effect) (x : ℕ) → has_at e later x ≡ has_at e rows x
   has_later e x = elim (cases_eq x n.id) [

@@ -24,7 +24,6 @@ use Rattle.ir_tree_laws.proofs.Members.{found_stands}
 use Rattle.ir_tree_laws.proofs.HeadForm.{used_here, in_gather}
 use Rattle.ir_tree_laws.proofs.Formed.{from_formed}
 use Rattle.ir_tree_laws.proofs.Values.{seen_by}
-use Rattle.ir_tree_laws.proofs.Reverted.{got_below}
 use Rattle.ir_event.specs.store.Nodes.{Node, node_of}
 use Rattle.ir_event.specs.declared.world.World.{World}
 use Rattle.ir_event.specs.Heads.{heads, all_operands}
@@ -35,15 +34,13 @@ use Rattle.effects.specs.Dead.{is_result_of, is_unused, is_kept, may_go, dead_in
 use Rattle.effects.specs.Effects.{effects, regions_effects, region_effects, ops_effects, effects_by, union, own_by}
 use Rattle.effects.specs.Idle.{idle_in, idle_at}
 use Rattle.effects.proofs.Headed.{unused_is, mapped_heads}
+use Rattle.ir_tree_laws.proofs.Changed.{gather_none}
+use Rattle.std.proofs.lemmas.Option.{slice_get_within}
 
 -- a result that is used
-none_here : (v : Value) (x k : ℕ) (ws : List Value) → ((w : Value) → In w ws → same_value v w ≡ false) → operand_uses v x k ws ≡ []
+pub none_here : (v : Value) (x k : ℕ) (ws : List Value) → ((w : Value) → In w ws → same_value v w ≡ false) → operand_uses v x k ws ≡ []
 none_here v x k [] f = refl
 none_here v x k (w ∷ ws) f = ap (λ b. cond b ((x, k) ∷ operand_uses v x (k + 1) ws) (operand_uses v x (k + 1) ws)) (f w (inl refl)) ∙ none_here v x (k + 1) ws (λ u h. f u (inr h))
-
-gather_none : {X Y : Type 0} (f : X → List Y) (xs : List X) → ((x : X) → In x xs → f x ≡ []) → gather f xs ≡ []
-gather_none f [] h = refl
-gather_none f (x ∷ xs) h = λ i. h x (inl refl) i ++ gather_none f xs (λ y k. h y (inr k)) i
 
 module _ {N T A : Type 0} where
   each_unused : (x : ℕ) (t : OpOf N T A) → is_unused x t ≡ true → (s : StandOf N T A) → In s (stands [] t) → (v : Value) → In v (head s.here).operands → not (is_result_of x v) ≡ true
@@ -76,7 +73,7 @@ module _ {N T A : Type 0} where
       where
         go : (f : Option T) → slice_get (head o).results k ≡ f → is_some f ≡ true → k < length (head o).results
         go None e h = absurd (true≢false (sym h))
-        go (Some y) e h = got_below (head o).results k y e
+        go (Some y) e h = slice_get_within (head o).results k y e
 
     not_used : (s : StandOf N T A) → In s (stands [] t) → (k : ℕ) → In (Result x k) (head s.here).operands → ⊥
     not_used s h k m =

@@ -5,6 +5,7 @@ use Rattle.ir_tree_laws.specs.Members.{In}
 use Rattle.ir_tree_laws.proofs.Listed.{any_one, one_any, in_left, in_right}
 use Rattle.greedy.specs.Sights.{is_listed}
 use Rattle.greedy.specs.Adding.{Adds, Adding, OneOf}
+use Rattle.ir_types.proofs.Truths.{none_left}
 
 pub on_ok : {A E : Type 0} (P Q : Type 0) (r : Result A E) → (P → Q) → OnOk r P → OnOk r Q
 on_ok P Q (Ok a) f h = f h
@@ -34,10 +35,6 @@ got_listed x ys n e = in_listed x ys (go ys n e)
 pub from_item : {X : Type 0} (xs : List X) (x d : X) (n : ℕ) → 1 ≤ length xs → x ≡ slice_index_or xs 0 d → n ≡ length xs → xs ≡ x ∷ take (n - 1) (drop 1 xs)
 from_item [] x d n l e m = absurd (omega (arith, l))
 from_item (y ∷ ys) x d n l e m = λ i. sym e i ∷ sym (take_all (n - 1) ys (omega (arith, m))) i
-
-pub none_left : {X : Type 0} (xs : List X) → length xs < 1 → xs ≡ []
-none_left [] l = refl
-none_left (x ∷ xs) l = absurd (omega (arith, l))
 
 -- ---- what is listed
 pub adds_nothing : (P : ℕ → Type 0) (xs : List ℕ) → ((x : ℕ) → P x → ⊥) → Adds P xs xs

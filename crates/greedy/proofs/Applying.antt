@@ -41,10 +41,7 @@ use Rattle.greedy.proofs.Tracked.{effects_stay}
 use Rattle.greedy.proofs.Usings.{unused_stays}
 use Rattle.greedy.proofs.Lasting.{lasts_stay, unreached_all, last_in, same_lasts}
 use Rattle.greedy.proofs.Unlisted.{found_surroundings, surroundings_found, there_found, found_there, outer_some, last_header, clean_alike, heads_alike, head_id, shows_alike}
-
-not_so : (b : Bool) → (b ≡ true → ⊥) → b ≡ false
-not_so true h = absurd (h refl)
-not_so false h = refl
+use Rattle.std.proofs.lemmas.Bool.{false_from_ne_true}
 
 map_member : {X Y : Type 0} (f g : X → Y) (xs : List X) → map f xs ≡ map g xs → (x : X) → In x xs → f x ≡ g x
 map_member f g [] e x h = absurd h
@@ -112,7 +109,7 @@ module _ (shown : ℕ → List Value) (c : Things) (es : List Event) (m n : Modu
   dm = first_distinct c es m n steps dn
 
   far : (y : ℕ) → (any_reaches es y t ≡ true → ⊥) → surroundings y t ≡ surroundings y u
-  far y f = all_far c es m n steps y (not_so (any_reaches es y t) f)
+  far y f = all_far c es m n steps y (false_from_ne_true (any_reaches es y t) f)
 
   -- a value of an operation
   uses_found : (z : ℕ) (q : Operation) → find z t ≡ Some q → (v : Value) → In v (head q).operands → (y : ℕ) → giver_id v ≡ Some y → Uses z y t
@@ -194,7 +191,7 @@ module _ (shown : ℕ → List Value) (c : Things) (es : List Event) (m n : Modu
 
     same_last : (r : ℕ) → last_in r (regions o) ≡ last_in r (regions p)
     same_last r =
-        let w = lasts_stay c es m n steps x (not_so (any_reaches es x t) unreached) p was in
+        let w = lasts_stay c es m n steps x (false_from_ne_true (any_reaches es x t) unreached) p was in
         let one : Some o ≡ Some w.0 = sym is ∙ w.1 in
         let same : o ≡ w.0 = cc in
         same_lasts r (regions o) (regions p) (ap (λ (q : Operation). last_ids (regions q)) same ∙ w.2)
@@ -239,7 +236,7 @@ module _ (shown : ℕ → List Value) (c : Things) (es : List Event) (m n : Modu
     dead_alike : may_go t o ≡ may_go u p
     unfolding may_go
     dead_alike =
-        let w = effects_stay c es m n steps x (unreached_all es x t (not_so (any_reaches es x t) unreached)) (λ e i v j k g. away (lists.climbs e i v j k x g)) p was in
+        let w = effects_stay c es m n steps x (unreached_all es x t (false_from_ne_true (any_reaches es x t) unreached)) (λ e i v j k g. away (lists.climbs e i v j k x g)) p was in
         let one : Some o ≡ Some w.0 = sym is ∙ w.1 in
         let same : o ≡ w.0 = cc in
         let sets : effects own_of o ≡ effects own_of p = ap (effects own_of) same ∙ w.2 in

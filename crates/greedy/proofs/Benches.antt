@@ -3,7 +3,7 @@ use Rattle.std.proofs.Common.{◌≡◌, refl, ap, sym, ◌∙◌, subst, ℕ, �
 use Rattle.std.specs.Prelude.{All, map, reverse, nat_le, ◌≢◌}
 use Rattle.std.specs.List.{IsDistinct, list_any}
 use Rattle.std.proofs.Math.Seq.{drop-length}
-use Rattle.std.proofs.lemmas.Bool.{leb-true}
+use Rattle.std.proofs.lemmas.Bool.{leb-true, cases_Bool}
 use Rattle.ir_types.specs.Sound.{Holds}
 use Rattle.ir_types.specs.Terms.{name_term, type_term, attr_term}
 use Rattle.ir_tree.specs.Tree.{OpOf, op, head, regions, region_count, Op}
@@ -12,7 +12,7 @@ use Rattle.ir_tree.specs.Limits.{head_fits, op_fits, items_fit, all_arguments_pa
 use Rattle.ir_tree.specs.Meaning.{meaning, isolated_in}
 use Rattle.ir_tree.specs.WellFormed.{ModuleOf, IsWellFormed}
 use Rattle.ir_tree.proofs.Mapped.{map_ids}
-use Rattle.ir_tree.proofs.Returns.{absent_first, bool_cases}
+use Rattle.ir_tree.proofs.Returns.{absent_first}
 use Rattle.ir_tree_laws.specs.Reads.{precedes, comes_after}
 use Rattle.ir_tree_laws.proofs.Listed.{both}
 use Rattle.ir_tree_laws.proofs.Members.{stand, itself, found_stands}

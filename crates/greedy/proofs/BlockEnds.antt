@@ -14,10 +14,10 @@ use Rattle.ir_tree_laws.proofs.Around.{place_of_member}
 use Rattle.listeners_surroundings.specs.Surroundings.{surround, ended_by}
 use Rattle.listeners_surroundings.proofs.Spots.{last_is}
 use Rattle.greedy.specs.Reached.{ends, ends_of}
+use Rattle.listeners_surroundings.proofs.Reading.{head_shown}
+use Rattle.ir_tree_laws.proofs.Facts.{region_below}
 
 module _ {N T A : Type 0} where
-  node_head : (o : OpOf N T A) → (node_of o).head ≡ head o
-  node_head (op h rs) = refl
 
   -- what ends a block stands there with nothing behind it
   pub record Ending (p y : ℕ) (t : OpOf N T A) : Type 0 where
@@ -43,7 +43,7 @@ module _ {N T A : Type 0} where
         there = subst (λ l. In (stand s.here l) (stands [] t)) j h;
         id = i;
         last = k;
-        parent = ap (λ (z : HeadOf N T A). z.id) (sym (node_head a.parent)) ∙ eqb-true (node_of a.parent).head.id p f;
+        parent = ap (λ (z : HeadOf N T A). z.id) (sym (head_shown a.parent)) ∙ eqb-true (node_of a.parent).head.id p f;
       }
       by_rest s h i a q j (next o os) k f = absurd (true≢false (sym f))
 
@@ -71,11 +71,6 @@ module _ {N T A : Type 0} where
     ending_last p y e =
         let z = ending p y t e in
         (z.step.region, ap (λ k. last_at k z.step.region t) (sym z.parent) ∙ last_is t d z.here z.step z.path z.there z.last ∙ ap Some z.id)
-
-  region_below : (r : ℕ) (rs : RegionsOf N T A) (g : RegionOf N T A) → region_at r rs ≡ Some g → r < region_count rs
-  region_below r no_regions g e = absurd cc
-  region_below zero (region h rs) g e = omega arith
-  region_below (suc r) (region h rs) g e = omega (arith, region_below r rs g e)
 
   -- a block that has a last operation is there
   pub last_below : (p r y : ℕ) (t : OpOf N T A) → last_at p r t ≡ Some y → (o : OpOf N T A) × (find p t ≡ Some o) × (r < region_count (regions o))

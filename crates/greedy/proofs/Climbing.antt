@@ -23,10 +23,10 @@ use Rattle.greedy.specs.Climbs.{recursive_at, Climbs}
 use Rattle.greedy.specs.Adding.{Adding, Adds}
 use Rattle.greedy.specs.Parts.{IsClimbed}
 use Rattle.greedy.proofs.Adding.{adding_none, adding_more, adding_done}
+use Rattle.greedy.proofs.Tracking.{recursive_found as recursive_there}
+use Rattle.std.proofs.lemmas.Option.{same_Some}
 
 module _ {N T A : Type 0} (own : N → Own) where
-  pub recursive_there : (t o : OpOf N T A) (x : ℕ) → find x t ≡ Some o → recursive_at own x t ≡ is_recursive (own (head o).name)
-  recursive_there t o x e = ap (λ z. elim z as (λ _. Bool) [ None ↦ false | Some o ↦ is_recursive (own (head o).name) ]) e
 
   pub recursive_absent : (t : OpOf N T A) (x : ℕ) → find x t ≡ None → recursive_at own x t ≡ false
   recursive_absent t x e = ap (λ z. elim z as (λ _. Bool) [ None ↦ false | Some o ↦ is_recursive (own (head o).name) ]) e
@@ -50,7 +50,7 @@ recursive_found own x t n e = go (find x t) refl
     go (Some o) i =
         let some : Some n ≡ Some (node_of o) = e ∙ ap (option_map node_of) i in
         let same : n ≡ node_of o = cc in
-        ap (λ z. is_recursive (own z)) (ap (λ (m : Node). m.head.name) same ∙ shown o) ∙ sym (recursive_there own t o x i)
+        ap (λ z. is_recursive (own z)) (ap (λ (m : Node). m.head.name) same ∙ shown o) ∙ sym ((recursive_there own) own t o x i)
 
 -- a climb in contents is one in numbers
 module _ (c : Things) (t : Op) where
@@ -65,7 +65,7 @@ module _ (c : Things) (t : Op) where
 
       go : (f : Option Op) → find x t ≡ f → recursive_at own_of x (meaning c t) ≡ recursive_at (own_by c) x t
       go None i = recursive_absent own_of (meaning c t) x (found ∙ ap (option_map (meaning c)) i) ∙ sym (recursive_absent (own_by c) t x i)
-      go (Some o) i = recursive_there own_of (meaning c t) (meaning c o) x (found ∙ ap (option_map (meaning c)) i) ∙ ap (λ n. is_recursive (own_of n)) (name o) ∙ sym (recursive_there (own_by c) t o x i)
+      go (Some o) i = (recursive_there own) own_of (meaning c t) (meaning c o) x (found ∙ ap (option_map (meaning c)) i) ∙ ap (λ n. is_recursive (own_of n)) (name o) ∙ sym ((recursive_there own) (own_by c) t o x i)
 
   same_parent : (x : ℕ) → parent_of x (meaning c t) ≡ parent_of x t
   same_parent x = ap (option_map (λ (p : Place). p.parent)) (map_place (name_term c) (type_term c) (attr_term c) x t)
@@ -73,9 +73,6 @@ module _ (c : Things) (t : Op) where
   pub same_climbs : (k y x : ℕ) → Climbs own_of k y x (meaning c t) → Climbs (own_by c) k y x t
   same_climbs zero y x h = (sym (same_recursive x) ∙ h.0, h.1)
   same_climbs (suc k) y x h = (sym (same_recursive x) ∙ h.0, (h.1.0, sym (same_parent x) ∙ h.1.1, same_climbs k y h.1.0 h.1.2))
-
-some_same : (a b : ℕ) → Some a ≡ Some b → a ≡ b
-some_same a b e = cc
 
 module _ (w : World) where
   pub climb_none : (y : ℕ) (xs : List ℕ) → Adding (IsClimbed w y) (IsClimbed w y) xs xs
@@ -88,7 +85,7 @@ module _ (w : World) where
       step : (x k : ℕ) → Climbs (own_by w.ctx) k x y w.store.module_of.tree → (x ≡ y) ⊎ IsClimbed w place.parent x
       step x zero c = inl (sym c.1)
       step x (suc k) c =
-          let same : c.1.0 ≡ place.parent = some_same c.1.0 place.parent (sym c.1.1 ∙ ap (option_map (λ (p : Place). p.parent)) e) in
+          let same : c.1.0 ≡ place.parent = same_Some c.1.0 place.parent (sym c.1.1 ∙ ap (option_map (λ (p : Place). p.parent)) e) in
           inr (k, subst (λ p. Climbs (own_by w.ctx) k x p w.store.module_of.tree) same c.1.2)
 
   -- the root
@@ -119,7 +116,7 @@ higher {N} {T} {A} t d x place e = let w = member_of_place x place t e in go w.0
     go s [] q k i u = let no : None ≡ Some place = ap place_in (sym q) ∙ u in absurd cc
     go s (a ∷ p) q k i u =
         let two : Some (record { parent = (head a.parent).id; region = a.region; before = first_id a.rest }) ≡ Some place = ap place_in (sym q) ∙ u in
-        let parent : (head a.parent).id ≡ place.parent = some_same _ _ (ap (option_map (λ (z : Place). z.parent)) two) in
+        let parent : (head a.parent).id ≡ place.parent = same_Some _ _ (ap (option_map (λ (z : Place). z.parent)) two) in
         let around = (around_there t s.here a p (subst (λ l. In (stand s.here l) (stands [] t)) q k)).1 in
         let outer : height_of (stand_of place.parent t) ≡ length p = ap (λ z. height_of (stand_of z t)) (sym parent) ∙ ap height_of (stand_of_member t d (stand a.parent p) around) in
         let here : height_of (stand_of x t) ≡ length (a ∷ p) = ap (λ z. height_of (stand_of z t)) (sym i) ∙ ap height_of (stand_of_member t d s k) ∙ ap length q in

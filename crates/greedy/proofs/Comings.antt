@@ -1,5 +1,5 @@
 -- What runs of rewrites come to.
-use Rattle.std.proofs.Common.{◌≡◌, ◌≢◌, refl, ap, sym, ◌∙◌, ℕ, zero, suc, ◌+◌, ◌-◌, ◌≤◌, ◌<◌, inl, inr, ◌⊎◌, Bool, true, false, cond, ◌&&◌, List, [], ◌∷◌, Option, Some, None, true≢false, arith}
+use Rattle.std.proofs.Common.{◌≡◌, ◌≢◌, refl, ap, sym, ◌∙◌, subst, ℕ, zero, suc, ◌+◌, ◌-◌, ◌≤◌, ◌<◌, inl, inr, ◌⊎◌, Bool, true, false, cond, ◌&&◌, List, [], ◌∷◌, Option, Some, None, true≢false, arith}
 use Rattle.std.specs.Prelude.{nat_le}
 use Rattle.std.proofs.lemmas.Bool.{le-leb, lt-leb}
 use Rattle.ir_types.specs.declared.refusal.Refusal.{Refusal}
@@ -11,69 +11,16 @@ use Rattle.rewriter_machine.specs.Contents.{Edit}
 use Rattle.patterns_base.specs.declared.rule.Rule.{Rule}
 use Rattle.patterns_base.specs.Makes.{made_by}
 use Rattle.patterns_base.specs.Rewrites.{Rewrite, none, refused, becomes, edits_of, rewrite_by, rewrite_of}
-use Rattle.patterns_base.specs.Canonicalization.{or_else, first_rule, greedy_rules, first_among, next_rewrite, End, converged, limited, stopped, ended, end_of, go_on, canonical_from, canonicalization_of, most_rewrites}
-use Rattle.greedy.specs.Outcomes.{Applied, Refuses, Tells, Stop, is_limit, IsReason}
-
--- ---- one rewrite, or none
-goes_on : (left done : ℕ) (m n : Module) → next_rewrite m ≡ becomes n → canonical_from (suc left) done m ≡ canonical_from left (done + 1) n
-unfolding canonical_from
-goes_on left done m n e = ap (λ a. go_on a m done (canonical_from left (done + 1))) e
-
-ends : (left done : ℕ) (m : Module) → next_rewrite m ≡ none → canonical_from left done m ≡ ended m done converged
-unfolding canonical_from
-ends zero done m e = ap (λ a. ended m done (end_of a)) e
-ends (suc left) done m e = ap (λ a. go_on a m done (canonical_from left (done + 1))) e
-
-stops_for : (left done : ℕ) (m : Module) (e : Refusal) → next_rewrite m ≡ refused e → canonical_from (suc left) done m ≡ stopped e
-unfolding canonical_from
-stops_for left done m e h = ap (λ a. go_on a m done (canonical_from left (done + 1))) h
+use Rattle.patterns_base.specs.Canonicalization.{Canonical, or_else, first_rule, greedy_rules, End, converged, limited, stopped, ended, end_of, go_on, most_rewrites}
+use Rattle.greedy.specs.Outcomes.{Applied, Refuses, Tells, IsCanonical, IsReason, IsReasonBy, IsReasonFor, IsRewriting, Stop, count_of, ending_of, is_limit}
+use Rattle.greedy.specs.Rewriting.{first_by, next_by, rewritten_from, rewriting_of}
+use Rattle.greedy.specs.declared.outcome.Outcome.{Outcome}
+use Rattle.greedy.proofs.SameRules.{same_rewriting}
 
 limited_by : (a : Rewrite) → a ≢ none → end_of a ≡ limited
 limited_by none n = absurd (n refl)
 limited_by (refused e) n = refl
 limited_by (becomes p) n = refl
-
-at_limit : (done : ℕ) (m : Module) → next_rewrite m ≢ none → canonical_from zero done m ≡ ended m done limited
-unfolding canonical_from
-at_limit done m n = ap (ended m done) (limited_by (next_rewrite m) n)
-
--- ---- a run that came of a module, so far
-pub at_start : (limit : ℕ) (m : Module) → canonical_from (limit - 0) 0 m ≡ canonical_from limit 0 m
-at_start limit m = let e : limit - 0 ≡ limit = omega arith in ap (λ k. canonical_from k 0 m) e
-
-module _ (limit : ℕ) (old : Module) (count : ℕ) (m : Module) (so_far : canonical_from (limit - count) count m ≡ canonical_from limit 0 old) where
-  more_left : count < limit → limit - count ≡ suc (limit - (count + 1))
-  more_left l = omega (arith, l)
-
-  pub one_more : (n : Module) (b : Bool) → count < limit → b ≡ true → Applied (next_rewrite m) b m n → canonical_from (limit - (count + 1)) (count + 1) n ≡ canonical_from limit 0 old
-  one_more n b l t h = sym (goes_on (limit - (count + 1)) count m n (gave (next_rewrite m) refl h)) ∙ ap (λ k. canonical_from k count m) (sym (more_left l)) ∙ so_far
-    where
-      gave : (a : Rewrite) → next_rewrite m ≡ a → Applied a b m n → next_rewrite m ≡ becomes n
-      gave none e h = absurd (true≢false (sym t ∙ h.0))
-      gave (refused e) f h = absurd h
-      gave (becomes q) e h = e ∙ ap becomes (sym h.1)
-
-  pub converges : (n : Module) (b : Bool) → b ≡ false → Applied (next_rewrite m) b m n → canonical_from limit 0 old ≡ ended n count converged
-  converges n b f h = go (next_rewrite m) refl h
-    where
-      go : (a : Rewrite) → next_rewrite m ≡ a → Applied a b m n → canonical_from limit 0 old ≡ ended n count converged
-      go none e h = sym so_far ∙ ends (limit - count) count m e ∙ ap (λ p. ended p count converged) (sym h.1)
-      go (refused g) e h = absurd h
-      go (becomes q) e h = absurd (true≢false (sym h.0 ∙ f))
-
-  pub refuses : (full : Type 0) (e : Refusal) → count < limit → Refuses (next_rewrite m) full e → Stop limit old full e
-  refuses full e l (inl h) = inl h
-  refuses full e l (inr (inl h)) = inr (inl (sym so_far ∙ ap (λ k. canonical_from k count m) (more_left l) ∙ stops_for (limit - (count + 1)) count m e h))
-  refuses full e l (inr (inr h)) = inr (inr (h.0, h.1.1))
-
-  none_left : limit ≤ count → limit - count ≡ zero
-  none_left l = omega (arith, l)
-
-  pub converged_there : limit ≤ count → next_rewrite m ≡ none → canonical_from limit 0 old ≡ ended m count converged
-  converged_there l n = sym so_far ∙ ends (limit - count) count m n
-
-  pub limited_there : limit ≤ count → next_rewrite m ≢ none → canonical_from limit 0 old ≡ ended m count limited
-  limited_there l n = sym so_far ∙ ap (λ k. canonical_from k count m) (none_left l) ∙ at_limit count m n
 
 -- ---- what was told of the next rewrite
 pub tells : (a : Rewrite) (b : Bool) → b ≡ true → Tells a b → a ≢ none
@@ -95,18 +42,6 @@ limit_high limit l h = ap (λ b. b && nat_le limit 1000000) (le-leb 1 limit l) �
 pub limit_fits : (limit : ℕ) → 1 ≤ limit → limit ≤ 1000000 → is_limit limit ≡ true
 unfolding most_rewrites
 limit_fits limit l h = ap (λ b. b && nat_le limit 1000000) (le-leb 1 limit l) ∙ le-leb limit 1000000 h
-
-pub from_start : (limit : ℕ) (m : Module) → is_limit limit ≡ true → canonicalization_of limit m ≡ canonical_from limit 0 m
-unfolding canonicalization_of
-from_start limit m e = ap (λ b. cond b (canonical_from limit 0 m) (stopped BadLimit)) e
-
-pub from_start_of : (limit : ℕ) (m n : Module) → is_limit limit ≡ true → n ≡ m → canonicalization_of limit m ≡ canonical_from limit 0 n
-from_start_of limit m n e h = from_start limit m e ∙ ap (canonical_from limit 0) (sym h)
-
-pub stops_alike : (limit : ℕ) (m n : Module) (full later : Type 0) (e : Refusal) → n ≡ m → (full → later) → Stop limit n full e → Stop limit m later e
-stops_alike limit m n full later e h f (inl k) = inl k
-stops_alike limit m n full later e h f (inr (inl k)) = inr (inl (ap (canonical_from limit 0) (sym h) ∙ k))
-stops_alike limit m n full later e h f (inr (inr k)) = inr (inr (k.0, f k.1))
 
 -- ---- rules are refused for a count
 abbrev IsCount : Refusal → Type 0
@@ -143,29 +78,11 @@ rules_count (r ∷ rs) m x e h = elim (either_refused (rewrite_of r m x) (first_
   | inr k ↦ rules_count rs m x e k
 ]
 
-next_count : (xs : List ℕ) (m : Module) (e : Refusal) → first_among xs m ≡ refused e → IsCount e
-unfolding first_among
-next_count [] m e h = absurd (not_refused none e refl h)
-next_count (x ∷ xs) m e h = elim (either_refused (first_rule greedy_rules m x) (first_among xs m) e h) [
-  | inl k ↦ rules_count greedy_rules m x e k
-  | inr k ↦ next_count xs m e k
-]
-
 stopped_is : (f e : Refusal) → stopped f ≡ stopped e → f ≡ e
 stopped_is f e h = ap (λ a. elim a as (λ _. Refusal) [ stopped g ↦ g | ended n k d ↦ f ]) h
 
 not_stopped : (n : Module) (k : ℕ) (d : End) (e : Refusal) → ended n k d ≡ stopped e → ⊥
 not_stopped n k d e h = true≢false (ap (λ a. elim a as (λ _. Bool) [ stopped g ↦ false | ended n k d ↦ true ]) h)
-
-stop_count : (left done : ℕ) (m : Module) (e : Refusal) → canonical_from left done m ≡ stopped e → IsCount e
-unfolding canonical_from
-stop_count zero done m e h = absurd (not_stopped m done (end_of (next_rewrite m)) e h)
-stop_count (suc left) done m e h = by (next_rewrite m) refl h (λ n. stop_count left (done + 1) n e)
-  where
-    by : (a : Rewrite) → next_rewrite m ≡ a → go_on a m done (canonical_from left (done + 1)) ≡ stopped e → ((n : Module) → canonical_from left (done + 1) n ≡ stopped e → IsCount e) → IsCount e
-    by none q h more = absurd (not_stopped m done converged e h)
-    by (refused f) q h more = next_count (ids m.tree) m e (q ∙ ap refused (stopped_is f e h))
-    by (becomes n) q h more = more n h
 
 count_no_limit : (e : Refusal) → IsCount e → e ≡ BadLimit → ⊥
 count_no_limit e (inl f) h = let k : Full ≡ BadLimit = sym f ∙ h in absurd cc
@@ -177,22 +94,117 @@ told a full e (inl h) n = absurd (n h)
 told a full e (inr (inl h)) n = λ k. not_refused a e k h
 told a full e (inr (inr h)) n = h.1.0
 
--- ---- why a run is refused
-pub limit_reason : (limit : ℕ) (m : Module) (full : Type 0) → is_limit limit ≡ false → IsReason limit m full BadLimit
-limit_reason limit m full f = record { limited = (λ h. f, λ h. refl); others = λ t. absurd (true≢false (sym t ∙ f)) }
+-- ---- rewriting by some rules
+module _ (rs : List Rule) where
+  -- ---- one rewrite, or none
+  goes_on : (left done : ℕ) (m n : Module) → next_by rs m ≡ becomes n → rewritten_from rs (suc left) done m ≡ rewritten_from rs left (done + 1) n
+  unfolding rewritten_from
+  goes_on left done m n e = ap (λ a. go_on a m done (rewritten_from rs left (done + 1))) e
 
-pub stop_reason : (limit : ℕ) (m : Module) (full : Type 0) (e : Refusal) → is_limit limit ≡ true → Stop limit m full e → IsReason limit m full e
-stop_reason limit m full e t s = record {
-  limited = (λ h. absurd (not_bad s h), λ f. absurd (true≢false (sym t ∙ f)));
-  others = λ k. begun s;
-}
-  where
-    begun : Stop limit m full e → (e ≡ Memory) ⊎ ((canonicalization_of limit m ≡ stopped e) ⊎ ((e ≡ Full) × full))
-    begun (inl h) = inl h
-    begun (inr (inl h)) = inr (inl (from_start limit m t ∙ h))
-    begun (inr (inr h)) = inr (inr h)
+  ends : (left done : ℕ) (m : Module) → next_by rs m ≡ none → rewritten_from rs left done m ≡ ended m done converged
+  unfolding rewritten_from
+  ends zero done m e = ap (λ a. ended m done (end_of a)) e
+  ends (suc left) done m e = ap (λ a. go_on a m done (rewritten_from rs left (done + 1))) e
 
-    not_bad : Stop limit m full e → e ≡ BadLimit → ⊥
-    not_bad (inl f) h = let k : Memory ≡ BadLimit = sym f ∙ h in absurd cc
-    not_bad (inr (inl f)) h = count_no_limit e (stop_count limit 0 m e f) h
-    not_bad (inr (inr f)) h = let k : Full ≡ BadLimit = sym f.0 ∙ h in absurd cc
+  stops_for : (left done : ℕ) (m : Module) (e : Refusal) → next_by rs m ≡ refused e → rewritten_from rs (suc left) done m ≡ stopped e
+  unfolding rewritten_from
+  stops_for left done m e h = ap (λ a. go_on a m done (rewritten_from rs left (done + 1))) h
+
+  at_limit : (done : ℕ) (m : Module) → next_by rs m ≢ none → rewritten_from rs zero done m ≡ ended m done limited
+  unfolding rewritten_from
+  at_limit done m n = ap (ended m done) (limited_by (next_by rs m) n)
+
+  -- ---- a run that came of a module, so far
+  pub at_start : (limit : ℕ) (m : Module) → rewritten_from rs (limit - 0) 0 m ≡ rewritten_from rs limit 0 m
+  at_start limit m = let e : limit - 0 ≡ limit = omega arith in ap (λ k. rewritten_from rs k 0 m) e
+
+  module _ (limit : ℕ) (old : Module) (count : ℕ) (m : Module) (so_far : rewritten_from rs (limit - count) count m ≡ rewritten_from rs limit 0 old) where
+    more_left : count < limit → limit - count ≡ suc (limit - (count + 1))
+    more_left l = omega (arith, l)
+
+    pub one_more : (n : Module) (b : Bool) → count < limit → b ≡ true → Applied (next_by rs m) b m n → rewritten_from rs (limit - (count + 1)) (count + 1) n ≡ rewritten_from rs limit 0 old
+    one_more n b l t h = sym (goes_on (limit - (count + 1)) count m n (gave (next_by rs m) refl h)) ∙ ap (λ k. rewritten_from rs k count m) (sym (more_left l)) ∙ so_far
+      where
+        gave : (a : Rewrite) → next_by rs m ≡ a → Applied a b m n → next_by rs m ≡ becomes n
+        gave none e h = absurd (true≢false (sym t ∙ h.0))
+        gave (refused e) f h = absurd h
+        gave (becomes q) e h = e ∙ ap becomes (sym h.1)
+
+    pub converges : (n : Module) (b : Bool) → b ≡ false → Applied (next_by rs m) b m n → rewritten_from rs limit 0 old ≡ ended n count converged
+    converges n b f h = go (next_by rs m) refl h
+      where
+        go : (a : Rewrite) → next_by rs m ≡ a → Applied a b m n → rewritten_from rs limit 0 old ≡ ended n count converged
+        go none e h = sym so_far ∙ ends (limit - count) count m e ∙ ap (λ p. ended p count converged) (sym h.1)
+        go (refused g) e h = absurd h
+        go (becomes q) e h = absurd (true≢false (sym h.0 ∙ f))
+
+    pub refuses : (full : Type 0) (e : Refusal) → count < limit → Refuses (next_by rs m) full e → Stop rs limit old full e
+    refuses full e l (inl h) = inl h
+    refuses full e l (inr (inl h)) = inr (inl (sym so_far ∙ ap (λ k. rewritten_from rs k count m) (more_left l) ∙ stops_for (limit - (count + 1)) count m e h))
+    refuses full e l (inr (inr h)) = inr (inr (h.0, h.1.1))
+
+    none_left : limit ≤ count → limit - count ≡ zero
+    none_left l = omega (arith, l)
+
+    pub converged_there : limit ≤ count → next_by rs m ≡ none → rewritten_from rs limit 0 old ≡ ended m count converged
+    converged_there l n = sym so_far ∙ ends (limit - count) count m n
+
+    pub limited_there : limit ≤ count → next_by rs m ≢ none → rewritten_from rs limit 0 old ≡ ended m count limited
+    limited_there l n = sym so_far ∙ ap (λ k. rewritten_from rs k count m) (none_left l) ∙ at_limit count m n
+
+  pub from_start : (limit : ℕ) (m : Module) → is_limit limit ≡ true → rewriting_of rs limit m ≡ rewritten_from rs limit 0 m
+  unfolding rewriting_of
+  from_start limit m e = ap (λ b. cond b (rewritten_from rs limit 0 m) (stopped BadLimit)) e
+
+  pub from_start_of : (limit : ℕ) (m n : Module) → is_limit limit ≡ true → n ≡ m → rewriting_of rs limit m ≡ rewritten_from rs limit 0 n
+  from_start_of limit m n e h = from_start limit m e ∙ ap (rewritten_from rs limit 0) (sym h)
+
+  pub stops_alike : (limit : ℕ) (m n : Module) (full later : Type 0) (e : Refusal) → n ≡ m → (full → later) → Stop rs limit n full e → Stop rs limit m later e
+  stops_alike limit m n full later e h f (inl k) = inl k
+  stops_alike limit m n full later e h f (inr (inl k)) = inr (inl (ap (rewritten_from rs limit 0) (sym h) ∙ k))
+  stops_alike limit m n full later e h f (inr (inr k)) = inr (inr (k.0, f k.1))
+
+  next_count : (xs : List ℕ) (m : Module) (e : Refusal) → first_by rs xs m ≡ refused e → IsCount e
+  unfolding first_by
+  next_count [] m e h = absurd (not_refused none e refl h)
+  next_count (x ∷ xs) m e h = elim (either_refused (first_rule rs m x) (first_by rs xs m) e h) [
+    | inl k ↦ rules_count rs m x e k
+    | inr k ↦ next_count xs m e k
+  ]
+
+  stop_count : (left done : ℕ) (m : Module) (e : Refusal) → rewritten_from rs left done m ≡ stopped e → IsCount e
+  unfolding rewritten_from
+  stop_count zero done m e h = absurd (not_stopped m done (end_of (next_by rs m)) e h)
+  stop_count (suc left) done m e h = by (next_by rs m) refl h (λ n. stop_count left (done + 1) n e)
+    where
+      by : (a : Rewrite) → next_by rs m ≡ a → go_on a m done (rewritten_from rs left (done + 1)) ≡ stopped e → ((n : Module) → rewritten_from rs left (done + 1) n ≡ stopped e → IsCount e) → IsCount e
+      by none q h more = absurd (not_stopped m done converged e h)
+      by (refused f) q h more = next_count (ids m.tree) m e (q ∙ ap refused (stopped_is f e h))
+      by (becomes n) q h more = more n h
+
+  -- ---- why a run is refused
+  pub limit_reason : (limit : ℕ) (m : Module) (full : Type 0) → is_limit limit ≡ false → IsReasonBy rs limit m full BadLimit
+  limit_reason limit m full f = record { limited = (λ h. f, λ h. refl); others = λ t. absurd (true≢false (sym t ∙ f)) }
+
+  pub stop_reason : (limit : ℕ) (m : Module) (full : Type 0) (e : Refusal) → is_limit limit ≡ true → Stop rs limit m full e → IsReasonBy rs limit m full e
+  stop_reason limit m full e t s = record {
+    limited = (λ h. absurd (not_bad s h), λ f. absurd (true≢false (sym t ∙ f)));
+    others = λ k. begun s;
+  }
+    where
+      begun : Stop rs limit m full e → (e ≡ Memory) ⊎ ((rewriting_of rs limit m ≡ stopped e) ⊎ ((e ≡ Full) × full))
+      begun (inl h) = inl h
+      begun (inr (inl h)) = inr (inl (from_start limit m t ∙ h))
+      begun (inr (inr h)) = inr (inr h)
+
+      not_bad : Stop rs limit m full e → e ≡ BadLimit → ⊥
+      not_bad (inl f) h = let k : Memory ≡ BadLimit = sym f ∙ h in absurd cc
+      not_bad (inr (inl f)) h = count_no_limit e (stop_count limit 0 m e f) h
+      not_bad (inr (inr f)) h = let k : Full ≡ BadLimit = sym f.0 ∙ h in absurd cc
+
+-- ---- by the rules of canonicalization
+pub canonical_comes : (limit : ℕ) (m n : Module) (o : Outcome) → IsRewriting greedy_rules limit m o n → IsCanonical limit m o n
+canonical_comes limit m n o h = sym (same_rewriting limit m) ∙ h
+
+pub canonical_reason : (limit : ℕ) (m : Module) (full : Type 0) (e : Refusal) → IsReasonBy greedy_rules limit m full e → IsReason limit m full e
+canonical_reason limit m full e h = subst (λ (due : Canonical). IsReasonFor due limit full e) (same_rewriting limit m) h

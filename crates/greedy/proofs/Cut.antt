@@ -8,7 +8,7 @@ use Rattle.ir_tree.specs.Tree.{OpOf, op, RegionsOf, no_regions, region, RegionOf
 use Rattle.ir_tree.specs.Ids.{ids, regions_ids, region_ids, ops_ids, HasDistinctIds, find, regions_find}
 use Rattle.ir_tree.specs.Places.{each_list, regions_each_list, region_each_list, ops_each_list, put_before, put_in, is_in_block, put_here, put, without}
 use Rattle.ir_tree.proofs.Moves.{Absent, absent_parts, ops_unput, list_id}
-use Rattle.ir_tree.proofs.Returns.{Present, absent_first, halves, bool_cases, elsewhere}
+use Rattle.ir_tree.proofs.Returns.{Present, absent_first, halves, elsewhere}
 use Rattle.ir_tree.proofs.Left.{left_distinct}
 use Rattle.ir_tree_laws.specs.Stands.{StandOf, stand_id, stands, is_gone, left_stand, dropping}
 use Rattle.ir_tree_laws.specs.Members.{In}
@@ -19,6 +19,9 @@ use Rattle.ir_tree_laws.proofs.Without.{left_member}
 use Rattle.ir_tree_laws.proofs.Stretches.{Parted, part, parted_ids, left_ids}
 use Rattle.ir_tree_laws.proofs.Shift.{Inner, inner_of, own_distinct}
 use Rattle.ir_tree_laws.proofs.Cuts.{one_cut, absent_before}
+use Rattle.std.proofs.lemmas.Bool.{cases_Bool}
+use Rattle.rewriter_laws.proofs.Trees.{found_id}
+use Rattle.ir_tree.proofs.Facts.{ids_head}
 
 -- a list with others put in front of one of it
 pub record Came (b : ℕ) (others xs ys : List ℕ) : Type 0 where
@@ -67,7 +70,7 @@ behind b x others xs ys (inr c) = inr (come_right b others (x ∷ []) (x ∷ [])
 module _ {N T A : Type 0} (place : Place) (o : OpOf N T A) (b : ℕ) (before : place.before ≡ Some b) where
   put_before_ids : (os : OpsOf N T A) → MayCome b (ids o) (ops_ids os) (ops_ids (put_before b o os))
   put_before_ids no_ops = inl refl
-  put_before_ids (next (op h rs) os) = elim (bool_cases (eqb h.id b)) [
+  put_before_ids (next (op h rs) os) = elim (cases_Bool (eqb h.id b)) [
     | inl e ↦ inr (record {
       front = [];
       back = regions_ids rs ++ ops_ids os;
@@ -82,7 +85,7 @@ module _ {N T A : Type 0} (place : Place) (o : OpOf N T A) (b : ℕ) (before : p
       later (inr c) = inr (come_right b (ids o) (ids (op h rs)) (ids (op h rs)) (ops_ids os) (ops_ids (put_before b o os)) refl c)
 
   put_block : (p r : ℕ) (os : OpsOf N T A) → Absent p (ops_ids os) → MayCome b (ids o) (ops_ids os) (ops_ids (ops_each_list (put_here place o) os)) → MayCome b (ids o) (ops_ids os) (ops_ids (put_here place o p r (ops_each_list (put_here place o) os)))
-  put_block p r os a inner = elim (bool_cases (is_in_block place p r)) [
+  put_block p r os a inner = elim (cases_Bool (is_in_block place p r)) [
     | inr e ↦ subst (λ (l : OpsOf N T A). MayCome b (ids o) (ops_ids os) (ops_ids l)) (sym (elsewhere place o p r (ops_each_list (put_here place o) os) e)) inner
     | inl e ↦ (let here : p ≡ place.parent = eqb-true p place.parent (both (eqb p place.parent) (eqb r place.region) e).0 in
         let kept : ops_each_list (put_here place o) os ≡ os = ops_unput place o os (subst (λ (z : ℕ). Absent z (ops_ids os)) here a) in
@@ -125,19 +128,13 @@ module _ {N T A : Type 0} (place : Place) (o : OpOf N T A) (b : ℕ) (before : p
       go (inr c) = absurd (true≢false (sym (come_there b (ids o) (regions_ids rs) (regions_ids (regions_each_list (put_here place o) h.id 0 rs)) c) ∙ a))
 
 module _ {N T A : Type 0} where
-  pub own_ids : (o : OpOf N T A) → ids o ≡ (head o).id ∷ regions_ids (regions o)
-  own_ids (op h rs) = refl
-
-  -- the id under which an operation is found is its own
-  pub found_id : (x : ℕ) (t o : OpOf N T A) → find x t ≡ Some o → (head o).id ≡ x
-  found_id x t o e = let s = found_stands x t o e in ap (λ (z : OpOf N T A). (head z).id) (sym s.3) ∙ s.2
 
   pub found_present : (x : ℕ) (t o : OpOf N T A) → find x t ≡ Some o → Present x (ids t)
   found_present x t o e = let s = found_stands x t o e in subst (λ z. Present z (ids t)) s.2 (stand_present [] t s.0 s.1)
 
   -- it isn't the root, where something stands before it
   pub not_root : (y : ℕ) (t o : OpOf N T A) (xs ys : List ℕ) → find y t ≡ Some o → ids t ≡ xs ++ (ids o ++ ys) → 1 ≤ length xs → eqb (head t).id y ≡ false
-  not_root y t o xs ys e is l = elim (bool_cases (eqb (head t).id y)) [
+  not_root y t o xs ys e is l = elim (cases_Bool (eqb (head t).id y)) [
     | inr k ↦ k
     | inl k ↦ absurd (
         let all : Some t ≡ Some o = sym (root_found t k) ∙ e in
@@ -172,7 +169,7 @@ module _ {N T A : Type 0} where
       cut = parted_ids (head o).id (i.step_in ∷ i.path) o t w
 
       heads : (l : List ℕ) → ids o ++ l ≡ (head o).id ∷ (regions_ids (regions o) ++ l)
-      heads l = ap (λ z. z ++ l) (own_ids o)
+      heads l = ap (λ z. z ++ l) (ids_head o)
 
       once : (xs ys : List ℕ) → ids t ≡ xs ++ (ids o ++ ys) → Absent (head o).id xs
       once xs ys k = absent_before (head o).id xs (regions_ids (regions o) ++ ys) (subst (IsDistinct eqb) (k ∙ ap (λ l. xs ++ l) (heads ys)) d)
@@ -186,7 +183,7 @@ module _ {N T A : Type 0} where
 
   -- what stands elsewhere is found as before
   pub without_found : (y z : ℕ) (t o v : OpOf N T A) → HasDistinctIds t → find y t ≡ Some o → find z t ≡ Some v → Absent z (ids o) → find z (without y t) ≡ Some (without y v)
-  without_found y z t o v d e f a = elim (bool_cases (is_gone y s.0)) [
+  without_found y z t o v d e f a = elim (cases_Bool (is_gone y s.0)) [
     | inl k ↦ absurd (
         let w = gone_within y t s.0.path s.0.here s.1 k in
         let two : Some w.here ≡ Some o = sym (stand_found t d (stand w.here (w.step_in ∷ w.path)) w.there) ∙ ap (λ j. find j t) w.id ∙ e in

@@ -9,10 +9,7 @@ use Rattle.ir_tree_laws.proofs.Listed.{bool_cases}
 use Rattle.ir_event.specs.Modules.{Module}
 use Rattle.greedy.specs.Orders.{Orderly}
 use Rattle.greedy.proofs.Listed.{is_listed, Listed, listed_at, listed_more, listed_past, first_there, second_there, after_at, after_past}
-
-not_so : (b : Bool) → (b ≡ true → ⊥) → b ≡ false
-not_so true h = absurd (h refl)
-not_so false h = refl
+use Rattle.std.proofs.lemmas.Bool.{false_from_ne_true}
 
 pub left_in : (x : ℕ) (xs ys : List ℕ) → Listed x xs → Listed x (xs ++ ys)
 left_in x [] ys h = absurd (true≢false (sym h))
@@ -46,10 +43,10 @@ crossing a b (z ∷ xs) ys h k = elim (bool_cases (eqb z a)) [
 
 pub second : (a b : ℕ) (xs ys : List ℕ) → (Listed a xs → ⊥) → comes_after a b (xs ++ ys) ≡ comes_after a b ys
 second a b [] ys n = refl
-second a b (z ∷ xs) ys n = after_past a b z (xs ++ ys) (not_so (eqb z a) (λ e. n (listed_at z a xs e))) ∙ second a b xs ys (λ h. n (listed_more z a xs h))
+second a b (z ∷ xs) ys n = after_past a b z (xs ++ ys) (false_from_ne_true (eqb z a) (λ e. n (listed_at z a xs e))) ∙ second a b xs ys (λ h. n (listed_more z a xs h))
 
 first_part : (a b : ℕ) (xs ys : List ℕ) → (Listed b ys → ⊥) → (Listed a ys → ⊥) → comes_after a b (xs ++ ys) ≡ comes_after a b xs
-first_part a b [] ys n m = not_so (comes_after a b ys) (λ h. m (first_there a b ys h))
+first_part a b [] ys n m = false_from_ne_true (comes_after a b ys) (λ h. m (first_there a b ys h))
 first_part a b (z ∷ xs) ys n m = elim (bool_cases (eqb z a)) [
   | inl e ↦ after_at a b z (xs ++ ys) e ∙ same b xs ys n ∙ sym (after_at a b z xs e)
   | inr e ↦ after_past a b z (xs ++ ys) e ∙ first_part a b xs ys n m ∙ sym (after_past a b z xs e)
@@ -58,11 +55,11 @@ first_part a b (z ∷ xs) ys n m = elim (bool_cases (eqb z a)) [
     same : (b : ℕ) (xs ys : List ℕ) → (Listed b ys → ⊥) → is_listed b (xs ++ ys) ≡ is_listed b xs
     same b xs ys n = elim (bool_cases (is_listed b xs)) [
       | inl e ↦ left_in b xs ys e ∙ sym e
-      | inr e ↦ not_so (is_listed b (xs ++ ys)) (λ h. elim (in_either b xs ys h) [ inl k ↦ true≢false (sym k ∙ e) | inr k ↦ n k ]) ∙ sym e
+      | inr e ↦ false_from_ne_true (is_listed b (xs ++ ys)) (λ h. elim (in_either b xs ys h) [ inl k ↦ true≢false (sym k ∙ e) | inr k ↦ n k ]) ∙ sym e
     ]
 
 backwards : (a b : ℕ) (xs ys : List ℕ) → IsDistinct eqb (xs ++ ys) → Listed a ys → Listed b xs → comes_after a b (xs ++ ys) ≡ false
-backwards a b xs ys d h k = second a b xs ys (λ l. apart a xs ys d l h) ∙ not_so (comes_after a b ys) (λ e. apart b xs ys d k (second_there a b ys e))
+backwards a b xs ys d h k = second a b xs ys (λ l. apart a xs ys d l h) ∙ false_from_ne_true (comes_after a b ys) (λ e. apart b xs ys d k (second_there a b ys e))
 
 -- two lists that share a part, where the order in the other parts is the same
 module _ (a b : ℕ) where

@@ -11,7 +11,7 @@ use Rattle.ir_tree.specs.Meaning.{Operation}
 use Rattle.ir_tree.proofs.Gained.{Apart, gained_ids}
 use Rattle.ir_tree.proofs.Heads.{Alike, head_ids, alike_operand, alike_values, alike_entry}
 use Rattle.ir_tree.proofs.Left.{left_distinct}
-use Rattle.ir_tree.proofs.Returns.{cons_distinct, nil_distinct, bool_cases}
+use Rattle.ir_tree.proofs.Returns.{cons_distinct, nil_distinct}
 use Rattle.ir_tree_laws.specs.Reads.{comes_after}
 use Rattle.ir_tree_laws.specs.Reasons.{with_id}
 use Rattle.ir_event.specs.Modules.{Module}
@@ -23,6 +23,7 @@ use Rattle.greedy.proofs.Cuts.{second, in_either, stretch_orderly}
 use Rattle.greedy.proofs.Nearby.{Wide, widths, Near, near_headed, near_erased, near_put, near_moved}
 use Rattle.greedy.proofs.Listed.{Listed, is_listed}
 use Rattle.greedy.proofs.Parts.{Part, part_before, part_behind, part_joined, part_order}
+use Rattle.std.proofs.lemmas.Bool.{cases_Bool}
 
 -- what stands where operation x stood: of what was there, it is in the order in which it was
 pub record Stays (front stretch back : List ℕ) (n : Operation) : Type 0 where
@@ -41,10 +42,10 @@ leaf_ids : (free : ℕ) (o : Operation) → regions o ≡ no_regions → ids (wi
 leaf_ids free (op h rs) e = ap (λ r. ids (op (record h { id = free }) r)) e
 
 only : (z y : ℕ) → Listed z (y ∷ []) → y ≡ z
-only z y h = elim (bool_cases (eqb y z)) [ inl e ↦ eqb-true y z e | inr e ↦ absurd (true≢false (sym h ∙ (λ i. e i || false))) ]
+only z y h = elim (cases_Bool (eqb y z)) [ inl e ↦ eqb-true y z e | inr e ↦ absurd (true≢false (sym h ∙ (λ i. e i || false))) ]
 
 nowhere : (z : ℕ) (xs : List ℕ) → (Listed z xs → ⊥) → is_listed z xs ≡ false
-nowhere z xs f = elim (bool_cases (is_listed z xs)) [ inr k ↦ k | inl k ↦ absurd (f k) ]
+nowhere z xs f = elim (cases_Bool (is_listed z xs)) [ inr k ↦ k | inl k ↦ absurd (f k) ]
 
 heads_below : (f : HeadOf (List ℕ) TypeTerm AttrTerm → HeadOf (List ℕ) TypeTerm AttrTerm) → ((h : HeadOf (List ℕ) TypeTerm AttrTerm) → Alike (f h) h) → (m : Module) → ((z : ℕ) → Listed z (ids m.tree) → z < m.next) → (z : ℕ) → Listed z (ids (each_head f m.tree)) → z < m.next
 heads_below f alike m b z h = b z (ap (is_listed z) (sym (head_ids f alike m.tree)) ∙ h)
@@ -111,9 +112,9 @@ module _ (x : ℕ) (front back rest : List ℕ) (place : Place) (before : place.
       apart z h = nowhere z (ids m.tree) (λ k. let is = only z m.next (sym (ap (is_listed z) mine) ∙ h) in let c = b z k in omega (arith, is, c))
 
       below : (z : ℕ) → Listed z (ids (put p (with_id m.next o) m.tree)) → z < m.next + 1
-      below z h = elim (bool_cases (is_listed z (ids m.tree))) [
+      below z h = elim (cases_Bool (is_listed z (ids m.tree))) [
         | inl k ↦ (let c = b z k in omega (arith, c))
-        | inr k ↦ elim (bool_cases (is_listed z (ids (with_id m.next o)))) [
+        | inr k ↦ elim (cases_Bool (is_listed z (ids (with_id m.next o)))) [
           | inl j ↦ (let is = only z m.next (sym (ap (is_listed z) mine) ∙ j) in omega (arith, is))
           | inr j ↦ absurd (true≢false (sym h ∙ gained_ids p (with_id m.next o) z m.tree j k))
         ]

@@ -17,18 +17,11 @@ use Rattle.effects.specs.Effects.{none, union, own_kinds, is_recursive, effects_
 use Rattle.listeners_surroundings.proofs.Left.{left_list}
 use Rattle.greedy.specs.Climbs.{recursive_at, Climbs, feels, regions_feel, ops_feel}
 use Rattle.listeners_surroundings.proofs.Locality.{kept_next}
-
-and_parts : (a b : Bool) → (a && b) ≡ true → (a ≡ true) × (b ≡ true)
-and_parts true b e = (refl, e)
-and_parts false b e = absurd (true≢false (sym e))
+use Rattle.std.proofs.lemmas.Bool.{and_parts, or_cases}
 
 and_rest : (a b : Bool) → (a && b) ≡ false → a ≡ true → b ≡ false
 and_rest true b e t = e
 and_rest false b e t = absurd (true≢false (sym t))
-
-or_parts : (a b : Bool) → (a || b) ≡ true → (a ≡ true) ⊎ (b ≡ true)
-or_parts true b e = inl refl
-or_parts false b e = inr e
 
 by_own : (w : Own) (a b : EffectKinds) → (is_recursive w ≡ true → a ≡ b) → effects_by w a ≡ effects_by w b
 by_own w a b f = elim (bool_cases (is_recursive w)) [
@@ -99,7 +92,7 @@ module _ {N T A : Type 0} (own : N → Own) where
       climbed_regions p q rec r (region (block args os) rs) all f =
           let xs = ops_stands p q r args [] os in
           let ys = regions_stands p q (r + 1) rs in
-          elim (or_parts (ops_feel own x os) (regions_feel own x rs) f) [
+          elim (or_cases (ops_feel own x os) (regions_feel own x rs) f) [
             | inl e ↦ climbed_ops p q rec r args [] os (λ s k. all s (in_left s xs ys k)) e
             | inr e ↦ climbed_regions p q rec (r + 1) rs (λ s k. all s (in_right s xs ys k)) e
           ]
@@ -112,9 +105,9 @@ module _ {N T A : Type 0} (own : N → Own) where
           let ys = ops_stands p q r args (front ++ o ∷ []) os in
           let here = all (stand o (a ∷ q)) (in_left (stand o (a ∷ q)) xs ys (itself (a ∷ q) o)) in
           let par = parent_there o a q here in
-          elim (or_parts (eqb (head o).id x) (feels own x o || ops_feel own x os) f) [
+          elim (or_cases (eqb (head o).id x) (feels own x o || ops_feel own x os) f) [
             | inl e ↦ ((head p).id, ap (λ z. parent_of z t) (sym (eqb-true (head o).id x e)) ∙ par, (zero, (rec, refl)))
-            | inr e ↦ elim (or_parts (feels own x o) (ops_feel own x os) e) [
+            | inr e ↦ elim (or_cases (feels own x o) (ops_feel own x os) e) [
               | inl k ↦ (let u = climbed o (a ∷ q) here (λ s m. all s (in_left s xs ys m)) k in (u.0, u.1, (suc u.2.0, extend u.2.0 (head o).id u.0 (head p).id u.2.1 par rec)))
               | inr k ↦ climbed_ops p q rec r args (front ++ o ∷ []) os (λ s m. all s (in_right s xs ys m)) k
             ]

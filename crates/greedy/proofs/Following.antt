@@ -21,9 +21,12 @@ use Rattle.ir_tree_laws.proofs.Members.{stand, member, stand_of_member, stand_fo
 use Rattle.ir_tree_laws.proofs.Put.{child}
 use Rattle.ir_tree_laws.proofs.Neighbours.{prev_there}
 use Rattle.ir_tree_laws.proofs.Around.{around_there, place_of_member, member_of_place}
-use Rattle.ir_tree_laws.proofs.Values.{shape}
+use Rattle.ir_tree_laws.proofs.Values.{shape, joined_more}
 use Rattle.greedy.proofs.Order.{rises}
 use Rattle.greedy.specs.Following.{first_id, comes_next, following, regions_from, first_inside, behind, behind_of, height_of, HasFewRegions, count_of}
+use Rattle.ir_types.proofs.Truths.{append_none, list_later}
+use Rattle.ir_tree.proofs.Facts.{ids_head}
+use Rattle.ir_tree_laws.proofs.Facts.{region_below}
 
 there : ℕ → List ℕ → Bool
 there x xs = list_any (λ y. eqb y x) xs
@@ -32,23 +35,12 @@ there x xs = list_any (λ y. eqb y x) xs
 next_first : (x : ℕ) (xs : List ℕ) → comes_next x (x ∷ xs) ≡ first_id xs
 next_first x xs = ap (λ b. cond b (first_id xs) (comes_next x xs)) (eq-eqb x x refl)
 
-list_later : (x : ℕ) (front back : List ℕ) → list_any (λ y. eqb y x) (front ++ x ∷ back) ≡ true
-list_later x [] back = ap (λ b. b || list_any (λ y. eqb y x) back) (eq-eqb x x refl)
-list_later x (y ∷ front) back = elim (bool_cases (eqb y x)) [
-  | inl e ↦ ap (λ b. b || list_any (λ z. eqb z x) (front ++ x ∷ back)) e
-  | inr e ↦ ap (λ b. b || list_any (λ z. eqb z x) (front ++ x ∷ back)) e ∙ list_later x front back
-]
-
 pub next_at : (x : ℕ) (front back : List ℕ) → IsDistinct eqb (front ++ x ∷ back) → comes_next x (front ++ x ∷ back) ≡ first_id back
 next_at x [] back d = next_first x back
 next_at x (y ∷ front) back d = elim (bool_cases (eqb y x)) [
   | inl e ↦ absurd (true≢false (sym (list_later x front back) ∙ subst (λ z. list_any (λ v. eqb v z) (front ++ x ∷ back) ≡ false) (eqb-true y x e) (absent_first y (front ++ x ∷ back) d)))
   | inr e ↦ ap (λ b. cond b (first_id (front ++ x ∷ back)) (comes_next x (front ++ x ∷ back))) e ∙ next_at x front back (IsDistinct-tail eqb y (front ++ x ∷ back) d)
 ]
-
-append_none : (xs : List ℕ) → xs ++ [] ≡ xs
-append_none [] = refl
-append_none (x ∷ xs) = ap (λ l. x ∷ l) (append_none xs)
 
 -- the first of two lists
 pub first_joined : (xs ys : List ℕ) (y : ℕ) → first_id xs ≡ Some y → first_id (xs ++ ys) ≡ Some y
@@ -103,9 +95,6 @@ module _ {N T A : Type 0} where
           | inr l ↦ subst (λ xs. Cut xs s) (sym (append_assoc (ids o) (ops_ids os) end)) (cut_more (ids o) (ops_ids os ++ end) s (cut_ops p b r args (front ++ o ∷ []) os s l))
         ]
 
-  ids_head : (o : OpOf N T A) → ids o ≡ (head o).id ∷ regions_ids (regions o)
-  ids_head (op h rs) = refl
-
   -- the one after an operation: the first inside it, else the first behind it
   pub follows : (t : OpOf N T A) → HasDistinctIds t → (s : StandOf N T A) → In s (stands [] t) → following (stand_id s) t ≡ first_id (regions_ids (regions s.here) ++ behind s.path)
   follows t d s h =
@@ -153,10 +142,6 @@ module _ {N T A : Type 0} where
   inside_past r (Some o) l = step_past r (regions o) l
 
   -- ---- from an operation up
-  region_below : (r : ℕ) (rs : RegionsOf N T A) (g : RegionOf N T A) → region_at r rs ≡ Some g → r < region_count rs
-  region_below r no_regions g e = absurd cc
-  region_below zero (region h rs) g e = omega arith
-  region_below (suc r) (region h rs) g e = omega (arith, region_below r rs g e)
 
   find_stand : (x : ℕ) (ss : List (StandOf N T A)) → list_any (λ y. eqb y x) (map (λ (s : StandOf N T A). stand_id s) ss) ≡ true → (s : StandOf N T A) × (stand_in x ss ≡ Some s)
   find_stand x [] h = absurd (true≢false (sym h))
@@ -301,10 +286,6 @@ module _ {N T A : Type 0} where
       later : (u : OpOf N T A) (us : List (OpOf N T A)) → last_id (ops_of (o ∷ (u ∷ us))) ≡ last_id (ops_of (u ∷ us))
       later u us = let w = some_last u us in ap (λ l. first_of l (Some (head o).id)) w.1 ∙ sym w.1
 
-  joined_end : (f : List (OpOf N T A)) (u : OpOf N T A) (os : OpsOf N T A) → joined_ops (f ++ u ∷ []) os ≡ joined_ops f (next u os)
-  joined_end [] u os = refl
-  joined_end (o ∷ f) u os = ap (next o) (joined_end f u os)
-
   -- a list in which x stands behind y, up to the first y
   first_split : (y x : ℕ) (os : OpsOf N T A) → goes_before y x os ≡ true → (pre : List (OpOf N T A)) × (g : OpOf N T A) × (rest : OpsOf N T A) × ((head g).id ≡ y) × (is_among x rest ≡ true) × (os ≡ joined_ops pre (next g rest))
   first_split y x no_ops h = absurd (true≢false (sym h))
@@ -344,7 +325,7 @@ module _ {N T A : Type 0} where
             let mem = subst (λ l. In (stand s.here l) (stands [] t)) q k in
             let w = front_split y a.front (sym (prev_there t d s.here a p mem) ∙ ap (λ z. prev_of z t) i ∙ e) in
             let u = stand w.1 (step a.parent a.region a.args w.0 (next s.here a.rest) ∷ p) in
-            let shaped : region_at a.region (regions a.parent) ≡ Some (block a.args (joined_ops w.0 (next w.1 (next s.here a.rest)))) = shape t s.here a p mem ∙ ap (λ l. Some (block a.args l)) (ap (λ f. joined_ops f (next s.here a.rest)) w.2 ∙ joined_end w.0 w.1 (next s.here a.rest)) in
+            let shaped : region_at a.region (regions a.parent) ≡ Some (block a.args (joined_ops w.0 (next w.1 (next s.here a.rest)))) = shape t s.here a p mem ∙ ap (λ l. Some (block a.args l)) (ap (λ f. joined_ops f (next s.here a.rest)) w.2 ∙ joined_more w.0 w.1 (next s.here a.rest)) in
             let there : In u (stands [] t) = within a.parent p u (child a.parent p a.region a.args (joined_ops w.0 (next w.1 (next s.here a.rest))) u shaped (ops_child a.parent p a.region a.args [] w.0 w.1 (next s.here a.rest))) [] t (around_there t s.here a p mem).1 in
             let x_in : list_any (λ z. eqb z x) (ids s.here) ≡ true = subst (λ z. list_any (λ v. eqb v z) (ids s.here) ≡ true) i (own_listed s.here) in
             subst (λ z. precedes z x t ≡ true) w.3 (comes_later u x there

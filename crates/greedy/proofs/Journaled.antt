@@ -12,6 +12,7 @@ use Rattle.greedy.specs.Listing.{Touched}
 use Rattle.greedy.specs.Near.{Leads}
 use Rattle.greedy.specs.Shown.{shown_operands}
 use Rattle.greedy.proofs.Leading.{leads_from}
+use Rattle.std.proofs.lemmas.List.{drop_all}
 
 -- ---- lists
 drop_suc : {X : Type 0} (xs : List X) (k : ℕ) (x : X) → slice_get xs k ≡ Some x → drop k xs ≡ x ∷ drop (suc k) xs
@@ -25,14 +26,8 @@ one_read xs done more whole k x e f g =
     let next : drop k xs ≡ x ∷ drop (k + 1) xs = drop_suc xs k x (sym e) ∙ ap (λ n. x ∷ drop n xs) step in
     ap (λ l. l ++ drop (k + 1) xs) g ∙ append_assoc done (x ∷ []) (drop (k + 1) xs) ∙ ap (λ l. done ++ l) (sym next) ∙ f
 
-drop_past : {X : Type 0} (xs : List X) (k : ℕ) → length xs ≤ k → drop k xs ≡ []
-drop_past [] zero l = refl
-drop_past [] (suc k) l = refl
-drop_past (y ∷ ys) zero l = absurd (omega (arith, l))
-drop_past (y ∷ ys) (suc k) l = let m : length ys ≤ k = omega (arith, l) in drop_past ys k m
-
 pub past_all : {X : Type 0} (xs done whole : List X) (k : ℕ) → length xs ≤ k → done ++ drop k xs ≡ whole → done ≡ whole
-past_all xs done whole k l f = sym (append-nil done) ∙ ap (λ l. done ++ l) (sym (drop_past xs k l)) ∙ f
+past_all xs done whole k l f = sym (append-nil done) ∙ ap (λ l. done ++ l) (sym (drop_all xs k l)) ∙ f
 
 drop_none : {X : Type 0} (xs : List X) (k : ℕ) → None ≡ slice_get xs k → drop k xs ≡ []
 drop_none [] zero e = refl

@@ -26,9 +26,11 @@ use Rattle.greedy.specs.Reached.{is_end, at_end, ends, reaches, any_reaches}
 use Rattle.greedy.specs.Sights.{last_ids}
 use Rattle.greedy.specs.Near.{subject}
 use Rattle.listeners_surroundings.proofs.Lasts.{split_last, last_stands}
-use Rattle.greedy.proofs.Reaching.{not_end, unlike, at_end_parts, same_reach, all_far}
+use Rattle.greedy.proofs.Reaching.{not_end, at_end_parts, same_reach, all_far}
 use Rattle.greedy.proofs.Still.{Unlast, Like, Goes, goes_out, goes_in, goes_on, all_edited}
-use Rattle.greedy.proofs.Tracked.{operand_id, operand_name, part_id, part_name, gone_found}
+use Rattle.greedy.proofs.Tracked.{operand_id, operand_name, part_name, gone_found}
+use Rattle.ir_tree.proofs.Facts.{part_id}
+use Rattle.ir_types.proofs.Truths.{unlike}
 
 module _ {N T A : Type 0} (t : OpOf N T A) (d : HasDistinctIds t) where
   -- an operation ends no block but where its place is the end

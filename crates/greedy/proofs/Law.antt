@@ -11,7 +11,6 @@ use Rattle.ir_tree.specs.Ids.{ids, regions_ids, HasDistinctIds, find, op_count}
 use Rattle.ir_tree.specs.Limits.{most_ops, most_next}
 use Rattle.ir_tree.specs.Places.{place_of}
 use Rattle.ir_tree.specs.Meaning.{Operation}
-use Rattle.ir_tree.proofs.Returns.{bool_cases}
 use Rattle.ir_tree_laws.proofs.Around.{present_stand}
 use Rattle.ir_tree_laws.proofs.Formed.{ids_below}
 use Rattle.ir_tree_laws.proofs.Shift.{own_distinct}
@@ -26,7 +25,6 @@ use Rattle.patterns_base.specs.Rules.{rule}
 use Rattle.patterns_base.specs.Rewrites.{Rewrite, none, refused, becomes, edits_of, rewrite_by, rewrite_of, carried_out}
 use Rattle.patterns_base.specs.Canonicalization.{or_else, first_rule, greedy_rules, lowest}
 use Rattle.greedy.specs.Orders.{Orderly}
-use Rattle.greedy.proofs.Cut.{own_ids, found_id}
 use Rattle.greedy.proofs.Cuts.{left_in, right_in}
 use Rattle.greedy.proofs.Edits.{names, still_stays, opens_stays, stays_orderly}
 use Rattle.greedy.proofs.Nearby.{Near, widths}
@@ -36,6 +34,9 @@ use Rattle.patterns_facts.specs.Facts.{IsNear}
 use Rattle.patterns_facts.specs.Near.{AreNear, Opens, Still}
 use Rattle.patterns_facts.proofs.Facts.{facts, lowers_not}
 use Rattle.greedy.proofs.Starts.{Between, between, start, wide, Opened, opened}
+use Rattle.std.proofs.lemmas.Bool.{cases_Bool}
+use Rattle.rewriter_laws.proofs.Trees.{found_id}
+use Rattle.ir_tree.proofs.Facts.{ids_head}
 
 -- the operations of a block but the last
 before_last : (o : Operation) (os : OpsOf (List ℕ) TypeTerm AttrTerm) → (ended_by o os).before ≡ names (wide o os)
@@ -80,7 +81,7 @@ front_before x t place e = go (place_of x t) e
     go (Some p) e = (let same : in_front x p ≡ place = cc in ap (λ (q : Place). q.before) (sym same))
 
 front_inner : (x : ℕ) (t : Operation) (place : Place) → HasDistinctIds t → front_of x t ≡ Some place → eqb (head t).id x ≡ false
-front_inner x t place d e = elim (bool_cases (eqb (head t).id x)) [
+front_inner x t place d e = elim (cases_Bool (eqb (head t).id x)) [
   | inr k ↦ k
   | inl k ↦ absurd (let bad : None ≡ Some place = sym (ap (option_map (in_front x)) (ap (λ y. place_of y t) (sym (eqb-true (head t).id x k)) ∙ unplaced t d)) ∙ e in cc)
 ]
@@ -102,7 +103,7 @@ module _ (m : Module) (d : HasDistinctIds m.tree) (below : All (λ y. y < m.next
       b = between x m.tree o d f (front_inner x m.tree place d p)
 
       own : ids o ≡ x ∷ regions_ids (regions o)
-      own = own_ids o ∙ ap (λ y. y ∷ regions_ids (regions o)) id
+      own = ids_head o ∙ ap (λ y. y ∷ regions_ids (regions o)) id
 
       old : (z : ℕ) → Listed z (x ∷ regions_ids (regions o)) → z < m.next
       old z h = under z (subst (Listed z) (sym (b.is ∙ ap (λ l. b.front ++ (l ++ b.back)) own)) (right_in z b.front ((x ∷ regions_ids (regions o)) ++ b.back) (left_in z (x ∷ regions_ids (regions o)) b.back h)))
@@ -129,7 +130,7 @@ module _ (m : Module) (d : HasDistinctIds m.tree) (below : All (λ y. y < m.next
   abbrev IsTried : Rule → Type 0
   IsTried r = is_canonical r ≡ true
 
-  first_orderly : (rs : List Rule) → All IsTried rs → (n : Module) → first_rule rs m x ≡ becomes n → Orderly x m n
+  pub first_orderly : (rs : List Rule) → All IsTried rs → (n : Module) → first_rule rs m x ≡ becomes n → Orderly x m n
   unfolding first_rule
   first_orderly [] h n e = absurd cc
   first_orderly (r ∷ rs) h n e = go (rewrite_of r m x) refl (first_orderly rs (All-tail IsTried r rs h) n) e

@@ -27,11 +27,12 @@ use Rattle.rewriter_laws.proofs.Maps.{set_other, cut_here, cut_other}
 use Rattle.rewriter_laws.proofs.Undoings.{present_below}
 use Rattle.greedy.specs.Near.{Leads, IsShown}
 use Rattle.greedy.proofs.Still.{goes_out, goes_in, goes_on, all_edited}
-use Rattle.greedy.proofs.Tracked.{operand_id, operand_name, part_id, part_name, gone_found}
+use Rattle.greedy.proofs.Tracked.{operand_id, operand_name, part_name, gone_found}
 use Rattle.greedy.specs.Shown.{operands_found, shown_operands}
-
-apart_of : (x y : ℕ) → eqb x y ≡ false → x ≡ y → ⊥
-apart_of x y k i = true≢false (sym (eq-eqb x y i) ∙ k)
+use Rattle.std.proofs.lemmas.Bool.{eqb-false}
+use Rattle.ir_event.proofs.Steps.{meaning_operands}
+use Rattle.ir_tree.proofs.Facts.{part_id}
+use Rattle.std.proofs.lemmas.Option.{same_Some}
 
 -- undoing one event leaves what is held under an older id, and the next free id doesn't rise by it
 one_held : (c : Things) (e : Event) (s : Stored) → IsForward e → CameFrom c e (module_meaning c (undone c e s).module_of) s → (x : ℕ) (o : Op) → x < (undone c e s).module_of.next → finmap.get (undone c e s).held x ≡ Some o
@@ -48,7 +49,7 @@ one_held c (Take y place false) s w f x o l h = (still, l)
     still : finmap.get s.held x ≡ Some o
     still = elim (bool_cases (eqb x y)) [
       | inl e ↦ (let none : None ≡ Some o = sym (cut_here s.held y) ∙ ap (finmap.get (finmap.remove s.held y)) (sym (eqb-true x y e)) ∙ h in absurd cc)
-      | inr e ↦ sym (cut_other s.held y x (apart_of x y e)) ∙ h
+      | inr e ↦ sym (cut_other s.held y x (eqb-false x y e)) ∙ h
     ]
 one_held c (SetOperand y k old new) s w f x o l h = (h, l)
 one_held c (SetEntry y part k old new) s w f x o l h = (h, l)
@@ -81,7 +82,7 @@ one_absent c (SetEntry y part key old new) p n s f x l none r h i =
     none w.0 w.1 (w.2 ∙ i)
 one_absent c (Shift y old new) p n s f x l none r h i = elim (bool_cases (eqb (stand_id r) y)) [
   | inl e ↦ (let u = member_of_place y old p.tree s.changes.was in none u.0 u.1 (u.2 ∙ sym (eqb-true (stand_id r) y e) ∙ i))
-  | inr e ↦ (let w = goes_on own_of y n.tree p.tree s.after.distinct s.changes.rest s.changes.same r h (apart_of (stand_id r) y e) in none w.0 w.1 (w.2 ∙ i))
+  | inr e ↦ (let w = goes_on own_of y n.tree p.tree s.after.distinct s.changes.rest s.changes.same r h (eqb-false (stand_id r) y e) in none w.0 w.1 (w.2 ∙ i))
 ]
 
 -- the next free id only rises
@@ -104,9 +105,6 @@ absent_still c (e ∷ es) s j x l none =
 found_meant : (c : Things) (x : ℕ) (t : Op) → find x (meaning c t) ≡ option_map (meaning c) (find x t)
 found_meant c x t = map_find (name_term c) (type_term c) (attr_term c) x t
 
-meant_operands : (c : Things) (q : Op) → (head (meaning c q)).operands ≡ (head q).operands
-meant_operands c (op h rs) = refl
-
 -- an operation that isn't there is known as it is held
 held_known : (c : Things) (x : ℕ) (s : Stored) (q : Op) → ((r : StandOf (List ℕ) TypeTerm AttrTerm) → In r (stands [] (meaning c s.module_of.tree)) → stand_id r ≡ x → ⊥) → finmap.get s.held x ≡ Some q → known x s ≡ Some q
 held_known c x s q none h = go (find x s.module_of.tree) refl
@@ -124,10 +122,7 @@ there_known c x s o e = go (find x s.module_of.tree) refl
     go (Some q) i =
         let some : Some (meaning c q) ≡ Some o = sym (ap (option_map (meaning c)) i) ∙ sym (found_meant c x s.module_of.tree) ∙ e in
         let same : meaning c q ≡ o = cc in
-        ap (λ (z : Operation). (head z).operands) (sym same) ∙ meant_operands c q ∙ sym (ap (λ a. operands_found (first_of a (finmap.get s.held x))) i)
-
-some_operation : (a b : Operation) → Some a ≡ Some b → a ≡ b
-some_operation a b e = cc
+        ap (λ (z : Operation). (head z).operands) (sym same) ∙ meaning_operands c q ∙ sym (ap (λ a. operands_found (first_of a (finmap.get s.held x))) i)
 
 shown_when_taken : (c : Things) (e : Event) (es : List Event) (s : Stored) → IsJournal c (e ∷ es) s → IsShown (shown_operands s) e (before c (e ∷ es) s)
 shown_when_taken c (Put x place fresh) es s j = tt
@@ -136,12 +131,12 @@ shown_when_taken c (Take x place false) es s j = λ o e.
     let k = j.1.1.keeps in
     let t = j.1.1.step in
     let p = before c (Take x place false ∷ es) s in
-    let same : o ≡ meaning c k.0 = some_operation o (meaning c k.0) (sym e ∙ k.2) in
+    let same : o ≡ meaning c k.0 = same_Some o (meaning c k.0) (sym e ∙ k.2) in
     let there = found_stands x p.tree o e in
     let low = present_below p.next p.tree t.before.below x (ap (λ z. has_id z p.tree) (sym there.2) ∙ stand_present [] p.tree there.0 there.1) in
     let lower = one_rises c (Take x place false) p (before c es s) t refl x low in
     let none = absent_still c es s j.0 x lower (gone_found x p.tree (before c es s).tree t.changes.left t.changes.inner) in
-    ap (λ (z : Operation). (head z).operands) same ∙ meant_operands c k.0 ∙ sym (ap operands_found (held_known c x s k.0 none (held_still c es s j.0 x k.0 lower k.1)))
+    ap (λ (z : Operation). (head z).operands) same ∙ meaning_operands c k.0 ∙ sym (ap operands_found (held_known c x s k.0 none (held_still c es s j.0 x k.0 lower k.1)))
 shown_when_taken c (SetOperand x k old new) es s j = tt
 shown_when_taken c (SetEntry x part key old new) es s j = tt
 shown_when_taken c (Shift x old new) es s j = tt

@@ -17,11 +17,12 @@ mod Climbing
 mod Reached
 mod Gathering
 mod Journaled
-pub mod EachRule
 pub mod Noting
 pub mod Order
 pub mod Works
+pub mod Ruling
 pub mod Scans
+pub mod SameRules
 pub mod Comings
 pub mod Benches
 pub mod Changing

@@ -1,8 +1,8 @@
 -- Which of a list comes after which.
 use Rattle.std.proofs.Common.{◌≡◌, ap, sym, ◌∙◌, ℕ, Bool, true, false, cond, ◌||◌, eqb, List, [], ◌∷◌, true≢false, inl, inr}
 use Rattle.std.specs.List.{list_any}
-use Rattle.ir_tree.proofs.Returns.{bool_cases}
 use Rattle.ir_tree_laws.specs.Reads.{comes_after}
+use Rattle.std.proofs.lemmas.Bool.{cases_Bool}
 
 -- whether a is one of a list
 abbrev pub is_listed : ℕ → List ℕ → Bool
@@ -19,7 +19,7 @@ pub listed_at : (x a : ℕ) (xs : List ℕ) → eqb x a ≡ true → Listed a (x
 listed_at x a xs e = ap (λ b. b || list_any (λ y. eqb y a) xs) e
 
 pub listed_more : (x a : ℕ) (xs : List ℕ) → Listed a xs → Listed a (x ∷ xs)
-listed_more x a xs h = elim (bool_cases (eqb x a)) [ inl e ↦ listed_at x a xs e | inr e ↦ ap (λ b. b || list_any (λ y. eqb y a) xs) e ∙ h ]
+listed_more x a xs h = elim (cases_Bool (eqb x a)) [ inl e ↦ listed_at x a xs e | inr e ↦ ap (λ b. b || list_any (λ y. eqb y a) xs) e ∙ h ]
 
 -- of which one stands behind another both stand there
 pub after_at : (a b x : ℕ) (xs : List ℕ) → eqb x a ≡ true → comes_after a b (x ∷ xs) ≡ list_any (λ y. eqb y b) xs
@@ -30,14 +30,14 @@ after_past a b x xs e = ap (λ c. cond c (list_any (λ y. eqb y b) xs) (comes_af
 
 pub first_there : (a b : ℕ) (xs : List ℕ) → comes_after a b xs ≡ true → Listed a xs
 first_there a b [] h = absurd (true≢false (sym h))
-first_there a b (x ∷ xs) h = elim (bool_cases (eqb x a)) [
+first_there a b (x ∷ xs) h = elim (cases_Bool (eqb x a)) [
   | inl e ↦ listed_at x a xs e
   | inr e ↦ listed_more x a xs (first_there a b xs (sym (after_past a b x xs e) ∙ h))
 ]
 
 pub second_there : (a b : ℕ) (xs : List ℕ) → comes_after a b xs ≡ true → Listed b xs
 second_there a b [] h = absurd (true≢false (sym h))
-second_there a b (x ∷ xs) h = elim (bool_cases (eqb x a)) [
+second_there a b (x ∷ xs) h = elim (cases_Bool (eqb x a)) [
   | inl e ↦ listed_more x b xs (sym (after_at a b x xs e) ∙ h)
   | inr e ↦ listed_more x b xs (second_there a b xs (sym (after_past a b x xs e) ∙ h))
 ]

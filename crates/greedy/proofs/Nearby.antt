@@ -11,12 +11,15 @@ use Rattle.ir_tree.proofs.Gained.{Apart, gained_distinct}
 use Rattle.ir_tree.proofs.Heads.{Alike, head_ids, head_find}
 use Rattle.ir_tree.proofs.Left.{left_distinct}
 use Rattle.ir_tree.proofs.Moves.{Absent, absent_parts, without_absent}
-use Rattle.ir_tree.proofs.Returns.{Present, absent_first, absent_join, halves, bool_cases}
+use Rattle.ir_tree.proofs.Returns.{Present, absent_first, absent_join, halves}
 use Rattle.ir_tree_laws.proofs.Around.{absent_find}
 use Rattle.ir_tree_laws.proofs.Cuts.{one_cut, absent_before}
 use Rattle.ir_tree_laws.proofs.Put.{put_find}
 use Rattle.ir_tree_laws.proofs.Shift.{own_distinct}
-use Rattle.greedy.proofs.Cut.{MayCome, put_may, put_outside, own_ids, found_id, found_present, not_root, without_ids, without_found, found_within}
+use Rattle.greedy.proofs.Cut.{MayCome, put_may, put_outside, found_present, not_root, without_ids, without_found, found_within}
+use Rattle.std.proofs.lemmas.Bool.{cases_Bool}
+use Rattle.rewriter_laws.proofs.Trees.{found_id}
+use Rattle.ir_tree.proofs.Facts.{ids_head}
 
 -- operations by their ids, each with the ids of what stands in it
 abbrev pub Wide : Type 0
@@ -31,7 +34,7 @@ absent_in : (x : ℕ) (xs ys : List ℕ) → Present x ys → Absent x (xs ++ ys
 absent_in x xs ys p a = true≢false (sym p ∙ (absent_parts x xs ys a).1)
 
 apart_by : (x y : ℕ) (xs ys : List ℕ) → Apart xs ys → Present y ys → Absent y xs
-apart_by x y xs ys f p = elim (bool_cases (list_any (λ z. eqb z y) xs)) [ inr k ↦ k | inl k ↦ absurd (true≢false (sym p ∙ f y k)) ]
+apart_by x y xs ys f p = elim (cases_Bool (list_any (λ z. eqb z y) xs)) [ inr k ↦ k | inl k ↦ absurd (true≢false (sym p ∙ f y k)) ]
 
 module _ {N T A : Type 0} where
   -- they stand in an operation
@@ -81,7 +84,7 @@ module _ {N T A : Type 0} where
     x_absent = (absent_parts x (widths ys) outer (absent_parts x inner (widths ys ++ outer) x_once).1).0
 
     x_regions : Absent x (regions_ids (regions w.at))
-    x_regions = subst (Absent x) (sym (append_cancel_left (x ∷ []) (regions_ids (regions w.at)) (inner ++ (widths ys ++ outer)) (ap (λ y. y ∷ regions_ids (regions w.at)) (sym (found_id x t w.at w.found)) ∙ sym (own_ids w.at) ∙ w.own))) x_once
+    x_regions = subst (Absent x) (sym (append_cancel_left (x ∷ []) (regions_ids (regions w.at)) (inner ++ (widths ys ++ outer)) (ap (λ y. y ∷ regions_ids (regions w.at)) (sym (found_id x t w.at w.found)) ∙ sym (ids_head w.at) ∙ w.own))) x_once
 
     -- others are put in front of it, or nothing is
     module _ (place : Place) (o : OpOf N T A) (before : place.before ≡ Some x) (own : HasDistinctIds o) (apart : Apart (ids o) (ids t)) where
@@ -111,7 +114,7 @@ module _ {N T A : Type 0} where
           )
         where
           inside : (v : OpOf N T A) → Absent x (ids v) → Absent x (regions_ids (regions v))
-          inside v a = (absent_parts x ((head v).id ∷ []) (regions_ids (regions v)) (subst (Absent x) (own_ids v) a)).1
+          inside v a = (absent_parts x ((head v).id ∷ []) (regions_ids (regions v)) (subst (Absent x) (ids_head v) a)).1
 
       put_own : ids (put place o w.at) ≡ ids w.at
       put_own = put_outside place o x before w.at at_distinct x_regions
@@ -206,10 +209,10 @@ module _ {N T A : Type 0} where
     y_out = (absent_parts y.0 (widths ys) outer ((halves (ids o) (widths ys ++ outer) d_later).disjoint y.0 (subst (λ z. Present z (ids o)) (found_id y.0 w.at o o_at) (own_present o)))).0
       where
         own_present : (v : OpOf N T A) → Present (head v).id (ids v)
-        own_present v = subst (Present (head v).id) (sym (own_ids v)) (ap (λ b. b || list_any (λ z. eqb z (head v).id) (regions_ids (regions v))) (eq-eqb (head v).id (head v).id refl))
+        own_present v = subst (Present (head v).id) (sym (ids_head v)) (ap (λ b. b || list_any (λ z. eqb z (head v).id) (regions_ids (regions v))) (eq-eqb (head v).id (head v).id refl))
 
     apart_width : (z : ℕ) → Present z (widths ys) → Absent z (ids w.hold.0.0)
-    apart_width z p = elim (bool_cases (list_any (λ u. eqb u z) (ids o))) [
+    apart_width z p = elim (cases_Bool (list_any (λ u. eqb u z) (ids o))) [
       | inr k ↦ k
       | inl k ↦ absurd (true≢false (sym p ∙ (absent_parts z (widths ys) outer ((halves (ids o) (widths ys ++ outer) d_later).disjoint z k)).0))
     ]
@@ -228,13 +231,13 @@ module _ {N T A : Type 0} where
         )
       where
         own_present : (v : OpOf N T A) → Present (head v).id (ids v)
-        own_present v = subst (Present (head v).id) (sym (own_ids v)) (ap (λ b. b || list_any (λ z. eqb z (head v).id) (regions_ids (regions v))) (eq-eqb (head v).id (head v).id refl))
+        own_present v = subst (Present (head v).id) (sym (ids_head v)) (ap (λ b. b || list_any (λ z. eqb z (head v).id) (regions_ids (regions v))) (eq-eqb (head v).id (head v).id refl))
 
         present_left : (i : ℕ) (xs ys : List ℕ) → Present i xs → Present i (xs ++ ys)
-        present_left i xs ys p = elim (bool_cases (list_any (λ z. eqb z i) (xs ++ ys))) [ inl k ↦ k | inr k ↦ absurd (true≢false (sym p ∙ (absent_parts i xs ys k).0)) ]
+        present_left i xs ys p = elim (cases_Bool (list_any (λ z. eqb z i) (xs ++ ys))) [ inl k ↦ k | inr k ↦ absurd (true≢false (sym p ∙ (absent_parts i xs ys k).0)) ]
 
         present_right : (i : ℕ) (xs ys : List ℕ) → Present i ys → Present i (xs ++ ys)
-        present_right i xs ys p = elim (bool_cases (list_any (λ z. eqb z i) (xs ++ ys))) [ inl k ↦ k | inr k ↦ absurd (true≢false (sym p ∙ (absent_parts i xs ys k).1)) ]
+        present_right i xs ys p = elim (cases_Bool (list_any (λ z. eqb z i) (xs ++ ys))) [ inl k ↦ k | inr k ↦ absurd (true≢false (sym p ∙ (absent_parts i xs ys k).1)) ]
 
     pub near_left : Near x front back inner outer ys (without y.0 t)
     near_left = record {
@@ -257,7 +260,7 @@ module _ {N T A : Type 0} where
         later = (halves (ids o) ((widths ys ++ outer) ++ back) (halves (front ++ (x ∷ inner)) (ids o ++ ((widths ys ++ outer) ++ back)) two).right).disjoint z p
 
         before : Absent z (front ++ (x ∷ inner))
-        before = elim (bool_cases (list_any (λ u. eqb u z) (front ++ (x ∷ inner)))) [
+        before = elim (cases_Bool (list_any (λ u. eqb u z) (front ++ (x ∷ inner)))) [
           | inr k ↦ k
           | inl k ↦ absurd (true≢false (sym p ∙ (absent_parts z (ids o) ((widths ys ++ outer) ++ back) ((halves (front ++ (x ∷ inner)) (ids o ++ ((widths ys ++ outer) ++ back)) two).disjoint z k)).0))
         ]

@@ -2,9 +2,10 @@
 use Rattle.std.proofs.Common.{◌≡◌, refl, ap, sym, ◌∙◌, ℕ, true, false, eqb, eqb-true, List, [], ◌∷◌, ◌++◌, true≢false, inl, inr, ◌⊎◌}
 use Rattle.std.specs.List.{IsDistinct, list_any}
 use Rattle.std.proofs.lemmas.Map.Keys.{IsDistinct-tail}
-use Rattle.ir_tree.proofs.Returns.{absent_first, bool_cases}
+use Rattle.ir_tree.proofs.Returns.{absent_first}
 use Rattle.ir_tree_laws.specs.Reads.{comes_after}
 use Rattle.greedy.proofs.Listed.{Listed, listed_at, listed_more, listed_past, second_there, after_at, after_past}
+use Rattle.std.proofs.lemmas.Bool.{cases_Bool}
 
 -- a list with some of another, in its order
 abbrev pub Part : List ℕ → List ℕ → Type 0
@@ -36,7 +37,7 @@ part_joined zs (x ∷ xs) (y ∷ ys) (inr p) = inr (part_joined zs (x ∷ xs) ys
 pub part_listed : (a : ℕ) (xs ys : List ℕ) → Part xs ys → Listed a xs → Listed a ys
 part_listed a [] ys p h = absurd (true≢false (sym h))
 part_listed a (x ∷ xs) [] p h = absurd p
-part_listed a (x ∷ xs) (y ∷ ys) (inl p) h = elim (bool_cases (eqb x a)) [
+part_listed a (x ∷ xs) (y ∷ ys) (inl p) h = elim (cases_Bool (eqb x a)) [
   | inl e ↦ listed_at y a ys (ap (λ z. eqb z a) (sym p.0) ∙ e)
   | inr e ↦ listed_more y a ys (part_listed a xs ys p.1 (listed_past x a xs e h))
 ]
@@ -47,7 +48,7 @@ first_once : (x a : ℕ) (xs : List ℕ) → IsDistinct eqb (x ∷ xs) → eqb x
 first_once x a xs d e = ap (λ z. list_any (λ y. eqb y z) xs) (sym (eqb-true x a e)) ∙ absent_first x xs d
 
 not_listed : (a : ℕ) (xs ys : List ℕ) → Part xs ys → list_any (λ z. eqb z a) ys ≡ false → list_any (λ z. eqb z a) xs ≡ false
-not_listed a xs ys p n = elim (bool_cases (list_any (λ z. eqb z a) xs)) [ inr k ↦ k | inl k ↦ absurd (true≢false (sym (part_listed a xs ys p k) ∙ n)) ]
+not_listed a xs ys p n = elim (cases_Bool (list_any (λ z. eqb z a) xs)) [ inr k ↦ k | inl k ↦ absurd (true≢false (sym (part_listed a xs ys p k) ∙ n)) ]
 
 pub part_order : (a b : ℕ) (xs ys : List ℕ) → IsDistinct eqb ys → Part xs ys → Listed a xs → Listed b xs → comes_after a b xs ≡ comes_after a b ys
 part_order a b [] ys d p h k = absurd (true≢false (sym h))
@@ -55,8 +56,8 @@ part_order a b (x ∷ xs) [] d p h k = absurd p
 part_order a b (x ∷ xs) (y ∷ ys) d (inr p) h k = part_order a b (x ∷ xs) ys (IsDistinct-tail eqb y ys d) p h k ∙ sym (after_past a b y ys other)
   where
     other : eqb y a ≡ false
-    other = elim (bool_cases (eqb y a)) [ inr e ↦ e | inl e ↦ absurd (true≢false (sym (part_listed a (x ∷ xs) ys p h) ∙ first_once y a ys d e)) ]
-part_order a b (x ∷ xs) (y ∷ ys) d (inl p) h k = ap (λ z. comes_after a b (z ∷ xs)) p.0 ∙ elim (bool_cases (eqb y a)) [
+    other = elim (cases_Bool (eqb y a)) [ inr e ↦ e | inl e ↦ absurd (true≢false (sym (part_listed a (x ∷ xs) ys p h) ∙ first_once y a ys d e)) ]
+part_order a b (x ∷ xs) (y ∷ ys) d (inl p) h k = ap (λ z. comes_after a b (z ∷ xs)) p.0 ∙ elim (cases_Bool (eqb y a)) [
   | inl e ↦ after_at a b y xs e ∙ same e ∙ sym (after_at a b y ys e)
   | inr e ↦ after_past a b y xs e ∙ later e (λ l k. part_order a b xs ys (IsDistinct-tail eqb y ys d) p.1 l k) ∙ sym (after_past a b y ys e)
 ]
@@ -68,19 +69,19 @@ part_order a b (x ∷ xs) (y ∷ ys) d (inl p) h k = ap (λ z. comes_after a b (
     other = ap (λ z. list_any (λ u. eqb u b) (z ∷ xs)) (sym p.0) ∙ k
 
     same : eqb y a ≡ true → list_any (λ z. eqb z b) xs ≡ list_any (λ z. eqb z b) ys
-    same e = elim (bool_cases (list_any (λ z. eqb z b) ys)) [
+    same e = elim (cases_Bool (list_any (λ z. eqb z b) ys)) [
       | inr n ↦ not_listed b xs ys p.1 n ∙ sym n
-      | inl n ↦ elim (bool_cases (list_any (λ z. eqb z b) xs)) [
+      | inl n ↦ elim (cases_Bool (list_any (λ z. eqb z b) xs)) [
         | inl l ↦ l ∙ sym n
-        | inr l ↦ absurd (true≢false (sym (elim (bool_cases (eqb y b)) [ inl f ↦ absurd (true≢false (sym n ∙ first_once y b ys d f)) | inr f ↦ listed_past y b xs f other ]) ∙ l))
+        | inr l ↦ absurd (true≢false (sym (elim (cases_Bool (eqb y b)) [ inl f ↦ absurd (true≢false (sym n ∙ first_once y b ys d f)) | inr f ↦ listed_past y b xs f other ]) ∙ l))
       ]
     ]
 
     later : eqb y a ≡ false → (Listed a xs → Listed b xs → comes_after a b xs ≡ comes_after a b ys) → comes_after a b xs ≡ comes_after a b ys
-    later e f = elim (bool_cases (eqb y b)) [
+    later e f = elim (cases_Bool (eqb y b)) [
       | inr k ↦ f (listed_past y a xs e own) (listed_past y b xs k other)
       | inl k ↦ none xs (not_listed b xs ys p.1 (first_once y b ys d k)) ∙ sym (none ys (first_once y b ys d k))
     ]
       where
         none : (zs : List ℕ) → list_any (λ z. eqb z b) zs ≡ false → comes_after a b zs ≡ false
-        none zs n = elim (bool_cases (comes_after a b zs)) [ inr l ↦ l | inl l ↦ absurd (true≢false (sym (second_there a b zs l) ∙ n)) ]
+        none zs n = elim (cases_Bool (comes_after a b zs)) [ inr l ↦ l | inl l ↦ absurd (true≢false (sym (second_there a b zs l) ∙ n)) ]

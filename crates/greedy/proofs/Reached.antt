@@ -14,44 +14,31 @@ use Rattle.greedy.specs.Adding.{Adding, Adds, OneOf}
 use Rattle.greedy.specs.Parts.{IsAround, IsOrEnds, IsOrAtEnd, Gives}
 use Rattle.greedy.proofs.Adding.{adding_none, adding_more, adding_done}
 use Rattle.greedy.proofs.BlockEnds.{ending_place, ending_last, last_below}
-
-some_same : (a b : ℕ) → Some a ≡ Some b → a ≡ b
-some_same a b e = cc
-
-one_place : (a b : Place) → Some a ≡ Some b → a ≡ b
-one_place a b e = cc
-
-some_not : (place : Place) → None ≡ Some place → ⊥
-some_not place e = cc
+use Rattle.std.proofs.lemmas.Option.{same_Some, none-some, same_Some}
+use Rattle.effects.proofs.Reached.{counted}
 
 -- ---- what is around one that ends its block
 module _ (t : Op) (d : HasDistinctIds t) where
   pub around_none : (y : ℕ) → None ≡ place_of y t → (x : ℕ) → IsAround t y x → ⊥
-  around_none y e x k = let w = ending_place t d x y k in some_not (record { parent = x; region = w.0; before = None }) (e ∙ w.1)
+  around_none y e x k = let w = ending_place t d x y k in none-some (record { parent = x; region = w.0; before = None }) (e ∙ w.1)
 
   pub around_is : (y : ℕ) (place : Place) → Some place ≡ place_of y t → (x : ℕ) → IsAround t y x → (x ≡ place.parent) × (place.before ≡ None)
   around_is y place e x k =
       let w = ending_place t d x y k in
-      let same = one_place (record { parent = x; region = w.0; before = None }) place (sym (e ∙ w.1)) in
+      let same = same_Some (record { parent = x; region = w.0; before = None }) place (sym (e ∙ w.1)) in
       (ap (λ (p : Place). p.parent) same, ap (λ (p : Place). p.before) (sym same))
 
   pub around_not : (y : ℕ) (place : Place) (b : ℕ) → Some place ≡ place_of y t → place.before ≡ Some b → (x : ℕ) → IsAround t y x → ⊥
   around_not y place b e f x k = let no : Some b ≡ None = sym f ∙ (around_is y place e x k).1 in absurd cc
 
 -- ---- the last operations of blocks
-regions_shown : (o : Op) → length (node_of o).arguments ≡ region_count (regions o)
-regions_shown (op h rs) = go rs
-  where
-    go : (rs : RegionsOf ℕ ℕ ℕ) → length (regions_arguments rs) ≡ region_count rs
-    go no_regions = refl
-    go (region g rs) = omega (arith, go rs)
 
 -- x ends the block of one of the regions of operation p from one on, of so many
 abbrev pub IsLastAmong : ℕ → ℕ → ℕ → Op → ℕ → Type 0
 IsLastAmong p from count t x = (r : ℕ) × (from ≤ r) × (r < count) × (last_at p r t ≡ Some x)
 
 pub last_same : (p r y : ℕ) (t : Op) → Some y ≡ last_at p r t → (x : ℕ) → last_at p r t ≡ Some x → x ≡ y
-last_same p r y t e x k = some_same x y (sym (e ∙ k))
+last_same p r y t e x k = same_Some x y (sym (e ∙ k))
 
 pub last_none : (p r : ℕ) (t : Op) → None ≡ last_at p r t → (x : ℕ) → last_at p r t ≡ Some x → ⊥
 last_none p r t e x k = let no : None ≡ Some x = e ∙ k in absurd cc
@@ -70,7 +57,7 @@ module _ (t : Op) (d : HasDistinctIds t) where
       let o = last_below p w.0 x t w.1 in
       let some : Some n ≡ Some (node_of o.0) = e ∙ ap (option_map node_of) o.1 in
       let same : n ≡ node_of o.0 = cc in
-      let size : count ≡ region_count (regions o.0) = c ∙ ap (λ (m : Node). length m.arguments) same ∙ regions_shown o.0 in
+      let size : count ≡ region_count (regions o.0) = c ∙ ap (λ (m : Node). length m.arguments) same ∙ counted o.0 in
       let low = o.2 in
       (w.0, omega arith, omega (arith, size, low), w.1))
 
@@ -107,7 +94,7 @@ at_the_end place t x k = (both (is_end place) (eqb place.parent x || ends place.
 
 -- ---- what gives values
 pub gives_one : (x k y : ℕ) → Gives (Result x k) y → y ≡ x
-gives_one x k y e = some_same y x (sym e)
+gives_one x k y e = same_Some y x (sym e)
 
 pub gives_none : (x r k y : ℕ) → Gives (Arg x r k) y → ⊥
 gives_none x r k y e = absurd cc

@@ -25,6 +25,7 @@ use Rattle.listeners_surroundings.proofs.Near.{far_same}
 use Rattle.greedy.specs.Reached.{ends, ends_of, is_end, at_end, reaches, any_reaches}
 use Rattle.greedy.proofs.Ending.{last_ends, last_at_ends}
 use Rattle.listeners_surroundings.proofs.Locality.{taken_leaves, moved_leaves}
+use Rattle.ir_types.proofs.Truths.{unlike}
 
 -- a place that isn't the end of its block
 pub not_end : (place : Place) → is_end place ≡ false → place.before ≡ None → ⊥
@@ -40,9 +41,6 @@ end_of place n = go place.before n
     go : (b : Option ℕ) → b ≡ None → is_end (record { parent = place.parent; region = place.region; before = b }) ≡ true
     go None n = refl
     go (Some b) n = absurd cc
-
-pub unlike : (x y : ℕ) → eqb x y ≡ false → y ≡ x → ⊥
-unlike x y e i = true≢false (sym (eq-eqb x y (sym i)) ∙ e)
 
 module _ {N T A : Type 0} where
   -- what an end of a block asks

@@ -38,7 +38,7 @@ no_edits r m d = go (find (head m.tree).id m.tree) (ap (option_map (in_front (he
     go None e = refl
     go (Some o) e = ap (λ f. given f (λ front. when (is_clean m.tree (head o)) (rule r m.tree m.next front o))) e
 
-no_rules : (rs : List Rule) (m : Module) → HasDistinctIds m.tree → first_rule rs m (head m.tree).id ≡ none
+pub no_rules : (rs : List Rule) (m : Module) → HasDistinctIds m.tree → first_rule rs m (head m.tree).id ≡ none
 unfolding first_rule rewrite_of
 no_rules [] m d = refl
 no_rules (r ∷ rs) m d = ap (λ es. or_else (rewrite_by es m) (first_rule rs m (head m.tree).id)) (no_edits r m d) ∙ no_rules rs m d

@@ -12,6 +12,7 @@ use Rattle.listeners_surroundings.proofs.Operands.{same_map}
 use Rattle.greedy.specs.Reached.{any_reaches, ends, ends_of}
 use Rattle.greedy.specs.Sights.{giver, is_listed, operands_of, given_by, source_by, sight_by, sight, end_sight, ListsSeers, ListsAround}
 use Rattle.greedy.proofs.Reaching.{all_far}
+use Rattle.std.proofs.lemmas.Bool.{false_from_ne_true}
 
 module _ {N T A : Type 0} (look see : ℕ → Option (SurroundingsOf N T A)) where
   -- what gives a value is seen alike
@@ -42,10 +43,6 @@ module _ {N T A : Type 0} (look see : ℕ → Option (SurroundingsOf N T A)) whe
       let inner = same_map (source_by look) (source_by see) (operands_of (look x)) (λ v h. alike_source v (one v h) (two v h)) in
       λ i. (own i, (inner ∙ ap (λ s. map (source_by see) (operands_of s)) own) i)
 
-not_so : (b : Bool) → (b ≡ true → ⊥) → b ≡ false
-not_so true h = absurd (h refl)
-not_so false h = refl
-
 pub sees_the_same : (c : Things) (es : List Event) (m n : Module) (listed : List ℕ) → Steps c es m n → ListsSeers (λ y. any_reaches es y n.tree) listed n.tree → (x : ℕ) → is_listed x listed ≡ false → sight x n.tree ≡ sight x m.tree
 sees_the_same c es m n listed s l x h =
     alike_sight (λ y. surroundings y n.tree) (λ y. surroundings y m.tree) x
@@ -54,7 +51,7 @@ sees_the_same c es m n listed s l x h =
     (λ v i y g w j z k. far z (λ e. true≢false (sym (l.users_of_users z y x e (w, j, k) (v, i, g)) ∙ h)))
   where
     far : (y : ℕ) → (any_reaches es y n.tree ≡ true → ⊥) → surroundings y n.tree ≡ surroundings y m.tree
-    far y f = all_far c es m n s y (not_so (any_reaches es y n.tree) f)
+    far y f = all_far c es m n s y (false_from_ne_true (any_reaches es y n.tree) f)
 
 -- what ends a block of one that isn't listed ended a block of it before, and is seen as it was
 pub ends_as_before : (c : Things) (es : List Event) (m n : Module) (listed : List ℕ) → Steps c es m n → ListsAround (λ y. any_reaches es y n.tree) listed n.tree → (x : ℕ) → is_listed x listed ≡ false → (l : ℕ) → ends x l n.tree ≡ true
@@ -66,4 +63,4 @@ ends_as_before c es m n listed s a x h l e =
     (sym (ap (ends_of x) own) ∙ e, λ j. (own j, (inner ∙ ap (λ o. map (given_by (λ y. surroundings y m.tree)) (operands_of o)) own) j))
   where
     far : (y : ℕ) → (any_reaches es y n.tree ≡ true → ⊥) → surroundings y n.tree ≡ surroundings y m.tree
-    far y f = all_far c es m n s y (not_so (any_reaches es y n.tree) f)
+    far y f = all_far c es m n s y (false_from_ne_true (any_reaches es y n.tree) f)

@@ -9,8 +9,9 @@ use Rattle.ir_tree_laws.proofs.Members.{stand, joined_ops, ops_child, stand_foun
 use Rattle.ir_tree_laws.proofs.Put.{child}
 use Rattle.ir_tree_laws.proofs.Shift.{Inner, inner_of, own_distinct}
 use Rattle.ir_tree_laws.proofs.Stretches.{Parted, part, parted_ids}
-use Rattle.greedy.proofs.Cut.{own_ids}
 use Rattle.greedy.proofs.Nearby.{Wide, widths, Hold, Near}
+use Rattle.ir_tree_laws.proofs.Values.{joined_more}
+use Rattle.ir_tree.proofs.Facts.{ids_head}
 
 module _ {N T A : Type 0} where
   -- what comes before an operation and behind it
@@ -40,14 +41,14 @@ module _ {N T A : Type 0} where
 
       some : (l : List ℕ) → us ≡ l → 1 ≤ length us
       some [] k = absurd (
-          let whole : (head t).id ∷ regions_ids (regions t) ≡ (head o).id ∷ (regions_ids (regions o) ++ vs) = sym (own_ids t) ∙ cut ∙ ap (λ l. l ++ (ids o ++ vs)) k ∙ ap (λ l. l ++ vs) (own_ids o) in
+          let whole : (head t).id ∷ regions_ids (regions t) ≡ (head o).id ∷ (regions_ids (regions o) ++ vs) = sym (ids_head t) ∙ cut ∙ ap (λ l. l ++ (ids o ++ vs)) k ∙ ap (λ l. l ++ vs) (ids_head o) in
           let same : (head t).id ≡ (head o).id = cc in
           true≢false (sym (eq-eqb (head t).id x (same ∙ i.id)) ∙ root))
       some (y ∷ ys) k = let n = ap length k in omega (arith, n)
 
   -- alone
   pub start : (x : ℕ) (t o : OpOf N T A) → HasDistinctIds t → find x t ≡ Some o → (head o).id ≡ x → (b : Between x t o) → Near x b.front b.back [] (regions_ids (regions o)) [] t
-  start x t o d e id b = record { distinct = d; at = o; found = e; is = b.is; own = own_ids o ∙ ap (λ y. y ∷ regions_ids (regions o)) id; hold = tt; further = b.further }
+  start x t o d e id b = record { distinct = d; at = o; found = e; is = b.is; own = ids_head o ∙ ap (λ y. y ∷ regions_ids (regions o)) id; hold = tt; further = b.further }
 
   -- ---- the operations of a block but the last
   abbrev pub wide : OpOf N T A → OpsOf N T A → Wide
@@ -73,10 +74,6 @@ module _ {N T A : Type 0} where
   around_region (suc r) g (region h rs) e =
       let w = around_region r g rs e in
       (region_ids h ++ w.0, w.1, ap (λ l. region_ids h ++ l) w.2 ∙ sym (append_assoc (region_ids h) w.0 (region_ids g ++ w.1)))
-
-  joined_more : (fs : List (OpOf N T A)) (o : OpOf N T A) (os : OpsOf N T A) → joined_ops (fs ++ o ∷ []) os ≡ joined_ops fs (next o os)
-  joined_more [] o os = refl
-  joined_more (f ∷ fs) o os = ap (next f) (joined_more fs o os)
 
   module _ (p : OpOf N T A) (d : HasDistinctIds p) (r : ℕ) (args : List T) where
     holds : (fs : List (OpOf N T A)) (o : OpOf N T A) (os : OpsOf N T A) → region_at r (regions p) ≡ Some (block args (joined_ops fs (next o os))) → Hold p (wide o os)
@@ -114,4 +111,4 @@ module _ {N T A : Type 0} where
       w = around_region r (block args (next o os)) (regions p) g
 
       mine : ids p ≡ x ∷ (w.0 ++ (widths (wide o os) ++ (ids (final o os) ++ w.1)))
-      mine = own_ids p ∙ (λ i. id i ∷ w.2 i) ∙ ap (λ l. x ∷ (w.0 ++ l)) (ap (λ l. l ++ w.1) (list_ids o os) ∙ append_assoc (widths (wide o os)) (ids (final o os)) w.1)
+      mine = ids_head p ∙ (λ i. id i ∷ w.2 i) ∙ ap (λ l. x ∷ (w.0 ++ l)) (ap (λ l. l ++ w.1) (list_ids o os) ∙ append_assoc (widths (wide o os)) (ids (final o os)) w.1)

@@ -32,6 +32,7 @@ use Rattle.greedy.specs.Near.{subject, outer_ids, Unclimbed}
 use Rattle.greedy.proofs.Feeling.{climbed_from}
 use Rattle.greedy.proofs.Still.{goes_out, goes_in, goes_on, all_edited}
 use Rattle.greedy.proofs.Tracking.{Kept, kept_by, kept_like, climbs_on, climbs_past, climbs_round, feels_up, same_effects}
+use Rattle.ir_tree.proofs.Facts.{part_id, part_operands}
 
 -- heads of the two kinds of edits keep id and name
 pub operand_id : {N T A : Type 0} (x k : ℕ) (v : Value) (h : HeadOf N T A) → (at x (put_operand k v) h).id ≡ h.id
@@ -40,24 +41,10 @@ operand_id x k v h = elim (eqb h.id x) as (λ b. (cond b (put_operand k v h) h).
 pub operand_name : {N T A : Type 0} (x k : ℕ) (v : Value) (h : HeadOf N T A) → (at x (put_operand k v) h).name ≡ h.name
 operand_name x k v h = elim (eqb h.id x) as (λ b. (cond b (put_operand k v h) h).name ≡ h.name) [ true ↦ refl | false ↦ refl ]
 
-pub part_id : {N T A : Type 0} (x : ℕ) (part : Part) (f : List (N × A) → List (N × A)) (h : HeadOf N T A) → (at x (change_part part f) h).id ≡ h.id
-part_id x part f h = elim (eqb h.id x) as (λ b. (cond b (change_part part f h) h).id ≡ h.id) [ true ↦ by part | false ↦ refl ]
-  where
-    by : (part : Part) → (change_part part f h).id ≡ h.id
-    by Props = refl
-    by Attrs = refl
-
 pub part_name : {N T A : Type 0} (x : ℕ) (part : Part) (f : List (N × A) → List (N × A)) (h : HeadOf N T A) → (at x (change_part part f) h).name ≡ h.name
 part_name x part f h = elim (eqb h.id x) as (λ b. (cond b (change_part part f h) h).name ≡ h.name) [ true ↦ by part | false ↦ refl ]
   where
     by : (part : Part) → (change_part part f h).name ≡ h.name
-    by Props = refl
-    by Attrs = refl
-
-pub part_operands : {N T A : Type 0} (x : ℕ) (part : Part) (f : List (N × A) → List (N × A)) (h : HeadOf N T A) → (at x (change_part part f) h).operands ≡ h.operands
-part_operands x part f h = elim (eqb h.id x) as (λ b. (cond b (change_part part f h) h).operands ≡ h.operands) [ true ↦ by part | false ↦ refl ]
-  where
-    by : (part : Part) → (change_part part f h).operands ≡ h.operands
     by Props = refl
     by Attrs = refl
 

@@ -19,9 +19,7 @@ use Rattle.effects.specs.Effects.{is_recursive, effects}
 use Rattle.greedy.specs.Climbs.{recursive_at, Climbs, feels}
 use Rattle.greedy.proofs.Feeling.{climbed_from}
 use Rattle.greedy.proofs.Still.{around_id, Like, Goes}
-
-some_is : (a b : ℕ) → Some a ≡ Some b → a ≡ b
-some_is a b e = cc
+use Rattle.std.proofs.lemmas.Option.{same_Some}
 
 module _ {N T A : Type 0} (own : N → Own) where
   -- ---- names and what is around, by the lists of stands
@@ -36,7 +34,7 @@ module _ {N T A : Type 0} (own : N → Own) where
     pub recursive : recursive_at own x t ≡ true → recursive_at own x u ≡ true
     pub parent : (p : ℕ) → parent_of x t ≡ Some p → parent_of x u ≡ Some p
 
-  recursive_found : (t o : OpOf N T A) (x : ℕ) → find x t ≡ Some o → recursive_at own x t ≡ is_recursive (own (head o).name)
+  pub recursive_found : (t o : OpOf N T A) (x : ℕ) → find x t ≡ Some o → recursive_at own x t ≡ is_recursive (own (head o).name)
   recursive_found t o x e = ap (λ z. elim z as (λ _. Bool) [ None ↦ false | Some o ↦ is_recursive (own (head o).name) ]) e
 
   parent_placed : (t : OpOf N T A) (x : ℕ) (place : Place) → place_of x t ≡ Some place → parent_of x t ≡ Some place.parent
@@ -113,7 +111,7 @@ module _ {N T A : Type 0} (own : N → Own) where
         | inr v ↦ inr v
         | inl v ↦ elim (bool_cases (eqb c x)) [
           | inl e ↦
-              let same : p ≡ w = some_is p w (sym h.1.1 ∙ ap (λ z. parent_of z t) (eqb-true c x e) ∙ at) in
+              let same : p ≡ w = same_Some p w (sym h.1.1 ∙ ap (λ z. parent_of z t) (eqb-true c x e) ∙ at) in
               inr (v.0, subst (λ z. Climbs own v.0 y z u) same v.1)
           | inr e ↦
               let other : c ≡ x → ⊥ = λ i. true≢false (sym (eq-eqb c x i) ∙ e) in
@@ -131,7 +129,7 @@ module _ {N T A : Type 0} (own : N → Own) where
     | inr e ↦ e
     | inl e ↦
         let c = climbed_from own x t d (stand_id s) s.here s.path h refl (λ r k. within s.here s.path r k [] t h) e in
-        let same : c.0 ≡ w = some_is c.0 w (sym c.1 ∙ at) in
+        let same : c.0 ≡ w = same_Some c.0 w (sym c.1 ∙ at) in
         absurd (away c.2.0 (subst (λ z. Climbs own c.2.0 (stand_id s) z t) same c.2.1))
   ]
 

@@ -24,15 +24,12 @@ use Rattle.greedy.specs.Sights.{Uses, giver, operands_of}
 use Rattle.greedy.specs.Adding.{Adding, Adds}
 use Rattle.greedy.specs.Parts.{IsIn, IsUser}
 use Rattle.greedy.proofs.Adding.{adding_none, adding_more, adding_done}
-
-same_self : (v : Value) → same_value v v ≡ true
-same_self (Result x k) = both_hold (eqb x x) (eqb k k) (eq-eqb x x refl) (eq-eqb k k refl)
-same_self (Arg x r k) = both_hold (eqb x x) (eqb r r && eqb k k) (eq-eqb x x refl) (both_hold (eqb r r) (eqb k k) (eq-eqb r r refl) (eq-eqb k k refl))
+use Rattle.ir_tree.proofs.Replaced.{same_value_refl}
 
 -- a use is listed where its operand is
 listed_use : (v : Value) (x k : ℕ) (vs : List Value) → In v vs → (j : ℕ) × In (x, j) (operand_uses v x k vs)
 listed_use v x k [] h = absurd h
-listed_use v x k (w ∷ ws) (inl e) = (k, subst (λ b. In (x, k) (cond b ((x, k) ∷ operand_uses v x (k + 1) ws) (operand_uses v x (k + 1) ws))) (sym (ap (λ z. same_value v z) (sym e) ∙ same_self v)) (inl refl))
+listed_use v x k (w ∷ ws) (inl e) = (k, subst (λ b. In (x, k) (cond b ((x, k) ∷ operand_uses v x (k + 1) ws) (operand_uses v x (k + 1) ws))) (sym (ap (λ z. same_value v z) (sym e) ∙ same_value_refl v)) (inl refl))
 listed_use v x k (w ∷ ws) (inr h) =
     let r = listed_use v x (k + 1) ws h in
     (r.0, elim (same_value v w) as (λ b. In (x, r.0) (cond b ((x, k) ∷ operand_uses v x (k + 1) ws) (operand_uses v x (k + 1) ws))) [ true ↦ inr r.1 | false ↦ r.1 ])

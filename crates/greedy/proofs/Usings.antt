@@ -16,7 +16,7 @@ use Rattle.ir_store.specs.Nodes.{node_of}
 use Rattle.ir_tree_laws.specs.Changes.{operand_at}
 use Rattle.ir_tree_laws.specs.Stands.{StandOf, stand_id, stands, edit_stand}
 use Rattle.ir_tree_laws.specs.Members.{In}
-use Rattle.ir_tree_laws.proofs.Listed.{bool_cases}
+use Rattle.ir_tree_laws.proofs.Listed.{bool_cases, each_all, all_each}
 use Rattle.ir_tree_laws.proofs.Readings.{stands_every}
 use Rattle.ir_tree_laws.proofs.Members.{stand_found, found_stands}
 use Rattle.ir_event.specs.declared.event.Event.{Event}
@@ -28,34 +28,16 @@ use Rattle.effects.specs.Dead.{is_result_of, is_unused}
 use Rattle.greedy.specs.Sights.{giver}
 use Rattle.greedy.specs.Near.{moved_values, Leads, IsShown, Ungiven}
 use Rattle.greedy.proofs.Still.{Like, Goes, goes_out, goes_in, goes_on, goes_edited, edited_there, edit_id}
-use Rattle.greedy.proofs.Tracked.{operand_id, operand_name, part_id, part_name, part_operands, gone_found}
+use Rattle.greedy.proofs.Tracked.{operand_id, operand_name, part_name, gone_found}
+use Rattle.ir_event.proofs.Facts.{found_id}
+use Rattle.ir_tree.proofs.Facts.{part_id, part_operands}
+use Rattle.ir_types.proofs.Truths.{same_bool}
 
 -- ---- tests of all operations
-all_true : {X : Type 0} (f : X → Bool) (xs : List X) → ((x : X) → In x xs → f x ≡ true) → list_all f xs ≡ true
-all_true f [] h = refl
-all_true f (x ∷ xs) h = ap (λ b. b && list_all f xs) (h x (inl refl)) ∙ all_true f xs (λ y k. h y (inr k))
-
-each_true : {X : Type 0} (f : X → Bool) (xs : List X) → list_all f xs ≡ true → (x : X) → In x xs → f x ≡ true
-each_true f [] e x h = absurd h
-each_true f (y ∷ ys) e x (inl i) = ap f i ∙ (parts (f y) (list_all f ys) e).0
-  where
-    parts : (a b : Bool) → (a && b) ≡ true → (a ≡ true) × (b ≡ true)
-    parts true b e = (refl, e)
-    parts false b e = absurd (true≢false (sym e))
-each_true f (y ∷ ys) e x (inr k) = each_true f ys (parts (f y) (list_all f ys) e).1 x k
-  where
-    parts : (a b : Bool) → (a && b) ≡ true → (a ≡ true) × (b ≡ true)
-    parts true b e = (refl, e)
-    parts false b e = absurd (true≢false (sym e))
-
-same_bool : (a b : Bool) → (a ≡ true → b ≡ true) → (b ≡ true → a ≡ true) → a ≡ b
-same_bool true b f g = sym (f refl)
-same_bool false true f g = absurd (true≢false (sym (g refl)))
-same_bool false false f g = refl
 
 -- an operation of no values that x gives
 freed : (x : ℕ) (vs : List Value) → ((v : Value) → In v vs → giver v ≡ Some x → ⊥) → list_all (λ v. not (is_result_of x v)) vs ≡ true
-freed x vs f = all_true (λ v. not (is_result_of x v)) vs (λ v h. none v (f v h))
+freed x vs f = each_all (λ v. not (is_result_of x v)) vs (λ v h. none v (f v h))
   where
     none : (v : Value) → (giver v ≡ Some x → ⊥) → not (is_result_of x v) ≡ true
     none (Arg y r k) n = refl
@@ -83,9 +65,9 @@ module _ {N T A : Type 0} where
   implied : (x : ℕ) (t u : OpOf N T A) → ((s : StandOf N T A) → In s (stands [] t) → (free_of x s.here ≡ true) ⊎ ((r : StandOf N T A) × In r (stands [] u) × (free_of x r.here ≡ free_of x s.here))) → is_unused x u ≡ true → is_unused x t ≡ true
   implied x t u f e =
       sym (stands_every (free_of x) [] t)
-      ∙ all_true (λ (s : StandOf N T A). free_of x s.here) (stands [] t) (λ s h. elim (f s h) [
+      ∙ each_all (λ (s : StandOf N T A). free_of x s.here) (stands [] t) (λ s h. elim (f s h) [
         | inl k ↦ k
-        | inr r ↦ sym r.2 ∙ each_true (λ (z : StandOf N T A). free_of x z.here) (stands [] u) (stands_every (free_of x) [] u ∙ e) r.0 r.1
+        | inr r ↦ sym r.2 ∙ all_each (λ (z : StandOf N T A). free_of x z.here) (stands [] u) (stands_every (free_of x) [] u ∙ e) r.0 r.1
       ])
 
   shown_operands : (o : OpOf N T A) → (node_of o).head.operands ≡ (head o).operands
@@ -210,9 +192,6 @@ edited_found z g ids names m p dp is x o f =
     let r = found_stands x m.tree o f in
     let there = edited_there own_of z g ids names m.tree p.tree is r.0 r.1 in
     ap (λ j. find j p.tree) (sym (edit_id own_of z g ids names r.0.here ∙ r.2)) ∙ stand_found p.tree dp (edit_stand (at z g) r.0) there ∙ ap (λ q. Some (each_head (at z g) q)) r.3
-
-found_id : (x : ℕ) (t o : Operation) → find x t ≡ Some o → (head o).id ≡ x
-found_id x t o f = let r = found_stands x t o f in ap (λ (q : Operation). (head q).id) (sym r.3) ∙ r.2
 
 step_said : (shown : ℕ → List Value) (c : Things) (e : Event) (es : List Event) (m p : Module) → Step c e m p → IsShown shown e m → (x : ℕ) (o : Operation) → find x m.tree ≡ Some o → (v : Value) → In v (head o).operands → After shown e es p x v → Said shown (e ∷ es) x v
 step_said shown c (Put z place fresh) es m p s k x o f v h more =

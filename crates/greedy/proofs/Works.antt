@@ -2,7 +2,7 @@
 use Rattle.std.proofs.Common.{◌≡◌, refl, ap, sym, ◌∙◌, subst, ℕ, zero, suc, ◌+◌, ◌-◌, ◌<◌, inl, inr, ◌⊎◌, Bool, true, false, cond, ◌||◌, eqb, eqb-true, eq-eqb, List, [], ◌∷◌, ◌++◌, true≢false, arith, length, Some, None, filter, not, take, drop, slice_index_or}
 use Rattle.std.specs.List.{AllWithin}
 use Rattle.std.specs.List.Sorted.{IsPartitionPoint, IsPartitionedBy}
-use Rattle.std.proofs.lemmas.Bool.{cases_order}
+use Rattle.std.proofs.lemmas.Bool.{cases_order, or_cases, false_from_ne_true, or_left, or_right}
 use Rattle.ir_tree.specs.Ids.{ids, has_id, HasDistinctIds}
 use Rattle.ir_tree.specs.Meaning.{Operation}
 use Rattle.ir_tree_laws.specs.Reads.{precedes}
@@ -14,24 +14,8 @@ use Rattle.greedy.specs.Sights.{is_listed}
 use Rattle.greedy.proofs.Listed.{listed_past, listed_at, listed_more, first_there, second_there}
 use Rattle.greedy.proofs.Order.{rank, same_rank, rises, after_from_rank, next_there, next_rank, next_none, counted}
 
--- one of two
-pub either : (a b : Bool) → (a || b) ≡ true → (a ≡ true) ⊎ (b ≡ true)
-either true b h = inl refl
-either false b h = inr h
-
-pub or_left : (a b : Bool) → a ≡ true → (a || b) ≡ true
-or_left a b h = ap (λ c. c || b) h
-
-pub or_right : (a b : Bool) → b ≡ true → (a || b) ≡ true
-or_right true b h = refl
-or_right false b h = h
-
-pub not_true : (a : Bool) → (a ≡ true → ⊥) → a ≡ false
-not_true true h = absurd (h refl)
-not_true false h = refl
-
 pub listed_end : (z : ℕ) (ys : List ℕ) (x : ℕ) → is_listed z (ys ++ x ∷ []) ≡ true → (is_listed z ys ≡ true) ⊎ (z ≡ x)
-listed_end z [] x h = elim (either (eqb x z) false h) [ inl e ↦ inr (sym (eqb-true x z e)) | inr e ↦ absurd (true≢false (sym e)) ]
+listed_end z [] x h = elim (or_cases (eqb x z) false h) [ inl e ↦ inr (sym (eqb-true x z e)) | inr e ↦ absurd (true≢false (sym e)) ]
 listed_end z (y ∷ ys) x h = elim (bool_cases (eqb y z)) [
   | inl e ↦ inl (listed_at y z ys e)
   | inr e ↦ elim (listed_end z ys x (listed_past y z (ys ++ x ∷ []) e h)) [ inl k ↦ inl (listed_more y z ys k) | inr k ↦ inr k ]
@@ -100,14 +84,14 @@ module _ (t : Operation) (d : HasDistinctIds t) where
     pub taken_again : Taken x passed (ys ++ x ∷ []) passed ys t
     taken_again = record {
       there = w.inside x (listed_last ys x);
-      first = λ z h. not_true (waits passed (ys ++ x ∷ []) t z) (λ v. elim (either (precedes passed z t) (is_listed z (ys ++ x ∷ [])) v) [
+      first = λ z h. false_from_ne_true (waits passed (ys ++ x ∷ []) t z) (λ v. elim (or_cases (precedes passed z t) (is_listed z (ys ++ x ∷ [])) v) [
         | inl e ↦ true≢false (sym (through passed z x e h) ∙ x_behind)
         | inr e ↦ elim (listed_end z ys x e) [
           | inl k ↦ not_both z x h ((falls_front ys x w.falls).1 z k)
           | inr k ↦ not_itself x (subst (λ v. precedes v x t ≡ true) k h)
         ]
       ]);
-      others = λ z i v. elim (either (precedes passed z t) (is_listed z (ys ++ x ∷ [])) v) [
+      others = λ z i v. elim (or_cases (precedes passed z t) (is_listed z (ys ++ x ∷ [])) v) [
         | inl e ↦ inr (or_left (precedes passed z t) (is_listed z ys) e)
         | inr e ↦ elim (listed_end z ys x e) [
           | inl k ↦ inr (or_right (precedes passed z t) (is_listed z ys) k)
@@ -133,11 +117,11 @@ module _ (t : Operation) (d : HasDistinctIds t) where
       let n = next_rank passed y (ids t) d e in
       let i = next_there passed y (ids t) e in record {
         there = i;
-        first = λ z g. not_true (waits passed [] t z) (λ v. elim (either (precedes passed z t) false v) [
+        first = λ z g. false_from_ne_true (waits passed [] t z) (λ v. elim (or_cases (precedes passed z t) false v) [
           | inl k ↦ omega (arith, n, up passed z k, up z y g)
           | inr k ↦ true≢false (sym k)
         ]);
-        others = λ z k v. elim (either (precedes passed z t) false v) [
+        others = λ z k v. elim (or_cases (precedes passed z t) false v) [
           | inl p ↦ after z k (up passed z p)
           | inr p ↦ absurd (true≢false (sym p))
         ];
@@ -300,7 +284,7 @@ module _ (m n : Module) (x before passed : ℕ) (again : List ℕ) (r : Rewritte
   }
 
   pub waits_on : has_id passed n.tree ≡ true → StillWaits passed again m.tree passed (filter (there_in n.tree) again) n.tree
-  waits_on h z i j v = elim (either (precedes passed z m.tree) (is_listed z again) v) [
+  waits_on h z i j v = elim (or_cases (precedes passed z m.tree) (is_listed z again) v) [
     | inl e ↦ or_left (precedes passed z n.tree) (is_listed z (filter (there_in n.tree) again)) (r.orderly.order passed z w.there i h j ∙ e)
     | inr e ↦ or_right (precedes passed z n.tree) (is_listed z (filter (there_in n.tree) again)) (listed_kept (there_in n.tree) z again e j)
   ]
@@ -335,7 +319,7 @@ module _ (m n : Module) (x before passed : ℕ) (again : List ℕ) (r : Rewritte
       x_was = second_there before x (ids m.tree) r.nearby
 
       not_before : precedes passed x m.tree ≡ false
-      not_before = not_true (precedes passed x m.tree) (λ e. true≢false (sym (r.orderly.stays passed e) ∙ g))
+      not_before = false_from_ne_true (precedes passed x m.tree) (λ e. true≢false (sym (r.orderly.stays passed e) ∙ g))
 
       earlier : precedes before passed m.tree ≡ true
       earlier = elim (else_after m.tree r.distinct passed x w.there x_was not_before) [
@@ -344,7 +328,7 @@ module _ (m n : Module) (x before passed : ℕ) (again : List ℕ) (r : Rewritte
       ]
 
   pub waits_back : has_id passed n.tree ≡ false → StillWaits passed again m.tree before (filter (λ z. not (precedes before z n.tree)) (filter (there_in n.tree) again)) n.tree
-  waits_back g z i j v = elim (either (precedes passed z m.tree) (is_listed z again) v) [
+  waits_back g z i j v = elim (or_cases (precedes passed z m.tree) (is_listed z again) v) [
     | inl e ↦ or_left (precedes before z n.tree) _ (r.orderly.order before z before_was i before_is j ∙ was_behind g z e)
     | inr e ↦ elim (bool_cases (precedes before z n.tree)) [
       | inl k ↦ or_left (precedes before z n.tree) _ k

@@ -1,11 +1,13 @@
--- Canonicalization as a transformation of the machine.
-use Rattle.std.specs.Prelude.{ℕ, true, None, Result, Ok, Err}
+-- Canonicalization, and rewriting by a list of rules, as transformations of the machine.
+use Rattle.std.specs.Prelude.{ℕ, List, true, None, Result, Ok, Err}
 use Rattle.ir_types.specs.declared.refusal.Refusal.{Refusal}
 use Rattle.ir_event.specs.Modules.{Module}
 use Rattle.rewriter_machine.specs.Machine.{Fault, Outcome, Reply, Refused, DoneWith, Transformation}
 use Rattle.rewriter_machine.specs.Machine as machine
 use Rattle.patterns_base.specs.Canonicalization.{End, converged, limited, Canonical, stopped, ended}
 use Rattle.patterns_base.specs.Canonicalization.{canonicalization_of}
+use Rattle.patterns_base.specs.declared.rule.Rule.{Rule}
+use Rattle.greedy.specs.Rewriting.{rewriting_of}
 use Rattle.greedy.specs.declared.outcome.Outcome.{Outcome as Ended}
 use Rattle.greedy.specs.declared.outcome.Outcome.TheVariants.{Converged, Limit}
 
@@ -22,6 +24,10 @@ made_of (stopped e) = Err (record { refusal = e; op = None })
 -- the transformation of at most so many rewrites, which makes names, types and attributes
 abbrev pub canonicalizing : ℕ → Transformation
 canonicalizing limit = record { transformed = λ m. made_of (canonicalization_of limit m); interns = true }
+
+-- and that of at most so many rewrites by a list of rules
+abbrev pub rewriting : List Rule → ℕ → Transformation
+rewriting rs limit = record { transformed = λ m. made_of (rewriting_of rs limit m); interns = true }
 
 -- how the machine has what came of a run
 abbrev pub outcome_meaning : Ended → Outcome

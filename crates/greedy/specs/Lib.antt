@@ -14,3 +14,5 @@ pub mod Changes
 pub mod Lawful
 pub mod Following
 pub mod Orders
+pub mod Rewriting
+pub mod Ruled

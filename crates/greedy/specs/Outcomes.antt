@@ -1,11 +1,13 @@
--- What runs of greedy canonicalization come to.
-use Rattle.std.specs.Prelude.{◌≡◌, ◌≢◌, ◌⊎◌, ◌↔◌, ℕ, Bool, true, false, ◌&&◌, nat_le}
+-- What runs of the driver come to.
+use Rattle.std.specs.Prelude.{◌≡◌, ◌≢◌, ◌⊎◌, ◌↔◌, ℕ, List, Bool, true, false, ◌&&◌, nat_le}
 use Rattle.ir_types.specs.declared.refusal.Refusal.{Refusal}
 use Rattle.ir_types.specs.declared.refusal.Refusal.TheVariants.{Memory, BadLimit, Full}
 use Rattle.ir_event.specs.Modules.{Module}
 use Rattle.patterns_base.specs.Rewrites.{Rewrite, none, refused, becomes}
-use Rattle.patterns_base.specs.Canonicalization.{End, converged, limited, stopped, ended, canonical_from}
+use Rattle.patterns_base.specs.Canonicalization.{Canonical, End, converged, limited, stopped, ended}
 use Rattle.patterns_base.specs.Canonicalization.{canonicalization_of, most_rewrites}
+use Rattle.patterns_base.specs.declared.rule.Rule.{Rule}
+use Rattle.greedy.specs.Rewriting.{rewritten_from, rewriting_of}
 use Rattle.greedy.specs.declared.outcome.Outcome.{Outcome}
 use Rattle.greedy.specs.declared.outcome.Outcome.TheVariants.{Converged, Limit}
 
@@ -33,13 +35,17 @@ abbrev pub ending_of : Outcome → End
 ending_of (Converged k) = converged
 ending_of (Limit k) = limited
 
--- at most so many rewrites of module m come to an outcome and to module n
-abbrev pub ComeTo : ℕ → Module → Outcome → Module → Type 0
-ComeTo limit m o n = canonical_from limit 0 m ≡ ended n (count_of o) (ending_of o)
+-- at most so many rewrites of module m by some rules come to an outcome and to module n
+abbrev pub ComeTo : List Rule → ℕ → Module → Outcome → Module → Type 0
+ComeTo rs limit m o n = rewritten_from rs limit 0 m ≡ ended n (count_of o) (ending_of o)
 
 -- or to a refusal, for want of memory, by the definition, or because no more can be numbered
-abbrev pub Stop : ℕ → Module → Type 0 → Refusal → Type 0
-Stop limit m is_full e = (e ≡ Memory) ⊎ ((canonical_from limit 0 m ≡ stopped e) ⊎ ((e ≡ Full) × is_full))
+abbrev pub Stop : List Rule → ℕ → Module → Type 0 → Refusal → Type 0
+Stop rs limit m is_full e = (e ≡ Memory) ⊎ ((rewritten_from rs limit 0 m ≡ stopped e) ⊎ ((e ≡ Full) × is_full))
+
+-- the rewriting of module m by some rules comes to an outcome and to module n
+abbrev pub IsRewriting : List Rule → ℕ → Module → Outcome → Module → Type 0
+IsRewriting rs limit m o n = rewriting_of rs limit m ≡ ended n (count_of o) (ending_of o)
 
 -- the canonicalization of module m comes to an outcome and to module n
 abbrev pub IsCanonical : ℕ → Module → Outcome → Module → Type 0
@@ -49,9 +55,16 @@ IsCanonical limit m o n = canonicalization_of limit m ≡ ended n (count_of o) (
 abbrev pub is_limit : ℕ → Bool
 is_limit limit = nat_le 1 limit && nat_le limit most_rewrites
 
--- why the canonicalization of module m is refused: exactly for its limit, where that may not be asked for; else for
--- want of memory, by the definition, or because no more can be numbered
-pub record IsReason (limit : ℕ) (m : Module) (is_full : Type 0) (e : Refusal) : Type 0 where
+-- why a run is refused of which a definition says what is due: exactly for its limit, where that may not be asked for;
+-- else for want of memory, by the definition, or because no more can be numbered
+pub record IsReasonFor (due : Canonical) (limit : ℕ) (is_full : Type 0) (e : Refusal) : Type 0 where
   pub limited : (e ≡ BadLimit) ↔ (is_limit limit ≡ false)
-  pub others : is_limit limit ≡ true
-      → (e ≡ Memory) ⊎ ((canonicalization_of limit m ≡ stopped e) ⊎ ((e ≡ Full) × is_full))
+  pub others : is_limit limit ≡ true → (e ≡ Memory) ⊎ ((due ≡ stopped e) ⊎ ((e ≡ Full) × is_full))
+
+-- why the canonicalization of module m is refused
+abbrev pub IsReason : ℕ → Module → Type 0 → Refusal → Type 0
+IsReason limit m is_full e = IsReasonFor (canonicalization_of limit m) limit is_full e
+
+-- and why its rewriting by some rules is
+abbrev pub IsReasonBy : List Rule → ℕ → Module → Type 0 → Refusal → Type 0
+IsReasonBy rs limit m is_full e = IsReasonFor (rewriting_of rs limit m) limit is_full e

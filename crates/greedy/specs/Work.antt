@@ -5,7 +5,8 @@ use Rattle.ir_tree.specs.Meaning.{Operation}
 use Rattle.ir_tree_laws.specs.Reads.{precedes}
 use Rattle.ir_event.specs.Modules.{Module}
 use Rattle.patterns_base.specs.Rewrites.{none}
-use Rattle.patterns_base.specs.Canonicalization.{lowest}
+use Rattle.patterns_base.specs.Canonicalization.{first_rule}
+use Rattle.patterns_base.specs.declared.rule.Rule.{Rule}
 use Rattle.greedy.specs.Orders.{Orderly}
 use Rattle.greedy.specs.Sights.{is_listed}
 
@@ -28,14 +29,15 @@ pub record IsWork (passed : ℕ) (again : List ℕ) (t : Operation) : Type 0 whe
   pub behind : (y : ℕ) → is_listed y again ≡ true → precedes passed y t ≡ false
   pub falls : Falls t again
 
--- no rule applies at an operation that doesn't wait
-abbrev pub Covers : ℕ → List ℕ → Module → Type 0
-Covers passed again m = (x : ℕ) → has_id x m.tree ≡ true → waits passed again m.tree x ≡ false → lowest m x ≡ none
+-- none of some rules applies at an operation that doesn't wait
+abbrev pub Covers : List Rule → ℕ → List ℕ → Module → Type 0
+Covers rs passed again m =
+    (x : ℕ) → has_id x m.tree ≡ true → waits passed again m.tree x ≡ false → first_rule rs m x ≡ none
 
--- a worklist of a module
-pub record Right (passed : ℕ) (again : List ℕ) (m : Module) : Type 0 where
+-- a worklist of a module, where these rules are tried
+pub record Right (rs : List Rule) (passed : ℕ) (again : List ℕ) (m : Module) : Type 0 where
   pub work : IsWork passed again m.tree
-  pub covers : Covers passed again m
+  pub covers : Covers rs passed again m
 
 -- how many stand behind the first a in a list, and how many wait at most
 abbrev pub count_after : ℕ → List ℕ → ℕ
@@ -69,10 +71,10 @@ pub record Parted (x : ℕ) (t : Operation) (front back : List ℕ) : Type 0 whe
   pub later : (z : ℕ) → is_listed z front ≡ true → precedes x z t ≡ true
   pub others : (z : ℕ) → is_listed z back ≡ true → precedes x z t ≡ false
 
--- no rule applies at an operation that doesn't wait, but perhaps at operation x
-abbrev pub CoversBut : ℕ → ℕ → List ℕ → Module → Type 0
-CoversBut x passed again m = (z : ℕ) → has_id z m.tree ≡ true → waits passed again m.tree z ≡ false
-    → (z ≡ x) ⊎ (lowest m z ≡ none)
+-- none of some rules applies at an operation that doesn't wait, but perhaps at operation x
+abbrev pub CoversBut : List Rule → ℕ → ℕ → List ℕ → Module → Type 0
+CoversBut rs x passed again m = (z : ℕ) → has_id z m.tree ≡ true → waits passed again m.tree z ≡ false
+    → (z ≡ x) ⊎ (first_rule rs m z ≡ none)
 
 -- a worklist from which operation x was taken, at which a rule was applied, which led from m to n
 pub record Rewritten (x before : ℕ) (m n : Module) : Type 0 where

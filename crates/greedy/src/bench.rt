@@ -1,28 +1,61 @@
 //! Benches with the rules of canonicalization.
-ghost use Rattle.std.specs.Prelude.{◌≡◌, [], IfErr, MatchResult};
+ghost use Rattle.std.specs.Prelude.{◌≡◌, [], is_some, IfErr, IfOk, MatchResult, OnErr};
 ghost use Rattle.ir_types.specs.Things.{Grows};
-ghost use Rattle.rewriter_machine.specs.Machine.{Change};
+ghost use Rattle.patterns_base.specs.Canonicalization.{first_rule};
+ghost use Rattle.patterns.specs.Rows.{AreCanonical};
+ghost use Rattle.rewriter_machine.specs.Machine.{Change, IsFullSo};
 ghost use Rattle.rewriter.specs.Moves.{Recorded};
 ghost use Rattle.patterns.specs.runs.Runs.{Noted};
-ghost use Rattle.patterns.specs.Benched.{Does, Led};
+ghost use Rattle.patterns.specs.Applied.{Applied as IsApplied, Gave, IsReason as IsFailure};
+ghost use Rattle.patterns.specs.Benched.{Does, Keeps, Led, state_of};
 ghost use Rattle.patterns.specs.Held.{module_held};
 ghost use Rattle.patterns.specs.runs.Interning.{IsFull};
-ghost use Rattle.greedy.specs.Changes.{canonical_reply, canonicalizing};
-ghost use Rattle.greedy.specs.Outcomes.{IsReason};
+ghost use Rattle.greedy.specs.Changes.{canonical_reply, canonicalizing, rewriting};
+ghost use Rattle.greedy.specs.Outcomes.{IsReason, IsReasonBy};
+ghost use Rattle.greedy.specs.Ruled.{MayRun, rules_in};
 
 use crate::journal::touched;
 use crate::outcome::Outcome;
 use crate::rewriting::Rewriting;
-use crate::run::run;
+use crate::rules::Rules;
+use crate::run::{run, run_list};
 use crate::walk::{following, precedes, preceding};
 use ir_event::analysis::Analysis;
 use ir_types::ids::OpId;
 use ir_types::refusal::Refusal;
+use patterns::first::first;
 use patterns::lowest::lowest;
+use patterns_base::rule::Rule;
 use rewriter::Bench;
 use rewriter::finish::finish;
 use rewriter::laws::led_benches_are_kept;
 use std::alloc::Global;
+
+/// Applies the first of a run's rules that applies at an operation, or leaves the module, its marks and the journal as
+/// they were. The answer is that rule.
+///
+/// Refusals, in order: `NoSuchOp` where the operation isn't in the module; `Full`; `IdsExhausted`; `Full` where the
+/// context is full; and `Memory`.
+fn first_of<L: Analysis>(
+    alloc: Global,
+    bench: &mut Bench<L>,
+    rules: &Rules<'_>,
+    op: OpId,
+) -> Result<Option<Rule>, Refusal>
+    requires { MayRun rules.now }
+    ensures ok { IfOk result (λ r. Gave (first_rule (rules_in rules.now) (module_held bench.old.desk) op) (is_some r)
+        (module_held bench.old.desk) (module_held bench.new.desk)) }
+    ensures err { OnErr result (module_held bench.new.desk ≡ module_held bench.old.desk) }
+    ensures refused { IfErr result (λ e. IsFailure (first_rule (rules_in rules.now) (module_held bench.old.desk) op) op
+        (module_held bench.old.desk) bench.new.desk.ctx e) }
+    ensures stays { IsApplied L.meaning bench.old bench.new }
+    ensures journal { Keeps L.meaning result bench.old bench.new }
+{
+    match rules {
+        Rules::OfCanonicalization => lowest(alloc, bench, op),
+        Rules::OfList(rows) => first(alloc, bench, rows, op),
+    }
+}
 
 impl<L: Analysis> Rewriting for Bench<L> {
     ghost use Rattle.std.specs.Prelude.{length};
@@ -89,8 +122,8 @@ impl<L: Analysis> Rewriting for Bench<L> {
         Bench::journal_len(self)
     }
 
-    fn lowest(&mut self, alloc: Global, op: OpId) -> Result<bool, Refusal> {
-        let rule = lowest(alloc, self, op);
+    fn first(&mut self, alloc: Global, rules: &Rules<'_>, op: OpId) -> Result<bool, Refusal> {
+        let rule = first_of(alloc, self, rules, op);
         Bench::is_formed(self);
         match rule {
             Ok(rule) => Ok(rule.is_some()),
@@ -146,4 +179,31 @@ pub fn canonicalize<L: Analysis>(
     led_benches_are_kept::<L>();
     bench.is_formed();
     run(alloc, bench, limit)
+}
+
+/// Rewrites the module of a bench by a list of rules, of which canonicalization tries each: the first operation in
+/// pre-order at which one of them applies, with the first of the list that does, again and again, up to a limit of
+/// rewrites. It is whole or not made at all.
+///
+/// Refusals: as those of `canonicalize`.
+pub fn rewrite<L: Analysis>(
+    alloc: Global,
+    bench: &mut Bench<L>,
+    rules: &[Rule],
+    limit: u32,
+) -> Result<Outcome, Refusal>
+    requires { AreCanonical rules.now }
+    ensures does { Does L.meaning (Change (rewriting rules.now limit)) (canonical_reply result) bench.old bench.new }
+    ensures refused { IfErr result
+        (λ e. IsReasonBy rules.now limit (module_held bench.old.desk) (IsFull bench.new.desk.ctx) e) }
+    ensures room { IsFullSo (IsFull bench.new.desk.ctx) (state_of L.meaning bench.old) (rewriting rules.now limit)
+        (canonical_reply result) }
+    ensures led { Led L.meaning bench.old bench.new }
+    ensures grows { Grows bench.old.desk.ctx bench.new.desk.ctx }
+    ensures journal { MatchResult result (λ _. Noted bench.old.desk bench.new.desk)
+        (λ _. Recorded [] bench.old.desk bench.new.desk) }
+{
+    led_benches_are_kept::<L>();
+    bench.is_formed();
+    run_list(alloc, bench, rules, limit)
 }

@@ -14,7 +14,13 @@ ghost use Rattle.greedy.specs.Listing.{Lists, Touched};
 ghost use Rattle.greedy.specs.Near.{Leads};
 ghost use Rattle.greedy.specs.Reached.{any_reaches, ends, reaches};
 ghost use Rattle.greedy.specs.Shown.{shown_operands};
+ghost use Rattle.greedy.specs.Rewriting.{IsOfItsRules};
 ghost use Rattle.greedy.specs.Sights.{ListsAround, ListsSeers, end_sight, is_listed, sight};
+
+/// Rewriting by the rules of canonicalization, in the order of their numbers, is canonicalization.
+pub fn rewriting_by_its_rules_is_canonicalization()
+    ensures { IsOfItsRules }
+{}
 
 /// The lowest rule of canonicalization that applies at an operation leaves the operations before it, and those that
 /// stay keep their order. None applies at the root.

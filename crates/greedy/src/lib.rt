@@ -12,6 +12,7 @@ pub mod outcome;
 mod push;
 mod reach;
 pub mod rewriting;
+pub mod rules;
 pub mod run;
 pub mod touched;
 mod users;

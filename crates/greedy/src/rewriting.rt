@@ -10,12 +10,14 @@ ghost use Rattle.rewriter_machine.specs.Machine.{OpenMark};
 ghost use Rattle.rewriter.specs.Held.{Held};
 ghost use Rattle.rewriter.specs.Rolling.{Dropped};
 ghost use Rattle.patterns.specs.runs.Runs.{Noted};
-ghost use Rattle.patterns_base.specs.Canonicalization.{lowest};
+ghost use Rattle.patterns_base.specs.Canonicalization.{first_rule};
 ghost use Rattle.greedy.specs.Noting.{marked};
 ghost use Rattle.greedy.specs.Outcomes.{Applied, Refuses};
 ghost use Rattle.greedy.specs.Following.{following};
 ghost use Rattle.greedy.specs.Listing.{Touched};
+ghost use Rattle.greedy.specs.Ruled.{MayRun, rules_in};
 
+use crate::rules::Rules;
 use ir_types::ids::OpId;
 use ir_types::refusal::Refusal;
 use std::alloc::Global;
@@ -85,12 +87,15 @@ pub trait Rewriting {
     fn journal_len(&self) -> usize
         ensures { result ≡ events self.now };
 
-    /// Applies the lowest rule of canonicalization that applies at an operation. The answer is whether there is one.
-    fn lowest(&mut self, alloc: Global, op: OpId) -> Result<bool, Refusal>
-        requires { has_id op (held self.old).tree ≡ true }
-        ensures ok { IfOk result (λ done. Applied (lowest (held self.old) op) done (held self.old) (held self.new)) }
+    /// Applies the first of a run's rules that applies at an operation. The answer is whether there is one.
+    fn first(&mut self, alloc: Global, rules: &Rules<'_>, op: OpId) -> Result<bool, Refusal>
+        requires there { has_id op (held self.old).tree ≡ true }
+        requires ruled { MayRun rules.now }
+        ensures ok { IfOk result
+            (λ done. Applied (first_rule (rules_in rules.now) (held self.old) op) done (held self.old) (held self.new)) }
         ensures err { OnErr result (held self.new ≡ held self.old) }
-        ensures refused { IfErr result (λ e. Refuses (lowest (held self.old) op) (full self.new) e) }
+        ensures refused { IfErr result
+            (λ e. Refuses (first_rule (rules_in rules.now) (held self.old) op) (full self.new) e) }
         ensures noted { OnOk result
             (marks self.old ≢ [] → (events self.old ≤ events self.new)
             × (before self.new (events self.old) ≡ held self.old)) }

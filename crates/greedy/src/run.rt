@@ -3,8 +3,12 @@ ghost use Rattle.std.specs.Prelude.{◌≡◌, ◌≢◌, ◌⊎◌, ◌≤◌, 
 ghost use Rattle.std.specs.Prelude.{true, false};
 ghost use Rattle.ir_types.specs.declared.refusal.Refusal.TheVariants.{Memory as NoMemory};
 ghost use Rattle.ir_tree.specs.Ids.{has_id};
-ghost use Rattle.patterns_base.specs.Canonicalization.{next_rewrite};
-ghost use Rattle.greedy.specs.Outcomes.{Applied, ComeTo, IsCanonical, IsReason, Refuses, Stop, Tells};
+ghost use Rattle.patterns_base.specs.declared.rule.Rule.{Rule as Tried};
+ghost use Rattle.patterns.specs.Rows.{AreCanonical};
+ghost use Rattle.greedy.specs.Outcomes.{Applied, ComeTo, IsCanonical, IsReason, IsReasonBy, IsRewriting, Refuses, Stop};
+ghost use Rattle.greedy.specs.Outcomes.{Tells};
+ghost use Rattle.greedy.specs.Rewriting.{next_by};
+ghost use Rattle.greedy.specs.Ruled.{MayRun, rules_in};
 ghost use Rattle.rewriter.specs.Moves.{Recorded};
 ghost use Rattle.patterns.specs.runs.Runs.{Noted};
 ghost use Rattle.greedy.specs.Work.{IsWork, Right, CoversBut, Rewritten, StillWaits, waits};
@@ -13,9 +17,12 @@ ghost use Rattle.greedy.specs.Listing.{Touched};
 
 use crate::outcome::Outcome;
 use crate::rewriting::Rewriting;
+use crate::rules::Rules;
 use crate::work::{Work, add, settle, take};
 use ir_types::ids::OpId;
 use ir_types::refusal::Refusal;
+use patterns::rows::Rows;
+use patterns_base::rule::Rule;
 use std::alloc::Global;
 
 /// Lets all of a list wait that are in the module.
@@ -53,8 +60,9 @@ fn renew<R: Rewriting>(
     requires within { from ≤ R.events bench.now }
     requires rewritten { Rewritten op before (R.before bench.now from) (R.held bench.now) }
     requires work { IsWork work.old.passed work.old.again.items (R.before bench.now from).tree }
-    requires covers { CoversBut op work.old.passed work.old.again.items (R.before bench.now from) }
-    ensures ok { OnOk result (Right work.new.passed work.new.again.items (R.held bench.now)) }
+    ensures ok { OnOk result ((rs : List Tried) → AreCanonical rs
+        → CoversBut rs op work.old.passed work.old.again.items (R.before bench.now from)
+        → Right rs work.new.passed work.new.again.items (R.held bench.now)) }
     ensures refused { IfErr result (λ e. e ≡ NoMemory) }
 {
     let listed = match bench.touched(alloc, from) {
@@ -73,19 +81,23 @@ fn renew<R: Rewriting>(
 }
 
 /// Whether a rule applies anywhere; if so, one rewrite: the first operation in pre-order at which a rule applies, with
-/// the lowest such rule.
+/// the first such rule.
 fn one<R: Rewriting>(
     alloc: Global,
     bench: &mut R,
+    rules: &Rules<'_>,
     work: &mut Work,
     examined: &mut u64,
 ) -> Result<bool, Refusal>
     requires marked { R.marks bench.old ≢ [] }
-    requires right { Right work.old.passed work.old.again.items (R.held bench.old) }
+    requires ruled { MayRun rules.now }
+    requires right { Right (rules_in rules.now) work.old.passed work.old.again.items (R.held bench.old) }
     ensures ok { IfOk result
-        (λ done. Applied (next_rewrite (R.held bench.old)) done (R.held bench.old) (R.held bench.new)) }
-    ensures refused { IfErr result (λ e. Refuses (next_rewrite (R.held bench.old)) (R.full bench.new) e) }
-    ensures right { IfOk result (λ done. done ≡ true → Right work.new.passed work.new.again.items (R.held bench.new)) }
+        (λ done. Applied (next_by (rules_in rules.now) (R.held bench.old)) done (R.held bench.old) (R.held bench.new)) }
+    ensures refused { IfErr result
+        (λ e. Refuses (next_by (rules_in rules.now) (R.held bench.old)) (R.full bench.new) e) }
+    ensures right { IfOk result (λ done. done ≡ true
+        → Right (rules_in rules.now) work.new.passed work.new.again.items (R.held bench.new)) }
     ensures marks { R.marks bench.new ≡ R.marks bench.old }
     ensures journal { Noted (R.desk bench.old) (R.desk bench.new) }
     ensures onward { R.onward bench.old bench.new }
@@ -95,7 +107,7 @@ fn one<R: Rewriting>(
         if let Some(before) = bench.preceding(op) {
             *examined = examined.saturating_add(1);
             let from = bench.journal_len();
-            match bench.lowest(alloc, op) {
+            match bench.first(alloc, rules, op) {
                 Ok(true) => {
                     return match renew(alloc, bench, work, op, before, from) {
                         Ok(()) => Ok(true),
@@ -125,11 +137,13 @@ fn tried(refusal: Refusal) -> Result<bool, Refusal>
 fn applies<R: Rewriting>(
     alloc: Global,
     bench: &mut R,
+    rules: &Rules<'_>,
     work: &mut Work,
     examined: &mut u64,
 ) -> Result<bool, Refusal>
-    requires right { Right work.old.passed work.old.again.items (R.held bench.old) }
-    ensures ok { IfOk result (λ any. Tells (next_rewrite (R.held bench.old)) any) }
+    requires ruled { MayRun rules.now }
+    requires right { Right (rules_in rules.now) work.old.passed work.old.again.items (R.held bench.old) }
+    ensures ok { IfOk result (λ any. Tells (next_by (rules_in rules.now) (R.held bench.old)) any) }
     ensures held { R.held bench.new ≡ R.held bench.old }
     ensures marks { R.marks bench.new ≡ R.marks bench.old }
     ensures left { Recorded [] (R.desk bench.old) (R.desk bench.new) }
@@ -140,7 +154,7 @@ fn applies<R: Rewriting>(
         Ok(()) => {}
         Err(_) => return Err(Refusal::Memory),
     }
-    let done = one(alloc, bench, work, examined);
+    let done = one(alloc, bench, rules, work, examined);
     bench.rollback();
     match done {
         Ok(any) => Ok(any),
@@ -152,28 +166,30 @@ fn applies<R: Rewriting>(
 fn rewrites<R: Rewriting>(
     alloc: Global,
     bench: &mut R,
+    rules: &Rules<'_>,
     work: &mut Work,
     examined: &mut u64,
     limit: u32,
 ) -> Result<Outcome, Refusal>
     requires marked { R.marks bench.old ≢ [] }
-    requires right { Right work.old.passed work.old.again.items (R.held bench.old) }
-    ensures ok { IfOk result (λ o. ComeTo limit (R.held bench.old) o (R.held bench.new)) }
-    ensures refused { IfErr result (λ e. Stop limit (R.held bench.old) (R.full bench.new) e) }
+    requires ruled { MayRun rules.now }
+    requires right { Right (rules_in rules.now) work.old.passed work.old.again.items (R.held bench.old) }
+    ensures ok { IfOk result (λ o. ComeTo (rules_in rules.now) limit (R.held bench.old) o (R.held bench.new)) }
+    ensures refused { IfErr result (λ e. Stop (rules_in rules.now) limit (R.held bench.old) (R.full bench.new) e) }
     ensures marks { R.marks bench.new ≡ R.marks bench.old }
     ensures journal { Noted (R.desk bench.old) (R.desk bench.new) }
     ensures onward { R.onward bench.old bench.new }
 {
     let mut count = 0;
     'rewrites: while count < limit {
-        match one(alloc, bench, work, examined) {
+        match one(alloc, bench, rules, work, examined) {
             Ok(true) => {}
             Ok(false) => return Ok(Outcome::Converged(count)),
             Err(refusal) => return Err(refusal),
         }
         count += 1;
     }
-    match applies(alloc, bench, work, examined) {
+    match applies(alloc, bench, rules, work, examined) {
         Ok(true) => Ok(Outcome::Limit(count)),
         Ok(false) => Ok(Outcome::Converged(count)),
         Err(_) => Err(Refusal::Memory),
@@ -184,12 +200,14 @@ fn rewrites<R: Rewriting>(
 fn rewritten<R: Rewriting>(
     alloc: Global,
     bench: &mut R,
+    rules: &Rules<'_>,
     examined: &mut u64,
     limit: u32,
 ) -> Result<Outcome, Refusal>
     requires marked { R.marks bench.old ≢ [] }
-    ensures ok { IfOk result (λ o. ComeTo limit (R.held bench.old) o (R.held bench.new)) }
-    ensures refused { IfErr result (λ e. Stop limit (R.held bench.old) (R.full bench.new) e) }
+    requires ruled { MayRun rules.now }
+    ensures ok { IfOk result (λ o. ComeTo (rules_in rules.now) limit (R.held bench.old) o (R.held bench.new)) }
+    ensures refused { IfErr result (λ e. Stop (rules_in rules.now) limit (R.held bench.old) (R.full bench.new) e) }
     ensures marks { R.marks bench.new ≡ R.marks bench.old }
     ensures journal { Noted (R.desk bench.old) (R.desk bench.new) }
     ensures onward { R.onward bench.old bench.new }
@@ -199,20 +217,23 @@ fn rewritten<R: Rewriting>(
         passed: bench.root(),
         again: Vec::new(alloc),
     };
-    rewrites(alloc, bench, &mut work, examined, limit)
+    rewrites(alloc, bench, rules, &mut work, examined, limit)
 }
 
-/// Rewrites, as often as a rule applies and up to a limit: the first operation in pre-order at which a rule
-/// applies, with the lowest such rule. The answer is also how many operations were looked at. Refused, all is as it
+/// Rewrites by some rules, as often as one applies and up to a limit: the first operation in pre-order at which one
+/// applies, with the first such rule. The answer is also how many operations were looked at. Refused, all is as it
 /// was.
-pub fn run_counted<R: Rewriting>(
+pub fn run_counted_by<R: Rewriting>(
     alloc: Global,
     bench: &mut R,
+    rules: &Rules<'_>,
     limit: u32,
 ) -> Result<(Outcome, u64), Refusal>
-    ensures ok { IfOk result (λ o. IsCanonical limit (R.held bench.old) o.0 (R.held bench.new)) }
+    requires { MayRun rules.now }
+    ensures ok { IfOk result (λ o. IsRewriting (rules_in rules.now) limit (R.held bench.old) o.0 (R.held bench.new)) }
     ensures err { OnErr result (R.held bench.new ≡ R.held bench.old) }
-    ensures refused { IfErr result (λ e. IsReason limit (R.held bench.old) (R.full bench.new) e) }
+    ensures refused { IfErr result
+        (λ e. IsReasonBy (rules_in rules.now) limit (R.held bench.old) (R.full bench.new) e) }
     ensures marks { R.marks bench.new ≡ R.marks bench.old }
     ensures journal { MatchResult result (λ _. Noted (R.desk bench.old) (R.desk bench.new))
         (λ _. Recorded [] (R.desk bench.old) (R.desk bench.new)) }
@@ -226,7 +247,7 @@ pub fn run_counted<R: Rewriting>(
         Err(_) => return Err(Refusal::Memory),
     }
     let mut examined = 0;
-    match rewritten(alloc, bench, &mut examined, limit) {
+    match rewritten(alloc, bench, rules, &mut examined, limit) {
         Ok(outcome) => {
             bench.commit();
             Ok((outcome, examined))
@@ -238,8 +259,83 @@ pub fn run_counted<R: Rewriting>(
     }
 }
 
-/// Rewrites, as often as a rule applies and up to a limit: the first operation in pre-order at which a rule
-/// applies, with the lowest such rule. Refused, all is as it was.
+/// Rewrites by some rules, as often as one applies and up to a limit: the first operation in pre-order at which one
+/// applies, with the first such rule. Refused, all is as it was.
+pub fn run_by<R: Rewriting>(
+    alloc: Global,
+    bench: &mut R,
+    rules: &Rules<'_>,
+    limit: u32,
+) -> Result<Outcome, Refusal>
+    requires { MayRun rules.now }
+    ensures ok { IfOk result (λ o. IsRewriting (rules_in rules.now) limit (R.held bench.old) o (R.held bench.new)) }
+    ensures err { OnErr result (R.held bench.new ≡ R.held bench.old) }
+    ensures refused { IfErr result
+        (λ e. IsReasonBy (rules_in rules.now) limit (R.held bench.old) (R.full bench.new) e) }
+    ensures marks { R.marks bench.new ≡ R.marks bench.old }
+    ensures journal { MatchResult result (λ _. Noted (R.desk bench.old) (R.desk bench.new))
+        (λ _. Recorded [] (R.desk bench.old) (R.desk bench.new)) }
+    ensures onward { R.onward bench.old bench.new }
+{
+    match run_counted_by(alloc, bench, rules, limit) {
+        Ok((outcome, _)) => Ok(outcome),
+        Err(refusal) => Err(refusal),
+    }
+}
+
+/// Rewrites by the rules of a list, as often as one applies and up to a limit: the first operation in pre-order at which
+/// one applies, with the first of the list that does. Refused, all is as it was.
+pub fn run_list<R: Rewriting>(
+    alloc: Global,
+    bench: &mut R,
+    rules: &[Rule],
+    limit: u32,
+) -> Result<Outcome, Refusal>
+    requires { AreCanonical rules.now }
+    ensures ok { IfOk result (λ o. IsRewriting rules.now limit (R.held bench.old) o (R.held bench.new)) }
+    ensures err { OnErr result (R.held bench.new ≡ R.held bench.old) }
+    ensures refused { IfErr result (λ e. IsReasonBy rules.now limit (R.held bench.old) (R.full bench.new) e) }
+    ensures marks { R.marks bench.new ≡ R.marks bench.old }
+    ensures journal { MatchResult result (λ _. Noted (R.desk bench.old) (R.desk bench.new))
+        (λ _. Recorded [] (R.desk bench.old) (R.desk bench.new)) }
+    ensures onward { R.onward bench.old bench.new }
+{
+    if limit < 1 || limit > 1_000_000 {
+        return Err(Refusal::BadLimit);
+    }
+    let Ok(rows) = Rows::new(alloc, rules) else {
+        return Err(Refusal::Memory);
+    };
+    match run_by(alloc, bench, &Rules::OfList(&rows), limit) {
+        Ok(outcome) => Ok(outcome),
+        Err(refusal) => Err(refusal),
+    }
+}
+
+/// Rewrites by the rules of canonicalization, as often as one applies and up to a limit: the first operation in
+/// pre-order at which a rule applies, with the lowest such rule. The answer is also how many operations were looked
+/// at. Refused, all is as it was.
+pub fn run_counted<R: Rewriting>(
+    alloc: Global,
+    bench: &mut R,
+    limit: u32,
+) -> Result<(Outcome, u64), Refusal>
+    ensures ok { IfOk result (λ o. IsCanonical limit (R.held bench.old) o.0 (R.held bench.new)) }
+    ensures err { OnErr result (R.held bench.new ≡ R.held bench.old) }
+    ensures refused { IfErr result (λ e. IsReason limit (R.held bench.old) (R.full bench.new) e) }
+    ensures marks { R.marks bench.new ≡ R.marks bench.old }
+    ensures journal { MatchResult result (λ _. Noted (R.desk bench.old) (R.desk bench.new))
+        (λ _. Recorded [] (R.desk bench.old) (R.desk bench.new)) }
+    ensures onward { R.onward bench.old bench.new }
+{
+    match run_counted_by(alloc, bench, &Rules::OfCanonicalization, limit) {
+        Ok(counted) => Ok(counted),
+        Err(refusal) => Err(refusal),
+    }
+}
+
+/// Rewrites by the rules of canonicalization, as often as one applies and up to a limit: the first operation in
+/// pre-order at which a rule applies, with the lowest such rule. Refused, all is as it was.
 pub fn run<R: Rewriting>(alloc: Global, bench: &mut R, limit: u32) -> Result<Outcome, Refusal>
     ensures ok { IfOk result (λ o. IsCanonical limit (R.held bench.old) o (R.held bench.new)) }
     ensures err { OnErr result (R.held bench.new ≡ R.held bench.old) }

@@ -71,7 +71,7 @@ attr_there c x part k t o sound f (Some a) e =
 key_is : (c : Things) (k : ℕ) → IsName c k → is_name c k ≡ true
 key_is c k h = lt-ltb k (length c.names) h
 
-attr_is : (c : Things) (a : Option ℕ) → IsAttrOrNone c a → (b : ℕ) → a ≡ Some b → is_attr c b ≡ true
+pub attr_is : (c : Things) (a : Option ℕ) → IsAttrOrNone c a → (b : ℕ) → a ≡ Some b → is_attr c b ≡ true
 attr_is c None h b e = absurd cc
 attr_is c (Some a) h b e = let one : a ≡ b = cc in subst (λ d. is_attr c d ≡ true) one (lt-ltb a (length c.attrs) h)
 

@@ -85,24 +85,6 @@ module _ {N T A : Type 0} where
     ops_found_head x no_ops = refl
     ops_found_head x (next o os) = mapped_first (find x o) (ops_find x os) ∙ (λ i. first_of (found_head x o i) (ops_found_head x os i)) ∙ sym (first_joined x (heads o) (ops_heads os))
 
-  -- two edits, one after the other
-  module _ (f g : HeadOf N T A → HeadOf N T A) where
-    mutual
-      pub each_twice : (t : OpOf N T A) → each_head g (each_head f t) ≡ each_head (λ h. g (f h)) t
-      each_twice (op h rs) = ap (op (g (f h))) (regions_each_twice rs)
-
-      regions_each_twice : (rs : RegionsOf N T A) → regions_each_head g (regions_each_head f rs) ≡ regions_each_head (λ h. g (f h)) rs
-      regions_each_twice no_regions = refl
-      regions_each_twice (region r rs) = λ i. region (region_each_twice r i) (regions_each_twice rs i)
-
-      region_each_twice : (r : RegionOf N T A) → region_each_head g (region_each_head f r) ≡ region_each_head (λ h. g (f h)) r
-      region_each_twice empty = refl
-      region_each_twice (block args os) = ap (block args) (ops_each_twice os)
-
-      ops_each_twice : (os : OpsOf N T A) → ops_each_head g (ops_each_head f os) ≡ ops_each_head (λ h. g (f h)) os
-      ops_each_twice no_ops = refl
-      ops_each_twice (next o os) = λ i. next (each_twice o i) (ops_each_twice os i)
-
   -- what holds of the heads of two lists
   all_front : (P : HeadOf N T A → Type 0) (hs gs : List (HeadOf N T A)) → AllByRecursion P (hs ++ gs) → AllByRecursion P hs
   all_front P [] gs a = tt

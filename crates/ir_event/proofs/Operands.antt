@@ -9,7 +9,9 @@ use Rattle.ir_store.specs.trees.Edits.{each_head, at, put_operand, with_operand}
 use Rattle.ir_tree.proofs.Heads.{alike_operand, head_find}
 use Rattle.ir_store.specs.tree_laws.Changes.{operand_at}
 use Rattle.ir_event.specs.Heads.{heads}
-use Rattle.ir_event.proofs.Flat.{first_head, heads_ids, found_head, each_twice, each_left, the_only}
+use Rattle.ir_event.proofs.Flat.{first_head, heads_ids, found_head, each_left, the_only}
+use Rattle.ir_tree_laws.proofs.Entries.{each_twice}
+use Rattle.ir_tree.proofs.Facts.{head_each}
 
 -- an item that is set back
 pub set_back : {X : Type 0} (xs : List X) (k : ℕ) (old new : X) → slice_get xs k ≡ Some old → slice_set (slice_set xs k new) k old ≡ xs
@@ -75,9 +77,6 @@ module _ {N T A : Type 0} (x k : ℕ) (old new : Value) where
           let one : h ≡ g = cc in
           subst (λ (k : HeadOf N T A). eqb k.id x ≡ true) one is
       go later false is = later (sym (ap (λ b. cond b (Some h) (first_head x hs)) is) ∙ e)
-
-  head_each : (f : HeadOf N T A → HeadOf N T A) (o : OpOf N T A) → head (each_head f o) ≡ f (head o)
-  head_each f (op h rs) = refl
 
   -- then operand k of x is new
   pub set_there : (t : OpOf N T A) → operand_at x k t ≡ Some old → operand_at x k (with_operand x k new t) ≡ Some new

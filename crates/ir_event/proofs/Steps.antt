@@ -67,7 +67,7 @@ pub sorted_meaning : (c : Things) (m : Numbered) → IsSoundIn c m.tree → IsSo
 sorted_meaning c m s =
     map_every (name_term c) (type_term c) (attr_term c) (dictionaries_rise (key_before_in c)) (dictionaries_rise key_before) (map_dictionaries (name_term c) (type_term c) (attr_term c) key_before) m.tree ∙ s.sorted
 
-meaning_operands : (c : Things) (o : Op) → (head (meaning c o)).operands ≡ (head o).operands
+pub meaning_operands : (c : Things) (o : Op) → (head (meaning c o)).operands ≡ (head o).operands
 meaning_operands c (op h rs) = refl
 
 pub meaning_operand_at : (c : Things) (x k : ℕ) (t : Op) → operand_at x k (meaning c t) ≡ operand_at x k t

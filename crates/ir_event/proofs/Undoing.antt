@@ -4,7 +4,7 @@ use Rattle.std.specs.Prelude.{option_map, is_some, IfSome}
 use Rattle.std.specs.List.{AllByRecursion, list_all}
 use Rattle.std.specs.Cmp.{nat_cmp_total}
 use Rattle.std.specs.FinMap as finmap
-use Rattle.std.proofs.lemmas.Bool.{lt-ltb, cases_eq, cases_Bool, eq-eqb, ne_eqb, cond-true, cond-false}
+use Rattle.std.proofs.lemmas.Bool.{lt-ltb, cases_eq, cases_Bool, eq-eqb, ne_eqb, cond-true, cond-false, or_right}
 use Rattle.std.proofs.lemmas.List.Elements.{recursion_from_All}
 use Rattle.op_registry.specs.types.Things.{Things, IsName, IsAttr}
 use Rattle.op_registry.specs.types.Sound.{IsSound}
@@ -43,16 +43,13 @@ use Rattle.ir_event.proofs.Maps.{eq_nat}
 use Rattle.ir_event.proofs.Taking.{hold_sound, still_shown}
 use Rattle.ir_event.proofs.Undone.{put_undone, take_undone, operand_undone, entry_undone, shift_undone, relink_undone}
 use Rattle.ir_event.specs.Undoing.{CameFrom, MayUndo, undone}
+use Rattle.ir_event.proofs.Entered.{attr_is}
 
 -- a key that a dictionary of the context has an attribute at is one of its keys
-no_test : (a b : Bool) → (not a && not b) ≡ true → (a ≡ false) × (b ≡ false)
+pub no_test : (a b : Bool) → (not a && not b) ≡ true → (a ≡ false) × (b ≡ false)
 no_test true b e = absurd (true≢false (sym e))
 no_test false true e = absurd (true≢false (sym e))
 no_test false false e = (refl, refl)
-
-or_true : (b d : Bool) → d ≡ true → (b || d) ≡ true
-or_true true d e = refl
-or_true false d e = e
 
 entry_key : (c : Things) (k a : ℕ) (es : List (ℕ × ℕ)) → IsSound c → IsName c k → AllByRecursion (λ (e : ℕ × ℕ). IsName c e.0 × IsAttr c e.1) es → entry_at (key_before_in c) k es ≡ Some a → has_key k es ≡ true
 entry_key c k a [] sound key all e = absurd cc
@@ -60,7 +57,7 @@ entry_key c k a (d ∷ es) sound key all e = ⊎_elim
     (λ same. let n = no_test (key_before_in c k d.0) (key_before_in c d.0 k) same in
     let one : k ≡ d.0 = name_term_one c k d.0 sound key all.0.0 (keys_ordered.exact (name_term c k) (name_term c d.0) n.0 n.1) in
     ap (λ b. b || has_key k es) (eq-eqb d.0 k (sym one)))
-    (λ other. or_true (eqb d.0 k) (has_key k es) (entry_key c k a es sound key all.1 (sym (cond-false (same_key (key_before_in c) k d.0) (Some d.1) (entry_at (key_before_in c) k es) other) ∙ e)))
+    (λ other. or_right (eqb d.0 k) (has_key k es) (entry_key c k a es sound key all.1 (sym (cond-false (same_key (key_before_in c) k d.0) (Some d.1) (entry_at (key_before_in c) k es) other) ∙ e)))
     (cases_Bool (same_key (key_before_in c) k d.0))
 
 part_key : (c : Things) (part : Part) (k a : ℕ) (o : Op) → IsSound c → IsName c k → IsSoundIn c o → entry_at (key_before_in c) k (part_of part (head o)) ≡ Some a → has_key k (part_of part (head o)) ≡ true
@@ -161,10 +158,6 @@ module _ (c : Things) (s : Stored) where
   -- well-formed modules stay so
   pub undone_formed : (e : Event) (p : Module) → CameFrom c e p s → IsWellFormed (isolated_in c) (undone c e s).module_of
   undone_formed e p f = formed_numbers c (undone c e s).module_of (subst (IsWellFormed is_isolated) (sym (led_back e p f)) f.step.before)
-
-  attr_is : (a : Option ℕ) → IsAttrOrNone c a → (b : ℕ) → a ≡ Some b → is_attr c b ≡ true
-  attr_is None h b e = absurd cc
-  attr_is (Some a) h b e = let one : a ≡ b = cc in subst (λ d. is_attr c d ≡ true) one (lt-ltb a (length c.attrs) h)
 
   -- and sound
   pub undone_sound : (e : Event) (p : Module) → CameFrom c e p s → IsSoundIn c s.module_of.tree → HeldIsSound c s.held → IsSoundIn c (undone c e s).module_of.tree

@@ -7,21 +7,11 @@ use Rattle.ir_store_reads.proofs.of_trees.Moves.{Absent}
 use Rattle.ir_store_reads.proofs.of_trees.Returns.{Present, halves, absent_first}
 use Rattle.ir_store_reads.specs.tree_laws.Reads.{comes_after}
 use Rattle.ir_store_reads.proofs.of_tree_laws.Listed.{bool_cases, neither}
+use Rattle.ir_store_reads.proofs.of_trees.of_types.Truths.{both_false, or_false}
+use Rattle.std.proofs.lemmas.Bool.{or_right}
 
 abbrev pub there : ℕ → List ℕ → Bool
 there y xs = list_any (λ z. eqb z y) xs
-
-both_false : (b : Bool) → cond b false false ≡ false
-both_false true = refl
-both_false false = refl
-
-or_false : (b : Bool) → (b || false) ≡ b
-or_false true = refl
-or_false false = refl
-
-true_or : (b c : Bool) → c ≡ true → (b || c) ≡ true
-true_or true c e = refl
-true_or false c e = e
 
 joined : (y : ℕ) (xs ys : List ℕ) → there y (xs ++ ys) ≡ (there y xs || there y ys)
 joined y xs ys = list_any-append (λ z. eqb z y) xs ys
@@ -30,7 +20,7 @@ pub in_front : (y : ℕ) (xs ys : List ℕ) → Present y xs → Present y (xs +
 in_front y xs ys e = joined y xs ys ∙ ap (λ b. b || there y ys) e
 
 pub in_back : (y : ℕ) (xs ys : List ℕ) → Present y ys → Present y (xs ++ ys)
-in_back y xs ys e = joined y xs ys ∙ true_or (there y xs) (there y ys) e
+in_back y xs ys e = joined y xs ys ∙ or_right (there y xs) (there y ys) e
 
 pub skip : (a b : ℕ) (xs ys : List ℕ) → Absent a xs → comes_after a b (xs ++ ys) ≡ comes_after a b ys
 skip a b [] ys n = refl

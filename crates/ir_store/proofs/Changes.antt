@@ -14,20 +14,16 @@ use Rattle.ir_store_reads.proofs.of_tree_laws.Keys.{key_before_trans}
 use Rattle.ir_store_reads.proofs.of_tree_laws.HeadForm.{entry_keeps}
 use Rattle.ir_store_reads.specs.Stored.{Stored}
 use Rattle.ir_store.specs.Calls.{after_entry}
-
-less_is : (a b : ℕ) → a < b → nat_lt a b ≡ true
-less_is a b l = grind (arith, nat_tests)
-
-some_same : {X : Type 0} (x y : X) → Some x ≡ Some y → x ≡ y
-some_same x y e = cc
+use Rattle.std.proofs.lemmas.Bool.{lt-ltb}
+use Rattle.std.proofs.lemmas.Option.{same_Some}
 
 module _ (c : Things) (x : ℕ) (part : Part) (k : ℕ) (v : Option ℕ) (m n : Stored) (name : IsName c k) (attr : IfSome v (λ a. IsAttr c a)) (s : IsSoundIn c m.module_of.tree) where
   known : (w : Option ℕ) → IfSome w (λ a. IsAttr c a) → (b : ℕ) → w ≡ Some b → is_attr c b ≡ true
   known None l b e = absurd cc
-  known (Some a) l b e = less_is b (length c.attrs) (subst (IsAttr c) (some_same a b e) l)
+  known (Some a) l b e = lt-ltb b (length c.attrs) (subst (IsAttr c) (same_Some a b e) l)
 
   pub set_sound : n ≡ after_entry (key_before_in c) x part k v m → IsSoundIn c n.module_of.tree
-  set_sound e = subst (λ (z : Stored). IsSoundIn c z.module_of.tree) (sym e) (entry_sound c x part k v m.module_of.tree (less_is k (length c.names) name) (known v attr) s)
+  set_sound e = subst (λ (z : Stored). IsSoundIn c z.module_of.tree) (sym e) (entry_sound c x part k v m.module_of.tree (lt-ltb k (length c.names) name) (known v attr) s)
 
   -- what a call makes of a store, or why it is refused
   abbrev pub Entered : Result (Unit {0}) Refusal → Type 0

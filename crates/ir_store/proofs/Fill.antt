@@ -4,7 +4,7 @@ use Rattle.std.specs.Prelude.{option_and_then, nat_lt, if◌then◌else◌}
 use Rattle.std.specs.Ordering.{nat_cmp}
 use Rattle.std.specs.Cmp.{nat_cmp_total}
 use Rattle.std.specs.FinMap as finmap
-use Rattle.std.proofs.lemmas.Bool.{cases_eq, eq-eqb, ne_eqb, cond-true, cond-false, false≢true}
+use Rattle.std.proofs.lemmas.Bool.{cases_eq, eq-eqb, ne_eqb, cond-true, cond-false, false≢true, ltb-true}
 use Rattle.std.proofs.lemmas.Bool.Decides.{nat_tests}
 use Rattle.ir_store_reads.specs.Lists.{IsHead, IsFree, home_at, free}
 use Rattle.ir_store_reads.specs.trees.declared.value.Value.{Value}
@@ -20,16 +20,8 @@ use Rattle.ir_store_reads.specs.Index.{operand_at, use_at, argument_head, slot_h
 use Rattle.ir_store_reads.specs.Grows.{Parts, IsEven, NewHead, NewUse, Ready}
 use Rattle.ir_store_reads.proofs.Items.{eq_nat}
 use Rattle.ir_store_reads.proofs.Wide.{Keyed, keyed_of, same_spells}
-
-some_one : {X : Type 0} (x y : X) → Some x ≡ Some y → x ≡ y
-some_one x y e = cc
-
-if_some : (b : Bool) (k q : ℕ) → (if b then Some k else None) ≡ Some q → (b ≡ true) × (k ≡ q)
-if_some true k q e = (refl, cc)
-if_some false k q e = absurd cc
-
-below : (a b : ℕ) → nat_lt a b ≡ true → a < b
-below a b e = grind (arith, nat_tests)
+use Rattle.ir_store_reads.proofs.of_trees.of_types.Truths.{if_some}
+use Rattle.std.proofs.lemmas.Option.{same_Some}
 
 -- which slot and place a value of the operation in slot k has
 abbrev pub Named : Parts → ℕ → ℕ → Row → Value → ℕ → Type 0
@@ -40,7 +32,7 @@ Named q bound k w (Arg y j i) h = (a : List ℕ × ℕ) × ((slice_get w.shapes 
 abbrev pub IsApart : Parts → (ℕ → Option ℕ) → ℕ → ℕ → Row → Type 0
 IsApart q keys bound k w = (u v : Value) (h : ℕ) → Named q bound k w u h → value_head q.rows keys v ≡ Some h → ⊥
 
--- where the heads of those are below a bound
+-- where the heads of those are ltb-true a bound
 pub bound_apart : (q : Parts) (keys : ℕ → Option ℕ) (bound k : ℕ) (w : Row) → ((v : Value) (h : ℕ) → value_head q.rows keys v ≡ Some h → h < bound) → IsApart q keys bound k w
 bound_apart q keys bound k w old (Result y i) v h n e = let l = old v h e in omega (arith, n.new, l)
 bound_apart q keys bound k w old (Arg y j i) v h n e = let l = old v h e in let m = n.1.1.new in omega (arith, m, l)
@@ -81,7 +73,7 @@ module _ (q : Parts) (even : IsEven q) (few : length q.sibs.homes < free) (keys 
     named : (v : Value) (h : ℕ) → slot_head rows' v k ≡ Some h → Named q bound k w v h
     named (Result y i) h e =
         let f = if_some (nat_lt i (length w.head.results)) (w.values + i) h (sym (ap (λ z. if nat_lt i (length z.head.results) then Some (z.values + i) else None) own) ∙ e) in
-        subst (NewHead q bound k i) f.1 (ready.results i (below i (length w.head.results) f.0))
+        subst (NewHead q bound k i) f.1 (ready.results i (ltb-true i (length w.head.results) f.0))
     named (Arg y j i) h e = go (slice_get w.shapes j) refl (ap (λ z. option_and_then (argument_head rows' i) (slice_get z.shapes j)) (sym own) ∙ e)
       where
         go : (o : Option Shape) → slice_get w.shapes j ≡ o → option_and_then (argument_head rows' i) o ≡ Some h → (a : List ℕ × ℕ) × ((slice_get w.shapes j ≡ Some (Some a)) × NewHead q bound a.1 i h)
@@ -90,7 +82,7 @@ module _ (q : Parts) (even : IsEven q) (few : length q.sibs.homes < free) (keys 
         go (Some (Some a)) f g =
             let b = ready.blocks j a f in
             let c = if_some (nat_lt i (length a.0)) ((row_at q.rows a.1).values + i) h (sym (ap (λ z. if nat_lt i (length a.0) then Some (z.values + i) else None) (block_row k j a b.head)) ∙ g) in
-            (a, (f, subst (NewHead q bound a.1 i) c.1 (b.arguments i (below i (length a.0) c.0))))
+            (a, (f, subst (NewHead q bound a.1 i) c.1 (b.arguments i (ltb-true i (length a.0) c.0))))
 
     -- a value's slot
     abbrev Whose : Value → ℕ → Type 0
@@ -253,7 +245,7 @@ module _ (q : Parts) (even : IsEven q) (few : length q.sibs.homes < free) (keys 
         (cases_eq y k);
     known = λ y j e. ⊎_elim
         (λ z.
-        let f : k ≡ j = some_one k j (sym here ∙ ap keys' (sym z) ∙ e) in
+        let f : k ≡ j = same_Some k j (sym here ∙ ap keys' (sym z) ∙ e) in
         subst (HoldsId rows' y) f (record { used = used_own q even few keys bound k x w ready kd rows' long' same own keys' here others; id = ap (λ v. v.head.id) own ∙ ready.id ∙ sym z }))
         (λ n.
         let h = r.known y j (sym (others y n) ∙ e) in

@@ -19,6 +19,7 @@ use Rattle.ir_store_reads.proofs.Founds.{has_is, Spelt, find_spelt, has_live}
 use Rattle.ir_store_reads.proofs.Slots.{Found, there}
 use Rattle.ir_store_reads.proofs.Items.{eq_nat}
 use Rattle.ir_store.proofs.Join.{joins, joined_same, joined_other, AtHome, Names, put_spells, has_put, In, within, listed_op, has_end, has_new}
+use Rattle.std.proofs.lemmas.Option.{same_Some}
 
 -- the slot k holds the operation x, which is held
 pub record FoundHeld (rows : List Row) (x k : ℕ) : Type 0 where
@@ -45,9 +46,6 @@ bare_spells rows lists [] f = tt
 bare_spells rows lists (None ∷ xs) f = (tt, bare_spells rows lists xs (λ r. f (suc r)))
 bare_spells rows lists (Some a ∷ xs) f = ((refl, subst (λ l. SpellsOps rows lists l no_ops) (sym (f 0 a refl)) tt), bare_spells rows lists xs (λ r. f (suc r)))
 
-some_same : {X : Type 0} (x y : X) → Some x ≡ Some y → x ≡ y
-some_same x y e = cc
-
 module _ (rows : List Row) (keys : ℕ → Option ℕ) (sibs : Lists) (root : ℕ) (t : Op) (r : Right rows keys sibs root t) (s : SpellsOp rows sibs.lists root t) (laws : Laws sibs.lists sibs.homes)
     (x k : ℕ) (fk : FoundHeld rows x k) (place : Place) (a : List ℕ × ℕ) (at : Option ℕ) (spot : Spot rows sibs.homes place a at) where
   block_of : BlockOf rows sibs.homes spot.parent place.region a
@@ -63,7 +61,7 @@ module _ (rows : List Row) (keys : ℕ → Option ℕ) (sibs : Lists) (root : �
   live_out q l e = false≢true (sym fk.out ∙ ap (λ z. (row_at rows z).live) (sym e) ∙ l.live)
 
   same_slot : (q : ℕ) → Used rows q → (row_at rows q).head.id ≡ x → q ≡ k
-  same_slot q u e = some_same q k (sym (r.keyed q u) ∙ ap keys (e ∙ sym fk.id) ∙ r.keyed k fk.used)
+  same_slot q u e = same_Some q k (sym (r.keyed q u) ∙ ap keys (e ∙ sym fk.id) ∙ r.keyed k fk.used)
 
   pub x_out : has_op x t ≡ false
   x_out = ⊎_elim
@@ -132,7 +130,7 @@ module _ (rows : List Row) (keys : ℕ → Option ℕ) (sibs : Lists) (root : �
     names (Some q) None z = absurd z
     names (Some q) (Some b) z = (
       kept (λ w. w.head.id) refl q ∙ z.0.id,
-      λ w l e. some_same w q (sym (r.keyed w (used_from w (live_used' w l))) ∙ ap keys (sym (kept (λ y. y.head.id) refl w) ∙ e ∙ sym z.0.id) ∙ r.keyed q (r.live_used q z.0.live)),
+      λ w l e. same_Some w q (sym (r.keyed w (used_from w (live_used' w l))) ∙ ap keys (sym (kept (λ y. y.head.id) refl w) ∙ e ∙ sym z.0.id) ∙ r.keyed q (r.live_used q z.0.live)),
     )
 
     shapes_of : (q i : ℕ) (c : List ℕ × ℕ) → slice_get (row_at rows' q).shapes i ≡ Some (Some c) → slice_get (row_at rows q).shapes i ≡ Some (Some c)
@@ -164,7 +162,7 @@ module _ (rows : List Row) (keys : ℕ → Option ℕ) (sibs : Lists) (root : �
             not_here q i c l e y = ⊎_elim
                 (λ f. ⊎_elim
                 (λ g.
-                let p : q ≡ spot.parent = some_same q spot.parent (sym (r.keyed q (used_from q (live_used' q l))) ∙ ap keys (sym (kept (λ v. v.head.id) refl q) ∙ f ∙ sym spot.found.id) ∙ r.keyed spot.parent (r.live_used spot.parent spot.found.live)) in
+                let p : q ≡ spot.parent = same_Some q spot.parent (sym (r.keyed q (used_from q (live_used' q l))) ∙ ap keys (sym (kept (λ v. v.head.id) refl q) ∙ f ∙ sym spot.found.id) ∙ r.keyed spot.parent (r.live_used spot.parent spot.found.live)) in
                 let m : Some (Some c) ≡ Some (Some a) = sym (shapes_of q i c e) ∙ ap (λ v. slice_get (row_at rows v).shapes i) p ∙ ap (slice_get (row_at rows spot.parent).shapes) g ∙ spot.shape in
                 let n : c ≡ a = cc in
                 absurd (y (ap (λ v. v.1) n)))
@@ -185,7 +183,7 @@ module _ (rows : List Row) (keys : ℕ → Option ℕ) (sibs : Lists) (root : �
     comes : has_op x (put place o t) ≡ true
     comes = within place.parent x (put place o t) (go (find place.parent (put place o t)) refl
         (find_spelt rows' sibs'.lists place.parent spot.parent
-        (λ q l e. some_same q spot.parent (sym (r.keyed q (used_from q (live_used' q l))) ∙ ap keys (sym (kept (λ v. v.head.id) refl q) ∙ e ∙ sym spot.found.id) ∙ r.keyed spot.parent (r.live_used spot.parent spot.found.live)))
+        (λ q l e. same_Some q spot.parent (sym (r.keyed q (used_from q (live_used' q l))) ∙ ap keys (sym (kept (λ v. v.head.id) refl q) ∙ e ∙ sym spot.found.id) ∙ r.keyed spot.parent (r.live_used spot.parent spot.found.live)))
         root (put place o t) join_spells (has_put place o place.parent t (there rows keys sibs root t r s place.parent spot.parent spot.found))))
       where
         go : (m : Option Op) → find place.parent (put place o t) ≡ m → Spelt rows' sibs'.lists spot.parent m → In place.parent x m

@@ -2,7 +2,7 @@
 use Rattle.std.proofs.Common.{◌≡◌, ℕ, zero, suc, ◌+◌, ◌<◌, ◌≤◌, max, List, [], ◌∷◌, refl, sym, ap, ◌∙◌, subst, length, Bool, true, false, true≢false, eqb, eq-eqb, eqb-true, not, ◌&&◌, ⊎_elim, Option, Some, None, arith, inl, inr, slice_get}
 use Rattle.std.specs.Prelude.{if◌then◌else◌, is_some, option_and_then, nat_lt}
 use Rattle.std.specs.List.{list_all, list_any}
-use Rattle.std.proofs.lemmas.Bool.{and_cases, or_cases, or_left, or_right}
+use Rattle.std.proofs.lemmas.Bool.{and_cases, or_cases, or_left, or_right, ltb-true, not-false, not-true}
 use Rattle.std.proofs.lemmas.Bool.Decides.{nat_tests}
 use Rattle.std.proofs.lemmas.List.Folds.{list_all-append}
 use Rattle.ir_store_reads.specs.Lists.{Laws, has, list_at, home_at}
@@ -32,15 +32,12 @@ use Rattle.ir_store_reads.proofs.Idle.{is_below}
 use Rattle.ir_store_reads.proofs.Slots.{found, found_op, in_tree_is, slot_of_live}
 use Rattle.ir_store.proofs.Called.{rows_in, keys_in, stored}
 use Rattle.ir_store.proofs.Leaving.{depth_within, each_outside, kept_stays, none_outside, stays_kept}
-use Rattle.ir_store.proofs.Unused.{all_at, all_get, listed_item, some_one}
+use Rattle.ir_store.proofs.Unused.{listed_item}
 use Rattle.ir_store.proofs.Whole.{Whole}
-
-split_below : (a b n : ℕ) → max (a + 1) b ≤ n → (a < n) × (b ≤ n)
-split_below a b n e = (omega (arith, e), omega (arith, e))
-
-regroup : (a b c : Bool) → (a && (b && c)) ≡ ((a && b) && c)
-regroup true b c = refl
-regroup false b c = refl
+use Rattle.ir_store_reads.proofs.of_trees.of_types.Truths.{all_at, if_some, same_bool, split_below}
+use Rattle.ir_store_reads.proofs.of_trees.of_types.WordNumbers.{all_at as all_get}
+use Rattle.ir_store_reads.proofs.of_trees.Counts.{and_assoc}
+use Rattle.std.proofs.lemmas.Option.{same_Some}
 
 shuffle : (a l b r : Bool) → (a && (l && (b && r))) ≡ ((a && b) && (l && r))
 shuffle true true b r = refl
@@ -67,7 +64,7 @@ module _ (rows : List Row) (lists : List (List ℕ)) (f : ℕ → ℕ → Bool) 
     keeps_is zero k o l s = absurd (omega (arith, l))
     keeps_is (suc n) k (op h rs) l s =
         (λ i. s.0 i && (f (row_at rows k).values (length (row_at rows k).head.results) && regions_keep n (row_at rows k).shapes rs (omega (arith, l)) s.1.1 i))
-        ∙ regroup (f (row_at rows k).values (length (row_at rows k).head.results)) (args_all (row_at rows k).shapes) (list_all test (regions_ids rs))
+        ∙ and_assoc (f (row_at rows k).values (length (row_at rows k).head.results)) (args_all (row_at rows k).shapes) (list_all test (regions_ids rs))
         ∙ ap (λ o. row_test o && list_all test (regions_ids rs)) (sym (ap keys (ap (λ z. z.id) (sym s.1.0)) ∙ keyed k (record { live = s.0 })))
 
     regions_keep : (n : ℕ) (xs : List Shape) (rs : Regions) → regions_depth rs ≤ n → SpellsRegions rows lists xs rs → shapes_keep rows lists f (slot_keeps rows lists f n) xs ≡ (args_all xs && list_all test (regions_ids rs))
@@ -151,19 +148,12 @@ module _ (rows : List Row) (sibs lists : List (List ℕ)) (p : ℕ → Bool) (ke
       (λ f. let w = fail_arg xs f in (suc w.0, w.1, w.2, w.3))
       (and_cases (lists_pass lists p (row_at rows c.1).values (length c.0)) (args_pass xs) e)
 
-  if_some : (b : Bool) (k q : ℕ) → (if b then Some k else None) ≡ Some q → (b ≡ true) × (k ≡ q)
-  if_some true k q e = (refl, cc)
-  if_some false k q e = absurd cc
-
-  below : (a b : ℕ) → nat_lt a b ≡ true → a < b
-  below a b e = grind (arith, nat_tests)
-
   -- the list of a value's head passes, where the slot does
   pub value_passes : (k : ℕ) → row_passes (Some k) ≡ true → (v : Value) (h : ℕ) → slot_head rows v k ≡ Some h → list_all p (list_at lists h) ≡ true
   value_passes k e (ResultOf x i) h f =
       let b = both (lists_pass lists p (row_at rows k).values (length (row_at rows k).head.results)) (args_pass (row_at rows k).shapes) e in
       let g = if_some (nat_lt i (length (row_at rows k).head.results)) ((row_at rows k).values + i) h f in
-      subst (λ z. list_all p (list_at lists z) ≡ true) g.1 (pass_at (row_at rows k).values (length (row_at rows k).head.results) i b.0 (below i (length (row_at rows k).head.results) g.0))
+      subst (λ z. list_all p (list_at lists z) ≡ true) g.1 (pass_at (row_at rows k).values (length (row_at rows k).head.results) i b.0 (ltb-true i (length (row_at rows k).head.results) g.0))
   value_passes k e (Arg x r i) h f = go (slice_get (row_at rows k).shapes r) refl f
     where
       go : (o : Option Shape) → slice_get (row_at rows k).shapes r ≡ o → option_and_then (argument_head rows i) o ≡ Some h → list_all p (list_at lists h) ≡ true
@@ -172,7 +162,7 @@ module _ (rows : List Row) (sibs lists : List (List ℕ)) (p : ℕ → Bool) (ke
       go (Some (Some a)) m f =
           let b = both (lists_pass lists p (row_at rows k).values (length (row_at rows k).head.results)) (args_pass (row_at rows k).shapes) e in
           let g = if_some (nat_lt i (length a.0)) ((row_at rows a.1).values + i) h f in
-          subst (λ z. list_all p (list_at lists z) ≡ true) g.1 (pass_at (row_at rows a.1).values (length a.0) i (args_at (row_at rows k).shapes r a b.1 m) (below i (length a.0) g.0))
+          subst (λ z. list_all p (list_at lists z) ≡ true) g.1 (pass_at (row_at rows a.1).values (length a.0) i (args_at (row_at rows k).shapes r a b.1 m) (ltb-true i (length a.0) g.0))
 
   -- and there is one whose list doesn't, where the slot doesn't
   pub record Failing (k x : ℕ) : Type 0 where
@@ -234,7 +224,7 @@ module _ (a : Inside) (w : Whole a) (laws : Laws a.uses.lists a.uses.homes) (x k
   head_of : (s : StandOf ℕ ℕ ℕ) → In s (stands [] a.spelled.0) → (q : ℕ) → Live (rows_in a) q → (row_at (rows_in a) q).head.id ≡ stand_id s → (row_at (rows_in a) q).head ≡ head s.here
   head_of s h q l e =
       let f = found_op (rows_in a) (keys_in a) a.sibs a.root t w.right a.spelled.1 (stand_id s) q (found (rows_in a) (keys_in a) a.sibs a.root t w.right a.spelled.1 (stand_id s) q (slot_of_live (rows_in a) (keys_in a) a.sibs a.root t w.right a.spelled.1 (stand_id s) q l e)) in
-      let one : f.0 ≡ s.here = some_one f.0 s.here (sym f.1.0 ∙ stand_found t w.distinct s h) in
+      let one : f.0 ≡ s.here = same_Some f.0 s.here (sym f.1.0 ∙ stand_found t w.distinct s h) in
       spelt_head q f.0 f.1.1 ∙ ap (λ (z : Op). head z) one
 
   slot_of : (s : StandOf ℕ ℕ ℕ) → In s (stands [] a.spelled.0) → (q : ℕ) × Live (rows_in a) q × ((row_at (rows_in a) q).head.id ≡ stand_id s)
@@ -243,14 +233,6 @@ module _ (a : Inside) (w : Whole a) (laws : Laws a.uses.lists a.uses.homes) (x k
       go : (o : Option ℕ) → live_slot (rows_in a) (keys_in a) (stand_id s) ≡ o → (q : ℕ) × Live (rows_in a) q × ((row_at (rows_in a) q).head.id ≡ stand_id s)
       go None e = absurd (true≢false (sym (sym (ap is_some e) ∙ in_tree_is (rows_in a) (keys_in a) a.sibs a.root t w.right a.spelled.1 (stand_id s) ∙ stand_present [] t s h)))
       go (Some q) e = let f = found (rows_in a) (keys_in a) a.sibs a.root t w.right a.spelled.1 (stand_id s) q e in (q, f.live, f.id)
-
-  not_true : (b : Bool) → not b ≡ true → b ≡ false
-  not_true true e = sym e
-  not_true false e = refl
-
-  not_false : (b : Bool) → not b ≡ false → b ≡ true
-  not_false true e = refl
-  not_false false e = sym e
 
   -- where the walk passes, what stays uses no value of the operation, or from inside it
   spared : list_all tested (ids own.0) ≡ true → (s : StandOf ℕ ℕ ℕ) → In s (stands [] a.spelled.0) → is_gone x s ≡ false → (j : ℕ) (v : Value) → slice_get (head s.here).operands j ≡ Some v → is_within (owner_of v).0 (Some own.0) ≡ true → ⊥
@@ -265,7 +247,7 @@ module _ (a : Inside) (w : Whole a) (laws : Laws a.uses.lists a.uses.homes) (x k
       let user : (use_in (rows_in a) cells u).0 ≡ stand_id s = ap (λ (z : ℕ × ℕ). (row_at (rows_in a) z.0).head.id) cell ∙ q.2 in
       let passes = all_any tested (owner_of v).0 (ids own.0) e i in
       let all = go v (home_at a.uses.homes u) (keys_in a (owner_of v).0) passes link.home in
-      let one : leaves_use (rows_in a) cells x t u ≡ false = not_true (leaves_use (rows_in a) cells x t u) (all_has p u (list_at a.uses.lists (home_at a.uses.homes u)) all (laws.covers u link.item)) in
+      let one : leaves_use (rows_in a) cells x t u ≡ false = not-true (leaves_use (rows_in a) cells x t u) (all_has p u (list_at a.uses.lists (home_at a.uses.homes u)) all (laws.covers u link.item)) in
       true≢false (sym (ap (λ y. has_id y (without x t)) user ∙ kept_stays t w.distinct x s h g) ∙ one)
     where
       go : (v : Value) (n : ℕ) (o : Option ℕ) → row_test (rows_in a) a.sibs.lists (lists_pass a.uses.lists p) (keys_in a) keyed_by o ≡ true → option_and_then (slot_head (rows_in a) v) o ≡ Some n → list_all p (list_at a.uses.lists n) ≡ true
@@ -292,12 +274,12 @@ module _ (a : Inside) (w : Whole a) (laws : Laws a.uses.lists a.uses.homes) (x k
       let live : Live (rows_in a) st.row = record { live = st.put } in
       let cell : cell_at cells u.0 ≡ (st.row, st.place) = ap (cell_at cells) (sym st.use_of.node) ∙ (w.index.cell st.row st.place st.value st.use_of.used st.use_of.operand).cell in
       let user : (use_in (rows_in a) cells u.0).0 ≡ (row_at (rows_in a) st.row).head.id = ap (λ (z : ℕ × ℕ). (row_at (rows_in a) z.0).head.id) cell in
-      let s = stays_kept t w.distinct x (use_in (rows_in a) cells u.0).0 (not_false (leaves_use (rows_in a) cells x t u.0) u.2) in
+      let s = stays_kept t w.distinct x (use_in (rows_in a) cells u.0).0 (not-false (leaves_use (rows_in a) cells x t u.0) u.2) in
       let heads = head_of s.0 s.1 st.row live (sym user ∙ sym s.3) in
       let kept = each_outside t w.distinct x e s.0 s.1 s.2 in
       let spares : not (is_within (owner_of st.value).0 (find x t)) ≡ true = all_get (λ v. not (is_within (owner_of v).0 (find x t))) (head s.0.here).operands st.place st.value kept (ap (λ z. slice_get z.operands st.place) (sym heads) ∙ st.use_of.operand) in
       let within : is_within (owner_of st.value).0 (find x t) ≡ true = ap (λ d. is_within (owner_of d).0 (find x t)) same ∙ ap (λ z. is_within z (find x t)) b.own ∙ ap (is_within y) own.1.0 ∙ i in
-      true≢false (sym within ∙ not_true (is_within (owner_of st.value).0 (find x t)) spares)
+      true≢false (sym within ∙ not-true (is_within (owner_of st.value).0 (find x t)) spares)
 
   all_where : unused_outside x a.spelled.0 ≡ true → list_all tested (ids own.0) ≡ true
   all_where e = each_all tested (ids own.0) (λ y i. go y (keys_in a y) refl (any_one (λ z. eqb z y) (ids own.0) y i (eq-eqb y y refl)))
@@ -308,11 +290,6 @@ module _ (a : Inside) (w : Whole a) (laws : Laws a.uses.lists a.uses.homes) (x k
         | inl f ↦ f
         | inr n ↦ absurd (used_where e y q eo i n)
       ]
-
-  same_bool : (b c : Bool) → (b ≡ true → c ≡ true) → (c ≡ true → b ≡ true) → b ≡ c
-  same_bool true c f g = sym (f refl)
-  same_bool false true f g = g refl
-  same_bool false false f g = refl
 
   keeps_tree : slot_keeps (rows_in a) a.sibs.lists (lists_pass a.uses.lists (λ u. not (leaves_use (rows_in a) (cells_of a.cells.items) x a.spelled.0 u))) a.count k ≡ unused_outside x a.spelled.0
   keeps_tree =

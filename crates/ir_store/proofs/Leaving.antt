@@ -16,11 +16,7 @@ use Rattle.ir_store_reads.proofs.of_tree_laws.Edited.{taken_op_count}
 use Rattle.ir_store_reads.proofs.of_tree_laws.Reverted.{inside_goes}
 use Rattle.ir_store_reads.proofs.of_tree_laws.Shift.{inner_of}
 use Rattle.ir_store_reads.proofs.of_tree_laws.Without.{same_head, left_member, member_left}
-
-same_bool : (a b : Bool) → (a ≡ true → b ≡ true) → (b ≡ true → a ≡ true) → a ≡ b
-same_bool true b f g = sym (f refl)
-same_bool false true f g = g refl
-same_bool false false f g = refl
+use Rattle.ir_store_reads.proofs.of_trees.of_types.Truths.{same_bool}
 
 -- an operation is less deep than the operations are many
 mutual

@@ -24,6 +24,7 @@ use Rattle.ir_store_reads.specs.Heading.{block_in, CanStand}
 use Rattle.ir_store_reads.proofs.Slots.{Found, found, found_op, none_found, only, slot_of_live}
 use Rattle.ir_store.proofs.Cut.{head_id, live_of}
 use Rattle.ir_store.proofs.Standing.{some_place, root_placeless, place_missing}
+use Rattle.ir_store_reads.proofs.of_trees.of_types.Truths.{both_false}
 
 later : (a : Option ℕ) (x : ℕ) (b : Option ℕ) → first_of (first_of a (Some x)) b ≡ first_of a (Some x)
 later None x b = refl
@@ -36,10 +37,6 @@ alone (Some a) = refl
 cond_map : {X Y : Type 0} (b : Bool) (f : X → Y) (x y : X) → cond b (f x) (f y) ≡ f (cond b x y)
 cond_map true f x y = refl
 cond_map false f x y = refl
-
-same : (b : Bool) → cond b false false ≡ false
-same true = refl
-same false = refl
 
 -- operations of a list, and slots
 module _ (rows : List Row) (lists : List (List ℕ)) where
@@ -101,7 +98,7 @@ module _ (rows : List Row) (lists : List (List ℕ)) where
     never_behind y [] no_ops z = refl
     never_behind y [] (next o os) z = absurd z
     never_behind y (k ∷ ks) no_ops z = absurd z
-    never_behind y (k ∷ ks) (next o os) z = (λ i. cond (eqb (head o).id y) (never_among ks os z.1 i) (never_behind y ks os z.1 i)) ∙ same (eqb (head o).id y)
+    never_behind y (k ∷ ks) (next o os) z = (λ i. cond (eqb (head o).id y) (never_among ks os z.1 i) (never_behind y ks os z.1 i)) ∙ both_false (eqb (head o).id y)
 
 among_there : (x : ℕ) (front : List Op) (o : Op) (rest : List Op) → (head o).id ≡ x → is_among x (ops_of (front ++ o ∷ rest)) ≡ true
 among_there x [] o rest e = or_left (eqb (head o).id x) (is_among x (ops_of rest)) (eq-eqb (head o).id x e)

@@ -18,20 +18,13 @@ use Rattle.ir_store_reads.specs.tree_laws.Restores.{MayPut}
 use Rattle.ir_store_reads.proofs.of_tree_laws.Nested.{put_along, may_along, put_at_end}
 use Rattle.ir_store_reads.specs.Emptied.{emptied_regions, emptied}
 use Rattle.ir_store.specs.Loads.{end_of, put_ops, put_regions, MayOps, MayRegions}
-
-any_parts : (p : ℕ → Bool) (xs ys : List ℕ) → list_any p (xs ++ ys) ≡ (list_any p xs || list_any p ys)
-any_parts p [] ys = refl
-any_parts p (x ∷ xs) ys = ap (λ b. p x || b) (any_parts p xs ys) ∙ turn (p x) (list_any p xs) (list_any p ys)
-  where
-    turn : (a b c : Bool) → (a || (b || c)) ≡ ((a || b) || c)
-    turn true b c = refl
-    turn false b c = refl
+use Rattle.std.proofs.lemmas.List.Folds.{list_any-append}
 
 in_front : (p : ℕ → Bool) (xs ys : List ℕ) → list_any p xs ≡ true → list_any p (xs ++ ys) ≡ true
-in_front p xs ys e = any_parts p xs ys ∙ ap (λ b. b || list_any p ys) e
+in_front p xs ys e = list_any-append p xs ys ∙ ap (λ b. b || list_any p ys) e
 
 in_back : (p : ℕ → Bool) (xs ys : List ℕ) → list_any p ys ≡ true → list_any p (xs ++ ys) ≡ true
-in_back p xs ys e = any_parts p xs ys ∙ ap (λ b. list_any p xs || b) e ∙ at_last (list_any p xs)
+in_back p xs ys e = list_any-append p xs ys ∙ ap (λ b. list_any p xs || b) e ∙ at_last (list_any p xs)
   where
     at_last : (a : Bool) → (a || true) ≡ true
     at_last true = refl

@@ -26,14 +26,8 @@ use Rattle.ir_store_reads.proofs.Founds.{has_is, not_found}
 use Rattle.ir_store_reads.proofs.Items.{eq_nat}
 use Rattle.ir_store_reads.proofs.Grown.{take_all}
 use Rattle.ir_store.proofs.Loaded.{may_inside, put_inside, whole_inside}
-
-any_parts : (p : ℕ → Bool) (xs ys : List ℕ) → list_any p (xs ++ ys) ≡ (list_any p xs || list_any p ys)
-any_parts p [] ys = refl
-any_parts p (x ∷ xs) ys = ap (λ b. p x || b) (any_parts p xs ys) ∙ turn (p x) (list_any p xs) (list_any p ys)
-  where
-    turn : (a b c : Bool) → (a || (b || c)) ≡ ((a || b) || c)
-    turn true b c = refl
-    turn false b c = refl
+use Rattle.std.proofs.lemmas.List.Folds.{list_any-append}
+use Rattle.std.proofs.lemmas.Option.{same_Some}
 
 gone_same : (xs : List ℕ) (s u : Stored) → s.gone ≡ u.gone → (x : ℕ) → gone_with xs s x ≡ gone_with xs u x
 gone_same xs s u e x = ap (λ z. if list_any (λ y. eqb y x) xs then Some none_gone else finmap.get z x) e
@@ -42,7 +36,7 @@ gone_same xs s u e x = ap (λ z. if list_any (λ y. eqb y x) xs then Some none_g
 pub gone_then : (xs ys : List ℕ) (s u : Stored) → ((x : ℕ) → finmap.get u.gone x ≡ gone_with xs s x) → (x : ℕ) → gone_with ys u x ≡ gone_with (xs ++ ys) s x
 gone_then xs ys s u e x =
     ap (λ z. if list_any (λ y. eqb y x) ys then Some none_gone else z) (e x) ∙ turn (list_any (λ y. eqb y x) xs) (list_any (λ y. eqb y x) ys)
-    ∙ ap (λ b. if b then Some none_gone else finmap.get s.gone x) (sym (any_parts (λ y. eqb y x) xs ys))
+    ∙ ap (λ b. if b then Some none_gone else finmap.get s.gone x) (sym (list_any-append (λ y. eqb y x) xs ys))
   where
     turn : (a b : Bool) → (if b then Some none_gone else (if a then Some none_gone else finmap.get s.gone x)) ≡ (if a || b then Some none_gone else finmap.get s.gone x)
     turn true true = refl
@@ -51,10 +45,10 @@ gone_then xs ys s u e x =
     turn false false = refl
 
 below_left : (n : ℕ) (xs ys : List ℕ) → AreBelow n (xs ++ ys) → AreBelow n xs
-below_left n xs ys b x e = b x (any_parts (λ y. eqb y x) xs ys ∙ ap (λ c. c || list_any (λ y. eqb y x) ys) e)
+below_left n xs ys b x e = b x (list_any-append (λ y. eqb y x) xs ys ∙ ap (λ c. c || list_any (λ y. eqb y x) ys) e)
 
 below_right : (n : ℕ) (xs ys : List ℕ) → AreBelow n (xs ++ ys) → AreBelow n ys
-below_right n xs ys b x e = b x (any_parts (λ y. eqb y x) xs ys ∙ ap (λ c. list_any (λ y. eqb y x) xs || c) e ∙ at_last (list_any (λ y. eqb y x) xs))
+below_right n xs ys b x e = b x (list_any-append (λ y. eqb y x) xs ys ∙ ap (λ c. list_any (λ y. eqb y x) xs || c) e ∙ at_last (list_any (λ y. eqb y x) xs))
   where
     at_last : (a : Bool) → (a || true) ≡ true
     at_last true = refl
@@ -136,14 +130,11 @@ module _ (p r : ℕ) (o : Op) (s : Stored) (may : MayPut (end_of p r) (emptied o
   held_there : finmap.get (after_grow x o s).held x ≡ Some (emptied o)
   held_there = finmap.get-insert nat_cmp_total s.held x (with_id x (emptied o)) x ∙ cond-true _ (Some (with_id x (emptied o))) (finmap.get s.held x) (eq_nat x x ∙ eq-eqb x x refl) ∙ ap Some same_id
 
-  some_one : {X : Type 0} (a b : X) → Some a ≡ Some b → a ≡ b
-  some_one a b e = cc
-
   pub head_can : list_all (λ v. has_value v s.module_of.tree) (head o).operands ≡ true → CanRestore x (end_of p r) false (after_grow x o s)
   head_can e = record {
     held = ap is_some held_there;
     spot = may.spot;
-    values = λ u f. ap (λ z. list_all (λ v. has_value v s.module_of.tree) (head z).operands) (some_one u (emptied o) (sym f ∙ held_there)) ∙ ap (list_all (λ v. has_value v s.module_of.tree)) operands_same ∙ e;
+    values = λ u f. ap (λ z. list_all (λ v. has_value v s.module_of.tree) (head z).operands) (same_Some u (emptied o) (sym f ∙ held_there)) ∙ ap (list_all (λ v. has_value v s.module_of.tree)) operands_same ∙ e;
     newest = λ z. absurd (false≢true z);
     room = λ z. absurd (false≢true z);
     below = λ z. below;

@@ -27,6 +27,7 @@ use Rattle.ir_store.proofs.Rising.{around_some, the_op}
 use Rattle.ir_store.proofs.Back.{after_found}
 use Rattle.ir_store.proofs.Seen.{seen_is}
 use Rattle.ir_store.proofs.Tabled.{found_there}
+use Rattle.ir_store_reads.proofs.of_trees.of_types.AcceptedCalls.{neither}
 
 -- sight is looked at last
 in_order : (a b c d e f : Bool) (rest : Option Refusal)
@@ -51,10 +52,6 @@ module _ {N T A : Type 0} (isolated is_table : N → Bool) (x : ℕ) (place : Pl
   pub by_sight : unseen_reason is_table x place t ≡ None → shift_reason isolated is_table x place t ≡ unless (operands_visible isolated (shifted x place t)) NotVisible None
   by_sight h = shift_reason_is ∙ ap (λ r. first_reason r (unless (operands_visible isolated (shifted x place t)) NotVisible None)) h
 
-none_both : (a b : Option Refusal) → first_reason a b ≡ None → (a ≡ None) × (b ≡ None)
-none_both None b e = (refl, e)
-none_both (Some a) b e = absurd cc
-
 leaves_room : (n : ℕ) (o : Option ℕ) → is_some o ≡ true → fits_around n o ≡ true → nat_lt n most_around ≡ true
 leaves_room n None e f = absurd (true≢false (sym e))
 leaves_room n (Some m) e f = grind (arith, nat_tests, f)
@@ -70,7 +67,7 @@ module _ (isolated is_table : ℕ → Bool) (x : ℕ) (place : Place) (m : Modul
   t = m.tree
 
   parts : (relink_reason x place t ≡ None) × (unless (same_table (table_of is_table x t) (table_of is_table x (shifted x place t))) OtherTable (unless (fits_around (levels_in (find x t)) (around place.parent t)) TooDeepHere None) ≡ None)
-  parts = none_both (relink_reason x place t) _ e
+  parts = neither (relink_reason x place t) _ e
 
   pub may_relink : CanRelink x place m.tree
   may_relink = can_relink x place t parts.0

@@ -2,7 +2,7 @@
 use Rattle.std.proofs.Common.{◌≡◌, refl, ap, sym, ◌∙◌, subst, ℕ, zero, suc, ◌+◌, ◌-◌, ◌<◌, ◌≤◌, true, false, true≢false, not, ◌||◌, eqb, eq-eqb, List, [], ◌∷◌, ◌++◌, length, Option, Some, None, option_map, inl, inr, ◌⊎◌, arith}
 use Rattle.std.specs.Prelude.{nat_lt, option_and_then}
 use Rattle.std.specs.List.{IsDistinct}
-use Rattle.std.proofs.lemmas.Bool.{cases_eq, cases_lt, ne_eqb, lt-ltb, ltb-true}
+use Rattle.std.proofs.lemmas.Bool.{cases_eq, cases_lt, ne_eqb, lt-ltb, ltb-true, eqb-false}
 use Rattle.std.proofs.lemmas.Map.Keys.{IsDistinct-tail}
 use Rattle.ir_store_reads.specs.trees.declared.place.Place.{Place}
 use Rattle.ir_store_reads.specs.trees.Tree.{OpOf, RegionOf, empty, block, OpsOf, head, regions, ops_of, op_list}
@@ -17,12 +17,13 @@ use Rattle.ir_store_reads.specs.tree_laws.Stands.{StepOf, StandOf, stand_id, sta
 use Rattle.ir_store_reads.proofs.of_tree_laws.Listed.{bool_cases, or_left, or_right}
 use Rattle.ir_store_reads.proofs.of_tree_laws.Members.{stand, itself, within, has_around, member, stand_found}
 use Rattle.ir_store_reads.proofs.of_tree_laws.Around.{around_there, stand_present, present_stand, place_of_member, stands_around}
-use Rattle.ir_store_reads.proofs.of_tree_laws.Neighbours.{list_there, parent_there}
+use Rattle.ir_store_reads.proofs.of_tree_laws.Neighbours.{list_there, parent_there, block_at}
 use Rattle.ir_store_reads.proofs.of_tree_laws.Cuts.{preorder}
 use Rattle.ir_store.specs.Lifted.{level, level_of, or_itself, lifted}
 use Rattle.ir_store.proofs.After.{there, never_first, never_later, not_itself, same_first, same_later, same_within, first_before, none_before_first, past_first}
-use Rattle.ir_store.proofs.Siblings.{own_present, own_ids, OfRegion, by_region, by_list}
+use Rattle.ir_store.proofs.Siblings.{own_present, OfRegion, by_region, by_list}
 use Rattle.ir_store.proofs.Climbing.{Placed, placed, level_there, level_up}
+use Rattle.ir_store_reads.proofs.of_trees.Facts.{ids_head}
 
 module _ {N T A : Type 0} where
   -- what stands in an operation is that, or deeper
@@ -52,11 +53,6 @@ module _ {N T A : Type 0} where
   among_there : (x : ℕ) (front : List (OpOf N T A)) (o : OpOf N T A) (rest : List (OpOf N T A)) → (head o).id ≡ x → is_among x (ops_of (front ++ o ∷ rest)) ≡ true
   among_there x [] o rest e = or_left (eqb (head o).id x) (is_among x (ops_of rest)) (eq-eqb (head o).id x e)
   among_there x (f ∷ front) o rest e = or_right (eqb (head f).id x) (is_among x (ops_of (front ++ o ∷ rest))) (among_there x front o rest e)
-
-  block_at : (r : ℕ) (p : OpOf N T A) (os : OpsOf N T A) (g : Option (RegionOf N T A)) → region_at r (regions p) ≡ g → option_and_then ops_in g ≡ Some os → (args : List T) × (region_at r (regions p) ≡ Some (block args os))
-  block_at r p os None f e = absurd cc
-  block_at r p os (Some empty) f e = absurd cc
-  block_at r p os (Some (block args l)) f e = (let same : l ≡ os = cc in (args, f ∙ ap (λ z. Some (block args z)) same))
 
 -- where ids are distinct
 module _ {N T A : Type 0} (t : OpOf N T A) (d : HasDistinctIds t) where
@@ -141,19 +137,19 @@ module _ {N T A : Type 0} (t : OpOf N T A) (d : HasDistinctIds t) where
     here_inner : Present x (regions_ids (regions w.step.parent))
     here_inner =
         ap (λ b. b || there x (regions_ids (regions w.step.parent))) (sym (ne_eqb (head w.step.parent).id x (λ s. other_up (sym s ∙ w.parent))))
-        ∙ ap (there x) (sym (own_ids w.step.parent)) ∙ here_in
+        ∙ ap (there x) (sym (ids_head w.step.parent)) ∙ here_in
 
     parent_before : precedes place.parent x t ≡ true
     parent_before =
         same_within (ids t) _ (ids w.step.parent) _ (preorder t w.step.parent w.path w.up) d place.parent x up_in here_in
-        ∙ (λ i. comes_after (sym w.parent i) x (own_ids w.step.parent i))
+        ∙ (λ i. comes_after (sym w.parent i) x (ids_head w.step.parent i))
         ∙ first_before (head w.step.parent).id x (regions_ids (regions w.step.parent)) here_inner
 
     parent_not_behind : precedes x place.parent t ≡ false
     parent_not_behind =
         same_within (ids t) _ (ids w.step.parent) _ (preorder t w.step.parent w.path w.up) d x place.parent here_in up_in
-        ∙ (λ i. comes_after x (sym w.parent i) (own_ids w.step.parent i))
-        ∙ none_before_first (head w.step.parent).id x (regions_ids (regions w.step.parent)) (subst (IsDistinct eqb) (own_ids w.step.parent) parent_distinct)
+        ∙ (λ i. comes_after x (sym w.parent i) (ids_head w.step.parent i))
+        ∙ none_before_first (head w.step.parent).id x (regions_ids (regions w.step.parent)) (subst (IsDistinct eqb) (ids_head w.step.parent) parent_distinct)
 
     low : (y : ℕ) → (y ≡ place.parent → ⊥) → level_of y t ≤ level_of place.parent t → Absent y (ids w.step.parent)
     low y n l = outside_low w.step.parent w.path w.up y (λ s. n (s ∙ w.parent)) (subst (λ z. level_of y t ≤ level_of z t) (sym w.parent) l)
@@ -316,11 +312,11 @@ module _ {N T A : Type 0} (t : OpOf N T A) (d : HasDistinctIds t) where
       inner_is =
           let v = placed t d a pa ea in
           same_within (ids t) _ (ids v.step.parent) _ (preorder t v.step.parent v.path v.up) d a b (here_in a pa ea) (subst (λ (z : OpOf N T A). Present b (ids z)) one (here_in b pb eb))
-          ∙ ap (comes_after a b) (own_ids v.step.parent)
-          ∙ past_first (head v.step.parent).id a b (regions_ids (regions v.step.parent)) (subst (IsDistinct eqb) (own_ids v.step.parent) (parent_distinct a pa ea)) (here_inner a pa ea)
+          ∙ ap (comes_after a b) (ids_head v.step.parent)
+          ∙ past_first (head v.step.parent).id a b (regions_ids (regions v.step.parent)) (subst (IsDistinct eqb) (ids_head v.step.parent) (parent_distinct a pa ea)) (here_inner a pa ea)
 
       inner_distinct : IsDistinct eqb (regions_ids (regions (w a pa ea).step.parent))
-      inner_distinct = IsDistinct-tail eqb _ _ (subst (IsDistinct eqb) (own_ids (placed t d a pa ea).step.parent) (parent_distinct a pa ea))
+      inner_distinct = IsDistinct-tail eqb _ _ (subst (IsDistinct eqb) (ids_head (placed t d a pa ea).step.parent) (parent_distinct a pa ea))
 
       pub precedes_regions : (pa.region ≡ pb.region → ⊥) → nat_lt pa.region pb.region ≡ precedes a b t
       precedes_regions n = elim (cases_lt pa.region pb.region) [
@@ -344,6 +340,3 @@ module _ {N T A : Type 0} (t : OpOf N T A) (d : HasDistinctIds t) where
   -- a step up of two operations
   pub lifted_step : (left above at : ℕ) (o : Option ℕ) → parent_of left t ≡ Some above → parent_of at t ≡ o → lifted (level_of above t) (or_itself o at) t ≡ lifted (level_of left t) at t
   lifted_step left above at o e f = ap (λ z. lifted (level_of above t) (or_itself z at) t) (sym f) ∙ sym (ap (λ k. lifted k at t) (parent_level left above e))
-
-pub differ : (a b : ℕ) → eqb a b ≡ false → a ≡ b → ⊥
-differ a b e s = true≢false (sym (eq-eqb a b s) ∙ e)

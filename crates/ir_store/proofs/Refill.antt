@@ -1,7 +1,7 @@
 -- A spare slot is written again.
 use Rattle.std.proofs.Common.{◌≡◌, ◌⊎◌, ℕ, ◌+◌, ◌<◌, refl, sym, ap, ◌∙◌, subst, length, Bool, true, false, ⊎_elim, inl, inr, arith, Option, Some, None, slice_get}
 use Rattle.std.specs.Prelude.{option_and_then, nat_lt, if◌then◌else◌}
-use Rattle.std.proofs.lemmas.Bool.{cases_Bool, cases_eq, false≢true}
+use Rattle.std.proofs.lemmas.Bool.{cases_Bool, cases_eq, false≢true, ltb-true}
 use Rattle.std.proofs.lemmas.Bool.Decides.{nat_tests}
 use Rattle.ir_store_reads.specs.Lists.{IsHead, home_at, free}
 use Rattle.ir_store_reads.specs.trees.declared.value.Value.{Value}
@@ -13,13 +13,7 @@ use Rattle.ir_store_reads.specs.Right.{Used, Right}
 use Rattle.ir_store_reads.specs.Index.{argument_head, slot_head, value_head, cell_at, Celled}
 use Rattle.ir_store_reads.specs.Grows.{Parts, Ready}
 use Rattle.ir_store.proofs.Fill.{Named, IsApart}
-
-below : (a b : ℕ) → nat_lt a b ≡ true → a < b
-below a b e = grind (arith, nat_tests)
-
-if_some : (b : Bool) (k q : ℕ) → (if b then Some k else None) ≡ Some q → (b ≡ true) × (k ≡ q)
-if_some true k q e = (refl, cc)
-if_some false k q e = absurd cc
+use Rattle.ir_store_reads.proofs.of_trees.of_types.Truths.{if_some}
 
 -- the cell of a head tells whose it is, so a spare slot's heads are no other's
 module _ (q : Parts) (keys : ℕ → Option ℕ) (root : ℕ) (t : Op) (r : Right q.rows keys q.sibs root t) (c : Celled q.rows q.cells) (bound k x : ℕ) (w : Row) (ready : Ready q keys bound k x w) where
@@ -63,7 +57,7 @@ module _ (q : Parts) (keys : ℕ → Option ℕ) (root : ℕ) (t : Op) (r : Righ
       at : (v : Value) (y : ℕ) → Used q.rows y → slot_head q.rows v y ≡ Some h → Theirs (cell_at q.cells h).0
       at (Result z i) y u f =
           let g = if_some (nat_lt i (length (row_at q.rows y).head.results)) ((row_at q.rows y).values + i) h f in
-          (y, (u, inl (ap (λ b. (cell_at q.cells b).0) (sym g.1) ∙ ap (λ b. b.0) (c.results y i u (below i (length (row_at q.rows y).head.results) g.0)))))
+          (y, (u, inl (ap (λ b. (cell_at q.cells b).0) (sym g.1) ∙ ap (λ b. b.0) (c.results y i u (ltb-true i (length (row_at q.rows y).head.results) g.0)))))
       at (Arg z j i) y u f = shape (slice_get (row_at q.rows y).shapes j) refl f
         where
           shape : (o : Option Shape) → slice_get (row_at q.rows y).shapes j ≡ o → option_and_then (argument_head q.rows i) o ≡ Some h → Theirs (cell_at q.cells h).0
@@ -72,7 +66,7 @@ module _ (q : Parts) (keys : ℕ → Option ℕ) (root : ℕ) (t : Op) (r : Righ
           shape (Some (Some a)) m n =
               let g = if_some (nat_lt i (length a.0)) ((row_at q.rows a.1).values + i) h n in
               let b = r.blocks y j a u m in
-              let s : (cell_at q.cells h).0 ≡ a.1 = ap (λ b. (cell_at q.cells b).0) (sym g.1) ∙ ap (λ b. b.0) (c.arguments y j i a u m (below i (length a.0) g.0)) in
+              let s : (cell_at q.cells h).0 ≡ a.1 = ap (λ b. (cell_at q.cells b).0) (sym g.1) ∙ ap (λ b. b.0) (c.arguments y j i a u m (ltb-true i (length a.0) g.0)) in
               (y, (u, inr (subst (IsHead q.sibs.homes) (sym s) b.head, ap (λ z. (row_at q.rows z).owner) s ∙ b.owner)))
 
       go : (o : Option ℕ) → keys (owner_of v).0 ≡ o → option_and_then (slot_head q.rows v) o ≡ Some h → Theirs (cell_at q.cells h).0

@@ -18,11 +18,7 @@ use Rattle.ir_store_reads.proofs.of_tree_laws.Around.{stands_around, stand_prese
 use Rattle.ir_store.specs.Shifting.{level}
 use Rattle.ir_store.specs.Lifted.{level as old_level}
 use Rattle.ir_store.proofs.Climbing.{placed, level_up}
-
-same_bool : (a b : Bool) → (a ≡ true → b ≡ true) → (b ≡ true → a ≡ true) → a ≡ b
-same_bool true b f g = sym (f refl)
-same_bool false true f g = g refl
-same_bool false false f g = refl
+use Rattle.ir_store_reads.proofs.of_trees.of_types.Truths.{same_bool}
 
 pub differs : (a b : ℕ) → true ≡ not (eqb a b) → a ≡ b → ⊥
 differs a b e f = true≢false (e ∙ ap not (eq-eqb a b f))

@@ -27,9 +27,7 @@ use Rattle.ir_store.proofs.Used.{join_index}
 use Rattle.ir_store_reads.proofs.Wide.{Keyed, wide_index, wide_bound}
 use Rattle.ir_store.proofs.Fill.{bound_apart, fill_index, fill_celled}
 use Rattle.ir_store_reads.proofs.Celled.{celled_edit}
-
-some_same : {X : Type 0} (x y : X) → Some x ≡ Some y → x ≡ y
-some_same x y e = cc
+use Rattle.std.proofs.lemmas.Option.{same_Some}
 
 abbrev pub nothing : Parts
 nothing = record { rows = []; sibs = record { lists = []; homes = []; room = 0 }; homes = []; cells = [] }
@@ -80,7 +78,7 @@ module _ (q : Parts) (wide : Wider nothing q) (few : length q.sibs.homes < free)
 
   key_is : (y j : ℕ) → keys y ≡ Some j → (y ≡ x) × (j ≡ k)
   key_is y j e = ⊎_elim
-      (λ z. (z, some_same j k (sym e ∙ ap keys z ∙ here)))
+      (λ z. (z, same_Some j k (sym e ∙ ap keys z ∙ here)))
       (λ n. (let z : None ≡ Some j = sym (others y n) ∙ e in absurd cc))
       (cases_eq y x)
 

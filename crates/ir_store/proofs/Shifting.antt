@@ -27,6 +27,9 @@ use Rattle.ir_store_reads.proofs.Slots.{Found, found_op, only, root_id}
 use Rattle.ir_store.proofs.Cut.{not_item, head_id, cut_lists}
 use Rattle.ir_store.proofs.Join.{joins, joined_same, joined_other, AtHome, Names, put_spells, has_put, In, within}
 use Rattle.ir_store.proofs.Joining.{Before, Spot}
+use Rattle.std.proofs.lemmas.List.Folds.{list_any-append}
+use Rattle.ir_store_reads.proofs.of_trees.Counts.{and_false}
+use Rattle.std.proofs.lemmas.Option.{same_Some}
 
 -- lists have changed, but those of the operations in a tree that y isn't in
 module _ (rows : List Row) (lists lists' : List (List ℕ)) (y : ℕ)
@@ -65,27 +68,12 @@ module _ (rows : List Row) (lists lists' : List (List ℕ)) (y : ℕ)
     same_ops (k ∷ ks) no_ops n s = absurd s
     same_ops (k ∷ ks) (next o os) n s = let b = neither (has_op y o) (has_ops y os) n in (same_spells k o b.0 s.0, same_ops ks os b.1 s.1)
 
-some_same : {X : Type 0} (x y : X) → Some x ≡ Some y → x ≡ y
-some_same x y e = cc
-
 own_in : (x : ℕ) (o : Op) → (head o).id ≡ x → has_op x o ≡ true
 own_in x (op h rs) e = or_left (eqb h.id x) (has_regions x rs) (eq-eqb h.id x e)
 
 -- an operation isn't inside itself
 untaken : (x : ℕ) (o : Op) → (head o).id ≡ x → HasDistinctIds o → without x o ≡ o
 untaken x (op h rs) e d = ap (op h) (regions_untouched x h.id 0 rs (subst (λ z. Absent z (regions_ids rs)) e (absent_first h.id (regions_ids rs) d)))
-
-any_append : (p : ℕ → Bool) (xs ys : List ℕ) → list_any p (xs ++ ys) ≡ (list_any p xs || list_any p ys)
-any_append p [] ys = refl
-any_append p (x ∷ xs) ys = ap (λ b. p x || b) (any_append p xs ys) ∙ turn (p x) (list_any p xs) (list_any p ys)
-  where
-    turn : (a b c : Bool) → (a || (b || c)) ≡ ((a || b) || c)
-    turn true b c = refl
-    turn false b c = refl
-
-both_false : (b : Bool) → (b && false) ≡ false
-both_false true = refl
-both_false false = refl
 
 module _ (rows : List Row) (keys : ℕ → Option ℕ) (sibs : Lists) (root : ℕ) (t : Op) (r : Right rows keys sibs root t) (s : SpellsOp rows sibs.lists root t) (d : HasDistinctIds t)
     (x k : ℕ) (fd : Found rows x k) (place : Place) (a : List ℕ × ℕ) (at : Option ℕ) (spot : Spot rows sibs.homes place a at) (can : CanRelink x place t) where
@@ -111,14 +99,14 @@ module _ (rows : List Row) (keys : ℕ → Option ℕ) (sibs : Lists) (root : �
   parent_out = has_is place.parent o ∙ (neither (is_within place.parent (Some o)) (before_within place.before (Some o)) outside).0
 
   same_slot : (q p y : ℕ) → Used rows q → (row_at rows q).head.id ≡ y → Used rows p → (row_at rows p).head.id ≡ y → q ≡ p
-  same_slot q p y uq eq up ep = some_same q p (sym (r.keyed q uq) ∙ ap keys (eq ∙ sym ep) ∙ r.keyed p up)
+  same_slot q p y uq eq up ep = same_Some q p (sym (r.keyed q uq) ∙ ap keys (eq ∙ sym ep) ∙ r.keyed p up)
 
   -- the slot before which it goes is another
   other : (c b : Option ℕ) → Before rows sibs.homes a.1 c b → before_within b (Some o) ≡ false → (q : ℕ) → c ≡ Some q → q ≡ k → ⊥
   other None b z n q e f = absurd cc
   other (Some p) None z n q e f = absurd z
   other (Some p) (Some b) z n q e f =
-      let id : x ≡ b = sym fd.id ∙ ap (λ w. (row_at rows w).head.id) (sym (some_same p q e ∙ f)) ∙ z.0.id in
+      let id : x ≡ b = sym fd.id ∙ ap (λ w. (row_at rows w).head.id) (sym (same_Some p q e ∙ f)) ∙ z.0.id in
       false≢true (sym (has_is b o ∙ n) ∙ subst (λ y. has_op y o ≡ true) id (own_in x o own_id))
 
   other_slot : (q : ℕ) → at ≡ Some q → q ≡ k → ⊥
@@ -202,7 +190,7 @@ module _ (rows : List Row) (keys : ℕ → Option ℕ) (sibs : Lists) (root : �
           let m : Some (Some c) ≡ Some (Some a) = sym e ∙ ap (λ v. slice_get (row_at rows v).shapes i) p ∙ ap (slice_get (row_at rows spot.parent).shapes) g ∙ spot.shape in
           let n : c ≡ a = cc in
           absurd (y (ap (λ v. v.1) n)))
-          (λ g. rw (ne_eqb i place.region g) (both_false (eqb (row_at rows q).head.id place.parent)))
+          (λ g. rw (ne_eqb i place.region g) (and_false (eqb (row_at rows q).head.id place.parent)))
           (cases_eq i place.region))
           (λ f. rw (ne_eqb (row_at rows q).head.id place.parent f) refl)
           (cases_eq (row_at rows q).head.id place.parent)
@@ -244,8 +232,8 @@ module _ (rows : List Row) (keys : ℕ → Option ℕ) (sibs : Lists) (root : �
           let w = taken_order x t o d own.1.0 can.inner in
           let test = λ (z : ℕ). eqb z y in
           let all : (list_any test w.0 || (list_any test (ids o) || list_any test w.1)) ≡ true =
-          sym (ap (list_any test) w.2 ∙ any_append test w.0 (ids o ++ w.1) ∙ ap (λ b. list_any test w.0 || b) (any_append test (ids o) w.1)) ∙ e in
-          let left : has_id y (without x t) ≡ (list_any test w.0 || list_any test w.1) = ap (list_any test) w.3 ∙ any_append test w.0 w.1 in
+          sym (ap (list_any test) w.2 ∙ list_any-append test w.0 (ids o ++ w.1) ∙ ap (λ b. list_any test w.0 || b) (list_any-append test (ids o) w.1)) ∙ e in
+          let left : has_id y (without x t) ≡ (list_any test w.0 || list_any test w.1) = ap (list_any test) w.3 ∙ list_any-append test w.0 w.1 in
           let rest : has_id y (without x t) ≡ true → has_op y after ≡ true = λ f. has_put place o y (without x t) (has_is y (without x t) ∙ f) in
           let inside : has_id y o ≡ true → has_op y after ≡ true =
           λ f. within x y after (subst (In x y) (sym (shift_found x place t o d own.1.0 can.inner can.spot outside ∙ own.1.0)) (has_is y o ∙ f)) in

@@ -9,10 +9,8 @@ use Rattle.ir_store_reads.specs.tree_laws.Values.{region_at}
 use Rattle.ir_store_reads.specs.tree_laws.Reads.{is_among, goes_before, comes_after}
 use Rattle.ir_store_reads.proofs.of_tree_laws.Listed.{bool_cases, neither, either, or_left}
 use Rattle.ir_store.proofs.After.{there, in_front, in_back, skip, hit, never_later, cut_back, not_itself}
-
-both_false : (b : Bool) → cond b false false ≡ false
-both_false true = refl
-both_false false = refl
+use Rattle.ir_store_reads.proofs.of_trees.of_types.Truths.{both_false}
+use Rattle.ir_store_reads.proofs.of_trees.Facts.{ids_head}
 
 -- what isn't in the back of a list without doubles
 other : (y : ℕ) (xs ys : List ℕ) → ((z : ℕ) → Present z xs → Absent z ys) → Present y ys → Absent y xs
@@ -21,9 +19,6 @@ other y xs ys f h = elim (bool_cases (there y xs)) [ inr k ↦ k | inl k ↦ abs
 module _ {N T A : Type 0} where
   pub own_present : (o : OpOf N T A) → Present (head o).id (ids o)
   own_present (op h rs) = or_left (eqb h.id h.id) (there h.id (regions_ids rs)) (eq-eqb h.id h.id refl)
-
-  pub own_ids : (o : OpOf N T A) → ids o ≡ (head o).id ∷ regions_ids (regions o)
-  own_ids (op h rs) = refl
 
   among_ids : (y : ℕ) (os : OpsOf N T A) → is_among y os ≡ true → Present y (ops_ids os)
   among_ids y no_ops e = absurd (true≢false (sym e))

@@ -2,7 +2,7 @@
 use Rattle.std.proofs.Common.{◌≡◌, ℕ, ◌<◌, List, set, get_or, refl, sym, ap, ◌∙◌, subst, length, Bool, true, false, eqb, not, ◌&&◌, cond, Option, Some, None, slice_get, ⊎_elim, arith}
 use Rattle.std.specs.Prelude.{option_and_then}
 use Rattle.std.specs.FinMap as finmap
-use Rattle.std.proofs.lemmas.Bool.{cases_eq, eqb-true, false≢true}
+use Rattle.std.proofs.lemmas.Bool.{cases_eq, eqb-true, false≢true, and_parts, not-true}
 use Rattle.ir_store_reads.specs.Lists.{Lists, Laws, home_at, free, IsHead, IsItem, IsFree}
 use Rattle.ir_store_reads.specs.trees.declared.place.Place.{Place}
 use Rattle.ir_store_reads.specs.trees.Tree.{Op}
@@ -22,21 +22,7 @@ use Rattle.ir_store_reads.specs.trees.Ids.{HasDistinctIds, has_id}
 use Rattle.ir_store_reads.proofs.Founds.{has_is}
 use Rattle.ir_store.proofs.Distinct.{bare_distinct}
 use Rattle.ir_store.proofs.Joining.{x_out, FoundHeld, Before, Spot, spot_head, slot_free, join_spells, join_right, join_holds, was_held, join_gone}
-
-both : (a b : Bool) → (a && b) ≡ true → (a ≡ true) × (b ≡ true)
-both true b e = (refl, e)
-both false b e = absurd (false≢true e)
-
-if_some : {X : Type 0} (b : Bool) (k q : X) → cond b (Some k) None ≡ Some q → (b ≡ true) × (k ≡ q)
-if_some true k q e = (refl, cc)
-if_some false k q e = absurd cc
-
-some_one : {X : Type 0} (x y : X) → Some x ≡ Some y → x ≡ y
-some_one x y e = cc
-
-not_true : (b : Bool) → not b ≡ true → b ≡ false
-not_true true e = absurd (false≢true e)
-not_true false e = refl
+use Rattle.std.proofs.lemmas.Option.{cond_some, same_Some}
 
 module _ (rows : List Row) (keys : ℕ → Option ℕ) (sibs : Lists) (root : ℕ) (t : Op) (r : Right rows keys sibs root t) (s : SpellsOp rows sibs.lists root t) where
   pub held_found : (x k : ℕ) → Some k ≡ held_slot rows keys x → FoundHeld rows x k
@@ -45,10 +31,10 @@ module _ (rows : List Row) (keys : ℕ → Option ℕ) (sibs : Lists) (root : �
       go : (o : Option ℕ) → keys x ≡ o → if_held rows o ≡ Some k → FoundHeld rows x k
       go None f g = absurd cc
       go (Some q) f g =
-          let b = if_some ((row_at rows q).used && not (row_at rows q).live) q k g in
-          let c = both (row_at rows q).used (not (row_at rows q).live) b.0 in
+          let b = cond_some ((row_at rows q).used && not (row_at rows q).live) q k g in
+          let c = and_parts (row_at rows q).used (not (row_at rows q).live) b.0 in
           let h = r.known x q f in
-          subst (FoundHeld rows x) b.1 (record { used = h.used; out = not_true (row_at rows q).live c.1; id = h.id })
+          subst (FoundHeld rows x) b.1 (record { used = h.used; out = not-true (row_at rows q).live c.1; id = h.id })
 
   -- a live slot whose home is a head stands in its list
   pub item_of : (q n : ℕ) → Live rows q → IsHead sibs.homes n → home_at sibs.homes q ≡ n → IsItem sibs.homes q
@@ -62,14 +48,14 @@ module _ (rows : List Row) (keys : ℕ → Option ℕ) (sibs : Lists) (root : �
     Spotted = (a : List ℕ × ℕ) × ((a.1 ≡ n) × Spot rows sibs.homes place a at)
 
     befores : (h : IsHead sibs.homes n) (b : Option ℕ) → before_in rows keys sibs.homes b n ≡ Some (n, at) → Before rows sibs.homes n at b
-    befores h None e = let f : None ≡ at = ap (λ z. z.1) (some_one (n, None) (n, at) e) in subst (λ z. Before rows sibs.homes n z None) f tt
+    befores h None e = let f : None ≡ at = ap (λ z. z.1) (same_Some (n, None) (n, at) e) in subst (λ z. Before rows sibs.homes n z None) f tt
     befores h (Some b) e = go (live_slot rows keys b) refl e
       where
         go : (o : Option ℕ) → live_slot rows keys b ≡ o → option_and_then (at_slot sibs.homes n) o ≡ Some (n, at) → Before rows sibs.homes n at (Some b)
         go None f g = absurd cc
         go (Some q) f g =
-            let w = if_some (stands sibs.homes n q) (n, Some q) (n, at) g in
-            let c = both (not (eqb (home_at sibs.homes q) free)) (eqb (home_at sibs.homes q) n) w.0 in
+            let w = cond_some (stands sibs.homes n q) (n, Some q) (n, at) g in
+            let c = and_parts (not (eqb (home_at sibs.homes q) free)) (eqb (home_at sibs.homes q) n) w.0 in
             let e = eqb-true (home_at sibs.homes q) n c.1 in
             let fd = found rows keys sibs root t r s b q f in
             let same : Some q ≡ at = ap (λ z. z.1) w.1 in
@@ -84,12 +70,12 @@ module _ (rows : List Row) (keys : ℕ → Option ℕ) (sibs : Lists) (root : �
         go (Some p) f g = shape (slice_get (row_at rows p).shapes place.region) refl g
           where
             first : (b : Option ℕ) (m : ℕ) → before_in rows keys sibs.homes b m ≡ Some (n, at) → m ≡ n
-            first None m e = ap (λ z. z.0) (some_one (m, None) (n, at) e)
+            first None m e = ap (λ z. z.0) (same_Some (m, None) (n, at) e)
             first (Some b) m e = one (live_slot rows keys b) e
               where
                 one : (o : Option ℕ) → option_and_then (at_slot sibs.homes m) o ≡ Some (n, at) → m ≡ n
                 one None e = absurd cc
-                one (Some q) e = ap (λ z. z.0) (if_some (stands sibs.homes m q) (m, Some q) (n, at) e).1
+                one (Some q) e = ap (λ z. z.0) (cond_some (stands sibs.homes m q) (m, Some q) (n, at) e).1
 
             shape : (c : Option Shape) → slice_get (row_at rows p).shapes place.region ≡ c → option_and_then (λ a. option_and_then (before_in rows keys sibs.homes place.before) (head_in a)) c ≡ Some (n, at) → Spotted
             shape None h e = absurd cc

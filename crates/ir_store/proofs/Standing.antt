@@ -18,10 +18,7 @@ use Rattle.ir_store_reads.proofs.Mapped.{has_op, has_regions, has_region, has_op
 use Rattle.ir_store_reads.proofs.Founds.{has_is_regions}
 use Rattle.ir_store_reads.proofs.Slots.{Found, found, only, there, missing}
 use Rattle.ir_store.proofs.Cut.{head_id, live_of}
-
-either : (a b : Bool) → (a || b) ≡ true → a ≡ false → b ≡ true
-either true b e n = absurd (false≢true (sym n))
-either false b e n = e
+use Rattle.ir_store_reads.proofs.of_trees.of_types.Truths.{either}
 
 -- what isn't in a tree has no place in it
 module _ (x : ℕ) where

@@ -24,7 +24,8 @@ use Rattle.ir_store_reads.proofs.Founds.{has_is}
 use Rattle.ir_store.proofs.Distinct.{bare_own, bare_count, bare_apart}
 use Rattle.ir_store_reads.proofs.Slots.{found, found_op, in_tree_is, live_inside, only, root_id, root_live}
 use Rattle.ir_store.proofs.Taking.{IsLeaf}
-use Rattle.ir_store.proofs.Unused.{Passes, all_get, every_find}
+use Rattle.ir_store.proofs.Unused.{Passes, every_find}
+use Rattle.ir_store_reads.proofs.of_trees.of_types.WordNumbers.{all_at}
 
 any_at : (rows : List Row) (k y : ℕ) → k < length rows → (row_at rows k).head.id ≡ y → list_any (λ z. eqb z y) (map (λ r. r.head.id) rows) ≡ true
 any_at [] k y l e = absurd (omega (arith, l))
@@ -109,7 +110,7 @@ module _ (rows : List Row) (keys : ℕ → Option ℕ) (sibs : Lists) (root : �
       let slot : live_slot rows keys id ≡ Some q = ap (if_live rows) (r.keyed q (r.live_used q l)) ∙ rw l.live refl in
       let o = found_op rows keys sibs root t r s id q (found rows keys sibs root t r s id q slot) in
       let z : leaves x (head o.0) ≡ true = subst (Passes (leaves x)) o.1.0 (every_find (leaves x) id t u) in
-      let p : not (eqb (owner_of v).0 x) ≡ true = all_get (λ w. not (eqb (owner_of w).0 x)) (head o.0).operands j v z (ap (λ d. slice_get d.operands j) (sym (head_is q o.0 o.1.1)) ∙ e) in
+      let p : not (eqb (owner_of v).0 x) ≡ true = all_at (λ w. not (eqb (owner_of w).0 x)) (head o.0).operands j v z (ap (λ d. slice_get d.operands j) (sym (head_is q o.0 o.1.1)) ∙ e) in
       false≢true (sym (ap not (eq-eqb (owner_of v).0 x f)) ∙ p)
 
   -- an operation is taken

@@ -2,7 +2,7 @@
 use Rattle.std.proofs.Common.{◌≡◌, ℕ, zero, suc, ◌+◌, ◌<◌, List, [], ◌∷◌, refl, sym, ap, ◌∙◌, subst, length, Bool, true, false, eqb, not, ◌&&◌, ⊎_elim, ◌⊎◌, arith, Option, Some, None, slice_get}
 use Rattle.std.specs.Prelude.{option_and_then, nat_lt, if◌then◌else◌, Result, Ok, Err}
 use Rattle.std.specs.List.{list_all}
-use Rattle.std.proofs.lemmas.Bool.{eq-eqb, eqb-true, cases_Bool, false≢true, and_cases}
+use Rattle.std.proofs.lemmas.Bool.{eq-eqb, eqb-true, cases_Bool, false≢true, and_cases, ltb-true, and_parts}
 use Rattle.std.proofs.lemmas.Bool.Decides.{nat_tests}
 use Rattle.ir_store_reads.specs.Lists.{Lists, Laws, has, list_at, home_at, free, IsHead, IsItem}
 use Rattle.ir_store_reads.proofs.Around.{home_inside}
@@ -24,13 +24,9 @@ use Rattle.ir_store_reads.specs.Index.{operand_at, use_at, argument_head, slot_h
 use Rattle.ir_store_reads.proofs.Slots.{Found, found, found_op}
 use Rattle.ir_store.proofs.Taking.{IsLeaf, planned}
 use Rattle.ir_store_reads.proofs.Idle.{is_below}
-
-pub both_true : (a b : Bool) → (a && b) ≡ true → (a ≡ true) × (b ≡ true)
-both_true true b e = (refl, e)
-both_true false b e = absurd (false≢true e)
-
-pub some_one : {X : Type 0} (x y : X) → Some x ≡ Some y → x ≡ y
-some_one x y e = cc
+use Rattle.ir_store_reads.proofs.of_trees.of_types.Truths.{all_at, if_some}
+use Rattle.ir_store_reads.proofs.of_trees.of_types.WordNumbers.{all_at as all_get}
+use Rattle.std.proofs.lemmas.Option.{same_Some}
 
 -- tests of each operation
 module _ (f : Head → Bool) where
@@ -65,7 +61,7 @@ module _ (f : Head → Bool) where
   module _ (x : ℕ) where
     mutual
       pub every_find : (t : Op) → every (λ o. f (head o)) t ≡ true → Passes (find x t)
-      every_find (op h rs) e = let b = both_true (f h) (regions_every (λ o. f (head o)) rs) e in go (eqb h.id x) b.0 (every_find_regions rs b.1)
+      every_find (op h rs) e = let b = and_parts (f h) (regions_every (λ o. f (head o)) rs) e in go (eqb h.id x) b.0 (every_find_regions rs b.1)
         where
           go : (c : Bool) → f h ≡ true → Passes (regions_find x rs) → Passes (if c then Some (op h rs) else regions_find x rs)
           go true p q = p
@@ -74,7 +70,7 @@ module _ (f : Head → Bool) where
       every_find_regions : (rs : Regions) → regions_every (λ o. f (head o)) rs ≡ true → Passes (regions_find x rs)
       every_find_regions no_regions e = tt
       every_find_regions (region g rs) e =
-          let b = both_true (region_every (λ o. f (head o)) g) (regions_every (λ o. f (head o)) rs) e in
+          let b = and_parts (region_every (λ o. f (head o)) g) (regions_every (λ o. f (head o)) rs) e in
           first_passes (region_find x g) (regions_find x rs) (every_find_region g b.0) (every_find_regions rs b.1)
 
       every_find_region : (g : Region) → region_every (λ o. f (head o)) g ≡ true → Passes (region_find x g)
@@ -84,26 +80,16 @@ module _ (f : Head → Bool) where
       every_find_ops : (os : Ops) → ops_every (λ o. f (head o)) os ≡ true → Passes (ops_find x os)
       every_find_ops no_ops e = tt
       every_find_ops (next o os) e =
-          let b = both_true (every (λ o. f (head o)) o) (ops_every (λ o. f (head o)) os) e in
+          let b = and_parts (every (λ o. f (head o)) o) (ops_every (λ o. f (head o)) os) e in
           first_passes (find x o) (ops_find x os) (every_find o b.0) (every_find_ops os b.1)
-
--- lists
-pub all_at : {X : Type 0} (p : X → Bool) (xs : List X) → ((j : ℕ) (v : X) → slice_get xs j ≡ Some v → p v ≡ true) → list_all p xs ≡ true
-all_at p [] f = refl
-all_at p (x ∷ xs) f = rw (f 0 x refl) (all_at p xs (λ j. f (suc j)))
-
-pub all_get : {X : Type 0} (p : X → Bool) (xs : List X) (j : ℕ) (v : X) → list_all p xs ≡ true → slice_get xs j ≡ Some v → p v ≡ true
-all_get p [] j v e f = absurd cc
-all_get p (x ∷ xs) zero v e f = let b = both_true (p x) (list_all p xs) e in ap p (sym (some_one x v f)) ∙ b.0
-all_get p (x ∷ xs) (suc j) v e f = let b = both_true (p x) (list_all p xs) e in all_get p xs j v b.1 f
 
 -- heads of values of one slot
 module _ (rows : List Row) (lists : List (List ℕ)) where
   idle_at : (b n i : ℕ) → all_idle lists b n ≡ true → i < n → is_nil (list_at lists (b + i)) ≡ true
   idle_at b zero i e l = absurd (omega (arith, l))
-  idle_at b (suc n) zero e l = ap (λ z. is_nil (list_at lists z)) (omega arith) ∙ (both_true (is_nil (list_at lists b)) (all_idle lists (b + 1) n) e).0
+  idle_at b (suc n) zero e l = ap (λ z. is_nil (list_at lists z)) (omega arith) ∙ (and_parts (is_nil (list_at lists b)) (all_idle lists (b + 1) n) e).0
   idle_at b (suc n) (suc i) e l =
-      ap (λ z. is_nil (list_at lists z)) (omega arith) ∙ idle_at (b + 1) n i (both_true (is_nil (list_at lists b)) (all_idle lists (b + 1) n) e).1 (omega (arith, l))
+      ap (λ z. is_nil (list_at lists z)) (omega arith) ∙ idle_at (b + 1) n i (and_parts (is_nil (list_at lists b)) (all_idle lists (b + 1) n) e).1 (omega (arith, l))
 
   busy_at : (b n : ℕ) → all_idle lists b n ≡ false → (i : ℕ) × ((i < n) × (is_nil (list_at lists (b + i)) ≡ false))
   busy_at b zero e = absurd (false≢true (sym e))
@@ -118,8 +104,8 @@ module _ (rows : List Row) (lists : List (List ℕ)) where
   args_at (None ∷ xs) (suc r) a e f = args_at xs r a e f
   args_at (Some c ∷ xs) zero a e f =
       let same : c ≡ a = cc in
-      subst (λ z. all_idle lists (row_at rows z.1).values (length z.0) ≡ true) same (both_true (all_idle lists (row_at rows c.1).values (length c.0)) (args_idle rows lists xs) e).0
-  args_at (Some c ∷ xs) (suc r) a e f = args_at xs r a (both_true (all_idle lists (row_at rows c.1).values (length c.0)) (args_idle rows lists xs) e).1 f
+      subst (λ z. all_idle lists (row_at rows z.1).values (length z.0) ≡ true) same (and_parts (all_idle lists (row_at rows c.1).values (length c.0)) (args_idle rows lists xs) e).0
+  args_at (Some c ∷ xs) (suc r) a e f = args_at xs r a (and_parts (all_idle lists (row_at rows c.1).values (length c.0)) (args_idle rows lists xs) e).1 f
 
   abbrev BusyArg : List Shape → Type 0
   BusyArg xs = (r : ℕ) × ((a : List ℕ × ℕ) × ((slice_get xs r ≡ Some (Some a)) × (all_idle lists (row_at rows a.1).values (length a.0) ≡ false)))
@@ -132,28 +118,21 @@ module _ (rows : List Row) (lists : List (List ℕ)) where
       (λ f. let w = busy_arg xs f in (suc w.0, (w.1.0, (w.1.1.0, w.1.1.1))))
       (and_cases (all_idle lists (row_at rows c.1).values (length c.0)) (args_idle rows lists xs) e)
 
-  if_some : (b : Bool) (k q : ℕ) → (if b then Some k else None) ≡ Some q → (b ≡ true) × (k ≡ q)
-  if_some true k q e = (refl, cc)
-  if_some false k q e = absurd cc
-
-  below : (a b : ℕ) → nat_lt a b ≡ true → a < b
-  below a b e = grind (arith, nat_tests)
-
   -- the list of a value's head is empty, where the slot is idle
   pub idle_value : (k : ℕ) → row_idle rows lists k ≡ true → (v : Value) (h : ℕ) → slot_head rows v k ≡ Some h → is_nil (list_at lists h) ≡ true
   idle_value k e (ResultOf x i) h f =
-      let b = both_true (all_idle lists (row_at rows k).values (length (row_at rows k).head.results)) (args_idle rows lists (row_at rows k).shapes) e in
+      let b = and_parts (all_idle lists (row_at rows k).values (length (row_at rows k).head.results)) (args_idle rows lists (row_at rows k).shapes) e in
       let g = if_some (nat_lt i (length (row_at rows k).head.results)) ((row_at rows k).values + i) h f in
-      subst (λ z. is_nil (list_at lists z) ≡ true) g.1 (idle_at (row_at rows k).values (length (row_at rows k).head.results) i b.0 (below i (length (row_at rows k).head.results) g.0))
+      subst (λ z. is_nil (list_at lists z) ≡ true) g.1 (idle_at (row_at rows k).values (length (row_at rows k).head.results) i b.0 (ltb-true i (length (row_at rows k).head.results) g.0))
   idle_value k e (Arg x r i) h f = go (slice_get (row_at rows k).shapes r) refl f
     where
       go : (o : Option Shape) → slice_get (row_at rows k).shapes r ≡ o → option_and_then (argument_head rows i) o ≡ Some h → is_nil (list_at lists h) ≡ true
       go None m f = absurd cc
       go (Some None) m f = absurd cc
       go (Some (Some a)) m f =
-          let b = both_true (all_idle lists (row_at rows k).values (length (row_at rows k).head.results)) (args_idle rows lists (row_at rows k).shapes) e in
+          let b = and_parts (all_idle lists (row_at rows k).values (length (row_at rows k).head.results)) (args_idle rows lists (row_at rows k).shapes) e in
           let g = if_some (nat_lt i (length a.0)) ((row_at rows a.1).values + i) h f in
-          subst (λ z. is_nil (list_at lists z) ≡ true) g.1 (idle_at (row_at rows a.1).values (length a.0) i (args_at (row_at rows k).shapes r a b.1 m) (below i (length a.0) g.0))
+          subst (λ z. is_nil (list_at lists z) ≡ true) g.1 (idle_at (row_at rows a.1).values (length a.0) i (args_at (row_at rows k).shapes r a b.1 m) (ltb-true i (length a.0) g.0))
 
   -- a value of the slot that is used, where it isn't idle
   pub record Busy (k x : ℕ) : Type 0 where

@@ -19,24 +19,11 @@ use Rattle.ir_store_reads.specs.Index.{slot_head, result_head, argument_head, va
 use Rattle.ir_store_reads.proofs.Slots.{found, found_op, none_found, slot_of_live}
 use Rattle.ir_store.proofs.Cut.{head_id, live_of}
 use Rattle.ir_store.proofs.Spotted.{item_of}
+use Rattle.ir_store_reads.proofs.of_tree_laws.Neighbours.{some_got}
 
 some_test : (b : Bool) (k : ℕ) → is_some (if b then Some k else None) ≡ b
 some_test true k = refl
 some_test false k = refl
-
-some_get : {X : Type 0} (xs : List X) (i : ℕ) → is_some (slice_get xs i) ≡ nat_lt i (length xs)
-some_get [] i = sym (none i)
-  where
-    none : (i : ℕ) → nat_lt i 0 ≡ false
-    none i = grind (arith, nat_tests)
-some_get (x ∷ xs) zero = sym (first (length xs))
-  where
-    first : (n : ℕ) → nat_lt 0 (suc n) ≡ true
-    first n = grind (arith, nat_tests)
-some_get (x ∷ xs) (suc i) = some_get xs i ∙ sym (both i (length xs))
-  where
-    both : (i n : ℕ) → nat_lt (suc i) (suc n) ≡ nat_lt i n
-    both i n = grind (arith, nat_tests)
 
 module _ (rows : List Row) (keys : ℕ → Option ℕ) (sibs : Lists) (root : ℕ) (t : Op) (r : Right rows keys sibs root t) (s : SpellsOp rows sibs.lists root t) where
   args_are : (i n : ℕ) (xs : List Shape) (rs : Regions) → SpellsRegions rows sibs.lists xs rs → is_some (option_and_then (argument_head rows i) (slice_get xs n)) ≡ is_some (option_and_then (λ args. slice_get args i) (option_and_then arguments_of (region_at n rs)))
@@ -46,7 +33,7 @@ module _ (rows : List Row) (keys : ℕ → Option ℕ) (sibs : Lists) (root : �
   args_are i zero (None ∷ xs) (region empty rs) z = refl
   args_are i zero (None ∷ xs) (region (block args os) rs) z = absurd z.0
   args_are i zero (Some a ∷ xs) (region empty rs) z = absurd z.0
-  args_are i zero (Some a ∷ xs) (region (block args os) rs) z = some_test (nat_lt i (length a.0)) ((row_at rows a.1).values + i) ∙ sym (some_get a.0 i) ∙ ap (λ l. is_some (slice_get l i)) z.0.0
+  args_are i zero (Some a ∷ xs) (region (block args os) rs) z = some_test (nat_lt i (length a.0)) ((row_at rows a.1).values + i) ∙ sym (some_got a.0 i) ∙ ap (λ l. is_some (slice_get l i)) z.0.0
   args_are i (suc n) (a ∷ xs) (region g rs) z = args_are i n xs rs z.1
 
   -- whether the tree has a value
@@ -54,7 +41,7 @@ module _ (rows : List Row) (keys : ℕ → Option ℕ) (sibs : Lists) (root : �
   value_is (Result x i) = go (live_slot rows keys x) refl
     where
       in_op : (q : ℕ) (o : Op) → SpellsOp rows sibs.lists q o → is_some (result_head i (row_at rows q)) ≡ is_some (slice_get (head o).results i)
-      in_op q (op h rs) z = some_test (nat_lt i (length (row_at rows q).head.results)) ((row_at rows q).values + i) ∙ sym (some_get (row_at rows q).head.results i) ∙ ap (λ l. is_some (slice_get l.results i)) z.1.0
+      in_op q (op h rs) z = some_test (nat_lt i (length (row_at rows q).head.results)) ((row_at rows q).values + i) ∙ sym (some_got (row_at rows q).head.results i) ∙ ap (λ l. is_some (slice_get l.results i)) z.1.0
 
       go : (o : Option ℕ) → live_slot rows keys x ≡ o → is_some (option_and_then (slot_head rows (Result x i)) o) ≡ has_value (Result x i) t
       go None e = rw (none_found rows keys sibs root t r s x e) refl

@@ -44,7 +44,6 @@ use Rattle.ir_store.specs.Holds.{HoldsOf, GoneOf}
 use Rattle.ir_store_reads.specs.Spots.{spot_in, joined}
 use Rattle.ir_store_reads.specs.Index.{CanLead, operand_at, use_at}
 use Rattle.ir_store_reads.proofs.Slots.{operand_found}
-use Rattle.ir_store.proofs.Unused.{all_get}
 use Rattle.ir_store.proofs.Used.{can_lead, join_index, use_item, write_index}
 use Rattle.ir_store.proofs.Valued.{value_is, place_is}
 use Rattle.ir_store_reads.proofs.Heads.{live_head}
@@ -59,6 +58,8 @@ use Rattle.ir_store.proofs.Called.{rows_in, keys_in, stored, cut_tree, write_tre
 use Rattle.ir_store.proofs.OneRow.{put_own, put_other}
 use Rattle.ir_store_reads.specs.Marks.{mark, home_of, node_of_slot}
 use Rattle.ir_store_reads.proofs.Marking.{marked_edit, marked_same}
+use Rattle.ir_store_reads.proofs.of_trees.of_types.WordNumbers.{all_at}
+use Rattle.ir_store_reads.proofs.of_tree_laws.Reasoned.{some_there}
 
 abbrev pub Whole : Inside → Type 0
 Whole a = Fits (rows_in a) (keys_in a) a.sibs a.root a.spelled.0 a.uses.homes (cells_of a.cells.items) a.count a.next a.marks.homes
@@ -142,10 +143,6 @@ module _ (a : Inside) (w : Whole a) (x : ℕ) (newest : a.next ≡ x + 1) (out :
         celled = w.celled;
       })
 
-pub some_of : {X : Type 0} (o : Option X) → is_some o ≡ true → (x : X) × (o ≡ Some x)
-some_of None e = absurd (false≢true e)
-some_of (Some x) e = (x, refl)
-
 -- an operation is put back
 module _ (a : Inside) (w : Whole a) (laws : Laws a.sibs.lists a.sibs.homes) (x : ℕ) (place : Place) (fresh : Bool) (can : CanRestore x place fresh (stored a)) where
   held_there : is_some (held_slot (rows_in a) (keys_in a) x) ≡ true
@@ -174,12 +171,12 @@ module _ (a : Inside) (w : Whole a) (laws : Laws a.sibs.lists a.sibs.homes) (x :
     owners_there i v e =
         value_owner (rows_in a) (live_slot (rows_in a) (keys_in a)) v
         (value_is (rows_in a) (keys_in a) a.sibs a.root a.spelled.0 w.right a.spelled.1 v
-        ∙ all_get (λ z. has_value z a.spelled.0) (row_at (rows_in a) k).head.operands i v (can.values (bare (row_at (rows_in a) k)) held_is) e)
+        ∙ all_at (λ z. has_value z a.spelled.0) (row_at (rows_in a) k).head.operands i v (can.values (bare (row_at (rows_in a) k)) held_is) e)
 
     heads_there : (i : ℕ) (v : Value) → operand_at (rows_in a) k i ≡ Some v → (h : ℕ) × (value_head (rows_in a) (keys_in a) v ≡ Some h)
     heads_there i v e =
-        let p = all_get (λ z. has_value z a.spelled.0) (row_at (rows_in a) k).head.operands i v (can.values (bare (row_at (rows_in a) k)) held_is) e in
-        let y = some_of (value_head (rows_in a) (live_slot (rows_in a) (keys_in a)) v) (value_is (rows_in a) (keys_in a) a.sibs a.root a.spelled.0 w.right a.spelled.1 v ∙ p) in
+        let p = all_at (λ z. has_value z a.spelled.0) (row_at (rows_in a) k).head.operands i v (can.values (bare (row_at (rows_in a) k)) held_is) e in
+        let y = some_there (value_head (rows_in a) (live_slot (rows_in a) (keys_in a)) v) (value_is (rows_in a) (keys_in a) a.sibs a.root a.spelled.0 w.right a.spelled.1 v ∙ p) in
         (y.0, live_head (rows_in a) (keys_in a) v y.0 y.1)
 
     pub restore_lead : CanLead (value_head (rows_in a) (keys_in a)) (row_at (rows_in a) k).uses (row_at (rows_in a) k).head.operands a.uses.homes

@@ -1,7 +1,7 @@
 -- The order of the keys of a context, by their bytes.
 use Rattle.std.proofs.Common.{◌≡◌, ℕ, List, [], ◌∷◌, refl, sym, ap, ◌∙◌, Bool, true, false, eqb, ◌&&◌, ◌||◌, not, ⊎_elim, Some}
 use Rattle.std.specs.Prelude.{is_some}
-use Rattle.std.proofs.lemmas.Bool.{ne_eqb, false≢true, cases_Bool, cond-true, cond-false}
+use Rattle.std.proofs.lemmas.Bool.{ne_eqb, false≢true, cases_Bool, cond-true, cond-false, and_parts}
 use Rattle.ir_tree_laws.specs.types.Things.{Things}
 use Rattle.ir_tree_laws.specs.types.Terms.{name_term}
 use Rattle.ir_tree_laws.specs.trees.Edits.{entry_at, same_key}
@@ -16,11 +16,6 @@ pub record Order (before : ℕ → ℕ → Bool) : Type 0 where
 
 pub context_order : (c : Things) → Order (key_before_in c)
 context_order c = record { irr = λ k. keys_ordered.irr (name_term c k); trans = key_before_trans c }
-
-both : (p q : Bool) → (p && q) ≡ true → (p ≡ true) × (q ≡ true)
-both true true e = (refl, refl)
-both true false e = absurd (false≢true e)
-both false q e = absurd (false≢true e)
 
 module _ (before : ℕ → ℕ → Bool) (o : Order before) where
   -- keys of which one comes before the other are two
@@ -45,10 +40,10 @@ module _ (before : ℕ → ℕ → Bool) (o : Order before) where
   pub none_after : (k l : ℕ) (es : List (ℕ × ℕ)) → before k l ≡ true → rises_after before l es ≡ true → has_key k es ≡ false
   none_after k l [] e r = refl
   none_after k l (x ∷ es) e r =
-      let b = both (before l x.0) (rises_after before x.0 es) r in
+      let b = and_parts (before l x.0) (rises_after before x.0 es) r in
       let here = o.trans k l x.0 e b.0 in
       ap (λ z. z || has_key k es) (apart' k x.0 here) ∙ none_after k x.0 es here b.1
 
 pub rises_rest : (before : ℕ → ℕ → Bool) (e : ℕ × ℕ) (es : List (ℕ × ℕ)) → rises before (e ∷ es) ≡ true → rises before es ≡ true
 rises_rest before e [] r = refl
-rises_rest before e (x ∷ es) r = (both (before e.0 x.0) (rises_after before x.0 es) r).1
+rises_rest before e (x ∷ es) r = (and_parts (before e.0 x.0) (rises_after before x.0 es) r).1

@@ -1,25 +1,24 @@
 -- What a list of pages tells where one of them is written or comes.
 use Rattle.std.proofs.Common.{◌≡◌, ◌⊎◌, inl, inr, ℕ, ◌+◌, ◌*◌, ◌/◌, ◌%◌, ◌<◌, ◌≤◌, List, [], ◌∷◌, ◌++◌, set, get_or, length, sym, ap, ◌∙◌, ⊎_elim, arith, Option, Some, None}
 use Rattle.std.proofs.Math.Seq.{get_or-append_seam}
-use Rattle.std.proofs.lemmas.Bool.{cases_eq, cases_lt, cond-true, cond-false}
+use Rattle.std.proofs.lemmas.Bool.{cases_eq, cases_lt, cond-true, cond-false, lt-ltb, le-ltb}
 use Rattle.std.proofs.lemmas.List.{get_or_past, get_or-set_same, get_or-set_other, length-append, get_or_append_left}
 use Rattle.ir_store_ids.specs.declared.pages.Page.{Page}
 use Rattle.ir_store_ids.specs.Pages.{no_page, behind, slot_at, TellsFirst, Counted, Forgotten, Learnt}
-use Rattle.ir_store_ids.proofs.Tables.{less, not_less}
 
 -- what a page tells of an id
 pub told : (page : Page) (x n : ℕ) → slot_at page x ≡ Some n → (x % 64 < page.count) × (x + behind page (x % 64) ≡ n)
 told page x n h = ⊎_elim
     (λ l.
-    let is : ◌≡◌ {A = Option ℕ} (Some (x + behind page (x % 64))) (Some n) = sym (cond-true _ (Some (x + behind page (x % 64))) None (less (x % 64) page.count l)) ∙ h in
+    let is : ◌≡◌ {A = Option ℕ} (Some (x + behind page (x % 64))) (Some n) = sym (cond-true _ (Some (x + behind page (x % 64))) None (lt-ltb (x % 64) page.count l)) ∙ h in
     (l, cc))
     (λ g.
-    let bad : ◌≡◌ {A = Option ℕ} None (Some n) = sym (cond-false _ (Some (x + behind page (x % 64))) None (not_less (x % 64) page.count g)) ∙ h in
+    let bad : ◌≡◌ {A = Option ℕ} None (Some n) = sym (cond-false _ (Some (x + behind page (x % 64))) None (le-ltb (x % 64) page.count g)) ∙ h in
     absurd cc)
     (cases_lt (x % 64) page.count)
 
 pub tells : (page : Page) (x : ℕ) → x % 64 < page.count → slot_at page x ≡ Some (x + behind page (x % 64))
-tells page x l = cond-true _ (Some (x + behind page (x % 64))) None (less (x % 64) page.count l)
+tells page x l = cond-true _ (Some (x + behind page (x % 64))) None (lt-ltb (x % 64) page.count l)
 
 -- a page tells of its first id alone: so whatever it was told before
 pub first_counted : (shift : ℕ) (before page : Page) → TellsFirst shift page → Counted 0 shift before page

@@ -1,18 +1,18 @@
 -- What pages say of slots stays so where a slot is written.
 use Rattle.std.proofs.Common.{◌≡◌, ℕ, ◌+◌, ◌≤◌, ◌<◌, ◌%◌, List, [], length, sym, ap, subst, ◌∙◌, eqb, ⊎_elim, arith, Option, Some, None, Result, Ok, Err, MatchResult}
 use Rattle.std.specs.declared.alloc.AllocError.{AllocError}
-use Rattle.std.proofs.lemmas.Bool.{cases_eq, eq-eqb, ne_eqb, cond-true, cond-false}
+use Rattle.std.proofs.lemmas.Bool.{cases_eq, eq-eqb, ne_eqb, cond-true, cond-false, le-ltb}
 use Rattle.std.specs.Ordering.{nat_cmp}
 use Rattle.std.specs.FinMap as finmap
 use Rattle.ir_store_ids.specs.Slots.{no_slot, slot_in, EndsBy}
 use Rattle.ir_store_ids.specs.declared.pages.Page.{Page}
 use Rattle.ir_store_ids.specs.Pages.{no_page, behind, slot_by, Forgotten, Learnt, AreSlots}
-use Rattle.ir_store_ids.proofs.Tables.{changed, not_less, near_grown, far_changed, some_slot, far_same, Put, Add}
+use Rattle.ir_store_ids.proofs.Tables.{changed, near_grown, far_changed, some_slot, far_same, Put, Add}
 
 -- where there are no pages
 pub no_pages : (pages : List Page) (f : ℕ → Option ℕ) → pages ≡ [] → AreSlots pages f
 no_pages pages f e x n h =
-    let none : slot_by [] x ≡ None = cond-false _ (Some (x + behind no_page (x % 64))) None (not_less (x % 64) 0 (omega arith)) in
+    let none : slot_by [] x ≡ None = cond-false _ (Some (x + behind no_page (x % 64))) None (le-ltb (x % 64) 0 (omega arith)) in
     let bad : ◌≡◌ {A = Option ℕ} (Some n) None = sym h ∙ ap (λ z. slot_by z x) e ∙ none in
     absurd cc
 

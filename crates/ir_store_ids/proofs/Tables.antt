@@ -5,7 +5,7 @@ use Rattle.std.specs.Cmp.{nat_cmp_total}
 use Rattle.std.specs.FinMap as map
 use Rattle.std.proofs.Math.ListN.{replicate}
 use Rattle.std.proofs.Math.Seq.{get_or-append_seam}
-use Rattle.std.proofs.lemmas.Bool.{cases_eq, cases_lt, eq-eqb, ne_eqb, cond-true, cond-false}
+use Rattle.std.proofs.lemmas.Bool.{cases_eq, cases_lt, eq-eqb, ne_eqb, cond-true, cond-false, lt-ltb, le-ltb}
 use Rattle.std.proofs.lemmas.Bool.Decides.{nat_tests}
 use Rattle.std.proofs.lemmas.List.{get_or_past, get_or-set_same, get_or-set_other, length-set, length-append, get_or_append_left, get_or-replicate, length-replicate}
 use Rattle.std.specs.declared.alloc.AllocError.{AllocError}
@@ -18,17 +18,11 @@ eq_nat a b = grind (arith, nat_tests)
 abbrev pub changed : ℕ → Option ℕ → (ℕ → Option ℕ) → ℕ → Option ℕ
 changed k o f x = cond (eqb x k) o (f x)
 
-pub less : (a b : ℕ) → a < b → nat_lt a b ≡ true
-less a b l = grind (arith, nat_tests)
-
-pub not_less : (a b : ℕ) → b ≤ a → nat_lt a b ≡ false
-not_less a b l = grind (arith, nat_tests)
-
 -- a write to the list
 pub near_changed : (near : List ℕ) (far : ℕ → Option ℕ) (k n : ℕ) → k < length near → (x : ℕ) → slot_in (set near k n) far x ≡ changed k (slot_of n) (slot_in near far) x
 near_changed near far k n l x = ⊎_elim
     (λ e.
-    let here : nat_lt x (length (set near k n)) ≡ true = less x (length (set near k n)) (omega (arith, l, e, length-set near k n)) in
+    let here : nat_lt x (length (set near k n)) ≡ true = lt-ltb x (length (set near k n)) (omega (arith, l, e, length-set near k n)) in
     cond-true _ (slot_of (get_or (set near k n) x no_slot)) (far x) here
     ∙ ap (λ z. slot_of (get_or (set near k n) z no_slot)) e
     ∙ ap slot_of (get_or-set_same near k n no_slot l)
@@ -42,19 +36,19 @@ near_changed near far k n l x = ⊎_elim
 pub near_grown : (near : List ℕ) (far : ℕ → Option ℕ) (k n : ℕ) → k ≡ length near → (x : ℕ) → slot_in (near ++ n ∷ []) far x ≡ changed k (slot_of n) (slot_in near far) x
 near_grown near far k n l x = ⊎_elim
     (λ e.
-    cond-true _ (slot_of (get_or (near ++ n ∷ []) x no_slot)) (far x) (less x (length (near ++ n ∷ [])) (omega (arith, l, e, long)))
+    cond-true _ (slot_of (get_or (near ++ n ∷ []) x no_slot)) (far x) (lt-ltb x (length (near ++ n ∷ [])) (omega (arith, l, e, long)))
     ∙ ap (λ z. slot_of (get_or (near ++ n ∷ []) z no_slot)) (e ∙ l)
     ∙ ap slot_of (get_or-append_seam near n [] no_slot)
     ∙ sym (cond-true (eqb x k) (slot_of n) (slot_in near far x) (eq-eqb x k e)))
     (λ ne. ⊎_elim
     (λ b.
-    cond-true _ (slot_of (get_or (near ++ n ∷ []) x no_slot)) (far x) (less x (length (near ++ n ∷ [])) (omega (arith, b, long)))
+    cond-true _ (slot_of (get_or (near ++ n ∷ []) x no_slot)) (far x) (lt-ltb x (length (near ++ n ∷ [])) (omega (arith, b, long)))
     ∙ ap slot_of (get_or_append_left near (n ∷ []) no_slot x b)
-    ∙ sym (cond-true _ (slot_of (get_or near x no_slot)) (far x) (less x (length near) b))
+    ∙ sym (cond-true _ (slot_of (get_or near x no_slot)) (far x) (lt-ltb x (length near) b))
     ∙ sym (cond-false (eqb x k) (slot_of n) (slot_in near far x) (ne_eqb x k ne)))
     (λ g.
-    cond-false _ (slot_of (get_or (near ++ n ∷ []) x no_slot)) (far x) (not_less x (length (near ++ n ∷ [])) (above g ne))
-    ∙ sym (cond-false _ (slot_of (get_or near x no_slot)) (far x) (not_less x (length near) g))
+    cond-false _ (slot_of (get_or (near ++ n ∷ []) x no_slot)) (far x) (le-ltb x (length (near ++ n ∷ [])) (above g ne))
+    ∙ sym (cond-false _ (slot_of (get_or near x no_slot)) (far x) (le-ltb x (length near) g))
     ∙ sym (cond-false (eqb x k) (slot_of n) (slot_in near far x) (ne_eqb x k ne)))
     (cases_lt x (length near)))
     (cases_eq x k)
@@ -69,17 +63,17 @@ near_grown near far k n l x = ⊎_elim
 pub far_changed : (near : List ℕ) (far far' : ℕ → Option ℕ) (k : ℕ) (o : Option ℕ) → length near ≤ k → ((x : ℕ) → far' x ≡ cond (eqb x k) o (far x)) → (x : ℕ) → slot_in near far' x ≡ changed k o (slot_in near far) x
 far_changed near far far' k o l w x = ⊎_elim
     (λ b.
-    cond-true _ (slot_of (get_or near x no_slot)) (far' x) (less x (length near) b)
-    ∙ sym (cond-true _ (slot_of (get_or near x no_slot)) (far x) (less x (length near) b))
+    cond-true _ (slot_of (get_or near x no_slot)) (far' x) (lt-ltb x (length near) b)
+    ∙ sym (cond-true _ (slot_of (get_or near x no_slot)) (far x) (lt-ltb x (length near) b))
     ∙ sym (cond-false (eqb x k) o (slot_in near far x) (ne_eqb x k (λ e. omega arith))))
     (λ g.
-    cond-false _ (slot_of (get_or near x no_slot)) (far' x) (not_less x (length near) g)
+    cond-false _ (slot_of (get_or near x no_slot)) (far' x) (le-ltb x (length near) g)
     ∙ w x
-    ∙ ap (cond (eqb x k) o) (sym (cond-false _ (slot_of (get_or near x no_slot)) (far x) (not_less x (length near) g))))
+    ∙ ap (cond (eqb x k) o) (sym (cond-false _ (slot_of (get_or near x no_slot)) (far x) (le-ltb x (length near) g))))
     (cases_lt x (length near))
 
 module _ (f g : ℕ → Option ℕ) (k : ℕ) (m : MapOf f) where
-  -- the map with an entry more, and with one less
+  -- the map with an entry more, and with one lt-ltb
   pub inserted : (n : ℕ) → ((x : ℕ) → g x ≡ changed k (Some n) f x) → (x : ℕ) → map.get (map.insert m.0 k n) x ≡ g x
   inserted n w x = map.get-insert nat_cmp_total m.0 k n x ∙ (λ i. cond (eq_nat x k i) (Some n) (m.1 x i)) ∙ sym (w x)
 
@@ -93,10 +87,10 @@ some_slot n l = cond-false (eqb n no_slot) None (Some n) (ne_eqb n no_slot (λ e
 pub none_in : (near : List ℕ) (far : ℕ → Option ℕ) (n : ℕ) → near ≡ replicate n no_slot → ((x : ℕ) → far x ≡ None) → (x : ℕ) → map.get (map.empty {X = ℕ} {R = nat_cmp}) x ≡ slot_in near far x
 none_in near far n e w x = map.get-empty {X = ℕ} nat_cmp x ∙ sym (⊎_elim
     (λ b.
-    cond-true _ (slot_of (get_or near x no_slot)) (far x) (less x (length near) b)
+    cond-true _ (slot_of (get_or near x no_slot)) (far x) (lt-ltb x (length near) b)
     ∙ ap slot_of (ap (λ z. get_or z x no_slot) e ∙ nothing n x)
     ∙ cond-true (eqb no_slot no_slot) None (Some no_slot) (eq-eqb no_slot no_slot refl))
-    (λ g. cond-false _ (slot_of (get_or near x no_slot)) (far x) (not_less x (length near) g) ∙ w x)
+    (λ g. cond-false _ (slot_of (get_or near x no_slot)) (far x) (le-ltb x (length near) g) ∙ w x)
     (cases_lt x (length near)))
   where
     nothing : (n x : ℕ) → get_or (replicate n no_slot) x no_slot ≡ no_slot

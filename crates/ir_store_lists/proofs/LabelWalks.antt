@@ -10,11 +10,11 @@ use Rattle.ir_store_lists.proofs.Spreads.{end_low, end_times}
 use Rattle.ir_store_lists.proofs.Parts.{around, before_around, rises_parts}
 use Rattle.ir_store_lists.proofs.Kept.{member_item, list_short}
 
-has_middle : (x : ℕ) (front back : List ℕ) → has x (front ++ x ∷ back) ≡ true
+pub has_middle : (x : ℕ) (front back : List ℕ) → has x (front ++ x ∷ back) ≡ true
 has_middle x [] back = or_left (eqb x x) (has x back) (eq-eqb x x refl)
 has_middle x (a ∷ front) back = or_right (eqb a x) (has x (front ++ x ∷ back)) (has_middle x front back)
 
-after_middle : (x : ℕ) (front back : List ℕ) → Once (front ++ x ∷ back) → after x (front ++ x ∷ back) ≡ slice_get back 0
+pub after_middle : (x : ℕ) (front back : List ℕ) → Once (front ++ x ∷ back) → after x (front ++ x ∷ back) ≡ slice_get back 0
 after_middle x [] back o = cond-true (eqb x x) (slice_get back 0) (after x back) (eq-eqb x x refl)
 after_middle x (a ∷ front) back o =
     let n : a ≡ x → ⊥ = λ e. false≢true (sym o.0 ∙ subst (λ z. has z (front ++ x ∷ back) ≡ true) (sym e) (has_middle x front back)) in

@@ -1,17 +1,11 @@
 -- Labels that rise tell the order, and go on rising.
 use Rattle.std.proofs.Common.{◌≡◌, ℕ, ◌<◌, ◌≤◌, List, [], ◌∷◌, ◌++◌, set, refl, sym, ap, ◌∙◌, subst, length, Bool, true, false, eqb, ◌||◌, ⊎_elim, arith}
 use Rattle.std.specs.Prelude.{nat_lt}
-use Rattle.std.proofs.lemmas.Bool.{cases_eq, eqb-true, eq-eqb, ne_eqb, cond-true, cond-false, cases_Bool, false≢true, or_cases, or_left, or_right}
+use Rattle.std.proofs.lemmas.Bool.{cases_eq, eqb-true, eq-eqb, ne_eqb, cond-true, cond-false, cases_Bool, false≢true, or_cases, or_left, or_right, eqb-false, lt-ltb, le-ltb, or_parts}
 use Rattle.std.proofs.lemmas.Bool.Decides.{nat_tests}
 use Rattle.std.proofs.lemmas.List.{get_or-set_same, get_or-set_other}
 use Rattle.ir_store_lists.specs.Lists.{has, without, put_before, Once}
 use Rattle.ir_store_lists.specs.Labels.{label_at, RisesFrom, goes_before, label_before, last_label}
-
-less : (a b : ℕ) → a < b → nat_lt a b ≡ true
-less a b l = grind (arith, nat_tests)
-
-not_less : (a b : ℕ) → b ≤ a → nat_lt a b ≡ false
-not_less a b l = grind (arith, nat_tests)
 
 module _ (labels : List ℕ) where
   pub weaker : (low high : ℕ) (ks : List ℕ) → low ≤ high → RisesFrom labels high ks → RisesFrom labels low ks
@@ -53,17 +47,17 @@ module _ (labels : List ℕ) where
   as_labels low a b [] r e f = absurd (false≢true e)
   as_labels low a b (k ∷ ks) r e f = ⊎_elim
       (λ z. cond-true (eqb k a) (has b ks) (goes_before a b ks) (eq-eqb k a z) ∙ ⊎_elim
-      (λ y. y ∙ sym (less (label_at labels a) (label_at labels b) (subst (λ w. label_at labels w < label_at labels b) z (above (label_at labels k) b ks r.1 y))))
+      (λ y. y ∙ sym (lt-ltb (label_at labels a) (label_at labels b) (subst (λ w. label_at labels w < label_at labels b) z (above (label_at labels k) b ks r.1 y))))
       (λ y.
       let same : k ≡ b = ⊎_elim (λ w. eqb-true k b w) (λ w. absurd (false≢true (sym y ∙ w))) (or_cases (eqb k b) (has b ks) f) in
       let q : label_at labels b ≡ label_at labels a = ap (label_at labels) (sym same ∙ z) in
-      y ∙ sym (not_less (label_at labels a) (label_at labels b) (omega (arith, q))))
+      y ∙ sym (le-ltb (label_at labels a) (label_at labels b) (omega (arith, q))))
       (cases_Bool (has b ks)))
       (λ n. cond-false (eqb k a) (has b ks) (goes_before a b ks) (ne_eqb k a n) ∙ ⊎_elim
       (λ z.
       let ra = above (label_at labels k) a ks r.1 (in_rest k a ks n e) in
       let q : label_at labels k ≡ label_at labels b = ap (label_at labels) z in
-      absent a b ks (first_once k b ks r.1 z) ∙ sym (not_less (label_at labels a) (label_at labels b) (omega (arith, q, ra))))
+      absent a b ks (first_once k b ks r.1 z) ∙ sym (le-ltb (label_at labels a) (label_at labels b) (omega (arith, q, ra))))
       (λ m. as_labels (label_at labels k) a b ks r.1 (in_rest k a ks n e) (in_rest k b ks m f))
       (cases_eq k b))
       (cases_eq k a)
@@ -84,18 +78,11 @@ module _ (labels : List ℕ) (k m : ℕ) where
   other : (q : ℕ) → (q ≡ k → ⊥) → label_at labels' q ≡ label_at labels q
   other q n = get_or-set_other labels k q m 0 n
 
-  split : (p q : Bool) → (p || q) ≡ false → (p ≡ false) × (q ≡ false)
-  split true q e = absurd (false≢true (sym e))
-  split false q e = (refl, e)
-
-  apart : (q : ℕ) → eqb q k ≡ false → q ≡ k → ⊥
-  apart q e z = false≢true (sym e ∙ eq-eqb q k z)
-
   pub rises_still : (low : ℕ) (ks : List ℕ) → has k ks ≡ false → RisesFrom labels low ks → RisesFrom labels' low ks
   rises_still low [] n r = tt
   rises_still low (q ∷ ks) n r =
-      let b = split (eqb q k) (has k ks) n in
-      let e = other q (apart q b.0) in
+      let b = or_parts (eqb q k) (has k ks) n in
+      let e = other q (eqb-false q k b.0) in
       (subst (λ z. low < z) (sym e) r.0, subst (λ z. RisesFrom labels' z ks) (sym e) (rises_still (label_at labels q) ks b.1 r.1))
 
   -- labels rise when a node comes before another, with a label between those of its neighbours
@@ -103,8 +90,8 @@ module _ (labels : List ℕ) (k m : ℕ) where
       → RisesFrom labels' low (put_before k t ks)
   rises_put l low t [] n i o p q r = absurd (false≢true i)
   rises_put l low t (x ∷ ks) n i o p q r =
-      let b = split (eqb x k) (has k ks) n in
-      let e = other x (apart x b.0) in
+      let b = or_parts (eqb x k) (has k ks) n in
+      let e = other x (eqb-false x k b.0) in
       let own : label_at labels' k ≡ m = get_or-set_same labels k m 0 l in
       ⊎_elim
       (λ z.
@@ -130,14 +117,14 @@ module _ (labels : List ℕ) (k m : ℕ) where
     where
       same : (t : ℕ) (ks : List ℕ) → has t ks ≡ false → put_before k t ks ≡ ks
       same t [] e = refl
-      same t (w ∷ ks) e = let b = split (eqb w t) (has t ks) e in cond-false (eqb w t) (k ∷ w ∷ put_before k t ks) (w ∷ put_before k t ks) b.0 ∙ ap (λ v. w ∷ v) (same t ks b.1)
+      same t (w ∷ ks) e = let b = or_parts (eqb w t) (has t ks) e in cond-false (eqb w t) (k ∷ w ∷ put_before k t ks) (w ∷ put_before k t ks) b.0 ∙ ap (λ v. w ∷ v) (same t ks b.1)
 
   -- labels rise when a node comes last, with a label above the last one
   pub rises_end : k < length labels → (low : ℕ) (ks : List ℕ) → has k ks ≡ false → last_label labels low ks < m → RisesFrom labels low ks → RisesFrom labels' low (ks ++ k ∷ [])
   rises_end l low [] n p r = (subst (λ w. low < w) (sym (get_or-set_same labels k m 0 l)) p, tt)
   rises_end l low (x ∷ ks) n p r =
-      let b = split (eqb x k) (has k ks) n in
-      let e = other x (apart x b.0) in
+      let b = or_parts (eqb x k) (has k ks) n in
+      let e = other x (eqb-false x k b.0) in
       (subst (λ w. low < w) (sym e) r.0, subst (λ w. RisesFrom labels' w (ks ++ k ∷ [])) (sym e) (rises_end l (label_at labels x) ks b.1 p r.1))
 
 -- labels rise where those of the list's nodes are what they were

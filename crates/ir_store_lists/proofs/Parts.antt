@@ -1,12 +1,8 @@
 -- A list cut before a node, and labels along its parts.
 use Rattle.std.proofs.Common.{◌≡◌, ℕ, zero, suc, List, [], ◌∷◌, ◌++◌, drop, refl, sym, ap, ◌∙◌, subst, Bool, true, false, eqb, ◌||◌, ⊎_elim, Some, slice_get}
-use Rattle.std.proofs.lemmas.Bool.{cases_eq, cases_Bool, eqb-true, eq-eqb, ne_eqb, cond-true, cond-false, false≢true, or_cases, or_left, or_right}
+use Rattle.std.proofs.lemmas.Bool.{cases_eq, cases_Bool, eqb-true, eq-eqb, ne_eqb, cond-true, cond-false, false≢true, or_cases, or_left, or_right, or_parts}
 use Rattle.ir_store_lists.specs.Lists.{has, Once}
 use Rattle.ir_store_lists.specs.Labels.{label_at, RisesFrom, label_before, last_label, from}
-
-split : (p q : Bool) → (p || q) ≡ false → (p ≡ false) × (q ≡ false)
-split true q e = absurd (false≢true (sym e))
-split false q e = (refl, e)
 
 -- a list around one of its nodes
 pub record Around (t : ℕ) (ks : List ℕ) : Type 0 where
@@ -35,7 +31,7 @@ module _ (labels : List ℕ) where
   pub before_around : (low t : ℕ) (front tail : List ℕ) → has t front ≡ false → label_before labels low t (front ++ t ∷ tail) ≡ last_label labels low front
   before_around low t [] tail e = cond-true (eqb t t) low (label_before labels (label_at labels t) t tail) (eq-eqb t t refl)
   before_around low t (k ∷ front) tail e =
-      let b = split (eqb k t) (has t front) e in
+      let b = or_parts (eqb k t) (has t front) e in
       cond-false (eqb k t) low (label_before labels (label_at labels k) t (front ++ t ∷ tail)) b.0 ∙ before_around (label_at labels k) t front tail b.1
 
   -- labels rise along both parts of a list

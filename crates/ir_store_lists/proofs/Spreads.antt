@@ -1,14 +1,10 @@
 -- What labelling a list anew does.
 use Rattle.std.proofs.Common.{◌≡◌, ℕ, ◌+◌, ◌*◌, ◌<◌, ◌≤◌, List, [], ◌∷◌, set, refl, sym, ap, ◌∙◌, subst, length, Bool, true, false, eqb, ◌||◌, ⊎_elim, arith}
-use Rattle.std.proofs.lemmas.Bool.{cases_eq, eqb-true, eq-eqb, ne_eqb, cond-true, cond-false, false≢true, or_cases, or_left, or_right}
+use Rattle.std.proofs.lemmas.Bool.{cases_eq, eqb-true, eq-eqb, ne_eqb, cond-true, cond-false, false≢true, or_cases, or_left, or_right, or_parts}
 use Rattle.std.proofs.Math.Nat.{mul-suc}
 use Rattle.std.proofs.lemmas.List.{get_or-set_same, get_or-set_other, length-set}
 use Rattle.ir_store_lists.specs.Lists.{has, Once}
 use Rattle.ir_store_lists.specs.Labels.{label_at, RisesFrom, label_before, last_label, spread, spread_end}
-
-split : (p q : Bool) → (p || q) ≡ false → (p ≡ false) × (q ≡ false)
-split true q e = absurd (false≢true (sym e))
-split false q e = (refl, e)
 
 pub length-spread : (gap low : ℕ) (ks labels : List ℕ) → length (spread gap low ks labels) ≡ length labels
 length-spread gap low [] labels = refl
@@ -18,7 +14,7 @@ length-spread gap low (k ∷ ks) labels = length-spread gap (low + gap) ks (set 
 pub spread_else : (gap low : ℕ) (ks labels : List ℕ) (y : ℕ) → has y ks ≡ false → label_at (spread gap low ks labels) y ≡ label_at labels y
 spread_else gap low [] labels y e = refl
 spread_else gap low (k ∷ ks) labels y e =
-    let b = split (eqb k y) (has y ks) e in
+    let b = or_parts (eqb k y) (has y ks) e in
     spread_else gap (low + gap) ks (set labels k (low + gap)) y b.1
     ∙ get_or-set_other labels k y (low + gap) 0 (λ z. false≢true (sym b.0 ∙ eq-eqb k y (sym z)))
 

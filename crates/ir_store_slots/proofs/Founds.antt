@@ -9,14 +9,8 @@ use Rattle.ir_store_slots.specs.Rows.{Row, Shape, row_at}
 use Rattle.ir_store_slots.specs.Spells.{SpellsOp, SpellsRegions, SpellsRegion, SpellsOps}
 use Rattle.ir_store_slots.specs.Right.{Live}
 use Rattle.ir_store_slots.proofs.Mapped.{has_op, has_regions, has_region, has_ops, neither}
-
-any_append : (p : ℕ → Bool) (xs ys : List ℕ) → list_any p (xs ++ ys) ≡ (list_any p xs || list_any p ys)
-any_append p [] ys = refl
-any_append p (x ∷ xs) ys = ap (λ b. p x || b) (any_append p xs ys) ∙ turn (p x) (list_any p xs) (list_any p ys)
-  where
-    turn : (a b c : Bool) → (a || (b || c)) ≡ ((a || b) || c)
-    turn true b c = refl
-    turn false b c = refl
+use Rattle.std.proofs.lemmas.List.Folds.{list_any-append}
+use Rattle.ir_store_rows.proofs.of_trees.of_types.Truths.{either}
 
 -- the two ways to say that an operation is there
 module _ (x : ℕ) where
@@ -26,7 +20,7 @@ module _ (x : ℕ) where
 
     pub has_is_regions : (rs : Regions) → has_regions x rs ≡ list_any (λ y. eqb y x) (regions_ids rs)
     has_is_regions no_regions = refl
-    has_is_regions (region g rs) = (λ i. has_is_region g i || has_is_regions rs i) ∙ sym (any_append (λ y. eqb y x) (region_ids g) (regions_ids rs))
+    has_is_regions (region g rs) = (λ i. has_is_region g i || has_is_regions rs i) ∙ sym (list_any-append (λ y. eqb y x) (region_ids g) (regions_ids rs))
 
     has_is_region : (g : Region) → has_region x g ≡ list_any (λ y. eqb y x) (region_ids g)
     has_is_region empty = refl
@@ -34,7 +28,7 @@ module _ (x : ℕ) where
 
     has_is_ops : (os : Ops) → has_ops x os ≡ list_any (λ y. eqb y x) (ops_ids os)
     has_is_ops no_ops = refl
-    has_is_ops (next o os) = (λ i. has_is o i || has_is_ops os i) ∙ sym (any_append (λ y. eqb y x) (ids o) (ops_ids os))
+    has_is_ops (next o os) = (λ i. has_is o i || has_is_ops os i) ∙ sym (list_any-append (λ y. eqb y x) (ids o) (ops_ids os))
 
 module _ (rows : List Row) (lists : List (List ℕ)) where
   abbrev pub Spelt : ℕ → Option Op → Type 0
@@ -64,10 +58,6 @@ module _ (rows : List Row) (lists : List (List ℕ)) where
       not_found_ops : (os : Ops) → has_ops x os ≡ false → ops_find x os ≡ None
       not_found_ops no_ops e = refl
       not_found_ops (next o os) e = let b = neither (has_op x o) (has_ops x os) e in rw (not_found o b.0) (not_found_ops os b.1)
-
-  either : (a b : Bool) → (a || b) ≡ true → a ≡ false → b ≡ true
-  either true b e n = absurd (false≢true (sym n))
-  either false b e n = e
 
   module _ (x k : ℕ) (only : (q : ℕ) → Live rows q → (row_at rows q).head.id ≡ x → q ≡ k) where
     mutual

@@ -3,7 +3,7 @@ use Rattle.std.proofs.Common.{◌≡◌, ℕ, zero, suc, ◌-◌, ◌<◌, ◌�
 use Rattle.std.specs.Prelude.{if◌then◌else◌, nat_lt}
 use Rattle.std.specs.Ordering.{nat_cmp}
 use Rattle.std.specs.FinMap as finmap
-use Rattle.std.proofs.lemmas.Bool.{cases_eq, cases_lt, eq-eqb, ne_eqb, cond-true, cond-false, false≢true}
+use Rattle.std.proofs.lemmas.Bool.{cases_eq, cases_lt, eq-eqb, ne_eqb, cond-true, cond-false, false≢true, not-true}
 use Rattle.std.proofs.lemmas.Bool.Decides.{nat_tests}
 use Rattle.std.proofs.lemmas.List.{length-set, get_or_past}
 use Rattle.std.proofs.lemmas.Bool.{or_left, or_right}
@@ -19,22 +19,14 @@ use Rattle.ir_store_slots.proofs.Marking.{marked_edit, marked_same}
 use Rattle.ir_store_slots.proofs.Slots.{used_inside, live_inside}
 use Rattle.ir_store_slots.proofs.Sweeping.{sweep_start, sweep_all, sweep_step}
 use Rattle.ir_store_slots.proofs.Walked.{from_first}
+use Rattle.ir_store_lists.proofs.LabelWalks.{after_middle, has_middle}
 
 positive : (n : ℕ) → nat_lt 0 (suc n) ≡ true
 positive n = grind (arith, nat_tests)
 
--- a list in two parts
-has_part : (n : ℕ) (xs ys : List ℕ) → has n (xs ++ n ∷ ys) ≡ true
-has_part n [] ys = ap (λ b. b || has n ys) (eq-eqb n n refl)
-has_part n (x ∷ xs) ys = either (eqb x n) (has_part n xs ys)
-  where
-    either : (b : Bool) → has n (xs ++ n ∷ ys) ≡ true → (b || has n (xs ++ n ∷ ys)) ≡ true
-    either true e = refl
-    either false e = e
-
 not_first : (x n : ℕ) (xs ys : List ℕ) → Once (x ∷ xs ++ n ∷ ys) → eqb x n ≡ false
 not_first x n xs ys o = ⊎_elim
-    (λ z. absurd (false≢true (sym o.0 ∙ ap (λ w. has w (xs ++ n ∷ ys)) z ∙ has_part n xs ys)))
+    (λ z. absurd (false≢true (sym o.0 ∙ ap (λ w. has w (xs ++ n ∷ ys)) z ∙ has_middle n xs ys)))
     (λ z. ne_eqb x n z)
     (cases_eq x n)
 
@@ -46,10 +38,6 @@ pub from_part : (xs ys : List ℕ) → Once (xs ++ ys) → from_slot (slice_get 
 from_part [] ys o = from_first ys
 from_part (x ∷ xs) [] o = refl
 from_part (x ∷ xs) (y ∷ ys) o = cond-false (eqb x y) (x ∷ xs ++ y ∷ ys) (from_slot (Some y) (xs ++ y ∷ ys)) (not_first x y xs ys o) ∙ from_part xs (y ∷ ys) o.1
-
-pub after_part : (n : ℕ) (xs ys : List ℕ) → Once (xs ++ n ∷ ys) → after n (xs ++ n ∷ ys) ≡ slice_get ys 0
-after_part n [] ys o = cond-true (eqb n n) (slice_get ys 0) (after n ys) (eq-eqb n n refl)
-after_part n (x ∷ xs) ys o = cond-false (eqb x n) (slice_get (xs ++ n ∷ ys) 0) (after n (xs ++ n ∷ ys)) (not_first x n xs ys o) ∙ after_part n xs ys o.1
 
 without_none : (n : ℕ) (ys : List ℕ) → has n ys ≡ false → without n ys ≡ ys
 without_none n [] e = refl
@@ -166,10 +154,6 @@ pub record Sweeps (from : ℕ) (rows new : List Row) (keys left : ℕ → Option
   pub marked : Marked new homes
   pub some : ReleasesSome from (λ q. not (has (node_of_slot q) rest)) rows new keys left
 
-not_true : (b : Bool) → not b ≡ true → b ≡ false
-not_true true e = absurd (false≢true e)
-not_true false e = refl
-
 pub sweeps_start : (from : ℕ) (rows : List Row) (keys : ℕ → Option ℕ) → IsKeyed rows keys → (lists : List (List ℕ)) (homes : List ℕ) → Laws lists homes → Marked rows homes → (at : Option ℕ) → at ≡ slice_get (list_at lists 0) 0
     → Sweeps from rows rows keys keys (list_at lists 0) homes at
 sweeps_start from rows keys kd lists homes laws m at e = record {
@@ -178,7 +162,7 @@ sweeps_start from rows keys kd lists homes laws m at e = record {
   split = refl;
   here = e;
   marked = m;
-  some = sweep_start from rows keys kd (λ q. not (has (node_of_slot q) (list_at lists 0))) (λ q f. not_given rows lists homes laws m from q (not_true (has (node_of_slot q) (list_at lists 0)) f));
+  some = sweep_start from rows keys kd (λ q. not (has (node_of_slot q) (list_at lists 0))) (λ q f. not_given rows lists homes laws m from q (not-true (has (node_of_slot q) (list_at lists 0)) f));
 }
 
 pub sweeps_end : (from : ℕ) (rows new : List Row) (keys left : ℕ → Option ℕ) → IsKeyed rows keys → (list homes : List ℕ) (at : Option ℕ) → at ≡ None → Sweeps from rows new keys left list homes at → GivenUp from rows new keys left
@@ -213,14 +197,14 @@ module _ (from : ℕ) (rows new : List Row) (keys : ℕ → Option ℕ) (left : 
   once = subst Once whole (laws.once 0)
 
   pub sweep_there : has n (list_at lists 0) ≡ true
-  sweep_there = ap (has n) whole ∙ has_part n s.front ys
+  sweep_there = ap (has n) whole ∙ has_middle n s.front ys
 
   at_node : AtNode new n true
   at_node = held_node new lists homes laws s.marked n sweep_there
 
   module _ (at : Option ℕ) (ea : at ≡ after n (list_at lists (home_at homes n))) (b : Bool) (list : List ℕ) (el : list ≡ (if b then without n (list_at lists 0) else list_at lists 0)) where
     ahead : at ≡ slice_get ys 0
-    ahead = ea ∙ ap (λ z. after n (list_at lists z)) (laws.members 0 n sweep_there).0 ∙ ap (after n) whole ∙ after_part n s.front ys once
+    ahead = ea ∙ ap (λ z. after n (list_at lists z)) (laws.members 0 n sweep_there).0 ∙ ap (after n) whole ∙ after_middle n s.front ys once
 
     parts : (xs : List ℕ) × ((list ≡ xs ++ ys) × Once (xs ++ ys))
     parts = go b el

@@ -6,7 +6,7 @@ use Rattle.std.proofs.lemmas.Bool.Decides.{nat_tests}
 use Rattle.ir_store_rows.specs.types.declared.refusal.Refusal.{Refusal}
 use Rattle.ir_store_rows.specs.types.declared.refusal.Refusal.TheVariants.{NoSuchIndex}
 use Rattle.ir_store_slots.specs.Plans.{operand_in, write_reason}
-use Rattle.std.proofs.lemmas.Bool.{cases_Bool, false≢true, cases_lt}
+use Rattle.std.proofs.lemmas.Bool.{cases_Bool, false≢true, cases_lt, ltb-true}
 use Rattle.std.proofs.lemmas.List.{get_or_past}
 use Rattle.ir_store_lists.specs.Lists.{Lists}
 use Rattle.ir_store_rows.specs.trees.Tree.{Op, op, Regions, no_regions, region, empty, block, head}
@@ -17,6 +17,7 @@ use Rattle.ir_store_slots.specs.Spells.{SpellsOp, SpellsRegions}
 use Rattle.ir_store_slots.specs.Right.{Live, Used, Right}
 use Rattle.ir_store_slots.proofs.Mapped.{has_op}
 use Rattle.ir_store_slots.proofs.Founds.{has_is, Spelt, find_spelt, not_found, has_live}
+use Rattle.std.proofs.lemmas.Option.{cond_some, same_Some}
 
 -- the slot k holds the operation x of the tree
 pub record Found (rows : List Row) (x k : ℕ) : Type 0 where
@@ -30,16 +31,9 @@ live_inside rows k l = ⊎_elim (λ z. z) (λ g. absurd (false≢true (sym (ap (
 pub used_inside : (rows : List Row) (k : ℕ) → Used rows k → k < length rows
 used_inside rows k l = ⊎_elim (λ z. z) (λ g. absurd (false≢true (sym (ap (λ z. z.used) (get_or_past rows k no_row g)) ∙ l.used))) (cases_lt k (length rows))
 
-some_is : {X : Type 0} (b : Bool) (k q : X) → cond b (Some k) None ≡ Some q → (b ≡ true) × (k ≡ q)
-some_is true k q e = (refl, cc)
-some_is false k q e = cc
-
-some_same : {X : Type 0} (x y : X) → Some x ≡ Some y → x ≡ y
-some_same x y e = cc
-
 module _ (rows : List Row) (keys : ℕ → Option ℕ) (sibs : Lists) (root : ℕ) (t : Op) (r : Right rows keys sibs root t) (s : SpellsOp rows sibs.lists root t) where
   pub only : (x k : ℕ) → Live rows k → (row_at rows k).head.id ≡ x → (q : ℕ) → Live rows q → (row_at rows q).head.id ≡ x → q ≡ k
-  only x k lk ek q lq eq = some_same q k (sym (r.keyed q (r.live_used q lq)) ∙ ap keys (eq ∙ sym ek) ∙ r.keyed k (r.live_used k lk))
+  only x k lk ek q lq eq = same_Some q k (sym (r.keyed q (r.live_used q lq)) ∙ ap keys (eq ∙ sym ek) ∙ r.keyed k (r.live_used k lk))
 
   -- what is found under an id is there
   pub found : (x k : ℕ) → live_slot rows keys x ≡ Some k → Found rows x k
@@ -48,7 +42,7 @@ module _ (rows : List Row) (keys : ℕ → Option ℕ) (sibs : Lists) (root : �
       go : (o : Option ℕ) → keys x ≡ o → if_live rows o ≡ Some k → Found rows x k
       go None f g = cc
       go (Some q) f g =
-          let b = some_is (row_at rows q).live q k g in
+          let b = cond_some (row_at rows q).live q k g in
           let l : Live rows k = subst (Live rows) b.1 (record { live = b.0 }) in
           record { inside = live_inside rows k l; live = l; id = (r.known x k (f ∙ ap Some b.1)).id }
 
@@ -136,9 +130,6 @@ module _ (rows : List Row) (keys : ℕ → Option ℕ) (sibs : Lists) (root : �
       rw (n, h) (ap Some (bare_node (row_at rows k))))
       (cases_Bool (row_at rows k).live)
 
-below : (a b : ℕ) → nat_lt a b ≡ true → a < b
-below a b e = grind (arith, nat_tests)
-
 -- an operand was found, or why none was
 module _ (rows : List Row) (keys : ℕ → Option ℕ) (sibs : Lists) (root : ℕ) (t : Op) (r : Right rows keys sibs root t) (s : SpellsOp rows sibs.lists root t) (x j : ℕ) where
   abbrev pub OperandFound : Result ℕ Refusal → Type 0
@@ -160,7 +151,7 @@ module _ (rows : List Row) (keys : ℕ → Option ℕ) (sibs : Lists) (root : �
           (λ y.
           let z : nat_lt j (length (head o.0).operands) ≡ true = subst (λ l. nat_lt j (length l) ≡ true) same y in
           let why : write_reason x j t ≡ None = rw (o.1.0, z) refl in
-          let w : OperandFound (Ok k) = (sym f, (below j (length (row_at rows k).head.operands) y, why)) in
+          let w : OperandFound (Ok k) = (sym f, (ltb-true j (length (row_at rows k).head.operands) y, why)) in
           subst (λ c. OperandFound (if c then Ok k else Err NoSuchIndex)) (sym y) w)
           (λ y.
           let z : nat_lt j (length (head o.0).operands) ≡ false = subst (λ l. nat_lt j (length l) ≡ false) same y in

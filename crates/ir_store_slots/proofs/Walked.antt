@@ -11,6 +11,8 @@ use Rattle.ir_store_rows.specs.trees.Limits.{depth, regions_depth, ops_depth}
 use Rattle.ir_store_slots.specs.Rows.{Row, Shape, row_at}
 use Rattle.ir_store_slots.specs.Spells.{SpellsOp, SpellsRegions, SpellsOps}
 use Rattle.ir_store_slots.specs.Walks.{shapes_pass, slot_fits, from_slot}
+use Rattle.ir_store_rows.proofs.of_trees.Counts.{below_none}
+use Rattle.ir_store_rows.proofs.of_trees.of_types.Truths.{zero_le}
 
 -- a list from its first slot on is the list
 pub from_first : (ks : List ℕ) → from_slot (slice_get ks 0) ks ≡ ks
@@ -118,16 +120,10 @@ lt_le d b m = grind (arith, nat_tests)
 le_lt : (d m : ℕ) → nat_le d m ≡ nat_lt d (suc m)
 le_lt d m = grind (arith, nat_tests)
 
-zero_le : (n : ℕ) → nat_le 0 n ≡ true
-zero_le n = grind (arith, nat_tests)
-
-none_lt : (d : ℕ) → nat_lt d 0 ≡ false
-none_lt d = grind (arith, nat_tests)
-
 module _ (rows : List Row) (lists : List (List ℕ)) where
   mutual
     pub fits_is : (n k : ℕ) (t : Op) → SpellsOp rows lists k t → slot_fits rows lists n k ≡ nat_lt (depth t) n
-    fits_is zero k (op h rs) s = sym (none_lt (regions_depth rs))
+    fits_is zero k (op h rs) s = sym (below_none (regions_depth rs))
     fits_is (suc n) k (op h rs) s = (λ i. s.0 i && regions_fit n (row_at rows k).shapes rs s.1.1 i) ∙ le_lt (regions_depth rs) n
 
     regions_fit : (n : ℕ) (xs : List Shape) (rs : Regions) → SpellsRegions rows lists xs rs → shapes_pass lists (slot_fits rows lists n) xs ≡ nat_le (regions_depth rs) n

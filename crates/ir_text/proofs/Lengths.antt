@@ -8,6 +8,7 @@ use Rattle.ir_text_tokens.specs.Strings.{closing}
 use Rattle.ir_text_tokens.specs.declared.token.Mark.{Mark}
 use Rattle.ir_text_tokens.specs.declared.token.Mark.TheVariants.{End}
 use Rattle.ir_text_tokens.specs.Tokens.{Lexeme, mark, integer, float, string, bare, value, label, hash, bang, symbol, quoted, skip, skip_line, is_comment, next, first_token, token_at, sign_at, number_at, decimal_at, digits_len, hex_len, fraction_len, cut, suffix_len, name_at, string_at, symbol_at, longer, mark_of, mark_at}
+use Rattle.ir_text_tokens.proofs.Wholes.{letter_word}
 
 skipped : (c : ℕ) (cs : List ℕ) (p q : Bool) → length (skip_line cs) ≤ length cs → length (skip cs) ≤ length cs → length (if p then skip_line cs else if q then skip cs else c ∷ cs) ≤ suc (length cs)
 skipped c cs true q line next = omega arith
@@ -74,16 +75,6 @@ number_length b bs digit = by_hex (hex_len (b ∷ bs) == 0) refl
     by_hex : (p : Bool) → (hex_len (b ∷ bs) == 0) ≡ p → Within (suc (length bs)) (if p then decimal_at (digits_len (b ∷ bs)) (b ∷ bs) else cut integer (hex_len (b ∷ bs)) (b ∷ bs))
     by_hex true e = by_fraction (fraction_len (drop (digits_len (b ∷ bs)) (b ∷ bs))) (fraction_len (drop (digits_len (b ∷ bs)) (b ∷ bs)) == 0)
     by_hex false e = cut_one integer (λ s. refl) (hex_len (b ∷ bs)) b bs (not_none (hex_len (b ∷ bs)) e)
-
-letter_word : (b : ℕ) → is_letter b ≡ true → is_word b ≡ true
-letter_word b e = by (nat_le 65 b && nat_le b 90) (nat_le 97 b && nat_le b 122) (is_ascii_digit b) (b == 95) (b == 36) (b == 46) e
-  where
-    by : (u w d l p q : Bool) → ((u || w) || l) ≡ true → (((((d || u) || w) || l) || p) || q) ≡ true
-    by u w true l p q e = refl
-    by true w false l p q e = refl
-    by false true false l p q e = refl
-    by false false false true p q e = refl
-    by false false false false p q e = absurd cc
 
 bare_length : (b : ℕ) (bs : List ℕ) → is_letter b ≡ true → Within (suc (length bs)) (cut bare (prefix_len is_word (b ∷ bs)) (b ∷ bs))
 bare_length b bs e = cut_one bare (λ s. refl) (prefix_len is_word (b ∷ bs)) b bs (rw (letter_word b e) (omega arith))

@@ -2,13 +2,8 @@
 use Rattle.std.proofs.Common.{◌≡◌, ◌∙◌, sym, ap, ℕ, suc, ◌+◌, ◌<◌, ◌≤◌, Bool, false, if◌then◌else◌, List, [], ◌∷◌, ◌++◌, length, get_or, drop, refl, append_assoc, append-nil, add-one, drop-cons}
 use Rattle.std.proofs.Math.ListN.{drop_of_length-le}
 use Rattle.ir_text.specs.Rows.{parted}
-
--- an item, and those that follow it
-pub next_item : {A : Type 0} (xs : List A) (i : ℕ) (x : A) → i < length xs → x ≡ get_or xs i x → drop i xs ≡ x ∷ drop (i + 1) xs
-next_item xs i x h r = rw add-one (drop-cons xs i x h ∙ ap (λ y. y ∷ drop (suc i) xs) (sym r))
-
-pub next_at : {A : Type 0} (xs : List A) (i : ℕ) (d : A) → i < length xs → drop i xs ≡ get_or xs i d ∷ drop (i + 1) xs
-next_at xs i d h = rw add-one (drop-cons xs i d h)
+use Rattle.std.proofs.lemmas.List.{drop_more}
+use Rattle.ir_tree.proofs.Steps.{next_left}
 
 -- one more text is written, with the mark in front of it unless it is the first
 pub one_more : (mark whole before between after text : List ℕ) (first : Bool) (now rest : List (List ℕ)) → now ≡ text ∷ rest → between ≡ before ++ (if first then [] else mark) → after ≡ between ++ text → before ++ parted mark first now ≡ whole → after ++ parted mark false rest ≡ whole

@@ -9,10 +9,7 @@ use Rattle.ir_tree.specs.Limits.{every, arguments_pass, all_arguments_pass, regi
 use Rattle.ir_tree.specs.Meaning.{meaning}
 use Rattle.ir_text.specs.Printing.{Printed, put, comma_at, put_op, put_regions, put_region, put_ops}
 use Rattle.ir_text.specs.View.{region_in, regions_in, ops_in}
-
-both : (a b : Bool) → (a && b) ≡ true → (a ≡ true) × (b ≡ true)
-both true b e = (refl, e)
-both false b e = absurd cc
+use Rattle.std.proofs.lemmas.Bool.{and_parts}
 
 -- a region is written behind its comma, and those behind it are left
 pub next_region : (d : Things) (margin : List ℕ) (x place : ℕ) (r : TreeRegion) (now rest : List TreeRegion) (o p q whole : Printed) → now ≡ r ∷ rest → p ≡ put (comma_at place) o → q ≡ put_region margin x place (region_in d (region_view r)) p → put_regions margin x place (regions_in d now) o ≡ whole → put_regions margin x (place + 1) (regions_in d rest) q ≡ whole
@@ -23,15 +20,15 @@ next_region d margin x place r now rest o p q whole next comma one s =
 
 -- what is true of the arguments of all is true of it and of those behind it
 pub arguments_of : (f : List ℕ → Bool) (r : TreeRegion) (now rest : List TreeRegion) → now ≡ r ∷ rest → IsTrue (all_arguments_pass f (regions_of (map region_view now))) → IsTrue (arguments_pass f (region_view r)) × IsTrue (all_arguments_pass f (regions_of (map region_view rest)))
-arguments_of f r now rest next h = both _ _ (subst (λ (rs : List TreeRegion). IsTrue (all_arguments_pass f (regions_of (map region_view rs)))) next h)
+arguments_of f r now rest next h = and_parts _ _ (subst (λ (rs : List TreeRegion). IsTrue (all_arguments_pass f (regions_of (map region_view rs)))) next h)
 
 -- and so with the operations inside
 pub inside_of : (f : Op → Bool) (r : TreeRegion) (now rest : List TreeRegion) → now ≡ r ∷ rest → IsTrue (regions_every f (regions_of (map region_view now))) → IsTrue (region_every f (region_view r)) × IsTrue (regions_every f (regions_of (map region_view rest)))
-inside_of f r now rest next h = both _ _ (subst (λ (rs : List TreeRegion). IsTrue (regions_every f (regions_of (map region_view rs)))) next h)
+inside_of f r now rest next h = and_parts _ _ (subst (λ (rs : List TreeRegion). IsTrue (regions_every f (regions_of (map region_view rs)))) next h)
 
 -- an operation is written, and those behind it are left
 pub next_op : (d : Things) (blanks : List ℕ) (t : Op) (now rest : List Op) (o q whole : Printed) → now ≡ t ∷ rest → q ≡ put_op blanks (meaning d t) o → put_ops blanks (ops_in d now) o ≡ whole → put_ops blanks (ops_in d rest) q ≡ whole
 next_op d blanks t now rest o q whole next one s = ap (put_ops blanks (ops_in d rest)) one ∙ ap (λ (os : List Op). put_ops blanks (ops_in d os) o) (sym next) ∙ s
 
 pub known_of : (f : Op → Bool) (t : Op) (now rest : List Op) → now ≡ t ∷ rest → IsTrue (ops_every f (ops_of now)) → IsTrue (every f t) × IsTrue (ops_every f (ops_of rest))
-known_of f t now rest next h = both _ _ (subst (λ (os : List Op). IsTrue (ops_every f (ops_of os))) next h)
+known_of f t now rest next h = and_parts _ _ (subst (λ (os : List Op). IsTrue (ops_every f (ops_of os))) next h)

@@ -13,10 +13,9 @@ use Rattle.ir_text_bodies.proofs.Walk.{pushed, popped}
 use Rattle.ir_text_tokens.specs.declared.fault.Fault.{Fault}
 use Rattle.ir_text_aliases.specs.Pieces.{from_quote, is_gap, piece_len}
 use Rattle.ir_text_aliases.specs.Values.{bracket_fault, coming_behind, ends_value, is_first, is_misplaced, open_fault, unless, value_end, value_fault}
-use Rattle.ir_text_aliases.proofs.Parted.{piece_within, string_token}
-
-pub none_left : (items : List ℕ) → is_none (reverse items) ≡ (length items == 0)
-none_left items = bodies.none_left items
+use Rattle.ir_text_aliases.proofs.Parted.{piece_within}
+use Rattle.ir_text_bodies.proofs.Ahead.{none_left}
+use Rattle.ir_text_tokens.proofs.Facts.{string_token}
 
 -- ---- strings
 

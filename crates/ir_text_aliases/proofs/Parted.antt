@@ -10,15 +10,11 @@ use Rattle.ir_text_tokens.specs.Tokens.{Lexeme, string, next, skip, string_at, s
 use Rattle.ir_text_tokens.specs.Bytes.{is_letter, is_word}
 use Rattle.ir_text_bodies.specs.Bodies.{are_slashes, begins, is_arrow}
 use Rattle.ir_text_bodies.specs.Bodies as bodies
-use Rattle.ir_text_bodies.proofs.Kept.{string_within, name_within}
+use Rattle.ir_text_bodies.proofs.Kept.{string_within, name_within, some_behind}
 use Rattle.ir_text_aliases.specs.Pieces.{is_name_sign, is_quoted, line_len, piece_len, quoted_len, string_len, word_len}
+use Rattle.ir_text_tokens.proofs.Facts.{string_token}
 
 -- ---- strings
-
-pub string_token : (cs : List ℕ) → next (34 ∷ cs) ≡ string_at string cs
-unfolding next skip
-string_token [] = refl
-string_token (d ∷ ds) = refl
 
 pub behind_string : (cs rest : List ℕ) (t : Lexeme) → next (34 ∷ cs) ≡ Some (t, rest) → rest ≡ drop (quoted_len cs) cs
 behind_string cs rest t e = from (closing cs) (sym (string_token cs) ∙ e)
@@ -53,14 +49,6 @@ quoted_within cs = from (closing cs) (string_within cs)
     from None h = omega arith
     from (Some n) h = h
 
-arrow_within : (c : ℕ) (cs : List ℕ) → is_arrow c cs ≡ true → 1 ≤ length cs
-arrow_within c [] e = from (c == 45) e
-  where
-    from : (t : Bool) → (t && false) ≡ true → 1 ≤ 0
-    from true e = absurd cc
-    from false e = absurd cc
-arrow_within c (d ∷ ds) e = omega arith
-
 symbol_within : (c : ℕ) (cs : List ℕ) → is_quoted c cs ≡ true → suc (quoted_len (drop 1 cs)) ≤ length cs
 symbol_within c [] e = from (c == 64) e
   where
@@ -79,7 +67,7 @@ piece_within c cs = from (c == 34) (is_quoted c cs) refl (are_slashes c cs) (is_
     from false false k true u l v e = prefix_len-le-length (λ b. not (b == 10)) cs
     from false false k false true l v e = name_within cs
     from false false k false false true v e = prefix_len-le-length is_word cs
-    from false false k false false false true e = arrow_within c cs e
+    from false false k false false false true e = some_behind c cs e
     from false false k false false false false e = omega arith
 
 -- the front that was passed over

@@ -47,7 +47,7 @@ pub(crate) fn is_defined(byte: u8, all: &[u8], tail: &[u8]) -> bool
 }
 
 /// Whether a value ends in front of the byte.
-#[tactic(auto, using(crate::proofs::Nesting::none_left))]
+#[tactic(auto, using(ir_text_bodies::proofs::Ahead::none_left))]
 fn ends_value(coming: &ArrayVec<u8, 32>, byte: u8, all: &[u8], tail: &[u8]) -> bool
     requires all { all.now ≡ byte ∷ tail.now }
     ensures { result ≡ ends_value byte tail.now (reverse coming.now.items) }
@@ -57,7 +57,7 @@ fn ends_value(coming: &ArrayVec<u8, 32>, byte: u8, all: &[u8], tail: &[u8]) -> b
 }
 
 /// Whether the byte closes another bracket than the nearest, or may not stand outside all brackets.
-#[tactic(auto, using(crate::proofs::Nesting::none_left))]
+#[tactic(auto, using(ir_text_bodies::proofs::Ahead::none_left))]
 fn is_misplaced(byte: u8, coming: &ArrayVec<u8, 32>) -> bool
     ensures { result ≡ is_misplaced byte (reverse coming.now.items) }
 {

@@ -16,8 +16,7 @@ use Rattle.ir_types.proofs.Growth.{grows_refl, grows_trans, grows_name, grows_at
 use Rattle.ir_types.proofs.Terms.{attr_term_is, attr_node_stays}
 use Rattle.ir_types.proofs.KeptOrder.{kept_of, kept_fault}
 use Rattle.ir_types.proofs.CallNumbers.{name_stands, attr_stands, place_in}
-use Rattle.ir_types.proofs.Calls.{no_first}
-use Rattle.ir_types.proofs.AcceptedCalls.{accepted_name, accepted_attr, neither_back}
+use Rattle.ir_types.proofs.AcceptedCalls.{accepted_name, accepted_attr, neither_back, neither}
 use Rattle.ir_text_types.specs.Outcomes.{Outcome, Read, Wrong, ◌>>=◌, interned, Parse}
 use Rattle.ir_text_types.specs.Typed.{Text, Typed, name_step, attr_step}
 use Rattle.ir_text_types.specs.Grammars.{Grammar, Then, Done, DoneIf}
@@ -113,7 +112,7 @@ attr_done_exact c node y allowed r = record {
       let b = bind_read (attr_step node s.1) (λ n. done (moved s n)) (x, s') e in
       let a = read_interned (attr_reason node s.1) (with_attr node s.1) b.0 b.1 in
       let same : moved s (with_attr node s.1) ≡ (x, s') = ap (moved s) a.1 ∙ cc (b.2) in
-      let no_fault = (no_first (attr_fault (attr_node_term s.1 node)) (room_of node s.1) (sym (reason_parts node s.1 allowed) ∙ a.0)).0 in
+      let no_fault = (neither (attr_fault (attr_node_term s.1 node)) (room_of node s.1) (sym (reason_parts node s.1 allowed) ∙ a.0)).0 in
       subst (λ (q : ℕ × Typed). Comes things Same AttrStands (DoneIf (attr_fault y ≡ None) y) s t q.0 q.1) same
       (y, t, (sym (fault_of s.1 (r s.1 g sound)) ∙ no_fault, refl, refl), attr_step_on node y s t sound (text_now s t sound h) (r s.1 g sound) a.0);
   only = λ s t y' t' g sound h k.

@@ -12,6 +12,7 @@ use Rattle.std.proofs.lemmas.Map.Text.{is_eq-slice_cmp}
 use Rattle.std.proofs.lemmas.List.Sorted.{IsPermutation-refl, IsPermutation-trans, IsPermutation-swap, IsPermutation-cons}
 use Rattle.ir_tree.specs.Meaning.{key_before, rises, rises_after}
 use Rattle.ir_text_attributes.specs.Keyed.{put_among, in_order, IsInOrder}
+use Rattle.std.proofs.lemmas.Bool.{and_parts, and_from}
 
 -- ---- the same entries
 
@@ -42,14 +43,6 @@ module _ {K A : Type 0} (before : K → K → Bool) where
 
 -- ---- their keys rise
 
-both_hold : (a b : Bool) → a ≡ true → b ≡ true → (a && b) ≡ true
-both_hold true b p q = q
-both_hold false b p q = absurd (true≢false (sym p))
-
-both_held : (a b : Bool) → (a && b) ≡ true → (a ≡ true) × (b ≡ true)
-both_held true b h = (refl, h)
-both_held false b h = absurd (true≢false (sym h))
-
 -- of two keys that differ one comes before the other
 other_way : (k l : List ℕ) → bytes_eq k l ≡ false → key_before k l ≡ false → key_before l k ≡ true
 other_way k l differ late = go (slice_cmp nat_cmp k l) refl
@@ -64,21 +57,21 @@ module _ {A : Type 0} where
   Apart k es = AllByRecursion (λ e. bytes_eq k e.0 ≡ false) es
 
   put_rises : (k : List ℕ) (e : List ℕ × A) (fs : List (List ℕ × A)) → key_before k e.0 ≡ true → Apart e.0 fs → rises_after key_before k fs ≡ true → rises_after key_before k (put_among key_before e fs) ≡ true
-  put_rises k e [] first apart up = both_hold (key_before k e.0) true first refl
+  put_rises k e [] first apart up = and_from (key_before k e.0) true first refl
   put_rises k e (f ∷ fs) first apart up =
-      let after = both_held (key_before k f.0) (rises_after key_before f.0 fs) up in
+      let after = and_parts (key_before k f.0) (rises_after key_before f.0 fs) up in
       go after (λ p. put_rises f.0 e fs p apart.1 after.1) (key_before e.0 f.0) refl
     where
       go : (key_before k f.0 ≡ true) × (rises_after key_before f.0 fs ≡ true) → (key_before f.0 e.0 ≡ true → rises_after key_before f.0 (put_among key_before e fs) ≡ true) → (b : Bool) → key_before e.0 f.0 ≡ b → rises_after key_before k (put_among key_before e (f ∷ fs)) ≡ true
-      go after later true h = rw h (both_hold (key_before k e.0) (key_before e.0 f.0 && rises_after key_before f.0 fs) first (both_hold (key_before e.0 f.0) (rises_after key_before f.0 fs) h after.1))
-      go after later false h = rw h (both_hold (key_before k f.0) (rises_after key_before f.0 (put_among key_before e fs)) after.0 (later (other_way e.0 f.0 apart.0 h)))
+      go after later true h = rw h (and_from (key_before k e.0) (key_before e.0 f.0 && rises_after key_before f.0 fs) first (and_from (key_before e.0 f.0) (rises_after key_before f.0 fs) h after.1))
+      go after later false h = rw h (and_from (key_before k f.0) (rises_after key_before f.0 (put_among key_before e fs)) after.0 (later (other_way e.0 f.0 apart.0 h)))
 
   first_rises : (e : List ℕ × A) (fs : List (List ℕ × A)) → Apart e.0 fs → rises key_before fs ≡ true → rises key_before (put_among key_before e fs) ≡ true
   first_rises e [] apart up = refl
   first_rises e (f ∷ fs) apart up = go (key_before e.0 f.0) refl
     where
       go : (b : Bool) → key_before e.0 f.0 ≡ b → rises key_before (put_among key_before e (f ∷ fs)) ≡ true
-      go true h = rw h (both_hold (key_before e.0 f.0) (rises_after key_before f.0 fs) h up)
+      go true h = rw h (and_from (key_before e.0 f.0) (rises_after key_before f.0 fs) h up)
       go false h = rw h (put_rises f.0 e fs (other_way e.0 f.0 apart.0 h) apart.1 up)
 
   apart_keys : (k : List ℕ) (es : List (List ℕ × A)) → AllByRecursion (λ l. bytes_eq k l ≡ false) (map (λ (e : List ℕ × A). e.0) es) → Apart k es

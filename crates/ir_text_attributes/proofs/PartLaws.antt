@@ -3,7 +3,7 @@ use Rattle.std.specs.Prelude.{if◌then◌else◌, nat_eq, ◌||◌, ◌==◌}
 use Rattle.std.specs.List.{AllByRecursion, list_any}
 use Rattle.std.specs.Str.{bytes_eq}
 use Rattle.std.proofs.Common.{◌≡◌, ◌<◌, ◌≤◌, ◌-◌, ℕ, zero, suc, Bool, true, false, true≢false, List, [], ◌∷◌, ◌++◌, length, map, Option, Some, None, refl, sym, ap, subst, ◌∙◌, inl, inr, le-leb, arith}
-use Rattle.std.proofs.lemmas.Bool.{eqb-true, eq-eqb}
+use Rattle.std.proofs.lemmas.Bool.{eqb-true, eq-eqb, or_parts}
 use Rattle.std.proofs.lemmas.List.{length-append}
 use Rattle.std.proofs.lemmas.List.Elements.{All-from_recursion}
 use Rattle.ir_text_tokens.specs.declared.token.Mark.TheVariants.{CloseCurly, CloseSquare, Equal, Comma}
@@ -35,6 +35,7 @@ use Rattle.ir_tree.specs.Meaning.{key_before}
 use Rattle.ir_text_attributes.specs.Keyed.{has_key, put_among, in_order}
 use Rattle.ir_text_attributes.proofs.NodeLaws.{IsNodeOf, IsAllowed, name_done_exact, attr_done_exact, zero_exact, exact_given, exact_read}
 use Rattle.ir_text_attributes.proofs.LeafLaws.{unit_node}
+use Rattle.ir_types.proofs.Truths.{same_bool}
 
 -- a key and an attribute
 abbrev pub EntryStands : Things → ℕ × ℕ → EntryTerm → Type 0
@@ -70,16 +71,10 @@ key_exact c =
     exact_spelled things Same c NameStands key_at (λ y old new. (l : Lexeme) × (rest : Text) × Token l old rest × KeyFrom l rest y old new) IsKey key_into key_back
     (token_exact c NameStands (λ s l rest. key_from s.1 l rest) KeyFrom (key_from_exact c))
 
-tests_agree : (a b : Bool) → (a ≡ true → b ≡ true) → (b ≡ true → a ≡ true) → a ≡ b
-tests_agree true true f g = refl
-tests_agree true false f g = sym (f refl)
-tests_agree false true f g = g refl
-tests_agree false false f g = refl
-
 -- names of a sound context are equal exactly where their bytes are
 pub keys_agree : (z : Things) → IsSound z → (k l : ℕ) (x y : List ℕ) → NameStands z k x → NameStands z l y → nat_eq k l ≡ bytes_eq x y
 keys_agree z sound k l x y h j =
-    tests_agree (nat_eq k l) (bytes_eq x y)
+    same_bool (nat_eq k l) (bytes_eq x y)
     (λ e. subst (λ w. bytes_eq x w ≡ true) (sym h.1 ∙ ap (name_term z) (eqb-true k l e) ∙ j.1) (name_refl x))
     (λ e. eq-eqb k l (name_term_one z k l sound h.0 j.0 (h.1 ∙ name_is x y e ∙ sym j.1)))
 
@@ -160,21 +155,17 @@ array_node z xs ys all = (All-from_recursion (λ a. a < length z.attrs) xs (attr
 abbrev keys : Entries → List ℕ
 keys es = map (λ (e : ℕ × ℕ). e.0) es
 
-neither : (a b : Bool) → (a || b) ≡ false → (a ≡ false) × (b ≡ false)
-neither true b e = absurd (true≢false e)
-neither false b e = (refl, e)
-
 any_push : (k : ℕ) (es : Entries) (e : ℕ × ℕ) → list_any (λ l. k == l) (keys es) ≡ false → (k == e.0) ≡ false → list_any (λ l. k == l) (keys (es ++ e ∷ [])) ≡ false
 any_push k [] e h j = rw j refl
 any_push k (f ∷ fs) e h j =
-    let b = neither (k == f.0) (list_any (λ l. k == l) (keys fs)) h in
+    let b = or_parts (k == f.0) (list_any (λ l. k == l) (keys fs)) h in
     rw b.0 (any_push k fs e b.1 j)
 
 twin_push : (es : Entries) (e : ℕ × ℕ) → has_twin (keys es) ≡ false → has_key nat_eq e.0 es ≡ false → has_twin (keys (es ++ e ∷ [])) ≡ false
 twin_push [] e once new = refl
 twin_push (f ∷ fs) e once new =
-    let b = neither (list_any (λ l. f.0 == l) (keys fs)) (has_twin (keys fs)) once in
-    let n = neither (nat_eq f.0 e.0) (has_key nat_eq e.0 fs) new in
+    let b = or_parts (list_any (λ l. f.0 == l) (keys fs)) (has_twin (keys fs)) once in
+    let n = or_parts (nat_eq f.0 e.0) (has_key nat_eq e.0 fs) new in
     rw (any_push f.0 fs e b.0 n.0) (twin_push fs e b.1 n.1)
 
 abbrev with_value : ℕ → Outcome (ℕ × Typed) → Outcome ((ℕ × ℕ) × Typed)

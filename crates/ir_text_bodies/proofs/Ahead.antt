@@ -9,6 +9,7 @@ use Rattle.ir_text_bodies.specs.Bodies.{closer_of, comma_ahead, fault_of, is_non
 use Rattle.ir_text_bodies.specs.Commas.{IsNoComma}
 use Rattle.ir_text_bodies.proofs.Kept.{part_within}
 use Rattle.ir_text_bodies.proofs.Walk.{pushed, counted}
+use Rattle.ir_text_tokens.proofs.Wholes.{not_zero}
 
 closing : (c o : ℕ) (os cs : List ℕ) → IsNoComma c os → (c == o) ≡ true → comma_ahead (o ∷ os) 0 (c ∷ cs) ≡ comma_ahead os 0 cs
 unfolding comma_ahead
@@ -82,12 +83,9 @@ unfolding comma_ahead
 none_behind [] rest n = refl
 none_behind (o ∷ os) rest n = absurd (n (omega arith))
 
-no_length : (n : ℕ) → (suc n == 0) ≡ false
-no_length n = grind (arith, nat_tests)
-
 counts_none : (l : List ℕ) → is_none l ≡ (length l == 0)
 counts_none [] = refl
-counts_none (o ∷ os) = sym (no_length (length os))
+counts_none (o ∷ os) = sym (not_zero (length os))
 
 pub none_left : (items : List ℕ) → is_none (reverse items) ≡ (length items == 0)
 none_left items = counts_none (reverse items) ∙ ap (λ n. n == 0) (length-reverse items)

@@ -153,7 +153,7 @@ undivided_again w r rest lt =
 
 -- ---- what begins with a byte
 
-some_behind : (c : ℕ) (cs : List ℕ) → is_arrow c cs ≡ true → 1 ≤ length cs
+pub some_behind : (c : ℕ) (cs : List ℕ) → is_arrow c cs ≡ true → 1 ≤ length cs
 some_behind c [] e = from (c == 45) e
   where
     from : (t : Bool) → (t && false) ≡ true → 1 ≤ 0

@@ -9,11 +9,7 @@ use Rattle.ir_text_tokens.specs.Strings.{closing}
 use Rattle.ir_text_tokens.specs.Tokens.{Lexeme, string, hash, bang, next, skip, string_at, name_at, suffix_len}
 use Rattle.ir_text_bodies.specs.Bodies.{begins, fault_of, is_alias, is_sign, is_undivided, part_len}
 use Rattle.ir_text_bodies.proofs.Kept.{name_within}
-
-string_token : (cs : List ℕ) → next (34 ∷ cs) ≡ string_at string cs
-unfolding next skip
-string_token [] = refl
-string_token (d ∷ ds) = refl
+use Rattle.ir_text_tokens.proofs.Facts.{string_token}
 
 pub behind_string : (cs rest : List ℕ) (t : Lexeme) → next (34 ∷ cs) ≡ Some (t, rest) → (fault_of 34 cs ≡ None) × (rest ≡ drop (part_len 34 cs) cs)
 behind_string cs rest t e = from (closing cs) refl (sym (string_token cs) ∙ e)

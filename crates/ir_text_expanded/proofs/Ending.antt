@@ -15,6 +15,7 @@ use Rattle.ir_text_aliases.proofs.Tails.{IsTail, dropped, is_drop, place_tail, s
 use Rattle.ir_text_expanded.specs.Definitions.{is_known, with_alias}
 use Rattle.ir_text_expanded.specs.Endings.{ending, ending_of, ending_value, endings, unless}
 use Rattle.ir_text_expanded.proofs.Parts.{definition_tail}
+use Rattle.ir_text_expanded.proofs.Defining.{gap_shorter}
 
 -- ---- what follows
 
@@ -52,9 +53,6 @@ other env c cs e = rw e refl
 
 pub gap_step : (env : Aliases) (c : ℕ) (all tail rest : List ℕ) → all ≡ c ∷ tail → is_gap c tail ≡ true → rest ≡ drop (piece_len c tail) tail → endings env 0 all ≡ endings env 0 rest
 gap_step env c all tail rest a g r = ap (endings env 0) a ∙ gap env c tail g ∙ passed env (piece_len c tail) tail (piece_within c tail) ∙ ap (endings env 0) (sym r)
-
-pub gap_shorter : (c : ℕ) (tail rest : List ℕ) → rest ≡ drop (piece_len c tail) tail → length rest ≤ length tail
-gap_shorter c tail rest r = omega (arith, ap length r, length-drop (piece_len c tail) tail)
 
 pub more_step : (env more : Aliases) (c : ℕ) (all tail rest name : List ℕ) → all ≡ c ∷ tail → is_gap c tail ≡ false → Ok rest ≡ ending env c tail → name ≡ name_of c tail → more ≡ with_alias name 0 0 env → endings env 0 all ≡ endings more 0 rest
 more_step env more c all tail rest name a g e n m =

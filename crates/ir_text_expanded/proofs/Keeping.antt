@@ -3,7 +3,7 @@ use Rattle.std.proofs.Common.{◌≡◌, ℕ, zero, suc, ◌+◌, ◌-◌, ◌<�
 use Rattle.std.specs.Prelude.{◌&&◌, ◌||◌, not, nat_lt, ⊤, Ok, Err}
 use Rattle.std.specs.Result.{result_err}
 use Rattle.std.proofs.Math.ListN.{get_or-append}
-use Rattle.std.proofs.lemmas.Bool.{le-ltb, lt-ltb, ltb-false, ltb-true}
+use Rattle.std.proofs.lemmas.Bool.{le-ltb, lt-ltb, ltb-false, ltb-true, or_parts}
 use Rattle.std.proofs.lemmas.List.{append-nil, get_or-append-add, get_or-append_right, get_or-take, length-append, length-drop, length-take-le}
 use Rattle.ir_text_tokens.specs.declared.fault.Fault.{Fault}
 use Rattle.ir_text_bodies.specs.Bodies.{is_alias}
@@ -41,15 +41,11 @@ one_more : (ms : List Mark) (m : Mark) (n : ℕ) → AllIn ms n → m.front ≤ 
 one_more [] m n h f p = (f, p, h)
 one_more (x ∷ ms) m n h f p = (h.0, h.1, one_more ms m n h.2 f p)
 
-neither : (a b : Bool) → (a || b) ≡ false → (a ≡ false) × (b ≡ false)
-neither false b e = (refl, e)
-neither true b e = absurd cc
-
 unspelled : (ms : List Mark) (m : Mark) (at : ℕ) → is_spelled (ms ++ m ∷ []) at ≡ false → (is_spelled ms at ≡ false) × ((not (nat_lt at m.front) && nat_lt at m.past) ≡ false)
 unfolding is_spelled
-unspelled [] m at e = (refl, (neither (not (nat_lt at m.front) && nat_lt at m.past) false e).0)
+unspelled [] m at e = (refl, (or_parts (not (nat_lt at m.front) && nat_lt at m.past) false e).0)
 unspelled (x ∷ ms) m at e =
-    let h = neither (not (nat_lt at x.front) && nat_lt at x.past) (is_spelled (ms ++ m ∷ []) at) e in
+    let h = or_parts (not (nat_lt at x.front) && nat_lt at x.past) (is_spelled (ms ++ m ∷ []) at) e in
     let k = unspelled ms m at h.1 in
     (rw h.0 k.0, k.1)
 

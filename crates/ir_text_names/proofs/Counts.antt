@@ -15,7 +15,7 @@ pub counts_push : (ns : List Counted) (n : Counted) → counts (ns ++ n ∷ []) 
 counts_push [] n = omega arith
 counts_push (m ∷ ns) n = omega (arith, counts_push ns n)
 
-if_read : {A : Type 0} (b : Bool) (x y : A) → (if b then Read x else Wrong) ≡ Read y → (b ≡ true) × (x ≡ y)
+pub if_read : {A : Type 0} (b : Bool) (x y : A) → (if b then Read x else Wrong) ≡ Read y → (b ≡ true) × (x ≡ y)
 if_read true x y e = (refl, cc)
 if_read false x y e = absurd cc
 

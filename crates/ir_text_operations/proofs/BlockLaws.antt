@@ -2,7 +2,7 @@
 use Rattle.std.specs.Prelude.{option_map}
 use Rattle.std.specs.List.{list_all}
 use Rattle.std.proofs.Common.{◌≡◌, ℕ, zero, suc, Bool, true, List, [], ◌∷◌, ◌++◌, length, map, Option, Some, None, refl, sym, ap, subst, ◌∙◌, ◌⊎◌, inl, inr}
-use Rattle.std.proofs.lemmas.Bool.{lt-ltb}
+use Rattle.std.proofs.lemmas.Bool.{lt-ltb, and_from}
 use Rattle.ir_text_tokens.specs.declared.token.Mark.{Mark}
 use Rattle.ir_text_tokens.specs.declared.token.Mark.TheVariants.{OpenRound, CloseRound, OpenCurly, Colon}
 use Rattle.ir_text_tokens.specs.Tokens.{Lexeme, label}
@@ -17,7 +17,6 @@ use Rattle.ir_tree.specs.Limits.{ops_every}
 use Rattle.ir_tree.specs.Maps.{map_ops}
 use Rattle.ir_tree.specs.Passing.{op_passes}
 use Rattle.ir_tree.specs.Meaning.{Operation, is_name, is_type, is_attr}
-use Rattle.ir_tree.proofs.Meanings.{both_hold}
 use Rattle.ir_text_types.specs.Marks.{after}
 use Rattle.ir_text_types.specs.Outcomes.{Outcome, Read, ◌>>=◌, of_option, Parse}
 use Rattle.ir_text_types.specs.Grammars.{Grammar, Then, Done, After, Not, Either, IsMore, IsList}
@@ -161,7 +160,7 @@ pub types_known : (z : Things) (xs : List ℕ) (ys : List TypeTerm) → Each Typ
 types_known z [] [] h = refl
 types_known z [] (y ∷ ys) h = absurd h
 types_known z (x ∷ xs) [] h = absurd h
-types_known z (x ∷ xs) (y ∷ ys) h = both_hold (is_type z x) (list_all (is_type z) xs) (lt-ltb x (length z.types) h.0.0) (types_known z xs ys h.1)
+types_known z (x ∷ xs) (y ∷ ys) h = and_from (is_type z x) (list_all (is_type z) xs) (lt-ltb x (length z.types) h.0.0) (types_known z xs ys h.1)
 
 pub types_are : (z : Things) (xs : List ℕ) (ys : List TypeTerm) → Each TypeStands z xs ys → map (type_term z) xs ≡ ys
 types_are z [] [] h = refl
@@ -169,13 +168,13 @@ types_are z [] (y ∷ ys) h = absurd h
 types_are z (x ∷ xs) [] h = absurd h
 types_are z (x ∷ xs) (y ∷ ys) h = λ i. h.0.1 i ∷ types_are z xs ys h.1 i
 
-ops_known : (z : Things) (xs : List Op) (ys : List Operation) → Each OpStands z xs ys → ops_every (op_passes (is_name z) (is_type z) (is_attr z)) (ops_of xs) ≡ true
+pub ops_known : (z : Things) (xs : List Op) (ys : List Operation) → Each OpStands z xs ys → ops_every (op_passes (is_name z) (is_type z) (is_attr z)) (ops_of xs) ≡ true
 ops_known z [] [] h = refl
 ops_known z [] (y ∷ ys) h = absurd h
 ops_known z (x ∷ xs) [] h = absurd h
-ops_known z (x ∷ xs) (y ∷ ys) h = both_hold _ _ h.0.0 (ops_known z xs ys h.1)
+ops_known z (x ∷ xs) (y ∷ ys) h = and_from _ _ h.0.0 (ops_known z xs ys h.1)
 
-ops_are : (z : Things) (xs : List Op) (ys : List Operation) → Each OpStands z xs ys → map_ops (name_term z) (type_term z) (attr_term z) (ops_of xs) ≡ ops_of ys
+pub ops_are : (z : Things) (xs : List Op) (ys : List Operation) → Each OpStands z xs ys → map_ops (name_term z) (type_term z) (attr_term z) (ops_of xs) ≡ ops_of ys
 ops_are z [] [] h = refl
 ops_are z [] (y ∷ ys) h = absurd h
 ops_are z (x ∷ xs) [] h = absurd h

@@ -31,6 +31,7 @@ use Rattle.ir_text_names.specs.Packs.{counts}
 use Rattle.ir_text_operations.specs.Seen.{BoundTerm, PackTerm}
 use Rattle.ir_text_operations.specs.OpGrammar.{FreeTerms, IsName, IsNumber, IsCount, IsResult, IsNames, IsResultsFrom, IsResults, IsOpName, IsPlace, IsUse, IsStart}
 use Rattle.ir_text_operations.specs.Standing.{Equals, Both, BoundStands, PackStands, HereStands, FreeStands, StartStands}
+use Rattle.ir_text_names.proofs.Counts.{if_read}
 
 -- ---- readers over any state
 
@@ -234,10 +235,6 @@ module _ {A : Type 0} (p : Parse Text A) (P : Grammar Text A) (found : (s : Text
     found = λ s t x s' g sound h e. (x, s', subst (λ b. P x b s') (h c (grows_refl c) sound) (found s x s' e), record { grows = grows_refl c; sound = sound; stands = λ z j w. refl; agree = λ z j w. refl });
     only = λ s t y t' g sound h k. inr (y, t', only s y t' (subst (λ b. P y b t') (sym (h c (grows_refl c) sound)) k), record { grows = grows_refl c; sound = sound; stands = λ z j w. refl; agree = λ z j w. refl });
   }
-
-pub if_read : {A : Type 0} (b : Bool) (x y : A) → (if b then Read x else Wrong) ≡ Read y → (b ≡ true) × (x ≡ y)
-if_read true x y e = (refl, cc)
-if_read false x y e = absurd cc
 
 abbrev pair : ℕ → Text → ℕ × Text
 pair k s = (k, s)

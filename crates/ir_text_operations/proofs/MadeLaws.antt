@@ -2,7 +2,7 @@
 use Rattle.std.specs.Prelude.{not, if◌then◌else◌}
 use Rattle.std.specs.List.{list_all}
 use Rattle.std.proofs.Common.{◌≡◌, ℕ, Bool, true, false, true≢false, List, [], ◌∷◌, ◌++◌, length, map, Some, refl, sym, ap}
-use Rattle.std.proofs.lemmas.Bool.{lt-ltb}
+use Rattle.std.proofs.lemmas.Bool.{lt-ltb, and_from}
 use Rattle.ir_types.specs.Things.{Things}
 use Rattle.ir_types.specs.Terms.{TypeTerm, name_term, type_term, attr_term}
 use Rattle.ir_tree.specs.declared.value.Value.{Value}
@@ -12,7 +12,6 @@ use Rattle.ir_tree.specs.Limits.{regions_every, all_arguments_pass, arguments_pa
 use Rattle.ir_tree.specs.Maps.{map_entry, map_regions}
 use Rattle.ir_tree.specs.Passing.{entry_passes, op_passes}
 use Rattle.ir_tree.specs.Meaning.{is_name, is_type, is_attr, key_before, key_before_in}
-use Rattle.ir_tree.proofs.Meanings.{both_hold}
 use Rattle.ir_text_types.specs.Standing.{NameStands, TypeStands}
 use Rattle.ir_text_types.specs.Laws.{Each}
 use Rattle.ir_text_names.specs.declared.bound.Bound.{Bound}
@@ -90,7 +89,7 @@ entries_known z [] [] h = refl
 entries_known z [] (y ∷ ys) h = absurd h
 entries_known z (x ∷ xs) [] h = absurd h
 entries_known z (x ∷ xs) (y ∷ ys) h =
-    both_hold (entry_passes (is_name z) (is_attr z) x) (list_all (entry_passes (is_name z) (is_attr z)) xs) (both_hold (is_name z x.0) (is_attr z x.1) (lt-ltb x.0 (length z.names) h.0.0.0) (lt-ltb x.1 (length z.attrs) h.0.1.0)) (entries_known z xs ys h.1)
+    and_from (entry_passes (is_name z) (is_attr z) x) (list_all (entry_passes (is_name z) (is_attr z)) xs) (and_from (is_name z x.0) (is_attr z x.1) (lt-ltb x.0 (length z.names) h.0.0.0) (lt-ltb x.1 (length z.attrs) h.0.1.0)) (entries_known z xs ys h.1)
 
 entries_are : (z : Things) (es : Entries) (fs : List EntryTerm) → Each EntryStands z es fs → map (map_entry (name_term z) (attr_term z)) es ≡ fs
 entries_are z [] [] h = refl
@@ -109,14 +108,14 @@ module _ (z : Things) where
   arguments_known [] [] h = refl
   arguments_known [] (y ∷ ys) h = absurd h
   arguments_known (x ∷ xs) [] h = absurd h
-  arguments_known (x ∷ xs) (y ∷ ys) h = both_hold (arguments_pass (list_all (is_type z)) x) (all_arguments_pass (list_all (is_type z)) (regions_of xs)) h.0.0 (arguments_known xs ys h.1)
+  arguments_known (x ∷ xs) (y ∷ ys) h = and_from (arguments_pass (list_all (is_type z)) x) (all_arguments_pass (list_all (is_type z)) (regions_of xs)) h.0.0 (arguments_known xs ys h.1)
 
   regions_known : (gs : List Region) (ys : List RegionTerm) → Each RegionStands z gs ys → regions_every (op_passes (is_name z) (is_type z) (is_attr z)) (regions_of gs) ≡ true
   regions_known [] [] h = refl
   regions_known [] (y ∷ ys) h = absurd h
   regions_known (x ∷ xs) [] h = absurd h
   regions_known (x ∷ xs) (y ∷ ys) h =
-      both_hold (region_every (op_passes (is_name z) (is_type z) (is_attr z)) x) (regions_every (op_passes (is_name z) (is_type z) (is_attr z)) (regions_of xs)) h.0.1 (regions_known xs ys h.1)
+      and_from (region_every (op_passes (is_name z) (is_type z) (is_attr z)) x) (regions_every (op_passes (is_name z) (is_type z) (is_attr z)) (regions_of xs)) h.0.1 (regions_known xs ys h.1)
 
   regions_are : (gs : List Region) (ys : List RegionTerm) → Each RegionStands z gs ys → map_regions (name_term z) (type_term z) (attr_term z) (regions_of gs) ≡ regions_of ys
   regions_are [] [] h = refl
@@ -164,11 +163,11 @@ module _ (c z : Things) (id name : ℕ) (word : List ℕ) (operands : List Bound
 
   pub op_stands : OpStands z (op_of c id name operands ps es outputs gs) (made (is_property (Some word)) key_before id word (map (λ b. b.value) uses) qs fs types ys)
   op_stands = (
-    both_hold _ _
-        (both_hold _ _
-        (both_hold (is_name z name) _ (lt-ltb name (length z.names) now.0)
-        (both_hold (list_all (is_type z) outputs) _ (types_known z outputs types typed)
-        (both_hold (list_all (entry_passes (is_name z) (is_attr z)) kept) _ (entries_known z kept kept_terms kept_stand) (entries_known z others other_terms others_stand))))
+    and_from _ _
+        (and_from _ _
+        (and_from (is_name z name) _ (lt-ltb name (length z.names) now.0)
+        (and_from (list_all (is_type z) outputs) _ (types_known z outputs types typed)
+        (and_from (list_all (entry_passes (is_name z) (is_attr z)) kept) _ (entries_known z kept kept_terms kept_stand) (entries_known z others other_terms others_stand))))
         (arguments_known z gs ys regions))
         (regions_known z gs ys regions),
     λ i. tree.op (head_of (now.1 i) (values_are z operands uses used i) (types_are z outputs types typed i) (entries_are z kept kept_terms kept_stand i) (entries_are z others other_terms others_stand i)) (regions_are z gs ys regions i),

@@ -3,16 +3,12 @@ use Rattle.std.specs.Prelude.{◌&&◌, ◌==◌, slice_get}
 use Rattle.std.specs.List.{list_all}
 use Rattle.std.specs.Char.{is_ascii_digit}
 use Rattle.std.proofs.Common.{◌≡◌, ◌^◌, ◌<◌, ◌≤◌, ℕ, Bool, true, false, true≢false, List, [], ◌∷◌, length, Some, None, refl, sym, ap, subst, ◌∙◌, arith}
-use Rattle.std.proofs.lemmas.Bool.{eqb-true}
+use Rattle.std.proofs.lemmas.Bool.{eqb-true, and_parts}
 use Rattle.std.proofs.lemmas.Bool.Decides.{nat_tests}
 use Rattle.std.proofs.lemmas.Option.{slice_get_past}
 use Rattle.ir_text_tokens.specs.Numbers.{place_value, begins_hex, integer_of, below_limit}
 use Rattle.ir_text_operations.specs.Free.{small}
-
-both_are : (x y : Bool) → (x && y) ≡ true → (x ≡ true) × (y ≡ true)
-both_are true true e = (refl, refl)
-both_are true false e = absurd (true≢false (sym e))
-both_are false y e = absurd (true≢false (sym e))
+use Rattle.ir_text_types.proofs.Widths.{limit_is}
 
 second_is : (x y : Bool) → (y ≡ true → ⊥) → (x && y) ≡ false
 second_is false y h = refl
@@ -29,8 +25,8 @@ no_hex : (ds : List ℕ) → list_all is_ascii_digit ds ≡ true → begins_hex 
 no_hex [] h = refl
 no_hex (a ∷ []) h = refl
 no_hex (a ∷ b ∷ ds) h =
-    let rest = (both_are (is_ascii_digit a) (list_all is_ascii_digit (b ∷ ds)) h).1 in
-    second_is (a == 48) (b == 120) (no_digit b (both_are (is_ascii_digit b) (list_all is_ascii_digit ds) rest).0)
+    let rest = (and_parts (is_ascii_digit a) (list_all is_ascii_digit (b ∷ ds)) h).1 in
+    second_is (a == 48) (b == 120) (no_digit b (and_parts (is_ascii_digit b) (list_all is_ascii_digit ds) rest).0)
 
 -- digits write their number in decimal
 pub decimal : (ds : List ℕ) → list_all is_ascii_digit ds ≡ true → integer_of ds ≡ place_value 10 ds
@@ -38,9 +34,6 @@ decimal ds h = rw (no_hex ds h) refl
 
 limit_passed : (n : ℕ) → below_limit n ≡ None → 2 ^ 128 ≤ n
 limit_passed n e = grind (arith, nat_tests)
-
-limit_is : (n w : ℕ) → below_limit n ≡ Some w → n ≡ w
-limit_is n w e = grind (arith, nat_tests)
 
 -- no pack has as many values as pass the limit of numbers
 pub past_limit : {A : Type 0} (xs : List A) (ds : List ℕ) → list_all is_ascii_digit ds ≡ true → length xs < 2 ^ 128 → below_limit (integer_of ds) ≡ None → slice_get xs (place_value 10 ds) ≡ None

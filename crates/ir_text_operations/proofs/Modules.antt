@@ -48,6 +48,8 @@ use Rattle.ir_text_operations.specs.Spelling.{begins_module, is_root, module_wor
 use Rattle.ir_text_operations.specs.Claims.{IsOnly, IsNone, IsBody, IsSource, IsModuleTree, module_with}
 use Rattle.ir_text_operations.proofs.NameLaws.{held, bytes_now}
 use Rattle.ir_text_operations.proofs.OpLaws.{op_exact, source_exact}
+use Rattle.ir_text_attributes.proofs.Singles.{fails_wrong}
+use Rattle.ir_text_operations.proofs.BlockLaws.{ops_are, ops_known}
 
 -- no module is around, and so no name is free
 abbrev pub no_free : Frees
@@ -121,12 +123,6 @@ explicit_whole bytes c x s sound begins e whole = by (after End s.bytes) refl wh
     by None k w = absurd cc
     by (Some rest) k w = explicit_read bytes c x s rest sound begins e k w
 
--- a refusal, where nothing is read
-pub fails_wrong : {X Y : Type 0} (e : ReadError) (o : Outcome Y) (f : Fault) → Fails e o → ◌≡◌ {A = Result X ReadError} (Err e) (Err (errors.Refused f)) → o ≡ Wrong
-fails_wrong errors.Memory o f h k = absurd cc
-fails_wrong (errors.Full left) o f h k = absurd cc
-fails_wrong (errors.Refused g) o f h k = h
-
 -- the context is full, where reading says so
 pub fails_full : {X Y : Type 0} (e : ReadError) (o : Outcome Y) (left : ℕ) → Fails e o → ◌≡◌ {A = Result X ReadError} (Err e) (Err (errors.Full left)) → o ≡ Full
 fails_full errors.Memory o left h k = absurd cc
@@ -163,18 +159,6 @@ explicit_wrong bytes c sound e y h = ⊎_elim
     ((op_exact no_free no_names 1048576 c (no_frees c) 129 c (grows_refl c)).only (fresh 0 bytes c) (seen_fresh 0 bytes) y h.1.0 (grows_refl c) sound (fresh_agrees 0 bytes c) h.1.2)
 
 -- ---- an implicit one
-
-ops_are : (z : Things) (xs : List Op) (ys : List Operation) → Each OpStands z xs ys → map_ops (name_term z) (type_term z) (attr_term z) (ops_of xs) ≡ ops_of ys
-ops_are z [] [] h = refl
-ops_are z [] (y ∷ ys) h = absurd h
-ops_are z (x ∷ xs) [] h = absurd h
-ops_are z (x ∷ xs) (y ∷ ys) h = λ i. next (h.0.1 i) (ops_are z xs ys h.1 i)
-
-ops_known : (z : Things) (xs : List Op) (ys : List Operation) → Each OpStands z xs ys → ops_every (op_passes (is_name z) (is_type z) (is_attr z)) (ops_of xs) ≡ true
-ops_known z [] [] h = refl
-ops_known z [] (y ∷ ys) h = absurd h
-ops_known z (x ∷ xs) [] h = absurd h
-ops_known z (x ∷ xs) (y ∷ ys) h = λ i. h.0.0 i && ops_known z xs ys h.1 i
 
 name_is_there : (c d : Things) (n : ℕ) → Grows c d → IsName c n → is_name d n ≡ true
 name_is_there c d n g h = lt-ltb n (length d.names) (omega (arith, h, front_length c.names d.names g.names))

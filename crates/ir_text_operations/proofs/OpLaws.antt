@@ -3,7 +3,7 @@ use Rattle.std.specs.Prelude.{if◌then◌else◌, option_map, nat_lt, IsTrue}
 use Rattle.std.specs.List.{list_all}
 use Rattle.std.specs.Str.{bytes_eq}
 use Rattle.std.proofs.Common.{◌≡◌, ◌<◌, ◌+◌, ℕ, zero, suc, Bool, true, false, true≢false, List, [], ◌∷◌, map, Option, Some, None, refl, sym, ap, subst, ◌∙◌, ◌⊎◌, inl, inr, ⊎_elim}
-use Rattle.std.proofs.lemmas.Bool.{ltb-true, lt-ltb}
+use Rattle.std.proofs.lemmas.Bool.{ltb-true, lt-ltb, and_from}
 use Rattle.ir_text_tokens.specs.declared.token.Mark.TheVariants.{CloseCurly, Colon, End}
 use Rattle.ir_text_tokens.specs.Scopes.{Binding, Scopes}
 use Rattle.ir_types.specs.Things.{Things, Grows}
@@ -14,7 +14,6 @@ use Rattle.ir_types.proofs.Growth.{grows_refl, grows_trans, name_is, name_refl}
 use Rattle.ir_types.proofs.Terms.{type_term_one}
 use Rattle.ir_tree.specs.Tree.{Op, Region}
 use Rattle.ir_tree.specs.Meaning.{Operation, meaning, is_known, isolated_in, key_before}
-use Rattle.ir_tree.proofs.Meanings.{both_hold}
 use Rattle.ir_text_types.specs.Marks.{after}
 use Rattle.ir_text_types.specs.Outcomes.{Outcome, Read, Wrong, Full, ◌>>=◌, of_option, Parse}
 use Rattle.ir_text_types.specs.Grammars.{When, Grammar, Then, Done, After}
@@ -336,7 +335,7 @@ each_known : (z : Things) (os : List Op) (ys : List Operation) → Each OpStands
 each_known z [] [] h = refl
 each_known z [] (y ∷ ys) h = absurd h
 each_known z (x ∷ xs) [] h = absurd h
-each_known z (x ∷ xs) (y ∷ ys) h = both_hold (is_known z x) (list_all (is_known z) xs) h.0.0 (each_known z xs ys h.1)
+each_known z (x ∷ xs) (y ∷ ys) h = and_from (is_known z x) (list_all (is_known z) xs) h.0.0 (each_known z xs ys h.1)
 
 each_meaning : (z : Things) (os : List Op) (ys : List Operation) → Each OpStands z os ys → map (meaning z) os ≡ ys
 each_meaning z [] [] h = refl

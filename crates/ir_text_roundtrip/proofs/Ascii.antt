@@ -6,7 +6,7 @@ use Rattle.std.specs.Fmt.{decimal, signed_decimal, digits, digits_onto, digit_gl
 use Rattle.std.specs.Ordering.{int_eq}
 use Rattle.std.specs.Str.{IsAscii}
 use Rattle.std.specs.Str.Lossy.{utf8_valid_len}
-use Rattle.std.proofs.lemmas.Bool.{eqb-true}
+use Rattle.std.proofs.lemmas.Bool.{eqb-true, and_parts}
 use Rattle.std.proofs.lemmas.Bool.Decides.{nat_tests}
 use Rattle.std.proofs.lemmas.Str.{IsAscii-append, IsUtf8-from_ascii, utf8_valid_len-IsUtf8}
 use Rattle.std.proofs.lemmas.Str.Ascii.{IsAscii-nil, IsAscii-cons}
@@ -31,10 +31,10 @@ use Rattle.ir_text_attributes.specs.AttrGrammar.{entries_of}
 use Rattle.ir_text.specs.Printing.{Printed, put, deeper, results_text, put_results, put_operands, dictionary_text, properties_text, attributes_text, put_head, put_tail, comma_at, argument_text, put_argument, put_arguments, put_bare_label, put_label, opening, closing_text, put_op, put_regions, put_region, put_ops, blank, text_of}
 use Rattle.ir_text.specs.Rows.{parted}
 use Rattle.ir_text.specs.TypeText.{sign_text, dimension_text, is_lone, in_round, outputs_text, type_text, type_texts}
-use Rattle.ir_text_roundtrip.proofs.Small.{both}
 use Rattle.ir_text_roundtrip.specs.WrittenAttributes.{IsWritableDictionary, are_bytes, is_written, are_written, are_written_entries, FitsAttr}
 use Rattle.ir_text_roundtrip.specs.WrittenTrees.{IsWritableHead, IsWritable, AreWritableRegions, IsWritableRegion, AreWritableOps}
 use Rattle.ir_text_roundtrip.proofs.Texts.{Head, Regions, Region, Ops}
+use Rattle.ir_text_roundtrip.proofs.Small.{is_byte}
 
 -- ---- bytes
 
@@ -43,7 +43,7 @@ low c e = grind (arith, nat_tests)
 
 word : (bs : List ℕ) → list_all (λ c. nat_lt c 128) bs ≡ true → IsAscii bs
 word [] e = IsAscii-nil
-word (c ∷ cs) e = let p = both (nat_lt c 128) (list_all (λ d. nat_lt d 128) cs) e in IsAscii-cons c cs (low c p.0) (word cs p.1)
+word (c ∷ cs) e = let p = and_parts (nat_lt c 128) (list_all (λ d. nat_lt d 128) cs) e in IsAscii-cons c cs (low c p.0) (word cs p.1)
 
 either : (b : Bool) (xs ys : List ℕ) → IsAscii xs → IsAscii ys → IsAscii (if b then xs else ys)
 either true xs ys h k = h
@@ -89,9 +89,6 @@ digit_low d lt = by (nat_lt d 10)
 plain_low : (c : ℕ) → (nat_le 32 c && nat_le c 126) ≡ true → c < 128
 plain_low c e = grind (arith, nat_tests)
 
-byte_low : (c : ℕ) → nat_lt c 256 ≡ true → c < 256
-byte_low c e = grind (arith, nat_tests)
-
 one_byte : (c : ℕ) → c < 256 → IsAscii (byte_text c)
 one_byte c lt = by (c == 92) (nat_le 32 c && nat_le c 126) refl (c == 34)
   where
@@ -107,8 +104,8 @@ one_byte c lt = by (c == 92) (nat_le 32 c && nat_le c 126) refl (c == 34)
 raw : (v : List ℕ) → are_bytes v ≡ true → IsAscii (raw_text v)
 raw [] e = IsAscii-nil
 raw (c ∷ cs) e =
-    let p = both (nat_lt c 256) (are_bytes cs) e in
-    IsAscii-append (byte_text c) (raw_text cs) (one_byte c (byte_low c p.0)) (raw cs p.1)
+    let p = and_parts (nat_lt c 256) (are_bytes cs) e in
+    IsAscii-append (byte_text c) (raw_text cs) (one_byte c (is_byte c p.0)) (raw cs p.1)
 
 quoted : (v : List ℕ) → are_bytes v ≡ true → IsAscii (string_text v)
 quoted v e = IsAscii-cons 34 (raw_text v ++ 34 ∷ []) (omega arith) (IsAscii-append (raw_text v) (34 ∷ []) (raw v e) (word (34 ∷ []) refl))
@@ -129,7 +126,7 @@ words_low (c ∷ cs) e = by (is_word c) refl e (words_low cs)
 
 bare : (v : List ℕ) → is_bare_id v ≡ true → IsAscii v
 bare [] e = IsAscii-nil
-bare (c ∷ cs) e = let p = both (is_letter c) (prefix_len is_word cs == length cs) e in IsAscii-cons c cs (letter_low c p.0) (words_low cs (eqb-true (prefix_len is_word cs) (length cs) p.1))
+bare (c ∷ cs) e = let p = and_parts (is_letter c) (prefix_len is_word cs == length cs) e in IsAscii-cons c cs (letter_low c p.0) (words_low cs (eqb-true (prefix_len is_word cs) (length cs) p.1))
 
 key : (v : List ℕ) → are_bytes v ≡ true → IsAscii (key_text v)
 key v e = by (is_bare_id v) refl
@@ -214,7 +211,7 @@ dense elem zs =
 
 parts : (ns : List (List ℕ)) → list_all are_bytes ns ≡ true → All (map part_text ns)
 parts [] e = tt
-parts (n ∷ ns) e = let p = both (are_bytes n) (list_all are_bytes ns) e in (IsAscii-append (codes "@") (key_text n) (word (codes "@") refl) (key n p.0), parts ns p.1)
+parts (n ∷ ns) e = let p = and_parts (are_bytes n) (list_all are_bytes ns) e in (IsAscii-append (codes "@") (key_text n) (word (codes "@") refl) (key n p.0), parts ns p.1)
 
 flags : (nsw nuw : Bool) → IsAscii (flags_text nsw nuw)
 flags false false = word (codes "none") refl
@@ -233,21 +230,21 @@ mutual
   attribute Flag e = word (codes "unit") refl
   attribute (Array xs) e =
       IsAscii-append (codes "[") (parted (codes ", ") true (attr_texts xs) ++ codes "]") (word (codes "[") refl)
-      (IsAscii-append (parted (codes ", ") true (attr_texts xs)) (codes "]") (row (codes ", ") true (attr_texts xs) (word (codes ", ") refl) (attributes xs (both _ (are_written xs) e).1)) (word (codes "]") refl))
-  attribute (Dictionary es) e = curly (entry_texts es) (entries es (both _ (are_written_entries es) e).1)
-  attribute (Symbol ns) e = row (codes "::") true (map part_text ns) (word (codes "::") refl) (parts ns (both _ (list_all are_bytes ns) e).1)
+      (IsAscii-append (parted (codes ", ") true (attr_texts xs)) (codes "]") (row (codes ", ") true (attr_texts xs) (word (codes ", ") refl) (attributes xs (and_parts _ (are_written xs) e).1)) (word (codes "]") refl))
+  attribute (Dictionary es) e = curly (entry_texts es) (entries es (and_parts _ (are_written_entries es) e).1)
+  attribute (Symbol ns) e = row (codes "::") true (map part_text ns) (word (codes "::") refl) (parts ns (and_parts _ (list_all are_bytes ns) e).1)
   attribute (DenseArray elem zs) e = dense elem zs
   attribute (Overflow nsw nuw) e = IsAscii-append (codes "#arith.overflow<") (flags_text nsw nuw ++ codes ">") (word (codes "#arith.overflow<") refl) (IsAscii-append (flags_text nsw nuw) (codes ">") (flags nsw nuw) (word (codes ">") refl))
 
   attributes : (as' : AttrTerms) → are_written as' ≡ true → All (attr_texts as')
   attributes no_attrs e = tt
-  attributes (next_attr a as') e = let p = both (is_written a) (are_written as') e in (attribute a p.0, attributes as' p.1)
+  attributes (next_attr a as') e = let p = and_parts (is_written a) (are_written as') e in (attribute a p.0, attributes as' p.1)
 
   entries : (es : EntryTerms) → are_written_entries es ≡ true → All (entry_texts es)
   entries no_entries e = tt
   entries (next_entry k a es) e =
-      let p = both (are_bytes k && is_written a) (are_written_entries es) e in
-      let q = both (are_bytes k) (is_written a) p.0 in
+      let p = and_parts (are_bytes k && is_written a) (are_written_entries es) e in
+      let q = and_parts (are_bytes k) (is_written a) p.0 in
       (entry k (is_flag a) (attr_text a) q.0 (attribute a q.1), entries es p.1)
 
 -- ---- dictionaries of operations

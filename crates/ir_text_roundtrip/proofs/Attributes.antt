@@ -24,7 +24,7 @@ use Rattle.ir_text_attributes.specs.AttrGrammar.{IsTypeAttr, IsPart, IsParts, Is
 use Rattle.ir_text_attributes.specs.Keyed.{has_key, in_order}
 use Rattle.ir_text_roundtrip.specs.Written.{is_written_type}
 use Rattle.ir_text_roundtrip.specs.WrittenAttributes.{attrs_list, entries_list, are_bytes as are_bytes_test, is_element, is_written, are_written, are_written_entries, FitsAttr, EndsAttr}
-use Rattle.ir_text_roundtrip.proofs.Small.{both, in_range, lacks_token, ends_word, are_bytes}
+use Rattle.ir_text_roundtrip.proofs.Small.{lacks_token, ends_word, are_bytes}
 use Rattle.ir_text_roundtrip.proofs.Ahead.{Ahead, Lacks, then_ahead}
 use Rattle.ir_text_roundtrip.proofs.Rows.{AllFit, Items, list_again}
 use Rattle.ir_text_roundtrip.proofs.Types.{some_depth, type_ahead}
@@ -33,6 +33,7 @@ use Rattle.ir_text_roundtrip.proofs.Symbols.{symbol_read}
 use Rattle.ir_text_roundtrip.proofs.Dense.{dense_read}
 use Rattle.ir_text_roundtrip.proofs.Keys.{AreBeforeFirst, next_before, no_key, in_order_again, entries_again}
 use Rattle.ir_text_roundtrip.proofs.Entries.{key_ahead, key_lacks, comma_ends, square_ends, comma_entry, close_entry, EndsEntry, text_of_entry, texts_of_entries, entry_parts}
+use Rattle.std.proofs.lemmas.Bool.{and_parts, leb-true}
 
 -- ---- what attributes begin with
 
@@ -101,7 +102,7 @@ IsReadAgain depth = (a : AttrTerm) (rest : List ℕ) → FitsAttr depth a → En
 
 attrs_fit : (depth : ℕ) (front : List AttrTerm) (as' : AttrTerms) → attrs_depth as' ≤ depth → are_written as' ≡ true → AllFit (λ before. FitsAttr depth) front (attrs_list as')
 attrs_fit depth front no_attrs le e = tt
-attrs_fit depth front (next_attr a as') le e = let p = both (is_written a) (are_written as') e in ((omega arith, p.0), attrs_fit depth (front ++ a ∷ []) as' (omega arith) p.1)
+attrs_fit depth front (next_attr a as') le e = let p = and_parts (is_written a) (are_written as') e in ((omega arith, p.0), attrs_fit depth (front ++ a ∷ []) as' (omega arith) p.1)
 
 array_fine : (as' : AttrTerms) → attr_depth (Array as') ≤ 32 → attr_fault (Array as') ≡ None
 array_fine as' le = let e : nat_le (attr_depth (Array as')) 32 ≡ true = grind (arith, nat_tests) in rw e refl
@@ -127,8 +128,8 @@ some_attr_depth (Overflow nsw nuw) e = omega arith
 entries_fit : (depth : ℕ) (front : List EntryTerm) (es : EntryTerms) → AreBeforeFirst front (entries_list es) → rises key_before (entries_list es) ≡ true → entries_depth es ≤ depth → are_written_entries es ≡ true → AllFit (FitsEntry depth) front (entries_list es)
 entries_fit depth front no_entries b r le e = tt
 entries_fit depth front (next_entry key a es) b r le e =
-    let p = both (are_bytes_test key && is_written a) (are_written_entries es) e in
-    let q = both (are_bytes_test key) (is_written a) p.0 in
+    let p = and_parts (are_bytes_test key && is_written a) (are_written_entries es) e in
+    let q = and_parts (are_bytes_test key) (is_written a) p.0 in
     let n = next_before front (key, a) (entries_list es) b r in
     ((no_key front key b, are_bytes key q.0, (omega arith, q.1)), entries_fit depth (front ++ (key, a) ∷ []) es n.0 n.1 (omega arith) p.1)
 
@@ -151,9 +152,9 @@ module _ (depth : ℕ) (item : IsReadAgain depth) where
   array_read : (as' : AttrTerms) (rest : List ℕ) → attr_depth (Array as') ≤ suc depth → suc depth ≤ 32 → is_written (Array as') ≡ true → Begins depth (Array as') (attr_text (Array as') ++ rest) rest
   unfolding IsArray
   array_read as' rest le small e =
-      let p = both (nat_le (length (attrs_list as')) many) (are_written as') e in
+      let p = and_parts (nat_le (length (attrs_list as')) many) (are_written as') e in
       let row = parted (codes ", ") true (attr_texts as') in
-      let inside = list_again CloseSquare (λ before. IsAttr depth) attr_text (λ before. FitsAttr depth) EndsAttr attr_items many (attrs_list as') rest (attrs_fit depth [] as' (omega arith) p.1) (in_range (length (attrs_list as')) many p.0) in
+      let inside = list_again CloseSquare (λ before. IsAttr depth) attr_text (λ before. FitsAttr depth) EndsAttr attr_items many (attrs_list as') rest (attrs_fit depth [] as' (omega arith) p.1) (leb-true (length (attrs_list as')) many p.0) in
       let apart : attr_text (Array as') ++ rest ≡ 91 ∷ (row ++ 93 ∷ rest) = ap (λ (l : List ℕ). 91 ∷ l) (append_assoc row (93 ∷ []) rest) in
       rw apart (mark OpenSquare, row ++ 93 ∷ rest, mark_token OpenSquare (row ++ 93 ∷ rest) tt, (attrs_list as', rest, rw (texts_of_attrs as') inside, (rw (attrs_again as') (array_fine as' (omega arith)), rw (attrs_again as') refl, refl)))
 
@@ -176,10 +177,10 @@ module _ (depth : ℕ) (item : IsReadAgain depth) where
   dictionary_read : (es : EntryTerms) (rest : List ℕ) → attr_depth (Dictionary es) ≤ suc depth → suc depth ≤ 32 → is_written (Dictionary es) ≡ true → Begins depth (Dictionary es) (attr_text (Dictionary es) ++ rest) rest
   unfolding IsDictionary
   dictionary_read es rest le small e =
-      let p = both (nat_le (length (entries_list es)) 256 && rises key_before (entries_list es)) (are_written_entries es) e in
-      let q = both (nat_le (length (entries_list es)) 256) (rises key_before (entries_list es)) p.0 in
+      let p = and_parts (nat_le (length (entries_list es)) 256 && rises key_before (entries_list es)) (are_written_entries es) e in
+      let q = and_parts (nat_le (length (entries_list es)) 256) (rises key_before (entries_list es)) p.0 in
       let row = parted (codes ", ") true (entry_texts es) in
-      let inside = list_again CloseCurly (IsEntry depth (IsAttr depth)) text_of_entry (FitsEntry depth) EndsEntry entry_items 256 (entries_list es) rest (entries_fit depth [] es (none_before es) q.1 (omega arith) p.1) (in_range (length (entries_list es)) 256 q.0) in
+      let inside = list_again CloseCurly (IsEntry depth (IsAttr depth)) text_of_entry (FitsEntry depth) EndsEntry entry_items 256 (entries_list es) rest (entries_fit depth [] es (none_before es) q.1 (omega arith) p.1) (leb-true (length (entries_list es)) 256 q.0) in
       let apart : attr_text (Dictionary es) ++ rest ≡ 123 ∷ (row ++ 125 ∷ rest) = ap (λ (l : List ℕ). 123 ∷ l) (append_assoc row (125 ∷ []) rest) in
       let same : entries_of (in_order key_before (entries_list es)) ≡ es = ap entries_of (in_order_again (entries_list es) q.1) ∙ entries_again es in
       rw apart (mark OpenCurly, row ++ 125 ∷ rest, mark_token OpenCurly (row ++ 125 ∷ rest) tt, (entries_list es, rest, rw (texts_of_entries es) inside, (rw same (dictionary_fine es (omega arith)), rw same refl, refl)))
@@ -193,7 +194,7 @@ module _ (depth : ℕ) (item : IsReadAgain depth) where
 pub attr_again : (depth : ℕ) → depth ≤ 32 → IsReadAgain depth
 unfolding IsAttr
 attr_again zero small a rest fit s = absurd (omega (arith, some_attr_depth a fit.1, fit.0))
-attr_again (suc depth) small (IntegerOf ty bits) rest fit s = let p = both (is_written_type ty) (is_bits_of ty bits) fit.1 in integer_read depth ty bits rest p.0 p.1 (ends_word rest s.0)
+attr_again (suc depth) small (IntegerOf ty bits) rest fit s = let p = and_parts (is_written_type ty) (is_bits_of ty bits) fit.1 in integer_read depth ty bits rest p.0 p.1 (ends_word rest s.0)
 attr_again (suc depth) small (String v) rest fit s = string_read depth v rest (are_bytes v fit.1)
 attr_again (suc depth) small (TypeOf ty) rest fit s = type_read depth ty rest small fit.0 fit.1 (ends_word rest s.0)
 attr_again (suc depth) small Flag rest fit s = unit_read depth rest (ends_word rest s.0)
@@ -201,7 +202,7 @@ attr_again (suc depth) small (Array items) rest fit s = array_read depth (attr_a
 attr_again (suc depth) small (Dictionary es) rest fit s = dictionary_read depth (attr_again depth (omega arith)) es rest fit.0 small fit.1
 attr_again (suc depth) small (Symbol parts) rest fit s = symbol_read depth parts rest fit.1 s
 attr_again (suc depth) small (DenseArray elem zs) rest fit s =
-    let p = both (is_element elem) (nat_le (length zs) many && list_all (is_value_number elem) zs) fit.1 in
-    let q = both (nat_le (length zs) many) (list_all (is_value_number elem) zs) p.1 in
+    let p = and_parts (is_element elem) (nat_le (length zs) many && list_all (is_value_number elem) zs) fit.1 in
+    let q = and_parts (nat_le (length zs) many) (list_all (is_value_number elem) zs) p.1 in
     dense_read depth elem zs rest p.0 q.0 q.1
 attr_again (suc depth) small (Overflow nsw nuw) rest fit s = overflow_read depth nsw nuw rest

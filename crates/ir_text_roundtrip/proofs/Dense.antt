@@ -5,7 +5,7 @@ use Rattle.std.proofs.lemmas.Bool.Decides.{nat_tests}
 use Rattle.ir_types.specs.Readings.{signed_of}
 use Rattle.std.specs.List.{list_all}
 use Rattle.std.specs.Fmt.{decimal, digits}
-use Rattle.std.proofs.lemmas.Bool.{eqb-true}
+use Rattle.std.proofs.lemmas.Bool.{eqb-true, and_parts, or_cases, leb-true}
 use Rattle.ir_types.specs.declared.node.Sign.TheVariants.{Signless, Signed, Unsigned}
 use Rattle.ir_types.specs.Terms.{TypeTerm, Integer, Index, Function, Memref, DenseArray}
 use Rattle.ir_types.specs.Ranges.{is_value_number}
@@ -26,11 +26,13 @@ use Rattle.ir_text_attributes.specs.Elements.{element_of}
 use Rattle.ir_text_attributes.specs.AttrGrammar.{IsItem, IsItems, IsDense}
 use Rattle.ir_text_roundtrip.specs.Written.{is_written_type}
 use Rattle.ir_text_roundtrip.specs.WrittenAttributes.{is_element}
-use Rattle.ir_text_roundtrip.proofs.Small.{both, in_range, lacks_token}
+use Rattle.ir_text_roundtrip.proofs.Small.{lacks_token}
 use Rattle.ir_text_roundtrip.proofs.Ahead.{Ahead, Lacks, more_ahead, space}
 use Rattle.ir_text_roundtrip.proofs.Rows.{AllFit, Items, more_again}
-use Rattle.ir_text_roundtrip.proofs.Values.{IsPlain, plain, limit, no_less}
+use Rattle.ir_text_roundtrip.proofs.Values.{IsPlain, plain}
 use Rattle.ir_text_roundtrip.proofs.Leaves.{Begins}
+use Rattle.ir_text_tokens.proofs.Places.{is_below}
+use Rattle.ir_tree.proofs.Counts.{below_none}
 
 -- ---- items
 
@@ -49,14 +51,14 @@ EndsItem rest = Stops is_word rest × Stops extends_integer rest
 
 number_item : (elem : TypeTerm) (z : ℤ) (rest : List ℕ) → IsPlain elem z → Stops extends_integer rest → IsItem elem z (number_text false z ++ rest) rest
 unfolding number_text
-number_item elem (pos n) rest p s = inr (inl (decimal n, decimal_token n rest p.small s, (n, rw (integer_again n p.small) (limit n p.small), p.bits, rw (no_less n) at p.literal, sym p.reading)))
+number_item elem (pos n) rest p s = inr (inl (decimal n, decimal_token n rest p.small s, (n, rw (integer_again n p.small) (is_below n p.small), p.bits, rw (below_none n) at p.literal, sym p.reading)))
 number_item elem (negsuc n) rest p s =
-    inr (inr (decimal (suc n), decimal (suc n) ++ rest, minus_token (suc n) rest p.small, decimal_token (suc n) rest p.small s, (suc n, rw (integer_again (suc n) p.small) (limit (suc n) p.small), p.bits, p.literal, sym p.reading)))
+    inr (inr (decimal (suc n), decimal (suc n) ++ rest, minus_token (suc n) rest p.small, decimal_token (suc n) rest p.small s, (suc n, rw (integer_again (suc n) p.small) (is_below (suc n) p.small), p.bits, p.literal, sym p.reading)))
 
 -- the values of one bit
 truth_sign : (z : ℤ) → is_value_number (Integer Signless 1) z ≡ true → (z ≡ pos 0) ⊎ (z ≡ negsuc 0)
 truth_sign (pos zero) v = inl refl
-truth_sign (pos (suc n)) v = absurd (large n (rw (no_less (suc n)) at v))
+truth_sign (pos (suc n)) v = absurd (large n (rw (below_none (suc n)) at v))
   where
     large : (n : ℕ) → nat_lt (suc n) 1 ≡ true → ⊥
     large n e = grind (arith, nat_tests)
@@ -103,12 +105,8 @@ sixty_four : IsNamed (Integer Signless 64)
 unfolding digits
 sixty_four = record { word = codes "i64"; text = refl; bare = refl; element = refl; type = refl; truth = λ e. absurd cc }
 
-either_of : (a b : Bool) → (a || b) ≡ true → (a ≡ true) ⊎ (b ≡ true)
-either_of true b e = inl refl
-either_of false b e = inr e
-
 named : (elem : TypeTerm) → is_element elem ≡ true → IsNamed elem
-named (Integer Signless w) e = from (either_of ((((w == 1) || (w == 8)) || (w == 16)) || (w == 32)) (w == 64) e)
+named (Integer Signless w) e = from (or_cases ((((w == 1) || (w == 8)) || (w == 16)) || (w == 32)) (w == 64) e)
   where
     size : (n : ℕ) → IsNamed (Integer Signless n) → (w == n) ≡ true → IsNamed (Integer Signless w)
     size n k t = rw (eqb-true w n t) k
@@ -118,15 +116,15 @@ named (Integer Signless w) e = from (either_of ((((w == 1) || (w == 8)) || (w ==
     least (inr t) = size 8 eight t
 
     less : ((w == 1 || w == 8) ≡ true) ⊎ ((w == 16) ≡ true) → IsNamed (Integer Signless w)
-    less (inl t) = least (either_of (w == 1) (w == 8) t)
+    less (inl t) = least (or_cases (w == 1) (w == 8) t)
     less (inr t) = size 16 sixteen t
 
     most : (((w == 1 || w == 8) || w == 16) ≡ true) ⊎ ((w == 32) ≡ true) → IsNamed (Integer Signless w)
-    most (inl t) = less (either_of (w == 1 || w == 8) (w == 16) t)
+    most (inl t) = less (or_cases (w == 1 || w == 8) (w == 16) t)
     most (inr t) = size 32 thirty_two t
 
     from : ((((w == 1 || w == 8) || w == 16) || w == 32) ≡ true) ⊎ ((w == 64) ≡ true) → IsNamed (Integer Signless w)
-    from (inl t) = most (either_of ((w == 1 || w == 8) || w == 16) (w == 32) t)
+    from (inl t) = most (or_cases ((w == 1 || w == 8) || w == 16) (w == 32) t)
     from (inr t) = size 64 sixty_four t
 named (Integer Signed w) e = absurd cc
 named (Integer Unsigned w) e = absurd cc
@@ -159,7 +157,7 @@ dense_items elem k = record {
 
 all_fit : (elem : TypeTerm) (front zs : List ℤ) → list_all (is_value_number elem) zs ≡ true → AllFit (FitsItem elem) front zs
 all_fit elem front [] e = tt
-all_fit elem front (z ∷ zs) e = let p = both (is_value_number elem z) (list_all (is_value_number elem) zs) e in (p.0, all_fit elem (front ++ z ∷ []) zs p.1)
+all_fit elem front (z ∷ zs) e = let p = and_parts (is_value_number elem z) (list_all (is_value_number elem) zs) e in (p.0, all_fit elem (front ++ z ∷ []) zs p.1)
 
 items_read : (elem : TypeTerm) (zs : List ℤ) (rest : List ℕ) → IsNamed elem → list_all (is_value_number elem) zs ≡ true → length zs ≤ many → IsItems elem zs (items_text (is_truth elem) zs ++ 62 ∷ rest) rest
 items_read elem [] rest k v le = inr (lacks_token (mark Greater) Colon (62 ∷ rest) rest (mark_token Greater rest tt) (λ e. absurd cc), (rest, mark_token Greater rest tt, (refl, refl)))
@@ -186,5 +184,5 @@ dense_read depth elem zs rest e count v =
     let inside = k.word ++ back in
     let apart : dense_text elem zs ++ rest ≡ array_word ++ 60 ∷ inside = ap (λ (l : List ℕ). array_word ++ 60 ∷ l) (append_assoc (type_text elem) (items ++ 62 ∷ []) rest ∙ ap (λ (l : List ℕ). type_text elem ++ l) (append_assoc items (62 ∷ []) rest) ∙ ap (λ (l : List ℕ). l ++ back) k.text) in
     let dense : IsDense (DenseArray elem zs) (60 ∷ inside) rest =
-    (inside, mark_token Less inside tt, (elem, back, (k.word, bare_token k.word back k.bare (ends_word elem zs rest), k.element), (zs, rest, items_read elem zs rest k v (in_range (length zs) many count), (dense_fine elem zs v, refl, refl)))) in
+    (inside, mark_token Less inside tt, (elem, back, (k.word, bare_token k.word back k.bare (ends_word elem zs rest), k.element), (zs, rest, items_read elem zs rest k v (leb-true (length zs) many count), (dense_fine elem zs v, refl, refl)))) in
     rw apart (bare array_word, 60 ∷ inside, bare_token array_word (60 ∷ inside) refl refl, dense)

@@ -7,7 +7,7 @@ use Rattle.ir_text_tokens.specs.declared.token.Mark.TheVariants.{CloseCurly, Clo
 use Rattle.ir_text_tokens.specs.Bytes.{is_word}
 use Rattle.ir_text_tokens.specs.Tokens.{mark, bare, string}
 use Rattle.ir_text_tokens.specs.Printing.{AreBytes, Stops, is_bare_id, key_text, raw_text}
-use Rattle.ir_text_tokens.proofs.Escapes.{either, value_again}
+use Rattle.ir_text_tokens.proofs.Escapes.{value_again}
 use Rattle.ir_text_tokens.proofs.Printed.{mark_token, bare_key, string_key}
 use Rattle.ir_text.specs.AttrText.{is_flag, entry_text, attr_text, entry_texts}
 use Rattle.ir_text_types.specs.Grammars.{Grammar, Not, Either, IsMark}
@@ -15,6 +15,7 @@ use Rattle.ir_text_attributes.specs.AttrGrammar.{EntryTerm, IsKey}
 use Rattle.ir_text_roundtrip.specs.WrittenAttributes.{entries_list, EndsAttr}
 use Rattle.ir_text_roundtrip.proofs.Small.{lacks_token}
 use Rattle.ir_text_roundtrip.proofs.Ahead.{Ahead, Lacks, space, space_token}
+use Rattle.std.proofs.lemmas.Bool.{cases_Bool}
 
 -- ---- keys
 
@@ -27,7 +28,7 @@ key_lacks m y a new (inl h) = lacks_token (bare y) m a new h (λ e. absurd cc)
 key_lacks m y a new (inr h) = lacks_token (string h.0) m a new h.1 (λ e. absurd cc)
 
 pub key_read : (key rest : List ℕ) → AreBytes key → Stops is_word rest → IsKey key (key_text key ++ rest) rest
-key_read key rest h s = elim (either (is_bare_id key)) [
+key_read key rest h s = elim (cases_Bool (is_bare_id key)) [
   | inl t ↦ inl (bare_key key rest t s)
   | inr f ↦ inr (raw_text key, string_key key rest f h, sym (value_again key h))
 ]

@@ -15,7 +15,7 @@ use Rattle.ir_text_tokens.specs.Tokens.{Lexeme, mark, value, hash, string, next,
 use Rattle.ir_text_tokens.specs.Printing.{AreBytes, Stops, is_suffix_id, raw_text}
 use Rattle.ir_text_tokens.proofs.Escapes.{value_again}
 use Rattle.ir_text_tokens.proofs.Decimals.{decimal_number, integer_again, eqb_self, first_passes}
-use Rattle.ir_text_tokens.proofs.Printed.{mark_token, value_token, hash_token, string_token, decimal_token, decimal_name}
+use Rattle.ir_text_tokens.proofs.Printed.{mark_token, value_token, hash_token, string_token, decimal_token, decimal_name, zero_test}
 use Rattle.ir_text_types.specs.Grammars.{Not, IsMore, IsList, IsMark, Token}
 use Rattle.ir_text_operations.specs.Free.{no_names, seen_as}
 use Rattle.ir_text_names.specs.Packs.{Counted, counts}
@@ -39,9 +39,6 @@ use Rattle.ir_text_roundtrip.proofs.Joined.{Here, IsSmall, IsSeen, word_of, plac
 
 digit_suffix : (c : ℕ) → is_ascii_digit c ≡ true → is_suffix c ≡ true
 digit_suffix c e = rw (digit_word c e) refl
-
-zero_test : (n : ℕ) → 1 ≤ n → (n == 0) ≡ false
-zero_test n le = grind (arith, nat_tests)
 
 name_from : (w : List ℕ) → suffix_len w ≡ length w → 1 ≤ length w → is_suffix_id w ≡ true
 name_from w e le = rw (e, zero_test (length w) le, eqb_self (length w)) refl

@@ -4,14 +4,13 @@ use Rattle.std.proofs.Common.{◌≡◌, ◌⊎◌, ℕ, zero, suc, ◌+◌, ◌
 use Rattle.std.specs.Prelude.{◌==◌, ◌&&◌, nat_lt, slice_get}
 use Rattle.std.specs.Fmt.{decimal}
 use Rattle.std.specs.List.{AllByRecursion}
-use Rattle.std.proofs.lemmas.Bool.{eqb-true}
+use Rattle.std.proofs.lemmas.Bool.{eqb-true, and_parts, cases_Bool}
 use Rattle.std.proofs.lemmas.Bool.Decides.{nat_tests}
 use Rattle.ir_types.specs.Terms.{TypeTerm}
 use Rattle.ir_tree.specs.declared.value.Value.{Value}
 use Rattle.ir_tree.specs.declared.value.Value.TheVariants.{Result, Arg}
 use Rattle.ir_tree.specs.Sites.{Frame, results, arguments, shows, in_scope}
 use Rattle.ir_text_tokens.specs.Scopes.{Binding, find}
-use Rattle.ir_text_tokens.proofs.Escapes.{either}
 use Rattle.ir_text_operations.specs.Seen.{BoundTerm, PackTerm}
 use Rattle.ir_text_operations.specs.OpGrammar.{result_terms}
 use Rattle.ir_text.specs.declared.naming.ValueName.{ValueName}
@@ -19,11 +18,11 @@ use Rattle.ir_text.specs.declared.naming.ValueName.TheVariants.{Only, Part, Argu
 use Rattle.ir_text.specs.declared.naming.Source.TheVariants as source
 use Rattle.ir_text.specs.Naming.{Named, Naming, naming_of, same_source, source_of, result_name}
 use Rattle.ir_text_roundtrip.specs.Written.{FitsType}
-use Rattle.ir_text_roundtrip.proofs.Small.{both}
 use Rattle.ir_tree_laws.specs.Renumbered.{value_with_id}
 use Rattle.ir_text_roundtrip.proofs.Texts.{Names, argument_names}
 use Rattle.ir_text_roundtrip.proofs.ModuleWords.{argument_word, decimals_apart, arguments_apart, argument_no_decimal, decimal_no_argument, find_new, find_old, find_kept}
 use Rattle.ir_text_roundtrip.proofs.ModuleValues.{found, found_new, found_old, source_id}
+use Rattle.ir_types.proofs.Truths.{get_within}
 
 -- the word of a name, and which of the values for which that stands
 abbrev pub word_of : ValueName → List ℕ
@@ -70,11 +69,11 @@ pub record Joined (f : ℕ → ℕ) (scope : List Frame) (n : Names) (here : Her
 
 -- in sight with one frame more
 pub in_last : (scope : List Frame) (frame : Frame) (v : Value) → in_scope (scope ++ frame ∷ []) v ≡ true → (in_scope scope v ≡ true) ⊎ (shows v frame ≡ true)
-in_last [] frame v e = elim (either (shows v frame)) [
+in_last [] frame v e = elim (cases_Bool (shows v frame)) [
   | inl t ↦ inr t
   | inr n ↦ let z : in_scope ([] ++ frame ∷ []) v ≡ false = rw n refl in absurd cc
 ]
-in_last (g ∷ gs) frame v e = elim (either (shows v g)) [
+in_last (g ∷ gs) frame v e = elim (cases_Bool (shows v g)) [
   | inl t ↦ inl (rw t refl)
   | inr n ↦
       let same : in_scope (g ∷ gs) v ≡ in_scope gs v = rw n refl in
@@ -84,17 +83,12 @@ in_last (g ∷ gs) frame v e = elim (either (shows v g)) [
 
 pub in_first : (scope : List Frame) (frame : Frame) (v : Value) → in_scope scope v ≡ true → in_scope (scope ++ frame ∷ []) v ≡ true
 in_first [] frame v e = absurd cc
-in_first (g ∷ gs) frame v e = elim (either (shows v g)) [
+in_first (g ∷ gs) frame v e = elim (cases_Bool (shows v g)) [
   | inl t ↦ rw t refl
   | inr n ↦
       let rest : in_scope gs v ≡ true = sym (rw n refl) ∙ e in
       rw n (in_first gs frame v rest)
 ]
-
-pub get_within : {X : Type 0} (xs : List X) (k : ℕ) → k < length xs → (x : X) × (slice_get xs k ≡ Some x)
-get_within [] k lt = absurd (omega (arith, lt))
-get_within (x ∷ xs) zero lt = (x, refl)
-get_within (x ∷ xs) (suc k) lt = get_within xs k (omega arith)
 
 pub all_get : {X : Type 0} (P : X → Type 0) (xs : List X) (k : ℕ) (x : X) → AllByRecursion P xs → slice_get xs k ≡ Some x → P x
 all_get P [] k x h e = absurd cc
@@ -135,7 +129,7 @@ abbrev pub OwnNames : Names → ℕ → List TypeTerm → ℕ → Type 0
 OwnNames m x ts n = (i : ℕ) (t : TypeTerm) → slice_get ts i ≡ Some t → found m.named (source.Result x i) ≡ Some (record { name = result_name (length ts == 1) n i; type = t })
 
 pub result_shown : (v : Value) (x n : ℕ) → shows v (results x n) ≡ true → (k : ℕ) × (v ≡ Result x k) × (k < n)
-result_shown (Result y k) x n e = let p = both (y == x) (nat_lt k n) e in (k, ap (λ a. Result a k) (eqb-true y x p.0), grind (arith, nat_tests))
+result_shown (Result y k) x n e = let p = and_parts (y == x) (nat_lt k n) e in (k, ap (λ a. Result a k) (eqb-true y x p.0), grind (arith, nat_tests))
 result_shown (Arg y s k) x n e = absurd cc
 
 result_read : (f : ℕ → ℕ) (here : Here) (x : ℕ) (ts : List TypeTerm) (n k : ℕ) (t : TypeTerm) → n < 2 ^ 128 → length ts ≤ 256 → k < length ts → slice_get ts k ≡ Some t → FitsType 32 t
@@ -198,9 +192,9 @@ module _ (f : ℕ → ℕ) (scope : List Frame) (n m : Names) (here : Here) (j :
 argument_shown : (v : Value) (x r n : ℕ) → shows v (arguments x r (n + 1)) ≡ true → (shows v (arguments x r n) ≡ true) ⊎ (v ≡ Arg x r n)
 argument_shown (Result y k) x r n e = absurd cc
 argument_shown (Arg y s k) x r n e =
-    let p = both (y == x) ((s == r) && nat_lt k (n + 1)) e in
-    let q = both (s == r) (nat_lt k (n + 1)) p.1 in
-    elim (either (nat_lt k n)) [
+    let p = and_parts (y == x) ((s == r) && nat_lt k (n + 1)) e in
+    let q = and_parts (s == r) (nat_lt k (n + 1)) p.1 in
+    elim (cases_Bool (nat_lt k n)) [
       | inl t ↦ inl (rw (p.0, q.0, t) refl)
       | inr z ↦
           let last : k ≡ n = grind (arith, nat_tests) in
@@ -210,8 +204,8 @@ argument_shown (Arg y s k) x r n e =
 earlier : (v : Value) (x r n : ℕ) → shows v (arguments x r n) ≡ true → same_source (source_of v) (source.Argument x r n) ≡ false
 earlier (Result y k) x r n e = refl
 earlier (Arg y s k) x r n e =
-    let p = both (y == x) ((s == r) && nat_lt k n) e in
-    let q = both (s == r) (nat_lt k n) p.1 in
+    let p = and_parts (y == x) ((s == r) && nat_lt k n) e in
+    let q = and_parts (s == r) (nat_lt k n) p.1 in
     let apart : (k == n) ≡ false = grind (arith, nat_tests) in
     rw (p.0, q.0, apart) refl
 
@@ -257,7 +251,7 @@ module _ (f : ℕ → ℕ) (scope : List Frame) (n : Names) (here : Here) (x r k
         where
           last_in : (gs : List Frame) → in_scope (gs ++ arguments x r k ∷ []) v ≡ true
           last_in [] = rw l refl
-          last_in (g ∷ gs) = elim (either (shows v g)) [ inl a ↦ rw a refl | inr b ↦ rw b (last_in gs) ]
+          last_in (g ∷ gs) = elim (cases_Bool (shows v g)) [ inl a ↦ rw a refl | inr b ↦ rw b (last_in gs) ]
 
       old : (v : Value) → in_scope (scope ++ arguments x r k ∷ []) v ≡ true → same_source (source_of v) (source.Argument x r k) ≡ false → IsSeen f named all v
       old v i apart = let s = j.seen v i in record { naming = s.naming; named = found_old n.named (source_of v) (source.Argument x r k) naming apart ∙ s.named; read = read_kept f here v s.naming word pack (j.fresh_arguments n.arguments (omega arith) small) s.read }

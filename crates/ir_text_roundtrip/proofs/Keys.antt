@@ -13,12 +13,8 @@ use Rattle.ir_tree.specs.Meaning.{key_before, rises, rises_after}
 use Rattle.ir_text_attributes.specs.AttrGrammar.{EntryTerm, entries_of}
 use Rattle.ir_text_attributes.specs.Keyed.{has_key, put_among, in_order}
 use Rattle.ir_text_roundtrip.specs.WrittenAttributes.{entries_list}
-use Rattle.ir_text_roundtrip.proofs.Small.{both}
-
-is_less : (o : Ordering) → is_lt o ≡ true → o ≡ Less
-is_less Less e = refl
-is_less Equal e = absurd cc
-is_less Greater e = absurd cc
+use Rattle.std.proofs.lemmas.Bool.{and_parts}
+use Rattle.ir_types.proofs.AcceptedCalls.{less_from}
 
 less_apart : (o : Ordering) → is_lt o ≡ true → is_eq o ≡ false
 less_apart Less e = refl
@@ -26,7 +22,7 @@ less_apart Equal e = absurd cc
 less_apart Greater e = absurd cc
 
 before_trans : (k l m : List ℕ) → key_before k l ≡ true → key_before l m ≡ true → key_before k m ≡ true
-before_trans k l m p q = ap is_lt (nat_list_cmp_total.trans k l m (is_less (slice_cmp nat_cmp k l) p) (is_less (slice_cmp nat_cmp l m) q))
+before_trans k l m p q = ap is_lt (nat_list_cmp_total.trans k l m (less_from (slice_cmp nat_cmp k l) p) (less_from (slice_cmp nat_cmp l m) q))
 
 apart : (k l : List ℕ) → key_before k l ≡ true → bytes_eq k l ≡ false
 apart k l p = sym (is_eq-slice_cmp k l) ∙ less_apart (slice_cmp nat_cmp k l) p
@@ -41,7 +37,7 @@ module _ {A : Type 0} where
   still_before (e ∷ es) k l a h p = (before_trans e.0 k l h.0 p, still_before es k l a h.1 p)
 
 pub rises_next : {A : Type 0} (e f : List ℕ × A) (es : List (List ℕ × A)) → rises key_before (e ∷ f ∷ es) ≡ true → (key_before e.0 f.0 ≡ true) × (rises key_before (f ∷ es) ≡ true)
-rises_next e f es h = both (key_before e.0 f.0) (rises_after key_before f.0 es) h
+rises_next e f es h = and_parts (key_before e.0 f.0) (rises_after key_before f.0 es) h
 
 -- every key of these comes before the first of those
 abbrev pub AreBeforeFirst : List (List ℕ × AttrTerm) → List (List ℕ × AttrTerm) → Type 0

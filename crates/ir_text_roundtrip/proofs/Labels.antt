@@ -21,7 +21,7 @@ use Rattle.ir_text.specs.Naming.{source_of}
 use Rattle.ir_text.specs.Printing.{argument_text}
 use Rattle.ir_text.specs.TypeText.{type_text}
 use Rattle.ir_text_roundtrip.specs.Written.{FitsType}
-use Rattle.ir_text_roundtrip.proofs.Small.{both, lacks_token}
+use Rattle.ir_text_roundtrip.proofs.Small.{lacks_token}
 use Rattle.ir_tree_laws.specs.Renumbered.{ops_with_ids, with_ids}
 use Rattle.ir_text_roundtrip.proofs.Texts.{Names, Ops, arguments_names, arguments_then, label_then}
 use Rattle.ir_text_roundtrip.proofs.ModuleWords.{argument_word}
@@ -29,6 +29,7 @@ use Rattle.ir_text_roundtrip.proofs.ModuleValues.{source_id}
 use Rattle.ir_text_roundtrip.proofs.Joined.{Here, Joined, in_last}
 use Rattle.ir_text_roundtrip.proofs.Front.{argument_name}
 use Rattle.ir_text_roundtrip.proofs.Blocks.{AreBlank, blanks_passed, mark_seen, not_seen, arguments_more}
+use Rattle.std.proofs.lemmas.Bool.{and_parts}
 
 -- a token with which an operation may begin: no label and no mark
 pub record Plain (bytes : List ℕ) : Type 0 where
@@ -49,7 +50,7 @@ lists_back (next t ts) = ap (next t) (lists_back ts)
 
 no_shown : (v : Value) (x r : ℕ) → shows v (arguments x r 0) ≡ true → ⊥
 no_shown (Result y k) x r e = absurd cc
-no_shown (Arg y s k) x r e = let q = both (s == r) (nat_lt k 0) (both (y == x) ((s == r) && nat_lt k 0) e).1 in let lt : k < 0 = grind (arith, nat_tests) in omega (arith, lt)
+no_shown (Arg y s k) x r e = let q = and_parts (s == r) (nat_lt k 0) (and_parts (y == x) ((s == r) && nat_lt k 0) e).1 in let lt : k < 0 = grind (arith, nat_tests) in omega (arith, lt)
 
 pub joined_no_arguments : (f : ℕ → ℕ) (scope : List Frame) (n : Names) (here : Here) (x r : ℕ) → Joined f scope n here → Joined f (scope ++ arguments x r 0 ∷ []) n here
 joined_no_arguments f scope n here x r j = record {

@@ -3,7 +3,7 @@ use Rattle.std.proofs.Common.{◌≡◌, ℕ, zero, suc, ◌≤◌, ◌<◌, ◌
 use Rattle.std.specs.Prelude.{◌⊎◌, codes, nat_le, nat_lt}
 use Rattle.std.specs.Fmt.{decimal, signed_decimal}
 use Rattle.std.specs.Str.{bytes_eq}
-use Rattle.std.proofs.lemmas.Bool.{eqb-true}
+use Rattle.std.proofs.lemmas.Bool.{eqb-true, cases_Bool}
 use Rattle.std.proofs.lemmas.Bool.Decides.{nat_tests}
 use Rattle.ir_types.specs.declared.node.Sign.TheVariants.{Signless, Signed, Unsigned}
 use Rattle.ir_types.specs.Terms.{TypeTerm, Integer, Index, Function, Memref, AttrTerm, IntegerOf, String, TypeOf, Flag, Overflow}
@@ -26,7 +26,6 @@ use Rattle.ir_text_attributes.specs.AttrGrammar.{IsSuffix, IsLiteral, IsFlags, I
 use Rattle.ir_text_attributes.specs.declared.flag.Flag as code
 use Rattle.ir_text_attributes.specs.declared.flag.Flag.TheVariants.{NoSignedWrap, NoUnsignedWrap}
 use Rattle.ir_text_attributes.specs.Literals.{array_word, has_nsw, has_nuw}
-use Rattle.ir_text_tokens.proofs.Escapes.{either}
 use Rattle.ir_types.proofs.Growth.{name_is}
 use Rattle.ir_types.specs.declared.node.TypeNode.{TypeNode}
 use Rattle.ir_text_types.specs.Grammars.{IsMore}
@@ -36,7 +35,9 @@ use Rattle.ir_text_roundtrip.specs.Written.{is_written_type}
 use Rattle.ir_text_roundtrip.proofs.Small.{lacks_token}
 use Rattle.ir_text_roundtrip.proofs.Ahead.{space, space_token}
 use Rattle.ir_text_roundtrip.proofs.Types.{type_ahead, type_again}
-use Rattle.ir_text_roundtrip.proofs.Values.{IsRead, read_again, limit, fine, no_less}
+use Rattle.ir_text_roundtrip.proofs.Values.{IsRead, read_again, fine}
+use Rattle.ir_text_tokens.proofs.Places.{is_below}
+use Rattle.ir_tree.proofs.Counts.{below_none}
 
 -- what an attribute is, by its first token
 abbrev pub Begins : ℕ → AttrTerm → (old new : List ℕ) → Type 0
@@ -59,14 +60,14 @@ suffix_again ty bits rest t v s =
 literal_again : (negative : Bool) (n : ℕ) (ty : TypeTerm) (bits : ℕ) (rest : List ℕ) → literal_bits ty negative n ≡ Some bits → n < 2 ^ 128 → is_written_type ty ≡ true → is_bits_of ty bits ≡ true → Stops is_word rest
     → IsLiteral negative (decimal n) (IntegerOf ty bits) (32 ∷ 58 ∷ 32 ∷ (type_text ty ++ rest)) rest
 literal_again negative n ty bits rest e lt t v s =
-    (n, rw (integer_again n lt) (limit n lt), (ty, rest, suffix_again ty bits rest t v s, (bits, e, (fine ty bits v, refl, refl))))
+    (n, rw (integer_again n lt) (is_below n lt), (ty, rest, suffix_again ty bits rest t v s, (bits, e, (fine ty bits v, refl, refl))))
 
 -- a number with its type
 number_again : (depth : ℕ) (ty : TypeTerm) (bits : ℕ) (z : ℤ) (rest : List ℕ) → IsRead ty bits z → is_written_type ty ≡ true → is_bits_of ty bits ≡ true → Stops is_word rest
     → Begins depth (IntegerOf ty bits) (signed_decimal z ++ (32 ∷ 58 ∷ 32 ∷ (type_text ty ++ rest))) rest
 number_again depth ty bits (pos n) rest p t v s =
     let back = 32 ∷ 58 ∷ 32 ∷ (type_text ty ++ rest) in
-    (integer (decimal n), back, decimal_token n back p.small refl, literal_again false n ty bits rest (rw (no_less n) at p.literal) p.small t v s)
+    (integer (decimal n), back, decimal_token n back p.small refl, literal_again false n ty bits rest (rw (below_none n) at p.literal) p.small t v s)
 number_again depth ty bits (negsuc n) rest p t v s =
     let back = 32 ∷ 58 ∷ 32 ∷ (type_text ty ++ rest) in
     (mark Minus, decimal (suc n) ++ back, minus_token (suc n) back p.small, (decimal (suc n), back, decimal_token (suc n) back p.small refl, literal_again true (suc n) ty bits rest p.literal p.small t v s))
@@ -146,7 +147,7 @@ overflow_read depth nsw nuw rest =
 -- ---- types
 
 no_type : (w k : List ℕ) (y : TypeTerm) (rest new : List ℕ) → bytes_eq k memref_word ≡ false → scalar_of k ≡ None → IsWordFrom (bytes_eq w memref_word) w y rest new → bytes_eq w k ≡ false
-no_type w k y rest new other none h = elim (either (bytes_eq w k)) [
+no_type w k y rest new other none h = elim (cases_Bool (bytes_eq w k)) [
   | inl t ↦
       let l : IsWordFrom (bytes_eq k memref_word) k y rest new = subst (λ v. IsWordFrom (bytes_eq v memref_word) v y rest new) (name_is w k t) h in
       let m : IsWordFrom false k y rest new = subst (λ b. IsWordFrom b k y rest new) other l in

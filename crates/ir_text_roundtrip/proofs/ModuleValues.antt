@@ -3,7 +3,7 @@ use Rattle.std.proofs.Common.{◌≡◌, ℕ, zero, suc, ◌+◌, ◌<◌, ◌�
 use Rattle.std.specs.Prelude.{◌==◌, ◌&&◌, cond, slice_get}
 use Rattle.std.specs.List.{AllByRecursion}
 use Rattle.std.specs.Map.{lookup}
-use Rattle.std.proofs.lemmas.Bool.{eqb-true}
+use Rattle.std.proofs.lemmas.Bool.{eqb-true, and_parts, cases_Bool}
 use Rattle.std.proofs.lemmas.Bool.Decides.{nat_tests}
 use Rattle.indexmap.specs.IndexMap.{insert_entry}
 use Rattle.ir_types.specs.Terms.{TypeTerm}
@@ -13,9 +13,7 @@ use Rattle.ir_tree.specs.Meaning.{Operation}
 use Rattle.ir_text.specs.declared.naming.Source.{Source}
 use Rattle.ir_text.specs.declared.naming.Source.TheVariants.{Result, Argument}
 use Rattle.ir_text.specs.Naming.{Named, Naming, same_source, result_name, name_result, name_results}
-use Rattle.ir_text_tokens.proofs.Escapes.{either}
 use Rattle.ir_text_tokens.proofs.Decimals.{eqb_self}
-use Rattle.ir_text_roundtrip.proofs.Small.{both}
 use Rattle.ir_text_roundtrip.proofs.Texts.{Names, Regions, Region, Ops, results_names, argument_names, arguments_names, op_names, regions_names, region_names, ops_names}
 
 -- ---- sources
@@ -26,13 +24,13 @@ source_refl (Argument x r k) = rw (eqb_self x, eqb_self r, eqb_self k) refl
 
 source_is : (s t : Source) → same_source s t ≡ true → s ≡ t
 source_is (Result x j) (Result y k) e =
-    let p = both (x == y) (j == k) e in
+    let p = and_parts (x == y) (j == k) e in
     ap (λ a. Result a j) (eqb-true x y p.0) ∙ ap (Result y) (eqb-true j k p.1)
 source_is (Result x j) (Argument y s k) e = absurd cc
 source_is (Argument x r j) (Result y k) e = absurd cc
 source_is (Argument x r j) (Argument y s k) e =
-    let p = both (x == y) ((r == s) && (j == k)) e in
-    let q = both (r == s) (j == k) p.1 in
+    let p = and_parts (x == y) ((r == s) && (j == k)) e in
+    let q = and_parts (r == s) (j == k) p.1 in
     ap (λ a. Argument a r j) (eqb-true x y p.0) ∙ ap (λ a. Argument y a j) (eqb-true r s q.0) ∙ ap (Argument y s) (eqb-true j k q.1)
 
 -- what is known of a source
@@ -41,14 +39,14 @@ found named s = lookup (same_source s) named
 
 pub found_new : (named : Named) (s : Source) (n : Naming) → found (insert_entry same_source named s n) s ≡ Some n
 found_new [] s n = rw (source_refl s) refl
-found_new (e ∷ es) s n = elim (either (same_source s e.0)) [
+found_new (e ∷ es) s n = elim (cases_Bool (same_source s e.0)) [
   | inl t ↦ rw (t, t) refl
   | inr f ↦ rw (f, f) (found_new es s n)
 ]
 
 pub found_old : (named : Named) (s k : Source) (n : Naming) → same_source s k ≡ false → found (insert_entry same_source named k n) s ≡ found named s
 found_old [] s k n e = rw e refl
-found_old (c ∷ es) s k n e = elim (either (same_source k c.0)) [
+found_old (c ∷ es) s k n e = elim (cases_Bool (same_source k c.0)) [
   | inl t ↦ let f : same_source s c.0 ≡ false = subst (λ u. same_source s u ≡ false) (source_is k c.0 t) e in rw (t, f) refl
   | inr f ↦ rw f (ap (λ o. cond (same_source s c.0) (Some c.1) o) (found_old es s k n e))
 ]

@@ -8,8 +8,8 @@ use Rattle.ir_types.proofs.Growth.{name_is, name_refl}
 use Rattle.ir_text_tokens.specs.Tokens.{digits_len}
 use Rattle.ir_text_tokens.specs.Numbers.{place_value}
 use Rattle.ir_text_tokens.specs.Scopes.{Binding, or_else, find}
-use Rattle.ir_text_tokens.proofs.Escapes.{either}
 use Rattle.ir_text_tokens.proofs.Decimals.{decimal_number, first_passes}
+use Rattle.std.proofs.lemmas.Bool.{cases_Bool}
 
 -- the word of an argument
 abbrev pub argument_word : ℕ → List ℕ
@@ -17,7 +17,7 @@ argument_word n = codes "arg" ++ decimal n
 
 -- two texts that are not one
 pub unlike : (v w : List ℕ) → (v ≡ w → ⊥) → bytes_eq v w ≡ false
-unlike v w h = elim (either (bytes_eq v w)) [
+unlike v w h = elim (cases_Bool (bytes_eq v w)) [
   | inl t ↦ absurd (h (name_is v w t))
   | inr f ↦ f
 ]

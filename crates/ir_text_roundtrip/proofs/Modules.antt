@@ -2,7 +2,7 @@
 use Rattle.std.proofs.Common.{◌≡◌, ℕ, true, List, [], ◌∷◌, ◌++◌, ◌≤◌, map, length, ap, subst, ◌∙◌, arith, inl}
 use Rattle.std.specs.Prelude.{◌==◌, ◌&&◌}
 use Rattle.std.specs.Str.{bytes_eq}
-use Rattle.std.proofs.lemmas.Bool.{eqb-true}
+use Rattle.std.proofs.lemmas.Bool.{eqb-true, and_parts}
 use Rattle.std.proofs.lemmas.List.{length-map}
 use Rattle.ir_types.specs.Terms.{TypeTerm}
 use Rattle.ir_types.specs.Words.{is_isolated, is_table}
@@ -19,7 +19,7 @@ use Rattle.ir_text_operations.specs.Free.{no_names}
 use Rattle.ir_text.specs.Naming.{Named, value_text}
 use Rattle.ir_text.specs.Printing.{text_of, blank, opening, closing_text, properties_text}
 use Rattle.ir_text.specs.TypeText.{in_round}
-use Rattle.ir_text_roundtrip.proofs.Small.{both, are_bytes}
+use Rattle.ir_text_roundtrip.proofs.Small.{are_bytes}
 use Rattle.ir_tree_laws.specs.Renumbered.{value_with_id, with_ids, place_in, renumbered}
 use Rattle.ir_tree_laws.proofs.RenumberedFixed.{renumbered_stays}
 use Rattle.ir_tree_laws.proofs.RenumberedForm.{formed_renumbered}
@@ -44,8 +44,8 @@ begins_head m (t ∷ ts) h named rest none table bytes = absurd (omega (arith, e
 -- the text of a module begins with its name
 begins_so : (t : Operation) → is_root t ≡ true → IsWritable t → begins_module (text_of t) ≡ true
 begins_so (op h rs) root w =
-    let a = both (is_table h.name) (length h.operands == 0 && length h.results == 0) root in
-    let b = both (length h.operands == 0) (length h.results == 0) a.1 in
+    let a = and_parts (is_table h.name) (length h.operands == 0 && length h.results == 0) root in
+    let b = and_parts (length h.operands == 0) (length h.results == 0) a.1 in
     let n = results_names h.id h.results (names_of blank) in
     let behind = opening rs ++ regions_then [] h.id 0 rs n (closing_text rs ++ tail_then h (op_names (op h rs) (names_of blank)).named []) in
     ap begins_module (whole_text (op h rs)) ∙ begins_head 0 h.results h n.named behind b.1 a.0 (are_bytes h.name w.0.bytes)

@@ -10,7 +10,6 @@ use Rattle.ir_tree.specs.Meaning.{key_before, rises}
 use Rattle.ir_text_tokens.specs.declared.token.Mark.TheVariants.{OpenCurly, CloseCurly, Less, Greater, Comma}
 use Rattle.ir_text_tokens.specs.Tokens.{mark}
 use Rattle.ir_text_tokens.specs.Printing.{AreBytes}
-use Rattle.ir_text_tokens.proofs.Escapes.{either}
 use Rattle.ir_text_tokens.proofs.Printed.{mark_token}
 use Rattle.ir_text.specs.Rows.{parted}
 use Rattle.ir_text.specs.AttrText.{entry_texts}
@@ -27,6 +26,7 @@ use Rattle.ir_text_roundtrip.proofs.Rows.{AllFit, Items, list_again}
 use Rattle.ir_text_roundtrip.proofs.Keys.{AreBefore, AreBeforeFirst, next_before, no_key}
 use Rattle.ir_text_roundtrip.proofs.Entries.{key_ahead, key_lacks, comma_entry, close_entry, EndsEntry, text_of_entry, texts_of_entries, entry_parts}
 use Rattle.ir_text_roundtrip.proofs.Attributes.{attr_ahead, attr_again}
+use Rattle.std.proofs.lemmas.Bool.{cases_Bool}
 
 -- an entry fits where its key may come there
 abbrev FitsEntry : Option (List ℕ) → List EntryTerm → List EntryTerm → EntryTerm → Type 0
@@ -63,7 +63,7 @@ entries_read op properties es rest fit le = rw (texts_of es) (list_again CloseCu
 
 few_stay : (f : EntryTerm → Bool) (es : List EntryTerm) → length (filter f es) ≤ length es
 few_stay f [] = omega arith
-few_stay f (e ∷ es) = elim (either (f e)) [
+few_stay f (e ∷ es) = elim (cases_Bool (f e)) [
   | inl t ↦ rw t (omega (arith, few_stay f es))
   | inr n ↦ rw n (omega (arith, few_stay f es))
 ]

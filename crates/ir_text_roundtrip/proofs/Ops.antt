@@ -2,7 +2,7 @@
 use Rattle.std.proofs.Common.{◌≡◌, ℕ, zero, suc, ◌+◌, ◌*◌, ◌^◌, ◌<◌, ◌≤◌, Bool, true, false, List, [], ◌∷◌, ◌++◌, map, length, None, refl, sym, ap, subst, ◌∙◌, append_assoc, arith, inl, inr, ⊎_elim}
 use Rattle.std.specs.Prelude.{◌==◌, ◌&&◌, nat_lt, if◌then◌else◌}
 use Rattle.std.specs.List.{AllByRecursion}
-use Rattle.std.proofs.lemmas.Bool.{eqb-true}
+use Rattle.std.proofs.lemmas.Bool.{eqb-true, and_parts}
 use Rattle.std.proofs.lemmas.Bool.Decides.{nat_tests}
 use Rattle.std.proofs.lemmas.List.{length-append}
 use Rattle.ir_types.specs.Terms.{TypeTerm}
@@ -26,7 +26,7 @@ use Rattle.ir_text.specs.Naming.{Named, naming_of, value_type, source_of}
 use Rattle.ir_text.specs.Printing.{deeper, opening, closing_text, properties_text}
 use Rattle.ir_text_roundtrip.proofs.Ahead.{space_token}
 use Rattle.ir_text_roundtrip.proofs.OpEntries.{properties_again}
-use Rattle.ir_text_roundtrip.proofs.Small.{both, lacks_token, are_bytes}
+use Rattle.ir_text_roundtrip.proofs.Small.{lacks_token, are_bytes}
 use Rattle.ir_tree_laws.specs.Renumbered.{with_ids, regions_with_ids, region_with_ids, ops_with_ids}
 use Rattle.ir_text_roundtrip.proofs.Fitting.{FitsOp, FitsRegions, FitsRegion, FitsOps}
 use Rattle.ir_text_roundtrip.proofs.Texts.{Head, Names, Regions, Region, Ops, results_names, arguments_names, op_names, regions_names, region_names, tail_then, label_then, op_then, regions_then, region_then, ops_then}
@@ -64,7 +64,7 @@ result_away v x n xs h e = let r = result_shown v x n e in subst (λ u. Away (so
 
 shown_away : (v : Value) (x r n : ℕ) (xs : List ℕ) → AllByRecursion (λ y. (x == y) ≡ false) xs → shows v (arguments x r n) ≡ true → Away (source_of v) xs
 shown_away (Result y k) x r n xs h e = absurd cc
-shown_away (Arg y s k) x r n xs h e = subst (λ (u : ℕ). Away (source_of (Arg u s k)) xs) (sym (eqb-true y x (both (y == x) ((s == r) && nat_lt k n) e).0)) h
+shown_away (Arg y s k) x r n xs h e = subst (λ (u : ℕ). Away (source_of (Arg u s k)) xs) (sym (eqb-true y x (and_parts (y == x) ((s == r) && nat_lt k n) e).0)) h
 
 pub op_plain : (margin : List ℕ) (t : Operation) (n : Names) (rest : List ℕ) → FitsOp t → n.results < 2 ^ 128 → Plain (op_then margin t n rest)
 op_plain margin (op h rs) n rest fit lt = plain_head n.results h.results h (results_names h.id h.results n).named _ fit.0 lt fit.0.results

@@ -16,8 +16,9 @@ use Rattle.ir_text_tokens.proofs.Wholes.{next_whole}
 use Rattle.ir_text_types.specs.Grammars.{Token}
 use Rattle.ir_text_types.specs.ShapeGrammar.{is_decimal, begins_dimension, AreDimensions}
 use Rattle.ir_text.specs.TypeText.{dimension_text}
-use Rattle.ir_text_roundtrip.proofs.Small.{both}
 use Rattle.ir_text_roundtrip.proofs.Words.{all_digits}
+use Rattle.std.proofs.lemmas.Bool.{and_parts}
+use Rattle.ir_text_types.proofs.ShapeLaws.{digit_stays}
 
 cross_stays : (cs : List ℕ) → skip (120 ∷ cs) ≡ 120 ∷ cs
 unfolding skip
@@ -28,14 +29,6 @@ mark_stays : (cs : List ℕ) → skip (63 ∷ cs) ≡ 63 ∷ cs
 unfolding skip
 mark_stays [] = refl
 mark_stays (d ∷ ds) = refl
-
-digit_stays : (c : ℕ) (cs : List ℕ) → is_ascii_digit c ≡ true → skip (c ∷ cs) ≡ c ∷ cs
-unfolding skip
-digit_stays c [] e = let blank : is_blank c ≡ false = grind (arith, nat_tests) in rw blank refl
-digit_stays c (d ∷ ds) e =
-    let slash : (c == 47) ≡ false = grind (arith, nat_tests) in
-    let blank : is_blank c ≡ false = grind (arith, nat_tests) in
-    rw (slash, blank) refl
 
 digits_stay : (ds rest : List ℕ) → prefix_len is_ascii_digit ds ≡ length ds → 1 ≤ length ds → skip (ds ++ rest) ≡ ds ++ rest
 digits_stay [] rest h le = absurd (omega (arith, le))
@@ -54,7 +47,7 @@ no_dimension c e = grind (arith, nat_tests)
 -- a word is no dimension
 word_stops : (w rest : List ℕ) → is_bare_id w ≡ true → begins_dimension (w ++ rest) ≡ false
 word_stops [] rest e = absurd cc
-word_stops (c ∷ cs) rest e = no_dimension c (both (is_letter c) (prefix_len is_word cs == length cs) e).0
+word_stops (c ∷ cs) rest e = no_dimension c (and_parts (is_letter c) (prefix_len is_word cs == length cs) e).0
 
 pub dimensions_again : (dims : List (Option ℕ)) (w mid rest : List ℕ) → list_all is_dimension dims ≡ true → Token (bare w) mid rest → AreDimensions dims (flat_map dimension_text dims ++ mid) mid
 dimensions_again [] w mid rest e word = (rw (next_front mid rest (bare w) word) (word_stops w rest (next_whole mid rest (bare w) word).0), refl)
@@ -64,7 +57,7 @@ dimensions_again (None ∷ ds) w mid rest e word =
     rw apart (back, (120 ∷ back, mark_stays (120 ∷ back), cross_stays back), dimensions_again ds w mid rest e word)
 dimensions_again (Some n ∷ ds) w mid rest e word =
     let back = flat_map dimension_text ds ++ mid in
-    let p = both (is_dimension (Some n)) (list_all is_dimension ds) e in
+    let p = and_parts (is_dimension (Some n)) (list_all is_dimension ds) e in
     let k = decimal_number n (small n p.0) in
     let apart : flat_map dimension_text (Some n ∷ ds) ++ mid ≡ decimal n ++ (120 ∷ back) = ap (λ (l : List ℕ). l ++ mid) (flat_map-cons dimension_text (Some n) ds) ∙ append_assoc (dimension_text (Some n)) (flat_map dimension_text ds) mid ∙ append_assoc (decimal n) (120 ∷ []) back in
     rw apart (back, (decimal n, 120 ∷ back, digits_stay (decimal n) (120 ∷ back) k.digits k.some, some_digits (decimal n) k.digits k.some, sym k.value, cross_stays back), dimensions_again ds w mid rest p.1 word)

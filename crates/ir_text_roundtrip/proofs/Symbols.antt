@@ -7,7 +7,7 @@ use Rattle.ir_text_tokens.specs.declared.token.Mark.TheVariants.{DoubleColon}
 use Rattle.ir_text_tokens.specs.Bytes.{is_suffix}
 use Rattle.ir_text_tokens.specs.Tokens.{Lexeme, symbol, quoted}
 use Rattle.ir_text_tokens.specs.Printing.{AreBytes, Stops, is_bare_id, raw_text}
-use Rattle.ir_text_tokens.proofs.Escapes.{either, value_again}
+use Rattle.ir_text_tokens.proofs.Escapes.{value_again}
 use Rattle.ir_text_tokens.proofs.Printed.{mark_token, symbol_token, quoted_token}
 use Rattle.ir_text.specs.Rows.{parted}
 use Rattle.ir_text.specs.AttrText.{part_text, attr_text}
@@ -15,8 +15,9 @@ use Rattle.ir_text_types.specs.Grammars.{Token}
 use Rattle.ir_text_types.specs.TypeReading.{many}
 use Rattle.ir_text_attributes.specs.AttrGrammar.{IsPart, IsParts, IsSymbol}
 use Rattle.ir_text_roundtrip.specs.WrittenAttributes.{are_bytes as are_bytes_test, are_parts, EndsAttr}
-use Rattle.ir_text_roundtrip.proofs.Small.{both, in_range, are_bytes}
+use Rattle.ir_text_roundtrip.proofs.Small.{are_bytes}
 use Rattle.ir_text_roundtrip.proofs.Leaves.{Begins}
+use Rattle.std.proofs.lemmas.Bool.{and_parts, cases_Bool, leb-true}
 
 -- the token that a part is
 record IsPartToken (n rest : List ℕ) : Type 0 where
@@ -26,7 +27,7 @@ record IsPartToken (n rest : List ℕ) : Type 0 where
   pub begins : (depth : ℕ) (parts : List (List ℕ)) (new : List ℕ) → IsSymbol (Symbol parts) (part_text n ++ rest) new → Begins depth (Symbol parts) (part_text n ++ rest) new
 
 part_again : (n rest : List ℕ) → AreBytes n → Stops is_suffix rest → IsPartToken n rest
-part_again n rest h s = elim (either (is_bare_id n)) [
+part_again n rest h s = elim (cases_Bool (is_bare_id n)) [
   | inl t ↦ let k = symbol_token n rest t s in record { token = symbol n; stands = k; part = inl k; begins = λ depth parts new l. (symbol n, rest, k, l) }
   | inr f ↦ let k = quoted_token n rest f h in record { token = quoted (raw_text n); stands = k; part = inr (raw_text n, k, sym (value_again n h)); begins = λ depth parts new l. (quoted (raw_text n), rest, k, l) }
 ]
@@ -42,9 +43,9 @@ ends_part (n ∷ ns) rest s = refl
 parts_again : (room : ℕ) (front : List (List ℕ)) (n : List ℕ) (ns : List (List ℕ)) (rest : List ℕ) → list_all are_bytes_test (n ∷ ns) ≡ true → length (n ∷ ns) ≤ room → EndsAttr rest → IsParts room front (front ++ n ∷ ns) (part_text n ++ others ns rest) rest
 unfolding IsParts
 parts_again zero front n ns rest e le s = absurd (omega (arith, le))
-parts_again (suc room) front n [] rest e le s = (n, rest, (part_again n rest (are_bytes n (both _ _ e).0) s.0).part, inl (s.1, refl, refl))
+parts_again (suc room) front n [] rest e le s = (n, rest, (part_again n rest (are_bytes n (and_parts _ _ e).0) s.0).part, inl (s.1, refl, refl))
 parts_again (suc room) front n (m ∷ ms) rest e le s =
-    let p = both (are_bytes_test n) (list_all are_bytes_test (m ∷ ms)) e in
+    let p = and_parts (are_bytes_test n) (list_all are_bytes_test (m ∷ ms)) e in
     let tail = part_text m ++ others ms rest in
     let apart : others (m ∷ ms) rest ≡ 58 ∷ 58 ∷ tail = ap (λ (l : List ℕ). 58 ∷ 58 ∷ l) (append_assoc (part_text m) (parted (codes "::") false (map part_text ms)) rest) in
     let all : front ++ n ∷ m ∷ ms ≡ (front ++ n ∷ []) ++ m ∷ ms = sym (append_assoc front (n ∷ []) (m ∷ ms)) in
@@ -56,9 +57,9 @@ parts_again (suc room) front n (m ∷ ms) rest e le s =
 pub symbol_read : (depth : ℕ) (parts : List (List ℕ)) (rest : List ℕ) → are_parts parts ≡ true → EndsAttr rest → Begins depth (Symbol parts) (attr_text (Symbol parts) ++ rest) rest
 symbol_read depth [] rest e s = absurd cc
 symbol_read depth (n ∷ ns) rest e s =
-    let p = both (not (length (n ∷ ns) == 0) && nat_le (length (n ∷ ns)) many) (list_all are_bytes_test (n ∷ ns)) e in
-    let count = in_range (length (n ∷ ns)) many (both (not (length (n ∷ ns) == 0)) (nat_le (length (n ∷ ns)) many) p.0).1 in
-    let q = both (are_bytes_test n) (list_all are_bytes_test ns) p.1 in
+    let p = and_parts (not (length (n ∷ ns) == 0) && nat_le (length (n ∷ ns)) many) (list_all are_bytes_test (n ∷ ns)) e in
+    let count = leb-true (length (n ∷ ns)) many (and_parts (not (length (n ∷ ns) == 0)) (nat_le (length (n ∷ ns)) many) p.0).1 in
+    let q = and_parts (are_bytes_test n) (list_all are_bytes_test ns) p.1 in
     let apart : attr_text (Symbol (n ∷ ns)) ++ rest ≡ part_text n ++ others ns rest = append_assoc (part_text n) (parted (codes "::") false (map part_text ns)) rest in
     let here = part_again n (others ns rest) (are_bytes n q.0) (ends_part ns rest s.0) in
     let all = parts_again many [] n ns rest p.1 count s in

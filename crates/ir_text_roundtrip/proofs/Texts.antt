@@ -10,6 +10,7 @@ use Rattle.ir_text.specs.Naming.{Named, value_text, value_type, name_results, na
 use Rattle.ir_text_types.specs.TypeGrammar.{types_of}
 use Rattle.ir_text.specs.Printing.{Printed, put, deeper, results_text, put_results, properties_text, attributes_text, put_name, put_head, put_tail, comma_at, argument_text, put_argument, put_arguments, put_label, opening, closing_text, put_op, put_regions, put_region, put_ops}
 use Rattle.ir_text_roundtrip.specs.Standing.{unwritten}
+use Rattle.ir_types.proofs.Truths.{append_none}
 
 abbrev pub Head : Type 0
 Head = HeadOf (List ℕ) TypeTerm AttrTerm
@@ -211,13 +212,9 @@ mutual
 
 -- ---- behind what is written
 
-pub nothing_behind : (xs : List ℕ) → xs ++ [] ≡ xs
-nothing_behind [] = refl
-nothing_behind (x ∷ xs) = ap (λ (l : List ℕ). x ∷ l) (nothing_behind xs)
-
 pub op_appended : (margin : List ℕ) (t : Operation) (o : Printed) → (put_op margin t o).text ≡ o.text ++ (put_op margin t (unwritten o)).text
 op_appended margin t o =
     let p = puts_op margin t in
-    let here = sym (nothing_behind (put_op margin t o).text) ∙ p.text o [] in
-    let alone = sym (nothing_behind (put_op margin t (unwritten o)).text) ∙ p.text (unwritten o) [] in
+    let here = sym (append_none (put_op margin t o).text) ∙ p.text o [] in
+    let alone = sym (append_none (put_op margin t (unwritten o)).text) ∙ p.text (unwritten o) [] in
     here ∙ ap (λ (l : List ℕ). o.text ++ l) (sym alone)

@@ -25,15 +25,16 @@ use Rattle.std.specs.Str.{bytes_eq}
 use Rattle.ir_text_roundtrip.specs.Written.{types_list, is_written_type, are_written_types, FitsType}
 use Rattle.ir_text_roundtrip.proofs.Ahead.{Ahead, Lacks, either_ahead, then_ahead, space, space_token}
 use Rattle.ir_text_roundtrip.proofs.Rows.{AllFit, Items, list_again}
-use Rattle.ir_text_roundtrip.proofs.Small.{both, in_range, lacks_token}
+use Rattle.ir_text_roundtrip.proofs.Small.{lacks_token}
 use Rattle.ir_text_roundtrip.proofs.Words.{scalar_again, scalar_word, scalar_no_memref}
 use Rattle.ir_text_roundtrip.proofs.Shapes.{dimensions_again}
+use Rattle.std.proofs.lemmas.Bool.{and_parts, leb-true}
 
 pub some_depth : (t : TypeTerm) → is_written_type t ≡ true → 1 ≤ type_depth t
 some_depth (Integer sign w) e = omega arith
 some_depth Index e = omega arith
 some_depth (Function ins outs) e = omega arith
-some_depth (Memref dims elem) e = let k : is_scalar elem ≡ true = (both (is_scalar elem) (is_written_type elem) (both (nat_le (length dims) many && list_all is_dimension dims) (is_scalar elem && is_written_type elem) e).1).0 in rw k (omega arith)
+some_depth (Memref dims elem) e = let k : is_scalar elem ≡ true = (and_parts (is_scalar elem) (is_written_type elem) (and_parts (nat_le (length dims) many && list_all is_dimension dims) (is_scalar elem && is_written_type elem) e).1).0 in rw k (omega arith)
 
 -- ---- lists of types as terms
 
@@ -72,15 +73,15 @@ memref_fine dims elem e k = rw (e, k) refl
 memref_read : (dims : List (Option ℕ)) (elem : TypeTerm) (rest : List ℕ) → is_written_type (Memref dims elem) ≡ true → IsWordType (Memref dims elem) (type_text (Memref dims elem) ++ rest) rest
 unfolding IsMemref
 memref_read dims elem rest e =
-    let p = both (nat_le (length dims) many && list_all is_dimension dims) (is_scalar elem && is_written_type elem) e in
-    let d = both (nat_le (length dims) many) (list_all is_dimension dims) p.0 in
-    let k = both (is_scalar elem) (is_written_type elem) p.1 in
+    let p = and_parts (nat_le (length dims) many && list_all is_dimension dims) (is_scalar elem && is_written_type elem) e in
+    let d = and_parts (nat_le (length dims) many) (list_all is_dimension dims) p.0 in
+    let k = and_parts (is_scalar elem) (is_written_type elem) p.1 in
     let mid = type_text elem ++ 62 ∷ rest in
     let back = flat_map dimension_text dims ++ mid in
     let scalar = scalar_read elem (62 ∷ rest) k.0 k.1 refl in
     let apart : (flat_map dimension_text dims ++ (type_text elem ++ 62 ∷ [])) ++ rest ≡ back = append_assoc (flat_map dimension_text dims) (type_text elem ++ 62 ∷ []) rest ∙ ap (λ (l : List ℕ). flat_map dimension_text dims ++ l) (append_assoc (type_text elem) (62 ∷ []) rest) in
     let inside : IsMemref (Memref dims elem) (60 ∷ back) rest =
-    (back, mark_token Less back tt, (dims, mid, (in_range (length dims) many d.0, dimensions_again dims scalar.0 mid (62 ∷ rest) d.1 scalar.2), (elem, 62 ∷ rest, scalar, (rest, mark_token Greater rest tt, (memref_fine dims elem d.1 k.0, refl, refl))))) in
+    (back, mark_token Less back tt, (dims, mid, (leb-true (length dims) many d.0, dimensions_again dims scalar.0 mid (62 ∷ rest) d.1 scalar.2), (elem, 62 ∷ rest, scalar, (rest, mark_token Greater rest tt, (memref_fine dims elem d.1 k.0, refl, refl))))) in
     rw apart (memref_word, 60 ∷ back, bare_token memref_word (60 ∷ back) refl refl, inside)
 
 -- ---- what types begin with
@@ -104,7 +105,7 @@ IsReadAgain depth = (t : TypeTerm) (rest : List ℕ) → type_depth t ≤ depth 
 all_fit : (depth : ℕ) (front : List TypeTerm) (ts : TypeTerms) → types_depth ts ≤ depth → are_written_types ts ≡ true → AllFit (λ before. FitsType depth) front (types_list ts)
 all_fit depth front no_types le e = tt
 all_fit depth front (next_type t ts) le e =
-    let p = both (is_written_type t) (are_written_types ts) e in
+    let p = and_parts (is_written_type t) (are_written_types ts) e in
     ((omega arith, p.0), all_fit depth (front ++ t ∷ []) ts (omega arith) p.1)
 
 module _ (depth : ℕ) (item : IsReadAgain depth) where
@@ -142,9 +143,9 @@ module _ (depth : ℕ) (item : IsReadAgain depth) where
   outputs_again : (room : ℕ) (ts : TypeTerms) (rest : List ℕ) → types_depth ts ≤ depth → are_written_types ts ≡ true → length (types_list ts) ≤ room → Stops is_word rest → IsOutputs (IsType depth) room (types_list ts) (outputs_text (is_lone ts) (type_texts ts) ++ rest) rest
   unfolding IsOutputs
   outputs_again room no_types rest le e count s = inl (round_again room no_types rest le e count)
-  outputs_again room (next_type (Integer sign w) no_types) rest le e count s = lone_again room (Integer sign w) rest refl (omega arith) (both _ _ e).0 s
-  outputs_again room (next_type Index no_types) rest le e count s = lone_again room Index rest refl (omega arith) (both _ _ e).0 s
-  outputs_again room (next_type (Memref dims elem) no_types) rest le e count s = lone_again room (Memref dims elem) rest refl (omega arith) (both _ _ e).0 s
+  outputs_again room (next_type (Integer sign w) no_types) rest le e count s = lone_again room (Integer sign w) rest refl (omega arith) (and_parts _ _ e).0 s
+  outputs_again room (next_type Index no_types) rest le e count s = lone_again room Index rest refl (omega arith) (and_parts _ _ e).0 s
+  outputs_again room (next_type (Memref dims elem) no_types) rest le e count s = lone_again room (Memref dims elem) rest refl (omega arith) (and_parts _ _ e).0 s
   outputs_again room (next_type (Function ins outs) no_types) rest le e count s = inl (round_again room (next_type (Function ins outs) no_types) rest le e count)
   outputs_again room (next_type t (next_type u us)) rest le e count s = inl (round_again room (next_type t (next_type u us)) rest le e count)
 
@@ -166,10 +167,10 @@ module _ (depth : ℕ) (item : IsReadAgain depth) where
   function_again : (ins outs : TypeTerms) (rest : List ℕ) → type_depth (Function ins outs) ≤ 32 → types_depth ins ≤ depth → types_depth outs ≤ depth → is_written_type (Function ins outs) ≡ true → Stops is_word rest → After IsMark OpenRound (IsFunction (IsType depth)) (Function ins outs) (type_text (Function ins outs) ++ rest) rest
   unfolding IsFunction
   function_again ins outs rest small li lo e s =
-      let p = both (nat_le (length (types_list ins)) many && nat_le (length (types_list outs)) many) (are_written_types ins && are_written_types outs) e in
-      let c = both (nat_le (length (types_list ins)) many) (nat_le (length (types_list outs)) many) p.0 in
-      let w = both (are_written_types ins) (are_written_types outs) p.1 in
-      let k = signature_again many ins outs rest li lo w.0 w.1 (in_range (length (types_list ins)) many c.0) (in_range (length (types_list outs)) many c.1) s in
+      let p = and_parts (nat_le (length (types_list ins)) many && nat_le (length (types_list outs)) many) (are_written_types ins && are_written_types outs) e in
+      let c = and_parts (nat_le (length (types_list ins)) many) (nat_le (length (types_list outs)) many) p.0 in
+      let w = and_parts (are_written_types ins) (are_written_types outs) p.1 in
+      let k = signature_again many ins outs rest li lo w.0 w.1 (leb-true (length (types_list ins)) many c.0) (leb-true (length (types_list outs)) many c.1) s in
       (k.0, k.1, ((types_list ins, types_list outs), rest, k.2, (rw (terms_again ins, terms_again outs) (shallow ins outs small), rw (terms_again ins, terms_again outs) refl, refl)))
     where
       shallow : (ins outs : TypeTerms) → type_depth (Function ins outs) ≤ 32 → type_fault (Function ins outs) ≡ None

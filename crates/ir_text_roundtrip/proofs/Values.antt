@@ -11,21 +11,12 @@ use Rattle.ir_types.specs.Reasons.{is_width, attr_fault}
 use Rattle.ir_types.proofs.ReadingLaws.{literal_small, number_is, type_number_back, type_number_fits, printed_is_literal, value_is_literal}
 use Rattle.ir_text_tokens.specs.Numbers.{below_limit}
 use Rattle.ir_text_roundtrip.specs.Written.{is_written_type}
+use Rattle.ir_text_tokens.proofs.Places.{is_below}
+use Rattle.std.proofs.lemmas.Bool.{lt-ltb, leb-true, ltb-true}
+use Rattle.ir_tree.proofs.Counts.{below_none}
 
 width_bounds : (w : ℕ) → is_width w ≡ true → (1 ≤ w) × (w ≤ 128)
 width_bounds w e = (grind (arith, nat_tests), grind (arith, nat_tests))
-
-lt_test : (n m : ℕ) → n < m → nat_lt n m ≡ true
-lt_test n m h = grind (arith, nat_tests)
-
-test_lt : (n m : ℕ) → nat_lt n m ≡ true → n < m
-test_lt n m h = grind (arith, nat_tests)
-
-test_le : (n m : ℕ) → nat_le n m ≡ true → n ≤ m
-test_le n m h = grind (arith, nat_tests)
-
-pub no_less : (n : ℕ) → nat_lt n 0 ≡ false
-no_less n = grind (arith, nat_tests)
 
 -- a type of integers has bits
 some_width : (ty : TypeTerm) (z : ℤ) → is_written_type ty ≡ true → is_value_number ty z ≡ true → 1 ≤ type_width ty
@@ -35,10 +26,10 @@ some_width (Function ins outs) z t v = absurd cc
 some_width (Memref dims elem) z t v = absurd cc
 
 index_small : (negative : Bool) (m : ℕ) → is_signed index_width negative m ≡ true → m < 2 ^ 128
-index_small true m h = omega (arith, test_le m (2 ^ 63) h)
-index_small false m h = omega (arith, test_lt m (2 ^ 63) h)
+index_small true m h = omega (arith, leb-true m (2 ^ 63) h)
+index_small false m h = omega (arith, ltb-true m (2 ^ 63) h)
 
--- no literal passes the limit of numbers
+-- no literal passes the is_below of numbers
 small : (ty : TypeTerm) (negative : Bool) (m : ℕ) → is_written_type ty ≡ true → is_literal ty negative m ≡ true → m < 2 ^ 128
 small (Integer sign w) negative m t h =
     let b = width_bounds w t in
@@ -84,9 +75,6 @@ read_again ty bits t v =
     let z = reading_of ty bits in
     let fits = value_is_literal ty (int_lt z (pos 0)) (unsigned_abs z) some (type_number_fits ty bits some v) in
     record { literal = printed_is_literal ty bits some v; small = small ty (int_lt z (pos 0)) (unsigned_abs z) t fits }
-
-pub limit : (n : ℕ) → n < 2 ^ 128 → below_limit n ≡ Some n
-limit n h = rw (lt_test n (2 ^ 128) h) refl
 
 pub fine : (ty : TypeTerm) (bits : ℕ) → is_bits_of ty bits ≡ true → attr_fault (IntegerOf ty bits) ≡ None
 fine ty bits e = rw e refl

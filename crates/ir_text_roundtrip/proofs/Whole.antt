@@ -16,14 +16,15 @@ use Rattle.ir_text.specs.Printing.{text_of, blank}
 use Rattle.ir_tree_laws.specs.Renumbered.{with_ids}
 use Rattle.ir_text_roundtrip.specs.Runs.{Runs}
 use Rattle.ir_text_roundtrip.proofs.Fitting.{FitsOp}
-use Rattle.ir_text_roundtrip.proofs.Texts.{names_of, op_then, puts_op, nothing_behind}
+use Rattle.ir_text_roundtrip.proofs.Texts.{names_of, op_then, puts_op}
 use Rattle.ir_text_roundtrip.proofs.Joined.{joined_nothing}
 use Rattle.ir_text_roundtrip.proofs.Fresh.{Fresh}
 use Rattle.ir_text_roundtrip.proofs.Ops.{op_again}
 use Rattle.ir_text_roundtrip.proofs.Visible.{sees_op}
+use Rattle.ir_types.proofs.Truths.{append_none}
 
 pub whole_text : (t : Operation) → text_of t ≡ op_then [] t (names_of blank) []
-whole_text t = sym (nothing_behind (text_of t)) ∙ (puts_op [] t).text blank []
+whole_text t = sym (append_none (text_of t)) ∙ (puts_op [] t).text blank []
 
 -- where f gives the ids 0, 1, .. in pre-order
 pub single_again : (f : ℕ → ℕ) (t : Operation) → FitsOp t → list_all sees_operands (sites is_isolated [] t) ≡ true → Runs f 0 (ids t) → IsDistinct eqb (ids t) → depth t ≤ 128 → length (ids t) ≤ 1048576 → IsSingleOp no_names 1048576 0 (text_of t) (with_ids f t)

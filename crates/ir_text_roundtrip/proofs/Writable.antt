@@ -5,21 +5,21 @@ use Rattle.ir_tree.specs.Limits.{every, regions_every, region_every, ops_every, 
 use Rattle.ir_tree.specs.Ids.{op_count}
 use Rattle.ir_tree.specs.Meaning.{Operation, key_before, dictionaries_rise}
 use Rattle.ir_tree.specs.Tree.{op, no_regions, region, region_count, empty, block, no_ops, next}
-use Rattle.ir_text_roundtrip.proofs.Small.{both, in_range}
 use Rattle.ir_text_roundtrip.specs.WrittenTrees.{IsWritableHead, IsWritable, AreWritableRegions, IsWritableRegion, AreWritableOps}
 use Rattle.ir_text_roundtrip.proofs.Fitting.{FitsHead, FitsOp, FitsRegions, FitsRegion, FitsOps}
 use Rattle.ir_text_roundtrip.proofs.Texts.{Head, Regions, Region, Ops}
+use Rattle.std.proofs.lemmas.Bool.{and_parts, leb-true}
 
 -- ---- the limits
 
 few_items : {X : Type 0} (xs : List X) → items_fit xs ≡ true → length xs ≤ 256
-few_items xs e = in_range (length xs) 256 e
+few_items xs e = leb-true (length xs) 256 e
 
 fits_head : (h : Head) → head_fits h ≡ true → IsWritableHead h → FitsHead h
 fits_head h e w =
-    let a = both (items_fit h.operands) (items_fit h.results && (items_fit h.properties && items_fit h.attributes)) e in
-    let b = both (items_fit h.results) (items_fit h.properties && items_fit h.attributes) a.1 in
-    let c = both (items_fit h.properties) (items_fit h.attributes) b.1 in
+    let a = and_parts (items_fit h.operands) (items_fit h.results && (items_fit h.properties && items_fit h.attributes)) e in
+    let b = and_parts (items_fit h.results) (items_fit h.properties && items_fit h.attributes) a.1 in
+    let c = and_parts (items_fit h.properties) (items_fit h.attributes) b.1 in
     record {
       operands = few_items h.operands a.0;
       results = few_items h.results b.0;
@@ -31,16 +31,16 @@ fits_head h e w =
 mutual
   fits_op : (t : Operation) → every op_fits t ≡ true → IsWritable t → FitsOp t
   fits_op (op h rs) e w =
-      let a = both (op_fits (op h rs)) (regions_every op_fits rs) e in
-      let b = both (head_fits h) (nat_le (region_count rs) 16 && all_arguments_pass items_fit rs) a.0 in
-      let c = both (nat_le (region_count rs) 16) (all_arguments_pass items_fit rs) b.1 in
-      (fits_head h b.0 w.0, in_range (region_count rs) 16 c.0, fits_regions rs c.1 a.1 w.1)
+      let a = and_parts (op_fits (op h rs)) (regions_every op_fits rs) e in
+      let b = and_parts (head_fits h) (nat_le (region_count rs) 16 && all_arguments_pass items_fit rs) a.0 in
+      let c = and_parts (nat_le (region_count rs) 16) (all_arguments_pass items_fit rs) b.1 in
+      (fits_head h b.0 w.0, leb-true (region_count rs) 16 c.0, fits_regions rs c.1 a.1 w.1)
 
   fits_regions : (rs : Regions) → all_arguments_pass items_fit rs ≡ true → regions_every op_fits rs ≡ true → AreWritableRegions rs → FitsRegions rs
   fits_regions no_regions e k w = tt
   fits_regions (region g rs) e k w =
-      let a = both (arguments_pass items_fit g) (all_arguments_pass items_fit rs) e in
-      let b = both (region_every op_fits g) (regions_every op_fits rs) k in
+      let a = and_parts (arguments_pass items_fit g) (all_arguments_pass items_fit rs) e in
+      let b = and_parts (region_every op_fits g) (regions_every op_fits rs) k in
       (fits_region g a.0 b.0 w.0, fits_regions rs a.1 b.1 w.1)
 
   fits_region : (g : Region) → arguments_pass items_fit g ≡ true → region_every op_fits g ≡ true → IsWritableRegion g → FitsRegion g
@@ -50,14 +50,14 @@ mutual
   fits_ops : (os : Ops) → ops_every op_fits os ≡ true → AreWritableOps os → FitsOps os
   fits_ops no_ops k w = tt
   fits_ops (next t ts) k w =
-      let b = both (every op_fits t) (ops_every op_fits ts) k in
+      let b = and_parts (every op_fits t) (ops_every op_fits ts) k in
       (fits_op t b.0 w.0, fits_ops ts b.1 w.1)
 
 pub fits : (t : Operation) → counts_fit t ≡ true → IsWritable t → FitsOp t
-fits t e w = fits_op t (both (nat_le (op_count t) most_ops) (every op_fits t) e).1 w
+fits t e w = fits_op t (and_parts (nat_le (op_count t) most_ops) (every op_fits t) e).1 w
 
 pub few_ops : (t : Operation) → counts_fit t ≡ true → op_count t ≤ most_ops
-few_ops t e = in_range (op_count t) most_ops (both (nat_le (op_count t) most_ops) (every op_fits t) e).0
+few_ops t e = leb-true (op_count t) most_ops (and_parts (nat_le (op_count t) most_ops) (every op_fits t) e).0
 
 -- ---- sorted dictionaries
 

@@ -13,7 +13,7 @@ use Rattle.ir_text_tokens.specs.Strings.{hex_value}
 use Rattle.ir_text_tokens.specs.Tokens.{digits_len, hex_len, fraction_len, integer, number_at}
 use Rattle.ir_text_tokens.specs.Numbers.{place_value, begins_hex, integer_of}
 use Rattle.ir_text_tokens.specs.Printing.{Stops, extends_integer}
-use Rattle.ir_text_tokens.proofs.Escapes.{either}
+use Rattle.std.proofs.lemmas.Bool.{and_right, cases_Bool}
 
 pub eqb_self : (n : ℕ) → eqb n n ≡ true
 eqb_self n = grind (arith, nat_tests)
@@ -29,7 +29,7 @@ pub run_ends : (p : ℕ → Bool) (w rest : List ℕ) → prefix_len p w ≡ len
 run_ends p w rest h s = rw (prefix_len-append, h, eqb_self (length w), no_run p rest s) (omega arith)
 
 pub first_passes : (p : ℕ → Bool) (b : ℕ) (bs : List ℕ) → prefix_len p (b ∷ bs) ≡ length (b ∷ bs) → p b ≡ true
-first_passes p b bs h = elim (either (p b)) [
+first_passes p b bs h = elim (cases_Bool (p b)) [
   | inl e ↦ e
   | inr e ↦ let z : prefix_len p (b ∷ bs) ≡ 0 = rw e refl in absurd (omega arith)
 ]
@@ -89,12 +89,8 @@ decimal_number n lt = decimal_by_steps_wide Number number_one number_more n (ome
 
 -- ---- digits begin no hexadecimal number
 
-not_x : (c : ℕ) → is_ascii_digit c ≡ true → (c == 120) ≡ false
+pub not_x : (c : ℕ) → is_ascii_digit c ≡ true → (c == 120) ≡ false
 not_x c e = grind (arith, nat_tests)
-
-and_false : (a b : Bool) → b ≡ false → (a && b) ≡ false
-and_false true b e = e
-and_false false b e = refl
 
 extends_x : (c : ℕ) → extends_integer c ≡ false → (c == 120) ≡ false
 extends_x c e = grind (arith, nat_tests)
@@ -103,7 +99,7 @@ extends_dot : (c : ℕ) → extends_integer c ≡ false → (c == 46) ≡ false
 extends_dot c e = grind (arith, nat_tests)
 
 extends_digit : (c : ℕ) → extends_integer c ≡ false → is_ascii_digit c ≡ false
-extends_digit c e = elim (either (is_ascii_digit c)) [
+extends_digit c e = elim (cases_Bool (is_ascii_digit c)) [
   | inl t ↦ let z : extends_integer c ≡ true = rw t refl in absurd cc
   | inr f ↦ f
 ]
@@ -111,10 +107,10 @@ extends_digit c e = elim (either (is_ascii_digit c)) [
 no_hex : (ds : List ℕ) → digits_len ds ≡ length ds → begins_hex ds ≡ false
 no_hex [] h = refl
 no_hex (a ∷ []) h = refl
-no_hex (a ∷ b ∷ ds) h = and_false (a == 48) (b == 120) (not_x b (first_passes is_ascii_digit b ds (rest_passes is_ascii_digit a (b ∷ ds) h)))
+no_hex (a ∷ b ∷ ds) h = and_right (a == 48) (b == 120) (not_x b (first_passes is_ascii_digit b ds (rest_passes is_ascii_digit a (b ∷ ds) h)))
 
 no_hex_len : (a b : ℕ) (cs : List ℕ) → (b == 120) ≡ false → hex_len (a ∷ b ∷ cs) ≡ 0
-no_hex_len a b cs e = rw (and_false (a == 48) (b == 120) e) refl
+no_hex_len a b cs e = rw (and_right (a == 48) (b == 120) e) refl
 
 no_hex_token : (ds rest : List ℕ) → digits_len ds ≡ length ds → 1 ≤ length ds → Stops extends_integer rest → hex_len (ds ++ rest) ≡ 0
 no_hex_token [] rest h le s = absurd (omega (arith, le))

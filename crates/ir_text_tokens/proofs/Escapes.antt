@@ -2,7 +2,7 @@
 use Rattle.std.proofs.Common.{◌≡◌, ℕ, zero, suc, ◌+◌, ◌*◌, ◌/◌, ◌%◌, ◌<◌, Bool, true, false, leb, List, [], ◌∷◌, ◌++◌, length, drop, Option, Some, None, refl, sym, ap, ◌∙◌, append_assoc, arith, inl, inr}
 use Rattle.std.specs.Prelude.{option_map, ◌==◌, ◌&&◌, not, ◌⊎◌}
 use Rattle.std.proofs.lemmas.Bool.Decides.{nat_tests}
-use Rattle.std.proofs.lemmas.Bool.{eqb-true}
+use Rattle.std.proofs.lemmas.Bool.{eqb-true, cases_Bool}
 use Rattle.std.proofs.lemmas.List.{length-append, take_at, drop_at}
 use Rattle.std.proofs.lemmas.List.Concat.{flat_map-cons}
 use Rattle.ir_text_tokens.specs.Bytes.{is_hex, is_line_end}
@@ -38,10 +38,6 @@ sixteen P a b c d e f g h i j k l m o q r (suc (suc (suc (suc (suc (suc (suc (su
 digit_is : (n : ℕ) → n < 16 → IsDigit n
 digit_is = sixteen IsDigit (record { hex = refl; value = refl; short = refl }) (record { hex = refl; value = refl; short = refl }) (record { hex = refl; value = refl; short = refl }) (record { hex = refl; value = refl; short = refl }) (record { hex = refl; value = refl; short = refl }) (record { hex = refl; value = refl; short = refl }) (record { hex = refl; value = refl; short = refl }) (record { hex = refl; value = refl; short = refl }) (record { hex = refl; value = refl; short = refl }) (record { hex = refl; value = refl; short = refl }) (record { hex = refl; value = refl; short = refl }) (record { hex = refl; value = refl; short = refl }) (record { hex = refl; value = refl; short = refl }) (record { hex = refl; value = refl; short = refl }) (record { hex = refl; value = refl; short = refl }) (record { hex = refl; value = refl; short = refl })
 
-pub either : (b : Bool) → (b ≡ true) ⊎ (b ≡ false)
-either true = inl refl
-either false = inr refl
-
 -- the byte is printed as itself
 record Stands (c : ℕ) : Type 0 where
   pub quote : (c == 34) ≡ false
@@ -57,9 +53,9 @@ data Way (c : ℕ) : Type 0 where
   escaped : byte_text c ≡ 92 ∷ hex_digit (c / 16) ∷ hex_digit (c % 16) ∷ [] → Way c
 
 way : (c : ℕ) → Way c
-way c = elim (either (c == 92)) [
+way c = elim (cases_Bool (c == 92)) [
   | inl e ↦ doubled (eqb-true c 92 e) (rw e refl)
-  | inr e ↦ elim (either ((leb 32 c && leb c 126) && not (c == 34))) [
+  | inr e ↦ elim (cases_Bool ((leb 32 c && leb c 126) && not (c == 34))) [
     | inl f ↦ itself (stands c e f) (rw (e, f) refl)
     | inr f ↦ escaped (rw (e, f) refl)
   ]

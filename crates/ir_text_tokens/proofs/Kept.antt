@@ -4,7 +4,7 @@ use Prim.Native.Nat.compare
 use Rattle.std.specs.Prelude.{nat_le, option_map, slice_get}
 use Rattle.std.specs.Str.{bytes_eq}
 use Rattle.std.specs.Borrow.{Bor}
-use Rattle.std.proofs.lemmas.List.{map-append, length-append, length-map, take-append-le, drop-append-le, take-map, take-take}
+use Rattle.std.proofs.lemmas.List.{map-append, length-append, length-map, take-append-le, drop-append-le, take-map, take-take, nil_from_length}
 use Rattle.std.proofs.lemmas.Slice.Eq.{bytes_eq-Decides}
 use Rattle.std.specs.HashMap.{HashMap, get}
 use Rattle.ir_text_tokens.specs.Scopes.{Binding, Scopes, or_else, find, bound, entered, left}
@@ -12,34 +12,13 @@ use Rattle.ir_text_tokens.specs.Places.{key_eq, joined, binding_view, views, top
 use Rattle.ir_text_tokens.specs.Inside.{seen_at, seen_onto, Standing}
 use Rattle.ir_text_tokens.specs.declared.names.Entry.{Entry}
 use Rattle.ir_text_tokens.specs.declared.names.Floor.{Floor}
-
-pub push_cases : {A : Type 0} (xs : List A) (x y : A) (i : ℕ) → slice_get (xs ++ x ∷ []) i ≡ Some y → (slice_get xs i ≡ Some y) ⊎ ((i ≡ length xs) × (x ≡ y))
-push_cases [] x y zero e = inr (refl, cc)
-push_cases [] x y (suc i) e = absurd (cc)
-push_cases (z ∷ zs) x y zero e = inl e
-push_cases (z ∷ zs) x y (suc i) e = ⊎_elim inl (λ p. inr (ap suc p.0, p.1)) (push_cases zs x y i e)
-
-pub get_below : {A : Type 0} (xs : List A) (i : ℕ) (x : A) → slice_get xs i ≡ Some x → i < length xs
-get_below [] i x e = absurd (cc)
-get_below (y ∷ ys) zero x e = omega arith
-get_below (y ∷ ys) (suc i) x e = omega (arith, get_below ys i x e)
-
-pub get_front : {A : Type 0} (xs ys : List A) (i : ℕ) (x : A) → slice_get xs i ≡ Some x → slice_get (xs ++ ys) i ≡ Some x
-get_front [] ys i x e = absurd (cc)
-get_front (z ∷ zs) ys zero x e = e
-get_front (z ∷ zs) ys (suc i) x e = get_front zs ys i x e
+use Rattle.ir_types.proofs.Truths.{drop_all, zero_le}
+use Rattle.std.proofs.lemmas.Option.{slice_get_within}
+use Rattle.ir_types.proofs.Building.{place_stays, last_place, push_cases}
 
 take_all : {A : Type 0} (xs : List A) → take (length xs) xs ≡ xs
 take_all [] = refl
 take_all (x ∷ xs) = ap (λ l. x ∷ l) (take_all xs)
-
-least : (n : ℕ) → nat_le 0 n ≡ true
-least zero = refl
-least (suc n) = rw compare.zero-suc refl
-
-last_get : {A : Type 0} (es : List A) (e : A) → slice_get (es ++ e ∷ []) (length es) ≡ Some e
-last_get [] e = refl
-last_get (c ∷ es) e = last_get es e
 
 joined_cond : {A : Type 0} (t : Bool) (x : Option A) (o : Option (Option A)) → joined (cond t (Some x) o) ≡ cond t x (joined o)
 joined_cond true x o = refl
@@ -54,7 +33,7 @@ pub standing_push : (ms : List Floor) (m : Floor) → Standing ms m.count → m.
 standing_push ms m h le = record {
   marked = λ i k at. ⊎_elim (λ p. h.marked i k p) (λ (p : (i ≡ length ms) × (m ≡ k)). rw (← p.1) (le, omega arith)) (push_cases ms m k i at);
   rising = λ i j k l lt at to. ⊎_elim
-      (λ q. h.rising i j k l lt (below ms m i k at (omega (arith, get_below ms j l q, lt))) q)
+      (λ q. h.rising i j k l lt (below ms m i k at (omega (arith, slice_get_within ms j l q, lt))) q)
       (λ (q : (j ≡ length ms) × (m ≡ l)). rw (← q.1) (h.marked i k (below ms m i k at (omega (arith, q.0, lt)))).1)
       (push_cases ms m l j to);
 }
@@ -64,12 +43,12 @@ standing_push ms m h le = record {
 
 pub standing_pop : (ms : List Floor) (m : Floor) (count : ℕ) → Standing (ms ++ m ∷ []) count → Standing ms m.count
 standing_pop ms m count h = record {
-  marked = λ i k at. ((h.marked i k (get_front ms (m ∷ []) i k at)).0, h.rising i (length ms) k m (get_below ms i k at) (get_front ms (m ∷ []) i k at) (last_get ms m));
-  rising = λ i j k l lt at to. h.rising i j k l lt (get_front ms (m ∷ []) i k at) (get_front ms (m ∷ []) j l to);
+  marked = λ i k at. ((h.marked i k (place_stays ms (m ∷ []) i k at)).0, h.rising i (length ms) k m (slice_get_within ms i k at) (place_stays ms (m ∷ []) i k at) (last_place ms m));
+  rising = λ i j k l lt at to. h.rising i j k l lt (place_stays ms (m ∷ []) i k at) (place_stays ms (m ∷ []) j l to);
 }
 
 pub standing_last : (ms : List Floor) (m : Floor) (count : ℕ) → Standing (ms ++ m ∷ []) count → (m.first ≤ m.count) × (m.count ≤ count)
-standing_last ms m count h = h.marked (length ms) m (last_get ms m)
+standing_last ms m count h = h.marked (length ms) m (last_place ms m)
 
 pub no_marks : (count : ℕ) → Standing [] count
 no_marks count = record { marked = λ i m at. absurd (none i m at); rising = λ i j m k lt at to. absurd (none i m at) }
@@ -80,14 +59,6 @@ no_marks count = record { marked = λ i m at. absurd (none i m at); rising = λ 
 
 pub shorter : {A : Type 0} (count : ℕ) (xs ys : List A) (x : A) → ys ≡ xs ++ x ∷ [] → count < length ys → take count ys ≡ take count xs
 shorter count xs ys x e lt = rw e (take-append-le count xs (x ∷ []) (omega (arith, lt, ap length e, length-append xs (x ∷ []))))
-
-drop_all : {A : Type 0} (xs : List A) → drop (length xs) xs ≡ []
-drop_all [] = refl
-drop_all (x ∷ xs) = drop_all xs
-
-none_of : {A : Type 0} (xs : List A) → length xs ≡ 0 → xs ≡ []
-none_of [] e = refl
-none_of (x ∷ xs) e = absurd (omega (arith, e))
 
 abbrev some_place : ℕ → Option ℕ
 some_place i = Some i
@@ -122,7 +93,7 @@ module _ {T : Type 0} where
       (tops name bs)
   find_top name (suc floor) [] = refl
   find_top name (suc floor) (c ∷ bs) =
-      elim (top name bs) as (λ o. pick (c ∷ bs) (suc floor) (or_else (option_map suc o) (cond (bytes_eq c.name name) (Some 0) None)) ≡ pick bs floor o) [ None ↦ elim (bytes_eq c.name name) as (λ t. pick (c ∷ bs) (suc floor) (cond t (Some 0) None) ≡ None) [ true ↦ rw (compare.suc-suc, least floor) refl | false ↦ refl ] | Some i ↦ rw compare.suc-suc refl ]
+      elim (top name bs) as (λ o. pick (c ∷ bs) (suc floor) (or_else (option_map suc o) (cond (bytes_eq c.name name) (Some 0) None)) ≡ pick bs floor o) [ None ↦ elim (bytes_eq c.name name) as (λ t. pick (c ∷ bs) (suc floor) (cond t (Some 0) None) ≡ None) [ true ↦ rw (compare.suc-suc, zero_le floor) refl | false ↦ refl ] | Some i ↦ rw compare.suc-suc refl ]
       ∙ find_top name floor bs
 
   -- ---- the entries and the map
@@ -135,15 +106,15 @@ module _ {T : Type 0} where
 
   linked_push : (es : List (Entry T)) (e : Entry T) → Linked es → e.hidden ≡ top e.name.now (views es) → Linked (es ++ e ∷ [])
   linked_push es e h same i f at = ⊎_elim
-      (λ p. h i f p ∙ ap (top f.name.now) (sym (take_views i es e (omega (arith, get_below es i f p)))))
+      (λ p. h i f p ∙ ap (top f.name.now) (sym (take_views i es e (omega (arith, slice_get_within es i f p)))))
       (λ (p : (i ≡ length es) × (e ≡ f)). rw (← p.1, p.0) (same ∙ ap (top e.name.now) (sym (take_views (length es) es e (omega arith) ∙ ap (λ n. take n (views es)) (sym (length-map es _)) ∙ take_all (views es)))))
       (push_cases es e f i at)
 
   linked_pop : (es : List (Entry T)) (e : Entry T) → Linked (es ++ e ∷ []) → Linked es
-  linked_pop es e h i f at = h i f (get_front es (e ∷ []) i f at) ∙ ap (top f.name.now) (take_views i es e (omega (arith, get_below es i f at)))
+  linked_pop es e h i f at = h i f (place_stays es (e ∷ []) i f at) ∙ ap (top f.name.now) (take_views i es e (omega (arith, slice_get_within es i f at)))
 
   linked_last : (es : List (Entry T)) (e : Entry T) → Linked (es ++ e ∷ []) → e.hidden ≡ top e.name.now (views es)
-  linked_last es e h = h (length es) e (last_get es e) ∙ ap (top e.name.now) (take_views (length es) es e (omega arith) ∙ ap (λ n. take n (views es)) (sym (length-map es _)) ∙ take_all (views es))
+  linked_last es e h = h (length es) e (last_place es e) ∙ ap (top e.name.now) (take_views (length es) es e (omega arith) ∙ ap (λ n. take n (views es)) (sym (length-map es _)) ∙ take_all (views es))
 
   -- ---- marks
 
@@ -161,7 +132,7 @@ module _ {T : Type 0} where
   seen_more bs b ms h = seen_same bs (bs ++ b ∷ []) [] ms (λ i k at. take-append-le k.count bs (b ∷ []) (h.marked i k at).1)
 
   pub seen_cut : (bs : List (Binding T)) (ms : List Floor) (m : Floor) (count : ℕ) → Standing (ms ++ m ∷ []) count → seen_onto (take m.count bs) [] ms ≡ seen_onto bs [] ms
-  seen_cut bs ms m count h = seen_same bs (take m.count bs) [] ms (λ i k at. take-take k.count m.count bs (h.rising i (length ms) k m (get_below ms i k at) (get_front ms (m ∷ []) i k at) (last_get ms m)))
+  seen_cut bs ms m count h = seen_same bs (take m.count bs) [] ms (λ i k at. take-take k.count m.count bs (h.rising i (length ms) k m (slice_get_within ms i k at) (place_stays ms (m ∷ []) i k at) (last_place ms m)))
 
   module _ {S : Type 0} (m n : HashMap (Bor (List ℕ)) (Option ℕ) S) (es : List (Entry T)) (e : Entry T) where
     pub agrees_push : Agrees m es → ((q : Bor (List ℕ)) → get key_eq n q ≡ cond (bytes_eq e.name.now q.now) (Some (Some (length es))) (get key_eq m q)) → e.hidden ≡ joined (get key_eq m e.name) → Agrees n (es ++ e ∷ [])
@@ -224,7 +195,7 @@ module _ {T : Type 0} where
 
   pub leaves_none : (es : List (Entry T)) (new old : List Floor) (floor : ℕ) → length old ≡ 0 → length new ≡ 0 → at_marks (views es) new floor ≡ left (at_marks (views es) old floor)
   unfolding seen_onto
-  leaves_none es new old floor e f = rw (none_of old e, none_of new f) refl
+  leaves_none es new old floor e f = rw (nil_from_length old e, nil_from_length new f) refl
 
   -- the scopes with one more name
   pub adds : (es new : List (Entry T)) (ms : List Floor) (b : Binding T) (floor : ℕ) → views new ≡ views es ++ b ∷ [] → floor ≤ length es → Standing ms (length es) → at_marks (views new) ms floor ≡ bound b.name b.value (at_marks (views es) ms floor)

@@ -1,3 +1,4 @@
+pub mod Facts
 pub mod Places
 pub mod Kept
 pub mod Escapes

@@ -5,14 +5,14 @@ use Rattle.std.specs.List.{prefix_len}
 use Rattle.std.specs.Char.{is_ascii_digit}
 use Rattle.std.specs.Fmt.{decimal}
 use Rattle.std.proofs.lemmas.Bool.Decides.{nat_tests}
-use Rattle.std.proofs.lemmas.Bool.{eqb-true}
+use Rattle.std.proofs.lemmas.Bool.{eqb-true, and_parts, cases_Bool}
 use Rattle.std.proofs.lemmas.List.{take_at, drop_at}
 use Rattle.ir_text_tokens.specs.declared.token.Mark.{Mark}
 use Rattle.ir_text_tokens.specs.declared.token.Mark.TheVariants.{OpenRound, CloseRound, OpenCurly, CloseCurly, OpenSquare, CloseSquare, Less, Greater, Comma, Equal, Colon, DoubleColon, Minus, Arrow, Question, Star, End}
 use Rattle.ir_text_tokens.specs.Bytes.{is_blank, is_letter, is_word, is_suffix}
 use Rattle.ir_text_tokens.specs.Tokens.{Lexeme, mark, integer, string, bare, value, label, hash, symbol, quoted, longer, cut, skip, next, first_token, token_at, symbol_at, name_at, number_at, suffix_len, digits_len}
 use Rattle.ir_text_tokens.specs.Printing.{AreBytes, Stops, ClosesMark, extends_integer, raw_text, string_text, is_bare_id, is_suffix_id, key_text, signed_text, symbol_text, mark_text}
-use Rattle.ir_text_tokens.proofs.Escapes.{either, parts_again}
+use Rattle.ir_text_tokens.proofs.Escapes.{parts_again}
 use Rattle.ir_text_tokens.proofs.Decimals.{run_ends, first_passes, rest_passes, number_again, decimal_number, eqb_self}
 
 -- a byte with which a token begins
@@ -55,10 +55,6 @@ decimal_token n rest lt s = digits_token (decimal n) rest (decimal_number n lt).
 
 -- ---- bare identifiers
 
-both : (a b : Bool) → (a && b) ≡ true → (a ≡ true) × (b ≡ true)
-both true b e = (refl, e)
-both false b e = absurd cc
-
 -- a letter begins nothing else
 record IsFirst (c : ℕ) : Type 0 where
   pub slash : (c == 47) ≡ false
@@ -81,7 +77,7 @@ is_run c cs e h = rw (e, h) (omega arith)
 pub bare_token : (w rest : List ℕ) → is_bare_id w ≡ true → Stops is_word rest → next (w ++ rest) ≡ Some (bare w, rest)
 bare_token [] rest e s = absurd cc
 bare_token (c ∷ cs) rest e s =
-    let p = both (is_letter c) (prefix_len is_word cs == length cs) e in
+    let p = and_parts (is_letter c) (prefix_len is_word cs == length cs) e in
     let f = is_first c p.0 in
     bare_begins c (cs ++ rest) p.0 f ∙ cut_at bare _ (c ∷ cs) rest (run_ends is_word (c ∷ cs) rest (is_run c cs f.word (eqb-true _ _ p.1)) s)
 
@@ -89,14 +85,14 @@ bare_token (c ∷ cs) rest e s =
 
 stops_digit : (rest : List ℕ) → Stops is_suffix rest → Stops is_ascii_digit rest
 stops_digit [] s = tt
-stops_digit (c ∷ cs) s = elim (either (is_ascii_digit c)) [
+stops_digit (c ∷ cs) s = elim (cases_Bool (is_ascii_digit c)) [
   | inl t ↦ let z : is_suffix c ≡ true = grind (arith, nat_tests) in absurd cc
   | inr f ↦ f
 ]
 
 suffix_run : (w rest : List ℕ) → suffix_len w ≡ length w → 1 ≤ length w → Stops is_suffix rest → suffix_len (w ++ rest) ≡ length w
 suffix_run [] rest h le s = absurd (omega (arith, le))
-suffix_run (c ∷ cs) rest h le s = elim (either (is_ascii_digit c)) [
+suffix_run (c ∷ cs) rest h le s = elim (cases_Bool (is_ascii_digit c)) [
   | inl t ↦
       let before : suffix_len (c ∷ cs) ≡ digits_len (c ∷ cs) = rw t refl in
       let after : suffix_len (c ∷ (cs ++ rest)) ≡ digits_len (c ∷ (cs ++ rest)) = rw t refl in
@@ -110,12 +106,12 @@ suffix_run (c ∷ cs) rest h le s = elim (either (is_ascii_digit c)) [
 not_zero : (n : ℕ) → not (n == 0) ≡ true → 1 ≤ n
 not_zero n e = grind (arith, nat_tests)
 
-zero_test : (n : ℕ) → 1 ≤ n → (n == 0) ≡ false
+pub zero_test : (n : ℕ) → 1 ≤ n → (n == 0) ≡ false
 zero_test n le = grind (arith, nat_tests)
 
 pub name_again : (make : List ℕ → Lexeme) (w rest : List ℕ) → is_suffix_id w ≡ true → Stops is_suffix rest → name_at make (w ++ rest) ≡ Some (make w, rest)
 name_again make w rest e s =
-    let p = both (not (length w == 0)) (suffix_len w == length w) e in
+    let p = and_parts (not (length w == 0)) (suffix_len w == length w) e in
     let some = not_zero (length w) p.0 in
     let len = suffix_run w rest (eqb-true _ _ p.1) some s in
     rw (len, zero_test (length w) some, take_at w rest (length w) refl, drop_at w rest (length w) refl) refl
@@ -153,7 +149,7 @@ suffix_bytes (c ∷ cs) h =
 bare_name : (w : List ℕ) → is_bare_id w ≡ true → is_suffix_id w ≡ true
 bare_name [] e = absurd cc
 bare_name (c ∷ cs) e =
-    let p = both (is_letter c) (prefix_len is_word cs == length cs) e in
+    let p = and_parts (is_letter c) (prefix_len is_word cs == length cs) e in
     let f = is_first c p.0 in
     let k : suffix_len (c ∷ cs) ≡ prefix_len is_suffix (c ∷ cs) = rw f.digit refl in
     let l : suffix_len (c ∷ cs) ≡ length (c ∷ cs) = k ∙ suffix_bytes (c ∷ cs) (is_run c cs f.word (eqb-true _ _ p.1)) in
@@ -167,7 +163,7 @@ symbol_again : (w rest : List ℕ) → is_bare_id w ≡ true → Stops is_suffix
 unfolding symbol_at
 symbol_again [] rest e s = absurd cc
 symbol_again (c ∷ cs) rest e s =
-    let p = both (is_letter c) (prefix_len is_word cs == length cs) e in
+    let p = and_parts (is_letter c) (prefix_len is_word cs == length cs) e in
     rw (not_quote c p.0) (name_again symbol (c ∷ cs) rest (bare_name (c ∷ cs) e) s)
 
 quoted_again : (v rest : List ℕ) → AreBytes v → symbol_at (string_text v ++ rest) ≡ Some (quoted (raw_text v), rest)

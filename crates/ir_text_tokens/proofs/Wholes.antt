@@ -9,8 +9,8 @@ use Rattle.ir_text_tokens.specs.Bytes.{is_letter, is_suffix, is_word}
 use Rattle.ir_text_tokens.specs.Strings.{closing}
 use Rattle.ir_text_tokens.specs.Tokens.{Lexeme, mark, string, bare, value, label, hash, bang, symbol, quoted, longer, mark_of, mark_at, skip, next, first_token, token_at, sign_at, symbol_at, name_at, number_at, string_at, suffix_len, hex_len, digits_len, fraction_len}
 use Rattle.ir_text_tokens.specs.Printing.{Stops, is_bare_id, is_suffix_id, IsWhole, IsWholeName, extends_name}
-use Rattle.ir_text_tokens.proofs.Escapes.{either}
 use Rattle.ir_text_tokens.proofs.Decimals.{eqb_self}
+use Rattle.std.proofs.lemmas.Bool.{cases_Bool}
 
 abbrev Whole : Option (Lexeme × List ℕ) → Type 0
 Whole None = Unit {0}
@@ -27,7 +27,7 @@ one_more p c cs t = rw t (omega arith)
 
 run_all : (p : ℕ → Bool) (bs : List ℕ) → prefix_len p (take (prefix_len p bs) bs) ≡ length (take (prefix_len p bs) bs)
 run_all p [] = refl
-run_all p (c ∷ cs) = elim (either (p c)) [
+run_all p (c ∷ cs) = elim (cases_Bool (p c)) [
   | inl t ↦
       let e = one_more p c cs t in
       let l : take (prefix_len p (c ∷ cs)) (c ∷ cs) ≡ c ∷ take (prefix_len p cs) cs = ap (λ n. take n (c ∷ cs)) e in
@@ -40,14 +40,14 @@ run_all p (c ∷ cs) = elim (either (p c)) [
 
 run_stops : (p : ℕ → Bool) (bs : List ℕ) → Stops p (drop (prefix_len p bs) bs)
 run_stops p [] = tt
-run_stops p (c ∷ cs) = elim (either (p c)) [
+run_stops p (c ∷ cs) = elim (cases_Bool (p c)) [
   | inl t ↦ rw (one_more p c cs t) (run_stops p cs)
   | inr f ↦ let e : prefix_len p (c ∷ cs) ≡ 0 = rw f refl in rw e f
 ]
 
 -- ---- bare identifiers
 
-letter_word : (c : ℕ) → is_letter c ≡ true → is_word c ≡ true
+pub letter_word : (c : ℕ) → is_letter c ≡ true → is_word c ≡ true
 letter_word c e = grind (arith, nat_tests)
 
 bare_whole : (b : ℕ) (bs : List ℕ) → is_letter b ≡ true → IsWhole (bare (take (prefix_len is_word (b ∷ bs)) (b ∷ bs))) (drop (prefix_len is_word (b ∷ bs)) (b ∷ bs))
@@ -59,7 +59,7 @@ bare_whole b bs e =
 
 -- ---- names
 
-not_zero : (n : ℕ) → (suc n == 0) ≡ false
+pub not_zero : (n : ℕ) → (suc n == 0) ≡ false
 not_zero n = grind (arith, nat_tests)
 
 is_name : (c : ℕ) (ws : List ℕ) → suffix_len (c ∷ ws) ≡ length (c ∷ ws) → is_suffix_id (c ∷ ws) ≡ true
@@ -81,13 +81,13 @@ run_name p c cs t h k =
     stops_so p q (d ∷ ds) e s = e d ∙ s
 
 whole_name : (c : ℕ) (cs : List ℕ) → (suffix_len (c ∷ cs) == 0) ≡ false → IsWholeName (take (suffix_len (c ∷ cs)) (c ∷ cs)) (drop (suffix_len (c ∷ cs)) (c ∷ cs))
-whole_name c cs some = elim (either (is_ascii_digit c)) [
+whole_name c cs some = elim (cases_Bool (is_ascii_digit c)) [
   | inl t ↦
       let e : (ws : List ℕ) → suffix_len (c ∷ ws) ≡ digits_len (c ∷ ws) = λ ws. rw t refl in
       subst (λ n. IsWholeName (take n (c ∷ cs)) (drop n (c ∷ cs))) (sym (e cs)) (run_name is_ascii_digit c cs t e (λ ws d. rw t refl))
   | inr f ↦
       let e : (ws : List ℕ) → suffix_len (c ∷ ws) ≡ prefix_len is_suffix (c ∷ ws) = λ ws. rw f refl in
-      let t : is_suffix c ≡ true = passes (either (is_suffix c)) (e cs) in
+      let t : is_suffix c ≡ true = passes (cases_Bool (is_suffix c)) (e cs) in
       subst (λ n. IsWholeName (take n (c ∷ cs)) (drop n (c ∷ cs))) (sym (e cs)) (run_name is_suffix c cs t e (λ ws d. rw f refl))
 ]
   where

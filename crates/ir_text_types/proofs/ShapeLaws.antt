@@ -3,7 +3,7 @@ use Rattle.std.proofs.Common.{◌≡◌, ◌≤◌, ℕ, zero, suc, Bool, true, 
 use Rattle.std.specs.Prelude.{option_map, option_and_then, if◌then◌else◌, ◌==◌, ◌&&◌}
 use Rattle.std.specs.List.{prefix_len, list_all}
 use Rattle.std.specs.Char.{is_ascii_digit}
-use Rattle.std.proofs.lemmas.Bool.{eqb-true}
+use Rattle.std.proofs.lemmas.Bool.{eqb-true, and_parts}
 use Rattle.std.proofs.lemmas.Option.{cond_some, some_pair_parts, option_and_then_some}
 use Rattle.std.proofs.lemmas.Bool.Decides.{nat_tests}
 use Rattle.std.proofs.lemmas.List.{take-append-drop, append-nil}
@@ -13,18 +13,14 @@ use Rattle.ir_text_tokens.specs.Bytes.{is_blank}
 use Rattle.ir_text_tokens.specs.Tokens.{skip, digits_len}
 use Rattle.ir_text_tokens.specs.Numbers.{place_value, begins_hex, integer_of}
 use Rattle.ir_text_tokens.specs.Printing.{Stops}
-use Rattle.ir_text_tokens.proofs.Decimals.{run_ends}
+use Rattle.ir_text_tokens.proofs.Decimals.{run_ends, not_x}
 use Rattle.ir_text_types.specs.ShapeGrammar.{is_decimal, begins_dimension, IsCross, IsDimension, AreDimensions, IsShape}
 use Rattle.ir_text_types.specs.ShapeReading.{cross_from, cross_at, crossed, sized, dimension_from, dimension_at, dimensions_at}
 
 -- ---- bytes
 
-both : (a b : Bool) → (a && b) ≡ true → (a ≡ true) × (b ≡ true)
-both true b e = (refl, e)
-both false b e = absurd cc
-
 -- a digit is no blank
-digit_stays : (c : ℕ) (cs : List ℕ) → is_ascii_digit c ≡ true → skip (c ∷ cs) ≡ c ∷ cs
+pub digit_stays : (c : ℕ) (cs : List ℕ) → is_ascii_digit c ≡ true → skip (c ∷ cs) ≡ c ∷ cs
 unfolding skip
 digit_stays c [] e =
     let blank : is_blank c ≡ false = grind (arith, nat_tests) in
@@ -37,9 +33,6 @@ digit_stays c (d ∷ ds) e =
 -- and no `?` and no `x`
 digit_no_mark : (c : ℕ) → is_ascii_digit c ≡ true → (c == 63) ≡ false
 digit_no_mark c e = grind (arith, nat_tests)
-
-digit_no_x : (c : ℕ) → is_ascii_digit c ≡ true → (c == 120) ≡ false
-digit_no_x c e = grind (arith, nat_tests)
 
 -- in front of an `x` digits end
 stops : (mid new : List ℕ) → IsCross mid new → Stops is_ascii_digit mid
@@ -58,7 +51,7 @@ stops (c ∷ cs) new e = by_case (is_ascii_digit c) refl
 all_run : (ds : List ℕ) → list_all is_ascii_digit ds ≡ true → prefix_len is_ascii_digit ds ≡ length ds
 all_run [] e = refl
 all_run (d ∷ ds) e =
-    let b = both (is_ascii_digit d) (list_all is_ascii_digit ds) e in
+    let b = and_parts (is_ascii_digit d) (list_all is_ascii_digit ds) e in
     rw (b.0, all_run ds b.1) (omega arith)
 
 -- one digit more in front
@@ -84,9 +77,9 @@ no_hex : (ds : List ℕ) → is_decimal ds ≡ true → begins_hex ds ≡ false
 no_hex [] e = refl
 no_hex (a ∷ []) e = refl
 no_hex (a ∷ b ∷ ds) e =
-    let first = both (is_ascii_digit a) (list_all is_ascii_digit (b ∷ ds)) e in
-    let second = both (is_ascii_digit b) (list_all is_ascii_digit ds) first.1 in
-    let x = digit_no_x b second.0 in
+    let first = and_parts (is_ascii_digit a) (list_all is_ascii_digit (b ∷ ds)) e in
+    let second = and_parts (is_ascii_digit b) (list_all is_ascii_digit ds) first.1 in
+    let x = not_x b second.0 in
     by_case (a == 48) x
   where
     by_case : (t : Bool) → (b == 120) ≡ false → (t && b == 120) ≡ false
@@ -145,7 +138,7 @@ plain_only (Some size) old new k = from k.0 k.2 k.3 k.4
     from [] e h v = absurd cc
     from (c ∷ cs) e h v =
         let all = c ∷ (cs ++ k.1) in
-        let digit = (both (is_ascii_digit c) (list_all is_ascii_digit cs) h).0 in
+        let digit = (and_parts (is_ascii_digit c) (list_all is_ascii_digit cs) h).0 in
         let len : digits_len all ≡ length (c ∷ cs) = run_ends is_ascii_digit (c ∷ cs) k.1 (all_run (c ∷ cs) h) (stops k.1 new k.5) in
         let front : take (digits_len all) all ≡ c ∷ cs = ap (λ n. take n all) len ∙ take-append_seam (c ∷ cs) k.1 in
         let back : drop (digits_len all) all ≡ k.1 = ap (λ n. drop n all) len ∙ drop-append_seam (c ∷ cs) k.1 in
@@ -160,7 +153,7 @@ begins_only (Some size) old new k = from k.0 k.2 k.3
     from : (digits : List ℕ) → skip old ≡ digits ++ k.1 → is_decimal digits ≡ true → begins_dimension (skip old) ≡ true
     from [] e h = absurd cc
     from (c ∷ cs) e h =
-        let digit = (both (is_ascii_digit c) (list_all is_ascii_digit cs) h).0 in
+        let digit = (and_parts (is_ascii_digit c) (list_all is_ascii_digit cs) h).0 in
         ap begins_dimension e ∙ rw (digit_no_mark c digit, digit) refl
 
 plain_found : (d : Option ℕ) (old new : List ℕ) → plain (skip old) ≡ Some (d, new) → IsDimension d old new
@@ -249,7 +242,7 @@ dimensions_only zero front [] old new h le k = rw (k.0, k.1, append-nil front) r
 dimensions_only (suc room) front [] old new h le k = rw (k.0, k.1, append-nil front) refl
 dimensions_only zero front (d ∷ ds) old new h le k = absurd (omega (arith, le))
 dimensions_only (suc room) front (d ∷ ds) old new h le k =
-    let b = both (is_dimension d) (list_all is_dimension ds) h in
+    let b = and_parts (is_dimension d) (list_all is_dimension ds) h in
     let less : length ds ≤ room = omega (arith, le) in
     rw (begins_only d old k.0 k.1, dimension_only d old k.0 b.0 k.1) (dimensions_only room (front ++ d ∷ []) ds k.0 new b.1 less k.2 ∙ ap (λ l. Some (l, new)) (append_assoc front (d ∷ []) ds))
 

@@ -27,8 +27,7 @@ use Rattle.ir_types.specs.Sound.{IsSound}
 use Rattle.ir_types.proofs.Growth.{grows_refl, grows_trans, grows_type}
 use Rattle.ir_types.proofs.Terms.{type_term_is}
 use Rattle.ir_types.proofs.CallNumbers.{type_stands, place_in}
-use Rattle.ir_types.proofs.Calls.{no_first}
-use Rattle.ir_types.proofs.AcceptedCalls.{accepted_type, neither_back}
+use Rattle.ir_types.proofs.AcceptedCalls.{accepted_type, neither_back, neither}
 use Rattle.ir_text_types.specs.Outcomes.{Outcome, Read, Wrong, Full, ◌>>=◌, of_option, interned, Parse}
 use Rattle.ir_text_types.specs.Typed.{Typed, after_typed, type_step}
 use Rattle.ir_text_types.specs.Scalars.{within, width_of, begins_zero, signed_of_word, integer_type_of, scalar_of, index_word, memref_word}
@@ -88,7 +87,7 @@ type_done_exact c node y r = record {
       let b = bind_read (type_step node s.1) (λ n. Read (moved s n)) (x, s') e in
       let a = read_interned (type_reason node s.1) (with_type node s.1) b.0 b.1 in
       let same : moved s (with_type node s.1) ≡ (x, s') = ap (moved s) a.1 ∙ cc (b.2) in
-      let no_fault = (no_first (type_fault (type_node_term s.1 node)) (full_reason (same_type node) s.1.types) a.0).0 in
+      let no_fault = (neither (type_fault (type_node_term s.1 node)) (full_reason (same_type node) s.1.types) a.0).0 in
       let r' : From (IsNodeOf node y) s.1 = λ z k w. r z (grows_trans c s.1 z g k) w in
       subst (λ (q : ℕ × Typed). Comes things Same TypeStands (DoneIf (type_fault y ≡ None) y) s t q.0 q.1) same
       (y, t, (subst (λ y'. type_fault y' ≡ None) (r s.1 g sound).1 no_fault, refl, refl), done_step node y s t sound (text_now s t sound h) r' a.0);

@@ -7,6 +7,7 @@ use Rattle.std.proofs.lemmas.Bool.Decides.{nat_tests}
 use Rattle.ir_text_tokens.specs.Numbers.{below_limit, integer_of, place_value}
 use Rattle.ir_text_tokens.proofs.Places.{is_below}
 use Rattle.ir_text_types.specs.Scalars.{begins_zero, within}
+use Rattle.std.proofs.lemmas.Bool.{and_parts}
 
 -- a number within the limit is the number
 pub limit_is : (n w : ℕ) → below_limit n ≡ Some w → n ≡ w
@@ -17,10 +18,6 @@ pub limit_passed : (n : ℕ) → below_limit n ≡ None → within n ≡ None
 limit_passed n e = grind (arith, nat_tests)
 
 -- ---- two digits
-
-both_hold : (p q : Bool) → (p && q) ≡ true → (p ≡ true) × (q ≡ true)
-both_hold true q e = (refl, e)
-both_hold false q e = absurd (cc)
 
 digit_most : (c : ℕ) → is_ascii_digit c ≡ true → c ≤ 57
 digit_most c e = grind (arith, nat_tests)
@@ -36,6 +33,6 @@ pub two_value : (ds : List ℕ) → 2 ≤ length ds → length ds < 3 → list_a
 two_value [] l m all plain = absurd (omega (arith, l))
 two_value (a ∷ []) l m all plain = absurd (omega (arith, l))
 two_value (a ∷ b ∷ []) l m all plain =
-    let p = both_hold (is_ascii_digit a) (is_ascii_digit b && true) all in
-    two_digits a b p.0 (both_hold (is_ascii_digit b) true p.1).0 plain
+    let p = and_parts (is_ascii_digit a) (is_ascii_digit b && true) all in
+    two_digits a b p.0 (and_parts (is_ascii_digit b) true p.1).0 plain
 two_value (a ∷ b ∷ c ∷ ds) l m all plain = absurd (omega (arith, m))

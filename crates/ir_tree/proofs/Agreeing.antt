@@ -5,15 +5,12 @@ use Rattle.ir_tree.specs.Tree.{HeadOf, OpOf, op, RegionsOf, no_regions, region, 
 use Rattle.ir_tree.specs.Limits.{every, regions_every, ops_every, all_arguments_pass}
 use Rattle.ir_tree.specs.Maps.{map_entry, map_head, map_tree, map_regions, map_region, map_ops}
 use Rattle.ir_tree.specs.Passing.{entry_passes, head_passes, op_passes, all_pass}
-
-pub both : (a b : Bool) → (a && b) ≡ true → (a ≡ true) × (b ≡ true)
-both true b h = (refl, h)
-both false b h = absurd (true≢false (sym h))
+use Rattle.std.proofs.lemmas.Bool.{and_parts}
 
 -- a list under two functions that agree on what passes
 pub map_agree : {X Y : Type 0} (p : X → Bool) (f g : X → Y) → ((x : X) → p x ≡ true → f x ≡ g x) → (xs : List X) → list_all p xs ≡ true → map f xs ≡ map g xs
 map_agree p f g same [] h = refl
-map_agree p f g same (x ∷ xs) h = let b = both (p x) (list_all p xs) h in λ i. same x b.0 i ∷ map_agree p f g same xs b.1 i
+map_agree p f g same (x ∷ xs) h = let b = and_parts (p x) (list_all p xs) h in λ i. same x b.0 i ∷ map_agree p f g same xs b.1 i
 
 -- and under one that tells apart what passes
 pub map_apart : {X Y : Type 0} (p : X → Bool) (f : X → Y) → ((x y : X) → p x ≡ true → p y ≡ true → f x ≡ f y → x ≡ y) → (xs ys : List X) → list_all p xs ≡ true → list_all p ys ≡ true → map f xs ≡ map f ys → xs ≡ ys
@@ -21,8 +18,8 @@ map_apart p f apart [] [] h k e = refl
 map_apart p f apart [] (y ∷ ys) h k e = cc
 map_apart p f apart (x ∷ xs) [] h k e = cc
 map_apart p f apart (x ∷ xs) (y ∷ ys) h k e =
-    let b = both (p x) (list_all p xs) h in
-    let c = both (p y) (list_all p ys) k in
+    let b = and_parts (p x) (list_all p xs) h in
+    let c = and_parts (p y) (list_all p ys) k in
     let first : f x ≡ f y = cc in
     let rest : map f xs ≡ map f ys = cc in
     λ i. apart x y b.0 c.0 first i ∷ map_apart p f apart xs ys b.1 c.1 rest i
@@ -31,20 +28,20 @@ module _ {N T A : Type 0} (n : N → Bool) (q : T → Bool) (a : A → Bool) whe
   -- what an operation with these parts passes
   own : (x : HeadOf N T A) (rs : RegionsOf N T A) → every (op_passes n q a) (op x rs) ≡ true → (head_passes n q a x ≡ true) × (all_arguments_pass (list_all q) rs ≡ true) × (regions_every (op_passes n q a) rs ≡ true)
   own x rs h =
-      let b = both (op_passes n q a (op x rs)) (regions_every (op_passes n q a) rs) h in
-      let c = both (head_passes n q a x) (all_arguments_pass (list_all q) rs) b.0 in
+      let b = and_parts (op_passes n q a (op x rs)) (regions_every (op_passes n q a) rs) h in
+      let c = and_parts (head_passes n q a x) (all_arguments_pass (list_all q) rs) b.0 in
       (c.0, c.1, b.1)
 
 module _ {N T A M U B : Type 0} (n : N → Bool) (q : T → Bool) (a : A → Bool) where
   module _ (f f' : N → M) (g g' : T → U) (h h' : A → B) (names : (x : N) → n x ≡ true → f x ≡ f' x) (types : (x : T) → q x ≡ true → g x ≡ g' x) (attrs : (x : A) → a x ≡ true → h x ≡ h' x) where
     entry_agrees : (e : N × A) → entry_passes n a e ≡ true → map_entry f h e ≡ map_entry f' h' e
-    entry_agrees e k = let b = both (n e.0) (a e.1) k in λ i. (names e.0 b.0 i, attrs e.1 b.1 i)
+    entry_agrees e k = let b = and_parts (n e.0) (a e.1) k in λ i. (names e.0 b.0 i, attrs e.1 b.1 i)
 
     head_agrees : (x : HeadOf N T A) → head_passes n q a x ≡ true → map_head f g h x ≡ map_head f' g' h' x
     head_agrees x k =
-        let b = both (n x.name) _ k in
-        let c = both (list_all q x.results) _ b.1 in
-        let d = both (list_all (entry_passes n a) x.properties) _ c.1 in
+        let b = and_parts (n x.name) _ k in
+        let c = and_parts (list_all q x.results) _ b.1 in
+        let d = and_parts (list_all (entry_passes n a) x.properties) _ c.1 in
         λ i.
         record {
           id = x.id;
@@ -63,13 +60,13 @@ module _ {N T A M U B : Type 0} (n : N → Bool) (q : T → Bool) (a : A → Boo
       regions_agree no_regions k l = refl
       regions_agree (region empty rs) k l = ap (region empty) (regions_agree rs k l)
       regions_agree (region (block args os) rs) k l =
-          let b = both (list_all q args) (all_arguments_pass (list_all q) rs) k in
-          let c = both (ops_every (op_passes n q a) os) (regions_every (op_passes n q a) rs) l in
+          let b = and_parts (list_all q args) (all_arguments_pass (list_all q) rs) k in
+          let c = and_parts (ops_every (op_passes n q a) os) (regions_every (op_passes n q a) rs) l in
           λ i. region (block (map_agree q g g' types args b.0 i) (ops_agree os c.0 i)) (regions_agree rs b.1 c.1 i)
 
       ops_agree : (os : OpsOf N T A) → ops_every (op_passes n q a) os ≡ true → map_ops f g h os ≡ map_ops f' g' h' os
       ops_agree no_ops l = refl
-      ops_agree (next o os) l = let c = both (every (op_passes n q a) o) (ops_every (op_passes n q a) os) l in λ i. next (tree_agrees o c.0 i) (ops_agree os c.1 i)
+      ops_agree (next o os) l = let c = and_parts (every (op_passes n q a) o) (ops_every (op_passes n q a) os) l in λ i. next (tree_agrees o c.0 i) (ops_agree os c.1 i)
 
     -- functions that agree on what occurs in a tree give the same tree
     pub maps_agree : (t : OpOf N T A) → all_pass n q a t ≡ true → map_tree f g h t ≡ map_tree f' g' h' t
@@ -78,18 +75,18 @@ module _ {N T A M U B : Type 0} (n : N → Bool) (q : T → Bool) (a : A → Boo
   module _ (f : N → M) (g : T → U) (h : A → B) (names : (x y : N) → n x ≡ true → n y ≡ true → f x ≡ f y → x ≡ y) (types : (x y : T) → q x ≡ true → q y ≡ true → g x ≡ g y → x ≡ y) (attrs : (x y : A) → a x ≡ true → a y ≡ true → h x ≡ h y → x ≡ y) where
     entry_apart : (d e : N × A) → entry_passes n a d ≡ true → entry_passes n a e ≡ true → map_entry f h d ≡ map_entry f h e → d ≡ e
     entry_apart d e k l p =
-        let b = both (n d.0) (a d.1) k in
-        let c = both (n e.0) (a e.1) l in
+        let b = and_parts (n d.0) (a d.1) k in
+        let c = and_parts (n e.0) (a e.1) l in
         λ i. (names d.0 e.0 b.0 c.0 (ap (λ w. w.0) p) i, attrs d.1 e.1 b.1 c.1 (ap (λ w. w.1) p) i)
 
     head_apart : (x y : HeadOf N T A) → head_passes n q a x ≡ true → head_passes n q a y ≡ true → map_head f g h x ≡ map_head f g h y → x ≡ y
     head_apart x y k l p =
-        let b = both (n x.name) _ k in
-        let c = both (list_all q x.results) _ b.1 in
-        let d = both (list_all (entry_passes n a) x.properties) _ c.1 in
-        let b' = both (n y.name) _ l in
-        let c' = both (list_all q y.results) _ b'.1 in
-        let d' = both (list_all (entry_passes n a) y.properties) _ c'.1 in
+        let b = and_parts (n x.name) _ k in
+        let c = and_parts (list_all q x.results) _ b.1 in
+        let d = and_parts (list_all (entry_passes n a) x.properties) _ c.1 in
+        let b' = and_parts (n y.name) _ l in
+        let c' = and_parts (list_all q y.results) _ b'.1 in
+        let d' = and_parts (list_all (entry_passes n a) y.properties) _ c'.1 in
         λ i.
         record {
           id = (p i).id;
@@ -116,10 +113,10 @@ module _ {N T A M U B : Type 0} (n : N → Bool) (q : T → Bool) (a : A → Boo
       regions_apart (region empty rs) (region (block args os) ss) j k l m p = cc
       regions_apart (region (block args os) rs) (region empty ss) j k l m p = cc
       regions_apart (region (block args os) rs) (region (block brgs ps) ss) j k l m p =
-          let b = both (list_all q args) (all_arguments_pass (list_all q) rs) j in
-          let b' = both (list_all q brgs) (all_arguments_pass (list_all q) ss) k in
-          let c = both (ops_every (op_passes n q a) os) (regions_every (op_passes n q a) rs) l in
-          let c' = both (ops_every (op_passes n q a) ps) (regions_every (op_passes n q a) ss) m in
+          let b = and_parts (list_all q args) (all_arguments_pass (list_all q) rs) j in
+          let b' = and_parts (list_all q brgs) (all_arguments_pass (list_all q) ss) k in
+          let c = and_parts (ops_every (op_passes n q a) os) (regions_every (op_passes n q a) rs) l in
+          let c' = and_parts (ops_every (op_passes n q a) ps) (regions_every (op_passes n q a) ss) m in
           let first : map g args ≡ map g brgs = cc in
           let inner : map_ops f g h os ≡ map_ops f g h ps = cc in
           let rest : map_regions f g h rs ≡ map_regions f g h ss = cc in
@@ -130,8 +127,8 @@ module _ {N T A M U B : Type 0} (n : N → Bool) (q : T → Bool) (a : A → Boo
       ops_apart no_ops (next o os) l m p = cc
       ops_apart (next o os) no_ops l m p = cc
       ops_apart (next o os) (next r ps) l m p =
-          let c = both (every (op_passes n q a) o) (ops_every (op_passes n q a) os) l in
-          let c' = both (every (op_passes n q a) r) (ops_every (op_passes n q a) ps) m in
+          let c = and_parts (every (op_passes n q a) o) (ops_every (op_passes n q a) os) l in
+          let c' = and_parts (every (op_passes n q a) r) (ops_every (op_passes n q a) ps) m in
           let first : map_tree f g h o ≡ map_tree f g h r = cc in
           let rest : map_ops f g h os ≡ map_ops f g h ps = cc in
           λ i. next (tree_apart o r c.0 c'.0 first i) (ops_apart os ps c.1 c'.1 rest i)

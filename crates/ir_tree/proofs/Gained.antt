@@ -1,15 +1,14 @@
 -- The ids where an operation is put in.
 use Rattle.std.proofs.Common.{◌≡◌, refl, ap, sym, ◌∙◌, subst, ℕ, ◌+◌, ◌⊎◌, inl, inr, Bool, true, false, cond, ◌||◌, eqb, eq-eqb, List, [], ◌++◌, Option, Some, None, true≢false, arith}
 use Rattle.std.specs.List.{list_any, IsDistinct}
-use Rattle.std.proofs.lemmas.Bool.{eqb-true}
+use Rattle.std.proofs.lemmas.Bool.{eqb-true, cases_Bool, and_parts, or_parts, ne_eqb}
 use Rattle.std.proofs.lemmas.Map.Keys.{IsDistinct-tail}
 use Rattle.ir_tree.specs.declared.place.Place.{Place}
 use Rattle.ir_tree.specs.Tree.{OpOf, op, RegionsOf, no_regions, region, RegionOf, empty, block, OpsOf, no_ops, next, head}
 use Rattle.ir_tree.specs.Ids.{ids, regions_ids, region_ids, ops_ids, has_id, HasDistinctIds}
 use Rattle.ir_tree.specs.Places.{each_list, regions_each_list, region_each_list, ops_each_list, put_last, put_before, put_in, is_in_block, put_here, put}
-use Rattle.ir_tree.proofs.Agreeing.{both}
-use Rattle.ir_tree.proofs.Moves.{Absent, absent_parts, neither, unput, ops_unput}
-use Rattle.ir_tree.proofs.Returns.{Present, bool_cases, absent_first, absent_join, cons_distinct, nil_distinct, Halves, halves, differ, not_equal, other_parent, other_region, unput_region, unput_later}
+use Rattle.ir_tree.proofs.Moves.{Absent, absent_parts, unput, ops_unput}
+use Rattle.ir_tree.proofs.Returns.{Present, absent_first, absent_join, cons_distinct, nil_distinct, Halves, halves, differ, other_parent, other_region, unput_region, unput_later}
 use Rattle.ir_tree.proofs.Left.{joined}
 
 -- what is in one list is not in another
@@ -17,7 +16,7 @@ abbrev pub Apart : List ℕ → List ℕ → Type 0
 Apart xs ys = (y : ℕ) → Present y xs → Absent y ys
 
 turned : (xs ys : List ℕ) → Apart xs ys → Apart ys xs
-turned xs ys f y p = elim (bool_cases (list_any (λ z. eqb z y) xs)) [ inl q ↦ absurd (true≢false (sym p ∙ f y q)) | inr q ↦ q ]
+turned xs ys f y p = elim (cases_Bool (list_any (λ z. eqb z y) xs)) [ inl q ↦ absurd (true≢false (sym p ∙ f y q)) | inr q ↦ q ]
 
 apart_left : (os xs ys : List ℕ) → Apart os (xs ++ ys) → Apart os xs
 apart_left os xs ys f y p = (absent_parts y xs ys (f y p)).0
@@ -25,12 +24,12 @@ apart_left os xs ys f y p = (absent_parts y xs ys (f y p)).0
 apart_right : (os xs ys : List ℕ) → Apart os (xs ++ ys) → Apart os ys
 apart_right os xs ys f y p = (absent_parts y xs ys (f y p)).1
 
--- a list that gained what is in os at most is apart from what both are
+-- a list that gained what is in os at most is apart from what and_parts are
 gains : (os xs xs' ys : List ℕ) → Apart xs ys → Apart os ys → ((y : ℕ) → Absent y os → Absent y xs → Absent y xs') → Apart xs' ys
 gains os xs xs' ys f g h y p =
-    elim (bool_cases (list_any (λ z. eqb z y) xs)) [
+    elim (cases_Bool (list_any (λ z. eqb z y) xs)) [
       | inl q ↦ f y q
-      | inr q ↦ elim (bool_cases (list_any (λ z. eqb z y) os)) [ inl r ↦ g y r | inr r ↦ absurd (true≢false (sym p ∙ h y r q)) ]
+      | inr q ↦ elim (cases_Bool (list_any (λ z. eqb z y) os)) [ inl r ↦ g y r | inr r ↦ absurd (true≢false (sym p ∙ h y r q)) ]
     ]
 
 module _ {N T A : Type 0} (place : Place) (o : OpOf N T A) where
@@ -55,7 +54,7 @@ module _ {N T A : Type 0} (place : Place) (o : OpOf N T A) where
 
   mutual
     gained_op : (y : ℕ) (t : OpOf N T A) → Absent y (ids o) → Absent y (ids t) → Absent y (ids (each_list (put_here place o) t))
-    gained_op y (op h rs) a b = let c = neither _ _ b in λ i. c.0 i || gained_regions y h.id 0 rs a c.1 i
+    gained_op y (op h rs) a b = let c = or_parts _ _ b in λ i. c.0 i || gained_regions y h.id 0 rs a c.1 i
 
     gained_regions : (y p r : ℕ) (rs : RegionsOf N T A) → Absent y (ids o) → Absent y (regions_ids rs) → Absent y (regions_ids (regions_each_list (put_here place o) p r rs))
     gained_regions y p r no_regions a b = refl
@@ -100,18 +99,18 @@ module _ {N T A : Type 0} (place : Place) (o : OpOf N T A) where
         → (is_in_block place p r ≡ true) ⊎ Present place.parent (region_ids g) → regions_each_list (put_here place o) p (r + 1) rs ≡ rs
     later_stay p r g rs a b hv loc =
         elim loc [
-          | inl k ↦ (let c = both (eqb p place.parent) (eqb r place.region) k in
+          | inl k ↦ (let c = and_parts (eqb p place.parent) (eqb r place.region) k in
               let same : r ≡ place.region = eqb-true r place.region c.1 in
-              unput_later place o p (r + 1) rs (λ k m. other_region place o p k (not_equal k place.region (λ e. omega arith))) (subst (λ (z : ℕ). Absent z (regions_ids rs)) (eqb-true p place.parent c.0) b))
+              unput_later place o p (r + 1) rs (λ k m. other_region place o p k (ne_eqb k place.region (λ e. omega arith))) (subst (λ (z : ℕ). Absent z (regions_ids rs)) (eqb-true p place.parent c.0) b))
           | inr k ↦ unput_later place o p (r + 1) rs (λ j m. other_parent place o p j (differ p place.parent (region_ids g) a k)) (hv.disjoint place.parent k)
         ]
 
-    -- a region that is or holds the place, or does neither
+    -- a region that is or holds the place, or does or_parts
     where_is : (p r : ℕ) (g : RegionOf N T A) → ((is_in_block place p r ≡ true) ⊎ Present place.parent (region_ids g)) ⊎ ((is_in_block place p r ≡ false) × Absent place.parent (region_ids g))
     where_is p r g =
-        elim (bool_cases (is_in_block place p r)) [
+        elim (cases_Bool (is_in_block place p r)) [
           | inl k ↦ inl (inl k)
-          | inr k ↦ elim (bool_cases (list_any (λ z. eqb z place.parent) (region_ids g))) [ inl q ↦ inl (inr q) | inr q ↦ inr (k, q) ]
+          | inr k ↦ elim (cases_Bool (list_any (λ z. eqb z place.parent) (region_ids g))) [ inl q ↦ inl (inr q) | inr q ↦ inr (k, q) ]
         ]
 
     mutual
@@ -120,7 +119,7 @@ module _ {N T A : Type 0} (place : Place) (o : OpOf N T A) where
           let a = absent_first h.id (regions_ids rs) d in
           let here : Present h.id (ids (op h rs)) = ap (λ b. b || list_any (λ y. eqb y h.id) (regions_ids rs)) (eq-eqb h.id h.id refl) in
           cons_distinct h.id (regions_ids (regions_each_list (put_here place o) h.id 0 rs)) (gained_regions h.id h.id 0 rs (turned (ids o) (ids (op h rs)) f h.id here) a)
-          (distinct_regions h.id 0 rs a (IsDistinct-tail eqb h.id (regions_ids rs) d) (λ y p. (neither _ _ (f y p)).1))
+          (distinct_regions h.id 0 rs a (IsDistinct-tail eqb h.id (regions_ids rs) d) (λ y p. (or_parts _ _ (f y p)).1))
 
       distinct_regions : (p r : ℕ) (rs : RegionsOf N T A) → Absent p (regions_ids rs) → IsDistinct eqb (regions_ids rs) → Apart (ids o) (regions_ids rs) → IsDistinct eqb (regions_ids (regions_each_list (put_here place o) p r rs))
       distinct_regions p r no_regions a d f = nil_distinct
@@ -141,8 +140,8 @@ module _ {N T A : Type 0} (place : Place) (o : OpOf N T A) where
       distinct_region : (p r : ℕ) (g : RegionOf N T A) → Absent p (region_ids g) → IsDistinct eqb (region_ids g) → Apart (ids o) (region_ids g) → IsDistinct eqb (region_ids (region_each_list (put_here place o) p r g))
       distinct_region p r empty a d f = nil_distinct
       distinct_region p r (block args os) a d f =
-          elim (bool_cases (is_in_block place p r)) [
-            | inl k ↦ (let c = both (eqb p place.parent) (eqb r place.region) k in
+          elim (cases_Bool (is_in_block place p r)) [
+            | inl k ↦ (let c = and_parts (eqb p place.parent) (eqb r place.region) k in
                 let same : ops_each_list (put_here place o) os ≡ os = ops_unput place o os (subst (λ (z : ℕ). Absent z (ops_ids os)) (eqb-true p place.parent c.0) a) in
                 subst (λ (l : OpsOf N T A). IsDistinct eqb (ops_ids (put_here place o p r l))) (sym same)
                 (subst (λ (b : Bool). IsDistinct eqb (ops_ids (cond b (put_in place.before o os) os))) (sym k) (distinct_in place.before os d f)))
@@ -155,7 +154,7 @@ module _ {N T A : Type 0} (place : Place) (o : OpOf N T A) where
           let hv = halves (ids q) (ops_ids os) d in
           let fq = apart_left (ids o) (ids q) (ops_ids os) f in
           let fr = apart_right (ids o) (ids q) (ops_ids os) f in
-          elim (bool_cases (list_any (λ z. eqb z place.parent) (ids q))) [
+          elim (cases_Bool (list_any (λ z. eqb z place.parent) (ids q))) [
             | inl k ↦ subst (λ (l : OpsOf N T A). IsDistinct eqb (ids (each_list (put_here place o) q) ++ ops_ids l)) (sym (ops_unput place o os (hv.disjoint place.parent k)))
                 (joined (ids (each_list (put_here place o) q)) (ops_ids os) (distinct_op q hv.left fq) hv.right
                 (gains (ids o) (ids q) (ids (each_list (put_here place o) q)) (ops_ids os) hv.disjoint fr (λ y. gained_op y q)))

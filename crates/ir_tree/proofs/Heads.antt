@@ -191,7 +191,7 @@ module _ {N T A : Type 0} where
   pub alike_entry : (before : N → N → Bool) (x : ℕ) (part : Part) (k : N) (a : Option A) (h : HeadOf N T A) → Alike (at x (change_part part (change_entry before k a)) h) h
   alike_entry before x part k a = alike_at x (change_part part (change_entry before k a)) (alike_part part (change_entry before k a))
 
-  part_operands : (part : Part) (f : List (N × A) → List (N × A)) (h : HeadOf N T A) → (change_part part f h).operands ≡ h.operands
+  pub part_operands : (part : Part) (f : List (N × A) → List (N × A)) (h : HeadOf N T A) → (change_part part f h).operands ≡ h.operands
   part_operands Props f h = refl
   part_operands Attrs f h = refl
 

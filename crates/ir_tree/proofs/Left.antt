@@ -5,8 +5,9 @@ use Rattle.std.proofs.lemmas.Map.Keys.{IsDistinct-tail}
 use Rattle.ir_tree.specs.Tree.{OpOf, op, RegionsOf, no_regions, region, RegionOf, empty, block, OpsOf, no_ops, next, head}
 use Rattle.ir_tree.specs.Ids.{ids, regions_ids, region_ids, ops_ids, has_id, HasDistinctIds}
 use Rattle.ir_tree.specs.Places.{each_list, regions_each_list, region_each_list, ops_each_list, drop_op, without}
-use Rattle.ir_tree.proofs.Moves.{Absent, absent_parts, neither}
-use Rattle.ir_tree.proofs.Returns.{Present, bool_cases, absent_first, absent_join, cons_distinct, nil_distinct, halves}
+use Rattle.ir_tree.proofs.Moves.{Absent, absent_parts}
+use Rattle.ir_tree.proofs.Returns.{Present, absent_first, absent_join, cons_distinct, nil_distinct, halves}
+use Rattle.std.proofs.lemmas.Bool.{cases_Bool, or_parts}
 
 pub joined : (xs ys : List ℕ) → IsDistinct eqb xs → IsDistinct eqb ys → ((y : ℕ) → Present y xs → Absent y ys) → IsDistinct eqb (xs ++ ys)
 joined [] ys d e f = e
@@ -18,17 +19,17 @@ joined (x ∷ xs) ys d e f =
     same x = eq-eqb x x refl
 
     later : (y : ℕ) → Present y xs → Present y (x ∷ xs)
-    later y p = elim (bool_cases (eqb x y)) [ inl e ↦ ap (λ b. b || list_any (λ z. eqb z y) xs) e | inr e ↦ ap (λ b. b || list_any (λ z. eqb z y) xs) e ∙ p ]
+    later y p = elim (cases_Bool (eqb x y)) [ inl e ↦ ap (λ b. b || list_any (λ z. eqb z y) xs) e | inr e ↦ ap (λ b. b || list_any (λ z. eqb z y) xs) e ∙ p ]
 
 -- where less is there, what is apart stays apart
 fewer : (xs ys xs' ys' : List ℕ) → ((y : ℕ) → Present y xs → Absent y ys) → ((y : ℕ) → Absent y xs → Absent y xs') → ((y : ℕ) → Absent y ys → Absent y ys') → (y : ℕ) → Present y xs' → Absent y ys'
-fewer xs ys xs' ys' f g h y p = elim (bool_cases (list_any (λ z. eqb z y) xs)) [ inl q ↦ h y (f y q) | inr q ↦ absurd (true≢false (sym p ∙ g y q)) ]
+fewer xs ys xs' ys' f g h y p = elim (cases_Bool (list_any (λ z. eqb z y) xs)) [ inl q ↦ h y (f y q) | inr q ↦ absurd (true≢false (sym p ∙ g y q)) ]
 
 module _ {N T A : Type 0} (x : ℕ) where
   -- no id comes in
   mutual
     left_op : (y : ℕ) (t : OpOf N T A) → Absent y (ids t) → Absent y (ids (each_list (λ p r os. drop_op x os) t))
-    left_op y (op h rs) a = let b = neither _ _ a in λ i. b.0 i || left_regions y h.id 0 rs b.1 i
+    left_op y (op h rs) a = let b = or_parts _ _ a in λ i. b.0 i || left_regions y h.id 0 rs b.1 i
 
     left_regions : (y p r : ℕ) (rs : RegionsOf N T A) → Absent y (regions_ids rs) → Absent y (regions_ids (regions_each_list (λ p r os. drop_op x os) p r rs))
     left_regions y p r no_regions a = refl
@@ -88,7 +89,7 @@ module _ {N T A : Type 0} (x : ℕ) where
     gone_ops no_ops = refl
     gone_ops (next (op h rs) os) =
         let d = λ (p r : ℕ) (os : OpsOf N T A). drop_op x os in
-        elim (bool_cases (eqb h.id x)) [
+        elim (cases_Bool (eqb h.id x)) [
           | inl k ↦ ap (λ c. list_any (λ y. eqb y x) (ops_ids (cond c (drop_op x (ops_each_list d os)) (next (each_list d (op h rs)) (drop_op x (ops_each_list d os)))))) k ∙ gone_ops os
           | inr k ↦ ap (λ c. list_any (λ y. eqb y x) (ops_ids (cond c (drop_op x (ops_each_list d os)) (next (each_list d (op h rs)) (drop_op x (ops_each_list d os)))))) k
               ∙ absent_join x (ids (each_list d (op h rs))) (ops_ids (drop_op x (ops_each_list d os))) (λ i. k i || gone_regions h.id 0 rs i) (gone_ops os)

@@ -1,3 +1,4 @@
+pub mod Facts
 pub mod Agreeing
 pub mod Checked
 pub mod Counted

@@ -87,7 +87,7 @@ module _ {N T A M U B : Type 0} (f : N → M) (g : T → U) (h : A → B) where
       map_ops_every (next o os) = λ i. map_every o i && map_ops_every os i
 
   -- counts
-  map_region_count : (rs : RegionsOf N T A) → region_count (map_regions f g h rs) ≡ region_count rs
+  pub map_region_count : (rs : RegionsOf N T A) → region_count (map_regions f g h rs) ≡ region_count rs
   map_region_count no_regions = refl
   map_region_count (region r rs) = ap (λ n. n + 1) (map_region_count rs)
 
@@ -98,7 +98,7 @@ module _ {N T A M U B : Type 0} (f : N → M) (g : T → U) (h : A → B) where
   map_arguments empty = refl
   map_arguments (block args os) = map_items g args
 
-  map_all_arguments : (rs : RegionsOf N T A) → all_arguments_pass items_fit (map_regions f g h rs) ≡ all_arguments_pass items_fit rs
+  pub map_all_arguments : (rs : RegionsOf N T A) → all_arguments_pass items_fit (map_regions f g h rs) ≡ all_arguments_pass items_fit rs
   map_all_arguments no_regions = refl
   map_all_arguments (region r rs) = λ i. map_arguments r i && map_all_arguments rs i
 
@@ -135,7 +135,7 @@ module _ {N T A M U B : Type 0} (f : N → M) (g : T → U) (h : A → B) where
     map_ops_find y (next o os) = (λ i. first_of (map_find y o i) (map_ops_find y os i)) ∙ map_first (map_tree f g h) (find y o) (ops_find y os)
 
   -- places
-  map_head_id : (o : OpOf N T A) → (head (map_tree f g h o)).id ≡ (head o).id
+  pub map_head_id : (o : OpOf N T A) → (head (map_tree f g h o)).id ≡ (head o).id
   map_head_id (op x rs) = refl
 
   map_first_id : (os : OpsOf N T A) → first_id (map_ops f g h os) ≡ first_id os

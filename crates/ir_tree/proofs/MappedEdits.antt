@@ -9,7 +9,7 @@ use Rattle.ir_tree.specs.Ids.{find}
 use Rattle.ir_tree.specs.Maps.{map_entry, map_head, map_tree, map_regions, map_region, map_ops}
 use Rattle.ir_tree.specs.Edits.{each_head, regions_each_head, region_each_head, ops_each_head, at, put_operand, with_operand, put_values, with_value_replaced, same_key, put_entry, drop_entry, change_entry, change_part, with_entry}
 use Rattle.ir_tree.specs.Places.{each_list, regions_each_list, region_each_list, ops_each_list, put_last, put_before, put_in, is_in_block, put_here, put, drop_op, without, put_found, shifted}
-use Rattle.ir_tree.proofs.Mapped.{map_find}
+use Rattle.ir_tree.proofs.Mapped.{map_find, map_head_id}
 
 module _ {N T A M U B : Type 0} (f : N → M) (g : T → U) (h : A → B) where
   -- edits of heads
@@ -95,9 +95,6 @@ module _ {N T A M U B : Type 0} (f : N → M) (g : T → U) (h : A → B) where
       map_ops_each_list no_ops = refl
       map_ops_each_list (next o os) = λ i. next (map_each_list o i) (map_ops_each_list os i)
 
-  map_id : (o : OpOf N T A) → (head (map_tree f g h o)).id ≡ (head o).id
-  map_id (op x rs) = refl
-
   map_put_last : (o : OpOf N T A) (os : OpsOf N T A) → put_last (map_tree f g h o) (map_ops f g h os) ≡ map_ops f g h (put_last o os)
   map_put_last o no_ops = refl
   map_put_last o (next p os) = ap (next (map_tree f g h p)) (map_put_last o os)
@@ -107,7 +104,7 @@ module _ {N T A M U B : Type 0} (f : N → M) (g : T → U) (h : A → B) where
   map_put_before b o (next p os) =
       let m = map_tree f g h in
       let ms = map_ops f g h in
-      (λ i. cond (eqb (map_id p i) b) (next (m o) (next (m p) (ms os))) (next (m p) (map_put_before b o os i)))
+      (λ i. cond (eqb ((map_head_id f g h) p i) b) (next (m o) (next (m p) (ms os))) (next (m p) (map_put_before b o os i)))
       ∙ elim (eqb (head p).id b) as (λ c. cond c (next (m o) (next (m p) (ms os))) (next (m p) (ms (put_before b o os))) ≡ ms (cond c (next o (next p os)) (next p (put_before b o os)))) [ true ↦ refl | false ↦ refl ]
 
   map_put_in : (b : Option ℕ) (o : OpOf N T A) (os : OpsOf N T A) → put_in b (map_tree f g h o) (map_ops f g h os) ≡ map_ops f g h (put_in b o os)
@@ -126,7 +123,7 @@ module _ {N T A M U B : Type 0} (f : N → M) (g : T → U) (h : A → B) where
   map_drop_op y no_ops = refl
   map_drop_op y (next o os) =
       let ms = map_ops f g h in
-      (λ i. cond (eqb (map_id o i) y) (map_drop_op y os i) (next (map_tree f g h o) (map_drop_op y os i)))
+      (λ i. cond (eqb ((map_head_id f g h) o i) y) (map_drop_op y os i) (next (map_tree f g h o) (map_drop_op y os i)))
       ∙ elim (eqb (head o).id y) as (λ c. cond c (ms (drop_op y os)) (next (map_tree f g h o) (ms (drop_op y os))) ≡ ms (cond c (drop_op y os) (next o (drop_op y os)))) [ true ↦ refl | false ↦ refl ]
 
   pub map_without : (y : ℕ) (t : OpOf N T A) → without y (map_tree f g h t) ≡ map_tree f g h (without y t)

@@ -6,17 +6,14 @@ use Rattle.ir_tree.specs.declared.place.Place.{Place}
 use Rattle.ir_tree.specs.Tree.{OpOf, op, RegionsOf, no_regions, region, RegionOf, empty, block, OpsOf, no_ops, next, head}
 use Rattle.ir_tree.specs.Ids.{ids, regions_ids, region_ids, ops_ids, has_id}
 use Rattle.ir_tree.specs.Places.{each_list, regions_each_list, region_each_list, ops_each_list, put_last, put_before, put_in, is_in_block, put_here, put, drop_op, without}
+use Rattle.std.proofs.lemmas.Bool.{or_parts}
 
 -- no id of the list is x
 abbrev pub Absent : ℕ → List ℕ → Type 0
 Absent x xs = list_any (λ y. eqb y x) xs ≡ false
 
-pub neither : (a b : Bool) → (a || b) ≡ false → (a ≡ false) × (b ≡ false)
-neither true b h = absurd (true≢false h)
-neither false b h = (refl, h)
-
 pub absent_parts : (x : ℕ) (xs ys : List ℕ) → Absent x (xs ++ ys) → Absent x xs × Absent x ys
-absent_parts x xs ys h = neither _ _ (sym (list_any-append (λ y. eqb y x) xs ys) ∙ h)
+absent_parts x xs ys h = or_parts _ _ (sym (list_any-append (λ y. eqb y x) xs ys) ∙ h)
 
 module _ {N T A : Type 0} where
   -- an edit of lists leaves an operation its id
@@ -90,7 +87,7 @@ module _ {N T A : Type 0} where
   module _ (x : ℕ) where
     mutual
       pub untouched : (t : OpOf N T A) → Absent x (ids t) → each_list (λ p r os. drop_op x os) t ≡ t
-      untouched (op h rs) a = ap (op h) (regions_untouched h.id 0 rs ((neither _ _ a).1))
+      untouched (op h rs) a = ap (op h) (regions_untouched h.id 0 rs ((or_parts _ _ a).1))
 
       pub regions_untouched : (p r : ℕ) (rs : RegionsOf N T A) → Absent x (regions_ids rs) → regions_each_list (λ p r os. drop_op x os) p r rs ≡ rs
       regions_untouched p r no_regions a = refl
@@ -104,7 +101,7 @@ module _ {N T A : Type 0} where
       ops_untouched no_ops a = refl
       ops_untouched (next (op h rs) os) a =
           let b = absent_parts x (ids (op h rs)) (ops_ids os) a in
-          let c = neither _ _ b.0 in
+          let c = or_parts _ _ b.0 in
           (λ i. cond (c.0 i) (ops_untouched os b.1 i) (next (untouched (op h rs) b.0 i) (ops_untouched os b.1 i)))
 
     pub without_absent : (t : OpOf N T A) → has_id x t ≡ false → without x t ≡ t
@@ -118,7 +115,7 @@ module _ {N T A : Type 0} where
   module _ (place : Place) (o : OpOf N T A) where
     mutual
       pub unput : (t : OpOf N T A) → Absent place.parent (ids t) → each_list (put_here place o) t ≡ t
-      unput (op h rs) a = let b = neither _ _ a in ap (op h) (regions_unput h.id 0 rs b.0 b.1)
+      unput (op h rs) a = let b = or_parts _ _ a in ap (op h) (regions_unput h.id 0 rs b.0 b.1)
 
       pub regions_unput : (p r : ℕ) (rs : RegionsOf N T A) → eqb p place.parent ≡ false → Absent place.parent (regions_ids rs) → regions_each_list (put_here place o) p r rs ≡ rs
       regions_unput p r no_regions e a = refl

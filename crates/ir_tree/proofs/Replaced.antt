@@ -1,12 +1,11 @@
 -- The uses of values after one took another's place.
 use Rattle.std.proofs.Common.{◌≡◌, refl, ap, sym, ◌∙◌, ℕ, ◌+◌, Bool, true, false, cond, ◌&&◌, eqb, List, [], ◌∷◌, ◌++◌, length, map, true≢false, arith, length-append, eq-eqb}
-use Rattle.std.proofs.lemmas.Bool.{eqb-true}
+use Rattle.std.proofs.lemmas.Bool.{eqb-true, and_parts}
 use Rattle.ir_tree.specs.declared.value.Value.{Value}
 use Rattle.ir_tree.specs.declared.value.Value.TheVariants.{Result, Arg}
 use Rattle.ir_tree.specs.Tree.{OpOf, op, RegionsOf, no_regions, region, RegionOf, empty, block, OpsOf, no_ops, next}
 use Rattle.ir_tree.specs.Uses.{same_value, operand_uses, uses_of, regions_uses, region_uses, ops_uses}
 use Rattle.ir_tree.specs.Edits.{regions_each_head, region_each_head, ops_each_head, put_value, put_values, with_value_replaced}
-use Rattle.ir_tree.proofs.Agreeing.{both}
 
 -- equal values are one
 pub same_value_refl : (v : Value) → same_value v v ≡ true
@@ -14,12 +13,12 @@ same_value_refl (Result x k) = λ i. eq-eqb x x refl i && eq-eqb k k refl i
 same_value_refl (Arg x r k) = λ i. eq-eqb x x refl i && (eq-eqb r r refl i && eq-eqb k k refl i)
 
 pub same_value_true : (v w : Value) → same_value v w ≡ true → v ≡ w
-same_value_true (Result x k) (Result y l) h = let b = both (eqb x y) (eqb k l) h in λ i. Result (eqb-true x y b.0 i) (eqb-true k l b.1 i)
+same_value_true (Result x k) (Result y l) h = let b = and_parts (eqb x y) (eqb k l) h in λ i. Result (eqb-true x y b.0 i) (eqb-true k l b.1 i)
 same_value_true (Result x k) (Arg y s l) h = absurd (true≢false (sym h))
 same_value_true (Arg x r k) (Result y l) h = absurd (true≢false (sym h))
 same_value_true (Arg x r k) (Arg y s l) h =
-    let b = both (eqb x y) (eqb r s && eqb k l) h in
-    let c = both (eqb r s) (eqb k l) b.1 in
+    let b = and_parts (eqb x y) (eqb r s && eqb k l) h in
+    let c = and_parts (eqb r s) (eqb k l) b.1 in
     λ i. Arg (eqb-true x y b.0 i) (eqb-true r s c.0 i) (eqb-true k l c.1 i)
 
 module _ (old new : Value) where

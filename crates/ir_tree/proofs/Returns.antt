@@ -1,7 +1,7 @@
 -- An operation that is taken out, and put back where it stood.
 use Rattle.std.proofs.Common.{◌≡◌, refl, ap, sym, ◌∙◌, subst, ℕ, ◌+◌, ◌≤◌, ◌⊎◌, inl, inr, Bool, true, false, cond, ◌&&◌, ◌||◌, eqb, List, [], ◌∷◌, ◌++◌, Option, Some, None, true≢false, eq-eqb, arith}
 use Rattle.std.specs.List.{list_any, IsDistinct, AllByRecursion}
-use Rattle.std.proofs.lemmas.Bool.{eqb-true}
+use Rattle.std.proofs.lemmas.Bool.{eqb-true, cases_Bool, or_cases, or_parts, ne_eqb, or_right}
 use Rattle.std.proofs.lemmas.Bool.Decides.{nat_tests}
 use Rattle.std.proofs.lemmas.List.Folds.{list_any-append}
 use Rattle.std.proofs.lemmas.Map.Keys.{IsDistinct-head, IsDistinct-tail, IsDistinct-cons}
@@ -9,33 +9,20 @@ use Rattle.ir_tree.specs.declared.place.Place.{Place}
 use Rattle.ir_tree.specs.Tree.{HeadOf, OpOf, op, RegionsOf, no_regions, region, RegionOf, empty, block, OpsOf, no_ops, next, head}
 use Rattle.ir_tree.specs.Ids.{ids, regions_ids, region_ids, ops_ids, HasDistinctIds, first_of, find, regions_find, region_find, ops_find}
 use Rattle.ir_tree.specs.Places.{first_id, place_of, regions_place, region_place, ops_place, each_list, regions_each_list, region_each_list, ops_each_list, put_before, put_in, is_in_block, put_here, put, drop_op, without}
-use Rattle.ir_tree.proofs.Moves.{Absent, absent_parts, neither, untouched, regions_untouched, region_untouched, ops_untouched, unput, ops_unput}
+use Rattle.ir_tree.proofs.Moves.{Absent, absent_parts, untouched, regions_untouched, region_untouched, ops_untouched, unput, ops_unput}
+use Rattle.ir_types.proofs.Sorting.{flips_eq}
+use Rattle.std.proofs.lemmas.Option.{same_Some}
 
 -- an id of the list is x
 abbrev pub Present : ℕ → List ℕ → Type 0
 Present x xs = list_any (λ y. eqb y x) xs ≡ true
 
-eqb_flip : (a b : ℕ) → eqb a b ≡ eqb b a
-eqb_flip a b = grind (arith, nat_tests)
-
 absent_from_all : (x : ℕ) (xs : List ℕ) → AllByRecursion (λ y. eqb x y ≡ false) xs → Absent x xs
 absent_from_all x [] h = refl
-absent_from_all x (y ∷ ys) h = λ i. (eqb_flip y x ∙ h.0) i || absent_from_all x ys h.1 i
+absent_from_all x (y ∷ ys) h = λ i. (flips_eq y x ∙ h.0) i || absent_from_all x ys h.1 i
 
 pub absent_first : (x : ℕ) (xs : List ℕ) → IsDistinct eqb (x ∷ xs) → Absent x xs
 absent_first x xs d = absent_from_all x xs (IsDistinct-head eqb x xs d)
-
-pub bool_cases : (b : Bool) → (b ≡ true) ⊎ (b ≡ false)
-bool_cases true = inl refl
-bool_cases false = inr refl
-
-or_right : (a b : Bool) → b ≡ true → (a || b) ≡ true
-or_right true b h = refl
-or_right false b h = h
-
-either : (a b : Bool) → (a || b) ≡ true → (a ≡ true) ⊎ (b ≡ true)
-either true b h = inl refl
-either false b h = inr h
 
 present_left : (x : ℕ) (xs ys : List ℕ) → Present x xs → Present x (xs ++ ys)
 present_left x xs ys h = list_any-append (λ y. eqb y x) xs ys ∙ ap (λ b. b || list_any (λ y. eqb y x) ys) h
@@ -48,10 +35,7 @@ absent_join x xs ys h k = list_any-append (λ y. eqb y x) xs ys ∙ λ i. h i ||
 
 -- an id that is there differs from one that is not
 pub differ : (p y : ℕ) (xs : List ℕ) → Absent p xs → Present y xs → eqb p y ≡ false
-differ p y xs a h = elim (bool_cases (eqb p y)) [ inl e ↦ absurd (true≢false (sym h ∙ subst (λ (z : ℕ). Absent z xs) (eqb-true p y e) a)) | inr e ↦ e ]
-
-pub not_equal : (a b : ℕ) → (a ≡ b → ⊥) → eqb a b ≡ false
-not_equal a b h = elim (bool_cases (eqb a b)) [ inl e ↦ absurd (h (eqb-true a b e)) | inr e ↦ e ]
+differ p y xs a h = elim (cases_Bool (eqb p y)) [ inl e ↦ absurd (true≢false (sym h ∙ subst (λ (z : ℕ). Absent z xs) (eqb-true p y e) a)) | inr e ↦ e ]
 
 -- two lists of distinct ids that have none in common
 pub record Halves (xs ys : List ℕ) : Type 0 where
@@ -64,7 +48,7 @@ cons_distinct x xs a d = IsDistinct-cons eqb x xs (all_from_absent x xs a) d
   where
     all_from_absent : (x : ℕ) (xs : List ℕ) → Absent x xs → AllByRecursion (λ y. eqb x y ≡ false) xs
     all_from_absent x [] h = tt
-    all_from_absent x (y ∷ ys) h = let b = neither _ _ h in (eqb_flip x y ∙ b.0, all_from_absent x ys b.1)
+    all_from_absent x (y ∷ ys) h = let b = or_parts _ _ h in (flips_eq x y ∙ b.0, all_from_absent x ys b.1)
 
 pub nil_distinct : IsDistinct eqb []
 unfolding IsDistinct
@@ -78,11 +62,11 @@ halves (x ∷ xs) ys d =
     record {
       left = cons_distinct x xs a.0 rest.left;
       right = rest.right;
-      disjoint = λ y h. elim (either (eqb x y) _ h) [ inl e ↦ subst (λ (z : ℕ). Absent z ys) (eqb-true x y e) a.1 | inr k ↦ rest.disjoint y k ];
+      disjoint = λ y h. elim (or_cases (eqb x y) _ h) [ inl e ↦ subst (λ (z : ℕ). Absent z ys) (eqb-true x y e) a.1 | inr k ↦ rest.disjoint y k ];
     }
 
 flipped : (xs ys : List ℕ) → Halves xs ys → (y : ℕ) → Present y ys → Absent y xs
-flipped xs ys h y p = elim (bool_cases (list_any (λ z. eqb z y) xs)) [ inl q ↦ absurd (true≢false (sym p ∙ h.disjoint y q)) | inr q ↦ q ]
+flipped xs ys h y p = elim (cases_Bool (list_any (λ z. eqb z y) xs)) [ inl q ↦ absurd (true≢false (sym p ∙ h.disjoint y q)) | inr q ↦ q ]
 
 -- the first of two answers
 first_case : {X : Type 0} (a b : Option X) (c : X) → first_of a b ≡ Some c → (a ≡ Some c) ⊎ ((a ≡ None) × (b ≡ Some c))
@@ -124,7 +108,7 @@ module _ {N T A : Type 0} (x : ℕ) where
     none_ops : (p r : ℕ) (os : OpsOf N T A) → ops_place x p r os ≡ None → Absent x (ops_ids os)
     none_ops p r no_ops e = refl
     none_ops p r (next (op h rs) os) e =
-        elim (bool_cases (eqb h.id x)) [
+        elim (cases_Bool (eqb h.id x)) [
           | inl k ↦ let bad = cond_true (eqb h.id x) (Some (record { parent = p; region = r; before = first_id os })) _ None k e in cc
           | inr k ↦ (let b = first_none _ _ (cond_false (eqb h.id x) (Some (record { parent = p; region = r; before = first_id os })) _ None k e) in
               absent_join x (ids (op h rs)) (ops_ids os) (absent_op h rs k (none_regions h.id 0 rs b.0)) (none_ops p r os b.1))
@@ -144,7 +128,7 @@ module _ {N T A : Type 0} (x : ℕ) where
     some_ops : (p r : ℕ) (os : OpsOf N T A) (place : Place) → ops_place x p r os ≡ Some place → Present x (ops_ids os)
     some_ops p r no_ops place e = cc
     some_ops p r (next (op h rs) os) place e =
-        elim (bool_cases (eqb h.id x)) [
+        elim (cases_Bool (eqb h.id x)) [
           | inl k ↦ present_left x (ids (op h rs)) (ops_ids os) (ap (λ b. b || list_any (λ y. eqb y x) (regions_ids rs)) k)
           | inr k ↦ elim (first_case _ _ _ (cond_false (eqb h.id x) (Some (record { parent = p; region = r; before = first_id os })) _ (Some place) k e)) [
             | inl j ↦ present_left x (ids (op h rs)) (ops_ids os) (or_right _ _ (some_regions h.id 0 rs place j))
@@ -155,7 +139,7 @@ module _ {N T A : Type 0} (x : ℕ) where
   -- what isn't there is not found
   mutual
     lost_op : (t : OpOf N T A) → Absent x (ids t) → find x t ≡ None
-    lost_op (op h rs) a = let b = neither _ _ a in ap (λ c. cond c (Some (op h rs)) (regions_find x rs)) b.0 ∙ lost_regions rs b.1
+    lost_op (op h rs) a = let b = or_parts _ _ a in ap (λ c. cond c (Some (op h rs)) (regions_find x rs)) b.0 ∙ lost_regions rs b.1
 
     lost_regions : (rs : RegionsOf N T A) → Absent x (regions_ids rs) → regions_find x rs ≡ None
     lost_regions no_regions a = refl
@@ -188,9 +172,6 @@ record InList {N T A : Type 0} (place : Place) (p r : ℕ) (os : OpsOf N T A) : 
   region : r ≡ place.region
   before : BeforeIn place.before os
 
-some_is : {X : Type 0} (a b : X) → Some a ≡ Some b → a ≡ b
-some_is a b e = cc
-
 module _ {N T A : Type 0} (x : ℕ) (place : Place) where
   mutual
     locate_op : (t : OpOf N T A) → place_of x t ≡ Some place → Present place.parent (ids t)
@@ -221,9 +202,9 @@ module _ {N T A : Type 0} (x : ℕ) (place : Place) where
     locate_ops : (p r : ℕ) (os : OpsOf N T A) → ops_place x p r os ≡ Some place → InList place p r os ⊎ Present place.parent (ops_ids os)
     locate_ops p r no_ops e = cc
     locate_ops p r (next (op h rs) os) e =
-        elim (bool_cases (eqb h.id x)) [
+        elim (cases_Bool (eqb h.id x)) [
           | inl k ↦ (let here : Place = record { parent = p; region = r; before = first_id os } in
-              let w : here ≡ place = some_is here place (cond_true (eqb h.id x) (Some here) _ (Some place) k e) in
+              let w : here ≡ place = same_Some here place (cond_true (eqb h.id x) (Some here) _ (Some place) k e) in
               inl (record {
                 parent = ap (λ q. q.parent) w;
                 region = ap (λ q. q.region) w;
@@ -304,9 +285,9 @@ module _ {N T A : Type 0} (x : ℕ) (place : Place) (o : OpOf N T A) where
       → put_here place o p r (ops_each_list (put_here place o) (drop_op x (ops_each_list (λ p r os. drop_op x os) (next q os)))) ≡ next q os
   here_first p r (op h rs) os k a hv e f =
       let here : Place = record { parent = p; region = r; before = first_id os } in
-      let w : here ≡ place = some_is here place (cond_true (eqb h.id x) (Some here) _ (Some place) k e) in
+      let w : here ≡ place = same_Some here place (cond_true (eqb h.id x) (Some here) _ (Some place) k e) in
       let first : first_of (Some (op h rs)) (ops_find x os) ≡ Some o = sym (ap (λ b. first_of (cond b (Some (op h rs)) (regions_find x rs)) (ops_find x os)) k) ∙ f in
-      let is : op h rs ≡ o = some_is (op h rs) o first in
+      let is : op h rs ≡ o = same_Some (op h rs) o first in
       let ph : Present x (ids (op h rs)) = ap (λ b. b || list_any (λ y. eqb y x) (regions_ids rs)) k in
       here_again p r h rs os k (hv.disjoint x ph) a is (ap (λ z. z.parent) w) (ap (λ z. z.region) w) (ap (λ z. z.before) w)
 
@@ -341,7 +322,7 @@ module _ {N T A : Type 0} (x : ℕ) (place : Place) (o : OpOf N T A) where
   later p r g rs a a' hv loc ax =
       ap (regions_each_list (put_here place o) p (r + 1)) (regions_untouched x p (r + 1) rs ax)
       ∙ elim loc [
-        | inl l ↦ unput_later place o p (r + 1) rs (λ k m. other_region place o p k (not_equal k place.region (λ e. let q = l.1 in omega arith))) (subst (λ (z : ℕ). Absent z (regions_ids rs)) l.0 a')
+        | inl l ↦ unput_later place o p (r + 1) rs (λ k m. other_region place o p k (ne_eqb k place.region (λ e. let q = l.1 in omega arith))) (subst (λ (z : ℕ). Absent z (regions_ids rs)) l.0 a')
         | inr l ↦ unput_later place o p (r + 1) rs (λ k m. other_parent place o p k (differ p place.parent (region_ids g) a l)) (hv.disjoint place.parent l)
       ]
 
@@ -350,7 +331,7 @@ module _ {N T A : Type 0} (x : ℕ) (place : Place) (o : OpOf N T A) where
   earlier p r g rs a a' hv loc ax =
       ap (region_each_list (put_here place o) p r) (region_untouched x p r g ax)
       ∙ elim loc [
-        | inl l ↦ unput_region place o p r g (other_region place o p r (not_equal r place.region (λ e. let q = l.1 in omega arith))) (subst (λ (z : ℕ). Absent z (region_ids g)) l.0 a)
+        | inl l ↦ unput_region place o p r g (other_region place o p r (ne_eqb r place.region (λ e. let q = l.1 in omega arith))) (subst (λ (z : ℕ). Absent z (region_ids g)) l.0 a)
         | inr l ↦ unput_region place o p r g (other_parent place o p r (differ p place.parent (regions_ids rs) a' l)) (flipped (region_ids g) (regions_ids rs) hv place.parent l)
       ]
 
@@ -388,7 +369,7 @@ module _ {N T A : Type 0} (x : ℕ) (place : Place) (o : OpOf N T A) where
         let qs = ids q in
         let b = absent_parts p qs (ops_ids os) a in
         let hv = halves qs (ops_ids os) d in
-        elim (bool_cases (eqb (head q).id x)) [
+        elim (cases_Bool (eqb (head q).id x)) [
           | inl k ↦ here_first p r q os k b.1 hv e f
           | inr k ↦ elim (first_case (place_of x q) (ops_place x p r os) place (cond_false (eqb (head q).id x) (Some (record { parent = p; region = r; before = first_id os })) (first_of (place_of x q) (ops_place x p r os)) (Some place) k e)) [
             | inl j ↦ (let px = some_op q k j in

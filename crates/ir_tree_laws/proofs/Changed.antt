@@ -31,9 +31,9 @@ use Rattle.ir_tree_laws.proofs.Shift.{still_among, inner_of, inner_place}
 use Rattle.ir_tree_laws.proofs.Reasoned.{no_put_reason, no_take_reason, no_shift_reason, none_ids}
 use Rattle.ir_tree_laws.proofs.WellKept.{put_keeps, may_put_leaf}
 use Rattle.ir_tree_laws.proofs.HeadForm.{used_here, in_gather}
-use Rattle.ir_tree_laws.proofs.Values.{shape, seen_by, seen_from, not_own}
+use Rattle.ir_tree_laws.proofs.Values.{shape, seen_by, seen_from, not_own, joined_more}
 
-gather_none : {X Y : Type 0} (f : X → List Y) (xs : List X) → ((x : X) → In x xs → f x ≡ []) → gather f xs ≡ []
+pub gather_none : {X Y : Type 0} (f : X → List Y) (xs : List X) → ((x : X) → In x xs → f x ≡ []) → gather f xs ≡ []
 gather_none f [] h = refl
 gather_none f (x ∷ xs) h = λ i. h x (inl refl) i ++ gather_none f xs (λ y k. h y (inr k)) i
 
@@ -250,10 +250,6 @@ module _ {N T A : Type 0} where
   pub joined_among : (b : ℕ) (front : List (OpOf N T A)) (os : OpsOf N T A) → is_among b os ≡ true → is_among b (joined_ops front os) ≡ true
   joined_among b [] os h = h
   joined_among b (f ∷ fs) os h = or_right (eqb (head f).id b) (is_among b (joined_ops fs os)) (joined_among b fs os h)
-
-  joined_more : (front : List (OpOf N T A)) (o : OpOf N T A) (os : OpsOf N T A) → joined_ops (front ++ o ∷ []) os ≡ joined_ops front (next o os)
-  joined_more [] o os = refl
-  joined_more (f ∷ fs) o os = ap (next f) (joined_more fs o os)
 
   module _ (isolated : N → Bool) (x : ℕ) (t : OpOf N T A) (d : HasDistinctIds t) (o : OpOf N T A) (a : StepOf N T A) (q : List (StepOf N T A)) (h : In (stand o (a ∷ q)) (stands [] t)) (id : (head o).id ≡ x) where
     abbrev u : OpOf N T A

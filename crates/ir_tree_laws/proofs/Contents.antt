@@ -20,7 +20,7 @@ use Rattle.ir_tree.specs.Maps.{map_entry, map_tree, map_regions, map_region, map
 use Rattle.ir_tree.specs.Meaning.{dictionaries_rise, rises, rises_after}
 use Rattle.ir_tree.specs.Places.{put, shifted}
 use Rattle.ir_tree.specs.WellFormed.{ModuleOf}
-use Rattle.ir_tree.proofs.Mapped.{map_ids, map_find, map_every, map_depth, map_visible, map_operands_visible}
+use Rattle.ir_tree.proofs.Mapped.{map_ids, map_find, map_every, map_depth, map_visible, map_operands_visible, map_all_arguments, map_region_count}
 use Rattle.ir_tree.proofs.MappedEdits.{map_put, map_shifted}
 use Rattle.ir_tree_laws.specs.Changes.{entry_in}
 use Rattle.ir_tree_laws.specs.Tables.{table_around, regions_table, region_table, ops_table, table_of}
@@ -29,11 +29,11 @@ use Rattle.ir_tree_laws.specs.Reads.{ops_in, ops_at, is_among, is_within, around
 use Rattle.ir_tree_laws.specs.Reasons.{unless, value_reason, operand_reason, set_operand_reason, is_in_list, has_place, fits_around, with_id, put_reason, hold_none, holds_none, leaves, unused, take_reason, entry_reason, found_entry_reason, set_entry_reason, before_within, leads_inside, levels_in, same_table, shift_reason}
 use Rattle.ir_tree_laws.specs.Restores.{MayRestore, MayRetract}
 
-some_map : {X Y : Type 0} (g : X → Y) (o : Option X) → is_some (option_map g o) ≡ is_some o
+pub some_map : {X Y : Type 0} (g : X → Y) (o : Option X) → is_some (option_map g o) ≡ is_some o
 some_map g None = refl
 some_map g (Some x) = refl
 
-all_alike : {X : Type 0} (p q : X → Bool) → ((x : X) → p x ≡ q x) → (xs : List X) → list_all p xs ≡ list_all q xs
+pub all_alike : {X : Type 0} (p q : X → Bool) → ((x : X) → p x ≡ q x) → (xs : List X) → list_all p xs ≡ list_all q xs
 all_alike p q f [] = refl
 all_alike p q f (x ∷ xs) = λ i. f x i && all_alike p q f xs i
 
@@ -51,7 +51,7 @@ module _ {N T A M U B : Type 0} (f : N → M) (g : T → U) (h : A → B) where
   map_op_count t = ap length (map_ids f g h t)
 
   -- values
-  map_region_at : (r : ℕ) (rs : RegionsOf N T A) → region_at r (map_regions f g h rs) ≡ option_map (map_region f g h) (region_at r rs)
+  pub map_region_at : (r : ℕ) (rs : RegionsOf N T A) → region_at r (map_regions f g h rs) ≡ option_map (map_region f g h) (region_at r rs)
   map_region_at r no_regions = refl
   map_region_at zero (region a rs) = refl
   map_region_at (suc r) (region a rs) = map_region_at r rs
@@ -84,7 +84,7 @@ module _ {N T A M U B : Type 0} (f : N → M) (g : T → U) (h : A → B) where
   map_has_value v t = ap is_some (map_type_of_value v t) ∙ some_map g (type_of_value v t)
 
   -- places
-  map_ops_at : (p r : ℕ) (t : OpOf N T A) → ops_at p r (map_tree f g h t) ≡ option_map (map_ops f g h) (ops_at p r t)
+  pub map_ops_at : (p r : ℕ) (t : OpOf N T A) → ops_at p r (map_tree f g h t) ≡ option_map (map_ops f g h) (ops_at p r t)
   map_ops_at p r t = ap (option_and_then (λ (o : OpOf M U B). option_and_then ops_in (region_at r (regions o)))) (map_find f g h p t) ∙ go (find p t)
     where
       inside : (o : Option (RegionOf N T A)) → option_and_then ops_in (option_map (map_region f g h) o) ≡ option_map (map_ops f g h) (option_and_then ops_in o)
@@ -148,23 +148,13 @@ module _ {N T A M U B : Type 0} (f : N → M) (g : T → U) (h : A → B) where
     pub map_table_of : (x : ℕ) (t : OpOf N T A) → table_of is_table x (map_tree f g h t) ≡ table_of (λ n. is_table (f n)) x t
     map_table_of x t = map_table x None t
 
-  -- what an operation has of its own
-  map_region_count : (rs : RegionsOf N T A) → region_count (map_regions f g h rs) ≡ region_count rs
-  map_region_count no_regions = refl
-  map_region_count (region r rs) = ap (λ n. n + 1) (map_region_count rs)
-
   map_items : {X Y : Type 0} (k : X → Y) (xs : List X) → items_fit (map k xs) ≡ items_fit xs
   map_items k xs = ap (λ n. nat_le n most_items) (length-map xs k)
-
-  map_all_arguments : (rs : RegionsOf N T A) → all_arguments_pass items_fit (map_regions f g h rs) ≡ all_arguments_pass items_fit rs
-  map_all_arguments no_regions = refl
-  map_all_arguments (region empty rs) = map_all_arguments rs
-  map_all_arguments (region (block args os) rs) = λ i. map_items g args i && map_all_arguments rs i
 
   pub map_op_fits : (t : OpOf N T A) → op_fits (map_tree f g h t) ≡ op_fits t
   map_op_fits (op x rs) = λ i.
       (items_fit x.operands && (map_items g x.results i && (map_items (map_entry f h) x.properties i && map_items (map_entry f h) x.attributes i)))
-      && (nat_le (map_region_count rs i) most_regions && map_all_arguments rs i)
+      && (nat_le ((map_region_count f g h) rs i) most_regions && (map_all_arguments f g h) rs i)
 
   pub map_with_id : (x : ℕ) (o : OpOf N T A) → with_id x (map_tree f g h o) ≡ map_tree f g h (with_id x o)
   map_with_id x (op k rs) = refl

@@ -7,7 +7,7 @@ use Rattle.ir_tree.specs.Tree.{HeadOf, OpOf, op, RegionsOf, no_regions, region, 
 use Rattle.ir_tree.specs.Ids.{ids, regions_ids, region_ids, ops_ids, HasDistinctIds, find}
 use Rattle.ir_tree.specs.Places.{first_id, each_list, regions_each_list, region_each_list, ops_each_list, drop_op, put}
 use Rattle.ir_tree.proofs.Moves.{Absent, absent_parts, region_untouched, without_absent}
-use Rattle.ir_tree.proofs.Returns.{halves, bool_cases}
+use Rattle.ir_tree.proofs.Returns.{halves}
 use Rattle.ir_tree_laws.specs.Members.{In}
 use Rattle.ir_tree_laws.specs.Preorder.{first_ids, IsCutBefore, IsCutAt}
 use Rattle.ir_tree_laws.specs.Restores.{MayPut}
@@ -22,6 +22,7 @@ use Rattle.ir_tree_laws.proofs.Put.{Landed, region_each}
 use Rattle.ir_tree_laws.proofs.PutForm.{landed, put_distinct, put_back, put_cases, parent_absent}
 use Rattle.ir_tree_laws.proofs.Values.{shape}
 use Rattle.ir_tree_laws.proofs.Changed.{kept_front}
+use Rattle.std.proofs.lemmas.Bool.{cases_Bool}
 
 -- a list is cut at a number that stands once in it
 pub one_cut : (x : ℕ) (xs us ys vs : List ℕ) → Absent x xs → Absent x us → xs ++ (x ∷ ys) ≡ us ++ (x ∷ vs) → xs ≡ us
@@ -34,7 +35,7 @@ one_cut x (y ∷ xs) (u ∷ us) ys vs a b e =
     λ i. first i ∷ one_cut x xs us ys vs (neither _ _ a).1 (neither _ _ b).1 later i
 
 pub absent_before : (x : ℕ) (xs ys : List ℕ) → IsDistinct eqb (xs ++ (x ∷ ys)) → Absent x xs
-absent_before x xs ys d = elim (bool_cases (list_any (λ y. eqb y x) xs)) [
+absent_before x xs ys d = elim (cases_Bool (list_any (λ y. eqb y x) xs)) [
   | inr k ↦ k
   | inl k ↦ absurd (true≢false (sym (eq-eqb x x refl) ∙ (neither _ _ ((halves xs (x ∷ ys) d).disjoint x k)).0))
 ]

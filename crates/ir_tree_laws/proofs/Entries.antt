@@ -20,6 +20,7 @@ use Rattle.ir_tree_laws.proofs.Listed.{in_left, in_right, all_each, both, bool_c
 use Rattle.ir_tree_laws.proofs.Readings.{step, stands_every}
 use Rattle.ir_tree_laws.proofs.Members.{stand_found, found_stands}
 use Rattle.ir_tree_laws.proofs.Reasoned.{no_entry_reason, no_unless}
+use Rattle.ir_tree.proofs.Facts.{head_each}
 
 own_key : {N : Type 0} (before : N → N → Bool) → Ordered before → (k : N) → same_key before k k ≡ true
 own_key before o k = λ i. not (o.irr k i) && not (o.irr k i)
@@ -143,7 +144,7 @@ module _ {N T A : Type 0} (f : HeadOf N T A → HeadOf N T A) where
 
 module _ {N T A : Type 0} (f g : HeadOf N T A → HeadOf N T A) where
   mutual
-    each_twice : (t : OpOf N T A) → each_head g (each_head f t) ≡ each_head (λ h. g (f h)) t
+    pub each_twice : (t : OpOf N T A) → each_head g (each_head f t) ≡ each_head (λ h. g (f h)) t
     each_twice (op h rs) = ap (op (g (f h))) (regions_twice rs)
 
     regions_twice : (rs : RegionsOf N T A) → regions_each_head g (regions_each_head f rs) ≡ regions_each_head (λ h. g (f h)) rs
@@ -174,9 +175,6 @@ module _ {N T A : Type 0} (before : N → N → Bool) (o : Ordered before) (x : 
   part_id : (part : Part) (f : List (N × A) → List (N × A)) (h : HeadOf N T A) → (change_part part f h).id ≡ h.id
   part_id Props f h = refl
   part_id Attrs f h = refl
-
-  head_each : (f : HeadOf N T A → HeadOf N T A) (t : OpOf N T A) → head (each_head f t) ≡ f (head t)
-  head_each f (op h rs) = refl
 
   pub entry_changes : (m : ModuleOf N T A) → HasDistinctIds m.tree → every (dictionaries_rise before) m.tree ≡ true → set_entry_reason before x part k a m.tree ≡ None
       → (old : Option A) × SetsEntry before x part k old a m (record m { tree = with_entry before x part k a m.tree })

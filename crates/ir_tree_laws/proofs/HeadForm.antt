@@ -26,6 +26,7 @@ use Rattle.ir_tree_laws.proofs.Sees.{visible_there, all_same}
 use Rattle.ir_tree_laws.proofs.Heads.{each_stands, Alike, each_sees}
 use Rattle.ir_tree_laws.proofs.Formed.{from_formed, to_formed}
 use Rattle.ir_tree_laws.proofs.Reasoned.{no_operand_reason, no_entry_reason, no_unless}
+use Rattle.ir_tree.proofs.Heads.{part_operands}
 
 set_passes : {X : Type 0} (p : X → Bool) (xs : List X) (k : ℕ) (x : X) → list_all p xs ≡ true → p x ≡ true → list_all p (slice_set xs k x) ≡ true
 set_passes p [] zero x h g = refl
@@ -219,10 +220,6 @@ module _ {N T A : Type 0} (isolated : N → Bool) (before : N → N → Bool) (t
       let c = both (items_fit h.results) _ b.1 in
       let d = both (items_fit h.properties) (items_fit h.attributes) c.1 in
       both_hold _ _ b.0 (both_hold _ _ c.0 (both_hold _ _ d.0 (changed_fits before trans k a h.attributes q d.1 e)))
-
-  part_operands : (part : Part) (f : List (N × A) → List (N × A)) (h : HeadOf N T A) → (change_part part f h).operands ≡ h.operands
-  part_operands Props f h = refl
-  part_operands Attrs f h = refl
 
   -- an entry of a dictionary; dictionaries are sorted, each key once
   pub entry_keeps : (x : ℕ) (part : Part) (k : N) (a : Option A) (m : ModuleOf N T A) → IsWellFormed isolated m → every (dictionaries_rise before) m.tree ≡ true → set_entry_reason before x part k a m.tree ≡ None

@@ -9,11 +9,7 @@ use Rattle.ir_tree.specs.types.Terms.{name_term}
 use Rattle.ir_tree.proofs.of_types.Growth.{name_refl, name_is}
 use Rattle.ir_tree.specs.Meaning.{key_before, key_before_in}
 use Rattle.ir_tree_laws.specs.Keys.{Ordered}
-
-less_is : (o : Ordering) → is_lt o ≡ true → o ≡ Less
-less_is Less h = refl
-less_is Equal h = cc
-less_is Greater h = cc
+use Rattle.ir_tree.proofs.of_types.AcceptedCalls.{less_from}
 
 tied_is : (o o' : Ordering) → o ≡ ordering_reverse o' → is_lt o ≡ false → is_lt o' ≡ false → is_eq o ≡ true
 tied_is Less o' e h g = cc
@@ -30,7 +26,7 @@ not_less Greater h = absurd (true≢false (sym h))
 pub keys_ordered : Ordered key_before
 keys_ordered = record {
   irr = λ k. not_less (slice_cmp nat_cmp k k) (is_eq-slice_cmp k k ∙ name_refl k);
-  trans = λ k l m h g. ap is_lt (nat_list_cmp_total.trans k l m (less_is (slice_cmp nat_cmp k l) h) (less_is (slice_cmp nat_cmp l m) g));
+  trans = λ k l m h g. ap is_lt (nat_list_cmp_total.trans k l m (less_from (slice_cmp nat_cmp k l) h) (less_from (slice_cmp nat_cmp l m) g));
   exact = λ k l h g. name_is k l (sym (is_eq-slice_cmp k l) ∙ tied_is (slice_cmp nat_cmp k l) (slice_cmp nat_cmp l k) (nat_list_cmp_total.antisymm k l) h g);
 }
 

@@ -1,3 +1,4 @@
+pub mod Facts
 pub mod Listed
 pub mod Readings
 pub mod Members

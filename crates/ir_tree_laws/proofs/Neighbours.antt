@@ -22,9 +22,10 @@ use Rattle.ir_tree_laws.proofs.Sees.{visible_by_cases}
 use Rattle.ir_tree_laws.proofs.Put.{child}
 use Rattle.ir_tree_laws.proofs.Values.{front_stands, got, shape, split_front}
 use Rattle.ir_tree_laws.proofs.Changed.{joined_among}
-use Rattle.ir_tree_laws.proofs.Reverted.{among_split, got_below}
+use Rattle.ir_tree_laws.proofs.Reverted.{among_split}
+use Rattle.std.proofs.lemmas.Option.{slice_get_within}
 
-some_got : {X : Type 0} (xs : List X) (k : ℕ) → is_some (slice_get xs k) ≡ nat_lt k (length xs)
+pub some_got : {X : Type 0} (xs : List X) (k : ℕ) → is_some (slice_get xs k) ≡ nat_lt k (length xs)
 some_got {X = X} xs k = elim (bool_cases (nat_lt k (length xs))) [
   | inl e ↦ got xs k (ltb-true k (length xs) e) ∙ sym e
   | inr e ↦ none (slice_get xs k) refl e ∙ sym e
@@ -32,7 +33,7 @@ some_got {X = X} xs k = elim (bool_cases (nat_lt k (length xs))) [
   where
     none : (o : Option X) → slice_get xs k ≡ o → nat_lt k (length xs) ≡ false → is_some (slice_get xs k) ≡ false
     none None f e = ap is_some f
-    none (Some x) f e = absurd (true≢false (sym (lt-ltb k (length xs) (got_below xs k x f)) ∙ e))
+    none (Some x) f e = absurd (true≢false (sym (lt-ltb k (length xs) (slice_get_within xs k x f)) ∙ e))
 
 module _ {N T A : Type 0} where
   -- the id of the last of those before, where another is before them
@@ -78,12 +79,12 @@ module _ {N T A : Type 0} where
       go true e k later = let s = among_split x os k in ([], o, s.0, s.1, s.2, eqb-true (head o).id y e, s.4, ap (next o) s.3)
       go false e k later = let s = later k in (o ∷ s.0, s.1, s.2, s.3, s.4, s.5, s.6, ap (next o) s.7)
 
-  block_at : (r : ℕ) (p : OpOf N T A) (os : OpsOf N T A) (g : Option (RegionOf N T A)) → region_at r (regions p) ≡ g → option_and_then ops_in g ≡ Some os → (args : List T) × (region_at r (regions p) ≡ Some (block args os))
+  pub block_at : (r : ℕ) (p : OpOf N T A) (os : OpsOf N T A) (g : Option (RegionOf N T A)) → region_at r (regions p) ≡ g → option_and_then ops_in g ≡ Some os → (args : List T) × (region_at r (regions p) ≡ Some (block args os))
   block_at r p os None f e = absurd cc
   block_at r p os (Some empty) f e = absurd cc
   block_at r p os (Some (block args l)) f e = (let same : l ≡ os = cc in (args, f ∙ ap (λ z. Some (block args z)) same))
 
-  block_of : (t : OpOf N T A) (y r : ℕ) (os : OpsOf N T A) → ops_at y r t ≡ Some os → (p : OpOf N T A) × (args : List T) × (find y t ≡ Some p) × (region_at r (regions p) ≡ Some (block args os))
+  pub block_of : (t : OpOf N T A) (y r : ℕ) (os : OpsOf N T A) → ops_at y r t ≡ Some os → (p : OpOf N T A) × (args : List T) × (find y t ≡ Some p) × (region_at r (regions p) ≡ Some (block args os))
   block_of t y r os k = go (find y t) refl k
     where
       go : (f : Option (OpOf N T A)) → find y t ≡ f → option_and_then (λ o. option_and_then ops_in (region_at r (regions o))) f ≡ Some os → (p : OpOf N T A) × (args : List T) × (find y t ≡ Some p) × (region_at r (regions p) ≡ Some (block args os))

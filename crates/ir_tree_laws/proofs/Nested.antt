@@ -19,7 +19,7 @@ use Rattle.ir_tree_laws.proofs.Readings.{stands_find}
 use Rattle.ir_tree_laws.proofs.Members.{within, member, stand_found}
 use Rattle.ir_tree_laws.proofs.PutForm.{landed, put_distinct}
 
-unequal : (a b : ℕ) → eqb a b ≡ false → eqb b a ≡ false
+pub unequal : (a b : ℕ) → eqb a b ≡ false → eqb b a ≡ false
 unequal a b e = elim (bool_cases (eqb b a)) [ inr k ↦ k | inl k ↦ absurd (true≢false (sym (eq-eqb a b (sym (eqb-true b a k))) ∙ e)) ]
 
 module _ {N T A : Type 0} where

@@ -14,8 +14,9 @@ use Rattle.ir_tree.specs.Scope.{operands_seen, regions_operands_seen, region_ope
 use Rattle.ir_tree.specs.WellFormed.{IsFormed}
 use Rattle.ir_tree.proofs.Checked.{seen_operands_visible}
 use Rattle.ir_tree_laws.specs.Renumbered.{value_with_id, with_ids, regions_with_ids, region_with_ids, ops_with_ids, place_in, renumbered}
-use Rattle.ir_tree_laws.proofs.RenumberedPlaces.{eqb_turned, first, later}
-use Rattle.ir_tree_laws.proofs.RenumberedSight.{shown_last}
+use Rattle.ir_tree_laws.proofs.RenumberedPlaces.{first, later}
+use Rattle.ir_tree.proofs.of_types.Sorting.{flips_eq}
+use Rattle.ir_tree.proofs.SeenSites.{shown_last}
 
 -- the numbers of a range have the places that they are
 range_place : (n m y : ℕ) → list_any (λ z. eqb z y) (range_with_len n m) ≡ true → n + place_in (range_with_len n m) y ≡ y
@@ -23,7 +24,7 @@ range_place n zero y h = absurd (true≢false (sym h))
 range_place n (suc m) y h = elim (eqb_tells y n) [
   | inl e ↦ ap (λ p. n + p) (first n (range_with_len (n + 1) m) y e.0) ∙ omega (arith, e.1)
   | inr e ↦
-      let more = range_place (n + 1) m y (ap (λ b. b || list_any (λ z. eqb z y) (range_with_len (n + 1) m)) (sym (eqb_turned n y ∙ e.0)) ∙ h) in
+      let more = range_place (n + 1) m y (ap (λ b. b || list_any (λ z. eqb z y) (range_with_len (n + 1) m)) (sym (flips_eq n y ∙ e.0)) ∙ h) in
       ap (λ p. n + p) (later n (range_with_len (n + 1) m) y e.0) ∙ omega arith ∙ more
 ]
 

@@ -4,13 +4,7 @@ use Rattle.std.proofs.lemmas.Bool.{or_left, or_right}
 use Rattle.std.proofs.lemmas.Bool.Decides.{eqb_tells}
 use Rattle.std.specs.List.{AllByRecursion, IsDistinct, list_any, range_with_len}
 use Rattle.ir_tree_laws.specs.Renumbered.{place_in, TellsApart}
-
--- whether two numbers are equal, the other way round
-pub eqb_turned : (x y : ℕ) → eqb x y ≡ eqb y x
-eqb_turned x y = elim (eqb_tells x y) [
-  | inl e ↦ e.0 ∙ sym (eq-eqb y x (sym e.1))
-  | inr e ↦ elim (eqb_tells y x) [ inl d ↦ absurd (true≢false (sym (eq-eqb x y (sym d.1)) ∙ e.0)) | inr d ↦ e.0 ∙ sym d.0 ]
-]
+use Rattle.ir_tree.proofs.of_types.Sorting.{flips_eq}
 
 -- the places of what is not the first
 pub later : (x : ℕ) (xs : List ℕ) (y : ℕ) → eqb y x ≡ false → place_in (x ∷ xs) y ≡ 1 + place_in xs y
@@ -29,7 +23,7 @@ places_from n (x ∷ xs) f d h =
   where
     onward : (ys : List ℕ) → AllByRecursion (λ y. eqb x y ≡ false) ys → AllByRecursion (λ y. f y ≡ n + place_in (x ∷ xs) y) ys → AllByRecursion (λ y. f y ≡ n + 1 + place_in xs y) ys
     onward [] a b = tt
-    onward (y ∷ ys) a b = (b.0 ∙ ap (λ p. n + p) (later x xs y (eqb_turned y x ∙ a.0)) ∙ omega arith, onward ys a.1 b.1)
+    onward (y ∷ ys) a b = (b.0 ∙ ap (λ p. n + p) (later x xs y (flips_eq y x ∙ a.0)) ∙ omega arith, onward ys a.1 b.1)
 
 all_same : (f : ℕ → ℕ) (xs ys : List ℕ) → ((y : ℕ) → f y ≡ 0 + place_in xs y) → AllByRecursion (λ y. f y ≡ 0 + place_in xs y) ys
 all_same f xs [] h = tt
@@ -67,9 +61,9 @@ places_tell (z ∷ zs) x y h =
         | inr b ↦ (λ i. eqb (first z zs x a.0 i) (later z zs y b.0 i)) ∙ first_or_later (place_in zs y) ∙ sym (differ x y z a.1 b.1)
       ]
       | inr a ↦ elim (eqb_tells y z) [
-        | inl b ↦ (λ i. eqb (later z zs x a.0 i) (first z zs y b.0 i)) ∙ eqb_turned (1 + place_in zs x) 0 ∙ first_or_later (place_in zs x) ∙ sym (eqb_turned x y ∙ differ y x z b.1 a.1)
+        | inl b ↦ (λ i. eqb (later z zs x a.0 i) (first z zs y b.0 i)) ∙ flips_eq (1 + place_in zs x) 0 ∙ first_or_later (place_in zs x) ∙ sym (flips_eq x y ∙ differ y x z b.1 a.1)
         | inr b ↦ (λ i. eqb (later z zs x a.0 i) (later z zs y b.0 i)) ∙ eqb_later (place_in zs x) (place_in zs y)
-            ∙ places_tell zs x y (ap (λ c. c || list_any (λ w. eqb w y) zs) (sym (eqb_turned z y ∙ b.0)) ∙ h)
+            ∙ places_tell zs x y (ap (λ c. c || list_any (λ w. eqb w y) zs) (sym (flips_eq z y ∙ b.0)) ∙ h)
       ]
     ]
 
@@ -77,7 +71,7 @@ places_tell (z ∷ zs) x y h =
 pub place_at : (xs ys : List ℕ) (x : ℕ) → IsDistinct eqb (xs ++ x ∷ ys) → place_in (xs ++ x ∷ ys) x ≡ length xs
 unfolding IsDistinct
 place_at [] ys x d = first x ys x (eq-eqb x x refl)
-place_at (z ∷ zs) ys x d = later z (zs ++ x ∷ ys) x (eqb_turned x z ∙ behind zs d.0) ∙ ap (λ n. 1 + n) (place_at zs ys x d.1) ∙ omega arith
+place_at (z ∷ zs) ys x d = later z (zs ++ x ∷ ys) x (flips_eq x z ∙ behind zs d.0) ∙ ap (λ n. 1 + n) (place_at zs ys x d.1) ∙ omega arith
   where
     behind : (ws : List ℕ) → AllByRecursion (λ y. eqb z y ≡ false) (ws ++ x ∷ ys) → eqb z x ≡ false
     behind [] h = h.0
@@ -90,7 +84,7 @@ distinct_with f [] t d = tt
 distinct_with f (x ∷ xs) t d = (others xs d.0, distinct_with f xs (λ y z h. t y z (or_right (eqb x z) (list_any (λ w. eqb w z) xs) h)) d.1)
   where
     told : (y : ℕ) → eqb (f x) (f y) ≡ eqb x y
-    told y = eqb_turned (f x) (f y) ∙ t y x (or_left (eqb x x) (list_any (λ w. eqb w x) xs) (eq-eqb x x refl)) ∙ eqb_turned y x
+    told y = flips_eq (f x) (f y) ∙ t y x (or_left (eqb x x) (list_any (λ w. eqb w x) xs) (eq-eqb x x refl)) ∙ flips_eq y x
 
     others : (ys : List ℕ) → AllByRecursion (λ y. eqb x y ≡ false) ys → AllByRecursion (λ y. eqb (f x) y ≡ false) (map f ys)
     others [] h = tt

@@ -11,10 +11,11 @@ use Rattle.ir_tree.specs.Ids.{ids, regions_ids, region_ids, ops_ids}
 use Rattle.ir_tree.specs.Sites.{Frame, results, arguments, inside, shows, in_scope, results_of, visible, operands_visible}
 use Rattle.ir_tree.specs.Seen.{seen_at, regions_seen, region_seen, ops_seen}
 use Rattle.ir_tree.specs.Scope.{operands_seen, regions_operands_seen, region_operands_seen, ops_operands_seen}
-use Rattle.ir_tree.proofs.SeenSites.{seen_visible}
+use Rattle.ir_tree.proofs.SeenSites.{seen_visible, shown_last}
 use Rattle.ir_tree.proofs.Checked.{seen_operands_visible}
 use Rattle.ir_tree_laws.specs.Renumbered.{value_with_id, head_with_ids, with_ids, regions_with_ids, region_with_ids, ops_with_ids, TellsApart}
-use Rattle.ir_tree_laws.proofs.RenumberedPlaces.{eqb_turned}
+use Rattle.ir_tree.proofs.of_types.Sorting.{flips_eq}
+use Rattle.ir_tree.proofs.of_types.Truths.{or_false}
 
 -- f tells y from every other number
 abbrev pub Tells : (ℕ → ℕ) → ℕ → Type 0
@@ -23,13 +24,6 @@ Tells f y = (x : ℕ) → eqb (f x) (f y) ≡ eqb x y
 -- two scopes show the same
 abbrev Same : (ℕ → ℕ) → List Frame → List Frame → Type 0
 Same f new old = (v : Value) → in_scope new (value_with_id f v) ≡ in_scope old v
-
-or_false : (b : Bool) → (b || false) ≡ b
-or_false true = refl
-or_false false = refl
-
-pub shown_last : (s : List Frame) (g : Frame) (v : Value) → in_scope (s ++ g ∷ []) v ≡ (in_scope s v || shows v g)
-shown_last s g v = list_any-append (shows v) s (g ∷ []) ∙ ap (λ b. in_scope s v || b) (or_false (shows v g))
 
 module _ (f : ℕ → ℕ) where
   told_first : (x : ℕ) (xs : List ℕ) → TellsApart f (x ∷ xs) → Tells f x
@@ -74,7 +68,7 @@ module _ {N T A : Type 0} (f : ℕ → ℕ) where
       mutual
         seen_with : (b : Bool) (t : OpOf N T A) → TellsApart f (ids t) → seen_at isolated (f x) (value_with_id f v) b (with_ids f t) ≡ seen_at isolated x v b t
         seen_with b (op h rs) k =
-            let here : eqb (f h.id) (f x) ≡ eqb h.id x = eqb_turned (f h.id) (f x) ∙ op_told (op h rs) k x ∙ eqb_turned x h.id in
+            let here : eqb (f h.id) (f x) ≡ eqb h.id x = flips_eq (f h.id) (f x) ∙ op_told (op h rs) k x ∙ flips_eq x h.id in
             let inner = regions_seen_with (not (isolated h.name) && b) h.id 0 rs (op_told (op h rs) k) (told_rest f h.id (regions_ids rs) k) in
             λ i. here i && b || inner i
 

@@ -37,21 +37,17 @@ use Rattle.ir_tree_laws.proofs.Values.{seen_by}
 use Rattle.ir_tree_laws.proofs.Changed.{spot_left}
 use Rattle.ir_tree_laws.proofs.Edited.{around_stays}
 use Rattle.ir_tree_laws.proofs.Undone.{shifted_back}
-
-pub got_below : {X : Type 0} (xs : List X) (k : ℕ) (x : X) → slice_get xs k ≡ Some x → k < length xs
-got_below [] k x e = absurd cc
-got_below (y ∷ ys) zero x e = omega arith
-got_below (y ∷ ys) (suc k) x e = let n = got_below ys k x e in omega (arith, n)
+use Rattle.std.proofs.lemmas.Option.{slice_get_within}
 
 got_in : {X : Type 0} (xs : List X) (k : ℕ) (x : X) → slice_get xs k ≡ Some x → In x xs
 got_in [] k x e = absurd cc
 got_in (y ∷ ys) zero x e = (let same : y ≡ x = cc in inl (sym same))
 got_in (y ∷ ys) (suc k) x e = inr (got_in ys k x e)
 
-passed : (b : Bool) (r : Refusal) (rest : Option Refusal) → b ≡ true → rest ≡ None → unless b r rest ≡ None
+pub passed : (b : Bool) (r : Refusal) (rest : Option Refusal) → b ≡ true → rest ≡ None → unless b r rest ≡ None
 passed b r rest e f = ap (λ c. unless c r rest) e ∙ f
 
-same_tables : (a b : Option (Option ℕ)) → a ≡ b → same_table a b ≡ true
+pub same_tables : (a b : Option (Option ℕ)) → a ≡ b → same_table a b ≡ true
 same_tables a b e = ap (same_table a) (sym e) ∙ go a
   where
     inside : (a : Option ℕ) → option_eq eqb a a ≡ true
@@ -84,7 +80,7 @@ module _ {N T A : Type 0} where
       let there : sees isolated z.0.path old ≡ true = sym (visible_there isolated n.tree u.distinct z.0 z.1 old) ∙ ap (λ y. visible isolated n.tree y old) z.2 ∙ sees_it in
       let value = (seen_by isolated n.tree u.distinct z.0 z.1 old there).is in
       ap (operand_reason k (value_reason isolated x old n.tree)) b.1
-      ∙ ap (λ e. cond e (value_reason isolated x old n.tree) (Some NoSuchIndex)) (lt-ltb k (length (head b.0).operands) (got_below (head b.0).operands k new b.2))
+      ∙ ap (λ e. cond e (value_reason isolated x old n.tree) (Some NoSuchIndex)) (lt-ltb k (length (head b.0).operands) (slice_get_within (head b.0).operands k new b.2))
       ∙ ap (λ e. cond e (cond (visible isolated n.tree x old) None (Some NotVisible)) (Some NoSuchValue)) value
       ∙ ap (λ e. cond e None (Some NotVisible)) sees_it
 

@@ -11,6 +11,7 @@ use Rattle.ir_tree_laws.specs.Stands.{StepOf, StandOf, stand_id, stand_of, stand
 use Rattle.ir_tree_laws.specs.Members.{In}
 use Rattle.ir_tree_laws.proofs.Readings.{stands_sites, stands_every}
 use Rattle.ir_tree_laws.proofs.Members.{stand, has_around, tested, member}
+use Rattle.ir_tree.proofs.SeenSites.{in_scope_inside}
 
 any_mapped : {X Y : Type 0} (p : Y → Bool) (f : X → Y) (xs : List X) → list_any p (map f xs) ≡ list_any (λ x. p (f x)) xs
 any_mapped p f [] = refl
@@ -35,8 +36,6 @@ turn false false true = refl
 turn false false false = refl
 
 module _ {N T A : Type 0} (isolated : N → Bool) where
-  in_scope_inside : (h : HeadOf N T A) (s : List Frame) (v : Value) → in_scope (inside isolated h s) v ≡ (not (isolated h.name) && in_scope s v)
-  in_scope_inside h s v = elim (isolated h.name) as (λ b. in_scope (cond b [] s) v ≡ (not b && in_scope s v)) [ true ↦ refl | false ↦ refl ]
 
   pub sees_scope : (path : List (StepOf N T A)) (v : Value) → in_scope (scope_of isolated path) v ≡ sees isolated path v
   sees_scope [] v = refl
@@ -47,7 +46,7 @@ module _ {N T A : Type 0} (isolated : N → Bool) where
       list_any-append (shows v) (i ++ b ∷ []) (map results_of a.front)
       ∙ (λ j. list_any-append (shows v) i (b ∷ []) j || any_mapped (shows v) results_of a.front j)
       ∙ turn (in_scope i v) (shows v b) (list_any (λ o. shows v (results_of o)) a.front)
-      ∙ λ j. list_any (λ o. shows v (results_of o)) a.front || (shows v b || (in_scope_inside h (scope_of isolated path) v ∙ ap (λ c. not (isolated h.name) && c) (sees_scope path v)) j)
+      ∙ λ j. list_any (λ o. shows v (results_of o)) a.front || (shows v b || ((in_scope_inside isolated) h (scope_of isolated path) v ∙ ap (λ c. not (isolated h.name) && c) (sees_scope path v)) j)
 
   -- whether an operation x of a tree sees v, and whether each sees its operands
   pub stands_visible : (t : OpOf N T A) (x : ℕ) (v : Value) → visible isolated t x v ≡ list_any (λ (s : StandOf N T A). eqb (stand_id s) x && sees isolated s.path v) (stands [] t)

@@ -25,8 +25,8 @@ use Rattle.ir_tree_laws.proofs.Sees.{visible_there, operands_visible_each}
 use Rattle.ir_tree_laws.proofs.Edited.{head_stays, sight_stays}
 use Rattle.ir_tree_laws.proofs.HeadForm.{used_here, in_gather}
 use Rattle.ir_tree_laws.proofs.Values.{seen_by}
-use Rattle.ir_tree_laws.proofs.Reverted.{got_below}
 use Rattle.ir_tree_laws.proofs.Shift as shift
+use Rattle.std.proofs.lemmas.Option.{slice_get_within}
 
 of_gather : {X Y : Type 0} (f : X → List Y) (y : Y) (xs : List X) → In y (gather f xs) → (x : X) × In x xs × In y (f x)
 of_gather f y [] h = absurd h
@@ -35,7 +35,7 @@ of_gather f y (x ∷ xs) h = elim (in_parts y (f x) (gather f xs) h) [
   | inr k ↦ let w = of_gather f y xs k in (w.0, inr w.1, w.2)
 ]
 
-of_uses : (v : Value) (x k : ℕ) (ws : List Value) (u : ℕ × ℕ) → In u (operand_uses v x k ws) → (u.0 ≡ x) × In v ws
+pub of_uses : (v : Value) (x k : ℕ) (ws : List Value) (u : ℕ × ℕ) → In u (operand_uses v x k ws) → (u.0 ≡ x) × In v ws
 of_uses v x k [] u h = absurd h
 of_uses v x k (w ∷ ws) u h = go (same_value v w) refl h (of_uses v x (k + 1) ws u)
   where
@@ -178,7 +178,7 @@ module _ {N T A : Type 0} (isolated : N → Bool) where
             where
               go : (f : Option T) → slice_get (head o).results k ≡ f → is_some f ≡ true → k < length (head o).results
               go None e h = absurd (true≢false (sym h))
-              go (Some y) e h = got_below (head o).results k y e
+              go (Some y) e h = slice_get_within (head o).results k y e
 
       -- an argument of it is not
       argument_unseen : (s : StandOf N T A) → In s (stands [] t) → is_gone x s ≡ false → (r k : ℕ) → In (Arg x r k) (head s.here).operands → ⊥

@@ -28,7 +28,7 @@ module _ {N T A : Type 0} where
   abbrev pub ShapeOf : StandOf N T A → Type 0
   ShapeOf s = (a : StepOf N T A) × (q : List (StepOf N T A)) × (s.path ≡ a ∷ q) × (region_at a.region (regions a.parent) ≡ Some (block a.args (joined_ops a.front (next s.here a.rest))))
 
-  joined_more : (front : List (OpOf N T A)) (o : OpOf N T A) (os : OpsOf N T A) → joined_ops (front ++ o ∷ []) os ≡ joined_ops front (next o os)
+  pub joined_more : (front : List (OpOf N T A)) (o : OpOf N T A) (os : OpsOf N T A) → joined_ops (front ++ o ∷ []) os ≡ joined_ops front (next o os)
   joined_more [] o os = refl
   joined_more (f ∷ fs) o os = ap (next f) (joined_more fs o os)
 

@@ -8,7 +8,7 @@ use Rattle.std.specs.declared.cmp.Ordering.TheVariants.{Less, Equal, Greater}
 use Rattle.std.specs.Str.{bytes_eq}
 use Rattle.std.proofs.Common.{◌≡◌, suc, ◌<◌, ◌≤◌, Bool, true, false, true≢false, [], ◌∷◌, ◌++◌, map, length, get_or, slice_get, Option, Some, None, sym, ap, subst, refl, ◌∙◌, ⊎_elim, leb-true, le-leb, arith}
 use Rattle.std.proofs.lemmas.List.Elements.{recursion_from_All}
-use Rattle.std.proofs.lemmas.Bool.{leb-false}
+use Rattle.std.proofs.lemmas.Bool.{leb-false, cases_Bool}
 use Rattle.std.proofs.lemmas.Option.{slice_get_within}
 use Rattle.ir_types_items.specs.Interned.{with_last, AreApart}
 use Rattle.ir_types.specs.declared.node.TypeNode.{TypeNode}
@@ -24,7 +24,7 @@ use Rattle.ir_types.specs.Interning.{with_name, with_type, with_attr}
 use Rattle.ir_types.specs.Reasons.{first_reason, full_reason, name_reason, type_fault, type_reason, attr_fault, count_reason, key_reason, attr_reason}
 use Rattle.ir_types.specs.Sound.{Holds, IsSound, IsRising, IsKept}
 use Rattle.ir_types.proofs.SameNodes.{same_type_is, same_type_refl, same_attr_is, same_attr_refl}
-use Rattle.ir_types.proofs.Placing.{truth, with_last-cases, length-with_last, known_found}
+use Rattle.ir_types.proofs.Placing.{with_last-cases, length-with_last, known_found}
 use Rattle.ir_types.proofs.Growth.{name_is, name_refl, name_names, type_types, attr_attrs}
 use Rattle.ir_types.proofs.Terms.{type_term_is, attr_term_is}
 use Rattle.ir_types.proofs.Sorting.{Rise, distinct_keys, no_twins, rise_distinct, apart_from, sorted_rises, sorted_moved, rising_pairs}
@@ -33,7 +33,7 @@ use Rattle.ir_types.proofs.Holding.{sound_name, sound_type, sound_attr}
 use Rattle.ir_types.specs.Limits.{most_things, most_entries}
 
 -- two reasons of which neither stands
-neither : (a b : Option Refusal) → first_reason a b ≡ None → (a ≡ None) × (b ≡ None)
+pub neither : (a b : Option Refusal) → first_reason a b ≡ None → (a ≡ None) × (b ≡ None)
 neither None b e = (refl, e)
 neither (Some r) b e = absurd cc
 
@@ -49,7 +49,7 @@ room is x xs few e = ⊎_elim
     ⊎_elim
     (λ (k : nat_le most_things (length xs) ≡ true). absurd (let z : Some TooMany ≡ None = rw (h.0, k) at e in cc))
     (λ (k : nat_le most_things (length xs) ≡ false). let less = leb-false most_things (length xs) k in omega (arith, l.1))
-    (truth (nat_le most_things (length xs))))
+    (cases_Bool (nat_le most_things (length xs))))
     (with_last-cases is x xs)
 
 -- a thing that is there needs none
@@ -61,7 +61,7 @@ few_entries : (n : ℕ) → (if nat_le n most_entries then None else Some TooMan
 few_entries n e = ⊎_elim
     (λ (k : nat_le n most_entries ≡ true). leb-true n most_entries k)
     (λ (k : nat_le n most_entries ≡ false). absurd (let z : Some TooMany ≡ None = rw k at e in cc))
-    (truth (nat_le n most_entries))
+    (cases_Bool (nat_le n most_entries))
 
 each_once : (b : Bool) → (if b then Some DuplicateKey else None) ≡ None → b ≡ false
 each_once true e = absurd cc
@@ -107,7 +107,7 @@ accepted_attr node c s of_c fine =
     sound_attr node c s of_c r.0 (kept_in_order c node s.names_apart of_c q.0 p.1) (subst (λ l. length l ≤ most_things) (sym (attr_attrs node c)) few)
 
 -- entries that rise have no key twice
-less_from : (o : Ordering) → is_lt o ≡ true → o ≡ Less
+pub less_from : (o : Ordering) → is_lt o ≡ true → o ≡ Less
 less_from Less h = refl
 less_from Equal h = absurd (true≢false (sym h))
 less_from Greater h = absurd (true≢false (sym h))

@@ -9,10 +9,7 @@ use Rattle.ir_types.specs.Words.{words}
 use Rattle.ir_types.specs.Held.{things_of, IsKeptWithDepths}
 use Rattle.ir_types.proofs.Calls.{names_inserted}
 use Rattle.ir_types.proofs.WordNumbers.{next_word, first_words, word_count}
-
-nothing : {A : Type 0} (i : ℕ) (x : A) → slice_get [] i ≡ Some x → ⊥
-nothing zero x e = cc
-nothing (suc i) x e = cc
+use Rattle.ir_types.proofs.Building.{nothing_at}
 
 -- one word more
 pub one_more_word : {V : Type 0} (f : V → List ℕ) (i : ℕ) (word : List ℕ) (ks new : List V) (key : V) → map f ks ≡ take i words → slice_get words i ≡ Some word → f key ≡ word → new ≡ cond (list_any (λ v. bytes_eq (f key) (f v)) ks) ks (ks ++ key ∷ []) → map f new ≡ take (i + 1) words
@@ -30,11 +27,11 @@ begun_with names types attrs i e all none_t none_a =
         few_types = omega arith;
         few_attrs = omega arith;
         words_first = w.1;
-        types_refer = λ n node at. absurd (nothing n node at);
-        attrs_refer = λ n node at. absurd (nothing n node at);
+        types_refer = λ n node at. absurd (nothing_at n node at);
+        attrs_refer = λ n node at. absurd (nothing_at n node at);
         types_fine = λ n h. absurd (omega arith);
         attrs_fine = λ n h. absurd (omega arith);
-        attrs_kept = λ n node at. absurd (nothing n node at);
+        attrs_kept = λ n node at. absurd (nothing_at n node at);
       };
       type_depths = refl;
       attr_depths = refl;

@@ -4,7 +4,7 @@ use Rattle.std.specs.List.{position_or_len}
 use Rattle.std.specs.Str.{bytes_eq}
 use Rattle.std.proofs.Common.{◌≡◌, [], ◌∷◌, ◌++◌, length, get_or, slice_get, Some, sym, ap, subst, ◌∙◌, ⊎_elim, arith}
 use Rattle.std.proofs.Math.Seq.{get_or-append_seam}
-use Rattle.std.proofs.lemmas.Option.{get_or_from_slice_get, slice_get_within}
+use Rattle.std.proofs.lemmas.Option.{get_or_from_slice_get, slice_get_within, same_Some}
 use Rattle.ir_types_items.specs.Built.{built}
 use Rattle.ir_types_items.specs.Interned.{with_last}
 use Rattle.ir_types_items.proofs.Placed.{Found, Lacks, where_is, with_last-found, with_last-absent}
@@ -100,9 +100,6 @@ known_attr c n node s at =
 pub place_in : {A : Type 0} (xs ys : List A) (i : ℕ) (x : A) → IsFront xs ys → slice_get xs i ≡ Some x → slice_get ys i ≡ Some x
 place_in xs ys i x f at = ap (λ l. slice_get l i) f.1 ∙ place_stays xs f.0 i x at
 
-some_one : {A : Type 0} (x y : A) → Some x ≡ Some y → x ≡ y
-some_one x y e = cc
-
 -- two calls, whichever comes first, answer one number exactly where the things are one
 pub same_names : (c d e : Things) (a b : List ℕ) → IsSound e → Grows (with_name a c).1 e → Grows (with_name b d).1 e → ((with_name a c).0 ≡ (with_name b d).0) ↔ (a ≡ b)
 same_names c d e a b s g h =
@@ -110,7 +107,7 @@ same_names c d e a b s g h =
     let n = (with_name b d).0 in
     let first : slice_get e.names m ≡ Some a = place_in ((with_name a c).1).names e.names m a g.names (name_stands a c) in
     let second : slice_get e.names n ≡ Some b = place_in ((with_name b d).1).names e.names n b h.names (name_stands b d) in
-    (λ p. some_one a b (sym first ∙ ap (slice_get e.names) p ∙ second), λ p. s.names_apart m n b (first ∙ ap Some p) second)
+    (λ p. same_Some a b (sym first ∙ ap (slice_get e.names) p ∙ second), λ p. s.names_apart m n b (first ∙ ap Some p) second)
 
 pub same_types : (c d e : Things) (a b : TypeNode) → IsSound e → Grows (with_type a c).1 e → Grows (with_type b d).1 e → ((with_type a c).0 ≡ (with_type b d).0) ↔ (a ≡ b)
 same_types c d e a b s g h =
@@ -118,7 +115,7 @@ same_types c d e a b s g h =
     let n = (with_type b d).0 in
     let first : slice_get e.types m ≡ Some a = place_in ((with_type a c).1).types e.types m a g.types (type_stands a c) in
     let second : slice_get e.types n ≡ Some b = place_in ((with_type b d).1).types e.types n b h.types (type_stands b d) in
-    (λ p. some_one a b (sym first ∙ ap (slice_get e.types) p ∙ second), λ p. s.types_apart m n b (first ∙ ap Some p) second)
+    (λ p. same_Some a b (sym first ∙ ap (slice_get e.types) p ∙ second), λ p. s.types_apart m n b (first ∙ ap Some p) second)
 
 pub same_attrs : (c d e : Things) (a b : AttrNode) → IsSound e → Grows (with_attr a c).1 e → Grows (with_attr b d).1 e → ((with_attr a c).0 ≡ (with_attr b d).0) ↔ (kept c.names a ≡ kept d.names b)
 same_attrs c d e a b s g h =
@@ -128,7 +125,7 @@ same_attrs c d e a b s g h =
     let l = kept d.names b in
     let first : slice_get e.attrs m ≡ Some k = place_in ((with_attr a c).1).attrs e.attrs m k g.attrs (attr_stands a c) in
     let second : slice_get e.attrs n ≡ Some l = place_in ((with_attr b d).1).attrs e.attrs n l h.attrs (attr_stands b d) in
-    (λ p. some_one k l (sym first ∙ ap (slice_get e.attrs) p ∙ second), λ p. s.attrs_apart m n l (first ∙ ap Some p) second)
+    (λ p. same_Some k l (sym first ∙ ap (slice_get e.attrs) p ∙ second), λ p. s.attrs_apart m n l (first ∙ ap Some p) second)
 
 -- and exactly where they mean one thing, part by part
 pub same_type_terms : (c d e : Things) (a b : TypeNode) → IsSound e → TypeIsOf c a → TypeIsOf d b → Grows (with_type a c).1 e → Grows (with_type b d).1 e → ((with_type a c).0 ≡ (with_type b d).0) ↔ (type_node_term c a ≡ type_node_term d b)

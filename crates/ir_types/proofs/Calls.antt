@@ -25,6 +25,7 @@ use Rattle.ir_types.specs.Bits.{HasWidth}
 use Rattle.ir_types.specs.Sound.{Holds}
 use Rattle.ir_types.proofs.Terms.{type_term_is}
 use Rattle.ir_types.specs.Limits.{most_things, most_depth}
+use Rattle.ir_types.proofs.AcceptedCalls.{neither}
 
 -- when a list is full
 module _ {A : Type 0} (is : A → Bool) (xs : List A) where
@@ -78,11 +79,6 @@ fine_width known (type.Memref ds el) e = tt
 pub width_of_type : (c : Things) (n : ℕ) (node : TypeNode) → Holds c → slice_get c.types n ≡ Some node → HasWidth node
 width_of_type c n node h at = fine_width (type_terms c) node (ap type_fault (sym (type_term_is c n node h at)) ∙ h.types_fine n (slice_get_within c.types n node at))
 
--- no reason among two
-pub no_first : (a b : Option Refusal) → first_reason a b ≡ None → (a ≡ None) × (b ≡ None)
-no_first None b e = (refl, e)
-no_first (Some r) b e = absurd cc
-
 depth_within : (n : ℕ) → depth_reason n ≡ None → n ≤ most_depth
 depth_within n e = go (nat_le n most_depth) refl
   where
@@ -92,10 +88,10 @@ depth_within n e = go (nat_le n most_depth) refl
 
 -- how deep types and attributes are at most
 pub shallow_type : (c : Things) (n : ℕ) → Holds c → IsType c n → type_depth (type_term c n) ≤ most_depth
-shallow_type c n h at = depth_within (type_depth (type_term c n)) (no_first _ _ (h.types_fine n at)).1
+shallow_type c n h at = depth_within (type_depth (type_term c n)) (neither _ _ (h.types_fine n at)).1
 
 pub shallow_attr : (c : Things) (n : ℕ) → Holds c → IsAttr c n → attr_depth (attr_term c n) ≤ most_depth
-shallow_attr c n h at = depth_within (attr_depth (attr_term c n)) (no_first _ _ (h.attrs_fine n at)).1
+shallow_attr c n h at = depth_within (attr_depth (attr_term c n)) (neither _ _ (h.attrs_fine n at)).1
 
 -- a depth that is kept is that of its number
 pub mapped_at : {A : Type 0} (f : A → ℕ) (xs : List A) (other : A) (vs : List ℕ) (n d : ℕ) → vs ≡ map f xs → slice_get vs n ≡ Some d → d ≡ f (slice_index_or xs n other)

@@ -5,7 +5,7 @@ use Rattle.std.specs.Str.{bytes_eq}
 use Rattle.std.proofs.Common.{◌≡◌, ◌+◌, ◌<◌, ◌≤◌, true, false, [], ◌∷◌, ◌++◌, map, length, take, get_or, None, sym, ap, subst, refl, ◌∙◌, ⊎_elim, length-append, arith}
 use Rattle.std.proofs.Math.Seq.{get_or-append_seam}
 use Rattle.std.proofs.lemmas.List.{map-append, take-append-le, length-take}
-use Rattle.std.proofs.lemmas.Bool.{cases_lt}
+use Rattle.std.proofs.lemmas.Bool.{cases_lt, cases_Bool}
 use Rattle.ir_types_items.specs.Built.{built}
 use Rattle.ir_types_items.specs.Interned.{with_last}
 use Rattle.ir_types_items.proofs.Placed.{with_last-found, with_last-absent}
@@ -22,7 +22,7 @@ use Rattle.ir_types.specs.Words.{operations, keys, visibilities, words}
 use Rattle.ir_types.specs.Sound.{Holds, IsSound, IsKept}
 use Rattle.ir_types.proofs.Building.{push_cases}
 use Rattle.ir_types.proofs.SameNodes.{same_type_is, same_type_refl, same_attr_is, same_attr_refl}
-use Rattle.ir_types.proofs.Placing.{with_last-cases, truth, with_last_front, apart_with}
+use Rattle.ir_types.proofs.Placing.{with_last-cases, with_last_front, apart_with}
 use Rattle.ir_types.proofs.Growth.{front_refl, front_length, front_agree, name_is, name_refl, type_types}
 use Rattle.ir_types.proofs.Terms.{parts_below_more, type_terms_push, attr_terms_push, length-type_terms, length-attr_terms, type_stays, attr_stays, attr_terms_names, attr_terms_types}
 use Rattle.ir_types.proofs.KeptOrder.{kept_of, kept_fault, kept_depth_from, kept_stays}
@@ -165,7 +165,7 @@ pub type_depths_with : (node : TypeNode) (c : Things) → map type_depth (type_t
 type_depths_with node c = ⊎_elim
     (λ (h : list_any (same_type node) c.types ≡ true). rw h (type_depths_found node c h))
     (λ (h : list_any (same_type node) c.types ≡ false). rw h (type_depths_absent node c h))
-    (truth (list_any (same_type node) c.types))
+    (cases_Bool (list_any (same_type node) c.types))
 
 -- and those of attributes: a dictionary is as deep sorted
 pub kept_depth : (c : Things) (node : AttrNode) → attr_depth (attr_node_term c (kept c.names node)) ≡ attr_depth (attr_node_term c node)
@@ -189,7 +189,7 @@ pub attr_depths_with : (node : AttrNode) (c : Things) → map attr_depth (attr_t
 attr_depths_with node c = ⊎_elim
     (λ (h : list_any (same_attr (kept c.names node)) c.attrs ≡ true). rw h (attr_depths_found node c h))
     (λ (h : list_any (same_attr (kept c.names node)) c.attrs ≡ false). rw h (attr_depths_absent node c h))
-    (truth (list_any (same_attr (kept c.names node)) c.attrs))
+    (cases_Bool (list_any (same_attr (kept c.names node)) c.attrs))
 
 -- other calls leave them
 pub attr_depths_names : (bytes : List ℕ) (c : Things) → Holds c → map attr_depth (attr_terms (with_name bytes c).1) ≡ map attr_depth (attr_terms c)

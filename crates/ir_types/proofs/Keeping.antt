@@ -5,7 +5,7 @@ use Rattle.std.specs.List.{position_or_len}
 use Rattle.std.specs.Str.{bytes_eq}
 use Rattle.std.proofs.lemmas.List.{map-append}
 use Rattle.ir_types_items.specs.Interned.{with_last}
-use Rattle.ir_types_items.proofs.Placed.{length-keys, keys-push}
+use Rattle.ir_types_items.proofs.Placed.{keys-push}
 use Rattle.ir_types.specs.declared.node.TypeNode.{TypeNode}
 use Rattle.ir_types.specs.declared.node.AttrNode.{AttrNode}
 use Rattle.ir_types.specs.Things.{Things, TypeIsOf, AttrIsOf}
@@ -19,6 +19,7 @@ use Rattle.ir_types.specs.Sound.{Holds, IsKept}
 use Rattle.ir_types.specs.Held.{things_of, IsKeptWithDepths}
 use Rattle.ir_types.proofs.Holding.{holds_name, holds_type, holds_attr, type_depths_push, attr_depths_push, kept_depth, attr_depths_names, attr_depths_types}
 use Rattle.ir_types.specs.Limits.{most_things}
+use Rattle.std.proofs.lemmas.Map.Entries.{length-keys_of}
 
 abbrev Types : Type 0
 Types = List (TypeNode × ℕ)
@@ -57,7 +58,7 @@ kept_with_type names types more attrs node depth h e made few of fine deep =
     let c = things_of names types attrs in
     let same : things_of names more attrs ≡ (with_type node c).1 = typed_things names types more attrs node e in
     record {
-      holds = subst Holds (sym same) (holds_type node c h.holds of fine (subst (λ (d : Things). length d.types ≤ most_things) same (subst (λ n. n ≤ most_things) (sym (length-keys more)) few)));
+      holds = subst Holds (sym same) (holds_type node c h.holds of fine (subst (λ (d : Things). length d.types ≤ most_things) same (subst (λ n. n ≤ most_things) (sym (length-keys_of more)) few)));
       type_depths = ⊎_elim
           (λ (p : more ≡ types). subst (λ es. values_of es ≡ map type_depth (type_terms (things_of names es attrs))) (sym p) h.type_depths)
           (λ (p : more ≡ types ++ (node, depth) ∷ []).
@@ -73,7 +74,7 @@ kept_with_attr names types attrs more node depth h e made few of fine sorted dee
     let c = things_of names types attrs in
     let same : things_of names types more ≡ (with_attr node c).1 = attributed_things names types attrs more node e in
     record {
-      holds = subst Holds (sym same) (holds_attr node c h.holds of fine sorted (subst (λ (d : Things). length d.attrs ≤ most_things) same (subst (λ n. n ≤ most_things) (sym (length-keys more)) few)));
+      holds = subst Holds (sym same) (holds_attr node c h.holds of fine sorted (subst (λ (d : Things). length d.attrs ≤ most_things) same (subst (λ n. n ≤ most_things) (sym (length-keys_of more)) few)));
       type_depths = h.type_depths;
       attr_depths = ⊎_elim
           (λ (p : more ≡ attrs). subst (λ es. values_of es ≡ map attr_depth (attr_terms (things_of names types es))) (sym p) h.attr_depths)

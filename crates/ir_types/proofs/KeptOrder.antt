@@ -14,7 +14,7 @@ use Rattle.ir_types.specs.Reasons.{attr_fault, depth_reason}
 use Rattle.ir_types.specs.Dictionaries.{key_bytes, comes_before, placed_among, sorted, kept}
 use Rattle.ir_types.specs.Sound.{Holds, IsRising, IsKept}
 use Rattle.ir_types.proofs.Building.{Agree}
-use Rattle.ir_types.proofs.Placing.{truth}
+use Rattle.std.proofs.lemmas.Bool.{cases_Bool}
 
 -- what is true of each entry stays so
 module _ (names : List (List ℕ)) (P : ℕ × ℕ → Type 0) where
@@ -23,7 +23,7 @@ module _ (names : List (List ℕ)) (P : ℕ × ℕ → Type 0) where
   placed_all e (f ∷ fs) p all = ⊎_elim
       (λ (t : comes_before names e f ≡ true). rw t (p, all))
       (λ (t : comes_before names e f ≡ false). rw t (all.0, placed_all e fs p all.1))
-      (truth (comes_before names e f))
+      (cases_Bool (comes_before names e f))
 
   pub sorted_all : (es : List (ℕ × ℕ)) → AllByRecursion P es → AllByRecursion P (sorted names es)
   sorted_all [] all = tt
@@ -35,7 +35,7 @@ length-placed names e [] = refl
 length-placed names e (f ∷ fs) = ⊎_elim
     (λ (t : comes_before names e f ≡ true). rw t (omega arith))
     (λ (t : comes_before names e f ≡ false). rw t (omega (arith, length-placed names e fs)))
-    (truth (comes_before names e f))
+    (cases_Bool (comes_before names e f))
 
 pub length-sorted : (names : List (List ℕ)) (es : List (ℕ × ℕ)) → length (sorted names es) ≡ length es
 length-sorted names [] = refl
@@ -47,7 +47,7 @@ deepest_placed keys names known e [] = refl
 deepest_placed keys names known e (f ∷ fs) = ⊎_elim
     (λ (t : comes_before keys e f ≡ true). rw t refl)
     (λ (t : comes_before keys e f ≡ false). rw t (ap (max (attr_depth (attr_at known f.1))) (deepest_placed keys names known e fs) ∙ swapped (attr_depth (attr_at known f.1)) (attr_depth (attr_at known e.1)) (entries_depth (entries_at names known fs))))
-    (truth (comes_before keys e f))
+    (cases_Bool (comes_before keys e f))
   where
     swapped : (a b c : ℕ) → max a (max b c) ≡ max b (max a c)
     swapped a b c = omega arith

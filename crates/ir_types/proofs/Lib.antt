@@ -1,3 +1,4 @@
+pub mod Truths
 pub mod Apart
 pub mod Sorting
 pub mod SameNodes

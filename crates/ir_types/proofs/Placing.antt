@@ -6,16 +6,12 @@ use Rattle.ir_types_items.specs.Interned.{with_last, AreApart}
 use Rattle.ir_types_items.proofs.Placed.{Found, Lacks, where_is, with_last-found, with_last-absent}
 use Rattle.ir_types.specs.Things.{IsFront}
 use Rattle.ir_types.proofs.Building.{push_cases, nothing_at, last_place}
-
--- a truth value is one or the other
-pub truth : (t : Bool) → (t ≡ true) ⊎ (t ≡ false)
-truth true = inl refl
-truth false = inr refl
+use Rattle.std.proofs.lemmas.Bool.{cases_Bool}
 
 module _ {A : Type 0} (p : A → Bool) (x : A) where
   -- the list stays, or has the thing last
   pub with_last-cases : (xs : List A) → ((list_any p xs ≡ true) × (with_last p x xs ≡ xs)) ⊎ ((list_any p xs ≡ false) × (with_last p x xs ≡ xs ++ x ∷ []))
-  with_last-cases xs = ⊎_elim (λ h. inl (h, with_last-found p x xs h)) (λ h. inr (h, with_last-absent p x xs h)) (truth (list_any p xs))
+  with_last-cases xs = ⊎_elim (λ h. inl (h, with_last-found p x xs h)) (λ h. inr (h, with_last-absent p x xs h)) (cases_Bool (list_any p xs))
 
   pub with_last_front : (xs : List A) → IsFront xs (with_last p x xs)
   with_last_front xs = ⊎_elim
@@ -40,7 +36,7 @@ module _ {A : Type 0} (same : A → A → Bool) (is : (x y : A) → same x y ≡
       let later : list_any (same x) ys ≡ true = rw e at h in
       let next : 1 + position_or_len (same x) ys ≡ suc (position_or_len (same x) ys) = omega arith in
       rw e (rw next (found_there x ys later)))
-      (truth (same x y))
+      (cases_Bool (same x y))
 
   pub stands : (x : A) (xs : List A) → slice_get (with_last (same x) x xs) (position_or_len (same x) xs) ≡ Some x
   stands x xs = ⊎_elim
@@ -59,7 +55,7 @@ module _ {A : Type 0} (same : A → A → Bool) (is : (x y : A) → same x y ≡
     known_found x (y ∷ ys) (suc n) at = ⊎_elim
         (λ (e : same x y ≡ true). rw e refl)
         (λ (e : same x y ≡ false). rw e (known_found x ys n at))
-        (truth (same x y))
+        (cases_Bool (same x y))
 
     -- so the list stays
     pub known_stays : (x : A) (xs : List A) (n : ℕ) → slice_get xs n ≡ Some x → with_last (same x) x xs ≡ xs

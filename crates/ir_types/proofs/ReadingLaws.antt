@@ -28,10 +28,10 @@ signed_pos w n h = grind (arith, nat_tests)
 signed_neg : (w n : ℕ) → suc n ≤ 2 ^ (w - 1) → is_signed_number w (negsuc n) ≡ true
 signed_neg w n h = grind (arith, nat_tests)
 
-pos_signed : (w n : ℕ) → is_signed_number w (pos n) ≡ true → n < 2 ^ (w - 1)
+pub pos_signed : (w n : ℕ) → is_signed_number w (pos n) ≡ true → n < 2 ^ (w - 1)
 pos_signed w n h = grind (arith, nat_tests)
 
-neg_signed : (w n : ℕ) → is_signed_number w (negsuc n) ≡ true → suc n ≤ 2 ^ (w - 1)
+pub neg_signed : (w n : ℕ) → is_signed_number w (negsuc n) ≡ true → suc n ≤ 2 ^ (w - 1)
 neg_signed w n h = grind (arith, nat_tests)
 
 -- the signed reading is a signed number of w bits
@@ -69,15 +69,12 @@ pub unsigned_back : (w v : ℕ) → v < 2 ^ w → wrapped w (pos v) ≡ v
 unfolding wrapped
 unsigned_back w v h = mod-eq_of_lt h
 
-pub below_from : (v n : ℕ) → nat_lt v n ≡ true → v < n
-below_from v n h = ltb-true v n h
-
 -- the same of a type
 pub type_bits_back : (ty : TypeTerm) (bits : ℕ) → 1 ≤ type_width ty → is_bits_of ty bits ≡ true → wrapped (type_width ty) (reading_of ty bits) ≡ bits
-type_bits_back (Integer Signless w) bits some h = bits_back w bits some (below_from bits (2 ^ w) h)
-type_bits_back (Integer Signed w) bits some h = bits_back w bits some (below_from bits (2 ^ w) h)
-type_bits_back (Integer Unsigned w) bits some h = unsigned_back w bits (below_from bits (2 ^ w) h)
-type_bits_back Index bits some h = bits_back index_width bits some (below_from bits (2 ^ index_width) h)
+type_bits_back (Integer Signless w) bits some h = bits_back w bits some (ltb-true bits (2 ^ w) h)
+type_bits_back (Integer Signed w) bits some h = bits_back w bits some (ltb-true bits (2 ^ w) h)
+type_bits_back (Integer Unsigned w) bits some h = unsigned_back w bits (ltb-true bits (2 ^ w) h)
+type_bits_back Index bits some h = bits_back index_width bits some (ltb-true bits (2 ^ index_width) h)
 type_bits_back (Function inputs outputs) bits some h = absurd (cc h)
 type_bits_back (Memref dims elem) bits some h = absurd (cc h)
 
@@ -85,7 +82,7 @@ not_below_zero : (n : ℕ) → int_lt (pos n) (pos 0) ≡ false
 not_below_zero n = grind (arith, nat_tests)
 
 unsigned_number : (w : ℕ) (number : ℤ) → is_unsigned w (int_lt number (pos 0)) (unsigned_abs number) ≡ true → pos (wrapped w number) ≡ number
-unsigned_number w (pos n) h = let k : nat_lt n (2 ^ w) ≡ true = rw (not_below_zero n) at h in ap pos (unsigned_back w n (below_from n (2 ^ w) k))
+unsigned_number w (pos n) h = let k : nat_lt n (2 ^ w) ≡ true = rw (not_below_zero n) at h in ap pos (unsigned_back w n (ltb-true n (2 ^ w) k))
 unsigned_number w (negsuc n) h = let e : suc n ≡ 0 = (Decides-eqb (suc n) 0).0 h in absurd (omega arith)
 
 pub type_number_back : (ty : TypeTerm) (number : ℤ) → 1 ≤ type_width ty → is_value_number ty number ≡ true → reading_of ty (wrapped (type_width ty) number) ≡ number
@@ -97,17 +94,17 @@ type_number_back (Function inputs outputs) number some h = absurd (cc h)
 type_number_back (Memref dims elem) number some h = absurd (cc h)
 
 pub type_number_fits : (ty : TypeTerm) (bits : ℕ) → 1 ≤ type_width ty → is_bits_of ty bits ≡ true → is_value_number ty (reading_of ty bits) ≡ true
-type_number_fits (Integer Signless w) bits some h = signed_fits w bits some (below_from bits (2 ^ w) h)
-type_number_fits (Integer Signed w) bits some h = signed_fits w bits some (below_from bits (2 ^ w) h)
+type_number_fits (Integer Signless w) bits some h = signed_fits w bits some (ltb-true bits (2 ^ w) h)
+type_number_fits (Integer Signed w) bits some h = signed_fits w bits some (ltb-true bits (2 ^ w) h)
 type_number_fits (Integer Unsigned w) bits some h = rw (not_below_zero bits) h
-type_number_fits Index bits some h = signed_fits index_width bits some (below_from bits (2 ^ index_width) h)
+type_number_fits Index bits some h = signed_fits index_width bits some (ltb-true bits (2 ^ index_width) h)
 type_number_fits (Function inputs outputs) bits some h = absurd (cc h)
 type_number_fits (Memref dims elem) bits some h = absurd (cc h)
 
 -- what is printed is a literal
 signless_literal : (w : ℕ) (negative : Bool) (m : ℕ) → 1 ≤ w → is_signed w negative m ≡ true → is_literal (Integer Signless w) negative m ≡ true
 signless_literal w true m some h = h
-signless_literal w false m some h = let two = halves w some in let l = below_from m (2 ^ (w - 1)) h in lt-ltb m (2 ^ w) (omega arith)
+signless_literal w false m some h = let two = halves w some in let l = ltb-true m (2 ^ (w - 1)) h in lt-ltb m (2 ^ w) (omega arith)
 
 pub value_is_literal : (ty : TypeTerm) (negative : Bool) (m : ℕ) → 1 ≤ type_width ty → is_value ty negative m ≡ true → is_literal ty negative m ≡ true
 value_is_literal (Integer Signless w) negative m some h = signless_literal w negative m some h
@@ -135,11 +132,11 @@ literal_small sign w negative m some h = by sign negative h
 
     by : (sign : Sign) (negative : Bool) → is_literal (Integer sign w) negative m ≡ true → m < 2 ^ w
     by Signless true h = omega (arith, two, pow_pos (w - 1), leb-true m (2 ^ (w - 1)) h)
-    by Signless false h = below_from m (2 ^ w) h
+    by Signless false h = ltb-true m (2 ^ w) h
     by Signed true h = omega (arith, two, pow_pos (w - 1), leb-true m (2 ^ (w - 1)) h)
-    by Signed false h = omega (arith, two, below_from m (2 ^ (w - 1)) h)
+    by Signed false h = omega (arith, two, ltb-true m (2 ^ (w - 1)) h)
     by Unsigned true h = let e : m ≡ 0 = (Decides-eqb m 0).0 h in rw e (pow_pos w)
-    by Unsigned false h = below_from m (2 ^ w) h
+    by Unsigned false h = ltb-true m (2 ^ w) h
 
 -- a literal's bits are those of its type
 is_below : (w : ℕ) (number : ℤ) (bits : ℕ) → Some (wrapped w number) ≡ Some bits → nat_lt bits (2 ^ w) ≡ true

@@ -17,6 +17,7 @@ use Rattle.ir_types.specs.contracts.node.Sign.{the_type}
 use Rattle.ir_types.specs.contracts.node.TypeNodePartialEq.TheImpl as type_node_eq
 use Rattle.ir_types.specs.contracts.node.AttrNodePartialEq.TheImpl as attr_node_eq
 use Rattle.ir_types.specs.Same.{same_sign, same_entry, same_type, same_attr}
+use Rattle.std.proofs.lemmas.Bool.{and_from}
 
 -- a test that holds of one value alone, and of a value and itself
 abbrev pub IsExact : {A : Type 0} → (A → A → Bool) → Type 0
@@ -24,9 +25,6 @@ IsExact {A} same = (x y : A) → same x y ≡ true → x ≡ y
 
 abbrev pub IsReflexive : {A : Type 0} → (A → A → Bool) → Type 0
 IsReflexive {A} same = (x : A) → same x x ≡ true
-
-both : (a b : Bool) → a ≡ true → b ≡ true → (a && b) ≡ true
-both a b h k = cc
 
 -- numbers, integers and truth values
 pub number_is : IsExact ◌==◌
@@ -63,7 +61,7 @@ entry_is : IsExact same_entry
 entry_is x y h = λ i. (number_is x.0 y.0 (first_so (x.0 == y.0) (x.1 == y.1) h) i, number_is x.1 y.1 (second_so (x.0 == y.0) (x.1 == y.1) h) i)
 
 entry_refl : IsReflexive same_entry
-entry_refl x = both (x.0 == x.0) (x.1 == x.1) (number_refl x.0) (number_refl x.1)
+entry_refl x = and_from (x.0 == x.0) (x.1 == x.1) (number_refl x.0) (number_refl x.1)
 
 pub list_is : {A : Type 0} {same : A → A → Bool} → IsExact same → IsExact (pointwise same)
 list_is is [] [] h = refl
@@ -73,7 +71,7 @@ list_is {A} {same} is (x ∷ xs) (y ∷ ys) h = λ i. is x y (first_so (same x y
 
 pub list_refl : {A : Type 0} (same : A → A → Bool) → IsReflexive same → IsReflexive (pointwise same)
 list_refl same same_refl [] = refl
-list_refl same same_refl (x ∷ xs) = both (same x x) (pointwise same xs xs) (same_refl x) (list_refl same same_refl xs)
+list_refl same same_refl (x ∷ xs) = and_from (same x x) (pointwise same xs xs) (same_refl x) (list_refl same same_refl xs)
 
 option_is : {A : Type 0} {same : A → A → Bool} → IsExact same → IsExact (option_eq same)
 option_is is None None h = refl
@@ -98,10 +96,10 @@ same_type_is _ _ h = absurd (true≢false (sym h))
 
 pub same_type_refl : (x : TypeNode) → same_type x x ≡ true
 unfolding same_type
-same_type_refl (type.Int s v) = both (same_sign s s) (v == v) (sign_refl s) (number_refl v)
+same_type_refl (type.Int s v) = and_from (same_sign s s) (v == v) (sign_refl s) (number_refl v)
 same_type_refl type.Index = refl
-same_type_refl (type.Func is os) = both (pointwise ◌==◌ is is) (pointwise ◌==◌ os os) (list_refl ◌==◌ number_refl is) (list_refl ◌==◌ number_refl os)
-same_type_refl (type.Memref ds e) = both (pointwise (option_eq ◌==◌) ds ds) (e == e) (list_refl (option_eq ◌==◌) (option_refl ◌==◌ number_refl) ds) (number_refl e)
+same_type_refl (type.Func is os) = and_from (pointwise ◌==◌ is is) (pointwise ◌==◌ os os) (list_refl ◌==◌ number_refl is) (list_refl ◌==◌ number_refl os)
+same_type_refl (type.Memref ds e) = and_from (pointwise (option_eq ◌==◌) ds ds) (e == e) (list_refl (option_eq ◌==◌) (option_refl ◌==◌ number_refl) ds) (number_refl e)
 
 -- attributes
 pub same_attr_is : (x y : AttrNode) → same_attr x y ≡ true → x ≡ y
@@ -120,15 +118,15 @@ same_attr_is _ _ h = absurd (true≢false (sym h))
 
 pub same_attr_refl : (x : AttrNode) → same_attr x x ≡ true
 unfolding same_attr
-same_attr_refl (attr.Int s v) = both (s == s) (v == v) (number_refl s) (number_refl v)
+same_attr_refl (attr.Int s v) = and_from (s == s) (v == v) (number_refl s) (number_refl v)
 same_attr_refl (attr.Str n) = number_refl n
 same_attr_refl (attr.Ty t) = number_refl t
 same_attr_refl attr.Unit = refl
 same_attr_refl (attr.Array xs) = list_refl ◌==◌ number_refl xs
 same_attr_refl (attr.Dict xs) = list_refl same_entry entry_refl xs
 same_attr_refl (attr.Sym xs) = list_refl ◌==◌ number_refl xs
-same_attr_refl (attr.Dense s xs) = both (s == s) (pointwise int_eq xs xs) (number_refl s) (list_refl int_eq integer_refl xs)
-same_attr_refl (attr.Overflow a b) = both (beq a a) (beq b b) (boolean_refl a) (boolean_refl b)
+same_attr_refl (attr.Dense s xs) = and_from (s == s) (pointwise int_eq xs xs) (number_refl s) (list_refl int_eq integer_refl xs)
+same_attr_refl (attr.Overflow a b) = and_from (beq a a) (beq b b) (boolean_refl a) (boolean_refl b)
 
 -- the derived `==` is the test
 derived_sign : (s t : Sign) → sameb the_type s t ≡ same_sign s t

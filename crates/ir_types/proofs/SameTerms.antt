@@ -11,11 +11,8 @@ use Rattle.ir_types.specs.Things.{Things, IsType}
 use Rattle.ir_types.specs.Terms.{TypeTerm, Integer, Index, Function, Memref, TypeTerms, no_types, next_type, type_term}
 use Rattle.ir_types.specs.Sound.{IsSound}
 use Rattle.ir_types.proofs.Terms.{type_term_one}
-use Rattle.std.proofs.lemmas.Bool.{cases_Bool}
+use Rattle.std.proofs.lemmas.Bool.{cases_Bool, and_from}
 use Rattle.ir_types.specs.SameTypes.{same_type, same_terms}
-
-both : (a b : Bool) → a ≡ true → b ≡ true → (a && b) ≡ true
-both a b h k = cc
 
 sign_is : (x y : Sign) → same_sign x y ≡ true → x ≡ y
 sign_is Signless Signless h = refl
@@ -23,12 +20,12 @@ sign_is Signed Signed h = refl
 sign_is Unsigned Unsigned h = refl
 sign_is _ _ h = absurd (true≢false (sym h))
 
-sign_refl : (x : Sign) → same_sign x x ≡ true
+pub sign_refl : (x : Sign) → same_sign x x ≡ true
 sign_refl Signless = refl
 sign_refl Signed = refl
 sign_refl Unsigned = refl
 
-number_is : (x y : ℕ) → (x == y) ≡ true → x ≡ y
+pub number_is : (x y : ℕ) → (x == y) ≡ true → x ≡ y
 number_is x y h = (unsigned_Decides x y).0 h
 
 number_refl : (x : ℕ) → (x == x) ≡ true
@@ -50,9 +47,9 @@ dims_are [] (y ∷ ys) h = absurd (true≢false (sym h))
 dims_are (x ∷ xs) [] h = absurd (true≢false (sym h))
 dims_are (x ∷ xs) (y ∷ ys) h = λ i. dim_is x y (first_so (option_eq ◌==◌ x y) (pointwise (option_eq ◌==◌) xs ys) h) i ∷ dims_are xs ys (second_so (option_eq ◌==◌ x y) (pointwise (option_eq ◌==◌) xs ys) h) i
 
-dims_refl : (xs : List (Option ℕ)) → pointwise (option_eq ◌==◌) xs xs ≡ true
+pub dims_refl : (xs : List (Option ℕ)) → pointwise (option_eq ◌==◌) xs xs ≡ true
 dims_refl [] = refl
-dims_refl (x ∷ xs) = both (option_eq ◌==◌ x x) (pointwise (option_eq ◌==◌) xs xs) (dim_refl x) (dims_refl xs)
+dims_refl (x ∷ xs) = and_from (option_eq ◌==◌ x x) (pointwise (option_eq ◌==◌) xs xs) (dim_refl x) (dims_refl xs)
 
 mutual
   pub type_is : (t u : TypeTerm) → same_type t u ≡ true → t ≡ u
@@ -82,14 +79,14 @@ mutual
 
 mutual
   pub type_refl : (t : TypeTerm) → same_type t t ≡ true
-  type_refl (Integer s v) = both (same_sign s s) (v == v) (sign_refl s) (number_refl v)
+  type_refl (Integer s v) = and_from (same_sign s s) (v == v) (sign_refl s) (number_refl v)
   type_refl Index = refl
-  type_refl (Function is os) = both (same_terms is is) (same_terms os os) (terms_refl is) (terms_refl os)
-  type_refl (Memref ds e) = both (pointwise (option_eq ◌==◌) ds ds) (same_type e e) (dims_refl ds) (type_refl e)
+  type_refl (Function is os) = and_from (same_terms is is) (same_terms os os) (terms_refl is) (terms_refl os)
+  type_refl (Memref ds e) = and_from (pointwise (option_eq ◌==◌) ds ds) (same_type e e) (dims_refl ds) (type_refl e)
 
-  terms_refl : (ts : TypeTerms) → same_terms ts ts ≡ true
+  pub terms_refl : (ts : TypeTerms) → same_terms ts ts ≡ true
   terms_refl no_types = refl
-  terms_refl (next_type t ts) = both (same_type t t) (same_terms ts ts) (type_refl t) (terms_refl ts)
+  terms_refl (next_type t ts) = and_from (same_type t t) (same_terms ts ts) (type_refl t) (terms_refl ts)
 
 -- by their numbers in a context
 pub same_numbers : (c : Things) (m n : ℕ) → IsSound c → IsType c m → IsType c n → (m == n) ≡ same_type (type_term c m) (type_term c n)

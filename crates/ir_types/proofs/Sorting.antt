@@ -21,6 +21,7 @@ use Rattle.std.proofs.lemmas.List.Kept.{AllPairs-cons}
 use Rattle.ir_types_items.specs.Interned.{AreApart}
 use Rattle.ir_types.specs.Sound.{IsRising}
 use Rattle.ir_types.specs.Dictionaries.{key_bytes, comes_before, placed_among, sorted, has_twin, twin_after, has_adjacent_twin}
+use Rattle.std.proofs.lemmas.Bool.{or_parts, or_right}
 
 abbrev Entry : Type 0
 Entry = ℕ × ℕ
@@ -153,13 +154,9 @@ in_contained (y ∷ ys) x h = ⊎_elim
 pub moved_in : (xs ys : List Entry) → IsPermutation xs ys → (x : Entry) → In x xs → In x ys
 moved_in xs ys moved x h = contained_in ys x (Contains-permutation xs ys x moved (in_contained xs x h))
 
-or_false : (a b : Bool) → (a || b) ≡ false → (a ≡ false) × (b ≡ false)
-or_false true b h = absurd (true≢false h)
-or_false false b h = (refl, h)
-
 any_none : (p : ℕ → Bool) (ks : List ℕ) → list_any p ks ≡ false → AllByRecursion (λ k. p k ≡ false) ks
 any_none p [] h = tt
-any_none p (k ∷ ks) h = let r = or_false (p k) (list_any p ks) h in (r.0, any_none p ks r.1)
+any_none p (k ∷ ks) h = let r = or_parts (p k) (list_any p ks) h in (r.0, any_none p ks r.1)
 
 none_any : (p : ℕ → Bool) (ks : List ℕ) → AllByRecursion (λ k. p k ≡ false) ks → list_any p ks ≡ false
 none_any p [] h = refl
@@ -168,7 +165,7 @@ none_any p (k ∷ ks) h = rw h.0 (none_any p ks h.1)
 pub distinct_keys : (ks : List ℕ) → has_twin ks ≡ false → IsDistinct nat_eq ks
 unfolding IsDistinct
 distinct_keys [] h = tt
-distinct_keys (k ∷ ks) h = let r = or_false (list_any (λ l. k == l) ks) (has_twin ks) h in (any_none (λ l. k == l) ks r.0, distinct_keys ks r.1)
+distinct_keys (k ∷ ks) h = let r = or_parts (list_any (λ l. k == l) ks) (has_twin ks) h in (any_none (λ l. k == l) ks r.0, distinct_keys ks r.1)
 
 pub no_twins : (ks : List ℕ) → IsDistinct nat_eq ks → has_twin ks ≡ false
 unfolding IsDistinct
@@ -202,7 +199,7 @@ module _ (names : List (List ℕ)) (apart : AreApart names) where
   rises [] known up none = tt
   rises (e ∷ []) known up none = (tt, tt)
   rises (e ∷ f ∷ fs) known up none =
-      let split = or_false (f.0 == e.0) (twin_after f.0 fs) none in
+      let split = or_parts (f.0 == e.0) (twin_after f.0 fs) none in
       let rest : Rise names (f ∷ fs) = rises (f ∷ fs) known.1 (λ k d low high. ap (λ j. comes_before names (slice_index_or (e ∷ f ∷ fs) j d) (slice_index_or (e ∷ f ∷ fs) (suc k) d)) (let i : suc (k + 1) ≡ suc k + 1 = omega arith in i) ∙ up (suc k) d (omega arith) (omega arith)) split.1 in
       let not_less : comes_before names f e ≡ false = up 0 e (omega arith) (omega arith) in
       let less : order (key_bytes names e) (key_bytes names f) ≡ Less = below e f known.0 known.1.0 not_less split.0 in
@@ -240,10 +237,6 @@ module _ (names : List (List ℕ)) (apart : AreApart names) where
       go [] k all = tt
       go (f ∷ fs) k all = ((λ p. true≢false (sym (eq-eqb e.0 f.0 (one_key e f known.0 k.0 (equal_bytes _ _ p))) ∙ all.0)), go fs k.1 all.1)
 
-or_right : (a b : Bool) → b ≡ true → (a || b) ≡ true
-or_right true b h = refl
-or_right false b h = h
-
 twin_there : (es : List Entry) (k : ℕ) → twin_after k es ≡ true → has_twin (k ∷ keys_of_entries es) ≡ true
 twin_there [] k h = absurd (true≢false (sym h))
 twin_there (e ∷ es) k h = go (e.0 == k) refl (λ m. twin_there es e.0 m)
@@ -252,7 +245,7 @@ twin_there (e ∷ es) k h = go (e.0 == k) refl (λ m. twin_there es e.0 m)
     go true p later = rw (let q : (k == e.0) ≡ true = eq-eqb k e.0 (sym (eqb-true e.0 k p)) in q) refl
     go false p later = or_right ((k == e.0) || list_any (λ l. k == l) (keys_of_entries es)) _ (later (rw p at h))
 
-flips_eq : (x y : ℕ) → nat_eq x y ≡ nat_eq y x
+pub flips_eq : (x y : ℕ) → nat_eq x y ≡ nat_eq y x
 flips_eq x y = both_ways (nat_eq x y) (nat_eq y x) (λ h. eq-eqb y x (sym (eqb-true x y h))) (λ h. eq-eqb x y (sym (eqb-true y x h)))
 
 -- a permutation has a key twice where the list has

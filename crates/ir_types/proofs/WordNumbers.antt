@@ -18,6 +18,8 @@ use Rattle.ir_types.specs.Words.{operations, keys, visibilities, words, row_keys
 use Rattle.ir_types.specs.Things.{Things}
 use Rattle.ir_types.specs.Terms.{name_term}
 use Rattle.ir_types.specs.Sound.{Holds, IsSound}
+use Rattle.ir_types.proofs.Holding.{enough_names}
+use Rattle.ir_types.proofs.Building.{place_stays}
 
 -- things of which no two are one stand at one place each
 apart : {A : Type 0} (xs : List A) → AllPairs (λ x y. x ≢ y) xs → (i j : ℕ) (x : A) → slice_get xs i ≡ Some x → slice_get xs j ≡ Some x → i ≡ j
@@ -45,7 +47,7 @@ words_have_bytes : list_all has_bytes words ≡ true
 unfolding words operations keys visibilities
 words_have_bytes = refl
 
-all_at : {A : Type 0} (p : A → Bool) (xs : List A) (i : ℕ) (x : A) → list_all p xs ≡ true → slice_get xs i ≡ Some x → p x ≡ true
+pub all_at : {A : Type 0} (p : A → Bool) (xs : List A) (i : ℕ) (x : A) → list_all p xs ≡ true → slice_get xs i ≡ Some x → p x ≡ true
 all_at p [] zero x h e = absurd (cc)
 all_at p [] (suc i) x h e = absurd (cc)
 all_at p (y ∷ ys) zero x h e = let f : y ≡ x = cc in ap p (sym f) ∙ first_so (p y) (list_all p ys) h
@@ -123,15 +125,9 @@ module _ (b : List ℕ) (n : ℕ) where
         let rest = inherent_from rs kss (start + 1) (tests_after start r.0 (map (λ row. row.0) rs) each) others in
         rw (here, this, rest) (one_more (list_any (λ j. j == k)) ks kss start (n - start) refl)
 
-kept_before : {A : Type 0} (xs ys : List A) (i : ℕ) (x : A) → slice_get xs i ≡ Some x → slice_get (xs ++ ys) i ≡ Some x
-kept_before [] ys zero x e = absurd (cc)
-kept_before [] ys (suc i) x e = absurd (cc)
-kept_before (y ∷ xs) ys zero x e = e
-kept_before (y ∷ xs) ys (suc i) x e = kept_before xs ys i x e
-
 operation_at : (i : ℕ) (w : List ℕ) → slice_get (map (λ (row : List ℕ × List (List ℕ)). row.0) operations) i ≡ Some w → slice_get words i ≡ Some w
 unfolding words operations keys visibilities
-operation_at i w e = kept_before (map (λ (row : List ℕ × List (List ℕ)). row.0) operations) (keys ++ visibilities) i w e
+operation_at i w e = place_stays (map (λ (row : List ℕ × List (List ℕ)). row.0) operations) (keys ++ visibilities) i w e
 
 operation_tests : (c : Things) (n : ℕ) → IsSound c → (i : ℕ) (w : List ℕ) → slice_get (map (λ (row : List ℕ × List (List ℕ)). row.0) operations) i ≡ Some w → bytes_eq (name_term c n) w ≡ (n == 0 + i)
 operation_tests c n sound i w e = let k : i ≡ 0 + i = omega arith in word_test c n i w sound (operation_at i w e) ∙ ap (λ m. n == m) k
@@ -226,12 +222,9 @@ first_words names i e before =
     let all : names ≡ words = before ∙ ap (λ k. take k words) e ∙ all_words in
     (all, ap (take 54) all ∙ all_words)
 
-enough : (names : List (List ℕ)) → take 54 names ≡ words → 54 ≤ length names
-enough names e = let l : length (take 54 names) ≡ 54 = ap length e ∙ word_count in omega (arith, length-take 54 names)
-
 -- and they stay first
 pub words_stay : (names more : List (List ℕ)) → take 54 names ≡ words → take 54 (names ++ more) ≡ words
-words_stay names more e = take-append-le 54 names more (enough names e) ∙ e
+words_stay names more e = take-append-le 54 names more (enough_names names e) ∙ e
 
 pub words_stay_first : (bytes : List ℕ) (names : List (List ℕ)) → take 54 names ≡ words → take 54 (with_last (bytes_eq bytes) bytes names) ≡ words
 words_stay_first bytes names e = by (list_any (bytes_eq bytes) names) refl

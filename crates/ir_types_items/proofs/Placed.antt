@@ -5,6 +5,8 @@ use Rattle.std.specs.Map.{keys_of}
 use Rattle.std.specs.List.{position, position_or_len, list_any}
 use Rattle.std.proofs.lemmas.List.{map-append}
 use Rattle.ir_types_items.specs.Interned.{with_last}
+use Rattle.std.proofs.lemmas.Map.Entries.{length-keys_of}
+use Rattle.std.proofs.lemmas.Option.{same_Some}
 
 abbrev pub Found : {V : Type 0} → (V → Bool) → List V → Type 0
 Found p ks = (list_any p ks ≡ true) × (position_or_len p ks < length ks)
@@ -16,9 +18,6 @@ pub where_is : {V : Type 0} (p : V → Bool) (ks : List V) → Found p ks ⊎ La
 where_is p [] = inr (refl, refl)
 where_is p (k ∷ ks) = (elim (p k) as (λ t. (((t || list_any p ks) ≡ true) × (cond (not t) (1 + position_or_len p ks) 0 < suc (length ks))) ⊎ (((t || list_any p ks) ≡ false) × (cond (not t) (1 + position_or_len p ks) 0 ≡ suc (length ks))))
     [ true ↦ inl (refl, omega arith) | false ↦ ⊎_elim (λ (h : Found p ks). inl (h.0, omega (arith, h.1))) (λ (h : Lacks p ks). inr (h.0, omega (arith, h.1))) (where_is p ks) ])
-
-some_inj : (a b : ℕ) → Some a ≡ Some b → a ≡ b
-some_inj a b e = cc
 
 none_some : (a : ℕ) → Some a ≡ None → ⊥
 none_some a e = cc
@@ -34,7 +33,7 @@ module _ {V : Type 0} (p : V → Bool) where
   -- what a search that found a place says
   pub found_at : (ks : List V) (i : ℕ) → position p ks ≡ Some i → (list_any p ks ≡ true) × (i ≡ position_or_len p ks)
   found_at ks i e = ⊎_elim
-      (λ (h : Found p ks). (h.0, sym (some_inj _ _ (sym (rw (lt-ltb _ _ h.1) refl) ∙ e))))
+      (λ (h : Found p ks). (h.0, sym (same_Some _ _ (sym (rw (lt-ltb _ _ h.1) refl) ∙ e))))
       (λ (h : Lacks p ks). absurd (past _ _ h.1 e))
       (where_is p ks)
 
@@ -51,10 +50,6 @@ none_from_test (Some x) e = absurd cc
 
 pub keys-push : {K V : Type 0} (es : List (K × V)) (k : K) (v : V) → keys_of (es ++ (k, v) ∷ []) ≡ keys_of es ++ k ∷ []
 keys-push es k v = map-append (λ e. e.0) es ((k, v) ∷ [])
-
-pub length-keys : {K V : Type 0} (es : List (K × V)) → length (keys_of es) ≡ length es
-length-keys [] = refl
-length-keys (e ∷ es) = ap suc (length-keys es)
 
 -- the list where the thing is there, and where it isn't
 pub with_last-found : {A : Type 0} (p : A → Bool) (x : A) (xs : List A) → list_any p xs ≡ true → with_last p x xs ≡ xs

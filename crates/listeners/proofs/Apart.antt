@@ -11,8 +11,9 @@ use Rattle.listeners.specs.declared.key.Use.{Use}
 use Rattle.listeners.specs.Uses.{operand_uses, uses_in, in_order}
 use Rattle.listeners.specs.Others.{is_other, others}
 use Rattle.listeners.proofs.Cutting.{moved_front}
-use Rattle.listeners.proofs.Others.{behind_alike, eqb_turned, only_append, own_in, own_out}
+use Rattle.listeners.proofs.Others.{behind_alike, only_append, own_in, own_out}
 use Rattle.listeners.proofs.Places.{Replaced, uses_at, uses_by_heads}
+use Rattle.ir_types.proofs.Sorting.{flips_eq}
 
 module _ {N T A : Type 0} (x : ℕ) where
   none_there : (hs : List (HeadOf N T A)) → AllByRecursion (λ z. eqb x z ≡ false) (map (λ (h : HeadOf N T A). h.id) hs) → others x (uses_at hs) ≡ uses_at hs
@@ -41,7 +42,7 @@ module _ {N T A : Type 0} (x : ℕ) where
           let own : List Use = operand_uses x 0 g.operands in
           behind_alike here (uses_at hs) (own ++ others x (uses_at hs)) (later first)
           ∙ moved_front here own (others x (uses_at hs))
-          ∙ ap (λ l. in_order (own ++ l)) (sym (only_append (is_other x) here (uses_at hs) ∙ ap (λ l. l ++ others x (uses_at hs)) (own_in x h.id 0 h.operands (eqb_turned x h.id ∙ is))))
+          ∙ ap (λ l. in_order (own ++ l)) (sym (only_append (is_other x) here (uses_at hs) ∙ ap (λ l. l ++ others x (uses_at hs)) (own_in x h.id 0 h.operands (flips_eq x h.id ∙ is))))
 
   -- the uses of an operation are those of its operands, and stand among those of the others
   pub split_tree : (t o : OpOf N T A) → HasDistinctIds t → find x t ≡ Some o → in_order (uses_in t) ≡ in_order (operand_uses x 0 (head o).operands ++ others x (uses_in t))

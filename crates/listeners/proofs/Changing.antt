@@ -24,22 +24,13 @@ use Rattle.listeners.specs.Listings.{operand_count, listed_uses, user_uses, forg
 use Rattle.listeners.specs.Tables.{changed_uses, is_unchanged}
 use Rattle.listeners.proofs.Cutting.{moved_front}
 use Rattle.listeners.proofs.Listed.{keys_joined}
-use Rattle.listeners.proofs.Others.{behind_alike, eqb_turned, only_append, only_both, only_same, only_turned, own_in, own_only, own_out}
-
--- the order of ids
-same_test : (x y : ℕ) → is_eq (nat_cmp x y) ≡ eqb x y
-same_test x y = go (nat_cmp x y) refl (ranks x y)
-  where
-    go : (r : Ordering) → nat_cmp x y ≡ r → MatchOrdering (nat_cmp x y) (x < y) (x ≡ y) (y < x) → is_eq (nat_cmp x y) ≡ eqb x y
-    go Less e m = let l = subst (λ r. MatchOrdering r (x < y) (x ≡ y) (y < x)) e m in ap is_eq e ∙ sym (ne_eqb x y (λ q. omega (arith, q, l)))
-    go Equal e m = let l = subst (λ r. MatchOrdering r (x < y) (x ≡ y) (y < x)) e m in ap is_eq e ∙ sym (eq-eqb x y l)
-    go Greater e m = let l = subst (λ r. MatchOrdering r (x < y) (x ≡ y) (y < x)) e m in ap is_eq e ∙ sym (ne_eqb x y (λ q. omega (arith, q, l)))
+use Rattle.listeners.proofs.Others.{behind_alike, only_append, only_both, only_same, only_turned, own_in, own_only, own_out}
+use Rattle.ir_types.proofs.Sorting.{flips_eq}
+use Rattle.listeners.proofs.Orders.{same_number}
+use Rattle.ir_types.proofs.Truths.{same_test}
 
 apart : (x y : ℕ) (r : Ordering) → nat_cmp x y ≡ r → is_eq r ≡ false → eqb x y ≡ false
 apart x y r e f = sym (same_test x y) ∙ ap is_eq e ∙ f
-
-same_number : (x y : ℕ) → nat_cmp x y ≡ Equal → x ≡ y
-same_number x y e = subst (λ r. MatchOrdering r (x < y) (x ≡ y) (y < x)) e (ranks x y)
 
 further : (x y : ℕ) (ks : List ℕ) → nat_cmp x y ≡ Less → AllByRecursion (λ z. nat_cmp y z ≡ Less) ks → AllByRecursion (λ z. nat_cmp x z ≡ Less) ks
 further x y [] l a = tt
@@ -149,7 +140,7 @@ module _ (x : ℕ) where
       go true is =
           ap (λ b. user_uses (cond b (record u { live = false }) u) vs) is
           ∙ out u.live (ap (λ y. others x (operand_uses y 0 vs)) (eqb-true u.id x is) ∙ own_out x 0 vs)
-      go false is = ap (λ b. user_uses (cond b (record u { live = false }) u) vs) is ∙ stays u.live (own_in x u.id 0 vs (eqb_turned x u.id ∙ is))
+      go false is = ap (λ b. user_uses (cond b (record u { live = false }) u) vs) is ∙ stays u.live (own_in x u.id 0 vs (flips_eq x u.id ∙ is))
 
   forgotten_uses : (us : List User) (vs : List Value) → listed_uses (map (forgotten x) us) vs ≡ others x (listed_uses us vs)
   forgotten_uses [] vs = refl

@@ -45,21 +45,7 @@ use Rattle.listeners.proofs.Cutting.{cut_order, edited_uses, leaf_uses, taken}
 use Rattle.listeners.proofs.Others.{behind_alike, cancelled, others_alike, others_twice}
 use Rattle.listeners.proofs.Sorted.{value_back}
 use Rattle.listeners.proofs.Places.{one_use, set_uses, mapped_uses}
-
--- an edit of a dictionary leaves ids and operands
-entry_id : {N T A : Type 0} (x : ℕ) (part : Part) (f : List (N × A) → List (N × A)) (h : HeadOf N T A) → (at x (change_part part f) h).id ≡ h.id
-entry_id {N} {T} {A} x part f h = elim (eqb h.id x) as (λ b. (cond b (change_part part f h) h).id ≡ h.id) [ true ↦ changed part | false ↦ refl ]
-  where
-    changed : (part : Part) → (change_part part f h).id ≡ h.id
-    changed Props = refl
-    changed Attrs = refl
-
-entry_operands : {N T A : Type 0} (x : ℕ) (part : Part) (f : List (N × A) → List (N × A)) (h : HeadOf N T A) → (at x (change_part part f) h).operands ≡ h.operands
-entry_operands {N} {T} {A} x part f h = elim (eqb h.id x) as (λ b. (cond b (change_part part f h) h).operands ≡ h.operands) [ true ↦ changed part | false ↦ refl ]
-  where
-    changed : (part : Part) → (change_part part f h).operands ≡ h.operands
-    changed Props = refl
-    changed Attrs = refl
+use Rattle.ir_tree.proofs.Facts.{part_id, part_operands}
 
 -- an operation that stands at a place, which the root doesn't
 record Placed {N T A : Type 0} (x : ℕ) (t : OpOf N T A) : Type 0 where
@@ -154,7 +140,7 @@ followed_agrees c (SetOperand x k old new) s m before after step shows f is =
 followed_agrees c (SetEntry x part key old new) s m before after step shows f is =
     ap in_order f
     ∙ is
-    ∙ ap in_order (sym (edited_uses (at x (change_part part (change_entry key_before (name_term c key) (option_map (attr_term c) new)))) (entry_id x part _) (entry_operands x part _) m.tree))
+    ∙ ap in_order (sym (edited_uses (at x (change_part part (change_entry key_before (name_term c key) (option_map (attr_term c) new)))) (part_id x part _) (part_operands x part _) m.tree))
     ∙ sym (ap (λ t. all_uses t) step.changes.after)
 followed_agrees c (Shift x old new) s m before after step shows f is =
     let n : Module = module_meaning c s.module_of in

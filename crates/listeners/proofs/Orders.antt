@@ -26,7 +26,7 @@ both_equal Less b e = absurd (true≢false (ap is_lt e))
 both_equal Equal b e = (refl, e)
 both_equal Greater b e = absurd (true≢false (ap is_gt e))
 
-same_number : (x y : ℕ) → nat_cmp x y ≡ Equal → x ≡ y
+pub same_number : (x y : ℕ) → nat_cmp x y ≡ Equal → x ≡ y
 same_number x y e = subst (λ r. MatchOrdering r (x < y) (x ≡ y) (y < x)) e (ranks x y)
 
 same_option : (x y : Option ℕ) → option_cmp nat_cmp x y ≡ Equal → x ≡ y

@@ -10,9 +10,7 @@ use Rattle.listeners.specs.Others.{is_other, only, others}
 use Rattle.listeners.proofs.Drops.{drop_all, put_all}
 use Rattle.listeners.proofs.Moving.{drop_all_order, put_all_order}
 use Rattle.listeners.proofs.Orders.{put_behind, put_first, put_twice}
-
-pub eqb_turned : (a b : ℕ) → eqb a b ≡ eqb b a
-eqb_turned a b = ⊎_elim (λ e. eq-eqb a b e ∙ sym (eq-eqb b a (sym e))) (λ n. ne_eqb a b n ∙ sym (ne_eqb b a (λ e. n (sym e)))) (cases_eq a b)
+use Rattle.ir_types.proofs.Sorting.{flips_eq}
 
 -- some uses of two lists
 pub only_append : (p : ℕ → Bool) (us vs : List Use) → only p (us ++ vs) ≡ only p us ++ only p vs

@@ -1,7 +1,7 @@
 -- Renewing the facts about the operations near an event.
 use Rattle.std.proofs.Common.{◌≡◌, refl, ap, sym, ◌∙◌, subst, ℕ, zero, suc, ◌+◌, ◌-◌, ◌*◌, ◌<◌, ◌≤◌, Bool, true, false, true≢false, cond, ◌||◌, eqb, eq-eqb, eqb-true, List, [], ◌∷◌, length, take, drop, get_or, Option, Some, None, Result, Ok, Err, arith}
 use Rattle.std.specs.Prelude.{option_map, option_and_then, IfOk}
-use Rattle.std.proofs.lemmas.List.{length-drop}
+use Rattle.std.proofs.lemmas.List.{length-drop, drop_all, take_rest}
 use Rattle.ir_types.specs.Things.{Things}
 use Rattle.ir_types.specs.Terms.{TypeTerm, AttrTerm, name_term, type_term, attr_term}
 use Rattle.ir_tree.specs.Tree.{OpOf, Op, op, RegionsOf, no_regions, region, regions, region_count}
@@ -42,21 +42,6 @@ somes_drop (x ∷ xs) (suc i) d l =
     let m : i < length xs = omega arith in
     let s : suc i + 1 ≡ suc (i + 1) = omega arith in
     somes_drop xs i d m ∙ ap (λ k. if_any (get_or xs i d) (somes (drop k (x ∷ xs)))) (sym s)
-
-pub rest_all : (xs : List (Option ℕ)) (i : ℕ) → take (length xs - i) (drop i xs) ≡ drop i xs
-rest_all xs i = take_whole (length xs - i) (drop i xs) (let e = length-drop i xs in omega arith)
-  where
-    take_whole : (n : ℕ) (ys : List (Option ℕ)) → length ys ≤ n → take n ys ≡ ys
-    take_whole zero [] l = refl
-    take_whole (suc n) [] l = refl
-    take_whole zero (y ∷ ys) l = absurd (omega arith)
-    take_whole (suc n) (y ∷ ys) l = ap (λ z. y ∷ z) (take_whole n ys (omega arith))
-
-pub drop_all : (xs : List (Option ℕ)) (i : ℕ) → length xs ≤ i → drop i xs ≡ []
-drop_all [] zero l = refl
-drop_all [] (suc i) l = refl
-drop_all (x ∷ xs) zero l = absurd (omega arith)
-drop_all (x ∷ xs) (suc i) l = drop_all xs i (omega arith)
 
 first : (x : ℕ) (ys : List ℕ) → is_one_of x (x ∷ ys) ≡ true
 first x ys = ap (λ b. b || is_one_of x ys) (eq-eqb x x refl)

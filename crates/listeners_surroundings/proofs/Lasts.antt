@@ -14,9 +14,7 @@ use Rattle.ir_tree_laws.proofs.Members.{stand, joined_ops}
 use Rattle.ir_tree_laws.proofs.Around.{around_there, place_of_member}
 use Rattle.ir_tree_laws.proofs.Values.{shape}
 use Rattle.listeners_surroundings.proofs.Spots.{stands_in}
-
-some_same : (a b : ℕ) → Some a ≡ Some b → a ≡ b
-some_same a b e = cc
+use Rattle.std.proofs.lemmas.Option.{same_Some}
 
 module _ {N T A : Type 0} where
   -- a list that has a last, up to it
@@ -29,13 +27,13 @@ module _ {N T A : Type 0} where
   split_more : (o : OpOf N T A) (y : ℕ) (os : OpsOf N T A) → Split y os → Split y (next o os)
   split_more o y os s = record { front = o ∷ s.front; last = s.last; is = ap (next o) s.is; id = s.id }
 
-  some_last : (o : OpOf N T A) (os : OpsOf N T A) → (z : ℕ) × (last_id (next o os) ≡ Some z)
+  pub some_last : (o : OpOf N T A) (os : OpsOf N T A) → (z : ℕ) × (last_id (next o os) ≡ Some z)
   some_last o no_ops = ((head o).id, refl)
   some_last o (next u us) = let w = some_last u us in (w.0, ap (λ l. first_of l (Some (head o).id)) w.1)
 
   pub split_last : (y : ℕ) (os : OpsOf N T A) → last_id os ≡ Some y → Split y os
   split_last y no_ops e = absurd cc
-  split_last y (next o no_ops) e = record { front = []; last = o; is = refl; id = some_same (head o).id y e }
+  split_last y (next o no_ops) e = record { front = []; last = o; is = refl; id = same_Some (head o).id y e }
   split_last y (next o (next u us)) e =
       let w = some_last u us in
       split_more o y (next u us) (split_last y (next u us) (w.1 ∙ (sym (ap (λ l. first_of l (Some (head o).id)) w.1) ∙ e)))

@@ -22,7 +22,7 @@ use Rattle.listeners_surroundings.proofs.Left.{AlikeStands, left_list, left_head
 use Rattle.listeners_surroundings.proofs.Alike.{both, same_value_type, same_surroundings}
 use Rattle.listeners_surroundings.proofs.Moves.{taken, untaken, nodes_taken, moved, Moved, left_some, found_moved, left_id}
 use Rattle.listeners_surroundings.proofs.Spots.{next_in, last_is, placed_there}
-use Rattle.listeners_surroundings.proofs.Lasts.{not_last, not_last_behind}
+use Rattle.listeners_surroundings.proofs.Lasts.{not_last, not_last_behind, some_last}
 
 module _ {N T A : Type 0} (x : ℕ) where
   abbrev d : ℕ → ℕ → OpsOf N T A → OpsOf N T A
@@ -38,12 +38,8 @@ module _ {N T A : Type 0} (x : ℕ) where
   some_named o no_ops = ((head o).name, refl)
   some_named o (next u us) = let w = some_named u us in (w.0, ap (λ l. first_of l (Some (head o).name)) w.1)
 
-  some_id : (o : OpOf N T A) (os : OpsOf N T A) → (n : ℕ) × (last_id (next o os) ≡ Some n)
-  some_id o no_ops = ((head o).id, refl)
-  some_id o (next u us) = let w = some_id u us in (w.0, ap (λ l. first_of l (Some (head o).id)) w.1)
-
   later_id : (o u : OpOf N T A) (us : OpsOf N T A) → last_id (next o (next u us)) ≡ last_id (next u us)
-  later_id o u us = let w = some_id u us in ap (λ l. first_of l (Some (head o).id)) w.1 ∙ sym w.1
+  later_id o u us = let w = some_last u us in ap (λ l. first_of l (Some (head o).id)) w.1 ∙ sym w.1
 
   later_name : (o u : OpOf N T A) (us : OpsOf N T A) → last_name (next o (next u us)) ≡ last_name (next u us)
   later_name o u us = let w = some_named u us in ap (λ l. first_of l (Some (head o).name)) w.1 ∙ sym w.1

@@ -14,7 +14,7 @@ use Rattle.ir_tree_laws.specs.Values.{region_at, type_of_value}
 use Rattle.ir_tree_laws.specs.Reads.{ops_in, ops_at, last_id, last_at, id_before, prev_of}
 use Rattle.ir_tree_laws.specs.Stands.{StepOf, StandOf, stand_id, stands, regions_stands, region_stands, ops_stands, stand_in, stand_of}
 use Rattle.ir_tree_laws.proofs.Readings.{step, option_first}
-use Rattle.ir_tree_laws.proofs.Contents.{map_type_of_value}
+use Rattle.ir_tree_laws.proofs.Contents.{map_type_of_value, map_region_at}
 use Rattle.ir_event.specs.declared.event.Event.{Event}
 use Rattle.ir_event.specs.declared.event.Event.TheVariants.{Put, Take, SetOperand, SetEntry, Shift}
 use Rattle.listeners_surroundings.specs.Surroundings.{last_name, last_names, ended_by, outer_of, surround, surroundings}
@@ -126,11 +126,6 @@ module _ {N T A M U B : Type 0} (f : N → M) (g : T → U) (h : A → B) where
   map_id_before x last no_ops = refl
   map_id_before x last (next o os) = (λ i. cond (eqb (same_id o i) x) last (id_before x (Some (same_id o i)) (map_ops f g h os))) ∙ ap (cond (eqb (head o).id x) last) (map_id_before x (Some (head o).id) os)
 
-  map_region_at : (r : ℕ) (rs : RegionsOf N T A) → region_at r (map_regions f g h rs) ≡ option_map (map_region f g h) (region_at r rs)
-  map_region_at r no_regions = refl
-  map_region_at zero (region q rs) = refl
-  map_region_at (suc r) (region q rs) = map_region_at r rs
-
   map_regions_of : (o : OpOf N T A) → regions (tree o) ≡ map_regions f g h (regions o)
   map_regions_of (op k rs) = refl
 
@@ -141,7 +136,7 @@ module _ {N T A M U B : Type 0} (f : N → M) (g : T → U) (h : A → B) where
 
   map_ops_found : (r : ℕ) (o : Option (OpOf N T A)) → option_and_then (λ p. option_and_then ops_in (region_at r (regions p))) (option_map tree o) ≡ option_map (map_ops f g h) (option_and_then (λ p. option_and_then ops_in (region_at r (regions p))) o)
   map_ops_found r None = refl
-  map_ops_found r (Some o) = ap (λ q. option_and_then ops_in (region_at r q)) (map_regions_of o) ∙ ap (option_and_then ops_in) (map_region_at r (regions o)) ∙ map_ops_in (region_at r (regions o))
+  map_ops_found r (Some o) = ap (λ q. option_and_then ops_in (region_at r q)) (map_regions_of o) ∙ ap (option_and_then ops_in) ((map_region_at f g h) r (regions o)) ∙ map_ops_in (region_at r (regions o))
 
   map_ops_at : (p r : ℕ) (t : OpOf N T A) → ops_at p r (tree t) ≡ option_map (map_ops f g h) (ops_at p r t)
   map_ops_at p r t = ap (option_and_then (λ o. option_and_then ops_in (region_at r (regions o)))) (map_find f g h p t) ∙ map_ops_found r (find p t)

@@ -25,6 +25,7 @@ use Rattle.listeners_surroundings.proofs.Left.{left_head}
 use Rattle.listeners_surroundings.proofs.Heads.{Keeps, each_far}
 use Rattle.listeners_surroundings.proofs.Moves.{moved_far, left_id, taken}
 use Rattle.listeners_surroundings.proofs.Locality.{taken_leaves}
+use Rattle.std.proofs.lemmas.Bool.{ne_eqb}
 
 in_any : (y : ℕ) (o : Option ℕ) (ys : List ℕ) → o ≡ Some y → In y (if_any o ys)
 in_any y o ys e = subst (λ (p : Option ℕ). In y (if_any p ys)) (sym e) (inl refl)
@@ -37,9 +38,6 @@ in_end : (y : ℕ) (b : Option ℕ) (ys : List ℕ) → b ≡ None → In y ys �
 in_end y None ys e h = h
 in_end y (Some c) ys e h = absurd cc
 
-apart_bool : (x y : ℕ) → (y ≡ x → ⊥) → eqb y x ≡ false
-apart_bool x y f = elim (bool_cases (eqb y x)) [ inl e ↦ absurd (f (eqb-true y x e)) | inr e ↦ e ]
-
 module _ {N T A : Type 0} where
   keeps_at : (x : ℕ) (f : HeadOf N T A → HeadOf N T A) → ((h : HeadOf N T A) → Keeps (f h) h) → (h : HeadOf N T A) → Keeps (at x f h) h
   keeps_at x f k h = elim (eqb h.id x) as (λ b. Keeps (cond b (f h) h) h) [ true ↦ k h | false ↦ record { id = refl; name = refl; results = refl } ]
@@ -50,7 +48,7 @@ module _ {N T A : Type 0} where
 
   edited : (x : ℕ) (f : HeadOf N T A → HeadOf N T A) → ((h : HeadOf N T A) → Keeps (f h) h) → (m n : OpOf N T A) → n ≡ each_head (at x f) m → HasDistinctIds n
       → (y : ℕ) → (In y (x ∷ lasts_in x n) → ⊥) → surroundings y n ≡ surroundings y m
-  edited x f k m n is d y far = each_far x f (keeps_at x f k) m n is d y (apart_bool x y (λ e. far (inl e))) (λ h. far (inr h))
+  edited x f k m n is d y far = each_far x f (keeps_at x f k) m n is d y (ne_eqb y x (λ e. far (inl e))) (λ h. far (inr h))
 
   there : (t : OpOf N T A) (s : StandOf N T A) (a : StepOf N T A) (q : List (StepOf N T A)) → In s (stands [] t) → s.path ≡ a ∷ q → In (stand s.here (a ∷ q)) (stands [] t)
   there t s a q h p = subst (λ l. In (stand s.here l) (stands [] t)) p h

@@ -7,25 +7,18 @@ use Rattle.ir_tree.specs.Uses.{same_value, operand_uses, uses_of}
 use Rattle.ir_tree_laws.specs.Stands.{StandOf, stand_id, stands, gather}
 use Rattle.ir_tree_laws.specs.Members.{In}
 use Rattle.ir_tree_laws.proofs.Readings.{stands_uses}
+use Rattle.ir_types.proofs.Truths.{nil_parts}
+use Rattle.ir_tree.proofs.Replaced.{same_value_refl}
 
 -- what is the same at each member gives the same list
 pub same_map : {X Y : Type 0} (f g : X → Y) (xs : List X) → ((x : X) → In x xs → f x ≡ g x) → map f xs ≡ map g xs
 same_map f g [] h = refl
 same_map f g (x ∷ xs) h = λ i. h x (inl refl) i ∷ same_map f g xs (λ y k. h y (inr k)) i
 
--- an operand is a use
-nil_parts : {X : Type 0} (xs ys : List X) → xs ++ ys ≡ [] → (xs ≡ []) × (ys ≡ [])
-nil_parts [] ys e = (refl, e)
-nil_parts (x ∷ xs) ys e = absurd cc
-
-same_itself : (v : Value) → same_value v v ≡ true
-same_itself (Result x k) = let a = eq-eqb x x refl in let b = eq-eqb k k refl in rw (a, b) refl
-same_itself (Arg x r k) = let a = eq-eqb x x refl in let b = eq-eqb k k refl in let c = eq-eqb r r refl in rw (a, c, b) refl
-
 no_operand : (v : Value) (x k : ℕ) (ws : List Value) → operand_uses v x k ws ≡ [] → In v ws → ⊥
 no_operand v x k [] e h = h
 no_operand v x k (w ∷ ws) e (inl i) =
-    let is : same_value v w ≡ true = ap (same_value v) (sym i) ∙ same_itself v in
+    let is : same_value v w ≡ true = ap (same_value v) (sym i) ∙ same_value_refl v in
     let no : (x, k) ∷ operand_uses v x (k + 1) ws ≡ [] = sym (ap (λ b. cond b ((x, k) ∷ operand_uses v x (k + 1) ws) (operand_uses v x (k + 1) ws)) is) ∙ e in
     absurd cc
 no_operand v x k (w ∷ ws) e (inr h) = go (λ f. no_operand v x (k + 1) ws f h) (same_value v w) e

@@ -25,7 +25,7 @@ use Rattle.ir_tree_laws.proofs.Values.{seen_by}
 use Rattle.ir_tree_laws.proofs.Listed.{all_each, both, bool_cases}
 use Rattle.listeners_surroundings.specs.Surroundings.{OuterOf, last_name, last_names, ended_by, outer_of, surround, surroundings}
 use Rattle.listeners_surroundings.specs.Gathered.{last_name_at, from_on, outer_at, gather_looks, regions_found}
-use Rattle.listeners_surroundings.proofs.Spots.{stands_in}
+use Rattle.listeners_surroundings.proofs.Spots.{stands_in, last_joined}
 
 module _ {N T A : Type 0} where
   -- the last of a list that isn't empty
@@ -33,11 +33,7 @@ module _ {N T A : Type 0} where
   split_last o no_ops = ([], o, refl)
   split_last o (next p os) = let s = split_last p os in (o ∷ s.0, s.1, ap (next o) s.2)
 
-  last_joined : (front : List (OpOf N T A)) (z : OpOf N T A) → last_id (joined_ops front (next z no_ops)) ≡ Some (head z).id
-  last_joined [] z = refl
-  last_joined (f ∷ fs) z = ap (λ l. first_of l (Some (head f).id)) (last_joined fs z)
-
-  name_joined : (front : List (OpOf N T A)) (z : OpOf N T A) → last_name (joined_ops front (next z no_ops)) ≡ Some (head z).name
+  pub name_joined : (front : List (OpOf N T A)) (z : OpOf N T A) → last_name (joined_ops front (next z no_ops)) ≡ Some (head z).name
   name_joined [] z = refl
   name_joined (f ∷ fs) z = ap (λ l. first_of l (Some (head f).name)) (name_joined fs z)
 

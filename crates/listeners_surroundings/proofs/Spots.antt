@@ -18,14 +18,12 @@ use Rattle.ir_tree_laws.proofs.Values.{shape}
 use Rattle.ir_tree_laws.proofs.Neighbours.{prev_there}
 use Rattle.ir_tree_laws.proofs.Reverted.{among_split}
 use Rattle.listeners_surroundings.specs.Surroundings.{outer_of}
+use Rattle.ir_event.proofs.Facts.{joined_more}
 
 module _ {N T A : Type 0} where
-  joined_more : (front : List (OpOf N T A)) (o : OpOf N T A) (os : OpsOf N T A) → joined_ops front (next o os) ≡ joined_ops (front ++ o ∷ []) os
-  joined_more [] o os = refl
-  joined_more (f ∷ fs) o os = ap (next f) (joined_more fs o os)
 
   -- the last of a list
-  last_joined : (front : List (OpOf N T A)) (o : OpOf N T A) → last_id (joined_ops front (next o no_ops)) ≡ Some (head o).id
+  pub last_joined : (front : List (OpOf N T A)) (o : OpOf N T A) → last_id (joined_ops front (next o no_ops)) ≡ Some (head o).id
   last_joined [] o = refl
   last_joined (f ∷ fs) o = ap (λ l. first_of l (Some (head f).id)) (last_joined fs o)
 

@@ -18,6 +18,7 @@ use Rattle.listeners_surroundings.specs.Surroundings.{SurroundingsOf, surround, 
 use Rattle.listeners_surroundings.specs.Near.{near, if_any}
 use Rattle.listeners_surroundings.specs.Facts.{is_one_of, if_kept, kept_of, Keeps, Renewed}
 use Rattle.listeners_surroundings.proofs.Near.{far_same}
+use Rattle.std.proofs.lemmas.List.{drop_all}
 
 among_in : (y : ℕ) (ys : List ℕ) → In y ys → is_one_of y ys ≡ true
 among_in y [] h = absurd h
@@ -98,12 +99,6 @@ drop_next (y ∷ xs) (suc i) x l e =
     let m : i < length xs = omega arith in
     let s : suc i + 1 ≡ suc (i + 1) = omega arith in
     drop_next xs i x m e ∙ ap (λ k. x ∷ drop k (y ∷ xs)) (sym s)
-
-pub drop_end : (xs : List ℕ) (i : ℕ) → length xs ≤ i → drop i xs ≡ []
-drop_end [] zero l = refl
-drop_end [] (suc i) l = refl
-drop_end (y ∷ xs) zero l = absurd (omega arith)
-drop_end (y ∷ xs) (suc i) l = let m : length xs ≤ i = omega arith in drop_end xs i m
 
 -- the same in a world that is equal
 pub renewed_in : {F : Type 0} (fact : SurroundingsOf (List ℕ) TypeTerm AttrTerm → F) (is_kept : F → Bool) (u w : World) → u ≡ w → (xs : List ℕ) (f g : ℕ → Option F)

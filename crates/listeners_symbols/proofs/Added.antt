@@ -13,18 +13,8 @@ use Rattle.ir_event.specs.declared.world.World.{World}
 use Rattle.ir_event.specs.Modules.{module_in}
 use Rattle.listeners_symbols.specs.Roles.{Stand, role, role_of}
 use Rattle.listeners_symbols.specs.Table.{Table, Says, Keeps, Renewed, AreRight, Added, RoleIsOf, role_meaning}
-
--- what is there is something
-pub there_is : {X : Type 0} (o : Option X) → is_some o ≡ true → (x : X) × (o ≡ Some x)
-there_is None e = absurd (true≢false (sym e))
-there_is (Some x) e = (x, refl)
-
-either_one : (a b : Bool) → a ≡ true → (a || b) ≡ true
-either_one a b e = ap (λ z. z || b) e
-
-other_one : (a b : Bool) → b ≡ true → (a || b) ≡ true
-other_one true b e = refl
-other_one false b e = e
+use Rattle.std.proofs.lemmas.Bool.{or_left, or_right}
+use Rattle.ir_tree_laws.proofs.Reasoned.{some_there}
 
 module _ (c : Things) (t : Operation) where
   pub added_none : (f : Table) → Added c t [] f f
@@ -35,13 +25,13 @@ module _ (c : Things) (t : Operation) where
   renewed_right x f g r has right y k e = elim (bool_cases (eqb x y)) [
     | inr apart ↦ right y k (sym (r.others y apart) ∙ e)
     | inl same ↦ (let i = eqb-true x y same in
-        let own : Says c (role_of t x) (g x) = r.own has (λ p j. let z = there_is (f p) (r.parent p j) in subst (Says c (role_of t p)) (sym z.1) (right p z.0 z.1)) in
+        let own : Says c (role_of t x) (g x) = r.own has (λ p j. let z = some_there (f p) (r.parent p j) in subst (Says c (role_of t p)) (sym z.1) (right p z.0 z.1)) in
         subst (λ z. Says c (role_of t z) (Some k)) i (subst (Says c (role_of t x)) (ap g i ∙ e) own))
   ]
 
   pub added_one : (x : ℕ) (xs : List ℕ) (f g h : Table) → Renewed c t x f g → Added c t xs g h → Added c t (x ∷ xs) f h
   added_one x xs f g h r a = record {
-    right = λ all right. a.right (λ y k. all y (other_one (eqb x y) (list_any (λ z. eqb z y) xs) k)) (renewed_right x f g r (all x (either_one (eqb x x) (list_any (λ z. eqb z x) xs) (eq-eqb x x refl))) right);
+    right = λ all right. a.right (λ y k. all y (or_right (eqb x y) (list_any (λ z. eqb z y) xs) k)) (renewed_right x f g r (all x (or_left (eqb x x) (list_any (λ z. eqb z x) xs) (eq-eqb x x refl))) right);
     there = λ y k. there y k (list_any (λ z. eqb z y) xs) refl;
     others = λ y k. (let n = neither (eqb x y) (list_any (λ z. eqb z y) xs) k in a.others y n.1 ∙ r.others y n.0);
   }
@@ -70,7 +60,7 @@ module _ (c : Things) (t : Operation) where
       right = a.right (λ x k. ap (list_any (λ z. eqb z x)) (sym e) ∙ k) (λ x k i. (let no : None ≡ Some k = sym (vacant x) ∙ i in absurd cc))
 
       go : (b : Bool) → list_any (λ z. eqb z y) xs ≡ b → Says c (role_of t y) (g y)
-      go true i = (let z = there_is (g y) (a.there y i) in subst (Says c (role_of t y)) (sym z.1) (right y z.0 z.1))
+      go true i = (let z = some_there (g y) (a.there y i) in subst (Says c (role_of t y)) (sym z.1) (right y z.0 z.1))
       go false i =
           let none : g y ≡ None = a.others y i ∙ vacant y in
           record { is = ap (option_map (role_meaning c)) none ∙ sym (no_role y (ap (list_any (λ z. eqb z y)) (sym e) ∙ i)); known = subst (λ o. IfSome o (RoleIsOf c)) (sym none) tt }

@@ -19,7 +19,7 @@ use Rattle.listeners_symbols.specs.declared.references.Found.{Found}
 use Rattle.listeners_symbols.specs.Roles.{has_parts}
 use Rattle.listeners_symbols.specs.Table.{reference_meaning, ReferenceIsOf}
 use Rattle.listeners_symbols.specs.Found.{found_meaning, HasItsParts, IsFound}
-use Rattle.listeners_symbols.proofs.Lines.{same_test}
+use Rattle.ir_types.proofs.Truths.{same_test}
 
 parts_decide : (xs ys : List (List ℕ)) → Decides (pointwise bytes_eq xs ys) (xs ≡ ys)
 parts_decide = pointwise_decides bytes_decides

@@ -15,6 +15,8 @@ use Rattle.std.specs.BTreeMap.{BTreeMap, is_at}
 use Rattle.std.specs.BTreeMap as tree
 use Rattle.std.proofs.lemmas.Bool.{ne_eqb}
 use Rattle.listeners_symbols.specs.Lines.{lines_cells, key_cmp, first_in}
+use Rattle.ir_tree.proofs.Facts.{first_none}
+use Rattle.ir_types.proofs.Truths.{same_test}
 
 pub some_types : (xs ys : List ℕ) → pointwise (option_eq eqb) (map Some xs) (map Some ys) ≡ pointwise eqb xs ys
 some_types [] [] = refl
@@ -38,17 +40,6 @@ five_groups a0 a1 a2 a3 a4 d0 d1 d2 d3 d4 e1 e2 e3 e4 =
     ∙ ap (λ z. a0 ++ z) (sym (map-append f d0 (d1 ++ (d2 ++ (d3 ++ d4))) ∙ (λ i. lines_cells d0 ++ (map-append f d1 (d2 ++ (d3 ++ d4)) ∙ (λ j. lines_cells d1 ++ (map-append f d2 (d3 ++ d4) ∙ (λ k. lines_cells d2 ++ map-append f d3 d4 k)) j)) i)))
 
 -- ---- definitions by their names
-pub first_none : {X : Type 0} (a : Option X) → first_of a None ≡ a
-first_none None = refl
-first_none (Some x) = refl
-
-pub same_test : (x y : ℕ) → is_eq (nat_cmp x y) ≡ eqb x y
-same_test x y = go (nat_cmp x y) refl (ranks x y)
-  where
-    go : (r : Ordering) → nat_cmp x y ≡ r → MatchOrdering (nat_cmp x y) (x < y) (x ≡ y) (y < x) → is_eq (nat_cmp x y) ≡ eqb x y
-    go Less e m = let l = subst (λ r. MatchOrdering r (x < y) (x ≡ y) (y < x)) e m in ap is_eq e ∙ sym (ne_eqb x y (λ q. omega (arith, q, l)))
-    go Equal e m = let l = subst (λ r. MatchOrdering r (x < y) (x ≡ y) (y < x)) e m in ap is_eq e ∙ sym (eq-eqb x y l)
-    go Greater e m = let l = subst (λ r. MatchOrdering r (x < y) (x ≡ y) (y < x)) e m in ap is_eq e ∙ sym (ne_eqb x y (λ q. omega (arith, q, l)))
 
 is_eq_then : (a c : Ordering) → is_eq (ordering_then a c) ≡ (is_eq a && is_eq c)
 is_eq_then Less c = refl

@@ -38,6 +38,7 @@ use Rattle.listeners_surroundings.proofs.Alike.{Both, neither, each, both, same_
 use Rattle.listeners_surroundings.proofs.Moves.{left_id, taken}
 use Rattle.listeners_surroundings.proofs.Heads.{Keeps}
 use Rattle.listeners_symbols.specs.Roles.{Head, Stand, parent_in, home_of, table_at, symbol_of, is_private, references_of, signature_of, callee_of, call_of, role_from, role, role_of}
+use Rattle.ir_types.proofs.Truths.{unlike}
 
 abbrev Step_in : Type 0
 Step_in = StepOf (List ℕ) TypeTerm AttrTerm
@@ -349,9 +350,6 @@ module _ (x k : ℕ) (new : Value) (m n : Operation) (is : n ≡ each_head (at x
           let one : role n (edit_stand set s) ≡ role_from (parent_in s.path) (home_of s.path) (table_at h s.path) (put_operand k new h) after = (λ i. role_from (around i) (home i) (table i) (heads i) (map (λ v. type_of_value v n) (heads i).operands)) in
           let two : role_from (parent_in s.path) (home_of s.path) (table_at h s.path) (put_operand k new h) after ≡ role m s = (λ i. record { parent = parent_in s.path; home = home_of s.path; table = table_at h s.path; is_table = is_table h.name; symbol = symbol_of h; is_private = is_private h; references = references_of h; call = calls i; function = signature_of h }) in
           ap (option_map (role n)) (there ∙ ap (option_map (edit_stand set)) e) ∙ ap Some (one ∙ two) ∙ sym (ap (option_map (role m)) e)
-
-unlike : (x y : ℕ) → eqb x y ≡ false → y ≡ x → ⊥
-unlike x y e k = true≢false (sym (eq-eqb x y (sym k)) ∙ e)
 
 at_others : (x : ℕ) (f : Head → Head) (y : ℕ) → eqb x y ≡ false → (h : Head) → h.id ≡ y → at x f h ≡ h
 at_others x f y e h i = elim (bool_cases (eqb h.id x)) [ inl k ↦ absurd (unlike x y e (sym i ∙ eqb-true h.id x k)) | inr k ↦ ap (λ b. cond b (f h) h) k ]

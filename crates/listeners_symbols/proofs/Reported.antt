@@ -41,7 +41,8 @@ use Rattle.listeners_symbols.specs.Listeners.{kept_at}
 use Rattle.listeners_symbols.specs.Lines.{numbered, numbers_at, cells_of, lines_cells}
 use Rattle.ir_types.proofs.SameTerms.{type_is, type_refl}
 use Rattle.listeners_symbols.proofs.Agreed.{name_more, attr_more}
-use Rattle.listeners_symbols.proofs.Lines.{same_test}
+use Rattle.ir_types.proofs.Truths.{same_test}
+use Rattle.ir_types.proofs.Sorting.{flips_eq}
 
 abbrev pub Each : {X : Type 0} → (X → Type 0) → List X → Type 0
 Each P [] = Unit {0}
@@ -312,14 +313,12 @@ module _ (b : Things) where
       ]
 
 module _ (t : Operation) where
-  turned : (a c : ℕ) → eqb a c ≡ eqb c a
-  turned a c = decided (eqb a c) c a (λ e. sym (eqb-true a c e)) (λ e. eq-eqb a c (sym e))
 
   found_role : (q : ℕ) (ss : List Stand) → find nat_cmp q (roles_in t ss) ≡ option_map (role t) (stand_in q ss)
   found_role q [] = refl
   found_role q (s ∷ ss) =
       find-put nat_cmp nat_cmp_total q (stand_id s) (role t s) (roles_in t ss)
-      ∙ (λ i. cond ((same_test q (stand_id s) ∙ turned q (stand_id s)) i) (Some (role t s)) (found_role q ss i))
+      ∙ (λ i. cond ((same_test q (stand_id s) ∙ flips_eq q (stand_id s)) i) (Some (role t s)) (found_role q ss i))
       ∙ elim (eqb (stand_id s) q) as (λ z. cond z (Some (role t s)) (option_map (role t) (stand_in q ss)) ≡ option_map (role t) (cond z (Some s) (stand_in q ss))) [ true ↦ refl | false ↦ refl ]
 
   roles_sorted : (ss : List Stand) → T (is_sorted nat_cmp (roles_in t ss))

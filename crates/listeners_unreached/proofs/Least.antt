@@ -4,6 +4,7 @@ use Rattle.std.proofs.lemmas.Bool.Decides.{leb_tells}
 use Rattle.ir_tree_laws.specs.Members.{In}
 use Rattle.ir_tree_laws.proofs.Listed.{in_filter, in_filtered, both, both_hold, all_each, each_all, any_one, one_any}
 use Rattle.listeners_unreached.specs.Reached.{IsReached, reached, among, lives, joins, rounds, reached_ones}
+use Rattle.ir_tree_laws.proofs.Formed.{filter_shorter}
 
 pub in_among : (x : ℕ) (xs : List ℕ) → In x xs → among x xs ≡ true
 in_among x xs h = any_one (λ z. eqb z x) xs x h (eq-eqb x x refl)
@@ -50,10 +51,6 @@ module _ {X : Type 0} (f g : X → Bool) where
 
 least_or : (a b : ℕ) → (a ≤ b) ⊎ (b < a)
 least_or a b = elim (leb_tells a b) [ inl h ↦ inl h.1 | inr h ↦ inr h.1 ]
-
-pub filter_few : {X : Type 0} (f : X → Bool) (xs : List X) → length (filter f xs) ≤ length xs
-filter_few f [] = omega arith
-filter_few f (x ∷ xs) = let later = filter_few f xs in elim (f x) as (λ b. length (cond b (x ∷ filter f xs) (filter f xs)) ≤ length (x ∷ xs)) [ true ↦ omega (arith, later) | false ↦ omega (arith, later) ]
 
 module _ (privates users : List ℕ) (under to : ℕ → List ℕ) where
   abbrev Least : ℕ → Type 0
@@ -127,7 +124,7 @@ module _ (privates users : List ℕ) (under to : ℕ → List ℕ) where
   stable : IsStable (length privates)
   stable = elim (either_way (length privates)) [
     | inl s ↦ s
-    | inr l ↦ (let k = filter_few (joins privates users under to (rounds privates users under to (length privates))) privates in absurd (omega (arith, k, l)))
+    | inr l ↦ (let k = filter_shorter (joins privates users under to (rounds privates users under to (length privates))) privates in absurd (omega (arith, k, l)))
   ]
 
   pub reached_sound : (x : ℕ) → In x (reached_ones privates users under to) → Least x

@@ -28,6 +28,7 @@ use Rattle.listeners_unreached.specs.Marks.{StandsUnder, IsDefinition, Reaches, 
 use Rattle.listeners_unreached.proofs.Sets.{reacher_role, role_stands}
 use Rattle.listeners_unreached.proofs.Under.{to_links, from_links}
 use Rattle.listeners_unreached.proofs.Taken.{reached_more}
+use Rattle.ir_tree_laws.proofs.Contents.{some_map}
 
 module _ (b : Things) where
   -- a definition in numbers is one in contents, under the name that its name's number stands for
@@ -39,17 +40,13 @@ module _ (b : Things) where
       go true false = refl
       go false p = refl
 
-  some_mapped : {X Y : Type 0} (f : X → Y) (o : Option X) → is_some (option_map f o) ≡ is_some o
-  some_mapped f None = refl
-  some_mapped f (Some x) = refl
-
   module _ (sound : IsSound b) (t : Operation) (m : BTreeMap ℕ Numbers) (keeps : Keeps b t (kept_at m)) where
     pub definition_meant : (x : ℕ) → is_definition t x ≡ says_definition (numbers_at m x)
     definition_meant x = ap says_definition (sym (keeps x).is) ∙ go (kept_at m x)
       where
         go : (k : Option Numbers) → says_definition (option_map (role_meaning b) k) ≡ says_definition (option_map role_numbers k)
         go None = refl
-        go (Some k) = ap is_some (private_meant k) ∙ some_mapped (name_term b) (private_name (role_numbers k))
+        go (Some k) = ap is_some (private_meant k) ∙ some_map (name_term b) (private_name (role_numbers k))
 
     module _ (ds : List (DefinitionOf ℕ)) (known : Each (DefinitionIs b) ds) where
       prefixes_meant : (found : Option ℕ) (ns : List ℕ) → All (IsName b) ns → prefixes bytes_eq (role_of t) (defs_in b ds) found (map (name_term b) ns) ≡ prefixes eqb (numbers_at m) ds found ns

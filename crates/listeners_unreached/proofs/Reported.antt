@@ -33,25 +33,17 @@ use Rattle.listeners_unreached.proofs.Least.{in_among, among_in}
 use Rattle.listeners_unreached.proofs.Sets.{in_reached, reached_is_in}
 use Rattle.listeners_unreached.proofs.Numbers.{private_meant, definition_meant, to_tree, from_tree}
 use Rattle.listeners_unreached.proofs.Entries.{each_entry}
-
--- a test that says the same as another of what may be
-same_tests : (a b : Bool) → (a ≡ true → b ≡ true) → (b ≡ true → a ≡ true) → a ≡ b
-same_tests true b f g = sym (f refl)
-same_tests false true f g = g refl
-same_tests false false f g = refl
+use Rattle.ir_types.proofs.Truths.{same_bool}
+use Rattle.ir_tree_laws.proofs.Reasoned.{some_there}
 
 none_true : {X : Type 0} (o : Option X) → is_none o ≡ true → o ≡ None
 none_true None e = refl
 none_true (Some x) e = absurd (true≢false (sym e))
 
-some_there : {X : Type 0} (o : Option X) → is_some o ≡ true → (x : X) × (o ≡ Some x)
-some_there None e = absurd (true≢false (sym e))
-some_there (Some x) e = (x, refl)
-
 module _ (b : Things) (sound : IsSound b) (t : Operation) (d : HasDistinctIds t) (m : BTreeMap ℕ Numbers) (ordered : tree.IsOrdered nat_cmp m) (keeps : Keeps b t (kept_at m)) (left : Left) (marked : IsMarked (numbers_at m) (definitions (numbered m.entries)) left) where
   -- a definition is taken out exactly where it is reached
   pub out_where_reached : (x : ℕ) → is_definition t x ≡ true → is_out left x ≡ among x (reached_in t)
-  out_where_reached x e = same_tests (is_out left x) (among x (reached_in t))
+  out_where_reached x e = same_bool (is_out left x) (among x (reached_in t))
       (λ o. in_among x (reached_in t) (reached_is_in t x (to_tree b sound t m keeps d ordered x (marked.sound x (sym (definition_meant b sound t m keeps x) ∙ e) (none_true (left x) o)))))
       (λ o. ap is_none (marked.complete x (from_tree b sound t m keeps d ordered x (in_reached t x (among_in x (reached_in t) o)))))
 

@@ -17,6 +17,8 @@ use Rattle.listeners_unreached.specs.Marking.{Left, Marks, Removed, IsDone}
 use Rattle.listeners_unreached.specs.Marks.{parent_at, StandsUnder, itself, around, IsDefinition, Reaches, TakesOut, TakesFound, StartsIn}
 use Rattle.listeners_unreached.proofs.Taken.{removed_none, removed_absent, removed_one}
 use Rattle.listeners_unreached.proofs.Entries.{found_key}
+use Rattle.ir_tree_laws.proofs.Contents.{some_map}
+use Rattle.ir_tree_laws.proofs.Reasoned.{some_there}
 
 pub on_ok : {A E : Type 0} (P Q : Type 0) (r : Result A E) → (P → Q) → OnOk r P → OnOk r Q
 on_ok P Q (Ok a) f h = f h
@@ -47,17 +49,9 @@ from_item (y ∷ ys) x d n l e m = let s : n - 1 ≡ length ys = omega (arith, m
 pub keeps_if : (f : ℕ → Bool) (x : ℕ) (out xs : List ℕ) → (out ++ cond (f x) (x ∷ []) []) ++ filter f xs ≡ out ++ filter f (x ∷ xs)
 keeps_if f x out xs = append_assoc out (cond (f x) (x ∷ []) []) (filter f xs) ∙ ap (λ l. out ++ l) (elim (f x) as (λ b. cond b (x ∷ []) [] ++ filter f xs ≡ cond b (x ∷ filter f xs) (filter f xs)) [ true ↦ refl | false ↦ refl ])
 
-pub some_mapped : {X Y : Type 0} (f : X → Y) (o : Option X) → is_some (option_map f o) ≡ is_some o
-some_mapped f None = refl
-some_mapped f (Some x) = refl
-
 pub none_false : {X : Type 0} (o : Option X) → is_some o ≡ false → o ≡ None
 none_false None e = refl
 none_false (Some x) e = absurd (true≢false e)
-
-pub some_true : {X : Type 0} (o : Option X) → is_some o ≡ true → (x : X) × (o ≡ Some x)
-some_true None e = absurd (true≢false (sym e))
-some_true (Some x) e = (x, refl)
 
 -- ---- up the operations around
 pub up_one : (roles : RoleAt ℕ ℕ ℕ) (left : Left) (y next p : ℕ) → parent_at (roles y) ≡ Some next → left y ≡ None → StandsUnder roles y p → StandsUnder roles next p ⊎ (left p ≡ None)

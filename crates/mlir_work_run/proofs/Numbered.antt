@@ -16,6 +16,7 @@ use Rattle.ir_tree.specs.Ids.{ids, op_count, IsNumberedFrom, HasDistinctIds}
 use Rattle.ir_tree.specs.Meaning.{isolated_in, meaning}
 use Rattle.ir_tree.specs.WellFormed.{IsFormed}
 use Rattle.ir_tree.proofs.Mapped.{map_counts, map_depth, map_ids, map_operands_visible}
+use Rattle.ir_event.proofs.of_tree_laws.Facts.{count_meaning}
 
 numbers_apart : (n : ℕ) → AllPairs (λ x y. x ≢ y) (range_with_len 0 n)
 numbers_apart n i j d lt within e =
@@ -39,9 +40,6 @@ numbered_below t next same e = rw same (subst (All (λ x. x < op_count t)) (sym 
 -- what a tree stands for is numbered as the tree
 pub numbered_meaning : (c : Things) (t : Op) → IsNumberedFrom 0 (meaning c t) → IsNumberedFrom 0 t
 numbered_meaning c t e = rw (map_ids (name_term c) (type_term c) (attr_term c) t) at e
-
-pub count_meaning : (c : Things) (t : Op) → op_count (meaning c t) ≡ op_count t
-count_meaning c t = rw (map_ids (name_term c) (type_term c) (attr_term c) t) refl
 
 -- a tree is formed where what it stands for is
 pub formed_meaning : (c : Things) (t : Op) → IsFormed is_isolated (meaning c t) → IsFormed (isolated_in c) t

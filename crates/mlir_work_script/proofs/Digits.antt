@@ -5,24 +5,18 @@ use Rattle.std.specs.Str.{all_ascii_digits}
 use Rattle.std.specs.Char.{is_ascii_digit}
 use Rattle.std.proofs.lemmas.Bool.Decides.{nat_tests}
 use Rattle.mlir_work_script.specs.Numbers.{value_after, number_after}
+use Rattle.std.proofs.lemmas.Bool.{and_right, le-ltb}
 
 -- more digits make no number smaller
 pub value_grows : (n : ℕ) (ds : List ℕ) → n ≤ value_after n ds
 value_grows n [] = omega arith
 value_grows n (d ∷ ds) = let ih = value_grows (n * 10 + (d - 48)) ds in omega arith
 
-and_no : (a b : Bool) → b ≡ false → (a && b) ≡ false
-and_no true b e = e
-and_no false b e = refl
-
-not_below : (m n : ℕ) → n ≤ m → nat_lt m n ≡ false
-not_below m n h = grind (arith, nat_tests)
-
 -- a number that is too great stays so
 pub too_great : (n : ℕ) (ds : List ℕ) → 2 ^ 32 ≤ n → number_after n ds ≡ None
 too_great n ds h =
-    let e : nat_lt (value_after n ds) (2 ^ 32) ≡ false = not_below _ _ (let g = value_grows n ds in omega arith) in
-    rw (and_no (all_ascii_digits ds) (nat_lt (value_after n ds) (2 ^ 32)) e) refl
+    let e : nat_lt (value_after n ds) (2 ^ 32) ≡ false = le-ltb _ _ (let g = value_grows n ds in omega arith) in
+    rw (and_right (all_ascii_digits ds) (nat_lt (value_after n ds) (2 ^ 32)) e) refl
 
 -- what isn't a digit ends no number
 pub no_digit : (n d : ℕ) (ds : List ℕ) → is_ascii_digit d ≡ false → number_after n (d ∷ ds) ≡ None

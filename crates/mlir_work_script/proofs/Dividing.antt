@@ -5,12 +5,10 @@ use Rattle.std.proofs.lemmas.Bool.Decides.{nat_tests}
 use Rattle.ir_types.proofs.Growth.{name_is}
 use Rattle.mlir_work_script.specs.Lines.{is_newline, line_of, after_line}
 use Rattle.mlir_work_script.specs.Parts.{EndsLine, IsSplit, at_divider, module_from, script_from}
-
-equal : (m n : ℕ) → (m == n) ≡ true → m ≡ n
-equal m n e = grind (arith, nat_tests)
+use Rattle.ir_types.proofs.SameTerms.{number_is}
 
 line_if : (t : Bool) (b : ℕ) (bs line rest : List ℕ) → is_newline b ≡ t → (end : List ℕ) × (bs ≡ line ++ end) × EndsLine end rest → (end : List ℕ) × (b ∷ bs ≡ (if t then [] else b ∷ line) ++ end) × EndsLine end (if t then bs else rest)
-line_if true b bs line rest e h = (b ∷ bs, refl, inl (ap (λ c. c ∷ bs) (equal b 10 e)))
+line_if true b bs line rest e h = (b ∷ bs, refl, inl (ap (λ c. c ∷ bs) (number_is b 10 e)))
 line_if false b bs line rest e (end, is, ends) = (end, ap (λ xs. b ∷ xs) is, ends)
 
 line_ends : (text : List ℕ) → (end : List ℕ) × (text ≡ line_of text ++ end) × EndsLine end (after_line text)

@@ -10,20 +10,12 @@ use Rattle.ir_types.proofs.Growth.{name_refl, name_is}
 use Rattle.mlir_work_script.specs.Kinds.{kind_name, kind_word, kind_of, numbered_from}
 use Rattle.mlir_work_script.specs.Numbers.{number_of}
 use Rattle.mlir_work_script.proofs.Printed.{number_again}
-
-either : (b : Bool) → (b ≡ true) ⊎ (b ≡ false)
-either true = inl refl
-either false = inr refl
-
-equal : (m n : ℕ) → (m == n) ≡ true → m ≡ n
-equal m n e = grind (arith, nat_tests)
-
-below : (m n : ℕ) → m < n → nat_lt m n ≡ true
-below m n h = grind (arith, nat_tests)
+use Rattle.std.proofs.lemmas.Bool.{lt-ltb, and_parts, cases_Bool, ltb-true}
+use Rattle.ir_types.proofs.SameTerms.{number_is}
 
 numbered_again : (n : ℕ) → n < 256 → kind_name n ≡ None → numbered_from (Some n) (decimal n) ≡ Some n
 numbered_again n h e =
-    let small : nat_lt n 256 ≡ true = below n 256 h in
+    let small : nat_lt n 256 ≡ true = lt-ltb n 256 h in
     let same : bytes_eq (decimal n) (decimal n) ≡ true = name_refl (decimal n) in
     rw (small, e, same) refl
 
@@ -31,25 +23,25 @@ unnamed_again : (n : ℕ) → n < 256 → kind_name n ≡ None → kind_of (kind
 unnamed_again n h e = rw e (rw (number_again n (omega arith)) (numbered_again n h e))
 
 named_again : (n k : ℕ) → (n == k) ≡ true → kind_of (kind_word k) ≡ Some k → kind_of (kind_word n) ≡ Some n
-named_again n k e h = subst (λ m. kind_of (kind_word m) ≡ Some m) (sym (equal n k e)) h
+named_again n k e h = subst (λ m. kind_of (kind_word m) ≡ Some m) (sym (number_is n k e)) h
 
 no_name : (n : ℕ) → (n == 1) ≡ false → (n == 2) ≡ false → (n == 3) ≡ false → (n == 4) ≡ false → (n == 5) ≡ false → (n == 6) ≡ false → (n == 7) ≡ false → kind_name n ≡ None
 no_name n a b c d e f g = rw (a, b, c, d, e, f, g) refl
 
 pub word_again : (n : ℕ) → n < 256 → kind_of (kind_word n) ≡ Some n
-word_again n h = elim (either (n == 1)) [
+word_again n h = elim (cases_Bool (n == 1)) [
   | inl e ↦ named_again n 1 e refl
-  | inr a ↦ elim (either (n == 2)) [
+  | inr a ↦ elim (cases_Bool (n == 2)) [
     | inl e ↦ named_again n 2 e refl
-    | inr b ↦ elim (either (n == 3)) [
+    | inr b ↦ elim (cases_Bool (n == 3)) [
       | inl e ↦ named_again n 3 e refl
-      | inr c ↦ elim (either (n == 4)) [
+      | inr c ↦ elim (cases_Bool (n == 4)) [
         | inl e ↦ named_again n 4 e refl
-        | inr d ↦ elim (either (n == 5)) [
+        | inr d ↦ elim (cases_Bool (n == 5)) [
           | inl e ↦ named_again n 5 e refl
-          | inr f ↦ elim (either (n == 6)) [
+          | inr f ↦ elim (cases_Bool (n == 6)) [
             | inl e ↦ named_again n 6 e refl
-            | inr g ↦ elim (either (n == 7)) [
+            | inr g ↦ elim (cases_Bool (n == 7)) [
               | inl e ↦ named_again n 7 e refl
               | inr k ↦ unnamed_again n h (no_name n a b c d f g k)
             ]
@@ -77,14 +69,6 @@ first_of_words : (word : List ℕ) (k n : ℕ) (t : Bool) (rest : Option ℕ) �
 first_of_words word k n true rest e h others s = has_named word k n h e s
 first_of_words word k n false rest e h others s = others s
 
-both : (a b : Bool) → (a && b) ≡ true → (a ≡ true) × (b ≡ true)
-both true true e = (refl, refl)
-both true false e = absurd cc
-both false b e = absurd cc
-
-from_below : (m n : ℕ) → nat_lt m n ≡ true → m < n
-from_below m n e = grind (arith, nat_tests)
-
 without_name : (name : Option (List ℕ)) → not (is_some name) ≡ true → name ≡ None
 without_name None e = refl
 without_name (Some x) e = absurd cc
@@ -97,9 +81,9 @@ pub record IsNumbered (digits : List ℕ) (n : ℕ) : Type 0 where
 numbered_if : (t : Bool) (m n : ℕ) (digits : List ℕ) → (nat_lt m 256 && (not (is_some (kind_name m)) && bytes_eq digits (decimal m))) ≡ t → (if t then Some m else None) ≡ Some n → IsNumbered digits n
 numbered_if true m n digits e s =
     let same : m ≡ n = cc in
-    let h = both (nat_lt m 256) (not (is_some (kind_name m)) && bytes_eq digits (decimal m)) e in
-    let k = both (not (is_some (kind_name m))) (bytes_eq digits (decimal m)) h.1 in
-    subst (IsNumbered digits) same (record { small = from_below m 256 h.0; unnamed = without_name (kind_name m) k.0; is = name_is digits (decimal m) k.1 })
+    let h = and_parts (nat_lt m 256) (not (is_some (kind_name m)) && bytes_eq digits (decimal m)) e in
+    let k = and_parts (not (is_some (kind_name m))) (bytes_eq digits (decimal m)) h.1 in
+    subst (IsNumbered digits) same (record { small = ltb-true m 256 h.0; unnamed = without_name (kind_name m) k.0; is = name_is digits (decimal m) k.1 })
 numbered_if false m n digits e s = absurd cc
 
 is_numbered : (m : Option ℕ) (n : ℕ) (digits : List ℕ) → numbered_from m digits ≡ Some n → IsNumbered digits n

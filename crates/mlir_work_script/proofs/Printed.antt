@@ -12,12 +12,10 @@ use Rattle.ir_tree.specs.declared.value.Value.TheVariants.{Result, Arg}
 use Rattle.mlir_work_script.specs.Cuts.{before, after}
 use Rattle.mlir_work_script.specs.Numbers.{value_after, number_of}
 use Rattle.mlir_work_script.specs.Values.{is_dot, op_of, op_text, value_of, value_text}
+use Rattle.std.proofs.lemmas.Bool.{lt-ltb, and_parts}
 
 own : IsNumeralModel (λ ds. all_ascii_digits ds ≡ true) (value_after 0)
 own = numerals_by_fold _ tells_all_ascii_digits value_after (search rules)
-
-below : (m n : ℕ) → m < n → nat_lt m n ≡ true
-below m n h = grind (arith, nat_tests)
 
 not_empty : (n : ℕ) → 0 < n → (n == 0) ≡ false
 not_empty n h = grind (arith, nat_tests)
@@ -30,7 +28,7 @@ number_again n h =
     let digits : all_ascii_digits (decimal n) ≡ true = digits_decimal own n (wide n h) in
     let value : value_after 0 (decimal n) ≡ n = digits_value-decimal own n (wide n h) in
     let some : (length (decimal n) == 0) ≡ false = not_empty (length (decimal n)) (decimal_nonempty n (wide n h)) in
-    let small : nat_lt n (2 ^ 32) ≡ true = below n (2 ^ 32) h in
+    let small : nat_lt n (2 ^ 32) ≡ true = lt-ltb n (2 ^ 32) h in
     rw (some, digits, value, small) refl
 
 pub op_again : (n : ℕ) → n < 2 ^ 32 → op_of (op_text n) ≡ Some n
@@ -38,25 +36,20 @@ op_again n h = number_again n h
 
 -- ---- parts between dots
 
-both : (a b : Bool) → (a && b) ≡ true → (a ≡ true) × (b ≡ true)
-both true true e = (refl, refl)
-both true false e = absurd cc
-both false b e = absurd cc
-
 no_dot : (d : ℕ) → is_ascii_digit d ≡ true → is_dot d ≡ false
 no_dot d e = grind (arith, nat_tests)
 
 before_dot : (ds rest : List ℕ) → all_ascii_digits ds ≡ true → before is_dot (ds ++ 46 ∷ rest) ≡ ds
 before_dot [] rest e = refl
 before_dot (d ∷ ds) rest e =
-    let h = both (is_ascii_digit d) (all_ascii_digits ds) e in
+    let h = and_parts (is_ascii_digit d) (all_ascii_digits ds) e in
     let ih = before_dot ds rest h.1 in
     rw (no_dot d h.0) (ap (λ xs. d ∷ xs) ih)
 
 after_dot : (ds rest : List ℕ) → all_ascii_digits ds ≡ true → after is_dot (ds ++ 46 ∷ rest) ≡ rest
 after_dot [] rest e = refl
 after_dot (d ∷ ds) rest e =
-    let h = both (is_ascii_digit d) (all_ascii_digits ds) e in
+    let h = and_parts (is_ascii_digit d) (all_ascii_digits ds) e in
     rw (no_dot d h.0) (after_dot ds rest h.1)
 
 before_decimal : (n : ℕ) (rest : List ℕ) → n < 2 ^ 32 → before is_dot (decimal n ++ 46 ∷ rest) ≡ decimal n

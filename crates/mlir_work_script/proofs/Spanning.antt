@@ -1,9 +1,10 @@
 -- A text is split line by line.
 use Rattle.std.proofs.Common.{◌≡◌, ◌∙◌, refl, sym, ap, ℕ, zero, suc, ◌+◌, ◌-◌, ◌<◌, ◌≤◌, Bool, true, false, cond, List, [], ◌∷◌, ◌++◌, length, take, drop, append_assoc, arith}
 use Rattle.std.specs.Prelude.{◌==◌, slice_index}
-use Rattle.std.proofs.lemmas.List.{append-nil, length-append}
+use Rattle.std.proofs.lemmas.List.{append-nil, length-append, take_rest}
 use Rattle.mlir_work_script.specs.Lines.{is_newline, after_line}
 use Rattle.mlir_work_script.specs.Parts.{at_divider, module_from, script_from}
+use Rattle.ir_types.proofs.Truths.{take_whole}
 
 -- a line with its line feed, and what follows it
 pub record Spans (bs line : List ℕ) : Type 0 where
@@ -96,21 +97,6 @@ not_none (suc n) e = omega arith
 
 -- ---- the first line feed
 
-all_of : (bs : List ℕ) → take (length bs) bs ≡ bs
-all_of [] = refl
-all_of (b ∷ bs) = ap (λ l. b ∷ l) (all_of bs)
-
-rest_of : (bs : List ℕ) (k : ℕ) → take (length bs - k) (drop k bs) ≡ drop k bs
-rest_of bs zero =
-    let n : length bs - 0 ≡ length bs = omega arith in
-    rw n (all_of bs)
-rest_of [] (suc k) =
-    let n : length {A = ℕ} [] - suc k ≡ 0 = omega arith in
-    rw n refl
-rest_of (b ∷ bs) (suc k) =
-    let n : length (b ∷ bs) - suc k ≡ length bs - k = omega arith in
-    rw n (rest_of bs k)
-
 nothing_dropped : (bs : List ℕ) (m : ℕ) → m ≡ 0 → drop m bs ≡ bs
 nothing_dropped bs m e = rw e refl
 
@@ -125,7 +111,7 @@ found (b ∷ bs) (suc n) (suc m) s lt none e =
     ]) refl
 
 pub after_found : (bs : List ℕ) (n : ℕ) → n < length bs → ((k : ℕ) → k < n → (slice_index bs k == 10) ≡ true → ⊥) → (slice_index bs n == 10) ≡ true → take (length bs - (n + 1)) (drop (n + 1) bs) ≡ after_line bs
-after_found bs n lt none e = rest_of bs (n + 1) ∙ found bs n (n + 1) refl lt none e
+after_found bs n lt none e = take_rest bs (n + 1) ∙ found bs n (n + 1) refl lt none e
 
 pub after_none : (bs : List ℕ) → ((k : ℕ) → k < length bs → (slice_index bs k == 10) ≡ true → ⊥) → [] ≡ after_line bs
 after_none [] none = refl

@@ -6,6 +6,7 @@ use Rattle.mlir_work_script.specs.Clauses.{Clauses, with_clauses, with_named}
 use Rattle.mlir_work_script.specs.Cuts.{after}
 use Rattle.mlir_work_script.specs.Lines.{onto_first}
 use Rattle.mlir_work_script.specs.Words.{is_blank, skip_blanks, word_of, after_word, words_of, onto_word}
+use Rattle.ir_types.proofs.Truths.{choose}
 
 -- ---- words
 
@@ -63,9 +64,6 @@ words_step (b ∷ bs) h e = words_from b bs e
 
 nothing_and : {X : Type 0} (t : Bool) (x : Option X) → (if t && false then x else None) ≡ None
 nothing_and t x = elim t as (λ t. (if t && false then x else None) ≡ None) [ true ↦ refl | false ↦ refl ]
-
-choose : {X : Type 0} (t : Bool) (x y : Option X) → x ≡ None → y ≡ None → (if t then x else y) ≡ None
-choose t x y e f = elim t as (λ t. (if t then x else y) ≡ None) [ true ↦ e | false ↦ f ]
 
 -- no clause has an empty list
 no_word : (name : List ℕ) (c : Clauses) → with_named name [] c ≡ None

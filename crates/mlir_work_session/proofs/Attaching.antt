@@ -9,14 +9,13 @@ use Rattle.ir_event.specs.Panels.{AttachedLast, HandedBack}
 use Rattle.rewriter.specs.Panels.{Shown, shown, all_shown, has_kind}
 use Rattle.mlir_work_session.specs.Output.{BoxTried, Attaches, box_line}
 use Rattle.mlir_work_session.proofs.Panels.{kind_shown}
+use Rattle.ir_tree.proofs.Counts.{and_true, and_assoc}
+use Rattle.rewriter.proofs.Panels.{shown_last}
 
 module _ {B : Type 0} (meaning : B → Listener) where
-  shown_last : (xs : List B) (b : B) → all_shown meaning (xs ++ b ∷ []) ≡ all_shown meaning xs ++ shown (meaning b) ∷ []
-  shown_last [] b = refl
-  shown_last (x ∷ xs) b = ap (λ ys. shown (meaning x) ∷ ys) (shown_last xs b)
 
   pub tried_added : (c : Things) (m : Module) (b : B) (xs ys : List B) → AttachedLast meaning c m b xs ys → BoxTried (shown (meaning b)) (all_shown meaning xs) (all_shown meaning ys) None
-  tried_added c m b xs ys h = (kind_shown meaning (meaning b).kind xs ∙ h.free, record { begun = shown (meaning h.begun); same = record { kind = h.same.kind; analysis = h.same.analysis }; stale = (meaning h.begun).fresh c m h.agrees; last = ap (all_shown meaning) h.last ∙ shown_last xs h.begun })
+  tried_added c m b xs ys h = (kind_shown meaning (meaning b).kind xs ∙ h.free, record { begun = shown (meaning h.begun); same = record { kind = h.same.kind; analysis = h.same.analysis }; stale = (meaning h.begun).fresh c m h.agrees; last = ap (all_shown meaning) h.last ∙ (shown_last meaning) xs h.begun })
 
   pub tried_back : (b back : B) (xs ys : List B) (refusal : Refusal) → HandedBack meaning xs b refusal back → ys ≡ xs → BoxTried (shown (meaning b)) (all_shown meaning xs) (all_shown meaning ys) (Some refusal)
   tried_back b back xs ys KindTaken h e = (kind_shown meaning (meaning b).kind xs ∙ h.1, ap (all_shown meaning) e)
@@ -45,14 +44,6 @@ some_attaches (b ∷ bs) old =
     let tried = some_tried b old in
     let more = some_attaches bs old in
     (more.0, is_none tried.0 && more.1, box_line b.kind tried.0 ++ more.2, (old, tried.0, more.1, more.2, tried.1, more.3, refl, refl))
-
-pub both_there : (a b c : Bool) → (a && (b && c)) ≡ ((a && b) && c)
-both_there true b c = refl
-both_there false b c = refl
-
-pub all_there : (a : Bool) → (a && true) ≡ a
-all_there true = refl
-all_there false = refl
 
 pub one_less : {X : Type 0} (xs ys : List X) (x : X) (n m : ℕ) → xs ≡ x ∷ ys → m + 1 ≡ n → length xs ≡ n → length ys ≡ m
 one_less xs ys x n m e f h = let g : length (x ∷ ys) ≡ n = rw e at h in omega arith

@@ -10,6 +10,7 @@ use Rattle.ir_event.specs.Modules.{Module, Node}
 use Rattle.ir_event.specs.Listener.{Listener}
 use Rattle.ir_event.specs.Panels.{AllTold, is_kind as has_this_kind, has_kind as panel_has, Detached, BegunAgain}
 use Rattle.rewriter.specs.Panels.{Shown, IsSame, Ages, shown, all_shown, is_kind, has_kind, Detached as DetachedShown, BegunAgain as BegunShown}
+use Rattle.rewriter.proofs.Panels.{found_shown, got_shown, has_placed, position_shown, removed_shown, set_shown}
 
 same_self : (a : Shown) → IsSame a a
 same_self a = record { kind = refl; analysis = λ t. refl }
@@ -20,16 +21,9 @@ all_stay [] = tt
 all_stay (k ∷ ks) = (record { same = same_self k; stale = λ h. h }, all_stay ks)
 
 module _ {B : Type 0} (meaning : B → Listener) where
-  found_shown : (kind : ℕ) (bs : List B) → position_or_len (is_kind kind) (all_shown meaning bs) ≡ position_or_len (has_this_kind meaning kind) bs
-  found_shown kind [] = refl
-  found_shown kind (b ∷ bs) = rw (found_shown kind bs) refl
-
-  -- where the listener of a kind stands, among what is shown
-  pub position_shown : (kind : ℕ) (bs : List B) → position (is_kind kind) (all_shown meaning bs) ≡ position (has_this_kind meaning kind) bs
-  position_shown kind bs = rw (found_shown kind bs, length-map) refl
 
   pub kind_shown : (kind : ℕ) (bs : List B) → has_kind kind (all_shown meaning bs) ≡ panel_has meaning kind bs
-  kind_shown kind bs = ap is_some (position_shown kind bs)
+  kind_shown kind bs = ap is_some ((position_shown meaning) kind bs)
 
   -- the listener of a kind, among what is shown
   pub find_shown : (kind : ℕ) (bs : List B) → find (is_kind kind) (all_shown meaning bs) ≡ option_map (λ b. shown (meaning b)) (find (has_this_kind meaning kind) bs)
@@ -48,23 +42,9 @@ module _ {B : Type 0} (meaning : B → Listener) where
   ages_told e c n see (x ∷ xs) [] h = absurd h
   ages_told e c n see (x ∷ xs) (y ∷ ys) h = (record { same = record { kind = h.0.same.kind; analysis = h.0.same.analysis }; stale = h.0.stale }, ages_told e c n see xs ys h.1)
 
-  removed_shown : (bs : List B) (i : ℕ) → all_shown meaning (remove bs i) ≡ remove (all_shown meaning bs) i
-  removed_shown bs i = map-append (λ b. shown (meaning b)) (take i bs) (drop (suc i) bs) ∙ (λ j. sym (take-map (λ b. shown (meaning b)) i bs) j ++ sym (drop-map (λ b. shown (meaning b)) (suc i) bs) j)
-
-  set_shown : (bs : List B) (i : ℕ) (a : B) → all_shown meaning (slice_set bs i a) ≡ slice_set (all_shown meaning bs) i (shown (meaning a))
-  set_shown [] i a = refl
-  set_shown (b ∷ bs) zero a = refl
-  set_shown (b ∷ bs) (suc i) a = ap (λ ks. shown (meaning b) ∷ ks) (set_shown bs i a)
-
-  got_shown : (bs : List B) (i : ℕ) (a : B) → slice_get bs i ≡ Some a → slice_get (all_shown meaning bs) i ≡ Some (shown (meaning a))
-  got_shown [] zero a e = absurd cc
-  got_shown [] (suc i) a e = absurd cc
-  got_shown (b ∷ bs) zero a e = (let same : b ≡ a = cc in ap (λ x. Some (shown (meaning x))) same)
-  got_shown (b ∷ bs) (suc i) a e = got_shown bs i a e
-
   -- a listener that is dropped, and one that is begun again
   pub detached_shown : (kind : ℕ) (xs ys : List B) → Detached meaning kind xs ys → DetachedShown kind (all_shown meaning xs) (all_shown meaning ys)
-  detached_shown kind xs ys h = record { place = h.place; is = position_shown kind xs ∙ h.is; rest = ap (all_shown meaning) h.rest ∙ removed_shown xs h.place }
+  detached_shown kind xs ys h = record { place = h.place; is = (position_shown meaning) kind xs ∙ h.is; rest = ap (all_shown meaning) h.rest ∙ (removed_shown meaning) xs h.place }
 
   pub begun_shown : (kind : ℕ) (P : Listener → Type 0) (stale : Bool) (xs ys : List B) → ((b : B) → P (meaning b) → (meaning b).stale ≡ stale) → BegunAgain meaning kind P xs ys → BegunShown kind stale (all_shown meaning xs) (all_shown meaning ys)
   begun_shown kind P stale xs ys f h =
@@ -72,13 +52,9 @@ module _ {B : Type 0} (meaning : B → Listener) where
         place = h.place;
         before = shown (meaning h.before);
         after = shown (meaning h.after);
-        is = position_shown kind xs ∙ h.is;
-        was = got_shown xs h.place h.before h.was;
+        is = (position_shown meaning) kind xs ∙ h.is;
+        was = (got_shown meaning) xs h.place h.before h.was;
         same = record { kind = h.same.kind; analysis = h.same.analysis };
         gives = f h.after h.gives;
-        rest = ap (all_shown meaning) h.rest ∙ set_shown xs h.place h.after;
+        rest = ap (all_shown meaning) h.rest ∙ (set_shown meaning) xs h.place h.after;
       }
-
-  -- a kind that stands somewhere is there
-  pub has_placed : (kind place : ℕ) (xs : List B) → position (has_this_kind meaning kind) xs ≡ Some place → has_kind kind (all_shown meaning xs) ≡ true
-  has_placed kind place xs e = kind_shown kind xs ∙ ap is_some e

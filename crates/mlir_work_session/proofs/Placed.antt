@@ -15,7 +15,7 @@ use Rattle.ir_tree.proofs.Mapped.{map_find, map_place}
 use Rattle.ir_tree_laws.specs.Values.{region_at}
 use Rattle.ir_tree_laws.specs.Reads.{next_of, first_at, ops_in, ops_at}
 use Rattle.ir_tree_laws.proofs.Around.{absent_find}
-use Rattle.ir_tree_laws.proofs.Contents.{map_has_id, same_id}
+use Rattle.ir_tree_laws.proofs.Contents.{map_has_id, same_id, map_ops_at, map_region_at, some_map}
 use Rattle.ir_store.specs.Nodes.{Node, node_of, regions_arguments}
 use Rattle.ir_store.specs.Stored.{Stored, known}
 use Rattle.ir_event.proofs.Shown.{known_there}
@@ -23,32 +23,20 @@ use Rattle.rewriter.specs.Held.{Held, module_held}
 use Rattle.rewriter.specs.Spots.{Spot, Before, After, Start, End, passing, coming, behind, beside, in_block, spot_place}
 
 module _ {N T A M U B : Type 0} (f : N → M) (g : T → U) (h : A → B) where
-  map_region_at : (r : ℕ) (rs : RegionsOf N T A) → region_at r (map_regions f g h rs) ≡ option_map (map_region f g h) (region_at r rs)
-  map_region_at r no_regions = refl
-  map_region_at zero (region a rs) = refl
-  map_region_at (suc r) (region a rs) = map_region_at r rs
-
-  map_ops_at : (p r : ℕ) (t : OpOf N T A) → ops_at p r (map_tree f g h t) ≡ option_map (map_ops f g h) (ops_at p r t)
-  map_ops_at p r t = ap (option_and_then (λ (o : OpOf M U B). option_and_then ops_in (region_at r (regions o)))) (map_find f g h p t) ∙ go (find p t)
-    where
-      inside : (o : Option (RegionOf N T A)) → option_and_then ops_in (option_map (map_region f g h) o) ≡ option_map (map_ops f g h) (option_and_then ops_in o)
-      inside None = refl
-      inside (Some empty) = refl
-      inside (Some (block args os)) = refl
 
       go : (o : Option (OpOf N T A)) → option_and_then (λ (o : OpOf M U B). option_and_then ops_in (region_at r (regions o))) (option_map (map_tree f g h) o) ≡ option_map (map_ops f g h) (option_and_then (λ (o : OpOf N T A). option_and_then ops_in (region_at r (regions o))) o)
       go None = refl
-      go (Some (op y rs)) = ap (option_and_then ops_in) (map_region_at r rs) ∙ inside (region_at r rs)
+      go (Some (op y rs)) = ap (option_and_then ops_in) ((map_region_at f g h) r rs) ∙ inside (region_at r rs)
 
   map_has_block : (p r : ℕ) (t : OpOf N T A) → is_some (ops_at p r (map_tree f g h t)) ≡ is_some (ops_at p r t)
-  map_has_block p r t = ap is_some (map_ops_at p r t) ∙ go (ops_at p r t)
+  map_has_block p r t = ap is_some ((map_ops_at f g h) p r t) ∙ go (ops_at p r t)
     where
       go : (o : Option (OpsOf N T A)) → is_some (option_map (map_ops f g h) o) ≡ is_some o
       go None = refl
       go (Some os) = refl
 
   map_first_at : (p r : ℕ) (t : OpOf N T A) → first_at p r (map_tree f g h t) ≡ first_at p r t
-  map_first_at p r t = ap (option_and_then first_id) (map_ops_at p r t) ∙ go (ops_at p r t)
+  map_first_at p r t = ap (option_and_then first_id) ((map_ops_at f g h) p r t) ∙ go (ops_at p r t)
     where
       go : (o : Option (OpsOf N T A)) → option_and_then first_id (option_map (map_ops f g h) o) ≡ option_and_then first_id o
       go None = refl
@@ -99,7 +87,3 @@ block_told x r s n there e = go (find x s.module_of.tree) (ap (option_map node_o
 
 pub no_block : (x r : ℕ) (t : Op) → has_id x t ≡ false → is_some (ops_at x r t) ≡ false
 no_block x r t absent = ap (λ o. is_some (option_and_then (λ (o : Op). option_and_then ops_in (region_at r (regions o))) o)) (absent_find x t absent)
-
-pub some_kept : {X Y : Type 0} (f : X → Y) (o : Option X) → is_some (option_map f o) ≡ is_some o
-some_kept f None = refl
-some_kept f (Some x) = refl

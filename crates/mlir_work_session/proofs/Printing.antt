@@ -1,7 +1,7 @@
 -- Scripts that only print.
 use Rattle.std.proofs.Common.{◌≡◌, ◌∙◌, ap, sym, subst, refl, ℕ, ◌+◌, ◌==◌, ◌≤◌, List, [], ◌∷◌, ◌++◌, length, arith, Bool, true, false, true≢false, not, ◌&&◌, ◌||◌, cond, nat_lt, inl, inr, append-nil, append_assoc, map, Some, None, is_some, Result}
 use Rattle.std.specs.List.{list_any, list_all}
-use Rattle.std.proofs.lemmas.Bool.{eq-eqb, eqb-true, lt-ltb, ltb-false, ltb-true}
+use Rattle.std.proofs.lemmas.Bool.{eq-eqb, eqb-true, lt-ltb, ltb-false, ltb-true, and_parts, not-true}
 use Rattle.std.proofs.lemmas.List.Recursion.{is_position_or_len}
 use Rattle.ir_types.specs.declared.refusal.Refusal.TheVariants.{Memory}
 use Rattle.ir_tree.specs.Meaning.{Operation}
@@ -83,15 +83,6 @@ begun b = record b { stale = false }
 abbrev are_new : List Shown → List Shown → Bool
 are_new old bs = list_all (λ b. not (list_any (is_kind b.kind) old)) bs
 
-both : (a b : Bool) → (a && b) ≡ true → (a ≡ true) × (b ≡ true)
-both true true e = (refl, refl)
-both true false e = absurd (true≢false (sym e))
-both false b e = absurd (true≢false (sym e))
-
-is_false : (a : Bool) → not a ≡ true → a ≡ false
-is_false true e = absurd (true≢false (sym e))
-is_false false e = refl
-
 swapped : (m n : ℕ) → (m == n) ≡ false → (n == m) ≡ false
 swapped m n e = not_same (n == m) refl
   where
@@ -103,9 +94,9 @@ swapped m n e = not_same (n == m) refl
 still_new : (old : List Shown) (b : Shown) (bs : List Shown) → are_new old bs ≡ true → list_any (is_kind b.kind) bs ≡ false → are_new (old ++ begun b ∷ []) bs ≡ true
 still_new old b [] n f = refl
 still_new old b (x ∷ bs) n f =
-    let h = both _ _ n in
+    let h = and_parts _ _ n in
     let other = neither (x.kind == b.kind) (list_any (is_kind b.kind) bs) f in
-    rw (any_last x.kind old (begun b), is_false (list_any (is_kind x.kind) old) h.0, swapped x.kind b.kind other.0) (still_new old b bs h.1 other.1)
+    rw (any_last x.kind old (begun b), not-true (list_any (is_kind x.kind) old) h.0, swapped x.kind b.kind other.0) (still_new old b bs h.1 other.1)
   where
     neither : (a b : Bool) → (a || b) ≡ false → (a ≡ false) × (b ≡ false)
     neither true b e = absurd (true≢false e)
@@ -115,10 +106,10 @@ still_new old b (x ∷ bs) n f =
 pub apart_attach : (bs old : List Shown) → are_new old bs ≡ true → are_apart bs ≡ true → Attaches bs old (old ++ map begun bs) true []
 apart_attach [] old n h = (append-nil old, refl, refl)
 apart_attach (b ∷ bs) old n h =
-    let new = both _ _ n in
-    let apart = both _ _ h in
-    let free : has_kind b.kind old ≡ false = kind_any b.kind old ∙ is_false _ new.0 in
-    let others : list_any (is_kind b.kind) bs ≡ false = sym (kind_any b.kind bs) ∙ is_false _ apart.0 in
+    let new = and_parts _ _ n in
+    let apart = and_parts _ _ h in
+    let free : has_kind b.kind old ≡ false = kind_any b.kind old ∙ not-true _ new.0 in
+    let others : list_any (is_kind b.kind) bs ≡ false = sym (kind_any b.kind bs) ∙ not-true _ apart.0 in
     let rest = apart_attach bs (old ++ begun b ∷ []) (still_new old b bs new.1 others) apart.1 in
     (old ++ begun b ∷ [], None, true, [], (free, record { begun = begun b; same = record { kind = refl; analysis = λ t. refl }; stale = refl; last = refl }), rw (append_assoc old (begun b ∷ []) (map begun bs)) at rest, refl, refl)
 
@@ -185,7 +176,7 @@ pub first_prints : (text line more : List ℕ) → lines_of text ≡ line ∷ li
 first_prints text line more e = ap all_print e
 
 pub more_print : (text line more : List ℕ) → lines_of text ≡ line ∷ lines_of more → all_print (lines_of text) ≡ true → (prints_alone (line_says line) ≡ true) × (all_print (lines_of more) ≡ true)
-more_print text line more e h = both _ _ (sym (first_prints text line more e) ∙ h)
+more_print text line more e h = and_parts _ _ (sym (first_prints text line more e) ∙ h)
 
 -- a line that asks for the module is replied to, and then what may follow
 printed_bounded : (bytes : ℕ) (t : Operation) (reply : Reply) (shows : List ℕ) → IsPrinted t reply shows → IsBounded bytes (response_of reply)

@@ -32,6 +32,7 @@ use Rattle.mlir_work_session.specs.RowText.{rows_text}
 use Rattle.mlir_work_session.specs.Output.{IsModule, AreKinds, IsListing}
 use Rattle.ir_event.specs.Panels.{AllKept}
 use Rattle.mlir_work_session.proofs.Placed.{spot_beside}
+use Rattle.std.proofs.lemmas.Option.{slice_get_within}
 
 -- ---- what is seen of a bench by its world
 
@@ -131,16 +132,10 @@ unread_at_op bytes Spelled refusal offset small none = (refusal, Some offset, (s
 
 -- ---- names and attributes
 
-below_some : {A : Type 0} (xs : List A) (n : ℕ) (x : A) → slice_get xs n ≡ Some x → n < length xs
-below_some [] zero x e = absurd cc
-below_some [] (suc n) x e = absurd cc
-below_some (y ∷ ys) zero x e = omega arith
-below_some (y ∷ ys) (suc n) x e = let h = below_some ys n x e in omega arith
-
 -- the number of a name
 pub named_so : (bytes : List ℕ) (c d : Things) (n : ℕ) → (n, d) ≡ with_name bytes c → IsName d n × (name_term d n ≡ bytes)
 named_so bytes c d n e =
-    subst (λ (p : ℕ × Things). IsName p.1 p.0 × (name_term p.1 p.0 ≡ bytes)) (sym e) (below_some ((with_name bytes c).1).names (with_name bytes c).0 bytes (name_stands bytes c), new_name bytes c)
+    subst (λ (p : ℕ × Things). IsName p.1 p.0 × (name_term p.1 p.0 ≡ bytes)) (sym e) (slice_get_within ((with_name bytes c).1).names (with_name bytes c).0 bytes (name_stands bytes c), new_name bytes c)
 
 -- an attribute stays when the context grows
 pub attr_kept : (c d : Things) (text : List ℕ) (a : ℕ) → Holds c → Grows c d → IsAttr c a × SpellsAttr text (attr_term c a) → IsAttr d a × SpellsAttr text (attr_term d a)

@@ -4,7 +4,6 @@ use Rattle.std.specs.Prelude.{IfErr, IfOk, None, OnErr}
 use Rattle.ir_types.specs.Things.{Things}
 use Rattle.ir_types.specs.declared.refusal.Refusal.{Refusal}
 use Rattle.ir_types.specs.declared.refusal.Refusal.TheVariants.{Full, Memory, NoSuchOp}
-use Rattle.ir_tree.proofs.Returns.{bool_cases}
 use Rattle.ir_tree.specs.Ids.{has_id}
 use Rattle.ir_event.specs.Listener.{Listener}
 use Rattle.ir_event.specs.Modules.{Module}
@@ -17,6 +16,7 @@ use Rattle.patterns.specs.runs.Interning.{IsFull}
 use Rattle.patterns_base.specs.Rewrites.{Rewrite, none, refused, becomes, rewrite_of}
 use Rattle.patterns_base.specs.declared.rule.Rule.{Rule}
 use Rattle.mlir_work_transforms.specs.Applying.{applied_at, applied_reply, applying, made_of}
+use Rattle.std.proofs.lemmas.Bool.{cases_Bool}
 
 -- what is due, where the operation is there, and where it isn't
 at_one : (r : Rule) (x : ℕ) (m : Module) → has_id x m.tree ≡ true → applied_at r x m ≡ made_of (rewrite_of r m x) m
@@ -65,7 +65,7 @@ module _ (r : Rule) (x : ℕ) (s t : State) (marks : t.marks ≡ s.marks) where
 
   answered : (res : Result Bool Refusal) (c : Things) → (has_id x s.held.tree ≡ false → res ≡ Err NoSuchOp) → IfOk res (λ done. Gave (rewrite_of r s.held x) done s.held t.held) → OnErr res (t.held ≡ s.held)
       → IfErr res (λ e. IsReason (rewrite_of r s.held x) x s.held c e) → IsDue (applied_reply res)
-  answered res c there ok err why = elim (bool_cases (has_id x s.held.tree)) [
+  answered res c there ok err why = elim (cases_Bool (has_id x s.held.tree)) [
     | inr k ↦ gone res (there k) k err
     | inl k ↦ is_there res c k ok err why
   ]
@@ -73,7 +73,7 @@ module _ (r : Rule) (x : ℕ) (s t : State) (marks : t.marks ≡ s.marks) where
 -- where it is refused with 31, that is due, or the context is full
 pub applied_full : (r : Rule) (x : ℕ) (s : State) (res : Result Bool Refusal) (c : Things) → (has_id x s.held.tree ≡ false → res ≡ Err NoSuchOp) → IfErr res (λ e. IsReason (rewrite_of r s.held x) x s.held c e) → IsFullSo (IsFull c) s (applying r x) (applied_reply res)
 applied_full r x s (Ok done) c there why is = absurd cc
-applied_full r x s (Err e) c there why is = elim (bool_cases (has_id x s.held.tree)) [
+applied_full r x s (Err e) c there why is = elim (cases_Bool (has_id x s.held.tree)) [
   | inr k ↦ absurd (let z : Err e ≡ Err NoSuchOp = there k in let y : Refused e ≡ Refused Full = is in cc)
   | inl k ↦ by_why k why
 ]

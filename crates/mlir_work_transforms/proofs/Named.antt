@@ -26,6 +26,7 @@ use Rattle.conversion.specs.rewriter_bench.Panels.{all_shown}
 use Rattle.conversion.specs.Benches.{led_more, led_none}
 use Rattle.conversion.specs.States.{IsWant}
 use Rattle.mlir_work_transforms.specs.Interned.{AreNumbers, Interned}
+use Rattle.std.proofs.lemmas.Option.{slice_get_within}
 
 -- ---- a bench whose context grows
 
@@ -60,16 +61,10 @@ module _ {B : Type 0} (meaning : B → Listener) where
 
 -- ---- names
 
-below_some : {A : Type 0} (xs : List A) (n : ℕ) (x : A) → slice_get xs n ≡ Some x → n < length xs
-below_some [] zero x e = absurd cc
-below_some [] (suc n) x e = absurd cc
-below_some (y ∷ ys) zero x e = omega arith
-below_some (y ∷ ys) (suc n) x e = let h = below_some ys n x e in omega arith
-
 -- the number that a call answered is that of the name
 pub named_so : (bytes : List ℕ) (c d : Things) (n : ℕ) → (n, d) ≡ with_name bytes c → AreNumbers d (n ∷ []) (bytes ∷ [])
 named_so bytes c d n e = subst (λ (p : ℕ × Things). AreNumbers p.1 (p.0 ∷ []) (bytes ∷ [])) (sym e) (record {
-  known = All-cons (IsName (with_name bytes c).1) (with_name bytes c).0 [] (below_some ((with_name bytes c).1).names (with_name bytes c).0 bytes (name_stands bytes c)) (All-nil (IsName (with_name bytes c).1));
+  known = All-cons (IsName (with_name bytes c).1) (with_name bytes c).0 [] (slice_get_within ((with_name bytes c).1).names (with_name bytes c).0 bytes (name_stands bytes c)) (All-nil (IsName (with_name bytes c).1));
   are = ap (λ name. name ∷ []) (new_name bytes c);
 })
 

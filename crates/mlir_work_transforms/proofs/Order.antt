@@ -11,7 +11,6 @@ use Rattle.ir_tree.specs.Meaning.{Operation}
 use Rattle.ir_tree.proofs.Mapped.{map_ids}
 use Rattle.ir_tree.specs.Places.{without}
 use Rattle.ir_tree.proofs.Left.{left_distinct}
-use Rattle.ir_tree.proofs.Returns.{bool_cases}
 use Rattle.ir_tree_laws.specs.Reasons.{unless, unused_outside}
 use Rattle.ir_tree_laws.specs.Stands.{dropping}
 use Rattle.ir_tree_laws.proofs.Cuts.{one_cut, absent_before}
@@ -31,6 +30,9 @@ use Rattle.listeners_unreached.specs.Unreached.{is_definition, says_definition, 
 use Rattle.mlir_work_transforms.specs.Sweep.{all_erased, counted, sweep_of}
 use Rattle.mlir_work_transforms.specs.Erasing.{Erases}
 use Rattle.mlir_work_transforms.proofs.Sweeping.{all_erased_done, all_erased_refused}
+use Rattle.ir_types.proofs.Truths.{list_later}
+use Rattle.std.proofs.lemmas.Bool.{cases_Bool}
+use Rattle.ir_tree.proofs.Facts.{ids_head}
 
 -- ---- some of a list, from the last to the first
 
@@ -63,9 +65,9 @@ module _ (is : ℕ → Bool) where
   -- of those that pass, the ones that pass another test
   filtered : (g : ℕ → Bool) (l : List ℕ) → LastFirst (reverse (filter g (filter is l))) l
   filtered g [] = tt
-  filtered g (y ∷ l) = elim (bool_cases (is y)) [
+  filtered g (y ∷ l) = elim (cases_Bool (is y)) [
     | inr n ↦ subst (λ (zs : List ℕ). LastFirst (reverse zs) (y ∷ l)) (sym (ap (λ c. filter g (cond c (y ∷ filter is l) (filter is l))) n)) (last_under (reverse (filter g (filter is l))) y l (filtered g l))
-    | inl k ↦ subst (λ (zs : List ℕ). LastFirst (reverse zs) (y ∷ l)) (sym (ap (λ c. filter g (cond c (y ∷ filter is l) (filter is l))) k)) (elim (bool_cases (g y)) [
+    | inl k ↦ subst (λ (zs : List ℕ). LastFirst (reverse zs) (y ∷ l)) (sym (ap (λ c. filter g (cond c (y ∷ filter is l) (filter is l))) k)) (elim (cases_Bool (g y)) [
       | inr n ↦ subst (λ (zs : List ℕ). LastFirst (reverse zs) (y ∷ l)) (sym (ap (λ c. cond c (y ∷ filter g (filter is l)) (filter g (filter is l))) n)) (last_under (reverse (filter g (filter is l))) y l (filtered g l))
       | inl p ↦ subst (λ (zs : List ℕ). LastFirst (reverse zs) (y ∷ l)) (sym (ap (λ c. cond c (y ∷ filter g (filter is l)) (filter g (filter is l))) p))
           (subst (λ (zs : List ℕ). LastFirst zs (y ∷ l)) (sym (reverse-cons y (filter g (filter is l)))) (last_then (reverse (filter g (filter is l))) y l k (filtered g l)))
@@ -78,19 +80,12 @@ or_true : (b : Bool) → (b || true) ≡ true
 or_true true = refl
 or_true false = refl
 
-any_here : (x : ℕ) (us ws : List ℕ) → list_any (λ y. eqb y x) (us ++ x ∷ ws) ≡ true
-any_here x [] ws = ap (λ b. b || list_any (λ y. eqb y x) ws) (eq-eqb x x refl)
-any_here x (u ∷ us) ws = ap (λ b. eqb u x || b) (any_here x us ws) ∙ or_true (eqb u x)
-
-own_ids : {N T A : Type 0} (o : OpOf N T A) → ids o ≡ (head o).id ∷ regions_ids (regions o)
-own_ids (op h rs) = refl
-
 module _ (is : ℕ → Bool) (x : ℕ) (zs : List ℕ) (t : Operation) (d : HasDistinctIds t) (root : is (head t).id ≡ false) (l : LastFirst is (x ∷ zs) (ids t)) where
   known : has_id x t ≡ true
-  known = ap (list_any (λ y. eqb y x)) l.parts ∙ any_here x l.before l.behind
+  known = ap (list_any (λ y. eqb y x)) l.parts ∙ list_later x l.before l.behind
 
   other : eqb (head t).id x ≡ false
-  other = elim (bool_cases (eqb (head t).id x)) [
+  other = elim (cases_Bool (eqb (head t).id x)) [
     | inr n ↦ n
     | inl k ↦ absurd (true≢false (sym l.passes ∙ ap is (sym (eqb-true (head t).id x k)) ∙ root))
   ]
@@ -103,7 +98,7 @@ module _ (is : ℕ → Bool) (x : ℕ) (zs : List ℕ) (t : Operation) (d : HasD
   left_there =
       let w = taken_order x t there.0 d there.1 other in
       let id : (head there.0).id ≡ x = (inner_of x t there.0 there.1 other).id in
-      let parts : ids t ≡ w.0 ++ (x ∷ (regions_ids (regions there.0) ++ w.1)) = w.2 ∙ ap (λ (k : List ℕ). w.0 ++ (k ++ w.1)) (own_ids there.0) ∙ ap (λ (z : ℕ). w.0 ++ ((z ∷ regions_ids (regions there.0)) ++ w.1)) id in
+      let parts : ids t ≡ w.0 ++ (x ∷ (regions_ids (regions there.0) ++ w.1)) = w.2 ∙ ap (λ (k : List ℕ). w.0 ++ (k ++ w.1)) (ids_head there.0) ∙ ap (λ (z : ℕ). w.0 ++ ((z ∷ regions_ids (regions there.0)) ++ w.1)) id in
       let same : l.before ≡ w.0 = one_cut x l.before w.0 _ _ (absent_before x l.before l.behind (subst (IsDistinct eqb) l.parts d)) (absent_before x w.0 _ (subst (IsDistinct eqb) parts d)) (sym l.parts ∙ parts) in
       subst (LastFirst is zs) (sym w.3) (last_more is zs w.0 w.1 (subst (LastFirst is zs) same l.rest))
 
@@ -120,7 +115,7 @@ refusal_of (Err r) = Some r
 
 erased_for_uses : (is : ℕ → Bool) (zs : List ℕ) (m : Module) (r : Refusal) → HasDistinctIds m.tree → is (head m.tree).id ≡ false → LastFirst is zs (ids m.tree) → all_erased zs m ≡ Err r → r ≡ HasUses
 erased_for_uses is [] m r d root l e = absurd (let n : Ok m ≡ Err r = e in cc)
-erased_for_uses is (x ∷ zs) m r d root l e = elim (bool_cases (unused_outside x m.tree)) [
+erased_for_uses is (x ∷ zs) m r d root l e = elim (cases_Bool (unused_outside x m.tree)) [
   | inr used ↦ (
       let why : edit_reason (Erase x) m ≡ Some HasUses = λ i. unless (known is x zs m.tree d root l i) NoSuchOp (unless (not (other is x zs m.tree d root l i)) IsRoot (unless (used i) HasUses None)) in
       let n : Some r ≡ Some HasUses = ap refusal_of (sym e ∙ all_erased_refused x zs m HasUses why) in

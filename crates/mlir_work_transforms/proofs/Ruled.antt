@@ -1,23 +1,23 @@
 -- Rules by their numbers, one after another.
 use Rattle.std.proofs.Common.{◌≡◌, refl, ap, sym, ◌∙◌, ℕ, ◌≤◌, ◌<◌, ◌-◌, List, [], ◌∷◌, ◌++◌, append-nil, append_assoc, length, take, drop, get_or, Option, Some, None, option_map, arith}
 use Rattle.std.specs.Prelude.{option_and_then}
-use Rattle.conversion.proofs.Trying.{rest_at}
 use Rattle.conversion.specs.Converting.{rules_of}
 use Rattle.conversion.specs.Rule.{Rule}
 use Rattle.conversion.specs.RuleNames.{by_number}
+use Rattle.ir_types.proofs.Truths.{rest_at}
 
 -- the front of a list, and what comes of its rest
 abbrev pub joined : List Rule → Option (List Rule) → Option (List Rule)
 joined done rest = option_map (λ rs. done ++ rs) rest
 
-none_joined : (o : Option (List Rule)) → joined [] o ≡ o
+pub none_joined : (o : Option (List Rule)) → joined [] o ≡ o
 none_joined None = refl
 none_joined (Some rs) = refl
 
 pub rules_none : (all : List ℕ) → joined [] (rules_of all) ≡ rules_of all
 rules_none all = none_joined (rules_of all)
 
-one_joined : (done : List Rule) (r : Rule) (o : Option (List Rule)) → joined done (option_map (λ rs. r ∷ rs) o) ≡ joined (done ++ r ∷ []) o
+pub one_joined : (done : List Rule) (r : Rule) (o : Option (List Rule)) → joined done (option_map (λ rs. r ∷ rs) o) ≡ joined (done ++ r ∷ []) o
 one_joined done r None = refl
 one_joined done r (Some rs) = ap Some (sym (append_assoc done (r ∷ []) rs))
 

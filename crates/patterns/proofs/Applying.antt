@@ -17,10 +17,7 @@ use Rattle.patterns_base.specs.declared.rule.Rule.{Rule}
 use Rattle.patterns_base.specs.Rewrites.{Rewrite, none, refused, becomes, edits_of, rewrite_of, rewrite_by, carried_out}
 use Rattle.patterns.specs.Applied.{Gave, IsReason, IsRefusedSo}
 use Rattle.patterns.specs.Planned.{IsStopped}
-
-rewrite_is : (r : Rule) (m : Module) (x : ℕ) → rewrite_of r m x ≡ rewrite_by (edits_of r m x) m
-unfolding rewrite_of
-rewrite_is r m x = refl
+use Rattle.patterns_base.proofs.Facts.{rewrite_is}
 
 -- a rewrite that is carried out, and one that isn't
 pub gave : (w : Rewrite) (m n : Module) → w ≡ becomes n → Gave w true m n

@@ -1,7 +1,7 @@
 -- The limits of a module, by what is read of a world.
 use Rattle.std.proofs.Common.{◌≡◌, refl, ap, sym, ◌∙◌, ℕ, ◌+◌, ◌≤◌, ◌<◌, ◌-◌, ◌^◌, Bool, true, false, Some, None, arith, le-leb, length, min}
 use Rattle.std.specs.Prelude.{nat_le}
-use Rattle.std.proofs.lemmas.Bool.{leb-true}
+use Rattle.std.proofs.lemmas.Bool.{leb-true, lt-leb}
 use Rattle.ir_types.specs.Terms.{name_term, type_term, attr_term}
 use Rattle.ir_types.specs.declared.refusal.Refusal.TheVariants.{Full, IdsExhausted}
 use Rattle.ir_tree.specs.Ids.{op_count}
@@ -12,20 +12,13 @@ use Rattle.ir_event.specs.Modules.{module_in}
 use Rattle.ir_event.specs.declared.world.World.{World}
 use Rattle.patterns.specs.Applied.{limit_reason}
 
-not_le : (a b : ℕ) → b < a → nat_le a b ≡ false
-not_le a b h = go (nat_le a b) refl
-  where
-    go : (c : Bool) → nat_le a b ≡ c → nat_le a b ≡ false
-    go true e = (let n = leb-true a b e in absurd (omega (arith, h, n)))
-    go false e = e
-
 module _ (w : World) (k n s : ℕ) (count : n ≡ op_count w.store.module_of.tree) (sum : s ≡ min (n + k) (2 ^ 64 - 1)) where
   same_count : n ≡ op_count (module_in w).tree
   same_count = count ∙ sym (ap length (map_ids (name_term w.ctx) (type_term w.ctx) (attr_term w.ctx) w.store.module_of.tree))
 
   pub too_full : most_ops < s → Some Full ≡ limit_reason k (module_in w)
   too_full l =
-      let above : nat_le (op_count (module_in w).tree + k) most_ops ≡ false = not_le (op_count (module_in w).tree + k) most_ops (omega (arith, l, sum, same_count)) in
+      let above : nat_le (op_count (module_in w).tree + k) most_ops ≡ false = lt-leb (op_count (module_in w).tree + k) most_ops (omega (arith, l, sum, same_count)) in
       ap (λ b. unless b Full (unless (nat_le ((module_in w).next + k) most_next) IdsExhausted None)) (sym above)
 
   module _ (fits : s ≤ most_ops) (j i t : ℕ) (next : j ≡ w.store.module_of.next) (wide : i ≡ j) (total : t ≡ min (i + k) (2 ^ 64 - 1)) where
@@ -34,7 +27,7 @@ module _ (w : World) (k n s : ℕ) (count : n ≡ op_count w.store.module_of.tre
 
     pub too_long : most_next < t → Some IdsExhausted ≡ limit_reason k (module_in w)
     too_long l =
-        let above : nat_le (w.store.module_of.next + k) most_next ≡ false = not_le (w.store.module_of.next + k) most_next (omega (arith, l, total, wide, next)) in
+        let above : nat_le (w.store.module_of.next + k) most_next ≡ false = lt-leb (w.store.module_of.next + k) most_next (omega (arith, l, total, wide, next)) in
         λ i. unless (sym few_ops i) Full (unless (sym above i) IdsExhausted None)
 
     pub has_room : t ≤ most_next → None ≡ limit_reason k (module_in w)

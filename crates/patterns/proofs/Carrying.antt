@@ -20,7 +20,6 @@ use Rattle.patterns_runs.specs.Contents.{Edit, all_edited}
 use Rattle.patterns_runs.specs.Held.{Held, module_held}
 use Rattle.patterns_runs.specs.Runs.{Along}
 use Rattle.patterns_runs.specs.Lists.{IsWhy}
-use Rattle.patterns_runs.proofs.Free.{free_wants}
 use Rattle.patterns_runs.proofs.Journals.{recorded_none}
 use Rattle.patterns_base.specs.Makes.{made_by}
 use Rattle.patterns_base.specs.Rewrites.{becomes, refused, carried_out}
@@ -30,6 +29,7 @@ use Rattle.patterns.proofs.Counted.{made_counted}
 use Rattle.patterns.specs.Applied.{Applied, limit_reason}
 use Rattle.patterns.specs.Planned.{IsFree, IsStopped, MadeIsOf, planned_edits}
 use Rattle.patterns.specs.declared.plan.Planned.{Planned}
+use Rattle.patterns_edits.proofs.Free.{free_why}
 
 -- ---- limits
 
@@ -131,7 +131,7 @@ module _ (w : World) (h : Held) (ctx : w.ctx ≡ h.ctx) (store : w.store ≡ h.s
     -- they are refused for want of memory alone
     pub wanting : IsFree es (module_held h) → (g : Held) (made : List Edit) (e : Refusal) → module_held g ≡ module_held h → made ≡ planned_edits h.ctx n x p → IsWhy made (module_held g) e → e ≡ Memory
     wanting free g made e same due why =
-        free_wants es (module_held h) e (free (all_edited es (module_held h)) (unlimited es (module_held h) k (makes ∙ sym count) no_reason))
+        free_why es (module_held h) e (free (all_edited es (module_held h)) (unlimited es (module_held h) k (makes ∙ sym count) no_reason))
         (subst (λ (z : List Edit × Module). IsWhy z.0 z.1 e) (λ i. ((due ∙ ap (λ j. planned_edits h.ctx j x p) (sym same_next)) i, same i)) why)
 
 pub no_room : (edits : List Edit) (m : Module) (c : Things) (e : Refusal) → IsNoRoom c e → IsStopped edits m c e

@@ -12,16 +12,13 @@ use Rattle.patterns_base.specs.Rewrites.{Rewrite, none, refused, becomes, edits_
 use Rattle.patterns_base.specs.RuleNames.{is_canonical}
 use Rattle.patterns_base.specs.declared.rule.Rule.{Rule}
 use Rattle.patterns.specs.Lowest.{greedy}
+use Rattle.patterns_base.proofs.Facts.{rewrite_is}
 
-rewrite_is : (r : Rule) (m : Module) (x : ℕ) → rewrite_of r m x ≡ rewrite_by (edits_of r m x) m
-unfolding rewrite_of
-rewrite_is r m x = refl
-
-first_more : (r : Rule) (rs : List Rule) (m : Module) (x : ℕ) → first_rule (r ∷ rs) m x ≡ or_else (rewrite_of r m x) (first_rule rs m x)
+pub first_more : (r : Rule) (rs : List Rule) (m : Module) (x : ℕ) → first_rule (r ∷ rs) m x ≡ or_else (rewrite_of r m x) (first_rule rs m x)
 unfolding first_rule
 first_more r rs m x = refl
 
-first_none : (m : Module) (x : ℕ) → first_rule [] m x ≡ none
+pub first_none : (m : Module) (x : ℕ) → first_rule [] m x ≡ none
 unfolding first_rule
 first_none m x = refl
 
@@ -51,7 +48,7 @@ taken r m x es tries e rs =
     ∙ ap (λ w. or_else w (first_rule (greedy rs) m x)) is ∙ kept es m (first_rule (greedy rs) m x) ∙ sym is
 
 -- where none applies at all
-none_of : (rs : List Rule) (m : Module) (x : ℕ) → ((r : Rule) → None ≡ edits_of r m x) → first_rule rs m x ≡ none
+pub none_of : (rs : List Rule) (m : Module) (x : ℕ) → ((r : Rule) → None ≡ edits_of r m x) → first_rule rs m x ≡ none
 none_of [] m x h = first_none m x
 none_of (r ∷ rs) m x h = first_more r rs m x ∙ ap (λ w. or_else w (first_rule rs m x)) (rewrite_is r m x ∙ ap (λ p. rewrite_by p m) (sym (h r))) ∙ none_of rs m x h
 

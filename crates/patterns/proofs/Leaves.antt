@@ -41,7 +41,7 @@ module _ (c : Things) (name : ℕ) (bytes : List ℕ) (ty : ℕ) (term : TypeTer
 flags_unset : (name : List ℕ) → among flagged name ≡ false → flags name ≡ []
 flags_unset name e = ap (λ b. if b then (codes "overflowFlags", Overflow false false) ∷ [] else []) e
 
-flags_set : (name : List ℕ) → among flagged name ≡ true → flags name ≡ (codes "overflowFlags", Overflow false false) ∷ []
+pub flags_set : (name : List ℕ) → among flagged name ≡ true → flags name ≡ (codes "overflowFlags", Overflow false false) ∷ []
 flags_set name e = ap (λ b. if b then (codes "overflowFlags", Overflow false false) ∷ [] else []) e
 
 pub addi_flagged : among flagged (codes "arith.addi") ≡ true

@@ -1,5 +1,5 @@
 -- What comes of the lowest rule that applies.
-use Rattle.std.proofs.Common.{◌≡◌, refl, ap, sym, ◌∙◌, subst, ℕ, List, true, false, Option, Some, None, Result, Ok, Err, option_map}
+use Rattle.std.proofs.Common.{◌≡◌, refl, ap, sym, ◌∙◌, subst, ℕ, List, ◌∷◌, true, false, Option, Some, None, Result, Ok, Err, option_map}
 use Rattle.std.specs.Prelude.{IfOk, IfSome}
 use Rattle.ir_tree.specs.declared.place.Place.{Place}
 use Rattle.ir_tree.specs.Tree.{head}
@@ -35,6 +35,15 @@ module _ (w : World) (x : ℕ) (front : Place) (r : Rule) (tries : is_canonical 
   pub tried_ok : {E : Type 0} (result : Result (Option Made) E) → IfOk result (λ p. option_map (made_edits w.ctx (module_in w).next x front) p ≡ edits_of r (module_in w) x) → IfOk result (λ p. IfSome p (MadeIsOf w.ctx)) → IfOk result (TriedFirst r w x front)
   tried_ok (Ok p) e of = tried p e of
   tried_ok (Err f) e of = tt
+
+-- the first of some rules may be left out, so that it is the first of the others that applies
+pub first_others : (w : World) (x : ℕ) (front : Place) (r : Rule) (rs : List Rule) (f : Option (Rule × Made)) → IsLeftOut r w x → IsFirst rs w x front f → IsFirst (r ∷ rs) w x front f
+first_others w x front r rs None out first = out rs ∙ first
+first_others w x front r rs (Some f) out first = (first.0, out rs ∙ first.1)
+
+pub first_others_ok : {E : Type 0} (w : World) (x : ℕ) (front : Place) (r : Rule) (rs : List Rule) (result : Result (Option (Rule × Made)) E) → IsLeftOut r w x → IfOk result (IsFirst rs w x front) → IfOk result (IsFirst (r ∷ rs) w x front)
+first_others_ok w x front r rs (Ok f) out first = first_others w x front r rs f out first
+first_others_ok w x front r rs (Err e) out first = tt
 
 -- the row of an operation's name
 module _ (table : TableSuffices) (m : Module) (x : ℕ) (h : Header) (shown : Some h ≡ head_at x m.tree) (rules : List Rule) (row : rules ≡ rules_for h.name) where

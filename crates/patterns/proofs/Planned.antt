@@ -13,10 +13,7 @@ use Rattle.patterns_base.specs.Rules.{rule}
 use Rattle.patterns_base.specs.declared.rule.Rule.{Rule}
 use Rattle.patterns_base.specs.Rewrites.{edits_of}
 use Rattle.patterns_reads.specs.Reads.{head_at}
-
-edits_are : (r : Rule) (m : Module) (x : ℕ) → edits_of r m x ≡ given (find x m.tree) (λ o. given (front_of x m.tree) (λ front. when (is_clean m.tree (head o)) (rule r m.tree m.next front o)))
-unfolding edits_of
-edits_are r m x = refl
+use Rattle.patterns_base.proofs.Facts.{edits_are}
 
 pub none_there : (r : Rule) (m : Module) (x : ℕ) → None ≡ head_at x m.tree → None ≡ edits_of r m x
 none_there r m x e = go (find x m.tree) e ∙ sym (edits_are r m x)

@@ -1,5 +1,5 @@
 -- The lowest rule that applies at an operation.
-use Rattle.std.specs.Prelude.{◌≡◌, ℕ, List, ◌∷◌, Option, Some, None}
+use Rattle.std.specs.Prelude.{◌≡◌, ℕ, List, [], ◌∷◌, true, Option, Some, None}
 use Rattle.std.specs.List.{filter}
 use Rattle.ir_tree.specs.declared.place.Place.{Place}
 use Rattle.ir_event.specs.declared.world.World.{World}
@@ -8,6 +8,8 @@ use Rattle.patterns_base.specs.Canonicalization.{first_rule, lowest}
 use Rattle.patterns_base.specs.Rewrites.{none, edits_of, rewrite_of}
 use Rattle.patterns_base.specs.RuleNames.{is_canonical}
 use Rattle.patterns_base.specs.declared.rule.Rule.{Rule}
+use Rattle.patterns_base.specs.declared.rule.Rule.TheVariants.{EraseDead}
+use Rattle.patterns_plans.specs.Planned.{IsDead}
 use Rattle.patterns.specs.Planned.{MadeIsOf, made_edits}
 use Rattle.patterns.specs.declared.plan.Made.{Made}
 use Rattle.patterns.specs.declared.lowest.Found.{Found}
@@ -30,6 +32,16 @@ IsLeftOut r w x = (rs : List Rule) → first_rule (greedy (r ∷ rs)) (module_in
 abbrev pub AreLikely : List Rule → World → ℕ → Option (List Rule) → Type 0
 AreLikely rs w x None = first_rule (greedy rs) (module_in w) x ≡ none
 AreLikely rs w x (Some ks) = first_rule (greedy rs) (module_in w) x ≡ first_rule (greedy ks) (module_in w) x
+
+-- rule r is one that canonicalization tries and that may apply at operation x
+pub record IsLikely (r : Rule) (w : World) (x : ℕ) : Type 0 where
+  pub tried : is_canonical r ≡ true
+  pub dead : r ≡ EraseDead → IsDead w x
+
+-- the first of some rules, if there is one, is such a rule
+abbrev pub BeginsLikely : List Rule → World → ℕ → Type 0
+BeginsLikely [] w x = Unit {0}
+BeginsLikely (r ∷ rs) w x = IsLikely r w x
 
 -- the first of rules that is tried applies, with what it makes, or may be left out
 abbrev pub TriedFirst : Rule → World → ℕ → Place → Option Made → Type 0

@@ -94,7 +94,7 @@ pub(crate) fn constant_edits(
     requires { site.now.next + 1 ≤ most_next }
     ensures { IfOk result (λ es. es.items ≡ constant_edits site.now ty value) }
 {
-    let mut edits = Vec::new(alloc);
+    let mut edits = Vec::with_capacity(alloc, 3)?;
     put_constant(alloc, &mut edits, site, ty, value)?;
     give(&mut edits, site, first_result(site))?;
     Ok(edits)
@@ -111,7 +111,7 @@ pub(crate) fn cast_edits(
     requires { site.now.next + 1 ≤ most_next }
     ensures { IfOk result (λ es. es.items ≡ cast_edits site.now name ty value.now) }
 {
-    let mut edits = Vec::new(alloc);
+    let mut edits = Vec::with_capacity(alloc, 3)?;
     put(alloc, &mut edits, site, name, &[*value], ty, &None)?;
     give(&mut edits, site, first_result(site))?;
     Ok(edits)
@@ -132,7 +132,7 @@ pub(crate) fn combined_edits(
 {
     let operands = [*operand, first_result(site)];
     let flags = flag_entry(flags);
-    let mut edits = Vec::new(alloc);
+    let mut edits = Vec::with_capacity(alloc, 4)?;
     put_constant(alloc, &mut edits, site, ty, value)?;
     put(alloc, &mut edits, site, name, &operands, ty, &flags)?;
     give(&mut edits, site, result_at(site, 1))?;
@@ -149,7 +149,7 @@ pub(crate) fn mirrored_edits(
 ) -> Result<Vec<Edit>, AllocError>
     ensures { IfOk result (λ es. es.items ≡ mirrored_edits site.now predicate first.now second.now) }
 {
-    let mut edits = Vec::new(alloc);
+    let mut edits = Vec::with_capacity(alloc, 3)?;
     edits.push(Edit::SetAttr {
         op: site.op,
         key: Word::Predicate.id(),
@@ -186,7 +186,7 @@ pub(crate) fn chosen_edits(
     let asks = Some((Word::Predicate.id(), predicate));
     let comparison = Word::ArithCmpi.id();
     let choice = Word::ArithSelect.id();
-    let mut edits = Vec::new(alloc);
+    let mut edits = Vec::with_capacity(alloc, 4)?;
     put(alloc, &mut edits, site, comparison, &compared, truth, &asks)?;
     put(alloc, &mut edits, site, choice, &chosen, ty, &None)?;
     give(&mut edits, site, result_at(site, 1))?;
@@ -213,7 +213,7 @@ pub(crate) fn difference_edits(
     let flags = flag_entry(Some(flags));
     let xori = Word::ArithXori.id();
     let addi = Word::ArithAddi.id();
-    let mut edits = Vec::new(alloc);
+    let mut edits = Vec::with_capacity(alloc, 7)?;
     put_constant(alloc, &mut edits, site, ty, ones)?;
     put(alloc, &mut edits, site, xori, &complement, ty, &None)?;
     put_constant(alloc, &mut edits, site, ty, one)?;
@@ -244,7 +244,7 @@ pub(crate) fn remainder_edits(
     let set = flag_entry(Some(set));
     let muli = Word::ArithMuli.id();
     let subi = Word::ArithSubi.id();
-    let mut edits = Vec::new(alloc);
+    let mut edits = Vec::with_capacity(alloc, 5)?;
     put(alloc, &mut edits, site, division, &divided, ty, &flags)?;
     put(alloc, &mut edits, site, muli, &product, ty, &set)?;
     put(alloc, &mut edits, site, subi, &rest, ty, &set)?;

@@ -5,6 +5,7 @@ pub mod apply;
 mod carry;
 mod count;
 mod edits;
+pub mod first;
 mod interned;
 pub mod laws;
 mod likely;
@@ -14,6 +15,7 @@ mod make;
 mod operations;
 mod plan;
 mod plans;
+pub mod rows;
 mod site;
 
 pub use patterns_base::rule;

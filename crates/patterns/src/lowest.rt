@@ -10,11 +10,11 @@ ghost use Rattle.patterns_reads.specs.Reads.{head_at, head_in};
 ghost use Rattle.patterns_runs.specs.Benched.{Keeps};
 ghost use Rattle.patterns_runs.specs.Held.{module_held};
 ghost use Rattle.patterns.specs.Applied.{Applied, Gave, IsReason};
-ghost use Rattle.patterns.specs.Lowest.{IsFirst, IsLowest, TriedFirst};
+ghost use Rattle.patterns.specs.Lowest.{BeginsLikely, IsFirst, IsLikely, IsLowest, TriedFirst};
 
 use crate::carry::carry_plan;
 use crate::likely::{is_likely, likely};
-use crate::plan::{Made, Planned, made_at};
+use crate::plan::{Made, Planned, made_at, made_dead};
 use ir_event::analysis::Analysis;
 use ir_event::world::World;
 use ir_store::node::Node;
@@ -25,7 +25,7 @@ use patterns_base::laws::only_listed_rules_apply;
 use patterns_base::rule::Rule;
 use patterns_base::table::rules_of;
 use patterns_facts::laws::no_edit_is_refused;
-use patterns_reads::clean::is_clean;
+use patterns_reads::clean::is_clean_shown;
 use patterns_reads::look::{front, shown};
 use patterns_runs::Bench;
 use std::alloc::{AllocError, Global};
@@ -35,6 +35,29 @@ use std::alloc::{AllocError, Global};
 pub struct Found {
     pub rule: Rule,
     pub planned: Planned,
+}
+
+/// What a rule makes that canonicalization tries and that may apply, at a clean operation, of which this is shown, behind
+/// its place.
+fn try_likely(
+    alloc: Global,
+    world: &World,
+    rule: Rule,
+    front: &Place,
+    op: OpId,
+    node: &Node<'_>,
+) -> Result<Option<Made>, AllocError>
+    requires likely { IsLikely rule world.now op }
+    requires shown { Some (head_in world.now.ctx node.now) ≡ head_at op (module_in world.now).tree }
+    requires of { NodeIsOf world.now.ctx node.now }
+    requires front { Some front.now ≡ front_of op (module_in world.now).tree }
+    requires clean { clean_at (module_in world.now).tree (record (head_in world.now.ctx node.now) { id = op }) ≡ true }
+    ensures { IfOk result (TriedFirst rule world.now op front.now) }
+{
+    match rule {
+        Rule::EraseDead => made_dead(alloc, world, front, op, node),
+        _ => made_at(alloc, world, rule, front, op, node),
+    }
 }
 
 /// What a rule makes that canonicalization tries, at a clean operation, of which this is shown, behind its place.
@@ -55,11 +78,11 @@ fn try_rule(
     if !is_likely(world, rule, op, node) {
         return Ok(None);
     }
-    made_at(alloc, world, rule, front, op, node)
+    try_likely(alloc, world, rule, front, op, node)
 }
 
 /// The first of some rules that applies at a clean operation, of which this is shown, behind its place.
-fn first_made(
+fn first_applying(
     alloc: Global,
     world: &World,
     rules: &[Rule],
@@ -83,6 +106,31 @@ fn first_made(
     Ok(None)
 }
 
+/// The first of some rules that applies, of which the first may and needn't be asked whether it may.
+pub(crate) fn first_made(
+    alloc: Global,
+    world: &World,
+    rules: &[Rule],
+    front: &Place,
+    op: OpId,
+    node: &Node<'_>,
+) -> Result<Option<(Rule, Made)>, AllocError>
+    requires begins { BeginsLikely rules.now world.now op }
+    requires shown { Some (head_in world.now.ctx node.now) ≡ head_at op (module_in world.now).tree }
+    requires of { NodeIsOf world.now.ctx node.now }
+    requires front { Some front.now ≡ front_of op (module_in world.now).tree }
+    requires clean { clean_at (module_in world.now).tree (record (head_in world.now.ctx node.now) { id = op }) ≡ true }
+    ensures { IfOk result (IsFirst rules.now world.now op front.now) }
+{
+    let [rule, others @ ..] = rules else {
+        return Ok(None);
+    };
+    if let Some(made) = try_likely(alloc, world, *rule, front, op, node)? {
+        return Ok(Some((*rule, made)));
+    }
+    first_applying(alloc, world, others, front, op, node)
+}
+
 /// The lowest rule that applies at an operation. Whether that is clean is asked only where a rule may apply.
 fn find_lowest(alloc: Global, world: &World, op: OpId) -> Result<Option<Found>, AllocError>
     ensures { IfOk result (IsLowest world.now op) }
@@ -99,7 +147,7 @@ fn find_lowest(alloc: Global, world: &World, op: OpId) -> Result<Option<Found>, 
     let Some(front) = front(world, op) else {
         return Ok(None);
     };
-    if !is_clean(alloc, world, op, &node)? {
+    if !is_clean_shown(alloc, world, op, &node)? {
         return Ok(None);
     }
     match first_made(alloc, world, rules, &front, op, &node)? {

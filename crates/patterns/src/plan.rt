@@ -4,6 +4,8 @@ ghost use Rattle.ir_event.specs.Modules.{NodeIsOf, module_in};
 ghost use Rattle.patterns_base.specs.Looks.{front_of, is_clean as clean_at};
 ghost use Rattle.patterns_base.specs.Rewrites.{edits_of};
 ghost use Rattle.patterns_base.specs.RuleNames.{is_lowering};
+ghost use Rattle.patterns_base.specs.declared.rule.Rule.TheVariants.{EraseDead};
+ghost use Rattle.patterns_plans.specs.Planned.{IsDead};
 ghost use Rattle.patterns_lowering.specs.Planned.{IsCleanAt, IsLoweredAt};
 ghost use Rattle.patterns_reads.specs.Plans.{PlanIsOf};
 ghost use Rattle.patterns_reads.specs.Reads.{head_at, head_in};
@@ -16,6 +18,7 @@ use ir_types::ids::OpId;
 use patterns_base::rule::Rule;
 use patterns_lowering::plan::Lowering;
 use patterns_lowering::plans::plan_lowered;
+use patterns_plans::dead::erase;
 use patterns_plans::planned::plan;
 use patterns_reads::clean::is_clean;
 use patterns_reads::look::{front, shown};
@@ -28,8 +31,8 @@ use std::alloc::{AllocError, Global};
 pub enum Made {
     /// Operations of the types that there are.
     Plan(Plan),
-    /// Operations on i64 in place of one on index.
-    Lowering(Lowering),
+    /// Operations on i64 in place of one on index, which are larger.
+    Lowering(Box<Lowering>),
 }
 
 /// What a rule makes of an operation, and the place in front of that.
@@ -81,7 +84,7 @@ fn made_of(
 {
     if rule.is_lowering() {
         return match plan_lowered(alloc, world, rule, op)? {
-            Some(lowering) => Ok(Some(Made::Lowering(lowering))),
+            Some(lowering) => Ok(Some(Made::Lowering(Box::new(alloc, lowering)?))),
             None => Ok(None),
         };
     }
@@ -109,6 +112,26 @@ pub(crate) fn made_at(
     ensures of { IfOk result (λ p. IfSome p (MadeIsOf world.now.ctx)) }
 {
     made_of(alloc, world, rule, front, op, node)
+}
+
+/// What is made of a clean operation that is dead, of which this is shown, behind its place: it is erased.
+pub(crate) fn made_dead(
+    alloc: Global,
+    world: &World,
+    front: &Place,
+    op: OpId,
+    node: &Node<'_>,
+) -> Result<Option<Made>, AllocError>
+    requires dead { IsDead world.now op }
+    requires shown { Some (head_in world.now.ctx node.now) ≡ head_at op (module_in world.now).tree }
+    requires front { Some front.now ≡ front_of op (module_in world.now).tree }
+    requires clean { clean_at (module_in world.now).tree (record (head_in world.now.ctx node.now) { id = op }) ≡ true }
+    ensures edits { IfOk result (λ p. option_map (made_edits world.now.ctx (module_in world.now).next op front.now) p
+        ≡ edits_of EraseDead (module_in world.now) op) }
+    ensures of { IfOk result (λ p. IfSome p (MadeIsOf world.now.ctx)) }
+{
+    let plan = erase(alloc, op)?;
+    Ok(Some(Made::Plan(plan)))
 }
 
 /// The plan of a rule at an operation, if it applies.

@@ -34,13 +34,14 @@ use Rattle.patterns_base.specs.Folding.{folded_to, erase_dead, fold_to_constant,
 use Rattle.patterns_base.specs.Casting.{extend_extension, cut_cast, cast_back}
 use Rattle.patterns_base.specs.Opening.{open_branch, open_loop, stop_loop}
 use Rattle.patterns_base.specs.Lowering.{lower_index, lower_loop, lower_choice}
+use Rattle.std.proofs.lemmas.Bool.{and_right}
+use Rattle.ir_types.proofs.Truths.{choose}
+use Rattle.ir_types.proofs.Growth.{name_is}
 
 never : {A : Type 0} → true ≡ false → A
 never e = absurd (grind arith)
 
 -- ---- names among words
-is_word : (a b : List ℕ) → bytes_eq a b ≡ true → a ≡ b
-is_word a b h = (bytes_eq-Decides a b).0 h
 
 -- what is said of each word is said of a name among them
 pub of_among : (P : List ℕ → Type 0) (ws : List (List ℕ)) (name : List ℕ) → Each P ws → among ws name ≡ true → P name
@@ -48,7 +49,7 @@ of_among P [] name each h = absurd (grind arith)
 of_among P (w ∷ ws) name each h = by (bytes_eq name w) refl (λ more. of_among P ws name each.1 more)
   where
     by : (t : Bool) → bytes_eq name w ≡ t → (among ws name ≡ true → P name) → P name
-    by true e more = subst P (sym (is_word name w e)) each.0
+    by true e more = subst P (sym (name_is name w e)) each.0
     by false e more = more (grind arith)
 
 -- a name without a rule isn't among words that have it, nor the one word that has
@@ -63,7 +64,7 @@ another : (r : Rule) (w name : List ℕ) → has_rule r w ≡ true → has_rule 
 another r w name has lacks = by (bytes_eq name w) refl
   where
     by : (t : Bool) → bytes_eq name w ≡ t → t ≡ false
-    by true e = sym has ∙ ap (has_rule r) (sym (is_word name w e)) ∙ lacks
+    by true e = sym has ∙ ap (has_rule r) (sym (name_is name w e)) ∙ lacks
     by false e = refl
 
 -- nothing stands beside it
@@ -72,7 +73,7 @@ nothing_beside r [] name each lacks = refl
 nothing_beside r (row ∷ more) name each lacks = by (bytes_eq name row.0) refl (nothing_beside r more name each.1 lacks)
   where
     by : (t : Bool) → bytes_eq name row.0 ≡ t → beside name more ≡ None → (if t then Some row.1 else beside name more) ≡ None
-    by true e rest = never (sym each.0 ∙ ap (has_rule r) (sym (is_word name row.0 e)) ∙ lacks)
+    by true e rest = never (sym each.0 ∙ ap (has_rule r) (sym (name_is name row.0 e)) ∙ lacks)
     by false e rest = rest
 
 -- ---- tests that fail
@@ -264,14 +265,10 @@ first_is : (name : List ℕ) → bytes_eq name (codes "arith.constant") ≡ fals
 unfolding rules rule_of tail_of
 first_is name e rest = rw (e) rest
 
-both_none : {X : Type 0} (t : Bool) (x y : Option X) → x ≡ None → y ≡ None → (if t then x else y) ≡ None
-both_none true x y h k = h
-both_none false x y h k = k
-
 unfolded : (name : List ℕ) (p : List (List ℕ × AttrTerm)) (xs : List (Option Known)) (ts : List TypeTerm) → rule_of name ≡ None → fold_of name p xs ts ≡ None
 unfolding fold_of
 unfolded name p xs [] e = refl
-unfolded name p xs (ty ∷ []) e = rw (e) (both_none (list_all (is_property name) p) None None refl refl)
+unfolded name p xs (ty ∷ []) e = rw (e) (choose (list_all (is_property name) p) None None refl refl)
 unfolded name p xs (ty ∷ u ∷ us) e = refl
 
 -- ---- what has effects, or stays whatever it does
@@ -283,27 +280,23 @@ beside_or P [] name each none = none refl
 beside_or P (row ∷ more) name each none = by (bytes_eq name row.0) refl (λ rest. beside_or P more name each.1 rest) none
   where
     by : (t : Bool) → bytes_eq name row.0 ≡ t → ((beside name more ≡ None → P name) → P name) → ((if t then Some row.1 else beside name more) ≡ None → P name) → P name
-    by true e rest none = subst P (sym (is_word name row.0 e)) each.0
+    by true e rest none = subst P (sym (name_is name row.0 e)) each.0
     by false e rest none = rest none
 
 at_erase_dead : Each (λ (row : List ℕ × Row). Goes row.0) rows
 unfolding rules_for table rows row_of
 at_erase_dead = (λ e k. refl, (λ e k. never e, (λ e k. refl, (λ e k. refl, (λ e k. refl, (λ e k. never e, (λ e k. never e, (λ e k. never e, (λ e k. never e, (λ e k. never e, (λ e k. never e, (λ e k. never e, (λ e k. never e, (λ e k. never e, (λ e k. never e, (λ e k. never e, (λ e k. never e, (λ e k. never e, (λ e k. never e, (λ e k. never e, (λ e k. never e, (λ e k. never e, (λ e k. never e, (λ e k. never e, (λ e k. never e, (λ e k. never e, (λ e k. never e, (λ e k. never e, (λ e k. never e, (λ e k. never e, (λ e k. never e, (λ e k. never e, (λ e k. never e, (λ e k. refl, (λ e k. refl, (λ e k. never e, (λ e k. refl, (λ e k. never e, (λ e k. refl, tt)))))))))))))))))))))))))))))))))))))))
 
-and_false : (a b : Bool) → b ≡ false → (a && b) ≡ false
-and_false true b h = h
-and_false false b h = refl
-
 unlisted : (name : List ℕ) → beside name rows ≡ None → Goes name
 unfolding row_of
-unlisted name e lacks k = rw (e) (and_false _ false refl)
+unlisted name e lacks k = rw (e) (and_right _ false refl)
 
 goes_of : (name : List ℕ) → Goes name
 goes_of name = beside_or Goes rows name at_erase_dead (unlisted name)
 
 goes_not : (t o : Operation) → has_rule EraseDead (head o).name ≡ false → may_go t o ≡ false
 unfolding may_go
-goes_not t (op h rs) lacks = and_false (is_unused h.id t) _ (goes_of h.name lacks (regions_effects own_of rs))
+goes_not t (op h rs) lacks = and_right (is_unused h.id t) _ (goes_of h.name lacks (regions_effects own_of rs))
 
 stopped_or : {X : Type 0} (b c : Bool) (r : Option X) → (b ≡ false → r ≡ None) → when (not b && c) r ≡ None
 stopped_or true c r h = refl

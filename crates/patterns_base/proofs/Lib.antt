@@ -1,3 +1,4 @@
+pub mod Facts
 pub mod RuleLaws
 pub mod Dispatch
 pub mod Suffices

@@ -38,7 +38,7 @@ there es h = record { each = λ fs e. subst (λ gs. 1 ≤ made_by gs) (let same 
 first : (place : Place) (o : Operation) (es : List Edit) → Making (Make place o ∷ es)
 first place o es = record { some = omega arith }
 
-joined : (es fs : List Edit) → made_by (es ++ fs) ≡ made_by es + made_by fs
+pub joined : (es fs : List Edit) → made_by (es ++ fs) ≡ made_by es + made_by fs
 joined [] fs = (let e : made_by ([] ++ fs) ≡ made_by fs = refl in omega (arith, e))
 joined (e ∷ es) fs = omega (arith, joined es fs)
 

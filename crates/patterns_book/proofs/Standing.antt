@@ -1,6 +1,6 @@
 -- What stands at places stays there.
 use Rattle.std.proofs.Common.{◌≡◌, ℕ, List, [], ◌∷◌, Bool, true, false, Option, Some, None, slice_get, slice_set, refl, sym, ◌∙◌, ◌⊎◌, inl, inr, ap, subst, arith, get_or-set_other, ◌&&◌}
-use Rattle.std.proofs.lemmas.Option.{slice_get_within, slice_get-get_or, get_or_from_slice_get}
+use Rattle.std.proofs.lemmas.Option.{slice_get_within, slice_get-get_or, get_or_from_slice_get, none-some}
 use Rattle.std.proofs.lemmas.Bool.Decides.{eqb_tells}
 use Rattle.std.proofs.lemmas.List.{length-set}
 use Rattle.ir_tree.specs.declared.value.Value.{Value}
@@ -9,23 +9,15 @@ use Rattle.ir_tree.specs.Uses.{same_value}
 use Rattle.patterns_check.specs.Outcomes.{given}
 use Rattle.patterns_book.specs.Names.{name_of, operands_of}
 use Rattle.patterns_book.specs.Matching.{Standing, when, bound, bound_over, all_bound, standing, asks_alike, giver_head, header_matched, value_matched, piece_matched, pieces_matched, PiecesStand}
-
-none_some : {X : Type 0} (x : X) → None ≡ Some x → ⊥
-none_some x e = cc
+use Rattle.patterns_laws.proofs.KnownFolds.{given_some}
+use Rattle.std.proofs.lemmas.Bool.{cases_eq}
 
 same_some : {X : Type 0} {x y : X} → Some x ≡ Some y → x ≡ y
 same_some e = cc
 
-given_some : {X Y : Type 0} (r : Option X) (f : X → Option Y) (y : Y) → given r f ≡ Some y → (x : X) × (r ≡ Some x) × (f x ≡ Some y)
-given_some None f y e = absurd (none_some y e)
-given_some (Some x) f y e = (x, refl, e)
-
 when_some : {X : Type 0} (b : Bool) (r : Option X) (x : X) → when b r ≡ Some x → r ≡ Some x
 when_some true r x e = e
-when_some false r x e = absurd (none_some x e)
-
-one_or_not : (j k : ℕ) → (j ≡ k) ⊎ (j ≡ k → ⊥)
-one_or_not j k = elim (eqb_tells j k) [ inl h ↦ inl h.1 | inr h ↦ inr h.1 ]
+when_some false r x e = absurd (none-some x e)
 
 module _ {V : Type 0} (same : V → V → Bool) where
   abbrev Keeps : Standing V → Standing V → Type 0
@@ -38,20 +30,20 @@ module _ {V : Type 0} (same : V → V → Bool) where
 
   set_keeps : (b : Standing V) (k : ℕ) (v : V) → slice_get b k ≡ Some None → Keeps b (slice_set b k (Some v))
   set_keeps b k v is j u e =
-      elim (one_or_not j k) [
-        | inl h ↦ absurd (none_some u (same_some (sym is ∙ ap (λ (i : ℕ). slice_get b i) (sym h) ∙ e)))
+      elim (cases_eq j k) [
+        | inl h ↦ absurd (none-some u (same_some (sym is ∙ ap (λ (i : ℕ). slice_get b i) (sym h) ∙ e)))
         | inr n ↦ get_set_other b k j (Some v) (Some u) n e
       ]
 
   bound_keeps : (x : Option (Option V)) (k : ℕ) (v : V) (b c : Standing V) → slice_get b k ≡ x → bound_over same x k v b ≡ Some c → Keeps b c
-  bound_keeps None k v b c is e = absurd (none_some c e)
+  bound_keeps None k v b c is e = absurd (none-some c e)
   bound_keeps (Some None) k v b c is e = subst (λ (d : Standing V). Keeps b d) (same_some e) (set_keeps b k v is)
   bound_keeps (Some (Some u)) k v b c is e = subst (λ (d : Standing V). Keeps b d) (same_some (when_some (same u v) (Some b) c e)) (λ j z h. h)
 
   pub all_keep : (ks : List ℕ) (vs : List V) (b c : Standing V) → all_bound same ks vs b ≡ Some c → Keeps b c
   all_keep [] [] b c e = subst (λ (d : Standing V). Keeps b d) (same_some e) (λ j z h. h)
-  all_keep [] (v ∷ vs) b c e = absurd (none_some c e)
-  all_keep (k ∷ ks) [] b c e = absurd (none_some c e)
+  all_keep [] (v ∷ vs) b c e = absurd (none-some c e)
+  all_keep (k ∷ ks) [] b c e = absurd (none-some c e)
   all_keep (k ∷ ks) (v ∷ vs) b c e =
       let g = given_some (bound same k v b) (all_bound same ks vs) c e in
       λ j z h. all_keep ks vs g.0 c g.2 j z (bound_keeps (slice_get b k) k v b g.0 refl g.1 j z h)

@@ -7,10 +7,7 @@ use Rattle.dialects_int.specs.declared.operations.Arithmetic.{Arithmetic}
 use Rattle.dialects_int.specs.Folds.{Known, same_kind}
 use Rattle.dialects_int.specs.Arithmetic.{choice_of}
 use Rattle.patterns_check.specs.Outcomes.{divides, given, is_signed_remainder, judged}
-
-pub same_itself : (k : BitsKind) → same_kind k k ≡ true
-same_itself (kind.Int w) = grind (arith, nat_tests)
-same_itself kind.Index = refl
+use Rattle.dialects_int.proofs.KnownOperands.{same_itself}
 
 none_given : (d : Bool) (v : Known) → (if d then None else Some None) ≡ Some (Some v) → ⊥
 none_given true v e = cc

@@ -1,6 +1,6 @@
 -- What follows where a pattern keeps what is there.
 use Rattle.std.proofs.Common.{◌≡◌, ◌∙◌, ℕ, ◌==◌, List, [], Bool, true, false, ◌&&◌, Option, Some, None, slice_get, refl, sym, ap, subst}
-use Rattle.std.proofs.lemmas.Bool.{eqb-true}
+use Rattle.std.proofs.lemmas.Bool.{eqb-true, and_parts}
 use Rattle.ir_types.specs.declared.bits.BitsKind.{BitsKind}
 use Rattle.ir_types.specs.declared.bits.BitsKind.TheVariants as kind
 use Rattle.dialects_int.specs.Folds.{Known, same_kind}
@@ -8,13 +8,7 @@ use Rattle.patterns_check.specs.Contents.{Content}
 use Rattle.patterns_check.specs.Outcomes.{Outcome, run}
 use Rattle.patterns_check.specs.Checks.{keeps, old_steps, old_ran, old_refined, new_refines, refines, same_known, shown}
 use Rattle.patterns_check.specs.Kept.{StaysDefined, StaysTheValue}
-
-true_false : true ≡ false → ⊥
-true_false e = cc
-
-both : (a b : Bool) → (a && b) ≡ true → (a ≡ true) × (b ≡ true)
-both true b e = (refl, e)
-both false b e = absurd (true_false (sym e))
+use Rattle.exhaustive.proofs.Found.{true_false}
 
 same_kinds : (j k : BitsKind) → same_kind j k ≡ true → k ≡ j
 same_kinds (kind.Int v) (kind.Int w) e = ap kind.Int (sym (eqb-true v w e))
@@ -24,7 +18,7 @@ same_kinds kind.Index kind.Index e = refl
 
 known_same : (x y : Known) → same_known x y ≡ true → y ≡ x
 known_same x y e =
-    let h = both (same_kind x.0 y.0) (x.1 == y.1) e in
+    let h = and_parts (same_kind x.0 y.0) (x.1 == y.1) e in
     let k = same_kinds x.0 y.0 h.0 in
     let n = eqb-true x.1 y.1 h.1 in
     (λ i. (k i, sym n i))

@@ -1,10 +1,7 @@
 -- Products of equal factors.
 use Rattle.std.proofs.Common.{◌≡◌, ◌∙◌, ℕ, zero, suc, ◌-◌, ◌*◌, ◌^◌, ◌<◌, List, ◌∷◌, [], ◌++◌, replicate, sym, ap, subst, arith, append_assoc}
 use Rattle.std.proofs.Math.Nat.{le-mul_of_pos_right, mul_assoc, pow-succ', pow-zero}
-
-one_out : (left : ℕ) → 0 < left → left ≡ suc (left - 1)
-one_out zero l = absurd (omega (arith, l))
-one_out (suc n) l = omega arith
+use Rattle.ir_types.proofs.Truths.{times_more}
 
 power_pos : (m k : ℕ) → 0 < m → 0 < m ^ k
 power_pos m zero l = subst (λ (x : ℕ). 0 < x) (sym (pow-zero m)) (omega arith)
@@ -18,7 +15,7 @@ factor_pos p (suc m) n l = omega arith
 
 -- one factor is taken
 pub factor_out : (p m left : ℕ) → 0 < left → p * m ^ left ≡ (p * m) * m ^ (left - 1)
-factor_out p m left l = ap (λ k. p * m ^ k) (one_out left l) ∙ ap (λ x. p * x) (pow-succ' m (left - 1)) ∙ sym (mul_assoc p m (m ^ (left - 1)))
+factor_out p m left l = ap (λ k. p * m ^ k) (times_more left l) ∙ ap (λ x. p * x) (pow-succ' m (left - 1)) ∙ sym (mul_assoc p m (m ^ (left - 1)))
 
 pub exceeds : (p m left all most : ℕ) → 0 < left → p * m ^ left ≡ all → most < p * m → most < all
 exceeds p m left all most l e more =
@@ -27,4 +24,4 @@ exceeds p m left all most l e more =
     omega (arith, h, same, more)
 
 pub one_less : (bounds whole : List ℕ) (left m : ℕ) → 0 < left → bounds ++ replicate left m ≡ whole → (bounds ++ (m ∷ [])) ++ replicate (left - 1) m ≡ whole
-one_less bounds whole left m l e = append_assoc bounds (m ∷ []) (replicate (left - 1) m) ∙ sym (ap (λ k. bounds ++ replicate k m) (one_out left l)) ∙ e
+one_less bounds whole left m l e = append_assoc bounds (m ∷ []) (replicate (left - 1) m) ∙ sym (ap (λ k. bounds ++ replicate k m) (times_more left l)) ∙ e

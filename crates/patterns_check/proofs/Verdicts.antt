@@ -3,7 +3,7 @@ use Rattle.std.proofs.Common.{◌≡◌, ℕ, zero, suc, ◌+◌, ◌-◌, ◌�
 use Rattle.std.proofs.Math.Nat.{min-eq_left}
 use Rattle.ir_types.specs.Limits.{most_width}
 use Rattle.exhaustive.specs.Cases.{AreBelow, first_failing}
-use Rattle.exhaustive.proofs.Found.{finds, fails}
+use Rattle.exhaustive.proofs.Found.{finds, fails, true_false}
 use Rattle.patterns_check.specs.Contents.{Content}
 use Rattle.patterns_check.specs.Checks.{AlwaysKeeps, AlwaysSilent, bits, counts, first_broken, first_heard, is_few, is_silent, keeps, most_bits}
 use Rattle.patterns_check.specs.Families.{Family, AreWidths, TooMany, bounds, few_at, kept_at, silent_at, width_at, widths_at}
@@ -33,9 +33,6 @@ module _ (most : ℕ) (low : most ≤ most_width) where
       ((w - 1) ∷ r.0, (l, r.1), (λ i. e i ∷ r.2 i))
 
 -- ---- at widths
-
-true_false : true ≡ false → ⊥
-true_false e = cc
 
 nothing_found : {X : Type 0} (t : Bool) (r : Option X) → t ≡ true → is_none (if t then r else None) ≡ true → r ≡ None
 nothing_found true None few e = refl

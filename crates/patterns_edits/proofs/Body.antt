@@ -23,15 +23,13 @@ use Rattle.patterns_edits.proofs.Placed.{Behind}
 use Rattle.patterns_edits.proofs.Made.{Stood}
 use Rattle.patterns_edits.proofs.Headed.{found_there}
 use Rattle.patterns_edits.proofs.Moved as moved
+use Rattle.ir_tree_laws.proofs.Values.{joined_more}
+use Rattle.ir_types.proofs.Truths.{nil_parts}
 
 -- none of them is y
 abbrev Lacks : ℕ → List ℕ → Type 0
 Lacks y [] = Unit {0}
 Lacks y (x ∷ xs) = (eqb x y ≡ false) × Lacks y xs
-
-none_left : {X : Type 0} (xs ys : List X) → xs ++ ys ≡ [] → (xs ≡ []) × (ys ≡ [])
-none_left [] ys e = (refl, e)
-none_left (x ∷ xs) ys e = absurd cc
 
 module _ {N T A : Type 0} where
   -- the ids of the operations of a list, without those inside them
@@ -49,10 +47,6 @@ module _ {N T A : Type 0} where
 
   each_region : (f : ℕ → ℕ → OpsOf N T A → OpsOf N T A) (r : ℕ) (q : OpOf N T A) (args : List T) (os : OpsOf N T A) → region_at r (regions q) ≡ Some (block args os) → region_at r (regions (each_list f q)) ≡ Some (block args (f (head q).id r (ops_each_list f os)))
   each_region f r (op h rs) args os e = (let n : 0 + r ≡ r = omega arith in region_each f h.id 0 r rs ∙ ap (λ z. option_map (region_each_list f h.id z) (region_at r rs)) n ∙ ap (option_map (region_each_list f h.id r)) e)
-
-  joined_more : (front : List (OpOf N T A)) (o : OpOf N T A) (os : OpsOf N T A) → joined_ops (front ++ o ∷ []) os ≡ joined_ops front (next o os)
-  joined_more [] o os = refl
-  joined_more (f ∷ fs) o os = ap (next f) (joined_more fs o os)
 
 module _ {N T A : Type 0} (isolated is_table : N → Bool) where
   -- operation x, which isn't isolated and no table, has a block with these operations, whose arguments aren't used
@@ -164,10 +158,10 @@ module _ {N T A : Type 0} (isolated is_table : N → Bool) where
         let v = Arg x r k in
         let a = taken_uses yi t y d (moved.y_found isolated is_table x front m s y b there refl refl) (moved.y_root isolated is_table x front m s y b there refl refl) v in
         let p = put_uses front y (without yi t) (moved.may isolated is_table x front m s y b there refl refl) v in
-        let n = none_left a.0 (uses_of v y ++ a.1) (sym a.2 ∙ spared k) in
-        let n2 = none_left (uses_of v y) a.1 n.1 in
+        let n = nil_parts a.0 (uses_of v y ++ a.1) (sym a.2 ∙ spared k) in
+        let n2 = nil_parts (uses_of v y) a.1 n.1 in
         let left : uses_of v (without yi t) ≡ [] = a.3 ∙ (λ i. n.0 i ++ n2.1 i) in
-        let q = none_left p.0 p.1 (sym p.2 ∙ left) in
+        let q = nil_parts p.0 p.1 (sym p.2 ∙ left) in
         ap (uses_of v) (moved.after_is isolated is_table x front m s y b there refl refl) ∙ p.3 ∙ λ i. q.0 i ++ (n2.0 i ++ q.1 i)
 
     held_after : Holding x r front (list_ids rest) (record m { tree = shifted (head y).id front m.tree })

@@ -24,9 +24,9 @@ use Rattle.ir_tree_laws.proofs.Without.{member_left, same_head}
 use Rattle.ir_tree_laws.proofs.HeadForm.{used_here, in_gather}
 use Rattle.ir_tree_laws.proofs.Sees.{stands_operands}
 use Rattle.ir_tree_laws.proofs.Values.{seen_by}
-use Rattle.ir_tree_laws.proofs.Reverted.{got_below}
 use Rattle.ir_tree_laws.proofs.Shift.{inner_of}
 use Rattle.patterns_edits.proofs.Inner.{seen_outside}
+use Rattle.std.proofs.lemmas.Option.{slice_get_within}
 
 module _ {N T A : Type 0} (isolated : N → Bool) (x : ℕ) (t o : OpOf N T A) (d : HasDistinctIds t) (root : eqb (head t).id x ≡ false) (found : find x t ≡ Some o) (formed : operands_visible isolated t ≡ true) where
   -- where no result of it is used
@@ -50,7 +50,7 @@ module _ {N T A : Type 0} (isolated : N → Bool) (x : ℕ) (t o : OpOf N T A) (
           where
             go : (f : Option T) → slice_get (head o).results k ≡ f → is_some f ≡ true → k < length (head o).results
             go None e h = absurd (true≢false (sym h))
-            go (Some y) e h = got_below (head o).results k y e
+            go (Some y) e h = slice_get_within (head o).results k y e
 
         used : (k : ℕ) → k < length (head o).results → In (Result x k) (head s.here).operands → ⊥
         used k l m =

@@ -22,7 +22,7 @@ cut_at x (y ∷ ys) (inl e) = ([], ys, ap (λ z. z ∷ ys) (sym e))
 cut_at x (y ∷ ys) (inr h) = let r = cut_at x ys h in (y ∷ r.0, r.1, ap (λ l. y ∷ l) r.2)
 
 module _ {N T A : Type 0} where
-  joined_cut : (us vs : List (OpOf N T A)) (f : OpOf N T A) (os : OpsOf N T A) → joined_ops (us ++ f ∷ vs) os ≡ joined_ops us (next f (joined_ops vs os))
+  pub joined_cut : (us vs : List (OpOf N T A)) (f : OpOf N T A) (os : OpsOf N T A) → joined_ops (us ++ f ∷ vs) os ≡ joined_ops us (next f (joined_ops vs os))
   joined_cut [] vs f os = refl
   joined_cut (u ∷ us) vs f os = ap (next u) (joined_cut us vs f os)
 

@@ -17,6 +17,7 @@ use Rattle.ir_tree_laws.proofs.Readings.{stands_uses}
 use Rattle.ir_tree_laws.proofs.Sees.{stands_visible, stands_operands, visible_there}
 use Rattle.ir_tree_laws.proofs.Values.{seen_by}
 use Rattle.patterns_edits.proofs.Front.{behind_sees}
+use Rattle.ir_tree_laws.proofs.ShiftSight.{of_uses}
 
 pub of_gather : {X Y : Type 0} (f : X → List Y) (y : Y) (xs : List X) → In y (gather f xs) → (x : X) × In x xs × In y (f x)
 of_gather f y [] h = absurd h
@@ -25,21 +26,12 @@ of_gather f y (x ∷ xs) h = elim (in_parts y (f x) (gather f xs) h) [
   | inr k ↦ let w = of_gather f y xs k in (w.0, inr w.1, w.2)
 ]
 
-pub of_operands : (v : Value) (x k : ℕ) (ws : List Value) (u : ℕ × ℕ) → In u (operand_uses v x k ws) → (u.0 ≡ x) × In v ws
-of_operands v x k [] u h = absurd h
-of_operands v x k (w ∷ ws) u h = go (same_value v w) refl h (of_operands v x (k + 1) ws u)
-  where
-    go : (b : Bool) → same_value v w ≡ b → In u (cond b ((x, k) ∷ operand_uses v x (k + 1) ws) (operand_uses v x (k + 1) ws)) → (In u (operand_uses v x (k + 1) ws) → (u.0 ≡ x) × In v ws) → (u.0 ≡ x) × In v (w ∷ ws)
-    go true e (inl m) f = (ap (λ z. z.0) m, inl (same_value_true v w e))
-    go true e (inr m) f = let r = f m in (r.0, inr r.1)
-    go false e m f = let r = f m in (r.0, inr r.1)
-
 module _ {N T A : Type 0} where
   -- a user of a value is an operation that has it as an operand
   pub user : (v : Value) (t : OpOf N T A) (u : ℕ × ℕ) → In u (uses_of v t) → (s : StandOf N T A) × In s (stands [] t) × (u.0 ≡ stand_id s) × In v (head s.here).operands
   user v t u h =
       let w = of_gather (λ (s : StandOf N T A). operand_uses v (stand_id s) 0 (head s.here).operands) u (stands [] t) (subst (In u) (sym (stands_uses v [] t)) h) in
-      let r = of_operands v (stand_id w.0) 0 (head w.0.here).operands u w.2 in
+      let r = of_uses v (stand_id w.0) 0 (head w.0.here).operands u w.2 in
       (w.0, w.1, r.0, r.1)
 
   module _ (isolated : N → Bool) (t : OpOf N T A) (d : HasDistinctIds t) where

@@ -26,10 +26,9 @@ use Rattle.ir_tree_laws.proofs.Values.{not_own}
 use Rattle.patterns_edits.proofs.Given.{seer, seen_is, users_see_it}
 use Rattle.patterns_edits.proofs.Made.{Stood}
 use Rattle.patterns_edits.proofs.Placed.{before_it}
+use Rattle.ir_tree.proofs.Facts.{head_each}
 
 module _ {N T A : Type 0} (isolated : N → Bool) where
-  head_each : (f : HeadOf N T A → HeadOf N T A) (o : OpOf N T A) → head (each_head f o) ≡ f (head o)
-  head_each f (op h rs) = refl
 
   module _ (f : HeadOf N T A → HeadOf N T A) (alike : (h : HeadOf N T A) → Alike (f h) h) where
     pub sees_headed : (t : OpOf N T A) (x : ℕ) (v : Value) → visible isolated (each_head f t) x v ≡ visible isolated t x v

@@ -1,3 +1,4 @@
+pub mod Facts
 pub mod Front
 pub mod Given
 pub mod Inner

@@ -24,21 +24,10 @@ use Rattle.ir_tree_laws.proofs.WellKept.{may_put_leaf, put_keeps}
 use Rattle.patterns_edits.proofs.Given.{seen_is}
 use Rattle.patterns_edits.proofs.Placed as placed
 use Rattle.patterns_edits.proofs.Placed.{Behind, before_it, behind_of}
-
--- a list of tests passes
-pub passes : (b : Bool) (r : Refusal) (rest : Option Refusal) → b ≡ true → rest ≡ None → unless b r rest ≡ None
-passes true r rest e f = f
-passes false r rest e f = absurd (true≢false (sym e))
+use Rattle.ir_tree_laws.proofs.Facts.{new_id, new_operands, new_results}
+use Rattle.ir_tree_laws.proofs.Reverted.{passed}
 
 module _ {N T A : Type 0} (isolated : N → Bool) where
-  leaf_id : (x : ℕ) (o : OpOf N T A) → (head (with_id x o)).id ≡ x
-  leaf_id x (op h rs) = refl
-
-  leaf_operands : (x : ℕ) (o : OpOf N T A) → (head (with_id x o)).operands ≡ (head o).operands
-  leaf_operands x (op h rs) = refl
-
-  leaf_results : (x : ℕ) (o : OpOf N T A) → (head (with_id x o)).results ≡ (head o).results
-  leaf_results x (op h rs) = refl
 
   -- operation x of a well-formed module stands behind a place
   pub record Stood (x : ℕ) (front : Place) (m : ModuleOf N T A) : Type 0 where
@@ -71,30 +60,30 @@ module _ {N T A : Type 0} (isolated : N → Bool) where
 
       -- the new one sees what x sees
       pub new_sees : (v : Value) → visible isolated m.tree x v ≡ true → visible isolated (put front (with_id m.next o) m.tree) m.next v ≡ true
-      new_sees v e = ap (λ z. visible isolated (put front new m.tree) z v) (sym (leaf_id m.next o)) ∙ placed.new_sees x front m.tree s.formed.distinct s.at new may isolated v e
+      new_sees v e = ap (λ z. visible isolated (put front new m.tree) z v) (sym (new_id m.next o)) ∙ placed.new_sees x front m.tree s.formed.distinct s.at new may isolated v e
 
       -- and x sees what the new one gives
       pub sees_new : (k : ℕ) → nat_lt k (length (head o).results) ≡ true → visible isolated (put front (with_id m.next o) m.tree) x (Result m.next k) ≡ true
-      sees_new k l = ap (λ z. visible isolated (put front new m.tree) x (Result z k)) (sym (leaf_id m.next o)) ∙ placed.sees_new x front m.tree s.formed.distinct s.at new may isolated k (ap (λ z. nat_lt k (length z)) (leaf_results m.next o) ∙ l)
+      sees_new k l = ap (λ z. visible isolated (put front new m.tree) x (Result z k)) (sym (new_id m.next o)) ∙ placed.sees_new x front m.tree s.formed.distinct s.at new may isolated k (ap (λ z. nat_lt k (length z)) (new_results m.next o) ∙ l)
 
       -- the others have their heads
       pub heads_stay : (y : ℕ) → has_id y m.tree ≡ true → option_map head (find y (put front (with_id m.next o) m.tree)) ≡ option_map head (find y m.tree)
       heads_stay = placed.heads_stay x front m.tree s.formed.distinct s.at new may
 
       pub new_found : find m.next (put front (with_id m.next o) m.tree) ≡ Some (with_id m.next o)
-      new_found = ap (λ z. find z (put front new m.tree)) (sym (leaf_id m.next o)) ∙ put_form.put_found front new m.tree may
+      new_found = ap (λ z. find z (put front new m.tree)) (sym (new_id m.next o)) ∙ put_form.put_found front new m.tree may
 
       module _ (seen : list_all (visible isolated m.tree x) (head o).operands ≡ true) (fits : op_fits o ≡ true) (room : nat_lt (op_count m.tree) most_ops ≡ true) (more : nat_lt m.next most_next ≡ true) where
         -- no reason stands against it
         pub make_free : put_reason isolated front o m.next m.tree ≡ None
         make_free =
-            passes _ _ _ (placed.parent_is x front m.tree s.formed.distinct s.at)
-            (passes _ _ _ spot
-            (passes _ _ _ (both_hold _ _ room fits)
-            (passes _ _ _ more
-            (passes _ _ _ levels
-            (passes _ _ _ (each_all (λ v. has_value v m.tree) (head o).operands (λ v i. seen_is isolated m.tree s.formed.distinct x v (all_each (visible isolated m.tree x) (head o).operands seen v i)))
-            (passes _ _ _ (each_all (visible isolated (put front new m.tree) m.next) (head o).operands (λ v i. new_sees v (all_each (visible isolated m.tree x) (head o).operands seen v i))) refl))))))
+            passed _ _ _ (placed.parent_is x front m.tree s.formed.distinct s.at)
+            (passed _ _ _ spot
+            (passed _ _ _ (both_hold _ _ room fits)
+            (passed _ _ _ more
+            (passed _ _ _ levels
+            (passed _ _ _ (each_all (λ v. has_value v m.tree) (head o).operands (λ v i. seen_is isolated m.tree s.formed.distinct x v (all_each (visible isolated m.tree x) (head o).operands seen v i)))
+            (passed _ _ _ (each_all (visible isolated (put front new m.tree) m.next) (head o).operands (λ v i. new_sees v (all_each (visible isolated m.tree x) (head o).operands seen v i))) refl))))))
 
         -- and x stands behind the place as before
         abbrev pub make_stood : Stood x front (record { tree = put front (with_id m.next o) m.tree; next = m.next + 1 })

@@ -40,15 +40,12 @@ use Rattle.patterns_edits.proofs.Front.{stands_before}
 use Rattle.patterns_edits.proofs.Given.{user}
 use Rattle.patterns_edits.proofs.Placed as placed
 use Rattle.patterns_edits.proofs.Placed.{Behind, before_it}
-use Rattle.patterns_edits.proofs.Made.{Stood, passes}
+use Rattle.patterns_edits.proofs.Made.{Stood}
+use Rattle.ir_tree_laws.proofs.Reverted.{passed, same_tables}
 
-same_option : (a : Option ℕ) → option_eq eqb a a ≡ true
+pub same_option : (a : Option ℕ) → option_eq eqb a a ≡ true
 same_option None = refl
 same_option (Some x) = eq-eqb x x refl
-
-same_tables : (a b : Option (Option ℕ)) → a ≡ b → same_table a b ≡ true
-same_tables None b e = ap (same_table None) (sym e)
-same_tables (Some a) b e = ap (same_table (Some a)) (sym e) ∙ same_option a
 
 module _ {N T A : Type 0} where
   -- what stands within an operation stands as deep
@@ -387,13 +384,13 @@ module _ {N T A : Type 0} (isolated is_table : N → Bool) (x : ℕ) (front : Pl
         -- no reason stands against moving it
         pub move_free : shift_reason isolated is_table (head y).id front m.tree ≡ None
         move_free =
-            passes _ _ _ (both_hold _ _ (stand_present [] t (stand y yp) there) (placed.parent_is x front t d s.at))
-            (passes _ _ _ (ap not y_root)
-            (passes _ _ _ spot
-            (passes _ _ _ (ap not (ap (leads_inside front) y_found ∙ outside))
-            (passes _ _ _ (same_tables _ _ (table_was ∙ table_of_x ∙ table_is ∙ ap (table_of is_table yi) (sym after_is)))
-            (passes _ _ _ (ap (λ o. fits_around (levels_in o) (around front.parent t)) y_found ∙ levels)
-            (passes _ _ _ all_see refl))))))
+            passed _ _ _ (both_hold _ _ (stand_present [] t (stand y yp) there) (placed.parent_is x front t d s.at))
+            (passed _ _ _ (ap not y_root)
+            (passed _ _ _ spot
+            (passed _ _ _ (ap not (ap (leads_inside front) y_found ∙ outside))
+            (passed _ _ _ (same_tables _ _ (table_was ∙ table_of_x ∙ table_is ∙ ap (table_of is_table yi) (sym after_is)))
+            (passed _ _ _ (ap (λ o. fits_around (levels_in o) (around front.parent t)) y_found ∙ levels)
+            (passed _ _ _ all_see refl))))))
 
         -- and x stands behind the place as before
         abbrev pub move_stood : Stood isolated x front (record m { tree = shifted (head y).id front m.tree })

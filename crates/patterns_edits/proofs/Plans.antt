@@ -21,11 +21,12 @@ use Rattle.ir_types.specs.SameTypes.{same_type}
 use Rattle.rewriter_machine.specs.Contents.{Edit, all_edited, edited, edit_reason}
 use Rattle.rewriter_machine.specs.Edits.{Make, Erase, Move, SetOperand, Replace}
 use Rattle.patterns_edits.specs.Lists.{Free}
-use Rattle.patterns_edits.proofs.Made.{Stood, passes}
+use Rattle.patterns_edits.proofs.Made.{Stood}
 use Rattle.patterns_edits.proofs.Made as made
 use Rattle.patterns_edits.proofs.Headed as headed
 use Rattle.patterns_edits.proofs.Give as give
 use Rattle.patterns_edits.proofs.Body.{Holding, hold_step}
+use Rattle.ir_tree_laws.proofs.Reverted.{passed}
 
 -- operation x of a module stands behind a place
 abbrev pub StandsAt : ℕ → Place → Module → Type 0
@@ -43,9 +44,9 @@ module _ (x : ℕ) (front : Place) (m : Module) (s : StandsAt x front m) where
   -- it is erased, where no result of it is used
   pub erase_free : ((k : ℕ) → k < length (head s.at.here).results → uses_of (Result x k) m.tree ≡ []) → edit_reason (Erase x) m ≡ None
   erase_free unused =
-      passes _ _ _ (give.there_is is_isolated x front m s)
-      (passes _ _ _ (ap not (headed.not_root is_isolated x front m s))
-      (passes _ _ _ (give.may_erase is_isolated x front m s unused) refl))
+      passed _ _ _ (give.there_is is_isolated x front m s)
+      (passed _ _ _ (ap not (headed.not_root is_isolated x front m s))
+      (passed _ _ _ (give.may_erase is_isolated x front m s unused) refl))
 
   -- a value that it sees is set as an operand of it
   pub set_free : (v : Value) → sees x v m ≡ true → (k : ℕ) → nat_lt k (length (head s.at.here).operands) ≡ true → (es : List Edit) → Free es (edited (SetOperand x k v) m) → Free (SetOperand x k v ∷ es) m
@@ -54,14 +55,14 @@ module _ (x : ℕ) (front : Place) (m : Module) (s : StandsAt x front m) where
   -- a value that it sees replaces its one result, and it is erased
   pub give_free : (v : Value) → sees x v m ≡ true → (ty : TypeTerm) → (head s.at.here).results ≡ ty ∷ [] → same_types (Result x 0) v m.tree ≡ true → Free (Replace (Result x 0) v ∷ Erase x ∷ []) m
   give_free v seen ty one same = (
-    passes _ _ _ (ap (λ o. has_first o) (headed.found_there is_isolated x front m s) ∙ ap is_first one)
-        (passes _ _ _ (give.given_is is_isolated x front m s v seen ty one)
-        (passes _ _ _ same
-        (passes _ _ _ (give.given_users is_isolated x front m s v seen ty one) refl))),
+    passed _ _ _ (ap (λ o. has_first o) (headed.found_there is_isolated x front m s) ∙ ap is_first one)
+        (passed _ _ _ (give.given_is is_isolated x front m s v seen ty one)
+        (passed _ _ _ same
+        (passed _ _ _ (give.given_users is_isolated x front m s v seen ty one) refl))),
     (
-      passes _ _ _ (give.there_is is_isolated x front (give.replaced is_isolated x front m s v seen ty one) (give.given_stood is_isolated x front m s v seen ty one))
-          (passes _ _ _ (ap not (headed.not_root is_isolated x front (give.replaced is_isolated x front m s v seen ty one) (give.given_stood is_isolated x front m s v seen ty one)))
-          (passes _ _ _ (give.given_spared is_isolated x front m s v seen ty one) refl)),
+      passed _ _ _ (give.there_is is_isolated x front (give.replaced is_isolated x front m s v seen ty one) (give.given_stood is_isolated x front m s v seen ty one))
+          (passed _ _ _ (ap not (headed.not_root is_isolated x front (give.replaced is_isolated x front m s v seen ty one) (give.given_stood is_isolated x front m s v seen ty one)))
+          (passed _ _ _ (give.given_spared is_isolated x front m s v seen ty one) refl)),
       tt,
     ),
   )

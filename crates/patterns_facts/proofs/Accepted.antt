@@ -27,7 +27,6 @@ use Rattle.patterns_base.specs.Rules.{rule}
 use Rattle.patterns_base.specs.Rewrites.{becomes, carried_out, edits_of, refused}
 use Rattle.patterns_facts.specs.Accepted.{AreAccepted}
 use Rattle.patterns_facts.proofs.Spots.{Spot}
-use Rattle.patterns_facts.proofs.Shapes.{given_is, when_is}
 use Rattle.patterns_facts.proofs.Given.{HasRoom, free_drop_zero, free_drop_one, free_drop_all_ones, free_keep_itself, free_choose_same, free_choose_known, free_choose_truth, free_cast_back}
 use Rattle.patterns_facts.proofs.New.{free_fold_to_constant, free_cancel_itself, free_zero_remainder, free_regroup_constants, free_add_negative, free_compare_itself, free_compare_zero, free_extend_extension, free_cut_cast, free_expand_min_max, free_expand_difference, free_expand_remainder}
 use Rattle.patterns_facts.proofs.Opened.{free_open_branch}
@@ -36,6 +35,8 @@ use Rattle.patterns_facts.proofs.Indexed.{free_lower_index}
 use Rattle.patterns_facts.proofs.Chosen.{free_lower_choice}
 use Rattle.patterns_facts.proofs.LoweredLoop.{free_lower_loop}
 use Rattle.patterns_facts.proofs.InPlace.{free_erase_dead, free_swap_constant, free_mirror_comparison, free_choose_opposite}
+use Rattle.patterns_base.proofs.Facts.{edits_are, when_some}
+use Rattle.patterns_laws.proofs.KnownFolds.{given_some}
 
 -- a rule's edits at a clean operation are accepted
 abbrev IsFree : Rule → Type 0
@@ -84,15 +85,11 @@ has_room es m n e = go (nat_le (op_count m.tree + made_by es) most_ops) refl (na
     go true p false q e = absurd cc
     go false p b q e = absurd cc
 
-edits_are : (r : Rule) (m : Module) (x : ℕ) → edits_of r m x ≡ given (find x m.tree) (λ o. given (front_of x m.tree) (λ front. when (is_clean m.tree (head o)) (rule r m.tree m.next front o)))
-unfolding edits_of
-edits_are r m x = refl
-
 pub are_accepted : AreAccepted
 are_accepted r m x formed sorted es n e carried =
-    let o = given_is (find x m.tree) _ es (sym (edits_are r m x) ∙ e) in
-    let front = given_is (front_of x m.tree) _ es o.2 in
-    let w = when_is (is_clean m.tree (head o.0)) _ es front.2 in
+    let o = given_some (find x m.tree) _ es (sym (edits_are r m x) ∙ e) in
+    let front = given_some (front_of x m.tree) _ es o.2 in
+    let w = when_some (is_clean m.tree (head o.0)) _ es front.2 in
     let id : (head o.0).id ≡ x = (let s = found_stands x m.tree o.0 o.1 in ap (λ (z : Operation). (head z).id) (sym s.3) ∙ s.2) in
     let spot : Spot m o.0 front.0 = record { formed = formed; sorted = sorted; found = ap (λ z. find z m.tree) id ∙ o.1; place = ap (λ z. front_of z m.tree) id ∙ front.1; clean = w.0 } in
     each_rule r m o.0 front.0 spot es w.1 (has_room es m n carried)

@@ -19,19 +19,18 @@ use Rattle.ir_tree_laws.proofs.Around.{around_there, gone_within, present_stand,
 use Rattle.ir_tree_laws.proofs.Put.{child}
 use Rattle.ir_tree_laws.proofs.Sees.{visible_there}
 use Rattle.ir_tree_laws.proofs.Values.{shape}
-use Rattle.patterns_edits.proofs.Front.{cut_at, stands_before}
+use Rattle.patterns_edits.proofs.Front.{cut_at, stands_before, joined_cut}
 use Rattle.patterns_edits.proofs.Inner.{seen_outside}
 use Rattle.patterns_edits.proofs.Moved.{deeper}
 use Rattle.patterns_edits.proofs.Placed.{Behind, before_it}
 use Rattle.patterns_facts.proofs.Ordered.{Before, Inside}
+use Rattle.ir_event.proofs.Facts.{own_id}
 
 pub cancelled : {X : Type 0} (us xs ys : List X) → us ++ xs ≡ us ++ ys → xs ≡ ys
 cancelled [] xs ys e = e
 cancelled (u ∷ us) xs ys e = cancelled us xs ys cc
 
 module _ {N T A : Type 0} where
-  pub own_id : (o : OpOf N T A) → has_id (head o).id o ≡ true
-  own_id (op h rs) = stand_present [] (op h rs) (stand (op h rs) []) (inl refl)
 
   -- what stands within an operation as deep as it is it
   pub own_depth : (p : List (StepOf N T A)) (o : OpOf N T A) (u : StandOf N T A) → In u (stands p o) → length u.path ≡ length p → u ≡ stand o p
@@ -57,10 +56,6 @@ module _ {N T A : Type 0} where
   listed_next : (fs : List (OpOf N T A)) (w : OpOf N T A) (os : OpsOf N T A) → listed (joined_ops fs (next w os)) ≡ fs ++ w ∷ listed os
   unfolding listed
   listed_next fs w os = listed_joined fs (next w os)
-
-  joined_cut : (us vs : List (OpOf N T A)) (f : OpOf N T A) (os : OpsOf N T A) → joined_ops (us ++ f ∷ vs) os ≡ joined_ops us (next f (joined_ops vs os))
-  joined_cut [] vs f os = refl
-  joined_cut (u ∷ us) vs f os = ap (next u) (joined_cut us vs f os)
 
   none_shows : (x r k : ℕ) (fs : List (OpOf N T A)) → list_any (λ f. shows (Arg x r k) (results_of f)) fs ≡ false
   none_shows x r k [] = refl

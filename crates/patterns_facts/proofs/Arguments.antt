@@ -39,12 +39,13 @@ use Rattle.patterns_edits.specs.Lists.{Free}
 use Rattle.patterns_edits.proofs.Body.{list_ids}
 use Rattle.patterns_edits.proofs.Given.{seer, user}
 use Rattle.patterns_edits.proofs.Headed as headed
-use Rattle.patterns_edits.proofs.Made.{passes}
 use Rattle.patterns_edits.proofs.Plans.{StandsAt, sees}
 use Rattle.patterns_base.specs.Looks.{Header}
 use Rattle.patterns_base.specs.Makes.{arguments_from, replaced, replacing}
 use Rattle.patterns_facts.proofs.Ordered.{Before, before_headed}
 use Rattle.patterns_facts.proofs.Results.{AreGiven, type_kept}
+use Rattle.patterns_facts.proofs.Opened.{left_alone}
+use Rattle.ir_tree_laws.proofs.Reverted.{passed}
 
 -- who uses an argument of a block of an operation that isn't isolated sees what that sees
 module _ {N T A : Type 0} (isolated : N → Bool) (t : OpOf N T A) (d : HasDistinctIds t) (o : OpOf N T A) (p : List (StepOf N T A)) (there : In (stand o p) (stands [] t)) (opened : isolated (head o).name ≡ false) where
@@ -267,10 +268,10 @@ module _ (x : ℕ) (front : Place) (args : List TypeTerm) (held : List ℕ) wher
 
       replace_free : (es : List Edit) → Free es (edited (Replace (Arg x 0 n) v) m) → Free (Replace (Arg x 0 n) v ∷ es) m
       replace_free es rest = (
-        passes _ _ _ (ap is_some this_type)
-            (passes _ _ _ (ap is_some of)
-            (passes _ _ _ ((λ i. option_eq same_type (this_type i) (of i)) ∙ same)
-            (passes _ _ _ users refl))),
+        passed _ _ _ (ap is_some this_type)
+            (passed _ _ _ (ap is_some of)
+            (passed _ _ _ ((λ i. option_eq same_type (this_type i) (of i)) ∙ same)
+            (passed _ _ _ users refl))),
         rest,
       )
 
@@ -298,10 +299,6 @@ module _ (x : ℕ) (front : Place) (args : List TypeTerm) (held : List ℕ) wher
   pub one_here : (m : Module) (s k : StandsAt x front m) → s.at.here ≡ k.at.here
   one_here m s k = (let two : Some s.at.here ≡ Some k.at.here = sym (headed.found_there is_isolated x front m s) ∙ headed.found_there is_isolated x front m k in cc)
 
-  none_changed : (vs : List Value) → map (replaced [] []) vs ≡ vs
-  none_changed [] = refl
-  none_changed (v ∷ vs) = ap (λ l. v ∷ l) (none_changed vs)
-
   pub outcome : (vs : List Value) (tys done : List TypeTerm) (m : Module) → Taking x front args held m → args ≡ done ++ tys → AreGiven x front vs tys m → (n : ℕ) → n ≡ length done
       → ((j : ℕ) → (j < n) ⊎ (length args ≤ j) → uses_of (Arg x 0 j) m.tree ≡ []) → Outcome n vs m
   outcome [] [] done m h is g n at unused = record {
@@ -325,7 +322,7 @@ module _ (x : ℕ) (front : Place) (args : List TypeTerm) (held : List ℕ) wher
 
       no_head : (o : Option Header) → option_map (with_operands (replaced [] [])) o ≡ o
       no_head None = refl
-      no_head (Some h) = ap (λ vs. Some (record h { operands = vs })) (none_changed h.operands)
+      no_head (Some h) = ap (λ vs. Some (record h { operands = vs })) (left_alone h.operands)
   outcome (v ∷ vs) (ty ∷ tys) done m h is g n at unused =
       let next_one = outcome vs tys (done ++ ty ∷ []) (edited (Replace (Arg x 0 n) v) m) (taking_after m h v g.0.0 n) (is ∙ sym (append_assoc done (ty ∷ []) tys)) (given_after m h v g.0.0 n vs tys g.1) (n + 1)
       (let e = length-append done (ty ∷ []) in omega (arith, e, at)) (unused_after m h v g.0.0 n unused) in

@@ -38,7 +38,8 @@ use Rattle.patterns_base.specs.Lowering.{bridges, crossed, indices, marked}
 use Rattle.patterns_facts.proofs.Kept as kept
 use Rattle.patterns_facts.proofs.Kept.{Kept, kept_both, kept_none}
 use Rattle.patterns_facts.proofs.Results.{AreGiven, results_free}
-use Rattle.patterns_facts.proofs.Shapes.{some_is}
+use Rattle.patterns_base.proofs.Facts.{kept_type}
+use Rattle.std.proofs.lemmas.Option.{same_Some}
 
 -- there is room for k operations
 pub record Room (k : ℕ) (m : Module) : Type 0 where
@@ -150,12 +151,6 @@ module _ (x y : ℕ) (front : Place) where
   same_index : (ty : TypeTerm) → is_index ty ≡ true → same_type ty Index ≡ true
   same_index ty e = e
 
-  not_index : (ty : TypeTerm) → is_index ty ≡ false → same_type ty (lowered_type ty) ≡ true
-  not_index Index e = absurd cc
-  not_index (Integer s n) e = type_refl (Integer s n)
-  not_index (Function is os) e = type_refl (Function is os)
-  not_index (Memref ds u) e = type_refl (Memref ds u)
-
   seen_lowered : (k : ℕ) (tys : List TypeTerm) (m : Module) → AreLowered k tys m → (v : Value) → In v (results_from y k tys) → sees x v m ≡ true
   seen_lowered k [] m l v i = absurd i
   seen_lowered k (ty ∷ tys) m l v (inl e) = ap (λ z. sees x z m) e ∙ l.0.0
@@ -170,7 +165,7 @@ module _ (x y : ℕ) (front : Place) where
           → ((i : ℕ) → AreCrossed x front Index (indices tys) (results_from y (k + 1) tys) i m1 → AreGiven x front (crossed i (indices tys) (results_from y (k + 1) tys)) tys m1)
           → AreGiven x front (crossed n (b ∷ indices tys) (results_from y k (ty ∷ tys))) (ty ∷ tys) m1
       go true e c later = ((c.0.0, (Index, c.0.1, same_index ty e)), later (n + 1) c.1)
-      go false e c later = ((c.0, (lowered_type ty, types k ∙ l.0.1, not_index ty e)), later n c.1)
+      go false e c later = ((c.0, (lowered_type ty, types k ∙ l.0.1, kept_type ty e)), later n c.1)
 
   lengths : (k : ℕ) (tys : List TypeTerm) → length (indices tys) ≡ length (results_from y k tys)
   lengths k [] = refl
@@ -195,7 +190,7 @@ module _ (x y : ℕ) (front : Place) where
       let m1 = all_edited (bridges Index front (indices tys) vs) m in
       let new = crossed m.next (indices tys) vs in
       let two : Some (head b.stood.at.here) ≡ Some (head s.at.here) = ap (option_map head) (sym (found_there is_isolated x front m1 b.stood)) ∙ (b.stays (λ z h. h)).heads x (there_is is_isolated x front m s) ∙ ap (option_map head) (found_there is_isolated x front m s) in
-      let same : (head b.stood.at.here).results ≡ tys = ap (λ (h : Header). h.results) (some_is (head b.stood.at.here) (head s.at.here) two) ∙ is in
+      let same : (head b.stood.at.here).results ≡ tys = ap (λ (h : Header). h.results) (same_Some (head b.stood.at.here) (head s.at.here) two) ∙ is in
       subst (λ es. Free es m) (sym (append_assoc (bridges Index front (indices tys) vs) (replacing (results_from x 0 tys) new) (Erase x ∷ [])))
       (b.free (replacing (results_from x 0 tys) new ++ Erase x ∷ [])
       (subst (λ old. Free (replacing old new ++ Erase x ∷ []) m1) (sym (as_many 0 m.next (indices tys) tys (marks_length tys)))

@@ -34,7 +34,7 @@ use Rattle.patterns_edits.proofs.Plans.{StandsAt, sees}
 use Rattle.patterns_base.specs.Made.{bridge, i64}
 use Rattle.patterns_base.specs.Looks.{Header}
 use Rattle.patterns_base.specs.Lowering.{before_in, bridges, brought, crossing, marked}
-use Rattle.patterns_facts.proofs.Across.{inside_behind, own_id}
+use Rattle.patterns_facts.proofs.Across.{inside_behind}
 use Rattle.patterns_facts.proofs.Brought as bringing
 use Rattle.patterns_facts.proofs.Brought.{Brought}
 use Rattle.patterns_facts.proofs.CastsAccepted.{Room}
@@ -46,6 +46,7 @@ use Rattle.patterns_facts.proofs.Spots.{own_operand}
 use Rattle.patterns_facts.proofs.Started.{missing_unused, rel_of}
 use Rattle.patterns_facts.proofs.Steps.{Across, Fit}
 use Rattle.patterns_facts.proofs.Within as within_y
+use Rattle.ir_event.proofs.Facts.{own_id}
 
 abbrev Stand : Type 0
 Stand = StandOf (List ℕ) TypeTerm AttrTerm

@@ -39,15 +39,19 @@ use Rattle.patterns_facts.proofs.CleanBlocks.{block_is, if_arguments, if_opened,
 use Rattle.patterns_facts.proofs.CastsAccepted.{AreLowered, MadeThere, Room, given_free, made_one}
 use Rattle.patterns_facts.proofs.ChoicesAccepted.{Taken, b as brought_there, taken}
 use Rattle.patterns_facts.proofs.Given.{HasRoom}
-use Rattle.patterns_facts.proofs.Indexed.{bridges_make, head_there, lowered_fits, lowered_holds_none, lowered_seen, made_both, own_fits}
+use Rattle.patterns_facts.proofs.Indexed.{head_there, lowered_fits, lowered_holds_none, lowered_seen, own_fits}
 use Rattle.patterns_facts.proofs.Moving.{HasBlock}
 use Rattle.patterns_facts.proofs.Ordered.{later_shows}
 use Rattle.patterns_facts.proofs.Phases.{id_of}
-use Rattle.patterns_facts.proofs.Shapes.{given_is, some_is, when_is}
 use Rattle.patterns_facts.proofs.Spots.{Spot, here_is, sees_operand, stands_there}
 use Rattle.patterns_facts.proofs.Started.{beside_out, fit_of, fresh, lowered_at, started, started_block, started_side}
 use Rattle.patterns_facts.proofs.Steps.{Across, Fit, there_of}
 use Rattle.patterns_facts.proofs.Within as within_y
+use Rattle.patterns_base.proofs.Facts.{bridges_make, when_some}
+use Rattle.patterns_laws.proofs.KnownFolds.{given_some}
+use Rattle.patterns_facts.proofs.Opened.{left_alone}
+use Rattle.patterns_base.proofs.Making.{joined}
+use Rattle.std.proofs.lemmas.Option.{same_Some}
 
 low : 0 ≤ 1
 low = omega arith
@@ -66,10 +70,6 @@ regrouped a b c d e g =
 pub cut_last : (us : List Operation) (f : Operation) → joined_ops (us ++ f ∷ []) no_ops ≡ joined_ops us (next f no_ops)
 cut_last [] f = refl
 cut_last (u ∷ us) f = ap (next u) (cut_last us f)
-
-left_alone : (vs : List Value) → map (replaced [] []) vs ≡ vs
-left_alone [] = refl
-left_alone (v ∷ vs) = ap (λ l. v ∷ l) (left_alone vs)
 
 uncrossed : (n : ℕ) (ms : List Bool) (vs : List Value) → ms ≡ false ∷ [] → length ms ≡ length vs → crossed n ms vs ≡ vs
 uncrossed n ms [] e l = (let k = ap length e in absurd (omega (arith, k, l)))
@@ -306,7 +306,7 @@ module _ (m : Module) (o : Operation) (front : Place) (s : Spot m o front) (name
   handed_make : (y r c : ℕ) (k : Ended) (r_small : r ≤ 1) (k_is : body m.tree o r ≡ Some k) → made_by (take_over m.tree m.next front o y r c k [] []) ≡ mk + made_by (crossing k.last.id 0 c (indices (head o).results))
   handed_make y r c k small k_is =
       let vs = map (replaced [] []) k.last.operands in
-      let a = made_both (bridges i64 (before_in y r k.last.id) ms vs) (crossing k.last.id 0 c ms) in
+      let a = joined (bridges i64 (before_in y r k.last.id) ms vs) (crossing k.last.id 0 c ms) in
       let l = length-map k.last.operands (replaced [] []) in
       let w = wide r small k k_is in
       let h = ap (λ (h : Header). length h.operands) (ends r small k k_is).is in
@@ -329,13 +329,13 @@ module _ (m : Module) (o : Operation) (front : Place) (s : Spot m o front) (name
       let vs = results_from y 0 rs in
       let ds = bridges Index front ms vs in
       let es = replacing (results_from x 0 rs) (crossed c2 ms vs) in
-      let p1 = made_both ((((ml ++ a0) ++ b0) ++ a1) ++ b1) g in
-      let p2 = made_both (((ml ++ a0) ++ b0) ++ a1) b1 in
-      let p3 = made_both ((ml ++ a0) ++ b0) a1 in
-      let p4 = made_both (ml ++ a0) b0 in
-      let p5 = made_both ml a0 in
-      let p6 = made_both (ds ++ es) (Erase x ∷ []) in
-      let p7 = made_both ds es in
+      let p1 = joined ((((ml ++ a0) ++ b0) ++ a1) ++ b1) g in
+      let p2 = joined (((ml ++ a0) ++ b0) ++ a1) b1 in
+      let p3 = joined ((ml ++ a0) ++ b0) a1 in
+      let p4 = joined (ml ++ a0) b0 in
+      let p5 = joined ml a0 in
+      let p6 = joined (ds ++ es) (Erase x ∷ []) in
+      let p7 = joined ds es in
       let q0 = handed_make y 0 c0 e low e_is in
       let q1 = handed_make y 1 c1 f high f_is in
       let q2 = bridges_make Index front ms vs (lengths y 0 rs) in
@@ -348,10 +348,10 @@ module _ (m : Module) (o : Operation) (front : Place) (s : Spot m o front) (name
 
 pub free_lower_choice : (m : Module) (o : Operation) (front : Place) → Spot m o front → (es : List Edit) → lower_choice m.tree m.next front o ≡ Some es → HasRoom m es → Free es m
 free_lower_choice m o front s es is room =
-    let w = when_is (named (codes "scf.if") (head o).name && any (index_results m.tree m.next front o)) _ es is in
-    let e = given_is (body m.tree o 0) _ es w.1 in
-    let f = given_is (body m.tree o 1) _ es e.2 in
-    let same = some_is (lowered_if m.tree m.next front o e.0 f.0) es f.2 in
+    let w = when_some (named (codes "scf.if") (head o).name && any (index_results m.tree m.next front o)) _ es is in
+    let e = given_some (body m.tree o 0) _ es w.1 in
+    let f = given_some (body m.tree o 1) _ es e.2 in
+    let same = same_Some (lowered_if m.tree m.next front o e.0 f.0) es f.2 in
     let name = (both (named (codes "scf.if") (head o).name) _ w.0).0 in
     subst (λ z. Free z m) same (choice_free m o front s name e.0 f.0 e.1 f.1 (enough m o front s name e.0 f.0 e.1 f.1 (subst (HasRoom m) (sym same) room)))
   where

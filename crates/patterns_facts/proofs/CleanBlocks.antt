@@ -28,15 +28,13 @@ use Rattle.ir_verify_base.specs.TypeRules.{any_differ, arguments_differ}
 use Rattle.ir_verify.specs.BlockRules.{is_without}
 use Rattle.ir_event.specs.Modules.{Module}
 use Rattle.patterns_yields.proofs.Ends.{arguments_read}
-use Rattle.patterns_yields.proofs.Unbroken.{Stand, Unbroken, clean_unbroken, node_head}
-use Rattle.patterns_facts.proofs.InPlace.{gathers_none}
+use Rattle.patterns_yields.proofs.Unbroken.{Stand, Unbroken, clean_unbroken}
 use Rattle.patterns_facts.proofs.Spots.{Spot, own_operand}
-use Rattle.patterns_facts.proofs.Typed.{passed}
-
--- the row of a name, by what is asked of it
-pub row_there : (o : Option Row) → is_some o ≡ true → (row : Row) × (o ≡ Some row)
-row_there None e = absurd cc
-row_there (Some row) e = (row, refl)
+use Rattle.ir_tree_laws.proofs.Changed.{gather_none}
+use Rattle.listeners_surroundings.proofs.Reading.{head_shown}
+use Rattle.effects.proofs.Unused.{none_here}
+use Rattle.std.proofs.lemmas.Bool.{not-false}
+use Rattle.patterns_yields.proofs.Yielding.{row_there}
 
 -- what a clean operation doesn't break
 pub unbroken_there : (m : Module) (o : Operation) (front : Place) → Spot m o front → (row : Row) → row_of (head o).name ≡ Some row → (path : List (StepOf (List ℕ) TypeTerm AttrTerm)) × Unbroken row (surround m.tree (stand o path))
@@ -52,16 +50,11 @@ node_arguments (op h rs) = refl
 pub block_is : (o : Operation) (r : ℕ) (g : RegionOf (List ℕ) TypeTerm AttrTerm) → region_at r (regions o) ≡ Some g → block_at r (node_of o) ≡ arguments_of g
 block_is o r g e = ap (option_and_then (λ args. args)) (ap (λ l. slice_get l r) (node_arguments o) ∙ arguments_read (regions o) r ∙ ap (option_map (λ g. arguments_of g)) e)
 
--- a value that isn't there isn't used
-none_used : (v : Value) (y n : ℕ) (ws : List Value) → ((w : Value) → In w ws → same_value v w ≡ false) → operand_uses v y n ws ≡ []
-none_used v y n [] h = refl
-none_used v y n (w ∷ ws) h = ap (λ b. cond b ((y, n) ∷ operand_uses v y (n + 1) ws) (operand_uses v y (n + 1) ws)) (h w (inl refl)) ∙ none_used v y (n + 1) ws (λ u i. h u (inr i))
-
 pub no_uses : (m : Module) (o : Operation) (front : Place) → Spot m o front → (v : Value) → has_value v m.tree ≡ false → uses_of v m.tree ≡ []
 no_uses m o front s v none =
     sym (stands_uses v [] m.tree)
-    ∙ gathers_none (λ (s : Stand). operand_uses v (stand_id s) 0 (head s.here).operands) (stands [] m.tree) (λ z i.
-    none_used v (stand_id z) 0 (head z.here).operands (λ w j. differs w (seen_by is_isolated m.tree s.formed.distinct z i w (own_operand m.tree s.formed.distinct s.formed.formed.visible z i w j)).is))
+    ∙ gather_none (λ (s : Stand). operand_uses v (stand_id s) 0 (head s.here).operands) (stands [] m.tree) (λ z i.
+    none_here v (stand_id z) 0 (head z.here).operands (λ w j. differs w (seen_by is_isolated m.tree s.formed.distinct z i w (own_operand m.tree s.formed.distinct s.formed.formed.visible z i w j)).is))
   where
     differs : (w : Value) → has_value w m.tree ≡ true → same_value v w ≡ false
     differs w there = go (same_value v w) refl
@@ -107,7 +100,7 @@ if_plain = refl
 
 no_more : (known : Known) (args : List TypeTerm) → not (types_fit known no_types (there args)) ≡ false → args ≡ []
 no_more known [] e = refl
-no_more known (a ∷ args) e = (let z = (unsigned_Decides (length (there (a ∷ args))) 0).0 (passed (length (there (a ∷ args)) == 0) e) in absurd (omega (arith, z)))
+no_more known (a ∷ args) e = (let z = (unsigned_Decides (length (there (a ∷ args))) 0).0 (not-false (length (there (a ∷ args)) == 0) e) in absurd (omega (arith, z)))
 
 row_with : (f : Option Row) (rs : List RegionRow) → option_map (λ (row : Row). row.regions) f ≡ Some rs → (row : Row) × (f ≡ Some row) × (row.regions ≡ rs)
 row_with None rs e = absurd cc
@@ -146,8 +139,8 @@ module _ (m : Module) (o : Operation) (front : Place) (s : Spot m o front) (name
   no_results : is_none (block_at 1 (node_of o)) ≡ true → (head o).results ≡ []
   no_results none =
       let u = unbroken in
-      let named_so : is_named (node_of o) (codes "scf.if") ≡ true = ap (λ h. bytes_eq h.name (codes "scf.if")) (node_head o) ∙ ap (λ n. bytes_eq n (codes "scf.if")) name in
-      ap (λ h. h.results) (sym (node_head o))
+      let named_so : is_named (node_of o) (codes "scf.if") ≡ true = ap (λ h. bytes_eq h.name (codes "scf.if")) (head_shown o) ∙ ap (λ n. bytes_eq n (codes "scf.if")) name in
+      ap (λ h. h.results) (sym (head_shown o))
       ∙ empty_list (node_of o).head.results (sym (λ i. named_so i && (not (length (node_of o).head.results == 0) && none i)) ∙ u.1.chooses)
     where
       is_so : (b : Bool) → true && (not b && true) ≡ false → b ≡ true

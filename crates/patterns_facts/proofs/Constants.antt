@@ -23,8 +23,10 @@ use Rattle.patterns_base.proofs.Making.{converting_rules_make}
 use Rattle.patterns_facts.specs.Alike.{Same, SeesAlike}
 use Rattle.patterns_facts.specs.Facts.{Facts}
 use Rattle.patterns_facts.proofs.Near.{none_there, still, tested, of_some, Fine}
-use Rattle.patterns_facts.proofs.Looking.{given_alike, when_alike, all_alike, map_alike, two_operands, source_alike, known_alike, constant_alike, on_two_alike, inner_two}
+use Rattle.patterns_facts.proofs.Looking.{given_alike, when_alike, two_operands, source_alike, known_alike, constant_alike, on_two_alike, inner_two}
 use Rattle.patterns_facts.proofs.Accepting.{are_accepted_at}
+use Rattle.ir_tree_laws.proofs.Sees.{all_same}
+use Rattle.listeners_surroundings.proofs.Operands.{same_map}
 
 module _ (t : Operation) (n : ℕ) (place : Place) (o : Operation) where
   abbrev h : Header
@@ -64,9 +66,9 @@ module _ (t u : Operation) (n k : ℕ) (f g : Place) (o p : Operation) (same : h
   same_fold_to_constant : Same (fold_to_constant t n f o) (fold_to_constant u k g p)
   same_fold_to_constant =
       subst (λ (q : Header). Same (fold_to_constant t n f o) (when (not (named (codes "arith.constant") q.name) && list_all (may_read u k g p) q.operands) (folded_to u k g p q.results (fold_of q.name q.properties (map (known u) q.operands) q.results)))) same
-      (when_alike _ _ _ _ (ap (λ b. not (named (codes "arith.constant") (head o).name) && b) (all_alike (may_read t n f o) (may_read u k g p) (head o).operands may_read_alike))
+      (when_alike _ _ _ _ (ap (λ b. not (named (codes "arith.constant") (head o).name) && b) (all_same (may_read t n f o) (may_read u k g p) (head o).operands may_read_alike))
       (folded_alike (head o).results (fold_of (head o).name (head o).properties (map (known t) (head o).operands) (head o).results)
-      ∙ ap (λ cs. is_some (folded_to u k g p (head o).results (fold_of (head o).name (head o).properties cs (head o).results))) (map_alike (known t) (known u) (head o).operands (λ v h. known_alike t u v (sees.operands v h)))))
+      ∙ ap (λ cs. is_some (folded_to u k g p (head o).results (fold_of (head o).name (head o).properties cs (head o).results))) (same_map (known t) (known u) (head o).operands (λ v h. known_alike t u v (sees.operands v h)))))
 
   same_regroup_constants : Same (regroup_constants t n f o) (regroup_constants u k g p)
   same_regroup_constants = on_two_alike t u o p same sees _ _ (λ q s r e. when_alike (among regrouping q.name) _ _ _ refl

@@ -35,9 +35,9 @@ use Rattle.patterns_base.specs.Looks.{Ended, Header}
 use Rattle.patterns_base.specs.Makes.{give_body, replacing, results_from}
 use Rattle.patterns_yields.proofs.Ends.{Ending}
 use Rattle.patterns_facts.proofs.Results.{AreGiven, results_free}
-use Rattle.patterns_facts.proofs.Shapes.{some_is}
 use Rattle.patterns_facts.proofs.Shifts.{moved_heads, moved_types}
 use Rattle.patterns_facts.proofs.Spots.{Spot, here_is, own_operand, stands_there}
+use Rattle.std.proofs.lemmas.Option.{same_Some}
 
 abbrev Stand : Type 0
 Stand = StandOf (List ℕ) TypeTerm AttrTerm
@@ -78,7 +78,7 @@ module _ (x r : ℕ) (front : Place) (y : ℕ) (m : Module) (h : HasFirst x r fr
       go (next o os) is ids =
           let id : (head o).id ≡ y = cc in
           let found : find y m.tree ≡ Some o = ap (λ z. find z m.tree) (sym id) ∙ stand_found m.tree h.stood.formed.distinct _ (there_it o os is) in
-          let one : head o ≡ f = some_is (head o) f (sym (ap (option_map head) found) ∙ e) in
+          let one : head o ≡ f = same_Some (head o) f (sym (ap (option_map head) found) ∙ e) in
           seen_around o os is v (subst (λ (z : Header). In v z.operands) (sym one) i)
 
 -- values are of some types
@@ -117,7 +117,7 @@ module _ (x r : ℕ) (front : Place) (ys : List ℕ) (y : ℕ) (m : Module) (h :
   results_left : (head left.stood.at.here).results ≡ (head h.stood.at.here).results
   results_left =
       let two : Some (head left.stood.at.here) ≡ Some (head h.stood.at.here) = ap (option_map head) (sym (found_there is_isolated x front n left.stood)) ∙ moved_heads x r front ys (y ∷ []) m h x ∙ ap (option_map head) (found_there is_isolated x front m h.stood) in
-      ap (λ (z : Header). z.results) (some_is (head left.stood.at.here) (head h.stood.at.here) two)
+      ap (λ (z : Header). z.results) (same_Some (head left.stood.at.here) (head h.stood.at.here) two)
 
   pub body_free : (vs : List Value) → ((v : Value) → In v vs → In v f.operands) → HaveTypes vs (head h.stood.at.here).results m → Free (give_body front x ys vs) m
   body_free vs among types =
@@ -128,7 +128,7 @@ module _ (x r : ℕ) (front : Place) (ys : List ℕ) (y : ℕ) (m : Module) (h :
       0 refl (λ j l. absurd (omega (arith, l)))))
 
 -- where a block ends with a clean operation
-joined_ids : (fs : List Operation) (l : Operation) → list_ids (joined_ops fs (next l no_ops)) ≡ map (λ (o : Operation). (head o).id) fs ++ (head l).id ∷ []
+pub joined_ids : (fs : List Operation) (l : Operation) → list_ids (joined_ops fs (next l no_ops)) ≡ map (λ (o : Operation). (head o).id) fs ++ (head l).id ∷ []
 joined_ids [] l = refl
 joined_ids (f ∷ fs) l = ap (λ is. (head f).id ∷ is) (joined_ids fs l)
 

@@ -31,7 +31,10 @@ use Rattle.patterns_facts.proofs.Typed.{ChoiceTypes, a_choice, among_each, choic
 use Rattle.patterns_facts.proofs.Spots.{Giver, Spot, here_is, sees_behind, sees_operand, stands_there}
 use Rattle.patterns_facts.proofs.Fit as fit
 use Rattle.patterns_facts.proofs.Fit.{Fit}
-use Rattle.patterns_facts.proofs.Shapes.{given_is, one_is, some_is, source_is, three_is, two_is, when_is}
+use Rattle.patterns_facts.proofs.Shapes.{one_is, source_is, three_is, two_is}
+use Rattle.patterns_laws.proofs.KnownFolds.{given_some}
+use Rattle.std.proofs.lemmas.Option.{same_Some}
+use Rattle.patterns_base.proofs.Facts.{when_some}
 
 -- what edits make is within the limits
 abbrev pub HasRoom : Module → List Edit → Type 0
@@ -59,7 +62,7 @@ module _ (m : Module) (o : Operation) (front : Place) (s : Spot m o front) where
   pub gives : (es : List Edit) (v : Value) (ty : TypeTerm) → (head o).results ≡ ty ∷ [] → Some (give (head o).id v) ≡ Some es → sees (head o).id v m ≡ true → (u : TypeTerm) → type_of_value v m.tree ≡ Some u → same_type ty u ≡ true
       → HasRoom m es → Free es m
   gives es v ty one is seen u of same room =
-      subst (λ z. HasRoom m z → Free z m) (some_is (give x v) es is)
+      subst (λ z. HasRoom m z → Free z m) (same_Some (give x v) es is)
       (λ (r : HasRoom m (give x v)). fit.given x front ty 0 m (fits ty one 0 r.0 r.1) v seen u of same) room
 
   -- the first of two numbers
@@ -76,25 +79,25 @@ module _ (m : Module) (o : Operation) (front : Place) (s : Spot m o front) where
   pub free_drop_zero : (n : ℕ) (es : List Edit) → drop_zero m.tree n front o ≡ Some es → HasRoom m es → Free es m
   free_drop_zero n es e =
       let p = two_is (head o) _ es e in
-      let w = when_is (among ignoring_zero (head o).name && is_number t 0 p.second) (Some (give x p.first)) es p.makes in
+      let w = when_some (among ignoring_zero (head o).name && is_number t 0 p.second) (Some (give x p.first)) es p.makes in
       of_two es p.first p.second p.ty ignoring_zero ignoring_zero_are (both (among ignoring_zero (head o).name) _ w.0).0 p.operands p.results w.1
 
   pub free_drop_one : (n : ℕ) (es : List Edit) → drop_one m.tree n front o ≡ Some es → HasRoom m es → Free es m
   free_drop_one n es e =
       let p = two_is (head o) _ es e in
-      let w = when_is (among ignoring_one (head o).name && is_number t 1 p.second) (Some (give x p.first)) es p.makes in
+      let w = when_some (among ignoring_one (head o).name && is_number t 1 p.second) (Some (give x p.first)) es p.makes in
       of_two es p.first p.second p.ty ignoring_one ignoring_one_are (both (among ignoring_one (head o).name) _ w.0).0 p.operands p.results w.1
 
   pub free_drop_all_ones : (n : ℕ) (es : List Edit) → drop_all_ones m.tree n front o ≡ Some es → HasRoom m es → Free es m
   free_drop_all_ones n es e =
       let p = two_is (head o) _ es e in
-      let w = when_is (named (codes "arith.andi") (head o).name && passes (is_all_ones p.ty) (known t p.second)) (Some (give x p.first)) es p.makes in
+      let w = when_some (named (codes "arith.andi") (head o).name && passes (is_all_ones p.ty) (known t p.second)) (Some (give x p.first)) es p.makes in
       gives_number es p.first p.second p.ty (named_is (λ name. types_at name ≡ Some two_numbers) (codes "arith.andi") (head o).name conjunction_is (both (named (codes "arith.andi") (head o).name) _ w.0).0) p.operands p.results w.1
 
   pub free_keep_itself : (n : ℕ) (es : List Edit) → keep_itself m.tree n front o ≡ Some es → HasRoom m es → Free es m
   free_keep_itself n es e =
       let p = two_is (head o) _ es e in
-      let w = when_is (among keeping (head o).name && same_value p.first p.second) (Some (give x p.first)) es p.makes in
+      let w = when_some (among keeping (head o).name && same_value p.first p.second) (Some (give x p.first)) es p.makes in
       of_two es p.first p.second p.ty keeping keeping_are (both (among keeping (head o).name) _ w.0).0 p.operands p.results w.1
 
   -- choices
@@ -113,15 +116,15 @@ module _ (m : Module) (o : Operation) (front : Place) (s : Spot m o front) where
   pub free_choose_same : (n : ℕ) (es : List Edit) → choose_same m.tree n front o ≡ Some es → HasRoom m es → Free es m
   free_choose_same n es e =
       let p = three_is (head o) _ es e in
-      let w = when_is (named (codes "arith.select") (head o).name) _ es p.makes in
-      let u = when_is (same_value p.second p.third) (Some (give x p.second)) es w.1 in
+      let w = when_some (named (codes "arith.select") (head o).name) _ es p.makes in
+      let u = when_some (same_value p.second p.third) (Some (give x p.second)) es w.1 in
       gives_second es p.first p.second p.third p.ty p.operands p.results (chosen w.0 p.first p.second p.third p.ty p.operands p.results) u.1
 
   pub free_choose_known : (n : ℕ) (es : List Edit) → choose_known m.tree n front o ≡ Some es → HasRoom m es → Free es m
   free_choose_known n es e =
       let p = three_is (head o) _ es e in
-      let w = when_is (named (codes "arith.select") (head o).name) _ es p.makes in
-      let u = given_is (known t p.first) _ es w.1 in
+      let w = when_some (named (codes "arith.select") (head o).name) _ es p.makes in
+      let u = given_some (known t p.first) _ es w.1 in
       by_bit p.first p.second p.third p.ty p.operands p.results (chosen w.0 p.first p.second p.third p.ty p.operands p.results) (u.0.1 == 0) u.2
     where
       by_bit : (c a b : Value) (ty : TypeTerm) → (head o).operands ≡ c ∷ a ∷ b ∷ [] → (head o).results ≡ ty ∷ [] → ChoiceTypes m.tree c a b ty → (bit : Bool) → Some (give (head o).id (if bit then b else a)) ≡ Some es → HasRoom m es → Free es m
@@ -131,8 +134,8 @@ module _ (m : Module) (o : Operation) (front : Place) (s : Spot m o front) where
   pub free_choose_truth : (n : ℕ) (es : List Edit) → choose_truth m.tree n front o ≡ Some es → HasRoom m es → Free es m
   free_choose_truth n es e =
       let p = three_is (head o) _ es e in
-      let w = when_is (named (codes "arith.select") (head o).name) _ es p.makes in
-      let u = when_is (same_type p.ty i1 && (is_number t 1 p.second && is_number t 0 p.third)) (Some (give x p.first)) es w.1 in
+      let w = when_some (named (codes "arith.select") (head o).name) _ es p.makes in
+      let u = when_some (same_type p.ty i1 && (is_number t 1 p.second && is_number t 0 p.third)) (Some (give x p.first)) es w.1 in
       let c = chosen w.0 p.first p.second p.third p.ty p.operands p.results in
       gives es p.first p.ty p.results u.1 (sees_operand m o front s p.first (subst (In p.first) (sym p.operands) (inl refl))) c.asked c.condition
       (subst (λ z. same_type p.ty z ≡ true) (sym c.truth) (both (same_type p.ty i1) _ u.0).0)
@@ -141,7 +144,7 @@ module _ (m : Module) (o : Operation) (front : Place) (s : Spot m o front) where
   pub gives_behind : (es : List Edit) (a : Value) (ty : TypeTerm) (h : Header) (v : Value) → (head o).operands ≡ a ∷ [] → (head o).results ≡ ty ∷ [] → Giver m.tree a h → h.operands ≡ v ∷ []
       → when (is_of_type m.tree ty v) (Some (give (head o).id v)) ≡ Some es → HasRoom m es → Free es m
   gives_behind es a ty h v operands results g inner e =
-      let w = when_is (is_of_type t ty v) (Some (give x v)) es e in
+      let w = when_some (is_of_type t ty v) (Some (give x v)) es e in
       let u = of_type (type_of_value v t) ty w.0 in
       gives es v ty results w.1 (sees_behind m o front s a (subst (In a) (sym operands) (inl refl)) h g v (subst (In v) (sym inner) (inl refl))) u.0 u.1 u.2
 
@@ -159,7 +162,7 @@ module _ (m : Module) (o : Operation) (front : Place) (s : Spot m o front) where
           let u = of_type (type_of_value a t) ty f in
           gives es a ty results is (sees_operand m o front s a (subst (In a) (sym operands) (inl refl))) u.0 u.1 u.2
       by_type a ty operands results false f is =
-          let y = given_is (source t (head o).name a) _ es is in
+          let y = given_some (source t (head o).name a) _ es is in
           let q = one_is y.0 _ es y.2 in
           gives_behind es a ty y.0 q.first operands results (source_is t (head o).name a y.0 y.1) q.operands q.makes
 
@@ -167,8 +170,8 @@ module _ (m : Module) (o : Operation) (front : Place) (s : Spot m o front) where
           → (if b then unrealized t n front o (record { name = (head o).name; first = a; ty = ty }) else when (among index_casts (head o).name) (through_index t n front o (record { name = (head o).name; first = a; ty = ty }))) ≡ Some es → HasRoom m es → Free es m
       by_name a ty operands results true is = by_type a ty operands results (is_of_type t ty a) refl is
       by_name a ty operands results false is =
-          let w = when_is (among index_casts (head o).name) _ es is in
-          let y = given_is (source t (head o).name a) _ es w.1 in
+          let w = when_some (among index_casts (head o).name) _ es is in
+          let y = given_some (source t (head o).name a) _ es w.1 in
           let q = one_is y.0 _ es y.2 in
-          let v = when_is (nat_le (type_width ty) (type_width q.ty)) _ es q.makes in
+          let v = when_some (nat_le (type_width ty) (type_width q.ty)) _ es q.makes in
           gives_behind es a ty y.0 q.first operands results (source_is t (head o).name a y.0 y.1) q.operands v.1

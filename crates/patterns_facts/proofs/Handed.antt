@@ -27,11 +27,7 @@ use Rattle.patterns_base.specs.Made.{bridge, i64}
 use Rattle.patterns_base.specs.Lowering.{bridges, crossing, marked}
 use Rattle.patterns_facts.proofs.CastsAccepted.{AreCrossed, Room, bridged, made_one}
 use Rattle.patterns_facts.proofs.Indexed.{head_there}
-
--- edits one after another
-pub edited_both : (es fs : List Edit) (m : Module) → all_edited (es ++ fs) m ≡ all_edited fs (all_edited es m)
-edited_both [] fs m = refl
-edited_both (e ∷ es) fs m = edited_both es fs (edited e m)
+use Rattle.patterns_edits.proofs.Facts.{edited_both}
 
 module _ (l : ℕ) (place : Place) (base : ℕ) (ws : List Value) (P : Module → Type 0)
     (p_made : (k : Module) → StandsAt l place k → (v : Value) → In v ws → sees l v k ≡ true → base ≤ k.next → StandsAt l place (edited (Make place (bridge i64 v)) k) → P k → P (edited (Make place (bridge i64 v)) k))

@@ -42,23 +42,21 @@ use Rattle.patterns_base.specs.Made.{i64}
 use Rattle.patterns_base.specs.Looks.{Header, is_constant, is_known, is_number, may_go, predicate, source}
 use Rattle.patterns_base.specs.Folding.{erase_dead, swap_constant, mirror_comparison, choose_opposite}
 use Rattle.patterns_facts.proofs.Spots.{Spot, here_is, sees_behind, sees_operand, stands_there}
-use Rattle.patterns_facts.proofs.Shapes.{given_is, some_is, source_is, three_is, two_is, when_is}
+use Rattle.patterns_facts.proofs.Shapes.{source_is, three_is, two_is}
+use Rattle.ir_tree_laws.proofs.Changed.{gather_none}
+use Rattle.patterns_laws.proofs.KnownFolds.{given_some}
+use Rattle.ir_tree_laws.proofs.Nested.{unequal}
+use Rattle.std.proofs.lemmas.Option.{same_Some}
+use Rattle.patterns_base.proofs.Facts.{when_some}
 
 abbrev Entries : Type 0
 Entries = List (List ℕ × AttrTerm)
 
 -- ---- an operation whose results nobody uses
 
-other_way : (a b : ℕ) → eqb a b ≡ false → eqb b a ≡ false
-other_way a b e = go (eqb b a) refl
-  where
-    go : (c : Bool) → eqb b a ≡ c → eqb b a ≡ false
-    go false f = f
-    go true f = (let bad : true ≡ false = sym (eq-eqb a b (sym (eqb-true b a f))) ∙ e in absurd cc)
-
 no_result : (x k : ℕ) (v : Value) → is_result_of x v ≡ false → same_value (Result x k) v ≡ false
 no_result x k (Arg y r l) e = refl
-no_result x k (Result y l) e = ap (λ b. b && eqb k l) (other_way y x e)
+no_result x k (Result y l) e = ap (λ b. b && eqb k l) (unequal y x e)
 
 no_use : (x k y n : ℕ) (vs : List Value) → list_all (λ v. not (is_result_of x v)) vs ≡ true → operand_uses (Result x k) y n vs ≡ []
 no_use x k y n [] e = refl
@@ -66,14 +64,10 @@ no_use x k y n (v ∷ vs) e =
     let b = both (not (is_result_of x v)) (list_all (λ v. not (is_result_of x v)) vs) e in
     ap (λ c. cond c ((y, n) ∷ operand_uses (Result x k) y (n + 1) vs) (operand_uses (Result x k) y (n + 1) vs)) (no_result x k v (not_false (is_result_of x v) b.0)) ∙ no_use x k y (n + 1) vs b.1
 
-pub gathers_none : {X Y : Type 0} (f : X → List Y) (xs : List X) → ((x : X) → In x xs → f x ≡ []) → gather f xs ≡ []
-gathers_none f [] h = refl
-gathers_none f (x ∷ xs) h = ap (λ l. l ++ gather f xs) (h x (inl refl)) ∙ gathers_none f xs (λ y i. h y (inr i))
-
 unused_result : (x : ℕ) (t : Operation) → is_unused x t ≡ true → (k : ℕ) → uses_of (Result x k) t ≡ []
 unused_result x t e k =
     sym (stands_uses (Result x k) [] t)
-    ∙ gathers_none (λ (s : StandOf (List ℕ) TypeTerm AttrTerm). operand_uses (Result x k) (stand_id s) 0 (head s.here).operands) (stands [] t) (λ s i.
+    ∙ gather_none (λ (s : StandOf (List ℕ) TypeTerm AttrTerm). operand_uses (Result x k) (stand_id s) 0 (head s.here).operands) (stands [] t) (λ s i.
     no_use x k (stand_id s) 0 (head s.here).operands
     (all_each (λ (s : StandOf (List ℕ) TypeTerm AttrTerm). list_all (λ v. not (is_result_of x v)) (head s.here).operands) (stands [] t) (stands_every (λ o. list_all (λ v. not (is_result_of x v)) (head o).operands) [] t ∙ e) s i))
 
@@ -178,8 +172,8 @@ module _ (m : Module) (o : Operation) (front : Place) (s : Spot m o front) where
   -- it is erased
   pub free_erase_dead : (n : ℕ) (es : List Edit) → erase_dead m.tree n front o ≡ Some es → Free es m
   free_erase_dead n es e =
-      let w = when_is (may_go t o) (Some (Erase x ∷ [])) es e in
-      subst (λ z. Free z m) (some_is (Erase x ∷ []) es w.1) (plans.erase_free x front m (stands_there m o front s) (λ k l. unused_result x t (dead_unused t o w.0) k), tt)
+      let w = when_some (may_go t o) (Some (Erase x ∷ [])) es e in
+      subst (λ z. Free z m) (same_Some (Erase x ∷ []) es w.1) (plans.erase_free x front m (stands_there m o front s) (λ k l. unused_result x t (dead_unused t o w.0) k), tt)
 
   -- two operands are swapped
   swaps : (n : Module) → Holds (head o).id front 2 n → (a b : Value) → sees (head o).id a n ≡ true → sees (head o).id b n ≡ true → Free (SetOperand (head o).id 0 b ∷ SetOperand (head o).id 1 a ∷ []) n
@@ -190,8 +184,8 @@ module _ (m : Module) (o : Operation) (front : Place) (s : Spot m o front) where
   pub free_swap_constant : (n : ℕ) (es : List Edit) → swap_constant m.tree n front o ≡ Some es → Free es m
   free_swap_constant n es e =
       let p = two_is (head o) _ es e in
-      let w = when_is (among swapping (head o).name && (is_known t p.first && not (is_constant t p.second))) (Some (SetOperand x 0 p.second ∷ SetOperand x 1 p.first ∷ [])) es p.makes in
-      subst (λ z. Free z m) (some_is (SetOperand x 0 p.second ∷ SetOperand x 1 p.first ∷ []) es w.1)
+      let w = when_some (among swapping (head o).name && (is_known t p.first && not (is_constant t p.second))) (Some (SetOperand x 0 p.second ∷ SetOperand x 1 p.first ∷ [])) es p.makes in
+      subst (λ z. Free z m) (same_Some (SetOperand x 0 p.second ∷ SetOperand x 1 p.first ∷ []) es w.1)
       (swaps m (holds (p.first ∷ p.second ∷ []) p.operands) p.first p.second (first_seen p.first (p.second ∷ []) p.operands) (second_seen p.first p.second [] p.operands))
 
   -- an attribute is set at a key that it has as a property, or in the part where the key belongs
@@ -234,12 +228,12 @@ module _ (m : Module) (o : Operation) (front : Place) (s : Spot m o front) where
   pub free_mirror_comparison : (n : ℕ) (es : List Edit) → mirror_comparison m.tree n front o ≡ Some es → Free es m
   free_mirror_comparison n es e =
       let p = two_is (head o) _ es e in
-      let w = when_is (named (codes "arith.cmpi") (head o).name) _ es p.makes in
-      let asks = given_is (predicate (head o)) _ es w.1 in
+      let w = when_some (named (codes "arith.cmpi") (head o).name) _ es p.makes in
+      let asks = given_some (predicate (head o)) _ es w.1 in
       let a = IntegerOf i64 (mirrored asks.0) in
-      let u = when_is (is_known t p.first && not (is_constant t p.second)) (Some (SetAttr x (codes "predicate") a ∷ SetOperand x 0 p.second ∷ SetOperand x 1 p.first ∷ [])) es asks.2 in
+      let u = when_some (is_known t p.first && not (is_constant t p.second)) (Some (SetAttr x (codes "predicate") a ∷ SetOperand x 0 p.second ∷ SetOperand x 1 p.first ∷ [])) es asks.2 in
       let there = predicate_there (head o) asks.0 asks.1 in
-      subst (λ z. Free z m) (some_is (SetAttr x (codes "predicate") a ∷ SetOperand x 0 p.second ∷ SetOperand x 1 p.first ∷ []) es u.1) (
+      subst (λ z. Free z m) (same_Some (SetAttr x (codes "predicate") a ∷ SetOperand x 0 p.second ∷ SetOperand x 1 p.first ∷ []) es u.1) (
         no_reason (codes "predicate") a there,
         swaps (edited (SetAttr x (codes "predicate") a) m) (entry_holds (codes "predicate") a there (p.first ∷ p.second ∷ []) p.operands) p.first p.second
             (entry_sees (codes "predicate") a there p.first (first_seen p.first (p.second ∷ []) p.operands)) (entry_sees (codes "predicate") a there p.second (second_seen p.first p.second [] p.operands)),
@@ -260,10 +254,10 @@ module _ (m : Module) (o : Operation) (front : Place) (s : Spot m o front) where
   pub free_choose_opposite : (n : ℕ) (es : List Edit) → choose_opposite m.tree n front o ≡ Some es → Free es m
   free_choose_opposite n es e =
       let p = three_is (head o) _ es e in
-      let w = when_is (named (codes "arith.select") (head o).name) _ es p.makes in
-      let y = given_is (source t (codes "arith.xori") p.first) _ es w.1 in
+      let w = when_some (named (codes "arith.select") (head o).name) _ es p.makes in
+      let y = given_some (source t (codes "arith.xori") p.first) _ es w.1 in
       let q = two_is y.0 _ es y.2 in
-      let u = when_is (is_number t 1 q.second) (Some (SetOperand x 0 q.first ∷ SetOperand x 1 p.third ∷ SetOperand x 2 p.second ∷ [])) es q.makes in
+      let u = when_some (is_number t 1 q.second) (Some (SetOperand x 0 q.first ∷ SetOperand x 1 p.third ∷ SetOperand x 2 p.second ∷ [])) es q.makes in
       let behind = sees_behind m o front s p.first (subst (In p.first) (sym p.operands) (inl refl)) y.0 (source_is t (codes "arith.xori") p.first y.0 y.1) q.first (subst (In q.first) (sym q.operands) (inl refl)) in
-      subst (λ z. Free z m) (some_is (SetOperand x 0 q.first ∷ SetOperand x 1 p.third ∷ SetOperand x 2 p.second ∷ []) es u.1)
+      subst (λ z. Free z m) (same_Some (SetOperand x 0 q.first ∷ SetOperand x 1 p.third ∷ SetOperand x 2 p.second ∷ []) es u.1)
       (sets_three m (holds (p.first ∷ p.second ∷ p.third ∷ []) p.operands) q.first p.third p.second behind (third_seen p.first p.second p.third [] p.operands) (second_seen p.first p.second (p.third ∷ []) p.operands))

@@ -35,20 +35,10 @@ use Rattle.patterns_base.specs.Made.{i64}
 use Rattle.patterns_base.specs.Lowering.{any, bridges, crossed, give_lowered, index_operands, index_results, indices, lowered_attr, lowered_header, lowered_id, lowered_op, lowered_regions, make_lowered, marked, lower_index}
 use Rattle.patterns_facts.proofs.CastsAccepted.{AreCrossed, AreLowered, Bridged, MadeThere, Room, bridged, given_free, made_one}
 use Rattle.patterns_facts.proofs.Given.{HasRoom}
-use Rattle.patterns_facts.proofs.Shapes.{some_is, when_is}
 use Rattle.patterns_facts.proofs.Spots.{Spot, here_is, sees_operand, stands_there}
-
--- what is made by edits
-pub made_both : (es fs : List Edit) → made_by (es ++ fs) ≡ made_by es + made_by fs
-made_both [] fs = (let e : made_by ([] ++ fs) ≡ made_by fs = refl in omega (arith, e))
-made_both (e ∷ es) fs = (let k = made_both es fs in omega (arith, k))
-
-pub bridges_make : (ty : TypeTerm) (place : Place) (ms : List Bool) (vs : List Value) → length ms ≡ length vs → made_by (bridges ty place ms vs) ≡ marked ms
-bridges_make ty place [] vs h = refl
-bridges_make ty place (true ∷ ms) [] h = absurd (omega (arith, h))
-bridges_make ty place (false ∷ ms) [] h = absurd (omega (arith, h))
-bridges_make ty place (true ∷ ms) (v ∷ vs) h = (let e = bridges_make ty place ms vs (omega (arith, h)) in omega (arith, e))
-bridges_make ty place (false ∷ ms) (v ∷ vs) h = bridges_make ty place ms vs (omega (arith, h))
+use Rattle.patterns_base.proofs.Facts.{bridges_make, crossed_length, when_some}
+use Rattle.patterns_base.proofs.Making.{joined}
+use Rattle.std.proofs.lemmas.Option.{same_Some}
 
 -- the lowered operation holds none, and is within the limits
 pub lowered_holds_none : (rs : RegionsOf (List ℕ) TypeTerm AttrTerm) → hold_none (lowered_regions rs) ≡ true
@@ -74,14 +64,6 @@ lowered_fits (op h rs) vs e f =
     both_hold (head_fits (lowered_header h vs)) _
     ((λ i. nat_le (e i) most_items && (nat_le (length-map h.results lowered_type i) most_items && (nat_le (length-map {B = List ℕ × AttrTerm} h.properties (λ (e : List ℕ × AttrTerm). (e.0, lowered_attr e.1)) i) most_items && items_fit h.attributes))) ∙ b.0)
     ((λ i. nat_le (lowered_count rs i) most_regions && lowered_arguments rs i) ∙ b.1)
-
-pub crossed_length : (n : ℕ) (ms : List Bool) (vs : List Value) → length ms ≡ length vs → length (crossed n ms vs) ≡ length vs
-crossed_length n [] [] e = refl
-crossed_length n [] (v ∷ vs) e = absurd (omega (arith, e))
-crossed_length n (true ∷ ms) [] e = absurd (omega (arith, e))
-crossed_length n (false ∷ ms) [] e = absurd (omega (arith, e))
-crossed_length n (true ∷ ms) (v ∷ vs) e = (let k = crossed_length (n + 1) ms vs (omega (arith, e)) in omega (arith, k))
-crossed_length n (false ∷ ms) (v ∷ vs) e = (let k = crossed_length n ms vs (omega (arith, e)) in omega (arith, k))
 
 -- what is crossed is seen
 pub crossed_seen : (x : ℕ) (front : Place) (ty : TypeTerm) (n : ℕ) (ms : List Bool) (vs : List Value) (m : Module) → AreCrossed x front ty ms vs n m → (v : Value) → In v (crossed n ms vs) → sees x v m ≡ true
@@ -112,7 +94,7 @@ lowered_seen x y front n tys seen types = from 0 tys (λ k l. ap (λ z. sees x (
 
 -- the head of what stands there
 pub head_there : (x : ℕ) (front : Place) (m : Module) (s : StandsAt x front m) (h : Header) → option_map head (find x m.tree) ≡ Some h → head s.at.here ≡ h
-head_there x front m s h e = some_is (head s.at.here) h (sym (ap (option_map head) (found_there is_isolated x front m s)) ∙ e)
+head_there x front m s h e = same_Some (head s.at.here) h (sym (ap (option_map head) (found_there is_isolated x front m s)) ∙ e)
 
 module _ (m : Module) (o : Operation) (front : Place) (s : Spot m o front) where
   abbrev x : ℕ
@@ -133,10 +115,10 @@ module _ (m : Module) (o : Operation) (front : Place) (s : Spot m o front) where
       let cs = bridges i64 front ms (head o).operands in
       let ds = bridges Index front (indices (head o).results) vs in
       let rs = replacing (results_from x 0 (head o).results) (crossed (id + 1) (indices (head o).results) vs) in
-      let a = made_both (cs ++ make_lowered t m.next front o) (give_lowered t m.next front o id (id + 1)) in
-      let b = made_both cs (make_lowered t m.next front o) in
-      let c = made_both (ds ++ rs) (Erase x ∷ []) in
-      let d = made_both ds rs in
+      let a = joined (cs ++ make_lowered t m.next front o) (give_lowered t m.next front o id (id + 1)) in
+      let b = joined cs (make_lowered t m.next front o) in
+      let c = joined (ds ++ rs) (Erase x ∷ []) in
+      let d = joined ds rs in
       let e = bridges_make i64 front ms (head o).operands (length-map (head o).operands (is_index_value t)) in
       let f = bridges_make Index front (indices (head o).results) vs (lengths 0 (head o).results) in
       let g : made_by (make_lowered t m.next front o) ≡ 1 = refl in
@@ -174,6 +156,6 @@ module _ (m : Module) (o : Operation) (front : Place) (s : Spot m o front) where
 
   pub free_lower_index : (es : List Edit) → lower_index m.tree m.next front o ≡ Some es → HasRoom m es → Free es m
   free_lower_index es e room =
-      let w = when_is (among index_users (head o).name && (any ms || any (index_results t m.next front o))) _ es e in
-      let is = some_is _ es w.1 in
+      let w = when_some (among index_users (head o).name && (any ms || any (index_results t m.next front o))) _ es e in
+      let is = same_Some _ es w.1 in
       subst (λ z. Free z m) is (indexed_free (subst (HasRoom m) (sym is) room))

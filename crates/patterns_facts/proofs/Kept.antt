@@ -27,9 +27,10 @@ use Rattle.ir_tree_laws.proofs.PutForm as put_form
 use Rattle.ir_tree_laws.proofs.Reasoned.{none_ids}
 use Rattle.ir_tree_laws.proofs.WellKept.{may_put_leaf, put_keeps}
 use Rattle.ir_tree_laws.proofs.Without.{member_left, same_head}
-use Rattle.patterns_edits.proofs.Made.{passes}
 use Rattle.patterns_facts.proofs.Ordered.{Before, Inside, before_back, inside_back}
 use Rattle.patterns_facts.proofs.Moving as moving
+use Rattle.ir_tree_laws.proofs.Facts.{new_id, new_operands, new_results}
+use Rattle.ir_tree_laws.proofs.Reverted.{passed}
 
 module _ {N T A : Type 0} (isolated : N → Bool) (B : ℕ → Type 0) where
   -- the operations of B, and what they see of each other, stay
@@ -64,15 +65,6 @@ module _ {N T A : Type 0} where
 
   one_op : (n : ℕ) (o : OpOf N T A) → hold_none (regions o) ≡ true → op_count (with_id n o) ≡ 1
   one_op n (op h rs) e = ap (λ l. length (n ∷ l)) (none_ids rs e)
-
-  pub new_id : (n : ℕ) (o : OpOf N T A) → (head (with_id n o)).id ≡ n
-  new_id n (op h rs) = refl
-
-  pub new_operands : (n : ℕ) (o : OpOf N T A) → (head (with_id n o)).operands ≡ (head o).operands
-  new_operands n (op h rs) = refl
-
-  pub new_results : (n : ℕ) (o : OpOf N T A) → (head (with_id n o)).results ≡ (head o).results
-  new_results n (op h rs) = refl
 
 -- an operation is made
 module _ {N T A : Type 0} (isolated : N → Bool) (m : ModuleOf N T A) (w : IsWellFormed isolated m) (place : Place) (spot : has_place place m.tree ≡ true) (o : OpOf N T A) (leaf : hold_none (regions o) ≡ true) where
@@ -135,13 +127,13 @@ module _ {N T A : Type 0} (isolated : N → Bool) (m : ModuleOf N T A) (w : IsWe
       (values : (v : Value) → In v (head o).operands → has_value v m.tree ≡ true) (seen : (v : Value) → In v (head o).operands → visible isolated (put place (with_id m.next o) m.tree) m.next v ≡ true) where
     pub made_free : put_reason isolated place o m.next m.tree ≡ None
     made_free =
-        passes _ _ _ parent
-        (passes _ _ _ spot
-        (passes _ _ _ (both_hold _ _ room fits)
-        (passes _ _ _ more
-        (passes _ _ _ levels
-        (passes _ _ _ (each_all (λ v. has_value v m.tree) (head o).operands values)
-        (passes _ _ _ (each_all (visible isolated after m.next) (head o).operands seen) refl))))))
+        passed _ _ _ parent
+        (passed _ _ _ spot
+        (passed _ _ _ (both_hold _ _ room fits)
+        (passed _ _ _ more
+        (passed _ _ _ levels
+        (passed _ _ _ (each_all (λ v. has_value v m.tree) (head o).operands values)
+        (passed _ _ _ (each_all (visible isolated after m.next) (head o).operands seen) refl))))))
 
     pub made_formed : IsWellFormed isolated (record { tree = put place (with_id m.next o) m.tree; next = m.next + 1 })
     made_formed = put_keeps isolated place o m w leaf made_free

@@ -17,6 +17,8 @@ use Rattle.patterns_laws.specs.Words.{named, among}
 use Rattle.patterns_base.specs.Looks.{Header, One, Two, Three, when, is_clean, giver, source, source_among, is_of_constant, is_constant, constant_value, known, is_number, passes, type_of, is_of_type, one, one_from, two, two_from, three, three_from, predicate}
 use Rattle.patterns_base.specs.Folding.{is_to_swap}
 use Rattle.patterns_facts.specs.Alike.{Same, ShowsAlike, SeesAlike}
+use Rattle.ir_tree_laws.proofs.Sees.{all_same}
+use Rattle.listeners_surroundings.proofs.Operands.{same_map}
 
 -- ---- both there, or neither
 pub given_same : {X Y : Type 0} (a b : Option X) (f g : X → Option Y) → a ≡ b → ((x : X) → a ≡ Some x → f x ≡ g x) → given a f ≡ given b g
@@ -46,14 +48,6 @@ if_alike b c p q r s e h k = go b ∙ ap (λ d. is_some (cond d r s)) e
     go : (d : Bool) → is_some (cond d p q) ≡ is_some (cond d r s)
     go true = h
     go false = k
-
-pub all_alike : {X : Type 0} (f g : X → Bool) (xs : List X) → ((x : X) → In x xs → f x ≡ g x) → list_all f xs ≡ list_all g xs
-all_alike f g [] h = refl
-all_alike f g (x ∷ xs) h = λ i. h x (inl refl) i && all_alike f g xs (λ y k. h y (inr k)) i
-
-pub map_alike : {X Y : Type 0} (f g : X → Y) (xs : List X) → ((x : X) → In x xs → f x ≡ g x) → map f xs ≡ map g xs
-map_alike f g [] h = refl
-map_alike f g (x ∷ xs) h = λ i. h x (inl refl) i ∷ map_alike f g xs (λ y k. h y (inr k)) i
 
 -- ---- the operands of operations of one, two and three
 pub one_operand : (h : Header) (p : One) → one h ≡ Some p → In p.first h.operands
@@ -115,7 +109,7 @@ module _ (t u : Operation) where
   type_alike ty v e = ap (λ z. option_eq same_type z (Some ty)) e
 
 -- a source is what gives the value
-when_some : {X : Type 0} (b : Bool) (x y : X) → when b (Some x) ≡ Some y → x ≡ y
+pub when_some : {X : Type 0} (b : Bool) (x y : X) → when b (Some x) ≡ Some y → x ≡ y
 when_some true x y e = cc
 when_some false x y e = absurd cc
 

@@ -23,7 +23,6 @@ use Rattle.ir_tree.proofs.Replaced.{same_value_true}
 use Rattle.ir_tree_laws.specs.Members.{In}
 use Rattle.ir_tree_laws.specs.Reasons.{has_place, hold_none, with_id}
 use Rattle.ir_tree_laws.specs.Stands.{StandOf, sees as sees_from}
-use Rattle.ir_tree_laws.proofs.Reverted.{got_below}
 use Rattle.ir_tree_laws.specs.Values.{arguments_at, arguments_of, region_at, type_of_value}
 use Rattle.ir_tree_laws.proofs.Around.{absent_find, around_there, stand_present}
 use Rattle.ir_tree_laws.proofs.Listed.{in_map, in_right}
@@ -50,7 +49,7 @@ use Rattle.patterns_base.specs.Made.{i64}
 use Rattle.patterns_base.specs.Makes.{arguments_from, replaced, replacing}
 use Rattle.patterns_base.specs.Lowering.{bridges, brought, crossed, end_of, index_operands, indices, lowered_op, marked}
 use Rattle.patterns_yields.proofs.Ends.{Ending, ending}
-use Rattle.patterns_facts.proofs.Across.{argument_users, before_is, one_stands, own_id}
+use Rattle.patterns_facts.proofs.Across.{argument_users, before_is, one_stands}
 use Rattle.patterns_facts.proofs.Brought as bringing
 use Rattle.patterns_facts.proofs.Brought.{Brought, LastSees}
 use Rattle.patterns_facts.proofs.Arguments.{Outcome, Similar, Taking, after, argument_type, changed, outcome, with_operands}
@@ -58,7 +57,7 @@ use Rattle.patterns_facts.proofs.CleanBlocks.{if_opened}
 use Rattle.patterns_facts.proofs.CastsAccepted.{AreCrossed, Bridged, MadeThere, Room, bridged, made_one}
 use Rattle.patterns_facts.proofs.Chosen.{cut_last}
 use Rattle.patterns_facts.proofs.Holders.{AreHeld, Placed, bridged_has, holders_from, placed_all, placeholders}
-use Rattle.patterns_facts.proofs.Indexed.{crossed_length, crossed_seen, head_there, lowered_fits, lowered_holds_none, own_fits}
+use Rattle.patterns_facts.proofs.Indexed.{crossed_seen, head_there, lowered_fits, lowered_holds_none, own_fits}
 use Rattle.patterns_facts.proofs.Kept as kept
 use Rattle.patterns_facts.proofs.Kept.{Kept}
 use Rattle.patterns_facts.proofs.Leading.{AreNew, Led, LedOn, NewOne, lead_all}
@@ -71,12 +70,14 @@ use Rattle.patterns_facts.proofs.PairsAccepted.{AllHeld, AllNew, Told, by_case, 
 use Rattle.patterns_facts.proofs.Erased.{ErasedAll, Held, erase_edits, erased_all}
 use Rattle.patterns_facts.proofs.Replacing.{Fresh, Holder, Near, Pair, ReplacedAll, pair_edits, replaced_all}
 use Rattle.patterns_facts.proofs.Phases.{Out, id_of}
-use Rattle.patterns_facts.proofs.Shapes.{some_is}
 use Rattle.patterns_facts.proofs.Spots.{Spot, here_is, own_operand, sees_operand, stands_there}
 use Rattle.patterns_facts.proofs.Started.{absent_from, fit_of, leaf_uses, lowered_at, missing_unused, nothing_used, rel_of, shallow_out, started, started_block, started_side}
 use Rattle.patterns_facts.proofs.Steps.{Across, Fit, nothing, there_of, two_apart}
+use Rattle.patterns_base.proofs.Facts.{crossed_length, kept_type}
+use Rattle.std.proofs.lemmas.Option.{slice_get_within, same_Some}
+use Rattle.ir_event.proofs.Facts.{own_id}
 
-got_none : (tys : List TypeTerm) (k : ℕ) → length tys ≤ k → is_some (slice_get tys k) ≡ false
+pub got_none : (tys : List TypeTerm) (k : ℕ) → length tys ≤ k → is_some (slice_get tys k) ≡ false
 got_none [] zero l = refl
 got_none [] (suc k) l = refl
 got_none (ty ∷ tys) zero l = absurd (omega (arith, l))
@@ -105,12 +106,6 @@ like_within [] zs s b o i e = absurd i
 like_within (p ∷ os) [] s b o i e = absurd s
 like_within (p ∷ os) (z ∷ zs) s b o (inl q) e = (z, inl refl, s.0.1 b ∙ ap (has_id b) (sym q) ∙ e)
 like_within (p ∷ os) (z ∷ zs) s b o (inr i) e = (let r = like_within os zs s.1 b o i e in (r.0, inr r.1, r.2))
-
-kept_type : (ty : TypeTerm) → is_index ty ≡ false → same_type ty (lowered_type ty) ≡ true
-kept_type Index e = absurd cc
-kept_type (Integer s n) e = type_refl (Integer s n)
-kept_type (Function is os) e = type_refl (Function is os)
-kept_type (Memref ds u) e = type_refl (Memref ds u)
 
 module _ (m : Module) (o : Operation) (front : Place) (s : Spot m o front) (name : named (codes "scf.for") (head o).name ≡ true) (args : List TypeTerm) (args_is : arguments_at 0 o ≡ Some args) (e : Ended) (e_is : body m.tree o 0 ≡ Some e)
     (rest : ℕ) (room : Room (marked (index_operands m.tree m.next front o) + (length args + (1 + (marked (indices args) + rest)))) m) where
@@ -474,7 +469,7 @@ module _ (m : Module) (o : Operation) (front : Place) (s : Spot m o front) (name
               let typed = stays.types (Arg y 0 k.number) ∙ c in
               let of_block : type_of_value (Arg y 0 k.number) n.tree ≡ slice_get into.args k.number = ap (λ f. option_and_then (λ o. option_and_then (λ args. slice_get args k.number) (arguments_at 0 o)) f) into.found ∙ ap (λ g. option_and_then (λ args. slice_get args k.number) (option_and_then arguments_of g)) into.is in
               inner_shows is_isolated n.tree across.stood.formed.distinct y 0 (head ended.end).id inside into.here into.found into.args into.list into.is k.number
-              (lt-ltb k.number (length into.args) (got_below into.args k.number (lowered_type new_v.0.2) (sym of_block ∙ typed)))
+              (lt-ltb k.number (length into.args) (slice_get_within into.args k.number (lowered_type new_v.0.2) (sym of_block ∙ typed)))
 
   pub bring6 : Brought (head o).id m3.next 0 front hx hy deep x_opened x_plain y_opened y_plain args B News ended.front ended.end m5 start5
   bring6 = bringing.bring x y 0 front hx hy deep x_opened x_plain y_opened y_plain args B News ended.front ended.end m5 start5
@@ -631,7 +626,7 @@ module _ (m : Module) (o : Operation) (front : Place) (s : Spot m o front) (name
       (let w = one_stands m3.tree st3.formed.distinct st3.at.here (st3.at.step_in ∷ st3.at.path) st3.at.there 0 args zs like.1 ended.front [] ended.end ended.is in
       let f3 : find l m3.tree ≡ Some ended.end = stand_found m3.tree st3.formed.distinct (stand ended.end (step st3.at.here 0 args ended.front no_ops ∷ st3.at.step_in ∷ st3.at.path)) w in
       let f0 : option_map head (find (head n0.last).id m.tree) ≡ Some e.last = ap (λ (h : Header). option_map head (find h.id m.tree)) (sym n0.is) ∙ last_there m o front s 0 e e_is in
-      some_is (head ended.end) (with_operands turned e.last)
+      same_Some (head ended.end) (with_operands turned e.last)
       (sym (ap (option_map head) f3) ∙ out.heads l ∙ ap (option_map (with_operands turned)) (ap (λ i. option_map head (find i m2.tree)) ended.id ∙ header2 (head n0.last).id last_in ∙ f0)))
 
   pub few_is : few ≡ length e.last.operands

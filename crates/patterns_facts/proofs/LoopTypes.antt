@@ -32,13 +32,15 @@ use Rattle.ir_verify.specs.PlaceRules.{differ, ended_of, if_well_shaped, passed}
 use Rattle.ir_event.specs.Modules.{Module}
 use Rattle.patterns_edits.proofs.Plans.{sees}
 use Rattle.patterns_base.specs.Looks.{Ended, body}
-use Rattle.patterns_yields.proofs.Ends.{Ending, ending, last_joined, names_at}
-use Rattle.patterns_yields.proofs.Unbroken.{Unbroken, clean_unbroken, node_head}
-use Rattle.patterns_facts.proofs.CleanBlocks.{block_is, row_there, unbroken_there}
+use Rattle.patterns_yields.proofs.Ends.{Ending, ending, names_at}
+use Rattle.patterns_yields.proofs.Unbroken.{Unbroken, clean_unbroken, spoken}
+use Rattle.patterns_facts.proofs.CleanBlocks.{block_is, unbroken_there}
 use Rattle.patterns_facts.proofs.Given.{turned}
 use Rattle.patterns_facts.proofs.Results.{AreGiven}
 use Rattle.patterns_facts.proofs.Spots.{Spot}
-use Rattle.patterns_facts.proofs.Typed.{passed as not_no}
+use Rattle.listeners_surroundings.proofs.Reading.{name_joined, head_shown}
+use Rattle.std.proofs.lemmas.Bool.{not-false}
+use Rattle.patterns_yields.proofs.Yielding.{row_there}
 
 -- the row of a name, with what some function reads of it
 row_that : {X : Type 0} (f : Row → X) (o : Option Row) (x : X) → option_map f o ≡ Some x → (row : Row) × (o ≡ Some row) × (f row ≡ x)
@@ -80,9 +82,9 @@ fitting m o front s a e =
     record {
       at = z;
       types = refl;
-      operands = sym (ap (λ (b : Asked). types_fit (known_by b.operands z) b.operands z.types) w.2) ∙ not_no _ (neither (is_no_number (known_by w.0.operands z).number) _ u.1.operands).1;
-      results = ap (λ l. types_fit (known_by a.operands z) a.results (there l)) (ap (λ h. h.results) (sym (node_head o)))
-          ∙ sym (ap (λ (b : Asked). types_fit (known_by b.operands z) b.results (there (node_of o).head.results)) w.2) ∙ not_no _ u.1.results;
+      operands = sym (ap (λ (b : Asked). types_fit (known_by b.operands z) b.operands z.types) w.2) ∙ not-false _ (neither (is_no_number (known_by w.0.operands z).number) _ u.1.operands).1;
+      results = ap (λ l. types_fit (known_by a.operands z) a.results (there l)) (ap (λ h. h.results) (sym (head_shown o)))
+          ∙ sym (ap (λ (b : Asked). types_fit (known_by b.operands z) b.results (there (node_of o).head.results)) w.2) ∙ not-false _ u.1.results;
       regions = sym (ap (λ (b : Asked). any_differ (known_by b.operands z) b.regions (node_of o)) w.2) ∙ u.1.arguments;
     }
 
@@ -154,7 +156,7 @@ module _ (m : Module) (o : Operation) (front : Place) (s : Spot m o front) where
       let w = fitting m o front s while_asks (ap (λ n. option_map asked_in (row_of n)) name ∙ while_asked) in
       let k = known_by while_asks.operands w.at in
       let a = neither (arguments_differ k (record { arguments = initial_types; may_be_empty = false }) (block_at 0 (node_of o))) _ w.regions in
-      ap (λ l. same_types l (there args)) (sym w.types) ∙ not_no _ (sym (ap (arguments_differ k (record { arguments = initial_types; may_be_empty = false })) e) ∙ a.0)
+      ap (λ l. same_types l (there args)) (sym w.types) ∙ not-false _ (sym (ap (arguments_differ k (record { arguments = initial_types; may_be_empty = false })) e) ∙ a.0)
 
   module _ (name : (head o).name ≡ codes "scf.for") (lower upper number : Value) (inits : List Value) (operands : (head o).operands ≡ lower ∷ upper ∷ number ∷ inits) where
     for_fits : Fitting m o for_asks
@@ -169,7 +171,7 @@ module _ (m : Module) (o : Operation) (front : Place) (s : Spot m o front) where
 
     -- and so have its block's arguments but the first, which has the type of its bounds
     pub for_arguments : (args : List TypeTerm) → block_at 0 (node_of o) ≡ Some args → same_types (map (λ v. type_of_value v m.tree) (lower ∷ inits)) (there args) ≡ true
-    for_arguments args e = go args (not_no _ (sym (ap (arguments_differ (known_by for_asks.operands for_fits.at) of_block) e) ∙ (neither (arguments_differ (known_by for_asks.operands for_fits.at) of_block (block_at 0 (node_of o))) false for_fits.regions).0))
+    for_arguments args e = go args (not-false _ (sym (ap (arguments_differ (known_by for_asks.operands for_fits.at) of_block) e) ∙ (neither (arguments_differ (known_by for_asks.operands for_fits.at) of_block (block_at 0 (node_of o))) false for_fits.regions).0))
       where
         of_block : RegionRow
         of_block = record { arguments = record { first = type.Number ∷ []; more = Some type.Initial }; may_be_empty = false }
@@ -218,10 +220,6 @@ condition_listed : is_some (row_of (codes "scf.condition")) ≡ true
 unfolding row_of rows
 condition_listed = refl
 
-and_no : (a b : Bool) → a ≡ true → a && b ≡ false → b ≡ false
-and_no true b e f = f
-and_no false b e f = absurd cc
-
 -- the types of what the condition of a while loop's first block hands on
 pub condition_types : (m : Module) (o : Operation) (front : Place) → Spot m o front → (head o).name ≡ codes "scf.while" → (e : Ended) → body m.tree o 0 ≡ Some e → same_types (there (head o).results) (drop 1 (map (λ v. type_of_value v m.tree) e.last.operands)) ≡ true
 condition_types m o front s name e k =
@@ -239,17 +237,17 @@ condition_types m o front s name e k =
         let inner = stand n.last (step o 0 n.args n.front no_ops ∷ path) in
         let inner_stood = stand_of_member m.tree s.formed.distinct inner (stands_in m.tree o path 0 n.args n.front n.last no_ops here n.block) in
         let outer = surround m.tree (stand o path) in
-        let node_name = ap (λ h. h.name) (node_head o) ∙ name in
-        let last_is : last_at 0 outer ≡ Some (head n.last).name = ap (option_and_then (λ last. last)) (names_at (regions o) 0 ∙ ap (option_map (λ g. option_and_then last_name (ops_in g))) n.block) ∙ last_joined n.front n.last in
+        let node_name = ap (λ h. h.name) (head_shown o) ∙ name in
+        let last_is : last_at 0 outer ≡ Some (head n.last).name = ap (option_and_then (λ last. last)) (names_at (regions o) 0 ∙ ap (option_map (λ g. option_and_then last_name (ops_in g))) n.block) ∙ name_joined n.front n.last in
         let y : (head n.last).name ≡ codes "scf.condition" = (bytes_eq-Decides (head n.last).name (codes "scf.condition")).0
-        (not_no (bytes_eq (head n.last).name (codes "scf.condition"))
-        (sym (ap (isnt_wanted (codes "scf.condition")) last_is) ∙ and_no (is_some (block_at 0 (node_of o))) _ (ap is_some (block_is o 0 (block n.args _) n.block)) (while_ends outer node_name u.ends))) in
+        (not-false (bytes_eq (head n.last).name (codes "scf.condition"))
+        (sym (ap (isnt_wanted (codes "scf.condition")) last_is) ∙ spoken (is_some (block_at 0 (node_of o))) _ (ap is_some (block_is o 0 (block n.args _) n.block)) (while_ends outer node_name u.ends))) in
         let found = row_there (row_of (codes "scf.condition")) condition_listed in
         let z = surround m.tree inner in
         let v = clean_unbroken m.tree inner found.0 n.clean inner_stood (ap row_of y ∙ found.1) in
-        let named_so : is_named z.node (codes "scf.condition") ≡ true = ap (λ h. bytes_eq h.name (codes "scf.condition")) (node_head n.last) ∙ ap (λ m. bytes_eq m (codes "scf.condition")) y in
-        let outside : ended_of z ≡ Some (node_of o) = ap (if_well_shaped (node_of o)) (ap (λ h. row_of h.name) (node_head o) ∙ listed) ∙ ap (λ b. if◌then◌else◌ b (Some (node_of o)) None) u.shaped in
-        let told = and_no (is_named z.node (codes "scf.condition")) (differ (option_and_then passed (ended_of z)) (drop 1 z.types)) named_so v.passes in
+        let named_so : is_named z.node (codes "scf.condition") ≡ true = ap (λ h. bytes_eq h.name (codes "scf.condition")) (head_shown n.last) ∙ ap (λ m. bytes_eq m (codes "scf.condition")) y in
+        let outside : ended_of z ≡ Some (node_of o) = ap (if_well_shaped (node_of o)) (ap (λ h. row_of h.name) (head_shown o) ∙ listed) ∙ ap (λ b. if◌then◌else◌ b (Some (node_of o)) None) u.shaped in
+        let told = spoken (is_named z.node (codes "scf.condition")) (differ (option_and_then passed (ended_of z)) (drop 1 z.types)) named_so v.passes in
         ap (λ h. same_types (there (head o).results) (drop 1 (map (λ v. type_of_value v m.tree) h.operands))) n.is
-        ∙ ap (λ h. same_types (there h.results) (drop 1 z.types)) (sym (node_head o))
-        ∙ not_no (same_types (there (node_of o).head.results) (drop 1 z.types)) (sym (ap (λ p. differ (option_and_then passed p) (drop 1 z.types)) outside ∙ ap (λ p. differ p (drop 1 z.types)) (while_passes (node_of o) node_name)) ∙ told)
+        ∙ ap (λ h. same_types (there h.results) (drop 1 z.types)) (sym (head_shown o))
+        ∙ not-false (same_types (there (node_of o).head.results) (drop 1 z.types)) (sym (ap (λ p. differ (option_and_then passed p) (drop 1 z.types)) outside ∙ ap (λ p. differ p (drop 1 z.types)) (while_passes (node_of o) node_name)) ∙ told)

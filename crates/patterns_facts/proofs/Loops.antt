@@ -34,22 +34,15 @@ use Rattle.patterns_yields.proofs.Ends.{Ending, ending}
 use Rattle.patterns_yields.proofs.Yielding.{loop_types}
 use Rattle.patterns_facts.proofs.Arguments.{Outcome, Taking, after, argument_type, changed, outcome, with_operands}
 use Rattle.patterns_facts.proofs.CleanBlocks.{block_is, no_uses}
-use Rattle.patterns_facts.proofs.Emptied.{HaveTypes, body_free, have_types}
+use Rattle.patterns_facts.proofs.Emptied.{HaveTypes, body_free, have_types, joined_ids}
 use Rattle.patterns_facts.proofs.LoopTypes.{condition_types, for_arguments, for_opened, for_plain, for_results, given_from, while_arguments, while_opened, while_plain}
 use Rattle.patterns_facts.proofs.Opened.{last_there}
 use Rattle.patterns_facts.proofs.Results.{AreGiven, results_free}
-use Rattle.patterns_facts.proofs.Shapes.{given_is, some_is, when_is}
 use Rattle.patterns_facts.proofs.Spots.{Spot, here_is, sees_operand, stands_there}
-
-got_none : (tys : List TypeTerm) (k : ℕ) → length tys ≤ k → is_some (slice_get tys k) ≡ false
-got_none [] zero l = refl
-got_none [] (suc k) l = refl
-got_none (ty ∷ tys) zero l = absurd (omega (arith, l))
-got_none (ty ∷ tys) (suc k) l = got_none tys k (omega (arith, l))
-
-joined_ids : (fs : List Operation) (l : Operation) → list_ids (joined_ops fs (next l no_ops)) ≡ map (λ (o : Operation). (head o).id) fs ++ (head l).id ∷ []
-joined_ids [] l = refl
-joined_ids (f ∷ fs) l = ap (λ is. (head f).id ∷ is) (joined_ids fs l)
+use Rattle.patterns_laws.proofs.KnownFolds.{given_some}
+use Rattle.patterns_facts.proofs.LoopStages.{got_none}
+use Rattle.std.proofs.lemmas.Option.{same_Some}
+use Rattle.patterns_base.proofs.Facts.{when_some}
 
 module _ (m : Module) (o : Operation) (front : Place) (s : Spot m o front) where
   abbrev x : ℕ
@@ -105,7 +98,7 @@ module _ (m : Module) (o : Operation) (front : Place) (s : Spot m o front) where
       results_are : (head o).results ≡ (head first.stood.at.here).results
       results_are =
           (let two : Some (with_operands turned (head o)) ≡ Some (head first.stood.at.here) = ap (option_map (with_operands turned)) (ap (option_map head) (sym s.found)) ∙ sym (came.heads x) ∙ ap (option_map head) (found_there is_isolated x front m1 first.stood) in
-          ap (λ (h : Header). h.results) (some_is (with_operands turned (head o)) (head first.stood.at.here) two))
+          ap (λ (h : Header). h.results) (same_Some (with_operands turned (head o)) (head first.stood.at.here) two))
 
       types_turned : (ws : List Value) (tys : List TypeTerm) → HaveTypes ws tys m → HaveTypes (map turned ws) tys m1
       types_turned [] [] g = tt
@@ -136,13 +129,13 @@ module _ (m : Module) (o : Operation) (front : Place) (s : Spot m o front) where
     by_last : (es : List Edit) (e : Ended) → body m.tree o 0 ≡ Some e → (vs : List Value) → e.last.operands ≡ vs → by_end m.tree front o e vs ≡ Some es → Free es m
     by_last es e ends [] is f = absurd cc
     by_last es e ends (c ∷ handed) is f =
-        let w = when_is (is_number t 0 c) (Some (opened t front o e (head o).operands handed)) es f in
-        subst (λ z. Free z m) (some_is (opened t front o e (head o).operands handed) es w.1) (stops e ends c handed is)
+        let w = when_some (is_number t 0 c) (Some (opened t front o e (head o).operands handed)) es f in
+        subst (λ z. Free z m) (same_Some (opened t front o e (head o).operands handed) es w.1) (stops e ends c handed is)
 
   pub free_stop_loop : (es : List Edit) → stop_loop m.tree front o ≡ Some es → Free es m
   free_stop_loop es e =
-      let w = when_is (named (codes "scf.while") (head o).name) _ es e in
-      let b = given_is (body t o 0) (λ e. by_end t front o e e.last.operands) es w.1 in
+      let w = when_some (named (codes "scf.while") (head o).name) _ es e in
+      let b = given_some (body t o 0) (λ e. by_end t front o e e.last.operands) es w.1 in
       by_last w.0 es b.0 b.1 b.0.last.operands refl b.2
 
   -- a loop that is gone through once or never
@@ -175,21 +168,21 @@ module _ (m : Module) (o : Operation) (front : Place) (s : Spot m o front) where
 
     of_bounds : (es : List Edit) → by_bounds m.tree front o (record { lower = lower; upper = upper; step = number; inits = inits }) ≡ Some es → Free es m
     of_bounds es e =
-        let low = given_is (known t lower) _ es e in
-        let high = given_is (known t upper) _ es low.2 in
+        let low = given_some (known t lower) _ es e in
+        let high = given_some (known t upper) _ es low.2 in
         by_order low.0 high.0 (int_lt (reading low.0) (reading high.0)) high.2
       where
         by_order : (low high : Known) (b : Bool) → (if b then given (known m.tree number) (λ k. when (goes_once m.tree front o (reading low) (reading high) (reading k)) (once m.tree front o loop)) else Some (never m.tree front o loop)) ≡ Some es → Free es m
         by_order low high true f =
-            let k = given_is (known t number) _ es f in
-            let w = when_is _ (once t front o loop) es k.2 in
-            let b = given_is (body t o 0) (λ e. Some (opened t front o e (lower ∷ inits) e.last.operands)) es w.1 in
-            subst (λ z. Free z m) (some_is (opened t front o b.0 (lower ∷ inits) b.0.last.operands) es b.2) (once_free b.0 b.1)
-        by_order low high false f = subst (λ z. Free z m) (some_is (never t front o loop) es f) never_free
+            let k = given_some (known t number) _ es f in
+            let w = when_some _ (once t front o loop) es k.2 in
+            let b = given_some (body t o 0) (λ e. Some (opened t front o e (lower ∷ inits) e.last.operands)) es w.1 in
+            subst (λ z. Free z m) (same_Some (opened t front o b.0 (lower ∷ inits) b.0.last.operands) es b.2) (once_free b.0 b.1)
+        by_order low high false f = subst (λ z. Free z m) (same_Some (never t front o loop) es f) never_free
 
   pub free_open_loop : (es : List Edit) → open_loop m.tree front o ≡ Some es → Free es m
   free_open_loop es e =
-      let w = when_is (named (codes "scf.for") (head o).name) _ es e in
+      let w = when_some (named (codes "scf.for") (head o).name) _ es e in
       go w.0 (head o).operands refl w.1
     where
       go : named (codes "scf.for") (head o).name ≡ true → (vs : List Value) → (head o).operands ≡ vs → given (loop_from vs) (by_bounds m.tree front o) ≡ Some es → Free es m

@@ -39,7 +39,7 @@ use Rattle.patterns_facts.proofs.CastsAccepted.{AreLowered, Room, given_free}
 use Rattle.patterns_facts.proofs.Given.{HasRoom}
 use Rattle.patterns_facts.proofs.Handed.{HandedOn, handed_on}
 use Rattle.patterns_facts.proofs.Holders.{holders_from}
-use Rattle.patterns_facts.proofs.Indexed.{bridges_make, lowered_seen, made_both}
+use Rattle.patterns_facts.proofs.Indexed.{lowered_seen}
 use Rattle.patterns_facts.proofs.Kept as kept
 use Rattle.patterns_facts.proofs.LoopStages as stage
 use Rattle.patterns_facts.proofs.LoopStages.{LikeEnded}
@@ -49,8 +49,11 @@ use Rattle.patterns_facts.proofs.NearAccepted.{there_by, there_is}
 use Rattle.patterns_facts.proofs.Ordered.{later_shows}
 use Rattle.patterns_facts.proofs.PairsAccepted.{holds_are, pairs_are}
 use Rattle.patterns_facts.proofs.Replacing.{Near, near_headed, near_kept, pair_edits}
-use Rattle.patterns_facts.proofs.Shapes.{given_is, some_is, when_is}
 use Rattle.patterns_facts.proofs.Spots.{Spot}
+use Rattle.patterns_base.proofs.Facts.{bridges_make, when_some}
+use Rattle.patterns_laws.proofs.KnownFolds.{given_some}
+use Rattle.patterns_base.proofs.Making.{joined}
+use Rattle.std.proofs.lemmas.Option.{same_Some}
 
 regrouped : (a b c d e f g h i j : List Edit) → ((((((((a ++ b) ++ c) ++ d) ++ e) ++ f) ++ g) ++ h) ++ i) ++ j ≡ a ++ (b ++ (c ++ (d ++ (e ++ (f ++ (g ++ (h ++ (i ++ j))))))))
 regrouped a b c d e f g h i j =
@@ -148,7 +151,7 @@ module _ (m : Module) (o : Operation) (front : Place) (s : Spot m o front) (name
     enough : length (indices (head o).results) ≤ length (head last_stands.at.here).operands
     enough =
         (let two : Some (length (head last_stands.at.here).operands) ≡ Some few = ap (λ f. option_map (λ (z : Header). length z.operands) (option_map head f)) (sym (found_there is_isolated l place m8 last_stands)) ∙ near8.operands in
-        let a = some_is (length (head last_stands.at.here).operands) few two in
+        let a = same_Some (length (head last_stands.at.here).operands) few two in
         let b = stage.few_is m o front s name args args_is e e_is (mr + mr) room in
         let c = handed_length in
         omega (arith, a, b, c))
@@ -200,7 +203,7 @@ module _ (m : Module) (o : Operation) (front : Place) (s : Spot m o front) (name
     x_results9 : (head near9.stood.at.here).results ≡ (head o).results
     x_results9 =
         (let two : Some (head near9.stood.at.here).results ≡ Some (head o).results = ap (λ f. option_map (λ (z : Header). z.results) (option_map head f)) (sym (found_there is_isolated x front m9 near9.stood)) ∙ near9.x_results in
-        some_is (head near9.stood.at.here).results (head o).results two)
+        same_Some (head near9.stood.at.here).results (head o).results two)
 
     given9 : Free (give_lowered m.tree m.next front o y m9.next) m9
     given9 = given_free x y front m9 near9.stood (head o).results x_results9 (there m9 near9).1 lowered_results (handed.rooms mr room8)
@@ -274,18 +277,18 @@ module _ (m : Module) (o : Operation) (front : Place) (s : Spot m o front) (name
       let k2 = crossing e.last.id 0 yi ir in
       let g1 = bridges Index front ir (results_from y 0 (head o).results) in
       let g2 = replacing (results_from x 0 (head o).results) (crossed ri ir (results_from y 0 (head o).results)) in
-      let p1 = made_both ((((((((a ++ b) ++ c) ++ d) ++ f) ++ g) ++ h) ++ i) ++ (k1 ++ k2)) ((g1 ++ g2) ++ Erase x ∷ []) in
-      let p2 = made_both (((((((a ++ b) ++ c) ++ d) ++ f) ++ g) ++ h) ++ i) (k1 ++ k2) in
-      let p3 = made_both ((((((a ++ b) ++ c) ++ d) ++ f) ++ g) ++ h) i in
-      let p4 = made_both (((((a ++ b) ++ c) ++ d) ++ f) ++ g) h in
-      let p5 = made_both ((((a ++ b) ++ c) ++ d) ++ f) g in
-      let p6 = made_both (((a ++ b) ++ c) ++ d) f in
-      let p7 = made_both ((a ++ b) ++ c) d in
-      let p8 = made_both (a ++ b) c in
-      let p9 = made_both a b in
-      let q1 = made_both k1 k2 in
-      let q2 = made_both (g1 ++ g2) (Erase x ∷ []) in
-      let q3 = made_both g1 g2 in
+      let p1 = joined ((((((((a ++ b) ++ c) ++ d) ++ f) ++ g) ++ h) ++ i) ++ (k1 ++ k2)) ((g1 ++ g2) ++ Erase x ∷ []) in
+      let p2 = joined (((((((a ++ b) ++ c) ++ d) ++ f) ++ g) ++ h) ++ i) (k1 ++ k2) in
+      let p3 = joined ((((((a ++ b) ++ c) ++ d) ++ f) ++ g) ++ h) i in
+      let p4 = joined (((((a ++ b) ++ c) ++ d) ++ f) ++ g) h in
+      let p5 = joined ((((a ++ b) ++ c) ++ d) ++ f) g in
+      let p6 = joined (((a ++ b) ++ c) ++ d) f in
+      let p7 = joined ((a ++ b) ++ c) d in
+      let p8 = joined (a ++ b) c in
+      let p9 = joined a b in
+      let q1 = joined k1 k2 in
+      let q2 = joined (g1 ++ g2) (Erase x ∷ []) in
+      let q3 = joined g1 g2 in
       let r1 = bridges_make i64 front io (head o).operands (length-map (head o).operands (is_index_value t)) in
       let r2 = placeholders_make args in
       let r3 : made_by d ≡ 1 = refl in
@@ -304,10 +307,10 @@ module _ (m : Module) (o : Operation) (front : Place) (s : Spot m o front) (name
 
 pub free_lower_loop : (m : Module) (o : Operation) (front : Place) → Spot m o front → (es : List Edit) → lower_loop m.tree m.next front o ≡ Some es → HasRoom m es → Free es m
 free_lower_loop m o front s es is room =
-    let w = when_is (named (codes "scf.for") (head o).name && any (index_operands m.tree m.next front o)) _ es is in
-    let a = given_is (arguments_at 0 o) _ es w.1 in
-    let e = given_is (body m.tree o 0) _ es a.2 in
-    let same = some_is (lowered_loop m.tree m.next front o a.0 e.0) es e.2 in
+    let w = when_some (named (codes "scf.for") (head o).name && any (index_operands m.tree m.next front o)) _ es is in
+    let a = given_some (arguments_at 0 o) _ es w.1 in
+    let e = given_some (body m.tree o 0) _ es a.2 in
+    let same = same_Some (lowered_loop m.tree m.next front o a.0 e.0) es e.2 in
     let name = (both (named (codes "scf.for") (head o).name) _ w.0).0 in
     subst (λ z. Free z m) same (loop_free m o front s name a.0 a.1 e.0 e.1 (enough_room m o front s name a.0 a.1 e.0 e.1 (subst (HasRoom m) (sym same) room)))
   where

@@ -34,17 +34,9 @@ use Rattle.ir_tree_laws.proofs.Shift as shift
 use Rattle.ir_tree_laws.proofs.ShiftSight.{shift_sees}
 use Rattle.ir_tree_laws.proofs.WellKept.{shift_keeps}
 use Rattle.ir_tree_laws.proofs.Without.{left_member, member_left, same_head}
-use Rattle.patterns_edits.proofs.Made.{passes}
-use Rattle.patterns_edits.proofs.Moved.{restands}
+use Rattle.patterns_edits.proofs.Moved.{restands, same_option}
 use Rattle.patterns_facts.proofs.Ordered.{Before, Inside, before_back, before_left, inside_back, inside_left, left_gone, there_left}
-
-same_option : (a : Option ℕ) → option_eq eqb a a ≡ true
-same_option None = refl
-same_option (Some x) = eq-eqb x x refl
-
-same_tables : (a b : Option (Option ℕ)) → a ≡ b → same_table a b ≡ true
-same_tables None b e = ap (same_table None) (sym e)
-same_tables (Some a) b e = ap (same_table (Some a)) (sym e) ∙ same_option a
+use Rattle.ir_tree_laws.proofs.Reverted.{passed, same_tables}
 
 module _ {N T A : Type 0} where
   -- operation p has a block in region r
@@ -196,13 +188,13 @@ module _ {N T A : Type 0} (isolated is_table : N → Bool) (m : ModuleOf N T A) 
 
     pub move_reason : has_id place.parent m.tree ≡ true → table_of is_table (head z).id m.tree ≡ table_of is_table (head z).id (put place z (without (head z).id m.tree)) → fits_around (depth z) (around place.parent m.tree) ≡ true → shift_reason isolated is_table (head z).id place m.tree ≡ None
     move_reason parent tables levels =
-        passes _ _ _ (both_hold _ _ (stand_present [] t (stand z zp) stood) parent)
-        (passes _ _ _ (ap not root)
-        (passes _ _ _ spot
-        (passes _ _ _ (ap not (ap (leads_inside place) found ∙ outside))
-        (passes _ _ _ (same_tables _ _ (tables ∙ ap (table_of is_table zi) (sym is_put)))
-        (passes _ _ _ (ap (λ o. fits_around (levels_in o) (around place.parent t)) found ∙ levels)
-        (passes _ _ _ all_seen refl))))))
+        passed _ _ _ (both_hold _ _ (stand_present [] t (stand z zp) stood) parent)
+        (passed _ _ _ (ap not root)
+        (passed _ _ _ spot
+        (passed _ _ _ (ap not (ap (leads_inside place) found ∙ outside))
+        (passed _ _ _ (same_tables _ _ (tables ∙ ap (table_of is_table zi) (sym is_put)))
+        (passed _ _ _ (ap (λ o. fits_around (levels_in o) (around place.parent t)) found ∙ levels)
+        (passed _ _ _ all_seen refl))))))
 
     pub move_formed : has_id place.parent m.tree ≡ true → table_of is_table (head z).id m.tree ≡ table_of is_table (head z).id (put place z (without (head z).id m.tree)) → fits_around (depth z) (around place.parent m.tree) ≡ true → IsWellFormed isolated (record m { tree = put place z (without (head z).id m.tree) })
     move_formed parent tables levels = subst (λ q. IsWellFormed isolated (record m { tree = q })) is_put (shift_keeps isolated is_table zi place m w (move_reason parent tables levels))

@@ -14,6 +14,7 @@ use Rattle.patterns_base.specs.Looks.{Ended, when, is_clean, ended, ended_by, bo
 use Rattle.patterns_base.specs.Makes.{give_body, replacing, moving, results_from, arguments_from, replaced}
 use Rattle.patterns_base.specs.Opening.{opened}
 use Rattle.patterns_facts.specs.Near.{Still, Opens, AreNear}
+use Rattle.patterns_facts.proofs.Looking.{when_some}
 
 -- a block's operations but the last
 record Block (o : Operation) (r : ℕ) (before : List ℕ) : Type 0 where
@@ -22,10 +23,6 @@ record Block (o : Operation) (r : ℕ) (before : List ℕ) : Type 0 where
   rest : OpsOf (List ℕ) TypeTerm AttrTerm
   there : region_at r (regions o) ≡ Some (block args (next first rest))
   names_are : before ≡ (ended_by first rest).before
-
-when_some : {X : Type 0} (b : Bool) (x y : X) → when b (Some x) ≡ Some y → x ≡ y
-when_some true x y e = cc
-when_some false x y e = absurd cc
 
 block_of : (t o : Operation) (r : ℕ) (e : Ended) → body t o r ≡ Some e → Block o r e.before
 block_of t o r e i = by_region (region_at r (regions o)) refl i

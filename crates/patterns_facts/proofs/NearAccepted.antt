@@ -33,7 +33,6 @@ use Rattle.ir_tree_laws.proofs.HeadForm.{edit_ids, replaced_keeps}
 use Rattle.ir_tree_laws.proofs.Heads.{Alike}
 use Rattle.ir_tree_laws.proofs.Listed.{all_each, bool_cases, both, both_hold, each_all, either, one_any, or_left, or_right}
 use Rattle.ir_tree_laws.proofs.Members.{HasAround, found_stands, has_around, same_stand, stand, stand_found, within}
-use Rattle.ir_tree_laws.proofs.Reverted.{got_below}
 use Rattle.ir_tree_laws.proofs.Sees.{stands_operands, visible_there}
 use Rattle.ir_tree_laws.proofs.Values.{seen_by}
 use Rattle.ir_event.specs.Modules.{Module}
@@ -44,10 +43,9 @@ use Rattle.patterns_edits.proofs.Erasing.{nobody_uses}
 use Rattle.patterns_edits.proofs.Front.{stands_before}
 use Rattle.patterns_edits.proofs.Given.{seen_is, user}
 use Rattle.patterns_edits.proofs.Headed as headed
-use Rattle.patterns_edits.proofs.Made.{passes}
 use Rattle.patterns_edits.proofs.Plans.{StandsAt, sees}
 use Rattle.patterns_base.specs.Looks.{Header}
-use Rattle.patterns_facts.proofs.Across.{argument_within, before_is, behind_inside, child_within, inside_behind, not_root, own_id}
+use Rattle.patterns_facts.proofs.Across.{argument_within, before_is, behind_inside, child_within, inside_behind, not_root}
 use Rattle.patterns_facts.proofs.Arguments.{replaced_uses}
 use Rattle.patterns_facts.proofs.CastsAccepted.{Room}
 use Rattle.patterns_facts.proofs.ChoicesAccepted.{used_value}
@@ -56,6 +54,9 @@ use Rattle.patterns_facts.proofs.Ordered.{Before, Inside, before_left, inside_le
 use Rattle.patterns_facts.proofs.Results.{type_kept}
 use Rattle.patterns_facts.proofs.Spots.{own_operand}
 use Rattle.patterns_facts.proofs.Steps.{there_of}
+use Rattle.std.proofs.lemmas.Option.{slice_get_within}
+use Rattle.ir_event.proofs.Facts.{own_id}
+use Rattle.ir_tree_laws.proofs.Reverted.{passed}
 
 abbrev Stand : Type 0
 Stand = StandOf (List ℕ) TypeTerm AttrTerm
@@ -107,9 +108,9 @@ module _ (m : Module) (w : IsWellFormed is_isolated m) (h : ℕ) (o : Operation)
   pub erase_reason : edit_reason (Erase h) m ≡ None
   erase_reason =
       (let k = found_stands h t o found in
-      passes _ _ _ (ap (λ i. has_id i t) (sym k.2) ∙ stand_present [] t k.0 k.1)
-      (passes _ _ _ (ap not root)
-      (passes _ _ _ (nobody_uses is_isolated h t o w.distinct root found w.formed.visible unused) refl)))
+      passed _ _ _ (ap (λ i. has_id i t) (sym k.2) ∙ stand_present [] t k.0 k.1)
+      (passed _ _ _ (ap not root)
+      (passed _ _ _ (nobody_uses is_isolated h t o w.distinct root found w.formed.visible unused) refl)))
 
   pub erase_formed : IsWellFormed is_isolated (edited (Erase h) m)
   erase_formed = left_well_formed is_isolated h m w (λ s i gone. each_all (λ v. not (eqb (owner_of v).0 h)) (head s.here).operands (λ v j. ap not (spared s i gone v j (eqb (owner_of v).0 h) refl)))
@@ -125,7 +126,7 @@ module _ (m : Module) (w : IsWellFormed is_isolated m) (h : ℕ) (o : Operation)
         where
           few : (k : ℕ) (f : Option TypeTerm) → slice_get (head o).results k ≡ f → is_some f ≡ true → k < length (head o).results
           few k None e h = absurd (true≢false (sym h))
-          few k (Some ty) e h = got_below (head o).results k ty e
+          few k (Some ty) e h = slice_get_within (head o).results k ty e
       spared s i gone (Arg q r k) j true e =
           (let own = own_operand t w.distinct w.formed.visible s i (Arg q r k) j in
           let f = found_stands h t o found in

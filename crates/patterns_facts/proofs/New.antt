@@ -34,10 +34,13 @@ use Rattle.patterns_base.specs.Folding.{folded_to, may_read, fold_to_constant, c
 use Rattle.patterns_facts.proofs.Spots.{Giver, Spot, sees_behind, sees_operand}
 use Rattle.patterns_facts.proofs.Fit as fit
 use Rattle.patterns_facts.proofs.Fit.{Fit}
-use Rattle.patterns_facts.proofs.Shapes.{given_is, one_is, some_is, source_among_is, source_is, two_is, when_is}
+use Rattle.patterns_facts.proofs.Shapes.{one_is, source_among_is, source_is, two_is}
 use Rattle.patterns_facts.proofs.Given.{HasRoom, fits, gives_behind}
+use Rattle.patterns_laws.proofs.KnownFolds.{given_some}
+use Rattle.std.proofs.lemmas.Option.{same_Some}
+use Rattle.patterns_base.proofs.Facts.{when_some}
 
-few_flags : (name : List ℕ) → items_fit (flags name) ≡ true
+pub few_flags : (name : List ℕ) → items_fit (flags name) ≡ true
 few_flags name = go (among flagged name)
   where
     go : (b : Bool) → items_fit {X = List ℕ × AttrTerm} (if b then (codes "overflowFlags", Overflow false false) ∷ [] else []) ≡ true
@@ -132,7 +135,7 @@ module _ (m : Module) (o : Operation) (front : Place) (s : Spot m o front) where
 
   -- edits that are these
   these : (es ds : List Edit) → Some ds ≡ Some es → HasRoom m es → (HasRoom m ds → Free ds m) → Free es m
-  these es ds is room free = subst (λ z. HasRoom m z → Free z m) (some_is ds es is) free room
+  these es ds is room free = subst (λ z. HasRoom m z → Free z m) (same_Some ds es is) free room
 
   first_seen : (a b : Value) → (head o).operands ≡ a ∷ b ∷ [] → sees (head o).id a m ≡ true
   first_seen a b e = sees_operand m o front s a (subst (In a) (sym e) (inl refl))
@@ -145,7 +148,7 @@ module _ (m : Module) (o : Operation) (front : Place) (s : Spot m o front) where
       these es (give_constant front m.next x ty bits) is room (λ r. by_constant x front ty m (fits m o front s ty one 1 r.0 r.1) m.next refl bits)
 
   pub free_fold_to_constant : (es : List Edit) → fold_to_constant m.tree m.next front o ≡ Some es → HasRoom m es → Free es m
-  free_fold_to_constant es e = (let w = when_is (not (named (codes "arith.constant") (head o).name) && list_all (may_read t m.next front o) (head o).operands) _ es e in go (head o).results refl _ w.1)
+  free_fold_to_constant es e = (let w = when_some (not (named (codes "arith.constant") (head o).name) && list_all (may_read t m.next front o) (head o).operands) _ es e in go (head o).results refl _ w.1)
     where
       go : (ts : List TypeTerm) → (head o).results ≡ ts → (k : Option Known) → folded_to t m.next front o ts k ≡ Some es → HasRoom m es → Free es m
       go [] p k e = absurd cc
@@ -154,25 +157,25 @@ module _ (m : Module) (o : Operation) (front : Place) (s : Spot m o front) where
       go (ty ∷ u ∷ ts) p k e = absurd cc
 
   pub free_cancel_itself : (es : List Edit) → cancel_itself m.tree m.next front o ≡ Some es → HasRoom m es → Free es m
-  free_cancel_itself es e = (let p = two_is (head o) _ es e in let w = when_is (among cancelling (head o).name && same_value p.first p.second) _ es p.makes in is_constant es p.ty 0 p.results w.1)
+  free_cancel_itself es e = (let p = two_is (head o) _ es e in let w = when_some (among cancelling (head o).name && same_value p.first p.second) _ es p.makes in is_constant es p.ty 0 p.results w.1)
 
   pub free_zero_remainder : (es : List Edit) → zero_remainder m.tree m.next front o ≡ Some es → HasRoom m es → Free es m
-  free_zero_remainder es e = (let p = two_is (head o) _ es e in let w = when_is (among remainders (head o).name && is_number t 1 p.second) _ es p.makes in is_constant es p.ty 0 p.results w.1)
+  free_zero_remainder es e = (let p = two_is (head o) _ es e in let w = when_some (among remainders (head o).name && is_number t 1 p.second) _ es p.makes in is_constant es p.ty 0 p.results w.1)
 
   pub free_compare_itself : (es : List Edit) → compare_itself m.tree m.next front o ≡ Some es → HasRoom m es → Free es m
   free_compare_itself es e =
       let p = two_is (head o) _ es e in
-      let w = when_is (named (codes "arith.cmpi") (head o).name) _ es p.makes in
-      let asks = given_is (predicate (head o)) _ es w.1 in
-      let u = when_is (same_value p.first p.second) _ es asks.2 in
+      let w = when_some (named (codes "arith.cmpi") (head o).name) _ es p.makes in
+      let asks = given_some (predicate (head o)) _ es w.1 in
+      let u = when_some (same_value p.first p.second) _ es asks.2 in
       is_constant es p.ty (holds_of_itself asks.0) p.results u.1
 
   pub free_compare_zero : (es : List Edit) → compare_zero m.tree m.next front o ≡ Some es → HasRoom m es → Free es m
   free_compare_zero es e =
       let p = two_is (head o) _ es e in
-      let w = when_is (named (codes "arith.cmpi") (head o).name) _ es p.makes in
-      let asks = given_is (predicate (head o)) _ es w.1 in
-      let u = when_is (is_number t 0 p.second && (eqb asks.0 6 || eqb asks.0 9)) _ es asks.2 in
+      let w = when_some (named (codes "arith.cmpi") (head o).name) _ es p.makes in
+      let asks = given_some (predicate (head o)) _ es w.1 in
+      let u = when_some (is_number t 0 p.second && (eqb asks.0 6 || eqb asks.0 9)) _ es asks.2 in
       is_constant es p.ty (if eqb asks.0 9 then 1 else 0) p.results u.1
 
   -- an operation on a value that is seen and a constant
@@ -185,20 +188,20 @@ module _ (m : Module) (o : Operation) (front : Place) (s : Spot m o front) where
   pub free_regroup_constants : (es : List Edit) → regroup_constants m.tree m.next front o ≡ Some es → HasRoom m es → Free es m
   free_regroup_constants es e =
       let p = two_is (head o) _ es e in
-      let w = when_is (among regrouping (head o).name) _ es p.makes in
-      let d = given_is (known t p.second) _ es w.1 in
-      let y = given_is (source t (head o).name p.first) _ es d.2 in
+      let w = when_some (among regrouping (head o).name) _ es p.makes in
+      let d = given_some (known t p.second) _ es w.1 in
+      let y = given_some (source t (head o).name p.first) _ es d.2 in
       let q = two_is y.0 _ es y.2 in
-      let c = given_is (known t q.second) _ es q.makes in
-      let k = given_is (fold_of (head o).name [] (Some c.0 ∷ Some d.0 ∷ []) (p.ty ∷ [])) _ es c.2 in
+      let c = given_some (known t q.second) _ es q.makes in
+      let k = given_some (fold_of (head o).name [] (Some c.0 ∷ Some d.0 ∷ []) (p.ty ∷ [])) _ es c.2 in
       let behind = sees_behind m o front s p.first (subst (In p.first) (sym p.operands) (inl refl)) y.0 (source_is t (head o).name p.first y.0 y.1) q.first (subst (In q.first) (sym q.operands) (inl refl)) in
       is_binary es p.ty k.0.1 (head o).name q.first p.results behind k.2
 
   pub free_add_negative : (es : List Edit) → add_negative m.tree m.next front o ≡ Some es → HasRoom m es → Free es m
   free_add_negative es e =
       let p = two_is (head o) _ es e in
-      let w = when_is (named (codes "arith.subi") (head o).name) _ es p.makes in
-      let c = given_is (known t p.second) _ es w.1 in
+      let w = when_some (named (codes "arith.subi") (head o).name) _ es p.makes in
+      let c = given_some (known t p.second) _ es w.1 in
       is_binary es p.ty (difference_of (type_width p.ty) 0 c.0.1) (codes "arith.addi") p.first p.results (first_seen p.first p.second p.operands) c.2
 
   -- a new cast of what an operand's giver was given
@@ -212,17 +215,17 @@ module _ (m : Module) (o : Operation) (front : Place) (s : Spot m o front) where
   pub free_extend_extension : (es : List Edit) → extend_extension m.tree m.next front o ≡ Some es → HasRoom m es → Free es m
   free_extend_extension es e =
       let p = one_is (head o) _ es e in
-      let w = when_is (among extensions (head o).name) _ es p.makes in
-      let y = given_is (source_among t extensions p.first) _ es w.1 in
+      let w = when_some (among extensions (head o).name) _ es p.makes in
+      let y = given_some (source_among t extensions p.first) _ es w.1 in
       let q = one_is y.0 _ es y.2 in
-      let u = when_is (named (head o).name y.0.name || named (codes "arith.extsi") (head o).name) _ es q.makes in
+      let u = when_some (named (head o).name y.0.name || named (codes "arith.extsi") (head o).name) _ es q.makes in
       recasts es p.first p.ty y.0.name y.0 q.first p.operands p.results (source_among_is t extensions p.first y.0 y.1) q.operands u.1
 
   pub free_cut_cast : (es : List Edit) → cut_cast m.tree m.next front o ≡ Some es → HasRoom m es → Free es m
   free_cut_cast es e =
       let p = one_is (head o) _ es e in
-      let w = when_is (named (codes "arith.trunci") (head o).name) _ es p.makes in
-      let y = given_is (source_among t resizing p.first) _ es w.1 in
+      let w = when_some (named (codes "arith.trunci") (head o).name) _ es p.makes in
+      let y = given_some (source_among t resizing p.first) _ es w.1 in
       let q = one_is y.0 _ es y.2 in
       by_name p.first p.ty y.0 q.first p.operands p.results (source_among_is t resizing p.first y.0 y.1) q.operands (named (codes "arith.trunci") y.0.name) q.makes
     where
@@ -234,20 +237,20 @@ module _ (m : Module) (o : Operation) (front : Place) (s : Spot m o front) where
   pub free_expand_min_max : (es : List Edit) → expand_min_max m.tree m.next front o ≡ Some es → HasRoom m es → Free es m
   free_expand_min_max es e room =
       let p = two_is (head o) _ es e in
-      let asks = given_is (beside (head o).name asking) _ es p.makes in
+      let asks = given_some (beside (head o).name asking) _ es p.makes in
       these es (Make front (comparison asks.0 p.first p.second) ∷ give_new front (m.next + 1) x (choice p.ty (Result m.next 0) p.first p.second)) asks.2 room
       (λ r. by_comparison x front p.ty m (fits m o front s p.ty p.results 2 r.0 r.1) asks.0 p.first p.second (first_seen p.first p.second p.operands) (second_seen p.first p.second p.operands))
 
   pub free_expand_difference : (es : List Edit) → expand_difference m.tree m.next front o ≡ Some es → HasRoom m es → Free es m
   free_expand_difference es e room =
       let p = two_is (head o) _ es e in
-      let w = when_is (named (codes "arith.subi") (head o).name) _ es p.makes in
+      let w = when_some (named (codes "arith.subi") (head o).name) _ es p.makes in
       these es _ w.1 room
       (λ r. by_complement x front p.ty m (fits m o front s p.ty p.results 5 r.0 r.1) (all_ones (type_width p.ty)) p.first p.second (first_seen p.first p.second p.operands) (second_seen p.first p.second p.operands))
 
   pub free_expand_remainder : (es : List Edit) → expand_remainder m.tree m.next front o ≡ Some es → HasRoom m es → Free es m
   free_expand_remainder es e room =
       let p = two_is (head o) _ es e in
-      let division = given_is (beside (head o).name dividing) _ es p.makes in
+      let division = given_some (beside (head o).name dividing) _ es p.makes in
       these es _ division.2 room
       (λ r. by_remainder x front p.ty m (fits m o front s p.ty p.results 3 r.0 r.1) division.0 p.first p.second (first_seen p.first p.second p.operands) (second_seen p.first p.second p.operands))

@@ -31,10 +31,12 @@ use Rattle.patterns_yields.proofs.Ends.{ending}
 use Rattle.patterns_yields.proofs.Yielding.{choice_types}
 use Rattle.patterns_facts.proofs.CleanBlocks.{block_is, if_arguments, if_opened, if_plain, no_arguments, none_given}
 use Rattle.patterns_facts.proofs.Emptied.{HaveTypes, body_free, has_first, have_types}
-use Rattle.patterns_facts.proofs.Shapes.{given_is, some_is, when_is}
 use Rattle.patterns_facts.proofs.Spots.{Spot, here_is, stands_there}
+use Rattle.patterns_laws.proofs.KnownFolds.{given_some}
+use Rattle.std.proofs.lemmas.Option.{same_Some}
+use Rattle.patterns_base.proofs.Facts.{when_some}
 
-left_alone : (vs : List Value) → map (replaced [] []) vs ≡ vs
+pub left_alone : (vs : List Value) → map (replaced [] []) vs ≡ vs
 left_alone [] = refl
 left_alone (v ∷ vs) = ap (λ l. v ∷ l) (left_alone vs)
 
@@ -69,7 +71,7 @@ module _ (m : Module) (o : Operation) (front : Place) (s : Spot m o front) where
         let n = ending t o r e k in
         let none : args ≡ [] = if_arguments m o front s name_is r small args (block_is o r (block args os) is) in
         let h = has_first m o front s r e n (ap is_isolated name_is ∙ if_opened) (ap is_table name_is ∙ if_plain) (no_arguments m o front s r (ap (option_and_then arguments_of) is ∙ ap Some none)) in
-        let here : (head o).results ≡ (head h.stood.at.here).results = ap (λ (z : Operation). (head z).results) (some_is o h.stood.at.here (sym s.found ∙ found_there is_isolated x front m h.stood)) in
+        let here : (head o).results ≡ (head h.stood.at.here).results = ap (λ (z : Operation). (head z).results) (same_Some o h.stood.at.here (sym s.found ∙ found_there is_isolated x front m h.stood)) in
         body_free x r front e.before e.last.id m h e.last (last_there r e k) e.last.operands (λ v i. i)
         (subst (λ tys. HaveTypes e.last.operands tys m) here (have_types e.last.operands (head o).results m (choice_types t o x r e small clean_if k)))
 
@@ -80,21 +82,21 @@ module _ (m : Module) (o : Operation) (front : Place) (s : Spot m o front) where
         (plans.erase_free x front m (stands_there m o front s) (λ k l. let n = ap (λ z. length (head z).results) (here_is m o front s) ∙ ap length none in absurd (omega (arith, l, n))), tt)
 
     by_region : (es : List Edit) (r : ℕ) → r ≤ 1 → (g : RegionOf (List ℕ) TypeTerm AttrTerm) → region_at r (regions o) ≡ Some g → chosen m.tree front o g r ≡ Some es → Free es m
-    by_region es r small empty is e = subst (λ z. Free z m) (some_is (Erase x ∷ []) es e) (goes r small is)
+    by_region es r small empty is e = subst (λ z. Free z m) (same_Some (Erase x ∷ []) es e) (goes r small is)
     by_region es r small (block args os) is e =
-        let b = given_is (body t o r) (λ e. Some (opened t front o e [] e.last.operands)) es e in
-        subst (λ z. Free z m) (some_is (opened t front o b.0 [] b.0.last.operands) es b.2) (subst (λ vs. Free (give_body front x b.0.before vs) m) (sym (left_alone b.0.last.operands)) (comes r small args os is b.0 b.1))
+        let b = given_some (body t o r) (λ e. Some (opened t front o e [] e.last.operands)) es e in
+        subst (λ z. Free z m) (same_Some (opened t front o b.0 [] b.0.last.operands) es b.2) (subst (λ vs. Free (give_body front x b.0.before vs) m) (sym (left_alone b.0.last.operands)) (comes r small args os is b.0 b.1))
 
     by_operands : (es : List Edit) (vs : List Value) → by_condition m.tree front o vs ≡ Some es → Free es m
     by_operands es [] e = absurd cc
     by_operands es (c ∷ []) e =
-        let k = given_is (known t c) _ es e in
+        let k = given_some (known t c) _ es e in
         by_bit (eqb k.0.1 0) k.2
       where
         by_bit : (b : Bool) → given (region_at (if b then 1 else 0) (regions o)) (λ g. chosen m.tree front o g (if b then 1 else 0)) ≡ Some es → Free es m
-        by_bit true e = (let g = given_is (region_at 1 (regions o)) (λ g. chosen t front o g 1) es e in by_region es 1 (omega arith) g.0 g.1 g.2)
-        by_bit false e = (let g = given_is (region_at 0 (regions o)) (λ g. chosen t front o g 0) es e in by_region es 0 (omega arith) g.0 g.1 g.2)
+        by_bit true e = (let g = given_some (region_at 1 (regions o)) (λ g. chosen t front o g 1) es e in by_region es 1 (omega arith) g.0 g.1 g.2)
+        by_bit false e = (let g = given_some (region_at 0 (regions o)) (λ g. chosen t front o g 0) es e in by_region es 0 (omega arith) g.0 g.1 g.2)
     by_operands es (c ∷ d ∷ vs) e = absurd cc
 
   pub free_open_branch : (es : List Edit) → open_branch m.tree front o ≡ Some es → Free es m
-  free_open_branch es e = (let w = when_is (named (codes "scf.if") (head o).name) _ es e in by_operands w.0 es (head o).operands w.1)
+  free_open_branch es e = (let w = when_some (named (codes "scf.if") (head o).name) _ es e in by_operands w.0 es (head o).operands w.1)

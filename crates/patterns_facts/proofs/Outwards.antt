@@ -30,7 +30,6 @@ use Rattle.ir_tree_laws.proofs.Listed.{both, either}
 use Rattle.ir_tree_laws.proofs.Members.{found_stands, joined_ops, stand, stand_found}
 use Rattle.ir_tree_laws.proofs.Put.{put_find}
 use Rattle.ir_tree_laws.proofs.Readings.{step}
-use Rattle.ir_tree_laws.proofs.Reverted.{got_below}
 use Rattle.ir_tree_laws.proofs.Sees.{visible_there}
 use Rattle.ir_tree_laws.proofs.Values.{not_own}
 use Rattle.ir_tree_laws.proofs.Without.{same_head}
@@ -52,6 +51,7 @@ use Rattle.patterns_facts.proofs.Moving as moving
 use Rattle.patterns_facts.proofs.Moving.{HasBlock, stood_left}
 use Rattle.patterns_facts.proofs.Ordered.{Before, Inside, around_at, inner_sees, inner_table, inside_left, later_around, later_sees, later_shows, later_table, put_before, there_left}
 use Rattle.patterns_facts.proofs.Steps.{Across, Fit, Lack, UsedBy, absent_all, across_moved, count_moved, each_at, nothing, side_moved, there_of, used_there, users_moved}
+use Rattle.std.proofs.lemmas.Option.{slice_get_within}
 
 abbrev Stand : Type 0
 Stand = StandOf (List ℕ) TypeTerm AttrTerm
@@ -261,7 +261,7 @@ module _ (x y r : ℕ) (front : Place) (hx hy : Header) (deep : ℕ) (x_opened :
             where
               few : (f : Option TypeTerm) → slice_get (head z).results k ≡ f → is_some f ≡ true → k < length (head z).results
               few None e h = absurd (true≢false (sym h))
-              few (Some ty) e h = got_below (head z).results k ty e
+              few (Some ty) e h = slice_get_within (head z).results k ty e
       seen (Arg i q k) own e n =
           let xn = there_of (find x after) hx x_head_after in
           let w = found_stands x after xn.0 xn.1 in

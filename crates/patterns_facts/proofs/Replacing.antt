@@ -39,7 +39,6 @@ use Rattle.patterns_edits.specs.Lists.{Free}
 use Rattle.patterns_edits.proofs.Front.{stands_before}
 use Rattle.patterns_edits.proofs.Given.{user}
 use Rattle.patterns_edits.proofs.Headed as headed
-use Rattle.patterns_edits.proofs.Made.{passes}
 use Rattle.patterns_edits.proofs.Plans.{StandsAt, sees}
 use Rattle.patterns_base.specs.Looks.{Header}
 use Rattle.patterns_facts.proofs.Across.{before_is, behind_inside, inside_behind, later_outside, not_root, own_depth}
@@ -51,6 +50,7 @@ use Rattle.patterns_facts.proofs.Ordered.{Before, Inside, before_headed, inside_
 use Rattle.patterns_facts.proofs.Results.{type_kept}
 use Rattle.patterns_facts.proofs.Spots.{own_operand}
 use Rattle.patterns_facts.proofs.Within.{heads_headed}
+use Rattle.ir_tree_laws.proofs.Reverted.{passed}
 
 abbrev Stand : Type 0
 Stand = StandOf (List ℕ) TypeTerm AttrTerm
@@ -149,10 +149,10 @@ module _ (x y l : ℕ) (front : Place) (rs ys : List TypeTerm) (few : ℕ) where
     pub one_reason : edit_reason (Replace (Result p.0 0) p.1) m ≡ None
     one_reason =
         (let old = result_type p.0 t p.2 s.holder.results in
-        passes _ _ _ (ap is_some old)
-        (passes _ _ _ (ap is_some s.of)
-        (passes _ _ _ ((λ i. option_eq same_type (old i) (s.of i)) ∙ s.same)
-        (passes _ _ _ users_ok refl))))
+        passed _ _ _ (ap is_some old)
+        (passed _ _ _ (ap is_some s.of)
+        (passed _ _ _ ((λ i. option_eq same_type (old i) (s.of i)) ∙ s.same)
+        (passed _ _ _ users_ok refl))))
 
     pub one_formed : IsWellFormed is_isolated (edited (Replace (Result p.0 0) p.1) m)
     one_formed = replaced_keeps is_isolated (Result p.0 0) p.1 m w users_ok

@@ -26,10 +26,10 @@ use Rattle.rewriter_machine.specs.Edits.{Erase, Replace}
 use Rattle.patterns_edits.specs.Lists.{Free}
 use Rattle.patterns_edits.proofs.Given.{users_see_it}
 use Rattle.patterns_edits.proofs.Headed as headed
-use Rattle.patterns_edits.proofs.Made.{passes}
 use Rattle.patterns_edits.proofs.Plans as plans
 use Rattle.patterns_edits.proofs.Plans.{StandsAt, sees}
 use Rattle.patterns_base.specs.Makes.{replacing, results_from}
+use Rattle.ir_tree_laws.proofs.Reverted.{passed}
 
 -- types stay where a value is replaced
 module _ (old new : Value) where
@@ -107,10 +107,10 @@ module _ (x : ℕ) (front : Place) where
 
       replace_free : (es : List Edit) → Free es (edited (Replace (Result x n) v) m) → Free (Replace (Result x n) v ∷ es) m
       replace_free es rest = (
-        passes _ _ _ (ap is_some result_type)
-            (passes _ _ _ (ap is_some of)
-            (passes _ _ _ ((λ i. option_eq same_type (result_type i) (of i)) ∙ same)
-            (passes _ _ _ (users_see_it is_isolated m.tree s.formed.distinct s.formed.formed.visible x n v seen) refl))),
+        passed _ _ _ (ap is_some result_type)
+            (passed _ _ _ (ap is_some of)
+            (passed _ _ _ ((λ i. option_eq same_type (result_type i) (of i)) ∙ same)
+            (passed _ _ _ (users_see_it is_isolated m.tree s.formed.distinct s.formed.formed.visible x n v seen) refl))),
         rest,
       )
 

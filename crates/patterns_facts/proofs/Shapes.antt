@@ -8,17 +8,9 @@ use Rattle.patterns_base.specs.Keeps.{given}
 use Rattle.patterns_base.specs.Words.{named, among}
 use Rattle.patterns_base.specs.Looks.{Header, One, Two, Three, giver, is_clean, one, one_from, source, source_among, three, three_from, two, two_from, when}
 use Rattle.patterns_facts.proofs.Spots.{Giver, giver_is}
-
-pub some_is : {X : Type 0} (x y : X) → Some x ≡ Some y → x ≡ y
-some_is x y e = cc
-
-pub given_is : {X Y : Type 0} (o : Option X) (f : X → Option Y) (y : Y) → given o f ≡ Some y → (x : X) × (o ≡ Some x) × (f x ≡ Some y)
-given_is None f y e = absurd cc
-given_is (Some x) f y e = (x, refl, e)
-
-pub when_is : {X : Type 0} (b : Bool) (r : Option X) (x : X) → when b r ≡ Some x → (b ≡ true) × (r ≡ Some x)
-when_is true r x e = (refl, e)
-when_is false r x e = absurd cc
+use Rattle.patterns_laws.proofs.KnownFolds.{given_some}
+use Rattle.std.proofs.lemmas.Option.{same_Some}
+use Rattle.patterns_base.proofs.Facts.{when_some}
 
 -- operations of one operand, of two and of three, from which something is made
 pub record IsOne (h : Header) (f : One → Option (List Edit)) (es : List Edit) : Type 0 where
@@ -81,7 +73,7 @@ three_is h f es e = go h.operands refl h.results refl e
 -- a clean operation of some name that gives a value
 source_by : (o : Option Header) (test : Header → Bool) (h : Header) → given o (λ h. when (test h) (Some h)) ≡ Some h → o ≡ Some h
 source_by None test h e = absurd cc
-source_by (Some j) test h e = (let w = when_is (test j) (Some j) h e in w.1)
+source_by (Some j) test h e = (let w = when_some (test j) (Some j) h e in w.1)
 
 pub source_is : (t : Operation) (name : List ℕ) (v : Value) (h : Header) → source t name v ≡ Some h → Giver t v h
 source_is t name v h e = giver_is t v h (source_by (giver t v) (λ h. named name h.name && is_clean t h) h e)

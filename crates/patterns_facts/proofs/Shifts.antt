@@ -28,7 +28,8 @@ use Rattle.rewriter_machine.specs.Contents.{all_edited, edit_reason, edited}
 use Rattle.rewriter_machine.specs.Edits.{Move}
 use Rattle.patterns_edits.proofs.Body.{hold_step}
 use Rattle.patterns_edits.proofs.Plans.{HasFirst, moving}
-use Rattle.patterns_yields.proofs.Unbroken.{Stand, node_head}
+use Rattle.patterns_yields.proofs.Unbroken.{Stand}
+use Rattle.listeners_surroundings.proofs.Reading.{head_shown}
 
 abbrev SameNode : Stand → Stand → Type 0
 SameNode s r = node_of s.here ≡ node_of r.here
@@ -65,7 +66,7 @@ module _ (x : ℕ) (m n : Operation) (dm : HasDistinctIds m) (dn : HasDistinctId
       go (neither i j) = ap (λ o. option_map head (option_map (λ (z : Stand). z.here) o)) i ∙ sym (ap (λ o. option_map head (option_map (λ (z : Stand). z.here) o)) j)
       go (each s r h i j k) =
           ap (λ o. option_map head (option_map (λ (z : Stand). z.here) o)) i
-          ∙ ap Some (sym (node_head s.here) ∙ ap (λ n. n.head) k ∙ node_head r.here)
+          ∙ ap Some (sym (head_shown s.here) ∙ ap (λ n. n.head) k ∙ head_shown r.here)
           ∙ sym (ap (λ o. option_map head (option_map (λ (z : Stand). z.here) o)) j)
 
 -- where no reason stands against the move

@@ -46,27 +46,25 @@ use Rattle.patterns_base.specs.Keeps.{lowered_type}
 use Rattle.patterns_base.specs.Looks.{Header}
 use Rattle.patterns_base.specs.Lowering.{lowered_regions}
 use Rattle.patterns_facts.proofs.Across.{before_is, later_outside, not_parent, one_stands, own_depth, users_behind}
-use Rattle.patterns_facts.proofs.InPlace.{gathers_none}
 use Rattle.patterns_facts.proofs.Kept as kept
 use Rattle.patterns_facts.proofs.Moving.{HasBlock}
 use Rattle.patterns_facts.proofs.Ordered.{Before, around_at, put_before}
 use Rattle.patterns_facts.proofs.Phases.{AllRel, Rel}
 use Rattle.patterns_facts.proofs.Spots.{own_operand}
 use Rattle.patterns_facts.proofs.Steps.{Across, Fit, Lack, UsedBy, absent_all, each_at, nothing, there_of}
+use Rattle.ir_tree_laws.proofs.Changed.{gather_none}
+use Rattle.effects.proofs.Unused.{none_here}
 
 abbrev Stand : Type 0
 Stand = StandOf (List ℕ) TypeTerm AttrTerm
 
 -- ---- values that aren't there
-none_used : (v : Value) (y n : ℕ) (ws : List Value) → ((w : Value) → In w ws → same_value v w ≡ false) → operand_uses v y n ws ≡ []
-none_used v y n [] h = refl
-none_used v y n (w ∷ ws) h = ap (λ b. cond b ((y, n) ∷ operand_uses v y (n + 1) ws) (operand_uses v y (n + 1) ws)) (h w (inl refl)) ∙ none_used v y (n + 1) ws (λ u i. h u (inr i))
 
 pub missing_unused : (m : Module) → IsWellFormed is_isolated m → (v : Value) → has_value v m.tree ≡ false → uses_of v m.tree ≡ []
 missing_unused m w v none =
     sym (stands_uses v [] m.tree)
-    ∙ gathers_none (λ (s : Stand). operand_uses v (stand_id s) 0 (head s.here).operands) (stands [] m.tree) (λ z i.
-    none_used v (stand_id z) 0 (head z.here).operands (λ u j. differs u (seen_by is_isolated m.tree w.distinct z i u (own_operand m.tree w.distinct w.formed.visible z i u j)).is))
+    ∙ gather_none (λ (s : Stand). operand_uses v (stand_id s) 0 (head s.here).operands) (stands [] m.tree) (λ z i.
+    none_here v (stand_id z) 0 (head z.here).operands (λ u j. differs u (seen_by is_isolated m.tree w.distinct z i u (own_operand m.tree w.distinct w.formed.visible z i u j)).is))
   where
     differs : (u : Value) → has_value u m.tree ≡ true → same_value v u ≡ false
     differs u there = go (same_value v u) refl
@@ -185,7 +183,7 @@ absent_from m w b l = elim (bool_cases (has_id b m.tree)) [
 
 -- what an operation that holds none doesn't use
 pub leaf_uses : (n : ℕ) (q : Operation) → hold_none (regions q) ≡ true → (u : Value) → ((v : Value) → In v (head q).operands → same_value u v ≡ false) → uses_of u (with_id n q) ≡ []
-leaf_uses n (op h rs) l u f = λ i. none_used u n 0 h.operands f i ++ none_regions u rs l i
+leaf_uses n (op h rs) l u f = λ i. none_here u n 0 h.operands f i ++ none_regions u rs l i
 
 -- an operation that uses nothing of a value leaves it unused
 pub nothing_used : (m : Module) (w : IsWellFormed is_isolated m) (place : Place) (spot : has_place place m.tree ≡ true) (o : Operation) (leaf : hold_none (regions o) ≡ true) (v : Value) → uses_of v (with_id m.next o) ≡ [] → uses_of v m.tree ≡ [] → uses_of v (put place (with_id m.next o) m.tree) ≡ []
@@ -226,7 +224,7 @@ module _ (x : ℕ) (front : Place) (m : Module) (s : StandsAt x front m) (new : 
   own_uses j = go new leaf (not_of_new j)
     where
       go : (q : Operation) → hold_none (regions q) ≡ true → ((v : Value) → In v (head q).operands → same_value (Result m.next j) v ≡ false) → uses_of (Result m.next j) (with_id m.next q) ≡ []
-      go (op h rs) l f = λ i. none_used (Result m.next j) m.next 0 h.operands f i ++ none_regions (Result m.next j) rs l i
+      go (op h rs) l f = λ i. none_here (Result m.next j) m.next 0 h.operands f i ++ none_regions (Result m.next j) rs l i
 
   pub no_uses_before : (j : ℕ) → uses_of (Result m.next j) m.tree ≡ []
   no_uses_before j = missing_unused m s.formed (Result n j) (ap (λ f. is_some (option_and_then (λ o. slice_get (head o).results j) f)) (absent_find n m.tree fresh))

@@ -48,12 +48,13 @@ use Rattle.patterns_edits.proofs.Placed.{Behind}
 use Rattle.patterns_edits.proofs.Plans.{StandsAt, sees}
 use Rattle.patterns_base.specs.Looks.{Header}
 use Rattle.patterns_base.specs.Lowering.{before_in, beside, end_of}
-use Rattle.patterns_facts.proofs.Across.{argument_within, before_is, behind_inside, inner_unseen, inside_behind, later_outside, not_parent, not_root, one_stands, own_id, sibling_inside}
+use Rattle.patterns_facts.proofs.Across.{argument_within, before_is, behind_inside, inner_unseen, inside_behind, later_outside, not_parent, not_root, one_stands, sibling_inside}
 use Rattle.patterns_facts.proofs.Kept as kept
 use Rattle.patterns_facts.proofs.Kept.{Kept}
 use Rattle.patterns_facts.proofs.Moving as moving
 use Rattle.patterns_facts.proofs.Moving.{HasBlock, stood_left}
 use Rattle.patterns_facts.proofs.Ordered.{Before, Inside, around_at, before_both, inner_sees, inner_table, inside_left, later_around, later_sees, later_shows, later_table, put_before, put_inside, there_left}
+use Rattle.ir_event.proofs.Facts.{own_id}
 
 abbrev Stand : Type 0
 Stand = StandOf (List ℕ) TypeTerm AttrTerm

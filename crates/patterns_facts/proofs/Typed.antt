@@ -28,11 +28,9 @@ use Rattle.patterns_base.specs.Keeps.{Each}
 use Rattle.patterns_base.specs.Words.{named, among, ignoring_zero, ignoring_one, keeping}
 use Rattle.patterns_base.specs.Made.{i1}
 use Rattle.patterns_base.specs.Looks.{is_clean}
-use Rattle.patterns_yields.proofs.Unbroken.{clean_unbroken, node_head}
-
-pub passed : (b : Bool) → not b ≡ false → b ≡ true
-passed true e = refl
-passed false e = absurd cc
+use Rattle.patterns_yields.proofs.Unbroken.{clean_unbroken}
+use Rattle.listeners_surroundings.proofs.Reading.{head_shown}
+use Rattle.std.proofs.lemmas.Bool.{not-false}
 
 abbrev Stand : Type 0
 Stand = StandOf (List ℕ) TypeTerm AttrTerm
@@ -94,13 +92,13 @@ typed t o ins outs d found clean listed = go (found_stands (head o).id t o found
         let k = known_of q.0 s in
         let operands : q.0.operands ≡ ins = ap (λ (p : TypesRow × TypesRow). p.0) q.2 in
         let results : q.0.results ≡ outs = ap (λ (p : TypesRow × TypesRow). p.1) q.2 in
-        let given : types_fit k q.0.results (there s.node.head.results) ≡ true = passed _ u.results in
-        let own : s.node.head.results ≡ (head o).results = ap (λ h. h.results) (node_head o) in
+        let given : types_fit k q.0.results (there s.node.head.results) ≡ true = not-false _ u.results in
+        let own : s.node.head.results ≡ (head o).results = ap (λ h. h.results) (head_shown o) in
         record {
           known = k;
           number = ap (λ (p : TypesRow). first_called type.Number p.first s.types) operands;
           same = ap (λ (p : TypesRow). first_called type.Any p.first s.types) operands;
-          asked = sym (ap (λ (p : TypesRow). types_fit k p s.types) operands) ∙ passed _ (neither (is_no_number k.number) _ u.operands).1;
+          asked = sym (ap (λ (p : TypesRow). types_fit k p s.types) operands) ∙ not-false _ (neither (is_no_number k.number) _ u.operands).1;
           given = sym (λ i. types_fit k (results i) (there (own i))) ∙ given;
         }
 

@@ -20,7 +20,7 @@ use Rattle.ir_tree.specs.Meaning.{Operation}
 use Rattle.ir_tree.specs.WellFormed.{IsWellFormed}
 use Rattle.ir_tree.proofs.Heads as tree_heads
 use Rattle.ir_tree.proofs.Heads.{head_find}
-use Rattle.ir_tree.proofs.Moves.{Absent, absent_parts, neither, ops_unput}
+use Rattle.ir_tree.proofs.Moves.{Absent, absent_parts, ops_unput}
 use Rattle.ir_tree.proofs.Replaced.{same_value_refl}
 use Rattle.ir_tree_laws.specs.Stands.{StandOf, StepOf, edit_stand, edit_step, stand_id, stands}
 use Rattle.ir_tree_laws.specs.Members.{In}
@@ -49,6 +49,7 @@ use Rattle.patterns_facts.proofs.Kept as kept
 use Rattle.patterns_facts.proofs.Moving.{HasBlock}
 use Rattle.patterns_facts.proofs.Ordered.{Before, Inside, around_at, before_headed, inside_headed, put_inside}
 use Rattle.patterns_facts.proofs.Steps.{Across, absent_all, each_at, nothing, there_of, two_apart, used_there}
+use Rattle.std.proofs.lemmas.Bool.{or_parts}
 
 abbrev Stand : Type 0
 Stand = StandOf (List ℕ) TypeTerm AttrTerm
@@ -78,7 +79,7 @@ module _ (f : Header → Header) (alike : (h : Header) → Alike (f h) h) (t : O
 module _ (l : ℕ) (g : Header → Header) where
   mutual
     unedited : (t : Operation) → Absent l (ids t) → each_head (at l g) t ≡ t
-    unedited (op h rs) a = let b = neither _ _ a in λ i. op (cond (b.0 i) (g h) h) (regions_unedited rs b.1 i)
+    unedited (op h rs) a = let b = or_parts _ _ a in λ i. op (cond (b.0 i) (g h) h) (regions_unedited rs b.1 i)
 
     regions_unedited : (rs : RegionsOf (List ℕ) TypeTerm AttrTerm) → Absent l (regions_ids rs) → regions_each_head (at l g) rs ≡ rs
     regions_unedited no_regions a = refl

@@ -19,7 +19,8 @@ use Rattle.dialects_int.proofs.KnownOperands.{compare_folds, select_folds}
 use Rattle.dialects_int.proofs.CastLaws.{mirror, with_itself, below_zero, not_below_zero, same_choice, own_choice, other_choice}
 use Rattle.patterns_laws.specs.Made.{Entries, i1, predicate_entry, given_by}
 use Rattle.patterns_laws.specs.Keeps.{truth_kind, holds_of_itself, mirrored, ComparingItself, Mirroring, NotBelowZero, ChoosingOne, ChoosingByConstant, ChoosingTruth, ChoosingByOpposite}
-use Rattle.patterns_laws.proofs.KnownFolds.{below, kind_back, fine_of, pair_gave, constant_gives, some_one, given_some, by_exclusive_or}
+use Rattle.patterns_laws.proofs.KnownFolds.{below, kind_back, fine_of, pair_gave, constant_gives, given_some, by_exclusive_or}
+use Rattle.std.proofs.lemmas.Option.{same_Some}
 
 by_compare : rule_of (codes "arith.cmpi") ≡ Some rule.Compare
 unfolding rule_of rules
@@ -109,7 +110,7 @@ pub select_fine : (p : Entries) (k : BitsKind) (c a b : ℕ) (v : Known) → giv
 select_fine p k c a b v h = fine_of (codes "arith.select") p (Some (truth_kind, c) ∷ Some (k, a) ∷ Some (k, b) ∷ []) (type_of k) v h
 
 pub select_gave : (p : Entries) (k : BitsKind) (c a b : ℕ) (v : Known) → given_by (codes "arith.select") p (type_of k) ((truth_kind, c) ∷ (k, a) ∷ (k, b) ∷ []) ≡ Some v → (k, choice_of c a b) ≡ v
-select_gave p k c a b v h = some_one (k, choice_of c a b) v (sym (select_gives p k c a b (select_fine p k c a b v h)) ∙ h)
+select_gave p k c a b v h = same_Some (k, choice_of c a b) v (sym (select_gives p k c a b (select_fine p k c a b v h)) ∙ h)
 
 pub one_chosen : ChoosingOne
 one_chosen k p c a b v hc h = ap (λ n. (k, n)) (sym (same_choice c a)) ∙ select_gave p k c a a v h
@@ -124,7 +125,7 @@ pub chosen_by_opposite : ChoosingByOpposite
 chosen_by_opposite k p q c a b v hc h =
     let inner = given_some (given_by (codes "arith.xori") p i1 ((truth_kind, c) ∷ (truth_kind, 1) ∷ [])) (λ y. given_by (codes "arith.select") q (type_of k) (y ∷ (k, a) ∷ (k, b) ∷ [])) v h in
     let g = pair_gave (codes "arith.xori") op.ExclusiveOr p truth_kind c 1 inner.0 by_exclusive_or (below truth_kind c hc) (lit< tt) inner.1 in
-    let turned : (truth_kind, bit_xor c 1) ≡ inner.0 = ap (λ n. (truth_kind, n)) (some_one (bit_xor c 1) g.number g.is) ∙ g.whole in
+    let turned : (truth_kind, bit_xor c 1) ≡ inner.0 = ap (λ n. (truth_kind, n)) (same_Some (bit_xor c 1) g.number g.is) ∙ g.whole in
     let outer : given_by (codes "arith.select") q (type_of k) ((truth_kind, bit_xor c 1) ∷ (k, a) ∷ (k, b) ∷ []) ≡ Some v = subst (λ y. given_by (codes "arith.select") q (type_of k) (y ∷ (k, a) ∷ (k, b) ∷ []) ≡ Some v) (sym turned) inner.2 in
     select_gives q k c b a (select_fine q k (bit_xor c 1) a b v outer)
     ∙ ap Some (ap (λ n. (k, n)) (sym (other_choice c a b (below truth_kind c hc))) ∙ select_gave q k (bit_xor c 1) a b v outer)

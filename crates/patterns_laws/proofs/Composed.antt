@@ -23,17 +23,18 @@ use Rattle.dialects_int.proofs.Remainders.{rest_of_signed_quotient}
 use Rattle.patterns_laws.specs.Words.{regrouping, flagged, dividing}
 use Rattle.patterns_laws.specs.Made.{constant, flags, given_by, gives}
 use Rattle.patterns_laws.specs.Keeps.{Each, given, Regrouping, AddingTheNegative, AddingTheComplement, Dividing}
-use Rattle.patterns_laws.proofs.KnownFolds.{some_bits, below, pair_gives, pair_gave, constant_gives, some_one, given_some, given_at, by_exclusive_or}
+use Rattle.patterns_laws.proofs.KnownFolds.{some_bits, below, pair_gives, pair_gave, constant_gives, given_some, given_at, by_exclusive_or}
 use Rattle.patterns_laws.proofs.PairRules.{one_below}
+use Rattle.std.proofs.lemmas.Option.{same_Some}
 
 -- results of these are values again
 pub regrouped_below : (o : Arithmetic) (w a b v : ℕ) → associates o ≡ true → a < 2 ^ w → b < 2 ^ w → value_of o w a b ≡ Some v → v < 2 ^ w
 unfolding sum_of product_of
-regrouped_below op.Add w a b v s ha hb e = subst (λ n. n < 2 ^ w) (some_one ((a + b) % 2 ^ w) v e) (mod_below (a + b) (2 ^ w) (pow_pos w))
-regrouped_below op.Multiply w a b v s ha hb e = subst (λ n. n < 2 ^ w) (some_one ((a * b) % 2 ^ w) v e) (mod_below (a * b) (2 ^ w) (pow_pos w))
-regrouped_below op.And w a b v s ha hb e = subst (λ n. n < 2 ^ w) (some_one (bit_and a b) v e) (omega (arith, and_le_l a b))
-regrouped_below op.Or w a b v s ha hb e = subst (λ n. n < 2 ^ w) (some_one (bit_or a b) v e) (or_lt w a b ha hb)
-regrouped_below op.ExclusiveOr w a b v s ha hb e = subst (λ n. n < 2 ^ w) (some_one (bit_xor a b) v e) (xor_lt w a b ha hb)
+regrouped_below op.Add w a b v s ha hb e = subst (λ n. n < 2 ^ w) (same_Some ((a + b) % 2 ^ w) v e) (mod_below (a + b) (2 ^ w) (pow_pos w))
+regrouped_below op.Multiply w a b v s ha hb e = subst (λ n. n < 2 ^ w) (same_Some ((a * b) % 2 ^ w) v e) (mod_below (a * b) (2 ^ w) (pow_pos w))
+regrouped_below op.And w a b v s ha hb e = subst (λ n. n < 2 ^ w) (same_Some (bit_and a b) v e) (omega (arith, and_le_l a b))
+regrouped_below op.Or w a b v s ha hb e = subst (λ n. n < 2 ^ w) (same_Some (bit_or a b) v e) (or_lt w a b ha hb)
+regrouped_below op.ExclusiveOr w a b v s ha hb e = subst (λ n. n < 2 ^ w) (same_Some (bit_xor a b) v e) (xor_lt w a b ha hb)
 regrouped_below _ w a b v s ha hb e = absurd (grind arith)
 
 regrouped_total : (o : Arithmetic) (w a b : ℕ) → associates o ≡ true → (n : ℕ) × (value_of o w a b ≡ Some n)
@@ -132,7 +133,7 @@ negative_added k p a c v ha hc h =
     let n : ℕ = difference_of w 0 c in
     given_at (gives (constant (type_of k) n) []) (k, n) (λ e. given_by (codes "arith.addi") (flags (codes "arith.addi")) (type_of k) ((k, a) ∷ e ∷ [])) (Some v)
     (constant_gives k n)
-    (sum_gives k a n (below k a ha) (difference_below w 0 c) ∙ ap Some (ap (λ m. (k, m)) (sym (less_constant w a c (below k c hc)) ∙ some_one (difference_of w a c) g.number g.is) ∙ g.whole))
+    (sum_gives k a n (below k a ha) (difference_below w 0 c) ∙ ap Some (ap (λ m. (k, m)) (sym (less_constant w a c (below k c hc)) ∙ same_Some (difference_of w a c) g.number g.is) ∙ g.whole))
 
 pub complement_added : AddingTheComplement
 complement_added k p a b v ha hb h =
@@ -150,7 +151,7 @@ complement_added k p a b v ha hb h =
     (given_at (given_by (codes "arith.xori") (flags (codes "arith.xori")) (type_of k) ((k, b) ∷ (k, ones) ∷ [])) (k, x) _ (Some v) (pair_gives (codes "arith.xori") op.ExclusiveOr (flags (codes "arith.xori")) k b ones x by_exclusive_or exclusive_or_fine lb lones refl)
     (given_at (gives (constant (type_of k) 1) []) (k, 1) _ (Some v) (constant_gives k 1)
     (given_at (given_by (codes "arith.addi") (flags (codes "arith.addi")) (type_of k) ((k, x) ∷ (k, 1) ∷ [])) (k, n) _ (Some v) (sum_gives k x 1 lx (one_below w some))
-    (sum_gives k a n la (sum_below w x 1) ∙ ap Some (ap (λ m. (k, m)) (sym (less_by_complement w a b lb) ∙ some_one (difference_of w a b) g.number g.is) ∙ g.whole)))))
+    (sum_gives k a n la (sum_below w x 1) ∙ ap Some (ap (λ m. (k, m)) (sym (less_by_complement w a b lb) ∙ same_Some (difference_of w a b) g.number g.is) ∙ g.whole)))))
 
 -- a remainder has a quotient, which is a value again
 abbrev Quotient : Arithmetic → Arithmetic → Type 0
@@ -164,7 +165,7 @@ quotient_there w a b n some la lb h = by (b == 0) refl
     by true e = absurd (grind arith)
     by false e =
         let there : (if b == 0 then None else Some (a / b)) ≡ Some (a / b) = rw (e) refl in
-        (a / b, there, omega (arith, div-le_self a b), some_one n (difference_of w a (product_of w (a / b) b)) (sym h ∙ rest_of_quotient w a b (a / b) la there))
+        (a / b, there, omega (arith, div-le_self a b), same_Some n (difference_of w a (product_of w (a / b) b)) (sym h ∙ rest_of_quotient w a b (a / b) la there))
 
 signed_quotient_there : Quotient op.RemainderSigned op.DivideSigned
 unfolding signed_quotient_of signed_remainder_of
@@ -177,7 +178,7 @@ signed_quotient_there w a b n some la lb h = by (divides_signed w a b) refl
     by false e = absurd (grind arith)
     by true e =
         let there : (if divides_signed w a b then Some (wrapped w (int_div (signed_of w a) (signed_of w b))) else None) ≡ Some q = rw (e) refl in
-        (q, there, bits_below w (int_div (signed_of w a) (signed_of w b)), some_one n (difference_of w a (product_of w q b)) (sym h ∙ rest_of_signed_quotient w a b q some la lb there))
+        (q, there, bits_below w (int_div (signed_of w a) (signed_of w b)), same_Some n (difference_of w a (product_of w q b)) (sym h ∙ rest_of_signed_quotient w a b q some la lb there))
 
 divided : (rem div : List ℕ) (r d : Arithmetic) → rule_of rem ≡ Some (rule.Pair r) → rule_of div ≡ Some (rule.Pair d) → list_all (is_property div) (flags div) ≡ true
     → Quotient r d → Dividing (rem, div)

@@ -19,6 +19,7 @@ use Rattle.dialects_int.specs.Folds.{Known, kind_of, rule_of, rules, is_property
 use Rattle.dialects_int.proofs.KnownOperands.{pair_folds, constant_folds}
 use Rattle.patterns_laws.specs.Made.{Entries, constant, value_entry, given_by, gives}
 use Rattle.patterns_laws.specs.Keeps.{IsOf, given}
+use Rattle.std.proofs.lemmas.Option.{same_Some}
 
 pub some_bits : (k : BitsKind) (a : ℕ) → IsOf k a → 1 ≤ width_of k
 some_bits k a h = grind (arith, nat_tests)
@@ -70,9 +71,6 @@ given_some (Some y) f v h = (y, refl, h)
 
 pub given_at : {X Y : Type 0} (x : Option X) (y : X) (f : X → Option Y) (r : Option Y) → x ≡ Some y → f y ≡ r → given x f ≡ r
 given_at x y f r e h = ap (λ z. given z f) e ∙ h
-
-pub some_one : {X : Type 0} (x y : X) → Some x ≡ Some y → x ≡ y
-some_one x y h = grind arith
 
 pub by_exclusive_or : rule_of (codes "arith.xori") ≡ Some (rule.Pair op.ExclusiveOr)
 unfolding rule_of rules

@@ -25,8 +25,9 @@ use Rattle.dialects_int.proofs.CastLaws.{signed_maximum_chosen, signed_minimum_c
 use Rattle.patterns_laws.specs.Words.{arithmetic, asking}
 use Rattle.patterns_laws.specs.Made.{Entries, i1, constant, predicate_entry, given_by, gives}
 use Rattle.patterns_laws.specs.Keeps.{Each, truth_kind, Folding, Choosing, lowered, LoweringTwo, LoweringComparison, LoweringChoice, LoweringConstant}
-use Rattle.patterns_laws.proofs.KnownFolds.{some_bits, below, fine_of, mapped_some, pair_gives, pair_gave, constant_gives, some_one, given_at}
+use Rattle.patterns_laws.proofs.KnownFolds.{some_bits, below, fine_of, mapped_some, pair_gives, pair_gave, constant_gives, given_at}
 use Rattle.patterns_laws.proofs.Chosen.{asks_of, compare_gives, select_gives, select_gave, select_fine}
+use Rattle.std.proofs.lemmas.Option.{same_Some}
 
 -- ---- `expand-min-max`
 chosen : (name : List ℕ) (o : Arithmetic) (n : ℕ) (p : Predicate) → rule_of name ≡ Some (rule.Pair o) → list_all (is_property (codes "arith.cmpi")) (predicate_entry n) ≡ true → slice_get predicates n ≡ Some p
@@ -37,7 +38,7 @@ chosen name o n p r fine there law k q a b v ha hb h =
     let c : ℕ = truth (comparison_of w p a b) in
     given_at (given_by (codes "arith.cmpi") (predicate_entry n) i1 ((k, a) ∷ (k, b) ∷ [])) (truth_kind, c) (λ c. given_by (codes "arith.select") [] (type_of k) (c ∷ (k, a) ∷ (k, b) ∷ [])) (Some v)
     (compare_gives n p k a b fine there)
-    (select_gives [] k c a b refl ∙ ap Some (ap (λ m. (k, m)) (some_one (choice_of c a b) g.number (sym (law w a b (some_bits k a ha) (below k a ha) (below k b hb)) ∙ g.is)) ∙ g.whole))
+    (select_gives [] k c a b refl ∙ ap Some (ap (λ m. (k, m)) (same_Some (choice_of c a b) g.number (sym (law w a b (some_bits k a ha) (below k a ha) (below k b hb)) ∙ g.is)) ∙ g.whole))
 
 pub all_chosen : Each Choosing asking
 unfolding rule_of rules asking predicates is_inherent operations is_allowed is_of_kind property_kind.kind_of kinds
@@ -54,10 +55,10 @@ all_chosen = (
 
 -- ---- `fold-to-constant`
 type_back : (ty : TypeTerm) (k : BitsKind) → kind_of ty ≡ Some k → type_of k ≡ ty
-type_back (term.Integer Signless w) k h = ap type_of (sym (some_one (kind.Int w) k h))
+type_back (term.Integer Signless w) k h = ap type_of (sym (same_Some (kind.Int w) k h))
 type_back (term.Integer Signed w) k h = absurd (grind arith)
 type_back (term.Integer Unsigned w) k h = absurd (grind arith)
-type_back term.Index k h = ap type_of (sym (some_one kind.Index k h))
+type_back term.Index k h = ap type_of (sym (same_Some kind.Index k h))
 type_back (term.Function is os) k h = absurd (grind arith)
 type_back (term.Memref ds e) k h = absurd (grind arith)
 
@@ -152,4 +153,4 @@ choice_lowered p c a b v h =
     select_gives p (kind.Int 64) c a b (select_fine p kind.Index c a b v h) ∙ ap (λ z. Some (lowered z)) (select_gave p kind.Index c a b v h)
 
 pub constant_lowered : LoweringConstant
-constant_lowered n v h = constant_gives (kind.Int 64) n ∙ ap (λ z. Some (lowered z)) (some_one (kind.Index, n) v (sym (constant_gives kind.Index n) ∙ h))
+constant_lowered n v h = constant_gives (kind.Int 64) n ∙ ap (λ z. Some (lowered z)) (same_Some (kind.Index, n) v (sym (constant_gives kind.Index n) ∙ h))

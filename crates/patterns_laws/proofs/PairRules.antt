@@ -15,7 +15,8 @@ use Rattle.dialects_int.proofs.PairLaws.{swaps, zero_ignored, one_ignored, nothi
 use Rattle.patterns_laws.specs.Words.{swapping, ignoring_zero, ignoring_one, cancelling, keeping, remainders}
 use Rattle.patterns_laws.specs.Made.{Entries, constant, given_by, gives}
 use Rattle.patterns_laws.specs.Keeps.{Each, Swapping, Ignoring, IgnoringOnes, Cancelling, KeepingItself, LeavingNothing}
-use Rattle.patterns_laws.proofs.KnownFolds.{some_bits, below, pair_gives, pair_gave, constant_gives, some_one}
+use Rattle.patterns_laws.proofs.KnownFolds.{some_bits, below, pair_gives, pair_gave, constant_gives}
+use Rattle.std.proofs.lemmas.Option.{same_Some}
 
 pub one_below : (w : ℕ) → 1 ≤ w → 1 < 2 ^ w
 one_below w h = omega (arith, pow-le-pow_right {n = 2} (lit< tt) {i = 1} {j = w} h)
@@ -64,7 +65,7 @@ keeps_first name o k p a b v r ha hb first h =
 
 zero_kept : (name : List ℕ) (o : Arithmetic) → rule_of name ≡ Some (rule.Pair o) → ignores_zero o ≡ true → Ignoring 0 name
 zero_kept name o r z k p a v ha h =
-    keeps_first name o k p a 0 v r (below k a ha) (pow_pos (width_of k)) (λ n e. some_one n a (sym e ∙ zero_ignored o (width_of k) a (some_bits k a ha) (below k a ha) z)) h
+    keeps_first name o k p a 0 v r (below k a ha) (pow_pos (width_of k)) (λ n e. same_Some n a (sym e ∙ zero_ignored o (width_of k) a (some_bits k a ha) (below k a ha) z)) h
 
 pub all_zero_kept : Each (Ignoring 0) ignoring_zero
 unfolding rule_of rules ignoring_zero
@@ -109,10 +110,10 @@ by_and = refl
 pub ones_kept : IgnoringOnes
 ones_kept k p a v ha h =
     keeps_first (codes "arith.andi") op.And k p a (all_ones (width_of k)) v by_and (below k a ha) (omega (arith, pow_pos (width_of k)))
-    (λ n e. some_one n a (sym e ∙ ones_ignored (width_of k) a (below k a ha))) h
+    (λ n e. same_Some n a (sym e ∙ ones_ignored (width_of k) a (below k a ha))) h
 
 itself_given : (name : List ℕ) (o : Arithmetic) → rule_of name ≡ Some (rule.Pair o) → keeps_itself o ≡ true → KeepingItself name
-itself_given name o r z k p a v ha h = keeps_first name o k p a a v r (below k a ha) (below k a ha) (λ n e. some_one n a (sym e ∙ itself_kept o (width_of k) a z)) h
+itself_given name o r z k p a v ha h = keeps_first name o k p a a v r (below k a ha) (below k a ha) (λ n e. same_Some n a (sym e ∙ itself_kept o (width_of k) a z)) h
 
 pub all_itself_given : Each KeepingItself keeping
 unfolding rule_of rules keeping
@@ -143,13 +144,13 @@ gives_number name o k p a b c v r ha hb number h =
 pub all_cancelled : Each Cancelling cancelling
 unfolding rule_of rules cancelling
 all_cancelled = (
-  λ k p a v ha h. gives_number (codes "arith.subi") op.Subtract k p a a 0 v refl (below k a ha) (below k a ha) (λ n e. some_one n 0 (sym e ∙ itself_gone (width_of k) a)) h,
-  (λ k p a v ha h. gives_number (codes "arith.xori") op.ExclusiveOr k p a a 0 v refl (below k a ha) (below k a ha) (λ n e. some_one n 0 (sym e ∙ itself_cleared (width_of k) a)) h, tt),
+  λ k p a v ha h. gives_number (codes "arith.subi") op.Subtract k p a a 0 v refl (below k a ha) (below k a ha) (λ n e. same_Some n 0 (sym e ∙ itself_gone (width_of k) a)) h,
+  (λ k p a v ha h. gives_number (codes "arith.xori") op.ExclusiveOr k p a a 0 v refl (below k a ha) (below k a ha) (λ n e. same_Some n 0 (sym e ∙ itself_cleared (width_of k) a)) h, tt),
 )
 
 pub all_left_nothing : Each LeavingNothing remainders
 unfolding rule_of rules remainders
 all_left_nothing = (
   λ k p a v ha h. gives_number (codes "arith.remsi") op.RemainderSigned k p a 1 0 v refl (below k a ha) (one_below (width_of k) (some_bits k a ha)) (λ n e. nothing_left (width_of k) a n (some_bits k a ha) (below k a ha) e) h,
-  (λ k p a v ha h. gives_number (codes "arith.remui") op.RemainderUnsigned k p a 1 0 v refl (below k a ha) (one_below (width_of k) (some_bits k a ha)) (λ n e. some_one n 0 (sym e ∙ nothing_left_unsigned (width_of k) a)) h, tt),
+  (λ k p a v ha h. gives_number (codes "arith.remui") op.RemainderUnsigned k p a 1 0 v refl (below k a ha) (one_below (width_of k) (some_bits k a ha)) (λ n e. same_Some n 0 (sym e ∙ nothing_left_unsigned (width_of k) a)) h, tt),
 )

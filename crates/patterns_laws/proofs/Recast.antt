@@ -17,7 +17,8 @@ use Rattle.dialects_int.proofs.CastLaws.{extended_twice, zeros_twice, sign_of_ze
 use Rattle.patterns_laws.specs.Words.{index_casts}
 use Rattle.patterns_laws.specs.Made.{Entries, given_by}
 use Rattle.patterns_laws.specs.Keeps.{Each, given, Extending, CuttingTwice, CuttingBack, ComingBack}
-use Rattle.patterns_laws.proofs.KnownFolds.{some_bits, below, kind_back, fine_of, mapped_some, some_one, given_some}
+use Rattle.patterns_laws.proofs.KnownFolds.{some_bits, below, kind_back, fine_of, mapped_some, given_some}
+use Rattle.std.proofs.lemmas.Option.{same_Some}
 
 -- what a cast between integers gives, and what it was given by
 resize_gives : (name : List ℕ) (c : Cast) (p : Entries) (v w a n : ℕ) → rule_of name ≡ Some (rule.Resize c) → list_all (is_property name) p ≡ true → cast_of c v w a ≡ Some n
@@ -75,15 +76,15 @@ recast inner outer new c d e rc rd re law u v w p q a z uv vw ha h =
 
 pub signed_twice : Extending (codes "arith.extsi") (codes "arith.extsi") (codes "arith.extsi")
 signed_twice = recast (codes "arith.extsi") (codes "arith.extsi") (codes "arith.extsi") cast.ExtendSigned cast.ExtendSigned cast.ExtendSigned by_extsi by_extsi by_extsi
-    (λ u v w a m n uv vw su la e f. ap Some (sym (extended_twice u v w a su (omega arith) la) ∙ ap (sign_extended v w) (some_one (sign_extended u v a) m e) ∙ some_one (sign_extended v w m) n f))
+    (λ u v w a m n uv vw su la e f. ap Some (sym (extended_twice u v w a su (omega arith) la) ∙ ap (sign_extended v w) (same_Some (sign_extended u v a) m e) ∙ same_Some (sign_extended v w m) n f))
 
 pub unsigned_twice : Extending (codes "arith.extui") (codes "arith.extui") (codes "arith.extui")
 unsigned_twice = recast (codes "arith.extui") (codes "arith.extui") (codes "arith.extui") cast.ExtendUnsigned cast.ExtendUnsigned cast.ExtendUnsigned by_extui by_extui by_extui
-    (λ u v w a m n uv vw su la e f. ap Some (sym (zeros_twice u v w a (omega arith) la) ∙ ap (zero_extended w) (some_one (zero_extended v a) m e) ∙ some_one (zero_extended w m) n f))
+    (λ u v w a m n uv vw su la e f. ap Some (sym (zeros_twice u v w a (omega arith) la) ∙ ap (zero_extended w) (same_Some (zero_extended v a) m e) ∙ same_Some (zero_extended w m) n f))
 
 pub signed_of_unsigned : Extending (codes "arith.extui") (codes "arith.extsi") (codes "arith.extui")
 signed_of_unsigned = recast (codes "arith.extui") (codes "arith.extsi") (codes "arith.extui") cast.ExtendUnsigned cast.ExtendSigned cast.ExtendUnsigned by_extui by_extsi by_extui
-    (λ u v w a m n uv vw su la e f. ap Some (sym (sign_of_zeros u v w a uv la) ∙ ap (sign_extended v w) (some_one (zero_extended v a) m e) ∙ some_one (sign_extended v w m) n f))
+    (λ u v w a m n uv vw su la e f. ap Some (sym (sign_of_zeros u v w a uv la) ∙ ap (sign_extended v w) (same_Some (zero_extended v a) m e) ∙ same_Some (sign_extended v w m) n f))
 
 -- ---- `cut-cast`
 cut_less : (v w a n : ℕ) → truncated v w a ≡ Some n → w < v
@@ -102,11 +103,11 @@ cut_back name c r law u v p q a z uv ha h =
 
 pub cut_back_signed : CuttingBack (codes "arith.extsi")
 cut_back_signed = cut_back (codes "arith.extsi") cast.ExtendSigned by_extsi
-    (λ u v a m n uv su la e f. some_one n a (sym f ∙ ap (truncated v u) (sym (some_one (sign_extended u v a) m e)) ∙ truncated_back u v a su uv la))
+    (λ u v a m n uv su la e f. same_Some n a (sym f ∙ ap (truncated v u) (sym (same_Some (sign_extended u v a) m e)) ∙ truncated_back u v a su uv la))
 
 pub cut_back_unsigned : CuttingBack (codes "arith.extui")
 cut_back_unsigned = cut_back (codes "arith.extui") cast.ExtendUnsigned by_extui
-    (λ u v a m n uv su la e f. some_one n a (sym f ∙ ap (truncated v u) (sym (some_one (zero_extended v a) m e)) ∙ truncated_zeros_back u v a uv la))
+    (λ u v a m n uv su la e f. same_Some n a (sym f ∙ ap (truncated v u) (sym (same_Some (zero_extended v a) m e)) ∙ truncated_zeros_back u v a uv la))
 
 -- ---- `cast-back`
 index_gave : (name : List ℕ) (c : Cast) (p : Entries) (j k : BitsKind) (a : ℕ) (z : Known) → rule_of name ≡ Some (rule.IndexCast c) → given_by name p (type_of k) ((j, a) ∷ []) ≡ Some z
@@ -127,10 +128,10 @@ pub all_came_back : Each ComingBack index_casts
 unfolding rule_of rules index_casts
 all_came_back = (
   came_back (codes "arith.index_cast") cast.ExtendSigned refl
-      (λ u v a m n su uv la e f. some_one n a (sym f ∙ ap (λ x. Some (sign_extended v u x)) (sym (some_one (sign_extended u v a) m e)) ∙ ap Some (extended_back u v a su uv la))),
+      (λ u v a m n su uv la e f. same_Some n a (sym f ∙ ap (λ x. Some (sign_extended v u x)) (sym (same_Some (sign_extended u v a) m e)) ∙ ap Some (extended_back u v a su uv la))),
   (
     came_back (codes "arith.index_castui") cast.ExtendUnsigned refl
-        (λ u v a m n su uv la e f. some_one n a (sym f ∙ ap (λ x. Some (zero_extended u x)) (sym (some_one (zero_extended v a) m e)) ∙ ap Some (zeros_back u v a uv la))),
+        (λ u v a m n su uv la e f. same_Some n a (sym f ∙ ap (λ x. Some (zero_extended u x)) (sym (same_Some (zero_extended v a) m e)) ∙ ap Some (zeros_back u v a uv la))),
     tt,
   ),
 )

@@ -20,21 +20,12 @@ use Rattle.patterns_lowering.specs.declared.plan.Lowering.{Lowering}
 use Rattle.patterns_lowering.specs.declared.plan.Lowering.TheVariants as plan
 use Rattle.patterns_lowering.specs.Meanings.{results_given, operation_made, operation_id, operation_lowered, moved_over, handed_on, loop_lowered, choice_lowered, lowering_meaning}
 use Rattle.patterns_lowering.specs.Plans.{IsIndexed, LoweringIsOf, lowering_makes}
-
-joined : (es fs : List Edit) → made_by (es ++ fs) ≡ made_by es + made_by fs
-joined [] fs = (let e : made_by ([] ++ fs) ≡ made_by fs = refl in omega (arith, e))
-joined (e ∷ es) fs = omega (arith, joined es fs)
+use Rattle.patterns_base.proofs.Facts.{bridges_make}
+use Rattle.patterns_base.proofs.Making.{joined}
 
 -- two lists that make so many
 both_make : (es fs : List Edit) (m n : ℕ) → made_by es ≡ m → made_by fs ≡ n → made_by (es ++ fs) ≡ m + n
 both_make es fs m n h k = joined es fs ∙ (λ i. h i + k i)
-
-bridges_make : (ty : TypeTerm) (place : Place) (ms : List Bool) (vs : List Value) → length ms ≡ length vs → made_by (bridges ty place ms vs) ≡ marked ms
-bridges_make ty place [] vs h = refl
-bridges_make ty place (true ∷ ms) [] h = absurd (omega (arith, h))
-bridges_make ty place (false ∷ ms) [] h = absurd (omega (arith, h))
-bridges_make ty place (true ∷ ms) (v ∷ vs) h = (let e = bridges_make ty place ms vs (omega (arith, h)) in omega (arith, e))
-bridges_make ty place (false ∷ ms) (v ∷ vs) h = bridges_make ty place ms vs (omega (arith, h))
 
 replacing_makes : (vs ws : List Value) → made_by (replacing vs ws) ≡ 0
 replacing_makes [] ws = refl
@@ -66,7 +57,7 @@ results_length : {X : Type 0} (x k : ℕ) (is : List X) → length (results_from
 results_length x k [] = refl
 results_length x k (i ∷ is) = omega (arith, results_length x (k + 1) is)
 
-arguments_length : {X : Type 0} (x k : ℕ) (is : List X) → length (arguments_from x k is) ≡ length is
+pub arguments_length : {X : Type 0} (x k : ℕ) (is : List X) → length (arguments_from x k is) ≡ length is
 arguments_length x k [] = refl
 arguments_length x k (i ∷ is) = omega (arith, arguments_length x (k + 1) is)
 

@@ -1,6 +1,6 @@
 -- Edits in the numbers of a context fit it.
 use Rattle.std.proofs.Common.{◌≡◌, refl, ap, ◌∙◌, ℕ, ◌+◌, ◌≤◌, List, [], ◌∷◌, ◌++◌, length, map, Bool, true, false, cond, ◌&&◌, length-take, arith}
-use Rattle.std.proofs.lemmas.Bool.{lt-ltb}
+use Rattle.std.proofs.lemmas.Bool.{lt-ltb, and_parts, and_from}
 use Rattle.std.specs.List.{list_all}
 use Rattle.ir_types.specs.Things.{Things, IsType}
 use Rattle.ir_types.specs.Sound.{Holds}
@@ -12,8 +12,6 @@ use Rattle.ir_tree.specs.Tree.{Op, op, Regions, no_regions, region, empty, block
 use Rattle.ir_tree.specs.Limits.{regions_every, all_arguments_pass}
 use Rattle.ir_tree.specs.Passing.{entry_passes, head_passes, op_passes}
 use Rattle.ir_tree.specs.Meaning.{IsSoundIn, is_attr, is_name, is_type, key_before_in, rises, rises_after, dictionaries_rise}
-use Rattle.ir_tree.proofs.Agreeing.{both}
-use Rattle.ir_tree.proofs.Meanings.{both_hold}
 use Rattle.ir_tree_laws.specs.Reasons.{hold_none}
 use Rattle.patterns_base.specs.Looks.{is_index}
 use Rattle.patterns_base.specs.Makes.{results_from}
@@ -33,7 +31,7 @@ cast_sound c ty vs h k =
     let named : is_name c 1 ≡ true = lt-ltb 1 (length c.names) (let e = enough_names c h in omega arith) in
     let typed : is_type c ty ≡ true = lt-ltb ty (length c.types) k in
     record {
-      known = both_hold _ _ (both_hold _ _ (both_hold (is_name c 1) _ named (both_hold _ _ (both_hold (is_type c ty) true typed refl) refl)) refl) refl;
+      known = and_from _ _ (and_from _ _ (and_from (is_name c 1) _ named (and_from _ _ (and_from (is_type c ty) true typed refl) refl)) refl) refl;
       sorted = refl;
     }
 
@@ -58,15 +56,15 @@ module _ (c : Things) (wide : ℕ) (known : IsType c wide) where
   types_known : (tys : List ℕ) → list_all (is_type c) tys ≡ true → list_all (is_type c) (map (type_lowered c wide) tys) ≡ true
   types_known [] e = refl
   types_known (ty ∷ tys) e =
-      let b = both (is_type c ty) (list_all (is_type c) tys) e in
-      both_hold (is_type c (type_lowered c wide ty)) _ (chosen_known (is_index (type_term c ty)) ty b.0) (types_known tys b.1)
+      let b = and_parts (is_type c ty) (list_all (is_type c) tys) e in
+      and_from (is_type c (type_lowered c wide ty)) _ (chosen_known (is_index (type_term c ty)) ty b.0) (types_known tys b.1)
 
   regions_known : (rs : Regions) → all_arguments_pass (list_all (is_type c)) rs ≡ true → all_arguments_pass (list_all (is_type c)) (regions_lowered c wide rs) ≡ true
   regions_known no_regions e = refl
   regions_known (region empty rs) e = regions_known rs e
   regions_known (region (block args os) rs) e =
-      let b = both (list_all (is_type c) args) (all_arguments_pass (list_all (is_type c)) rs) e in
-      both_hold (list_all (is_type c) (map (type_lowered c wide) args)) _ (types_known args b.0) (regions_known rs b.1)
+      let b = and_parts (list_all (is_type c) args) (all_arguments_pass (list_all (is_type c)) rs) e in
+      and_from (list_all (is_type c) (map (type_lowered c wide) args)) _ (types_known args b.0) (regions_known rs b.1)
 
   -- their blocks hold no operations
   regions_pass : (p : Op → Bool) (rs : Regions) → regions_every p (regions_lowered c wide rs) ≡ true
@@ -85,10 +83,10 @@ entries_known c [] [] h e = refl
 entries_known c [] (f ∷ fs) h e = absurd h
 entries_known c (k ∷ es) [] h e = absurd h
 entries_known c (k ∷ es) (f ∷ fs) h e =
-    let b = both (entry_passes (is_name c) (is_attr c) k) _ e in
-    let d = both (is_name c k.0) (is_attr c k.1) b.0 in
-    both_hold (entry_passes (is_name c) (is_attr c) f) _
-    (both_hold (is_name c f.0) (is_attr c f.1) (ap (is_name c) h.0.key ∙ d.0) (lt-ltb f.1 (length c.attrs) h.0.known))
+    let b = and_parts (entry_passes (is_name c) (is_attr c) k) _ e in
+    let d = and_parts (is_name c k.0) (is_attr c k.1) b.0 in
+    and_from (entry_passes (is_name c) (is_attr c) f) _
+    (and_from (is_name c f.0) (is_attr c f.1) (ap (is_name c) h.0.key ∙ d.0) (lt-ltb f.1 (length c.attrs) h.0.known))
     (entries_known c es fs h.1 b.1)
 
 rises_after_as : (c : Things) (p : ℕ → ℕ → Bool) (k : ℕ) (es fs : List (ℕ × ℕ)) → AreLowered c es fs → rises_after p k fs ≡ rises_after p k es
@@ -107,30 +105,30 @@ pub op_sound : (c : Things) (wide : ℕ) (fs : List (ℕ × ℕ)) (vs : List Val
 op_sound c wide fs vs (op h rs) known ps s =
     let p = op_passes (is_name c) (is_type c) (is_attr c) in
     let q = dictionaries_rise (key_before_in c) in
-    let own = both (p (op h rs)) (regions_every p rs) s.known in
-    let parts = both (head_passes (is_name c) (is_type c) (is_attr c) h) (all_arguments_pass (list_all (is_type c)) rs) own.0 in
-    let name = both (is_name c h.name) _ parts.0 in
-    let results = both (list_all (is_type c) h.results) _ name.1 in
-    let entries = both (list_all (entry_passes (is_name c) (is_attr c)) h.properties) _ results.1 in
-    let order = both (q (op h rs)) (regions_every q rs) s.sorted in
-    let rise = both (rises (key_before_in c) h.properties) (rises (key_before_in c) h.attributes) order.0 in
+    let own = and_parts (p (op h rs)) (regions_every p rs) s.known in
+    let parts = and_parts (head_passes (is_name c) (is_type c) (is_attr c) h) (all_arguments_pass (list_all (is_type c)) rs) own.0 in
+    let name = and_parts (is_name c h.name) _ parts.0 in
+    let results = and_parts (list_all (is_type c) h.results) _ name.1 in
+    let entries = and_parts (list_all (entry_passes (is_name c) (is_attr c)) h.properties) _ results.1 in
+    let order = and_parts (q (op h rs)) (regions_every q rs) s.sorted in
+    let rise = and_parts (rises (key_before_in c) h.properties) (rises (key_before_in c) h.attributes) order.0 in
     record {
-      known = both_hold _ _
-          (both_hold _ _
-          (both_hold _ _ name.0 (both_hold _ _ (types_known c wide known h.results results.0) (both_hold _ _ (entries_known c h.properties fs ps entries.0) entries.1)))
+      known = and_from _ _
+          (and_from _ _
+          (and_from _ _ name.0 (and_from _ _ (types_known c wide known h.results results.0) (and_from _ _ (entries_known c h.properties fs ps entries.0) entries.1)))
           (regions_known c wide known rs parts.1))
           (regions_pass c wide known p rs);
-      sorted = both_hold _ _ (both_hold _ _ (rises_as c (key_before_in c) h.properties fs ps ∙ rise.0) rise.1) (regions_pass c wide known q rs);
+      sorted = and_from _ _ (and_from _ _ (rises_as c (key_before_in c) h.properties fs ps ∙ rise.0) rise.1) (regions_pass c wide known q rs);
     }
 
 -- the entries of a sound operation are of the context
 pub entries_sound : (c : Things) (o : Op) → IsSoundIn c o → AreKnown c (head o).properties
 entries_sound c (op h rs) s =
-    let own = both (op_passes (is_name c) (is_type c) (is_attr c) (op h rs)) (regions_every (op_passes (is_name c) (is_type c) (is_attr c)) rs) s.known in
-    let parts = both (head_passes (is_name c) (is_type c) (is_attr c) h) (all_arguments_pass (list_all (is_type c)) rs) own.0 in
-    let name = both (is_name c h.name) _ parts.0 in
-    let results = both (list_all (is_type c) h.results) _ name.1 in
-    (both (list_all (entry_passes (is_name c) (is_attr c)) h.properties) _ results.1).0
+    let own = and_parts (op_passes (is_name c) (is_type c) (is_attr c) (op h rs)) (regions_every (op_passes (is_name c) (is_type c) (is_attr c)) rs) s.known in
+    let parts = and_parts (head_passes (is_name c) (is_type c) (is_attr c) h) (all_arguments_pass (list_all (is_type c)) rs) own.0 in
+    let name = and_parts (is_name c h.name) _ parts.0 in
+    let results = and_parts (list_all (is_type c) h.results) _ name.1 in
+    (and_parts (list_all (entry_passes (is_name c) (is_attr c)) h.properties) _ results.1).0
 
 pub give_fits : (c : Things) (index : ℕ) (front : Place) (results : List Bool) (o : Op) (y k : ℕ) → Holds c → IsType c index → AllFit c (give_edits index front results o y k)
 give_fits c index front results o y k h t =

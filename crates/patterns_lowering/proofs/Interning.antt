@@ -2,7 +2,7 @@
 use Rattle.std.proofs.Common.{◌≡◌, refl, ap, sym, ◌∙◌, subst, ℕ, ◌≤◌, ◌<◌, List, [], ◌∷◌, ◌++◌, append_assoc, append-nil, length, length-append, Bool, true, not, ◌&&◌, cond, Option, Some, None, Result, Err, ◌⊎◌, inl, inr, arith}
 use Rattle.std.specs.Prelude.{nat_le}
 use Rattle.std.specs.List.{list_any}
-use Rattle.std.proofs.lemmas.Bool.{leb-true, ltb-true, lt-ltb}
+use Rattle.std.proofs.lemmas.Bool.{leb-true, ltb-true, lt-ltb, and_parts, and_from}
 use Rattle.std.proofs.lemmas.Option.{slice_get_within}
 use Rattle.ir_types.specs.declared.node.TypeNode.{TypeNode}
 use Rattle.ir_types.specs.declared.node.AttrNode.TheVariants.{Int}
@@ -21,8 +21,6 @@ use Rattle.ir_types.proofs.Growth.{grows_refl, grows_trans}
 use Rattle.ir_types.proofs.Terms.{type_stays, attr_stays}
 use Rattle.ir_tree.specs.Meaning.{is_attr, is_name}
 use Rattle.ir_tree.specs.Passing.{entry_passes}
-use Rattle.ir_tree.proofs.Agreeing.{both}
-use Rattle.ir_tree.proofs.Meanings.{both_hold}
 use Rattle.ir_tree_laws.proofs.Listed.{bool_cases}
 use Rattle.ir_event.specs.declared.event.Event.{Event}
 use Rattle.ir_event.specs.Listener.{Listener}
@@ -35,6 +33,7 @@ use Rattle.patterns_base.specs.Lowering.{lowered_attr}
 use Rattle.patterns_runs.specs.Interning.{Added, IsNoRoom}
 use Rattle.patterns_lowering.specs.Refused.{as_full}
 use Rattle.patterns_lowering.specs.Lowered.{IsLowered, AreLowered, AreKnown, AreTypes, IsLowering, index_bits}
+use Rattle.ir_tree.proofs.Meanings.{longer}
 
 -- ---- benches
 
@@ -64,10 +63,6 @@ module _ {B : Type 0} (meaning : B → Listener) where
     untold = subst (λ (xs : List B). Heard meaning [] a (record { desk = b.desk; listeners = xs })) (sym same) (heard_grown meaning a.desk b.desk a.listeners before after grown);
   }
 
--- numbers of a context are numbers of a grown one
-longer : {X : Type 0} (xs ys : List X) (n : ℕ) → IsFront xs ys → n < length xs → n < length ys
-longer xs ys n f h = omega (arith, ap length f.1, length-append xs f.0)
-
 -- ---- types
 
 pub type_interned : (c d : Things) (node : TypeNode) (id : ℕ) → Holds c → (id, d) ≡ with_type node c → IsType d id × (type_term d id ≡ type_node_term c node)
@@ -78,7 +73,7 @@ type_interned c d node id h e =
 full_wanting : {A : Type 0} (is : A → Bool) (xs : List A) (e : Refusal) → IsRefusedFor {A = ℕ} (full_reason is xs) (Err e) → (e ≡ Memory) ⊎ ((e ≡ TooMany) × (most_things ≤ length xs))
 full_wanting is xs e r = elim (bool_cases (not (list_any is xs) && nat_le most_things (length xs))) [
   | inl h ↦ inr
-      ((let same : ◌≡◌ {A = Result ℕ Refusal} (Err e) (Err TooMany) = subst (λ (b : Bool). IsRefusedFor {A = ℕ} (cond b (Some TooMany) None) (Err e)) h r in cc), leb-true most_things (length xs) (both (not (list_any is xs)) (nat_le most_things (length xs)) h).1)
+      ((let same : ◌≡◌ {A = Result ℕ Refusal} (Err e) (Err TooMany) = subst (λ (b : Bool). IsRefusedFor {A = ℕ} (cond b (Some TooMany) None) (Err e)) h r in cc), leb-true most_things (length xs) (and_parts (not (list_any is xs)) (nat_le most_things (length xs)) h).1)
   | inr h ↦ inl (subst (λ (b : Bool). IsRefusedFor {A = ℕ} (cond b (Some TooMany) None) (Err e)) h r)
 ]
 
@@ -171,10 +166,10 @@ module _ (c d : Things) (holds : Holds c) (g : Grows c d) where
   known_stays : (es : List (ℕ × ℕ)) → AreKnown c es → AreKnown d es
   known_stays [] e = refl
   known_stays (k ∷ es) e =
-      let b = both (entry_passes (is_name c) (is_attr c) k) _ e in
-      let p = both (is_name c k.0) (is_attr c k.1) b.0 in
-      both_hold (entry_passes (is_name d) (is_attr d) k) _
-      (both_hold (is_name d k.0) (is_attr d k.1)
+      let b = and_parts (entry_passes (is_name c) (is_attr c) k) _ e in
+      let p = and_parts (is_name c k.0) (is_attr c k.1) b.0 in
+      and_from (entry_passes (is_name d) (is_attr d) k) _
+      (and_from (is_name d k.0) (is_attr d k.1)
       (lt-ltb k.0 (length d.names) (longer c.names d.names k.0 g.names (ltb-true k.0 (length c.names) p.0)))
       (lt-ltb k.1 (length d.attrs) (longer c.attrs d.attrs k.1 g.attrs (ltb-true k.1 (length c.attrs) p.1))))
       (known_stays es b.1)
@@ -184,8 +179,8 @@ module _ (c d : Things) (holds : Holds c) (g : Grows c d) where
   lowered_stays [] (f ∷ fs) e l = absurd l
   lowered_stays (k ∷ es) [] e l = absurd l
   lowered_stays (k ∷ es) (f ∷ fs) e l =
-      let b = both (entry_passes (is_name c) (is_attr c) k) _ e in
-      let p = both (is_name c k.0) (is_attr c k.1) b.0 in (
+      let b = and_parts (entry_passes (is_name c) (is_attr c) k) _ e in
+      let p = and_parts (is_name c k.0) (is_attr c k.1) b.0 in (
         record {
           key = l.0.key;
           known = longer c.attrs d.attrs f.1 g.attrs l.0.known;
@@ -201,15 +196,15 @@ module _ (c d : Things) (holds : Holds c) (g : Grows c d) where
   lowered_more (e ∷ es) (h ∷ fs) k f l m = (l.0, lowered_more es fs k f l.1 m)
 
   known_more : (es : List (ℕ × ℕ)) (k : ℕ × ℕ) → AreKnown d es → entry_passes (is_name d) (is_attr d) k ≡ true → AreKnown d (es ++ k ∷ [])
-  known_more [] k e h = both_hold (entry_passes (is_name d) (is_attr d) k) true h refl
-  known_more (f ∷ es) k e h = let b = both (entry_passes (is_name d) (is_attr d) f) _ e in both_hold (entry_passes (is_name d) (is_attr d) f) _ b.0 (known_more es k b.1 h)
+  known_more [] k e h = and_from (entry_passes (is_name d) (is_attr d) k) true h refl
+  known_more (f ∷ es) k e h = let b = and_parts (entry_passes (is_name d) (is_attr d) f) _ e in and_from (entry_passes (is_name d) (is_attr d) f) _ b.0 (known_more es k b.1 h)
 
   pub lowering_next : (all rest made : List (ℕ × ℕ)) (k : ℕ × ℕ) (a : ℕ) → IsLowering c all (k ∷ rest) made → IsAttr d a → attr_term d a ≡ lowered_attr (attr_term c k.1) → IsLowering d all rest (made ++ (k.0, a) ∷ [])
   lowering_next all rest made k a l h e =
-      let left = both (entry_passes (is_name c) (is_attr c) k) _ l.left in
-      let own = both (is_name c k.0) (is_attr c k.1) left.0 in
+      let left = and_parts (entry_passes (is_name c) (is_attr c) k) _ l.left in
+      let own = and_parts (is_name c k.0) (is_attr c k.1) left.0 in
       let now = known_stays (k ∷ rest) l.left in
-      let parts = both (entry_passes (is_name d) (is_attr d) k) _ now in
+      let parts = and_parts (entry_passes (is_name d) (is_attr d) k) _ now in
       record {
         done = l.done ++ k ∷ [];
         parts = append_assoc l.done (k ∷ []) rest ∙ l.parts;
@@ -225,4 +220,4 @@ pub lowering_done : (c : Things) (all made : List (ℕ × ℕ)) → IsLowering c
 lowering_done c all made l = subst (λ es. AreLowered c es made) (sym (append-nil l.done) ∙ l.parts) l.are
 
 pub entry_known : (c : Things) (all rest made : List (ℕ × ℕ)) (k : ℕ × ℕ) → IsLowering c all (k ∷ rest) made → IsAttr c k.1
-entry_known c all rest made k l = ltb-true k.1 (length c.attrs) (both (is_name c k.0) (is_attr c k.1) (both (entry_passes (is_name c) (is_attr c) k) _ l.left).0).1
+entry_known c all rest made k l = ltb-true k.1 (length c.attrs) (and_parts (is_name c k.0) (is_attr c k.1) (and_parts (entry_passes (is_name c) (is_attr c) k) _ l.left).0).1

@@ -1,7 +1,7 @@
 -- The edits of loops and choices, in a context that grew.
 use Rattle.std.proofs.Common.{◌≡◌, refl, ap, sym, ◌∙◌, subst, ℕ, List, [], ◌∷◌, length, map, true}
 use Rattle.std.specs.List.{list_all}
-use Rattle.std.proofs.lemmas.Bool.{ltb-true, lt-ltb}
+use Rattle.std.proofs.lemmas.Bool.{ltb-true, lt-ltb, and_parts, and_from}
 use Rattle.std.proofs.lemmas.List.{length-map}
 use Rattle.ir_types.specs.Things.{Things, Grows}
 use Rattle.ir_types.specs.Sound.{Holds, IsSound}
@@ -10,8 +10,7 @@ use Rattle.ir_types.proofs.Terms.{type_stays}
 use Rattle.ir_tree.specs.declared.place.Place.{Place}
 use Rattle.ir_tree.specs.Tree.{head}
 use Rattle.ir_tree.specs.Meaning.{is_type}
-use Rattle.ir_tree.proofs.Agreeing.{both}
-use Rattle.ir_tree.proofs.Meanings.{both_hold, stable}
+use Rattle.ir_tree.proofs.Meanings.{stable}
 use Rattle.patterns_edits.specs.declared.edit.Edit.{Edit}
 use Rattle.patterns_edits.specs.Lists.{AllFit, edits_meaning}
 use Rattle.patterns_base.specs.Lowering.{indices}
@@ -31,13 +30,13 @@ module _ (c d : Things) (holds : Holds c) (g : Grows c d) where
   types_known_still : (tys : List ℕ) → list_all (is_type c) tys ≡ true → list_all (is_type d) tys ≡ true
   types_known_still [] e = refl
   types_known_still (ty ∷ tys) e =
-      let b = both (is_type c ty) (list_all (is_type c) tys) e in
-      both_hold (is_type d ty) _ (lt-ltb ty (length d.types) (type_known c d ty g (ltb-true ty (length c.types) b.0))) (types_known_still tys b.1)
+      let b = and_parts (is_type c ty) (list_all (is_type c) tys) e in
+      and_from (is_type d ty) _ (lt-ltb ty (length d.types) (type_known c d ty g (ltb-true ty (length c.types) b.0))) (types_known_still tys b.1)
 
   types_still : (tys : List ℕ) → list_all (is_type c) tys ≡ true → map (type_term d) tys ≡ map (type_term c) tys
   types_still [] e = refl
   types_still (ty ∷ tys) e =
-      let b = both (is_type c ty) (list_all (is_type c) tys) e in
+      let b = and_parts (is_type c ty) (list_all (is_type c) tys) e in
       λ i. type_stays c d ty g (ltb-true ty (length c.types) b.0) i ∷ types_still tys b.1 i
 
   pub loop_stays : (l : IndexedLoop) → IsIndexedLoop c l → IsIndexedLoop d l

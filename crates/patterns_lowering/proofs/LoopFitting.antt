@@ -1,14 +1,13 @@
 -- The edits of loops and choices fit a context.
 use Rattle.std.proofs.Common.{◌≡◌, refl, ℕ, ◌+◌, List, [], ◌∷◌, ◌++◌, length, reverse, Bool, true, false}
 use Rattle.std.specs.List.{list_all}
-use Rattle.std.proofs.lemmas.Bool.{ltb-true}
+use Rattle.std.proofs.lemmas.Bool.{ltb-true, and_parts}
 use Rattle.ir_types.specs.Things.{Things, IsType}
 use Rattle.ir_types.specs.Sound.{Holds}
 use Rattle.ir_tree.specs.declared.value.Value.{Value}
 use Rattle.ir_tree.specs.declared.place.Place.{Place}
 use Rattle.ir_tree.specs.Tree.{Op, head, regions}
 use Rattle.ir_tree.specs.Meaning.{IsSoundIn, is_type}
-use Rattle.ir_tree.proofs.Agreeing.{both}
 use Rattle.patterns_base.specs.Makes.{arguments_from}
 use Rattle.patterns_base.specs.Lowering.{before_in, beside, crossed, end_of, marked}
 use Rattle.patterns_edits.specs.declared.edit.Edit.{Edit}
@@ -25,7 +24,7 @@ use Rattle.patterns_lowering.proofs.Fitting.{bridges_fit, cast_sound, give_fits,
 
 holders_fit : (c : Things) (place : Place) (tys : List ℕ) → Holds c → list_all (is_type c) tys ≡ true → AllFit c (holder_edits place tys)
 holders_fit c place [] h e = tt
-holders_fit c place (ty ∷ tys) h e = let b = both (is_type c ty) (list_all (is_type c) tys) e in ((cast_sound c ty [] h (ltb-true ty (length c.types) b.0), refl), holders_fit c place tys h b.1)
+holders_fit c place (ty ∷ tys) h e = let b = and_parts (is_type c ty) (list_all (is_type c) tys) e in ((cast_sound c ty [] h (ltb-true ty (length c.types) b.0), refl), holders_fit c place tys h b.1)
 
 moves_fit : (c : Things) (place : Place) (xs : List ℕ) → AllFit c (move_edits place xs)
 moves_fit c place [] = tt

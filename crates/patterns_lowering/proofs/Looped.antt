@@ -27,8 +27,11 @@ use Rattle.patterns_lowering.specs.declared.plan.Lowering.TheVariants as plan
 use Rattle.patterns_lowering.specs.Lowered.{AreLowered, AreTypes}
 use Rattle.patterns_lowering.specs.Numbers.{bridge_edits, replace_edits, op_lowered, give_edits, numbers_from, first_results, holder_edits, move_edits, erase_edits, gather_edits, over_edits, crossing_edits, handed_edits, loop_ids, front_edits, inside_edits, behind_edits, loop_edits, side_edits, choice_edits}
 use Rattle.patterns_lowering.specs.Meanings.{results_given, loop_lowered, choice_lowered, lowering_meaning}
-use Rattle.patterns_lowering.proofs.Joined.{edits_more}
 use Rattle.patterns_lowering.proofs.Meant.{bridges_meant, replaces_meant, op_meant, give_meant}
+use Rattle.patterns_lowering.proofs.Counted.{arguments_length}
+use Rattle.patterns_base.proofs.Facts.{crossed_length}
+use Rattle.patterns_edits.proofs.Facts.{edits_more}
+use Rattle.patterns_regions.proofs.Openings.{moves_meant}
 
 module _ (c : Things) where
   holders_meant : (sound : IsSound c) (place : Place) (tys : List ℕ) → edits_meaning c (holder_edits place tys) ≡ map (λ ty. edit.Make place (placeholder ty)) (map (type_term c) tys)
@@ -37,10 +40,6 @@ module _ (c : Things) where
       λ i. edit.Make place (op (record { id = 0; name = word_named c BuiltinUnrealizedConversionCast sound i; operands = []; results = type_term c ty ∷ []; properties = []; attributes = [] }) no_regions)
       ∷ holders_meant sound place tys i
 
-  moves_meant : (place : Place) (xs : List ℕ) → edits_meaning c (move_edits place xs) ≡ moving place xs
-  moves_meant place [] = refl
-  moves_meant place (x ∷ xs) = ap (λ l. edit.Move x place ∷ l) (moves_meant place xs)
-
   gathers_meant : (y r z : ℕ) (xs : List ℕ) → edits_meaning c (gather_edits y r z xs) ≡ gathering y r z xs
   gathers_meant y r z [] = refl
   gathers_meant y r z (x ∷ xs) = ap (λ l. edit.Move x (before_in y r z) ∷ l) (gathers_meant y r x xs)
@@ -48,7 +47,7 @@ module _ (c : Things) where
   over_meant : (front : Place) (y r : ℕ) (b : Taken) → edits_meaning c (over_edits front y r b) ≡ brought front y r b.before.items b.last
   over_meant front y r b =
       edits_more c (move_edits (beside front y) b.before.items) (coded.Move b.last (beside front y) ∷ coded.Move b.last (end_of y r) ∷ gather_edits y r b.last (reverse b.before.items))
-      ∙ (λ i. moves_meant (beside front y) b.before.items i ++ edit.Move b.last (beside front y) ∷ edit.Move b.last (end_of y r) ∷ gathers_meant y r b.last (reverse b.before.items) i)
+      ∙ (λ i. (moves_meant c) (beside front y) b.before.items i ++ edit.Move b.last (beside front y) ∷ edit.Move b.last (end_of y r) ∷ gathers_meant y r b.last (reverse b.before.items) i)
 
   erases_meant : (xs : List ℕ) → edits_meaning c (erase_edits xs) ≡ erasing xs
   erases_meant [] = refl
@@ -79,18 +78,6 @@ arguments_alike x k [] [] h = refl
 arguments_alike x k [] (j ∷ js) h = absurd (omega (arith, h))
 arguments_alike x k (i ∷ is) [] h = absurd (omega (arith, h))
 arguments_alike x k (i ∷ is) (j ∷ js) h = ap (λ l. Arg x 0 k ∷ l) (arguments_alike x (k + 1) is js (omega (arith, h)))
-
-arguments_count : {X : Type 0} (x k : ℕ) (is : List X) → length (arguments_from x k is) ≡ length is
-arguments_count x k [] = refl
-arguments_count x k (i ∷ is) = omega (arith, arguments_count x (k + 1) is)
-
-crossed_count : (n : ℕ) (ms : List Bool) (vs : List Value) → length ms ≡ length vs → length (crossed n ms vs) ≡ length vs
-crossed_count n [] [] h = refl
-crossed_count n [] (v ∷ vs) h = absurd (omega (arith, h))
-crossed_count n (true ∷ ms) [] h = absurd (omega (arith, h))
-crossed_count n (false ∷ ms) [] h = absurd (omega (arith, h))
-crossed_count n (true ∷ ms) (v ∷ vs) h = (let e = crossed_count (n + 1) ms vs (omega (arith, h)) in omega (arith, e))
-crossed_count n (false ∷ ms) (v ∷ vs) h = (let e = crossed_count n ms vs (omega (arith, h)) in omega (arith, e))
 
 -- a loop's edits, by how many arguments there are
 module _ (n : ℕ) (front : Place) (operands results : List Bool) (o : Op) (c : Things) (marks : List Bool) (b : Taken) where
@@ -198,7 +185,7 @@ module _ (c : Things) (wide index : ℕ) (fs : List (ℕ × ℕ)) (n : ℕ) (fro
         let arguments = arguments_from ids.op 0 args in
         let news = crossed ids.arguments l.index_arguments.items arguments in
         let x = (head l.of.op).id in
-        let many_news = crossed_count ids.arguments l.index_arguments.items arguments (many ∙ sym (arguments_count ids.op 0 args)) ∙ arguments_count ids.op 0 args in
+        let many_news = crossed_length ids.arguments l.index_arguments.items arguments (many ∙ sym (arguments_length ids.op 0 args)) ∙ arguments_length ids.op 0 args in
         let a = front_edits c wide fs n front holders l in
         let b = inside_edits index front ids.op holder_ids holders arguments news l in
         let d = behind_edits wide index front ids news l in

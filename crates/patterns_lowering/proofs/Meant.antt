@@ -20,8 +20,8 @@ use Rattle.patterns_base.specs.Lowering.{bridges, crossed, marked, lowered_attr,
 use Rattle.patterns_lowering.specs.Lowered.{AreLowered, AreTypes}
 use Rattle.patterns_lowering.specs.Numbers.{bridge_edits, replace_edits, op_lowered, give_edits, operation_edits}
 use Rattle.patterns_lowering.specs.Meanings.{results_given, operation_lowered}
-use Rattle.patterns_lowering.proofs.Joined.{edits_more}
 use Rattle.patterns_lowering.proofs.Typed.{types_meant, regions_meant}
+use Rattle.patterns_edits.proofs.Facts.{edits_more}
 
 module _ (c : Things) (sound : IsSound c) where
   pub bridges_meant : (ty : ℕ) (u : TypeTerm) (place : Place) (ms : List Bool) (vs : List Value) → type_term c ty ≡ u → edits_meaning c (bridge_edits ty place ms vs) ≡ bridges u place ms vs

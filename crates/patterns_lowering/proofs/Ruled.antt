@@ -40,6 +40,8 @@ use Rattle.patterns_lowering.specs.Planned.{AreTaken, IsCleanAt, IsLoweredBy, Is
 use Rattle.patterns_lowering.specs.Plans.{IsIndexed, IsIndexedChoice, IsIndexedLoop}
 use Rattle.patterns_lowering.proofs.Read.{bare_mapped, op_bare, lower_index_read}
 use Rattle.patterns_lowering.proofs.Shown.{Raw, bare_head, distinct_in, indexed_at, meant_there, none_there, raw, there_meant, types_few_at, types_known_at}
+use Rattle.ir_event.proofs.Steps.{meaning_operands}
+use Rattle.patterns_regions.proofs.Ruled.{when_none}
 
 -- ---- tests
 
@@ -49,10 +51,6 @@ when_first a b r e = sym (ap (λ z. when (z && b) r) e)
 when_second : {X : Type 0} (a b : Bool) (r : Option X) → b ≡ false → None ≡ when (a && b) r
 when_second true b r e = sym (ap (λ z. when z r) e)
 when_second false b r e = refl
-
-when_none : {X : Type 0} (b : Bool) (r : Option X) → None ≡ r → None ≡ when b r
-when_none true r e = e
-when_none false r e = refl
 
 when_both : {X : Type 0} (a b : Bool) (r : Option X) → a ≡ true → b ≡ true → r ≡ when (a && b) r
 when_both a b r e f = sym (λ i. when (e i && f i) r)
@@ -135,9 +133,6 @@ some_of (Some e) b h = record { ended = e; is = refl; taken = h }
 meant_name : (c : Things) (o : Op) → (head (meaning c o)).name ≡ name_term c (node_of o).head.name
 meant_name c (op h rs) = refl
 
-meant_operands : (c : Things) (o : Op) → (head (meaning c o)).operands ≡ (head o).operands
-meant_operands c (op h rs) = refl
-
 meant_results : (c : Things) (o : Op) → (head (meaning c o)).results ≡ map (type_term c) (head o).results
 meant_results c (op h rs) = refl
 
@@ -177,7 +172,7 @@ module _ (w : World) (x : ℕ) (n : Node) (shown : Some n ≡ option_map node_of
     r = was s.here s.found
 
     operands_are : i.index_operands.items ≡ map (is_index_value t) (head m).operands
-    operands_are = r.operands ∙ ap (map (is_index_value t)) (sym (meant_operands w.ctx s.here))
+    operands_are = r.operands ∙ ap (map (is_index_value t)) (sym (meaning_operands w.ctx s.here))
 
     results_are : i.index_results.items ≡ indices (head m).results
     results_are = r.results ∙ ap indices (sym (meant_results w.ctx s.here))

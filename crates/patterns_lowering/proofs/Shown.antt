@@ -2,7 +2,7 @@
 use Rattle.std.proofs.Common.{◌≡◌, refl, ap, sym, ◌∙◌, subst, ℕ, zero, suc, ◌≤◌, List, length, map, Bool, true, ◌&&◌, Option, Some, None, arith}
 use Rattle.std.specs.Prelude.{option_map, option_and_then, slice_get, nat_le}
 use Rattle.std.specs.List.{list_all}
-use Rattle.std.proofs.lemmas.Bool.{leb-true}
+use Rattle.std.proofs.lemmas.Bool.{leb-true, and_parts, and_from}
 use Rattle.std.proofs.lemmas.List.{length-map}
 use Rattle.ir_types.specs.Things.{Things}
 use Rattle.ir_types.specs.Terms.{name_term, type_term, attr_term}
@@ -11,9 +11,7 @@ use Rattle.ir_tree.specs.Ids.{HasDistinctIds, find}
 use Rattle.ir_tree.specs.Limits.{all_arguments_pass, every, head_fits, items_fit, most_ops, most_regions, op_fits, regions_every}
 use Rattle.ir_tree.specs.Meaning.{IsSoundIn, Operation, is_attr, is_name, is_type, key_before_in, dictionaries_rise, meaning}
 use Rattle.ir_tree.specs.Passing.{head_passes, op_passes}
-use Rattle.ir_tree.proofs.Agreeing.{both}
 use Rattle.ir_tree.proofs.Mapped.{map_find}
-use Rattle.ir_tree.proofs.Meanings.{both_hold}
 use Rattle.ir_tree.specs.Ids.{op_count}
 use Rattle.ir_tree_laws.proofs.Members.{found_stands}
 use Rattle.ir_store.specs.Nodes.{Node, node_of, regions_arguments}
@@ -27,6 +25,7 @@ use Rattle.patterns_lowering.specs.declared.plan.Indexed.{Indexed}
 use Rattle.patterns_lowering.specs.Bare.{bare, bare_regions, bare_read, region_with}
 use Rattle.patterns_lowering.specs.Planned.{IsReadIn, IsReadOf}
 use Rattle.patterns_lowering.specs.Plans.{IsIndexed}
+use Rattle.std.proofs.lemmas.Option.{same_Some}
 
 -- the operation that a node shows
 pub record Raw (w : World) (x : ℕ) (n : Node) : Type 0 where
@@ -65,38 +64,38 @@ pub sound_at : (w : World) (x : ℕ) (o : Op) → find x w.store.module_of.tree 
 sound_at w x o e = found_sound w.ctx x w.store.module_of.tree o w.sound e
 
 own_fits : (o : Op) → every op_fits o ≡ true → op_fits o ≡ true
-own_fits (op h rs) e = (both (op_fits (op h rs)) (regions_every op_fits rs) e).0
+own_fits (op h rs) e = (and_parts (op_fits (op h rs)) (regions_every op_fits rs) e).0
 
 pub fits_at : (w : World) (x : ℕ) (o : Op) → find x w.store.module_of.tree ≡ Some o → op_fits o ≡ true
 fits_at w x o e =
     let t = w.store.module_of.tree in
-    own_fits o (every_found op_fits x t o (both (nat_le (op_count t) most_ops) (every op_fits t) w.formed.formed.counts).1 e)
+    own_fits o (every_found op_fits x t o (and_parts (nat_le (op_count t) most_ops) (every op_fits t) w.formed.formed.counts).1 e)
 
 -- the types of its results and of its blocks' arguments
 pub results_known : (c : Things) (o : Op) → IsSoundIn c o → list_all (is_type c) (head o).results ≡ true
 results_known c (op h rs) s =
-    let own = both (op_passes (is_name c) (is_type c) (is_attr c) (op h rs)) (regions_every (op_passes (is_name c) (is_type c) (is_attr c)) rs) s.known in
-    let parts = both (head_passes (is_name c) (is_type c) (is_attr c) h) (all_arguments_pass (list_all (is_type c)) rs) own.0 in
-    let name = both (is_name c h.name) _ parts.0 in
-    (both (list_all (is_type c) h.results) _ name.1).0
+    let own = and_parts (op_passes (is_name c) (is_type c) (is_attr c) (op h rs)) (regions_every (op_passes (is_name c) (is_type c) (is_attr c)) rs) s.known in
+    let parts = and_parts (head_passes (is_name c) (is_type c) (is_attr c) h) (all_arguments_pass (list_all (is_type c)) rs) own.0 in
+    let name = and_parts (is_name c h.name) _ parts.0 in
+    (and_parts (list_all (is_type c) h.results) _ name.1).0
 
 pub arguments_known : (c : Things) (o : Op) → IsSoundIn c o → all_arguments_pass (list_all (is_type c)) (regions o) ≡ true
 arguments_known c (op h rs) s =
-    let own = both (op_passes (is_name c) (is_type c) (is_attr c) (op h rs)) (regions_every (op_passes (is_name c) (is_type c) (is_attr c)) rs) s.known in
-    (both (head_passes (is_name c) (is_type c) (is_attr c) h) (all_arguments_pass (list_all (is_type c)) rs) own.0).1
+    let own = and_parts (op_passes (is_name c) (is_type c) (is_attr c) (op h rs)) (regions_every (op_passes (is_name c) (is_type c) (is_attr c)) rs) s.known in
+    (and_parts (head_passes (is_name c) (is_type c) (is_attr c) h) (all_arguments_pass (list_all (is_type c)) rs) own.0).1
 
 arguments_few : (o : Op) → op_fits o ≡ true → all_arguments_pass items_fit (regions o) ≡ true
 arguments_few (op h rs) e =
-    let own = both (head_fits h) (nat_le (region_count rs) most_regions && all_arguments_pass items_fit rs) e in
-    (both (nat_le (region_count rs) most_regions) (all_arguments_pass items_fit rs) own.1).1
+    let own = and_parts (head_fits h) (nat_le (region_count rs) most_regions && all_arguments_pass items_fit rs) e in
+    (and_parts (nat_le (region_count rs) most_regions) (all_arguments_pass items_fit rs) own.1).1
 
 passed_at : {N T A : Type 0} (p : List T → Bool) (rs : RegionsOf N T A) (r : ℕ) (types : List T) → all_arguments_pass p rs ≡ true → option_and_then (λ a. a) (slice_get (regions_arguments rs) r) ≡ Some types → p types ≡ true
 passed_at p no_regions zero types e f = absurd cc
 passed_at p no_regions (suc r) types e f = absurd cc
 passed_at p (region empty rs) zero types e f = absurd cc
 passed_at p (region empty rs) (suc r) types e f = passed_at p rs r types e f
-passed_at p (region (block args os) rs) zero types e f = (let one : args ≡ types = cc in subst (λ l. p l ≡ true) one (both (p args) (all_arguments_pass p rs) e).0)
-passed_at p (region (block args os) rs) (suc r) types e f = passed_at p rs r types (both (p args) (all_arguments_pass p rs) e).1 f
+passed_at p (region (block args os) rs) zero types e f = (let one : args ≡ types = cc in subst (λ l. p l ≡ true) one (and_parts (p args) (all_arguments_pass p rs) e).0)
+passed_at p (region (block args os) rs) (suc r) types e f = passed_at p rs r types (and_parts (p args) (all_arguments_pass p rs) e).1 f
 
 node_arguments : (o : Op) → (node_of o).arguments ≡ regions_arguments (regions o)
 node_arguments (op h rs) = refl
@@ -135,15 +134,12 @@ shown_results w x n s = ap (λ (m : Node). m.head.results) s.node ∙ ap (λ h. 
 pub shown_known : (w : World) (x : ℕ) (n : Node) → Some n ≡ option_map node_of (find x w.store.module_of.tree) → list_all (is_type w.ctx) n.head.results ≡ true
 shown_known w x n e = let s = raw w x n e in subst (λ l. list_all (is_type w.ctx) l ≡ true) (sym (shown_results w x n s)) (results_known w.ctx s.here (sound_at w x s.here s.found))
 
-some_op : (a b : Op) → Some a ≡ Some b → a ≡ b
-some_op a b e = cc
-
 -- what was read
 pub was_read : (w : World) (x : ℕ) (n : Node) → Some n ≡ option_map node_of (find x w.store.module_of.tree) → (i : Indexed) → i.op ≡ bare_read x n
     → i.index_operands.items ≡ map (is_index_value (module_in w).tree) n.head.operands → i.index_results.items ≡ indices (map (type_term w.ctx) n.head.results) → IsReadOf w x i
 was_read w x n e i p q r o f =
     let s = raw w x n e in
-    let one = some_op s.here o (sym s.found ∙ f) in
+    let one = same_Some s.here o (sym s.found ∙ f) in
     subst (λ (o : Op). IsReadIn w o i) one
     (record {
       op = p ∙ ap (bare_read x) s.node ∙ read_bare x s.here (found_id x w.store.module_of.tree s.here s.found);
@@ -170,12 +166,12 @@ bare_sound : (c : Things) (o : Op) → IsSoundIn c o → IsSoundIn c (bare o)
 bare_sound c (op h rs) s =
     let p = op_passes (is_name c) (is_type c) (is_attr c) in
     let q = dictionaries_rise (key_before_in c) in
-    let own = both (p (op h rs)) (regions_every p rs) s.known in
-    let parts = both (head_passes (is_name c) (is_type c) (is_attr c) h) (all_arguments_pass (list_all (is_type c)) rs) own.0 in
-    let order = both (q (op h rs)) (regions_every q rs) s.sorted in
+    let own = and_parts (p (op h rs)) (regions_every p rs) s.known in
+    let parts = and_parts (head_passes (is_name c) (is_type c) (is_attr c) h) (all_arguments_pass (list_all (is_type c)) rs) own.0 in
+    let order = and_parts (q (op h rs)) (regions_every q rs) s.sorted in
     record {
-      known = both_hold _ _ (both_hold _ _ parts.0 (bare_arguments (list_all (is_type c)) rs ∙ parts.1)) (bare_every p rs);
-      sorted = both_hold _ _ order.0 (bare_every q rs);
+      known = and_from _ _ (and_from _ _ parts.0 (bare_arguments (list_all (is_type c)) rs ∙ parts.1)) (bare_every p rs);
+      sorted = and_from _ _ order.0 (bare_every q rs);
     }
 
 bare_fits : (o : Op) → op_fits o ≡ true → op_fits (bare o) ≡ true

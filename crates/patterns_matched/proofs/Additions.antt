@@ -2,7 +2,7 @@
 use Rattle.std.proofs.Common.{append_assoc, ◌≡◌, ℕ, ◌+◌, ◌-◌, ◌≤◌, take, drop, take_all, length, slice_index_or, subst, arith, Bool, true, false, refl, ap, sym, ◌∙◌, List, [], ◌∷◌, ◌++◌, map, Option, Some, None, slice_get}
 use Rattle.std.specs.Prelude.{option_map}
 use Rattle.std.specs.List.{list_all}
-use Rattle.std.proofs.lemmas.List.{map-append}
+use Rattle.std.proofs.lemmas.List.{map-append, length_push}
 use Rattle.std.proofs.lemmas.Option.{slice_get-map}
 use Rattle.ir_tree_laws.proofs.Listed.{both}
 use Rattle.ir_types.specs.Things.{Things}
@@ -147,13 +147,10 @@ names_left [] l e = absurd (omega (arith, l))
 names_left (w ∷ ws) l e = ap (list_all is_named) (take_all (length (w ∷ ws) - 1) ws (omega arith)) ∙ (both (is_named w) (list_all is_named ws) e).1
 
 module _ (c : Things) (n : ℕ) (ts : Standing TypeTerm) (env : List Outcome) (k : ℕ) where
-  counted : {X : Type 0} (xs : List X) (x : X) → length (xs ++ x ∷ []) ≡ length xs + 1
-  counted [] x = refl
-  counted (y ∷ xs) x = (let e = counted xs x in omega (arith, e))
 
   pushed : (ws : List New) (made : List Made) (one : Made) (os : List (Option Operand)) → made_behind c n ts env k ws (made ++ one ∷ []) os ≡ behind (map (made_in c n) made ++ made_in c n one ∷ []) (all_made ts env (n + length made + 1) k ws (operands_in n os))
   pushed ws made one os =
-      let e : n + length (made ++ one ∷ []) ≡ n + length made + 1 = omega (arith, counted made one) in
+      let e : n + length (made ++ one ∷ []) ≡ n + length made + 1 = omega (arith, length_push made one) in
       λ i. behind (map-append (made_in c n) made (one ∷ []) i) (all_made ts env (e i) k ws (operands_in n os))
 
 module _ (c : Things) (n : ℕ) (ts : Standing TypeTerm) (env : List Outcome) (k : ℕ) where

@@ -4,7 +4,7 @@ use Rattle.std.specs.Prelude.{option_map, eqb}
 use Rattle.std.specs.List.{list_all}
 use Rattle.std.proofs.lemmas.Bool.Decides.{eqb_tells}
 use Rattle.std.proofs.lemmas.List.{get_or-set_same, length-set}
-use Rattle.std.proofs.lemmas.Option.{slice_get_within, slice_get-get_or, get_or_from_slice_get}
+use Rattle.std.proofs.lemmas.Option.{slice_get_within, slice_get-get_or, get_or_from_slice_get, same_Some}
 use Rattle.ir_types.specs.Terms.{TypeTerm}
 use Rattle.ir_types.specs.SameTypes.{same_type}
 use Rattle.ir_tree.specs.declared.value.Value.{Value}
@@ -18,20 +18,12 @@ use Rattle.patterns_book.specs.declared.pattern.New.{New}
 use Rattle.patterns_book.specs.Matching.{Header, Standing, all_bound, bound, bound_over, standing, type_at, types_at, when}
 use Rattle.patterns_book.specs.Planning.{all_made, and_more, made_as, values_at}
 use Rattle.patterns_book.proofs.Standing.{all_keep}
+use Rattle.std.proofs.lemmas.Bool.{cases_eq}
+use Rattle.patterns_base.proofs.Facts.{when_some}
 
 pub given_is : {X Y : Type 0} (o : Option X) (f : X → Option Y) (y : Y) → given o f ≡ Some y → (x : X) × (o ≡ Some x) × (f x ≡ Some y)
 given_is None f y e = absurd cc
 given_is (Some x) f y e = (x, refl, e)
-
-pub when_is : {X : Type 0} (b : Bool) (r : Option X) (x : X) → when b r ≡ Some x → (b ≡ true) × (r ≡ Some x)
-when_is true r x e = (refl, e)
-when_is false r x e = absurd cc
-
-pub some_is : {X : Type 0} (x y : X) → Some x ≡ Some y → x ≡ y
-some_is x y e = cc
-
-pub one_or_not : (j k : ℕ) → (j ≡ k) ⊎ (j ≡ k → ⊥)
-one_or_not j k = elim (eqb_tells j k) [ inl h ↦ inl h.1 | inr h ↦ inr h.1 ]
 
 pub standing_is : {X : Type 0} (k : ℕ) (b : Standing X) (v : X) → standing k b ≡ Some v → slice_get b k ≡ Some (Some v)
 standing_is {X = X} k b v e = go (slice_get b k) refl e
@@ -54,14 +46,14 @@ module _ {V : Type 0} (same : V → V → Bool) (is : (u v : V) → same u v ≡
       go (Some None) i e =
           let l = slice_get_within b k None i in
           let at : slice_get (slice_set b k (Some v)) k ≡ Some (Some v) = slice_get-get_or (slice_set b k (Some v)) k None (omega (arith, l, length-set b k (Some v))) ∙ ap Some (get_or-set_same b k (Some v) None l) in
-          subst (λ d. slice_get d k ≡ Some (Some v)) (some_is (slice_set b k (Some v)) c e) at
+          subst (λ d. slice_get d k ≡ Some (Some v)) (same_Some (slice_set b k (Some v)) c e) at
       go (Some (Some u)) i e =
-          let w = when_is (same u v) (Some b) c e in
-          subst (λ d. slice_get d k ≡ Some (Some v)) (some_is b c w.1) (i ∙ ap (λ z. Some (Some z)) (is u v w.0))
+          let w = when_some (same u v) (Some b) c e in
+          subst (λ d. slice_get d k ≡ Some (Some v)) (same_Some b c w.1) (i ∙ ap (λ z. Some (Some z)) (is u v w.0))
 
   -- and else what stood there
   pub bound_from : (k : ℕ) (v : V) (b c : Standing V) → bound same k v b ≡ Some c → (j : ℕ) (u : V) → slice_get c j ≡ Some (Some u) → (slice_get b j ≡ Some (Some u)) ⊎ ((j ≡ k) × (u ≡ v))
-  bound_from k v b c e j u at = elim (one_or_not j k) [
+  bound_from k v b c e j u at = elim (cases_eq j k) [
     | inl h ↦ inr (h, (let two : Some (Some u) ≡ Some (Some v) = sym at ∙ ap (slice_get c) h ∙ bound_at k v b c e in cc))
     | inr n ↦ inl (go (slice_get b k) refl e n)
   ]
@@ -72,15 +64,15 @@ module _ {V : Type 0} (same : V → V → Bool) (is : (u v : V) → same u v ≡
       go : (s : Option (Option V)) → slice_get b k ≡ s → bound_over same s k v b ≡ Some c → (j ≡ k → ⊥) → slice_get b j ≡ Some (Some u)
       go None i e n = absurd cc
       go (Some None) i e n =
-          let set : slice_get (slice_set b k (Some v)) j ≡ Some (Some u) = ap (λ d. slice_get d j) (some_is (slice_set b k (Some v)) c e) ∙ at in
+          let set : slice_get (slice_set b k (Some v)) j ≡ Some (Some u) = ap (λ d. slice_get d j) (same_Some (slice_set b k (Some v)) c e) ∙ at in
           let l = within (slice_set b k (Some v)) (Some u) set in
           slice_get-get_or b j None (omega (arith, l, length-set b k (Some v)))
           ∙ ap Some (sym (get_or-set_other b k j (Some v) None n) ∙ get_or_from_slice_get (slice_set b k (Some v)) j (Some u) None set)
-      go (Some (Some w)) i e n = (let p = when_is (same w v) (Some b) c e in ap (λ d. slice_get d j) (some_is b c p.1) ∙ at)
+      go (Some (Some w)) i e n = (let p = when_some (same w v) (Some b) c e in ap (λ d. slice_get d j) (same_Some b c p.1) ∙ at)
 
   -- so it is where several are bound
   pub all_from : (ks : List ℕ) (vs : List V) (b c : Standing V) → all_bound same ks vs b ≡ Some c → (j : ℕ) (u : V) → slice_get c j ≡ Some (Some u) → (slice_get b j ≡ Some (Some u)) ⊎ In u vs
-  all_from [] [] b c e j u at = inl (ap (λ d. slice_get d j) (some_is b c e) ∙ at)
+  all_from [] [] b c e j u at = inl (ap (λ d. slice_get d j) (same_Some b c e) ∙ at)
   all_from [] (v ∷ vs) b c e j u at = absurd cc
   all_from (k ∷ ks) [] b c e j u at = absurd cc
   all_from (k ∷ ks) (v ∷ vs) b c e j u at =
@@ -97,7 +89,7 @@ module _ (type_is : (t u : TypeTerm) → same_type t u ≡ true → t ≡ u) (t 
   keeps_one n term ts us e = all_keep same_type (n ∷ []) (term ∷ []) ts us (ap (λ r. given r (all_bound same_type [] [])) e)
 
   pub types_keep : (k : ℕ) (tys : List ℕ) (b : Standing Value) (ts us : Standing TypeTerm) → types_at t clean k tys b ts ≡ Some us → (j : ℕ) (u : TypeTerm) → slice_get ts j ≡ Some (Some u) → slice_get us j ≡ Some (Some u)
-  types_keep k [] b ts us e j u at = ap (λ d. slice_get d j) (sym (some_is ts us e)) ∙ at
+  types_keep k [] b ts us e j u at = ap (λ d. slice_get d j) (sym (same_Some ts us e)) ∙ at
   types_keep k (ty ∷ tys) b ts us e j u at =
       let g = given_is (type_at t clean k ty b ts) (types_at t clean (k + 1) tys b) us e in
       let v = given_is (standing k b) _ g.0 g.1 in
@@ -113,7 +105,7 @@ module _ (type_is : (t u : TypeTerm) → same_type t u ≡ true → t ≡ u) (t 
       let v = given_is (standing k b) _ g.0 g.1 in
       let term = given_is (type_of_value v.0 t) _ g.0 v.2 in
       let place : k + 0 ≡ k = omega arith in
-      let same : own ≡ ty = some_is own ty at in
+      let same : own ≡ ty = same_Some own ty at in
       (v.0, term.0, ap (λ z. standing z b) place ∙ v.1, term.1, ap (slice_get us) (sym same) ∙ types_keep (k + 1) tys b g.0 us g.2 own term.0 (bound_at same_type type_is own term.0 ts g.0 term.2))
   types_hold k (own ∷ tys) b ts us e (suc i) ty at =
       let g = given_is (type_at t clean k own b ts) (types_at t clean (k + 1) tys b) us e in
@@ -124,17 +116,17 @@ module _ (type_is : (t u : TypeTerm) → same_type t u ≡ true → t ≡ u) (t 
 -- ---- what is made
 
 pub values_many : (ks : List ℕ) (b : Standing Value) (vs : List Value) → values_at ks b ≡ Some vs → length vs ≡ length ks
-values_many [] b vs e = ap length (sym (some_is [] vs e))
+values_many [] b vs e = ap length (sym (same_Some [] vs e))
 values_many (k ∷ ks) b vs e =
     (let g = given_is (standing k b) (λ v. and_more v (values_at ks b)) vs e in
     go (values_at ks b) refl g.0 vs g.2 (values_many ks b))
   where
     go : (r : Option (List Value)) → values_at ks b ≡ r → (v : Value) (vs : List Value) → and_more v r ≡ Some vs → ((ws : List Value) → values_at ks b ≡ Some ws → length ws ≡ length ks) → length vs ≡ length (k ∷ ks)
     go None is v vs e more = absurd cc
-    go (Some ws) is v vs e more = (let m = more ws is in let l : length vs ≡ length (v ∷ ws) = ap length (sym (some_is (v ∷ ws) vs e)) in omega (arith, m, l))
+    go (Some ws) is v vs e more = (let m = more ws is in let l : length vs ≡ length (v ∷ ws) = ap length (sym (same_Some (v ∷ ws) vs e)) in omega (arith, m, l))
 
 pub values_pass : (f : Value → Bool) (r : ℕ) (ks : List ℕ) (b : Standing Value) → ((j : ℕ) (u : Value) → (j ≡ r → ⊥) → standing j b ≡ Some u → f u ≡ true) → list_all (λ i. not (eqb i r)) ks ≡ true → (vs : List Value) → values_at ks b ≡ Some vs → list_all f vs ≡ true
-values_pass f r [] b passes spared vs e = ap (list_all f) (sym (some_is [] vs e))
+values_pass f r [] b passes spared vs e = ap (list_all f) (sym (same_Some [] vs e))
 values_pass f r (k ∷ ks) b passes spared vs e =
     (let g = given_is (standing k b) (λ v. and_more v (values_at ks b)) vs e in
     go (values_at ks b) refl g.0 g.1 vs g.2 (not (eqb k r)) refl spared (values_pass f r ks b passes))
@@ -147,10 +139,10 @@ values_pass f r (k ∷ ks) b passes spared vs e =
     go None is v at vs e z n spared more = absurd cc
     go (Some ws) is v at vs e false n spared more = absurd cc
     go (Some ws) is v at vs e true n spared more =
-        ap (list_all f) (sym (some_is (v ∷ ws) vs e)) ∙ ap (λ q. q && list_all f ws) (passes k v (differs n) at) ∙ more spared ws is
+        ap (list_all f) (sym (same_Some (v ∷ ws) vs e)) ∙ ap (λ q. q && list_all f ws) (passes k v (differs n) at) ∙ more spared ws is
 
 pub made_many : (ts : Standing TypeTerm) (env : List Outcome) (n k : ℕ) (ws : List New) (b c : Standing Value) (os : List Operation) → all_made ts env n k ws b ≡ Some (os, c) → length os ≡ length ws
-made_many ts env n k [] b c os e = (let one : [] ≡ os = ap (λ (z : List Operation × Standing Value). z.0) (some_is ([], b) (os, c) e) in ap length (sym one))
+made_many ts env n k [] b c os e = (let one : [] ≡ os = ap (λ (z : List Operation × Standing Value). z.0) (same_Some ([], b) (os, c) e) in ap length (sym one))
 made_many ts env n k (w ∷ ws) b c os e =
     (let o = given_is (made_as b ts env w) _ (os, c) e in
     let d = given_is (bound same_value k (Result n 0) b) _ (os, c) o.2 in
@@ -160,7 +152,7 @@ made_many ts env n k (w ∷ ws) b c os e =
         → ((qs : List Operation) → all_made ts env (n + 1) (k + 1) ws d ≡ Some (qs, c) → length qs ≡ length ws) → length os ≡ length (w ∷ ws)
     go None d is o e more = absurd cc
     go (Some r) d is o e more =
-        let two = some_is (o ∷ r.0, r.1) (os, c) e in
+        let two = same_Some (o ∷ r.0, r.1) (os, c) e in
         let m = more r.0 (is ∙ ap (λ z. Some (r.0, z)) (ap (λ (z : List Operation × Standing Value). z.1) two)) in
         let l : length os ≡ length (o ∷ r.0) = ap (λ (z : List Operation × Standing Value). length z.0) (sym two) in
         omega (arith, m, l)

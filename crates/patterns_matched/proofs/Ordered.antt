@@ -26,14 +26,11 @@ use Rattle.patterns_book.proofs.Standing.{pieces_stand}
 use Rattle.patterns_matched.specs.Built.{plan_of}
 use Rattle.patterns_makeable.specs.Makeable.{is_makeable}
 use Rattle.patterns_matched.specs.Matched.{all_clean, any, is_clean_value, is_constant_value, is_first, matched}
+use Rattle.ir_tree.proofs.Counts.{and_false}
 
 pub when_none : {X : Type 0} (b : Bool) → when {X = X} b None ≡ None
 when_none true = refl
 when_none false = refl
-
-and_false : (b : Bool) → (b && false) ≡ false
-and_false true = refl
-and_false false = refl
 
 module _ (t : Operation) (clean : Header → Bool) where
   -- a clean giver is one that is clean

@@ -2,7 +2,7 @@
 use Rattle.std.proofs.Common.{◌≡◌, ℕ, zero, suc, ◌+◌, ◌-◌, ◌≤◌, ◌<◌, refl, ap, sym, ◌∙◌, subst, List, [], ◌∷◌, ◌++◌, length, map, Bool, true, false, ◌&&◌, leb-true, eqb-true, Option, Some, None, slice_get, if◌then◌else◌, inl, inr, arith}
 use Rattle.std.specs.Prelude.{codes, eqb, nat_le, option_map, option_and_then}
 use Rattle.std.specs.List.{list_all, range_with_len}
-use Rattle.std.proofs.lemmas.Option.{slice_get-map, slice_get_within}
+use Rattle.std.proofs.lemmas.Option.{slice_get-map, slice_get_within, same_Some}
 use Rattle.ir_types.specs.Words.{is_isolated}
 use Rattle.ir_types.specs.Terms.{TypeTerm, AttrTerm, Overflow}
 use Rattle.ir_types.specs.SameTypes.{same_type}
@@ -52,10 +52,13 @@ use Rattle.patterns_book.specs.Planning.{Plan, all_made, constants_known, entrie
 use Rattle.patterns_book.specs.Shapes.{Shape}
 use Rattle.patterns_matched.specs.Built.{plan_of}
 use Rattle.patterns_makeable.specs.Makeable.{given_type, is_makeable, is_named, last_type, new_type, result_type, root_type, same_number, spares}
-use Rattle.patterns_matched.proofs.Found.{bound_at, bound_from, given_is, made_many, some_is, standing_is, stands_there, types_hold, types_keep, values_many, values_pass, when_is}
+use Rattle.patterns_matched.proofs.Found.{bound_at, bound_from, given_is, made_many, standing_is, stands_there, types_hold, types_keep, values_many, values_pass}
 use Rattle.patterns_matched.proofs.Ordered.{planned_is}
 use Rattle.patterns_own.specs.Own.{OwnAreAccepted, edits_for, is_one, own_edits}
 use Rattle.patterns_own.proofs.Seen.{Sees, begins, pieces_see, stands}
+use Rattle.patterns_facts.proofs.New.{few_flags}
+use Rattle.ir_types.proofs.Truths.{if_is}
+use Rattle.patterns_base.proofs.Facts.{when_some as when_is}
 
 -- ---- an operation that is made
 
@@ -65,13 +68,6 @@ few vs (form.Compare p i j) l = ap (λ n. nat_le n most_items) l
 few vs (form.Select c i j) l = ap (λ n. nat_le n most_items) l
 few vs (form.Resize c i) l = ap (λ n. nat_le n most_items) l
 few vs (form.IndexCast c i) l = ap (λ n. nat_le n most_items) l
-
-few_flags : (name : List ℕ) → items_fit (flags name) ≡ true
-few_flags name = go (among flagged name)
-  where
-    go : (b : Bool) → items_fit {X = List ℕ × AttrTerm} (if b then (codes "overflowFlags", Overflow false false) ∷ [] else []) ≡ true
-    go true = refl
-    go false = refl
 
 few_entries : (p : Option ℕ) (name : List ℕ) → items_fit (entries_by p name) ≡ true
 few_entries None name = few_flags name
@@ -99,7 +95,7 @@ module _ (f : Value → Bool) (r : ℕ) (ts : Standing TypeTerm) (env : List Out
         operands = vs.0;
         term = term.0;
         properties = entries_by (predicate_of p.form) (name_of p.form);
-        is = sym (some_is _ o term.2);
+        is = sym (same_Some _ o term.2);
         small = few vs.0 p.form (values_many (operands_of p.form) b vs.0 vs.1);
         short = few_entries (predicate_of p.form) (name_of p.form);
         pass = values_pass f r (operands_of p.form) b passes spared vs.0 vs.1;
@@ -113,7 +109,7 @@ module _ (f : Value → Bool) (r : ℕ) (ts : Standing TypeTerm) (env : List Out
         operands = [];
         term = term.0;
         properties = value_entry term.0 x.0.1;
-        is = sym (some_is _ o term.2);
+        is = sym (same_Some _ o term.2);
         small = refl;
         short = refl;
         pass = refl;
@@ -153,7 +149,7 @@ module _ (x : ℕ) (front : Place) (ty : TypeTerm) (root : ℕ) (ts : Standing T
           → Step w ws k m b os c
       go o l d bind None is e = absurd cc
       go o l d bind (Some r) is e =
-          let two = some_is (o ∷ r.0, r.1) (os, c) e in
+          let two = same_Some (o ∷ r.0, r.1) (os, c) e in
           record {
             made_here = o;
             leaf_here = l;
@@ -169,10 +165,10 @@ module _ (x : ℕ) (front : Place) (ty : TypeTerm) (root : ℕ) (ts : Standing T
   ends w k m f b os c s t last typed v at =
       let l = s.leaf_here in
       let two : Some ([], s.after) ≡ Some (s.others, c) = s.rest in
-      let none : s.others ≡ [] = ap (λ (z : List Operation × Standing Value). z.0) (sym (some_is ([], s.after) (s.others, c) two)) in
-      let same : s.after ≡ c = ap (λ (z : List Operation × Standing Value). z.1) (some_is ([], s.after) (s.others, c) two) in
+      let none : s.others ≡ [] = ap (λ (z : List Operation × Standing Value). z.0) (sym (same_Some ([], s.after) (s.others, c) two)) in
+      let same : s.after ≡ c = ap (λ (z : List Operation × Standing Value). z.1) (same_Some ([], s.after) (s.others, c) two) in
       let value : Result m.next 0 ≡ v = given_here (sym (bound_at same_value same_value_true k (Result m.next 0) b s.after s.bind) ∙ ap (λ z. slice_get z k) same ∙ at) in
-      let term : l.term ≡ ty = some_is l.term ty (sym l.typed ∙ ap (λ z. standing z ts) (some_is (new_type w) t last) ∙ typed) in
+      let term : l.term ≡ ty = same_Some l.term ty (sym l.typed ∙ ap (λ z. standing z ts) (same_Some (new_type w) t last) ∙ typed) in
       let these : Make front (made l.name l.operands l.term l.properties) ∷ give x (Result m.next 0) ≡ map (λ o. Make front o) os ++ give x v =
       (λ i. Make front (sym l.is i) ∷ give x (value i)) ∙ ap (λ z. map (λ o. Make front o) z ++ give x v) (sym (s.all ∙ ap (λ z. s.made_here ∷ z) none)) in
       subst (λ es. Free es m) these (fit.new_given x front ty 0 m f l.name l.operands l.term l.properties l.small l.short l.pass m.next refl (ap (same_type ty) term ∙ type_refl ty))
@@ -244,10 +240,6 @@ same_is None b e = absurd cc
 same_is (Some a) None e = absurd cc
 same_is (Some a) (Some b) e = (a, refl, ap Some (sym (eqb-true a b e)))
 
-if_is : {X : Type 0} (b : Bool) (r : Option X) (x : X) → (if b then r else None) ≡ Some x → (b ≡ true) × (r ≡ Some x)
-if_is true r x e = (refl, e)
-if_is false r x e = absurd cc
-
 -- the parts of a plan
 record Parts (t : Operation) (clean : Header → Bool) (n : ℕ) (p : Shape) (x : ℕ) (r : Plan) : Type 0 where
   first : Standing Value
@@ -290,7 +282,7 @@ parts t clean n p x r e =
       all = made.1;
       result = v.0;
       gives = v.1;
-      plan = sym (some_is (made.0.0, v.0) r v.2);
+      plan = sym (same_Some (made.0.0, v.0) r v.2);
     }
 
 module _ (p : Shape) (m : Module) (x : ℕ) (formed : IsWellFormed is_isolated m) (front : Place) (at : front_of x m.tree ≡ Some front) (o : Operation) (found : find x m.tree ≡ Some o) (ty : TypeTerm) (one : (head o).results ≡ ty ∷ []) where
@@ -307,7 +299,7 @@ module _ (p : Shape) (m : Module) (x : ℕ) (formed : IsWellFormed is_isolated m
   fits_here k ops ids =
       record {
         stood = there;
-        one = (let two : Some there.at.here ≡ Some o = sym (found_there is_isolated x front m there) ∙ found in ap (λ z. (head z).results) (some_is there.at.here o two)) ∙ one;
+        one = (let two : Some there.at.here ≡ Some o = sym (found_there is_isolated x front m there) ∙ found in ap (λ z. (head z).results) (same_Some there.at.here o two)) ∙ one;
         ops = ops;
         ids = ids;
       }
@@ -330,8 +322,8 @@ module _ (p : Shape) (m : Module) (x : ℕ) (formed : IsWellFormed is_isolated m
     root_typed =
         let h = types_hold type_is t clean (old_place p) (map Piece.ty p.old) q.values q.of_values q.types q.typed_old (p.root - old_place p) number (slice_get-map Piece.ty p.old (p.root - old_place p) ∙ root_at.1) in
         let place : old_place p + (p.root - old_place p) ≡ p.root = omega (arith, above) in
-        let value : h.0 ≡ Result x 0 = some_is h.0 (Result x 0) (sym h.2 ∙ ap (λ z. standing z q.values) place ∙ stands_there p.root q.values (Result x 0) seen.at) in
-        let term : h.1 ≡ ty = some_is h.1 ty (sym h.3 ∙ ap (λ z. type_of_value z m.tree) value ∙ own_type) in
+        let value : h.0 ≡ Result x 0 = same_Some h.0 (Result x 0) (sym h.2 ∙ ap (λ z. standing z q.values) place ∙ stands_there p.root q.values (Result x 0) seen.at) in
+        let term : h.1 ≡ ty = same_Some h.1 ty (sym h.3 ∙ ap (λ z. type_of_value z m.tree) value ∙ own_type) in
         h.4 ∙ ap (λ z. Some (Some z)) term
 
     abbrev HasRoomFor : ℕ → Type 0
@@ -341,13 +333,13 @@ module _ (p : Shape) (m : Module) (x : ℕ) (formed : IsWellFormed is_isolated m
     variable : p.new ≡ [] → HasRoomFor 0 → Free (map (λ o. Make front o) r.0 ++ give x r.1) m
     variable empty room =
         let number_at : slice_get p.values p.result ≡ Some number = ap (given_type p) (sym empty) ∙ gives in
-        let made_is : ([], q.values) ≡ q.made = some_is ([], q.values) q.made (ap (λ z. all_made q.types q.env m.next (new_place p) z q.values) (sym empty) ∙ q.all) in
+        let made_is : ([], q.values) ≡ q.made = same_Some ([], q.values) q.made (ap (λ z. all_made q.types q.env m.next (new_place p) z q.values) (sym empty) ∙ q.all) in
         let value : standing p.result q.values ≡ Some q.result = ap (λ (z : List Operation × Standing Value). standing p.result z.1) made_is ∙ q.gives in
         let h = types_hold type_is t clean 0 p.values q.values (map written p.kinds) q.of_values q.typed_values p.result number number_at in
         let place : 0 + p.result ≡ p.result = omega arith in
-        let same : h.0 ≡ q.result = some_is h.0 q.result (sym h.2 ∙ ap (λ z. standing z q.values) place ∙ value) in
+        let same : h.0 ≡ q.result = same_Some h.0 q.result (sym h.2 ∙ ap (λ z. standing z q.values) place ∙ value) in
         let kept = types_keep type_is t clean (old_place p) (map Piece.ty p.old) q.values q.of_values q.types q.typed_old number h.1 h.4 in
-        let term : ty ≡ h.1 = some_is ty h.1 (some_is (Some ty) (Some h.1) (sym root_typed ∙ kept)) in
+        let term : ty ≡ h.1 = same_Some ty h.1 (same_Some (Some ty) (Some h.1) (sym root_typed ∙ kept)) in
         let within : p.result < length p.values = slice_get_within p.values p.result number number_at in
         let apart : p.result ≡ p.root → ⊥ = λ e. absurd (omega (arith, e, within, above)) in
         let sees_it = seen.other p.result q.result apart (standing_is p.result q.values q.result value) in
@@ -394,6 +386,6 @@ own_are_accepted p m x formed es n e carried =
         let some = both (list_all is_named p.new) _ w.0 in
         let rest = both (list_all (spares p.root) p.new) _ some.1 in
         let number = same_is (result_type p) (root_type p) rest.1 in
-        let these : map (λ o. Make front o) r.0 ++ give x r.1 ≡ es = some_is _ es e in
+        let these : map (λ o. Make front o) r.0 ++ give x r.1 ≡ es = same_Some _ es e in
         subst (λ z. Free z m) these
         (accepted p m x formed front at o found one.0 one.1 r (parts m.tree (is_clean m.tree) m.next p x r w.1) rest.0 number.0 number.1 number.2 p.new refl (subst (HasRoom m) (sym these) (has_room es m n carried)))

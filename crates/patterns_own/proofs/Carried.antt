@@ -8,7 +8,6 @@ use Rattle.ir_event.specs.declared.world.World.{World}
 use Rattle.patterns_runs.specs.Contents.{Edit, all_edited}
 use Rattle.patterns_runs.specs.Held.{Held, module_held}
 use Rattle.patterns_runs.specs.Lists.{IsWhy}
-use Rattle.patterns_runs.proofs.Free.{free_wants}
 use Rattle.patterns_base.specs.Makes.{made_by}
 use Rattle.patterns_base.specs.Rewrites.{becomes, carried_out}
 use Rattle.patterns.specs.Applied.{limit_reason}
@@ -19,6 +18,7 @@ use Rattle.patterns_matched.specs.Built.{made_in, operand_in}
 use Rattle.patterns_own.specs.Planned.{planned_edits}
 use Rattle.patterns_own.specs.declared.find.Planned.{Planned}
 use Rattle.patterns_own.proofs.Accepted.{many_made}
+use Rattle.patterns_edits.proofs.Free.{free_why}
 
 module _ (w : World) (h : Held) (ctx : w.ctx ≡ h.ctx) (store : w.store ≡ h.store) (x : ℕ) (p : Planned) where
   same : module_in w ≡ module_held h
@@ -48,5 +48,5 @@ module _ (w : World) (h : Held) (ctx : w.ctx ≡ h.ctx) (store : w.store ≡ h.s
     -- they are refused for want of memory alone
     pub wanting : IsFree (planned_edits h.ctx (module_held h).next x p) (module_held h) → (g : Held) (made : List Edit) (e : Refusal) → module_held g ≡ module_held h → made ≡ planned_edits h.ctx n x p → IsWhy made (module_held g) e → e ≡ Memory
     wanting free g made e stays due why =
-        free_wants es (module_held h) e (free (all_edited es (module_held h)) (unlimited es (module_held h) k (makes ∙ sym count) no_reason))
+        free_why es (module_held h) e (free (all_edited es (module_held h)) (unlimited es (module_held h) k (makes ∙ sym count) no_reason))
         (subst (λ (z : List Edit × Module). IsWhy z.0 z.1 e) (λ i. ((due ∙ ap (λ j. planned_edits h.ctx j x p) (sym same_next)) i, stays i)) why)

@@ -37,6 +37,8 @@ use Rattle.patterns_matched.specs.declared.types.BoundType.{BoundType}
 use Rattle.patterns_matched.specs.declared.types.BoundType.TheVariants as bound
 use Rattle.patterns_own.specs.Planned.{EditStands, EntryStands, entries_of, makings, planned_edits}
 use Rattle.patterns_own.specs.declared.find.Planned.{Planned}
+use Rattle.patterns.proofs.Leaves.{flags_set}
+use Rattle.patterns_edits.proofs.Facts.{edits_more}
 
 -- ---- what stays where a context grows
 
@@ -176,10 +178,6 @@ module _ {B : Type 0} (means : B → Listener) (next : ℕ) (front : Place) (all
 
 -- ---- what is given
 
-meaning_joined : (c : Things) (es fs : List Coded) → edits_meaning c (es ++ fs) ≡ edits_meaning c es ++ edits_meaning c fs
-meaning_joined c [] fs = refl
-meaning_joined c (e ∷ es) fs = ap (λ z. edit_meaning c (numbered e) ∷ z) (meaning_joined c es fs)
-
 fit_joined : (c : Things) (es fs : List Coded) → AllFit c es → AllFit c fs → AllFit c (es ++ fs)
 fit_joined c [] fs h f = f
 fit_joined c (e ∷ es) fs h f = (h.0, fit_joined c es fs h.1 f)
@@ -189,8 +187,4 @@ pub given_stands : (a c : Things) (n x : ℕ) (p : Planned) (es after : List Cod
 given_stands a c n x p es after meaning fit is =
     let last = coded.Replace (Result x 0) (operand_in n p.built.result) ∷ coded.Erase x ∷ [] in
     subst (λ z. StandsFor c z (planned_edits a n x p)) (sym is)
-    (record { meaning = meaning_joined c es last ∙ ap (λ z. z ++ give x (operand_in n p.built.result)) meaning; fit = fit_joined c es last fit (tt, (tt, tt)) })
-
--- flags of which none are set
-pub flags_set : (name : List ℕ) → among flagged name ≡ true → flags name ≡ (codes "overflowFlags", Overflow false false) ∷ []
-flags_set name e = ap (λ b. if b then (codes "overflowFlags", Overflow false false) ∷ [] else []) e
+    (record { meaning = edits_more c es last ∙ ap (λ z. z ++ give x (operand_in n p.built.result)) meaning; fit = fit_joined c es last fit (tt, (tt, tt)) })

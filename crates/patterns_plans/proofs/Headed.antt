@@ -22,6 +22,7 @@ use Rattle.patterns_reads.specs.Rule.TheVariants.{ExpandDifference, ExpandRemain
 use Rattle.patterns_reads.specs.Rules.{rule}
 use Rattle.patterns_reads.specs.declared.plan.Plan.{Plan}
 use Rattle.patterns_plans.specs.Planned.{Making, IsPlanned, IsPlanAt}
+use Rattle.ir_event.proofs.Facts.{found_id}
 
 -- what is shown of x, with its id, is its head
 same_head : (x : ℕ) (t : Operation) (h : Header) (o : Operation) → Some h ≡ head_at x t → find x t ≡ Some o → record h { id = x } ≡ head o
@@ -135,10 +136,6 @@ at_expand_difference t n front h o e = ap (λ z. expand_difference t n front (op
 pub at_expand_remainder : LooksAtHead expand_remainder ExpandRemainder
 unfolding rule
 at_expand_remainder t n front h o e = ap (λ z. expand_remainder t n front (op z no_regions)) e
-
--- that a dead operation goes is asked of the operation itself
-found_id : (x : ℕ) (t o : Operation) → find x t ≡ Some o → (head o).id ≡ x
-found_id x t o e = let w = found_stands x t o e in ap (λ (z : Operation). (head z).id) (sym w.3) ∙ w.2
 
 dead_is : (x : ℕ) (t o : Operation) (b : Bool) → b ≡ dead_at x t → find x t ≡ Some o → b ≡ is_dead t o
 dead_is x t o b e f = e ∙ ap (dead_in t) f

@@ -1,5 +1,6 @@
 -- Rules that don't apply where a cheap test fails.
-use Rattle.std.proofs.Common.{◌≡◌, refl, ap, sym, ◌∙◌, ℕ, Bool, true, false, ◌&&◌, List, Option, Some, None}
+use Rattle.std.proofs.Common.{◌≡◌, refl, ap, sym, ◌∙◌, ℕ, Bool, true, false, ◌&&◌, List, [], ◌∷◌, Option, Some, None}
+use Rattle.ir_types.specs.Terms.{TypeTerm}
 use Rattle.std.specs.Prelude.{codes, is_some}
 use Rattle.ir_tree.specs.declared.place.Place.{Place}
 use Rattle.ir_tree.specs.declared.value.Value.{Value}
@@ -12,9 +13,9 @@ use Rattle.patterns_reads.specs.Casting.{resizing, extend_extension, cut_cast}
 use Rattle.patterns_reads.specs.Contents.{Edit}
 use Rattle.patterns_reads.specs.Folding.{swap_constant, drop_zero, drop_one, drop_all_ones, cancel_itself, keep_itself, zero_remainder, regroup_constants, add_negative, compare_itself, mirror_comparison, compare_zero, choose_same, choose_known, choose_truth, choose_opposite}
 use Rattle.patterns_reads.specs.Keeps.{given}
-use Rattle.patterns_reads.specs.Looks.{Header, One, Two, Three, giver, is_clean, is_constant, known, one, passes, predicate, source, source_among, two, three, when}
+use Rattle.patterns_reads.specs.Looks.{Header, One, Two, Three, giver, is_clean, is_constant, known, one, passes, predicate, source, source_among, two, two_from, three, when}
 use Rattle.patterns_reads.specs.Words.{among, extensions, named}
-use Rattle.patterns_plans.specs.May.{of_one, of_two, of_three, is_called, chooses_by_opposite, cuts_cast, extends_extension, first_is_constant, second_is_constant, chooses_by_constant, chooses_constant, has_twins, chooses_twins}
+use Rattle.patterns_plans.specs.May.{of_one, of_pair, of_three, is_called, chooses_by_opposite, cuts_cast, extends_extension, first_is_constant, second_is_constant, chooses_by_constant, chooses_constant, has_twins, chooses_twins}
 
 never : {X : Type 0} (a : Bool) (r : Option X) → None ≡ when (a && false) r
 never true r = refl
@@ -28,29 +29,45 @@ no_case : {X Y : Type 0} (o : Option X) → None ≡ given {X = X} {Y = Y} o (λ
 no_case None = refl
 no_case (Some x) = refl
 
+-- an operation of two operands and one result, by a test of the operands
+of_two : (Value → Value → Bool) → Option Two → Bool
+of_two f None = false
+of_two f (Some p) = f p.first p.second
+
+of_operands : (f : Value → Value → Bool) (h : Header) → of_pair f h.operands ≡ false → of_two f (two h) ≡ false
+of_operands f h e = go h.operands h.results e
+  where
+    go : (vs : List Value) (tys : List TypeTerm) → of_pair f vs ≡ false → of_two f (two_from h.name vs tys) ≡ false
+    go [] tys e = refl
+    go (a ∷ []) tys e = refl
+    go (a ∷ b ∷ []) [] e = refl
+    go (a ∷ b ∷ []) (ty ∷ []) e = e
+    go (a ∷ b ∷ []) (ty ∷ u ∷ tys) e = refl
+    go (a ∷ b ∷ c ∷ vs) tys e = refl
+
 module _ (t : Operation) where
   -- what isn't a constant's result isn't known
   unknown : (v : Value) → is_constant t v ≡ false → None ≡ known t v
   unknown v e = known_not t v (is_constant t v) refl e
 
-  second_passes : (a : Two → Bool) (f : Two → Known → Bool) (r : Two → Option (List Edit)) (q : Option Two) → of_two (λ p. is_constant t p.second) q ≡ false → None ≡ given q (λ p. when (a p && passes (f p) (known t p.second)) (r p))
+  second_passes : (a : Two → Bool) (f : Two → Known → Bool) (r : Two → Option (List Edit)) (q : Option Two) → of_two (λ a b. is_constant t b) q ≡ false → None ≡ given q (λ p. when (a p && passes (f p) (known t p.second)) (r p))
   second_passes a f r None e = refl
   second_passes a f r (Some p) e = never (a p) (r p) ∙ ap (λ k. when (a p && passes (f p) k) (r p)) (unknown p.second e)
 
-  second_given : (a : Two → Bool) (f : Two → Known → Option (List Edit)) (q : Option Two) → of_two (λ p. is_constant t p.second) q ≡ false → None ≡ given q (λ p. when (a p) (given (known t p.second) (f p)))
+  second_given : (a : Two → Bool) (f : Two → Known → Option (List Edit)) (q : Option Two) → of_two (λ a b. is_constant t b) q ≡ false → None ≡ given q (λ p. when (a p) (given (known t p.second) (f p)))
   second_given a f None e = refl
   second_given a f (Some p) e = nothing (a p) ∙ ap (λ k. when (a p) (given k (f p))) (unknown p.second e)
 
-  second_compared : (a : Two → Bool) (o : Option ℕ) (f : Known → Bool) (g : ℕ → Bool) (r : Two → ℕ → Option (List Edit)) (q : Option Two) → of_two (λ p. is_constant t p.second) q ≡ false
+  second_compared : (a : Two → Bool) (o : Option ℕ) (f : Known → Bool) (g : ℕ → Bool) (r : Two → ℕ → Option (List Edit)) (q : Option Two) → of_two (λ a b. is_constant t b) q ≡ false
       → None ≡ given q (λ p. when (a p) (given o (λ asks. when (passes f (known t p.second) && g asks) (r p asks))))
   second_compared a o f g r None e = refl
   second_compared a o f g r (Some p) e = nothing (a p) ∙ ap (when (a p)) (no_case o) ∙ ap (λ k. when (a p) (given o (λ asks. when (passes f k && g asks) (r p asks)))) (unknown p.second e)
 
-  first_swapped : (a : Two → Bool) (g : Two → Bool) (r : Two → Option (List Edit)) (q : Option Two) → of_two (λ p. is_constant t p.first) q ≡ false → None ≡ given q (λ p. when (a p && (is_some (known t p.first) && g p)) (r p))
+  first_swapped : (a : Two → Bool) (g : Two → Bool) (r : Two → Option (List Edit)) (q : Option Two) → of_two (λ a b. is_constant t a) q ≡ false → None ≡ given q (λ p. when (a p && (is_some (known t p.first) && g p)) (r p))
   first_swapped a g r None e = refl
   first_swapped a g r (Some p) e = never (a p) (r p) ∙ ap (λ k. when (a p && (is_some k && g p)) (r p)) (unknown p.first e)
 
-  first_compared : (a : Two → Bool) (o : Option ℕ) (g : Two → Bool) (r : Two → ℕ → Option (List Edit)) (q : Option Two) → of_two (λ p. is_constant t p.first) q ≡ false
+  first_compared : (a : Two → Bool) (o : Option ℕ) (g : Two → Bool) (r : Two → ℕ → Option (List Edit)) (q : Option Two) → of_two (λ a b. is_constant t a) q ≡ false
       → None ≡ given q (λ p. when (a p) (given o (λ asks. when (is_some (known t p.first) && g p) (r p asks))))
   first_compared a o g r None e = refl
   first_compared a o g r (Some p) e = nothing (a p) ∙ ap (when (a p)) (no_case o) ∙ ap (λ k. when (a p) (given o (λ asks. when (is_some k && g p) (r p asks)))) (unknown p.first e)
@@ -64,11 +81,11 @@ module _ (t : Operation) where
   second_chosen a b f g r None e = refl
   second_chosen a b f g r (Some p) e = nothing (a p) ∙ ap (when (a p)) (never (b p) (r p)) ∙ ap (λ k. when (a p) (when (b p && (passes f k && g p)) (r p))) (unknown p.second e)
 
-twins_pass : (a : Two → Bool) (r : Two → Option (List Edit)) (q : Option Two) → of_two (λ p. same_value p.first p.second) q ≡ false → None ≡ given q (λ p. when (a p && same_value p.first p.second) (r p))
+twins_pass : (a : Two → Bool) (r : Two → Option (List Edit)) (q : Option Two) → of_two same_value q ≡ false → None ≡ given q (λ p. when (a p && same_value p.first p.second) (r p))
 twins_pass a r None e = refl
 twins_pass a r (Some p) e = never (a p) (r p) ∙ ap (λ b. when (a p && b) (r p)) (sym e)
 
-twins_compared : (a : Two → Bool) (o : Option ℕ) (r : Two → ℕ → Option (List Edit)) (q : Option Two) → of_two (λ p. same_value p.first p.second) q ≡ false → None ≡ given q (λ p. when (a p) (given o (λ asks. when (same_value p.first p.second) (r p asks))))
+twins_compared : (a : Two → Bool) (o : Option ℕ) (r : Two → ℕ → Option (List Edit)) (q : Option Two) → of_two same_value q ≡ false → None ≡ given q (λ p. when (a p) (given o (λ asks. when (same_value p.first p.second) (r p asks))))
 twins_compared a o r None e = refl
 twins_compared a o r (Some p) e = nothing (a p) ∙ ap (when (a p)) (no_case o) ∙ ap (λ b. when (a p) (given o (λ asks. when b (r p asks)))) (sym e)
 
@@ -79,31 +96,31 @@ twins_chosen a r (Some p) e = nothing (a p) ∙ ap (λ b. when (a p) (when b (r 
 -- each rule
 module _ (t : Operation) (n : ℕ) (front : Place) (o : Operation) where
   pub never_drop_zero : second_is_constant t (head o) ≡ false → None ≡ drop_zero t n front o
-  never_drop_zero e = second_passes t _ _ _ (two (head o)) e
+  never_drop_zero e = second_passes t _ _ _ (two (head o)) (of_operands (λ a b. is_constant t b) (head o) e)
 
   pub never_drop_one : second_is_constant t (head o) ≡ false → None ≡ drop_one t n front o
-  never_drop_one e = second_passes t _ _ _ (two (head o)) e
+  never_drop_one e = second_passes t _ _ _ (two (head o)) (of_operands (λ a b. is_constant t b) (head o) e)
 
   pub never_drop_all_ones : second_is_constant t (head o) ≡ false → None ≡ drop_all_ones t n front o
-  never_drop_all_ones e = second_passes t _ _ _ (two (head o)) e
+  never_drop_all_ones e = second_passes t _ _ _ (two (head o)) (of_operands (λ a b. is_constant t b) (head o) e)
 
   pub never_zero_remainder : second_is_constant t (head o) ≡ false → None ≡ zero_remainder t n front o
-  never_zero_remainder e = second_passes t _ _ _ (two (head o)) e
+  never_zero_remainder e = second_passes t _ _ _ (two (head o)) (of_operands (λ a b. is_constant t b) (head o) e)
 
   pub never_regroup_constants : second_is_constant t (head o) ≡ false → None ≡ regroup_constants t n front o
-  never_regroup_constants e = second_given t _ _ (two (head o)) e
+  never_regroup_constants e = second_given t _ _ (two (head o)) (of_operands (λ a b. is_constant t b) (head o) e)
 
   pub never_add_negative : second_is_constant t (head o) ≡ false → None ≡ add_negative t n front o
-  never_add_negative e = second_given t _ _ (two (head o)) e
+  never_add_negative e = second_given t _ _ (two (head o)) (of_operands (λ a b. is_constant t b) (head o) e)
 
   pub never_compare_zero : second_is_constant t (head o) ≡ false → None ≡ compare_zero t n front o
-  never_compare_zero e = second_compared t _ (predicate (head o)) _ _ _ (two (head o)) e
+  never_compare_zero e = second_compared t _ (predicate (head o)) _ _ _ (two (head o)) (of_operands (λ a b. is_constant t b) (head o) e)
 
   pub never_swap_constant : first_is_constant t (head o) ≡ false → None ≡ swap_constant t n front o
-  never_swap_constant e = first_swapped t _ _ _ (two (head o)) e
+  never_swap_constant e = first_swapped t _ _ _ (two (head o)) (of_operands (λ a b. is_constant t a) (head o) e)
 
   pub never_mirror_comparison : first_is_constant t (head o) ≡ false → None ≡ mirror_comparison t n front o
-  never_mirror_comparison e = first_compared t _ (predicate (head o)) _ _ (two (head o)) e
+  never_mirror_comparison e = first_compared t _ (predicate (head o)) _ _ (two (head o)) (of_operands (λ a b. is_constant t a) (head o) e)
 
   pub never_choose_known : chooses_by_constant t (head o) ≡ false → None ≡ choose_known t n front o
   never_choose_known e = first_chosen t _ _ (three (head o)) e
@@ -112,13 +129,13 @@ module _ (t : Operation) (n : ℕ) (front : Place) (o : Operation) where
   never_choose_truth e = second_chosen t _ _ _ _ _ (three (head o)) e
 
   pub never_cancel_itself : has_twins (head o) ≡ false → None ≡ cancel_itself t n front o
-  never_cancel_itself e = twins_pass _ _ (two (head o)) e
+  never_cancel_itself e = twins_pass _ _ (two (head o)) (of_operands same_value (head o) e)
 
   pub never_keep_itself : has_twins (head o) ≡ false → None ≡ keep_itself t n front o
-  never_keep_itself e = twins_pass _ _ (two (head o)) e
+  never_keep_itself e = twins_pass _ _ (two (head o)) (of_operands same_value (head o) e)
 
   pub never_compare_itself : has_twins (head o) ≡ false → None ≡ compare_itself t n front o
-  never_compare_itself e = twins_compared _ (predicate (head o)) _ (two (head o)) e
+  never_compare_itself e = twins_compared _ (predicate (head o)) _ (two (head o)) (of_operands same_value (head o) e)
 
   pub never_choose_same : chooses_twins (head o) ≡ false → None ≡ choose_same t n front o
   never_choose_same e = twins_chosen _ _ (three (head o)) e

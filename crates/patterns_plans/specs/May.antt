@@ -1,18 +1,19 @@
 -- Tests that an operation passes where rules may apply at it.
-use Rattle.std.specs.Prelude.{ℕ, List, codes, Bool, false, Option, Some, None}
-use Rattle.std.specs.List.{list_any}
+use Rattle.std.specs.Prelude.{ℕ, List, [], ◌∷◌, codes, Bool, false, if◌then◌else◌, Option, Some, None}
+use Rattle.std.specs.List.{list_all, list_any}
+use Rattle.ir_tree.specs.declared.value.Value.{Value}
 use Rattle.ir_tree.specs.Uses.{same_value}
 use Rattle.ir_tree.specs.Meaning.{Operation}
 use Rattle.patterns_reads.specs.Casting.{resizing}
-use Rattle.patterns_reads.specs.Looks.{Header, One, Two, Three, giver, is_constant, one, two, three}
+use Rattle.patterns_reads.specs.Looks.{Header, One, Three, giver, is_constant, one, three}
 use Rattle.patterns_reads.specs.Words.{among, extensions, named}
 
--- whether an operation has two operands and one result, and passes a test
-abbrev pub of_two : (Two → Bool) → Option Two → Bool
-of_two f None = false
-of_two f (Some p) = f p
+-- whether there are two operands, and they pass a test
+abbrev pub of_pair : (Value → Value → Bool) → List Value → Bool
+of_pair f (a ∷ b ∷ []) = f a b
+of_pair f _ = false
 
--- three operands
+-- whether an operation has three operands and one result, and passes a test
 abbrev pub of_three : (Three → Bool) → Option Three → Bool
 of_three f None = false
 of_three f (Some p) = f p
@@ -20,10 +21,10 @@ of_three f (Some p) = f p
 module _ (t : Operation) (h : Header) where
   -- whether the first of two operands is the result of a constant
   abbrev pub first_is_constant : Bool
-  first_is_constant = of_two (λ p. is_constant t p.first) (two h)
+  first_is_constant = of_pair (λ a b. is_constant t a) h.operands
 
   abbrev pub second_is_constant : Bool
-  second_is_constant = of_two (λ p. is_constant t p.second) (two h)
+  second_is_constant = of_pair (λ a b. is_constant t b) h.operands
 
   -- whether a choice is by one, and whether one is its first alternative
   abbrev pub chooses_by_constant : Bool
@@ -34,14 +35,25 @@ module _ (t : Operation) (h : Header) where
 
 -- whether two operands are one value, and whether the alternatives of a choice are
 abbrev pub has_twins : Header → Bool
-has_twins h = of_two (λ p. same_value p.first p.second) (two h)
+has_twins h = of_pair same_value h.operands
 
 abbrev pub chooses_twins : Header → Bool
 chooses_twins h = of_three (λ p. same_value p.second p.third) (three h)
 
--- whether some operand is the result of a constant
+-- whether some operand is the result of a constant, and whether each is
 abbrev pub reads_constant : Operation → Header → Bool
 reads_constant t h = list_any (is_constant t) h.operands
+
+abbrev pub reads_constants : Operation → Header → Bool
+reads_constants t h = list_all (is_constant t) h.operands
+
+-- which may fold where not each of their operands is known
+unfoldable pub partial : List (List ℕ)
+partial = codes "arith.muli" ∷ codes "arith.andi" ∷ codes "arith.ori" ∷ codes "arith.select" ∷ []
+
+-- whether as many operands are results of constants as a fold asks for
+abbrev pub may_fold : Operation → Header → Bool
+may_fold t h = if among partial h.name then reads_constant t h else reads_constants t h
 
 -- one operand
 abbrev pub of_one : (One → Bool) → Option One → Bool

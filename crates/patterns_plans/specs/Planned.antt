@@ -7,6 +7,7 @@ use Rattle.ir_tree.specs.Meaning.{Operation}
 use Rattle.ir_store.specs.Nodes.{Node}
 use Rattle.ir_event.specs.declared.world.World.{World}
 use Rattle.ir_event.specs.Modules.{module_in}
+use Rattle.effects.specs.Dead.{dead_at}
 use Rattle.patterns_reads.specs.Contents.{Edit}
 use Rattle.patterns_reads.specs.Plans.{plan_meaning, PlanIsOf}
 use Rattle.patterns_reads.specs.Reads.{bare_in}
@@ -31,6 +32,10 @@ IsPlanned makes w x node p = (n : ℕ) (front : Place)
 abbrev pub IsPlanAt : Rule → World → ℕ → Option Plan → Type 0
 IsPlanAt r w x p = (o : Operation) → find x (module_in w).tree ≡ Some o → (n : ℕ) (front : Place)
     → option_map (plan_meaning w.ctx n x front) p ≡ rule r (module_in w).tree n front o
+
+-- operation x is in a world's module, and dead
+abbrev pub IsDead : World → ℕ → Type 0
+IsDead w x = dead_at x (module_in w).tree ≡ true
 
 -- whether a rule opens a branch or a loop, so that operations inside it move
 abbrev pub is_opening : Rule → Bool

@@ -1,9 +1,11 @@
 //! Rules that give a constant for an operation's result.
-ghost use Rattle.std.specs.Prelude.{◌≡◌, IfOk, ℕ, map, option_map};
+ghost use Rattle.std.specs.Prelude.{◌≡◌, IfOk, Some, ℕ, [], ◌∷◌, codes, false, map, option_map};
+ghost use Rattle.ir_types.specs.Terms.{name_term};
 ghost use Rattle.ir_event.specs.Modules.{NodeIsOf, module_in};
 ghost use Rattle.dialects_int.specs.Folds.{known_of};
 ghost use Rattle.patterns_reads.specs.Folding.{fold_to_constant, cancel_itself, zero_remainder, compare_itself};
 ghost use Rattle.patterns_reads.specs.Folding.{compare_zero};
+ghost use Rattle.patterns_laws.specs.Words.{named};
 ghost use Rattle.patterns_plans.specs.Numbers.{known_each, readable};
 ghost use Rattle.patterns_plans.specs.Planned.{FitsIn, IsPlanned};
 
@@ -26,13 +28,13 @@ use std::alloc::{AllocError, Global};
 fn readable(alloc: Global, world: &World, value: &Value) -> Result<Option<Option<Bits>>, AllocError>
     ensures { IfOk result (λ r. option_map known_of r ≡ readable (module_in world.now).tree value.now) }
 {
-    if !is_constant(world, value) {
-        return Ok(Some(None));
+    if let Some(bits) = known(alloc, world, value)? {
+        return Ok(Some(Some(bits)));
     }
-    match known(alloc, world, value)? {
-        Some(bits) => Ok(Some(Some(bits))),
-        None => Ok(None),
+    if is_constant(world, value) {
+        return Ok(None);
     }
+    Ok(Some(None))
 }
 
 /// What is known of each of some values, if each is no constant, or a clean one.
@@ -56,6 +58,68 @@ fn known_each(
     Ok(Some(known))
 }
 
+/// The constant that an operation that is none folds to, where this is known of its operands.
+fn folded(world: &World, node: &Node<'_>, operands: &[Option<Bits>]) -> Option<Plan>
+    requires of { NodeIsOf world.now.ctx node.now }
+    requires named { named (codes "arith.constant") (name_term world.now.ctx node.now.head.name) ≡ false }
+    requires known { Some (map known_of operands.now) ≡ known_each (module_in world.now).tree node.now.head.operands }
+    ensures edits { (x : ℕ) → IsPlanned fold_to_constant world.now x node.now result }
+    ensures fit { FitsIn world.now.ctx result }
+{
+    let [ty] = node.results() else {
+        return None;
+    };
+    match fold(
+        &world.ctx,
+        node.name(),
+        node.properties(),
+        operands,
+        node.results(),
+    ) {
+        Some(bits) => Some(Plan::Constant {
+            ty: *ty,
+            bits: bits.value,
+        }),
+        None => None,
+    }
+}
+
+/// The constant that an operation that is none folds to over its constant operands, however many it has.
+fn fold_each(alloc: Global, world: &World, node: &Node<'_>) -> Result<Option<Plan>, AllocError>
+    requires of { NodeIsOf world.now.ctx node.now }
+    requires named { named (codes "arith.constant") (name_term world.now.ctx node.now.head.name) ≡ false }
+    ensures edits { (x : ℕ) → IfOk result (IsPlanned fold_to_constant world.now x node.now) }
+    ensures fit { IfOk result (FitsIn world.now.ctx) }
+{
+    let Some(operands) = known_each(alloc, world, node.operands())? else {
+        return Ok(None);
+    };
+    Ok(folded(world, node, &operands))
+}
+
+/// The like of two operands, which takes no memory.
+fn fold_two(
+    alloc: Global,
+    world: &World,
+    node: &Node<'_>,
+    first: &Value,
+    second: &Value,
+) -> Result<Option<Plan>, AllocError>
+    requires of { NodeIsOf world.now.ctx node.now }
+    requires named { named (codes "arith.constant") (name_term world.now.ctx node.now.head.name) ≡ false }
+    requires operands { node.now.head.operands ≡ first.now ∷ second.now ∷ [] }
+    ensures edits { (x : ℕ) → IfOk result (IsPlanned fold_to_constant world.now x node.now) }
+    ensures fit { IfOk result (FitsIn world.now.ctx) }
+{
+    let Some(one) = readable(alloc, world, first)? else {
+        return Ok(None);
+    };
+    let Some(other) = readable(alloc, world, second)? else {
+        return Ok(None);
+    };
+    Ok(folded(world, node, &[one, other]))
+}
+
 /// No constant, and folds over its constant operands: the constant.
 pub(crate) fn plan_fold_to_constant(
     alloc: Global,
@@ -69,24 +133,9 @@ pub(crate) fn plan_fold_to_constant(
     if world.ctx.is_word(node.name(), Word::ArithConstant) {
         return Ok(None);
     }
-    let Some(operands) = known_each(alloc, world, node.operands())? else {
-        return Ok(None);
-    };
-    let [ty] = node.results() else {
-        return Ok(None);
-    };
-    match fold(
-        &world.ctx,
-        node.name(),
-        node.properties(),
-        &operands,
-        node.results(),
-    ) {
-        Some(bits) => Ok(Some(Plan::Constant {
-            ty: *ty,
-            bits: bits.value,
-        })),
-        None => Ok(None),
+    match node.operands() {
+        [first, second] => fold_two(alloc, world, node, first, second),
+        _ => fold_each(alloc, world, node),
     }
 }
 

@@ -28,7 +28,7 @@ pub(crate) fn give(alloc: Global, op: OpId, value: Value) -> Result<Plan, AllocE
     ensures edits { IfOk result (λ p. (c : Things) (n : ℕ) (front : At) → plan_meaning c n op front p ≡ give op value) }
     ensures fit { IfOk result (λ p. (c : Things) → PlanIsOf c p) }
 {
-    let mut edits = Vec::new(alloc);
+    let mut edits = Vec::with_capacity(alloc, 2)?;
     edits.push(Edit::Replace {
         old: Value::Result(op, 0),
         new: value,

@@ -4,7 +4,7 @@
 mod casts;
 mod combined;
 mod constant;
-mod dead;
+pub mod dead;
 mod expanded;
 mod given;
 mod in_place;

@@ -1,5 +1,6 @@
 //! Whether rules may apply, by tests that ask for no diagnostics and take no memory.
 ghost use Rattle.std.specs.Prelude.{◌≡◌, ◌≤◌, None, Some, codes, false};
+ghost use Rattle.ir_types.specs.Terms.{name_term};
 ghost use Rattle.ir_event.specs.Modules.{module_in};
 ghost use Rattle.patterns_reads.specs.Casting.{resizing};
 ghost use Rattle.patterns_reads.specs.Looks.{giver};
@@ -7,7 +8,7 @@ ghost use Rattle.patterns_laws.specs.Words.{among, extensions, named};
 ghost use Rattle.patterns_reads.specs.Reads.{head_at, head_in};
 ghost use Rattle.patterns_plans.specs.May.{chooses_by_constant, chooses_by_opposite, chooses_constant, chooses_twins};
 ghost use Rattle.patterns_plans.specs.May.{cuts_cast, extends_extension, first_is_constant, has_twins, is_called};
-ghost use Rattle.patterns_plans.specs.May.{reads_constant, second_is_constant};
+ghost use Rattle.patterns_plans.specs.May.{may_fold, partial, reads_constant, reads_constants, second_is_constant};
 ghost use Rattle.patterns_plans.specs.Planned.{IsPlanAt};
 
 use effects::dead_op::dead_op;
@@ -15,20 +16,21 @@ use ir_event::world::World;
 use ir_store::node::Node;
 use ir_tree::uses::is_same;
 use ir_tree::value::Value;
-use ir_types::ids::OpId;
+use ir_types::context::Context;
+use ir_types::ids::{NameId, OpId};
 use ir_types::word::Word;
 use patterns_reads::look::{giver_node, is_constant};
 use patterns_reads::rule::Rule;
-use patterns_reads::shapes::{one_of, three_of, two_of};
+use patterns_reads::shapes::{one_of, three_of};
 use patterns_reads::words::{is_extension, is_resizing};
 
 /// Whether the first of two operands is the result of a constant.
 fn first_is_constant(world: &World, node: &Node<'_>) -> bool
     ensures { result ≡ first_is_constant (module_in world.now).tree (head_in world.now.ctx node.now) }
 {
-    match two_of(node) {
-        Some(p) => is_constant(world, &p.first),
-        None => false,
+    match node.operands() {
+        [first, _] => is_constant(world, first),
+        _ => false,
     }
 }
 
@@ -36,9 +38,9 @@ fn first_is_constant(world: &World, node: &Node<'_>) -> bool
 fn second_is_constant(world: &World, node: &Node<'_>) -> bool
     ensures { result ≡ second_is_constant (module_in world.now).tree (head_in world.now.ctx node.now) }
 {
-    match two_of(node) {
-        Some(p) => is_constant(world, &p.second),
-        None => false,
+    match node.operands() {
+        [_, second] => is_constant(world, second),
+        _ => false,
     }
 }
 
@@ -66,9 +68,9 @@ fn chooses_constant(world: &World, node: &Node<'_>) -> bool
 fn has_twins(world: &World, node: &Node<'_>) -> bool
     ensures { result ≡ has_twins (head_in world.now.ctx node.now) }
 {
-    match two_of(node) {
-        Some(p) => is_same(&p.first, &p.second),
-        None => false,
+    match node.operands() {
+        [first, second] => is_same(first, second),
+        _ => false,
     }
 }
 
@@ -94,6 +96,41 @@ fn reads_constant(world: &World, node: &Node<'_>) -> bool
         rest = tail;
     }
     false
+}
+
+/// Whether each is.
+fn reads_constants(world: &World, node: &Node<'_>) -> bool
+    ensures { result ≡ reads_constants (module_in world.now).tree (head_in world.now.ctx node.now) }
+{
+    let mut rest = node.operands();
+    'operands: while let [value, tail @ ..] = rest {
+        if !is_constant(world, value) {
+            return false;
+        }
+        rest = tail;
+    }
+    true
+}
+
+/// Whether an operation may fold where not each of its operands is known.
+#[tactic(auto, unfolding(crate::specs::May::partial))]
+fn is_partial(ctx: &Context, name: NameId) -> bool
+    ensures { result ≡ among partial (name_term ctx.now name) }
+{
+    ctx.is_word(name, Word::ArithMuli)
+        || ctx.is_word(name, Word::ArithAndi)
+        || ctx.is_word(name, Word::ArithOri)
+        || ctx.is_word(name, Word::ArithSelect)
+}
+
+/// Whether as many operands are results of constants as its fold asks for.
+fn may_fold(world: &World, node: &Node<'_>) -> bool
+    ensures { result ≡ may_fold (module_in world.now).tree (head_in world.now.ctx node.now) }
+{
+    if is_partial(&world.ctx, node.name()) {
+        return reads_constant(world, node);
+    }
+    reads_constants(world, node)
 }
 
 /// Whether a value is the result of an extension.
@@ -164,7 +201,7 @@ pub fn may_apply(world: &World, rule: Rule, op: OpId, node: &Node<'_>) -> bool
 {
     match rule {
         Rule::EraseDead => dead_op(world, op),
-        Rule::FoldToConstant => reads_constant(world, node),
+        Rule::FoldToConstant => may_fold(world, node),
         Rule::SwapConstant => first_is_constant(world, node),
         Rule::DropZero => second_is_constant(world, node),
         Rule::DropOne => second_is_constant(world, node),

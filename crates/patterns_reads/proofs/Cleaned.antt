@@ -48,6 +48,10 @@ source_no t v x k h b e f g n = sym (ap (clean_giver t) e ∙ ap (λ o. given o 
 pub source_yes : (t : Operation) (v : Value) (x k : ℕ) (h : Header) (b : Bool) → v ≡ Result x k → Some h ≡ head_at x t → b ≡ is_clean t (record h { id = x }) → b ≡ true → Some h ≡ clean_giver t v
 source_yes t v x k h b e f g n = sym (ap (clean_giver t) e ∙ ap (λ o. given o (λ h. when (is_clean t h) (Some h))) (sym f) ∙ ap (λ c. when c (Some h)) (ap (λ i. is_clean t (record h { id = i })) (own_id x t h f) ∙ sym g ∙ n))
 
+-- whether it is the result of a constant, by what that is named
+pub constant_is : (t : Operation) (v : Value) (x k : ℕ) (h : Header) (b : Bool) → v ≡ Result x k → Some h ≡ head_at x t → b ≡ named (codes "arith.constant") h.name → b ≡ is_constant t v
+constant_is t v x k h b e f g = g ∙ ap is_of_constant f ∙ sym (ap (is_constant t) e)
+
 -- what is known
 pub known_not : (t : Operation) (v : Value) (b : Bool) → b ≡ is_constant t v → b ≡ false → None ≡ known t v
 known_not t v b e f = go (giver t v) (sym e ∙ f) ∙ sym (known_is t v)

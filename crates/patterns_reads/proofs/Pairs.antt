@@ -18,6 +18,7 @@ use Rattle.ir_verify.specs.Breaks.{told_in, numbers_from, broken}
 use Rattle.patterns_base.specs.Keeps.{Each}
 use Rattle.patterns_laws.specs.Words.{among}
 use Rattle.patterns_reads.specs.Pairs.{pairs, AreFlags}
+use Rattle.ir_types.proofs.Truths.{none_left}
 
 -- rules of which none is told
 pub none_told : (n : ℕ) (bs : List Bool) → list_all not bs ≡ true → numbers_from n bs ≡ []
@@ -128,9 +129,6 @@ pub pair_unbroken : (name : List ℕ) → among pairs name ≡ true → Fine nam
 pair_unbroken name e = among_each Fine pairs name each_fine e
 
 -- ---- what is read
-pub none_in : {X : Type 0} (xs : List X) → length xs < 1 → xs ≡ []
-none_in [] l = refl
-none_in (x ∷ xs) l = absurd (omega (arith, l))
 
 pub one_in : {X : Type 0} (xs : List X) (x d : X) → 1 ≤ length xs → length xs < 2 → x ≡ slice_index_or xs 0 d → xs ≡ x ∷ []
 one_in [] x d l m e = absurd (omega (arith, l))

@@ -6,8 +6,8 @@ ghost use Rattle.ir_types.specs.WordNames.{word_bytes};
 ghost use Rattle.patterns_base.specs.Looks.{constant_value, is_known, is_number, known, source};
 ghost use Rattle.patterns_reads.specs.Reads.{clean_giver, head_in};
 
-use crate::clean::is_clean;
-use crate::look::{giver_node, is_constant, shown};
+use crate::clean::is_clean_shown;
+use crate::look::{giver_node, shown};
 use dialects_int::fold::fold;
 use ir_store::node::Node;
 use ir_tree::value::Value;
@@ -41,7 +41,7 @@ pub fn clean_giver<'a>(
     let Some(node) = shown(world, *op) else {
         return Ok(None);
     };
-    if !is_clean(alloc, world, *op, &node)? {
+    if !is_clean_shown(alloc, world, *op, &node)? {
         return Ok(None);
     }
     Ok(Some(node))
@@ -72,13 +72,20 @@ pub fn source<'a>(
 pub fn known(alloc: Global, world: &World, value: &Value) -> Result<Option<Bits>, AllocError>
     ensures { IfOk result (λ k. known_of k ≡ known (module_in world.now).tree value.now) }
 {
-    if !is_constant(world, value) {
+    let op = match value {
+        Value::Result(op, _) => *op,
+        Value::Arg(..) => return Ok(None),
+    };
+    let Some(node) = shown(world, op) else {
+        return Ok(None);
+    };
+    if !world.ctx.is_word(node.name(), Word::ArithConstant) {
         return Ok(None);
     }
-    match clean_giver(alloc, world, value)? {
-        Some(node) => Ok(constant_bits(&world.ctx, &node)),
-        None => Ok(None),
+    if !is_clean_shown(alloc, world, op, &node)? {
+        return Ok(None);
     }
+    Ok(constant_bits(&world.ctx, &node))
 }
 
 /// Whether a value is known.

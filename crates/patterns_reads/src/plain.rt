@@ -1,8 +1,10 @@
 //! Operations that break no rule of the verifier by their own form and the types of their operands, wherever they stand:
 //! constants, and arithmetic of two operands.
-ghost use Rattle.std.specs.Prelude.{◌≡◌, true};
+ghost use Rattle.std.specs.Prelude.{◌≡◌, Some, option_map, true};
 ghost use Rattle.std.specs.List.{All};
 ghost use Rattle.ir_types.specs.Things.{IsAttr};
+ghost use Rattle.ir_tree.specs.Ids.{find};
+ghost use Rattle.ir_store.specs.Nodes.{node_of};
 ghost use Rattle.ir_types.specs.Terms.{name_term};
 ghost use Rattle.dialects_int.specs.Folds.{entries_of};
 ghost use Rattle.patterns_laws.specs.Words.{among};
@@ -31,7 +33,16 @@ pub(crate) fn is_plain(world: &World, op: OpId) -> bool
     let Some(node) = world.shown(op) else {
         return false;
     };
-    has_plain_form(&world.ctx, &node) || has_pair_form(world, &node)
+    is_plain_shown(world, op, &node)
+}
+
+/// The same of an operation of which this is shown.
+pub(crate) fn is_plain_shown(world: &World, op: OpId, node: &Node<'_>) -> bool
+    requires stored { Some node.now ≡ option_map node_of (find op world.now.store.module_of.tree) }
+    requires of { NodeIsOf world.now.ctx node.now }
+    ensures { result ≡ true → breaks_none (broken_at op (module_in world.now).tree) ≡ true }
+{
+    has_plain_form(&world.ctx, node) || has_pair_form(world, node)
 }
 
 /// Whether what an operation has is that of a constant without operands and regions, of one result, whose value is its

@@ -17,6 +17,7 @@ use Rattle.patterns_reads.specs.Reads.{head_at}
 use Rattle.patterns_reads.proofs.Meant.{head_meaning}
 use Rattle.patterns_regions.specs.Blocks.{but_last, before_in, before_at, body_at}
 use Rattle.patterns_regions.proofs.Walking.{found_read}
+use Rattle.ir_tree_laws.proofs.Contents.{map_ops_at, map_region_at}
 
 module _ {N T A : Type 0} where
   -- the last of a list that isn't empty
@@ -36,22 +37,9 @@ module _ {N T A M U B : Type 0} (f : N → M) (g : T → U) (h : A → B) where
   map_the_head : (o : OpOf N T A) → head (map_tree f g h o) ≡ map_head f g h (head o)
   map_the_head (op x rs) = refl
 
-  map_region_at : (r : ℕ) (rs : RegionsOf N T A) → region_at r (map_regions f g h rs) ≡ option_map (map_region f g h) (region_at r rs)
-  map_region_at r no_regions = refl
-  map_region_at zero (region a rs) = refl
-  map_region_at (suc r) (region a rs) = map_region_at r rs
-
-  map_ops_at : (p r : ℕ) (t : OpOf N T A) → ops_at p r (map_tree f g h t) ≡ option_map (map_ops f g h) (ops_at p r t)
-  map_ops_at p r t = ap (option_and_then (λ (o : OpOf M U B). option_and_then ops_in (region_at r (regions o)))) (map_find f g h p t) ∙ go (find p t)
-    where
-      inside : (o : Option (RegionOf N T A)) → option_and_then ops_in (option_map (map_region f g h) o) ≡ option_map (map_ops f g h) (option_and_then ops_in o)
-      inside None = refl
-      inside (Some empty) = refl
-      inside (Some (block args os)) = refl
-
       go : (o : Option (OpOf N T A)) → option_and_then (λ (o : OpOf M U B). option_and_then ops_in (region_at r (regions o))) (option_map (map_tree f g h) o) ≡ option_map (map_ops f g h) (option_and_then (λ (o : OpOf N T A). option_and_then ops_in (region_at r (regions o))) o)
       go None = refl
-      go (Some (op y rs)) = ap (option_and_then ops_in) (map_region_at r rs) ∙ inside (region_at r rs)
+      go (Some (op y rs)) = ap (option_and_then ops_in) ((map_region_at f g h) r rs) ∙ inside (region_at r rs)
 
   map_but_last : (o : OpOf N T A) (os : OpsOf N T A) → but_last (map_tree f g h o) (map_ops f g h os) ≡ but_last o os
   map_but_last o no_ops = refl
@@ -99,7 +87,7 @@ module _ (c : Things) (x r : ℕ) (t : Op) where
   moved = map_ops (name_term c) (type_term c) (attr_term c)
 
   whole : body_at x r (meaning c t) ≡ closed (meaning c t) (option_map (map_ops (name_term c) (type_term c) (attr_term c)) (ops_at x r t))
-  whole = body_closed x r m ∙ ap (closed m) (map_ops_at (name_term c) (type_term c) (attr_term c) x r t)
+  whole = body_closed x r m ∙ ap (closed m) ((map_ops_at f g h) (name_term c) (type_term c) (attr_term c) x r t)
 
   -- a block that has no last operation
   pub body_no_last : None ≡ last_at x r t → None ≡ body_at x r (meaning c t)

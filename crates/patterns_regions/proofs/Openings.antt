@@ -12,13 +12,14 @@ use Rattle.patterns_edits.specs.declared.edit.Edit.{Edit as Coded}
 use Rattle.patterns_edits.specs.declared.edit.Edit.TheVariants as coded
 use Rattle.patterns_reads.specs.Makes.{arguments_from, results_from, replacing, moving}
 use Rattle.patterns_regions.specs.Opened.{opening, put_for, argument_edits, move_edits, result_edits}
+use Rattle.patterns_edits.proofs.Facts.{edits_more}
 
 module _ (c : Things) where
   arguments_meant : (x k : ℕ) (vs : List Value) → edits_meaning c (argument_edits x k vs) ≡ replacing (arguments_from x k vs) vs
   arguments_meant x k [] = refl
   arguments_meant x k (v ∷ vs) = ap (λ l. Replace (Arg x 0 k) v ∷ l) (arguments_meant x (k + 1) vs)
 
-  moves_meant : (place : Place) (xs : List ℕ) → edits_meaning c (move_edits place xs) ≡ moving place xs
+  pub moves_meant : (place : Place) (xs : List ℕ) → edits_meaning c (move_edits place xs) ≡ moving place xs
   moves_meant place [] = refl
   moves_meant place (x ∷ xs) = ap (λ l. Move x place ∷ l) (moves_meant place xs)
 
@@ -26,9 +27,6 @@ module _ (c : Things) where
       → edits_meaning c (result_edits x values k vs) ≡ replacing (results_from x k (map (put_for x values) vs)) (map (put_for x values) vs)
   results_meant x values k [] = refl
   results_meant x values k (v ∷ vs) = ap (λ l. Replace (Result x k) (put_for x values v) ∷ l) (results_meant x values (k + 1) vs)
-
-  appended : (xs ys : List Coded) → edits_meaning c (xs ++ ys) ≡ edits_meaning c xs ++ edits_meaning c ys
-  appended xs ys = map-append (λ e. edit_meaning c (numbered e)) xs ys
 
   abbrev all : ℕ → Place → List ℕ → List Value → List Value → List Coded
   all x front ops values handed = ((argument_edits x 0 values ++ move_edits front ops) ++ result_edits x values 0 handed) ++ coded.Erase x ∷ []
@@ -44,8 +42,8 @@ module _ (c : Things) where
       let m = moving front ops in
       let r = replacing (results_from x 0 ws) ws in
       let e : List Edit = Erase x ∷ [] in
-      appended ((es ++ fs) ++ gs) (coded.Erase x ∷ [])
-      ∙ ap (λ l. l ++ e) (appended (es ++ fs) gs ∙ (λ i. (appended es fs ∙ λ j. arguments_meant x 0 values j ++ moves_meant front ops j) i ++ results_meant x values 0 handed i))
+      (edits_more c) ((es ++ fs) ++ gs) (coded.Erase x ∷ [])
+      ∙ ap (λ l. l ++ e) ((edits_more c) (es ++ fs) gs ∙ (λ i. ((edits_more c) es fs ∙ λ j. arguments_meant x 0 values j ++ moves_meant front ops j) i ++ results_meant x values 0 handed i))
       ∙ ap (λ l. l ++ e) (append_assoc a m r)
       ∙ append_assoc a (m ++ r) e
 

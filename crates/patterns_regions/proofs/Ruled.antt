@@ -26,8 +26,9 @@ use Rattle.patterns_regions.specs.Blocks.{Shows, is_block, body_at}
 use Rattle.patterns_regions.specs.Opened.{opening}
 use Rattle.patterns_regions.specs.Times.{is_once, times_of}
 use Rattle.patterns_regions.specs.Rules.{chosen_at, opened_at, open_branch_at, open_loop_at, stop_loop_at}
-use Rattle.patterns_regions.proofs.Viewed.{viewed, found_id}
+use Rattle.patterns_regions.proofs.Viewed.{viewed}
 use Rattle.std.specs.Prelude.{int_lt}
+use Rattle.ir_event.proofs.Facts.{found_id}
 
 when_no : {X : Type 0} (b d : Bool) (r : Option X) → b ≡ d → b ≡ false → None ≡ when d r
 when_no b d r e f = sym (ap (λ z. when z r) (sym e ∙ f))
@@ -35,7 +36,7 @@ when_no b d r e f = sym (ap (λ z. when z r) (sym e ∙ f))
 when_yes : {X : Type 0} (b d : Bool) (r : Option X) → b ≡ d → b ≡ true → r ≡ when d r
 when_yes b d r e f = sym (ap (λ z. when z r) (sym e ∙ f))
 
-when_none : {X : Type 0} (d : Bool) (r : Option X) → None ≡ r → None ≡ when d r
+pub when_none : {X : Type 0} (d : Bool) (r : Option X) → None ≡ r → None ≡ when d r
 when_none true r e = e
 when_none false r e = refl
 

@@ -1,15 +1,12 @@
 -- Slices by their first items.
 use Rattle.std.proofs.Common.{◌≡◌, ap, sym, ◌-◌, ◌<◌, ◌≤◌, List, [], ◌∷◌, length, get_or, take, drop, arith}
 use Rattle.std.proofs.lemmas.List.{take_all}
+use Rattle.ir_types.proofs.Truths.{rest_at}
 
 pub one_item : {X : Type 0} (xs : List X) (a d : X) → 1 ≤ length xs → length xs < 2 → a ≡ get_or xs 0 d → xs ≡ a ∷ []
 one_item [] a d h k e = absurd (omega (arith, h))
 one_item (x ∷ []) a d h k e = ap (λ z. z ∷ []) (sym e)
 one_item (x ∷ y ∷ xs) a d h k e = absurd (omega (arith, k))
-
-pub first_item : {X : Type 0} (xs : List X) (a d : X) → 1 ≤ length xs → a ≡ get_or xs 0 d → xs ≡ a ∷ take (length xs - 1) (drop 1 xs)
-first_item [] a d h e = absurd (omega (arith, h))
-first_item (x ∷ xs) a d h e = λ i. sym e i ∷ sym (take_all (length (x ∷ xs) - 1) xs (omega arith)) i
 
 pub two_items : {X : Type 0} (xs : List X) (a b d f : X) → 2 ≤ length xs → a ≡ get_or xs 0 d → b ≡ get_or xs 1 f → xs ≡ a ∷ b ∷ drop 2 xs
 two_items [] a b d f h e g = absurd (omega (arith, h))

@@ -1,7 +1,7 @@
 -- Nodes, and the operations that they show.
 use Rattle.std.proofs.Common.{Bor, ◌≡◌, refl, ap, sym, ◌∙◌, subst, ℕ, zero, suc, ◌≤◌, ◌<◌, List, [], ◌∷◌, length, map, Bool, true, Option, Some, None, arith}
 use Rattle.std.specs.Prelude.{is_some, slice_get, option_map, option_and_then}
-use Rattle.std.proofs.lemmas.Option.{slice_get-map}
+use Rattle.std.proofs.lemmas.Option.{slice_get-map, slice_get_past}
 use Rattle.ir_types.specs.Things.{Things}
 use Rattle.ir_types.specs.Terms.{TypeTerm, AttrTerm, name_term, type_term, attr_term}
 use Rattle.ir_tree.specs.Tree.{op, Op, RegionsOf, no_regions, region, RegionOf, empty, block, head, regions}
@@ -15,6 +15,8 @@ use Rattle.ir_event.specs.Modules.{node_meaning}
 use Rattle.ir_event.proofs.Nodes.{node_shown}
 use Rattle.patterns_reads.specs.Reads.{head_in}
 use Rattle.patterns_regions.specs.Blocks.{Shows, is_block}
+use Rattle.ir_event.proofs.Facts.{found_id}
+use Rattle.ir_types.proofs.Truths.{get_within}
 
 -- what a world shows of an operation
 pub shown_at : (c : Things) (x : ℕ) (t : Op) (r : Option Node) → r ≡ option_map node_of (find x t) → option_map (node_meaning c) r ≡ option_map (λ o. node_of o) (find x (meaning c t))
@@ -38,10 +40,6 @@ module _ (c : Things) (n : Node) (f : Option Operation) (P : Option Operation �
           let is : f ≡ Some (op (head_in c n) rs) = k ∙ ap (λ j. Some (op j rs)) heads in
           let shows : Shows c n (op (head_in c n) rs) = one ∙ ap (λ j. node_of (op j rs)) heads in
           subst P (sym is) (g rs shows is)
-
--- the id of what is found
-pub found_id : (x : ℕ) (t o : Operation) → find x t ≡ Some o → (head o).id ≡ x
-found_id x t o e = let w = found_stands x t o e in ap (λ (z : Operation). (head z).id) (sym w.3) ∙ w.2
 
 -- a node's arguments are those of the regions
 arguments_get : (rs : RegionsOf (List ℕ) TypeTerm AttrTerm) (r : ℕ) → slice_get (regions_arguments rs) r ≡ option_map (λ g. arguments_of g) (region_at r rs)
@@ -72,24 +70,13 @@ shown_block c n o r e = blocks (region_at r (regions o)) ∙ ap (option_map is_s
     same (Some None) = refl
     same (Some (Some l)) = refl
 
-past : {X : Type 0} (xs : List X) (k : ℕ) → length xs ≤ k → slice_get xs k ≡ None
-past [] zero h = refl
-past [] (suc k) h = refl
-past (x ∷ xs) zero h = absurd (omega (arith, h))
-past (x ∷ xs) (suc k) h = past xs k (omega (arith, h))
-
-within : {X : Type 0} (xs : List X) (k : ℕ) → k < length xs → (x : X) × (slice_get xs k ≡ Some x)
-within [] k h = absurd (omega (arith, h))
-within (x ∷ xs) zero h = (x, refl)
-within (x ∷ xs) (suc k) h = within xs k (omega (arith, h))
-
 -- no region, and a region
 pub no_block : (c : Things) (n : Node) (o : Operation) (r : ℕ) → Shows c n o → length n.arguments ≤ r → None ≡ option_map is_block (region_at r (regions o))
-no_block c n o r e h = sym (shown_block c n o r e ∙ ap (option_map is_some) (past n.arguments r h))
+no_block c n o r e h = sym (shown_block c n o r e ∙ ap (option_map is_some) (slice_get_past n.arguments r h))
 
 pub some_block : (c : Things) (n : Node) (o : Operation) (r : ℕ) → Shows c n o → r < length n.arguments → (b : Bool) → b ≡ is_some (option_and_then (λ a. a) (slice_get n.arguments r)) → Some b ≡ option_map is_block (region_at r (regions o))
 some_block c n o r e h b f =
-    let w = within n.arguments r h in
+    let w = get_within n.arguments r h in
     ap Some (f ∙ ap (λ (z : Option (Option (List ℕ))). is_some (option_and_then (λ a. a) z)) w.1) ∙ sym (shown_block c n o r e ∙ ap (option_map is_some) w.1)
 
 -- the arguments of a block

@@ -12,22 +12,11 @@ use Rattle.ir_tree_laws.specs.Values.{region_at}
 use Rattle.ir_tree_laws.proofs.Readings.{step}
 use Rattle.ir_tree_laws.proofs.Members.{stand, within, joined_ops, ops_child, found_stands, stand_found}
 use Rattle.ir_tree_laws.proofs.Put.{child}
-use Rattle.ir_tree_laws.proofs.Neighbours.{next_there}
+use Rattle.ir_tree_laws.proofs.Neighbours.{next_there, block_at, block_of}
 use Rattle.patterns_regions.specs.Blocks.{before_in, before_at}
+use Rattle.ir_tree_laws.proofs.Values.{joined_more}
 
 module _ {N T A : Type 0} where
-  -- a block that is there
-  block_at : (r : ℕ) (p : OpOf N T A) (os : OpsOf N T A) (g : Option (RegionOf N T A)) → region_at r (regions p) ≡ g → option_and_then ops_in g ≡ Some os → (args : List T) × (region_at r (regions p) ≡ Some (block args os))
-  block_at r p os None f e = absurd cc
-  block_at r p os (Some empty) f e = absurd cc
-  block_at r p os (Some (block args l)) f e = (let same : l ≡ os = cc in (args, f ∙ ap (λ z. Some (block args z)) same))
-
-  block_of : (t : OpOf N T A) (x r : ℕ) (os : OpsOf N T A) → ops_at x r t ≡ Some os → (p : OpOf N T A) × (args : List T) × (find x t ≡ Some p) × (region_at r (regions p) ≡ Some (block args os))
-  block_of t x r os k = go (find x t) refl k
-    where
-      go : (f : Option (OpOf N T A)) → find x t ≡ f → option_and_then (λ o. option_and_then ops_in (region_at r (regions o))) f ≡ Some os → (p : OpOf N T A) × (args : List T) × (find x t ≡ Some p) × (region_at r (regions p) ≡ Some (block args os))
-      go None f e = absurd cc
-      go (Some p) f e = let b = block_at r p os (region_at r (regions p)) refl e in (p, b.0, f, b.1)
 
   -- an operation of it, with where it stands
   pub in_block : (t : OpOf N T A) (x r : ℕ) (front : List (OpOf N T A)) (o : OpOf N T A) (rest : OpsOf N T A) → ops_at x r t ≡ Some (joined_ops front (next o rest))
@@ -73,10 +62,6 @@ module _ {N T A : Type 0} where
       go None e = refl
       go (Some no_ops) e = refl
       go (Some (next o os)) e = absurd cc
-
-  joined_more : (front : List (OpOf N T A)) (o : OpOf N T A) (os : OpsOf N T A) → joined_ops (front ++ o ∷ []) os ≡ joined_ops front (next o os)
-  joined_more [] o os = refl
-  joined_more (f ∷ fs) o os = ap (next f) (joined_more fs o os)
 
   pub walk_goes : (t : OpOf N T A) → HasDistinctIds t → (x r y z : ℕ) (out : List ℕ) → Walked t x r y out → Some z ≡ next_of y t → Walked t x r z (out ++ y ∷ [])
   walk_goes t d x r y z out w e = go w.rest refl (e ∙ ap (λ i. next_of i t) (sym w.id) ∙ next_read t d x r w.front w.here w.rest w.block)

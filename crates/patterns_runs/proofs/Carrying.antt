@@ -24,6 +24,8 @@ use Rattle.patterns_edits.specs.declared.edit.Edit.{Edit as Coded}
 use Rattle.patterns_edits.specs.Lists.{AllFit, Fits, IsWhy, Tried, edits_meaning, numbered}
 use Rattle.patterns_runs.specs.Runs.{Along, Noted}
 use Rattle.patterns_runs.proofs.Journals.{marked_more, push_some, recorded_none, recorded_on, recorded_whole, surely}
+use Rattle.patterns_edits.proofs.Facts.{edited_both, edits_more}
+use Rattle.ir_types.proofs.Truths.{none_left, uncons}
 
 -- ---- one edit
 
@@ -86,14 +88,6 @@ module _ {B : Type 0} (meaning : B → Listener) where
     pub along : Along meaning a b
     pub noted : Journaled meaning a b
 
-  all_edited_more : (es fs : List Edit) (m : Module) → all_edited (es ++ fs) m ≡ all_edited fs (all_edited es m)
-  all_edited_more [] fs m = refl
-  all_edited_more (e ∷ es) fs m = all_edited_more es fs (edited e m)
-
-  edits_of_more : (c : Things) (es fs : List Coded) → edits_meaning c (es ++ fs) ≡ edits_meaning c es ++ edits_meaning c fs
-  edits_of_more c [] fs = refl
-  edits_of_more c (e ∷ es) fs = ap (λ l. edit_meaning c (numbered e) ∷ l) (edits_of_more c es fs)
-
   pub carrying_none : ((z : Benched B) → Heard meaning [] z z) → (all : List Coded) (a : Benched B) → AllFit a.desk.ctx all → Carrying all all a a
   carrying_none none all a fit = record { done = []; parts = refl; held = refl; fit = fit; along = record { ctx = refl; opens = refl; led = ([], none a) }; noted = ([], none a, recorded_none a.desk) }
 
@@ -104,7 +98,7 @@ module _ {B : Type 0} (meaning : B → Listener) where
   carrying_more more all rest e a b d holds c tried along noted = record {
     done = c.done ++ e ∷ [];
     parts = append_assoc c.done (e ∷ []) rest ∙ c.parts;
-    held = tried.1 ∙ (λ i. edited (edit_meaning (c.along.ctx i) (numbered e)) (c.held i)) ∙ sym (ap (λ l. all_edited l (module_held a.desk)) (edits_of_more a.desk.ctx c.done (e ∷ [])) ∙ all_edited_more (edits_meaning a.desk.ctx c.done) (edit_meaning a.desk.ctx (numbered e) ∷ []) (module_held a.desk));
+    held = tried.1 ∙ (λ i. edited (edit_meaning (c.along.ctx i) (numbered e)) (c.held i)) ∙ sym (ap (λ l. all_edited l (module_held a.desk)) (edits_more a.desk.ctx c.done (e ∷ [])) ∙ edited_both (edits_meaning a.desk.ctx c.done) (edit_meaning a.desk.ctx (numbered e) ∷ []) (module_held a.desk));
     fit = c.fit.1;
     along = along_on more a b d holds c.along along;
     noted = noted_on more a b d holds c.along along c.noted noted;
@@ -120,7 +114,7 @@ module _ {B : Type 0} (meaning : B → Listener) where
       made = edits_meaning a.desk.ctx c.done;
       refused = edit_meaning a.desk.ctx (numbered e);
       rest = edits_meaning a.desk.ctx rest;
-      parts = sym (edits_of_more a.desk.ctx c.done (e ∷ rest)) ∙ ap (edits_meaning a.desk.ctx) c.parts;
+      parts = sym (edits_more a.desk.ctx c.done (e ∷ rest)) ∙ ap (edits_meaning a.desk.ctx) c.parts;
       why = (λ i. edit_reason (edit_meaning (sym c.along.ctx i) (numbered e)) (sym c.held i)) ∙ h;
     })
   ]
@@ -192,12 +186,3 @@ pub recorded_back : {A : Type 0} (r : Result A Refusal) (a b c d : Held) → b �
 recorded_back r a b c d begun noted dropped none unmarked =
     let some : c.marks ≢ [] = λ e. push_some a.marks (record { length = length a.journal; counted = false }) (sym (ap (λ (k : Held). k.marks) begun) ∙ sym noted.1.marks ∙ e) in
     recorded_undone false a b c d begun noted.1.marks noted.0 noted.1 (surely r c.marks some none dropped) unmarked refl
-
--- a list that isn't empty
-pub uncons : {X : Type 0} (rest : List X) (e d : X) → 0 < length rest → e ≡ get_or rest 0 d → rest ≡ e ∷ take (length rest - 1) (drop 1 rest)
-uncons [] e d l h = absurd (omega (arith, h))
-uncons (x ∷ xs) e d l h = (λ i. sym h i ∷ sym (take_all (length (x ∷ xs) - 1) xs (omega arith)) i)
-
-pub none_left : {A : Type 0} (xs : List A) → length xs < 1 → xs ≡ []
-none_left [] h = refl
-none_left (x ∷ xs) h = absurd (omega (arith, h))

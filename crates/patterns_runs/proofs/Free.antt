@@ -5,15 +5,9 @@ use Rattle.ir_types.specs.declared.refusal.Refusal.TheVariants.{Memory}
 use Rattle.ir_event.specs.Modules.{Module}
 use Rattle.patterns_edits.specs.Contents.{Edit, all_edited, edit_reason, edited}
 use Rattle.patterns_edits.specs.Lists.{Free, IsWhy}
+use Rattle.patterns_edits.proofs.Free.{free_why}
 
 -- no reason stands against one of them, where those before it are made
 free_among : (made : List Edit) (e : Edit) (rest : List Edit) (m : Module) → Free (made ++ e ∷ rest) m → edit_reason e (all_edited made m) ≡ None
 free_among [] e rest m free = free.0
 free_among (d ∷ made) e rest m free = free_among made e rest (edited d m) free.1
-
-pub free_wants : (es : List Edit) (m : Module) (r : Refusal) → Free es m → IsWhy es m r → r ≡ Memory
-free_wants es m r free (inl h) = h
-free_wants es m r free (inr h) =
-    let whole = subst (λ l. Free l m) (sym h.parts) free in
-    let n : Some r ≡ None = sym h.why ∙ free_among h.made h.refused h.rest m whole in
-    absurd cc

@@ -12,6 +12,7 @@ use Rattle.rewriter.specs.Held.{Held, module_at, open_mark, open_marks}
 use Rattle.rewriter.specs.Moves.{Recorded, all_noted}
 use Rattle.rewriter.specs.Rolling.{Dropped}
 use Rattle.rewriter.proofs.OpenMarks.{front_same}
+use Rattle.rewriter.proofs.Noted.{longer_noted, more_noted, none_noted, some_noted}
 
 -- ---- marks, as many as before
 
@@ -37,22 +38,6 @@ push_some [] k = λ n. (let f : k ∷ [] ≡ [] = n in cc)
 push_some (j ∷ ks) k = λ n. (let f : j ∷ (ks ++ k ∷ []) ≡ [] = n in cc)
 
 -- ---- events at the end of a journal
-
-none_noted : (ks : List Mark) (xs : List Event) → xs ≡ all_noted ks xs []
-none_noted [] xs = refl
-none_noted (k ∷ ks) xs = sym (append-nil xs)
-
-some_noted : (ks : List Mark) (xs es : List Event) → ks ≢ [] → all_noted ks xs es ≡ xs ++ es
-some_noted [] xs es some = absurd (some refl)
-some_noted (k ∷ ks) xs es some = refl
-
-more_noted : (ks : List Mark) (xs es fs : List Event) → all_noted ks (all_noted ks xs es) fs ≡ all_noted ks xs (es ++ fs)
-more_noted [] xs es fs = refl
-more_noted (k ∷ ks) xs es fs = append_assoc xs es fs
-
-longer_noted : (ks : List Mark) (xs es : List Event) → length xs ≤ length (all_noted ks xs es)
-longer_noted [] xs es = omega arith
-longer_noted (k ∷ ks) xs es = (let l = length-append xs es in omega (arith, l))
 
 -- ---- desks
 

@@ -1,6 +1,6 @@
 -- A reader gives exactly what a grammar spells; how readers and grammars are joined.
 use Rattle.std.proofs.Common.{◌≡◌, ℕ, zero, suc, Bool, true, false, not, List, [], ◌∷◌, ◌++◌, Option, Some, None, refl, sym, ap, subst, if◌then◌else◌, ◌⊎◌, inl, inr}
-use Rattle.std.proofs.lemmas.Option.{same_Some}
+use Rattle.std.proofs.lemmas.Option.{same_Some, none-some}
 use Rattle.ir_text_tokens.specs.declared.token.Mark.{Mark}
 use Rattle.ir_text_tokens.specs.declared.token.Mark.TheVariants.{Comma}
 use Rattle.ir_text_tokens.specs.Tokens.{Lexeme, next}
@@ -10,19 +10,18 @@ use Rattle.ir_text_types.specs.Typed.{Text}
 use Rattle.ir_text_types.proofs.TextLaws.{after_found, after_only, after_none, none_after}
 use Rattle.patterns_spelled.specs.Grammar.{Behind, Never}
 use Rattle.patterns_spelled.specs.Reading.{Reader, given, fail, done, done_if, when, and_then, behind_mark, either_from, either, behind, more, more_from, listed}
+use Rattle.ir_types.proofs.Truths.{if_is}
+use Rattle.std.proofs.lemmas.Bool.{not-true, not_from_false}
 
 pub record Exact {A : Type 0} (p : Reader A) (P : Grammar Text A) : Type 0 where
   pub found : (s r : Text) (x : A) → p s ≡ Some (x, r) → P x s r
   pub only : (s r : Text) (x : A) → P x s r → p s ≡ Some (x, r)
 
-pub none_some : {X : Type 0} (x : X) → None ≡ Some x → ⊥
-none_some x e = cc
-
 true_false : true ≡ false → ⊥
 true_false e = cc
 
 pub given_some : {X Y : Type 0} (r : Option X) (f : X → Option Y) (y : Y) → given r f ≡ Some y → (x : X) × (r ≡ Some x) × (f x ≡ Some y)
-given_some None f y e = absurd (none_some y e)
+given_some None f y e = absurd (none-some y e)
 given_some (Some x) f y e = (x, refl, e)
 
 abbrev pub pair : {A : Type 0} → A → Text → Option (A × Text)
@@ -37,14 +36,10 @@ pair_same : {A : Type 0} {x y : A} {s t : Text} → y ≡ x → t ≡ s → pair
 pair_same e f = λ i. Some (sym e i, sym f i)
 
 pub fail_exact : {A : Type 0} → Exact {A = A} fail Never
-fail_exact = record { found = λ s r x e. none_some (x, r) e; only = λ s r x h. absurd h }
+fail_exact = record { found = λ s r x e. none-some (x, r) e; only = λ s r x h. absurd h }
 
 pub done_exact : {A : Type 0} (y : A) → Exact (done y) (Done y)
 done_exact y = record { found = λ s r x e. same_pair e; only = λ s r x h. pair_same h.0 h.1 }
-
-if_some : {X : Type 0} (b : Bool) (r : Option X) (x : X) → (if b then r else None) ≡ Some x → (b ≡ true) × (r ≡ Some x)
-if_some true r x e = (refl, e)
-if_some false r x e = absurd (none_some x e)
 
 some_if : {X : Type 0} (b : Bool) (r : Option X) (x : X) → b ≡ true → r ≡ Some x → (if b then r else None) ≡ Some x
 some_if true r x h e = e
@@ -52,28 +47,20 @@ some_if false r x h e = absurd (true_false (sym h))
 
 pub done_if_exact : {A : Type 0} (b : Bool) (y : A) → Exact (done_if b y) (DoneIf (b ≡ true) y)
 done_if_exact b y = record {
-  found = λ s r x e. (let h = if_some b (Some (y, s)) (x, r) e in let k = same_pair h.1 in (h.0, k.0, k.1));
+  found = λ s r x e. (let h = if_is b (Some (y, s)) (x, r) e in let k = same_pair h.1 in (h.0, k.0, k.1));
   only = λ s r x h. some_if b (Some (y, s)) (x, r) h.0 (pair_same h.1 h.2);
 }
 
-not_true : (b : Bool) → not b ≡ true → b ≡ false
-not_true true e = absurd (true_false (sym e))
-not_true false e = refl
-
-true_not : (b : Bool) → b ≡ false → not b ≡ true
-true_not true e = absurd (true_false e)
-true_not false e = refl
-
 pub done_unless_exact : {A : Type 0} (b : Bool) (y : A) → Exact (done_if (not b) y) (DoneIf (b ≡ false) y)
 done_unless_exact b y = record {
-  found = λ s r x e. (let h = if_some (not b) (Some (y, s)) (x, r) e in let k = same_pair h.1 in (not_true b h.0, k.0, k.1));
-  only = λ s r x h. some_if (not b) (Some (y, s)) (x, r) (true_not b h.0) (pair_same h.1 h.2);
+  found = λ s r x e. (let h = if_is (not b) (Some (y, s)) (x, r) e in let k = same_pair h.1 in (not-true b h.0, k.0, k.1));
+  only = λ s r x h. some_if (not b) (Some (y, s)) (x, r) (not_from_false b h.0) (pair_same h.1 h.2);
 }
 
 module _ {A : Type 0} {p : Reader A} {P : Grammar Text A} (k : Exact p P) where
   pub when_exact : (b : Bool) → Exact (when b p) (When (b ≡ true) P)
   when_exact b = record {
-    found = λ s r x e. (let h = if_some b (p s) (x, r) e in (h.0, k.found s r x h.1));
+    found = λ s r x e. (let h = if_is b (p s) (x, r) e in (h.0, k.found s r x h.1));
     only = λ s r x h. some_if b (p s) (x, r) h.0 (k.only s r x h.1);
   }
 
@@ -137,7 +124,7 @@ module _ {A : Type 0} (close : Mark) {p : Reader A} {P : Grammar Text A} (k : Ex
 
   pub more_exact : (room : ℕ) (items : List A) → Exact (more close p room items) (IsMore IsMark close (λ before. P) room items)
   unfolding more IsMore
-  more_exact zero items = record { found = λ s r x e. none_some (x, r) e; only = λ s r x h. absurd h }
+  more_exact zero items = record { found = λ s r x e. none-some (x, r) e; only = λ s r x h. absurd h }
   more_exact (suc room) items = record {
     found = λ s r ys e.
         let g = given_some (p s) (λ x. more_from close p (more close p room) (items ++ x.0 ∷ []) x.1 (after close x.1)) (ys, r) e in

@@ -117,7 +117,7 @@ magnitude_of_fits of_other y r mid d = absurd d
 magnitude_fits : (y : Number) (r mid : Text) → IsMagnitude y r mid → (n : ℕ) × (y ≡ literal true n) × (n < 2 ^ 128)
 magnitude_fits y r mid d = magnitude_of_fits (head_of d.0) y d.1 mid d.3
 
-list_once : (ns : List Number) → number_list (numbers_of ns) ≡ ns
+pub list_once : (ns : List Number) → number_list (numbers_of ns) ≡ ns
 list_once [] = refl
 list_once (n ∷ ns) = ap (λ (ms : List Number). n ∷ ms) (list_once ns)
 

@@ -16,6 +16,7 @@ use Rattle.patterns_spelled.specs.Printing.{show_term, show_numbers, show_words,
 use Rattle.patterns_spelled.proofs.Spelled.{pattern_exact}
 use Rattle.patterns_spelled.proofs.Shown.{Tail, code_at, not_mark, word_spelled, list_spelled}
 use Rattle.patterns_spelled.proofs.Terms.{TermEnds, old_spelled, new_spelled}
+use Rattle.patterns_spelled.proofs.Printable.{list_once}
 
 -- ---- types that are listed
 
@@ -53,10 +54,6 @@ types_listed w ws (suc room) f le rest =
     (w, show_words ws rest, type_spelled w (w ++ show_words ws rest) (show_words ws rest) f.0 refl (words_stop ws rest), types_tail ws room (w ∷ []) f.1 (omega (arith, le)) rest)
 
 -- ---- conditions
-
-list_once : (ns : List Number) → number_list (numbers_of ns) ≡ ns
-list_once [] = refl
-list_once (n ∷ ns) = ap (λ (ms : List Number). n ∷ ms) (list_once ns)
 
 condition_spelled : (c : Condition) → FitsCondition c → (start rest : Text) → next start ≡ next (show_condition c rest) → IsCondition c start rest
 condition_spelled (narrower []) f start rest same = absurd f

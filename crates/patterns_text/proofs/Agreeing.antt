@@ -19,6 +19,7 @@ use Rattle.patterns_text.specs.Refusing.{Outcome, ◌>>=◌, refused, begins, to
 use Rattle.patterns_text.specs.Reading as reading
 use Rattle.patterns_text.specs.Reading.{State, Step, ended}
 use Rattle.patterns_text.proofs.Matching.{Same, Matches, unplaced_and, same_then, same_matches, matches_then, matches_into, all_refused, bound_again, given_none, token_same, behind_same, flats, more_matches, listed_matches}
+use Rattle.ir_types.proofs.Truths.{or_false}
 
 -- ---- words and types
 
@@ -283,13 +284,9 @@ types_flat : (ws : List (List ℕ)) → map type_part ws ≡ flats one_type ws
 types_flat [] = refl
 types_flat (w ∷ ws) = ap (λ (ps : List Part). type_part w ∷ ps) (types_flat ws)
 
-either_word : (b : Bool) → (b || false) ≡ b
-either_word true = refl
-either_word false = refl
-
 -- the word that a list of one word has
 only_word : (v w : List ℕ) → is_one_of (v ∷ []) w ≡ true → w ≡ v
-only_word v w e = (bytes_eq-Decides w v).0 (sym (either_word (bytes_eq w v)) ∙ e)
+only_word v w e = (bytes_eq-Decides w v).0 (sym (or_false (bytes_eq w v)) ∙ e)
 
 narrower_parts : (front : List Part) (w : List ℕ) (tys : List (List ℕ)) (x : State) → w ≡ codes "narrower" → unplaced x.0 ≡ (front ++ condition_part w ∷ []) ++ flats one_type tys
     → unplaced (ended x).0 ≡ front ++ condition_parts (narrower tys)

@@ -12,6 +12,7 @@ use Rattle.ir_tree_laws.proofs.Members.{joined_ops}
 use Rattle.listeners_surroundings.specs.Surroundings.{last_name, last_names}
 use Rattle.patterns_base.specs.Keeps.{given}
 use Rattle.patterns_base.specs.Looks.{Ended, body, ended, ended_by, is_clean, when}
+use Rattle.ir_verify_base.proofs.Reading.{name_joined}
 
 -- by the regions' numbers
 pub names_at : {N T A : Type 0} (rs : RegionsOf N T A) (r : ℕ) → slice_get (last_names rs) r ≡ option_map (λ g. option_and_then last_name (ops_in g)) (region_at r rs)
@@ -25,10 +26,6 @@ arguments_read no_regions zero = refl
 arguments_read no_regions (suc r) = refl
 arguments_read (region g rs) zero = refl
 arguments_read (region g rs) (suc r) = arguments_read rs r
-
-pub last_joined : {N T A : Type 0} (front : List (OpOf N T A)) (o : OpOf N T A) → last_name (joined_ops front (next o no_ops)) ≡ Some (head o).name
-last_joined [] o = refl
-last_joined (f ∷ fs) o = ap (λ l. first_of l (Some (head f).name)) (last_joined fs o)
 
 -- a block's operations, and the last of them
 pub record Ending (t o : Operation) (r : ℕ) (e : Ended) : Type 0 where

@@ -7,7 +7,6 @@ use Rattle.ir_types.specs.Terms.{TypeTerm, AttrTerm}
 use Rattle.ir_tree.specs.Tree.{OpOf, op, head}
 use Rattle.ir_tree.specs.Meaning.{Operation}
 use Rattle.ir_store.specs.Nodes.{node_of}
-use Rattle.ir_tree.proofs.Agreeing.{both}
 use Rattle.ir_tree_laws.specs.Stands.{StandOf, stand_of}
 use Rattle.op_registry.specs.Rows.{Row}
 use Rattle.op_registry.specs.Registry.{row_of}
@@ -20,6 +19,9 @@ use Rattle.ir_verify.specs.PlaceRules.{breaks_10, breaks_11, breaks_15, breaks_1
 use Rattle.ir_verify.specs.Breaks.{told_of, told_in, numbers_from, broken}
 use Rattle.patterns_base.specs.Diagnostics.{broken_at}
 use Rattle.patterns_base.specs.Looks.{Header, breaks_none, is_clean}
+use Rattle.std.proofs.lemmas.Bool.{and_parts}
+use Rattle.ir_verify_base.proofs.Reading.{head_shown}
+use Rattle.std.proofs.lemmas.Option.{same_Some}
 
 abbrev pub Stand : Type 0
 Stand = StandOf (List ℕ) TypeTerm AttrTerm
@@ -32,7 +34,7 @@ peel n false bs e = (refl, e)
 shaped_of : (a b c d e : Bool) → a ≡ false → b ≡ false → c ≡ false → d ≡ false → e ≡ false → not ((a || (b || c)) || (d || e)) ≡ true
 shaped_of a b c d e p q r s t = λ i. not ((p i || (q i || r i)) || (s i || t i))
 
-spoken : (w b : Bool) → w ≡ true → w && b ≡ false → b ≡ false
+pub spoken : (w b : Bool) → w ≡ true → w && b ≡ false → b ≡ false
 spoken true b e f = f
 spoken false b e f = absurd cc
 
@@ -85,10 +87,6 @@ unbroken row s e =
       chooses = spoken w (breaks_21 s) shaped x.0;
     }
 
--- a node has its operation's head
-pub node_head : {N T A : Type 0} (o : OpOf N T A) → (node_of o).head ≡ head o
-node_head (op h rs) = refl
-
 none_broken : (o : Option (List ℕ)) → breaks_none o ≡ true → o ≡ Some []
 none_broken None e = absurd cc
 none_broken (Some []) e = refl
@@ -96,15 +94,12 @@ none_broken (Some (x ∷ xs)) e = absurd cc
 
 clean_breaks : (t : Operation) (h : Header) → is_clean t h ≡ true → broken_at h.id t ≡ Some []
 unfolding is_clean
-clean_breaks t h e = none_broken (broken_at h.id t) (both (breaks_none (broken_at h.id t)) (list_all (λ (e : List ℕ × AttrTerm). is_inherent h.name e.0) h.properties) e).0
-
-some_is : {X : Type 0} (x y : X) → Some x ≡ Some y → x ≡ y
-some_is x y e = cc
+clean_breaks t h e = none_broken (broken_at h.id t) (and_parts (breaks_none (broken_at h.id t)) (list_all (λ (e : List ℕ × AttrTerm). is_inherent h.name e.0) h.properties) e).0
 
 -- where it stands
 pub clean_unbroken : (t : Operation) (z : Stand) (row : Row) → is_clean t (head z.here) ≡ true → stand_of (head z.here).id t ≡ Some z → row_of (head z.here).name ≡ Some row → Unbroken row (surround t z)
 clean_unbroken t z row e f g =
     let s = surround t z in
-    let all : broken s ≡ [] = some_is (broken s) [] (sym (ap (λ o. option_map broken (option_map (surround t) o)) f) ∙ clean_breaks t (head z.here) e) in
-    let listed : row_of s.node.head.name ≡ Some row = ap (λ (h : Header). row_of h.name) (node_head z.here) ∙ g in
+    let all : broken s ≡ [] = same_Some (broken s) [] (sym (ap (λ o. option_map broken (option_map (surround t) o)) f) ∙ clean_breaks t (head z.here) e) in
+    let listed : row_of s.node.head.name ≡ Some row = ap (λ (h : Header). row_of h.name) (head_shown z.here) ∙ g in
     unbroken row s (sym (ap (λ r. numbers_from 1 (told_in r s)) listed) ∙ all)

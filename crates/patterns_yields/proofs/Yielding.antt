@@ -14,7 +14,6 @@ use Rattle.ir_tree.specs.declared.value.Value.{Value}
 use Rattle.ir_tree.specs.Tree.{op, no_ops, head, regions}
 use Rattle.ir_tree.specs.Ids.{HasDistinctIds}
 use Rattle.ir_tree.specs.Meaning.{Operation}
-use Rattle.ir_tree.proofs.Agreeing.{both}
 use Rattle.ir_tree_laws.specs.Reads.{ops_in}
 use Rattle.ir_tree_laws.specs.Values.{arguments_of, type_of_value}
 use Rattle.ir_tree_laws.specs.Stands.{StepOf, stands, stand_of}
@@ -34,27 +33,22 @@ use Rattle.ir_verify.specs.BlockRules.{breaks_9, ends_otherwise, isnt_wanted, la
 use Rattle.ir_verify.specs.PlaceRules.{differ, ended_of, if_well_shaped, yielded}
 use Rattle.patterns_base.specs.Looks.{Ended, body, is_clean, is_index_value}
 use Rattle.patterns_yields.specs.Yields.{IsCleanOf, LoopsHandOnAll, ChoicesHandOnAll, ChoicesAskTruth}
-use Rattle.patterns_yields.proofs.Unbroken.{Stand, Unbroken, clean_unbroken, node_head}
-use Rattle.patterns_yields.proofs.Ends.{Ending, ending, arguments_read, last_joined, names_at}
+use Rattle.patterns_yields.proofs.Unbroken.{Stand, Unbroken, clean_unbroken, spoken}
+use Rattle.patterns_yields.proofs.Ends.{Ending, ending, arguments_read, names_at}
+use Rattle.std.proofs.lemmas.Bool.{and_parts, not-false}
+use Rattle.ir_verify_base.proofs.Reading.{name_joined, head_shown}
+use Rattle.std.proofs.lemmas.Option.{same_Some}
 
 -- names that are one
 name_is : (word name : List ℕ) → bytes_eq name word ≡ true → name ≡ word
 name_is word name e = (bytes_eq-Decides name word).0 e
 
-and_no : (a b : Bool) → a ≡ true → a && b ≡ false → b ≡ false
-and_no true b e f = f
-and_no false b e f = absurd cc
-
 or_no : (a b : Bool) → a || b ≡ false → (a ≡ false) × (b ≡ false)
 or_no true b e = absurd cc
 or_no false b e = (refl, e)
 
-not_no : (b : Bool) → not b ≡ false → b ≡ true
-not_no true e = refl
-not_no false e = absurd cc
-
 -- rows of the table
-row_there : (o : Option Row) → is_some o ≡ true → (row : Row) × (o ≡ Some row)
+pub row_there : (o : Option Row) → is_some o ≡ true → (row : Row) × (o ≡ Some row)
 row_there None e = absurd cc
 row_there (Some row) e = (row, refl)
 
@@ -124,7 +118,7 @@ as_long : {X : Type 0} (same : X → X → Bool) (xs ys : List X) → pointwise 
 as_long same [] [] e = refl
 as_long same [] (y ∷ ys) e = absurd cc
 as_long same (x ∷ xs) [] e = absurd cc
-as_long same (x ∷ xs) (y ∷ ys) e = (let k = as_long same xs ys (both (same x y) (pointwise same xs ys) e).1 in omega (arith, k))
+as_long same (x ∷ xs) (y ∷ ys) e = (let k = as_long same xs ys (and_parts (same x y) (pointwise same xs ys) e).1 in omega (arith, k))
 
 -- an operation that stands in a tree, with one at the end of a block of it
 module _ (t o : Operation) (d : HasDistinctIds t) (path : List (StepOf (List ℕ) TypeTerm AttrTerm)) (here : In (stand o path) (stands [] t)) (clean : is_clean t (head o) ≡ true) where
@@ -142,14 +136,14 @@ module _ (t o : Operation) (d : HasDistinctIds t) (path : List (StepOf (List ℕ
     yields : ends_otherwise r (codes "scf.yield") (surround t (stand o path)) ≡ false → (head n.last).name ≡ codes "scf.yield"
     yields e =
         name_is (codes "scf.yield") (head n.last).name
-        (not_no (bytes_eq (head n.last).name (codes "scf.yield"))
+        (not-false (bytes_eq (head n.last).name (codes "scf.yield"))
         (sym (ap (isnt_wanted (codes "scf.yield")) last_is)
-        ∙ and_no (is_some (block_at r (node_of o))) (isnt_wanted (codes "scf.yield") (last_at r (surround t (stand o path)))) (ap is_some block_is) e))
+        ∙ spoken (is_some (block_at r (node_of o))) (isnt_wanted (codes "scf.yield") (last_at r (surround t (stand o path)))) (ap is_some block_is) e))
       where
         last_is : last_at r (surround t (stand o path)) ≡ Some (head n.last).name
         last_is =
             ap (option_and_then (λ last. last)) (names_at (regions o) r ∙ ap (option_map (λ g. option_and_then last_name (ops_in g))) n.block)
-            ∙ last_joined n.front n.last
+            ∙ name_joined n.front n.last
 
         node_arguments : (o : Operation) → (node_of o).arguments ≡ regions_arguments (regions o)
         node_arguments (op h rs) = refl
@@ -164,11 +158,11 @@ module _ (t o : Operation) (d : HasDistinctIds t) (path : List (StepOf (List ℕ
         let found = row_there (row_of (codes "scf.yield")) yield_listed in
         let s = surround t inner in
         let v = clean_unbroken t inner found.0 n.clean inner_stood (ap row_of y ∙ found.1) in
-        let named_so : is_named s.node (codes "scf.yield") ≡ true = ap (λ h. bytes_eq h.name (codes "scf.yield")) (node_head n.last) ∙ ap (λ m. bytes_eq m (codes "scf.yield")) y in
-        let outside : ended_of s ≡ Some (node_of o) = ap (if_well_shaped (node_of o)) (ap (λ h. row_of h.name) (node_head o) ∙ f) ∙ ap (λ b. if◌then◌else◌ b (Some (node_of o)) None) u.shaped in
-        let told = and_no (is_named s.node (codes "scf.yield")) (differ (option_and_then yielded (ended_of s)) s.types) named_so v.yields in
-        ap (λ h. same_types (there h.results) s.types) (sym (node_head o))
-        ∙ not_no (same_types (there (node_of o).head.results) s.types) (sym (ap (λ p. differ (option_and_then yielded p) s.types) outside ∙ ap (λ p. differ p s.types) w) ∙ told)
+        let named_so : is_named s.node (codes "scf.yield") ≡ true = ap (λ h. bytes_eq h.name (codes "scf.yield")) (head_shown n.last) ∙ ap (λ m. bytes_eq m (codes "scf.yield")) y in
+        let outside : ended_of s ≡ Some (node_of o) = ap (if_well_shaped (node_of o)) (ap (λ h. row_of h.name) (head_shown o) ∙ f) ∙ ap (λ b. if◌then◌else◌ b (Some (node_of o)) None) u.shaped in
+        let told = spoken (is_named s.node (codes "scf.yield")) (differ (option_and_then yielded (ended_of s)) s.types) named_so v.yields in
+        ap (λ h. same_types (there h.results) s.types) (sym (head_shown o))
+        ∙ not-false (same_types (there (node_of o).head.results) s.types) (sym (ap (λ p. differ (option_and_then yielded p) s.types) outside ∙ ap (λ p. differ p s.types) w) ∙ told)
 
 -- the types of what a choice's block hands on
 pub choice_types : (t o : Operation) (x r : ℕ) (e : Ended) → r ≤ 1 → IsCleanOf t o x (codes "scf.if") → body t o r ≡ Some e → same_types (there (head o).results) (map (λ v. type_of_value v t) e.last.operands) ≡ true
@@ -187,7 +181,7 @@ choice_types t o x r e small h k = go (found_stands x t o h.found)
         let row = row_there (row_of (codes "scf.if")) if_listed in
         let listed = ap row_of name ∙ row.1 in
         let u = clean_unbroken t (stand o w.0.path) row.0 h.clean (stood t o h.distinct w.0.path here h.clean) listed in
-        let node_name = ap (λ h. h.name) (node_head o) ∙ name in
+        let node_name = ap (λ h. h.name) (head_shown o) ∙ name in
         let y = yields t o h.distinct w.0.path here h.clean r e n (which r small (surround t (stand o w.0.path)) (if_ends (surround t (stand o w.0.path)) node_name u.ends)) in
         ap (λ h. same_types (there (head o).results) (map (λ v. type_of_value v t) h.operands)) n.is ∙ handed_types t o h.distinct w.0.path here h.clean r e n row.0 listed u y (if_wants (node_of o) node_name)
 
@@ -203,7 +197,7 @@ loop_types t o x e h k = go (found_stands x t o h.found)
         let row = row_there (row_of (codes "scf.for")) for_listed in
         let listed = ap row_of name ∙ row.1 in
         let u = clean_unbroken t (stand o w.0.path) row.0 h.clean (stood t o h.distinct w.0.path here h.clean) listed in
-        let node_name = ap (λ h. h.name) (node_head o) ∙ name in
+        let node_name = ap (λ h. h.name) (head_shown o) ∙ name in
         let y = yields t o h.distinct w.0.path here h.clean 0 e n (for_ends (surround t (stand o w.0.path)) node_name u.ends) in
         ap (λ h. same_types (there (head o).results) (map (λ v. type_of_value v t) h.operands)) n.is ∙ handed_types t o h.distinct w.0.path here h.clean 0 e n row.0 listed u y (for_wants (node_of o) node_name)
 
@@ -230,16 +224,13 @@ one_truth : (t : Operation) (k : Known) (vs : List Value) → first_fit k (type.
 one_truth t k [] e = absurd cc
 one_truth t k (v ∷ u ∷ vs) e =
     let many = length (map (λ (v : Value). type_of_value v t) (u ∷ vs)) in
-    let none = (unsigned_Decides many 0).0 (both (is_there is_boolean (type_of_value v t)) (many == 0) e).1 in
+    let none = (unsigned_Decides many 0).0 (and_parts (is_there is_boolean (type_of_value v t)) (many == 0) e).1 in
     absurd (omega (arith, none))
-one_truth t k (v ∷ []) e = go (type_of_value v t) refl (both (is_there is_boolean (type_of_value v t)) true e).0
+one_truth t k (v ∷ []) e = go (type_of_value v t) refl (and_parts (is_there is_boolean (type_of_value v t)) true e).0
   where
     go : (ty : Option TypeTerm) → type_of_value v t ≡ ty → is_there is_boolean ty ≡ true → is_index_value t v ∷ [] ≡ false ∷ []
     go None f b = absurd cc
     go (Some ty) f b = ap (λ z. z ∷ []) (ap (λ o. option_eq same_type o (Some Index)) f ∙ truth ty b)
-
-some_row : (a b : TypesRow) → Some a ≡ Some b → a ≡ b
-some_row a b e = cc
 
 pub choices_ask_truth : ChoicesAskTruth
 choices_ask_truth t o x h = go (found_stands x t o h.found)
@@ -252,7 +243,7 @@ choices_ask_truth t o x h = go (found_stands x t o h.found)
         let listed = ap row_of name ∙ row.1 in
         let s = surround t (stand o w.0.path) in
         let u = clean_unbroken t (stand o w.0.path) row.0 h.clean (stood t o h.distinct w.0.path here h.clean) listed in
-        let fit = not_no (types_fit (known_of row.0 s) row.0.operands s.types) (or_no (is_no_number (known_of row.0 s).number) (not (types_fit (known_of row.0 s) row.0.operands s.types)) u.operands).1 in
+        let fit = not-false (types_fit (known_of row.0 s) row.0.operands s.types) (or_no (is_no_number (known_of row.0 s).number) (not (types_fit (known_of row.0 s) row.0.operands s.types)) u.operands).1 in
         let asks : Some row.0.operands ≡ Some (record { first = type.Boolean ∷ []; more = None }) = sym (ap (option_map (λ (row : Row). row.operands)) row.1) ∙ if_asks in
-        let one : row.0.operands ≡ record { first = type.Boolean ∷ []; more = None } = some_row row.0.operands (record { first = type.Boolean ∷ []; more = None }) asks in
+        let one : row.0.operands ≡ record { first = type.Boolean ∷ []; more = None } = same_Some row.0.operands (record { first = type.Boolean ∷ []; more = None }) asks in
         one_truth t (known_of row.0 s) (head o).operands (sym (ap (λ (p : TypesRow). types_fit (known_of row.0 s) p s.types) one) ∙ fit)

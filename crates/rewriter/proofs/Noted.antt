@@ -17,7 +17,7 @@ use Rattle.rewriter.proofs.OpenMarks.{last_same, front_same}
 
 -- ---- events at the end of a journal
 
-none_noted : (ks : List Mark) (js : List Event) → js ≡ all_noted ks js []
+pub none_noted : (ks : List Mark) (js : List Event) → js ≡ all_noted ks js []
 none_noted [] js = refl
 none_noted (k ∷ ks) js = sym (append-nil js)
 
@@ -25,15 +25,15 @@ one_noted : (ks : List Mark) (js : List Event) (e : Event) → noted ks js e ≡
 one_noted [] js e = refl
 one_noted (k ∷ ks) js e = refl
 
-more_noted : (ks : List Mark) (js es fs : List Event) → all_noted ks (all_noted ks js es) fs ≡ all_noted ks js (es ++ fs)
+pub more_noted : (ks : List Mark) (js es fs : List Event) → all_noted ks (all_noted ks js es) fs ≡ all_noted ks js (es ++ fs)
 more_noted [] js es fs = refl
 more_noted (k ∷ ks) js es fs = append_assoc js es fs
 
-longer_noted : (ks : List Mark) (js es : List Event) → length js ≤ length (all_noted ks js es)
+pub longer_noted : (ks : List Mark) (js es : List Event) → length js ≤ length (all_noted ks js es)
 longer_noted [] js es = omega arith
 longer_noted (k ∷ ks) js es = (let l = length-append js es in omega (arith, l))
 
-some_noted : (ks : List Mark) (js es : List Event) → ks ≢ [] → all_noted ks js es ≡ js ++ es
+pub some_noted : (ks : List Mark) (js es : List Event) → ks ≢ [] → all_noted ks js es ≡ js ++ es
 some_noted [] js es some = absurd (some refl)
 some_noted (k ∷ ks) js es some = refl
 

@@ -28,7 +28,7 @@ all_stay [] = tt
 all_stay (k ∷ ks) = (record { same = same_self k; stale = λ h. h }, all_stay ks)
 
 module _ {B : Type 0} (meaning : B → Listener) where
-  found_shown : (kind : ℕ) (bs : List B) → position_or_len (is_kind kind) (all_shown meaning bs) ≡ position_or_len (has_this_kind meaning kind) bs
+  pub found_shown : (kind : ℕ) (bs : List B) → position_or_len (is_kind kind) (all_shown meaning bs) ≡ position_or_len (has_this_kind meaning kind) bs
   found_shown kind [] = refl
   found_shown kind (b ∷ bs) = rw (found_shown kind bs) refl
 
@@ -56,15 +56,15 @@ module _ {B : Type 0} (meaning : B → Listener) where
   ages_told e c n see (x ∷ xs) [] h = absurd h
   ages_told e c n see (x ∷ xs) (y ∷ ys) h = (record { same = record { kind = h.0.same.kind; analysis = h.0.same.analysis }; stale = h.0.stale }, ages_told e c n see xs ys h.1)
 
-  removed_shown : (bs : List B) (i : ℕ) → all_shown meaning (remove bs i) ≡ remove (all_shown meaning bs) i
+  pub removed_shown : (bs : List B) (i : ℕ) → all_shown meaning (remove bs i) ≡ remove (all_shown meaning bs) i
   removed_shown bs i = map-append (λ b. shown (meaning b)) (take i bs) (drop (suc i) bs) ∙ (λ j. sym (take-map (λ b. shown (meaning b)) i bs) j ++ sym (drop-map (λ b. shown (meaning b)) (suc i) bs) j)
 
-  set_shown : (bs : List B) (i : ℕ) (a : B) → all_shown meaning (slice_set bs i a) ≡ slice_set (all_shown meaning bs) i (shown (meaning a))
+  pub set_shown : (bs : List B) (i : ℕ) (a : B) → all_shown meaning (slice_set bs i a) ≡ slice_set (all_shown meaning bs) i (shown (meaning a))
   set_shown [] i a = refl
   set_shown (b ∷ bs) zero a = refl
   set_shown (b ∷ bs) (suc i) a = ap (λ ks. shown (meaning b) ∷ ks) (set_shown bs i a)
 
-  got_shown : (bs : List B) (i : ℕ) (a : B) → slice_get bs i ≡ Some a → slice_get (all_shown meaning bs) i ≡ Some (shown (meaning a))
+  pub got_shown : (bs : List B) (i : ℕ) (a : B) → slice_get bs i ≡ Some a → slice_get (all_shown meaning bs) i ≡ Some (shown (meaning a))
   got_shown [] zero a e = absurd cc
   got_shown [] (suc i) a e = absurd cc
   got_shown (b ∷ bs) zero a e = (let same : b ≡ a = cc in ap (λ x. Some (shown (meaning x))) same)
@@ -99,7 +99,7 @@ module _ {B : Type 0} (meaning : B → Listener) where
   ages_followed es c m d n (x ∷ xs) (y ∷ ys) h = (record { same = record { kind = h.0.same.kind; analysis = h.0.same.analysis }; stale = h.0.stale }, ages_followed es c m d n xs ys h.1)
 
   -- a listener that is added last
-  shown_last : (xs : List B) (b : B) → all_shown meaning (xs ++ b ∷ []) ≡ all_shown meaning xs ++ shown (meaning b) ∷ []
+  pub shown_last : (xs : List B) (b : B) → all_shown meaning (xs ++ b ∷ []) ≡ all_shown meaning xs ++ shown (meaning b) ∷ []
   shown_last [] b = refl
   shown_last (x ∷ xs) b = ap (λ ys. shown (meaning x) ∷ ys) (shown_last xs b)
 

@@ -10,6 +10,7 @@ use Rattle.rewriter_laws.specs.Journals.{IsJournal, before}
 use Rattle.rewriter_desk.specs.declared.mark.Mark.{Mark}
 use Rattle.rewriter_desk.specs.Held.{Held, IsGood, Rising, Within, module_held, open_mark, open_marks}
 use Rattle.rewriter_desk.specs.Marked.{Closed, IsNewest, kept, with_mark}
+use Rattle.ir_types.proofs.Truths.{drop_all}
 
 pub within-more : (n p : ℕ) (ks : List Mark) → n ≤ p → Within n ks → Within p ks
 within-more n p [] le h = tt
@@ -67,15 +68,11 @@ good_marked counted h g = record {
 pushed : (f : Mark → OpenMark) (ks : List Mark) (k : Mark) → reverse (map f (ks ++ k ∷ [])) ≡ f k ∷ reverse (map f ks)
 pushed f ks k = ap reverse (map-append f ks (k ∷ [])) ∙ reverse-append (map f ks) (f k ∷ [])
 
-drop_long : {X : Type 0} (xs : List X) → drop (length xs) xs ≡ []
-drop_long [] = refl
-drop_long (x ∷ xs) = drop_long xs
-
 pub open_marked : (counted : Bool) (h : Held) → open_marks (with_mark counted h) ≡ record { marked = module_held h; counted = counted } ∷ open_marks h
 open_marked counted h =
     let k : Mark = record { length = length h.journal; counted = counted } in
     pushed (open_mark h) h.marks k
-    ∙ ap (λ es. (let o : OpenMark = record { marked = before h.ctx es h.store; counted = counted } in o) ∷ open_marks h) (drop_long h.journal)
+    ∙ ap (λ es. (let o : OpenMark = record { marked = before h.ctx es h.store; counted = counted } in o) ∷ open_marks h) (drop_all h.journal)
 
 module _ (counted : Bool) (h : Held) (n : ℕ) (ks : List Mark) (is_n : n ≡ length h.journal) (is_ks : ks ≡ h.marks ++ record { length = n; counted = counted } ∷ []) where
   pub mark_good : IsGood h → IsGood (record { ctx = h.ctx; store = h.store; journal = h.journal; marks = ks })

@@ -28,6 +28,7 @@ use Rattle.rewriter_desk.specs.Held.{Held, IsGood, Within, module_at, module_hel
 use Rattle.rewriter_desk.specs.Moves.{Edited, Grown, HoldsModuleAlone, HoldsNone, Tidied, Undone, noted, noted_as}
 use Rattle.rewriter_desk.proofs.Behind.{newest_undone, grown_journal, grown_before, released_journal, released_before, slotted_undone, slotted_released, tidy_released}
 use Rattle.rewriter_desk.proofs.Marks.{opens_same, push-none, within-more}
+use Rattle.rewriter_laws.proofs.Ended.{before_last, undone_both}
 
 -- ---- events that are noted
 
@@ -102,13 +103,6 @@ module _ (h : Held) (good : IsGood h) where
 
 -- ---- an event that is undone
 
-pub undone_append : (c : Things) (es fs : List Event) (s : Stored) → undone_all c (es ++ fs) s ≡ undone_all c es (undone_all c fs s)
-undone_append c [] fs s = refl
-undone_append c (e ∷ es) fs s = ap (undone c e) (undone_append c es fs s)
-
-before_push : (c : Things) (es : List Event) (e : Event) (s : Stored) → before c (es ++ e ∷ []) s ≡ before c es (undone c e s)
-before_push c es e s = ap (λ (u : Stored). module_meaning c u.module_of) (undone_append c es (e ∷ []) s)
-
 module _ (h : Held) (good : IsGood h) (store : IsStoreOf h.ctx h.store) (es : List Event) (e : Event) (is : h.journal ≡ es ++ e ∷ []) (free : Within (length h.journal - 1) h.marks) where
   abbrev undone_held : Held
   undone_held = record { ctx = h.ctx; store = undone h.ctx e h.store; journal = es; marks = h.marks }
@@ -135,7 +129,7 @@ module _ (h : Held) (good : IsGood h) (store : IsStoreOf h.ctx h.store) (es : Li
   }
 
   before_undone : (k : ℕ) → k ≤ length es → module_at k undone_held ≡ module_at k h
-  before_undone k le = sym (ap (λ js. before h.ctx (drop k js) h.store) is ∙ ap (λ js. before h.ctx js h.store) (drop-append-le k es (e ∷ []) le) ∙ before_push h.ctx (drop k es) e h.store)
+  before_undone k le = sym (ap (λ js. before h.ctx (drop k js) h.store) is ∙ ap (λ js. before h.ctx js h.store) (drop-append-le k es (e ∷ []) le) ∙ before_last h.ctx (drop k es) e h.store)
 
   pub open_undone : open_marks undone_held ≡ open_marks h
   open_undone = opens_same h undone_held (length es) refl within_rest before_undone

@@ -26,8 +26,9 @@ use Rattle.ir_tree_laws.proofs.Reasoned.{no_unless}
 use Rattle.ir_tree_laws.proofs.HeadForm.{operand_keeps}
 use Rattle.rewriter_machine.specs.Edits.{TestsOf, Replace, reason_by}
 use Rattle.rewriter_laws.specs.Replacing.{all_set}
-use Rattle.rewriter_laws.proofs.Left.{of_gather, user, head_each}
+use Rattle.rewriter_laws.proofs.Left.{of_gather, user}
 use Rattle.rewriter_laws.proofs.Parts.{in_middle}
+use Rattle.ir_tree.proofs.Facts.{head_each}
 
 -- the place of a use
 below : (v : Value) (x k : ℕ) (ws : List Value) (u : ℕ × ℕ) → In u (operand_uses v x k ws) → u.1 < k + length ws

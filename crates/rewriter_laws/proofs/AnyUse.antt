@@ -28,10 +28,14 @@ use Rattle.ir_tree_laws.proofs.Reasoned.{no_unless}
 use Rattle.ir_tree_laws.proofs.HeadForm.{in_gather, operand_keeps}
 use Rattle.ir_store.specs.Using.{same_use, is_use}
 use Rattle.rewriter_machine.specs.Edits.{TestsOf, Replace, reason_by}
-use Rattle.rewriter_laws.proofs.Setting.{apart, unequal, unchanged, twice, agree}
-use Rattle.rewriter_laws.proofs.Left.{gather_same, of_gather, head_each, user, uses_here, uses_then, elsewhere, uses_set}
+use Rattle.ir_tree_laws.proofs.Entries.{each_twice}
+use Rattle.rewriter_laws.proofs.Setting.{apart, unchanged, agree}
+use Rattle.rewriter_laws.proofs.Left.{gather_same, of_gather, user, uses_here, uses_then, elsewhere, uses_set}
 use Rattle.rewriter_laws.proofs.Allowed.{may_set, uses_see, each_takes}
-use Rattle.rewriter_laws.proofs.Parts.{passed}
+use Rattle.ir_tree.proofs.Facts.{head_each}
+use Rattle.ir_types.proofs.Truths.{nil_parts}
+use Rattle.ir_tree_laws.proofs.Reverted.{passed}
+use Rattle.ir_tree_laws.proofs.Nested.{unequal}
 
 pub listed : (x k : ℕ) (us : List (ℕ × ℕ)) → is_use x k us ≡ true → In (x, k) us
 listed x k us e =
@@ -39,14 +43,10 @@ listed x k us e =
     let b = both (eqb p.0.0 x) (eqb p.0.1 k) p.2 in
     subst (λ z. In z us) (λ i. (eqb-true p.0.0 x b.0 i, eqb-true p.0.1 k b.1 i)) p.1
 
-no_part : {X : Type 0} (xs ys : List X) → xs ++ ys ≡ [] → (xs ≡ []) × (ys ≡ [])
-no_part [] ys e = (refl, e)
-no_part (x ∷ xs) ys e = absurd cc
-
 none_of : {X Y : Type 0} (f : X → List Y) (xs : List X) → gather f xs ≡ [] → (x : X) → In x xs → f x ≡ []
 none_of f [] e x h = absurd h
-none_of f (y ∷ xs) e x (inl k) = ap f k ∙ (no_part (f y) (gather f xs) e).0
-none_of f (y ∷ xs) e x (inr k) = none_of f xs (no_part (f y) (gather f xs) e).1 x k
+none_of f (y ∷ xs) e x (inl k) = ap f k ∙ (nil_parts (f y) (gather f xs) e).0
+none_of f (y ∷ xs) e x (inr k) = none_of f xs (nil_parts (f y) (gather f xs) e).1 x k
 
 -- ---- the types of values, where heads are changed but for their results
 module _ {N T A : Type 0} (f : HeadOf N T A → HeadOf N T A) (kept : (h : HeadOf N T A) → (f h).results ≡ h.results) where
@@ -215,7 +215,7 @@ module _ (old : Value) where
       with_list h l = record h { operands = l }
 
       pub replaced_same : (u : ℕ × ℕ) (t : OpOf N T A) → HasDistinctIds t → In u (uses_of old t) → with_value_replaced old new (with_operand u.0 u.1 new t) ≡ with_value_replaced old new t
-      replaced_same u t d h = twice (at u.0 (put_operand u.1 new)) (put_values old new) t ∙ agree (λ h. put_values old new (at u.0 (put_operand u.1 new) h)) (put_values old new) [] t each
+      replaced_same u t d h = each_twice (at u.0 (put_operand u.1 new)) (put_values old new) t ∙ agree (λ h. put_values old new (at u.0 (put_operand u.1 new) h)) (put_values old new) [] t each
         where
           each : (s : StandOf N T A) → In s (stands [] t) → put_values old new (at u.0 (put_operand u.1 new) (head s.here)) ≡ put_values old new (head s.here)
           each s m = elim (bool_cases (eqb (stand_id s) u.0)) [

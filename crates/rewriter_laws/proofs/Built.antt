@@ -25,6 +25,7 @@ use Rattle.ir_tree_laws.proofs.Nested.{put_along, may_along, put_at_end}
 use Rattle.ir_tree_laws.proofs.Reverted.{spot_parent}
 use Rattle.rewriter_laws.specs.Inserting.{bare, bare_region, bare_regions, end_of, headers, regions_headers, region_headers, ops_headers}
 use Rattle.rewriter_laws.proofs.Earlier.{present_left}
+use Rattle.ir_tree_laws.proofs.Values.{joined_more}
 
 own_id : (x y : ℕ) → Present y (x ∷ []) → x ≡ y
 own_id x y h = elim (either (eqb x y) false h) [ inl k ↦ eqb-true x y k | inr k ↦ absurd (true≢false (sym k)) ]
@@ -193,10 +194,6 @@ module _ {N T A : Type 0} where
   front_ids [] = refl
   front_ids (o ∷ front) = ap (λ l. ids o ++ l) (front_ids front)
 
-  one_op_more : (front : List (OpOf N T A)) (o : OpOf N T A) (os : OpsOf N T A) → joined_ops (front ++ o ∷ []) os ≡ joined_ops front (next o os)
-  one_op_more [] o os = refl
-  one_op_more (q ∷ front) o os = ap (next q) (one_op_more front o os)
-
   more_op_ids : (front : List (OpOf N T A)) (o : OpOf N T A) → all_ids (front ++ o ∷ []) ≡ all_ids front ++ ids o
   more_op_ids [] o = append-nil (ids o)
   more_op_ids (q ∷ front) o = ap (λ l. ids q ++ l) (more_op_ids front o) ∙ sym (append_assoc (ids q) (all_ids front) (ids o))
@@ -301,4 +298,4 @@ module _ {N T A : Type 0} where
         let rest = ops_build h gs r e args (front ++ q ∷ []) os rs none (next_distinct h gs args rs none front q (ops_ids os) d) in
         then_builds (headers (end_of h.id r) q) (ops_headers h.id r os) t (op h (joined gs (region (block args (joined_ops (front ++ q ∷ []) no_ops)) rs))) (op h (joined gs (region (block args (joined_ops front (next q os))) rs)))
         (subst (Builds (headers (end_of h.id r) q) t) is one)
-        (subst (λ (l : OpsOf N T A). Builds (ops_headers h.id r os) (op h (joined gs (region (block args (joined_ops (front ++ q ∷ []) no_ops)) rs))) (op h (joined gs (region (block args l) rs)))) (one_op_more front q os) rest)
+        (subst (λ (l : OpsOf N T A). Builds (ops_headers h.id r os) (op h (joined gs (region (block args (joined_ops (front ++ q ∷ []) no_ops)) rs))) (op h (joined gs (region (block args l) rs)))) (joined_more front q os) rest)

@@ -20,11 +20,12 @@ use Rattle.ir_event.proofs.Sounds.{found_sound}
 use Rattle.ir_store.specs.Slots.{gone_after, has_key}
 use Rattle.ir_store.specs.Stored.{Gone, Stored, change_gone, has_entry, has_slot, is_some_with, stands}
 use Rattle.ir_store.specs.Calls.{after_entry, after_operand}
-use Rattle.rewriter_laws.proofs.Maps.{gone_here, gone_other, mapped_is}
+use Rattle.rewriter_laws.proofs.Maps.{gone_here, gone_other}
 use Rattle.rewriter_laws.proofs.Keys.{after_none, after_other, has_put, part_keeps}
 use Rattle.rewriter_laws.proofs.Trees.{found_id}
 use Rattle.rewriter_laws.proofs.Stores.{dictionary, entry_same, slot_like}
 use Rattle.rewriter_laws.proofs.Carries.{Carries}
+use Rattle.ir_tree_laws.proofs.Contents.{some_map}
 
 head_each : (f : Head → Head) (o : Op) → head (each_head f o) ≡ f (head o)
 head_each f (op h rs) = refl
@@ -132,7 +133,7 @@ module _ (before : ℕ → ℕ → Bool) (x : ℕ) (part : Part) (k : ℕ) (a : 
 
   pub gone_some : (s : Stored) (y : ℕ) → is_some (finmap.get (after_entry before x part k a s).gone y) ≡ is_some (finmap.get s.gone y)
   gone_some s y = ⊎_elim
-      (λ e. ap (λ z. is_some (finmap.get (after s).gone z)) e ∙ ap is_some (gone_here x (change_gone part (gone_after k a)) s.gone) ∙ mapped_is (change_gone part (gone_after k a)) (finmap.get s.gone x) ∙ ap (λ z. is_some (finmap.get s.gone z)) (sym e))
+      (λ e. ap (λ z. is_some (finmap.get (after s).gone z)) e ∙ ap is_some (gone_here x (change_gone part (gone_after k a)) s.gone) ∙ some_map (change_gone part (gone_after k a)) (finmap.get s.gone x) ∙ ap (λ z. is_some (finmap.get s.gone z)) (sym e))
       (λ n. ap is_some (gone_other x (change_gone part (gone_after k a)) s.gone (finmap.get s.gone x) y n))
       (cases_eq y x)
 

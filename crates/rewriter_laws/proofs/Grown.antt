@@ -23,7 +23,7 @@ use Rattle.ir_event.proofs.Steps.{step_stays}
 use Rattle.ir_event.specs.Undoing.{CameFrom, Keeps, undone}
 use Rattle.rewriter_laws.specs.Journals.{IsJournal, IsStoreOf, before, undone_all}
 use Rattle.rewriter_laws.proofs.Ended.{store_behind}
-use Rattle.rewriter_laws.proofs.Noting.{attr_is}
+use Rattle.ir_event.proofs.Entered.{attr_is}
 
 module _ (c d : Things) (g : Grows c d) (rich : IsSound d) where
   pub store_stays : (s : Stored) → IsStoreOf c s → IsStoreOf d s

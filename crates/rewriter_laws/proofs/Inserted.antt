@@ -2,7 +2,7 @@
 use Rattle.std.proofs.Common.{◌≡◌, refl, ap, sym, ◌∙◌, subst, ℕ, zero, suc, ◌+◌, ◌<◌, ◌≤◌, Bool, true, false, true≢false, not, eqb, List, [], ◌∷◌, ◌++◌, length, map, reverse, append_assoc, append-nil, length-append, None, arith}
 use Rattle.std.specs.Prelude.{nat_le, nat_lt}
 use Rattle.std.specs.List.{list_all, range_with_len}
-use Rattle.std.proofs.lemmas.Bool.{leb-true, le-leb, lt-ltb}
+use Rattle.std.proofs.lemmas.Bool.{leb-true, le-leb, lt-ltb, ne_eqb}
 use Rattle.std.proofs.lemmas.List.{length-map, map-append, reverse-append}
 use Rattle.ir_types.specs.declared.refusal.Refusal.TheVariants.{NoSuchOp, NoSuchValue, NotVisible, NoSuchIndex, Full, IdsExhausted, TooDeepHere}
 use Rattle.ir_tree.specs.declared.place.Place.{Place}
@@ -14,7 +14,6 @@ use Rattle.ir_tree.specs.Sites.{visible, operands_visible}
 use Rattle.ir_tree.specs.Places.{put, without}
 use Rattle.ir_tree.specs.WellFormed.{ModuleOf, IsWellFormed}
 use Rattle.ir_tree.proofs.Moves.{take_put}
-use Rattle.ir_tree.proofs.Returns.{not_equal}
 use Rattle.ir_tree_laws.specs.Members.{In}
 use Rattle.ir_tree_laws.specs.Reads.{around}
 use Rattle.ir_tree_laws.specs.Reasons.{has_place, fits_around, hold_none, leaves, put_reason, take_reason, with_id}
@@ -32,14 +31,15 @@ use Rattle.ir_tree_laws.proofs.Reasoned.{no_unless}
 use Rattle.ir_tree_laws.proofs.Values.{seen_by}
 use Rattle.ir_tree_laws.proofs.Changed.{take_changes, may_restore}
 use Rattle.ir_tree_laws.proofs.Edited.{put_op_count}
-use Rattle.ir_tree_laws.proofs.Reverted.{spot_parent}
+use Rattle.ir_tree_laws.proofs.Reverted.{spot_parent, passed}
 use Rattle.ir_tree_laws.proofs.WellKept.{may_put_tree, insert_keeps, put_keeps}
 use Rattle.rewriter_machine.specs.Edits.{TestsOf, Insert, Make, edited_by, reason_by}
 use Rattle.rewriter_laws.specs.Erasing.{all_taken}
 use Rattle.rewriter_laws.specs.Inserting.{headers, all_made}
-use Rattle.rewriter_laws.proofs.Parts.{in_middle, passed}
-use Rattle.rewriter_laws.proofs.Taken.{own_there, taken_more, Erasing, each_may, each_formed}
+use Rattle.rewriter_laws.proofs.Parts.{in_middle}
+use Rattle.rewriter_laws.proofs.Taken.{taken_more, Erasing, each_may, each_formed}
 use Rattle.rewriter_laws.proofs.Built.{header_id, header_ids, header_of, header_count, bare_holds, all_put, Lands, put_more, lands_rest, Builds, build}
+use Rattle.ir_event.proofs.Facts.{own_id}
 
 -- consecutive numbers, cut in two
 cut_range : (xs ys : List ℕ) (n k : ℕ) → xs ++ ys ≡ range_with_len n k → (xs ≡ range_with_len n (length xs)) × ((y : ℕ) (zs : List ℕ) → ys ≡ y ∷ zs → y ≡ n + length xs)
@@ -84,7 +84,7 @@ module _ {N T A : Type 0} where
       ap (λ ys. all_taken ys (all_put vs (put u.0 u.1 t))) (reverse-append (header_id u ∷ []) (map header_id vs))
       ∙ taken_more (reverse (map header_id vs)) (header_id u ∷ []) (all_put vs (put u.0 u.1 t))
       ∙ ap (without (header_id u)) (taken_back vs (put u.0 u.1 t) l.1)
-      ∙ take_put u.0 u.1 t (l.0.apart (header_id u) (own_there u.1))
+      ∙ take_put u.0 u.1 t (l.0.apart (header_id u) (own_id u.1))
 
   -- what may be taken again may be put
   module _ (isolated : N → Bool) (u : Place × OpOf N T A) (t : OpOf N T A) (free : ℕ) (may : MayPut u.0 u.1 t) (formed : IsWellFormed isolated (record { tree = put u.0 u.1 t; next = free })) (takes : take_reason (header_id u) (put u.0 u.1 t) ≡ None) where
@@ -102,7 +102,7 @@ module _ {N T A : Type 0} where
 
     values : list_all (λ v. has_value v t) (head u.1).operands ≡ true
     values =
-        let c = take_changes (header_id u) false (record { tree = now; next = free }) (record { tree = t; next = free }) formed.distinct takes (sym (take_put u.0 u.1 t (may.apart (header_id u) (own_there u.1)))) refl in
+        let c = take_changes (header_id u) false (record { tree = now; next = free }) (record { tree = t; next = free }) formed.distinct takes (sym (take_put u.0 u.1 t (may.apart (header_id u) (own_id u.1)))) refl in
         (may_restore isolated (header_id u) c.0 false (record { tree = t; next = free }) (record { tree = now; next = free }) formed c.1 u.1 (put_found u.0 u.1 t may)).values
 
     may_put_again : header_id u < most_next → put_reason isolated u.0 u.1 (header_id u) t ≡ None
@@ -180,7 +180,7 @@ module _ {N T A : Type 0} (w : TestsOf N T) (place : Place) (o : OpOf N T A) (m 
   spared : (y : ℕ) → has_id y o ≡ true → (s : StandOf N T A) → In s (stands [] m.tree) → leaves y (head s.here) ≡ true
   spared y h s k =
       let g = from_formed w.isolated m.tree f.formed in
-      each_all (λ v. not (eqb (owner_of v).0 y)) (head s.here).operands (λ v n. ap not (not_equal (owner_of v).0 y (λ same.
+      each_all (λ v. not (eqb (owner_of v).0 y)) (head s.here).operands (λ v n. ap not (ne_eqb (owner_of v).0 y (λ same.
       let q = seen_by w.isolated m.tree f.distinct s k v (all_each (sees w.isolated s.path) (head s.here).operands (g.sees_own s k) v n) in
       true≢false (sym (subst (λ z. has_id z m.tree ≡ true) (sym q.id ∙ same) (stand_present [] m.tree q.owner q.there)) ∙ may.apart y h))))
 

@@ -17,10 +17,8 @@ use Rattle.ir_tree_laws.proofs.Keys.{keys_ordered}
 use Rattle.ir_tree_laws.proofs.Listed.{either, or_left, or_right}
 use Rattle.ir_store.specs.Slots.{gone_after, has_key, is_gone, keep_gone}
 use Rattle.ir_event.proofs.Nodes.{node_known}
-
-or_none : (b : Bool) → (b || false) ≡ b
-or_none true = refl
-or_none false = refl
+use Rattle.ir_event.proofs.Undoing.{no_test}
+use Rattle.ir_types.proofs.Truths.{or_false}
 
 -- keys that are gone
 keep_other : (k l : ℕ) → (l ≡ k → ⊥) → (ls : List ℕ) → is_gone l (keep_gone k ls) ≡ is_gone l ls
@@ -32,16 +30,11 @@ keep_other k l n (m ∷ ls) = ⊎_elim
 
 pub after_other : {A : Type 0} (k l : ℕ) (a : Option A) → (l ≡ k → ⊥) → (ls : List ℕ) → is_gone l (gone_after k a ls) ≡ is_gone l ls
 after_other k l None n ls =
-    list_any-append (λ m. eqb m l) ls (k ∷ []) ∙ ap (λ b. is_gone l ls || (b || false)) (ne_eqb k l (λ z. n (sym z))) ∙ or_none (is_gone l ls)
+    list_any-append (λ m. eqb m l) ls (k ∷ []) ∙ ap (λ b. is_gone l ls || (b || false)) (ne_eqb k l (λ z. n (sym z))) ∙ or_false (is_gone l ls)
 after_other k l (Some a) n ls = keep_other k l n ls
 
 pub after_none : (k : ℕ) (ls : List ℕ) → is_gone k (gone_after {A = ℕ} k None ls) ≡ true
 after_none k ls = list_any-append (λ m. eqb m k) ls (k ∷ []) ∙ or_right (is_gone k ls) (eqb k k || false) (or_left (eqb k k) false (eq-eqb k k refl))
-
-neither_test : (a b : Bool) → (not a && not b) ≡ true → (a ≡ false) × (b ≡ false)
-neither_test true b e = absurd (true≢false (sym e))
-neither_test false true e = absurd (true≢false (sym e))
-neither_test false false e = (refl, refl)
 
 pub has_put : (before : ℕ → ℕ → Bool) (k a : ℕ) (es : List (ℕ × ℕ)) → has_key k (put_entry before k a es) ≡ true
 has_put before k a [] = or_left (eqb k k) false (eq-eqb k k refl)
@@ -74,7 +67,7 @@ module _ (c : Things) (sound : IsSound c) (k : ℕ) (key : IsName c k) where
   drop_keeps : (l : ℕ) → (l ≡ k → ⊥) → (es : List (ℕ × ℕ)) → AllByRecursion Known es → has_key l es ≡ true → has_key l (drop_entry (key_before_in c) k es) ≡ true
   drop_keeps l other [] all h = absurd (true≢false (sym h))
   drop_keeps l other (e ∷ es) all h = ⊎_elim
-      (λ y. ap (λ b. has_key l (cond b es (e ∷ drop_entry (key_before_in c) k es))) y ∙ (let t = neither_test (key_before_in c k e.0) (key_before_in c e.0 k) y in
+      (λ y. ap (λ b. has_key l (cond b es (e ∷ drop_entry (key_before_in c) k es))) y ∙ (let t = no_test (key_before_in c k e.0) (key_before_in c e.0 k) y in
       let one : k ≡ e.0 = same_is e.0 all.0.0 t.0 t.1 in
       ⊎_elim (λ p. absurd (other (sym (eqb-true e.0 l p) ∙ sym one))) (λ q. q) (either (eqb e.0 l) (has_key l es) h)))
       (λ n. ap (λ b. has_key l (cond b es (e ∷ drop_entry (key_before_in c) k es))) n
@@ -88,7 +81,7 @@ module _ (c : Things) (sound : IsSound c) (k : ℕ) (key : IsName c k) where
   entry_key : (a : ℕ) (es : List (ℕ × ℕ)) → AllByRecursion Known es → entry_at (key_before_in c) k es ≡ Some a → has_key k es ≡ true
   entry_key a [] all e = absurd cc
   entry_key a (d ∷ es) all e = ⊎_elim
-      (λ y. let t = neither_test (key_before_in c k d.0) (key_before_in c d.0 k) y in or_left (eqb d.0 k) _ (eq-eqb d.0 k (sym (same_is d.0 all.0.0 t.0 t.1))))
+      (λ y. let t = no_test (key_before_in c k d.0) (key_before_in c d.0 k) y in or_left (eqb d.0 k) _ (eq-eqb d.0 k (sym (same_is d.0 all.0.0 t.0 t.1))))
       (λ n. or_right (eqb d.0 k) _ (entry_key a es all.1 (sym (cond-false (same_key (key_before_in c) k d.0) (Some d.1) (entry_at (key_before_in c) k es) n) ∙ e)))
       (cases_Bool (same_key (key_before_in c) k d.0))
 

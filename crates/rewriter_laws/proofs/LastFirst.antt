@@ -10,7 +10,6 @@ use Rattle.ir_tree.specs.Limits.{every}
 use Rattle.ir_tree.specs.Places.{put, put_here, without}
 use Rattle.ir_tree.specs.WellFormed.{ModuleOf, IsWellFormed}
 use Rattle.ir_tree.proofs.Moves.{take_put}
-use Rattle.ir_tree.proofs.Returns.{not_equal}
 use Rattle.ir_tree_laws.specs.Members.{In}
 use Rattle.ir_tree_laws.specs.Reads.{is_within}
 use Rattle.ir_tree_laws.specs.Reasons.{take_reason, leaves_within, unused_outside}
@@ -23,10 +22,12 @@ use Rattle.ir_tree_laws.proofs.Without.{same_head}
 use Rattle.ir_tree_laws.proofs.PutForm.{put_found}
 use Rattle.rewriter_machine.specs.Edits.{TestsOf, Erase, erase_reason, reason_by}
 use Rattle.rewriter_laws.specs.Erasing.{ids_in, erase_order}
-use Rattle.rewriter_laws.proofs.Parts.{passed}
-use Rattle.rewriter_laws.proofs.Setting.{unequal}
-use Rattle.rewriter_laws.proofs.Taken.{own_there, Erasing, taken_along, taken_goes_on, id_stays}
+use Rattle.rewriter_laws.proofs.Taken.{Erasing, taken_along, taken_goes_on, id_stays}
 use Rattle.rewriter_laws.proofs.Erased.{Erased, erased, erased_may, erased_formed, erased_left}
+use Rattle.std.proofs.lemmas.Bool.{ne_eqb}
+use Rattle.ir_event.proofs.Facts.{own_id}
+use Rattle.ir_tree_laws.proofs.Reverted.{passed}
+use Rattle.ir_tree_laws.proofs.Nested.{unequal}
 
 -- operation q stands at a place of a tree that is otherwise `rest`, and no other operation uses a value from within it
 module _ {N T A : Type 0} (isolated : N → Bool) (place : Place) (rest : OpOf N T A) (free x : ℕ) (q : OpOf N T A) (i : Erasing isolated place rest free q) (id : (head q).id ≡ x) where
@@ -37,15 +38,15 @@ module _ {N T A : Type 0} (isolated : N → Bool) (place : Place) (rest : OpOf N
   there = let s = found_stands x (put place q rest) q found in subst (λ y. has_id y (put place q rest) ≡ true) s.2 (stand_present [] (put place q rest) s.0 s.1)
 
   not_in_rest : has_id x rest ≡ false
-  not_in_rest = i.may.apart x (subst (λ y. has_id y q ≡ true) id (own_there q))
+  not_in_rest = i.may.apart x (subst (λ y. has_id y q ≡ true) id (own_id q))
 
   inner : eqb (head (put place q rest)).id x ≡ false
   inner =
       ap (λ (h : HeadOf N T A). eqb h.id x) (same_head x (put_here place q) rest)
-      ∙ not_equal (head rest).id x (λ e. true≢false (sym (subst (λ z. has_id z rest ≡ true) e (own_there rest)) ∙ not_in_rest))
+      ∙ ne_eqb (head rest).id x (λ e. true≢false (sym (subst (λ z. has_id z rest ≡ true) e (own_id rest)) ∙ not_in_rest))
 
   pub goes_out : without x (put place q rest) ≡ rest
-  goes_out = ap (λ z. without z (put place q rest)) (sym id) ∙ take_put place q rest (i.may.apart (head q).id (own_there q))
+  goes_out = ap (λ z. without z (put place q rest)) (sym id) ∙ take_put place q rest (i.may.apart (head q).id (own_id q))
 
   alone : unused_outside x (put place q rest) ≡ true
   alone =

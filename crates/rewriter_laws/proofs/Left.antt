@@ -15,7 +15,9 @@ use Rattle.ir_tree_laws.proofs.Listed.{in_parts}
 use Rattle.ir_tree_laws.proofs.Readings.{stands_ids, stands_uses}
 use Rattle.ir_tree_laws.proofs.Heads.{each_stands}
 use Rattle.rewriter_laws.specs.Replacing.{all_set}
-use Rattle.rewriter_laws.proofs.Setting.{apart, unequal}
+use Rattle.rewriter_laws.proofs.Setting.{apart}
+use Rattle.ir_tree.proofs.Facts.{head_each}
+use Rattle.ir_tree_laws.proofs.Nested.{unequal}
 
 pub gather_map : {X Y Z : Type 0} (f : Y → List Z) (g : X → Y) (xs : List X) → gather f (map g xs) ≡ gather (λ x. f (g x)) xs
 gather_map f g [] = refl
@@ -34,9 +36,6 @@ of_gather f y (x ∷ xs) h = elim (in_parts y (f x) (gather f xs) h) [
 
 one_first : (a b : ℕ × ℕ) (xs ys : List (ℕ × ℕ)) → a ∷ xs ≡ b ∷ ys → (a ≡ b) × (xs ≡ ys)
 one_first a b xs ys e = (cc, cc)
-
-pub head_each : {N T A : Type 0} (f : HeadOf N T A → HeadOf N T A) (o : OpOf N T A) → head (each_head f o) ≡ f (head o)
-head_each f (op h rs) = refl
 
 module _ (old : Value) where
   -- who uses it

@@ -9,6 +9,7 @@ use Rattle.ir_tree.specs.Tree.{Op}
 use Rattle.ir_store.specs.Stored.{Gone}
 use Rattle.ir_store.specs.Calls.{hold, change_gone_of}
 use Rattle.ir_event.proofs.Maps.{eq_nat}
+use Rattle.ir_tree_laws.proofs.Contents.{some_map}
 
 module _ {X : Type 0} (m : finmap.FinMap nat_cmp X) (x : ℕ) where
   pub set_here : (a : X) → finmap.get (finmap.insert m x a) x ≡ Some a
@@ -38,7 +39,3 @@ module _ (x : ℕ) (f : Gone → Gone) (m : finmap.FinMap nat_cmp Gone) where
   pub gone_other : (q : Option Gone) (y : ℕ) → (y ≡ x → ⊥) → finmap.get (change_gone_of x f q m) y ≡ finmap.get m y
   gone_other None y not = refl
   gone_other (Some g) y not = set_other m x (f g) y not
-
-pub mapped_is : {X Y : Type 0} (f : X → Y) (q : Option X) → is_some (option_map f q) ≡ is_some q
-mapped_is f None = refl
-mapped_is f (Some a) = refl

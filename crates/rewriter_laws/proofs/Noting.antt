@@ -16,7 +16,7 @@ use Rattle.ir_tree.specs.Meaning.{IsSoundIn, is_attr, key_before, key_before_in,
 use Rattle.ir_tree.proofs.Mapped.{map_find}
 use Rattle.ir_tree.proofs.SoundEdits.{entry_sound, operand_sound, put_sound, without_sound}
 use Rattle.ir_tree_laws.specs.Reasons.{entry_reason, found_entry_reason, set_entry_reason, unless, with_id}
-use Rattle.ir_tree_laws.proofs.Contents.{map_entry_in}
+use Rattle.ir_tree_laws.proofs.Contents.{map_entry_in, some_map}
 use Rattle.ir_store.specs.Slots.{has_key}
 use Rattle.ir_store.specs.Stored.{Stored, none_gone}
 use Rattle.ir_store.specs.Calls.{after_entry, after_operand, after_put, after_shift, after_take, hold}
@@ -31,17 +31,14 @@ use Rattle.ir_event.specs.Edits.{IsEntryStep, IsPutStep, IsShiftStep, IsTakeStep
 use Rattle.ir_event.specs.Undoing.{undone}
 use Rattle.ir_event.proofs.Taking.{held_now, hold_sound}
 use Rattle.rewriter_laws.specs.Journals.{IsJournal, IsSlotted, IsStoreOf, Noted}
-use Rattle.rewriter_laws.proofs.Maps.{cut_other, hold_other, mapped_is, set_other}
+use Rattle.rewriter_laws.proofs.Maps.{cut_other, hold_other, set_other}
 use Rattle.rewriter_laws.proofs.Keys.{part_key}
 use Rattle.rewriter_laws.proofs.Trees.{found_op, found_present}
 use Rattle.rewriter_laws.proofs.Carries.{carries_same}
 use Rattle.rewriter_laws.proofs.Entered.{carries_reverted, slot_after}
 use Rattle.rewriter_laws.proofs.Undoings.{entry_there, retract_of}
 use Rattle.rewriter_laws.proofs.Ended.{noted_from}
-
-pub attr_is : (c : Things) (a : Option ℕ) → IsAttrOrNone c a → (b : ℕ) → a ≡ Some b → is_attr c b ≡ true
-attr_is c None h b e = absurd cc
-attr_is c (Some a) h b e = (let one : a ≡ b = cc in subst (λ d. is_attr c d ≡ true) one (lt-ltb a (length c.attrs) h))
+use Rattle.ir_event.proofs.Entered.{attr_is}
 
 module _ (c : Things) (es : List Event) (s : Stored) (w : IsStoreOf c s) (h : IsJournal c es s) where
   after_put_noted : (place : Place) (o : Op) → IsSoundIn c o → Step c (Put s.module_of.next place true) (module_meaning c s.module_of) (module_meaning c (after_put place o s).module_of) → Noted c es (Put s.module_of.next place true) s (after_put place o s)
@@ -95,7 +92,7 @@ module _ (c : Things) (es : List Event) (s : Stored) (w : IsStoreOf c s) (h : Is
         let two : Some (option_map (attr_term c) (entry_at (key_before_in c) k entries)) ≡ Some (option_map (attr_term c) old) =
         sym (map_entry_in (name_term c) (type_term c) (attr_term c) key_before x part k s.module_of.tree ∙ ap (λ q. option_map (option_map (attr_term c)) (option_map (λ (o : Op). entry_at (key_before_in c) k (part_of part (head o))) q)) o.1) ∙ step.changes.was in
         let one : option_map (attr_term c) (entry_at (key_before_in c) k entries) ≡ option_map (attr_term c) old = cc in
-        sym (mapped_is (attr_term c) (entry_at (key_before_in c) k entries)) ∙ ap is_some one ∙ mapped_is (attr_term c) old
+        sym (some_map (attr_term c) (entry_at (key_before_in c) k entries)) ∙ ap is_some one ∙ some_map (attr_term c) old
 
     was_key : (q : Option ℕ) → old ≡ q → (e : Option ℕ) → entry_at (key_before_in c) k entries ≡ e → old ≡ None ⊎ (has_key k entries ≡ true)
     was_key None f e g = inl f

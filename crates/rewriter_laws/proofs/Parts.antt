@@ -3,10 +3,8 @@ use Rattle.std.proofs.Common.{◌≡◌, refl, ap, ◌∙◌, Bool, true, List, 
 use Rattle.ir_types.specs.declared.refusal.Refusal.{Refusal}
 use Rattle.ir_tree_laws.specs.Members.{In}
 use Rattle.ir_tree_laws.specs.Reasons.{unless}
+use Rattle.ir_tree_laws.proofs.Reverted.{passed}
 
 pub in_middle : {X : Type 0} (us vs : List X) (u : X) → In u (us ++ u ∷ vs)
 in_middle [] vs u = inl refl
 in_middle (x ∷ us) vs u = inr (in_middle us vs u)
-
-pub passed : (b : Bool) (r : Refusal) (rest : Option Refusal) → b ≡ true → rest ≡ None → unless b r rest ≡ None
-passed b r rest h k = ap (λ c. unless c r rest) h ∙ k

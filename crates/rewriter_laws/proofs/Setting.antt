@@ -8,7 +8,8 @@ use Rattle.ir_tree.specs.Tree.{HeadOf, OpOf, op, RegionsOf, no_regions, region, 
 use Rattle.ir_tree.specs.Ids.{HasDistinctIds}
 use Rattle.ir_tree.specs.Uses.{same_value, operand_uses, uses_of}
 use Rattle.ir_tree.specs.Edits.{each_head, regions_each_head, region_each_head, ops_each_head, at, put_operand, with_operand, put_value, put_values, with_value_replaced}
-use Rattle.ir_tree.proofs.Returns.{absent_first, not_equal}
+use Rattle.ir_tree.proofs.Returns.{absent_first}
+use Rattle.ir_tree_laws.proofs.Entries.{each_twice}
 use Rattle.ir_tree_laws.specs.Members.{In}
 use Rattle.ir_tree_laws.specs.Stands.{StepOf, StandOf, stand_id, stands, regions_stands, region_stands, ops_stands, gather}
 use Rattle.ir_tree_laws.proofs.Listed.{bool_cases, in_left, in_right, any_one}
@@ -16,9 +17,8 @@ use Rattle.ir_tree_laws.proofs.Readings.{step, stands_ids, stands_uses}
 use Rattle.ir_tree_laws.proofs.Members.{stand}
 use Rattle.ir_tree_laws.proofs.Around.{any_ids}
 use Rattle.rewriter_laws.specs.Replacing.{all_set}
-
-pub unequal : (a b : ℕ) → eqb a b ≡ false → eqb b a ≡ false
-unequal a b e = not_equal b a (λ k. true≢false (sym (eq-eqb a b (sym k)) ∙ e))
+use Rattle.std.proofs.lemmas.Bool.{ne_eqb}
+use Rattle.ir_tree_laws.proofs.Nested.{unequal}
 
 set_there : (vs : List Value) (w v : Value) (ws : List Value) → slice_set (vs ++ w ∷ ws) (length vs) v ≡ vs ++ v ∷ ws
 set_there [] w v ws = refl
@@ -42,24 +42,8 @@ module _ {N T A : Type 0} where
     ops_unchanged no_ops = refl
     ops_unchanged (next o os) = λ i. next (unchanged o i) (ops_unchanged os i)
 
-  -- heads that are changed twice, and in two ways that agree
+  -- heads that are changed in two ways that agree
   module _ (f g : HeadOf N T A → HeadOf N T A) where
-    mutual
-      pub twice : (t : OpOf N T A) → each_head g (each_head f t) ≡ each_head (λ h. g (f h)) t
-      twice (op h rs) = ap (op (g (f h))) (regions_twice rs)
-
-      regions_twice : (rs : RegionsOf N T A) → regions_each_head g (regions_each_head f rs) ≡ regions_each_head (λ h. g (f h)) rs
-      regions_twice no_regions = refl
-      regions_twice (region q rs) = λ i. region (region_twice q i) (regions_twice rs i)
-
-      region_twice : (q : RegionOf N T A) → region_each_head g (region_each_head f q) ≡ region_each_head (λ h. g (f h)) q
-      region_twice empty = refl
-      region_twice (block args os) = ap (block args) (ops_twice os)
-
-      ops_twice : (os : OpsOf N T A) → ops_each_head g (ops_each_head f os) ≡ ops_each_head (λ h. g (f h)) os
-      ops_twice no_ops = refl
-      ops_twice (next o os) = λ i. next (twice o i) (ops_twice os i)
-
     abbrev pub Agree : List (StandOf N T A) → Type 0
     Agree ss = (s : StandOf N T A) → In s ss → f (head s.here) ≡ g (head s.here)
 
@@ -90,7 +74,7 @@ module _ {N T A : Type 0} where
 
   all_heads : (v : Value) (us : List (ℕ × ℕ)) (t : OpOf N T A) → all_set v us t ≡ each_head (set_all v us) t
   all_heads v [] t = sym (unchanged t)
-  all_heads v (u ∷ us) t = all_heads v us (with_operand u.0 u.1 v t) ∙ twice (at u.0 (put_operand u.1 v)) (set_all v us) t
+  all_heads v (u ∷ us) t = all_heads v us (with_operand u.0 u.1 v t) ∙ each_twice (at u.0 (put_operand u.1 v)) (set_all v us) t
 
   set_more : (v : Value) (us ws : List (ℕ × ℕ)) (h : HeadOf N T A) → set_all v (us ++ ws) h ≡ set_all v ws (set_all v us h)
   set_more v [] ws h = refl

@@ -16,6 +16,7 @@ use Rattle.ir_store.specs.Slots.{has_key}
 use Rattle.ir_store.specs.Stored.{Stored, has_entry, has_slot, is_some_with, known, stands}
 use Rattle.rewriter_laws.specs.Journals.{IsSlotted}
 use Rattle.rewriter_laws.proofs.Trees.{absent_too, found_present, taken_head}
+use Rattle.ir_tree_laws.proofs.Contents.{some_map}
 
 -- the head of an operation that a store knows, and one dictionary of it
 abbrev pub seen : ℕ → Stored → Option Head
@@ -37,10 +38,6 @@ part_seen part (Some o) = refl
 pub dictionary_seen : (part : Part) (y : ℕ) (s u : Stored) → seen y s ≡ seen y u → dictionary part y s ≡ dictionary part y u
 dictionary_seen part y s u e = part_seen part (known y s) ∙ ap (option_map (part_of part)) e ∙ sym (part_seen part (known y u))
 
-is_seen : {X Y : Type 0} (f : X → Y) (q : Option X) → is_some (option_map f q) ≡ is_some q
-is_seen f None = refl
-is_seen f (Some a) = refl
-
 entry_in : (part : Part) (l : ℕ) (q : Option Op) → is_some_with (λ (o : Op). has_key l (part_of part (head o))) q ≡ is_some_with (has_key l) (option_map (λ (o : Op). part_of part (head o)) q)
 entry_in part l None = refl
 entry_in part l (Some o) = refl
@@ -59,7 +56,7 @@ pub slotted_same : (s u : Stored) → ((y : ℕ) → is_some (known y u) ≡ tru
 slotted_same s u e g h x k = g x (h x (e x k))
 
 pub known_seen : (y : ℕ) (s u : Stored) → seen y s ≡ seen y u → is_some (known y u) ≡ is_some (known y s)
-known_seen y s u e = sym (is_seen (λ (o : Op). head o) (known y u)) ∙ ap is_some (sym e) ∙ is_seen (λ (o : Op). head o) (known y s)
+known_seen y s u e = sym (some_map (λ (o : Op). head o) (known y u)) ∙ ap is_some (sym e) ∙ some_map (λ (o : Op). head o) (known y s)
 
 -- a bare operation x of s is held in u
 pub record IsTaken (x : ℕ) (s u : Stored) : Type 0 where

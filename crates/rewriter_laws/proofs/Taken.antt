@@ -12,7 +12,7 @@ use Rattle.ir_tree.specs.Places.{put, put_here, without}
 use Rattle.ir_tree.specs.WellFormed.{IsWellFormed}
 use Rattle.ir_tree.proofs.Moves.{take_put}
 use Rattle.ir_tree.proofs.Left.{left_ids, left_distinct}
-use Rattle.ir_tree.proofs.Returns.{Present, halves, absent_first, not_equal}
+use Rattle.ir_tree.proofs.Returns.{Present, halves, absent_first}
 use Rattle.ir_tree_laws.specs.Members.{In}
 use Rattle.ir_tree_laws.specs.Reasons.{hold_none, holds_none, leaves, unused, take_reason}
 use Rattle.ir_tree_laws.specs.Restores.{MayPut}
@@ -29,8 +29,11 @@ use Rattle.ir_tree_laws.proofs.Edited.{put_order, taken_order}
 use Rattle.ir_tree_laws.proofs.Nested.{without_along, found_along}
 use Rattle.ir_tree_laws.proofs.WellKept.{take_keeps}
 use Rattle.rewriter_laws.specs.Erasing.{all_taken}
-use Rattle.rewriter_laws.proofs.Parts.{passed}
 use Rattle.rewriter_laws.proofs.Earlier.{present_left, present_right, present_cases, first_there, crossed, op_cut, seen_earlier}
+use Rattle.std.proofs.lemmas.Bool.{ne_eqb}
+use Rattle.ir_tree.proofs.Facts.{ids_head}
+use Rattle.ir_event.proofs.Facts.{own_id}
+use Rattle.ir_tree_laws.proofs.Reverted.{passed}
 
 no_parts : (xs ys : List ℕ) → xs ++ ys ≡ [] → (xs ≡ []) × (ys ≡ [])
 no_parts [] ys e = (refl, e)
@@ -48,17 +51,12 @@ ends y xs us ys vs d e =
     (same, n.0, n.1)
 
 module _ {N T A : Type 0} where
-  own_ids : (o : OpOf N T A) → ids o ≡ (head o).id ∷ regions_ids (regions o)
-  own_ids (op h rs) = refl
 
   none_held : (rs : RegionsOf N T A) → regions_ids rs ≡ [] → hold_none rs ≡ true
   none_held no_regions e = refl
   none_held (region empty rs) e = none_held rs e
   none_held (region (block args no_ops) rs) e = none_held rs e
   none_held (region (block args (next (op h is) os)) rs) e = absurd cc
-
-  pub own_there : (o : OpOf N T A) → has_id (head o).id o ≡ true
-  own_there (op h rs) = first_there h.id h.id (regions_ids rs) refl
 
   pub taken_more : (xs ys : List ℕ) (t : OpOf N T A) → all_taken (xs ++ ys) t ≡ all_taken ys (all_taken xs t)
   taken_more [] ys t = refl
@@ -80,22 +78,22 @@ module _ {N T A : Type 0} where
         let s = found_stands y q z e in
         let c = op_cut isolated [] q s.0 s.1 in
         let n = ends y ys c.front (regions_ids (regions s.0.here)) c.back (subst (IsDistinct eqb) is d)
-        (sym is ∙ c.is ∙ ap (λ l. c.front ++ (l ++ c.back)) (own_ids s.0.here ∙ ap (λ w. w ∷ regions_ids (regions s.0.here)) s.2)) in
+        (sym is ∙ c.is ∙ ap (λ l. c.front ++ (l ++ c.back)) (ids_head s.0.here ∙ ap (λ w. w ∷ regions_ids (regions s.0.here)) s.2)) in
         record { here = s.0.here; found = e ∙ ap Some (sym s.3); id = s.2; bare = n.1 }
 
     left_last : (z : OpOf N T A) → find y q ≡ Some z → (head z).id ≡ y → eqb (head q).id y ≡ false → ids (without y q) ≡ ys
     left_last z e id r =
         let o = taken_order y q z d e r in
-        let n = ends y ys o.0 (regions_ids (regions z)) o.1 (subst (IsDistinct eqb) is d) (sym is ∙ o.2 ∙ ap (λ l. o.0 ++ (l ++ o.1)) (own_ids z ∙ ap (λ w. w ∷ regions_ids (regions z)) id)) in
+        let n = ends y ys o.0 (regions_ids (regions z)) o.1 (subst (IsDistinct eqb) is d) (sym is ∙ o.2 ∙ ap (λ l. o.0 ++ (l ++ o.1)) (ids_head z ∙ ap (λ w. w ∷ regions_ids (regions z)) id)) in
         o.3 ∙ ap (λ l. o.0 ++ l) n.2 ∙ append-nil o.0 ∙ sym n.0
 
   -- the first of a tree isn't its last, where there are others
   not_first : (q : OpOf N T A) → HasDistinctIds q → (x : ℕ) (ys : List ℕ) (y : ℕ) → ids q ≡ (x ∷ ys) ++ y ∷ [] → eqb (head q).id y ≡ false
   not_first q d x ys y e =
-      let all : (head q).id ∷ regions_ids (regions q) ≡ x ∷ (ys ++ y ∷ []) = sym (own_ids q) ∙ e in
+      let all : (head q).id ∷ regions_ids (regions q) ≡ x ∷ (ys ++ y ∷ []) = sym (ids_head q) ∙ e in
       let first : (head q).id ≡ x = cc in
       ap (λ z. eqb z y) first
-      ∙ not_equal x y (λ same. true≢false (sym (present_right x ys (y ∷ []) (first_there y x [] same)) ∙ absent_first x (ys ++ y ∷ []) (subst (IsDistinct eqb) e d)))
+      ∙ ne_eqb x y (λ same. true≢false (sym (present_right x ys (y ∷ []) (first_there y x [] same)) ∙ absent_first x (ys ++ y ∷ []) (subst (IsDistinct eqb) e d)))
 
   -- operation q stands at a place of a tree that is otherwise `rest`, and no other operation uses a value from within it
   module _ (isolated : N → Bool) (place : Place) (rest : OpOf N T A) (free : ℕ) where
@@ -121,7 +119,7 @@ module _ {N T A : Type 0} where
       inner : eqb (head (put place q rest)).id y ≡ false
       inner =
           ap (λ (h : HeadOf N T A). eqb h.id y) (same_head y (put_here place q) rest)
-          ∙ not_equal (head rest).id y (λ e. true≢false (sym (subst (λ z. has_id z rest ≡ true) e (own_there rest)) ∙ i.may.apart y (last_there q i.may.own ys y is)))
+          ∙ ne_eqb (head rest).id y (λ e. true≢false (sym (subst (λ z. has_id z rest ≡ true) e (own_id rest)) ∙ i.may.apart y (last_there q i.may.own ys y is)))
 
       -- those that stand in it come no later, and so see none of its values
       unseen : (s : StandOf N T A) → In s (stands [] (put place q rest)) → has_id (stand_id s) q ≡ true → (v : Value) → sees isolated s.path v ≡ true → (owner_of v).0 ≡ y → ⊥
@@ -130,7 +128,7 @@ module _ {N T A : Type 0} where
           let o = put_order place q rest i.may in
           let d = put_distinct place q rest i.may in
           let early : Present y c.front = subst (λ z. Present z c.front) own (seen_earlier isolated (put place q rest) s h v e) in
-          let late : Present (stand_id s) (ids s.here ++ c.back) = present_left (stand_id s) (ids s.here) c.back (own_there s.here) in
+          let late : Present (stand_id s) (ids s.here ++ c.back) = present_left (stand_id s) (ids s.here) c.back (own_id s.here) in
           elim (present_cases (stand_id s) ys (y ∷ []) (sym (ap (list_any (λ z. eqb z (stand_id s))) is) ∙ k)) [
             | inr a ↦ (let same : stand_id s ≡ y = one a in
                 true≢false (sym (subst (λ z. Present z (ids s.here ++ c.back)) same late) ∙ (halves c.front (ids s.here ++ c.back) (subst (IsDistinct eqb) c.is d)).disjoint y early))
@@ -148,7 +146,7 @@ module _ {N T A : Type 0} where
           one : (s : StandOf N T A) → In s (stands [] (put place q rest)) → leaves y (head s.here) ≡ true
           one s h = elim (put_cases place q rest i.may s h) [
             | inl k ↦ sym (ap (leaves y) (same_head (head q).id (dropping (head q).id) s.here)) ∙ i.spared y (last_there q i.may.own ys y is) (left_stand (head q).id s) k.0
-            | inr k ↦ each_all (λ v. not (eqb (owner_of v).0 y)) (head s.here).operands (λ v m. ap not (not_equal (owner_of v).0 y (λ e.
+            | inr k ↦ each_all (λ v. not (eqb (owner_of v).0 y)) (head s.here).operands (λ v m. ap not (ne_eqb (owner_of v).0 y (λ e.
                 unseen s h (stand_present ((landed place q rest i.may).step_in ∷ (landed place q rest i.may).path) q s k) v
                 (all_each (sees isolated s.path) (head s.here).operands ((from_formed isolated (put place q rest) i.formed.formed).sees_own s h) v m) e)))
           ]
@@ -229,7 +227,7 @@ module _ {N T A : Type 0} where
 
     -- the last one is the root of q
     order_ends : (q : OpOf N T A) → reverse (ids q) ≡ reverse (regions_ids (regions q)) ++ (head q).id ∷ []
-    order_ends q = ap reverse (own_ids q) ∙ reverse-append ((head q).id ∷ []) (regions_ids (regions q))
+    order_ends q = ap reverse (ids_head q) ∙ reverse-append ((head q).id ∷ []) (regions_ids (regions q))
 
     pub all_gone : (q : OpOf N T A) → Erasing q → all_taken (reverse (ids q)) (put place q rest) ≡ rest
     all_gone q i =
@@ -239,7 +237,7 @@ module _ {N T A : Type 0} where
         ∙ taken_more xs ((head q).id ∷ []) (put place q rest)
         ∙ ap (without (head q).id) r.is
         ∙ ap (λ z. without z (put place r.here rest)) (sym r.same)
-        ∙ take_put place r.here rest (r.goes_on.may.apart (head r.here).id (own_there r.here))
+        ∙ take_put place r.here rest (r.goes_on.may.apart (head r.here).id (own_id r.here))
 
     pub rest_formed : (q : OpOf N T A) → Erasing q → IsWellFormed isolated (record { tree = rest; next = free })
     rest_formed q i =

@@ -16,10 +16,7 @@ use Rattle.ir_tree_laws.proofs.Edited.{head_stays, taken_order}
 use Rattle.ir_tree_laws.proofs.Members.{stand, within, member, found_stands, stand_found}
 use Rattle.ir_tree_laws.proofs.Readings.{stands_find}
 use Rattle.ir_event.proofs.Shown.{none_found}
-
-first_none : {X : Type 0} (a : Option X) → first_of a None ≡ a
-first_none None = refl
-first_none (Some a) = refl
+use Rattle.ir_tree.proofs.Facts.{first_none}
 
 module _ {N T A : Type 0} where
   -- an operation whose id is a tree's is found there

@@ -25,19 +25,12 @@ use Rattle.ir_tree.proofs.MappedEdits.{map_put, map_shifted, map_without, map_wi
 use Rattle.ir_event.specs.tree_laws.Values.{type_of_value}
 use Rattle.ir_event.specs.tree_laws.Reads.{is_within}
 use Rattle.ir_event.specs.tree_laws.Reasons.{unless, fits_around, with_id, set_entry_reason, leaves_within, unused_outside, users_see}
-use Rattle.ir_event.proofs.of_tree_laws.Contents.{same_id, map_has_id, map_has_place, map_has_value, map_type_of_value, map_around, map_op_fits, map_with_id, map_entry_at, map_set_entry_reason, map_set_operand_reason, map_put_reason, map_shift_reason}
+use Rattle.ir_event.proofs.of_tree_laws.Contents.{same_id, map_has_id, map_has_place, map_has_value, map_type_of_value, map_around, map_op_fits, map_with_id, map_entry_at, map_set_entry_reason, map_set_operand_reason, map_put_reason, map_shift_reason, all_alike, some_map}
 use Rattle.ir_event.specs.Modules.{module_meaning}
 use Rattle.ir_types.specs.SameTypes.{same_type}
 use Rattle.rewriter_machine.specs.Edits.{Insert, Make, Erase, Move, SetOperand, Replace, SetAttr, DropAttr, part_in, part_for, tree_edited, next_edited, edited_by, insert_reason, erase_reason, replace_reason, tree_reason, reason_by}
 use Rattle.rewriter_machine.specs.Contents.{tests, tests_in, NumberedEdit, edit_meaning, edited, edit_reason}
-
-some_kept : {X Y : Type 0} (g : X → Y) (o : Option X) → is_some (option_map g o) ≡ is_some o
-some_kept g None = refl
-some_kept g (Some x) = refl
-
-all_alike : {X : Type 0} (p q : X → Bool) → ((x : X) → p x ≡ q x) → (xs : List X) → list_all p xs ≡ list_all q xs
-all_alike p q f [] = refl
-all_alike p q f (x ∷ xs) = λ i. f x i && all_alike p q f xs i
+use Rattle.ir_event.proofs.of_tree_laws.Facts.{count_meaning}
 
 module _ (c : Things) where
   -- the dictionary of a key
@@ -48,10 +41,7 @@ module _ (c : Things) where
       go None = refl
       go (Some (op h rs)) =
           ap (λ b. cond (is_inherent (name_term c h.name) (name_term c k) || b) Props Attrs)
-          (ap is_some (map_entry_at (name_term c) (type_term c) (attr_term c) key_before k h.properties) ∙ some_kept (attr_term c) (entry_at (key_before_in c) k h.properties))
-
-  count_kept : (o : Op) → op_count (meaning c o) ≡ op_count o
-  count_kept o = ap length (map_ids (name_term c) (type_term c) (attr_term c) o)
+          (ap is_some (map_entry_at (name_term c) (type_term c) (attr_term c) key_before k h.properties) ∙ some_map (attr_term c) (entry_at (key_before_in c) k h.properties))
 
   entry_kept : (x k : ℕ) (a : Option ℕ) (t : Op) →
       with_entry key_before x (part_for tests x (name_term c k) (meaning c t)) (name_term c k) (option_map (attr_term c) a) (meaning c t) ≡ meaning c (with_entry (key_before_in c) x (part_for (tests_in c) x k t) k a t)
@@ -72,7 +62,7 @@ module _ (c : Things) where
   tree_kept (DropAttr x k) free t = entry_kept x k None t
 
   next_kept : (e : NumberedEdit) (n : ℕ) → next_edited (edit_meaning c e) n ≡ next_edited e n
-  next_kept (Insert place o) n = ap (λ k. n + k) (count_kept o)
+  next_kept (Insert place o) n = ap (λ k. n + k) ((count_meaning c) o)
   next_kept (Make place o) n = refl
   next_kept (Erase x) n = refl
   next_kept (Move x place) n = refl
@@ -90,9 +80,9 @@ module _ (c : Things) where
   insert_kept place o free t = λ i.
       unless (map_has_id (name_term c) (type_term c) (attr_term c) place.parent t i) NoSuchOp
       (unless (map_has_place (name_term c) (type_term c) (attr_term c) place t i) NoSuchIndex
-      (unless (nat_le (count_kept t i + count_kept o i) most_ops) Full
+      (unless (nat_le ((count_meaning c) t i + (count_meaning c) o i) most_ops) Full
       (unless (fits i) Full
-      (unless (nat_le (free + count_kept o i) most_next) IdsExhausted
+      (unless (nat_le (free + (count_meaning c) o i) most_next) IdsExhausted
       (unless (fits_around (map_depth (name_term c) (type_term c) (attr_term c) o i) (map_around (name_term c) (type_term c) (attr_term c) place.parent t i)) TooDeepHere
       (unless (sights i) NotVisible None))))))
     where

@@ -1,8 +1,9 @@
 use Rattle.std.proofs.Common.{◌≡◌, ℕ, true, false, refl, sym, subst, rules, length, arith}
 use Rattle.constants.proofs.Counted.{LearnsAll, learns_start, learns_more, learns_broken, learns_all}
-use Rattle.constants.proofs.Forgetful.{never, users_length, user_at, user_before, user_more, user_next, user_passed, all_read, read_whole}
+use Rattle.constants.proofs.Forgetful.{never, users_length, user_at, user_before, user_next, user_passed, all_read, read_whole}
 use Rattle.constants.specs.Tables.{known_in, look_in, uses_in, users_of}
 use Rattle.constants.proofs.learn.learn_uses.Goals as goal
+use Rattle.std.proofs.lemmas.List.{length_push}
 
 pub loop-user-init : goal.loop-user-init
 loop-user-init c = (
@@ -36,7 +37,7 @@ loop-user-preserved c =
     let is = user_next us u c.loop-user.user-iterator c.next.new.self c.args.uses c.loop-user.invariant.0 c.in-Some.ensures.steps in
     let yes : c.learn.result ≡ true = search rules in (
       user_passed us u c.loop-user.user-iterator c.next.new.self c.args.uses c.loop-user.invariant.0 c.in-Some.ensures.steps,
-      subst (λ n. LearnsAll look_in uses_in (users_of c.args.uses) n (known_in c.args.table.now) (known_in c.learn.new.table) c.args.trail.now.items c.learn.new.trail.items c.args.view.now.world.now c.learn.new.view.world.now c.args.view.now.looks c.learn.new.view.looks) (sym (user_more us u))
+      subst (λ n. LearnsAll look_in uses_in (users_of c.args.uses) n (known_in c.args.table.now) (known_in c.learn.new.table) c.args.trail.now.items c.learn.new.trail.items c.args.view.now.world.now c.learn.new.view.world.now c.args.view.now.looks c.learn.new.view.looks) (sym (length_push us u))
           (learns_more look_in uses_in (c.learn.result ≡ true) (users_of c.args.uses) (length us) c.in-Some.user (known_in c.args.table.now) (known_in c.loop-user.table) (known_in c.learn.new.table) c.args.trail.now.items c.loop-user.trail.items c.learn.new.trail.items
           c.args.view.now.world.now c.loop-user.view.world.now c.learn.new.view.world.now c.args.view.now.looks c.loop-user.view.looks c.learn.new.view.looks yes (user_before us u c.next.new.self c.args.uses is) (user_at us u c.next.new.self c.args.uses is) c.loop-user.invariant.1 c.learn.ensures.learnt c.learn.ensures.looks c.learn.ensures.world),
     )

@@ -10,8 +10,10 @@ use Rattle.conversion.proofs.Aims.{aim_known, aim_stays}
 use Rattle.conversion.proofs.Leading.{leads_more}
 use Rattle.conversion_base.proofs.Makes.{rules_make}
 use Rattle.conversion.proofs.Rising.{few_told, rises_legalization}
-use Rattle.conversion.proofs.Trying.{Trying, applied, goes_down, leads_whole, made_some, making_fails, making_more, making_stops, is_not, not_is, rest_at, tried_whole, trying_more, trying_rule, trying_stops, trying_well}
+use Rattle.conversion.proofs.Trying.{Trying, applied, goes_down, leads_whole, made_some, making_fails, making_more, making_stops, tried_whole, trying_more, trying_rule, trying_stops, trying_well}
 use Rattle.conversion.proofs.legalise.+legalise.Goals as goal
+use Rattle.std.proofs.lemmas.Bool.{not-false, not-true}
+use Rattle.ir_types.proofs.Truths.{rest_at}
 
 -- the first of a list that isn't empty
 abbrev first : List Rule → Rule
@@ -59,7 +61,7 @@ each_made-returns-then-not-tried-clause-comes g t c =
     let same = aim_stays start.things here.things c.args.target.now c.made.invariant.1.grows c.requires.aim in
     let o = subst (λ (x : ℕ). Comes (standing go here.held x) (Ok c.in-Ok.tried) here next) c.new.ensures (subst (λ (a : Aim). Comes (standing (legalization_of a c.args.below) here.held c.new.result) (Ok c.in-Ok.tried) here next) same c.in-Ok.ensures.comes) in
     making_fails go _ c.args.from c.made.id c.next_id-end.result here next c.made.count c.made.met c.in-Ok.tried c.joined-tried.result c.made-test.true c.made.invariant.0 o
-    c.joined-tried.ensures.legal c.joined-tried.ensures.met (not_is c.joined-tried.result.legal c.if-not-tried.true)
+    c.joined-tried.ensures.legal c.joined-tried.ensures.met (not-true c.joined-tried.result.legal c.if-not-tried.true)
 
 pub each_made-returns-then-not-tried-clause-leads : goal.each_made-returns-then-not-tried-clause-leads
 each_made-returns-then-not-tried-clause-leads g t c =
@@ -75,7 +77,7 @@ each_made-overflow_add-count g t c =
     let go = legalization_of a c.args.below in
     let same = aim_stays start.things here.things c.args.target.now c.made.invariant.1.grows c.requires.aim in
     let o = subst (λ (x : ℕ). Comes (standing go here.held x) (Ok c.in-Ok.tried) here next) c.new.ensures (subst (λ (a : Aim). Comes (standing (legalization_of a c.args.below) here.held c.new.result) (Ok c.in-Ok.tried) here next) same c.in-Ok.ensures.comes) in
-    let few = few_told go (rises_legalization rules_make a c.requires.aim.rules c.args.below) here.held c.made.id c.in-Ok.tried next.held o (sym c.joined-tried.ensures.legal ∙ is_not c.joined-tried.result.legal c.if-not-tried.false) in
+    let few = few_told go (rises_legalization rules_make a c.requires.aim.rules c.args.below) here.held c.made.id c.in-Ok.tried next.held o (sym c.joined-tried.ensures.legal ∙ not-false c.joined-tried.result.legal c.if-not-tried.false) in
     let was = c.made.invariant.0.few in
     let k = c.joined-tried.ensures.count in
     let free = c.next_id-free.ensures in
@@ -102,9 +104,9 @@ each_made-made-preserved g t c =
     let go = legalization_of a c.args.below in
     let same = aim_stays start.things here.things c.args.target.now c.made.invariant.1.grows c.requires.aim in
     let o = subst (λ (x : ℕ). Comes (standing go here.held x) (Ok c.in-Ok.tried) here next) c.new.ensures (subst (λ (a : Aim). Comes (standing (legalization_of a c.args.below) here.held c.new.result) (Ok c.in-Ok.tried) here next) same c.in-Ok.ensures.comes) in
-    let few = few_told go (rises_legalization rules_make a c.requires.aim.rules c.args.below) here.held c.made.id c.in-Ok.tried next.held o (sym c.joined-tried.ensures.legal ∙ is_not c.joined-tried.result.legal c.if-not-tried.false) in (
+    let few = few_told go (rises_legalization rules_make a c.requires.aim.rules c.args.below) here.held c.made.id c.in-Ok.tried next.held o (sym c.joined-tried.ensures.legal ∙ not-false c.joined-tried.result.legal c.if-not-tried.false) in (
       making_more go _ c.args.from c.made.id c.next_id-end.result here next c.made.count c.made.met c.in-Ok.tried c.joined-tried.result c.made-test.true c.made.invariant.0 o
-          c.joined-tried.ensures.legal c.joined-tried.ensures.count c.joined-tried.ensures.met (is_not c.joined-tried.result.legal c.if-not-tried.false) few,
+          c.joined-tried.ensures.legal c.joined-tried.ensures.count c.joined-tried.ensures.met (not-false c.joined-tried.result.legal c.if-not-tried.false) few,
       leads_more state g.B.Rewriting.desk g.B.Rewriting.led g.B.Rewriting.led_more c.args.bench.now c.made.bench c.legalise.new.bench c.made.invariant.1 c.in-Ok.ensures.leads,
     )
 

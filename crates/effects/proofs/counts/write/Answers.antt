@@ -5,8 +5,8 @@ use Rattle.std.specs.BTreeMap as tree
 use Rattle.effects.specs.Counts.{counts_in, with_count}
 use Rattle.effects.specs.Marks.{is_zero}
 use Rattle.effects.proofs.Marked.{marked, roomy}
-use Rattle.effects.proofs.Reporting.{same_test}
 use Rattle.effects.proofs.counts.write.Goals as goal
+use Rattle.ir_types.proofs.Truths.{same_test}
 
 pub mark-requires : goal.mark-requires
 mark-requires c =

@@ -1,5 +1,6 @@
 use Rattle.std.proofs.Common.{[], subst, sym, ℕ, List}
 use Rattle.ir_tree.specs.Tree.{head}
+use Rattle.greedy.specs.Ruled.{rules_in}
 use Rattle.greedy.specs.Work.{Right}
 use Rattle.greedy.proofs.Scans.{begun}
 use Rattle.greedy.proofs.run.rewritten.Goals as goal
@@ -7,4 +8,4 @@ use Rattle.greedy.proofs.run.rewritten.Goals as goal
 pub rewrites-requires-clause-right : goal.rewrites-requires-clause-right
 rewrites-requires-clause-right g c =
     let m = g.R.Rewriting.held c.args.bench.now in
-    subst (λ (p : ℕ). Right p c.new.result.items m) (sym c.root.ensures) (subst (λ (l : List ℕ). Right (head m.tree).id l m) (sym c.new.ensures.items) (begun m (g.R.Rewriting.distinct m c.is_formed.ensures)))
+    subst (λ (p : ℕ). Right (rules_in c.args.rules.now) p c.new.result.items m) (sym c.root.ensures) (subst (λ (l : List ℕ). Right (rules_in c.args.rules.now) (head m.tree).id l m) (sym c.new.ensures.items) (begun (rules_in c.args.rules.now) m (g.R.Rewriting.distinct m c.is_formed.ensures)))

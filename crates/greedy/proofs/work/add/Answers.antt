@@ -3,8 +3,9 @@ use Rattle.std.proofs.lemmas.List.{take-append-drop}
 use Rattle.greedy.specs.Work.{IsWork, Parted, begins_with, StillWaits}
 use Rattle.greedy.specs.Sights.{is_listed}
 use Rattle.ir_tree_laws.specs.Reads.{precedes}
-use Rattle.greedy.proofs.Works.{put_between, begins_listed, or_right, or_left, either, listed_still}
+use Rattle.greedy.proofs.Works.{put_between, begins_listed, listed_still}
 use Rattle.greedy.proofs.work.add.Goals as goal
+use Rattle.std.proofs.lemmas.Bool.{or_cases, or_left, or_right}
 
 pub returns-then-is_at-clause-added : goal.returns-then-is_at-clause-added
 returns-then-is_at-clause-added g c =
@@ -36,7 +37,7 @@ returns-in-Ok-clause-others g c =
     let i = c.behind-place.result in
     let op = c.args.op in
     let passed = c.args.work.now.passed in
-    subst (λ ys. StillWaits passed xs t passed ys t) (sym c.in-Ok.ensures.items) (λ z a b v. elim (either (precedes passed z t) (is_listed z xs) v) [
+    subst (λ ys. StillWaits passed xs t passed ys t) (sym c.in-Ok.ensures.items) (λ z a b v. elim (or_cases (precedes passed z t) (is_listed z xs) v) [
       | inl e ↦ or_left (precedes passed z t) _ e
       | inr e ↦ or_right (precedes passed z t) _ (listed_still t d z op (take i xs) (drop i xs) (subst (λ ys. is_listed z ys ≡ true) (sym (take-append-drop i xs)) e))
     ])

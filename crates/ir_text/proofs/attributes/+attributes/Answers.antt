@@ -2,9 +2,10 @@ use Rattle.std.proofs.Common.{◌≡◌, ◌≤◌, ◌+◌, ap, refl, ℕ, List
 use Rattle.std.specs.Prelude.{codes}
 use Rattle.ir_types.specs.Terms.{attr_term, attr_terms, attrs_at, entries_at}
 use Rattle.ir_text.specs.AttrText.{attr_texts, entry_texts}
-use Rattle.ir_text.proofs.Rows.{next_item, one_more, no_more, one_more_closed}
+use Rattle.ir_text.proofs.Rows.{one_more, no_more, one_more_closed}
 use Rattle.ir_text.proofs.Sizes.{attr_size, attrs_size, entry_smaller}
 use Rattle.ir_text.proofs.attributes.+attributes.Goals as goal
+use Rattle.ir_tree.proofs.Steps.{next_left}
 
 pub put_entries-put_entry-requires : goal.put_entries-put_entry-requires
 put_entries-put_entry-requires t c =
@@ -13,13 +14,13 @@ put_entries-put_entry-requires t c =
 
 pub put_entries-entries-preserved : goal.put_entries-entries-preserved
 put_entries-entries-preserved t c =
-    let next = next_item c.args.entries.now c.entries.entry-index c.entry-item.result c.entries-test.true c.entry-item.is in
+    let next = next_left c.args.entries.now c.entries.entry-index c.entry-item.result c.entries-test.true c.entry-item.is in
     one_more_closed (codes ", ") (codes "}") _ _ _ _ _ c.entries.first _ _ (ap (λ (es : List (ℕ × ℕ)). entry_texts (entries_at c.args.ctx.now.names (attr_terms c.args.ctx.now) es)) next) c.in_ok-put_between.ensures c.in_ok-put_entry.ensures c.entries.invariant
 
 pub put_attrs-ids-preserved : goal.put_attrs-ids-preserved
 put_attrs-ids-preserved t c =
     let known = attr_terms c.args.ctx.now in
-    let next = next_item c.args.ids.now c.ids.id-index c.id-item.result c.ids-test.true c.id-item.is in
+    let next = next_left c.args.ids.now c.ids.id-index c.id-item.result c.ids-test.true c.id-item.is in
     let sizes : attrs_size (attrs_at known (drop c.ids.id-index c.args.ids.now)) ≡ attr_size (attr_term c.args.ctx.now c.id-item.result) + attrs_size (attrs_at known (drop (c.ids.id-index + 1) c.args.ids.now)) + 1 = ap (λ (ns : List ℕ). attrs_size (attrs_at known ns)) next in
     record {
       text = one_more (codes ", ") _ _ _ _ _ c.ids.first _ _ (ap (λ (ns : List ℕ). attr_texts (attrs_at known ns)) next) c.in_ok-put_between.ensures c.in_ok-put_attr.ensures c.ids.invariant.text;

@@ -1,12 +1,12 @@
 use Rattle.std.proofs.Common.{arith}
 use Rattle.ir_text.proofs.Wholes.{whole_op, whole_region}
-use Rattle.ir_text.proofs.Rows.{next_item}
 use Rattle.ir_text.proofs.Walks.{next_region, arguments_of, inside_of, next_op, known_of}
 use Rattle.ir_text.proofs.operations.+operations.Goals as goal
+use Rattle.ir_tree.proofs.Steps.{next_left}
 
 pub put_op-regions-preserved : goal.put_op-regions-preserved
 put_op-regions-preserved t c =
-    let next = next_item c.op.inside.regions.items c.regions.place c.region-item.result (rw c.deref-region-items.ensures.value at c.regions-test.true) (rw c.deref-region-items.ensures.value at c.region-item.is) in
+    let next = next_left c.op.inside.regions.items c.regions.place c.region-item.result (rw c.deref-region-items.ensures.value at c.regions-test.true) (rw c.deref-region-items.ensures.value at c.region-item.is) in
     record {
       text = next_region c.args.ctx.now c.args.margin.now c.op.inside.id c.regions.place c.region-item.result _ _ _ _ _ _ next (c.in_ok-put_comma.ensures c.args.ctx.now) c.in_ok-put_region.ensures c.regions.invariant.text;
       arguments = (arguments_of _ c.region-item.result _ _ next c.regions.invariant.arguments).1;
@@ -15,7 +15,7 @@ put_op-regions-preserved t c =
 
 pub put_region-ops-preserved : goal.put_region-ops-preserved
 put_region-ops-preserved t c =
-    let next = next_item c.deref-op-items.result.now c.ops.op-index c.op-item.result c.ops-test.true c.op-item.is in
+    let next = next_left c.deref-op-items.result.now c.ops.op-index c.op-item.result c.ops-test.true c.op-item.is in
     record {
       text = next_op c.args.ctx.now c.in_ok-blanks-in-Block.blanks.items c.op-item.result _ _ _ _ _ next (rw c.deref-in-ops.ensures.value at c.in_ok-put_op-in-Block.ensures) c.ops.invariant.text;
       inside = (known_of _ c.op-item.result _ _ next c.ops.invariant.inside).1;

@@ -1,7 +1,8 @@
 use Rattle.std.proofs.Common.{sym, ◌∙◌}
 use Rattle.std.specs.Prelude.{reverse}
-use Rattle.ir_text_aliases.proofs.Nesting.{none_left, end_closed, end_open}
+use Rattle.ir_text_aliases.proofs.Nesting.{end_closed, end_open}
 use Rattle.ir_text_aliases.proofs.values.at_the_end.Goals as goal
+use Rattle.ir_text_bodies.proofs.Ahead.{none_left}
 
 pub returns-then-is_empty : goal.returns-then-is_empty
 returns-then-is_empty c =

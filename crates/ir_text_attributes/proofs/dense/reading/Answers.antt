@@ -5,26 +5,20 @@ use Rattle.std.proofs.lemmas.Int.{to_z-of_z}
 use Rattle.std.proofs.lemmas.Bool.Decides.{nat_tests}
 use Rattle.std.proofs.Math.Nat.{pow-le-pow_right}
 use Rattle.ir_types.specs.Ranges.{is_signed_number}
-use Rattle.ir_types.proofs.ReadingLaws.{signed_fits}
+use Rattle.ir_types.proofs.ReadingLaws.{signed_fits, neg_signed, pos_signed}
 use Rattle.ir_text_attributes.proofs.dense.reading.Goals as goal
 
 half_most : (w : ℕ) → w ≤ 64 → 2 ^ (w - 1) ≤ 2 ^ 63
 half_most w h = pow-le-pow_right {n = 2} (omega arith) {i = w - 1} {j = 63} (omega arith)
 
-pos_range : (w n : ℕ) → is_signed_number w (pos n) ≡ true → n < 2 ^ (w - 1)
-pos_range w n h = grind (arith, nat_tests)
-
-neg_range : (w n : ℕ) → is_signed_number w (negsuc n) ≡ true → suc n ≤ 2 ^ (w - 1)
-neg_range w n h = grind (arith, nat_tests)
-
 -- a signed number of at most 64 bits
 narrow : (w : ℕ) (z : ℤ) → w ≤ 64 → is_signed_number w z ≡ true → SFits w64 z
-narrow w (pos n) few h = record { sfits = omega (arith, half_most w few, pos_range w n h) }
-narrow w (negsuc n) few h = record { sfits = omega (arith, half_most w few, neg_range w n h) }
+narrow w (pos n) few h = record { sfits = omega (arith, half_most w few, pos_signed w n h) }
+narrow w (negsuc n) few h = record { sfits = omega (arith, half_most w few, neg_signed w n h) }
 
 wide : (w : ℕ) (z : ℤ) → w ≤ 64 → is_signed_number w z ≡ true → SFits w128 z
-wide w (pos n) few h = record { sfits = omega (arith, half_most w few, pos_range w n h) }
-wide w (negsuc n) few h = record { sfits = omega (arith, half_most w few, neg_range w n h) }
+wide w (pos n) few h = record { sfits = omega (arith, half_most w few, pos_signed w n h) }
+wide w (negsuc n) few h = record { sfits = omega (arith, half_most w few, neg_signed w n h) }
 
 pub overflow_cast-result : goal.overflow_cast-result
 overflow_cast-result c =

@@ -1,6 +1,7 @@
 use Rattle.std.proofs.Common.{sym, ◌∙◌}
-use Rattle.ir_text_expanded.proofs.Ending.{fault_step, gap_shorter, gap_step, more_shorter, more_step}
+use Rattle.ir_text_expanded.proofs.Ending.{fault_step, gap_step, more_shorter, more_step}
 use Rattle.ir_text_expanded.proofs.endings.next.Goals as goal
+use Rattle.ir_text_expanded.proofs.Defining.{gap_shorter}
 
 pub returns-then-is_gap-clause-on : goal.returns-then-is_gap-clause-on
 returns-then-is_gap-clause-on c = gap_step c.args.names.now.here c.args.byte c.args.all.now c.args.tail.now c.behind_piece.result.now c.requires.all (sym c.is_gap.ensures ∙ c.if-is_gap.true) c.behind_piece.ensures

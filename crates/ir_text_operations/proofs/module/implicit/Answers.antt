@@ -2,8 +2,9 @@ use Rattle.std.proofs.Common.{inl}
 use Rattle.ir_text_types.specs.declared.error.ReadError.TheVariants as errors
 use Rattle.ir_text_names.specs.States.{state_of}
 use Rattle.ir_types.proofs.Growth.{grows_trans}
-use Rattle.ir_text_operations.proofs.Modules.{body_read, body_wrong, fails_wrong, named_module, name_fills, error_is}
+use Rattle.ir_text_operations.proofs.Modules.{body_read, body_wrong, named_module, name_fills, error_is}
 use Rattle.ir_text_operations.proofs.module.implicit.Goals as goal
+use Rattle.ir_text_attributes.proofs.Singles.{fails_wrong}
 
 pub returns-in-Err-ops-clause-refused : goal.returns-in-Err-ops-clause-refused
 returns-in-Err-ops-clause-refused c = λ f e. body_wrong c.args.bytes.now c.module_name.new.ctx c.sound.ensures (fails_wrong c.in-Err-ops.e _ f (rw c.new.ensures at c.in-Err-ops.ensures.reads) e)

@@ -3,8 +3,9 @@ use Rattle.std.specs.List.{list_any, position_or_len}
 use Rattle.std.specs.Map.{keys_of}
 use Rattle.indexmap.specs.IndexMap.{keys, get}
 use Rattle.indexmap.proofs.CallerLemmas.{insert_entry-new}
-use Rattle.ir_types_items.proofs.Placed.{found_at, absent_from, none_from_test, keys-push, length-keys, with_last-found, with_last-absent}
+use Rattle.ir_types_items.proofs.Placed.{found_at, absent_from, none_from_test, keys-push, with_last-found, with_last-absent}
 use Rattle.ir_types_items.proofs.intern.intern.Goals as goal
+use Rattle.std.proofs.lemmas.Map.Entries.{length-keys_of}
 
 pub returns-in-Some-clause-keys : goal.returns-in-Some-clause-keys
 returns-in-Some-clause-keys g c =
@@ -34,7 +35,7 @@ returns-in_err-insert-clause-known g c e =
 pub returns-clause-place : goal.returns-clause-place
 returns-clause-place g c =
     let h = absent_from (g.K.PartialEq.eq c.args.key) (keys c.args.map.now) (sym c.get_index_of.ensures.index ∙ c.in_default.is) in
-    c.len-count.ensures.len ∙ sym (length-keys c.args.map.now.entries) ∙ sym h.1
+    c.len-count.ensures.len ∙ sym (length-keys_of c.args.map.now.entries) ∙ sym h.1
 
 pub returns-clause-keys : goal.returns-clause-keys
 returns-clause-keys g c =

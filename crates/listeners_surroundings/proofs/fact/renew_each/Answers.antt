@@ -7,8 +7,9 @@ use Rattle.listeners_surroundings.specs.Near.{if_any, somes}
 use Rattle.listeners_surroundings.specs.Facts.{kept_of, Renewed}
 use Rattle.listeners_surroundings.specs.Gathered.{gathers_for, tree_in}
 use Rattle.listeners_surroundings.proofs.Tables.{renewed_as, renewed_none}
-use Rattle.listeners_surroundings.proofs.Following.{somes_drop, rest_all, drop_all}
+use Rattle.listeners_surroundings.proofs.Following.{somes_drop}
 use Rattle.listeners_surroundings.proofs.fact.renew_each.Goals as goal
+use Rattle.std.proofs.lemmas.List.{drop_all, take_rest}
 
 pub loop-place-preserved : goal.loop-place-preserved
 loop-place-preserved g c =
@@ -20,7 +21,7 @@ loop-place-preserved g c =
     let place = c.loop-place.place in
     let one = c.index-ops-place.result in
     let later = somes (take (length ops - (place + 1)) (drop (place + 1) ops)) in
-    let rest = ap somes (rest_all ops (place + 1)) in
+    let rest = ap somes (take_rest ops (place + 1)) in
     let is = somes_drop ops place one c.loop-place-test.true ∙ ap (λ o. if_any o (somes (drop (place + 1) ops))) (sym c.index-ops-place.is) ∙ ap (if_any one) (sym rest) in
     let t0 = get nat_cmp c.loop-place.table in
     let t1 = get nat_cmp c.renew_first.new.table in

@@ -3,8 +3,9 @@ use Rattle.std.specs.Ordering.{nat_cmp}
 use Rattle.std.specs.BTreeMap.{get}
 use Rattle.ir_event.specs.Modules.{module_in}
 use Rattle.listeners_surroundings.specs.Facts.{kept_of}
-use Rattle.listeners_surroundings.proofs.Tables.{renewed_also, renewed_as, renewed_in, renewed_none, drop_next, drop_end}
+use Rattle.listeners_surroundings.proofs.Tables.{renewed_also, renewed_as, renewed_in, renewed_none, drop_next}
 use Rattle.listeners_surroundings.proofs.kept.renew_all.Goals as goal
+use Rattle.std.proofs.lemmas.List.{drop_all}
 
 pub loop-op-preserved : goal.loop-op-preserved
 loop-op-preserved g c =
@@ -25,4 +26,4 @@ loop-op-preserved g c =
 pub returns-clause-renewed : goal.returns-clause-renewed
 returns-clause-renewed g c =
     let t0 = get nat_cmp c.loop-op.table in
-    c.loop-op.invariant.1 t0 (renewed_none _ (drop c.loop-op.op-index c.args.ops.now) t0 (drop_end c.args.ops.now c.loop-op.op-index (let k = c.loop-op-test.false in omega arith)))
+    c.loop-op.invariant.1 t0 (renewed_none _ (drop c.loop-op.op-index c.args.ops.now) t0 (drop_all c.args.ops.now c.loop-op.op-index (let k = c.loop-op-test.false in omega arith)))

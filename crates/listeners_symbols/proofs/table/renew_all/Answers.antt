@@ -1,9 +1,10 @@
 use Rattle.std.proofs.Common.{sym, ◌+◌, ◌∷◌, ◌∙◌, arith, drop}
 use Rattle.ir_event.specs.Modules.{module_in}
-use Rattle.listeners_surroundings.proofs.Tables.{drop_next, drop_end}
+use Rattle.listeners_surroundings.proofs.Tables.{drop_next}
 use Rattle.listeners_symbols.specs.Listeners.{kept_at}
 use Rattle.listeners_symbols.proofs.Added.{added_one, added_none, added_as, renewed_in}
 use Rattle.listeners_symbols.proofs.table.renew_all.Goals as goal
+use Rattle.std.proofs.lemmas.List.{drop_all}
 
 pub loop-op-preserved : goal.loop-op-preserved
 loop-op-preserved c =
@@ -23,4 +24,4 @@ pub returns : goal.returns
 returns c =
     let w = c.args.view.now.world.now in
     let f = kept_at c.loop-op.roles in
-    c.loop-op.invariant.1 f (added_as w.ctx (module_in w).tree _ _ f f (sym (drop_end c.args.ops.now c.loop-op.op-index (let k = c.loop-op-test.false in omega arith))) (added_none w.ctx (module_in w).tree f))
+    c.loop-op.invariant.1 f (added_as w.ctx (module_in w).tree _ _ f f (sym (drop_all c.args.ops.now c.loop-op.op-index (let k = c.loop-op-test.false in omega arith))) (added_none w.ctx (module_in w).tree f))

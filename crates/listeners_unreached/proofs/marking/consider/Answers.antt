@@ -3,8 +3,9 @@ use Rattle.listeners_symbols.specs.Lines.{numbers_at}
 use Rattle.listeners_unreached.specs.Unreached.{reached_from}
 use Rattle.listeners_unreached.specs.Marks.{IsAbove, IsDefinition, Reaches, StandsUnder, left_at, queue_of}
 use Rattle.listeners_unreached.proofs.Taken.{considered_waits, considered_reaches, considered_nothing}
-use Rattle.listeners_unreached.proofs.Steps.{on_ok, some_true}
+use Rattle.listeners_unreached.proofs.Steps.{on_ok}
 use Rattle.listeners_unreached.proofs.marking.consider.Goals as goal
+use Rattle.ir_tree_laws.proofs.Reasoned.{some_there}
 
 pub returns-then-refers_to_none-clause-considered : goal.returns-then-refers_to_none-clause-considered
 returns-then-refers_to_none-clause-considered c =
@@ -18,7 +19,7 @@ returns-in-Some-clause-considered c =
     let ds = c.args.definitions.now in
     let left = left_at c.args.left.now in
     let above = subst (λ (o : Option ℕ). IsAbove roles left c.args.op o) c.in-Some.is c.in_ok-definition.ensures in
-    let ws = some_true (left c.in-Some.definition) above.1 in
+    let ws = some_there (left c.in-Some.definition) above.1 in
     on_ok _ _ c.wait.result (λ f. considered_waits (IsDefinition roles) (StandsUnder roles) (Reaches roles ds) c.args.op c.in-Some.definition ws.0 (queue_of c.args.pending.now) left (left_at c.wait.new.left) above.0 (f ws.0 ws.1)) c.wait.ensures.waiting
 
 pub returns-in-None-clause-considered : goal.returns-in-None-clause-considered

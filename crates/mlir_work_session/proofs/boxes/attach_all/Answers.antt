@@ -3,8 +3,9 @@ use Rattle.std.specs.Vec.Iter.{into_iter_items}
 use Rattle.mlir_work_script.proofs.Joins.{grows_join, grows_none, front_within}
 use Rattle.rewriter.specs.Panels.{all_shown}
 use Rattle.mlir_work_session.specs.Output.{box_line}
-use Rattle.mlir_work_session.proofs.Attaching.{box_step, no_box_left, some_attaches, both_there, all_there, one_less, none_of_none}
+use Rattle.mlir_work_session.proofs.Attaching.{box_step, no_box_left, some_attaches, one_less, none_of_none}
 use Rattle.mlir_work_session.proofs.boxes.attach_all.Goals as goal
+use Rattle.ir_tree.proofs.Counts.{and_true, and_assoc}
 
 pub loop-listener-init : goal.loop-listener-init
 loop-listener-init g c = record {
@@ -36,14 +37,14 @@ loop-listener-preserved g c =
       long = one_less _ _ _ _ _ c.in-Some.ensures.steps.0 c.in-Some.ensures.steps.1 c.loop-listener.invariant.long;
       front = front ++ first;
       wrote = grows_join _ _ _ front first c.loop-listener.invariant.wrote (rw c.kind_of-kind.ensures at c.in-Ok.ensures);
-      whole = λ new there rest h. rw (append_assoc, c.both-accepted.ensures, ← both_there) (c.loop-listener.invariant.whole new _ (first ++ rest) (box_step meaning _ (into_iter_items c.next.new.self) c.in-Some.listener _ _ _ c.attach-tried.result there rest c.in-Some.ensures.steps.0 c.attach-tried.ensures.tried h));
+      whole = λ new there rest h. rw (append_assoc, c.both-accepted.ensures, ← and_assoc) (c.loop-listener.invariant.whole new _ (first ++ rest) (box_step meaning _ (into_iter_items c.next.new.self) c.in-Some.listener _ _ _ c.attach-tried.result there rest c.in-Some.ensures.steps.0 c.attach-tried.ensures.tried h));
     }
 
 pub returns-clause-attached : goal.returns-clause-attached
 returns-clause-attached g c =
     let meaning = g.L.Analysis.meaning in
     let front = c.loop-listener.invariant.front in
-    (front, rw (append-nil, all_there) at (c.loop-listener.invariant.whole (all_shown meaning c.loop-listener.bench.listeners) true [] (no_box_left meaning _ _ (none_of_none _ _ c.loop-listener.invariant.long c.in-None.ensures.steps.0))), c.loop-listener.invariant.wrote)
+    (front, rw (append-nil, and_true) at (c.loop-listener.invariant.whole (all_shown meaning c.loop-listener.bench.listeners) true [] (no_box_left meaning _ _ (none_of_none _ _ c.loop-listener.invariant.long c.in-None.ensures.steps.0))), c.loop-listener.invariant.wrote)
 
 pub returns-in-Err-clause-desk : goal.returns-in-Err-clause-desk
 returns-in-Err-clause-desk g c = c.attach-tried.ensures.desk ∙ c.loop-listener.invariant.desk

@@ -3,8 +3,9 @@ use Rattle.std.specs.Prelude.{option_map, is_some}
 use Rattle.ir_tree.specs.Ids.{has_id}
 use Rattle.ir_store.specs.Nodes.{node_of}
 use Rattle.ir_store.specs.Stored.{Stored, known}
-use Rattle.mlir_work_session.proofs.Placed.{block_told, no_block, some_kept}
+use Rattle.mlir_work_session.proofs.Placed.{block_told, no_block}
 use Rattle.mlir_work_session.proofs.places.has_block.Goals as goal
+use Rattle.ir_tree_laws.proofs.Contents.{some_map}
 
 pub returns-then-not-in_tree : goal.returns-then-not-in_tree
 returns-then-not-in_tree c =
@@ -17,4 +18,4 @@ returns-in-Some c =
     let s : Stored = c.args.store.now in
     let there : has_id c.args.op s.module_of.tree ≡ true = search rules in
     let shown : option_map node_of (known c.args.op s) ≡ Some c.in-Some.node = search rules in
-    c.is_some.ensures ∙ sym (some_kept (λ a. a.now) c.arguments.result) ∙ ap is_some c.arguments.ensures ∙ block_told c.args.op c.args.region s c.in-Some.node there shown
+    c.is_some.ensures ∙ sym (some_map (λ a. a.now) c.arguments.result) ∙ ap is_some c.arguments.ensures ∙ block_told c.args.op c.args.region s c.in-Some.node there shown

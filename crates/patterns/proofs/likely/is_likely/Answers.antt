@@ -1,19 +1,38 @@
-use Rattle.std.proofs.Common.{◌≡◌, ◌∙◌, ap, sym, refl, true, None}
+use Rattle.std.proofs.Common.{◌≡◌, ◌∙◌, ap, sym, refl, subst, Bool, true, false, true≢false, None}
 use Rattle.ir_event.specs.Modules.{module_in}
 use Rattle.patterns_base.specs.RuleNames.{is_canonical}
+use Rattle.patterns_base.specs.declared.rule.Rule.{Rule}
+use Rattle.patterns_base.specs.declared.rule.Rule.TheVariants.{EraseDead, OpenBranch, OpenLoop, StopLoop}
+use Rattle.patterns_plans.specs.Planned.{IsPlanAt}
 use Rattle.patterns_reads.specs.Reads.{head_in}
 use Rattle.patterns.proofs.Lowering.{never, untried}
 use Rattle.patterns.proofs.Regions.{head_is, never_open_branch, never_open_loop, when_stop_loop}
 use Rattle.patterns.proofs.likely.is_likely.Goals as goal
 
-pub returns-in-OpenBranch-clause-tried : goal.returns-in-OpenBranch-clause-tried
-returns-in-OpenBranch-clause-tried c e = ap is_canonical c.in-OpenBranch.is
+-- a rule that erases none
+erases : Rule → Bool
+erases EraseDead = true
+erases _ = false
 
-pub returns-in-OpenLoop-clause-tried : goal.returns-in-OpenLoop-clause-tried
-returns-in-OpenLoop-clause-tried c e = ap is_canonical c.in-OpenLoop.is
+other : {X : Type 0} (r : Rule) → erases r ≡ false → r ≡ EraseDead → X
+other r n e = absurd (true≢false (sym (ap erases e) ∙ n))
 
-pub returns-in-StopLoop-clause-tried : goal.returns-in-StopLoop-clause-tried
-returns-in-StopLoop-clause-tried c e = ap is_canonical c.in-StopLoop.is
+pub returns-in-EraseDead : goal.returns-in-EraseDead
+returns-in-EraseDead c =
+    let tries = ap is_canonical c.in-EraseDead.is in
+    record {
+      likely = λ e. record { tried = tries; dead = λ f. c.is_dead.ensures.dead e };
+      left_out = λ e. never c.args.world.now c.args.op c.args.rule tries (subst (λ r. IsPlanAt r c.args.world.now c.args.op None) (sym c.in-EraseDead.is) (c.is_dead.ensures.left_out e));
+    }
+
+pub returns-in-OpenBranch-clause-likely : goal.returns-in-OpenBranch-clause-likely
+returns-in-OpenBranch-clause-likely c e = record { tried = ap is_canonical c.in-OpenBranch.is; dead = λ f. other c.args.rule (ap erases c.in-OpenBranch.is) f }
+
+pub returns-in-OpenLoop-clause-likely : goal.returns-in-OpenLoop-clause-likely
+returns-in-OpenLoop-clause-likely c e = record { tried = ap is_canonical c.in-OpenLoop.is; dead = λ f. other c.args.rule (ap erases c.in-OpenLoop.is) f }
+
+pub returns-in-StopLoop-clause-likely : goal.returns-in-StopLoop-clause-likely
+returns-in-StopLoop-clause-likely c e = record { tried = ap is_canonical c.in-StopLoop.is; dead = λ f. other c.args.rule (ap erases c.in-StopLoop.is) f }
 
 pub returns-in-OpenBranch-clause-left_out : goal.returns-in-OpenBranch-clause-left_out
 returns-in-OpenBranch-clause-left_out c e =
@@ -36,6 +55,6 @@ pub returns-then-is_canonical : goal.returns-then-is_canonical
 returns-then-is_canonical c =
     let tries = sym c.is_canonical.ensures ∙ c.if-is_canonical.true in
     record {
-      tried = λ e. tries;
+      likely = λ e. record { tried = tries; dead = λ f. absurd (c.in_default.not-EraseDead f) };
       left_out = λ e. never c.args.world.now c.args.op c.args.rule tries (c.may_apply.ensures e);
     }

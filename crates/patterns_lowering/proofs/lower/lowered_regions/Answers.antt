@@ -5,11 +5,11 @@ use Rattle.ir_tree.specs.Meaning.{is_type}
 use Rattle.ir_tree.specs.Tree.{regions_of, region_list}
 use Rattle.ir_tree.specs.View.{region_view}
 use Rattle.ir_tree.specs.declared.tree.TreeRegion.{TreeRegion}
-use Rattle.ir_tree.proofs.Agreeing.{both}
 use Rattle.ir_tree.proofs.Lists.{regions_from}
 use Rattle.ir_tree.proofs.Steps.{made_next, made_all, map_more, next_left}
 use Rattle.patterns_lowering.specs.Numbers.{regions_lowered}
 use Rattle.patterns_lowering.proofs.lower.lowered_regions.Goals as goal
+use Rattle.std.proofs.lemmas.Bool.{and_parts}
 
 pub regions-preserved : goal.regions-preserved
 regions-preserved c =
@@ -24,7 +24,7 @@ regions-preserved c =
     record {
       made = made_next todo xs n x (region_view y ∷ []) (map region_view c.regions.lowered.items) (map region_view c.push.new.self.items) (todo 0 xs) c.regions-test.true c.region-item.is grown next c.regions.invariant.made;
       known =
-          (both (arguments_pass p (region_view x)) (all_arguments_pass p (regions_of (map region_view (drop (n + 1) xs))))
+          (and_parts (arguments_pass p (region_view x)) (all_arguments_pass p (regions_of (map region_view (drop (n + 1) xs))))
           (subst (λ (zs : List TreeRegion). all_arguments_pass p (regions_of (map region_view zs)) ≡ true) (next_left xs n x c.regions-test.true c.region-item.is) c.regions.invariant.known)).1;
     }
 

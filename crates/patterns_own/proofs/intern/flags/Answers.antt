@@ -5,8 +5,8 @@ use Rattle.ir_types.specs.declared.word.Word.TheVariants.{OverflowFlags}
 use Rattle.patterns.specs.Interned.{IsNameOf}
 use Rattle.patterns.proofs.Adding.{added_none}
 use Rattle.patterns_reads.proofs.Names.{word_named, word_there}
-use Rattle.patterns_own.proofs.Makings.{flags_set}
 use Rattle.patterns_own.proofs.intern.flags.Goals as goal
+use Rattle.patterns.proofs.Leaves.{flags_set}
 
 pub returns-then-not-is_flagged-clause-added : goal.returns-then-not-is_flagged-clause-added
 returns-then-not-is_flagged-clause-added g c = added_none g.L.Analysis.meaning c.args.bench.now

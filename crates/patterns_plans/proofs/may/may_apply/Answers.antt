@@ -34,7 +34,7 @@ pub returns-in-FoldToConstant : goal.returns-in-FoldToConstant
 returns-in-FoldToConstant c e =
     planned_at fold_to_constant FoldToConstant at_fold_to_constant c.args.rule c.in-FoldToConstant.is c.args.world.now c.args.op c.args.node.now None c.requires
     (λ n front. never_fold_to_constant (module_in c.args.world.now).tree n front (bare_in c.args.world.now.ctx c.args.op c.args.node.now)
-    (sym c.reads_constant.ensures ∙ e))
+    (sym c.may_fold.ensures ∙ e))
 
 pub returns-in-SwapConstant : goal.returns-in-SwapConstant
 returns-in-SwapConstant c e =

@@ -4,7 +4,7 @@ use Rattle.patterns_reads.proofs.Cleaned.{source_no, source_yes}
 use Rattle.patterns_reads.proofs.known.clean_giver.Goals as goal
 
 pub returns-then-not-branch-clause-node : goal.returns-then-not-branch-clause-node
-returns-then-not-branch-clause-node c = source_no (module_in c.args.world.now).tree c.args.value.now c.in-Result.op _ (head_in c.args.world.now.ctx c.in-Some.node) _ c.in-Result.is c.in-Some.ensures.node c.in_ok-is_clean.ensures c.if-not-branch.true
+returns-then-not-branch-clause-node c = source_no (module_in c.args.world.now).tree c.args.value.now c.in-Result.op _ (head_in c.args.world.now.ctx c.in-Some.node) _ c.in-Result.is c.in-Some.ensures.node c.in_ok-is_clean_shown.ensures c.if-not-branch.true
 
 pub returns-clause-node : goal.returns-clause-node
-returns-clause-node c = source_yes (module_in c.args.world.now).tree c.args.value.now c.in-Result.op _ (head_in c.args.world.now.ctx c.in-Some.node) _ c.in-Result.is c.in-Some.ensures.node c.in_ok-is_clean.ensures c.if-not-branch.false
+returns-clause-node c = source_yes (module_in c.args.world.now).tree c.args.value.now c.in-Result.op _ (head_in c.args.world.now.ctx c.in-Some.node) _ c.in-Result.is c.in-Some.ensures.node c.in_ok-is_clean_shown.ensures c.if-not-branch.false

@@ -5,8 +5,9 @@ use Rattle.patterns_edits.specs.events.Modules.{module_in}
 use Rattle.dialects_int.specs.Folds.{entries_of}
 use Rattle.patterns_laws.specs.Words.{among}
 use Rattle.patterns_reads.specs.Pairs.{AreFlags, pairs}
-use Rattle.patterns_reads.proofs.Pairs.{none_in, one_in, two_in, of_type}
+use Rattle.patterns_reads.proofs.Pairs.{one_in, two_in, of_type}
 use Rattle.patterns_reads.proofs.plain.has_pair_form.Goals as goal
+use Rattle.ir_types.proofs.Truths.{none_left}
 
 pub returns : goal.returns
 returns c second =
@@ -26,7 +27,7 @@ returns c second =
       operands = sym c.operands.ensures ∙ two_in c.operands.result.now a b _ _ c.in-len2.len_at_least c.in-len2.len_below c.first-item.is c.second-item.is;
       results = ap (map (type_term k)) results;
       flags = subst (λ es. AreFlags (entries_of k es)) c.properties.ensures (c.are_flags.ensures c.if-not-are_flags.false);
-      arguments = ap (map (option_map (map (type_term k)))) (none_in n.arguments few);
+      arguments = ap (map (option_map (map (type_term k)))) (none_left n.arguments few);
       number = sym c.if-not-is_number.ensures;
       of_first = of_type (type_of_value a t) (type_term k ty) (sym c.if-not-is_of_type.ensures);
       of_second = of_type (type_of_value b t) (type_term k ty) (sym c.is_of_type-2.ensures ∙ second);

@@ -2,8 +2,9 @@ use Rattle.std.proofs.Common.{◌≡◌, ℕ, ◌<◌, [], ◌∷◌, sym, ◌�
 use Rattle.std.proofs.lemmas.Slice.Eq.{bytes_eq-Decides}
 use Rattle.ir_types.specs.Terms.{name_term, type_term, attr_term, IntegerOf}
 use Rattle.ir_verify_base.specs.Numbers.{node_in}
-use Rattle.patterns_reads.proofs.Pairs.{none_in, one_in, integer_is}
+use Rattle.patterns_reads.proofs.Pairs.{one_in, integer_is}
 use Rattle.patterns_reads.proofs.plain.has_plain_form.Goals as goal
+use Rattle.ir_types.proofs.Truths.{none_left}
 
 pub returns-then-eq : goal.returns-then-eq
 returns-then-eq c number =
@@ -13,14 +14,14 @@ returns-then-eq c number =
     let entry = c.entry-item.result in
     let integer = c.in-Some.integer in
     let name : name_term k n.head.name ≡ codes "arith.constant" = ap (name_term k) (sym c.name.ensures) ∙ (bytes_eq-Decides (name_term k c.name.result) (codes "arith.constant")).0 (sym c.if-not-is_word.ensures) in
-    let operands : n.head.operands ≡ [] = sym c.operands.ensures ∙ none_in c.operands.result.now c.in-empty.len_below in
+    let operands : n.head.operands ≡ [] = sym c.operands.ensures ∙ none_left c.operands.result.now c.in-empty.len_below in
     let results : n.head.results ≡ ty ∷ [] = sym c.results.ensures ∙ one_in c.results.result.now ty _ c.in-len1.len_at_least c.in-len1.len_below c.ty-item.is in
     let properties : n.head.properties ≡ entry ∷ [] = sym c.properties.ensures ∙ one_in c.properties.result.now entry _ c.in-len1-properties.len_at_least c.in-len1-properties.len_below c.entry-item.is in
     let key : name_term k entry.0 ≡ codes "value" = (bytes_eq-Decides (name_term k entry.0) (codes "value")).0 (sym c.if-not-is_word-2.ensures) in
     let same : integer.0 ≡ ty = eqb-true integer.0 ty (sym c.if-eq.ensures) in
     let attr : attr_term k entry.1 ≡ IntegerOf (type_term k ty) integer.1 = integer_is (attr_term k entry.1) (type_term k integer.0) integer.1 c.in-Some.ensures.integer ∙ ap (λ t. IntegerOf (type_term k t) integer.1) same in
     let few : length n.arguments < 1 = (let count = c.region_count.ensures in let zero = c.if-region_count-ne0.false in omega (arith, count, zero)) in
-    let arguments : n.arguments ≡ [] = none_in n.arguments few in (
+    let arguments : n.arguments ≡ [] = none_left n.arguments few in (
       type_term k ty,
       integer.1,
       sym c.is_number.ensures ∙ number,

@@ -6,8 +6,8 @@ use Rattle.patterns_reads.specs.Words.{named}
 use Rattle.patterns_regions.specs.Blocks.{ended_in}
 use Rattle.patterns_regions.specs.Opened.{opening}
 use Rattle.patterns_regions.proofs.Ruled.{number_stop_loop}
-use Rattle.patterns_regions.proofs.Slices.{first_item}
 use Rattle.patterns_regions.proofs.plans.plan_stop_loop.Goals as goal
+use Rattle.ir_types.proofs.Truths.{rest_at}
 
 pub returns-clause-edits : goal.returns-clause-edits
 returns-clause-edits c =
@@ -16,7 +16,7 @@ returns-clause-edits c =
     let handed = take (length xs - 1) (drop 1 xs) in
     number_stop_loop w.ctx c.in-Some.node c.args.op (module_in w).tree c.args.front.now c.in-Some.ensures.node
     (ended_in w.ctx c.in-Some-2.body) (ap (option_map (ended_in w.ctx)) (sym c.in-Some-2.is) ∙ c.in_ok-body.ensures.body)
-    c.condition-item.result handed (sym c.operands.ensures ∙ first_item xs c.condition-item.result _ c.in-len1-up.len_at_least c.condition-item.is)
+    c.condition-item.result handed (sym c.operands.ensures ∙ rest_at xs c.condition-item.result _ c.in-len1-up.len_at_least c.condition-item.is)
     _ c.in_ok-is_number.ensures
     c.is_word.result (c.is_word.ensures ∙ ap (λ n. named (codes "scf.while") (name_term w.ctx n)) c.name.ensures) c.if-not-is_word.false
     c.if-not-branch.false _ (c.in_ok-edits.ensures.edits w.ctx ∙ (λ i. opening c.args.op c.args.front.now (c.deref.ensures.value i) (c.operands-2.ensures i) handed))

@@ -4,8 +4,8 @@ use Rattle.patterns_reads.specs.Reads.{head_in}
 use Rattle.patterns_reads.proofs.Cleaned.{known_not}
 use Rattle.patterns_regions.proofs.Bodies.{body_no_last, body_no_node}
 use Rattle.patterns_regions.proofs.Needed.{no_stop_loop, no_stop_loop_body, no_stop_loop_shape}
-use Rattle.patterns_regions.proofs.Slices.{first_item}
 use Rattle.patterns_regions.proofs.tests.may_stop.Goals as goal
+use Rattle.ir_types.proofs.Truths.{rest_at}
 
 pub returns-in_default : goal.returns-in_default
 returns-in_default c front e =
@@ -30,4 +30,4 @@ returns c front f =
     let xs = c.operands.result.now in
     let v = c.condition-item.result in
     no_stop_loop w.ctx c.args.op w.store.module_of.tree front w.formed.distinct c.in-Some.last c.in-Some.ensures (head_in w.ctx c.in-Some-shown.node) c.in-Some-shown.ensures.node
-    v (take (length xs - 1) (drop 1 xs)) (sym c.operands.ensures ∙ first_item xs v _ c.in-len1-up.len_at_least c.condition-item.is) (known_not (module_in w).tree v _ c.is_constant.ensures f)
+    v (take (length xs - 1) (drop 1 xs)) (sym c.operands.ensures ∙ rest_at xs v _ c.in-len1-up.len_at_least c.condition-item.is) (known_not (module_in w).tree v _ c.is_constant.ensures f)

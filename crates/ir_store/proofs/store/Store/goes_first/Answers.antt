@@ -1,8 +1,9 @@
 use Rattle.std.proofs.Common.{sym, ◌∙◌, ◌<◌, subst, eqb-true}
 use Rattle.ir_store.specs.Lifted.{level_of}
 use Rattle.ir_store.proofs.Climbing.{level_up, below_next}
-use Rattle.ir_store.proofs.Preceding.{placeless_level, precedes_none, same_level_up, precedes_up, precedes_regions, precedes_list, differ}
+use Rattle.ir_store.proofs.Preceding.{placeless_level, precedes_none, same_level_up, precedes_up, precedes_regions, precedes_list}
 use Rattle.ir_store.proofs.store.Store.goes_first.Goals as goal
+use Rattle.std.proofs.lemmas.Bool.{eqb-false}
 
 pub returns-in_default : goal.returns-in_default
 returns-in_default c =
@@ -40,6 +41,6 @@ around-preserved c =
     record {
       level = same_level_up t c.distinct.ensures c.around.first c.around.second c.in-Some.place c.in-Some-place.behind (sym c.in-Some.ensures) (sym c.in-Some-place.ensures) c.around.invariant.level;
       same =
-          sym (precedes_up t c.distinct.ensures c.around.first c.around.second c.in-Some.place c.in-Some-place.behind (sym c.in-Some.ensures) (sym c.in-Some-place.ensures) c.around.invariant.level (differ _ _ (sym c.if-eq.ensures)))
+          sym (precedes_up t c.distinct.ensures c.around.first c.around.second c.in-Some.place c.in-Some-place.behind (sym c.in-Some.ensures) (sym c.in-Some-place.ensures) c.around.invariant.level (eqb-false _ _ (sym c.if-eq.ensures)))
           ∙ c.around.invariant.same;
     }

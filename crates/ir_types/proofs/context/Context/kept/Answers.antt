@@ -1,11 +1,11 @@
 use Rattle.std.proofs.Common.{◌≡◌, ◌∙◌, sym, ap, subst, ℕ, true, false, List, map, length, arith}
-use Rattle.ir_types_items.proofs.Placed.{length-keys}
 use Rattle.std.proofs.lemmas.List.Sorted.{length_permutation}
 use Rattle.ir_types.specs.Things.{Things}
 use Rattle.ir_types.specs.Dictionaries.{has_twin, sorted}
 use Rattle.ir_types.specs.Sound.{IsRising}
 use Rattle.ir_types.proofs.Keptness.{plain_kept, dictionary_kept, dictionary_twin}
 use Rattle.ir_types.proofs.context.Context.kept.Goals as goal
+use Rattle.std.proofs.lemmas.Map.Entries.{length-keys_of}
 
 pub returns-in_default : goal.returns-in_default
 returns-in_default c =
@@ -32,5 +32,5 @@ pub returns-clause-reason : goal.returns-clause-reason
 returns-clause-reason c =
     let items = c.into_vec-entries.ensures in
     let twin : has_twin (map (λ (e : ℕ × ℕ). e.0) c.in-Dict.entries) ≡ true = ap (λ (l : List (ℕ × ℕ)). has_twin (map (λ (e : ℕ × ℕ). e.0) l)) (sym items) ∙ sym c.sort_entries.ensures.twin ∙ c.if-not-sort_entries.false in
-    let count : length c.args.self.now.attrs ≡ length c.self.inside.attrs.entries = ap (λ (d : Things). length d.attrs) (sym c.self.view_is) ∙ length-keys c.self.inside.attrs.entries in
+    let count : length c.args.self.now.attrs ≡ length c.self.inside.attrs.entries = ap (λ (d : Things). length d.attrs) (sym c.self.view_is) ∙ length-keys_of c.self.inside.attrs.entries in
     dictionary_twin c.args.self.now.names (length c.args.self.now.attrs) c.args.node c.in-Dict.entries c.in-Dict.is (omega (arith, c.len.ensures, c.if-len-gt-MOST_ENTRIES.false)) twin (omega (arith, count, c.len-else-not-sort_entries.ensures.len, c.if-len.false))

@@ -2,7 +2,7 @@ use Rattle.std.proofs.Common.{◌≡◌, length}
 use Rattle.ir_event.specs.Modules.{module_in}
 use Rattle.patterns_base.specs.Canonicalization.{first_rule}
 use Rattle.patterns.specs.Lowest.{greedy}
-use Rattle.patterns.proofs.lowest.first_made.Given as goal
+use Rattle.patterns.proofs.lowest.first_applying.Given as goal
 
 abbrev pub invariant-rules : goal.invariant-rules
 invariant-rules l = first_rule (greedy l.fn.rules) (module_in l.fn.world) l.fn.op ≡ first_rule (greedy l.rest) (module_in l.fn.world) l.fn.op

@@ -1,0 +1,72 @@
+-- The rows of a list of rules, by the numbers of names.
+use Rattle.std.proofs.Common.{◌≡◌, refl, ap, sym, ◌∙◌, subst, inl, inr, ◌⊎◌, ℕ, zero, suc, ◌+◌, ◌<◌, ◌≤◌, List, [], ◌∷◌, ◌++◌, length, map, slice_index_or, arith}
+use Rattle.std.specs.Prelude.{Vec}
+use Rattle.std.specs.List.{filter, list_any}
+use Rattle.std.specs.declared.alloc.Global.{Global}
+use Rattle.ir_types.specs.Things.{Things}
+use Rattle.ir_types.specs.Terms.{name_term}
+use Rattle.ir_types.specs.Sound.{IsSound}
+use Rattle.patterns_base.specs.RuleNames.{same_rule}
+use Rattle.patterns_base.specs.Rules.{rules_for, table}
+use Rattle.patterns_base.specs.declared.rule.Rule.{Rule}
+use Rattle.patterns_base.proofs.TableNumbers.{past, rules_are}
+use Rattle.patterns.specs.Rows.{AreRowsOf, row_at, those_for}
+
+abbrev Row : Type 0
+Row = Vec Rule Global
+
+newest : (rows : List Row) (row : Row) → row_at (rows ++ row ∷ []) (length rows) ≡ row.items
+newest [] row = refl
+newest (r ∷ rows) row = newest rows row
+
+earlier : (rows : List Row) (row : Row) (n : ℕ) → n < length rows → row_at (rows ++ row ∷ []) n ≡ row_at rows n
+earlier [] row n l = absurd (omega (arith, l))
+earlier (r ∷ rows) row zero l = refl
+earlier (r ∷ rows) row (suc n) l = earlier rows row n (omega (arith, l))
+
+behind : (rows : List Row) (n : ℕ) → length rows ≤ n → row_at rows n ≡ []
+behind [] n l = refl
+behind (r ∷ rows) zero l = absurd (omega (arith, l))
+behind (r ∷ rows) (suc n) l = behind rows n (omega (arith, l))
+
+longer : (rows : List Row) (row : Row) → length (rows ++ row ∷ []) ≡ length rows + 1
+longer [] row = refl
+longer (r ∷ rows) row = ap suc (longer rows row)
+
+-- no name behind those of the table has rules
+none_behind : (c : Things) → IsSound c → (n : ℕ) → 39 ≤ n → rules_for (name_term c n) ≡ []
+unfolding table
+none_behind c sound n l = rules_are c n sound ∙ past (λ (row : List ℕ × List Rule). row.1) table n [] l
+
+module _ (rs : List Rule) where
+  abbrev among : List Rule → List Rule
+  among listed = filter (λ r. list_any (same_rule r) listed) rs
+
+  -- rows for the names below a number
+  abbrev pub AreUpTo : ℕ → List Row → Type 0
+  AreUpTo k rows = (length rows ≡ k) × ((c : Things) → IsSound c → (n : ℕ) → n < k → row_at rows n ≡ those_for rs (name_term c n))
+
+  pub none_yet : AreUpTo 0 []
+  none_yet = (refl, λ c sound n l. absurd (omega (arith, l)))
+
+  last_or_earlier : (n k : ℕ) → n < k + 1 → (n ≡ k) ⊎ (n < k)
+  last_or_earlier n k l = omega (arith, l)
+
+  pub one_more : (k : ℕ) (rows : List Row) (row : Row) (listed : List Rule) → AreUpTo k rows → row.items ≡ among listed → ((c : Things) → IsSound c → listed ≡ rules_for (name_term c k)) → AreUpTo (k + 1) (rows ++ row ∷ [])
+  one_more k rows row listed is made of = (longer rows row ∙ ap (λ n. n + 1) is.0, λ c sound n l. elim (last_or_earlier n k l) [
+    | inl e ↦ (ap (row_at (rows ++ row ∷ [])) (e ∙ sym is.0) ∙ newest rows row ∙ made ∙ ap among (of c sound) ∙ ap (λ (i : ℕ). those_for rs (name_term c i)) (sym e))
+    | inr h ↦ (earlier rows row n (subst (λ (i : ℕ). n < i) (sym is.0) h) ∙ is.1 c sound n h)
+  ])
+
+  none_among : (xs : List Rule) → filter (λ r. list_any (same_rule r) []) xs ≡ []
+  none_among [] = refl
+  none_among (x ∷ xs) = none_among xs
+
+  below_or_behind : (n : ℕ) → (39 ≤ n) ⊎ (n < 39)
+  below_or_behind n = omega arith
+
+  pub all_rows : (rows : List Row) → AreUpTo 39 rows → AreRowsOf rs rows
+  all_rows rows is c sound n = elim (below_or_behind n) [
+    | inl l ↦ (behind rows n (subst (λ (i : ℕ). i ≤ n) (sym is.0) l) ∙ sym (none_among rs) ∙ ap among (sym (none_behind c sound n l)))
+    | inr l ↦ is.1 c sound n l
+  ]

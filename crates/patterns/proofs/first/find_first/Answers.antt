@@ -1,0 +1,46 @@
+use Rattle.std.proofs.Common.{◌∙◌, ap, sym}
+use Rattle.ir_types.specs.Terms.{name_term}
+use Rattle.ir_event.specs.Modules.{module_in}
+use Rattle.patterns_reads.specs.Reads.{head_in}
+use Rattle.patterns.specs.Rows.{those_for}
+use Rattle.patterns.proofs.Firsts.{none_of}
+use Rattle.patterns.proofs.ByList.{list_suffices, none_of_list, some_of_list}
+use Rattle.patterns.proofs.Planned.{none_there, none_front, none_clean}
+use Rattle.patterns.proofs.first.find_first.Goals as goal
+
+pub returns-in_default : goal.returns-in_default
+returns-in_default c = none_of c.args.rows.now.rules.now (module_in c.args.world.now) c.args.op (λ r. none_there r (module_in c.args.world.now) c.args.op c.in_default.ensures.node)
+
+pub returns-in_default-front : goal.returns-in_default-front
+returns-in_default-front c = none_of c.args.rows.now.rules.now (module_in c.args.world.now) c.args.op (λ r. none_front r (module_in c.args.world.now) c.args.op c.in_default-front.ensures)
+
+pub returns-then-not-branch : goal.returns-then-not-branch
+returns-then-not-branch c =
+    none_of c.args.rows.now.rules.now (module_in c.args.world.now) c.args.op
+    (λ r. none_clean r (module_in c.args.world.now) c.args.op (head_in c.args.world.now.ctx c.in-Some.node) _ c.in-Some.ensures.node c.in_ok-is_clean_shown.ensures c.if-not-branch.true)
+
+pub first_made-requires-clause-clean : goal.first_made-requires-clause-clean
+first_made-requires-clause-clean c = sym c.in_ok-is_clean_shown.ensures ∙ c.if-not-branch.false
+
+pub returns-in_default-likely : goal.returns-in_default-likely
+returns-in_default-likely c =
+    let rs = c.args.rows.now.rules.now in
+    (list_suffices c.only_listed_rules_apply.ensures.applies (module_in c.args.world.now) c.args.op (head_in c.args.world.now.ctx c.in-Some.node) c.in-Some.ensures.node rs c.requires.canonical c.of-listed.result.now
+    (c.of-listed.ensures ∙ c.requires.by_name c.args.world.now.ctx c.sound.ensures _ ∙ ap (λ n. those_for rs (name_term c.args.world.now.ctx n)) c.name.ensures))
+    ∙ c.in_default-likely.ensures.likely
+
+pub returns-in-None : goal.returns-in-None
+returns-in-None c =
+    let rs = c.args.rows.now.rules.now in
+    none_of_list c.args.world.now c.args.op c.in-Some-front.front rs c.in-Some-likely.rules.now
+    ((list_suffices c.only_listed_rules_apply.ensures.applies (module_in c.args.world.now) c.args.op (head_in c.args.world.now.ctx c.in-Some.node) c.in-Some.ensures.node rs c.requires.canonical c.of-listed.result.now
+    (c.of-listed.ensures ∙ c.requires.by_name c.args.world.now.ctx c.sound.ensures _ ∙ ap (λ n. those_for rs (name_term c.args.world.now.ctx n)) c.name.ensures)) ∙ c.in-Some-likely.ensures.likely)
+    _ c.in_ok-rule.ensures c.in-None.is
+
+pub returns-in-Some-2 : goal.returns-in-Some-2
+returns-in-Some-2 c =
+    let rs = c.args.rows.now.rules.now in
+    some_of_list c.args.world.now c.args.op c.in-Some-front.front rs c.in-Some-likely.rules.now
+    ((list_suffices c.only_listed_rules_apply.ensures.applies (module_in c.args.world.now) c.args.op (head_in c.args.world.now.ctx c.in-Some.node) c.in-Some.ensures.node rs c.requires.canonical c.of-listed.result.now
+    (c.of-listed.ensures ∙ c.requires.by_name c.args.world.now.ctx c.sound.ensures _ ∙ ap (λ n. those_for rs (name_term c.args.world.now.ctx n)) c.name.ensures)) ∙ c.in-Some-likely.ensures.likely)
+    _ c.in-Some-2.rule c.in-Some-2.made c.in_ok-rule.ensures c.in-Some-2.is

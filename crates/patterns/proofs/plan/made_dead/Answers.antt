@@ -1,0 +1,19 @@
+use Rattle.std.proofs.Common.{◌∙◌, ap, refl, sym, Some, true}
+use Rattle.ir_event.specs.Modules.{module_in}
+use Rattle.patterns_base.specs.declared.rule.Rule.TheVariants.{EraseDead}
+use Rattle.patterns_plans.proofs.Headed.{one_dead}
+use Rattle.patterns_reads.specs.Plans.{plan_meaning}
+use Rattle.patterns_reads.specs.Reads.{head_in}
+use Rattle.patterns.proofs.Planned.{by_rule}
+use Rattle.patterns.proofs.plan.made_dead.Goals as goal
+
+pub returns-clause-edits : goal.returns-clause-edits
+returns-clause-edits c =
+    let w = c.args.world.now in
+    let m = module_in w in
+    by_rule EraseDead m c.args.op (head_in w.ctx c.args.node.now) c.args.front.now (Some (plan_meaning w.ctx m.next c.args.op c.args.front.now c.in_ok-plan.plan))
+    c.requires.shown c.requires.front c.requires.clean
+    (λ o f. ap Some (c.in_ok-plan.ensures.edits w.ctx m.next c.args.front.now) ∙ one_dead c.args.op m.tree o true (sym c.requires.dead) refl f m.next c.args.front.now)
+
+pub returns-clause-of : goal.returns-clause-of
+returns-clause-of c = c.in_ok-plan.ensures.fit c.args.world.now.ctx
