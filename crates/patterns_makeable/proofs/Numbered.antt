@@ -1,14 +1,15 @@
 -- Types that are one, and the numbers that they get.
-use Rattle.std.proofs.Common.{◌≡◌, ◌∙◌, ℕ, zero, suc, ◌<◌, Bool, true, false, ◌&&◌, nat_lt, if◌then◌else◌, List, [], ◌∷◌, ◌++◌, length, map, get_or, Option, Some, None, refl, sym, ap, subst, arith}
+use Rattle.std.proofs.Common.{◌≡◌, ◌∙◌, ℕ, zero, suc, ◌<◌, Bool, true, false, ◌&&◌, nat_lt, if◌then◌else◌, List, [], ◌∷◌, ◌++◌, length, map, get_or, Option, Some, None, refl, sym, ap, subst, true≢false, arith}
 use Rattle.std.specs.List.{list_all}
-use Rattle.std.proofs.lemmas.Bool.{eq-eqb, eqb-true, lt-ltb, ltb-true}
+use Rattle.std.proofs.lemmas.Bool.{and_parts, eq-eqb, eqb-true, lt-ltb, ltb-true}
+use Rattle.std.proofs.lemmas.Option.{none-some, same_Some}
 use Rattle.std.proofs.lemmas.List.{get_or-map}
 use Rattle.ir_types.specs.declared.bits.BitsKind.{BitsKind}
 use Rattle.ir_types.specs.declared.bits.BitsKind.TheVariants as bits
 use Rattle.dialects_int.specs.Folds.{same_kind}
+use Rattle.dialects_int.proofs.KnownOperands.{same_itself as kind_itself}
 use Rattle.patterns_check.specs.declared.step.Step.{Step}
 use Rattle.patterns_check.specs.Contents.{Content}
-use Rattle.patterns_check.proofs.Judged as judged
 use Rattle.patterns_book.specs.declared.pattern.Kind.{Kind}
 use Rattle.patterns_book.specs.declared.pattern.Kind.TheVariants as ty
 use Rattle.patterns_book.specs.declared.pattern.Piece.{Piece}
@@ -27,25 +28,22 @@ use Rattle.patterns_book.specs.WellFormed.{is_well_formed}
 use Rattle.patterns_makeable.specs.Makeable.{is_makeable}
 use Rattle.patterns_makeable.specs.United.{HaveOneNumber, IsReady, NumbersTheSame, StaysAtWidths, asked_in, first_same, further_in, given_in, if_ready, is_same, kind_in, literal_in, new_in, number_in, piece_in, ready, united}
 
-true_false : true ≡ false → ⊥
-true_false e = cc
-
 -- ---- types that are one
 
 bits_are : (j k : BitsKind) → same_kind j k ≡ true → j ≡ k
 bits_are (bits.Int v) (bits.Int w) e = ap bits.Int (eqb-true v w e)
-bits_are (bits.Int v) bits.Index e = absurd (true_false (sym e))
-bits_are bits.Index (bits.Int w) e = absurd (true_false (sym e))
+bits_are (bits.Int v) bits.Index e = absurd (true≢false (sym e))
+bits_are bits.Index (bits.Int w) e = absurd (true≢false (sym e))
 bits_are bits.Index bits.Index e = refl
 
 are_one : (j k : Kind) → is_same j k ≡ true → j ≡ k
 are_one (ty.Fixed a) (ty.Fixed b) e = ap ty.Fixed (bits_are a b e)
-are_one (ty.Fixed a) (ty.Variable j) e = absurd (true_false (sym e))
-are_one (ty.Variable i) (ty.Fixed b) e = absurd (true_false (sym e))
+are_one (ty.Fixed a) (ty.Variable j) e = absurd (true≢false (sym e))
+are_one (ty.Variable i) (ty.Fixed b) e = absurd (true≢false (sym e))
 are_one (ty.Variable i) (ty.Variable j) e = ap ty.Variable (eqb-true i j e)
 
 same_itself : (k : Kind) → is_same k k ≡ true
-same_itself (ty.Fixed b) = judged.same_itself b
+same_itself (ty.Fixed b) = kind_itself b
 same_itself (ty.Variable i) = eq-eqb i i refl
 
 -- ---- their numbers
@@ -59,7 +57,7 @@ first_or_later j js k true e more = (omega arith, sym (are_one k j e))
 first_or_later j js k false e more = let m = more refl in (omega (arith, m.0), m.1)
 
 not_this : (j k : Kind) → j ≡ k → is_same k j ≡ false → ⊥
-not_this j k e f = true_false (sym (subst (λ z. is_same k z ≡ true) (sym e) (same_itself k)) ∙ f)
+not_this j k e f = true≢false (sym (subst (λ z. is_same k z ≡ true) (sym e) (same_itself k)) ∙ f)
 
 found : (ks : List Kind) (t : ℕ) (k : Kind) → t < length ks → kind_in ks t ≡ k → Numbers ks (first_same k ks) k
 found [] t k l e = absurd (omega (arith, l))
@@ -188,23 +186,13 @@ stays_at_widths p ws = (λ i.
 
 -- ---- ready
 
-both : (a b : Bool) → (a && b) ≡ true → (a ≡ true) × (b ≡ true)
-both true b e = (refl, e)
-both false b e = absurd (true_false (sym e))
-
-none_some : {X : Type 0} (x : X) → None ≡ Some x → ⊥
-none_some x e = cc
-
-some_same : {X : Type 0} (x y : X) → Some x ≡ Some y → x ≡ y
-some_same x y e = cc
-
 where_tested : (u q : Shape) (b : Bool) → (if b then Some u else None) ≡ Some q → (b ≡ true) × (u ≡ q)
-where_tested u q true e = (refl, some_same u q e)
-where_tested u q false e = absurd (none_some q e)
+where_tested u q true e = (refl, same_Some u q e)
+where_tested u q false e = absurd (none-some q e)
 
 pub is_ready : IsReady
 unfolding ready
 is_ready p q e =
     let t = where_tested (united p) q (is_well_formed (united p) && is_makeable (united p)) e in
-    let h = both (is_well_formed (united p)) (is_makeable (united p)) t.0 in
+    let h = and_parts (is_well_formed (united p)) (is_makeable (united p)) t.0 in
     (sym t.1, subst (λ (s : Shape). is_well_formed s ≡ true) t.1 h.0, subst (λ (s : Shape). is_makeable s ≡ true) t.1 h.1)

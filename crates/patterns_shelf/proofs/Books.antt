@@ -1,10 +1,12 @@
 -- What is defined is found, and leaves what was there.
-use Rattle.std.proofs.Common.{◌≡◌, ◌∙◌, ℕ, ◌+◌, ◌<◌, ◌≤◌, Bool, true, false, nat_lt, if◌then◌else◌, List, [], ◌∷◌, ◌++◌, length, Option, Some, None, is_some, Ok, Err, refl, sym, ap, subst, arith, length-append}
+use Rattle.std.proofs.Common.{◌≡◌, ◌∙◌, ℕ, ◌+◌, ◌<◌, ◌≤◌, Bool, true, false, nat_lt, if◌then◌else◌, List, [], ◌∷◌, ◌++◌, length, Option, Some, None, is_some, Ok, Err, refl, sym, ap, subst, arith, length-append, true≢false}
 use Rattle.std.specs.Str.{bytes_eq}
 use Rattle.std.specs.List.{All}
 use Rattle.std.proofs.lemmas.Bool.{ltb-true}
 use Rattle.std.proofs.lemmas.List.Elements.{All-push}
-use Rattle.std.proofs.lemmas.Slice.Eq.{bytes_eq-Decides}
+use Rattle.std.proofs.lemmas.Option.{none-some}
+use Rattle.ir_types.proofs.Growth.{name_refl}
+use Rattle.ir_types.proofs.Truths.{turned}
 use Rattle.ir_text_tokens.specs.declared.refusal.TextRefusal.TheVariants.{Redefined, TooMany}
 use Rattle.ir_text_types.specs.Typed.{Text}
 use Rattle.patterns_spelled.specs.Syntax as syntax
@@ -25,12 +27,6 @@ use Rattle.patterns_book.specs.WellFormed.{is_well_formed}
 use Rattle.patterns_judged.specs.Rows.{Variable}
 use Rattle.patterns_shelf.specs.Shelf.{AddsOne, AreApart, Book, IsAdded, IsBook, IsReady, Kept, LastSpells, StaysABook, and_kept, defined, found, is_named, kept_as, kept_of, made_ready, most_patterns, room_for}
 
-true_false : true ≡ false → ⊥
-true_false e = cc
-
-none_some : {X : Type 0} (x : X) → None ≡ Some x → ⊥
-none_some x e = cc
-
 -- ---- outcomes
 
 bound_ok : {A B : Type 0} (o : Outcome A) (f : A → Outcome B) (y : B) → (o >>= f) ≡ Ok y → (x : A) × (o ≡ Ok x) × (f x ≡ Ok y)
@@ -43,7 +39,7 @@ okay_same x y o p e f h = cc
 -- ---- names
 
 named_itself : (k : Kept) → is_named k.name k ≡ true
-named_itself k = (bytes_eq-Decides k.name k.name).1 refl
+named_itself k = name_refl k.name
 
 module _ (name : List ℕ) where
   -- a name is that of the first, or is looked for among the others
@@ -56,12 +52,12 @@ module _ (name : List ℕ) where
   further_on j ks e = rw e refl
 
   not_first : (j : Kept) (ks : Book) (b : Bool) → is_named name j ≡ b → found name (j ∷ ks) ≡ None → (b ≡ false) × (found name ks ≡ None)
-  not_first j ks true e h = absurd (none_some j (sym h ∙ at_first j ks e))
+  not_first j ks true e h = absurd (none-some j (sym h ∙ at_first j ks e))
   not_first j ks false e h = (refl, sym (further_on j ks e) ∙ h)
 
   found_still : (ks : Book) (last k : Kept) → found name ks ≡ Some k → found name (ks ++ last ∷ []) ≡ Some k
   unfolding found
-  found_still [] last k h = absurd (none_some k h)
+  found_still [] last k h = absurd (none-some k h)
   found_still (j ∷ ks) last k h = by_test (is_named name j) refl
     where
       by_test : (b : Bool) → is_named name j ≡ b → found name (j ∷ (ks ++ last ∷ [])) ≡ Some k
@@ -80,13 +76,7 @@ found_last ks last h = found_behind last.name ks last h ∙ at_first last.name l
 
 -- names that aren't one aren't so in either order
 apart_turned : (j last : Kept) → is_named last.name j ≡ false → is_named j.name last ≡ false
-apart_turned j last e = by_test (is_named j.name last) refl
-  where
-    by_test : (b : Bool) → is_named j.name last ≡ b → b ≡ false
-    by_test true f =
-        let same : last.name ≡ j.name = (bytes_eq-Decides last.name j.name).0 f in
-        absurd (true_false (sym ((bytes_eq-Decides j.name last.name).1 (sym same)) ∙ e))
-    by_test false f = refl
+apart_turned j last e = turned last.name j.name ∙ e
 
 nothing_named : (j last : Kept) → is_named j.name last ≡ false → found j.name (last ∷ []) ≡ None
 unfolding found
