@@ -164,7 +164,7 @@ module _ (c : Things) (s : Stored) where
   undone_sound (Put x place fresh) p f own held = without_sound c x s.module_of.tree own
   undone_sound (Take x place fresh) p f own held = subst (λ q. IsSoundIn c (put_held place q s.module_of.tree)) (sym f.keeps.1) (put_sound c place f.keeps.0 s.module_of.tree (held x f.keeps.0 f.keeps.1) own)
   undone_sound (SetOperand x k old new) p f own held = operand_sound c x k old s.module_of.tree own
-  undone_sound (SetEntry x part k old new) p f own held = entry_sound c x part k old s.module_of.tree (lt-ltb k (length c.names) f.step.numbers.0) (attr_is old f.step.numbers.1.0) own
+  undone_sound (SetEntry x part k old new) p f own held = entry_sound c x part k old s.module_of.tree (lt-ltb k (length c.names) f.step.numbers.0) (attr_is c old f.step.numbers.1.0) own
   undone_sound (Shift x old new) p f own held = shifted_sound c x old s.module_of.tree own
 
   removed : (x y : ℕ) (o : Op) → finmap.get (finmap.remove s.held x) y ≡ Some o → finmap.get s.held y ≡ Some o
