@@ -177,8 +177,9 @@ unfolding pattern_text
 is_text_of p q a =
     let old = side_is q.old (codes " => " ++ (parts_text false true (term_parts q.new) ++ where_text (conditions_parts q.conditions))) in
     let new = side_is q.new (where_text (conditions_parts q.conditions)) ∙ ap (show_term q.new) (where_is q.conditions) in
-    rw (a.name, a.old, a.new, a.conditions)
-    (ap (λ (t : Text). q.name ++ (32 ∷ t)) (old ∙ ap (λ (t : Text). show_term q.old (codes " => " ++ t)) new))
+    (λ i.
+      a.name i ++ (32 ∷ (parts_text false true (a.old i) ++ (codes " => " ++ (parts_text false true (a.new i) ++ where_text (a.conditions i))))))
+    ∙ ap (λ (t : Text). q.name ++ (32 ∷ t)) (old ∙ ap (λ (t : Text). show_term q.old (codes " => " ++ t)) new)
 
 -- ---- again
 

@@ -1,9 +1,8 @@
 //! Parts are printed, one after the other.
 ghost use Rattle.std.specs.Prelude.{◌≡◌, ◌∷◌, ◌++◌, [], IfOk, OnOk, map, option_map, true};
 ghost use Rattle.ir_text_tokens.specs.Printing.{signed_text};
-ghost use Rattle.patterns_spelled.specs.Printing.{show_asked, text_of};
-ghost use Rattle.patterns_spelled.specs.Syntax.{Pattern as Spelled};
-ghost use Rattle.patterns_text.specs.Parts.{AreParts, bytes_of, kind_view, pattern_view, unplaced, views};
+ghost use Rattle.patterns_spelled.specs.Printing.{show_asked};
+ghost use Rattle.patterns_text.specs.Parts.{bytes_of, kind_view, pattern_view, unplaced, views};
 ghost use Rattle.patterns_printed.specs.Printed.{item, opens, part_text, parts_text, pattern_text, type_text, where_text};
 
 use ir_text_tokens::print::put_number;
@@ -150,8 +149,7 @@ fn put_where(out: &mut Vec<u8>, parts: &[Part<'_>]) -> Result<(), AllocError>
 /// The text of a pattern, as the grammar has it.
 #[tactic(auto, unfolding(crate::specs::Printed::pattern_text))]
 pub fn printed(alloc: Global, pattern: &Pattern<'_>) -> Result<Vec<u8>, AllocError>
-    ensures text { IfOk result (λ v. v.items ≡ pattern_text (pattern_view pattern.now)) }
-    ensures of { (q : Spelled) → AreParts (pattern_view pattern.now) q → IfOk result (λ v. v.items ≡ text_of q) }
+    ensures { IfOk result (λ v. v.items ≡ pattern_text (pattern_view pattern.now)) }
 {
     let mut out = Vec::new(alloc);
     out.extend_from_slice(pattern.name)?;

@@ -25,7 +25,7 @@ use Rattle.patterns_makeable.proofs.Numbered.{is_ready}
 use Rattle.patterns_book.specs.Shapes.{Shape}
 use Rattle.patterns_book.specs.WellFormed.{is_well_formed}
 use Rattle.patterns_judged.specs.Rows.{Variable}
-use Rattle.patterns_shelf.specs.Shelf.{AddsOne, AreApart, Book, IsAdded, IsBook, IsReady, Kept, LastSpells, StaysABook, and_kept, defined, found, is_named, kept_as, kept_of, made_ready, most_patterns, room_for}
+use Rattle.patterns_shelf.specs.Shelf.{AddsOne, AreApart, Book, IsAdded, IsBook, IsReady, Kept, LastSpells, StaysABook, and_kept, defined, found, is_named, kept_as, kept_of, made_ready, most_patterns, room_for, shape_of, variables_of}
 
 -- ---- outcomes
 
@@ -45,24 +45,25 @@ module _ (name : List ℕ) where
   -- a name is that of the first, or is looked for among the others
   at_first : (j : Kept) (ks : Book) → is_named name j ≡ true → found name (j ∷ ks) ≡ Some j
   unfolding found
-  at_first j ks e = rw e refl
+  at_first j ks e = ap (λ (b : Bool). if b then Some j else found name ks) e
 
   further_on : (j : Kept) (ks : Book) → is_named name j ≡ false → found name (j ∷ ks) ≡ found name ks
   unfolding found
-  further_on j ks e = rw e refl
+  further_on j ks e = ap (λ (b : Bool). if b then Some j else found name ks) e
 
   not_first : (j : Kept) (ks : Book) (b : Bool) → is_named name j ≡ b → found name (j ∷ ks) ≡ None → (b ≡ false) × (found name ks ≡ None)
   not_first j ks true e h = absurd (none-some j (sym h ∙ at_first j ks e))
   not_first j ks false e h = (refl, sym (further_on j ks e) ∙ h)
 
+  still_by : (j : Kept) (ks : Book) (last k : Kept) (b : Bool) → is_named name j ≡ b → found name (j ∷ ks) ≡ Some k
+      → (found name ks ≡ Some k → found name (ks ++ last ∷ []) ≡ Some k) → found name (j ∷ (ks ++ last ∷ [])) ≡ Some k
+  still_by j ks last k true e h more = at_first j (ks ++ last ∷ []) e ∙ sym (at_first j ks e) ∙ h
+  still_by j ks last k false e h more = further_on j (ks ++ last ∷ []) e ∙ more (sym (further_on j ks e) ∙ h)
+
   found_still : (ks : Book) (last k : Kept) → found name ks ≡ Some k → found name (ks ++ last ∷ []) ≡ Some k
   unfolding found
   found_still [] last k h = absurd (none-some k h)
-  found_still (j ∷ ks) last k h = by_test (is_named name j) refl
-    where
-      by_test : (b : Bool) → is_named name j ≡ b → found name (j ∷ (ks ++ last ∷ [])) ≡ Some k
-      by_test true e = at_first j (ks ++ last ∷ []) e ∙ sym (at_first j ks e) ∙ h
-      by_test false e = further_on j (ks ++ last ∷ []) e ∙ found_still ks last k (sym (further_on j ks e) ∙ h)
+  found_still (j ∷ ks) last k h = still_by j ks last k (is_named name j) refl h (found_still ks last k)
 
   found_behind : (ks : Book) (last : Kept) → found name ks ≡ None → found name (ks ++ last ∷ []) ≡ found name (last ∷ [])
   unfolding found
@@ -98,49 +99,48 @@ ready_made s t (Some u) e h =
     (subst (λ (v : Shape). is_well_formed v ≡ true) same r.1, subst (λ (v : Shape). is_makeable v ≡ true) same r.2)
 ready_made s t None e h = absurd cc
 
-as_kept : (p : parts.Pattern) (vs : List Variable) (t : Shape) (k : Kept) → kept_as p vs t ≡ k → (is_well_formed t ≡ true) × (is_makeable t ≡ true) → (k.name ≡ p.name) × IsReady k
-as_kept p vs t k e r = subst (λ (j : Kept). (j.name ≡ p.name) × IsReady j) e (refl, record { stands = r.0; makeable = r.1 })
+shape_ready : (p : parts.Pattern) (t : Shape) → shape_of p ≡ Ok t → (is_well_formed t ≡ true) × (is_makeable t ≡ true)
+unfolding shape_of
+shape_ready p t h =
+    let s = bound_ok (formed p) (λ s. made_ready (ready s)) t h in
+    ready_made s.0 t (ready s.0) refl s.2
 
-kept_ready : (p : parts.Pattern) (k : Kept) → kept_of p ≡ Ok k → (k.name ≡ p.name) × IsReady k
+-- what is kept has the name and the text of what was read, and may be applied
+record KeptOf (p : parts.Pattern) (k : Kept) : Type 0 where
+  name : k.name ≡ p.name
+  text : k.text ≡ pattern_text p
+  ready : IsReady k
+
+as_kept : (p : parts.Pattern) (vs : List Variable) (t : Shape) (k : Kept) → kept_as p vs t ≡ k → (is_well_formed t ≡ true) × (is_makeable t ≡ true) → KeptOf p k
+as_kept p vs t k e r = subst (KeptOf p) e (record { name = refl; text = refl; ready = record { stands = r.0; makeable = r.1 } })
+
+kept_is : (p : parts.Pattern) (k : Kept) → kept_of p ≡ Ok k → KeptOf p k
 unfolding kept_of
-kept_ready p k h =
-    let n = bound_ok (names_of p) (λ n. formed p >>= λ s. made_ready (ready s) >>= λ t. Ok (kept_as p n.variables t)) k h in
-    let s = bound_ok (formed p) (λ s. made_ready (ready s) >>= λ t. Ok (kept_as p n.0.variables t)) k n.2 in
-    let t = bound_ok (made_ready (ready s.0)) (λ t. Ok (kept_as p n.0.variables t)) k s.2 in
-    let same : kept_as p n.0.variables t.0 ≡ k = okay_same (kept_as p n.0.variables t.0) k (Ok (kept_as p n.0.variables t.0)) (Ok k) refl refl t.2 in
-    as_kept p n.0.variables t.0 k same (ready_made s.0 t.0 (ready s.0) refl t.1)
-
-as_text : (p : parts.Pattern) (vs : List Variable) (t : Shape) (k : Kept) → kept_as p vs t ≡ k → k.text ≡ pattern_text p
-as_text p vs t k e = subst (λ (j : Kept). j.text ≡ pattern_text p) e refl
-
-kept_text : (p : parts.Pattern) (k : Kept) → kept_of p ≡ Ok k → k.text ≡ pattern_text p
-unfolding kept_of
-kept_text p k h =
-    let n = bound_ok (names_of p) (λ n. formed p >>= λ s. made_ready (ready s) >>= λ t. Ok (kept_as p n.variables t)) k h in
-    let s = bound_ok (formed p) (λ s. made_ready (ready s) >>= λ t. Ok (kept_as p n.0.variables t)) k n.2 in
-    let t = bound_ok (made_ready (ready s.0)) (λ t. Ok (kept_as p n.0.variables t)) k s.2 in
-    let same : kept_as p n.0.variables t.0 ≡ k = okay_same (kept_as p n.0.variables t.0) k (Ok (kept_as p n.0.variables t.0)) (Ok k) refl refl t.2 in
-    as_text p n.0.variables t.0 k same
+kept_is p k h =
+    let vs = bound_ok (variables_of p) (λ vs. shape_of p >>= λ t. Ok (kept_as p vs t)) k h in
+    let t = bound_ok (shape_of p) (λ t. Ok (kept_as p vs.0 t)) k vs.2 in
+    let same : kept_as p vs.0 t.0 ≡ k = okay_same (kept_as p vs.0 t.0) k (Ok (kept_as p vs.0 t.0)) (Ok k) refl refl t.2 in
+    as_kept p vs.0 t.0 k same (shape_ready p t.0 t.1)
 
 -- the text that is kept of a pattern that a text spelled spells it again
 pub last_spells : (text : Text) (p : parts.Pattern) (book new : Book) (k : Kept) → (q : syntax.Pattern) × Spells text q × AreParts p q
     → kept_of p ≡ Ok k → new ≡ and_kept book k → LastSpells text new
 last_spells text p book new k s h e =
-    (s.0, s.1, book, k, e, subst (λ (t : Text). IsPattern s.0 t []) (sym (kept_text p k h)) (spells_again text p s.0 s.1 s.2))
+    (s.0, s.1, book, k, e, subst (λ (t : Text). IsPattern s.0 t []) (sym (kept_is p k h).text) (spells_again text p s.0 s.1 s.2))
 
 -- ---- what is defined
 
 abbrev Room : List ℕ → Book → Type 0
 Room name book = (found name book ≡ None) × (length book < most_patterns)
 
-room_by : (name : List ℕ) (at : ℕ) (book : Book) (o : Option Kept) → found name book ≡ o → (b : Bool) → nat_lt (length book) most_patterns ≡ b
-    → (if is_some o then refused Redefined at else if b then Ok tt else refused TooMany at) ≡ Ok tt → Room name book
-room_by name at book (Some k) e b f g = absurd cc
-room_by name at book None e true f g = (e, ltb-true (length book) most_patterns f)
-room_by name at book None e false f g = absurd cc
+room_by : (name : List ℕ) (at : ℕ) (book : Book) (u : Unit {0}) (o : Option Kept) → found name book ≡ o → (b : Bool) → nat_lt (length book) most_patterns ≡ b
+    → (if is_some o then refused Redefined at else if b then Ok tt else refused TooMany at) ≡ Ok u → Room name book
+room_by name at book u (Some k) e b f g = absurd cc
+room_by name at book u None e true f g = (e, ltb-true (length book) most_patterns f)
+room_by name at book u None e false f g = absurd cc
 
 room_made : (name : List ℕ) (at : ℕ) (book : Book) (u : Unit {0}) → room_for name at book ≡ Ok u → Room name book
-room_made name at book u h = room_by name at book (found name book) refl (nat_lt (length book) most_patterns) refl h
+room_made name at book u h = room_by name at book u (found name book) refl (nat_lt (length book) most_patterns) refl h
 
 record Defined (book new : Book) : Type 0 where
   last : Kept
@@ -157,12 +157,12 @@ defined_one book new text h =
     let k = bound_ok (kept_of p.0) (λ k. Ok (and_kept book k)) new r.2 in
     let same : and_kept book k.0 ≡ new = okay_same (and_kept book k.0) new (Ok (and_kept book k.0)) (Ok new) refl refl k.2 in
     let room = room_made p.0.name (begins text) book r.0 r.1 in
-    let kept = kept_ready p.0 k.0 k.1 in
+    let kept = kept_is p.0 k.0 k.1 in
     record {
       last = k.0;
       is = sym same;
-      ready = kept.1;
-      fresh = ap (λ (n : List ℕ). found n book) kept.0 ∙ room.0;
+      ready = kept.ready;
+      fresh = ap (λ (n : List ℕ). found n book) kept.name ∙ room.0;
       few = room.1;
     }
 
@@ -181,6 +181,6 @@ adds_one book new text h =
     record {
       last = d.last;
       is = d.is;
-      found = subst (λ (ks : Book). found d.last.name ks ≡ Some d.last) (sym d.is) (found_last book d.last d.fresh);
+      by_name = subst (λ (ks : Book). found d.last.name ks ≡ Some d.last) (sym d.is) (found_last book d.last d.fresh);
       others = λ name k f. subst (λ (ks : Book). found name ks ≡ Some k) (sym d.is) (found_still name book d.last k f);
     }

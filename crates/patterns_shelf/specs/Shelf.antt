@@ -71,9 +71,16 @@ made_ready None = refused TypeMismatch 0
 abbrev pub kept_as : parts.Pattern → List Variable → Shape → Kept
 kept_as p vs s = record { name = p.name; text = pattern_text p; variables = vs; shape = s; said = None }
 
--- what is kept of a pattern that was read: its types are told, and what it makes can be put in front of its root
+-- the variables of a pattern that was read, and the pattern, whose types are told, and which may be applied
+unfoldable pub variables_of : parts.Pattern → Outcome (List Variable)
+variables_of p = names_of p >>= λ n. Ok n.variables
+
+unfoldable pub shape_of : parts.Pattern → Outcome Shape
+shape_of p = formed p >>= λ s. made_ready (ready s)
+
+-- what is kept of it
 unfoldable pub kept_of : parts.Pattern → Outcome Kept
-kept_of p = names_of p >>= λ n. formed p >>= λ s. made_ready (ready s) >>= λ t. Ok (kept_as p n.variables t)
+kept_of p = variables_of p >>= λ vs. shape_of p >>= λ t. Ok (kept_as p vs t)
 
 abbrev pub and_kept : Book → Kept → Book
 and_kept book k = book ++ k ∷ []
@@ -129,7 +136,7 @@ StaysABook = (book new : Book) (text : Text) → IsBook book → defined book te
 pub record IsAdded (book new : Book) : Type 0 where
   pub last : Kept
   pub is : new ≡ book ++ last ∷ []
-  pub found : found last.name new ≡ Some last
+  pub by_name : found last.name new ≡ Some last
   pub others : (name : List ℕ) (k : Kept) → found name book ≡ Some k → found name new ≡ Some k
 
 -- the last pattern's text spells what a text spelled

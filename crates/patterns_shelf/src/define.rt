@@ -2,14 +2,12 @@
 ghost use Rattle.std.specs.Prelude.{◌≡◌, Ok, IfOk, OnErr, OnOk, option_map};
 ghost use Rattle.ir_text_tokens.specs.Tokens.{skip};
 ghost use Rattle.patterns_text.specs.Parts.{pattern_view};
-ghost use Rattle.patterns_text.specs.Refusing.{◌>>=◌, Gives, begins};
-ghost use Rattle.patterns_formed.specs.Forming.{formed};
-ghost use Rattle.patterns_formed.specs.Names.{names_of};
+ghost use Rattle.patterns_text.specs.Refusing.{Gives, begins};
 ghost use Rattle.patterns_formed.specs.Views.{variable_view, variable_views};
 ghost use Rattle.patterns_book.specs.Shapes.{shape};
 ghost use Rattle.patterns_judged.specs.Rows.{named_view, named_views};
 ghost use Rattle.patterns_makeable.specs.United.{ready};
-ghost use Rattle.patterns_shelf.specs.Shelf.{LastSpells, and_kept, book_view, defined, kept_of, kept_view, made_ready, room_for};
+ghost use Rattle.patterns_shelf.specs.Shelf.{LastSpells, and_kept, book_view, defined, kept_of, kept_view, made_ready, room_for, shape_of, variables_of};
 
 use crate::book::{Book, Held, find};
 use ir_text_tokens::lexer::skip;
@@ -91,8 +89,9 @@ fn made_ready(alloc: Global, pattern: Pattern) -> Result<Pattern, PatternError>
 }
 
 /// A pattern of parts, ready to be applied.
+#[tactic(auto, unfolding(crate::specs::Shelf::shape_of))]
 fn pattern_of(alloc: Global, parts: &parts::Pattern<'_>) -> Result<Pattern, PatternError>
-    ensures { Gives shape result (formed (pattern_view parts.now) >>= λ s. made_ready (ready s)) }
+    ensures { Gives shape result (shape_of (pattern_view parts.now)) }
 {
     match formed(alloc, parts) {
         Ok(pattern) => made_ready(alloc, pattern),
@@ -101,11 +100,9 @@ fn pattern_of(alloc: Global, parts: &parts::Pattern<'_>) -> Result<Pattern, Patt
 }
 
 /// The variables of a left side.
-fn variables_of(
-    alloc: Global,
-    parts: &parts::Pattern<'_>,
-) -> Result<Vec<Named>, PatternError>
-    ensures { Gives (λ v. named_views v.items) result (names_of (pattern_view parts.now) >>= λ n. Ok n.variables) }
+#[tactic(auto, unfolding(crate::specs::Shelf::variables_of))]
+fn variables_of(alloc: Global, parts: &parts::Pattern<'_>) -> Result<Vec<Named>, PatternError>
+    ensures { Gives (λ v. named_views v.items) result (variables_of (pattern_view parts.now)) }
 {
     let names = match names_of(alloc, parts) {
         Ok(names) => names,
