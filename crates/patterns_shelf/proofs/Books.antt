@@ -1,5 +1,5 @@
 -- What is defined is found, and leaves what was there.
-use Rattle.std.proofs.Common.{◌≡◌, ◌∙◌, ℕ, ◌+◌, ◌<◌, ◌≤◌, Bool, true, false, nat_lt, if◌then◌else◌, List, [], ◌∷◌, ◌++◌, length, Option, Some, None, is_some, Ok, Err, refl, sym, ap, subst, arith, length-append, true≢false}
+use Rattle.std.proofs.Common.{◌≡◌, ◌∙◌, ℕ, ◌+◌, ◌<◌, ◌≤◌, Bool, true, false, nat_lt, if◌then◌else◌, List, [], ◌∷◌, ◌++◌, length, Option, Some, None, is_some, OnOk, Result, Ok, Err, refl, sym, ap, subst, arith, length-append, true≢false}
 use Rattle.std.specs.Str.{bytes_eq}
 use Rattle.std.specs.List.{All}
 use Rattle.std.proofs.lemmas.Bool.{ltb-true}
@@ -15,7 +15,8 @@ use Rattle.patterns_text.specs.Parts as parts
 use Rattle.patterns_text.specs.Parts.{AreParts}
 use Rattle.patterns_printed.specs.Printed.{pattern_text}
 use Rattle.patterns_printed.proofs.Texts.{spells_again}
-use Rattle.patterns_text.specs.Refusing.{Outcome, ◌>>=◌, begins, refused}
+use Rattle.patterns_text.specs.Refusing.{Gives, Outcome, ◌>>=◌, begins, refused}
+use Rattle.patterns_text.specs.declared.error.PatternError.{PatternError}
 use Rattle.patterns_text.specs.Spelled.{Spells, whole_at}
 use Rattle.patterns_formed.specs.Forming.{formed}
 use Rattle.patterns_formed.specs.Names.{Names, names_of}
@@ -25,7 +26,7 @@ use Rattle.patterns_makeable.proofs.Numbered.{is_ready}
 use Rattle.patterns_book.specs.Shapes.{Shape}
 use Rattle.patterns_book.specs.WellFormed.{is_well_formed}
 use Rattle.patterns_judged.specs.Rows.{Variable}
-use Rattle.patterns_shelf.specs.Shelf.{AddsOne, AreApart, Book, IsAdded, IsBook, IsReady, Kept, LastSpells, StaysABook, and_kept, defined, found, is_named, kept_as, kept_of, made_ready, most_patterns, room_for, shape_of, variables_of}
+use Rattle.patterns_shelf.specs.Shelf.{AddsOne, AreApart, Book, IsAdded, IsBook, IsReady, Kept, LastSpells, StaysABook, added, and_kept, defined, found, is_named, kept_as, kept_of, made_ready, most_patterns, room_for, shape_of, variables_of}
 
 -- ---- outcomes
 
@@ -128,6 +129,12 @@ pub last_spells : (text : Text) (p : parts.Pattern) (book new : Book) (k : Kept)
 last_spells text p book new k s h e =
     (s.0, s.1, book, k, e, subst (λ (t : Text). IsPattern s.0 t []) (sym (kept_is p k h).text) (spells_again text p s.0 s.1 s.2))
 
+pub spelled_on : {X : Type 0} (r : Result X PatternError) (text : Text) (p : parts.Pattern) (book new : Book) (k : Kept) → (q : syntax.Pattern) × Spells text q × AreParts p q
+    → kept_of p ≡ Ok k → Gives (λ x. new) r (Ok (and_kept book k)) → OnOk r (LastSpells text new)
+spelled_on (Ok x) text p book new k s h g =
+    last_spells text p book new k s h (okay_same new (and_kept book k) (Ok new) (Ok (and_kept book k)) refl refl (sym g))
+spelled_on (Err e) text p book new k s h g = tt
+
 -- ---- what is defined
 
 abbrev Room : List ℕ → Book → Type 0
@@ -152,8 +159,8 @@ record Defined (book new : Book) : Type 0 where
 defined_one : (book new : Book) (text : Text) → defined book text ≡ Ok new → Defined book new
 unfolding defined
 defined_one book new text h =
-    let p = bound_ok (whole_at text) (λ p. room_for p.name (begins text) book >>= λ _. kept_of p >>= λ k. Ok (and_kept book k)) new h in
-    let r = bound_ok (room_for p.0.name (begins text) book) (λ _. kept_of p.0 >>= λ k. Ok (and_kept book k)) new p.2 in
+    let p = bound_ok (whole_at text) (λ p. room_for p.name (begins text) book >>= λ _. added book p) new h in
+    let r = bound_ok (room_for p.0.name (begins text) book) (λ _. added book p.0) new p.2 in
     let k = bound_ok (kept_of p.0) (λ k. Ok (and_kept book k)) new r.2 in
     let same : and_kept book k.0 ≡ new = okay_same (and_kept book k.0) new (Ok (and_kept book k.0)) (Ok new) refl refl k.2 in
     let room = room_made p.0.name (begins text) book r.0 r.1 in

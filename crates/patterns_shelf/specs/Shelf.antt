@@ -85,9 +85,13 @@ kept_of p = variables_of p >>= λ vs. shape_of p >>= λ t. Ok (kept_as p vs t)
 abbrev pub and_kept : Book → Kept → Book
 and_kept book k = book ++ k ∷ []
 
--- the book with the pattern that a text spells, behind all others
+-- the book with a pattern that was read, behind all others
+abbrev pub added : Book → parts.Pattern → Outcome Book
+added book p = kept_of p >>= λ k. Ok (and_kept book k)
+
+-- the book with the pattern that a text spells
 unfoldable pub defined : Book → Text → Outcome Book
-defined book text = whole_at text >>= λ p. room_for p.name (begins text) book >>= λ _. kept_of p >>= λ k. Ok (and_kept book k)
+defined book text = whole_at text >>= λ p. room_for p.name (begins text) book >>= λ _. added book p
 
 -- ---- what is noted of a check
 

@@ -3,11 +3,12 @@ ghost use Rattle.std.specs.Prelude.{◌≡◌, Ok, IfOk, OnErr, OnOk, option_map
 ghost use Rattle.ir_text_tokens.specs.Tokens.{skip};
 ghost use Rattle.patterns_text.specs.Parts.{pattern_view};
 ghost use Rattle.patterns_text.specs.Refusing.{Gives, begins};
+ghost use Rattle.patterns_text.specs.Spelled.{IsSpelled};
 ghost use Rattle.patterns_formed.specs.Views.{variable_view, variable_views};
 ghost use Rattle.patterns_book.specs.Shapes.{shape};
 ghost use Rattle.patterns_judged.specs.Rows.{named_view, named_views};
 ghost use Rattle.patterns_makeable.specs.United.{ready};
-ghost use Rattle.patterns_shelf.specs.Shelf.{LastSpells, and_kept, book_view, defined, kept_of, kept_view, made_ready, room_for, shape_of, variables_of};
+ghost use Rattle.patterns_shelf.specs.Shelf.{LastSpells, added, and_kept, book_view, defined, kept_of, kept_view, made_ready, room_for, shape_of, variables_of};
 
 use crate::book::{Book, Held, find};
 use ir_text_tokens::lexer::skip;
@@ -145,6 +146,24 @@ fn add(book: &mut Book, held: Held) -> Result<(), PatternError>
     Ok(())
 }
 
+/// One more pattern of parts, behind all others, or the book as it was.
+fn add_read(
+    alloc: Global,
+    book: &mut Book,
+    text: &[u8],
+    parts: &parts::Pattern<'_>,
+) -> Result<(), PatternError>
+    requires { IsSpelled text.now parts.now }
+    ensures gives { Gives (λ _. book_view book.new) result (added (book_view book.old) (pattern_view parts.now)) }
+    ensures stays { OnErr result (book_view book.new ≡ book_view book.old) }
+    ensures spelled { OnOk result (LastSpells text.now (book_view book.new)) }
+{
+    match kept_of(alloc, parts) {
+        Ok(held) => add(book, held),
+        Err(e) => Err(e),
+    }
+}
+
 /// Defines the pattern that a text spells, behind all others, or leaves the book as it was.
 ///
 /// Refusals, each with how many bytes of the text are left where it stands: those of the text's form; at the name
@@ -164,9 +183,5 @@ pub fn define(alloc: Global, book: &mut Book, text: &[u8]) -> Result<(), Pattern
         Ok(()) => {}
         Err(e) => return Err(e),
     }
-    let held = match kept_of(alloc, &parts) {
-        Ok(held) => held,
-        Err(e) => return Err(e),
-    };
-    add(book, held)
+    add_read(alloc, book, text, &parts)
 }
