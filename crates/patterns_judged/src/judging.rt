@@ -48,12 +48,7 @@ fn counterexample(
 }
 
 /// A verdict as it is told.
-fn told(
-    alloc: Global,
-    pattern: &Pattern,
-    most: u32,
-    verdict: Verdict,
-) -> Result<Judgement, Refusal>
+fn told(alloc: Global, pattern: &Pattern, most: u32, verdict: Verdict) -> Result<Judgement, Refusal>
     requires verdict { IsVerdict (content_at (shape pattern.now)) pattern.now.types most verdict }
     requires first { IsFirst (content_at (shape pattern.now)) pattern.now.types most verdict }
     ensures ok { IfOk result (IsJudgement (shape pattern.now) most) }
@@ -62,7 +57,9 @@ fn told(
     match verdict {
         Verdict::Holds => Ok(Judgement::Holds(most)),
         Verdict::Empty => Ok(Judgement::Empty(most)),
-        Verdict::Fails(widths, values) => match counterexample(alloc, pattern, most, widths, values) {
+        Verdict::Fails(widths, values) => match counterexample(
+            alloc, pattern, most, widths, values,
+        ) {
             Ok(found) => Ok(Judgement::Fails(found)),
             Err(_) => Err(Refusal::Memory),
         },

@@ -157,14 +157,14 @@ module _ (p : Shape) (ws : List ℕ) where
   given_steps_stay : map (further_step (kinds_with ws p.kinds)) (map (further_in p.kinds) p.further) ++ map (number_step (kinds_with ws p.kinds)) (map (given_in p.kinds) p.given)
       ≡ map (further_step (kinds_with ws p.kinds)) p.further ++ map (number_step (kinds_with ws p.kinds)) p.given
   given_steps_stay = (λ i.
-    maps_alike (further_step (kinds_with ws p.kinds)) (further_in p.kinds) (further_stays ws p.kinds) p.further i
-    ++ maps_alike (number_step (kinds_with ws p.kinds)) (given_in p.kinds) (given_stays ws p.kinds) p.given i)
+      maps_alike (further_step (kinds_with ws p.kinds)) (further_in p.kinds) (further_stays ws p.kinds) p.further i
+      ++ maps_alike (number_step (kinds_with ws p.kinds)) (given_in p.kinds) (given_stays ws p.kinds) p.given i)
 
   fits_stays : fits (kinds_with ws p.kinds) (united p) ≡ fits (kinds_with ws p.kinds) p
   fits_stays = (λ i.
-    all_alike (is_asked (kinds_with ws p.kinds)) (asked_in p.kinds) (asked_stays ws p.kinds) p.asked i
-    && (all_alike (further_fits (kinds_with ws p.kinds)) (further_in p.kinds) (further_fits_stays ws p.kinds) p.further i
-    && all_alike (number_fits (kinds_with ws p.kinds)) (given_in p.kinds) (given_fits_stays ws p.kinds) p.given i))
+      all_alike (is_asked (kinds_with ws p.kinds)) (asked_in p.kinds) (asked_stays ws p.kinds) p.asked i
+      && (all_alike (further_fits (kinds_with ws p.kinds)) (further_in p.kinds) (further_fits_stays ws p.kinds) p.further i
+      && all_alike (number_fits (kinds_with ws p.kinds)) (given_in p.kinds) (given_fits_stays ws p.kinds) p.given i))
 
   old_stays : map (piece_step (kinds_with ws p.kinds)) (map (piece_in p.kinds) p.old) ≡ map (piece_step (kinds_with ws p.kinds)) p.old
   old_stays = maps_alike (piece_step (kinds_with ws p.kinds)) (piece_in p.kinds) (piece_stays ws p.kinds) p.old
@@ -174,15 +174,15 @@ module _ (p : Shape) (ws : List ℕ) where
 
 pub stays_at_widths : StaysAtWidths
 stays_at_widths p ws = (λ i.
-  record {
-    applies = fits_stays p ws i;
-    kinds = values_stay p ws i;
-    given = given_steps_stay p ws i;
-    old = old_stays p ws i;
-    old_result = p.root;
-    new = new_steps_stay p ws i;
-    new_result = p.result;
-  })
+    record {
+      applies = fits_stays p ws i;
+      kinds = values_stay p ws i;
+      given = given_steps_stay p ws i;
+      old = old_stays p ws i;
+      old_result = p.root;
+      new = new_steps_stay p ws i;
+      new_result = p.result;
+    })
 
 -- ---- ready
 

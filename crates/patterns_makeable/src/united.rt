@@ -120,7 +120,11 @@ fn all_values(alloc: Global, kinds: &[Kind], values: &[usize]) -> Result<Vec<usi
     Ok(found)
 }
 
-fn all_further(alloc: Global, kinds: &[Kind], further: &[Further]) -> Result<Vec<Further>, AllocError>
+fn all_further(
+    alloc: Global,
+    kinds: &[Kind],
+    further: &[Further],
+) -> Result<Vec<Further>, AllocError>
     ensures { IfOk result (λ v. v.items ≡ map (united.further_in kinds.now) further.now) }
 {
     let mut found = Vec::with_capacity(alloc, further.len())?;

@@ -88,8 +88,8 @@ module _ (end : Text) where
         let behind = (closed (terms_parts ts) ++ type_parts ty) ++ ps in
         let rest = show_type ty (along false false ps) in
         let e : along false true behind ≡ show_terms ts rest =
-            ap (along false true) (append_assoc (closed (terms_parts ts)) (type_parts ty) ps ∙ closed_then (terms_parts ts) (type_parts ty ++ ps))
-            ∙ terms_are ts (type_parts ty ++ ps) ∙ ap (show_terms ts) (type_is ty ps) in
+        ap (along false true) (append_assoc (closed (terms_parts ts)) (type_parts ty) ps ∙ closed_then (terms_parts ts) (type_parts ty ++ ps))
+        ∙ terms_are ts (type_parts ty ++ ps) ∙ ap (show_terms ts) (type_is ty ps) in
         one_more false first behind (operation_part name a)
         ∙ sym (item_then first (name ++ show_asked a (40 ∷ [])) (along false true behind))
         ∙ ap (item first) (append_assoc name (show_asked a (40 ∷ [])) (along false true behind)
@@ -178,7 +178,7 @@ is_text_of p q a =
     let old = side_is q.old (codes " => " ++ (parts_text false true (term_parts q.new) ++ where_text (conditions_parts q.conditions))) in
     let new = side_is q.new (where_text (conditions_parts q.conditions)) ∙ ap (show_term q.new) (where_is q.conditions) in
     (λ i.
-      a.name i ++ (32 ∷ (parts_text false true (a.old i) ++ (codes " => " ++ (parts_text false true (a.new i) ++ where_text (a.conditions i))))))
+    a.name i ++ (32 ∷ (parts_text false true (a.old i) ++ (codes " => " ++ (parts_text false true (a.new i) ++ where_text (a.conditions i))))))
     ∙ ap (λ (t : Text). q.name ++ (32 ∷ t)) (old ∙ ap (λ (t : Text). show_term q.old (codes " => " ++ t)) new)
 
 -- ---- again

@@ -21,12 +21,7 @@ fn put_comma(out: &mut Vec<u8>, first: bool) -> Result<(), AllocError>
 
 /// A word with what stands behind it, as an item.
 #[tactic(auto, using(crate::proofs::Items::item_then))]
-fn put_item(
-    out: &mut Vec<u8>,
-    first: bool,
-    word: &[u8],
-    behind: &[u8],
-) -> Result<(), AllocError>
+fn put_item(out: &mut Vec<u8>, first: bool, word: &[u8], behind: &[u8]) -> Result<(), AllocError>
     ensures { OnOk result (out.new.items ≡ out.old.items ++ item first (word.now ++ behind.now)) }
 {
     put_comma(out, first)?;
@@ -92,12 +87,7 @@ fn put_end(out: &mut Vec<u8>) -> Result<(), AllocError>
 }
 
 /// A part, where types are items or not, and it is the first of a list or not.
-fn put_part(
-    out: &mut Vec<u8>,
-    items: bool,
-    first: bool,
-    kind: &Kind<'_>,
-) -> Result<(), AllocError>
+fn put_part(out: &mut Vec<u8>, items: bool, first: bool, kind: &Kind<'_>) -> Result<(), AllocError>
     ensures { OnOk result (out.new.items ≡ out.old.items ++ part_text items first (kind_view kind.now)) }
 {
     match kind {

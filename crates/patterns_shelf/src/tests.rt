@@ -9,7 +9,13 @@ use patterns_text::error::PatternError;
 use std::test::*;
 
 /// Whether a text is refused so, at this byte, by a book.
-fn is_refused(rt: &HostRuntime, book: &mut Book, text: &[u8], refusal: TextRefusal, byte: usize) -> bool {
+fn is_refused(
+    rt: &HostRuntime,
+    book: &mut Book,
+    text: &[u8],
+    refusal: TextRefusal,
+    byte: usize,
+) -> bool {
     match define(rt.alloc(), book, text) {
         Err(PatternError::Refused(fault)) => {
             fault.refusal == refusal && fault.offset(text) == byte
@@ -53,9 +59,26 @@ fn patterns_are_defined_and_found(rt: HostRuntime) -> Result<(), Fail> {
     assert!(rt; define(rt.alloc(), &mut book, text).is_ok());
     assert!(rt; find(&book, b"times_power").is_some());
     assert!(rt; find(&book, b"times").is_none());
-    assert!(rt; is_refused(&rt, &mut book, b" times_power arith.addi(%a, %b) => %c", TextRefusal::Redefined, 1));
-    assert!(rt; is_refused(&rt, &mut book, b"times arith.addi(%a, %b) => %c", TextRefusal::UnknownValue, 28));
-    let wanted = b"times_power arith.muli(%a, c) => arith.shli(%a, log2(c)) // not checked\n".as_slice();
+    assert!(rt;
+        is_refused(
+            &rt,
+            &mut book,
+            b" times_power arith.addi(%a, %b) => %c",
+            TextRefusal::Redefined,
+            1
+        )
+    );
+    assert!(rt;
+        is_refused(
+            &rt,
+            &mut book,
+            b"times arith.addi(%a, %b) => %c",
+            TextRefusal::UnknownValue,
+            28
+        )
+    );
+    let wanted =
+        b"times_power arith.muli(%a, c) => arith.shli(%a, log2(c)) // not checked\n".as_slice();
     let found = listing(rt.alloc(), &book)?;
     assert!(rt; found.as_slice() == wanted);
     Ok(())
@@ -68,7 +91,8 @@ fn patterns_are_checked(rt: HostRuntime) {
     let text = b"p arith.divsi(%a, c) => arith.shrsi(%a, log2(c))".as_slice();
     let rows = b"%a -2 : i2\nc -2 : i2\nold 1 : i2\nnew -1 : i2\n".as_slice();
     assert!(rt; is_said(&rt, text, Some(4), b"fails 2\n", rows));
-    let text = b"p arith.divui(%a, arith.select(%p, %b, 1)) => arith.select(%p, arith.divui(%a, %b), %a)".as_slice();
+    let text =
+        b"p arith.divui(%a, arith.select(%p, %b, 1)) => arith.select(%p, arith.divui(%a, %b), %a)".as_slice();
     let rows = b"%a false\n%p false\n%b false\nold false\nnew undefined\n".as_slice();
     assert!(rt; is_said(&rt, text, Some(3), b"fails 1\n", rows));
     let text = b"p arith.shli(arith.shli(%a, c), d) => arith.shli(%a, add(c, d))".as_slice();
