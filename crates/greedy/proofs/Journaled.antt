@@ -27,7 +27,7 @@ one_read xs done more whole k x e f g =
     ap (λ l. l ++ drop (k + 1) xs) g ∙ append_assoc done (x ∷ []) (drop (k + 1) xs) ∙ ap (λ l. done ++ l) (sym next) ∙ f
 
 pub past_all : {X : Type 0} (xs done whole : List X) (k : ℕ) → length xs ≤ k → done ++ drop k xs ≡ whole → done ≡ whole
-past_all xs done whole k l f = sym (append-nil done) ∙ ap (λ l. done ++ l) (sym (drop_all xs k l)) ∙ f
+past_all xs done whole k l f = sym (append-nil done) ∙ ap (λ l. done ++ l) (sym (drop_all k xs l)) ∙ f
 
 drop_none : {X : Type 0} (xs : List X) (k : ℕ) → None ≡ slice_get xs k → drop k xs ≡ []
 drop_none [] zero e = refl

@@ -30,7 +30,7 @@ no_case None = refl
 no_case (Some x) = refl
 
 -- an operation of two operands and one result, by a test of the operands
-of_two : (Value → Value → Bool) → Option Two → Bool
+abbrev of_two : (Value → Value → Bool) → Option Two → Bool
 of_two f None = false
 of_two f (Some p) = f p.first p.second
 

@@ -4,6 +4,7 @@ use Rattle.std.specs.Prelude.{codes, is_some}
 use Rattle.std.specs.List.{list_all, list_any}
 use Rattle.std.specs.Option.{option_map}
 use Rattle.std.specs.Str.{bytes_eq}
+use Rattle.std.proofs.lemmas.Bool.{not-true}
 use Rattle.std.proofs.lemmas.Slice.Eq.{bytes_eq-Decides}
 use Rattle.ir_types.specs.Terms.{TypeTerm, AttrTerm}
 use Rattle.ir_types.specs.declared.bits.BitsKind.{BitsKind}
@@ -118,7 +119,7 @@ none_known t (v ∷ vs) e = go (is_constant t v) refl e (none_known t vs)
     go false i f later = λ j. sym (known_not t v false (sym i) refl) j ∷ later f j
 
 -- what is folded of an operation over operands that are known so, nothing
-Unfolded : Operation → List (Option Known) → Type 0
+abbrev Unfolded : Operation → List (Option Known) → Type 0
 Unfolded o ks = named (codes "arith.constant") (head o).name ≡ false → fold_of (head o).name (head o).properties ks (head o).results ≡ None
 
 never_over : (t : Operation) (n : ℕ) (front : Place) (o : Operation) → Unfolded o (map (known t) (head o).operands) → None ≡ fold_to_constant t n front o
@@ -200,15 +201,11 @@ whole (Pair o) = not (lone o)
 whole Select = false
 whole _ = true
 
-falls : (b : Bool) → not b ≡ true → b ≡ false
-falls true e = absurd cc
-falls false e = refl
-
 partly_folded : (r : Rule) (props : List (List ℕ × AttrTerm)) (k : BitsKind) (ks : List (Option Known)) → whole r ≡ true → list_all is_some ks ≡ false → fold_by r props k ks ≡ None
 unfolding whole
 partly_folded Constant props k [] e f = absurd cc
 partly_folded Constant props k (x ∷ ks) e f = refl
-partly_folded (Pair o) props k ks e f = no_pair o (falls (lone o) e) k ks f
+partly_folded (Pair o) props k ks e f = no_pair o (not-true (lone o) e) k ks f
 partly_folded Compare props k [] e f = refl
 partly_folded Compare props k (x ∷ []) e f = refl
 partly_folded Compare props k (x ∷ y ∷ []) e f = not_both (asked (property_of (codes "predicate") props)) (same_kind k (kind.Int 1)) x y f
@@ -247,7 +244,7 @@ beside_firm name (row ∷ rows) a few r e = go (bytes_eq name row.0) refl (firm 
     go : (b : Bool) → bytes_eq name row.0 ≡ b → (c : Bool) → firm row ≡ c → (c && list_all firm rows) ≡ true → (if b then Some row.1 else beside name rows) ≡ Some r
         → (list_all firm rows ≡ true → among partial name ≡ false → (r : Rule) → beside name rows ≡ Some r → whole r ≡ true) → whole r ≡ true
     go b i false j k f later = absurd cc
-    go true i true j k f later = one_firm name row r ((bytes_eq-Decides name row.0).0 i) cc j few
+    go true i true j k f later = let one : row.1 ≡ r = cc in one_firm name row r ((bytes_eq-Decides name row.0).0 i) one j few
     go false i true j k f later = later k few r f
 
 rule_whole : (name : List ℕ) (r : Rule) → among partial name ≡ false → rule_of name ≡ Some r → whole r ≡ true

@@ -39,4 +39,4 @@ loop-place-preserved g c =
 pub returns-clause-renewed : goal.returns-clause-renewed
 returns-clause-renewed g c =
     let t0 = get nat_cmp c.loop-place.table in
-    c.loop-place.invariant.renewed t0 (renewed_none _ (somes (drop c.loop-place.place c.args.ops.now)) t0 (ap somes (drop_all c.args.ops.now c.loop-place.place c.loop-place-test.false)))
+    c.loop-place.invariant.renewed t0 (renewed_none _ (somes (drop c.loop-place.place c.args.ops.now)) t0 (ap somes (drop_all c.loop-place.place c.args.ops.now c.loop-place-test.false)))

@@ -26,4 +26,4 @@ loop-op-preserved g c =
 pub returns-clause-renewed : goal.returns-clause-renewed
 returns-clause-renewed g c =
     let t0 = get nat_cmp c.loop-op.table in
-    c.loop-op.invariant.1 t0 (renewed_none _ (drop c.loop-op.op-index c.args.ops.now) t0 (drop_all c.args.ops.now c.loop-op.op-index (let k = c.loop-op-test.false in omega arith)))
+    c.loop-op.invariant.1 t0 (renewed_none _ (drop c.loop-op.op-index c.args.ops.now) t0 (drop_all c.loop-op.op-index c.args.ops.now (let k = c.loop-op-test.false in omega arith)))

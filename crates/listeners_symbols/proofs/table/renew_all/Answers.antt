@@ -24,4 +24,4 @@ pub returns : goal.returns
 returns c =
     let w = c.args.view.now.world.now in
     let f = kept_at c.loop-op.roles in
-    c.loop-op.invariant.1 f (added_as w.ctx (module_in w).tree _ _ f f (sym (drop_all c.args.ops.now c.loop-op.op-index (let k = c.loop-op-test.false in omega arith))) (added_none w.ctx (module_in w).tree f))
+    c.loop-op.invariant.1 f (added_as w.ctx (module_in w).tree _ _ f f (sym (drop_all c.loop-op.op-index c.args.ops.now (let k = c.loop-op-test.false in omega arith))) (added_none w.ctx (module_in w).tree f))

@@ -10,7 +10,7 @@ use Rattle.patterns.proofs.Regions.{head_is, never_open_branch, never_open_loop,
 use Rattle.patterns.proofs.likely.is_likely.Goals as goal
 
 -- a rule that erases none
-erases : Rule → Bool
+abbrev erases : Rule → Bool
 erases EraseDead = true
 erases _ = false
 

@@ -1,6 +1,6 @@
 use Rattle.std.proofs.Common.{rules}
 use Rattle.ir_text.specs.AttrText.{number_text}
-use Rattle.mlir_work_session.proofs.rows.put_signed.Goals as goal
+use Rattle.mlir_work_session_base.proofs.rows.put_signed.Goals as goal
 
 pub returns-then-truth : goal.returns-then-truth
 unfolding number_text

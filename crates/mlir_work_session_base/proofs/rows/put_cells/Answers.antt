@@ -3,8 +3,8 @@ use Rattle.std.specs.Prelude.{codes}
 use Rattle.ir_event.specs.Rows.{cell_meaning}
 use Rattle.ir_event.specs.declared.row.Cell.{Cell}
 use Rattle.ir_text.proofs.Rows.{one_more, no_more}
-use Rattle.mlir_work_session.specs.RowText.{cell_text}
-use Rattle.mlir_work_session.proofs.rows.put_cells.Goals as goal
+use Rattle.mlir_work_session_base.specs.RowText.{cell_text}
+use Rattle.mlir_work_session_base.proofs.rows.put_cells.Goals as goal
 use Rattle.ir_tree.proofs.Steps.{next_left}
 
 pub cells-preserved : goal.cells-preserved

@@ -12,7 +12,7 @@ ghost use Rattle.ir_text.specs.Public.{symbol_text};
 ghost use Rattle.ir_text.specs.Rows.{parted};
 ghost use Rattle.ir_text.specs.AttrText.{integer_text, number_text};
 ghost use Rattle.mlir_work_script.specs.Values.{op_text, value_text};
-ghost use Rattle.mlir_work_session.specs.RowText.{tag_text, cell_text, row_text, rows_text};
+ghost use Rattle.mlir_work_session_base.specs.RowText.{tag_text, cell_text, row_text, rows_text};
 
 use ir_event::row::{Cell, Row};
 use ir_text::attributes::put_attr;
@@ -172,7 +172,7 @@ fn put_rows(ctx: &Context, out: &mut Vec<u8>, rows: &[Row]) -> Result<(), AllocE
 }
 
 /// The text of rows.
-pub(crate) fn text_of_rows(
+pub fn text_of_rows(
     alloc: Global,
     ctx: &Context,
     rows: &[Row],

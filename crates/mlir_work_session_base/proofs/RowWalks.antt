@@ -4,7 +4,7 @@ use Rattle.std.proofs.lemmas.List.{at_drop_all}
 use Rattle.ir_types.specs.Things.{Things}
 use Rattle.ir_event.specs.declared.row.Row.{Row}
 use Rattle.ir_event.specs.Rows.{row_meaning, rows_meaning}
-use Rattle.mlir_work_session.specs.RowText.{row_text, rows_text}
+use Rattle.mlir_work_session_base.specs.RowText.{row_text, rows_text}
 use Rattle.ir_tree.proofs.Steps.{next_left}
 
 module _ (d : Things) (rows : List Row) (i : ℕ) where

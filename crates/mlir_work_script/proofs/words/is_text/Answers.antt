@@ -2,7 +2,7 @@ use Rattle.std.proofs.Common.{◌≡◌, ◌∙◌, List, ℕ, Bool, true, false
 use Rattle.std.specs.Result.{MatchResult, is_ok}
 use Rattle.std.specs.Str.{IsUtf8, is_utf8}
 use Rattle.std.proofs.lemmas.Str.{is_utf8-from_IsUtf8, IsUtf8-from_is_utf8}
-use Rattle.mlir_work_script.proofs.command.is_text.Goals as goal
+use Rattle.mlir_work_script.proofs.words.is_text.Goals as goal
 
 not_text : (bs : List ℕ) (t : Bool) → ¬ (IsUtf8 bs) → is_utf8 bs ≡ t → false ≡ t
 not_text bs false h e = refl
