@@ -47,8 +47,8 @@ module _ (end : Text) where
     called_then first w rest = sym (item_then first (w ++ 40 ∷ []) rest) ∙ ap (item first) (append_assoc w (40 ∷ []) rest)
 
     mutual
+      unfolding number_parts show_number numbers_parts show_numbers show_more
       number_is : (n : Number) (first : Bool) (ps : List Part) → along items first (number_parts n ++ ps) ≡ item first (show_number n (along items false ps))
-      unfolding number_parts show_number
       number_is (literal negative n) first ps =
           one_more items first ps (literal_part negative n)
           ∙ sym (item_then first (signed_text negative n) (along items false ps))
@@ -60,7 +60,6 @@ module _ (end : Text) where
           ∙ ap (λ (t : Text). item first (w ++ (40 ∷ t))) (ap (along items true) (closed_then (numbers_parts ns) ps) ∙ numbers_are ns ps)
 
       numbers_are : (ns : Numbers) (ps : List Part) → along items true (numbers_parts ns ++ end_part ∷ ps) ≡ show_numbers ns (along items false ps)
-      unfolding numbers_parts show_numbers
       numbers_are no_numbers ps = end_then items true ps
       numbers_are (next_number n ns) ps =
           ap (along items true) (append_assoc (number_parts n) (numbers_parts ns) (end_part ∷ ps))
@@ -68,7 +67,6 @@ module _ (end : Text) where
           ∙ ap (show_number n) (more_are ns ps)
 
       more_are : (ns : Numbers) (ps : List Part) → along items false (numbers_parts ns ++ end_part ∷ ps) ≡ show_more ns (along items false ps)
-      unfolding numbers_parts show_more
       more_are no_numbers ps = end_then items false ps
       more_are (next_number n ns) ps =
           ap (along items false) (append_assoc (number_parts n) (numbers_parts ns) (end_part ∷ ps))
@@ -82,8 +80,8 @@ module _ (end : Text) where
   type_is (Some w) ps = one_more false false ps (type_part w)
 
   mutual
+    unfolding term_parts show_term terms_parts show_terms show_next
     term_is : (t : Term) (first : Bool) (ps : List Part) → along false first (term_parts t ++ ps) ≡ item first (show_term t (along false false ps))
-    unfolding term_parts show_term
     term_is (operation name a ts ty) first ps =
         let behind = (closed (terms_parts ts) ++ type_parts ty) ++ ps in
         let rest = show_type ty (along false false ps) in
@@ -104,7 +102,6 @@ module _ (end : Text) where
         ∙ ap (λ (t : Text). item first (show_number n t)) (type_is ty ps)
 
     terms_are : (ts : Terms) (ps : List Part) → along false true (terms_parts ts ++ end_part ∷ ps) ≡ show_terms ts (along false false ps)
-    unfolding terms_parts show_terms
     terms_are no_terms ps = end_then false true ps
     terms_are (next_term t ts) ps =
         ap (along false true) (append_assoc (term_parts t) (terms_parts ts) (end_part ∷ ps))
@@ -112,7 +109,6 @@ module _ (end : Text) where
         ∙ ap (show_term t) (next_are ts ps)
 
     next_are : (ts : Terms) (ps : List Part) → along false false (terms_parts ts ++ end_part ∷ ps) ≡ show_next ts (along false false ps)
-    unfolding terms_parts show_next
     next_are no_terms ps = end_then false false ps
     next_are (next_term t ts) ps =
         ap (along false false) (append_assoc (term_parts t) (terms_parts ts) (end_part ∷ ps))
