@@ -48,6 +48,7 @@ module _ (end : Text) where
 
     mutual
       unfolding number_parts show_number numbers_parts show_numbers show_more
+
       number_is : (n : Number) (first : Bool) (ps : List Part) → along items first (number_parts n ++ ps) ≡ item first (show_number n (along items false ps))
       number_is (literal negative n) first ps =
           one_more items first ps (literal_part negative n)
@@ -81,6 +82,7 @@ module _ (end : Text) where
 
   mutual
     unfolding term_parts show_term terms_parts show_terms show_next
+
     term_is : (t : Term) (first : Bool) (ps : List Part) → along false first (term_parts t ++ ps) ≡ item first (show_term t (along false false ps))
     term_is (operation name a ts ty) first ps =
         let behind = (closed (terms_parts ts) ++ type_parts ty) ++ ps in

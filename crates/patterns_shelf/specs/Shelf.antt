@@ -98,9 +98,11 @@ defined book text = whole_at text >>= λ p. room_for p.name (begins text) book >
 abbrev pub with_said : Said → Kept → Kept
 with_said said k = record { name = k.name; text = k.text; variables = k.variables; shape = k.shape; said = Some said }
 
-unfoldable pub noted : List ℕ → Said → Book → Book
-noted name said [] = []
-noted name said (k ∷ ks) = if is_named name k then with_said said k ∷ ks else k ∷ noted name said ks
+abbrev pub noted_one : List ℕ → Said → Kept → Kept
+noted_one name said k = if is_named name k then with_said said k else k
+
+abbrev pub noted : List ℕ → Said → Book → Book
+noted name said book = map (noted_one name said) book
 
 -- ---- what is listed
 

@@ -1,6 +1,6 @@
 //! Patterns by their names.
 ghost use Rattle.std.specs.Prelude.{◌≡◌, [], map, option_map};
-ghost use Rattle.patterns_shelf.specs.Shelf.{book_view, found, is_named, kept_view, kept_views, noted, with_said};
+ghost use Rattle.patterns_shelf.specs.Shelf.{book_view, found, is_named, kept_view, kept_views, noted, noted_one};
 
 use patterns_book::pattern::Pattern;
 use patterns_judged::judgement::Said;
@@ -62,22 +62,21 @@ pub fn find<'a>(book: &'a Book, name: &[u8]) -> Option<&'a Held>
     find_in(&book.held, name)
 }
 
-fn note_one(held: &mut Held, said: Said)
-    ensures { kept_view held.new ≡ with_said said (kept_view held.old) }
+/// Notes what a check said of a pattern, where it has that name.
+fn note_one(held: &mut Held, name: &[u8], said: Said)
+    ensures { kept_view held.new ≡ noted_one name.now said (kept_view held.old) }
 {
+    if !is_named(held, name) {
+        return;
+    }
     held.said = Some(said);
 }
 
-#[tactic(auto, unfolding(crate::specs::Shelf::noted))]
 fn note_in(held: &mut [Held], name: &[u8], said: Said)
     ensures { kept_views held.new ≡ noted name.now said (kept_views held.old) }
 {
-    if let [first, rest @ ..] = held {
-        if is_named(first, name) {
-            note_one(first, said);
-        } else {
-            note_in(rest, name, said);
-        }
+    for one in held {
+        note_one(one, name, said);
     }
 }
 
