@@ -3,7 +3,8 @@ use Rattle.std.proofs.Common.{◌≡◌, ◌∙◌, ℕ, ◌+◌, ◌<◌, ◌�
 use Rattle.std.specs.Str.{bytes_eq}
 use Rattle.std.specs.List.{All}
 use Rattle.std.proofs.lemmas.Bool.{ltb-true}
-use Rattle.std.proofs.lemmas.List.Elements.{All-push}
+use Rattle.std.proofs.lemmas.List.{length-map}
+use Rattle.std.proofs.lemmas.List.Elements.{All-map, All-nil, All-push, All-weaker}
 use Rattle.std.proofs.lemmas.Option.{none-some}
 use Rattle.ir_types.proofs.Growth.{name_refl}
 use Rattle.ir_types.proofs.Truths.{turned}
@@ -25,8 +26,9 @@ use Rattle.patterns_makeable.specs.United.{ready}
 use Rattle.patterns_makeable.proofs.Numbered.{is_ready}
 use Rattle.patterns_book.specs.Shapes.{Shape}
 use Rattle.patterns_book.specs.WellFormed.{is_well_formed}
+use Rattle.patterns_judged.specs.declared.judgement.Said.{Said}
 use Rattle.patterns_judged.specs.Rows.{Variable}
-use Rattle.patterns_shelf.specs.Shelf.{AddsOne, AreApart, Book, IsAdded, IsBook, IsReady, Kept, LastSpells, StaysABook, added, and_kept, defined, found, is_named, kept_as, kept_of, made_ready, most_patterns, room_for, shape_of, variables_of}
+use Rattle.patterns_shelf.specs.Shelf.{AddsOne, AreApart, Book, IsAdded, IsBook, IsReady, Kept, LastSpells, NotingKeepsABook, StaysABook, added, and_kept, defined, found, is_named, kept_as, kept_of, made_ready, most_patterns, noted, noted_one, room_for, shape_of, variables_of, with_said}
 
 -- ---- outcomes
 
@@ -190,4 +192,50 @@ adds_one book new text h =
       is = d.is;
       by_name = subst (λ (ks : Book). found d.last.name ks ≡ Some d.last) (sym d.is) (found_last book d.last d.fresh);
       others = λ name k f. subst (λ (ks : Book). found name ks ≡ Some k) (sym d.is) (found_still name book d.last k f);
+    }
+
+-- ---- what is noted
+
+pub nothing_is_a_book : IsBook []
+nothing_is_a_book = record { few = omega arith; apart = tt; ready = All-nil IsReady }
+
+module _ (name : List ℕ) (said : Said) where
+  name_by : (k : Kept) (b : Bool) → Kept.name (if b then with_said said k else k) ≡ k.name
+  name_by k true = refl
+  name_by k false = refl
+
+  shape_by : (k : Kept) (b : Bool) → Kept.shape (if b then with_said said k else k) ≡ k.shape
+  shape_by k true = refl
+  shape_by k false = refl
+
+  name_stays : (k : Kept) → Kept.name (noted_one name said k) ≡ k.name
+  name_stays k = name_by k (is_named name k)
+
+  shape_stays : (k : Kept) → Kept.shape (noted_one name said k) ≡ k.shape
+  shape_stays k = shape_by k (is_named name k)
+
+  nothing_noted : (n : List ℕ) (ks : Book) → found n ks ≡ None → found n (noted name said ks) ≡ None
+  unfolding found
+  nothing_noted n [] h = refl
+  nothing_noted n (k ∷ ks) h =
+      let m = not_first n k ks (is_named n k) refl h in
+      further_on n (noted_one name said k) (noted name said ks) (ap (λ (w : List ℕ). bytes_eq w n) (name_stays k) ∙ m.0) ∙ nothing_noted n ks m.1
+
+  apart_noted : (ks : Book) → AreApart ks → AreApart (noted name said ks)
+  apart_noted [] a = tt
+  apart_noted (k ∷ ks) a =
+      (ap (λ (w : List ℕ). found w (noted name said ks)) (name_stays k) ∙ nothing_noted k.name ks a.0, apart_noted ks a.1)
+
+  ready_noted : (k : Kept) → IsReady k → IsReady (noted_one name said k)
+  ready_noted k r =
+      record { stands = ap is_well_formed (shape_stays k) ∙ r.stands; makeable = ap is_makeable (shape_stays k) ∙ r.makeable }
+
+pub noting_keeps_a_book : NotingKeepsABook
+noting_keeps_a_book book name said b =
+    record {
+      few = (let e = length-map book (noted_one name said) in omega (arith, e, b.few));
+      apart = apart_noted name said book b.apart;
+      ready =
+          All-map IsReady (noted_one name said) book
+          (All-weaker IsReady (λ (k : Kept). IsReady (noted_one name said k)) (ready_noted name said) book b.ready);
     }

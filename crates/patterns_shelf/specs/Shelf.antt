@@ -139,6 +139,10 @@ pub record IsBook (book : Book) : Type 0 where
 abbrev pub StaysABook : Type 0
 StaysABook = (book new : Book) (text : Text) → IsBook book → defined book text ≡ Ok new → IsBook new
 
+-- and so is what is noted in one
+abbrev pub NotingKeepsABook : Type 0
+NotingKeepsABook = (book : Book) (name : List ℕ) (said : Said) → IsBook book → IsBook (noted name said book)
+
 pub record IsAdded (book new : Book) : Type 0 where
   pub last : Kept
   pub is : new ≡ book ++ last ∷ []
