@@ -19,7 +19,10 @@ use Rattle.patterns_book.specs.Matching.{Header, Standing, all_bound, bound, bou
 use Rattle.patterns_book.specs.Planning.{all_made, and_more, made_as, values_at}
 use Rattle.patterns_book.proofs.Standing.{all_keep}
 use Rattle.std.proofs.lemmas.Bool.{cases_eq}
-use Rattle.patterns_base.proofs.Facts.{when_some}
+
+pub when_is : {X : Type 0} (b : Bool) (r : Option X) (x : X) → when b r ≡ Some x → (b ≡ true) × (r ≡ Some x)
+when_is true r x e = (refl, e)
+when_is false r x e = absurd cc
 
 pub given_is : {X Y : Type 0} (o : Option X) (f : X → Option Y) (y : Y) → given o f ≡ Some y → (x : X) × (o ≡ Some x) × (f x ≡ Some y)
 given_is None f y e = absurd cc
@@ -48,7 +51,7 @@ module _ {V : Type 0} (same : V → V → Bool) (is : (u v : V) → same u v ≡
           let at : slice_get (slice_set b k (Some v)) k ≡ Some (Some v) = slice_get-get_or (slice_set b k (Some v)) k None (omega (arith, l, length-set b k (Some v))) ∙ ap Some (get_or-set_same b k (Some v) None l) in
           subst (λ d. slice_get d k ≡ Some (Some v)) (same_Some (slice_set b k (Some v)) c e) at
       go (Some (Some u)) i e =
-          let w = when_some (same u v) (Some b) c e in
+          let w = when_is (same u v) (Some b) c e in
           subst (λ d. slice_get d k ≡ Some (Some v)) (same_Some b c w.1) (i ∙ ap (λ z. Some (Some z)) (is u v w.0))
 
   -- and else what stood there
@@ -68,7 +71,7 @@ module _ {V : Type 0} (same : V → V → Bool) (is : (u v : V) → same u v ≡
           let l = within (slice_set b k (Some v)) (Some u) set in
           slice_get-get_or b j None (omega (arith, l, length-set b k (Some v)))
           ∙ ap Some (sym (get_or-set_other b k j (Some v) None n) ∙ get_or_from_slice_get (slice_set b k (Some v)) j (Some u) None set)
-      go (Some (Some w)) i e n = (let p = when_some (same w v) (Some b) c e in ap (λ d. slice_get d j) (same_Some b c p.1) ∙ at)
+      go (Some (Some w)) i e n = (let p = when_is (same w v) (Some b) c e in ap (λ d. slice_get d j) (same_Some b c p.1) ∙ at)
 
   -- so it is where several are bound
   pub all_from : (ks : List ℕ) (vs : List V) (b c : Standing V) → all_bound same ks vs b ≡ Some c → (j : ℕ) (u : V) → slice_get c j ≡ Some (Some u) → (slice_get b j ≡ Some (Some u)) ⊎ In u vs

@@ -52,13 +52,14 @@ use Rattle.patterns_book.specs.Planning.{Plan, all_made, constants_known, entrie
 use Rattle.patterns_book.specs.Shapes.{Shape}
 use Rattle.patterns_matched.specs.Built.{plan_of}
 use Rattle.patterns_makeable.specs.Makeable.{given_type, is_makeable, is_named, last_type, new_type, result_type, root_type, same_number, spares}
-use Rattle.patterns_matched.proofs.Found.{bound_at, bound_from, given_is, made_many, standing_is, stands_there, types_hold, types_keep, values_many, values_pass}
+use Rattle.patterns_matched.proofs.Found.{bound_at, bound_from, given_is, made_many, standing_is, stands_there, types_hold, types_keep, values_many, values_pass, when_is}
 use Rattle.patterns_matched.proofs.Ordered.{planned_is}
 use Rattle.patterns_own.specs.Own.{OwnAreAccepted, edits_for, is_one, own_edits}
 use Rattle.patterns_own.proofs.Seen.{Sees, begins, pieces_see, stands}
 use Rattle.patterns_facts.proofs.New.{few_flags}
 use Rattle.ir_types.proofs.Truths.{if_is}
-use Rattle.patterns_base.proofs.Facts.{when_some as when_is}
+use Rattle.patterns_base.proofs.Facts.{when_some}
+use Rattle.patterns_laws.proofs.KnownFolds.{given_some}
 
 -- ---- an operation that is made
 
@@ -374,9 +375,9 @@ own_is p m x = refl
 
 pub own_are_accepted : OwnAreAccepted
 own_are_accepted p m x formed es n e carried =
-    let o = shapes.given_is (find x m.tree) _ es (sym (own_is p m x) ∙ e) in
-    let front = shapes.given_is (front_of x m.tree) _ es o.2 in
-    let w = shapes.when_is (is_one (head o.0).results) _ es front.2 in
+    let o = given_some (find x m.tree) _ es (sym (own_is p m x) ∙ e) in
+    let front = given_some (front_of x m.tree) _ es o.2 in
+    let w = when_some (is_one (head o.0).results) _ es front.2 in
     go o.0 o.1 front.0 front.1 (one_is (head o.0).results w.0) (plan_of m.tree (is_clean m.tree) m.next p x) refl w.1
   where
     go : (o : Operation) → find x m.tree ≡ Some o → (front : Place) → front_of x m.tree ≡ Some front → (one : (ty : TypeTerm) × ((head o).results ≡ ty ∷ [])) → (r : Option Plan) → plan_of m.tree (is_clean m.tree) m.next p x ≡ r → edits_for front x r ≡ Some es → Free es m
