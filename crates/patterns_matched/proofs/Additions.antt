@@ -25,7 +25,7 @@ use Rattle.patterns_book.specs.Names.{name_of, operands_of, predicate_of}
 use Rattle.patterns_book.specs.Matching.{Standing, bound, standing}
 use Rattle.patterns_book.specs.Planning.{all_made, and_more, entries_by, made_as, values_at}
 use Rattle.patterns_matched.specs.Built.{IsMadeNext, as_operands, behind, made_behind, entries_in, made_in, operand_in, operands_at, operands_in, property_for, with_more}
-use Rattle.patterns_matched.specs.Makeable.{is_named}
+use Rattle.patterns_makeable.specs.Makeable.{is_named}
 use Rattle.patterns_matched.specs.Stands.{Stands}
 use Rattle.patterns_matched.specs.Types.{type_in, types_in}
 use Rattle.patterns_matched.proofs.Binding.{stands_yes}

@@ -24,7 +24,7 @@ use Rattle.patterns_book.specs.Planning.{Plan, kind_standing, old_place, outcome
 use Rattle.patterns_book.specs.Shapes.{Shape}
 use Rattle.patterns_book.proofs.Standing.{pieces_stand}
 use Rattle.patterns_matched.specs.Built.{plan_of}
-use Rattle.patterns_matched.specs.Makeable.{is_makeable}
+use Rattle.patterns_makeable.specs.Makeable.{is_makeable}
 use Rattle.patterns_matched.specs.Matched.{all_clean, any, is_clean_value, is_constant_value, is_first, matched}
 use Rattle.ir_tree.proofs.Counts.{and_false}
 

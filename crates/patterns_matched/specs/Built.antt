@@ -18,7 +18,7 @@ use Rattle.patterns_book.specs.Names.{predicate_number}
 use Rattle.patterns_book.specs.Shapes.{Shape}
 use Rattle.patterns_book.specs.declared.pattern.Form.{Form}
 use Rattle.patterns_book.specs.declared.pattern.Form.TheVariants as form
-use Rattle.patterns_matched.specs.Makeable.{is_makeable}
+use Rattle.patterns_makeable.specs.Makeable.{is_makeable}
 use Rattle.patterns_matched.specs.Types.{TypeIsOf, type_in}
 use Rattle.patterns_matched.specs.declared.built.Operand.{Operand}
 use Rattle.patterns_matched.specs.declared.built.Operand.TheVariants as operand
@@ -59,6 +59,12 @@ BuiltIsOf c p = AreMadeOf c p.made.items
 -- what a pattern makes at operation x, where that can be put there and given
 abbrev pub plan_of : Operation → (matching.Header → Bool) → ℕ → Shape → ℕ → Option Plan
 plan_of t clean n p x = when (is_makeable p) (planned t clean n p x)
+
+-- of a makeable pattern that is whatever is planned
+abbrev pub IsPlanned : Type 0
+IsPlanned =
+    (t : Operation) (clean : matching.Header → Bool) (n : ℕ) (p : Shape) (x : ℕ) → is_makeable p ≡ true
+    → plan_of t clean n p x ≡ planned t clean n p x
 
 -- operations that are made, and what stands at places then
 abbrev pub AllMade : Type 0

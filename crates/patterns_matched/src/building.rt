@@ -14,7 +14,7 @@ ghost use Rattle.patterns_matched.specs.declared.built.Operand.TheVariants.{Old 
 ghost use Rattle.patterns_book.specs.declared.pattern.New.{New};
 ghost use Rattle.patterns_book.specs.declared.pattern.New.TheVariants.{Operation as NewOperation};
 ghost use Rattle.patterns_book.specs.declared.pattern.New.TheVariants.{Constant as NewConstant};
-ghost use Rattle.patterns_matched.specs.Makeable.{has_name, is_named};
+ghost use Rattle.patterns_makeable.specs.Makeable.{has_name, is_named};
 ghost use Rattle.patterns_matched.specs.Stands.{Stands};
 ghost use Rattle.patterns_matched.specs.Types.{AreTypesOf, TypeIsOf, type_in, types_in};
 

@@ -5,7 +5,7 @@ mod building;
 pub mod built;
 mod clean;
 mod constants;
-mod makeable;
+pub mod laws;
 mod names;
 mod pieces;
 mod places;

@@ -7,14 +7,13 @@ ghost use Rattle.patterns_base.specs.Looks.{is_clean};
 ghost use Rattle.patterns_book.specs.Planning.{planned_by, planned_from};
 ghost use Rattle.patterns_book.specs.Shapes.{shape};
 ghost use Rattle.patterns_matched.specs.Built.{BuiltIsOf, plan_in, plan_of};
-ghost use Rattle.patterns_matched.specs.Makeable.{is_named};
+ghost use Rattle.patterns_makeable.specs.Makeable.{is_named};
 ghost use Rattle.patterns_matched.specs.Types.{AreTypesOf, types_in};
 
 use crate::building::{as_operands, make_all, operand_at};
 use crate::built::Built;
 use crate::clean::{all_clean, are_constants};
 use crate::constants::{all_further, all_known, outcomes};
-use crate::makeable::is_makeable;
 use crate::pieces::{match_pattern, old_begins};
 use crate::types::BoundType;
 use crate::typing::{bound_types, kinds_of};
@@ -26,6 +25,7 @@ use patterns_book::fitting::fits;
 use patterns_book::pattern::Pattern;
 use patterns_book::sides::given_steps;
 use patterns_check::steps::run;
+use patterns_makeable::makeable::is_makeable;
 use std::alloc::{AllocError, Global};
 
 /// What a pattern makes, where these values and types stand, and its numbers are these.

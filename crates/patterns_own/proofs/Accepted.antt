@@ -51,7 +51,7 @@ use Rattle.patterns_book.specs.Names.{name_of, operands_of, predicate_of}
 use Rattle.patterns_book.specs.Planning.{Plan, all_made, constants_known, entries_by, further_known, further_place, kind_standing, made_as, new_place, old_place, outcomes, places, planned, typed, values_at}
 use Rattle.patterns_book.specs.Shapes.{Shape}
 use Rattle.patterns_matched.specs.Built.{plan_of}
-use Rattle.patterns_matched.specs.Makeable.{given_type, is_makeable, is_named, last_type, new_type, result_type, root_type, same_number, spares}
+use Rattle.patterns_makeable.specs.Makeable.{given_type, is_makeable, is_named, last_type, new_type, result_type, root_type, same_number, spares}
 use Rattle.patterns_matched.proofs.Found.{bound_at, bound_from, given_is, made_many, standing_is, stands_there, types_hold, types_keep, values_many, values_pass, when_is}
 use Rattle.patterns_matched.proofs.Ordered.{planned_is}
 use Rattle.patterns_own.specs.Own.{OwnAreAccepted, edits_for, is_one, own_edits}

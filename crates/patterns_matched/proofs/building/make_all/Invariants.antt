@@ -3,7 +3,7 @@ use Rattle.std.specs.List.{list_all}
 use Rattle.dialects_int.specs.Folds.{known_of}
 use Rattle.patterns_book.specs.Planning.{all_made}
 use Rattle.patterns_matched.specs.Built.{AreMadeOf, made_behind, operands_in}
-use Rattle.patterns_matched.specs.Makeable.{is_named}
+use Rattle.patterns_makeable.specs.Makeable.{is_named}
 use Rattle.patterns_matched.specs.Types.{types_in}
 use Rattle.patterns_matched.proofs.building.make_all.Given as goal
 

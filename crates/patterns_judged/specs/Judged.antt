@@ -1,0 +1,110 @@
+-- What comes of a check that is asked for: up to which width, and what is told.
+use Rattle.std.specs.Prelude.{◌≡◌, ℕ, zero, suc, ◌<◌, ◌⊎◌, Bool, true, false, nat_le, if◌then◌else◌, List, [], ◌∷◌, map, max, replicate, slice_get, sum, Option, Some, None, option_map}
+use Rattle.ir_types.specs.declared.bits.Bits.{Bits}
+use Rattle.ir_types.specs.Bits.{width_of}
+use Rattle.ir_types.specs.declared.refusal.Refusal.{Refusal}
+use Rattle.ir_types.specs.declared.refusal.Refusal.TheVariants.{BadLimit, Memory}
+use Rattle.dialects_int.specs.Folds.{known_of}
+use Rattle.patterns_check.specs.declared.verdict.Verdict.TheVariants as verdict
+use Rattle.patterns_check.specs.Contents.{Content}
+use Rattle.patterns_check.specs.Checks.{bits, bound, old_steps, shown}
+use Rattle.patterns_check.specs.Families.{IsFirst, IsVerdict, TooMany}
+use Rattle.patterns_check.specs.Outcomes.{Outcome, given, run}
+use Rattle.patterns_book.specs.Fitting.{content_at}
+use Rattle.patterns_book.specs.Shapes.{Shape}
+use Rattle.patterns_judged.specs.declared.judgement.Counterexample.{Counterexample}
+use Rattle.patterns_judged.specs.declared.judgement.Judgement.{Judgement}
+use Rattle.patterns_judged.specs.declared.judgement.Judgement.TheVariants as judgement
+use Rattle.patterns_judged.specs.declared.judgement.Said.{Said}
+use Rattle.patterns_judged.specs.declared.judgement.Said.TheVariants as said
+
+-- ---- the width
+
+-- the widest that may be asked, and the widest and the most bits of values that are tried where none is asked
+abbrev pub most_asked : ℕ
+most_asked = 64
+
+abbrev pub default_most : ℕ
+default_most = 8
+
+abbrev pub default_bits : ℕ
+default_bits = 16
+
+-- whether the values are few where all type variables have one width
+abbrev pub is_small : Shape → ℕ → Bool
+is_small p w = nat_le (bits (content_at p (replicate p.types w))) default_bits
+
+-- the greatest width up to one at which they are; 1 where there is none
+unfoldable pub widest : Shape → ℕ → ℕ
+widest p zero = 1
+widest p (suc w) = if is_small p (suc w) then suc w else widest p w
+
+abbrev pub default_width : Shape → ℕ
+default_width p = widest p default_most
+
+abbrev pub asked_width : Shape → Option ℕ → ℕ
+asked_width p None = default_width p
+asked_width p (Some w) = w
+
+-- ---- what is computed of values
+
+abbrev pub or_nothing : {X : Type 0} → Option (List X) → List X
+or_nothing None = []
+or_nothing (Some xs) = xs
+
+-- the values, each as one of its kind
+abbrev pub values_shown : Content → List ℕ → List Outcome
+values_shown s values = or_nothing (bound s.kinds values [])
+
+-- what the old steps give, and the new ones; none where a step is undefined
+abbrev pub old_shown : Content → List ℕ → Option Outcome
+old_shown s values = given (old_steps s values []) (λ env. slice_get env s.old_result)
+
+abbrev pub new_shown : Content → List ℕ → Option Outcome
+new_shown s values = given (old_steps s values []) (λ env. shown s.new_result (run s.new env))
+
+abbrev pub outcomes : List (Option Bits) → List Outcome
+outcomes vs = map known_of vs
+
+-- what is shown of a counterexample is what is computed of its values at its widths
+pub record IsShown (s : Content) (c : Counterexample) : Type 0 where
+  pub values : outcomes c.shown.items ≡ values_shown s c.values.items
+  pub old : option_map known_of c.old ≡ old_shown s c.values.items
+  pub new : option_map known_of c.new ≡ new_shown s c.values.items
+
+-- ---- what is told
+
+abbrev pub greatest : List ℕ → ℕ
+greatest [] = 0
+greatest (w ∷ ws) = max w (greatest ws)
+
+-- the greatest of widths, or the one that was asked, where there is no type variable
+abbrev pub width_told : ℕ → List ℕ → ℕ
+width_told most [] = most
+width_told most (w ∷ ws) = greatest (w ∷ ws)
+
+-- what is told of a check up to a width is true, and of counterexamples it is the first
+abbrev pub IsJudgement : Shape → ℕ → Judgement → Type 0
+IsJudgement p w (judgement.Holds v) = (v ≡ w) × IsVerdict (content_at p) p.types w verdict.Holds
+IsJudgement p w (judgement.Empty v) = (v ≡ w) × IsVerdict (content_at p) p.types w verdict.Empty
+IsJudgement p w (judgement.Fails c) =
+    (c.width ≡ width_told w c.widths.items)
+    × IsVerdict (content_at p) p.types w (verdict.Fails c.widths c.values)
+    × IsFirst (content_at p) p.types w (verdict.Fails c.widths c.values)
+    × IsShown (content_at p c.widths.items) c
+
+-- a width that isn't tried: 0, one above all that may be asked, or one at which there are too many values
+abbrev pub IsUntried : Shape → ℕ → Type 0
+IsUntried p w = (w < 1) ⊎ ((most_asked < w) ⊎ TooMany (content_at p) p.types w)
+
+-- why a check is refused
+abbrev pub IsRefused : Shape → ℕ → Refusal → Type 0
+IsRefused p w Memory = Unit {0}
+IsRefused p w BadLimit = IsUntried p w
+IsRefused p w _ = ⊥
+
+-- a judgement without its counterexample
+abbrev pub said_of : Judgement → Said
+said_of (judgement.Holds w) = said.Holds w
+said_of (judgement.Empty w) = said.Empty w
+said_of (judgement.Fails c) = said.Fails c.width

@@ -1,0 +1,2 @@
+pub mod Makeable
+pub mod United

@@ -1,0 +1,7 @@
+//! A pattern of one's own is printed as the grammar has it.
+#![tactic(auto)]
+
+pub mod laws;
+pub mod printing;
+#[cfg(test)]
+mod tests;
