@@ -28,10 +28,9 @@ use Rattle.patterns_book.specs.Names.{name_of, operands_of}
 use Rattle.patterns_book.specs.declared.pattern.Piece.{Piece}
 use Rattle.patterns_book.proofs.Standing.{all_keep}
 use Rattle.patterns_base.specs.Words.{named}
-use Rattle.patterns_matched.proofs.Found.{all_from, bound_at, bound_from, given_is, standing_is}
+use Rattle.patterns_matched.proofs.Found.{all_from, bound_at, bound_from, given_is, standing_is, when_is}
 use Rattle.std.proofs.lemmas.Bool.{cases_eq}
 use Rattle.std.proofs.lemmas.Option.{same_Some}
-use Rattle.patterns_base.proofs.Facts.{when_some}
 
 module _ (m : Module) (x : ℕ) (formed : IsWellFormed is_isolated m) where
   -- it stands behind the place in front of it
@@ -80,14 +79,14 @@ module _ (m : Module) (x : ℕ) (formed : IsWellFormed is_isolated m) where
     head_giver (Arg y r k) h e = absurd cc
     head_giver (Result y k) h e =
         (let g = given_is (option_map (λ o. head o) (find y m.tree)) (λ h. when (clean h && eqb k 0) (Some h)) h e in
-        let w = when_some (clean g.0 && eqb k 0) (Some g.0) h g.2 in
+        let w = when_is (clean g.0 && eqb k 0) (Some g.0) h g.2 in
         g.1 ∙ w.1)
 
     goes_on : (p : ℕ × Piece) (b c : Standing Value) → piece_matched m.tree clean p b ≡ Some c → Sees b → Sees c
     goes_on p b c e s =
         (let v = given_is (standing p.0 b) (λ v. value_matched m.tree clean p.1 v b) c e in
         let h = given_is (giver_head m.tree clean v.0) (λ h. header_matched m.tree clean p.1 h b) c v.2 in
-        let w = when_some (named (name_of p.1.form) h.0.name && asks_alike m.tree clean p.1 h.0) (all_bound same_value (operands_of p.1.form) h.0.operands b) c h.2 in
+        let w = when_is (named (name_of p.1.form) h.0.name && asks_alike m.tree clean p.1 h.0) (all_bound same_value (operands_of p.1.form) h.0.operands b) c h.2 in
         record {
           at = all_keep same_value (operands_of p.1.form) h.0.operands b c w.1 root (Result x 0) s.at;
           other = λ j u n at. elim (all_from same_value same_value_true (operands_of p.1.form) h.0.operands b c w.1 j u at) [
