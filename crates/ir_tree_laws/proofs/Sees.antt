@@ -36,7 +36,6 @@ turn false false true = refl
 turn false false false = refl
 
 module _ {N T A : Type 0} (isolated : N → Bool) where
-
   pub sees_scope : (path : List (StepOf N T A)) (v : Value) → in_scope (scope_of isolated path) v ≡ sees isolated path v
   sees_scope [] v = refl
   sees_scope (a ∷ path) v =

@@ -21,7 +21,6 @@ use Rattle.listeners_surroundings.specs.Surroundings.{outer_of}
 use Rattle.ir_event.proofs.Facts.{joined_more}
 
 module _ {N T A : Type 0} where
-
   -- the last of a list
   pub last_joined : (front : List (OpOf N T A)) (o : OpOf N T A) → last_id (joined_ops front (next o no_ops)) ≡ Some (head o).id
   last_joined [] o = refl

@@ -313,7 +313,6 @@ module _ (b : Things) where
       ]
 
 module _ (t : Operation) where
-
   found_role : (q : ℕ) (ss : List Stand) → find nat_cmp q (roles_in t ss) ≡ option_map (role t) (stand_in q ss)
   found_role q [] = refl
   found_role q (s ∷ ss) =

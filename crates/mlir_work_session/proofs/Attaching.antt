@@ -13,7 +13,6 @@ use Rattle.ir_tree.proofs.Counts.{and_true, and_assoc}
 use Rattle.rewriter.proofs.Panels.{shown_last}
 
 module _ {B : Type 0} (meaning : B → Listener) where
-
   pub tried_added : (c : Things) (m : Module) (b : B) (xs ys : List B) → AttachedLast meaning c m b xs ys → BoxTried (shown (meaning b)) (all_shown meaning xs) (all_shown meaning ys) None
   tried_added c m b xs ys h = (kind_shown meaning (meaning b).kind xs ∙ h.free, record { begun = shown (meaning h.begun); same = record { kind = h.same.kind; analysis = h.same.analysis }; stale = (meaning h.begun).fresh c m h.agrees; last = ap (all_shown meaning) h.last ∙ (shown_last meaning) xs h.begun })
 

@@ -21,7 +21,6 @@ all_stay [] = tt
 all_stay (k ∷ ks) = (record { same = same_self k; stale = λ h. h }, all_stay ks)
 
 module _ {B : Type 0} (meaning : B → Listener) where
-
   pub kind_shown : (kind : ℕ) (bs : List B) → has_kind kind (all_shown meaning bs) ≡ panel_has meaning kind bs
   kind_shown kind bs = ap is_some ((position_shown meaning) kind bs)
 

@@ -29,7 +29,6 @@ use Rattle.patterns_edits.proofs.Placed.{before_it}
 use Rattle.ir_tree.proofs.Facts.{head_each}
 
 module _ {N T A : Type 0} (isolated : N → Bool) where
-
   module _ (f : HeadOf N T A → HeadOf N T A) (alike : (h : HeadOf N T A) → Alike (f h) h) where
     pub sees_headed : (t : OpOf N T A) (x : ℕ) (v : Value) → visible isolated (each_head f t) x v ≡ visible isolated t x v
     sees_headed t x v = stands_visible isolated (each_head f t) x v ∙ ap (list_any (λ (s : StandOf N T A). eqb (stand_id s) x && sees isolated s.path v)) (each_stands f [] t) ∙ go (stands [] t) ∙ sym (stands_visible isolated t x v)

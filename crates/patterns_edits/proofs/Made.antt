@@ -28,7 +28,6 @@ use Rattle.ir_tree_laws.proofs.Facts.{new_id, new_operands, new_results}
 use Rattle.ir_tree_laws.proofs.Reverted.{passed}
 
 module _ {N T A : Type 0} (isolated : N → Bool) where
-
   -- operation x of a well-formed module stands behind a place
   pub record Stood (x : ℕ) (front : Place) (m : ModuleOf N T A) : Type 0 where
     pub formed : IsWellFormed isolated m

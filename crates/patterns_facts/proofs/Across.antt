@@ -31,7 +31,6 @@ cancelled [] xs ys e = e
 cancelled (u ∷ us) xs ys e = cancelled us xs ys cc
 
 module _ {N T A : Type 0} where
-
   -- what stands within an operation as deep as it is it
   pub own_depth : (p : List (StepOf N T A)) (o : OpOf N T A) (u : StandOf N T A) → In u (stands p o) → length u.path ≡ length p → u ≡ stand o p
   own_depth p o u h e = elim (has_around p o u h) [

@@ -147,7 +147,6 @@ names_left [] l e = absurd (omega (arith, l))
 names_left (w ∷ ws) l e = ap (list_all is_named) (take_all (length (w ∷ ws) - 1) ws (omega arith)) ∙ (both (is_named w) (list_all is_named ws) e).1
 
 module _ (c : Things) (n : ℕ) (ts : Standing TypeTerm) (env : List Outcome) (k : ℕ) where
-
   pushed : (ws : List New) (made : List Made) (one : Made) (os : List (Option Operand)) → made_behind c n ts env k ws (made ++ one ∷ []) os ≡ behind (map (made_in c n) made ++ made_in c n one ∷ []) (all_made ts env (n + length made + 1) k ws (operands_in n os))
   pushed ws made one os =
       let e : n + length (made ++ one ∷ []) ≡ n + length made + 1 = omega (arith, length_push made one) in

@@ -17,7 +17,6 @@ use Rattle.patterns_regions.specs.Blocks.{before_in, before_at}
 use Rattle.ir_tree_laws.proofs.Values.{joined_more}
 
 module _ {N T A : Type 0} where
-
   -- an operation of it, with where it stands
   pub in_block : (t : OpOf N T A) (x r : ℕ) (front : List (OpOf N T A)) (o : OpOf N T A) (rest : OpsOf N T A) → ops_at x r t ≡ Some (joined_ops front (next o rest))
       → (a : StepOf N T A) × (q : List (StepOf N T A)) × In (stand o (a ∷ q)) (stands [] t) × (a.rest ≡ rest)

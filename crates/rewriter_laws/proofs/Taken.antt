@@ -51,7 +51,6 @@ ends y xs us ys vs d e =
     (same, n.0, n.1)
 
 module _ {N T A : Type 0} where
-
   none_held : (rs : RegionsOf N T A) → regions_ids rs ≡ [] → hold_none rs ≡ true
   none_held no_regions e = refl
   none_held (region empty rs) e = none_held rs e
