@@ -1,0 +1,20 @@
+-- What is said of a line is what its step says.
+use Rattle.std.proofs.Common.{◌≡◌, ◌==◌, Bool, ℕ, List, [], ◌∷◌, arith, length, true, false}
+use Rattle.ir_types.specs.declared.refusal.Refusal.TheVariants.{BadCommand}
+use Rattle.mlir_work_script.specs.Commands.{line_says}
+use Rattle.mlir_work_script.specs.Lines.{line_of, after_line}
+use Rattle.mlir_work_session.proofs.Runs.{emptied, filled}
+use Rattle.mlir_work_held.specs.declared.answer.Answer.{Answer}
+use Rattle.mlir_work_held.specs.declared.session.Session.{Session}
+use Rattle.mlir_work_held.specs.Answers.{refused}
+use Rattle.mlir_work_held.specs.Stepped.{IsLeft, Said, SteppedBefore, way}
+
+-- a text that is one line
+pub stepped_alone : (rest : List ℕ) (s : Session) (text : List ℕ) (a : Answer) (t : Session) (r : Bool) → r ≡ (length rest == 0) → r ≡ true → Said (way s text) s (line_says (line_of text)) a t → SteppedBefore rest s text a t
+stepped_alone [] s text a t r e f h = h
+stepped_alone (b ∷ bs) s text a t r e f h = absurd (let none = emptied (b ∷ bs) r e f in omega (arith, none))
+
+-- a text behind whose first line something stands
+pub stepped_more : (rest : List ℕ) (s : Session) (text : List ℕ) (a : Answer) (t : Session) (r : Bool) → r ≡ (length rest == 0) → r ≡ false → a ≡ refused BadCommand → IsLeft s t → SteppedBefore rest s text a t
+stepped_more [] s text a t r e f is left = absurd (let some = filled [] r e f in omega (arith, some))
+stepped_more (b ∷ bs) s text a t r e f is left = (is, left)

@@ -1,0 +1,173 @@
+-- Lines that are said to a session one after the other are those of a live run, and so of a whole one.
+use Rattle.std.proofs.Common.{◌≡◌, ◌∙◌, sym, ap, subst, refl, ℕ, ◌+◌, ◌≤◌, List, [], ◌∷◌, ◌++◌, length, length-append, append-nil, append_assoc, arith, Bool, true, false, true≢false, inl, inr, Option, Some, None}
+use Rattle.std.specs.Prelude.{⊤}
+use Rattle.std.proofs.Math.Nat.{min-le_left}
+use Rattle.ir_types.specs.declared.refusal.Refusal.{Refusal}
+use Rattle.ir_event.specs.Modules.{Module}
+use Rattle.rewriter.specs.Panels.{Shown, all_shown}
+use Rattle.rewriter.specs.Commands.{Response}
+use Rattle.rewriter.specs.Machine.{State}
+use Rattle.mlir_work_listeners.specs.Listeners.{seven_listener}
+use Rattle.mlir_work_script.specs.Commands.{Spoken, Nothing, Bad, Obey, line_says}
+use Rattle.mlir_work_script.specs.Lines.{is_newline, line_of, after_line, onto_first}
+use Rattle.mlir_work_session.specs.Limits.{most_input_bytes, most_script_bytes}
+use Rattle.mlir_work_session.specs.Output.{Attaches, Line, Replied, is_accepted, reply_line, worse}
+use Rattle.mlir_work_session.specs.Parts.{module_text, script_text}
+use Rattle.mlir_work_session.specs.Writes.{joined}
+use Rattle.mlir_work_session.proofs.Wider.{line_wider}
+use Rattle.mlir_work_run.specs.Live.{Live, Lives, divider_bytes, whole_lines}
+use Rattle.mlir_work_run.specs.Whole.{manner_of}
+use Rattle.mlir_work_run.proofs.Within.{joined_same, live_whole}
+use Rattle.mlir_work_held.specs.declared.answer.Answer.{Answer}
+use Rattle.mlir_work_held.specs.declared.session.Session.{Session}
+use Rattle.mlir_work_held.specs.Answers.{answer_of, nothing}
+use Rattle.mlir_work_held.specs.Opened.{Opened}
+use Rattle.mlir_work_held.specs.Stepped.{Answered, IsLeft, Said, SteppedBefore, most_counted, state, way}
+use Rattle.mlir_work_held.specs.Talks.{AreWritten, IsOutputOf, IsWritten, Talks, Told, briefly}
+
+-- ---- the lines of a text
+
+-- each is one line alone
+abbrev pub AreAlone : List (List ℕ) → Type 0
+AreAlone [] = ⊤
+AreAlone (line ∷ lines) = (after_line line ≡ []) × AreAlone lines
+
+alone_onto : (b : ℕ) (lines : List (List ℕ)) → is_newline b ≡ false → AreAlone lines → AreAlone (onto_first b lines)
+alone_onto b [] e h = (rw e refl, tt)
+alone_onto b (line ∷ lines) e h = (rw e h.0, h.1)
+
+alone_at : (b : ℕ) (bs : List ℕ) (t : Bool) → is_newline b ≡ t → AreAlone (whole_lines bs) → AreAlone (whole_lines (b ∷ bs))
+alone_at b bs true e h = rw e (rw e refl, h)
+alone_at b bs false e h = rw e (alone_onto b (whole_lines bs) e h)
+
+pub alone_lines : (bs : List ℕ) → AreAlone (whole_lines bs)
+alone_lines [] = tt
+alone_lines (b ∷ bs) = alone_at b bs (is_newline b) refl (alone_lines bs)
+
+-- a line alone goes as its step says
+one_line : (rest : List ℕ) (s : Session) (line : List ℕ) (a : Answer) (t : Session) → rest ≡ [] → SteppedBefore rest s line a t → Said (way s line) s (line_says (line_of line)) a t
+one_line [] s line a t e h = h
+one_line (b ∷ bs) s line a t e h = absurd (omega (arith, ap length e))
+
+-- ---- lines that are said are those of a live run
+
+module _ (limit : ℕ) where
+  -- the lines may be answered so by a live run, which writes what these answers are written as
+  abbrev IsLived : ℕ → ℕ → Session → List (List ℕ) → List Told → Type 0
+  IsLived read n s lines told = (status : ℕ) × (out : List ℕ) × Lives (briefly limit) read n (state s) lines status out × AreWritten n told status out
+
+  -- the lines behind one, with any numbers and states
+  abbrev Behind : ℕ → List (List ℕ) → ℕ → State → ℕ → List ℕ → Type 0
+  Behind read lines m u st o = Lives (briefly limit) read m u lines st o
+
+  module _ (read n : ℕ) (s : Session) (line : List ℕ) (lines : List (List ℕ)) (a : Answer) (t : Session) (rest : List Told) (within : s.bytes + length line ≤ read) (same : s.limit ≡ limit) where
+    abbrev all_told : List Told
+    all_told = record { answer = a; shows = t.shows.items } ∷ rest
+
+    -- the line, and those behind it
+    abbrev IsLivedOn : Spoken → Type 0
+    IsLivedOn spoken = (status : ℕ) × (out : List ℕ) × Line (Behind read lines) (manner_of (briefly limit) read) n (state s) spoken status out × AreWritten n all_told status out
+
+    least : (way s line).bytes ≤ read
+    least = let below = min-le_left (s.bytes + length line) most_counted in omega (arith, below, within)
+
+    replied : (spoken : Spoken) (h : Answered (way s line) s spoken a t) (later : IsLived read (n + 1) t lines rest)
+        → Replied (Behind read lines) (way s line) n (state s) spoken (worse (is_accepted h.response) later.0) ((reply_line n h.response ++ t.shows.items) ++ later.1)
+    replied spoken h later = let text = reply_line n h.response ++ t.shows.items in record {
+      response = h.response;
+      shows = t.shows.items;
+      after = state t;
+      text = text;
+      later = later.0;
+      rest = later.1;
+      replies = h.replies;
+      replied = (text, ([], refl, ap (λ (xs : List ℕ). reply_line n h.response ++ xs) (sym (append-nil t.shows.items))), sym (append-nil text));
+      full = h.bounded;
+      goes_on = later.2;
+      status_is = refl;
+      out_is = refl;
+    }
+
+    written : (response : Response) → a ≡ answer_of response (length t.shows.items) → (later : IsLived read (n + 1) t lines rest)
+        → AreWritten n all_told (worse (is_accepted response) later.0) ((reply_line n response ++ t.shows.items) ++ later.1)
+    written response is later = inr (record {
+      response = response;
+      later = later.0;
+      rest = later.1;
+      answered = is;
+      goes_on = later.3;
+      status_is = refl;
+      out_is = refl;
+    })
+
+    -- how a line is answered by a run that has read so much, with that limit
+    wide : (spoken : Spoken) (st : ℕ) (o : List ℕ) → Line (Behind read lines) (way s line) n (state s) spoken st o → Line (Behind read lines) (manner_of (briefly limit) read) n (state s) spoken st o
+    wide spoken st o h =
+        subst (λ (l : ℕ). Line (Behind read lines) (record { brief = true; bytes = read; limit = l; ends = false }) n (state s) spoken st o) same
+        (line_wider (way s line) read least (Behind read lines) (Behind read lines) (λ m u status out k. k) n (state s) spoken st o h)
+
+    lived_line : (spoken : Spoken) → Said (way s line) s spoken a t → ((m : ℕ) → IsLived read m t lines rest) → IsLivedOn spoken
+    lived_line Nothing h more =
+        let later = more n in
+        (later.0, later.1, subst (λ (u : State). Lives (briefly limit) read n u lines later.0 later.1) h.1.state later.2, inl (h.0, later.3))
+    lived_line Bad h more =
+        let later = more (n + 1) in
+        (_, _, wide Bad _ _ (replied Bad h later), written h.response h.told later)
+    lived_line (Obey said) h more =
+        let later = more (n + 1) in
+        (_, _, wide (Obey said) _ _ (replied (Obey said) h later), written h.response h.told later)
+
+    -- what is known of the session behind the line
+    counted_on : (spoken : Spoken) → Said (way s line) s spoken a t → (t.bytes ≤ read) × (t.limit ≡ limit)
+    counted_on Nothing h = (let e = h.1.counted in omega (arith, e, within), h.1.limit ∙ same)
+    counted_on Bad h = (let e = h.counted in omega (arith, e, least), h.limit ∙ same)
+    counted_on (Obey said) h = (let e = h.counted in omega (arith, e, least), h.limit ∙ same)
+
+  pub lived : (lines : List (List ℕ)) (read n : ℕ) (s : Session) (told : List Told) → s.bytes ≤ read → s.limit ≡ limit → AreAlone lines → length (joined lines) ≤ most_script_bytes → Talks s lines told → IsLived read n s lines told
+  lived [] read n s told within same alone few none = (0, [], (refl, refl), subst (λ (all : List Told). AreWritten n all 0 []) (sym none) (refl, refl))
+  lived (line ∷ lines) read n s told within same alone few (a, t, rest, step, talks, is) =
+      let all = length-append line (joined lines) in
+      let more = read + length line in
+      let here : s.bytes + length line ≤ more = omega (arith, within) in
+      let fits : length line ≤ most_script_bytes = omega (arith, all, few) in
+      let less : length (joined lines) ≤ most_script_bytes = omega (arith, all, few) in
+      let said = one_line (after_line line) s line a t alone.0 step in
+      let on = counted_on more n s line lines a t rest here same (line_says (line_of line)) said in
+      let got = lived_line more n s line lines a t rest here same (line_says (line_of line)) said (λ m. lived lines more m t rest on.0 on.1 alone.1 less talks) in
+      (got.0, got.1, (fits, got.2), subst (λ (every : List Told). AreWritten n every got.0 got.1) (sym is) got.3)
+
+-- ---- the whole input
+
+-- a state without marks
+unmarked : (s : State) → s.marks ≡ [] → s ≡ record { held = s.held; marks = []; panel = s.panel }
+unmarked s e = ap (λ (marks : List _). record { held = s.held; marks = marks; panel = s.panel }) e
+
+-- where all boxes are accepted nothing is written of them
+silent_boxes : (bs old new : List Shown) (out : List ℕ) → Attaches bs old new true out → out ≡ []
+silent_boxes [] old new out h = h.2
+silent_boxes (b ∷ bs) old new out (mid, None, true, rest, tried, others, accepted, is) = is ∙ silent_boxes bs mid new rest others
+silent_boxes (b ∷ bs) old new out (mid, None, false, rest, tried, others, accepted, is) = absurd (true≢false accepted)
+silent_boxes (b ∷ bs) old new out (mid, Some refusal, there, rest, tried, others, accepted, is) = absurd (true≢false accepted)
+
+pub talked_whole : (limit : ℕ) (input : List ℕ) (s : Session) (told : List Told) → length input ≤ most_input_bytes → length (script_text input) ≤ most_script_bytes → Opened (module_text input) limit s → Talks s (whole_lines (script_text input)) told → IsOutputOf limit input told
+talked_whole limit input s told short few opened talks =
+    let text = module_text input in
+    let lines = whole_lines (script_text input) in
+    let boxes = opened.attached.0 in
+    let attached = opened.attached.3 in
+    let read = length text + divider_bytes in
+    let within : s.bytes ≤ read = (let e = opened.counted in omega (arith, e)) in
+    let h = lived limit lines read 1 s told within opened.limit_is (alone_lines (script_text input)) (rw (joined_same (script_text input)) few) talks in
+    let silent = silent_boxes (all_shown seven_listener boxes) [] (state s).panel opened.attached.1 attached in
+    let live : Live (briefly limit) (all_shown seven_listener boxes) (state s).held read lines h.0 h.1 = record {
+      begun = state s;
+      accepted = true;
+      front = [];
+      later = h.0;
+      rest = h.1;
+      begins = record { panel = (state s).panel; front = opened.attached.1; attached = attached; state_is = unmarked (state s) opened.unmarked; out_is = sym (append-nil opened.attached.1 ∙ silent) };
+      lives = h.2;
+      status_is = refl;
+      out_is = refl;
+    } in
+    (boxes, h.0, h.1, opened.attached.2, h.3, live_whole (briefly limit) (all_shown seven_listener boxes) input h.0 h.1 short few (inr ((state s).held, opened.world, live)))

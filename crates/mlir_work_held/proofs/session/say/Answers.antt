@@ -1,0 +1,14 @@
+use Rattle.std.proofs.Common.{List, ℕ, subst}
+use Rattle.mlir_work_held.specs.Stepped.{SteppedBefore}
+use Rattle.mlir_work_held.proofs.Saying.{stepped_alone, stepped_more}
+use Rattle.mlir_work_held.proofs.session.say.Goals as goal
+
+pub returns-then-is_empty-clause-stepped : goal.returns-then-is_empty-clause-stepped
+returns-then-is_empty-clause-stepped c =
+    subst (λ (rest : List ℕ). SteppedBefore rest c.args.session.now c.args.line.now c.say_line.result c.say_line.new.session) c.split_line.ensures.rest
+    (stepped_alone _ c.args.session.now c.args.line.now c.say_line.result c.say_line.new.session _ c.is_empty.ensures c.if-is_empty.true (rw (c.way-manner.ensures, c.split_line.ensures.line) at c.say_line.ensures.said))
+
+pub returns-clause-stepped : goal.returns-clause-stepped
+returns-clause-stepped c =
+    subst (λ (rest : List ℕ). SteppedBefore rest c.args.session.now c.args.line.now c.refused.result c.leave.new.session) c.split_line.ensures.rest
+    (stepped_more _ c.args.session.now c.args.line.now c.refused.result c.leave.new.session _ c.is_empty.ensures c.if-is_empty.false c.refused.ensures c.leave.ensures.left)

@@ -1,0 +1,49 @@
+-- What a line is answered, in numbers.
+use Rattle.std.specs.Prelude.{ℕ, Option, Some, None}
+use Rattle.ir_types.specs.Refusals.{number_of}
+use Rattle.ir_types.specs.declared.refusal.Refusal.{Refusal}
+use Rattle.rewriter.specs.Commands.{Response, Replied, TextRefusedAt}
+use Rattle.rewriter.specs.Machine.{Applied, Converged, Converted, Done, DoneAs, DoneWith, Limited, Outcome, Refused, RefusedOn, Swept}
+use Rattle.mlir_work_held.specs.declared.answer.Answer.{Answer}
+
+abbrev of_numbers : ℕ → ℕ → ℕ → ℕ → Answer
+of_numbers outcome refusal number shown =
+    record { outcome = outcome; refusal = refusal; number = number; shown = shown }
+
+-- a line that says nothing
+abbrev pub nothing : Answer
+nothing = of_numbers 0 0 0 0
+
+-- there is no session
+abbrev pub closed : Answer
+closed = of_numbers 10 0 0 0
+
+-- refused, and nothing is shown
+abbrev pub refused : Refusal → Answer
+refused refusal = of_numbers 7 (number_of refusal) 0 0
+
+-- a session was opened
+abbrev pub opened : Answer
+opened = of_numbers 1 0 0 0
+
+-- none was, for a reason, at a byte of the text or at none
+abbrev pub unopened : Refusal → Option ℕ → Answer
+unopened refusal None = refused refusal
+unopened refusal (Some offset) = of_numbers 9 (number_of refusal) offset 0
+
+-- what came of a transformation
+abbrev pub came_of : Outcome → ℕ → Answer
+came_of (Swept n) shown = of_numbers 3 0 n shown
+came_of (Converged n) shown = of_numbers 4 0 n shown
+came_of (Limited n) shown = of_numbers 5 0 n shown
+came_of (Converted n) shown = of_numbers 6 0 n shown
+came_of (Applied n) shown = of_numbers 11 0 n shown
+
+-- a response, below which so many bytes are shown
+abbrev pub answer_of : Response → ℕ → Answer
+answer_of (Replied Done) shown = of_numbers 1 0 0 shown
+answer_of (Replied (DoneAs x)) shown = of_numbers 2 0 x shown
+answer_of (Replied (DoneWith outcome)) shown = came_of outcome shown
+answer_of (Replied (Refused refusal)) shown = of_numbers 7 (number_of refusal) 0 shown
+answer_of (Replied (RefusedOn refusal x)) shown = of_numbers 8 (number_of refusal) x shown
+answer_of (TextRefusedAt refusal offset) shown = of_numbers 9 (number_of refusal) offset shown

@@ -1,0 +1,5 @@
+pub mod Answers
+pub mod Stepped
+pub mod Opened
+pub mod Queries
+pub mod Talks

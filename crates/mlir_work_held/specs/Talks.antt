@@ -1,0 +1,55 @@
+-- What lines that are said to a session one after the other come to: what a whole run writes for them.
+use Rattle.std.specs.Prelude.{◌≡◌, ℕ, ◌+◌, List, [], ◌∷◌, ◌++◌, length, ◌⊎◌, true, false}
+use Rattle.rewriter.specs.Commands.{Response}
+use Rattle.rewriter.specs.Panels.{all_shown}
+use Rattle.mlir_work_listeners.specs.Listeners.{seven_listener, kinds_of}
+use Rattle.mlir_work_listeners.specs.declared.seven.Seven.{Seven}
+use Rattle.mlir_work_session.specs.Output.{is_accepted, reply_line, worse}
+use Rattle.mlir_work_run.specs.Whole.{IsOutput}
+use Rattle.mlir_work_run.specs.declared.run.Options.{Options}
+use Rattle.mlir_work_held.specs.Answers.{answer_of, nothing}
+use Rattle.mlir_work_held.specs.Stepped.{Stepped}
+use Rattle.mlir_work_held.specs.declared.answer.Answer.{Answer}
+use Rattle.mlir_work_held.specs.declared.session.Session.{Session}
+
+-- an answer, and the bytes that its line shows
+pub record Told : Type 0 where
+  pub answer : Answer
+  pub shows : List ℕ
+
+-- these lines are said to s one after the other, and each is answered so
+abbrev pub Talks : Session → List (List ℕ) → List Told → Type 0
+Talks s [] told = told ≡ []
+Talks s (line ∷ lines) told =
+    (a : Answer) × (t : Session) × (rest : List Told)
+    × Stepped s line a t × Talks t lines rest × (told ≡ record { answer = a; shows = t.shows.items } ∷ rest)
+
+-- an answer with the number n is written so, and the rest follows: one to a line that says nothing isn't written, nor
+-- counted; of another the line of the reply is, and what it shows
+pub record IsWritten (Rest : ℕ → ℕ → List ℕ → Type 0) (n : ℕ) (told : Told) (status : ℕ) (out : List ℕ) : Type 0 where
+  pub response : Response
+  pub later : ℕ
+  pub rest : List ℕ
+  pub answered : told.answer ≡ answer_of response (length told.shows)
+  pub goes_on : Rest (n + 1) later rest
+  pub status_is : status ≡ worse (is_accepted response) later
+  pub out_is : out ≡ (reply_line n response ++ told.shows) ++ rest
+
+-- these answers, the first of them with the number n, are written so, and give this status
+abbrev pub AreWritten : ℕ → List Told → ℕ → List ℕ → Type 0
+AreWritten n [] status out = (status ≡ 0) × (out ≡ [])
+AreWritten n (told ∷ more) status out =
+    ((told.answer ≡ nothing) × AreWritten n more status out)
+    ⊎ IsWritten (λ m st o. AreWritten m more st o) n told status out
+
+-- how a whole run of the same input goes: briefly, and no answer has an end
+abbrev pub briefly : ℕ → Options
+briefly limit = record { brief = true; limit = limit; ends = false }
+
+-- what these answers are written as is an output of the input, with the seven analyses
+abbrev pub IsOutputOf : ℕ → List ℕ → List Told → Type 0
+IsOutputOf limit input told =
+    (boxes : List Seven) × (status : ℕ) × (out : List ℕ)
+    × (kinds_of boxes ≡ 1 ∷ 2 ∷ 3 ∷ 4 ∷ 5 ∷ 6 ∷ 7 ∷ [])
+    × AreWritten 1 told status out
+    × IsOutput (briefly limit) (all_shown seven_listener boxes) input status out
