@@ -2,7 +2,8 @@
 """Checks README.md, docs/*.md, crates/*/README.md and bench/wrong_bodies/README.md:
 
   - each path of a file, a folder or a crate in backticks is there (NAME, CRATE and their like stand for any);
-  - a line has at most 120 columns, of Python, shell and C too; a cell of a table at most 200 (its row can't be broken);
+  - a line has at most 120 columns, of Python, shell, C, C++ and Rust too; a cell of a table at most 200 (its row can't
+    be broken);
   - the picture of docs/ARCHITECTURE.md has each crate of crates/, and crates.txt no other, each above those it names;
   - bench/wrong_bodies/README.md lists each edit that the prover must refuse, and docs/PROMISES.md says how many there
     are, and names in its last column no other.
@@ -20,7 +21,7 @@ SPAN = re.compile(r"(?<!`)`([^`\n]+)`(?!`)")
 PATH = re.compile(r"[\w.{},*/-]+")
 ENDINGS = {".md", ".py", ".sh", ".rt", ".antt", ".txt", ".c", ".edit", ".mlir", ".script", ".out"}
 INSIDE = {"src", "specs", "proofs", "must-fail"}
-LINES = ("bench", "examples", "gate", "python", "tools")
+LINES = ("bench", "c", "cpp", "examples", "gate", "python", "rust", "tests/embed", "tools")
 PLACEHOLDER = re.compile(r"\b(NAME|CRATE|MODULE|FUNCTION|FILE|FOLDER|OLD|NEW|WORD)\b")
 NO_EDITS = {"with_capacity"}  # a function that the table of planted bodies names
 ROW_OF_EDIT = re.compile(r"^\| `(\w+)` \| `(\w+)` \|", re.MULTILINE)
@@ -84,7 +85,7 @@ def wrong_in(page):
 def long_lines():
     """Lines of programs beside the crates that are too long."""
     for path in sorted(it for folder in LINES for it in (root / folder).rglob("*")):
-        if path.suffix in {".py", ".sh", ".c"}:
+        if path.suffix in {".py", ".sh", ".c", ".cpp", ".h", ".hpp", ".rs"}:
             for number, line in enumerate(path.read_text().splitlines(), 1):
                 if len(line) > COLUMNS:
                     yield f"{path}:{number}: {len(line)} columns"

@@ -1,4 +1,5 @@
-"""The program as it is shipped: `tools/dist.sh` puts it into dist/, or compares it with what was built here.
+"""The program and the library as they are shipped: `tools/dist.sh` puts them into dist/, or compares them with what was
+built here.
 
 Only what was proved is put there: the program in `crates/mlir_work/out`, which `./run` or `.ci/run` built of these
 sources (`tools/sources.py`). It is shipped without its symbols and section headers, which no run reads: so two builds
@@ -8,15 +9,23 @@ of the same sources, in whatever folders, are the same bytes. `dist/MANIFEST` ha
     sources    the digest of the sources that it was made of
     kit        the toolchain that proved and built it, as `rt version` prints it
     program    the SHA-256 of the program, unpacked
-    bytes      how many they are"""
+    bytes      how many they are
+    library-sources, library    the digest of the library's sources, and its SHA-256, unpacked
+    linker     what joined it, as `ld --version` prints it
+
+The library is what `rt lib` in `crates/mlir_work_c` or `.ci/run` built, with the calls of the toolchain that ask for
+memory (`tools/library.py`); where none was built of these sources it isn't shipped, and the last three words aren't
+there."""
 import lzma
 import re
 import struct
 import subprocess
 import sys
+import tempfile
 
 sys.dont_write_bytecode = True
 
+import library  # noqa: E402
 import sources  # noqa: E402
 
 LOADED, ELF, WIDE = 1, b"\x7fELF", 2
@@ -47,6 +56,15 @@ def kit():
     return subprocess.run(["rt", "version"], stdout=subprocess.PIPE, check=True, text=True).stdout.strip()
 
 
+def linker():
+    """What joins the library."""
+    try:
+        ran = subprocess.run(["ld", "--version"], stdout=subprocess.PIPE, check=True, text=True)
+    except FileNotFoundError:
+        return "none"
+    return ran.stdout.splitlines()[0]
+
+
 def built():
     """The program that was built here of these sources, as it is shipped, and the digest of the sources."""
     of_sources = sources.digest()
@@ -56,11 +74,24 @@ def built():
     return stripped(found.read_bytes()), of_sources
 
 
+def built_library():
+    """The library that was built here of these sources, as it is shipped; nothing where none was."""
+    made = sources.built_library()
+    if not made:
+        return None
+    with tempfile.TemporaryDirectory() as room:
+        return library.joined(made, room).read_bytes()
+
+
 def agree_on_version():
     """Stops where the program that was built says another version than CHANGELOG.md."""
     ran = subprocess.run([sources.BUILT, "--version"], capture_output=True, text=True, check=False)
     if not ran.returncode and ran.stdout.split()[1:] != [version()]:
         sys.exit(f"the program says {ran.stdout.strip()}, and CHANGELOG.md {version()}")
+
+
+def packed(made):
+    return lzma.compress(made, preset=9 | lzma.PRESET_EXTREME)
 
 
 def make():
@@ -70,7 +101,13 @@ def make():
     said = {"version": version(), "sources": of_sources, "kit": kit(), "program": sources.digest_of(program),
             "bytes": len(program)}
     sources.DIST.mkdir(exist_ok=True)
-    sources.PACKED.write_bytes(lzma.compress(program, preset=9 | lzma.PRESET_EXTREME))
+    sources.PACKED.write_bytes(packed(program))
+    archive = built_library()
+    sources.PACKED_LIBRARY.unlink(missing_ok=True)
+    if archive:
+        said |= {"library-sources": sources.digest(sources.LIBRARY_TOP), "library": sources.digest_of(archive),
+                 "linker": linker()}
+        sources.PACKED_LIBRARY.write_bytes(packed(archive))
     sources.MANIFEST.write_text("".join(f"{word}: {text}\n" for word, text in said.items()))
     print(f"dist/: {len(program)} bytes, packed {sources.PACKED.stat().st_size}; " + sources.MANIFEST.read_text())
 
@@ -89,11 +126,19 @@ def compare():
               flush=True)
         sources.unpack()
         sys.exit(subprocess.run([sources.ROOT / "test", sources.UNPACKED], check=False).returncode)
-    if program != shipped:
-        pairs = enumerate(zip(program, shipped))
-        place = next((at for at, (one, other) in pairs if one != other), min(len(program), len(shipped)))
-        sys.exit(f"dist/ says that it is of these sources, but what was built of them is another program: "
-                 f"{len(program)} bytes and {len(shipped)}, first different at byte {place}")
+    stop_where_they_differ("program", program, shipped)
+    archive = built_library()
+    is_comparable = (said.get("library-sources"), said.get("linker")) == (sources.digest(sources.LIBRARY_TOP), linker())
+    if archive and is_comparable:
+        stop_where_they_differ("library", archive, sources.unpacked("library"))
+
+
+def stop_where_they_differ(word, made, shipped):
+    if made != shipped:
+        pairs = enumerate(zip(made, shipped))
+        place = next((at for at, (one, other) in pairs if one != other), min(len(made), len(shipped)))
+        sys.exit(f"dist/ says that it is of these sources, but what was built of them is another {word}: "
+                 f"{len(made)} bytes and {len(shipped)}, first different at byte {place}")
 
 
 def main():

@@ -1,11 +1,12 @@
 #!/bin/sh
 # Installs what `./run` starts: the program `mlir_work`; the tools over it, `mlir-work`, which want Python 3: a prompt,
 # and what explains, reduces and compares; a man page; completions for bash and zsh; the package for Python, in
-# share/mlir_work/python. MLIR_WORK names another program.
+# share/mlir_work/python. MLIR_WORK names another program. Where there is a library of these sources, or
+# MLIR_WORK_ARCHIVE names one, it goes into lib/, its headers into include/, what Rust takes into share/mlir_work/rust.
 #
 # usage: tools/install.sh PREFIX
 set -eu
-[ $# -eq 1 ] || { sed -n '2,6s/^# \{0,1\}//p' "$0" >&2; exit 2; }
+[ $# -eq 1 ] || { sed -n '2,7s/^# \{0,1\}//p' "$0" >&2; exit 2; }
 mkdir -p "$1"
 prefix=$(cd "$1" && pwd)
 here=$(cd "$(dirname "$(readlink -f "$0")")/.." && pwd)
@@ -23,6 +24,18 @@ cp -R "$here/tools/web" "$share/tools"
 cp "$here"/bench/reference/*.py "$share/bench/reference"
 cp "$here/python/pyproject.toml" "$here/python/backend.py" "$share/python"
 cp "$here"/python/mlir_work/*.py "$here/python/mlir_work/py.typed" "$share/python/mlir_work"
+# (the package takes the library where that is beside it, and else a process)
+library=
+rm -f "$share/python/mlir_work/libmlir_work.so"
+if [ -n "${MLIR_WORK_ARCHIVE-}" ] || python3 "$here/tools/sources.py" --library >/dev/null 2>&1; then
+    mkdir -p "$prefix/lib" "$prefix/include" "$share/rust"
+    python3 "$here/tools/library.py" "$prefix/lib" >/dev/null
+    cp "$here/c/mlir_work.h" "$here/cpp/mlir_work.hpp" "$prefix/include"
+    cp -R "$here/rust/Cargo.toml" "$here/rust/mlir_work" "$here/rust/mlir_work_sys" "$share/rust"
+    [ ! -f "$prefix/lib/libmlir_work.so" ] ||
+        ln -s ../../../../lib/libmlir_work.so "$share/python/mlir_work/libmlir_work.so"
+    library=", lib/libmlir_work.a, include/mlir_work.h"
+fi
 for page in REFUSALS VERIFIER CANONICALIZE CONVERT REPORTS; do
     cp "$here/docs/$page.md" "$share/docs"
 done
@@ -51,4 +64,4 @@ MLIR_WORK_INSTALLED=$prefix/bin/mlir_work exec python3 "$prefix/share/mlir_work/
 END
 chmod 755 "$prefix/bin/mlir-work"
 echo "installed in $prefix: bin/mlir_work, bin/mlir-work, share/man/man1/mlir_work.1, completions for bash and zsh,
-share/mlir_work/python"
+share/mlir_work/python$library"

@@ -120,8 +120,7 @@ def library(make, case):
         lines = [it.strip(b" \t\r") for it in behind.split(b"\n") if is_counted(it)]
         replies = way.lines(lines)
     finally:
-        way.close()
-    status = int(bool(out) or any(it.outcome == "refused" for it in replies))
+        status = way.close() or int(bool(out))
     text = out + "".join(f"{number} {it.text}\n{it.shown}" for number, it in enumerate(replies, 1))
     return status, text.encode("utf-8", "surrogateescape")
 

@@ -1,4 +1,5 @@
-"""A module of MLIR's generic form, held by the program `mlir_work`: edited a line at a time, and asked at any time.
+"""A module of MLIR's generic form, held by the library or the program `mlir_work`: edited a line at a time, and asked
+at any time.
 
     with mlir_work.Session(text) as s:
         for row in s.report("dead"):
@@ -7,6 +8,7 @@
 
 docs/EMBED.md has a tour."""
 from .errors import Error, ModuleRefused, ProcessLost, Refused, SessionClosed
+from .library import Library
 from .operations import Operation
 from .process import Process
 from .reply import Reply
@@ -15,6 +17,6 @@ from .session import Canonicalized, Session
 from .values import Argument, Result, Value, after, before, end, quoted, start
 from .way import Way
 
-__all__ = ["KINDS", "Argument", "Canonicalized", "Constant", "Dead", "Diagnostic", "Effect", "Error", "ModuleRefused",
-           "Operation", "Process", "ProcessLost", "Refused", "Reply", "Result", "Row", "Session", "SessionClosed",
-           "Symbol", "Unreached", "Use", "Value", "Way", "after", "before", "end", "quoted", "start"]
+__all__ = ["KINDS", "Argument", "Canonicalized", "Constant", "Dead", "Diagnostic", "Effect", "Error", "Library",
+           "ModuleRefused", "Operation", "Process", "ProcessLost", "Refused", "Reply", "Result", "Row", "Session",
+           "SessionClosed", "Symbol", "Unreached", "Use", "Value", "Way", "after", "before", "end", "quoted", "start"]

@@ -8,6 +8,7 @@ from typing import (Iterable, Iterator, List, Literal, NamedTuple, Optional, Seq
 
 from . import operations as listings
 from .errors import Error, Refused, SessionClosed
+from .library import Library, is_preferred
 from .operations import Operation
 from .process import DIVIDER, Process, Program
 from .reply import Reply
@@ -36,6 +37,13 @@ def _bytes(text: Text) -> bytes:
     return text.encode("utf-8", "surrogateescape") if isinstance(text, str) else text
 
 
+def _way_to(program: Optional[Program], timeout: Optional[float]) -> Way:
+    """The way that is taken where none is given."""
+    if program is None and timeout is None and is_preferred():
+        return Library()
+    return Process(program, timeout=timeout)
+
+
 def _listed(names: Iterable[str]) -> List[str]:
     """Names as a list; a string is one name."""
     return [names] if isinstance(names, str) else list(names)
@@ -53,10 +61,12 @@ def _one_line(text: Text) -> str:
 class Session:
     """Holds the module that a text spells.
 
-    `program` is the file or the words of `mlir_work`; without it those of MLIR_WORK in the environment, or else it is
-    looked for on the path. `kinds` are the analyses that are wanted, all where nothing is said; `limit` is the most
-    rewrites of a plain `canon`. A program that keeps silent for longer than `timeout` seconds is given up; without one
-    it is waited for. `way` is another way to the workbench than a process of its own.
+    `program` is the file or the words of `mlir_work`, which is started as a process. Without it MLIR_WORK_LIBRARY in
+    the environment names the library that holds the module in this process, or MLIR_WORK the words of a program; where
+    neither does, it is the library beside the package, if there is one, or the `mlir_work` on the path. `kinds` are the
+    analyses that are wanted, all where nothing is said; `limit` is the most rewrites of a plain `canon`. A program that
+    keeps silent for longer than `timeout` seconds is given up; without one it is waited for. `way` is another way to
+    the workbench than these.
 
     Raises ModuleRefused. Each call below raises Refused where the command is refused, which changes nothing, and
     ProcessLost where the program ended, which closes the session, as an interrupt within a call does. A session is one
@@ -70,7 +80,7 @@ class Session:
             raise ValueError(f"there is no kind {unknown[0]!r}: they are {', '.join(KINDS)}")
         if DIVIDER in _bytes(text).split(b"\n"):
             raise ValueError("a line `// -----` ends the text of a module")
-        self._way: Way = Process(program, timeout=timeout) if way is None else way
+        self._way: Way = _way_to(program, timeout) if way is None else way
         self._thread = threading.get_ident()
         self._listing: Optional[List[Operation]] = None
         self.marks, self.refused, self.closed = 0, 0, False

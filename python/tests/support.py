@@ -1,10 +1,15 @@
 """What the tests stand on: the package, over the program of MLIR_WORK or the one of these sources where its help names
 `--interactive`. Where it doesn't, or there is none, sessions go over bench/reference in this process, and what has to
 be a process is tools/tests/live.py, which answers by it."""
+import atexit
+import functools
 import gc
 import os
 import pathlib
+import shutil
+import subprocess
 import sys
+import tempfile
 import unittest
 import warnings
 
@@ -14,6 +19,7 @@ ROOT = pathlib.Path(__file__).resolve().parents[2]
 sys.path[:0] = [str(ROOT / "python"), str(ROOT / "tools")]
 sys.path.append(str(ROOT / "bench"))
 
+import library  # noqa: E402
 import mlir_work  # noqa: E402
 import program  # noqa: E402
 from reference import rules, script  # noqa: E402
@@ -32,6 +38,21 @@ def of_sources():
 REAL = of_sources()
 # Many sessions are many starts, which are slow where the stand-in is started.
 PROGRAM, IS_FAST = REAL or LIVE, REAL is not None
+
+
+@functools.lru_cache(maxsize=None)
+def shared_object():
+    """The shared object of the library of these sources, made in a folder of its own; None where there is no library,
+    or nothing to link it with."""
+    if not shutil.which("gcc"):
+        return None
+    room = tempfile.mkdtemp()
+    atexit.register(shutil.rmtree, room, ignore_errors=True)
+    try:
+        archive = library.found(room)
+        return archive and library.shared(archive, room)
+    except subprocess.CalledProcessError as fault:
+        raise AssertionError(f"the library can't be linked: {fault}") from fault
 
 
 class Referred(mlir_work.Way):

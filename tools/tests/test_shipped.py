@@ -51,13 +51,17 @@ class Sources(unittest.TestCase):
         (folder / "crates/mlir_work/src").mkdir(parents=True)
         (folder / "crates/mlir_work/out").mkdir()
         (folder / "dist").mkdir()
-        (folder / "crates.txt").write_text("mlir_work: low clap\nlow:\nother:\n")
+        (folder / "crates/mlir_work_c/out").mkdir(parents=True)
+        (folder / "crates.txt").write_text("mlir_work_c staticlib: held\nheld: low\nmlir_work: low clap\nlow:\n"
+                                           "other:\n")
         self.file = folder / "crates/mlir_work/src/main.rt"
         self.file.write_text("fn main() {}\n")
         places = {"ROOT": folder, "DIST": folder / "dist", "MANIFEST": folder / "dist/MANIFEST",
                   "PACKED": folder / "dist/mlir_work.xz", "UNPACKED": folder / "dist/out/mlir_work",
                   "BUILT": folder / "crates/mlir_work/out/mlir_work",
-                  "RECORD": folder / "crates/mlir_work/out/mlir_work.sources"}
+                  "RECORD": folder / "crates/mlir_work/out/mlir_work.sources",
+                  "PACKED_LIBRARY": folder / "dist/libmlir_work.a.xz", "LIBRARY": folder / "dist/out/libmlir_work.a",
+                  "BUILT_LIBRARY": folder / "crates/mlir_work_c/out/libmlir_work_c.a"}
         patched = mock.patch.multiple(sources, **places)
         patched.start()
         self.addCleanup(patched.stop)
@@ -94,6 +98,44 @@ class Sources(unittest.TestCase):
         sources.PACKED.write_bytes(lzma.compress(b"another"))
         with self.assertRaises(SystemExit):
             sources.program()
+
+    def made(self, archive):
+        """Puts a program that was built here into dist/, and a library where one was; each is what it is of."""
+        joined = mock.Mock(read_bytes=lambda: b"joined " + archive)
+        with mock.patch.multiple(dist, stripped=lambda program: program, kit=lambda: "one", version=lambda: "1",
+                                 agree_on_version=lambda: None, linker=lambda: "ld"), \
+                mock.patch.object(dist.library, "joined", lambda *_: joined), mock.patch("builtins.print"):
+            sources.BUILT.write_bytes(b"built")
+            sources.record(sources.digest())
+            if archive:
+                sources.BUILT_LIBRARY.write_bytes(archive)
+                sources.record_all()
+            dist.make()
+            yield
+            dist.compare()
+
+    def test_the_library_is_shipped_with_the_program(self):
+        for _ in self.made(b"archive"):
+            self.assertEqual(sources.library().read_bytes(), b"joined archive")
+            self.assertEqual(sources.built_library(), sources.BUILT_LIBRARY)
+        sources.BUILT_LIBRARY.write_bytes(b"another")
+        self.assertIsNone(sources.built_library())
+        held = self.folder / "crates/held/src"
+        held.mkdir(parents=True)
+        (held / "lib.rt").write_text("fn f() {}\n")
+        self.assertIsNone(sources.library())
+        self.assertEqual(sources.program().read_bytes(), b"built")
+
+    def test_there_is_no_library(self):
+        for _ in self.made(b""):
+            self.assertIsNone(sources.library())
+            self.assertEqual(sources.program().read_bytes(), b"built")
+            self.assertFalse(sources.PACKED_LIBRARY.exists())
+
+    def test_another_library_than_the_built_one_is_found(self):
+        with self.assertRaises(SystemExit):
+            for _ in self.made(b"archive"):
+                sources.PACKED_LIBRARY.write_bytes(lzma.compress(b"joined another"))
 
     def compared(self, shipped, kit):
         """Compares what is shipped with a program that was built here by a kit."""

@@ -1,0 +1,200 @@
+// A session on a module that closes itself, refusals that are thrown, and marks that go back unless they are kept.
+// docs/EMBED.md shows how it is built and used; what is said of threads and lifetimes is in mlir_work.h.
+#pragma once
+
+#include "mlir_work.h"
+
+#include <cstddef>
+#include <cstdint>
+#include <optional>
+#include <random>
+#include <stdexcept>
+#include <string>
+#include <string_view>
+#include <utility>
+#include <vector>
+
+namespace workbench {
+
+using Operation = std::uint32_t;
+using Value = mlir_work_value;
+using Spot = mlir_work_spot;
+using Use = mlir_work_use;
+
+inline Value result(Operation operation, std::uint32_t place = 0) { return {operation, MLIR_WORK_RESULT, place}; }
+inline Value argument(Operation operation, std::uint32_t region, std::uint32_t place) {
+  return {operation, region, place};
+}
+inline Spot before(Operation operation) { return {MLIR_WORK_BEFORE, operation, 0}; }
+inline Spot after(Operation operation) { return {MLIR_WORK_AFTER, operation, 0}; }
+inline Spot start(Operation operation, std::uint32_t region = 0) { return {MLIR_WORK_START, operation, region}; }
+inline Spot end(Operation operation, std::uint32_t region = 0) { return {MLIR_WORK_END, operation, region}; }
+
+// A line, or a module, was refused. The session is as it was.
+class Refused : public std::runtime_error {
+public:
+  explicit Refused(const mlir_work_answer &answer) : std::runtime_error(said(answer)), answer_(answer) {}
+
+  std::uint32_t refusal() const { return answer_.refusal; }
+  const mlir_work_answer &answer() const { return answer_; }
+
+private:
+  static std::string said(const mlir_work_answer &answer) {
+    if (answer.outcome == MLIR_WORK_NO_SESSION)
+      return "no session";
+    std::string text = "refused " + std::to_string(answer.refusal) + " " + mlir_work_refusal_word(answer.refusal);
+    if (answer.outcome == MLIR_WORK_REFUSED_ON)
+      text += " #" + std::to_string(answer.number);
+    if (answer.outcome == MLIR_WORK_REFUSED_AT)
+      text += " at " + std::to_string(answer.number);
+    return text;
+  }
+
+  mlir_work_answer answer_;
+};
+
+// A module with its marks and its analyses. It is moved, and not copied.
+class Session {
+public:
+  // Throws Refused where the text isn't that of a module. `limit`: the most rewrites of a `canon` that says none.
+  explicit Session(std::string_view module, std::uint32_t limit = 1000) {
+    if (mlir_work_version() != MLIR_WORK_VERSION)
+      throw std::runtime_error("the library has another version than mlir_work.h");
+    std::random_device random;
+    const std::uint64_t key = (std::uint64_t{random()} << 32) | random();
+    mlir_work_answer answer;
+    mlir_work_open(&held_, bytes(module), module.size(), key, limit, &answer);
+    if (answer.outcome != MLIR_WORK_OK)
+      throw Refused(answer);
+  }
+  Session(Session &&other) noexcept : held_(std::exchange(other.held_, mlir_work_session MLIR_WORK_CLOSED)) {}
+  Session &operator=(Session &&other) noexcept {
+    std::swap(held_, other.held_);
+    return *this;
+  }
+  Session(const Session &) = delete;
+  Session &operator=(const Session &) = delete;
+  ~Session() { mlir_work_close(&held_); }
+
+  // The answer to a line, also where it is refused.
+  mlir_work_answer answer(std::string_view line) {
+    mlir_work_answer answer;
+    mlir_work_command(&held_, bytes(line), line.size(), &answer);
+    return answer;
+  }
+
+  // What the line came to; throws Refused.
+  mlir_work_answer command(std::string_view line) { return accepted(answer(line)); }
+
+  // What the line shows: a module's text, or rows; throws Refused.
+  std::string text(std::string_view line) {
+    std::string shown(static_cast<std::size_t>(command(line).shown), '\0');
+    if (!shown.empty())
+      mlir_work_read(&held_, 0, reinterpret_cast<std::uint8_t *>(shown.data()), shown.size());
+    return shown;
+  }
+
+  // The rows of a report, by the word of its kind; throws Refused.
+  std::vector<std::string> report(std::string_view kind) {
+    const std::string shown = text("report " + std::string(kind));
+    std::vector<std::string> rows;
+    for (std::size_t from = 0, end; (end = shown.find('\n', from)) != std::string::npos; from = end + 1)
+      rows.push_back(shown.substr(from, end - from));
+    return rows;
+  }
+
+  // The same, cut into cells; throws Refused.
+  std::vector<std::vector<std::string>> rows(std::string_view kind) {
+    std::string shown = text("report " + std::string(kind));
+    mlir_work_tabs(reinterpret_cast<std::uint8_t *>(shown.data()), shown.size());
+    std::vector<std::vector<std::string>> found;
+    std::vector<std::string> row;
+    for (std::size_t from = 0, end; (end = shown.find_first_of("\t\n", from)) != std::string::npos; from = end + 1) {
+      row.push_back(shown.substr(from, end - from));
+      if (shown[end] == '\n')
+        found.push_back(std::exchange(row, {}));
+    }
+    return found;
+  }
+
+  // Edits by numbers; they throw Refused.
+  void set_operand(Operation operation, std::uint32_t operand, const Value &value) {
+    mlir_work_answer answer;
+    mlir_work_set_operand(&held_, operation, operand, &value, &answer);
+    accepted(answer);
+  }
+  void replace(const Value &old_value, const Value &new_value) {
+    mlir_work_answer answer;
+    mlir_work_replace(&held_, &old_value, &new_value, &answer);
+    accepted(answer);
+  }
+  void erase(Operation operation) {
+    mlir_work_answer answer;
+    mlir_work_erase(&held_, operation, &answer);
+    accepted(answer);
+  }
+  void move(Operation operation, const Spot &spot) {
+    mlir_work_answer answer;
+    mlir_work_move(&held_, operation, &spot, &answer);
+    accepted(answer);
+  }
+
+  // What the module has, by numbers.
+  bool has(Operation operation) { return mlir_work_has(&held_, operation); }
+  std::optional<Operation> root() { return found(mlir_work_root(&held_)); }
+  std::optional<Operation> parent(Operation operation) { return found(mlir_work_parent(&held_, operation)); }
+  std::optional<Operation> next(Operation operation) { return found(mlir_work_next(&held_, operation)); }
+  std::optional<Operation> previous(Operation operation) { return found(mlir_work_previous(&held_, operation)); }
+  std::optional<Operation> first(Operation operation, std::uint32_t region = 0) {
+    return found(mlir_work_first(&held_, operation, region));
+  }
+  std::optional<Operation> last(Operation operation, std::uint32_t region = 0) {
+    return found(mlir_work_last(&held_, operation, region));
+  }
+  std::optional<Value> operand(Operation operation, std::size_t place) {
+    Value value;
+    return mlir_work_operand(&held_, operation, place, &value) ? std::optional<Value>(value) : std::nullopt;
+  }
+  std::optional<Use> first_use(const Value &value) {
+    Use use;
+    return mlir_work_first_use(&held_, &value, &use) ? std::optional<Use>(use) : std::nullopt;
+  }
+
+private:
+  static mlir_work_answer accepted(const mlir_work_answer &told) {
+    if (told.outcome >= MLIR_WORK_REFUSED && told.outcome <= MLIR_WORK_NO_SESSION)
+      throw Refused(told);
+    return told;
+  }
+  static std::optional<Operation> found(std::uint64_t number) {
+    return number == MLIR_WORK_NONE ? std::nullopt : std::optional<Operation>(static_cast<Operation>(number));
+  }
+  static const std::uint8_t *bytes(std::string_view text) {
+    return reinterpret_cast<const std::uint8_t *>(text.data() ? text.data() : "");
+  }
+
+  mlir_work_session held_ = MLIR_WORK_CLOSED;
+};
+
+// A mark of the module. It goes back to it at its end, unless it is kept.
+class Mark {
+public:
+  explicit Mark(Session &session) : session_(&session) { session.command("begin"); }
+  Mark(const Mark &) = delete;
+  Mark &operator=(const Mark &) = delete;
+  ~Mark() {
+    if (session_)
+      session_->answer("rollback");
+  }
+
+  void keep() {
+    Session *session = std::exchange(session_, nullptr);
+    if (session)
+      session->command("commit");
+  }
+
+private:
+  Session *session_;
+};
+
+} // namespace workbench

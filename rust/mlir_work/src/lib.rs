@@ -1,0 +1,327 @@
+//! A module under edits, with its analyses kept up to date: a session of the workbench, in process.
+//!
+//! ```
+//! let mut session = mlir_work::Session::open(b"%0 = \"t.u\"() : () -> i32\n", 1000)?;
+//! session.command("erase #1")?;
+//! assert!(session.report("dead")?.is_empty());
+//! # Ok::<(), mlir_work::Refused>(())
+//! ```
+
+use mlir_work_sys as sys;
+use std::collections::hash_map::RandomState;
+use std::error::Error;
+use std::fmt;
+use std::hash::{BuildHasher, Hasher};
+
+/// What a line came to.
+#[derive(Clone, Copy, Debug, PartialEq, Eq)]
+pub enum Outcome {
+    /// The line is empty or a comment.
+    Nothing,
+    /// Done.
+    Done,
+    /// Done, and this operation was made.
+    Made(u64),
+    /// So many symbols were taken away.
+    Swept(u64),
+    /// So many rewrites were made, and no rule applies any more.
+    Converged(u64),
+    /// So many rewrites were made, as many as are allowed.
+    Limit(u64),
+    /// So many rules of a conversion stand.
+    Converted(u64),
+    /// A rule was applied so often.
+    Applied(u64),
+}
+
+/// Why a line or a module is refused. The session is as it was.
+#[derive(Clone, Copy, Debug, PartialEq, Eq)]
+pub struct Refused {
+    /// The number of the refusal (docs/REFUSALS.md).
+    pub refusal: u32,
+    /// The operation because of which, where there is one.
+    pub operation: Option<u64>,
+    /// The byte of the text that is refused, where there is one.
+    pub byte: Option<u64>,
+}
+
+impl fmt::Display for Refused {
+    fn fmt(&self, out: &mut fmt::Formatter<'_>) -> fmt::Result {
+        write!(out, "refused {}", self.refusal)?;
+        if let Some(operation) = self.operation {
+            write!(out, " #{operation}")?;
+        }
+        if let Some(byte) = self.byte {
+            write!(out, " at {byte}")?;
+        }
+        Ok(())
+    }
+}
+
+impl Error for Refused {}
+
+fn outcome(answer: &sys::Answer) -> Result<Outcome, Refused> {
+    let refused = |operation, byte| Err(Refused { refusal: answer.refusal, operation, byte });
+    match answer.outcome {
+        0 => Ok(Outcome::Nothing),
+        1 => Ok(Outcome::Done),
+        2 => Ok(Outcome::Made(answer.number)),
+        3 => Ok(Outcome::Swept(answer.number)),
+        4 => Ok(Outcome::Converged(answer.number)),
+        5 => Ok(Outcome::Limit(answer.number)),
+        6 => Ok(Outcome::Converted(answer.number)),
+        8 => refused(Some(answer.number), None),
+        9 => refused(None, Some(answer.number)),
+        11 => Ok(Outcome::Applied(answer.number)),
+        _ => refused(None, None),
+    }
+}
+
+fn found(number: u64) -> Option<u32> {
+    u32::try_from(number).ok()
+}
+
+/// A value: a result of an operation, or an argument of the block of a region of it.
+#[derive(Clone, Copy, Debug, PartialEq, Eq, Hash)]
+pub enum Value {
+    Result(u32, u32),
+    Argument(u32, u32, u32),
+}
+
+impl Value {
+    fn numbers(self) -> sys::Value {
+        match self {
+            Value::Result(operation, place) => sys::Value { operation, region: sys::RESULT, place },
+            Value::Argument(operation, region, place) => sys::Value { operation, region, place },
+        }
+    }
+
+    fn of(it: sys::Value) -> Value {
+        if it.region == sys::RESULT {
+            Value::Result(it.operation, it.place)
+        } else {
+            Value::Argument(it.operation, it.region, it.place)
+        }
+    }
+}
+
+/// Where an operation is to stand: beside one, or in the block of a region of one.
+#[derive(Clone, Copy, Debug, PartialEq, Eq, Hash)]
+pub enum Spot {
+    Before(u32),
+    After(u32),
+    Start(u32, u32),
+    End(u32, u32),
+}
+
+impl Spot {
+    fn numbers(self) -> sys::Spot {
+        let (kind, operation, region) = match self {
+            Spot::Before(operation) => (0, operation, 0),
+            Spot::After(operation) => (1, operation, 0),
+            Spot::Start(operation, region) => (2, operation, region),
+            Spot::End(operation, region) => (3, operation, region),
+        };
+        sys::Spot { kind, operation, region }
+    }
+}
+
+/// A module with its marks and its analyses. The pointer in it keeps it on its thread.
+#[derive(Debug)]
+pub struct Session {
+    held: sys::Handle,
+}
+
+impl Session {
+    /// Opens a session on the module that a text spells; `limit` is the most rewrites of a `canon` that says none.
+    pub fn open(module: impl AsRef<[u8]>, limit: u32) -> Result<Session, Refused> {
+        let module = module.as_ref();
+        let key = RandomState::new().build_hasher().finish();
+        let mut session = Session { held: sys::CLOSED };
+        let mut answer = sys::Answer::default();
+        // SAFETY: the handle is closed, and the pointer of a slice isn't null.
+        unsafe {
+            assert_eq!(sys::mlir_work_version(), sys::VERSION, "libmlir_work.a has another version");
+            sys::mlir_work_open(&mut session.held, module.as_ptr(), module.len(), key, limit, &mut answer);
+        }
+        outcome(&answer).map(|_| session)
+    }
+
+    /// Says a line of a script, and gives what it came to.
+    pub fn command(&mut self, line: impl AsRef<[u8]>) -> Result<Outcome, Refused> {
+        self.say(line.as_ref()).and_then(|answer| outcome(&answer))
+    }
+
+    /// Says a line of a script, and gives what it shows: a module's text, or rows.
+    pub fn text(&mut self, line: impl AsRef<[u8]>) -> Result<String, Refused> {
+        let answer = self.say(line.as_ref())?;
+        let mut bytes = vec![0; answer.shown as usize];
+        // SAFETY: the handle was opened, and a slice's pointer isn't null.
+        let count = unsafe { sys::mlir_work_read(&mut self.held, 0, bytes.as_mut_ptr(), bytes.len()) };
+        bytes.truncate(count);
+        Ok(String::from_utf8_lossy(&bytes).into_owned())
+    }
+
+    /// The rows of a report, by the word of its kind.
+    pub fn report(&mut self, kind: &str) -> Result<Vec<String>, Refused> {
+        Ok(self.text(format!("report {kind}"))?.lines().map(str::to_owned).collect())
+    }
+
+    /// Makes a mark, does what is asked, and keeps it where that went well; else goes back to the mark.
+    pub fn marked<T, E: From<Refused>>(&mut self, work: impl FnOnce(&mut Session) -> Result<T, E>) -> Result<T, E> {
+        self.command("begin")?;
+        let done = work(self);
+        self.command(if done.is_ok() { "commit" } else { "rollback" })?;
+        done
+    }
+
+    /// Makes a value an operand of an operation, by its place.
+    pub fn set_operand(&mut self, operation: u32, operand: u32, value: Value) -> Result<(), Refused> {
+        let value = value.numbers();
+        // SAFETY: the handle was opened, and no reference is null.
+        self.answered(|held, answer| unsafe { sys::mlir_work_set_operand(held, operation, operand, &value, answer) })
+    }
+
+    /// Uses the second value in place of the first, everywhere.
+    pub fn replace(&mut self, old: Value, new: Value) -> Result<(), Refused> {
+        let (old, new) = (old.numbers(), new.numbers());
+        // SAFETY: as above.
+        self.answered(|held, answer| unsafe { sys::mlir_work_replace(held, &old, &new, answer) })
+    }
+
+    /// Takes an operation away, with what is inside it.
+    pub fn erase(&mut self, operation: u32) -> Result<(), Refused> {
+        // SAFETY: as above.
+        self.answered(|held, answer| unsafe { sys::mlir_work_erase(held, operation, answer) })
+    }
+
+    /// Moves an operation, with what is inside it.
+    pub fn move_to(&mut self, operation: u32, spot: Spot) -> Result<(), Refused> {
+        let spot = spot.numbers();
+        // SAFETY: as above.
+        self.answered(|held, answer| unsafe { sys::mlir_work_move(held, operation, &spot, answer) })
+    }
+
+    /// Whether an operation is in the module.
+    pub fn has(&mut self, operation: u32) -> bool {
+        // SAFETY: as above.
+        unsafe { sys::mlir_work_has(&mut self.held, operation) }
+    }
+
+    /// The module's own operation, around all others.
+    pub fn root(&mut self) -> Option<u32> {
+        // SAFETY: as above.
+        found(unsafe { sys::mlir_work_root(&mut self.held) })
+    }
+
+    /// The operation around one.
+    pub fn parent(&mut self, operation: u32) -> Option<u32> {
+        // SAFETY: as above.
+        found(unsafe { sys::mlir_work_parent(&mut self.held, operation) })
+    }
+
+    /// The operation behind one in its block.
+    pub fn next(&mut self, operation: u32) -> Option<u32> {
+        // SAFETY: as above.
+        found(unsafe { sys::mlir_work_next(&mut self.held, operation) })
+    }
+
+    /// The operation before one in its block.
+    pub fn previous(&mut self, operation: u32) -> Option<u32> {
+        // SAFETY: as above.
+        found(unsafe { sys::mlir_work_previous(&mut self.held, operation) })
+    }
+
+    /// The first operation of the block of a region.
+    pub fn first(&mut self, operation: u32, region: u32) -> Option<u32> {
+        // SAFETY: as above.
+        found(unsafe { sys::mlir_work_first(&mut self.held, operation, region) })
+    }
+
+    /// The last operation of the block of a region.
+    pub fn last(&mut self, operation: u32, region: u32) -> Option<u32> {
+        // SAFETY: as above.
+        found(unsafe { sys::mlir_work_last(&mut self.held, operation, region) })
+    }
+
+    /// The value that is an operand of an operation, by its place.
+    pub fn operand(&mut self, operation: u32, place: usize) -> Option<Value> {
+        let mut value = sys::Value::default();
+        // SAFETY: as above.
+        let is_there = unsafe { sys::mlir_work_operand(&mut self.held, operation, place, &mut value) };
+        is_there.then(|| Value::of(value))
+    }
+
+    /// One of the uses of a value: the operation, and which of its operands.
+    pub fn first_use(&mut self, value: Value) -> Option<(u32, u32)> {
+        let mut user = sys::Use::default();
+        // SAFETY: as above.
+        let is_there = unsafe { sys::mlir_work_first_use(&mut self.held, &value.numbers(), &mut user) };
+        is_there.then_some((user.operation, user.operand))
+    }
+
+    fn answered(&mut self, call: impl FnOnce(&mut sys::Handle, &mut sys::Answer)) -> Result<(), Refused> {
+        let mut answer = sys::Answer::default();
+        call(&mut self.held, &mut answer);
+        outcome(&answer).map(|_| ())
+    }
+
+    fn say(&mut self, line: &[u8]) -> Result<sys::Answer, Refused> {
+        let mut answer = sys::Answer::default();
+        // SAFETY: the handle was opened, and a slice's pointer isn't null.
+        unsafe { sys::mlir_work_command(&mut self.held, line.as_ptr(), line.len(), &mut answer) };
+        outcome(&answer).map(|_| answer)
+    }
+}
+
+impl Drop for Session {
+    fn drop(&mut self) {
+        // SAFETY: a handle may be closed at any time.
+        unsafe { sys::mlir_work_close(&mut self.held) }
+    }
+}
+
+#[cfg(test)]
+mod tests {
+    use super::*;
+
+    const MODULE: &str = "%0 = \"test.a\"() : () -> i32\n%1 = \"test.b\"() : () -> i32\n\"test.c\"(%0) : (i32) -> ()\n";
+
+    #[test]
+    fn edits() {
+        let mut session = Session::open(MODULE, 1000).unwrap();
+        assert_eq!(session.operand(3, 0), Some(Value::Result(1, 0)));
+        session.set_operand(3, 0, Value::Result(2, 0)).unwrap();
+        assert_eq!(session.operand(3, 0), Some(Value::Result(2, 0)));
+        assert_eq!(session.first_use(Value::Result(2, 0)), Some((3, 0)));
+        assert_eq!(session.first_use(Value::Result(1, 0)), None);
+        assert_eq!(session.erase(2).unwrap_err().refusal, 22);
+        session.erase(1).unwrap();
+        session.move_to(3, Spot::End(0, 0)).unwrap();
+        assert_eq!(session.next(2), Some(3));
+        assert_eq!(session.report("uses").unwrap(), ["%v2.0 #3 0"]);
+    }
+
+    #[test]
+    fn a_mark_that_is_not_kept() {
+        let mut session = Session::open(MODULE, 1000).unwrap();
+        let before = session.text("print").unwrap();
+        let fault = session.marked(|it| it.erase(3).and_then(|_| it.erase(99))).unwrap_err();
+        assert_eq!((fault.refusal, session.text("print").unwrap()), (20, before));
+    }
+
+    #[test]
+    fn sessions_are_apart() {
+        let mut all: Vec<_> = (0..64).map(|_| Session::open(MODULE, 1000).unwrap()).collect();
+        for it in all.iter_mut().step_by(2) {
+            it.erase(3).unwrap();
+        }
+        assert!(all.iter_mut().enumerate().all(|(at, it)| it.has(3) == (at % 2 == 1)));
+    }
+
+    #[test]
+    fn a_module_that_is_refused() {
+        let fault = Session::open("%0 = what", 1000).unwrap_err();
+        assert!(fault.byte.is_some() && (1..=14).contains(&fault.refusal));
+    }
+}
