@@ -13,8 +13,8 @@ use ir_event::event::Event;
 use ir_event::row::{Kind, Memory, ReportFault, Row};
 use ir_event::view::View;
 use ir_event::world::World;
-use ir_types::bits::Bits;
-use ir_types::ids::OpId;
+use ir_event::types::bits::Bits;
+use ir_event::types::ids::OpId;
 use std::alloc::Global;
 use std::collections::BTreeMap;
 

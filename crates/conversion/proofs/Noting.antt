@@ -1,7 +1,7 @@
 -- What is noted, one call after another and under a mark.
 use Rattle.std.proofs.Common.{◌≡◌, ◌≢◌, refl, subst, [], ◌++◌, ℕ, Bool, true, false, Result, Ok, Err}
 use Rattle.std.specs.Prelude.{MatchResult, OnErr, is_ok}
-use Rattle.ir_types.specs.declared.refusal.Refusal.{Refusal}
+use Rattle.ir_event.specs.types.declared.refusal.Refusal.{Refusal}
 use Rattle.ir_event.specs.Listener.{Listener}
 use Rattle.rewriter.specs.Benched.{Benched, Keeps}
 use Rattle.rewriter.specs.Held.{Held}

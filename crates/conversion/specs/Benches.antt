@@ -1,6 +1,6 @@
 -- A bench as conversions see it.
 use Rattle.std.specs.Prelude.{[], ◌++◌}
-use Rattle.ir_types.specs.Sound.{Holds}
+use Rattle.ir_event.specs.types.Sound.{Holds}
 use Rattle.ir_event.specs.Listener.{Listener}
 use Rattle.rewriter.proofs.Told.{heard_none, heard_more}
 use Rattle.patterns.specs.Benched.{Benched, Led}

@@ -1,6 +1,6 @@
 -- Conversion as a transformation, and how it is replied to.
 use Rattle.std.specs.Prelude.{ℕ, true, List, [], ◌∷◌, Option, Some, None, option_map, option_and_then, Result, Ok, Err}
-use Rattle.ir_types.specs.declared.refusal.Refusal.TheVariants.{BadTarget}
+use Rattle.ir_event.specs.types.declared.refusal.Refusal.TheVariants.{BadTarget}
 use Rattle.ir_event.specs.Modules.{Module}
 use Rattle.rewriter.specs.Commands.{Target}
 use Rattle.rewriter.specs.Machine.{Converted, DoneWith, Fault as Because, Outcome, Reply, Transformation, fault_reply}

@@ -1,6 +1,6 @@
 //! Dialect conversion of the module of a bench.
 ghost use Rattle.std.specs.Prelude.{◌≡◌, [], true, MatchResult, OnOk};
-ghost use Rattle.ir_types.specs.Things.{Grows};
+ghost use Rattle.ir_event.specs.types.Things.{Grows};
 ghost use Rattle.rewriter.specs.Machine.{Change};
 ghost use Rattle.rewriter.specs.Benched.{Does, Led};
 ghost use Rattle.rewriter.specs.Moves.{Recorded};

@@ -13,8 +13,8 @@ use crate::rewriting::{Rewriting, Rules};
 use crate::tried::Tried;
 use conversion_base::rule::Rule;
 use conversion_base::target::Target;
-use ir_types::ids::OpId;
-use ir_types::refusal::Refusal;
+use ir_event::types::ids::OpId;
+use ir_event::types::refusal::Refusal;
 use std::alloc::Global;
 
 /// A try that made nothing.

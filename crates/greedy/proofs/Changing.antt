@@ -1,8 +1,8 @@
 -- A run of the driver is what the machine has of a canonicalization, and of a rewriting by a list of rules.
 use Rattle.std.proofs.Common.{◌≡◌, refl, ap, sym, ◌∙◌, ◌⊎◌, inl, inr, ℕ, List, true, false, cond, Result, Ok, Err}
 use Rattle.std.specs.Prelude.{IfOk, IfErr, OnErr}
-use Rattle.ir_types.specs.declared.refusal.Refusal.{Refusal}
-use Rattle.ir_types.specs.declared.refusal.Refusal.TheVariants.{BadLimit, Full, Memory}
+use Rattle.ir_event.specs.types.declared.refusal.Refusal.{Refusal}
+use Rattle.ir_event.specs.types.declared.refusal.Refusal.TheVariants.{BadLimit, Full, Memory}
 use Rattle.std.proofs.lemmas.Bool.{cases_Bool}
 use Rattle.ir_event.specs.Listener.{Listener}
 use Rattle.ir_event.specs.Modules.{Module}

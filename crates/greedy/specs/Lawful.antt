@@ -1,8 +1,8 @@
 -- What the calls of a bench keep beside, once and twice.
 use Rattle.std.proofs.Common.{ap, ℕ, ◌≤◌, List, ◌++◌, [], length, length-append, inl, inr, arith}
-use Rattle.ir_types.specs.Things.{Things, Grows, IsFront}
-use Rattle.ir_types.specs.Limits.{most_things}
-use Rattle.ir_types.proofs.Growth.{grows_refl, grows_trans}
+use Rattle.ir_event.specs.types.Things.{Things, Grows, IsFront}
+use Rattle.ir_event.specs.types.Limits.{most_things}
+use Rattle.ir_event.proofs.of_types.Growth.{grows_refl, grows_trans}
 use Rattle.ir_event.specs.Listener.{Listener}
 use Rattle.patterns.specs.Benched.{Benched}
 use Rattle.patterns.specs.runs.Interning.{IsFull}

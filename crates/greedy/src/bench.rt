@@ -1,6 +1,6 @@
 //! Benches with the rules of canonicalization.
 ghost use Rattle.std.specs.Prelude.{◌≡◌, [], is_some, IfErr, IfOk, MatchResult, OnErr};
-ghost use Rattle.ir_types.specs.Things.{Grows};
+ghost use Rattle.ir_event.specs.types.Things.{Grows};
 ghost use Rattle.patterns_base.specs.Canonicalization.{first_rule};
 ghost use Rattle.patterns.specs.Rows.{AreCanonical};
 ghost use Rattle.rewriter_machine.specs.Machine.{Change, IsFullSo};
@@ -21,8 +21,8 @@ use crate::rules::Rules;
 use crate::run::{run, run_list};
 use crate::walk::{following, precedes, preceding};
 use ir_event::analysis::Analysis;
-use ir_types::ids::OpId;
-use ir_types::refusal::Refusal;
+use ir_event::types::ids::OpId;
+use ir_event::types::refusal::Refusal;
 use patterns::first::first;
 use patterns::lowest::lowest;
 use patterns_base::rule::Rule;

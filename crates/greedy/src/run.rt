@@ -1,8 +1,8 @@
 //! The driver.
 ghost use Rattle.std.specs.Prelude.{◌≡◌, ◌≢◌, ◌⊎◌, ◌≤◌, ℕ, IfOk, IfErr, OnErr, OnOk, MatchResult, List, [], ◌++◌, ◌∷◌};
 ghost use Rattle.std.specs.Prelude.{true, false};
-ghost use Rattle.ir_types.specs.declared.refusal.Refusal.TheVariants.{Memory as NoMemory};
-ghost use Rattle.ir_tree.specs.Ids.{has_id};
+ghost use Rattle.ir_event.specs.types.declared.refusal.Refusal.TheVariants.{Memory as NoMemory};
+ghost use Rattle.ir_event.specs.trees.Ids.{has_id};
 ghost use Rattle.patterns_base.specs.declared.rule.Rule.{Rule as Tried};
 ghost use Rattle.patterns.specs.Rows.{AreCanonical};
 ghost use Rattle.greedy.specs.Outcomes.{Applied, ComeTo, IsCanonical, IsReason, IsReasonBy, IsRewriting, Refuses, Stop};
@@ -19,8 +19,8 @@ use crate::outcome::Outcome;
 use crate::rewriting::Rewriting;
 use crate::rules::Rules;
 use crate::work::{Work, add, settle, take};
-use ir_types::ids::OpId;
-use ir_types::refusal::Refusal;
+use ir_event::types::ids::OpId;
+use ir_event::types::refusal::Refusal;
 use patterns::rows::Rows;
 use patterns_base::rule::Rule;
 use std::alloc::Global;

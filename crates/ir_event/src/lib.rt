@@ -19,3 +19,4 @@ pub mod world;
 
 pub use ir_store as store;
 pub use op_registry as registry;
+pub use ir_store::{trees, types};

@@ -23,3 +23,4 @@ mod walk;
 
 pub use ir_store_reads::trees::place;
 pub use ir_store_reads::{node, row, trees, uses};
+pub use ir_store_reads::types;

@@ -14,7 +14,7 @@ use crate::role::Role;
 use ir_event::event::Event;
 use ir_event::view::View;
 use ir_event::world::World;
-use ir_types::ids::OpId;
+use ir_event::types::ids::OpId;
 use listeners_surroundings::node::Node;
 use std::alloc::{AllocError, Global};
 use std::collections::BTreeMap;

@@ -7,7 +7,7 @@ use ir_event::event::Event;
 use ir_event::row::{Kind, Memory, ReportFault, Row};
 use ir_event::view::View;
 use ir_event::world::World;
-use ir_types::ids::OpId;
+use ir_event::types::ids::OpId;
 use listeners_symbols::role::Role;
 use listeners_symbols::table::{follow, tabulate};
 use std::alloc::Global;

@@ -1,5 +1,5 @@
 //! A rule at an operation of a module.
-use ir_types::ids::OpId;
+use ir_event::types::ids::OpId;
 use mlir_work_cases_base::texts::{bytes, first, put_all_shown, small};
 use mlir_work_cases_base::witness::Witness;
 use patterns::apply::apply;

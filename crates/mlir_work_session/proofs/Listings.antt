@@ -2,7 +2,7 @@
 use Rattle.std.proofs.Common.{◌≡◌, ℕ, ◌+◌, ◌<◌, ◌≤◌, List, [], ◌∷◌, ◌++◌, length, drop, get_or, Bool, true, false, inl, inr, refl, add-one, arith}
 use Rattle.std.proofs.lemmas.Grind.{common_steps}
 use Rattle.std.proofs.Math.Seq.{drop-cons}
-use Rattle.ir_tree.specs.Meaning.{Operation}
+use Rattle.ir_event.specs.trees.Meaning.{Operation}
 use Rattle.ir_event.specs.Listener.{Listener}
 use Rattle.mlir_work_script.specs.Replies.{stale_line, kind_memory_line, module_memory_line}
 use Rattle.rewriter.specs.Machine.{State}

@@ -2,10 +2,10 @@
 use Rattle.std.proofs.Common.{◌≡◌, ◌∙◌, sym, ap, subst, refl, ◌⊎◌, inl, inr, ℕ, List, [], ◌∷◌, Option, Some, None, Result, Ok, Err, IsTrue}
 use Rattle.std.specs.Prelude.{position, remove, is_some, option_map, false, true}
 use Rattle.std.specs.List.{find}
-use Rattle.ir_types.specs.declared.refusal.Refusal.{Refusal}
-use Rattle.ir_types.specs.declared.refusal.Refusal.TheVariants.{Memory, NoSuchKey, NoSuchKind, Stale}
-use Rattle.ir_tree.specs.declared.place.Place.{Place}
-use Rattle.ir_tree.specs.Meaning.{Operation}
+use Rattle.ir_event.specs.types.declared.refusal.Refusal.{Refusal}
+use Rattle.ir_event.specs.types.declared.refusal.Refusal.TheVariants.{Memory, NoSuchKey, NoSuchKind, Stale}
+use Rattle.ir_event.specs.trees.declared.place.Place.{Place}
+use Rattle.ir_event.specs.trees.Meaning.{Operation}
 use Rattle.ir_event.specs.Listener.{Listener}
 use Rattle.ir_event.specs.Panels.{is_kind as has_this_kind}
 use Rattle.ir_text.specs.Printing.{text_of}

@@ -1,7 +1,7 @@
 -- Runs of scripts, step by step.
 use Rattle.std.proofs.Common.{◌≡◌, ℕ, ◌+◌, ◌&&◌, List, [], ◌∷◌, ◌++◌, Bool, true, false, not, refl, sym, subst, ◌∙◌, length, ◌≤◌, ◌<◌, ◌==◌, arith, Option, Some, None, Result, Ok, Err}
 use Rattle.std.proofs.lemmas.Bool.Decides.{nat_tests}
-use Rattle.ir_types.specs.declared.refusal.Refusal.TheVariants.{BadCommand}
+use Rattle.ir_event.specs.types.declared.refusal.Refusal.TheVariants.{BadCommand}
 use Rattle.rewriter.specs.Commands.{Response, Replied as Says}
 use Rattle.rewriter.specs.Machine.{Refused}
 use Rattle.mlir_work_script.specs.Commands.{Spoken, Nothing, Bad, Obey, line_says}

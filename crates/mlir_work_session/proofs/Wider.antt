@@ -1,6 +1,6 @@
 -- What is an answer in an input is one in a longer input.
 use Rattle.std.proofs.Common.{◌+◌, ◌≤◌, inl, inr, ℕ, List, arith, Option}
-use Rattle.ir_types.specs.declared.refusal.Refusal.{Refusal}
+use Rattle.ir_event.specs.types.declared.refusal.Refusal.{Refusal}
 use Rattle.ir_event.specs.Modules.{Module}
 use Rattle.ir_text.specs.Public.{SpellsAttr}
 use Rattle.rewriter.specs.Commands as command

@@ -1,8 +1,8 @@
 -- Scripts that only ask for the module, and so need no analysis.
 use Rattle.std.specs.Prelude.{◌≡◌, ℕ, List, [], ◌∷◌, Bool, true, false, not, ◌&&◌, ◌⊎◌}
 use Rattle.std.specs.List.{list_all}
-use Rattle.ir_types.specs.declared.refusal.Refusal.TheVariants.{Memory}
-use Rattle.ir_tree.specs.Meaning.{Operation}
+use Rattle.ir_event.specs.types.declared.refusal.Refusal.TheVariants.{Memory}
+use Rattle.ir_event.specs.trees.Meaning.{Operation}
 use Rattle.ir_event.specs.Listener.{Listener}
 use Rattle.ir_event.specs.Panels.{has_kind}
 use Rattle.ir_text.specs.Printing.{text_of}

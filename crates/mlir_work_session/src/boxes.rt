@@ -8,7 +8,7 @@ ghost use Rattle.mlir_work_session.specs.Ran.{AttachedOut};
 
 use crate::listing::kind_of;
 use ir_event::analysis::Analysis;
-use ir_types::refusal::Refusal;
+use ir_event::types::refusal::Refusal;
 use mlir_work_script::kind::Kind;
 use mlir_work_script::replies::put_attach_refused;
 use mlir_work_script::sink::Sink;

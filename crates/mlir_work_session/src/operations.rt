@@ -1,8 +1,8 @@
 //! Operations as a command writes them: their text is read beside the module.
 ghost use Rattle.std.specs.Prelude.{◌≡◌, ℕ, Err, IfOk, IfErr};
-ghost use Rattle.ir_tree.specs.Ids.{IsNumberedFrom};
-ghost use Rattle.ir_tree.specs.Meaning.{IsSoundIn, meaning};
-ghost use Rattle.ir_types.specs.declared.refusal.Refusal.{Refusal as Reason};
+ghost use Rattle.ir_event.specs.trees.Ids.{IsNumberedFrom};
+ghost use Rattle.ir_event.specs.trees.Meaning.{IsSoundIn, meaning};
+ghost use Rattle.ir_event.specs.types.declared.refusal.Refusal.{Refusal as Reason};
 ghost use Rattle.ir_text.specs.Public.{IsOpTold};
 ghost use Rattle.ir_text.specs.Public.{IsNone};
 ghost use Rattle.rewriter.specs.Held.{module_held};
@@ -15,7 +15,7 @@ use crate::reply::Reply;
 use crate::unread::reply_unread;
 use ir_event::analysis::Analysis;
 use ir_text::reader::ReadError;
-use ir_tree::tree::TreeOp;
+use ir_event::trees::tree::TreeOp;
 use rewriter::Bench;
 use rewriter::laws::led_benches_are_kept;
 

@@ -11,8 +11,8 @@ ghost use Rattle.mlir_work_session.specs.Machine.{response_of};
 
 use crate::reply::Reply;
 use greedy::outcome::Outcome as Ended;
-use ir_types::ids::OpId;
-use ir_types::refusal::Refusal;
+use ir_event::types::ids::OpId;
+use ir_event::types::refusal::Refusal;
 use mlir_work_script::outcome::Outcome;
 use mlir_work_transforms::fault::Fault;
 

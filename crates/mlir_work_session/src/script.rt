@@ -16,7 +16,7 @@ use crate::reply::Reply;
 use crate::shows::Answered;
 use crate::unread::reply_within;
 use ir_event::analysis::Analysis;
-use ir_types::refusal::Refusal;
+use ir_event::types::refusal::Refusal;
 use mlir_work_script::command::{Command, Line, read_line};
 use mlir_work_script::lines::split_line;
 use mlir_work_script::replies::{

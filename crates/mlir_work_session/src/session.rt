@@ -12,7 +12,7 @@ use crate::opening::begin;
 use crate::script::run_script;
 use ir_event::analysis::Analysis;
 use ir_event::world::World;
-use ir_types::refusal::Refusal;
+use ir_event::types::refusal::Refusal;
 use mlir_work_script::input::script_is_too_long;
 use mlir_work_script::replies::put_refused;
 use mlir_work_script::sink::Sink;

@@ -19,7 +19,7 @@ use ir_event::analysis::Analysis;
 use ir_event::row::{ReportFault, Row};
 use ir_event::world::World;
 use ir_text::printer::print;
-use ir_types::refusal::Refusal;
+use ir_event::types::refusal::Refusal;
 use mlir_work_script::kind::Kind;
 use rewriter::Bench;
 use std::alloc::Global;

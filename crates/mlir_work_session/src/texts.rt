@@ -13,7 +13,7 @@ use crate::places::place_for;
 use crate::reply::Reply;
 use crate::replying::{reply_as, reply_to};
 use ir_event::analysis::Analysis;
-use ir_types::ids::OpId;
+use ir_event::types::ids::OpId;
 use mlir_work_script::keys::Key;
 use mlir_work_script::spots::Spot;
 use rewriter::Bench;

@@ -1,10 +1,10 @@
 -- A rule that was applied, or not, goes as the machine has it.
 use Rattle.std.proofs.Common.{◌≡◌, refl, ap, sym, ◌∙◌, ◌⊎◌, inl, inr, ℕ, Bool, true, false, cond, Result, Ok, Err}
 use Rattle.std.specs.Prelude.{IfErr, IfOk, None, OnErr}
-use Rattle.ir_types.specs.Things.{Things}
-use Rattle.ir_types.specs.declared.refusal.Refusal.{Refusal}
-use Rattle.ir_types.specs.declared.refusal.Refusal.TheVariants.{Full, Memory, NoSuchOp}
-use Rattle.ir_tree.specs.Ids.{has_id}
+use Rattle.ir_event.specs.types.Things.{Things}
+use Rattle.ir_event.specs.types.declared.refusal.Refusal.{Refusal}
+use Rattle.ir_event.specs.types.declared.refusal.Refusal.TheVariants.{Full, Memory, NoSuchOp}
+use Rattle.ir_event.specs.trees.Ids.{has_id}
 use Rattle.ir_event.specs.Listener.{Listener}
 use Rattle.ir_event.specs.Modules.{Module}
 use Rattle.rewriter.specs.Benched.{Benched, Does, state_of}

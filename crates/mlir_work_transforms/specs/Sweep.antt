@@ -1,7 +1,7 @@
 -- Sweeping: the private symbols that nothing reaches are erased, the last in pre-order first (Symbols and Symbol
 -- Tables, "Symbol Visibility").
 use Rattle.std.specs.Prelude.{ℕ, List, [], ◌∷◌, length, reverse, Bool, false, Option, Some, None, Result, Ok, Err}
-use Rattle.ir_types.specs.declared.refusal.Refusal.{Refusal}
+use Rattle.ir_event.specs.types.declared.refusal.Refusal.{Refusal}
 use Rattle.ir_event.specs.Modules.{Module}
 use Rattle.listeners_unreached.specs.Unreached.{unreached_of}
 use Rattle.rewriter.specs.Contents.{edited, edit_reason}

@@ -1,6 +1,6 @@
 //! Applying a rule that a command names.
 ghost use Rattle.std.specs.Prelude.{◌≡◌};
-ghost use Rattle.ir_types.specs.Things.{Grows};
+ghost use Rattle.ir_event.specs.types.Things.{Grows};
 ghost use Rattle.rewriter.specs.Machine.{Change, IsFullSo};
 ghost use Rattle.rewriter.specs.Benched.{Does, Keeps, Led, state_of};
 ghost use Rattle.patterns.specs.runs.Interning.{IsFull};
@@ -8,8 +8,8 @@ ghost use Rattle.mlir_work_script.specs.RuleNames.{name_of};
 ghost use Rattle.mlir_work_transforms.specs.Applying.{applied_reply, applying, rule_named};
 
 use ir_event::analysis::Analysis;
-use ir_types::ids::OpId;
-use ir_types::refusal::Refusal;
+use ir_event::types::ids::OpId;
+use ir_event::types::refusal::Refusal;
 use mlir_work_script::rule_name::RuleName;
 use patterns_base::rule::Rule;
 use rewriter::Bench;

@@ -1,8 +1,8 @@
 //! The law of sweeps: a function that does nothing, whose contract is the law.
 ghost use Rattle.std.specs.Prelude.{◌≡◌, Err};
 ghost use Rattle.ir_event.specs.Modules.{Module};
-ghost use Rattle.ir_tree.specs.Ids.{HasDistinctIds};
-ghost use Rattle.ir_types.specs.declared.refusal.Refusal.TheVariants.{HasUses};
+ghost use Rattle.ir_event.specs.trees.Ids.{HasDistinctIds};
+ghost use Rattle.ir_event.specs.types.declared.refusal.Refusal.TheVariants.{HasUses};
 ghost use Rattle.rewriter.specs.Machine.{Fault};
 ghost use Rattle.mlir_work_transforms.specs.Sweep.{sweep_of};
 

@@ -1,6 +1,6 @@
 //! Erasing the private symbols that nothing reaches.
 ghost use Rattle.std.specs.Prelude.{◌≡◌, ◌⊎◌, reverse, IfErr, OnErr, OnOk};
-ghost use Rattle.ir_types.specs.declared.refusal.Refusal.TheVariants.{HasUses, Memory};
+ghost use Rattle.ir_event.specs.types.declared.refusal.Refusal.TheVariants.{HasUses, Memory};
 ghost use Rattle.rewriter.specs.Machine.{Change};
 ghost use Rattle.rewriter.specs.Benched.{Does, Journaled, Keeps, Led};
 ghost use Rattle.conversion.specs.Runs.{Noted};
@@ -8,8 +8,8 @@ ghost use Rattle.mlir_work_transforms.specs.Erasing.{Erases};
 ghost use Rattle.mlir_work_transforms.specs.Sweep.{sweep_reply, sweeping};
 
 use ir_event::analysis::Analysis;
-use ir_types::ids::OpId;
-use ir_types::refusal::Refusal;
+use ir_event::types::ids::OpId;
+use ir_event::types::refusal::Refusal;
 use listeners_unreached::list::unreached;
 use rewriter::Bench;
 use rewriter::finish::finish;

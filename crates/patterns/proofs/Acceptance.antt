@@ -1,7 +1,7 @@
 -- What a bench holds is well-formed, so that no edit of a rule is refused for a reason.
 use Rattle.std.proofs.Common.{ℕ}
-use Rattle.ir_tree.specs.Meaning.{IsSoundIn, isolated_in}
-use Rattle.ir_tree.specs.WellFormed.{IsWellFormed}
+use Rattle.ir_event.specs.trees.Meaning.{IsSoundIn, isolated_in}
+use Rattle.ir_event.specs.trees.WellFormed.{IsWellFormed}
 use Rattle.ir_event.proofs.Steps.{formed_meaning, sorted_meaning}
 use Rattle.patterns_base.specs.declared.rule.Rule.{Rule}
 use Rattle.patterns_facts.specs.Accepted.{AreAccepted, IsAcceptedAt}

@@ -1,8 +1,8 @@
 -- Benches whose context grows.
 use Rattle.std.proofs.Common.{◌≡◌, refl, ap, sym, ◌∙◌, subst, List, []}
-use Rattle.ir_types.specs.Things.{Things}
-use Rattle.ir_types.specs.Sound.{Holds}
-use Rattle.ir_types.proofs.Growth.{grows_refl, grows_trans}
+use Rattle.ir_event.specs.types.Things.{Things}
+use Rattle.ir_event.specs.types.Sound.{Holds}
+use Rattle.ir_event.proofs.of_types.Growth.{grows_refl, grows_trans}
 use Rattle.ir_event.specs.Listener.{Listener}
 use Rattle.patterns_runs.specs.rewriter_bench.Moves.{Grown}
 use Rattle.patterns_runs.proofs.of_rewriter_bench.Told.{heard_none, heard_more, heard_grown}

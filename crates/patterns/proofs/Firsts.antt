@@ -1,10 +1,10 @@
 -- The first of some rules that applies.
 use Rattle.std.proofs.Common.{◌≡◌, refl, ap, sym, ◌∙◌, ℕ, ◌+◌, List, [], ◌∷◌, Bool, true, false, Some, None}
 use Rattle.std.specs.Prelude.{nat_le, if◌then◌else◌}
-use Rattle.ir_tree.specs.Ids.{op_count}
-use Rattle.ir_tree.specs.Limits.{most_ops, most_next}
+use Rattle.ir_event.specs.trees.Ids.{op_count}
+use Rattle.ir_event.specs.trees.Limits.{most_ops, most_next}
 use Rattle.ir_event.specs.Modules.{Module}
-use Rattle.ir_types.specs.declared.refusal.Refusal.TheVariants.{Full, IdsExhausted}
+use Rattle.ir_event.specs.types.declared.refusal.Refusal.TheVariants.{Full, IdsExhausted}
 use Rattle.patterns_runs.specs.Contents.{Edit, all_edited}
 use Rattle.patterns_base.specs.Canonicalization.{first_rule, or_else, greedy_rules, lowest}
 use Rattle.patterns_base.specs.Makes.{made_by}

@@ -1,10 +1,10 @@
 -- The edits of a rule, by what is shown of an operation.
 use Rattle.std.proofs.Common.{◌≡◌, refl, ap, sym, ◌∙◌, ℕ, List, Bool, true, false, Option, Some, None, option_map}
-use Rattle.ir_tree.specs.declared.place.Place.{Place}
-use Rattle.ir_tree.specs.Tree.{head}
-use Rattle.ir_tree.specs.Ids.{find}
-use Rattle.ir_tree.specs.Meaning.{Operation}
-use Rattle.ir_tree_laws.proofs.Members.{found_stands}
+use Rattle.ir_event.specs.trees.declared.place.Place.{Place}
+use Rattle.ir_event.specs.trees.Tree.{head}
+use Rattle.ir_event.specs.trees.Ids.{find}
+use Rattle.ir_event.specs.trees.Meaning.{Operation}
+use Rattle.ir_event.proofs.of_tree_laws.Members.{found_stands}
 use Rattle.ir_event.specs.Modules.{Module}
 use Rattle.patterns_runs.specs.Contents.{Edit}
 use Rattle.patterns_base.specs.Keeps.{given}

@@ -1,6 +1,6 @@
 -- How many operations plans make, and what edits that are made of one stand for.
 use Rattle.std.specs.Prelude.{◌≡◌, ℕ, ◌+◌, List, [], ◌∷◌}
-use Rattle.ir_types.specs.Things.{Things}
+use Rattle.ir_event.specs.types.Things.{Things}
 use Rattle.patterns_edits.specs.Contents.{Edit}
 use Rattle.patterns_edits.specs.Lists.{AllFit, edits_meaning}
 use Rattle.patterns_edits.specs.declared.edit.Edit.{Edit as Coded}

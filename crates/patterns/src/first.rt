@@ -1,7 +1,7 @@
 //! The first rule of a list that applies at an operation.
 ghost use Rattle.std.specs.Prelude.{◌≡◌, false, is_some, Err, IfOk, IfErr, IfSome, OnErr};
-ghost use Rattle.ir_types.specs.declared.refusal.Refusal.TheVariants.{NoSuchOp};
-ghost use Rattle.ir_tree.specs.Ids.{has_id};
+ghost use Rattle.ir_event.specs.types.declared.refusal.Refusal.TheVariants.{NoSuchOp};
+ghost use Rattle.ir_event.specs.trees.Ids.{has_id};
 ghost use Rattle.patterns_base.specs.Canonicalization.{first_rule};
 ghost use Rattle.patterns_base.specs.Rewrites.{rewrite_of};
 ghost use Rattle.patterns_runs.specs.Benched.{Keeps};
@@ -16,8 +16,8 @@ use crate::plan::Planned;
 use crate::rows::Rows;
 use ir_event::analysis::Analysis;
 use ir_event::world::World;
-use ir_types::ids::OpId;
-use ir_types::refusal::Refusal;
+use ir_event::types::ids::OpId;
+use ir_event::types::refusal::Refusal;
 use patterns_base::laws::only_listed_rules_apply;
 use patterns_base::rule::Rule;
 use patterns_facts::laws::no_edit_is_refused;

@@ -5,8 +5,8 @@ ghost use Rattle.patterns_reads.specs.Reads.{head_at, head_in};
 ghost use Rattle.patterns.specs.Lowest.{AreLikely, BeginsLikely, IsLeftOut, IsLikely};
 
 use ir_event::world::World;
-use ir_store::node::Node;
-use ir_types::ids::OpId;
+use ir_event::store::node::Node;
+use ir_event::types::ids::OpId;
 use patterns_base::rule::Rule;
 use patterns_plans::dead::is_dead;
 use patterns_plans::may::may_apply;

@@ -1,7 +1,7 @@
 //! The lowest rule that applies at an operation.
 ghost use Rattle.std.specs.Prelude.{◌≡◌, false, true, is_some, Err, IfOk, IfErr, IfSome, OnErr, Some};
-ghost use Rattle.ir_types.specs.declared.refusal.Refusal.TheVariants.{NoSuchOp};
-ghost use Rattle.ir_tree.specs.Ids.{has_id};
+ghost use Rattle.ir_event.specs.types.declared.refusal.Refusal.TheVariants.{NoSuchOp};
+ghost use Rattle.ir_event.specs.trees.Ids.{has_id};
 ghost use Rattle.ir_event.specs.Modules.{NodeIsOf, module_in};
 ghost use Rattle.patterns_base.specs.Canonicalization.{lowest as lowest_of};
 ghost use Rattle.patterns_base.specs.Looks.{front_of, is_clean as clean_at};
@@ -17,10 +17,10 @@ use crate::likely::{is_likely, likely};
 use crate::plan::{Made, Planned, made_at, made_dead};
 use ir_event::analysis::Analysis;
 use ir_event::world::World;
-use ir_store::node::Node;
-use ir_tree::place::Place;
-use ir_types::ids::OpId;
-use ir_types::refusal::Refusal;
+use ir_event::store::node::Node;
+use ir_event::trees::place::Place;
+use ir_event::types::ids::OpId;
+use ir_event::types::refusal::Refusal;
 use patterns_base::laws::only_listed_rules_apply;
 use patterns_base::rule::Rule;
 use patterns_base::table::rules_of;

@@ -1,6 +1,6 @@
 //! From what a rule makes to its edits.
 ghost use Rattle.std.specs.Prelude.{◌≡◌, ◌+◌, ◌≤◌, IfOk, IfErr};
-ghost use Rattle.ir_tree.specs.Limits.{most_next};
+ghost use Rattle.ir_event.specs.trees.Limits.{most_next};
 ghost use Rattle.patterns_reads.specs.Plans.{PlanIsOf, plan_meaning};
 ghost use Rattle.patterns_runs.specs.Interning.{Added, IsNoRoom};
 ghost use Rattle.patterns.specs.Making.{StandsFor, made_makes, plan_makes};
@@ -10,7 +10,7 @@ use crate::plan::Made;
 use crate::plans::{choice, combination, constant, difference, mirrored, recast, remainder};
 use crate::site::Site;
 use ir_event::analysis::Analysis;
-use ir_types::refusal::Refusal;
+use ir_event::types::refusal::Refusal;
 use patterns_lowering::edits::lowering_edits;
 use patterns_reads::plan::Plan;
 use patterns_runs::Bench;

@@ -12,9 +12,9 @@ ghost use Rattle.patterns_reads.specs.Reads.{head_at, head_in};
 ghost use Rattle.patterns.specs.Planned.{IsMadeFor, IsPlanFor, MadeIsOf, made_edits, planned_edits};
 
 use ir_event::world::World;
-use ir_store::node::Node;
-use ir_tree::place::Place;
-use ir_types::ids::OpId;
+use ir_event::store::node::Node;
+use ir_event::trees::place::Place;
+use ir_event::types::ids::OpId;
 use patterns_base::rule::Rule;
 use patterns_lowering::plan::Lowering;
 use patterns_lowering::plans::plan_lowered;

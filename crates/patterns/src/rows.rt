@@ -4,7 +4,7 @@ ghost use Rattle.std.specs.List.{filter, list_any};
 ghost use Rattle.patterns_base.specs.RuleNames.{same_rule};
 ghost use Rattle.patterns.specs.Rows.{AreRowsOf, IsByName, row_at};
 
-use ir_types::ids::NameId;
+use ir_event::types::ids::NameId;
 use patterns_base::rule::Rule;
 use patterns_base::table::rules_of;
 use std::alloc::{AllocError, Global};

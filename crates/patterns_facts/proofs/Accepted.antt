@@ -1,13 +1,13 @@
 -- Each rule.
 use Rattle.std.proofs.Common.{◌≡◌, refl, ap, sym, ◌∙◌, ℕ, ◌+◌, Bool, true, false, List, Some, leb-true, if◌then◌else◌}
 use Rattle.std.specs.Prelude.{nat_le}
-use Rattle.ir_types.specs.declared.refusal.Refusal.TheVariants.{Full, IdsExhausted}
-use Rattle.ir_tree.specs.declared.place.Place.{Place}
-use Rattle.ir_tree.specs.Tree.{head}
-use Rattle.ir_tree.specs.Ids.{find, op_count}
-use Rattle.ir_tree.specs.Limits.{most_next, most_ops}
-use Rattle.ir_tree.specs.Meaning.{Operation}
-use Rattle.ir_tree_laws.proofs.Members.{found_stands}
+use Rattle.ir_event.specs.types.declared.refusal.Refusal.TheVariants.{Full, IdsExhausted}
+use Rattle.ir_event.specs.trees.declared.place.Place.{Place}
+use Rattle.ir_event.specs.trees.Tree.{head}
+use Rattle.ir_event.specs.trees.Ids.{find, op_count}
+use Rattle.ir_event.specs.trees.Limits.{most_next, most_ops}
+use Rattle.ir_event.specs.trees.Meaning.{Operation}
+use Rattle.ir_event.proofs.of_tree_laws.Members.{found_stands}
 use Rattle.ir_event.specs.Modules.{Module}
 use Rattle.rewriter_machine.specs.Contents.{Edit, all_edited}
 use Rattle.patterns_edits.specs.Lists.{Free}

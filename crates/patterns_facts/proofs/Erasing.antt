@@ -1,8 +1,8 @@
 -- Erasing what is dead.
 use Rattle.std.proofs.Common.{refl, ℕ}
-use Rattle.ir_tree.specs.declared.place.Place.{Place}
-use Rattle.ir_tree.specs.Tree.{head}
-use Rattle.ir_tree.specs.Meaning.{Operation}
+use Rattle.ir_event.specs.trees.declared.place.Place.{Place}
+use Rattle.ir_event.specs.trees.Tree.{head}
+use Rattle.ir_event.specs.trees.Meaning.{Operation}
 use Rattle.patterns_base.specs.Looks.{Header}
 use Rattle.patterns_base.specs.Folding.{erase_dead}
 use Rattle.patterns_base.specs.Rules.{rule}

@@ -1,9 +1,9 @@
 -- Rules that say an operation by others.
 use Rattle.std.proofs.Common.{◌≡◌, refl, ℕ}
 use Rattle.std.specs.Prelude.{codes}
-use Rattle.ir_tree.specs.declared.place.Place.{Place}
-use Rattle.ir_tree.specs.Tree.{head}
-use Rattle.ir_tree.specs.Meaning.{Operation}
+use Rattle.ir_event.specs.trees.declared.place.Place.{Place}
+use Rattle.ir_event.specs.trees.Tree.{head}
+use Rattle.ir_event.specs.trees.Meaning.{Operation}
 use Rattle.patterns_base.specs.Words.{named}
 use Rattle.patterns_base.specs.Looks.{Header, two}
 use Rattle.patterns_base.specs.Rules.{rule}

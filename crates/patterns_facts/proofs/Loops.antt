@@ -2,19 +2,19 @@
 use Rattle.std.proofs.Common.{◌≡◌, refl, ap, sym, ◌∙◌, subst, ℕ, zero, suc, ◌<◌, ◌≤◌, Bool, true, false, List, [], ◌∷◌, ◌++◌, length, map, Some, option_map, inl, inr, ◌⊎◌, if◌then◌else◌, arith}
 use Rattle.std.specs.Prelude.{codes, drop, int_lt, is_some, slice_get}
 use Rattle.std.proofs.lemmas.Slice.Eq.{bytes_eq-Decides}
-use Rattle.ir_types.specs.Words.{is_isolated, is_table}
-use Rattle.ir_types.specs.Terms.{TypeTerm}
-use Rattle.ir_tree.specs.declared.value.Value.{Value}
-use Rattle.ir_tree.specs.declared.value.Value.TheVariants.{Arg}
-use Rattle.ir_tree.specs.declared.place.Place.{Place}
-use Rattle.ir_tree.specs.Tree.{block, no_ops, next, head, regions}
-use Rattle.ir_tree.specs.Ids.{find}
-use Rattle.ir_tree.specs.Uses.{uses_of}
-use Rattle.ir_tree.specs.Meaning.{Operation}
-use Rattle.ir_tree_laws.specs.Members.{In}
-use Rattle.ir_tree_laws.specs.Values.{region_at, type_of_value}
-use Rattle.ir_tree_laws.proofs.Listed.{in_map, in_mapped}
-use Rattle.ir_tree_laws.proofs.Members.{joined_ops}
+use Rattle.ir_event.specs.types.Words.{is_isolated, is_table}
+use Rattle.ir_event.specs.types.Terms.{TypeTerm}
+use Rattle.ir_event.specs.trees.declared.value.Value.{Value}
+use Rattle.ir_event.specs.trees.declared.value.Value.TheVariants.{Arg}
+use Rattle.ir_event.specs.trees.declared.place.Place.{Place}
+use Rattle.ir_event.specs.trees.Tree.{block, no_ops, next, head, regions}
+use Rattle.ir_event.specs.trees.Ids.{find}
+use Rattle.ir_event.specs.trees.Uses.{uses_of}
+use Rattle.ir_event.specs.trees.Meaning.{Operation}
+use Rattle.ir_event.specs.tree_laws.Members.{In}
+use Rattle.ir_event.specs.tree_laws.Values.{region_at, type_of_value}
+use Rattle.ir_event.proofs.of_tree_laws.Listed.{in_map, in_mapped}
+use Rattle.ir_event.proofs.of_tree_laws.Members.{joined_ops}
 use Rattle.ir_verify_base.specs.Types.{same_types}
 use Rattle.ir_verify_base.specs.Fits.{there}
 use Rattle.ir_event.specs.Modules.{Module}

@@ -1,7 +1,7 @@
 -- No edit of a rule is refused for a reason.
 use Rattle.std.specs.Prelude.{◌≡◌, ℕ, List, Some}
-use Rattle.ir_types.specs.Words.{is_isolated}
-use Rattle.ir_tree.specs.WellFormed.{IsWellFormed}
+use Rattle.ir_event.specs.types.Words.{is_isolated}
+use Rattle.ir_event.specs.trees.WellFormed.{IsWellFormed}
 use Rattle.ir_event.specs.Modules.{Module}
 use Rattle.ir_event.specs.Step.{IsSorted}
 use Rattle.rewriter_machine.specs.Contents.{Edit}

@@ -1,7 +1,7 @@
 -- The rules that lower, by their names.
 use Rattle.std.proofs.Common.{◌≡◌, ap, sym, ℕ}
-use Rattle.ir_tree.specs.declared.place.Place.{Place}
-use Rattle.ir_tree.specs.Meaning.{Operation}
+use Rattle.ir_event.specs.trees.declared.place.Place.{Place}
+use Rattle.ir_event.specs.trees.Meaning.{Operation}
 use Rattle.patterns_base.specs.Lowering.{lower_index, lower_loop, lower_choice}
 use Rattle.patterns_base.specs.Rules.{rule}
 use Rattle.patterns_base.specs.declared.rule.Rule.{Rule}

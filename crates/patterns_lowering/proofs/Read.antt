@@ -1,11 +1,11 @@
 -- What is read of an operation, and how one of arith is lowered.
 use Rattle.std.proofs.Common.{◌≡◌, refl, ap, sym, ℕ, ◌+◌, ◌++◌, List, [], ◌∷◌, map, Bool, ◌&&◌, ◌||◌, Some}
-use Rattle.ir_types.specs.Terms.{TypeTerm, AttrTerm}
-use Rattle.ir_tree.specs.declared.value.Value.{Value}
-use Rattle.ir_tree.specs.declared.place.Place.{Place}
-use Rattle.ir_tree.specs.Tree.{OpOf, op, RegionsOf, no_regions, region, empty, block, no_ops, head}
-use Rattle.ir_tree.specs.Maps.{map_tree, map_head, map_regions}
-use Rattle.ir_tree.specs.Meaning.{Operation}
+use Rattle.ir_event.specs.types.Terms.{TypeTerm, AttrTerm}
+use Rattle.ir_event.specs.trees.declared.value.Value.{Value}
+use Rattle.ir_event.specs.trees.declared.place.Place.{Place}
+use Rattle.ir_event.specs.trees.Tree.{OpOf, op, RegionsOf, no_regions, region, empty, block, no_ops, head}
+use Rattle.ir_event.specs.trees.Maps.{map_tree, map_head, map_regions}
+use Rattle.ir_event.specs.trees.Meaning.{Operation}
 use Rattle.patterns_base.specs.Words.{among, index_users}
 use Rattle.patterns_base.specs.Looks.{when, is_index_value}
 use Rattle.patterns_edits.specs.Edits.{Make}

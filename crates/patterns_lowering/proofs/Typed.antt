@@ -1,9 +1,9 @@
 -- Types and regions with another type for index.
 use Rattle.std.proofs.Common.{◌≡◌, refl, ap, ◌∙◌, ℕ, List, [], ◌∷◌, map, Bool, true, false, cond}
-use Rattle.ir_types.specs.Things.{Things}
-use Rattle.ir_types.specs.Terms.{TypeTerm, Integer, Index, Function, Memref, name_term, type_term, attr_term}
-use Rattle.ir_tree.specs.Tree.{Regions, no_regions, region, empty, block, no_ops}
-use Rattle.ir_tree.specs.Maps.{map_regions}
+use Rattle.ir_event.specs.types.Things.{Things}
+use Rattle.ir_event.specs.types.Terms.{TypeTerm, Integer, Index, Function, Memref, name_term, type_term, attr_term}
+use Rattle.ir_event.specs.trees.Tree.{Regions, no_regions, region, empty, block, no_ops}
+use Rattle.ir_event.specs.trees.Maps.{map_regions}
 use Rattle.ir_verify_base.specs.Types as types
 use Rattle.patterns_base.specs.Made.{i64}
 use Rattle.patterns_base.specs.Keeps.{lowered_type}

@@ -1,7 +1,7 @@
 -- Whether the edits of plans make what is counted.
 use Rattle.std.specs.Prelude.{◌≡◌, ℕ}
-use Rattle.ir_types.specs.Things.{Things}
-use Rattle.ir_tree.specs.declared.place.Place.{Place}
+use Rattle.ir_event.specs.types.Things.{Things}
+use Rattle.ir_event.specs.trees.declared.place.Place.{Place}
 use Rattle.patterns_base.specs.Makes.{made_by}
 use Rattle.patterns_lowering.specs.declared.plan.Lowering.{Lowering}
 use Rattle.patterns_lowering.specs.Meanings.{lowering_meaning}

@@ -1,10 +1,10 @@
 -- What is interned for lowerings, in the numbers of a context.
 use Rattle.std.specs.Prelude.{◌≡◌, ℕ, List, [], ◌∷◌, ◌++◌, true, Option, Some, None}
 use Rattle.std.specs.List.{list_all}
-use Rattle.ir_types.specs.Things.{Things, IsType, IsAttr}
-use Rattle.ir_types.specs.Terms.{Index, AttrTerm, IntegerOf, type_term, attr_term}
-use Rattle.ir_tree.specs.Meaning.{is_attr, is_name}
-use Rattle.ir_tree.specs.Passing.{entry_passes}
+use Rattle.ir_event.specs.types.Things.{Things, IsType, IsAttr}
+use Rattle.ir_event.specs.types.Terms.{Index, AttrTerm, IntegerOf, type_term, attr_term}
+use Rattle.ir_event.specs.trees.Meaning.{is_attr, is_name}
+use Rattle.ir_event.specs.trees.Passing.{entry_passes}
 use Rattle.patterns_base.specs.Made.{i64}
 use Rattle.patterns_base.specs.Lowering.{lowered_attr}
 

@@ -11,8 +11,8 @@ use crate::plan::{IndexedChoice, IndexedLoop, Lowering};
 use crate::reading::{read, take};
 use crate::users::is_user;
 use ir_event::world::World;
-use ir_types::ids::OpId;
-use ir_types::word::Word;
+use ir_event::types::ids::OpId;
+use ir_event::types::word::Word;
 use patterns_base::rule::Rule;
 use std::alloc::{AllocError, Global};
 

@@ -5,8 +5,8 @@ ghost use Rattle.patterns_reads.specs.Folding.{expand_min_max, expand_difference
 ghost use Rattle.patterns_plans.specs.Planned.{FitsIn, IsPlanned};
 
 use ir_event::world::World;
-use ir_store::node::Node;
-use ir_types::word::Word;
+use ir_event::store::node::Node;
+use ir_event::types::word::Word;
 use patterns_reads::plan::Plan;
 use patterns_reads::shapes::two_of;
 use patterns_reads::types::all_ones;

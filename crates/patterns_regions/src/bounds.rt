@@ -4,7 +4,7 @@ ghost use Rattle.ir_event.specs.Modules.{module_in};
 ghost use Rattle.patterns_regions.specs.Times.{is_once, times_of};
 
 use ir_event::world::World;
-use ir_tree::value::Value;
+use ir_event::trees::value::Value;
 use patterns_reads::known::known;
 use std::alloc::{AllocError, Global};
 

@@ -1,5 +1,5 @@
 use Rattle.std.proofs.Common.{refl, sym, None}
-use Rattle.ir_tree.specs.Meaning.{meaning}
+use Rattle.ir_event.specs.trees.Meaning.{meaning}
 use Rattle.rewriter.specs.Commands as command
 use Rattle.rewriter.specs.Edits as edit
 use Rattle.rewriter.specs.Machine.{Do}

@@ -1,5 +1,5 @@
 use Rattle.std.proofs.Common.{ap}
-use Rattle.ir_types.specs.Terms.{name_term, attr_term}
+use Rattle.ir_event.specs.types.Terms.{name_term, attr_term}
 use Rattle.rewriter.specs.Commands as command
 use Rattle.rewriter.specs.Edits as edit
 use Rattle.rewriter.specs.Machine.{Do}

@@ -1,5 +1,5 @@
 use Rattle.std.proofs.Common.{rules, inl, inr, ◌≡◌}
-use Rattle.ir_types.specs.declared.refusal.Refusal.TheVariants.{IdsExhausted}
+use Rattle.ir_event.specs.types.declared.refusal.Refusal.TheVariants.{IdsExhausted}
 use Rattle.ir_text.specs.Public.{SpellsAttr}
 use Rattle.rewriter.specs.Texts.{SpellsBeside}
 use Rattle.mlir_work_session.proofs.Reading.{ids_are_late, ids_refused, unread_at, unread_at_op}

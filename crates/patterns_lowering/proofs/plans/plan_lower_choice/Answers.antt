@@ -1,6 +1,6 @@
 use Rattle.std.proofs.Common.{ap, ◌∙◌, subst}
 use Rattle.std.specs.Prelude.{codes}
-use Rattle.ir_types.specs.Terms.{name_term}
+use Rattle.ir_event.specs.types.Terms.{name_term}
 use Rattle.ir_event.specs.Modules.{module_in}
 use Rattle.patterns_base.specs.Words.{named}
 use Rattle.patterns_base.specs.Lowering.{any, lower_choice}
