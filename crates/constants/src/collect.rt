@@ -10,10 +10,10 @@ ghost use Rattle.constants.specs.Tables.{known_in, look_in, WalkedIds};
 
 use crate::table::{drop_fact, note};
 use crate::users::folded;
-use ir_event::view::View;
-use ir_event::world::World;
 use ir_event::types::bits::Bits;
 use ir_event::types::ids::OpId;
+use ir_event::view::View;
+use ir_event::world::World;
 use std::alloc::Global;
 use std::collections::BTreeMap;
 

@@ -8,10 +8,10 @@ ghost use Rattle.constants.specs.Tables.{known_in, look_in, uses_in, users_of};
 
 use crate::table::{drop_fact, fact};
 use crate::users::uses_of;
-use ir_event::view::View;
 use ir_event::store::uses::UsesOf;
 use ir_event::types::bits::Bits;
 use ir_event::types::ids::OpId;
+use ir_event::view::View;
 use std::collections::BTreeMap;
 
 /// Adds an operation to a trail. It is false where memory was refused.

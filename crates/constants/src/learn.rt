@@ -10,10 +10,10 @@ ghost use Rattle.constants.specs.Tables.{known_in, look_in, uses_in, users_of};
 use crate::forget::push;
 use crate::table::{fact, note};
 use crate::users::{folded, uses_of};
-use ir_event::view::View;
 use ir_event::store::uses::UsesOf;
 use ir_event::types::bits::Bits;
 use ir_event::types::ids::OpId;
+use ir_event::view::View;
 use std::alloc::Global;
 use std::collections::BTreeMap;
 

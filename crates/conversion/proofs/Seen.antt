@@ -13,10 +13,10 @@ use Rattle.ir_event.proofs.of_tree_laws.Contents.{map_has_id}
 use Rattle.ir_event.specs.Listener.{Listener}
 use Rattle.ir_event.specs.Modules.{Module, module_in, module_meaning}
 use Rattle.ir_event.specs.declared.world.World.{World}
-use Rattle.rewriter.proofs.Calls.{stepped, unstepped}
-use Rattle.rewriter.proofs.Told.{heard_none}
-use Rattle.rewriter.specs.Machine.{Goes, Nothing, Step}
-use Rattle.rewriter.specs.Wholes.{IsFinished}
+use Rattle.patterns.proofs.of_rewriter.Calls.{stepped, unstepped}
+use Rattle.patterns.proofs.of_rewriter.Told.{heard_none}
+use Rattle.patterns.specs.rewriter.Machine.{Goes, Nothing, Step}
+use Rattle.patterns.specs.rewriter.Wholes.{IsFinished}
 use Rattle.patterns.specs.runs.Interning.{IsFull as AddedFull}
 use Rattle.patterns.specs.Applied.{Applied, Gave, IsReason}
 use Rattle.patterns.specs.Benched.{Benched, Keeps, Led, reply_of, state_of}

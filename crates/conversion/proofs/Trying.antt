@@ -8,8 +8,8 @@ use Rattle.ir_event.specs.types.declared.refusal.Refusal.{Refusal}
 use Rattle.ir_event.specs.trees.Ids.{has_id}
 use Rattle.ir_event.proofs.of_tree_laws.Listed.{both}
 use Rattle.ir_event.specs.Modules.{Module}
-use Rattle.rewriter.specs.Held.{Held}
-use Rattle.rewriter.specs.Rolling.{Dropped}
+use Rattle.patterns.specs.rewriter.Held.{Held}
+use Rattle.patterns.specs.rewriter.Rolling.{Dropped}
 use Rattle.conversion.specs.declared.tried.Tried.{Tried}
 use Rattle.conversion_base.specs.Rewrites.{Rewrite, none, refused, becomes, rewrite_of}
 use Rattle.conversion_base.specs.Rule.{Rule}

@@ -5,7 +5,7 @@ use Rattle.ir_event.specs.types.Things.{Things, Grows}
 use Rattle.ir_event.specs.types.declared.refusal.Refusal.{Refusal}
 use Rattle.ir_event.specs.types.declared.refusal.Refusal.TheVariants.{Memory, Full}
 use Rattle.ir_event.specs.Modules.{Module}
-use Rattle.rewriter.specs.Held.{Held}
+use Rattle.patterns.specs.rewriter.Held.{Held}
 use Rattle.patterns.specs.runs.Runs.{Noted}
 use Rattle.conversion_base.specs.Machine.{OpenMark}
 use Rattle.conversion_base.specs.Rewrites.{Rewrite, none, refused, becomes}

@@ -20,10 +20,10 @@ use ir_event::types::ids::OpId;
 use ir_event::types::refusal::Refusal;
 use patterns::apply::apply;
 use patterns::limits::limit_reason;
+use patterns::rewriter::finish::finish;
 use patterns::runs::Bench;
 use patterns::runs::carry::carry_whole;
 use patterns::runs::edit::Edit;
-use rewriter::finish::finish;
 use std::alloc::Global;
 
 /// Applies a rule at an operation, if it is there. The answer is whether it applied.

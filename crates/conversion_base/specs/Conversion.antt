@@ -1,7 +1,8 @@
 -- Dialect conversion (Dialect Conversion, "Modes of Conversion").
 use Rattle.std.specs.Prelude.{ℕ, ◌+◌, List, [], ◌∷◌, Bool, true, false, not, if◌then◌else◌, Option, Some, None}
 use Rattle.ir_event.specs.types.declared.refusal.Refusal.{Refusal}
-use Rattle.ir_event.specs.types.declared.refusal.Refusal.TheVariants.{NotLegalised, ChainTooDeep, Unreconciled, BadTarget}
+use Rattle.ir_event.specs.types.declared.refusal.Refusal.TheVariants.{NotLegalised, ChainTooDeep}
+use Rattle.ir_event.specs.types.declared.refusal.Refusal.TheVariants.{Unreconciled, BadTarget}
 use Rattle.ir_event.specs.trees.Tree.{head}
 use Rattle.ir_event.specs.trees.Ids.{ids}
 use Rattle.ir_event.specs.trees.Limits.{every}

@@ -16,7 +16,6 @@ ghost use Rattle.conversion_base.specs.Reconciling.{index_edits, is_cast, takes_
 ghost use Rattle.conversion_base.specs.Numbers.{cast_edits, ends_from, new_cast};
 
 use crate::legal::{is_index, is_index_value};
-use ir_event::world::World;
 use ir_event::store::node::Node;
 use ir_event::trees::place::Place;
 use ir_event::trees::tree::TreeOp;
@@ -24,6 +23,7 @@ use ir_event::trees::value::Value;
 use ir_event::types::context::Context;
 use ir_event::types::ids::{OpId, TypeId};
 use ir_event::types::word::Word;
+use ir_event::world::World;
 use ir_verify_base::types::width_of;
 use patterns_edits::edit::Edit;
 use std::alloc::{AllocError, Global};

@@ -11,12 +11,12 @@ ghost use Rattle.conversion_base.specs.Targets.{names_of};
 
 use crate::accepted::is_among;
 use crate::target::Target;
-use ir_event::world::World;
 use ir_event::store::node::Node;
 use ir_event::trees::value::Value;
 use ir_event::types::context::Context;
 use ir_event::types::ids::{NameId, OpId, TypeId};
 use ir_event::types::word::Word;
+use ir_event::world::World;
 use ir_verify_base::types;
 
 /// Whether a type is `index`.

@@ -12,9 +12,9 @@ ghost use Rattle.effects.specs.Within.{list_at, regions_of};
 use crate::kinds::{EffectKinds, recursive};
 use crate::own::own;
 use crate::tally::is_kept;
-use ir_event::world::World;
 use ir_event::trees::value::Value;
 use ir_event::types::ids::OpId;
+use ir_event::world::World;
 use op_registry::own::Own;
 
 /// Whether nobody would miss what an operation has by itself.

@@ -31,9 +31,9 @@ use Rattle.patterns_base.specs.Rewrites.{edits_of}
 use Rattle.greedy.specs.Reached.{ends, any_reaches}
 use Rattle.greedy.specs.Sights.{giver as giver_id, operands_of, Uses, is_listed, last_ids}
 use Rattle.greedy.specs.Near.{Leads}
-use Rattle.patterns_facts.specs.Alike.{Same, ShowsAlike, SeesAlike, EndsAlike, LooksAlike, last_of, shape_of}
-use Rattle.patterns_facts.proofs.Looking.{when_alike, given_both}
-use Rattle.patterns_facts.proofs.Facts.{facts, lowers_not}
+use Rattle.patterns.specs.facts.Alike.{Same, ShowsAlike, SeesAlike, EndsAlike, LooksAlike, last_of, shape_of}
+use Rattle.patterns.proofs.of_facts.Looking.{when_alike, given_both}
+use Rattle.patterns.proofs.of_facts.Facts.{facts, lowers_not}
 use Rattle.greedy.specs.Listing.{Lists, Stayed, Touched}
 use Rattle.greedy.proofs.Ending.{last_ends}
 use Rattle.greedy.proofs.Reaching.{all_far}

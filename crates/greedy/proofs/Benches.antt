@@ -20,9 +20,9 @@ use Rattle.ir_event.proofs.of_tree_laws.Formed.{from_formed, ids_below}
 use Rattle.ir_event.specs.Listener.{Listener}
 use Rattle.patterns.specs.Benched.{Benched, Led, Journaled}
 use Rattle.patterns.specs.Held.{Held, module_held, module_at, open_marks, open_mark}
-use Rattle.rewriter.specs.Journals.{before}
-use Rattle.rewriter.specs.Moves.{all_noted}
-use Rattle.rewriter.specs.Mark.{Mark}
+use Rattle.patterns.specs.rewriter.Journals.{before}
+use Rattle.patterns.specs.rewriter.Moves.{all_noted}
+use Rattle.patterns.specs.rewriter.Mark.{Mark}
 use Rattle.greedy.proofs.Listed.{after_at, after_past, second_there}
 use Rattle.greedy.specs.Benches.{Formed, Onward}
 use Rattle.greedy.specs.Following.{HasFewRegions, comes_next, following}

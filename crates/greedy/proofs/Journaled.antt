@@ -7,7 +7,7 @@ use Rattle.ir_event.specs.declared.event.Event.{Event}
 use Rattle.ir_event.specs.declared.world.World.{World}
 use Rattle.ir_event.specs.Modules.{Module, module_in, module_meaning}
 use Rattle.rewriter_laws.specs.Journals.{IsJournal}
-use Rattle.rewriter.specs.Held.{Held, module_at, module_held}
+use Rattle.patterns.specs.rewriter.Held.{Held, module_at, module_held}
 use Rattle.greedy.specs.Listing.{Touched}
 use Rattle.greedy.specs.Near.{Leads}
 use Rattle.greedy.specs.Shown.{shown_operands}

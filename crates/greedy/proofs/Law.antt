@@ -30,9 +30,9 @@ use Rattle.greedy.proofs.Edits.{names, still_stays, opens_stays, stays_orderly}
 use Rattle.greedy.proofs.Nearby.{Near, widths}
 use Rattle.greedy.proofs.Listed.{Listed}
 use Rattle.greedy.proofs.Rootless.{unplaced}
-use Rattle.patterns_facts.specs.Facts.{IsNear}
-use Rattle.patterns_facts.specs.Near.{AreNear, Opens, Still}
-use Rattle.patterns_facts.proofs.Facts.{facts, lowers_not}
+use Rattle.patterns.specs.facts.Facts.{IsNear}
+use Rattle.patterns.specs.facts.Near.{AreNear, Opens, Still}
+use Rattle.patterns.proofs.of_facts.Facts.{facts, lowers_not}
 use Rattle.greedy.proofs.Starts.{Between, between, start, wide, Opened, opened}
 use Rattle.std.proofs.lemmas.Bool.{cases_Bool}
 use Rattle.rewriter_laws.proofs.Trees.{found_id}

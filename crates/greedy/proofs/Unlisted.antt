@@ -24,7 +24,7 @@ use Rattle.listeners_surroundings.specs.Surroundings.{SurroundingsOf, surround, 
 use Rattle.patterns_laws.specs.Keeps.{given}
 use Rattle.patterns_base.specs.Looks.{Header, Ended, ended, ended_by, breaks_none, is_clean, in_front, front_of}
 use Rattle.greedy.specs.Sights.{giver as giver_id}
-use Rattle.patterns_facts.specs.Alike.{ShowsAlike, last_of}
+use Rattle.patterns.specs.facts.Alike.{ShowsAlike, last_of}
 use Rattle.listeners_surroundings.proofs.Lasts.{split_last, last_stands}
 use Rattle.greedy.proofs.Lasting.{last_in}
 

@@ -6,10 +6,10 @@ ghost use Rattle.greedy.specs.Adding.{Adds, OneOf};
 ghost use Rattle.greedy.specs.Parts.{IsAround, IsOrAtEnd, IsOrEnds};
 
 use crate::push::push;
-use ir_event::world::World;
 use ir_event::store::store::Store;
 use ir_event::trees::place::Place;
 use ir_event::types::ids::OpId;
+use ir_event::world::World;
 use std::alloc::AllocError;
 
 /// Lists the operation around one that ends its block.

@@ -9,7 +9,7 @@ ghost use Rattle.greedy.specs.Outcomes.{Applied, ComeTo, IsCanonical, IsReason, 
 ghost use Rattle.greedy.specs.Outcomes.{Tells};
 ghost use Rattle.greedy.specs.Rewriting.{next_by};
 ghost use Rattle.greedy.specs.Ruled.{MayRun, rules_in};
-ghost use Rattle.rewriter.specs.Moves.{Recorded};
+ghost use Rattle.patterns.specs.rewriter.Moves.{Recorded};
 ghost use Rattle.patterns.specs.runs.Runs.{Noted};
 ghost use Rattle.greedy.specs.Work.{IsWork, Right, CoversBut, Rewritten, StillWaits, waits};
 ghost use Rattle.greedy.specs.Sights.{is_listed};

@@ -12,9 +12,9 @@ use crate::block::push_all_around;
 use crate::reach::push_all_reached;
 use crate::users::push_all_with_users;
 use ir_event::event::Event;
-use ir_event::world::World;
 use ir_event::types::ids::OpId;
 use ir_event::types::refusal::Refusal;
+use ir_event::world::World;
 use std::alloc::{AllocError, Global};
 
 /// Whether an event puts something at the end of a block.

@@ -22,5 +22,4 @@ mod using;
 mod walk;
 
 pub use ir_store_reads::trees::place;
-pub use ir_store_reads::{node, row, trees, uses};
-pub use ir_store_reads::types;
+pub use ir_store_reads::{node, row, trees, types, uses};

@@ -8,8 +8,8 @@ ghost use Rattle.listeners.specs.Following.{IsFollowed, HasNow, adds_no_use, ope
 
 use crate::table::Table;
 use ir_event::event::Event;
-use ir_event::view::View;
 use ir_event::types::ids::OpId;
+use ir_event::view::View;
 use std::alloc::Global;
 
 /// Gives an operation the operands that the view shows. It is false where memory was refused, or it isn't shown.

@@ -16,10 +16,10 @@ use crate::around::Around;
 use crate::gather::{around_of, gather, shown};
 use ir_event::event::Event;
 use ir_event::registry::registry::Registry;
-use ir_event::view::View;
 use ir_event::trees::place::Place;
 use ir_event::types::context::Context;
 use ir_event::types::ids::{NameId, OpId};
+use ir_event::view::View;
 use std::alloc::{AllocError, Global};
 use std::collections::BTreeMap;
 

@@ -15,9 +15,9 @@ ghost use Rattle.listeners_surroundings.specs.declared.around.Outer.{Outer as Ga
 
 use crate::around::{Around, Outer};
 use ir_event::store::node::Node;
-use ir_event::view::View;
 use ir_event::trees::value::Value;
 use ir_event::types::ids::{NameId, OpId, TypeId};
+use ir_event::view::View;
 use std::alloc::{AllocError, Global};
 
 /// What an operation of the module that the view shows is and has around it, or none where it isn't there. Memory is

@@ -10,9 +10,9 @@ ghost use Rattle.listeners_surroundings.specs.Facts.{Keeps, Renewed, kept_facts,
 use crate::fact::{Fact, follow, renew};
 use ir_event::event::Event;
 use ir_event::row::Memory;
+use ir_event::types::ids::OpId;
 use ir_event::view::View;
 use ir_event::world::World;
-use ir_event::types::ids::OpId;
 use std::alloc::{AllocError, Global};
 use std::collections::BTreeMap;
 

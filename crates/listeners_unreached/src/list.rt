@@ -6,9 +6,9 @@ ghost use Rattle.listeners_unreached.specs.Marks.{left_at};
 ghost use Rattle.listeners_unreached.specs.Unreached.{unreached_of};
 
 use crate::marking;
-use ir_event::world::World;
 use ir_event::types::ids::OpId;
 use ir_event::types::refusal::Refusal;
+use ir_event::world::World;
 use listeners_symbols::table::tabulate;
 use std::alloc::{AllocError, Global};
 use std::collections::BTreeMap;

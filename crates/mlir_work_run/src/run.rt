@@ -22,11 +22,11 @@ ghost use Rattle.mlir_work_run.specs.Whole.{IsOutput, IsRefusal, WhyNot, manner_
 
 use dialects_int::tables::registry;
 use ir_event::analysis::Analysis;
-use ir_event::world::World;
 use ir_event::trees::count::op_count;
 use ir_event::trees::tree::TreeOp;
 use ir_event::types::context::Context;
 use ir_event::types::refusal::Refusal;
+use ir_event::world::World;
 use mlir_work_session::input::{MAX_INPUT_BYTES, ReadFault, read_all, script_is_too_long, split};
 use mlir_work_session::manner::Manner;
 use mlir_work_session::prints::{only_prints, print_session};

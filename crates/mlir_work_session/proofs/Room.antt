@@ -2,8 +2,8 @@
 use Rattle.std.proofs.Common.{◌≡◌, ◌∙◌, sym, ap, ◌⊎◌, inl, inr, subst, ℕ, List, [], Some, None, option_map, Result}
 use Rattle.std.specs.Prelude.{IfErr}
 use Rattle.ir_event.specs.types.declared.refusal.Refusal.{Refusal}
-use Rattle.rewriter.specs.Commands.{Command, Response, Replied, RuleName}
-use Rattle.rewriter.specs.Machine.{IsFullSo, Reply, State, Transformation}
+use Rattle.mlir_work_transforms.specs.rewriter.Commands.{Command, Response, Replied, RuleName}
+use Rattle.mlir_work_transforms.specs.rewriter.Machine.{IsFullSo, Reply, State, Transformation}
 use Rattle.greedy.specs.Changes.{canonical_reply, canonicalizing}
 use Rattle.greedy.specs.Outcomes.{IsReason}
 use Rattle.greedy.specs.declared.outcome.Outcome.{Outcome as Ended}

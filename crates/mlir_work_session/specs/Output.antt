@@ -7,9 +7,10 @@ use Rattle.ir_event.specs.Modules.{Module}
 use Rattle.ir_event.specs.Rows.{RowTerm}
 use Rattle.ir_event.specs.trees.Meaning.{Operation}
 use Rattle.ir_text.specs.Printing.{text_of}
-use Rattle.rewriter.specs.Commands.{Command, Report, Print, Response, Replied as Says, TextRefusedAt}
-use Rattle.rewriter.specs.Machine.{State, Done, DoneAs, DoneWith, Refused, RefusedOn}
-use Rattle.rewriter.specs.Panels.{Shown, Attached, has_kind}
+use Rattle.mlir_work_transforms.specs.rewriter.Commands.{Command, Report, Print}
+use Rattle.mlir_work_transforms.specs.rewriter.Commands.{Response, Replied as Says, TextRefusedAt}
+use Rattle.mlir_work_transforms.specs.rewriter.Machine.{State, Done, DoneAs, DoneWith, Refused, RefusedOn}
+use Rattle.mlir_work_transforms.specs.rewriter.Panels.{Shown, Attached, has_kind}
 use Rattle.mlir_work_script.specs.Commands.{Spoken, Nothing, Bad, Obey, line_says}
 use Rattle.mlir_work_script.specs.Limits.{most_script_bytes}
 use Rattle.mlir_work_script.specs.Lines.{lines_of}

@@ -15,12 +15,12 @@ ghost use Rattle.mlir_work_script.specs.Values.{op_text, value_text};
 ghost use Rattle.mlir_work_session.specs.RowText.{tag_text, cell_text, row_text, rows_text};
 
 use ir_event::row::{Cell, Row};
-use ir_text::attributes::put_attr;
-use ir_text::printer::put_symbol;
 use ir_event::trees::value::Value;
 use ir_event::types::bits::{Bits, BitsKind};
 use ir_event::types::context::Context;
 use ir_event::types::ids::{NameId, OpId};
+use ir_text::attributes::put_attr;
+use ir_text::printer::put_symbol;
 use itoa::Buffer;
 use mlir_work_script::cells;
 use std::alloc::{AllocError, Global};

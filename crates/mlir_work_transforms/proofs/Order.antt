@@ -20,10 +20,10 @@ use Rattle.ir_event.proofs.of_tree_laws.Around.{present_stand}
 use Rattle.ir_event.proofs.of_tree_laws.Shift.{inner_of}
 use Rattle.ir_event.proofs.of_tree_laws.Without.{same_head}
 use Rattle.ir_event.specs.Modules.{Module}
-use Rattle.rewriter.specs.Contents.{edited, edit_reason}
-use Rattle.rewriter.specs.Edits.{Erase}
-use Rattle.rewriter.specs.Held.{Held, module_held}
-use Rattle.rewriter.specs.Machine.{Fault, Outcome, Swept}
+use Rattle.conversion.specs.rewriter.Contents.{edited, edit_reason}
+use Rattle.conversion.specs.rewriter.Edits.{Erase}
+use Rattle.conversion.specs.rewriter.Held.{Held, module_held}
+use Rattle.conversion.specs.rewriter.Machine.{Fault, Outcome, Swept}
 use Rattle.listeners_symbols.specs.Roles.{role}
 use Rattle.std.specs.Prelude.{option_map}
 use Rattle.listeners_unreached.specs.Unreached.{is_definition, says_definition, unreached_of}

@@ -13,17 +13,17 @@ use Rattle.ir_event.specs.tree_laws.Reasons.{unless}
 use Rattle.ir_event.specs.Listener.{Listener}
 use Rattle.ir_event.specs.Modules.{Module, module_in, module_meaning}
 use Rattle.ir_event.specs.declared.world.World.{World}
-use Rattle.patterns_runs.specs.rewriter_bench.Moves.{Grown, Recorded, all_noted}
-use Rattle.patterns_runs.proofs.of_rewriter_bench.Told.{heard_none, heard_more}
-use Rattle.patterns_runs.specs.Benched.{Benched, Journaled}
-use Rattle.patterns_runs.specs.Contents.{Edit, all_edited}
-use Rattle.patterns_runs.specs.Held.{Held, module_held}
-use Rattle.patterns_runs.specs.Runs.{Along}
-use Rattle.patterns_runs.specs.Lists.{IsWhy}
-use Rattle.patterns_runs.proofs.Journals.{recorded_none}
-use Rattle.patterns_base.specs.Makes.{made_by}
-use Rattle.patterns_base.specs.Rewrites.{becomes, refused, carried_out}
-use Rattle.patterns_runs.specs.Interning.{Added, IsNoRoom}
+use Rattle.patterns_lowering.specs.runs.rewriter_bench.Moves.{Grown, Recorded, all_noted}
+use Rattle.patterns_lowering.proofs.of_runs.of_rewriter_bench.Told.{heard_none, heard_more}
+use Rattle.patterns_lowering.specs.runs.Benched.{Benched, Journaled}
+use Rattle.patterns_lowering.specs.runs.Contents.{Edit, all_edited}
+use Rattle.patterns_lowering.specs.runs.Held.{Held, module_held}
+use Rattle.patterns_lowering.specs.runs.Runs.{Along}
+use Rattle.patterns_lowering.specs.runs.Lists.{IsWhy}
+use Rattle.patterns_lowering.proofs.of_runs.Journals.{recorded_none}
+use Rattle.patterns_facts.specs.base.Makes.{made_by}
+use Rattle.patterns_facts.specs.base.Rewrites.{becomes, refused, carried_out}
+use Rattle.patterns_lowering.specs.runs.Interning.{Added, IsNoRoom}
 use Rattle.patterns.specs.Making.{made_makes}
 use Rattle.patterns.proofs.Counted.{made_counted}
 use Rattle.patterns.specs.Applied.{Applied, limit_reason}

@@ -7,16 +7,16 @@ use Rattle.ir_event.specs.trees.Meaning.{IsSoundIn, isolated_in}
 use Rattle.ir_event.specs.trees.WellFormed.{IsWellFormed}
 use Rattle.ir_event.specs.Modules.{Module, module_in}
 use Rattle.ir_event.specs.declared.world.World.{World}
-use Rattle.patterns_runs.specs.Held.{Held, module_held}
+use Rattle.patterns_lowering.specs.runs.Held.{Held, module_held}
 use Rattle.patterns_plans.specs.Planned.{IsPlanAt}
-use Rattle.patterns_reads.specs.Reads.{head_at}
-use Rattle.patterns_base.specs.Looks.{Header}
-use Rattle.patterns_base.specs.RuleNames.{is_canonical}
-use Rattle.patterns_base.specs.Rules.{rules_for}
-use Rattle.patterns_base.specs.declared.rule.Rule.{Rule}
+use Rattle.patterns_plans.specs.reads.Reads.{head_at}
+use Rattle.patterns_facts.specs.base.Looks.{Header}
+use Rattle.patterns_facts.specs.base.RuleNames.{is_canonical}
+use Rattle.patterns_facts.specs.base.Rules.{rules_for}
+use Rattle.patterns_facts.specs.base.declared.rule.Rule.{Rule}
 use Rattle.patterns_facts.specs.Accepted.{AreAccepted}
-use Rattle.patterns_base.specs.Canonicalization.{TableSuffices, first_rule, lowest}
-use Rattle.patterns_base.specs.Rewrites.{none, edits_of, rewrite_of, carried_out}
+use Rattle.patterns_facts.specs.base.Canonicalization.{TableSuffices, first_rule, lowest}
+use Rattle.patterns_facts.specs.base.Rewrites.{none, edits_of, rewrite_of, carried_out}
 use Rattle.patterns.specs.Applied.{Gave}
 use Rattle.patterns.specs.Lowest.{IsFirst, IsLeftOut, IsLowest, TriedFirst, greedy}
 use Rattle.patterns.specs.Planned.{IsFree, MadeIsOf, made_edits, planned_edits}

@@ -26,7 +26,7 @@ use Rattle.ir_event.proofs.of_types.Growth.{front_length}
 use Rattle.ir_event.proofs.of_types.Terms.{name_stays, type_stays, attr_stays}
 use Rattle.ir_event.proofs.of_types.WordNumbers.{word_count}
 use Rattle.ir_event.proofs.of_types.WordPlaces.{word_is}
-use Rattle.patterns_runs.specs.Interning.{IsNoRoom}
+use Rattle.patterns_lowering.specs.runs.Interning.{IsNoRoom}
 use Rattle.patterns.specs.Interned.{IsNameOf, IsTypeOf, IsAttrOf, IsPlain, FlagsOf}
 
 -- ---- numbers

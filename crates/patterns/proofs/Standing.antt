@@ -12,9 +12,9 @@ use Rattle.patterns_edits.specs.Contents.{Edit}
 use Rattle.patterns_edits.specs.Edits as edit
 use Rattle.patterns_edits.specs.declared.edit.Edit.{Edit as Coded}
 use Rattle.patterns_edits.specs.declared.edit.Edit.TheVariants as coded
-use Rattle.patterns_base.specs.Made.{i1, i64, cast}
-use Rattle.patterns_base.specs.Makes.{give, give_constant, give_new}
-use Rattle.patterns_reads.specs.Plans.{choosing, combined, dividing_by, mirroring, subtracting}
+use Rattle.patterns_facts.specs.base.Made.{i1, i64, cast}
+use Rattle.patterns_facts.specs.base.Makes.{give, give_constant, give_new}
+use Rattle.patterns_plans.specs.reads.Plans.{choosing, combined, dividing_by, mirroring, subtracting}
 use Rattle.patterns.specs.Interned.{IsNameOf, IsTypeOf, IsAttrOf, FlagsOf, DifferenceAttrs}
 use Rattle.patterns.specs.Making.{StandsFor}
 use Rattle.patterns.specs.Numbered.{giving, constant_edits, cast_edits, combined_edits, mirrored_edits, chosen_edits, difference_edits, remainder_edits}

@@ -8,10 +8,10 @@ use Rattle.ir_event.specs.trees.Limits.{most_ops, most_next}
 use Rattle.ir_event.specs.tree_laws.Reasons.{unless}
 use Rattle.ir_event.specs.Listener.{Listener}
 use Rattle.ir_event.specs.Modules.{Module}
-use Rattle.patterns_base.specs.Rewrites.{Rewrite, none, refused, becomes}
-use Rattle.patterns_runs.specs.Interning.{IsFull}
-use Rattle.patterns_runs.specs.Benched.{Benched, Led}
-use Rattle.patterns_runs.specs.Held.{open_marks}
+use Rattle.patterns_facts.specs.base.Rewrites.{Rewrite, none, refused, becomes}
+use Rattle.patterns_lowering.specs.runs.Interning.{IsFull}
+use Rattle.patterns_lowering.specs.runs.Benched.{Benched, Led}
+use Rattle.patterns_lowering.specs.runs.Held.{open_marks}
 
 -- why a module can't have k operations more, if it can't: there would be too many, or ids wouldn't be enough
 abbrev pub limit_reason : ℕ → Module → Option Refusal

@@ -1,6 +1,7 @@
 -- New operations, in the numbers of a context.
 use Rattle.std.specs.Prelude.{ℕ, List, [], ◌∷◌, Option, Some, None, option_map}
-use Rattle.ir_event.specs.types.declared.word.Word.TheVariants.{ArithConstant, ArithCmpi, ArithSelect, Value as ValueKey}
+use Rattle.ir_event.specs.types.declared.word.Word.TheVariants.{ArithConstant, ArithCmpi}
+use Rattle.ir_event.specs.types.declared.word.Word.TheVariants.{ArithSelect, Value as ValueKey}
 use Rattle.ir_event.specs.types.declared.word.Word.TheVariants.{OverflowFlags, Predicate}
 use Rattle.ir_event.specs.types.WordNames.{word_number}
 use Rattle.ir_event.specs.trees.Tree.{Op, op, no_regions}

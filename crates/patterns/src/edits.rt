@@ -11,7 +11,7 @@ use crate::site::Site;
 use ir_event::trees::value::Value;
 use ir_event::types::ids::{AttrId, NameId, OpId, TypeId};
 use ir_event::types::word::Word;
-use patterns_runs::edit::Edit;
+use patterns_lowering::runs::edit::Edit;
 use std::alloc::{AllocError, Global};
 
 /// The result of the operation that is made first at a site.

@@ -4,8 +4,8 @@ ghost use Rattle.ir_event.specs.types.Things.{IsName, IsType, TypeIsOf, AttrIsOf
 ghost use Rattle.ir_event.specs.types.Terms.{Integer, IntegerOf, Overflow, attr_node_term, name_term, type_node_term};
 ghost use Rattle.ir_event.specs.types.Terms.{type_term};
 ghost use Rattle.ir_event.specs.types.declared.node.Sign.TheVariants.{Signless};
-ghost use Rattle.patterns_base.specs.Made.{i64};
-ghost use Rattle.patterns_runs.specs.Interning.{Added, IsNoRoom};
+ghost use Rattle.patterns_facts.specs.base.Made.{i64};
+ghost use Rattle.patterns_lowering.specs.runs.Interning.{Added, IsNoRoom};
 ghost use Rattle.patterns.specs.Interned.{FlagsOf, IsAttrOf, IsPlain, IsTypeOf};
 
 use crate::operations::is_flagged;
@@ -13,7 +13,7 @@ use ir_event::analysis::Analysis;
 use ir_event::types::ids::{AttrId, NameId, TypeId};
 use ir_event::types::node::{AttrNode, Sign, TypeNode};
 use ir_event::types::refusal::Refusal;
-use patterns_runs::Bench;
+use patterns_lowering::runs::Bench;
 
 /// The number of an attribute that is no dictionary.
 fn attr<L: Analysis>(bench: &mut Bench<L>, node: AttrNode) -> Result<AttrId, Refusal>

@@ -3,10 +3,10 @@ ghost use Rattle.std.specs.Prelude.{◌≡◌, ◌+◌, ◌≤◌, IfOk, IfErr};
 ghost use Rattle.ir_event.specs.types.Things.{IsName, IsType};
 ghost use Rattle.ir_event.specs.types.Terms.{name_term, type_term};
 ghost use Rattle.ir_event.specs.trees.Limits.{most_next};
-ghost use Rattle.patterns_base.specs.Made.{cast};
-ghost use Rattle.patterns_base.specs.Makes.{give_constant, give_new};
-ghost use Rattle.patterns_reads.specs.Plans.{choosing, combined, dividing_by, mirroring, subtracting};
-ghost use Rattle.patterns_runs.specs.Interning.{Added, IsNoRoom};
+ghost use Rattle.patterns_facts.specs.base.Made.{cast};
+ghost use Rattle.patterns_facts.specs.base.Makes.{give_constant, give_new};
+ghost use Rattle.patterns_plans.specs.reads.Plans.{choosing, combined, dividing_by, mirroring, subtracting};
+ghost use Rattle.patterns_lowering.specs.runs.Interning.{Added, IsNoRoom};
 ghost use Rattle.patterns.specs.Interned.{DifferenceAttrs};
 ghost use Rattle.patterns.specs.Making.{StandsFor};
 
@@ -20,8 +20,8 @@ use ir_event::analysis::Analysis;
 use ir_event::trees::value::Value;
 use ir_event::types::ids::{AttrId, NameId, TypeId};
 use ir_event::types::refusal::Refusal;
-use patterns_runs::Bench;
-use patterns_runs::edit::Edit;
+use patterns_lowering::runs::Bench;
+use patterns_lowering::runs::edit::Edit;
 use std::alloc::Global;
 
 /// A new constant.

@@ -40,8 +40,8 @@ use Rattle.patterns_edits.proofs.Body.{list_ids}
 use Rattle.patterns_edits.proofs.Given.{seer, user}
 use Rattle.patterns_edits.proofs.Headed as headed
 use Rattle.patterns_edits.proofs.Plans.{StandsAt, sees}
-use Rattle.patterns_base.specs.Looks.{Header}
-use Rattle.patterns_base.specs.Makes.{arguments_from, replaced, replacing}
+use Rattle.patterns_yields.specs.base.Looks.{Header}
+use Rattle.patterns_yields.specs.base.Makes.{arguments_from, replaced, replacing}
 use Rattle.patterns_facts.proofs.Ordered.{Before, before_headed}
 use Rattle.patterns_facts.proofs.Results.{AreGiven, type_kept}
 use Rattle.patterns_facts.proofs.Opened.{left_alone}

@@ -17,9 +17,9 @@ use Rattle.rewriter_machine.specs.Contents.{Edit, all_edited, edited}
 use Rattle.rewriter_machine.specs.Edits.{Move}
 use Rattle.patterns_edits.specs.Lists.{Free}
 use Rattle.patterns_edits.proofs.Plans.{sees}
-use Rattle.patterns_base.specs.Looks.{Header}
-use Rattle.patterns_base.specs.Makes.{moving}
-use Rattle.patterns_base.specs.Lowering.{beside, brought, end_of, gathering}
+use Rattle.patterns_yields.specs.base.Looks.{Header}
+use Rattle.patterns_yields.specs.base.Makes.{moving}
+use Rattle.patterns_yields.specs.base.Lowering.{beside, brought, end_of, gathering}
 use Rattle.patterns_facts.proofs.Inwards as inwards
 use Rattle.patterns_facts.proofs.Moving.{HasBlock}
 use Rattle.patterns_facts.proofs.Ordered.{Before, Inside}

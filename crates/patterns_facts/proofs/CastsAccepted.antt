@@ -30,15 +30,15 @@ use Rattle.patterns_edits.proofs.Headed.{found_there}
 use Rattle.patterns_edits.proofs.Made as made_there
 use Rattle.patterns_edits.proofs.Plans as plans
 use Rattle.patterns_edits.proofs.Plans.{StandsAt, sees}
-use Rattle.patterns_base.specs.Keeps.{lowered_type}
-use Rattle.patterns_base.specs.Looks.{Header, is_index}
-use Rattle.patterns_base.specs.Made.{bridge}
-use Rattle.patterns_base.specs.Makes.{replacing, results_from}
-use Rattle.patterns_base.specs.Lowering.{bridges, crossed, indices, marked}
+use Rattle.patterns_yields.specs.base.Keeps.{lowered_type}
+use Rattle.patterns_yields.specs.base.Looks.{Header, is_index}
+use Rattle.patterns_yields.specs.base.Made.{bridge}
+use Rattle.patterns_yields.specs.base.Makes.{replacing, results_from}
+use Rattle.patterns_yields.specs.base.Lowering.{bridges, crossed, indices, marked}
 use Rattle.patterns_facts.proofs.Kept as kept
 use Rattle.patterns_facts.proofs.Kept.{Kept, kept_both, kept_none}
 use Rattle.patterns_facts.proofs.Results.{AreGiven, results_free}
-use Rattle.patterns_base.proofs.Facts.{kept_type}
+use Rattle.patterns_yields.proofs.of_base.Facts.{kept_type}
 use Rattle.std.proofs.lemmas.Option.{same_Some}
 
 -- there is room for k operations

@@ -31,9 +31,9 @@ use Rattle.patterns_edits.specs.Lists.{Free}
 use Rattle.patterns_edits.proofs.Headed.{found_there}
 use Rattle.patterns_edits.proofs.Made as made_there
 use Rattle.patterns_edits.proofs.Plans.{StandsAt, sees}
-use Rattle.patterns_base.specs.Made.{bridge, i64}
-use Rattle.patterns_base.specs.Looks.{Header}
-use Rattle.patterns_base.specs.Lowering.{before_in, bridges, brought, crossing, marked}
+use Rattle.patterns_yields.specs.base.Made.{bridge, i64}
+use Rattle.patterns_yields.specs.base.Looks.{Header}
+use Rattle.patterns_yields.specs.base.Lowering.{before_in, bridges, brought, crossing, marked}
 use Rattle.patterns_facts.proofs.Across.{inside_behind}
 use Rattle.patterns_facts.proofs.Brought as bringing
 use Rattle.patterns_facts.proofs.Brought.{Brought}

@@ -25,12 +25,12 @@ use Rattle.rewriter_machine.specs.Edits.{Erase, Make}
 use Rattle.patterns_edits.specs.Lists.{Free}
 use Rattle.patterns_edits.proofs.Front.{cut_at}
 use Rattle.patterns_edits.proofs.Plans.{StandsAt, sees}
-use Rattle.patterns_base.specs.Keeps.{given, lowered_type}
-use Rattle.patterns_base.specs.Words.{named}
-use Rattle.patterns_base.specs.Looks.{Ended, Header, body, is_index, is_index_value}
-use Rattle.patterns_base.specs.Made.{i64}
-use Rattle.patterns_base.specs.Makes.{made_by, replaced, replacing, results_from}
-use Rattle.patterns_base.specs.Lowering.{any, before_in, bridges, brought, crossed, crossing, give_lowered, index_operands, index_results, indices, lowered_id, lowered_if, lowered_op, make_lowered, marked, move_over, take_over, lower_choice}
+use Rattle.patterns_yields.specs.base.Keeps.{given, lowered_type}
+use Rattle.patterns_yields.specs.base.Words.{named}
+use Rattle.patterns_yields.specs.base.Looks.{Ended, Header, body, is_index, is_index_value}
+use Rattle.patterns_yields.specs.base.Made.{i64}
+use Rattle.patterns_yields.specs.base.Makes.{made_by, replaced, replacing, results_from}
+use Rattle.patterns_yields.specs.base.Lowering.{any, before_in, bridges, brought, crossed, crossing, give_lowered, index_operands, index_results, indices, lowered_id, lowered_if, lowered_op, make_lowered, marked, move_over, take_over, lower_choice}
 use Rattle.patterns_yields.specs.Yields.{IsCleanOf}
 use Rattle.patterns_yields.proofs.Ends.{Ending, ending}
 use Rattle.patterns_yields.proofs.Yielding.{choices_ask_truth, choices_hand_on_all}
@@ -47,10 +47,10 @@ use Rattle.patterns_facts.proofs.Spots.{Spot, here_is, sees_operand, stands_ther
 use Rattle.patterns_facts.proofs.Started.{beside_out, fit_of, fresh, lowered_at, started, started_block, started_side}
 use Rattle.patterns_facts.proofs.Steps.{Across, Fit, there_of}
 use Rattle.patterns_facts.proofs.Within as within_y
-use Rattle.patterns_base.proofs.Facts.{bridges_make, when_some}
+use Rattle.patterns_yields.proofs.of_base.Facts.{bridges_make, when_some}
 use Rattle.patterns_laws.proofs.KnownFolds.{given_some}
 use Rattle.patterns_facts.proofs.Opened.{left_alone}
-use Rattle.patterns_base.proofs.Making.{joined}
+use Rattle.patterns_yields.proofs.of_base.Making.{joined}
 use Rattle.std.proofs.lemmas.Option.{same_Some}
 
 low : 0 ≤ 1

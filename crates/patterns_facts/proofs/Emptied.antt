@@ -31,8 +31,8 @@ use Rattle.patterns_edits.specs.Lists.{Free}
 use Rattle.patterns_edits.proofs.Body.{list_ids}
 use Rattle.patterns_edits.proofs.Headed.{found_there}
 use Rattle.patterns_edits.proofs.Plans.{HasFirst, move_free, move_rest, moving, sees}
-use Rattle.patterns_base.specs.Looks.{Ended, Header}
-use Rattle.patterns_base.specs.Makes.{give_body, replacing, results_from}
+use Rattle.patterns_yields.specs.base.Looks.{Ended, Header}
+use Rattle.patterns_yields.specs.base.Makes.{give_body, replacing, results_from}
 use Rattle.patterns_yields.proofs.Ends.{Ending}
 use Rattle.patterns_facts.proofs.Results.{AreGiven, results_free}
 use Rattle.patterns_facts.proofs.Shifts.{moved_heads, moved_types}

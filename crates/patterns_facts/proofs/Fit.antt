@@ -28,8 +28,8 @@ use Rattle.patterns_edits.proofs.Headed.{found_there}
 use Rattle.patterns_edits.proofs.Made as made_there
 use Rattle.patterns_edits.proofs.Plans as plans
 use Rattle.patterns_edits.proofs.Plans.{StandsAt, sees}
-use Rattle.patterns_base.specs.Made.{Entries, made}
-use Rattle.patterns_base.specs.Makes.{give, give_new}
+use Rattle.patterns_yields.specs.base.Made.{Entries, made}
+use Rattle.patterns_yields.specs.base.Makes.{give, give_new}
 
 -- operation x, which gives one value of a type, stands behind a place, and there is room for k operations
 pub record Fit (x : ℕ) (front : Place) (ty : TypeTerm) (k : ℕ) (m : Module) : Type 0 where

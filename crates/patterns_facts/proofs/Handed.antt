@@ -22,9 +22,9 @@ use Rattle.patterns_edits.proofs.Give.{there_is}
 use Rattle.patterns_edits.proofs.Headed as headed
 use Rattle.patterns_edits.proofs.Plans as plans
 use Rattle.patterns_edits.proofs.Plans.{StandsAt, sees}
-use Rattle.patterns_base.specs.Looks.{Header}
-use Rattle.patterns_base.specs.Made.{bridge, i64}
-use Rattle.patterns_base.specs.Lowering.{bridges, crossing, marked}
+use Rattle.patterns_yields.specs.base.Looks.{Header}
+use Rattle.patterns_yields.specs.base.Made.{bridge, i64}
+use Rattle.patterns_yields.specs.base.Lowering.{bridges, crossing, marked}
 use Rattle.patterns_facts.proofs.CastsAccepted.{AreCrossed, Room, bridged, made_one}
 use Rattle.patterns_facts.proofs.Indexed.{head_there}
 use Rattle.patterns_edits.proofs.Facts.{edited_both}

@@ -23,9 +23,9 @@ use Rattle.patterns_edits.specs.Lists.{Free}
 use Rattle.patterns_edits.proofs.Give.{there_is}
 use Rattle.patterns_edits.proofs.Made as made_there
 use Rattle.patterns_edits.proofs.Plans.{StandsAt, sees}
-use Rattle.patterns_base.specs.Looks.{Header}
-use Rattle.patterns_base.specs.Made.{bridge, i64, placeholder}
-use Rattle.patterns_base.specs.Lowering.{bridges, marked}
+use Rattle.patterns_yields.specs.base.Looks.{Header}
+use Rattle.patterns_yields.specs.base.Made.{bridge, i64, placeholder}
+use Rattle.patterns_yields.specs.base.Lowering.{bridges, marked}
 use Rattle.patterns_facts.proofs.Arguments.{one_here}
 use Rattle.patterns_facts.proofs.CastsAccepted.{Room, made_one}
 use Rattle.patterns_facts.proofs.Kept as kept

@@ -36,18 +36,18 @@ use Rattle.patterns_edits.specs.Lists.{Free}
 use Rattle.patterns_edits.proofs.Headed as headed
 use Rattle.patterns_edits.proofs.Plans as plans
 use Rattle.patterns_edits.proofs.Plans.{StandsAt, sees}
-use Rattle.patterns_base.specs.Keeps.{mirrored}
-use Rattle.patterns_base.specs.Words.{among, named, swapping}
-use Rattle.patterns_base.specs.Made.{i64}
-use Rattle.patterns_base.specs.Looks.{Header, is_constant, is_known, is_number, may_go, predicate, source}
-use Rattle.patterns_base.specs.Folding.{erase_dead, swap_constant, mirror_comparison, choose_opposite}
+use Rattle.patterns_yields.specs.base.Keeps.{mirrored}
+use Rattle.patterns_yields.specs.base.Words.{among, named, swapping}
+use Rattle.patterns_yields.specs.base.Made.{i64}
+use Rattle.patterns_yields.specs.base.Looks.{Header, is_constant, is_known, is_number, may_go, predicate, source}
+use Rattle.patterns_yields.specs.base.Folding.{erase_dead, swap_constant, mirror_comparison, choose_opposite}
 use Rattle.patterns_facts.proofs.Spots.{Spot, here_is, sees_behind, sees_operand, stands_there}
 use Rattle.patterns_facts.proofs.Shapes.{source_is, three_is, two_is}
 use Rattle.ir_event.proofs.of_tree_laws.Changed.{gather_none}
 use Rattle.patterns_laws.proofs.KnownFolds.{given_some}
 use Rattle.ir_event.proofs.of_tree_laws.Nested.{unequal}
 use Rattle.std.proofs.lemmas.Option.{same_Some}
-use Rattle.patterns_base.proofs.Facts.{when_some}
+use Rattle.patterns_yields.proofs.of_base.Facts.{when_some}
 
 abbrev Entries : Type 0
 Entries = List (List ℕ × AttrTerm)

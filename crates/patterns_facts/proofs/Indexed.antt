@@ -27,17 +27,17 @@ use Rattle.patterns_edits.specs.Lists.{Free}
 use Rattle.patterns_edits.proofs.Give.{there_is}
 use Rattle.patterns_edits.proofs.Headed.{found_there}
 use Rattle.patterns_edits.proofs.Plans.{StandsAt, sees}
-use Rattle.patterns_base.specs.Keeps.{lowered_type}
-use Rattle.patterns_base.specs.Words.{among, index_users}
-use Rattle.patterns_base.specs.Looks.{Header, is_index_value}
-use Rattle.patterns_base.specs.Makes.{made_by, makes, replacing, results_from}
-use Rattle.patterns_base.specs.Made.{i64}
-use Rattle.patterns_base.specs.Lowering.{any, bridges, crossed, give_lowered, index_operands, index_results, indices, lowered_attr, lowered_header, lowered_id, lowered_op, lowered_regions, make_lowered, marked, lower_index}
+use Rattle.patterns_yields.specs.base.Keeps.{lowered_type}
+use Rattle.patterns_yields.specs.base.Words.{among, index_users}
+use Rattle.patterns_yields.specs.base.Looks.{Header, is_index_value}
+use Rattle.patterns_yields.specs.base.Makes.{made_by, makes, replacing, results_from}
+use Rattle.patterns_yields.specs.base.Made.{i64}
+use Rattle.patterns_yields.specs.base.Lowering.{any, bridges, crossed, give_lowered, index_operands, index_results, indices, lowered_attr, lowered_header, lowered_id, lowered_op, lowered_regions, make_lowered, marked, lower_index}
 use Rattle.patterns_facts.proofs.CastsAccepted.{AreCrossed, AreLowered, Bridged, MadeThere, Room, bridged, given_free, made_one}
 use Rattle.patterns_facts.proofs.Given.{HasRoom}
 use Rattle.patterns_facts.proofs.Spots.{Spot, here_is, sees_operand, stands_there}
-use Rattle.patterns_base.proofs.Facts.{bridges_make, crossed_length, when_some}
-use Rattle.patterns_base.proofs.Making.{joined}
+use Rattle.patterns_yields.proofs.of_base.Facts.{bridges_make, crossed_length, when_some}
+use Rattle.patterns_yields.proofs.of_base.Making.{joined}
 use Rattle.std.proofs.lemmas.Option.{same_Some}
 
 -- the lowered operation holds none, and is within the limits

@@ -28,11 +28,11 @@ use Rattle.ir_event.specs.Modules.{Module}
 use Rattle.rewriter_machine.specs.Contents.{Edit, all_edited, edit_reason, edited}
 use Rattle.rewriter_machine.specs.Edits.{Make}
 use Rattle.patterns_edits.specs.Lists.{Free}
-use Rattle.patterns_base.specs.Keeps.{lowered_type}
-use Rattle.patterns_base.specs.Looks.{Header, is_index}
-use Rattle.patterns_base.specs.Made.{bridge}
-use Rattle.patterns_base.specs.Makes.{arguments_from}
-use Rattle.patterns_base.specs.Lowering.{bridges, end_of, indices, marked}
+use Rattle.patterns_yields.specs.base.Keeps.{lowered_type}
+use Rattle.patterns_yields.specs.base.Looks.{Header, is_index}
+use Rattle.patterns_yields.specs.base.Made.{bridge}
+use Rattle.patterns_yields.specs.base.Makes.{arguments_from}
+use Rattle.patterns_yields.specs.base.Lowering.{bridges, end_of, indices, marked}
 use Rattle.patterns_facts.proofs.CastsAccepted.{Room}
 use Rattle.patterns_facts.proofs.ChoicesAccepted.{cast_uses}
 use Rattle.patterns_facts.proofs.Kept as kept

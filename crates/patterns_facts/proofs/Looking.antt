@@ -14,8 +14,8 @@ use Rattle.dialects_int.specs.Folds.{Known}
 use Rattle.rewriter_machine.specs.Contents.{Edit}
 use Rattle.patterns_laws.specs.Keeps.{given}
 use Rattle.patterns_laws.specs.Words.{named, among}
-use Rattle.patterns_base.specs.Looks.{Header, One, Two, Three, when, is_clean, giver, source, source_among, is_of_constant, is_constant, constant_value, known, is_number, passes, type_of, is_of_type, one, one_from, two, two_from, three, three_from, predicate}
-use Rattle.patterns_base.specs.Folding.{is_to_swap}
+use Rattle.patterns_yields.specs.base.Looks.{Header, One, Two, Three, when, is_clean, giver, source, source_among, is_of_constant, is_constant, constant_value, known, is_number, passes, type_of, is_of_type, one, one_from, two, two_from, three, three_from, predicate}
+use Rattle.patterns_yields.specs.base.Folding.{is_to_swap}
 use Rattle.patterns_facts.specs.Alike.{Same, ShowsAlike, SeesAlike}
 use Rattle.ir_event.proofs.of_tree_laws.Sees.{all_same}
 use Rattle.listeners_surroundings.proofs.Operands.{same_map}

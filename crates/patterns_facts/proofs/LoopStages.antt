@@ -42,12 +42,12 @@ use Rattle.patterns_edits.proofs.Give.{there_is}
 use Rattle.patterns_edits.proofs.Headed.{found_there}
 use Rattle.patterns_edits.proofs.Made as made_there
 use Rattle.patterns_edits.proofs.Plans.{StandsAt, sees}
-use Rattle.patterns_base.specs.Keeps.{lowered_type}
-use Rattle.patterns_base.specs.Words.{named}
-use Rattle.patterns_base.specs.Looks.{Ended, Header, body, is_index, is_index_value}
-use Rattle.patterns_base.specs.Made.{i64}
-use Rattle.patterns_base.specs.Makes.{arguments_from, replaced, replacing}
-use Rattle.patterns_base.specs.Lowering.{bridges, brought, crossed, end_of, index_operands, indices, lowered_op, marked}
+use Rattle.patterns_yields.specs.base.Keeps.{lowered_type}
+use Rattle.patterns_yields.specs.base.Words.{named}
+use Rattle.patterns_yields.specs.base.Looks.{Ended, Header, body, is_index, is_index_value}
+use Rattle.patterns_yields.specs.base.Made.{i64}
+use Rattle.patterns_yields.specs.base.Makes.{arguments_from, replaced, replacing}
+use Rattle.patterns_yields.specs.base.Lowering.{bridges, brought, crossed, end_of, index_operands, indices, lowered_op, marked}
 use Rattle.patterns_yields.proofs.Ends.{Ending, ending}
 use Rattle.patterns_facts.proofs.Across.{argument_users, before_is, one_stands}
 use Rattle.patterns_facts.proofs.Brought as bringing
@@ -73,7 +73,7 @@ use Rattle.patterns_facts.proofs.Phases.{Out, id_of}
 use Rattle.patterns_facts.proofs.Spots.{Spot, here_is, own_operand, sees_operand, stands_there}
 use Rattle.patterns_facts.proofs.Started.{absent_from, fit_of, leaf_uses, lowered_at, missing_unused, nothing_used, rel_of, shallow_out, started, started_block, started_side}
 use Rattle.patterns_facts.proofs.Steps.{Across, Fit, nothing, there_of, two_apart}
-use Rattle.patterns_base.proofs.Facts.{crossed_length, kept_type}
+use Rattle.patterns_yields.proofs.of_base.Facts.{crossed_length, kept_type}
 use Rattle.std.proofs.lemmas.Option.{slice_get_within, same_Some}
 use Rattle.ir_event.proofs.Facts.{own_id}
 use Rattle.ir_event.proofs.of_tree_laws.Facts.{new_id}

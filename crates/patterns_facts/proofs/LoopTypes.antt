@@ -31,7 +31,7 @@ use Rattle.ir_verify.specs.BlockRules.{breaks_9, ends_otherwise, isnt_wanted, la
 use Rattle.ir_verify.specs.PlaceRules.{differ, ended_of, if_well_shaped, passed}
 use Rattle.ir_event.specs.Modules.{Module}
 use Rattle.patterns_edits.proofs.Plans.{sees}
-use Rattle.patterns_base.specs.Looks.{Ended, body}
+use Rattle.patterns_yields.specs.base.Looks.{Ended, body}
 use Rattle.patterns_yields.proofs.Ends.{Ending, ending, names_at}
 use Rattle.patterns_yields.proofs.Unbroken.{Unbroken, clean_unbroken, spoken}
 use Rattle.patterns_facts.proofs.CleanBlocks.{block_is, unbroken_there}

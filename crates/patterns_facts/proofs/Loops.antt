@@ -23,12 +23,12 @@ use Rattle.patterns_edits.specs.Lists.{Free}
 use Rattle.patterns_edits.proofs.Body.{list_ids}
 use Rattle.patterns_edits.proofs.Headed.{found_there}
 use Rattle.patterns_edits.proofs.Plans.{HasFirst, sees}
-use Rattle.patterns_base.specs.Keeps.{given}
+use Rattle.patterns_yields.specs.base.Keeps.{given}
 use Rattle.dialects_int.specs.Folds.{Known}
-use Rattle.patterns_base.specs.Words.{named}
-use Rattle.patterns_base.specs.Looks.{Ended, Header, body, is_number, known, when}
-use Rattle.patterns_base.specs.Makes.{give_body}
-use Rattle.patterns_base.specs.Opening.{Loop, by_bounds, by_end, goes_once, loop_from, never, once, opened, reading, open_loop, stop_loop}
+use Rattle.patterns_yields.specs.base.Words.{named}
+use Rattle.patterns_yields.specs.base.Looks.{Ended, Header, body, is_number, known, when}
+use Rattle.patterns_yields.specs.base.Makes.{give_body}
+use Rattle.patterns_yields.specs.base.Opening.{Loop, by_bounds, by_end, goes_once, loop_from, never, once, opened, reading, open_loop, stop_loop}
 use Rattle.patterns_yields.specs.Yields.{IsCleanOf}
 use Rattle.patterns_yields.proofs.Ends.{Ending, ending}
 use Rattle.patterns_yields.proofs.Yielding.{loop_types}
@@ -42,7 +42,7 @@ use Rattle.patterns_facts.proofs.Spots.{Spot, here_is, sees_operand, stands_ther
 use Rattle.patterns_laws.proofs.KnownFolds.{given_some}
 use Rattle.patterns_facts.proofs.LoopStages.{got_none}
 use Rattle.std.proofs.lemmas.Option.{same_Some}
-use Rattle.patterns_base.proofs.Facts.{when_some}
+use Rattle.patterns_yields.proofs.of_base.Facts.{when_some}
 
 module _ (m : Module) (o : Operation) (front : Place) (s : Spot m o front) where
   abbrev x : ℕ

@@ -26,12 +26,12 @@ use Rattle.patterns_edits.proofs.Front.{stands_before}
 use Rattle.patterns_edits.proofs.Headed.{found_there}
 use Rattle.patterns_edits.proofs.Made as made_there
 use Rattle.patterns_edits.proofs.Plans.{StandsAt, sees}
-use Rattle.patterns_base.specs.Keeps.{given, lowered_type}
-use Rattle.patterns_base.specs.Words.{named}
-use Rattle.patterns_base.specs.Looks.{Ended, Header, body, is_index, is_index_value}
-use Rattle.patterns_base.specs.Made.{bridge, i64, placeholder}
-use Rattle.patterns_base.specs.Makes.{arguments_from, erasing, made_by, replaced, replacing, results_from}
-use Rattle.patterns_base.specs.Lowering.{any, before_in, bridges, brought, crossed, crossing, end_of, give_lowered, index_operands, indices, lower_loop, lowered_id, lowered_loop, make_lowered, marked, move_over, take_over}
+use Rattle.patterns_yields.specs.base.Keeps.{given, lowered_type}
+use Rattle.patterns_yields.specs.base.Words.{named}
+use Rattle.patterns_yields.specs.base.Looks.{Ended, Header, body, is_index, is_index_value}
+use Rattle.patterns_yields.specs.base.Made.{bridge, i64, placeholder}
+use Rattle.patterns_yields.specs.base.Makes.{arguments_from, erasing, made_by, replaced, replacing, results_from}
+use Rattle.patterns_yields.specs.base.Lowering.{any, before_in, bridges, brought, crossed, crossing, end_of, give_lowered, index_operands, indices, lower_loop, lowered_id, lowered_loop, make_lowered, marked, move_over, take_over}
 use Rattle.patterns_yields.specs.Yields.{IsCleanOf}
 use Rattle.patterns_yields.proofs.Yielding.{loops_hand_on_all}
 use Rattle.patterns_facts.proofs.Across.{inside_behind}
@@ -50,9 +50,9 @@ use Rattle.patterns_facts.proofs.Ordered.{later_shows}
 use Rattle.patterns_facts.proofs.PairsAccepted.{holds_are, pairs_are}
 use Rattle.patterns_facts.proofs.Replacing.{Near, near_headed, near_kept, pair_edits}
 use Rattle.patterns_facts.proofs.Spots.{Spot}
-use Rattle.patterns_base.proofs.Facts.{bridges_make, when_some}
+use Rattle.patterns_yields.proofs.of_base.Facts.{bridges_make, when_some}
 use Rattle.patterns_laws.proofs.KnownFolds.{given_some}
-use Rattle.patterns_base.proofs.Making.{joined}
+use Rattle.patterns_yields.proofs.of_base.Making.{joined}
 use Rattle.std.proofs.lemmas.Option.{same_Some}
 
 regrouped : (a b c d e f g h i j : List Edit) → ((((((((a ++ b) ++ c) ++ d) ++ e) ++ f) ++ g) ++ h) ++ i) ++ j ≡ a ++ (b ++ (c ++ (d ++ (e ++ (f ++ (g ++ (h ++ (i ++ j))))))))

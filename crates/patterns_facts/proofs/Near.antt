@@ -9,10 +9,10 @@ use Rattle.ir_event.specs.trees.Meaning.{Operation}
 use Rattle.ir_event.specs.tree_laws.Values.{region_at}
 use Rattle.rewriter_machine.specs.Contents.{Edit}
 use Rattle.rewriter_machine.specs.Edits.{Erase}
-use Rattle.patterns_base.specs.Keeps.{given}
-use Rattle.patterns_base.specs.Looks.{Ended, when, is_clean, ended, ended_by, body}
-use Rattle.patterns_base.specs.Makes.{give_body, replacing, moving, results_from, arguments_from, replaced}
-use Rattle.patterns_base.specs.Opening.{opened}
+use Rattle.patterns_yields.specs.base.Keeps.{given}
+use Rattle.patterns_yields.specs.base.Looks.{Ended, when, is_clean, ended, ended_by, body}
+use Rattle.patterns_yields.specs.base.Makes.{give_body, replacing, moving, results_from, arguments_from, replaced}
+use Rattle.patterns_yields.specs.base.Opening.{opened}
 use Rattle.patterns_facts.specs.Near.{Still, Opens, AreNear}
 use Rattle.patterns_facts.proofs.Looking.{when_some}
 

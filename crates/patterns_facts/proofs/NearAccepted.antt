@@ -44,7 +44,7 @@ use Rattle.patterns_edits.proofs.Front.{stands_before}
 use Rattle.patterns_edits.proofs.Given.{seen_is, user}
 use Rattle.patterns_edits.proofs.Headed as headed
 use Rattle.patterns_edits.proofs.Plans.{StandsAt, sees}
-use Rattle.patterns_base.specs.Looks.{Header}
+use Rattle.patterns_yields.specs.base.Looks.{Header}
 use Rattle.patterns_facts.proofs.Across.{argument_within, before_is, behind_inside, child_within, inside_behind, not_root}
 use Rattle.patterns_facts.proofs.Arguments.{replaced_uses}
 use Rattle.patterns_facts.proofs.CastsAccepted.{Room}

@@ -24,13 +24,13 @@ use Rattle.rewriter_machine.specs.Contents.{Edit, edited}
 use Rattle.rewriter_machine.specs.Edits.{Make}
 use Rattle.patterns_edits.specs.Lists.{Free}
 use Rattle.patterns_edits.proofs.Plans.{sees}
-use Rattle.patterns_base.specs.Keeps.{holds_of_itself}
-use Rattle.patterns_base.specs.Words.{among, asking, cancelling, dividing, extensions, flagged, named, regrouping, remainders}
-use Rattle.patterns_base.specs.Made.{Entries, binary, cast, choice, comparison, constant, flags, i1, made, predicate_entry, value_entry}
-use Rattle.patterns_base.specs.Looks.{Header, is_number, is_of_type, known, one, predicate, source, source_among, when}
-use Rattle.patterns_base.specs.Makes.{give, give_constant, give_new}
-use Rattle.patterns_base.specs.Casting.{resizing, extend_extension, cut_cast}
-use Rattle.patterns_base.specs.Folding.{folded_to, may_read, fold_to_constant, cancel_itself, zero_remainder, regroup_constants, add_negative, compare_itself, compare_zero, expand_min_max, expand_difference, expand_remainder}
+use Rattle.patterns_yields.specs.base.Keeps.{holds_of_itself}
+use Rattle.patterns_yields.specs.base.Words.{among, asking, cancelling, dividing, extensions, flagged, named, regrouping, remainders}
+use Rattle.patterns_yields.specs.base.Made.{Entries, binary, cast, choice, comparison, constant, flags, i1, made, predicate_entry, value_entry}
+use Rattle.patterns_yields.specs.base.Looks.{Header, is_number, is_of_type, known, one, predicate, source, source_among, when}
+use Rattle.patterns_yields.specs.base.Makes.{give, give_constant, give_new}
+use Rattle.patterns_yields.specs.base.Casting.{resizing, extend_extension, cut_cast}
+use Rattle.patterns_yields.specs.base.Folding.{folded_to, may_read, fold_to_constant, cancel_itself, zero_remainder, regroup_constants, add_negative, compare_itself, compare_zero, expand_min_max, expand_difference, expand_remainder}
 use Rattle.patterns_facts.proofs.Spots.{Giver, Spot, sees_behind, sees_operand}
 use Rattle.patterns_facts.proofs.Fit as fit
 use Rattle.patterns_facts.proofs.Fit.{Fit}
@@ -38,7 +38,7 @@ use Rattle.patterns_facts.proofs.Shapes.{one_is, source_among_is, source_is, two
 use Rattle.patterns_facts.proofs.Given.{HasRoom, fits, gives_behind}
 use Rattle.patterns_laws.proofs.KnownFolds.{given_some}
 use Rattle.std.proofs.lemmas.Option.{same_Some}
-use Rattle.patterns_base.proofs.Facts.{when_some}
+use Rattle.patterns_yields.proofs.of_base.Facts.{when_some}
 
 pub few_flags : (name : List ℕ) → items_fit (flags name) ≡ true
 few_flags name = go (among flagged name)

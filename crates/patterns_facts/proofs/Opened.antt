@@ -21,11 +21,11 @@ use Rattle.rewriter_machine.specs.Edits.{Erase}
 use Rattle.patterns_edits.specs.Lists.{Free}
 use Rattle.patterns_edits.proofs.Headed.{found_there}
 use Rattle.patterns_edits.proofs.Plans as plans
-use Rattle.patterns_base.specs.Keeps.{given}
-use Rattle.patterns_base.specs.Words.{named}
-use Rattle.patterns_base.specs.Looks.{Ended, Header, body, known}
-use Rattle.patterns_base.specs.Makes.{give_body, replaced}
-use Rattle.patterns_base.specs.Opening.{by_condition, chosen, opened, open_branch}
+use Rattle.patterns_yields.specs.base.Keeps.{given}
+use Rattle.patterns_yields.specs.base.Words.{named}
+use Rattle.patterns_yields.specs.base.Looks.{Ended, Header, body, known}
+use Rattle.patterns_yields.specs.base.Makes.{give_body, replaced}
+use Rattle.patterns_yields.specs.base.Opening.{by_condition, chosen, opened, open_branch}
 use Rattle.patterns_yields.specs.Yields.{IsCleanOf}
 use Rattle.patterns_yields.proofs.Ends.{ending}
 use Rattle.patterns_yields.proofs.Yielding.{choice_types}
@@ -34,7 +34,7 @@ use Rattle.patterns_facts.proofs.Emptied.{HaveTypes, body_free, has_first, have_
 use Rattle.patterns_facts.proofs.Spots.{Spot, here_is, stands_there}
 use Rattle.patterns_laws.proofs.KnownFolds.{given_some}
 use Rattle.std.proofs.lemmas.Option.{same_Some}
-use Rattle.patterns_base.proofs.Facts.{when_some}
+use Rattle.patterns_yields.proofs.of_base.Facts.{when_some}
 
 pub left_alone : (vs : List Value) → map (replaced [] []) vs ≡ vs
 left_alone [] = refl

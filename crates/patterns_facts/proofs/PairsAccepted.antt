@@ -8,9 +8,9 @@ use Rattle.ir_event.specs.trees.declared.place.Place.{Place}
 use Rattle.ir_event.specs.trees.Uses.{same_value}
 use Rattle.ir_event.specs.tree_laws.Members.{In}
 use Rattle.rewriter_machine.specs.Edits.{Erase, Replace}
-use Rattle.patterns_base.specs.Looks.{is_index}
-use Rattle.patterns_base.specs.Makes.{arguments_from, erasing, replaced, replacing}
-use Rattle.patterns_base.specs.Lowering.{crossed, indices}
+use Rattle.patterns_yields.specs.base.Looks.{is_index}
+use Rattle.patterns_yields.specs.base.Makes.{arguments_from, erasing, replaced, replacing}
+use Rattle.patterns_yields.specs.base.Lowering.{crossed, indices}
 use Rattle.patterns_facts.proofs.Erased.{AllOther, Held, erase_edits}
 use Rattle.patterns_facts.proofs.Holders.{holders_from}
 use Rattle.patterns_facts.proofs.Replacing.{AllApart, Pair, pair_edits}

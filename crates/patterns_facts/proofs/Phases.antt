@@ -19,9 +19,9 @@ use Rattle.rewriter_machine.specs.Contents.{Edit, all_edited, edit_reason, edite
 use Rattle.rewriter_machine.specs.Edits.{Move}
 use Rattle.patterns_edits.specs.Lists.{Free}
 use Rattle.patterns_edits.proofs.Plans.{sees}
-use Rattle.patterns_base.specs.Looks.{Header}
-use Rattle.patterns_base.specs.Makes.{moving}
-use Rattle.patterns_base.specs.Lowering.{before_in, beside, end_of, gathering}
+use Rattle.patterns_yields.specs.base.Looks.{Header}
+use Rattle.patterns_yields.specs.base.Makes.{moving}
+use Rattle.patterns_yields.specs.base.Lowering.{before_in, beside, end_of, gathering}
 use Rattle.patterns_facts.proofs.Across.{not_parent}
 use Rattle.patterns_facts.proofs.CastsAccepted.{Room}
 use Rattle.patterns_facts.proofs.Inwards as inwards

@@ -40,7 +40,7 @@ use Rattle.patterns_edits.proofs.Front.{stands_before}
 use Rattle.patterns_edits.proofs.Given.{user}
 use Rattle.patterns_edits.proofs.Headed as headed
 use Rattle.patterns_edits.proofs.Plans.{StandsAt, sees}
-use Rattle.patterns_base.specs.Looks.{Header}
+use Rattle.patterns_yields.specs.base.Looks.{Header}
 use Rattle.patterns_facts.proofs.Across.{before_is, behind_inside, inside_behind, later_outside, not_root, own_depth}
 use Rattle.patterns_facts.proofs.Arguments.{replaced_uses}
 use Rattle.patterns_facts.proofs.CastsAccepted.{Room}

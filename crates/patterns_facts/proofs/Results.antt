@@ -28,7 +28,7 @@ use Rattle.patterns_edits.proofs.Given.{users_see_it}
 use Rattle.patterns_edits.proofs.Headed as headed
 use Rattle.patterns_edits.proofs.Plans as plans
 use Rattle.patterns_edits.proofs.Plans.{StandsAt, sees}
-use Rattle.patterns_base.specs.Makes.{replacing, results_from}
+use Rattle.patterns_yields.specs.base.Makes.{replacing, results_from}
 use Rattle.ir_event.proofs.of_tree_laws.Reverted.{passed}
 
 -- types stay where a value is replaced

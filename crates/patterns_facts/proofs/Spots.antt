@@ -24,7 +24,7 @@ use Rattle.patterns_edits.proofs.Front.{behind_sees}
 use Rattle.patterns_edits.proofs.Headed.{found_there}
 use Rattle.patterns_edits.proofs.Made.{stood}
 use Rattle.patterns_edits.proofs.Plans.{StandsAt, sees}
-use Rattle.patterns_base.specs.Looks.{Header, front_of, giver, in_front, is_clean}
+use Rattle.patterns_yields.specs.base.Looks.{Header, front_of, giver, in_front, is_clean}
 
 -- it is there and clean, and this place is in front of it
 pub record Spot (m : Module) (o : Operation) (front : Place) : Type 0 where

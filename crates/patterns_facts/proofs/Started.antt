@@ -42,9 +42,9 @@ use Rattle.patterns_edits.proofs.Headed.{found_there}
 use Rattle.patterns_edits.proofs.Made as made_there
 use Rattle.patterns_edits.proofs.Moved.{deeper}
 use Rattle.patterns_edits.proofs.Plans.{StandsAt, sees}
-use Rattle.patterns_base.specs.Keeps.{lowered_type}
-use Rattle.patterns_base.specs.Looks.{Header}
-use Rattle.patterns_base.specs.Lowering.{lowered_regions}
+use Rattle.patterns_yields.specs.base.Keeps.{lowered_type}
+use Rattle.patterns_yields.specs.base.Looks.{Header}
+use Rattle.patterns_yields.specs.base.Lowering.{lowered_regions}
 use Rattle.patterns_facts.proofs.Across.{before_is, later_outside, not_parent, one_stands, own_depth, users_behind}
 use Rattle.patterns_facts.proofs.Kept as kept
 use Rattle.patterns_facts.proofs.Moving.{HasBlock}

@@ -46,8 +46,8 @@ use Rattle.patterns_edits.proofs.Headed.{found_there}
 use Rattle.patterns_edits.proofs.Placed as placed
 use Rattle.patterns_edits.proofs.Placed.{Behind}
 use Rattle.patterns_edits.proofs.Plans.{StandsAt, sees}
-use Rattle.patterns_base.specs.Looks.{Header}
-use Rattle.patterns_base.specs.Lowering.{before_in, beside, end_of}
+use Rattle.patterns_yields.specs.base.Looks.{Header}
+use Rattle.patterns_yields.specs.base.Lowering.{before_in, beside, end_of}
 use Rattle.patterns_facts.proofs.Across.{argument_within, before_is, behind_inside, inner_unseen, inside_behind, later_outside, not_parent, not_root, one_stands, sibling_inside}
 use Rattle.patterns_facts.proofs.Kept as kept
 use Rattle.patterns_facts.proofs.Kept.{Kept}

@@ -24,10 +24,10 @@ use Rattle.listeners_surroundings.specs.Surroundings.{surround}
 use Rattle.ir_verify_base.specs.Types.{is_boolean}
 use Rattle.ir_verify_base.specs.Fits.{Known, first_called, is_there, is_the_number, known_of, there, types_fit}
 use Rattle.ir_verify_base.specs.TypeRules.{is_no_number}
-use Rattle.patterns_base.specs.Keeps.{Each}
-use Rattle.patterns_base.specs.Words.{named, among, ignoring_zero, ignoring_one, keeping}
-use Rattle.patterns_base.specs.Made.{i1}
-use Rattle.patterns_base.specs.Looks.{is_clean}
+use Rattle.patterns_yields.specs.base.Keeps.{Each}
+use Rattle.patterns_yields.specs.base.Words.{named, among, ignoring_zero, ignoring_one, keeping}
+use Rattle.patterns_yields.specs.base.Made.{i1}
+use Rattle.patterns_yields.specs.base.Looks.{is_clean}
 use Rattle.patterns_yields.proofs.Unbroken.{clean_unbroken}
 use Rattle.listeners_surroundings.proofs.Reading.{head_shown}
 use Rattle.std.proofs.lemmas.Bool.{not-false}

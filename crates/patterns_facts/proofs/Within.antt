@@ -42,7 +42,7 @@ use Rattle.patterns_edits.proofs.Given.{user}
 use Rattle.patterns_edits.proofs.Headed as headed
 use Rattle.patterns_edits.proofs.Headed.{found_there}
 use Rattle.patterns_edits.proofs.Plans.{StandsAt, sees}
-use Rattle.patterns_base.specs.Looks.{Header}
+use Rattle.patterns_yields.specs.base.Looks.{Header}
 use Rattle.patterns_facts.proofs.Across.{before_is, behind_inside, inner_unseen, inside_behind}
 use Rattle.patterns_facts.proofs.Arguments.{each_region}
 use Rattle.patterns_facts.proofs.Kept as kept

@@ -7,7 +7,7 @@ use Rattle.ir_event.specs.trees.Meaning.{Operation}
 use Rattle.ir_event.specs.tree_laws.Members.{In}
 use Rattle.ir_event.specs.tree_laws.Values.{region_at}
 use Rattle.patterns_laws.specs.Keeps.{given}
-use Rattle.patterns_base.specs.Looks.{Header, Ended, ended, giver, is_clean, may_go, type_of}
+use Rattle.patterns_yields.specs.base.Looks.{Header, Ended, ended, giver, is_clean, may_go, type_of}
 
 -- there is both, or neither
 abbrev pub Same : {X Y : Type 0} → Option X → Option Y → Type 0

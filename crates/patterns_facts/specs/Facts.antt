@@ -8,10 +8,10 @@ use Rattle.ir_event.specs.trees.Meaning.{Operation}
 use Rattle.ir_event.specs.Modules.{Module}
 use Rattle.ir_event.specs.Step.{IsSorted}
 use Rattle.rewriter_machine.specs.Contents.{Edit}
-use Rattle.patterns_base.specs.declared.rule.Rule.{Rule}
-use Rattle.patterns_base.specs.RuleNames.{is_converting, is_lowering}
-use Rattle.patterns_base.specs.Makes.{made_by}
-use Rattle.patterns_base.specs.Rules.{has_rule, rule}
+use Rattle.patterns_yields.specs.base.declared.rule.Rule.{Rule}
+use Rattle.patterns_yields.specs.base.RuleNames.{is_converting, is_lowering}
+use Rattle.patterns_yields.specs.base.Makes.{made_by}
+use Rattle.patterns_yields.specs.base.Rules.{has_rule, rule}
 use Rattle.patterns_facts.specs.Accepted.{IsAcceptedAt}
 use Rattle.patterns_facts.specs.Alike.{LooksAlike, Same}
 use Rattle.patterns_facts.specs.Near.{AreNear}

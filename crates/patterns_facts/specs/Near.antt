@@ -8,7 +8,7 @@ use Rattle.ir_event.specs.trees.Meaning.{Operation}
 use Rattle.ir_event.specs.tree_laws.Values.{region_at}
 use Rattle.rewriter_machine.specs.Contents.{Edit}
 use Rattle.rewriter_machine.specs.Edits.{Insert, Make, Erase, Move, SetOperand, Replace, SetAttr, DropAttr}
-use Rattle.patterns_base.specs.Looks.{ended_by}
+use Rattle.patterns_yields.specs.base.Looks.{ended_by}
 
 -- edits that move nothing: operations without regions are made in front of x, heads change, and x may be erased at the
 -- end

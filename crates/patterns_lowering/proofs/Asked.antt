@@ -7,7 +7,7 @@ use Rattle.ir_event.specs.trees.Meaning.{Operation}
 use Rattle.ir_event.proofs.of_tree_laws.Members.{found_stands}
 use Rattle.ir_event.specs.declared.world.World.{World}
 use Rattle.ir_event.specs.Modules.{module_in}
-use Rattle.patterns_base.specs.Looks.{Header, is_clean}
+use Rattle.patterns_yields.specs.base.Looks.{Header, is_clean}
 use Rattle.patterns_lowering.specs.Planned.{IsCleanAt}
 
 -- where something is shown of operation x, and is clean with that id, x is clean

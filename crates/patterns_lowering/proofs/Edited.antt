@@ -9,7 +9,7 @@ use Rattle.ir_event.specs.trees.Meaning.{IsSoundIn, meaning}
 use Rattle.ir_event.proofs.of_trees.Meanings.{stable, stays_sound}
 use Rattle.patterns_edits.specs.declared.edit.Edit.{Edit}
 use Rattle.patterns_edits.specs.Lists.{AllFit, edits_meaning}
-use Rattle.patterns_base.specs.Lowering.{indices}
+use Rattle.patterns_yields.specs.base.Lowering.{indices}
 use Rattle.patterns_lowering.specs.Lowered.{AreLowered, AreTypes}
 use Rattle.patterns_lowering.specs.Meanings.{operation_lowered}
 use Rattle.patterns_lowering.specs.Numbers.{operation_edits}

@@ -13,11 +13,11 @@ use Rattle.ir_event.specs.trees.Limits.{regions_every, all_arguments_pass}
 use Rattle.ir_event.specs.trees.Passing.{entry_passes, head_passes, op_passes}
 use Rattle.ir_event.specs.trees.Meaning.{IsSoundIn, is_attr, is_name, is_type, key_before_in, rises, rises_after, dictionaries_rise}
 use Rattle.ir_event.specs.tree_laws.Reasons.{hold_none}
-use Rattle.patterns_base.specs.Looks.{is_index}
-use Rattle.patterns_base.specs.Makes.{results_from}
+use Rattle.patterns_yields.specs.base.Looks.{is_index}
+use Rattle.patterns_yields.specs.base.Makes.{results_from}
 use Rattle.patterns_edits.specs.declared.edit.Edit.TheVariants.{Make, Erase}
 use Rattle.patterns_edits.specs.Lists.{AllFit}
-use Rattle.patterns_base.specs.Lowering.{crossed, marked}
+use Rattle.patterns_yields.specs.base.Lowering.{crossed, marked}
 use Rattle.patterns_lowering.specs.Lowered.{AreKnown, AreLowered, AreTypes}
 use Rattle.patterns_lowering.specs.Numbers.{cast_op, bridge_edits, replace_edits, type_lowered, regions_lowered, op_lowered, give_edits, operation_edits}
 use Rattle.patterns_lowering.proofs.Joined.{fit_more}

@@ -28,8 +28,8 @@ use Rattle.patterns_runs.specs.rewriter_bench.Benched.{Benched, Heard}
 use Rattle.patterns_runs.specs.rewriter_bench.Held.{Held}
 use Rattle.patterns_runs.specs.rewriter_bench.Moves.{Grown}
 use Rattle.patterns_runs.proofs.of_rewriter_bench.Told.{heard_grown}
-use Rattle.patterns_base.specs.Made.{i64}
-use Rattle.patterns_base.specs.Lowering.{lowered_attr}
+use Rattle.patterns_yields.specs.base.Made.{i64}
+use Rattle.patterns_yields.specs.base.Lowering.{lowered_attr}
 use Rattle.patterns_runs.specs.Interning.{Added, IsNoRoom}
 use Rattle.patterns_lowering.specs.Refused.{as_full}
 use Rattle.patterns_lowering.specs.Lowered.{IsLowered, AreLowered, AreKnown, AreTypes, IsLowering, index_bits}

@@ -13,7 +13,7 @@ use Rattle.ir_event.specs.trees.Meaning.{is_type}
 use Rattle.ir_event.proofs.of_trees.Meanings.{stable}
 use Rattle.patterns_edits.specs.declared.edit.Edit.{Edit}
 use Rattle.patterns_edits.specs.Lists.{AllFit, edits_meaning}
-use Rattle.patterns_base.specs.Lowering.{indices}
+use Rattle.patterns_yields.specs.base.Lowering.{indices}
 use Rattle.patterns_lowering.specs.declared.plan.IndexedLoop.{IndexedLoop}
 use Rattle.patterns_lowering.specs.declared.plan.IndexedChoice.{IndexedChoice}
 use Rattle.patterns_lowering.specs.declared.plan.Lowering.TheVariants as plan

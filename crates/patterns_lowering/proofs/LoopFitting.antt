@@ -8,8 +8,8 @@ use Rattle.ir_event.specs.trees.declared.value.Value.{Value}
 use Rattle.ir_event.specs.trees.declared.place.Place.{Place}
 use Rattle.ir_event.specs.trees.Tree.{Op, head, regions}
 use Rattle.ir_event.specs.trees.Meaning.{IsSoundIn, is_type}
-use Rattle.patterns_base.specs.Makes.{arguments_from}
-use Rattle.patterns_base.specs.Lowering.{before_in, beside, crossed, end_of, marked}
+use Rattle.patterns_yields.specs.base.Makes.{arguments_from}
+use Rattle.patterns_yields.specs.base.Lowering.{before_in, beside, crossed, end_of, marked}
 use Rattle.patterns_edits.specs.declared.edit.Edit.{Edit}
 use Rattle.patterns_edits.specs.declared.edit.Edit.TheVariants.{Make, Move}
 use Rattle.patterns_edits.specs.Lists.{AllFit}

@@ -14,9 +14,9 @@ use Rattle.ir_event.specs.trees.Meaning.{meaning}
 use Rattle.patterns_edits.specs.Edits as edit
 use Rattle.patterns_edits.specs.declared.edit.Edit.TheVariants as coded
 use Rattle.patterns_edits.specs.Lists.{edits_meaning}
-use Rattle.patterns_base.specs.Made.{i64}
-use Rattle.patterns_base.specs.Makes.{results_from, replacing}
-use Rattle.patterns_base.specs.Lowering.{bridges, crossed, marked, lowered_attr, lowered_op}
+use Rattle.patterns_yields.specs.base.Made.{i64}
+use Rattle.patterns_yields.specs.base.Makes.{results_from, replacing}
+use Rattle.patterns_yields.specs.base.Lowering.{bridges, crossed, marked, lowered_attr, lowered_op}
 use Rattle.patterns_lowering.specs.Lowered.{AreLowered, AreTypes}
 use Rattle.patterns_lowering.specs.Numbers.{bridge_edits, replace_edits, op_lowered, give_edits, operation_edits}
 use Rattle.patterns_lowering.specs.Meanings.{results_given, operation_lowered}

@@ -11,7 +11,7 @@ use Rattle.ir_event.proofs.of_tree_laws.Contents.{map_type_of_value}
 use Rattle.ir_event.specs.declared.world.World.{World}
 use Rattle.ir_event.specs.Modules.{module_in}
 use Rattle.ir_event.proofs.Typed.{value_known}
-use Rattle.patterns_base.specs.Looks.{is_index, is_index_value}
+use Rattle.patterns_yields.specs.base.Looks.{is_index, is_index_value}
 
 -- whether a value is of index
 in_contents : (w : World) (v : Value) (r : Option ℕ) → r ≡ type_of_value v w.store.module_of.tree → option_eq same_type (option_map (type_term w.ctx) r) (Some Index) ≡ is_index_value (module_in w).tree v

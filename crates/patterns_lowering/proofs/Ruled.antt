@@ -18,12 +18,12 @@ use Rattle.ir_event.specs.Modules.{module_in, node_meaning}
 use Rattle.ir_event.proofs.Nodes.{node_shown}
 use Rattle.patterns_edits.specs.Contents.{Edit}
 use Rattle.patterns_edits.specs.Edits.{Make}
-use Rattle.patterns_base.specs.Keeps.{given}
-use Rattle.patterns_base.specs.Made.{i64, placeholder}
-use Rattle.patterns_base.specs.Words.{among, index_users, named}
-use Rattle.patterns_base.specs.Looks.{Ended, body, is_index_value, when}
-use Rattle.patterns_base.specs.Makes.{arguments_from, replacing, replaced, erasing}
-use Rattle.patterns_base.specs.Lowering.{any, bridges, brought, crossed, crossing, marked, indices, lowered_loop, lowered_if, end_of, before_in, lower_index, lower_loop, lower_choice}
+use Rattle.patterns_yields.specs.base.Keeps.{given}
+use Rattle.patterns_yields.specs.base.Made.{i64, placeholder}
+use Rattle.patterns_yields.specs.base.Words.{among, index_users, named}
+use Rattle.patterns_yields.specs.base.Looks.{Ended, body, is_index_value, when}
+use Rattle.patterns_yields.specs.base.Makes.{arguments_from, replacing, replaced, erasing}
+use Rattle.patterns_yields.specs.base.Lowering.{any, bridges, brought, crossed, crossing, marked, indices, lowered_loop, lowered_if, end_of, before_in, lower_index, lower_loop, lower_choice}
 use Rattle.patterns_regions.specs.Blocks.{Shows, body_at}
 use Rattle.patterns_regions.proofs.Viewed.{block_types}
 use Rattle.patterns_yields.specs.Yields.{IsCleanOf}

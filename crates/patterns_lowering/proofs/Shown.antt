@@ -19,8 +19,8 @@ use Rattle.ir_event.specs.declared.world.World.{World}
 use Rattle.ir_event.specs.Modules.{module_in}
 use Rattle.ir_event.proofs.Sounds.{every_found, found_sound}
 use Rattle.ir_event.proofs.Steps.{formed_meaning}
-use Rattle.patterns_base.specs.Looks.{is_index_value}
-use Rattle.patterns_base.specs.Lowering.{indices}
+use Rattle.patterns_yields.specs.base.Looks.{is_index_value}
+use Rattle.patterns_yields.specs.base.Lowering.{indices}
 use Rattle.patterns_lowering.specs.declared.plan.Indexed.{Indexed}
 use Rattle.patterns_lowering.specs.Bare.{bare, bare_regions, bare_read, region_with}
 use Rattle.patterns_lowering.specs.Planned.{IsReadIn, IsReadOf}

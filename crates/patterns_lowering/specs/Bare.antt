@@ -1,6 +1,7 @@
 -- Operations without the operations in their blocks.
 use Rattle.std.specs.Prelude.{ℕ, List, map, Option, Some, None}
-use Rattle.ir_event.specs.trees.Tree.{OpOf, Op, op, RegionsOf, no_regions, region, RegionOf, Region, empty, block, no_ops}
+use Rattle.ir_event.specs.trees.Tree.{OpOf, Op, op, RegionsOf, no_regions}
+use Rattle.ir_event.specs.trees.Tree.{region, RegionOf, Region, empty, block, no_ops}
 use Rattle.ir_event.specs.trees.Tree.{regions_of}
 use Rattle.ir_event.specs.store.Nodes.{Node}
 

@@ -2,7 +2,7 @@
 use Rattle.std.specs.Prelude.{◌≡◌, ℕ}
 use Rattle.ir_event.specs.types.Things.{Things}
 use Rattle.ir_event.specs.trees.declared.place.Place.{Place}
-use Rattle.patterns_base.specs.Makes.{made_by}
+use Rattle.patterns_yields.specs.base.Makes.{made_by}
 use Rattle.patterns_lowering.specs.declared.plan.Lowering.{Lowering}
 use Rattle.patterns_lowering.specs.Meanings.{lowering_meaning}
 use Rattle.patterns_lowering.specs.Plans.{LoweringIsOf, lowering_makes}

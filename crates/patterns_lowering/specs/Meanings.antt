@@ -10,9 +10,10 @@ use Rattle.ir_event.specs.trees.Tree.{head}
 use Rattle.ir_event.specs.trees.Meaning.{Operation, meaning}
 use Rattle.patterns_edits.specs.Contents.{Edit}
 use Rattle.patterns_edits.specs.Edits.{Make, Erase}
-use Rattle.patterns_base.specs.Made.{i64, placeholder}
-use Rattle.patterns_base.specs.Makes.{results_from, arguments_from, replacing, replaced, erasing}
-use Rattle.patterns_base.specs.Lowering.{bridges, brought, crossed, crossing, marked, lowered_op, end_of, before_in}
+use Rattle.patterns_yields.specs.base.Made.{i64, placeholder}
+use Rattle.patterns_yields.specs.base.Makes.{results_from, arguments_from, replacing, replaced, erasing}
+use Rattle.patterns_yields.specs.base.Lowering.{bridges, brought, crossed, crossing}
+use Rattle.patterns_yields.specs.base.Lowering.{marked, lowered_op, end_of, before_in}
 use Rattle.patterns_lowering.specs.declared.plan.Taken.{Taken}
 use Rattle.patterns_lowering.specs.declared.plan.Lowering.{Lowering}
 use Rattle.patterns_lowering.specs.declared.plan.Lowering.TheVariants as plan

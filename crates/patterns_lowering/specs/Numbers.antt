@@ -10,9 +10,9 @@ use Rattle.ir_event.specs.trees.declared.place.Place.{Place}
 use Rattle.ir_event.specs.trees.Tree.{Op, op, Regions, no_regions, region, Region, empty, block, no_ops, head, regions}
 use Rattle.patterns_edits.specs.declared.edit.Edit.{Edit}
 use Rattle.patterns_edits.specs.declared.edit.Edit.TheVariants.{Make, SetOperand, Replace, Move, Erase}
-use Rattle.patterns_base.specs.Looks.{is_index}
-use Rattle.patterns_base.specs.Makes.{arguments_from, results_from}
-use Rattle.patterns_base.specs.Lowering.{before_in, beside, crossed, end_of, marked}
+use Rattle.patterns_yields.specs.base.Looks.{is_index}
+use Rattle.patterns_yields.specs.base.Makes.{arguments_from, results_from}
+use Rattle.patterns_yields.specs.base.Lowering.{before_in, beside, crossed, end_of, marked}
 use Rattle.patterns_regions.specs.Opened.{put_for}
 use Rattle.patterns_lowering.specs.declared.plan.Taken.{Taken}
 use Rattle.patterns_lowering.specs.declared.plan.IndexedLoop.{IndexedLoop}

@@ -8,10 +8,10 @@ use Rattle.ir_event.specs.trees.Meaning.{Operation}
 use Rattle.ir_event.specs.declared.world.World.{World}
 use Rattle.ir_event.specs.Modules.{module_in}
 use Rattle.patterns_edits.specs.Contents.{Edit}
-use Rattle.patterns_base.specs.Looks.{Ended, is_clean, is_index_value}
-use Rattle.patterns_base.specs.Lowering.{indices}
-use Rattle.patterns_base.specs.Rules.{rule}
-use Rattle.patterns_base.specs.declared.rule.Rule.{Rule}
+use Rattle.patterns_yields.specs.base.Looks.{Ended, is_clean, is_index_value}
+use Rattle.patterns_yields.specs.base.Lowering.{indices}
+use Rattle.patterns_yields.specs.base.Rules.{rule}
+use Rattle.patterns_yields.specs.base.declared.rule.Rule.{Rule}
 use Rattle.patterns_lowering.specs.declared.plan.Indexed.{Indexed}
 use Rattle.patterns_lowering.specs.declared.plan.Taken.{Taken}
 use Rattle.patterns_lowering.specs.declared.plan.Lowering.{Lowering}

@@ -6,7 +6,7 @@ use Rattle.ir_event.specs.types.Terms.{type_term}
 use Rattle.ir_event.specs.trees.Tree.{head}
 use Rattle.ir_event.specs.trees.Limits.{op_fits}
 use Rattle.ir_event.specs.trees.Meaning.{IsSoundIn, is_type}
-use Rattle.patterns_base.specs.Lowering.{indices, marked}
+use Rattle.patterns_yields.specs.base.Lowering.{indices, marked}
 use Rattle.patterns_lowering.specs.declared.plan.Indexed.{Indexed}
 use Rattle.patterns_lowering.specs.declared.plan.Taken.{Taken}
 use Rattle.patterns_lowering.specs.declared.plan.IndexedLoop.{IndexedLoop}

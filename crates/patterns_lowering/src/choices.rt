@@ -1,7 +1,7 @@
 //! `lower-choice`: a choice of index becomes one of i64, with casts in its blocks and behind it.
 ghost use Rattle.std.specs.Prelude.{◌≡◌, ◌≤◌, ◌+◌, IfOk, OnOk, ◌++◌, length};
 ghost use Rattle.ir_event.specs.trees.Limits.{most_next};
-ghost use Rattle.patterns_base.specs.Lowering.{marked};
+ghost use Rattle.patterns_yields.specs.base.Lowering.{marked};
 ghost use Rattle.patterns_lowering.specs.declared.plan.Lowering.TheVariants.{Choice};
 ghost use Rattle.patterns_lowering.specs.Numbers.{choice_edits, side_edits};
 ghost use Rattle.patterns_lowering.specs.Plans.{IsIndexedChoice, lowering_makes};

@@ -2,7 +2,7 @@
 ghost use Rattle.std.specs.Prelude.{◌≡◌, ◌≤◌, ◌+◌, IfOk, IfErr};
 ghost use Rattle.ir_event.specs.trees.Limits.{most_next};
 ghost use Rattle.ir_event.specs.trees.Meaning.{meaning};
-ghost use Rattle.patterns_base.specs.Lowering.{marked};
+ghost use Rattle.patterns_yields.specs.base.Lowering.{marked};
 ghost use Rattle.patterns_edits.specs.Lists.{AllFit, edits_meaning};
 ghost use Rattle.patterns_runs.specs.Interning.{Added, IsNoRoom};
 ghost use Rattle.patterns_lowering.specs.Meanings.{lowering_meaning, operation_lowered};

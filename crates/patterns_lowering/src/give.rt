@@ -2,7 +2,7 @@
 ghost use Rattle.std.specs.Prelude.{◌≡◌, ◌≤◌, ◌+◌, OnOk, ◌++◌, length};
 ghost use Rattle.ir_event.specs.trees.Limits.{most_next};
 ghost use Rattle.ir_event.specs.trees.Tree.{head};
-ghost use Rattle.patterns_base.specs.Lowering.{marked};
+ghost use Rattle.patterns_yields.specs.base.Lowering.{marked};
 ghost use Rattle.patterns_lowering.specs.Numbers.{give_edits};
 
 use crate::lists::{crossed, push_bridges, push_replaced, put, results_of};

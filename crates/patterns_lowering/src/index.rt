@@ -5,13 +5,13 @@ ghost use Rattle.ir_event.specs.types.Things.{IsType};
 ghost use Rattle.ir_event.specs.types.Terms.{type_term};
 ghost use Rattle.ir_event.specs.trees.Meaning.{is_type};
 ghost use Rattle.ir_event.specs.Modules.{module_in};
-ghost use Rattle.patterns_base.specs.Looks.{is_index, is_index_value};
-ghost use Rattle.patterns_base.specs.Lowering.{indices};
+ghost use Rattle.patterns_yields.specs.base.Looks.{is_index, is_index_value};
+ghost use Rattle.patterns_yields.specs.base.Lowering.{indices};
 
-use ir_event::world::World;
 use ir_event::trees::value::Value;
 use ir_event::types::context::Context;
 use ir_event::types::ids::TypeId;
+use ir_event::world::World;
 use ir_verify_base::types;
 use std::alloc::{AllocError, Global};
 

@@ -5,8 +5,8 @@ ghost use Rattle.ir_event.specs.types.Terms.{attr_term, type_term, type_node_ter
 ghost use Rattle.ir_event.specs.types.Reasons.{type_fault};
 ghost use Rattle.ir_event.specs.trees.Meaning.{IsSoundIn};
 ghost use Rattle.ir_event.specs.trees.Tree.{head};
-ghost use Rattle.patterns_base.specs.Made.{i64};
-ghost use Rattle.patterns_base.specs.Lowering.{lowered_attr};
+ghost use Rattle.patterns_yields.specs.base.Made.{i64};
+ghost use Rattle.patterns_yields.specs.base.Lowering.{lowered_attr};
 ghost use Rattle.patterns_runs.specs.Interning.{Added, IsNoRoom};
 ghost use Rattle.patterns_lowering.specs.Refused.{as_full};
 ghost use Rattle.patterns_lowering.specs.Lowered.{AreKnown, AreLowered, AreTypes, IsLowering, index_bits};

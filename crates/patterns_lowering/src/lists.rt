@@ -2,8 +2,8 @@
 ghost use Rattle.std.specs.Prelude.{◌≡◌, ◌≤◌, ◌+◌, IfOk, OnOk, List, ◌∷◌, [], ◌++◌, length, map, Bool};
 ghost use Rattle.ir_event.specs.trees.declared.value.Value.{Value as TreeValue};
 ghost use Rattle.ir_event.specs.trees.Limits.{most_next};
-ghost use Rattle.patterns_base.specs.Makes.{results_from};
-ghost use Rattle.patterns_base.specs.Lowering.{crossed, marked};
+ghost use Rattle.patterns_yields.specs.base.Makes.{results_from};
+ghost use Rattle.patterns_yields.specs.base.Lowering.{crossed, marked};
 ghost use Rattle.patterns_lowering.specs.Numbers.{bridge_edits, cast_op, replace_edits};
 
 use ir_event::trees::place::Place;

@@ -1,6 +1,6 @@
 //! What is interned for an operation, and where casts come.
 ghost use Rattle.std.specs.Prelude.{◌≡◌};
-ghost use Rattle.patterns_base.specs.Lowering.{before_in};
+ghost use Rattle.patterns_yields.specs.base.Lowering.{before_in};
 
 use ir_event::trees::place::Place;
 use ir_event::types::ids::{AttrId, NameId, OpId, TypeId};

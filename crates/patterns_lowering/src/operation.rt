@@ -2,7 +2,7 @@
 ghost use Rattle.std.specs.Prelude.{◌≡◌, ◌≤◌, ◌+◌, IfOk, OnOk, ◌++◌, ◌∷◌, []};
 ghost use Rattle.ir_event.specs.trees.Limits.{most_next};
 ghost use Rattle.ir_event.specs.trees.Tree.{head};
-ghost use Rattle.patterns_base.specs.Lowering.{crossed, marked};
+ghost use Rattle.patterns_yields.specs.base.Lowering.{crossed, marked};
 ghost use Rattle.patterns_edits.specs.declared.edit.Edit.TheVariants.{Make};
 ghost use Rattle.patterns_lowering.specs.Numbers.{op_lowered, operation_edits};
 ghost use Rattle.patterns_lowering.specs.Plans.{IsIndexed};

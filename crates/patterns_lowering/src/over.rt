@@ -1,8 +1,8 @@
 //! The operations of a block are taken over by another one, where what the last of them hands on goes through casts.
 ghost use Rattle.std.specs.Prelude.{◌≡◌, ◌≤◌, ◌+◌, IfOk, OnOk, List, ◌++◌, ◌∷◌, [], length, map, reverse, Bool};
 ghost use Rattle.ir_event.specs.trees.Limits.{most_next};
-ghost use Rattle.patterns_base.specs.Makes.{arguments_from};
-ghost use Rattle.patterns_base.specs.Lowering.{marked};
+ghost use Rattle.patterns_yields.specs.base.Makes.{arguments_from};
+ghost use Rattle.patterns_yields.specs.base.Lowering.{marked};
 ghost use Rattle.patterns_regions.specs.Opened.{put_for};
 ghost use Rattle.patterns_lowering.specs.Numbers.{crossing_edits, gather_edits, handed_edits, move_edits, over_edits};
 

@@ -9,9 +9,9 @@ ghost use Rattle.patterns_lowering.specs.Planned.{AreTaken, IsReadOf};
 use crate::bare::bare;
 use crate::index::{index_values, indices};
 use crate::plan::{Indexed, Taken};
-use ir_event::world::World;
 use ir_event::store::node::Node;
 use ir_event::types::ids::OpId;
+use ir_event::world::World;
 use patterns_regions::block::{Body, body_of};
 use std::alloc::{AllocError, Global};
 

@@ -2,7 +2,7 @@
 ghost use Rattle.std.specs.Prelude.{◌≡◌, map};
 ghost use Rattle.ir_event.specs.types.Terms.{name_term};
 ghost use Rattle.ir_event.specs.types.WordNames.{word_bytes};
-ghost use Rattle.patterns_base.specs.Words.{among, index_users};
+ghost use Rattle.patterns_yields.specs.base.Words.{among, index_users};
 
 use ir_event::types::context::Context;
 use ir_event::types::ids::NameId;

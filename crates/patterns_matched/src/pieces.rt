@@ -17,7 +17,6 @@ ghost use Rattle.patterns_matched.specs.Stands.{Stands};
 
 use crate::names::{is_named, predicate_number};
 use crate::places::{bind, bind_all, nothing_at, standing};
-use ir_event::world::World;
 use ir_event::store::node::Node;
 use ir_event::trees::value::Value;
 use ir_event::types::context::Context;
@@ -25,6 +24,7 @@ use ir_event::types::ids::{AttrId, OpId};
 use ir_event::types::node::AttrNode;
 use ir_event::types::things::attr_of;
 use ir_event::types::word::Word;
+use ir_event::world::World;
 use ir_verify_base::node::property;
 use patterns_book::pattern::{Form, Pattern, Piece};
 use patterns_reads::look::shown;

@@ -15,11 +15,11 @@ ghost use Rattle.patterns_matched.specs.Types.{AreTypesOf, TypeIsOf, type_in, ty
 use crate::pieces::old_begins;
 use crate::places::standing;
 use crate::types::{BoundType, is_same, kind_of};
-use ir_event::world::World;
 use ir_event::trees::value::Value;
 use ir_event::types::bits::BitsKind;
 use ir_event::types::context::Context;
 use ir_event::types::ids::TypeId;
+use ir_event::world::World;
 use patterns_book::pattern::{Kind, Pattern, Piece};
 use std::alloc::{AllocError, Global};
 

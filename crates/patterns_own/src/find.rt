@@ -8,10 +8,10 @@ ghost use Rattle.patterns_matched.specs.Built.{BuiltIsOf};
 ghost use Rattle.patterns_own.specs.Own.{is_one, own_edits};
 ghost use Rattle.patterns_own.specs.Planned.{planned_edits};
 
-use ir_event::world::World;
 use ir_event::store::node::Node;
 use ir_event::trees::place::Place;
 use ir_event::types::ids::OpId;
+use ir_event::world::World;
 use patterns_book::pattern::Pattern;
 use patterns_matched::built::Built;
 use patterns_matched::plan::plan;

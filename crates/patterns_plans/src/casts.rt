@@ -7,10 +7,10 @@ ghost use Rattle.patterns_plans.specs.Planned.{FitsIn, IsPlanned};
 ghost use Rattle.patterns_plans.specs.Casts.{IsPlannedOne};
 
 use crate::given::give;
-use ir_event::world::World;
 use ir_event::store::node::Node;
 use ir_event::types::ids::OpId;
 use ir_event::types::word::Word;
+use ir_event::world::World;
 use patterns_reads::plan::Plan;
 use patterns_reads::shapes::{Single, one_of};
 use patterns_reads::sources::{source_like, source_of_extension, source_of_resizing};

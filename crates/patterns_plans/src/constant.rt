@@ -10,12 +10,12 @@ ghost use Rattle.patterns_plans.specs.Numbers.{known_each, readable};
 ghost use Rattle.patterns_plans.specs.Planned.{FitsIn, IsPlanned};
 
 use dialects_int::fold::fold;
-use ir_event::world::World;
 use ir_event::store::node::Node;
 use ir_event::trees::uses::is_same;
 use ir_event::trees::value::Value;
 use ir_event::types::bits::Bits;
 use ir_event::types::word::Word;
+use ir_event::world::World;
 use patterns_reads::known::{is_number, known};
 use patterns_reads::look::is_constant;
 use patterns_reads::plan::Plan;

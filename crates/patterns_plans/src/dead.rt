@@ -8,8 +8,8 @@ ghost use Rattle.patterns_reads.specs.Rule.TheVariants.{EraseDead};
 ghost use Rattle.patterns_plans.specs.Planned.{FitsIn, IsDead, IsPlanAt};
 
 use effects::dead_op::dead_op;
-use ir_event::world::World;
 use ir_event::types::ids::OpId;
+use ir_event::world::World;
 use patterns_edits::edit::Edit;
 use patterns_reads::plan::Plan;
 use std::alloc::{AllocError, Global};

@@ -9,12 +9,12 @@ ghost use Rattle.patterns_reads.specs.Folding.{choose_known, choose_truth};
 ghost use Rattle.patterns_reads.specs.Plans.{PlanIsOf, plan_meaning};
 ghost use Rattle.patterns_plans.specs.Planned.{FitsIn, IsPlanned};
 
-use ir_event::world::World;
 use ir_event::store::node::Node;
 use ir_event::trees::uses::is_same;
 use ir_event::trees::value::Value;
 use ir_event::types::ids::OpId;
 use ir_event::types::word::Word;
+use ir_event::world::World;
 use patterns_edits::edit::Edit;
 use patterns_reads::known::{is_number, known};
 use patterns_reads::plan::Plan;

@@ -12,13 +12,13 @@ ghost use Rattle.patterns_plans.specs.May.{may_fold, partial, reads_constant, re
 ghost use Rattle.patterns_plans.specs.Planned.{IsPlanAt};
 
 use effects::dead_op::dead_op;
-use ir_event::world::World;
 use ir_event::store::node::Node;
 use ir_event::trees::uses::is_same;
 use ir_event::trees::value::Value;
 use ir_event::types::context::Context;
 use ir_event::types::ids::{NameId, OpId};
 use ir_event::types::word::Word;
+use ir_event::world::World;
 use patterns_reads::look::{giver_node, is_constant};
 use patterns_reads::rule::Rule;
 use patterns_reads::shapes::{one_of, three_of};

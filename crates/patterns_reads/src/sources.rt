@@ -11,10 +11,10 @@ ghost use Rattle.patterns_reads.specs.Reads.{head_in};
 use crate::known::clean_giver;
 use crate::look::giver_node;
 use crate::words::{is_extension, is_resizing, is_same_name};
-use ir_event::world::World;
 use ir_event::store::node::Node;
 use ir_event::trees::value::Value;
 use ir_event::types::ids::NameId;
+use ir_event::world::World;
 use std::alloc::{AllocError, Global};
 
 /// One of a name.

@@ -10,13 +10,13 @@ ghost use Rattle.ir_event.specs.Modules.{module_in};
 ghost use Rattle.patterns_base.specs.Looks.{is_of_type};
 ghost use Rattle.patterns_base.specs.Made.{i1};
 
-use ir_event::world::World;
 use ir_event::trees::value::Value;
 use ir_event::types::context::Context;
 use ir_event::types::ids::TypeId;
 use ir_event::types::node::TypeNode;
 use ir_event::types::readings::mask;
 use ir_event::types::things::type_of;
+use ir_event::world::World;
 use ir_verify_base::types;
 
 /// Whether a type is `i1`.

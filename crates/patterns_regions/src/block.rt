@@ -10,9 +10,9 @@ ghost use Rattle.ir_event.specs.store.Nodes.{node_of};
 ghost use Rattle.ir_event.specs.Modules.{NodeIsOf, module_in, node_meaning};
 ghost use Rattle.patterns_regions.specs.Blocks.{Shows, before_at, body_at, ended_in, is_block};
 
-use ir_event::world::World;
 use ir_event::store::node::Node;
 use ir_event::types::ids::{OpId, TypeId};
+use ir_event::world::World;
 use patterns_reads::clean::is_clean;
 use patterns_reads::look::shown;
 use std::alloc::{AllocError, Global};

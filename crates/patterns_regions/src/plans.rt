@@ -11,11 +11,11 @@ ghost use Rattle.patterns_regions.specs.Rules.{chosen_at, opened_at, open_branch
 use crate::block::{body_of, has_block, node_at};
 use crate::bounds::{Times, known_times};
 use crate::opened::opened;
-use ir_event::world::World;
 use ir_event::trees::place::Place;
 use ir_event::trees::value::Value;
 use ir_event::types::ids::OpId;
 use ir_event::types::word::Word;
+use ir_event::world::World;
 use patterns_edits::edit::Edit;
 use patterns_reads::known::{is_number, known};
 use patterns_reads::plan::Plan;

@@ -9,9 +9,9 @@ ghost use Rattle.patterns_reads.specs.rules.Opening.{open_branch, open_loop};
 ghost use Rattle.patterns_reads.specs.Reads.{head_in};
 ghost use Rattle.patterns_regions.specs.Rules.{stop_loop_at};
 
-use ir_event::world::World;
 use ir_event::store::node::Node;
 use ir_event::types::ids::OpId;
+use ir_event::world::World;
 use patterns_reads::look::{is_constant, shown};
 
 /// Whether the one operand of an operation is the result of a constant.

@@ -3,7 +3,8 @@ ghost use Rattle.std.specs.Prelude.{◌≡◌, ◌≢◌, [], Some, true, IfOk, 
 ghost use Rattle.ir_event.specs.types.Terms.{name_term};
 ghost use Rattle.ir_event.specs.types.Words.{is_table};
 ghost use Rattle.ir_event.specs.trees.Meaning.{IsSoundIn, isolated_in};
-ghost use Rattle.ir_event.specs.tree_laws.Reasons.{holds_none, put_reason, set_operand_reason, shift_reason, take_reason};
+ghost use Rattle.ir_event.specs.tree_laws.Reasons.{holds_none, put_reason};
+ghost use Rattle.ir_event.specs.tree_laws.Reasons.{set_operand_reason, shift_reason, take_reason};
 ghost use Rattle.ir_event.specs.store.Calls.{after_operand, after_put, after_shift, after_take};
 ghost use Rattle.rewriter_desk.specs.Contents.{edit_meaning};
 ghost use Rattle.rewriter_desk.specs.Edits.{Make, Move, SetOperand};

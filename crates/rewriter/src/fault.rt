@@ -6,7 +6,6 @@ ghost use Rattle.ir_event.specs.tree_laws.Reads.{around};
 ghost use Rattle.ir_event.specs.tree_laws.Reasons.{fits_around};
 ghost use Rattle.rewriter_laws.specs.Inserting.{insert_fault as fault_of};
 
-use ir_event::world::World;
 use ir_event::store::store::Store;
 use ir_event::trees::count::{depth, op_count};
 use ir_event::trees::limits::{MOST_OPS, counts_are_within};
@@ -14,6 +13,7 @@ use ir_event::trees::place::Place;
 use ir_event::trees::tree::TreeOp;
 use ir_event::types::ids::OpId;
 use ir_event::types::refusal::Refusal;
+use ir_event::world::World;
 
 /// Whether the operations of a tree, beside a number of others, are at most so many.
 fn fits_beside(others: u64, tree: &TreeOp, most: u64) -> bool

@@ -1,6 +1,7 @@
 //! The headers of an operation made one after another.
 ghost use Rattle.std.specs.Prelude.{◌≡◌, ◌≢◌, ◌⊎◌, None, OnOk};
-ghost use Rattle.ir_event.specs.types.declared.refusal.Refusal.TheVariants.{Memory as WantOfMemory, NotVisible as Unseen};
+ghost use Rattle.ir_event.specs.types.declared.refusal.Refusal.TheVariants.{Memory as WantOfMemory};
+ghost use Rattle.ir_event.specs.types.declared.refusal.Refusal.TheVariants.{NotVisible as Unseen};
 ghost use Rattle.ir_event.specs.trees.Ids.{IsNumberedFrom};
 ghost use Rattle.ir_event.specs.trees.Meaning.{IsSoundIn};
 ghost use Rattle.rewriter_desk.specs.Contents.{tests_in};

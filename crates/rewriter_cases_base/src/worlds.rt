@@ -5,14 +5,14 @@ ghost use Rattle.ir_event.specs.trees.Ids.{HasDistinctIds, ids};
 
 use dialects_int::tables::registry;
 use ir_event::analysis::Analysis;
-use ir_event::world::World;
-use ir_text::printer::print;
-use ir_text::reader::read_new;
 use ir_event::trees::count::op_count;
 use ir_event::trees::find::list_ids;
 use ir_event::trees::numbered::distinct;
 use ir_event::trees::tree::TreeOp;
 use ir_event::types::refusal::Refusal;
+use ir_event::world::World;
+use ir_text::printer::print;
+use ir_text::reader::read_new;
 use rewriter::Bench;
 use std::alloc::{AllocError, Global};
 

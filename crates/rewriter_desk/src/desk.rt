@@ -11,8 +11,8 @@ use crate::claims::keep;
 use crate::mark::Mark;
 use crate::release::release;
 use ir_event::event::{Event, inverse};
-use ir_event::world::World;
 use ir_event::types::refusal::Refusal;
+use ir_event::world::World;
 use std::alloc::Global;
 use std::marker::Model;
 

@@ -12,10 +12,10 @@ ghost use Rattle.ir_text.specs.Public.{SpellsAttr};
 ghost use Rattle.ir_text.specs.Public.{IsNone};
 ghost use Rattle.rewriter_desk.specs.Texts.{Grown, SpellsBeside};
 
-use ir_event::world::World;
-use ir_text::reader::{self, ReadError};
 use ir_event::trees::tree::TreeOp;
 use ir_event::types::ids::AttrId;
+use ir_event::world::World;
+use ir_text::reader::{self, ReadError};
 use std::alloc::Global;
 
 /// The attribute that a text spells, in the context of a world, whose module stays.

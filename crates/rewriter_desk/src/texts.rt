@@ -15,9 +15,9 @@ ghost use Rattle.rewriter_desk.specs.Moves.{Grown};
 
 use crate::desk::Desk;
 use crate::read_beside;
-use ir_text::reader::ReadError;
 use ir_event::trees::tree::TreeOp;
 use ir_event::types::ids::AttrId;
+use ir_text::reader::ReadError;
 use std::alloc::Global;
 
 impl Desk {

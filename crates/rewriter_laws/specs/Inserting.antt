@@ -1,9 +1,11 @@
 -- Inserting an operation with what is inside it, header by header.
 use Rattle.std.specs.Prelude.{ℕ, ◌+◌, nat_le, List, [], ◌∷◌, ◌++◌, Option, None}
 use Rattle.ir_event.specs.types.declared.refusal.Refusal.{Refusal}
-use Rattle.ir_event.specs.types.declared.refusal.Refusal.TheVariants.{NoSuchOp, NoSuchIndex, Full, IdsExhausted, TooDeepHere}
+use Rattle.ir_event.specs.types.declared.refusal.Refusal.TheVariants.{NoSuchOp, NoSuchIndex}
+use Rattle.ir_event.specs.types.declared.refusal.Refusal.TheVariants.{Full, IdsExhausted, TooDeepHere}
 use Rattle.ir_event.specs.trees.declared.place.Place.{Place}
-use Rattle.ir_event.specs.trees.Tree.{OpOf, op, RegionsOf, no_regions, region, RegionOf, empty, block, OpsOf, no_ops, next}
+use Rattle.ir_event.specs.trees.Tree.{OpOf, op, RegionsOf, no_regions, region}
+use Rattle.ir_event.specs.trees.Tree.{RegionOf, empty, block, OpsOf, no_ops, next}
 use Rattle.ir_event.specs.trees.Ids.{has_id, op_count}
 use Rattle.ir_event.specs.trees.Limits.{depth, every, most_ops, most_next, op_fits}
 use Rattle.ir_event.specs.trees.WellFormed.{ModuleOf}

@@ -2,8 +2,10 @@
 use Rattle.std.specs.Prelude.{ℕ, ◌+◌, nat_le, eqb, Bool, not, ◌||◌, Option, Some, None, is_some, if◌then◌else◌}
 use Rattle.std.specs.Option.{option_eq}
 use Rattle.ir_event.specs.types.declared.refusal.Refusal.{Refusal}
-use Rattle.ir_event.specs.types.declared.refusal.Refusal.TheVariants.{NoSuchOp, NoSuchValue, HasUses, NotVisible, TypeDiffers}
-use Rattle.ir_event.specs.types.declared.refusal.Refusal.TheVariants.{NoSuchIndex, IsRoot, Full, IdsExhausted, TooDeepHere}
+use Rattle.ir_event.specs.types.declared.refusal.Refusal.TheVariants.{NoSuchOp, NoSuchValue}
+use Rattle.ir_event.specs.types.declared.refusal.Refusal.TheVariants.{HasUses, NotVisible, TypeDiffers}
+use Rattle.ir_event.specs.types.declared.refusal.Refusal.TheVariants.{NoSuchIndex, IsRoot}
+use Rattle.ir_event.specs.types.declared.refusal.Refusal.TheVariants.{Full, IdsExhausted, TooDeepHere}
 use Rattle.ir_event.specs.trees.declared.value.Value.{Value}
 use Rattle.ir_event.specs.trees.declared.place.Place.{Place}
 use Rattle.ir_event.specs.trees.declared.place.Part.{Part}
