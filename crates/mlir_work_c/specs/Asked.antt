@@ -1,12 +1,12 @@
 -- What is asked of a handle by numbers.
 use Rattle.std.specs.Prelude.{◌≡◌, ℕ, List, [], Bool, true, false, Option, Some, None}
-use Rattle.ir_tree.specs.Tree.{head}
-use Rattle.ir_tree.specs.Ids.{has_id}
-use Rattle.ir_tree.specs.Uses.{uses_of}
-use Rattle.ir_tree.specs.declared.value.Value.{Value}
-use Rattle.ir_store.specs.Using.{is_use}
-use Rattle.ir_store.specs.tree_laws.Reads.{first_at, last_at, next_of, parent_of, prev_of}
-use Rattle.ir_store.specs.tree_laws.Changes.{operand_at}
+use Rattle.ir_event.specs.trees.Tree.{head}
+use Rattle.ir_event.specs.trees.Ids.{has_id}
+use Rattle.ir_event.specs.trees.Uses.{uses_of}
+use Rattle.ir_event.specs.trees.declared.value.Value.{Value}
+use Rattle.ir_event.specs.store.Using.{is_use}
+use Rattle.ir_event.specs.tree_laws.Reads.{first_at, last_at, next_of, parent_of, prev_of}
+use Rattle.ir_event.specs.tree_laws.Changes.{operand_at}
 use Rattle.mlir_work_held.specs.Queries.{tree_of}
 use Rattle.mlir_work_held.specs.declared.session.Session.{Session}
 use Rattle.mlir_work_c.specs.Numbers.{numbers_of}

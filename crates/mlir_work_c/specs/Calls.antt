@@ -1,6 +1,6 @@
 -- What calls make of a handle: closed, or with a session.
 use Rattle.std.specs.Prelude.{◌≡◌, ℕ, ◌==◌, Bool, true, false, List, [], ◌⊎◌, Option, Some, None}
-use Rattle.ir_types.specs.declared.refusal.Refusal.{Refusal}
+use Rattle.ir_event.specs.types.declared.refusal.Refusal.{Refusal}
 use Rattle.rewriter.specs.Benched.{IsKept}
 use Rattle.mlir_work_listeners.specs.Listeners.{seven_listener}
 use Rattle.mlir_work_held.specs.Answers.{closed, opened, unopened}

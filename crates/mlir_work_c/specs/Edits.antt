@@ -1,7 +1,7 @@
 -- What edits by numbers make of a handle.
 use Rattle.std.specs.Prelude.{◌≡◌, ℕ, [], Option, Some, None}
-use Rattle.ir_types.specs.declared.refusal.Refusal.TheVariants.{BadCommand}
-use Rattle.rewriter_machine.specs.Spots.{Spot}
+use Rattle.ir_event.specs.types.declared.refusal.Refusal.TheVariants.{BadCommand}
+use Rattle.rewriter.specs.Spots.{Spot}
 use Rattle.rewriter.specs.Commands.{Command, Move}
 use Rattle.mlir_work_script.specs.Commands.{Obey}
 use Rattle.mlir_work_held.specs.Answers.{refused}

@@ -1,8 +1,8 @@
 -- Values and places as C writes them, in numbers.
 use Rattle.std.specs.Prelude.{ℕ, ◌==◌, if◌then◌else◌, Option, Some, None}
-use Rattle.rewriter_machine.specs.Spots.{Spot, Before, After, Start, End}
-use Rattle.ir_tree.specs.declared.value.Value.{Value}
-use Rattle.ir_tree.specs.declared.value.Value.TheVariants as value
+use Rattle.rewriter.specs.Spots.{Spot, Before, After, Start, End}
+use Rattle.ir_event.specs.trees.declared.value.Value.{Value}
+use Rattle.ir_event.specs.trees.declared.value.Value.TheVariants as value
 use Rattle.mlir_work_c.specs.declared.numbers.ValueNumbers.{ValueNumbers}
 use Rattle.mlir_work_c.specs.declared.numbers.SpotNumbers.{SpotNumbers}
 

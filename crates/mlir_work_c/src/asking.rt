@@ -1,7 +1,7 @@
 //! What C asks by numbers: no text is read or written for it, and nothing changes.
 ghost use Rattle.std.specs.Prelude.{◌≡◌, [], MatchOption, None, Some, true};
-ghost use Rattle.ir_store.specs.Using.{is_use};
-ghost use Rattle.ir_tree.specs.Uses.{uses_of};
+ghost use Rattle.ir_event.specs.store.Using.{is_use};
+ghost use Rattle.ir_event.specs.trees.Uses.{uses_of};
 ghost use Rattle.mlir_work_c.specs.Calls.{IsHeld};
 ghost use Rattle.mlir_work_c.specs.Asked.{asked, first_in, has_in, is_asked, last_in, next_in, operand_in, parent_in, prev_in, root_in, Told, ToldUse, uses_in};
 ghost use Rattle.mlir_work_c.specs.Numbers.{number_of as told, value_of as told_value};
@@ -9,8 +9,8 @@ ghost use Rattle.mlir_work_held.specs.Queries.{tree_of};
 
 use crate::handle::Handle;
 use crate::numbers::{UseNumbers, ValueNumbers, no_number, number_of, numbers_of, value_of};
-use ir_tree::value::Value;
-use ir_types::ids::OpId;
+use ir_event::trees::value::Value;
+use ir_event::types::ids::OpId;
 use mlir_work_held::session::Session;
 use std::alloc::Global;
 

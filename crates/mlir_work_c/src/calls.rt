@@ -8,7 +8,7 @@ ghost use Rattle.mlir_work_held.specs.Opened.{Opened, WhyNotOpened};
 ghost use Rattle.mlir_work_c.specs.Calls.{CommandGoes, IsHeld, OpenGoes, ShownOf};
 
 use crate::handle::Handle;
-use ir_types::refusal::Refusal;
+use ir_event::types::refusal::Refusal;
 use mlir_work_held::answer::{Answer, closed, opened, unopened};
 use mlir_work_held::opening::{Unopened, open};
 use mlir_work_held::session::{Session, read_shown, say};

@@ -7,8 +7,8 @@ ghost use Rattle.mlir_work_c.specs.Numbers.{spot_of_numbers, value_of as told_va
 
 use crate::handle::Handle;
 use crate::numbers::{SpotNumbers, ValueNumbers, spot_of, value_of};
-use ir_types::ids::OpId;
-use ir_types::refusal::Refusal;
+use ir_event::types::ids::OpId;
+use ir_event::types::refusal::Refusal;
 use mlir_work_held::answer::{Answer, closed, refused};
 use mlir_work_held::edits;
 use std::alloc::Global;

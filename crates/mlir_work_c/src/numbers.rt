@@ -4,8 +4,8 @@ ghost use Rattle.std.specs.Option.{option_map};
 ghost use Rattle.mlir_work_script.specs.Spots.{spot_of};
 ghost use Rattle.mlir_work_c.specs.Numbers.{no_number, number_of as told, numbers_of, spot_of_numbers, value_of};
 
-use ir_tree::value::Value;
-use ir_types::ids::OpId;
+use ir_event::trees::value::Value;
+use ir_event::types::ids::OpId;
 use mlir_work_script::spots::Spot;
 
 /// A value: result `place` of an operation where `region` is 4294967295, or else argument `place` of the block of that

@@ -1,7 +1,7 @@
 //! Lines and cells as they are written.
-use ir_tree::value::Value;
-use ir_types::ids::OpId;
-use ir_types::refusal::Refusal;
+use ir_event::trees::value::Value;
+use ir_event::types::ids::OpId;
+use ir_event::types::refusal::Refusal;
 use mlir_work_cases_base::texts::{first, number, small};
 use mlir_work_run::cells::{put_number, put_op_id, put_value};
 use mlir_work_run::kind::Kind;

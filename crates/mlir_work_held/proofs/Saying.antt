@@ -1,6 +1,6 @@
 -- What is said of a line is what its step says.
 use Rattle.std.proofs.Common.{◌≡◌, ◌==◌, Bool, ℕ, List, [], ◌∷◌, arith, length, true, false}
-use Rattle.ir_types.specs.declared.refusal.Refusal.TheVariants.{BadCommand}
+use Rattle.ir_event.specs.types.declared.refusal.Refusal.TheVariants.{BadCommand}
 use Rattle.mlir_work_script.specs.Commands.{line_says}
 use Rattle.mlir_work_script.specs.Lines.{line_of, after_line}
 use Rattle.mlir_work_session.proofs.Runs.{emptied, filled}

@@ -1,7 +1,7 @@
 -- What a line is answered, in numbers.
 use Rattle.std.specs.Prelude.{ℕ, Option, Some, None}
-use Rattle.ir_types.specs.Refusals.{number_of}
-use Rattle.ir_types.specs.declared.refusal.Refusal.{Refusal}
+use Rattle.ir_event.specs.types.Refusals.{number_of}
+use Rattle.ir_event.specs.types.declared.refusal.Refusal.{Refusal}
 use Rattle.rewriter.specs.Commands.{Response, Replied, TextRefusedAt}
 use Rattle.rewriter.specs.Machine.{Applied, Converged, Converted, Done, DoneAs, DoneWith, Limited, Outcome, Refused, RefusedOn, Swept}
 use Rattle.mlir_work_held.specs.declared.answer.Answer.{Answer}

@@ -1,7 +1,7 @@
 -- What a session is that was opened over a text.
 use Rattle.std.specs.Prelude.{◌≡◌, ℕ, ◌<◌, List, [], ◌∷◌, length, ◌⊎◌, Option, Some, map, true}
-use Rattle.ir_types.specs.declared.refusal.Refusal.{Refusal}
-use Rattle.ir_types.specs.declared.refusal.Refusal.TheVariants.{TooMany}
+use Rattle.ir_event.specs.types.declared.refusal.Refusal.{Refusal}
+use Rattle.ir_event.specs.types.declared.refusal.Refusal.TheVariants.{TooMany}
 use Rattle.ir_event.specs.Modules.{Module}
 use Rattle.rewriter.specs.Panels.{Shown, all_shown}
 use Rattle.mlir_work_listeners.specs.Listeners.{seven_listener, kinds_of}

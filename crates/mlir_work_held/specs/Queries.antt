@@ -1,5 +1,5 @@
 -- What a session's module has.
-use Rattle.ir_tree.specs.Tree.{Op}
+use Rattle.ir_event.specs.trees.Tree.{Op}
 use Rattle.mlir_work_held.specs.declared.session.Session.{Session}
 
 -- the module, by the numbers of its context

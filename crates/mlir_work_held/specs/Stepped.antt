@@ -1,6 +1,6 @@
 -- What a line makes of a session that is held between calls.
 use Rattle.std.specs.Prelude.{◌≡◌, ℕ, ◌+◌, List, [], ◌∷◌, length, true, false, min}
-use Rattle.ir_types.specs.declared.refusal.Refusal.TheVariants.{BadCommand}
+use Rattle.ir_event.specs.types.declared.refusal.Refusal.TheVariants.{BadCommand}
 use Rattle.rewriter.specs.Commands.{Response}
 use Rattle.rewriter.specs.Benched.{state_of}
 use Rattle.rewriter.specs.Machine.{State}

@@ -9,8 +9,8 @@ ghost use Rattle.mlir_work_held.specs.Stepped.{Answered, way};
 
 use crate::answer::Answer;
 use crate::session::{Session, obey_line, way};
-use ir_tree::value::Value;
-use ir_types::ids::OpId;
+use ir_event::trees::value::Value;
+use ir_event::types::ids::OpId;
 use mlir_work_session::command::{Command, Line};
 use mlir_work_session::spots::Spot;
 use std::alloc::Global;

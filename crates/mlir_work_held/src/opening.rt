@@ -1,6 +1,6 @@
 //! A session is opened over the text of a module.
 ghost use Rattle.std.specs.Prelude.{◌≡◌, [], IfOk, IfErr, IfSome, None};
-ghost use Rattle.ir_types.specs.declared.refusal.Refusal.TheVariants.{Memory};
+ghost use Rattle.ir_event.specs.types.declared.refusal.Refusal.TheVariants.{Memory};
 ghost use Rattle.ir_event.specs.Modules.{module_in};
 ghost use Rattle.rewriter.specs.Benched.{IsKept, state_of};
 ghost use Rattle.rewriter_laws.specs.Journals.{IsSlotted, IsTidy};
@@ -9,8 +9,8 @@ ghost use Rattle.mlir_work_run.specs.Whole.{IsWorldOf, WhyNot};
 ghost use Rattle.mlir_work_held.specs.Opened.{AllAttached, Opened, WhyNotOpened};
 
 use crate::session::Session;
+use ir_event::types::refusal::Refusal;
 use ir_event::world::World;
-use ir_types::refusal::Refusal;
 use mlir_work_listeners::seven::{Seven, all_listeners};
 use mlir_work_run::run::{hold, tree_of};
 use mlir_work_session::boxes::attach_all;

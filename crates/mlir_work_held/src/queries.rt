@@ -1,15 +1,15 @@
 //! What a session's module has, asked by numbers: no text is read or written for it.
 ghost use Rattle.std.specs.Prelude.{◌≡◌, ◌<◌, None, Some, MatchOption, true, length};
-ghost use Rattle.ir_tree.specs.Ids.{find, has_id};
-ghost use Rattle.ir_tree.specs.Tree.{head};
-ghost use Rattle.ir_tree.specs.Uses.{uses_of};
-ghost use Rattle.ir_store.specs.tree_laws.Reads.{first_at, last_at, next_of, parent_of, prev_of};
-ghost use Rattle.ir_store.specs.tree_laws.Changes.{operand_at};
+ghost use Rattle.ir_event.specs.trees.Ids.{find, has_id};
+ghost use Rattle.ir_event.specs.trees.Tree.{head};
+ghost use Rattle.ir_event.specs.trees.Uses.{uses_of};
+ghost use Rattle.ir_event.specs.tree_laws.Reads.{first_at, last_at, next_of, parent_of, prev_of};
+ghost use Rattle.ir_event.specs.tree_laws.Changes.{operand_at};
 ghost use Rattle.mlir_work_held.specs.Queries.{tree_of};
 
 use crate::session::Session;
-use ir_tree::value::Value;
-use ir_types::ids::OpId;
+use ir_event::trees::value::Value;
+use ir_event::types::ids::OpId;
 
 impl Session {
     /// Whether an operation is in the module.

@@ -7,7 +7,7 @@ ghost use Rattle.mlir_work_session.specs.Output.{says_nothing};
 ghost use Rattle.mlir_work_held.specs.Stepped.{Answered, IsLeft, Said, Stepped, way};
 
 use crate::answer::{Answer, answer_of, nothing, refused};
-use ir_types::refusal::Refusal;
+use ir_event::types::refusal::Refusal;
 use mlir_work_listeners::seven::Seven;
 use mlir_work_session::command::{Line, read_line};
 use mlir_work_session::lines::split_line;

@@ -7,9 +7,9 @@ use crate::answer::{Answer, closed, opened, unopened};
 use crate::edits::{erase, move_op, replace, set_operand};
 use crate::opening::open;
 use crate::session::{Session, read_shown, say};
-use ir_tree::value::Value;
-use ir_types::ids::OpId;
-use ir_types::refusal::Refusal;
+use ir_event::trees::value::Value;
+use ir_event::types::ids::OpId;
+use ir_event::types::refusal::Refusal;
 use mlir_work_session::spots::Spot;
 use std::test::*;
 

@@ -1,9 +1,9 @@
 -- Where canonicalization and conversion are refused with 31: where that is due, or the context is full.
 use Rattle.std.proofs.Common.{◌≡◌, ◌∙◌, sym, ap, ◌⊎◌, inl, inr, subst, ℕ, List, [], Some, None, option_map, Result}
 use Rattle.std.specs.Prelude.{IfErr}
-use Rattle.ir_types.specs.declared.refusal.Refusal.{Refusal}
-use Rattle.rewriter.specs.Commands.{Command, Response, Replied, RuleName}
-use Rattle.rewriter.specs.Machine.{IsFullSo, Reply, State, Transformation}
+use Rattle.ir_event.specs.types.declared.refusal.Refusal.{Refusal}
+use Rattle.mlir_work_transforms.specs.rewriter.Commands.{Command, Response, Replied, RuleName}
+use Rattle.mlir_work_transforms.specs.rewriter.Machine.{IsFullSo, Reply, State, Transformation}
 use Rattle.greedy.specs.Changes.{canonical_reply, canonicalizing}
 use Rattle.greedy.specs.Outcomes.{IsReason}
 use Rattle.greedy.specs.declared.outcome.Outcome.{Outcome as Ended}

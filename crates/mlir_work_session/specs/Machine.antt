@@ -3,10 +3,12 @@ use Rattle.std.specs.Prelude.{◌≡◌, ℕ, List, [], Option, Some, None, ⊤}
 use Rattle.ir_event.specs.Modules.{Module}
 use Rattle.ir_text.specs.Printing.{text_of}
 use Rattle.ir_text.specs.Public.{SpellsAttr}
-use Rattle.rewriter.specs.Texts.{SpellsBeside}
-use Rattle.rewriter.specs.Commands.{Apply, Canon, Command, Convert, Asked, Asks, Response, Replied, TextRefusedAt, Follows}
-use Rattle.rewriter.specs.Machine.{Done, DoneAs, DoneWith, IsFullSo, Refused, RefusedOn, Reply as Answered, Shows, Nothing, Rows, Transformation, Tree}
-pub use Rattle.rewriter.specs.Machine.{State}
+use Rattle.mlir_work_transforms.specs.rewriter.Texts.{SpellsBeside}
+use Rattle.mlir_work_transforms.specs.rewriter.Commands.{Apply, Canon, Command, Convert, Asked}
+use Rattle.mlir_work_transforms.specs.rewriter.Commands.{Asks, Response, Replied, TextRefusedAt, Follows}
+use Rattle.mlir_work_transforms.specs.rewriter.Machine.{Done, DoneAs, DoneWith, IsFullSo, Refused, RefusedOn}
+use Rattle.mlir_work_transforms.specs.rewriter.Machine.{Reply as Answered, Shows, Nothing, Rows, Transformation, Tree}
+pub use Rattle.mlir_work_transforms.specs.rewriter.Machine.{State}
 use Rattle.mlir_work_script.specs.Outcomes.{outcome_of}
 use Rattle.greedy.specs.Changes.{canonicalizing}
 use Rattle.mlir_work_transforms.specs.Converting.{conversion}

@@ -23,9 +23,10 @@ mod texts;
 mod transforming;
 mod unread;
 
+pub use greedy as greedy;
 pub use ir_text::reader;
 pub use mlir_work_script::{
     cells, clauses, command, input, items, keys, kind, lines, numbers, outcome, replies, rule_name,
     sink, source, spots, values, watched, words, writing,
 };
-pub use rewriter::Bench;
+pub use mlir_work_transforms::rewriter::Bench;
