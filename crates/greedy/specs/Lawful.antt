@@ -6,7 +6,7 @@ use Rattle.ir_types.proofs.Growth.{grows_refl, grows_trans}
 use Rattle.ir_event.specs.Listener.{Listener}
 use Rattle.patterns.specs.Benched.{Benched}
 use Rattle.patterns.specs.runs.Interning.{IsFull}
-use Rattle.patterns.proofs.Told.{heard_none, heard_more}
+use Rattle.rewriter.proofs.Told.{heard_none, heard_more}
 use Rattle.greedy.specs.Benches.{Onward}
 
 front_longer : {A : Type 0} (n : ℕ) (xs ys : List A) → IsFront xs ys → n ≤ length xs → n ≤ length ys
