@@ -3,7 +3,7 @@ use Rattle.std.proofs.Common.{◌≡◌, sym, ap, subst, refl, List, [], ◌∷�
 use Rattle.std.specs.Prelude.{option_map}
 use Rattle.ir_event.specs.types.Things.{Things, Grows}
 use Rattle.ir_event.specs.types.Sound.{Holds}
-use Rattle.ir_types.proofs.Growth.{grows_refl, grows_trans}
+use Rattle.ir_event.proofs.of_types.Growth.{grows_refl, grows_trans}
 use Rattle.ir_event.specs.trees.Meaning.{meaning as op_meaning}
 use Rattle.ir_event.specs.store.Nodes.{node_of}
 use Rattle.ir_event.specs.store.Stored.{Stored, known}
