@@ -10,4 +10,4 @@ pub returns-in-Bad-clause-said : goal.returns-in-Bad-clause-said
 returns-in-Bad-clause-said c = subst (λ (spoken : Spoken). Said c.args.manner.now c.args.session.now spoken c.obey_line.result c.obey_line.new.session) c.in-Bad.ensures c.obey_line.ensures.answered
 
 pub returns-in-Obey-clause-said : goal.returns-in-Obey-clause-said
-returns-in-Obey-clause-said c = subst (λ (spoken : Spoken). Said c.args.manner.now c.args.session.now spoken c.obey_line.result c.obey_line.new.session) c.in-Obey.ensures c.obey_line.ensures.answered
+returns-in-Obey-clause-said c = subst (λ (spoken : Spoken). Said c.args.manner.now c.args.session.now spoken c.obey_line-in-Obey.result c.obey_line-in-Obey.new.session) c.in-Obey.ensures c.obey_line-in-Obey.ensures.answered
