@@ -43,6 +43,8 @@ not counted.
 
 To look:
   print                      the module
+  print ids                  the module with the number of its operation at the
+                             end of each line, as a comment
   report KIND                the rows of an analysis
 
 To edit:
@@ -77,11 +79,17 @@ Marks, of which 16 may be open:
   begin                      a mark is made of the module
   commit                     the newest mark is dropped
   rollback                   the module of the newest mark is held again, and
-                             the mark is dropped; a `detach` is not undone
+                             the mark is dropped; a `detach` or an `attach`
+                             is not undone
 
 Analyses, which are all attached at the beginning:
   detach KIND                an analysis is dropped
+  attach KIND                one that was dropped is made anew, and reported last
   resync KIND                an analysis begins again
+
+To say what is to come:
+  expect REFUSAL COMMAND     COMMAND, the rest of the line, is to be refused so:
+                             then the refusal is right, and anything else wrong
 
 Operations are numbered in the order of the text, and the module around them is
 #0; one that is put in takes the next free number, and those inside it the next.
@@ -91,6 +99,7 @@ Operations are numbered in the order of the text, and the module around them is
              block of region R of #N
   OPERATION  one line in generic form; it names values of the module as above
   RULE       the number of a rule, or its word, as 4 or drop-zero
+  REFUSAL    the number of a refusal, or its word, as 22 or HasUses
   KEY        a bare identifier or a string literal; it is one of the properties
              where it is inherent to the operation or they have it, else one of
              the attributes
@@ -110,6 +119,8 @@ many rules stand, as `1 converted 2`; an `apply` by `1 applied 1`, or
 `1 refused 23 NotVisible`, changes nothing, and the next command is tried;
 `1 refused 2 Unexpected at 4` says at which byte the ATTRIBUTE or the OPERATION
 is wrong, and `1 refused 51 NotLegalised #3` for which operation a `convert` is.
+Where a line expects a refusal and something else comes, `1 expected 22 HasUses`
+stands below the reply.
 
 Kinds:
   uses         the uses of each value: the value, the operation that uses it,
@@ -128,9 +139,10 @@ Kinds:
                name
 
 Exit status:
-  0  each command was accepted; also of --help
-  1  a command was refused, or an analysis that was to be attached; what each
-     number means stands in docs/REFUSALS.md
+  0  each command was accepted, or refused as it was expected to be; also of
+     --help
+  1  a command was refused, or not as it was expected to be, or an analysis that
+     was to be attached; what each number means stands in docs/REFUSALS.md
   2  the command line is wrong, or there was no memory to begin
   3  the module was refused, as in `module refused 3 UnknownValue at 9`: the
      number and word of the reason, and the byte where it stands

@@ -5,3 +5,4 @@ pub mod Converted
 pub mod Listed
 pub mod Named
 pub mod Ruled
+pub mod Chosen
