@@ -175,8 +175,19 @@ def line_says(line):
     return text_says(text)
 
 
+def tried_says(word):
+    """Whether each item of a list names a rule that may be tried, by its number, or by a word."""
+    return all(number_of(item) in range(1, 25) if item[:1].isdigit() else item for item in word.split(b","))
+
+
 def text_says(text):
     words = re.split(rb"[ \t]+", text)
+    rewrites = words[1:] if words[0] == b"rewrite" else words[2:] if words[:2] == [b"canon", b"only"] else []
+    if rewrites and tried_says(rewrites[0]):
+        if len(rewrites) == 1:
+            return f"rewrite {told(rewrites[0])} limit none"
+        if len(rewrites) == 3 and rewrites[1] == b"limit" and number_of(rewrites[2]) is not None:
+            return f"rewrite {told(rewrites[0])} limit {number_of(rewrites[2])}"
     if words == [b"print", b"ids"]:
         return "ids"
     if len(words) == 2 and words[0] == b"attach" and kind_of(words[1]) is not None:
@@ -237,7 +248,12 @@ MOVES = {"move #3 before #2": "3 before 2", "move\t#3  after\t#002\r": "3 after 
 KINDS_ALONE = {"detach uses": "detach 1", "resync uses": "resync 1", "detach kind9": "detach 9",
                "\tresync  kind255 \r": "resync 255", "detach constants": "detach 6", "resync unreached": "resync 7",
                "attach uses": "attach 1", "\tattach  unreached \r": "attach 7", "attach kind9": "attach 9"}
-ORDERS = {"print ids": "ids", "\tprint  ids \r": "ids", "expect 22 erase #3": "expects 22 HasUses erase 3",
+ORDERS = {"rewrite 1": "rewrite [1] limit none", "rewrite 4,drop-one,0024": "rewrite [4,drop-one,0024] limit none",
+          "\tcanon  only\t1,2  limit 007\r": "rewrite [1,2] limit 7",
+          "rewrite nope,#1 limit 0": "rewrite [nope,#1] limit 0",
+          "canon only limit": "rewrite [limit] limit none", "canon only 1,1": "rewrite [1,1] limit none",
+          "rewrite -1,_": "rewrite [-1,_] limit none",
+          "print ids": "ids", "\tprint  ids \r": "ids", "expect 22 erase #3": "expects 22 HasUses erase 3",
           "expect HasUses erase #3": "expects 22 HasUses erase 3", "\texpect  0060\tnonsense\r":
               "expects 60 BadCommand bad",
           "expect 22": "expects 22 HasUses bad", "expect 22 // x": "expects 22 HasUses bad",
@@ -317,20 +333,23 @@ report nonsense|report Uses|report use|report uses uses|report uses \r x|reportu
 report kind6|report kind07|report kind00|report kind256|report kind4294967305|report kind-1|report kind9x|report 1
 report kind7|report Unreached|sweep x|sweep //|Sweep|sweeps|swee|sweep #1|apply|apply 1|apply #1|apply 1 #|apply 1 2
 apply 0 #1|apply 31 #1|apply 00031 #1|apply 1x #1|apply 1 #1 x|apply 4294967297 #1|apply drop-zero|apply drop-zero 3
-apply drop-zero #3 #4|apply drop zero #3|Apply 1 #2|applies 1 #2|apply 1 #4294967296|attach|attach uses uses|attach Uses
-attach kind1|attachuses|attach x|attach #1|attach all|print id|print idss|print ids x|print ids ids|print Ids|printids
-print ids //|expect|expect print|expect 99 print|expect 0 print|expect 22x erase #3|expect Hasuses erase #3
-expect hasuses erase #3|expect -22 erase #3|Expect 22 print|expect 4294967318 erase #3|expect22 print|expects 22 print
-expect 22,23 print|expect 15 print|expect 39 print|print x|print //|Print|prin|prints|/print|print\x0b|\x0cprint|jump
-set-operand|set-operand #3|set-operand #3 0|set-operand #3 0 %v2.0 x|set-operand 3 0 %v2.0|set-operand # 0 %v2.0
-set-operand ##3 0 %v2.0|set-operand # 3 0 %v2.0|set-operand #3 x %v2.0|set-operand #3 -1 %v2.0|set-operand #3 +1 %v2.0
-set-operand #0x3 0 %v2.0|set-operand #3 0 #2|set_operand #3 0 %v2.0|set-operand #3 0 v2.0|set-operand #3 0 %
-set-operand #3 0 %v|set-operand #3 0 %v2|set-operand #3 0 %v2.|set-operand #3 0 %v.0|set-operand #3 0 %v2.0.0
-set-operand #3 0 %v2..0|set-operand #3 0 %V2.0|set-operand #3 0 %v 2.0|set-operand #3 0 %a1.0|set-operand #3 0 %a1.0.
-set-operand #3 0 %a1..0|set-operand #3 0 %a.0.0|set-operand #3 0 %a1.0.0.0|set-operand #3 0 %b1.0.0
-set-operand #4294967296 0 %v2.0|set-operand #3 4294967296 %v2.0|set-operand #3 0 %v4294967296.0
-set-operand #3 0 %v2.4294967296|set-operand #3 0 %a1.4294967296.0|set-operand #42949672950 0 %v2.0
-set-operand #99999999999999999999999 0 %v2.0""".replace("\n", "|").split("|")
+apply drop-zero #3 #4|apply drop zero #3|Apply 1 #2|applies 1 #2|apply 1 #4294967296|rewrite|rewrite 25|rewrite 0
+rewrite 1,|rewrite ,1|rewrite 1,,2|rewrite 1, 2|rewrite 1 2|rewrite 1,30|rewrite 1 limit|rewrite 1 limit x
+rewrite 1 limit 2 3|rewrite limit 3|rewrite 1x|rewrite 1 limits 2|rewrites 1|Rewrite 1|rewrite 4294967297
+rewrite 1 limit 4294967296|canon only|canon only 25|canon only 1 limit|canon only limit 3|canononly 1|canon Only 1
+canon only 1,|canon 1 only|attach|attach uses uses|attach Uses|attach kind1|attachuses|attach x|attach #1|attach all
+print id|print idss|print ids x|print ids ids|print Ids|printids|print ids //|expect|expect print|expect 99 print
+expect 0 print|expect 22x erase #3|expect Hasuses erase #3|expect hasuses erase #3|expect -22 erase #3|Expect 22 print
+expect 4294967318 erase #3|expect22 print|expects 22 print|expect 22,23 print|expect 15 print|expect 39 print|print x
+print //|Print|prin|prints|/print|print\x0b|\x0cprint|jump|set-operand|set-operand #3|set-operand #3 0
+set-operand #3 0 %v2.0 x|set-operand 3 0 %v2.0|set-operand # 0 %v2.0|set-operand ##3 0 %v2.0|set-operand # 3 0 %v2.0
+set-operand #3 x %v2.0|set-operand #3 -1 %v2.0|set-operand #3 +1 %v2.0|set-operand #0x3 0 %v2.0|set-operand #3 0 #2
+set_operand #3 0 %v2.0|set-operand #3 0 v2.0|set-operand #3 0 %|set-operand #3 0 %v|set-operand #3 0 %v2
+set-operand #3 0 %v2.|set-operand #3 0 %v.0|set-operand #3 0 %v2.0.0|set-operand #3 0 %v2..0|set-operand #3 0 %V2.0
+set-operand #3 0 %v 2.0|set-operand #3 0 %a1.0|set-operand #3 0 %a1.0.|set-operand #3 0 %a1..0|set-operand #3 0 %a.0.0
+set-operand #3 0 %a1.0.0.0|set-operand #3 0 %b1.0.0|set-operand #4294967296 0 %v2.0|set-operand #3 4294967296 %v2.0
+set-operand #3 0 %v4294967296.0|set-operand #3 0 %v2.4294967296|set-operand #3 0 %a1.4294967296.0
+set-operand #42949672950 0 %v2.0|set-operand #99999999999999999999999 0 %v2.0""".replace("\n", "|").split("|")
 
 
 def lines():
@@ -363,7 +382,8 @@ def lines():
     for text in ("report uses", "report kind10", "print", "// x", "set-operand #3 10 %v2.0", "set-operand #3 0 %a1.0.2",
                  "move #3 after #2", "move #3 end #1 0", "set-attr #3 k.a 1",
                  "set-attr #3 \"a\\n\" 1", "drop-attr #3 k", "detach uses", "resync kind10", "canon limit 10",
-                 "convert full depth 2 legal a,b rules 2,25", "attach dead", "print ids", "expect 22 print"):
+                 "convert full depth 2 legal a,b rules 2,25", "attach dead", "print ids", "expect 22 print",
+                 "rewrite 2,drop-one limit 10"):
         text = text.encode()
         for place in range(len(text) + 1):
             line(text[:place] + text[place + 1:])
@@ -877,6 +897,23 @@ def expecting():
     due(over + b"begin\nexpect 22 erase #2\nexpect 22 erase #4\nrollback\nprint\n", [22], boxes)
 
 
+def rewriting():
+    """Some rules are tried, in an order of their own."""
+    boxes = script.BOXES
+    text = sums(6) + DIVIDER
+    every = [b"1", b"2", b"3", b"4", b"1,2", b"2,1", b"4,3,2,1", b"fold-to-constant,swap-constant",
+             b"drop-zero,10,1", b"24", b"1,1,2,2", b",".join(b"%d" % number for number in range(1, 25)),
+             b",".join(b"%d" % number for number in range(24, 0, -1))]
+    for rules in every:
+        due(text + b"begin\nrewrite %s\nprint\nrewrite %s\nrollback\ncanon only %s limit 2\n" % (rules, rules, rules)
+            + b"report constants\nprint\n", (), boxes)
+    due(text + b"rewrite 25\nrewrite 1,30\nrewrite lower-loop\nrewrite nope\nrewrite 1,nope\nrewrite nope,25\n"
+               b"rewrite 1 limit 0\nrewrite nope limit 0\nrewrite 1 limit 1000001\nrewrite 1 limit 1000000\n"
+               b"rewrite 1,\n"
+               b"canon only\ncanon only 1 limit\nexpect 26 canon only nope\n", [60, 26, 50], boxes)
+    whole(text + b"rewrite 2\nrewrite 1,2,3,4\nprint\n", True, 1)
+
+
 def sweeps():
     """The private symbols that nothing reaches are taken away, all of them or none."""
     shown = b"report unreached\nreport symbols\nprint\n"
@@ -1052,8 +1089,8 @@ def analyses(kinds, text, brief=True):
 
 
 GOLDEN_PARTS = {
-    "runs": (runs, moves, entries, wholes, panels, attaching, with_ids, expecting, sweeps, over_limits, beginnings,
-             byte_limits, failing_ends, failing_lives, interactive),
+    "runs": (runs, moves, entries, wholes, panels, attaching, with_ids, expecting, rewriting, sweeps, over_limits,
+             beginnings, byte_limits, failing_ends, failing_lives, interactive),
     "pages": (refused, worked),
     "command_line": (command_lines,),
 }

@@ -40,6 +40,11 @@ def rewriting(maker):
     if maker.random() < 0.2:
         rule = maker.choice([maker.randrange(32), maker.choice(rewrites.WORDS), "1", "2"])
         return f"apply {rule} #{maker.randrange(20)}"
+    if maker.random() < 0.2:
+        rules = ",".join(str(maker.choice([1, 2, 3, maker.randrange(1, 25), maker.choice(rewrites.WORDS)]))
+                         for _ in range(maker.randrange(1, 9)))
+        word, behind = maker.choice(["rewrite", "canon only"]), maker.choice(["", "", " limit 2", " limit 0", " limit"])
+        return f"{word} {rules}{behind}"
     if maker.random() < 0.5:
         return maker.choice(["canon", "canon", "canon limit 1", "canon limit 3", "canon limit 0", "canon limit"])
     return conversion(maker)

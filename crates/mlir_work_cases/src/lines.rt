@@ -164,11 +164,19 @@ fn told_command(alloc: Global, command: &Command<'_>) -> Result<String, AllocErr
     }
 }
 
+/// A line that rewrites by some rules.
+fn told_rewrite(alloc: Global, rules: &[u8], limit: Option<u32>) -> Result<String, AllocError> {
+    let rules = shown(alloc, rules)?;
+    let limit = told_number(alloc, limit)?;
+    format!(in alloc; "rewrite {rules} limit {limit}")
+}
+
 /// An order.
-fn told_order(alloc: Global, order: Order) -> Result<String, AllocError> {
+fn told_order(alloc: Global, order: &Order<'_>) -> Result<String, AllocError> {
     match order {
         Order::Attach(kind) => format!(in alloc; "attach {}", kind.number()),
         Order::PrintIds => String::from_str(alloc, "ids"),
+        Order::Rewrite { rules, limit } => told_rewrite(alloc, rules, *limit),
     }
 }
 
@@ -178,7 +186,7 @@ fn told_said(alloc: Global, line: &Line<'_>) -> Result<String, AllocError> {
         Line::Nothing => String::from_str(alloc, "nothing"),
         Line::Bad => String::from_str(alloc, "bad"),
         Line::Obey(command) => told_command(alloc, command),
-        Line::Ordered(order) => told_order(alloc, *order),
+        Line::Ordered(order) => told_order(alloc, order),
     }
 }
 

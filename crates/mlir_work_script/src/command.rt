@@ -115,7 +115,7 @@ pub enum Line<'a> {
     /// A command of the bench.
     Obey(Command<'a>),
     /// An order of the session.
-    Ordered(Order),
+    Ordered(Order<'a>),
 }
 
 /// `report KIND`, behind its name.

@@ -60,7 +60,7 @@ fn is_tried(item: &[u8]) -> bool
 }
 
 /// Whether each item of a list does.
-pub fn are_tried(text: &[u8]) -> bool
+pub(crate) fn are_tried(text: &[u8]) -> bool
     ensures { result ≡ are_tried text.now }
 {
     let mut rest = Some(text);

@@ -1,16 +1,21 @@
 -- How orders are answered.
-use Rattle.std.proofs.Common.{◌≡◌, ◌∙◌, ap, sym, subst, refl, inl, inr, ℕ, List, [], Option, Some, None}
+use Rattle.std.proofs.Common.{◌≡◌, ◌∙◌, ap, sym, subst, refl, inl, inr, ℕ, List, [], Option, Some, None, false, true}
+use Rattle.std.specs.Prelude.{is_some, option_map}
 use Rattle.ir_types.specs.declared.refusal.Refusal.{Refusal}
-use Rattle.ir_types.specs.declared.refusal.Refusal.TheVariants.{Memory, NoSuchKind}
-use Rattle.rewriter.specs.Commands.{Asked, Ask, Misplaced, Unread, Follows, Response, Replied, TextRefusedAt}
+use Rattle.ir_types.specs.declared.refusal.Refusal.TheVariants.{Memory, NoSuchKey, NoSuchKind}
+use Rattle.rewriter.specs.Commands.{AppliesRule, RuleName, Asked, Ask, Misplaced, Unread, Follows, Response, Replied, TextRefusedAt}
 use Rattle.rewriter.specs.Machine as call
-use Rattle.rewriter.specs.Machine.{State, Call, Reply, Done, Refused, Shows, Nothing, Tree, Goes}
+use Rattle.rewriter.specs.Machine.{State, Call, Reply, Done, Refused, Shows, Nothing, Transformation, Tree, Goes}
 use Rattle.rewriter.specs.Panels.{Shown}
-use Rattle.mlir_work_script.specs.Orders.{Attach, Order, PrintIds}
+use Rattle.mlir_work_script.specs.Orders.{Attach, Order, PrintIds, Rewrite}
 use Rattle.mlir_work_session_base.specs.IdsText.{ids_text}
-use Rattle.mlir_work_session.specs.Machine.{AttachesKind, Fulfils, OrdersIn, Way, order_shows}
+use Rattle.mlir_work_session.specs.Machine.{AttachesKind, Fulfils, OrdersIn, Way, limit_or, order_shows}
 use Rattle.mlir_work_session.specs.Output.{IsBounded}
+use Rattle.greedy.specs.Changes.{rewriting}
+use Rattle.mlir_work_transforms.specs.Rewriting.{rewriting_named, rules_named}
+use Rattle.mlir_work_transforms.specs.Rule.{Rule}
 use Rattle.mlir_work_session.proofs.Obeying.{some_goes}
+use Rattle.mlir_work_session.proofs.Panels.{all_stay}
 
 module _ (way : Way) where
   -- an order that comes to a call
@@ -39,6 +44,29 @@ module _ (way : Way) where
   pub fulfils_unprinted : (s : State) → Fulfils way s PrintIds (Replied (Refused Memory)) [] s
   fulfils_unprinted s = fulfils_call s s PrintIds call.Print (Refused Memory) Nothing refl (record { answer = inr (refl, refl); panel = refl })
 
+  -- ---- rewriting
+
+  -- a list in which a name is no rule's
+  pub fulfils_unruled : (names : List RuleName) (limit : Option ℕ) (s : State) → rewriting_named names (limit_or way.manner.limit limit) ≡ None → Fulfils way s (Rewrite names limit) (Replied (Refused NoSuchKey)) [] s
+  fulfils_unruled names limit s e =
+      record { asked = Misplaced NoSuchKey; shows = Nothing; asks = subst (λ (o : Option Transformation). AppliesRule o (Misplaced NoSuchKey)) (sym e) refl; follows = (refl, refl, refl); text = refl }
+
+  asks_ruled : (names : List RuleName) (limit : Option ℕ) (f : Transformation) → rewriting_named names (limit_or way.manner.limit limit) ≡ Some f → OrdersIn way (Rewrite names limit) (Ask (call.Change f))
+  asks_ruled names limit f e = subst (λ (o : Option Transformation). AppliesRule o (Ask (call.Change f))) (sym e) refl
+
+  -- one of rules
+  pub fulfils_ruled : (names : List RuleName) (limit : Option ℕ) (f : Transformation) (s t : State) (reply : Reply) (response : Response) → rewriting_named names (limit_or way.manner.limit limit) ≡ Some f → response ≡ Replied reply → Goes s (call.Change f) reply Nothing t → Fulfils way s (Rewrite names limit) response [] t
+  fulfils_ruled names limit f s t reply response e is goes = rw is (fulfils_call s t (Rewrite names limit) (call.Change f) reply Nothing (asks_ruled names limit f e) goes)
+
+  -- for which there is no memory
+  pub fulfils_unlisted : (names : List RuleName) (limit : Option ℕ) (s : State) (refusal : Refusal) → refusal ≡ Memory → is_some (rules_named names) ≡ true → Fulfils way s (Rewrite names limit) (Replied (Refused refusal)) [] s
+  fulfils_unlisted names limit s refusal is there = go (rules_named names) refl
+    where
+      go : (o : Option (List Rule)) → rules_named names ≡ o → Fulfils way s (Rewrite names limit) (Replied (Refused refusal)) [] s
+      go None e = absurd (let f : false ≡ true = sym (ap is_some e) ∙ there in cc)
+      go (Some rs) e =
+          rw is (fulfils_ruled names limit (rewriting rs (limit_or way.manner.limit limit)) s s (Refused Memory) (Replied (Refused Memory)) (ap (option_map (λ rs. rewriting rs (limit_or way.manner.limit limit))) e) refl (record { answer = inr (refl, inl refl); panel = all_stay s.panel }))
+
   -- ---- each order has an answer, and none of them is refused at a byte
 
   abbrev pub SomeFulfilled : State → Order → Type 0
@@ -51,9 +79,14 @@ module _ (way : Way) where
   by_kind s kind None e = (Replied (Refused NoSuchKind), [], s, fulfils_unsupplied kind s e)
   by_kind s kind (Some a) e = by_call s (Attach kind) (call.Attach a) (asks_supplied kind a e)
 
+  by_rules : (s : State) (names : List RuleName) (limit : Option ℕ) (f : Option Transformation) → rewriting_named names (limit_or way.manner.limit limit) ≡ f → SomeFulfilled s (Rewrite names limit)
+  by_rules s names limit None e = (Replied (Refused NoSuchKey), [], s, fulfils_unruled names limit s e)
+  by_rules s names limit (Some f) e = by_call s (Rewrite names limit) (call.Change f) (asks_ruled names limit f e)
+
   pub some_fulfilled : (s : State) (o : Order) → SomeFulfilled s o
   some_fulfilled s (Attach kind) = by_kind s kind (way.supply kind) refl
   some_fulfilled s PrintIds = by_call s PrintIds call.Print refl
+  some_fulfilled s (Rewrite names limit) = by_rules s names limit (rewriting_named names (limit_or way.manner.limit limit)) refl
 
 -- an order is no text that isn't read
 never_unread : (way : Way) (o : Order) (refusal : Refusal) (offset : Option ℕ) → OrdersIn way o (Unread refusal offset) → ⊥
@@ -62,6 +95,11 @@ never_unread way (Attach kind) refusal offset asks = go (way.supply kind) asks
     go : (a : Option Shown) → AttachesKind a (Unread refusal offset) → ⊥
     go None e = absurd cc
     go (Some a) e = absurd cc
+never_unread way (Rewrite names limit) refusal offset asks = go (rewriting_named names (limit_or way.manner.limit limit)) asks
+  where
+    go : (o : Option Transformation) → AppliesRule o (Unread refusal offset) → ⊥
+    go None e = absurd cc
+    go (Some f) e = absurd cc
 never_unread way PrintIds refusal offset asks = absurd (let e : Unread refusal offset ≡ Ask call.Print = asks in cc)
 
 not_at : (way : Way) (s t : State) (o : Order) (asked : Asked) (shows : Shows) (refusal : Refusal) (offset : ℕ) → OrdersIn way o asked → Follows s asked (TextRefusedAt refusal offset) shows t → ⊥

@@ -8,7 +8,7 @@ use Rattle.rewriter.specs.Commands.{Asked, Ask, CanFill, Command, IsAttrRefusal,
 use Rattle.rewriter.specs.Machine.{State}
 use Rattle.rewriter.specs.Texts.{SpellsBeside}
 use Rattle.mlir_work_script.specs.Commands.{Spoken, Nothing, Bad, Obey, Ordered}
-use Rattle.mlir_work_script.specs.Orders.{Attach, Order, PrintIds}
+use Rattle.mlir_work_script.specs.Orders.{Attach, Order, PrintIds, Rewrite}
 use Rattle.mlir_work_session.specs.Machine.{AsksIn, OrdersIn}
 use Rattle.mlir_work_session.specs.Output.{Line, Way, way_of, Replied, Replies}
 
@@ -51,6 +51,7 @@ module _ (way : Way) (bytes : ℕ) (longer : way.manner.bytes ≤ bytes) where
   orders_wider : (order : Order) (asked : Asked) → OrdersIn way order asked → OrdersIn wider order asked
   orders_wider (Attach kind) asked h = h
   orders_wider PrintIds asked h = h
+  orders_wider (Rewrite names limit) asked h = h
 
   replies_wider : (s : State) (spoken : Spoken) (response : Response) (shows : List ℕ) (t : State) → Replies way s spoken response shows t → Replies wider s spoken response shows t
   replies_wider s Nothing response shows t h = absurd h

@@ -5,7 +5,7 @@ use Rattle.ir_event.specs.Modules.{Module}
 use Rattle.ir_text.specs.Printing.{text_of}
 use Rattle.ir_text.specs.Public.{SpellsAttr}
 use Rattle.rewriter.specs.Texts.{SpellsBeside}
-use Rattle.rewriter.specs.Commands.{Apply, Canon, Command, Convert, Asked, Ask, Asks, Misplaced, Response, Replied, TextRefusedAt, Follows}
+use Rattle.rewriter.specs.Commands.{AppliesRule, Apply, Canon, Command, Convert, Asked, Ask, Asks, Misplaced, Response, Replied, TextRefusedAt, Follows}
 use Rattle.rewriter.specs.Machine.{Done, DoneAs, DoneWith, IsFullSo, Refused, RefusedOn, Reply as Answered, Shows, Nothing, Rows, Transformation, Tree}
 use Rattle.rewriter.specs.Machine as call
 use Rattle.rewriter.specs.Panels.{Shown}
@@ -15,6 +15,7 @@ use Rattle.mlir_work_script.specs.Outcomes.{outcome_of}
 use Rattle.greedy.specs.Changes.{canonicalizing}
 use Rattle.mlir_work_transforms.specs.Converting.{conversion}
 use Rattle.mlir_work_transforms.specs.Applying.{application}
+use Rattle.mlir_work_transforms.specs.Rewriting.{rewriting_named}
 use Rattle.mlir_work_transforms.specs.Sweep.{sweeping}
 use Rattle.mlir_work_session_base.specs.IdsText.{ids_text}
 use Rattle.mlir_work_session_base.specs.RowText.{rows_text}
@@ -73,6 +74,7 @@ AttachesKind (Some a) asked = asked ≡ Ask (call.Attach a)
 abbrev pub OrdersIn : Way → Order → Asked → Type 0
 OrdersIn way (Attach kind) asked = AttachesKind (way.supply kind) asked
 OrdersIn way PrintIds asked = asked ≡ Ask call.Print
+OrdersIn way (Rewrite names limit) asked = AppliesRule (rewriting_named names (limit_or way.manner.limit limit)) asked
 
 -- the bytes that are shown below the reply to one: a module stands with the ids of its operations
 abbrev pub order_shows : Shows → List ℕ
@@ -101,3 +103,9 @@ AsksRoom full manner s (Convert target) response = FullSo full s (conversion tar
 AsksRoom full manner s (Apply name x) response =
     (f : Transformation) → application name x ≡ Some f → FullSo full s f response
 AsksRoom full manner s _ response = ⊤
+
+-- and of orders
+abbrev pub OrdersRoom : Type 0 → Way → State → Order → Response → Type 0
+OrdersRoom full way s (Rewrite names limit) response =
+    (f : Transformation) → rewriting_named names (limit_or way.manner.limit limit) ≡ Some f → FullSo full s f response
+OrdersRoom full way s _ response = ⊤

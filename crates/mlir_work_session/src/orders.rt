@@ -4,12 +4,14 @@ ghost use Rattle.ir_event.specs.Modules.{module_in};
 ghost use Rattle.rewriter.specs.Benched.{IsKept, attach_reply_of, state_of};
 ghost use Rattle.rewriter.specs.Commands.{Replied};
 ghost use Rattle.mlir_work_script.specs.Orders.{Attach, PrintIds, order_of};
-ghost use Rattle.mlir_work_session.specs.Machine.{Fulfils, Way, response_of, way_of};
+ghost use Rattle.ir_text.specs.Public.{IsFull};
+ghost use Rattle.mlir_work_session.specs.Machine.{Fulfils, OrdersRoom, Way, response_of, way_of};
 ghost use Rattle.mlir_work_session_base.specs.IdsText.{ids_text};
 
 use crate::manner::Manner;
 use crate::reply::Reply;
 use crate::shows::{Answered, plain};
+use crate::transforming;
 use ir_event::analysis::Analysis;
 use ir_event::world::World;
 use ir_types::refusal::Refusal;
@@ -73,14 +75,21 @@ pub fn fulfil<L: Supplied>(
     alloc: Global,
     manner: &Manner,
     bench: &mut Bench<L>,
-    order: Order,
+    order: &Order<'_>,
 ) -> Answered
     requires { IsKept L.meaning bench.old }
-    ensures fulfils { Fulfils (way_of L.supply manner.now) (state_of L.meaning bench.old) (order_of order) (response_of result.reply) result.shows.items (state_of L.meaning bench.new) }
+    ensures fulfils { Fulfils (way_of L.supply manner.now) (state_of L.meaning bench.old) (order_of order.now) (response_of result.reply) result.shows.items (state_of L.meaning bench.new) }
+    ensures room { OrdersRoom (IsFull bench.new.desk.ctx) (way_of L.supply manner.now) (state_of L.meaning bench.old) (order_of order.now) (response_of result.reply) }
     ensures kept { IsKept L.meaning bench.new }
 {
     match order {
-        Order::Attach(kind) => plain(alloc, attach(alloc, bench, kind)),
+        Order::Attach(kind) => plain(alloc, attach(alloc, bench, *kind)),
         Order::PrintIds => show_ids(alloc, bench),
+        Order::Rewrite { rules, limit } => {
+            plain(
+                alloc,
+                transforming::rewrite(alloc, manner, bench, rules, *limit),
+            )
+        }
     }
 }

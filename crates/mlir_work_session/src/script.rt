@@ -46,7 +46,7 @@ fn shows_alone(command: &Command<'_>) -> bool
 }
 
 /// Whether an order asks to be shown something.
-fn order_asks(order: &Order) -> bool
+fn order_asks(order: &Order<'_>) -> bool
     ensures { result ≡ order_asks (order_of order.now) }
 {
     match order {
@@ -112,7 +112,7 @@ pub fn answer<L: Supplied>(
                 shows: answered.shows,
             }
         }
-        Line::Ordered(order) => fulfil(alloc, manner, bench, *order),
+        Line::Ordered(order) => fulfil(alloc, manner, bench, order),
         Line::Nothing | Line::Bad => Answered {
             reply: Reply::Refused(Refusal::BadCommand),
             shows: Vec::new(alloc),
