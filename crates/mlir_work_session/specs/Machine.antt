@@ -10,7 +10,7 @@ use Rattle.rewriter.specs.Machine.{Done, DoneAs, DoneWith, IsFullSo, Refused, Re
 use Rattle.rewriter.specs.Machine as call
 use Rattle.rewriter.specs.Panels.{Shown}
 pub use Rattle.rewriter.specs.Machine.{State}
-use Rattle.mlir_work_script.specs.Orders.{Attach, Order, PrintIds}
+use Rattle.mlir_work_script.specs.Orders.{Attach, Order, PrintIds, Rewrite}
 use Rattle.mlir_work_script.specs.Outcomes.{outcome_of}
 use Rattle.greedy.specs.Changes.{canonicalizing}
 use Rattle.mlir_work_transforms.specs.Converting.{conversion}
