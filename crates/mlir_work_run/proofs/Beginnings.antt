@@ -8,6 +8,7 @@ use Rattle.mlir_work_session.specs.Parts.{IsSplit, at_divider, module_from, modu
 use Rattle.mlir_work_session.specs.Writes.{Stream, joined}
 use Rattle.mlir_work_session.proofs.Dividing.{divided}
 use Rattle.mlir_work_run.specs.Live.{AreFirst, IsLiveOf, IsWholeUpTo, LiveEndedAt, up_to, whole_lines}
+use Rattle.mlir_work_run.specs.Whole.{Setting}
 use Rattle.mlir_work_run.proofs.Lives.{FirstOf, IsWhole, first_of}
 use Rattle.mlir_work_run.proofs.Within.{joined_same, live_whole}
 
