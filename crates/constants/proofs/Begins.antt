@@ -1,15 +1,15 @@
 -- A table that was made in order knows what the walk finds.
 use Rattle.std.proofs.Common.{◌≡◌, ℕ, List, [], ◌∷◌, Option, Some, None, inl, inr, refl, sym, ap, ◌∙◌, subst, map}
-use Rattle.ir_tree.specs.Ids.{ids, HasDistinctIds}
-use Rattle.ir_tree.specs.Meaning.{Operation}
-use Rattle.ir_tree_laws.specs.Members.{In}
+use Rattle.ir_event.specs.trees.Ids.{ids, HasDistinctIds}
+use Rattle.ir_event.specs.trees.Meaning.{Operation}
+use Rattle.ir_event.specs.tree_laws.Members.{In}
 use Rattle.std.specs.Ordering.{nat_cmp}
 use Rattle.std.specs.Map.{lookup}
 use Rattle.std.specs.BTreeMap.{BTreeMap, is_at}
-use Rattle.ir_types.specs.declared.bits.Bits.{Bits}
+use Rattle.ir_event.specs.types.declared.bits.Bits.{Bits}
 use Rattle.dialects_int.specs.Folds.{known_of}
-use Rattle.ir_types.specs.Terms.{name_term, type_term, attr_term}
-use Rattle.ir_tree.proofs.Mapped.{map_ids}
+use Rattle.ir_event.specs.types.Terms.{name_term, type_term, attr_term}
+use Rattle.ir_event.proofs.of_trees.Mapped.{map_ids}
 use Rattle.ir_event.specs.declared.world.World.{World}
 use Rattle.ir_event.specs.Modules.{module_in}
 use Rattle.ir_event.proofs.Steps.{formed_meaning}

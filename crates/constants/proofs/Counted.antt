@@ -1,8 +1,8 @@
 -- The loops of both phases, with their counts of looks.
 use Rattle.std.proofs.Common.{◌≡◌, ◌<◌, ◌≤◌, ◌+◌, ℕ, List, [], ◌∷◌, ◌++◌, length, get_or, take, Option, ◌⊎◌, inl, inr, refl, sym, ap, ◌∙◌, subst, arith}
 use Rattle.std.proofs.lemmas.List.{take_more, take-append-le, take_all}
-use Rattle.ir_tree_laws.specs.Members.{In}
-use Rattle.ir_tree_laws.proofs.Listed.{in_left, in_right, in_parts}
+use Rattle.ir_event.specs.tree_laws.Members.{In}
+use Rattle.ir_event.proofs.of_tree_laws.Listed.{in_left, in_right, in_parts}
 use Rattle.constants.specs.Facts.{Header, Facts}
 use Rattle.constants.specs.Trails.{total, Uses, IsThere, IsTrail}
 use Rattle.constants.specs.Phases.{Forgotten, Learnt, LearntFrom}

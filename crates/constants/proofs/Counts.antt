@@ -1,16 +1,16 @@
 -- How many uses there are, counted along the operations of a tree.
 use Rattle.std.proofs.Common.{◌≡◌, ◌≤◌, ℕ, ◌+◌, List, [], ◌∷◌, ◌++◌, length, Bool, true, false, refl, sym, ap, arith, cond, eqb, length-append}
-use Rattle.ir_types.specs.Terms.{TypeTerm, AttrTerm}
-use Rattle.ir_tree.specs.declared.value.Value.{Value}
-use Rattle.ir_tree.specs.declared.value.Value.TheVariants.{Result, Arg}
-use Rattle.ir_tree.specs.Tree.{OpOf, op, RegionsOf, no_regions, region, RegionOf, empty, block, OpsOf, no_ops, next}
-use Rattle.ir_tree.specs.Maps.{map_tree, map_regions, map_region, map_ops}
-use Rattle.ir_tree.specs.Uses.{same_value, operand_uses, uses_of, regions_uses, region_uses, ops_uses}
+use Rattle.ir_event.specs.types.Terms.{TypeTerm, AttrTerm}
+use Rattle.ir_event.specs.trees.declared.value.Value.{Value}
+use Rattle.ir_event.specs.trees.declared.value.Value.TheVariants.{Result, Arg}
+use Rattle.ir_event.specs.trees.Tree.{OpOf, op, RegionsOf, no_regions, region, RegionOf, empty, block, OpsOf, no_ops, next}
+use Rattle.ir_event.specs.trees.Maps.{map_tree, map_regions, map_region, map_ops}
+use Rattle.ir_event.specs.trees.Uses.{same_value, operand_uses, uses_of, regions_uses, region_uses, ops_uses}
 use Rattle.std.proofs.lemmas.Bool.{eqb-true, eq-eqb}
 use Rattle.ir_event.specs.Heads.{heads, regions_heads, region_heads, ops_heads}
 use Rattle.constants.specs.Facts.{Header}
 use Rattle.constants.specs.Reached.{one_if, is_result_of, results_among, uses_among}
-use Rattle.ir_tree_laws.proofs.Listed.{both}
+use Rattle.ir_event.proofs.of_tree_laws.Listed.{both}
 
 uses_append : (hs gs : List Header) (d : ℕ) → uses_among (hs ++ gs) d ≡ uses_among hs d + uses_among gs d
 uses_append [] gs d = omega arith

@@ -3,21 +3,21 @@ use Rattle.std.proofs.Common.{◌≡◌, ◌≢◌, ℕ, ◌+◌, List, [], ◌�
 use Rattle.std.specs.Option.{option_map}
 use Rattle.std.proofs.lemmas.Bool.{cases_eq}
 use Rattle.std.proofs.lemmas.List.{map-append}
-use Rattle.ir_types.specs.Terms.{TypeTerm, AttrTerm}
-use Rattle.ir_tree.specs.declared.place.Place.{Place}
-use Rattle.ir_tree.specs.Tree.{op, RegionsOf, no_regions, region, RegionOf, empty, block, OpsOf, no_ops, next, head, regions}
-use Rattle.ir_tree.specs.Ids.{find, first_of, HasDistinctIds}
-use Rattle.ir_tree.specs.Meaning.{Operation}
-use Rattle.ir_tree.specs.Places.{place_of, without}
-use Rattle.ir_tree.specs.WellFormed.{ModuleOf}
-use Rattle.ir_tree_laws.specs.Members.{In}
-use Rattle.ir_tree_laws.specs.Changes.{HoldNone, Takes, Shifts}
-use Rattle.ir_tree_laws.specs.Stands.{StepOf, StandOf, stands, regions_stands, region_stands, ops_stands, place_in, left_stand, dropping}
-use Rattle.ir_tree_laws.proofs.Readings.{step}
-use Rattle.ir_tree_laws.proofs.Members.{stand, stand_found}
-use Rattle.ir_tree_laws.proofs.Around.{member_of_place}
-use Rattle.ir_tree_laws.proofs.Without.{same_head}
-use Rattle.ir_tree_laws.proofs.Stretches.{part}
+use Rattle.ir_event.specs.types.Terms.{TypeTerm, AttrTerm}
+use Rattle.ir_event.specs.trees.declared.place.Place.{Place}
+use Rattle.ir_event.specs.trees.Tree.{op, RegionsOf, no_regions, region, RegionOf, empty, block, OpsOf, no_ops, next, head, regions}
+use Rattle.ir_event.specs.trees.Ids.{find, first_of, HasDistinctIds}
+use Rattle.ir_event.specs.trees.Meaning.{Operation}
+use Rattle.ir_event.specs.trees.Places.{place_of, without}
+use Rattle.ir_event.specs.trees.WellFormed.{ModuleOf}
+use Rattle.ir_event.specs.tree_laws.Members.{In}
+use Rattle.ir_event.specs.tree_laws.Changes.{HoldNone, Takes, Shifts}
+use Rattle.ir_event.specs.tree_laws.Stands.{StepOf, StandOf, stands, regions_stands, region_stands, ops_stands, place_in, left_stand, dropping}
+use Rattle.ir_event.proofs.of_tree_laws.Readings.{step}
+use Rattle.ir_event.proofs.of_tree_laws.Members.{stand, stand_found}
+use Rattle.ir_event.proofs.of_tree_laws.Around.{member_of_place}
+use Rattle.ir_event.proofs.of_tree_laws.Without.{same_head}
+use Rattle.ir_event.proofs.of_tree_laws.Stretches.{part}
 use Rattle.ir_event.specs.Heads.{heads, regions_heads, region_heads, ops_heads}
 use Rattle.constants.specs.Facts.{Header, look}
 use Rattle.constants.specs.Walk.{look_among, AreOrdered}

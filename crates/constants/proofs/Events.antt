@@ -4,25 +4,25 @@ use Rattle.std.specs.Option.{option_map}
 use Rattle.std.specs.List.{list_all}
 use Rattle.std.specs.Prelude.{option_and_then}
 use Rattle.std.proofs.lemmas.Bool.{eq-eqb, ne_eqb, cases_eq}
-use Rattle.ir_types.specs.Terms.{name_term, attr_term}
-use Rattle.ir_types.specs.Things.{Things}
-use Rattle.ir_types.specs.Words.{is_table}
-use Rattle.ir_tree.specs.declared.value.Value.{Value}
-use Rattle.ir_tree.specs.declared.value.Value.TheVariants.{Result}
-use Rattle.ir_tree.specs.declared.place.Place.{Place}
-use Rattle.ir_tree.specs.declared.place.Part.{Part}
-use Rattle.ir_tree.specs.Tree.{op, head}
-use Rattle.ir_tree.specs.Ids.{find}
-use Rattle.ir_tree.specs.Frames.{owner_of}
-use Rattle.ir_tree.specs.Limits.{every}
-use Rattle.ir_tree.specs.Edits.{each_head, at, put_operand, change_part, change_entry}
-use Rattle.ir_tree.specs.Meaning.{Operation, key_before}
-use Rattle.ir_tree.proofs.Heads.{Alike, head_find, alike_operand, alike_entry}
-use Rattle.ir_tree_laws.specs.Members.{In}
-use Rattle.ir_tree_laws.specs.Reasons.{leaves}
-use Rattle.ir_tree_laws.proofs.Listed.{both}
-use Rattle.ir_tree_laws.proofs.Members.{found_stands}
-use Rattle.ir_tree_laws.proofs.Changed.{uses_unused}
+use Rattle.ir_event.specs.types.Terms.{name_term, attr_term}
+use Rattle.ir_event.specs.types.Things.{Things}
+use Rattle.ir_event.specs.types.Words.{is_table}
+use Rattle.ir_event.specs.trees.declared.value.Value.{Value}
+use Rattle.ir_event.specs.trees.declared.value.Value.TheVariants.{Result}
+use Rattle.ir_event.specs.trees.declared.place.Place.{Place}
+use Rattle.ir_event.specs.trees.declared.place.Part.{Part}
+use Rattle.ir_event.specs.trees.Tree.{op, head}
+use Rattle.ir_event.specs.trees.Ids.{find}
+use Rattle.ir_event.specs.trees.Frames.{owner_of}
+use Rattle.ir_event.specs.trees.Limits.{every}
+use Rattle.ir_event.specs.trees.Edits.{each_head, at, put_operand, change_part, change_entry}
+use Rattle.ir_event.specs.trees.Meaning.{Operation, key_before}
+use Rattle.ir_event.proofs.of_trees.Heads.{Alike, head_find, alike_operand, alike_entry}
+use Rattle.ir_event.specs.tree_laws.Members.{In}
+use Rattle.ir_event.specs.tree_laws.Reasons.{leaves}
+use Rattle.ir_event.proofs.of_tree_laws.Listed.{both}
+use Rattle.ir_event.proofs.of_tree_laws.Members.{found_stands}
+use Rattle.ir_event.proofs.of_tree_laws.Changed.{uses_unused}
 use Rattle.ir_event.proofs.Sounds.{every_found}
 use Rattle.ir_event.specs.declared.event.Event.{Event}
 use Rattle.ir_event.specs.declared.event.Event.TheVariants.{Put, Take, SetOperand, SetEntry, Shift}

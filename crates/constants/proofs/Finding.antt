@@ -1,6 +1,6 @@
 -- What was learnt in a world is learnt in the world that it is.
 use Rattle.std.proofs.Common.{◌≡◌, ℕ, Option, List, subst}
-use Rattle.ir_tree_laws.specs.Members.{In}
+use Rattle.ir_event.specs.tree_laws.Members.{In}
 use Rattle.constants.specs.Facts.{Header, Facts}
 use Rattle.constants.specs.Trails.{IsThere}
 use Rattle.constants.specs.Phases.{LearntFrom}

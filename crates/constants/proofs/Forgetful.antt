@@ -1,8 +1,8 @@
 -- The forms in which the code of the first phase has its facts.
 use Rattle.std.proofs.Common.{◌≡◌, ◌<◌, ◌≤◌, ◌+◌, ℕ, List, [], ◌∷◌, ◌++◌, length, get_or, take, Bool, true, false, true≢false, Option, Some, None, refl, sym, ap, ◌∙◌, subst, cond, arith}
 use Rattle.std.proofs.lemmas.List.{append_assoc, append-nil, take_all, length_push}
-use Rattle.ir_types.specs.declared.bits.Bits.{Bits}
-use Rattle.ir_tree_laws.specs.Members.{In}
+use Rattle.ir_event.specs.types.declared.bits.Bits.{Bits}
+use Rattle.ir_event.specs.tree_laws.Members.{In}
 use Rattle.dialects_int.specs.Folds.{Known, known_of}
 use Rattle.constants.specs.Facts.{Facts}
 use Rattle.constants.specs.Phases.{Forgotten}

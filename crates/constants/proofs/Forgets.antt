@@ -3,8 +3,8 @@ use Rattle.std.proofs.Common.{◌≡◌, ◌≢◌, ◌<◌, ◌≤◌, ◌+◌,
 use Rattle.std.proofs.Math.Seq.{drop-cons}
 use Rattle.std.proofs.Math.ListN.{drop_of_length-le}
 use Rattle.std.proofs.lemmas.List.{drop-append-le}
-use Rattle.ir_tree_laws.specs.Members.{In}
-use Rattle.ir_tree_laws.proofs.Listed.{in_left, in_right, in_parts}
+use Rattle.ir_event.specs.tree_laws.Members.{In}
+use Rattle.ir_event.proofs.of_tree_laws.Listed.{in_left, in_right, in_parts}
 use Rattle.dialects_int.specs.Folds.{Known}
 use Rattle.constants.specs.Facts.{Header, Facts, value, AreLocal, folded_if}
 use Rattle.constants.specs.Walk.{with_fact}
@@ -13,7 +13,7 @@ use Rattle.constants.specs.Phases.{Forgotten, Forgetting, SameBut}
 use Rattle.constants.proofs.Walks.{not_both, put_same, put_other}
 use Rattle.constants.proofs.Knowing.{value_uses, value_less}
 use Prim.Native.Nat.{zero, suc}
-use Rattle.ir_tree_laws.proofs.Facts.{in_or_not}
+use Rattle.ir_event.proofs.of_tree_laws.Facts.{in_or_not}
 
 pub once_append : (xs ys : List ℕ) → OnceEach xs → OnceEach ys → ((y : ℕ) → In y xs → In y ys → ⊥) → OnceEach (xs ++ ys)
 once_append [] ys a b apart = b

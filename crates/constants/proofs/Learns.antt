@@ -4,8 +4,8 @@ use Rattle.std.proofs.Math.Seq.{drop-cons}
 use Rattle.std.proofs.Math.ListN.{drop_of_length-le}
 use Rattle.std.proofs.lemmas.List.{drop-append-le}
 use Rattle.std.proofs.lemmas.Bool.{cases_eq}
-use Rattle.ir_tree_laws.specs.Members.{In}
-use Rattle.ir_tree_laws.proofs.Listed.{in_left, in_right, in_parts}
+use Rattle.ir_event.specs.tree_laws.Members.{In}
+use Rattle.ir_event.proofs.of_tree_laws.Listed.{in_left, in_right, in_parts}
 use Rattle.dialects_int.specs.Folds.{Known}
 use Rattle.constants.specs.Facts.{Header, Facts, value, AreLocal}
 use Rattle.constants.specs.Walk.{with_fact}
@@ -14,7 +14,7 @@ use Rattle.constants.specs.Phases.{Forgetting, Noted, Learnt, Learning}
 use Rattle.constants.proofs.Walks.{some_or_none, not_both, none_if_not, put_same, put_other}
 use Rattle.constants.proofs.Knowing.{value_uses, value_more}
 use Rattle.constants.proofs.Forgets.{once_append, in_one, in_read}
-use Rattle.ir_tree_laws.proofs.Facts.{in_or_not}
+use Rattle.ir_event.proofs.of_tree_laws.Facts.{in_or_not}
 
 module _ (ops : ℕ → Option Header) where
   -- nothing was learnt

@@ -3,18 +3,18 @@ use Rattle.std.proofs.Common.{◌≡◌, ℕ, List, [], ◌∷◌, ◌++◌, tru
 use Rattle.std.specs.Option.{option_map}
 use Rattle.std.specs.Prelude.{IsTrue}
 use Rattle.std.proofs.lemmas.Bool.Decides.{nat_tests}
-use Rattle.ir_types.specs.Words.{is_isolated}
-use Rattle.ir_types.specs.Terms.{TypeTerm, AttrTerm}
-use Rattle.ir_tree.specs.Tree.{op, RegionsOf, no_regions, region, RegionOf, empty, block, OpsOf, no_ops, next, head}
-use Rattle.ir_tree.specs.Ids.{HasDistinctIds, first_of, find, regions_find, region_find, ops_find}
-use Rattle.ir_tree.specs.Meaning.{Operation}
-use Rattle.ir_tree.specs.Sites.{operands_visible}
+use Rattle.ir_event.specs.types.Words.{is_isolated}
+use Rattle.ir_event.specs.types.Terms.{TypeTerm, AttrTerm}
+use Rattle.ir_event.specs.trees.Tree.{op, RegionsOf, no_regions, region, RegionOf, empty, block, OpsOf, no_ops, next, head}
+use Rattle.ir_event.specs.trees.Ids.{HasDistinctIds, first_of, find, regions_find, region_find, ops_find}
+use Rattle.ir_event.specs.trees.Meaning.{Operation}
+use Rattle.ir_event.specs.trees.Sites.{operands_visible}
 use Rattle.ir_event.specs.Heads.{heads, regions_heads, region_heads, ops_heads}
 use Rattle.constants.specs.Facts.{Header, Facts, look, folded_if, AreLocal}
 use Rattle.constants.specs.Walk.{facts_of, look_among}
 use Rattle.constants.proofs.Walks.{walk_is_local, local_is_walk, value_same}
 use Rattle.constants.proofs.Ordering.{ordered_tree}
-use Rattle.ir_types.proofs.Sorting.{flips_eq}
+use Rattle.ir_event.proofs.of_types.Sorting.{flips_eq}
 
 pub among_append : (xs ys : List Header) (x : ℕ) → look_among (xs ++ ys) x ≡ first_of (look_among xs x) (look_among ys x)
 among_append [] ys x = refl

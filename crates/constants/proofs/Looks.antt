@@ -1,9 +1,9 @@
 -- Sums over reached operations.
 use Rattle.std.proofs.Common.{◌≡◌, ◌≤◌, ◌+◌, ℕ, List, [], ◌∷◌, Bool, true, false, inl, inr, refl, sym, ap, ◌∙◌, subst, arith, cond, eqb, length}
 use Rattle.std.proofs.lemmas.Bool.{eq-eqb, ne_eqb, cases_eq}
-use Rattle.ir_tree.specs.declared.value.Value.{Value}
-use Rattle.ir_tree.specs.declared.value.Value.TheVariants.{Result, Arg}
-use Rattle.ir_tree_laws.specs.Members.{In}
+use Rattle.ir_event.specs.trees.declared.value.Value.{Value}
+use Rattle.ir_event.specs.trees.declared.value.Value.TheVariants.{Result, Arg}
+use Rattle.ir_event.specs.tree_laws.Members.{In}
 use Rattle.constants.specs.Facts.{Header}
 use Rattle.constants.specs.Reached.{one_if, is_result_of, results_among, over, uses_among, most_over}
 use Rattle.constants.specs.Trails.{total, OnceEach}

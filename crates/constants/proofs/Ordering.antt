@@ -4,22 +4,22 @@ use Rattle.std.specs.Prelude.{nat_lt, IsTrue}
 use Rattle.std.specs.List.{list_all, IsDistinct, AllByRecursion}
 use Rattle.std.proofs.lemmas.Bool.{eqb-true, eq-eqb}
 use Rattle.std.proofs.lemmas.Map.Keys.{IsDistinct-head, IsDistinct-tail}
-use Rattle.ir_types.specs.Words.{is_isolated}
-use Rattle.ir_types.specs.Terms.{TypeTerm, AttrTerm}
-use Rattle.ir_tree.specs.declared.value.Value.{Value}
-use Rattle.ir_tree.specs.declared.value.Value.TheVariants.{Result, Arg}
-use Rattle.ir_tree.specs.Tree.{op, RegionsOf, no_regions, region, RegionOf, empty, block, OpsOf, no_ops, next, head}
-use Rattle.ir_tree.specs.Ids.{HasDistinctIds}
-use Rattle.ir_tree.specs.Meaning.{Operation}
-use Rattle.ir_tree.specs.Sites.{Frame, results, arguments, shows, in_scope, results_of, inside, sites, regions_sites, region_sites, ops_sites, sees_operands, operands_visible}
-use Rattle.ir_tree_laws.specs.Members.{In}
-use Rattle.ir_tree_laws.proofs.Listed.{both}
+use Rattle.ir_event.specs.types.Words.{is_isolated}
+use Rattle.ir_event.specs.types.Terms.{TypeTerm, AttrTerm}
+use Rattle.ir_event.specs.trees.declared.value.Value.{Value}
+use Rattle.ir_event.specs.trees.declared.value.Value.TheVariants.{Result, Arg}
+use Rattle.ir_event.specs.trees.Tree.{op, RegionsOf, no_regions, region, RegionOf, empty, block, OpsOf, no_ops, next, head}
+use Rattle.ir_event.specs.trees.Ids.{HasDistinctIds}
+use Rattle.ir_event.specs.trees.Meaning.{Operation}
+use Rattle.ir_event.specs.trees.Sites.{Frame, results, arguments, shows, in_scope, results_of, inside, sites, regions_sites, region_sites, ops_sites, sees_operands, operands_visible}
+use Rattle.ir_event.specs.tree_laws.Members.{In}
+use Rattle.ir_event.proofs.of_tree_laws.Listed.{both}
 use Rattle.ir_event.specs.Heads.{heads, regions_heads, region_heads, ops_heads}
 use Rattle.ir_event.proofs.Flat.{heads_ids}
 use Rattle.constants.specs.Facts.{Header}
 use Rattle.constants.specs.Walk.{AllMet, AreOrdered, met_after}
 use Rattle.constants.proofs.Walks.{met_stays}
-use Rattle.ir_types.proofs.Truths.{all_parts}
+use Rattle.ir_event.proofs.of_types.Truths.{all_parts}
 
 -- the ids are distinct, and none was met
 abbrev Fresh : List ℕ → List Header → Type 0

@@ -2,9 +2,9 @@
 use Rattle.std.proofs.Common.{◌≡◌, ◌≢◌, ◌≤◌, ◌+◌, ℕ, List, [], ◌∷◌, Bool, true, false, true≢false, ◌||◌, ◌&&◌, Option, Some, None, is_some, ◌⊎◌, inl, inr, refl, sym, ap, ◌∙◌, subst, cond, eqb, arith}
 use Rattle.std.specs.List.{list_any}
 use Rattle.std.proofs.lemmas.Bool.{eq-eqb, ne_eqb, cases_eq, or_left, or_right}
-use Rattle.ir_tree.specs.declared.value.Value.{Value}
-use Rattle.ir_tree.specs.declared.value.Value.TheVariants.{Result, Arg}
-use Rattle.ir_tree_laws.specs.Members.{In}
+use Rattle.ir_event.specs.trees.declared.value.Value.{Value}
+use Rattle.ir_event.specs.trees.declared.value.Value.TheVariants.{Result, Arg}
+use Rattle.ir_event.specs.tree_laws.Members.{In}
 use Rattle.dialects_int.specs.Folds.{Known}
 use Rattle.constants.specs.Facts.{Header, Facts}
 use Rattle.constants.specs.Walk.{look_among, AreOrdered}

@@ -9,12 +9,12 @@ use Rattle.std.specs.BTreeMap.{BTreeMap, is_at}
 use Rattle.std.specs.BTreeMap as tree
 use Rattle.std.proofs.lemmas.Bool.Decides.{nat_tests}
 use Rattle.std.proofs.lemmas.List.Elements.{All-cons, All-nil}
-use Rattle.ir_types.specs.declared.bits.Bits.{Bits}
-use Rattle.ir_types.specs.Things.{Things}
-use Rattle.ir_tree.specs.Ids.{HasDistinctIds}
-use Rattle.ir_tree.specs.Meaning.{Operation}
+use Rattle.ir_event.specs.types.declared.bits.Bits.{Bits}
+use Rattle.ir_event.specs.types.Things.{Things}
+use Rattle.ir_event.specs.trees.Ids.{HasDistinctIds}
+use Rattle.ir_event.specs.trees.Meaning.{Operation}
 use Rattle.ir_event.specs.declared.row.Cell.TheVariants as cell
-use Rattle.ir_tree.specs.declared.value.Value.TheVariants.{Result}
+use Rattle.ir_event.specs.trees.declared.value.Value.TheVariants.{Result}
 use Rattle.ir_event.specs.declared.row.Row.{Row as Line}
 use Rattle.ir_event.specs.Rows.{cell_meaning, rows_meaning, CellIsOf, RowIsOf, Shows}
 use Rattle.dialects_int.specs.Folds.{Known, known_of}
@@ -24,8 +24,8 @@ use Rattle.ir_event.proofs.ById.{look, Above, Rising, rising_same}
 use Rattle.constants.proofs.Sorted.{constants_rising, constants_look}
 use Rattle.constants.specs.Tables.{known_in, cells_of}
 use Rattle.constants.proofs.Tables.{same_test}
-use Rattle.ir_types.proofs.Sorting.{flips_eq}
-use Rattle.ir_types.proofs.Truths.{less_than}
+use Rattle.ir_event.proofs.of_types.Sorting.{flips_eq}
+use Rattle.ir_event.proofs.of_types.Truths.{less_than}
 
 -- what the entries of a table say
 abbrev said : List (ℕ × Bits) → List (ℕ × Known)

@@ -3,7 +3,7 @@ use Rattle.std.proofs.Common.{◌≡◌, ◌≤◌, ◌+◌, ℕ, Option, inl, i
 use Rattle.std.proofs.lemmas.Bool.{cases_eq}
 use Rattle.constants.specs.Facts.{Header, Facts, value, folded_if, AreLocal}
 use Rattle.constants.specs.Phases.{SameBut}
-use Rattle.ir_tree.specs.Meaning.{Operation}
+use Rattle.ir_event.specs.trees.Meaning.{Operation}
 use Rattle.constants.specs.Tables.{LooksRenewed, LooksWithin}
 
 pub settled_local : (ops was : ℕ → Option Header) (x : ℕ) (a : Facts) → SameBut x was ops → AreLocal was a → a x ≡ value ops a x → AreLocal ops a

@@ -4,9 +4,9 @@ use Rattle.std.proofs.lemmas.Bool.{eq-eqb, ne_eqb, cases_eq}
 use Rattle.std.specs.List.{IsDistinct, AllByRecursion}
 use Rattle.std.proofs.lemmas.Map.Keys.{IsDistinct-head, IsDistinct-tail}
 use Rattle.std.proofs.Common.{◌++◌, true≢false, subst, map}
-use Rattle.ir_tree.specs.Ids.{ids, first_of, HasDistinctIds}
-use Rattle.ir_tree.specs.Meaning.{Operation}
-use Rattle.ir_tree_laws.specs.Members.{In}
+use Rattle.ir_event.specs.trees.Ids.{ids, first_of, HasDistinctIds}
+use Rattle.ir_event.specs.trees.Meaning.{Operation}
+use Rattle.ir_event.specs.tree_laws.Members.{In}
 use Rattle.dialects_int.specs.Folds.{Known}
 use Rattle.ir_event.specs.Heads.{heads}
 use Rattle.constants.specs.Facts.{Header, Facts}

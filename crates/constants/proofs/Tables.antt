@@ -8,13 +8,13 @@ use Rattle.std.specs.BTreeMap.{BTreeMap, is_at}
 use Rattle.std.specs.BTreeMap as tree
 use Rattle.std.proofs.lemmas.Bool.{eq-eqb, ne_eqb}
 use Rattle.std.proofs.lemmas.List.{take_more, map-append}
-use Rattle.ir_types.specs.declared.bits.Bits.{Bits}
-use Rattle.ir_tree.specs.declared.value.Value.{Value}
+use Rattle.ir_event.specs.types.declared.bits.Bits.{Bits}
+use Rattle.ir_event.specs.trees.declared.value.Value.{Value}
 use Rattle.dialects_int.specs.Folds.{known_of}
 use Rattle.constants.specs.Facts.{Facts, known, knowns}
 use Rattle.constants.specs.Walk.{with_fact}
 use Rattle.constants.specs.Tables.{known_in}
-use Rattle.ir_types.proofs.Truths.{less_than}
+use Rattle.ir_event.proofs.of_types.Truths.{less_than}
 
 pub same_test : (x y : ℕ) → is_eq (nat_cmp x y) ≡ eqb y x
 same_test x y = go (nat_cmp x y) refl (ranks x y)

@@ -4,26 +4,26 @@ use Rattle.std.specs.Option.{option_map}
 use Rattle.std.specs.Prelude.{All}
 use Rattle.std.specs.FinMap as finmap
 use Rattle.std.proofs.lemmas.Bool.{eq-eqb, eqb-true}
-use Rattle.ir_types.specs.declared.bits.Bits.{Bits}
-use Rattle.ir_types.specs.Things.{Things, IsName, IsType, IsAttr}
-use Rattle.ir_types.specs.Terms.{name_term, type_term, attr_term}
-use Rattle.ir_tree.specs.declared.value.Value.{Value}
-use Rattle.ir_tree.specs.declared.value.Value.TheVariants.{Result, Arg}
-use Rattle.ir_tree.specs.Tree.{Op, op, head}
-use Rattle.ir_tree.specs.Ids.{find, first_of}
-use Rattle.ir_tree.specs.Maps.{map_head}
-use Rattle.ir_tree.specs.Meaning.{meaning}
-use Rattle.ir_tree.specs.Uses.{same_value, operand_uses, uses_of}
-use Rattle.ir_tree.proofs.Mapped.{map_find}
-use Rattle.ir_tree_laws.specs.Members.{In}
-use Rattle.ir_tree_laws.specs.Stands.{StandOf, stand_id, stands, gather}
-use Rattle.ir_tree_laws.proofs.Listed.{in_left, in_right, in_parts, in_map, in_mapped, both, both_hold, either}
-use Rattle.ir_tree_laws.proofs.Readings.{stands_uses}
-use Rattle.ir_tree_laws.proofs.Members.{found_stands, stand_found}
-use Rattle.ir_tree_laws.proofs.HeadForm.{in_gather}
-use Rattle.ir_store.specs.Nodes.{Node as Numbers, node_of}
-use Rattle.ir_store.specs.Stored.{known}
-use Rattle.ir_store.specs.Using.{AreUses, EachOnce, is_use, same_use}
+use Rattle.ir_event.specs.types.declared.bits.Bits.{Bits}
+use Rattle.ir_event.specs.types.Things.{Things, IsName, IsType, IsAttr}
+use Rattle.ir_event.specs.types.Terms.{name_term, type_term, attr_term}
+use Rattle.ir_event.specs.trees.declared.value.Value.{Value}
+use Rattle.ir_event.specs.trees.declared.value.Value.TheVariants.{Result, Arg}
+use Rattle.ir_event.specs.trees.Tree.{Op, op, head}
+use Rattle.ir_event.specs.trees.Ids.{find, first_of}
+use Rattle.ir_event.specs.trees.Maps.{map_head}
+use Rattle.ir_event.specs.trees.Meaning.{meaning}
+use Rattle.ir_event.specs.trees.Uses.{same_value, operand_uses, uses_of}
+use Rattle.ir_event.proofs.of_trees.Mapped.{map_find}
+use Rattle.ir_event.specs.tree_laws.Members.{In}
+use Rattle.ir_event.specs.tree_laws.Stands.{StandOf, stand_id, stands, gather}
+use Rattle.ir_event.proofs.of_tree_laws.Listed.{in_left, in_right, in_parts, in_map, in_mapped, both, both_hold, either}
+use Rattle.ir_event.proofs.of_tree_laws.Readings.{stands_uses}
+use Rattle.ir_event.proofs.of_tree_laws.Members.{found_stands, stand_found}
+use Rattle.ir_event.proofs.of_tree_laws.HeadForm.{in_gather}
+use Rattle.ir_event.specs.store.Nodes.{Node as Numbers, node_of}
+use Rattle.ir_event.specs.store.Stored.{known}
+use Rattle.ir_event.specs.store.Using.{AreUses, EachOnce, is_use, same_use}
 use Rattle.ir_event.specs.declared.world.World.{World}
 use Rattle.ir_event.proofs.Nodes.{known_node}
 use Rattle.dialects_int.specs.Folds.{known_of, entries_of, fold_of}
@@ -34,7 +34,7 @@ use Rattle.constants.specs.Trails.{Uses, IsThere}
 use Rattle.constants.specs.Phases.{AreUsers}
 use Rattle.constants.proofs.Counts.{length_uses}
 use Rattle.constants.specs.Tables.{look_in, uses_in, users_of}
-use Rattle.ir_tree.proofs.Replaced.{same_value_true, same_value_refl}
+use Rattle.ir_event.proofs.of_trees.Replaced.{same_value_true, same_value_refl}
 
 -- ---- uses in a list
 

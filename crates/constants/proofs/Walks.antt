@@ -1,13 +1,13 @@
 -- A walk's facts agree with the operations, and no other facts do.
 use Rattle.std.proofs.Common.{◌≡◌, ◌≢◌, ℕ, List, [], ◌∷◌, ◌++◌, Option, Some, None, ◌⊎◌, inl, inr, refl, sym, ap, ◌∙◌, subst, cond, eqb}
 use Rattle.std.proofs.lemmas.Bool.{eq-eqb, ne_eqb, cases_eq}
-use Rattle.ir_tree.specs.declared.value.Value.{Value}
-use Rattle.ir_tree.specs.declared.value.Value.TheVariants.{Result, Arg}
-use Rattle.ir_tree_laws.specs.Members.{In}
+use Rattle.ir_event.specs.trees.declared.value.Value.{Value}
+use Rattle.ir_event.specs.trees.declared.value.Value.TheVariants.{Result, Arg}
+use Rattle.ir_event.specs.tree_laws.Members.{In}
 use Rattle.dialects_int.specs.Folds.{Known, fold_of}
 use Rattle.constants.specs.Facts.{Header, Facts, known, knowns, folded, folded_if, AreLocal}
 use Rattle.constants.specs.Walk.{nothing, with_fact, walk, look_among, AllMet, AreOrdered, met_after}
-use Rattle.ir_tree_laws.proofs.Facts.{in_or_not}
+use Rattle.ir_event.proofs.of_tree_laws.Facts.{in_or_not}
 
 pub put_same : (x : ℕ) (v : Option Known) (t : Facts) → with_fact x v t x ≡ v
 put_same x v t = ap (λ b. cond b v (t x)) (eq-eqb x x refl)

@@ -1,6 +1,6 @@
 -- What the listener means.
 use Rattle.std.specs.Prelude.{◌≡◌, ℕ, false, None}
-use Rattle.ir_tree.specs.Ids.{HasDistinctIds}
+use Rattle.ir_event.specs.trees.Ids.{HasDistinctIds}
 use Rattle.ir_event.specs.Listener.{Listener}
 use Rattle.constants.specs.Walk.{facts_of}
 use Rattle.constants.specs.Rows.{constants_rows}

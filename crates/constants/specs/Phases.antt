@@ -1,6 +1,6 @@
 -- The two phases in which facts follow a change: what may have changed is forgotten, then what can be known is learnt.
 use Rattle.std.specs.Prelude.{◌≡◌, ℕ, ◌+◌, ◌≤◌, List, [], ◌∷◌, ◌++◌, length, Option, Some, None, ◌⊎◌}
-use Rattle.ir_tree_laws.specs.Members.{In}
+use Rattle.ir_event.specs.tree_laws.Members.{In}
 use Rattle.dialects_int.specs.Folds.{Known}
 use Rattle.constants.specs.Facts.{Header, Facts, value, AreLocal}
 use Rattle.constants.specs.Walk.{with_fact}

@@ -1,9 +1,9 @@
 -- The report: each known value, in order of the ids.
 use Rattle.std.specs.Prelude.{ℕ, List, [], ◌∷◌, map, Option, Some, None}
-use Rattle.ir_tree.specs.declared.value.Value.TheVariants.{Result}
-use Rattle.ir_tree.specs.Ids.{ids}
-use Rattle.ir_tree.specs.Meaning.{Operation}
-use Rattle.ir_tree_laws.specs.Stands.{gather}
+use Rattle.ir_event.specs.trees.declared.value.Value.TheVariants.{Result}
+use Rattle.ir_event.specs.trees.Ids.{ids}
+use Rattle.ir_event.specs.trees.Meaning.{Operation}
+use Rattle.ir_event.specs.tree_laws.Stands.{gather}
 use Rattle.ir_event.specs.Rows.{RowTerm, Val, Bits, by_id}
 use Rattle.dialects_int.specs.Folds.{Known}
 use Rattle.constants.specs.Facts.{Facts}

@@ -1,7 +1,7 @@
 //! The table of a module, by one walk in order.
 ghost use Rattle.std.specs.Prelude.{◌≡◌, ℕ};
 ghost use Rattle.std.specs.Bool.{OnTrue};
-ghost use Rattle.ir_tree.specs.Ids.{ids};
+ghost use Rattle.ir_event.specs.trees.Ids.{ids};
 ghost use Rattle.dialects_int.specs.Folds.{known_of};
 ghost use Rattle.constants.specs.Facts.{value};
 ghost use Rattle.constants.specs.Walk.{with_fact};
@@ -10,10 +10,10 @@ ghost use Rattle.constants.specs.Tables.{known_in, look_in, WalkedIds};
 
 use crate::table::{drop_fact, note};
 use crate::users::folded;
+use ir_event::types::bits::Bits;
+use ir_event::types::ids::OpId;
 use ir_event::view::View;
 use ir_event::world::World;
-use ir_types::bits::Bits;
-use ir_types::ids::OpId;
 use std::alloc::Global;
 use std::collections::BTreeMap;
 

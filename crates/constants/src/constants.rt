@@ -11,10 +11,10 @@ use crate::report::lines;
 use ir_event::analysis::Analysis;
 use ir_event::event::Event;
 use ir_event::row::{Kind, Memory, ReportFault, Row};
+use ir_event::types::bits::Bits;
+use ir_event::types::ids::OpId;
 use ir_event::view::View;
 use ir_event::world::World;
-use ir_types::bits::Bits;
-use ir_types::ids::OpId;
 use std::alloc::Global;
 use std::collections::BTreeMap;
 

@@ -12,9 +12,9 @@ use crate::learn::learn_from;
 use crate::table::{drop_fact, fact};
 use crate::users::folded;
 use ir_event::event::Event;
+use ir_event::types::bits::Bits;
+use ir_event::types::ids::OpId;
 use ir_event::view::View;
-use ir_types::bits::Bits;
-use ir_types::ids::OpId;
 use std::alloc::Global;
 use std::collections::BTreeMap;
 

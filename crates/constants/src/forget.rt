@@ -1,6 +1,6 @@
 //! The first phase: what may have changed is forgotten.
 ghost use Rattle.std.specs.Prelude.{◌≡◌, ◌≤◌, ◌+◌, ℕ, Option, [], ◌++◌, ◌∷◌, true, if◌then◌else◌};
-ghost use Rattle.ir_tree_laws.specs.Members.{In};
+ghost use Rattle.ir_event.specs.tree_laws.Members.{In};
 ghost use Rattle.constants.specs.Facts.{Header, AreLocal};
 ghost use Rattle.constants.specs.Trails.{total, Uses, IsTrail};
 ghost use Rattle.constants.specs.Phases.{Forgotten, Forgetting, SameBut};
@@ -8,10 +8,10 @@ ghost use Rattle.constants.specs.Tables.{known_in, look_in, uses_in, users_of};
 
 use crate::table::{drop_fact, fact};
 use crate::users::uses_of;
+use ir_event::store::uses::UsesOf;
+use ir_event::types::bits::Bits;
+use ir_event::types::ids::OpId;
 use ir_event::view::View;
-use ir_store::uses::UsesOf;
-use ir_types::bits::Bits;
-use ir_types::ids::OpId;
 use std::collections::BTreeMap;
 
 /// Adds an operation to a trail. It is false where memory was refused.

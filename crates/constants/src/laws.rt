@@ -1,9 +1,9 @@
 //! Laws of what is known of operations' results. Each is a function that does nothing: its contract is the law.
 ghost use Rattle.std.specs.Prelude.{◌≡◌, ℕ, IsTrue};
-ghost use Rattle.ir_types.specs.Words.{is_isolated};
-ghost use Rattle.ir_tree.specs.Ids.{HasDistinctIds};
-ghost use Rattle.ir_tree.specs.Meaning.{Operation};
-ghost use Rattle.ir_tree.specs.Sites.{operands_visible};
+ghost use Rattle.ir_event.specs.types.Words.{is_isolated};
+ghost use Rattle.ir_event.specs.trees.Ids.{HasDistinctIds};
+ghost use Rattle.ir_event.specs.trees.Meaning.{Operation};
+ghost use Rattle.ir_event.specs.trees.Sites.{operands_visible};
 ghost use Rattle.constants.specs.Facts.{Facts, look, AreLocal};
 ghost use Rattle.constants.specs.Walk.{facts_of};
 

@@ -1,6 +1,6 @@
 //! The second phase: what can be known is learnt.
 ghost use Rattle.std.specs.Prelude.{◌≡◌, ◌≤◌, ◌+◌, ◌⊎◌, ℕ, length, true, None, Option};
-ghost use Rattle.ir_tree_laws.specs.Members.{In};
+ghost use Rattle.ir_event.specs.tree_laws.Members.{In};
 ghost use Rattle.dialects_int.specs.Folds.{known_of};
 ghost use Rattle.constants.specs.Facts.{Header, value};
 ghost use Rattle.constants.specs.Trails.{Uses, IsThere};
@@ -10,10 +10,10 @@ ghost use Rattle.constants.specs.Tables.{known_in, look_in, uses_in, users_of};
 use crate::forget::push;
 use crate::table::{fact, note};
 use crate::users::{folded, uses_of};
+use ir_event::store::uses::UsesOf;
+use ir_event::types::bits::Bits;
+use ir_event::types::ids::OpId;
 use ir_event::view::View;
-use ir_store::uses::UsesOf;
-use ir_types::bits::Bits;
-use ir_types::ids::OpId;
 use std::alloc::Global;
 use std::collections::BTreeMap;
 

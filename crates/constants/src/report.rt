@@ -6,9 +6,9 @@ ghost use Rattle.ir_event.specs.declared.row.Row.{Row as Line};
 ghost use Rattle.constants.specs.Tables.{cells_of};
 
 use ir_event::row::{Cell, Row};
-use ir_tree::value::Value;
-use ir_types::bits::Bits;
-use ir_types::ids::OpId;
+use ir_event::trees::value::Value;
+use ir_event::types::bits::Bits;
+use ir_event::types::ids::OpId;
 use std::alloc::{AllocError, Global};
 use std::collections::BTreeMap;
 

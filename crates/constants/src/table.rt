@@ -6,9 +6,9 @@ ghost use Rattle.constants.specs.Facts.{known, knowns};
 ghost use Rattle.constants.specs.Walk.{with_fact};
 ghost use Rattle.constants.specs.Tables.{known_in};
 
-use ir_tree::value::Value;
-use ir_types::bits::Bits;
-use ir_types::ids::OpId;
+use ir_event::trees::value::Value;
+use ir_event::types::bits::Bits;
+use ir_event::types::ids::OpId;
 use smallvec::SmallVec;
 use std::alloc::{AllocError, Global};
 use std::collections::BTreeMap;

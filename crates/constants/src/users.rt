@@ -8,11 +8,11 @@ ghost use Rattle.constants.specs.Tables.{known_in, look_in, uses_in, users_of};
 
 use crate::table::value_facts;
 use dialects_int::fold::fold;
+use ir_event::store::uses::UsesOf;
+use ir_event::trees::value::Value;
+use ir_event::types::bits::Bits;
+use ir_event::types::ids::OpId;
 use ir_event::view::View;
-use ir_store::uses::UsesOf;
-use ir_tree::value::Value;
-use ir_types::bits::Bits;
-use ir_types::ids::OpId;
 use std::alloc::{AllocError, Global};
 use std::collections::BTreeMap;
 

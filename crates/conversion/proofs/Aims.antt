@@ -2,10 +2,10 @@
 use Rattle.std.proofs.Common.{◌≡◌, refl, ℕ, true, not, List, [], ◌∷◌, map, arith}
 use Rattle.std.specs.List.{All, list_all, list_any}
 use Rattle.std.proofs.lemmas.List.Elements.{All-nil, All-cons, All-head, All-tail}
-use Rattle.ir_types.specs.Things.{Things, Grows, IsName}
-use Rattle.ir_types.specs.Terms.{name_term}
-use Rattle.ir_types.proofs.Growth.{front_agree, front_length}
-use Rattle.ir_tree_laws.proofs.Listed.{both}
+use Rattle.ir_event.specs.types.Things.{Things, Grows, IsName}
+use Rattle.ir_event.specs.types.Terms.{name_term}
+use Rattle.ir_event.proofs.of_types.Growth.{front_agree, front_length}
+use Rattle.ir_event.proofs.of_tree_laws.Listed.{both}
 use Rattle.conversion_base.specs.Words.{named}
 use Rattle.conversion_base.specs.RuleNames.{is_converting}
 use Rattle.conversion_base.specs.Targets.{TargetOf, IsAimIn, IsNamedIn, aim_of, cast_name, each_once, is_accepted, names_of}

@@ -2,14 +2,14 @@
 use Rattle.std.proofs.Common.{◌≡◌, refl, ap, sym, ◌∙◌, ℕ, Bool, true, false, not, ◌&&◌, List, [], ◌∷◌, Option, Some, None, option_map}
 use Rattle.std.specs.List.{list_all}
 use Rattle.std.proofs.lemmas.Slice.Eq.{bytes_eq-Decides}
-use Rattle.ir_types.specs.Terms.{TypeTerm, AttrTerm}
-use Rattle.ir_types.specs.Words.{is_inherent}
-use Rattle.ir_tree.specs.Tree.{op, head}
-use Rattle.ir_tree.specs.Ids.{find}
-use Rattle.ir_tree.specs.Meaning.{Operation}
-use Rattle.ir_store.specs.Nodes.{NodeOf, node_of}
-use Rattle.ir_tree_laws.specs.Stands.{StandOf, stand_of}
-use Rattle.ir_tree_laws.proofs.Readings.{stands_find}
+use Rattle.ir_event.specs.types.Terms.{TypeTerm, AttrTerm}
+use Rattle.ir_event.specs.types.Words.{is_inherent}
+use Rattle.ir_event.specs.trees.Tree.{op, head}
+use Rattle.ir_event.specs.trees.Ids.{find}
+use Rattle.ir_event.specs.trees.Meaning.{Operation}
+use Rattle.ir_event.specs.store.Nodes.{NodeOf, node_of}
+use Rattle.ir_event.specs.tree_laws.Stands.{StandOf, stand_of}
+use Rattle.ir_event.proofs.of_tree_laws.Readings.{stands_find}
 use Rattle.op_registry.specs.declared.definition.TypeRule.TheVariants.{Any}
 use Rattle.op_registry.specs.declared.own.Own.TheVariants.{Pure}
 use Rattle.op_registry.specs.Rows.{Row, rows}

@@ -1,20 +1,20 @@
 -- What the operations of a tree were, before heads were changed and an operation was taken out of it.
 use Rattle.std.proofs.Common.{◌≡◌, refl, ap, sym, ◌∙◌, subst, ℕ, zero, suc, ◌+◌, [], ◌∷◌, Option, Some, None}
 use Rattle.std.specs.Prelude.{option_and_then, slice_get}
-use Rattle.ir_tree.specs.declared.value.Value.{Value}
-use Rattle.ir_tree.specs.declared.value.Value.TheVariants.{Result, Arg}
-use Rattle.ir_tree.specs.Tree.{HeadOf, OpOf, op, RegionsOf, no_regions, region, empty, block, head, regions}
-use Rattle.ir_tree.specs.Ids.{HasDistinctIds, find}
-use Rattle.ir_tree.specs.Edits.{each_head, regions_each_head}
-use Rattle.ir_tree.specs.Places.{each_list, regions_each_list, without}
-use Rattle.ir_store.specs.Nodes.{regions_arguments}
-use Rattle.ir_tree_laws.specs.Members.{In}
-use Rattle.ir_tree_laws.specs.Stands.{StandOf, stand_id, stands, dropping, edit_stand}
-use Rattle.ir_tree_laws.specs.Values.{region_at, arguments_of, arguments_at, type_of_value}
-use Rattle.ir_tree_laws.proofs.Heads.{each_stands}
-use Rattle.ir_tree_laws.proofs.Listed.{in_mapped}
-use Rattle.ir_tree_laws.proofs.Members.{found_stands, stand_found}
-use Rattle.ir_tree_laws.proofs.Without.{member_left, same_head}
+use Rattle.ir_event.specs.trees.declared.value.Value.{Value}
+use Rattle.ir_event.specs.trees.declared.value.Value.TheVariants.{Result, Arg}
+use Rattle.ir_event.specs.trees.Tree.{HeadOf, OpOf, op, RegionsOf, no_regions, region, empty, block, head, regions}
+use Rattle.ir_event.specs.trees.Ids.{HasDistinctIds, find}
+use Rattle.ir_event.specs.trees.Edits.{each_head, regions_each_head}
+use Rattle.ir_event.specs.trees.Places.{each_list, regions_each_list, without}
+use Rattle.ir_event.specs.store.Nodes.{regions_arguments}
+use Rattle.ir_event.specs.tree_laws.Members.{In}
+use Rattle.ir_event.specs.tree_laws.Stands.{StandOf, stand_id, stands, dropping, edit_stand}
+use Rattle.ir_event.specs.tree_laws.Values.{region_at, arguments_of, arguments_at, type_of_value}
+use Rattle.ir_event.proofs.of_tree_laws.Heads.{each_stands}
+use Rattle.ir_event.proofs.of_tree_laws.Listed.{in_mapped}
+use Rattle.ir_event.proofs.of_tree_laws.Members.{found_stands, stand_found}
+use Rattle.ir_event.proofs.of_tree_laws.Without.{member_left, same_head}
 
 module _ {N T A : Type 0} where
   -- operation w of a tree, which now is another, but for its head, which f changed

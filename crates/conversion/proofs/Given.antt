@@ -1,12 +1,12 @@
 -- What gives the operands of an operation, by what is shown of it.
 use Rattle.std.proofs.Common.{◌≡◌, refl, ap, sym, ◌∙◌, ℕ, ◌≤◌, List, length, Option, Some, None, option_map, arith}
-use Rattle.ir_types.specs.Things.{Things}
-use Rattle.ir_types.specs.Terms.{name_term, type_term, attr_term}
-use Rattle.ir_tree.specs.Tree.{Op, op, no_regions, region, head, regions}
-use Rattle.ir_tree.specs.Ids.{find}
-use Rattle.ir_tree.specs.Meaning.{Operation, meaning}
-use Rattle.ir_tree.proofs.Mapped.{map_find}
-use Rattle.ir_store.specs.Nodes.{Node, node_of}
+use Rattle.ir_event.specs.types.Things.{Things}
+use Rattle.ir_event.specs.types.Terms.{name_term, type_term, attr_term}
+use Rattle.ir_event.specs.trees.Tree.{Op, op, no_regions, region, head, regions}
+use Rattle.ir_event.specs.trees.Ids.{find}
+use Rattle.ir_event.specs.trees.Meaning.{Operation, meaning}
+use Rattle.ir_event.proofs.of_trees.Mapped.{map_find}
+use Rattle.ir_event.specs.store.Nodes.{Node, node_of}
 use Rattle.conversion_base.proofs.Shown.{found}
 use Rattle.conversion.specs.Givers.{givers_of}
 use Rattle.conversion.specs.Walks.{Gives}

@@ -1,7 +1,7 @@
 -- Calls one after another.
 use Rattle.std.proofs.Common.{refl, ◌∙◌}
-use Rattle.ir_types.proofs.Growth.{grows_refl, grows_trans}
-use Rattle.rewriter.specs.Held.{Held}
+use Rattle.ir_event.proofs.of_types.Growth.{grows_refl, grows_trans}
+use Rattle.patterns.specs.rewriter.Held.{Held}
 use Rattle.conversion.specs.States.{State, Leads}
 use Rattle.conversion.proofs.Noting.{noted_more, noted_none}
 

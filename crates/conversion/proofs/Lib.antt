@@ -17,4 +17,5 @@ pub mod Steps
 pub mod Used
 pub mod Waiting
 pub mod Walks
-pub use Rattle.rewriter.proofs as of_rewriter_bench
+pub use Rattle.patterns.proofs.of_rewriter as of_rewriter_bench
+pub use Rattle.patterns.proofs.of_rewriter

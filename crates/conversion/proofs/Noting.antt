@@ -1,14 +1,14 @@
 -- What is noted, one call after another and under a mark.
 use Rattle.std.proofs.Common.{◌≡◌, ◌≢◌, refl, subst, [], ◌++◌, ℕ, Bool, true, false, Result, Ok, Err}
 use Rattle.std.specs.Prelude.{MatchResult, OnErr, is_ok}
-use Rattle.ir_types.specs.declared.refusal.Refusal.{Refusal}
+use Rattle.ir_event.specs.types.declared.refusal.Refusal.{Refusal}
 use Rattle.ir_event.specs.Listener.{Listener}
-use Rattle.rewriter.specs.Benched.{Benched, Keeps}
-use Rattle.rewriter.specs.Held.{Held}
-use Rattle.rewriter.specs.Moves.{Recorded}
-use Rattle.rewriter.specs.Rolling.{Dropped}
-use Rattle.rewriter.proofs.Noted.{recorded_left, recorded_more, recorded_none, recorded_undone, recorded_whole}
-use Rattle.rewriter.proofs.Together.{marked_on}
+use Rattle.patterns.specs.rewriter.Benched.{Benched, Keeps}
+use Rattle.patterns.specs.rewriter.Held.{Held}
+use Rattle.patterns.specs.rewriter.Moves.{Recorded}
+use Rattle.patterns.specs.rewriter.Rolling.{Dropped}
+use Rattle.patterns.proofs.of_rewriter.Noted.{recorded_left, recorded_more, recorded_none, recorded_undone, recorded_whole}
+use Rattle.patterns.proofs.of_rewriter.Together.{marked_on}
 use Rattle.patterns.specs.runs.Runs.{Noted}
 use Rattle.conversion.specs.declared.fault.Fault.{Fault}
 use Rattle.conversion.specs.States.{marked_desk}

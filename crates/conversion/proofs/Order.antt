@@ -3,20 +3,20 @@ use Rattle.std.proofs.Common.{◌≡◌, refl, ap, sym, ◌∙◌, subst, ℕ, z
 use Rattle.std.specs.Prelude.{nat_lt}
 use Rattle.std.specs.List.{list_any, IsDistinct}
 use Rattle.std.proofs.lemmas.Map.Keys.{IsDistinct-tail}
-use Rattle.ir_tree.specs.declared.value.Value.TheVariants.{Result}
-use Rattle.ir_tree.specs.Tree.{OpOf, op, RegionsOf, no_regions, region, RegionOf, OpsOf, next, block, head, regions}
-use Rattle.ir_tree.specs.Ids.{ids, ops_ids, region_ids, regions_ids, HasDistinctIds}
-use Rattle.ir_tree.specs.Sites.{shows, results_of}
-use Rattle.ir_tree_laws.specs.Reads.{comes_after, precedes}
-use Rattle.ir_tree_laws.specs.Stands.{StepOf, stands, sees}
-use Rattle.ir_tree_laws.specs.Members.{In}
-use Rattle.ir_tree_laws.specs.Values.{region_at}
-use Rattle.ir_tree_laws.proofs.Listed.{bool_cases, both, either, one_any}
-use Rattle.ir_tree_laws.proofs.Readings.{step}
-use Rattle.ir_tree_laws.proofs.Members.{stand, joined_ops, within, ops_child}
-use Rattle.ir_tree_laws.proofs.Put.{child}
-use Rattle.ir_tree_laws.proofs.Around.{around_there}
-use Rattle.ir_tree_laws.proofs.Values.{shape}
+use Rattle.ir_event.specs.trees.declared.value.Value.TheVariants.{Result}
+use Rattle.ir_event.specs.trees.Tree.{OpOf, op, RegionsOf, no_regions, region, RegionOf, OpsOf, next, block, head, regions}
+use Rattle.ir_event.specs.trees.Ids.{ids, ops_ids, region_ids, regions_ids, HasDistinctIds}
+use Rattle.ir_event.specs.trees.Sites.{shows, results_of}
+use Rattle.ir_event.specs.tree_laws.Reads.{comes_after, precedes}
+use Rattle.ir_event.specs.tree_laws.Stands.{StepOf, stands, sees}
+use Rattle.ir_event.specs.tree_laws.Members.{In}
+use Rattle.ir_event.specs.tree_laws.Values.{region_at}
+use Rattle.ir_event.proofs.of_tree_laws.Listed.{bool_cases, both, either, one_any}
+use Rattle.ir_event.proofs.of_tree_laws.Readings.{step}
+use Rattle.ir_event.proofs.of_tree_laws.Members.{stand, joined_ops, within, ops_child}
+use Rattle.ir_event.proofs.of_tree_laws.Put.{child}
+use Rattle.ir_event.proofs.of_tree_laws.Around.{around_there}
+use Rattle.ir_event.proofs.of_tree_laws.Values.{shape}
 use Rattle.conversion.proofs.Behind.{behind, comes_later, first_once, regions_from, there, there_left, there_right}
 use Rattle.patterns_edits.proofs.Front.{joined_cut}
 use Rattle.std.proofs.lemmas.Bool.{or_right}

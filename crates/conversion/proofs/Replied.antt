@@ -2,8 +2,8 @@
 use Rattle.std.proofs.Common.{◌≡◌, refl, ap, sym, ◌∙◌, inl, inr, ℕ, Result, Ok, Err}
 use Rattle.ir_event.specs.Listener.{Listener}
 use Rattle.ir_event.specs.Modules.{Module}
-use Rattle.rewriter.proofs.Together.{Ages}
-use Rattle.rewriter.specs.Machine.{Answer, Change, Converted, DoneWith, Goes, IsAnswer, IsUnmade, Nothing, State, due_change, fault_reply}
+use Rattle.patterns.proofs.of_rewriter.Together.{Ages}
+use Rattle.patterns.specs.rewriter.Machine.{Answer, Change, Converted, DoneWith, Goes, IsAnswer, IsUnmade, Nothing, State, due_change, fault_reply}
 use Rattle.patterns.specs.Benched.{Benched, Led, state_of}
 use Rattle.patterns.specs.Held.{module_held, open_marks}
 use Rattle.conversion_base.specs.Conversion.{Ended, converted, given_up}

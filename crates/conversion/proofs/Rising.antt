@@ -1,8 +1,8 @@
 -- Each rule that stands made an operation at least, so rules are no more than the ids that were given out.
 use Rattle.std.proofs.Common.{◌≡◌, refl, ap, sym, ◌∙◌, true≢false, ℕ, zero, suc, ◌+◌, ◌<◌, ◌≤◌, Bool, true, false, List, [], ◌∷◌, if◌then◌else◌, arith}
 use Rattle.std.specs.List.{list_all}
-use Rattle.ir_tree.specs.Ids.{has_id}
-use Rattle.ir_tree_laws.proofs.Listed.{both}
+use Rattle.ir_event.specs.trees.Ids.{has_id}
+use Rattle.ir_event.proofs.of_tree_laws.Listed.{both}
 use Rattle.ir_event.specs.Modules.{Module}
 use Rattle.conversion.specs.declared.tried.Tried.{Tried}
 use Rattle.conversion.specs.States.{Told}

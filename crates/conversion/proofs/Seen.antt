@@ -1,22 +1,22 @@
 -- What calls of a bench come to, as conversions see it.
 use Rattle.std.proofs.Common.{◌≡◌, refl, ap, sym, ◌∙◌, subst, inl, inr, ℕ, Bool, true, false, true≢false, List, [], Option, Some, None, option_map, Result, Ok, Err}
 use Rattle.std.specs.Prelude.{IfErr, IfOk, IfSome, Vec, OnErr, OnOk}
-use Rattle.ir_types.specs.Things.{Things, Grows}
-use Rattle.ir_types.specs.Sound.{Holds}
-use Rattle.ir_types.specs.Terms.{name_term, type_term, attr_term}
-use Rattle.ir_types.specs.declared.refusal.Refusal.{Refusal}
-use Rattle.ir_types.specs.declared.refusal.Refusal.TheVariants.{Memory}
-use Rattle.ir_types.proofs.Growth.{grows_refl}
-use Rattle.ir_tree.specs.Ids.{has_id, ids}
-use Rattle.ir_tree.proofs.Mapped.{map_ids}
-use Rattle.ir_tree_laws.proofs.Contents.{map_has_id}
+use Rattle.ir_event.specs.types.Things.{Things, Grows}
+use Rattle.ir_event.specs.types.Sound.{Holds}
+use Rattle.ir_event.specs.types.Terms.{name_term, type_term, attr_term}
+use Rattle.ir_event.specs.types.declared.refusal.Refusal.{Refusal}
+use Rattle.ir_event.specs.types.declared.refusal.Refusal.TheVariants.{Memory}
+use Rattle.ir_event.proofs.of_types.Growth.{grows_refl}
+use Rattle.ir_event.specs.trees.Ids.{has_id, ids}
+use Rattle.ir_event.proofs.of_trees.Mapped.{map_ids}
+use Rattle.ir_event.proofs.of_tree_laws.Contents.{map_has_id}
 use Rattle.ir_event.specs.Listener.{Listener}
 use Rattle.ir_event.specs.Modules.{Module, module_in, module_meaning}
 use Rattle.ir_event.specs.declared.world.World.{World}
-use Rattle.rewriter.proofs.Calls.{stepped, unstepped}
-use Rattle.rewriter.proofs.Told.{heard_none}
-use Rattle.rewriter.specs.Machine.{Goes, Nothing, Step}
-use Rattle.rewriter.specs.Wholes.{IsFinished}
+use Rattle.patterns.proofs.of_rewriter.Calls.{stepped, unstepped}
+use Rattle.patterns.proofs.of_rewriter.Told.{heard_none}
+use Rattle.patterns.specs.rewriter.Machine.{Goes, Nothing, Step}
+use Rattle.patterns.specs.rewriter.Wholes.{IsFinished}
 use Rattle.patterns.specs.runs.Interning.{IsFull as AddedFull}
 use Rattle.patterns.specs.Applied.{Applied, Gave, IsReason}
 use Rattle.patterns.specs.Benched.{Benched, Keeps, Led, reply_of, state_of}

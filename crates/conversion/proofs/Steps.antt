@@ -3,30 +3,30 @@
 use Rattle.std.proofs.Common.{◌≡◌, refl, ap, sym, ◌∙◌, subst, inl, inr, ◌⊎◌, ℕ, ◌+◌, Bool, true, false, true≢false, cond, not, ◌&&◌, eqb, eqb-true, List, [], ◌∷◌, map, Option, Some, None}
 use Rattle.std.specs.Prelude.{nat_le}
 use Rattle.std.specs.List.{IsDistinct}
-use Rattle.ir_types.specs.declared.refusal.Refusal.TheVariants.{Full, IdsExhausted}
-use Rattle.ir_types.specs.Terms.{TypeTerm, AttrTerm}
-use Rattle.ir_types.specs.Words.{is_isolated}
-use Rattle.ir_tree.specs.declared.value.Value.{Value}
-use Rattle.ir_tree.specs.declared.value.Value.TheVariants.{Result}
-use Rattle.ir_tree.specs.Tree.{no_regions, head, regions}
-use Rattle.ir_tree.specs.Ids.{HasDistinctIds, find, op_count}
-use Rattle.ir_tree.specs.Limits.{most_ops, most_next}
-use Rattle.ir_tree.specs.Edits.{put_value, put_values, with_value_replaced}
-use Rattle.ir_tree.specs.Places.{without}
-use Rattle.ir_tree.specs.Uses.{same_value}
-use Rattle.ir_tree.specs.Meaning.{Operation}
-use Rattle.ir_tree.specs.WellFormed.{IsWellFormed}
-use Rattle.ir_tree.proofs.Replaced.{same_value_true}
-use Rattle.ir_tree_laws.specs.Members.{In}
-use Rattle.ir_tree_laws.specs.Reads.{precedes}
-use Rattle.ir_tree_laws.specs.Stands.{StandOf, sees, dropping}
-use Rattle.ir_tree_laws.proofs.Around.{left_apart}
-use Rattle.ir_tree_laws.proofs.Formed.{from_formed}
-use Rattle.ir_tree_laws.proofs.Heads.{each_id}
-use Rattle.ir_tree_laws.proofs.HeadForm.{edit_ids}
-use Rattle.ir_tree_laws.proofs.Listed.{all_each, bool_cases, both, not_false}
-use Rattle.ir_tree_laws.proofs.Members.{found_stands}
-use Rattle.ir_tree_laws.proofs.Without.{member_left, same_head}
+use Rattle.ir_event.specs.types.declared.refusal.Refusal.TheVariants.{Full, IdsExhausted}
+use Rattle.ir_event.specs.types.Terms.{TypeTerm, AttrTerm}
+use Rattle.ir_event.specs.types.Words.{is_isolated}
+use Rattle.ir_event.specs.trees.declared.value.Value.{Value}
+use Rattle.ir_event.specs.trees.declared.value.Value.TheVariants.{Result}
+use Rattle.ir_event.specs.trees.Tree.{no_regions, head, regions}
+use Rattle.ir_event.specs.trees.Ids.{HasDistinctIds, find, op_count}
+use Rattle.ir_event.specs.trees.Limits.{most_ops, most_next}
+use Rattle.ir_event.specs.trees.Edits.{put_value, put_values, with_value_replaced}
+use Rattle.ir_event.specs.trees.Places.{without}
+use Rattle.ir_event.specs.trees.Uses.{same_value}
+use Rattle.ir_event.specs.trees.Meaning.{Operation}
+use Rattle.ir_event.specs.trees.WellFormed.{IsWellFormed}
+use Rattle.ir_event.proofs.of_trees.Replaced.{same_value_true}
+use Rattle.ir_event.specs.tree_laws.Members.{In}
+use Rattle.ir_event.specs.tree_laws.Reads.{precedes}
+use Rattle.ir_event.specs.tree_laws.Stands.{StandOf, sees, dropping}
+use Rattle.ir_event.proofs.of_tree_laws.Around.{left_apart}
+use Rattle.ir_event.proofs.of_tree_laws.Formed.{from_formed}
+use Rattle.ir_event.proofs.of_tree_laws.Heads.{each_id}
+use Rattle.ir_event.proofs.of_tree_laws.HeadForm.{edit_ids}
+use Rattle.ir_event.proofs.of_tree_laws.Listed.{all_each, bool_cases, both, not_false}
+use Rattle.ir_event.proofs.of_tree_laws.Members.{found_stands}
+use Rattle.ir_event.proofs.of_tree_laws.Without.{member_left, same_head}
 use Rattle.ir_event.specs.Modules.{Module}
 use Rattle.effects.specs.Dead.{is_unused}
 use Rattle.patterns_edits.specs.Contents.{Edit, all_edited, edited}

@@ -3,13 +3,13 @@ use Rattle.std.proofs.Common.{◌≡◌, ◌≢◌, refl, ap, sym, ◌∙◌, su
 use Rattle.std.specs.List.{list_all, range_with_len}
 use Rattle.std.proofs.Math.Bool.{or-false}
 use Rattle.std.proofs.lemmas.List.{take_all}
-use Rattle.ir_types.specs.Things.{Things, Grows}
-use Rattle.ir_types.specs.declared.refusal.Refusal.{Refusal}
-use Rattle.ir_tree.specs.Ids.{has_id}
-use Rattle.ir_tree_laws.proofs.Listed.{both}
+use Rattle.ir_event.specs.types.Things.{Things, Grows}
+use Rattle.ir_event.specs.types.declared.refusal.Refusal.{Refusal}
+use Rattle.ir_event.specs.trees.Ids.{has_id}
+use Rattle.ir_event.proofs.of_tree_laws.Listed.{both}
 use Rattle.ir_event.specs.Modules.{Module}
-use Rattle.rewriter.specs.Held.{Held}
-use Rattle.rewriter.specs.Rolling.{Dropped}
+use Rattle.patterns.specs.rewriter.Held.{Held}
+use Rattle.patterns.specs.rewriter.Rolling.{Dropped}
 use Rattle.conversion.specs.declared.tried.Tried.{Tried}
 use Rattle.conversion_base.specs.Rewrites.{Rewrite, none, refused, becomes, rewrite_of}
 use Rattle.conversion_base.specs.Rule.{Rule}
@@ -19,7 +19,7 @@ use Rattle.conversion_base.specs.Legalization.{Outcome, legalised, failed, stopp
 use Rattle.conversion.specs.States.{State, Applied, IsWant, Told, ToldBehind, Stops, Comes, ComesBehind, Closed, Leads, marked, marked_desk, went_well}
 use Rattle.conversion.proofs.Noting.{noted_closed}
 use Rattle.std.proofs.lemmas.Bool.{not-false, not-true}
-use Rattle.ir_types.proofs.Truths.{rest_at}
+use Rattle.ir_event.proofs.of_types.Truths.{rest_at}
 
 -- ---- outcomes behind others
 

@@ -1,12 +1,12 @@
 -- Operations in turn, and the parts of a conversion.
 use Rattle.std.proofs.Common.{◌≡◌, refl, ap, sym, ◌∙◌, subst, inl, inr, ◌⊎◌, ℕ, suc, ◌+◌, ◌-◌, ◌<◌, ◌≤◌, Bool, true, false, true≢false, List, [], ◌∷◌, ◌++◌, append-nil, append_assoc, length, take, drop, get_or, if◌then◌else◌, Result, Ok, Err, Some, None, arith}
 use Rattle.std.specs.Prelude.{OnOk, is_ok}
-use Rattle.ir_types.specs.Things.{Things}
-use Rattle.ir_types.specs.declared.refusal.Refusal.{Refusal}
-use Rattle.ir_types.specs.Words.{is_isolated}
-use Rattle.ir_tree.specs.Ids.{ids}
-use Rattle.ir_tree.specs.Meaning.{Operation}
-use Rattle.ir_tree.specs.WellFormed.{IsWellFormed}
+use Rattle.ir_event.specs.types.Things.{Things}
+use Rattle.ir_event.specs.types.declared.refusal.Refusal.{Refusal}
+use Rattle.ir_event.specs.types.Words.{is_isolated}
+use Rattle.ir_event.specs.trees.Ids.{ids}
+use Rattle.ir_event.specs.trees.Meaning.{Operation}
+use Rattle.ir_event.specs.trees.WellFormed.{IsWellFormed}
 use Rattle.ir_event.specs.Modules.{Module}
 use Rattle.conversion.specs.declared.fault.Fault.{Fault}
 use Rattle.conversion.specs.declared.tried.Tried.{Tried}
@@ -19,7 +19,7 @@ use Rattle.conversion_base.specs.Conversion.{Ended, converted, given_up, counted
 use Rattle.conversion.specs.States.{State, Applied, Refuses, AnswersBehind, IsWant, Comes, Wants, Faults, EndsWith, Ends, none_of, Converts, Closed, marked}
 use Rattle.conversion_base.proofs.Gone.{no_cast_is_left}
 use Rattle.conversion.proofs.Trying.{noted}
-use Rattle.ir_types.proofs.Truths.{rest_at, times_more}
+use Rattle.ir_event.proofs.of_types.Truths.{rest_at, times_more}
 
 -- ---- ends one behind another
 

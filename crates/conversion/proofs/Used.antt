@@ -1,20 +1,20 @@
 -- Which operations lose their last use when an operation goes: those alone that give its operands.
 use Rattle.std.proofs.Common.{◌≡◌, refl, ap, sym, ◌∙◌, subst, ℕ, Bool, true, false, true≢false, cond, not, ◌&&◌, ◌||◌, eqb, eqb-true, List, [], ◌∷◌, map, Some, inl, inr}
 use Rattle.std.specs.List.{list_all}
-use Rattle.ir_tree.specs.declared.value.Value.{Value}
-use Rattle.ir_tree.specs.declared.value.Value.TheVariants.{Result, Arg}
-use Rattle.ir_tree.specs.Tree.{HeadOf, OpOf, op, no_regions, region, head, regions}
-use Rattle.ir_tree.specs.Ids.{HasDistinctIds, find}
-use Rattle.ir_tree.specs.Edits.{each_head, put_value, put_values, with_value_replaced}
-use Rattle.ir_tree.specs.Places.{without}
-use Rattle.ir_tree_laws.specs.Members.{In}
-use Rattle.ir_tree_laws.specs.Stands.{StepOf, StandOf, stands, gone_in, is_gone, dropping, edit_step, edit_stand, left_stand}
-use Rattle.ir_tree_laws.proofs.Around.{Within, gone_within}
-use Rattle.ir_tree_laws.proofs.Heads.{each_stands}
-use Rattle.ir_tree_laws.proofs.Listed.{bool_cases, all_each, in_map}
-use Rattle.ir_tree_laws.proofs.Members.{stand, stand_found}
-use Rattle.ir_tree_laws.proofs.Readings.{stands_every}
-use Rattle.ir_tree_laws.proofs.Without.{left_member, same_head}
+use Rattle.ir_event.specs.trees.declared.value.Value.{Value}
+use Rattle.ir_event.specs.trees.declared.value.Value.TheVariants.{Result, Arg}
+use Rattle.ir_event.specs.trees.Tree.{HeadOf, OpOf, op, no_regions, region, head, regions}
+use Rattle.ir_event.specs.trees.Ids.{HasDistinctIds, find}
+use Rattle.ir_event.specs.trees.Edits.{each_head, put_value, put_values, with_value_replaced}
+use Rattle.ir_event.specs.trees.Places.{without}
+use Rattle.ir_event.specs.tree_laws.Members.{In}
+use Rattle.ir_event.specs.tree_laws.Stands.{StepOf, StandOf, stands, gone_in, is_gone, dropping, edit_step, edit_stand, left_stand}
+use Rattle.ir_event.proofs.of_tree_laws.Around.{Within, gone_within}
+use Rattle.ir_event.proofs.of_tree_laws.Heads.{each_stands}
+use Rattle.ir_event.proofs.of_tree_laws.Listed.{bool_cases, all_each, in_map}
+use Rattle.ir_event.proofs.of_tree_laws.Members.{stand, stand_found}
+use Rattle.ir_event.proofs.of_tree_laws.Readings.{stands_every}
+use Rattle.ir_event.proofs.of_tree_laws.Without.{left_member, same_head}
 use Rattle.effects.specs.Dead.{is_result_of, is_unused}
 use Rattle.conversion.specs.Givers.{givers_of}
 use Rattle.std.proofs.lemmas.Bool.{not-false}

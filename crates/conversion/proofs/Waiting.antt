@@ -11,11 +11,11 @@ use Rattle.std.proofs.lemmas.Bool.{cases_order}
 use Rattle.std.proofs.lemmas.Cmp.{ranked}
 use Rattle.std.proofs.lemmas.List.Elements.{All-head, All-tail}
 use Rattle.std.proofs.lemmas.Map.Keys.{IsDistinct-tail}
-use Rattle.ir_tree.proofs.Returns.{absent_first}
-use Rattle.ir_tree_laws.specs.Members.{In}
-use Rattle.ir_tree_laws.proofs.Listed.{bool_cases}
+use Rattle.ir_event.proofs.of_trees.Returns.{absent_first}
+use Rattle.ir_event.specs.tree_laws.Members.{In}
+use Rattle.ir_event.proofs.of_tree_laws.Listed.{bool_cases}
 use Rattle.conversion.specs.Waiting.{Again, ArePlaces, Took, Waits, of_again}
-use Rattle.ir_types.proofs.Truths.{less_than, take_whole}
+use Rattle.ir_event.proofs.of_types.Truths.{less_than, take_whole}
 use Rattle.std.proofs.lemmas.Option.{same_Some}
 
 -- ---- a set's keys

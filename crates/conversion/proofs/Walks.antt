@@ -3,14 +3,14 @@ use Rattle.std.proofs.Common.{◌≡◌, refl, ap, sym, ◌∙◌, subst, inl, i
 use Rattle.std.specs.Prelude.{slice_get}
 use Rattle.std.specs.List.{list_any}
 use Rattle.std.proofs.lemmas.Bool.{cases_order}
-use Rattle.ir_types.specs.Words.{is_isolated}
-use Rattle.ir_tree.specs.Tree.{head}
-use Rattle.ir_tree.specs.Ids.{ids}
-use Rattle.ir_tree.specs.Meaning.{Operation}
-use Rattle.ir_tree.specs.WellFormed.{IsWellFormed}
-use Rattle.ir_tree_laws.specs.Members.{In}
-use Rattle.ir_tree_laws.specs.Reads.{comes_after, precedes}
-use Rattle.ir_tree_laws.proofs.Listed.{bool_cases, both}
+use Rattle.ir_event.specs.types.Words.{is_isolated}
+use Rattle.ir_event.specs.trees.Tree.{head}
+use Rattle.ir_event.specs.trees.Ids.{ids}
+use Rattle.ir_event.specs.trees.Meaning.{Operation}
+use Rattle.ir_event.specs.trees.WellFormed.{IsWellFormed}
+use Rattle.ir_event.specs.tree_laws.Members.{In}
+use Rattle.ir_event.specs.tree_laws.Reads.{comes_after, precedes}
+use Rattle.ir_event.proofs.of_tree_laws.Listed.{bool_cases, both}
 use Rattle.ir_event.specs.Modules.{Module}
 use Rattle.patterns_base.specs.Rewrites.{Rewrite, none, becomes}
 use Rattle.conversion_base.specs.Listing.{HaveCasts}
@@ -20,7 +20,7 @@ use Rattle.conversion_base.proofs.Listed.{next_listed}
 use Rattle.conversion.specs.Waiting.{ArePlaces, Freed, Took, of_again, of_next}
 use Rattle.conversion.specs.Walks.{Gives, NoRule, Walked, collapse_at, is_inner}
 use Rattle.conversion.proofs.Steps.{none_of_parts, none_parts, only_erased, step_gone, step_of, still_none, still_stuck, was_inner}
-use Rattle.ir_tree_laws.proofs.Facts.{in_or_not}
+use Rattle.ir_event.proofs.of_tree_laws.Facts.{in_or_not}
 use Rattle.conversion.proofs.Waiting.{there_at}
 use Rattle.std.proofs.lemmas.Option.{slice_get_within}
 

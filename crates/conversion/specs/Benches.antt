@@ -1,8 +1,8 @@
 -- A bench as conversions see it.
 use Rattle.std.specs.Prelude.{[], ◌++◌}
-use Rattle.ir_types.specs.Sound.{Holds}
+use Rattle.ir_event.specs.types.Sound.{Holds}
 use Rattle.ir_event.specs.Listener.{Listener}
-use Rattle.rewriter.proofs.Told.{heard_none, heard_more}
+use Rattle.patterns.proofs.Told.{heard_none, heard_more}
 use Rattle.patterns.specs.Benched.{Benched, Led}
 use Rattle.patterns.specs.Held.{Held, module_held, open_marks}
 use Rattle.conversion.specs.States.{State}

@@ -1,9 +1,10 @@
 -- Conversion as a transformation, and how it is replied to.
 use Rattle.std.specs.Prelude.{ℕ, true, List, [], ◌∷◌, Option, Some, None, option_map, option_and_then, Result, Ok, Err}
-use Rattle.ir_types.specs.declared.refusal.Refusal.TheVariants.{BadTarget}
+use Rattle.ir_event.specs.types.declared.refusal.Refusal.TheVariants.{BadTarget}
 use Rattle.ir_event.specs.Modules.{Module}
-use Rattle.rewriter.specs.Commands.{Target}
-use Rattle.rewriter.specs.Machine.{Converted, DoneWith, Fault as Because, Outcome, Reply, Transformation, fault_reply}
+use Rattle.patterns.specs.rewriter.Commands.{Target}
+use Rattle.patterns.specs.rewriter.Machine.{Converted, DoneWith, Fault as Because}
+use Rattle.patterns.specs.rewriter.Machine.{Outcome, Reply, Transformation, fault_reply}
 use Rattle.conversion_base.specs.Conversion.{Ended, converted, given_up, conversion_of}
 use Rattle.conversion_base.specs.Rule.{Rule}
 use Rattle.conversion_base.specs.RuleNames.{by_number}

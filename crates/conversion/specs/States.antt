@@ -1,11 +1,11 @@
 -- What a bench holds, as conversions see it, and what their parts make of it.
 use Rattle.std.specs.Prelude.{◌≡◌, ℕ, ◌≤◌, List, [], ◌∷◌, ◌++◌, Bool, true, false, ◌⊎◌, length, if◌then◌else◌, Option}
 use Rattle.std.specs.Prelude.{Result, Ok, Err, None}
-use Rattle.ir_types.specs.Things.{Things, Grows}
-use Rattle.ir_types.specs.declared.refusal.Refusal.{Refusal}
-use Rattle.ir_types.specs.declared.refusal.Refusal.TheVariants.{Memory, Full}
+use Rattle.ir_event.specs.types.Things.{Things, Grows}
+use Rattle.ir_event.specs.types.declared.refusal.Refusal.{Refusal}
+use Rattle.ir_event.specs.types.declared.refusal.Refusal.TheVariants.{Memory, Full}
 use Rattle.ir_event.specs.Modules.{Module}
-use Rattle.rewriter.specs.Held.{Held}
+use Rattle.patterns.specs.rewriter.Held.{Held}
 use Rattle.patterns.specs.runs.Runs.{Noted}
 use Rattle.conversion_base.specs.Machine.{OpenMark}
 use Rattle.conversion_base.specs.Rewrites.{Rewrite, none, refused, becomes}

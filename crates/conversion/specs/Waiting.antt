@@ -1,6 +1,6 @@
 -- The places of a list of which some wait: each that wasn't passed, and those that are to be looked at again.
 use Rattle.std.specs.Prelude.{◌≡◌, ◌⊎◌, ◌<◌, ℕ, suc, List, [], ◌∷◌, Option, Some, None, slice_get}
-use Rattle.ir_tree_laws.specs.Members.{In}
+use Rattle.ir_event.specs.tree_laws.Members.{In}
 
 -- place p is taken, the first that waits: of those that are to be looked at again, or the next one
 pub data Took (passed : ℕ) (again : List ℕ) (passed2 : ℕ) (again2 : List ℕ) (p : ℕ) : Type 0 where

@@ -1,9 +1,9 @@
 -- A walk over the casts of a module, in the order of a list.
 use Rattle.std.specs.Prelude.{◌≡◌, ◌⊎◌, ◌<◌, ℕ, List, Bool, true, not, ◌&&◌, eqb, Option, Some, None, slice_get}
-use Rattle.ir_tree.specs.Tree.{no_regions, head, regions}
-use Rattle.ir_tree.specs.Ids.{find}
-use Rattle.ir_tree.specs.Meaning.{Operation}
-use Rattle.ir_tree_laws.specs.Members.{In}
+use Rattle.ir_event.specs.trees.Tree.{no_regions, head, regions}
+use Rattle.ir_event.specs.trees.Ids.{find}
+use Rattle.ir_event.specs.trees.Meaning.{Operation}
+use Rattle.ir_event.specs.tree_laws.Members.{In}
 use Rattle.ir_event.specs.Modules.{Module}
 use Rattle.patterns_base.specs.declared.rule.Rule.TheVariants.{CastBack}
 use Rattle.patterns_base.specs.Rewrites.{Rewrite, none, edits_of}

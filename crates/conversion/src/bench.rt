@@ -16,14 +16,14 @@ use conversion_base::rule::Rule;
 use conversion_base::target::Target;
 use conversion_base::{accepted, legal};
 use ir_event::analysis::Analysis;
-use ir_types::ids::OpId;
-use ir_types::refusal::Refusal;
+use ir_event::types::ids::OpId;
+use ir_event::types::refusal::Refusal;
 use patterns::apply::apply;
 use patterns::limits::limit_reason;
+use patterns::rewriter::finish::finish;
 use patterns::runs::Bench;
 use patterns::runs::carry::carry_whole;
 use patterns::runs::edit::Edit;
-use rewriter::finish::finish;
 use std::alloc::Global;
 
 /// Applies a rule at an operation, if it is there. The answer is whether it applied.

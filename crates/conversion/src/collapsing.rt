@@ -4,8 +4,8 @@ ghost use Rattle.std.specs.Prelude.{◌≡◌, ◌++◌, ◌∷◌, [], false, I
 ghost use Rattle.std.specs.Prelude.{true};
 ghost use Rattle.std.specs.List.{IsDistinct};
 ghost use Rattle.std.specs.HashMap.{get};
-ghost use Rattle.ir_types.specs.declared.refusal.Refusal.TheVariants.{Memory as NoMemory};
-ghost use Rattle.ir_tree.specs.Ids.{ids};
+ghost use Rattle.ir_event.specs.types.declared.refusal.Refusal.TheVariants.{Memory as NoMemory};
+ghost use Rattle.ir_event.specs.trees.Ids.{ids};
 ghost use Rattle.conversion_base.specs.Conversion.{ended};
 ghost use Rattle.conversion_base.specs.Listing.{HaveCasts, casts_among};
 ghost use Rattle.conversion_base.specs.Reconciling.{all_collapsed, collapse, collapsed, next_collapse};
@@ -17,8 +17,8 @@ use crate::fault::Fault;
 use crate::places::places_of;
 use crate::rewriting::Rewriting;
 use crate::walk::{Walk, free, start, take};
-use ir_types::ids::OpId;
-use ir_types::refusal::Refusal;
+use ir_event::types::ids::OpId;
+use ir_event::types::refusal::Refusal;
 use std::alloc::Global;
 use std::collections::HashMap;
 

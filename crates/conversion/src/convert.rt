@@ -1,9 +1,9 @@
 //! Dialect conversion of the module of a bench.
 ghost use Rattle.std.specs.Prelude.{◌≡◌, [], true, MatchResult, OnOk};
-ghost use Rattle.ir_types.specs.Things.{Grows};
-ghost use Rattle.rewriter.specs.Machine.{Change};
-ghost use Rattle.rewriter.specs.Benched.{Does, Led};
-ghost use Rattle.rewriter.specs.Moves.{Recorded};
+ghost use Rattle.ir_event.specs.types.Things.{Grows};
+ghost use Rattle.patterns.specs.rewriter.Machine.{Change};
+ghost use Rattle.patterns.specs.rewriter.Benched.{Does, Led};
+ghost use Rattle.patterns.specs.rewriter.Moves.{Recorded};
 ghost use Rattle.patterns.specs.Held.{module_held};
 ghost use Rattle.patterns.specs.runs.Runs.{Noted};
 ghost use Rattle.conversion_base.specs.Conversion.{conversion_of, has_no_cast};

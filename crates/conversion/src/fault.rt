@@ -1,8 +1,8 @@
 //! Why a conversion is refused.
 ghost use Rattle.std.specs.Prelude.{◌≡◌, Some, None};
 
-use ir_types::ids::OpId;
-use ir_types::refusal::Refusal;
+use ir_event::types::ids::OpId;
+use ir_event::types::refusal::Refusal;
 use thiserror::Error;
 
 /// Why a conversion is refused, and for which operation, if it is for one.

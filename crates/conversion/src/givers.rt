@@ -4,9 +4,9 @@ ghost use Rattle.ir_event.specs.Modules.{module_in};
 ghost use Rattle.conversion.specs.Givers.{givers_of};
 ghost use Rattle.conversion.specs.Walks.{Gives};
 
+use ir_event::trees::value::Value;
+use ir_event::types::ids::OpId;
 use ir_event::world::World;
-use ir_tree::value::Value;
-use ir_types::ids::OpId;
 use std::alloc::{AllocError, Global};
 
 /// Adds the operation of which a value is a result.

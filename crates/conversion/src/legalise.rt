@@ -1,6 +1,6 @@
 //! Operations are legalised: a rule is tried, and what it makes is legalised in turn, or all of it is undone.
 ghost use Rattle.std.specs.Prelude.{◌≡◌, ◌≢◌, ◌<◌, [], true, false, ◌||◌};
-ghost use Rattle.rewriter.specs.Rolling.{Dropped};
+ghost use Rattle.patterns.specs.rewriter.Rolling.{Dropped};
 ghost use Rattle.conversion_base.specs.Rewrites.{rewrite_of};
 ghost use Rattle.conversion_base.specs.Legalization.{after_rule as rule_outcome, behind, each_of};
 ghost use Rattle.conversion_base.specs.Legalization.{first_rule as rules_outcome, legalization_of, made_since};
@@ -13,8 +13,8 @@ use crate::rewriting::{Rewriting, Rules};
 use crate::tried::Tried;
 use conversion_base::rule::Rule;
 use conversion_base::target::Target;
-use ir_types::ids::OpId;
-use ir_types::refusal::Refusal;
+use ir_event::types::ids::OpId;
+use ir_event::types::refusal::Refusal;
 use std::alloc::Global;
 
 /// A try that made nothing.

@@ -16,4 +16,6 @@ mod tried;
 mod walk;
 
 pub use conversion_base::{laws, names, rule, target};
+pub use patterns as patterns;
+pub use patterns::rewriter;
 pub use rewriter as rewriter_bench;

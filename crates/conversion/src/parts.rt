@@ -1,7 +1,7 @@
 //! Dialect conversion: the operations of a module are legalised in turn, then casts are reconciled.
 ghost use Rattle.std.specs.Prelude.{◌≡◌, ◌+◌, ◌≤◌, [], true, IfOk, OnErr, OnOk, is_ok};
-ghost use Rattle.ir_tree.specs.Ids.{ids};
-ghost use Rattle.rewriter.specs.Moves.{Recorded};
+ghost use Rattle.ir_event.specs.trees.Ids.{ids};
+ghost use Rattle.patterns.specs.rewriter.Moves.{Recorded};
 ghost use Rattle.conversion_base.specs.Conversion.{all_parts, cast_at as cast_end, casts_left, checked, converted};
 ghost use Rattle.conversion_base.specs.Conversion.{conversion_of, failing as failing_of, first_illegal, has_no_cast};
 ghost use Rattle.conversion_base.specs.Conversion.{in_turn, later_parts, legalised_at as legalised_end};
@@ -13,8 +13,8 @@ use crate::fault::Fault;
 use crate::legalise::{close, legalise};
 use crate::rewriting::{Rewriting, Rules};
 use conversion_base::target::Target;
-use ir_types::ids::OpId;
-use ir_types::refusal::Refusal;
+use ir_event::types::ids::OpId;
+use ir_event::types::refusal::Refusal;
 use std::alloc::Global;
 
 /// Why an operation of the start isn't legalised.

@@ -5,7 +5,7 @@ ghost use Rattle.std.specs.HashMap.{get};
 ghost use Rattle.std.specs.Map.{update};
 ghost use Rattle.conversion.specs.Waiting.{ArePlaces};
 
-use ir_types::ids::OpId;
+use ir_event::types::ids::OpId;
 use std::alloc::{AllocError, Global};
 use std::collections::HashMap;
 

@@ -1,11 +1,11 @@
 //! What conversions need of a bench and of the rules.
 ghost use Rattle.std.specs.Prelude.{◌≡◌, ◌≢◌, [], false, true, OnOk, OnErr, IfErr, IfOk, IfSome};
-ghost use Rattle.ir_types.specs.Words.{is_isolated};
-ghost use Rattle.ir_types.specs.declared.refusal.Refusal.TheVariants.{Memory as NoMemory};
-ghost use Rattle.ir_tree.specs.Ids.{has_id, ids};
-ghost use Rattle.ir_tree.specs.WellFormed.{IsWellFormed};
-ghost use Rattle.rewriter.specs.Held.{Held};
-ghost use Rattle.rewriter.specs.Rolling.{Dropped};
+ghost use Rattle.ir_event.specs.types.Words.{is_isolated};
+ghost use Rattle.ir_event.specs.types.declared.refusal.Refusal.TheVariants.{Memory as NoMemory};
+ghost use Rattle.ir_event.specs.trees.Ids.{has_id, ids};
+ghost use Rattle.ir_event.specs.trees.WellFormed.{IsWellFormed};
+ghost use Rattle.patterns.specs.rewriter.Held.{Held};
+ghost use Rattle.patterns.specs.rewriter.Rolling.{Dropped};
 ghost use Rattle.conversion_base.specs.Rewrites.{rewrite_of};
 ghost use Rattle.conversion_base.specs.RuleNames.{is_converting};
 ghost use Rattle.conversion_base.specs.Targets.{IsAimIn, IsNamedIn, aim_of, is_accepted, is_legal};
@@ -15,8 +15,8 @@ ghost use Rattle.conversion.specs.States.{State, Answers, Committed, Leads, Roll
 
 use conversion_base::rule::Rule;
 use conversion_base::target::Target;
-use ir_types::ids::OpId;
-use ir_types::refusal::Refusal;
+use ir_event::types::ids::OpId;
+use ir_event::types::refusal::Refusal;
 use std::alloc::Global;
 
 /// A bench. Each call that is refused leaves the module and the marks as they were.

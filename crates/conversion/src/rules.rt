@@ -3,8 +3,8 @@ use crate::bench::apply_rule;
 use crate::rewriting::Rules;
 use conversion_base::rule::Rule;
 use ir_event::analysis::Analysis;
-use ir_types::ids::OpId;
-use ir_types::refusal::Refusal;
+use ir_event::types::ids::OpId;
+use ir_event::types::refusal::Refusal;
 use patterns::runs::Bench;
 use std::alloc::Global;
 

@@ -4,7 +4,7 @@ ghost use Rattle.std.specs.HashMap.{get};
 ghost use Rattle.conversion.specs.Waiting.{Again, Freed, Took, Waits};
 
 use crate::places::place_of;
-use ir_types::ids::OpId;
+use ir_event::types::ids::OpId;
 use std::alloc::{AllocError, Global};
 use std::collections::{BTreeSet, HashMap};
 

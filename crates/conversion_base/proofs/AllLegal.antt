@@ -1,9 +1,9 @@
 -- After a full conversion every operation is legal.
 use Rattle.std.proofs.Common.{◌≡◌, refl, ap, sym, ◌∙◌, subst, ℕ, Bool, true, false, cond, ◌&&◌, List, [], ◌∷◌, Option, Some, None}
 use Rattle.std.specs.List.{list_all}
-use Rattle.ir_types.specs.declared.refusal.Refusal.TheVariants.{BadTarget}
-use Rattle.ir_tree.specs.Ids.{ids}
-use Rattle.ir_tree.specs.Meaning.{Operation}
+use Rattle.ir_event.specs.types.declared.refusal.Refusal.TheVariants.{BadTarget}
+use Rattle.ir_event.specs.trees.Ids.{ids}
+use Rattle.ir_event.specs.trees.Meaning.{Operation}
 use Rattle.ir_event.specs.Modules.{Module}
 use Rattle.conversion_base.specs.Targets.{Aim, is_accepted, is_legal}
 use Rattle.conversion_base.specs.Conversion.{converted, given_up, all_parts, checked, conversion_of, ended_full, first_illegal}

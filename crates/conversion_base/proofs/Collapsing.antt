@@ -1,9 +1,9 @@
 -- What becomes of an operation, by what is read of it.
 use Rattle.std.proofs.Common.{◌≡◌, refl, ap, sym, ◌∙◌, ℕ, Bool, true, false, List, Some, if◌then◌else◌}
 use Rattle.std.specs.Prelude.{◌&&◌, codes, eqb, not}
-use Rattle.ir_tree.specs.Tree.{head}
-use Rattle.ir_tree.specs.Ids.{find, has_id}
-use Rattle.ir_tree_laws.proofs.Around.{absent_find}
+use Rattle.ir_event.specs.trees.Tree.{head}
+use Rattle.ir_event.specs.trees.Ids.{find, has_id}
+use Rattle.ir_event.proofs.of_tree_laws.Around.{absent_find}
 use Rattle.ir_event.specs.Modules.{Module}
 use Rattle.effects.specs.Dead.{is_unused}
 use Rattle.patterns_edits.specs.Contents.{Edit, edited}

@@ -1,9 +1,9 @@
 -- As many steps as there are operations are enough, where each takes an operation away.
 use Rattle.std.proofs.Common.{◌≡◌, refl, subst, ℕ, zero, suc, ◌<◌, ◌≤◌, List, [], ◌∷◌, arith}
-use Rattle.ir_types.specs.declared.refusal.Refusal.{Refusal}
-use Rattle.ir_tree.specs.Tree.{op}
-use Rattle.ir_tree.specs.Ids.{ids, op_count}
-use Rattle.ir_tree.specs.Meaning.{Operation}
+use Rattle.ir_event.specs.types.declared.refusal.Refusal.{Refusal}
+use Rattle.ir_event.specs.trees.Tree.{op}
+use Rattle.ir_event.specs.trees.Ids.{ids, op_count}
+use Rattle.ir_event.specs.trees.Meaning.{Operation}
 use Rattle.ir_event.specs.Modules.{Module}
 use Rattle.patterns_base.specs.Rewrites.{Rewrite, none, refused, becomes}
 use Rattle.conversion_base.specs.Reconciling.{rewrite_or, collapse, collapsed, all_collapsed, first_rewrite, go_on, next_collapse}

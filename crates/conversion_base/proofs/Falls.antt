@@ -1,24 +1,24 @@
 -- A cast that is taken away takes an operation away.
 use Rattle.std.proofs.Common.{◌≡◌, refl, ap, sym, ◌∙◌, subst, ℕ, suc, ◌<◌, ◌≤◌, Bool, true, false, true≢false, cond, not, ◌&&◌, eqb, List, [], ◌∷◌, length, map, filter, Option, Some, None, inl, inr, arith}
 use Rattle.std.specs.List.{list_any}
-use Rattle.ir_types.specs.Terms.{TypeTerm}
-use Rattle.ir_tree.specs.declared.value.Value.{Value}
-use Rattle.ir_tree.specs.declared.value.Value.TheVariants.{Result}
-use Rattle.ir_tree.specs.declared.place.Place.{Place}
-use Rattle.ir_tree.specs.Tree.{OpOf, head}
-use Rattle.ir_tree.specs.Ids.{find, has_id, op_count}
-use Rattle.ir_tree.specs.Places.{without}
-use Rattle.ir_tree.specs.Edits.{put_values, with_value_replaced}
-use Rattle.ir_tree.specs.Meaning.{Operation}
-use Rattle.ir_tree_laws.specs.Stands.{StandOf, stand_id, stands, is_gone, left_stand}
-use Rattle.ir_tree_laws.specs.Members.{In}
-use Rattle.ir_tree_laws.proofs.Listed.{bool_cases, both}
-use Rattle.ir_tree_laws.proofs.Readings.{stands_ids}
-use Rattle.ir_tree_laws.proofs.Members.{found_stands}
-use Rattle.ir_tree_laws.proofs.Around.{present_stand, stand_present, left_apart}
-use Rattle.ir_tree_laws.proofs.Without.{without_stands}
-use Rattle.ir_tree_laws.proofs.Heads.{each_id}
-use Rattle.ir_tree_laws.proofs.HeadForm.{edit_ids}
+use Rattle.ir_event.specs.types.Terms.{TypeTerm}
+use Rattle.ir_event.specs.trees.declared.value.Value.{Value}
+use Rattle.ir_event.specs.trees.declared.value.Value.TheVariants.{Result}
+use Rattle.ir_event.specs.trees.declared.place.Place.{Place}
+use Rattle.ir_event.specs.trees.Tree.{OpOf, head}
+use Rattle.ir_event.specs.trees.Ids.{find, has_id, op_count}
+use Rattle.ir_event.specs.trees.Places.{without}
+use Rattle.ir_event.specs.trees.Edits.{put_values, with_value_replaced}
+use Rattle.ir_event.specs.trees.Meaning.{Operation}
+use Rattle.ir_event.specs.tree_laws.Stands.{StandOf, stand_id, stands, is_gone, left_stand}
+use Rattle.ir_event.specs.tree_laws.Members.{In}
+use Rattle.ir_event.proofs.of_tree_laws.Listed.{bool_cases, both}
+use Rattle.ir_event.proofs.of_tree_laws.Readings.{stands_ids}
+use Rattle.ir_event.proofs.of_tree_laws.Members.{found_stands}
+use Rattle.ir_event.proofs.of_tree_laws.Around.{present_stand, stand_present, left_apart}
+use Rattle.ir_event.proofs.of_tree_laws.Without.{without_stands}
+use Rattle.ir_event.proofs.of_tree_laws.Heads.{each_id}
+use Rattle.ir_event.proofs.of_tree_laws.HeadForm.{edit_ids}
 use Rattle.ir_event.specs.Modules.{Module}
 use Rattle.effects.specs.Dead.{is_unused}
 use Rattle.patterns_edits.specs.Contents.{Edit, all_edited, edited}
@@ -35,7 +35,7 @@ use Rattle.conversion_base.specs.Targets.{cast_name}
 use Rattle.conversion_base.specs.Reconciling.{rewrite_or, collapse, is_cast, is_cast_found, unused_erased}
 use Rattle.conversion_base.proofs.Makes.{applies, given_some, rewritten}
 use Rattle.conversion_base.proofs.Enough.{becomes_is}
-use Rattle.ir_tree_laws.proofs.Formed.{filter_shorter}
+use Rattle.ir_event.proofs.of_tree_laws.Formed.{filter_shorter}
 use Rattle.patterns_base.proofs.Facts.{when_some}
 
 -- ---- an operation is taken out of a tree

@@ -2,34 +2,34 @@
 use Rattle.std.proofs.Common.{◌≡◌, refl, ap, sym, ◌∙◌, subst, ℕ, ◌+◌, Bool, true, false, true≢false, cond, not, ◌&&◌, ◌||◌, eqb, eqb-true, List, [], ◌∷◌, ◌++◌, Option, Some, None, option_map, inl, inr, arith, leb-true, lt-ltb}
 use Rattle.std.specs.Prelude.{codes, nat_le, nat_lt}
 use Rattle.std.specs.List.{list_all, list_any}
-use Rattle.ir_types.specs.declared.refusal.Refusal.TheVariants.{Full, IdsExhausted}
-use Rattle.ir_types.specs.Terms.{TypeTerm, AttrTerm}
-use Rattle.ir_types.specs.Words.{is_isolated}
-use Rattle.ir_tree.specs.declared.value.Value.{Value}
-use Rattle.ir_tree.specs.declared.value.Value.TheVariants.{Result}
-use Rattle.ir_tree.specs.declared.place.Place.{Place}
-use Rattle.ir_tree.specs.Tree.{HeadOf, op, head}
-use Rattle.ir_tree.specs.Ids.{ids, find, has_id, op_count}
-use Rattle.ir_tree.specs.Frames.{owner_of}
-use Rattle.ir_tree.specs.Limits.{most_ops, most_next}
-use Rattle.ir_tree.specs.Places.{place_of, without}
-use Rattle.ir_tree.specs.Edits.{put_values, each_head}
-use Rattle.ir_tree.specs.Sites.{visible}
-use Rattle.ir_tree.specs.Meaning.{Operation}
-use Rattle.ir_tree.specs.WellFormed.{IsWellFormed}
-use Rattle.ir_tree.proofs.Heads.{head_find}
-use Rattle.ir_tree_laws.specs.Members.{In}
-use Rattle.ir_tree_laws.specs.Stands.{StandOf, stand_id, stands, sees, dropping, left_stand}
-use Rattle.ir_tree_laws.specs.Reads.{is_within}
-use Rattle.ir_tree_laws.specs.Reasons.{with_id, leaves_within, unused_outside}
-use Rattle.ir_tree_laws.proofs.Listed.{bool_cases, all_each, each_all, in_map, both, either, neither}
-use Rattle.ir_tree_laws.proofs.Readings.{stands_ids, stands_every}
-use Rattle.ir_tree_laws.proofs.Members.{stand, stand_found, found_stands, itself}
-use Rattle.ir_tree_laws.proofs.Around.{stand_present, left_apart}
-use Rattle.ir_tree_laws.proofs.Without.{member_left, left_member, same_head}
-use Rattle.ir_tree_laws.proofs.Edited.{put_order}
-use Rattle.ir_tree_laws.proofs.Formed.{from_formed, left_well_formed, Spared}
-use Rattle.ir_tree_laws.proofs.Sees.{visible_there}
+use Rattle.ir_event.specs.types.declared.refusal.Refusal.TheVariants.{Full, IdsExhausted}
+use Rattle.ir_event.specs.types.Terms.{TypeTerm, AttrTerm}
+use Rattle.ir_event.specs.types.Words.{is_isolated}
+use Rattle.ir_event.specs.trees.declared.value.Value.{Value}
+use Rattle.ir_event.specs.trees.declared.value.Value.TheVariants.{Result}
+use Rattle.ir_event.specs.trees.declared.place.Place.{Place}
+use Rattle.ir_event.specs.trees.Tree.{HeadOf, op, head}
+use Rattle.ir_event.specs.trees.Ids.{ids, find, has_id, op_count}
+use Rattle.ir_event.specs.trees.Frames.{owner_of}
+use Rattle.ir_event.specs.trees.Limits.{most_ops, most_next}
+use Rattle.ir_event.specs.trees.Places.{place_of, without}
+use Rattle.ir_event.specs.trees.Edits.{put_values, each_head}
+use Rattle.ir_event.specs.trees.Sites.{visible}
+use Rattle.ir_event.specs.trees.Meaning.{Operation}
+use Rattle.ir_event.specs.trees.WellFormed.{IsWellFormed}
+use Rattle.ir_event.proofs.of_trees.Heads.{head_find}
+use Rattle.ir_event.specs.tree_laws.Members.{In}
+use Rattle.ir_event.specs.tree_laws.Stands.{StandOf, stand_id, stands, sees, dropping, left_stand}
+use Rattle.ir_event.specs.tree_laws.Reads.{is_within}
+use Rattle.ir_event.specs.tree_laws.Reasons.{with_id, leaves_within, unused_outside}
+use Rattle.ir_event.proofs.of_tree_laws.Listed.{bool_cases, all_each, each_all, in_map, both, either, neither}
+use Rattle.ir_event.proofs.of_tree_laws.Readings.{stands_ids, stands_every}
+use Rattle.ir_event.proofs.of_tree_laws.Members.{stand, stand_found, found_stands, itself}
+use Rattle.ir_event.proofs.of_tree_laws.Around.{stand_present, left_apart}
+use Rattle.ir_event.proofs.of_tree_laws.Without.{member_left, left_member, same_head}
+use Rattle.ir_event.proofs.of_tree_laws.Edited.{put_order}
+use Rattle.ir_event.proofs.of_tree_laws.Formed.{from_formed, left_well_formed, Spared}
+use Rattle.ir_event.proofs.of_tree_laws.Sees.{visible_there}
 use Rattle.ir_event.specs.Modules.{Module}
 use Rattle.patterns_edits.specs.Contents.{Edit, all_edited, edited}
 use Rattle.patterns_edits.specs.Edits.{Make, Replace}

@@ -1,22 +1,22 @@
 -- A list of casts stays one as they are taken away.
 use Rattle.std.proofs.Common.{◌≡◌, refl, ap, sym, ◌∙◌, subst, ℕ, Bool, true, false, true≢false, cond, not, ◌&&◌, eqb, List, [], ◌∷◌, map, filter, Option, Some, None, option_map, inl, inr}
 use Rattle.std.specs.List.{IsDistinct}
-use Rattle.ir_tree.specs.declared.value.Value.{Value}
-use Rattle.ir_tree.specs.declared.value.Value.TheVariants.{Result}
-use Rattle.ir_tree.specs.Tree.{op, head}
-use Rattle.ir_tree.specs.Ids.{HasDistinctIds, find, ids}
-use Rattle.ir_tree.specs.Places.{without}
-use Rattle.ir_tree.specs.Edits.{each_head, put_values, with_value_replaced}
-use Rattle.ir_tree.specs.Meaning.{Operation}
-use Rattle.ir_tree.proofs.Heads.{head_find}
-use Rattle.ir_tree_laws.specs.Members.{In}
-use Rattle.ir_tree_laws.specs.Stands.{StandOf, stand_id, stands, is_gone, dropping, left_stand}
-use Rattle.ir_tree_laws.proofs.HeadForm.{edit_ids}
-use Rattle.ir_tree_laws.proofs.Listed.{bool_cases, both}
-use Rattle.ir_tree_laws.proofs.Members.{found_stands, same_stand, stand_found}
-use Rattle.ir_tree_laws.proofs.Readings.{stands_ids}
-use Rattle.ir_tree_laws.proofs.Without.{member_left, same_head, without_stands}
-use Rattle.ir_types.specs.Terms.{TypeTerm, AttrTerm}
+use Rattle.ir_event.specs.trees.declared.value.Value.{Value}
+use Rattle.ir_event.specs.trees.declared.value.Value.TheVariants.{Result}
+use Rattle.ir_event.specs.trees.Tree.{op, head}
+use Rattle.ir_event.specs.trees.Ids.{HasDistinctIds, find, ids}
+use Rattle.ir_event.specs.trees.Places.{without}
+use Rattle.ir_event.specs.trees.Edits.{each_head, put_values, with_value_replaced}
+use Rattle.ir_event.specs.trees.Meaning.{Operation}
+use Rattle.ir_event.proofs.of_trees.Heads.{head_find}
+use Rattle.ir_event.specs.tree_laws.Members.{In}
+use Rattle.ir_event.specs.tree_laws.Stands.{StandOf, stand_id, stands, is_gone, dropping, left_stand}
+use Rattle.ir_event.proofs.of_tree_laws.HeadForm.{edit_ids}
+use Rattle.ir_event.proofs.of_tree_laws.Listed.{bool_cases, both}
+use Rattle.ir_event.proofs.of_tree_laws.Members.{found_stands, same_stand, stand_found}
+use Rattle.ir_event.proofs.of_tree_laws.Readings.{stands_ids}
+use Rattle.ir_event.proofs.of_tree_laws.Without.{member_left, same_head, without_stands}
+use Rattle.ir_event.specs.types.Terms.{TypeTerm, AttrTerm}
 use Rattle.ir_event.specs.Modules.{Module}
 use Rattle.effects.specs.Dead.{is_unused}
 use Rattle.patterns_edits.specs.Contents.{all_edited, edited}

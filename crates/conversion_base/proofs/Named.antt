@@ -4,12 +4,12 @@ use Rattle.std.specs.List.{All, list_any}
 use Rattle.std.specs.Str.{bytes_eq}
 use Rattle.std.proofs.lemmas.List.Elements.{All-head, All-tail}
 use Rattle.std.proofs.lemmas.List.Folds.{list_all-append, list_any-append}
-use Rattle.ir_types.specs.Things.{Things, IsName}
-use Rattle.ir_types.specs.Terms.{name_term}
-use Rattle.ir_types.specs.Sound.{IsSound}
-use Rattle.ir_types.proofs.Growth.{name_is, name_refl}
-use Rattle.ir_types.proofs.Terms.{name_term_one}
-use Rattle.ir_tree_laws.proofs.Listed.{bool_cases}
+use Rattle.ir_event.specs.types.Things.{Things, IsName}
+use Rattle.ir_event.specs.types.Terms.{name_term}
+use Rattle.ir_event.specs.types.Sound.{IsSound}
+use Rattle.ir_event.proofs.of_types.Growth.{name_is, name_refl}
+use Rattle.ir_event.proofs.of_types.Terms.{name_term_one}
+use Rattle.ir_event.proofs.of_tree_laws.Listed.{bool_cases}
 use Rattle.patterns_base.specs.Words.{among}
 use Rattle.conversion_base.specs.Targets.{Aim, each_once, names_of}
 use Rattle.conversion_base.specs.Numbers.{are_apart, lists_apart, lists_once}

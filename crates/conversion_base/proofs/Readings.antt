@@ -4,29 +4,29 @@ use Rattle.std.specs.Prelude.{MatchOption, is_some, slice_get, option_and_then}
 use Rattle.std.specs.List.{list_any, list_all}
 use Rattle.std.specs.Option.{option_eq}
 use Rattle.std.specs.Str.{bytes_eq}
-use Rattle.ir_types.specs.Things.{Things}
-use Rattle.ir_types.specs.Terms.{TypeTerm, name_term, type_term, attr_term}
-use Rattle.ir_types.specs.SameTypes.{same_type}
-use Rattle.ir_tree.specs.declared.value.Value.{Value}
-use Rattle.ir_tree.specs.declared.value.Value.TheVariants.{Result}
-use Rattle.ir_tree.specs.declared.place.Place.{Place}
-use Rattle.ir_tree.specs.Tree.{Op, op, head}
-use Rattle.ir_tree.specs.Ids.{HasDistinctIds, find, has_id}
-use Rattle.ir_tree.specs.Places.{place_of}
-use Rattle.ir_tree.specs.Uses.{uses_of}
-use Rattle.ir_tree.specs.Meaning.{meaning}
-use Rattle.ir_tree.proofs.Mapped.{map_every, map_find}
-use Rattle.ir_tree_laws.specs.Members.{In}
-use Rattle.ir_tree_laws.specs.Stands.{StandOf, place_in}
-use Rattle.ir_tree_laws.specs.Values.{type_of_value}
-use Rattle.ir_tree_laws.proofs.Around.{present_stand, member_of_place}
-use Rattle.ir_tree_laws.proofs.Contents.{map_has_id, map_type_of_value}
-use Rattle.ir_tree_laws.proofs.Listed.{bool_cases}
-use Rattle.ir_tree_laws.proofs.Members.{stand, itself, stand_found, same_stand}
-use Rattle.ir_tree_laws.proofs.Shift.{inner_of, inner_place}
-use Rattle.ir_store.specs.Nodes.{Node, node_of}
+use Rattle.ir_event.specs.types.Things.{Things}
+use Rattle.ir_event.specs.types.Terms.{TypeTerm, name_term, type_term, attr_term}
+use Rattle.ir_event.specs.types.SameTypes.{same_type}
+use Rattle.ir_event.specs.trees.declared.value.Value.{Value}
+use Rattle.ir_event.specs.trees.declared.value.Value.TheVariants.{Result}
+use Rattle.ir_event.specs.trees.declared.place.Place.{Place}
+use Rattle.ir_event.specs.trees.Tree.{Op, op, head}
+use Rattle.ir_event.specs.trees.Ids.{HasDistinctIds, find, has_id}
+use Rattle.ir_event.specs.trees.Places.{place_of}
+use Rattle.ir_event.specs.trees.Uses.{uses_of}
+use Rattle.ir_event.specs.trees.Meaning.{meaning}
+use Rattle.ir_event.proofs.of_trees.Mapped.{map_every, map_find}
+use Rattle.ir_event.specs.tree_laws.Members.{In}
+use Rattle.ir_event.specs.tree_laws.Stands.{StandOf, place_in}
+use Rattle.ir_event.specs.tree_laws.Values.{type_of_value}
+use Rattle.ir_event.proofs.of_tree_laws.Around.{present_stand, member_of_place}
+use Rattle.ir_event.proofs.of_tree_laws.Contents.{map_has_id, map_type_of_value}
+use Rattle.ir_event.proofs.of_tree_laws.Listed.{bool_cases}
+use Rattle.ir_event.proofs.of_tree_laws.Members.{stand, itself, stand_found, same_stand}
+use Rattle.ir_event.proofs.of_tree_laws.Shift.{inner_of, inner_place}
+use Rattle.ir_event.specs.store.Nodes.{Node, node_of}
 use Rattle.ir_event.specs.Modules.{node_meaning}
-use Rattle.ir_store.specs.Using.{is_use}
+use Rattle.ir_event.specs.store.Using.{is_use}
 use Rattle.effects.specs.Dead.{is_result_of, is_unused}
 use Rattle.patterns_base.specs.Looks.{is_of_type}
 use Rattle.conversion_base.specs.Targets.{Aim, cast_name, is_legal, is_legal_found}

@@ -3,21 +3,21 @@ use Rattle.std.proofs.Common.{◌≡◌, refl, ap, sym, ◌∙◌, ℕ, ◌<◌,
 use Rattle.std.specs.Prelude.{codes}
 use Rattle.std.specs.Cmp.{unsigned_Decides}
 use Rattle.std.proofs.lemmas.Slice.Eq.{bytes_eq-Decides}
-use Rattle.ir_types.specs.declared.word.Word.TheVariants.{ArithIndexCast}
-use Rattle.ir_types.specs.WordNames.{word_bytes, word_number}
-use Rattle.ir_types.specs.Things.{Things, IsType}
-use Rattle.ir_types.specs.Terms.{name_term, type_term, attr_term}
-use Rattle.ir_types.specs.Sound.{IsSound}
-use Rattle.ir_types.proofs.WordNumbers.{word_count}
-use Rattle.ir_types.proofs.WordPlaces.{word_is}
-use Rattle.ir_tree.specs.declared.value.Value.{Value}
-use Rattle.ir_tree.specs.declared.place.Place.{Place}
-use Rattle.ir_tree.specs.Tree.{HeadOf, Op, op, head}
-use Rattle.ir_tree.specs.Ids.{find}
-use Rattle.ir_tree.specs.Places.{place_of}
-use Rattle.ir_tree.specs.Meaning.{Operation, meaning}
-use Rattle.ir_tree.proofs.Mapped.{map_find, map_place}
-use Rattle.ir_store.specs.Nodes.{Node, node_of}
+use Rattle.ir_event.specs.types.declared.word.Word.TheVariants.{ArithIndexCast}
+use Rattle.ir_event.specs.types.WordNames.{word_bytes, word_number}
+use Rattle.ir_event.specs.types.Things.{Things, IsType}
+use Rattle.ir_event.specs.types.Terms.{name_term, type_term, attr_term}
+use Rattle.ir_event.specs.types.Sound.{IsSound}
+use Rattle.ir_event.proofs.of_types.WordNumbers.{word_count}
+use Rattle.ir_event.proofs.of_types.WordPlaces.{word_is}
+use Rattle.ir_event.specs.trees.declared.value.Value.{Value}
+use Rattle.ir_event.specs.trees.declared.place.Place.{Place}
+use Rattle.ir_event.specs.trees.Tree.{HeadOf, Op, op, head}
+use Rattle.ir_event.specs.trees.Ids.{find}
+use Rattle.ir_event.specs.trees.Places.{place_of}
+use Rattle.ir_event.specs.trees.Meaning.{Operation, meaning}
+use Rattle.ir_event.proofs.of_trees.Mapped.{map_find, map_place}
+use Rattle.ir_event.specs.store.Nodes.{Node, node_of}
 use Rattle.ir_event.specs.Modules.{Module}
 use Rattle.patterns_edits.specs.Lists.{AllFit, edits_meaning}
 use Rattle.patterns_edits.specs.Contents.{Edit}

@@ -11,8 +11,8 @@ use Rattle.std.specs.BTreeSet as set
 use Rattle.std.proofs.lemmas.Bool.{ne_eqb}
 use Rattle.std.proofs.lemmas.List.Folds.{list_any-append}
 use Rattle.conversion_base.specs.Repeats.{AreKnown, stands_twice}
-use Rattle.ir_types.proofs.Sorting.{flips_eq}
-use Rattle.ir_types.proofs.Truths.{same_test}
+use Rattle.ir_event.proofs.of_types.Sorting.{flips_eq}
+use Rattle.ir_event.proofs.of_types.Truths.{same_test}
 
 -- one more name at the end
 any_last : (p : ℕ → Bool) (ns : List ℕ) (n : ℕ) → list_any p (ns ++ n ∷ []) ≡ cond (p n) true (list_any p ns)

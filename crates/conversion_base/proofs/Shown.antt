@@ -1,20 +1,20 @@
 -- What is shown of an operation, in numbers and in contents.
 use Rattle.std.proofs.Common.{◌≡◌, refl, ap, sym, ◌∙◌, subst, ℕ, ◌<◌, ◌≤◌, Bool, true, false, true≢false, ◌&&◌, length, Option, Some, None, option_map, arith, leb-true}
 use Rattle.std.specs.Prelude.{nat_le, slice_get, is_some, option_and_then}
-use Rattle.ir_types.specs.Things.{Things}
-use Rattle.ir_types.specs.Terms.{name_term, type_term, attr_term}
-use Rattle.ir_tree.specs.declared.value.Value.TheVariants.{Result}
-use Rattle.ir_tree.specs.Tree.{Op, op, RegionsOf, no_regions, region, head, region_count}
-use Rattle.ir_tree.specs.Ids.{find}
-use Rattle.ir_tree.specs.Limits.{most_items, most_regions, items_fit, head_fits, all_arguments_pass, op_fits}
-use Rattle.ir_tree.specs.Meaning.{meaning}
-use Rattle.ir_tree.specs.WellFormed.{IsFormed}
-use Rattle.ir_tree.proofs.Mapped.{map_find}
-use Rattle.ir_tree_laws.specs.Values.{has_value}
-use Rattle.ir_tree_laws.proofs.Formed.{from_formed}
-use Rattle.ir_tree_laws.proofs.Listed.{both}
-use Rattle.ir_tree_laws.proofs.Members.{found_stands}
-use Rattle.ir_store.specs.Nodes.{Node, node_of, regions_arguments}
+use Rattle.ir_event.specs.types.Things.{Things}
+use Rattle.ir_event.specs.types.Terms.{name_term, type_term, attr_term}
+use Rattle.ir_event.specs.trees.declared.value.Value.TheVariants.{Result}
+use Rattle.ir_event.specs.trees.Tree.{Op, op, RegionsOf, no_regions, region, head, region_count}
+use Rattle.ir_event.specs.trees.Ids.{find}
+use Rattle.ir_event.specs.trees.Limits.{most_items, most_regions, items_fit, head_fits, all_arguments_pass, op_fits}
+use Rattle.ir_event.specs.trees.Meaning.{meaning}
+use Rattle.ir_event.specs.trees.WellFormed.{IsFormed}
+use Rattle.ir_event.proofs.of_trees.Mapped.{map_find}
+use Rattle.ir_event.specs.tree_laws.Values.{has_value}
+use Rattle.ir_event.proofs.of_tree_laws.Formed.{from_formed}
+use Rattle.ir_event.proofs.of_tree_laws.Listed.{both}
+use Rattle.ir_event.proofs.of_tree_laws.Members.{found_stands}
+use Rattle.ir_event.specs.store.Nodes.{Node, node_of, regions_arguments}
 use Rattle.ir_event.specs.Modules.{node_meaning}
 use Rattle.ir_event.proofs.Nodes.{node_shown}
 use Rattle.std.proofs.lemmas.Option.{slice_get_within}

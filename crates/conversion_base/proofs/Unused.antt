@@ -1,21 +1,21 @@
 -- Whether the results of an operation are used, by the uses of each.
 use Rattle.std.proofs.Common.{◌≡◌, refl, ap, sym, ◌∙◌, subst, ℕ, Bool, true, false, true≢false, not, eqb, eqb-true, eq-eqb, [], inl, inr}
 use Rattle.std.specs.List.{list_all}
-use Rattle.ir_tree.specs.declared.value.Value.{Value}
-use Rattle.ir_tree.specs.declared.value.Value.TheVariants.{Result, Arg}
-use Rattle.ir_tree.specs.Tree.{OpOf, head}
-use Rattle.ir_tree.specs.Ids.{HasDistinctIds}
-use Rattle.ir_tree.specs.Uses.{uses_of, operand_uses}
-use Rattle.ir_tree.specs.Sites.{operands_visible}
-use Rattle.ir_tree.proofs.Replaced.{same_value_refl}
-use Rattle.ir_tree_laws.specs.Stands.{StandOf, stand_id, stands, sees}
-use Rattle.ir_tree_laws.specs.Members.{In}
-use Rattle.ir_tree_laws.specs.Values.{has_value}
-use Rattle.ir_tree_laws.proofs.Listed.{bool_cases, all_each, each_all}
-use Rattle.ir_tree_laws.proofs.Readings.{stands_every, stands_uses}
-use Rattle.ir_tree_laws.proofs.HeadForm.{used_here, in_gather}
-use Rattle.ir_tree_laws.proofs.Sees.{stands_operands}
-use Rattle.ir_tree_laws.proofs.Values.{seen_by}
+use Rattle.ir_event.specs.trees.declared.value.Value.{Value}
+use Rattle.ir_event.specs.trees.declared.value.Value.TheVariants.{Result, Arg}
+use Rattle.ir_event.specs.trees.Tree.{OpOf, head}
+use Rattle.ir_event.specs.trees.Ids.{HasDistinctIds}
+use Rattle.ir_event.specs.trees.Uses.{uses_of, operand_uses}
+use Rattle.ir_event.specs.trees.Sites.{operands_visible}
+use Rattle.ir_event.proofs.of_trees.Replaced.{same_value_refl}
+use Rattle.ir_event.specs.tree_laws.Stands.{StandOf, stand_id, stands, sees}
+use Rattle.ir_event.specs.tree_laws.Members.{In}
+use Rattle.ir_event.specs.tree_laws.Values.{has_value}
+use Rattle.ir_event.proofs.of_tree_laws.Listed.{bool_cases, all_each, each_all}
+use Rattle.ir_event.proofs.of_tree_laws.Readings.{stands_every, stands_uses}
+use Rattle.ir_event.proofs.of_tree_laws.HeadForm.{used_here, in_gather}
+use Rattle.ir_event.proofs.of_tree_laws.Sees.{stands_operands}
+use Rattle.ir_event.proofs.of_tree_laws.Values.{seen_by}
 use Rattle.patterns_edits.proofs.Given.{user}
 use Rattle.effects.specs.Dead.{is_result_of, is_unused}
 

@@ -2,8 +2,8 @@
 -- Modules stand for marks: what fails gives nothing of its module.
 use Rattle.std.specs.Prelude.{ℕ, zero, suc, ◌+◌, ◌-◌, List, [], ◌∷◌, Bool, true, false, ◌||◌, if◌then◌else◌}
 use Rattle.std.specs.List.{range_with_len}
-use Rattle.ir_types.specs.declared.refusal.Refusal.{Refusal}
-use Rattle.ir_tree.specs.Ids.{has_id}
+use Rattle.ir_event.specs.types.declared.refusal.Refusal.{Refusal}
+use Rattle.ir_event.specs.trees.Ids.{has_id}
 use Rattle.ir_event.specs.Modules.{Module}
 use Rattle.patterns_base.specs.declared.rule.Rule.{Rule}
 use Rattle.patterns_base.specs.Rewrites.{Rewrite, none, refused, becomes, rewrite_of}

@@ -1,7 +1,7 @@
 -- Casts that are listed once, before they are taken away one after another.
 use Rattle.std.specs.Prelude.{◌≡◌, ℕ, List, filter}
-use Rattle.ir_tree.specs.Ids.{ids}
-use Rattle.ir_tree.specs.Meaning.{Operation}
+use Rattle.ir_event.specs.trees.Ids.{ids}
+use Rattle.ir_event.specs.trees.Meaning.{Operation}
 use Rattle.conversion_base.specs.Reconciling.{is_cast}
 
 -- those of some operations that are casts in a tree

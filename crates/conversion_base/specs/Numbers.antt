@@ -1,12 +1,12 @@
 -- What code reads and makes in numbers of a context.
 use Rattle.std.specs.Prelude.{ℕ, Bool, not, ◌&&◌, List, [], ◌∷◌, Option, Some, None}
 use Rattle.std.specs.List.{list_all}
-use Rattle.ir_types.specs.declared.word.Word.TheVariants.{ArithIndexCast}
-use Rattle.ir_types.specs.WordNames.{word_number}
-use Rattle.ir_tree.specs.declared.value.Value.{Value}
-use Rattle.ir_tree.specs.declared.value.Value.TheVariants.{Result}
-use Rattle.ir_tree.specs.declared.place.Place.{Place}
-use Rattle.ir_tree.specs.Tree.{Op, op, no_regions}
+use Rattle.ir_event.specs.types.declared.word.Word.TheVariants.{ArithIndexCast}
+use Rattle.ir_event.specs.types.WordNames.{word_number}
+use Rattle.ir_event.specs.trees.declared.value.Value.{Value}
+use Rattle.ir_event.specs.trees.declared.value.Value.TheVariants.{Result}
+use Rattle.ir_event.specs.trees.declared.place.Place.{Place}
+use Rattle.ir_event.specs.trees.Tree.{Op, op, no_regions}
 use Rattle.patterns_edits.specs.declared.edit.Edit.{Edit}
 use Rattle.patterns_edits.specs.declared.edit.Edit.TheVariants.{Make, Replace, Erase}
 use Rattle.patterns_base.specs.Words.{among}

@@ -2,11 +2,11 @@
 use Rattle.std.specs.Prelude.{◌≡◌, ℕ, List, [], ◌∷◌, ◌++◌, codes, map, Bool, true, false, not, ◌||◌, ◌&&◌, nat_le}
 use Rattle.std.specs.Prelude.{Option, Some, None, option_map}
 use Rattle.std.specs.List.{All, list_any, list_all}
-use Rattle.ir_types.specs.Things.{Things, IsName}
-use Rattle.ir_types.specs.Terms.{TypeTerm, name_term}
-use Rattle.ir_tree.specs.Ids.{find}
-use Rattle.ir_tree.specs.Meaning.{Operation}
-use Rattle.ir_store.specs.Nodes.{node_of}
+use Rattle.ir_event.specs.types.Things.{Things, IsName}
+use Rattle.ir_event.specs.types.Terms.{TypeTerm, name_term}
+use Rattle.ir_event.specs.trees.Ids.{find}
+use Rattle.ir_event.specs.trees.Meaning.{Operation}
+use Rattle.ir_event.specs.store.Nodes.{node_of}
 use Rattle.ir_event.specs.Modules.{Node}
 use Rattle.patterns_base.specs.Looks.{is_index, is_index_value}
 use Rattle.patterns_base.specs.RuleNames.{is_converting}

@@ -1,9 +1,9 @@
 //! Which targets are accepted.
 ghost use Rattle.std.specs.Prelude.{◌≡◌, map, not};
 ghost use Rattle.std.specs.List.{All, list_all, list_any};
-ghost use Rattle.ir_types.specs.Things.{IsName};
-ghost use Rattle.ir_types.specs.Terms.{name_term};
-ghost use Rattle.ir_types.specs.WordNames.{word_bytes};
+ghost use Rattle.ir_event.specs.types.Things.{IsName};
+ghost use Rattle.ir_event.specs.types.Terms.{name_term};
+ghost use Rattle.ir_event.specs.types.WordNames.{word_bytes};
 ghost use Rattle.patterns_base.specs.RuleNames.{is_converting};
 ghost use Rattle.patterns_base.specs.Words.{among, named};
 ghost use Rattle.conversion_base.specs.Targets.{IsNamedIn, aim_of, cast_name, each_once, is_accepted, names_of};
@@ -11,9 +11,9 @@ ghost use Rattle.conversion_base.specs.Numbers.{are_apart, lists_apart, lists_on
 
 use crate::names::Names;
 use crate::target::Target;
-use ir_types::context::Context;
-use ir_types::ids::NameId;
-use ir_types::word::Word;
+use ir_event::types::context::Context;
+use ir_event::types::ids::NameId;
+use ir_event::types::word::Word;
 use patterns_base::rule::Rule;
 
 /// Whether a name is among names.

@@ -1,12 +1,12 @@
 //! Casts between types that a conversion left: what is read of them, and the edits that reconcile them.
 ghost use Rattle.std.specs.Prelude.{◌≡◌, ◌<◌, ◌&&◌, ℕ, true, not, eqb, IfOk, IfSome, option_map};
-ghost use Rattle.ir_types.specs.Things.{Things, IsType};
-ghost use Rattle.ir_types.specs.Terms.{type_term};
-ghost use Rattle.ir_types.specs.SameTypes.{same_type};
-ghost use Rattle.ir_tree.specs.Tree.{head};
-ghost use Rattle.ir_tree.specs.Ids.{has_id};
-ghost use Rattle.ir_tree.specs.declared.value.Value.TheVariants.{Result as result_of};
-ghost use Rattle.ir_tree_laws.specs.Values.{has_value};
+ghost use Rattle.ir_event.specs.types.Things.{Things, IsType};
+ghost use Rattle.ir_event.specs.types.Terms.{type_term};
+ghost use Rattle.ir_event.specs.types.SameTypes.{same_type};
+ghost use Rattle.ir_event.specs.trees.Tree.{head};
+ghost use Rattle.ir_event.specs.trees.Ids.{has_id};
+ghost use Rattle.ir_event.specs.trees.declared.value.Value.TheVariants.{Result as result_of};
+ghost use Rattle.ir_event.specs.tree_laws.Values.{has_value};
 ghost use Rattle.ir_event.specs.Modules.{NodeIsOf, module_in};
 ghost use Rattle.effects.specs.Dead.{is_unused};
 ghost use Rattle.patterns_edits.specs.Lists.{AllFit, edits_meaning};
@@ -16,14 +16,14 @@ ghost use Rattle.conversion_base.specs.Reconciling.{index_edits, is_cast, takes_
 ghost use Rattle.conversion_base.specs.Numbers.{cast_edits, ends_from, new_cast};
 
 use crate::legal::{is_index, is_index_value};
+use ir_event::store::node::Node;
+use ir_event::trees::place::Place;
+use ir_event::trees::tree::TreeOp;
+use ir_event::trees::value::Value;
+use ir_event::types::context::Context;
+use ir_event::types::ids::{OpId, TypeId};
+use ir_event::types::word::Word;
 use ir_event::world::World;
-use ir_store::node::Node;
-use ir_tree::place::Place;
-use ir_tree::tree::TreeOp;
-use ir_tree::value::Value;
-use ir_types::context::Context;
-use ir_types::ids::{OpId, TypeId};
-use ir_types::word::Word;
 use ir_verify_base::types::width_of;
 use patterns_edits::edit::Edit;
 use std::alloc::{AllocError, Global};

@@ -1,9 +1,9 @@
 //! Laws of conversion. Each is a function that does nothing: its contract is the law.
 ghost use Rattle.std.specs.Prelude.{◌≡◌, ◌<◌, ℕ, true};
 ghost use Rattle.std.specs.List.{list_all};
-ghost use Rattle.ir_types.specs.Words.{is_isolated};
-ghost use Rattle.ir_tree.specs.Ids.{ids, op_count};
-ghost use Rattle.ir_tree.specs.WellFormed.{IsWellFormed};
+ghost use Rattle.ir_event.specs.types.Words.{is_isolated};
+ghost use Rattle.ir_event.specs.trees.Ids.{ids, op_count};
+ghost use Rattle.ir_event.specs.trees.WellFormed.{IsWellFormed};
 ghost use Rattle.ir_event.specs.Modules.{Module};
 ghost use Rattle.patterns_base.specs.Rewrites.{becomes, none};
 ghost use Rattle.conversion_base.specs.Conversion.{casts_left, conversion_of, converted, has_no_cast};

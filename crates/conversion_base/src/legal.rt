@@ -1,8 +1,8 @@
 //! Which operations are legal for a target.
 ghost use Rattle.std.specs.Prelude.{◌≡◌, ◌≤◌, length, map, option_and_then, slice_get};
 ghost use Rattle.std.specs.List.{All, list_any};
-ghost use Rattle.ir_types.specs.Things.{IsName, IsType};
-ghost use Rattle.ir_types.specs.Terms.{name_term, type_term};
+ghost use Rattle.ir_event.specs.types.Things.{IsName, IsType};
+ghost use Rattle.ir_event.specs.types.Terms.{name_term, type_term};
 ghost use Rattle.ir_event.specs.Modules.{NodeIsOf, module_in, node_meaning};
 ghost use Rattle.patterns_base.specs.Looks.{is_index, is_index_value};
 ghost use Rattle.patterns_base.specs.Words.{among};
@@ -11,12 +11,12 @@ ghost use Rattle.conversion_base.specs.Targets.{names_of};
 
 use crate::accepted::is_among;
 use crate::target::Target;
+use ir_event::store::node::Node;
+use ir_event::trees::value::Value;
+use ir_event::types::context::Context;
+use ir_event::types::ids::{NameId, OpId, TypeId};
+use ir_event::types::word::Word;
 use ir_event::world::World;
-use ir_store::node::Node;
-use ir_tree::value::Value;
-use ir_types::context::Context;
-use ir_types::ids::{NameId, OpId, TypeId};
-use ir_types::word::Word;
 use ir_verify_base::types;
 
 /// Whether a type is `index`.

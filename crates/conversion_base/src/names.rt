@@ -3,7 +3,7 @@ ghost use Rattle.std.specs.Prelude.{◌≡◌, ◌++◌, [], ◌∷◌, eqb, OnO
 ghost use Rattle.std.specs.List.{list_any};
 ghost use Rattle.conversion_base.specs.Repeats.{stands_twice};
 
-use ir_types::ids::NameId;
+use ir_event::types::ids::NameId;
 use std::alloc::{AllocError, Global};
 use std::collections::BTreeSet;
 use std::marker::Model;

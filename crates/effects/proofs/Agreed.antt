@@ -2,14 +2,14 @@
 use Rattle.std.proofs.Common.{◌≡◌, ℕ, Option, Some, None, refl, sym, ap, ◌∙◌, subst, eqb}
 use Rattle.std.specs.Prelude.{option_map}
 use Rattle.std.specs.List.{IsDistinct}
-use Rattle.ir_types.specs.Things.{Things}
-use Rattle.ir_types.specs.Terms.{name_term, type_term, attr_term}
-use Rattle.ir_tree.specs.Tree.{Op, op, head}
-use Rattle.ir_tree.specs.Ids.{find, first_of, HasDistinctIds}
-use Rattle.ir_tree.specs.Edits.{at, put_operand, change_part, change_entry}
-use Rattle.ir_tree.specs.Meaning.{Operation, meaning, key_before}
-use Rattle.ir_tree.proofs.Heads.{alike_operand, alike_entry}
-use Rattle.ir_tree.proofs.Mapped.{map_find, map_ids}
+use Rattle.ir_event.specs.types.Things.{Things}
+use Rattle.ir_event.specs.types.Terms.{name_term, type_term, attr_term}
+use Rattle.ir_event.specs.trees.Tree.{Op, op, head}
+use Rattle.ir_event.specs.trees.Ids.{find, first_of, HasDistinctIds}
+use Rattle.ir_event.specs.trees.Edits.{at, put_operand, change_part, change_entry}
+use Rattle.ir_event.specs.trees.Meaning.{Operation, meaning, key_before}
+use Rattle.ir_event.proofs.of_trees.Heads.{alike_operand, alike_entry}
+use Rattle.ir_event.proofs.of_trees.Mapped.{map_find, map_ids}
 use Rattle.ir_event.specs.declared.event.Event.{Event}
 use Rattle.ir_event.specs.declared.event.Event.TheVariants.{Put, Take, SetOperand, SetEntry, Shift}
 use Rattle.ir_event.specs.Modules.{Module, Node, module_in, shown_in}
@@ -18,7 +18,7 @@ use Rattle.ir_event.specs.store.Nodes.{node_of}
 use Rattle.ir_event.specs.store.Nodes.{Node as Numbered}
 use Rattle.std.specs.FinMap.{get}
 use Rattle.ir_event.specs.Step.{Step}
-use Rattle.ir_types.specs.Words.{is_table}
+use Rattle.ir_event.specs.types.Words.{is_table}
 use Rattle.effects.specs.Spots.{spots, Rows}
 use Rattle.op_registry.specs.Registry.{own_of}
 use Rattle.effects.specs.Effects.{own_by}

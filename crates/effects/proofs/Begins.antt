@@ -3,15 +3,15 @@ use Rattle.std.proofs.Common.{◌≡◌, ℕ, List, [], ◌∷◌, ◌++◌, fal
 use Rattle.std.proofs.lemmas.Bool.{eq-eqb}
 use Rattle.std.proofs.lemmas.Map.Keys.{IsDistinct-tail}
 use Rattle.std.specs.List.{IsDistinct, list_any}
-use Rattle.ir_tree.specs.Tree.{HeadOf, OpOf, op, RegionsOf, no_regions, region, RegionOf, empty, block, OpsOf, no_ops, next}
-use Rattle.ir_tree.specs.Ids.{ids, regions_ids, region_ids, ops_ids, HasDistinctIds}
-use Rattle.ir_tree.proofs.Moves.{Absent, absent_parts}
-use Rattle.ir_tree.proofs.Returns.{Present, halves, differ, absent_first}
+use Rattle.ir_event.specs.trees.Tree.{HeadOf, OpOf, op, RegionsOf, no_regions, region, RegionOf, empty, block, OpsOf, no_ops, next}
+use Rattle.ir_event.specs.trees.Ids.{ids, regions_ids, region_ids, ops_ids, HasDistinctIds}
+use Rattle.ir_event.proofs.of_trees.Moves.{Absent, absent_parts}
+use Rattle.ir_event.proofs.of_trees.Returns.{Present, halves, differ, absent_first}
 use Rattle.op_registry.specs.declared.own.Own.{Own}
 use Rattle.effects.specs.Effects.{none}
 use Rattle.effects.specs.Spots.{Spot, spots, regions_spots, region_spots, ops_spots, is_in, Lacks, Childless, Apart, Rows}
 use Rattle.effects.specs.Following.{Whole, PutAll}
-use Rattle.ir_tree_laws.proofs.Listed.{or_right}
+use Rattle.ir_event.proofs.of_tree_laws.Listed.{or_right}
 use Rattle.effects.proofs.Spotted.{present_left, present_right, flipped, lacks_absent, spots_ids, region_spots_ids, childless_op, childless_region}
 use Rattle.effects.proofs.Events.{Alike, holds_alike, alike_join, alike_moved}
 

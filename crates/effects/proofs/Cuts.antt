@@ -1,17 +1,17 @@
 -- The operations of a tree in a list, with one operation, and what is inside it, cut out.
 use Rattle.std.proofs.Common.{◌≡◌, ℕ, ◌+◌, List, [], ◌∷◌, ◌++◌, Option, Some, None, refl, sym, ap, ◌∙◌, subst, map}
 use Rattle.std.proofs.lemmas.List.{map-append}
-use Rattle.ir_tree.specs.declared.place.Place.{Place}
-use Rattle.ir_tree.specs.Tree.{HeadOf, OpOf, op, RegionsOf, no_regions, region, RegionOf, empty, block, OpsOf, no_ops, next, head}
-use Rattle.ir_tree.specs.Ids.{find, HasDistinctIds}
-use Rattle.ir_tree.specs.Places.{first_id, place_of, without}
-use Rattle.ir_tree_laws.specs.Members.{In}
-use Rattle.ir_tree_laws.specs.Stands.{StepOf, StandOf, stand_id, stands, regions_stands, region_stands, ops_stands, place_in, left_step, left_stand, dropping}
-use Rattle.ir_tree_laws.proofs.Readings.{step}
-use Rattle.ir_tree_laws.proofs.Members.{stand, stand_found}
-use Rattle.ir_tree_laws.proofs.Around.{member_of_place}
-use Rattle.ir_tree_laws.proofs.Without.{same_head}
-use Rattle.ir_tree_laws.proofs.Stretches.{part}
+use Rattle.ir_event.specs.trees.declared.place.Place.{Place}
+use Rattle.ir_event.specs.trees.Tree.{HeadOf, OpOf, op, RegionsOf, no_regions, region, RegionOf, empty, block, OpsOf, no_ops, next, head}
+use Rattle.ir_event.specs.trees.Ids.{find, HasDistinctIds}
+use Rattle.ir_event.specs.trees.Places.{first_id, place_of, without}
+use Rattle.ir_event.specs.tree_laws.Members.{In}
+use Rattle.ir_event.specs.tree_laws.Stands.{StepOf, StandOf, stand_id, stands, regions_stands, region_stands, ops_stands, place_in, left_step, left_stand, dropping}
+use Rattle.ir_event.proofs.of_tree_laws.Readings.{step}
+use Rattle.ir_event.proofs.of_tree_laws.Members.{stand, stand_found}
+use Rattle.ir_event.proofs.of_tree_laws.Around.{member_of_place}
+use Rattle.ir_event.proofs.of_tree_laws.Without.{same_head}
+use Rattle.ir_event.proofs.of_tree_laws.Stretches.{part}
 use Rattle.op_registry.specs.declared.own.Own.{Own}
 use Rattle.effects.specs.Spots.{Spot, spots, regions_spots, region_spots, ops_spots}
 

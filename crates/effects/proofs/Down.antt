@@ -1,19 +1,19 @@
 -- A walk down a tree: the first of a block has all of it from it on, and the next of an operation the rest.
 use Rattle.std.proofs.Common.{◌≡◌, refl, ap, sym, ◌∙◌, subst, ℕ, zero, suc, ◌+◌, ◌<◌, ◌≤◌, List, [], ◌∷◌, ◌++◌, length, length-append, Option, Some, None, option_map, arith}
 use Rattle.std.specs.Prelude.{option_and_then}
-use Rattle.ir_tree.specs.declared.place.Place.{Place}
-use Rattle.ir_tree.specs.Tree.{OpOf, op, OpsOf, no_ops, next, RegionsOf, no_regions, region, RegionOf, empty, block, head, regions}
-use Rattle.ir_tree.specs.Ids.{HasDistinctIds, ids, regions_ids, region_ids, ops_ids, op_count, find}
-use Rattle.ir_tree.specs.Places.{first_id, place_of}
-use Rattle.ir_tree_laws.specs.Members.{In}
-use Rattle.ir_tree_laws.specs.Stands.{StepOf, StandOf, stand_id, stand_of, stands, ops_stands, place_in}
-use Rattle.ir_tree_laws.specs.Reads.{first_at, next_of, ops_at, ops_in}
-use Rattle.ir_tree_laws.specs.Values.{region_at}
-use Rattle.ir_tree_laws.proofs.Readings.{step, stands_find}
-use Rattle.ir_tree_laws.proofs.Members.{stand, within, ops_child, joined_ops, found_stands, stand_of_member, member, same_stand}
-use Rattle.ir_tree_laws.proofs.Around.{around_there, place_of_member, member_of_place}
-use Rattle.ir_tree_laws.proofs.Put.{child}
-use Rattle.ir_tree_laws.proofs.Values.{shape}
+use Rattle.ir_event.specs.trees.declared.place.Place.{Place}
+use Rattle.ir_event.specs.trees.Tree.{OpOf, op, OpsOf, no_ops, next, RegionsOf, no_regions, region, RegionOf, empty, block, head, regions}
+use Rattle.ir_event.specs.trees.Ids.{HasDistinctIds, ids, regions_ids, region_ids, ops_ids, op_count, find}
+use Rattle.ir_event.specs.trees.Places.{first_id, place_of}
+use Rattle.ir_event.specs.tree_laws.Members.{In}
+use Rattle.ir_event.specs.tree_laws.Stands.{StepOf, StandOf, stand_id, stand_of, stands, ops_stands, place_in}
+use Rattle.ir_event.specs.tree_laws.Reads.{first_at, next_of, ops_at, ops_in}
+use Rattle.ir_event.specs.tree_laws.Values.{region_at}
+use Rattle.ir_event.proofs.of_tree_laws.Readings.{step, stands_find}
+use Rattle.ir_event.proofs.of_tree_laws.Members.{stand, within, ops_child, joined_ops, found_stands, stand_of_member, member, same_stand}
+use Rattle.ir_event.proofs.of_tree_laws.Around.{around_there, place_of_member, member_of_place}
+use Rattle.ir_event.proofs.of_tree_laws.Put.{child}
+use Rattle.ir_event.proofs.of_tree_laws.Values.{shape}
 use Rattle.effects.specs.Within.{behind, some_ops, onward, ops_from, list_at, list_size, op_size}
 use Rattle.ir_event.proofs.Facts.{joined_more}
 

@@ -2,19 +2,19 @@
 use Rattle.std.proofs.Common.{◌≡◌, ℕ, ◌+◌, List, [], ◌∷◌, ◌++◌, Bool, Option, Some, None, inl, inr, refl, sym, ap, ◌∙◌, subst, arith, eqb, ◌&&◌, ◌||◌}
 use Rattle.std.proofs.lemmas.Bool.{ne_eqb}
 use Rattle.std.specs.List.{IsDistinct}
-use Rattle.ir_tree.specs.declared.place.Place.{Place}
-use Rattle.ir_tree.specs.Tree.{HeadOf, OpOf, op, RegionsOf, no_regions, region, RegionOf, empty, block, OpsOf, no_ops, next, head, regions}
-use Rattle.ir_tree.specs.Ids.{ids, find, HasDistinctIds}
-use Rattle.ir_tree.specs.Edits.{each_head, regions_each_head, region_each_head, ops_each_head}
-use Rattle.ir_tree.specs.WellFormed.{ModuleOf}
-use Rattle.ir_tree.proofs.Moves.{Absent}
-use Rattle.ir_tree_laws.specs.Changes.{HoldNone, Takes, Shifts}
+use Rattle.ir_event.specs.trees.declared.place.Place.{Place}
+use Rattle.ir_event.specs.trees.Tree.{HeadOf, OpOf, op, RegionsOf, no_regions, region, RegionOf, empty, block, OpsOf, no_ops, next, head, regions}
+use Rattle.ir_event.specs.trees.Ids.{ids, find, HasDistinctIds}
+use Rattle.ir_event.specs.trees.Edits.{each_head, regions_each_head, region_each_head, ops_each_head}
+use Rattle.ir_event.specs.trees.WellFormed.{ModuleOf}
+use Rattle.ir_event.proofs.of_trees.Moves.{Absent}
+use Rattle.ir_event.specs.tree_laws.Changes.{HoldNone, Takes, Shifts}
 use Rattle.effects.specs.declared.kinds.EffectKinds.{EffectKinds}
 use Rattle.op_registry.specs.declared.own.Own.{Own}
-use Rattle.ir_tree_laws.specs.Members.{In}
+use Rattle.ir_event.specs.tree_laws.Members.{In}
 use Rattle.effects.specs.Spots.{Spot, spots, regions_spots, region_spots, ops_spots, one_if, is_in, weight, Lacks, Childless, Apart, Rows, has_at, Holds}
 use Rattle.effects.specs.Following.{Whole, PutIn, TakenOut, ShiftedTo}
-use Rattle.ir_tree_laws.proofs.Listed.{in_left, in_right, in_parts}
+use Rattle.ir_event.proofs.of_tree_laws.Listed.{in_left, in_right, in_parts}
 use Rattle.effects.proofs.Spotted.{weight_joined, lacks_joined, lacks_parts, spot_ids, apart_distinct, spots_ids, childless_op}
 use Rattle.effects.proofs.Cuts.{cut}
 use Rattle.std.proofs.lemmas.Option.{same_Some}

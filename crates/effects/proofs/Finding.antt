@@ -2,16 +2,16 @@
 use Rattle.std.proofs.Common.{◌≡◌, ℕ, List, [], ◌∷◌, ◌++◌, Option, Some, None, refl, sym, ap, ◌∙◌, subst, map, inl, inr}
 use Rattle.std.specs.Prelude.{option_map}
 use Rattle.std.specs.FinMap as finmap
-use Rattle.ir_tree.specs.declared.place.Place.{Place}
-use Rattle.ir_tree.specs.Tree.{Head, Op, OpOf, op, head}
-use Rattle.ir_tree.specs.Ids.{ids, find, first_of, HasDistinctIds}
-use Rattle.ir_tree.specs.Places.{place_of}
-use Rattle.ir_tree_laws.specs.Members.{In}
-use Rattle.ir_tree_laws.specs.Reads.{parent_of}
-use Rattle.ir_tree_laws.specs.Stands.{StepOf, StandOf, stand_id, stands, place_in}
-use Rattle.ir_tree_laws.proofs.Around.{member_of_place, place_of_member}
-use Rattle.ir_tree_laws.proofs.Listed.{in_mapped}
-use Rattle.ir_tree_laws.proofs.Members.{same_stand, stand, stand_found}
+use Rattle.ir_event.specs.trees.declared.place.Place.{Place}
+use Rattle.ir_event.specs.trees.Tree.{Head, Op, OpOf, op, head}
+use Rattle.ir_event.specs.trees.Ids.{ids, find, first_of, HasDistinctIds}
+use Rattle.ir_event.specs.trees.Places.{place_of}
+use Rattle.ir_event.specs.tree_laws.Members.{In}
+use Rattle.ir_event.specs.tree_laws.Reads.{parent_of}
+use Rattle.ir_event.specs.tree_laws.Stands.{StepOf, StandOf, stand_id, stands, place_in}
+use Rattle.ir_event.proofs.of_tree_laws.Around.{member_of_place, place_of_member}
+use Rattle.ir_event.proofs.of_tree_laws.Listed.{in_mapped}
+use Rattle.ir_event.proofs.of_tree_laws.Members.{same_stand, stand, stand_found}
 use Rattle.ir_event.specs.store.Nodes.{Node, node_of}
 use Rattle.ir_event.specs.store.Stored.{Stored}
 use Rattle.op_registry.specs.declared.own.Own.{Own}

@@ -3,21 +3,21 @@ use Rattle.std.proofs.Common.{◌≡◌, ℕ, ◌+◌, List, [], ◌∷◌, ◌+
 use Rattle.std.specs.Prelude.{option_map, option_and_then, not}
 use Rattle.std.specs.Bool.{OnTrue}
 use Rattle.std.specs.List.{IsDistinct}
-use Rattle.ir_types.specs.Things.{Things}
-use Rattle.ir_types.specs.Terms.{TypeTerm, AttrTerm, name_term, type_term, attr_term}
-use Rattle.ir_types.specs.Words.{is_table}
-use Rattle.ir_tree.specs.declared.value.Value.{Value}
-use Rattle.ir_tree.specs.declared.place.Place.{Place}
-use Rattle.ir_tree.specs.Tree.{HeadOf, OpOf, Op, op, RegionsOf, no_regions, region, empty, block, no_ops, next, head, regions}
-use Rattle.ir_tree.specs.Ids.{find, HasDistinctIds}
-use Rattle.ir_tree.specs.Edits.{at, put_operand, change_part, change_entry}
-use Rattle.ir_tree.specs.Meaning.{Operation, meaning, key_before}
-use Rattle.ir_tree.proofs.Heads.{alike_operand, alike_entry, entry_operands}
-use Rattle.ir_tree_laws.specs.Members.{In}
-use Rattle.ir_tree_laws.specs.Stands.{stands}
-use Rattle.ir_tree_laws.specs.Changes.{operand_at, HoldNone, Takes, SetsOperand, Shifts}
-use Rattle.ir_tree_laws.proofs.Listed.{in_map}
-use Rattle.ir_tree_laws.proofs.Members.{found_stands}
+use Rattle.ir_event.specs.types.Things.{Things}
+use Rattle.ir_event.specs.types.Terms.{TypeTerm, AttrTerm, name_term, type_term, attr_term}
+use Rattle.ir_event.specs.types.Words.{is_table}
+use Rattle.ir_event.specs.trees.declared.value.Value.{Value}
+use Rattle.ir_event.specs.trees.declared.place.Place.{Place}
+use Rattle.ir_event.specs.trees.Tree.{HeadOf, OpOf, Op, op, RegionsOf, no_regions, region, empty, block, no_ops, next, head, regions}
+use Rattle.ir_event.specs.trees.Ids.{find, HasDistinctIds}
+use Rattle.ir_event.specs.trees.Edits.{at, put_operand, change_part, change_entry}
+use Rattle.ir_event.specs.trees.Meaning.{Operation, meaning, key_before}
+use Rattle.ir_event.proofs.of_trees.Heads.{alike_operand, alike_entry, entry_operands}
+use Rattle.ir_event.specs.tree_laws.Members.{In}
+use Rattle.ir_event.specs.tree_laws.Stands.{stands}
+use Rattle.ir_event.specs.tree_laws.Changes.{operand_at, HoldNone, Takes, SetsOperand, Shifts}
+use Rattle.ir_event.proofs.of_tree_laws.Listed.{in_map}
+use Rattle.ir_event.proofs.of_tree_laws.Members.{found_stands}
 use Rattle.ir_event.specs.declared.event.Event.{Event}
 use Rattle.ir_event.specs.declared.event.Event.TheVariants.{Put, Take, SetOperand, SetEntry, Shift}
 use Rattle.ir_event.specs.Modules.{Module, Node}

@@ -4,31 +4,31 @@ use Rattle.std.specs.Prelude.{nat_lt, not}
 use Rattle.std.specs.List.{list_all}
 use Rattle.std.proofs.lemmas.Bool.{cases_eq, eqb-true}
 use Rattle.std.proofs.lemmas.List.{map-append}
-use Rattle.ir_tree.specs.declared.value.Value.{Value}
-use Rattle.ir_tree.specs.declared.value.Value.TheVariants.{Result, Arg}
-use Rattle.ir_tree.specs.declared.place.Place.{Place}
-use Rattle.ir_tree.specs.Tree.{HeadOf, OpOf, op, RegionsOf, no_regions, region, RegionOf, empty, block, OpsOf, no_ops, next, head}
-use Rattle.ir_tree.specs.Ids.{find, HasDistinctIds}
-use Rattle.ir_tree.specs.Uses.{same_value, operand_uses, uses_of}
-use Rattle.ir_tree.specs.Frames.{owner_of}
-use Rattle.ir_tree.specs.Maps.{map_head, map_tree, map_regions, map_region, map_ops}
-use Rattle.ir_tree.specs.Edits.{each_head, regions_each_head, region_each_head, ops_each_head}
-use Rattle.ir_tree.specs.Places.{place_of, without}
-use Rattle.ir_tree_laws.specs.Members.{In}
-use Rattle.ir_tree_laws.specs.Stands.{StepOf, StandOf, stand_id, stands, regions_stands, region_stands, ops_stands, gather, place_in, left_stand, dropping}
-use Rattle.ir_tree_laws.proofs.Listed.{gather-append}
-use Rattle.ir_tree_laws.proofs.Readings.{step, stands_uses, stands_every}
-use Rattle.ir_tree_laws.proofs.Members.{stand, stand_found}
-use Rattle.ir_tree_laws.proofs.Around.{member_of_place}
-use Rattle.ir_tree_laws.proofs.Without.{same_head}
-use Rattle.ir_tree_laws.proofs.Stretches.{part}
+use Rattle.ir_event.specs.trees.declared.value.Value.{Value}
+use Rattle.ir_event.specs.trees.declared.value.Value.TheVariants.{Result, Arg}
+use Rattle.ir_event.specs.trees.declared.place.Place.{Place}
+use Rattle.ir_event.specs.trees.Tree.{HeadOf, OpOf, op, RegionsOf, no_regions, region, RegionOf, empty, block, OpsOf, no_ops, next, head}
+use Rattle.ir_event.specs.trees.Ids.{find, HasDistinctIds}
+use Rattle.ir_event.specs.trees.Uses.{same_value, operand_uses, uses_of}
+use Rattle.ir_event.specs.trees.Frames.{owner_of}
+use Rattle.ir_event.specs.trees.Maps.{map_head, map_tree, map_regions, map_region, map_ops}
+use Rattle.ir_event.specs.trees.Edits.{each_head, regions_each_head, region_each_head, ops_each_head}
+use Rattle.ir_event.specs.trees.Places.{place_of, without}
+use Rattle.ir_event.specs.tree_laws.Members.{In}
+use Rattle.ir_event.specs.tree_laws.Stands.{StepOf, StandOf, stand_id, stands, regions_stands, region_stands, ops_stands, gather, place_in, left_stand, dropping}
+use Rattle.ir_event.proofs.of_tree_laws.Listed.{gather-append}
+use Rattle.ir_event.proofs.of_tree_laws.Readings.{step, stands_uses, stands_every}
+use Rattle.ir_event.proofs.of_tree_laws.Members.{stand, stand_found}
+use Rattle.ir_event.proofs.of_tree_laws.Around.{member_of_place}
+use Rattle.ir_event.proofs.of_tree_laws.Without.{same_head}
+use Rattle.ir_event.proofs.of_tree_laws.Stretches.{part}
 use Rattle.effects.specs.Spots.{one_if}
 use Rattle.effects.specs.Dead.{is_result_of, is_unused}
 use Rattle.ir_event.specs.Heads.{heads, regions_heads, region_heads, ops_heads, all_operands}
 use Rattle.effects.specs.Counts.{results_among}
 use Rattle.effects.specs.Reports.{of_each}
 use Rattle.effects.proofs.Shown.{says}
-use Rattle.ir_tree.proofs.Replaced.{same_value_refl}
+use Rattle.ir_event.proofs.of_trees.Replaced.{same_value_refl}
 
 -- the operation that is found stands at a place; the heads are its own and those inside it between a front and a
 -- back, and what is left is these two

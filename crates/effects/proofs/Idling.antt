@@ -1,11 +1,11 @@
 -- Effects that nobody would miss, as a walk comes to them.
 use Rattle.std.proofs.Common.{◌≡◌, refl, ap, sym, ◌∙◌, ℕ, zero, suc, ◌+◌, ◌*◌, ◌<◌, ◌≤◌, if◌then◌else◌, Bool, true, false, ◌&&◌, ◌||◌, not, Option, Some, None, option_map, arith}
 use Rattle.std.specs.Prelude.{option_and_then}
-use Rattle.ir_tree.specs.Tree.{OpOf, op, OpsOf, next, RegionsOf, no_regions, region, RegionOf, empty, block, head, regions, region_count}
-use Rattle.ir_tree.specs.Ids.{HasDistinctIds, find}
-use Rattle.ir_tree.specs.Places.{first_id}
-use Rattle.ir_tree_laws.specs.Reads.{ops_in, next_of, first_at}
-use Rattle.ir_tree_laws.specs.Values.{region_at}
+use Rattle.ir_event.specs.trees.Tree.{OpOf, op, OpsOf, next, RegionsOf, no_regions, region, RegionOf, empty, block, head, regions, region_count}
+use Rattle.ir_event.specs.trees.Ids.{HasDistinctIds, find}
+use Rattle.ir_event.specs.trees.Places.{first_id}
+use Rattle.ir_event.specs.tree_laws.Reads.{ops_in, next_of, first_at}
+use Rattle.ir_event.specs.tree_laws.Values.{region_at}
 use Rattle.op_registry.specs.declared.own.Own.{Own}
 use Rattle.effects.specs.declared.kinds.EffectKinds.{EffectKinds}
 use Rattle.effects.specs.Dead.{may_go}

@@ -11,11 +11,11 @@ use Rattle.std.specs.BTreeMap as tree
 use Rattle.std.proofs.lemmas.Bool.{eqb-true, not-true}
 use Rattle.std.proofs.lemmas.Bool.Decides.{nat_tests}
 use Rattle.std.proofs.lemmas.List.Elements.{All-cons, All-nil}
-use Rattle.ir_types.specs.Things.{Things}
-use Rattle.ir_tree.specs.Tree.{op, head}
-use Rattle.ir_tree.specs.Ids.{HasDistinctIds, find}
-use Rattle.ir_tree.specs.Meaning.{Operation}
-use Rattle.ir_tree_laws.proofs.Members.{found_stands}
+use Rattle.ir_event.specs.types.Things.{Things}
+use Rattle.ir_event.specs.trees.Tree.{op, head}
+use Rattle.ir_event.specs.trees.Ids.{HasDistinctIds, find}
+use Rattle.ir_event.specs.trees.Meaning.{Operation}
+use Rattle.ir_event.proofs.of_tree_laws.Members.{found_stands}
 use Rattle.ir_event.specs.declared.row.Cell.TheVariants as cell
 use Rattle.ir_event.specs.declared.row.Row.{Row as Line}
 use Rattle.ir_event.specs.Rows.{Op, cell_meaning, rows_meaning, CellIsOf, RowIsOf, Shows}
@@ -37,7 +37,7 @@ use Rattle.effects.specs.Listed.{judged}
 use Rattle.ir_event.proofs.ById.{look, Above, Rising, rising_same}
 use Rattle.effects.proofs.Shown.{each_look, each_rising, shown_found}
 use Rattle.effects.proofs.Headed.{unused_is}
-use Rattle.ir_types.proofs.Truths.{less_than, same_test}
+use Rattle.ir_event.proofs.of_types.Truths.{less_than, same_test}
 
 -- ---- the entries of a map
 

@@ -4,17 +4,17 @@ use Rattle.std.specs.Prelude.{nat_lt}
 use Rattle.std.proofs.lemmas.Bool.{eq-eqb, cases_eq, or_parts}
 use Rattle.std.proofs.lemmas.Map.Keys.{IsDistinct-tail}
 use Rattle.std.specs.List.{IsDistinct, AllByRecursion, list_any}
-use Rattle.ir_tree.specs.Tree.{HeadOf, OpOf, op, RegionsOf, no_regions, region, RegionOf, empty, block, OpsOf, no_ops, next}
-use Rattle.ir_tree.specs.Ids.{ids, regions_ids, region_ids, ops_ids}
-use Rattle.ir_tree.proofs.Moves.{Absent, absent_parts}
-use Rattle.ir_tree.proofs.Returns.{Present, halves, differ, absent_first}
+use Rattle.ir_event.specs.trees.Tree.{HeadOf, OpOf, op, RegionsOf, no_regions, region, RegionOf, empty, block, OpsOf, no_ops, next}
+use Rattle.ir_event.specs.trees.Ids.{ids, regions_ids, region_ids, ops_ids}
+use Rattle.ir_event.proofs.of_trees.Moves.{Absent, absent_parts}
+use Rattle.ir_event.proofs.of_trees.Returns.{Present, halves, differ, absent_first}
 use Rattle.effects.specs.declared.kinds.EffectKinds.{EffectKinds}
 use Rattle.op_registry.specs.declared.own.Own.{Own}
 use Rattle.effects.specs.Effects.{Effect, unknown, allocate, free, read, write, has, union, effects_by, effects, regions_effects, region_effects, ops_effects, own_kinds, is_recursive}
 use Rattle.effects.specs.Spots.{Spot, spots, regions_spots, region_spots, ops_spots, one_if, is_in, weight, Childless, given}
 use Rattle.effects.proofs.Tables.{has_none, weight_childless}
 use Rattle.effects.proofs.Spotted.{present_left, present_right, flipped, weight_joined, childless_op, childless_regions, childless_region, childless_ops}
-use Rattle.ir_tree_laws.proofs.Listed.{or_right}
+use Rattle.ir_event.proofs.of_tree_laws.Listed.{or_right}
 
 -- each operation of a tree with its effects, in pre-order
 abbrev mutual

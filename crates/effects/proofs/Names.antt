@@ -4,7 +4,7 @@ use Rattle.std.specs.Prelude.{not}
 use Rattle.std.specs.List.{list_any, list_all, filter}
 use Rattle.std.specs.Str.{bytes_eq}
 use Rattle.std.proofs.lemmas.Slice.Eq.{bytes_eq-Decides}
-use Rattle.ir_tree_laws.proofs.Listed.{both}
+use Rattle.ir_event.proofs.of_tree_laws.Listed.{both}
 use Rattle.op_registry.specs.declared.definition.Trait.{Trait}
 use Rattle.op_registry.specs.declared.definition.Trait.TheVariants.{Terminator, Symbol}
 use Rattle.op_registry.specs.Rows.{Row, rows}

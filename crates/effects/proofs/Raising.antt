@@ -1,12 +1,12 @@
 -- Uses counted one after another.
 use Rattle.std.proofs.Common.{◌≡◌, ℕ, ◌+◌, ◌-◌, List, [], ◌∷◌, ◌++◌, Option, Some, None, refl, sym, ap, ◌∙◌, subst, arith, Bool, true, false, eqb, cond}
 use Rattle.std.proofs.lemmas.Bool.{eqb-true}
-use Rattle.ir_tree.specs.declared.value.Value.TheVariants.{Result}
+use Rattle.ir_event.specs.trees.declared.value.Value.TheVariants.{Result}
 use Rattle.effects.specs.Spots.{one_if}
 use Rattle.effects.specs.Dead.{is_result_of}
 use Rattle.std.specs.Prelude.{option_map}
-use Rattle.ir_tree.specs.declared.value.Value.{Value}
-use Rattle.ir_tree.specs.Tree.{HeadOf}
+use Rattle.ir_event.specs.trees.declared.value.Value.{Value}
+use Rattle.ir_event.specs.trees.Tree.{HeadOf}
 use Rattle.effects.specs.Counts.{Counts, results_among, with_count, Raised, Lowered, AllEntered, Entered, EnteredWith, LeftWith, Exchanged}
 use Rattle.effects.proofs.Headed.{among_joined}
 

@@ -3,14 +3,14 @@ use Rattle.std.proofs.Common.{◌≡◌, refl, ap, sym, ◌∙◌, ℕ, ◌≤�
 use Rattle.std.specs.FinMap as finmap
 use Rattle.std.proofs.lemmas.Bool.{leb-true}
 use Rattle.std.specs.Prelude.{nat_le, ◌&&◌}
-use Rattle.ir_tree.specs.Tree.{Op, op, RegionsOf, no_regions, region, region_count, regions}
-use Rattle.ir_tree.specs.Ids.{HasDistinctIds, find, first_of, has_id}
-use Rattle.ir_tree.specs.Limits.{op_fits, head_fits, most_regions, all_arguments_pass, items_fit}
-use Rattle.ir_tree.specs.Meaning.{isolated_in}
-use Rattle.ir_tree_laws.proofs.Listed.{both}
-use Rattle.ir_tree_laws.proofs.Members.{found_stands, stand_found}
-use Rattle.ir_tree_laws.proofs.Around.{present_stand}
-use Rattle.ir_tree_laws.proofs.Formed.{from_formed}
+use Rattle.ir_event.specs.trees.Tree.{Op, op, RegionsOf, no_regions, region, region_count, regions}
+use Rattle.ir_event.specs.trees.Ids.{HasDistinctIds, find, first_of, has_id}
+use Rattle.ir_event.specs.trees.Limits.{op_fits, head_fits, most_regions, all_arguments_pass, items_fit}
+use Rattle.ir_event.specs.trees.Meaning.{isolated_in}
+use Rattle.ir_event.proofs.of_tree_laws.Listed.{both}
+use Rattle.ir_event.proofs.of_tree_laws.Members.{found_stands, stand_found}
+use Rattle.ir_event.proofs.of_tree_laws.Around.{present_stand}
+use Rattle.ir_event.proofs.of_tree_laws.Formed.{from_formed}
 use Rattle.ir_event.specs.store.Nodes.{Node, node_of, regions_arguments}
 use Rattle.ir_event.specs.store.Stored.{Stored, known}
 use Rattle.ir_event.specs.declared.world.World.{World}

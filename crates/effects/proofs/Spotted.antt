@@ -4,12 +4,12 @@ use Rattle.std.proofs.lemmas.Bool.{eq-eqb, cases_Bool, or_parts}
 use Rattle.std.proofs.lemmas.List.{map-append}
 use Rattle.std.proofs.lemmas.Map.Keys.{IsDistinct-head, IsDistinct-tail}
 use Rattle.std.specs.List.{IsDistinct, AllByRecursion, list_any}
-use Rattle.ir_tree.specs.Tree.{OpOf, op, RegionsOf, no_regions, region, RegionOf, empty, block, OpsOf, no_ops, next}
-use Rattle.ir_tree.specs.Ids.{ids, regions_ids, region_ids, ops_ids}
-use Rattle.ir_tree.specs.Maps.{map_tree, map_regions, map_region, map_ops}
-use Rattle.ir_tree.proofs.Moves.{Absent, absent_parts}
-use Rattle.ir_tree.proofs.Returns.{Present, Halves}
-use Rattle.ir_tree_laws.proofs.Listed.{or_right}
+use Rattle.ir_event.specs.trees.Tree.{OpOf, op, RegionsOf, no_regions, region, RegionOf, empty, block, OpsOf, no_ops, next}
+use Rattle.ir_event.specs.trees.Ids.{ids, regions_ids, region_ids, ops_ids}
+use Rattle.ir_event.specs.trees.Maps.{map_tree, map_regions, map_region, map_ops}
+use Rattle.ir_event.proofs.of_trees.Moves.{Absent, absent_parts}
+use Rattle.ir_event.proofs.of_trees.Returns.{Present, Halves}
+use Rattle.ir_event.proofs.of_tree_laws.Listed.{or_right}
 use Rattle.std.proofs.lemmas.List.Folds.{list_any-append}
 use Rattle.op_registry.specs.declared.own.Own.{Own}
 use Rattle.effects.specs.Spots.{Spot, spots, regions_spots, region_spots, ops_spots, is_in, weight, Lacks, Childless, Apart}

@@ -4,7 +4,7 @@ use Rattle.std.proofs.lemmas.Bool.{eq-eqb, ne_eqb, cases_eq}
 use Rattle.effects.specs.declared.kinds.EffectKinds.{EffectKinds}
 use Rattle.effects.specs.declared.row.Row.{Row}
 use Rattle.effects.specs.Effects.{Effect, unknown, allocate, free, read, write, has, none, is_recursive}
-use Rattle.ir_tree_laws.specs.Members.{In}
+use Rattle.ir_event.specs.tree_laws.Members.{In}
 use Rattle.effects.specs.Spots.{Spot, one_if, is_in, weight, Lacks, Childless, Apart, given, count_of, Rows, row_has, row_count, has_at, count_at, with_row, Keeps, Holds}
 use Rattle.effects.proofs.Events.{lacks_then}
 

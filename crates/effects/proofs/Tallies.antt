@@ -4,12 +4,12 @@ use Rattle.std.specs.Prelude.{option_map, slice_get, slice_set}
 use Rattle.std.specs.List.{IsDistinct, AllByRecursion}
 use Rattle.std.proofs.lemmas.Bool.{cases_eq, ne_eqb}
 use Rattle.std.proofs.lemmas.Map.Keys.{IsDistinct-head, IsDistinct-tail}
-use Rattle.ir_tree.specs.declared.value.Value.{Value}
-use Rattle.ir_tree.specs.Tree.{HeadOf}
-use Rattle.ir_tree.specs.Ids.{first_of}
-use Rattle.ir_tree.specs.Edits.{at, put_operand}
-use Rattle.ir_tree.specs.Maps.{map_head}
-use Rattle.ir_tree_laws.specs.Members.{In}
+use Rattle.ir_event.specs.trees.declared.value.Value.{Value}
+use Rattle.ir_event.specs.trees.Tree.{HeadOf}
+use Rattle.ir_event.specs.trees.Ids.{first_of}
+use Rattle.ir_event.specs.trees.Edits.{at, put_operand}
+use Rattle.ir_event.specs.trees.Maps.{map_head}
+use Rattle.ir_event.specs.tree_laws.Members.{In}
 use Rattle.effects.specs.Spots.{one_if}
 use Rattle.effects.specs.Dead.{is_result_of}
 use Rattle.ir_event.specs.Heads.{all_operands}

@@ -3,27 +3,27 @@ use Rattle.std.proofs.Common.{◌≡◌, refl, ap, sym, ◌∙◌, subst, ℕ, �
 use Rattle.std.specs.Prelude.{slice_get, is_some, option_and_then, nat_lt, nat_le}
 use Rattle.std.specs.List.{list_all}
 use Rattle.std.proofs.lemmas.Bool.{leb-true}
-use Rattle.ir_types.specs.Things.{Things}
-use Rattle.ir_types.specs.Terms.{name_term, type_term, attr_term}
-use Rattle.ir_tree.specs.declared.value.Value.{Value}
-use Rattle.ir_tree.specs.declared.value.Value.TheVariants.{Result, Arg}
-use Rattle.ir_tree.specs.Tree.{HeadOf, OpOf, Op, op, RegionsOf, no_regions, region, RegionOf, empty, block, OpsOf, no_ops, next, head}
-use Rattle.ir_tree.specs.Ids.{HasDistinctIds, find}
-use Rattle.ir_tree.specs.Uses.{uses_of, operand_uses, same_value}
-use Rattle.ir_tree.specs.Limits.{op_fits, head_fits, items_fit, most_items, most_regions, all_arguments_pass}
-use Rattle.ir_tree.specs.Tree.{region_count}
-use Rattle.ir_tree.specs.Maps.{map_head, map_tree, map_regions, map_region, map_ops}
-use Rattle.ir_tree.specs.Meaning.{meaning, isolated_in}
-use Rattle.ir_tree.proofs.Mapped.{map_find}
-use Rattle.ir_tree.proofs.Replaced.{same_value_refl, same_value_true}
-use Rattle.ir_tree_laws.specs.Stands.{StandOf, stand_id, stands, sees, gather}
-use Rattle.ir_tree_laws.specs.Members.{In}
-use Rattle.ir_tree_laws.proofs.Listed.{bool_cases, all_each, each_all, both}
-use Rattle.ir_tree_laws.proofs.Readings.{stands_every, stands_uses}
-use Rattle.ir_tree_laws.proofs.Members.{found_stands}
-use Rattle.ir_tree_laws.proofs.HeadForm.{used_here, in_gather}
-use Rattle.ir_tree_laws.proofs.Formed.{from_formed}
-use Rattle.ir_tree_laws.proofs.Values.{seen_by}
+use Rattle.ir_event.specs.types.Things.{Things}
+use Rattle.ir_event.specs.types.Terms.{name_term, type_term, attr_term}
+use Rattle.ir_event.specs.trees.declared.value.Value.{Value}
+use Rattle.ir_event.specs.trees.declared.value.Value.TheVariants.{Result, Arg}
+use Rattle.ir_event.specs.trees.Tree.{HeadOf, OpOf, Op, op, RegionsOf, no_regions, region, RegionOf, empty, block, OpsOf, no_ops, next, head}
+use Rattle.ir_event.specs.trees.Ids.{HasDistinctIds, find}
+use Rattle.ir_event.specs.trees.Uses.{uses_of, operand_uses, same_value}
+use Rattle.ir_event.specs.trees.Limits.{op_fits, head_fits, items_fit, most_items, most_regions, all_arguments_pass}
+use Rattle.ir_event.specs.trees.Tree.{region_count}
+use Rattle.ir_event.specs.trees.Maps.{map_head, map_tree, map_regions, map_region, map_ops}
+use Rattle.ir_event.specs.trees.Meaning.{meaning, isolated_in}
+use Rattle.ir_event.proofs.of_trees.Mapped.{map_find}
+use Rattle.ir_event.proofs.of_trees.Replaced.{same_value_refl, same_value_true}
+use Rattle.ir_event.specs.tree_laws.Stands.{StandOf, stand_id, stands, sees, gather}
+use Rattle.ir_event.specs.tree_laws.Members.{In}
+use Rattle.ir_event.proofs.of_tree_laws.Listed.{bool_cases, all_each, each_all, both}
+use Rattle.ir_event.proofs.of_tree_laws.Readings.{stands_every, stands_uses}
+use Rattle.ir_event.proofs.of_tree_laws.Members.{found_stands}
+use Rattle.ir_event.proofs.of_tree_laws.HeadForm.{used_here, in_gather}
+use Rattle.ir_event.proofs.of_tree_laws.Formed.{from_formed}
+use Rattle.ir_event.proofs.of_tree_laws.Values.{seen_by}
 use Rattle.ir_event.specs.store.Nodes.{Node, node_of}
 use Rattle.ir_event.specs.declared.world.World.{World}
 use Rattle.ir_event.specs.Heads.{heads, all_operands}
@@ -34,7 +34,7 @@ use Rattle.effects.specs.Dead.{is_result_of, is_unused, is_kept, may_go, dead_in
 use Rattle.effects.specs.Effects.{effects, regions_effects, region_effects, ops_effects, effects_by, union, own_by}
 use Rattle.effects.specs.Idle.{idle_in, idle_at}
 use Rattle.effects.proofs.Headed.{unused_is, mapped_heads}
-use Rattle.ir_tree_laws.proofs.Changed.{gather_none}
+use Rattle.ir_event.proofs.of_tree_laws.Changed.{gather_none}
 use Rattle.std.proofs.lemmas.Option.{slice_get_within}
 
 -- a result that is used

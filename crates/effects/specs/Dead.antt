@@ -3,12 +3,12 @@
 use Rattle.std.specs.Prelude.{ℕ, List, codes, eqb, Bool, false, ◌||◌, ◌&&◌, not, Option, Some, None}
 use Rattle.std.specs.List.{list_all}
 use Rattle.std.specs.Str.{bytes_eq}
-use Rattle.ir_tree.specs.declared.value.Value.{Value}
-use Rattle.ir_tree.specs.declared.value.Value.TheVariants.{Result, Arg}
-use Rattle.ir_tree.specs.Tree.{OpOf, head}
-use Rattle.ir_tree.specs.Ids.{find}
-use Rattle.ir_tree.specs.Limits.{every}
-use Rattle.ir_tree.specs.Meaning.{Operation}
+use Rattle.ir_event.specs.trees.declared.value.Value.{Value}
+use Rattle.ir_event.specs.trees.declared.value.Value.TheVariants.{Result, Arg}
+use Rattle.ir_event.specs.trees.Tree.{OpOf, head}
+use Rattle.ir_event.specs.trees.Ids.{find}
+use Rattle.ir_event.specs.trees.Limits.{every}
+use Rattle.ir_event.specs.trees.Meaning.{Operation}
 use Rattle.op_registry.specs.declared.definition.Trait.TheVariants.{Terminator}
 use Rattle.op_registry.specs.Registry.{own_of, has_trait}
 use Rattle.effects.specs.declared.kinds.EffectKinds.{EffectKinds}

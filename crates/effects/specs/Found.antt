@@ -1,7 +1,7 @@
 -- The operations of a store by their ids.
 use Rattle.std.specs.Prelude.{ℕ, List, [], ◌∷◌, Option, Some, None, option_map}
-use Rattle.ir_tree.specs.Tree.{Head}
-use Rattle.ir_tree_laws.specs.Reads.{parent_of}
+use Rattle.ir_event.specs.trees.Tree.{Head}
+use Rattle.ir_event.specs.tree_laws.Reads.{parent_of}
 use Rattle.ir_event.specs.store.Nodes.{Node, node_of}
 use Rattle.ir_event.specs.store.Stored.{Stored, known}
 use Rattle.op_registry.specs.declared.own.Own.{Own}

@@ -1,9 +1,9 @@
 -- Operations whose effects nobody would miss, in a tree.
 use Rattle.std.specs.Prelude.{◌≡◌, ℕ, ◌<◌, [], Bool, true, false, Option, Some, None}
-use Rattle.ir_tree.specs.Tree.{OpOf, OpsOf, RegionsOf}
-use Rattle.ir_tree.specs.Ids.{find}
-use Rattle.ir_tree.specs.Uses.{uses_of}
-use Rattle.ir_tree.specs.declared.value.Value.TheVariants.{Result}
+use Rattle.ir_event.specs.trees.Tree.{OpOf, OpsOf, RegionsOf}
+use Rattle.ir_event.specs.trees.Ids.{find}
+use Rattle.ir_event.specs.trees.Uses.{uses_of}
+use Rattle.ir_event.specs.trees.declared.value.Value.TheVariants.{Result}
 use Rattle.op_registry.specs.declared.own.Own.{Own}
 use Rattle.effects.specs.Dead.{may_go}
 use Rattle.effects.specs.Effects.{effects, regions_effects, ops_effects}

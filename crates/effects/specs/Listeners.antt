@@ -1,9 +1,9 @@
 -- What the listeners mean.
 use Rattle.std.specs.Prelude.{◌≡◌, ℕ, ◌+◌, false, None, unwrap_or}
-use Rattle.ir_tree.specs.declared.place.Place.{Place}
-use Rattle.ir_tree.specs.Ids.{HasDistinctIds}
-use Rattle.ir_tree.specs.Meaning.{Operation}
-use Rattle.ir_tree_laws.specs.Reads.{around}
+use Rattle.ir_event.specs.trees.declared.place.Place.{Place}
+use Rattle.ir_event.specs.trees.Ids.{HasDistinctIds}
+use Rattle.ir_event.specs.trees.Meaning.{Operation}
+use Rattle.ir_event.specs.tree_laws.Reads.{around}
 use Rattle.ir_event.specs.declared.event.Event.{Event}
 use Rattle.ir_event.specs.declared.event.Event.TheVariants.{Put, Take, SetOperand, SetEntry, Shift}
 use Rattle.ir_event.specs.Modules.{Module}

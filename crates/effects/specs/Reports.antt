@@ -1,8 +1,8 @@
 -- The reports: what is true of each operation of a tree, in order of the ids.
 use Rattle.std.specs.Prelude.{ℕ, List, [], ◌∷◌, ◌++◌, map, Bool, if◌then◌else◌}
-use Rattle.ir_tree.specs.Tree.{OpOf}
-use Rattle.ir_tree.specs.Meaning.{Operation}
-use Rattle.ir_tree_laws.specs.Stands.{stand_id, stands}
+use Rattle.ir_event.specs.trees.Tree.{OpOf}
+use Rattle.ir_event.specs.trees.Meaning.{Operation}
+use Rattle.ir_event.specs.tree_laws.Stands.{stand_id, stands}
 use Rattle.ir_event.specs.Rows.{RowTerm, Op, Tag, by_id}
 use Rattle.ir_event.specs.Tags.{tag_number}
 use Rattle.ir_event.specs.declared.tag.Tag.TheVariants as word

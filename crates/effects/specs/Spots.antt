@@ -1,8 +1,9 @@
 -- Operations in a list, each with the one around it, and a table that keeps their effects.
 use Rattle.std.specs.Prelude.{◌≡◌, ℕ, ◌+◌, List, [], ◌∷◌, ◌++◌, eqb, nat_lt, Bool, false, ◌&&◌, if◌then◌else◌, Option}
 use Rattle.std.specs.Prelude.{Some, None}
-use Rattle.ir_tree_laws.specs.Members.{In}
-use Rattle.ir_tree.specs.Tree.{OpOf, op, RegionsOf, no_regions, region, RegionOf, empty, block, OpsOf, no_ops, next}
+use Rattle.ir_event.specs.tree_laws.Members.{In}
+use Rattle.ir_event.specs.trees.Tree.{OpOf, op, RegionsOf, no_regions, region}
+use Rattle.ir_event.specs.trees.Tree.{RegionOf, empty, block, OpsOf, no_ops, next}
 use Rattle.effects.specs.declared.kinds.EffectKinds.{EffectKinds}
 use Rattle.op_registry.specs.declared.own.Own.{Own}
 use Rattle.effects.specs.declared.row.Counts.{Counts}

@@ -1,9 +1,9 @@
 -- The operations of a tree as a walk down it comes to them: each with those behind it in its list.
 use Rattle.std.specs.Prelude.{ℕ, zero, suc, List, [], ◌∷◌, length, Option, Some, None, option_map}
-use Rattle.ir_tree.specs.Tree.{OpOf, OpsOf, no_ops, next, RegionsOf, no_regions, region, regions}
-use Rattle.ir_tree.specs.Ids.{op_count, ops_ids}
-use Rattle.ir_tree_laws.specs.Stands.{StepOf, StandOf, stand_of}
-use Rattle.ir_tree_laws.specs.Reads.{ops_at}
+use Rattle.ir_event.specs.trees.Tree.{OpOf, OpsOf, no_ops, next, RegionsOf, no_regions, region, regions}
+use Rattle.ir_event.specs.trees.Ids.{op_count, ops_ids}
+use Rattle.ir_event.specs.tree_laws.Stands.{StepOf, StandOf, stand_of}
+use Rattle.ir_event.specs.tree_laws.Reads.{ops_at}
 
 -- the operations behind one in its list, by where it stands
 abbrev pub behind : {N T A : Type 0} → List (StepOf N T A) → OpsOf N T A

@@ -10,8 +10,8 @@ ghost use Rattle.effects.specs.Found.{head_at, parent_at, spots_by, with_spot};
 use crate::effect_rows::EffectRows;
 use crate::own::own;
 use crate::table::put;
+use ir_event::types::ids::OpId;
 use ir_event::world::World;
-use ir_types::ids::OpId;
 
 /// Puts in the operations of a world's module. It is false where memory was refused.
 pub(crate) fn put_module(world: &World, rows: &mut EffectRows) -> bool

@@ -12,8 +12,8 @@ use crate::counts::{exchange, put, take};
 use crate::tally::stays;
 use crate::use_counts::UseCounts;
 use ir_event::event::Event;
+use ir_event::types::ids::OpId;
 use ir_event::view::View;
-use ir_types::ids::OpId;
 
 /// Puts in an operation that is shown. It is false where it isn't, or memory was refused.
 fn put_shown(counts: &mut UseCounts, view: &mut View<'_>, op: OpId) -> bool

@@ -11,8 +11,8 @@ ghost use Rattle.effects.specs.Spots.{one_if};
 
 use crate::use_counts::UseCounts;
 use bit_set::BitSet;
-use ir_tree::value::Value;
-use ir_types::ids::OpId;
+use ir_event::trees::value::Value;
+use ir_event::types::ids::OpId;
 use std::alloc::Global;
 use std::collections::BTreeMap;
 

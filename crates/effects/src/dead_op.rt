@@ -1,7 +1,7 @@
 //! Whether one operation of a module is dead, without a listener and without memory.
 ghost use Rattle.std.specs.Prelude.{◌≡◌, ◌≤◌, IfSome, option_map};
-ghost use Rattle.ir_tree.specs.Tree.{region_count, head};
-ghost use Rattle.ir_tree.specs.Ids.{find};
+ghost use Rattle.ir_event.specs.trees.Tree.{region_count, head};
+ghost use Rattle.ir_event.specs.trees.Ids.{find};
 ghost use Rattle.ir_event.specs.store.Nodes.{node_of};
 ghost use Rattle.ir_event.specs.Modules.{module_in};
 ghost use Rattle.effects.specs.Dead.{dead_at, may_go};
@@ -12,9 +12,9 @@ ghost use Rattle.effects.specs.Within.{list_at, regions_of};
 use crate::kinds::{EffectKinds, recursive};
 use crate::own::own;
 use crate::tally::is_kept;
+use ir_event::trees::value::Value;
+use ir_event::types::ids::OpId;
 use ir_event::world::World;
-use ir_tree::value::Value;
-use ir_types::ids::OpId;
 use op_registry::own::Own;
 
 /// Whether nobody would miss what an operation has by itself.

@@ -5,7 +5,7 @@ ghost use Rattle.effects.specs.Marks.{acts, AreMarked, AreMarked-prop, HasRoom, 
 
 use crate::row::Row;
 use bit_set::BitSet;
-use ir_types::ids::OpId;
+use ir_event::types::ids::OpId;
 use std::collections::BTreeMap;
 
 /// A row for each operation, and the set of those that have an effect.

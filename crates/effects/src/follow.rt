@@ -12,8 +12,8 @@ use crate::effect_rows::EffectRows;
 use crate::own::own;
 use crate::table::{put, shift, take};
 use ir_event::event::Event;
+use ir_event::types::ids::OpId;
 use ir_event::view::View;
-use ir_types::ids::OpId;
 use op_registry::own::Own;
 
 /// What an operation that is shown has by itself.

@@ -2,8 +2,8 @@
 ghost use Rattle.std.specs.Prelude.{◌≡◌};
 ghost use Rattle.effects.specs.Effects.{own_by};
 
-use ir_types::context::Context;
-use ir_types::ids::NameId;
+use ir_event::types::context::Context;
+use ir_event::types::ids::NameId;
 use op_registry::own::Own;
 use op_registry::registry::Registry;
 

@@ -5,7 +5,7 @@ ghost use Rattle.effects.specs.Walks.{lowered, lost_row, raised, gained_row, pre
 ghost use Rattle.effects.specs.Effects.{union};
 
 use crate::kinds::{EffectKinds, recursive};
-use ir_types::ids::OpId;
+use ir_event::types::ids::OpId;
 use op_registry::own::Own;
 
 /// How many of some operations have each effect.

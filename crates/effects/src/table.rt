@@ -10,7 +10,7 @@ use crate::effect_rows::EffectRows;
 use crate::row::Row;
 use crate::walk::{drop_row, gain, lose, mark, row_of, write};
 use bit_set::BitSet;
-use ir_types::ids::OpId;
+use ir_event::types::ids::OpId;
 use op_registry::own::Own;
 use std::alloc::Global;
 use std::collections::BTreeMap;

@@ -1,7 +1,7 @@
 //! The counts of a module, by two walks: one gives each operation a count, and one counts the operands.
 ghost use Rattle.std.specs.Prelude.{◌≡◌, []};
 ghost use Rattle.std.specs.Bool.{OnTrue};
-ghost use Rattle.ir_types.specs.Terms.{name_term};
+ghost use Rattle.ir_event.specs.types.Terms.{name_term};
 ghost use Rattle.effects.specs.Dead.{is_kept, is_missed, stays};
 ghost use Rattle.ir_event.specs.Heads.{all_operands};
 ghost use Rattle.effects.specs.Found.{head_at, heads_by, with_head};
@@ -12,9 +12,9 @@ use crate::kinds::{EffectKinds, recursive};
 use crate::own::own;
 use crate::use_counts::UseCounts;
 use ir_event::store::store::Store;
+use ir_event::types::context::Context;
+use ir_event::types::ids::{NameId, OpId};
 use ir_event::world::World;
-use ir_types::context::Context;
-use ir_types::ids::{NameId, OpId};
 use op_registry::definition::Trait;
 use op_registry::own::Own;
 use op_registry::registry::Registry;

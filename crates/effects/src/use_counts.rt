@@ -4,7 +4,7 @@ ghost use Rattle.std.specs.BTreeMap as tree;
 ghost use Rattle.effects.specs.Marks.{is_zero, AreMarked, AreMarked-prop, HasRoom, HasRoom-prop};
 
 use bit_set::BitSet;
-use ir_types::ids::OpId;
+use ir_event::types::ids::OpId;
 use std::collections::BTreeMap;
 
 /// A count for each operation, and the set of those whose count is 0. A count is one higher where the operation stays

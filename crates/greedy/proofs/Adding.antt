@@ -1,11 +1,11 @@
 -- Lists that grow.
 use Rattle.std.proofs.Common.{◌≡◌, refl, ap, sym, ◌∙◌, subst, ℕ, zero, suc, ◌-◌, ◌<◌, ◌≤◌, eqb, eq-eqb, eqb-true, true, List, [], ◌∷◌, ◌++◌, length, take, drop, inl, inr, ◌⊎◌, Result, Ok, Err, Some, take_all, slice_get, slice_index_or, arith}
 use Rattle.std.specs.Prelude.{OnOk, IfOk}
-use Rattle.ir_tree_laws.specs.Members.{In}
-use Rattle.ir_tree_laws.proofs.Listed.{any_one, one_any, in_left, in_right}
+use Rattle.ir_event.specs.tree_laws.Members.{In}
+use Rattle.ir_event.proofs.of_tree_laws.Listed.{any_one, one_any, in_left, in_right}
 use Rattle.greedy.specs.Sights.{is_listed}
 use Rattle.greedy.specs.Adding.{Adds, Adding, OneOf}
-use Rattle.ir_types.proofs.Truths.{none_left}
+use Rattle.ir_event.proofs.of_types.Truths.{none_left}
 
 pub on_ok : {A E : Type 0} (P Q : Type 0) (r : Result A E) → (P → Q) → OnOk r P → OnOk r Q
 on_ok P Q (Ok a) f h = f h

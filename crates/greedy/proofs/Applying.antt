@@ -1,20 +1,20 @@
 -- At an operation that isn't listed each rule of canonicalization applies where it applied.
 use Rattle.std.proofs.Common.{◌≡◌, refl, ap, sym, ◌∙◌, subst, ℕ, zero, suc, Bool, true, false, true≢false, ◌&&◌, not, List, [], ◌∷◌, map, Option, Some, None, inl, inr}
 use Rattle.std.specs.Prelude.{option_map, option_and_then, is_some}
-use Rattle.ir_types.specs.Things.{Things}
-use Rattle.ir_types.specs.Terms.{TypeTerm, AttrTerm}
-use Rattle.ir_tree.specs.declared.value.Value.{Value}
-use Rattle.ir_tree.specs.declared.value.Value.TheVariants.{Result, Arg}
-use Rattle.ir_tree.specs.declared.place.Place.{Place}
-use Rattle.ir_tree.specs.Tree.{op, RegionsOf, no_regions, region, RegionOf, empty, block, head, regions}
-use Rattle.ir_tree.specs.Ids.{HasDistinctIds, find}
-use Rattle.ir_tree.specs.Meaning.{Operation}
-use Rattle.ir_store.specs.Nodes.{NodeOf, node_of, regions_arguments}
-use Rattle.ir_tree_laws.specs.Members.{In}
-use Rattle.ir_tree_laws.specs.Reads.{last_id, ops_in}
-use Rattle.ir_tree_laws.specs.Values.{region_at, type_of_value, arguments_of}
-use Rattle.ir_tree_laws.specs.Stands.{StepOf, StandOf, stands}
-use Rattle.ir_tree_laws.proofs.Members.{stand, found_stands}
+use Rattle.ir_event.specs.types.Things.{Things}
+use Rattle.ir_event.specs.types.Terms.{TypeTerm, AttrTerm}
+use Rattle.ir_event.specs.trees.declared.value.Value.{Value}
+use Rattle.ir_event.specs.trees.declared.value.Value.TheVariants.{Result, Arg}
+use Rattle.ir_event.specs.trees.declared.place.Place.{Place}
+use Rattle.ir_event.specs.trees.Tree.{op, RegionsOf, no_regions, region, RegionOf, empty, block, head, regions}
+use Rattle.ir_event.specs.trees.Ids.{HasDistinctIds, find}
+use Rattle.ir_event.specs.trees.Meaning.{Operation}
+use Rattle.ir_event.specs.store.Nodes.{NodeOf, node_of, regions_arguments}
+use Rattle.ir_event.specs.tree_laws.Members.{In}
+use Rattle.ir_event.specs.tree_laws.Reads.{last_id, ops_in}
+use Rattle.ir_event.specs.tree_laws.Values.{region_at, type_of_value, arguments_of}
+use Rattle.ir_event.specs.tree_laws.Stands.{StepOf, StandOf, stands}
+use Rattle.ir_event.proofs.of_tree_laws.Members.{stand, found_stands}
 use Rattle.ir_event.specs.declared.event.Event.{Event}
 use Rattle.ir_event.specs.Modules.{Module}
 use Rattle.ir_event.specs.Step.{Steps}
@@ -31,9 +31,9 @@ use Rattle.patterns_base.specs.Rewrites.{edits_of}
 use Rattle.greedy.specs.Reached.{ends, any_reaches}
 use Rattle.greedy.specs.Sights.{giver as giver_id, operands_of, Uses, is_listed, last_ids}
 use Rattle.greedy.specs.Near.{Leads}
-use Rattle.patterns_facts.specs.Alike.{Same, ShowsAlike, SeesAlike, EndsAlike, LooksAlike, last_of, shape_of}
-use Rattle.patterns_facts.proofs.Looking.{when_alike, given_both}
-use Rattle.patterns_facts.proofs.Facts.{facts, lowers_not}
+use Rattle.patterns.specs.facts.Alike.{Same, ShowsAlike, SeesAlike, EndsAlike, LooksAlike, last_of, shape_of}
+use Rattle.patterns.proofs.of_facts.Looking.{when_alike, given_both}
+use Rattle.patterns.proofs.of_facts.Facts.{facts, lowers_not}
 use Rattle.greedy.specs.Listing.{Lists, Stayed, Touched}
 use Rattle.greedy.proofs.Ending.{last_ends}
 use Rattle.greedy.proofs.Reaching.{all_far}

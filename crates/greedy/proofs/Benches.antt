@@ -4,25 +4,25 @@ use Rattle.std.specs.Prelude.{All, map, reverse, nat_le, ◌≢◌}
 use Rattle.std.specs.List.{IsDistinct, list_any}
 use Rattle.std.proofs.Math.Seq.{drop-length}
 use Rattle.std.proofs.lemmas.Bool.{leb-true, cases_Bool}
-use Rattle.ir_types.specs.Sound.{Holds}
-use Rattle.ir_types.specs.Terms.{name_term, type_term, attr_term}
-use Rattle.ir_tree.specs.Tree.{OpOf, op, head, regions, region_count, Op}
-use Rattle.ir_tree.specs.Ids.{ids, regions_ids, has_id, HasDistinctIds}
-use Rattle.ir_tree.specs.Limits.{head_fits, op_fits, items_fit, all_arguments_pass, most_regions}
-use Rattle.ir_tree.specs.Meaning.{meaning, isolated_in}
-use Rattle.ir_tree.specs.WellFormed.{ModuleOf, IsWellFormed}
-use Rattle.ir_tree.proofs.Mapped.{map_ids}
-use Rattle.ir_tree.proofs.Returns.{absent_first}
-use Rattle.ir_tree_laws.specs.Reads.{precedes, comes_after}
-use Rattle.ir_tree_laws.proofs.Listed.{both}
-use Rattle.ir_tree_laws.proofs.Members.{stand, itself, found_stands}
-use Rattle.ir_tree_laws.proofs.Formed.{from_formed, ids_below}
+use Rattle.ir_event.specs.types.Sound.{Holds}
+use Rattle.ir_event.specs.types.Terms.{name_term, type_term, attr_term}
+use Rattle.ir_event.specs.trees.Tree.{OpOf, op, head, regions, region_count, Op}
+use Rattle.ir_event.specs.trees.Ids.{ids, regions_ids, has_id, HasDistinctIds}
+use Rattle.ir_event.specs.trees.Limits.{head_fits, op_fits, items_fit, all_arguments_pass, most_regions}
+use Rattle.ir_event.specs.trees.Meaning.{meaning, isolated_in}
+use Rattle.ir_event.specs.trees.WellFormed.{ModuleOf, IsWellFormed}
+use Rattle.ir_event.proofs.of_trees.Mapped.{map_ids}
+use Rattle.ir_event.proofs.of_trees.Returns.{absent_first}
+use Rattle.ir_event.specs.tree_laws.Reads.{precedes, comes_after}
+use Rattle.ir_event.proofs.of_tree_laws.Listed.{both}
+use Rattle.ir_event.proofs.of_tree_laws.Members.{stand, itself, found_stands}
+use Rattle.ir_event.proofs.of_tree_laws.Formed.{from_formed, ids_below}
 use Rattle.ir_event.specs.Listener.{Listener}
 use Rattle.patterns.specs.Benched.{Benched, Led, Journaled}
 use Rattle.patterns.specs.Held.{Held, module_held, module_at, open_marks, open_mark}
-use Rattle.rewriter.specs.Journals.{before}
-use Rattle.rewriter.specs.Moves.{all_noted}
-use Rattle.rewriter.specs.Mark.{Mark}
+use Rattle.patterns.specs.rewriter.Journals.{before}
+use Rattle.patterns.specs.rewriter.Moves.{all_noted}
+use Rattle.patterns.specs.rewriter.Mark.{Mark}
 use Rattle.greedy.proofs.Listed.{after_at, after_past, second_there}
 use Rattle.greedy.specs.Benches.{Formed, Onward}
 use Rattle.greedy.specs.Following.{HasFewRegions, comes_next, following}

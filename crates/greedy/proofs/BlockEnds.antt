@@ -1,21 +1,21 @@
 -- Operations that end blocks, by what is read of them.
 use Rattle.std.proofs.Common.{◌≡◌, refl, ap, sym, ◌∙◌, subst, ℕ, zero, suc, ◌<◌, Bool, true, true≢false, eqb-true, List, [], ◌∷◌, Option, Some, None, arith}
 use Rattle.std.specs.Prelude.{option_map, option_and_then}
-use Rattle.ir_tree.specs.Tree.{HeadOf, OpOf, op, RegionsOf, no_regions, region, RegionOf, OpsOf, no_ops, next, head, regions, region_count}
-use Rattle.ir_tree.specs.Ids.{HasDistinctIds, find}
-use Rattle.ir_tree.specs.Places.{place_of, first_id}
-use Rattle.ir_store.specs.Nodes.{NodeOf, node_of}
-use Rattle.ir_tree_laws.specs.Values.{region_at}
-use Rattle.ir_tree_laws.specs.Reads.{ops_in, last_id, last_at}
-use Rattle.ir_tree_laws.specs.Stands.{StepOf, StandOf, stand_id, stands, stand_of}
-use Rattle.ir_tree_laws.specs.Members.{In}
-use Rattle.ir_tree_laws.proofs.Members.{stand, member}
-use Rattle.ir_tree_laws.proofs.Around.{place_of_member}
+use Rattle.ir_event.specs.trees.Tree.{HeadOf, OpOf, op, RegionsOf, no_regions, region, RegionOf, OpsOf, no_ops, next, head, regions, region_count}
+use Rattle.ir_event.specs.trees.Ids.{HasDistinctIds, find}
+use Rattle.ir_event.specs.trees.Places.{place_of, first_id}
+use Rattle.ir_event.specs.store.Nodes.{NodeOf, node_of}
+use Rattle.ir_event.specs.tree_laws.Values.{region_at}
+use Rattle.ir_event.specs.tree_laws.Reads.{ops_in, last_id, last_at}
+use Rattle.ir_event.specs.tree_laws.Stands.{StepOf, StandOf, stand_id, stands, stand_of}
+use Rattle.ir_event.specs.tree_laws.Members.{In}
+use Rattle.ir_event.proofs.of_tree_laws.Members.{stand, member}
+use Rattle.ir_event.proofs.of_tree_laws.Around.{place_of_member}
 use Rattle.listeners_surroundings.specs.Surroundings.{surround, ended_by}
 use Rattle.listeners_surroundings.proofs.Spots.{last_is}
 use Rattle.greedy.specs.Reached.{ends, ends_of}
 use Rattle.listeners_surroundings.proofs.Reading.{head_shown}
-use Rattle.ir_tree_laws.proofs.Facts.{region_below}
+use Rattle.ir_event.proofs.of_tree_laws.Facts.{region_below}
 
 module _ {N T A : Type 0} where
   -- what ends a block stands there with nothing behind it

@@ -1,15 +1,15 @@
 -- A run of the driver is what the machine has of a canonicalization, and of a rewriting by a list of rules.
 use Rattle.std.proofs.Common.{◌≡◌, refl, ap, sym, ◌∙◌, ◌⊎◌, inl, inr, ℕ, List, true, false, cond, Result, Ok, Err}
 use Rattle.std.specs.Prelude.{IfOk, IfErr, OnErr}
-use Rattle.ir_types.specs.declared.refusal.Refusal.{Refusal}
-use Rattle.ir_types.specs.declared.refusal.Refusal.TheVariants.{BadLimit, Full, Memory}
+use Rattle.ir_event.specs.types.declared.refusal.Refusal.{Refusal}
+use Rattle.ir_event.specs.types.declared.refusal.Refusal.TheVariants.{BadLimit, Full, Memory}
 use Rattle.std.proofs.lemmas.Bool.{cases_Bool}
 use Rattle.ir_event.specs.Listener.{Listener}
 use Rattle.ir_event.specs.Modules.{Module}
 use Rattle.rewriter_machine.specs.Machine.{State, Answer, Change, Reply, DoneWith, Refused, Nothing, Transformation, due, due_change, IsAnswer, IsFullSo}
 use Rattle.rewriter_machine.specs.Panels.{AllAge}
-use Rattle.rewriter.specs.Benched.{Benched, Does, state_of}
-use Rattle.rewriter.specs.Held.{module_held, open_marks}
+use Rattle.patterns.specs.rewriter.Benched.{Benched, Does, state_of}
+use Rattle.patterns.specs.rewriter.Held.{module_held, open_marks}
 use Rattle.patterns_base.specs.Canonicalization.{Canonical, ended, stopped, canonical_from, canonicalization_of}
 use Rattle.patterns_base.specs.declared.rule.Rule.{Rule}
 use Rattle.greedy.specs.declared.outcome.Outcome.{Outcome as Ended}

@@ -2,10 +2,10 @@
 use Rattle.std.proofs.Common.{◌≡◌, ◌≢◌, refl, ap, sym, ◌∙◌, subst, ℕ, zero, suc, ◌+◌, ◌-◌, ◌≤◌, ◌<◌, inl, inr, ◌⊎◌, Bool, true, false, cond, ◌&&◌, List, [], ◌∷◌, Option, Some, None, true≢false, arith}
 use Rattle.std.specs.Prelude.{nat_le}
 use Rattle.std.proofs.lemmas.Bool.{le-leb, lt-leb}
-use Rattle.ir_types.specs.declared.refusal.Refusal.{Refusal}
-use Rattle.ir_types.specs.declared.refusal.Refusal.TheVariants.{Memory, BadLimit, Full, IdsExhausted}
-use Rattle.ir_tree.specs.Ids.{ids, op_count}
-use Rattle.ir_tree.specs.Limits.{most_ops, most_next}
+use Rattle.ir_event.specs.types.declared.refusal.Refusal.{Refusal}
+use Rattle.ir_event.specs.types.declared.refusal.Refusal.TheVariants.{Memory, BadLimit, Full, IdsExhausted}
+use Rattle.ir_event.specs.trees.Ids.{ids, op_count}
+use Rattle.ir_event.specs.trees.Limits.{most_ops, most_next}
 use Rattle.ir_event.specs.Modules.{Module}
 use Rattle.rewriter_machine.specs.Contents.{Edit}
 use Rattle.patterns_base.specs.declared.rule.Rule.{Rule}

@@ -3,25 +3,25 @@ use Rattle.std.proofs.Common.{◌≡◌, refl, ap, sym, ◌∙◌, subst, ℕ, �
 use Rattle.std.specs.List.{list_any, IsDistinct}
 use Rattle.std.proofs.lemmas.List.{append_cancel_left}
 use Rattle.std.proofs.lemmas.Map.Keys.{IsDistinct-tail}
-use Rattle.ir_tree.specs.declared.place.Place.{Place}
-use Rattle.ir_tree.specs.Tree.{OpOf, op, RegionsOf, no_regions, region, RegionOf, empty, block, OpsOf, no_ops, next, head, regions}
-use Rattle.ir_tree.specs.Ids.{ids, regions_ids, region_ids, ops_ids, HasDistinctIds, find, regions_find}
-use Rattle.ir_tree.specs.Places.{each_list, regions_each_list, region_each_list, ops_each_list, put_before, put_in, is_in_block, put_here, put, without}
-use Rattle.ir_tree.proofs.Moves.{Absent, absent_parts, ops_unput, list_id}
-use Rattle.ir_tree.proofs.Returns.{Present, absent_first, halves, elsewhere}
-use Rattle.ir_tree.proofs.Left.{left_distinct}
-use Rattle.ir_tree_laws.specs.Stands.{StandOf, stand_id, stands, is_gone, left_stand, dropping}
-use Rattle.ir_tree_laws.specs.Members.{In}
-use Rattle.ir_tree_laws.proofs.Listed.{both}
-use Rattle.ir_tree_laws.proofs.Members.{stand, within, found_stands, stand_found, found_in}
-use Rattle.ir_tree_laws.proofs.Around.{stand_present, present_stand, gone_within}
-use Rattle.ir_tree_laws.proofs.Without.{left_member}
-use Rattle.ir_tree_laws.proofs.Stretches.{Parted, part, parted_ids, left_ids}
-use Rattle.ir_tree_laws.proofs.Shift.{Inner, inner_of, own_distinct}
-use Rattle.ir_tree_laws.proofs.Cuts.{one_cut, absent_before}
+use Rattle.ir_event.specs.trees.declared.place.Place.{Place}
+use Rattle.ir_event.specs.trees.Tree.{OpOf, op, RegionsOf, no_regions, region, RegionOf, empty, block, OpsOf, no_ops, next, head, regions}
+use Rattle.ir_event.specs.trees.Ids.{ids, regions_ids, region_ids, ops_ids, HasDistinctIds, find, regions_find}
+use Rattle.ir_event.specs.trees.Places.{each_list, regions_each_list, region_each_list, ops_each_list, put_before, put_in, is_in_block, put_here, put, without}
+use Rattle.ir_event.proofs.of_trees.Moves.{Absent, absent_parts, ops_unput, list_id}
+use Rattle.ir_event.proofs.of_trees.Returns.{Present, absent_first, halves, elsewhere}
+use Rattle.ir_event.proofs.of_trees.Left.{left_distinct}
+use Rattle.ir_event.specs.tree_laws.Stands.{StandOf, stand_id, stands, is_gone, left_stand, dropping}
+use Rattle.ir_event.specs.tree_laws.Members.{In}
+use Rattle.ir_event.proofs.of_tree_laws.Listed.{both}
+use Rattle.ir_event.proofs.of_tree_laws.Members.{stand, within, found_stands, stand_found, found_in}
+use Rattle.ir_event.proofs.of_tree_laws.Around.{stand_present, present_stand, gone_within}
+use Rattle.ir_event.proofs.of_tree_laws.Without.{left_member}
+use Rattle.ir_event.proofs.of_tree_laws.Stretches.{Parted, part, parted_ids, left_ids}
+use Rattle.ir_event.proofs.of_tree_laws.Shift.{Inner, inner_of, own_distinct}
+use Rattle.ir_event.proofs.of_tree_laws.Cuts.{one_cut, absent_before}
 use Rattle.std.proofs.lemmas.Bool.{cases_Bool}
 use Rattle.rewriter_laws.proofs.Trees.{found_id}
-use Rattle.ir_tree.proofs.Facts.{ids_head}
+use Rattle.ir_event.proofs.of_trees.Facts.{ids_head}
 
 -- a list with others put in front of one of it
 pub record Came (b : ℕ) (others xs ys : List ℕ) : Type 0 where

@@ -2,10 +2,10 @@
 -- is replaced by other operations, of which the old ones keep their order.
 use Rattle.std.proofs.Common.{◌≡◌, refl, ap, sym, ◌∙◌, subst, ℕ, inl, inr, ◌⊎◌, Bool, true, false, eqb, eq-eqb, List, [], ◌∷◌, ◌++◌, true≢false}
 use Rattle.std.specs.List.{IsDistinct}
-use Rattle.ir_tree.specs.Ids.{ids, HasDistinctIds}
-use Rattle.ir_tree.proofs.Returns.{halves}
-use Rattle.ir_tree_laws.specs.Reads.{comes_after}
-use Rattle.ir_tree_laws.proofs.Listed.{bool_cases}
+use Rattle.ir_event.specs.trees.Ids.{ids, HasDistinctIds}
+use Rattle.ir_event.proofs.of_trees.Returns.{halves}
+use Rattle.ir_event.specs.tree_laws.Reads.{comes_after}
+use Rattle.ir_event.proofs.of_tree_laws.Listed.{bool_cases}
 use Rattle.ir_event.specs.Modules.{Module}
 use Rattle.greedy.specs.Orders.{Orderly}
 use Rattle.greedy.proofs.Listed.{is_listed, Listed, listed_at, listed_more, listed_past, first_there, second_there, after_at, after_past}

@@ -1,23 +1,23 @@
 -- What lists of edits near an operation leave of the order.
 use Rattle.std.proofs.Common.{◌≡◌, refl, ap, sym, ◌∙◌, subst, ℕ, ◌+◌, ◌<◌, ◌≤◌, false, true≢false, ◌||◌, eqb, eqb-true, List, [], ◌∷◌, ◌++◌, append_assoc, append-nil, Some, None, inl, inr, arith}
 use Rattle.std.specs.List.{IsDistinct}
-use Rattle.ir_types.specs.Terms.{TypeTerm, AttrTerm}
-use Rattle.ir_tree.specs.declared.place.Place.{Place}
-use Rattle.ir_tree.specs.Tree.{HeadOf, op, no_regions, regions}
-use Rattle.ir_tree.specs.Ids.{ids, HasDistinctIds}
-use Rattle.ir_tree.specs.Edits.{each_head, at, put_operand, put_values, change_part, change_entry}
-use Rattle.ir_tree.specs.Places.{put, without, shifted}
-use Rattle.ir_tree.specs.Meaning.{Operation}
-use Rattle.ir_tree.proofs.Gained.{Apart, gained_ids}
-use Rattle.ir_tree.proofs.Heads.{Alike, head_ids, alike_operand, alike_values, alike_entry}
-use Rattle.ir_tree.proofs.Left.{left_distinct}
-use Rattle.ir_tree.proofs.Returns.{cons_distinct, nil_distinct}
-use Rattle.ir_tree_laws.specs.Reads.{comes_after}
-use Rattle.ir_tree_laws.specs.Reasons.{with_id}
+use Rattle.ir_event.specs.types.Terms.{TypeTerm, AttrTerm}
+use Rattle.ir_event.specs.trees.declared.place.Place.{Place}
+use Rattle.ir_event.specs.trees.Tree.{HeadOf, op, no_regions, regions}
+use Rattle.ir_event.specs.trees.Ids.{ids, HasDistinctIds}
+use Rattle.ir_event.specs.trees.Edits.{each_head, at, put_operand, put_values, change_part, change_entry}
+use Rattle.ir_event.specs.trees.Places.{put, without, shifted}
+use Rattle.ir_event.specs.trees.Meaning.{Operation}
+use Rattle.ir_event.proofs.of_trees.Gained.{Apart, gained_ids}
+use Rattle.ir_event.proofs.of_trees.Heads.{Alike, head_ids, alike_operand, alike_values, alike_entry}
+use Rattle.ir_event.proofs.of_trees.Left.{left_distinct}
+use Rattle.ir_event.proofs.of_trees.Returns.{cons_distinct, nil_distinct}
+use Rattle.ir_event.specs.tree_laws.Reads.{comes_after}
+use Rattle.ir_event.specs.tree_laws.Reasons.{with_id}
 use Rattle.ir_event.specs.Modules.{Module}
 use Rattle.rewriter_machine.specs.Contents.{Edit, tests, edited, all_edited}
 use Rattle.rewriter_machine.specs.Edits.{Insert, Make, Erase, Move, SetOperand, Replace, SetAttr, DropAttr, part_for}
-use Rattle.patterns_facts.specs.Near.{Still, Opens}
+use Rattle.patterns.specs.facts.Near.{Still, Opens}
 use Rattle.greedy.specs.Orders.{Orderly}
 use Rattle.greedy.proofs.Cuts.{second, in_either, stretch_orderly}
 use Rattle.greedy.proofs.Nearby.{Wide, widths, Near, near_headed, near_erased, near_put, near_moved}

@@ -1,15 +1,15 @@
 -- Operations that end a block.
 use Rattle.std.proofs.Common.{◌≡◌, refl, ap, sym, ◌∙◌, subst, ℕ, true, eqb, eq-eqb, List, [], ◌∷◌, Option, Some, None}
 use Rattle.std.specs.Prelude.{option_map, option_and_then}
-use Rattle.ir_tree.specs.Tree.{OpOf, op, empty, block, OpsOf, no_ops, next, head, regions}
-use Rattle.ir_tree.specs.Ids.{HasDistinctIds, first_of, find}
-use Rattle.ir_store.specs.Nodes.{node_of}
-use Rattle.ir_tree_laws.specs.Values.{region_at}
-use Rattle.ir_tree_laws.specs.Reads.{last_id, ops_in, last_at}
-use Rattle.ir_tree_laws.specs.Stands.{StepOf, stands, stand_of}
-use Rattle.ir_tree_laws.specs.Members.{In}
-use Rattle.ir_tree_laws.proofs.Readings.{step}
-use Rattle.ir_tree_laws.proofs.Members.{stand, stand_of_member, found_stands}
+use Rattle.ir_event.specs.trees.Tree.{OpOf, op, empty, block, OpsOf, no_ops, next, head, regions}
+use Rattle.ir_event.specs.trees.Ids.{HasDistinctIds, first_of, find}
+use Rattle.ir_event.specs.store.Nodes.{node_of}
+use Rattle.ir_event.specs.tree_laws.Values.{region_at}
+use Rattle.ir_event.specs.tree_laws.Reads.{last_id, ops_in, last_at}
+use Rattle.ir_event.specs.tree_laws.Stands.{StepOf, stands, stand_of}
+use Rattle.ir_event.specs.tree_laws.Members.{In}
+use Rattle.ir_event.proofs.of_tree_laws.Readings.{step}
+use Rattle.ir_event.proofs.of_tree_laws.Members.{stand, stand_of_member, found_stands}
 use Rattle.listeners_surroundings.specs.Surroundings.{surround}
 use Rattle.listeners_surroundings.proofs.Lasts.{split_last, last_stands}
 use Rattle.greedy.specs.Reached.{ends, ends_of}

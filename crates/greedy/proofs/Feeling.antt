@@ -1,16 +1,16 @@
 -- An operation that is taken out changes the effects of those alone that are made of its own.
 use Rattle.std.proofs.Common.{◌≡◌, refl, ap, sym, ◌∙◌, subst, ℕ, zero, suc, ◌+◌, Bool, true, false, true≢false, cond, ◌||◌, ◌&&◌, eqb, eqb-true, List, [], ◌∷◌, ◌++◌, Option, Some, None, inl, inr, ◌⊎◌}
-use Rattle.ir_tree.specs.Tree.{HeadOf, OpOf, op, RegionsOf, no_regions, region, empty, block, OpsOf, no_ops, next, head}
-use Rattle.ir_tree.specs.Ids.{HasDistinctIds}
-use Rattle.ir_tree.specs.Places.{each_list, regions_each_list}
-use Rattle.ir_tree.specs.Edits.{each_head, regions_each_head, ops_each_head}
-use Rattle.ir_tree_laws.specs.Reads.{parent_of}
-use Rattle.ir_tree_laws.specs.Stands.{StepOf, StandOf, stands, regions_stands, ops_stands, dropping}
-use Rattle.ir_tree_laws.specs.Members.{In}
-use Rattle.ir_tree_laws.proofs.Listed.{bool_cases, neither, in_left, in_right}
-use Rattle.ir_tree_laws.proofs.Readings.{step}
-use Rattle.ir_tree_laws.proofs.Members.{stand, itself, stand_found}
-use Rattle.ir_tree_laws.proofs.Around.{place_of_member}
+use Rattle.ir_event.specs.trees.Tree.{HeadOf, OpOf, op, RegionsOf, no_regions, region, empty, block, OpsOf, no_ops, next, head}
+use Rattle.ir_event.specs.trees.Ids.{HasDistinctIds}
+use Rattle.ir_event.specs.trees.Places.{each_list, regions_each_list}
+use Rattle.ir_event.specs.trees.Edits.{each_head, regions_each_head, ops_each_head}
+use Rattle.ir_event.specs.tree_laws.Reads.{parent_of}
+use Rattle.ir_event.specs.tree_laws.Stands.{StepOf, StandOf, stands, regions_stands, ops_stands, dropping}
+use Rattle.ir_event.specs.tree_laws.Members.{In}
+use Rattle.ir_event.proofs.of_tree_laws.Listed.{bool_cases, neither, in_left, in_right}
+use Rattle.ir_event.proofs.of_tree_laws.Readings.{step}
+use Rattle.ir_event.proofs.of_tree_laws.Members.{stand, itself, stand_found}
+use Rattle.ir_event.proofs.of_tree_laws.Around.{place_of_member}
 use Rattle.op_registry.specs.declared.own.Own.{Own}
 use Rattle.effects.specs.declared.kinds.EffectKinds.{EffectKinds}
 use Rattle.effects.specs.Effects.{none, union, own_kinds, is_recursive, effects_by, effects, regions_effects, ops_effects}

@@ -3,30 +3,30 @@ use Rattle.std.proofs.Common.{◌≡◌, refl, ap, sym, ◌∙◌, subst, ℕ, z
 use Rattle.std.specs.Prelude.{option_map, option_and_then}
 use Rattle.std.specs.List.{list_any, IsDistinct}
 use Rattle.std.proofs.lemmas.Map.Keys.{IsDistinct-tail}
-use Rattle.ir_tree.specs.declared.place.Place.{Place}
-use Rattle.ir_tree.specs.Tree.{OpOf, op, RegionsOf, no_regions, region, RegionOf, empty, block, OpsOf, no_ops, next, head, regions, region_count}
-use Rattle.ir_tree.specs.Ids.{ids, regions_ids, region_ids, ops_ids, HasDistinctIds, has_id, find}
-use Rattle.ir_tree.specs.Places.{place_of, first_id as first_op}
-use Rattle.ir_tree.proofs.Returns.{absent_first}
-use Rattle.ir_tree.specs.Ids.{first_of}
-use Rattle.ir_store.specs.Nodes.{NodeOf, node_of, regions_arguments}
-use Rattle.ir_tree_laws.specs.Values.{region_at}
-use Rattle.ir_tree.specs.Tree.{ops_of}
-use Rattle.ir_tree_laws.specs.Reads.{ops_at, ops_in, last_id, id_before, is_among, goes_before, list_of, in_list, is_before, prev_of, parent_of, precedes, comes_after}
-use Rattle.ir_tree_laws.specs.Stands.{StepOf, StandOf, stand_id, stand_in, place_in, stands, regions_stands, region_stands, ops_stands, stand_of}
-use Rattle.ir_tree_laws.specs.Members.{In}
-use Rattle.ir_tree_laws.proofs.Listed.{bool_cases, in_parts}
-use Rattle.ir_tree_laws.proofs.Readings.{step, stands_ids}
-use Rattle.ir_tree_laws.proofs.Members.{stand, member, stand_of_member, stand_found, joined_ops, within, ops_child, has_around}
-use Rattle.ir_tree_laws.proofs.Put.{child}
-use Rattle.ir_tree_laws.proofs.Neighbours.{prev_there}
-use Rattle.ir_tree_laws.proofs.Around.{around_there, place_of_member, member_of_place}
-use Rattle.ir_tree_laws.proofs.Values.{shape, joined_more}
+use Rattle.ir_event.specs.trees.declared.place.Place.{Place}
+use Rattle.ir_event.specs.trees.Tree.{OpOf, op, RegionsOf, no_regions, region, RegionOf, empty, block, OpsOf, no_ops, next, head, regions, region_count}
+use Rattle.ir_event.specs.trees.Ids.{ids, regions_ids, region_ids, ops_ids, HasDistinctIds, has_id, find}
+use Rattle.ir_event.specs.trees.Places.{place_of, first_id as first_op}
+use Rattle.ir_event.proofs.of_trees.Returns.{absent_first}
+use Rattle.ir_event.specs.trees.Ids.{first_of}
+use Rattle.ir_event.specs.store.Nodes.{NodeOf, node_of, regions_arguments}
+use Rattle.ir_event.specs.tree_laws.Values.{region_at}
+use Rattle.ir_event.specs.trees.Tree.{ops_of}
+use Rattle.ir_event.specs.tree_laws.Reads.{ops_at, ops_in, last_id, id_before, is_among, goes_before, list_of, in_list, is_before, prev_of, parent_of, precedes, comes_after}
+use Rattle.ir_event.specs.tree_laws.Stands.{StepOf, StandOf, stand_id, stand_in, place_in, stands, regions_stands, region_stands, ops_stands, stand_of}
+use Rattle.ir_event.specs.tree_laws.Members.{In}
+use Rattle.ir_event.proofs.of_tree_laws.Listed.{bool_cases, in_parts}
+use Rattle.ir_event.proofs.of_tree_laws.Readings.{step, stands_ids}
+use Rattle.ir_event.proofs.of_tree_laws.Members.{stand, member, stand_of_member, stand_found, joined_ops, within, ops_child, has_around}
+use Rattle.ir_event.proofs.of_tree_laws.Put.{child}
+use Rattle.ir_event.proofs.of_tree_laws.Neighbours.{prev_there}
+use Rattle.ir_event.proofs.of_tree_laws.Around.{around_there, place_of_member, member_of_place}
+use Rattle.ir_event.proofs.of_tree_laws.Values.{shape, joined_more}
 use Rattle.greedy.proofs.Order.{rises}
 use Rattle.greedy.specs.Following.{first_id, comes_next, following, regions_from, first_inside, behind, behind_of, height_of, HasFewRegions, count_of}
-use Rattle.ir_types.proofs.Truths.{append_none, list_later}
-use Rattle.ir_tree.proofs.Facts.{ids_head}
-use Rattle.ir_tree_laws.proofs.Facts.{region_below}
+use Rattle.ir_event.proofs.of_types.Truths.{append_none, list_later}
+use Rattle.ir_event.proofs.of_trees.Facts.{ids_head}
+use Rattle.ir_event.proofs.of_tree_laws.Facts.{region_below}
 
 there : ℕ → List ℕ → Bool
 there x xs = list_any (λ y. eqb y x) xs

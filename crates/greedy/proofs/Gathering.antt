@@ -2,15 +2,15 @@
 use Rattle.std.proofs.Common.{◌≡◌, refl, ap, sym, ◌∙◌, subst, ℕ, true, false, true≢false, ◌||◌, ◌&&◌, eqb, List, [], ◌∷◌, Option, Some, None, inl, inr}
 use Rattle.std.specs.Prelude.{option_map}
 use Rattle.std.specs.List.{list_any, IsDistinct}
-use Rattle.ir_types.specs.Things.{Things}
-use Rattle.ir_types.specs.Terms.{name_term, type_term, attr_term}
-use Rattle.ir_tree.specs.Tree.{Op}
-use Rattle.ir_tree.specs.Ids.{HasDistinctIds, ids}
-use Rattle.ir_tree.specs.Meaning.{meaning}
-use Rattle.ir_tree.proofs.Mapped.{map_ids}
-use Rattle.ir_store.specs.Nodes.{NodeOf}
-use Rattle.ir_tree_laws.specs.Members.{In}
-use Rattle.ir_tree_laws.proofs.Listed.{either, neither}
+use Rattle.ir_event.specs.types.Things.{Things}
+use Rattle.ir_event.specs.types.Terms.{name_term, type_term, attr_term}
+use Rattle.ir_event.specs.trees.Tree.{Op}
+use Rattle.ir_event.specs.trees.Ids.{HasDistinctIds, ids}
+use Rattle.ir_event.specs.trees.Meaning.{meaning}
+use Rattle.ir_event.proofs.of_trees.Mapped.{map_ids}
+use Rattle.ir_event.specs.store.Nodes.{NodeOf}
+use Rattle.ir_event.specs.tree_laws.Members.{In}
+use Rattle.ir_event.proofs.of_tree_laws.Listed.{either, neither}
 use Rattle.ir_event.specs.declared.event.Event.{Event}
 use Rattle.ir_event.specs.declared.event.Event.TheVariants.{Put, Take, SetOperand, SetEntry, Shift}
 use Rattle.ir_event.specs.declared.world.World.{World}

@@ -1,13 +1,13 @@
 -- The events of a journal from one on, and what the law makes of them.
 use Rattle.std.proofs.Common.{◌≡◌, refl, ap, sym, ◌∙◌, subst, ℕ, zero, suc, ◌+◌, ◌≤◌, List, [], ◌∷◌, ◌++◌, append_assoc, append-nil, length, drop, Some, None, arith}
 use Rattle.std.specs.Prelude.{slice_get}
-use Rattle.ir_types.specs.Things.{Things}
-use Rattle.ir_store.specs.Stored.{Stored}
+use Rattle.ir_event.specs.types.Things.{Things}
+use Rattle.ir_event.specs.store.Stored.{Stored}
 use Rattle.ir_event.specs.declared.event.Event.{Event}
 use Rattle.ir_event.specs.declared.world.World.{World}
 use Rattle.ir_event.specs.Modules.{Module, module_in, module_meaning}
 use Rattle.rewriter_laws.specs.Journals.{IsJournal}
-use Rattle.rewriter.specs.Held.{Held, module_at, module_held}
+use Rattle.patterns.specs.rewriter.Held.{Held, module_at, module_held}
 use Rattle.greedy.specs.Listing.{Touched}
 use Rattle.greedy.specs.Near.{Leads}
 use Rattle.greedy.specs.Shown.{shown_operands}

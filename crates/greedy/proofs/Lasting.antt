@@ -1,22 +1,22 @@
 -- Which operations end an operation's blocks stays, where events don't reach it.
 use Rattle.std.proofs.Common.{◌≡◌, refl, ap, sym, ◌∙◌, ℕ, zero, suc, false, ◌||◌, eqb, List, [], ◌∷◌, Option, Some, None, inl, inr}
 use Rattle.std.specs.Prelude.{option_map, option_and_then}
-use Rattle.ir_types.specs.Things.{Things}
-use Rattle.ir_types.specs.Terms.{TypeTerm, AttrTerm, name_term, attr_term}
-use Rattle.ir_tree.specs.declared.place.Place.{Place}
-use Rattle.ir_tree.specs.Tree.{HeadOf, OpOf, RegionsOf, no_regions, region, no_ops, head, regions}
-use Rattle.ir_tree.specs.Ids.{HasDistinctIds, find}
-use Rattle.ir_tree.specs.Places.{place_of}
-use Rattle.ir_tree.specs.Edits.{at, put_operand, change_part, change_entry, each_head}
-use Rattle.ir_tree.specs.Meaning.{Operation, key_before}
-use Rattle.ir_tree_laws.specs.Reads.{last_id, ops_in}
-use Rattle.ir_tree_laws.specs.Values.{region_at}
-use Rattle.ir_tree_laws.specs.Stands.{StepOf, StandOf, stand_id, stands}
-use Rattle.ir_tree_laws.specs.Members.{In}
-use Rattle.ir_tree_laws.proofs.Listed.{neither}
-use Rattle.ir_tree_laws.proofs.Readings.{step}
-use Rattle.ir_tree_laws.proofs.Members.{stand, stand_found, found_stands}
-use Rattle.ir_tree_laws.proofs.Around.{place_of_member}
+use Rattle.ir_event.specs.types.Things.{Things}
+use Rattle.ir_event.specs.types.Terms.{TypeTerm, AttrTerm, name_term, attr_term}
+use Rattle.ir_event.specs.trees.declared.place.Place.{Place}
+use Rattle.ir_event.specs.trees.Tree.{HeadOf, OpOf, RegionsOf, no_regions, region, no_ops, head, regions}
+use Rattle.ir_event.specs.trees.Ids.{HasDistinctIds, find}
+use Rattle.ir_event.specs.trees.Places.{place_of}
+use Rattle.ir_event.specs.trees.Edits.{at, put_operand, change_part, change_entry, each_head}
+use Rattle.ir_event.specs.trees.Meaning.{Operation, key_before}
+use Rattle.ir_event.specs.tree_laws.Reads.{last_id, ops_in}
+use Rattle.ir_event.specs.tree_laws.Values.{region_at}
+use Rattle.ir_event.specs.tree_laws.Stands.{StepOf, StandOf, stand_id, stands}
+use Rattle.ir_event.specs.tree_laws.Members.{In}
+use Rattle.ir_event.proofs.of_tree_laws.Listed.{neither}
+use Rattle.ir_event.proofs.of_tree_laws.Readings.{step}
+use Rattle.ir_event.proofs.of_tree_laws.Members.{stand, stand_found, found_stands}
+use Rattle.ir_event.proofs.of_tree_laws.Around.{place_of_member}
 use Rattle.ir_event.specs.declared.event.Event.{Event}
 use Rattle.ir_event.specs.declared.event.Event.TheVariants.{Put, Take, SetOperand, SetEntry, Shift}
 use Rattle.ir_event.specs.Modules.{Module}
@@ -29,8 +29,8 @@ use Rattle.listeners_surroundings.proofs.Lasts.{split_last, last_stands}
 use Rattle.greedy.proofs.Reaching.{not_end, at_end_parts, same_reach, all_far}
 use Rattle.greedy.proofs.Still.{Unlast, Like, Goes, goes_out, goes_in, goes_on, all_edited}
 use Rattle.greedy.proofs.Tracked.{operand_id, operand_name, part_name, gone_found}
-use Rattle.ir_tree.proofs.Facts.{part_id}
-use Rattle.ir_types.proofs.Truths.{unlike}
+use Rattle.ir_event.proofs.of_trees.Facts.{part_id}
+use Rattle.ir_event.proofs.of_types.Truths.{unlike}
 
 module _ {N T A : Type 0} (t : OpOf N T A) (d : HasDistinctIds t) where
   -- an operation ends no block but where its place is the end

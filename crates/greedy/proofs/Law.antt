@@ -3,17 +3,17 @@ use Rattle.std.proofs.Common.{◌≡◌, refl, ap, sym, ◌∙◌, subst, ℕ, �
 use Rattle.std.specs.Prelude.{All, nat_le, option_map}
 use Rattle.std.specs.List.{IsDistinct}
 use Rattle.std.proofs.lemmas.List.Elements.{All-head, All-tail, filter_passes}
-use Rattle.ir_types.specs.declared.refusal.Refusal.TheVariants.{Full, IdsExhausted}
-use Rattle.ir_tree.specs.declared.place.Place.{Place}
-use Rattle.ir_types.specs.Terms.{TypeTerm, AttrTerm}
-use Rattle.ir_tree.specs.Tree.{OpsOf, no_ops, next, head, regions}
-use Rattle.ir_tree.specs.Ids.{ids, regions_ids, HasDistinctIds, find, op_count}
-use Rattle.ir_tree.specs.Limits.{most_ops, most_next}
-use Rattle.ir_tree.specs.Places.{place_of}
-use Rattle.ir_tree.specs.Meaning.{Operation}
-use Rattle.ir_tree_laws.proofs.Around.{present_stand}
-use Rattle.ir_tree_laws.proofs.Formed.{ids_below}
-use Rattle.ir_tree_laws.proofs.Shift.{own_distinct}
+use Rattle.ir_event.specs.types.declared.refusal.Refusal.TheVariants.{Full, IdsExhausted}
+use Rattle.ir_event.specs.trees.declared.place.Place.{Place}
+use Rattle.ir_event.specs.types.Terms.{TypeTerm, AttrTerm}
+use Rattle.ir_event.specs.trees.Tree.{OpsOf, no_ops, next, head, regions}
+use Rattle.ir_event.specs.trees.Ids.{ids, regions_ids, HasDistinctIds, find, op_count}
+use Rattle.ir_event.specs.trees.Limits.{most_ops, most_next}
+use Rattle.ir_event.specs.trees.Places.{place_of}
+use Rattle.ir_event.specs.trees.Meaning.{Operation}
+use Rattle.ir_event.proofs.of_tree_laws.Around.{present_stand}
+use Rattle.ir_event.proofs.of_tree_laws.Formed.{ids_below}
+use Rattle.ir_event.proofs.of_tree_laws.Shift.{own_distinct}
 use Rattle.ir_event.specs.Modules.{Module}
 use Rattle.rewriter_machine.specs.Contents.{Edit, all_edited}
 use Rattle.patterns_base.specs.declared.rule.Rule.{Rule}
@@ -30,13 +30,13 @@ use Rattle.greedy.proofs.Edits.{names, still_stays, opens_stays, stays_orderly}
 use Rattle.greedy.proofs.Nearby.{Near, widths}
 use Rattle.greedy.proofs.Listed.{Listed}
 use Rattle.greedy.proofs.Rootless.{unplaced}
-use Rattle.patterns_facts.specs.Facts.{IsNear}
-use Rattle.patterns_facts.specs.Near.{AreNear, Opens, Still}
-use Rattle.patterns_facts.proofs.Facts.{facts, lowers_not}
+use Rattle.patterns.specs.facts.Facts.{IsNear}
+use Rattle.patterns.specs.facts.Near.{AreNear, Opens, Still}
+use Rattle.patterns.proofs.of_facts.Facts.{facts, lowers_not}
 use Rattle.greedy.proofs.Starts.{Between, between, start, wide, Opened, opened}
 use Rattle.std.proofs.lemmas.Bool.{cases_Bool}
 use Rattle.rewriter_laws.proofs.Trees.{found_id}
-use Rattle.ir_tree.proofs.Facts.{ids_head}
+use Rattle.ir_event.proofs.of_trees.Facts.{ids_head}
 
 -- the operations of a block but the last
 before_last : (o : Operation) (os : OpsOf (List ℕ) TypeTerm AttrTerm) → (ended_by o os).before ≡ names (wide o os)

@@ -2,20 +2,20 @@
 use Rattle.std.proofs.Common.{◌≡◌, refl, ap, sym, ◌∙◌, ℕ, zero, suc, ◌<◌, true, false, true≢false, eqb, eq-eqb, eqb-true, List, [], ◌∷◌, Option, Some, None, inl, inr, arith}
 use Rattle.std.specs.Prelude.{option_map, drop}
 use Rattle.std.specs.FinMap as finmap
-use Rattle.ir_types.specs.Things.{Things}
-use Rattle.ir_types.specs.Terms.{TypeTerm, AttrTerm, name_term, type_term, attr_term}
-use Rattle.ir_tree.specs.Tree.{Op, op, head}
-use Rattle.ir_tree.specs.Ids.{find, first_of, has_id}
-use Rattle.ir_tree.specs.Edits.{put_operand, change_part, change_entry}
-use Rattle.ir_tree.specs.Meaning.{Operation, meaning, key_before}
-use Rattle.ir_tree.proofs.Mapped.{map_find}
-use Rattle.ir_tree_laws.specs.Members.{In}
-use Rattle.ir_tree_laws.specs.Stands.{StandOf, stand_id, stands}
-use Rattle.ir_tree_laws.proofs.Listed.{bool_cases}
-use Rattle.ir_tree_laws.proofs.Around.{stand_present, member_of_place}
-use Rattle.ir_tree_laws.proofs.Members.{found_stands}
-use Rattle.ir_store.specs.Stored.{Stored, known}
-use Rattle.ir_store.specs.Calls.{hold}
+use Rattle.ir_event.specs.types.Things.{Things}
+use Rattle.ir_event.specs.types.Terms.{TypeTerm, AttrTerm, name_term, type_term, attr_term}
+use Rattle.ir_event.specs.trees.Tree.{Op, op, head}
+use Rattle.ir_event.specs.trees.Ids.{find, first_of, has_id}
+use Rattle.ir_event.specs.trees.Edits.{put_operand, change_part, change_entry}
+use Rattle.ir_event.specs.trees.Meaning.{Operation, meaning, key_before}
+use Rattle.ir_event.proofs.of_trees.Mapped.{map_find}
+use Rattle.ir_event.specs.tree_laws.Members.{In}
+use Rattle.ir_event.specs.tree_laws.Stands.{StandOf, stand_id, stands}
+use Rattle.ir_event.proofs.of_tree_laws.Listed.{bool_cases}
+use Rattle.ir_event.proofs.of_tree_laws.Around.{stand_present, member_of_place}
+use Rattle.ir_event.proofs.of_tree_laws.Members.{found_stands}
+use Rattle.ir_event.specs.store.Stored.{Stored, known}
+use Rattle.ir_event.specs.store.Calls.{hold}
 use Rattle.ir_event.specs.declared.event.Event.{Event}
 use Rattle.ir_event.specs.declared.event.Event.TheVariants.{Put, Take, SetOperand, SetEntry, Shift}
 use Rattle.ir_event.specs.Modules.{Module, module_meaning}
@@ -31,7 +31,7 @@ use Rattle.greedy.proofs.Tracked.{operand_id, operand_name, part_name, gone_foun
 use Rattle.greedy.specs.Shown.{operands_found, shown_operands}
 use Rattle.std.proofs.lemmas.Bool.{eqb-false}
 use Rattle.ir_event.proofs.Steps.{meaning_operands}
-use Rattle.ir_tree.proofs.Facts.{part_id}
+use Rattle.ir_event.proofs.of_trees.Facts.{part_id}
 use Rattle.std.proofs.lemmas.Option.{same_Some}
 
 -- undoing one event leaves what is held under an older id, and the next free id doesn't rise by it

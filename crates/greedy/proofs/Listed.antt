@@ -1,7 +1,7 @@
 -- Which of a list comes after which.
 use Rattle.std.proofs.Common.{◌≡◌, ap, sym, ◌∙◌, ℕ, Bool, true, false, cond, ◌||◌, eqb, List, [], ◌∷◌, true≢false, inl, inr}
 use Rattle.std.specs.List.{list_any}
-use Rattle.ir_tree_laws.specs.Reads.{comes_after}
+use Rattle.ir_event.specs.tree_laws.Reads.{comes_after}
 use Rattle.std.proofs.lemmas.Bool.{cases_Bool}
 
 -- whether a is one of a list

@@ -2,24 +2,24 @@
 use Rattle.std.proofs.Common.{◌≡◌, refl, ap, sym, ◌∙◌, subst, ℕ, ◌≤◌, true≢false, cond, ◌||◌, eqb, eq-eqb, List, [], ◌∷◌, ◌++◌, length, append_assoc, append-nil, length-append, Some, None, option_map, inl, inr, ◌⊎◌, arith}
 use Rattle.std.specs.List.{list_any, IsDistinct}
 use Rattle.std.proofs.lemmas.List.{append_cancel_left}
-use Rattle.ir_tree.specs.declared.place.Place.{Place}
-use Rattle.ir_tree.specs.Tree.{HeadOf, OpOf, op, head, regions}
-use Rattle.ir_tree.specs.Ids.{ids, regions_ids, HasDistinctIds, find, regions_find}
-use Rattle.ir_tree.specs.Edits.{each_head}
-use Rattle.ir_tree.specs.Places.{put, put_found, without, shifted}
-use Rattle.ir_tree.proofs.Gained.{Apart, gained_distinct}
-use Rattle.ir_tree.proofs.Heads.{Alike, head_ids, head_find}
-use Rattle.ir_tree.proofs.Left.{left_distinct}
-use Rattle.ir_tree.proofs.Moves.{Absent, absent_parts, without_absent}
-use Rattle.ir_tree.proofs.Returns.{Present, absent_first, absent_join, halves}
-use Rattle.ir_tree_laws.proofs.Around.{absent_find}
-use Rattle.ir_tree_laws.proofs.Cuts.{one_cut, absent_before}
-use Rattle.ir_tree_laws.proofs.Put.{put_find}
-use Rattle.ir_tree_laws.proofs.Shift.{own_distinct}
+use Rattle.ir_event.specs.trees.declared.place.Place.{Place}
+use Rattle.ir_event.specs.trees.Tree.{HeadOf, OpOf, op, head, regions}
+use Rattle.ir_event.specs.trees.Ids.{ids, regions_ids, HasDistinctIds, find, regions_find}
+use Rattle.ir_event.specs.trees.Edits.{each_head}
+use Rattle.ir_event.specs.trees.Places.{put, put_found, without, shifted}
+use Rattle.ir_event.proofs.of_trees.Gained.{Apart, gained_distinct}
+use Rattle.ir_event.proofs.of_trees.Heads.{Alike, head_ids, head_find}
+use Rattle.ir_event.proofs.of_trees.Left.{left_distinct}
+use Rattle.ir_event.proofs.of_trees.Moves.{Absent, absent_parts, without_absent}
+use Rattle.ir_event.proofs.of_trees.Returns.{Present, absent_first, absent_join, halves}
+use Rattle.ir_event.proofs.of_tree_laws.Around.{absent_find}
+use Rattle.ir_event.proofs.of_tree_laws.Cuts.{one_cut, absent_before}
+use Rattle.ir_event.proofs.of_tree_laws.Put.{put_find}
+use Rattle.ir_event.proofs.of_tree_laws.Shift.{own_distinct}
 use Rattle.greedy.proofs.Cut.{MayCome, put_may, put_outside, found_present, not_root, without_ids, without_found, found_within}
 use Rattle.std.proofs.lemmas.Bool.{cases_Bool}
 use Rattle.rewriter_laws.proofs.Trees.{found_id}
-use Rattle.ir_tree.proofs.Facts.{ids_head}
+use Rattle.ir_event.proofs.of_trees.Facts.{ids_head}
 
 -- operations by their ids, each with the ids of what stands in it
 abbrev pub Wide : Type 0

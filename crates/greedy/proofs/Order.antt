@@ -2,9 +2,9 @@
 use Rattle.std.proofs.Common.{◌≡◌, refl, ap, sym, ◌∙◌, ℕ, zero, suc, ◌+◌, ◌<◌, inl, inr, Bool, true, false, cond, eqb, eqb-true, eq-eqb, List, [], ◌∷◌, true≢false, arith, length, Some, None}
 use Rattle.std.specs.List.{IsDistinct}
 use Rattle.std.proofs.lemmas.Map.Keys.{IsDistinct-tail}
-use Rattle.ir_tree.proofs.Returns.{absent_first}
-use Rattle.ir_tree_laws.specs.Reads.{comes_after}
-use Rattle.ir_tree_laws.proofs.Listed.{bool_cases}
+use Rattle.ir_event.proofs.of_trees.Returns.{absent_first}
+use Rattle.ir_event.specs.tree_laws.Reads.{comes_after}
+use Rattle.ir_event.proofs.of_tree_laws.Listed.{bool_cases}
 use Rattle.greedy.specs.Following.{first_id, comes_next}
 use Rattle.greedy.specs.Work.{count_after}
 use Rattle.greedy.proofs.Listed.{listed_past, listed_at, listed_more, after_at, after_past, second_there}

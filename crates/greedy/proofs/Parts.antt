@@ -2,8 +2,8 @@
 use Rattle.std.proofs.Common.{◌≡◌, refl, ap, sym, ◌∙◌, ℕ, true, false, eqb, eqb-true, List, [], ◌∷◌, ◌++◌, true≢false, inl, inr, ◌⊎◌}
 use Rattle.std.specs.List.{IsDistinct, list_any}
 use Rattle.std.proofs.lemmas.Map.Keys.{IsDistinct-tail}
-use Rattle.ir_tree.proofs.Returns.{absent_first}
-use Rattle.ir_tree_laws.specs.Reads.{comes_after}
+use Rattle.ir_event.proofs.of_trees.Returns.{absent_first}
+use Rattle.ir_event.specs.tree_laws.Reads.{comes_after}
 use Rattle.greedy.proofs.Listed.{Listed, listed_at, listed_more, listed_past, second_there, after_at, after_past}
 use Rattle.std.proofs.lemmas.Bool.{cases_Bool}
 

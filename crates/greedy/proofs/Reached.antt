@@ -1,14 +1,14 @@
 -- What ends blocks, and what an event reaches, as it is listed.
 use Rattle.std.proofs.Common.{◌≡◌, refl, ap, sym, ◌∙◌, subst, ℕ, ◌+◌, ◌<◌, ◌≤◌, true, true≢false, ◌||◌, eqb, eq-eqb, eqb-true, List, [], ◌∷◌, length, Option, Some, None, inl, inr, ◌⊎◌, arith}
 use Rattle.std.specs.Prelude.{option_map}
-use Rattle.ir_tree.specs.declared.value.Value.TheVariants.{Result, Arg}
-use Rattle.ir_tree.specs.declared.place.Place.{Place}
-use Rattle.ir_tree.specs.Tree.{Op, op, RegionsOf, no_regions, region, regions, region_count}
-use Rattle.ir_tree.specs.Ids.{HasDistinctIds, find}
-use Rattle.ir_tree.specs.Places.{place_of}
-use Rattle.ir_store.specs.Nodes.{Node, node_of, regions_arguments}
-use Rattle.ir_tree_laws.specs.Reads.{last_at}
-use Rattle.ir_tree_laws.proofs.Listed.{bool_cases, either, both}
+use Rattle.ir_event.specs.trees.declared.value.Value.TheVariants.{Result, Arg}
+use Rattle.ir_event.specs.trees.declared.place.Place.{Place}
+use Rattle.ir_event.specs.trees.Tree.{Op, op, RegionsOf, no_regions, region, regions, region_count}
+use Rattle.ir_event.specs.trees.Ids.{HasDistinctIds, find}
+use Rattle.ir_event.specs.trees.Places.{place_of}
+use Rattle.ir_event.specs.store.Nodes.{Node, node_of, regions_arguments}
+use Rattle.ir_event.specs.tree_laws.Reads.{last_at}
+use Rattle.ir_event.proofs.of_tree_laws.Listed.{bool_cases, either, both}
 use Rattle.greedy.specs.Reached.{is_end, ends, at_end}
 use Rattle.greedy.specs.Adding.{Adding, Adds, OneOf}
 use Rattle.greedy.specs.Parts.{IsAround, IsOrEnds, IsOrAtEnd, Gives}

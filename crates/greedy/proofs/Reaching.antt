@@ -1,17 +1,17 @@
 -- Each event, and each list of events, leaves the surroundings of all operations that it doesn't reach.
 use Rattle.std.proofs.Common.{◌≡◌, refl, ap, sym, ◌∙◌, subst, ℕ, zero, suc, Bool, true, false, true≢false, ◌||◌, ◌&&◌, eqb, eq-eqb, List, [], ◌∷◌, map, Option, Some, None, inl, inr}
-use Rattle.ir_types.specs.Things.{Things}
-use Rattle.ir_tree.specs.declared.place.Place.{Place}
-use Rattle.ir_tree.specs.Tree.{HeadOf, OpOf, RegionsOf, no_regions, region, empty, block, OpsOf, head, regions}
-use Rattle.ir_tree.specs.Ids.{HasDistinctIds, find}
-use Rattle.ir_tree.specs.WellFormed.{ModuleOf}
-use Rattle.ir_tree_laws.specs.Changes.{Takes}
-use Rattle.ir_tree_laws.specs.Values.{region_at}
-use Rattle.ir_tree_laws.specs.Reads.{last_id, last_at}
-use Rattle.ir_tree_laws.specs.Stands.{StepOf, StandOf, stand_id, stands, left_step, left_stand}
-use Rattle.ir_tree_laws.specs.Members.{In}
-use Rattle.ir_tree_laws.proofs.Listed.{neither}
-use Rattle.ir_tree_laws.proofs.Members.{stand, found_stands}
+use Rattle.ir_event.specs.types.Things.{Things}
+use Rattle.ir_event.specs.trees.declared.place.Place.{Place}
+use Rattle.ir_event.specs.trees.Tree.{HeadOf, OpOf, RegionsOf, no_regions, region, empty, block, OpsOf, head, regions}
+use Rattle.ir_event.specs.trees.Ids.{HasDistinctIds, find}
+use Rattle.ir_event.specs.trees.WellFormed.{ModuleOf}
+use Rattle.ir_event.specs.tree_laws.Changes.{Takes}
+use Rattle.ir_event.specs.tree_laws.Values.{region_at}
+use Rattle.ir_event.specs.tree_laws.Reads.{last_id, last_at}
+use Rattle.ir_event.specs.tree_laws.Stands.{StepOf, StandOf, stand_id, stands, left_step, left_stand}
+use Rattle.ir_event.specs.tree_laws.Members.{In}
+use Rattle.ir_event.proofs.of_tree_laws.Listed.{neither}
+use Rattle.ir_event.proofs.of_tree_laws.Members.{stand, found_stands}
 use Rattle.ir_event.specs.declared.event.Event.{Event}
 use Rattle.ir_event.specs.declared.event.Event.TheVariants.{Put, Take, SetOperand, SetEntry, Shift}
 use Rattle.ir_event.specs.Modules.{Module}
@@ -25,7 +25,7 @@ use Rattle.listeners_surroundings.proofs.Near.{far_same}
 use Rattle.greedy.specs.Reached.{ends, ends_of, is_end, at_end, reaches, any_reaches}
 use Rattle.greedy.proofs.Ending.{last_ends, last_at_ends}
 use Rattle.listeners_surroundings.proofs.Locality.{taken_leaves, moved_leaves}
-use Rattle.ir_types.proofs.Truths.{unlike}
+use Rattle.ir_event.proofs.of_types.Truths.{unlike}
 
 -- a place that isn't the end of its block
 pub not_end : (place : Place) → is_end place ≡ false → place.before ≡ None → ⊥

@@ -1,8 +1,8 @@
 -- Rewriting by the rules of canonicalization is canonicalization.
 use Rattle.std.proofs.Common.{◌≡◌, refl, ap, ◌∙◌, ℕ, zero, suc, ◌+◌, cond, List, [], ◌∷◌}
 use Rattle.std.specs.Prelude.{◌&&◌, nat_le}
-use Rattle.ir_types.specs.declared.refusal.Refusal.TheVariants.{BadLimit}
-use Rattle.ir_tree.specs.Ids.{ids}
+use Rattle.ir_event.specs.types.declared.refusal.Refusal.TheVariants.{BadLimit}
+use Rattle.ir_event.specs.trees.Ids.{ids}
 use Rattle.ir_event.specs.Modules.{Module}
 use Rattle.patterns_base.specs.Rewrites.{Rewrite, none, refused, becomes}
 use Rattle.patterns_base.specs.Canonicalization.{Canonical, canonical_from, canonicalization_of, end_of, ended, first_among, go_on, greedy_rules, lowest, most_rewrites, next_rewrite, or_else, stopped}

@@ -1,9 +1,9 @@
 -- Operations that aren't listed see what they saw.
 use Rattle.std.proofs.Common.{◌≡◌, refl, ap, sym, ◌∙◌, ℕ, Bool, true, false, true≢false, List, map, Option, Some, None}
 use Rattle.std.specs.Prelude.{option_and_then}
-use Rattle.ir_types.specs.Things.{Things}
-use Rattle.ir_tree.specs.declared.value.Value.{Value}
-use Rattle.ir_tree_laws.specs.Members.{In}
+use Rattle.ir_event.specs.types.Things.{Things}
+use Rattle.ir_event.specs.trees.declared.value.Value.{Value}
+use Rattle.ir_event.specs.tree_laws.Members.{In}
 use Rattle.ir_event.specs.declared.event.Event.{Event}
 use Rattle.ir_event.specs.Modules.{Module}
 use Rattle.ir_event.specs.Step.{Steps}

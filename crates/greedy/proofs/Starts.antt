@@ -1,17 +1,17 @@
 -- Where an operation stands in a tree, and the operations of a block in it.
 use Rattle.std.proofs.Common.{◌≡◌, refl, ap, sym, ◌∙◌, ℕ, zero, suc, ◌≤◌, false, true≢false, eqb, eq-eqb, List, [], ◌∷◌, ◌++◌, length, map, append_assoc, append-nil, Some, arith}
-use Rattle.ir_tree.specs.Tree.{OpOf, RegionsOf, no_regions, region, RegionOf, block, OpsOf, no_ops, next, head, regions}
-use Rattle.ir_tree.specs.Ids.{ids, regions_ids, region_ids, ops_ids, HasDistinctIds, find}
-use Rattle.ir_tree_laws.specs.Stands.{StandOf, stand_id}
-use Rattle.ir_tree_laws.specs.Values.{region_at}
-use Rattle.ir_tree_laws.proofs.Readings.{step}
-use Rattle.ir_tree_laws.proofs.Members.{stand, joined_ops, ops_child, stand_found}
-use Rattle.ir_tree_laws.proofs.Put.{child}
-use Rattle.ir_tree_laws.proofs.Shift.{Inner, inner_of, own_distinct}
-use Rattle.ir_tree_laws.proofs.Stretches.{Parted, part, parted_ids}
+use Rattle.ir_event.specs.trees.Tree.{OpOf, RegionsOf, no_regions, region, RegionOf, block, OpsOf, no_ops, next, head, regions}
+use Rattle.ir_event.specs.trees.Ids.{ids, regions_ids, region_ids, ops_ids, HasDistinctIds, find}
+use Rattle.ir_event.specs.tree_laws.Stands.{StandOf, stand_id}
+use Rattle.ir_event.specs.tree_laws.Values.{region_at}
+use Rattle.ir_event.proofs.of_tree_laws.Readings.{step}
+use Rattle.ir_event.proofs.of_tree_laws.Members.{stand, joined_ops, ops_child, stand_found}
+use Rattle.ir_event.proofs.of_tree_laws.Put.{child}
+use Rattle.ir_event.proofs.of_tree_laws.Shift.{Inner, inner_of, own_distinct}
+use Rattle.ir_event.proofs.of_tree_laws.Stretches.{Parted, part, parted_ids}
 use Rattle.greedy.proofs.Nearby.{Wide, widths, Hold, Near}
-use Rattle.ir_tree_laws.proofs.Values.{joined_more}
-use Rattle.ir_tree.proofs.Facts.{ids_head}
+use Rattle.ir_event.proofs.of_tree_laws.Values.{joined_more}
+use Rattle.ir_event.proofs.of_trees.Facts.{ids_head}
 
 module _ {N T A : Type 0} where
   -- what comes before an operation and behind it

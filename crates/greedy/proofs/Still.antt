@@ -1,22 +1,22 @@
 -- What each event leaves of the operations that it isn't about: what they have, the operation around them, and their
 -- effects.
 use Rattle.std.proofs.Common.{◌≡◌, refl, ap, sym, ◌∙◌, subst, ℕ, zero, suc, ◌+◌, false, cond, eqb, eqb-true, List, [], ◌∷◌, ◌++◌, map, Option, Some, None, inl, inr, ◌⊎◌}
-use Rattle.ir_tree.specs.Tree.{HeadOf, OpOf, op, RegionsOf, no_regions, region, RegionOf, empty, block, OpsOf, no_ops, next, head, regions}
-use Rattle.ir_tree.specs.Ids.{HasDistinctIds, find, first_of}
-use Rattle.ir_tree.specs.Places.{each_list, regions_each_list, without}
-use Rattle.ir_tree.specs.Edits.{each_head, regions_each_head, ops_each_head, at}
-use Rattle.ir_store.specs.Nodes.{node_of, regions_arguments}
-use Rattle.ir_tree_laws.specs.Changes.{HoldNone}
-use Rattle.ir_tree_laws.specs.Reads.{last_id}
-use Rattle.ir_tree_laws.specs.Values.{region_at}
-use Rattle.ir_tree_laws.specs.Stands.{StepOf, StandOf, stand_id, stands, regions_stands, region_stands, ops_stands, is_gone, dropping, left_step, left_stand, edit_step, edit_stand}
-use Rattle.ir_tree_laws.specs.Members.{In}
-use Rattle.ir_tree_laws.proofs.Listed.{bool_cases, in_left, in_right, in_parts}
-use Rattle.ir_tree_laws.proofs.Readings.{step}
-use Rattle.ir_tree_laws.proofs.Members.{stand, itself, within, stand_found, found_stands}
-use Rattle.ir_tree_laws.proofs.Around.{Within, gone_within}
-use Rattle.ir_tree_laws.proofs.Without.{left_member, member_left}
-use Rattle.ir_tree_laws.proofs.Heads.{each_stands}
+use Rattle.ir_event.specs.trees.Tree.{HeadOf, OpOf, op, RegionsOf, no_regions, region, RegionOf, empty, block, OpsOf, no_ops, next, head, regions}
+use Rattle.ir_event.specs.trees.Ids.{HasDistinctIds, find, first_of}
+use Rattle.ir_event.specs.trees.Places.{each_list, regions_each_list, without}
+use Rattle.ir_event.specs.trees.Edits.{each_head, regions_each_head, ops_each_head, at}
+use Rattle.ir_event.specs.store.Nodes.{node_of, regions_arguments}
+use Rattle.ir_event.specs.tree_laws.Changes.{HoldNone}
+use Rattle.ir_event.specs.tree_laws.Reads.{last_id}
+use Rattle.ir_event.specs.tree_laws.Values.{region_at}
+use Rattle.ir_event.specs.tree_laws.Stands.{StepOf, StandOf, stand_id, stands, regions_stands, region_stands, ops_stands, is_gone, dropping, left_step, left_stand, edit_step, edit_stand}
+use Rattle.ir_event.specs.tree_laws.Members.{In}
+use Rattle.ir_event.proofs.of_tree_laws.Listed.{bool_cases, in_left, in_right, in_parts}
+use Rattle.ir_event.proofs.of_tree_laws.Readings.{step}
+use Rattle.ir_event.proofs.of_tree_laws.Members.{stand, itself, within, stand_found, found_stands}
+use Rattle.ir_event.proofs.of_tree_laws.Around.{Within, gone_within}
+use Rattle.ir_event.proofs.of_tree_laws.Without.{left_member, member_left}
+use Rattle.ir_event.proofs.of_tree_laws.Heads.{each_stands}
 use Rattle.op_registry.specs.declared.own.Own.{Own}
 use Rattle.effects.specs.Effects.{effects}
 use Rattle.listeners_surroundings.proofs.Left.{left_node, left_head}

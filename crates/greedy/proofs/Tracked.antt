@@ -2,23 +2,23 @@
 -- after all events.
 use Rattle.std.proofs.Common.{◌≡◌, refl, ap, sym, ◌∙◌, subst, ℕ, Bool, true, false, cond, eqb, List, [], ◌∷◌, Option, Some, None, inl, inr, ◌⊎◌}
 use Rattle.std.specs.Prelude.{option_map}
-use Rattle.ir_types.specs.Things.{Things}
-use Rattle.ir_tree.specs.declared.place.Place.{Place}
-use Rattle.ir_tree.specs.declared.place.Part.{Part}
-use Rattle.ir_tree.specs.declared.place.Part.TheVariants.{Props, Attrs}
-use Rattle.ir_tree.specs.declared.value.Value.{Value}
-use Rattle.ir_tree.specs.Tree.{HeadOf, OpOf, head}
-use Rattle.ir_tree.specs.Ids.{HasDistinctIds, find}
-use Rattle.ir_tree.specs.Places.{place_of, without}
-use Rattle.ir_tree.specs.Edits.{at, put_operand, change_part, each_head}
-use Rattle.ir_tree.specs.Meaning.{Operation}
-use Rattle.ir_tree_laws.specs.Reads.{parent_of}
-use Rattle.ir_tree_laws.specs.Stands.{StandOf, stand_id, stands}
-use Rattle.ir_tree_laws.specs.Members.{In}
-use Rattle.ir_tree_laws.proofs.Listed.{bool_cases}
-use Rattle.ir_tree_laws.proofs.Members.{stand_found, found_stands, within}
-use Rattle.ir_tree_laws.proofs.Around.{left_apart, member_of_place}
-use Rattle.ir_tree_laws.proofs.Without.{member_left}
+use Rattle.ir_event.specs.types.Things.{Things}
+use Rattle.ir_event.specs.trees.declared.place.Place.{Place}
+use Rattle.ir_event.specs.trees.declared.place.Part.{Part}
+use Rattle.ir_event.specs.trees.declared.place.Part.TheVariants.{Props, Attrs}
+use Rattle.ir_event.specs.trees.declared.value.Value.{Value}
+use Rattle.ir_event.specs.trees.Tree.{HeadOf, OpOf, head}
+use Rattle.ir_event.specs.trees.Ids.{HasDistinctIds, find}
+use Rattle.ir_event.specs.trees.Places.{place_of, without}
+use Rattle.ir_event.specs.trees.Edits.{at, put_operand, change_part, each_head}
+use Rattle.ir_event.specs.trees.Meaning.{Operation}
+use Rattle.ir_event.specs.tree_laws.Reads.{parent_of}
+use Rattle.ir_event.specs.tree_laws.Stands.{StandOf, stand_id, stands}
+use Rattle.ir_event.specs.tree_laws.Members.{In}
+use Rattle.ir_event.proofs.of_tree_laws.Listed.{bool_cases}
+use Rattle.ir_event.proofs.of_tree_laws.Members.{stand_found, found_stands, within}
+use Rattle.ir_event.proofs.of_tree_laws.Around.{left_apart, member_of_place}
+use Rattle.ir_event.proofs.of_tree_laws.Without.{member_left}
 use Rattle.ir_event.specs.declared.event.Event.{Event}
 use Rattle.ir_event.specs.declared.event.Event.TheVariants.{Put, Take, SetOperand, SetEntry, Shift}
 use Rattle.ir_event.specs.Modules.{Module}
@@ -32,7 +32,7 @@ use Rattle.greedy.specs.Near.{subject, outer_ids, Unclimbed}
 use Rattle.greedy.proofs.Feeling.{climbed_from}
 use Rattle.greedy.proofs.Still.{goes_out, goes_in, goes_on, all_edited}
 use Rattle.greedy.proofs.Tracking.{Kept, kept_by, kept_like, climbs_on, climbs_past, climbs_round, feels_up, same_effects}
-use Rattle.ir_tree.proofs.Facts.{part_id, part_operands}
+use Rattle.ir_event.proofs.of_trees.Facts.{part_id, part_operands}
 
 -- heads of the two kinds of edits keep id and name
 pub operand_id : {N T A : Type 0} (x k : ℕ) (v : Value) (h : HeadOf N T A) → (at x (put_operand k v) h).id ≡ h.id

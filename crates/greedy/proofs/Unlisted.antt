@@ -2,29 +2,29 @@
 use Rattle.std.proofs.Common.{◌≡◌, refl, ap, sym, ◌∙◌, subst, ℕ, true, false, ◌&&◌, List, [], ◌∷◌, map, Option, Some, None}
 use Rattle.std.specs.Prelude.{option_map, option_and_then, is_some}
 use Rattle.std.specs.List.{list_all}
-use Rattle.ir_types.specs.Terms.{TypeTerm, AttrTerm}
-use Rattle.ir_types.specs.Words.{is_inherent}
-use Rattle.ir_tree.specs.declared.value.Value.{Value}
-use Rattle.ir_tree.specs.declared.value.Value.TheVariants.{Result, Arg}
-use Rattle.ir_tree.specs.declared.place.Place.{Place}
-use Rattle.ir_tree.specs.Tree.{op, RegionOf, empty, block, OpsOf, no_ops, next, head, regions}
-use Rattle.ir_tree.specs.Ids.{HasDistinctIds, first_of, find, has_id}
-use Rattle.ir_tree.specs.Places.{place_of}
-use Rattle.ir_tree.specs.Meaning.{Operation}
-use Rattle.ir_store.specs.Nodes.{node_of}
-use Rattle.ir_tree_laws.specs.Members.{In}
-use Rattle.ir_tree_laws.specs.Reads.{last_id, ops_in}
-use Rattle.ir_tree_laws.specs.Values.{region_at, type_of_value}
-use Rattle.ir_tree_laws.specs.Stands.{StepOf, StandOf, stand_id, stands, stand_of, place_in}
-use Rattle.ir_tree_laws.proofs.Readings.{stands_find}
-use Rattle.ir_tree_laws.proofs.Members.{stand, joined_ops, member, stand_found, stand_of_member, found_stands, same_stand}
-use Rattle.ir_tree_laws.proofs.Around.{place_of_member, member_of_place, present_stand, stand_present}
+use Rattle.ir_event.specs.types.Terms.{TypeTerm, AttrTerm}
+use Rattle.ir_event.specs.types.Words.{is_inherent}
+use Rattle.ir_event.specs.trees.declared.value.Value.{Value}
+use Rattle.ir_event.specs.trees.declared.value.Value.TheVariants.{Result, Arg}
+use Rattle.ir_event.specs.trees.declared.place.Place.{Place}
+use Rattle.ir_event.specs.trees.Tree.{op, RegionOf, empty, block, OpsOf, no_ops, next, head, regions}
+use Rattle.ir_event.specs.trees.Ids.{HasDistinctIds, first_of, find, has_id}
+use Rattle.ir_event.specs.trees.Places.{place_of}
+use Rattle.ir_event.specs.trees.Meaning.{Operation}
+use Rattle.ir_event.specs.store.Nodes.{node_of}
+use Rattle.ir_event.specs.tree_laws.Members.{In}
+use Rattle.ir_event.specs.tree_laws.Reads.{last_id, ops_in}
+use Rattle.ir_event.specs.tree_laws.Values.{region_at, type_of_value}
+use Rattle.ir_event.specs.tree_laws.Stands.{StepOf, StandOf, stand_id, stands, stand_of, place_in}
+use Rattle.ir_event.proofs.of_tree_laws.Readings.{stands_find}
+use Rattle.ir_event.proofs.of_tree_laws.Members.{stand, joined_ops, member, stand_found, stand_of_member, found_stands, same_stand}
+use Rattle.ir_event.proofs.of_tree_laws.Around.{place_of_member, member_of_place, present_stand, stand_present}
 use Rattle.ir_verify.specs.Breaks.{broken}
 use Rattle.listeners_surroundings.specs.Surroundings.{SurroundingsOf, surround, surroundings, outer_of}
 use Rattle.patterns_laws.specs.Keeps.{given}
 use Rattle.patterns_base.specs.Looks.{Header, Ended, ended, ended_by, breaks_none, is_clean, in_front, front_of}
 use Rattle.greedy.specs.Sights.{giver as giver_id}
-use Rattle.patterns_facts.specs.Alike.{ShowsAlike, last_of}
+use Rattle.patterns.specs.facts.Alike.{ShowsAlike, last_of}
 use Rattle.listeners_surroundings.proofs.Lasts.{split_last, last_stands}
 use Rattle.greedy.proofs.Lasting.{last_in}
 

@@ -1,30 +1,30 @@
 -- The users of an operation, by the uses of its results.
 use Rattle.std.proofs.Common.{◌≡◌, refl, ap, sym, ◌∙◌, subst, ℕ, zero, suc, ◌+◌, ◌<◌, ◌≤◌, Bool, true, false, true≢false, cond, ◌||◌, ◌&&◌, eqb, eq-eqb, eqb-true, List, [], ◌∷◌, length, Option, Some, None, inl, inr, ◌⊎◌, arith}
 use Rattle.std.specs.Prelude.{option_map, option_and_then, is_some, slice_get}
-use Rattle.ir_tree.specs.declared.value.Value.{Value}
-use Rattle.ir_tree.specs.declared.value.Value.TheVariants.{Result, Arg}
-use Rattle.ir_tree.specs.Tree.{Op, op, head}
-use Rattle.ir_tree.specs.Ids.{find}
-use Rattle.ir_tree.specs.Meaning.{isolated_in}
-use Rattle.ir_tree.specs.Uses.{same_value, operand_uses, uses_of}
-use Rattle.ir_store.specs.Nodes.{Node, node_of}
-use Rattle.ir_store.specs.Using.{is_use, same_use, AreUses}
-use Rattle.ir_tree_laws.specs.Values.{has_value}
-use Rattle.ir_tree_laws.specs.Stands.{StandOf, stand_id, stands, stand_of, sees}
-use Rattle.ir_tree_laws.specs.Members.{In}
-use Rattle.ir_tree_laws.proofs.Listed.{both_hold, bool_cases, all_each}
-use Rattle.ir_tree_laws.proofs.Readings.{stands_uses}
-use Rattle.ir_tree_laws.proofs.Members.{member}
-use Rattle.ir_tree_laws.proofs.HeadForm.{in_gather}
-use Rattle.ir_tree_laws.proofs.Values.{seen_by}
-use Rattle.ir_tree_laws.proofs.Formed.{from_formed}
+use Rattle.ir_event.specs.trees.declared.value.Value.{Value}
+use Rattle.ir_event.specs.trees.declared.value.Value.TheVariants.{Result, Arg}
+use Rattle.ir_event.specs.trees.Tree.{Op, op, head}
+use Rattle.ir_event.specs.trees.Ids.{find}
+use Rattle.ir_event.specs.trees.Meaning.{isolated_in}
+use Rattle.ir_event.specs.trees.Uses.{same_value, operand_uses, uses_of}
+use Rattle.ir_event.specs.store.Nodes.{Node, node_of}
+use Rattle.ir_event.specs.store.Using.{is_use, same_use, AreUses}
+use Rattle.ir_event.specs.tree_laws.Values.{has_value}
+use Rattle.ir_event.specs.tree_laws.Stands.{StandOf, stand_id, stands, stand_of, sees}
+use Rattle.ir_event.specs.tree_laws.Members.{In}
+use Rattle.ir_event.proofs.of_tree_laws.Listed.{both_hold, bool_cases, all_each}
+use Rattle.ir_event.proofs.of_tree_laws.Readings.{stands_uses}
+use Rattle.ir_event.proofs.of_tree_laws.Members.{member}
+use Rattle.ir_event.proofs.of_tree_laws.HeadForm.{in_gather}
+use Rattle.ir_event.proofs.of_tree_laws.Values.{seen_by}
+use Rattle.ir_event.proofs.of_tree_laws.Formed.{from_formed}
 use Rattle.ir_event.specs.declared.world.World.{World}
 use Rattle.listeners_surroundings.specs.Surroundings.{surround}
 use Rattle.greedy.specs.Sights.{Uses, giver, operands_of}
 use Rattle.greedy.specs.Adding.{Adding, Adds}
 use Rattle.greedy.specs.Parts.{IsIn, IsUser}
 use Rattle.greedy.proofs.Adding.{adding_none, adding_more, adding_done}
-use Rattle.ir_tree.proofs.Replaced.{same_value_refl}
+use Rattle.ir_event.proofs.of_trees.Replaced.{same_value_refl}
 
 -- a use is listed where its operand is
 listed_use : (v : Value) (x k : ℕ) (vs : List Value) → In v vs → (j : ℕ) × In (x, j) (operand_uses v x k vs)

@@ -3,22 +3,22 @@
 use Rattle.std.proofs.Common.{◌≡◌, refl, ap, sym, ◌∙◌, subst, ℕ, zero, suc, Bool, true, false, true≢false, cond, ◌&&◌, not, eqb, eq-eqb, eqb-true, List, [], ◌∷◌, Some, inl, inr, ◌⊎◌, slice_get}
 use Rattle.std.specs.Prelude.{option_map, option_and_then, slice_set}
 use Rattle.std.specs.List.{list_all}
-use Rattle.ir_types.specs.Things.{Things}
-use Rattle.ir_types.specs.Terms.{TypeTerm, AttrTerm, name_term, attr_term}
-use Rattle.ir_tree.specs.declared.place.Place.{Place}
-use Rattle.ir_tree.specs.declared.value.Value.{Value}
-use Rattle.ir_tree.specs.declared.value.Value.TheVariants.{Result, Arg}
-use Rattle.ir_tree.specs.Tree.{HeadOf, OpOf, op, head}
-use Rattle.ir_tree.specs.Ids.{HasDistinctIds, find}
-use Rattle.ir_tree.specs.Edits.{at, put_operand, change_part, change_entry, each_head}
-use Rattle.ir_tree.specs.Meaning.{Operation, key_before}
-use Rattle.ir_store.specs.Nodes.{node_of}
-use Rattle.ir_tree_laws.specs.Changes.{operand_at}
-use Rattle.ir_tree_laws.specs.Stands.{StandOf, stand_id, stands, edit_stand}
-use Rattle.ir_tree_laws.specs.Members.{In}
-use Rattle.ir_tree_laws.proofs.Listed.{bool_cases, each_all, all_each}
-use Rattle.ir_tree_laws.proofs.Readings.{stands_every}
-use Rattle.ir_tree_laws.proofs.Members.{stand_found, found_stands}
+use Rattle.ir_event.specs.types.Things.{Things}
+use Rattle.ir_event.specs.types.Terms.{TypeTerm, AttrTerm, name_term, attr_term}
+use Rattle.ir_event.specs.trees.declared.place.Place.{Place}
+use Rattle.ir_event.specs.trees.declared.value.Value.{Value}
+use Rattle.ir_event.specs.trees.declared.value.Value.TheVariants.{Result, Arg}
+use Rattle.ir_event.specs.trees.Tree.{HeadOf, OpOf, op, head}
+use Rattle.ir_event.specs.trees.Ids.{HasDistinctIds, find}
+use Rattle.ir_event.specs.trees.Edits.{at, put_operand, change_part, change_entry, each_head}
+use Rattle.ir_event.specs.trees.Meaning.{Operation, key_before}
+use Rattle.ir_event.specs.store.Nodes.{node_of}
+use Rattle.ir_event.specs.tree_laws.Changes.{operand_at}
+use Rattle.ir_event.specs.tree_laws.Stands.{StandOf, stand_id, stands, edit_stand}
+use Rattle.ir_event.specs.tree_laws.Members.{In}
+use Rattle.ir_event.proofs.of_tree_laws.Listed.{bool_cases, each_all, all_each}
+use Rattle.ir_event.proofs.of_tree_laws.Readings.{stands_every}
+use Rattle.ir_event.proofs.of_tree_laws.Members.{stand_found, found_stands}
 use Rattle.ir_event.specs.declared.event.Event.{Event}
 use Rattle.ir_event.specs.declared.event.Event.TheVariants.{Put, Take, SetOperand, SetEntry, Shift}
 use Rattle.ir_event.specs.Modules.{Module}
@@ -30,8 +30,8 @@ use Rattle.greedy.specs.Near.{moved_values, Leads, IsShown, Ungiven}
 use Rattle.greedy.proofs.Still.{Like, Goes, goes_out, goes_in, goes_on, goes_edited, edited_there, edit_id}
 use Rattle.greedy.proofs.Tracked.{operand_id, operand_name, part_name, gone_found}
 use Rattle.ir_event.proofs.Facts.{found_id}
-use Rattle.ir_tree.proofs.Facts.{part_id, part_operands}
-use Rattle.ir_types.proofs.Truths.{same_bool}
+use Rattle.ir_event.proofs.of_trees.Facts.{part_id, part_operands}
+use Rattle.ir_event.proofs.of_types.Truths.{same_bool}
 
 -- ---- tests of all operations
 

@@ -1,6 +1,6 @@
 -- Lists of operations that grow: what they have for sure, and what is still to come.
 use Rattle.std.specs.Prelude.{◌≡◌, ◌⊎◌, ℕ, List, true}
-use Rattle.ir_tree_laws.specs.Members.{In}
+use Rattle.ir_event.specs.tree_laws.Members.{In}
 use Rattle.greedy.specs.Sights.{is_listed}
 
 -- what was listed still is, and so is each of which P holds

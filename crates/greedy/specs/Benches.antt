@@ -1,8 +1,8 @@
 -- Benches under the driver.
 use Rattle.std.specs.Prelude.{◌<◌, All}
-use Rattle.ir_types.specs.Things.{Grows}
-use Rattle.ir_types.specs.Sound.{Holds}
-use Rattle.ir_tree.specs.Ids.{ids, HasDistinctIds}
+use Rattle.ir_event.specs.types.Things.{Grows}
+use Rattle.ir_event.specs.types.Sound.{Holds}
+use Rattle.ir_event.specs.trees.Ids.{ids, HasDistinctIds}
 use Rattle.ir_event.specs.Listener.{Listener}
 use Rattle.ir_event.specs.Modules.{Module}
 use Rattle.patterns.specs.Benched.{Benched, Led}

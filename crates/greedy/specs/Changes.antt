@@ -1,6 +1,6 @@
 -- Canonicalization, and rewriting by a list of rules, as transformations of the machine.
 use Rattle.std.specs.Prelude.{ℕ, List, true, None, Result, Ok, Err}
-use Rattle.ir_types.specs.declared.refusal.Refusal.{Refusal}
+use Rattle.ir_event.specs.types.declared.refusal.Refusal.{Refusal}
 use Rattle.ir_event.specs.Modules.{Module}
 use Rattle.rewriter_machine.specs.Machine.{Fault, Outcome, Reply, Refused, DoneWith, Transformation}
 use Rattle.rewriter_machine.specs.Machine as machine

@@ -1,9 +1,10 @@
 -- Operations around one, as far as each has the effects of what is directly inside it.
 use Rattle.std.specs.Prelude.{◌≡◌, ℕ, zero, suc, Bool, true, false, ◌&&◌, ◌||◌, eqb, Option, Some, None}
-use Rattle.ir_tree.specs.Tree.{OpOf, op, RegionsOf, no_regions, region, RegionOf, empty, block, OpsOf, no_ops, next}
-use Rattle.ir_tree.specs.Tree.{head}
-use Rattle.ir_tree.specs.Ids.{find}
-use Rattle.ir_tree_laws.specs.Reads.{parent_of}
+use Rattle.ir_event.specs.trees.Tree.{OpOf, op, RegionsOf, no_regions, region}
+use Rattle.ir_event.specs.trees.Tree.{RegionOf, empty, block, OpsOf, no_ops, next}
+use Rattle.ir_event.specs.trees.Tree.{head}
+use Rattle.ir_event.specs.trees.Ids.{find}
+use Rattle.ir_event.specs.tree_laws.Reads.{parent_of}
 use Rattle.op_registry.specs.declared.own.Own.{Own}
 use Rattle.effects.specs.Effects.{is_recursive}
 

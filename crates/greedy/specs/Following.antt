@@ -1,9 +1,9 @@
 -- The operation after another in pre-order.
 use Rattle.std.specs.Prelude.{◌≡◌, ◌≤◌, ℕ, zero, suc, ◌+◌, List, [], ◌∷◌, ◌++◌, length, eqb, if◌then◌else◌, Option}
 use Rattle.std.specs.Prelude.{Some, None}
-use Rattle.ir_tree.specs.Tree.{OpOf, RegionsOf, no_regions, region, regions, region_count}
-use Rattle.ir_tree.specs.Ids.{ids, find, regions_ids, ops_ids}
-use Rattle.ir_tree_laws.specs.Stands.{StepOf, StandOf}
+use Rattle.ir_event.specs.trees.Tree.{OpOf, RegionsOf, no_regions, region, regions, region_count}
+use Rattle.ir_event.specs.trees.Ids.{ids, find, regions_ids, ops_ids}
+use Rattle.ir_event.specs.tree_laws.Stands.{StepOf, StandOf}
 
 -- the first of a list
 abbrev pub first_id : List ℕ → Option ℕ

@@ -1,12 +1,12 @@
 -- What the calls of a bench keep beside, once and twice.
 use Rattle.std.proofs.Common.{ap, ℕ, ◌≤◌, List, ◌++◌, [], length, length-append, inl, inr, arith}
-use Rattle.ir_types.specs.Things.{Things, Grows, IsFront}
-use Rattle.ir_types.specs.Limits.{most_things}
+use Rattle.ir_event.specs.types.Things.{Things, Grows, IsFront}
+use Rattle.ir_event.specs.types.Limits.{most_things}
 use Rattle.ir_types.proofs.Growth.{grows_refl, grows_trans}
 use Rattle.ir_event.specs.Listener.{Listener}
 use Rattle.patterns.specs.Benched.{Benched}
 use Rattle.patterns.specs.runs.Interning.{IsFull}
-use Rattle.rewriter.proofs.Told.{heard_none, heard_more}
+use Rattle.patterns.proofs.Told.{heard_none, heard_more}
 use Rattle.greedy.specs.Benches.{Onward}
 
 front_longer : {A : Type 0} (n : ℕ) (xs ys : List A) → IsFront xs ys → n ≤ length xs → n ≤ length ys

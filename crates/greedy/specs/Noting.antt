@@ -1,6 +1,6 @@
 -- Marks under which rewrites are noted.
 use Rattle.std.specs.Prelude.{[], ◌∷◌, ◌++◌, false, length}
-use Rattle.rewriter.specs.Held.{Held}
+use Rattle.patterns.specs.rewriter.Held.{Held}
 
 -- a mark more, which isn't counted, at the end of the journal
 abbrev pub marked : Held → Held

@@ -1,8 +1,8 @@
 -- The order of operations, before and after a rewrite.
 use Rattle.std.specs.Prelude.{◌≡◌, ◌<◌, All, ℕ, true}
-use Rattle.ir_tree.specs.Ids.{ids, has_id, HasDistinctIds}
-use Rattle.ir_tree.specs.Tree.{head}
-use Rattle.ir_tree_laws.specs.Reads.{precedes}
+use Rattle.ir_event.specs.trees.Ids.{ids, has_id, HasDistinctIds}
+use Rattle.ir_event.specs.trees.Tree.{head}
+use Rattle.ir_event.specs.tree_laws.Reads.{precedes}
 use Rattle.ir_event.specs.Modules.{Module}
 use Rattle.patterns_base.specs.Rewrites.{none, becomes}
 use Rattle.patterns_base.specs.Canonicalization.{lowest}

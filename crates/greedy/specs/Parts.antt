@@ -1,10 +1,10 @@
 -- What is listed, part by part, as read from a world.
 use Rattle.std.specs.Prelude.{◌≡◌, ◌⊎◌, ℕ, eqb, List, [], ◌∷◌, Bool, true, false, ◌||◌, Some}
-use Rattle.ir_tree.specs.declared.value.Value.{Value}
-use Rattle.ir_tree.specs.declared.place.Place.{Place}
-use Rattle.ir_tree.specs.Tree.{OpOf}
-use Rattle.ir_tree.specs.Uses.{uses_of}
-use Rattle.ir_store.specs.Using.{is_use}
+use Rattle.ir_event.specs.trees.declared.value.Value.{Value}
+use Rattle.ir_event.specs.trees.declared.place.Place.{Place}
+use Rattle.ir_event.specs.trees.Tree.{OpOf}
+use Rattle.ir_event.specs.trees.Uses.{uses_of}
+use Rattle.ir_event.specs.store.Using.{is_use}
 use Rattle.ir_event.specs.declared.event.Event.{Event}
 use Rattle.ir_event.specs.declared.event.Event.TheVariants.{Put, Take, SetOperand, SetEntry, Shift}
 use Rattle.ir_event.specs.declared.world.World.{World}

@@ -1,11 +1,11 @@
 -- Which operations an event can give other surroundings, told from the module that is held at the end: from an event's
 -- own words, and from which operations end a block there.
 use Rattle.std.specs.Prelude.{ℕ, List, [], ◌∷◌, Bool, true, false, ◌&&◌, ◌||◌, eqb, Option, Some, None}
-use Rattle.ir_tree.specs.declared.place.Place.{Place}
-use Rattle.ir_tree.specs.Tree.{OpOf}
+use Rattle.ir_event.specs.trees.declared.place.Place.{Place}
+use Rattle.ir_event.specs.trees.Tree.{OpOf}
 use Rattle.ir_event.specs.declared.event.Event.{Event}
 use Rattle.ir_event.specs.declared.event.Event.TheVariants.{Put, Take, SetOperand, SetEntry, Shift}
-use Rattle.ir_store.specs.Nodes.{NodeOf}
+use Rattle.ir_event.specs.store.Nodes.{NodeOf}
 use Rattle.listeners_surroundings.specs.Surroundings.{SurroundingsOf, OuterOf, surroundings}
 
 -- whether a place is the end of its block

@@ -2,8 +2,8 @@
 -- applies, with the first of the list that does, again and again, up to a limit. By the rules of canonicalization, in
 -- the order of their numbers, it is canonicalization.
 use Rattle.std.specs.Prelude.{◌≡◌, ℕ, zero, suc, ◌+◌, ◌&&◌, nat_le, List, [], ◌∷◌, if◌then◌else◌}
-use Rattle.ir_types.specs.declared.refusal.Refusal.TheVariants.{BadLimit}
-use Rattle.ir_tree.specs.Ids.{ids}
+use Rattle.ir_event.specs.types.declared.refusal.Refusal.TheVariants.{BadLimit}
+use Rattle.ir_event.specs.trees.Ids.{ids}
 use Rattle.ir_event.specs.Modules.{Module}
 use Rattle.patterns_base.specs.declared.rule.Rule.{Rule}
 use Rattle.patterns_base.specs.Rewrites.{Rewrite, none}

@@ -1,8 +1,8 @@
 -- What a store shows of operations.
 use Rattle.std.specs.Prelude.{ℕ, List, [], Option, Some, None}
-use Rattle.ir_tree.specs.declared.value.Value.{Value}
-use Rattle.ir_tree.specs.Tree.{Op, head}
-use Rattle.ir_store.specs.Stored.{Stored, known}
+use Rattle.ir_event.specs.trees.declared.value.Value.{Value}
+use Rattle.ir_event.specs.trees.Tree.{Op, head}
+use Rattle.ir_event.specs.store.Stored.{Stored, known}
 
 -- the operands of an operation that there may be
 abbrev pub operands_found : Option Op → List Value

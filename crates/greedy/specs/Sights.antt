@@ -3,11 +3,11 @@
 use Rattle.std.specs.Prelude.{◌≡◌, ℕ, List, [], ◌∷◌, Bool, true, map, Option, Some, None, option_and_then}
 use Rattle.std.specs.List.{list_any}
 use Rattle.std.specs.Prelude.{eqb}
-use Rattle.ir_tree.specs.declared.value.Value.{Value}
-use Rattle.ir_tree.specs.declared.value.Value.TheVariants.{Result, Arg}
-use Rattle.ir_tree.specs.Tree.{OpOf, RegionsOf, no_regions, region}
-use Rattle.ir_tree_laws.specs.Reads.{ops_in, last_id}
-use Rattle.ir_tree_laws.specs.Members.{In}
+use Rattle.ir_event.specs.trees.declared.value.Value.{Value}
+use Rattle.ir_event.specs.trees.declared.value.Value.TheVariants.{Result, Arg}
+use Rattle.ir_event.specs.trees.Tree.{OpOf, RegionsOf, no_regions, region}
+use Rattle.ir_event.specs.tree_laws.Reads.{ops_in, last_id}
+use Rattle.ir_event.specs.tree_laws.Members.{In}
 use Rattle.listeners_surroundings.specs.Surroundings.{SurroundingsOf, surroundings}
 use Rattle.greedy.specs.Reached.{ends}
 

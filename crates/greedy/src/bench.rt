@@ -1,10 +1,10 @@
 //! Benches with the rules of canonicalization.
 ghost use Rattle.std.specs.Prelude.{◌≡◌, [], is_some, IfErr, IfOk, MatchResult, OnErr};
-ghost use Rattle.ir_types.specs.Things.{Grows};
+ghost use Rattle.ir_event.specs.types.Things.{Grows};
 ghost use Rattle.patterns_base.specs.Canonicalization.{first_rule};
 ghost use Rattle.patterns.specs.Rows.{AreCanonical};
 ghost use Rattle.rewriter_machine.specs.Machine.{Change, IsFullSo};
-ghost use Rattle.rewriter.specs.Moves.{Recorded};
+ghost use Rattle.patterns.specs.rewriter.Moves.{Recorded};
 ghost use Rattle.patterns.specs.runs.Runs.{Noted};
 ghost use Rattle.patterns.specs.Applied.{Applied as IsApplied, Gave, IsReason as IsFailure};
 ghost use Rattle.patterns.specs.Benched.{Does, Keeps, Led, state_of};
@@ -21,14 +21,14 @@ use crate::rules::Rules;
 use crate::run::{run, run_list};
 use crate::walk::{following, precedes, preceding};
 use ir_event::analysis::Analysis;
-use ir_types::ids::OpId;
-use ir_types::refusal::Refusal;
+use ir_event::types::ids::OpId;
+use ir_event::types::refusal::Refusal;
 use patterns::first::first;
 use patterns::lowest::lowest;
+use patterns::rewriter::Bench;
+use patterns::rewriter::finish::finish;
+use patterns::rewriter::laws::led_benches_are_kept;
 use patterns_base::rule::Rule;
-use rewriter::Bench;
-use rewriter::finish::finish;
-use rewriter::laws::led_benches_are_kept;
 use std::alloc::Global;
 
 /// Applies the first of a run's rules that applies at an operation, or leaves the module, its marks and the journal as

@@ -7,10 +7,10 @@ ghost use Rattle.greedy.specs.Shown.{shown_operands};
 use crate::climb::push_outer;
 use crate::push::push;
 use ir_event::event::Event;
+use ir_event::store::store::Store;
+use ir_event::trees::value::Value;
+use ir_event::types::ids::OpId;
 use ir_event::world::World;
-use ir_store::store::Store;
-use ir_tree::value::Value;
-use ir_types::ids::OpId;
 use std::alloc::AllocError;
 
 /// Lists the operation that gives a value as a result.

@@ -1,15 +1,15 @@
 //! Operations that end blocks, and the operations around them.
 ghost use Rattle.std.specs.Prelude.{◌≡◌, OnOk, true, Some};
-ghost use Rattle.ir_tree_laws.specs.Reads.{last_at};
+ghost use Rattle.ir_event.specs.tree_laws.Reads.{last_at};
 ghost use Rattle.greedy.specs.Reached.{at_end, ends};
 ghost use Rattle.greedy.specs.Adding.{Adds, OneOf};
 ghost use Rattle.greedy.specs.Parts.{IsAround, IsOrAtEnd, IsOrEnds};
 
 use crate::push::push;
+use ir_event::store::store::Store;
+use ir_event::trees::place::Place;
+use ir_event::types::ids::OpId;
 use ir_event::world::World;
-use ir_store::store::Store;
-use ir_tree::place::Place;
-use ir_types::ids::OpId;
 use std::alloc::AllocError;
 
 /// Lists the operation around one that ends its block.

@@ -7,8 +7,8 @@ ghost use Rattle.greedy.specs.Parts.{IsClimbed, IsOuter};
 
 use crate::push::push;
 use ir_event::event::Event;
+use ir_event::types::ids::{NameId, OpId};
 use ir_event::world::World;
-use ir_types::ids::{NameId, OpId};
 use op_registry::own::Own;
 use std::alloc::AllocError;
 

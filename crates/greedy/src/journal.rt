@@ -1,15 +1,15 @@
 //! The operations at which rules may apply otherwise after the events of a bench's journal.
 ghost use Rattle.std.specs.Prelude.{◌≡◌, IfOk, IfErr, drop};
-ghost use Rattle.ir_types.specs.declared.refusal.Refusal.TheVariants.{Memory as NoMemory};
-ghost use Rattle.rewriter.specs.Held.{module_at, module_held};
+ghost use Rattle.ir_event.specs.types.declared.refusal.Refusal.TheVariants.{Memory as NoMemory};
+ghost use Rattle.patterns.specs.rewriter.Held.{module_at, module_held};
 ghost use Rattle.greedy.specs.Listing.{Touched};
 
 use crate::touched::touched_by;
 use ir_event::analysis::Analysis;
 use ir_event::event::Event;
-use ir_types::ids::OpId;
-use ir_types::refusal::Refusal;
-use rewriter::bench::Bench;
+use ir_event::types::ids::OpId;
+use ir_event::types::refusal::Refusal;
+use patterns::rewriter::bench::Bench;
 use std::alloc::{AllocError, Global};
 
 /// The events of a bench's journal from one on.

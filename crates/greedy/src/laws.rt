@@ -1,14 +1,14 @@
 //! Laws of the order of operations. Each is a function that does nothing: its contract is the law.
 ghost use Rattle.greedy.specs.Orders.{RewritesAreOrderly, RootHasNone};
 ghost use Rattle.std.specs.Prelude.{◌≡◌, ℕ, List, drop, true, false};
-ghost use Rattle.ir_types.specs.Things.{Things};
+ghost use Rattle.ir_event.specs.types.Things.{Things};
 ghost use Rattle.ir_event.specs.declared.event.Event.{Event as Edit};
 ghost use Rattle.ir_event.specs.Modules.{Module, module_meaning};
 ghost use Rattle.ir_event.specs.Step.{Step, Steps};
 ghost use Rattle.listeners_surroundings.specs.Surroundings.{surroundings};
-ghost use Rattle.ir_tree.specs.declared.value.Value.{Value};
-ghost use Rattle.ir_tree.specs.Ids.{HasDistinctIds};
-ghost use Rattle.ir_store.specs.Stored.{Stored};
+ghost use Rattle.ir_event.specs.trees.declared.value.Value.{Value};
+ghost use Rattle.ir_event.specs.trees.Ids.{HasDistinctIds};
+ghost use Rattle.ir_event.specs.store.Stored.{Stored};
 ghost use Rattle.rewriter_laws.specs.Journals.{IsJournal, before};
 ghost use Rattle.greedy.specs.Listing.{Lists, Touched};
 ghost use Rattle.greedy.specs.Near.{Leads};

@@ -18,3 +18,5 @@ pub mod touched;
 mod users;
 mod walk;
 mod work;
+
+pub use patterns as patterns;

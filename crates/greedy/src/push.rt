@@ -3,7 +3,7 @@ ghost use Rattle.std.specs.Prelude.{◌≡◌, OnOk, true};
 ghost use Rattle.greedy.specs.Adding.{Adds};
 ghost use Rattle.greedy.specs.Sights.{is_listed};
 
-use ir_types::ids::OpId;
+use ir_event::types::ids::OpId;
 use std::alloc::AllocError;
 
 /// Lists an operation, where it isn't the one that was listed last.

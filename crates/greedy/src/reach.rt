@@ -6,8 +6,8 @@ ghost use Rattle.greedy.specs.Parts.{IsReached};
 use crate::block::{push_left, push_with_lasts};
 use crate::push::push;
 use ir_event::event::Event;
+use ir_event::types::ids::OpId;
 use ir_event::world::World;
-use ir_types::ids::OpId;
 use std::alloc::AllocError;
 
 /// Lists the operations that an event reaches, where it puts nothing at the end of a block.

@@ -1,14 +1,14 @@
 //! What the driver needs of a bench and of the rules.
 ghost use Rattle.std.specs.Prelude.{◌≡◌, ◌≢◌, ◌<◌, ◌≤◌, All, IfOk, IfErr, OnErr, OnOk, IfSome, IfNone, ◌⊎◌, [], ◌∷◌};
 ghost use Rattle.std.specs.Prelude.{List, ℕ, true, false};
-ghost use Rattle.ir_types.specs.declared.refusal.Refusal.TheVariants.{Memory as NoMemory};
-ghost use Rattle.ir_tree.specs.Ids.{HasDistinctIds, has_id, ids};
-ghost use Rattle.ir_tree.specs.Tree.{head};
-ghost use Rattle.ir_tree_laws.specs.Reads.{precedes};
+ghost use Rattle.ir_event.specs.types.declared.refusal.Refusal.TheVariants.{Memory as NoMemory};
+ghost use Rattle.ir_event.specs.trees.Ids.{HasDistinctIds, has_id, ids};
+ghost use Rattle.ir_event.specs.trees.Tree.{head};
+ghost use Rattle.ir_event.specs.tree_laws.Reads.{precedes};
 ghost use Rattle.ir_event.specs.Modules.{Module};
 ghost use Rattle.rewriter_machine.specs.Machine.{OpenMark};
-ghost use Rattle.rewriter.specs.Held.{Held};
-ghost use Rattle.rewriter.specs.Rolling.{Dropped};
+ghost use Rattle.patterns.specs.rewriter.Held.{Held};
+ghost use Rattle.patterns.specs.rewriter.Rolling.{Dropped};
 ghost use Rattle.patterns.specs.runs.Runs.{Noted};
 ghost use Rattle.patterns_base.specs.Canonicalization.{first_rule};
 ghost use Rattle.greedy.specs.Noting.{marked};
@@ -18,8 +18,8 @@ ghost use Rattle.greedy.specs.Listing.{Touched};
 ghost use Rattle.greedy.specs.Ruled.{MayRun, rules_in};
 
 use crate::rules::Rules;
-use ir_types::ids::OpId;
-use ir_types::refusal::Refusal;
+use ir_event::types::ids::OpId;
+use ir_event::types::refusal::Refusal;
 use std::alloc::Global;
 
 /// A bench with rules.

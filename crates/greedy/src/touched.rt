@@ -1,6 +1,6 @@
 //! The operations at which rules may apply otherwise.
 ghost use Rattle.std.specs.Prelude.{◌≡◌, IfOk, IfErr, false};
-ghost use Rattle.ir_types.specs.declared.refusal.Refusal.TheVariants.{Memory as NoMemory};
+ghost use Rattle.ir_event.specs.types.declared.refusal.Refusal.TheVariants.{Memory as NoMemory};
 ghost use Rattle.ir_event.specs.Modules.{Module, module_in};
 ghost use Rattle.greedy.specs.Listing.{Lists, Touched};
 ghost use Rattle.greedy.specs.Near.{Leads};
@@ -12,9 +12,9 @@ use crate::block::push_all_around;
 use crate::reach::push_all_reached;
 use crate::users::push_all_with_users;
 use ir_event::event::Event;
+use ir_event::types::ids::OpId;
+use ir_event::types::refusal::Refusal;
 use ir_event::world::World;
-use ir_types::ids::OpId;
-use ir_types::refusal::Refusal;
 use std::alloc::{AllocError, Global};
 
 /// Whether an event puts something at the end of a block.

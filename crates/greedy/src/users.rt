@@ -5,11 +5,11 @@ ghost use Rattle.greedy.specs.Adding.{Adds, OneOf};
 ghost use Rattle.greedy.specs.Parts.{IsIn, IsOrUses, IsUser};
 
 use crate::push::push;
+use ir_event::store::store::Store;
+use ir_event::store::uses::UsesOf;
+use ir_event::trees::value::Value;
+use ir_event::types::ids::OpId;
 use ir_event::world::World;
-use ir_store::store::Store;
-use ir_store::uses::UsesOf;
-use ir_tree::value::Value;
-use ir_types::ids::OpId;
 use std::alloc::AllocError;
 
 /// Lists the operations of some uses.

@@ -1,12 +1,12 @@
 //! The operations next to one in pre-order.
 ghost use Rattle.std.specs.Prelude.{◌≡◌, ◌≤◌, ◌<◌, ◌+◌, true, IfSome, IfNone};
-ghost use Rattle.ir_tree.specs.Ids.{HasDistinctIds, find as the_first, has_id};
-ghost use Rattle.ir_tree.specs.Tree.{head};
-ghost use Rattle.ir_tree_laws.specs.Reads.{precedes};
+ghost use Rattle.ir_event.specs.trees.Ids.{HasDistinctIds, find as the_first, has_id};
+ghost use Rattle.ir_event.specs.trees.Tree.{head};
+ghost use Rattle.ir_event.specs.tree_laws.Reads.{precedes};
 ghost use Rattle.greedy.specs.Following.{HasFewRegions, count_of, first_inside, following as after};
 
-use ir_store::store::Store;
-use ir_types::ids::OpId;
+use ir_event::store::store::Store;
+use ir_event::types::ids::OpId;
 
 /// How many regions an operation of the module has.
 fn count_regions(store: &Store, op: OpId) -> usize

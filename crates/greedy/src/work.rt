@@ -1,17 +1,17 @@
 //! The worklist.
 ghost use Rattle.std.specs.Prelude.{◌≡◌, ◌≢◌, ◌⊎◌, ◌≤◌, ℕ, ◌||◌, length, take, drop, not, IfOk, IfErr, OnErr, OnOk};
 ghost use Rattle.std.specs.Prelude.{IfSome, IfNone, MatchOption, true, false};
-ghost use Rattle.ir_types.specs.declared.refusal.Refusal.TheVariants.{Memory as NoMemory};
-ghost use Rattle.ir_tree.specs.Ids.{HasDistinctIds, has_id};
-ghost use Rattle.ir_tree.specs.Tree.{head};
-ghost use Rattle.ir_tree_laws.specs.Reads.{precedes};
+ghost use Rattle.ir_event.specs.types.declared.refusal.Refusal.TheVariants.{Memory as NoMemory};
+ghost use Rattle.ir_event.specs.trees.Ids.{HasDistinctIds, has_id};
+ghost use Rattle.ir_event.specs.trees.Tree.{head};
+ghost use Rattle.ir_event.specs.tree_laws.Reads.{precedes};
 ghost use Rattle.ir_event.specs.Modules.{Module};
 ghost use Rattle.greedy.specs.Work.{begins_with, Parted, Rewritten, IsWork, waits, Taken, NoneWaits, StillWaits, Falls};
 ghost use Rattle.greedy.specs.Sights.{is_listed};
 
 use crate::rewriting::Rewriting;
-use ir_types::ids::OpId;
-use ir_types::refusal::Refusal;
+use ir_event::types::ids::OpId;
+use ir_event::types::refusal::Refusal;
 use std::alloc::Global;
 
 /// The operations at which a rule may apply: each that comes after `passed` in pre-order, and those of `again`, of

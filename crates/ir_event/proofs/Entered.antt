@@ -14,20 +14,20 @@ use Rattle.ir_store.specs.trees.Passing.{entry_passes, head_passes, op_passes}
 use Rattle.ir_store.specs.trees.Edits.{part_of, entry_at, same_key, with_entry}
 use Rattle.ir_store.specs.trees.Meaning.{IsSoundIn, dictionaries_rise, is_attr, is_name, is_type, isolated_in, key_before, key_before_in, meaning}
 use Rattle.ir_store.specs.trees.WellFormed.{IsWellFormed, Module as Numbered}
-use Rattle.ir_tree.proofs.Mapped.{map_every}
-use Rattle.ir_tree.proofs.MappedEdits.{map_with_entry}
-use Rattle.ir_tree.proofs.SoundEdits.{entry_sound}
+use Rattle.ir_store.proofs.of_trees.Mapped.{map_every}
+use Rattle.ir_store.proofs.of_trees.MappedEdits.{map_with_entry}
+use Rattle.ir_store.proofs.of_trees.SoundEdits.{entry_sound}
 use Rattle.ir_store.specs.tree_laws.Changes.{SetsEntry, entry_in}
 use Rattle.ir_store.specs.tree_laws.Reasons.{set_entry_reason}
 use Rattle.ir_store.specs.tree_laws.Stands.{StandOf, stands}
-use Rattle.ir_tree_laws.proofs.Contents.{map_dictionaries, map_entry_in, map_set_entry_reason}
-use Rattle.ir_tree_laws.proofs.Entries.{entry_changes}
-use Rattle.ir_tree_laws.proofs.HeadForm.{entry_keeps}
-use Rattle.ir_tree_laws.proofs.Keys.{keys_ordered, key_before_trans}
-use Rattle.ir_tree_laws.proofs.Listed.{all_each, both}
-use Rattle.ir_tree_laws.proofs.Members.{found_stands}
-use Rattle.ir_tree_laws.proofs.Readings.{stands_every}
-use Rattle.ir_tree_laws.proofs.Reasoned.{NoEntryReason, no_entry_reason}
+use Rattle.ir_store.proofs.of_tree_laws.Contents.{map_dictionaries, map_entry_in, map_set_entry_reason}
+use Rattle.ir_store.proofs.of_tree_laws.Entries.{entry_changes}
+use Rattle.ir_store.proofs.of_tree_laws.HeadForm.{entry_keeps}
+use Rattle.ir_store.proofs.of_tree_laws.Keys.{keys_ordered, key_before_trans}
+use Rattle.ir_store.proofs.of_tree_laws.Listed.{all_each, both}
+use Rattle.ir_store.proofs.of_tree_laws.Members.{found_stands}
+use Rattle.ir_store.proofs.of_tree_laws.Readings.{stands_every}
+use Rattle.ir_store.proofs.of_tree_laws.Reasoned.{NoEntryReason, no_entry_reason}
 use Rattle.ir_event.specs.declared.event.Event.TheVariants.{SetEntry}
 use Rattle.ir_event.specs.Modules.{Module, module_meaning}
 use Rattle.ir_event.specs.Step.{IsAttrOrNone, Step}

@@ -14,7 +14,7 @@ use Rattle.ir_store.specs.trees.Meaning.{IsSoundIn, isolated_in, key_before_in}
 use Rattle.ir_store.specs.trees.WellFormed.{IsWellFormed}
 use Rattle.ir_store.specs.tree_laws.Changes.{entry_in}
 use Rattle.ir_store.specs.tree_laws.Reasons.{found_entry_reason, set_entry_reason}
-use Rattle.ir_tree_laws.proofs.Around.{absent_find}
+use Rattle.ir_store.proofs.of_tree_laws.Around.{absent_find}
 use Rattle.ir_store.specs.Nodes.{Node, node_of}
 use Rattle.ir_store.specs.Stored.{Stored}
 use Rattle.ir_store.specs.Calls.{after_entry}

@@ -1,9 +1,9 @@
 -- What is asked of trees in many places.
-use Rattle.ir_tree.specs.Ids.{find, has_id}
-use Rattle.ir_tree.specs.Meaning.{Operation}
-use Rattle.ir_tree.specs.Tree.{OpOf, OpsOf, head, next, op}
-use Rattle.ir_tree_laws.proofs.Around.{stand_present}
-use Rattle.ir_tree_laws.proofs.Members.{found_stands, joined_ops, stand}
+use Rattle.ir_store.specs.trees.Ids.{find, has_id}
+use Rattle.ir_store.specs.trees.Meaning.{Operation}
+use Rattle.ir_store.specs.trees.Tree.{OpOf, OpsOf, head, next, op}
+use Rattle.ir_store.proofs.of_tree_laws.Around.{stand_present}
+use Rattle.ir_store.proofs.of_tree_laws.Members.{found_stands, joined_ops, stand}
 use Rattle.std.proofs.Common.{[], List, Some, ap, inl, refl, sym, true, ℕ, ◌&&◌, ◌++◌, ◌+◌, ◌<◌, ◌||◌, ◌∙◌, ◌∷◌, ◌≡◌, ◌≤◌, ◌⊎◌}
 
 pub found_id : (x : ℕ) (t o : Operation) → find x t ≡ Some o → (head o).id ≡ x

@@ -11,7 +11,7 @@ use Rattle.ir_store.specs.trees.declared.value.Value.{Value}
 use Rattle.ir_store.specs.trees.Tree.{Op}
 use Rattle.ir_store.specs.trees.Meaning.{IsSoundIn, isolated_in}
 use Rattle.ir_store.specs.trees.WellFormed.{IsWellFormed, Module as Numbered}
-use Rattle.ir_tree.proofs.Meanings.{stable, stays_sound}
+use Rattle.ir_store.proofs.of_trees.Meanings.{stable, stays_sound}
 use Rattle.ir_store.specs.Stored.{Stored}
 use Rattle.ir_store.specs.Calls.{Loaded, after_operand}
 use Rattle.ir_event.specs.declared.event.Event.{Event}

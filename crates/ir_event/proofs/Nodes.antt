@@ -13,7 +13,7 @@ use Rattle.ir_store.specs.trees.Limits.{all_arguments_pass, regions_every}
 use Rattle.ir_store.specs.trees.Maps.{map_regions}
 use Rattle.ir_store.specs.trees.Meaning.{IsSoundIn, is_attr, is_name, is_type, meaning}
 use Rattle.ir_store.specs.trees.Passing.{entry_passes, head_passes, op_passes}
-use Rattle.ir_tree_laws.proofs.Listed.{both}
+use Rattle.ir_store.proofs.of_tree_laws.Listed.{both}
 use Rattle.ir_store.specs.Nodes.{Node as Numbers, node_of, regions_arguments}
 use Rattle.ir_store.specs.Stored.{known}
 use Rattle.ir_event.specs.declared.world.World.{World}

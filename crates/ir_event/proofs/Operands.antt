@@ -6,12 +6,12 @@ use Rattle.ir_store.specs.trees.declared.value.Value.{Value}
 use Rattle.ir_store.specs.trees.Tree.{HeadOf, OpOf, op, head}
 use Rattle.ir_store.specs.trees.Ids.{HasDistinctIds, find}
 use Rattle.ir_store.specs.trees.Edits.{each_head, at, put_operand, with_operand}
-use Rattle.ir_tree.proofs.Heads.{alike_operand, head_find}
+use Rattle.ir_store.proofs.of_trees.Heads.{alike_operand, head_find}
 use Rattle.ir_store.specs.tree_laws.Changes.{operand_at}
 use Rattle.ir_event.specs.Heads.{heads}
 use Rattle.ir_event.proofs.Flat.{first_head, heads_ids, found_head, each_left, the_only}
-use Rattle.ir_tree_laws.proofs.Entries.{each_twice}
-use Rattle.ir_tree.proofs.Facts.{head_each}
+use Rattle.ir_store.proofs.of_tree_laws.Entries.{each_twice}
+use Rattle.ir_store.proofs.of_trees.Facts.{head_each}
 
 -- an item that is set back
 pub set_back : {X : Type 0} (xs : List X) (k : ℕ) (old new : X) → slice_get xs k ≡ Some old → slice_set (slice_set xs k new) k old ≡ xs

@@ -8,7 +8,7 @@ use Rattle.ir_store.specs.trees.declared.place.Place.{Place}
 use Rattle.ir_store.specs.trees.Tree.{Op, regions}
 use Rattle.ir_store.specs.trees.Meaning.{IsSoundIn, isolated_in}
 use Rattle.ir_store.specs.trees.WellFormed.{IsWellFormed}
-use Rattle.ir_tree.proofs.SoundEdits.{put_sound}
+use Rattle.ir_store.proofs.of_trees.SoundEdits.{put_sound}
 use Rattle.ir_store.specs.tree_laws.Reasons.{hold_none, put_reason, with_id}
 use Rattle.ir_store.specs.Stored.{Stored}
 use Rattle.ir_store.specs.Calls.{after_put}

@@ -11,8 +11,8 @@ use Rattle.ir_store.specs.trees.Meaning.{IsSoundIn, isolated_in}
 use Rattle.ir_store.specs.trees.WellFormed.{IsWellFormed}
 use Rattle.ir_store.specs.tree_laws.Changes.{Shifts}
 use Rattle.ir_store.specs.tree_laws.Reasons.{shift_reason}
-use Rattle.ir_tree_laws.proofs.Changed.{shift_changes}
-use Rattle.ir_tree_laws.proofs.WellKept.{shift_keeps}
+use Rattle.ir_store.proofs.of_tree_laws.Changed.{shift_changes}
+use Rattle.ir_store.proofs.of_tree_laws.WellKept.{shift_keeps}
 use Rattle.ir_store.specs.Stored.{Stored}
 use Rattle.ir_store.specs.Calls.{after_shift}
 use Rattle.ir_event.specs.declared.event.Event.{Event}

@@ -6,8 +6,8 @@ use Rattle.std.specs.FinMap as finmap
 use Rattle.ir_store.specs.trees.Tree.{Op, OpOf}
 use Rattle.ir_store.specs.trees.Ids.{has_id, find, first_of}
 use Rattle.ir_store.specs.tree_laws.Stands.{StandOf, stand_id, stand_in, stands}
-use Rattle.ir_tree_laws.proofs.Around.{any_ids}
-use Rattle.ir_tree_laws.proofs.Readings.{stands_find, stands_ids}
+use Rattle.ir_store.proofs.of_tree_laws.Around.{any_ids}
+use Rattle.ir_store.proofs.of_tree_laws.Readings.{stands_find, stands_ids}
 use Rattle.ir_store.specs.Stored.{Stored, known}
 
 module _ {N T A : Type 0} where

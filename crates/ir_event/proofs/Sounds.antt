@@ -8,9 +8,9 @@ use Rattle.ir_store.specs.trees.Limits.{every, regions_every, region_every, ops_
 use Rattle.ir_store.specs.trees.Places.{put_found, shifted, without}
 use Rattle.ir_store.specs.trees.Meaning.{IsSoundIn, dictionaries_rise, is_attr, is_name, is_type, key_before_in}
 use Rattle.ir_store.specs.trees.Passing.{op_passes}
-use Rattle.ir_tree.proofs.SoundEdits.{put_sound, without_sound}
+use Rattle.ir_store.proofs.of_trees.SoundEdits.{put_sound, without_sound}
 use Rattle.ir_store.specs.tree_laws.Reasons.{with_id}
-use Rattle.ir_tree_laws.proofs.Listed.{both}
+use Rattle.ir_store.proofs.of_tree_laws.Listed.{both}
 
 module _ {N T A : Type 0} (p : OpOf N T A → Bool) (x : ℕ) where
   one_found : (a b : Option (OpOf N T A)) (P : OpOf N T A → Type 0) (o : OpOf N T A) → (a ≡ Some o → P o) → (b ≡ Some o → P o) → first_of a b ≡ Some o → P o

@@ -8,10 +8,10 @@ use Rattle.ir_store.specs.trees.Tree.{Op, regions}
 use Rattle.ir_store.specs.trees.Places.{put, shifted, without}
 use Rattle.ir_store.specs.trees.Meaning.{IsSoundIn, isolated_in}
 use Rattle.ir_store.specs.trees.WellFormed.{IsWellFormed, Module as Numbered}
-use Rattle.ir_tree.proofs.SoundEdits.{put_sound, without_sound}
+use Rattle.ir_store.proofs.of_trees.SoundEdits.{put_sound, without_sound}
 use Rattle.ir_store.specs.tree_laws.Reasons.{hold_none, put_reason, shift_reason, take_reason, with_id}
-use Rattle.ir_tree_laws.proofs.WellKept.{put_keeps, take_keeps, shift_keeps}
-use Rattle.ir_tree_laws.proofs.Changed.{put_changes, take_changes, shift_changes}
+use Rattle.ir_store.proofs.of_tree_laws.WellKept.{put_keeps, take_keeps, shift_keeps}
+use Rattle.ir_store.proofs.of_tree_laws.Changed.{put_changes, take_changes, shift_changes}
 use Rattle.ir_event.specs.declared.event.Event.TheVariants.{Put, Take, Shift}
 use Rattle.ir_event.specs.Modules.{module_meaning}
 use Rattle.ir_event.specs.Step.{Step}

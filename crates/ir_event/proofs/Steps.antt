@@ -7,7 +7,7 @@ use Rattle.op_registry.specs.types.Things.{Things, Grows, IsName, IsAttr}
 use Rattle.op_registry.specs.types.Sound.{Holds}
 use Rattle.op_registry.specs.types.Terms.{name_term, type_term, attr_term}
 use Rattle.op_registry.specs.types.Words.{is_isolated}
-use Rattle.ir_types.proofs.Terms.{name_stays, attr_stays}
+use Rattle.ir_store.proofs.of_trees.of_types.Terms.{name_stays, attr_stays}
 use Rattle.ir_store.specs.trees.declared.value.Value.{Value}
 use Rattle.ir_store.specs.trees.Tree.{Op, op, head}
 use Rattle.ir_store.specs.trees.Ids.{find}
@@ -15,10 +15,10 @@ use Rattle.ir_store.specs.trees.Limits.{most_around}
 use Rattle.ir_store.specs.trees.Edits.{with_operand}
 use Rattle.ir_store.specs.trees.Meaning.{meaning, isolated_in, dictionaries_rise, key_before, key_before_in, IsSoundIn}
 use Rattle.ir_store.specs.trees.WellFormed.{Module as Numbered, IsWellFormed}
-use Rattle.ir_tree.proofs.Mapped.{map_every, map_ids, map_find, map_operands_visible, map_depth, map_counts}
-use Rattle.ir_tree.proofs.MappedEdits.{map_with_operand}
-use Rattle.ir_tree.proofs.SoundEdits.{operand_sound}
-use Rattle.ir_tree_laws.proofs.Contents.{map_dictionaries}
+use Rattle.ir_store.proofs.of_trees.Mapped.{map_every, map_ids, map_find, map_operands_visible, map_depth, map_counts}
+use Rattle.ir_store.proofs.of_trees.MappedEdits.{map_with_operand}
+use Rattle.ir_store.proofs.of_trees.SoundEdits.{operand_sound}
+use Rattle.ir_store.proofs.of_tree_laws.Contents.{map_dictionaries}
 use Rattle.ir_event.specs.declared.event.Event.{Event}
 use Rattle.ir_event.specs.declared.event.Event.TheVariants.{Put, Take, SetOperand, SetEntry, Shift}
 use Rattle.ir_event.specs.Modules.{Module, module_meaning}

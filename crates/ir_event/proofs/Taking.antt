@@ -14,13 +14,13 @@ use Rattle.ir_store.specs.trees.Ids.{find, first_of, has_id}
 use Rattle.ir_store.specs.trees.Places.{place_of}
 use Rattle.ir_store.specs.trees.Meaning.{IsSoundIn, isolated_in, meaning}
 use Rattle.ir_store.specs.trees.WellFormed.{IsWellFormed}
-use Rattle.ir_tree.proofs.Mapped.{map_find}
-use Rattle.ir_tree.proofs.SoundEdits.{without_sound}
+use Rattle.ir_store.proofs.of_trees.Mapped.{map_find}
+use Rattle.ir_store.proofs.of_trees.SoundEdits.{without_sound}
 use Rattle.ir_store.specs.tree_laws.Reasons.{take_reason}
 use Rattle.ir_store.specs.tree_laws.Changes.{Takes}
-use Rattle.ir_tree_laws.proofs.Changed.{take_changes}
-use Rattle.ir_tree_laws.proofs.Reasoned.{no_take_reason}
-use Rattle.ir_tree_laws.proofs.WellKept.{take_keeps}
+use Rattle.ir_store.proofs.of_tree_laws.Changed.{take_changes}
+use Rattle.ir_store.proofs.of_tree_laws.Reasoned.{no_take_reason}
+use Rattle.ir_store.proofs.of_tree_laws.WellKept.{take_keeps}
 use Rattle.ir_store.specs.Nodes.{node_of}
 use Rattle.ir_store.specs.Stored.{Stored, known}
 use Rattle.ir_store.specs.Calls.{after_take, hold}

@@ -10,7 +10,7 @@ use Rattle.op_registry.specs.types.Things.{Things, IsName, IsAttr}
 use Rattle.op_registry.specs.types.Sound.{IsSound}
 use Rattle.op_registry.specs.types.Terms.{name_term, type_term, attr_term}
 use Rattle.op_registry.specs.types.Words.{is_isolated}
-use Rattle.ir_types.proofs.Terms.{name_term_one}
+use Rattle.ir_store.proofs.of_trees.of_types.Terms.{name_term_one}
 use Rattle.ir_store.specs.trees.declared.place.Place.{Place}
 use Rattle.ir_store.specs.trees.declared.place.Part.{Part}
 use Rattle.ir_store.specs.trees.declared.place.Part.TheVariants.{Props, Attrs}
@@ -20,12 +20,12 @@ use Rattle.ir_store.specs.trees.Edits.{entry_at, part_of, same_key}
 use Rattle.ir_store.specs.trees.Places.{without}
 use Rattle.ir_store.specs.trees.Meaning.{IsSoundIn, is_attr, isolated_in, key_before, key_before_in, meaning}
 use Rattle.ir_store.specs.trees.WellFormed.{IsWellFormed}
-use Rattle.ir_tree.proofs.SoundEdits.{operand_sound, entry_sound, put_sound, without_sound}
+use Rattle.ir_store.proofs.of_trees.SoundEdits.{operand_sound, entry_sound, put_sound, without_sound}
 use Rattle.ir_store.specs.tree_laws.Values.{has_value}
 use Rattle.ir_store.specs.tree_laws.Restores.{MayRestore, MayRetract}
-use Rattle.ir_tree_laws.proofs.Around.{absent_find}
-use Rattle.ir_tree_laws.proofs.Contents.{map_entry_in}
-use Rattle.ir_tree_laws.proofs.Keys.{keys_ordered}
+use Rattle.ir_store.proofs.of_tree_laws.Around.{absent_find}
+use Rattle.ir_store.proofs.of_tree_laws.Contents.{map_entry_in}
+use Rattle.ir_store.proofs.of_tree_laws.Keys.{keys_ordered}
 use Rattle.ir_store.specs.Slots.{has_key}
 use Rattle.ir_store.specs.Nodes.{node_of}
 use Rattle.ir_store.specs.Stored.{Stored, known, has_slot, is_some_with}

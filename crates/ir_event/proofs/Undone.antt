@@ -12,17 +12,17 @@ use Rattle.ir_store.specs.trees.Edits.{with_operand, with_entry}
 use Rattle.ir_store.specs.trees.Places.{put, shifted, without}
 use Rattle.ir_store.specs.trees.Meaning.{IsSoundIn, isolated_in, key_before, key_before_in, meaning}
 use Rattle.ir_store.specs.trees.WellFormed.{IsWellFormed, Module as Numbered}
-use Rattle.ir_tree.proofs.MappedEdits.{map_with_operand, map_with_entry, map_put, map_shifted, map_without}
-use Rattle.ir_tree.proofs.SoundEdits.{without_sound}
+use Rattle.ir_store.proofs.of_trees.MappedEdits.{map_with_operand, map_with_entry, map_put, map_shifted, map_without}
+use Rattle.ir_store.proofs.of_trees.SoundEdits.{without_sound}
 use Rattle.ir_store.specs.tree_laws.Changes.{NextAfter, Shifts, Takes}
 use Rattle.ir_store.specs.tree_laws.Reasons.{set_operand_reason, shift_reason, take_reason}
 use Rattle.ir_store.specs.tree_laws.Restores.{MayRestore, MayRetract}
-use Rattle.ir_tree_laws.proofs.Changed.{may_restore, may_retract, take_changes}
-use Rattle.ir_tree_laws.proofs.Contents.{from_restore, from_retract, map_set_operand_reason, map_shift_reason}
-use Rattle.ir_tree_laws.proofs.Reasoned.{no_shift_reason}
-use Rattle.ir_tree_laws.proofs.Reverted.{operand_reverts, shift_reverts}
-use Rattle.ir_tree_laws.proofs.Undone.{shifted_back, taken_back}
-use Rattle.ir_tree_laws.proofs.WellKept.{retract_keeps}
+use Rattle.ir_store.proofs.of_tree_laws.Changed.{may_restore, may_retract, take_changes}
+use Rattle.ir_store.proofs.of_tree_laws.Contents.{from_restore, from_retract, map_set_operand_reason, map_shift_reason}
+use Rattle.ir_store.proofs.of_tree_laws.Reasoned.{no_shift_reason}
+use Rattle.ir_store.proofs.of_tree_laws.Reverted.{operand_reverts, shift_reverts}
+use Rattle.ir_store.proofs.of_tree_laws.Undone.{shifted_back, taken_back}
+use Rattle.ir_store.proofs.of_tree_laws.WellKept.{retract_keeps}
 use Rattle.ir_store.specs.Shifting.{CanRelink}
 use Rattle.ir_event.specs.declared.event.Event.TheVariants.{Put, Take, SetOperand, SetEntry, Shift}
 use Rattle.ir_event.specs.Modules.{Module, module_meaning}

@@ -13,3 +13,5 @@ pub mod Undoing
 pub use Rattle.ir_store.specs as store
 pub use Rattle.ir_store.specs.tree_laws
 pub use Rattle.op_registry.specs as registry
+pub use Rattle.ir_store.specs.trees
+pub use Rattle.ir_store.specs.types

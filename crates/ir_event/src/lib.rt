@@ -18,4 +18,5 @@ pub mod view;
 pub mod world;
 
 pub use ir_store as store;
+pub use ir_store::{trees, types};
 pub use op_registry as registry;

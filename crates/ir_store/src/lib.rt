@@ -22,4 +22,4 @@ mod using;
 mod walk;
 
 pub use ir_store_reads::trees::place;
-pub use ir_store_reads::{node, row, trees, uses};
+pub use ir_store_reads::{node, row, trees, types, uses};

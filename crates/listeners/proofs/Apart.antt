@@ -3,8 +3,8 @@ use Rattle.std.proofs.Common.{◌≡◌, refl, ap, sym, ◌∙◌, subst, ℕ, B
 use Rattle.std.specs.Prelude.{option_map}
 use Rattle.std.specs.List.{IsDistinct, AllByRecursion}
 use Rattle.std.proofs.lemmas.Map.Keys.{IsDistinct-head, IsDistinct-tail}
-use Rattle.ir_tree.specs.Tree.{HeadOf, OpOf, head}
-use Rattle.ir_tree.specs.Ids.{HasDistinctIds, find}
+use Rattle.ir_event.specs.trees.Tree.{HeadOf, OpOf, head}
+use Rattle.ir_event.specs.trees.Ids.{HasDistinctIds, find}
 use Rattle.ir_event.specs.Heads.{heads}
 use Rattle.ir_event.proofs.Flat.{first_head, heads_ids, found_head}
 use Rattle.listeners.specs.declared.key.Use.{Use}
@@ -13,7 +13,7 @@ use Rattle.listeners.specs.Others.{is_other, others}
 use Rattle.listeners.proofs.Cutting.{moved_front}
 use Rattle.listeners.proofs.Others.{behind_alike, only_append, own_in, own_out}
 use Rattle.listeners.proofs.Places.{Replaced, uses_at, uses_by_heads}
-use Rattle.ir_types.proofs.Sorting.{flips_eq}
+use Rattle.ir_event.proofs.of_types.Sorting.{flips_eq}
 
 module _ {N T A : Type 0} (x : ℕ) where
   none_there : (hs : List (HeadOf N T A)) → AllByRecursion (λ z. eqb x z ≡ false) (map (λ (h : HeadOf N T A). h.id) hs) → others x (uses_at hs) ≡ uses_at hs

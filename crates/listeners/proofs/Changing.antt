@@ -12,7 +12,7 @@ use Rattle.std.specs.Map as entries
 use Rattle.std.specs.BTreeMap.{BTreeMap, is_at, insert_entry}
 use Rattle.std.specs.BTreeMap as tree
 use Rattle.std.proofs.lemmas.Bool.{ne_eqb}
-use Rattle.ir_tree.specs.declared.value.Value.{Value}
+use Rattle.ir_event.specs.trees.declared.value.Value.{Value}
 use Rattle.listeners.specs.declared.key.Use.{Use}
 use Rattle.listeners.specs.declared.key.Key.{Key}
 use Rattle.listeners.specs.declared.user.User.{User}
@@ -25,9 +25,9 @@ use Rattle.listeners.specs.Tables.{changed_uses, is_unchanged}
 use Rattle.listeners.proofs.Cutting.{moved_front}
 use Rattle.listeners.proofs.Listed.{keys_joined}
 use Rattle.listeners.proofs.Others.{behind_alike, only_append, only_both, only_same, only_turned, own_in, own_only, own_out}
-use Rattle.ir_types.proofs.Sorting.{flips_eq}
+use Rattle.ir_event.proofs.of_types.Sorting.{flips_eq}
 use Rattle.listeners.proofs.Orders.{same_number}
-use Rattle.ir_types.proofs.Truths.{same_test}
+use Rattle.ir_event.proofs.of_types.Truths.{same_test}
 
 apart : (x y : ℕ) (r : Ordering) → nat_cmp x y ≡ r → is_eq r ≡ false → eqb x y ≡ false
 apart x y r e f = sym (same_test x y) ∙ ap is_eq e ∙ f

@@ -5,11 +5,11 @@ use Rattle.std.specs.FinMap as finmap
 use Rattle.std.specs.List.{IsDistinct, AllByRecursion}
 use Rattle.std.proofs.lemmas.Bool.{cond-true, cond-false}
 use Rattle.std.proofs.lemmas.Map.Keys.{IsDistinct-head, IsDistinct-tail}
-use Rattle.ir_tree.specs.Tree.{Head, Op as Tree, op, head}
-use Rattle.ir_tree.specs.Ids.{ids, find, first_of, HasDistinctIds}
-use Rattle.ir_tree_laws.specs.Members.{In}
-use Rattle.ir_store.specs.Nodes.{Node, node_of}
-use Rattle.ir_store.specs.Stored.{Stored}
+use Rattle.ir_event.specs.trees.Tree.{Head, Op as Tree, op, head}
+use Rattle.ir_event.specs.trees.Ids.{ids, find, first_of, HasDistinctIds}
+use Rattle.ir_event.specs.tree_laws.Members.{In}
+use Rattle.ir_event.specs.store.Nodes.{Node, node_of}
+use Rattle.ir_event.specs.store.Stored.{Stored}
 use Rattle.ir_event.specs.Heads.{heads}
 use Rattle.ir_event.proofs.Flat.{first_head, heads_ids, found_head}
 use Rattle.listeners.specs.Uses.{operand_uses, uses_in}

@@ -1,18 +1,18 @@
 -- The uses of a tree where an operation is taken out of it.
 use Rattle.std.proofs.Common.{◌≡◌, refl, ap, sym, ◌∙◌, ℕ, ◌+◌, false, eqb, List, [], ◌∷◌, ◌++◌, append_assoc, map, Some}
-use Rattle.ir_tree.specs.Tree.{HeadOf, OpOf, op, RegionsOf, no_regions, region, RegionOf, empty, block, OpsOf, no_ops, next, head, regions}
-use Rattle.ir_tree.specs.Ids.{HasDistinctIds, find}
-use Rattle.ir_tree.specs.Places.{without}
-use Rattle.ir_tree.specs.Edits.{each_head}
-use Rattle.ir_tree_laws.specs.Changes.{HoldNone}
-use Rattle.ir_tree_laws.specs.Stands.{StepOf, StandOf, stand_id, stands, regions_stands, region_stands, ops_stands, gather, edit_stand, dropping}
-use Rattle.ir_tree_laws.proofs.Listed.{gather-append}
-use Rattle.ir_tree_laws.proofs.Heads.{each_stands}
-use Rattle.ir_tree_laws.proofs.Readings.{step}
-use Rattle.ir_tree_laws.proofs.Stretches.{gather_left}
-use Rattle.ir_tree_laws.proofs.Without.{same_head}
-use Rattle.ir_tree_laws.proofs.Shift.{inner_of}
-use Rattle.ir_tree_laws.proofs.Edited.{taken_part}
+use Rattle.ir_event.specs.trees.Tree.{HeadOf, OpOf, op, RegionsOf, no_regions, region, RegionOf, empty, block, OpsOf, no_ops, next, head, regions}
+use Rattle.ir_event.specs.trees.Ids.{HasDistinctIds, find}
+use Rattle.ir_event.specs.trees.Places.{without}
+use Rattle.ir_event.specs.trees.Edits.{each_head}
+use Rattle.ir_event.specs.tree_laws.Changes.{HoldNone}
+use Rattle.ir_event.specs.tree_laws.Stands.{StepOf, StandOf, stand_id, stands, regions_stands, region_stands, ops_stands, gather, edit_stand, dropping}
+use Rattle.ir_event.proofs.of_tree_laws.Listed.{gather-append}
+use Rattle.ir_event.proofs.of_tree_laws.Heads.{each_stands}
+use Rattle.ir_event.proofs.of_tree_laws.Readings.{step}
+use Rattle.ir_event.proofs.of_tree_laws.Stretches.{gather_left}
+use Rattle.ir_event.proofs.of_tree_laws.Without.{same_head}
+use Rattle.ir_event.proofs.of_tree_laws.Shift.{inner_of}
+use Rattle.ir_event.proofs.of_tree_laws.Edited.{taken_part}
 use Rattle.listeners.specs.declared.key.Use.{Use}
 use Rattle.listeners.specs.Uses.{operand_uses, uses_in, regions_uses, region_uses, ops_uses, put_use, in_order}
 use Rattle.listeners.proofs.Orders.{put_among}

@@ -4,27 +4,27 @@ use Rattle.std.specs.Prelude.{option_map}
 use Rattle.std.proofs.lemmas.List.Elements.{All-cons, All-nil}
 use Rattle.std.specs.FinMap as finmap
 use Rattle.std.specs.List.{All}
-use Rattle.ir_types.specs.Things.{Things}
-use Rattle.ir_types.specs.Terms.{name_term, type_term, attr_term}
-use Rattle.ir_tree.specs.Tree.{HeadOf, OpOf, op, Op as Tree, head}
-use Rattle.ir_tree.specs.Ids.{HasDistinctIds, find, first_of}
-use Rattle.ir_tree.specs.Edits.{at, change_entry, change_part, with_operand}
-use Rattle.ir_tree_laws.specs.Changes.{Takes}
+use Rattle.ir_event.specs.types.Things.{Things}
+use Rattle.ir_event.specs.types.Terms.{name_term, type_term, attr_term}
+use Rattle.ir_event.specs.trees.Tree.{HeadOf, OpOf, op, Op as Tree, head}
+use Rattle.ir_event.specs.trees.Ids.{HasDistinctIds, find, first_of}
+use Rattle.ir_event.specs.trees.Edits.{at, change_entry, change_part, with_operand}
+use Rattle.ir_event.specs.tree_laws.Changes.{Takes}
 use Rattle.ir_event.proofs.Operands.{holder}
-use Rattle.ir_tree.specs.Meaning.{Operation, key_before, meaning}
-use Rattle.ir_tree.specs.Places.{place_of, without}
-use Rattle.ir_tree.specs.declared.place.Part.{Part}
-use Rattle.ir_tree.specs.declared.place.Part.TheVariants.{Props, Attrs}
-use Rattle.ir_tree.specs.declared.place.Place.{Place}
-use Rattle.ir_tree.specs.declared.value.Value.{Value}
-use Rattle.ir_tree.proofs.Mapped.{map_find}
-use Rattle.ir_tree_laws.specs.Members.{In}
-use Rattle.ir_tree_laws.specs.Stands.{StandOf, stands, place_in}
-use Rattle.ir_tree_laws.proofs.Around.{member_of_place}
-use Rattle.ir_tree_laws.proofs.Listed.{bool_cases}
-use Rattle.ir_tree_laws.proofs.Members.{same_stand, stand, stand_found}
-use Rattle.ir_store.specs.Nodes.{Node as Numbers, node_of}
-use Rattle.ir_store.specs.Stored.{Stored, known}
+use Rattle.ir_event.specs.trees.Meaning.{Operation, key_before, meaning}
+use Rattle.ir_event.specs.trees.Places.{place_of, without}
+use Rattle.ir_event.specs.trees.declared.place.Part.{Part}
+use Rattle.ir_event.specs.trees.declared.place.Part.TheVariants.{Props, Attrs}
+use Rattle.ir_event.specs.trees.declared.place.Place.{Place}
+use Rattle.ir_event.specs.trees.declared.value.Value.{Value}
+use Rattle.ir_event.proofs.of_trees.Mapped.{map_find}
+use Rattle.ir_event.specs.tree_laws.Members.{In}
+use Rattle.ir_event.specs.tree_laws.Stands.{StandOf, stands, place_in}
+use Rattle.ir_event.proofs.of_tree_laws.Around.{member_of_place}
+use Rattle.ir_event.proofs.of_tree_laws.Listed.{bool_cases}
+use Rattle.ir_event.proofs.of_tree_laws.Members.{same_stand, stand, stand_found}
+use Rattle.ir_event.specs.store.Nodes.{Node as Numbers, node_of}
+use Rattle.ir_event.specs.store.Stored.{Stored, known}
 use Rattle.ir_event.specs.declared.event.Event.{Event}
 use Rattle.ir_event.specs.declared.event.Event.TheVariants.{Put, Take, SetOperand, SetEntry, Shift}
 use Rattle.ir_event.specs.declared.row.Cell.{Cell}
@@ -45,7 +45,7 @@ use Rattle.listeners.proofs.Cutting.{cut_order, edited_uses, leaf_uses, taken}
 use Rattle.listeners.proofs.Others.{behind_alike, cancelled, others_alike, others_twice}
 use Rattle.listeners.proofs.Sorted.{value_back}
 use Rattle.listeners.proofs.Places.{one_use, set_uses, mapped_uses}
-use Rattle.ir_tree.proofs.Facts.{part_id, part_operands}
+use Rattle.ir_event.proofs.of_trees.Facts.{part_id, part_operands}
 
 -- an operation that stands at a place, which the root doesn't
 record Placed {N T A : Type 0} (x : ℕ) (t : OpOf N T A) : Type 0 where

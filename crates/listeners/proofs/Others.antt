@@ -3,14 +3,14 @@ use Rattle.std.proofs.Common.{◌≡◌, refl, ap, sym, ◌∙◌, ℕ, ◌+◌,
 use Rattle.std.proofs.lemmas.Bool.{cases_eq, ne_eqb}
 use Rattle.std.proofs.Common.{⊎_elim}
 use Rattle.std.specs.Ordering.{is_gt}
-use Rattle.ir_tree.specs.declared.value.Value.{Value}
+use Rattle.ir_event.specs.trees.declared.value.Value.{Value}
 use Rattle.listeners.specs.declared.key.Use.{Use}
 use Rattle.listeners.specs.Uses.{operand_uses, use_cmp, put_use, in_order}
 use Rattle.listeners.specs.Others.{is_other, only, others}
 use Rattle.listeners.proofs.Drops.{drop_all, put_all}
 use Rattle.listeners.proofs.Moving.{drop_all_order, put_all_order}
 use Rattle.listeners.proofs.Orders.{put_behind, put_first, put_twice}
-use Rattle.ir_types.proofs.Sorting.{flips_eq}
+use Rattle.ir_event.proofs.of_types.Sorting.{flips_eq}
 
 -- some uses of two lists
 pub only_append : (p : ℕ → Bool) (us vs : List Use) → only p (us ++ vs) ≡ only p us ++ only p vs

@@ -3,12 +3,12 @@ use Rattle.std.proofs.Common.{◌≡◌, refl, ap, sym, ◌∙◌, subst, ℕ, z
 use Rattle.std.specs.Prelude.{option_map, slice_set}
 use Rattle.std.specs.List.{IsDistinct, AllByRecursion}
 use Rattle.std.proofs.lemmas.Map.Keys.{IsDistinct-head, IsDistinct-tail}
-use Rattle.ir_tree.specs.declared.value.Value.{Value}
-use Rattle.ir_tree.specs.Tree.{HeadOf, OpOf, op, RegionsOf, no_regions, region, RegionOf, empty, block, OpsOf, no_ops, next, head}
-use Rattle.ir_tree.specs.Ids.{HasDistinctIds}
-use Rattle.ir_tree.specs.Edits.{at, put_operand, with_operand}
-use Rattle.ir_tree.specs.Maps.{map_tree, map_regions, map_region, map_ops}
-use Rattle.ir_tree_laws.specs.Changes.{operand_at}
+use Rattle.ir_event.specs.trees.declared.value.Value.{Value}
+use Rattle.ir_event.specs.trees.Tree.{HeadOf, OpOf, op, RegionsOf, no_regions, region, RegionOf, empty, block, OpsOf, no_ops, next, head}
+use Rattle.ir_event.specs.trees.Ids.{HasDistinctIds}
+use Rattle.ir_event.specs.trees.Edits.{at, put_operand, with_operand}
+use Rattle.ir_event.specs.trees.Maps.{map_tree, map_regions, map_region, map_ops}
+use Rattle.ir_event.specs.tree_laws.Changes.{operand_at}
 use Rattle.ir_event.specs.Heads.{heads, regions_heads, region_heads, ops_heads}
 use Rattle.ir_event.proofs.Flat.{first_head, heads_ids, heads_each, found_head}
 use Rattle.ir_event.proofs.Operands.{holder}

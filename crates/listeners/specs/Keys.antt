@@ -1,8 +1,8 @@
 -- Uses as a table keeps them.
 use Rattle.std.specs.Prelude.{ℕ, List, [], ◌∷◌, map, Option, Some, None}
-use Rattle.ir_tree.specs.declared.value.Value.{Value}
-use Rattle.ir_tree.specs.declared.value.Value.TheVariants.{Result, Arg}
-use Rattle.ir_tree.specs.Frames.{owner_of, place_of}
+use Rattle.ir_event.specs.trees.declared.value.Value.{Value}
+use Rattle.ir_event.specs.trees.declared.value.Value.TheVariants.{Result, Arg}
+use Rattle.ir_event.specs.trees.Frames.{owner_of, place_of}
 use Rattle.ir_event.specs.declared.row.Cell.{Cell}
 use Rattle.ir_event.specs.declared.row.Cell.TheVariants as cell
 use Rattle.listeners.specs.declared.key.Use.{Use}

@@ -1,6 +1,6 @@
 -- Uses listed by their users.
 use Rattle.std.specs.Prelude.{ℕ, ◌+◌, List, [], ◌∷◌, ◌++◌, take, drop, eqb, false, if◌then◌else◌}
-use Rattle.ir_tree.specs.declared.value.Value.{Value}
+use Rattle.ir_event.specs.trees.declared.value.Value.{Value}
 use Rattle.listeners.specs.declared.key.Use.{Use}
 use Rattle.listeners.specs.declared.user.User.{User}
 use Rattle.listeners.specs.Uses.{operand_uses}

@@ -1,6 +1,6 @@
 //! What an event changed of an operation.
 
-use ir_tree::value::Value;
+use ir_event::trees::value::Value;
 
 /// The operands that an operation has now.
 #[derive(Drop)]

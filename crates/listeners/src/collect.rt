@@ -5,9 +5,9 @@ ghost use Rattle.listeners.specs.Following.{operands_in};
 ghost use Rattle.listeners.specs.Collected.{if_any, uses_by};
 
 use crate::listing::Listing;
+use ir_event::store::store::Store;
+use ir_event::types::ids::OpId;
 use ir_event::world::World;
-use ir_store::store::Store;
-use ir_types::ids::OpId;
 use std::alloc::{AllocError, Global};
 
 /// How many operations have operands, and how many operands there are.

@@ -1,15 +1,15 @@
 //! The table of uses follows events.
 ghost use Rattle.std.specs.Prelude.{◌≡◌, ◌≤◌, ◌+◌, List, Some, true};
 ghost use Rattle.std.specs.Bool.{OnTrue};
-ghost use Rattle.ir_tree.specs.declared.value.Value.{Value as TreeValue};
+ghost use Rattle.ir_event.specs.trees.declared.value.Value.{Value as TreeValue};
 ghost use Rattle.ir_event.specs.Looks.{one_more};
 ghost use Rattle.listeners.specs.Tables.{table_uses};
 ghost use Rattle.listeners.specs.Following.{IsFollowed, HasNow, adds_no_use, operands_in};
 
 use crate::table::Table;
 use ir_event::event::Event;
+use ir_event::types::ids::OpId;
 use ir_event::view::View;
-use ir_types::ids::OpId;
 use std::alloc::Global;
 
 /// Gives an operation the operands that the view shows. It is false where memory was refused, or it isn't shown.

@@ -9,8 +9,8 @@ ghost use Rattle.listeners.specs.Tables.{changed_uses, is_unchanged};
 use crate::changed::Changed;
 use crate::key::{Key, Use};
 use crate::user::User;
-use ir_tree::value::Value;
-use ir_types::ids::OpId;
+use ir_event::trees::value::Value;
+use ir_event::types::ids::OpId;
 use std::alloc::AllocError;
 use std::collections::BTreeMap;
 

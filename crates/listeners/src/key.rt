@@ -1,9 +1,9 @@
 //! Uses, and the keys by which they are kept in order.
 ghost use Rattle.std.specs.Prelude.{◌≡◌};
-ghost use Rattle.ir_tree.specs.declared.value.Value.{Value as TreeValue};
+ghost use Rattle.ir_event.specs.trees.declared.value.Value.{Value as TreeValue};
 
-use ir_tree::value::Value;
-use ir_types::ids::OpId;
+use ir_event::trees::value::Value;
+use ir_event::types::ids::OpId;
 
 /// A use of a value: an operation has it as the operand of a number.
 #[derive(Clone, Copy, Debug)]

@@ -9,7 +9,7 @@ use crate::gather::push_changed;
 use crate::key::Key;
 use crate::table::Table;
 use ir_event::row::{Cell, Row};
-use ir_tree::value::Value;
+use ir_event::trees::value::Value;
 use std::alloc::{AllocError, Global};
 
 /// The keys of the uses, in order.

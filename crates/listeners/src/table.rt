@@ -7,8 +7,8 @@ ghost use Rattle.listeners.specs.Tables.{table_uses};
 
 use crate::changed::Changed;
 use crate::listing::Listing;
-use ir_tree::value::Value;
-use ir_types::ids::OpId;
+use ir_event::trees::value::Value;
+use ir_event::types::ids::OpId;
 use std::alloc::{AllocError, Global};
 use std::collections::BTreeMap;
 

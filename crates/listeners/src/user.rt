@@ -1,6 +1,6 @@
 //! The users of a listing.
 
-use ir_types::ids::OpId;
+use ir_event::types::ids::OpId;
 
 /// An operation with operands, and how many they are. One that is not live has no uses any more.
 #[derive(Clone, Copy, Debug)]

@@ -3,10 +3,10 @@ use Rattle.std.specs.Prelude.{◌≡◌, ℕ, List, [], ◌∷◌, length, Bool,
 use Rattle.std.specs.Ordering.{nat_cmp}
 use Rattle.std.specs.BTreeMap.{get}
 use Rattle.std.specs.Str.{bytes_eq}
-use Rattle.ir_types.specs.Terms.{TypeTerm, AttrTerm}
-use Rattle.ir_types.specs.WordNames.{word_bytes}
-use Rattle.ir_types.specs.declared.word.Word.TheVariants.{ArithAddi}
-use Rattle.ir_tree.specs.Meaning.{Operation}
+use Rattle.ir_event.specs.types.Terms.{TypeTerm, AttrTerm}
+use Rattle.ir_event.specs.types.WordNames.{word_bytes}
+use Rattle.ir_event.specs.types.declared.word.Word.TheVariants.{ArithAddi}
+use Rattle.ir_event.specs.trees.Meaning.{Operation}
 use Rattle.ir_event.specs.Listener.{Listener}
 use Rattle.ir_event.specs.Rows.{RowTerm, Num}
 use Rattle.listeners_surroundings.specs.Surroundings.{SurroundingsOf}

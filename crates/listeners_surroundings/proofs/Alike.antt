@@ -1,16 +1,16 @@
 -- Operations of two trees that have the same around them.
 use Rattle.std.proofs.Common.{◌≡◌, refl, ap, sym, ◌∙◌, ℕ, [], map, Option, Some, None}
 use Rattle.std.specs.Prelude.{option_map, option_and_then}
-use Rattle.ir_tree.specs.declared.value.Value.{Value}
-use Rattle.ir_tree.specs.Tree.{HeadOf, OpOf, op, head}
-use Rattle.ir_tree.specs.Ids.{HasDistinctIds}
-use Rattle.ir_tree.specs.Frames.{owner_of}
+use Rattle.ir_event.specs.trees.declared.value.Value.{Value}
+use Rattle.ir_event.specs.trees.Tree.{HeadOf, OpOf, op, head}
+use Rattle.ir_event.specs.trees.Ids.{HasDistinctIds}
+use Rattle.ir_event.specs.trees.Frames.{owner_of}
 use Rattle.ir_event.specs.store.Nodes.{node_of}
-use Rattle.ir_tree_laws.specs.Values.{type_of_value}
-use Rattle.ir_tree_laws.specs.Stands.{StandOf, stand_id, stands, stand_of}
-use Rattle.ir_tree_laws.specs.Members.{In}
-use Rattle.ir_tree_laws.proofs.Readings.{stands_find}
-use Rattle.ir_tree_laws.proofs.Members.{member, stand_of_member}
+use Rattle.ir_event.specs.tree_laws.Values.{type_of_value}
+use Rattle.ir_event.specs.tree_laws.Stands.{StandOf, stand_id, stands, stand_of}
+use Rattle.ir_event.specs.tree_laws.Members.{In}
+use Rattle.ir_event.proofs.of_tree_laws.Readings.{stands_find}
+use Rattle.ir_event.proofs.of_tree_laws.Members.{member, stand_of_member}
 use Rattle.listeners_surroundings.specs.Surroundings.{surround, surroundings}
 use Rattle.ir_event.proofs.Typed.{types_of, typed, typed_value}
 use Rattle.listeners_surroundings.proofs.Operands.{same_map}

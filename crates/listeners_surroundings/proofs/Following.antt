@@ -2,15 +2,15 @@
 use Rattle.std.proofs.Common.{◌≡◌, refl, ap, sym, ◌∙◌, subst, ℕ, zero, suc, ◌+◌, ◌-◌, ◌*◌, ◌<◌, ◌≤◌, Bool, true, false, true≢false, cond, ◌||◌, eqb, eq-eqb, eqb-true, List, [], ◌∷◌, length, take, drop, get_or, Option, Some, None, Result, Ok, Err, arith}
 use Rattle.std.specs.Prelude.{option_map, option_and_then, IfOk}
 use Rattle.std.proofs.lemmas.List.{length-drop, drop_all, take_rest}
-use Rattle.ir_types.specs.Things.{Things}
-use Rattle.ir_types.specs.Terms.{TypeTerm, AttrTerm, name_term, type_term, attr_term}
-use Rattle.ir_tree.specs.Tree.{OpOf, Op, op, RegionsOf, no_regions, region, regions, region_count}
-use Rattle.ir_tree.specs.Ids.{find}
-use Rattle.ir_tree.specs.Meaning.{meaning}
-use Rattle.ir_tree.specs.Maps.{map_regions}
-use Rattle.ir_tree.proofs.Mapped.{map_find}
-use Rattle.ir_tree_laws.specs.Values.{region_at}
-use Rattle.ir_tree_laws.specs.Reads.{ops_in, last_id, last_at}
+use Rattle.ir_event.specs.types.Things.{Things}
+use Rattle.ir_event.specs.types.Terms.{TypeTerm, AttrTerm, name_term, type_term, attr_term}
+use Rattle.ir_event.specs.trees.Tree.{OpOf, Op, op, RegionsOf, no_regions, region, regions, region_count}
+use Rattle.ir_event.specs.trees.Ids.{find}
+use Rattle.ir_event.specs.trees.Meaning.{meaning}
+use Rattle.ir_event.specs.trees.Maps.{map_regions}
+use Rattle.ir_event.proofs.of_trees.Mapped.{map_find}
+use Rattle.ir_event.specs.tree_laws.Values.{region_at}
+use Rattle.ir_event.specs.tree_laws.Reads.{ops_in, last_id, last_at}
 use Rattle.ir_event.specs.declared.event.Event.{Event}
 use Rattle.ir_event.specs.declared.event.Event.TheVariants.{Put, Take, SetOperand, SetEntry, Shift}
 use Rattle.listeners_surroundings.specs.declared.around.Around.{Around}

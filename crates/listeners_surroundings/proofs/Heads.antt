@@ -1,20 +1,20 @@
 -- What stands around operations in a tree with heads changed.
 use Rattle.std.proofs.Common.{◌≡◌, refl, ap, sym, ◌∙◌, subst, ℕ, zero, suc, true, false, cond, eqb, eqb-true, List, [], ◌∷◌, map, Option, Some, None, inl, inr}
 use Rattle.std.specs.Prelude.{option_map, option_and_then}
-use Rattle.ir_tree.specs.declared.value.Value.{Value}
-use Rattle.ir_tree.specs.Tree.{HeadOf, OpOf, op, RegionsOf, no_regions, region, empty, block, OpsOf, no_ops, next, head, regions}
-use Rattle.ir_tree.specs.Ids.{HasDistinctIds, find, first_of}
-use Rattle.ir_tree.specs.Edits.{each_head, regions_each_head, ops_each_head, at}
-use Rattle.ir_tree.specs.Frames.{owner_of}
+use Rattle.ir_event.specs.trees.declared.value.Value.{Value}
+use Rattle.ir_event.specs.trees.Tree.{HeadOf, OpOf, op, RegionsOf, no_regions, region, empty, block, OpsOf, no_ops, next, head, regions}
+use Rattle.ir_event.specs.trees.Ids.{HasDistinctIds, find, first_of}
+use Rattle.ir_event.specs.trees.Edits.{each_head, regions_each_head, ops_each_head, at}
+use Rattle.ir_event.specs.trees.Frames.{owner_of}
 use Rattle.ir_event.specs.store.Nodes.{node_of, regions_arguments}
-use Rattle.ir_tree_laws.specs.Values.{type_of_value, region_at}
-use Rattle.ir_tree_laws.specs.Reads.{ops_in, last_id, last_at}
-use Rattle.ir_tree_laws.specs.Stands.{StepOf, StandOf, stand_id, stands, stand_in, stand_of, edit_step, edit_stand}
-use Rattle.ir_tree_laws.specs.Members.{In}
-use Rattle.ir_tree_laws.proofs.Listed.{bool_cases}
-use Rattle.ir_tree_laws.proofs.Readings.{stands_find}
-use Rattle.ir_tree_laws.proofs.Members.{stand, member}
-use Rattle.ir_tree_laws.proofs.Heads.{each_stands}
+use Rattle.ir_event.specs.tree_laws.Values.{type_of_value, region_at}
+use Rattle.ir_event.specs.tree_laws.Reads.{ops_in, last_id, last_at}
+use Rattle.ir_event.specs.tree_laws.Stands.{StepOf, StandOf, stand_id, stands, stand_in, stand_of, edit_step, edit_stand}
+use Rattle.ir_event.specs.tree_laws.Members.{In}
+use Rattle.ir_event.proofs.of_tree_laws.Listed.{bool_cases}
+use Rattle.ir_event.proofs.of_tree_laws.Readings.{stands_find}
+use Rattle.ir_event.proofs.of_tree_laws.Members.{stand, member}
+use Rattle.ir_event.proofs.of_tree_laws.Heads.{each_stands}
 use Rattle.listeners_surroundings.specs.Surroundings.{last_name, last_names, ended_by, outer_of, surround, surroundings}
 use Rattle.listeners_surroundings.specs.Near.{if_any, lasts_of, lasts_in, lasts_found}
 use Rattle.ir_event.proofs.Typed.{types_of, typed, typed_value}

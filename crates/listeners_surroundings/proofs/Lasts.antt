@@ -1,18 +1,18 @@
 -- The last operations of blocks.
 use Rattle.std.proofs.Common.{◌≡◌, refl, ap, sym, ◌∙◌, ℕ, List, [], ◌∷◌, Option, Some, None}
 use Rattle.std.specs.Prelude.{option_and_then}
-use Rattle.ir_tree.specs.declared.place.Place.{Place}
-use Rattle.ir_tree.specs.Tree.{OpOf, block, OpsOf, no_ops, next, head, regions}
-use Rattle.ir_tree.specs.Ids.{HasDistinctIds, first_of}
-use Rattle.ir_tree.specs.Places.{place_of}
-use Rattle.ir_tree_laws.specs.Values.{region_at}
-use Rattle.ir_tree_laws.specs.Reads.{last_id}
-use Rattle.ir_tree_laws.specs.Stands.{StepOf, stands}
-use Rattle.ir_tree_laws.specs.Members.{In}
-use Rattle.ir_tree_laws.proofs.Readings.{step}
-use Rattle.ir_tree_laws.proofs.Members.{stand, joined_ops}
-use Rattle.ir_tree_laws.proofs.Around.{around_there, place_of_member}
-use Rattle.ir_tree_laws.proofs.Values.{shape}
+use Rattle.ir_event.specs.trees.declared.place.Place.{Place}
+use Rattle.ir_event.specs.trees.Tree.{OpOf, block, OpsOf, no_ops, next, head, regions}
+use Rattle.ir_event.specs.trees.Ids.{HasDistinctIds, first_of}
+use Rattle.ir_event.specs.trees.Places.{place_of}
+use Rattle.ir_event.specs.tree_laws.Values.{region_at}
+use Rattle.ir_event.specs.tree_laws.Reads.{last_id}
+use Rattle.ir_event.specs.tree_laws.Stands.{StepOf, stands}
+use Rattle.ir_event.specs.tree_laws.Members.{In}
+use Rattle.ir_event.proofs.of_tree_laws.Readings.{step}
+use Rattle.ir_event.proofs.of_tree_laws.Members.{stand, joined_ops}
+use Rattle.ir_event.proofs.of_tree_laws.Around.{around_there, place_of_member}
+use Rattle.ir_event.proofs.of_tree_laws.Values.{shape}
 use Rattle.listeners_surroundings.proofs.Spots.{stands_in}
 use Rattle.std.proofs.lemmas.Option.{same_Some}
 

@@ -1,15 +1,15 @@
 -- What is around operations in a tree that one was taken out of.
 use Rattle.std.proofs.Common.{◌≡◌, refl, ap, sym, ◌∙◌, ℕ, zero, suc, ◌+◌, false, cond, eqb, eqb-true, List, [], ◌∷◌, map, Some, None, inl, inr}
-use Rattle.ir_tree.specs.declared.place.Place.{Place}
-use Rattle.ir_tree.specs.Tree.{OpOf, op, RegionsOf, no_regions, region, empty, block, OpsOf, no_ops, next, head, regions}
-use Rattle.ir_tree.specs.Ids.{HasDistinctIds, first_of}
-use Rattle.ir_tree.specs.Places.{each_list, regions_each_list, ops_each_list, drop_op, place_of}
+use Rattle.ir_event.specs.trees.declared.place.Place.{Place}
+use Rattle.ir_event.specs.trees.Tree.{OpOf, op, RegionsOf, no_regions, region, empty, block, OpsOf, no_ops, next, head, regions}
+use Rattle.ir_event.specs.trees.Ids.{HasDistinctIds, first_of}
+use Rattle.ir_event.specs.trees.Places.{each_list, regions_each_list, ops_each_list, drop_op, place_of}
 use Rattle.ir_event.specs.store.Nodes.{node_of, regions_arguments}
-use Rattle.ir_tree_laws.specs.Values.{region_at}
-use Rattle.ir_tree_laws.specs.Reads.{is_among}
-use Rattle.ir_tree_laws.specs.Stands.{StepOf, StandOf, stand_id, stands, dropping, left_step, left_stand}
-use Rattle.ir_tree_laws.specs.Members.{In}
-use Rattle.ir_tree_laws.proofs.Listed.{bool_cases, neither}
+use Rattle.ir_event.specs.tree_laws.Values.{region_at}
+use Rattle.ir_event.specs.tree_laws.Reads.{is_among}
+use Rattle.ir_event.specs.tree_laws.Stands.{StepOf, StandOf, stand_id, stands, dropping, left_step, left_stand}
+use Rattle.ir_event.specs.tree_laws.Members.{In}
+use Rattle.ir_event.proofs.of_tree_laws.Listed.{bool_cases, neither}
 use Rattle.listeners_surroundings.specs.Surroundings.{last_name, last_names, ended_by, outer_of}
 use Rattle.listeners_surroundings.proofs.Spots.{free_elsewhere}
 

@@ -1,21 +1,21 @@
 -- Each event leaves the surroundings of all operations that it doesn't reach.
 use Rattle.std.proofs.Common.{◌≡◌, refl, ap, sym, ◌∙◌, subst, ℕ, zero, suc, ◌+◌, true, false, true≢false, cond, eqb, eq-eqb, eqb-true, List, [], ◌∷◌, map, Option, Some, None, inl, inr, ◌⊎◌}
 use Rattle.std.specs.Prelude.{option_map}
-use Rattle.ir_tree.specs.declared.value.Value.{Value}
-use Rattle.ir_tree.specs.declared.place.Place.{Place}
-use Rattle.ir_tree.specs.Tree.{HeadOf, OpOf, op, RegionsOf, no_regions, region, empty, block, OpsOf, no_ops, next, head, regions}
-use Rattle.ir_tree.specs.Ids.{HasDistinctIds, first_of, find}
-use Rattle.ir_tree.specs.Places.{each_list, regions_each_list, place_of, without}
-use Rattle.ir_tree.specs.Uses.{uses_of}
-use Rattle.ir_tree.specs.Frames.{owner_of}
+use Rattle.ir_event.specs.trees.declared.value.Value.{Value}
+use Rattle.ir_event.specs.trees.declared.place.Place.{Place}
+use Rattle.ir_event.specs.trees.Tree.{HeadOf, OpOf, op, RegionsOf, no_regions, region, empty, block, OpsOf, no_ops, next, head, regions}
+use Rattle.ir_event.specs.trees.Ids.{HasDistinctIds, first_of, find}
+use Rattle.ir_event.specs.trees.Places.{each_list, regions_each_list, place_of, without}
+use Rattle.ir_event.specs.trees.Uses.{uses_of}
+use Rattle.ir_event.specs.trees.Frames.{owner_of}
 use Rattle.ir_event.specs.store.Nodes.{node_of}
-use Rattle.ir_tree_laws.specs.Changes.{HoldNone}
-use Rattle.ir_tree_laws.specs.Values.{region_at}
-use Rattle.ir_tree_laws.specs.Reads.{last_id, last_at}
-use Rattle.ir_tree_laws.specs.Stands.{StepOf, StandOf, stand_id, stands, dropping, left_step, left_stand}
-use Rattle.ir_tree_laws.specs.Members.{In}
-use Rattle.ir_tree_laws.proofs.Listed.{bool_cases}
-use Rattle.ir_tree_laws.proofs.Members.{stand}
+use Rattle.ir_event.specs.tree_laws.Changes.{HoldNone}
+use Rattle.ir_event.specs.tree_laws.Values.{region_at}
+use Rattle.ir_event.specs.tree_laws.Reads.{last_id, last_at}
+use Rattle.ir_event.specs.tree_laws.Stands.{StepOf, StandOf, stand_id, stands, dropping, left_step, left_stand}
+use Rattle.ir_event.specs.tree_laws.Members.{In}
+use Rattle.ir_event.proofs.of_tree_laws.Listed.{bool_cases}
+use Rattle.ir_event.proofs.of_tree_laws.Members.{stand}
 use Rattle.listeners_surroundings.specs.Surroundings.{last_name, last_names, ended_by, outer_of, surroundings}
 use Rattle.listeners_surroundings.proofs.Operands.{not_used}
 use Rattle.listeners_surroundings.proofs.Left.{AlikeStands, left_list, left_head, left_node, first_gone, far_alike}

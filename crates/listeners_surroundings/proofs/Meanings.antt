@@ -2,19 +2,19 @@
 use Rattle.std.proofs.Common.{◌≡◌, refl, ap, sym, ◌∙◌, ℕ, zero, suc, ◌+◌, true, false, cond, eqb, List, [], ◌∷◌, ◌++◌, map, Option, Some, None}
 use Rattle.std.specs.Prelude.{option_map, option_and_then}
 use Rattle.std.proofs.lemmas.List.{map-append}
-use Rattle.ir_tree.specs.declared.value.Value.{Value}
-use Rattle.ir_tree.specs.declared.place.Place.{Place}
-use Rattle.ir_tree.specs.Tree.{OpOf, op, RegionsOf, no_regions, region, RegionOf, empty, block, OpsOf, no_ops, next, head, regions}
-use Rattle.ir_tree.specs.Ids.{find, first_of}
-use Rattle.ir_tree.specs.Places.{place_of}
-use Rattle.ir_tree.specs.Maps.{map_head, map_tree, map_regions, map_region, map_ops}
-use Rattle.ir_tree.proofs.Mapped.{map_find, map_place}
+use Rattle.ir_event.specs.trees.declared.value.Value.{Value}
+use Rattle.ir_event.specs.trees.declared.place.Place.{Place}
+use Rattle.ir_event.specs.trees.Tree.{OpOf, op, RegionsOf, no_regions, region, RegionOf, empty, block, OpsOf, no_ops, next, head, regions}
+use Rattle.ir_event.specs.trees.Ids.{find, first_of}
+use Rattle.ir_event.specs.trees.Places.{place_of}
+use Rattle.ir_event.specs.trees.Maps.{map_head, map_tree, map_regions, map_region, map_ops}
+use Rattle.ir_event.proofs.of_trees.Mapped.{map_find, map_place}
 use Rattle.ir_event.specs.store.Nodes.{node_of, regions_arguments}
-use Rattle.ir_tree_laws.specs.Values.{region_at, type_of_value}
-use Rattle.ir_tree_laws.specs.Reads.{ops_in, ops_at, last_id, last_at, id_before, prev_of}
-use Rattle.ir_tree_laws.specs.Stands.{StepOf, StandOf, stand_id, stands, regions_stands, region_stands, ops_stands, stand_in, stand_of}
-use Rattle.ir_tree_laws.proofs.Readings.{step, option_first}
-use Rattle.ir_tree_laws.proofs.Contents.{map_type_of_value, map_region_at}
+use Rattle.ir_event.specs.tree_laws.Values.{region_at, type_of_value}
+use Rattle.ir_event.specs.tree_laws.Reads.{ops_in, ops_at, last_id, last_at, id_before, prev_of}
+use Rattle.ir_event.specs.tree_laws.Stands.{StepOf, StandOf, stand_id, stands, regions_stands, region_stands, ops_stands, stand_in, stand_of}
+use Rattle.ir_event.proofs.of_tree_laws.Readings.{step, option_first}
+use Rattle.ir_event.proofs.of_tree_laws.Contents.{map_type_of_value, map_region_at}
 use Rattle.ir_event.specs.declared.event.Event.{Event}
 use Rattle.ir_event.specs.declared.event.Event.TheVariants.{Put, Take, SetOperand, SetEntry, Shift}
 use Rattle.listeners_surroundings.specs.Surroundings.{last_name, last_names, ended_by, outer_of, surround, surroundings}

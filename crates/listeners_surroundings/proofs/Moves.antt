@@ -1,24 +1,24 @@
 -- What stands around operations where one is taken out, put in or moved.
 use Rattle.std.proofs.Common.{◌≡◌, refl, ap, sym, ◌∙◌, subst, ℕ, ◌+◌, true≢false, eqb, eq-eqb, eqb-true, List, [], ◌∷◌, map, Option, Some, None, inl, inr, ◌⊎◌}
 use Rattle.std.specs.Prelude.{option_map}
-use Rattle.ir_tree.specs.declared.value.Value.{Value}
-use Rattle.ir_tree.specs.declared.place.Place.{Place}
-use Rattle.ir_tree.specs.Tree.{HeadOf, OpOf, op, RegionsOf, no_regions, region, empty, block, OpsOf, no_ops, next, head, regions}
-use Rattle.ir_tree.specs.Ids.{HasDistinctIds, find}
-use Rattle.ir_tree.specs.Uses.{uses_of}
-use Rattle.ir_tree.specs.Places.{place_of, without}
-use Rattle.ir_tree.specs.Frames.{owner_of}
+use Rattle.ir_event.specs.trees.declared.value.Value.{Value}
+use Rattle.ir_event.specs.trees.declared.place.Place.{Place}
+use Rattle.ir_event.specs.trees.Tree.{HeadOf, OpOf, op, RegionsOf, no_regions, region, empty, block, OpsOf, no_ops, next, head, regions}
+use Rattle.ir_event.specs.trees.Ids.{HasDistinctIds, find}
+use Rattle.ir_event.specs.trees.Uses.{uses_of}
+use Rattle.ir_event.specs.trees.Places.{place_of, without}
+use Rattle.ir_event.specs.trees.Frames.{owner_of}
 use Rattle.ir_event.specs.store.Nodes.{node_of}
-use Rattle.ir_tree_laws.specs.Changes.{HoldNone}
-use Rattle.ir_tree_laws.specs.Values.{type_of_value}
-use Rattle.ir_tree_laws.specs.Reads.{last_at, prev_of}
-use Rattle.ir_tree_laws.specs.Stands.{StepOf, StandOf, stand_id, stands, regions_stands, stand_of, is_gone, left_step, left_stand}
-use Rattle.ir_tree_laws.specs.Members.{In}
-use Rattle.ir_tree_laws.proofs.Listed.{bool_cases}
-use Rattle.ir_tree_laws.proofs.Readings.{stands_find}
-use Rattle.ir_tree_laws.proofs.Members.{stand, within, member, stand_found, found_stands}
-use Rattle.ir_tree_laws.proofs.Around.{Within, gone_within}
-use Rattle.ir_tree_laws.proofs.Without.{left_member, member_left}
+use Rattle.ir_event.specs.tree_laws.Changes.{HoldNone}
+use Rattle.ir_event.specs.tree_laws.Values.{type_of_value}
+use Rattle.ir_event.specs.tree_laws.Reads.{last_at, prev_of}
+use Rattle.ir_event.specs.tree_laws.Stands.{StepOf, StandOf, stand_id, stands, regions_stands, stand_of, is_gone, left_step, left_stand}
+use Rattle.ir_event.specs.tree_laws.Members.{In}
+use Rattle.ir_event.proofs.of_tree_laws.Listed.{bool_cases}
+use Rattle.ir_event.proofs.of_tree_laws.Readings.{stands_find}
+use Rattle.ir_event.proofs.of_tree_laws.Members.{stand, within, member, stand_found, found_stands}
+use Rattle.ir_event.proofs.of_tree_laws.Around.{Within, gone_within}
+use Rattle.ir_event.proofs.of_tree_laws.Without.{left_member, member_left}
 use Rattle.listeners_surroundings.specs.Surroundings.{last_names, outer_of, surroundings}
 use Rattle.listeners_surroundings.proofs.Operands.{not_used}
 use Rattle.listeners_surroundings.proofs.Spots.{next_in, prev_is, last_is, placed_there, again}

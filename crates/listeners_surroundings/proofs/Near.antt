@@ -1,19 +1,19 @@
 -- Each event leaves the surroundings of all operations but those near it.
 use Rattle.std.proofs.Common.{◌≡◌, refl, ap, sym, ◌∙◌, subst, ℕ, Bool, true, false, cond, eqb, eqb-true, List, [], ◌∷◌, map, Option, Some, None, inl, inr}
-use Rattle.ir_types.specs.Things.{Things}
-use Rattle.ir_tree.specs.declared.place.Place.{Place}
-use Rattle.ir_tree.specs.declared.place.Part.{Part}
-use Rattle.ir_tree.specs.declared.place.Part.TheVariants.{Props, Attrs}
-use Rattle.ir_tree.specs.Tree.{HeadOf, OpOf, head}
-use Rattle.ir_tree.specs.Edits.{each_head, at, put_operand, change_part}
-use Rattle.ir_tree.specs.Ids.{HasDistinctIds}
-use Rattle.ir_tree.specs.WellFormed.{ModuleOf}
-use Rattle.ir_tree_laws.specs.Changes.{Takes}
-use Rattle.ir_tree_laws.specs.Reads.{last_at, prev_of}
-use Rattle.ir_tree_laws.specs.Stands.{StepOf, StandOf, stand_id, stands, left_step, left_stand}
-use Rattle.ir_tree_laws.specs.Members.{In}
-use Rattle.ir_tree_laws.proofs.Listed.{bool_cases}
-use Rattle.ir_tree_laws.proofs.Members.{stand}
+use Rattle.ir_event.specs.types.Things.{Things}
+use Rattle.ir_event.specs.trees.declared.place.Place.{Place}
+use Rattle.ir_event.specs.trees.declared.place.Part.{Part}
+use Rattle.ir_event.specs.trees.declared.place.Part.TheVariants.{Props, Attrs}
+use Rattle.ir_event.specs.trees.Tree.{HeadOf, OpOf, head}
+use Rattle.ir_event.specs.trees.Edits.{each_head, at, put_operand, change_part}
+use Rattle.ir_event.specs.trees.Ids.{HasDistinctIds}
+use Rattle.ir_event.specs.trees.WellFormed.{ModuleOf}
+use Rattle.ir_event.specs.tree_laws.Changes.{Takes}
+use Rattle.ir_event.specs.tree_laws.Reads.{last_at, prev_of}
+use Rattle.ir_event.specs.tree_laws.Stands.{StepOf, StandOf, stand_id, stands, left_step, left_stand}
+use Rattle.ir_event.specs.tree_laws.Members.{In}
+use Rattle.ir_event.proofs.of_tree_laws.Listed.{bool_cases}
+use Rattle.ir_event.proofs.of_tree_laws.Members.{stand}
 use Rattle.ir_event.specs.declared.event.Event.{Event}
 use Rattle.ir_event.specs.declared.event.Event.TheVariants.{Put, Take, SetOperand, SetEntry, Shift}
 use Rattle.ir_event.specs.Modules.{Module}

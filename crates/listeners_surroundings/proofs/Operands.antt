@@ -1,14 +1,14 @@
 -- An operand is a use, and lists that are the same at each member are one.
 use Rattle.std.proofs.Common.{◌≡◌, refl, ap, sym, ◌∙◌, ℕ, ◌+◌, Bool, true, false, cond, eq-eqb, List, [], ◌∷◌, ◌++◌, map, inl, inr}
-use Rattle.ir_tree.specs.declared.value.Value.{Value}
-use Rattle.ir_tree.specs.declared.value.Value.TheVariants.{Result, Arg}
-use Rattle.ir_tree.specs.Tree.{OpOf, head}
-use Rattle.ir_tree.specs.Uses.{same_value, operand_uses, uses_of}
-use Rattle.ir_tree_laws.specs.Stands.{StandOf, stand_id, stands, gather}
-use Rattle.ir_tree_laws.specs.Members.{In}
-use Rattle.ir_tree_laws.proofs.Readings.{stands_uses}
-use Rattle.ir_types.proofs.Truths.{nil_parts}
-use Rattle.ir_tree.proofs.Replaced.{same_value_refl}
+use Rattle.ir_event.specs.trees.declared.value.Value.{Value}
+use Rattle.ir_event.specs.trees.declared.value.Value.TheVariants.{Result, Arg}
+use Rattle.ir_event.specs.trees.Tree.{OpOf, head}
+use Rattle.ir_event.specs.trees.Uses.{same_value, operand_uses, uses_of}
+use Rattle.ir_event.specs.tree_laws.Stands.{StandOf, stand_id, stands, gather}
+use Rattle.ir_event.specs.tree_laws.Members.{In}
+use Rattle.ir_event.proofs.of_tree_laws.Readings.{stands_uses}
+use Rattle.ir_event.proofs.of_types.Truths.{nil_parts}
+use Rattle.ir_event.proofs.of_trees.Replaced.{same_value_refl}
 
 -- what is the same at each member gives the same list
 pub same_map : {X Y : Type 0} (f g : X → Y) (xs : List X) → ((x : X) → In x xs → f x ≡ g x) → map f xs ≡ map g xs

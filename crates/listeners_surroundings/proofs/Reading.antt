@@ -4,25 +4,25 @@ use Rattle.std.specs.Prelude.{option_map, option_and_then, nat_le}
 use Rattle.std.specs.List.{All}
 use Rattle.std.specs.FinMap as finmap
 use Rattle.std.proofs.lemmas.List.Elements.{All-nil, All-cons}
-use Rattle.ir_tree.specs.declared.value.Value.{Value}
-use Rattle.ir_tree.specs.declared.place.Place.{Place}
-use Rattle.ir_tree.specs.Tree.{HeadOf, OpOf, Op, op, RegionsOf, no_regions, region, RegionOf, empty, block, OpsOf, no_ops, next, head, regions, region_count}
-use Rattle.ir_tree.specs.Ids.{HasDistinctIds, find, first_of, has_id}
-use Rattle.ir_tree.specs.Places.{first_id, place_of}
-use Rattle.ir_tree.specs.Limits.{most_regions, items_fit, head_fits, all_arguments_pass, op_fits}
-use Rattle.ir_tree.specs.WellFormed.{IsFormed}
+use Rattle.ir_event.specs.trees.declared.value.Value.{Value}
+use Rattle.ir_event.specs.trees.declared.place.Place.{Place}
+use Rattle.ir_event.specs.trees.Tree.{HeadOf, OpOf, Op, op, RegionsOf, no_regions, region, RegionOf, empty, block, OpsOf, no_ops, next, head, regions, region_count}
+use Rattle.ir_event.specs.trees.Ids.{HasDistinctIds, find, first_of, has_id}
+use Rattle.ir_event.specs.trees.Places.{first_id, place_of}
+use Rattle.ir_event.specs.trees.Limits.{most_regions, items_fit, head_fits, all_arguments_pass, op_fits}
+use Rattle.ir_event.specs.trees.WellFormed.{IsFormed}
 use Rattle.ir_event.specs.store.Nodes.{Node, NodeOf, node_of, regions_arguments}
 use Rattle.ir_event.specs.store.Stored.{Stored, known}
-use Rattle.ir_tree_laws.specs.Values.{type_of_value, has_value, region_at}
-use Rattle.ir_tree_laws.specs.Reads.{ops_in, last_id, last_at, parent_of, next_of}
-use Rattle.ir_tree_laws.specs.Stands.{StepOf, StandOf, stand_id, stands, stand_of, place_in, sees}
-use Rattle.ir_tree_laws.specs.Members.{In}
-use Rattle.ir_tree_laws.proofs.Readings.{stands_find}
-use Rattle.ir_tree_laws.proofs.Members.{stand, joined_ops, member, stand_of_member, found_stands, stand_found}
-use Rattle.ir_tree_laws.proofs.Around.{around_there, member_of_place, place_of_member, absent_find, present_stand}
-use Rattle.ir_tree_laws.proofs.Formed.{from_formed}
-use Rattle.ir_tree_laws.proofs.Values.{seen_by}
-use Rattle.ir_tree_laws.proofs.Listed.{all_each, both, bool_cases}
+use Rattle.ir_event.specs.tree_laws.Values.{type_of_value, has_value, region_at}
+use Rattle.ir_event.specs.tree_laws.Reads.{ops_in, last_id, last_at, parent_of, next_of}
+use Rattle.ir_event.specs.tree_laws.Stands.{StepOf, StandOf, stand_id, stands, stand_of, place_in, sees}
+use Rattle.ir_event.specs.tree_laws.Members.{In}
+use Rattle.ir_event.proofs.of_tree_laws.Readings.{stands_find}
+use Rattle.ir_event.proofs.of_tree_laws.Members.{stand, joined_ops, member, stand_of_member, found_stands, stand_found}
+use Rattle.ir_event.proofs.of_tree_laws.Around.{around_there, member_of_place, place_of_member, absent_find, present_stand}
+use Rattle.ir_event.proofs.of_tree_laws.Formed.{from_formed}
+use Rattle.ir_event.proofs.of_tree_laws.Values.{seen_by}
+use Rattle.ir_event.proofs.of_tree_laws.Listed.{all_each, both, bool_cases}
 use Rattle.listeners_surroundings.specs.Surroundings.{OuterOf, last_name, last_names, ended_by, outer_of, surround, surroundings}
 use Rattle.listeners_surroundings.specs.Gathered.{last_name_at, from_on, outer_at, gather_looks, regions_found}
 use Rattle.listeners_surroundings.proofs.Spots.{stands_in, last_joined}

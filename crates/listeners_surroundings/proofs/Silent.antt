@@ -1,10 +1,10 @@
 -- An operation whose name says that nothing is kept about it.
 use Rattle.std.proofs.Common.{◌≡◌, ap, sym, ◌∙◌, ℕ, List, Bool, true, false, cond, Some, None}
 use Rattle.std.specs.Prelude.{option_map, option_and_then}
-use Rattle.ir_types.specs.Things.{Things}
-use Rattle.ir_types.specs.Terms.{TypeTerm, AttrTerm, name_term, type_term, attr_term}
-use Rattle.ir_tree.specs.Ids.{HasDistinctIds, has_id}
-use Rattle.ir_tree.specs.Meaning.{meaning}
+use Rattle.ir_event.specs.types.Things.{Things}
+use Rattle.ir_event.specs.types.Terms.{TypeTerm, AttrTerm, name_term, type_term, attr_term}
+use Rattle.ir_event.specs.trees.Ids.{HasDistinctIds, has_id}
+use Rattle.ir_event.specs.trees.Meaning.{meaning}
 use Rattle.ir_event.specs.store.Nodes.{Node, node_of}
 use Rattle.ir_event.specs.store.Stored.{Stored, known}
 use Rattle.listeners_surroundings.specs.Surroundings.{SurroundingsOf, surround, surroundings}

@@ -14,11 +14,11 @@ use Rattle.std.specs.Cmp.{unsigned_tied}
 use Rattle.std.specs.FinMap.{nat_cmp-IsAntisymmetric}
 use Rattle.std.specs.FinMap.Entries.{find, below_all, is_sorted, find-put, is_sorted-put, same_entries}
 use Rattle.std.proofs.lemmas.Cmp.{nat_cmp_total}
-use Rattle.ir_tree.specs.Tree.{OpOf}
-use Rattle.ir_tree_laws.specs.Stands.{StandOf, stand_id, stands, stand_in}
+use Rattle.ir_event.specs.trees.Tree.{OpOf}
+use Rattle.ir_event.specs.tree_laws.Stands.{StandOf, stand_id, stands, stand_in}
 use Rattle.listeners_surroundings.specs.Surroundings.{SurroundingsOf, surround}
 use Rattle.listeners_surroundings.specs.Facts.{if_kept, kept_of, sorted_in, sorted_facts, kept_facts}
-use Rattle.ir_tree_laws.proofs.Listed.{bool_cases}
+use Rattle.ir_event.proofs.of_tree_laws.Listed.{bool_cases}
 
 pub tied : (q k : ℕ) → eq_by_cmp nat_cmp q k ≡ eqb k q
 tied q k = unsigned_tied q k ∙ turned q k

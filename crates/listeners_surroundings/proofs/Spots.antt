@@ -1,22 +1,22 @@
 -- What stands behind, before and around an operation, by the reading calls.
 use Rattle.std.proofs.Common.{◌≡◌, refl, ap, sym, ◌∙◌, ℕ, ◌+◌, false, List, [], ◌∷◌, ◌++◌, Some, inl, inr, ◌⊎◌}
 use Rattle.std.specs.Prelude.{option_and_then}
-use Rattle.ir_tree.specs.declared.place.Place.{Place}
-use Rattle.ir_tree.specs.Tree.{OpOf, op, RegionsOf, no_regions, region, RegionOf, empty, block, OpsOf, no_ops, next, head, regions, ops_of}
-use Rattle.ir_tree.specs.Ids.{HasDistinctIds, first_of}
-use Rattle.ir_tree.specs.Places.{first_id, place_of}
-use Rattle.ir_tree_laws.specs.Values.{region_at}
-use Rattle.ir_tree_laws.specs.Reads.{last_id, ops_in, last_at, prev_of, is_among}
-use Rattle.ir_tree_laws.specs.Stands.{StepOf, StandOf, stands, regions_stands, region_stands, ops_stands}
-use Rattle.ir_tree_laws.specs.Members.{In}
-use Rattle.ir_tree_laws.proofs.Listed.{bool_cases, in_left, in_right, in_parts}
-use Rattle.ir_tree_laws.proofs.Readings.{step}
-use Rattle.ir_tree_laws.proofs.Members.{stand, itself, within, joined_ops, ops_child, stand_found}
-use Rattle.ir_tree_laws.proofs.Around.{around_there, place_of_member}
-use Rattle.ir_tree_laws.proofs.Put.{child}
-use Rattle.ir_tree_laws.proofs.Values.{shape}
-use Rattle.ir_tree_laws.proofs.Neighbours.{prev_there}
-use Rattle.ir_tree_laws.proofs.Reverted.{among_split}
+use Rattle.ir_event.specs.trees.declared.place.Place.{Place}
+use Rattle.ir_event.specs.trees.Tree.{OpOf, op, RegionsOf, no_regions, region, RegionOf, empty, block, OpsOf, no_ops, next, head, regions, ops_of}
+use Rattle.ir_event.specs.trees.Ids.{HasDistinctIds, first_of}
+use Rattle.ir_event.specs.trees.Places.{first_id, place_of}
+use Rattle.ir_event.specs.tree_laws.Values.{region_at}
+use Rattle.ir_event.specs.tree_laws.Reads.{last_id, ops_in, last_at, prev_of, is_among}
+use Rattle.ir_event.specs.tree_laws.Stands.{StepOf, StandOf, stands, regions_stands, region_stands, ops_stands}
+use Rattle.ir_event.specs.tree_laws.Members.{In}
+use Rattle.ir_event.proofs.of_tree_laws.Listed.{bool_cases, in_left, in_right, in_parts}
+use Rattle.ir_event.proofs.of_tree_laws.Readings.{step}
+use Rattle.ir_event.proofs.of_tree_laws.Members.{stand, itself, within, joined_ops, ops_child, stand_found}
+use Rattle.ir_event.proofs.of_tree_laws.Around.{around_there, place_of_member}
+use Rattle.ir_event.proofs.of_tree_laws.Put.{child}
+use Rattle.ir_event.proofs.of_tree_laws.Values.{shape}
+use Rattle.ir_event.proofs.of_tree_laws.Neighbours.{prev_there}
+use Rattle.ir_event.proofs.of_tree_laws.Reverted.{among_split}
 use Rattle.listeners_surroundings.specs.Surroundings.{outer_of}
 use Rattle.ir_event.proofs.Facts.{joined_more}
 

@@ -4,9 +4,9 @@ use Rattle.std.specs.Prelude.{option_map, option_and_then}
 use Rattle.std.specs.List.{list_any, filter}
 use Rattle.std.specs.Ordering.{nat_cmp}
 use Rattle.std.specs.FinMap.Entries.{put}
-use Rattle.ir_tree.specs.Tree.{OpOf, head, regions, region_count}
-use Rattle.ir_tree.specs.Ids.{find}
-use Rattle.ir_tree_laws.specs.Stands.{StandOf, stand_id, stands}
+use Rattle.ir_event.specs.trees.Tree.{OpOf, head, regions, region_count}
+use Rattle.ir_event.specs.trees.Ids.{find}
+use Rattle.ir_event.specs.tree_laws.Stands.{StandOf, stand_id, stands}
 use Rattle.listeners_surroundings.specs.Surroundings.{SurroundingsOf, surround, surroundings}
 use Rattle.ir_event.specs.declared.event.Event.{Event}
 use Rattle.listeners_surroundings.specs.Near.{near}

@@ -2,12 +2,12 @@
 use Rattle.std.specs.Prelude.{if◌then◌else◌, ℕ, zero, suc, ◌+◌, ◌*◌, List, [], ◌∷◌, length, map, Option, Some, None}
 use Rattle.std.specs.Prelude.{option_map, option_and_then, IfSome}
 use Rattle.std.specs.List.{All}
-use Rattle.ir_types.specs.Things.{Things, IsType}
-use Rattle.ir_tree.specs.Tree.{OpOf, Op, head, regions, region_count}
-use Rattle.ir_tree_laws.specs.Reads.{ops_at}
-use Rattle.ir_tree_laws.specs.Stands.{stand_of}
-use Rattle.ir_types.specs.Terms.{TypeTerm, AttrTerm, name_term, type_term, attr_term}
-use Rattle.ir_tree.specs.Ids.{find}
+use Rattle.ir_event.specs.types.Things.{Things, IsType}
+use Rattle.ir_event.specs.trees.Tree.{OpOf, Op, head, regions, region_count}
+use Rattle.ir_event.specs.tree_laws.Reads.{ops_at}
+use Rattle.ir_event.specs.tree_laws.Stands.{stand_of}
+use Rattle.ir_event.specs.types.Terms.{TypeTerm, AttrTerm, name_term, type_term, attr_term}
+use Rattle.ir_event.specs.trees.Ids.{find}
 use Rattle.ir_event.specs.declared.event.Event.{Event}
 use Rattle.ir_event.specs.declared.event.Event.TheVariants.{Put, Take, SetOperand, SetEntry, Shift}
 use Rattle.ir_event.specs.Modules.{NodeIsOf}

@@ -1,6 +1,6 @@
 -- Surroundings with names, types and attributes changed.
 use Rattle.std.specs.Prelude.{map, option_map}
-use Rattle.ir_tree.specs.Maps.{map_head}
+use Rattle.ir_event.specs.trees.Maps.{map_head}
 use Rattle.ir_event.specs.store.Nodes.{NodeOf}
 use Rattle.listeners_surroundings.specs.Surroundings.{SurroundingsOf, OuterOf}
 

@@ -1,8 +1,8 @@
 -- The operations near an event.
 use Rattle.std.specs.Prelude.{ℕ, List, [], ◌∷◌, Option, Some, None, option_and_then}
-use Rattle.ir_tree.specs.Tree.{OpOf, RegionsOf, no_regions, region, regions}
-use Rattle.ir_tree.specs.Ids.{find}
-use Rattle.ir_tree_laws.specs.Reads.{ops_in, last_id, last_at, prev_of}
+use Rattle.ir_event.specs.trees.Tree.{OpOf, RegionsOf, no_regions, region, regions}
+use Rattle.ir_event.specs.trees.Ids.{find}
+use Rattle.ir_event.specs.tree_laws.Reads.{ops_in, last_id, last_at, prev_of}
 use Rattle.ir_event.specs.declared.event.Event.{Event}
 use Rattle.ir_event.specs.declared.event.Event.TheVariants.{Put, Take, SetOperand, SetEntry, Shift}
 

@@ -1,11 +1,11 @@
 -- What an operation is and has around it.
 use Rattle.std.specs.Prelude.{ℕ, List, [], ◌∷◌, map, Option, Some, None, option_map, option_and_then}
-use Rattle.ir_tree.specs.Tree.{OpOf, RegionsOf, no_regions, region, OpsOf, no_ops, next, head, regions}
-use Rattle.ir_tree.specs.Ids.{first_of}
+use Rattle.ir_event.specs.trees.Tree.{OpOf, RegionsOf, no_regions, region, OpsOf, no_ops, next, head, regions}
+use Rattle.ir_event.specs.trees.Ids.{first_of}
 use Rattle.ir_event.specs.store.Nodes.{NodeOf, node_of}
-use Rattle.ir_tree_laws.specs.Values.{type_of_value}
-use Rattle.ir_tree_laws.specs.Stands.{StepOf, StandOf, stand_of}
-use Rattle.ir_tree_laws.specs.Reads.{ops_in}
+use Rattle.ir_event.specs.tree_laws.Values.{type_of_value}
+use Rattle.ir_event.specs.tree_laws.Stands.{StepOf, StandOf, stand_of}
+use Rattle.ir_event.specs.tree_laws.Reads.{ops_in}
 
 -- what an operation sees of the one that it stands in: its name, and, where it is the last of its block, all
 -- that this one has beside the operations in its blocks

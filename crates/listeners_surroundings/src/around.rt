@@ -1,6 +1,6 @@
 //! What an operation is and has around it, gathered from a view.
 use ir_event::store::node::Node;
-use ir_types::ids::{NameId, TypeId};
+use ir_event::types::ids::{NameId, TypeId};
 
 /// What an operation sees of the one that it stands in.
 #[derive(Drop)]

@@ -2,8 +2,8 @@
 ghost use Rattle.std.specs.Prelude.{◌≡◌, ◌≤◌, ◌+◌, [], ◌∷◌, List, Option, Bool, ℕ, IfOk, OnOk, OnErr, true, false};
 ghost use Rattle.std.specs.Ordering.{nat_cmp};
 ghost use Rattle.std.specs.BTreeMap.{get};
-ghost use Rattle.ir_types.specs.Terms.{TypeTerm, AttrTerm, name_term};
-ghost use Rattle.ir_tree.specs.Ids.{find, has_id};
+ghost use Rattle.ir_event.specs.types.Terms.{TypeTerm, AttrTerm, name_term};
+ghost use Rattle.ir_event.specs.trees.Ids.{find, has_id};
 ghost use Rattle.ir_event.specs.Modules.{module_in};
 ghost use Rattle.ir_event.specs.declared.event.Event.TheVariants.{Put, Take};
 ghost use Rattle.listeners_surroundings.specs.Surroundings.{SurroundingsOf};
@@ -16,10 +16,10 @@ use crate::around::Around;
 use crate::gather::{around_of, gather, shown};
 use ir_event::event::Event;
 use ir_event::registry::registry::Registry;
+use ir_event::trees::place::Place;
+use ir_event::types::context::Context;
+use ir_event::types::ids::{NameId, OpId};
 use ir_event::view::View;
-use ir_tree::place::Place;
-use ir_types::context::Context;
-use ir_types::ids::{NameId, OpId};
 use std::alloc::{AllocError, Global};
 use std::collections::BTreeMap;
 

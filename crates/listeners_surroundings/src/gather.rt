@@ -2,11 +2,11 @@
 ghost use Rattle.std.specs.Prelude.{◌≡◌, ◌≤◌, ◌<◌, ◌+◌, ◌*◌, ◌^◌, true, Some, None, IfOk, OnErr, IfSome, length, map};
 ghost use Rattle.std.specs.Prelude.{option_map, option_and_then};
 ghost use Rattle.std.specs.List.{All};
-ghost use Rattle.ir_types.specs.Things.{IsType};
-ghost use Rattle.ir_tree.specs.Ids.{find, has_id};
+ghost use Rattle.ir_event.specs.types.Things.{IsType};
+ghost use Rattle.ir_event.specs.trees.Ids.{find, has_id};
 ghost use Rattle.ir_event.specs.store.Nodes.{node_of};
 ghost use Rattle.ir_event.specs.store.Stored.{known};
-ghost use Rattle.ir_tree_laws.specs.Values.{type_of_value, has_value};
+ghost use Rattle.ir_event.specs.tree_laws.Values.{type_of_value, has_value};
 ghost use Rattle.ir_event.specs.Modules.{NodeIsOf};
 ghost use Rattle.listeners_surroundings.specs.Surroundings.{surroundings};
 ghost use Rattle.listeners_surroundings.specs.Gathered.{AroundIsOf, gathered, outer_in, tree_in, last_name_at, from_on};
@@ -15,9 +15,9 @@ ghost use Rattle.listeners_surroundings.specs.declared.around.Outer.{Outer as Ga
 
 use crate::around::{Around, Outer};
 use ir_event::store::node::Node;
+use ir_event::trees::value::Value;
+use ir_event::types::ids::{NameId, OpId, TypeId};
 use ir_event::view::View;
-use ir_tree::value::Value;
-use ir_types::ids::{NameId, OpId, TypeId};
 use std::alloc::{AllocError, Global};
 
 /// What an operation of the module that the view shows is and has around it, or none where it isn't there. Memory is

@@ -4,15 +4,15 @@ ghost use Rattle.std.specs.Ordering.{nat_cmp};
 ghost use Rattle.std.specs.BTreeMap.{get};
 ghost use Rattle.ir_event.specs.Modules.{Module, things_in, module_in};
 ghost use Rattle.ir_event.specs.Step.{Step};
-ghost use Rattle.ir_tree.specs.Meaning.{Operation};
+ghost use Rattle.ir_event.specs.trees.Meaning.{Operation};
 ghost use Rattle.listeners_surroundings.specs.Facts.{Keeps, Renewed, kept_facts, kept_of, most_looks};
 
 use crate::fact::{Fact, follow, renew};
 use ir_event::event::Event;
 use ir_event::row::Memory;
+use ir_event::types::ids::OpId;
 use ir_event::view::View;
 use ir_event::world::World;
-use ir_types::ids::OpId;
 use std::alloc::{AllocError, Global};
 use std::collections::BTreeMap;
 

@@ -2,10 +2,10 @@
 ghost use Rattle.std.specs.Prelude.{◌≡◌, Bool, ℕ, List, Option, option_map, false, IsTrue};
 ghost use Rattle.std.specs.Ordering.{nat_cmp};
 ghost use Rattle.std.specs.FinMap.Entries.{is_sorted, find as look_up};
-ghost use Rattle.ir_types.specs.Things.{Things};
-ghost use Rattle.ir_types.specs.Terms.{TypeTerm, AttrTerm, name_term, type_term, attr_term};
-ghost use Rattle.ir_tree.specs.Tree.{Op};
-ghost use Rattle.ir_tree.specs.Meaning.{Operation, meaning};
+ghost use Rattle.ir_event.specs.types.Things.{Things};
+ghost use Rattle.ir_event.specs.types.Terms.{TypeTerm, AttrTerm, name_term, type_term, attr_term};
+ghost use Rattle.ir_event.specs.trees.Tree.{Op};
+ghost use Rattle.ir_event.specs.trees.Meaning.{Operation, meaning};
 ghost use Rattle.ir_event.specs.declared.event.Event.{Event as Edit};
 ghost use Rattle.ir_event.specs.Modules.{Module};
 ghost use Rattle.ir_event.specs.Step.{Step};

@@ -3,18 +3,18 @@ ghost use Rattle.std.specs.Prelude.{◌≡◌, IfSome, List, [], ℕ, map, slice
 ghost use Rattle.std.specs.List.{All};
 ghost use Rattle.std.specs.Option.{option_map};
 ghost use Rattle.std.specs.Str.{bytes_eq};
-ghost use Rattle.ir_types.specs.Things.{Things, IsName, IsAttr, AttrIsOf};
-ghost use Rattle.ir_types.specs.Terms.{TypeTerm, AttrTerm, attr_from, attr_term, name_term};
-ghost use Rattle.ir_types.specs.WordNames.{word_bytes};
-ghost use Rattle.ir_tree.specs.Maps.{map_entry};
+ghost use Rattle.ir_event.specs.types.Things.{Things, IsName, IsAttr, AttrIsOf};
+ghost use Rattle.ir_event.specs.types.Terms.{TypeTerm, AttrTerm, attr_from, attr_term, name_term};
+ghost use Rattle.ir_event.specs.types.WordNames.{word_bytes};
+ghost use Rattle.ir_event.specs.trees.Maps.{map_entry};
 ghost use Rattle.ir_event.specs.registry.Registry.{beside};
 ghost use Rattle.ir_event.specs.registry.Properties as properties;
 
-use ir_types::context::Context;
-use ir_types::ids::{AttrId, NameId};
-use ir_types::node::AttrNode;
-use ir_types::things::attr_of;
-use ir_types::word::Word;
+use ir_event::types::context::Context;
+use ir_event::types::ids::{AttrId, NameId};
+use ir_event::types::node::AttrNode;
+use ir_event::types::things::attr_of;
+use ir_event::types::word::Word;
 
 /// The attribute at a key of a dictionary, if there is one.
 pub fn entry(ctx: &Context, entries: &[(NameId, AttrId)], key: Word) -> Option<AttrId>
@@ -34,7 +34,7 @@ pub fn entry(ctx: &Context, entries: &[(NameId, AttrId)], key: Word) -> Option<A
 }
 
 /// Whether a name is that of a key.
-#[tactic(auto, using(ir_types::proofs::Truths::turned))]
+#[tactic(auto, using(ir_event::proofs::Truths::turned))]
 fn is_key(ctx: &Context, name: NameId, key: Word) -> bool
     ensures { result ≡ bytes_eq (word_bytes key) (name_term ctx.now name) }
 {

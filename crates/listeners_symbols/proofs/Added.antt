@@ -2,19 +2,19 @@
 use Rattle.std.proofs.Common.{◌≡◌, refl, ap, sym, ◌∙◌, subst, ℕ, Bool, true, false, true≢false, ◌||◌, eqb, eq-eqb, eqb-true, List, [], ◌∷◌, Option, Some, None, inl, inr}
 use Rattle.std.specs.Prelude.{option_map, is_some, IfSome}
 use Rattle.std.specs.List.{list_any}
-use Rattle.ir_types.specs.Things.{Things}
-use Rattle.ir_tree.specs.Ids.{ids, has_id}
-use Rattle.ir_tree.specs.Meaning.{Operation}
-use Rattle.ir_tree_laws.specs.Stands.{stands, stand_of}
-use Rattle.ir_tree_laws.proofs.Listed.{bool_cases, neither}
-use Rattle.ir_tree_laws.proofs.Members.{member}
-use Rattle.ir_tree_laws.proofs.Around.{stand_present}
+use Rattle.ir_event.specs.types.Things.{Things}
+use Rattle.ir_event.specs.trees.Ids.{ids, has_id}
+use Rattle.ir_event.specs.trees.Meaning.{Operation}
+use Rattle.ir_event.specs.tree_laws.Stands.{stands, stand_of}
+use Rattle.ir_event.proofs.of_tree_laws.Listed.{bool_cases, neither}
+use Rattle.ir_event.proofs.of_tree_laws.Members.{member}
+use Rattle.ir_event.proofs.of_tree_laws.Around.{stand_present}
 use Rattle.ir_event.specs.declared.world.World.{World}
 use Rattle.ir_event.specs.Modules.{module_in}
 use Rattle.listeners_symbols.specs.Roles.{Stand, role, role_of}
 use Rattle.listeners_symbols.specs.Table.{Table, Says, Keeps, Renewed, AreRight, Added, RoleIsOf, role_meaning}
 use Rattle.std.proofs.lemmas.Bool.{or_left, or_right}
-use Rattle.ir_tree_laws.proofs.Reasoned.{some_there}
+use Rattle.ir_event.proofs.of_tree_laws.Reasoned.{some_there}
 
 module _ (c : Things) (t : Operation) where
   pub added_none : (f : Table) → Added c t [] f f

@@ -3,26 +3,26 @@ use Rattle.std.proofs.Common.{◌≡◌, refl, ap, sym, ◌∙◌, subst, ℕ, s
 use Rattle.std.specs.Prelude.{option_map, option_and_then, IfSome}
 use Rattle.std.specs.List.{All, list_any}
 use Rattle.std.proofs.lemmas.List.Elements.{All-head, All-tail}
-use Rattle.ir_types.specs.Things.{Things, Grows, IsName, IsType, IsAttr}
-use Rattle.ir_types.specs.Sound.{Holds, IsSound}
-use Rattle.ir_types.specs.Terms.{TypeTerm, AttrTerm, name_term, type_term}
-use Rattle.ir_types.proofs.Growth.{front_length, grows_refl}
-use Rattle.ir_types.proofs.Terms.{name_stays, type_stays, attr_stays}
-use Rattle.ir_tree.specs.declared.place.Place.{Place}
-use Rattle.ir_tree.specs.Tree.{head}
-use Rattle.ir_tree.specs.Ids.{HasDistinctIds, ids, find, has_id}
-use Rattle.ir_tree.specs.Places.{place_of, without}
-use Rattle.ir_tree.specs.Meaning.{Operation}
-use Rattle.ir_tree_laws.specs.Reads.{parent_of}
-use Rattle.ir_tree_laws.specs.Stands.{StepOf, stand_id, stands, stand_in, stand_of, place_in}
-use Rattle.ir_tree_laws.specs.Members.{In}
-use Rattle.ir_tree_laws.proofs.Listed.{bool_cases}
-use Rattle.ir_tree_laws.proofs.Members.{stand, member, same_stand, found_stands}
-use Rattle.ir_tree_laws.proofs.Around.{member_of_place, present_stand, stand_present, left_apart}
-use Rattle.ir_tree_laws.proofs.Readings.{stands_find}
+use Rattle.ir_event.specs.types.Things.{Things, Grows, IsName, IsType, IsAttr}
+use Rattle.ir_event.specs.types.Sound.{Holds, IsSound}
+use Rattle.ir_event.specs.types.Terms.{TypeTerm, AttrTerm, name_term, type_term}
+use Rattle.ir_event.proofs.of_types.Growth.{front_length, grows_refl}
+use Rattle.ir_event.proofs.of_types.Terms.{name_stays, type_stays, attr_stays}
+use Rattle.ir_event.specs.trees.declared.place.Place.{Place}
+use Rattle.ir_event.specs.trees.Tree.{head}
+use Rattle.ir_event.specs.trees.Ids.{HasDistinctIds, ids, find, has_id}
+use Rattle.ir_event.specs.trees.Places.{place_of, without}
+use Rattle.ir_event.specs.trees.Meaning.{Operation}
+use Rattle.ir_event.specs.tree_laws.Reads.{parent_of}
+use Rattle.ir_event.specs.tree_laws.Stands.{StepOf, stand_id, stands, stand_in, stand_of, place_in}
+use Rattle.ir_event.specs.tree_laws.Members.{In}
+use Rattle.ir_event.proofs.of_tree_laws.Listed.{bool_cases}
+use Rattle.ir_event.proofs.of_tree_laws.Members.{stand, member, same_stand, found_stands}
+use Rattle.ir_event.proofs.of_tree_laws.Around.{member_of_place, present_stand, stand_present, left_apart}
+use Rattle.ir_event.proofs.of_tree_laws.Readings.{stands_find}
 use Rattle.ir_event.specs.Bounds.{op_of}
 use Rattle.ir_event.specs.Listener.{is_take}
-use Rattle.ir_tree_laws.proofs.Without.{member_left}
+use Rattle.ir_event.proofs.of_tree_laws.Without.{member_left}
 use Rattle.ir_event.specs.Rows.{IsSymbol}
 use Rattle.ir_event.specs.declared.event.Event.{Event}
 use Rattle.ir_event.specs.declared.event.Event.TheVariants.{Put, Take, SetOperand, SetEntry, Shift}

@@ -9,17 +9,17 @@ use Rattle.std.specs.BTreeMap.{is_at}
 use Rattle.std.specs.BTreeSet.{contains}
 use Rattle.std.proofs.lemmas.List.Elements.{All-push, All-head, All-tail}
 use Rattle.std.proofs.lemmas.List.Folds.{list_any-append}
-use Rattle.ir_types.specs.Things.{Things, IsAttr}
-use Rattle.ir_types.specs.Terms.{AttrTerm, Symbol, attr_term, name_term}
-use Rattle.ir_types.specs.Sound.{IsSound}
-use Rattle.ir_types.proofs.Terms.{attr_term_one}
-use Rattle.ir_tree_laws.proofs.Listed.{bool_cases}
+use Rattle.ir_event.specs.types.Things.{Things, IsAttr}
+use Rattle.ir_event.specs.types.Terms.{AttrTerm, Symbol, attr_term, name_term}
+use Rattle.ir_event.specs.types.Sound.{IsSound}
+use Rattle.ir_event.proofs.of_types.Terms.{attr_term_one}
+use Rattle.ir_event.proofs.of_tree_laws.Listed.{bool_cases}
 use Rattle.listeners_symbols.specs.declared.role.Reference.{Reference}
 use Rattle.listeners_symbols.specs.declared.references.Found.{Found}
 use Rattle.listeners_symbols.specs.Roles.{has_parts}
 use Rattle.listeners_symbols.specs.Table.{reference_meaning, ReferenceIsOf}
 use Rattle.listeners_symbols.specs.Found.{found_meaning, HasItsParts, IsFound}
-use Rattle.ir_types.proofs.Truths.{same_test}
+use Rattle.ir_event.proofs.of_types.Truths.{same_test}
 
 parts_decide : (xs ys : List (List ℕ)) → Decides (pointwise bytes_eq xs ys) (xs ≡ ys)
 parts_decide = pointwise_decides bytes_decides

@@ -3,23 +3,23 @@ use Rattle.std.proofs.Common.{◌≡◌, refl, ap, sym, ◌∙◌, subst, ℕ, B
 use Rattle.std.specs.Prelude.{option_map, is_some}
 use Rattle.std.specs.List.{IsDistinct}
 use Rattle.std.specs.FinMap as finmap
-use Rattle.ir_types.specs.Things.{Things}
-use Rattle.ir_types.specs.Terms.{TypeTerm, AttrTerm, name_term, type_term, attr_term}
-use Rattle.ir_types.specs.Words.{is_table}
-use Rattle.ir_tree.specs.declared.place.Place.{Place}
-use Rattle.ir_tree.specs.Tree.{Op, op, head}
-use Rattle.ir_tree.specs.Ids.{HasDistinctIds, find, first_of}
-use Rattle.ir_tree.specs.Places.{place_of}
-use Rattle.ir_tree.specs.Meaning.{Operation, meaning}
-use Rattle.ir_tree.proofs.Mapped.{map_find, map_place, map_ids}
+use Rattle.ir_event.specs.types.Things.{Things}
+use Rattle.ir_event.specs.types.Terms.{TypeTerm, AttrTerm, name_term, type_term, attr_term}
+use Rattle.ir_event.specs.types.Words.{is_table}
+use Rattle.ir_event.specs.trees.declared.place.Place.{Place}
+use Rattle.ir_event.specs.trees.Tree.{Op, op, head}
+use Rattle.ir_event.specs.trees.Ids.{HasDistinctIds, find, first_of}
+use Rattle.ir_event.specs.trees.Places.{place_of}
+use Rattle.ir_event.specs.trees.Meaning.{Operation, meaning}
+use Rattle.ir_event.proofs.of_trees.Mapped.{map_find, map_place, map_ids}
 use Rattle.listeners_surroundings.specs.Nodes.{Node, node_of}
 use Rattle.listeners_surroundings.specs.Stored.{known}
-use Rattle.ir_tree_laws.specs.Reads.{parent_of}
-use Rattle.ir_tree_laws.specs.Values.{type_of_value}
-use Rattle.ir_tree_laws.specs.Stands.{StepOf, stand_id, stands, stand_of, table_in, place_in}
-use Rattle.ir_tree_laws.specs.Members.{In}
-use Rattle.ir_tree_laws.proofs.Members.{stand, stand_of_member, same_stand, stand_found}
-use Rattle.ir_tree_laws.proofs.Around.{around_there, member_of_place, place_of_member, present_stand}
+use Rattle.ir_event.specs.tree_laws.Reads.{parent_of}
+use Rattle.ir_event.specs.tree_laws.Values.{type_of_value}
+use Rattle.ir_event.specs.tree_laws.Stands.{StepOf, stand_id, stands, stand_of, table_in, place_in}
+use Rattle.ir_event.specs.tree_laws.Members.{In}
+use Rattle.ir_event.proofs.of_tree_laws.Members.{stand, stand_of_member, same_stand, stand_found}
+use Rattle.ir_event.proofs.of_tree_laws.Around.{around_there, member_of_place, place_of_member, present_stand}
 use Rattle.ir_event.specs.declared.world.World.{World}
 use Rattle.ir_event.specs.Modules.{module_in}
 use Rattle.listeners_surroundings.proofs.Reading.{head_shown}

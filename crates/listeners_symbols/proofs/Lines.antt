@@ -6,7 +6,7 @@ use Rattle.std.specs.Cmp.Lexicographic.{pointwise}
 use Rattle.ir_event.specs.declared.row.Cell.{Cell}
 use Rattle.ir_event.specs.declared.row.Cell.TheVariants as cell
 use Rattle.listeners_symbols.specs.Symbols.{LineOf, line_cells}
-use Rattle.ir_tree.specs.Ids.{first_of}
+use Rattle.ir_event.specs.trees.Ids.{first_of}
 use Rattle.std.specs.Ordering.{nat_cmp, is_eq, ordering_then, MatchOrdering}
 use Rattle.std.specs.Cmp.{ranks}
 use Rattle.std.specs.declared.cmp.Ordering.{Ordering}
@@ -15,8 +15,8 @@ use Rattle.std.specs.BTreeMap.{BTreeMap, is_at}
 use Rattle.std.specs.BTreeMap as tree
 use Rattle.std.proofs.lemmas.Bool.{ne_eqb}
 use Rattle.listeners_symbols.specs.Lines.{lines_cells, key_cmp, first_in}
-use Rattle.ir_tree.proofs.Facts.{first_none}
-use Rattle.ir_types.proofs.Truths.{same_test}
+use Rattle.ir_event.proofs.of_trees.Facts.{first_none}
+use Rattle.ir_event.proofs.of_types.Truths.{same_test}
 
 pub some_types : (xs ys : List ℕ) → pointwise (option_eq eqb) (map Some xs) (map Some ys) ≡ pointwise eqb xs ys
 some_types [] [] = refl

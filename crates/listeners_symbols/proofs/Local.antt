@@ -1,31 +1,31 @@
 -- Each event leaves the role of every operation but its own.
 use Rattle.std.proofs.Common.{◌≡◌, refl, ap, sym, ◌∙◌, subst, ℕ, ◌+◌, true, false, true≢false, cond, eqb, eq-eqb, eqb-true, List, [], ◌∷◌, ◌++◌, map, Option, Some, None, inl, inr, ◌⊎◌}
 use Rattle.std.specs.Prelude.{option_map, option_and_then}
-use Rattle.ir_types.specs.Things.{Things}
-use Rattle.ir_types.specs.Terms.{TypeTerm, AttrTerm}
-use Rattle.ir_types.specs.Words.{is_table}
-use Rattle.ir_tree.specs.declared.value.Value.{Value}
-use Rattle.ir_tree.specs.declared.place.Part.{Part}
-use Rattle.ir_tree.specs.declared.place.Part.TheVariants.{Props, Attrs}
-use Rattle.ir_tree.specs.Tree.{op, RegionsOf, no_regions, region, RegionOf, empty, block, OpsOf, no_ops, next, head, regions}
-use Rattle.ir_tree.specs.Ids.{HasDistinctIds, find}
-use Rattle.ir_tree.specs.Uses.{uses_of}
-use Rattle.ir_tree.specs.Edits.{each_head, regions_each_head, at, put_operand, change_part}
-use Rattle.ir_tree.specs.Frames.{owner_of}
-use Rattle.ir_tree.specs.Places.{without}
-use Rattle.ir_tree.specs.Meaning.{Operation}
+use Rattle.ir_event.specs.types.Things.{Things}
+use Rattle.ir_event.specs.types.Terms.{TypeTerm, AttrTerm}
+use Rattle.ir_event.specs.types.Words.{is_table}
+use Rattle.ir_event.specs.trees.declared.value.Value.{Value}
+use Rattle.ir_event.specs.trees.declared.place.Part.{Part}
+use Rattle.ir_event.specs.trees.declared.place.Part.TheVariants.{Props, Attrs}
+use Rattle.ir_event.specs.trees.Tree.{op, RegionsOf, no_regions, region, RegionOf, empty, block, OpsOf, no_ops, next, head, regions}
+use Rattle.ir_event.specs.trees.Ids.{HasDistinctIds, find}
+use Rattle.ir_event.specs.trees.Uses.{uses_of}
+use Rattle.ir_event.specs.trees.Edits.{each_head, regions_each_head, at, put_operand, change_part}
+use Rattle.ir_event.specs.trees.Frames.{owner_of}
+use Rattle.ir_event.specs.trees.Places.{without}
+use Rattle.ir_event.specs.trees.Meaning.{Operation}
 use Rattle.listeners_surroundings.specs.Nodes.{node_of, regions_arguments}
-use Rattle.ir_tree_laws.specs.Changes.{HoldNone}
-use Rattle.ir_tree_laws.specs.Values.{type_of_value}
-use Rattle.ir_tree_laws.specs.Tables.{table_of}
-use Rattle.ir_tree_laws.specs.Stands.{StepOf, stand_id, stands, regions_stands, region_stands, ops_stands, stand_in, stand_of, table_in, is_gone, left_step, left_stand, edit_step, edit_stand}
-use Rattle.ir_tree_laws.specs.Members.{In}
-use Rattle.ir_tree_laws.proofs.Listed.{bool_cases, in_left, in_right, in_parts}
-use Rattle.ir_tree_laws.proofs.Readings.{step, stands_find, stands_table}
-use Rattle.ir_tree_laws.proofs.Members.{stand, itself, within, member, stand_found, found_stands, stand_of_member}
-use Rattle.ir_tree_laws.proofs.Around.{Within, gone_within}
-use Rattle.ir_tree_laws.proofs.Without.{left_member, member_left}
-use Rattle.ir_tree_laws.proofs.Heads.{each_stands}
+use Rattle.ir_event.specs.tree_laws.Changes.{HoldNone}
+use Rattle.ir_event.specs.tree_laws.Values.{type_of_value}
+use Rattle.ir_event.specs.tree_laws.Tables.{table_of}
+use Rattle.ir_event.specs.tree_laws.Stands.{StepOf, stand_id, stands, regions_stands, region_stands, ops_stands, stand_in, stand_of, table_in, is_gone, left_step, left_stand, edit_step, edit_stand}
+use Rattle.ir_event.specs.tree_laws.Members.{In}
+use Rattle.ir_event.proofs.of_tree_laws.Listed.{bool_cases, in_left, in_right, in_parts}
+use Rattle.ir_event.proofs.of_tree_laws.Readings.{step, stands_find, stands_table}
+use Rattle.ir_event.proofs.of_tree_laws.Members.{stand, itself, within, member, stand_found, found_stands, stand_of_member}
+use Rattle.ir_event.proofs.of_tree_laws.Around.{Within, gone_within}
+use Rattle.ir_event.proofs.of_tree_laws.Without.{left_member, member_left}
+use Rattle.ir_event.proofs.of_tree_laws.Heads.{each_stands}
 use Rattle.ir_event.specs.declared.event.Event.{Event}
 use Rattle.ir_event.specs.declared.event.Event.TheVariants.{Put, Take, SetOperand, SetEntry, Shift}
 use Rattle.ir_event.specs.Bounds.{op_of}
@@ -38,7 +38,7 @@ use Rattle.listeners_surroundings.proofs.Alike.{Both, neither, each, both, same_
 use Rattle.listeners_surroundings.proofs.Moves.{left_id, taken}
 use Rattle.listeners_surroundings.proofs.Heads.{Keeps}
 use Rattle.listeners_symbols.specs.Roles.{Head, Stand, parent_in, home_of, table_at, symbol_of, is_private, references_of, signature_of, callee_of, call_of, role_from, role, role_of}
-use Rattle.ir_types.proofs.Truths.{unlike}
+use Rattle.ir_event.proofs.of_types.Truths.{unlike}
 
 abbrev Step_in : Type 0
 Step_in = StepOf (List ℕ) TypeTerm AttrTerm

@@ -1,14 +1,14 @@
 -- What is read in numbers, in contents.
 use Rattle.std.proofs.Common.{◌≡◌, refl, ap, sym, ℕ, List, [], ◌∷◌, map, Option, Some, None}
 use Rattle.std.specs.Prelude.{option_map}
-use Rattle.ir_types.specs.Things.{Things}
-use Rattle.ir_types.specs.Terms.{name_term, type_term, attr_term, attr_terms, entries_at}
-use Rattle.ir_tree.specs.declared.value.Value.{Value}
-use Rattle.ir_tree.specs.Tree.{Op}
-use Rattle.ir_tree.specs.Maps.{map_entry}
-use Rattle.ir_tree.specs.Meaning.{meaning}
-use Rattle.ir_tree_laws.specs.Values.{type_of_value}
-use Rattle.ir_tree_laws.proofs.Contents.{map_type_of_value}
+use Rattle.ir_event.specs.types.Things.{Things}
+use Rattle.ir_event.specs.types.Terms.{name_term, type_term, attr_term, attr_terms, entries_at}
+use Rattle.ir_event.specs.trees.declared.value.Value.{Value}
+use Rattle.ir_event.specs.trees.Tree.{Op}
+use Rattle.ir_event.specs.trees.Maps.{map_entry}
+use Rattle.ir_event.specs.trees.Meaning.{meaning}
+use Rattle.ir_event.specs.tree_laws.Values.{type_of_value}
+use Rattle.ir_event.proofs.of_tree_laws.Contents.{map_type_of_value}
 use Rattle.listeners_symbols.specs.declared.role.Reference.{Reference}
 use Rattle.listeners_symbols.specs.declared.role.Call.{Call}
 use Rattle.listeners_symbols.specs.declared.role.Signature.{Signature}

@@ -17,14 +17,14 @@ use Rattle.std.proofs.lemmas.Cmp.{nat_cmp_total}
 use Rattle.std.proofs.lemmas.List.{map-append}
 use Rattle.std.proofs.lemmas.List.Elements.{All-head, All-tail, All-cons, All-nil}
 use lib.Dec.{T}
-use Rattle.ir_types.specs.Things.{Things, Grows, IsName, IsType, IsAttr}
-use Rattle.ir_types.specs.Sound.{Holds, IsSound}
-use Rattle.ir_types.specs.Terms.{TypeTerm, AttrTerm, name_term, type_term, attr_term}
-use Rattle.ir_types.proofs.Growth.{name_is, name_refl}
-use Rattle.ir_types.proofs.Terms.{name_stays, attr_stays, name_term_one, type_term_one}
-use Rattle.ir_tree.specs.Meaning.{Operation}
-use Rattle.ir_tree_laws.specs.Stands.{stand_id, stands, stand_in}
-use Rattle.ir_tree_laws.proofs.Listed.{bool_cases}
+use Rattle.ir_event.specs.types.Things.{Things, Grows, IsName, IsType, IsAttr}
+use Rattle.ir_event.specs.types.Sound.{Holds, IsSound}
+use Rattle.ir_event.specs.types.Terms.{TypeTerm, AttrTerm, name_term, type_term, attr_term}
+use Rattle.ir_event.proofs.of_types.Growth.{name_is, name_refl}
+use Rattle.ir_event.proofs.of_types.Terms.{name_stays, attr_stays, name_term_one, type_term_one}
+use Rattle.ir_event.specs.trees.Meaning.{Operation}
+use Rattle.ir_event.specs.tree_laws.Stands.{stand_id, stands, stand_in}
+use Rattle.ir_event.proofs.of_tree_laws.Listed.{bool_cases}
 use Rattle.ir_event.specs.declared.row.Cell.{Cell}
 use Rattle.ir_event.specs.declared.row.Cell.TheVariants as cell
 use Rattle.ir_event.specs.declared.row.Row.{Row}
@@ -33,16 +33,16 @@ use Rattle.listeners_symbols.specs.declared.role.Role.{Role as Numbers}
 use Rattle.listeners_symbols.specs.declared.role.Reference.{Reference}
 use Rattle.listeners_symbols.specs.declared.role.Call.{Call}
 use Rattle.listeners_symbols.specs.declared.role.Signature.{Signature}
-use Rattle.ir_types.specs.SameTypes.{same_type}
+use Rattle.ir_event.specs.types.SameTypes.{same_type}
 use Rattle.listeners_symbols.specs.Roles.{Stand, role, role_of}
 use Rattle.listeners_symbols.specs.Symbols.{RolesOf, roles_in, roles_by_id, DefinitionOf, defined, definitions, says_table, function_at, LineOf, Definition, Duplicate, Use, Unresolved, Mismatch, first_defined, is_duplicate, look_in, resolve, fits, definition_lines, duplicate_lines, reference_line, reference_lines, all_reference_lines, mismatch_line, call_line, mismatch_lines, lines_with, symbol_lines, line_cells, symbol_rows}
 use Rattle.listeners_symbols.specs.Table.{reference_of, call_numbers, signature_numbers, role_numbers, map_reference, map_call, map_signature, role_meaning, call_meaning, RoleIsOf, ReferenceIsOf, CallIsOf, SignatureIsOf, Keeps, IsKept}
 use Rattle.listeners_symbols.specs.Listeners.{kept_at}
 use Rattle.listeners_symbols.specs.Lines.{numbered, numbers_at, cells_of, lines_cells}
-use Rattle.ir_types.proofs.SameTerms.{type_is, type_refl}
+use Rattle.ir_event.proofs.of_types.SameTerms.{type_is, type_refl}
 use Rattle.listeners_symbols.proofs.Agreed.{name_more, attr_more}
-use Rattle.ir_types.proofs.Truths.{same_test}
-use Rattle.ir_types.proofs.Sorting.{flips_eq}
+use Rattle.ir_event.proofs.of_types.Truths.{same_test}
+use Rattle.ir_event.proofs.of_types.Sorting.{flips_eq}
 
 abbrev pub Each : {X : Type 0} → (X → Type 0) → List X → Type 0
 Each P [] = Unit {0}

@@ -1,6 +1,6 @@
 -- How large attributes are, by which the walk through them ends.
 use Rattle.std.proofs.Common.{ℕ, ◌+◌}
-use Rattle.ir_types.specs.Terms.{AttrTerm, Array, Dictionary, AttrTerms, no_attrs, next_attr, EntryTerms, no_entries, next_entry}
+use Rattle.ir_event.specs.types.Terms.{AttrTerm, Array, Dictionary, AttrTerms, no_attrs, next_attr, EntryTerms, no_entries, next_entry}
 
 abbrev mutual
   pub attr_size : AttrTerm → ℕ

@@ -3,8 +3,8 @@ use Rattle.std.specs.Prelude.{◌≡◌, ℕ, map, eqb}
 use Rattle.std.specs.List.{All, list_any}
 use Rattle.std.specs.Ordering.{nat_cmp}
 use Rattle.std.specs.BTreeSet.{contains}
-use Rattle.ir_types.specs.Things.{Things}
-use Rattle.ir_types.specs.Terms.{attr_term, name_term, Symbol}
+use Rattle.ir_event.specs.types.Things.{Things}
+use Rattle.ir_event.specs.types.Terms.{attr_term, name_term, Symbol}
 use Rattle.listeners_symbols.specs.declared.role.Reference.{Reference}
 use Rattle.listeners_symbols.specs.declared.references.Found.{Found}
 use Rattle.listeners_symbols.specs.Roles.{References}

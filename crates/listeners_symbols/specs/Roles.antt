@@ -5,17 +5,17 @@ use Rattle.std.specs.Prelude.{option_map, option_and_then}
 use Rattle.std.specs.List.{list_any}
 use Rattle.std.specs.Str.{bytes_eq}
 use Rattle.std.specs.Cmp.Lexicographic.{pointwise}
-use Rattle.ir_types.specs.Terms.{TypeTerm, AttrTerm, IntegerOf, String, TypeOf, Flag, Array, Dictionary, Symbol}
-use Rattle.ir_types.specs.Terms.{DenseArray, Overflow, AttrTerms, no_attrs, next_attr, EntryTerms, no_entries}
-use Rattle.ir_types.specs.Terms.{next_entry}
-use Rattle.ir_types.specs.Words.{is_table}
-use Rattle.ir_tree.specs.Tree.{HeadOf, head}
-use Rattle.ir_tree.specs.Meaning.{Operation}
-use Rattle.ir_tree_laws.specs.Values.{type_of_value}
-use Rattle.ir_tree_laws.specs.Stands.{StepOf, StandOf, stand_of, table_in}
+use Rattle.ir_event.specs.types.Terms.{TypeTerm, AttrTerm, IntegerOf, String, TypeOf, Flag, Array, Dictionary, Symbol}
+use Rattle.ir_event.specs.types.Terms.{DenseArray, Overflow, AttrTerms, no_attrs, next_attr, EntryTerms, no_entries}
+use Rattle.ir_event.specs.types.Terms.{next_entry}
+use Rattle.ir_event.specs.types.Words.{is_table}
+use Rattle.ir_event.specs.trees.Tree.{HeadOf, head}
+use Rattle.ir_event.specs.trees.Meaning.{Operation}
+use Rattle.ir_event.specs.tree_laws.Values.{type_of_value}
+use Rattle.ir_event.specs.tree_laws.Stands.{StepOf, StandOf, stand_of, table_in}
 use Rattle.op_registry.specs.Registry.{beside}
 use Rattle.op_registry.specs.Properties.{string_of, type_of}
-use Rattle.ir_types.specs.SameTypes.{function_of}
+use Rattle.ir_event.specs.types.SameTypes.{function_of}
 
 -- a symbol reference: the attribute, and its parts
 abbrev pub ReferenceOf : Type 0 → Type 0 → Type 0

@@ -2,14 +2,14 @@
 use Rattle.std.specs.Prelude.{◌≡◌, ◌⊎◌, ℕ, List, map, eqb, Bool, true, false, if◌then◌else◌, Option, Some, None}
 use Rattle.std.specs.Prelude.{option_map, is_some, IfSome}
 use Rattle.std.specs.List.{All, list_any}
-use Rattle.ir_types.specs.Things.{Things, IsName, IsType, IsAttr, Grows}
-use Rattle.ir_types.specs.Terms.{TypeTerm, AttrTerm, name_term, type_term, attr_term}
-use Rattle.ir_types.specs.Sound.{IsSound}
-use Rattle.ir_tree.specs.Tree.{HeadOf, Op, head}
-use Rattle.ir_tree.specs.Maps.{map_head}
-use Rattle.ir_tree.specs.Meaning.{Operation}
-use Rattle.ir_tree.specs.Ids.{find, has_id}
-use Rattle.ir_tree_laws.specs.Reads.{parent_of}
+use Rattle.ir_event.specs.types.Things.{Things, IsName, IsType, IsAttr, Grows}
+use Rattle.ir_event.specs.types.Terms.{TypeTerm, AttrTerm, name_term, type_term, attr_term}
+use Rattle.ir_event.specs.types.Sound.{IsSound}
+use Rattle.ir_event.specs.trees.Tree.{HeadOf, Op, head}
+use Rattle.ir_event.specs.trees.Maps.{map_head}
+use Rattle.ir_event.specs.trees.Meaning.{Operation}
+use Rattle.ir_event.specs.trees.Ids.{find, has_id}
+use Rattle.ir_event.specs.tree_laws.Reads.{parent_of}
 use Rattle.ir_event.specs.declared.event.Event.{Event}
 use Rattle.ir_event.specs.declared.event.Event.TheVariants.{Put, Take, SetOperand, SetEntry, Shift}
 use Rattle.ir_event.specs.Rows.{IsSymbol}

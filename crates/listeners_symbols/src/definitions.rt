@@ -1,11 +1,11 @@
 //! The definitions of symbols.
 ghost use Rattle.std.specs.Prelude.{◌≡◌, ◌++◌, [], ◌∷◌, ℕ, eqb, OnOk, IfOk};
-ghost use Rattle.ir_tree.specs.Ids.{first_of};
+ghost use Rattle.ir_event.specs.trees.Ids.{first_of};
 ghost use Rattle.listeners_symbols.specs.Symbols.{definitions, defined, first_defined};
 ghost use Rattle.listeners_symbols.specs.Lines.{HasFirst, first_in, numbered};
 
 use crate::role::Role;
-use ir_types::ids::{NameId, OpId};
+use ir_event::types::ids::{NameId, OpId};
 use std::alloc::{AllocError, Global};
 use std::collections::BTreeMap;
 use std::marker::Model;

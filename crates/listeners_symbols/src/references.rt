@@ -1,9 +1,9 @@
 //! The symbol references in an operation's dictionaries.
 ghost use Rattle.std.specs.Prelude.{◌≡◌, ◌<◌, length, map, OnOk, IfOk};
 ghost use Rattle.std.specs.List.{All};
-ghost use Rattle.ir_types.specs.Things.{IsName, IsAttr};
-ghost use Rattle.ir_types.specs.Terms.{attr_term, attr_terms, attrs_at, entries_at, name_term, Symbol};
-ghost use Rattle.ir_tree.specs.Maps.{map_entry};
+ghost use Rattle.ir_event.specs.types.Things.{IsName, IsAttr};
+ghost use Rattle.ir_event.specs.types.Terms.{attr_term, attr_terms, attrs_at, entries_at, name_term, Symbol};
+ghost use Rattle.ir_event.specs.trees.Maps.{map_entry};
 ghost use Rattle.ir_event.specs.Modules.{NodeIsOf};
 ghost use Rattle.listeners_symbols.specs.Found.{found_meaning, IsFound};
 ghost use Rattle.listeners_symbols.specs.Roles.{references_of, with_dictionary, with_each, with_entries};
@@ -11,9 +11,9 @@ ghost use Rattle.listeners_symbols.specs.Roles.{with_reference, with_symbols};
 ghost use Rattle.listeners_symbols.specs.Table.{head_meaning, reference_meaning, ReferenceIsOf};
 
 use crate::role::Reference;
-use ir_types::context::Context;
-use ir_types::ids::{AttrId, NameId};
-use ir_types::node::AttrNode;
+use ir_event::types::context::Context;
+use ir_event::types::ids::{AttrId, NameId};
+use ir_event::types::node::AttrNode;
 use listeners_surroundings::node::Node;
 use op_registry::things::attr_of;
 use std::alloc::{AllocError, Global};

@@ -16,8 +16,8 @@ use crate::resolve::{fits, resolve};
 use crate::role::{Call, Role};
 use ir_event::row::{Cell, Row};
 use ir_event::tag::Tag;
-use ir_tree::value::Value;
-use ir_types::ids::{AttrId, NameId, OpId};
+use ir_event::trees::value::Value;
+use ir_event::types::ids::{AttrId, NameId, OpId};
 use std::alloc::{AllocError, Global};
 use std::collections::BTreeMap;
 

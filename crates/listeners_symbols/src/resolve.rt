@@ -8,7 +8,7 @@ ghost use Rattle.listeners_symbols.specs.Lines.{numbers_at};
 
 use crate::definitions::Definitions;
 use crate::role::{Call, Role};
-use ir_types::ids::{NameId, OpId, TypeId};
+use ir_event::types::ids::{NameId, OpId, TypeId};
 use std::collections::BTreeMap;
 
 /// Whether an operation is a symbol table.

@@ -7,9 +7,9 @@ use crate::table::{follow, tabulate};
 use ir_event::analysis::Analysis;
 use ir_event::event::Event;
 use ir_event::row::{Kind, Memory, ReportFault, Row};
+use ir_event::types::ids::OpId;
 use ir_event::view::View;
 use ir_event::world::World;
-use ir_types::ids::OpId;
 use std::alloc::Global;
 use std::collections::BTreeMap;
 

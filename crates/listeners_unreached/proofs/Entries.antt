@@ -5,15 +5,15 @@ use Rattle.std.specs.List.Sorted.{IsStrictlySortedBy}
 use Rattle.std.specs.Ordering.{nat_cmp, is_eq}
 use Rattle.std.specs.Map.{lookup, keys_of}
 use Rattle.std.specs.BTreeMap.{is_at}
-use Rattle.ir_tree_laws.specs.Members.{In}
-use Rattle.ir_tree_laws.proofs.Listed.{bool_cases}
+use Rattle.ir_event.specs.tree_laws.Members.{In}
+use Rattle.ir_event.proofs.of_tree_laws.Listed.{bool_cases}
 use Rattle.listeners_symbols.specs.declared.role.Role.{Role as Numbers}
 use Rattle.listeners_symbols.specs.Table.{role_numbers}
 use Rattle.listeners_symbols.specs.Lines.{numbered}
 use Rattle.listeners_symbols.proofs.Reported.{Each, look_above}
 use Rattle.listeners_unreached.specs.Unreached.{private_name, says_definition}
 use Rattle.listeners_unreached.specs.Marks.{added, all_added}
-use Rattle.ir_types.proofs.Truths.{same_test}
+use Rattle.ir_event.proofs.of_types.Truths.{same_test}
 
 -- what holds of what each key finds holds of each entry
 pub each_entry : (P : ℕ → Numbers → Type 0) (es : List (ℕ × Numbers)) → IsStrictlySortedBy nat_cmp (keys_of es) → ((q : ℕ) (r : Numbers) → lookup (is_at (nat_cmp q)) es ≡ Some r → P q r) → Each (λ (e : ℕ × Numbers). P e.0 e.1) es

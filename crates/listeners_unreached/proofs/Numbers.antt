@@ -7,14 +7,14 @@ use Rattle.std.specs.Ordering.{nat_cmp}
 use Rattle.std.specs.BTreeMap.{BTreeMap}
 use Rattle.std.specs.BTreeMap as tree
 use Rattle.std.proofs.lemmas.List.Elements.{All-head, All-tail}
-use Rattle.ir_types.specs.Things.{Things, IsName}
-use Rattle.ir_types.specs.Sound.{IsSound}
-use Rattle.ir_types.specs.Terms.{name_term, attr_term}
-use Rattle.ir_tree.specs.Ids.{HasDistinctIds}
-use Rattle.ir_tree.specs.Meaning.{Operation}
-use Rattle.ir_tree_laws.specs.Members.{In}
-use Rattle.ir_tree_laws.specs.Stands.{stands, stand_of}
-use Rattle.ir_tree_laws.proofs.Members.{member}
+use Rattle.ir_event.specs.types.Things.{Things, IsName}
+use Rattle.ir_event.specs.types.Sound.{IsSound}
+use Rattle.ir_event.specs.types.Terms.{name_term, attr_term}
+use Rattle.ir_event.specs.trees.Ids.{HasDistinctIds}
+use Rattle.ir_event.specs.trees.Meaning.{Operation}
+use Rattle.ir_event.specs.tree_laws.Members.{In}
+use Rattle.ir_event.specs.tree_laws.Stands.{stands, stand_of}
+use Rattle.ir_event.proofs.of_tree_laws.Members.{member}
 use Rattle.listeners_symbols.specs.declared.role.Role.{Role as Numbers}
 use Rattle.listeners_symbols.specs.declared.role.Reference.{Reference}
 use Rattle.listeners_symbols.specs.Roles.{Stand, role_of}
@@ -28,7 +28,7 @@ use Rattle.listeners_unreached.specs.Marks.{StandsUnder, IsDefinition, Reaches, 
 use Rattle.listeners_unreached.proofs.Sets.{reacher_role, role_stands}
 use Rattle.listeners_unreached.proofs.Under.{to_links, from_links}
 use Rattle.listeners_unreached.proofs.Taken.{reached_more}
-use Rattle.ir_tree_laws.proofs.Contents.{some_map}
+use Rattle.ir_event.proofs.of_tree_laws.Contents.{some_map}
 
 module _ (b : Things) where
   -- a definition in numbers is one in contents, under the name that its name's number stands for

@@ -7,13 +7,13 @@ use Rattle.std.specs.BTreeMap.{BTreeMap}
 use Rattle.std.specs.BTreeMap as tree
 use Rattle.std.proofs.lemmas.List.{map-append}
 use Rattle.std.proofs.lemmas.List.Elements.{All-cons, All-nil}
-use Rattle.ir_types.specs.Things.{Things, Grows, IsName}
-use Rattle.ir_types.specs.Sound.{Holds, IsSound}
-use Rattle.ir_types.specs.Terms.{name_term}
-use Rattle.ir_types.proofs.Terms.{name_stays}
-use Rattle.ir_tree.specs.Ids.{HasDistinctIds, ids}
-use Rattle.ir_tree.specs.Meaning.{Operation}
-use Rattle.ir_tree_laws.proofs.Listed.{bool_cases}
+use Rattle.ir_event.specs.types.Things.{Things, Grows, IsName}
+use Rattle.ir_event.specs.types.Sound.{Holds, IsSound}
+use Rattle.ir_event.specs.types.Terms.{name_term}
+use Rattle.ir_event.proofs.of_types.Terms.{name_stays}
+use Rattle.ir_event.specs.trees.Ids.{HasDistinctIds, ids}
+use Rattle.ir_event.specs.trees.Meaning.{Operation}
+use Rattle.ir_event.proofs.of_tree_laws.Listed.{bool_cases}
 use Rattle.ir_event.specs.declared.row.Cell.TheVariants as cell
 use Rattle.ir_event.specs.declared.row.Row.{Row}
 use Rattle.ir_event.specs.Rows.{Op, Name, cell_meaning, rows_meaning, CellIsOf, RowIsOf, Shows}
@@ -33,8 +33,8 @@ use Rattle.listeners_unreached.proofs.Least.{in_among, among_in}
 use Rattle.listeners_unreached.proofs.Sets.{in_reached, reached_is_in}
 use Rattle.listeners_unreached.proofs.Numbers.{private_meant, definition_meant, to_tree, from_tree}
 use Rattle.listeners_unreached.proofs.Entries.{each_entry}
-use Rattle.ir_types.proofs.Truths.{same_bool}
-use Rattle.ir_tree_laws.proofs.Reasoned.{some_there}
+use Rattle.ir_event.proofs.of_types.Truths.{same_bool}
+use Rattle.ir_event.proofs.of_tree_laws.Reasoned.{some_there}
 
 none_true : {X : Type 0} (o : Option X) → is_none o ≡ true → o ≡ None
 none_true None e = refl

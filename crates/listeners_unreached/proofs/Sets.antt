@@ -1,13 +1,13 @@
 -- The set that is worked out is the least one.
 use Rattle.std.proofs.Common.{◌≡◌, refl, ap, sym, ◌∙◌, subst, ℕ, true, true≢false, not, [], Option, Some, None, inl, inr}
 use Rattle.std.specs.Prelude.{option_map}
-use Rattle.ir_tree.specs.Ids.{ids}
-use Rattle.ir_tree.specs.Meaning.{Operation}
-use Rattle.ir_tree_laws.specs.Members.{In}
-use Rattle.ir_tree_laws.specs.Stands.{stand_id, stands, stand_of}
-use Rattle.ir_tree_laws.proofs.Listed.{bool_cases, in_map, in_filter, in_filtered}
-use Rattle.ir_tree_laws.proofs.Readings.{stands_ids}
-use Rattle.ir_tree_laws.proofs.Members.{member}
+use Rattle.ir_event.specs.trees.Ids.{ids}
+use Rattle.ir_event.specs.trees.Meaning.{Operation}
+use Rattle.ir_event.specs.tree_laws.Members.{In}
+use Rattle.ir_event.specs.tree_laws.Stands.{stand_id, stands, stand_of}
+use Rattle.ir_event.proofs.of_tree_laws.Listed.{bool_cases, in_map, in_filter, in_filtered}
+use Rattle.ir_event.proofs.of_tree_laws.Readings.{stands_ids}
+use Rattle.ir_event.proofs.of_tree_laws.Members.{member}
 use Rattle.std.specs.Str.{bytes_eq}
 use Rattle.listeners_symbols.specs.Roles.{Stand, Role, role, role_of}
 use Rattle.listeners_symbols.specs.Symbols.{definitions, roles_by_id}

@@ -3,22 +3,22 @@ use Rattle.std.proofs.Common.{◌≡◌, refl, ap, sym, ◌∙◌, subst, ℕ, z
 use Rattle.std.specs.Prelude.{OnOk, IfOk, option_map, option_to_list, is_some}
 use Rattle.std.specs.Map.{keys_of}
 use Rattle.std.specs.BTreeMap.{BTreeMap}
-use Rattle.ir_tree_laws.specs.Members.{In}
+use Rattle.ir_event.specs.tree_laws.Members.{In}
 use Rattle.listeners_symbols.specs.declared.role.Role.{Role as Numbers}
 use Rattle.listeners_symbols.specs.Roles.{ReferenceOf}
 use Rattle.listeners_symbols.specs.Symbols.{RoleAt, DefinitionOf, look_in}
 use Rattle.listeners_symbols.specs.Table.{role_numbers}
 use Rattle.listeners_symbols.specs.Lines.{numbers_at}
 use Rattle.listeners_symbols.specs.Listeners.{kept_at}
-use Rattle.ir_tree_laws.proofs.Listed.{in_left}
+use Rattle.ir_event.proofs.of_tree_laws.Listed.{in_left}
 use Rattle.listeners_unreached.specs.Reached.{IsReached}
 use Rattle.listeners_unreached.specs.Unreached.{says_definition, prefixes, targets, reached_from}
 use Rattle.listeners_unreached.specs.Marking.{Left, Marks, Removed, IsDone}
 use Rattle.listeners_unreached.specs.Marks.{parent_at, StandsUnder, itself, around, IsDefinition, Reaches, TakesOut, TakesFound, StartsIn}
 use Rattle.listeners_unreached.proofs.Taken.{removed_none, removed_absent, removed_one}
 use Rattle.listeners_unreached.proofs.Entries.{found_key}
-use Rattle.ir_tree_laws.proofs.Contents.{some_map}
-use Rattle.ir_tree_laws.proofs.Reasoned.{some_there}
+use Rattle.ir_event.proofs.of_tree_laws.Contents.{some_map}
+use Rattle.ir_event.proofs.of_tree_laws.Reasoned.{some_there}
 
 pub on_ok : {A E : Type 0} (P Q : Type 0) (r : Result A E) → (P → Q) → OnOk r P → OnOk r Q
 on_ok P Q (Ok a) f h = f h

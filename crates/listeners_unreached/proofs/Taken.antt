@@ -1,7 +1,7 @@
 -- Marking comes to the least set.
 use Rattle.std.proofs.Common.{◌≡◌, refl, ap, sym, ◌∙◌, subst, ℕ, eqb, eqb-true, List, [], ◌∷◌, ◌++◌, append_assoc, Option, Some, None, inl, inr, ◌⊎◌}
-use Rattle.ir_tree_laws.specs.Members.{In}
-use Rattle.ir_tree_laws.proofs.Listed.{bool_cases, in_left, in_right, in_parts}
+use Rattle.ir_event.specs.tree_laws.Members.{In}
+use Rattle.ir_event.proofs.of_tree_laws.Listed.{bool_cases, in_left, in_right, in_parts}
 use Rattle.listeners_unreached.specs.Reached.{IsReached, reached}
 use Rattle.listeners_unreached.specs.Marking.{Left, Waits, IsDone, IsPending, Marks, Removed, Considered, Dropped, Waiting}
 

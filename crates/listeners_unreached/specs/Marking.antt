@@ -1,7 +1,7 @@
 -- How reached definitions are marked: those that are left are taken out one after another, and with each come the
 -- operations that waited for it.
 use Rattle.std.specs.Prelude.{◌≡◌, ◌⊎◌, ℕ, List, [], ◌∷◌, ◌++◌, eqb, false, Option, Some, None}
-use Rattle.ir_tree_laws.specs.Members.{In}
+use Rattle.ir_event.specs.tree_laws.Members.{In}
 use Rattle.listeners_unreached.specs.Reached.{IsReached}
 
 -- the private definitions that are left, each with the operations that wait for it

@@ -4,7 +4,7 @@ use Rattle.std.specs.Prelude.{Some, None, option_map, is_some, Vec}
 use Rattle.std.specs.Ordering.{nat_cmp}
 use Rattle.std.specs.BTreeMap.{BTreeMap, btree_map_len}
 use Rattle.std.specs.BTreeMap as tree
-use Rattle.ir_tree_laws.specs.Members.{In}
+use Rattle.ir_event.specs.tree_laws.Members.{In}
 use Rattle.listeners_symbols.specs.Roles.{RoleOf}
 use Rattle.listeners_symbols.specs.Symbols.{RolesOf, RoleAt, DefinitionOf}
 use Rattle.listeners_unreached.specs.Reached.{IsReached}

@@ -1,7 +1,7 @@
 //! Laws of the private symbols that nothing reaches. Each is a function that does nothing: its contract is the law.
 ghost use Rattle.std.specs.Prelude.{◌≡◌, ℕ, true};
-ghost use Rattle.ir_tree.specs.Meaning.{Operation};
-ghost use Rattle.ir_tree_laws.specs.Members.{In};
+ghost use Rattle.ir_event.specs.trees.Meaning.{Operation};
+ghost use Rattle.ir_event.specs.tree_laws.Members.{In};
 ghost use Rattle.listeners_unreached.specs.Unreached.{Reached, is_definition, unreached_of};
 
 /// The operations that are listed are the private definitions that aren't in the least set of those that are reached.

@@ -1,14 +1,14 @@
 //! The private symbols that nothing reaches.
 ghost use Rattle.std.specs.Prelude.{◌≡◌, ◌++◌, ◌∷◌, [], if◌then◌else◌, OnOk, IfOk, IfErr, filter, is_some};
-ghost use Rattle.ir_types.specs.declared.refusal.Refusal.TheVariants.{Memory};
+ghost use Rattle.ir_event.specs.types.declared.refusal.Refusal.TheVariants.{Memory};
 ghost use Rattle.ir_event.specs.Modules.{module_in};
 ghost use Rattle.listeners_unreached.specs.Marks.{left_at};
 ghost use Rattle.listeners_unreached.specs.Unreached.{unreached_of};
 
 use crate::marking;
+use ir_event::types::ids::OpId;
+use ir_event::types::refusal::Refusal;
 use ir_event::world::World;
-use ir_types::ids::OpId;
-use ir_types::refusal::Refusal;
 use listeners_symbols::table::tabulate;
 use std::alloc::{AllocError, Global};
 use std::collections::BTreeMap;

@@ -9,7 +9,7 @@ ghost use Rattle.std.specs.Map.{keys_of};
 ghost use Rattle.listeners_unreached.specs.Unreached.{prefixes, reached_from, targets};
 
 use crate::waiting::{all_left, left_above, take_out, wait};
-use ir_types::ids::{NameId, OpId};
+use ir_event::types::ids::{NameId, OpId};
 use listeners_symbols::definitions::{Definitions, definitions_of};
 use listeners_symbols::resolve::look_in;
 use listeners_symbols::role::{Reference, Role};

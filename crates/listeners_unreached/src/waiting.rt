@@ -8,7 +8,7 @@ ghost use Rattle.listeners_unreached.specs.Marks.{IsAbove, TakesOut, added, left
 ghost use Rattle.listeners_unreached.specs.Unreached as unreached;
 ghost use Rattle.listeners_unreached.specs.Unreached.{says_definition};
 
-use ir_types::ids::{NameId, OpId};
+use ir_event::types::ids::{NameId, OpId};
 use listeners_symbols::role::Role;
 use std::alloc::{AllocError, Global};
 use std::collections::BTreeMap;

@@ -1,8 +1,8 @@
 //! How many operations a canonicalization looks at.
-use greedy::outcome::Outcome;
-use greedy::run::run_counted;
 use mlir_work_cases_base::texts::{bytes, first, small};
 use mlir_work_cases_base::witness::Witness;
+use mlir_work_run::greedy::outcome::Outcome;
+use mlir_work_run::greedy::run::run_counted;
 use rewriter_cases_base::Bench;
 use rewriter_cases_base::worlds::bench_of;
 use std::alloc::{AllocError, Global};

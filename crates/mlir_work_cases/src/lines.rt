@@ -1,6 +1,6 @@
 //! What lines of a script and words say, and how texts are cut.
-use ir_tree::value::Value;
-use ir_types::ids::OpId;
+use ir_event::trees::value::Value;
+use ir_event::types::ids::OpId;
 use mlir_work_cases_base::texts::{both_shown, bytes, number, put_all_shown, shown};
 use mlir_work_run::clauses::Clauses;
 use mlir_work_run::command::{Command, Line, read_line};

@@ -1,14 +1,15 @@
 //! Lines and cells as they are written.
-use ir_tree::value::Value;
-use ir_types::ids::OpId;
-use ir_types::refusal::Refusal;
+use ir_event::trees::value::Value;
+use ir_event::types::ids::OpId;
+use ir_event::types::refusal::Refusal;
 use mlir_work_cases_base::texts::{first, number, small};
 use mlir_work_run::cells::{put_number, put_op_id, put_value};
 use mlir_work_run::kind::Kind;
 use mlir_work_run::outcome::Outcome;
 use mlir_work_run::replies::{
     put_attach_refused, put_expected, put_kind, put_kind_memory, put_module_memory,
-    put_module_refused, put_ok, put_outcome, put_refused, put_refused_at, put_refused_on, put_stale,
+    put_module_refused, put_ok, put_outcome, put_refused, put_refused_at, put_refused_on,
+    put_stale,
 };
 use mlir_work_run::writing::{WriteFault, put_all};
 use std::alloc::{AllocError, Global};

@@ -1,9 +1,9 @@
 //! A rule at an operation of a module.
-use ir_types::ids::OpId;
+use ir_event::types::ids::OpId;
 use mlir_work_cases_base::texts::{bytes, first, put_all_shown, small};
 use mlir_work_cases_base::witness::Witness;
-use patterns::apply::apply;
-use patterns::rule::Rule;
+use mlir_work_run::greedy::patterns::apply::apply;
+use mlir_work_run::greedy::patterns::rule::Rule;
 use rewriter_cases_base::Bench;
 use rewriter_cases_base::worlds::{bench_from, text_of};
 use std::alloc::{AllocError, Global};

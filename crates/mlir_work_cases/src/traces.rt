@@ -3,11 +3,11 @@ ghost use Rattle.std.specs.Prelude.{◌≡◌, []};
 
 use crate::runs::told;
 use ir_event::event::Event;
+use ir_event::types::context::Context;
+use ir_event::types::ids::OpId;
+use ir_event::types::refusal::Refusal;
 use ir_event::view::View;
 use ir_event::world::World;
-use ir_types::context::Context;
-use ir_types::ids::OpId;
-use ir_types::refusal::Refusal;
 use ir_verify::check::{check_in, check_op};
 use mlir_work_cases_base::events::put_event;
 use mlir_work_cases_base::texts::{bytes, first, small};

@@ -1,6 +1,6 @@
 -- What the listeners mean that watch what is told.
 use Rattle.std.specs.Prelude.{◌≡◌, List, [], Some, false, ◌||◌}
-use Rattle.ir_tree.specs.Meaning.{Operation}
+use Rattle.ir_event.specs.trees.Meaning.{Operation}
 use Rattle.ir_event.specs.Listener.{Listener}
 use Rattle.ir_event.specs.Rows.{RowTerm}
 use Rattle.mlir_work_cases_base.specs.declared.witness.Witness.{Witness}

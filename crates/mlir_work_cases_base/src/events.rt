@@ -1,10 +1,10 @@
 //! Events as they stand in a line: words that `_` joins.
 use crate::texts::put_all_shown;
 use ir_event::event::Event;
-use ir_tree::place::{Part, Place};
-use ir_tree::value::Value;
-use ir_types::context::Context;
-use ir_types::ids::{AttrId, NameId, OpId};
+use ir_event::trees::place::{Part, Place};
+use ir_event::trees::value::Value;
+use ir_event::types::context::Context;
+use ir_event::types::ids::{AttrId, NameId, OpId};
 use std::alloc::{AllocError, Global};
 use std::fmt::Write;
 

@@ -5,11 +5,11 @@ use crate::events::text_of;
 use ir_event::analysis::Analysis;
 use ir_event::event::Event;
 use ir_event::row::{Kind, Memory, ReportFault, Row};
+use ir_event::trees::place::Place;
+use ir_event::trees::value::Value;
+use ir_event::types::ids::{AttrId, OpId};
 use ir_event::view::View;
 use ir_event::world::World;
-use ir_tree::place::Place;
-use ir_tree::value::Value;
-use ir_types::ids::{AttrId, OpId};
 use mlir_work_session_base::supplied::Supplied;
 use std::alloc::Global;
 

@@ -1,6 +1,6 @@
 -- What one of the seven listeners means, and which there is of each kind.
 use Rattle.std.specs.Prelude.{ℕ, List, map, ◌==◌, true, Option, Some, None, if◌then◌else◌}
-use Rattle.ir_tree.specs.Meaning.{Operation}
+use Rattle.ir_event.specs.trees.Meaning.{Operation}
 use Rattle.ir_event.specs.Rows.{RowTerm}
 use Rattle.ir_event.specs.Listener.{Listener}
 use Rattle.listeners.specs.Listeners.{uses_listener}

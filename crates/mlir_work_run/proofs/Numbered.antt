@@ -8,14 +8,14 @@ use Rattle.std.specs.Cmp.{unsigned_Decides}
 use Rattle.std.specs.List.{AllPairs, IsDistinct, range_with_len}
 use Rattle.std.proofs.lemmas.List.FromFn.{length-range_with_len, get_or-range_with_len}
 use Rattle.std.proofs.lemmas.Map.Made.{IsDistinct-from_AllPairs}
-use Rattle.ir_types.specs.Things.{Things}
-use Rattle.ir_types.specs.Terms.{name_term, type_term, attr_term}
-use Rattle.ir_types.specs.Words.{is_isolated}
-use Rattle.ir_tree.specs.Tree.{Op}
-use Rattle.ir_tree.specs.Ids.{ids, op_count, IsNumberedFrom, HasDistinctIds}
-use Rattle.ir_tree.specs.Meaning.{isolated_in, meaning}
-use Rattle.ir_tree.specs.WellFormed.{IsFormed}
-use Rattle.ir_tree.proofs.Mapped.{map_counts, map_depth, map_ids, map_operands_visible}
+use Rattle.ir_event.specs.types.Things.{Things}
+use Rattle.ir_event.specs.types.Terms.{name_term, type_term, attr_term}
+use Rattle.ir_event.specs.types.Words.{is_isolated}
+use Rattle.ir_event.specs.trees.Tree.{Op}
+use Rattle.ir_event.specs.trees.Ids.{ids, op_count, IsNumberedFrom, HasDistinctIds}
+use Rattle.ir_event.specs.trees.Meaning.{isolated_in, meaning}
+use Rattle.ir_event.specs.trees.WellFormed.{IsFormed}
+use Rattle.ir_event.proofs.of_trees.Mapped.{map_counts, map_depth, map_ids, map_operands_visible}
 use Rattle.ir_event.proofs.of_tree_laws.Facts.{count_meaning}
 
 numbers_apart : (n : ℕ) → AllPairs (λ x y. x ≢ y) (range_with_len 0 n)

@@ -6,9 +6,9 @@ ghost use Rattle.mlir_work_session.specs.Writes.{Stream};
 ghost use Rattle.mlir_work_run.specs.Whole.{IsOutput, setting_of};
 
 use crate::run::{Options, run_watched};
-use mlir_work_session::supplied::Supplied;
 use mlir_work_session::sink::Sink;
 use mlir_work_session::source::{Source, SourceFault};
+use mlir_work_session::supplied::Supplied;
 use mlir_work_session::writing::WriteFault;
 use std::alloc::Global;
 use std::io::Read;

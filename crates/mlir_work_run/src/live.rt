@@ -20,8 +20,8 @@ ghost use Rattle.rewriter_laws.specs.Journals.{IsSlotted, IsTidy};
 
 use crate::run::{Options, Unread, hold, manner_of, no_memory, refuse, tree_of};
 use ir_event::analysis::Analysis;
+use ir_event::types::refusal::Refusal;
 use ir_event::world::World;
-use ir_types::refusal::Refusal;
 use mlir_work_lines::feed::{Stop, take_line};
 use mlir_work_lines::parts::take_module;
 use mlir_work_session::Bench;

@@ -1,9 +1,9 @@
 //! A whole run, from bytes to bytes.
 ghost use Rattle.std.specs.Prelude.{◌≡◌, ◌≤◌, ℕ, IsTrue, length, IfOk, IfErr, IfSome, None, Some, false, true};
 ghost use Rattle.std.specs.Io.KnownBytes.{Keeps};
-ghost use Rattle.ir_tree.specs.Ids.{IsNumberedFrom, op_count};
-ghost use Rattle.ir_tree.specs.Meaning.{meaning, isolated_in, IsSoundIn};
-ghost use Rattle.ir_tree.specs.WellFormed.{IsFormed};
+ghost use Rattle.ir_event.specs.trees.Ids.{IsNumberedFrom, op_count};
+ghost use Rattle.ir_event.specs.trees.Meaning.{meaning, isolated_in, IsSoundIn};
+ghost use Rattle.ir_event.specs.trees.WellFormed.{IsFormed};
 ghost use Rattle.ir_event.specs.Modules.{module_in};
 ghost use Rattle.mlir_work_session.specs.Public.{IsOnly, Spells};
 ghost use Rattle.rewriter_laws.specs.Journals.{IsSlotted, IsTidy};
@@ -21,11 +21,11 @@ ghost use Rattle.mlir_work_run.specs.Whole.{IsOutput, IsRefusal, WhyNot, manner_
 
 use dialects_int::tables::registry;
 use ir_event::analysis::Analysis;
+use ir_event::trees::count::op_count;
+use ir_event::trees::tree::TreeOp;
+use ir_event::types::context::Context;
+use ir_event::types::refusal::Refusal;
 use ir_event::world::World;
-use ir_tree::count::op_count;
-use ir_tree::tree::TreeOp;
-use ir_types::context::Context;
-use ir_types::refusal::Refusal;
 use mlir_work_session::input::{MAX_INPUT_BYTES, ReadFault, read_all, script_is_too_long, split};
 use mlir_work_session::manner::Manner;
 use mlir_work_session::prints::{only_prints, print_session};

@@ -2,10 +2,10 @@
 use Rattle.std.proofs.Common.{◌≡◌, ℕ, List, [], ◌∷◌, ◌++◌, Bool, true, false, if◌then◌else◌, inl, inr, refl, ap, ◌∙◌, arith}
 use Rattle.std.specs.Prelude.{◌==◌, ◌&&◌, codes}
 use Rattle.std.proofs.lemmas.Bool.Decides.{nat_tests}
-use Rattle.ir_types.proofs.Growth.{name_is}
+use Rattle.ir_event.proofs.of_types.Growth.{name_is}
 use Rattle.mlir_work_script.specs.Lines.{is_newline, line_of, after_line}
 use Rattle.mlir_work_script.specs.Parts.{EndsLine, IsSplit, at_divider, module_from, script_from}
-use Rattle.ir_types.proofs.SameTerms.{number_is}
+use Rattle.ir_event.proofs.of_types.SameTerms.{number_is}
 
 line_if : (t : Bool) (b : ℕ) (bs line rest : List ℕ) → is_newline b ≡ t → (end : List ℕ) × (bs ≡ line ++ end) × EndsLine end rest → (end : List ℕ) × (b ∷ bs ≡ (if t then [] else b ∷ line) ++ end) × EndsLine end (if t then bs else rest)
 line_if true b bs line rest e h = (b ∷ bs, refl, inl (ap (λ c. c ∷ bs) (number_is b 10 e)))

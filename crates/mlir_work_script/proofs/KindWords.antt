@@ -6,12 +6,12 @@ use Rattle.std.specs.List.{starts_with}
 use Rattle.std.specs.Option.{is_some}
 use Rattle.std.specs.Str.{bytes_eq}
 use Rattle.std.proofs.lemmas.Bool.Decides.{nat_tests}
-use Rattle.ir_types.proofs.Growth.{name_refl, name_is}
+use Rattle.ir_event.proofs.of_types.Growth.{name_refl, name_is}
 use Rattle.mlir_work_script.specs.Kinds.{kind_name, kind_word, kind_of, numbered_from}
 use Rattle.mlir_work_script.specs.Numbers.{number_of}
 use Rattle.mlir_work_script.proofs.Printed.{number_again}
 use Rattle.std.proofs.lemmas.Bool.{lt-ltb, and_parts, cases_Bool, ltb-true}
-use Rattle.ir_types.proofs.SameTerms.{number_is}
+use Rattle.ir_event.proofs.of_types.SameTerms.{number_is}
 
 numbered_again : (n : ℕ) → n < 256 → kind_name n ≡ None → numbered_from (Some n) (decimal n) ≡ Some n
 numbered_again n h e =

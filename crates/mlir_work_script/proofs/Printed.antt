@@ -8,7 +8,7 @@ use Rattle.std.proofs.Common.{rules}
 use Rattle.std.proofs.lemmas.Bool.Decides.{nat_tests}
 use Rattle.std.proofs.lemmas.Fmt.{digits_decimal, digits_value-decimal, decimal_nonempty}
 use Rattle.std.proofs.lemmas.Str.Parse.{IsNumeralModel, numerals_by_fold, tells_all_ascii_digits}
-use Rattle.ir_tree.specs.declared.value.Value.TheVariants.{Result, Arg}
+use Rattle.ir_event.specs.trees.declared.value.Value.TheVariants.{Result, Arg}
 use Rattle.mlir_work_script.specs.Cuts.{before, after}
 use Rattle.mlir_work_script.specs.Numbers.{value_after, number_of}
 use Rattle.mlir_work_script.specs.Values.{is_dot, op_of, op_text, value_of, value_text}

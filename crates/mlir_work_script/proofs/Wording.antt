@@ -6,7 +6,7 @@ use Rattle.mlir_work_script.specs.Clauses.{Clauses, with_clauses, with_named}
 use Rattle.mlir_work_script.specs.Cuts.{after}
 use Rattle.mlir_work_script.specs.Lines.{onto_first}
 use Rattle.mlir_work_script.specs.Words.{is_blank, skip_blanks, word_of, after_word, words_of, onto_word}
-use Rattle.ir_types.proofs.Truths.{choose}
+use Rattle.ir_event.proofs.of_types.Truths.{choose}
 
 -- ---- words
 

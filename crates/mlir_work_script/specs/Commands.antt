@@ -4,7 +4,7 @@ use Rattle.std.specs.Prelude.{nat_eq}
 use Rattle.std.specs.List.{starts_with}
 use Rattle.std.specs.Option.{option_map}
 use Rattle.std.specs.Str.{bytes_eq, is_utf8}
-use Rattle.ir_tree.specs.declared.value.Value.{Value}
+use Rattle.ir_event.specs.trees.declared.value.Value.{Value}
 use Rattle.rewriter_machine.specs.Commands as said
 use Rattle.rewriter_machine.specs.Commands.{Command as Said, RuleName}
 use Rattle.rewriter_machine.specs.Spots.{Spot}

@@ -2,17 +2,19 @@
 use Rattle.std.specs.Prelude.{ℕ, List, [], ◌∷◌, ◌||◌, Bool, eqb, false, Option, Some, None, if◌then◌else◌, codes}
 use Rattle.std.specs.List.{find}
 use Rattle.std.specs.Str.{bytes_eq, is_utf8}
-use Rattle.ir_types.specs.Refusals as refusals
-use Rattle.ir_types.specs.declared.refusal.Refusal.{Refusal}
-use Rattle.ir_types.specs.declared.refusal.Refusal.TheVariants.{BadToken, Unexpected, UnknownValue, Redefined}
-use Rattle.ir_types.specs.declared.refusal.Refusal.TheVariants.{TypeMismatch, BadWidth, BadValue, MultipleBlocks}
-use Rattle.ir_types.specs.declared.refusal.Refusal.TheVariants.{Successors, TooDeep, TooMany, DuplicateKey, LeftOut}
-use Rattle.ir_types.specs.declared.refusal.Refusal.TheVariants.{NotUtf8, NoSuchOp, NoSuchValue, HasUses, NotVisible}
-use Rattle.ir_types.specs.declared.refusal.Refusal.TheVariants.{TypeDiffers, NoSuchIndex, NoSuchKey, IntoItself}
-use Rattle.ir_types.specs.declared.refusal.Refusal.TheVariants.{OtherTable, IsRoot, NotEmpty, Full, IdsExhausted}
-use Rattle.ir_types.specs.declared.refusal.Refusal.TheVariants.{TooDeepHere, TooManyMarks, NoMark, Memory, Stale}
-use Rattle.ir_types.specs.declared.refusal.Refusal.TheVariants.{NoSuchKind, KindTaken, BadLimit, NotLegalised}
-use Rattle.ir_types.specs.declared.refusal.Refusal.TheVariants.{ChainTooDeep, Unreconciled, BadTarget, BadCommand}
+use Rattle.ir_event.specs.types.Refusals as refusals
+use Rattle.ir_event.specs.types.declared.refusal.Refusal.{Refusal}
+use Rattle.ir_event.specs.types.declared.refusal.Refusal.TheVariants.{BadToken, Unexpected, UnknownValue, Redefined}
+use Rattle.ir_event.specs.types.declared.refusal.Refusal.TheVariants.{TypeMismatch, BadWidth, BadValue, MultipleBlocks}
+use Rattle.ir_event.specs.types.declared.refusal.Refusal.TheVariants.{Successors, TooDeep}
+use Rattle.ir_event.specs.types.declared.refusal.Refusal.TheVariants.{TooMany, DuplicateKey, LeftOut}
+use Rattle.ir_event.specs.types.declared.refusal.Refusal.TheVariants.{NotUtf8, NoSuchOp}
+use Rattle.ir_event.specs.types.declared.refusal.Refusal.TheVariants.{NoSuchValue, HasUses, NotVisible}
+use Rattle.ir_event.specs.types.declared.refusal.Refusal.TheVariants.{TypeDiffers, NoSuchIndex, NoSuchKey, IntoItself}
+use Rattle.ir_event.specs.types.declared.refusal.Refusal.TheVariants.{OtherTable, IsRoot, NotEmpty, Full, IdsExhausted}
+use Rattle.ir_event.specs.types.declared.refusal.Refusal.TheVariants.{TooDeepHere, TooManyMarks, NoMark, Memory, Stale}
+use Rattle.ir_event.specs.types.declared.refusal.Refusal.TheVariants.{NoSuchKind, KindTaken, BadLimit, NotLegalised}
+use Rattle.ir_event.specs.types.declared.refusal.Refusal.TheVariants.{ChainTooDeep, Unreconciled, BadTarget, BadCommand}
 use Rattle.mlir_work_script.specs.Numbers.{number_of}
 use Rattle.mlir_work_script.specs.Words.{trim, word_of, after_word}
 

@@ -1,8 +1,8 @@
 -- The lines of a run's output. Each ends in a line feed.
 use Rattle.std.specs.Prelude.{ℕ, List, ◌++◌, Option, Some, None, codes}
 use Rattle.std.specs.Fmt.{decimal}
-use Rattle.ir_types.specs.Refusals.{text_of}
-use Rattle.ir_types.specs.declared.refusal.Refusal.{Refusal}
+use Rattle.ir_event.specs.types.Refusals.{text_of}
+use Rattle.ir_event.specs.types.declared.refusal.Refusal.{Refusal}
 use Rattle.rewriter_machine.specs.Machine.{Outcome}
 use Rattle.mlir_work_script.specs.Kinds.{kind_word}
 use Rattle.mlir_work_script.specs.Outcomes.{outcome_word, outcome_count}

@@ -1,13 +1,13 @@
 //! The cells of a report's rows.
 ghost use Rattle.std.specs.Fmt.{decimal};
-ghost use Rattle.ir_tree.specs.declared.value.Value.TheVariants.{Result as ResultOf, Arg};
+ghost use Rattle.ir_event.specs.trees.declared.value.Value.TheVariants.{Result as ResultOf, Arg};
 ghost use Rattle.mlir_work_script.specs.Values.{op_text, value_text};
 ghost use Rattle.mlir_work_script.specs.Writes.{Puts};
 
 use crate::sink::Sink;
 use crate::writing::{WriteFault, put, put_all};
-use ir_tree::value::Value;
-use ir_types::ids::OpId;
+use ir_event::trees::value::Value;
+use ir_event::types::ids::OpId;
 use itoa::Buffer;
 
 /// Writes a decimal number.

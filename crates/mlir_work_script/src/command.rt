@@ -17,8 +17,8 @@ use crate::rule_name::{RuleName, rule_named};
 use crate::spots::{Spot, split_spot};
 use crate::values::{op_named, value_named};
 use crate::words::{is_text, split_word, trim};
-use ir_tree::value::Value;
-use ir_types::ids::OpId;
+use ir_event::trees::value::Value;
+use ir_event::types::ids::OpId;
 
 /// A command of a script.
 #[derive(Clone, Copy)]

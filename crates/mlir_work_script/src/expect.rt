@@ -5,7 +5,7 @@ ghost use Rattle.mlir_work_script.specs.Expecting.{refusal_in};
 
 use crate::numbers::number;
 use crate::words::{is_text, split_word, trim};
-use ir_types::refusal::Refusal;
+use ir_event::types::refusal::Refusal;
 
 /// All refusals, by rising numbers.
 const REFUSALS: [Refusal; 40] = [

@@ -1,7 +1,7 @@
 //! What is printed is read again, and no byte of an input is lost.
 ghost use Rattle.std.specs.Prelude.{◌≡◌, ◌^◌, ◌<◌, ℕ, List, Some};
 ghost use Rattle.std.specs.Fmt.{decimal};
-ghost use Rattle.ir_tree.specs.declared.value.Value.TheVariants.{Result as ResultOf, Arg};
+ghost use Rattle.ir_event.specs.trees.declared.value.Value.TheVariants.{Result as ResultOf, Arg};
 ghost use Rattle.mlir_work_script.specs.Kinds.{kind_of, kind_word};
 ghost use Rattle.mlir_work_script.specs.Numbers.{number_of};
 ghost use Rattle.mlir_work_script.specs.Parts.{IsSplit, module_text, script_text};

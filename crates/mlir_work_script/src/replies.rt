@@ -1,6 +1,6 @@
 //! The lines of a run's output.
 ghost use Rattle.std.specs.Prelude.{◌++◌, Some, None, codes};
-ghost use Rattle.ir_types.specs.Refusals.{text_of};
+ghost use Rattle.ir_event.specs.types.Refusals.{text_of};
 ghost use Rattle.mlir_work_script.specs.Kinds.{kind_word};
 ghost use Rattle.mlir_work_script.specs.Outcomes.{outcome_of};
 ghost use Rattle.mlir_work_script.specs.Replies.{made_line, ok_line, outcome_line, refused_line, refused_at_line};
@@ -12,8 +12,8 @@ use crate::kind::{Kind, name_of};
 use crate::outcome::Outcome;
 use crate::sink::Sink;
 use crate::writing::{WriteFault, put, put_all};
-use ir_types::ids::OpId;
-use ir_types::refusal::Refusal;
+use ir_event::types::ids::OpId;
+use ir_event::types::refusal::Refusal;
 use itoa::Buffer;
 
 /// Writes that a command is accepted: `1 ok`.

@@ -10,7 +10,7 @@ ghost use Rattle.mlir_work_script.specs.Words.{word_of, after_word};
 use crate::numbers::number;
 use crate::values::op_named;
 use crate::words::split_word;
-use ir_types::ids::OpId;
+use ir_event::types::ids::OpId;
 
 /// Where a command says that an operation is to stand.
 #[derive(Clone, Copy)]

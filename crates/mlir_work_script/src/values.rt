@@ -4,8 +4,8 @@ ghost use Rattle.mlir_work_script.specs.Values.{op_of, result_of, argument_from,
 
 use crate::cuts::cut_at;
 use crate::numbers::number;
-use ir_tree::value::Value;
-use ir_types::ids::OpId;
+use ir_event::trees::value::Value;
+use ir_event::types::ids::OpId;
 
 /// The operation that a word names: `#3`.
 pub fn op_named(word: &[u8]) -> Option<OpId>

@@ -2,24 +2,24 @@
 use Rattle.std.proofs.Common.{◌≡◌, ◌∙◌, sym, ap, subst, refl, ◌⊎◌, inl, inr, ℕ, List, [], ◌∷◌, Option, Some, None, Result, Ok, Err, IsTrue}
 use Rattle.std.specs.Prelude.{position, remove, is_some, option_map, false, true}
 use Rattle.std.specs.List.{find}
-use Rattle.ir_types.specs.declared.refusal.Refusal.{Refusal}
-use Rattle.ir_types.specs.declared.refusal.Refusal.TheVariants.{Memory, NoSuchKey, NoSuchKind, Stale}
-use Rattle.ir_tree.specs.declared.place.Place.{Place}
-use Rattle.ir_tree.specs.Meaning.{Operation}
+use Rattle.ir_event.specs.types.declared.refusal.Refusal.{Refusal}
+use Rattle.ir_event.specs.types.declared.refusal.Refusal.TheVariants.{Memory, NoSuchKey, NoSuchKind, Stale}
+use Rattle.ir_event.specs.trees.declared.place.Place.{Place}
+use Rattle.ir_event.specs.trees.Meaning.{Operation}
 use Rattle.ir_event.specs.Listener.{Listener}
 use Rattle.ir_event.specs.Panels.{is_kind as has_this_kind}
 use Rattle.ir_text.specs.Printing.{text_of}
 use Rattle.ir_text.specs.Public.{SpellsAttr}
-use Rattle.rewriter.specs.Texts.{SpellsBeside}
-use Rattle.rewriter.specs.Held.{module_held}
-use Rattle.rewriter.specs.Benched.{Benched, state_of}
-use Rattle.rewriter.specs.Commands as command
-use Rattle.rewriter.specs.Commands.{AppliesRule, RuleName, Command, Asked, Ask, Misplaced, Unread, Follows, IsAttrRefusal, IsOpRefusal, Response, Replied, TextRefusedAt, TextRefused}
-use Rattle.rewriter.specs.Edits as edit
-use Rattle.rewriter.specs.Machine as call
-use Rattle.rewriter.specs.Machine.{State, OpenMark, Call, Do, Reply, Done, Refused, Shows, Nothing, Rows, Tree, Answer, Goes, due, due_rollback, grows_under, PanelGoes}
-use Rattle.rewriter.specs.Panels.{Shown, is_kind, has_kind, shown}
-use Rattle.rewriter.specs.Spots.{Spot, spot_place}
+use Rattle.mlir_work_transforms.specs.rewriter.Texts.{SpellsBeside}
+use Rattle.mlir_work_transforms.specs.rewriter.Held.{module_held}
+use Rattle.mlir_work_transforms.specs.rewriter.Benched.{Benched, state_of}
+use Rattle.mlir_work_transforms.specs.rewriter.Commands as command
+use Rattle.mlir_work_transforms.specs.rewriter.Commands.{AppliesRule, RuleName, Command, Asked, Ask, Misplaced, Unread, Follows, IsAttrRefusal, IsOpRefusal, Response, Replied, TextRefusedAt, TextRefused}
+use Rattle.mlir_work_transforms.specs.rewriter.Edits as edit
+use Rattle.mlir_work_transforms.specs.rewriter.Machine as call
+use Rattle.mlir_work_transforms.specs.rewriter.Machine.{State, OpenMark, Call, Do, Reply, Done, Refused, Shows, Nothing, Rows, Tree, Answer, Goes, due, due_rollback, grows_under, PanelGoes}
+use Rattle.mlir_work_transforms.specs.rewriter.Panels.{Shown, is_kind, has_kind, shown}
+use Rattle.mlir_work_transforms.specs.rewriter.Spots.{Spot, spot_place}
 use Rattle.mlir_work_session.specs.Texts.{NotRead}
 use Rattle.greedy.specs.Changes.{canonicalizing}
 use Rattle.mlir_work_transforms.specs.Applying.{applying, rule_named}

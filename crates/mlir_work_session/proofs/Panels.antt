@@ -4,13 +4,13 @@ use Rattle.std.specs.Prelude.{remove, slice_set, position, is_some}
 use Rattle.std.specs.Option.{option_map}
 use Rattle.std.specs.List.{AllZip, find, All, position_or_len}
 use Rattle.std.proofs.lemmas.List.{length-map, map-append, take-map, drop-map}
-use Rattle.ir_types.specs.Things.{Things}
+use Rattle.ir_event.specs.types.Things.{Things}
 use Rattle.ir_event.specs.declared.event.Event.{Event}
 use Rattle.ir_event.specs.Modules.{Module, Node}
 use Rattle.ir_event.specs.Listener.{Listener}
 use Rattle.ir_event.specs.Panels.{AllTold, is_kind as has_this_kind, has_kind as panel_has, Detached, BegunAgain}
-use Rattle.rewriter.specs.Panels.{Shown, IsSame, Ages, shown, all_shown, is_kind, has_kind, Detached as DetachedShown, BegunAgain as BegunShown}
-use Rattle.rewriter.proofs.Panels.{found_shown, got_shown, has_placed, position_shown, removed_shown, set_shown}
+use Rattle.mlir_work_transforms.specs.rewriter.Panels.{Shown, IsSame, Ages, shown, all_shown, is_kind, has_kind, Detached as DetachedShown, BegunAgain as BegunShown}
+use Rattle.mlir_work_transforms.proofs.of_rewriter.Panels.{found_shown, got_shown, has_placed, position_shown, removed_shown, set_shown}
 
 same_self : (a : Shown) → IsSame a a
 same_self a = record { kind = refl; analysis = λ t. refl }

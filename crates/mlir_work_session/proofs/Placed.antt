@@ -2,25 +2,25 @@
 use Rattle.std.proofs.Common.{◌≡◌, ◌∙◌, ap, sym, refl, ℕ, zero, suc, eqb, true, false, Option, Some, None, cond}
 use Rattle.std.specs.Prelude.{is_some, option_map, option_and_then, Result, slice_get}
 use Rattle.std.specs.Option.{option_eq}
-use Rattle.ir_types.specs.Things.{Things}
-use Rattle.ir_types.specs.Terms.{name_term, type_term, attr_term}
-use Rattle.ir_types.specs.declared.refusal.Refusal.{Refusal}
-use Rattle.ir_tree.specs.declared.place.Place.{Place}
-use Rattle.ir_tree.specs.Tree.{OpOf, Op, op, Regions, RegionsOf, no_regions, region, RegionOf, empty, block, OpsOf, no_ops, next, regions}
-use Rattle.ir_tree.specs.Ids.{find, has_id}
-use Rattle.ir_tree.specs.Maps.{map_tree, map_region, map_regions, map_ops}
-use Rattle.ir_tree.specs.Meaning.{meaning}
-use Rattle.ir_tree.specs.Places.{place_of, first_id}
-use Rattle.ir_tree.proofs.Mapped.{map_find, map_place}
-use Rattle.ir_tree_laws.specs.Values.{region_at}
-use Rattle.ir_tree_laws.specs.Reads.{next_of, first_at, ops_in, ops_at}
-use Rattle.ir_tree_laws.proofs.Around.{absent_find}
-use Rattle.ir_tree_laws.proofs.Contents.{map_has_id, same_id, map_ops_at, map_region_at, some_map}
-use Rattle.ir_store.specs.Nodes.{Node, node_of, regions_arguments}
-use Rattle.ir_store.specs.Stored.{Stored, known}
+use Rattle.ir_event.specs.types.Things.{Things}
+use Rattle.ir_event.specs.types.Terms.{name_term, type_term, attr_term}
+use Rattle.ir_event.specs.types.declared.refusal.Refusal.{Refusal}
+use Rattle.ir_event.specs.trees.declared.place.Place.{Place}
+use Rattle.ir_event.specs.trees.Tree.{OpOf, Op, op, Regions, RegionsOf, no_regions, region, RegionOf, empty, block, OpsOf, no_ops, next, regions}
+use Rattle.ir_event.specs.trees.Ids.{find, has_id}
+use Rattle.ir_event.specs.trees.Maps.{map_tree, map_region, map_regions, map_ops}
+use Rattle.ir_event.specs.trees.Meaning.{meaning}
+use Rattle.ir_event.specs.trees.Places.{place_of, first_id}
+use Rattle.ir_event.proofs.of_trees.Mapped.{map_find, map_place}
+use Rattle.ir_event.specs.tree_laws.Values.{region_at}
+use Rattle.ir_event.specs.tree_laws.Reads.{next_of, first_at, ops_in, ops_at}
+use Rattle.ir_event.proofs.of_tree_laws.Around.{absent_find}
+use Rattle.ir_event.proofs.of_tree_laws.Contents.{map_has_id, same_id, map_ops_at, map_region_at, some_map}
+use Rattle.ir_event.specs.store.Nodes.{Node, node_of, regions_arguments}
+use Rattle.ir_event.specs.store.Stored.{Stored, known}
 use Rattle.ir_event.proofs.Shown.{known_there}
-use Rattle.rewriter.specs.Held.{Held, module_held}
-use Rattle.rewriter.specs.Spots.{Spot, Before, After, Start, End, passing, coming, behind, beside, in_block, spot_place}
+use Rattle.mlir_work_transforms.specs.rewriter.Held.{Held, module_held}
+use Rattle.mlir_work_transforms.specs.rewriter.Spots.{Spot, Before, After, Start, End, passing, coming, behind, beside, in_block, spot_place}
 
 module _ {N T A M U B : Type 0} (f : N → M) (g : T → U) (h : A → B) where
   map_has_block : (p r : ℕ) (t : OpOf N T A) → is_some (ops_at p r (map_tree f g h t)) ≡ is_some (ops_at p r t)

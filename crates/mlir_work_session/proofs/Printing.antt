@@ -3,17 +3,17 @@ use Rattle.std.proofs.Common.{◌≡◌, ◌∙◌, ap, sym, subst, refl, ℕ, �
 use Rattle.std.specs.List.{list_any, list_all}
 use Rattle.std.proofs.lemmas.Bool.{eq-eqb, eqb-true, lt-ltb, ltb-false, ltb-true, and_parts, not-true}
 use Rattle.std.proofs.lemmas.List.Recursion.{is_position_or_len}
-use Rattle.ir_types.specs.declared.refusal.Refusal.{Refusal}
-use Rattle.ir_types.specs.declared.refusal.Refusal.TheVariants.{Memory}
-use Rattle.ir_tree.specs.Meaning.{Operation}
+use Rattle.ir_event.specs.types.declared.refusal.Refusal.{Refusal}
+use Rattle.ir_event.specs.types.declared.refusal.Refusal.TheVariants.{Memory}
+use Rattle.ir_event.specs.trees.Meaning.{Operation}
 use Rattle.ir_event.specs.Modules.{Module}
 use Rattle.ir_event.specs.Listener.{Listener}
 use Rattle.ir_text.specs.Printing.{text_of}
-use Rattle.rewriter.specs.Commands as said
-use Rattle.rewriter.specs.Commands.{Command, Ask, Replied, TextRefusedAt}
-use Rattle.rewriter.specs.Machine as call
-use Rattle.rewriter.specs.Machine.{State, Done, Refused, Tree, Nothing as NoRows}
-use Rattle.rewriter.specs.Panels.{Shown, all_shown, has_kind, is_kind}
+use Rattle.mlir_work_transforms.specs.rewriter.Commands as said
+use Rattle.mlir_work_transforms.specs.rewriter.Commands.{Command, Ask, Replied, TextRefusedAt}
+use Rattle.mlir_work_transforms.specs.rewriter.Machine as call
+use Rattle.mlir_work_transforms.specs.rewriter.Machine.{State, Done, Refused, Tree, Nothing as NoRows}
+use Rattle.mlir_work_transforms.specs.rewriter.Panels.{Shown, all_shown, has_kind, is_kind}
 use Rattle.mlir_work_script.specs.Commands.{Spoken, Nothing, Bad, Obey, Ordered, line_says}
 use Rattle.mlir_work_script.specs.Lines.{lines_of}
 use Rattle.mlir_work_script.specs.Writes.{Stream}

@@ -1,32 +1,32 @@
 -- Texts and keys that are read, beside the module of a bench whose context grows.
 use Rattle.std.proofs.Common.{◌≡◌, ◌∙◌, sym, ap, subst, refl, inl, inr, ◌⊎◌, ℕ, zero, suc, ◌≤◌, ◌<◌, List, [], ◌∷◌, ◌++◌, length, Option, Some, None, true, arith, slice_get}
 use Rattle.std.specs.Prelude.{Result, IsTrue, nat_le}
-use Rattle.ir_types.specs.Interning.{with_name}
-use Rattle.ir_types.specs.Refusals.{number_of}
-use Rattle.ir_types.specs.Sound.{Holds, IsSound}
-use Rattle.ir_types.specs.Terms.{name_term, attr_term}
-use Rattle.ir_types.proofs.WordNumbers.{word_count}
+use Rattle.ir_event.specs.types.Interning.{with_name}
+use Rattle.ir_event.specs.types.Refusals.{number_of}
+use Rattle.ir_event.specs.types.Sound.{Holds, IsSound}
+use Rattle.ir_event.specs.types.Terms.{name_term, attr_term}
+use Rattle.ir_event.proofs.of_types.WordNumbers.{word_count}
 use Rattle.std.proofs.lemmas.Bool.{leb-true}
-use Rattle.ir_types.specs.Things.{Things, Grows, IsName, IsAttr}
-use Rattle.ir_types.specs.declared.refusal.Refusal.{Refusal}
-use Rattle.ir_types.specs.declared.refusal.Refusal.TheVariants.{Memory, TooMany, IdsExhausted}
-use Rattle.ir_types.proofs.CallNumbers.{new_name, name_stands}
-use Rattle.ir_types.proofs.Growth.{grows_refl, grows_trans, front_length}
-use Rattle.ir_types.proofs.Terms.{attr_stays}
-use Rattle.ir_tree.specs.declared.place.Place.{Place}
-use Rattle.ir_store.specs.Stored.{Stored}
+use Rattle.ir_event.specs.types.Things.{Things, Grows, IsName, IsAttr}
+use Rattle.ir_event.specs.types.declared.refusal.Refusal.{Refusal}
+use Rattle.ir_event.specs.types.declared.refusal.Refusal.TheVariants.{Memory, TooMany, IdsExhausted}
+use Rattle.ir_event.proofs.of_types.CallNumbers.{new_name, name_stands}
+use Rattle.ir_event.proofs.of_types.Growth.{grows_refl, grows_trans, front_length}
+use Rattle.ir_event.proofs.of_types.Terms.{attr_stays}
+use Rattle.ir_event.specs.trees.declared.place.Place.{Place}
+use Rattle.ir_event.specs.store.Stored.{Stored}
 use Rattle.ir_event.specs.declared.world.World.{World}
 use Rattle.ir_event.specs.Listener.{Listener}
 use Rattle.ir_event.specs.Modules.{things_in, module_in, module_meaning}
 use Rattle.ir_text.specs.Printing.{text_of}
 use Rattle.ir_text.specs.Public.{SpellsAttr}
-use Rattle.rewriter.specs.Commands.{CanFill, IsAttrRefusal, IsOpRefusal, Replied, TextRefusedAt}
-use Rattle.rewriter.specs.Machine.{State, Refused}
-use Rattle.rewriter.specs.Panels.{all_shown}
-use Rattle.rewriter.specs.Spots.{Spot, spot_place}
-use Rattle.rewriter.specs.Held.{Held, module_held, open_marks}
-use Rattle.rewriter.specs.Moves.{Grown as DeskGrown}
-use Rattle.rewriter.specs.Benched.{Benched, IsKept, Led, state_of}
+use Rattle.mlir_work_transforms.specs.rewriter.Commands.{CanFill, IsAttrRefusal, IsOpRefusal, Replied, TextRefusedAt}
+use Rattle.mlir_work_transforms.specs.rewriter.Machine.{State, Refused}
+use Rattle.mlir_work_transforms.specs.rewriter.Panels.{all_shown}
+use Rattle.mlir_work_transforms.specs.rewriter.Spots.{Spot, spot_place}
+use Rattle.mlir_work_transforms.specs.rewriter.Held.{Held, module_held, open_marks}
+use Rattle.mlir_work_transforms.specs.rewriter.Moves.{Grown as DeskGrown}
+use Rattle.mlir_work_transforms.specs.rewriter.Benched.{Benched, IsKept, Led, state_of}
 use Rattle.mlir_work_session.specs.Texts.{Grown, NotRead}
 use Rattle.mlir_work_session_base.specs.IdsText.{ids_text}
 use Rattle.mlir_work_session_base.specs.RowText.{rows_text}

@@ -1,10 +1,10 @@
 -- Where what rewrites is refused with 31: where that is due, or the context is full.
 use Rattle.std.proofs.Common.{◌≡◌, ◌∙◌, sym, ap, refl, ◌⊎◌, inl, inr, subst, ℕ, List, [], Some, None, option_map, Result}
 use Rattle.std.specs.Prelude.{IfErr}
-use Rattle.ir_types.specs.declared.refusal.Refusal.{Refusal}
-use Rattle.ir_types.specs.declared.refusal.Refusal.TheVariants.{Full}
-use Rattle.rewriter.specs.Commands.{Command, Response, Replied, RuleName}
-use Rattle.rewriter.specs.Machine.{IsFullSo, Refused, Reply, State, Transformation}
+use Rattle.ir_event.specs.types.declared.refusal.Refusal.{Refusal}
+use Rattle.ir_event.specs.types.declared.refusal.Refusal.TheVariants.{Full}
+use Rattle.mlir_work_transforms.specs.rewriter.Commands.{Command, Response, Replied, RuleName}
+use Rattle.mlir_work_transforms.specs.rewriter.Machine.{IsFullSo, Refused, Reply, State, Transformation}
 use Rattle.mlir_work_script.specs.Orders.{Order}
 use Rattle.greedy.specs.Changes.{canonical_reply, canonicalizing, rewriting}
 use Rattle.greedy.specs.Outcomes.{IsReason}

@@ -1,15 +1,15 @@
 -- Runs of scripts, step by step.
 use Rattle.std.proofs.Common.{◌≡◌, ℕ, ◌+◌, ◌&&◌, List, [], ◌∷◌, ◌++◌, Bool, true, false, not, refl, sym, subst, ◌∙◌, length, ◌≤◌, ◌<◌, ◌==◌, arith, Option, Some, None, Result, Ok, Err}
 use Rattle.std.proofs.lemmas.Bool.Decides.{nat_tests}
-use Rattle.ir_types.specs.declared.refusal.Refusal.{Refusal}
-use Rattle.ir_types.specs.declared.refusal.Refusal.TheVariants.{BadCommand}
-use Rattle.rewriter.specs.Commands.{Response, Replied as Says}
-use Rattle.rewriter.specs.Machine.{Refused}
+use Rattle.ir_event.specs.types.declared.refusal.Refusal.{Refusal}
+use Rattle.ir_event.specs.types.declared.refusal.Refusal.TheVariants.{BadCommand}
+use Rattle.mlir_work_transforms.specs.rewriter.Commands.{Response, Replied as Says}
+use Rattle.mlir_work_transforms.specs.rewriter.Machine.{Refused}
 use Rattle.mlir_work_script.specs.Commands.{Spoken, Nothing, Bad, Obey, Ordered, line_says}
 use Rattle.mlir_work_script.specs.Expecting.{line_expects}
 use Rattle.mlir_work_script.specs.Lines.{lines_of}
 use Rattle.mlir_work_script.specs.Writes.{Stream}
-use Rattle.rewriter.specs.Machine.{State}
+use Rattle.mlir_work_transforms.specs.rewriter.Machine.{State}
 use Rattle.mlir_work_session.specs.Output.{IsAnswered, IsBounded, IsEnded, IsToldOf, Line, Way, Replied, Replies, IsReplied, Runs, accepted_behind, end_of, number_behind, worse, says_nothing, asks, reply_text, is_right}
 use Rattle.mlir_work_session.specs.Ran.{RanOut}
 use Rattle.mlir_work_session.proofs.Listings.{some_listing_if}

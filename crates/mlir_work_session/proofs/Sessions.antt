@@ -5,8 +5,8 @@ use Rattle.mlir_work_script.specs.Lines.{lines_of}
 use Rattle.mlir_work_script.specs.Writes.{Grows, GrowsFront, Stream}
 use Rattle.mlir_work_script.specs.Limits.{most_script_bytes}
 use Rattle.mlir_work_script.proofs.Joins.{grows_join, front_join, front_more}
-use Rattle.rewriter.specs.Machine.{State}
-use Rattle.rewriter.specs.Panels.{Shown}
+use Rattle.mlir_work_transforms.specs.rewriter.Machine.{State}
+use Rattle.mlir_work_transforms.specs.rewriter.Panels.{Shown}
 use Rattle.mlir_work_session.specs.Output.{Begun, Runs, Session, Way, worse}
 use Rattle.mlir_work_session.specs.Ran.{RanOut}
 use Rattle.mlir_work_session.proofs.Runs.{some_runs}

@@ -1,12 +1,12 @@
 -- What is an answer in an input is one in a longer input.
 use Rattle.std.proofs.Common.{◌+◌, ◌≤◌, inl, inr, ℕ, List, arith, Option}
-use Rattle.ir_types.specs.declared.refusal.Refusal.{Refusal}
+use Rattle.ir_event.specs.types.declared.refusal.Refusal.{Refusal}
 use Rattle.ir_event.specs.Modules.{Module}
 use Rattle.ir_text.specs.Public.{SpellsAttr}
-use Rattle.rewriter.specs.Commands as command
-use Rattle.rewriter.specs.Commands.{Asked, Ask, CanFill, Command, IsAttrRefusal, IsOpRefusal, Misplaced, Response, TextRefused, Unread}
-use Rattle.rewriter.specs.Machine.{State}
-use Rattle.rewriter.specs.Texts.{SpellsBeside}
+use Rattle.mlir_work_transforms.specs.rewriter.Commands as command
+use Rattle.mlir_work_transforms.specs.rewriter.Commands.{Asked, Ask, CanFill, Command, IsAttrRefusal, IsOpRefusal, Misplaced, Response, TextRefused, Unread}
+use Rattle.mlir_work_transforms.specs.rewriter.Machine.{State}
+use Rattle.mlir_work_transforms.specs.rewriter.Texts.{SpellsBeside}
 use Rattle.mlir_work_script.specs.Commands.{Spoken, Nothing, Bad, Obey, Ordered}
 use Rattle.mlir_work_script.specs.Orders.{Attach, Order, PrintIds, Rewrite}
 use Rattle.mlir_work_session.specs.Machine.{AsksIn, OrdersIn}

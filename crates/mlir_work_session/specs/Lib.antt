@@ -14,7 +14,7 @@ pub use Rattle.mlir_work_script.specs.Reads
 pub use Rattle.mlir_work_script.specs.Writes
 pub use Rattle.mlir_work_script.specs.declared.writing.WriteFault
 pub use Rattle.ir_text.specs.Public
-pub use Rattle.ir_store.specs.Calls
-pub use Rattle.rewriter.specs.Benched
-pub use Rattle.rewriter.specs.Held
-pub use Rattle.rewriter.specs.Panels
+pub use Rattle.ir_event.specs.store.Calls
+pub use Rattle.mlir_work_transforms.specs.rewriter.Benched
+pub use Rattle.mlir_work_transforms.specs.rewriter.Held
+pub use Rattle.mlir_work_transforms.specs.rewriter.Panels

@@ -1,15 +1,17 @@
 -- What a command or an order makes of a bench: as the machine has it, and the bytes that are shown.
 use Rattle.std.specs.Prelude.{◌≡◌, ℕ, List, [], Option, Some, None, ⊤}
-use Rattle.ir_types.specs.declared.refusal.Refusal.TheVariants.{NoSuchKind}
+use Rattle.ir_event.specs.types.declared.refusal.Refusal.TheVariants.{NoSuchKind}
 use Rattle.ir_event.specs.Modules.{Module}
 use Rattle.ir_text.specs.Printing.{text_of}
 use Rattle.ir_text.specs.Public.{SpellsAttr}
-use Rattle.rewriter.specs.Texts.{SpellsBeside}
-use Rattle.rewriter.specs.Commands.{AppliesRule, Apply, Canon, Command, Convert, Asked, Ask, Asks, Misplaced, Response, Replied, TextRefusedAt, Follows}
-use Rattle.rewriter.specs.Machine.{Done, DoneAs, DoneWith, IsFullSo, Refused, RefusedOn, Reply as Answered, Shows, Nothing, Rows, Transformation, Tree}
-use Rattle.rewriter.specs.Machine as call
-use Rattle.rewriter.specs.Panels.{Shown}
-pub use Rattle.rewriter.specs.Machine.{State}
+use Rattle.mlir_work_transforms.specs.rewriter.Texts.{SpellsBeside}
+use Rattle.mlir_work_transforms.specs.rewriter.Commands.{AppliesRule, Apply, Canon, Command, Convert, Asked}
+use Rattle.mlir_work_transforms.specs.rewriter.Commands.{Ask, Asks, Misplaced, Response, Replied, TextRefusedAt, Follows}
+use Rattle.mlir_work_transforms.specs.rewriter.Machine.{Done, DoneAs, DoneWith, IsFullSo, Refused, RefusedOn}
+use Rattle.mlir_work_transforms.specs.rewriter.Machine.{Reply as Answered, Shows, Nothing, Rows, Transformation, Tree}
+use Rattle.mlir_work_transforms.specs.rewriter.Machine as call
+use Rattle.mlir_work_transforms.specs.rewriter.Panels.{Shown}
+pub use Rattle.mlir_work_transforms.specs.rewriter.Machine.{State}
 use Rattle.mlir_work_script.specs.Orders.{Attach, Order, PrintIds, Rewrite}
 use Rattle.mlir_work_script.specs.Outcomes.{outcome_of}
 use Rattle.greedy.specs.Changes.{canonicalizing}

@@ -1,16 +1,17 @@
 -- The output of a script, as a relation: memory may be refused at any command, and a listener may turn stale
 -- where it is told of an edit. All else is determined.
 use Rattle.std.specs.Prelude.{◌≡◌, ℕ, ◌+◌, ◌<◌, ◌≤◌, List, [], ◌∷◌, ◌++◌, length, Bool, true, false, not, ◌==◌, ◌&&◌, ◌⊎◌, Option, Some, None, is_none, if◌then◌else◌, codes}
-use Rattle.ir_types.specs.Refusals.{number_of}
-use Rattle.ir_types.specs.declared.refusal.Refusal.{Refusal}
-use Rattle.ir_types.specs.declared.refusal.Refusal.TheVariants.{BadCommand, KindTaken, Memory}
+use Rattle.ir_event.specs.types.Refusals.{number_of}
+use Rattle.ir_event.specs.types.declared.refusal.Refusal.{Refusal}
+use Rattle.ir_event.specs.types.declared.refusal.Refusal.TheVariants.{BadCommand, KindTaken, Memory}
 use Rattle.ir_event.specs.Modules.{Module}
 use Rattle.ir_event.specs.Rows.{RowTerm}
-use Rattle.ir_tree.specs.Meaning.{Operation}
+use Rattle.ir_event.specs.trees.Meaning.{Operation}
 use Rattle.ir_text.specs.Printing.{text_of}
-use Rattle.rewriter.specs.Commands.{Command, Report, Print, Response, Replied as Says, TextRefusedAt}
-use Rattle.rewriter.specs.Machine.{State, Done, DoneAs, DoneWith, Refused, RefusedOn}
-use Rattle.rewriter.specs.Panels.{Shown, Attached, has_kind}
+use Rattle.mlir_work_transforms.specs.rewriter.Commands.{Command, Report, Print}
+use Rattle.mlir_work_transforms.specs.rewriter.Commands.{Response, Replied as Says, TextRefusedAt}
+use Rattle.mlir_work_transforms.specs.rewriter.Machine.{State, Done, DoneAs, DoneWith, Refused, RefusedOn}
+use Rattle.mlir_work_transforms.specs.rewriter.Panels.{Shown, Attached, has_kind}
 use Rattle.mlir_work_script.specs.Commands.{Spoken, Nothing, Bad, Obey, Ordered, line_says}
 use Rattle.mlir_work_script.specs.Expecting.{line_expects}
 use Rattle.mlir_work_script.specs.Limits.{most_script_bytes}

@@ -1,12 +1,12 @@
 -- Scripts that only ask for the module, and so need no analysis.
 use Rattle.std.specs.Prelude.{◌≡◌, ℕ, List, [], ◌∷◌, Bool, true, false, not, ◌&&◌, ◌⊎◌, is_none}
 use Rattle.std.specs.List.{list_all}
-use Rattle.ir_types.specs.declared.refusal.Refusal.TheVariants.{Memory}
-use Rattle.ir_tree.specs.Meaning.{Operation}
+use Rattle.ir_event.specs.types.declared.refusal.Refusal.TheVariants.{Memory}
+use Rattle.ir_event.specs.trees.Meaning.{Operation}
 use Rattle.ir_event.specs.Listener.{Listener}
 use Rattle.ir_event.specs.Panels.{has_kind}
 use Rattle.ir_text.specs.Printing.{text_of}
-use Rattle.rewriter.specs.Commands.{Command, Print}
+use Rattle.mlir_work_transforms.specs.rewriter.Commands.{Command, Print}
 use Rattle.mlir_work_script.specs.Commands.{Spoken, Nothing, Bad, Obey, Ordered, line_says}
 use Rattle.mlir_work_script.specs.Expecting.{line_expects}
 use Rattle.mlir_work_session.specs.declared.reply.Reply.{Reply}

@@ -1,11 +1,11 @@
 -- Texts that commands hand in, and contexts that grow with what they name.
 use Rattle.std.specs.Prelude.{◌≡◌, ℕ, Option}
-use Rattle.ir_types.specs.Sound.{Holds}
-use Rattle.ir_types.specs.Things.{Grows}
-use Rattle.ir_types.specs.declared.refusal.Refusal.{Refusal}
+use Rattle.ir_event.specs.types.Sound.{Holds}
+use Rattle.ir_event.specs.types.Things.{Grows}
+use Rattle.ir_event.specs.types.declared.refusal.Refusal.{Refusal}
 use Rattle.ir_event.specs.Listener.{Listener}
-use Rattle.rewriter.specs.Commands.{TextRefused, Response, text_response}
-use Rattle.rewriter.specs.Benched.{Benched, IsKept, state_of}
+use Rattle.mlir_work_transforms.specs.rewriter.Commands.{TextRefused, Response, text_response}
+use Rattle.mlir_work_transforms.specs.rewriter.Benched.{Benched, IsKept, state_of}
 
 -- the context of a bench grew, and its module, marks and analyses stayed
 pub record Grown {B : Type 0} (meaning : B → Listener) (old new : Benched B) : Type 0 where

@@ -1,25 +1,25 @@
 //! Entries as a command names them: the text of an attribute is read, and a key is interned.
 ghost use Rattle.std.specs.Prelude.{◌≡◌, ℕ, Err, IfOk, IfErr, IfSome};
-ghost use Rattle.ir_types.specs.Things.{IsName, IsAttr};
-ghost use Rattle.ir_types.specs.Terms.{name_term, attr_term};
-ghost use Rattle.ir_types.specs.declared.refusal.Refusal.{Refusal as Reason};
+ghost use Rattle.ir_event.specs.types.Things.{IsName, IsAttr};
+ghost use Rattle.ir_event.specs.types.Terms.{name_term, attr_term};
+ghost use Rattle.ir_event.specs.types.declared.refusal.Refusal.{Refusal as Reason};
 ghost use Rattle.ir_text.specs.Public.{IsTold};
 ghost use Rattle.ir_text.specs.Public.{IsNoAttr};
 ghost use Rattle.ir_text.specs.Public.{SpellsAttr};
 ghost use Rattle.mlir_work_script.specs.Keys.{key_bytes};
-ghost use Rattle.rewriter.specs.Commands.{IsAttrRefusal};
+ghost use Rattle.mlir_work_transforms.specs.rewriter.Commands.{IsAttrRefusal};
 ghost use Rattle.mlir_work_session.specs.Texts.{Grown, NotRead};
 ghost use Rattle.mlir_work_session.specs.Machine.{response_of};
 
 use crate::reply::Reply;
 use crate::unread::reply_unread;
 use ir_event::analysis::Analysis;
+use ir_event::types::ids::{AttrId, NameId};
+use ir_event::types::refusal::Refusal;
 use ir_text::reader::ReadError;
-use ir_types::ids::{AttrId, NameId};
-use ir_types::refusal::Refusal;
 use mlir_work_script::keys::{Key, bytes_of};
-use rewriter::Bench;
-use rewriter::laws::led_benches_are_kept;
+use mlir_work_transforms::rewriter::Bench;
+use mlir_work_transforms::rewriter::laws::led_benches_are_kept;
 use std::alloc::Global;
 
 /// The attribute that a text spells.

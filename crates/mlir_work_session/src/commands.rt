@@ -1,7 +1,7 @@
 //! The commands of a script, over a bench.
 ghost use Rattle.std.specs.Prelude.{◌≡◌};
 ghost use Rattle.mlir_work_script.specs.Commands.{said_of};
-ghost use Rattle.rewriter.specs.Benched.{IsKept, state_of};
+ghost use Rattle.mlir_work_transforms.specs.rewriter.Benched.{IsKept, state_of};
 ghost use Rattle.ir_text.specs.Public.{IsFull};
 ghost use Rattle.mlir_work_session.specs.Machine.{AsksRoom, Obeys, response_of};
 
@@ -10,7 +10,7 @@ use crate::shows::{Answered, plain, show_module, show_rows};
 use crate::{edits, marks, texts, transforming};
 use ir_event::analysis::Analysis;
 use mlir_work_script::command::Command;
-use rewriter::Bench;
+use mlir_work_transforms::rewriter::Bench;
 use std::alloc::Global;
 
 /// Obeys a command of a script that is run so, or leaves the module as it is.

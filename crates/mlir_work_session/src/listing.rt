@@ -4,8 +4,8 @@ ghost use Rattle.ir_event.specs.Modules.{things_in, module_in};
 ghost use Rattle.ir_event.specs.Panels.{AllKept};
 ghost use Rattle.mlir_work_script.specs.Replies.{kind_line};
 ghost use Rattle.mlir_work_script.specs.Writes.{Puts, PutsSome};
-ghost use Rattle.rewriter.specs.Panels.{shown, all_shown};
-ghost use Rattle.rewriter.specs.Benched.{IsKept, state_of};
+ghost use Rattle.mlir_work_transforms.specs.rewriter.Panels.{shown, all_shown};
+ghost use Rattle.mlir_work_transforms.specs.rewriter.Benched.{IsKept, state_of};
 ghost use Rattle.mlir_work_session.specs.Output.{IsModule, IsKind, AreKinds, IsListing};
 
 use crate::shows::{text_of_module, text_of_report};
@@ -16,7 +16,7 @@ use mlir_work_script::kind::Kind;
 use mlir_work_script::replies::{put_kind, put_kind_memory, put_module_memory, put_stale};
 use mlir_work_script::sink::Sink;
 use mlir_work_script::writing::{WriteFault, put};
-use rewriter::Bench;
+use mlir_work_transforms::rewriter::Bench;
 use std::alloc::Global;
 
 /// Writes the module, or that there is no memory for its text.

@@ -1,7 +1,7 @@
 //! Commands on marks and listeners, over a bench.
 ghost use Rattle.std.specs.Prelude.{◌≡◌, []};
-ghost use Rattle.rewriter.specs.Commands.{Begin, Commit, Detach, Resync, Rollback};
-ghost use Rattle.rewriter.specs.Benched.{IsKept, state_of};
+ghost use Rattle.mlir_work_transforms.specs.rewriter.Commands.{Begin, Commit, Detach, Resync, Rollback};
+ghost use Rattle.mlir_work_transforms.specs.rewriter.Benched.{IsKept, state_of};
 ghost use Rattle.mlir_work_session.specs.Machine.{Obeys, response_of};
 ghost use Rattle.mlir_work_session.specs.Output.{Manner};
 
@@ -9,8 +9,8 @@ use crate::reply::Reply;
 use crate::replying::reply_to;
 use ir_event::analysis::Analysis;
 use mlir_work_script::kind::Kind;
-use rewriter::Bench;
-use rewriter::laws::led_benches_are_kept;
+use mlir_work_transforms::rewriter::Bench;
+use mlir_work_transforms::rewriter::laws::led_benches_are_kept;
 
 /// Makes a mark of the module.
 pub(crate) fn begin<L: Analysis>(bench: &mut Bench<L>) -> Reply

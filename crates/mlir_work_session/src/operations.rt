@@ -1,23 +1,23 @@
 //! Operations as a command writes them: their text is read beside the module.
 ghost use Rattle.std.specs.Prelude.{◌≡◌, ℕ, Err, IfOk, IfErr};
-ghost use Rattle.ir_tree.specs.Ids.{IsNumberedFrom};
-ghost use Rattle.ir_tree.specs.Meaning.{IsSoundIn, meaning};
-ghost use Rattle.ir_types.specs.declared.refusal.Refusal.{Refusal as Reason};
+ghost use Rattle.ir_event.specs.trees.Ids.{IsNumberedFrom};
+ghost use Rattle.ir_event.specs.trees.Meaning.{IsSoundIn, meaning};
+ghost use Rattle.ir_event.specs.types.declared.refusal.Refusal.{Refusal as Reason};
 ghost use Rattle.ir_text.specs.Public.{IsOpTold};
 ghost use Rattle.ir_text.specs.Public.{IsNone};
-ghost use Rattle.rewriter.specs.Held.{module_held};
-ghost use Rattle.rewriter.specs.Texts.{SpellsBeside};
-ghost use Rattle.rewriter.specs.Commands.{IsOpRefusal};
+ghost use Rattle.mlir_work_transforms.specs.rewriter.Held.{module_held};
+ghost use Rattle.mlir_work_transforms.specs.rewriter.Texts.{SpellsBeside};
+ghost use Rattle.mlir_work_transforms.specs.rewriter.Commands.{IsOpRefusal};
 ghost use Rattle.mlir_work_session.specs.Texts.{Grown, NotRead};
 ghost use Rattle.mlir_work_session.specs.Machine.{response_of};
 
 use crate::reply::Reply;
 use crate::unread::reply_unread;
 use ir_event::analysis::Analysis;
+use ir_event::trees::tree::TreeOp;
 use ir_text::reader::ReadError;
-use ir_tree::tree::TreeOp;
-use rewriter::Bench;
-use rewriter::laws::led_benches_are_kept;
+use mlir_work_transforms::rewriter::Bench;
+use mlir_work_transforms::rewriter::laws::led_benches_are_kept;
 
 /// The operation that a text spells beside the module.
 fn read<L: Analysis>(bench: &mut Bench<L>, text: &[u8]) -> Result<TreeOp, ReadError>

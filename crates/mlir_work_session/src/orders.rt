@@ -1,8 +1,8 @@
 //! The orders of a script, over a bench.
 ghost use Rattle.std.specs.Prelude.{◌≡◌, [], IfOk};
 ghost use Rattle.ir_event.specs.Modules.{module_in};
-ghost use Rattle.rewriter.specs.Benched.{IsKept, attach_reply_of, state_of};
-ghost use Rattle.rewriter.specs.Commands.{Replied};
+ghost use Rattle.mlir_work_transforms.specs.rewriter.Benched.{IsKept, attach_reply_of, state_of};
+ghost use Rattle.mlir_work_transforms.specs.rewriter.Commands.{Replied};
 ghost use Rattle.mlir_work_script.specs.Orders.{Attach, PrintIds, order_of};
 ghost use Rattle.ir_text.specs.Public.{IsFull};
 ghost use Rattle.mlir_work_session.specs.Machine.{Fulfils, OrdersRoom, Way, response_of, way_of};
@@ -13,13 +13,13 @@ use crate::reply::Reply;
 use crate::shows::{Answered, plain};
 use crate::transforming;
 use ir_event::analysis::Analysis;
+use ir_event::types::refusal::Refusal;
 use ir_event::world::World;
-use ir_types::refusal::Refusal;
 use mlir_work_script::kind::Kind;
 use mlir_work_script::order::Order;
 use mlir_work_session_base::ids::text_with_ids;
 use mlir_work_session_base::supplied::Supplied;
-use rewriter::Bench;
+use mlir_work_transforms::rewriter::Bench;
 use std::alloc::Global;
 
 /// The reply where a listener is attached, or handed back.

@@ -1,15 +1,15 @@
 //! The place that a command names, in a store's module.
 ghost use Rattle.std.specs.Prelude.{◌≡◌, Some, Option, is_some, option_map};
-ghost use Rattle.ir_tree.specs.Ids.{has_id};
-ghost use Rattle.ir_tree.specs.Places.{place_of};
-ghost use Rattle.ir_tree_laws.specs.Reads.{first_at, ops_at};
-ghost use Rattle.rewriter.specs.Spots.{passing, coming, behind, beside, in_block, spot_place};
+ghost use Rattle.ir_event.specs.trees.Ids.{has_id};
+ghost use Rattle.ir_event.specs.trees.Places.{place_of};
+ghost use Rattle.ir_event.specs.tree_laws.Reads.{first_at, ops_at};
+ghost use Rattle.mlir_work_transforms.specs.rewriter.Spots.{passing, coming, behind, beside, in_block, spot_place};
 ghost use Rattle.mlir_work_script.specs.Spots.{spot_of};
 
-use ir_store::store::Store;
-use ir_tree::place::Place;
-use ir_types::ids::OpId;
-use ir_types::refusal::Refusal;
+use ir_event::store::store::Store;
+use ir_event::trees::place::Place;
+use ir_event::types::ids::OpId;
+use ir_event::types::refusal::Refusal;
 use mlir_work_script::spots::Spot;
 
 /// What comes next, where the operation that is moved is passed over.

@@ -1,13 +1,13 @@
 //! Scripts that only print: the text of the tree that was read is written, and neither a world nor an analysis is
 //! begun for it.
 ghost use Rattle.std.specs.Prelude.{◌≡◌, ◌≤◌, ◌++◌, ◌&&◌, Bool, ℕ, List, [], IsTrue, length, position, false, true};
-ghost use Rattle.ir_tree.specs.Meaning.{is_known, meaning};
+ghost use Rattle.ir_event.specs.trees.Meaning.{is_known, meaning};
 ghost use Rattle.ir_event.specs.Panels.{has_kind as has_this_kind, is_kind as is_of_kind};
 ghost use Rattle.mlir_work_script.specs.Commands.{said_of, spoken_of};
 ghost use Rattle.mlir_work_script.specs.Lines.{lines_of};
 ghost use Rattle.mlir_work_script.specs.Writes.{Puts};
 ghost use Rattle.mlir_work_script.specs.Limits.{most_script_bytes};
-ghost use Rattle.rewriter.specs.Panels.{Shown, all_shown};
+ghost use Rattle.mlir_work_transforms.specs.rewriter.Panels.{Shown, all_shown};
 ghost use Rattle.mlir_work_session.specs.Machine.{response_of};
 ghost use Rattle.mlir_work_session.specs.Output.{IsSession, Runs, Way, reply_line};
 ghost use Rattle.mlir_work_session.specs.PrintsAlone.{IsPrinted, all_print, is_print, kinds_apart, prints_alone};
@@ -18,10 +18,10 @@ use crate::script::{both, is_nothing, put_reply};
 use crate::shows::Answered;
 use ir_event::analysis::Analysis;
 use ir_event::row::Kind;
+use ir_event::trees::tree::TreeOp;
+use ir_event::types::context::Context;
+use ir_event::types::refusal::Refusal;
 use ir_text::printer::print;
-use ir_tree::tree::TreeOp;
-use ir_types::context::Context;
-use ir_types::refusal::Refusal;
 use mlir_work_script::command::{Command, Line, read_line};
 use mlir_work_script::expect::expected_of;
 use mlir_work_script::lines::split_line;

@@ -1,8 +1,8 @@
 //! How a call of the bench is replied to.
 ghost use Rattle.std.specs.Prelude.{◌≡◌};
-ghost use Rattle.rewriter.specs.Commands.{Replied};
-ghost use Rattle.rewriter.specs.Machine.{fault_reply};
-ghost use Rattle.rewriter.specs.Benched.{id_reply_of, reply_of};
+ghost use Rattle.mlir_work_transforms.specs.rewriter.Commands.{Replied};
+ghost use Rattle.mlir_work_transforms.specs.rewriter.Machine.{fault_reply};
+ghost use Rattle.mlir_work_transforms.specs.rewriter.Benched.{id_reply_of, reply_of};
 ghost use Rattle.greedy.specs.Changes.{canonical_reply};
 ghost use Rattle.mlir_work_transforms.specs.Applying.{applied_reply};
 ghost use Rattle.mlir_work_transforms.specs.Converting.{conversion_reply};
@@ -11,8 +11,8 @@ ghost use Rattle.mlir_work_session.specs.Machine.{response_of};
 
 use crate::reply::Reply;
 use greedy::outcome::Outcome as Ended;
-use ir_types::ids::OpId;
-use ir_types::refusal::Refusal;
+use ir_event::types::ids::OpId;
+use ir_event::types::refusal::Refusal;
 use mlir_work_script::outcome::Outcome;
 use mlir_work_transforms::fault::Fault;
 

@@ -5,7 +5,7 @@ ghost use Rattle.mlir_work_script.specs.Expecting.{line_expects};
 ghost use Rattle.mlir_work_script.specs.Lines.{lines_of};
 ghost use Rattle.mlir_work_script.specs.Orders.{order_of};
 ghost use Rattle.mlir_work_script.specs.Writes.{Puts, PutsSome};
-ghost use Rattle.rewriter.specs.Benched.{IsKept, state_of};
+ghost use Rattle.mlir_work_transforms.specs.rewriter.Benched.{IsKept, state_of};
 ghost use Rattle.mlir_work_session.specs.Machine.{response_of, way_of};
 ghost use Rattle.mlir_work_session.specs.Output.{IsAnswered, IsBounded, IsReplied, Replies, Runs, accepted_behind as still_accepted, asks as asks_to};
 ghost use Rattle.mlir_work_session.specs.Output.{end_of, number_behind as next_number, order_asks, says_nothing, shows_alone, reply_line};
@@ -20,7 +20,7 @@ use crate::reply::Reply;
 use crate::shows::Answered;
 use crate::unread::reply_within;
 use ir_event::analysis::Analysis;
-use ir_types::refusal::Refusal;
+use ir_event::types::refusal::Refusal;
 use mlir_work_script::command::{Command, Line, read_line};
 use mlir_work_script::expect::expected_of;
 use mlir_work_script::lines::split_line;
@@ -31,7 +31,7 @@ use mlir_work_script::replies::{
 use mlir_work_script::sink::Sink;
 use mlir_work_script::writing::{WriteFault, put};
 use mlir_work_session_base::supplied::Supplied;
-use rewriter::Bench;
+use mlir_work_transforms::rewriter::Bench;
 use std::alloc::Global;
 
 /// Whether a command asks to be shown something, and so gets no listing.

@@ -1,9 +1,9 @@
 //! A module that was read: listeners are attached to it, and a script is run over it.
 ghost use Rattle.std.specs.Prelude.{◌≡◌, [], if◌then◌else◌};
 ghost use Rattle.ir_event.specs.Modules.{module_in};
-ghost use Rattle.rewriter.specs.Journals.{IsSlotted, IsTidy};
-ghost use Rattle.rewriter.specs.Held.{module_held, open_marks};
-ghost use Rattle.rewriter.specs.Panels.{all_shown};
+ghost use Rattle.mlir_work_transforms.specs.rewriter.Journals.{IsSlotted, IsTidy};
+ghost use Rattle.mlir_work_transforms.specs.rewriter.Held.{module_held, open_marks};
+ghost use Rattle.mlir_work_transforms.specs.rewriter.Panels.{all_shown};
 ghost use Rattle.mlir_work_session.specs.Machine.{way_of};
 ghost use Rattle.mlir_work_session.specs.Output.{IsSession, IsBadScript, Session, worse as worst};
 ghost use Rattle.mlir_work_session.specs.Ran.{RanOut};
@@ -11,14 +11,14 @@ ghost use Rattle.mlir_work_session.specs.Ran.{RanOut};
 use crate::manner::Manner;
 use crate::opening::begin;
 use crate::script::run_script;
+use ir_event::types::refusal::Refusal;
 use ir_event::world::World;
-use ir_types::refusal::Refusal;
 use mlir_work_script::input::script_is_too_long;
 use mlir_work_script::replies::put_refused;
 use mlir_work_script::sink::Sink;
 use mlir_work_script::writing::WriteFault;
 use mlir_work_session_base::supplied::Supplied;
-use rewriter::Bench;
+use mlir_work_transforms::rewriter::Bench;
 use std::alloc::Global;
 
 fn worse(accepted: bool, status: u8) -> u8

@@ -6,22 +6,22 @@ ghost use Rattle.ir_event.specs.Modules.{things_in, module_in};
 ghost use Rattle.ir_event.specs.Panels.{is_kind as has_this_kind};
 ghost use Rattle.ir_event.specs.Rows.{RowIsOf, rows_meaning};
 ghost use Rattle.ir_text.specs.Printing.{text_of};
-ghost use Rattle.rewriter.specs.Commands.{Report, Print};
-ghost use Rattle.rewriter.specs.Benched.{IsKept, state_of};
+ghost use Rattle.mlir_work_transforms.specs.rewriter.Commands.{Report, Print};
+ghost use Rattle.mlir_work_transforms.specs.rewriter.Benched.{IsKept, state_of};
 ghost use Rattle.mlir_work_session_base.specs.RowText.{rows_text};
 ghost use Rattle.mlir_work_session.specs.Machine.{Obeys, response_of};
 ghost use Rattle.mlir_work_session.specs.Output.{Manner};
 ghost use Rattle.mlir_work_session.specs.declared.reply.Reply.TheVariants.{Refused};
 
 use crate::reply::Reply;
-use mlir_work_session_base::rows::text_of_rows;
 use ir_event::analysis::Analysis;
 use ir_event::row::{ReportFault, Row};
+use ir_event::types::refusal::Refusal;
 use ir_event::world::World;
 use ir_text::printer::print;
-use ir_types::refusal::Refusal;
 use mlir_work_script::kind::Kind;
-use rewriter::Bench;
+use mlir_work_session_base::rows::text_of_rows;
+use mlir_work_transforms::rewriter::Bench;
 use std::alloc::Global;
 
 /// A reply, and the bytes that are shown below it.

@@ -1,12 +1,12 @@
 //! Commands that transform the module of a bench.
 ghost use Rattle.std.specs.Prelude.{◌≡◌, [], ℕ, Option, Some};
-ghost use Rattle.rewriter.specs.Commands.{Apply, Canon, Convert, Sweep};
-ghost use Rattle.rewriter.specs.Machine.{Transformation};
-ghost use Rattle.rewriter.specs.Panels.{Shown};
+ghost use Rattle.mlir_work_transforms.specs.rewriter.Commands.{Apply, Canon, Convert, Sweep};
+ghost use Rattle.mlir_work_transforms.specs.rewriter.Machine.{Transformation};
+ghost use Rattle.mlir_work_transforms.specs.rewriter.Panels.{Shown};
 ghost use Rattle.mlir_work_script.specs.Orders.{Rewrite};
 ghost use Rattle.mlir_work_script.specs.RuleNames.{name_of, names_of};
 ghost use Rattle.mlir_work_transforms.specs.Applying.{application};
-ghost use Rattle.rewriter.specs.Benched.{IsKept, state_of};
+ghost use Rattle.mlir_work_transforms.specs.rewriter.Benched.{IsKept, state_of};
 ghost use Rattle.mlir_work_script.specs.Clauses.{clauses_of, target_of};
 ghost use Rattle.ir_text.specs.Public.{IsFull};
 ghost use Rattle.greedy.specs.Changes.{canonicalizing};
@@ -20,14 +20,14 @@ use crate::reply::Reply;
 use crate::replying::{reply_applied, reply_canonical, reply_converted, reply_swept};
 use greedy::bench::{canonicalize, rewrite as rewrite_by};
 use ir_event::analysis::Analysis;
-use ir_types::ids::OpId;
-use ir_types::refusal::Refusal;
+use ir_event::types::ids::OpId;
+use ir_event::types::refusal::Refusal;
 use mlir_work_script::clauses::Clauses;
 use mlir_work_script::rule_name::RuleName;
 use mlir_work_transforms::rewrite::rules_in;
+use mlir_work_transforms::rewriter::Bench;
+use mlir_work_transforms::rewriter::laws::led_benches_are_kept;
 use mlir_work_transforms::{apply, convert, sweep};
-use rewriter::Bench;
-use rewriter::laws::led_benches_are_kept;
 use std::alloc::Global;
 
 /// The limit of a canonicalization, where its command may say one.

@@ -1,25 +1,27 @@
 //! How a text is replied to that isn't read.
 ghost use Rattle.std.specs.Prelude.{◌≡◌, ◌≤◌, ◌⊎◌, ℕ, List, IsTrue};
-ghost use Rattle.ir_types.specs.Refusals.{number_of};
-ghost use Rattle.ir_types.specs.declared.refusal.Refusal.{Refusal as Reason};
-ghost use Rattle.ir_types.specs.declared.refusal.Refusal.TheVariants.{IdsExhausted as WantOfIds, Memory as WantOfMemory};
+ghost use Rattle.ir_event.specs.types.Refusals.{number_of};
+ghost use Rattle.ir_event.specs.types.declared.refusal.Refusal.{Refusal as Reason};
+ghost use Rattle.ir_event.specs.types.declared.refusal.Refusal.TheVariants.{IdsExhausted as WantOfIds};
+ghost use Rattle.ir_event.specs.types.declared.refusal.Refusal.TheVariants.{Memory as WantOfMemory};
 ghost use Rattle.ir_event.specs.Modules.{Module as Contents};
 ghost use Rattle.ir_text.specs.Public.{IsOpTold, IsTold};
 ghost use Rattle.ir_text.specs.declared.error.ReadError.{ReadError as Unread};
 ghost use Rattle.ir_text.specs.Public.{IsNoAttr};
 ghost use Rattle.ir_text.specs.Public.{SpellsAttr};
 ghost use Rattle.ir_text.specs.Public.{IsNone};
-ghost use Rattle.rewriter.specs.Texts.{SpellsBeside};
-ghost use Rattle.rewriter.specs.Commands.{CanFill, IsAttrRefusal, IsOpRefusal, Replied, TextRefusedAt};
-ghost use Rattle.rewriter.specs.Machine.{Refused};
+ghost use Rattle.mlir_work_transforms.specs.rewriter.Texts.{SpellsBeside};
+ghost use Rattle.mlir_work_transforms.specs.rewriter.Commands.{CanFill, IsAttrRefusal};
+ghost use Rattle.mlir_work_transforms.specs.rewriter.Commands.{IsOpRefusal, Replied, TextRefusedAt};
+ghost use Rattle.mlir_work_transforms.specs.rewriter.Machine.{Refused};
 ghost use Rattle.mlir_work_session.specs.Output.{IsBounded};
 ghost use Rattle.mlir_work_session.specs.Texts.{NotRead};
 ghost use Rattle.mlir_work_session.specs.Machine.{response_of};
 
 use crate::reply::Reply;
+use ir_event::types::limits::MOST_THINGS;
+use ir_event::types::refusal::Refusal;
 use ir_text::reader::ReadError;
-use ir_types::limits::MOST_THINGS;
-use ir_types::refusal::Refusal;
 
 /// How many words a context begins with.
 const WORDS: usize = 54;

@@ -1,8 +1,8 @@
 -- How the rows of a report are written.
 use Rattle.std.specs.Prelude.{ℕ, ◌==◌, true, if◌then◌else◌, List, [], ◌∷◌, ◌++◌, map, codes}
 use Rattle.std.specs.Fmt.{decimal}
-use Rattle.ir_types.specs.Bits.{type_of, width_of}
-use Rattle.ir_types.specs.Readings.{signed_of}
+use Rattle.ir_event.specs.types.Bits.{type_of, width_of}
+use Rattle.ir_event.specs.types.Readings.{signed_of}
 use Rattle.ir_event.specs.Rows.{CellTerm, Op, Val, Num, Name, Path, Bits, Rule, Tag, RowTerm}
 use Rattle.ir_text.specs.Public.{symbol_text}
 use Rattle.ir_text.specs.Rows.{parted}

@@ -1,16 +1,16 @@
 //! The text of a module with the ids of its operations.
 ghost use Rattle.std.specs.Prelude.{◌≡◌, ◌++◌, ◌∷◌, [], drop, IfOk, IsTrue, OnOk};
-ghost use Rattle.ir_tree.specs.Meaning.{is_known, meaning};
-ghost use Rattle.ir_tree.specs.Tree.{ops_of};
-ghost use Rattle.ir_tree.specs.View.{region_view};
+ghost use Rattle.ir_event.specs.trees.Meaning.{is_known, meaning};
+ghost use Rattle.ir_event.specs.trees.Tree.{ops_of};
+ghost use Rattle.ir_event.specs.trees.View.{region_view};
 ghost use Rattle.mlir_work_script.specs.Lines.{lines_of};
 ghost use Rattle.mlir_work_script.specs.Values.{op_text};
 ghost use Rattle.mlir_work_session_base.specs.IdsText.{bare_label_ids, ids_text, label_ids, line_end, line_ids, region_line_ids, with_ids};
 
+use ir_event::trees::tree::{TreeOp, TreeRegion};
+use ir_event::types::context::Context;
+use ir_event::types::ids::{OpId, TypeId};
 use ir_text::printer::print;
-use ir_tree::tree::{TreeOp, TreeRegion};
-use ir_types::context::Context;
-use ir_types::ids::{OpId, TypeId};
 use mlir_work_script::cells;
 use mlir_work_script::lines::split_line;
 use std::alloc::{AllocError, Global};

@@ -2,11 +2,11 @@
 ghost use Rattle.std.specs.Prelude.{◌≡◌, ◌<◌, ◌++◌, [], if◌then◌else◌, true, map, codes, OnOk, IfOk};
 ghost use Rattle.std.specs.Fmt.{decimal, signed_decimal};
 ghost use Rattle.std.specs.List.{All};
-ghost use Rattle.ir_types.specs.Bits.{type_of, width_of};
-ghost use Rattle.ir_types.specs.Readings.{signed_of};
-ghost use Rattle.ir_types.specs.Terms.{name_term};
-ghost use Rattle.ir_types.specs.Things.{IsName};
-ghost use Rattle.ir_tree.specs.declared.value.Value.{Value as TreeValue};
+ghost use Rattle.ir_event.specs.types.Bits.{type_of, width_of};
+ghost use Rattle.ir_event.specs.types.Readings.{signed_of};
+ghost use Rattle.ir_event.specs.types.Terms.{name_term};
+ghost use Rattle.ir_event.specs.types.Things.{IsName};
+ghost use Rattle.ir_event.specs.trees.declared.value.Value.{Value as TreeValue};
 ghost use Rattle.ir_event.specs.Rows.{CellIsOf, RowIsOf, cell_meaning, row_meaning, rows_meaning};
 ghost use Rattle.ir_text.specs.Public.{symbol_text};
 ghost use Rattle.ir_text.specs.Rows.{parted};
@@ -15,12 +15,12 @@ ghost use Rattle.mlir_work_script.specs.Values.{op_text, value_text};
 ghost use Rattle.mlir_work_session_base.specs.RowText.{tag_text, cell_text, row_text, rows_text};
 
 use ir_event::row::{Cell, Row};
+use ir_event::trees::value::Value;
+use ir_event::types::bits::{Bits, BitsKind};
+use ir_event::types::context::Context;
+use ir_event::types::ids::{NameId, OpId};
 use ir_text::attributes::put_attr;
 use ir_text::printer::put_symbol;
-use ir_tree::value::Value;
-use ir_types::bits::{Bits, BitsKind};
-use ir_types::context::Context;
-use ir_types::ids::{NameId, OpId};
 use itoa::Buffer;
 use mlir_work_script::cells;
 use std::alloc::{AllocError, Global};
@@ -172,11 +172,7 @@ fn put_rows(ctx: &Context, out: &mut Vec<u8>, rows: &[Row]) -> Result<(), AllocE
 }
 
 /// The text of rows.
-pub fn text_of_rows(
-    alloc: Global,
-    ctx: &Context,
-    rows: &[Row],
-) -> Result<Vec<u8>, AllocError>
+pub fn text_of_rows(alloc: Global, ctx: &Context, rows: &[Row]) -> Result<Vec<u8>, AllocError>
     requires { All (RowIsOf ctx.now) rows.now }
     ensures { IfOk result (λ text. text.items ≡ rows_text (rows_meaning ctx.now rows.now)) }
 {

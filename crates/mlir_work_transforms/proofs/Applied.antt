@@ -1,18 +1,18 @@
 -- A rule that was applied, or not, goes as the machine has it.
 use Rattle.std.proofs.Common.{◌≡◌, refl, ap, sym, ◌∙◌, ◌⊎◌, inl, inr, ℕ, Bool, true, false, cond, Result, Ok, Err}
 use Rattle.std.specs.Prelude.{IfErr, IfOk, None, OnErr}
-use Rattle.ir_types.specs.Things.{Things}
-use Rattle.ir_types.specs.declared.refusal.Refusal.{Refusal}
-use Rattle.ir_types.specs.declared.refusal.Refusal.TheVariants.{Full, Memory, NoSuchOp}
-use Rattle.ir_tree.specs.Ids.{has_id}
+use Rattle.ir_event.specs.types.Things.{Things}
+use Rattle.ir_event.specs.types.declared.refusal.Refusal.{Refusal}
+use Rattle.ir_event.specs.types.declared.refusal.Refusal.TheVariants.{Full, Memory, NoSuchOp}
+use Rattle.ir_event.specs.trees.Ids.{has_id}
 use Rattle.ir_event.specs.Listener.{Listener}
 use Rattle.ir_event.specs.Modules.{Module}
-use Rattle.rewriter.specs.Benched.{Benched, Does, state_of}
-use Rattle.rewriter.specs.Held.{module_held, open_marks}
-use Rattle.rewriter.specs.Machine.{Answer, Change, IsAnswer, IsFullSo, Nothing, Outcome, Refused, Reply, State, due, due_change, Fault as Because}
-use Rattle.rewriter.specs.Panels.{AllAge}
-use Rattle.patterns.specs.Applied.{Gave, IsReason, IsRefusedSo}
-use Rattle.patterns.specs.runs.Interning.{IsFull}
+use Rattle.conversion.specs.rewriter.Benched.{Benched, Does, state_of}
+use Rattle.conversion.specs.rewriter.Held.{module_held, open_marks}
+use Rattle.conversion.specs.rewriter.Machine.{Answer, Change, IsAnswer, IsFullSo, Nothing, Outcome, Refused, Reply, State, due, due_change, Fault as Because}
+use Rattle.conversion.specs.rewriter.Panels.{AllAge}
+use Rattle.conversion.specs.patterns.Applied.{Gave, IsReason, IsRefusedSo}
+use Rattle.conversion.specs.patterns.runs.Interning.{IsFull}
 use Rattle.patterns_base.specs.Rewrites.{Rewrite, none, refused, becomes, rewrite_of}
 use Rattle.patterns_base.specs.declared.rule.Rule.{Rule}
 use Rattle.mlir_work_transforms.specs.Applying.{applied_at, applied_reply, applying, made_of}

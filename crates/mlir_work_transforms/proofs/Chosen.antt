@@ -3,10 +3,10 @@ use Rattle.std.proofs.Common.{◌≡◌, refl, ap, sym, ◌∙◌, subst, ℕ, B
 use Rattle.std.specs.Prelude.{is_some, option_and_then}
 use Rattle.std.proofs.lemmas.List.Elements.{All-nil, All-cons}
 use Rattle.std.proofs.lemmas.Bool.{cases_Bool}
-use Rattle.rewriter.specs.Commands.{RuleName}
+use Rattle.conversion.specs.rewriter.Commands.{RuleName}
 use Rattle.patterns_base.specs.RuleNames.{is_canonical}
 use Rattle.patterns_base.specs.declared.rule.Rule.{Rule}
-use Rattle.patterns.specs.Rows.{AreCanonical}
+use Rattle.conversion.specs.patterns.Rows.{AreCanonical}
 use Rattle.mlir_work_script.specs.Items.{items_behind, items_of}
 use Rattle.mlir_work_script.specs.RuleNames.{name_or_none, names_of, rule_in}
 use Rattle.mlir_work_transforms.specs.Applying.{rule_named}

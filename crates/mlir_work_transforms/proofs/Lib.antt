@@ -6,3 +6,4 @@ pub mod Listed
 pub mod Named
 pub mod Ruled
 pub mod Chosen
+pub use Rattle.conversion.proofs.of_rewriter

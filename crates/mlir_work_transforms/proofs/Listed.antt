@@ -2,7 +2,7 @@
 use Rattle.std.proofs.Common.{◌≡◌, refl, ap, ◌∙◌, ℕ, Bool, List, [], ◌∷◌, ◌++◌, append_assoc, map, Option, Some, None, option_map}
 use Rattle.std.specs.Prelude.{unwrap_or}
 use Rattle.std.specs.Option.{option_copied}
-use Rattle.ir_types.specs.Things.{Things}
+use Rattle.ir_event.specs.types.Things.{Things}
 use Rattle.mlir_work_script.specs.Clauses.{clauses_of, target_of}
 use Rattle.mlir_work_script.specs.Items.{items_behind, items_of, number_or_zero, numbers_of}
 use Rattle.mlir_work_script.specs.Numbers.{number_of}

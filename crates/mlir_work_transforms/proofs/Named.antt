@@ -6,18 +6,18 @@ use Rattle.std.specs.Str.{bytes_eq}
 use Rattle.std.proofs.lemmas.Bool.{leb-true}
 use Rattle.std.proofs.lemmas.List.{map-append}
 use Rattle.std.proofs.lemmas.List.Elements.{All-nil, All-cons, All-head, All-tail, All-append}
-use Rattle.ir_types.specs.Interning.{with_name}
-use Rattle.ir_types.specs.Limits.{most_things}
-use Rattle.ir_types.specs.Reasons.{IsRefusedFor, name_reason}
-use Rattle.ir_types.specs.Sound.{Holds}
-use Rattle.ir_types.specs.Terms.{name_term}
-use Rattle.ir_types.specs.Things.{Things, Grows, IsName}
-use Rattle.ir_types.specs.declared.refusal.Refusal.{Refusal}
-use Rattle.ir_types.specs.declared.refusal.Refusal.TheVariants.{Full, Memory, TooMany}
-use Rattle.ir_types.proofs.CallNumbers.{new_name, name_stands}
-use Rattle.ir_types.proofs.Growth.{front_agree, front_length, grows_refl, grows_trans}
+use Rattle.ir_event.specs.types.Interning.{with_name}
+use Rattle.ir_event.specs.types.Limits.{most_things}
+use Rattle.ir_event.specs.types.Reasons.{IsRefusedFor, name_reason}
+use Rattle.ir_event.specs.types.Sound.{Holds}
+use Rattle.ir_event.specs.types.Terms.{name_term}
+use Rattle.ir_event.specs.types.Things.{Things, Grows, IsName}
+use Rattle.ir_event.specs.types.declared.refusal.Refusal.{Refusal}
+use Rattle.ir_event.specs.types.declared.refusal.Refusal.TheVariants.{Full, Memory, TooMany}
+use Rattle.ir_event.proofs.of_types.CallNumbers.{new_name, name_stands}
+use Rattle.ir_event.proofs.of_types.Growth.{front_agree, front_length, grows_refl, grows_trans}
 use Rattle.ir_event.specs.Listener.{Listener}
-use Rattle.ir_tree_laws.proofs.Listed.{both}
+use Rattle.ir_event.proofs.of_tree_laws.Listed.{both}
 use Rattle.conversion.proofs.of_rewriter_bench.Noted.{recorded_more, recorded_none}
 use Rattle.conversion.specs.rewriter_bench.Benched.{Benched, Led}
 use Rattle.conversion.specs.rewriter_bench.Held.{Held}

@@ -2,37 +2,37 @@
 use Rattle.std.proofs.Common.{◌≡◌, refl, ap, sym, ◌∙◌, subst, inl, inr, true≢false, ℕ, eqb, eq-eqb, eqb-true, not, List, [], ◌∷◌, ◌++◌, append_assoc, reverse, filter, Bool, true, false, cond, ◌||◌, ◌⊎◌, Option, Some, None, Result, Ok, Err}
 use Rattle.std.specs.List.{list_any, IsDistinct}
 use mathlib.Core.List.{reverse-cons}
-use Rattle.ir_types.specs.Terms.{name_term, type_term, attr_term}
-use Rattle.ir_types.specs.declared.refusal.Refusal.{Refusal}
-use Rattle.ir_types.specs.declared.refusal.Refusal.TheVariants.{NoSuchOp, IsRoot, HasUses, Memory}
-use Rattle.ir_tree.specs.Tree.{HeadOf, OpOf, op, head, regions}
-use Rattle.ir_tree.specs.Ids.{ids, regions_ids, HasDistinctIds, find, has_id}
-use Rattle.ir_tree.specs.Meaning.{Operation}
-use Rattle.ir_tree.proofs.Mapped.{map_ids}
-use Rattle.ir_tree.specs.Places.{without}
-use Rattle.ir_tree.proofs.Left.{left_distinct}
-use Rattle.ir_tree_laws.specs.Reasons.{unless, unused_outside}
-use Rattle.ir_tree_laws.specs.Stands.{dropping}
-use Rattle.ir_tree_laws.proofs.Cuts.{one_cut, absent_before}
-use Rattle.ir_tree_laws.proofs.Edited.{taken_order}
-use Rattle.ir_tree_laws.proofs.Members.{stand, itself, stand_found, stand_of_member}
-use Rattle.ir_tree_laws.proofs.Around.{present_stand}
-use Rattle.ir_tree_laws.proofs.Shift.{inner_of}
-use Rattle.ir_tree_laws.proofs.Without.{same_head}
+use Rattle.ir_event.specs.types.Terms.{name_term, type_term, attr_term}
+use Rattle.ir_event.specs.types.declared.refusal.Refusal.{Refusal}
+use Rattle.ir_event.specs.types.declared.refusal.Refusal.TheVariants.{NoSuchOp, IsRoot, HasUses, Memory}
+use Rattle.ir_event.specs.trees.Tree.{HeadOf, OpOf, op, head, regions}
+use Rattle.ir_event.specs.trees.Ids.{ids, regions_ids, HasDistinctIds, find, has_id}
+use Rattle.ir_event.specs.trees.Meaning.{Operation}
+use Rattle.ir_event.proofs.of_trees.Mapped.{map_ids}
+use Rattle.ir_event.specs.trees.Places.{without}
+use Rattle.ir_event.proofs.of_trees.Left.{left_distinct}
+use Rattle.ir_event.specs.tree_laws.Reasons.{unless, unused_outside}
+use Rattle.ir_event.specs.tree_laws.Stands.{dropping}
+use Rattle.ir_event.proofs.of_tree_laws.Cuts.{one_cut, absent_before}
+use Rattle.ir_event.proofs.of_tree_laws.Edited.{taken_order}
+use Rattle.ir_event.proofs.of_tree_laws.Members.{stand, itself, stand_found, stand_of_member}
+use Rattle.ir_event.proofs.of_tree_laws.Around.{present_stand}
+use Rattle.ir_event.proofs.of_tree_laws.Shift.{inner_of}
+use Rattle.ir_event.proofs.of_tree_laws.Without.{same_head}
 use Rattle.ir_event.specs.Modules.{Module}
-use Rattle.rewriter.specs.Contents.{edited, edit_reason}
-use Rattle.rewriter.specs.Edits.{Erase}
-use Rattle.rewriter.specs.Held.{Held, module_held}
-use Rattle.rewriter.specs.Machine.{Fault, Outcome, Swept}
+use Rattle.conversion.specs.rewriter.Contents.{edited, edit_reason}
+use Rattle.conversion.specs.rewriter.Edits.{Erase}
+use Rattle.conversion.specs.rewriter.Held.{Held, module_held}
+use Rattle.conversion.specs.rewriter.Machine.{Fault, Outcome, Swept}
 use Rattle.listeners_symbols.specs.Roles.{role}
 use Rattle.std.specs.Prelude.{option_map}
 use Rattle.listeners_unreached.specs.Unreached.{is_definition, says_definition, unreached_of}
 use Rattle.mlir_work_transforms.specs.Sweep.{all_erased, counted, sweep_of}
 use Rattle.mlir_work_transforms.specs.Erasing.{Erases}
 use Rattle.mlir_work_transforms.proofs.Sweeping.{all_erased_done, all_erased_refused}
-use Rattle.ir_types.proofs.Truths.{list_later}
+use Rattle.ir_event.proofs.of_types.Truths.{list_later}
 use Rattle.std.proofs.lemmas.Bool.{cases_Bool}
-use Rattle.ir_tree.proofs.Facts.{ids_head}
+use Rattle.ir_event.proofs.of_trees.Facts.{ids_head}
 
 -- ---- some of a list, from the last to the first
 

@@ -4,7 +4,7 @@ use Rattle.std.specs.Prelude.{option_and_then}
 use Rattle.conversion.specs.Converting.{rules_of}
 use Rattle.conversion.specs.Rule.{Rule}
 use Rattle.conversion.specs.RuleNames.{by_number}
-use Rattle.ir_types.proofs.Truths.{rest_at}
+use Rattle.ir_event.proofs.of_types.Truths.{rest_at}
 
 -- the front of a list, and what comes of its rest
 abbrev pub joined : List Rule → Option (List Rule) → Option (List Rule)

@@ -1,24 +1,24 @@
 -- Erasing operations one after another, under a mark, is a sweep.
 use Rattle.std.proofs.Common.{◌≡◌, refl, ap, sym, ◌∙◌, subst, ◌⊎◌, inl, inr, ℕ, List, [], ◌∷◌, ◌++◌, length, reverse, Bool, true, false, Option, Some, None, Result, Ok, Err}
 use Rattle.std.proofs.lemmas.List.{reverse-append}
-use Rattle.ir_types.specs.Things.{Things}
-use Rattle.ir_store.specs.Stored.{Stored}
-use Rattle.ir_types.specs.Sound.{Holds}
-use Rattle.ir_types.specs.declared.refusal.Refusal.{Refusal}
-use Rattle.ir_types.specs.declared.refusal.Refusal.TheVariants.{Memory}
+use Rattle.ir_event.specs.types.Things.{Things}
+use Rattle.ir_event.specs.store.Stored.{Stored}
+use Rattle.ir_event.specs.types.Sound.{Holds}
+use Rattle.ir_event.specs.types.declared.refusal.Refusal.{Refusal}
+use Rattle.ir_event.specs.types.declared.refusal.Refusal.TheVariants.{Memory}
 use Rattle.ir_event.specs.Listener.{Listener}
 use Rattle.ir_event.specs.Modules.{Module, module_meaning}
-use Rattle.rewriter.specs.Contents.{edited, edit_reason}
-use Rattle.rewriter.specs.Edits.{Erase}
-use Rattle.rewriter.specs.Machine.{State, Answer, Do, Change, Done, DoneWith, Swept, Refused, Nothing, Goes, due_edit, due_change}
-use Rattle.rewriter.specs.Panels.{AllAge}
-use Rattle.rewriter.specs.Benched.{Benched, Heard, Journaled, Led, state_of}
-use Rattle.rewriter.specs.Held.{Held, module_held, open_marks}
-use Rattle.rewriter.specs.Moves.{Recorded}
-use Rattle.rewriter.specs.Wholes.{IsFinished, Onward}
-use Rattle.rewriter.proofs.Calls.{stepped}
-use Rattle.rewriter.proofs.Noted.{recorded_more, recorded_none, recorded_undone}
-use Rattle.rewriter.proofs.Together.{Ages, Composes, Stays, IsBegun, led_on, marked_on, whole_journaled}
+use Rattle.conversion.specs.rewriter.Contents.{edited, edit_reason}
+use Rattle.conversion.specs.rewriter.Edits.{Erase}
+use Rattle.conversion.specs.rewriter.Machine.{State, Answer, Do, Change, Done, DoneWith, Swept, Refused, Nothing, Goes, due_edit, due_change}
+use Rattle.conversion.specs.rewriter.Panels.{AllAge}
+use Rattle.conversion.specs.rewriter.Benched.{Benched, Heard, Journaled, Led, state_of}
+use Rattle.conversion.specs.rewriter.Held.{Held, module_held, open_marks}
+use Rattle.conversion.specs.rewriter.Moves.{Recorded}
+use Rattle.conversion.specs.rewriter.Wholes.{IsFinished, Onward}
+use Rattle.conversion.proofs.of_rewriter.Calls.{stepped}
+use Rattle.conversion.proofs.of_rewriter.Noted.{recorded_more, recorded_none, recorded_undone}
+use Rattle.conversion.proofs.of_rewriter.Together.{Ages, Composes, Stays, IsBegun, led_on, marked_on, whole_journaled}
 use Rattle.listeners_unreached.specs.Unreached.{unreached_of}
 use Rattle.mlir_work_transforms.specs.Sweep.{unless_refused, all_erased, counted, sweep_of, sweeping}
 use Rattle.conversion.specs.Runs.{Noted}

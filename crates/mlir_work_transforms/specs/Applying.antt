@@ -1,11 +1,11 @@
 -- Applying a rule as a transformation.
 use Rattle.std.specs.Prelude.{ℕ, Bool, true, false, Option, None, option_map, Result, Ok, Err, if◌then◌else◌}
-use Rattle.ir_types.specs.declared.refusal.Refusal.{Refusal}
-use Rattle.ir_types.specs.declared.refusal.Refusal.TheVariants.{NoSuchOp}
-use Rattle.ir_tree.specs.Ids.{has_id}
+use Rattle.ir_event.specs.types.declared.refusal.Refusal.{Refusal}
+use Rattle.ir_event.specs.types.declared.refusal.Refusal.TheVariants.{NoSuchOp}
+use Rattle.ir_event.specs.trees.Ids.{has_id}
 use Rattle.ir_event.specs.Modules.{Module}
-use Rattle.rewriter.specs.Commands.{RuleName, Numbered, Worded}
-use Rattle.rewriter.specs.Machine.{Applied, DoneWith, Fault, Outcome, Refused, Reply, Transformation}
+use Rattle.conversion.specs.rewriter.Commands.{RuleName, Numbered, Worded}
+use Rattle.conversion.specs.rewriter.Machine.{Applied, DoneWith, Fault, Outcome, Refused, Reply, Transformation}
 use Rattle.patterns_base.specs.Rewrites.{Rewrite, none, refused, becomes, rewrite_of}
 use Rattle.patterns_base.specs.RuleNames.{by_number, by_word}
 use Rattle.patterns_base.specs.declared.rule.Rule.{Rule}

@@ -1,9 +1,9 @@
 -- Operations that are erased one after another.
 use Rattle.std.specs.Prelude.{◌≡◌, ◌⊎◌, ℕ, List, Result, Ok, Err}
-use Rattle.ir_types.specs.declared.refusal.Refusal.{Refusal}
-use Rattle.ir_types.specs.declared.refusal.Refusal.TheVariants.{Memory}
+use Rattle.ir_event.specs.types.declared.refusal.Refusal.{Refusal}
+use Rattle.ir_event.specs.types.declared.refusal.Refusal.TheVariants.{Memory}
 use Rattle.ir_event.specs.Modules.{Module}
-use Rattle.rewriter.specs.Held.{Held, module_held, open_marks}
+use Rattle.conversion.specs.rewriter.Held.{Held, module_held, open_marks}
 use Rattle.mlir_work_transforms.specs.Sweep.{all_erased}
 
 -- they were erased, or one of them was refused, for its reason or for want of memory

@@ -1,8 +1,8 @@
 -- Lists of a command, and names that are interned.
 use Rattle.std.specs.Prelude.{◌≡◌, ℕ, List, [], Option, Some, None, map}
 use Rattle.std.specs.List.{All}
-use Rattle.ir_types.specs.Things.{Things, Grows, IsName}
-use Rattle.ir_types.specs.Terms.{name_term}
+use Rattle.ir_event.specs.types.Things.{Things, Grows, IsName}
+use Rattle.ir_event.specs.types.Terms.{name_term}
 use Rattle.ir_event.specs.Listener.{Listener}
 use Rattle.conversion.specs.rewriter_bench.Benched.{Benched, state_of}
 use Rattle.conversion.specs.rewriter_bench.Moves.{Recorded}

@@ -6,3 +6,4 @@ pub mod Interned
 pub use Rattle.conversion.specs.Converting
 pub use Rattle.conversion.specs.declared.fault.Fault
 pub use Rattle.patterns_base.specs.declared.rule.Rule
+pub use Rattle.conversion.specs.rewriter

@@ -1,7 +1,7 @@
 -- Rewriting by the rules that a command names, as a transformation.
 use Rattle.std.specs.Prelude.{ℕ, List, [], ◌∷◌, Option, Some, None, option_and_then, option_map, if◌then◌else◌}
-use Rattle.rewriter.specs.Commands.{RuleName}
-use Rattle.rewriter.specs.Machine.{Transformation}
+use Rattle.conversion.specs.rewriter.Commands.{RuleName}
+use Rattle.conversion.specs.rewriter.Machine.{Transformation}
 use Rattle.patterns_base.specs.RuleNames.{is_canonical}
 use Rattle.patterns_base.specs.declared.rule.Rule.{Rule}
 use Rattle.greedy.specs.Changes.{rewriting}

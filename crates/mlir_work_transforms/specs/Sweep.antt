@@ -1,12 +1,12 @@
 -- Sweeping: the private symbols that nothing reaches are erased, the last in pre-order first (Symbols and Symbol
 -- Tables, "Symbol Visibility").
 use Rattle.std.specs.Prelude.{ℕ, List, [], ◌∷◌, length, reverse, Bool, false, Option, Some, None, Result, Ok, Err}
-use Rattle.ir_types.specs.declared.refusal.Refusal.{Refusal}
+use Rattle.ir_event.specs.types.declared.refusal.Refusal.{Refusal}
 use Rattle.ir_event.specs.Modules.{Module}
 use Rattle.listeners_unreached.specs.Unreached.{unreached_of}
-use Rattle.rewriter.specs.Contents.{edited, edit_reason}
-use Rattle.rewriter.specs.Edits.{Erase}
-use Rattle.rewriter.specs.Machine.{Fault, Outcome, Reply, Refused, DoneWith, Swept, Transformation}
+use Rattle.conversion.specs.rewriter.Contents.{edited, edit_reason}
+use Rattle.conversion.specs.rewriter.Edits.{Erase}
+use Rattle.conversion.specs.rewriter.Machine.{Fault, Outcome, Reply, Refused, DoneWith, Swept, Transformation}
 
 -- what comes of a refusal, or of what follows where there is none
 abbrev pub unless_refused : {X : Type 0} → Option Refusal → Result X Refusal → Result X Refusal

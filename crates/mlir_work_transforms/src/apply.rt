@@ -1,19 +1,19 @@
 //! Applying a rule that a command names.
 ghost use Rattle.std.specs.Prelude.{◌≡◌};
-ghost use Rattle.ir_types.specs.Things.{Grows};
-ghost use Rattle.rewriter.specs.Machine.{Change, IsFullSo};
-ghost use Rattle.rewriter.specs.Benched.{Does, Keeps, Led, state_of};
-ghost use Rattle.patterns.specs.runs.Interning.{IsFull};
+ghost use Rattle.ir_event.specs.types.Things.{Grows};
+ghost use Rattle.conversion.specs.rewriter.Machine.{Change, IsFullSo};
+ghost use Rattle.conversion.specs.rewriter.Benched.{Does, Keeps, Led, state_of};
+ghost use Rattle.conversion.specs.patterns.runs.Interning.{IsFull};
 ghost use Rattle.mlir_work_script.specs.RuleNames.{name_of};
 ghost use Rattle.mlir_work_transforms.specs.Applying.{applied_reply, applying, rule_named};
 
+use conversion::rewriter::Bench;
+use conversion::rewriter::laws::led_benches_are_kept;
 use ir_event::analysis::Analysis;
-use ir_types::ids::OpId;
-use ir_types::refusal::Refusal;
+use ir_event::types::ids::OpId;
+use ir_event::types::refusal::Refusal;
 use mlir_work_script::rule_name::RuleName;
 use patterns_base::rule::Rule;
-use rewriter::Bench;
-use rewriter::laws::led_benches_are_kept;
 use std::alloc::Global;
 
 /// The rule that a command names, if there is one of that name.
@@ -44,5 +44,5 @@ pub fn apply<L: Analysis>(
     ensures journal { Keeps L.meaning result bench.old bench.new }
 {
     led_benches_are_kept::<L>();
-    patterns::apply::apply(alloc, bench, rule, op)
+    conversion::patterns::apply::apply(alloc, bench, rule, op)
 }

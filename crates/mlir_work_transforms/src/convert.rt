@@ -1,6 +1,6 @@
 //! Converting the module of a bench.
 ghost use Rattle.std.specs.Prelude.{◌≡◌, [], true, MatchResult, OnOk};
-ghost use Rattle.ir_types.specs.Things.{Grows};
+ghost use Rattle.ir_event.specs.types.Things.{Grows};
 ghost use Rattle.conversion.specs.rewriter_bench.Machine.{Change};
 ghost use Rattle.conversion.specs.rewriter_bench.Benched.{Does, Led};
 ghost use Rattle.conversion.specs.rewriter_bench.Held.{module_held};
@@ -17,7 +17,7 @@ use conversion::fault::Fault;
 use conversion::rewriter_bench::Bench;
 use conversion::rewriter_bench::laws::led_benches_are_kept;
 use ir_event::analysis::Analysis;
-use ir_types::refusal::Refusal;
+use ir_event::types::refusal::Refusal;
 use mlir_work_script::clauses::Clauses;
 use std::alloc::Global;
 

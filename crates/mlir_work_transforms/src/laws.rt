@@ -1,9 +1,9 @@
 //! The law of sweeps: a function that does nothing, whose contract is the law.
 ghost use Rattle.std.specs.Prelude.{◌≡◌, Err};
 ghost use Rattle.ir_event.specs.Modules.{Module};
-ghost use Rattle.ir_tree.specs.Ids.{HasDistinctIds};
-ghost use Rattle.ir_types.specs.declared.refusal.Refusal.TheVariants.{HasUses};
-ghost use Rattle.rewriter.specs.Machine.{Fault};
+ghost use Rattle.ir_event.specs.trees.Ids.{HasDistinctIds};
+ghost use Rattle.ir_event.specs.types.declared.refusal.Refusal.TheVariants.{HasUses};
+ghost use Rattle.conversion.specs.rewriter.Machine.{Fault};
 ghost use Rattle.mlir_work_transforms.specs.Sweep.{sweep_of};
 
 /// Where ids are distinct a sweep is refused for one reason alone: a result of a swept operation is used outside it.

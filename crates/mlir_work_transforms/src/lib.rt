@@ -11,4 +11,4 @@ mod rules;
 pub mod sweep;
 mod target;
 
-pub use conversion::fault;
+pub use conversion::{fault, rewriter};

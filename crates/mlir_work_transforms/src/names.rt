@@ -1,10 +1,10 @@
 //! The lists of a command: names, which are interned, and numbers.
 ghost use Rattle.std.specs.Prelude.{◌≡◌, ◌∷◌, [], ◌++◌, List, ℕ, Result as Named, Err, IfOk, IfErr, OnOk};
 ghost use Rattle.std.specs.Option.{option_copied};
-ghost use Rattle.ir_types.specs.Reasons.{IsRefusedFor, name_reason};
-ghost use Rattle.ir_types.specs.Things.{Things};
-ghost use Rattle.ir_types.specs.declared.refusal.Refusal.{Refusal as Reason};
-ghost use Rattle.ir_types.specs.declared.refusal.Refusal.TheVariants.{Memory as NoMemory};
+ghost use Rattle.ir_event.specs.types.Reasons.{IsRefusedFor, name_reason};
+ghost use Rattle.ir_event.specs.types.Things.{Things};
+ghost use Rattle.ir_event.specs.types.declared.refusal.Refusal.{Refusal as Reason};
+ghost use Rattle.ir_event.specs.types.declared.refusal.Refusal.TheVariants.{Memory as NoMemory};
 ghost use Rattle.mlir_work_script.specs.Items.{items_behind, number_or_zero};
 ghost use Rattle.mlir_work_script.specs.Numbers.{number_of};
 ghost use Rattle.conversion.specs.States.{IsWant};
@@ -13,8 +13,8 @@ ghost use Rattle.mlir_work_transforms.specs.Interned.{AreNumbers, Interned, numb
 use conversion::names::Names;
 use conversion::rewriter_bench::Bench;
 use ir_event::analysis::Analysis;
-use ir_types::ids::NameId;
-use ir_types::refusal::Refusal;
+use ir_event::types::ids::NameId;
+use ir_event::types::refusal::Refusal;
 use mlir_work_script::items::split_item;
 use mlir_work_script::numbers::number;
 use std::alloc::Global;

@@ -1,10 +1,10 @@
 //! The rules of a command.
 ghost use Rattle.std.specs.Prelude.{◌≡◌, IfOk, IfErr, option_map};
-ghost use Rattle.ir_types.specs.declared.refusal.Refusal.TheVariants.{Memory as NoMemory};
+ghost use Rattle.ir_event.specs.types.declared.refusal.Refusal.TheVariants.{Memory as NoMemory};
 ghost use Rattle.conversion.specs.Converting.{rules_of};
 
 use conversion::rule::Rule;
-use ir_types::refusal::Refusal;
+use ir_event::types::refusal::Refusal;
 use std::alloc::Global;
 
 /// The rules that numbers name, if each of them names one.

@@ -1,19 +1,19 @@
 //! Erasing the private symbols that nothing reaches.
 ghost use Rattle.std.specs.Prelude.{◌≡◌, ◌⊎◌, reverse, IfErr, OnErr, OnOk};
-ghost use Rattle.ir_types.specs.declared.refusal.Refusal.TheVariants.{HasUses, Memory};
-ghost use Rattle.rewriter.specs.Machine.{Change};
-ghost use Rattle.rewriter.specs.Benched.{Does, Journaled, Keeps, Led};
+ghost use Rattle.ir_event.specs.types.declared.refusal.Refusal.TheVariants.{HasUses, Memory};
+ghost use Rattle.conversion.specs.rewriter.Machine.{Change};
+ghost use Rattle.conversion.specs.rewriter.Benched.{Does, Journaled, Keeps, Led};
 ghost use Rattle.conversion.specs.Runs.{Noted};
 ghost use Rattle.mlir_work_transforms.specs.Erasing.{Erases};
 ghost use Rattle.mlir_work_transforms.specs.Sweep.{sweep_reply, sweeping};
 
+use conversion::rewriter::Bench;
+use conversion::rewriter::finish::finish;
+use conversion::rewriter::laws::led_benches_are_kept;
 use ir_event::analysis::Analysis;
-use ir_types::ids::OpId;
-use ir_types::refusal::Refusal;
+use ir_event::types::ids::OpId;
+use ir_event::types::refusal::Refusal;
 use listeners_unreached::list::unreached;
-use rewriter::Bench;
-use rewriter::finish::finish;
-use rewriter::laws::led_benches_are_kept;
 use std::alloc::Global;
 
 /// Erases operations, the last of the list first, until one is refused.

@@ -11,7 +11,7 @@ use crate::rules::rules_of;
 use conversion::rewriter_bench::Bench;
 use conversion::target::Target;
 use ir_event::analysis::Analysis;
-use ir_types::refusal::Refusal;
+use ir_event::types::refusal::Refusal;
 use mlir_work_script::clauses::Clauses;
 use std::alloc::Global;
 

@@ -1,11 +1,11 @@
 -- What a bench holds is well-formed, so that no edit of a rule is refused for a reason.
 use Rattle.std.proofs.Common.{ℕ}
-use Rattle.ir_tree.specs.Meaning.{IsSoundIn, isolated_in}
-use Rattle.ir_tree.specs.WellFormed.{IsWellFormed}
+use Rattle.ir_event.specs.trees.Meaning.{IsSoundIn, isolated_in}
+use Rattle.ir_event.specs.trees.WellFormed.{IsWellFormed}
 use Rattle.ir_event.proofs.Steps.{formed_meaning, sorted_meaning}
-use Rattle.patterns_base.specs.declared.rule.Rule.{Rule}
+use Rattle.patterns_facts.specs.base.declared.rule.Rule.{Rule}
 use Rattle.patterns_facts.specs.Accepted.{AreAccepted, IsAcceptedAt}
-use Rattle.patterns_runs.specs.Held.{Held, module_held}
+use Rattle.patterns_lowering.specs.runs.Held.{Held, module_held}
 
 pub accepted_of : AreAccepted → (h : Held) → IsSoundIn h.ctx h.store.module_of.tree → IsWellFormed (isolated_in h.ctx) h.store.module_of → (r : Rule) (x : ℕ) → IsAcceptedAt r (module_held h) x
 accepted_of are h sound formed r x = are r (module_held h) x (formed_meaning h.ctx h.store.module_of formed) (sorted_meaning h.ctx h.store.module_of sound)

@@ -1,14 +1,14 @@
 -- Benches whose context grows.
 use Rattle.std.proofs.Common.{◌≡◌, refl, ap, sym, ◌∙◌, subst, List, []}
-use Rattle.ir_types.specs.Things.{Things}
-use Rattle.ir_types.specs.Sound.{Holds}
-use Rattle.ir_types.proofs.Growth.{grows_refl, grows_trans}
+use Rattle.ir_event.specs.types.Things.{Things}
+use Rattle.ir_event.specs.types.Sound.{Holds}
+use Rattle.ir_event.proofs.of_types.Growth.{grows_refl, grows_trans}
 use Rattle.ir_event.specs.Listener.{Listener}
-use Rattle.patterns_runs.specs.rewriter_bench.Moves.{Grown}
-use Rattle.patterns_runs.proofs.of_rewriter_bench.Told.{heard_none, heard_more, heard_grown}
-use Rattle.patterns_runs.specs.Benched.{Benched, Heard}
-use Rattle.patterns_runs.specs.Held.{Held}
-use Rattle.patterns_runs.specs.Interning.{Added}
+use Rattle.patterns_lowering.specs.runs.rewriter_bench.Moves.{Grown}
+use Rattle.patterns_lowering.proofs.of_runs.of_rewriter_bench.Told.{heard_none, heard_more, heard_grown}
+use Rattle.patterns_lowering.specs.runs.Benched.{Benched, Heard}
+use Rattle.patterns_lowering.specs.runs.Held.{Held}
+use Rattle.patterns_lowering.specs.runs.Interning.{Added}
 
 grown_none : (h : Held) → Grown h h
 grown_none h = record { grows = grows_refl h.ctx; held = refl; same = refl; marked = refl; behind = λ k. refl }

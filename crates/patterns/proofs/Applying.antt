@@ -1,23 +1,23 @@
 -- What applying comes to.
 use Rattle.std.proofs.Common.{◌≡◌, ◌≢◌, refl, ap, sym, ◌∙◌, subst, ℕ, List, Bool, true, false, Option, Some, None, option_map, inl, inr}
-use Rattle.ir_types.specs.Things.{Things}
-use Rattle.ir_types.specs.Terms.{name_term, type_term, attr_term}
-use Rattle.ir_types.specs.declared.refusal.Refusal.{Refusal}
-use Rattle.ir_types.specs.declared.refusal.Refusal.TheVariants.{NoSuchOp, Full, IdsExhausted}
+use Rattle.ir_event.specs.types.Things.{Things}
+use Rattle.ir_event.specs.types.Terms.{name_term, type_term, attr_term}
+use Rattle.ir_event.specs.types.declared.refusal.Refusal.{Refusal}
+use Rattle.ir_event.specs.types.declared.refusal.Refusal.TheVariants.{NoSuchOp, Full, IdsExhausted}
 use Rattle.std.specs.Prelude.{nat_le, ◌+◌, if◌then◌else◌}
-use Rattle.ir_tree.specs.Ids.{has_id, op_count}
-use Rattle.ir_tree.specs.Limits.{most_ops, most_next}
-use Rattle.ir_tree_laws.proofs.Contents.{map_has_id}
+use Rattle.ir_event.specs.trees.Ids.{has_id, op_count}
+use Rattle.ir_event.specs.trees.Limits.{most_ops, most_next}
+use Rattle.ir_event.proofs.of_tree_laws.Contents.{map_has_id}
 use Rattle.ir_event.specs.Modules.{Module, module_in, module_meaning}
 use Rattle.ir_event.specs.declared.world.World.{World}
-use Rattle.patterns_runs.specs.Contents.{Edit, all_edited}
-use Rattle.patterns_runs.specs.Held.{Held, module_held}
-use Rattle.patterns_base.specs.Makes.{made_by}
-use Rattle.patterns_base.specs.declared.rule.Rule.{Rule}
-use Rattle.patterns_base.specs.Rewrites.{Rewrite, none, refused, becomes, edits_of, rewrite_of, rewrite_by, carried_out}
+use Rattle.patterns_lowering.specs.runs.Contents.{Edit, all_edited}
+use Rattle.patterns_lowering.specs.runs.Held.{Held, module_held}
+use Rattle.patterns_facts.specs.base.Makes.{made_by}
+use Rattle.patterns_facts.specs.base.declared.rule.Rule.{Rule}
+use Rattle.patterns_facts.specs.base.Rewrites.{Rewrite, none, refused, becomes, edits_of, rewrite_of, rewrite_by, carried_out}
 use Rattle.patterns.specs.Applied.{Gave, IsReason, IsRefusedSo}
 use Rattle.patterns.specs.Planned.{IsStopped}
-use Rattle.patterns_base.proofs.Facts.{rewrite_is}
+use Rattle.patterns_facts.proofs.of_base.Facts.{rewrite_is}
 
 -- a rewrite that is carried out, and one that isn't
 pub gave : (w : Rewrite) (m n : Module) → w ≡ becomes n → Gave w true m n

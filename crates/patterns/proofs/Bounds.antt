@@ -2,12 +2,12 @@
 use Rattle.std.proofs.Common.{◌≡◌, refl, ap, sym, ◌∙◌, ℕ, ◌+◌, ◌≤◌, ◌<◌, ◌-◌, ◌^◌, Bool, true, false, Some, None, arith, le-leb, length, min}
 use Rattle.std.specs.Prelude.{nat_le}
 use Rattle.std.proofs.lemmas.Bool.{leb-true, lt-leb}
-use Rattle.ir_types.specs.Terms.{name_term, type_term, attr_term}
-use Rattle.ir_types.specs.declared.refusal.Refusal.TheVariants.{Full, IdsExhausted}
-use Rattle.ir_tree.specs.Ids.{op_count}
-use Rattle.ir_tree.specs.Limits.{most_ops, most_next}
-use Rattle.ir_tree.proofs.Mapped.{map_ids}
-use Rattle.ir_tree_laws.specs.Reasons.{unless}
+use Rattle.ir_event.specs.types.Terms.{name_term, type_term, attr_term}
+use Rattle.ir_event.specs.types.declared.refusal.Refusal.TheVariants.{Full, IdsExhausted}
+use Rattle.ir_event.specs.trees.Ids.{op_count}
+use Rattle.ir_event.specs.trees.Limits.{most_ops, most_next}
+use Rattle.ir_event.proofs.of_trees.Mapped.{map_ids}
+use Rattle.ir_event.specs.tree_laws.Reasons.{unless}
 use Rattle.ir_event.specs.Modules.{module_in}
 use Rattle.ir_event.specs.declared.world.World.{World}
 use Rattle.patterns.specs.Applied.{limit_reason}

@@ -3,21 +3,21 @@ use Rattle.std.proofs.Common.{◌≡◌, refl, ap, sym, ◌∙◌, subst, ℕ, L
 use Rattle.std.specs.Prelude.{All, if◌then◌else◌}
 use Rattle.std.specs.List.{filter}
 use Rattle.std.proofs.lemmas.List.Elements.{All-head, All-tail, All-filter}
-use Rattle.ir_tree.specs.declared.place.Place.{Place}
-use Rattle.ir_tree.specs.Tree.{head}
-use Rattle.ir_tree.specs.Ids.{find}
-use Rattle.ir_tree.specs.Meaning.{Operation, IsSoundIn, isolated_in}
-use Rattle.ir_tree.specs.WellFormed.{IsWellFormed}
+use Rattle.ir_event.specs.trees.declared.place.Place.{Place}
+use Rattle.ir_event.specs.trees.Tree.{head}
+use Rattle.ir_event.specs.trees.Ids.{find}
+use Rattle.ir_event.specs.trees.Meaning.{Operation, IsSoundIn, isolated_in}
+use Rattle.ir_event.specs.trees.WellFormed.{IsWellFormed}
 use Rattle.ir_event.specs.Modules.{Module, module_in}
 use Rattle.ir_event.specs.declared.world.World.{World}
-use Rattle.patterns_runs.specs.Held.{Held, module_held}
-use Rattle.patterns_reads.specs.Reads.{head_at}
-use Rattle.patterns_base.specs.Looks.{Header}
-use Rattle.patterns_base.specs.RuleNames.{is_canonical}
-use Rattle.patterns_base.specs.Rules.{OnlyListed, has_rule}
-use Rattle.patterns_base.specs.declared.rule.Rule.{Rule}
-use Rattle.patterns_base.specs.Canonicalization.{first_rule, or_else}
-use Rattle.patterns_base.specs.Rewrites.{none, edits_of, rewrite_of, rewrite_by, carried_out}
+use Rattle.patterns_lowering.specs.runs.Held.{Held, module_held}
+use Rattle.patterns_plans.specs.reads.Reads.{head_at}
+use Rattle.patterns_facts.specs.base.Looks.{Header}
+use Rattle.patterns_facts.specs.base.RuleNames.{is_canonical}
+use Rattle.patterns_facts.specs.base.Rules.{OnlyListed, has_rule}
+use Rattle.patterns_facts.specs.base.declared.rule.Rule.{Rule}
+use Rattle.patterns_facts.specs.base.Canonicalization.{first_rule, or_else}
+use Rattle.patterns_facts.specs.base.Rewrites.{none, edits_of, rewrite_of, rewrite_by, carried_out}
 use Rattle.patterns_facts.specs.Accepted.{AreAccepted}
 use Rattle.patterns.specs.Applied.{Gave}
 use Rattle.patterns.specs.Lowest.{IsFirst, greedy}
@@ -27,7 +27,7 @@ use Rattle.patterns.specs.declared.plan.Made.{Made}
 use Rattle.patterns.specs.declared.lowest.Found.{Found}
 use Rattle.patterns.proofs.Acceptance.{accepted_of}
 use Rattle.patterns.proofs.Applying.{edits_due, rewrite_due, same_module}
-use Rattle.patterns_base.proofs.Facts.{rewrite_is}
+use Rattle.patterns_facts.proofs.of_base.Facts.{rewrite_is}
 use Rattle.patterns.proofs.Firsts.{first_more}
 use Rattle.patterns.proofs.Planned.{found, none_rule}
 

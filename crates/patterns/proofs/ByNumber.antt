@@ -4,13 +4,13 @@ use Rattle.std.specs.Prelude.{Vec}
 use Rattle.std.specs.List.{filter, list_any}
 use Rattle.std.proofs.lemmas.Bool.{cases_lt, cases_order}
 use Rattle.std.specs.declared.alloc.Global.{Global}
-use Rattle.ir_types.specs.Things.{Things}
-use Rattle.ir_types.specs.Terms.{name_term}
-use Rattle.ir_types.specs.Sound.{IsSound}
-use Rattle.patterns_base.specs.RuleNames.{same_rule}
-use Rattle.patterns_base.specs.Rules.{rules_for, table}
-use Rattle.patterns_base.specs.declared.rule.Rule.{Rule}
-use Rattle.patterns_base.proofs.TableNumbers.{past, rules_are}
+use Rattle.ir_event.specs.types.Things.{Things}
+use Rattle.ir_event.specs.types.Terms.{name_term}
+use Rattle.ir_event.specs.types.Sound.{IsSound}
+use Rattle.patterns_facts.specs.base.RuleNames.{same_rule}
+use Rattle.patterns_facts.specs.base.Rules.{rules_for, table}
+use Rattle.patterns_facts.specs.base.declared.rule.Rule.{Rule}
+use Rattle.patterns_facts.proofs.of_base.TableNumbers.{past, rules_are}
 use Rattle.patterns.specs.Rows.{AreRowsOf, row_at, those_for}
 
 abbrev Row : Type 0

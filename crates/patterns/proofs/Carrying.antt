@@ -2,28 +2,28 @@
 use Rattle.std.proofs.Common.{◌≡◌, refl, ap, sym, ◌∙◌, subst, ℕ, ◌+◌, ◌≤◌, List, [], Bool, true, false, Option, Some, None, inl, inr, leb-true}
 use Rattle.std.specs.Prelude.{length, nat_le, if◌then◌else◌}
 use Rattle.ir_event.specs.declared.event.Event.{Event}
-use Rattle.ir_types.specs.Things.{Things, Grows}
-use Rattle.ir_types.specs.Sound.{Holds}
-use Rattle.ir_types.specs.declared.refusal.Refusal.{Refusal}
-use Rattle.ir_types.specs.declared.refusal.Refusal.TheVariants.{Full, IdsExhausted, Memory}
-use Rattle.ir_types.proofs.Growth.{grows_refl}
-use Rattle.ir_tree.specs.Ids.{op_count}
-use Rattle.ir_tree.specs.Limits.{most_ops, most_next}
-use Rattle.ir_tree_laws.specs.Reasons.{unless}
+use Rattle.ir_event.specs.types.Things.{Things, Grows}
+use Rattle.ir_event.specs.types.Sound.{Holds}
+use Rattle.ir_event.specs.types.declared.refusal.Refusal.{Refusal}
+use Rattle.ir_event.specs.types.declared.refusal.Refusal.TheVariants.{Full, IdsExhausted, Memory}
+use Rattle.ir_event.proofs.of_types.Growth.{grows_refl}
+use Rattle.ir_event.specs.trees.Ids.{op_count}
+use Rattle.ir_event.specs.trees.Limits.{most_ops, most_next}
+use Rattle.ir_event.specs.tree_laws.Reasons.{unless}
 use Rattle.ir_event.specs.Listener.{Listener}
 use Rattle.ir_event.specs.Modules.{Module, module_in, module_meaning}
 use Rattle.ir_event.specs.declared.world.World.{World}
-use Rattle.patterns_runs.specs.rewriter_bench.Moves.{Grown, Recorded, all_noted}
-use Rattle.patterns_runs.proofs.of_rewriter_bench.Told.{heard_none, heard_more}
-use Rattle.patterns_runs.specs.Benched.{Benched, Journaled}
-use Rattle.patterns_runs.specs.Contents.{Edit, all_edited}
-use Rattle.patterns_runs.specs.Held.{Held, module_held}
-use Rattle.patterns_runs.specs.Runs.{Along}
-use Rattle.patterns_runs.specs.Lists.{IsWhy}
-use Rattle.patterns_runs.proofs.Journals.{recorded_none}
-use Rattle.patterns_base.specs.Makes.{made_by}
-use Rattle.patterns_base.specs.Rewrites.{becomes, refused, carried_out}
-use Rattle.patterns_runs.specs.Interning.{Added, IsNoRoom}
+use Rattle.patterns_lowering.specs.runs.rewriter_bench.Moves.{Grown, Recorded, all_noted}
+use Rattle.patterns_lowering.proofs.of_runs.of_rewriter_bench.Told.{heard_none, heard_more}
+use Rattle.patterns_lowering.specs.runs.Benched.{Benched, Journaled}
+use Rattle.patterns_lowering.specs.runs.Contents.{Edit, all_edited}
+use Rattle.patterns_lowering.specs.runs.Held.{Held, module_held}
+use Rattle.patterns_lowering.specs.runs.Runs.{Along}
+use Rattle.patterns_lowering.specs.runs.Lists.{IsWhy}
+use Rattle.patterns_lowering.proofs.of_runs.Journals.{recorded_none}
+use Rattle.patterns_facts.specs.base.Makes.{made_by}
+use Rattle.patterns_facts.specs.base.Rewrites.{becomes, refused, carried_out}
+use Rattle.patterns_lowering.specs.runs.Interning.{Added, IsNoRoom}
 use Rattle.patterns.specs.Making.{made_makes}
 use Rattle.patterns.proofs.Counted.{made_counted}
 use Rattle.patterns.specs.Applied.{Applied, limit_reason}

@@ -1,14 +1,14 @@
 -- How many operations are made by what rules make.
 use Rattle.std.proofs.Common.{◌≡◌, refl, ap, ℕ, ◌+◌, List, [], ◌∷◌}
-use Rattle.ir_types.specs.Things.{Things}
-use Rattle.ir_tree.specs.declared.place.Place.{Place}
+use Rattle.ir_event.specs.types.Things.{Things}
+use Rattle.ir_event.specs.trees.declared.place.Place.{Place}
 use Rattle.patterns_edits.specs.Lists.{edits_meaning}
 use Rattle.patterns_edits.specs.declared.edit.Edit.{Edit as Coded}
 use Rattle.patterns_edits.specs.declared.edit.Edit.TheVariants as coded
-use Rattle.patterns_reads.specs.declared.plan.Plan.{Plan}
-use Rattle.patterns_reads.specs.declared.plan.Plan.TheVariants as plan
-use Rattle.patterns_base.specs.Makes.{made_by}
-use Rattle.patterns_reads.specs.Plans.{plan_meaning}
+use Rattle.patterns_plans.specs.reads.declared.plan.Plan.{Plan}
+use Rattle.patterns_plans.specs.reads.declared.plan.Plan.TheVariants as plan
+use Rattle.patterns_facts.specs.base.Makes.{made_by}
+use Rattle.patterns_plans.specs.reads.Plans.{plan_meaning}
 use Rattle.patterns_lowering.proofs.Counted.{lowering_made}
 use Rattle.patterns.specs.Making.{all_make, made_makes, plan_makes}
 use Rattle.patterns.specs.Planned.{MadeIsOf, made_edits}

@@ -1,18 +1,18 @@
 -- The first of some rules that applies.
 use Rattle.std.proofs.Common.{◌≡◌, refl, ap, sym, ◌∙◌, ℕ, ◌+◌, List, [], ◌∷◌, Bool, true, false, Some, None}
 use Rattle.std.specs.Prelude.{nat_le, if◌then◌else◌}
-use Rattle.ir_tree.specs.Ids.{op_count}
-use Rattle.ir_tree.specs.Limits.{most_ops, most_next}
+use Rattle.ir_event.specs.trees.Ids.{op_count}
+use Rattle.ir_event.specs.trees.Limits.{most_ops, most_next}
 use Rattle.ir_event.specs.Modules.{Module}
-use Rattle.ir_types.specs.declared.refusal.Refusal.TheVariants.{Full, IdsExhausted}
-use Rattle.patterns_runs.specs.Contents.{Edit, all_edited}
-use Rattle.patterns_base.specs.Canonicalization.{first_rule, or_else, greedy_rules, lowest}
-use Rattle.patterns_base.specs.Makes.{made_by}
-use Rattle.patterns_base.specs.Rewrites.{Rewrite, none, refused, becomes, edits_of, rewrite_of, rewrite_by, carried_out}
-use Rattle.patterns_base.specs.RuleNames.{is_canonical}
-use Rattle.patterns_base.specs.declared.rule.Rule.{Rule}
+use Rattle.ir_event.specs.types.declared.refusal.Refusal.TheVariants.{Full, IdsExhausted}
+use Rattle.patterns_lowering.specs.runs.Contents.{Edit, all_edited}
+use Rattle.patterns_facts.specs.base.Canonicalization.{first_rule, or_else, greedy_rules, lowest}
+use Rattle.patterns_facts.specs.base.Makes.{made_by}
+use Rattle.patterns_facts.specs.base.Rewrites.{Rewrite, none, refused, becomes, edits_of, rewrite_of, rewrite_by, carried_out}
+use Rattle.patterns_facts.specs.base.RuleNames.{is_canonical}
+use Rattle.patterns_facts.specs.base.declared.rule.Rule.{Rule}
 use Rattle.patterns.specs.Lowest.{greedy}
-use Rattle.patterns_base.proofs.Facts.{rewrite_is}
+use Rattle.patterns_facts.proofs.of_base.Facts.{rewrite_is}
 
 pub first_more : (r : Rule) (rs : List Rule) (m : Module) (x : ℕ) → first_rule (r ∷ rs) m x ≡ or_else (rewrite_of r m x) (first_rule rs m x)
 unfolding first_rule

@@ -1,14 +1,14 @@
 -- What new operations stand for.
 use Rattle.std.proofs.Common.{◌≡◌, refl, ap, sym, subst, ℕ, ◌&&◌, List, [], ◌∷◌, true, false, Option, Some, None, codes, lt-ltb}
 use Rattle.std.specs.Prelude.{if◌then◌else◌}
-use Rattle.ir_types.specs.Things.{Things}
-use Rattle.ir_types.specs.Terms.{TypeTerm, AttrTerm, IntegerOf, Overflow}
-use Rattle.ir_types.specs.Sound.{IsSound}
-use Rattle.ir_types.specs.declared.word.Word.TheVariants.{ArithConstant, ArithCmpi, ArithSelect, Value as ValueKey, OverflowFlags, Predicate}
-use Rattle.ir_tree.specs.Tree.{Op, op, no_regions, regions}
-use Rattle.ir_tree.specs.Meaning.{Operation, IsSoundIn, meaning}
-use Rattle.ir_tree.specs.declared.value.Value.{Value}
-use Rattle.ir_tree_laws.specs.Reasons.{hold_none}
+use Rattle.ir_event.specs.types.Things.{Things}
+use Rattle.ir_event.specs.types.Terms.{TypeTerm, AttrTerm, IntegerOf, Overflow}
+use Rattle.ir_event.specs.types.Sound.{IsSound}
+use Rattle.ir_event.specs.types.declared.word.Word.TheVariants.{ArithConstant, ArithCmpi, ArithSelect, Value as ValueKey, OverflowFlags, Predicate}
+use Rattle.ir_event.specs.trees.Tree.{Op, op, no_regions, regions}
+use Rattle.ir_event.specs.trees.Meaning.{Operation, IsSoundIn, meaning}
+use Rattle.ir_event.specs.trees.declared.value.Value.{Value}
+use Rattle.ir_event.specs.tree_laws.Reasons.{hold_none}
 use Rattle.patterns_laws.specs.Words.{among, flagged}
 use Rattle.patterns_laws.specs.Made.{i1, i64, binary, cast, choice, comparison, constant, flags, made}
 use Rattle.patterns.specs.Interned.{IsNameOf, IsTypeOf, IsAttrOf, FlagsOf}

@@ -1,22 +1,22 @@
 -- What comes of the lowest rule that applies.
 use Rattle.std.proofs.Common.{◌≡◌, refl, ap, sym, ◌∙◌, subst, ℕ, List, ◌∷◌, true, false, Option, Some, None, Result, Ok, Err, option_map}
 use Rattle.std.specs.Prelude.{IfOk, IfSome}
-use Rattle.ir_tree.specs.declared.place.Place.{Place}
-use Rattle.ir_tree.specs.Tree.{head}
-use Rattle.ir_tree.specs.Meaning.{IsSoundIn, isolated_in}
-use Rattle.ir_tree.specs.WellFormed.{IsWellFormed}
+use Rattle.ir_event.specs.trees.declared.place.Place.{Place}
+use Rattle.ir_event.specs.trees.Tree.{head}
+use Rattle.ir_event.specs.trees.Meaning.{IsSoundIn, isolated_in}
+use Rattle.ir_event.specs.trees.WellFormed.{IsWellFormed}
 use Rattle.ir_event.specs.Modules.{Module, module_in}
 use Rattle.ir_event.specs.declared.world.World.{World}
-use Rattle.patterns_runs.specs.Held.{Held, module_held}
+use Rattle.patterns_lowering.specs.runs.Held.{Held, module_held}
 use Rattle.patterns_plans.specs.Planned.{IsPlanAt}
-use Rattle.patterns_reads.specs.Reads.{head_at}
-use Rattle.patterns_base.specs.Looks.{Header}
-use Rattle.patterns_base.specs.RuleNames.{is_canonical}
-use Rattle.patterns_base.specs.Rules.{rules_for}
-use Rattle.patterns_base.specs.declared.rule.Rule.{Rule}
+use Rattle.patterns_plans.specs.reads.Reads.{head_at}
+use Rattle.patterns_facts.specs.base.Looks.{Header}
+use Rattle.patterns_facts.specs.base.RuleNames.{is_canonical}
+use Rattle.patterns_facts.specs.base.Rules.{rules_for}
+use Rattle.patterns_facts.specs.base.declared.rule.Rule.{Rule}
 use Rattle.patterns_facts.specs.Accepted.{AreAccepted}
-use Rattle.patterns_base.specs.Canonicalization.{TableSuffices, first_rule, lowest}
-use Rattle.patterns_base.specs.Rewrites.{none, edits_of, rewrite_of, carried_out}
+use Rattle.patterns_facts.specs.base.Canonicalization.{TableSuffices, first_rule, lowest}
+use Rattle.patterns_facts.specs.base.Rewrites.{none, edits_of, rewrite_of, carried_out}
 use Rattle.patterns.specs.Applied.{Gave}
 use Rattle.patterns.specs.Lowest.{IsFirst, IsLeftOut, IsLowest, TriedFirst, greedy}
 use Rattle.patterns.specs.Planned.{IsFree, MadeIsOf, made_edits, planned_edits}

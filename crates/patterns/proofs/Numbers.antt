@@ -6,27 +6,27 @@ use Rattle.std.specs.Cmp.{unsigned_Decides}
 use Rattle.std.proofs.lemmas.Bool.{leb-true, ltb-true}
 use Rattle.std.proofs.lemmas.Option.{slice_get_within}
 use Rattle.std.proofs.lemmas.Slice.Eq.{bytes_eq-Decides}
-use Rattle.ir_types.specs.declared.node.TypeNode.{TypeNode}
-use Rattle.ir_types.specs.declared.node.AttrNode.{AttrNode}
-use Rattle.ir_types.specs.declared.node.AttrNode.TheVariants as attr
-use Rattle.ir_types.specs.declared.word.Word.{Word}
-use Rattle.ir_types.specs.declared.refusal.Refusal.{Refusal}
-use Rattle.ir_types.specs.declared.refusal.Refusal.TheVariants.{TooMany, TooDeep, BadValue, BadWidth, Memory, Full}
-use Rattle.ir_types.specs.Things.{Things, Grows}
-use Rattle.ir_types.specs.Terms.{TypeTerm, Integer, Index, Function, Memref, AttrTerm, IntegerOf, DenseArray, String, TypeOf, Flag, Array, Dictionary, Symbol, Overflow, name_term, type_term, attr_term, type_node_term, attr_node_term}
-use Rattle.ir_types.specs.Dictionaries.{kept}
-use Rattle.ir_types.specs.Same.{same_type, same_attr}
-use Rattle.ir_types.specs.Interning.{with_type, with_attr}
-use Rattle.ir_types.specs.Limits.{most_things}
-use Rattle.ir_types.specs.Reasons.{IsRefusedFor, first_reason, full_reason, count_reason, key_reason, value_reason, size_reason, type_fault, attr_fault, attr_reason, type_reason}
-use Rattle.ir_types.specs.Sound.{Holds, IsSound}
-use Rattle.ir_types.specs.WordNames.{word_bytes, word_number}
-use Rattle.ir_types.proofs.CallNumbers.{new_type, new_attr, type_stands, attr_stands}
-use Rattle.ir_types.proofs.Growth.{front_length}
-use Rattle.ir_types.proofs.Terms.{name_stays, type_stays, attr_stays}
-use Rattle.ir_types.proofs.WordNumbers.{word_count}
-use Rattle.ir_types.proofs.WordPlaces.{word_is}
-use Rattle.patterns_runs.specs.Interning.{IsNoRoom}
+use Rattle.ir_event.specs.types.declared.node.TypeNode.{TypeNode}
+use Rattle.ir_event.specs.types.declared.node.AttrNode.{AttrNode}
+use Rattle.ir_event.specs.types.declared.node.AttrNode.TheVariants as attr
+use Rattle.ir_event.specs.types.declared.word.Word.{Word}
+use Rattle.ir_event.specs.types.declared.refusal.Refusal.{Refusal}
+use Rattle.ir_event.specs.types.declared.refusal.Refusal.TheVariants.{TooMany, TooDeep, BadValue, BadWidth, Memory, Full}
+use Rattle.ir_event.specs.types.Things.{Things, Grows}
+use Rattle.ir_event.specs.types.Terms.{TypeTerm, Integer, Index, Function, Memref, AttrTerm, IntegerOf, DenseArray, String, TypeOf, Flag, Array, Dictionary, Symbol, Overflow, name_term, type_term, attr_term, type_node_term, attr_node_term}
+use Rattle.ir_event.specs.types.Dictionaries.{kept}
+use Rattle.ir_event.specs.types.Same.{same_type, same_attr}
+use Rattle.ir_event.specs.types.Interning.{with_type, with_attr}
+use Rattle.ir_event.specs.types.Limits.{most_things}
+use Rattle.ir_event.specs.types.Reasons.{IsRefusedFor, first_reason, full_reason, count_reason, key_reason, value_reason, size_reason, type_fault, attr_fault, attr_reason, type_reason}
+use Rattle.ir_event.specs.types.Sound.{Holds, IsSound}
+use Rattle.ir_event.specs.types.WordNames.{word_bytes, word_number}
+use Rattle.ir_event.proofs.of_types.CallNumbers.{new_type, new_attr, type_stands, attr_stands}
+use Rattle.ir_event.proofs.of_types.Growth.{front_length}
+use Rattle.ir_event.proofs.of_types.Terms.{name_stays, type_stays, attr_stays}
+use Rattle.ir_event.proofs.of_types.WordNumbers.{word_count}
+use Rattle.ir_event.proofs.of_types.WordPlaces.{word_is}
+use Rattle.patterns_lowering.specs.runs.Interning.{IsNoRoom}
 use Rattle.patterns.specs.Interned.{IsNameOf, IsTypeOf, IsAttrOf, IsPlain, FlagsOf}
 
 -- ---- numbers

@@ -1,19 +1,19 @@
 -- The edits of a rule, by what is shown of an operation.
 use Rattle.std.proofs.Common.{◌≡◌, refl, ap, sym, ◌∙◌, ℕ, List, Bool, true, false, Option, Some, None, option_map}
-use Rattle.ir_tree.specs.declared.place.Place.{Place}
-use Rattle.ir_tree.specs.Tree.{head}
-use Rattle.ir_tree.specs.Ids.{find}
-use Rattle.ir_tree.specs.Meaning.{Operation}
-use Rattle.ir_tree_laws.proofs.Members.{found_stands}
+use Rattle.ir_event.specs.trees.declared.place.Place.{Place}
+use Rattle.ir_event.specs.trees.Tree.{head}
+use Rattle.ir_event.specs.trees.Ids.{find}
+use Rattle.ir_event.specs.trees.Meaning.{Operation}
+use Rattle.ir_event.proofs.of_tree_laws.Members.{found_stands}
 use Rattle.ir_event.specs.Modules.{Module}
-use Rattle.patterns_runs.specs.Contents.{Edit}
-use Rattle.patterns_base.specs.Keeps.{given}
-use Rattle.patterns_base.specs.Looks.{Header, when, is_clean, front_of}
-use Rattle.patterns_base.specs.Rules.{rule}
-use Rattle.patterns_base.specs.declared.rule.Rule.{Rule}
-use Rattle.patterns_base.specs.Rewrites.{edits_of}
-use Rattle.patterns_reads.specs.Reads.{head_at}
-use Rattle.patterns_base.proofs.Facts.{edits_are}
+use Rattle.patterns_lowering.specs.runs.Contents.{Edit}
+use Rattle.patterns_facts.specs.base.Keeps.{given}
+use Rattle.patterns_facts.specs.base.Looks.{Header, when, is_clean, front_of}
+use Rattle.patterns_facts.specs.base.Rules.{rule}
+use Rattle.patterns_facts.specs.base.declared.rule.Rule.{Rule}
+use Rattle.patterns_facts.specs.base.Rewrites.{edits_of}
+use Rattle.patterns_plans.specs.reads.Reads.{head_at}
+use Rattle.patterns_facts.proofs.of_base.Facts.{edits_are}
 
 pub none_there : (r : Rule) (m : Module) (x : ℕ) → None ≡ head_at x m.tree → None ≡ edits_of r m x
 none_there r m x e = go (find x m.tree) e ∙ sym (edits_are r m x)

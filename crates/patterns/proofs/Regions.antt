@@ -1,18 +1,18 @@
 -- The rules that open branches and loops, by their names.
 use Rattle.std.proofs.Common.{◌≡◌, ap, sym, ◌∙◌, ℕ, List, Option, Some, None, option_map}
-use Rattle.ir_tree.specs.declared.place.Place.{Place}
-use Rattle.ir_tree.specs.Tree.{head}
-use Rattle.ir_tree.specs.Ids.{find}
-use Rattle.ir_tree.specs.Meaning.{Operation}
-use Rattle.patterns_runs.specs.Contents.{Edit}
-use Rattle.patterns_base.specs.Keeps.{given}
-use Rattle.patterns_reads.specs.Reads.{head_at}
-use Rattle.patterns_base.specs.Looks.{Header}
-use Rattle.patterns_base.specs.Opening.{open_branch, open_loop, stop_loop}
-use Rattle.patterns_base.specs.Rules.{rule}
-use Rattle.patterns_base.specs.declared.rule.Rule.{Rule}
-use Rattle.patterns_base.specs.declared.rule.Rule.TheVariants.{OpenBranch, OpenLoop, StopLoop}
-use Rattle.patterns_regions.specs.Rules.{open_branch_at, open_loop_at, stop_loop_at}
+use Rattle.ir_event.specs.trees.declared.place.Place.{Place}
+use Rattle.ir_event.specs.trees.Tree.{head}
+use Rattle.ir_event.specs.trees.Ids.{find}
+use Rattle.ir_event.specs.trees.Meaning.{Operation}
+use Rattle.patterns_lowering.specs.runs.Contents.{Edit}
+use Rattle.patterns_facts.specs.base.Keeps.{given}
+use Rattle.patterns_plans.specs.reads.Reads.{head_at}
+use Rattle.patterns_facts.specs.base.Looks.{Header}
+use Rattle.patterns_facts.specs.base.Opening.{open_branch, open_loop, stop_loop}
+use Rattle.patterns_facts.specs.base.Rules.{rule}
+use Rattle.patterns_facts.specs.base.declared.rule.Rule.{Rule}
+use Rattle.patterns_facts.specs.base.declared.rule.Rule.TheVariants.{OpenBranch, OpenLoop, StopLoop}
+use Rattle.patterns_lowering.specs.regions.Rules.{open_branch_at, open_loop_at, stop_loop_at}
 
 module _ (t : Operation) (n : ℕ) (front : Place) (x : ℕ) (o : Operation) (is : find x t ≡ Some o) (p : Option (List Edit)) (r : Rule) where
   pub when_open_branch : r ≡ OpenBranch → p ≡ open_branch_at x t front → p ≡ rule r t n front o

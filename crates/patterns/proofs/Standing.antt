@@ -1,20 +1,20 @@
 -- What the edits that put new operations in stand for.
 use Rattle.std.proofs.Common.{◌≡◌, refl, sym, subst, ℕ, List, [], ◌∷◌, false, Option, Some, None, codes}
-use Rattle.ir_types.specs.Things.{Things}
-use Rattle.ir_types.specs.Terms.{TypeTerm, IntegerOf, Overflow}
-use Rattle.ir_types.specs.Sound.{IsSound}
-use Rattle.ir_types.specs.declared.word.Word.TheVariants.{ArithAddi, ArithMuli, ArithSubi, ArithXori, Predicate}
-use Rattle.ir_tree.specs.Tree.{Op}
-use Rattle.ir_tree.specs.Meaning.{Operation}
-use Rattle.ir_tree.specs.declared.value.Value.{Value}
-use Rattle.ir_tree.specs.declared.place.Place.{Place}
+use Rattle.ir_event.specs.types.Things.{Things}
+use Rattle.ir_event.specs.types.Terms.{TypeTerm, IntegerOf, Overflow}
+use Rattle.ir_event.specs.types.Sound.{IsSound}
+use Rattle.ir_event.specs.types.declared.word.Word.TheVariants.{ArithAddi, ArithMuli, ArithSubi, ArithXori, Predicate}
+use Rattle.ir_event.specs.trees.Tree.{Op}
+use Rattle.ir_event.specs.trees.Meaning.{Operation}
+use Rattle.ir_event.specs.trees.declared.value.Value.{Value}
+use Rattle.ir_event.specs.trees.declared.place.Place.{Place}
 use Rattle.patterns_edits.specs.Contents.{Edit}
 use Rattle.patterns_edits.specs.Edits as edit
 use Rattle.patterns_edits.specs.declared.edit.Edit.{Edit as Coded}
 use Rattle.patterns_edits.specs.declared.edit.Edit.TheVariants as coded
-use Rattle.patterns_base.specs.Made.{i1, i64, cast}
-use Rattle.patterns_base.specs.Makes.{give, give_constant, give_new}
-use Rattle.patterns_reads.specs.Plans.{choosing, combined, dividing_by, mirroring, subtracting}
+use Rattle.patterns_facts.specs.base.Made.{i1, i64, cast}
+use Rattle.patterns_facts.specs.base.Makes.{give, give_constant, give_new}
+use Rattle.patterns_plans.specs.reads.Plans.{choosing, combined, dividing_by, mirroring, subtracting}
 use Rattle.patterns.specs.Interned.{IsNameOf, IsTypeOf, IsAttrOf, FlagsOf, DifferenceAttrs}
 use Rattle.patterns.specs.Making.{StandsFor}
 use Rattle.patterns.specs.Numbered.{giving, constant_edits, cast_edits, combined_edits, mirrored_edits, chosen_edits, difference_edits, remainder_edits}

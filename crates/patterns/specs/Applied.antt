@@ -1,17 +1,17 @@
 -- What applying a rule makes of a module.
 use Rattle.std.specs.Prelude.{◌≡◌, ◌≢◌, ◌⊎◌, ℕ, ◌+◌, nat_le, Bool, true, false, Option, None}
-use Rattle.ir_types.specs.Things.{Things, Grows}
-use Rattle.ir_types.specs.declared.refusal.Refusal.{Refusal}
-use Rattle.ir_types.specs.declared.refusal.Refusal.TheVariants.{Full, IdsExhausted, Memory, NoSuchOp}
-use Rattle.ir_tree.specs.Ids.{has_id, op_count}
-use Rattle.ir_tree.specs.Limits.{most_ops, most_next}
-use Rattle.ir_tree_laws.specs.Reasons.{unless}
+use Rattle.ir_event.specs.types.Things.{Things, Grows}
+use Rattle.ir_event.specs.types.declared.refusal.Refusal.{Refusal}
+use Rattle.ir_event.specs.types.declared.refusal.Refusal.TheVariants.{Full, IdsExhausted, Memory, NoSuchOp}
+use Rattle.ir_event.specs.trees.Ids.{has_id, op_count}
+use Rattle.ir_event.specs.trees.Limits.{most_ops, most_next}
+use Rattle.ir_event.specs.tree_laws.Reasons.{unless}
 use Rattle.ir_event.specs.Listener.{Listener}
 use Rattle.ir_event.specs.Modules.{Module}
-use Rattle.patterns_base.specs.Rewrites.{Rewrite, none, refused, becomes}
-use Rattle.patterns_runs.specs.Interning.{IsFull}
-use Rattle.patterns_runs.specs.Benched.{Benched, Led}
-use Rattle.patterns_runs.specs.Held.{open_marks}
+use Rattle.patterns_facts.specs.base.Rewrites.{Rewrite, none, refused, becomes}
+use Rattle.patterns_lowering.specs.runs.Interning.{IsFull}
+use Rattle.patterns_lowering.specs.runs.Benched.{Benched, Led}
+use Rattle.patterns_lowering.specs.runs.Held.{open_marks}
 
 -- why a module can't have k operations more, if it can't: there would be too many, or ids wouldn't be enough
 abbrev pub limit_reason : ℕ → Module → Option Refusal

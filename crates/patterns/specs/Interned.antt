@@ -1,9 +1,9 @@
 -- Numbers of a context by what they stand for.
 use Rattle.std.specs.Prelude.{◌≡◌, ℕ, List, false, true, Option, Some, None}
-use Rattle.ir_types.specs.Things.{Things, IsName, IsType, IsAttr}
-use Rattle.ir_types.specs.Terms.{TypeTerm, AttrTerm, IntegerOf, Overflow, name_term, type_term, attr_term}
-use Rattle.ir_types.specs.declared.node.AttrNode.{AttrNode}
-use Rattle.ir_types.specs.declared.node.AttrNode.TheVariants.{Dict}
+use Rattle.ir_event.specs.types.Things.{Things, IsName, IsType, IsAttr}
+use Rattle.ir_event.specs.types.Terms.{TypeTerm, AttrTerm, IntegerOf, Overflow, name_term, type_term, attr_term}
+use Rattle.ir_event.specs.types.declared.node.AttrNode.{AttrNode}
+use Rattle.ir_event.specs.types.declared.node.AttrNode.TheVariants.{Dict}
 use Rattle.patterns_laws.specs.Words.{among, flagged}
 
 -- a number is that of a name, of a type, of an attribute

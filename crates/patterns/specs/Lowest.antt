@@ -1,14 +1,14 @@
 -- The lowest rule that applies at an operation.
 use Rattle.std.specs.Prelude.{◌≡◌, ℕ, List, [], ◌∷◌, true, Option, Some, None}
 use Rattle.std.specs.List.{filter}
-use Rattle.ir_tree.specs.declared.place.Place.{Place}
+use Rattle.ir_event.specs.trees.declared.place.Place.{Place}
 use Rattle.ir_event.specs.declared.world.World.{World}
 use Rattle.ir_event.specs.Modules.{module_in}
-use Rattle.patterns_base.specs.Canonicalization.{first_rule, lowest}
-use Rattle.patterns_base.specs.Rewrites.{none, edits_of, rewrite_of}
-use Rattle.patterns_base.specs.RuleNames.{is_canonical}
-use Rattle.patterns_base.specs.declared.rule.Rule.{Rule}
-use Rattle.patterns_base.specs.declared.rule.Rule.TheVariants.{EraseDead}
+use Rattle.patterns_facts.specs.base.Canonicalization.{first_rule, lowest}
+use Rattle.patterns_facts.specs.base.Rewrites.{none, edits_of, rewrite_of}
+use Rattle.patterns_facts.specs.base.RuleNames.{is_canonical}
+use Rattle.patterns_facts.specs.base.declared.rule.Rule.{Rule}
+use Rattle.patterns_facts.specs.base.declared.rule.Rule.TheVariants.{EraseDead}
 use Rattle.patterns_plans.specs.Planned.{IsDead}
 use Rattle.patterns.specs.Planned.{MadeIsOf, made_edits}
 use Rattle.patterns.specs.declared.plan.Made.{Made}

@@ -1,13 +1,13 @@
 -- How many operations plans make, and what edits that are made of one stand for.
 use Rattle.std.specs.Prelude.{◌≡◌, ℕ, ◌+◌, List, [], ◌∷◌}
-use Rattle.ir_types.specs.Things.{Things}
+use Rattle.ir_event.specs.types.Things.{Things}
 use Rattle.patterns_edits.specs.Contents.{Edit}
 use Rattle.patterns_edits.specs.Lists.{AllFit, edits_meaning}
 use Rattle.patterns_edits.specs.declared.edit.Edit.{Edit as Coded}
 use Rattle.patterns_edits.specs.declared.edit.Edit.TheVariants as edit
 use Rattle.patterns_lowering.specs.Plans.{lowering_makes}
-use Rattle.patterns_reads.specs.declared.plan.Plan.{Plan}
-use Rattle.patterns_reads.specs.declared.plan.Plan.TheVariants as plan
+use Rattle.patterns_plans.specs.reads.declared.plan.Plan.{Plan}
+use Rattle.patterns_plans.specs.reads.declared.plan.Plan.TheVariants as plan
 use Rattle.patterns.specs.declared.plan.Made.{Made}
 use Rattle.patterns.specs.declared.plan.Made.TheVariants as made
 

@@ -1,10 +1,11 @@
 -- New operations, in the numbers of a context.
 use Rattle.std.specs.Prelude.{ℕ, List, [], ◌∷◌, Option, Some, None, option_map}
-use Rattle.ir_types.specs.declared.word.Word.TheVariants.{ArithConstant, ArithCmpi, ArithSelect, Value as ValueKey}
-use Rattle.ir_types.specs.declared.word.Word.TheVariants.{OverflowFlags, Predicate}
-use Rattle.ir_types.specs.WordNames.{word_number}
-use Rattle.ir_tree.specs.Tree.{Op, op, no_regions}
-use Rattle.ir_tree.specs.declared.value.Value.{Value}
+use Rattle.ir_event.specs.types.declared.word.Word.TheVariants.{ArithConstant, ArithCmpi}
+use Rattle.ir_event.specs.types.declared.word.Word.TheVariants.{ArithSelect, Value as ValueKey}
+use Rattle.ir_event.specs.types.declared.word.Word.TheVariants.{OverflowFlags, Predicate}
+use Rattle.ir_event.specs.types.WordNames.{word_number}
+use Rattle.ir_event.specs.trees.Tree.{Op, op, no_regions}
+use Rattle.ir_event.specs.trees.declared.value.Value.{Value}
 
 -- the entries of a dictionary of at most one
 abbrev pub entries : Option (ℕ × ℕ) → List (ℕ × ℕ)

@@ -1,9 +1,9 @@
 -- The edits by which rules make operations, in the numbers of a context.
 use Rattle.std.specs.Prelude.{ℕ, ◌+◌, List, [], ◌∷◌, Option, Some, None}
-use Rattle.ir_types.specs.declared.word.Word.TheVariants.{ArithAddi, ArithMuli, ArithSubi, ArithXori, Predicate}
-use Rattle.ir_types.specs.WordNames.{word_number}
-use Rattle.ir_tree.specs.declared.value.Value.{Value}
-use Rattle.ir_tree.specs.declared.value.Value.TheVariants.{Result}
+use Rattle.ir_event.specs.types.declared.word.Word.TheVariants.{ArithAddi, ArithMuli, ArithSubi, ArithXori, Predicate}
+use Rattle.ir_event.specs.types.WordNames.{word_number}
+use Rattle.ir_event.specs.trees.declared.value.Value.{Value}
+use Rattle.ir_event.specs.trees.declared.value.Value.TheVariants.{Result}
 use Rattle.patterns_edits.specs.declared.edit.Edit.{Edit}
 use Rattle.patterns_edits.specs.declared.edit.Edit.TheVariants.{Make, SetOperand, Replace, Erase, SetAttr}
 use Rattle.patterns.specs.New.{new_binary, new_cast, new_choice, new_comparison, new_constant}

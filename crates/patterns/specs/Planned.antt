@@ -1,21 +1,21 @@
 -- What rules make of operations, with the place in front of them.
 use Rattle.std.specs.Prelude.{◌≡◌, ℕ, List, Result, Ok, Err, ◌⊎◌, Option, option_map, Some}
-use Rattle.ir_types.specs.Things.{Things}
-use Rattle.ir_types.specs.declared.refusal.Refusal.{Refusal}
-use Rattle.ir_types.specs.declared.refusal.Refusal.TheVariants.{Memory, Full}
-use Rattle.ir_tree.specs.declared.place.Place.{Place}
-use Rattle.ir_tree.specs.Ids.{find}
-use Rattle.ir_tree.specs.Meaning.{Operation}
+use Rattle.ir_event.specs.types.Things.{Things}
+use Rattle.ir_event.specs.types.declared.refusal.Refusal.{Refusal}
+use Rattle.ir_event.specs.types.declared.refusal.Refusal.TheVariants.{Memory, Full}
+use Rattle.ir_event.specs.trees.declared.place.Place.{Place}
+use Rattle.ir_event.specs.trees.Ids.{find}
+use Rattle.ir_event.specs.trees.Meaning.{Operation}
 use Rattle.ir_event.specs.declared.world.World.{World}
 use Rattle.ir_event.specs.Modules.{Module, module_in}
-use Rattle.patterns_runs.specs.Contents.{Edit}
-use Rattle.patterns_runs.specs.Lists.{Free}
-use Rattle.patterns_base.specs.Rules.{rule}
-use Rattle.patterns_base.specs.declared.rule.Rule.{Rule}
-use Rattle.patterns_base.specs.Rewrites.{becomes, refused, carried_out}
-use Rattle.patterns_runs.specs.Interning.{IsFull}
-use Rattle.patterns_reads.specs.declared.plan.Plan.{Plan}
-use Rattle.patterns_reads.specs.Plans.{PlanIsOf, plan_meaning}
+use Rattle.patterns_lowering.specs.runs.Contents.{Edit}
+use Rattle.patterns_lowering.specs.runs.Lists.{Free}
+use Rattle.patterns_facts.specs.base.Rules.{rule}
+use Rattle.patterns_facts.specs.base.declared.rule.Rule.{Rule}
+use Rattle.patterns_facts.specs.base.Rewrites.{becomes, refused, carried_out}
+use Rattle.patterns_lowering.specs.runs.Interning.{IsFull}
+use Rattle.patterns_plans.specs.reads.declared.plan.Plan.{Plan}
+use Rattle.patterns_plans.specs.reads.Plans.{PlanIsOf, plan_meaning}
 use Rattle.patterns_lowering.specs.Meanings.{lowering_meaning}
 use Rattle.patterns_lowering.specs.Plans.{LoweringIsOf}
 use Rattle.patterns.specs.declared.plan.Made.{Made}

@@ -2,16 +2,16 @@
 use Rattle.std.specs.Prelude.{◌≡◌, ℕ, List, [], true, map, All, Option, Some, None, slice_index_or, Vec}
 use Rattle.std.specs.List.{filter}
 use Rattle.std.specs.declared.alloc.Global.{Global}
-use Rattle.ir_types.specs.Things.{Things}
-use Rattle.ir_types.specs.Terms.{name_term}
-use Rattle.ir_types.specs.Sound.{IsSound}
+use Rattle.ir_event.specs.types.Things.{Things}
+use Rattle.ir_event.specs.types.Terms.{name_term}
+use Rattle.ir_event.specs.types.Sound.{IsSound}
 use Rattle.ir_event.specs.declared.world.World.{World}
 use Rattle.ir_event.specs.Modules.{module_in}
-use Rattle.patterns_base.specs.Canonicalization.{first_rule}
-use Rattle.patterns_base.specs.Rewrites.{none, rewrite_of}
-use Rattle.patterns_base.specs.RuleNames.{is_canonical}
-use Rattle.patterns_base.specs.Rules.{has_rule}
-use Rattle.patterns_base.specs.declared.rule.Rule.{Rule}
+use Rattle.patterns_facts.specs.base.Canonicalization.{first_rule}
+use Rattle.patterns_facts.specs.base.Rewrites.{none, rewrite_of}
+use Rattle.patterns_facts.specs.base.RuleNames.{is_canonical}
+use Rattle.patterns_facts.specs.base.Rules.{has_rule}
+use Rattle.patterns_facts.specs.base.declared.rule.Rule.{Rule}
 use Rattle.patterns.specs.Lowest.{IsMadeOf}
 use Rattle.patterns.specs.declared.lowest.Found.{Found}
 use Rattle.patterns.specs.declared.rows.Rows.{Rows}

@@ -1,20 +1,20 @@
 //! Applying a rule.
 ghost use Rattle.std.specs.Prelude.{◌≡◌, false, IfOk, IfErr, OnErr, Err};
-ghost use Rattle.ir_types.specs.declared.refusal.Refusal.TheVariants.{NoSuchOp};
-ghost use Rattle.ir_tree.specs.Ids.{has_id};
-ghost use Rattle.patterns_runs.specs.Benched.{Keeps};
-ghost use Rattle.patterns_runs.specs.Held.{module_held};
-ghost use Rattle.patterns_base.specs.Rewrites.{rewrite_of};
+ghost use Rattle.ir_event.specs.types.declared.refusal.Refusal.TheVariants.{NoSuchOp};
+ghost use Rattle.ir_event.specs.trees.Ids.{has_id};
+ghost use Rattle.patterns_lowering.specs.runs.Benched.{Keeps};
+ghost use Rattle.patterns_lowering.specs.runs.Held.{module_held};
+ghost use Rattle.patterns_facts.specs.base.Rewrites.{rewrite_of};
 ghost use Rattle.patterns.specs.Applied.{Applied, Gave, IsReason};
 
 use crate::carry::carry_plan;
 use crate::plan::find_plan;
 use ir_event::analysis::Analysis;
-use ir_types::ids::OpId;
-use ir_types::refusal::Refusal;
-use patterns_base::rule::Rule;
+use ir_event::types::ids::OpId;
+use ir_event::types::refusal::Refusal;
+use patterns_facts::base::rule::Rule;
 use patterns_facts::laws::no_edit_is_refused;
-use patterns_runs::Bench;
+use patterns_lowering::runs::Bench;
 use std::alloc::Global;
 
 /// Applies a rule at an operation, or leaves the module, its marks and the journal as they were. The answer is whether

@@ -1,7 +1,7 @@
 //! What a rule makes, carried out.
 ghost use Rattle.ir_event.specs.Modules.{module_meaning};
-ghost use Rattle.patterns_runs.specs.Benched.{Keeps};
-ghost use Rattle.patterns_runs.specs.Held.{module_held};
+ghost use Rattle.patterns_lowering.specs.runs.Benched.{Keeps};
+ghost use Rattle.patterns_lowering.specs.runs.Held.{module_held};
 ghost use Rattle.patterns.specs.Applied.{Applied};
 ghost use Rattle.patterns.specs.Planned.{IsFree, MadeIsOf, WereCarried, planned_edits};
 
@@ -11,10 +11,10 @@ use crate::make::edits_for;
 use crate::plan::Planned;
 use crate::site::Site;
 use ir_event::analysis::Analysis;
-use ir_types::ids::OpId;
-use ir_types::refusal::Refusal;
-use patterns_runs::Bench;
-use patterns_runs::carry::carry_whole;
+use ir_event::types::ids::OpId;
+use ir_event::types::refusal::Refusal;
+use patterns_lowering::runs::Bench;
+use patterns_lowering::runs::carry::carry_whole;
 use std::alloc::Global;
 
 /// Carries out what a rule makes of an operation, or leaves the module, its marks and the journal as they were. No

@@ -5,8 +5,8 @@ ghost use Rattle.patterns.specs.Planned.{IsOfSome};
 
 use crate::plan::Made;
 use patterns_lowering::count::lowering_makes;
-use patterns_reads::plan::Plan;
-use patterns_runs::edit::Edit;
+use patterns_lowering::runs::edit::Edit;
+use patterns_plans::reads::plan::Plan;
 
 /// How many operations an edit makes.
 fn edit_makes(edit: &Edit) -> u64

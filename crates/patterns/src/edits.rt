@@ -1,6 +1,6 @@
 //! The edits of plans, in numbers.
 ghost use Rattle.std.specs.Prelude.{◌≡◌, ◌+◌, ◌≤◌, ◌++◌, [], ◌∷◌, IfOk, OnOk};
-ghost use Rattle.ir_tree.specs.Limits.{most_next};
+ghost use Rattle.ir_event.specs.trees.Limits.{most_next};
 ghost use Rattle.patterns_edits.specs.declared.edit.Edit.TheVariants.{Make as Made};
 ghost use Rattle.patterns.specs.New.{new_constant, new_op};
 ghost use Rattle.patterns.specs.Numbered.{cast_edits, chosen_edits, combined_edits, constant_edits, difference_edits};
@@ -8,10 +8,10 @@ ghost use Rattle.patterns.specs.Numbered.{first_result, giving, mirrored_edits, 
 
 use crate::operations::{flag_entry, new_op};
 use crate::site::Site;
-use ir_tree::value::Value;
-use ir_types::ids::{AttrId, NameId, OpId, TypeId};
-use ir_types::word::Word;
-use patterns_runs::edit::Edit;
+use ir_event::trees::value::Value;
+use ir_event::types::ids::{AttrId, NameId, OpId, TypeId};
+use ir_event::types::word::Word;
+use patterns_lowering::runs::edit::Edit;
 use std::alloc::{AllocError, Global};
 
 /// The result of the operation that is made first at a site.

@@ -1,11 +1,11 @@
 //! The first rule of a list that applies at an operation.
 ghost use Rattle.std.specs.Prelude.{◌≡◌, false, is_some, Err, IfOk, IfErr, IfSome, OnErr};
-ghost use Rattle.ir_types.specs.declared.refusal.Refusal.TheVariants.{NoSuchOp};
-ghost use Rattle.ir_tree.specs.Ids.{has_id};
-ghost use Rattle.patterns_base.specs.Canonicalization.{first_rule};
-ghost use Rattle.patterns_base.specs.Rewrites.{rewrite_of};
-ghost use Rattle.patterns_runs.specs.Benched.{Keeps};
-ghost use Rattle.patterns_runs.specs.Held.{module_held};
+ghost use Rattle.ir_event.specs.types.declared.refusal.Refusal.TheVariants.{NoSuchOp};
+ghost use Rattle.ir_event.specs.trees.Ids.{has_id};
+ghost use Rattle.patterns_facts.specs.base.Canonicalization.{first_rule};
+ghost use Rattle.patterns_facts.specs.base.Rewrites.{rewrite_of};
+ghost use Rattle.patterns_lowering.specs.runs.Benched.{Keeps};
+ghost use Rattle.patterns_lowering.specs.runs.Held.{module_held};
 ghost use Rattle.patterns.specs.Applied.{Applied, Gave, IsReason};
 ghost use Rattle.patterns.specs.Rows.{IsFirstOf, MayBeTried};
 
@@ -15,15 +15,15 @@ use crate::lowest::{Found, first_made};
 use crate::plan::Planned;
 use crate::rows::Rows;
 use ir_event::analysis::Analysis;
+use ir_event::types::ids::OpId;
+use ir_event::types::refusal::Refusal;
 use ir_event::world::World;
-use ir_types::ids::OpId;
-use ir_types::refusal::Refusal;
-use patterns_base::laws::only_listed_rules_apply;
-use patterns_base::rule::Rule;
+use patterns_facts::base::laws::only_listed_rules_apply;
+use patterns_facts::base::rule::Rule;
 use patterns_facts::laws::no_edit_is_refused;
-use patterns_reads::clean::is_clean_shown;
-use patterns_reads::look::{front, shown};
-use patterns_runs::Bench;
+use patterns_lowering::runs::Bench;
+use patterns_plans::reads::clean::is_clean_shown;
+use patterns_plans::reads::look::{front, shown};
 use std::alloc::{AllocError, Global};
 
 /// The first rule of a list that applies at an operation. Whether that is clean is asked only where a rule may apply.

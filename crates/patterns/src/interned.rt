@@ -1,19 +1,19 @@
 //! What is interned for new operations.
 ghost use Rattle.std.specs.Prelude.{false, IfOk, IfErr};
-ghost use Rattle.ir_types.specs.Things.{IsName, IsType, TypeIsOf, AttrIsOf};
-ghost use Rattle.ir_types.specs.Terms.{Integer, IntegerOf, Overflow, attr_node_term, name_term, type_node_term};
-ghost use Rattle.ir_types.specs.Terms.{type_term};
-ghost use Rattle.ir_types.specs.declared.node.Sign.TheVariants.{Signless};
-ghost use Rattle.patterns_base.specs.Made.{i64};
-ghost use Rattle.patterns_runs.specs.Interning.{Added, IsNoRoom};
+ghost use Rattle.ir_event.specs.types.Things.{IsName, IsType, TypeIsOf, AttrIsOf};
+ghost use Rattle.ir_event.specs.types.Terms.{Integer, IntegerOf, Overflow, attr_node_term, name_term, type_node_term};
+ghost use Rattle.ir_event.specs.types.Terms.{type_term};
+ghost use Rattle.ir_event.specs.types.declared.node.Sign.TheVariants.{Signless};
+ghost use Rattle.patterns_facts.specs.base.Made.{i64};
+ghost use Rattle.patterns_lowering.specs.runs.Interning.{Added, IsNoRoom};
 ghost use Rattle.patterns.specs.Interned.{FlagsOf, IsAttrOf, IsPlain, IsTypeOf};
 
 use crate::operations::is_flagged;
 use ir_event::analysis::Analysis;
-use ir_types::ids::{AttrId, NameId, TypeId};
-use ir_types::node::{AttrNode, Sign, TypeNode};
-use ir_types::refusal::Refusal;
-use patterns_runs::Bench;
+use ir_event::types::ids::{AttrId, NameId, TypeId};
+use ir_event::types::node::{AttrNode, Sign, TypeNode};
+use ir_event::types::refusal::Refusal;
+use patterns_lowering::runs::Bench;
 
 /// The number of an attribute that is no dictionary.
 fn attr<L: Analysis>(bench: &mut Bench<L>, node: AttrNode) -> Result<AttrId, Refusal>

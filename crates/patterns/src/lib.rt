@@ -18,5 +18,5 @@ mod plans;
 pub mod rows;
 mod site;
 
-pub use patterns_base::rule;
-pub use patterns_runs as runs;
+pub use patterns_facts::base::rule;
+pub use patterns_lowering::{rewriter, runs};

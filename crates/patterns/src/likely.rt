@@ -1,16 +1,16 @@
 //! Which rules may apply at an operation, by tests that ask for no diagnostics and take no memory.
 ghost use Rattle.std.specs.Prelude.{◌≡◌, false, true, IfSome, Some, option_map};
 ghost use Rattle.ir_event.specs.Modules.{module_in};
-ghost use Rattle.patterns_reads.specs.Reads.{head_at, head_in};
+ghost use Rattle.patterns_plans.specs.reads.Reads.{head_at, head_in};
 ghost use Rattle.patterns.specs.Lowest.{AreLikely, BeginsLikely, IsLeftOut, IsLikely};
 
+use ir_event::store::node::Node;
+use ir_event::types::ids::OpId;
 use ir_event::world::World;
-use ir_store::node::Node;
-use ir_types::ids::OpId;
-use patterns_base::rule::Rule;
+use patterns_facts::base::rule::Rule;
+use patterns_lowering::regions::tests::{may_choose, may_go_once, may_stop};
 use patterns_plans::dead::is_dead;
 use patterns_plans::may::may_apply;
-use patterns_regions::tests::{may_choose, may_go_once, may_stop};
 
 /// Whether a rule that canonicalization tries may apply at an operation, of which this is shown.
 pub(crate) fn is_likely(world: &World, rule: Rule, op: OpId, node: &Node<'_>) -> bool

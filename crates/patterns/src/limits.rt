@@ -3,9 +3,9 @@ ghost use Rattle.std.specs.Prelude.{◌≡◌};
 ghost use Rattle.ir_event.specs.Modules.{module_in};
 ghost use Rattle.patterns.specs.Applied.{limit_reason};
 
+use ir_event::trees::limits::MOST_OPS;
+use ir_event::types::refusal::Refusal;
 use ir_event::world::World;
-use ir_tree::limits::MOST_OPS;
-use ir_types::refusal::Refusal;
 
 /// Why a module can't have so many operations more: it would be too full, or ids wouldn't be enough.
 pub fn limit_reason(world: &World, more: u64) -> Option<Refusal>

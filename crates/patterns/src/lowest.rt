@@ -1,14 +1,14 @@
 //! The lowest rule that applies at an operation.
 ghost use Rattle.std.specs.Prelude.{◌≡◌, false, true, is_some, Err, IfOk, IfErr, IfSome, OnErr, Some};
-ghost use Rattle.ir_types.specs.declared.refusal.Refusal.TheVariants.{NoSuchOp};
-ghost use Rattle.ir_tree.specs.Ids.{has_id};
+ghost use Rattle.ir_event.specs.types.declared.refusal.Refusal.TheVariants.{NoSuchOp};
+ghost use Rattle.ir_event.specs.trees.Ids.{has_id};
 ghost use Rattle.ir_event.specs.Modules.{NodeIsOf, module_in};
-ghost use Rattle.patterns_base.specs.Canonicalization.{lowest as lowest_of};
-ghost use Rattle.patterns_base.specs.Looks.{front_of, is_clean as clean_at};
-ghost use Rattle.patterns_base.specs.Rewrites.{rewrite_of};
-ghost use Rattle.patterns_reads.specs.Reads.{head_at, head_in};
-ghost use Rattle.patterns_runs.specs.Benched.{Keeps};
-ghost use Rattle.patterns_runs.specs.Held.{module_held};
+ghost use Rattle.patterns_facts.specs.base.Canonicalization.{lowest as lowest_of};
+ghost use Rattle.patterns_facts.specs.base.Looks.{front_of, is_clean as clean_at};
+ghost use Rattle.patterns_facts.specs.base.Rewrites.{rewrite_of};
+ghost use Rattle.patterns_plans.specs.reads.Reads.{head_at, head_in};
+ghost use Rattle.patterns_lowering.specs.runs.Benched.{Keeps};
+ghost use Rattle.patterns_lowering.specs.runs.Held.{module_held};
 ghost use Rattle.patterns.specs.Applied.{Applied, Gave, IsReason};
 ghost use Rattle.patterns.specs.Lowest.{BeginsLikely, IsFirst, IsLikely, IsLowest, TriedFirst};
 
@@ -16,18 +16,18 @@ use crate::carry::carry_plan;
 use crate::likely::{is_likely, likely};
 use crate::plan::{Made, Planned, made_at, made_dead};
 use ir_event::analysis::Analysis;
+use ir_event::store::node::Node;
+use ir_event::trees::place::Place;
+use ir_event::types::ids::OpId;
+use ir_event::types::refusal::Refusal;
 use ir_event::world::World;
-use ir_store::node::Node;
-use ir_tree::place::Place;
-use ir_types::ids::OpId;
-use ir_types::refusal::Refusal;
-use patterns_base::laws::only_listed_rules_apply;
-use patterns_base::rule::Rule;
-use patterns_base::table::rules_of;
+use patterns_facts::base::laws::only_listed_rules_apply;
+use patterns_facts::base::rule::Rule;
+use patterns_facts::base::table::rules_of;
 use patterns_facts::laws::no_edit_is_refused;
-use patterns_reads::clean::is_clean_shown;
-use patterns_reads::look::{front, shown};
-use patterns_runs::Bench;
+use patterns_lowering::runs::Bench;
+use patterns_plans::reads::clean::is_clean_shown;
+use patterns_plans::reads::look::{front, shown};
 use std::alloc::{AllocError, Global};
 
 /// A rule that applies, with what it makes.

@@ -1,8 +1,8 @@
 //! From what a rule makes to its edits.
 ghost use Rattle.std.specs.Prelude.{◌≡◌, ◌+◌, ◌≤◌, IfOk, IfErr};
-ghost use Rattle.ir_tree.specs.Limits.{most_next};
-ghost use Rattle.patterns_reads.specs.Plans.{PlanIsOf, plan_meaning};
-ghost use Rattle.patterns_runs.specs.Interning.{Added, IsNoRoom};
+ghost use Rattle.ir_event.specs.trees.Limits.{most_next};
+ghost use Rattle.patterns_plans.specs.reads.Plans.{PlanIsOf, plan_meaning};
+ghost use Rattle.patterns_lowering.specs.runs.Interning.{Added, IsNoRoom};
 ghost use Rattle.patterns.specs.Making.{StandsFor, made_makes, plan_makes};
 ghost use Rattle.patterns.specs.Planned.{MadeIsOf, made_edits};
 
@@ -10,11 +10,11 @@ use crate::plan::Made;
 use crate::plans::{choice, combination, constant, difference, mirrored, recast, remainder};
 use crate::site::Site;
 use ir_event::analysis::Analysis;
-use ir_types::refusal::Refusal;
+use ir_event::types::refusal::Refusal;
 use patterns_lowering::edits::lowering_edits;
-use patterns_reads::plan::Plan;
-use patterns_runs::Bench;
-use patterns_runs::edit::Edit;
+use patterns_lowering::runs::Bench;
+use patterns_lowering::runs::edit::Edit;
+use patterns_plans::reads::plan::Plan;
 use std::alloc::Global;
 
 /// The edits of a plan at an operation, where there are ids enough. What is new is interned; else the bench stays.

@@ -1,14 +1,14 @@
 //! New operations.
 ghost use Rattle.std.specs.Prelude.{◌≡◌, IfOk, option_map};
-ghost use Rattle.ir_types.specs.Terms.{name_term};
+ghost use Rattle.ir_event.specs.types.Terms.{name_term};
 ghost use Rattle.patterns_laws.specs.Words.{among, flagged};
 ghost use Rattle.patterns.specs.New.{entries, flag_entry, new_op};
 
-use ir_tree::tree::TreeOp;
-use ir_tree::value::Value;
-use ir_types::context::Context;
-use ir_types::ids::{AttrId, NameId, OpId, TypeId};
-use ir_types::word::Word;
+use ir_event::trees::tree::TreeOp;
+use ir_event::trees::value::Value;
+use ir_event::types::context::Context;
+use ir_event::types::ids::{AttrId, NameId, OpId, TypeId};
+use ir_event::types::word::Word;
 use std::alloc::{AllocError, Global};
 
 /// Whether operations of a name are made with overflow flags.

@@ -1,29 +1,29 @@
 //! The plan of a rule at an operation.
 ghost use Rattle.std.specs.Prelude.{◌≡◌, false, true, IfOk, IfSome, Some, option_map};
 ghost use Rattle.ir_event.specs.Modules.{NodeIsOf, module_in};
-ghost use Rattle.patterns_base.specs.Looks.{front_of, is_clean as clean_at};
-ghost use Rattle.patterns_base.specs.Rewrites.{edits_of};
-ghost use Rattle.patterns_base.specs.RuleNames.{is_lowering};
-ghost use Rattle.patterns_base.specs.declared.rule.Rule.TheVariants.{EraseDead};
+ghost use Rattle.patterns_facts.specs.base.Looks.{front_of, is_clean as clean_at};
+ghost use Rattle.patterns_facts.specs.base.Rewrites.{edits_of};
+ghost use Rattle.patterns_facts.specs.base.RuleNames.{is_lowering};
+ghost use Rattle.patterns_facts.specs.base.declared.rule.Rule.TheVariants.{EraseDead};
 ghost use Rattle.patterns_plans.specs.Planned.{IsDead};
 ghost use Rattle.patterns_lowering.specs.Planned.{IsCleanAt, IsLoweredAt};
-ghost use Rattle.patterns_reads.specs.Plans.{PlanIsOf};
-ghost use Rattle.patterns_reads.specs.Reads.{head_at, head_in};
+ghost use Rattle.patterns_plans.specs.reads.Plans.{PlanIsOf};
+ghost use Rattle.patterns_plans.specs.reads.Reads.{head_at, head_in};
 ghost use Rattle.patterns.specs.Planned.{IsMadeFor, IsPlanFor, MadeIsOf, made_edits, planned_edits};
 
+use ir_event::store::node::Node;
+use ir_event::trees::place::Place;
+use ir_event::types::ids::OpId;
 use ir_event::world::World;
-use ir_store::node::Node;
-use ir_tree::place::Place;
-use ir_types::ids::OpId;
-use patterns_base::rule::Rule;
+use patterns_facts::base::rule::Rule;
 use patterns_lowering::plan::Lowering;
 use patterns_lowering::plans::plan_lowered;
+use patterns_lowering::regions::plans::{plan_open_branch, plan_open_loop, plan_stop_loop};
 use patterns_plans::dead::erase;
 use patterns_plans::planned::plan;
-use patterns_reads::clean::is_clean;
-use patterns_reads::look::{front, shown};
-use patterns_reads::plan::Plan;
-use patterns_regions::plans::{plan_open_branch, plan_open_loop, plan_stop_loop};
+use patterns_plans::reads::clean::is_clean;
+use patterns_plans::reads::look::{front, shown};
+use patterns_plans::reads::plan::Plan;
 use std::alloc::{AllocError, Global};
 
 /// What a rule makes of an operation, before anything is interned for it.

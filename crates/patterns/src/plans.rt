@@ -1,12 +1,12 @@
 //! The edits of each plan: what is new is interned, and then put in.
 ghost use Rattle.std.specs.Prelude.{◌≡◌, ◌+◌, ◌≤◌, IfOk, IfErr};
-ghost use Rattle.ir_types.specs.Things.{IsName, IsType};
-ghost use Rattle.ir_types.specs.Terms.{name_term, type_term};
-ghost use Rattle.ir_tree.specs.Limits.{most_next};
-ghost use Rattle.patterns_base.specs.Made.{cast};
-ghost use Rattle.patterns_base.specs.Makes.{give_constant, give_new};
-ghost use Rattle.patterns_reads.specs.Plans.{choosing, combined, dividing_by, mirroring, subtracting};
-ghost use Rattle.patterns_runs.specs.Interning.{Added, IsNoRoom};
+ghost use Rattle.ir_event.specs.types.Things.{IsName, IsType};
+ghost use Rattle.ir_event.specs.types.Terms.{name_term, type_term};
+ghost use Rattle.ir_event.specs.trees.Limits.{most_next};
+ghost use Rattle.patterns_facts.specs.base.Made.{cast};
+ghost use Rattle.patterns_facts.specs.base.Makes.{give_constant, give_new};
+ghost use Rattle.patterns_plans.specs.reads.Plans.{choosing, combined, dividing_by, mirroring, subtracting};
+ghost use Rattle.patterns_lowering.specs.runs.Interning.{Added, IsNoRoom};
 ghost use Rattle.patterns.specs.Interned.{DifferenceAttrs};
 ghost use Rattle.patterns.specs.Making.{StandsFor};
 
@@ -17,11 +17,11 @@ use crate::edits::{
 use crate::interned::{flags_attr, flags_for, integer_type, predicate_attr, value_attr};
 use crate::site::Site;
 use ir_event::analysis::Analysis;
-use ir_tree::value::Value;
-use ir_types::ids::{AttrId, NameId, TypeId};
-use ir_types::refusal::Refusal;
-use patterns_runs::Bench;
-use patterns_runs::edit::Edit;
+use ir_event::trees::value::Value;
+use ir_event::types::ids::{AttrId, NameId, TypeId};
+use ir_event::types::refusal::Refusal;
+use patterns_lowering::runs::Bench;
+use patterns_lowering::runs::edit::Edit;
 use std::alloc::Global;
 
 /// A new constant.

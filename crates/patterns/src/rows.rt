@@ -1,12 +1,12 @@
 //! The rules of a list, by the names of operations.
 ghost use Rattle.std.specs.Prelude.{◌≡◌, IfOk};
 ghost use Rattle.std.specs.List.{filter, list_any};
-ghost use Rattle.patterns_base.specs.RuleNames.{same_rule};
+ghost use Rattle.patterns_facts.specs.base.RuleNames.{same_rule};
 ghost use Rattle.patterns.specs.Rows.{AreRowsOf, IsByName, row_at};
 
-use ir_types::ids::NameId;
-use patterns_base::rule::Rule;
-use patterns_base::table::rules_of;
+use ir_event::types::ids::NameId;
+use patterns_facts::base::rule::Rule;
+use patterns_facts::base::table::rules_of;
 use std::alloc::{AllocError, Global};
 
 /// Some rules in the order in which they are tried, with those that there may be at operations of each name, so that

@@ -1,6 +1,6 @@
 //! Where a rule puts what it makes.
-use ir_tree::place::Place;
-use ir_types::ids::OpId;
+use ir_event::trees::place::Place;
+use ir_event::types::ids::OpId;
 
 /// The place in front of an operation, the next free id, and the operation.
 #[derive(Clone, Copy)]

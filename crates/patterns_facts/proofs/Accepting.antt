@@ -1,5 +1,5 @@
 -- That no edit is refused, as a fact of one rule.
-use Rattle.patterns_base.specs.declared.rule.Rule.{Rule}
+use Rattle.patterns_yields.specs.base.declared.rule.Rule.{Rule}
 use Rattle.patterns_facts.proofs.Accepted.{are_accepted}
 use Rattle.patterns_facts.specs.Facts.{IsAccepted}
 

@@ -2,23 +2,23 @@
 use Rattle.std.proofs.Common.{◌≡◌, refl, ap, sym, ◌∙◌, subst, ℕ, ◌+◌, ◌<◌, ◌≤◌, Bool, true, false, true≢false, not, ◌&&◌, ◌||◌, eqb, eq-eqb, eqb-true, List, [], ◌∷◌, ◌++◌, length, map, Option, Some, None, option_map, inl, inr, ◌⊎◌, arith, append-nil, append_assoc}
 use Rattle.std.specs.List.{list_any}
 use Rattle.std.specs.Prelude.{nat_lt}
-use Rattle.ir_tree.specs.declared.value.Value.{Value}
-use Rattle.ir_tree.specs.declared.value.Value.TheVariants.{Result, Arg}
-use Rattle.ir_tree.specs.declared.place.Place.{Place}
-use Rattle.ir_tree.specs.Tree.{HeadOf, OpOf, op, block, OpsOf, no_ops, next, head, regions}
-use Rattle.ir_tree.specs.Ids.{HasDistinctIds, find, has_id}
-use Rattle.ir_tree.specs.Frames.{owner_of}
-use Rattle.ir_tree.specs.Sites.{arguments, shows, results_of, visible}
-use Rattle.ir_tree_laws.specs.Stands.{StepOf, StandOf, gone_in, stand_id, stands, sees}
-use Rattle.ir_tree_laws.specs.Members.{In}
-use Rattle.ir_tree_laws.specs.Values.{region_at}
-use Rattle.ir_tree_laws.proofs.Listed.{bool_cases, both, either, in_right, one_any, or_left, or_right}
-use Rattle.ir_tree_laws.proofs.Readings.{step}
-use Rattle.ir_tree_laws.proofs.Members.{HasAround, has_around, itself, joined_ops, ops_child, same_stand, stand, stand_found, within}
-use Rattle.ir_tree_laws.proofs.Around.{around_there, gone_within, present_stand, stand_present}
-use Rattle.ir_tree_laws.proofs.Put.{child}
-use Rattle.ir_tree_laws.proofs.Sees.{visible_there}
-use Rattle.ir_tree_laws.proofs.Values.{shape}
+use Rattle.ir_event.specs.trees.declared.value.Value.{Value}
+use Rattle.ir_event.specs.trees.declared.value.Value.TheVariants.{Result, Arg}
+use Rattle.ir_event.specs.trees.declared.place.Place.{Place}
+use Rattle.ir_event.specs.trees.Tree.{HeadOf, OpOf, op, block, OpsOf, no_ops, next, head, regions}
+use Rattle.ir_event.specs.trees.Ids.{HasDistinctIds, find, has_id}
+use Rattle.ir_event.specs.trees.Frames.{owner_of}
+use Rattle.ir_event.specs.trees.Sites.{arguments, shows, results_of, visible}
+use Rattle.ir_event.specs.tree_laws.Stands.{StepOf, StandOf, gone_in, stand_id, stands, sees}
+use Rattle.ir_event.specs.tree_laws.Members.{In}
+use Rattle.ir_event.specs.tree_laws.Values.{region_at}
+use Rattle.ir_event.proofs.of_tree_laws.Listed.{bool_cases, both, either, in_right, one_any, or_left, or_right}
+use Rattle.ir_event.proofs.of_tree_laws.Readings.{step}
+use Rattle.ir_event.proofs.of_tree_laws.Members.{HasAround, has_around, itself, joined_ops, ops_child, same_stand, stand, stand_found, within}
+use Rattle.ir_event.proofs.of_tree_laws.Around.{around_there, gone_within, present_stand, stand_present}
+use Rattle.ir_event.proofs.of_tree_laws.Put.{child}
+use Rattle.ir_event.proofs.of_tree_laws.Sees.{visible_there}
+use Rattle.ir_event.proofs.of_tree_laws.Values.{shape}
 use Rattle.patterns_edits.proofs.Front.{cut_at, stands_before, joined_cut}
 use Rattle.patterns_edits.proofs.Inner.{seen_outside}
 use Rattle.patterns_edits.proofs.Moved.{deeper}

@@ -4,34 +4,34 @@ use Rattle.std.specs.Prelude.{is_some, nat_lt, option_and_then, slice_get}
 use Rattle.std.specs.List.{list_any, list_all}
 use Rattle.std.specs.Option.{option_eq}
 use Rattle.std.proofs.lemmas.Bool.{ltb-true, ltb-false}
-use Rattle.ir_types.specs.Words.{is_isolated, is_table}
-use Rattle.ir_types.specs.Terms.{TypeTerm, AttrTerm}
-use Rattle.ir_types.specs.SameTypes.{same_type}
-use Rattle.ir_types.proofs.SameTerms.{type_is}
-use Rattle.ir_tree.specs.declared.value.Value.{Value}
-use Rattle.ir_tree.specs.declared.value.Value.TheVariants.{Arg}
-use Rattle.ir_tree.specs.declared.place.Place.{Place}
-use Rattle.ir_tree.specs.Tree.{OpOf, op, RegionsOf, no_regions, region, block, OpsOf, no_ops, next, head, regions}
-use Rattle.ir_tree.specs.Ids.{HasDistinctIds, find, has_id, op_count}
-use Rattle.ir_tree.specs.Frames.{owner_of}
-use Rattle.ir_tree.specs.Sites.{arguments, operands_visible, results_of, shows, visible}
-use Rattle.ir_tree.specs.Edits.{each_head, ops_each_head, put_value, put_values, region_each_head, regions_each_head, with_value_replaced}
-use Rattle.ir_tree.specs.Uses.{operand_uses, same_value, uses_of}
-use Rattle.ir_tree.specs.Meaning.{Operation}
-use Rattle.ir_tree.proofs.Heads.{head_find}
-use Rattle.ir_tree.proofs.Replaced.{old_unused, others_stay, same_value_refl, same_value_true}
-use Rattle.ir_tree_laws.specs.Members.{In}
-use Rattle.ir_tree_laws.specs.Reasons.{users_see}
-use Rattle.ir_tree_laws.specs.Stands.{StandOf, StepOf, edit_stand, sees as sees_from, stand_id, stands}
-use Rattle.ir_tree_laws.specs.Values.{arguments_at, arguments_of, region_at, type_of_value}
-use Rattle.ir_tree_laws.proofs.Around.{around_there}
-use Rattle.ir_tree_laws.proofs.HeadForm.{edit_ids, in_gather, replaced_keeps, used_here}
-use Rattle.ir_tree_laws.proofs.Heads.{Alike, each_id, each_stands}
-use Rattle.ir_tree_laws.proofs.Readings.{stands_uses}
-use Rattle.ir_tree_laws.proofs.Listed.{all_each, both, both_hold, each_all, either, in_mapped, or_right}
-use Rattle.ir_tree_laws.proofs.Members.{joined_ops, same_stand, stand}
-use Rattle.ir_tree_laws.proofs.Sees.{stands_operands, visible_there}
-use Rattle.ir_tree_laws.proofs.Values.{not_own}
+use Rattle.ir_event.specs.types.Words.{is_isolated, is_table}
+use Rattle.ir_event.specs.types.Terms.{TypeTerm, AttrTerm}
+use Rattle.ir_event.specs.types.SameTypes.{same_type}
+use Rattle.ir_event.proofs.of_types.SameTerms.{type_is}
+use Rattle.ir_event.specs.trees.declared.value.Value.{Value}
+use Rattle.ir_event.specs.trees.declared.value.Value.TheVariants.{Arg}
+use Rattle.ir_event.specs.trees.declared.place.Place.{Place}
+use Rattle.ir_event.specs.trees.Tree.{OpOf, op, RegionsOf, no_regions, region, block, OpsOf, no_ops, next, head, regions}
+use Rattle.ir_event.specs.trees.Ids.{HasDistinctIds, find, has_id, op_count}
+use Rattle.ir_event.specs.trees.Frames.{owner_of}
+use Rattle.ir_event.specs.trees.Sites.{arguments, operands_visible, results_of, shows, visible}
+use Rattle.ir_event.specs.trees.Edits.{each_head, ops_each_head, put_value, put_values, region_each_head, regions_each_head, with_value_replaced}
+use Rattle.ir_event.specs.trees.Uses.{operand_uses, same_value, uses_of}
+use Rattle.ir_event.specs.trees.Meaning.{Operation}
+use Rattle.ir_event.proofs.of_trees.Heads.{head_find}
+use Rattle.ir_event.proofs.of_trees.Replaced.{old_unused, others_stay, same_value_refl, same_value_true}
+use Rattle.ir_event.specs.tree_laws.Members.{In}
+use Rattle.ir_event.specs.tree_laws.Reasons.{users_see}
+use Rattle.ir_event.specs.tree_laws.Stands.{StandOf, StepOf, edit_stand, sees as sees_from, stand_id, stands}
+use Rattle.ir_event.specs.tree_laws.Values.{arguments_at, arguments_of, region_at, type_of_value}
+use Rattle.ir_event.proofs.of_tree_laws.Around.{around_there}
+use Rattle.ir_event.proofs.of_tree_laws.HeadForm.{edit_ids, in_gather, replaced_keeps, used_here}
+use Rattle.ir_event.proofs.of_tree_laws.Heads.{Alike, each_id, each_stands}
+use Rattle.ir_event.proofs.of_tree_laws.Readings.{stands_uses}
+use Rattle.ir_event.proofs.of_tree_laws.Listed.{all_each, both, both_hold, each_all, either, in_mapped, or_right}
+use Rattle.ir_event.proofs.of_tree_laws.Members.{joined_ops, same_stand, stand}
+use Rattle.ir_event.proofs.of_tree_laws.Sees.{stands_operands, visible_there}
+use Rattle.ir_event.proofs.of_tree_laws.Values.{not_own}
 use Rattle.ir_event.specs.Modules.{Module}
 use Rattle.rewriter_machine.specs.Contents.{Edit, all_edited, edited}
 use Rattle.rewriter_machine.specs.Edits.{Replace}
@@ -40,12 +40,12 @@ use Rattle.patterns_edits.proofs.Body.{list_ids}
 use Rattle.patterns_edits.proofs.Given.{seer, user}
 use Rattle.patterns_edits.proofs.Headed as headed
 use Rattle.patterns_edits.proofs.Plans.{StandsAt, sees}
-use Rattle.patterns_base.specs.Looks.{Header}
-use Rattle.patterns_base.specs.Makes.{arguments_from, replaced, replacing}
+use Rattle.patterns_yields.specs.base.Looks.{Header}
+use Rattle.patterns_yields.specs.base.Makes.{arguments_from, replaced, replacing}
 use Rattle.patterns_facts.proofs.Ordered.{Before, before_headed}
 use Rattle.patterns_facts.proofs.Results.{AreGiven, type_kept}
 use Rattle.patterns_facts.proofs.Opened.{left_alone}
-use Rattle.ir_tree_laws.proofs.Reverted.{passed}
+use Rattle.ir_event.proofs.of_tree_laws.Reverted.{passed}
 
 -- who uses an argument of a block of an operation that isn't isolated sees what that sees
 module _ {N T A : Type 0} (isolated : N → Bool) (t : OpOf N T A) (d : HasDistinctIds t) (o : OpOf N T A) (p : List (StepOf N T A)) (there : In (stand o p) (stands [] t)) (opened : isolated (head o).name ≡ false) where

@@ -2,23 +2,23 @@
 use Rattle.std.proofs.Common.{◌≡◌, refl, ap, sym, ◌∙◌, ℕ, List, [], ◌∷◌, Bool, true, false, cond, eqb, Option, Some}
 use Rattle.std.proofs.Common.{None, inl, inr}
 use Rattle.std.specs.Prelude.{codes, is_some, option_map, int_lt}
-use Rattle.ir_types.specs.Terms.{TypeTerm, AttrTerm}
-use Rattle.ir_tree.specs.declared.value.Value.{Value}
-use Rattle.ir_tree.specs.declared.place.Place.{Place}
-use Rattle.ir_tree.specs.Tree.{RegionOf, empty, block, head, regions}
-use Rattle.ir_tree.specs.Meaning.{Operation}
-use Rattle.ir_tree_laws.specs.Values.{region_at}
+use Rattle.ir_event.specs.types.Terms.{TypeTerm, AttrTerm}
+use Rattle.ir_event.specs.trees.declared.value.Value.{Value}
+use Rattle.ir_event.specs.trees.declared.place.Place.{Place}
+use Rattle.ir_event.specs.trees.Tree.{RegionOf, empty, block, head, regions}
+use Rattle.ir_event.specs.trees.Meaning.{Operation}
+use Rattle.ir_event.specs.tree_laws.Values.{region_at}
 use Rattle.rewriter_machine.specs.Edits.{Erase}
-use Rattle.patterns_base.specs.Keeps.{given}
-use Rattle.patterns_base.specs.Words.{named}
-use Rattle.patterns_base.specs.Looks.{Header, Ended, when, is_clean, known, ended, body}
-use Rattle.patterns_base.specs.Makes.{results_from}
-use Rattle.patterns_base.specs.Opening.{Loop, chosen, by_condition, never, by_bounds, by_end, loop_from, open_branch}
-use Rattle.patterns_base.specs.Opening.{open_loop, stop_loop, reading, once}
-use Rattle.patterns_base.specs.Rules.{rule}
-use Rattle.ir_tree_laws.specs.Members.{In}
-use Rattle.patterns_base.specs.declared.rule.Rule.TheVariants.{OpenBranch, OpenLoop, StopLoop}
-use Rattle.patterns_base.proofs.Dispatch.{only_listed}
+use Rattle.patterns_yields.specs.base.Keeps.{given}
+use Rattle.patterns_yields.specs.base.Words.{named}
+use Rattle.patterns_yields.specs.base.Looks.{Header, Ended, when, is_clean, known, ended, body}
+use Rattle.patterns_yields.specs.base.Makes.{results_from}
+use Rattle.patterns_yields.specs.base.Opening.{Loop, chosen, by_condition, never, by_bounds, by_end, loop_from, open_branch}
+use Rattle.patterns_yields.specs.base.Opening.{open_loop, stop_loop, reading, once}
+use Rattle.patterns_yields.specs.base.Rules.{rule}
+use Rattle.ir_event.specs.tree_laws.Members.{In}
+use Rattle.patterns_yields.specs.base.declared.rule.Rule.TheVariants.{OpenBranch, OpenLoop, StopLoop}
+use Rattle.patterns_yields.proofs.of_base.Dispatch.{only_listed}
 use Rattle.patterns_facts.specs.Alike.{Same, ShowsAlike, EndsAlike, shape_of}
 use Rattle.patterns_facts.specs.Facts.{Facts}
 use Rattle.patterns_facts.proofs.Near.{none_there, still, tested, either, of_some, of_known, still_replacing, open_fine, Fine}

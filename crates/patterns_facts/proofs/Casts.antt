@@ -1,21 +1,21 @@
 -- Rules on casts of casts.
 use Rattle.std.proofs.Common.{◌≡◌, refl, ℕ, Some, ◌||◌}
 use Rattle.std.specs.Prelude.{codes, nat_le}
-use Rattle.ir_types.specs.Readings.{type_width}
-use Rattle.ir_tree.specs.declared.place.Place.{Place}
-use Rattle.ir_tree.specs.Tree.{head}
-use Rattle.ir_tree.specs.Meaning.{Operation}
-use Rattle.patterns_base.specs.Words.{named, among, extensions}
-use Rattle.patterns_base.specs.Looks.{Header, One, is_of_type, source, source_among, one, giver}
-use Rattle.patterns_base.specs.Makes.{give}
-use Rattle.patterns_base.specs.Casting.{resizing, recast, unrealized, back_from, through_index, extend_extension}
-use Rattle.patterns_base.specs.Casting.{cut_cast, cast_back}
-use Rattle.patterns_base.specs.Rules.{rule}
-use Rattle.ir_tree_laws.specs.Members.{In}
+use Rattle.ir_event.specs.types.Readings.{type_width}
+use Rattle.ir_event.specs.trees.declared.place.Place.{Place}
+use Rattle.ir_event.specs.trees.Tree.{head}
+use Rattle.ir_event.specs.trees.Meaning.{Operation}
+use Rattle.patterns_yields.specs.base.Words.{named, among, extensions}
+use Rattle.patterns_yields.specs.base.Looks.{Header, One, is_of_type, source, source_among, one, giver}
+use Rattle.patterns_yields.specs.base.Makes.{give}
+use Rattle.patterns_yields.specs.base.Casting.{resizing, recast, unrealized, back_from, through_index, extend_extension}
+use Rattle.patterns_yields.specs.base.Casting.{cut_cast, cast_back}
+use Rattle.patterns_yields.specs.base.Rules.{rule}
+use Rattle.ir_event.specs.tree_laws.Members.{In}
 use Rattle.patterns_laws.specs.Words.{index_casts}
 use Rattle.patterns_laws.proofs.Recast.{signed_twice, unsigned_twice, signed_of_unsigned, cut_twice, cut_back_signed, cut_back_unsigned, all_came_back}
-use Rattle.patterns_base.specs.declared.rule.Rule.TheVariants.{ExtendExtension, CutCast, CastBack}
-use Rattle.patterns_base.proofs.Dispatch.{only_listed}
+use Rattle.patterns_yields.specs.base.declared.rule.Rule.TheVariants.{ExtendExtension, CutCast, CastBack}
+use Rattle.patterns_yields.proofs.of_base.Dispatch.{only_listed}
 use Rattle.patterns_facts.specs.Alike.{Same, SeesAlike}
 use Rattle.patterns_facts.specs.Facts.{Facts}
 use Rattle.patterns_facts.proofs.Near.{still, tested, either, of_some, Fine}

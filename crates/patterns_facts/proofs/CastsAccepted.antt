@@ -3,24 +3,24 @@ use Rattle.std.proofs.Common.{◌≡◌, refl, ap, sym, ◌∙◌, subst, ℕ, z
 use Rattle.std.specs.Prelude.{nat_lt, option_and_then, slice_get}
 use Rattle.std.specs.List.{list_all}
 use Rattle.std.proofs.lemmas.Bool.{lt-ltb}
-use Rattle.ir_types.specs.Words.{is_isolated}
-use Rattle.ir_types.specs.Terms.{TypeTerm, Index, Integer, Function, Memref}
-use Rattle.ir_types.specs.SameTypes.{same_type}
-use Rattle.ir_types.proofs.SameTerms.{type_refl}
-use Rattle.ir_tree.specs.declared.value.Value.{Value}
-use Rattle.ir_tree.specs.declared.value.Value.TheVariants.{Result}
-use Rattle.ir_tree.specs.declared.place.Place.{Place}
-use Rattle.ir_tree.specs.Tree.{head, regions}
-use Rattle.ir_tree.specs.Ids.{find, has_id, op_count}
-use Rattle.ir_tree.specs.Limits.{most_next, most_ops, op_fits}
-use Rattle.ir_tree.specs.Sites.{visible}
-use Rattle.ir_tree.specs.Meaning.{Operation}
-use Rattle.ir_tree_laws.specs.Members.{In}
-use Rattle.ir_tree_laws.specs.Reasons.{hold_none}
-use Rattle.ir_tree_laws.specs.Values.{type_of_value}
-use Rattle.ir_tree_laws.proofs.Around.{stand_present}
-use Rattle.ir_tree_laws.proofs.Listed.{each_all}
-use Rattle.ir_tree_laws.proofs.Members.{found_stands}
+use Rattle.ir_event.specs.types.Words.{is_isolated}
+use Rattle.ir_event.specs.types.Terms.{TypeTerm, Index, Integer, Function, Memref}
+use Rattle.ir_event.specs.types.SameTypes.{same_type}
+use Rattle.ir_event.proofs.of_types.SameTerms.{type_refl}
+use Rattle.ir_event.specs.trees.declared.value.Value.{Value}
+use Rattle.ir_event.specs.trees.declared.value.Value.TheVariants.{Result}
+use Rattle.ir_event.specs.trees.declared.place.Place.{Place}
+use Rattle.ir_event.specs.trees.Tree.{head, regions}
+use Rattle.ir_event.specs.trees.Ids.{find, has_id, op_count}
+use Rattle.ir_event.specs.trees.Limits.{most_next, most_ops, op_fits}
+use Rattle.ir_event.specs.trees.Sites.{visible}
+use Rattle.ir_event.specs.trees.Meaning.{Operation}
+use Rattle.ir_event.specs.tree_laws.Members.{In}
+use Rattle.ir_event.specs.tree_laws.Reasons.{hold_none}
+use Rattle.ir_event.specs.tree_laws.Values.{type_of_value}
+use Rattle.ir_event.proofs.of_tree_laws.Around.{stand_present}
+use Rattle.ir_event.proofs.of_tree_laws.Listed.{each_all}
+use Rattle.ir_event.proofs.of_tree_laws.Members.{found_stands}
 use Rattle.ir_event.specs.Modules.{Module}
 use Rattle.rewriter_machine.specs.Contents.{Edit, all_edited, edited}
 use Rattle.rewriter_machine.specs.Edits.{Erase, Make}
@@ -30,15 +30,15 @@ use Rattle.patterns_edits.proofs.Headed.{found_there}
 use Rattle.patterns_edits.proofs.Made as made_there
 use Rattle.patterns_edits.proofs.Plans as plans
 use Rattle.patterns_edits.proofs.Plans.{StandsAt, sees}
-use Rattle.patterns_base.specs.Keeps.{lowered_type}
-use Rattle.patterns_base.specs.Looks.{Header, is_index}
-use Rattle.patterns_base.specs.Made.{bridge}
-use Rattle.patterns_base.specs.Makes.{replacing, results_from}
-use Rattle.patterns_base.specs.Lowering.{bridges, crossed, indices, marked}
+use Rattle.patterns_yields.specs.base.Keeps.{lowered_type}
+use Rattle.patterns_yields.specs.base.Looks.{Header, is_index}
+use Rattle.patterns_yields.specs.base.Made.{bridge}
+use Rattle.patterns_yields.specs.base.Makes.{replacing, results_from}
+use Rattle.patterns_yields.specs.base.Lowering.{bridges, crossed, indices, marked}
 use Rattle.patterns_facts.proofs.Kept as kept
 use Rattle.patterns_facts.proofs.Kept.{Kept, kept_both, kept_none}
 use Rattle.patterns_facts.proofs.Results.{AreGiven, results_free}
-use Rattle.patterns_base.proofs.Facts.{kept_type}
+use Rattle.patterns_yields.proofs.of_base.Facts.{kept_type}
 use Rattle.std.proofs.lemmas.Option.{same_Some}
 
 -- there is room for k operations

@@ -1,20 +1,20 @@
 -- Rules on choices between two values.
 use Rattle.std.proofs.Common.{◌≡◌, refl, ℕ, [], ◌∷◌, ◌&&◌}
 use Rattle.std.specs.Prelude.{codes}
-use Rattle.ir_tree.specs.declared.place.Place.{Place}
-use Rattle.ir_tree.specs.Tree.{head}
-use Rattle.ir_tree.specs.Meaning.{Operation}
+use Rattle.ir_event.specs.trees.declared.place.Place.{Place}
+use Rattle.ir_event.specs.trees.Tree.{head}
+use Rattle.ir_event.specs.trees.Meaning.{Operation}
 use Rattle.rewriter_machine.specs.Edits.{SetOperand}
-use Rattle.patterns_base.specs.Words.{named}
-use Rattle.patterns_base.specs.Looks.{Header, is_number, source, known, two, three}
-use Rattle.patterns_base.specs.Folding.{choose_same, choose_known, choose_truth, choose_opposite}
-use Rattle.patterns_base.specs.Rules.{rule}
-use Rattle.ir_types.specs.SameTypes.{same_type}
-use Rattle.ir_tree.specs.Uses.{same_value}
+use Rattle.patterns_yields.specs.base.Words.{named}
+use Rattle.patterns_yields.specs.base.Looks.{Header, is_number, source, known, two, three}
+use Rattle.patterns_yields.specs.base.Folding.{choose_same, choose_known, choose_truth, choose_opposite}
+use Rattle.patterns_yields.specs.base.Rules.{rule}
+use Rattle.ir_event.specs.types.SameTypes.{same_type}
+use Rattle.ir_event.specs.trees.Uses.{same_value}
 use Rattle.patterns_laws.specs.Made.{i1}
 use Rattle.patterns_laws.proofs.Chosen.{one_chosen, chosen_by_constant, truth_chosen, chosen_by_opposite}
-use Rattle.patterns_base.specs.declared.rule.Rule.TheVariants.{ChooseSame, ChooseKnown, ChooseTruth, ChooseOpposite}
-use Rattle.patterns_base.proofs.Dispatch.{only_listed}
+use Rattle.patterns_yields.specs.base.declared.rule.Rule.TheVariants.{ChooseSame, ChooseKnown, ChooseTruth, ChooseOpposite}
+use Rattle.patterns_yields.proofs.of_base.Dispatch.{only_listed}
 use Rattle.patterns_facts.specs.Alike.{Same, SeesAlike}
 use Rattle.patterns_facts.specs.Facts.{Facts}
 use Rattle.patterns_facts.proofs.Near.{still, tested, of_some, Fine}

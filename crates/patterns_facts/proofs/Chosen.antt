@@ -3,34 +3,34 @@ use Rattle.std.proofs.Common.{◌≡◌, refl, ap, sym, ◌∙◌, subst, ℕ, z
 use Rattle.std.specs.Prelude.{codes, nat_lt, option_and_then, slice_get}
 use Rattle.std.proofs.lemmas.List.{length-map}
 use Rattle.std.proofs.lemmas.Slice.Eq.{bytes_eq-Decides}
-use Rattle.ir_types.specs.Words.{is_isolated, is_table}
-use Rattle.ir_types.specs.Terms.{TypeTerm, Index, AttrTerm}
-use Rattle.ir_tree.specs.declared.value.Value.{Value}
-use Rattle.ir_tree.specs.declared.value.Value.TheVariants.{Result}
-use Rattle.ir_tree.specs.declared.place.Place.{Place}
-use Rattle.ir_tree.specs.Tree.{OpsOf, block, next, no_ops, head, regions}
-use Rattle.ir_tree.specs.Ids.{find, has_id}
-use Rattle.ir_tree.specs.Meaning.{Operation}
-use Rattle.ir_tree_laws.specs.Members.{In}
-use Rattle.ir_tree_laws.specs.Reasons.{hold_none, with_id}
-use Rattle.ir_tree_laws.specs.Stands.{StepOf}
-use Rattle.ir_tree_laws.specs.Values.{region_at, type_of_value}
-use Rattle.ir_tree_laws.proofs.Around.{stand_present}
-use Rattle.ir_tree_laws.proofs.Listed.{both, in_right}
-use Rattle.ir_tree_laws.proofs.Members.{found_stands, joined_ops}
-use Rattle.ir_tree_laws.proofs.Readings.{step}
+use Rattle.ir_event.specs.types.Words.{is_isolated, is_table}
+use Rattle.ir_event.specs.types.Terms.{TypeTerm, Index, AttrTerm}
+use Rattle.ir_event.specs.trees.declared.value.Value.{Value}
+use Rattle.ir_event.specs.trees.declared.value.Value.TheVariants.{Result}
+use Rattle.ir_event.specs.trees.declared.place.Place.{Place}
+use Rattle.ir_event.specs.trees.Tree.{OpsOf, block, next, no_ops, head, regions}
+use Rattle.ir_event.specs.trees.Ids.{find, has_id}
+use Rattle.ir_event.specs.trees.Meaning.{Operation}
+use Rattle.ir_event.specs.tree_laws.Members.{In}
+use Rattle.ir_event.specs.tree_laws.Reasons.{hold_none, with_id}
+use Rattle.ir_event.specs.tree_laws.Stands.{StepOf}
+use Rattle.ir_event.specs.tree_laws.Values.{region_at, type_of_value}
+use Rattle.ir_event.proofs.of_tree_laws.Around.{stand_present}
+use Rattle.ir_event.proofs.of_tree_laws.Listed.{both, in_right}
+use Rattle.ir_event.proofs.of_tree_laws.Members.{found_stands, joined_ops}
+use Rattle.ir_event.proofs.of_tree_laws.Readings.{step}
 use Rattle.ir_event.specs.Modules.{Module}
 use Rattle.rewriter_machine.specs.Contents.{Edit, edited}
 use Rattle.rewriter_machine.specs.Edits.{Erase, Make}
 use Rattle.patterns_edits.specs.Lists.{Free}
 use Rattle.patterns_edits.proofs.Front.{cut_at}
 use Rattle.patterns_edits.proofs.Plans.{StandsAt, sees}
-use Rattle.patterns_base.specs.Keeps.{given, lowered_type}
-use Rattle.patterns_base.specs.Words.{named}
-use Rattle.patterns_base.specs.Looks.{Ended, Header, body, is_index, is_index_value}
-use Rattle.patterns_base.specs.Made.{i64}
-use Rattle.patterns_base.specs.Makes.{made_by, replaced, replacing, results_from}
-use Rattle.patterns_base.specs.Lowering.{any, before_in, bridges, brought, crossed, crossing, give_lowered, index_operands, index_results, indices, lowered_id, lowered_if, lowered_op, make_lowered, marked, move_over, take_over, lower_choice}
+use Rattle.patterns_yields.specs.base.Keeps.{given, lowered_type}
+use Rattle.patterns_yields.specs.base.Words.{named}
+use Rattle.patterns_yields.specs.base.Looks.{Ended, Header, body, is_index, is_index_value}
+use Rattle.patterns_yields.specs.base.Made.{i64}
+use Rattle.patterns_yields.specs.base.Makes.{made_by, replaced, replacing, results_from}
+use Rattle.patterns_yields.specs.base.Lowering.{any, before_in, bridges, brought, crossed, crossing, give_lowered, index_operands, index_results, indices, lowered_id, lowered_if, lowered_op, make_lowered, marked, move_over, take_over, lower_choice}
 use Rattle.patterns_yields.specs.Yields.{IsCleanOf}
 use Rattle.patterns_yields.proofs.Ends.{Ending, ending}
 use Rattle.patterns_yields.proofs.Yielding.{choices_ask_truth, choices_hand_on_all}
@@ -47,10 +47,10 @@ use Rattle.patterns_facts.proofs.Spots.{Spot, here_is, sees_operand, stands_ther
 use Rattle.patterns_facts.proofs.Started.{beside_out, fit_of, fresh, lowered_at, started, started_block, started_side}
 use Rattle.patterns_facts.proofs.Steps.{Across, Fit, there_of}
 use Rattle.patterns_facts.proofs.Within as within_y
-use Rattle.patterns_base.proofs.Facts.{bridges_make, when_some}
+use Rattle.patterns_yields.proofs.of_base.Facts.{bridges_make, when_some}
 use Rattle.patterns_laws.proofs.KnownFolds.{given_some}
 use Rattle.patterns_facts.proofs.Opened.{left_alone}
-use Rattle.patterns_base.proofs.Making.{joined}
+use Rattle.patterns_yields.proofs.of_base.Making.{joined}
 use Rattle.std.proofs.lemmas.Option.{same_Some}
 
 low : 0 ≤ 1

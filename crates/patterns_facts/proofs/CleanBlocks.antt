@@ -3,23 +3,23 @@ use Rattle.std.proofs.Common.{◌≡◌, refl, ap, sym, ◌∙◌, subst, ℕ, z
 use Rattle.std.specs.Prelude.{◌==◌, codes, is_some, option_and_then, slice_get}
 use Rattle.std.specs.Cmp.{unsigned_Decides}
 use Rattle.std.specs.Str.{bytes_eq}
-use Rattle.ir_types.specs.Words.{is_isolated, is_table}
-use Rattle.ir_types.specs.Terms.{TypeTerm, AttrTerm}
-use Rattle.ir_tree.specs.declared.value.Value.{Value}
-use Rattle.ir_tree.specs.declared.value.Value.TheVariants.{Arg}
-use Rattle.ir_tree.specs.declared.place.Place.{Place}
-use Rattle.ir_tree.specs.Tree.{op, RegionOf, head, regions}
-use Rattle.ir_tree.specs.Uses.{operand_uses, same_value, uses_of}
-use Rattle.ir_tree.specs.Meaning.{Operation}
-use Rattle.ir_tree.proofs.Replaced.{same_value_true}
-use Rattle.ir_store.specs.Nodes.{node_of, regions_arguments}
-use Rattle.ir_tree_laws.specs.Stands.{StepOf, stand_id, stands}
-use Rattle.ir_tree_laws.specs.Members.{In}
-use Rattle.ir_tree_laws.specs.Values.{arguments_at, arguments_of, has_value, region_at}
-use Rattle.ir_tree_laws.proofs.Listed.{neither}
-use Rattle.ir_tree_laws.proofs.Members.{found_stands, stand, stand_of_member}
-use Rattle.ir_tree_laws.proofs.Readings.{stands_uses}
-use Rattle.ir_tree_laws.proofs.Values.{seen_by}
+use Rattle.ir_event.specs.types.Words.{is_isolated, is_table}
+use Rattle.ir_event.specs.types.Terms.{TypeTerm, AttrTerm}
+use Rattle.ir_event.specs.trees.declared.value.Value.{Value}
+use Rattle.ir_event.specs.trees.declared.value.Value.TheVariants.{Arg}
+use Rattle.ir_event.specs.trees.declared.place.Place.{Place}
+use Rattle.ir_event.specs.trees.Tree.{op, RegionOf, head, regions}
+use Rattle.ir_event.specs.trees.Uses.{operand_uses, same_value, uses_of}
+use Rattle.ir_event.specs.trees.Meaning.{Operation}
+use Rattle.ir_event.proofs.of_trees.Replaced.{same_value_true}
+use Rattle.ir_event.specs.store.Nodes.{node_of, regions_arguments}
+use Rattle.ir_event.specs.tree_laws.Stands.{StepOf, stand_id, stands}
+use Rattle.ir_event.specs.tree_laws.Members.{In}
+use Rattle.ir_event.specs.tree_laws.Values.{arguments_at, arguments_of, has_value, region_at}
+use Rattle.ir_event.proofs.of_tree_laws.Listed.{neither}
+use Rattle.ir_event.proofs.of_tree_laws.Members.{found_stands, stand, stand_of_member}
+use Rattle.ir_event.proofs.of_tree_laws.Readings.{stands_uses}
+use Rattle.ir_event.proofs.of_tree_laws.Values.{seen_by}
 use Rattle.op_registry.specs.Rows.{RegionRow, Row, TypesRow, rows}
 use Rattle.op_registry.specs.Registry.{row_of}
 use Rattle.listeners_surroundings.specs.Surroundings.{surround}
@@ -30,7 +30,7 @@ use Rattle.ir_event.specs.Modules.{Module}
 use Rattle.patterns_yields.proofs.Ends.{arguments_read}
 use Rattle.patterns_yields.proofs.Unbroken.{Stand, Unbroken, clean_unbroken}
 use Rattle.patterns_facts.proofs.Spots.{Spot, own_operand}
-use Rattle.ir_tree_laws.proofs.Changed.{gather_none}
+use Rattle.ir_event.proofs.of_tree_laws.Changed.{gather_none}
 use Rattle.listeners_surroundings.proofs.Reading.{head_shown}
 use Rattle.effects.proofs.Unused.{none_here}
 use Rattle.std.proofs.lemmas.Bool.{not-false}

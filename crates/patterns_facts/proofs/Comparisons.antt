@@ -1,15 +1,15 @@
 -- Rules on comparisons.
 use Rattle.std.proofs.Common.{◌≡◌, refl, ap, ℕ, eqb, ◌&&◌, ◌||◌}
-use Rattle.ir_tree.specs.declared.place.Place.{Place}
-use Rattle.ir_tree.specs.Tree.{head}
-use Rattle.ir_tree.specs.Meaning.{Operation}
-use Rattle.patterns_base.specs.Looks.{Header, two, predicate}
-use Rattle.patterns_base.specs.Folding.{compare_itself, mirror_comparison, compare_zero}
-use Rattle.patterns_base.specs.Rules.{rule}
-use Rattle.ir_tree.specs.Uses.{same_value}
+use Rattle.ir_event.specs.trees.declared.place.Place.{Place}
+use Rattle.ir_event.specs.trees.Tree.{head}
+use Rattle.ir_event.specs.trees.Meaning.{Operation}
+use Rattle.patterns_yields.specs.base.Looks.{Header, two, predicate}
+use Rattle.patterns_yields.specs.base.Folding.{compare_itself, mirror_comparison, compare_zero}
+use Rattle.patterns_yields.specs.base.Rules.{rule}
+use Rattle.ir_event.specs.trees.Uses.{same_value}
 use Rattle.patterns_laws.proofs.Chosen.{itself_compared, comparison_mirrored, nothing_below, all_at_least}
-use Rattle.patterns_base.specs.declared.rule.Rule.TheVariants.{CompareItself, MirrorComparison, CompareZero}
-use Rattle.patterns_base.proofs.Dispatch.{only_listed}
+use Rattle.patterns_yields.specs.base.declared.rule.Rule.TheVariants.{CompareItself, MirrorComparison, CompareZero}
+use Rattle.patterns_yields.proofs.of_base.Dispatch.{only_listed}
 use Rattle.patterns_facts.specs.Alike.{Same, SeesAlike}
 use Rattle.patterns_facts.specs.Facts.{Facts}
 use Rattle.patterns_facts.proofs.Near.{still, tested, of_some, Fine}

@@ -1,31 +1,31 @@
 -- Rules that compute with constants.
 use Rattle.std.proofs.Common.{◌≡◌, refl, ap, ◌∙◌, subst, ℕ, List, [], ◌∷◌, Option, Some, None, ◌&&◌, ◌||◌, not, map}
 use Rattle.std.specs.Prelude.{codes, is_some}
-use Rattle.ir_types.specs.Terms.{TypeTerm}
-use Rattle.ir_tree.specs.declared.value.Value.{Value}
-use Rattle.ir_tree.specs.declared.place.Place.{Place}
-use Rattle.ir_tree.specs.Tree.{head}
-use Rattle.ir_tree.specs.Meaning.{Operation}
+use Rattle.ir_event.specs.types.Terms.{TypeTerm}
+use Rattle.ir_event.specs.trees.declared.value.Value.{Value}
+use Rattle.ir_event.specs.trees.declared.place.Place.{Place}
+use Rattle.ir_event.specs.trees.Tree.{head}
+use Rattle.ir_event.specs.trees.Meaning.{Operation}
 use Rattle.dialects_int.specs.Folds.{Known, fold_of}
-use Rattle.patterns_base.specs.Words.{named, among}
-use Rattle.patterns_base.specs.Looks.{Header, Two, when, source, known, two}
-use Rattle.patterns_base.specs.Folding.{folded_to, regrouped, fold_to_constant, regroup_constants, add_negative}
-use Rattle.patterns_base.specs.Folding.{may_read}
-use Rattle.patterns_base.specs.Rules.{rule}
+use Rattle.patterns_yields.specs.base.Words.{named, among}
+use Rattle.patterns_yields.specs.base.Looks.{Header, Two, when, source, known, two}
+use Rattle.patterns_yields.specs.base.Folding.{folded_to, regrouped, fold_to_constant, regroup_constants, add_negative}
+use Rattle.patterns_yields.specs.base.Folding.{may_read}
+use Rattle.patterns_yields.specs.base.Rules.{rule}
 use Rattle.std.specs.List.{list_all}
-use Rattle.ir_tree_laws.specs.Members.{In}
+use Rattle.ir_event.specs.tree_laws.Members.{In}
 use Rattle.patterns_laws.specs.Words.{regrouping}
 use Rattle.patterns_laws.proofs.Composed.{all_regrouped, negative_added}
 use Rattle.patterns_laws.proofs.Lowered.{folded}
-use Rattle.patterns_base.specs.declared.rule.Rule.TheVariants.{FoldToConstant, RegroupConstants, AddNegative}
-use Rattle.patterns_base.proofs.Dispatch.{only_listed}
-use Rattle.patterns_base.proofs.Making.{converting_rules_make}
+use Rattle.patterns_yields.specs.base.declared.rule.Rule.TheVariants.{FoldToConstant, RegroupConstants, AddNegative}
+use Rattle.patterns_yields.proofs.of_base.Dispatch.{only_listed}
+use Rattle.patterns_yields.proofs.of_base.Making.{converting_rules_make}
 use Rattle.patterns_facts.specs.Alike.{Same, SeesAlike}
 use Rattle.patterns_facts.specs.Facts.{Facts}
 use Rattle.patterns_facts.proofs.Near.{none_there, still, tested, of_some, Fine}
 use Rattle.patterns_facts.proofs.Looking.{given_alike, when_alike, two_operands, source_alike, known_alike, constant_alike, on_two_alike, inner_two}
 use Rattle.patterns_facts.proofs.Accepting.{are_accepted_at}
-use Rattle.ir_tree_laws.proofs.Sees.{all_same}
+use Rattle.ir_event.proofs.of_tree_laws.Sees.{all_same}
 use Rattle.listeners_surroundings.proofs.Operands.{same_map}
 
 module _ (t : Operation) (n : ℕ) (place : Place) (o : Operation) where

@@ -1,26 +1,26 @@
 -- All operations of a block but the last come in front of the operation that has the block: what the last sees.
 use Rattle.std.proofs.Common.{◌≡◌, refl, ap, sym, ◌∙◌, subst, ℕ, true, false, ◌&&◌, not, eqb, eqb-true, List, [], ◌∷◌, ◌++◌, length, map, Option, Some, None, option_map, inl, inr, arith, append_assoc}
 use Rattle.std.specs.Option.{option_eq}
-use Rattle.ir_types.specs.Words.{is_isolated, is_table}
-use Rattle.ir_types.specs.Terms.{TypeTerm, AttrTerm}
-use Rattle.ir_types.specs.SameTypes.{same_type}
-use Rattle.ir_tree.specs.declared.value.Value.{Value}
-use Rattle.ir_tree.specs.declared.value.Value.TheVariants.{Result, Arg}
-use Rattle.ir_tree.specs.declared.place.Place.{Place}
-use Rattle.ir_tree.specs.Tree.{block, OpsOf, no_ops, next, head, regions}
-use Rattle.ir_tree.specs.Ids.{find}
-use Rattle.ir_tree.specs.Sites.{arguments, shows}
-use Rattle.ir_tree.specs.Uses.{operand_uses, uses_of}
-use Rattle.ir_tree.specs.Meaning.{Operation}
-use Rattle.ir_tree.proofs.Replaced.{same_value_refl}
-use Rattle.ir_tree_laws.specs.Stands.{StandOf, stand_id, stands, sees as sees_from}
-use Rattle.ir_tree_laws.specs.Members.{In}
-use Rattle.ir_tree_laws.specs.Values.{region_at, type_of_value}
-use Rattle.ir_tree_laws.proofs.HeadForm.{in_gather, used_here}
-use Rattle.ir_tree_laws.proofs.Listed.{both, either}
-use Rattle.ir_tree_laws.proofs.Members.{joined_ops, stand, stand_found}
-use Rattle.ir_tree_laws.proofs.Readings.{stands_uses, step}
-use Rattle.ir_tree_laws.proofs.Sees.{visible_there}
+use Rattle.ir_event.specs.types.Words.{is_isolated, is_table}
+use Rattle.ir_event.specs.types.Terms.{TypeTerm, AttrTerm}
+use Rattle.ir_event.specs.types.SameTypes.{same_type}
+use Rattle.ir_event.specs.trees.declared.value.Value.{Value}
+use Rattle.ir_event.specs.trees.declared.value.Value.TheVariants.{Result, Arg}
+use Rattle.ir_event.specs.trees.declared.place.Place.{Place}
+use Rattle.ir_event.specs.trees.Tree.{block, OpsOf, no_ops, next, head, regions}
+use Rattle.ir_event.specs.trees.Ids.{find}
+use Rattle.ir_event.specs.trees.Sites.{arguments, shows}
+use Rattle.ir_event.specs.trees.Uses.{operand_uses, uses_of}
+use Rattle.ir_event.specs.trees.Meaning.{Operation}
+use Rattle.ir_event.proofs.of_trees.Replaced.{same_value_refl}
+use Rattle.ir_event.specs.tree_laws.Stands.{StandOf, stand_id, stands, sees as sees_from}
+use Rattle.ir_event.specs.tree_laws.Members.{In}
+use Rattle.ir_event.specs.tree_laws.Values.{region_at, type_of_value}
+use Rattle.ir_event.proofs.of_tree_laws.HeadForm.{in_gather, used_here}
+use Rattle.ir_event.proofs.of_tree_laws.Listed.{both, either}
+use Rattle.ir_event.proofs.of_tree_laws.Members.{joined_ops, stand, stand_found}
+use Rattle.ir_event.proofs.of_tree_laws.Readings.{stands_uses, step}
+use Rattle.ir_event.proofs.of_tree_laws.Sees.{visible_there}
 use Rattle.listeners_surroundings.proofs.Spots.{stands_in}
 use Rattle.ir_verify_base.specs.Fits.{there}
 use Rattle.ir_verify_base.specs.Types.{same_types}
@@ -31,8 +31,8 @@ use Rattle.patterns_edits.specs.Lists.{Free}
 use Rattle.patterns_edits.proofs.Body.{list_ids}
 use Rattle.patterns_edits.proofs.Headed.{found_there}
 use Rattle.patterns_edits.proofs.Plans.{HasFirst, move_free, move_rest, moving, sees}
-use Rattle.patterns_base.specs.Looks.{Ended, Header}
-use Rattle.patterns_base.specs.Makes.{give_body, replacing, results_from}
+use Rattle.patterns_yields.specs.base.Looks.{Ended, Header}
+use Rattle.patterns_yields.specs.base.Makes.{give_body, replacing, results_from}
 use Rattle.patterns_yields.proofs.Ends.{Ending}
 use Rattle.patterns_facts.proofs.Results.{AreGiven, results_free}
 use Rattle.patterns_facts.proofs.Shifts.{moved_heads, moved_types}

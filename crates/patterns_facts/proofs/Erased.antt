@@ -1,23 +1,23 @@
 -- Operations that stand before another are erased, one after another.
 use Rattle.std.proofs.Common.{◌≡◌, refl, ap, sym, ◌∙◌, subst, ℕ, zero, suc, ◌+◌, ◌<◌, ◌≤◌, Bool, true, false, true≢false, eqb, eq-eqb, eqb-true, List, [], ◌∷◌, ◌++◌, length, map, Option, Some, None, option_map, inl, inr, ◌⊎◌, arith}
-use Rattle.ir_types.specs.Words.{is_isolated}
-use Rattle.ir_types.specs.Terms.{TypeTerm, AttrTerm}
-use Rattle.ir_tree.specs.declared.value.Value.{Value}
-use Rattle.ir_tree.specs.declared.value.Value.TheVariants.{Result}
-use Rattle.ir_tree.specs.declared.place.Place.{Place}
-use Rattle.ir_tree.specs.Tree.{head}
-use Rattle.ir_tree.specs.Ids.{HasDistinctIds, find, has_id, op_count}
-use Rattle.ir_tree.specs.Frames.{owner_of}
-use Rattle.ir_tree.specs.Places.{without}
-use Rattle.ir_tree.specs.Uses.{uses_of}
-use Rattle.ir_tree.specs.Meaning.{Operation}
-use Rattle.ir_tree.specs.WellFormed.{IsWellFormed}
-use Rattle.ir_tree_laws.specs.Stands.{StandOf, StepOf, stands}
-use Rattle.ir_tree_laws.specs.Members.{In}
-use Rattle.ir_tree_laws.proofs.Around.{present_stand, stand_present}
-use Rattle.ir_tree_laws.proofs.Edited.{sight_stays, taken_op_count, taken_uses}
-use Rattle.ir_tree_laws.proofs.Listed.{bool_cases}
-use Rattle.ir_tree_laws.proofs.Members.{HasAround, found_stands, has_around, same_stand, stand, stand_found, within}
+use Rattle.ir_event.specs.types.Words.{is_isolated}
+use Rattle.ir_event.specs.types.Terms.{TypeTerm, AttrTerm}
+use Rattle.ir_event.specs.trees.declared.value.Value.{Value}
+use Rattle.ir_event.specs.trees.declared.value.Value.TheVariants.{Result}
+use Rattle.ir_event.specs.trees.declared.place.Place.{Place}
+use Rattle.ir_event.specs.trees.Tree.{head}
+use Rattle.ir_event.specs.trees.Ids.{HasDistinctIds, find, has_id, op_count}
+use Rattle.ir_event.specs.trees.Frames.{owner_of}
+use Rattle.ir_event.specs.trees.Places.{without}
+use Rattle.ir_event.specs.trees.Uses.{uses_of}
+use Rattle.ir_event.specs.trees.Meaning.{Operation}
+use Rattle.ir_event.specs.trees.WellFormed.{IsWellFormed}
+use Rattle.ir_event.specs.tree_laws.Stands.{StandOf, StepOf, stands}
+use Rattle.ir_event.specs.tree_laws.Members.{In}
+use Rattle.ir_event.proofs.of_tree_laws.Around.{present_stand, stand_present}
+use Rattle.ir_event.proofs.of_tree_laws.Edited.{sight_stays, taken_op_count, taken_uses}
+use Rattle.ir_event.proofs.of_tree_laws.Listed.{bool_cases}
+use Rattle.ir_event.proofs.of_tree_laws.Members.{HasAround, found_stands, has_around, same_stand, stand, stand_found, within}
 use Rattle.ir_event.specs.Modules.{Module}
 use Rattle.rewriter_machine.specs.Contents.{Edit, all_edited, edit_reason, edited}
 use Rattle.rewriter_machine.specs.Edits.{Erase}

@@ -1,13 +1,13 @@
 -- Erasing what is dead.
 use Rattle.std.proofs.Common.{refl, ℕ}
-use Rattle.ir_tree.specs.declared.place.Place.{Place}
-use Rattle.ir_tree.specs.Tree.{head}
-use Rattle.ir_tree.specs.Meaning.{Operation}
-use Rattle.patterns_base.specs.Looks.{Header}
-use Rattle.patterns_base.specs.Folding.{erase_dead}
-use Rattle.patterns_base.specs.Rules.{rule}
-use Rattle.patterns_base.specs.declared.rule.Rule.TheVariants.{EraseDead}
-use Rattle.patterns_base.proofs.Dispatch.{only_listed}
+use Rattle.ir_event.specs.trees.declared.place.Place.{Place}
+use Rattle.ir_event.specs.trees.Tree.{head}
+use Rattle.ir_event.specs.trees.Meaning.{Operation}
+use Rattle.patterns_yields.specs.base.Looks.{Header}
+use Rattle.patterns_yields.specs.base.Folding.{erase_dead}
+use Rattle.patterns_yields.specs.base.Rules.{rule}
+use Rattle.patterns_yields.specs.base.declared.rule.Rule.TheVariants.{EraseDead}
+use Rattle.patterns_yields.proofs.of_base.Dispatch.{only_listed}
 use Rattle.patterns_facts.specs.Facts.{Facts}
 use Rattle.patterns_facts.proofs.Near.{still, tested, Fine}
 use Rattle.patterns_facts.proofs.Looking.{when_alike}

@@ -1,20 +1,20 @@
 -- Rules that say an operation by others.
 use Rattle.std.proofs.Common.{◌≡◌, refl, ℕ}
 use Rattle.std.specs.Prelude.{codes}
-use Rattle.ir_tree.specs.declared.place.Place.{Place}
-use Rattle.ir_tree.specs.Tree.{head}
-use Rattle.ir_tree.specs.Meaning.{Operation}
-use Rattle.patterns_base.specs.Words.{named}
-use Rattle.patterns_base.specs.Looks.{Header, two}
-use Rattle.patterns_base.specs.Rules.{rule}
+use Rattle.ir_event.specs.trees.declared.place.Place.{Place}
+use Rattle.ir_event.specs.trees.Tree.{head}
+use Rattle.ir_event.specs.trees.Meaning.{Operation}
+use Rattle.patterns_yields.specs.base.Words.{named}
+use Rattle.patterns_yields.specs.base.Looks.{Header, two}
+use Rattle.patterns_yields.specs.base.Rules.{rule}
 use Rattle.patterns_laws.proofs.Composed.{complement_added, all_divided}
 use Rattle.patterns_laws.proofs.Lowered.{all_chosen}
-use Rattle.patterns_base.specs.Folding.{expand_min_max, expand_difference, expand_remainder}
-use Rattle.patterns_base.specs.declared.rule.Rule.TheVariants.{ExpandMinMax, ExpandDifference, ExpandRemainder}
-use Rattle.patterns_base.proofs.Dispatch.{only_listed}
-use Rattle.patterns_base.proofs.Making.{converting_rules_make}
+use Rattle.patterns_yields.specs.base.Folding.{expand_min_max, expand_difference, expand_remainder}
+use Rattle.patterns_yields.specs.base.declared.rule.Rule.TheVariants.{ExpandMinMax, ExpandDifference, ExpandRemainder}
+use Rattle.patterns_yields.proofs.of_base.Dispatch.{only_listed}
+use Rattle.patterns_yields.proofs.of_base.Making.{converting_rules_make}
 use Rattle.op_registry.specs.Registry.{beside}
-use Rattle.patterns_base.specs.Words.{asking, dividing}
+use Rattle.patterns_yields.specs.base.Words.{asking, dividing}
 use Rattle.patterns_facts.specs.Alike.{Same, SeesAlike}
 use Rattle.patterns_facts.specs.Facts.{Facts}
 use Rattle.patterns_facts.proofs.Near.{still, tested, of_some, Fine}

@@ -1,15 +1,15 @@
 -- All facts of each rule.
 use Rattle.std.proofs.Common.{◌≡◌, refl, Bool, true, false, ◌&&◌, not}
-use Rattle.patterns_base.specs.declared.rule.Rule.{Rule}
-use Rattle.patterns_base.specs.declared.rule.Rule.TheVariants.{EraseDead, FoldToConstant, SwapConstant, DropZero}
-use Rattle.patterns_base.specs.declared.rule.Rule.TheVariants.{DropOne, DropAllOnes, CancelItself, KeepItself}
-use Rattle.patterns_base.specs.declared.rule.Rule.TheVariants.{ZeroRemainder, RegroupConstants, AddNegative}
-use Rattle.patterns_base.specs.declared.rule.Rule.TheVariants.{CompareItself, MirrorComparison, CompareZero}
-use Rattle.patterns_base.specs.declared.rule.Rule.TheVariants.{ChooseSame, ChooseKnown, ChooseTruth, ChooseOpposite}
-use Rattle.patterns_base.specs.declared.rule.Rule.TheVariants.{ExtendExtension, CutCast, CastBack, OpenBranch}
-use Rattle.patterns_base.specs.declared.rule.Rule.TheVariants.{OpenLoop, StopLoop, ExpandMinMax, ExpandDifference}
-use Rattle.patterns_base.specs.declared.rule.Rule.TheVariants.{ExpandRemainder, LowerIndex, LowerLoop, LowerChoice}
-use Rattle.patterns_base.specs.RuleNames.{is_canonical, is_expanding, is_lowering}
+use Rattle.patterns_yields.specs.base.declared.rule.Rule.{Rule}
+use Rattle.patterns_yields.specs.base.declared.rule.Rule.TheVariants.{EraseDead, FoldToConstant, SwapConstant, DropZero}
+use Rattle.patterns_yields.specs.base.declared.rule.Rule.TheVariants.{DropOne, DropAllOnes, CancelItself, KeepItself}
+use Rattle.patterns_yields.specs.base.declared.rule.Rule.TheVariants.{ZeroRemainder, RegroupConstants, AddNegative}
+use Rattle.patterns_yields.specs.base.declared.rule.Rule.TheVariants.{CompareItself, MirrorComparison, CompareZero}
+use Rattle.patterns_yields.specs.base.declared.rule.Rule.TheVariants.{ChooseSame, ChooseKnown, ChooseTruth, ChooseOpposite}
+use Rattle.patterns_yields.specs.base.declared.rule.Rule.TheVariants.{ExtendExtension, CutCast, CastBack, OpenBranch}
+use Rattle.patterns_yields.specs.base.declared.rule.Rule.TheVariants.{OpenLoop, StopLoop, ExpandMinMax, ExpandDifference}
+use Rattle.patterns_yields.specs.base.declared.rule.Rule.TheVariants.{ExpandRemainder, LowerIndex, LowerLoop, LowerChoice}
+use Rattle.patterns_yields.specs.base.RuleNames.{is_canonical, is_expanding, is_lowering}
 use Rattle.patterns_facts.specs.Facts.{Facts}
 use Rattle.patterns_facts.proofs.Erasing.{erase_dead_facts}
 use Rattle.patterns_facts.proofs.Pairs.{swap_constant_facts, drop_zero_facts, drop_one_facts, drop_all_ones_facts, cancel_itself_facts, keep_itself_facts, zero_remainder_facts}

@@ -4,21 +4,21 @@ use Rattle.std.specs.Prelude.{nat_lt, slice_get, option_and_then}
 use Rattle.std.specs.List.{list_all}
 use Rattle.std.specs.Option.{option_eq}
 use Rattle.std.proofs.lemmas.Bool.{lt-ltb}
-use Rattle.ir_types.specs.Words.{is_isolated}
-use Rattle.ir_types.specs.Terms.{TypeTerm, AttrTerm}
-use Rattle.ir_types.specs.SameTypes.{same_type}
-use Rattle.ir_tree.specs.declared.value.Value.{Value}
-use Rattle.ir_tree.specs.declared.value.Value.TheVariants.{Result}
-use Rattle.ir_tree.specs.declared.place.Place.{Place}
-use Rattle.ir_tree.specs.Tree.{HeadOf, head}
-use Rattle.ir_tree.specs.Ids.{op_count}
-use Rattle.ir_tree.specs.Limits.{most_ops, most_next, op_fits, items_fit}
-use Rattle.ir_tree.specs.Sites.{visible}
-use Rattle.ir_tree.specs.Meaning.{Operation}
-use Rattle.ir_tree_laws.specs.Values.{type_of_value}
-use Rattle.ir_tree_laws.specs.Reasons.{with_id}
-use Rattle.ir_tree_laws.proofs.Edited.{put_op_count}
-use Rattle.ir_tree_laws.proofs.Listed.{both_hold}
+use Rattle.ir_event.specs.types.Words.{is_isolated}
+use Rattle.ir_event.specs.types.Terms.{TypeTerm, AttrTerm}
+use Rattle.ir_event.specs.types.SameTypes.{same_type}
+use Rattle.ir_event.specs.trees.declared.value.Value.{Value}
+use Rattle.ir_event.specs.trees.declared.value.Value.TheVariants.{Result}
+use Rattle.ir_event.specs.trees.declared.place.Place.{Place}
+use Rattle.ir_event.specs.trees.Tree.{HeadOf, head}
+use Rattle.ir_event.specs.trees.Ids.{op_count}
+use Rattle.ir_event.specs.trees.Limits.{most_ops, most_next, op_fits, items_fit}
+use Rattle.ir_event.specs.trees.Sites.{visible}
+use Rattle.ir_event.specs.trees.Meaning.{Operation}
+use Rattle.ir_event.specs.tree_laws.Values.{type_of_value}
+use Rattle.ir_event.specs.tree_laws.Reasons.{with_id}
+use Rattle.ir_event.proofs.of_tree_laws.Edited.{put_op_count}
+use Rattle.ir_event.proofs.of_tree_laws.Listed.{both_hold}
 use Rattle.ir_event.specs.Modules.{Module}
 use Rattle.rewriter_machine.specs.Contents.{Edit, edited}
 use Rattle.rewriter_machine.specs.Edits.{Make}
@@ -28,8 +28,8 @@ use Rattle.patterns_edits.proofs.Headed.{found_there}
 use Rattle.patterns_edits.proofs.Made as made_there
 use Rattle.patterns_edits.proofs.Plans as plans
 use Rattle.patterns_edits.proofs.Plans.{StandsAt, sees}
-use Rattle.patterns_base.specs.Made.{Entries, made}
-use Rattle.patterns_base.specs.Makes.{give, give_new}
+use Rattle.patterns_yields.specs.base.Made.{Entries, made}
+use Rattle.patterns_yields.specs.base.Makes.{give, give_new}
 
 -- operation x, which gives one value of a type, stands behind a place, and there is room for k operations
 pub record Fit (x : ℕ) (front : Place) (ty : TypeTerm) (k : ℕ) (m : Module) : Type 0 where

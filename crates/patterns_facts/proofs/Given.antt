@@ -2,31 +2,31 @@
 use Rattle.std.proofs.Common.{◌≡◌, refl, ap, sym, ◌∙◌, subst, ℕ, ◌+◌, ◌≤◌, Bool, true, false, ◌&&◌, List, [], ◌∷◌, Option, Some, None, if◌then◌else◌, inl, inr}
 use Rattle.std.specs.Prelude.{codes, ◌==◌, nat_le}
 use Rattle.std.specs.Option.{option_eq}
-use Rattle.ir_types.specs.Readings.{type_width}
-use Rattle.ir_types.specs.Terms.{TypeTerm}
-use Rattle.ir_types.specs.SameTypes.{same_type}
-use Rattle.ir_types.proofs.SameTerms.{type_is, type_refl}
-use Rattle.ir_tree.specs.declared.value.Value.{Value}
-use Rattle.ir_tree.specs.declared.place.Place.{Place}
-use Rattle.ir_tree.specs.Tree.{head}
-use Rattle.ir_tree.specs.Ids.{op_count}
-use Rattle.ir_tree.specs.Limits.{most_ops, most_next}
-use Rattle.ir_tree.specs.Uses.{same_value}
-use Rattle.ir_tree.specs.Meaning.{Operation}
-use Rattle.ir_tree_laws.specs.Members.{In}
-use Rattle.ir_tree_laws.proofs.Listed.{both}
-use Rattle.ir_tree_laws.specs.Values.{type_of_value}
+use Rattle.ir_event.specs.types.Readings.{type_width}
+use Rattle.ir_event.specs.types.Terms.{TypeTerm}
+use Rattle.ir_event.specs.types.SameTypes.{same_type}
+use Rattle.ir_event.proofs.of_types.SameTerms.{type_is, type_refl}
+use Rattle.ir_event.specs.trees.declared.value.Value.{Value}
+use Rattle.ir_event.specs.trees.declared.place.Place.{Place}
+use Rattle.ir_event.specs.trees.Tree.{head}
+use Rattle.ir_event.specs.trees.Ids.{op_count}
+use Rattle.ir_event.specs.trees.Limits.{most_ops, most_next}
+use Rattle.ir_event.specs.trees.Uses.{same_value}
+use Rattle.ir_event.specs.trees.Meaning.{Operation}
+use Rattle.ir_event.specs.tree_laws.Members.{In}
+use Rattle.ir_event.proofs.of_tree_laws.Listed.{both}
+use Rattle.ir_event.specs.tree_laws.Values.{type_of_value}
 use Rattle.ir_event.specs.Modules.{Module}
 use Rattle.rewriter_machine.specs.Contents.{Edit}
 use Rattle.patterns_edits.specs.Lists.{Free}
 use Rattle.patterns_edits.proofs.Plans.{sees}
-use Rattle.patterns_base.specs.Keeps.{Each, given}
-use Rattle.patterns_base.specs.Words.{among, ignoring_one, ignoring_zero, index_casts, keeping, named}
-use Rattle.patterns_base.specs.Made.{i1}
-use Rattle.patterns_base.specs.Looks.{Header, One, is_number, is_of_type, known, one, passes, source, when}
-use Rattle.patterns_base.specs.Makes.{give, made_by}
-use Rattle.patterns_base.specs.Casting.{cast_back, through_index, unrealized}
-use Rattle.patterns_base.specs.Folding.{is_all_ones, drop_zero, drop_one, drop_all_ones, keep_itself, choose_same, choose_known, choose_truth}
+use Rattle.patterns_yields.specs.base.Keeps.{Each, given}
+use Rattle.patterns_yields.specs.base.Words.{among, ignoring_one, ignoring_zero, index_casts, keeping, named}
+use Rattle.patterns_yields.specs.base.Made.{i1}
+use Rattle.patterns_yields.specs.base.Looks.{Header, One, is_number, is_of_type, known, one, passes, source, when}
+use Rattle.patterns_yields.specs.base.Makes.{give, made_by}
+use Rattle.patterns_yields.specs.base.Casting.{cast_back, through_index, unrealized}
+use Rattle.patterns_yields.specs.base.Folding.{is_all_ones, drop_zero, drop_one, drop_all_ones, keep_itself, choose_same, choose_known, choose_truth}
 use Rattle.patterns_facts.proofs.Typed.{ChoiceTypes, a_choice, among_each, choice_is, choices_are, conjunction_is, ignoring_one_are, ignoring_zero_are, keeping_are, named_is, number_is, two_numbers, typed, types_at}
 use Rattle.patterns_facts.proofs.Spots.{Giver, Spot, here_is, sees_behind, sees_operand, stands_there}
 use Rattle.patterns_facts.proofs.Fit as fit
@@ -34,7 +34,7 @@ use Rattle.patterns_facts.proofs.Fit.{Fit}
 use Rattle.patterns_facts.proofs.Shapes.{one_is, source_is, three_is, two_is}
 use Rattle.patterns_laws.proofs.KnownFolds.{given_some}
 use Rattle.std.proofs.lemmas.Option.{same_Some}
-use Rattle.patterns_base.proofs.Facts.{when_some}
+use Rattle.patterns_yields.proofs.of_base.Facts.{when_some}
 
 -- what edits make is within the limits
 abbrev pub HasRoom : Module → List Edit → Type 0

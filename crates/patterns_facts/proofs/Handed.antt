@@ -2,18 +2,18 @@
 use Rattle.std.proofs.Common.{◌≡◌, refl, ap, sym, ◌∙◌, subst, ℕ, zero, suc, ◌+◌, ◌<◌, ◌≤◌, Bool, true, false, true≢false, cond, ◌&&◌, eqb, eqb-true, List, [], ◌∷◌, ◌++◌, length, map, Option, Some, None, option_map, inl, inr, arith, append_assoc, lt-ltb}
 use Rattle.std.specs.Prelude.{nat_lt, slice_set}
 use Rattle.std.proofs.lemmas.List.{length-set}
-use Rattle.ir_types.specs.Words.{is_isolated}
-use Rattle.ir_types.specs.Terms.{TypeTerm, AttrTerm}
-use Rattle.ir_tree.specs.declared.value.Value.{Value}
-use Rattle.ir_tree.specs.declared.value.Value.TheVariants.{Result}
-use Rattle.ir_tree.specs.declared.place.Place.{Place}
-use Rattle.ir_tree.specs.Tree.{HeadOf, op, head}
-use Rattle.ir_tree.specs.Ids.{find, has_id, op_count}
-use Rattle.ir_tree.specs.Edits.{at, each_head, put_operand, with_operand}
-use Rattle.ir_tree.specs.Meaning.{Operation}
-use Rattle.ir_tree_laws.specs.Members.{In}
-use Rattle.ir_tree_laws.proofs.HeadForm.{alike_at, edit_ids}
-use Rattle.ir_tree_laws.proofs.Heads.{Alike}
+use Rattle.ir_event.specs.types.Words.{is_isolated}
+use Rattle.ir_event.specs.types.Terms.{TypeTerm, AttrTerm}
+use Rattle.ir_event.specs.trees.declared.value.Value.{Value}
+use Rattle.ir_event.specs.trees.declared.value.Value.TheVariants.{Result}
+use Rattle.ir_event.specs.trees.declared.place.Place.{Place}
+use Rattle.ir_event.specs.trees.Tree.{HeadOf, op, head}
+use Rattle.ir_event.specs.trees.Ids.{find, has_id, op_count}
+use Rattle.ir_event.specs.trees.Edits.{at, each_head, put_operand, with_operand}
+use Rattle.ir_event.specs.trees.Meaning.{Operation}
+use Rattle.ir_event.specs.tree_laws.Members.{In}
+use Rattle.ir_event.proofs.of_tree_laws.HeadForm.{alike_at, edit_ids}
+use Rattle.ir_event.proofs.of_tree_laws.Heads.{Alike}
 use Rattle.ir_event.specs.Modules.{Module}
 use Rattle.rewriter_machine.specs.Contents.{Edit, all_edited, edited}
 use Rattle.rewriter_machine.specs.Edits.{Make, SetOperand}
@@ -22,9 +22,9 @@ use Rattle.patterns_edits.proofs.Give.{there_is}
 use Rattle.patterns_edits.proofs.Headed as headed
 use Rattle.patterns_edits.proofs.Plans as plans
 use Rattle.patterns_edits.proofs.Plans.{StandsAt, sees}
-use Rattle.patterns_base.specs.Looks.{Header}
-use Rattle.patterns_base.specs.Made.{bridge, i64}
-use Rattle.patterns_base.specs.Lowering.{bridges, crossing, marked}
+use Rattle.patterns_yields.specs.base.Looks.{Header}
+use Rattle.patterns_yields.specs.base.Made.{bridge, i64}
+use Rattle.patterns_yields.specs.base.Lowering.{bridges, crossing, marked}
 use Rattle.patterns_facts.proofs.CastsAccepted.{AreCrossed, Room, bridged, made_one}
 use Rattle.patterns_facts.proofs.Indexed.{head_there}
 use Rattle.patterns_edits.proofs.Facts.{edited_both}

@@ -1,21 +1,21 @@
 -- Casts and placeholders are made in front of x: its block stays, and the placeholders stand before it.
 use Rattle.std.proofs.Common.{◌≡◌, refl, ap, sym, ◌∙◌, subst, ℕ, suc, ◌+◌, ◌≤◌, Bool, true, false, List, [], ◌∷◌, ◌++◌, length, map, Option, Some, None, option_map, inl, inr, arith}
 use Rattle.std.specs.List.{range_with_len}
-use Rattle.ir_types.specs.Words.{is_isolated}
-use Rattle.ir_types.specs.Terms.{TypeTerm, AttrTerm}
-use Rattle.ir_types.proofs.SameTerms.{type_refl}
-use Rattle.ir_tree.specs.declared.value.Value.{Value}
-use Rattle.ir_tree.specs.declared.value.Value.TheVariants.{Result}
-use Rattle.ir_tree.specs.declared.place.Place.{Place}
-use Rattle.ir_tree.specs.Tree.{block, no_ops, head, regions}
-use Rattle.ir_tree.specs.Ids.{find, has_id}
-use Rattle.ir_tree.specs.Frames.{owner_of}
-use Rattle.ir_tree.specs.Uses.{uses_of}
-use Rattle.ir_tree.specs.Meaning.{Operation}
-use Rattle.ir_tree_laws.specs.Members.{In}
-use Rattle.ir_tree_laws.specs.Reasons.{with_id}
-use Rattle.ir_tree_laws.specs.Values.{region_at}
-use Rattle.ir_tree_laws.proofs.Members.{joined_ops}
+use Rattle.ir_event.specs.types.Words.{is_isolated}
+use Rattle.ir_event.specs.types.Terms.{TypeTerm, AttrTerm}
+use Rattle.ir_event.proofs.of_types.SameTerms.{type_refl}
+use Rattle.ir_event.specs.trees.declared.value.Value.{Value}
+use Rattle.ir_event.specs.trees.declared.value.Value.TheVariants.{Result}
+use Rattle.ir_event.specs.trees.declared.place.Place.{Place}
+use Rattle.ir_event.specs.trees.Tree.{block, no_ops, head, regions}
+use Rattle.ir_event.specs.trees.Ids.{find, has_id}
+use Rattle.ir_event.specs.trees.Frames.{owner_of}
+use Rattle.ir_event.specs.trees.Uses.{uses_of}
+use Rattle.ir_event.specs.trees.Meaning.{Operation}
+use Rattle.ir_event.specs.tree_laws.Members.{In}
+use Rattle.ir_event.specs.tree_laws.Reasons.{with_id}
+use Rattle.ir_event.specs.tree_laws.Values.{region_at}
+use Rattle.ir_event.proofs.of_tree_laws.Members.{joined_ops}
 use Rattle.ir_event.specs.Modules.{Module}
 use Rattle.rewriter_machine.specs.Contents.{Edit, all_edited, edited}
 use Rattle.rewriter_machine.specs.Edits.{Make}
@@ -23,9 +23,9 @@ use Rattle.patterns_edits.specs.Lists.{Free}
 use Rattle.patterns_edits.proofs.Give.{there_is}
 use Rattle.patterns_edits.proofs.Made as made_there
 use Rattle.patterns_edits.proofs.Plans.{StandsAt, sees}
-use Rattle.patterns_base.specs.Looks.{Header}
-use Rattle.patterns_base.specs.Made.{bridge, i64, placeholder}
-use Rattle.patterns_base.specs.Lowering.{bridges, marked}
+use Rattle.patterns_yields.specs.base.Looks.{Header}
+use Rattle.patterns_yields.specs.base.Made.{bridge, i64, placeholder}
+use Rattle.patterns_yields.specs.base.Lowering.{bridges, marked}
 use Rattle.patterns_facts.proofs.Arguments.{one_here}
 use Rattle.patterns_facts.proofs.CastsAccepted.{Room, made_one}
 use Rattle.patterns_facts.proofs.Kept as kept

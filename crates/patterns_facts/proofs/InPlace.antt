@@ -5,27 +5,27 @@ use Rattle.std.specs.List.{list_all}
 use Rattle.std.specs.Str.{bytes_eq}
 use Rattle.std.proofs.lemmas.List.{length-set}
 use Rattle.std.proofs.lemmas.Slice.Eq.{bytes_eq-Decides}
-use Rattle.ir_types.specs.Words.{is_isolated, is_inherent}
-use Rattle.ir_types.specs.Terms.{TypeTerm, AttrTerm, IntegerOf}
-use Rattle.ir_types.specs.declared.refusal.Refusal.TheVariants.{Full}
-use Rattle.ir_tree.specs.declared.value.Value.{Value}
-use Rattle.ir_tree.specs.declared.value.Value.TheVariants.{Result, Arg}
-use Rattle.ir_tree.specs.declared.place.Place.{Place}
-use Rattle.ir_tree.specs.declared.place.Part.{Part}
-use Rattle.ir_tree.specs.declared.place.Part.TheVariants.{Props, Attrs}
-use Rattle.ir_tree.specs.Tree.{HeadOf, op, head}
-use Rattle.ir_tree.specs.Edits.{at, change_entry, change_part, each_head, entry_at, put_operand}
-use Rattle.ir_tree.specs.Limits.{most_items}
-use Rattle.ir_tree.specs.Meaning.{Operation, key_before}
-use Rattle.ir_tree.specs.Uses.{operand_uses, same_value, uses_of}
-use Rattle.ir_tree_laws.specs.Reasons.{found_entry_reason, set_entry_reason, unless}
-use Rattle.ir_tree_laws.specs.Stands.{StandOf, gather, stand_id, stands}
-use Rattle.ir_tree_laws.specs.Members.{In}
-use Rattle.ir_tree_laws.proofs.HeadForm.{alike_at, entry_keeps}
-use Rattle.ir_tree_laws.proofs.Heads.{Alike}
-use Rattle.ir_tree_laws.proofs.Keys.{keys_ordered}
-use Rattle.ir_tree_laws.proofs.Listed.{all_each, both, not_false, or_right}
-use Rattle.ir_tree_laws.proofs.Readings.{stands_every, stands_uses}
+use Rattle.ir_event.specs.types.Words.{is_isolated, is_inherent}
+use Rattle.ir_event.specs.types.Terms.{TypeTerm, AttrTerm, IntegerOf}
+use Rattle.ir_event.specs.types.declared.refusal.Refusal.TheVariants.{Full}
+use Rattle.ir_event.specs.trees.declared.value.Value.{Value}
+use Rattle.ir_event.specs.trees.declared.value.Value.TheVariants.{Result, Arg}
+use Rattle.ir_event.specs.trees.declared.place.Place.{Place}
+use Rattle.ir_event.specs.trees.declared.place.Part.{Part}
+use Rattle.ir_event.specs.trees.declared.place.Part.TheVariants.{Props, Attrs}
+use Rattle.ir_event.specs.trees.Tree.{HeadOf, op, head}
+use Rattle.ir_event.specs.trees.Edits.{at, change_entry, change_part, each_head, entry_at, put_operand}
+use Rattle.ir_event.specs.trees.Limits.{most_items}
+use Rattle.ir_event.specs.trees.Meaning.{Operation, key_before}
+use Rattle.ir_event.specs.trees.Uses.{operand_uses, same_value, uses_of}
+use Rattle.ir_event.specs.tree_laws.Reasons.{found_entry_reason, set_entry_reason, unless}
+use Rattle.ir_event.specs.tree_laws.Stands.{StandOf, gather, stand_id, stands}
+use Rattle.ir_event.specs.tree_laws.Members.{In}
+use Rattle.ir_event.proofs.of_tree_laws.HeadForm.{alike_at, entry_keeps}
+use Rattle.ir_event.proofs.of_tree_laws.Heads.{Alike}
+use Rattle.ir_event.proofs.of_tree_laws.Keys.{keys_ordered}
+use Rattle.ir_event.proofs.of_tree_laws.Listed.{all_each, both, not_false, or_right}
+use Rattle.ir_event.proofs.of_tree_laws.Readings.{stands_every, stands_uses}
 use Rattle.ir_event.specs.Modules.{Module}
 use Rattle.op_registry.specs.Registry.{beside}
 use Rattle.dialects_int.specs.Folds.{property_of}
@@ -36,18 +36,18 @@ use Rattle.patterns_edits.specs.Lists.{Free}
 use Rattle.patterns_edits.proofs.Headed as headed
 use Rattle.patterns_edits.proofs.Plans as plans
 use Rattle.patterns_edits.proofs.Plans.{StandsAt, sees}
-use Rattle.patterns_base.specs.Keeps.{mirrored}
-use Rattle.patterns_base.specs.Words.{among, named, swapping}
-use Rattle.patterns_base.specs.Made.{i64}
-use Rattle.patterns_base.specs.Looks.{Header, is_constant, is_known, is_number, may_go, predicate, source}
-use Rattle.patterns_base.specs.Folding.{erase_dead, swap_constant, mirror_comparison, choose_opposite}
+use Rattle.patterns_yields.specs.base.Keeps.{mirrored}
+use Rattle.patterns_yields.specs.base.Words.{among, named, swapping}
+use Rattle.patterns_yields.specs.base.Made.{i64}
+use Rattle.patterns_yields.specs.base.Looks.{Header, is_constant, is_known, is_number, may_go, predicate, source}
+use Rattle.patterns_yields.specs.base.Folding.{erase_dead, swap_constant, mirror_comparison, choose_opposite}
 use Rattle.patterns_facts.proofs.Spots.{Spot, here_is, sees_behind, sees_operand, stands_there}
 use Rattle.patterns_facts.proofs.Shapes.{source_is, three_is, two_is}
-use Rattle.ir_tree_laws.proofs.Changed.{gather_none}
+use Rattle.ir_event.proofs.of_tree_laws.Changed.{gather_none}
 use Rattle.patterns_laws.proofs.KnownFolds.{given_some}
-use Rattle.ir_tree_laws.proofs.Nested.{unequal}
+use Rattle.ir_event.proofs.of_tree_laws.Nested.{unequal}
 use Rattle.std.proofs.lemmas.Option.{same_Some}
-use Rattle.patterns_base.proofs.Facts.{when_some}
+use Rattle.patterns_yields.proofs.of_base.Facts.{when_some}
 
 abbrev Entries : Type 0
 Entries = List (List ℕ × AttrTerm)

@@ -3,23 +3,23 @@ use Rattle.std.proofs.Common.{◌≡◌, refl, ap, sym, ◌∙◌, subst, ℕ, z
 use Rattle.std.specs.Prelude.{nat_le, nat_lt, option_and_then, slice_get}
 use Rattle.std.proofs.lemmas.Bool.{lt-ltb}
 use Rattle.std.proofs.lemmas.List.{length-map}
-use Rattle.ir_types.specs.Words.{is_isolated}
-use Rattle.ir_types.specs.Terms.{TypeTerm, Index, AttrTerm}
-use Rattle.ir_tree.specs.declared.value.Value.{Value}
-use Rattle.ir_tree.specs.declared.value.Value.TheVariants.{Result}
-use Rattle.ir_tree.specs.declared.place.Place.{Place}
-use Rattle.ir_tree.specs.Tree.{RegionsOf, no_regions, region, empty, block, head, regions, region_count}
-use Rattle.ir_tree.specs.Ids.{find, has_id, op_count}
-use Rattle.ir_tree.specs.Limits.{all_arguments_pass, head_fits, items_fit, most_items, most_regions, op_fits}
-use Rattle.ir_tree.specs.Tree.{op}
-use Rattle.ir_tree.specs.Meaning.{Operation}
-use Rattle.ir_tree_laws.specs.Members.{In}
-use Rattle.ir_tree_laws.specs.Reasons.{hold_none}
-use Rattle.ir_tree_laws.specs.Stands.{StandOf, stands}
-use Rattle.ir_tree_laws.specs.Values.{type_of_value}
-use Rattle.ir_tree_laws.proofs.Formed.{from_formed}
-use Rattle.ir_tree_laws.proofs.Listed.{both, both_hold}
-use Rattle.ir_tree_laws.proofs.Members.{found_stands}
+use Rattle.ir_event.specs.types.Words.{is_isolated}
+use Rattle.ir_event.specs.types.Terms.{TypeTerm, Index, AttrTerm}
+use Rattle.ir_event.specs.trees.declared.value.Value.{Value}
+use Rattle.ir_event.specs.trees.declared.value.Value.TheVariants.{Result}
+use Rattle.ir_event.specs.trees.declared.place.Place.{Place}
+use Rattle.ir_event.specs.trees.Tree.{RegionsOf, no_regions, region, empty, block, head, regions, region_count}
+use Rattle.ir_event.specs.trees.Ids.{find, has_id, op_count}
+use Rattle.ir_event.specs.trees.Limits.{all_arguments_pass, head_fits, items_fit, most_items, most_regions, op_fits}
+use Rattle.ir_event.specs.trees.Tree.{op}
+use Rattle.ir_event.specs.trees.Meaning.{Operation}
+use Rattle.ir_event.specs.tree_laws.Members.{In}
+use Rattle.ir_event.specs.tree_laws.Reasons.{hold_none}
+use Rattle.ir_event.specs.tree_laws.Stands.{StandOf, stands}
+use Rattle.ir_event.specs.tree_laws.Values.{type_of_value}
+use Rattle.ir_event.proofs.of_tree_laws.Formed.{from_formed}
+use Rattle.ir_event.proofs.of_tree_laws.Listed.{both, both_hold}
+use Rattle.ir_event.proofs.of_tree_laws.Members.{found_stands}
 use Rattle.ir_event.specs.Modules.{Module}
 use Rattle.rewriter_machine.specs.Contents.{Edit, all_edited, edited}
 use Rattle.rewriter_machine.specs.Edits.{Erase, Make}
@@ -27,17 +27,17 @@ use Rattle.patterns_edits.specs.Lists.{Free}
 use Rattle.patterns_edits.proofs.Give.{there_is}
 use Rattle.patterns_edits.proofs.Headed.{found_there}
 use Rattle.patterns_edits.proofs.Plans.{StandsAt, sees}
-use Rattle.patterns_base.specs.Keeps.{lowered_type}
-use Rattle.patterns_base.specs.Words.{among, index_users}
-use Rattle.patterns_base.specs.Looks.{Header, is_index_value}
-use Rattle.patterns_base.specs.Makes.{made_by, makes, replacing, results_from}
-use Rattle.patterns_base.specs.Made.{i64}
-use Rattle.patterns_base.specs.Lowering.{any, bridges, crossed, give_lowered, index_operands, index_results, indices, lowered_attr, lowered_header, lowered_id, lowered_op, lowered_regions, make_lowered, marked, lower_index}
+use Rattle.patterns_yields.specs.base.Keeps.{lowered_type}
+use Rattle.patterns_yields.specs.base.Words.{among, index_users}
+use Rattle.patterns_yields.specs.base.Looks.{Header, is_index_value}
+use Rattle.patterns_yields.specs.base.Makes.{made_by, makes, replacing, results_from}
+use Rattle.patterns_yields.specs.base.Made.{i64}
+use Rattle.patterns_yields.specs.base.Lowering.{any, bridges, crossed, give_lowered, index_operands, index_results, indices, lowered_attr, lowered_header, lowered_id, lowered_op, lowered_regions, make_lowered, marked, lower_index}
 use Rattle.patterns_facts.proofs.CastsAccepted.{AreCrossed, AreLowered, Bridged, MadeThere, Room, bridged, given_free, made_one}
 use Rattle.patterns_facts.proofs.Given.{HasRoom}
 use Rattle.patterns_facts.proofs.Spots.{Spot, here_is, sees_operand, stands_there}
-use Rattle.patterns_base.proofs.Facts.{bridges_make, crossed_length, when_some}
-use Rattle.patterns_base.proofs.Making.{joined}
+use Rattle.patterns_yields.proofs.of_base.Facts.{bridges_make, crossed_length, when_some}
+use Rattle.patterns_yields.proofs.of_base.Making.{joined}
 use Rattle.std.proofs.lemmas.Option.{same_Some}
 
 -- the lowered operation holds none, and is within the limits

@@ -3,34 +3,34 @@ use Rattle.std.proofs.Common.{◌≡◌, refl, ap, sym, ◌∙◌, subst, ℕ, �
 use Rattle.std.specs.List.{list_all}
 use Rattle.std.specs.Prelude.{nat_lt}
 use Rattle.std.proofs.lemmas.Bool.{lt-ltb}
-use Rattle.ir_tree.specs.declared.value.Value.{Value}
-use Rattle.ir_tree.specs.declared.place.Place.{Place}
-use Rattle.ir_tree.specs.Tree.{HeadOf, OpOf, op, RegionsOf, no_regions, region, empty, block, no_ops, next, head, regions}
-use Rattle.ir_tree.specs.Ids.{HasDistinctIds, find, has_id, op_count}
-use Rattle.ir_tree.specs.Uses.{uses_of}
-use Rattle.ir_tree.specs.Frames.{owner_of}
-use Rattle.ir_tree.specs.Limits.{most_next, most_ops, op_fits}
-use Rattle.ir_tree.specs.Sites.{visible}
-use Rattle.ir_tree.specs.Places.{put, without}
-use Rattle.ir_tree.specs.WellFormed.{ModuleOf, IsWellFormed}
-use Rattle.ir_tree_laws.specs.Stands.{StandOf, stand_id, stands, left_stand, dropping}
-use Rattle.ir_tree_laws.specs.Members.{In}
-use Rattle.ir_tree_laws.specs.Reads.{around}
-use Rattle.ir_tree_laws.specs.Reasons.{fits_around, has_place, hold_none, leads_inside, put_reason, with_id}
-use Rattle.ir_tree_laws.specs.Restores.{MayPut}
-use Rattle.ir_tree_laws.specs.Values.{has_value}
-use Rattle.ir_tree_laws.proofs.Around.{present_stand, stand_present}
-use Rattle.ir_tree_laws.proofs.Edited.{around_stays, head_stays, put_op_count, put_uses, sight_stays}
-use Rattle.ir_tree_laws.proofs.Formed.{ids_below}
-use Rattle.ir_tree_laws.proofs.Listed.{both_hold, each_all, in_left, in_parts, in_right}
-use Rattle.ir_tree_laws.proofs.PutForm as put_form
-use Rattle.ir_tree_laws.proofs.Reasoned.{none_ids}
-use Rattle.ir_tree_laws.proofs.WellKept.{may_put_leaf, put_keeps}
-use Rattle.ir_tree_laws.proofs.Without.{member_left, same_head}
+use Rattle.ir_event.specs.trees.declared.value.Value.{Value}
+use Rattle.ir_event.specs.trees.declared.place.Place.{Place}
+use Rattle.ir_event.specs.trees.Tree.{HeadOf, OpOf, op, RegionsOf, no_regions, region, empty, block, no_ops, next, head, regions}
+use Rattle.ir_event.specs.trees.Ids.{HasDistinctIds, find, has_id, op_count}
+use Rattle.ir_event.specs.trees.Uses.{uses_of}
+use Rattle.ir_event.specs.trees.Frames.{owner_of}
+use Rattle.ir_event.specs.trees.Limits.{most_next, most_ops, op_fits}
+use Rattle.ir_event.specs.trees.Sites.{visible}
+use Rattle.ir_event.specs.trees.Places.{put, without}
+use Rattle.ir_event.specs.trees.WellFormed.{ModuleOf, IsWellFormed}
+use Rattle.ir_event.specs.tree_laws.Stands.{StandOf, stand_id, stands, left_stand, dropping}
+use Rattle.ir_event.specs.tree_laws.Members.{In}
+use Rattle.ir_event.specs.tree_laws.Reads.{around}
+use Rattle.ir_event.specs.tree_laws.Reasons.{fits_around, has_place, hold_none, leads_inside, put_reason, with_id}
+use Rattle.ir_event.specs.tree_laws.Restores.{MayPut}
+use Rattle.ir_event.specs.tree_laws.Values.{has_value}
+use Rattle.ir_event.proofs.of_tree_laws.Around.{present_stand, stand_present}
+use Rattle.ir_event.proofs.of_tree_laws.Edited.{around_stays, head_stays, put_op_count, put_uses, sight_stays}
+use Rattle.ir_event.proofs.of_tree_laws.Formed.{ids_below}
+use Rattle.ir_event.proofs.of_tree_laws.Listed.{both_hold, each_all, in_left, in_parts, in_right}
+use Rattle.ir_event.proofs.of_tree_laws.PutForm as put_form
+use Rattle.ir_event.proofs.of_tree_laws.Reasoned.{none_ids}
+use Rattle.ir_event.proofs.of_tree_laws.WellKept.{may_put_leaf, put_keeps}
+use Rattle.ir_event.proofs.of_tree_laws.Without.{member_left, same_head}
 use Rattle.patterns_facts.proofs.Ordered.{Before, Inside, before_back, inside_back}
 use Rattle.patterns_facts.proofs.Moving as moving
-use Rattle.ir_tree_laws.proofs.Facts.{new_id, new_operands, new_results}
-use Rattle.ir_tree_laws.proofs.Reverted.{passed}
+use Rattle.ir_event.proofs.of_tree_laws.Facts.{new_id, new_operands, new_results}
+use Rattle.ir_event.proofs.of_tree_laws.Reverted.{passed}
 
 module _ {N T A : Type 0} (isolated : N → Bool) (B : ℕ → Type 0) where
   -- the operations of B, and what they see of each other, stay

@@ -3,36 +3,36 @@ use Rattle.std.proofs.Common.{◌≡◌, refl, ap, sym, ◌∙◌, subst, ℕ, z
 use Rattle.std.proofs.lemmas.Cmp.{nat_eq_equiv}
 use Rattle.std.proofs.lemmas.List.{length-map}
 use Rattle.std.specs.Prelude.{is_some, nat_lt, option_and_then, slice_get}
-use Rattle.ir_types.specs.Words.{is_isolated}
-use Rattle.ir_types.specs.Terms.{TypeTerm, Index, AttrTerm}
-use Rattle.ir_tree.specs.declared.value.Value.{Value}
-use Rattle.ir_tree.specs.declared.value.Value.TheVariants.{Result, Arg}
-use Rattle.ir_tree.specs.declared.place.Place.{Place}
-use Rattle.ir_tree.specs.Tree.{block, no_ops, head, regions}
-use Rattle.ir_tree.specs.Ids.{find, has_id, op_count}
-use Rattle.ir_tree.specs.Limits.{most_around, most_next, most_ops}
-use Rattle.ir_tree.specs.Frames.{owner_of}
-use Rattle.ir_tree.specs.Places.{ops_each_list, put, put_here}
-use Rattle.ir_tree.specs.Sites.{visible}
-use Rattle.ir_tree.specs.Uses.{same_value, uses_of}
-use Rattle.ir_tree.specs.Meaning.{Operation}
-use Rattle.ir_tree.specs.WellFormed.{IsWellFormed}
-use Rattle.ir_tree_laws.specs.Members.{In}
-use Rattle.ir_tree_laws.specs.Reads.{around}
-use Rattle.ir_tree_laws.specs.Reasons.{fits_around, has_place, with_id}
-use Rattle.ir_tree_laws.specs.Values.{arguments_at, arguments_of, has_value, region_at, type_of_value}
-use Rattle.ir_tree_laws.proofs.Around.{absent_find, stand_present}
-use Rattle.ir_tree_laws.proofs.Members.{found_stands, joined_ops}
-use Rattle.ir_tree_laws.proofs.Put.{of_spot, put_find}
+use Rattle.ir_event.specs.types.Words.{is_isolated}
+use Rattle.ir_event.specs.types.Terms.{TypeTerm, Index, AttrTerm}
+use Rattle.ir_event.specs.trees.declared.value.Value.{Value}
+use Rattle.ir_event.specs.trees.declared.value.Value.TheVariants.{Result, Arg}
+use Rattle.ir_event.specs.trees.declared.place.Place.{Place}
+use Rattle.ir_event.specs.trees.Tree.{block, no_ops, head, regions}
+use Rattle.ir_event.specs.trees.Ids.{find, has_id, op_count}
+use Rattle.ir_event.specs.trees.Limits.{most_around, most_next, most_ops}
+use Rattle.ir_event.specs.trees.Frames.{owner_of}
+use Rattle.ir_event.specs.trees.Places.{ops_each_list, put, put_here}
+use Rattle.ir_event.specs.trees.Sites.{visible}
+use Rattle.ir_event.specs.trees.Uses.{same_value, uses_of}
+use Rattle.ir_event.specs.trees.Meaning.{Operation}
+use Rattle.ir_event.specs.trees.WellFormed.{IsWellFormed}
+use Rattle.ir_event.specs.tree_laws.Members.{In}
+use Rattle.ir_event.specs.tree_laws.Reads.{around}
+use Rattle.ir_event.specs.tree_laws.Reasons.{fits_around, has_place, with_id}
+use Rattle.ir_event.specs.tree_laws.Values.{arguments_at, arguments_of, has_value, region_at, type_of_value}
+use Rattle.ir_event.proofs.of_tree_laws.Around.{absent_find, stand_present}
+use Rattle.ir_event.proofs.of_tree_laws.Members.{found_stands, joined_ops}
+use Rattle.ir_event.proofs.of_tree_laws.Put.{of_spot, put_find}
 use Rattle.ir_event.specs.Modules.{Module}
 use Rattle.rewriter_machine.specs.Contents.{Edit, all_edited, edit_reason, edited}
 use Rattle.rewriter_machine.specs.Edits.{Make}
 use Rattle.patterns_edits.specs.Lists.{Free}
-use Rattle.patterns_base.specs.Keeps.{lowered_type}
-use Rattle.patterns_base.specs.Looks.{Header, is_index}
-use Rattle.patterns_base.specs.Made.{bridge}
-use Rattle.patterns_base.specs.Makes.{arguments_from}
-use Rattle.patterns_base.specs.Lowering.{bridges, end_of, indices, marked}
+use Rattle.patterns_yields.specs.base.Keeps.{lowered_type}
+use Rattle.patterns_yields.specs.base.Looks.{Header, is_index}
+use Rattle.patterns_yields.specs.base.Made.{bridge}
+use Rattle.patterns_yields.specs.base.Makes.{arguments_from}
+use Rattle.patterns_yields.specs.base.Lowering.{bridges, end_of, indices, marked}
 use Rattle.patterns_facts.proofs.CastsAccepted.{Room}
 use Rattle.patterns_facts.proofs.ChoicesAccepted.{cast_uses}
 use Rattle.patterns_facts.proofs.Kept as kept
@@ -42,7 +42,7 @@ use Rattle.patterns_facts.proofs.NearAccepted.{results_in}
 use Rattle.patterns_facts.proofs.Ordered.{Inside, inner_shows, later_around, put_inside}
 use Rattle.patterns_facts.proofs.Steps.{Across, each_at}
 use Rattle.patterns_facts.proofs.Within as within_y
-use Rattle.ir_tree_laws.proofs.Facts.{new_id}
+use Rattle.ir_event.proofs.of_tree_laws.Facts.{new_id}
 
 slice_at : (done : List TypeTerm) (ty : TypeTerm) (tys : List TypeTerm) → slice_get (map lowered_type (done ++ ty ∷ tys)) (length done) ≡ Some (lowered_type ty)
 slice_at [] ty tys = refl

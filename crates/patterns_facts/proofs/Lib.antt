@@ -51,3 +51,4 @@ pub mod Blocks
 pub mod Expanding
 pub mod Lowering
 pub mod Facts
+pub use Rattle.patterns_yields.proofs.of_base

@@ -3,21 +3,21 @@ use Rattle.std.proofs.Common.{◌≡◌, refl, ap, sym, ◌∙◌, ℕ, List, []
 use Rattle.std.specs.Prelude.{codes, is_some}
 use Rattle.std.specs.List.{list_all}
 use Rattle.std.specs.Option.{option_eq}
-use Rattle.ir_types.specs.SameTypes.{same_type}
-use Rattle.ir_types.specs.Terms.{TypeTerm}
-use Rattle.ir_tree.specs.declared.value.Value.{Value}
-use Rattle.ir_tree.specs.declared.place.Place.{Place}
-use Rattle.ir_tree.specs.Tree.{head}
-use Rattle.ir_tree.specs.Meaning.{Operation}
-use Rattle.ir_tree_laws.specs.Members.{In}
+use Rattle.ir_event.specs.types.SameTypes.{same_type}
+use Rattle.ir_event.specs.types.Terms.{TypeTerm}
+use Rattle.ir_event.specs.trees.declared.value.Value.{Value}
+use Rattle.ir_event.specs.trees.declared.place.Place.{Place}
+use Rattle.ir_event.specs.trees.Tree.{head}
+use Rattle.ir_event.specs.trees.Meaning.{Operation}
+use Rattle.ir_event.specs.tree_laws.Members.{In}
 use Rattle.dialects_int.specs.Folds.{Known}
 use Rattle.rewriter_machine.specs.Contents.{Edit}
 use Rattle.patterns_laws.specs.Keeps.{given}
 use Rattle.patterns_laws.specs.Words.{named, among}
-use Rattle.patterns_base.specs.Looks.{Header, One, Two, Three, when, is_clean, giver, source, source_among, is_of_constant, is_constant, constant_value, known, is_number, passes, type_of, is_of_type, one, one_from, two, two_from, three, three_from, predicate}
-use Rattle.patterns_base.specs.Folding.{is_to_swap}
+use Rattle.patterns_yields.specs.base.Looks.{Header, One, Two, Three, when, is_clean, giver, source, source_among, is_of_constant, is_constant, constant_value, known, is_number, passes, type_of, is_of_type, one, one_from, two, two_from, three, three_from, predicate}
+use Rattle.patterns_yields.specs.base.Folding.{is_to_swap}
 use Rattle.patterns_facts.specs.Alike.{Same, ShowsAlike, SeesAlike}
-use Rattle.ir_tree_laws.proofs.Sees.{all_same}
+use Rattle.ir_event.proofs.of_tree_laws.Sees.{all_same}
 use Rattle.listeners_surroundings.proofs.Operands.{same_map}
 
 -- ---- both there, or neither

@@ -5,32 +5,32 @@ use Rattle.std.specs.Prelude.{codes, is_some, nat_lt, option_and_then, slice_get
 use Rattle.std.proofs.lemmas.Cmp.{nat_eq_equiv}
 use Rattle.std.proofs.lemmas.List.{length-map}
 use Rattle.std.proofs.lemmas.Slice.Eq.{bytes_eq-Decides}
-use Rattle.ir_types.specs.Words.{is_isolated, is_table}
-use Rattle.ir_types.specs.Terms.{TypeTerm, Index, Integer, Function, Memref, AttrTerm}
-use Rattle.ir_types.specs.SameTypes.{same_type}
-use Rattle.ir_types.proofs.SameTerms.{type_refl}
-use Rattle.ir_tree.specs.declared.value.Value.{Value}
-use Rattle.ir_tree.specs.declared.value.Value.TheVariants.{Result, Arg}
-use Rattle.ir_tree.specs.declared.place.Place.{Place}
-use Rattle.ir_tree.specs.Tree.{OpsOf, block, next, no_ops, head, regions}
-use Rattle.ir_tree.specs.Ids.{find, has_id}
-use Rattle.ir_tree.specs.Frames.{owner_of}
-use Rattle.ir_tree.specs.Limits.{most_around}
-use Rattle.ir_tree.specs.Sites.{visible}
-use Rattle.ir_tree.specs.Uses.{same_value, uses_of}
-use Rattle.ir_tree.specs.Meaning.{Operation}
-use Rattle.ir_tree.proofs.Replaced.{same_value_true}
-use Rattle.ir_tree_laws.specs.Members.{In}
-use Rattle.ir_tree_laws.specs.Reasons.{has_place, hold_none, with_id}
-use Rattle.ir_tree_laws.specs.Stands.{StandOf, sees as sees_from}
-use Rattle.ir_tree_laws.specs.Values.{arguments_at, arguments_of, region_at, type_of_value}
-use Rattle.ir_tree_laws.proofs.Around.{absent_find, around_there, stand_present}
-use Rattle.ir_tree_laws.proofs.Listed.{in_map, in_right}
-use Rattle.ir_tree_laws.proofs.Members.{found_stands, joined_ops, same_stand, stand, stand_found}
-use Rattle.ir_tree_laws.proofs.Formed.{ids_below}
-use Rattle.ir_tree_laws.proofs.Readings.{step}
-use Rattle.ir_tree_laws.proofs.Sees.{visible_there}
-use Rattle.ir_tree_laws.proofs.Values.{not_own, seen_by}
+use Rattle.ir_event.specs.types.Words.{is_isolated, is_table}
+use Rattle.ir_event.specs.types.Terms.{TypeTerm, Index, Integer, Function, Memref, AttrTerm}
+use Rattle.ir_event.specs.types.SameTypes.{same_type}
+use Rattle.ir_event.proofs.of_types.SameTerms.{type_refl}
+use Rattle.ir_event.specs.trees.declared.value.Value.{Value}
+use Rattle.ir_event.specs.trees.declared.value.Value.TheVariants.{Result, Arg}
+use Rattle.ir_event.specs.trees.declared.place.Place.{Place}
+use Rattle.ir_event.specs.trees.Tree.{OpsOf, block, next, no_ops, head, regions}
+use Rattle.ir_event.specs.trees.Ids.{find, has_id}
+use Rattle.ir_event.specs.trees.Frames.{owner_of}
+use Rattle.ir_event.specs.trees.Limits.{most_around}
+use Rattle.ir_event.specs.trees.Sites.{visible}
+use Rattle.ir_event.specs.trees.Uses.{same_value, uses_of}
+use Rattle.ir_event.specs.trees.Meaning.{Operation}
+use Rattle.ir_event.proofs.of_trees.Replaced.{same_value_true}
+use Rattle.ir_event.specs.tree_laws.Members.{In}
+use Rattle.ir_event.specs.tree_laws.Reasons.{has_place, hold_none, with_id}
+use Rattle.ir_event.specs.tree_laws.Stands.{StandOf, sees as sees_from}
+use Rattle.ir_event.specs.tree_laws.Values.{arguments_at, arguments_of, region_at, type_of_value}
+use Rattle.ir_event.proofs.of_tree_laws.Around.{absent_find, around_there, stand_present}
+use Rattle.ir_event.proofs.of_tree_laws.Listed.{in_map, in_right}
+use Rattle.ir_event.proofs.of_tree_laws.Members.{found_stands, joined_ops, same_stand, stand, stand_found}
+use Rattle.ir_event.proofs.of_tree_laws.Formed.{ids_below}
+use Rattle.ir_event.proofs.of_tree_laws.Readings.{step}
+use Rattle.ir_event.proofs.of_tree_laws.Sees.{visible_there}
+use Rattle.ir_event.proofs.of_tree_laws.Values.{not_own, seen_by}
 use Rattle.ir_event.specs.Modules.{Module}
 use Rattle.rewriter_machine.specs.Contents.{Edit, all_edited, edited}
 use Rattle.rewriter_machine.specs.Edits.{Make}
@@ -42,12 +42,12 @@ use Rattle.patterns_edits.proofs.Give.{there_is}
 use Rattle.patterns_edits.proofs.Headed.{found_there}
 use Rattle.patterns_edits.proofs.Made as made_there
 use Rattle.patterns_edits.proofs.Plans.{StandsAt, sees}
-use Rattle.patterns_base.specs.Keeps.{lowered_type}
-use Rattle.patterns_base.specs.Words.{named}
-use Rattle.patterns_base.specs.Looks.{Ended, Header, body, is_index, is_index_value}
-use Rattle.patterns_base.specs.Made.{i64}
-use Rattle.patterns_base.specs.Makes.{arguments_from, replaced, replacing}
-use Rattle.patterns_base.specs.Lowering.{bridges, brought, crossed, end_of, index_operands, indices, lowered_op, marked}
+use Rattle.patterns_yields.specs.base.Keeps.{lowered_type}
+use Rattle.patterns_yields.specs.base.Words.{named}
+use Rattle.patterns_yields.specs.base.Looks.{Ended, Header, body, is_index, is_index_value}
+use Rattle.patterns_yields.specs.base.Made.{i64}
+use Rattle.patterns_yields.specs.base.Makes.{arguments_from, replaced, replacing}
+use Rattle.patterns_yields.specs.base.Lowering.{bridges, brought, crossed, end_of, index_operands, indices, lowered_op, marked}
 use Rattle.patterns_yields.proofs.Ends.{Ending, ending}
 use Rattle.patterns_facts.proofs.Across.{argument_users, before_is, one_stands}
 use Rattle.patterns_facts.proofs.Brought as bringing
@@ -73,10 +73,10 @@ use Rattle.patterns_facts.proofs.Phases.{Out, id_of}
 use Rattle.patterns_facts.proofs.Spots.{Spot, here_is, own_operand, sees_operand, stands_there}
 use Rattle.patterns_facts.proofs.Started.{absent_from, fit_of, leaf_uses, lowered_at, missing_unused, nothing_used, rel_of, shallow_out, started, started_block, started_side}
 use Rattle.patterns_facts.proofs.Steps.{Across, Fit, nothing, there_of, two_apart}
-use Rattle.patterns_base.proofs.Facts.{crossed_length, kept_type}
+use Rattle.patterns_yields.proofs.of_base.Facts.{crossed_length, kept_type}
 use Rattle.std.proofs.lemmas.Option.{slice_get_within, same_Some}
 use Rattle.ir_event.proofs.Facts.{own_id}
-use Rattle.ir_tree_laws.proofs.Facts.{new_id}
+use Rattle.ir_event.proofs.of_tree_laws.Facts.{new_id}
 
 pub got_none : (tys : List TypeTerm) (k : ℕ) → length tys ≤ k → is_some (slice_get tys k) ≡ false
 got_none [] zero l = refl

@@ -4,21 +4,21 @@ use Rattle.std.specs.Prelude.{codes, drop, option_map, option_and_then, is_some,
 use Rattle.std.specs.Option.{option_eq}
 use Rattle.std.specs.Str.{bytes_eq}
 use Rattle.std.proofs.lemmas.Slice.Eq.{bytes_eq-Decides}
-use Rattle.ir_types.specs.Words.{is_isolated, is_table}
-use Rattle.ir_types.specs.Terms.{TypeTerm, AttrTerm}
-use Rattle.ir_types.specs.SameTypes.{same_type}
-use Rattle.ir_tree.specs.declared.value.Value.{Value}
-use Rattle.ir_tree.specs.declared.place.Place.{Place}
-use Rattle.ir_tree.specs.Tree.{block, no_ops, head, regions}
-use Rattle.ir_tree.specs.Meaning.{Operation}
-use Rattle.ir_store.specs.Nodes.{node_of}
-use Rattle.ir_tree_laws.specs.Members.{In}
-use Rattle.ir_tree_laws.specs.Reads.{ops_in}
-use Rattle.ir_tree_laws.specs.Stands.{StepOf, stands}
-use Rattle.ir_tree_laws.specs.Values.{type_of_value}
-use Rattle.ir_tree_laws.proofs.Listed.{both, neither}
-use Rattle.ir_tree_laws.proofs.Members.{found_stands, stand, stand_of_member}
-use Rattle.ir_tree_laws.proofs.Readings.{step}
+use Rattle.ir_event.specs.types.Words.{is_isolated, is_table}
+use Rattle.ir_event.specs.types.Terms.{TypeTerm, AttrTerm}
+use Rattle.ir_event.specs.types.SameTypes.{same_type}
+use Rattle.ir_event.specs.trees.declared.value.Value.{Value}
+use Rattle.ir_event.specs.trees.declared.place.Place.{Place}
+use Rattle.ir_event.specs.trees.Tree.{block, no_ops, head, regions}
+use Rattle.ir_event.specs.trees.Meaning.{Operation}
+use Rattle.ir_event.specs.store.Nodes.{node_of}
+use Rattle.ir_event.specs.tree_laws.Members.{In}
+use Rattle.ir_event.specs.tree_laws.Reads.{ops_in}
+use Rattle.ir_event.specs.tree_laws.Stands.{StepOf, stands}
+use Rattle.ir_event.specs.tree_laws.Values.{type_of_value}
+use Rattle.ir_event.proofs.of_tree_laws.Listed.{both, neither}
+use Rattle.ir_event.proofs.of_tree_laws.Members.{found_stands, stand, stand_of_member}
+use Rattle.ir_event.proofs.of_tree_laws.Readings.{step}
 use Rattle.op_registry.specs.Rows.{RegionRow, Row, TypesRow, rows}
 use Rattle.op_registry.specs.declared.definition.TypeRule.TheVariants as type
 use Rattle.op_registry.specs.Registry.{row_of}
@@ -31,7 +31,7 @@ use Rattle.ir_verify.specs.BlockRules.{breaks_9, ends_otherwise, isnt_wanted, la
 use Rattle.ir_verify.specs.PlaceRules.{differ, ended_of, if_well_shaped, passed}
 use Rattle.ir_event.specs.Modules.{Module}
 use Rattle.patterns_edits.proofs.Plans.{sees}
-use Rattle.patterns_base.specs.Looks.{Ended, body}
+use Rattle.patterns_yields.specs.base.Looks.{Ended, body}
 use Rattle.patterns_yields.proofs.Ends.{Ending, ending, names_at}
 use Rattle.patterns_yields.proofs.Unbroken.{Unbroken, clean_unbroken, spoken}
 use Rattle.patterns_facts.proofs.CleanBlocks.{block_is, unbroken_there}

@@ -2,19 +2,19 @@
 use Rattle.std.proofs.Common.{◌≡◌, refl, ap, sym, ◌∙◌, subst, ℕ, zero, suc, ◌<◌, ◌≤◌, Bool, true, false, List, [], ◌∷◌, ◌++◌, length, map, Some, option_map, inl, inr, ◌⊎◌, if◌then◌else◌, arith}
 use Rattle.std.specs.Prelude.{codes, drop, int_lt, is_some, slice_get}
 use Rattle.std.proofs.lemmas.Slice.Eq.{bytes_eq-Decides}
-use Rattle.ir_types.specs.Words.{is_isolated, is_table}
-use Rattle.ir_types.specs.Terms.{TypeTerm}
-use Rattle.ir_tree.specs.declared.value.Value.{Value}
-use Rattle.ir_tree.specs.declared.value.Value.TheVariants.{Arg}
-use Rattle.ir_tree.specs.declared.place.Place.{Place}
-use Rattle.ir_tree.specs.Tree.{block, no_ops, next, head, regions}
-use Rattle.ir_tree.specs.Ids.{find}
-use Rattle.ir_tree.specs.Uses.{uses_of}
-use Rattle.ir_tree.specs.Meaning.{Operation}
-use Rattle.ir_tree_laws.specs.Members.{In}
-use Rattle.ir_tree_laws.specs.Values.{region_at, type_of_value}
-use Rattle.ir_tree_laws.proofs.Listed.{in_map, in_mapped}
-use Rattle.ir_tree_laws.proofs.Members.{joined_ops}
+use Rattle.ir_event.specs.types.Words.{is_isolated, is_table}
+use Rattle.ir_event.specs.types.Terms.{TypeTerm}
+use Rattle.ir_event.specs.trees.declared.value.Value.{Value}
+use Rattle.ir_event.specs.trees.declared.value.Value.TheVariants.{Arg}
+use Rattle.ir_event.specs.trees.declared.place.Place.{Place}
+use Rattle.ir_event.specs.trees.Tree.{block, no_ops, next, head, regions}
+use Rattle.ir_event.specs.trees.Ids.{find}
+use Rattle.ir_event.specs.trees.Uses.{uses_of}
+use Rattle.ir_event.specs.trees.Meaning.{Operation}
+use Rattle.ir_event.specs.tree_laws.Members.{In}
+use Rattle.ir_event.specs.tree_laws.Values.{region_at, type_of_value}
+use Rattle.ir_event.proofs.of_tree_laws.Listed.{in_map, in_mapped}
+use Rattle.ir_event.proofs.of_tree_laws.Members.{joined_ops}
 use Rattle.ir_verify_base.specs.Types.{same_types}
 use Rattle.ir_verify_base.specs.Fits.{there}
 use Rattle.ir_event.specs.Modules.{Module}
@@ -23,12 +23,12 @@ use Rattle.patterns_edits.specs.Lists.{Free}
 use Rattle.patterns_edits.proofs.Body.{list_ids}
 use Rattle.patterns_edits.proofs.Headed.{found_there}
 use Rattle.patterns_edits.proofs.Plans.{HasFirst, sees}
-use Rattle.patterns_base.specs.Keeps.{given}
+use Rattle.patterns_yields.specs.base.Keeps.{given}
 use Rattle.dialects_int.specs.Folds.{Known}
-use Rattle.patterns_base.specs.Words.{named}
-use Rattle.patterns_base.specs.Looks.{Ended, Header, body, is_number, known, when}
-use Rattle.patterns_base.specs.Makes.{give_body}
-use Rattle.patterns_base.specs.Opening.{Loop, by_bounds, by_end, goes_once, loop_from, never, once, opened, reading, open_loop, stop_loop}
+use Rattle.patterns_yields.specs.base.Words.{named}
+use Rattle.patterns_yields.specs.base.Looks.{Ended, Header, body, is_number, known, when}
+use Rattle.patterns_yields.specs.base.Makes.{give_body}
+use Rattle.patterns_yields.specs.base.Opening.{Loop, by_bounds, by_end, goes_once, loop_from, never, once, opened, reading, open_loop, stop_loop}
 use Rattle.patterns_yields.specs.Yields.{IsCleanOf}
 use Rattle.patterns_yields.proofs.Ends.{Ending, ending}
 use Rattle.patterns_yields.proofs.Yielding.{loop_types}
@@ -42,7 +42,7 @@ use Rattle.patterns_facts.proofs.Spots.{Spot, here_is, sees_operand, stands_ther
 use Rattle.patterns_laws.proofs.KnownFolds.{given_some}
 use Rattle.patterns_facts.proofs.LoopStages.{got_none}
 use Rattle.std.proofs.lemmas.Option.{same_Some}
-use Rattle.patterns_base.proofs.Facts.{when_some}
+use Rattle.patterns_yields.proofs.of_base.Facts.{when_some}
 
 module _ (m : Module) (o : Operation) (front : Place) (s : Spot m o front) where
   abbrev x : ℕ

@@ -3,21 +3,21 @@ use Rattle.std.proofs.Common.{◌≡◌, refl, ap, sym, ◌∙◌, subst, ℕ, z
 use Rattle.std.specs.List.{range_with_len}
 use Rattle.std.specs.Prelude.{codes, option_and_then, slice_get}
 use Rattle.std.proofs.lemmas.List.{length-map, length-set}
-use Rattle.ir_types.specs.Words.{is_isolated}
-use Rattle.ir_types.specs.Terms.{TypeTerm, Index}
-use Rattle.ir_tree.specs.declared.value.Value.{Value}
-use Rattle.ir_tree.specs.declared.value.Value.TheVariants.{Result}
-use Rattle.ir_tree.specs.declared.place.Place.{Place}
-use Rattle.ir_tree.specs.Tree.{head}
-use Rattle.ir_tree.specs.Ids.{find, has_id}
-use Rattle.ir_tree.specs.Edits.{at, put_operand}
-use Rattle.ir_tree.specs.Meaning.{Operation}
-use Rattle.ir_tree_laws.specs.Members.{In}
-use Rattle.ir_tree_laws.specs.Values.{arguments_at, type_of_value}
-use Rattle.ir_tree_laws.proofs.Around.{stand_present}
-use Rattle.ir_tree_laws.proofs.HeadForm.{alike_at}
-use Rattle.ir_tree_laws.proofs.Listed.{both, in_mapped}
-use Rattle.ir_tree_laws.proofs.Members.{stand}
+use Rattle.ir_event.specs.types.Words.{is_isolated}
+use Rattle.ir_event.specs.types.Terms.{TypeTerm, Index}
+use Rattle.ir_event.specs.trees.declared.value.Value.{Value}
+use Rattle.ir_event.specs.trees.declared.value.Value.TheVariants.{Result}
+use Rattle.ir_event.specs.trees.declared.place.Place.{Place}
+use Rattle.ir_event.specs.trees.Tree.{head}
+use Rattle.ir_event.specs.trees.Ids.{find, has_id}
+use Rattle.ir_event.specs.trees.Edits.{at, put_operand}
+use Rattle.ir_event.specs.trees.Meaning.{Operation}
+use Rattle.ir_event.specs.tree_laws.Members.{In}
+use Rattle.ir_event.specs.tree_laws.Values.{arguments_at, type_of_value}
+use Rattle.ir_event.proofs.of_tree_laws.Around.{stand_present}
+use Rattle.ir_event.proofs.of_tree_laws.HeadForm.{alike_at}
+use Rattle.ir_event.proofs.of_tree_laws.Listed.{both, in_mapped}
+use Rattle.ir_event.proofs.of_tree_laws.Members.{stand}
 use Rattle.ir_event.specs.Modules.{Module}
 use Rattle.rewriter_machine.specs.Contents.{Edit, edited}
 use Rattle.rewriter_machine.specs.Edits.{Erase, Make, SetOperand}
@@ -26,12 +26,12 @@ use Rattle.patterns_edits.proofs.Front.{stands_before}
 use Rattle.patterns_edits.proofs.Headed.{found_there}
 use Rattle.patterns_edits.proofs.Made as made_there
 use Rattle.patterns_edits.proofs.Plans.{StandsAt, sees}
-use Rattle.patterns_base.specs.Keeps.{given, lowered_type}
-use Rattle.patterns_base.specs.Words.{named}
-use Rattle.patterns_base.specs.Looks.{Ended, Header, body, is_index, is_index_value}
-use Rattle.patterns_base.specs.Made.{bridge, i64, placeholder}
-use Rattle.patterns_base.specs.Makes.{arguments_from, erasing, made_by, replaced, replacing, results_from}
-use Rattle.patterns_base.specs.Lowering.{any, before_in, bridges, brought, crossed, crossing, end_of, give_lowered, index_operands, indices, lower_loop, lowered_id, lowered_loop, make_lowered, marked, move_over, take_over}
+use Rattle.patterns_yields.specs.base.Keeps.{given, lowered_type}
+use Rattle.patterns_yields.specs.base.Words.{named}
+use Rattle.patterns_yields.specs.base.Looks.{Ended, Header, body, is_index, is_index_value}
+use Rattle.patterns_yields.specs.base.Made.{bridge, i64, placeholder}
+use Rattle.patterns_yields.specs.base.Makes.{arguments_from, erasing, made_by, replaced, replacing, results_from}
+use Rattle.patterns_yields.specs.base.Lowering.{any, before_in, bridges, brought, crossed, crossing, end_of, give_lowered, index_operands, indices, lower_loop, lowered_id, lowered_loop, make_lowered, marked, move_over, take_over}
 use Rattle.patterns_yields.specs.Yields.{IsCleanOf}
 use Rattle.patterns_yields.proofs.Yielding.{loops_hand_on_all}
 use Rattle.patterns_facts.proofs.Across.{inside_behind}
@@ -50,9 +50,9 @@ use Rattle.patterns_facts.proofs.Ordered.{later_shows}
 use Rattle.patterns_facts.proofs.PairsAccepted.{holds_are, pairs_are}
 use Rattle.patterns_facts.proofs.Replacing.{Near, near_headed, near_kept, pair_edits}
 use Rattle.patterns_facts.proofs.Spots.{Spot}
-use Rattle.patterns_base.proofs.Facts.{bridges_make, when_some}
+use Rattle.patterns_yields.proofs.of_base.Facts.{bridges_make, when_some}
 use Rattle.patterns_laws.proofs.KnownFolds.{given_some}
-use Rattle.patterns_base.proofs.Making.{joined}
+use Rattle.patterns_yields.proofs.of_base.Making.{joined}
 use Rattle.std.proofs.lemmas.Option.{same_Some}
 
 regrouped : (a b c d e f g h i j : List Edit) → ((((((((a ++ b) ++ c) ++ d) ++ e) ++ f) ++ g) ++ h) ++ i) ++ j ≡ a ++ (b ++ (c ++ (d ++ (e ++ (f ++ (g ++ (h ++ (i ++ j))))))))

@@ -1,10 +1,10 @@
 -- Rules that take index to i64. They move the ends of blocks, and look at the users of results, so that nothing is said of
 -- the order of operations, nor of where they apply again.
-use Rattle.patterns_base.specs.Rules.{rule}
+use Rattle.patterns_yields.specs.base.Rules.{rule}
 use Rattle.patterns_laws.proofs.Lowered.{all_lowered_two, comparison_lowered, choice_lowered, constant_lowered}
-use Rattle.patterns_base.specs.declared.rule.Rule.TheVariants.{LowerIndex, LowerLoop, LowerChoice}
-use Rattle.patterns_base.proofs.Dispatch.{only_listed}
-use Rattle.patterns_base.proofs.Making.{converting_rules_make}
+use Rattle.patterns_yields.specs.base.declared.rule.Rule.TheVariants.{LowerIndex, LowerLoop, LowerChoice}
+use Rattle.patterns_yields.proofs.of_base.Dispatch.{only_listed}
+use Rattle.patterns_yields.proofs.of_base.Making.{converting_rules_make}
 use Rattle.patterns_facts.specs.Facts.{Facts}
 use Rattle.patterns_facts.proofs.Accepting.{are_accepted_at}
 

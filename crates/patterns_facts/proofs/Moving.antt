@@ -2,41 +2,41 @@
 use Rattle.std.proofs.Common.{◌≡◌, refl, ap, sym, ◌∙◌, subst, ℕ, ◌+◌, ◌<◌, Bool, true, false, true≢false, not, ◌&&◌, eqb, eq-eqb, List, [], ◌∷◌, ◌++◌, length, map, Option, Some, None, option_map, inl, inr, ◌⊎◌}
 use Rattle.std.specs.List.{list_all}
 use Rattle.std.specs.Option.{option_eq}
-use Rattle.ir_tree.specs.declared.value.Value.{Value}
-use Rattle.ir_tree.specs.declared.value.Value.TheVariants.{Result}
-use Rattle.ir_tree.specs.declared.place.Place.{Place}
-use Rattle.ir_tree.specs.Tree.{HeadOf, OpOf, op, block, OpsOf, head, regions}
-use Rattle.ir_tree.specs.Ids.{HasDistinctIds, find, has_id}
-use Rattle.ir_tree.specs.Uses.{uses_of}
-use Rattle.ir_tree.specs.Frames.{owner_of}
-use Rattle.ir_tree.specs.Limits.{depth, every}
-use Rattle.ir_tree.specs.Sites.{visible, operands_visible}
-use Rattle.ir_tree.specs.Places.{each_list, put, put_here, region_each_list, shifted, without}
-use Rattle.ir_tree.specs.WellFormed.{ModuleOf, IsWellFormed}
-use Rattle.ir_tree.proofs.Left.{left_distinct}
-use Rattle.ir_tree.proofs.Moves.{unput, untouched}
-use Rattle.ir_tree_laws.specs.Stands.{StepOf, StandOf, stand_id, stands, sees, gone_in, is_gone, left_stand, left_step, dropping}
-use Rattle.ir_tree_laws.specs.Tables.{table_of}
-use Rattle.ir_tree_laws.specs.Members.{In}
-use Rattle.ir_tree_laws.specs.Reads.{around}
-use Rattle.ir_tree_laws.specs.Reasons.{fits_around, has_place, leads_inside, levels_in, same_table, shift_reason}
-use Rattle.ir_tree_laws.specs.Restores.{MayPut}
-use Rattle.ir_tree_laws.specs.Values.{region_at}
-use Rattle.ir_tree_laws.proofs.Listed.{all_each, both_hold, each_all, in_left, in_parts, in_right}
-use Rattle.ir_tree_laws.proofs.Readings.{stands_every}
-use Rattle.ir_tree_laws.proofs.Members.{found_stands, same_stand, stand, stand_found, within}
-use Rattle.ir_tree_laws.proofs.Around.{absent_find, present_stand, stand_present}
-use Rattle.ir_tree_laws.proofs.Put.{put_find, region_each}
-use Rattle.ir_tree_laws.proofs.PutForm as put_form
-use Rattle.ir_tree_laws.proofs.Edited.{around_stays, head_stays, put_uses, sight_stays, table_stays, taken_uses}
-use Rattle.ir_tree_laws.proofs.Sees.{stands_operands, visible_there}
-use Rattle.ir_tree_laws.proofs.Shift as shift
-use Rattle.ir_tree_laws.proofs.ShiftSight.{shift_sees}
-use Rattle.ir_tree_laws.proofs.WellKept.{shift_keeps}
-use Rattle.ir_tree_laws.proofs.Without.{left_member, member_left, same_head}
+use Rattle.ir_event.specs.trees.declared.value.Value.{Value}
+use Rattle.ir_event.specs.trees.declared.value.Value.TheVariants.{Result}
+use Rattle.ir_event.specs.trees.declared.place.Place.{Place}
+use Rattle.ir_event.specs.trees.Tree.{HeadOf, OpOf, op, block, OpsOf, head, regions}
+use Rattle.ir_event.specs.trees.Ids.{HasDistinctIds, find, has_id}
+use Rattle.ir_event.specs.trees.Uses.{uses_of}
+use Rattle.ir_event.specs.trees.Frames.{owner_of}
+use Rattle.ir_event.specs.trees.Limits.{depth, every}
+use Rattle.ir_event.specs.trees.Sites.{visible, operands_visible}
+use Rattle.ir_event.specs.trees.Places.{each_list, put, put_here, region_each_list, shifted, without}
+use Rattle.ir_event.specs.trees.WellFormed.{ModuleOf, IsWellFormed}
+use Rattle.ir_event.proofs.of_trees.Left.{left_distinct}
+use Rattle.ir_event.proofs.of_trees.Moves.{unput, untouched}
+use Rattle.ir_event.specs.tree_laws.Stands.{StepOf, StandOf, stand_id, stands, sees, gone_in, is_gone, left_stand, left_step, dropping}
+use Rattle.ir_event.specs.tree_laws.Tables.{table_of}
+use Rattle.ir_event.specs.tree_laws.Members.{In}
+use Rattle.ir_event.specs.tree_laws.Reads.{around}
+use Rattle.ir_event.specs.tree_laws.Reasons.{fits_around, has_place, leads_inside, levels_in, same_table, shift_reason}
+use Rattle.ir_event.specs.tree_laws.Restores.{MayPut}
+use Rattle.ir_event.specs.tree_laws.Values.{region_at}
+use Rattle.ir_event.proofs.of_tree_laws.Listed.{all_each, both_hold, each_all, in_left, in_parts, in_right}
+use Rattle.ir_event.proofs.of_tree_laws.Readings.{stands_every}
+use Rattle.ir_event.proofs.of_tree_laws.Members.{found_stands, same_stand, stand, stand_found, within}
+use Rattle.ir_event.proofs.of_tree_laws.Around.{absent_find, present_stand, stand_present}
+use Rattle.ir_event.proofs.of_tree_laws.Put.{put_find, region_each}
+use Rattle.ir_event.proofs.of_tree_laws.PutForm as put_form
+use Rattle.ir_event.proofs.of_tree_laws.Edited.{around_stays, head_stays, put_uses, sight_stays, table_stays, taken_uses}
+use Rattle.ir_event.proofs.of_tree_laws.Sees.{stands_operands, visible_there}
+use Rattle.ir_event.proofs.of_tree_laws.Shift as shift
+use Rattle.ir_event.proofs.of_tree_laws.ShiftSight.{shift_sees}
+use Rattle.ir_event.proofs.of_tree_laws.WellKept.{shift_keeps}
+use Rattle.ir_event.proofs.of_tree_laws.Without.{left_member, member_left, same_head}
 use Rattle.patterns_edits.proofs.Moved.{restands, same_option}
 use Rattle.patterns_facts.proofs.Ordered.{Before, Inside, before_back, before_left, inside_back, inside_left, left_gone, there_left}
-use Rattle.ir_tree_laws.proofs.Reverted.{passed, same_tables}
+use Rattle.ir_event.proofs.of_tree_laws.Reverted.{passed, same_tables}
 
 module _ {N T A : Type 0} where
   -- operation p has a block in region r

@@ -1,18 +1,18 @@
 -- Edits near an operation, put together as rules do.
 use Rattle.std.proofs.Common.{◌≡◌, refl, ap, sym, subst, ℕ, List, [], ◌∷◌, ◌++◌, append_assoc, Bool, true, false, cond, Option, Some, None, inl, inr}
 use Rattle.std.specs.Prelude.{map}
-use Rattle.ir_types.specs.Terms.{TypeTerm, AttrTerm}
-use Rattle.ir_tree.specs.declared.value.Value.{Value}
-use Rattle.ir_tree.specs.declared.place.Place.{Place}
-use Rattle.ir_tree.specs.Tree.{RegionOf, empty, block, OpsOf, no_ops, next, head, regions}
-use Rattle.ir_tree.specs.Meaning.{Operation}
-use Rattle.ir_tree_laws.specs.Values.{region_at}
+use Rattle.ir_event.specs.types.Terms.{TypeTerm, AttrTerm}
+use Rattle.ir_event.specs.trees.declared.value.Value.{Value}
+use Rattle.ir_event.specs.trees.declared.place.Place.{Place}
+use Rattle.ir_event.specs.trees.Tree.{RegionOf, empty, block, OpsOf, no_ops, next, head, regions}
+use Rattle.ir_event.specs.trees.Meaning.{Operation}
+use Rattle.ir_event.specs.tree_laws.Values.{region_at}
 use Rattle.rewriter_machine.specs.Contents.{Edit}
 use Rattle.rewriter_machine.specs.Edits.{Erase}
-use Rattle.patterns_base.specs.Keeps.{given}
-use Rattle.patterns_base.specs.Looks.{Ended, when, is_clean, ended, ended_by, body}
-use Rattle.patterns_base.specs.Makes.{give_body, replacing, moving, results_from, arguments_from, replaced}
-use Rattle.patterns_base.specs.Opening.{opened}
+use Rattle.patterns_yields.specs.base.Keeps.{given}
+use Rattle.patterns_yields.specs.base.Looks.{Ended, when, is_clean, ended, ended_by, body}
+use Rattle.patterns_yields.specs.base.Makes.{give_body, replacing, moving, results_from, arguments_from, replaced}
+use Rattle.patterns_yields.specs.base.Opening.{opened}
 use Rattle.patterns_facts.specs.Near.{Still, Opens, AreNear}
 use Rattle.patterns_facts.proofs.Looking.{when_some}
 

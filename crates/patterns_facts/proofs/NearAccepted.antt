@@ -4,37 +4,37 @@ use Rattle.std.specs.List.{list_all, list_any}
 use Rattle.std.specs.Option.{option_eq}
 use Rattle.std.specs.Prelude.{is_some, option_and_then, slice_get}
 use Rattle.std.proofs.lemmas.List.{length-map}
-use Rattle.ir_types.specs.Words.{is_isolated}
-use Rattle.ir_types.specs.Terms.{TypeTerm, AttrTerm}
-use Rattle.ir_types.specs.SameTypes.{same_type}
-use Rattle.ir_tree.specs.declared.value.Value.{Value}
-use Rattle.ir_tree.specs.declared.value.Value.TheVariants.{Result, Arg}
-use Rattle.ir_tree.specs.declared.place.Place.{Place}
-use Rattle.ir_tree.specs.Tree.{op, head}
-use Rattle.ir_tree.specs.Ids.{HasDistinctIds, find, has_id, ids, op_count}
-use Rattle.ir_tree.specs.Edits.{each_head, put_value, put_values, with_value_replaced}
-use Rattle.ir_tree.specs.Frames.{owner_of}
-use Rattle.ir_tree.specs.Limits.{every}
-use Rattle.ir_tree.specs.Places.{without}
-use Rattle.ir_tree.specs.Sites.{arguments, results_of, shows, visible}
-use Rattle.ir_tree.specs.Uses.{same_value, uses_of}
-use Rattle.ir_tree.specs.Meaning.{Operation}
-use Rattle.ir_tree.specs.WellFormed.{IsWellFormed}
-use Rattle.ir_tree.proofs.Heads.{head_find}
-use Rattle.ir_tree.proofs.Replaced.{old_unused, others_stay}
-use Rattle.ir_tree_laws.specs.Stands.{StandOf, StepOf, gone_in, is_gone, stand_id, stands, sees as sees_from}
-use Rattle.ir_tree_laws.specs.Members.{In}
-use Rattle.ir_tree_laws.specs.Reasons.{users_see}
-use Rattle.ir_tree_laws.specs.Values.{has_value, type_of_value}
-use Rattle.ir_tree_laws.proofs.Around.{around_there, present_stand, stand_present, within_gone}
-use Rattle.ir_tree_laws.proofs.Edited.{around_stays, head_stays, sight_stays, taken_op_count}
-use Rattle.ir_tree_laws.proofs.Formed.{left_well_formed}
-use Rattle.ir_tree_laws.proofs.HeadForm.{edit_ids, replaced_keeps}
-use Rattle.ir_tree_laws.proofs.Heads.{Alike}
-use Rattle.ir_tree_laws.proofs.Listed.{all_each, bool_cases, both, both_hold, each_all, either, one_any, or_left, or_right}
-use Rattle.ir_tree_laws.proofs.Members.{HasAround, found_stands, has_around, same_stand, stand, stand_found, within}
-use Rattle.ir_tree_laws.proofs.Sees.{stands_operands, visible_there}
-use Rattle.ir_tree_laws.proofs.Values.{seen_by}
+use Rattle.ir_event.specs.types.Words.{is_isolated}
+use Rattle.ir_event.specs.types.Terms.{TypeTerm, AttrTerm}
+use Rattle.ir_event.specs.types.SameTypes.{same_type}
+use Rattle.ir_event.specs.trees.declared.value.Value.{Value}
+use Rattle.ir_event.specs.trees.declared.value.Value.TheVariants.{Result, Arg}
+use Rattle.ir_event.specs.trees.declared.place.Place.{Place}
+use Rattle.ir_event.specs.trees.Tree.{op, head}
+use Rattle.ir_event.specs.trees.Ids.{HasDistinctIds, find, has_id, ids, op_count}
+use Rattle.ir_event.specs.trees.Edits.{each_head, put_value, put_values, with_value_replaced}
+use Rattle.ir_event.specs.trees.Frames.{owner_of}
+use Rattle.ir_event.specs.trees.Limits.{every}
+use Rattle.ir_event.specs.trees.Places.{without}
+use Rattle.ir_event.specs.trees.Sites.{arguments, results_of, shows, visible}
+use Rattle.ir_event.specs.trees.Uses.{same_value, uses_of}
+use Rattle.ir_event.specs.trees.Meaning.{Operation}
+use Rattle.ir_event.specs.trees.WellFormed.{IsWellFormed}
+use Rattle.ir_event.proofs.of_trees.Heads.{head_find}
+use Rattle.ir_event.proofs.of_trees.Replaced.{old_unused, others_stay}
+use Rattle.ir_event.specs.tree_laws.Stands.{StandOf, StepOf, gone_in, is_gone, stand_id, stands, sees as sees_from}
+use Rattle.ir_event.specs.tree_laws.Members.{In}
+use Rattle.ir_event.specs.tree_laws.Reasons.{users_see}
+use Rattle.ir_event.specs.tree_laws.Values.{has_value, type_of_value}
+use Rattle.ir_event.proofs.of_tree_laws.Around.{around_there, present_stand, stand_present, within_gone}
+use Rattle.ir_event.proofs.of_tree_laws.Edited.{around_stays, head_stays, sight_stays, taken_op_count}
+use Rattle.ir_event.proofs.of_tree_laws.Formed.{left_well_formed}
+use Rattle.ir_event.proofs.of_tree_laws.HeadForm.{edit_ids, replaced_keeps}
+use Rattle.ir_event.proofs.of_tree_laws.Heads.{Alike}
+use Rattle.ir_event.proofs.of_tree_laws.Listed.{all_each, bool_cases, both, both_hold, each_all, either, one_any, or_left, or_right}
+use Rattle.ir_event.proofs.of_tree_laws.Members.{HasAround, found_stands, has_around, same_stand, stand, stand_found, within}
+use Rattle.ir_event.proofs.of_tree_laws.Sees.{stands_operands, visible_there}
+use Rattle.ir_event.proofs.of_tree_laws.Values.{seen_by}
 use Rattle.ir_event.specs.Modules.{Module}
 use Rattle.rewriter_machine.specs.Contents.{Edit, all_edited, edit_reason, edited}
 use Rattle.rewriter_machine.specs.Edits.{Erase, Replace}
@@ -44,7 +44,7 @@ use Rattle.patterns_edits.proofs.Front.{stands_before}
 use Rattle.patterns_edits.proofs.Given.{seen_is, user}
 use Rattle.patterns_edits.proofs.Headed as headed
 use Rattle.patterns_edits.proofs.Plans.{StandsAt, sees}
-use Rattle.patterns_base.specs.Looks.{Header}
+use Rattle.patterns_yields.specs.base.Looks.{Header}
 use Rattle.patterns_facts.proofs.Across.{argument_within, before_is, behind_inside, child_within, inside_behind, not_root}
 use Rattle.patterns_facts.proofs.Arguments.{replaced_uses}
 use Rattle.patterns_facts.proofs.CastsAccepted.{Room}
@@ -56,7 +56,7 @@ use Rattle.patterns_facts.proofs.Spots.{own_operand}
 use Rattle.patterns_facts.proofs.Steps.{there_of}
 use Rattle.std.proofs.lemmas.Option.{slice_get_within}
 use Rattle.ir_event.proofs.Facts.{own_id}
-use Rattle.ir_tree_laws.proofs.Reverted.{passed}
+use Rattle.ir_event.proofs.of_tree_laws.Reverted.{passed}
 
 abbrev Stand : Type 0
 Stand = StandOf (List ℕ) TypeTerm AttrTerm

@@ -2,20 +2,20 @@
 use Rattle.std.proofs.Common.{◌≡◌, refl, sym, subst, ℕ, suc, ◌+◌, Bool, true, false, ◌&&◌, not, List, [], ◌∷◌, Option, Some, None, if◌then◌else◌, inl, inr, arith}
 use Rattle.std.specs.Prelude.{codes, eqb, ◌||◌}
 use Rattle.std.specs.List.{list_all}
-use Rattle.ir_types.specs.Words.{is_isolated}
-use Rattle.ir_types.specs.Readings.{type_width}
-use Rattle.ir_types.specs.Terms.{TypeTerm, AttrTerm, Overflow}
-use Rattle.ir_types.proofs.SameTerms.{type_refl}
-use Rattle.ir_tree.specs.declared.value.Value.{Value}
-use Rattle.ir_tree.specs.declared.value.Value.TheVariants.{Result}
-use Rattle.ir_tree.specs.declared.place.Place.{Place}
-use Rattle.ir_tree.specs.Tree.{head}
-use Rattle.ir_tree.specs.Limits.{items_fit}
-use Rattle.ir_tree.specs.Sites.{visible}
-use Rattle.ir_tree.specs.Uses.{same_value}
-use Rattle.ir_tree.specs.Meaning.{Operation}
-use Rattle.ir_tree_laws.specs.Members.{In}
-use Rattle.ir_tree_laws.proofs.Listed.{both_hold}
+use Rattle.ir_event.specs.types.Words.{is_isolated}
+use Rattle.ir_event.specs.types.Readings.{type_width}
+use Rattle.ir_event.specs.types.Terms.{TypeTerm, AttrTerm, Overflow}
+use Rattle.ir_event.proofs.of_types.SameTerms.{type_refl}
+use Rattle.ir_event.specs.trees.declared.value.Value.{Value}
+use Rattle.ir_event.specs.trees.declared.value.Value.TheVariants.{Result}
+use Rattle.ir_event.specs.trees.declared.place.Place.{Place}
+use Rattle.ir_event.specs.trees.Tree.{head}
+use Rattle.ir_event.specs.trees.Limits.{items_fit}
+use Rattle.ir_event.specs.trees.Sites.{visible}
+use Rattle.ir_event.specs.trees.Uses.{same_value}
+use Rattle.ir_event.specs.trees.Meaning.{Operation}
+use Rattle.ir_event.specs.tree_laws.Members.{In}
+use Rattle.ir_event.proofs.of_tree_laws.Listed.{both_hold}
 use Rattle.ir_event.specs.Modules.{Module}
 use Rattle.op_registry.specs.Registry.{beside}
 use Rattle.dialects_int.specs.Arithmetic.{all_ones, difference_of}
@@ -24,13 +24,13 @@ use Rattle.rewriter_machine.specs.Contents.{Edit, edited}
 use Rattle.rewriter_machine.specs.Edits.{Make}
 use Rattle.patterns_edits.specs.Lists.{Free}
 use Rattle.patterns_edits.proofs.Plans.{sees}
-use Rattle.patterns_base.specs.Keeps.{holds_of_itself}
-use Rattle.patterns_base.specs.Words.{among, asking, cancelling, dividing, extensions, flagged, named, regrouping, remainders}
-use Rattle.patterns_base.specs.Made.{Entries, binary, cast, choice, comparison, constant, flags, i1, made, predicate_entry, value_entry}
-use Rattle.patterns_base.specs.Looks.{Header, is_number, is_of_type, known, one, predicate, source, source_among, when}
-use Rattle.patterns_base.specs.Makes.{give, give_constant, give_new}
-use Rattle.patterns_base.specs.Casting.{resizing, extend_extension, cut_cast}
-use Rattle.patterns_base.specs.Folding.{folded_to, may_read, fold_to_constant, cancel_itself, zero_remainder, regroup_constants, add_negative, compare_itself, compare_zero, expand_min_max, expand_difference, expand_remainder}
+use Rattle.patterns_yields.specs.base.Keeps.{holds_of_itself}
+use Rattle.patterns_yields.specs.base.Words.{among, asking, cancelling, dividing, extensions, flagged, named, regrouping, remainders}
+use Rattle.patterns_yields.specs.base.Made.{Entries, binary, cast, choice, comparison, constant, flags, i1, made, predicate_entry, value_entry}
+use Rattle.patterns_yields.specs.base.Looks.{Header, is_number, is_of_type, known, one, predicate, source, source_among, when}
+use Rattle.patterns_yields.specs.base.Makes.{give, give_constant, give_new}
+use Rattle.patterns_yields.specs.base.Casting.{resizing, extend_extension, cut_cast}
+use Rattle.patterns_yields.specs.base.Folding.{folded_to, may_read, fold_to_constant, cancel_itself, zero_remainder, regroup_constants, add_negative, compare_itself, compare_zero, expand_min_max, expand_difference, expand_remainder}
 use Rattle.patterns_facts.proofs.Spots.{Giver, Spot, sees_behind, sees_operand}
 use Rattle.patterns_facts.proofs.Fit as fit
 use Rattle.patterns_facts.proofs.Fit.{Fit}
@@ -38,7 +38,7 @@ use Rattle.patterns_facts.proofs.Shapes.{one_is, source_among_is, source_is, two
 use Rattle.patterns_facts.proofs.Given.{HasRoom, fits, gives_behind}
 use Rattle.patterns_laws.proofs.KnownFolds.{given_some}
 use Rattle.std.proofs.lemmas.Option.{same_Some}
-use Rattle.patterns_base.proofs.Facts.{when_some}
+use Rattle.patterns_yields.proofs.of_base.Facts.{when_some}
 
 pub few_flags : (name : List ℕ) → items_fit (flags name) ≡ true
 few_flags name = go (among flagged name)

@@ -2,18 +2,18 @@
 use Rattle.std.proofs.Common.{◌≡◌, refl, ap, sym, ◌∙◌, subst, ℕ, ◌≤◌, Bool, true, false, List, [], ◌∷◌, length, map, Some, option_map, option_and_then, if◌then◌else◌, arith}
 use Rattle.std.specs.Prelude.{codes, eqb}
 use Rattle.std.proofs.lemmas.Slice.Eq.{bytes_eq-Decides}
-use Rattle.ir_types.specs.Words.{is_isolated, is_table}
-use Rattle.ir_types.specs.Terms.{TypeTerm, AttrTerm}
-use Rattle.ir_tree.specs.declared.value.Value.{Value}
-use Rattle.ir_tree.specs.declared.place.Place.{Place}
-use Rattle.ir_tree.specs.Tree.{RegionOf, empty, block, OpsOf, no_ops, head, regions}
-use Rattle.ir_tree.specs.Ids.{find}
-use Rattle.ir_tree.specs.Meaning.{Operation}
-use Rattle.ir_tree_laws.specs.Members.{In}
-use Rattle.ir_tree_laws.specs.Values.{arguments_of, region_at}
-use Rattle.ir_tree_laws.specs.Stands.{stands}
-use Rattle.ir_tree_laws.proofs.Members.{found_stands, stand, stand_found}
-use Rattle.ir_tree_laws.proofs.Readings.{step}
+use Rattle.ir_event.specs.types.Words.{is_isolated, is_table}
+use Rattle.ir_event.specs.types.Terms.{TypeTerm, AttrTerm}
+use Rattle.ir_event.specs.trees.declared.value.Value.{Value}
+use Rattle.ir_event.specs.trees.declared.place.Place.{Place}
+use Rattle.ir_event.specs.trees.Tree.{RegionOf, empty, block, OpsOf, no_ops, head, regions}
+use Rattle.ir_event.specs.trees.Ids.{find}
+use Rattle.ir_event.specs.trees.Meaning.{Operation}
+use Rattle.ir_event.specs.tree_laws.Members.{In}
+use Rattle.ir_event.specs.tree_laws.Values.{arguments_of, region_at}
+use Rattle.ir_event.specs.tree_laws.Stands.{stands}
+use Rattle.ir_event.proofs.of_tree_laws.Members.{found_stands, stand, stand_found}
+use Rattle.ir_event.proofs.of_tree_laws.Readings.{step}
 use Rattle.listeners_surroundings.proofs.Spots.{stands_in}
 use Rattle.ir_event.specs.Modules.{Module}
 use Rattle.rewriter_machine.specs.Contents.{Edit}
@@ -21,11 +21,11 @@ use Rattle.rewriter_machine.specs.Edits.{Erase}
 use Rattle.patterns_edits.specs.Lists.{Free}
 use Rattle.patterns_edits.proofs.Headed.{found_there}
 use Rattle.patterns_edits.proofs.Plans as plans
-use Rattle.patterns_base.specs.Keeps.{given}
-use Rattle.patterns_base.specs.Words.{named}
-use Rattle.patterns_base.specs.Looks.{Ended, Header, body, known}
-use Rattle.patterns_base.specs.Makes.{give_body, replaced}
-use Rattle.patterns_base.specs.Opening.{by_condition, chosen, opened, open_branch}
+use Rattle.patterns_yields.specs.base.Keeps.{given}
+use Rattle.patterns_yields.specs.base.Words.{named}
+use Rattle.patterns_yields.specs.base.Looks.{Ended, Header, body, known}
+use Rattle.patterns_yields.specs.base.Makes.{give_body, replaced}
+use Rattle.patterns_yields.specs.base.Opening.{by_condition, chosen, opened, open_branch}
 use Rattle.patterns_yields.specs.Yields.{IsCleanOf}
 use Rattle.patterns_yields.proofs.Ends.{ending}
 use Rattle.patterns_yields.proofs.Yielding.{choice_types}
@@ -34,7 +34,7 @@ use Rattle.patterns_facts.proofs.Emptied.{HaveTypes, body_free, has_first, have_
 use Rattle.patterns_facts.proofs.Spots.{Spot, here_is, stands_there}
 use Rattle.patterns_laws.proofs.KnownFolds.{given_some}
 use Rattle.std.proofs.lemmas.Option.{same_Some}
-use Rattle.patterns_base.proofs.Facts.{when_some}
+use Rattle.patterns_yields.proofs.of_base.Facts.{when_some}
 
 pub left_alone : (vs : List Value) → map (replaced [] []) vs ≡ vs
 left_alone [] = refl

@@ -2,32 +2,32 @@
 use Rattle.std.proofs.Common.{◌≡◌, refl, ap, sym, ◌∙◌, subst, ℕ, ◌+◌, ◌<◌, ◌≤◌, Bool, true, false, true≢false, not, ◌&&◌, ◌||◌, cond, eqb, eq-eqb, eqb-true, List, [], ◌∷◌, ◌++◌, length, map, filter, Option, Some, None, option_map, inl, inr, arith}
 use Rattle.std.specs.List.{list_any}
 use Rattle.std.specs.Prelude.{nat_lt}
-use Rattle.ir_tree.specs.declared.value.Value.{Value}
-use Rattle.ir_tree.specs.declared.value.Value.TheVariants.{Result, Arg}
-use Rattle.ir_tree.specs.declared.place.Place.{Place}
-use Rattle.ir_tree.specs.Tree.{HeadOf, OpOf, op, RegionOf, block, OpsOf, no_ops, next, head, regions}
-use Rattle.ir_tree.specs.Ids.{HasDistinctIds, find, has_id}
-use Rattle.ir_tree.specs.Edits.{each_head}
-use Rattle.ir_tree.specs.Frames.{owner_of}
-use Rattle.ir_tree.specs.Sites.{arguments, shows, results_of, visible}
-use Rattle.ir_tree.specs.Places.{each_list, first_id, put, without}
-use Rattle.ir_tree.proofs.Moves.{unput, untouched}
-use Rattle.ir_tree_laws.specs.Stands.{StepOf, StandOf, edit_stand, edit_step, stand_id, stands, ops_stands, sees, gone_in, is_gone, left_stand, left_step, dropping, table_in}
-use Rattle.ir_tree_laws.specs.Tables.{table_of}
-use Rattle.ir_tree_laws.specs.Members.{In}
-use Rattle.ir_tree_laws.specs.Reads.{around}
-use Rattle.ir_tree_laws.specs.Restores.{MayPut}
-use Rattle.ir_tree_laws.specs.Values.{region_at}
-use Rattle.ir_tree_laws.proofs.Listed.{any_one, bool_cases, both, both_hold, either, in_filter, in_filtered, in_left, in_map, in_mapped, in_parts, in_right, one_any, or_left, or_right}
-use Rattle.ir_tree_laws.proofs.Readings.{stands_table, step}
-use Rattle.ir_tree_laws.proofs.Members.{found_stands, joined_ops, ops_child, same_stand, stand, stand_found, stand_of_member, within}
-use Rattle.ir_tree_laws.proofs.Around.{around_there, gone_within, present_stand, stand_present, stands_around}
-use Rattle.ir_tree_laws.proofs.Heads.{Alike, each_id, each_stands}
-use Rattle.ir_tree_laws.proofs.Put.{Landed, child}
-use Rattle.ir_tree_laws.proofs.PutForm as put_form
-use Rattle.ir_tree_laws.proofs.Sees.{visible_there}
-use Rattle.ir_tree_laws.proofs.Values.{shape}
-use Rattle.ir_tree_laws.proofs.Without.{left_member, member_left, same_head}
+use Rattle.ir_event.specs.trees.declared.value.Value.{Value}
+use Rattle.ir_event.specs.trees.declared.value.Value.TheVariants.{Result, Arg}
+use Rattle.ir_event.specs.trees.declared.place.Place.{Place}
+use Rattle.ir_event.specs.trees.Tree.{HeadOf, OpOf, op, RegionOf, block, OpsOf, no_ops, next, head, regions}
+use Rattle.ir_event.specs.trees.Ids.{HasDistinctIds, find, has_id}
+use Rattle.ir_event.specs.trees.Edits.{each_head}
+use Rattle.ir_event.specs.trees.Frames.{owner_of}
+use Rattle.ir_event.specs.trees.Sites.{arguments, shows, results_of, visible}
+use Rattle.ir_event.specs.trees.Places.{each_list, first_id, put, without}
+use Rattle.ir_event.proofs.of_trees.Moves.{unput, untouched}
+use Rattle.ir_event.specs.tree_laws.Stands.{StepOf, StandOf, edit_stand, edit_step, stand_id, stands, ops_stands, sees, gone_in, is_gone, left_stand, left_step, dropping, table_in}
+use Rattle.ir_event.specs.tree_laws.Tables.{table_of}
+use Rattle.ir_event.specs.tree_laws.Members.{In}
+use Rattle.ir_event.specs.tree_laws.Reads.{around}
+use Rattle.ir_event.specs.tree_laws.Restores.{MayPut}
+use Rattle.ir_event.specs.tree_laws.Values.{region_at}
+use Rattle.ir_event.proofs.of_tree_laws.Listed.{any_one, bool_cases, both, both_hold, either, in_filter, in_filtered, in_left, in_map, in_mapped, in_parts, in_right, one_any, or_left, or_right}
+use Rattle.ir_event.proofs.of_tree_laws.Readings.{stands_table, step}
+use Rattle.ir_event.proofs.of_tree_laws.Members.{found_stands, joined_ops, ops_child, same_stand, stand, stand_found, stand_of_member, within}
+use Rattle.ir_event.proofs.of_tree_laws.Around.{around_there, gone_within, present_stand, stand_present, stands_around}
+use Rattle.ir_event.proofs.of_tree_laws.Heads.{Alike, each_id, each_stands}
+use Rattle.ir_event.proofs.of_tree_laws.Put.{Landed, child}
+use Rattle.ir_event.proofs.of_tree_laws.PutForm as put_form
+use Rattle.ir_event.proofs.of_tree_laws.Sees.{visible_there}
+use Rattle.ir_event.proofs.of_tree_laws.Values.{shape}
+use Rattle.ir_event.proofs.of_tree_laws.Without.{left_member, member_left, same_head}
 use Rattle.patterns_edits.proofs.Front.{stands_before}
 
 module _ {N T A : Type 0} where

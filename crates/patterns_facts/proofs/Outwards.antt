@@ -2,37 +2,37 @@
 use Rattle.std.proofs.Common.{◌≡◌, refl, ap, sym, ◌∙◌, subst, ℕ, suc, ◌+◌, ◌<◌, ◌≤◌, Bool, true, false, true≢false, not, ◌&&◌, ◌||◌, cond, eqb, eq-eqb, eqb-true, List, [], ◌∷◌, ◌++◌, length, Option, Some, None, option_map, inl, inr, ◌⊎◌, arith, le-leb, lt-ltb}
 use Rattle.std.specs.List.{list_all}
 use Rattle.std.specs.Prelude.{is_some, nat_lt, slice_get, option_and_then}
-use Rattle.ir_types.specs.Words.{is_isolated, is_table}
-use Rattle.ir_types.specs.Terms.{TypeTerm, AttrTerm}
-use Rattle.ir_tree.specs.declared.value.Value.{Value}
-use Rattle.ir_tree.specs.declared.value.Value.TheVariants.{Result, Arg}
-use Rattle.ir_tree.specs.declared.place.Place.{Place}
-use Rattle.ir_tree.specs.Tree.{block, OpsOf, no_ops, next, head, regions}
-use Rattle.ir_tree.specs.Ids.{HasDistinctIds, find, has_id, op_count}
-use Rattle.ir_tree.specs.Frames.{owner_of}
-use Rattle.ir_tree.specs.Limits.{depth, most_around}
-use Rattle.ir_tree.specs.Places.{drop_op, each_list, is_in_block, ops_each_list, put, put_here, put_in, without}
-use Rattle.ir_tree.specs.Sites.{arguments, shows, visible}
-use Rattle.ir_tree.specs.Uses.{uses_of}
-use Rattle.ir_tree.specs.Meaning.{Operation}
-use Rattle.ir_tree.specs.WellFormed.{IsWellFormed}
-use Rattle.ir_tree.proofs.Moves.{ops_unput, ops_untouched}
-use Rattle.ir_tree.proofs.Left.{left_distinct}
-use Rattle.ir_tree_laws.specs.Stands.{StandOf, StepOf, dropping, stand_id, stands, sees as sees_from}
-use Rattle.ir_tree_laws.specs.Tables.{table_of}
-use Rattle.ir_tree_laws.specs.Members.{In}
-use Rattle.ir_tree_laws.specs.Reads.{around}
-use Rattle.ir_tree_laws.specs.Reasons.{fits_around, has_place, leads_inside, shift_reason}
-use Rattle.ir_tree_laws.specs.Values.{region_at, type_of_value}
-use Rattle.ir_tree_laws.proofs.Around.{absent_find, stand_present}
-use Rattle.ir_tree_laws.proofs.Edited.{sight_stays}
-use Rattle.ir_tree_laws.proofs.Listed.{both, either}
-use Rattle.ir_tree_laws.proofs.Members.{found_stands, joined_ops, stand, stand_found}
-use Rattle.ir_tree_laws.proofs.Put.{put_find}
-use Rattle.ir_tree_laws.proofs.Readings.{step}
-use Rattle.ir_tree_laws.proofs.Sees.{visible_there}
-use Rattle.ir_tree_laws.proofs.Values.{not_own}
-use Rattle.ir_tree_laws.proofs.Without.{same_head}
+use Rattle.ir_event.specs.types.Words.{is_isolated, is_table}
+use Rattle.ir_event.specs.types.Terms.{TypeTerm, AttrTerm}
+use Rattle.ir_event.specs.trees.declared.value.Value.{Value}
+use Rattle.ir_event.specs.trees.declared.value.Value.TheVariants.{Result, Arg}
+use Rattle.ir_event.specs.trees.declared.place.Place.{Place}
+use Rattle.ir_event.specs.trees.Tree.{block, OpsOf, no_ops, next, head, regions}
+use Rattle.ir_event.specs.trees.Ids.{HasDistinctIds, find, has_id, op_count}
+use Rattle.ir_event.specs.trees.Frames.{owner_of}
+use Rattle.ir_event.specs.trees.Limits.{depth, most_around}
+use Rattle.ir_event.specs.trees.Places.{drop_op, each_list, is_in_block, ops_each_list, put, put_here, put_in, without}
+use Rattle.ir_event.specs.trees.Sites.{arguments, shows, visible}
+use Rattle.ir_event.specs.trees.Uses.{uses_of}
+use Rattle.ir_event.specs.trees.Meaning.{Operation}
+use Rattle.ir_event.specs.trees.WellFormed.{IsWellFormed}
+use Rattle.ir_event.proofs.of_trees.Moves.{ops_unput, ops_untouched}
+use Rattle.ir_event.proofs.of_trees.Left.{left_distinct}
+use Rattle.ir_event.specs.tree_laws.Stands.{StandOf, StepOf, dropping, stand_id, stands, sees as sees_from}
+use Rattle.ir_event.specs.tree_laws.Tables.{table_of}
+use Rattle.ir_event.specs.tree_laws.Members.{In}
+use Rattle.ir_event.specs.tree_laws.Reads.{around}
+use Rattle.ir_event.specs.tree_laws.Reasons.{fits_around, has_place, leads_inside, shift_reason}
+use Rattle.ir_event.specs.tree_laws.Values.{region_at, type_of_value}
+use Rattle.ir_event.proofs.of_tree_laws.Around.{absent_find, stand_present}
+use Rattle.ir_event.proofs.of_tree_laws.Edited.{sight_stays}
+use Rattle.ir_event.proofs.of_tree_laws.Listed.{both, either}
+use Rattle.ir_event.proofs.of_tree_laws.Members.{found_stands, joined_ops, stand, stand_found}
+use Rattle.ir_event.proofs.of_tree_laws.Put.{put_find}
+use Rattle.ir_event.proofs.of_tree_laws.Readings.{step}
+use Rattle.ir_event.proofs.of_tree_laws.Sees.{visible_there}
+use Rattle.ir_event.proofs.of_tree_laws.Values.{not_own}
+use Rattle.ir_event.proofs.of_tree_laws.Without.{same_head}
 use Rattle.ir_event.specs.Modules.{Module}
 use Rattle.rewriter_machine.specs.Contents.{edit_reason, edited}
 use Rattle.rewriter_machine.specs.Edits.{Move}
@@ -42,8 +42,8 @@ use Rattle.patterns_edits.proofs.Headed.{found_there}
 use Rattle.patterns_edits.proofs.Placed as placed
 use Rattle.patterns_edits.proofs.Placed.{Behind}
 use Rattle.patterns_edits.proofs.Plans.{sees}
-use Rattle.patterns_base.specs.Looks.{Header}
-use Rattle.patterns_base.specs.Lowering.{beside}
+use Rattle.patterns_yields.specs.base.Looks.{Header}
+use Rattle.patterns_yields.specs.base.Lowering.{beside}
 use Rattle.patterns_facts.proofs.Across.{argument_within, behind_inside, inside_behind, later_outside, not_parent, not_root, one_stands, sibling_inside}
 use Rattle.patterns_facts.proofs.Kept as kept
 use Rattle.patterns_facts.proofs.Kept.{Kept}

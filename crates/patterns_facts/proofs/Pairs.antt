@@ -1,22 +1,22 @@
 -- Rules on two operands of which one, or that they are one, tells the result; and a constant that goes second.
 use Rattle.std.proofs.Common.{◌≡◌, refl, ap, ℕ, List, Option, ◌&&◌}
 use Rattle.std.specs.Prelude.{codes}
-use Rattle.ir_tree.specs.declared.place.Place.{Place}
-use Rattle.ir_tree.specs.Tree.{head}
-use Rattle.ir_tree.specs.Meaning.{Operation}
+use Rattle.ir_event.specs.trees.declared.place.Place.{Place}
+use Rattle.ir_event.specs.trees.Tree.{head}
+use Rattle.ir_event.specs.trees.Meaning.{Operation}
 use Rattle.rewriter_machine.specs.Contents.{Edit}
-use Rattle.patterns_base.specs.Keeps.{given}
-use Rattle.patterns_base.specs.Words.{named, among}
-use Rattle.patterns_base.specs.Looks.{Header, Two, two, passes}
-use Rattle.patterns_base.specs.Folding.{swap_constant, drop_zero, drop_one, drop_all_ones, cancel_itself, keep_itself}
-use Rattle.patterns_base.specs.Folding.{zero_remainder, is_all_ones}
-use Rattle.patterns_base.specs.Rules.{rule}
-use Rattle.ir_tree.specs.Uses.{same_value}
+use Rattle.patterns_yields.specs.base.Keeps.{given}
+use Rattle.patterns_yields.specs.base.Words.{named, among}
+use Rattle.patterns_yields.specs.base.Looks.{Header, Two, two, passes}
+use Rattle.patterns_yields.specs.base.Folding.{swap_constant, drop_zero, drop_one, drop_all_ones, cancel_itself, keep_itself}
+use Rattle.patterns_yields.specs.base.Folding.{zero_remainder, is_all_ones}
+use Rattle.patterns_yields.specs.base.Rules.{rule}
+use Rattle.ir_event.specs.trees.Uses.{same_value}
 use Rattle.patterns_laws.specs.Words.{swapping, ignoring_zero, ignoring_one, cancelling, keeping, remainders}
 use Rattle.patterns_laws.proofs.PairRules.{all_swapped, all_zero_kept, all_one_kept, ones_kept, all_cancelled, all_itself_given, all_left_nothing}
-use Rattle.patterns_base.specs.declared.rule.Rule.TheVariants.{SwapConstant, DropZero, DropOne, DropAllOnes}
-use Rattle.patterns_base.specs.declared.rule.Rule.TheVariants.{CancelItself, KeepItself, ZeroRemainder}
-use Rattle.patterns_base.proofs.Dispatch.{only_listed}
+use Rattle.patterns_yields.specs.base.declared.rule.Rule.TheVariants.{SwapConstant, DropZero, DropOne, DropAllOnes}
+use Rattle.patterns_yields.specs.base.declared.rule.Rule.TheVariants.{CancelItself, KeepItself, ZeroRemainder}
+use Rattle.patterns_yields.proofs.of_base.Dispatch.{only_listed}
 use Rattle.patterns_facts.specs.Alike.{Same, SeesAlike}
 use Rattle.patterns_facts.specs.Facts.{Facts}
 use Rattle.patterns_facts.proofs.Near.{still, tested, of_some, Fine}

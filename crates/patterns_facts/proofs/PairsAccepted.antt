@@ -1,16 +1,16 @@
 -- Placeholders of arguments, and what is to stand for them.
 use Rattle.std.proofs.Common.{◌≡◌, refl, ap, sym, ◌∙◌, subst, ℕ, zero, suc, ◌+◌, ◌<◌, ◌≤◌, Bool, true, false, true≢false, cond, ◌&&◌, eqb, eq-eqb, eqb-true, List, [], ◌∷◌, length, map, inl, inr, ◌⊎◌, arith}
 use Rattle.std.specs.List.{range_with_len}
-use Rattle.ir_types.specs.Terms.{TypeTerm}
-use Rattle.ir_tree.specs.declared.value.Value.{Value}
-use Rattle.ir_tree.specs.declared.value.Value.TheVariants.{Result, Arg}
-use Rattle.ir_tree.specs.declared.place.Place.{Place}
-use Rattle.ir_tree.specs.Uses.{same_value}
-use Rattle.ir_tree_laws.specs.Members.{In}
+use Rattle.ir_event.specs.types.Terms.{TypeTerm}
+use Rattle.ir_event.specs.trees.declared.value.Value.{Value}
+use Rattle.ir_event.specs.trees.declared.value.Value.TheVariants.{Result, Arg}
+use Rattle.ir_event.specs.trees.declared.place.Place.{Place}
+use Rattle.ir_event.specs.trees.Uses.{same_value}
+use Rattle.ir_event.specs.tree_laws.Members.{In}
 use Rattle.rewriter_machine.specs.Edits.{Erase, Replace}
-use Rattle.patterns_base.specs.Looks.{is_index}
-use Rattle.patterns_base.specs.Makes.{arguments_from, erasing, replaced, replacing}
-use Rattle.patterns_base.specs.Lowering.{crossed, indices}
+use Rattle.patterns_yields.specs.base.Looks.{is_index}
+use Rattle.patterns_yields.specs.base.Makes.{arguments_from, erasing, replaced, replacing}
+use Rattle.patterns_yields.specs.base.Lowering.{crossed, indices}
 use Rattle.patterns_facts.proofs.Erased.{AllOther, Held, erase_edits}
 use Rattle.patterns_facts.proofs.Holders.{holders_from}
 use Rattle.patterns_facts.proofs.Replacing.{AllApart, Pair, pair_edits}

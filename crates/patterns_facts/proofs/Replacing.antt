@@ -4,34 +4,34 @@ use Rattle.std.specs.List.{list_all, list_any}
 use Rattle.std.specs.Option.{option_eq}
 use Rattle.std.specs.Prelude.{is_some}
 use Rattle.std.proofs.lemmas.List.{length-map}
-use Rattle.ir_types.specs.Words.{is_isolated}
-use Rattle.ir_types.specs.Terms.{TypeTerm, AttrTerm}
-use Rattle.ir_types.specs.SameTypes.{same_type}
-use Rattle.ir_tree.specs.declared.value.Value.{Value}
-use Rattle.ir_tree.specs.declared.value.Value.TheVariants.{Result}
-use Rattle.ir_tree.specs.declared.place.Place.{Place}
-use Rattle.ir_tree.specs.Tree.{op, head}
-use Rattle.ir_tree.specs.Ids.{HasDistinctIds, find, has_id, op_count}
-use Rattle.ir_tree.specs.Edits.{each_head, put_value, put_values, with_value_replaced}
-use Rattle.ir_tree.specs.Frames.{owner_of}
-use Rattle.ir_tree.specs.Places.{without}
-use Rattle.ir_tree.specs.Sites.{visible}
-use Rattle.ir_tree.specs.Uses.{same_value, uses_of}
-use Rattle.ir_tree.specs.Meaning.{Operation}
-use Rattle.ir_tree.specs.WellFormed.{IsWellFormed}
-use Rattle.ir_tree.proofs.Heads.{head_find}
-use Rattle.ir_tree.proofs.Replaced.{old_unused, others_stay}
-use Rattle.ir_tree_laws.specs.Stands.{StandOf, StepOf, stand_id, stands, sees as sees_from}
-use Rattle.ir_tree_laws.specs.Members.{In}
-use Rattle.ir_tree_laws.specs.Reasons.{users_see}
-use Rattle.ir_tree_laws.specs.Values.{type_of_value}
-use Rattle.ir_tree_laws.proofs.Around.{present_stand}
-use Rattle.ir_tree_laws.proofs.Edited.{taken_op_count}
-use Rattle.ir_tree_laws.proofs.HeadForm.{edit_ids, replaced_keeps}
-use Rattle.ir_tree_laws.proofs.Heads.{Alike, each_id}
-use Rattle.ir_tree_laws.proofs.Listed.{bool_cases, each_all, in_map, in_mapped}
-use Rattle.ir_tree_laws.proofs.Members.{found_stands, has_around, same_stand, stand, stand_found, within}
-use Rattle.ir_tree_laws.proofs.Sees.{visible_there}
+use Rattle.ir_event.specs.types.Words.{is_isolated}
+use Rattle.ir_event.specs.types.Terms.{TypeTerm, AttrTerm}
+use Rattle.ir_event.specs.types.SameTypes.{same_type}
+use Rattle.ir_event.specs.trees.declared.value.Value.{Value}
+use Rattle.ir_event.specs.trees.declared.value.Value.TheVariants.{Result}
+use Rattle.ir_event.specs.trees.declared.place.Place.{Place}
+use Rattle.ir_event.specs.trees.Tree.{op, head}
+use Rattle.ir_event.specs.trees.Ids.{HasDistinctIds, find, has_id, op_count}
+use Rattle.ir_event.specs.trees.Edits.{each_head, put_value, put_values, with_value_replaced}
+use Rattle.ir_event.specs.trees.Frames.{owner_of}
+use Rattle.ir_event.specs.trees.Places.{without}
+use Rattle.ir_event.specs.trees.Sites.{visible}
+use Rattle.ir_event.specs.trees.Uses.{same_value, uses_of}
+use Rattle.ir_event.specs.trees.Meaning.{Operation}
+use Rattle.ir_event.specs.trees.WellFormed.{IsWellFormed}
+use Rattle.ir_event.proofs.of_trees.Heads.{head_find}
+use Rattle.ir_event.proofs.of_trees.Replaced.{old_unused, others_stay}
+use Rattle.ir_event.specs.tree_laws.Stands.{StandOf, StepOf, stand_id, stands, sees as sees_from}
+use Rattle.ir_event.specs.tree_laws.Members.{In}
+use Rattle.ir_event.specs.tree_laws.Reasons.{users_see}
+use Rattle.ir_event.specs.tree_laws.Values.{type_of_value}
+use Rattle.ir_event.proofs.of_tree_laws.Around.{present_stand}
+use Rattle.ir_event.proofs.of_tree_laws.Edited.{taken_op_count}
+use Rattle.ir_event.proofs.of_tree_laws.HeadForm.{edit_ids, replaced_keeps}
+use Rattle.ir_event.proofs.of_tree_laws.Heads.{Alike, each_id}
+use Rattle.ir_event.proofs.of_tree_laws.Listed.{bool_cases, each_all, in_map, in_mapped}
+use Rattle.ir_event.proofs.of_tree_laws.Members.{found_stands, has_around, same_stand, stand, stand_found, within}
+use Rattle.ir_event.proofs.of_tree_laws.Sees.{visible_there}
 use Rattle.ir_event.specs.Modules.{Module}
 use Rattle.rewriter_machine.specs.Contents.{Edit, all_edited, edit_reason, edited}
 use Rattle.rewriter_machine.specs.Edits.{Erase, Replace}
@@ -40,7 +40,7 @@ use Rattle.patterns_edits.proofs.Front.{stands_before}
 use Rattle.patterns_edits.proofs.Given.{user}
 use Rattle.patterns_edits.proofs.Headed as headed
 use Rattle.patterns_edits.proofs.Plans.{StandsAt, sees}
-use Rattle.patterns_base.specs.Looks.{Header}
+use Rattle.patterns_yields.specs.base.Looks.{Header}
 use Rattle.patterns_facts.proofs.Across.{before_is, behind_inside, inside_behind, later_outside, not_root, own_depth}
 use Rattle.patterns_facts.proofs.Arguments.{replaced_uses}
 use Rattle.patterns_facts.proofs.CastsAccepted.{Room}
@@ -50,7 +50,7 @@ use Rattle.patterns_facts.proofs.Ordered.{Before, Inside, before_headed, inside_
 use Rattle.patterns_facts.proofs.Results.{type_kept}
 use Rattle.patterns_facts.proofs.Spots.{own_operand}
 use Rattle.patterns_facts.proofs.Within.{heads_headed}
-use Rattle.ir_tree_laws.proofs.Reverted.{passed}
+use Rattle.ir_event.proofs.of_tree_laws.Reverted.{passed}
 
 abbrev Stand : Type 0
 Stand = StandOf (List ℕ) TypeTerm AttrTerm

@@ -3,22 +3,22 @@ use Rattle.std.proofs.Common.{◌≡◌, refl, ap, sym, ◌∙◌, ℕ, ◌+◌,
 use Rattle.std.specs.Prelude.{is_some, nat_lt, option_and_then, slice_get}
 use Rattle.std.specs.Option.{option_eq}
 use Rattle.std.proofs.lemmas.Bool.{ltb-true, ltb-false}
-use Rattle.ir_types.specs.Words.{is_isolated}
-use Rattle.ir_types.specs.Terms.{TypeTerm, AttrTerm}
-use Rattle.ir_types.specs.SameTypes.{same_type}
-use Rattle.ir_tree.specs.declared.value.Value.{Value}
-use Rattle.ir_tree.specs.declared.value.Value.TheVariants.{Result}
-use Rattle.ir_tree.specs.declared.place.Place.{Place}
-use Rattle.ir_tree.specs.Tree.{op, RegionsOf, no_regions, region, empty, block, head}
-use Rattle.ir_tree.specs.Ids.{find}
-use Rattle.ir_tree.specs.Frames.{owner_of}
-use Rattle.ir_tree.specs.Edits.{each_head, put_values, regions_each_head, with_value_replaced}
-use Rattle.ir_tree.specs.Uses.{same_value, uses_of}
-use Rattle.ir_tree.specs.Meaning.{Operation}
-use Rattle.ir_tree.proofs.Heads.{head_find}
-use Rattle.ir_tree.proofs.Replaced.{old_unused, others_stay}
-use Rattle.ir_store.specs.Nodes.{regions_arguments}
-use Rattle.ir_tree_laws.specs.Values.{type_of_value}
+use Rattle.ir_event.specs.types.Words.{is_isolated}
+use Rattle.ir_event.specs.types.Terms.{TypeTerm, AttrTerm}
+use Rattle.ir_event.specs.types.SameTypes.{same_type}
+use Rattle.ir_event.specs.trees.declared.value.Value.{Value}
+use Rattle.ir_event.specs.trees.declared.value.Value.TheVariants.{Result}
+use Rattle.ir_event.specs.trees.declared.place.Place.{Place}
+use Rattle.ir_event.specs.trees.Tree.{op, RegionsOf, no_regions, region, empty, block, head}
+use Rattle.ir_event.specs.trees.Ids.{find}
+use Rattle.ir_event.specs.trees.Frames.{owner_of}
+use Rattle.ir_event.specs.trees.Edits.{each_head, put_values, regions_each_head, with_value_replaced}
+use Rattle.ir_event.specs.trees.Uses.{same_value, uses_of}
+use Rattle.ir_event.specs.trees.Meaning.{Operation}
+use Rattle.ir_event.proofs.of_trees.Heads.{head_find}
+use Rattle.ir_event.proofs.of_trees.Replaced.{old_unused, others_stay}
+use Rattle.ir_event.specs.store.Nodes.{regions_arguments}
+use Rattle.ir_event.specs.tree_laws.Values.{type_of_value}
 use Rattle.ir_event.specs.Modules.{Module}
 use Rattle.ir_event.proofs.Typed.{typed, typed_value, types_of}
 use Rattle.rewriter_machine.specs.Contents.{Edit, edited}
@@ -28,8 +28,8 @@ use Rattle.patterns_edits.proofs.Given.{users_see_it}
 use Rattle.patterns_edits.proofs.Headed as headed
 use Rattle.patterns_edits.proofs.Plans as plans
 use Rattle.patterns_edits.proofs.Plans.{StandsAt, sees}
-use Rattle.patterns_base.specs.Makes.{replacing, results_from}
-use Rattle.ir_tree_laws.proofs.Reverted.{passed}
+use Rattle.patterns_yields.specs.base.Makes.{replacing, results_from}
+use Rattle.ir_event.proofs.of_tree_laws.Reverted.{passed}
 
 -- types stay where a value is replaced
 module _ (old new : Value) where

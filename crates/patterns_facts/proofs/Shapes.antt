@@ -1,16 +1,16 @@
 -- What is so where a rule makes something.
 use Rattle.std.proofs.Common.{◌≡◌, refl, ℕ, Bool, true, false, ◌&&◌, List, [], ◌∷◌, Option, Some, None}
-use Rattle.ir_types.specs.Terms.{TypeTerm}
-use Rattle.ir_tree.specs.declared.value.Value.{Value}
-use Rattle.ir_tree.specs.Meaning.{Operation}
+use Rattle.ir_event.specs.types.Terms.{TypeTerm}
+use Rattle.ir_event.specs.trees.declared.value.Value.{Value}
+use Rattle.ir_event.specs.trees.Meaning.{Operation}
 use Rattle.rewriter_machine.specs.Contents.{Edit}
-use Rattle.patterns_base.specs.Keeps.{given}
-use Rattle.patterns_base.specs.Words.{named, among}
-use Rattle.patterns_base.specs.Looks.{Header, One, Two, Three, giver, is_clean, one, one_from, source, source_among, three, three_from, two, two_from, when}
+use Rattle.patterns_yields.specs.base.Keeps.{given}
+use Rattle.patterns_yields.specs.base.Words.{named, among}
+use Rattle.patterns_yields.specs.base.Looks.{Header, One, Two, Three, giver, is_clean, one, one_from, source, source_among, three, three_from, two, two_from, when}
 use Rattle.patterns_facts.proofs.Spots.{Giver, giver_is}
 use Rattle.patterns_laws.proofs.KnownFolds.{given_some}
 use Rattle.std.proofs.lemmas.Option.{same_Some}
-use Rattle.patterns_base.proofs.Facts.{when_some}
+use Rattle.patterns_yields.proofs.of_base.Facts.{when_some}
 
 -- operations of one operand, of two and of three, from which something is made
 pub record IsOne (h : Header) (f : One → Option (List Edit)) (es : List Edit) : Type 0 where

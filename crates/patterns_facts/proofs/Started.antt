@@ -3,36 +3,36 @@ use Rattle.std.proofs.Common.{◌≡◌, refl, ap, sym, ◌∙◌, subst, ℕ, z
 use Rattle.std.specs.Prelude.{is_some, nat_lt, option_and_then, slice_get}
 use Rattle.std.specs.List.{list_any}
 use Rattle.std.proofs.lemmas.Cmp.{nat_eq_equiv}
-use Rattle.ir_types.specs.Words.{is_isolated, is_table}
-use Rattle.ir_types.specs.Terms.{TypeTerm, AttrTerm}
-use Rattle.ir_tree.specs.declared.value.Value.{Value}
-use Rattle.ir_tree.specs.declared.value.Value.TheVariants.{Result, Arg}
-use Rattle.ir_tree.specs.declared.place.Place.{Place}
-use Rattle.ir_tree.specs.Tree.{op, RegionsOf, no_regions, region, RegionOf, empty, block, OpsOf, no_ops, next, head, regions}
-use Rattle.ir_tree.specs.Ids.{HasDistinctIds, find, has_id}
-use Rattle.ir_tree.specs.Frames.{owner_of}
-use Rattle.ir_tree.specs.Limits.{depth, most_around}
-use Rattle.ir_tree.specs.Places.{is_in_block, put, put_here, put_in}
-use Rattle.ir_tree.specs.Sites.{visible}
-use Rattle.ir_tree.specs.Uses.{operand_uses, regions_uses, same_value, uses_of}
-use Rattle.ir_tree.specs.Meaning.{Operation}
-use Rattle.ir_tree.specs.WellFormed.{IsWellFormed}
-use Rattle.ir_tree.proofs.Moves.{ops_unput}
-use Rattle.ir_tree.proofs.Replaced.{same_value_true}
-use Rattle.ir_tree_laws.specs.Stands.{StandOf, StepOf, stand_id, stands, sees as sees_from}
-use Rattle.ir_tree_laws.specs.Members.{In}
-use Rattle.ir_tree_laws.specs.Reads.{around}
-use Rattle.ir_tree_laws.specs.Reasons.{has_place, hold_none, with_id}
-use Rattle.ir_tree_laws.specs.Values.{arguments_at, arguments_of, has_value, region_at}
-use Rattle.ir_tree_laws.proofs.Around.{absent_find, around_there, present_stand, stand_present}
-use Rattle.ir_tree_laws.proofs.Formed.{from_formed, greatest_within, ids_below}
-use Rattle.ir_tree_laws.proofs.Listed.{all_each, bool_cases}
-use Rattle.ir_tree_laws.proofs.Members.{found_stands, joined_ops, same_stand, stand, within}
-use Rattle.ir_tree_laws.proofs.Put.{put_find}
-use Rattle.ir_tree_laws.proofs.Reasoned.{none_ids}
-use Rattle.ir_tree_laws.proofs.Readings.{stands_depth, stands_uses, step}
-use Rattle.ir_tree_laws.proofs.Sees.{stands_operands, visible_there}
-use Rattle.ir_tree_laws.proofs.Values.{seen_by}
+use Rattle.ir_event.specs.types.Words.{is_isolated, is_table}
+use Rattle.ir_event.specs.types.Terms.{TypeTerm, AttrTerm}
+use Rattle.ir_event.specs.trees.declared.value.Value.{Value}
+use Rattle.ir_event.specs.trees.declared.value.Value.TheVariants.{Result, Arg}
+use Rattle.ir_event.specs.trees.declared.place.Place.{Place}
+use Rattle.ir_event.specs.trees.Tree.{op, RegionsOf, no_regions, region, RegionOf, empty, block, OpsOf, no_ops, next, head, regions}
+use Rattle.ir_event.specs.trees.Ids.{HasDistinctIds, find, has_id}
+use Rattle.ir_event.specs.trees.Frames.{owner_of}
+use Rattle.ir_event.specs.trees.Limits.{depth, most_around}
+use Rattle.ir_event.specs.trees.Places.{is_in_block, put, put_here, put_in}
+use Rattle.ir_event.specs.trees.Sites.{visible}
+use Rattle.ir_event.specs.trees.Uses.{operand_uses, regions_uses, same_value, uses_of}
+use Rattle.ir_event.specs.trees.Meaning.{Operation}
+use Rattle.ir_event.specs.trees.WellFormed.{IsWellFormed}
+use Rattle.ir_event.proofs.of_trees.Moves.{ops_unput}
+use Rattle.ir_event.proofs.of_trees.Replaced.{same_value_true}
+use Rattle.ir_event.specs.tree_laws.Stands.{StandOf, StepOf, stand_id, stands, sees as sees_from}
+use Rattle.ir_event.specs.tree_laws.Members.{In}
+use Rattle.ir_event.specs.tree_laws.Reads.{around}
+use Rattle.ir_event.specs.tree_laws.Reasons.{has_place, hold_none, with_id}
+use Rattle.ir_event.specs.tree_laws.Values.{arguments_at, arguments_of, has_value, region_at}
+use Rattle.ir_event.proofs.of_tree_laws.Around.{absent_find, around_there, present_stand, stand_present}
+use Rattle.ir_event.proofs.of_tree_laws.Formed.{from_formed, greatest_within, ids_below}
+use Rattle.ir_event.proofs.of_tree_laws.Listed.{all_each, bool_cases}
+use Rattle.ir_event.proofs.of_tree_laws.Members.{found_stands, joined_ops, same_stand, stand, within}
+use Rattle.ir_event.proofs.of_tree_laws.Put.{put_find}
+use Rattle.ir_event.proofs.of_tree_laws.Reasoned.{none_ids}
+use Rattle.ir_event.proofs.of_tree_laws.Readings.{stands_depth, stands_uses, step}
+use Rattle.ir_event.proofs.of_tree_laws.Sees.{stands_operands, visible_there}
+use Rattle.ir_event.proofs.of_tree_laws.Values.{seen_by}
 use Rattle.ir_event.specs.Modules.{Module}
 use Rattle.rewriter_machine.specs.Contents.{edited}
 use Rattle.rewriter_machine.specs.Edits.{Make}
@@ -42,9 +42,9 @@ use Rattle.patterns_edits.proofs.Headed.{found_there}
 use Rattle.patterns_edits.proofs.Made as made_there
 use Rattle.patterns_edits.proofs.Moved.{deeper}
 use Rattle.patterns_edits.proofs.Plans.{StandsAt, sees}
-use Rattle.patterns_base.specs.Keeps.{lowered_type}
-use Rattle.patterns_base.specs.Looks.{Header}
-use Rattle.patterns_base.specs.Lowering.{lowered_regions}
+use Rattle.patterns_yields.specs.base.Keeps.{lowered_type}
+use Rattle.patterns_yields.specs.base.Looks.{Header}
+use Rattle.patterns_yields.specs.base.Lowering.{lowered_regions}
 use Rattle.patterns_facts.proofs.Across.{before_is, later_outside, not_parent, one_stands, own_depth, users_behind}
 use Rattle.patterns_facts.proofs.Kept as kept
 use Rattle.patterns_facts.proofs.Moving.{HasBlock}
@@ -52,9 +52,9 @@ use Rattle.patterns_facts.proofs.Ordered.{Before, around_at, put_before}
 use Rattle.patterns_facts.proofs.Phases.{AllRel, Rel}
 use Rattle.patterns_facts.proofs.Spots.{own_operand}
 use Rattle.patterns_facts.proofs.Steps.{Across, Fit, Lack, UsedBy, absent_all, each_at, nothing, there_of}
-use Rattle.ir_tree_laws.proofs.Changed.{gather_none}
+use Rattle.ir_event.proofs.of_tree_laws.Changed.{gather_none}
 use Rattle.effects.proofs.Unused.{none_here}
-use Rattle.ir_tree_laws.proofs.Facts.{new_id}
+use Rattle.ir_event.proofs.of_tree_laws.Facts.{new_id}
 
 abbrev Stand : Type 0
 Stand = StandOf (List ℕ) TypeTerm AttrTerm

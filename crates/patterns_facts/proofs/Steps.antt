@@ -2,41 +2,41 @@
 use Rattle.std.proofs.Common.{◌≡◌, refl, ap, sym, ◌∙◌, subst, ℕ, suc, ◌+◌, ◌<◌, ◌≤◌, Bool, true, false, true≢false, not, ◌&&◌, ◌||◌, cond, eqb, eq-eqb, eqb-true, List, [], ◌∷◌, ◌++◌, length, map, Option, Some, None, option_map, inl, inr, ◌⊎◌, arith, append_assoc, le-leb, lt-ltb}
 use Rattle.std.specs.Prelude.{is_some, nat_lt, slice_get, option_and_then}
 use Rattle.std.specs.List.{list_all, list_any}
-use Rattle.ir_types.specs.Words.{is_isolated, is_table}
-use Rattle.ir_types.specs.Terms.{TypeTerm, AttrTerm}
-use Rattle.ir_tree.specs.declared.value.Value.{Value}
-use Rattle.ir_tree.specs.declared.value.Value.TheVariants.{Result, Arg}
-use Rattle.ir_tree.specs.declared.place.Place.{Place}
-use Rattle.ir_tree.specs.Tree.{op, block, OpsOf, no_ops, next, head, regions}
-use Rattle.ir_tree.specs.Ids.{HasDistinctIds, find, has_id, op_count, ops_ids, ids}
-use Rattle.ir_tree.specs.Frames.{owner_of}
-use Rattle.ir_tree.specs.Limits.{depth, most_around}
-use Rattle.ir_tree.specs.Places.{each_list, is_in_block, ops_each_list, drop_op, put, put_here, put_in, region_each_list, without}
-use Rattle.ir_tree.specs.Sites.{arguments, shows, visible}
-use Rattle.ir_tree.specs.Uses.{operand_uses, uses_of}
-use Rattle.ir_tree.specs.Meaning.{Operation}
-use Rattle.ir_tree.specs.WellFormed.{IsWellFormed}
-use Rattle.ir_tree.proofs.Moves.{Absent, ops_unput, ops_untouched}
-use Rattle.ir_tree.proofs.Left.{left_distinct}
-use Rattle.ir_tree.proofs.Replaced.{same_value_refl}
-use Rattle.ir_tree_laws.specs.Stands.{StandOf, StepOf, dropping, stand_id, stands, sees as sees_from}
-use Rattle.ir_tree_laws.specs.Tables.{table_of}
-use Rattle.ir_tree_laws.specs.Members.{In}
-use Rattle.ir_tree_laws.specs.Reads.{around}
-use Rattle.ir_tree_laws.specs.Reasons.{fits_around, has_place, leads_inside, shift_reason}
-use Rattle.ir_tree_laws.specs.Values.{region_at}
-use Rattle.ir_tree_laws.proofs.Around.{absent_find, stand_present}
-use Rattle.ir_tree_laws.proofs.Edited.{put_op_count, sight_stays, taken_op_count}
-use Rattle.ir_tree_laws.proofs.HeadForm.{in_gather, used_here}
-use Rattle.ir_tree_laws.proofs.Listed.{all_each, both, both_hold, each_all, either, in_left, in_right}
-use Rattle.ir_tree_laws.proofs.Members.{found_stands, joined_ops, stand, stand_found, within}
-use Rattle.ir_tree_laws.proofs.Put.{of_spot, put_find, region_each}
-use Rattle.ir_tree_laws.proofs.PutForm as put_form
-use Rattle.ir_tree_laws.proofs.Readings.{stands_uses, step}
-use Rattle.ir_tree_laws.proofs.Sees.{stands_operands, visible_there}
-use Rattle.ir_tree_laws.proofs.Shift as shift
-use Rattle.ir_tree_laws.proofs.Values.{not_own, seen_by}
-use Rattle.ir_tree_laws.proofs.Without.{same_head}
+use Rattle.ir_event.specs.types.Words.{is_isolated, is_table}
+use Rattle.ir_event.specs.types.Terms.{TypeTerm, AttrTerm}
+use Rattle.ir_event.specs.trees.declared.value.Value.{Value}
+use Rattle.ir_event.specs.trees.declared.value.Value.TheVariants.{Result, Arg}
+use Rattle.ir_event.specs.trees.declared.place.Place.{Place}
+use Rattle.ir_event.specs.trees.Tree.{op, block, OpsOf, no_ops, next, head, regions}
+use Rattle.ir_event.specs.trees.Ids.{HasDistinctIds, find, has_id, op_count, ops_ids, ids}
+use Rattle.ir_event.specs.trees.Frames.{owner_of}
+use Rattle.ir_event.specs.trees.Limits.{depth, most_around}
+use Rattle.ir_event.specs.trees.Places.{each_list, is_in_block, ops_each_list, drop_op, put, put_here, put_in, region_each_list, without}
+use Rattle.ir_event.specs.trees.Sites.{arguments, shows, visible}
+use Rattle.ir_event.specs.trees.Uses.{operand_uses, uses_of}
+use Rattle.ir_event.specs.trees.Meaning.{Operation}
+use Rattle.ir_event.specs.trees.WellFormed.{IsWellFormed}
+use Rattle.ir_event.proofs.of_trees.Moves.{Absent, ops_unput, ops_untouched}
+use Rattle.ir_event.proofs.of_trees.Left.{left_distinct}
+use Rattle.ir_event.proofs.of_trees.Replaced.{same_value_refl}
+use Rattle.ir_event.specs.tree_laws.Stands.{StandOf, StepOf, dropping, stand_id, stands, sees as sees_from}
+use Rattle.ir_event.specs.tree_laws.Tables.{table_of}
+use Rattle.ir_event.specs.tree_laws.Members.{In}
+use Rattle.ir_event.specs.tree_laws.Reads.{around}
+use Rattle.ir_event.specs.tree_laws.Reasons.{fits_around, has_place, leads_inside, shift_reason}
+use Rattle.ir_event.specs.tree_laws.Values.{region_at}
+use Rattle.ir_event.proofs.of_tree_laws.Around.{absent_find, stand_present}
+use Rattle.ir_event.proofs.of_tree_laws.Edited.{put_op_count, sight_stays, taken_op_count}
+use Rattle.ir_event.proofs.of_tree_laws.HeadForm.{in_gather, used_here}
+use Rattle.ir_event.proofs.of_tree_laws.Listed.{all_each, both, both_hold, each_all, either, in_left, in_right}
+use Rattle.ir_event.proofs.of_tree_laws.Members.{found_stands, joined_ops, stand, stand_found, within}
+use Rattle.ir_event.proofs.of_tree_laws.Put.{of_spot, put_find, region_each}
+use Rattle.ir_event.proofs.of_tree_laws.PutForm as put_form
+use Rattle.ir_event.proofs.of_tree_laws.Readings.{stands_uses, step}
+use Rattle.ir_event.proofs.of_tree_laws.Sees.{stands_operands, visible_there}
+use Rattle.ir_event.proofs.of_tree_laws.Shift as shift
+use Rattle.ir_event.proofs.of_tree_laws.Values.{not_own, seen_by}
+use Rattle.ir_event.proofs.of_tree_laws.Without.{same_head}
 use Rattle.ir_event.specs.Modules.{Module}
 use Rattle.rewriter_machine.specs.Contents.{Edit, edit_reason, edited}
 use Rattle.rewriter_machine.specs.Edits.{Move}
@@ -46,8 +46,8 @@ use Rattle.patterns_edits.proofs.Headed.{found_there}
 use Rattle.patterns_edits.proofs.Placed as placed
 use Rattle.patterns_edits.proofs.Placed.{Behind}
 use Rattle.patterns_edits.proofs.Plans.{StandsAt, sees}
-use Rattle.patterns_base.specs.Looks.{Header}
-use Rattle.patterns_base.specs.Lowering.{before_in, beside, end_of}
+use Rattle.patterns_yields.specs.base.Looks.{Header}
+use Rattle.patterns_yields.specs.base.Lowering.{before_in, beside, end_of}
 use Rattle.patterns_facts.proofs.Across.{argument_within, before_is, behind_inside, inner_unseen, inside_behind, later_outside, not_parent, not_root, one_stands, sibling_inside}
 use Rattle.patterns_facts.proofs.Kept as kept
 use Rattle.patterns_facts.proofs.Kept.{Kept}

@@ -5,18 +5,18 @@ use Rattle.std.specs.Prelude.{codes, option_map}
 use Rattle.std.specs.Option.{option_eq}
 use Rattle.std.specs.Str.{bytes_eq}
 use Rattle.std.proofs.lemmas.Slice.Eq.{bytes_eq-Decides}
-use Rattle.ir_types.specs.declared.node.Sign.TheVariants.{Signless, Signed, Unsigned}
-use Rattle.ir_types.specs.Terms.{TypeTerm, Integer, Index, Function, Memref, AttrTerm}
-use Rattle.ir_types.specs.SameTypes.{same_type}
-use Rattle.ir_tree.specs.declared.value.Value.{Value}
-use Rattle.ir_tree.specs.Tree.{head}
-use Rattle.ir_tree.specs.Ids.{HasDistinctIds, find}
-use Rattle.ir_tree.specs.Meaning.{Operation}
-use Rattle.ir_tree_laws.specs.Values.{type_of_value}
-use Rattle.ir_tree_laws.specs.Stands.{StandOf, stands}
-use Rattle.ir_tree_laws.specs.Members.{In}
-use Rattle.ir_tree_laws.proofs.Listed.{both, neither}
-use Rattle.ir_tree_laws.proofs.Members.{stand, stand_of_member, found_stands}
+use Rattle.ir_event.specs.types.declared.node.Sign.TheVariants.{Signless, Signed, Unsigned}
+use Rattle.ir_event.specs.types.Terms.{TypeTerm, Integer, Index, Function, Memref, AttrTerm}
+use Rattle.ir_event.specs.types.SameTypes.{same_type}
+use Rattle.ir_event.specs.trees.declared.value.Value.{Value}
+use Rattle.ir_event.specs.trees.Tree.{head}
+use Rattle.ir_event.specs.trees.Ids.{HasDistinctIds, find}
+use Rattle.ir_event.specs.trees.Meaning.{Operation}
+use Rattle.ir_event.specs.tree_laws.Values.{type_of_value}
+use Rattle.ir_event.specs.tree_laws.Stands.{StandOf, stands}
+use Rattle.ir_event.specs.tree_laws.Members.{In}
+use Rattle.ir_event.proofs.of_tree_laws.Listed.{both, neither}
+use Rattle.ir_event.proofs.of_tree_laws.Members.{stand, stand_of_member, found_stands}
 use Rattle.op_registry.specs.Rows.{Row, TypesRow, rows}
 use Rattle.op_registry.specs.declared.definition.TypeRule.TheVariants as type
 use Rattle.op_registry.specs.Registry.{row_of}
@@ -24,10 +24,10 @@ use Rattle.listeners_surroundings.specs.Surroundings.{surround}
 use Rattle.ir_verify_base.specs.Types.{is_boolean}
 use Rattle.ir_verify_base.specs.Fits.{Known, first_called, is_there, is_the_number, known_of, there, types_fit}
 use Rattle.ir_verify_base.specs.TypeRules.{is_no_number}
-use Rattle.patterns_base.specs.Keeps.{Each}
-use Rattle.patterns_base.specs.Words.{named, among, ignoring_zero, ignoring_one, keeping}
-use Rattle.patterns_base.specs.Made.{i1}
-use Rattle.patterns_base.specs.Looks.{is_clean}
+use Rattle.patterns_yields.specs.base.Keeps.{Each}
+use Rattle.patterns_yields.specs.base.Words.{named, among, ignoring_zero, ignoring_one, keeping}
+use Rattle.patterns_yields.specs.base.Made.{i1}
+use Rattle.patterns_yields.specs.base.Looks.{is_clean}
 use Rattle.patterns_yields.proofs.Unbroken.{clean_unbroken}
 use Rattle.listeners_surroundings.proofs.Reading.{head_shown}
 use Rattle.std.proofs.lemmas.Bool.{not-false}

@@ -4,37 +4,37 @@ use Rattle.std.specs.Prelude.{slice_set}
 use Rattle.std.specs.List.{list_any}
 use Rattle.std.proofs.lemmas.Cmp.{nat_eq_equiv}
 use Rattle.std.proofs.lemmas.List.{length-map}
-use Rattle.ir_types.specs.Words.{is_isolated}
-use Rattle.ir_types.specs.Terms.{TypeTerm, AttrTerm}
-use Rattle.ir_tree.specs.declared.value.Value.{Value}
-use Rattle.ir_tree.specs.declared.value.Value.TheVariants.{Result}
-use Rattle.ir_tree.specs.declared.place.Place.{Place}
-use Rattle.ir_tree.specs.Tree.{op, RegionsOf, no_regions, region, RegionOf, empty, block, OpsOf, no_ops, next, head, regions}
-use Rattle.ir_tree.specs.Ids.{find, has_id, ids, ops_ids, region_ids, regions_ids}
-use Rattle.ir_tree.specs.Edits.{at, each_head, ops_each_head, put_operand, region_each_head, regions_each_head, with_operand}
-use Rattle.ir_tree.specs.Frames.{owner_of}
-use Rattle.ir_tree.specs.Places.{is_in_block, ops_each_list, put, put_here, put_in}
-use Rattle.ir_tree.specs.Sites.{visible}
-use Rattle.ir_tree.specs.Uses.{operand_uses, same_value, uses_of}
-use Rattle.ir_tree.specs.Meaning.{Operation}
-use Rattle.ir_tree.specs.WellFormed.{IsWellFormed}
-use Rattle.ir_tree.proofs.Heads as tree_heads
-use Rattle.ir_tree.proofs.Heads.{head_find}
-use Rattle.ir_tree.proofs.Moves.{Absent, absent_parts, ops_unput}
-use Rattle.ir_tree.proofs.Replaced.{same_value_refl}
-use Rattle.ir_tree_laws.specs.Stands.{StandOf, StepOf, edit_stand, edit_step, stand_id, stands}
-use Rattle.ir_tree_laws.specs.Members.{In}
-use Rattle.ir_tree_laws.specs.Reads.{around}
-use Rattle.ir_tree_laws.specs.Reasons.{has_place, hold_none, with_id}
-use Rattle.ir_tree_laws.specs.Values.{region_at, type_of_value}
-use Rattle.ir_tree_laws.proofs.Around.{absent_find, stand_present}
-use Rattle.ir_tree_laws.proofs.HeadForm.{alike_at, in_gather, used_here}
-use Rattle.ir_tree_laws.proofs.Readings.{stands_uses}
-use Rattle.ir_tree_laws.proofs.Reasoned.{none_ids}
-use Rattle.ir_tree_laws.proofs.Heads.{Alike, each_stands}
-use Rattle.ir_tree_laws.proofs.Listed.{in_mapped}
-use Rattle.ir_tree_laws.proofs.Members.{found_stands, joined_ops, stand}
-use Rattle.ir_tree_laws.proofs.Put.{put_find}
+use Rattle.ir_event.specs.types.Words.{is_isolated}
+use Rattle.ir_event.specs.types.Terms.{TypeTerm, AttrTerm}
+use Rattle.ir_event.specs.trees.declared.value.Value.{Value}
+use Rattle.ir_event.specs.trees.declared.value.Value.TheVariants.{Result}
+use Rattle.ir_event.specs.trees.declared.place.Place.{Place}
+use Rattle.ir_event.specs.trees.Tree.{op, RegionsOf, no_regions, region, RegionOf, empty, block, OpsOf, no_ops, next, head, regions}
+use Rattle.ir_event.specs.trees.Ids.{find, has_id, ids, ops_ids, region_ids, regions_ids}
+use Rattle.ir_event.specs.trees.Edits.{at, each_head, ops_each_head, put_operand, region_each_head, regions_each_head, with_operand}
+use Rattle.ir_event.specs.trees.Frames.{owner_of}
+use Rattle.ir_event.specs.trees.Places.{is_in_block, ops_each_list, put, put_here, put_in}
+use Rattle.ir_event.specs.trees.Sites.{visible}
+use Rattle.ir_event.specs.trees.Uses.{operand_uses, same_value, uses_of}
+use Rattle.ir_event.specs.trees.Meaning.{Operation}
+use Rattle.ir_event.specs.trees.WellFormed.{IsWellFormed}
+use Rattle.ir_event.proofs.of_trees.Heads as tree_heads
+use Rattle.ir_event.proofs.of_trees.Heads.{head_find}
+use Rattle.ir_event.proofs.of_trees.Moves.{Absent, absent_parts, ops_unput}
+use Rattle.ir_event.proofs.of_trees.Replaced.{same_value_refl}
+use Rattle.ir_event.specs.tree_laws.Stands.{StandOf, StepOf, edit_stand, edit_step, stand_id, stands}
+use Rattle.ir_event.specs.tree_laws.Members.{In}
+use Rattle.ir_event.specs.tree_laws.Reads.{around}
+use Rattle.ir_event.specs.tree_laws.Reasons.{has_place, hold_none, with_id}
+use Rattle.ir_event.specs.tree_laws.Values.{region_at, type_of_value}
+use Rattle.ir_event.proofs.of_tree_laws.Around.{absent_find, stand_present}
+use Rattle.ir_event.proofs.of_tree_laws.HeadForm.{alike_at, in_gather, used_here}
+use Rattle.ir_event.proofs.of_tree_laws.Readings.{stands_uses}
+use Rattle.ir_event.proofs.of_tree_laws.Reasoned.{none_ids}
+use Rattle.ir_event.proofs.of_tree_laws.Heads.{Alike, each_stands}
+use Rattle.ir_event.proofs.of_tree_laws.Listed.{in_mapped}
+use Rattle.ir_event.proofs.of_tree_laws.Members.{found_stands, joined_ops, stand}
+use Rattle.ir_event.proofs.of_tree_laws.Put.{put_find}
 use Rattle.ir_event.specs.Modules.{Module}
 use Rattle.rewriter_machine.specs.Contents.{edited}
 use Rattle.rewriter_machine.specs.Edits.{Make, SetOperand}
@@ -42,7 +42,7 @@ use Rattle.patterns_edits.proofs.Given.{user}
 use Rattle.patterns_edits.proofs.Headed as headed
 use Rattle.patterns_edits.proofs.Headed.{found_there}
 use Rattle.patterns_edits.proofs.Plans.{StandsAt, sees}
-use Rattle.patterns_base.specs.Looks.{Header}
+use Rattle.patterns_yields.specs.base.Looks.{Header}
 use Rattle.patterns_facts.proofs.Across.{before_is, behind_inside, inner_unseen, inside_behind}
 use Rattle.patterns_facts.proofs.Arguments.{each_region}
 use Rattle.patterns_facts.proofs.Kept as kept
@@ -50,7 +50,7 @@ use Rattle.patterns_facts.proofs.Moving.{HasBlock}
 use Rattle.patterns_facts.proofs.Ordered.{Before, Inside, around_at, before_headed, inside_headed, put_inside}
 use Rattle.patterns_facts.proofs.Steps.{Across, absent_all, each_at, nothing, there_of, two_apart, used_there}
 use Rattle.std.proofs.lemmas.Bool.{or_parts}
-use Rattle.ir_tree_laws.proofs.Facts.{new_id}
+use Rattle.ir_event.proofs.of_tree_laws.Facts.{new_id}
 
 abbrev Stand : Type 0
 Stand = StandOf (List ℕ) TypeTerm AttrTerm

@@ -1,13 +1,13 @@
 -- No edit of a rule is refused for a reason.
 use Rattle.std.specs.Prelude.{◌≡◌, ℕ, List, Some}
-use Rattle.ir_types.specs.Words.{is_isolated}
-use Rattle.ir_tree.specs.WellFormed.{IsWellFormed}
+use Rattle.ir_event.specs.types.Words.{is_isolated}
+use Rattle.ir_event.specs.trees.WellFormed.{IsWellFormed}
 use Rattle.ir_event.specs.Modules.{Module}
 use Rattle.ir_event.specs.Step.{IsSorted}
 use Rattle.rewriter_machine.specs.Contents.{Edit}
 use Rattle.patterns_edits.specs.Lists.{Free}
-use Rattle.patterns_base.specs.declared.rule.Rule.{Rule}
-use Rattle.patterns_base.specs.Rewrites.{becomes, carried_out, edits_of}
+use Rattle.patterns_yields.specs.base.declared.rule.Rule.{Rule}
+use Rattle.patterns_yields.specs.base.Rewrites.{becomes, carried_out, edits_of}
 
 -- the edits of rule r at operation x of a module, where there are some and what they make is within the limits, can be
 -- made one after another: no reason stands against any where it is made

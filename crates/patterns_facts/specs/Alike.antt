@@ -1,13 +1,13 @@
 -- What two trees show alike.
 use Rattle.std.specs.Prelude.{◌≡◌, ℕ, Bool, true, false, List, Option, Some, None, is_some, option_map}
-use Rattle.ir_types.specs.Terms.{TypeTerm, AttrTerm}
-use Rattle.ir_tree.specs.declared.value.Value.{Value}
-use Rattle.ir_tree.specs.Tree.{RegionOf, empty, block, head, regions}
-use Rattle.ir_tree.specs.Meaning.{Operation}
-use Rattle.ir_tree_laws.specs.Members.{In}
-use Rattle.ir_tree_laws.specs.Values.{region_at}
+use Rattle.ir_event.specs.types.Terms.{TypeTerm, AttrTerm}
+use Rattle.ir_event.specs.trees.declared.value.Value.{Value}
+use Rattle.ir_event.specs.trees.Tree.{RegionOf, empty, block, head, regions}
+use Rattle.ir_event.specs.trees.Meaning.{Operation}
+use Rattle.ir_event.specs.tree_laws.Members.{In}
+use Rattle.ir_event.specs.tree_laws.Values.{region_at}
 use Rattle.patterns_laws.specs.Keeps.{given}
-use Rattle.patterns_base.specs.Looks.{Header, Ended, ended, giver, is_clean, may_go, type_of}
+use Rattle.patterns_yields.specs.base.Looks.{Header, Ended, ended, giver, is_clean, may_go, type_of}
 
 -- there is both, or neither
 abbrev pub Same : {X Y : Type 0} → Option X → Option Y → Type 0

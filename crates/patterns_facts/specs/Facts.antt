@@ -1,17 +1,17 @@
 -- All facts of a rule, in one record.
 use Rattle.std.specs.Prelude.{◌≡◌, ◌≤◌, ℕ, List, true, false, Some, None}
-use Rattle.ir_types.specs.Words.{is_isolated}
-use Rattle.ir_tree.specs.declared.place.Place.{Place}
-use Rattle.ir_tree.specs.Tree.{head}
-use Rattle.ir_tree.specs.WellFormed.{IsWellFormed}
-use Rattle.ir_tree.specs.Meaning.{Operation}
+use Rattle.ir_event.specs.types.Words.{is_isolated}
+use Rattle.ir_event.specs.trees.declared.place.Place.{Place}
+use Rattle.ir_event.specs.trees.Tree.{head}
+use Rattle.ir_event.specs.trees.WellFormed.{IsWellFormed}
+use Rattle.ir_event.specs.trees.Meaning.{Operation}
 use Rattle.ir_event.specs.Modules.{Module}
 use Rattle.ir_event.specs.Step.{IsSorted}
 use Rattle.rewriter_machine.specs.Contents.{Edit}
-use Rattle.patterns_base.specs.declared.rule.Rule.{Rule}
-use Rattle.patterns_base.specs.RuleNames.{is_converting, is_lowering}
-use Rattle.patterns_base.specs.Makes.{made_by}
-use Rattle.patterns_base.specs.Rules.{has_rule, rule}
+use Rattle.patterns_yields.specs.base.declared.rule.Rule.{Rule}
+use Rattle.patterns_yields.specs.base.RuleNames.{is_converting, is_lowering}
+use Rattle.patterns_yields.specs.base.Makes.{made_by}
+use Rattle.patterns_yields.specs.base.Rules.{has_rule, rule}
 use Rattle.patterns_facts.specs.Accepted.{IsAcceptedAt}
 use Rattle.patterns_facts.specs.Alike.{LooksAlike, Same}
 use Rattle.patterns_facts.specs.Near.{AreNear}

@@ -3,3 +3,4 @@ pub mod Near
 pub mod Alike
 pub mod Values
 pub mod Facts
+pub use Rattle.patterns_yields.specs.base

@@ -1,14 +1,14 @@
 -- Edits near an operation: they make operations in front of it, change heads, move the operations of one of its blocks
 -- in front of it, and erase it.
 use Rattle.std.specs.Prelude.{◌≡◌, ◌⊎◌, ℕ, List, [], ◌∷◌, Some}
-use Rattle.ir_types.specs.Terms.{TypeTerm, AttrTerm}
-use Rattle.ir_tree.specs.declared.place.Place.{Place}
-use Rattle.ir_tree.specs.Tree.{block, OpsOf, next, no_regions, head, regions}
-use Rattle.ir_tree.specs.Meaning.{Operation}
-use Rattle.ir_tree_laws.specs.Values.{region_at}
+use Rattle.ir_event.specs.types.Terms.{TypeTerm, AttrTerm}
+use Rattle.ir_event.specs.trees.declared.place.Place.{Place}
+use Rattle.ir_event.specs.trees.Tree.{block, OpsOf, next, no_regions, head, regions}
+use Rattle.ir_event.specs.trees.Meaning.{Operation}
+use Rattle.ir_event.specs.tree_laws.Values.{region_at}
 use Rattle.rewriter_machine.specs.Contents.{Edit}
 use Rattle.rewriter_machine.specs.Edits.{Insert, Make, Erase, Move, SetOperand, Replace, SetAttr, DropAttr}
-use Rattle.patterns_base.specs.Looks.{ended_by}
+use Rattle.patterns_yields.specs.base.Looks.{ended_by}
 
 -- edits that move nothing: operations without regions are made in front of x, heads change, and x may be erased at the
 -- end

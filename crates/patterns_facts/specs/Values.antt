@@ -9,15 +9,18 @@ use Rattle.patterns_laws.specs.Keeps.{NotBelowZero, ChoosingOne, ChoosingByConst
 use Rattle.patterns_laws.specs.Keeps.{ChoosingByOpposite, Extending, CuttingTwice, CuttingBack, ComingBack, Choosing}
 use Rattle.patterns_laws.specs.Keeps.{AddingTheComplement, Dividing, LoweringTwo, LoweringComparison, LoweringChoice}
 use Rattle.patterns_laws.specs.Keeps.{LoweringConstant}
-use Rattle.patterns_base.specs.declared.rule.Rule.{Rule}
-use Rattle.patterns_base.specs.declared.rule.Rule.TheVariants.{EraseDead, FoldToConstant, SwapConstant, DropZero}
-use Rattle.patterns_base.specs.declared.rule.Rule.TheVariants.{DropOne, DropAllOnes, CancelItself, KeepItself}
-use Rattle.patterns_base.specs.declared.rule.Rule.TheVariants.{ZeroRemainder, RegroupConstants, AddNegative}
-use Rattle.patterns_base.specs.declared.rule.Rule.TheVariants.{CompareItself, MirrorComparison, CompareZero}
-use Rattle.patterns_base.specs.declared.rule.Rule.TheVariants.{ChooseSame, ChooseKnown, ChooseTruth, ChooseOpposite}
-use Rattle.patterns_base.specs.declared.rule.Rule.TheVariants.{ExtendExtension, CutCast, CastBack, OpenBranch}
-use Rattle.patterns_base.specs.declared.rule.Rule.TheVariants.{OpenLoop, StopLoop, ExpandMinMax, ExpandDifference}
-use Rattle.patterns_base.specs.declared.rule.Rule.TheVariants.{ExpandRemainder, LowerIndex, LowerLoop, LowerChoice}
+use Rattle.patterns_yields.specs.base.declared.rule.Rule.{Rule}
+use Rattle.patterns_yields.specs.base.declared.rule.Rule.TheVariants.{EraseDead, FoldToConstant, SwapConstant, DropZero}
+use Rattle.patterns_yields.specs.base.declared.rule.Rule.TheVariants.{DropOne, DropAllOnes, CancelItself, KeepItself}
+use Rattle.patterns_yields.specs.base.declared.rule.Rule.TheVariants.{ZeroRemainder, RegroupConstants, AddNegative}
+use Rattle.patterns_yields.specs.base.declared.rule.Rule.TheVariants.{CompareItself, MirrorComparison, CompareZero}
+use Rattle.patterns_yields.specs.base.declared.rule.Rule.TheVariants.{ChooseSame, ChooseKnown}
+use Rattle.patterns_yields.specs.base.declared.rule.Rule.TheVariants.{ChooseTruth, ChooseOpposite}
+use Rattle.patterns_yields.specs.base.declared.rule.Rule.TheVariants.{ExtendExtension, CutCast, CastBack, OpenBranch}
+use Rattle.patterns_yields.specs.base.declared.rule.Rule.TheVariants.{OpenLoop, StopLoop}
+use Rattle.patterns_yields.specs.base.declared.rule.Rule.TheVariants.{ExpandMinMax, ExpandDifference}
+use Rattle.patterns_yields.specs.base.declared.rule.Rule.TheVariants.{ExpandRemainder, LowerIndex}
+use Rattle.patterns_yields.specs.base.declared.rule.Rule.TheVariants.{LowerLoop, LowerChoice}
 
 -- extensions of extensions: by the sign, by zeros, and by the sign of what zeros extended
 abbrev pub ExtendingAll : Type 0

@@ -1,5 +1,5 @@
 //! The facts of the rewrite rules. The law is a function that does nothing: its contract is the law.
-ghost use Rattle.patterns_base.specs.declared.rule.Rule.{Rule};
+ghost use Rattle.patterns_yields.specs.base.declared.rule.Rule.{Rule};
 ghost use Rattle.patterns_facts.specs.Facts.{Facts};
 ghost use Rattle.patterns_facts.specs.Accepted.{AreAccepted};
 

@@ -1,13 +1,13 @@
 -- What is asked before a rule is planned.
 use Rattle.std.proofs.Common.{◌≡◌, ap, sym, ◌∙◌, ℕ, true, Some}
 use Rattle.std.specs.Prelude.{option_map}
-use Rattle.ir_tree.specs.Tree.{head}
-use Rattle.ir_tree.specs.Ids.{find}
-use Rattle.ir_tree.specs.Meaning.{Operation}
-use Rattle.ir_tree_laws.proofs.Members.{found_stands}
+use Rattle.ir_event.specs.trees.Tree.{head}
+use Rattle.ir_event.specs.trees.Ids.{find}
+use Rattle.ir_event.specs.trees.Meaning.{Operation}
+use Rattle.ir_event.proofs.of_tree_laws.Members.{found_stands}
 use Rattle.ir_event.specs.declared.world.World.{World}
 use Rattle.ir_event.specs.Modules.{module_in}
-use Rattle.patterns_base.specs.Looks.{Header, is_clean}
+use Rattle.patterns_yields.specs.base.Looks.{Header, is_clean}
 use Rattle.patterns_lowering.specs.Planned.{IsCleanAt}
 
 -- where something is shown of operation x, and is clean with that id, x is clean

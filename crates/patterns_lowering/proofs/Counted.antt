@@ -2,26 +2,26 @@
 use Rattle.std.proofs.Common.{◌≡◌, refl, ap, sym, ◌∙◌, ℕ, ◌+◌, ◌*◌, List, [], ◌∷◌, ◌++◌, length, map, reverse, Bool, true, false, arith}
 use Rattle.std.specs.List.{range_with_len}
 use Rattle.std.proofs.lemmas.List.{length-map}
-use Rattle.ir_types.specs.Things.{Things}
-use Rattle.ir_types.specs.Terms.{TypeTerm, Index, type_term}
-use Rattle.ir_tree.specs.declared.value.Value.{Value}
-use Rattle.ir_tree.specs.declared.value.Value.TheVariants.{Result}
-use Rattle.ir_tree.specs.declared.place.Place.{Place}
-use Rattle.ir_tree.specs.Tree.{Op, op, head}
-use Rattle.ir_tree.specs.Meaning.{Operation, meaning}
+use Rattle.ir_event.specs.types.Things.{Things}
+use Rattle.ir_event.specs.types.Terms.{TypeTerm, Index, type_term}
+use Rattle.ir_event.specs.trees.declared.value.Value.{Value}
+use Rattle.ir_event.specs.trees.declared.value.Value.TheVariants.{Result}
+use Rattle.ir_event.specs.trees.declared.place.Place.{Place}
+use Rattle.ir_event.specs.trees.Tree.{Op, op, head}
+use Rattle.ir_event.specs.trees.Meaning.{Operation, meaning}
 use Rattle.patterns_edits.specs.Contents.{Edit}
 use Rattle.patterns_edits.specs.Edits.{Make, Erase, Move}
-use Rattle.patterns_base.specs.Made.{i64, placeholder}
-use Rattle.patterns_base.specs.Makes.{results_from, arguments_from, replacing, replaced, moving, erasing, made_by}
-use Rattle.patterns_base.specs.Lowering.{before_in, beside, bridges, brought, crossed, crossing, end_of, gathering, marked}
+use Rattle.patterns_yields.specs.base.Made.{i64, placeholder}
+use Rattle.patterns_yields.specs.base.Makes.{results_from, arguments_from, replacing, replaced, moving, erasing, made_by}
+use Rattle.patterns_yields.specs.base.Lowering.{before_in, beside, bridges, brought, crossed, crossing, end_of, gathering, marked}
 use Rattle.patterns_lowering.specs.declared.plan.Taken.{Taken}
 use Rattle.patterns_lowering.specs.declared.plan.Indexed.{Indexed}
 use Rattle.patterns_lowering.specs.declared.plan.Lowering.{Lowering}
 use Rattle.patterns_lowering.specs.declared.plan.Lowering.TheVariants as plan
 use Rattle.patterns_lowering.specs.Meanings.{results_given, operation_made, operation_id, operation_lowered, moved_over, handed_on, loop_lowered, choice_lowered, lowering_meaning}
 use Rattle.patterns_lowering.specs.Plans.{IsIndexed, LoweringIsOf, lowering_makes}
-use Rattle.patterns_base.proofs.Facts.{bridges_make}
-use Rattle.patterns_base.proofs.Making.{joined}
+use Rattle.patterns_yields.proofs.of_base.Facts.{bridges_make}
+use Rattle.patterns_yields.proofs.of_base.Making.{joined}
 
 -- two lists that make so many
 both_make : (es fs : List Edit) (m n : ℕ) → made_by es ≡ m → made_by fs ≡ n → made_by (es ++ fs) ≡ m + n

@@ -1,15 +1,15 @@
 -- The edits of a plan, in a context that grew.
 use Rattle.std.proofs.Common.{◌≡◌, ap, sym, ◌∙◌, subst, ℕ, List, map}
-use Rattle.ir_types.specs.Things.{Things, Grows}
-use Rattle.ir_types.specs.Sound.{Holds, IsSound}
-use Rattle.ir_types.specs.Terms.{type_term}
-use Rattle.ir_tree.specs.declared.place.Place.{Place}
-use Rattle.ir_tree.specs.Tree.{Op, op, head}
-use Rattle.ir_tree.specs.Meaning.{IsSoundIn, meaning}
-use Rattle.ir_tree.proofs.Meanings.{stable, stays_sound}
+use Rattle.ir_event.specs.types.Things.{Things, Grows}
+use Rattle.ir_event.specs.types.Sound.{Holds, IsSound}
+use Rattle.ir_event.specs.types.Terms.{type_term}
+use Rattle.ir_event.specs.trees.declared.place.Place.{Place}
+use Rattle.ir_event.specs.trees.Tree.{Op, op, head}
+use Rattle.ir_event.specs.trees.Meaning.{IsSoundIn, meaning}
+use Rattle.ir_event.proofs.of_trees.Meanings.{stable, stays_sound}
 use Rattle.patterns_edits.specs.declared.edit.Edit.{Edit}
 use Rattle.patterns_edits.specs.Lists.{AllFit, edits_meaning}
-use Rattle.patterns_base.specs.Lowering.{indices}
+use Rattle.patterns_yields.specs.base.Lowering.{indices}
 use Rattle.patterns_lowering.specs.Lowered.{AreLowered, AreTypes}
 use Rattle.patterns_lowering.specs.Meanings.{operation_lowered}
 use Rattle.patterns_lowering.specs.Numbers.{operation_edits}

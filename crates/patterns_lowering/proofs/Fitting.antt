@@ -2,22 +2,22 @@
 use Rattle.std.proofs.Common.{◌≡◌, refl, ap, ◌∙◌, ℕ, ◌+◌, ◌≤◌, List, [], ◌∷◌, ◌++◌, length, map, Bool, true, false, cond, ◌&&◌, length-take, arith}
 use Rattle.std.proofs.lemmas.Bool.{lt-ltb, and_parts, and_from}
 use Rattle.std.specs.List.{list_all}
-use Rattle.ir_types.specs.Things.{Things, IsType}
-use Rattle.ir_types.specs.Sound.{Holds}
-use Rattle.ir_types.specs.Terms.{type_term}
-use Rattle.ir_types.proofs.WordNumbers.{word_count}
-use Rattle.ir_tree.specs.declared.value.Value.{Value}
-use Rattle.ir_tree.specs.declared.place.Place.{Place}
-use Rattle.ir_tree.specs.Tree.{Op, op, Regions, no_regions, region, empty, block, head, regions}
-use Rattle.ir_tree.specs.Limits.{regions_every, all_arguments_pass}
-use Rattle.ir_tree.specs.Passing.{entry_passes, head_passes, op_passes}
-use Rattle.ir_tree.specs.Meaning.{IsSoundIn, is_attr, is_name, is_type, key_before_in, rises, rises_after, dictionaries_rise}
-use Rattle.ir_tree_laws.specs.Reasons.{hold_none}
-use Rattle.patterns_base.specs.Looks.{is_index}
-use Rattle.patterns_base.specs.Makes.{results_from}
+use Rattle.ir_event.specs.types.Things.{Things, IsType}
+use Rattle.ir_event.specs.types.Sound.{Holds}
+use Rattle.ir_event.specs.types.Terms.{type_term}
+use Rattle.ir_event.proofs.of_types.WordNumbers.{word_count}
+use Rattle.ir_event.specs.trees.declared.value.Value.{Value}
+use Rattle.ir_event.specs.trees.declared.place.Place.{Place}
+use Rattle.ir_event.specs.trees.Tree.{Op, op, Regions, no_regions, region, empty, block, head, regions}
+use Rattle.ir_event.specs.trees.Limits.{regions_every, all_arguments_pass}
+use Rattle.ir_event.specs.trees.Passing.{entry_passes, head_passes, op_passes}
+use Rattle.ir_event.specs.trees.Meaning.{IsSoundIn, is_attr, is_name, is_type, key_before_in, rises, rises_after, dictionaries_rise}
+use Rattle.ir_event.specs.tree_laws.Reasons.{hold_none}
+use Rattle.patterns_yields.specs.base.Looks.{is_index}
+use Rattle.patterns_yields.specs.base.Makes.{results_from}
 use Rattle.patterns_edits.specs.declared.edit.Edit.TheVariants.{Make, Erase}
 use Rattle.patterns_edits.specs.Lists.{AllFit}
-use Rattle.patterns_base.specs.Lowering.{crossed, marked}
+use Rattle.patterns_yields.specs.base.Lowering.{crossed, marked}
 use Rattle.patterns_lowering.specs.Lowered.{AreKnown, AreLowered, AreTypes}
 use Rattle.patterns_lowering.specs.Numbers.{cast_op, bridge_edits, replace_edits, type_lowered, regions_lowered, op_lowered, give_edits, operation_edits}
 use Rattle.patterns_lowering.proofs.Joined.{fit_more}

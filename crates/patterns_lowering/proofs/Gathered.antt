@@ -1,7 +1,7 @@
 -- Operations that are gathered from the last to the first.
 use Rattle.std.proofs.Common.{◌≡◌, ap, sym, ◌∙◌, ℕ, ◌+◌, ◌-◌, ◌<◌, ◌≤◌, List, [], ◌∷◌, ◌++◌, append_assoc, length, take, reverse, get_or, arith}
 use Rattle.std.proofs.lemmas.List.{reverse-append, take_all, take_more}
-use Rattle.patterns_base.specs.Lowering.{before_in}
+use Rattle.patterns_yields.specs.base.Lowering.{before_in}
 use Rattle.patterns_edits.specs.declared.edit.Edit.{Edit}
 use Rattle.patterns_edits.specs.declared.edit.Edit.TheVariants.{Move}
 use Rattle.patterns_lowering.specs.Numbers.{gather_edits}

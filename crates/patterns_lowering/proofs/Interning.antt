@@ -4,36 +4,36 @@ use Rattle.std.specs.Prelude.{nat_le}
 use Rattle.std.specs.List.{list_any}
 use Rattle.std.proofs.lemmas.Bool.{leb-true, ltb-true, lt-ltb, and_parts, and_from}
 use Rattle.std.proofs.lemmas.Option.{slice_get_within}
-use Rattle.ir_types.specs.declared.node.TypeNode.{TypeNode}
-use Rattle.ir_types.specs.declared.node.AttrNode.TheVariants.{Int}
-use Rattle.ir_types.specs.declared.refusal.Refusal.{Refusal}
-use Rattle.ir_types.specs.declared.refusal.Refusal.TheVariants.{Memory, TooMany}
-use Rattle.ir_types.specs.Things.{Things, IsType, IsAttr, IsFront, Grows}
-use Rattle.ir_types.specs.Sound.{Holds}
-use Rattle.ir_types.specs.Terms.{TypeTerm, Integer, Index, Function, Memref, AttrTerm, IntegerOf, String, TypeOf, Flag, Array, Dictionary, Symbol, DenseArray, Overflow, type_term, type_node_term, attr_term, attr_node_term}
-use Rattle.ir_types.specs.Dictionaries.{kept}
-use Rattle.ir_types.specs.Interning.{with_type, with_attr}
-use Rattle.ir_types.specs.Limits.{most_things}
-use Rattle.ir_types.specs.Reasons.{IsRefusedFor, attr_fault, attr_reason, first_reason, full_reason, type_fault, type_reason}
-use Rattle.ir_types.specs.Same.{same_type, same_attr}
-use Rattle.ir_types.proofs.CallNumbers.{new_attr, new_type, type_stands, attr_stands}
-use Rattle.ir_types.proofs.Growth.{grows_refl, grows_trans}
-use Rattle.ir_types.proofs.Terms.{type_stays, attr_stays}
-use Rattle.ir_tree.specs.Meaning.{is_attr, is_name}
-use Rattle.ir_tree.specs.Passing.{entry_passes}
-use Rattle.ir_tree_laws.proofs.Listed.{bool_cases}
+use Rattle.ir_event.specs.types.declared.node.TypeNode.{TypeNode}
+use Rattle.ir_event.specs.types.declared.node.AttrNode.TheVariants.{Int}
+use Rattle.ir_event.specs.types.declared.refusal.Refusal.{Refusal}
+use Rattle.ir_event.specs.types.declared.refusal.Refusal.TheVariants.{Memory, TooMany}
+use Rattle.ir_event.specs.types.Things.{Things, IsType, IsAttr, IsFront, Grows}
+use Rattle.ir_event.specs.types.Sound.{Holds}
+use Rattle.ir_event.specs.types.Terms.{TypeTerm, Integer, Index, Function, Memref, AttrTerm, IntegerOf, String, TypeOf, Flag, Array, Dictionary, Symbol, DenseArray, Overflow, type_term, type_node_term, attr_term, attr_node_term}
+use Rattle.ir_event.specs.types.Dictionaries.{kept}
+use Rattle.ir_event.specs.types.Interning.{with_type, with_attr}
+use Rattle.ir_event.specs.types.Limits.{most_things}
+use Rattle.ir_event.specs.types.Reasons.{IsRefusedFor, attr_fault, attr_reason, first_reason, full_reason, type_fault, type_reason}
+use Rattle.ir_event.specs.types.Same.{same_type, same_attr}
+use Rattle.ir_event.proofs.of_types.CallNumbers.{new_attr, new_type, type_stands, attr_stands}
+use Rattle.ir_event.proofs.of_types.Growth.{grows_refl, grows_trans}
+use Rattle.ir_event.proofs.of_types.Terms.{type_stays, attr_stays}
+use Rattle.ir_event.specs.trees.Meaning.{is_attr, is_name}
+use Rattle.ir_event.specs.trees.Passing.{entry_passes}
+use Rattle.ir_event.proofs.of_tree_laws.Listed.{bool_cases}
 use Rattle.ir_event.specs.declared.event.Event.{Event}
 use Rattle.ir_event.specs.Listener.{Listener}
 use Rattle.patterns_runs.specs.rewriter_bench.Benched.{Benched, Heard}
 use Rattle.patterns_runs.specs.rewriter_bench.Held.{Held}
 use Rattle.patterns_runs.specs.rewriter_bench.Moves.{Grown}
 use Rattle.patterns_runs.proofs.of_rewriter_bench.Told.{heard_grown}
-use Rattle.patterns_base.specs.Made.{i64}
-use Rattle.patterns_base.specs.Lowering.{lowered_attr}
+use Rattle.patterns_yields.specs.base.Made.{i64}
+use Rattle.patterns_yields.specs.base.Lowering.{lowered_attr}
 use Rattle.patterns_runs.specs.Interning.{Added, IsNoRoom}
 use Rattle.patterns_lowering.specs.Refused.{as_full}
 use Rattle.patterns_lowering.specs.Lowered.{IsLowered, AreLowered, AreKnown, AreTypes, IsLowering, index_bits}
-use Rattle.ir_tree.proofs.Meanings.{longer}
+use Rattle.ir_event.proofs.of_trees.Meanings.{longer}
 
 -- ---- benches
 

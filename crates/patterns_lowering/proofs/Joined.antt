@@ -1,6 +1,6 @@
 -- Lists of edits, joined.
 use Rattle.std.proofs.Common.{◌≡◌, refl, ap, List, [], ◌∷◌, ◌++◌}
-use Rattle.ir_types.specs.Things.{Things}
+use Rattle.ir_event.specs.types.Things.{Things}
 use Rattle.patterns_edits.specs.Contents.{edit_meaning}
 use Rattle.patterns_edits.specs.declared.edit.Edit.{Edit}
 use Rattle.patterns_edits.specs.Lists.{AllFit, edits_meaning, numbered}

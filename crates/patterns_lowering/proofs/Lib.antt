@@ -16,3 +16,6 @@ pub mod Shown
 pub mod Ruled
 pub mod Named
 pub mod Asked
+pub use Rattle.patterns_runs.proofs as of_runs
+pub use Rattle.patterns_runs.proofs.of_rewriter
+pub use Rattle.patterns_runs.proofs.Told

@@ -2,14 +2,14 @@
 use Rattle.std.proofs.Common.{◌≡◌, refl, ℕ, ◌+◌, List, [], ◌∷◌, ◌++◌, length, reverse, Bool, true, false}
 use Rattle.std.specs.List.{list_all}
 use Rattle.std.proofs.lemmas.Bool.{ltb-true, and_parts}
-use Rattle.ir_types.specs.Things.{Things, IsType}
-use Rattle.ir_types.specs.Sound.{Holds}
-use Rattle.ir_tree.specs.declared.value.Value.{Value}
-use Rattle.ir_tree.specs.declared.place.Place.{Place}
-use Rattle.ir_tree.specs.Tree.{Op, head, regions}
-use Rattle.ir_tree.specs.Meaning.{IsSoundIn, is_type}
-use Rattle.patterns_base.specs.Makes.{arguments_from}
-use Rattle.patterns_base.specs.Lowering.{before_in, beside, crossed, end_of, marked}
+use Rattle.ir_event.specs.types.Things.{Things, IsType}
+use Rattle.ir_event.specs.types.Sound.{Holds}
+use Rattle.ir_event.specs.trees.declared.value.Value.{Value}
+use Rattle.ir_event.specs.trees.declared.place.Place.{Place}
+use Rattle.ir_event.specs.trees.Tree.{Op, head, regions}
+use Rattle.ir_event.specs.trees.Meaning.{IsSoundIn, is_type}
+use Rattle.patterns_yields.specs.base.Makes.{arguments_from}
+use Rattle.patterns_yields.specs.base.Lowering.{before_in, beside, crossed, end_of, marked}
 use Rattle.patterns_edits.specs.declared.edit.Edit.{Edit}
 use Rattle.patterns_edits.specs.declared.edit.Edit.TheVariants.{Make, Move}
 use Rattle.patterns_edits.specs.Lists.{AllFit}

@@ -2,23 +2,23 @@
 use Rattle.std.proofs.Common.{◌≡◌, refl, ap, sym, ◌∙◌, ℕ, ◌+◌, List, [], ◌∷◌, ◌++◌, length, map, reverse, Bool, true, false, append_assoc, arith}
 use Rattle.std.specs.List.{range_with_len}
 use Rattle.std.proofs.lemmas.List.{length-map}
-use Rattle.ir_types.specs.Things.{Things}
-use Rattle.ir_types.specs.Sound.{IsSound}
-use Rattle.ir_types.specs.Terms.{TypeTerm, Index, type_term}
-use Rattle.ir_types.specs.declared.word.Word.TheVariants.{BuiltinUnrealizedConversionCast}
+use Rattle.ir_event.specs.types.Things.{Things}
+use Rattle.ir_event.specs.types.Sound.{IsSound}
+use Rattle.ir_event.specs.types.Terms.{TypeTerm, Index, type_term}
+use Rattle.ir_event.specs.types.declared.word.Word.TheVariants.{BuiltinUnrealizedConversionCast}
 use Rattle.ir_verify_base.proofs.Words.{word_named}
-use Rattle.ir_tree.specs.declared.value.Value.{Value}
-use Rattle.ir_tree.specs.declared.value.Value.TheVariants.{Result, Arg}
-use Rattle.ir_tree.specs.declared.place.Place.{Place}
-use Rattle.ir_tree.specs.Tree.{Op, op, no_regions, head}
-use Rattle.ir_tree.specs.Meaning.{meaning}
+use Rattle.ir_event.specs.trees.declared.value.Value.{Value}
+use Rattle.ir_event.specs.trees.declared.value.Value.TheVariants.{Result, Arg}
+use Rattle.ir_event.specs.trees.declared.place.Place.{Place}
+use Rattle.ir_event.specs.trees.Tree.{Op, op, no_regions, head}
+use Rattle.ir_event.specs.trees.Meaning.{meaning}
 use Rattle.patterns_edits.specs.Contents.{Edit}
 use Rattle.patterns_edits.specs.Edits as edit
 use Rattle.patterns_edits.specs.declared.edit.Edit.TheVariants as coded
 use Rattle.patterns_edits.specs.Lists.{edits_meaning}
-use Rattle.patterns_base.specs.Made.{i64, placeholder}
-use Rattle.patterns_base.specs.Makes.{arguments_from, replacing, replaced, moving, erasing}
-use Rattle.patterns_base.specs.Lowering.{before_in, beside, bridges, brought, crossed, crossing, end_of, gathering, lowered_op, marked}
+use Rattle.patterns_yields.specs.base.Made.{i64, placeholder}
+use Rattle.patterns_yields.specs.base.Makes.{arguments_from, replacing, replaced, moving, erasing}
+use Rattle.patterns_yields.specs.base.Lowering.{before_in, beside, bridges, brought, crossed, crossing, end_of, gathering, lowered_op, marked}
 use Rattle.patterns_regions.specs.Opened.{put_for}
 use Rattle.patterns_lowering.specs.declared.plan.Taken.{Taken}
 use Rattle.patterns_lowering.specs.declared.plan.IndexedLoop.{IndexedLoop}
@@ -29,7 +29,7 @@ use Rattle.patterns_lowering.specs.Numbers.{bridge_edits, replace_edits, op_lowe
 use Rattle.patterns_lowering.specs.Meanings.{results_given, loop_lowered, choice_lowered, lowering_meaning}
 use Rattle.patterns_lowering.proofs.Meant.{bridges_meant, replaces_meant, op_meant, give_meant}
 use Rattle.patterns_lowering.proofs.Counted.{arguments_length}
-use Rattle.patterns_base.proofs.Facts.{crossed_length}
+use Rattle.patterns_yields.proofs.of_base.Facts.{crossed_length}
 use Rattle.patterns_edits.proofs.Facts.{edits_more}
 use Rattle.patterns_regions.proofs.Openings.{moves_meant}
 

@@ -1,22 +1,22 @@
 -- What edits in the numbers of a context stand for.
 use Rattle.std.proofs.Common.{◌≡◌, refl, ap, sym, ◌∙◌, ℕ, ◌+◌, List, [], ◌∷◌, ◌++◌, map, Bool, true, false}
-use Rattle.ir_types.specs.Things.{Things}
-use Rattle.ir_types.specs.Sound.{IsSound}
-use Rattle.ir_types.specs.Terms.{TypeTerm, Index, AttrTerm, name_term, type_term, attr_term}
-use Rattle.ir_types.specs.declared.word.Word.TheVariants.{BuiltinUnrealizedConversionCast}
+use Rattle.ir_event.specs.types.Things.{Things}
+use Rattle.ir_event.specs.types.Sound.{IsSound}
+use Rattle.ir_event.specs.types.Terms.{TypeTerm, Index, AttrTerm, name_term, type_term, attr_term}
+use Rattle.ir_event.specs.types.declared.word.Word.TheVariants.{BuiltinUnrealizedConversionCast}
 use Rattle.ir_verify_base.proofs.Words.{word_named}
-use Rattle.ir_tree.specs.declared.value.Value.{Value}
-use Rattle.ir_tree.specs.declared.value.Value.TheVariants.{Result}
-use Rattle.ir_tree.specs.declared.place.Place.{Place}
-use Rattle.ir_tree.specs.Tree.{Op, op, no_regions, head}
-use Rattle.ir_tree.specs.Maps.{map_entry}
-use Rattle.ir_tree.specs.Meaning.{meaning}
+use Rattle.ir_event.specs.trees.declared.value.Value.{Value}
+use Rattle.ir_event.specs.trees.declared.value.Value.TheVariants.{Result}
+use Rattle.ir_event.specs.trees.declared.place.Place.{Place}
+use Rattle.ir_event.specs.trees.Tree.{Op, op, no_regions, head}
+use Rattle.ir_event.specs.trees.Maps.{map_entry}
+use Rattle.ir_event.specs.trees.Meaning.{meaning}
 use Rattle.patterns_edits.specs.Edits as edit
 use Rattle.patterns_edits.specs.declared.edit.Edit.TheVariants as coded
 use Rattle.patterns_edits.specs.Lists.{edits_meaning}
-use Rattle.patterns_base.specs.Made.{i64}
-use Rattle.patterns_base.specs.Makes.{results_from, replacing}
-use Rattle.patterns_base.specs.Lowering.{bridges, crossed, marked, lowered_attr, lowered_op}
+use Rattle.patterns_yields.specs.base.Made.{i64}
+use Rattle.patterns_yields.specs.base.Makes.{results_from, replacing}
+use Rattle.patterns_yields.specs.base.Lowering.{bridges, crossed, marked, lowered_attr, lowered_op}
 use Rattle.patterns_lowering.specs.Lowered.{AreLowered, AreTypes}
 use Rattle.patterns_lowering.specs.Numbers.{bridge_edits, replace_edits, op_lowered, give_edits, operation_edits}
 use Rattle.patterns_lowering.specs.Meanings.{results_given, operation_lowered}

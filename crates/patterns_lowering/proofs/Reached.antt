@@ -2,16 +2,16 @@
 use Rattle.std.proofs.Common.{◌≡◌, ap, sym, ◌∙◌, ℕ, Bool, false, Option, Some, None}
 use Rattle.std.specs.Prelude.{option_map}
 use Rattle.std.specs.Option.{option_eq}
-use Rattle.ir_types.specs.Terms.{Index, name_term, type_term, attr_term}
-use Rattle.ir_types.specs.SameTypes.{same_type}
-use Rattle.ir_types.specs.Things.{IsType}
-use Rattle.ir_tree.specs.declared.value.Value.{Value}
-use Rattle.ir_tree_laws.specs.Values.{type_of_value}
-use Rattle.ir_tree_laws.proofs.Contents.{map_type_of_value}
+use Rattle.ir_event.specs.types.Terms.{Index, name_term, type_term, attr_term}
+use Rattle.ir_event.specs.types.SameTypes.{same_type}
+use Rattle.ir_event.specs.types.Things.{IsType}
+use Rattle.ir_event.specs.trees.declared.value.Value.{Value}
+use Rattle.ir_event.specs.tree_laws.Values.{type_of_value}
+use Rattle.ir_event.proofs.of_tree_laws.Contents.{map_type_of_value}
 use Rattle.ir_event.specs.declared.world.World.{World}
 use Rattle.ir_event.specs.Modules.{module_in}
 use Rattle.ir_event.proofs.Typed.{value_known}
-use Rattle.patterns_base.specs.Looks.{is_index, is_index_value}
+use Rattle.patterns_yields.specs.base.Looks.{is_index, is_index_value}
 
 -- whether a value is of index
 in_contents : (w : World) (v : Value) (r : Option ℕ) → r ≡ type_of_value v w.store.module_of.tree → option_eq same_type (option_map (type_term w.ctx) r) (Some Index) ≡ is_index_value (module_in w).tree v

@@ -1,17 +1,17 @@
 -- What is read of an operation, and how one of arith is lowered.
 use Rattle.std.proofs.Common.{◌≡◌, refl, ap, sym, ℕ, ◌+◌, ◌++◌, List, [], ◌∷◌, map, Bool, ◌&&◌, ◌||◌, Some}
-use Rattle.ir_types.specs.Terms.{TypeTerm, AttrTerm}
-use Rattle.ir_tree.specs.declared.value.Value.{Value}
-use Rattle.ir_tree.specs.declared.place.Place.{Place}
-use Rattle.ir_tree.specs.Tree.{OpOf, op, RegionsOf, no_regions, region, empty, block, no_ops, head}
-use Rattle.ir_tree.specs.Maps.{map_tree, map_head, map_regions}
-use Rattle.ir_tree.specs.Meaning.{Operation}
-use Rattle.patterns_base.specs.Words.{among, index_users}
-use Rattle.patterns_base.specs.Looks.{when, is_index_value}
+use Rattle.ir_event.specs.types.Terms.{TypeTerm, AttrTerm}
+use Rattle.ir_event.specs.trees.declared.value.Value.{Value}
+use Rattle.ir_event.specs.trees.declared.place.Place.{Place}
+use Rattle.ir_event.specs.trees.Tree.{OpOf, op, RegionsOf, no_regions, region, empty, block, no_ops, head}
+use Rattle.ir_event.specs.trees.Maps.{map_tree, map_head, map_regions}
+use Rattle.ir_event.specs.trees.Meaning.{Operation}
+use Rattle.patterns_yields.specs.base.Words.{among, index_users}
+use Rattle.patterns_yields.specs.base.Looks.{when, is_index_value}
 use Rattle.patterns_edits.specs.Edits.{Make}
-use Rattle.patterns_base.specs.Made.{i64}
-use Rattle.patterns_base.specs.Keeps.{lowered_type}
-use Rattle.patterns_base.specs.Lowering.{bridges, crossed, marked, indices, any, lowered_header, lowered_regions, lowered_op, lower_index}
+use Rattle.patterns_yields.specs.base.Made.{i64}
+use Rattle.patterns_yields.specs.base.Keeps.{lowered_type}
+use Rattle.patterns_yields.specs.base.Lowering.{bridges, crossed, marked, indices, any, lowered_header, lowered_regions, lowered_op, lower_index}
 use Rattle.patterns_lowering.specs.Bare.{bare, bare_regions}
 use Rattle.patterns_lowering.specs.Meanings.{operation_lowered, results_given}
 

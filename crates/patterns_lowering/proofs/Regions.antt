@@ -2,7 +2,7 @@
 use Rattle.std.proofs.Common.{◌≡◌, refl, ap, sym, ◌∙◌, ℕ, zero, suc, ◌+◌, ◌<◌, List, [], ◌∷◌, ◌++◌, length, map, take, get_or, Option, None}
 use Rattle.std.specs.Prelude.{option_and_then, slice_get}
 use Rattle.std.proofs.lemmas.List.{map-append, take_more}
-use Rattle.ir_tree.specs.Tree.{Region}
+use Rattle.ir_event.specs.trees.Tree.{Region}
 use Rattle.patterns_lowering.specs.Bare.{region_with}
 
 read_at : (rs : List (Option (List ℕ))) (i : ℕ) → get_or rs i None ≡ option_and_then (λ a. a) (slice_get rs i)

@@ -3,27 +3,27 @@ use Rattle.std.proofs.Common.{◌≡◌, refl, ap, sym, ◌∙◌, subst, ℕ, �
 use Rattle.std.specs.Prelude.{codes, option_map, option_and_then, slice_get}
 use Rattle.std.specs.List.{list_all, range_with_len}
 use Rattle.std.proofs.lemmas.List.{length-map}
-use Rattle.ir_types.specs.Things.{Things}
-use Rattle.ir_types.specs.Terms.{TypeTerm, Index, name_term, type_term, attr_term}
-use Rattle.ir_tree.specs.declared.value.Value.{Value}
-use Rattle.ir_tree.specs.declared.value.Value.TheVariants.{Result}
-use Rattle.ir_tree.specs.declared.place.Place.{Place}
-use Rattle.ir_tree.specs.Tree.{Op, op, head}
-use Rattle.ir_tree.specs.Ids.{find}
-use Rattle.ir_tree.specs.Meaning.{Operation, is_type, meaning}
-use Rattle.ir_tree_laws.specs.Values.{arguments_at}
-use Rattle.ir_store.specs.Nodes.{Node, node_of}
+use Rattle.ir_event.specs.types.Things.{Things}
+use Rattle.ir_event.specs.types.Terms.{TypeTerm, Index, name_term, type_term, attr_term}
+use Rattle.ir_event.specs.trees.declared.value.Value.{Value}
+use Rattle.ir_event.specs.trees.declared.value.Value.TheVariants.{Result}
+use Rattle.ir_event.specs.trees.declared.place.Place.{Place}
+use Rattle.ir_event.specs.trees.Tree.{Op, op, head}
+use Rattle.ir_event.specs.trees.Ids.{find}
+use Rattle.ir_event.specs.trees.Meaning.{Operation, is_type, meaning}
+use Rattle.ir_event.specs.tree_laws.Values.{arguments_at}
+use Rattle.ir_event.specs.store.Nodes.{Node, node_of}
 use Rattle.ir_event.specs.declared.world.World.{World}
 use Rattle.ir_event.specs.Modules.{module_in, node_meaning}
 use Rattle.ir_event.proofs.Nodes.{node_shown}
 use Rattle.patterns_edits.specs.Contents.{Edit}
 use Rattle.patterns_edits.specs.Edits.{Make}
-use Rattle.patterns_base.specs.Keeps.{given}
-use Rattle.patterns_base.specs.Made.{i64, placeholder}
-use Rattle.patterns_base.specs.Words.{among, index_users, named}
-use Rattle.patterns_base.specs.Looks.{Ended, body, is_index_value, when}
-use Rattle.patterns_base.specs.Makes.{arguments_from, replacing, replaced, erasing}
-use Rattle.patterns_base.specs.Lowering.{any, bridges, brought, crossed, crossing, marked, indices, lowered_loop, lowered_if, end_of, before_in, lower_index, lower_loop, lower_choice}
+use Rattle.patterns_yields.specs.base.Keeps.{given}
+use Rattle.patterns_yields.specs.base.Made.{i64, placeholder}
+use Rattle.patterns_yields.specs.base.Words.{among, index_users, named}
+use Rattle.patterns_yields.specs.base.Looks.{Ended, body, is_index_value, when}
+use Rattle.patterns_yields.specs.base.Makes.{arguments_from, replacing, replaced, erasing}
+use Rattle.patterns_yields.specs.base.Lowering.{any, bridges, brought, crossed, crossing, marked, indices, lowered_loop, lowered_if, end_of, before_in, lower_index, lower_loop, lower_choice}
 use Rattle.patterns_regions.specs.Blocks.{Shows, body_at}
 use Rattle.patterns_regions.proofs.Viewed.{block_types}
 use Rattle.patterns_yields.specs.Yields.{IsCleanOf}

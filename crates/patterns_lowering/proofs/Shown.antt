@@ -4,23 +4,23 @@ use Rattle.std.specs.Prelude.{option_map, option_and_then, slice_get, nat_le}
 use Rattle.std.specs.List.{list_all}
 use Rattle.std.proofs.lemmas.Bool.{leb-true, and_parts, and_from}
 use Rattle.std.proofs.lemmas.List.{length-map}
-use Rattle.ir_types.specs.Things.{Things}
-use Rattle.ir_types.specs.Terms.{name_term, type_term, attr_term}
-use Rattle.ir_tree.specs.Tree.{Op, op, RegionsOf, no_regions, region, empty, block, head, regions, region_count, regions_of}
-use Rattle.ir_tree.specs.Ids.{HasDistinctIds, find}
-use Rattle.ir_tree.specs.Limits.{all_arguments_pass, every, head_fits, items_fit, most_ops, most_regions, op_fits, regions_every}
-use Rattle.ir_tree.specs.Meaning.{IsSoundIn, Operation, is_attr, is_name, is_type, key_before_in, dictionaries_rise, meaning}
-use Rattle.ir_tree.specs.Passing.{head_passes, op_passes}
-use Rattle.ir_tree.proofs.Mapped.{map_find}
-use Rattle.ir_tree.specs.Ids.{op_count}
-use Rattle.ir_tree_laws.proofs.Members.{found_stands}
-use Rattle.ir_store.specs.Nodes.{Node, node_of, regions_arguments}
+use Rattle.ir_event.specs.types.Things.{Things}
+use Rattle.ir_event.specs.types.Terms.{name_term, type_term, attr_term}
+use Rattle.ir_event.specs.trees.Tree.{Op, op, RegionsOf, no_regions, region, empty, block, head, regions, region_count, regions_of}
+use Rattle.ir_event.specs.trees.Ids.{HasDistinctIds, find}
+use Rattle.ir_event.specs.trees.Limits.{all_arguments_pass, every, head_fits, items_fit, most_ops, most_regions, op_fits, regions_every}
+use Rattle.ir_event.specs.trees.Meaning.{IsSoundIn, Operation, is_attr, is_name, is_type, key_before_in, dictionaries_rise, meaning}
+use Rattle.ir_event.specs.trees.Passing.{head_passes, op_passes}
+use Rattle.ir_event.proofs.of_trees.Mapped.{map_find}
+use Rattle.ir_event.specs.trees.Ids.{op_count}
+use Rattle.ir_event.proofs.of_tree_laws.Members.{found_stands}
+use Rattle.ir_event.specs.store.Nodes.{Node, node_of, regions_arguments}
 use Rattle.ir_event.specs.declared.world.World.{World}
 use Rattle.ir_event.specs.Modules.{module_in}
 use Rattle.ir_event.proofs.Sounds.{every_found, found_sound}
 use Rattle.ir_event.proofs.Steps.{formed_meaning}
-use Rattle.patterns_base.specs.Looks.{is_index_value}
-use Rattle.patterns_base.specs.Lowering.{indices}
+use Rattle.patterns_yields.specs.base.Looks.{is_index_value}
+use Rattle.patterns_yields.specs.base.Lowering.{indices}
 use Rattle.patterns_lowering.specs.declared.plan.Indexed.{Indexed}
 use Rattle.patterns_lowering.specs.Bare.{bare, bare_regions, bare_read, region_with}
 use Rattle.patterns_lowering.specs.Planned.{IsReadIn, IsReadOf}

@@ -1,14 +1,14 @@
 -- Types and regions with another type for index.
 use Rattle.std.proofs.Common.{◌≡◌, refl, ap, ◌∙◌, ℕ, List, [], ◌∷◌, map, Bool, true, false, cond}
-use Rattle.ir_types.specs.Things.{Things}
-use Rattle.ir_types.specs.Terms.{TypeTerm, Integer, Index, Function, Memref, name_term, type_term, attr_term}
-use Rattle.ir_tree.specs.Tree.{Regions, no_regions, region, empty, block, no_ops}
-use Rattle.ir_tree.specs.Maps.{map_regions}
+use Rattle.ir_event.specs.types.Things.{Things}
+use Rattle.ir_event.specs.types.Terms.{TypeTerm, Integer, Index, Function, Memref, name_term, type_term, attr_term}
+use Rattle.ir_event.specs.trees.Tree.{Regions, no_regions, region, empty, block, no_ops}
+use Rattle.ir_event.specs.trees.Maps.{map_regions}
 use Rattle.ir_verify_base.specs.Types as types
-use Rattle.patterns_base.specs.Made.{i64}
-use Rattle.patterns_base.specs.Keeps.{lowered_type}
-use Rattle.patterns_base.specs.Looks.{is_index}
-use Rattle.patterns_base.specs.Lowering.{lowered_regions}
+use Rattle.patterns_yields.specs.base.Made.{i64}
+use Rattle.patterns_yields.specs.base.Keeps.{lowered_type}
+use Rattle.patterns_yields.specs.base.Looks.{is_index}
+use Rattle.patterns_yields.specs.base.Lowering.{lowered_regions}
 use Rattle.patterns_lowering.specs.Numbers.{type_lowered, regions_lowered}
 
 -- one test of index is the other

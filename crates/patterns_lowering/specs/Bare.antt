@@ -1,8 +1,9 @@
 -- Operations without the operations in their blocks.
 use Rattle.std.specs.Prelude.{ℕ, List, map, Option, Some, None}
-use Rattle.ir_tree.specs.Tree.{OpOf, Op, op, RegionsOf, no_regions, region, RegionOf, Region, empty, block, no_ops}
-use Rattle.ir_tree.specs.Tree.{regions_of}
-use Rattle.ir_store.specs.Nodes.{Node}
+use Rattle.ir_event.specs.trees.Tree.{OpOf, Op, op, RegionsOf, no_regions}
+use Rattle.ir_event.specs.trees.Tree.{region, RegionOf, Region, empty, block, no_ops}
+use Rattle.ir_event.specs.trees.Tree.{regions_of}
+use Rattle.ir_event.specs.store.Nodes.{Node}
 
 -- a region whose block has its arguments alone
 abbrev pub bare_region : {N T A : Type 0} → RegionOf N T A → RegionOf N T A

@@ -1,8 +1,8 @@
 -- Whether the edits of plans make what is counted.
 use Rattle.std.specs.Prelude.{◌≡◌, ℕ}
-use Rattle.ir_types.specs.Things.{Things}
-use Rattle.ir_tree.specs.declared.place.Place.{Place}
-use Rattle.patterns_base.specs.Makes.{made_by}
+use Rattle.ir_event.specs.types.Things.{Things}
+use Rattle.ir_event.specs.trees.declared.place.Place.{Place}
+use Rattle.patterns_yields.specs.base.Makes.{made_by}
 use Rattle.patterns_lowering.specs.declared.plan.Lowering.{Lowering}
 use Rattle.patterns_lowering.specs.Meanings.{lowering_meaning}
 use Rattle.patterns_lowering.specs.Plans.{LoweringIsOf, lowering_makes}

@@ -1,12 +1,12 @@
 -- What is interned for lowerings, in the numbers of a context.
 use Rattle.std.specs.Prelude.{◌≡◌, ℕ, List, [], ◌∷◌, ◌++◌, true, Option, Some, None}
 use Rattle.std.specs.List.{list_all}
-use Rattle.ir_types.specs.Things.{Things, IsType, IsAttr}
-use Rattle.ir_types.specs.Terms.{Index, AttrTerm, IntegerOf, type_term, attr_term}
-use Rattle.ir_tree.specs.Meaning.{is_attr, is_name}
-use Rattle.ir_tree.specs.Passing.{entry_passes}
-use Rattle.patterns_base.specs.Made.{i64}
-use Rattle.patterns_base.specs.Lowering.{lowered_attr}
+use Rattle.ir_event.specs.types.Things.{Things, IsType, IsAttr}
+use Rattle.ir_event.specs.types.Terms.{Index, AttrTerm, IntegerOf, type_term, attr_term}
+use Rattle.ir_event.specs.trees.Meaning.{is_attr, is_name}
+use Rattle.ir_event.specs.trees.Passing.{entry_passes}
+use Rattle.patterns_yields.specs.base.Made.{i64}
+use Rattle.patterns_yields.specs.base.Lowering.{lowered_attr}
 
 -- an entry with the same key, whose attribute has i64 for index
 pub record IsLowered (c : Things) (e f : ℕ × ℕ) : Type 0 where

@@ -1,18 +1,19 @@
 -- The edits of the rules that lower, by what is read of an operation.
 use Rattle.std.specs.Prelude.{ℕ, ◌+◌, List, [], ◌∷◌, ◌++◌, map, length, Bool}
 use Rattle.std.specs.List.{range_with_len}
-use Rattle.ir_types.specs.Things.{Things}
-use Rattle.ir_types.specs.Terms.{TypeTerm, Index, type_term}
-use Rattle.ir_tree.specs.declared.place.Place.{Place}
-use Rattle.ir_tree.specs.declared.value.Value.{Value}
-use Rattle.ir_tree.specs.declared.value.Value.TheVariants.{Result}
-use Rattle.ir_tree.specs.Tree.{head}
-use Rattle.ir_tree.specs.Meaning.{Operation, meaning}
+use Rattle.ir_event.specs.types.Things.{Things}
+use Rattle.ir_event.specs.types.Terms.{TypeTerm, Index, type_term}
+use Rattle.ir_event.specs.trees.declared.place.Place.{Place}
+use Rattle.ir_event.specs.trees.declared.value.Value.{Value}
+use Rattle.ir_event.specs.trees.declared.value.Value.TheVariants.{Result}
+use Rattle.ir_event.specs.trees.Tree.{head}
+use Rattle.ir_event.specs.trees.Meaning.{Operation, meaning}
 use Rattle.patterns_edits.specs.Contents.{Edit}
 use Rattle.patterns_edits.specs.Edits.{Make, Erase}
-use Rattle.patterns_base.specs.Made.{i64, placeholder}
-use Rattle.patterns_base.specs.Makes.{results_from, arguments_from, replacing, replaced, erasing}
-use Rattle.patterns_base.specs.Lowering.{bridges, brought, crossed, crossing, marked, lowered_op, end_of, before_in}
+use Rattle.patterns_yields.specs.base.Made.{i64, placeholder}
+use Rattle.patterns_yields.specs.base.Makes.{results_from, arguments_from, replacing, replaced, erasing}
+use Rattle.patterns_yields.specs.base.Lowering.{bridges, brought, crossed, crossing}
+use Rattle.patterns_yields.specs.base.Lowering.{marked, lowered_op, end_of, before_in}
 use Rattle.patterns_lowering.specs.declared.plan.Taken.{Taken}
 use Rattle.patterns_lowering.specs.declared.plan.Lowering.{Lowering}
 use Rattle.patterns_lowering.specs.declared.plan.Lowering.TheVariants as plan

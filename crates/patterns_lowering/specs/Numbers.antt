@@ -1,18 +1,18 @@
 -- Edits of lowerings, in the numbers of a context.
 use Rattle.std.specs.Prelude.{ℕ, ◌+◌, List, [], ◌∷◌, ◌++◌, map, length, reverse, Bool, true, false, if◌then◌else◌}
-use Rattle.ir_types.specs.Things.{Things}
-use Rattle.ir_types.specs.Terms.{type_term}
-use Rattle.ir_types.specs.declared.word.Word.TheVariants.{BuiltinUnrealizedConversionCast}
-use Rattle.ir_types.specs.WordNames.{word_number}
-use Rattle.ir_tree.specs.declared.value.Value.{Value}
-use Rattle.ir_tree.specs.declared.value.Value.TheVariants.{Result}
-use Rattle.ir_tree.specs.declared.place.Place.{Place}
-use Rattle.ir_tree.specs.Tree.{Op, op, Regions, no_regions, region, Region, empty, block, no_ops, head, regions}
+use Rattle.ir_event.specs.types.Things.{Things}
+use Rattle.ir_event.specs.types.Terms.{type_term}
+use Rattle.ir_event.specs.types.declared.word.Word.TheVariants.{BuiltinUnrealizedConversionCast}
+use Rattle.ir_event.specs.types.WordNames.{word_number}
+use Rattle.ir_event.specs.trees.declared.value.Value.{Value}
+use Rattle.ir_event.specs.trees.declared.value.Value.TheVariants.{Result}
+use Rattle.ir_event.specs.trees.declared.place.Place.{Place}
+use Rattle.ir_event.specs.trees.Tree.{Op, op, Regions, no_regions, region, Region, empty, block, no_ops, head, regions}
 use Rattle.patterns_edits.specs.declared.edit.Edit.{Edit}
 use Rattle.patterns_edits.specs.declared.edit.Edit.TheVariants.{Make, SetOperand, Replace, Move, Erase}
-use Rattle.patterns_base.specs.Looks.{is_index}
-use Rattle.patterns_base.specs.Makes.{arguments_from, results_from}
-use Rattle.patterns_base.specs.Lowering.{before_in, beside, crossed, end_of, marked}
+use Rattle.patterns_yields.specs.base.Looks.{is_index}
+use Rattle.patterns_yields.specs.base.Makes.{arguments_from, results_from}
+use Rattle.patterns_yields.specs.base.Lowering.{before_in, beside, crossed, end_of, marked}
 use Rattle.patterns_regions.specs.Opened.{put_for}
 use Rattle.patterns_lowering.specs.declared.plan.Taken.{Taken}
 use Rattle.patterns_lowering.specs.declared.plan.IndexedLoop.{IndexedLoop}

@@ -1,17 +1,17 @@
 -- What it is to plan a rule that lowers.
 use Rattle.std.specs.Prelude.{◌≡◌, ℕ, List, map, Option, Some, None, option_map, true}
-use Rattle.ir_types.specs.Terms.{type_term}
-use Rattle.ir_tree.specs.declared.place.Place.{Place}
-use Rattle.ir_tree.specs.Tree.{Op, head}
-use Rattle.ir_tree.specs.Ids.{find}
-use Rattle.ir_tree.specs.Meaning.{Operation}
+use Rattle.ir_event.specs.types.Terms.{type_term}
+use Rattle.ir_event.specs.trees.declared.place.Place.{Place}
+use Rattle.ir_event.specs.trees.Tree.{Op, head}
+use Rattle.ir_event.specs.trees.Ids.{find}
+use Rattle.ir_event.specs.trees.Meaning.{Operation}
 use Rattle.ir_event.specs.declared.world.World.{World}
 use Rattle.ir_event.specs.Modules.{module_in}
 use Rattle.patterns_edits.specs.Contents.{Edit}
-use Rattle.patterns_base.specs.Looks.{Ended, is_clean, is_index_value}
-use Rattle.patterns_base.specs.Lowering.{indices}
-use Rattle.patterns_base.specs.Rules.{rule}
-use Rattle.patterns_base.specs.declared.rule.Rule.{Rule}
+use Rattle.patterns_yields.specs.base.Looks.{Ended, is_clean, is_index_value}
+use Rattle.patterns_yields.specs.base.Lowering.{indices}
+use Rattle.patterns_yields.specs.base.Rules.{rule}
+use Rattle.patterns_yields.specs.base.declared.rule.Rule.{Rule}
 use Rattle.patterns_lowering.specs.declared.plan.Indexed.{Indexed}
 use Rattle.patterns_lowering.specs.declared.plan.Taken.{Taken}
 use Rattle.patterns_lowering.specs.declared.plan.Lowering.{Lowering}

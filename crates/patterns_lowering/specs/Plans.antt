@@ -1,12 +1,12 @@
 -- What is read of operations for lowerings.
 use Rattle.std.specs.Prelude.{◌≡◌, ℕ, ◌+◌, ◌*◌, ◌≤◌, map, length, true}
 use Rattle.std.specs.List.{list_all}
-use Rattle.ir_types.specs.Things.{Things}
-use Rattle.ir_types.specs.Terms.{type_term}
-use Rattle.ir_tree.specs.Tree.{head}
-use Rattle.ir_tree.specs.Limits.{op_fits}
-use Rattle.ir_tree.specs.Meaning.{IsSoundIn, is_type}
-use Rattle.patterns_base.specs.Lowering.{indices, marked}
+use Rattle.ir_event.specs.types.Things.{Things}
+use Rattle.ir_event.specs.types.Terms.{type_term}
+use Rattle.ir_event.specs.trees.Tree.{head}
+use Rattle.ir_event.specs.trees.Limits.{op_fits}
+use Rattle.ir_event.specs.trees.Meaning.{IsSoundIn, is_type}
+use Rattle.patterns_yields.specs.base.Lowering.{indices, marked}
 use Rattle.patterns_lowering.specs.declared.plan.Indexed.{Indexed}
 use Rattle.patterns_lowering.specs.declared.plan.Taken.{Taken}
 use Rattle.patterns_lowering.specs.declared.plan.IndexedLoop.{IndexedLoop}

@@ -1,12 +1,12 @@
 //! Operations are read without the operations in their blocks.
 ghost use Rattle.std.specs.Prelude.{◌≡◌, ◌≤◌, IfOk, length, map, option_map};
-ghost use Rattle.ir_tree.specs.Limits.{most_regions};
-ghost use Rattle.ir_tree.specs.View.{region_view};
+ghost use Rattle.ir_event.specs.trees.Limits.{most_regions};
+ghost use Rattle.ir_event.specs.trees.View.{region_view};
 ghost use Rattle.patterns_lowering.specs.Bare.{bare_read, region_with};
 
-use ir_store::node::Node;
-use ir_tree::tree::{TreeOp, TreeRegion};
-use ir_types::ids::{OpId, TypeId};
+use ir_event::store::node::Node;
+use ir_event::trees::tree::{TreeOp, TreeRegion};
+use ir_event::types::ids::{OpId, TypeId};
 use std::alloc::{AllocError, Global};
 
 /// A region whose block has these arguments, if there is one.

@@ -1,7 +1,7 @@
 //! `lower-choice`: a choice of index becomes one of i64, with casts in its blocks and behind it.
 ghost use Rattle.std.specs.Prelude.{◌≡◌, ◌≤◌, ◌+◌, IfOk, OnOk, ◌++◌, length};
-ghost use Rattle.ir_tree.specs.Limits.{most_next};
-ghost use Rattle.patterns_base.specs.Lowering.{marked};
+ghost use Rattle.ir_event.specs.trees.Limits.{most_next};
+ghost use Rattle.patterns_yields.specs.base.Lowering.{marked};
 ghost use Rattle.patterns_lowering.specs.declared.plan.Lowering.TheVariants.{Choice};
 ghost use Rattle.patterns_lowering.specs.Numbers.{choice_edits, side_edits};
 ghost use Rattle.patterns_lowering.specs.Plans.{IsIndexedChoice, lowering_makes};
@@ -12,9 +12,9 @@ use crate::numbers::{Numbers, before, casts_at};
 use crate::operation::push_made;
 use crate::over::{push_handed, push_over};
 use crate::plan::{IndexedChoice, Taken};
-use ir_tree::place::Place;
-use ir_types::context::Context;
-use ir_types::ids::{OpId, TypeId};
+use ir_event::trees::place::Place;
+use ir_event::types::context::Context;
+use ir_event::types::ids::{OpId, TypeId};
 use patterns_edits::edit::Edit;
 use std::alloc::{AllocError, Global};
 

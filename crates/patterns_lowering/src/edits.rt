@@ -1,8 +1,8 @@
 //! The edits of a plan, where what they need is interned.
 ghost use Rattle.std.specs.Prelude.{◌≡◌, ◌≤◌, ◌+◌, IfOk, IfErr};
-ghost use Rattle.ir_tree.specs.Limits.{most_next};
-ghost use Rattle.ir_tree.specs.Meaning.{meaning};
-ghost use Rattle.patterns_base.specs.Lowering.{marked};
+ghost use Rattle.ir_event.specs.trees.Limits.{most_next};
+ghost use Rattle.ir_event.specs.trees.Meaning.{meaning};
+ghost use Rattle.patterns_yields.specs.base.Lowering.{marked};
 ghost use Rattle.patterns_edits.specs.Lists.{AllFit, edits_meaning};
 ghost use Rattle.patterns_runs.specs.Interning.{Added, IsNoRoom};
 ghost use Rattle.patterns_lowering.specs.Meanings.{lowering_meaning, operation_lowered};
@@ -16,8 +16,8 @@ use crate::loops::loop_edits;
 use crate::operation::operation_edits;
 use crate::plan::{Indexed, IndexedChoice, IndexedLoop, Lowering};
 use ir_event::analysis::Analysis;
-use ir_tree::place::Place;
-use ir_types::refusal::Refusal;
+use ir_event::trees::place::Place;
+use ir_event::types::refusal::Refusal;
 use patterns_edits::edit::Edit;
 use patterns_runs::Bench;
 use std::alloc::Global;

@@ -1,14 +1,14 @@
 //! The results of one operation are given for those of another.
 ghost use Rattle.std.specs.Prelude.{◌≡◌, ◌≤◌, ◌+◌, OnOk, ◌++◌, length};
-ghost use Rattle.ir_tree.specs.Limits.{most_next};
-ghost use Rattle.ir_tree.specs.Tree.{head};
-ghost use Rattle.patterns_base.specs.Lowering.{marked};
+ghost use Rattle.ir_event.specs.trees.Limits.{most_next};
+ghost use Rattle.ir_event.specs.trees.Tree.{head};
+ghost use Rattle.patterns_yields.specs.base.Lowering.{marked};
 ghost use Rattle.patterns_lowering.specs.Numbers.{give_edits};
 
 use crate::lists::{crossed, push_bridges, push_replaced, put, results_of};
 use crate::numbers::Casts;
-use ir_tree::tree::TreeOp;
-use ir_types::ids::OpId;
+use ir_event::trees::tree::TreeOp;
+use ir_event::types::ids::OpId;
 use patterns_edits::edit::Edit;
 use std::alloc::{AllocError, Global};
 

@@ -1,12 +1,12 @@
 //! What stands for the arguments of a loop while its operations are moved: casts out of nothing.
 ghost use Rattle.std.specs.Prelude.{◌≡◌, ◌≤◌, ◌+◌, IfOk, OnOk, ◌++◌, ◌∷◌, [], length};
-ghost use Rattle.ir_tree.specs.Limits.{most_next};
+ghost use Rattle.ir_event.specs.trees.Limits.{most_next};
 ghost use Rattle.patterns_lowering.specs.Numbers.{erase_edits, first_results, holder_edits, numbers_from};
 
 use crate::lists::{cast, put};
-use ir_tree::place::Place;
-use ir_tree::value::Value;
-use ir_types::ids::{OpId, TypeId};
+use ir_event::trees::place::Place;
+use ir_event::trees::value::Value;
+use ir_event::types::ids::{OpId, TypeId};
 use patterns_edits::edit::Edit;
 use std::alloc::{AllocError, Global};
 

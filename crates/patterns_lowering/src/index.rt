@@ -1,17 +1,17 @@
 //! Which types, and which values of a module, are of index.
 ghost use Rattle.std.specs.Prelude.{◌≡◌, IfOk, true, map};
 ghost use Rattle.std.specs.List.{list_all};
-ghost use Rattle.ir_types.specs.Things.{IsType};
-ghost use Rattle.ir_types.specs.Terms.{type_term};
-ghost use Rattle.ir_tree.specs.Meaning.{is_type};
+ghost use Rattle.ir_event.specs.types.Things.{IsType};
+ghost use Rattle.ir_event.specs.types.Terms.{type_term};
+ghost use Rattle.ir_event.specs.trees.Meaning.{is_type};
 ghost use Rattle.ir_event.specs.Modules.{module_in};
-ghost use Rattle.patterns_base.specs.Looks.{is_index, is_index_value};
-ghost use Rattle.patterns_base.specs.Lowering.{indices};
+ghost use Rattle.patterns_yields.specs.base.Looks.{is_index, is_index_value};
+ghost use Rattle.patterns_yields.specs.base.Lowering.{indices};
 
+use ir_event::trees::value::Value;
+use ir_event::types::context::Context;
+use ir_event::types::ids::TypeId;
 use ir_event::world::World;
-use ir_tree::value::Value;
-use ir_types::context::Context;
-use ir_types::ids::TypeId;
 use ir_verify_base::types;
 use std::alloc::{AllocError, Global};
 

@@ -1,12 +1,12 @@
 //! What lowerings need is interned: i64, index, and integers of i64 for those of index.
 ghost use Rattle.std.specs.Prelude.{◌≡◌, IfOk, IfErr, OnOk, None, ℕ, List, [], ◌∷◌, ◌++◌};
-ghost use Rattle.ir_types.specs.Things.{IsType, IsAttr, TypeIsOf};
-ghost use Rattle.ir_types.specs.Terms.{attr_term, type_term, type_node_term};
-ghost use Rattle.ir_types.specs.Reasons.{type_fault};
-ghost use Rattle.ir_tree.specs.Meaning.{IsSoundIn};
-ghost use Rattle.ir_tree.specs.Tree.{head};
-ghost use Rattle.patterns_base.specs.Made.{i64};
-ghost use Rattle.patterns_base.specs.Lowering.{lowered_attr};
+ghost use Rattle.ir_event.specs.types.Things.{IsType, IsAttr, TypeIsOf};
+ghost use Rattle.ir_event.specs.types.Terms.{attr_term, type_term, type_node_term};
+ghost use Rattle.ir_event.specs.types.Reasons.{type_fault};
+ghost use Rattle.ir_event.specs.trees.Meaning.{IsSoundIn};
+ghost use Rattle.ir_event.specs.trees.Tree.{head};
+ghost use Rattle.patterns_yields.specs.base.Made.{i64};
+ghost use Rattle.patterns_yields.specs.base.Lowering.{lowered_attr};
 ghost use Rattle.patterns_runs.specs.Interning.{Added, IsNoRoom};
 ghost use Rattle.patterns_lowering.specs.Refused.{as_full};
 ghost use Rattle.patterns_lowering.specs.Lowered.{AreKnown, AreLowered, AreTypes, IsLowering, index_bits};
@@ -14,12 +14,12 @@ ghost use Rattle.patterns_lowering.specs.Lowered.{AreKnown, AreLowered, AreTypes
 use crate::index::is_index;
 use crate::numbers::Numbers;
 use ir_event::analysis::Analysis;
-use ir_tree::tree::TreeOp;
-use ir_types::context::Context;
-use ir_types::ids::{AttrId, NameId, TypeId};
-use ir_types::node::{AttrNode, Sign, TypeNode};
-use ir_types::refusal::Refusal;
-use ir_types::things::attr_of;
+use ir_event::trees::tree::TreeOp;
+use ir_event::types::context::Context;
+use ir_event::types::ids::{AttrId, NameId, TypeId};
+use ir_event::types::node::{AttrNode, Sign, TypeNode};
+use ir_event::types::refusal::Refusal;
+use ir_event::types::things::attr_of;
 use patterns_runs::Bench;
 use patterns_runs::laws::led_benches_are_kept;
 use std::alloc::{AllocError, Global};

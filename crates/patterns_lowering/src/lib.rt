@@ -22,6 +22,8 @@ pub mod plans;
 mod reading;
 mod users;
 
-pub use patterns_base::rule;
+pub use patterns_regions as regions;
 pub use patterns_regions::reads;
 pub use patterns_runs as runs;
+pub use patterns_runs::rewriter;
+pub use patterns_yields::base::rule;

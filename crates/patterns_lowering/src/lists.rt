@@ -1,16 +1,16 @@
 //! Lists of values and of edits.
 ghost use Rattle.std.specs.Prelude.{◌≡◌, ◌≤◌, ◌+◌, IfOk, OnOk, List, ◌∷◌, [], ◌++◌, length, map, Bool};
-ghost use Rattle.ir_tree.specs.declared.value.Value.{Value as TreeValue};
-ghost use Rattle.ir_tree.specs.Limits.{most_next};
-ghost use Rattle.patterns_base.specs.Makes.{results_from};
-ghost use Rattle.patterns_base.specs.Lowering.{crossed, marked};
+ghost use Rattle.ir_event.specs.trees.declared.value.Value.{Value as TreeValue};
+ghost use Rattle.ir_event.specs.trees.Limits.{most_next};
+ghost use Rattle.patterns_yields.specs.base.Makes.{results_from};
+ghost use Rattle.patterns_yields.specs.base.Lowering.{crossed, marked};
 ghost use Rattle.patterns_lowering.specs.Numbers.{bridge_edits, cast_op, replace_edits};
 
-use ir_tree::place::Place;
-use ir_tree::tree::TreeOp;
-use ir_tree::value::Value;
-use ir_types::ids::{OpId, TypeId};
-use ir_types::word::Word;
+use ir_event::trees::place::Place;
+use ir_event::trees::tree::TreeOp;
+use ir_event::trees::value::Value;
+use ir_event::types::ids::{OpId, TypeId};
+use ir_event::types::word::Word;
 use patterns_edits::edit::Edit;
 use std::alloc::{AllocError, Global};
 

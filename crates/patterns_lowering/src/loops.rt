@@ -1,8 +1,8 @@
 //! `lower-loop`: a loop over index becomes one over i64, with casts around it and in its block.
 ghost use Rattle.std.specs.Prelude.{◌≡◌, ◌≤◌, ◌+◌, IfOk, OnOk, ◌++◌, length, map};
-ghost use Rattle.ir_tree.specs.Limits.{most_next};
-ghost use Rattle.ir_tree.specs.Tree.{head};
-ghost use Rattle.patterns_base.specs.Lowering.{marked};
+ghost use Rattle.ir_event.specs.trees.Limits.{most_next};
+ghost use Rattle.ir_event.specs.trees.Tree.{head};
+ghost use Rattle.patterns_yields.specs.base.Lowering.{marked};
 ghost use Rattle.patterns_lowering.specs.declared.plan.Lowering.TheVariants.{Loop};
 ghost use Rattle.patterns_lowering.specs.Numbers.{give_edits, handed_edits, held_edits, inside_edits};
 ghost use Rattle.patterns_lowering.specs.Numbers.{loop_edits, loop_ids};
@@ -17,10 +17,10 @@ use crate::numbers::{Casts, Numbers, before, casts_at};
 use crate::operation::push_made;
 use crate::over::{all_put, arguments_of, push_handed, push_over};
 use crate::plan::IndexedLoop;
-use ir_tree::place::Place;
-use ir_tree::value::Value;
-use ir_types::context::Context;
-use ir_types::ids::{OpId, TypeId};
+use ir_event::trees::place::Place;
+use ir_event::trees::value::Value;
+use ir_event::types::context::Context;
+use ir_event::types::ids::{OpId, TypeId};
 use patterns_edits::edit::Edit;
 use std::alloc::{AllocError, Global};
 

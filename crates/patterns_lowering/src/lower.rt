@@ -1,18 +1,18 @@
 //! Operations are copied, without the operations in their blocks, with i64 for index.
 ghost use Rattle.std.specs.Prelude.{◌≡◌, IfOk, true, map};
 ghost use Rattle.std.specs.List.{list_all};
-ghost use Rattle.ir_types.specs.Things.{IsType};
-ghost use Rattle.ir_tree.specs.Limits.{all_arguments_pass, arguments_pass};
-ghost use Rattle.ir_tree.specs.Meaning.{IsSoundIn, is_type};
-ghost use Rattle.ir_tree.specs.Tree.{regions_of};
-ghost use Rattle.ir_tree.specs.View.{region_view};
+ghost use Rattle.ir_event.specs.types.Things.{IsType};
+ghost use Rattle.ir_event.specs.trees.Limits.{all_arguments_pass, arguments_pass};
+ghost use Rattle.ir_event.specs.trees.Meaning.{IsSoundIn, is_type};
+ghost use Rattle.ir_event.specs.trees.Tree.{regions_of};
+ghost use Rattle.ir_event.specs.trees.View.{region_view};
 ghost use Rattle.patterns_lowering.specs.Numbers.{op_lowered, region_lowered, regions_lowered, type_lowered};
 
 use crate::index::is_index;
-use ir_tree::tree::{TreeOp, TreeRegion};
-use ir_tree::value::Value;
-use ir_types::context::Context;
-use ir_types::ids::{AttrId, NameId, TypeId};
+use ir_event::trees::tree::{TreeOp, TreeRegion};
+use ir_event::trees::value::Value;
+use ir_event::types::context::Context;
+use ir_event::types::ids::{AttrId, NameId, TypeId};
 use std::alloc::{AllocError, Global};
 
 /// A type, or another one for index.

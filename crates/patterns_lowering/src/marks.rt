@@ -1,6 +1,6 @@
 //! Marks: which of some values, or types, are of index.
 ghost use Rattle.std.specs.Prelude.{◌≡◌, ◌≤◌, length};
-ghost use Rattle.patterns_base.specs.Lowering.{any, marked};
+ghost use Rattle.patterns_yields.specs.base.Lowering.{any, marked};
 
 /// Whether one is marked.
 pub(crate) fn any(marks: &[bool]) -> bool

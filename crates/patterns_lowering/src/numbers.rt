@@ -1,9 +1,9 @@
 //! What is interned for an operation, and where casts come.
 ghost use Rattle.std.specs.Prelude.{◌≡◌};
-ghost use Rattle.patterns_base.specs.Lowering.{before_in};
+ghost use Rattle.patterns_yields.specs.base.Lowering.{before_in};
 
-use ir_tree::place::Place;
-use ir_types::ids::{AttrId, NameId, OpId, TypeId};
+use ir_event::trees::place::Place;
+use ir_event::types::ids::{AttrId, NameId, OpId, TypeId};
 
 /// What is interned for an operation.
 #[derive(Drop)]

@@ -1,8 +1,8 @@
 //! `lower-index`: an operation on index becomes one on i64, with casts around it.
 ghost use Rattle.std.specs.Prelude.{◌≡◌, ◌≤◌, ◌+◌, IfOk, OnOk, ◌++◌, ◌∷◌, []};
-ghost use Rattle.ir_tree.specs.Limits.{most_next};
-ghost use Rattle.ir_tree.specs.Tree.{head};
-ghost use Rattle.patterns_base.specs.Lowering.{crossed, marked};
+ghost use Rattle.ir_event.specs.trees.Limits.{most_next};
+ghost use Rattle.ir_event.specs.trees.Tree.{head};
+ghost use Rattle.patterns_yields.specs.base.Lowering.{crossed, marked};
 ghost use Rattle.patterns_edits.specs.declared.edit.Edit.TheVariants.{Make};
 ghost use Rattle.patterns_lowering.specs.Numbers.{op_lowered, operation_edits};
 ghost use Rattle.patterns_lowering.specs.Plans.{IsIndexed};
@@ -13,9 +13,9 @@ use crate::lower::lowered;
 use crate::marks::marked;
 use crate::numbers::{Casts, Numbers, casts_at};
 use crate::plan::Indexed;
-use ir_tree::place::Place;
-use ir_types::context::Context;
-use ir_types::ids::{AttrId, NameId, OpId};
+use ir_event::trees::place::Place;
+use ir_event::types::context::Context;
+use ir_event::types::ids::{AttrId, NameId, OpId};
 use patterns_edits::edit::Edit;
 use std::alloc::{AllocError, Global};
 

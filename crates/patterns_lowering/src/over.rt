@@ -1,17 +1,17 @@
 //! The operations of a block are taken over by another one, where what the last of them hands on goes through casts.
 ghost use Rattle.std.specs.Prelude.{◌≡◌, ◌≤◌, ◌+◌, IfOk, OnOk, List, ◌++◌, ◌∷◌, [], length, map, reverse, Bool};
-ghost use Rattle.ir_tree.specs.Limits.{most_next};
-ghost use Rattle.patterns_base.specs.Makes.{arguments_from};
-ghost use Rattle.patterns_base.specs.Lowering.{marked};
+ghost use Rattle.ir_event.specs.trees.Limits.{most_next};
+ghost use Rattle.patterns_yields.specs.base.Makes.{arguments_from};
+ghost use Rattle.patterns_yields.specs.base.Lowering.{marked};
 ghost use Rattle.patterns_regions.specs.Opened.{put_for};
 ghost use Rattle.patterns_lowering.specs.Numbers.{crossing_edits, gather_edits, handed_edits, move_edits, over_edits};
 
 use crate::lists::{push_bridges, put};
 use crate::numbers::Casts;
 use crate::plan::Taken;
-use ir_tree::place::Place;
-use ir_tree::value::Value;
-use ir_types::ids::{OpId, TypeId};
+use ir_event::trees::place::Place;
+use ir_event::trees::value::Value;
+use ir_event::types::ids::{OpId, TypeId};
 use patterns_edits::edit::Edit;
 use patterns_regions::opened::put_for;
 use std::alloc::{AllocError, Global};

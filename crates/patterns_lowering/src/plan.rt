@@ -1,7 +1,7 @@
 //! What the rules that lower make of an operation, before anything is interned for it.
-use ir_tree::tree::TreeOp;
-use ir_tree::value::Value;
-use ir_types::ids::{OpId, TypeId};
+use ir_event::trees::tree::TreeOp;
+use ir_event::trees::value::Value;
+use ir_event::types::ids::{OpId, TypeId};
 
 /// An operation whose blocks hold none, and which of its operands and results are of index.
 #[derive(Drop)]

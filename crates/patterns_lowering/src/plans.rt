@@ -1,7 +1,7 @@
 //! What the rules that lower make of operations on index.
 ghost use Rattle.std.specs.Prelude.{◌≡◌, ◌||◌, true, IfOk, IfSome};
-ghost use Rattle.patterns_base.specs.Lowering.{any, lower_index, lower_loop, lower_choice};
-ghost use Rattle.patterns_base.specs.RuleNames.{is_lowering};
+ghost use Rattle.patterns_yields.specs.base.Lowering.{any, lower_index, lower_loop, lower_choice};
+ghost use Rattle.patterns_yields.specs.base.RuleNames.{is_lowering};
 ghost use Rattle.patterns_lowering.specs.Planned.{IsCleanAt, IsLoweredAt, IsLoweredBy};
 ghost use Rattle.patterns_lowering.specs.Plans.{LoweringIsOf};
 
@@ -10,10 +10,10 @@ use crate::marks::any;
 use crate::plan::{IndexedChoice, IndexedLoop, Lowering};
 use crate::reading::{read, take};
 use crate::users::is_user;
+use ir_event::types::ids::OpId;
+use ir_event::types::word::Word;
 use ir_event::world::World;
-use ir_types::ids::OpId;
-use ir_types::word::Word;
-use patterns_base::rule::Rule;
+use patterns_yields::base::rule::Rule;
 use std::alloc::{AllocError, Global};
 
 /// Whether one of two lists is marked.

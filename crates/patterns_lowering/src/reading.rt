@@ -1,7 +1,7 @@
 //! What is read of operations that may be lowered.
 ghost use Rattle.std.specs.Prelude.{◌≡◌, ◌||◌, IfOk, Some, option_map};
-ghost use Rattle.ir_tree.specs.Ids.{find};
-ghost use Rattle.ir_store.specs.Nodes.{node_of};
+ghost use Rattle.ir_event.specs.trees.Ids.{find};
+ghost use Rattle.ir_event.specs.store.Nodes.{node_of};
 ghost use Rattle.ir_event.specs.Modules.{module_in};
 ghost use Rattle.patterns_regions.specs.Blocks.{body_at};
 ghost use Rattle.patterns_lowering.specs.Planned.{AreTaken, IsReadOf};
@@ -9,9 +9,9 @@ ghost use Rattle.patterns_lowering.specs.Planned.{AreTaken, IsReadOf};
 use crate::bare::bare;
 use crate::index::{index_values, indices};
 use crate::plan::{Indexed, Taken};
+use ir_event::store::node::Node;
+use ir_event::types::ids::OpId;
 use ir_event::world::World;
-use ir_store::node::Node;
-use ir_types::ids::OpId;
 use patterns_regions::block::{Body, body_of};
 use std::alloc::{AllocError, Global};
 

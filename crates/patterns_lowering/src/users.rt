@@ -1,12 +1,12 @@
 //! The operations that may be on index.
 ghost use Rattle.std.specs.Prelude.{◌≡◌, map};
-ghost use Rattle.ir_types.specs.Terms.{name_term};
-ghost use Rattle.ir_types.specs.WordNames.{word_bytes};
-ghost use Rattle.patterns_base.specs.Words.{among, index_users};
+ghost use Rattle.ir_event.specs.types.Terms.{name_term};
+ghost use Rattle.ir_event.specs.types.WordNames.{word_bytes};
+ghost use Rattle.patterns_yields.specs.base.Words.{among, index_users};
 
-use ir_types::context::Context;
-use ir_types::ids::NameId;
-use ir_types::word::Word;
+use ir_event::types::context::Context;
+use ir_event::types::ids::NameId;
+use ir_event::types::word::Word;
 
 /// Their words.
 static USERS: [Word; 20] = [

@@ -4,17 +4,17 @@ use Rattle.std.specs.Prelude.{option_map}
 use Rattle.std.specs.List.{list_all}
 use Rattle.std.proofs.lemmas.List.{map-append, length_push}
 use Rattle.std.proofs.lemmas.Option.{slice_get-map}
-use Rattle.ir_tree_laws.proofs.Listed.{both}
-use Rattle.ir_types.specs.Things.{Things}
-use Rattle.ir_types.specs.declared.word.Word.{Word}
-use Rattle.ir_types.specs.WordNames.{word_bytes}
+use Rattle.ir_event.proofs.of_tree_laws.Listed.{both}
+use Rattle.ir_event.specs.types.Things.{Things}
+use Rattle.ir_event.specs.types.declared.word.Word.{Word}
+use Rattle.ir_event.specs.types.WordNames.{word_bytes}
 use Rattle.dialects_int.specs.Folds.{Known}
 use Rattle.patterns_base.specs.Made.{constant, flags, made}
-use Rattle.ir_types.specs.Terms.{TypeTerm}
-use Rattle.ir_tree.specs.declared.value.Value.{Value}
-use Rattle.ir_tree.specs.declared.value.Value.TheVariants.{Result}
-use Rattle.ir_tree.specs.Uses.{same_value}
-use Rattle.ir_tree.specs.Meaning.{Operation}
+use Rattle.ir_event.specs.types.Terms.{TypeTerm}
+use Rattle.ir_event.specs.trees.declared.value.Value.{Value}
+use Rattle.ir_event.specs.trees.declared.value.Value.TheVariants.{Result}
+use Rattle.ir_event.specs.trees.Uses.{same_value}
+use Rattle.ir_event.specs.trees.Meaning.{Operation}
 use Rattle.patterns_check.specs.Outcomes.{Outcome, given}
 use Rattle.patterns_book.specs.declared.pattern.New.{New}
 use Rattle.patterns_book.specs.declared.pattern.New.TheVariants as new

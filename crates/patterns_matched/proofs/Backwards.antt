@@ -1,7 +1,7 @@
 -- Pieces from the last to the first.
 use Rattle.std.proofs.Common.{◌≡◌, ℕ, ◌+◌, ◌-◌, ◌≤◌, ◌<◌, refl, ap, sym, ◌∙◌, subst, List, ◌∷◌, length, take, get_or, Bool, true, false, ◌&&◌, Option, None, arith}
-use Rattle.ir_tree.specs.declared.value.Value.{Value}
-use Rattle.ir_tree.specs.Meaning.{Operation}
+use Rattle.ir_event.specs.trees.declared.value.Value.{Value}
+use Rattle.ir_event.specs.trees.Meaning.{Operation}
 use Rattle.patterns_check.specs.Outcomes.{given}
 use Rattle.patterns_book.specs.Matching.{Header, Standing, piece_matched, pieces_matched, placed, standing}
 use Rattle.dialects_int.specs.declared.operations.Cast.TheVariants.{Truncate}

@@ -5,14 +5,14 @@ use Rattle.std.specs.List.{list_all}
 use Rattle.std.proofs.lemmas.Bool.Decides.{eqb_tells}
 use Rattle.std.proofs.lemmas.List.{get_or-set_same, length-set}
 use Rattle.std.proofs.lemmas.Option.{slice_get_within, slice_get-get_or, get_or_from_slice_get, same_Some}
-use Rattle.ir_types.specs.Terms.{TypeTerm}
-use Rattle.ir_types.specs.SameTypes.{same_type}
-use Rattle.ir_tree.specs.declared.value.Value.{Value}
-use Rattle.ir_tree.specs.declared.value.Value.TheVariants.{Result}
-use Rattle.ir_tree.specs.Uses.{same_value}
-use Rattle.ir_tree.specs.Meaning.{Operation}
-use Rattle.ir_tree_laws.specs.Members.{In}
-use Rattle.ir_tree_laws.specs.Values.{type_of_value}
+use Rattle.ir_event.specs.types.Terms.{TypeTerm}
+use Rattle.ir_event.specs.types.SameTypes.{same_type}
+use Rattle.ir_event.specs.trees.declared.value.Value.{Value}
+use Rattle.ir_event.specs.trees.declared.value.Value.TheVariants.{Result}
+use Rattle.ir_event.specs.trees.Uses.{same_value}
+use Rattle.ir_event.specs.trees.Meaning.{Operation}
+use Rattle.ir_event.specs.tree_laws.Members.{In}
+use Rattle.ir_event.specs.tree_laws.Values.{type_of_value}
 use Rattle.patterns_check.specs.Outcomes.{Outcome, given}
 use Rattle.patterns_book.specs.declared.pattern.New.{New}
 use Rattle.patterns_book.specs.Matching.{Header, Standing, all_bound, bound, bound_over, standing, type_at, types_at, when}

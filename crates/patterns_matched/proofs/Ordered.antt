@@ -2,13 +2,13 @@
 use Rattle.std.proofs.Common.{◌≡◌, ℕ, refl, ap, sym, ◌∙◌, List, [], ◌∷◌, Bool, true, false, ◌&&◌, true≢false, Option, Some, None, slice_get, map, option_map}
 use Rattle.std.specs.Prelude.{codes, eqb, is_some}
 use Rattle.std.specs.List.{list_all}
-use Rattle.ir_types.specs.Terms.{TypeTerm}
-use Rattle.ir_tree.specs.declared.value.Value.{Value}
-use Rattle.ir_tree.specs.declared.value.Value.TheVariants.{Result, Arg}
-use Rattle.ir_tree.specs.Tree.{head}
-use Rattle.ir_tree.specs.Ids.{find}
-use Rattle.ir_tree.specs.Uses.{same_value}
-use Rattle.ir_tree.specs.Meaning.{Operation}
+use Rattle.ir_event.specs.types.Terms.{TypeTerm}
+use Rattle.ir_event.specs.trees.declared.value.Value.{Value}
+use Rattle.ir_event.specs.trees.declared.value.Value.TheVariants.{Result, Arg}
+use Rattle.ir_event.specs.trees.Tree.{head}
+use Rattle.ir_event.specs.trees.Ids.{find}
+use Rattle.ir_event.specs.trees.Uses.{same_value}
+use Rattle.ir_event.specs.trees.Meaning.{Operation}
 use Rattle.dialects_int.specs.Folds.{fold_of}
 use Rattle.patterns_base.specs.Words.{named}
 use Rattle.patterns_base.specs.Keeps.{given as given_base}
@@ -26,7 +26,7 @@ use Rattle.patterns_book.proofs.Standing.{pieces_stand}
 use Rattle.patterns_matched.specs.Built.{plan_of}
 use Rattle.patterns_makeable.specs.Makeable.{is_makeable}
 use Rattle.patterns_matched.specs.Matched.{all_clean, any, is_clean_value, is_constant_value, is_first, matched}
-use Rattle.ir_tree.proofs.Counts.{and_false}
+use Rattle.ir_event.proofs.of_trees.Counts.{and_false}
 
 pub when_none : {X : Type 0} (b : Bool) → when {X = X} b None ≡ None
 when_none true = refl

@@ -1,11 +1,11 @@
 -- From what stands to a plan.
 use Rattle.std.proofs.Common.{append_assoc, ◌≡◌, ℕ, zero, suc, refl, ap, sym, ◌∙◌, subst, List, [], ◌∷◌, ◌++◌, length, take, drop, map, Bool, true, false, ◌&&◌, true≢false, Option, Some, None, arith}
 use Rattle.std.specs.Prelude.{option_map}
-use Rattle.ir_types.specs.Things.{Things}
-use Rattle.ir_types.specs.Terms.{TypeTerm}
-use Rattle.ir_types.specs.declared.bits.BitsKind.{BitsKind}
-use Rattle.ir_tree.specs.declared.value.Value.{Value}
-use Rattle.ir_tree.specs.Meaning.{Operation}
+use Rattle.ir_event.specs.types.Things.{Things}
+use Rattle.ir_event.specs.types.Terms.{TypeTerm}
+use Rattle.ir_event.specs.types.declared.bits.BitsKind.{BitsKind}
+use Rattle.ir_event.specs.trees.declared.value.Value.{Value}
+use Rattle.ir_event.specs.trees.Meaning.{Operation}
 use Rattle.patterns_check.specs.Checks as check
 use Rattle.patterns_check.specs.Contents.{Content}
 use Rattle.patterns_check.specs.Outcomes.{Outcome, given, run}

@@ -1,14 +1,14 @@
 -- Types of values at places, by the numbers of a context.
 use Rattle.std.proofs.Common.{◌≡◌, ℕ, refl, ap, sym, ◌∙◌, subst, Bool, false, Option, Some, None}
 use Rattle.std.specs.Prelude.{option_map}
-use Rattle.ir_types.specs.Things.{Things}
-use Rattle.ir_types.specs.Terms.{TypeTerm, name_term, type_term, attr_term}
-use Rattle.ir_types.specs.SameTypes.{same_type}
-use Rattle.ir_tree.specs.declared.value.Value.{Value}
-use Rattle.ir_tree.specs.Tree.{Op}
-use Rattle.ir_tree.specs.Meaning.{meaning}
-use Rattle.ir_tree_laws.specs.Values.{type_of_value}
-use Rattle.ir_tree_laws.proofs.Contents.{map_type_of_value}
+use Rattle.ir_event.specs.types.Things.{Things}
+use Rattle.ir_event.specs.types.Terms.{TypeTerm, name_term, type_term, attr_term}
+use Rattle.ir_event.specs.types.SameTypes.{same_type}
+use Rattle.ir_event.specs.trees.declared.value.Value.{Value}
+use Rattle.ir_event.specs.trees.Tree.{Op}
+use Rattle.ir_event.specs.trees.Meaning.{meaning}
+use Rattle.ir_event.specs.tree_laws.Values.{type_of_value}
+use Rattle.ir_event.proofs.of_tree_laws.Contents.{map_type_of_value}
 use Rattle.patterns_check.specs.Outcomes.{given}
 use Rattle.patterns_book.specs.Matching.{Header, Standing, bound, standing, type_at}
 use Rattle.patterns_matched.specs.Stands.{Stands}

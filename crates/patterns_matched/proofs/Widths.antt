@@ -1,11 +1,11 @@
 -- The kinds of types.
 use Rattle.std.proofs.Common.{◌≡◌, ℕ, refl, ap, sym, true, false, Some, None}
-use Rattle.ir_types.specs.declared.bits.BitsKind.{BitsKind}
-use Rattle.ir_types.specs.declared.bits.BitsKind.TheVariants as kind
-use Rattle.ir_types.specs.declared.node.Sign.TheVariants.{Signless, Signed, Unsigned}
-use Rattle.ir_types.specs.Bits.{type_of}
-use Rattle.ir_types.specs.Terms.{TypeTerm, Integer, Index, Function, Memref}
-use Rattle.ir_types.specs.SameTypes.{same_type}
+use Rattle.ir_event.specs.types.declared.bits.BitsKind.{BitsKind}
+use Rattle.ir_event.specs.types.declared.bits.BitsKind.TheVariants as kind
+use Rattle.ir_event.specs.types.declared.node.Sign.TheVariants.{Signless, Signed, Unsigned}
+use Rattle.ir_event.specs.types.Bits.{type_of}
+use Rattle.ir_event.specs.types.Terms.{TypeTerm, Integer, Index, Function, Memref}
+use Rattle.ir_event.specs.types.SameTypes.{same_type}
 use Rattle.ir_verify_base.specs.Types as types
 use Rattle.dialects_int.specs.Folds.{kind_of}
 use Rattle.patterns_book.specs.Planning.{kind_standing}

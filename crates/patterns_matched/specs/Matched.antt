@@ -1,10 +1,10 @@
 -- How a match is tried: first whatever operations give the values, then whether these are clean.
 use Rattle.std.specs.Prelude.{ℕ, List, [], Bool, true, false, Option, Some, None, is_some, eqb, if◌then◌else◌}
 use Rattle.std.specs.List.{list_all, list_any}
-use Rattle.ir_tree.specs.declared.value.Value.{Value}
-use Rattle.ir_tree.specs.declared.value.Value.TheVariants.{Result, Arg}
-use Rattle.ir_tree.specs.Uses.{same_value}
-use Rattle.ir_tree.specs.Meaning.{Operation}
+use Rattle.ir_event.specs.trees.declared.value.Value.{Value}
+use Rattle.ir_event.specs.trees.declared.value.Value.TheVariants.{Result, Arg}
+use Rattle.ir_event.specs.trees.Uses.{same_value}
+use Rattle.ir_event.specs.trees.Meaning.{Operation}
 use Rattle.patterns_base.specs.Looks.{is_constant}
 use Rattle.patterns_check.specs.Outcomes.{given}
 use Rattle.patterns_book.specs.Matching.{Header, Standing, bound, giver_head, nothing, pieces_matched, placed, standing}
@@ -12,8 +12,8 @@ use Rattle.patterns_check.specs.Outcomes.{Outcome}
 use Rattle.patterns_book.specs.Planning.{known_at, old_place, places}
 use Rattle.patterns_book.specs.Shapes.{Shape}
 use Rattle.patterns_book.specs.declared.pattern.Piece.{Piece}
-use Rattle.ir_types.specs.WordNames.{word_bytes}
-use Rattle.ir_types.specs.declared.word.Word.{Word}
+use Rattle.ir_event.specs.types.WordNames.{word_bytes}
+use Rattle.ir_event.specs.types.declared.word.Word.{Word}
 
 -- each operation counts as clean
 abbrev pub any : Header → Bool

@@ -1,13 +1,13 @@
 -- The types that stand for those of a pattern, in a context.
 use Rattle.std.specs.Prelude.{List, Bool, false, map, Option, Some, None, option_map, IfSome}
 use Rattle.std.specs.List.{All}
-use Rattle.ir_types.specs.declared.bits.BitsKind.{BitsKind}
-use Rattle.ir_types.specs.Bits.{type_of}
-use Rattle.ir_types.specs.Things.{Things, IsType}
-use Rattle.ir_types.specs.Terms.{TypeTerm, type_term}
+use Rattle.ir_event.specs.types.declared.bits.BitsKind.{BitsKind}
+use Rattle.ir_event.specs.types.Bits.{type_of}
+use Rattle.ir_event.specs.types.Things.{Things, IsType}
+use Rattle.ir_event.specs.types.Terms.{TypeTerm, type_term}
 use Rattle.dialects_int.specs.Folds.{same_kind}
-use Rattle.ir_tree.specs.declared.value.Value.{Value}
-use Rattle.ir_tree.specs.Meaning.{Operation}
+use Rattle.ir_event.specs.trees.declared.value.Value.{Value}
+use Rattle.ir_event.specs.trees.Meaning.{Operation}
 use Rattle.patterns_check.specs.Outcomes.{given}
 use Rattle.patterns_book.specs.Matching.{Header, Standing, types_at}
 use Rattle.patterns_book.specs.Planning.{old_place}

@@ -1,9 +1,9 @@
 //! From what a pattern matches to what it makes.
 ghost use Rattle.std.specs.Prelude.{◌≡◌, ◌+◌, ◌∷◌, ◌<◌, ◌^◌, ℕ, List, IfOk, IfSome, Option, map, option_map, true};
 ghost use Rattle.std.specs.List.{list_all};
-ghost use Rattle.ir_tree.specs.declared.value.Value.TheVariants.{Result as ResultOf};
-ghost use Rattle.ir_tree.specs.Uses.{same_value};
-ghost use Rattle.ir_types.specs.Things.{Things};
+ghost use Rattle.ir_event.specs.trees.declared.value.Value.TheVariants.{Result as ResultOf};
+ghost use Rattle.ir_event.specs.trees.Uses.{same_value};
+ghost use Rattle.ir_event.specs.types.Things.{Things};
 ghost use Rattle.dialects_int.specs.Folds.{known_of};
 ghost use Rattle.patterns_book.specs.Matching.{bound, standing};
 ghost use Rattle.patterns_book.specs.Names.{operands_of};
@@ -22,10 +22,10 @@ use crate::built::{Made, Operand, Property};
 use crate::constants::at;
 use crate::names::{predicate_number, word_of};
 use crate::types::BoundType;
-use ir_tree::value::Value;
-use ir_types::bits::Bits;
-use ir_types::context::Context;
-use ir_types::word::Word;
+use ir_event::trees::value::Value;
+use ir_event::types::bits::Bits;
+use ir_event::types::context::Context;
+use ir_event::types::word::Word;
 use patterns_book::pattern::{Form, New, Piece};
 use std::alloc::{AllocError, Global};
 

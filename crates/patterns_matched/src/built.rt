@@ -1,7 +1,7 @@
 //! What a pattern makes, before anything is interned for it.
 use crate::types::BoundType;
-use ir_tree::value::Value;
-use ir_types::word::Word;
+use ir_event::trees::value::Value;
+use ir_event::types::word::Word;
 
 /// A value that is there, or the result of the operation that is made as this number.
 #[derive(Clone, Copy)]

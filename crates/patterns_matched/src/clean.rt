@@ -7,8 +7,8 @@ ghost use Rattle.patterns_book.specs.Matching.{placed, standing};
 ghost use Rattle.patterns_matched.specs.Matched.{all_clean, is_clean_value, is_constant_value, is_first};
 
 use crate::places::standing;
+use ir_event::trees::value::Value;
 use ir_event::world::World;
-use ir_tree::value::Value;
 use patterns_book::pattern::Piece;
 use patterns_reads::known::clean_giver;
 use patterns_reads::look::is_constant;

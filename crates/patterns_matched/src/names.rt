@@ -1,17 +1,17 @@
 //! The names of the operations that patterns speak of.
 ghost use Rattle.std.specs.Prelude.{◌≡◌, []};
-ghost use Rattle.ir_types.specs.Things.{IsName};
-ghost use Rattle.ir_types.specs.Terms.{name_term};
-ghost use Rattle.ir_types.specs.WordNames.{word_bytes};
+ghost use Rattle.ir_event.specs.types.Things.{IsName};
+ghost use Rattle.ir_event.specs.types.Terms.{name_term};
+ghost use Rattle.ir_event.specs.types.WordNames.{word_bytes};
 ghost use Rattle.patterns_base.specs.Words.{named};
 ghost use Rattle.patterns_book.specs.Names.{cast_name, name_of, pair_name, predicate_number};
 ghost use Rattle.patterns_matched.specs.Matched.{name_by};
 
 use dialects_int::operations::{Arithmetic, Cast, Predicate};
-use ir_types::context::Context;
-use ir_types::ids::NameId;
-use ir_types::things;
-use ir_types::word::Word;
+use ir_event::types::context::Context;
+use ir_event::types::ids::NameId;
+use ir_event::types::things;
+use ir_event::types::word::Word;
 use patterns_book::pattern::Form;
 
 fn pair_word(operation: Arithmetic) -> Word

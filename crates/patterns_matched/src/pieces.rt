@@ -1,8 +1,8 @@
 //! The operations of a pattern, matched in a module.
 ghost use Rattle.std.specs.Prelude.{◌≡◌, ◌<◌, ◌^◌, IfOk, IfSome, Option, Some, codes, option_map};
-ghost use Rattle.ir_types.specs.Things.{IsAttr};
-ghost use Rattle.ir_types.specs.Terms.{attr_term};
-ghost use Rattle.ir_tree.specs.Uses.{same_value};
+ghost use Rattle.ir_event.specs.types.Things.{IsAttr};
+ghost use Rattle.ir_event.specs.types.Terms.{attr_term};
+ghost use Rattle.ir_event.specs.trees.Uses.{same_value};
 ghost use Rattle.ir_event.specs.Modules.{NodeIsOf, module_in};
 ghost use Rattle.op_registry.specs.Registry.{beside};
 ghost use Rattle.dialects_int.specs.Folds.{property_of};
@@ -17,14 +17,14 @@ ghost use Rattle.patterns_matched.specs.Stands.{Stands};
 
 use crate::names::{is_named, predicate_number};
 use crate::places::{bind, bind_all, nothing_at, standing};
+use ir_event::store::node::Node;
+use ir_event::trees::value::Value;
+use ir_event::types::context::Context;
+use ir_event::types::ids::{AttrId, OpId};
+use ir_event::types::node::AttrNode;
+use ir_event::types::things::attr_of;
+use ir_event::types::word::Word;
 use ir_event::world::World;
-use ir_store::node::Node;
-use ir_tree::value::Value;
-use ir_types::context::Context;
-use ir_types::ids::{AttrId, OpId};
-use ir_types::node::AttrNode;
-use ir_types::things::attr_of;
-use ir_types::word::Word;
 use ir_verify_base::node::property;
 use patterns_book::pattern::{Form, Pattern, Piece};
 use patterns_reads::look::shown;

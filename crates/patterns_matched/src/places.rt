@@ -1,13 +1,13 @@
 //! Values at places.
 ghost use Rattle.std.specs.Prelude.{◌≡◌, ◌++◌, IfOk, OnOk};
-ghost use Rattle.ir_tree.specs.Uses.{same_value};
+ghost use Rattle.ir_event.specs.trees.Uses.{same_value};
 ghost use Rattle.patterns_book.specs.Matching.{all_bound, bound, nothing, standing};
 ghost use Rattle.patterns_book.specs.Planning.{places};
 ghost use Rattle.patterns_book.specs.Shapes.{shape};
 ghost use Rattle.patterns_matched.specs.Stands.{Stands};
 
-use ir_tree::uses::is_same;
-use ir_tree::value::Value;
+use ir_event::trees::uses::is_same;
+use ir_event::trees::value::Value;
 use patterns_book::pattern::Pattern;
 use std::alloc::{AllocError, Global};
 

@@ -1,14 +1,14 @@
 //! The types that stand for those of a pattern.
 ghost use Rattle.std.specs.Prelude.{◌≡◌};
-ghost use Rattle.ir_types.specs.Things.{IsType};
-ghost use Rattle.ir_types.specs.Terms.{type_term};
-ghost use Rattle.ir_types.specs.SameTypes.{same_type};
+ghost use Rattle.ir_event.specs.types.Things.{IsType};
+ghost use Rattle.ir_event.specs.types.Terms.{type_term};
+ghost use Rattle.ir_event.specs.types.SameTypes.{same_type};
 ghost use Rattle.dialects_int.specs.Folds.{kind_of, same_kind};
 ghost use Rattle.patterns_matched.specs.Types.{TypeIsOf, is_kind, type_in};
 
-use ir_types::bits::BitsKind;
-use ir_types::context::Context;
-use ir_types::ids::TypeId;
+use ir_event::types::bits::BitsKind;
+use ir_event::types::context::Context;
+use ir_event::types::ids::TypeId;
 use ir_verify_base::types::{is_index, same, width_of};
 
 /// What stands for a type of a pattern: a type of the context, or a kind that is written.

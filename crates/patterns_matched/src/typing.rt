@@ -1,8 +1,8 @@
 //! The types of what is matched.
 ghost use Rattle.std.specs.Prelude.{◌≡◌, ◌≤◌, ◌<◌, ◌^◌, IfOk, IfSome, map, option_map};
-ghost use Rattle.ir_types.specs.Things.{IsType};
-ghost use Rattle.ir_types.specs.Terms.{type_term};
-ghost use Rattle.ir_types.specs.SameTypes.{same_type};
+ghost use Rattle.ir_event.specs.types.Things.{IsType};
+ghost use Rattle.ir_event.specs.types.Terms.{type_term};
+ghost use Rattle.ir_event.specs.types.SameTypes.{same_type};
 ghost use Rattle.ir_event.specs.Modules.{module_in};
 ghost use Rattle.patterns_base.specs.Looks.{is_clean};
 ghost use Rattle.patterns_book.specs.Matching.{bound, type_at, types_at};
@@ -15,11 +15,11 @@ ghost use Rattle.patterns_matched.specs.Types.{AreTypesOf, TypeIsOf, type_in, ty
 use crate::pieces::old_begins;
 use crate::places::standing;
 use crate::types::{BoundType, is_same, kind_of};
+use ir_event::trees::value::Value;
+use ir_event::types::bits::BitsKind;
+use ir_event::types::context::Context;
+use ir_event::types::ids::TypeId;
 use ir_event::world::World;
-use ir_tree::value::Value;
-use ir_types::bits::BitsKind;
-use ir_types::context::Context;
-use ir_types::ids::TypeId;
 use patterns_book::pattern::{Kind, Pattern, Piece};
 use std::alloc::{AllocError, Global};
 

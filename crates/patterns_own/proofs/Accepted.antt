@@ -3,24 +3,24 @@ use Rattle.std.proofs.Common.{◌≡◌, ℕ, zero, suc, ◌+◌, ◌-◌, ◌�
 use Rattle.std.specs.Prelude.{codes, eqb, nat_le, option_map, option_and_then}
 use Rattle.std.specs.List.{list_all, range_with_len}
 use Rattle.std.proofs.lemmas.Option.{slice_get-map, slice_get_within, same_Some}
-use Rattle.ir_types.specs.Words.{is_isolated}
-use Rattle.ir_types.specs.Terms.{TypeTerm, AttrTerm, Overflow}
-use Rattle.ir_types.specs.SameTypes.{same_type}
-use Rattle.ir_types.proofs.SameTerms.{type_is, type_refl}
-use Rattle.ir_types.specs.declared.refusal.Refusal.TheVariants.{Full, IdsExhausted}
-use Rattle.ir_tree.specs.declared.value.Value.{Value}
-use Rattle.ir_tree.specs.declared.value.Value.TheVariants.{Result}
-use Rattle.ir_tree.specs.declared.place.Place.{Place}
-use Rattle.ir_tree.specs.Tree.{head}
-use Rattle.ir_tree.specs.Ids.{find, op_count}
-use Rattle.ir_tree.specs.Limits.{items_fit, most_items, most_next, most_ops}
-use Rattle.ir_tree.specs.Sites.{visible}
-use Rattle.ir_tree.specs.Uses.{same_value}
-use Rattle.ir_tree.specs.Meaning.{Operation}
-use Rattle.ir_tree.specs.WellFormed.{IsWellFormed}
-use Rattle.ir_tree.proofs.Replaced.{same_value_true}
-use Rattle.ir_tree_laws.specs.Values.{type_of_value}
-use Rattle.ir_tree_laws.proofs.Listed.{both}
+use Rattle.ir_event.specs.types.Words.{is_isolated}
+use Rattle.ir_event.specs.types.Terms.{TypeTerm, AttrTerm, Overflow}
+use Rattle.ir_event.specs.types.SameTypes.{same_type}
+use Rattle.ir_event.proofs.of_types.SameTerms.{type_is, type_refl}
+use Rattle.ir_event.specs.types.declared.refusal.Refusal.TheVariants.{Full, IdsExhausted}
+use Rattle.ir_event.specs.trees.declared.value.Value.{Value}
+use Rattle.ir_event.specs.trees.declared.value.Value.TheVariants.{Result}
+use Rattle.ir_event.specs.trees.declared.place.Place.{Place}
+use Rattle.ir_event.specs.trees.Tree.{head}
+use Rattle.ir_event.specs.trees.Ids.{find, op_count}
+use Rattle.ir_event.specs.trees.Limits.{items_fit, most_items, most_next, most_ops}
+use Rattle.ir_event.specs.trees.Sites.{visible}
+use Rattle.ir_event.specs.trees.Uses.{same_value}
+use Rattle.ir_event.specs.trees.Meaning.{Operation}
+use Rattle.ir_event.specs.trees.WellFormed.{IsWellFormed}
+use Rattle.ir_event.proofs.of_trees.Replaced.{same_value_true}
+use Rattle.ir_event.specs.tree_laws.Values.{type_of_value}
+use Rattle.ir_event.proofs.of_tree_laws.Listed.{both}
 use Rattle.ir_event.specs.Modules.{Module}
 use Rattle.rewriter_machine.specs.Contents.{Edit, all_edited, edited}
 use Rattle.rewriter_machine.specs.Edits.{Make}
@@ -57,7 +57,7 @@ use Rattle.patterns_matched.proofs.Ordered.{planned_is}
 use Rattle.patterns_own.specs.Own.{OwnAreAccepted, edits_for, is_one, own_edits}
 use Rattle.patterns_own.proofs.Seen.{Sees, begins, pieces_see, stands}
 use Rattle.patterns_facts.proofs.New.{few_flags}
-use Rattle.ir_types.proofs.Truths.{if_is}
+use Rattle.ir_event.proofs.of_types.Truths.{if_is}
 use Rattle.patterns_base.proofs.Facts.{when_some}
 use Rattle.patterns_laws.proofs.KnownFolds.{given_some}
 

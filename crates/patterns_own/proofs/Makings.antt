@@ -1,17 +1,17 @@
 -- Edits by which operations are made, while a context grows.
 use Rattle.std.proofs.Common.{append_assoc, append-nil, ◌≡◌, ℕ, suc, ◌<◌, refl, ap, sym, ◌∙◌, subst, List, [], ◌∷◌, ◌++◌, length, slice_index_or, map, ◌&&◌, true, false, Option, Some, None, lt-ltb, arith}
-use Rattle.ir_types.specs.Things.{Things, Grows}
+use Rattle.ir_event.specs.types.Things.{Things, Grows}
 use Rattle.std.specs.Prelude.{codes, if◌then◌else◌}
-use Rattle.ir_types.specs.Terms.{TypeTerm, AttrTerm, Overflow, type_term, name_term, attr_term}
-use Rattle.ir_types.specs.Sound.{Holds}
-use Rattle.ir_types.specs.WordNames.{word_bytes}
-use Rattle.ir_tree.specs.declared.place.Place.{Place}
-use Rattle.ir_tree.specs.declared.value.Value.{Value}
-use Rattle.ir_tree.specs.declared.value.Value.TheVariants.{Result}
-use Rattle.ir_tree.specs.Tree.{Op, op, no_regions, regions}
-use Rattle.ir_tree.specs.Meaning.{Operation, IsSoundIn, meaning}
-use Rattle.ir_tree.proofs.Meanings.{stable, stays_sound}
-use Rattle.ir_tree_laws.specs.Reasons.{hold_none}
+use Rattle.ir_event.specs.types.Terms.{TypeTerm, AttrTerm, Overflow, type_term, name_term, attr_term}
+use Rattle.ir_event.specs.types.Sound.{Holds}
+use Rattle.ir_event.specs.types.WordNames.{word_bytes}
+use Rattle.ir_event.specs.trees.declared.place.Place.{Place}
+use Rattle.ir_event.specs.trees.declared.value.Value.{Value}
+use Rattle.ir_event.specs.trees.declared.value.Value.TheVariants.{Result}
+use Rattle.ir_event.specs.trees.Tree.{Op, op, no_regions, regions}
+use Rattle.ir_event.specs.trees.Meaning.{Operation, IsSoundIn, meaning}
+use Rattle.ir_event.proofs.of_trees.Meanings.{stable, stays_sound}
+use Rattle.ir_event.specs.tree_laws.Reasons.{hold_none}
 use Rattle.ir_event.specs.Listener.{Listener}
 use Rattle.patterns_runs.specs.Benched.{Benched}
 use Rattle.patterns_runs.specs.Contents.{Edit, edit_meaning}

@@ -1,21 +1,21 @@
 -- An operation sees what a pattern matches from it.
 use Rattle.std.proofs.Common.{◌≡◌, ℕ, refl, ap, sym, ◌∙◌, subst, List, [], ◌∷◌, Bool, true, ◌&&◌, Option, Some, None, slice_get, inl, inr}
 use Rattle.std.specs.Prelude.{eqb, option_map}
-use Rattle.ir_types.specs.Words.{is_isolated}
-use Rattle.ir_tree.specs.declared.value.Value.{Value}
-use Rattle.ir_tree.specs.declared.value.Value.TheVariants.{Result, Arg}
-use Rattle.ir_tree.specs.declared.place.Place.{Place}
-use Rattle.ir_tree.specs.Tree.{head}
-use Rattle.ir_tree.specs.Ids.{find}
-use Rattle.ir_tree.specs.Places.{place_of}
-use Rattle.ir_tree.specs.Uses.{same_value}
-use Rattle.ir_tree.specs.Meaning.{Operation}
-use Rattle.ir_tree.specs.WellFormed.{IsWellFormed}
-use Rattle.ir_tree.proofs.Replaced.{same_value_true}
-use Rattle.ir_tree_laws.specs.Members.{In}
-use Rattle.ir_tree_laws.specs.Stands.{sees as sees_from}
-use Rattle.ir_tree_laws.proofs.Members.{found_stands}
-use Rattle.ir_tree_laws.proofs.Sees.{visible_there}
+use Rattle.ir_event.specs.types.Words.{is_isolated}
+use Rattle.ir_event.specs.trees.declared.value.Value.{Value}
+use Rattle.ir_event.specs.trees.declared.value.Value.TheVariants.{Result, Arg}
+use Rattle.ir_event.specs.trees.declared.place.Place.{Place}
+use Rattle.ir_event.specs.trees.Tree.{head}
+use Rattle.ir_event.specs.trees.Ids.{find}
+use Rattle.ir_event.specs.trees.Places.{place_of}
+use Rattle.ir_event.specs.trees.Uses.{same_value}
+use Rattle.ir_event.specs.trees.Meaning.{Operation}
+use Rattle.ir_event.specs.trees.WellFormed.{IsWellFormed}
+use Rattle.ir_event.proofs.of_trees.Replaced.{same_value_true}
+use Rattle.ir_event.specs.tree_laws.Members.{In}
+use Rattle.ir_event.specs.tree_laws.Stands.{sees as sees_from}
+use Rattle.ir_event.proofs.of_tree_laws.Members.{found_stands}
+use Rattle.ir_event.proofs.of_tree_laws.Sees.{visible_there}
 use Rattle.ir_event.specs.Modules.{Module}
 use Rattle.patterns_edits.proofs.Front.{behind_sees}
 use Rattle.patterns_edits.proofs.Given.{seer}

@@ -1,10 +1,10 @@
 -- What a pattern of one's own makes of a module at an operation.
 use Rattle.std.specs.Prelude.{◌≡◌, ℕ, List, [], ◌∷◌, ◌++◌, map, Bool, true, false, Option, Some, None}
-use Rattle.ir_types.specs.Words.{is_isolated}
-use Rattle.ir_tree.specs.declared.place.Place.{Place}
-use Rattle.ir_tree.specs.Tree.{head}
-use Rattle.ir_tree.specs.Ids.{find}
-use Rattle.ir_tree.specs.WellFormed.{IsWellFormed}
+use Rattle.ir_event.specs.types.Words.{is_isolated}
+use Rattle.ir_event.specs.trees.declared.place.Place.{Place}
+use Rattle.ir_event.specs.trees.Tree.{head}
+use Rattle.ir_event.specs.trees.Ids.{find}
+use Rattle.ir_event.specs.trees.WellFormed.{IsWellFormed}
 use Rattle.ir_event.specs.Modules.{Module}
 use Rattle.patterns_runs.specs.Contents.{Edit}
 use Rattle.patterns_runs.specs.Lists.{Free}

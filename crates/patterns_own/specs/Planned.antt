@@ -1,9 +1,9 @@
 -- A plan with the place in front of its operation, and the numbers that stand for what it makes.
 use Rattle.std.specs.Prelude.{◌≡◌, ℕ, List, [], ◌∷◌, ◌++◌, map, Option, Some, None}
-use Rattle.ir_types.specs.Things.{Things}
-use Rattle.ir_types.specs.Terms.{AttrTerm, type_term}
-use Rattle.ir_types.specs.WordNames.{word_bytes}
-use Rattle.ir_tree.specs.declared.place.Place.{Place}
+use Rattle.ir_event.specs.types.Things.{Things}
+use Rattle.ir_event.specs.types.Terms.{AttrTerm, type_term}
+use Rattle.ir_event.specs.types.WordNames.{word_bytes}
+use Rattle.ir_event.specs.trees.declared.place.Place.{Place}
 use Rattle.patterns_runs.specs.Contents.{Edit, edit_meaning}
 use Rattle.patterns_runs.specs.Lists.{Fits, numbered}
 use Rattle.patterns_runs.specs.declared.edit.Edit.{Edit as Coded}
@@ -15,7 +15,7 @@ use Rattle.patterns_matched.specs.Built.{made_in, plan_in}
 use Rattle.patterns_matched.specs.declared.built.Made.{Made}
 use Rattle.patterns_matched.specs.declared.built.Property.{Property}
 use Rattle.patterns_matched.specs.declared.built.Property.TheVariants as property
-use Rattle.ir_types.specs.declared.word.Word.{Word}
+use Rattle.ir_event.specs.types.declared.word.Word.{Word}
 use Rattle.patterns_own.specs.declared.find.Planned.{Planned}
 
 -- the edits of a plan at operation x, where n is the next free id

@@ -1,7 +1,7 @@
 //! Applying a pattern of one's own.
 ghost use Rattle.std.specs.Prelude.{◌≡◌, false, IfOk, IfErr, OnErr, Err};
-ghost use Rattle.ir_types.specs.declared.refusal.Refusal.TheVariants.{NoSuchOp};
-ghost use Rattle.ir_tree.specs.Ids.{has_id};
+ghost use Rattle.ir_event.specs.types.declared.refusal.Refusal.TheVariants.{NoSuchOp};
+ghost use Rattle.ir_event.specs.trees.Ids.{has_id};
 ghost use Rattle.patterns_runs.specs.Benched.{Keeps};
 ghost use Rattle.patterns_runs.specs.Held.{module_held};
 ghost use Rattle.patterns.specs.Applied.{Applied, Gave, IsReason};
@@ -12,8 +12,8 @@ use crate::carry::carry_plan;
 use crate::find::find_plan;
 use crate::laws::no_edit_of_a_pattern_is_refused;
 use ir_event::analysis::Analysis;
-use ir_types::ids::OpId;
-use ir_types::refusal::Refusal;
+use ir_event::types::ids::OpId;
+use ir_event::types::refusal::Refusal;
 use patterns_book::pattern::Pattern;
 use patterns_runs::Bench;
 use std::alloc::Global;

@@ -1,6 +1,6 @@
 //! What a pattern makes of an operation, with the place in front of that.
 ghost use Rattle.std.specs.Prelude.{◌≡◌, IfOk, IfSome, option_map};
-ghost use Rattle.ir_types.specs.Things.{Things};
+ghost use Rattle.ir_event.specs.types.Things.{Things};
 ghost use Rattle.ir_event.specs.Modules.{module_in};
 ghost use Rattle.patterns_reads.specs.Reads.{head_in};
 ghost use Rattle.patterns_book.specs.Shapes.{shape};
@@ -8,10 +8,10 @@ ghost use Rattle.patterns_matched.specs.Built.{BuiltIsOf};
 ghost use Rattle.patterns_own.specs.Own.{is_one, own_edits};
 ghost use Rattle.patterns_own.specs.Planned.{planned_edits};
 
+use ir_event::store::node::Node;
+use ir_event::trees::place::Place;
+use ir_event::types::ids::OpId;
 use ir_event::world::World;
-use ir_store::node::Node;
-use ir_tree::place::Place;
-use ir_types::ids::OpId;
 use patterns_book::pattern::Pattern;
 use patterns_matched::built::Built;
 use patterns_matched::plan::plan;

@@ -1,9 +1,9 @@
 //! What is interned for the operations of a pattern.
 ghost use Rattle.std.specs.Prelude.{◌∷◌, IfErr, IfOk, []};
-ghost use Rattle.ir_types.specs.Things.{AttrIsOf, IsType, TypeIsOf};
-ghost use Rattle.ir_types.specs.Bits.{type_of};
-ghost use Rattle.ir_types.specs.Terms.{IntegerOf, attr_node_term, type_node_term, type_term};
-ghost use Rattle.ir_types.specs.WordNames.{word_bytes};
+ghost use Rattle.ir_event.specs.types.Things.{AttrIsOf, IsType, TypeIsOf};
+ghost use Rattle.ir_event.specs.types.Bits.{type_of};
+ghost use Rattle.ir_event.specs.types.Terms.{IntegerOf, attr_node_term, type_node_term, type_term};
+ghost use Rattle.ir_event.specs.types.WordNames.{word_bytes};
 ghost use Rattle.patterns_base.specs.Made.{flags, predicate_entry};
 ghost use Rattle.patterns_runs.specs.Interning.{Added, IsNoRoom};
 ghost use Rattle.patterns.specs.Interned.{IsAttrOf, IsPlain, IsTypeOf};
@@ -12,11 +12,11 @@ ghost use Rattle.patterns_own.specs.Planned.{EntryStands, entries_of};
 
 use crate::operations::is_flagged;
 use ir_event::analysis::Analysis;
-use ir_types::bits::BitsKind;
-use ir_types::ids::{AttrId, NameId, TypeId};
-use ir_types::node::{AttrNode, Sign, TypeNode};
-use ir_types::refusal::Refusal;
-use ir_types::word::Word;
+use ir_event::types::bits::BitsKind;
+use ir_event::types::ids::{AttrId, NameId, TypeId};
+use ir_event::types::node::{AttrNode, Sign, TypeNode};
+use ir_event::types::refusal::Refusal;
+use ir_event::types::word::Word;
 use patterns_matched::built::Property;
 use patterns_matched::types::BoundType;
 use patterns_runs::Bench;

@@ -1,14 +1,14 @@
 //! New operations.
 ghost use Rattle.std.specs.Prelude.{◌≡◌, ◌+◌, IfOk, IfSome, map};
-ghost use Rattle.ir_types.specs.WordNames.{word_bytes};
+ghost use Rattle.ir_event.specs.types.WordNames.{word_bytes};
 ghost use Rattle.patterns_base.specs.Words.{among, flagged};
 ghost use Rattle.patterns.specs.New.{entries, new_op};
 ghost use Rattle.patterns_matched.specs.Built.{operand_in};
 
-use ir_tree::tree::TreeOp;
-use ir_tree::value::Value;
-use ir_types::ids::{AttrId, NameId, OpId, TypeId};
-use ir_types::word::Word;
+use ir_event::trees::tree::TreeOp;
+use ir_event::trees::value::Value;
+use ir_event::types::ids::{AttrId, NameId, OpId, TypeId};
+use ir_event::types::word::Word;
 use patterns_matched::built::Operand;
 use std::alloc::{AllocError, Global};
 

@@ -1,11 +1,11 @@
 -- The rules that are planned by what is shown of an operation look at its head alone.
 use Rattle.std.proofs.Common.{◌≡◌, ap, sym, ◌∙◌, ℕ, Bool, true, false, [], ◌∷◌, Option, Some, None, option_map}
-use Rattle.ir_tree.specs.declared.place.Place.{Place}
-use Rattle.ir_tree.specs.Tree.{op, no_regions, head}
-use Rattle.ir_tree.specs.Ids.{find}
-use Rattle.ir_tree.specs.Meaning.{Operation}
-use Rattle.ir_tree_laws.proofs.Members.{found_stands}
-use Rattle.ir_store.specs.Nodes.{Node}
+use Rattle.ir_event.specs.trees.declared.place.Place.{Place}
+use Rattle.ir_event.specs.trees.Tree.{op, no_regions, head}
+use Rattle.ir_event.specs.trees.Ids.{find}
+use Rattle.ir_event.specs.trees.Meaning.{Operation}
+use Rattle.ir_event.proofs.of_tree_laws.Members.{found_stands}
+use Rattle.ir_event.specs.store.Nodes.{Node}
 use Rattle.ir_event.specs.declared.world.World.{World}
 use Rattle.ir_event.specs.Modules.{module_in}
 use Rattle.effects.specs.Dead.{dead_at, dead_in, is_dead}

@@ -1,12 +1,12 @@
 -- Rules that don't apply where a cheap test fails.
 use Rattle.std.proofs.Common.{◌≡◌, refl, ap, sym, ◌∙◌, ℕ, Bool, true, false, ◌&&◌, List, [], ◌∷◌, Option, Some, None}
-use Rattle.ir_types.specs.Terms.{TypeTerm}
+use Rattle.ir_event.specs.types.Terms.{TypeTerm}
 use Rattle.std.specs.Prelude.{codes, is_some}
-use Rattle.ir_tree.specs.declared.place.Place.{Place}
-use Rattle.ir_tree.specs.declared.value.Value.{Value}
-use Rattle.ir_tree.specs.Tree.{head}
-use Rattle.ir_tree.specs.Uses.{same_value}
-use Rattle.ir_tree.specs.Meaning.{Operation}
+use Rattle.ir_event.specs.trees.declared.place.Place.{Place}
+use Rattle.ir_event.specs.trees.declared.value.Value.{Value}
+use Rattle.ir_event.specs.trees.Tree.{head}
+use Rattle.ir_event.specs.trees.Uses.{same_value}
+use Rattle.ir_event.specs.trees.Meaning.{Operation}
 use Rattle.dialects_int.specs.Folds.{Known}
 use Rattle.patterns_reads.proofs.Cleaned.{known_not}
 use Rattle.patterns_reads.specs.Casting.{resizing, extend_extension, cut_cast}

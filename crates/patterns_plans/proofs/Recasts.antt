@@ -1,9 +1,9 @@
 -- Casts of casts.
 use Rattle.std.proofs.Common.{◌≡◌, refl, ap, sym, ◌∙◌, ℕ, List, Bool, true, false, Option, Some, None, if◌then◌else◌}
 use Rattle.std.specs.Prelude.{codes}
-use Rattle.ir_tree.specs.declared.place.Place.{Place}
-use Rattle.ir_tree.specs.Tree.{head}
-use Rattle.ir_tree.specs.Meaning.{Operation}
+use Rattle.ir_event.specs.trees.declared.place.Place.{Place}
+use Rattle.ir_event.specs.trees.Tree.{head}
+use Rattle.ir_event.specs.trees.Meaning.{Operation}
 use Rattle.patterns_reads.specs.Casting.{cast_back, unrealized, through_index, back_from}
 use Rattle.patterns_reads.specs.Contents.{Edit}
 use Rattle.patterns_reads.specs.Keeps.{given}

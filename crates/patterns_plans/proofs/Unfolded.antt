@@ -6,14 +6,14 @@ use Rattle.std.specs.Option.{option_map}
 use Rattle.std.specs.Str.{bytes_eq}
 use Rattle.std.proofs.lemmas.Bool.{not-true}
 use Rattle.std.proofs.lemmas.Slice.Eq.{bytes_eq-Decides}
-use Rattle.ir_types.specs.Terms.{TypeTerm, AttrTerm}
-use Rattle.ir_types.specs.declared.bits.BitsKind.{BitsKind}
-use Rattle.ir_types.specs.declared.bits.BitsKind.TheVariants as kind
-use Rattle.ir_tree.specs.declared.place.Place.{Place}
-use Rattle.ir_tree.specs.declared.value.Value.{Value}
-use Rattle.ir_tree.specs.Tree.{head}
-use Rattle.ir_tree.specs.Meaning.{Operation}
-use Rattle.ir_types.specs.Bits.{width_of}
+use Rattle.ir_event.specs.types.Terms.{TypeTerm, AttrTerm}
+use Rattle.ir_event.specs.types.declared.bits.BitsKind.{BitsKind}
+use Rattle.ir_event.specs.types.declared.bits.BitsKind.TheVariants as kind
+use Rattle.ir_event.specs.trees.declared.place.Place.{Place}
+use Rattle.ir_event.specs.trees.declared.value.Value.{Value}
+use Rattle.ir_event.specs.trees.Tree.{head}
+use Rattle.ir_event.specs.trees.Meaning.{Operation}
+use Rattle.ir_event.specs.types.Bits.{width_of}
 use Rattle.op_registry.specs.Registry.{beside}
 use Rattle.dialects_int.specs.Arithmetic.{absorbs}
 use Rattle.dialects_int.specs.declared.operations.Arithmetic.{Arithmetic}

@@ -10,3 +10,4 @@ pub use Rattle.patterns_reads.specs.Reads
 pub use Rattle.patterns_reads.specs.Rewrites
 pub use Rattle.patterns_reads.specs.Rules
 pub use Rattle.patterns_reads.specs.declared.plan.Plan
+pub use Rattle.patterns_reads.specs as reads

@@ -1,9 +1,9 @@
 -- Tests that an operation passes where rules may apply at it.
 use Rattle.std.specs.Prelude.{ℕ, List, [], ◌∷◌, codes, Bool, false, if◌then◌else◌, Option, Some, None}
 use Rattle.std.specs.List.{list_all, list_any}
-use Rattle.ir_tree.specs.declared.value.Value.{Value}
-use Rattle.ir_tree.specs.Uses.{same_value}
-use Rattle.ir_tree.specs.Meaning.{Operation}
+use Rattle.ir_event.specs.trees.declared.value.Value.{Value}
+use Rattle.ir_event.specs.trees.Uses.{same_value}
+use Rattle.ir_event.specs.trees.Meaning.{Operation}
 use Rattle.patterns_reads.specs.Casting.{resizing}
 use Rattle.patterns_reads.specs.Looks.{Header, One, Three, giver, is_constant, one, three}
 use Rattle.patterns_reads.specs.Words.{among, extensions, named}

@@ -1,8 +1,8 @@
 -- What plans read of several values.
 use Rattle.std.specs.Prelude.{List, map, Bool, not, ◌||◌, Option, Some}
 use Rattle.std.specs.List.{list_all}
-use Rattle.ir_tree.specs.declared.value.Value.{Value}
-use Rattle.ir_tree.specs.Meaning.{Operation}
+use Rattle.ir_event.specs.trees.declared.value.Value.{Value}
+use Rattle.ir_event.specs.trees.Meaning.{Operation}
 use Rattle.dialects_int.specs.Folds.{Known}
 use Rattle.patterns_reads.specs.Looks.{is_constant, is_known, known, when}
 

@@ -1,10 +1,10 @@
 -- What it is to plan a rule at an operation of which something is shown.
 use Rattle.std.specs.Prelude.{◌≡◌, ℕ, List, Bool, true, false, ◌||◌, Option, Some, option_map, IfSome}
-use Rattle.ir_types.specs.Things.{Things}
-use Rattle.ir_tree.specs.declared.place.Place.{Place}
-use Rattle.ir_tree.specs.Ids.{find}
-use Rattle.ir_tree.specs.Meaning.{Operation}
-use Rattle.ir_store.specs.Nodes.{Node}
+use Rattle.ir_event.specs.types.Things.{Things}
+use Rattle.ir_event.specs.trees.declared.place.Place.{Place}
+use Rattle.ir_event.specs.trees.Ids.{find}
+use Rattle.ir_event.specs.trees.Meaning.{Operation}
+use Rattle.ir_event.specs.store.Nodes.{Node}
 use Rattle.ir_event.specs.declared.world.World.{World}
 use Rattle.ir_event.specs.Modules.{module_in}
 use Rattle.effects.specs.Dead.{dead_at}

@@ -1,16 +1,16 @@
 //! Rules on casts of casts.
 ghost use Rattle.std.specs.Prelude.{◌≡◌, IfOk, ℕ};
-ghost use Rattle.ir_types.specs.Things.{IsName, IsType};
+ghost use Rattle.ir_event.specs.types.Things.{IsName, IsType};
 ghost use Rattle.ir_event.specs.Modules.{NodeIsOf};
 ghost use Rattle.patterns_reads.specs.Casting.{extend_extension, cut_cast, cast_back, through_index, unrealized};
 ghost use Rattle.patterns_plans.specs.Planned.{FitsIn, IsPlanned};
 ghost use Rattle.patterns_plans.specs.Casts.{IsPlannedOne};
 
 use crate::given::give;
+use ir_event::store::node::Node;
+use ir_event::types::ids::OpId;
+use ir_event::types::word::Word;
 use ir_event::world::World;
-use ir_store::node::Node;
-use ir_types::ids::OpId;
-use ir_types::word::Word;
 use patterns_reads::plan::Plan;
 use patterns_reads::shapes::{Single, one_of};
 use patterns_reads::sources::{source_like, source_of_extension, source_of_resizing};

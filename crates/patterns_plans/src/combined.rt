@@ -5,9 +5,9 @@ ghost use Rattle.patterns_reads.specs.Folding.{regroup_constants, add_negative};
 ghost use Rattle.patterns_plans.specs.Planned.{FitsIn, IsPlanned};
 
 use dialects_int::fold::fold;
+use ir_event::store::node::Node;
+use ir_event::types::word::Word;
 use ir_event::world::World;
-use ir_store::node::Node;
-use ir_types::word::Word;
 use patterns_reads::known::known;
 use patterns_reads::plan::Plan;
 use patterns_reads::shapes::two_of;

@@ -1,6 +1,6 @@
 //! Rules that give a constant for an operation's result.
 ghost use Rattle.std.specs.Prelude.{◌≡◌, IfOk, Some, ℕ, [], ◌∷◌, codes, false, map, option_map};
-ghost use Rattle.ir_types.specs.Terms.{name_term};
+ghost use Rattle.ir_event.specs.types.Terms.{name_term};
 ghost use Rattle.ir_event.specs.Modules.{NodeIsOf, module_in};
 ghost use Rattle.dialects_int.specs.Folds.{known_of};
 ghost use Rattle.patterns_reads.specs.Folding.{fold_to_constant, cancel_itself, zero_remainder, compare_itself};
@@ -10,12 +10,12 @@ ghost use Rattle.patterns_plans.specs.Numbers.{known_each, readable};
 ghost use Rattle.patterns_plans.specs.Planned.{FitsIn, IsPlanned};
 
 use dialects_int::fold::fold;
+use ir_event::store::node::Node;
+use ir_event::trees::uses::is_same;
+use ir_event::trees::value::Value;
+use ir_event::types::bits::Bits;
+use ir_event::types::word::Word;
 use ir_event::world::World;
-use ir_store::node::Node;
-use ir_tree::uses::is_same;
-use ir_tree::value::Value;
-use ir_types::bits::Bits;
-use ir_types::word::Word;
 use patterns_reads::known::{is_number, known};
 use patterns_reads::look::is_constant;
 use patterns_reads::plan::Plan;

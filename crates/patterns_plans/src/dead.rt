@@ -1,15 +1,15 @@
 //! The rule on dead operations.
 ghost use Rattle.std.specs.Prelude.{◌≡◌, IfOk, None, ℕ, [], ◌∷◌, false, true};
-ghost use Rattle.ir_types.specs.Things.{Things};
-ghost use Rattle.ir_tree.specs.declared.place.Place.{Place as At};
+ghost use Rattle.ir_event.specs.types.Things.{Things};
+ghost use Rattle.ir_event.specs.trees.declared.place.Place.{Place as At};
 ghost use Rattle.patterns_edits.specs.Edits.{Erase};
 ghost use Rattle.patterns_reads.specs.Plans.{PlanIsOf, plan_meaning};
 ghost use Rattle.patterns_reads.specs.Rule.TheVariants.{EraseDead};
 ghost use Rattle.patterns_plans.specs.Planned.{FitsIn, IsDead, IsPlanAt};
 
 use effects::dead_op::dead_op;
+use ir_event::types::ids::OpId;
 use ir_event::world::World;
-use ir_types::ids::OpId;
 use patterns_edits::edit::Edit;
 use patterns_reads::plan::Plan;
 use std::alloc::{AllocError, Global};

@@ -4,9 +4,9 @@ ghost use Rattle.ir_event.specs.Modules.{NodeIsOf};
 ghost use Rattle.patterns_reads.specs.Folding.{expand_min_max, expand_difference, expand_remainder};
 ghost use Rattle.patterns_plans.specs.Planned.{FitsIn, IsPlanned};
 
+use ir_event::store::node::Node;
+use ir_event::types::word::Word;
 use ir_event::world::World;
-use ir_store::node::Node;
-use ir_types::word::Word;
 use patterns_reads::plan::Plan;
 use patterns_reads::shapes::two_of;
 use patterns_reads::types::all_ones;

@@ -1,7 +1,7 @@
 //! Rules that give a value for an operation's result.
 ghost use Rattle.std.specs.Prelude.{◌≡◌, IfOk, ℕ};
-ghost use Rattle.ir_types.specs.Things.{Things};
-ghost use Rattle.ir_tree.specs.declared.place.Place.{Place as At};
+ghost use Rattle.ir_event.specs.types.Things.{Things};
+ghost use Rattle.ir_event.specs.trees.declared.place.Place.{Place as At};
 ghost use Rattle.ir_event.specs.Modules.{NodeIsOf};
 ghost use Rattle.patterns_reads.specs.Makes.{give};
 ghost use Rattle.patterns_reads.specs.Folding.{drop_zero, drop_one, drop_all_ones, keep_itself, choose_same};
@@ -9,12 +9,12 @@ ghost use Rattle.patterns_reads.specs.Folding.{choose_known, choose_truth};
 ghost use Rattle.patterns_reads.specs.Plans.{PlanIsOf, plan_meaning};
 ghost use Rattle.patterns_plans.specs.Planned.{FitsIn, IsPlanned};
 
+use ir_event::store::node::Node;
+use ir_event::trees::uses::is_same;
+use ir_event::trees::value::Value;
+use ir_event::types::ids::OpId;
+use ir_event::types::word::Word;
 use ir_event::world::World;
-use ir_store::node::Node;
-use ir_tree::uses::is_same;
-use ir_tree::value::Value;
-use ir_types::ids::OpId;
-use ir_types::word::Word;
 use patterns_edits::edit::Edit;
 use patterns_reads::known::{is_number, known};
 use patterns_reads::plan::Plan;

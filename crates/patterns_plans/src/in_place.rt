@@ -4,10 +4,10 @@ ghost use Rattle.ir_event.specs.Modules.{NodeIsOf};
 ghost use Rattle.patterns_reads.specs.Folding.{swap_constant, mirror_comparison, choose_opposite};
 ghost use Rattle.patterns_plans.specs.Planned.{FitsIn, IsPlanned};
 
+use ir_event::store::node::Node;
+use ir_event::types::ids::OpId;
+use ir_event::types::word::Word;
 use ir_event::world::World;
-use ir_store::node::Node;
-use ir_types::ids::OpId;
-use ir_types::word::Word;
 use patterns_edits::edit::Edit;
 use patterns_reads::known::{is_known, is_number, source};
 use patterns_reads::look::is_constant;

@@ -11,4 +11,5 @@ mod in_place;
 pub mod may;
 pub mod planned;
 
+pub use patterns_reads as reads;
 pub use patterns_reads::{clean, look, plan, rule};

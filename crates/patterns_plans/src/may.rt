@@ -1,6 +1,6 @@
 //! Whether rules may apply, by tests that ask for no diagnostics and take no memory.
 ghost use Rattle.std.specs.Prelude.{◌≡◌, ◌≤◌, None, Some, codes, false};
-ghost use Rattle.ir_types.specs.Terms.{name_term};
+ghost use Rattle.ir_event.specs.types.Terms.{name_term};
 ghost use Rattle.ir_event.specs.Modules.{module_in};
 ghost use Rattle.patterns_reads.specs.Casting.{resizing};
 ghost use Rattle.patterns_reads.specs.Looks.{giver};
@@ -12,13 +12,13 @@ ghost use Rattle.patterns_plans.specs.May.{may_fold, partial, reads_constant, re
 ghost use Rattle.patterns_plans.specs.Planned.{IsPlanAt};
 
 use effects::dead_op::dead_op;
+use ir_event::store::node::Node;
+use ir_event::trees::uses::is_same;
+use ir_event::trees::value::Value;
+use ir_event::types::context::Context;
+use ir_event::types::ids::{NameId, OpId};
+use ir_event::types::word::Word;
 use ir_event::world::World;
-use ir_store::node::Node;
-use ir_tree::uses::is_same;
-use ir_tree::value::Value;
-use ir_types::context::Context;
-use ir_types::ids::{NameId, OpId};
-use ir_types::word::Word;
 use patterns_reads::look::{giver_node, is_constant};
 use patterns_reads::rule::Rule;
 use patterns_reads::shapes::{one_of, three_of};

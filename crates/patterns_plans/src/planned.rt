@@ -17,9 +17,9 @@ use crate::given::{
     plan_drop_zero, plan_keep_itself,
 };
 use crate::in_place::{plan_choose_opposite, plan_mirror_comparison, plan_swap_constant};
+use ir_event::store::node::Node;
+use ir_event::types::ids::OpId;
 use ir_event::world::World;
-use ir_store::node::Node;
-use ir_types::ids::OpId;
 use patterns_reads::plan::Plan;
 use patterns_reads::rule::Rule;
 use std::alloc::{AllocError, Global};

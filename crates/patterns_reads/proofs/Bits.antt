@@ -3,7 +3,7 @@ use Rattle.std.proofs.Common.{◌≡◌, ℕ, ◌+◌, ◌-◌, ◌*◌, ◌%◌
 use Rattle.std.specs.Prelude.{unsigned_abs}
 use Rattle.std.proofs.lemmas.Nat.{pow_pos, pow-add, mod_below}
 use Rattle.std.proofs.lemmas.Int.{ints, int_rem_euclid_is}
-use Rattle.ir_types.specs.Readings.{wrapped}
+use Rattle.ir_event.specs.types.Readings.{wrapped}
 use Rattle.dialects_int.specs.Arithmetic.{difference_of}
 
 -- a number taken off 0, in a width of at most 128 bits

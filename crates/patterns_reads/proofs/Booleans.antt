@@ -1,8 +1,8 @@
 -- The type of true and false.
 use Rattle.std.proofs.Common.{◌≡◌, refl}
-use Rattle.ir_types.specs.Terms.{TypeTerm, Integer, Index, Function, Memref}
-use Rattle.ir_types.specs.declared.node.Sign.TheVariants.{Signless, Signed, Unsigned}
-use Rattle.ir_types.specs.SameTypes.{same_type}
+use Rattle.ir_event.specs.types.Terms.{TypeTerm, Integer, Index, Function, Memref}
+use Rattle.ir_event.specs.types.declared.node.Sign.TheVariants.{Signless, Signed, Unsigned}
+use Rattle.ir_event.specs.types.SameTypes.{same_type}
 use Rattle.ir_verify_base.specs.Types.{is_boolean}
 use Rattle.patterns_base.specs.Made.{i1}
 

@@ -2,21 +2,21 @@
 use Rattle.std.proofs.Common.{◌≡◌, refl, ap, sym, ◌∙◌, ℕ, List, Bool, true, false, ◌&&◌, Option, Some, None, option_map}
 use Rattle.std.specs.Prelude.{codes}
 use Rattle.std.specs.List.{list_all}
-use Rattle.ir_types.specs.Things.{Things}
-use Rattle.ir_types.specs.Words.{is_inherent}
-use Rattle.ir_types.specs.Terms.{AttrTerm, name_term}
-use Rattle.ir_tree.specs.declared.value.Value.{Value}
-use Rattle.ir_tree.specs.declared.value.Value.TheVariants.{Result}
-use Rattle.ir_tree.specs.Tree.{head}
-use Rattle.ir_tree.specs.Ids.{find}
-use Rattle.ir_tree.specs.Meaning.{Operation}
-use Rattle.ir_tree_laws.proofs.Members.{found_stands}
+use Rattle.ir_event.specs.types.Things.{Things}
+use Rattle.ir_event.specs.types.Words.{is_inherent}
+use Rattle.ir_event.specs.types.Terms.{AttrTerm, name_term}
+use Rattle.ir_event.specs.trees.declared.value.Value.{Value}
+use Rattle.ir_event.specs.trees.declared.value.Value.TheVariants.{Result}
+use Rattle.ir_event.specs.trees.Tree.{head}
+use Rattle.ir_event.specs.trees.Ids.{find}
+use Rattle.ir_event.specs.trees.Meaning.{Operation}
+use Rattle.ir_event.proofs.of_tree_laws.Members.{found_stands}
 use Rattle.dialects_int.specs.Folds.{Known, entries_of}
 use Rattle.patterns_base.specs.Keeps.{given}
 use Rattle.patterns_base.specs.Words.{named}
 use Rattle.patterns_base.specs.Diagnostics.{broken_at}
 use Rattle.patterns_base.specs.Looks.{Header, when, breaks_none, is_clean, giver, source, is_of_constant, is_constant, constant_value, known}
-use Rattle.ir_store.specs.Nodes.{Node}
+use Rattle.ir_event.specs.store.Nodes.{Node}
 use Rattle.patterns_reads.specs.Reads.{head_at, head_in, clean_giver}
 
 clean_is : (t : Operation) (h : Header) → is_clean t h ≡ (breaks_none (broken_at h.id t) && list_all (λ (e : List ℕ × AttrTerm). is_inherent h.name e.0) h.properties)

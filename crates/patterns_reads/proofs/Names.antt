@@ -6,15 +6,15 @@ use Rattle.std.specs.Str.{bytes_eq}
 use Rattle.std.proofs.lemmas.Bool.{cases_Bool}
 use Rattle.std.proofs.lemmas.List.{length-take}
 use Rattle.std.proofs.lemmas.Slice.Eq.{bytes_eq-Decides}
-use Rattle.ir_types.specs.Things.{Things, IsName}
-use Rattle.ir_types.specs.Terms.{name_term}
-use Rattle.ir_types.specs.Sound.{IsSound}
-use Rattle.ir_types.specs.declared.word.Word.{Word}
-use Rattle.ir_types.specs.declared.word.Word.TheVariants.{BuiltinModule, BuiltinUnrealizedConversionCast, FuncFunc, FuncCall, FuncReturn, ArithConstant, ArithAddi, ArithSubi, ArithMuli, ArithShli, ArithDivsi, ArithDivui, ArithRemsi, ArithRemui, ArithAndi, ArithOri, ArithXori, ArithShrsi, ArithShrui, ArithMaxsi, ArithMaxui, ArithMinsi, ArithMinui, ArithCmpi, ArithSelect, ArithExtsi, ArithExtui, ArithTrunci, ArithIndexCast, ArithIndexCastui, ScfFor, ScfIf, ScfWhile, ScfYield, ScfCondition, MemrefAlloc, MemrefDealloc, MemrefLoad, MemrefStore, SymName, SymVisibility, FunctionType, ArgAttrs, ResAttrs, Callee, Value, OverflowFlags, Predicate, OperandSegmentSizes, Alignment, Nontemporal, Public, Private, Nested}
-use Rattle.ir_types.specs.WordNames.{word_bytes, word_number}
-use Rattle.ir_types.proofs.Terms.{name_term_one}
-use Rattle.ir_types.proofs.WordNumbers.{word_count}
-use Rattle.ir_types.proofs.WordPlaces.{word_is}
+use Rattle.ir_event.specs.types.Things.{Things, IsName}
+use Rattle.ir_event.specs.types.Terms.{name_term}
+use Rattle.ir_event.specs.types.Sound.{IsSound}
+use Rattle.ir_event.specs.types.declared.word.Word.{Word}
+use Rattle.ir_event.specs.types.declared.word.Word.TheVariants.{BuiltinModule, BuiltinUnrealizedConversionCast, FuncFunc, FuncCall, FuncReturn, ArithConstant, ArithAddi, ArithSubi, ArithMuli, ArithShli, ArithDivsi, ArithDivui, ArithRemsi, ArithRemui, ArithAndi, ArithOri, ArithXori, ArithShrsi, ArithShrui, ArithMaxsi, ArithMaxui, ArithMinsi, ArithMinui, ArithCmpi, ArithSelect, ArithExtsi, ArithExtui, ArithTrunci, ArithIndexCast, ArithIndexCastui, ScfFor, ScfIf, ScfWhile, ScfYield, ScfCondition, MemrefAlloc, MemrefDealloc, MemrefLoad, MemrefStore, SymName, SymVisibility, FunctionType, ArgAttrs, ResAttrs, Callee, Value, OverflowFlags, Predicate, OperandSegmentSizes, Alignment, Nontemporal, Public, Private, Nested}
+use Rattle.ir_event.specs.types.WordNames.{word_bytes, word_number}
+use Rattle.ir_event.proofs.of_types.Terms.{name_term_one}
+use Rattle.ir_event.proofs.of_types.WordNumbers.{word_count}
+use Rattle.ir_event.proofs.of_types.WordPlaces.{word_is}
 
 -- two names are one where their numbers are
 pub same_names : (c : Things) (m n : ℕ) → IsSound c → IsName c m → IsName c n → (m == n) ≡ bytes_eq (name_term c m) (name_term c n)

@@ -5,10 +5,10 @@ use Rattle.std.specs.List.{list_all}
 use Rattle.std.specs.Option.{option_eq}
 use Rattle.std.specs.Str.{bytes_eq}
 use Rattle.std.proofs.lemmas.Slice.Eq.{bytes_eq-Decides}
-use Rattle.ir_types.specs.Terms.{TypeTerm, AttrTerm, IntegerOf, Overflow}
-use Rattle.ir_types.specs.SameTypes.{same_type}
-use Rattle.ir_types.proofs.SameTerms.{type_refl, type_is}
-use Rattle.ir_tree.specs.declared.value.Value.{Value}
+use Rattle.ir_event.specs.types.Terms.{TypeTerm, AttrTerm, IntegerOf, Overflow}
+use Rattle.ir_event.specs.types.SameTypes.{same_type}
+use Rattle.ir_event.proofs.of_types.SameTerms.{type_refl, type_is}
+use Rattle.ir_event.specs.trees.declared.value.Value.{Value}
 use Rattle.op_registry.specs.Rows.{rows}
 use Rattle.op_registry.specs.Registry.{row_of}
 use Rattle.op_registry.specs.Properties.{kinds, kind_of, is_of_kind, is_allowed, is_overflow, integer_of}
@@ -18,7 +18,7 @@ use Rattle.ir_verify.specs.Breaks.{told_in, numbers_from, broken}
 use Rattle.patterns_base.specs.Keeps.{Each}
 use Rattle.patterns_laws.specs.Words.{among}
 use Rattle.patterns_reads.specs.Pairs.{pairs, AreFlags}
-use Rattle.ir_types.proofs.Truths.{none_left}
+use Rattle.ir_event.proofs.of_types.Truths.{none_left}
 
 -- rules of which none is told
 pub none_told : (n : ℕ) (bs : List Bool) → list_all not bs ≡ true → numbers_from n bs ≡ []

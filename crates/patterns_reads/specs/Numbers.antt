@@ -1,6 +1,6 @@
 -- What plans read of attributes.
 use Rattle.std.specs.Prelude.{ℕ, List, codes, Option, option_map}
-use Rattle.ir_types.specs.Terms.{TypeTerm, AttrTerm}
+use Rattle.ir_event.specs.types.Terms.{TypeTerm, AttrTerm}
 use Rattle.op_registry.specs.Properties.{integer_of}
 use Rattle.dialects_int.specs.Folds.{property_of}
 

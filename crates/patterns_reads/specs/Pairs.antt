@@ -1,9 +1,9 @@
 -- Arithmetic of two operands that is clean by its own form and its operands' types, wherever it stands.
 use Rattle.std.specs.Prelude.{◌≡◌, ◌⊎◌, ℕ, List, [], ◌∷◌, Bool, true, codes, Some}
-use Rattle.ir_types.specs.Terms.{TypeTerm, AttrTerm, Overflow}
-use Rattle.ir_tree.specs.declared.value.Value.{Value}
-use Rattle.ir_tree.specs.Meaning.{Operation}
-use Rattle.ir_tree_laws.specs.Values.{type_of_value}
+use Rattle.ir_event.specs.types.Terms.{TypeTerm, AttrTerm, Overflow}
+use Rattle.ir_event.specs.trees.declared.value.Value.{Value}
+use Rattle.ir_event.specs.trees.Meaning.{Operation}
+use Rattle.ir_event.specs.tree_laws.Values.{type_of_value}
 use Rattle.ir_verify_base.specs.Types.{is_number}
 use Rattle.ir_verify_base.specs.Fits.{Node}
 use Rattle.patterns_laws.specs.Words.{among}

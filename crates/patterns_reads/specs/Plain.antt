@@ -1,6 +1,6 @@
 -- Constants that are clean by their own form, wherever they stand.
 use Rattle.std.specs.Prelude.{◌≡◌, ℕ, List, [], ◌∷◌, true, codes}
-use Rattle.ir_types.specs.Terms.{TypeTerm, AttrTerm, IntegerOf}
+use Rattle.ir_event.specs.types.Terms.{TypeTerm, AttrTerm, IntegerOf}
 use Rattle.ir_verify_base.specs.Types.{is_number}
 use Rattle.ir_verify_base.specs.Fits.{Node}
 

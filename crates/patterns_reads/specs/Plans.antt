@@ -1,10 +1,10 @@
 -- Plans: the edits that each stands for, in a context.
 use Rattle.std.specs.Prelude.{ℕ, ◌+◌, List, [], ◌∷◌, codes}
-use Rattle.ir_types.specs.Things.{Things, IsName, IsType}
-use Rattle.ir_types.specs.Terms.{TypeTerm, IntegerOf, name_term, type_term}
-use Rattle.ir_tree.specs.declared.value.Value.{Value}
-use Rattle.ir_tree.specs.declared.value.Value.TheVariants.{Result}
-use Rattle.ir_tree.specs.declared.place.Place.{Place}
+use Rattle.ir_event.specs.types.Things.{Things, IsName, IsType}
+use Rattle.ir_event.specs.types.Terms.{TypeTerm, IntegerOf, name_term, type_term}
+use Rattle.ir_event.specs.trees.declared.value.Value.{Value}
+use Rattle.ir_event.specs.trees.declared.value.Value.TheVariants.{Result}
+use Rattle.ir_event.specs.trees.declared.place.Place.{Place}
 use Rattle.patterns_edits.specs.Contents.{Edit}
 use Rattle.patterns_edits.specs.Edits.{Make, SetOperand, SetAttr}
 use Rattle.patterns_edits.specs.Lists.{AllFit, edits_meaning}

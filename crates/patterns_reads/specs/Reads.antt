@@ -1,13 +1,13 @@
 -- What is read stands for.
 use Rattle.std.specs.Prelude.{ℕ, Option, Some, option_map}
-use Rattle.ir_types.specs.Things.{Things}
-use Rattle.ir_types.specs.Terms.{name_term, type_term, attr_term}
-use Rattle.ir_tree.specs.Tree.{op, no_regions, head}
-use Rattle.ir_tree.specs.Ids.{find}
-use Rattle.ir_tree.specs.Maps.{map_head}
-use Rattle.ir_tree.specs.Meaning.{Operation}
-use Rattle.ir_store.specs.Nodes.{Node}
-use Rattle.ir_tree.specs.declared.value.Value.{Value}
+use Rattle.ir_event.specs.types.Things.{Things}
+use Rattle.ir_event.specs.types.Terms.{name_term, type_term, attr_term}
+use Rattle.ir_event.specs.trees.Tree.{op, no_regions, head}
+use Rattle.ir_event.specs.trees.Ids.{find}
+use Rattle.ir_event.specs.trees.Maps.{map_head}
+use Rattle.ir_event.specs.trees.Meaning.{Operation}
+use Rattle.ir_event.specs.store.Nodes.{Node}
+use Rattle.ir_event.specs.trees.declared.value.Value.{Value}
 use Rattle.patterns_base.specs.Keeps.{given}
 use Rattle.patterns_base.specs.Looks.{Header, One, Two, Three, giver, is_clean, when}
 use Rattle.patterns_reads.specs.declared.shapes.Single.{Single}

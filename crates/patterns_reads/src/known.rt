@@ -2,18 +2,18 @@
 ghost use Rattle.std.specs.Prelude.{◌≡◌, IfOk, IfSome, option_map};
 ghost use Rattle.patterns_edits.specs.events.Modules.{NodeIsOf, module_in};
 ghost use Rattle.dialects_int.specs.Folds.{known_of};
-ghost use Rattle.ir_types.specs.WordNames.{word_bytes};
+ghost use Rattle.ir_event.specs.types.WordNames.{word_bytes};
 ghost use Rattle.patterns_base.specs.Looks.{constant_value, is_known, is_number, known, source};
 ghost use Rattle.patterns_reads.specs.Reads.{clean_giver, head_in};
 
 use crate::clean::is_clean_shown;
 use crate::look::{giver_node, shown};
 use dialects_int::fold::fold;
-use ir_store::node::Node;
-use ir_tree::value::Value;
-use ir_types::bits::Bits;
-use ir_types::context::Context;
-use ir_types::word::Word;
+use ir_event::store::node::Node;
+use ir_event::trees::value::Value;
+use ir_event::types::bits::Bits;
+use ir_event::types::context::Context;
+use ir_event::types::word::Word;
 use patterns_edits::events::world::World;
 use std::alloc::{AllocError, Global};
 

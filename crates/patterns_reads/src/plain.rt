@@ -2,10 +2,10 @@
 //! constants, and arithmetic of two operands.
 ghost use Rattle.std.specs.Prelude.{◌≡◌, Some, option_map, true};
 ghost use Rattle.std.specs.List.{All};
-ghost use Rattle.ir_types.specs.Things.{IsAttr};
-ghost use Rattle.ir_tree.specs.Ids.{find};
-ghost use Rattle.ir_store.specs.Nodes.{node_of};
-ghost use Rattle.ir_types.specs.Terms.{name_term};
+ghost use Rattle.ir_event.specs.types.Things.{IsAttr};
+ghost use Rattle.ir_event.specs.trees.Ids.{find};
+ghost use Rattle.ir_event.specs.store.Nodes.{node_of};
+ghost use Rattle.ir_event.specs.types.Terms.{name_term};
 ghost use Rattle.dialects_int.specs.Folds.{entries_of};
 ghost use Rattle.patterns_laws.specs.Words.{among};
 ghost use Rattle.ir_verify_base.specs.Numbers.{node_in};
@@ -17,10 +17,10 @@ ghost use Rattle.patterns_reads.specs.Pairs.{AreFlags, IsPair, pairs};
 
 use crate::types::is_of_type;
 use crate::words::word_name;
-use ir_store::node::Node;
-use ir_types::context::Context;
-use ir_types::ids::{AttrId, NameId, OpId};
-use ir_types::word::Word;
+use ir_event::store::node::Node;
+use ir_event::types::context::Context;
+use ir_event::types::ids::{AttrId, NameId, OpId};
+use ir_event::types::word::Word;
 use ir_verify_base::types::is_number;
 use op_registry::property::{allows, integer_of};
 use patterns_edits::events::world::World;

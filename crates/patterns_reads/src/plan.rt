@@ -1,6 +1,6 @@
 //! What a rule makes of an operation, before anything is interned for it.
-use ir_tree::value::Value;
-use ir_types::ids::{NameId, TypeId};
+use ir_event::trees::value::Value;
+use ir_event::types::ids::{NameId, TypeId};
 use patterns_edits::edit::Edit;
 
 /// What a rule that applies at an operation makes. New operations stand in front of that operation.

@@ -2,8 +2,8 @@
 ghost use Rattle.std.specs.Prelude.{◌≡◌, List, ℕ, option_map, codes};
 ghost use Rattle.std.specs.List.{All};
 ghost use Rattle.std.specs.Str.{bytes_eq};
-ghost use Rattle.ir_types.specs.Things.{IsAttr, IsName};
-ghost use Rattle.ir_types.specs.Terms.{attr_term, name_term};
+ghost use Rattle.ir_event.specs.types.Things.{IsAttr, IsName};
+ghost use Rattle.ir_event.specs.types.Terms.{attr_term, name_term};
 ghost use Rattle.ir_event.specs.Modules.{NodeIsOf};
 ghost use Rattle.dialects_int.specs.Folds.{entries_of};
 ghost use Rattle.patterns_base.specs.Keeps.{holds_of_itself, mirrored};
@@ -11,10 +11,10 @@ ghost use Rattle.patterns_base.specs.Looks.{predicate};
 ghost use Rattle.patterns_reads.specs.Reads.{head_in};
 ghost use Rattle.patterns_reads.specs.Numbers.{number_of, predicate_among};
 
-use ir_store::node::Node;
-use ir_types::context::Context;
-use ir_types::ids::{AttrId, NameId};
-use ir_types::word::Word;
+use ir_event::store::node::Node;
+use ir_event::types::context::Context;
+use ir_event::types::ids::{AttrId, NameId};
+use ir_event::types::word::Word;
 use op_registry::property::integer_of;
 
 /// The number of a comparison's predicate.

@@ -1,7 +1,7 @@
 //! The operations that give values, by their names, if they are clean.
 ghost use Rattle.std.specs.Prelude.{◌≡◌, IfOk, IfSome, option_map};
-ghost use Rattle.ir_types.specs.Things.{IsName};
-ghost use Rattle.ir_types.specs.Terms.{name_term};
+ghost use Rattle.ir_event.specs.types.Things.{IsName};
+ghost use Rattle.ir_event.specs.types.Terms.{name_term};
 ghost use Rattle.ir_event.specs.Modules.{NodeIsOf, module_in};
 ghost use Rattle.patterns_laws.specs.Words.{extensions};
 ghost use Rattle.patterns_base.specs.Casting.{resizing};
@@ -11,10 +11,10 @@ ghost use Rattle.patterns_reads.specs.Reads.{head_in};
 use crate::known::clean_giver;
 use crate::look::giver_node;
 use crate::words::{is_extension, is_resizing, is_same_name};
+use ir_event::store::node::Node;
+use ir_event::trees::value::Value;
+use ir_event::types::ids::NameId;
 use ir_event::world::World;
-use ir_store::node::Node;
-use ir_tree::value::Value;
-use ir_types::ids::NameId;
 use std::alloc::{AllocError, Global};
 
 /// One of a name.

@@ -1,22 +1,22 @@
 //! What rules ask of types.
 ghost use Rattle.std.specs.Prelude.{◌≡◌, ◌≤◌, List};
-ghost use Rattle.ir_types.specs.Limits.{most_width};
-ghost use Rattle.ir_types.specs.Readings.{type_width};
-ghost use Rattle.ir_types.specs.Things.{IsType};
-ghost use Rattle.ir_types.specs.Terms.{TypeTerm, type_from, type_term};
-ghost use Rattle.ir_types.specs.SameTypes.{same_type};
+ghost use Rattle.ir_event.specs.types.Limits.{most_width};
+ghost use Rattle.ir_event.specs.types.Readings.{type_width};
+ghost use Rattle.ir_event.specs.types.Things.{IsType};
+ghost use Rattle.ir_event.specs.types.Terms.{TypeTerm, type_from, type_term};
+ghost use Rattle.ir_event.specs.types.SameTypes.{same_type};
 ghost use Rattle.dialects_int.specs.Arithmetic.{all_ones, difference_of};
 ghost use Rattle.ir_event.specs.Modules.{module_in};
 ghost use Rattle.patterns_base.specs.Looks.{is_of_type};
 ghost use Rattle.patterns_base.specs.Made.{i1};
 
+use ir_event::trees::value::Value;
+use ir_event::types::context::Context;
+use ir_event::types::ids::TypeId;
+use ir_event::types::node::TypeNode;
+use ir_event::types::readings::mask;
+use ir_event::types::things::type_of;
 use ir_event::world::World;
-use ir_tree::value::Value;
-use ir_types::context::Context;
-use ir_types::ids::TypeId;
-use ir_types::node::TypeNode;
-use ir_types::readings::mask;
-use ir_types::things::type_of;
 use ir_verify_base::types;
 
 /// Whether a type is `i1`.

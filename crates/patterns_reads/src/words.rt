@@ -1,17 +1,17 @@
 //! The operations of which rules speak.
 ghost use Rattle.std.specs.Prelude.{◌≡◌, IfSome, option_map};
 ghost use Rattle.std.specs.Str.{bytes_eq};
-ghost use Rattle.ir_types.specs.Things.{IsName};
-ghost use Rattle.ir_types.specs.Terms.{name_term};
-ghost use Rattle.ir_types.specs.WordNames.{word_bytes};
+ghost use Rattle.ir_event.specs.types.Things.{IsName};
+ghost use Rattle.ir_event.specs.types.Terms.{name_term};
+ghost use Rattle.ir_event.specs.types.WordNames.{word_bytes};
 ghost use Rattle.op_registry.specs.Registry.{beside};
 ghost use Rattle.patterns_laws.specs.Words.{among, asking, cancelling, dividing, extensions, ignoring_zero};
 ghost use Rattle.patterns_laws.specs.Words.{ignoring_one, index_casts, keeping, regrouping, remainders, swapping};
 ghost use Rattle.patterns_base.specs.Casting.{resizing};
 
-use ir_types::context::Context;
-use ir_types::ids::NameId;
-use ir_types::word::Word;
+use ir_event::types::context::Context;
+use ir_event::types::ids::NameId;
+use ir_event::types::word::Word;
 
 /// The number of a word's name.
 pub fn word_name(ctx: &Context, word: Word) -> NameId

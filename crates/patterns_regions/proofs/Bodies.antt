@@ -1,23 +1,23 @@
 -- Blocks whose last operation is clean, read off a tree of numbers.
 use Rattle.std.proofs.Common.{◌≡◌, refl, ap, sym, ◌∙◌, ℕ, zero, suc, List, [], ◌∷◌, Bool, true, false, Option, Some, None}
 use Rattle.std.specs.Prelude.{option_map, option_and_then}
-use Rattle.ir_types.specs.Things.{Things}
-use Rattle.ir_types.specs.Terms.{TypeTerm, AttrTerm, name_term, type_term, attr_term}
-use Rattle.ir_tree.specs.Tree.{OpOf, op, Op, RegionsOf, no_regions, region, RegionOf, empty, block, OpsOf, no_ops, next, Ops, head, regions}
-use Rattle.ir_tree.specs.Ids.{HasDistinctIds, find, first_of}
-use Rattle.ir_tree.specs.Maps.{map_head, map_tree, map_regions, map_region, map_ops}
-use Rattle.ir_tree.specs.Meaning.{Operation, meaning}
-use Rattle.ir_tree.proofs.Mapped.{map_find}
-use Rattle.ir_tree_laws.specs.Reads.{ops_in, ops_at, last_id, last_at}
-use Rattle.ir_tree_laws.specs.Values.{region_at}
-use Rattle.ir_tree_laws.proofs.Members.{joined_ops}
+use Rattle.ir_event.specs.types.Things.{Things}
+use Rattle.ir_event.specs.types.Terms.{TypeTerm, AttrTerm, name_term, type_term, attr_term}
+use Rattle.ir_event.specs.trees.Tree.{OpOf, op, Op, RegionsOf, no_regions, region, RegionOf, empty, block, OpsOf, no_ops, next, Ops, head, regions}
+use Rattle.ir_event.specs.trees.Ids.{HasDistinctIds, find, first_of}
+use Rattle.ir_event.specs.trees.Maps.{map_head, map_tree, map_regions, map_region, map_ops}
+use Rattle.ir_event.specs.trees.Meaning.{Operation, meaning}
+use Rattle.ir_event.proofs.of_trees.Mapped.{map_find}
+use Rattle.ir_event.specs.tree_laws.Reads.{ops_in, ops_at, last_id, last_at}
+use Rattle.ir_event.specs.tree_laws.Values.{region_at}
+use Rattle.ir_event.proofs.of_tree_laws.Members.{joined_ops}
 use Rattle.patterns_reads.specs.Keeps.{given}
 use Rattle.patterns_reads.specs.Looks.{Header, Ended, ended_by, ended, when, is_clean}
 use Rattle.patterns_reads.specs.Reads.{head_at}
 use Rattle.patterns_reads.proofs.Meant.{head_meaning}
 use Rattle.patterns_regions.specs.Blocks.{but_last, before_in, before_at, body_at}
 use Rattle.patterns_regions.proofs.Walking.{found_read}
-use Rattle.ir_tree_laws.proofs.Contents.{map_ops_at, map_region_at}
+use Rattle.ir_event.proofs.of_tree_laws.Contents.{map_ops_at, map_region_at}
 
 module _ {N T A : Type 0} where
   -- the last of a list that isn't empty

@@ -1,10 +1,10 @@
 -- What the edits by which an operation is opened stand for.
 use Rattle.std.proofs.Common.{◌≡◌, refl, ap, ◌∙◌, ℕ, ◌+◌, List, [], ◌∷◌, ◌++◌, map, append_assoc}
 use Rattle.std.proofs.lemmas.List.{map-append}
-use Rattle.ir_types.specs.Things.{Things}
-use Rattle.ir_tree.specs.declared.value.Value.{Value}
-use Rattle.ir_tree.specs.declared.value.Value.TheVariants.{Result, Arg}
-use Rattle.ir_tree.specs.declared.place.Place.{Place}
+use Rattle.ir_event.specs.types.Things.{Things}
+use Rattle.ir_event.specs.trees.declared.value.Value.{Value}
+use Rattle.ir_event.specs.trees.declared.value.Value.TheVariants.{Result, Arg}
+use Rattle.ir_event.specs.trees.declared.place.Place.{Place}
 use Rattle.patterns_edits.specs.Contents.{Edit, edit_meaning}
 use Rattle.patterns_edits.specs.Edits.{Erase, Replace, Move}
 use Rattle.patterns_edits.specs.Lists.{numbered, AllFit, edits_meaning}

@@ -2,21 +2,21 @@
 use Rattle.std.proofs.Common.{Bor, ◌≡◌, refl, ap, sym, ◌∙◌, subst, ℕ, zero, suc, ◌≤◌, ◌<◌, List, [], ◌∷◌, length, map, Bool, true, Option, Some, None, arith}
 use Rattle.std.specs.Prelude.{is_some, slice_get, option_map, option_and_then}
 use Rattle.std.proofs.lemmas.Option.{slice_get-map, slice_get_past}
-use Rattle.ir_types.specs.Things.{Things}
-use Rattle.ir_types.specs.Terms.{TypeTerm, AttrTerm, name_term, type_term, attr_term}
-use Rattle.ir_tree.specs.Tree.{op, Op, RegionsOf, no_regions, region, RegionOf, empty, block, head, regions}
-use Rattle.ir_tree.specs.Ids.{find}
-use Rattle.ir_tree.specs.Meaning.{Operation, meaning}
-use Rattle.ir_tree.proofs.Mapped.{map_find}
-use Rattle.ir_tree_laws.specs.Values.{region_at, arguments_of, arguments_at}
-use Rattle.ir_tree_laws.proofs.Members.{found_stands}
-use Rattle.ir_store.specs.Nodes.{NodeOf, Node, node_of, regions_arguments}
+use Rattle.ir_event.specs.types.Things.{Things}
+use Rattle.ir_event.specs.types.Terms.{TypeTerm, AttrTerm, name_term, type_term, attr_term}
+use Rattle.ir_event.specs.trees.Tree.{op, Op, RegionsOf, no_regions, region, RegionOf, empty, block, head, regions}
+use Rattle.ir_event.specs.trees.Ids.{find}
+use Rattle.ir_event.specs.trees.Meaning.{Operation, meaning}
+use Rattle.ir_event.proofs.of_trees.Mapped.{map_find}
+use Rattle.ir_event.specs.tree_laws.Values.{region_at, arguments_of, arguments_at}
+use Rattle.ir_event.proofs.of_tree_laws.Members.{found_stands}
+use Rattle.ir_event.specs.store.Nodes.{NodeOf, Node, node_of, regions_arguments}
 use Rattle.ir_event.specs.Modules.{node_meaning}
 use Rattle.ir_event.proofs.Nodes.{node_shown}
 use Rattle.patterns_reads.specs.Reads.{head_in}
 use Rattle.patterns_regions.specs.Blocks.{Shows, is_block}
 use Rattle.ir_event.proofs.Facts.{found_id}
-use Rattle.ir_types.proofs.Truths.{get_within}
+use Rattle.ir_event.proofs.of_types.Truths.{get_within}
 
 -- what a world shows of an operation
 pub shown_at : (c : Things) (x : ℕ) (t : Op) (r : Option Node) → r ≡ option_map node_of (find x t) → option_map (node_meaning c) r ≡ option_map (λ o. node_of o) (find x (meaning c t))

@@ -2,19 +2,19 @@
 use Rattle.std.proofs.Common.{◌≡◌, refl, ap, sym, ◌∙◌, subst, ℕ, ◌<◌, List, [], ◌∷◌, ◌++◌, length, map, Option, Some, None, arith}
 use Rattle.std.specs.Prelude.{option_and_then}
 use Rattle.std.proofs.lemmas.List.{map-append, length-map}
-use Rattle.ir_tree.specs.Tree.{OpOf, OpsOf, no_ops, next, RegionOf, empty, block, head, regions, op_list}
-use Rattle.ir_tree.specs.Ids.{HasDistinctIds, find}
-use Rattle.ir_tree.specs.Places.{first_id}
-use Rattle.ir_tree_laws.specs.Reads.{ops_in, ops_at, first_at, next_of}
-use Rattle.ir_tree_laws.specs.Stands.{StepOf, stands}
-use Rattle.ir_tree_laws.specs.Members.{In}
-use Rattle.ir_tree_laws.specs.Values.{region_at}
-use Rattle.ir_tree_laws.proofs.Readings.{step}
-use Rattle.ir_tree_laws.proofs.Members.{stand, within, joined_ops, ops_child, found_stands, stand_found}
-use Rattle.ir_tree_laws.proofs.Put.{child}
-use Rattle.ir_tree_laws.proofs.Neighbours.{next_there, block_at, block_of}
+use Rattle.ir_event.specs.trees.Tree.{OpOf, OpsOf, no_ops, next, RegionOf, empty, block, head, regions, op_list}
+use Rattle.ir_event.specs.trees.Ids.{HasDistinctIds, find}
+use Rattle.ir_event.specs.trees.Places.{first_id}
+use Rattle.ir_event.specs.tree_laws.Reads.{ops_in, ops_at, first_at, next_of}
+use Rattle.ir_event.specs.tree_laws.Stands.{StepOf, stands}
+use Rattle.ir_event.specs.tree_laws.Members.{In}
+use Rattle.ir_event.specs.tree_laws.Values.{region_at}
+use Rattle.ir_event.proofs.of_tree_laws.Readings.{step}
+use Rattle.ir_event.proofs.of_tree_laws.Members.{stand, within, joined_ops, ops_child, found_stands, stand_found}
+use Rattle.ir_event.proofs.of_tree_laws.Put.{child}
+use Rattle.ir_event.proofs.of_tree_laws.Neighbours.{next_there, block_at, block_of}
 use Rattle.patterns_regions.specs.Blocks.{before_in, before_at}
-use Rattle.ir_tree_laws.proofs.Values.{joined_more}
+use Rattle.ir_event.proofs.of_tree_laws.Values.{joined_more}
 
 module _ {N T A : Type 0} where
   -- an operation of it, with where it stands

@@ -1,8 +1,8 @@
 -- Operations that are opened: what is in a block of theirs comes in front of them.
 use Rattle.std.specs.Prelude.{ℕ, ◌+◌, List, [], ◌∷◌, ◌++◌, map}
-use Rattle.ir_tree.specs.declared.value.Value.{Value}
-use Rattle.ir_tree.specs.declared.value.Value.TheVariants.{Result, Arg}
-use Rattle.ir_tree.specs.declared.place.Place.{Place}
+use Rattle.ir_event.specs.trees.declared.value.Value.{Value}
+use Rattle.ir_event.specs.trees.declared.value.Value.TheVariants.{Result, Arg}
+use Rattle.ir_event.specs.trees.declared.place.Place.{Place}
 use Rattle.patterns_reads.specs.Contents.{Edit}
 use Rattle.patterns_reads.specs.Makes.{arguments_from, replacing, replaced, give_body}
 use Rattle.patterns_reads.specs.Edit.{Edit as Coded}

@@ -1,7 +1,7 @@
 -- How often a loop is gone through.
 use Rattle.std.specs.Prelude.{if◌then◌else◌, pos, ℤ, ◌+ℤ◌, int_lt, int_le, Bool, ◌&&◌, Option, Some}
-use Rattle.ir_tree.specs.declared.value.Value.{Value}
-use Rattle.ir_tree.specs.Meaning.{Operation}
+use Rattle.ir_event.specs.trees.declared.value.Value.{Value}
+use Rattle.ir_event.specs.trees.Meaning.{Operation}
 use Rattle.patterns_reads.specs.Keeps.{given}
 use Rattle.patterns_reads.specs.Looks.{known, when}
 use Rattle.patterns_reads.specs.rules.Opening.{reading}

@@ -1,18 +1,18 @@
 //! Blocks of operations' regions.
 ghost use Rattle.std.specs.Prelude.{◌≡◌, IfOk, IfSome, map, option_map};
-ghost use Rattle.ir_types.specs.Things.{Things};
-ghost use Rattle.ir_types.specs.Terms.{type_term};
-ghost use Rattle.ir_tree.specs.Tree.{regions};
-ghost use Rattle.ir_tree.specs.Ids.{find};
-ghost use Rattle.ir_tree.specs.Meaning.{Operation};
-ghost use Rattle.ir_tree_laws.specs.Values.{arguments_at, region_at};
-ghost use Rattle.ir_store.specs.Nodes.{node_of};
+ghost use Rattle.ir_event.specs.types.Things.{Things};
+ghost use Rattle.ir_event.specs.types.Terms.{type_term};
+ghost use Rattle.ir_event.specs.trees.Tree.{regions};
+ghost use Rattle.ir_event.specs.trees.Ids.{find};
+ghost use Rattle.ir_event.specs.trees.Meaning.{Operation};
+ghost use Rattle.ir_event.specs.tree_laws.Values.{arguments_at, region_at};
+ghost use Rattle.ir_event.specs.store.Nodes.{node_of};
 ghost use Rattle.ir_event.specs.Modules.{NodeIsOf, module_in, node_meaning};
 ghost use Rattle.patterns_regions.specs.Blocks.{Shows, before_at, body_at, ended_in, is_block};
 
+use ir_event::store::node::Node;
+use ir_event::types::ids::{OpId, TypeId};
 use ir_event::world::World;
-use ir_store::node::Node;
-use ir_types::ids::{OpId, TypeId};
 use patterns_reads::clean::is_clean;
 use patterns_reads::look::shown;
 use std::alloc::{AllocError, Global};

@@ -3,8 +3,8 @@ ghost use Rattle.std.specs.Prelude.{◌≡◌, IfOk};
 ghost use Rattle.ir_event.specs.Modules.{module_in};
 ghost use Rattle.patterns_regions.specs.Times.{is_once, times_of};
 
+use ir_event::trees::value::Value;
 use ir_event::world::World;
-use ir_tree::value::Value;
 use patterns_reads::known::known;
 use std::alloc::{AllocError, Global};
 

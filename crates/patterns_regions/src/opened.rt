@@ -1,12 +1,12 @@
 //! The edits by which an operation is opened: what is in a block of it comes in front of it, and it goes.
 ghost use Rattle.std.specs.Prelude.{◌≡◌, ◌++◌, IfOk, OnOk};
-ghost use Rattle.ir_types.specs.Things.{Things};
+ghost use Rattle.ir_event.specs.types.Things.{Things};
 ghost use Rattle.patterns_edits.specs.Lists.{AllFit, edits_meaning};
 ghost use Rattle.patterns_regions.specs.Opened.{argument_edits, move_edits, opening, put_for, result_edits};
 
-use ir_tree::place::Place;
-use ir_tree::value::Value;
-use ir_types::ids::OpId;
+use ir_event::trees::place::Place;
+use ir_event::trees::value::Value;
+use ir_event::types::ids::OpId;
 use patterns_edits::edit::Edit;
 use std::alloc::{AllocError, Global};
 

@@ -2,7 +2,7 @@
 ghost use Rattle.std.specs.Prelude.{◌≡◌, ◌∷◌, ◌++◌, [], IfOk, IfSome, option_map};
 ghost use Rattle.patterns_edits.specs.Edits.{Erase};
 ghost use Rattle.patterns_reads.specs.Makes.{replacing, results_from};
-ghost use Rattle.ir_types.specs.Things.{Things};
+ghost use Rattle.ir_event.specs.types.Things.{Things};
 ghost use Rattle.ir_event.specs.Modules.{module_in};
 ghost use Rattle.patterns_edits.specs.Lists.{AllFit, edits_meaning};
 ghost use Rattle.patterns_reads.specs.Plans.{PlanIsOf, plan_meaning};
@@ -11,11 +11,11 @@ ghost use Rattle.patterns_regions.specs.Rules.{chosen_at, opened_at, open_branch
 use crate::block::{body_of, has_block, node_at};
 use crate::bounds::{Times, known_times};
 use crate::opened::opened;
+use ir_event::trees::place::Place;
+use ir_event::trees::value::Value;
+use ir_event::types::ids::OpId;
+use ir_event::types::word::Word;
 use ir_event::world::World;
-use ir_tree::place::Place;
-use ir_tree::value::Value;
-use ir_types::ids::OpId;
-use ir_types::word::Word;
 use patterns_edits::edit::Edit;
 use patterns_reads::known::{is_number, known};
 use patterns_reads::plan::Plan;

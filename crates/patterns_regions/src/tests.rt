@@ -1,17 +1,17 @@
 //! Tests that the rules that open branches and loops pass wherever they apply. They look at names, and ask for no
 //! memory.
 ghost use Rattle.std.specs.Prelude.{◌≡◌, false, None};
-ghost use Rattle.ir_tree.specs.declared.place.Place.{Place as At};
-ghost use Rattle.ir_tree.specs.Tree.{head};
-ghost use Rattle.ir_tree.specs.Meaning.{Operation};
+ghost use Rattle.ir_event.specs.trees.declared.place.Place.{Place as At};
+ghost use Rattle.ir_event.specs.trees.Tree.{head};
+ghost use Rattle.ir_event.specs.trees.Meaning.{Operation};
 ghost use Rattle.ir_event.specs.Modules.{module_in};
 ghost use Rattle.patterns_reads.specs.rules.Opening.{open_branch, open_loop};
 ghost use Rattle.patterns_reads.specs.Reads.{head_in};
 ghost use Rattle.patterns_regions.specs.Rules.{stop_loop_at};
 
+use ir_event::store::node::Node;
+use ir_event::types::ids::OpId;
 use ir_event::world::World;
-use ir_store::node::Node;
-use ir_types::ids::OpId;
 use patterns_reads::look::{is_constant, shown};
 
 /// Whether the one operand of an operation is the result of a constant.

@@ -2,10 +2,10 @@
 use Rattle.std.proofs.Common.{◌≡◌, refl, ap, sym, ◌∙◌, subst, ℕ, List, [], ◌∷◌, ◌++◌, append_assoc, append-nil, Option, Some, None, Result, Ok, Err, ◌⊎◌, inl, inr, true, false, ◌<◌, ◌-◌, length, arith, get_or, take}
 use Rattle.std.proofs.lemmas.List.{take_all}
 use Rattle.std.specs.Prelude.{◌≢◌, drop, OnOk, OnErr}
-use Rattle.ir_types.specs.Things.{Things}
-use Rattle.ir_types.specs.Sound.{Holds}
-use Rattle.ir_types.specs.declared.refusal.Refusal.{Refusal}
-use Rattle.ir_types.specs.declared.refusal.Refusal.TheVariants.{Memory}
+use Rattle.ir_event.specs.types.Things.{Things}
+use Rattle.ir_event.specs.types.Sound.{Holds}
+use Rattle.ir_event.specs.types.declared.refusal.Refusal.{Refusal}
+use Rattle.ir_event.specs.types.declared.refusal.Refusal.TheVariants.{Memory}
 use Rattle.ir_event.specs.declared.event.Event.{Event}
 use Rattle.ir_event.specs.Listener.{Listener}
 use Rattle.ir_event.specs.Modules.{Module}
@@ -25,7 +25,7 @@ use Rattle.patterns_edits.specs.Lists.{AllFit, Fits, IsWhy, Tried, edits_meaning
 use Rattle.patterns_runs.specs.Runs.{Along, Noted}
 use Rattle.patterns_runs.proofs.Journals.{marked_more, push_some, recorded_none, recorded_on, recorded_whole, surely}
 use Rattle.patterns_edits.proofs.Facts.{edited_both, edits_more}
-use Rattle.ir_types.proofs.Truths.{none_left, uncons}
+use Rattle.ir_event.proofs.of_types.Truths.{none_left, uncons}
 
 -- ---- one edit
 

@@ -1,7 +1,7 @@
 -- Edits against which no reason stands are refused for want of memory alone.
 use Rattle.std.proofs.Common.{◌≡◌, sym, ◌∙◌, subst, List, [], ◌∷◌, ◌++◌, Some, None, inl, inr}
-use Rattle.ir_types.specs.declared.refusal.Refusal.{Refusal}
-use Rattle.ir_types.specs.declared.refusal.Refusal.TheVariants.{Memory}
+use Rattle.ir_event.specs.types.declared.refusal.Refusal.{Refusal}
+use Rattle.ir_event.specs.types.declared.refusal.Refusal.TheVariants.{Memory}
 use Rattle.ir_event.specs.Modules.{Module}
 use Rattle.patterns_edits.specs.Contents.{Edit, all_edited, edit_reason, edited}
 use Rattle.patterns_edits.specs.Lists.{Free, IsWhy}

@@ -2,9 +2,9 @@
 use Rattle.std.proofs.Common.{◌≡◌, ◌≢◌, ◌∙◌, refl, sym, ap, ℕ, ◌≤◌, List, [], ◌∷◌, ◌++◌, length, true, false, Result, Ok, Err, arith, append_assoc, append-nil, length-append}
 use Rattle.std.specs.Prelude.{map, OnOk, OnErr}
 use Rattle.std.proofs.lemmas.List.{length-map, length-reverse}
-use Rattle.ir_types.specs.declared.refusal.Refusal.{Refusal}
-use Rattle.ir_types.specs.Things.{Things}
-use Rattle.ir_store.specs.Stored.{Stored}
+use Rattle.ir_event.specs.types.declared.refusal.Refusal.{Refusal}
+use Rattle.ir_event.specs.types.Things.{Things}
+use Rattle.ir_event.specs.store.Stored.{Stored}
 use Rattle.ir_event.specs.declared.event.Event.{Event}
 use Rattle.rewriter.specs.Machine.{OpenMark}
 use Rattle.rewriter.specs.Mark.{Mark}

@@ -1,9 +1,9 @@
 -- What becomes of a bench where something is interned for edits, and its context alone grows.
 use Rattle.std.specs.Prelude.{◌≡◌, ◌≤◌, [], length, ◌⊎◌}
-use Rattle.ir_types.specs.Things.{Things}
-use Rattle.ir_types.specs.Limits.{most_things}
-use Rattle.ir_types.specs.declared.refusal.Refusal.{Refusal}
-use Rattle.ir_types.specs.declared.refusal.Refusal.TheVariants.{Memory, Full}
+use Rattle.ir_event.specs.types.Things.{Things}
+use Rattle.ir_event.specs.types.Limits.{most_things}
+use Rattle.ir_event.specs.types.declared.refusal.Refusal.{Refusal}
+use Rattle.ir_event.specs.types.declared.refusal.Refusal.TheVariants.{Memory, Full}
 use Rattle.ir_event.specs.Listener.{Listener}
 use Rattle.rewriter.specs.Benched.{Benched, Heard}
 use Rattle.rewriter.specs.Moves.{Grown}

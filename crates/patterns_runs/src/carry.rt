@@ -8,7 +8,7 @@ ghost use Rattle.patterns_runs.specs.Runs.{Along, Noted};
 
 use crate::single::carry_one;
 use ir_event::analysis::Analysis;
-use ir_types::refusal::Refusal;
+use ir_event::types::refusal::Refusal;
 use patterns_edits::edit::Edit;
 use rewriter::Bench;
 use rewriter::laws::led_benches_are_kept;

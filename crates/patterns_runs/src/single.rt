@@ -1,8 +1,8 @@
 //! One edit.
 ghost use Rattle.std.specs.Prelude.{◌≡◌, true, Some};
-ghost use Rattle.ir_types.specs.Things.{IsName, IsAttr};
-ghost use Rattle.ir_tree.specs.Meaning.{IsSoundIn};
-ghost use Rattle.ir_tree_laws.specs.Reasons.{holds_none};
+ghost use Rattle.ir_event.specs.types.Things.{IsName, IsAttr};
+ghost use Rattle.ir_event.specs.trees.Meaning.{IsSoundIn};
+ghost use Rattle.ir_event.specs.tree_laws.Reasons.{holds_none};
 ghost use Rattle.rewriter.specs.Benched.{Keeps};
 ghost use Rattle.rewriter.specs.Held.{module_held};
 ghost use Rattle.patterns_edits.specs.Contents.{edit_meaning};
@@ -11,11 +11,11 @@ ghost use Rattle.patterns_edits.specs.Lists.{Fits, Tried, numbered};
 ghost use Rattle.patterns_runs.specs.Runs.{Along};
 
 use ir_event::analysis::Analysis;
-use ir_tree::place::Place;
-use ir_tree::tree::TreeOp;
-use ir_tree::value::Value;
-use ir_types::ids::{AttrId, NameId, OpId};
-use ir_types::refusal::Refusal;
+use ir_event::trees::place::Place;
+use ir_event::trees::tree::TreeOp;
+use ir_event::trees::value::Value;
+use ir_event::types::ids::{AttrId, NameId, OpId};
+use ir_event::types::refusal::Refusal;
 use patterns_edits::edit::Edit;
 use rewriter::Bench;
 

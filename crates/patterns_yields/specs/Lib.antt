@@ -1,1 +1,2 @@
 pub mod Yields
+pub use Rattle.patterns_base.specs as base

@@ -2,11 +2,11 @@
 use Rattle.std.proofs.Common.{◌≡◌, ◌≢◌, ◌∙◌, sym, ap, subst, refl, inl, inr, ℕ, List, [], ◌∷◌, length, true, false, Option, Some, None, IsTrue}
 use Rattle.std.specs.Prelude.{map, reverse}
 use Rattle.std.proofs.lemmas.List.{length-map, length-reverse}
-use Rattle.ir_types.specs.Things.{Things}
-use Rattle.ir_types.specs.declared.refusal.Refusal.{Refusal}
-use Rattle.ir_types.specs.declared.refusal.Refusal.TheVariants.{Memory}
+use Rattle.ir_event.specs.types.Things.{Things}
+use Rattle.ir_event.specs.types.declared.refusal.Refusal.{Refusal}
+use Rattle.ir_event.specs.types.declared.refusal.Refusal.TheVariants.{Memory}
 use Rattle.ir_event.specs.Modules.{Module, module_meaning}
-use Rattle.ir_tree.specs.WellFormed.{Module as Numbered}
+use Rattle.ir_event.specs.trees.WellFormed.{Module as Numbered}
 use Rattle.rewriter_desk.specs.Machine.{State, Call, Reply, Answer, OpenMark, Do, Step, Commit, Rollback, Done, Refused, Nothing, Goes, due_edit, due_commit, due_rollback, done, refused, accepted, grows_under}
 use Rattle.rewriter_desk.specs.Contents.{Edit, edited, edit_reason}
 use Rattle.rewriter_desk.specs.Panels.{AllAge}

@@ -1,7 +1,7 @@
 -- The context stays where a mark is made or closed.
 use Rattle.std.proofs.Common.{◌≡◌, ◌∙◌, ap, ℕ, false}
 use Rattle.std.specs.Prelude.{OnOk, OnErr, Result, Ok, Err}
-use Rattle.ir_types.specs.declared.refusal.Refusal.{Refusal}
+use Rattle.ir_event.specs.types.declared.refusal.Refusal.{Refusal}
 use Rattle.rewriter_desk.specs.Held.{Held}
 use Rattle.rewriter_desk.specs.Marked.{Closed, with_mark}
 use Rattle.rewriter.specs.Rolling.{GivenUp, UndoneTo}

@@ -3,9 +3,9 @@ use Rattle.std.proofs.Common.{◌≡◌, ◌∙◌, sym, ap, subst, refl, inl, i
 use Rattle.std.specs.Prelude.{MatchResult, IsErrOf, IfOk, IfErr, OnOk, OnErr, All}
 use Rattle.std.specs.List.{find}
 use Rattle.std.specs.Option.{option_map}
-use Rattle.ir_types.specs.Things.{Things}
-use Rattle.ir_types.specs.declared.refusal.Refusal.{Refusal}
-use Rattle.ir_types.specs.declared.refusal.Refusal.TheVariants.{KindTaken, Memory, NoSuchKind, Stale}
+use Rattle.ir_event.specs.types.Things.{Things}
+use Rattle.ir_event.specs.types.declared.refusal.Refusal.{Refusal}
+use Rattle.ir_event.specs.types.declared.refusal.Refusal.TheVariants.{KindTaken, Memory, NoSuchKind, Stale}
 use Rattle.ir_event.specs.Listener.{Listener}
 use Rattle.ir_event.specs.Modules.{Module, module_meaning, things_in, module_in}
 use Rattle.ir_event.specs.declared.world.World.{World}

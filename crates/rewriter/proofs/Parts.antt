@@ -1,17 +1,17 @@
 -- The dictionary of an operation in which a key belongs, as it is read off a node.
 use Rattle.std.proofs.Common.{◌≡◌, ◌∙◌, sym, ap, ℕ, Option, Some, None, Bool, true, false, cond}
 use Rattle.std.specs.Prelude.{is_some, option_map, ◌||◌}
-use Rattle.ir_types.specs.Terms.{name_term}
-use Rattle.ir_types.specs.Things.{Things}
-use Rattle.ir_types.specs.Words.{is_inherent}
-use Rattle.ir_tree.specs.declared.place.Part.TheVariants.{Props, Attrs}
-use Rattle.ir_tree.specs.Edits.{entry_at}
-use Rattle.ir_tree.specs.Ids.{find, has_id}
-use Rattle.ir_tree.specs.Meaning.{key_before_in}
-use Rattle.ir_tree.specs.Tree.{Op, op}
-use Rattle.ir_tree_laws.proofs.Around.{absent_find}
-use Rattle.ir_store.specs.Nodes.{Node, node_of}
-use Rattle.ir_store.specs.Stored.{Stored, known}
+use Rattle.ir_event.specs.types.Terms.{name_term}
+use Rattle.ir_event.specs.types.Things.{Things}
+use Rattle.ir_event.specs.types.Words.{is_inherent}
+use Rattle.ir_event.specs.trees.declared.place.Part.TheVariants.{Props, Attrs}
+use Rattle.ir_event.specs.trees.Edits.{entry_at}
+use Rattle.ir_event.specs.trees.Ids.{find, has_id}
+use Rattle.ir_event.specs.trees.Meaning.{key_before_in}
+use Rattle.ir_event.specs.trees.Tree.{Op, op}
+use Rattle.ir_event.proofs.of_tree_laws.Around.{absent_find}
+use Rattle.ir_event.specs.store.Nodes.{Node, node_of}
+use Rattle.ir_event.specs.store.Stored.{Stored, known}
 use Rattle.ir_event.proofs.Shown.{known_there}
 use Rattle.rewriter_desk.specs.Contents.{tests_in}
 use Rattle.rewriter_desk.specs.Edits.{part_in, part_for}

@@ -2,13 +2,13 @@
 use Rattle.std.proofs.Common.{◌≡◌, ◌≢◌, ◌∙◌, sym, ap, subst, refl, inl, inr, ◌⊎◌, ℕ, ◌≤◌, List, [], ◌∷◌, length, take, drop, arith, Bool, true, false, cond, Some, None, Result, Ok, Err}
 use Rattle.std.specs.Prelude.{nat_lt, OnOk, OnErr}
 use Rattle.std.proofs.lemmas.List.{length-take}
-use Rattle.ir_types.specs.declared.refusal.Refusal.{Refusal}
-use Rattle.ir_types.specs.declared.refusal.Refusal.TheVariants.{Memory, NoMark, TooManyMarks}
+use Rattle.ir_event.specs.types.declared.refusal.Refusal.{Refusal}
+use Rattle.ir_event.specs.types.declared.refusal.Refusal.TheVariants.{Memory, NoMark, TooManyMarks}
 use Rattle.std.specs.FinMap as finmap
 use Rattle.std.specs.Ordering.{nat_cmp}
-use Rattle.ir_tree.specs.Tree.{Op}
-use Rattle.ir_tree.specs.WellFormed.{Module}
-use Rattle.ir_store.specs.Calls.{Loaded}
+use Rattle.ir_event.specs.trees.Tree.{Op}
+use Rattle.ir_event.specs.trees.WellFormed.{Module}
+use Rattle.ir_event.specs.store.Calls.{Loaded}
 use Rattle.ir_event.specs.Listener.{Listener}
 use Rattle.ir_event.specs.Modules.{module_meaning}
 use Rattle.rewriter_desk.specs.Machine.{State, Mark, Step, Commit, Rollback, Done, Refused, IsAnswer, most_marks, marked, done, due, due_commit, due_rollback, refused}

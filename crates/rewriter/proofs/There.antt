@@ -1,18 +1,18 @@
 -- An operation that is in a tree is found there, and has a place exactly where it isn't the root.
 use Rattle.std.proofs.Common.{◌≡◌, ◌∙◌, sym, ap, ℕ, List, [], ◌∷◌, Bool, true, false, eqb, eqb-true, not, refl, inl, inr, Option, Some, None}
 use Rattle.std.specs.Prelude.{is_some}
-use Rattle.ir_types.specs.declared.refusal.Refusal.{Refusal}
-use Rattle.ir_types.specs.declared.refusal.Refusal.TheVariants.{NoSuchOp, IsRoot, HasUses}
-use Rattle.ir_tree.specs.declared.place.Place.{Place}
-use Rattle.ir_tree.specs.Tree.{OpOf, head}
-use Rattle.ir_tree.specs.Ids.{HasDistinctIds, find, has_id}
-use Rattle.ir_tree.specs.Places.{place_of}
-use Rattle.ir_tree_laws.specs.Reasons.{unless, unused_outside}
-use Rattle.ir_tree_laws.specs.Stands.{StandOf, place_in}
-use Rattle.ir_tree_laws.proofs.Members.{stand, itself, stand_found, same_stand}
-use Rattle.ir_tree_laws.proofs.Around.{present_stand, member_of_place}
-use Rattle.ir_tree_laws.proofs.Listed.{bool_cases}
-use Rattle.ir_tree_laws.proofs.Shift.{Inner, inner_of, inner_place}
+use Rattle.ir_event.specs.types.declared.refusal.Refusal.{Refusal}
+use Rattle.ir_event.specs.types.declared.refusal.Refusal.TheVariants.{NoSuchOp, IsRoot, HasUses}
+use Rattle.ir_event.specs.trees.declared.place.Place.{Place}
+use Rattle.ir_event.specs.trees.Tree.{OpOf, head}
+use Rattle.ir_event.specs.trees.Ids.{HasDistinctIds, find, has_id}
+use Rattle.ir_event.specs.trees.Places.{place_of}
+use Rattle.ir_event.specs.tree_laws.Reasons.{unless, unused_outside}
+use Rattle.ir_event.specs.tree_laws.Stands.{StandOf, place_in}
+use Rattle.ir_event.proofs.of_tree_laws.Members.{stand, itself, stand_found, same_stand}
+use Rattle.ir_event.proofs.of_tree_laws.Around.{present_stand, member_of_place}
+use Rattle.ir_event.proofs.of_tree_laws.Listed.{bool_cases}
+use Rattle.ir_event.proofs.of_tree_laws.Shift.{Inner, inner_of, inner_place}
 use Rattle.rewriter_desk.specs.Edits.{erase_reason}
 
 module _ {N T A : Type 0} (x : ℕ) (t : OpOf N T A) (d : HasDistinctIds t) (known : has_id x t ≡ true) where

@@ -1,13 +1,13 @@
 -- Events that are made one after another, and what they come to.
 use Rattle.std.specs.Prelude.{OnOk, OnErr}
 use Rattle.std.proofs.Common.{◌≡◌, ◌≢◌, ◌∙◌, sym, ap, subst, refl, ◌⊎◌, inl, inr, ℕ, List, [], ◌∷◌, ◌++◌, Bool, true, false, Option, Some, None, Result, Ok, Err, ◌↔◌, IsTrue, length, append-nil}
-use Rattle.ir_types.specs.Things.{Things}
-use Rattle.ir_types.specs.Sound.{Holds}
-use Rattle.ir_types.specs.declared.refusal.Refusal.{Refusal}
-use Rattle.ir_types.specs.declared.refusal.Refusal.TheVariants.{Memory}
-use Rattle.ir_tree.specs.Meaning.{isolated_in}
-use Rattle.ir_tree.specs.WellFormed.{IsWellFormed, Module as Numbered}
-use Rattle.ir_store.specs.Stored.{Stored}
+use Rattle.ir_event.specs.types.Things.{Things}
+use Rattle.ir_event.specs.types.Sound.{Holds}
+use Rattle.ir_event.specs.types.declared.refusal.Refusal.{Refusal}
+use Rattle.ir_event.specs.types.declared.refusal.Refusal.TheVariants.{Memory}
+use Rattle.ir_event.specs.trees.Meaning.{isolated_in}
+use Rattle.ir_event.specs.trees.WellFormed.{IsWellFormed, Module as Numbered}
+use Rattle.ir_event.specs.store.Stored.{Stored}
 use Rattle.ir_event.specs.declared.event.Event.{Event}
 use Rattle.ir_event.specs.Listener.{Listener}
 use Rattle.ir_event.specs.Modules.{Module, module_meaning}

@@ -1,12 +1,12 @@
 -- Listeners that were told of what led from one bench to another.
 use Rattle.std.proofs.Common.{◌≡◌, sym, ap, subst, refl, List, [], ◌∷◌, ◌++◌, inl}
 use Rattle.std.specs.Prelude.{option_map}
-use Rattle.ir_types.specs.Things.{Things, Grows}
-use Rattle.ir_types.specs.Sound.{Holds}
-use Rattle.ir_types.proofs.Growth.{grows_refl, grows_trans}
-use Rattle.ir_tree.specs.Meaning.{meaning as op_meaning}
-use Rattle.ir_store.specs.Nodes.{node_of}
-use Rattle.ir_store.specs.Stored.{Stored, known}
+use Rattle.ir_event.specs.types.Things.{Things, Grows}
+use Rattle.ir_event.specs.types.Sound.{Holds}
+use Rattle.ir_event.proofs.of_types.Growth.{grows_refl, grows_trans}
+use Rattle.ir_event.specs.trees.Meaning.{meaning as op_meaning}
+use Rattle.ir_event.specs.store.Nodes.{node_of}
+use Rattle.ir_event.specs.store.Stored.{Stored, known}
 use Rattle.ir_event.specs.declared.event.Event.{Event}
 use Rattle.ir_event.specs.declared.world.World.{World}
 use Rattle.ir_event.specs.Modules.{Module, module_meaning, things_in, module_in, shown_in}

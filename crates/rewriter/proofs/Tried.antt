@@ -1,17 +1,17 @@
 -- Headers that are made one after another, until one is refused.
 use Rattle.std.proofs.Common.{◌≡◌, ◌∙◌, sym, ap, refl, ◌⊎◌, inl, inr, ℕ, ◌+◌, ◌<◌, List, [], ◌∷◌, ◌++◌, length, get_or, take, drop, true, Some}
 use Rattle.std.proofs.lemmas.List.{take-append-drop, take_more}
-use Rattle.ir_types.specs.Things.{Things}
-use Rattle.ir_types.specs.Sound.{Holds}
-use Rattle.ir_types.specs.declared.refusal.Refusal.{Refusal}
-use Rattle.ir_types.specs.declared.refusal.Refusal.TheVariants.{Memory}
-use Rattle.ir_tree.specs.declared.place.Place.{Place}
-use Rattle.ir_tree.specs.Tree.{Op, regions}
-use Rattle.ir_tree.specs.Meaning.{IsSoundIn, isolated_in}
-use Rattle.ir_tree.specs.WellFormed.{Module}
-use Rattle.ir_tree.proofs.Steps.{next_left}
-use Rattle.ir_tree_laws.specs.Reasons.{hold_none, put_reason}
-use Rattle.ir_store.specs.Calls.{after_put}
+use Rattle.ir_event.specs.types.Things.{Things}
+use Rattle.ir_event.specs.types.Sound.{Holds}
+use Rattle.ir_event.specs.types.declared.refusal.Refusal.{Refusal}
+use Rattle.ir_event.specs.types.declared.refusal.Refusal.TheVariants.{Memory}
+use Rattle.ir_event.specs.trees.declared.place.Place.{Place}
+use Rattle.ir_event.specs.trees.Tree.{Op, regions}
+use Rattle.ir_event.specs.trees.Meaning.{IsSoundIn, isolated_in}
+use Rattle.ir_event.specs.trees.WellFormed.{Module}
+use Rattle.ir_event.proofs.of_trees.Steps.{next_left}
+use Rattle.ir_event.specs.tree_laws.Reasons.{hold_none, put_reason}
+use Rattle.ir_event.specs.store.Calls.{after_put}
 use Rattle.ir_event.specs.Listener.{Listener}
 use Rattle.rewriter_desk.specs.Contents.{tests_in}
 use Rattle.rewriter_desk.specs.Edits.{Make, TestsOf, edited_by}

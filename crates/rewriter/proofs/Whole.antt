@@ -1,20 +1,20 @@
 -- An operation that is inserted whole, or not at all.
 use Rattle.std.specs.Prelude.{nat_le}
 use Rattle.std.proofs.Common.{◌≡◌, ◌≢◌, ◌∙◌, sym, ap, subst, refl, ◌⊎◌, inl, inr, ℕ, ◌+◌, List, [], ◌∷◌, Bool, true, false, Option, Some, None, IsTrue}
-use Rattle.ir_types.specs.Things.{Things}
-use Rattle.ir_types.specs.Sound.{Holds}
-use Rattle.ir_types.specs.Reasons.{first_reason}
-use Rattle.ir_types.specs.declared.refusal.Refusal.{Refusal}
-use Rattle.ir_types.specs.declared.refusal.Refusal.TheVariants.{Memory, NoSuchOp, NotVisible, NoSuchIndex, Full, IdsExhausted, TooDeepHere}
-use Rattle.ir_tree.specs.declared.place.Place.{Place}
-use Rattle.ir_tree.specs.Tree.{Op, op, head}
-use Rattle.ir_tree.specs.Ids.{IsNumberedFrom, has_id, op_count}
-use Rattle.ir_tree.specs.Limits.{depth, every, most_ops, most_next, op_fits}
-use Rattle.ir_tree.specs.Meaning.{isolated_in, meaning}
-use Rattle.ir_tree.specs.Places.{put}
-use Rattle.ir_tree.specs.Sites.{operands_visible}
-use Rattle.ir_tree_laws.specs.Reads.{around}
-use Rattle.ir_tree_laws.specs.Reasons.{unless, has_place, fits_around}
+use Rattle.ir_event.specs.types.Things.{Things}
+use Rattle.ir_event.specs.types.Sound.{Holds}
+use Rattle.ir_event.specs.types.Reasons.{first_reason}
+use Rattle.ir_event.specs.types.declared.refusal.Refusal.{Refusal}
+use Rattle.ir_event.specs.types.declared.refusal.Refusal.TheVariants.{Memory, NoSuchOp, NotVisible, NoSuchIndex, Full, IdsExhausted, TooDeepHere}
+use Rattle.ir_event.specs.trees.declared.place.Place.{Place}
+use Rattle.ir_event.specs.trees.Tree.{Op, op, head}
+use Rattle.ir_event.specs.trees.Ids.{IsNumberedFrom, has_id, op_count}
+use Rattle.ir_event.specs.trees.Limits.{depth, every, most_ops, most_next, op_fits}
+use Rattle.ir_event.specs.trees.Meaning.{isolated_in, meaning}
+use Rattle.ir_event.specs.trees.Places.{put}
+use Rattle.ir_event.specs.trees.Sites.{operands_visible}
+use Rattle.ir_event.specs.tree_laws.Reads.{around}
+use Rattle.ir_event.specs.tree_laws.Reasons.{unless, has_place, fits_around}
 use Rattle.ir_event.specs.Listener.{Listener}
 use Rattle.ir_event.specs.Modules.{Module}
 use Rattle.rewriter_desk.specs.Contents.{Edit, NumberedEdit, edit_meaning, edit_reason, tests_in}

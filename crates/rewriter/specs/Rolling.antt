@@ -1,6 +1,6 @@
 -- What marks that are dropped, and events that are undone, leave of a desk, and what is given up behind them.
 use Rattle.std.specs.Prelude.{◌≡◌, ◌≢◌, ◌≤◌, ℕ, [], length, take, drop, Bool, if◌then◌else◌}
-use Rattle.ir_store.specs.Calls.{Releases}
+use Rattle.ir_event.specs.store.Calls.{Releases}
 use Rattle.rewriter_desk.specs.Journals.{IsTidy, before}
 use Rattle.rewriter_desk.specs.Held.{Held, module_at, module_held, open_marks}
 use Rattle.rewriter_desk.specs.Marked.{IsNewest, kept}

@@ -1,13 +1,13 @@
 -- Headers that are made one after another, until one is refused.
 use Rattle.std.specs.Prelude.{◌≡◌, ℕ, List, ◌∷◌, ◌++◌, true, Some, ◌⊎◌, Result, Ok, Err}
-use Rattle.ir_types.specs.Things.{Things}
-use Rattle.ir_types.specs.declared.refusal.Refusal.{Refusal}
-use Rattle.ir_types.specs.declared.refusal.Refusal.TheVariants.{Memory}
-use Rattle.ir_tree.specs.declared.place.Place.{Place}
-use Rattle.ir_tree.specs.Tree.{Op, regions}
-use Rattle.ir_tree.specs.Meaning.{IsSoundIn}
-use Rattle.ir_tree.specs.WellFormed.{Module}
-use Rattle.ir_tree_laws.specs.Reasons.{hold_none, put_reason}
+use Rattle.ir_event.specs.types.Things.{Things}
+use Rattle.ir_event.specs.types.declared.refusal.Refusal.{Refusal}
+use Rattle.ir_event.specs.types.declared.refusal.Refusal.TheVariants.{Memory}
+use Rattle.ir_event.specs.trees.declared.place.Place.{Place}
+use Rattle.ir_event.specs.trees.Tree.{Op, regions}
+use Rattle.ir_event.specs.trees.Meaning.{IsSoundIn}
+use Rattle.ir_event.specs.trees.WellFormed.{Module}
+use Rattle.ir_event.specs.tree_laws.Reasons.{hold_none, put_reason}
 use Rattle.rewriter_desk.specs.Edits.{TestsOf}
 use Rattle.rewriter_laws.specs.Inserting.{all_made}
 

@@ -1,7 +1,7 @@
 -- Edits of several events: what stays while they are made, and how the mark is closed under which they are.
 use Rattle.std.specs.Prelude.{◌≡◌, ◌≢◌, List, [], ◌∷◌, Bool, if◌then◌else◌, Result, Ok, Err}
-use Rattle.ir_types.specs.declared.refusal.Refusal.{Refusal}
-use Rattle.ir_types.specs.declared.refusal.Refusal.TheVariants.{Memory}
+use Rattle.ir_event.specs.types.declared.refusal.Refusal.{Refusal}
+use Rattle.ir_event.specs.types.declared.refusal.Refusal.TheVariants.{Memory}
 use Rattle.ir_event.specs.Listener.{Listener}
 use Rattle.rewriter_desk.specs.Machine.{OpenMark}
 use Rattle.rewriter.specs.Held.{Held, module_held, open_marks}

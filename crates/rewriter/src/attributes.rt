@@ -1,12 +1,12 @@
 //! Entries of operations are set and taken out, in the dictionary in which their key belongs.
 ghost use Rattle.std.specs.Prelude.{◌≡◌, is_some, None, Some, OnOk, OnErr, IfSome};
-ghost use Rattle.ir_types.specs.Things.{IsName, IsAttr};
-ghost use Rattle.ir_tree.specs.Edits.{entry_at};
-ghost use Rattle.ir_tree.specs.Meaning.{key_before_in};
-ghost use Rattle.ir_store.specs.Calls.{after_entry};
+ghost use Rattle.ir_event.specs.types.Things.{IsName, IsAttr};
+ghost use Rattle.ir_event.specs.trees.Edits.{entry_at};
+ghost use Rattle.ir_event.specs.trees.Meaning.{key_before_in};
+ghost use Rattle.ir_event.specs.store.Calls.{after_entry};
 ghost use Rattle.rewriter_desk.specs.Contents.{edit_meaning, tests_in};
 ghost use Rattle.rewriter_desk.specs.Edits.{DropAttr, SetAttr, part_for};
-ghost use Rattle.ir_tree_laws.specs.Reasons.{set_entry_reason};
+ghost use Rattle.ir_event.specs.tree_laws.Reasons.{set_entry_reason};
 ghost use Rattle.rewriter_desk.specs.Machine.{Do};
 ghost use Rattle.rewriter_desk.specs.Moves.{IsAnswered};
 ghost use Rattle.rewriter.specs.Benched.{Does, Keeps, Led, Made, reply_of};
@@ -14,12 +14,12 @@ ghost use Rattle.rewriter.specs.Benched.{Does, Keeps, Led, Made, reply_of};
 use crate::bench::Bench;
 use crate::marks::settle;
 use ir_event::analysis::Analysis;
-use ir_store::store::Store;
-use ir_tree::place::Part;
-use ir_tree::sound::comes_before;
-use ir_types::context::Context;
-use ir_types::ids::{AttrId, NameId, OpId};
-use ir_types::refusal::Refusal;
+use ir_event::store::store::Store;
+use ir_event::trees::place::Part;
+use ir_event::trees::sound::comes_before;
+use ir_event::types::context::Context;
+use ir_event::types::ids::{AttrId, NameId, OpId};
+use ir_event::types::refusal::Refusal;
 
 /// Whether one of some entries is at a key.
 fn has_entry(ctx: &Context, entries: &[(NameId, AttrId)], key: NameId) -> bool

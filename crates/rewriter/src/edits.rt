@@ -1,10 +1,11 @@
 //! Edits that are one event each, of which the listeners are told.
 ghost use Rattle.std.specs.Prelude.{◌≡◌, ◌≢◌, [], Some, true, IfOk, OnOk, OnErr};
-ghost use Rattle.ir_types.specs.Terms.{name_term};
-ghost use Rattle.ir_types.specs.Words.{is_table};
-ghost use Rattle.ir_tree.specs.Meaning.{IsSoundIn, isolated_in};
-ghost use Rattle.ir_tree_laws.specs.Reasons.{holds_none, put_reason, set_operand_reason, shift_reason, take_reason};
-ghost use Rattle.ir_store.specs.Calls.{after_operand, after_put, after_shift, after_take};
+ghost use Rattle.ir_event.specs.types.Terms.{name_term};
+ghost use Rattle.ir_event.specs.types.Words.{is_table};
+ghost use Rattle.ir_event.specs.trees.Meaning.{IsSoundIn, isolated_in};
+ghost use Rattle.ir_event.specs.tree_laws.Reasons.{holds_none, put_reason};
+ghost use Rattle.ir_event.specs.tree_laws.Reasons.{set_operand_reason, shift_reason, take_reason};
+ghost use Rattle.ir_event.specs.store.Calls.{after_operand, after_put, after_shift, after_take};
 ghost use Rattle.rewriter_desk.specs.Contents.{edit_meaning};
 ghost use Rattle.rewriter_desk.specs.Edits.{Make, Move, SetOperand};
 ghost use Rattle.rewriter_desk.specs.Machine.{Do};
@@ -14,11 +15,11 @@ ghost use Rattle.rewriter.specs.Benched.{Does, Keeps, Led, Made, id_reply_of, re
 use crate::bench::Bench;
 use crate::marks::settle;
 use ir_event::analysis::Analysis;
-use ir_tree::place::Place;
-use ir_tree::tree::TreeOp;
-use ir_tree::value::Value;
-use ir_types::ids::OpId;
-use ir_types::refusal::Refusal;
+use ir_event::trees::place::Place;
+use ir_event::trees::tree::TreeOp;
+use ir_event::trees::value::Value;
+use ir_event::types::ids::OpId;
+use ir_event::types::refusal::Refusal;
 
 impl<L: Analysis> Bench<L> {
     /// Puts an operation at a place of the module: one like a header, whose blocks hold none and whose id isn't looked

@@ -11,8 +11,8 @@ use crate::faults::erase_fault;
 use crate::finish::finish;
 use crate::laws::led_benches_are_kept;
 use ir_event::analysis::Analysis;
-use ir_types::ids::OpId;
-use ir_types::refusal::Refusal;
+use ir_event::types::ids::OpId;
+use ir_event::types::refusal::Refusal;
 use rewriter_laws::turns::erasing_by_last;
 
 /// Takes an operation and those inside it, the last in pre-order first, where nothing stands against it.

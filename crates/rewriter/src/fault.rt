@@ -1,19 +1,19 @@
 //! Why an operation, with what is inside it, isn't inserted, before anything is said of what its operations see.
 ghost use Rattle.std.specs.Prelude.{◌≡◌, ◌+◌, ◌<◌, ◌-◌, ◌^◌, nat_le, true, ◌&&◌};
-ghost use Rattle.ir_tree.specs.Ids.{has_id, op_count as count_of};
-ghost use Rattle.ir_tree.specs.Limits.{depth as depth_of, every, most_ops, op_fits};
-ghost use Rattle.ir_tree_laws.specs.Reads.{around};
-ghost use Rattle.ir_tree_laws.specs.Reasons.{fits_around};
+ghost use Rattle.ir_event.specs.trees.Ids.{has_id, op_count as count_of};
+ghost use Rattle.ir_event.specs.trees.Limits.{depth as depth_of, every, most_ops, op_fits};
+ghost use Rattle.ir_event.specs.tree_laws.Reads.{around};
+ghost use Rattle.ir_event.specs.tree_laws.Reasons.{fits_around};
 ghost use Rattle.rewriter_laws.specs.Inserting.{insert_fault as fault_of};
 
+use ir_event::store::store::Store;
+use ir_event::trees::count::{depth, op_count};
+use ir_event::trees::limits::{MOST_OPS, counts_are_within};
+use ir_event::trees::place::Place;
+use ir_event::trees::tree::TreeOp;
+use ir_event::types::ids::OpId;
+use ir_event::types::refusal::Refusal;
 use ir_event::world::World;
-use ir_store::store::Store;
-use ir_tree::count::{depth, op_count};
-use ir_tree::limits::{MOST_OPS, counts_are_within};
-use ir_tree::place::Place;
-use ir_tree::tree::TreeOp;
-use ir_types::ids::OpId;
-use ir_types::refusal::Refusal;
 
 /// Whether the operations of a tree, beside a number of others, are at most so many.
 fn fits_beside(others: u64, tree: &TreeOp, most: u64) -> bool

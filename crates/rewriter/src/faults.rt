@@ -3,10 +3,10 @@ ghost use Rattle.std.specs.Prelude.{◌≡◌};
 ghost use Rattle.rewriter_desk.specs.Contents.{tests_in};
 ghost use Rattle.rewriter_desk.specs.Edits.{Erase, Replace, reason_by};
 
+use ir_event::trees::value::Value;
+use ir_event::types::ids::OpId;
+use ir_event::types::refusal::Refusal;
 use ir_event::world::World;
-use ir_tree::value::Value;
-use ir_types::ids::OpId;
-use ir_types::refusal::Refusal;
 
 /// Why a value can't be replaced by another, if it can't.
 pub fn replace_fault(world: &World, old: &Value, new: &Value) -> Option<Refusal>

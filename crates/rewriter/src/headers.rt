@@ -1,13 +1,13 @@
 //! The headers of an operation: it and those inside it, each without what is inside it, with its place.
 ghost use Rattle.std.specs.Prelude.{◌≡◌, ◌++◌, IfOk, OnOk, map};
-ghost use Rattle.ir_tree.specs.Tree.{regions_of};
-ghost use Rattle.ir_tree.specs.View.{region_view};
+ghost use Rattle.ir_event.specs.trees.Tree.{regions_of};
+ghost use Rattle.ir_event.specs.trees.View.{region_view};
 ghost use Rattle.rewriter_laws.specs.Inserting.{bare, bare_region as bare_one, bare_regions as bare_all};
 ghost use Rattle.rewriter_laws.specs.Inserting.{end_of as last_place, headers, region_headers, regions_headers};
 
-use ir_tree::place::Place;
-use ir_tree::tree::{TreeOp, TreeRegion};
-use ir_types::ids::OpId;
+use ir_event::trees::place::Place;
+use ir_event::trees::tree::{TreeOp, TreeRegion};
+use ir_event::types::ids::OpId;
 use std::alloc::{AllocError, Global};
 
 /// A copy of a region without the operations in its block.

@@ -1,7 +1,7 @@
 //! Inserting an operation with what is inside it.
 ghost use Rattle.std.specs.Prelude.{◌≡◌};
-ghost use Rattle.ir_tree.specs.Ids.{IsNumberedFrom};
-ghost use Rattle.ir_tree.specs.Meaning.{IsSoundIn};
+ghost use Rattle.ir_event.specs.trees.Ids.{IsNumberedFrom};
+ghost use Rattle.ir_event.specs.trees.Meaning.{IsSoundIn};
 ghost use Rattle.rewriter_desk.specs.Contents.{edit_meaning};
 ghost use Rattle.rewriter_desk.specs.Edits.{Insert};
 ghost use Rattle.rewriter_desk.specs.Machine.{Do};
@@ -13,10 +13,10 @@ use crate::finish::finish;
 use crate::laws::led_benches_are_kept;
 use crate::making::make_all;
 use ir_event::analysis::Analysis;
-use ir_tree::place::Place;
-use ir_tree::tree::TreeOp;
-use ir_types::ids::OpId;
-use ir_types::refusal::Refusal;
+use ir_event::trees::place::Place;
+use ir_event::trees::tree::TreeOp;
+use ir_event::types::ids::OpId;
+use ir_event::types::refusal::Refusal;
 use rewriter_laws::turns::inserts_are_tried;
 
 impl<L: Analysis> Bench<L> {

@@ -1,6 +1,6 @@
 //! Laws of benches. Each is a function that does nothing: its contract is the law.
 ghost use Rattle.std.specs.Prelude.{List, [], ◌++◌};
-ghost use Rattle.ir_types.specs.Sound.{Holds};
+ghost use Rattle.ir_event.specs.types.Sound.{Holds};
 ghost use Rattle.ir_event.specs.declared.event.Event.{Event as Change};
 ghost use Rattle.rewriter_desk.specs.Panels.{AllAge, all_shown};
 ghost use Rattle.rewriter.specs.Benched.{Benched, Heard, IsKept, Led};

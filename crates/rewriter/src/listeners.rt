@@ -13,7 +13,7 @@ ghost use Rattle.rewriter.specs.Benched.{Does, IsKept, attach_reply_of, reply_of
 use crate::bench::Bench;
 use ir_event::analysis::Analysis;
 use ir_event::row::{Kind, Row};
-use ir_types::refusal::Refusal;
+use ir_event::types::refusal::Refusal;
 
 impl<L: Analysis> Bench<L> {
     /// Begins a listener and adds it last, or hands it back.

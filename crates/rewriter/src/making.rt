@@ -1,8 +1,9 @@
 //! The headers of an operation made one after another.
 ghost use Rattle.std.specs.Prelude.{◌≡◌, ◌≢◌, ◌⊎◌, None, OnOk};
-ghost use Rattle.ir_types.specs.declared.refusal.Refusal.TheVariants.{Memory as WantOfMemory, NotVisible as Unseen};
-ghost use Rattle.ir_tree.specs.Ids.{IsNumberedFrom};
-ghost use Rattle.ir_tree.specs.Meaning.{IsSoundIn};
+ghost use Rattle.ir_event.specs.types.declared.refusal.Refusal.TheVariants.{Memory as WantOfMemory};
+ghost use Rattle.ir_event.specs.types.declared.refusal.Refusal.TheVariants.{NotVisible as Unseen};
+ghost use Rattle.ir_event.specs.trees.Ids.{IsNumberedFrom};
+ghost use Rattle.ir_event.specs.trees.Meaning.{IsSoundIn};
 ghost use Rattle.rewriter_desk.specs.Contents.{tests_in};
 ghost use Rattle.rewriter_desk.specs.Edits.{Insert, edited_by, reason_by};
 ghost use Rattle.rewriter.specs.Moves.{IsAnswered};
@@ -14,9 +15,9 @@ use crate::bench::Bench;
 use crate::headers::headers_of;
 use crate::laws::led_benches_are_kept;
 use ir_event::analysis::Analysis;
-use ir_tree::place::Place;
-use ir_tree::tree::TreeOp;
-use ir_types::refusal::Refusal;
+use ir_event::trees::place::Place;
+use ir_event::trees::tree::TreeOp;
+use ir_event::types::refusal::Refusal;
 use rewriter_laws::laws::{headers_are_bare, inserting_is_making};
 use rewriter_laws::turns::inserts_are_tried;
 

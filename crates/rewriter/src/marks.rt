@@ -10,7 +10,7 @@ ghost use Rattle.rewriter.specs.Rolling.{Dropped, GivenUp, Settled, UndoneTo};
 use crate::bench::Bench;
 use ir_event::analysis::Analysis;
 use ir_event::panel::Panel;
-use ir_types::refusal::Refusal;
+use ir_event::types::refusal::Refusal;
 use rewriter_desk::desk::Desk;
 
 /// Undoes events until the journal is so long, the newest first, and tells the listeners the inverse of each.

@@ -1,6 +1,6 @@
 //! Replacing a value wherever it is used.
 ghost use Rattle.std.specs.Prelude.{◌≡◌, false, None, OnOk};
-ghost use Rattle.ir_tree.specs.Uses.{same_value};
+ghost use Rattle.ir_event.specs.trees.Uses.{same_value};
 ghost use Rattle.rewriter_desk.specs.Contents.{edit_meaning, tests_in};
 ghost use Rattle.rewriter_desk.specs.Edits.{Replace, edited_by, reason_by};
 ghost use Rattle.rewriter_desk.specs.Machine.{Do};
@@ -12,9 +12,9 @@ use crate::faults::replace_fault;
 use crate::finish::finish;
 use crate::laws::led_benches_are_kept;
 use ir_event::analysis::Analysis;
-use ir_tree::uses::is_same;
-use ir_tree::value::Value;
-use ir_types::refusal::Refusal;
+use ir_event::trees::uses::is_same;
+use ir_event::trees::value::Value;
+use ir_event::types::refusal::Refusal;
 use rewriter_laws::turns::replacing_by_uses;
 
 /// Sets a value as each use of another, which differs from it, where nothing stands against it.

@@ -1,10 +1,10 @@
 //! Texts that are read beside the module of a bench.
 ghost use Rattle.std.specs.Prelude.{◌≡◌, ℕ, IfErr, IfOk, Err};
-ghost use Rattle.ir_types.specs.Things.{IsAttr};
-ghost use Rattle.ir_types.specs.Terms.{attr_term};
-ghost use Rattle.ir_tree.specs.Ids.{IsNumberedFrom};
-ghost use Rattle.ir_tree.specs.Meaning.{IsSoundIn, meaning};
-ghost use Rattle.ir_types.specs.declared.refusal.Refusal.{Refusal as Reason};
+ghost use Rattle.ir_event.specs.types.Things.{IsAttr};
+ghost use Rattle.ir_event.specs.types.Terms.{attr_term};
+ghost use Rattle.ir_event.specs.trees.Ids.{IsNumberedFrom};
+ghost use Rattle.ir_event.specs.trees.Meaning.{IsSoundIn, meaning};
+ghost use Rattle.ir_event.specs.types.declared.refusal.Refusal.{Refusal as Reason};
 ghost use Rattle.rewriter_desk.specs.Public.{IsFull, IsOpTold, IsTold};
 ghost use Rattle.rewriter_desk.specs.Public.{IsNoAttr};
 ghost use Rattle.rewriter_desk.specs.Public.{SpellsAttr};
@@ -16,8 +16,8 @@ ghost use Rattle.rewriter.specs.Benched.{Led};
 
 use crate::bench::Bench;
 use ir_event::analysis::Analysis;
-use ir_tree::tree::TreeOp;
-use ir_types::ids::AttrId;
+use ir_event::trees::tree::TreeOp;
+use ir_event::types::ids::AttrId;
 use rewriter_desk::ReadError;
 
 impl<L: Analysis> Bench<L> {

@@ -1,18 +1,18 @@
 //! Worlds and benches of the modules that texts spell, and the texts of worlds.
 ghost use Rattle.std.specs.Prelude.{◌≡◌, ◌<◌, [], IsTrue, IfOk};
 ghost use Rattle.std.specs.List.{All};
-ghost use Rattle.ir_tree.specs.Ids.{HasDistinctIds, ids};
+ghost use Rattle.ir_event.specs.trees.Ids.{HasDistinctIds, ids};
 
 use dialects_int::tables::registry;
 use ir_event::analysis::Analysis;
+use ir_event::trees::count::op_count;
+use ir_event::trees::find::list_ids;
+use ir_event::trees::numbered::distinct;
+use ir_event::trees::tree::TreeOp;
+use ir_event::types::refusal::Refusal;
 use ir_event::world::World;
 use ir_text::printer::print;
 use ir_text::reader::read_new;
-use ir_tree::count::op_count;
-use ir_tree::find::list_ids;
-use ir_tree::numbered::distinct;
-use ir_tree::tree::TreeOp;
-use ir_types::refusal::Refusal;
 use rewriter::Bench;
 use std::alloc::{AllocError, Global};
 

@@ -1,15 +1,15 @@
 -- Laws of journals.
 use Rattle.std.proofs.Common.{◌≡◌, ℕ, ◌≤◌, List, [], ◌∷◌, ◌++◌, drop, Option, Some, None, true}
-use Rattle.ir_types.specs.Sound.{IsSound}
-use Rattle.ir_types.specs.Things.{Things, Grows}
-use Rattle.ir_tree.specs.declared.place.Part.{Part}
-use Rattle.ir_tree.specs.declared.place.Place.{Place}
-use Rattle.ir_tree.specs.declared.value.Value.{Value}
-use Rattle.ir_tree.specs.Tree.{Op}
-use Rattle.ir_tree.specs.Meaning.{IsSoundIn, isolated_in, key_before_in}
-use Rattle.ir_tree_laws.specs.Reasons.{holds_none, set_entry_reason}
-use Rattle.ir_store.specs.Calls.{Releases, after_entry, after_operand, after_put, after_shift, after_take}
-use Rattle.ir_store.specs.Stored.{Stored}
+use Rattle.ir_event.specs.types.Sound.{IsSound}
+use Rattle.ir_event.specs.types.Things.{Things, Grows}
+use Rattle.ir_event.specs.trees.declared.place.Part.{Part}
+use Rattle.ir_event.specs.trees.declared.place.Place.{Place}
+use Rattle.ir_event.specs.trees.declared.value.Value.{Value}
+use Rattle.ir_event.specs.trees.Tree.{Op}
+use Rattle.ir_event.specs.trees.Meaning.{IsSoundIn, isolated_in, key_before_in}
+use Rattle.ir_event.specs.tree_laws.Reasons.{holds_none, set_entry_reason}
+use Rattle.ir_event.specs.store.Calls.{Releases, after_entry, after_operand, after_put, after_shift, after_take}
+use Rattle.ir_event.specs.store.Stored.{Stored}
 use Rattle.ir_event.specs.declared.event.Event.{Event}
 use Rattle.ir_event.specs.Modules.{Module, module_meaning}
 use Rattle.ir_event.specs.Step.{IsOperandStep}

@@ -2,15 +2,15 @@
 use Rattle.std.proofs.Common.{◌≡◌, ◌∙◌, ap, sym, refl, ℕ, List, Option, Some, None, subst}
 use Rattle.std.specs.Prelude.{option_map, option_and_then, IfOk, IfSome, Result, Ok, Err}
 use Rattle.ir_text.specs.declared.error.ReadError.{ReadError}
-use Rattle.ir_types.specs.Things.{Things, IsType}
-use Rattle.ir_types.specs.Terms.{name_term, type_term, attr_term}
-use Rattle.ir_tree.specs.declared.value.Value.{Value}
-use Rattle.ir_tree.specs.Tree.{Op}
-use Rattle.ir_tree.specs.Ids.{IsNumberedFrom}
-use Rattle.ir_tree.specs.Meaning.{Operation, meaning}
-use Rattle.ir_tree.proofs.Mapped.{map_ids}
-use Rattle.ir_tree_laws.specs.Values.{type_of_value}
-use Rattle.ir_tree_laws.proofs.Contents.{map_type_of_value}
+use Rattle.ir_event.specs.types.Things.{Things, IsType}
+use Rattle.ir_event.specs.types.Terms.{name_term, type_term, attr_term}
+use Rattle.ir_event.specs.trees.declared.value.Value.{Value}
+use Rattle.ir_event.specs.trees.Tree.{Op}
+use Rattle.ir_event.specs.trees.Ids.{IsNumberedFrom}
+use Rattle.ir_event.specs.trees.Meaning.{Operation, meaning}
+use Rattle.ir_event.proofs.of_trees.Mapped.{map_ids}
+use Rattle.ir_event.specs.tree_laws.Values.{type_of_value}
+use Rattle.ir_event.proofs.of_tree_laws.Contents.{map_type_of_value}
 use Rattle.ir_event.specs.declared.world.World.{World}
 use Rattle.ir_event.specs.Modules.{module_in}
 use Rattle.ir_text.specs.Public.{IsOnly, IsNone}

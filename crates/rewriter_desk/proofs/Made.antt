@@ -1,17 +1,17 @@
 -- Edits that were made or refused.
 use Rattle.std.proofs.Common.{◌≡◌, ℕ, List, sym, subst, ap, Option, Some, None, true, inl, inr}
 use Rattle.std.specs.Prelude.{Result, Ok, Err, IfOk, OnOk, OnErr, MatchResult}
-use Rattle.ir_types.specs.declared.refusal.Refusal.{Refusal}
-use Rattle.ir_types.specs.Reasons.{IsRefusedFor}
-use Rattle.ir_types.specs.Things.{Things}
-use Rattle.ir_tree.specs.declared.place.Part.{Part}
-use Rattle.ir_tree.specs.declared.place.Place.{Place}
-use Rattle.ir_tree.specs.declared.value.Value.{Value}
-use Rattle.ir_tree.specs.Tree.{Op}
-use Rattle.ir_tree.specs.Meaning.{IsSoundIn, key_before_in}
-use Rattle.ir_tree_laws.specs.Reasons.{holds_none, set_entry_reason}
-use Rattle.ir_store.specs.Calls.{after_entry, after_operand, after_put, after_shift, after_take}
-use Rattle.ir_store.specs.Stored.{Stored}
+use Rattle.ir_event.specs.types.declared.refusal.Refusal.{Refusal}
+use Rattle.ir_event.specs.types.Reasons.{IsRefusedFor}
+use Rattle.ir_event.specs.types.Things.{Things}
+use Rattle.ir_event.specs.trees.declared.place.Part.{Part}
+use Rattle.ir_event.specs.trees.declared.place.Place.{Place}
+use Rattle.ir_event.specs.trees.declared.value.Value.{Value}
+use Rattle.ir_event.specs.trees.Tree.{Op}
+use Rattle.ir_event.specs.trees.Meaning.{IsSoundIn, key_before_in}
+use Rattle.ir_event.specs.tree_laws.Reasons.{holds_none, set_entry_reason}
+use Rattle.ir_event.specs.store.Calls.{after_entry, after_operand, after_put, after_shift, after_take}
+use Rattle.ir_event.specs.store.Stored.{Stored}
 use Rattle.ir_event.specs.declared.event.Event.{Event}
 use Rattle.ir_event.specs.Listener.{ShowsTaken}
 use Rattle.ir_event.specs.Modules.{Module, Node}

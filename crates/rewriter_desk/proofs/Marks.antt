@@ -2,15 +2,15 @@
 use Rattle.std.proofs.Common.{◌≡◌, Bool, ℕ, ◌+◌, ◌-◌, ◌≤◌, List, [], ◌∷◌, ◌++◌, length, take, drop, get_or, map, refl, sym, ap, ◌∙◌, arith}
 use Rattle.std.specs.Prelude.{reverse}
 use Rattle.std.proofs.lemmas.List.{map-append, reverse-append, take_more, take_all}
-use Rattle.ir_types.specs.Things.{Things}
-use Rattle.ir_store.specs.Stored.{Stored}
+use Rattle.ir_event.specs.types.Things.{Things}
+use Rattle.ir_event.specs.store.Stored.{Stored}
 use Rattle.ir_event.specs.declared.event.Event.{Event}
 use Rattle.rewriter_machine.specs.Machine.{OpenMark}
 use Rattle.rewriter_laws.specs.Journals.{IsJournal, before}
 use Rattle.rewriter_desk.specs.declared.mark.Mark.{Mark}
 use Rattle.rewriter_desk.specs.Held.{Held, IsGood, Rising, Within, module_held, open_mark, open_marks}
 use Rattle.rewriter_desk.specs.Marked.{Closed, IsNewest, kept, with_mark}
-use Rattle.ir_types.proofs.Truths.{drop_all}
+use Rattle.ir_event.proofs.of_types.Truths.{drop_all}
 
 pub within-more : (n p : ℕ) (ks : List Mark) → n ≤ p → Within n ks → Within p ks
 within-more n p [] le h = tt

@@ -8,14 +8,14 @@ use Rattle.std.proofs.lemmas.Bool.Decides.{nat_tests}
 use Rattle.std.proofs.lemmas.Cmp.{nat_cmp_total}
 use Rattle.std.proofs.lemmas.List.{drop-append-le}
 use Rattle.std.proofs.Math.Seq.{drop-nil}
-use Rattle.ir_types.specs.declared.refusal.Refusal.{Refusal}
-use Rattle.ir_types.specs.Sound.{IsSound}
-use Rattle.ir_types.specs.Things.{Things, Grows}
-use Rattle.ir_tree.specs.Ids.{find, has_id}
-use Rattle.ir_tree.specs.Tree.{Op}
-use Rattle.ir_tree.specs.WellFormed.{Module}
-use Rattle.ir_store.specs.Calls.{Releases, gone_left}
-use Rattle.ir_store.specs.Stored.{Gone, Stored, known, none_gone}
+use Rattle.ir_event.specs.types.declared.refusal.Refusal.{Refusal}
+use Rattle.ir_event.specs.types.Sound.{IsSound}
+use Rattle.ir_event.specs.types.Things.{Things, Grows}
+use Rattle.ir_event.specs.trees.Ids.{find, has_id}
+use Rattle.ir_event.specs.trees.Tree.{Op}
+use Rattle.ir_event.specs.trees.WellFormed.{Module}
+use Rattle.ir_event.specs.store.Calls.{Releases, gone_left}
+use Rattle.ir_event.specs.store.Stored.{Gone, Stored, known, none_gone}
 use Rattle.ir_event.specs.declared.event.Event.{Event}
 use Rattle.ir_event.proofs.Shown.{known_there, none_found}
 use Rattle.ir_event.specs.Listener.{ShowsTaken}

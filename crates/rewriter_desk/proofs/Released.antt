@@ -4,13 +4,13 @@ use Rattle.std.specs.Prelude.{nat_lt}
 use Rattle.std.specs.List.{All}
 use Rattle.std.specs.FinMap as finmap
 use Rattle.std.proofs.lemmas.Bool.{cases_Bool, cond-false, cond-true}
-use Rattle.ir_types.specs.Things.{Things}
-use Rattle.ir_tree.specs.Tree.{Op, op}
-use Rattle.ir_tree.specs.Ids.{ids}
-use Rattle.ir_tree.specs.Meaning.{IsSoundIn, isolated_in}
-use Rattle.ir_tree.specs.WellFormed.{IsWellFormed, Module}
-use Rattle.ir_store.specs.Stored.{Stored}
-use Rattle.ir_store.specs.Calls.{Releases}
+use Rattle.ir_event.specs.types.Things.{Things}
+use Rattle.ir_event.specs.trees.Tree.{Op, op}
+use Rattle.ir_event.specs.trees.Ids.{ids}
+use Rattle.ir_event.specs.trees.Meaning.{IsSoundIn, isolated_in}
+use Rattle.ir_event.specs.trees.WellFormed.{IsWellFormed, Module}
+use Rattle.ir_event.specs.store.Stored.{Stored}
+use Rattle.ir_event.specs.store.Calls.{Releases}
 use Rattle.ir_event.specs.Facts.{HeldIsSound}
 
 module _ (c : Things) (from : ℕ) (s u : Stored) (r : Releases from s u) where

@@ -1,9 +1,9 @@
 -- What a desk holds.
 use Rattle.std.specs.Prelude.{◌≡◌, ℕ, ◌≤◌, List, [], ◌∷◌, length, drop, map, reverse, Option, option_map}
-use Rattle.ir_types.specs.Things.{Things}
-use Rattle.ir_tree.specs.Meaning.{meaning}
-use Rattle.ir_store.specs.Nodes.{node_of}
-use Rattle.ir_store.specs.Stored.{Stored, known}
+use Rattle.ir_event.specs.types.Things.{Things}
+use Rattle.ir_event.specs.trees.Meaning.{meaning}
+use Rattle.ir_event.specs.store.Nodes.{node_of}
+use Rattle.ir_event.specs.store.Stored.{Stored, known}
 use Rattle.ir_event.specs.declared.event.Event.{Event}
 use Rattle.ir_event.specs.Modules.{Module, Node, module_meaning}
 use Rattle.rewriter_machine.specs.Machine.{OpenMark}

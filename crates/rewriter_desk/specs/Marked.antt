@@ -1,8 +1,8 @@
 -- Marks that are made and dropped.
 use Rattle.std.specs.Prelude.{◌≡◌, ℕ, ◌≤◌, nat_lt, List, [], ◌∷◌, ◌++◌, length, filter, Bool, true, false, Option, Some}
 use Rattle.std.specs.Prelude.{None, if◌then◌else◌}
-use Rattle.ir_types.specs.declared.refusal.Refusal.{Refusal}
-use Rattle.ir_types.specs.declared.refusal.Refusal.TheVariants.{TooManyMarks}
+use Rattle.ir_event.specs.types.declared.refusal.Refusal.{Refusal}
+use Rattle.ir_event.specs.types.declared.refusal.Refusal.TheVariants.{TooManyMarks}
 use Rattle.ir_event.specs.declared.event.Event.{Event}
 use Rattle.rewriter_machine.specs.Machine.{most_marks}
 use Rattle.rewriter_desk.specs.declared.mark.Mark.{Mark}

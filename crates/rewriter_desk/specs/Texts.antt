@@ -1,9 +1,9 @@
 -- Texts that are read beside a module, in a context that grows.
 use Rattle.std.specs.Prelude.{◌≡◌, ℕ, List, Option, option_map, option_and_then}
-use Rattle.ir_types.specs.Sound.{Holds}
-use Rattle.ir_types.specs.Things.{Grows}
-use Rattle.ir_tree.specs.Meaning.{Operation}
-use Rattle.ir_tree_laws.specs.Values.{type_of_value}
+use Rattle.ir_event.specs.types.Sound.{Holds}
+use Rattle.ir_event.specs.types.Things.{Grows}
+use Rattle.ir_event.specs.trees.Meaning.{Operation}
+use Rattle.ir_event.specs.tree_laws.Values.{type_of_value}
 use Rattle.ir_event.specs.declared.world.World.{World}
 use Rattle.ir_event.specs.Modules.{Module, module_in}
 use Rattle.ir_text.specs.Public.{value_named}

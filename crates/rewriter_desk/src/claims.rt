@@ -5,7 +5,7 @@ ghost use Rattle.rewriter_desk.specs.Moves.{noted_as, written};
 
 use crate::mark::Mark;
 use ir_event::event::Event;
-use ir_types::refusal::Refusal;
+use ir_event::types::refusal::Refusal;
 use std::alloc::AllocError;
 use std::slice::from_ref;
 

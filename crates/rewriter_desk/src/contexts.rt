@@ -1,14 +1,14 @@
 //! A desk whose context grows: its module stays what it is, and so do those of its marks.
 ghost use Rattle.std.specs.Prelude.{◌≡◌, true, None, IfOk, IsOk, OnErr};
-ghost use Rattle.ir_types.specs.Things.{Grows, TypeIsOf, AttrIsOf};
-ghost use Rattle.ir_types.specs.Interning.{with_name, with_type, with_attr, knows_name, knows_type, knows_attr};
-ghost use Rattle.ir_types.specs.Reasons.{IsRefusedFor, name_reason, type_reason, attr_reason};
+ghost use Rattle.ir_event.specs.types.Things.{Grows, TypeIsOf, AttrIsOf};
+ghost use Rattle.ir_event.specs.types.Interning.{with_name, with_type, with_attr, knows_name, knows_type, knows_attr};
+ghost use Rattle.ir_event.specs.types.Reasons.{IsRefusedFor, name_reason, type_reason, attr_reason};
 ghost use Rattle.rewriter_desk.specs.Moves.{Grown};
 
 use crate::desk::Desk;
-use ir_types::ids::{AttrId, NameId, TypeId};
-use ir_types::node::{AttrNode, TypeNode};
-use ir_types::refusal::Refusal;
+use ir_event::types::ids::{AttrId, NameId, TypeId};
+use ir_event::types::node::{AttrNode, TypeNode};
+use ir_event::types::refusal::Refusal;
 
 impl Desk {
     /// The number of a name in the context.

@@ -11,8 +11,8 @@ use crate::claims::keep;
 use crate::mark::Mark;
 use crate::release::release;
 use ir_event::event::{Event, inverse};
+use ir_event::types::refusal::Refusal;
 use ir_event::world::World;
-use ir_types::refusal::Refusal;
 use std::alloc::Global;
 use std::marker::Model;
 
@@ -27,7 +27,7 @@ pub struct Desk {
 impl Model for Desk {
     ghost use Rattle.rewriter_desk.specs.Held.{Held, IsGood};
     ghost use Rattle.std.specs.Coded.{codes};
-    ghost use Rattle.ir_store.specs.Stored.{stored_code};
+    ghost use Rattle.ir_event.specs.store.Stored.{stored_code};
 
     ghost Value = { Held };
 

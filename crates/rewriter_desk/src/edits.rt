@@ -1,12 +1,12 @@
 //! Edits of a desk. Room in the journal is claimed first, so that an edit that was made is noted without fail.
 ghost use Rattle.std.specs.Prelude.{◌≡◌, ◌≢◌, [], Some, true, IfOk, IfSome, OnErr};
-ghost use Rattle.ir_types.specs.Terms.{name_term};
-ghost use Rattle.ir_types.specs.Things.{IsName, IsAttr};
-ghost use Rattle.ir_types.specs.Words.{is_table};
-ghost use Rattle.ir_tree.specs.Meaning.{IsSoundIn, isolated_in, key_before_in};
-ghost use Rattle.ir_tree_laws.specs.Reasons.{holds_none, put_reason, set_entry_reason, set_operand_reason};
-ghost use Rattle.ir_tree_laws.specs.Reasons.{shift_reason, take_reason};
-ghost use Rattle.ir_store.specs.Calls.{after_entry, after_operand, after_put, after_shift, after_take};
+ghost use Rattle.ir_event.specs.types.Terms.{name_term};
+ghost use Rattle.ir_event.specs.types.Things.{IsName, IsAttr};
+ghost use Rattle.ir_event.specs.types.Words.{is_table};
+ghost use Rattle.ir_event.specs.trees.Meaning.{IsSoundIn, isolated_in, key_before_in};
+ghost use Rattle.ir_event.specs.tree_laws.Reasons.{holds_none, put_reason, set_entry_reason, set_operand_reason};
+ghost use Rattle.ir_event.specs.tree_laws.Reasons.{shift_reason, take_reason};
+ghost use Rattle.ir_event.specs.store.Calls.{after_entry, after_operand, after_put, after_shift, after_take};
 ghost use Rattle.ir_event.specs.declared.event.Event.TheVariants.{Put};
 ghost use Rattle.rewriter_laws.specs.Journals.{IsTidy};
 ghost use Rattle.rewriter_desk.specs.Moves.{Edited, IsAnswered};
@@ -14,11 +14,11 @@ ghost use Rattle.rewriter_desk.specs.Moves.{Edited, IsAnswered};
 use crate::claims::{claim, note};
 use crate::desk::Desk;
 use ir_event::event::Event;
-use ir_tree::place::{Part, Place};
-use ir_tree::tree::TreeOp;
-use ir_tree::value::Value;
-use ir_types::ids::{AttrId, NameId, OpId};
-use ir_types::refusal::Refusal;
+use ir_event::trees::place::{Part, Place};
+use ir_event::trees::tree::TreeOp;
+use ir_event::trees::value::Value;
+use ir_event::types::ids::{AttrId, NameId, OpId};
+use ir_event::types::refusal::Refusal;
 
 impl Desk {
     /// Puts an operation at a place of the module, and gives the event: one like a header, whose blocks hold none and

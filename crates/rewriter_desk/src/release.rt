@@ -1,6 +1,6 @@
 //! What is held of a world's module is given up.
 ghost use Rattle.std.specs.Prelude.{◌≡◌};
-ghost use Rattle.ir_store.specs.Calls.{Releases};
+ghost use Rattle.ir_event.specs.store.Calls.{Releases};
 
 use ir_event::world::World;
 

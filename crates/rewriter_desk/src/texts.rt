@@ -1,10 +1,10 @@
 //! Texts that are read beside the module of a desk, whose context grows.
 ghost use Rattle.std.specs.Prelude.{◌≡◌, ℕ, IfErr, IfOk, Err};
-ghost use Rattle.ir_types.specs.Things.{IsAttr};
-ghost use Rattle.ir_types.specs.Terms.{attr_term};
-ghost use Rattle.ir_tree.specs.Ids.{IsNumberedFrom};
-ghost use Rattle.ir_tree.specs.Meaning.{IsSoundIn, meaning};
-ghost use Rattle.ir_types.specs.declared.refusal.Refusal.{Refusal as Reason};
+ghost use Rattle.ir_event.specs.types.Things.{IsAttr};
+ghost use Rattle.ir_event.specs.types.Terms.{attr_term};
+ghost use Rattle.ir_event.specs.trees.Ids.{IsNumberedFrom};
+ghost use Rattle.ir_event.specs.trees.Meaning.{IsSoundIn, meaning};
+ghost use Rattle.ir_event.specs.types.declared.refusal.Refusal.{Refusal as Reason};
 ghost use Rattle.ir_text.specs.Public.{IsFull, IsOpTold, IsTold};
 ghost use Rattle.ir_text.specs.Public.{IsNoAttr};
 ghost use Rattle.ir_text.specs.Public.{SpellsAttr};
@@ -15,9 +15,9 @@ ghost use Rattle.rewriter_desk.specs.Moves.{Grown};
 
 use crate::desk::Desk;
 use crate::read_beside;
+use ir_event::trees::tree::TreeOp;
+use ir_event::types::ids::AttrId;
 use ir_text::reader::ReadError;
-use ir_tree::tree::TreeOp;
-use ir_types::ids::AttrId;
 use std::alloc::Global;
 
 impl Desk {

@@ -4,31 +4,31 @@ use Rattle.std.specs.Prelude.{nat_lt}
 use Rattle.std.specs.Option.{option_eq}
 use Rattle.std.proofs.lemmas.Bool.{lt-ltb}
 use Rattle.std.proofs.lemmas.List.{length-set}
-use Rattle.ir_types.specs.declared.refusal.Refusal.TheVariants.{NoSuchValue, NotVisible, NoSuchIndex, TypeDiffers}
-use Rattle.ir_tree.specs.declared.value.Value.{Value}
-use Rattle.ir_tree.specs.Tree.{HeadOf, OpOf, head}
-use Rattle.ir_tree.specs.Ids.{HasDistinctIds, find}
-use Rattle.ir_tree.specs.Uses.{same_value, operand_uses, uses_of}
-use Rattle.ir_tree.specs.Sites.{visible}
-use Rattle.ir_tree.specs.Edits.{each_head, at, put_operand, with_operand}
-use Rattle.ir_tree.specs.WellFormed.{ModuleOf, IsWellFormed}
-use Rattle.ir_tree.proofs.Heads.{head_find, head_visible, alike_operand}
-use Rattle.ir_tree_laws.specs.Members.{In}
-use Rattle.ir_tree_laws.specs.Stands.{StandOf, stand_id, stands, sees}
-use Rattle.ir_tree_laws.specs.Values.{has_value, type_of_value}
-use Rattle.ir_tree_laws.specs.Reasons.{value_reason, operand_reason, set_operand_reason, users_see}
-use Rattle.ir_tree_laws.proofs.Listed.{all_each, in_left}
-use Rattle.ir_tree_laws.proofs.Readings.{stands_uses}
-use Rattle.ir_tree_laws.proofs.Members.{found_stands, stand_found}
-use Rattle.ir_tree_laws.proofs.Sees.{visible_there}
-use Rattle.ir_tree_laws.proofs.Values.{seen_by}
-use Rattle.ir_tree_laws.proofs.Reasoned.{no_unless}
-use Rattle.ir_tree_laws.proofs.HeadForm.{operand_keeps}
+use Rattle.ir_event.specs.types.declared.refusal.Refusal.TheVariants.{NoSuchValue, NotVisible, NoSuchIndex, TypeDiffers}
+use Rattle.ir_event.specs.trees.declared.value.Value.{Value}
+use Rattle.ir_event.specs.trees.Tree.{HeadOf, OpOf, head}
+use Rattle.ir_event.specs.trees.Ids.{HasDistinctIds, find}
+use Rattle.ir_event.specs.trees.Uses.{same_value, operand_uses, uses_of}
+use Rattle.ir_event.specs.trees.Sites.{visible}
+use Rattle.ir_event.specs.trees.Edits.{each_head, at, put_operand, with_operand}
+use Rattle.ir_event.specs.trees.WellFormed.{ModuleOf, IsWellFormed}
+use Rattle.ir_event.proofs.of_trees.Heads.{head_find, head_visible, alike_operand}
+use Rattle.ir_event.specs.tree_laws.Members.{In}
+use Rattle.ir_event.specs.tree_laws.Stands.{StandOf, stand_id, stands, sees}
+use Rattle.ir_event.specs.tree_laws.Values.{has_value, type_of_value}
+use Rattle.ir_event.specs.tree_laws.Reasons.{value_reason, operand_reason, set_operand_reason, users_see}
+use Rattle.ir_event.proofs.of_tree_laws.Listed.{all_each, in_left}
+use Rattle.ir_event.proofs.of_tree_laws.Readings.{stands_uses}
+use Rattle.ir_event.proofs.of_tree_laws.Members.{found_stands, stand_found}
+use Rattle.ir_event.proofs.of_tree_laws.Sees.{visible_there}
+use Rattle.ir_event.proofs.of_tree_laws.Values.{seen_by}
+use Rattle.ir_event.proofs.of_tree_laws.Reasoned.{no_unless}
+use Rattle.ir_event.proofs.of_tree_laws.HeadForm.{operand_keeps}
 use Rattle.rewriter_machine.specs.Edits.{TestsOf, Replace, reason_by}
 use Rattle.rewriter_laws.specs.Replacing.{all_set}
 use Rattle.rewriter_laws.proofs.Left.{of_gather, user}
 use Rattle.rewriter_laws.proofs.Parts.{in_middle}
-use Rattle.ir_tree.proofs.Facts.{head_each}
+use Rattle.ir_event.proofs.of_trees.Facts.{head_each}
 
 -- the place of a use
 below : (v : Value) (x k : ℕ) (ws : List Value) (u : ℕ × ℕ) → In u (operand_uses v x k ws) → u.1 < k + length ws

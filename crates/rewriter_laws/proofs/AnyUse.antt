@@ -4,38 +4,38 @@ use Rattle.std.specs.Prelude.{slice_set, slice_get, option_and_then, is_some}
 use Rattle.std.specs.List.{IsDistinct}
 use Rattle.std.specs.Option.{option_eq}
 use Rattle.std.proofs.lemmas.Map.Keys.{IsDistinct-tail}
-use Rattle.ir_types.specs.declared.refusal.Refusal.TheVariants.{NoSuchValue, NotVisible, TypeDiffers}
-use Rattle.ir_tree.specs.declared.value.Value.{Value}
-use Rattle.ir_tree.specs.declared.value.Value.TheVariants.{Result, Arg}
-use Rattle.ir_tree.specs.Tree.{HeadOf, OpOf, op, RegionsOf, no_regions, region, empty, block, head}
-use Rattle.ir_tree.specs.Ids.{HasDistinctIds, find}
-use Rattle.ir_tree.specs.Uses.{same_value, operand_uses, uses_of}
-use Rattle.ir_tree.specs.Sites.{visible}
-use Rattle.ir_tree.specs.Edits.{each_head, regions_each_head, at, put_operand, with_operand, put_value, put_values, with_value_replaced}
-use Rattle.ir_tree.specs.WellFormed.{ModuleOf, IsWellFormed}
-use Rattle.ir_tree.proofs.Heads.{head_find, head_visible, alike_operand}
-use Rattle.ir_tree.proofs.Replaced.{same_value_true}
-use Rattle.ir_tree_laws.specs.Members.{In}
-use Rattle.ir_tree_laws.specs.Stands.{StandOf, stand_id, stands, gather, sees}
-use Rattle.ir_tree_laws.specs.Values.{region_at, arguments_of, arguments_at, type_of_value, has_value}
-use Rattle.ir_tree_laws.specs.Reasons.{set_operand_reason, users_see}
-use Rattle.ir_tree_laws.proofs.Listed.{bool_cases, in_parts, one_any, all_each, each_all, both}
-use Rattle.ir_tree_laws.proofs.Readings.{stands_ids, stands_uses}
-use Rattle.ir_tree_laws.proofs.Members.{same_stand}
-use Rattle.ir_tree_laws.proofs.Sees.{visible_there}
-use Rattle.ir_tree_laws.proofs.Formed.{from_formed}
-use Rattle.ir_tree_laws.proofs.Reasoned.{no_unless}
-use Rattle.ir_tree_laws.proofs.HeadForm.{in_gather, operand_keeps}
-use Rattle.ir_store.specs.Using.{same_use, is_use}
+use Rattle.ir_event.specs.types.declared.refusal.Refusal.TheVariants.{NoSuchValue, NotVisible, TypeDiffers}
+use Rattle.ir_event.specs.trees.declared.value.Value.{Value}
+use Rattle.ir_event.specs.trees.declared.value.Value.TheVariants.{Result, Arg}
+use Rattle.ir_event.specs.trees.Tree.{HeadOf, OpOf, op, RegionsOf, no_regions, region, empty, block, head}
+use Rattle.ir_event.specs.trees.Ids.{HasDistinctIds, find}
+use Rattle.ir_event.specs.trees.Uses.{same_value, operand_uses, uses_of}
+use Rattle.ir_event.specs.trees.Sites.{visible}
+use Rattle.ir_event.specs.trees.Edits.{each_head, regions_each_head, at, put_operand, with_operand, put_value, put_values, with_value_replaced}
+use Rattle.ir_event.specs.trees.WellFormed.{ModuleOf, IsWellFormed}
+use Rattle.ir_event.proofs.of_trees.Heads.{head_find, head_visible, alike_operand}
+use Rattle.ir_event.proofs.of_trees.Replaced.{same_value_true}
+use Rattle.ir_event.specs.tree_laws.Members.{In}
+use Rattle.ir_event.specs.tree_laws.Stands.{StandOf, stand_id, stands, gather, sees}
+use Rattle.ir_event.specs.tree_laws.Values.{region_at, arguments_of, arguments_at, type_of_value, has_value}
+use Rattle.ir_event.specs.tree_laws.Reasons.{set_operand_reason, users_see}
+use Rattle.ir_event.proofs.of_tree_laws.Listed.{bool_cases, in_parts, one_any, all_each, each_all, both}
+use Rattle.ir_event.proofs.of_tree_laws.Readings.{stands_ids, stands_uses}
+use Rattle.ir_event.proofs.of_tree_laws.Members.{same_stand}
+use Rattle.ir_event.proofs.of_tree_laws.Sees.{visible_there}
+use Rattle.ir_event.proofs.of_tree_laws.Formed.{from_formed}
+use Rattle.ir_event.proofs.of_tree_laws.Reasoned.{no_unless}
+use Rattle.ir_event.proofs.of_tree_laws.HeadForm.{in_gather, operand_keeps}
+use Rattle.ir_event.specs.store.Using.{same_use, is_use}
 use Rattle.rewriter_machine.specs.Edits.{TestsOf, Replace, reason_by}
-use Rattle.ir_tree_laws.proofs.Entries.{each_twice}
+use Rattle.ir_event.proofs.of_tree_laws.Entries.{each_twice}
 use Rattle.rewriter_laws.proofs.Setting.{apart, unchanged, agree}
 use Rattle.rewriter_laws.proofs.Left.{gather_same, of_gather, user, uses_here, uses_then, elsewhere, uses_set}
 use Rattle.rewriter_laws.proofs.Allowed.{may_set, uses_see, each_takes}
-use Rattle.ir_tree.proofs.Facts.{head_each}
-use Rattle.ir_types.proofs.Truths.{nil_parts}
-use Rattle.ir_tree_laws.proofs.Reverted.{passed}
-use Rattle.ir_tree_laws.proofs.Nested.{unequal}
+use Rattle.ir_event.proofs.of_trees.Facts.{head_each}
+use Rattle.ir_event.proofs.of_types.Truths.{nil_parts}
+use Rattle.ir_event.proofs.of_tree_laws.Reverted.{passed}
+use Rattle.ir_event.proofs.of_tree_laws.Nested.{unequal}
 
 pub listed : (x k : ℕ) (us : List (ℕ × ℕ)) → is_use x k us ≡ true → In (x, k) us
 listed x k us e =

@@ -1,17 +1,17 @@
 -- What is true of each header of a tree.
 use Rattle.std.proofs.Common.{◌≡◌, refl, ap, ◌∙◌, Bool, true, ◌&&◌, List, []}
 use Rattle.std.specs.List.{list_all}
-use Rattle.ir_types.specs.Things.{Things}
-use Rattle.ir_tree.specs.declared.place.Place.{Place}
-use Rattle.ir_tree.specs.Tree.{OpOf, Op, op, RegionsOf, no_regions, region, empty, block}
-use Rattle.ir_tree.specs.Limits.{every, regions_every, all_arguments_pass}
-use Rattle.ir_tree.specs.Meaning.{IsSoundIn, is_name, is_type, is_attr, dictionaries_rise, key_before_in}
-use Rattle.ir_tree.specs.Passing.{head_passes, op_passes}
-use Rattle.ir_tree_laws.specs.Members.{In}
-use Rattle.ir_tree_laws.specs.Stands.{StandOf, stands}
-use Rattle.ir_tree_laws.proofs.Listed.{all_each, both_hold}
-use Rattle.ir_tree_laws.proofs.Readings.{stands_every}
-use Rattle.ir_tree_laws.proofs.Reasoned.{none_every}
+use Rattle.ir_event.specs.types.Things.{Things}
+use Rattle.ir_event.specs.trees.declared.place.Place.{Place}
+use Rattle.ir_event.specs.trees.Tree.{OpOf, Op, op, RegionsOf, no_regions, region, empty, block}
+use Rattle.ir_event.specs.trees.Limits.{every, regions_every, all_arguments_pass}
+use Rattle.ir_event.specs.trees.Meaning.{IsSoundIn, is_name, is_type, is_attr, dictionaries_rise, key_before_in}
+use Rattle.ir_event.specs.trees.Passing.{head_passes, op_passes}
+use Rattle.ir_event.specs.tree_laws.Members.{In}
+use Rattle.ir_event.specs.tree_laws.Stands.{StandOf, stands}
+use Rattle.ir_event.proofs.of_tree_laws.Listed.{all_each, both_hold}
+use Rattle.ir_event.proofs.of_tree_laws.Readings.{stands_every}
+use Rattle.ir_event.proofs.of_tree_laws.Reasoned.{none_every}
 use Rattle.rewriter_laws.specs.Inserting.{bare, bare_regions, headers}
 use Rattle.rewriter_laws.proofs.Built.{header_of, bare_holds}
 

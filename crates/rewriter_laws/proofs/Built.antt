@@ -2,30 +2,30 @@
 use Rattle.std.proofs.Common.{◌≡◌, refl, ap, sym, ◌∙◌, subst, ℕ, ◌+◌, true, false, true≢false, cond, eqb, eq-eqb, eqb-true, List, [], ◌∷◌, ◌++◌, length, map, append_assoc, append-nil, length-append, Some, inl, inr, arith}
 use Rattle.std.specs.List.{list_any, IsDistinct}
 use Rattle.std.proofs.lemmas.List.{length-map, map-append}
-use Rattle.ir_tree.specs.declared.place.Place.{Place}
-use Rattle.ir_tree.specs.Tree.{HeadOf, OpOf, op, RegionsOf, no_regions, region, RegionOf, empty, block, OpsOf, no_ops, next, head, regions}
-use Rattle.ir_tree.specs.Ids.{ids, regions_ids, region_ids, ops_ids, has_id, op_count, regions_find}
-use Rattle.ir_tree.specs.Places.{put, put_last}
-use Rattle.ir_tree.proofs.Gained.{gained_ids}
-use Rattle.ir_tree.proofs.Returns.{Present, halves, absent_first, cons_distinct, nil_distinct}
-use Rattle.ir_tree_laws.specs.Members.{In}
-use Rattle.ir_tree_laws.specs.Nested.{with_last}
-use Rattle.ir_tree_laws.specs.Reasons.{has_place, hold_none}
-use Rattle.ir_tree_laws.specs.Restores.{MayPut}
-use Rattle.ir_tree_laws.specs.Stands.{StepOf, StandOf, stand_id, stands, regions_stands, region_stands, ops_stands}
-use Rattle.ir_tree_laws.specs.Values.{region_at}
-use Rattle.ir_tree_laws.proofs.Listed.{bool_cases, either, in_left, in_right, in_parts}
-use Rattle.ir_tree_laws.proofs.Readings.{step}
-use Rattle.ir_tree_laws.proofs.Members.{stand, joined_ops}
-use Rattle.ir_tree_laws.proofs.Around.{stand_present}
-use Rattle.ir_tree_laws.proofs.Put.{of_spot}
-use Rattle.ir_tree_laws.proofs.PutForm.{put_distinct}
-use Rattle.ir_tree_laws.proofs.Cuts.{all_ids}
-use Rattle.ir_tree_laws.proofs.Nested.{put_along, may_along, put_at_end}
-use Rattle.ir_tree_laws.proofs.Reverted.{spot_parent}
+use Rattle.ir_event.specs.trees.declared.place.Place.{Place}
+use Rattle.ir_event.specs.trees.Tree.{HeadOf, OpOf, op, RegionsOf, no_regions, region, RegionOf, empty, block, OpsOf, no_ops, next, head, regions}
+use Rattle.ir_event.specs.trees.Ids.{ids, regions_ids, region_ids, ops_ids, has_id, op_count, regions_find}
+use Rattle.ir_event.specs.trees.Places.{put, put_last}
+use Rattle.ir_event.proofs.of_trees.Gained.{gained_ids}
+use Rattle.ir_event.proofs.of_trees.Returns.{Present, halves, absent_first, cons_distinct, nil_distinct}
+use Rattle.ir_event.specs.tree_laws.Members.{In}
+use Rattle.ir_event.specs.tree_laws.Nested.{with_last}
+use Rattle.ir_event.specs.tree_laws.Reasons.{has_place, hold_none}
+use Rattle.ir_event.specs.tree_laws.Restores.{MayPut}
+use Rattle.ir_event.specs.tree_laws.Stands.{StepOf, StandOf, stand_id, stands, regions_stands, region_stands, ops_stands}
+use Rattle.ir_event.specs.tree_laws.Values.{region_at}
+use Rattle.ir_event.proofs.of_tree_laws.Listed.{bool_cases, either, in_left, in_right, in_parts}
+use Rattle.ir_event.proofs.of_tree_laws.Readings.{step}
+use Rattle.ir_event.proofs.of_tree_laws.Members.{stand, joined_ops}
+use Rattle.ir_event.proofs.of_tree_laws.Around.{stand_present}
+use Rattle.ir_event.proofs.of_tree_laws.Put.{of_spot}
+use Rattle.ir_event.proofs.of_tree_laws.PutForm.{put_distinct}
+use Rattle.ir_event.proofs.of_tree_laws.Cuts.{all_ids}
+use Rattle.ir_event.proofs.of_tree_laws.Nested.{put_along, may_along, put_at_end}
+use Rattle.ir_event.proofs.of_tree_laws.Reverted.{spot_parent}
 use Rattle.rewriter_laws.specs.Inserting.{bare, bare_region, bare_regions, end_of, headers, regions_headers, region_headers, ops_headers}
 use Rattle.rewriter_laws.proofs.Earlier.{present_left}
-use Rattle.ir_tree_laws.proofs.Values.{joined_more}
+use Rattle.ir_event.proofs.of_tree_laws.Values.{joined_more}
 
 own_id : (x y : ℕ) → Present y (x ∷ []) → x ≡ y
 own_id x y h = elim (either (eqb x y) false h) [ inl k ↦ eqb-true x y k | inr k ↦ absurd (true≢false (sym k)) ]

@@ -3,13 +3,13 @@ use Rattle.std.proofs.Common.{◌≡◌, ap, sym, ◌∙◌, ℕ, ◌<◌, true,
 use Rattle.std.proofs.lemmas.Bool.{cases_Bool, cases_eq}
 use Rattle.std.specs.Prelude.{option_map, is_some}
 use Rattle.std.specs.FinMap as finmap
-use Rattle.ir_tree.specs.declared.place.Part.{Part}
-use Rattle.ir_tree.specs.Tree.{Op}
-use Rattle.ir_tree.specs.Ids.{find, first_of, has_id}
-use Rattle.ir_tree.specs.WellFormed.{Module as Numbered}
-use Rattle.ir_tree_laws.proofs.Around.{absent_find}
+use Rattle.ir_event.specs.trees.declared.place.Part.{Part}
+use Rattle.ir_event.specs.trees.Tree.{Op}
+use Rattle.ir_event.specs.trees.Ids.{find, first_of, has_id}
+use Rattle.ir_event.specs.trees.WellFormed.{Module as Numbered}
+use Rattle.ir_event.proofs.of_tree_laws.Around.{absent_find}
 use Rattle.ir_event.proofs.Shown.{known_there}
-use Rattle.ir_store.specs.Stored.{Stored, has_slot, known}
+use Rattle.ir_event.specs.store.Stored.{Stored, has_slot, known}
 use Rattle.rewriter_laws.proofs.Stores.{IsTaken, dictionary, dictionary_seen, slot_same, taken_back, taken_on, taken_seen, taken_there}
 
 -- of what has an id below n, u holds what s does outside the module, and has each slot that s has

@@ -4,17 +4,17 @@ use Rattle.std.specs.Prelude.{nat_lt}
 use Rattle.std.specs.List.{list_any, IsDistinct}
 use Rattle.std.proofs.lemmas.Map.Keys.{IsDistinct-tail}
 use Rattle.std.proofs.lemmas.List.Folds.{list_any-append}
-use Rattle.ir_tree.specs.declared.value.Value.{Value}
-use Rattle.ir_tree.specs.declared.value.Value.TheVariants.{Result, Arg}
-use Rattle.ir_tree.specs.Tree.{OpOf, op, RegionsOf, no_regions, region, RegionOf, empty, block, OpsOf, no_ops, next, head}
-use Rattle.ir_tree.specs.Ids.{ids, regions_ids, region_ids, ops_ids}
-use Rattle.ir_tree.specs.Frames.{owner_of}
-use Rattle.ir_tree.specs.Sites.{arguments, shows, results_of}
-use Rattle.ir_tree.proofs.Returns.{Present, absent_first}
-use Rattle.ir_tree_laws.specs.Members.{In}
-use Rattle.ir_tree_laws.specs.Stands.{StepOf, StandOf, stands, regions_stands, region_stands, ops_stands, sees}
-use Rattle.ir_tree_laws.proofs.Listed.{in_parts, both, either, or_left, or_right}
-use Rattle.ir_tree_laws.proofs.Readings.{step}
+use Rattle.ir_event.specs.trees.declared.value.Value.{Value}
+use Rattle.ir_event.specs.trees.declared.value.Value.TheVariants.{Result, Arg}
+use Rattle.ir_event.specs.trees.Tree.{OpOf, op, RegionsOf, no_regions, region, RegionOf, empty, block, OpsOf, no_ops, next, head}
+use Rattle.ir_event.specs.trees.Ids.{ids, regions_ids, region_ids, ops_ids}
+use Rattle.ir_event.specs.trees.Frames.{owner_of}
+use Rattle.ir_event.specs.trees.Sites.{arguments, shows, results_of}
+use Rattle.ir_event.proofs.of_trees.Returns.{Present, absent_first}
+use Rattle.ir_event.specs.tree_laws.Members.{In}
+use Rattle.ir_event.specs.tree_laws.Stands.{StepOf, StandOf, stands, regions_stands, region_stands, ops_stands, sees}
+use Rattle.ir_event.proofs.of_tree_laws.Listed.{in_parts, both, either, or_left, or_right}
+use Rattle.ir_event.proofs.of_tree_laws.Readings.{step}
 
 pub present_left : (x : ℕ) (xs ys : List ℕ) → Present x xs → Present x (xs ++ ys)
 present_left x xs ys h = list_any-append (λ y. eqb y x) xs ys ∙ or_left _ _ h

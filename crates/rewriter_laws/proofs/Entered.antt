@@ -4,28 +4,28 @@ use Rattle.std.proofs.lemmas.Bool.{cases_eq, eq-eqb, ne_eqb}
 use Rattle.std.specs.Prelude.{option_map, is_some}
 use Rattle.std.specs.List.{list_any}
 use Rattle.std.specs.FinMap as finmap
-use Rattle.ir_types.specs.Things.{Things, IsName}
-use Rattle.ir_types.specs.Sound.{IsSound}
-use Rattle.ir_tree.specs.declared.value.Value.{Value}
-use Rattle.ir_tree.specs.declared.place.Part.{Part}
-use Rattle.ir_tree.specs.declared.place.Part.TheVariants.{Props, Attrs}
-use Rattle.ir_tree.specs.Tree.{Head, Op, op, head}
-use Rattle.ir_tree.specs.Ids.{find, first_of, has_id}
-use Rattle.ir_tree.specs.Edits.{at, change_entry, change_part, each_head, part_of, put_operand}
-use Rattle.ir_tree.specs.Meaning.{IsSoundIn, key_before_in}
-use Rattle.ir_tree.specs.WellFormed.{Module as Numbered}
-use Rattle.ir_tree.proofs.Heads.{Alike, alike_entry, alike_operand, head_find, head_ids}
-use Rattle.ir_tree_laws.proofs.Listed.{either, or_left, or_right}
+use Rattle.ir_event.specs.types.Things.{Things, IsName}
+use Rattle.ir_event.specs.types.Sound.{IsSound}
+use Rattle.ir_event.specs.trees.declared.value.Value.{Value}
+use Rattle.ir_event.specs.trees.declared.place.Part.{Part}
+use Rattle.ir_event.specs.trees.declared.place.Part.TheVariants.{Props, Attrs}
+use Rattle.ir_event.specs.trees.Tree.{Head, Op, op, head}
+use Rattle.ir_event.specs.trees.Ids.{find, first_of, has_id}
+use Rattle.ir_event.specs.trees.Edits.{at, change_entry, change_part, each_head, part_of, put_operand}
+use Rattle.ir_event.specs.trees.Meaning.{IsSoundIn, key_before_in}
+use Rattle.ir_event.specs.trees.WellFormed.{Module as Numbered}
+use Rattle.ir_event.proofs.of_trees.Heads.{Alike, alike_entry, alike_operand, head_find, head_ids}
+use Rattle.ir_event.proofs.of_tree_laws.Listed.{either, or_left, or_right}
 use Rattle.ir_event.proofs.Sounds.{found_sound}
-use Rattle.ir_store.specs.Slots.{gone_after, has_key}
-use Rattle.ir_store.specs.Stored.{Gone, Stored, change_gone, has_entry, has_slot, is_some_with, stands}
-use Rattle.ir_store.specs.Calls.{after_entry, after_operand}
+use Rattle.ir_event.specs.store.Slots.{gone_after, has_key}
+use Rattle.ir_event.specs.store.Stored.{Gone, Stored, change_gone, has_entry, has_slot, is_some_with, stands}
+use Rattle.ir_event.specs.store.Calls.{after_entry, after_operand}
 use Rattle.rewriter_laws.proofs.Maps.{gone_here, gone_other}
 use Rattle.rewriter_laws.proofs.Keys.{after_none, after_other, has_put, part_keeps}
 use Rattle.rewriter_laws.proofs.Trees.{found_id}
 use Rattle.rewriter_laws.proofs.Stores.{dictionary, entry_same, slot_like}
 use Rattle.rewriter_laws.proofs.Carries.{Carries}
-use Rattle.ir_tree_laws.proofs.Contents.{some_map}
+use Rattle.ir_event.proofs.of_tree_laws.Contents.{some_map}
 
 head_each : (f : Head → Head) (o : Op) → head (each_head f o) ≡ f (head o)
 head_each f (op h rs) = refl

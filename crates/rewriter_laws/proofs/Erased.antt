@@ -1,28 +1,28 @@
 -- An operation that is erased against which no reason stands goes operation by operation.
 use Rattle.std.proofs.Common.{◌≡◌, refl, ap, sym, ◌∙◌, subst, ℕ, true, false, true≢false, not, eqb, eqb-true, List, [], ◌∷◌, ◌++◌, reverse, append-nil, Some, None, inl, inr}
-use Rattle.ir_types.specs.declared.refusal.Refusal.TheVariants.{NoSuchOp, HasUses, IsRoot}
-use Rattle.ir_tree.specs.declared.place.Place.{Place}
-use Rattle.ir_tree.specs.Tree.{OpOf, head}
-use Rattle.ir_tree.specs.Ids.{ids, has_id, find}
-use Rattle.ir_tree.specs.Limits.{every}
-use Rattle.ir_tree.specs.Frames.{owner_of}
-use Rattle.ir_tree.specs.Places.{first_id, put, without}
-use Rattle.ir_tree.specs.WellFormed.{ModuleOf, IsWellFormed}
-use Rattle.ir_tree.proofs.Left.{left_distinct, gone}
-use Rattle.ir_tree.proofs.Returns.{put_take}
-use Rattle.ir_tree_laws.specs.Members.{In}
-use Rattle.ir_tree_laws.specs.Reads.{is_within}
-use Rattle.ir_tree_laws.specs.Reasons.{leaves, take_reason, leaves_within, unused_outside}
-use Rattle.ir_tree_laws.specs.Stands.{StandOf, stands}
-use Rattle.ir_tree_laws.proofs.Listed.{bool_cases, all_each, each_all, not_false}
-use Rattle.ir_tree_laws.proofs.Readings.{stands_every}
-use Rattle.ir_tree_laws.proofs.Members.{stand_found}
-use Rattle.ir_tree_laws.proofs.Around.{present_stand, absent_find}
-use Rattle.ir_tree_laws.proofs.Changed.{spot_left}
-use Rattle.ir_tree_laws.proofs.Reasoned.{no_unless}
-use Rattle.ir_tree_laws.proofs.Reverted.{inside_goes}
-use Rattle.ir_tree_laws.proofs.PutForm.{put_found}
-use Rattle.ir_tree_laws.proofs.Shift.{Inner, inner_of, inner_place, own_distinct}
+use Rattle.ir_event.specs.types.declared.refusal.Refusal.TheVariants.{NoSuchOp, HasUses, IsRoot}
+use Rattle.ir_event.specs.trees.declared.place.Place.{Place}
+use Rattle.ir_event.specs.trees.Tree.{OpOf, head}
+use Rattle.ir_event.specs.trees.Ids.{ids, has_id, find}
+use Rattle.ir_event.specs.trees.Limits.{every}
+use Rattle.ir_event.specs.trees.Frames.{owner_of}
+use Rattle.ir_event.specs.trees.Places.{first_id, put, without}
+use Rattle.ir_event.specs.trees.WellFormed.{ModuleOf, IsWellFormed}
+use Rattle.ir_event.proofs.of_trees.Left.{left_distinct, gone}
+use Rattle.ir_event.proofs.of_trees.Returns.{put_take}
+use Rattle.ir_event.specs.tree_laws.Members.{In}
+use Rattle.ir_event.specs.tree_laws.Reads.{is_within}
+use Rattle.ir_event.specs.tree_laws.Reasons.{leaves, take_reason, leaves_within, unused_outside}
+use Rattle.ir_event.specs.tree_laws.Stands.{StandOf, stands}
+use Rattle.ir_event.proofs.of_tree_laws.Listed.{bool_cases, all_each, each_all, not_false}
+use Rattle.ir_event.proofs.of_tree_laws.Readings.{stands_every}
+use Rattle.ir_event.proofs.of_tree_laws.Members.{stand_found}
+use Rattle.ir_event.proofs.of_tree_laws.Around.{present_stand, absent_find}
+use Rattle.ir_event.proofs.of_tree_laws.Changed.{spot_left}
+use Rattle.ir_event.proofs.of_tree_laws.Reasoned.{no_unless}
+use Rattle.ir_event.proofs.of_tree_laws.Reverted.{inside_goes}
+use Rattle.ir_event.proofs.of_tree_laws.PutForm.{put_found}
+use Rattle.ir_event.proofs.of_tree_laws.Shift.{Inner, inner_of, inner_place, own_distinct}
 use Rattle.rewriter_machine.specs.Edits.{TestsOf, Erase, reason_by}
 use Rattle.rewriter_laws.specs.Erasing.{ids_in, erase_order, all_taken}
 use Rattle.rewriter_laws.proofs.Taken.{Erasing, reach, each_may, all_gone, each_formed}

@@ -2,18 +2,18 @@
 use Rattle.std.proofs.Common.{◌≡◌, refl, ap, sym, ◌∙◌, subst, ℕ, List, [], ◌∷◌, length, Option, Some, None}
 use Rattle.std.proofs.lemmas.Bool.{lt-ltb}
 use Rattle.std.specs.Prelude.{option_map}
-use Rattle.ir_types.specs.Things.{Things, Grows}
-use Rattle.ir_types.specs.Sound.{IsSound}
-use Rattle.ir_types.specs.Terms.{name_term, type_term, attr_term}
-use Rattle.ir_types.proofs.Terms.{attr_stays, name_stays}
-use Rattle.ir_tree.specs.declared.place.Part.{Part}
-use Rattle.ir_tree.specs.Edits.{with_entry}
-use Rattle.ir_tree.specs.Meaning.{IsSoundIn, key_before, key_before_in}
-use Rattle.ir_tree.proofs.MappedEdits.{map_with_entry}
-use Rattle.ir_tree.proofs.Meanings.{apart, stable, stays_sound}
-use Rattle.ir_tree.proofs.SoundEdits.{entry_sound}
-use Rattle.ir_store.specs.Stored.{Stored}
-use Rattle.ir_store.specs.Calls.{after_entry}
+use Rattle.ir_event.specs.types.Things.{Things, Grows}
+use Rattle.ir_event.specs.types.Sound.{IsSound}
+use Rattle.ir_event.specs.types.Terms.{name_term, type_term, attr_term}
+use Rattle.ir_event.proofs.of_types.Terms.{attr_stays, name_stays}
+use Rattle.ir_event.specs.trees.declared.place.Part.{Part}
+use Rattle.ir_event.specs.trees.Edits.{with_entry}
+use Rattle.ir_event.specs.trees.Meaning.{IsSoundIn, key_before, key_before_in}
+use Rattle.ir_event.proofs.of_trees.MappedEdits.{map_with_entry}
+use Rattle.ir_event.proofs.of_trees.Meanings.{apart, stable, stays_sound}
+use Rattle.ir_event.proofs.of_trees.SoundEdits.{entry_sound}
+use Rattle.ir_event.specs.store.Stored.{Stored}
+use Rattle.ir_event.specs.store.Calls.{after_entry}
 use Rattle.ir_event.specs.declared.event.Event.{Event}
 use Rattle.ir_event.specs.declared.event.Event.TheVariants.{Put, Take, SetOperand, SetEntry, Shift}
 use Rattle.ir_event.specs.Modules.{Module, module_meaning}

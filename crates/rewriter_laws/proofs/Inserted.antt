@@ -4,35 +4,35 @@ use Rattle.std.specs.Prelude.{nat_le, nat_lt}
 use Rattle.std.specs.List.{list_all, range_with_len}
 use Rattle.std.proofs.lemmas.Bool.{leb-true, le-leb, lt-ltb, ne_eqb}
 use Rattle.std.proofs.lemmas.List.{length-map, map-append, reverse-append}
-use Rattle.ir_types.specs.declared.refusal.Refusal.TheVariants.{NoSuchOp, NoSuchValue, NotVisible, NoSuchIndex, Full, IdsExhausted, TooDeepHere}
-use Rattle.ir_tree.specs.declared.place.Place.{Place}
-use Rattle.ir_tree.specs.Tree.{OpOf, op, head, regions}
-use Rattle.ir_tree.specs.Ids.{ids, has_id, op_count, IsNumberedFrom}
-use Rattle.ir_tree.specs.Limits.{depth, every, op_fits, most_ops, most_around, most_next}
-use Rattle.ir_tree.specs.Frames.{owner_of}
-use Rattle.ir_tree.specs.Sites.{visible, operands_visible}
-use Rattle.ir_tree.specs.Places.{put, without}
-use Rattle.ir_tree.specs.WellFormed.{ModuleOf, IsWellFormed}
-use Rattle.ir_tree.proofs.Moves.{take_put}
-use Rattle.ir_tree_laws.specs.Members.{In}
-use Rattle.ir_tree_laws.specs.Reads.{around}
-use Rattle.ir_tree_laws.specs.Reasons.{has_place, fits_around, hold_none, leaves, put_reason, take_reason, with_id}
-use Rattle.ir_tree_laws.specs.Restores.{MayPut}
-use Rattle.ir_tree_laws.specs.Values.{has_value}
-use Rattle.ir_tree_laws.specs.Stands.{StepOf, StandOf, stands, sees}
-use Rattle.ir_tree_laws.proofs.Listed.{all_each, each_all, both_hold}
-use Rattle.ir_tree_laws.proofs.Readings.{stands_every}
-use Rattle.ir_tree_laws.proofs.Members.{stand, within}
-use Rattle.ir_tree_laws.proofs.Around.{stand_present}
-use Rattle.ir_tree_laws.proofs.Sees.{visible_there, all_same, operands_visible_each}
-use Rattle.ir_tree_laws.proofs.Formed.{FormedEach, from_formed}
-use Rattle.ir_tree_laws.proofs.PutForm.{landed, put_distinct, put_found, put_around}
-use Rattle.ir_tree_laws.proofs.Reasoned.{no_unless}
-use Rattle.ir_tree_laws.proofs.Values.{seen_by}
-use Rattle.ir_tree_laws.proofs.Changed.{take_changes, may_restore}
-use Rattle.ir_tree_laws.proofs.Edited.{put_op_count}
-use Rattle.ir_tree_laws.proofs.Reverted.{spot_parent, passed}
-use Rattle.ir_tree_laws.proofs.WellKept.{may_put_tree, insert_keeps, put_keeps}
+use Rattle.ir_event.specs.types.declared.refusal.Refusal.TheVariants.{NoSuchOp, NoSuchValue, NotVisible, NoSuchIndex, Full, IdsExhausted, TooDeepHere}
+use Rattle.ir_event.specs.trees.declared.place.Place.{Place}
+use Rattle.ir_event.specs.trees.Tree.{OpOf, op, head, regions}
+use Rattle.ir_event.specs.trees.Ids.{ids, has_id, op_count, IsNumberedFrom}
+use Rattle.ir_event.specs.trees.Limits.{depth, every, op_fits, most_ops, most_around, most_next}
+use Rattle.ir_event.specs.trees.Frames.{owner_of}
+use Rattle.ir_event.specs.trees.Sites.{visible, operands_visible}
+use Rattle.ir_event.specs.trees.Places.{put, without}
+use Rattle.ir_event.specs.trees.WellFormed.{ModuleOf, IsWellFormed}
+use Rattle.ir_event.proofs.of_trees.Moves.{take_put}
+use Rattle.ir_event.specs.tree_laws.Members.{In}
+use Rattle.ir_event.specs.tree_laws.Reads.{around}
+use Rattle.ir_event.specs.tree_laws.Reasons.{has_place, fits_around, hold_none, leaves, put_reason, take_reason, with_id}
+use Rattle.ir_event.specs.tree_laws.Restores.{MayPut}
+use Rattle.ir_event.specs.tree_laws.Values.{has_value}
+use Rattle.ir_event.specs.tree_laws.Stands.{StepOf, StandOf, stands, sees}
+use Rattle.ir_event.proofs.of_tree_laws.Listed.{all_each, each_all, both_hold}
+use Rattle.ir_event.proofs.of_tree_laws.Readings.{stands_every}
+use Rattle.ir_event.proofs.of_tree_laws.Members.{stand, within}
+use Rattle.ir_event.proofs.of_tree_laws.Around.{stand_present}
+use Rattle.ir_event.proofs.of_tree_laws.Sees.{visible_there, all_same, operands_visible_each}
+use Rattle.ir_event.proofs.of_tree_laws.Formed.{FormedEach, from_formed}
+use Rattle.ir_event.proofs.of_tree_laws.PutForm.{landed, put_distinct, put_found, put_around}
+use Rattle.ir_event.proofs.of_tree_laws.Reasoned.{no_unless}
+use Rattle.ir_event.proofs.of_tree_laws.Values.{seen_by}
+use Rattle.ir_event.proofs.of_tree_laws.Changed.{take_changes, may_restore}
+use Rattle.ir_event.proofs.of_tree_laws.Edited.{put_op_count}
+use Rattle.ir_event.proofs.of_tree_laws.Reverted.{spot_parent, passed}
+use Rattle.ir_event.proofs.of_tree_laws.WellKept.{may_put_tree, insert_keeps, put_keeps}
 use Rattle.rewriter_machine.specs.Edits.{TestsOf, Insert, Make, edited_by, reason_by}
 use Rattle.rewriter_laws.specs.Erasing.{all_taken}
 use Rattle.rewriter_laws.specs.Inserting.{headers, all_made}

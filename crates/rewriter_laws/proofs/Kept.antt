@@ -4,23 +4,23 @@ use Rattle.std.proofs.lemmas.Bool.{ne_eqb, cases_Bool, cases_eq, cond-true}
 use Rattle.std.specs.Prelude.{option_map, is_some}
 use Rattle.std.specs.Ordering.{nat_cmp}
 use Rattle.std.specs.FinMap as finmap
-use Rattle.ir_types.specs.Things.{Things}
-use Rattle.ir_tree.specs.declared.value.Value.{Value}
-use Rattle.ir_tree.specs.declared.place.Place.{Place}
-use Rattle.ir_tree.specs.declared.place.Part.{Part}
-use Rattle.ir_tree.specs.Tree.{Head, Op, op, regions}
-use Rattle.ir_tree.specs.Ids.{find, first_of, has_id}
-use Rattle.ir_tree.specs.Edits.{at, change_entry, change_part, each_head, put_operand}
-use Rattle.ir_tree.specs.Meaning.{key_before_in}
-use Rattle.ir_tree.specs.Places.{put_found, without}
-use Rattle.ir_tree.specs.WellFormed.{IsWellFormed}
-use Rattle.ir_tree.proofs.Gained.{gained_ids}
-use Rattle.ir_tree.proofs.Left.{left_ids}
-use Rattle.ir_tree.proofs.Heads.{Alike, alike_entry, alike_operand, head_find}
-use Rattle.ir_tree_laws.specs.Reasons.{hold_none, with_id}
-use Rattle.ir_tree_laws.proofs.Around.{absent_find}
-use Rattle.ir_store.specs.Stored.{Stored, known, none_gone}
-use Rattle.ir_store.specs.Calls.{Loaded, after_entry, after_operand, after_put, after_shift, after_take, hold}
+use Rattle.ir_event.specs.types.Things.{Things}
+use Rattle.ir_event.specs.trees.declared.value.Value.{Value}
+use Rattle.ir_event.specs.trees.declared.place.Place.{Place}
+use Rattle.ir_event.specs.trees.declared.place.Part.{Part}
+use Rattle.ir_event.specs.trees.Tree.{Head, Op, op, regions}
+use Rattle.ir_event.specs.trees.Ids.{find, first_of, has_id}
+use Rattle.ir_event.specs.trees.Edits.{at, change_entry, change_part, each_head, put_operand}
+use Rattle.ir_event.specs.trees.Meaning.{key_before_in}
+use Rattle.ir_event.specs.trees.Places.{put_found, without}
+use Rattle.ir_event.specs.trees.WellFormed.{IsWellFormed}
+use Rattle.ir_event.proofs.of_trees.Gained.{gained_ids}
+use Rattle.ir_event.proofs.of_trees.Left.{left_ids}
+use Rattle.ir_event.proofs.of_trees.Heads.{Alike, alike_entry, alike_operand, head_find}
+use Rattle.ir_event.specs.tree_laws.Reasons.{hold_none, with_id}
+use Rattle.ir_event.proofs.of_tree_laws.Around.{absent_find}
+use Rattle.ir_event.specs.store.Stored.{Stored, known, none_gone}
+use Rattle.ir_event.specs.store.Calls.{Loaded, after_entry, after_operand, after_put, after_shift, after_take, hold}
 use Rattle.ir_event.specs.declared.event.Event.{Event}
 use Rattle.ir_event.specs.declared.event.Event.TheVariants.{Put, Take, SetOperand, SetEntry, Shift}
 use Rattle.ir_event.proofs.Shown.{known_there, none_found}

@@ -4,21 +4,21 @@ use Rattle.std.proofs.lemmas.Bool.{cases_Bool, eq-eqb, eqb-true, ne_eqb, cond-fa
 use Rattle.std.proofs.lemmas.List.Elements.{recursion_from_All}
 use Rattle.std.proofs.lemmas.List.Folds.{list_any-append}
 use Rattle.std.specs.List.{AllByRecursion}
-use Rattle.ir_types.specs.Things.{Things, IsName, IsAttr}
-use Rattle.ir_types.specs.Sound.{IsSound}
-use Rattle.ir_types.specs.Terms.{name_term}
-use Rattle.ir_types.proofs.Terms.{name_term_one}
-use Rattle.ir_tree.specs.declared.place.Part.{Part}
-use Rattle.ir_tree.specs.declared.place.Part.TheVariants.{Props, Attrs}
-use Rattle.ir_tree.specs.Tree.{Op, op, head}
-use Rattle.ir_tree.specs.Edits.{change_entry, drop_entry, entry_at, part_of, put_entry, same_key}
-use Rattle.ir_tree.specs.Meaning.{IsSoundIn, key_before_in}
-use Rattle.ir_tree_laws.proofs.Keys.{keys_ordered}
-use Rattle.ir_tree_laws.proofs.Listed.{either, or_left, or_right}
-use Rattle.ir_store.specs.Slots.{gone_after, has_key, is_gone, keep_gone}
+use Rattle.ir_event.specs.types.Things.{Things, IsName, IsAttr}
+use Rattle.ir_event.specs.types.Sound.{IsSound}
+use Rattle.ir_event.specs.types.Terms.{name_term}
+use Rattle.ir_event.proofs.of_types.Terms.{name_term_one}
+use Rattle.ir_event.specs.trees.declared.place.Part.{Part}
+use Rattle.ir_event.specs.trees.declared.place.Part.TheVariants.{Props, Attrs}
+use Rattle.ir_event.specs.trees.Tree.{Op, op, head}
+use Rattle.ir_event.specs.trees.Edits.{change_entry, drop_entry, entry_at, part_of, put_entry, same_key}
+use Rattle.ir_event.specs.trees.Meaning.{IsSoundIn, key_before_in}
+use Rattle.ir_event.proofs.of_tree_laws.Keys.{keys_ordered}
+use Rattle.ir_event.proofs.of_tree_laws.Listed.{either, or_left, or_right}
+use Rattle.ir_event.specs.store.Slots.{gone_after, has_key, is_gone, keep_gone}
 use Rattle.ir_event.proofs.Nodes.{node_known}
 use Rattle.ir_event.proofs.Undoing.{no_test}
-use Rattle.ir_types.proofs.Truths.{or_false}
+use Rattle.ir_event.proofs.of_types.Truths.{or_false}
 
 -- keys that are gone
 keep_other : (k l : ℕ) → (l ≡ k → ⊥) → (ls : List ℕ) → is_gone l (keep_gone k ls) ≡ is_gone l ls

@@ -1,33 +1,33 @@
 -- An operation that is erased from its last one on: what is left of it may be erased as well.
 use Rattle.std.proofs.Common.{◌≡◌, refl, ap, sym, ◌∙◌, subst, ℕ, Bool, true, false, true≢false, not, eqb, eq-eqb, List, [], ◌∷◌, ◌++◌, reverse, Some, None, inl, inr}
 use Rattle.std.proofs.lemmas.List.{reverse-reverse, reverse-append}
-use Rattle.ir_types.specs.declared.refusal.Refusal.TheVariants.{NoSuchOp, HasUses, IsRoot}
-use Rattle.ir_tree.specs.declared.place.Place.{Place}
-use Rattle.ir_tree.specs.Tree.{HeadOf, OpOf, head}
-use Rattle.ir_tree.specs.Ids.{ids, has_id, find}
-use Rattle.ir_tree.specs.Frames.{owner_of}
-use Rattle.ir_tree.specs.Limits.{every}
-use Rattle.ir_tree.specs.Places.{put, put_here, without}
-use Rattle.ir_tree.specs.WellFormed.{ModuleOf, IsWellFormed}
-use Rattle.ir_tree.proofs.Moves.{take_put}
-use Rattle.ir_tree_laws.specs.Members.{In}
-use Rattle.ir_tree_laws.specs.Reads.{is_within}
-use Rattle.ir_tree_laws.specs.Reasons.{take_reason, leaves_within, unused_outside}
-use Rattle.ir_tree_laws.specs.Stands.{StandOf, stands}
-use Rattle.ir_tree_laws.proofs.Listed.{bool_cases, all_each, each_all, not_false}
-use Rattle.ir_tree_laws.proofs.Readings.{stands_every}
-use Rattle.ir_tree_laws.proofs.Members.{found_stands}
-use Rattle.ir_tree_laws.proofs.Around.{stand_present}
-use Rattle.ir_tree_laws.proofs.Without.{same_head}
-use Rattle.ir_tree_laws.proofs.PutForm.{put_found}
+use Rattle.ir_event.specs.types.declared.refusal.Refusal.TheVariants.{NoSuchOp, HasUses, IsRoot}
+use Rattle.ir_event.specs.trees.declared.place.Place.{Place}
+use Rattle.ir_event.specs.trees.Tree.{HeadOf, OpOf, head}
+use Rattle.ir_event.specs.trees.Ids.{ids, has_id, find}
+use Rattle.ir_event.specs.trees.Frames.{owner_of}
+use Rattle.ir_event.specs.trees.Limits.{every}
+use Rattle.ir_event.specs.trees.Places.{put, put_here, without}
+use Rattle.ir_event.specs.trees.WellFormed.{ModuleOf, IsWellFormed}
+use Rattle.ir_event.proofs.of_trees.Moves.{take_put}
+use Rattle.ir_event.specs.tree_laws.Members.{In}
+use Rattle.ir_event.specs.tree_laws.Reads.{is_within}
+use Rattle.ir_event.specs.tree_laws.Reasons.{take_reason, leaves_within, unused_outside}
+use Rattle.ir_event.specs.tree_laws.Stands.{StandOf, stands}
+use Rattle.ir_event.proofs.of_tree_laws.Listed.{bool_cases, all_each, each_all, not_false}
+use Rattle.ir_event.proofs.of_tree_laws.Readings.{stands_every}
+use Rattle.ir_event.proofs.of_tree_laws.Members.{found_stands}
+use Rattle.ir_event.proofs.of_tree_laws.Around.{stand_present}
+use Rattle.ir_event.proofs.of_tree_laws.Without.{same_head}
+use Rattle.ir_event.proofs.of_tree_laws.PutForm.{put_found}
 use Rattle.rewriter_machine.specs.Edits.{TestsOf, Erase, erase_reason, reason_by}
 use Rattle.rewriter_laws.specs.Erasing.{ids_in, erase_order}
 use Rattle.rewriter_laws.proofs.Taken.{Erasing, taken_along, taken_goes_on, id_stays}
 use Rattle.rewriter_laws.proofs.Erased.{Erased, erased, erased_may, erased_formed, erased_left}
 use Rattle.std.proofs.lemmas.Bool.{ne_eqb}
 use Rattle.ir_event.proofs.Facts.{own_id}
-use Rattle.ir_tree_laws.proofs.Reverted.{passed}
-use Rattle.ir_tree_laws.proofs.Nested.{unequal}
+use Rattle.ir_event.proofs.of_tree_laws.Reverted.{passed}
+use Rattle.ir_event.proofs.of_tree_laws.Nested.{unequal}
 
 -- operation q stands at a place of a tree that is otherwise `rest`, and no other operation uses a value from within it
 module _ {N T A : Type 0} (isolated : N → Bool) (place : Place) (rest : OpOf N T A) (free x : ℕ) (q : OpOf N T A) (i : Erasing isolated place rest free q) (id : (head q).id ≡ x) where

@@ -3,21 +3,21 @@ use Rattle.std.proofs.Common.{◌≡◌, refl, ap, sym, ◌∙◌, subst, ℕ, s
 use Rattle.std.specs.Prelude.{slice_set}
 use Rattle.std.specs.List.{IsDistinct}
 use Rattle.std.proofs.lemmas.Map.Keys.{IsDistinct-tail}
-use Rattle.ir_tree.specs.declared.value.Value.{Value}
-use Rattle.ir_tree.specs.Tree.{HeadOf, OpOf, op, head}
-use Rattle.ir_tree.specs.Ids.{HasDistinctIds}
-use Rattle.ir_tree.specs.Uses.{same_value, operand_uses, uses_of}
-use Rattle.ir_tree.specs.Edits.{each_head, at, put_operand, with_operand}
-use Rattle.ir_tree.proofs.Heads.{head_ids, alike_operand}
-use Rattle.ir_tree_laws.specs.Members.{In}
-use Rattle.ir_tree_laws.specs.Stands.{StandOf, stand_id, stands, gather, edit_stand}
-use Rattle.ir_tree_laws.proofs.Listed.{in_parts}
-use Rattle.ir_tree_laws.proofs.Readings.{stands_ids, stands_uses}
-use Rattle.ir_tree_laws.proofs.Heads.{each_stands}
+use Rattle.ir_event.specs.trees.declared.value.Value.{Value}
+use Rattle.ir_event.specs.trees.Tree.{HeadOf, OpOf, op, head}
+use Rattle.ir_event.specs.trees.Ids.{HasDistinctIds}
+use Rattle.ir_event.specs.trees.Uses.{same_value, operand_uses, uses_of}
+use Rattle.ir_event.specs.trees.Edits.{each_head, at, put_operand, with_operand}
+use Rattle.ir_event.proofs.of_trees.Heads.{head_ids, alike_operand}
+use Rattle.ir_event.specs.tree_laws.Members.{In}
+use Rattle.ir_event.specs.tree_laws.Stands.{StandOf, stand_id, stands, gather, edit_stand}
+use Rattle.ir_event.proofs.of_tree_laws.Listed.{in_parts}
+use Rattle.ir_event.proofs.of_tree_laws.Readings.{stands_ids, stands_uses}
+use Rattle.ir_event.proofs.of_tree_laws.Heads.{each_stands}
 use Rattle.rewriter_laws.specs.Replacing.{all_set}
 use Rattle.rewriter_laws.proofs.Setting.{apart}
-use Rattle.ir_tree.proofs.Facts.{head_each}
-use Rattle.ir_tree_laws.proofs.Nested.{unequal}
+use Rattle.ir_event.proofs.of_trees.Facts.{head_each}
+use Rattle.ir_event.proofs.of_tree_laws.Nested.{unequal}
 
 pub gather_map : {X Y Z : Type 0} (f : Y → List Z) (g : X → Y) (xs : List X) → gather f (map g xs) ≡ gather (λ x. f (g x)) xs
 gather_map f g [] = refl

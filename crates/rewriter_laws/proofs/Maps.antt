@@ -5,11 +5,11 @@ use Rattle.std.specs.Prelude.{option_map, is_some}
 use Rattle.std.specs.Ordering.{nat_cmp}
 use Rattle.std.specs.Cmp.{nat_cmp_total}
 use Rattle.std.specs.FinMap as finmap
-use Rattle.ir_tree.specs.Tree.{Op}
-use Rattle.ir_store.specs.Stored.{Gone}
-use Rattle.ir_store.specs.Calls.{hold, change_gone_of}
+use Rattle.ir_event.specs.trees.Tree.{Op}
+use Rattle.ir_event.specs.store.Stored.{Gone}
+use Rattle.ir_event.specs.store.Calls.{hold, change_gone_of}
 use Rattle.ir_event.proofs.Maps.{eq_nat}
-use Rattle.ir_tree_laws.proofs.Contents.{some_map}
+use Rattle.ir_event.proofs.of_tree_laws.Contents.{some_map}
 
 module _ {X : Type 0} (m : finmap.FinMap nat_cmp X) (x : ℕ) where
   pub set_here : (a : X) → finmap.get (finmap.insert m x a) x ≡ Some a

@@ -3,23 +3,23 @@ use Rattle.std.proofs.Common.{◌≡◌, refl, ap, sym, ◌∙◌, subst, ℕ, B
 use Rattle.std.proofs.lemmas.Bool.{lt-ltb}
 use Rattle.std.specs.Prelude.{option_map, is_some}
 use Rattle.std.specs.FinMap as finmap
-use Rattle.ir_types.specs.Things.{Things}
-use Rattle.ir_types.specs.Terms.{name_term, type_term, attr_term}
-use Rattle.ir_types.specs.declared.refusal.Refusal.TheVariants.{NoSuchKey}
-use Rattle.ir_tree.specs.declared.value.Value.{Value}
-use Rattle.ir_tree.specs.declared.place.Place.{Place}
-use Rattle.ir_tree.specs.declared.place.Part.{Part}
-use Rattle.ir_tree.specs.Tree.{Op, head}
-use Rattle.ir_tree.specs.Ids.{find, has_id}
-use Rattle.ir_tree.specs.Edits.{entry_at, part_of}
-use Rattle.ir_tree.specs.Meaning.{IsSoundIn, is_attr, key_before, key_before_in, meaning}
-use Rattle.ir_tree.proofs.Mapped.{map_find}
-use Rattle.ir_tree.proofs.SoundEdits.{entry_sound, operand_sound, put_sound, without_sound}
-use Rattle.ir_tree_laws.specs.Reasons.{entry_reason, found_entry_reason, set_entry_reason, unless, with_id}
-use Rattle.ir_tree_laws.proofs.Contents.{map_entry_in, some_map}
-use Rattle.ir_store.specs.Slots.{has_key}
-use Rattle.ir_store.specs.Stored.{Stored, none_gone}
-use Rattle.ir_store.specs.Calls.{after_entry, after_operand, after_put, after_shift, after_take, hold}
+use Rattle.ir_event.specs.types.Things.{Things}
+use Rattle.ir_event.specs.types.Terms.{name_term, type_term, attr_term}
+use Rattle.ir_event.specs.types.declared.refusal.Refusal.TheVariants.{NoSuchKey}
+use Rattle.ir_event.specs.trees.declared.value.Value.{Value}
+use Rattle.ir_event.specs.trees.declared.place.Place.{Place}
+use Rattle.ir_event.specs.trees.declared.place.Part.{Part}
+use Rattle.ir_event.specs.trees.Tree.{Op, head}
+use Rattle.ir_event.specs.trees.Ids.{find, has_id}
+use Rattle.ir_event.specs.trees.Edits.{entry_at, part_of}
+use Rattle.ir_event.specs.trees.Meaning.{IsSoundIn, is_attr, key_before, key_before_in, meaning}
+use Rattle.ir_event.proofs.of_trees.Mapped.{map_find}
+use Rattle.ir_event.proofs.of_trees.SoundEdits.{entry_sound, operand_sound, put_sound, without_sound}
+use Rattle.ir_event.specs.tree_laws.Reasons.{entry_reason, found_entry_reason, set_entry_reason, unless, with_id}
+use Rattle.ir_event.proofs.of_tree_laws.Contents.{map_entry_in, some_map}
+use Rattle.ir_event.specs.store.Slots.{has_key}
+use Rattle.ir_event.specs.store.Stored.{Stored, none_gone}
+use Rattle.ir_event.specs.store.Calls.{after_entry, after_operand, after_put, after_shift, after_take, hold}
 use Rattle.ir_event.specs.declared.event.Event.{Event}
 use Rattle.ir_event.specs.declared.event.Event.TheVariants.{Put, Take, SetOperand, SetEntry, Shift}
 use Rattle.ir_event.specs.Modules.{module_meaning}

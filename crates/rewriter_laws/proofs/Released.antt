@@ -3,14 +3,14 @@ use Rattle.std.proofs.Common.{◌≡◌, refl, ap, sym, ◌∙◌, subst, ℕ, �
 use Rattle.std.proofs.lemmas.Bool.{cases_Bool, cond-false, cond-true, le-ltb, lt-ltb, ne_eqb}
 use Rattle.std.specs.Prelude.{nat_lt, is_some}
 use Rattle.std.specs.FinMap as finmap
-use Rattle.ir_types.specs.Things.{Things}
-use Rattle.ir_tree.specs.Tree.{Op}
-use Rattle.ir_tree.specs.Ids.{find, first_of, has_id}
-use Rattle.ir_tree.specs.Meaning.{IsSoundIn, isolated_in}
-use Rattle.ir_tree.specs.WellFormed.{IsWellFormed, Module as Numbered}
-use Rattle.ir_tree_laws.proofs.Around.{absent_find}
-use Rattle.ir_store.specs.Stored.{Gone, Stored}
-use Rattle.ir_store.specs.Calls.{Releases, gone_left}
+use Rattle.ir_event.specs.types.Things.{Things}
+use Rattle.ir_event.specs.trees.Tree.{Op}
+use Rattle.ir_event.specs.trees.Ids.{find, first_of, has_id}
+use Rattle.ir_event.specs.trees.Meaning.{IsSoundIn, isolated_in}
+use Rattle.ir_event.specs.trees.WellFormed.{IsWellFormed, Module as Numbered}
+use Rattle.ir_event.proofs.of_tree_laws.Around.{absent_find}
+use Rattle.ir_event.specs.store.Stored.{Gone, Stored}
+use Rattle.ir_event.specs.store.Calls.{Releases, gone_left}
 use Rattle.ir_event.specs.declared.event.Event.{Event}
 use Rattle.rewriter_laws.specs.Journals.{IsJournal, IsSlotted, IsStoreOf, IsTidy, before}
 use Rattle.rewriter_laws.proofs.Carries.{Carries, carries_same, known_both}

@@ -3,22 +3,22 @@ use Rattle.std.proofs.Common.{◌≡◌, refl, ap, sym, ◌∙◌, subst, ℕ, �
 use Rattle.std.specs.Prelude.{slice_set}
 use Rattle.std.specs.List.{IsDistinct}
 use Rattle.std.proofs.lemmas.Map.Keys.{IsDistinct-tail}
-use Rattle.ir_tree.specs.declared.value.Value.{Value}
-use Rattle.ir_tree.specs.Tree.{HeadOf, OpOf, op, RegionsOf, no_regions, region, RegionOf, empty, block, OpsOf, no_ops, next, head}
-use Rattle.ir_tree.specs.Ids.{HasDistinctIds}
-use Rattle.ir_tree.specs.Uses.{same_value, operand_uses, uses_of}
-use Rattle.ir_tree.specs.Edits.{each_head, regions_each_head, region_each_head, ops_each_head, at, put_operand, with_operand, put_value, put_values, with_value_replaced}
-use Rattle.ir_tree.proofs.Returns.{absent_first}
-use Rattle.ir_tree_laws.proofs.Entries.{each_twice}
-use Rattle.ir_tree_laws.specs.Members.{In}
-use Rattle.ir_tree_laws.specs.Stands.{StepOf, StandOf, stand_id, stands, regions_stands, region_stands, ops_stands, gather}
-use Rattle.ir_tree_laws.proofs.Listed.{bool_cases, in_left, in_right, any_one}
-use Rattle.ir_tree_laws.proofs.Readings.{step, stands_ids, stands_uses}
-use Rattle.ir_tree_laws.proofs.Members.{stand}
-use Rattle.ir_tree_laws.proofs.Around.{any_ids}
+use Rattle.ir_event.specs.trees.declared.value.Value.{Value}
+use Rattle.ir_event.specs.trees.Tree.{HeadOf, OpOf, op, RegionsOf, no_regions, region, RegionOf, empty, block, OpsOf, no_ops, next, head}
+use Rattle.ir_event.specs.trees.Ids.{HasDistinctIds}
+use Rattle.ir_event.specs.trees.Uses.{same_value, operand_uses, uses_of}
+use Rattle.ir_event.specs.trees.Edits.{each_head, regions_each_head, region_each_head, ops_each_head, at, put_operand, with_operand, put_value, put_values, with_value_replaced}
+use Rattle.ir_event.proofs.of_trees.Returns.{absent_first}
+use Rattle.ir_event.proofs.of_tree_laws.Entries.{each_twice}
+use Rattle.ir_event.specs.tree_laws.Members.{In}
+use Rattle.ir_event.specs.tree_laws.Stands.{StepOf, StandOf, stand_id, stands, regions_stands, region_stands, ops_stands, gather}
+use Rattle.ir_event.proofs.of_tree_laws.Listed.{bool_cases, in_left, in_right, any_one}
+use Rattle.ir_event.proofs.of_tree_laws.Readings.{step, stands_ids, stands_uses}
+use Rattle.ir_event.proofs.of_tree_laws.Members.{stand}
+use Rattle.ir_event.proofs.of_tree_laws.Around.{any_ids}
 use Rattle.rewriter_laws.specs.Replacing.{all_set}
 use Rattle.std.proofs.lemmas.Bool.{ne_eqb}
-use Rattle.ir_tree_laws.proofs.Nested.{unequal}
+use Rattle.ir_event.proofs.of_tree_laws.Nested.{unequal}
 
 set_there : (vs : List Value) (w v : Value) (ws : List Value) → slice_set (vs ++ w ∷ ws) (length vs) v ≡ vs ++ v ∷ ws
 set_there [] w v ws = refl

@@ -1,19 +1,19 @@
 -- An edit against which no reason stands is a list of steps.
 use Rattle.std.proofs.Common.{◌≡◌, refl, ap, sym, ◌∙◌, subst, ℕ, suc, false, List, [], ◌∷◌, ◌++◌, length, append_assoc, append-nil, None, inl, inr}
 use Rattle.std.proofs.lemmas.List.{length-reverse}
-use Rattle.ir_types.specs.Things.{Things}
-use Rattle.ir_tree.specs.declared.value.Value.{Value}
-use Rattle.ir_tree.specs.declared.place.Place.{Place}
-use Rattle.ir_tree.specs.Tree.{Op}
-use Rattle.ir_tree.specs.Ids.{IsNumberedFrom, find, op_count}
-use Rattle.ir_tree.specs.Uses.{uses_of}
-use Rattle.ir_tree.specs.Edits.{with_operand}
-use Rattle.ir_tree.specs.Places.{put, without}
-use Rattle.ir_tree.specs.Meaning.{IsSoundIn, isolated_in}
-use Rattle.ir_tree.specs.WellFormed.{IsWellFormed, Module as Numbered}
-use Rattle.ir_tree.proofs.SoundEdits.{operand_sound, put_sound, without_sound}
-use Rattle.ir_tree_laws.specs.Members.{In}
-use Rattle.ir_tree_laws.proofs.Listed.{in_left}
+use Rattle.ir_event.specs.types.Things.{Things}
+use Rattle.ir_event.specs.trees.declared.value.Value.{Value}
+use Rattle.ir_event.specs.trees.declared.place.Place.{Place}
+use Rattle.ir_event.specs.trees.Tree.{Op}
+use Rattle.ir_event.specs.trees.Ids.{IsNumberedFrom, find, op_count}
+use Rattle.ir_event.specs.trees.Uses.{uses_of}
+use Rattle.ir_event.specs.trees.Edits.{with_operand}
+use Rattle.ir_event.specs.trees.Places.{put, without}
+use Rattle.ir_event.specs.trees.Meaning.{IsSoundIn, isolated_in}
+use Rattle.ir_event.specs.trees.WellFormed.{IsWellFormed, Module as Numbered}
+use Rattle.ir_event.proofs.of_trees.SoundEdits.{operand_sound, put_sound, without_sound}
+use Rattle.ir_event.specs.tree_laws.Members.{In}
+use Rattle.ir_event.proofs.of_tree_laws.Listed.{in_left}
 use Rattle.ir_event.specs.declared.event.Event.{Event}
 use Rattle.ir_event.specs.declared.event.Event.TheVariants as event
 use Rattle.ir_event.specs.Modules.{Module, module_meaning}

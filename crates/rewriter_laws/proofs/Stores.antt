@@ -3,20 +3,20 @@ use Rattle.std.proofs.Common.{◌≡◌, refl, ap, sym, ◌∙◌, ℕ, true, fa
 use Rattle.std.proofs.lemmas.Bool.{cases_eq}
 use Rattle.std.specs.Prelude.{option_map, is_some}
 use Rattle.std.specs.FinMap as finmap
-use Rattle.ir_tree.specs.declared.place.Part.{Part}
-use Rattle.ir_tree.specs.Tree.{Head, Op, head, regions}
-use Rattle.ir_tree.specs.Ids.{HasDistinctIds, find, first_of, has_id}
-use Rattle.ir_tree.specs.Edits.{part_of}
-use Rattle.ir_tree.specs.Places.{without}
-use Rattle.ir_tree.proofs.Left.{gone}
-use Rattle.ir_tree_laws.specs.Reasons.{hold_none}
-use Rattle.ir_tree_laws.proofs.Around.{absent_find}
-use Rattle.ir_tree_laws.proofs.Readings.{option_first}
-use Rattle.ir_store.specs.Slots.{has_key}
-use Rattle.ir_store.specs.Stored.{Stored, has_entry, has_slot, is_some_with, known, stands}
+use Rattle.ir_event.specs.trees.declared.place.Part.{Part}
+use Rattle.ir_event.specs.trees.Tree.{Head, Op, head, regions}
+use Rattle.ir_event.specs.trees.Ids.{HasDistinctIds, find, first_of, has_id}
+use Rattle.ir_event.specs.trees.Edits.{part_of}
+use Rattle.ir_event.specs.trees.Places.{without}
+use Rattle.ir_event.proofs.of_trees.Left.{gone}
+use Rattle.ir_event.specs.tree_laws.Reasons.{hold_none}
+use Rattle.ir_event.proofs.of_tree_laws.Around.{absent_find}
+use Rattle.ir_event.proofs.of_tree_laws.Readings.{option_first}
+use Rattle.ir_event.specs.store.Slots.{has_key}
+use Rattle.ir_event.specs.store.Stored.{Stored, has_entry, has_slot, is_some_with, known, stands}
 use Rattle.rewriter_laws.specs.Journals.{IsSlotted}
 use Rattle.rewriter_laws.proofs.Trees.{absent_too, found_present, taken_head}
-use Rattle.ir_tree_laws.proofs.Contents.{some_map}
+use Rattle.ir_event.proofs.of_tree_laws.Contents.{some_map}
 
 -- the head of an operation that a store knows, and one dictionary of it
 abbrev pub seen : ℕ → Stored → Option Head

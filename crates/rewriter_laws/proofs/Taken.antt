@@ -2,38 +2,38 @@
 use Rattle.std.proofs.Common.{◌≡◌, refl, ap, sym, ◌∙◌, subst, ℕ, Bool, true, false, true≢false, not, eqb, eqb-true, List, [], ◌∷◌, ◌++◌, reverse, append_assoc, append-nil, Some, None, inl, inr}
 use Rattle.std.specs.List.{list_any, IsDistinct}
 use Rattle.std.proofs.lemmas.List.{append_cancel_left, reverse-reverse, reverse-append}
-use Rattle.ir_types.specs.declared.refusal.Refusal.TheVariants.{NoSuchOp, HasUses, IsRoot, NotEmpty}
-use Rattle.ir_tree.specs.declared.value.Value.{Value}
-use Rattle.ir_tree.specs.declared.place.Place.{Place}
-use Rattle.ir_tree.specs.Tree.{HeadOf, OpOf, op, RegionsOf, no_regions, region, empty, block, no_ops, next, head, regions}
-use Rattle.ir_tree.specs.Ids.{ids, regions_ids, HasDistinctIds, has_id, find}
-use Rattle.ir_tree.specs.Frames.{owner_of}
-use Rattle.ir_tree.specs.Places.{put, put_here, without}
-use Rattle.ir_tree.specs.WellFormed.{IsWellFormed}
-use Rattle.ir_tree.proofs.Moves.{take_put}
-use Rattle.ir_tree.proofs.Left.{left_ids, left_distinct}
-use Rattle.ir_tree.proofs.Returns.{Present, halves, absent_first}
-use Rattle.ir_tree_laws.specs.Members.{In}
-use Rattle.ir_tree_laws.specs.Reasons.{hold_none, holds_none, leaves, unused, take_reason}
-use Rattle.ir_tree_laws.specs.Restores.{MayPut}
-use Rattle.ir_tree_laws.specs.Stands.{StandOf, stand_id, stands, sees, left_stand, dropping}
-use Rattle.ir_tree_laws.proofs.Listed.{bool_cases, either, all_each, each_all}
-use Rattle.ir_tree_laws.proofs.Readings.{stands_every}
-use Rattle.ir_tree_laws.proofs.Members.{found_stands, stand_found}
-use Rattle.ir_tree_laws.proofs.Around.{stand_present, present_stand}
-use Rattle.ir_tree_laws.proofs.Without.{same_head}
-use Rattle.ir_tree_laws.proofs.Formed.{from_formed}
-use Rattle.ir_tree_laws.proofs.PutForm.{landed, put_distinct, put_cases}
-use Rattle.ir_tree_laws.proofs.Cuts.{one_cut, absent_before}
-use Rattle.ir_tree_laws.proofs.Edited.{put_order, taken_order}
-use Rattle.ir_tree_laws.proofs.Nested.{without_along, found_along}
-use Rattle.ir_tree_laws.proofs.WellKept.{take_keeps}
+use Rattle.ir_event.specs.types.declared.refusal.Refusal.TheVariants.{NoSuchOp, HasUses, IsRoot, NotEmpty}
+use Rattle.ir_event.specs.trees.declared.value.Value.{Value}
+use Rattle.ir_event.specs.trees.declared.place.Place.{Place}
+use Rattle.ir_event.specs.trees.Tree.{HeadOf, OpOf, op, RegionsOf, no_regions, region, empty, block, no_ops, next, head, regions}
+use Rattle.ir_event.specs.trees.Ids.{ids, regions_ids, HasDistinctIds, has_id, find}
+use Rattle.ir_event.specs.trees.Frames.{owner_of}
+use Rattle.ir_event.specs.trees.Places.{put, put_here, without}
+use Rattle.ir_event.specs.trees.WellFormed.{IsWellFormed}
+use Rattle.ir_event.proofs.of_trees.Moves.{take_put}
+use Rattle.ir_event.proofs.of_trees.Left.{left_ids, left_distinct}
+use Rattle.ir_event.proofs.of_trees.Returns.{Present, halves, absent_first}
+use Rattle.ir_event.specs.tree_laws.Members.{In}
+use Rattle.ir_event.specs.tree_laws.Reasons.{hold_none, holds_none, leaves, unused, take_reason}
+use Rattle.ir_event.specs.tree_laws.Restores.{MayPut}
+use Rattle.ir_event.specs.tree_laws.Stands.{StandOf, stand_id, stands, sees, left_stand, dropping}
+use Rattle.ir_event.proofs.of_tree_laws.Listed.{bool_cases, either, all_each, each_all}
+use Rattle.ir_event.proofs.of_tree_laws.Readings.{stands_every}
+use Rattle.ir_event.proofs.of_tree_laws.Members.{found_stands, stand_found}
+use Rattle.ir_event.proofs.of_tree_laws.Around.{stand_present, present_stand}
+use Rattle.ir_event.proofs.of_tree_laws.Without.{same_head}
+use Rattle.ir_event.proofs.of_tree_laws.Formed.{from_formed}
+use Rattle.ir_event.proofs.of_tree_laws.PutForm.{landed, put_distinct, put_cases}
+use Rattle.ir_event.proofs.of_tree_laws.Cuts.{one_cut, absent_before}
+use Rattle.ir_event.proofs.of_tree_laws.Edited.{put_order, taken_order}
+use Rattle.ir_event.proofs.of_tree_laws.Nested.{without_along, found_along}
+use Rattle.ir_event.proofs.of_tree_laws.WellKept.{take_keeps}
 use Rattle.rewriter_laws.specs.Erasing.{all_taken}
 use Rattle.rewriter_laws.proofs.Earlier.{present_left, present_right, present_cases, first_there, crossed, op_cut, seen_earlier}
 use Rattle.std.proofs.lemmas.Bool.{ne_eqb}
-use Rattle.ir_tree.proofs.Facts.{ids_head}
+use Rattle.ir_event.proofs.of_trees.Facts.{ids_head}
 use Rattle.ir_event.proofs.Facts.{own_id}
-use Rattle.ir_tree_laws.proofs.Reverted.{passed}
+use Rattle.ir_event.proofs.of_tree_laws.Reverted.{passed}
 
 no_parts : (xs ys : List ℕ) → xs ++ ys ≡ [] → (xs ≡ []) × (ys ≡ [])
 no_parts [] ys e = (refl, e)

@@ -3,20 +3,20 @@ use Rattle.std.proofs.Common.{◌≡◌, refl, ap, sym, ◌∙◌, subst, ℕ, B
 use Rattle.std.proofs.lemmas.Bool.{cases_Bool, ne_eqb}
 use Rattle.std.specs.Prelude.{option_map}
 use Rattle.std.specs.List.{list_any}
-use Rattle.ir_tree.specs.Tree.{OpOf, op, RegionsOf, no_regions, region, empty, block, no_ops, next, head, regions}
-use Rattle.ir_tree.specs.Ids.{HasDistinctIds, ids, has_id, find, regions_find, first_of}
-use Rattle.ir_tree.specs.Places.{without}
-use Rattle.ir_tree.proofs.Moves.{absent_parts}
-use Rattle.ir_tree.proofs.Returns.{absent_join}
-use Rattle.ir_tree_laws.specs.Members.{In}
-use Rattle.ir_tree_laws.specs.Reasons.{hold_none}
-use Rattle.ir_tree_laws.specs.Stands.{StepOf, StandOf, stand_id, stand_in, stands}
-use Rattle.ir_tree_laws.proofs.Around.{absent_find, present_stand, stand_present}
-use Rattle.ir_tree_laws.proofs.Edited.{head_stays, taken_order}
-use Rattle.ir_tree_laws.proofs.Members.{stand, within, member, found_stands, stand_found}
-use Rattle.ir_tree_laws.proofs.Readings.{stands_find}
+use Rattle.ir_event.specs.trees.Tree.{OpOf, op, RegionsOf, no_regions, region, empty, block, no_ops, next, head, regions}
+use Rattle.ir_event.specs.trees.Ids.{HasDistinctIds, ids, has_id, find, regions_find, first_of}
+use Rattle.ir_event.specs.trees.Places.{without}
+use Rattle.ir_event.proofs.of_trees.Moves.{absent_parts}
+use Rattle.ir_event.proofs.of_trees.Returns.{absent_join}
+use Rattle.ir_event.specs.tree_laws.Members.{In}
+use Rattle.ir_event.specs.tree_laws.Reasons.{hold_none}
+use Rattle.ir_event.specs.tree_laws.Stands.{StepOf, StandOf, stand_id, stand_in, stands}
+use Rattle.ir_event.proofs.of_tree_laws.Around.{absent_find, present_stand, stand_present}
+use Rattle.ir_event.proofs.of_tree_laws.Edited.{head_stays, taken_order}
+use Rattle.ir_event.proofs.of_tree_laws.Members.{stand, within, member, found_stands, stand_found}
+use Rattle.ir_event.proofs.of_tree_laws.Readings.{stands_find}
 use Rattle.ir_event.proofs.Shown.{none_found}
-use Rattle.ir_tree.proofs.Facts.{first_none}
+use Rattle.ir_event.proofs.of_trees.Facts.{first_none}
 
 module _ {N T A : Type 0} where
   -- an operation whose id is a tree's is found there

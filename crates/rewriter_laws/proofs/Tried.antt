@@ -1,20 +1,20 @@
 -- An operation that is inserted header by header without its sight being looked at before.
 use Rattle.std.proofs.Common.{◌≡◌, refl, ap, sym, ◌∙◌, ℕ, ◌+◌, Bool, true, false, List, ◌∷◌, ◌++◌, Option, None, Some, inl, inr}
 use Rattle.std.specs.Prelude.{nat_le}
-use Rattle.ir_types.specs.declared.refusal.Refusal.{Refusal}
-use Rattle.ir_types.specs.declared.refusal.Refusal.TheVariants.{NoSuchOp, NotVisible, NoSuchIndex, Full, IdsExhausted, TooDeepHere}
-use Rattle.ir_types.specs.Reasons.{first_reason}
-use Rattle.ir_tree.specs.declared.place.Place.{Place}
-use Rattle.ir_tree.specs.Tree.{OpOf}
-use Rattle.ir_tree.specs.Ids.{has_id, op_count, IsNumberedFrom}
-use Rattle.ir_tree.specs.Limits.{depth, every, op_fits, most_ops, most_next}
-use Rattle.ir_tree.specs.Sites.{operands_visible}
-use Rattle.ir_tree.specs.Places.{put}
-use Rattle.ir_tree.specs.WellFormed.{ModuleOf, IsWellFormed}
-use Rattle.ir_tree_laws.specs.Reads.{around}
-use Rattle.ir_tree_laws.specs.Reasons.{unless, has_place, fits_around, put_reason}
-use Rattle.ir_tree_laws.proofs.Listed.{bool_cases}
-use Rattle.ir_tree_laws.proofs.Reasoned.{no_unless}
+use Rattle.ir_event.specs.types.declared.refusal.Refusal.{Refusal}
+use Rattle.ir_event.specs.types.declared.refusal.Refusal.TheVariants.{NoSuchOp, NotVisible, NoSuchIndex, Full, IdsExhausted, TooDeepHere}
+use Rattle.ir_event.specs.types.Reasons.{first_reason}
+use Rattle.ir_event.specs.trees.declared.place.Place.{Place}
+use Rattle.ir_event.specs.trees.Tree.{OpOf}
+use Rattle.ir_event.specs.trees.Ids.{has_id, op_count, IsNumberedFrom}
+use Rattle.ir_event.specs.trees.Limits.{depth, every, op_fits, most_ops, most_next}
+use Rattle.ir_event.specs.trees.Sites.{operands_visible}
+use Rattle.ir_event.specs.trees.Places.{put}
+use Rattle.ir_event.specs.trees.WellFormed.{ModuleOf, IsWellFormed}
+use Rattle.ir_event.specs.tree_laws.Reads.{around}
+use Rattle.ir_event.specs.tree_laws.Reasons.{unless, has_place, fits_around, put_reason}
+use Rattle.ir_event.proofs.of_tree_laws.Listed.{bool_cases}
+use Rattle.ir_event.proofs.of_tree_laws.Reasoned.{no_unless}
 use Rattle.rewriter_machine.specs.Edits.{TestsOf, Insert, insert_reason, edited_by, reason_by}
 use Rattle.rewriter_laws.specs.Inserting.{headers, all_made, insert_fault}
 use Rattle.rewriter_laws.proofs.Inserted.{made_whole, header_allowed}

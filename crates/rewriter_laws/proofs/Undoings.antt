@@ -3,34 +3,34 @@ use Rattle.std.proofs.Common.{◌≡◌, refl, ap, sym, ◌∙◌, subst, ℕ, �
 use Rattle.std.specs.Prelude.{option_map}
 use Rattle.std.specs.List.{All, list_any}
 use Rattle.std.specs.FinMap as finmap
-use Rattle.ir_types.specs.Things.{Things}
-use Rattle.ir_types.specs.Terms.{name_term, type_term, attr_term}
-use Rattle.ir_tree.specs.declared.place.Place.{Place}
-use Rattle.ir_tree.specs.declared.place.Part.{Part}
-use Rattle.ir_tree.specs.Tree.{Head, Op, OpOf, head}
-use Rattle.ir_tree.specs.Ids.{HasDistinctIds, find, has_id, ids}
-use Rattle.ir_tree.specs.Edits.{at, put_operand}
-use Rattle.ir_tree.specs.Meaning.{key_before, meaning}
-use Rattle.ir_tree.specs.Places.{put, put_here, shifted, without}
-use Rattle.ir_tree.specs.WellFormed.{Module as Numbered}
-use Rattle.ir_tree.proofs.Heads.{alike_operand, head_ids}
-use Rattle.ir_tree.proofs.Mapped.{map_find}
-use Rattle.ir_tree.proofs.MappedEdits.{map_without}
-use Rattle.ir_tree.proofs.Meanings.{apart}
-use Rattle.ir_tree.proofs.SoundEdits.{without_sound}
-use Rattle.ir_tree_laws.specs.Changes.{Takes, entry_in}
-use Rattle.ir_tree_laws.specs.Reasons.{holds_none, leads_inside}
-use Rattle.ir_tree_laws.specs.Restores.{MayRetract}
-use Rattle.ir_tree_laws.specs.Stands.{dropping}
-use Rattle.ir_tree_laws.proofs.Around.{present_stand}
-use Rattle.ir_tree_laws.proofs.Changed.{may_retract}
-use Rattle.ir_tree_laws.proofs.Contents.{from_retract}
-use Rattle.ir_tree_laws.proofs.Formed.{ids_below}
-use Rattle.ir_tree_laws.proofs.Shift.{is_put, shift_distinct, shift_found, shift_rest}
-use Rattle.ir_tree_laws.proofs.Without.{same_head}
-use Rattle.ir_store.specs.Shifting.{CanRelink}
-use Rattle.ir_store.specs.Stored.{Stored}
-use Rattle.ir_store.specs.Calls.{after_operand, after_shift, hold}
+use Rattle.ir_event.specs.types.Things.{Things}
+use Rattle.ir_event.specs.types.Terms.{name_term, type_term, attr_term}
+use Rattle.ir_event.specs.trees.declared.place.Place.{Place}
+use Rattle.ir_event.specs.trees.declared.place.Part.{Part}
+use Rattle.ir_event.specs.trees.Tree.{Head, Op, OpOf, head}
+use Rattle.ir_event.specs.trees.Ids.{HasDistinctIds, find, has_id, ids}
+use Rattle.ir_event.specs.trees.Edits.{at, put_operand}
+use Rattle.ir_event.specs.trees.Meaning.{key_before, meaning}
+use Rattle.ir_event.specs.trees.Places.{put, put_here, shifted, without}
+use Rattle.ir_event.specs.trees.WellFormed.{Module as Numbered}
+use Rattle.ir_event.proofs.of_trees.Heads.{alike_operand, head_ids}
+use Rattle.ir_event.proofs.of_trees.Mapped.{map_find}
+use Rattle.ir_event.proofs.of_trees.MappedEdits.{map_without}
+use Rattle.ir_event.proofs.of_trees.Meanings.{apart}
+use Rattle.ir_event.proofs.of_trees.SoundEdits.{without_sound}
+use Rattle.ir_event.specs.tree_laws.Changes.{Takes, entry_in}
+use Rattle.ir_event.specs.tree_laws.Reasons.{holds_none, leads_inside}
+use Rattle.ir_event.specs.tree_laws.Restores.{MayRetract}
+use Rattle.ir_event.specs.tree_laws.Stands.{dropping}
+use Rattle.ir_event.proofs.of_tree_laws.Around.{present_stand}
+use Rattle.ir_event.proofs.of_tree_laws.Changed.{may_retract}
+use Rattle.ir_event.proofs.of_tree_laws.Contents.{from_retract}
+use Rattle.ir_event.proofs.of_tree_laws.Formed.{ids_below}
+use Rattle.ir_event.proofs.of_tree_laws.Shift.{is_put, shift_distinct, shift_found, shift_rest}
+use Rattle.ir_event.proofs.of_tree_laws.Without.{same_head}
+use Rattle.ir_event.specs.store.Shifting.{CanRelink}
+use Rattle.ir_event.specs.store.Stored.{Stored}
+use Rattle.ir_event.specs.store.Calls.{after_operand, after_shift, hold}
 use Rattle.ir_event.specs.declared.event.Event.{Event}
 use Rattle.ir_event.specs.declared.event.Event.TheVariants.{Put, Take, SetOperand, SetEntry, Shift}
 use Rattle.ir_event.specs.Modules.{Module, module_meaning}

@@ -1,8 +1,8 @@
 -- Erasing an operation, one operation at a time.
 use Rattle.std.specs.Prelude.{ℕ, List, [], ◌∷◌, reverse, Option, Some, None}
-use Rattle.ir_tree.specs.Tree.{OpOf}
-use Rattle.ir_tree.specs.Ids.{ids, find}
-use Rattle.ir_tree.specs.Places.{without}
+use Rattle.ir_event.specs.trees.Tree.{OpOf}
+use Rattle.ir_event.specs.trees.Ids.{ids, find}
+use Rattle.ir_event.specs.trees.Places.{without}
 
 -- the ids in an operation that may be there, in pre-order
 abbrev pub ids_in : {N T A : Type 0} → Option (OpOf N T A) → List ℕ

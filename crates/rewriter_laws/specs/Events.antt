@@ -1,8 +1,8 @@
 -- How many events an edit is.
 use Rattle.std.specs.Prelude.{ℕ, length}
-use Rattle.ir_tree.specs.Ids.{find, op_count}
-use Rattle.ir_tree.specs.Uses.{uses_of}
-use Rattle.ir_tree.specs.WellFormed.{ModuleOf}
+use Rattle.ir_event.specs.trees.Ids.{find, op_count}
+use Rattle.ir_event.specs.trees.Uses.{uses_of}
+use Rattle.ir_event.specs.trees.WellFormed.{ModuleOf}
 use Rattle.rewriter_machine.specs.Edits.{EditOf, Insert, Make, Erase, Move, SetOperand, Replace, SetAttr, DropAttr}
 use Rattle.rewriter_laws.specs.Erasing.{ids_in}
 

@@ -1,14 +1,16 @@
 -- Inserting an operation with what is inside it, header by header.
 use Rattle.std.specs.Prelude.{ℕ, ◌+◌, nat_le, List, [], ◌∷◌, ◌++◌, Option, None}
-use Rattle.ir_types.specs.declared.refusal.Refusal.{Refusal}
-use Rattle.ir_types.specs.declared.refusal.Refusal.TheVariants.{NoSuchOp, NoSuchIndex, Full, IdsExhausted, TooDeepHere}
-use Rattle.ir_tree.specs.declared.place.Place.{Place}
-use Rattle.ir_tree.specs.Tree.{OpOf, op, RegionsOf, no_regions, region, RegionOf, empty, block, OpsOf, no_ops, next}
-use Rattle.ir_tree.specs.Ids.{has_id, op_count}
-use Rattle.ir_tree.specs.Limits.{depth, every, most_ops, most_next, op_fits}
-use Rattle.ir_tree.specs.WellFormed.{ModuleOf}
-use Rattle.ir_tree_laws.specs.Reads.{around}
-use Rattle.ir_tree_laws.specs.Reasons.{unless, has_place, fits_around}
+use Rattle.ir_event.specs.types.declared.refusal.Refusal.{Refusal}
+use Rattle.ir_event.specs.types.declared.refusal.Refusal.TheVariants.{NoSuchOp, NoSuchIndex}
+use Rattle.ir_event.specs.types.declared.refusal.Refusal.TheVariants.{Full, IdsExhausted, TooDeepHere}
+use Rattle.ir_event.specs.trees.declared.place.Place.{Place}
+use Rattle.ir_event.specs.trees.Tree.{OpOf, op, RegionsOf, no_regions, region}
+use Rattle.ir_event.specs.trees.Tree.{RegionOf, empty, block, OpsOf, no_ops, next}
+use Rattle.ir_event.specs.trees.Ids.{has_id, op_count}
+use Rattle.ir_event.specs.trees.Limits.{depth, every, most_ops, most_next, op_fits}
+use Rattle.ir_event.specs.trees.WellFormed.{ModuleOf}
+use Rattle.ir_event.specs.tree_laws.Reads.{around}
+use Rattle.ir_event.specs.tree_laws.Reasons.{unless, has_place, fits_around}
 use Rattle.rewriter_machine.specs.Edits.{TestsOf, Make, edited_by}
 
 -- regions with no operation in their blocks

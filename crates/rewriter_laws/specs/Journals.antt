@@ -1,11 +1,11 @@
 -- Journals: the events that led to what a store holds, so that each can be undone in its turn.
 use Rattle.std.specs.Prelude.{◌≡◌, ℕ, ◌≤◌, true, false, List, [], ◌∷◌, ◌++◌, length, drop, None, is_some}
 use Rattle.std.specs.FinMap as map
-use Rattle.ir_types.specs.Things.{Things}
-use Rattle.ir_types.specs.Sound.{IsSound}
-use Rattle.ir_tree.specs.Meaning.{IsSoundIn, isolated_in}
-use Rattle.ir_tree.specs.WellFormed.{IsWellFormed}
-use Rattle.ir_store.specs.Stored.{Stored, known}
+use Rattle.ir_event.specs.types.Things.{Things}
+use Rattle.ir_event.specs.types.Sound.{IsSound}
+use Rattle.ir_event.specs.trees.Meaning.{IsSoundIn, isolated_in}
+use Rattle.ir_event.specs.trees.WellFormed.{IsWellFormed}
+use Rattle.ir_event.specs.store.Stored.{Stored, known}
 use Rattle.ir_event.specs.declared.event.Event.{Event}
 use Rattle.ir_event.specs.declared.event.Event.TheVariants.{Put, Take, SetOperand, SetEntry, Shift}
 use Rattle.ir_event.specs.Facts.{HeldIsSound}

@@ -1,8 +1,8 @@
 -- Replacing a value, operand by operand.
 use Rattle.std.specs.Prelude.{ℕ, List, [], ◌∷◌}
-use Rattle.ir_tree.specs.declared.value.Value.{Value}
-use Rattle.ir_tree.specs.Tree.{OpOf}
-use Rattle.ir_tree.specs.Edits.{with_operand}
+use Rattle.ir_event.specs.trees.declared.value.Value.{Value}
+use Rattle.ir_event.specs.trees.Tree.{OpOf}
+use Rattle.ir_event.specs.trees.Edits.{with_operand}
 
 -- a tree with a value set as some operands, each told by its operation and its number, one after another
 abbrev pub all_set : {N T A : Type 0} → Value → List (ℕ × ℕ) → OpOf N T A → OpOf N T A

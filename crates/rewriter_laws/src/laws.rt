@@ -1,14 +1,14 @@
 //! Laws of edits that are several events. Each is a function that does nothing: its contract is the law.
 ghost use Rattle.std.specs.Prelude.{◌≡◌, ℕ, true, false, List, ◌∷◌, ◌++◌, length, None};
-ghost use Rattle.ir_types.specs.Things.{Things};
-ghost use Rattle.ir_tree.specs.declared.place.Place.{Place as Spot};
-ghost use Rattle.ir_tree.specs.declared.value.Value.{Value as TreeValue};
-ghost use Rattle.ir_tree.specs.Tree.{Op, OpOf, head, regions};
-ghost use Rattle.ir_tree.specs.Ids.{HasDistinctIds, IsNumberedFrom, op_count};
-ghost use Rattle.ir_tree.specs.Uses.{same_value, uses_of};
-ghost use Rattle.ir_tree.specs.Meaning.{IsSoundIn, isolated_in};
-ghost use Rattle.ir_tree.specs.WellFormed.{IsWellFormed, Module as Numbered, ModuleOf};
-ghost use Rattle.ir_tree_laws.specs.Reasons.{hold_none, put_reason, set_operand_reason, take_reason};
+ghost use Rattle.ir_event.specs.types.Things.{Things};
+ghost use Rattle.ir_event.specs.trees.declared.place.Place.{Place as Spot};
+ghost use Rattle.ir_event.specs.trees.declared.value.Value.{Value as TreeValue};
+ghost use Rattle.ir_event.specs.trees.Tree.{Op, OpOf, head, regions};
+ghost use Rattle.ir_event.specs.trees.Ids.{HasDistinctIds, IsNumberedFrom, op_count};
+ghost use Rattle.ir_event.specs.trees.Uses.{same_value, uses_of};
+ghost use Rattle.ir_event.specs.trees.Meaning.{IsSoundIn, isolated_in};
+ghost use Rattle.ir_event.specs.trees.WellFormed.{IsWellFormed, Module as Numbered, ModuleOf};
+ghost use Rattle.ir_event.specs.tree_laws.Reasons.{hold_none, put_reason, set_operand_reason, take_reason};
 ghost use Rattle.ir_event.specs.declared.event.Event.{Event as Change};
 ghost use Rattle.ir_event.specs.Modules.{module_meaning};
 ghost use Rattle.ir_event.specs.Step.{Steps};

@@ -1,11 +1,11 @@
 -- Replacing a value, where no reason stands against it, leaves a module well-formed.
 use Rattle.std.proofs.Common.{◌≡◌, None}
 use Rattle.std.specs.Option.{option_eq}
-use Rattle.ir_types.specs.Things.{Things}
-use Rattle.ir_types.specs.declared.refusal.Refusal.TheVariants.{NoSuchValue, NotVisible, TypeDiffers}
-use Rattle.ir_tree.specs.declared.value.Value.{Value}
-use Rattle.ir_tree.specs.Meaning.{isolated_in}
-use Rattle.ir_tree.specs.WellFormed.{IsWellFormed, Module as Numbered}
+use Rattle.ir_event.specs.types.Things.{Things}
+use Rattle.ir_event.specs.types.declared.refusal.Refusal.TheVariants.{NoSuchValue, NotVisible, TypeDiffers}
+use Rattle.ir_event.specs.trees.declared.value.Value.{Value}
+use Rattle.ir_event.specs.trees.Meaning.{isolated_in}
+use Rattle.ir_event.specs.trees.WellFormed.{IsWellFormed, Module as Numbered}
 use Rattle.ir_event.specs.tree_laws.Values.{has_value, type_of_value}
 use Rattle.ir_event.proofs.of_tree_laws.Reasoned.{no_unless}
 use Rattle.ir_event.proofs.of_tree_laws.HeadForm.{replaced_keeps}

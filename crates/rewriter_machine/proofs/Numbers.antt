@@ -3,31 +3,31 @@ use Rattle.std.proofs.Common.{◌≡◌, refl, ap, ◌∙◌, ℕ, ◌+◌, Bool
 use Rattle.std.specs.Prelude.{nat_le, is_some}
 use Rattle.std.specs.List.{list_all}
 use Rattle.std.specs.Option.{option_eq}
-use Rattle.ir_types.specs.Things.{Things}
-use Rattle.ir_types.specs.Terms.{name_term, type_term, attr_term}
-use Rattle.ir_types.specs.Words.{is_isolated, is_table, is_inherent}
-use Rattle.ir_types.specs.declared.refusal.Refusal.TheVariants.{NoSuchOp, NoSuchValue, HasUses, NotVisible, TypeDiffers, NoSuchIndex, IsRoot, Full, IdsExhausted, TooDeepHere}
-use Rattle.ir_tree.specs.declared.value.Value.{Value}
-use Rattle.ir_tree.specs.declared.place.Place.{Place}
-use Rattle.ir_tree.specs.declared.place.Part.TheVariants.{Props, Attrs}
-use Rattle.ir_tree.specs.Tree.{op, Op, head}
-use Rattle.ir_tree.specs.Ids.{find, op_count}
-use Rattle.ir_tree.specs.Sites.{visible, operands_visible}
-use Rattle.ir_tree.specs.Frames.{owner_of}
-use Rattle.ir_tree.specs.Uses.{uses_of}
-use Rattle.ir_tree.specs.Limits.{every, most_ops, most_next, op_fits}
-use Rattle.ir_tree.specs.Edits.{entry_at, with_entry}
-use Rattle.ir_tree.specs.Meaning.{isolated_in, key_before, key_before_in, meaning}
-use Rattle.ir_tree.specs.Places.{put, without}
-use Rattle.ir_tree.specs.WellFormed.{Module as Numbered}
-use Rattle.ir_tree.proofs.Mapped.{map_ids, map_find, map_every, map_depth, map_uses, map_visible, map_operands_visible}
-use Rattle.ir_tree.proofs.MappedEdits.{map_put, map_shifted, map_without, map_with_operand, map_with_value_replaced, map_with_entry}
+use Rattle.ir_event.specs.types.Things.{Things}
+use Rattle.ir_event.specs.types.Terms.{name_term, type_term, attr_term}
+use Rattle.ir_event.specs.types.Words.{is_isolated, is_table, is_inherent}
+use Rattle.ir_event.specs.types.declared.refusal.Refusal.TheVariants.{NoSuchOp, NoSuchValue, HasUses, NotVisible, TypeDiffers, NoSuchIndex, IsRoot, Full, IdsExhausted, TooDeepHere}
+use Rattle.ir_event.specs.trees.declared.value.Value.{Value}
+use Rattle.ir_event.specs.trees.declared.place.Place.{Place}
+use Rattle.ir_event.specs.trees.declared.place.Part.TheVariants.{Props, Attrs}
+use Rattle.ir_event.specs.trees.Tree.{op, Op, head}
+use Rattle.ir_event.specs.trees.Ids.{find, op_count}
+use Rattle.ir_event.specs.trees.Sites.{visible, operands_visible}
+use Rattle.ir_event.specs.trees.Frames.{owner_of}
+use Rattle.ir_event.specs.trees.Uses.{uses_of}
+use Rattle.ir_event.specs.trees.Limits.{every, most_ops, most_next, op_fits}
+use Rattle.ir_event.specs.trees.Edits.{entry_at, with_entry}
+use Rattle.ir_event.specs.trees.Meaning.{isolated_in, key_before, key_before_in, meaning}
+use Rattle.ir_event.specs.trees.Places.{put, without}
+use Rattle.ir_event.specs.trees.WellFormed.{Module as Numbered}
+use Rattle.ir_event.proofs.of_trees.Mapped.{map_ids, map_find, map_every, map_depth, map_uses, map_visible, map_operands_visible}
+use Rattle.ir_event.proofs.of_trees.MappedEdits.{map_put, map_shifted, map_without, map_with_operand, map_with_value_replaced, map_with_entry}
 use Rattle.ir_event.specs.tree_laws.Values.{type_of_value}
 use Rattle.ir_event.specs.tree_laws.Reads.{is_within}
 use Rattle.ir_event.specs.tree_laws.Reasons.{unless, fits_around, with_id, set_entry_reason, leaves_within, unused_outside, users_see}
 use Rattle.ir_event.proofs.of_tree_laws.Contents.{same_id, map_has_id, map_has_place, map_has_value, map_type_of_value, map_around, map_op_fits, map_with_id, map_entry_at, map_set_entry_reason, map_set_operand_reason, map_put_reason, map_shift_reason, all_alike, some_map}
 use Rattle.ir_event.specs.Modules.{module_meaning}
-use Rattle.ir_types.specs.SameTypes.{same_type}
+use Rattle.ir_event.specs.types.SameTypes.{same_type}
 use Rattle.rewriter_machine.specs.Edits.{Insert, Make, Erase, Move, SetOperand, Replace, SetAttr, DropAttr, part_in, part_for, tree_edited, next_edited, edited_by, insert_reason, erase_reason, replace_reason, tree_reason, reason_by}
 use Rattle.rewriter_machine.specs.Contents.{tests, tests_in, NumberedEdit, edit_meaning, edited, edit_reason}
 use Rattle.ir_event.proofs.of_tree_laws.Facts.{count_meaning}

@@ -1,12 +1,12 @@
 -- An edit that is one event, and against which no reason stands, is a step of what the module stands for.
 use Rattle.std.proofs.Common.{◌≡◌, refl, ap, sym, ◌∙◌, subst, ℕ, true, length, Option, Some, None, slice_get}
 use Rattle.std.specs.Prelude.{nat_lt, option_and_then, is_some}
-use Rattle.ir_types.specs.Things.{Things}
-use Rattle.ir_tree.specs.declared.value.Value.{Value}
-use Rattle.ir_tree.specs.Tree.{Op, head}
-use Rattle.ir_tree.specs.Ids.{find}
-use Rattle.ir_tree.specs.Meaning.{IsSoundIn, isolated_in}
-use Rattle.ir_tree.specs.WellFormed.{IsWellFormed, Module as Numbered}
+use Rattle.ir_event.specs.types.Things.{Things}
+use Rattle.ir_event.specs.trees.declared.value.Value.{Value}
+use Rattle.ir_event.specs.trees.Tree.{Op, head}
+use Rattle.ir_event.specs.trees.Ids.{find}
+use Rattle.ir_event.specs.trees.Meaning.{IsSoundIn, isolated_in}
+use Rattle.ir_event.specs.trees.WellFormed.{IsWellFormed, Module as Numbered}
 use Rattle.ir_event.specs.tree_laws.Changes.{operand_at}
 use Rattle.ir_event.specs.tree_laws.Reasons.{set_operand_reason}
 use Rattle.ir_event.proofs.of_tree_laws.Reasoned.{no_operand_reason}

@@ -1,14 +1,14 @@
 -- The commands of a script, and which call each is.
 use Rattle.std.specs.Prelude.{◌≡◌, ℕ, ◌≤◌, ◌+◌, List, length, Bool, ◌⊎◌, Option, Some, None, Ok, Err}
-use Rattle.ir_types.specs.Terms.{AttrTerm}
-use Rattle.ir_types.specs.Limits.{most_things}
-use Rattle.ir_types.specs.Refusals.{number_of}
-use Rattle.ir_types.specs.Words.{words}
-use Rattle.ir_types.specs.declared.refusal.Refusal.{Refusal}
-use Rattle.ir_types.specs.declared.refusal.Refusal.TheVariants.{TooMany, NoSuchKey, IdsExhausted, Memory}
-use Rattle.ir_tree.specs.declared.value.Value.{Value}
-use Rattle.ir_tree.specs.declared.place.Place.{Place}
-use Rattle.ir_tree.specs.Meaning.{Operation}
+use Rattle.ir_event.specs.types.Terms.{AttrTerm}
+use Rattle.ir_event.specs.types.Limits.{most_things}
+use Rattle.ir_event.specs.types.Refusals.{number_of}
+use Rattle.ir_event.specs.types.Words.{words}
+use Rattle.ir_event.specs.types.declared.refusal.Refusal.{Refusal}
+use Rattle.ir_event.specs.types.declared.refusal.Refusal.TheVariants.{TooMany, NoSuchKey, IdsExhausted, Memory}
+use Rattle.ir_event.specs.trees.declared.value.Value.{Value}
+use Rattle.ir_event.specs.trees.declared.place.Place.{Place}
+use Rattle.ir_event.specs.trees.Meaning.{Operation}
 use Rattle.ir_event.specs.Modules.{Module}
 use Rattle.rewriter_machine.specs.Edits as edit
 use Rattle.rewriter_machine.specs.Machine as call

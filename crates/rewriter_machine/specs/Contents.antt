@@ -1,16 +1,16 @@
 -- Edits of modules of contents, and of the numbers of a context.
 use Rattle.std.specs.Prelude.{◌≡◌, ℕ, List, [], ◌∷◌, true, Option}
-use Rattle.ir_types.specs.Things.{Things, IsName, IsAttr}
-use Rattle.ir_types.specs.Terms.{TypeTerm, AttrTerm, name_term, type_term, attr_term}
-use Rattle.ir_types.specs.Words.{is_isolated, is_table, is_inherent}
-use Rattle.ir_types.specs.declared.refusal.Refusal.{Refusal}
-use Rattle.ir_tree.specs.Tree.{regions}
-use Rattle.ir_tree.specs.Ids.{IsNumberedFrom}
-use Rattle.ir_tree.specs.Meaning.{IsSoundIn, isolated_in, key_before, key_before_in, meaning}
-use Rattle.ir_tree.specs.WellFormed.{Module as Numbered}
+use Rattle.ir_event.specs.types.Things.{Things, IsName, IsAttr}
+use Rattle.ir_event.specs.types.Terms.{TypeTerm, AttrTerm, name_term, type_term, attr_term}
+use Rattle.ir_event.specs.types.Words.{is_isolated, is_table, is_inherent}
+use Rattle.ir_event.specs.types.declared.refusal.Refusal.{Refusal}
+use Rattle.ir_event.specs.trees.Tree.{regions}
+use Rattle.ir_event.specs.trees.Ids.{IsNumberedFrom}
+use Rattle.ir_event.specs.trees.Meaning.{IsSoundIn, isolated_in, key_before, key_before_in, meaning}
+use Rattle.ir_event.specs.trees.WellFormed.{Module as Numbered}
 use Rattle.ir_event.specs.tree_laws.Reasons.{hold_none}
 use Rattle.ir_event.specs.Modules.{Module}
-use Rattle.ir_types.specs.SameTypes.{same_type}
+use Rattle.ir_event.specs.types.SameTypes.{same_type}
 use Rattle.rewriter_machine.specs.Edits.{TestsOf, EditOf, Insert, Make, Erase, Move, SetOperand, Replace, SetAttr}
 use Rattle.rewriter_machine.specs.Edits.{DropAttr, edited_by, reason_by}
 

@@ -1,20 +1,22 @@
 -- Edits of a module as data: what each makes of a module, and why one is refused.
 use Rattle.std.specs.Prelude.{ℕ, ◌+◌, nat_le, eqb, Bool, not, ◌||◌, Option, Some, None, is_some, if◌then◌else◌}
 use Rattle.std.specs.Option.{option_eq}
-use Rattle.ir_types.specs.declared.refusal.Refusal.{Refusal}
-use Rattle.ir_types.specs.declared.refusal.Refusal.TheVariants.{NoSuchOp, NoSuchValue, HasUses, NotVisible, TypeDiffers}
-use Rattle.ir_types.specs.declared.refusal.Refusal.TheVariants.{NoSuchIndex, IsRoot, Full, IdsExhausted, TooDeepHere}
-use Rattle.ir_tree.specs.declared.value.Value.{Value}
-use Rattle.ir_tree.specs.declared.place.Place.{Place}
-use Rattle.ir_tree.specs.declared.place.Part.{Part}
-use Rattle.ir_tree.specs.declared.place.Part.TheVariants.{Props, Attrs}
-use Rattle.ir_tree.specs.Tree.{HeadOf, OpOf, head}
-use Rattle.ir_tree.specs.Ids.{find, has_id, op_count}
-use Rattle.ir_tree.specs.Sites.{operands_visible}
-use Rattle.ir_tree.specs.Limits.{depth, every, most_ops, most_next, op_fits}
-use Rattle.ir_tree.specs.Edits.{with_operand, with_value_replaced, with_entry, entry_at}
-use Rattle.ir_tree.specs.Places.{put, without, shifted}
-use Rattle.ir_tree.specs.WellFormed.{ModuleOf}
+use Rattle.ir_event.specs.types.declared.refusal.Refusal.{Refusal}
+use Rattle.ir_event.specs.types.declared.refusal.Refusal.TheVariants.{NoSuchOp, NoSuchValue}
+use Rattle.ir_event.specs.types.declared.refusal.Refusal.TheVariants.{HasUses, NotVisible, TypeDiffers}
+use Rattle.ir_event.specs.types.declared.refusal.Refusal.TheVariants.{NoSuchIndex, IsRoot}
+use Rattle.ir_event.specs.types.declared.refusal.Refusal.TheVariants.{Full, IdsExhausted, TooDeepHere}
+use Rattle.ir_event.specs.trees.declared.value.Value.{Value}
+use Rattle.ir_event.specs.trees.declared.place.Place.{Place}
+use Rattle.ir_event.specs.trees.declared.place.Part.{Part}
+use Rattle.ir_event.specs.trees.declared.place.Part.TheVariants.{Props, Attrs}
+use Rattle.ir_event.specs.trees.Tree.{HeadOf, OpOf, head}
+use Rattle.ir_event.specs.trees.Ids.{find, has_id, op_count}
+use Rattle.ir_event.specs.trees.Sites.{operands_visible}
+use Rattle.ir_event.specs.trees.Limits.{depth, every, most_ops, most_next, op_fits}
+use Rattle.ir_event.specs.trees.Edits.{with_operand, with_value_replaced, with_entry, entry_at}
+use Rattle.ir_event.specs.trees.Places.{put, without, shifted}
+use Rattle.ir_event.specs.trees.WellFormed.{ModuleOf}
 use Rattle.ir_event.specs.tree_laws.Values.{type_of_value, has_value}
 use Rattle.ir_event.specs.tree_laws.Reads.{around}
 use Rattle.ir_event.specs.tree_laws.Reasons.{unless, has_place, fits_around, with_id, put_reason, unused_outside}

@@ -2,7 +2,7 @@
 use Rattle.std.specs.Prelude.{◌≡◌, ℕ, List, [], ◌∷◌, ◌++◌, Bool, true, false, ◌==◌, Some, is_some, map, position}
 use Rattle.std.specs.Prelude.{remove, slice_get, slice_set}
 use Rattle.std.specs.List.{AllZip}
-use Rattle.ir_tree.specs.Meaning.{Operation}
+use Rattle.ir_event.specs.trees.Meaning.{Operation}
 use Rattle.ir_event.specs.Rows.{RowTerm}
 use Rattle.ir_event.specs.Listener.{Listener}
 

@@ -2,12 +2,12 @@
 use Rattle.std.specs.Prelude.{ℕ, eqb, Bool, true, false, if◌then◌else◌, Option, Some, None, option_map, is_some, Result}
 use Rattle.std.specs.Prelude.{Ok, Err}
 use Rattle.std.specs.Option.{option_eq}
-use Rattle.ir_types.specs.declared.refusal.Refusal.{Refusal}
-use Rattle.ir_types.specs.declared.refusal.Refusal.TheVariants.{NoSuchOp, NoSuchIndex, IsRoot}
-use Rattle.ir_tree.specs.declared.place.Place.{Place}
-use Rattle.ir_tree.specs.Tree.{OpOf}
-use Rattle.ir_tree.specs.Ids.{has_id}
-use Rattle.ir_tree.specs.Places.{place_of}
+use Rattle.ir_event.specs.types.declared.refusal.Refusal.{Refusal}
+use Rattle.ir_event.specs.types.declared.refusal.Refusal.TheVariants.{NoSuchOp, NoSuchIndex, IsRoot}
+use Rattle.ir_event.specs.trees.declared.place.Place.{Place}
+use Rattle.ir_event.specs.trees.Tree.{OpOf}
+use Rattle.ir_event.specs.trees.Ids.{has_id}
+use Rattle.ir_event.specs.trees.Places.{place_of}
 use Rattle.ir_event.specs.tree_laws.Reads.{next_of, first_at, ops_at}
 
 -- before or after an operation, or at the start or the end of the block of one of its regions

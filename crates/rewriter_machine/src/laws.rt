@@ -1,9 +1,9 @@
 //! Laws of the machine. Each is a function that does nothing: its contract is the law.
 ghost use Rattle.std.specs.Prelude.{◌≡◌, List, ◌∷◌, None, true, false};
-ghost use Rattle.ir_types.specs.Things.{Things};
-ghost use Rattle.ir_tree.specs.declared.value.Value.{Value as TreeValue};
-ghost use Rattle.ir_tree.specs.Meaning.{IsSoundIn, isolated_in};
-ghost use Rattle.ir_tree.specs.WellFormed.{IsWellFormed, Module as Numbered};
+ghost use Rattle.ir_event.specs.types.Things.{Things};
+ghost use Rattle.ir_event.specs.trees.declared.value.Value.{Value as TreeValue};
+ghost use Rattle.ir_event.specs.trees.Meaning.{IsSoundIn, isolated_in};
+ghost use Rattle.ir_event.specs.trees.WellFormed.{IsWellFormed, Module as Numbered};
 ghost use Rattle.ir_event.specs.declared.event.Event.{Event as Change};
 ghost use Rattle.ir_event.specs.Modules.{module_meaning};
 ghost use Rattle.ir_event.specs.Step.{Step as StepOf};

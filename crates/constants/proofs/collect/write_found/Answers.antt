@@ -1,6 +1,6 @@
 use Rattle.std.proofs.Common.{◌≡◌, ℕ, Option, sym, subst}
 use Rattle.std.specs.Bool.{OnTrue}
-use Rattle.ir_types.specs.declared.bits.Bits.{Bits}
+use Rattle.ir_event.specs.types.declared.bits.Bits.{Bits}
 use Rattle.dialects_int.specs.Folds.{known_of}
 use Rattle.constants.specs.Walk.{with_fact}
 use Rattle.constants.specs.Tables.{known_in}

@@ -1,5 +1,5 @@
 use Rattle.std.proofs.Common.{◌≡◌, ℕ, true, false, refl, sym, subst, rules, length, take}
-use Rattle.ir_tree_laws.specs.Members.{In}
+use Rattle.ir_event.specs.tree_laws.Members.{In}
 use Rattle.constants.specs.Phases.{Forgotten}
 use Rattle.constants.proofs.Forgets.{forgot_nobody}
 use Rattle.constants.proofs.Counted.{forgot_next, forgot_broken, forgot_all}

@@ -1,5 +1,5 @@
 use Rattle.std.proofs.Common.{◌≡◌, ◌++◌, take, length}
-use Rattle.ir_tree_laws.specs.Members.{In}
+use Rattle.ir_event.specs.tree_laws.Members.{In}
 use Rattle.constants.specs.Phases.{Forgotten}
 use Rattle.constants.specs.Tables.{known_in, users_of}
 use Rattle.constants.proofs.forget.forget_all.Given as goal

@@ -1,5 +1,5 @@
 use Rattle.std.proofs.Common.{◌≡◌, true}
-use Rattle.ir_tree_laws.specs.Members.{In}
+use Rattle.ir_event.specs.tree_laws.Members.{In}
 use Rattle.constants.specs.Trails.{Uses}
 use Rattle.constants.proofs.Forgets.{forgot_as}
 use Rattle.constants.specs.Tables.{known_in, look_in, users_of}

@@ -1,5 +1,5 @@
 use Rattle.std.proofs.Common.{◌≡◌, ℕ, ◌-◌, ◌^◌}
-use Rattle.ir_tree_laws.specs.Members.{In}
+use Rattle.ir_event.specs.tree_laws.Members.{In}
 use Rattle.constants.specs.Trails.{IsThere}
 use Rattle.constants.proofs.Counted.{LearnsFrom}
 use Rattle.constants.specs.Tables.{known_in, look_in, uses_in}

@@ -1,6 +1,6 @@
 use Rattle.std.proofs.Common.{◌≡◌, ℕ, true, subst, arith}
 use Rattle.ir_event.specs.declared.world.World.{World}
-use Rattle.ir_tree_laws.specs.Members.{In}
+use Rattle.ir_event.specs.tree_laws.Members.{In}
 use Rattle.constants.specs.Trails.{Uses, IsThere}
 use Rattle.constants.specs.Phases.{Learnt}
 use Rattle.constants.proofs.Learns.{learnt_as}

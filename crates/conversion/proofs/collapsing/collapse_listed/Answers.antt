@@ -1,6 +1,6 @@
 use Rattle.std.proofs.Common.{ap, eqb, length, refl, subst, sym, ◌∙◌}
 use Rattle.std.specs.List.{IsDistinct}
-use Rattle.ir_tree.specs.Ids.{ids}
+use Rattle.ir_event.specs.trees.Ids.{ids}
 use Rattle.conversion_base.specs.Listing.{casts_among}
 use Rattle.conversion_base.specs.Reconciling.{is_cast}
 use Rattle.conversion_base.proofs.Listed.{casts_have}

@@ -13,7 +13,7 @@ use Rattle.conversion.proofs.Rising.{few_told, rises_legalization}
 use Rattle.conversion.proofs.Trying.{Trying, applied, goes_down, leads_whole, made_some, making_fails, making_more, making_stops, tried_whole, trying_more, trying_rule, trying_stops, trying_well}
 use Rattle.conversion.proofs.legalise.+legalise.Goals as goal
 use Rattle.std.proofs.lemmas.Bool.{not-false, not-true}
-use Rattle.ir_types.proofs.Truths.{rest_at}
+use Rattle.ir_event.proofs.of_types.Truths.{rest_at}
 
 -- the first of a list that isn't empty
 abbrev first : List Rule → Rule

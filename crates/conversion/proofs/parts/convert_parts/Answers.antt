@@ -1,5 +1,5 @@
 use Rattle.std.proofs.Common.{subst, Ok, Err}
-use Rattle.ir_tree.specs.Ids.{ids}
+use Rattle.ir_event.specs.trees.Ids.{ids}
 use Rattle.conversion_base.specs.Conversion.{converted, in_turn, later_parts, legalised_at}
 use Rattle.conversion.specs.States.{Ends}
 use Rattle.conversion_base.specs.Targets.{Aim, aim_of}

@@ -1,5 +1,5 @@
 use Rattle.std.proofs.Common.{◌≡◌, true, ◌∙◌, ap, sym, subst, if◌then◌else◌, None}
-use Rattle.ir_types.specs.declared.refusal.Refusal.TheVariants.{BadTarget}
+use Rattle.ir_event.specs.types.declared.refusal.Refusal.TheVariants.{BadTarget}
 use Rattle.ir_event.specs.Modules.{Module}
 use Rattle.conversion_base.specs.Conversion.{Ended, all_parts, given_up, has_no_cast}
 use Rattle.conversion.specs.States.{Converts}

@@ -1,7 +1,7 @@
 use Rattle.std.proofs.Common.{◌≡◌, length, map}
 use Rattle.std.specs.List.{All}
-use Rattle.ir_types.specs.Things.{IsName}
-use Rattle.ir_types.specs.Terms.{name_term}
+use Rattle.ir_event.specs.types.Things.{IsName}
+use Rattle.ir_event.specs.types.Terms.{name_term}
 use Rattle.conversion_base.specs.Numbers.{are_apart}
 use Rattle.conversion_base.proofs.accepted.are_apart.Given as goal
 

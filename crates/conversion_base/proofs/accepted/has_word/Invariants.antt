@@ -1,7 +1,7 @@
 use Rattle.std.proofs.Common.{◌≡◌, length, map}
 use Rattle.std.specs.List.{list_any}
-use Rattle.ir_types.specs.Terms.{name_term}
-use Rattle.ir_types.specs.WordNames.{word_bytes}
+use Rattle.ir_event.specs.types.Terms.{name_term}
+use Rattle.ir_event.specs.types.WordNames.{word_bytes}
 use Rattle.patterns_base.specs.Words.{named}
 use Rattle.conversion_base.proofs.accepted.has_word.Given as goal
 

@@ -1,5 +1,5 @@
 use Rattle.std.proofs.Common.{◌∙◌, sym, arith}
-use Rattle.ir_tree.specs.Meaning.{isolated_in}
+use Rattle.ir_event.specs.trees.Meaning.{isolated_in}
 use Rattle.conversion_base.proofs.Readings.{some_used, unused_meant}
 use Rattle.conversion_base.proofs.Unused.{none_used}
 use Rattle.conversion_base.proofs.casts.is_unused.Goals as goal

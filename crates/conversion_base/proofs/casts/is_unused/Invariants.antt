@@ -1,6 +1,6 @@
 use Rattle.std.proofs.Common.{◌≡◌, ℕ, ◌<◌, ◌-◌, []}
-use Rattle.ir_tree.specs.declared.value.Value.TheVariants.{Result}
-use Rattle.ir_tree.specs.Uses.{uses_of}
+use Rattle.ir_event.specs.trees.declared.value.Value.TheVariants.{Result}
+use Rattle.ir_event.specs.trees.Uses.{uses_of}
 use Rattle.conversion_base.proofs.casts.is_unused.Given as goal
 
 abbrev pub invariant-results : goal.invariant-results

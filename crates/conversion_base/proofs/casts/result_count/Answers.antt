@@ -1,5 +1,5 @@
 use Rattle.std.proofs.Common.{ap, length, arith}
-use Rattle.ir_tree.specs.Meaning.{isolated_in}
+use Rattle.ir_event.specs.trees.Meaning.{isolated_in}
 use Rattle.conversion_base.proofs.Shown.{few_shown}
 use Rattle.conversion_base.proofs.casts.result_count.Goals as goal
 

@@ -1,7 +1,7 @@
 use Rattle.std.proofs.Common.{◌≡◌, length, map}
 use Rattle.std.specs.List.{All, list_any}
-use Rattle.ir_types.specs.Things.{IsType}
-use Rattle.ir_types.specs.Terms.{type_term}
+use Rattle.ir_event.specs.types.Things.{IsType}
+use Rattle.ir_event.specs.types.Terms.{type_term}
 use Rattle.patterns_base.specs.Looks.{is_index}
 use Rattle.conversion_base.proofs.legal.any_index.Given as goal
 

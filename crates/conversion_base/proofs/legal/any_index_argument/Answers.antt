@@ -1,6 +1,6 @@
 use Rattle.std.proofs.Common.{map}
 use Rattle.std.specs.Prelude.{option_map}
-use Rattle.ir_types.specs.Terms.{type_term}
+use Rattle.ir_event.specs.types.Terms.{type_term}
 use Rattle.conversion_base.specs.Targets.{index_argument}
 use Rattle.conversion_base.proofs.Readings.{any_here, any_next}
 use Rattle.conversion_base.proofs.legal.any_index_argument.Goals as goal

@@ -1,5 +1,5 @@
 use Rattle.std.proofs.Common.{sym}
-use Rattle.ir_types.specs.Terms.{Index}
+use Rattle.ir_event.specs.types.Terms.{Index}
 use Rattle.ir_event.proofs.Typed.{value_known}
 use Rattle.conversion_base.proofs.Readings.{of_type_none, of_type_some}
 use Rattle.conversion_base.proofs.legal.is_index_value.Goals as goal

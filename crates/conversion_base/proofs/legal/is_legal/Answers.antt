@@ -1,5 +1,5 @@
 use Rattle.std.proofs.Common.{◌∙◌}
-use Rattle.ir_tree.specs.Meaning.{isolated_in}
+use Rattle.ir_event.specs.trees.Meaning.{isolated_in}
 use Rattle.conversion_base.specs.Targets.{aim_of}
 use Rattle.conversion_base.proofs.Readings.{legal_none, legal_some}
 use Rattle.conversion_base.proofs.Shown.{few_shown}

@@ -6,7 +6,7 @@ use Rattle.effects.specs.Counts.{counts_in, with_count}
 use Rattle.effects.specs.Marks.{is_zero}
 use Rattle.effects.proofs.Marked.{marked, roomy}
 use Rattle.effects.proofs.counts.write.Goals as goal
-use Rattle.ir_types.proofs.Truths.{same_test}
+use Rattle.ir_event.proofs.of_types.Truths.{same_test}
 
 pub mark-requires : goal.mark-requires
 mark-requires c =

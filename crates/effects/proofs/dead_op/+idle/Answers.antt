@@ -2,8 +2,8 @@ use Rattle.std.proofs.Common.{◌∙◌, sym, arith}
 use Rattle.effects.specs.Effects.{own_by}
 use Rattle.effects.specs.Within.{regions_of}
 use Rattle.effects.proofs.Idling.{regions_start, region_stop, region_go, regions_end, list_falls, walk_start, inner_falls, walk_smaller, walk_stop, walk_on}
-use Rattle.ir_tree.specs.Ids.{find}
-use Rattle.ir_tree.specs.Tree.{head}
+use Rattle.ir_event.specs.trees.Ids.{find}
+use Rattle.ir_event.specs.trees.Tree.{head}
 use Rattle.effects.proofs.dead_op.+idle.Goals as goal
 
 pub is_idle-regions-init : goal.is_idle-regions-init

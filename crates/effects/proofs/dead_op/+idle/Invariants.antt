@@ -1,6 +1,6 @@
 use Rattle.std.proofs.Common.{◌-◌, ◌≡◌, ◌≤◌, ◌+◌, ◌*◌}
-use Rattle.ir_tree.specs.Ids.{find}
-use Rattle.ir_tree.specs.Places.{first_id}
+use Rattle.ir_event.specs.trees.Ids.{find}
+use Rattle.ir_event.specs.trees.Places.{first_id}
 use Rattle.effects.specs.Effects.{own_by}
 use Rattle.effects.specs.Idle.{idle_at, idle_ops, idle_regions}
 use Rattle.effects.specs.Within.{list_at, list_size, op_size, ops_from, regions_from, regions_of}

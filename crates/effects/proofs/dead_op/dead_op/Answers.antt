@@ -1,7 +1,7 @@
 use Rattle.std.proofs.Common.{◌≡◌, ◌∙◌, ◌<◌, refl, ap, sym, subst, ℕ, true, false, length, [], arith}
-use Rattle.ir_types.specs.Terms.{name_term}
-use Rattle.ir_tree.specs.declared.value.Value.TheVariants.{Result}
-use Rattle.ir_tree.specs.Uses.{uses_of}
+use Rattle.ir_event.specs.types.Terms.{name_term}
+use Rattle.ir_event.specs.trees.declared.value.Value.TheVariants.{Result}
+use Rattle.ir_event.specs.trees.Uses.{uses_of}
 use Rattle.effects.specs.Dead.{is_kept}
 use Rattle.effects.specs.Effects.{own_by}
 use Rattle.effects.specs.Idle.{AreUnused, idle_at}

@@ -1,5 +1,5 @@
 use Rattle.patterns.specs.runs.Interning.{IsFull}
-use Rattle.rewriter.specs.Benched.{state_of}
+use Rattle.patterns.specs.rewriter.Benched.{state_of}
 use Rattle.greedy.proofs.Changing.{changes_by, full_by}
 use Rattle.greedy.proofs.bench.rewrite.Goals as goal
 

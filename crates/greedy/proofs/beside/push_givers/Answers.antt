@@ -2,7 +2,7 @@ use Rattle.std.proofs.Common.{refl}
 use Rattle.greedy.specs.Parts.{Gives}
 use Rattle.greedy.proofs.Adding.{from_item, rest_all, rest_more, rest_done}
 use Rattle.greedy.proofs.beside.push_givers.Goals as goal
-use Rattle.ir_types.proofs.Truths.{none_left}
+use Rattle.ir_event.proofs.of_types.Truths.{none_left}
 
 pub values-init : goal.values-init
 values-init c = rest_all Gives c.args.values.now c.args.ops.now.items

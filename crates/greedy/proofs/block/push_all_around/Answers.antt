@@ -2,7 +2,7 @@ use Rattle.std.proofs.Common.{refl}
 use Rattle.greedy.specs.Parts.{IsAround}
 use Rattle.greedy.proofs.Adding.{from_item, rest_all, rest_more, rest_done}
 use Rattle.greedy.proofs.block.push_all_around.Goals as goal
-use Rattle.ir_types.proofs.Truths.{none_left}
+use Rattle.ir_event.proofs.of_types.Truths.{none_left}
 
 pub near-init : goal.near-init
 near-init c = rest_all (IsAround c.args.world.now.store.module_of.tree) c.args.near.now c.args.ops.now.items

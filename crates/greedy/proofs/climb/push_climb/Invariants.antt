@@ -1,4 +1,4 @@
-use Rattle.ir_tree_laws.specs.Stands.{stand_of}
+use Rattle.ir_event.specs.tree_laws.Stands.{stand_of}
 use Rattle.greedy.specs.Adding.{Adding}
 use Rattle.greedy.specs.Parts.{IsClimbed}
 use Rattle.greedy.proofs.Climbing.{height_of}

@@ -1,7 +1,7 @@
 use Rattle.std.proofs.Common.{◌∙◌, Vec, Global}
-use Rattle.ir_types.specs.declared.ids.OpId.{OpId}
+use Rattle.ir_event.specs.types.declared.ids.OpId.{OpId}
 use Rattle.ir_event.specs.Modules.{Module, module_in}
-use Rattle.rewriter.specs.Held.{module_at, module_held}
+use Rattle.patterns.specs.rewriter.Held.{module_at, module_held}
 use Rattle.greedy.specs.Listing.{Touched}
 use Rattle.greedy.specs.Near.{Leads}
 use Rattle.greedy.specs.Shown.{shown_operands}

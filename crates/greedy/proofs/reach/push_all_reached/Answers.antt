@@ -2,7 +2,7 @@ use Rattle.std.proofs.Common.{refl}
 use Rattle.greedy.specs.Parts.{IsReached}
 use Rattle.greedy.proofs.Adding.{from_item, rest_all, rest_more, rest_done}
 use Rattle.greedy.proofs.reach.push_all_reached.Goals as goal
-use Rattle.ir_types.proofs.Truths.{none_left}
+use Rattle.ir_event.proofs.of_types.Truths.{none_left}
 
 pub events-init : goal.events-init
 events-init c = rest_all (IsReached c.args.world.now.store.module_of.tree) c.args.events.now c.args.ops.now.items

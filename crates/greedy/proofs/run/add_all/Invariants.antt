@@ -1,5 +1,5 @@
 use Rattle.std.proofs.Common.{◌≡◌, ◌⊎◌, ℕ, length, true}
-use Rattle.ir_tree.specs.Ids.{has_id}
+use Rattle.ir_event.specs.trees.Ids.{has_id}
 use Rattle.greedy.specs.Work.{IsWork, StillWaits, waits}
 use Rattle.greedy.specs.Sights.{is_listed}
 use Rattle.greedy.proofs.run.add_all.Given as goal

@@ -1,5 +1,5 @@
 use Rattle.std.proofs.Common.{[], subst, sym, ℕ, List}
-use Rattle.ir_tree.specs.Tree.{head}
+use Rattle.ir_event.specs.trees.Tree.{head}
 use Rattle.greedy.specs.Ruled.{rules_in}
 use Rattle.greedy.specs.Work.{Right}
 use Rattle.greedy.proofs.Scans.{begun}

@@ -1,6 +1,6 @@
 use Rattle.std.proofs.Common.{◌≡◌, Vec, Global}
-use Rattle.ir_tree.specs.Ids.{ids}
-use Rattle.ir_types.specs.declared.ids.OpId.{OpId}
+use Rattle.ir_event.specs.trees.Ids.{ids}
+use Rattle.ir_event.specs.types.declared.ids.OpId.{OpId}
 use Rattle.ir_event.specs.Modules.{Module, module_in}
 use Rattle.greedy.specs.Listing.{Touched}
 use Rattle.greedy.proofs.Adding.{if_ok}

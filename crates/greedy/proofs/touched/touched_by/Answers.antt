@@ -1,5 +1,5 @@
 use Rattle.std.proofs.Common.{sym, ◌∙◌, Vec, Global}
-use Rattle.ir_types.specs.declared.ids.OpId.{OpId}
+use Rattle.ir_event.specs.types.declared.ids.OpId.{OpId}
 use Rattle.ir_event.specs.Modules.{Module, module_in}
 use Rattle.greedy.specs.Listing.{Touched}
 use Rattle.greedy.specs.Near.{Leads}

@@ -1,5 +1,5 @@
 use Rattle.std.proofs.Common.{◌∙◌, sym, subst, ◌≤◌}
-use Rattle.ir_tree.specs.Ids.{find}
+use Rattle.ir_event.specs.trees.Ids.{find}
 use Rattle.greedy.proofs.Following.{inside_found, inside_none, inside_past}
 use Rattle.greedy.proofs.walk.first_from.Goals as goal
 

@@ -1,5 +1,5 @@
 use Rattle.std.proofs.Common.{◌≡◌, ◌-◌}
-use Rattle.ir_tree.specs.Ids.{find}
+use Rattle.ir_event.specs.trees.Ids.{find}
 use Rattle.greedy.specs.Following.{first_inside}
 use Rattle.greedy.proofs.walk.first_from.Given as goal
 

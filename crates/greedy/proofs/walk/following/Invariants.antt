@@ -1,6 +1,6 @@
 use Rattle.std.proofs.Common.{◌≡◌, true}
-use Rattle.ir_tree.specs.Ids.{has_id}
-use Rattle.ir_tree_laws.specs.Stands.{stand_of}
+use Rattle.ir_event.specs.trees.Ids.{has_id}
+use Rattle.ir_event.specs.tree_laws.Stands.{stand_of}
 use Rattle.greedy.specs.Following.{following, first_id, behind_of, height_of}
 use Rattle.greedy.proofs.walk.following.Given as goal
 

@@ -2,7 +2,7 @@ use Rattle.std.proofs.Common.{◌≡◌, sym, ap, subst, ◌∙◌, take, drop, 
 use Rattle.std.proofs.lemmas.List.{take-append-drop}
 use Rattle.greedy.specs.Work.{IsWork, Parted, begins_with, StillWaits}
 use Rattle.greedy.specs.Sights.{is_listed}
-use Rattle.ir_tree_laws.specs.Reads.{precedes}
+use Rattle.ir_event.specs.tree_laws.Reads.{precedes}
 use Rattle.greedy.proofs.Works.{put_between, begins_listed, listed_still}
 use Rattle.greedy.proofs.work.add.Goals as goal
 use Rattle.std.proofs.lemmas.Bool.{or_cases, or_left, or_right}

@@ -1,6 +1,6 @@
 use Rattle.std.proofs.Common.{rules}
 use Rattle.std.proofs.lemmas.List.Sorted.{IsPartitionPoint-from_clause}
-use Rattle.ir_tree_laws.specs.Reads.{precedes}
+use Rattle.ir_event.specs.tree_laws.Reads.{precedes}
 use Rattle.greedy.proofs.Works.{falls_parts, parted_at}
 use Rattle.greedy.proofs.work.behind.Goals as goal
 

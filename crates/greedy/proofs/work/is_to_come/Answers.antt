@@ -1,5 +1,5 @@
 use Rattle.std.proofs.Common.{sym, subst, eqb-true, ◌≡◌, true}
-use Rattle.ir_tree_laws.specs.Reads.{precedes}
+use Rattle.ir_event.specs.tree_laws.Reads.{precedes}
 use Rattle.greedy.proofs.Works.{not_itself}
 use Rattle.greedy.proofs.work.is_to_come.Goals as goal
 use Rattle.std.proofs.lemmas.Bool.{false_from_ne_true}

@@ -1,6 +1,6 @@
 use Rattle.std.proofs.Common.{rules, ◌≡◌, sym, ap, subst, ◌∙◌, filter, not}
 use Rattle.std.proofs.lemmas.Fn.{filter_same}
-use Rattle.ir_tree_laws.specs.Reads.{precedes}
+use Rattle.ir_event.specs.tree_laws.Reads.{precedes}
 use Rattle.greedy.specs.Work.{IsWork, StillWaits}
 use Rattle.greedy.proofs.Works.{there_in, passed_stays, waits_on, back_work, waits_back}
 use Rattle.greedy.proofs.work.settle.Goals as goal

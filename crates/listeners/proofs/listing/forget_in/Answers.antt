@@ -1,6 +1,6 @@
 use Rattle.std.proofs.Common.{◌∙◌, ap, sym, subst, ℕ, ◌<◌, ◌≤◌, map}
 use Rattle.listeners.specs.Listings.{forgotten}
-use Rattle.ir_tree.proofs.Steps.{write_next, write_all}
+use Rattle.ir_event.proofs.of_trees.Steps.{write_next, write_all}
 use Rattle.listeners.proofs.listing.forget_in.Goals as goal
 
 pub loop-user-preserved : goal.loop-user-preserved

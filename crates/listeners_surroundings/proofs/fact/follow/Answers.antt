@@ -2,7 +2,7 @@ use Rattle.std.proofs.Common.{◌≡◌, ◌∙◌, sym, ap, subst, arith}
 use Rattle.std.specs.Prelude.{OnOk}
 use Rattle.std.specs.Ordering.{nat_cmp}
 use Rattle.std.specs.BTreeMap.{get}
-use Rattle.ir_types.specs.Terms.{name_term, type_term, attr_term}
+use Rattle.ir_event.specs.types.Terms.{name_term, type_term, attr_term}
 use Rattle.ir_event.specs.Modules.{module_in}
 use Rattle.ir_event.specs.declared.world.World.{World}
 use Rattle.listeners_surroundings.specs.Near.{near, somes}

@@ -1,7 +1,7 @@
 use Rattle.std.proofs.Common.{◌∙◌, sym, ap, refl, None, Some, arith}
 use Rattle.std.specs.Prelude.{option_map, option_and_then}
-use Rattle.ir_types.specs.Terms.{name_term}
-use Rattle.ir_tree.specs.Ids.{has_id}
+use Rattle.ir_event.specs.types.Terms.{name_term}
+use Rattle.ir_event.specs.trees.Ids.{has_id}
 use Rattle.ir_event.specs.store.Nodes.{node_of}
 use Rattle.ir_event.specs.store.Stored.{known}
 use Rattle.ir_event.specs.declared.world.World.{World}

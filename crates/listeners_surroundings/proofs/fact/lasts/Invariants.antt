@@ -1,6 +1,6 @@
 use Rattle.std.proofs.Common.{◌≡◌, ◌+◌, ◌-◌, ◌≤◌, ◌++◌, ◌∷◌, Some}
-use Rattle.ir_tree.specs.Ids.{find}
-use Rattle.ir_tree_laws.specs.Reads.{last_at}
+use Rattle.ir_event.specs.trees.Ids.{find}
+use Rattle.ir_event.specs.tree_laws.Reads.{last_at}
 use Rattle.listeners_surroundings.specs.Gathered.{tree_in, from_on, regions_found}
 use Rattle.listeners_surroundings.proofs.fact.lasts.Given as goal
 

@@ -3,7 +3,7 @@ use Rattle.std.specs.Prelude.{option_map, option_and_then, IfSome}
 use Rattle.std.specs.List.{All}
 use Rattle.ir_event.specs.Modules.{NodeIsOf}
 use Rattle.listeners_surroundings.specs.declared.around.Outer.{Outer}
-use Rattle.ir_tree_laws.specs.Values.{type_of_value, has_value}
+use Rattle.ir_event.specs.tree_laws.Values.{type_of_value, has_value}
 use Rattle.ir_event.specs.declared.world.World.{World}
 use Rattle.ir_event.proofs.Nodes.{known_node}
 use Rattle.listeners_surroundings.specs.Gathered.{tree_in, last_name_at, from_on, outer_in, outer_at}

@@ -1,6 +1,6 @@
 use Rattle.std.proofs.Common.{◌∙◌, sym, ap, refl, arith}
 use Rattle.std.specs.Prelude.{option_map}
-use Rattle.ir_tree.specs.Ids.{has_id}
+use Rattle.ir_event.specs.trees.Ids.{has_id}
 use Rattle.ir_event.specs.store.Nodes.{node_of}
 use Rattle.ir_event.specs.store.Stored.{known}
 use Rattle.ir_event.specs.declared.world.World.{World}

@@ -2,7 +2,7 @@ use Rattle.std.proofs.Common.{◌∙◌, sym, ap, Some}
 use Rattle.std.specs.Prelude.{option_map}
 use Rattle.ir_event.specs.store.Nodes.{node_of}
 use Rattle.ir_event.specs.store.Stored.{known}
-use Rattle.ir_tree_laws.specs.Reads.{next_of}
+use Rattle.ir_event.specs.tree_laws.Reads.{next_of}
 use Rattle.ir_event.specs.declared.world.World.{World}
 use Rattle.ir_event.proofs.Nodes.{known_node}
 use Rattle.listeners_surroundings.proofs.Reading.{no_outer, parent_unshown, parent_shown, ended_at}

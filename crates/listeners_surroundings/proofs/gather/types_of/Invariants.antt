@@ -1,7 +1,7 @@
 use Rattle.std.proofs.Common.{◌≡◌, ◌+◌, ◌≤◌, map, take, Some}
 use Rattle.std.specs.List.{All}
-use Rattle.ir_types.specs.Things.{IsType}
-use Rattle.ir_tree_laws.specs.Values.{type_of_value}
+use Rattle.ir_event.specs.types.Things.{IsType}
+use Rattle.ir_event.specs.tree_laws.Values.{type_of_value}
 use Rattle.listeners_surroundings.specs.Gathered.{tree_in}
 use Rattle.listeners_surroundings.proofs.gather.types_of.Given as goal
 

@@ -1,8 +1,8 @@
 use Rattle.std.proofs.Common.{◌∙◌, sym, refl}
 use Rattle.std.specs.Ordering.{nat_cmp}
 use Rattle.std.specs.BTreeMap.{get}
-use Rattle.ir_types.specs.Terms.{name_term, type_term, attr_term}
-use Rattle.ir_tree.proofs.Mapped.{map_ids}
+use Rattle.ir_event.specs.types.Terms.{name_term, type_term, attr_term}
+use Rattle.ir_event.proofs.of_trees.Mapped.{map_ids}
 use Rattle.ir_event.specs.Modules.{module_in}
 use Rattle.listeners_surroundings.specs.Gathered.{tree_in}
 use Rattle.listeners_surroundings.proofs.Tables.{all_renewed, renewed_in}

@@ -1,4 +1,4 @@
-use Rattle.ir_types.specs.Terms.{name_term, type_term, attr_term}
+use Rattle.ir_event.specs.types.Terms.{name_term, type_term, attr_term}
 use Rattle.listeners_surroundings.proofs.Meanings.{mapped_surroundings, map_near}
 use Rattle.listeners_surroundings.proofs.laws.surroundings_have_a_meaning.Goals as goal
 

@@ -1,11 +1,11 @@
 use Rattle.std.proofs.Common.{◌≡◌, length}
 use Rattle.std.specs.List.{All}
-use Rattle.ir_types.specs.Things.{IsName, IsAttr}
-use Rattle.ir_types.specs.WordNames.{word_bytes}
+use Rattle.ir_event.specs.types.Things.{IsName, IsAttr}
+use Rattle.ir_event.specs.types.WordNames.{word_bytes}
 use Rattle.ir_event.specs.registry.Registry.{beside}
 use Rattle.std.proofs.Common.{map}
-use Rattle.ir_tree.specs.Maps.{map_entry}
-use Rattle.ir_types.specs.Terms.{name_term, attr_term}
+use Rattle.ir_event.specs.trees.Maps.{map_entry}
+use Rattle.ir_event.specs.types.Terms.{name_term, attr_term}
 use Rattle.listeners_surroundings.proofs.properties.entry.Given as goal
 
 abbrev pub invariant-loop-rest : goal.invariant-loop-rest

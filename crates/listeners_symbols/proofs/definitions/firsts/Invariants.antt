@@ -1,5 +1,5 @@
 use Rattle.std.proofs.Common.{◌≡◌, ℕ, eqb, length}
-use Rattle.ir_tree.specs.Ids.{first_of}
+use Rattle.ir_event.specs.trees.Ids.{first_of}
 use Rattle.listeners_symbols.specs.Symbols.{first_defined}
 use Rattle.listeners_symbols.specs.Lines.{first_in}
 use Rattle.listeners_symbols.proofs.definitions.firsts.Given as goal

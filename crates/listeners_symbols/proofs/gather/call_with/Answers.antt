@@ -1,7 +1,7 @@
 use Rattle.std.proofs.Common.{◌∙◌, ap, map}
 use Rattle.std.specs.Prelude.{option_map}
-use Rattle.ir_types.specs.Terms.{name_term, type_term}
-use Rattle.ir_tree_laws.specs.Values.{type_of_value}
+use Rattle.ir_event.specs.types.Terms.{name_term, type_term}
+use Rattle.ir_event.specs.tree_laws.Values.{type_of_value}
 use Rattle.listeners_symbols.proofs.Meant.{types_meant}
 use Rattle.listeners_symbols.proofs.gather.call_with.Goals as goal
 

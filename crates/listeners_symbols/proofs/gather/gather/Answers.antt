@@ -1,10 +1,10 @@
 use Rattle.std.proofs.Common.{◌≡◌, ◌∙◌, ap, sym, subst, map}
 use Rattle.std.specs.Prelude.{option_map, Result, Ok, Err, IfOk}
-use Rattle.ir_types.specs.Terms.{name_term}
-use Rattle.ir_types.specs.Words.{is_table}
-use Rattle.ir_types.specs.Things.{Things}
-use Rattle.ir_tree_laws.specs.Reads.{parent_of}
-use Rattle.ir_tree_laws.specs.Values.{type_of_value}
+use Rattle.ir_event.specs.types.Terms.{name_term}
+use Rattle.ir_event.specs.types.Words.{is_table}
+use Rattle.ir_event.specs.types.Things.{Things}
+use Rattle.ir_event.specs.tree_laws.Reads.{parent_of}
+use Rattle.ir_event.specs.tree_laws.Values.{type_of_value}
 use Rattle.ir_event.specs.Modules.{NodeIsOf, module_in}
 use Rattle.ir_event.specs.declared.world.World.{World}
 use Rattle.ir_event.proofs.Nodes.{known_node}

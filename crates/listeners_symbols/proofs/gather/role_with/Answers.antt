@@ -1,6 +1,6 @@
 use Rattle.std.proofs.Common.{◌∙◌, ap}
-use Rattle.ir_types.specs.Terms.{name_term}
-use Rattle.ir_types.specs.Words.{is_table}
+use Rattle.ir_event.specs.types.Terms.{name_term}
+use Rattle.ir_event.specs.types.Words.{is_table}
 use Rattle.listeners_symbols.proofs.Meant.{references_meant, call_meant, function_meant}
 use Rattle.listeners_symbols.proofs.gather.role_with.Goals as goal
 

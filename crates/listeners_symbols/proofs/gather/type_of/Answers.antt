@@ -2,11 +2,11 @@ use Rattle.std.proofs.Common.{◌≡◌, sym, Some, None, Option}
 use Rattle.std.specs.Prelude.{IfOk}
 use Rattle.std.specs.Option.{ok_or}
 use Rattle.std.proofs.Common.{subst, ℕ}
-use Rattle.ir_types.specs.Things.{IsType}
-use Rattle.ir_tree_laws.specs.Values.{type_of_value}
+use Rattle.ir_event.specs.types.Things.{IsType}
+use Rattle.ir_event.specs.tree_laws.Values.{type_of_value}
 use Rattle.std.specs.declared.alloc.AllocError.{AllocError}
 use Rattle.ir_event.specs.declared.world.World.{World}
-use Rattle.ir_tree.specs.declared.value.Value.{Value}
+use Rattle.ir_event.specs.trees.declared.value.Value.{Value}
 use Rattle.ir_event.proofs.Typed.{value_known}
 use Rattle.listeners_symbols.proofs.gather.type_of.Goals as goal
 

@@ -1,6 +1,6 @@
 use Rattle.std.proofs.Common.{◌≡◌, ◌≤◌, ◌<◌, length}
 use Rattle.std.specs.List.{All}
-use Rattle.ir_types.specs.Terms.{attr_term, attr_terms, attrs_at, entries_at}
+use Rattle.ir_event.specs.types.Terms.{attr_term, attr_terms, attrs_at, entries_at}
 use Rattle.listeners_symbols.specs.Found.{found_meaning, IsFound}
 use Rattle.listeners_symbols.specs.Roles.{with_each, with_entries}
 use Rattle.listeners_symbols.proofs.Sizes.{attr_size, attrs_size, entries_size}

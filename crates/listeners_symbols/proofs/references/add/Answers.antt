@@ -1,8 +1,8 @@
 use Rattle.std.proofs.Common.{◌≡◌, sym, ap, ◌∙◌, subst, true, false, if◌then◌else◌, [], ◌∷◌, ◌++◌, map}
 use Rattle.std.specs.List.{All, list_any}
 use Rattle.std.proofs.lemmas.List.{map-append}
-use Rattle.ir_types.specs.Things.{IsName}
-use Rattle.ir_types.specs.Terms.{Symbol, attr_term, name_term}
+use Rattle.ir_event.specs.types.Things.{IsName}
+use Rattle.ir_event.specs.types.Terms.{Symbol, attr_term, name_term}
 use Rattle.ir_event.specs.Rows.{IsSymbol}
 use Rattle.listeners_symbols.specs.declared.role.Reference.{Reference}
 use Rattle.listeners_symbols.specs.Found.{found_meaning}

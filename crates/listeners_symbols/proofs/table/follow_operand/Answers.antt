@@ -1,5 +1,5 @@
 use Rattle.std.proofs.Common.{refl, ap, sym, ◌∙◌, subst, inr}
-use Rattle.ir_types.specs.Things.{Things}
+use Rattle.ir_event.specs.types.Things.{Things}
 use Rattle.ir_event.specs.Modules.{NodeIsOf}
 use Rattle.ir_event.specs.declared.world.World.{World}
 use Rattle.ir_event.proofs.Nodes.{known_node}

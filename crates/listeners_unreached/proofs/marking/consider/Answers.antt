@@ -5,7 +5,7 @@ use Rattle.listeners_unreached.specs.Marks.{IsAbove, IsDefinition, Reaches, Stan
 use Rattle.listeners_unreached.proofs.Taken.{considered_waits, considered_reaches, considered_nothing}
 use Rattle.listeners_unreached.proofs.Steps.{on_ok}
 use Rattle.listeners_unreached.proofs.marking.consider.Goals as goal
-use Rattle.ir_tree_laws.proofs.Reasoned.{some_there}
+use Rattle.ir_event.proofs.of_tree_laws.Reasoned.{some_there}
 
 pub returns-then-refers_to_none-clause-considered : goal.returns-then-refers_to_none-clause-considered
 returns-then-refers_to_none-clause-considered c =

@@ -3,7 +3,7 @@ use Rattle.listeners_symbols.specs.Lines.{numbers_at}
 use Rattle.listeners_unreached.specs.Marks.{around, itself, left_at}
 use Rattle.listeners_unreached.proofs.Steps.{none_false, up_one}
 use Rattle.listeners_unreached.proofs.waiting.left_above.Goals as goal
-use Rattle.ir_tree_laws.proofs.Contents.{some_map}
+use Rattle.ir_event.proofs.of_tree_laws.Contents.{some_map}
 
 pub returns-then-contains_key : goal.returns-then-contains_key
 returns-then-contains_key c = (c.up.invariant.from c.up.at (itself c.up.at), some_map _ _ ∙ sym c.if-contains_key.ensures)

@@ -1,7 +1,7 @@
 use Rattle.std.proofs.Common.{◌∙◌, inl, inr, length, refl, None}
-use Rattle.ir_types.specs.declared.refusal.Refusal.TheVariants.{Memory}
-use Rattle.ir_tree.specs.Ids.{op_count}
-use Rattle.ir_tree.specs.Meaning.{meaning}
+use Rattle.ir_event.specs.types.declared.refusal.Refusal.TheVariants.{Memory}
+use Rattle.ir_event.specs.trees.Ids.{op_count}
+use Rattle.ir_event.specs.trees.Meaning.{meaning}
 use Rattle.ir_event.specs.Modules.{Module, module_in}
 use Rattle.mlir_work_session.specs.Panels.{all_shown}
 use Rattle.mlir_work_session.specs.Parts.{module_text, script_text}

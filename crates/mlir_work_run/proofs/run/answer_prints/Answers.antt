@@ -1,6 +1,6 @@
 use Rattle.mlir_work_session.specs.Panels.{all_shown}
 use Rattle.mlir_work_session.specs.Output.{IsSession}
-use Rattle.ir_tree.specs.Meaning.{meaning}
+use Rattle.ir_event.specs.trees.Meaning.{meaning}
 use Rattle.mlir_work_run.proofs.Ended.{finished}
 use Rattle.mlir_work_run.proofs.run.answer_prints.Goals as goal
 

@@ -1,8 +1,8 @@
 use Rattle.std.proofs.Common.{◌≡◌, ◌∙◌, ap, ℕ}
-use Rattle.ir_types.specs.Things.{Things}
-use Rattle.ir_tree.specs.Tree.{Op}
-use Rattle.ir_tree.specs.Ids.{op_count}
-use Rattle.ir_tree.specs.Meaning.{meaning}
+use Rattle.ir_event.specs.types.Things.{Things}
+use Rattle.ir_event.specs.trees.Tree.{Op}
+use Rattle.ir_event.specs.trees.Ids.{op_count}
+use Rattle.ir_event.specs.trees.Meaning.{meaning}
 use Rattle.mlir_work_session.specs.Calls.{Loaded}
 use Rattle.ir_event.specs.declared.world.World.{World}
 use Rattle.ir_event.specs.Modules.{Module, module_in, module_meaning}

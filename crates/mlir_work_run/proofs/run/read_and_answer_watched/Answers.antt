@@ -1,5 +1,5 @@
 use Rattle.std.proofs.Common.{◌≡◌, ◌<◌, ◌≤◌, List, ℕ, length, inl, inr, refl, subst, None}
-use Rattle.ir_types.specs.declared.refusal.Refusal.TheVariants.{Memory}
+use Rattle.ir_event.specs.types.declared.refusal.Refusal.TheVariants.{Memory}
 use Rattle.mlir_work_session.specs.Limits.{most_input_bytes}
 use Rattle.mlir_work_session.specs.Panels.{all_shown}
 use Rattle.mlir_work_run.specs.Whole.{IsOutput, setting_of}

@@ -1,7 +1,7 @@
 use Rattle.std.proofs.Common.{◌≡◌, ◌++◌, ℕ, ap, subst, append_assoc}
 use Rattle.std.specs.Prelude.{codes}
-use Rattle.ir_types.specs.Refusals.{text_of}
-use Rattle.ir_types.specs.declared.refusal.Refusal.{Refusal}
+use Rattle.ir_event.specs.types.Refusals.{text_of}
+use Rattle.ir_event.specs.types.declared.refusal.Refusal.{Refusal}
 use Rattle.mlir_work_script.specs.Kinds.{kind_word}
 use Rattle.mlir_work_script.specs.Replies.{attach_refused_line}
 use Rattle.mlir_work_script.specs.Writes.{GrowsFront, Puts}

@@ -1,7 +1,7 @@
 use Rattle.std.proofs.Common.{refl, sym, Some}
-use Rattle.rewriter.specs.Commands as command
-use Rattle.rewriter.specs.Edits as edit
-use Rattle.rewriter.specs.Machine.{Do}
+use Rattle.mlir_work_transforms.specs.rewriter.Commands as command
+use Rattle.mlir_work_transforms.specs.rewriter.Edits as edit
+use Rattle.mlir_work_transforms.specs.rewriter.Machine.{Do}
 use Rattle.mlir_work_script.specs.Spots.{spot_of}
 use Rattle.mlir_work_session.proofs.Obeying.{obeys_plain, obeys_misplaced}
 use Rattle.mlir_work_session.proofs.Placed.{spot_beside}

@@ -1,11 +1,11 @@
 use Rattle.std.proofs.Common.{rules, ◌≡◌, ◌∙◌, sym, ap, true, false, Some}
 use Rattle.std.specs.Prelude.{option_map, is_some}
-use Rattle.ir_tree.specs.Ids.{has_id}
-use Rattle.ir_store.specs.Nodes.{node_of}
-use Rattle.ir_store.specs.Stored.{Stored, known}
+use Rattle.ir_event.specs.trees.Ids.{has_id}
+use Rattle.ir_event.specs.store.Nodes.{node_of}
+use Rattle.ir_event.specs.store.Stored.{Stored, known}
 use Rattle.mlir_work_session.proofs.Placed.{block_told, no_block}
 use Rattle.mlir_work_session.proofs.places.has_block.Goals as goal
-use Rattle.ir_tree_laws.proofs.Contents.{some_map}
+use Rattle.ir_event.proofs.of_tree_laws.Contents.{some_map}
 
 pub returns-then-not-in_tree : goal.returns-then-not-in_tree
 returns-then-not-in_tree c =

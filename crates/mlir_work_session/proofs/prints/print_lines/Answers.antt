@@ -1,8 +1,8 @@
 use Rattle.std.proofs.Common.{◌++◌, ◌+◌, [], refl, append-nil, append_assoc, arith, sym}
-use Rattle.ir_tree.specs.Meaning.{meaning}
+use Rattle.ir_event.specs.trees.Meaning.{meaning}
 use Rattle.mlir_work_script.specs.Lines.{lines_of}
 use Rattle.mlir_work_script.proofs.Joins.{grows_join, front_within}
-use Rattle.rewriter.specs.Machine.{State}
+use Rattle.mlir_work_transforms.specs.rewriter.Machine.{State}
 use Rattle.mlir_work_session.specs.Machine.{response_of}
 use Rattle.mlir_work_session.specs.Output.{is_accepted, reply_line, worse}
 use Rattle.mlir_work_session.proofs.Printing.{more_print, print_step}

@@ -1,8 +1,8 @@
 use Rattle.std.proofs.Common.{◌≡◌, ◌++◌, ◌+◌, ◌≤◌, List, [], ℕ, true, false, length}
 use Rattle.mlir_work_script.specs.Writes.{Grows}
-use Rattle.ir_tree.specs.Meaning.{meaning}
+use Rattle.ir_event.specs.trees.Meaning.{meaning}
 use Rattle.mlir_work_script.specs.Lines.{lines_of}
-use Rattle.rewriter.specs.Panels.{Shown}
+use Rattle.mlir_work_transforms.specs.rewriter.Panels.{Shown}
 use Rattle.mlir_work_session.specs.Output.{Way, Runs, worse}
 use Rattle.mlir_work_session.specs.PrintsAlone.{all_print}
 use Rattle.mlir_work_session.proofs.prints.print_lines.Given as goal

@@ -1,4 +1,4 @@
-use Rattle.ir_tree.specs.Meaning.{meaning}
+use Rattle.ir_event.specs.trees.Meaning.{meaning}
 use Rattle.mlir_work_session.proofs.Printing.{prints_ran}
 use Rattle.mlir_work_session.proofs.prints.print_session.Goals as goal
 

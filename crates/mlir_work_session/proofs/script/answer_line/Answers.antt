@@ -2,7 +2,7 @@ use Rattle.std.proofs.Common.{◌++◌, [], Some, refl, sym}
 use Rattle.mlir_work_script.specs.Commands.{line_says, spoken_of}
 use Rattle.mlir_work_script.specs.Expecting.{line_expects}
 use Rattle.mlir_work_script.proofs.Joins.{front_join, front_more, grows_join, grows_none}
-use Rattle.rewriter.specs.Benched.{state_of}
+use Rattle.mlir_work_transforms.specs.rewriter.Benched.{state_of}
 use Rattle.mlir_work_session.specs.Machine.{response_of}
 use Rattle.mlir_work_session.specs.Output.{Way, end_of, is_right, way_of}
 use Rattle.mlir_work_session.proofs.Runs.{told_of}

@@ -1,6 +1,6 @@
 use Rattle.std.proofs.Common.{◌++◌, [], refl, append-nil}
 use Rattle.mlir_work_script.proofs.Joins.{grows_join, puts_join, front_more, front_within}
-use Rattle.rewriter.specs.Benched.{state_of}
+use Rattle.mlir_work_transforms.specs.rewriter.Benched.{state_of}
 use Rattle.mlir_work_session.specs.Machine.{response_of}
 use Rattle.mlir_work_session.specs.Output.{reply_text}
 use Rattle.mlir_work_session.proofs.Listings.{some_listing_if}

@@ -1,5 +1,5 @@
-use Rattle.rewriter.specs.Held.{module_held}
-use Rattle.rewriter.specs.Panels.{all_shown}
+use Rattle.mlir_work_transforms.specs.rewriter.Held.{module_held}
+use Rattle.mlir_work_transforms.specs.rewriter.Panels.{all_shown}
 use Rattle.mlir_work_session.specs.Machine.{way_of}
 use Rattle.mlir_work_session.proofs.Sessions.{session_ran, session_cut, session_begun}
 use Rattle.mlir_work_session.proofs.session.attach_and_run.Goals as goal

@@ -1,8 +1,8 @@
 use Rattle.std.proofs.Common.{◌≡◌, inl, inr, refl, subst}
-use Rattle.rewriter.specs.Held.{module_held}
+use Rattle.mlir_work_transforms.specs.rewriter.Held.{module_held}
 use Rattle.std.specs.Prelude.{length}
 use Rattle.ir_event.specs.Modules.{Module, module_in, module_meaning}
-use Rattle.rewriter.specs.Panels.{all_shown}
+use Rattle.mlir_work_transforms.specs.rewriter.Panels.{all_shown}
 use Rattle.mlir_work_session.specs.Machine.{way_of}
 use Rattle.mlir_work_session.specs.Output.{IsSession, IsBadScript, Session}
 use Rattle.mlir_work_session.proofs.Sessions.{short, ran_weaker}

@@ -1,8 +1,8 @@
 use Rattle.std.proofs.Common.{ap}
-use Rattle.ir_types.specs.Terms.{name_term, attr_term}
-use Rattle.rewriter.specs.Commands as command
-use Rattle.rewriter.specs.Edits as edit
-use Rattle.rewriter.specs.Machine.{Do}
+use Rattle.ir_event.specs.types.Terms.{name_term, attr_term}
+use Rattle.mlir_work_transforms.specs.rewriter.Commands as command
+use Rattle.mlir_work_transforms.specs.rewriter.Edits as edit
+use Rattle.mlir_work_transforms.specs.rewriter.Machine.{Do}
 use Rattle.mlir_work_script.specs.Keys.{key_bytes}
 use Rattle.mlir_work_session.specs.Machine.{response_of}
 use Rattle.mlir_work_session.proofs.Obeying.{obeys_behind, obeys_unread}

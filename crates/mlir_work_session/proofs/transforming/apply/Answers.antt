@@ -1,6 +1,6 @@
 use Rattle.std.proofs.Common.{◌∙◌, sym, inr}
-use Rattle.rewriter.specs.Commands as command
-use Rattle.rewriter.specs.Machine as call
+use Rattle.mlir_work_transforms.specs.rewriter.Commands as command
+use Rattle.mlir_work_transforms.specs.rewriter.Machine as call
 use Rattle.mlir_work_script.specs.RuleNames.{name_of}
 use Rattle.mlir_work_transforms.specs.Applying.{applying}
 use Rattle.mlir_work_session.proofs.Obeying.{asks_ruled, obeys_plain, obeys_unruled}

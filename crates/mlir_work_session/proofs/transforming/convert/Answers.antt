@@ -1,7 +1,7 @@
 use Rattle.std.proofs.Common.{refl}
-use Rattle.rewriter.specs.Commands as command
-use Rattle.rewriter.specs.Machine as call
-use Rattle.rewriter.specs.Benched.{state_of}
+use Rattle.mlir_work_transforms.specs.rewriter.Commands as command
+use Rattle.mlir_work_transforms.specs.rewriter.Machine as call
+use Rattle.mlir_work_transforms.specs.rewriter.Benched.{state_of}
 use Rattle.mlir_work_script.specs.Clauses.{clauses_of, target_of}
 use Rattle.mlir_work_transforms.specs.Converting.{command_aim, conversion}
 use Rattle.mlir_work_transforms.proofs.Converted.{convert_full}

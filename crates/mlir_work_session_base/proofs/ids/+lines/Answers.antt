@@ -1,8 +1,8 @@
 use Rattle.std.proofs.Common.{◌∙◌, ap, sym, refl, map, ◌++◌, ◌∷◌, [], ℕ, List}
-use Rattle.ir_tree.specs.Tree.{Op, regions_of, ops_of}
-use Rattle.ir_tree.specs.View.{region_view}
-use Rattle.ir_tree.specs.declared.tree.TreeRegion.{TreeRegion}
-use Rattle.ir_tree.proofs.Steps.{made_next, made_all, made_behind}
+use Rattle.ir_event.specs.trees.Tree.{Op, regions_of, ops_of}
+use Rattle.ir_event.specs.trees.View.{region_view}
+use Rattle.ir_event.specs.trees.declared.tree.TreeRegion.{TreeRegion}
+use Rattle.ir_event.proofs.of_trees.Steps.{made_next, made_all, made_behind}
 use Rattle.mlir_work_session_base.specs.IdsText.{line_ids, ops_line_ids, region_line_ids, regions_line_ids}
 use Rattle.mlir_work_session_base.proofs.ids.+lines.Goals as goal
 

@@ -1,6 +1,6 @@
 use Rattle.std.proofs.Common.{◌≡◌, ◌++◌, ◌∷◌, [], map, drop}
-use Rattle.ir_tree.specs.Tree.{regions_of, ops_of}
-use Rattle.ir_tree.specs.View.{region_view}
+use Rattle.ir_event.specs.trees.Tree.{regions_of, ops_of}
+use Rattle.ir_event.specs.trees.View.{region_view}
 use Rattle.mlir_work_session_base.specs.IdsText.{ops_line_ids, regions_line_ids}
 use Rattle.mlir_work_session_base.proofs.ids.+lines.Given as goal
 

@@ -5,7 +5,7 @@ use Rattle.ir_event.specs.declared.row.Cell.{Cell}
 use Rattle.ir_text.proofs.Rows.{one_more, no_more}
 use Rattle.mlir_work_session_base.specs.RowText.{cell_text}
 use Rattle.mlir_work_session_base.proofs.rows.put_cells.Goals as goal
-use Rattle.ir_tree.proofs.Steps.{next_left}
+use Rattle.ir_event.proofs.of_trees.Steps.{next_left}
 
 pub cells-preserved : goal.cells-preserved
 cells-preserved c =

@@ -1,5 +1,5 @@
 use Rattle.std.proofs.Common.{◌∙◌}
-use Rattle.rewriter.proofs.Together.{led_on}
+use Rattle.conversion.proofs.of_rewriter.Together.{led_on}
 use Rattle.mlir_work_transforms.proofs.Sweeping.{erasing_more, erasing_none, erasing_noted, erasing_refused}
 use Rattle.mlir_work_transforms.proofs.sweep.erase_each.Goals as goal
 

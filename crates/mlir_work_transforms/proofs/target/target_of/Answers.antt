@@ -1,5 +1,5 @@
 use Rattle.std.proofs.Common.{ap, option_map, refl, sym, ◌∙◌}
-use Rattle.ir_types.proofs.Growth.{grows_trans}
+use Rattle.ir_event.proofs.of_types.Growth.{grows_trans}
 use Rattle.conversion.specs.Converting.{rules_of}
 use Rattle.mlir_work_transforms.proofs.Listed.{target_aims, target_named, target_unaimed}
 use Rattle.mlir_work_transforms.proofs.Named.{interned_more, still_numbers}

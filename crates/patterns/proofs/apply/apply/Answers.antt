@@ -1,10 +1,10 @@
 use Rattle.std.proofs.Common.{◌∙◌, refl, inl}
-use Rattle.patterns_base.specs.Rewrites.{rewrite_of}
-use Rattle.patterns_runs.specs.Held.{module_held}
+use Rattle.patterns_facts.specs.base.Rewrites.{rewrite_of}
+use Rattle.patterns_lowering.specs.runs.Held.{module_held}
 use Rattle.patterns.specs.Planned.{planned_edits}
 use Rattle.patterns.proofs.Applying.{edits_due, gave, is_there, not_there, rewrite_due, stopped, was_none}
 use Rattle.patterns.proofs.Carrying.{applied_none, journaled_none}
-use Rattle.patterns_runs.proofs.Journals.{recorded_none}
+use Rattle.patterns_lowering.proofs.of_runs.Journals.{recorded_none}
 use Rattle.patterns.proofs.Acceptance.{accepted_of}
 use Rattle.patterns.proofs.apply.apply.Goals as goal
 

@@ -1,10 +1,10 @@
 use Rattle.std.proofs.Common.{refl, ap, ◌∙◌, subst, inl}
-use Rattle.patterns_runs.specs.Contents.{all_edited}
-use Rattle.patterns_runs.specs.Held.{module_held}
-use Rattle.patterns_runs.specs.Lists.{IsWhy, edits_meaning}
+use Rattle.patterns_lowering.specs.runs.Contents.{all_edited}
+use Rattle.patterns_lowering.specs.runs.Held.{module_held}
+use Rattle.patterns_lowering.specs.runs.Lists.{IsWhy, edits_meaning}
 use Rattle.patterns.specs.Planned.{planned_edits}
 use Rattle.patterns.proofs.Carrying.{applied_none, applied_added, applied_along, journaled_along, kept_added, kept_along, no_room, wanting, was_carried, was_limited}
-use Rattle.patterns_runs.proofs.Journals.{recorded_none}
+use Rattle.patterns_lowering.proofs.of_runs.Journals.{recorded_none}
 use Rattle.patterns.proofs.carry.carry_plan.Goals as goal
 
 pub returns-in-Some-clause-carried : goal.returns-in-Some-clause-carried

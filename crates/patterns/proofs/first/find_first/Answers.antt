@@ -1,7 +1,7 @@
 use Rattle.std.proofs.Common.{◌∙◌, ap, sym}
-use Rattle.ir_types.specs.Terms.{name_term}
+use Rattle.ir_event.specs.types.Terms.{name_term}
 use Rattle.ir_event.specs.Modules.{module_in}
-use Rattle.patterns_reads.specs.Reads.{head_in}
+use Rattle.patterns_plans.specs.reads.Reads.{head_in}
 use Rattle.patterns.specs.Rows.{those_for}
 use Rattle.patterns.proofs.Firsts.{none_of}
 use Rattle.patterns.proofs.ByList.{list_suffices, none_of_list, some_of_list}

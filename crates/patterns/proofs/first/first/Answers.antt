@@ -1,9 +1,9 @@
 use Rattle.std.proofs.Common.{◌∙◌, refl, inl, subst}
-use Rattle.patterns_base.specs.Canonicalization.{first_rule}
-use Rattle.patterns_runs.specs.Held.{module_held}
+use Rattle.patterns_facts.specs.base.Canonicalization.{first_rule}
+use Rattle.patterns_lowering.specs.runs.Held.{module_held}
 use Rattle.patterns.specs.Rows.{IsFirstOf}
 use Rattle.patterns.specs.Planned.{planned_edits}
-use Rattle.patterns_runs.proofs.Journals.{recorded_none}
+use Rattle.patterns_lowering.proofs.of_runs.Journals.{recorded_none}
 use Rattle.patterns.proofs.Applying.{gave, is_there, not_there, stopped}
 use Rattle.patterns.proofs.Carrying.{applied_none, journaled_none}
 use Rattle.patterns.proofs.ByList.{none_held, fits_held, free_held, rule_held, first_due}

@@ -1,10 +1,10 @@
 use Rattle.std.proofs.Common.{◌≡◌, ◌∙◌, ap, sym, refl, subst, Bool, true, false, true≢false, None}
 use Rattle.ir_event.specs.Modules.{module_in}
-use Rattle.patterns_base.specs.RuleNames.{is_canonical}
-use Rattle.patterns_base.specs.declared.rule.Rule.{Rule}
-use Rattle.patterns_base.specs.declared.rule.Rule.TheVariants.{EraseDead, OpenBranch, OpenLoop, StopLoop}
+use Rattle.patterns_facts.specs.base.RuleNames.{is_canonical}
+use Rattle.patterns_facts.specs.base.declared.rule.Rule.{Rule}
+use Rattle.patterns_facts.specs.base.declared.rule.Rule.TheVariants.{EraseDead, OpenBranch, OpenLoop, StopLoop}
 use Rattle.patterns_plans.specs.Planned.{IsPlanAt}
-use Rattle.patterns_reads.specs.Reads.{head_in}
+use Rattle.patterns_plans.specs.reads.Reads.{head_in}
 use Rattle.patterns.proofs.Lowering.{never, untried}
 use Rattle.patterns.proofs.Regions.{head_is, never_open_branch, never_open_loop, when_stop_loop}
 use Rattle.patterns.proofs.likely.is_likely.Goals as goal

@@ -1,10 +1,10 @@
 use Rattle.std.proofs.Common.{◌∙◌, ap}
 use Rattle.ir_event.specs.Modules.{module_in}
-use Rattle.patterns_base.specs.Canonicalization.{first_rule}
+use Rattle.patterns_facts.specs.base.Canonicalization.{first_rule}
 use Rattle.patterns.specs.Lowest.{greedy}
 use Rattle.patterns.proofs.Firsts.{none_first}
 use Rattle.patterns.proofs.likely.likely.Goals as goal
-use Rattle.ir_types.proofs.Truths.{none_left}
+use Rattle.ir_event.proofs.of_types.Truths.{none_left}
 
 pub returns-then-is_likely-clause-likely : goal.returns-then-is_likely-clause-likely
 returns-then-is_likely-clause-likely c = c.rules.invariant

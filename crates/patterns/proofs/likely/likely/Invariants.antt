@@ -1,6 +1,6 @@
 use Rattle.std.proofs.Common.{◌≡◌, length}
 use Rattle.ir_event.specs.Modules.{module_in}
-use Rattle.patterns_base.specs.Canonicalization.{first_rule}
+use Rattle.patterns_facts.specs.base.Canonicalization.{first_rule}
 use Rattle.patterns.specs.Lowest.{greedy}
 use Rattle.patterns.proofs.likely.likely.Given as goal
 

@@ -1,8 +1,8 @@
 use Rattle.std.proofs.Common.{◌∙◌, ap, sym}
-use Rattle.ir_types.specs.Terms.{name_term}
+use Rattle.ir_event.specs.types.Terms.{name_term}
 use Rattle.ir_event.specs.Modules.{module_in}
-use Rattle.patterns_base.specs.Rules.{rules_for}
-use Rattle.patterns_reads.specs.Reads.{head_in}
+use Rattle.patterns_facts.specs.base.Rules.{rules_for}
+use Rattle.patterns_plans.specs.reads.Reads.{head_in}
 use Rattle.patterns.proofs.Firsts.{none_lowest}
 use Rattle.patterns.proofs.Lowering.{row_suffices, none_first_lowest, first_lowest}
 use Rattle.patterns.proofs.Planned.{none_there, none_front, none_clean}

@@ -1,10 +1,10 @@
 use Rattle.std.proofs.Common.{◌∙◌, ◌-◌, ap, sym, subst, refl, List, Some, slice_index_or, take, drop, length}
 use Rattle.std.specs.Prelude.{IfOk}
 use Rattle.ir_event.specs.Modules.{module_in}
-use Rattle.ir_types.proofs.Truths.{none_left, rest_at}
-use Rattle.patterns_base.specs.Canonicalization.{first_rule}
-use Rattle.patterns_base.specs.declared.rule.Rule.{Rule}
-use Rattle.patterns_base.specs.declared.rule.Rule.TheVariants.{EraseDead}
+use Rattle.ir_event.proofs.of_types.Truths.{none_left, rest_at}
+use Rattle.patterns_facts.specs.base.Canonicalization.{first_rule}
+use Rattle.patterns_facts.specs.base.declared.rule.Rule.{Rule}
+use Rattle.patterns_facts.specs.base.declared.rule.Rule.TheVariants.{EraseDead}
 use Rattle.patterns.specs.Lowest.{BeginsLikely, IsFirst, TriedFirst, greedy}
 use Rattle.patterns.proofs.Firsts.{none_first}
 use Rattle.patterns.proofs.Lowering.{first_others_ok}

@@ -2,7 +2,7 @@ use Rattle.std.proofs.Common.{sym, subst}
 use Rattle.ir_event.specs.Modules.{module_in}
 use Rattle.std.specs.Prelude.{IfOk, option_map}
 use Rattle.std.proofs.Common.{◌≡◌}
-use Rattle.patterns_base.specs.Rewrites.{edits_of}
+use Rattle.patterns_facts.specs.base.Rewrites.{edits_of}
 use Rattle.patterns.specs.Planned.{made_edits}
 use Rattle.patterns.proofs.Lowering.{tried_ok}
 use Rattle.patterns.proofs.lowest.try_likely.Goals as goal

@@ -1,6 +1,6 @@
 use Rattle.std.proofs.Common.{option_map, ap, sym, ◌∙◌}
 use Rattle.ir_event.specs.Modules.{module_in}
-use Rattle.patterns_reads.specs.Reads.{head_in}
+use Rattle.patterns_plans.specs.reads.Reads.{head_in}
 use Rattle.patterns.specs.Planned.{made_edits}
 use Rattle.patterns.proofs.Planned.{none_there, none_front, none_clean}
 use Rattle.patterns.proofs.plan.find_plan.Goals as goal

@@ -3,7 +3,7 @@ use Rattle.std.proofs.lemmas.Result.{IfOk-weaker}
 use Rattle.ir_event.specs.Modules.{module_in}
 use Rattle.patterns_lowering.proofs.Asked.{clean_shown}
 use Rattle.patterns.specs.Planned.{made_edits}
-use Rattle.patterns_reads.specs.Reads.{head_in}
+use Rattle.patterns_plans.specs.reads.Reads.{head_in}
 use Rattle.patterns.proofs.Planned.{by_rule}
 use Rattle.patterns.proofs.plan.made_at.Goals as goal
 

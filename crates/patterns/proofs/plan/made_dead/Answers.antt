@@ -1,9 +1,9 @@
 use Rattle.std.proofs.Common.{◌∙◌, ap, refl, sym, Some, true}
 use Rattle.ir_event.specs.Modules.{module_in}
-use Rattle.patterns_base.specs.declared.rule.Rule.TheVariants.{EraseDead}
+use Rattle.patterns_facts.specs.base.declared.rule.Rule.TheVariants.{EraseDead}
 use Rattle.patterns_plans.proofs.Headed.{one_dead}
-use Rattle.patterns_reads.specs.Plans.{plan_meaning}
-use Rattle.patterns_reads.specs.Reads.{head_in}
+use Rattle.patterns_plans.specs.reads.Plans.{plan_meaning}
+use Rattle.patterns_plans.specs.reads.Reads.{head_in}
 use Rattle.patterns.proofs.Planned.{by_rule}
 use Rattle.patterns.proofs.plan.made_dead.Goals as goal
 

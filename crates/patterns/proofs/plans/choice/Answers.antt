@@ -1,5 +1,5 @@
 use Rattle.std.proofs.Common.{refl}
-use Rattle.patterns_runs.specs.Interning.{Added}
+use Rattle.patterns_lowering.specs.runs.Interning.{Added}
 use Rattle.patterns.proofs.Adding.{added_on}
 use Rattle.patterns.proofs.Numbers.{attr_keeps, type_keeps}
 use Rattle.patterns.proofs.Standing.{chosen_edits_stand}

@@ -1,6 +1,6 @@
 use Rattle.std.proofs.Common.{refl, subst}
-use Rattle.ir_types.specs.Terms.{name_term}
-use Rattle.patterns_runs.specs.Interning.{Added}
+use Rattle.ir_event.specs.types.Terms.{name_term}
+use Rattle.patterns_lowering.specs.runs.Interning.{Added}
 use Rattle.patterns.specs.Interned.{FlagsOf, IsNameOf}
 use Rattle.patterns.proofs.Adding.{added_on}
 use Rattle.patterns.proofs.Numbers.{attr_keeps, name_keeps, type_keeps}

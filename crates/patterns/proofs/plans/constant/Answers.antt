@@ -1,4 +1,4 @@
-use Rattle.ir_types.specs.Terms.{type_term}
+use Rattle.ir_event.specs.types.Terms.{type_term}
 use Rattle.patterns.proofs.Numbers.{type_keeps}
 use Rattle.patterns.proofs.Standing.{constant_edits_stand}
 use Rattle.std.proofs.Common.{refl}

@@ -1,5 +1,5 @@
 use Rattle.std.proofs.Common.{refl, subst}
-use Rattle.ir_types.specs.Terms.{IntegerOf, type_term}
+use Rattle.ir_event.specs.types.Terms.{IntegerOf, type_term}
 use Rattle.patterns.specs.Interned.{IsAttrOf, IsTypeOf}
 use Rattle.patterns.proofs.Adding.{added_on}
 use Rattle.patterns.proofs.Numbers.{attr_keeps, type_keeps}

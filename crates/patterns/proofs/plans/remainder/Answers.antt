@@ -1,5 +1,5 @@
 use Rattle.std.proofs.Common.{refl}
-use Rattle.patterns_runs.specs.Interning.{Added}
+use Rattle.patterns_lowering.specs.runs.Interning.{Added}
 use Rattle.patterns.proofs.Adding.{added_on}
 use Rattle.patterns.proofs.Numbers.{flags_keep, name_keeps, type_keeps}
 use Rattle.patterns.proofs.Standing.{remainder_edits_stand}

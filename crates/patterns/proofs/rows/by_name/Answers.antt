@@ -1,9 +1,9 @@
 use Rattle.std.proofs.Common.{arith, ◌≡◌, ◌∙◌, ◌+◌, ap, sym, subst, List, ℕ}
 use Rattle.std.specs.Prelude.{Vec}
 use Rattle.std.specs.declared.alloc.Global.{Global}
-use Rattle.ir_types.specs.Terms.{name_term}
-use Rattle.patterns_base.specs.Rules.{rules_for}
-use Rattle.patterns_base.specs.declared.rule.Rule.{Rule}
+use Rattle.ir_event.specs.types.Terms.{name_term}
+use Rattle.patterns_facts.specs.base.Rules.{rules_for}
+use Rattle.patterns_facts.specs.base.declared.rule.Rule.{Rule}
 use Rattle.patterns.proofs.ByNumber.{AreUpTo, all_rows, one_more}
 use Rattle.patterns.proofs.rows.by_name.Goals as goal
 

@@ -1,6 +1,6 @@
 use Rattle.std.proofs.Common.{◌≡◌, length}
 use Rattle.std.specs.List.{list_any}
-use Rattle.patterns_base.specs.RuleNames.{same_rule}
+use Rattle.patterns_facts.specs.base.RuleNames.{same_rule}
 use Rattle.patterns.proofs.rows.is_among.Given as goal
 
 abbrev pub invariant-listed : goal.invariant-listed

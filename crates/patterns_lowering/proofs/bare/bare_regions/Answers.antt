@@ -1,6 +1,6 @@
 use Rattle.std.proofs.Common.{◌<◌, length, map, arith}
-use Rattle.ir_tree.specs.View.{region_view}
-use Rattle.ir_tree.proofs.Steps.{map_more}
+use Rattle.ir_event.specs.trees.View.{region_view}
+use Rattle.ir_event.proofs.of_trees.Steps.{map_more}
 use Rattle.patterns_lowering.proofs.Regions.{region_next}
 use Rattle.patterns_lowering.proofs.bare.bare_regions.Goals as goal
 

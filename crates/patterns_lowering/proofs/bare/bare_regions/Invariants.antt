@@ -1,5 +1,5 @@
 use Rattle.std.proofs.Common.{◌≡◌, ◌≤◌, length, map, take}
-use Rattle.ir_tree.specs.View.{region_view}
+use Rattle.ir_event.specs.trees.View.{region_view}
 use Rattle.patterns_lowering.specs.Bare.{region_with}
 use Rattle.patterns_lowering.proofs.bare.bare_regions.Given as goal
 

@@ -1,6 +1,6 @@
 use Rattle.std.proofs.Common.{subst, sym, ap, ◌∙◌, arith}
-use Rattle.ir_types.specs.Things.{Things}
-use Rattle.ir_store.specs.Stored.{Stored}
+use Rattle.ir_event.specs.types.Things.{Things}
+use Rattle.ir_event.specs.store.Stored.{Stored}
 use Rattle.patterns_lowering.specs.Plans.{IsIndexed}
 use Rattle.patterns_lowering.proofs.Edited.{indexed_stays, operation_stands, operation_fitting}
 use Rattle.patterns_lowering.proofs.edits.operation.Goals as goal

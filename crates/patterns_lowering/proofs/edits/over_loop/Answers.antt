@@ -1,6 +1,6 @@
 use Rattle.std.proofs.Common.{subst, sym, ap, ◌∙◌, arith}
-use Rattle.ir_types.specs.Things.{Things}
-use Rattle.ir_store.specs.Stored.{Stored}
+use Rattle.ir_event.specs.types.Things.{Things}
+use Rattle.ir_event.specs.store.Stored.{Stored}
 use Rattle.patterns_lowering.specs.Plans.{IsIndexedLoop}
 use Rattle.patterns_lowering.proofs.LoopEdited.{loop_stays, loop_stands, loop_fitting}
 use Rattle.patterns_lowering.proofs.edits.over_loop.Goals as goal

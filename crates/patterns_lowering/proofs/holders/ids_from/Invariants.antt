@@ -1,5 +1,5 @@
 use Rattle.std.proofs.Common.{◌≡◌, ◌≤◌, ◌+◌, ◌++◌, length}
-use Rattle.ir_tree.specs.Limits.{most_next}
+use Rattle.ir_event.specs.trees.Limits.{most_next}
 use Rattle.patterns_lowering.specs.Numbers.{numbers_from}
 use Rattle.patterns_lowering.proofs.holders.ids_from.Given as goal
 

@@ -1,6 +1,6 @@
 use Rattle.std.proofs.Common.{subst, sym}
-use Rattle.ir_tree.specs.Tree.{Op, head}
-use Rattle.ir_tree.proofs.Meanings.{stays_sound}
+use Rattle.ir_event.specs.trees.Tree.{Op, head}
+use Rattle.ir_event.proofs.of_trees.Meanings.{stays_sound}
 use Rattle.patterns_lowering.specs.Lowered.{AreKnown}
 use Rattle.patterns_lowering.proofs.Fitting.{entries_sound}
 use Rattle.patterns_lowering.proofs.Interning.{interned_on, types_stay}

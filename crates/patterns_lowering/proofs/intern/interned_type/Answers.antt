@@ -1,5 +1,5 @@
 use Rattle.std.proofs.Common.{ap, sym, subst}
-use Rattle.ir_types.specs.Things.{Things}
+use Rattle.ir_event.specs.types.Things.{Things}
 use Rattle.patterns_runs.specs.rewriter_bench.Benched.{Benched}
 use Rattle.patterns_runs.specs.Interning.{IsNoRoom}
 use Rattle.patterns_lowering.specs.Refused.{as_full}

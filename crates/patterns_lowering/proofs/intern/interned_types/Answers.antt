@@ -1,6 +1,6 @@
 use Rattle.patterns_lowering.proofs.Interning.{interned_on, type_known}
 use Rattle.std.proofs.Common.{◌∙◌}
-use Rattle.ir_types.proofs.Terms.{type_stays}
+use Rattle.ir_event.proofs.of_types.Terms.{type_stays}
 use Rattle.patterns_lowering.proofs.intern.interned_types.Goals as goal
 
 pub returns-in-Ok-interned_type-clause-types : goal.returns-in-Ok-interned_type-clause-types

@@ -1,9 +1,9 @@
 use Rattle.std.proofs.Common.{◌∙◌, ap, sym, subst}
-use Rattle.ir_types.specs.Things.{Things}
+use Rattle.ir_event.specs.types.Things.{Things}
 use Rattle.patterns_runs.specs.rewriter_bench.Benched.{Benched}
 use Rattle.patterns_runs.specs.Interning.{IsNoRoom}
 use Rattle.patterns_lowering.specs.Refused.{as_full}
-use Rattle.ir_types.specs.Terms.{attr_term, type_term}
+use Rattle.ir_event.specs.types.Terms.{attr_term, type_term}
 use Rattle.patterns_lowering.proofs.Interning.{attr_fine, attr_interned, attr_lowered, attr_read, attr_wanting, interned_none, interned_one}
 use Rattle.patterns_lowering.proofs.intern.lowered_attr.Goals as goal
 

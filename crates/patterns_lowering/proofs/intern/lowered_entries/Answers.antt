@@ -1,9 +1,9 @@
 use Rattle.std.proofs.Common.{subst, sym, ◌∙◌, List, ℕ}
-use Rattle.ir_types.proofs.Terms.{type_stays}
+use Rattle.ir_event.proofs.of_types.Terms.{type_stays}
 use Rattle.patterns_lowering.specs.Lowered.{IsLowering}
 use Rattle.patterns_lowering.proofs.Interning.{interned_none, interned_on, lowering_begun, type_known}
 use Rattle.patterns_lowering.proofs.intern.lowered_entries.Goals as goal
-use Rattle.ir_types.proofs.Truths.{uncons}
+use Rattle.ir_event.proofs.of_types.Truths.{uncons}
 
 pub entries-init : goal.entries-init
 entries-init g c = record {

@@ -1,8 +1,8 @@
 use Rattle.std.proofs.Common.{◌≡◌, length}
-use Rattle.ir_types.specs.Things.{IsType}
-use Rattle.ir_types.specs.Sound.{Holds}
-use Rattle.ir_types.specs.Terms.{type_term}
-use Rattle.patterns_base.specs.Made.{i64}
+use Rattle.ir_event.specs.types.Things.{IsType}
+use Rattle.ir_event.specs.types.Sound.{Holds}
+use Rattle.ir_event.specs.types.Terms.{type_term}
+use Rattle.patterns_yields.specs.base.Made.{i64}
 use Rattle.patterns_runs.specs.Interning.{Added}
 use Rattle.patterns_lowering.specs.Lowered.{IsLowering}
 use Rattle.patterns_lowering.proofs.intern.lowered_entries.Given as goal

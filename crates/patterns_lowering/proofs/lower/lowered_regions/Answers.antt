@@ -1,12 +1,12 @@
 use Rattle.std.proofs.Common.{◌≡◌, ap, refl, subst, map, drop, ◌∷◌, [], ◌+◌, ℕ, List, true}
 use Rattle.std.specs.List.{list_all}
-use Rattle.ir_tree.specs.Limits.{all_arguments_pass, arguments_pass}
-use Rattle.ir_tree.specs.Meaning.{is_type}
-use Rattle.ir_tree.specs.Tree.{regions_of, region_list}
-use Rattle.ir_tree.specs.View.{region_view}
-use Rattle.ir_tree.specs.declared.tree.TreeRegion.{TreeRegion}
-use Rattle.ir_tree.proofs.Lists.{regions_from}
-use Rattle.ir_tree.proofs.Steps.{made_next, made_all, map_more, next_left}
+use Rattle.ir_event.specs.trees.Limits.{all_arguments_pass, arguments_pass}
+use Rattle.ir_event.specs.trees.Meaning.{is_type}
+use Rattle.ir_event.specs.trees.Tree.{regions_of, region_list}
+use Rattle.ir_event.specs.trees.View.{region_view}
+use Rattle.ir_event.specs.trees.declared.tree.TreeRegion.{TreeRegion}
+use Rattle.ir_event.proofs.of_trees.Lists.{regions_from}
+use Rattle.ir_event.proofs.of_trees.Steps.{made_next, made_all, map_more, next_left}
 use Rattle.patterns_lowering.specs.Numbers.{regions_lowered}
 use Rattle.patterns_lowering.proofs.lower.lowered_regions.Goals as goal
 use Rattle.std.proofs.lemmas.Bool.{and_parts}

@@ -1,9 +1,9 @@
 use Rattle.std.proofs.Common.{◌≡◌, ◌++◌, map, drop, true}
 use Rattle.std.specs.List.{list_all}
-use Rattle.ir_tree.specs.Limits.{all_arguments_pass}
-use Rattle.ir_tree.specs.Meaning.{is_type}
-use Rattle.ir_tree.specs.Tree.{regions_of, region_list}
-use Rattle.ir_tree.specs.View.{region_view}
+use Rattle.ir_event.specs.trees.Limits.{all_arguments_pass}
+use Rattle.ir_event.specs.trees.Meaning.{is_type}
+use Rattle.ir_event.specs.trees.Tree.{regions_of, region_list}
+use Rattle.ir_event.specs.trees.View.{region_view}
 use Rattle.patterns_lowering.specs.Numbers.{regions_lowered}
 use Rattle.patterns_lowering.proofs.lower.lowered_regions.Given as goal
 

@@ -1,6 +1,6 @@
 use Rattle.std.proofs.Common.{◌≡◌, ◌++◌, length, map, true}
 use Rattle.std.specs.List.{list_all}
-use Rattle.ir_tree.specs.Meaning.{is_type}
+use Rattle.ir_event.specs.trees.Meaning.{is_type}
 use Rattle.patterns_lowering.specs.Numbers.{type_lowered}
 use Rattle.patterns_lowering.proofs.lower.lowered_types.Given as goal
 

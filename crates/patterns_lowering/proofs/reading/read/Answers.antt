@@ -1,11 +1,11 @@
 use Rattle.std.proofs.Common.{sym, ap, ◌∙◌, map, subst, true, ◌≡◌}
 use Rattle.std.specs.List.{list_all}
-use Rattle.ir_types.specs.Terms.{type_term}
-use Rattle.ir_tree.specs.Meaning.{is_type}
+use Rattle.ir_event.specs.types.Terms.{type_term}
+use Rattle.ir_event.specs.trees.Meaning.{is_type}
 use Rattle.ir_event.specs.Modules.{module_in}
 use Rattle.effects.proofs.Reached.{few_regions}
-use Rattle.patterns_base.specs.Looks.{is_index_value}
-use Rattle.patterns_base.specs.Lowering.{indices}
+use Rattle.patterns_yields.specs.base.Looks.{is_index_value}
+use Rattle.patterns_yields.specs.base.Lowering.{indices}
 use Rattle.patterns_lowering.proofs.Shown.{shown_known, was_read}
 use Rattle.patterns_lowering.proofs.reading.read.Goals as goal
 

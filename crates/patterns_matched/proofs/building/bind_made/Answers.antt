@@ -1,6 +1,6 @@
 use Rattle.std.proofs.Common.{refl, ◌+◌}
-use Rattle.ir_tree.specs.declared.value.Value.TheVariants.{Result}
-use Rattle.ir_tree.specs.Uses.{same_value}
+use Rattle.ir_event.specs.trees.declared.value.Value.TheVariants.{Result}
+use Rattle.ir_event.specs.trees.Uses.{same_value}
 use Rattle.patterns_matched.specs.Built.{operand_in}
 use Rattle.patterns_matched.specs.declared.built.Operand.TheVariants.{New}
 use Rattle.patterns_matched.proofs.Binding.{bound_free}

@@ -1,5 +1,5 @@
 use Rattle.std.proofs.Common.{length, ◌≡◌}
-use Rattle.ir_tree.specs.Uses.{same_value}
+use Rattle.ir_event.specs.trees.Uses.{same_value}
 use Rattle.patterns_book.specs.Matching.{all_bound}
 use Rattle.patterns_matched.proofs.places.bind_all.Given as goal
 

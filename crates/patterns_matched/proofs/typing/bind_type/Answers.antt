@@ -1,6 +1,6 @@
 use Rattle.std.proofs.Common.{refl}
-use Rattle.ir_types.specs.Terms.{type_term}
-use Rattle.ir_types.specs.SameTypes.{same_type}
+use Rattle.ir_event.specs.types.Terms.{type_term}
+use Rattle.ir_event.specs.types.SameTypes.{same_type}
 use Rattle.patterns_matched.specs.Types.{type_in}
 use Rattle.patterns_matched.specs.declared.types.BoundType.TheVariants.{Found}
 use Rattle.patterns_matched.proofs.Binding.{bound_free}

@@ -1,5 +1,5 @@
 use Rattle.std.proofs.Common.{ap, ◌∙◌, subst, map}
-use Rattle.ir_types.specs.WordNames.{word_bytes}
+use Rattle.ir_event.specs.types.WordNames.{word_bytes}
 use Rattle.patterns.specs.Interned.{IsNameOf}
 use Rattle.patterns.specs.New.{new_op}
 use Rattle.patterns.proofs.Adding.{added_on}

@@ -1,7 +1,7 @@
 use Rattle.std.proofs.Common.{sym, ◌∙◌, subst, codes, false}
-use Rattle.ir_types.specs.Terms.{Overflow}
-use Rattle.ir_types.specs.WordNames.{word_bytes}
-use Rattle.ir_types.specs.declared.word.Word.TheVariants.{OverflowFlags}
+use Rattle.ir_event.specs.types.Terms.{Overflow}
+use Rattle.ir_event.specs.types.WordNames.{word_bytes}
+use Rattle.ir_event.specs.types.declared.word.Word.TheVariants.{OverflowFlags}
 use Rattle.patterns.specs.Interned.{IsNameOf}
 use Rattle.patterns.proofs.Adding.{added_none}
 use Rattle.patterns_reads.proofs.Names.{word_named, word_there}

@@ -1,6 +1,6 @@
 use Rattle.std.proofs.Common.{refl, sym, subst}
-use Rattle.ir_types.specs.Terms.{IntegerOf, type_term}
-use Rattle.ir_types.specs.WordNames.{word_bytes}
+use Rattle.ir_event.specs.types.Terms.{IntegerOf, type_term}
+use Rattle.ir_event.specs.types.WordNames.{word_bytes}
 use Rattle.patterns.specs.Interned.{IsNameOf}
 use Rattle.patterns_reads.proofs.Names.{word_named, word_there}
 use Rattle.patterns_own.proofs.intern.integer.Goals as goal

@@ -1,7 +1,7 @@
 use Rattle.std.proofs.Common.{◌∙◌, ap}
 use Rattle.std.specs.Str.{bytes_eq}
-use Rattle.ir_types.specs.Terms.{name_term}
-use Rattle.ir_types.specs.WordNames.{word_bytes}
+use Rattle.ir_event.specs.types.Terms.{name_term}
+use Rattle.ir_event.specs.types.WordNames.{word_bytes}
 use Rattle.patterns_edits.specs.events.Modules.{module_in}
 use Rattle.patterns_reads.specs.Reads.{head_in}
 use Rattle.patterns_reads.proofs.Cleaned.{word_not, word_is}

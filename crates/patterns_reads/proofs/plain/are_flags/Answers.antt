@@ -1,6 +1,6 @@
 use Rattle.std.proofs.Common.{◌≡◌, [], ◌∷◌, sym, ◌∙◌, ap, true, codes, inr}
 use Rattle.std.proofs.lemmas.Slice.Eq.{bytes_eq-Decides}
-use Rattle.ir_types.specs.Terms.{name_term, attr_term}
+use Rattle.ir_event.specs.types.Terms.{name_term, attr_term}
 use Rattle.dialects_int.specs.Folds.{entries_of}
 use Rattle.op_registry.specs.Properties.{is_allowed}
 use Rattle.patterns_reads.proofs.Pairs.{one_in, flags_are}

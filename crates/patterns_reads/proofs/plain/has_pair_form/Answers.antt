@@ -1,13 +1,13 @@
 use Rattle.std.proofs.Common.{◌≡◌, ◌<◌, [], ◌∷◌, sym, ◌∙◌, ap, subst, map, option_map, length, arith}
-use Rattle.ir_types.specs.Terms.{name_term, type_term}
-use Rattle.ir_tree_laws.specs.Values.{type_of_value}
+use Rattle.ir_event.specs.types.Terms.{name_term, type_term}
+use Rattle.ir_event.specs.tree_laws.Values.{type_of_value}
 use Rattle.patterns_edits.specs.events.Modules.{module_in}
 use Rattle.dialects_int.specs.Folds.{entries_of}
 use Rattle.patterns_laws.specs.Words.{among}
 use Rattle.patterns_reads.specs.Pairs.{AreFlags, pairs}
 use Rattle.patterns_reads.proofs.Pairs.{one_in, two_in, of_type}
 use Rattle.patterns_reads.proofs.plain.has_pair_form.Goals as goal
-use Rattle.ir_types.proofs.Truths.{none_left}
+use Rattle.ir_event.proofs.of_types.Truths.{none_left}
 
 pub returns : goal.returns
 returns c second =

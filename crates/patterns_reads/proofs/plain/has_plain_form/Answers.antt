@@ -1,10 +1,10 @@
 use Rattle.std.proofs.Common.{◌≡◌, ℕ, ◌<◌, [], ◌∷◌, sym, ◌∙◌, ap, true, codes, map, option_map, length, eqb-true, arith}
 use Rattle.std.proofs.lemmas.Slice.Eq.{bytes_eq-Decides}
-use Rattle.ir_types.specs.Terms.{name_term, type_term, attr_term, IntegerOf}
+use Rattle.ir_event.specs.types.Terms.{name_term, type_term, attr_term, IntegerOf}
 use Rattle.ir_verify_base.specs.Numbers.{node_in}
 use Rattle.patterns_reads.proofs.Pairs.{one_in, integer_is}
 use Rattle.patterns_reads.proofs.plain.has_plain_form.Goals as goal
-use Rattle.ir_types.proofs.Truths.{none_left}
+use Rattle.ir_event.proofs.of_types.Truths.{none_left}
 
 pub returns-then-eq : goal.returns-then-eq
 returns-then-eq c number =

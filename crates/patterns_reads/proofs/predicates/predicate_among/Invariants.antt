@@ -1,6 +1,6 @@
 use Rattle.std.proofs.Common.{◌≡◌, length}
 use Rattle.std.specs.List.{All}
-use Rattle.ir_types.specs.Things.{IsName, IsAttr}
+use Rattle.ir_event.specs.types.Things.{IsName, IsAttr}
 use Rattle.dialects_int.specs.Folds.{entries_of}
 use Rattle.patterns_reads.specs.Numbers.{predicate_among}
 use Rattle.patterns_reads.proofs.predicates.predicate_among.Given as goal

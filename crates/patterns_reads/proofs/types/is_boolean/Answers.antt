@@ -1,5 +1,5 @@
 use Rattle.std.proofs.Common.{◌∙◌}
-use Rattle.ir_types.specs.Terms.{type_term}
+use Rattle.ir_event.specs.types.Terms.{type_term}
 use Rattle.patterns_reads.proofs.Booleans.{boolean_is}
 use Rattle.patterns_reads.proofs.types.is_boolean.Goals as goal
 

@@ -1,4 +1,4 @@
-use Rattle.ir_types.specs.Terms.{type_term}
+use Rattle.ir_event.specs.types.Terms.{type_term}
 use Rattle.ir_event.proofs.Typed.{value_known}
 use Rattle.patterns_reads.proofs.Resizing.{typed}
 use Rattle.std.proofs.Common.{sym, refl}

@@ -1,5 +1,5 @@
 use Rattle.std.proofs.Common.{◌∙◌, sym}
-use Rattle.ir_types.specs.Terms.{name_term}
+use Rattle.ir_event.specs.types.Terms.{name_term}
 use Rattle.patterns_reads.proofs.Resizing.{or_true, or_false, resizing_is}
 use Rattle.patterns_reads.proofs.words.is_resizing.Goals as goal
 

@@ -1,6 +1,6 @@
 use Rattle.std.proofs.Common.{◌∙◌, ap, sym, subst}
-use Rattle.ir_types.specs.Things.{IsName}
-use Rattle.ir_types.specs.Terms.{name_term}
+use Rattle.ir_event.specs.types.Things.{IsName}
+use Rattle.ir_event.specs.types.Terms.{name_term}
 use Rattle.patterns_reads.proofs.Names.{word_named, word_there}
 use Rattle.patterns_reads.proofs.words.word_name.Goals as goal
 

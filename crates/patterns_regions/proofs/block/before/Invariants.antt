@@ -1,5 +1,5 @@
 use Rattle.std.proofs.Common.{length, ◌-◌}
-use Rattle.ir_tree_laws.specs.Reads.{ops_at}
+use Rattle.ir_event.specs.tree_laws.Reads.{ops_at}
 use Rattle.patterns_regions.proofs.Walking.{Walked, count_in}
 use Rattle.patterns_regions.proofs.block.before.Given as goal
 

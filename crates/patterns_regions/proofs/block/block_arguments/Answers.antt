@@ -1,5 +1,5 @@
 use Rattle.std.proofs.Common.{◌∙◌, ap, map, option_map}
-use Rattle.ir_types.specs.Terms.{type_term}
+use Rattle.ir_event.specs.types.Terms.{type_term}
 use Rattle.patterns_regions.proofs.Viewed.{block_types, pointed}
 use Rattle.patterns_regions.proofs.block.block_arguments.Goals as goal
 

@@ -1,13 +1,13 @@
 use Rattle.std.proofs.Common.{◌∙◌, sym, ap, length, take, drop, ◌-◌}
 use Rattle.std.specs.Prelude.{codes, option_map}
-use Rattle.ir_types.specs.Terms.{name_term}
+use Rattle.ir_event.specs.types.Terms.{name_term}
 use Rattle.ir_event.specs.Modules.{module_in}
 use Rattle.patterns_reads.specs.Words.{named}
 use Rattle.patterns_regions.specs.Blocks.{ended_in}
 use Rattle.patterns_regions.specs.Opened.{opening}
 use Rattle.patterns_regions.proofs.Ruled.{number_stop_loop}
 use Rattle.patterns_regions.proofs.plans.plan_stop_loop.Goals as goal
-use Rattle.ir_types.proofs.Truths.{rest_at}
+use Rattle.ir_event.proofs.of_types.Truths.{rest_at}
 
 pub returns-clause-edits : goal.returns-clause-edits
 returns-clause-edits c =

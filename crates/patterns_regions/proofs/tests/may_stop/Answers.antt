@@ -5,7 +5,7 @@ use Rattle.patterns_reads.proofs.Cleaned.{known_not}
 use Rattle.patterns_regions.proofs.Bodies.{body_no_last, body_no_node}
 use Rattle.patterns_regions.proofs.Needed.{no_stop_loop, no_stop_loop_body, no_stop_loop_shape}
 use Rattle.patterns_regions.proofs.tests.may_stop.Goals as goal
-use Rattle.ir_types.proofs.Truths.{rest_at}
+use Rattle.ir_event.proofs.of_types.Truths.{rest_at}
 
 pub returns-in_default : goal.returns-in_default
 returns-in_default c front e =

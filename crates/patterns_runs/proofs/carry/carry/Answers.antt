@@ -2,7 +2,7 @@ use Rattle.std.proofs.Common.{subst, List}
 use Rattle.patterns_edits.specs.declared.edit.Edit.{Edit as Coded}
 use Rattle.patterns_runs.proofs.Carrying.{Carrying, along_on, carrying_none, carrying_more, carrying_done, noted_refused}
 use Rattle.patterns_runs.proofs.carry.carry.Goals as goal
-use Rattle.ir_types.proofs.Truths.{none_left, uncons}
+use Rattle.ir_event.proofs.of_types.Truths.{none_left, uncons}
 
 pub edits-init : goal.edits-init
 edits-init g c = carrying_none g.L.Analysis.meaning c.led_benches_are_kept.ensures.none c.args.edits.now c.args.bench.now c.requires.fit

@@ -1,6 +1,6 @@
 use Rattle.std.proofs.Common.{◌≡◌, length}
-use Rattle.ir_tree.specs.Edits.{entry_at}
-use Rattle.ir_tree.specs.Meaning.{key_before_in}
+use Rattle.ir_event.specs.trees.Edits.{entry_at}
+use Rattle.ir_event.specs.trees.Meaning.{key_before_in}
 use Rattle.rewriter.proofs.attributes.has_entry.Given as goal
 
 abbrev pub invariant-loop-rest : goal.invariant-loop-rest

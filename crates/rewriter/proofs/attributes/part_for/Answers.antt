@@ -1,12 +1,12 @@
 use Rattle.std.proofs.Common.{rules, ◌≡◌, sym, refl, true, false, Some}
 use Rattle.std.specs.Prelude.{option_map, is_some}
-use Rattle.ir_types.specs.Terms.{name_term}
-use Rattle.ir_types.specs.Words.{is_inherent}
-use Rattle.ir_tree.specs.Edits.{entry_at}
-use Rattle.ir_tree.specs.Ids.{has_id}
-use Rattle.ir_tree.specs.Meaning.{key_before_in}
-use Rattle.ir_store.specs.Nodes.{node_of}
-use Rattle.ir_store.specs.Stored.{Stored, known}
+use Rattle.ir_event.specs.types.Terms.{name_term}
+use Rattle.ir_event.specs.types.Words.{is_inherent}
+use Rattle.ir_event.specs.trees.Edits.{entry_at}
+use Rattle.ir_event.specs.trees.Ids.{has_id}
+use Rattle.ir_event.specs.trees.Meaning.{key_before_in}
+use Rattle.ir_event.specs.store.Nodes.{node_of}
+use Rattle.ir_event.specs.store.Stored.{Stored, known}
 use Rattle.rewriter.proofs.Parts.{absent_part, part_by}
 use Rattle.rewriter.proofs.attributes.part_for.Goals as goal
 

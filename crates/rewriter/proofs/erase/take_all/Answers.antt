@@ -1,14 +1,14 @@
 use Rattle.std.proofs.Common.{◌≡◌, ◌∙◌, ℕ, sym, ap, subst, false, true, None, List, [], ◌∷◌, ◌++◌, ◌≤◌, ◌+◌, suc, length, arith, length-append, eqb}
-use Rattle.ir_types.specs.declared.refusal.Refusal.TheVariants.{NoSuchOp}
-use Rattle.ir_tree.specs.Tree.{Op}
-use Rattle.ir_tree.specs.Ids.{find, has_id}
-use Rattle.ir_tree_laws.specs.Reasons.{take_reason}
-use Rattle.ir_tree_laws.proofs.Reasoned.{no_unless}
-use Rattle.ir_store.specs.Stored.{Stored}
-use Rattle.ir_store.specs.Calls.{after_take}
+use Rattle.ir_event.specs.types.declared.refusal.Refusal.TheVariants.{NoSuchOp}
+use Rattle.ir_event.specs.trees.Tree.{Op}
+use Rattle.ir_event.specs.trees.Ids.{find, has_id}
+use Rattle.ir_event.specs.tree_laws.Reasons.{take_reason}
+use Rattle.ir_event.proofs.of_tree_laws.Reasoned.{no_unless}
+use Rattle.ir_event.specs.store.Stored.{Stored}
+use Rattle.ir_event.specs.store.Calls.{after_take}
 use Rattle.rewriter_desk.specs.Contents.{tests_in}
 use Rattle.rewriter_desk.specs.Edits.{Erase, erase_reason}
-use Rattle.ir_tree.specs.WellFormed.{Module}
+use Rattle.ir_event.specs.trees.WellFormed.{Module}
 use Rattle.rewriter_laws.specs.Erasing.{ids_in}
 use Rattle.rewriter.proofs.There.{not_gone}
 use Rattle.rewriter.proofs.Noted.{made_module}

@@ -1,5 +1,5 @@
 use Rattle.std.proofs.Common.{length}
-use Rattle.ir_tree.specs.Ids.{find}
+use Rattle.ir_event.specs.trees.Ids.{find}
 use Rattle.rewriter_desk.specs.Edits.{Erase}
 use Rattle.rewriter_laws.specs.Erasing.{ids_in}
 use Rattle.rewriter.proofs.Together.{IsUnderway}

@@ -1,5 +1,5 @@
 use Rattle.std.proofs.Common.{◌≡◌, ◌∙◌, sym, true}
-use Rattle.ir_tree.specs.Ids.{has_id}
+use Rattle.ir_event.specs.trees.Ids.{has_id}
 use Rattle.rewriter.proofs.There.{root_reason, other_reason}
 use Rattle.rewriter.proofs.faults.erase_fault.Goals as goal
 

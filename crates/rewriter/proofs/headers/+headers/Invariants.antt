@@ -1,6 +1,6 @@
 use Rattle.std.proofs.Common.{◌≡◌, ◌++◌, map, drop}
-use Rattle.ir_tree.specs.Tree.{regions_of, ops_of}
-use Rattle.ir_tree.specs.View.{region_view}
+use Rattle.ir_event.specs.trees.Tree.{regions_of, ops_of}
+use Rattle.ir_event.specs.trees.View.{region_view}
 use Rattle.rewriter_laws.specs.Inserting.{regions_headers, ops_headers}
 use Rattle.rewriter.proofs.headers.+headers.Given as goal
 

@@ -1,9 +1,9 @@
 use Rattle.std.proofs.Common.{◌≡◌, refl, subst, map, ℕ, List}
-use Rattle.ir_tree.specs.Tree.{regions_of, region_list}
-use Rattle.ir_tree.specs.View.{region_view}
-use Rattle.ir_tree.specs.declared.tree.TreeRegion.{TreeRegion}
-use Rattle.ir_tree.proofs.Lists.{regions_from}
-use Rattle.ir_tree.proofs.Steps.{made_all}
+use Rattle.ir_event.specs.trees.Tree.{regions_of, region_list}
+use Rattle.ir_event.specs.trees.View.{region_view}
+use Rattle.ir_event.specs.trees.declared.tree.TreeRegion.{TreeRegion}
+use Rattle.ir_event.proofs.of_trees.Lists.{regions_from}
+use Rattle.ir_event.proofs.of_trees.Steps.{made_all}
 use Rattle.rewriter_laws.specs.Inserting.{bare_regions}
 use Rattle.rewriter.proofs.headers.bare_regions.Goals as goal
 

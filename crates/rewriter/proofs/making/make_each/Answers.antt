@@ -1,7 +1,7 @@
 use Rattle.std.proofs.Common.{◌≡◌, ◌⊎◌, sym, subst}
-use Rattle.ir_types.specs.Things.{Things}
-use Rattle.ir_types.specs.declared.refusal.Refusal.TheVariants.{Memory}
-use Rattle.ir_tree.specs.Meaning.{IsSoundIn}
+use Rattle.ir_event.specs.types.Things.{Things}
+use Rattle.ir_event.specs.types.declared.refusal.Refusal.TheVariants.{Memory}
+use Rattle.ir_event.specs.trees.Meaning.{IsSoundIn}
 use Rattle.rewriter_desk.specs.Contents.{tests_in}
 use Rattle.rewriter.specs.Trying.{AreHeadersOf, IsRefusedAmong}
 use Rattle.rewriter.proofs.Tried.{header_there, made_none, made_more, made_refused}

@@ -1,11 +1,11 @@
 use Rattle.std.proofs.Common.{◌≡◌, ◌∙◌, sym, ap, subst, true, List, [], ◌≤◌, suc, length, arith}
-use Rattle.ir_tree.specs.WellFormed.{Module}
-use Rattle.ir_tree.specs.Uses.{uses_of}
-use Rattle.ir_store.specs.Stored.{Stored}
-use Rattle.ir_store.specs.Calls.{after_operand}
-use Rattle.ir_store.specs.Using.{is_use}
-use Rattle.ir_tree_laws.specs.Reasons.{set_operand_reason}
-use Rattle.ir_tree.specs.Meaning.{isolated_in}
+use Rattle.ir_event.specs.trees.WellFormed.{Module}
+use Rattle.ir_event.specs.trees.Uses.{uses_of}
+use Rattle.ir_event.specs.store.Stored.{Stored}
+use Rattle.ir_event.specs.store.Calls.{after_operand}
+use Rattle.ir_event.specs.store.Using.{is_use}
+use Rattle.ir_event.specs.tree_laws.Reasons.{set_operand_reason}
+use Rattle.ir_event.specs.trees.Meaning.{isolated_in}
 use Rattle.rewriter_desk.specs.Contents.{tests_in}
 use Rattle.rewriter_desk.specs.Edits.{Replace}
 use Rattle.rewriter.proofs.Noted.{made_module}

@@ -1,5 +1,5 @@
 use Rattle.std.proofs.Common.{length}
-use Rattle.ir_tree.specs.Uses.{uses_of}
+use Rattle.ir_event.specs.trees.Uses.{uses_of}
 use Rattle.rewriter_desk.specs.Edits.{Replace}
 use Rattle.rewriter.proofs.Together.{IsUnderway}
 use Rattle.rewriter.proofs.replace.set_uses.Given as goal

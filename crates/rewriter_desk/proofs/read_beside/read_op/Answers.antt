@@ -1,5 +1,5 @@
 use Rattle.std.proofs.Common.{refl}
-use Rattle.ir_tree.proofs.Meanings.{stays_sound}
+use Rattle.ir_event.proofs.of_trees.Meanings.{stays_sound}
 use Rattle.ir_event.proofs.Growing.{formed_stays, held_stays, module_stays}
 use Rattle.rewriter_desk.proofs.Beside.{types_known, ok_so, ok_numbered, none_beside}
 use Rattle.rewriter_desk.proofs.read_beside.read_op.Goals as goal

@@ -1,5 +1,5 @@
 use Rattle.std.proofs.Common.{subst}
-use Rattle.ir_tree_laws.specs.Members.{In}
+use Rattle.ir_event.specs.tree_laws.Members.{In}
 use Rattle.rewriter_laws.proofs.Bare.{header_sound}
 use Rattle.rewriter_laws.proofs.Built.{header_count}
 use Rattle.rewriter_laws.proofs.Inserted.{header_bare}

@@ -1,5 +1,5 @@
 use Rattle.std.proofs.Common.{ap, sym, eqb-true}
-use Rattle.ir_tree.specs.Places.{without}
+use Rattle.ir_event.specs.trees.Places.{without}
 use Rattle.rewriter_laws.proofs.LastFirst.{last_allowed, last_formed, last_fewer, last_still, last_same}
 use Rattle.rewriter_laws.proofs.turns.erasing_by_last.Goals as goal
 

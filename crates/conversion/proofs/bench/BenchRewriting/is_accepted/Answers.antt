@@ -1,5 +1,5 @@
 use Rattle.std.proofs.Common.{ap, sym, subst, ◌∙◌}
-use Rattle.ir_types.specs.Things.{Things}
+use Rattle.ir_event.specs.types.Things.{Things}
 use Rattle.conversion_base.specs.Targets.{IsNamedIn, aim_of, is_accepted}
 use Rattle.conversion.proofs.bench.BenchRewriting.is_accepted.Goals as goal
 

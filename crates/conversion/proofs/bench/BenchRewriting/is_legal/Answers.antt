@@ -1,5 +1,5 @@
 use Rattle.std.proofs.Common.{sym, subst, ◌∙◌}
-use Rattle.ir_types.specs.Things.{Things}
+use Rattle.ir_event.specs.types.Things.{Things}
 use Rattle.conversion_base.specs.Targets.{IsNamedIn, aim_of, is_legal}
 use Rattle.conversion.proofs.Seen.{same_module}
 use Rattle.conversion.proofs.bench.BenchRewriting.is_legal.Goals as goal

@@ -1,7 +1,7 @@
 use Rattle.std.proofs.Common.{ap, sym, ◌∙◌, subst}
-use Rattle.ir_store.specs.Stored.{Stored}
-use Rattle.ir_tree.specs.Ids.{has_id}
-use Rattle.ir_tree.specs.Meaning.{isolated_in}
+use Rattle.ir_event.specs.store.Stored.{Stored}
+use Rattle.ir_event.specs.trees.Ids.{has_id}
+use Rattle.ir_event.specs.trees.Meaning.{isolated_in}
 use Rattle.greedy.specs.Following.{HasFewRegions, following}
 use Rattle.greedy.proofs.Benches.{held_has, held_following, few_regions}
 use Rattle.greedy.proofs.bench.BenchRewriting.following.Goals as goal

@@ -1,6 +1,6 @@
 use Rattle.std.proofs.Common.{ap, sym, ◌∙◌}
-use Rattle.ir_store.specs.Stored.{Stored}
-use Rattle.ir_tree.specs.Ids.{has_id}
+use Rattle.ir_event.specs.store.Stored.{Stored}
+use Rattle.ir_event.specs.trees.Ids.{has_id}
 use Rattle.greedy.proofs.Benches.{held_has}
 use Rattle.greedy.proofs.bench.BenchRewriting.in_tree.Goals as goal
 

@@ -1,6 +1,6 @@
 use Rattle.std.proofs.Common.{ap, sym, ◌∙◌}
-use Rattle.ir_store.specs.Stored.{Stored}
-use Rattle.ir_tree_laws.specs.Reads.{precedes}
+use Rattle.ir_event.specs.store.Stored.{Stored}
+use Rattle.ir_event.specs.tree_laws.Reads.{precedes}
 use Rattle.greedy.proofs.Benches.{held_precedes}
 use Rattle.greedy.proofs.bench.BenchRewriting.precedes.Goals as goal
 

@@ -1,8 +1,8 @@
 use Rattle.std.proofs.Common.{ap, sym, ◌∙◌, subst, true, ◌≡◌, List, ℕ}
 use Rattle.std.specs.Option.{IfSome}
-use Rattle.ir_store.specs.Stored.{Stored}
-use Rattle.ir_tree.specs.Ids.{ids, has_id}
-use Rattle.ir_tree_laws.specs.Reads.{comes_after}
+use Rattle.ir_event.specs.store.Stored.{Stored}
+use Rattle.ir_event.specs.trees.Ids.{ids, has_id}
+use Rattle.ir_event.specs.tree_laws.Reads.{comes_after}
 use Rattle.greedy.proofs.Benches.{held_has, held_ids}
 use Rattle.greedy.proofs.bench.BenchRewriting.preceding.Goals as goal
 

@@ -1,4 +1,4 @@
-use Rattle.ir_tree.proofs.Meanings.{stays_sound}
+use Rattle.ir_store.proofs.of_trees.Meanings.{stays_sound}
 use Rattle.ir_event.proofs.Growing.{formed_stays, held_stays, module_stays}
 use Rattle.ir_event.proofs.world.World.name.Goals as goal
 

@@ -1,6 +1,6 @@
 use Rattle.std.proofs.Common.{◌∙◌, ap, sym, option_map}
 use Rattle.ir_store.specs.Nodes.{node_of}
-use Rattle.ir_tree_laws.proofs.Around.{absent_find}
+use Rattle.ir_store.proofs.of_tree_laws.Around.{absent_find}
 use Rattle.ir_event.proofs.Shown.{known_there}
 use Rattle.ir_event.proofs.world.World.shown.Goals as goal
 

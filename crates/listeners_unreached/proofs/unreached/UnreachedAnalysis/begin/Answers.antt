@@ -1,5 +1,5 @@
 use Rattle.std.proofs.Common.{refl}
-use Rattle.ir_types.proofs.Growth.{grows_refl}
+use Rattle.ir_event.proofs.of_types.Growth.{grows_refl}
 use Rattle.listeners_symbols.specs.Table.{tree_in}
 use Rattle.listeners_symbols.proofs.Gathered.{meaning_distinct}
 use Rattle.listeners_unreached.proofs.unreached.UnreachedAnalysis.begin.Goals as goal

@@ -1,5 +1,5 @@
 use Rattle.std.proofs.Common.{refl, inl, subst}
-use Rattle.ir_types.specs.Sound.{IsSound}
+use Rattle.ir_event.specs.types.Sound.{IsSound}
 use Rattle.ir_event.specs.Modules.{module_in}
 use Rattle.listeners_symbols.specs.Listeners.{kept_at}
 use Rattle.listeners_symbols.proofs.Agreed.{followed_is_kept}

@@ -1,7 +1,7 @@
 use Rattle.std.proofs.Common.{◌≡◌, subst, rules, ap}
-use Rattle.ir_tree.specs.declared.place.Part.{Part}
-use Rattle.ir_tree.specs.Meaning.{key_before_in}
-use Rattle.ir_store.specs.Calls.{after_entry}
+use Rattle.ir_event.specs.trees.declared.place.Part.{Part}
+use Rattle.ir_event.specs.trees.Meaning.{key_before_in}
+use Rattle.ir_event.specs.store.Calls.{after_entry}
 use Rattle.rewriter_desk.specs.Contents.{tests_in}
 use Rattle.rewriter_desk.specs.Edits.{part_for}
 use Rattle.rewriter.specs.Benched.{Made}

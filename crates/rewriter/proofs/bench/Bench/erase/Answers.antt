@@ -1,5 +1,5 @@
 use Rattle.std.proofs.Common.{◌≡◌, ◌≢◌, ◌∙◌, sym, ap, subst, refl, true, false, None, Some, []}
-use Rattle.ir_tree.specs.Uses.{same_value}
+use Rattle.ir_event.specs.trees.Uses.{same_value}
 use Rattle.rewriter_desk.specs.Contents.{edit_meaning, tests_in}
 use Rattle.rewriter_desk.specs.Edits.{Replace, Erase, reason_by}
 use Rattle.rewriter_desk.specs.Machine.{Do, Goes, Refused, Nothing}

@@ -1,6 +1,6 @@
 use Rattle.std.proofs.Common.{◌≡◌, ◌∙◌, sym, ap, subst, refl, true, false, None, Some, []}
-use Rattle.ir_store.specs.Stored.{Stored}
-use Rattle.ir_tree.specs.Tree.{head}
+use Rattle.ir_event.specs.store.Stored.{Stored}
+use Rattle.ir_event.specs.trees.Tree.{head}
 use Rattle.rewriter_laws.specs.Inserting.{insert_fault}
 use Rattle.rewriter_desk.specs.Edits.{Insert}
 use Rattle.rewriter.proofs.Noted.{keeps_left, recorded_none}

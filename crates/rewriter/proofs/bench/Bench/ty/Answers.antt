@@ -1,5 +1,5 @@
 use Rattle.std.proofs.Common.{subst, []}
-use Rattle.ir_types.specs.Sound.{Holds}
+use Rattle.ir_event.specs.types.Sound.{Holds}
 use Rattle.rewriter.proofs.Rolled.{grown_settled}
 use Rattle.rewriter.proofs.Told.{heard_grown}
 use Rattle.rewriter.proofs.bench.Bench.ty.Goals as goal

@@ -1,6 +1,6 @@
 use Rattle.std.proofs.Common.{◌≡◌, rules}
-use Rattle.ir_tree.specs.Meaning.{key_before_in}
-use Rattle.ir_store.specs.Calls.{after_entry}
+use Rattle.ir_event.specs.trees.Meaning.{key_before_in}
+use Rattle.ir_event.specs.store.Calls.{after_entry}
 use Rattle.rewriter_laws.specs.Journals.{IsStoreOf}
 use Rattle.rewriter_desk.specs.Held.{Held}
 use Rattle.rewriter_desk.specs.Moves.{noted_as}

@@ -1,5 +1,5 @@
 use Rattle.std.proofs.Common.{◌≡◌, rules}
-use Rattle.ir_store.specs.Calls.{after_take}
+use Rattle.ir_event.specs.store.Calls.{after_take}
 use Rattle.rewriter_laws.specs.Journals.{IsStoreOf}
 use Rattle.rewriter_desk.specs.Held.{Held}
 use Rattle.rewriter_desk.specs.Moves.{noted_as}
