@@ -1,9 +1,6 @@
 //! What commands show: the module, and the rows of a listener.
 ghost use Rattle.std.specs.Prelude.{◌≡◌, ◌⊎◌, [], true, false, All, IfOk, IfErr};
-ghost use Rattle.std.specs.List.{find};
-ghost use Rattle.std.specs.Option.{option_map};
 ghost use Rattle.ir_event.specs.Modules.{things_in, module_in};
-ghost use Rattle.ir_event.specs.Panels.{is_kind as has_this_kind};
 ghost use Rattle.ir_event.specs.Rows.{RowIsOf, rows_meaning};
 ghost use Rattle.ir_text.specs.Printing.{text_of};
 ghost use Rattle.mlir_work_transforms.specs.rewriter.Commands.{Report, Print};
@@ -64,16 +61,6 @@ pub(crate) fn show_module<L: Analysis>(alloc: Global, bench: &Bench<L>) -> Answe
     }
 }
 
-fn listener_of<L: Analysis>(listeners: &[L], kind: Kind) -> Option<&L>
-    ensures { option_map (λ b. b.now) result ≡ find (has_this_kind L.meaning kind) listeners.now }
-{
-    listeners.iter().find(
-        |listener: &&L| -> bool
-            ensures { result ≡ has_this_kind L.meaning kind listener.now.now }
-        { listener.kind().number() == kind.number() },
-    )
-}
-
 /// The rows of a listener that agrees with a world or is stale.
 fn rows_of<L: Analysis>(listener: &L, world: &World) -> Result<Vec<Row>, ReportFault>
     requires { (L.meaning listener.now).agrees (things_in world.now) (module_in world.now) ⊎ ((L.meaning listener.now).stale ≡ true) }
@@ -112,7 +99,7 @@ pub(crate) fn show_rows<L: Analysis>(alloc: Global, bench: &Bench<L>, kind: Kind
     requires { IsKept L.meaning bench.now }
     ensures { (manner : Manner) → Obeys manner (state_of L.meaning bench.now) (Report kind) (response_of result.reply) result.shows.items (state_of L.meaning bench.now) }
 {
-    let Some(listener) = listener_of(bench.listeners(), kind) else {
+    let Some(listener) = bench.listener(kind) else {
         return refused(alloc, Refusal::NoSuchKind);
     };
     let shows = match text_of_report(alloc, listener, bench.world()) {

@@ -1,7 +1,8 @@
 //! The bench.
 ghost use Rattle.std.specs.Prelude.{◌≡◌, [], length, slice_get, ◌↔◌, ◌≢◌, ◌<◌, ◌⊎◌, IsTrue, OnErr, IfErr, IfOk, IsOk};
 ghost use Rattle.std.specs.Prelude.{Some, true, None};
-ghost use Rattle.std.specs.List.{All};
+ghost use Rattle.std.specs.List.{All, find};
+ghost use Rattle.std.specs.Option.{option_map};
 ghost use Rattle.ir_event.specs.types.Things.{TypeIsOf, AttrIsOf};
 ghost use Rattle.ir_event.specs.types.Interning.{with_name, with_type, with_attr, knows_name, knows_type, knows_attr};
 ghost use Rattle.ir_event.specs.types.Reasons.{IsRefusedFor, name_reason, type_reason, attr_reason};
@@ -11,6 +12,7 @@ ghost use Rattle.ir_event.specs.trees.Meaning.{IsSoundIn, isolated_in};
 ghost use Rattle.ir_event.specs.trees.WellFormed.{IsWellFormed, fault};
 ghost use Rattle.ir_event.specs.store.Calls.{Loaded};
 ghost use Rattle.ir_event.specs.Modules.{things_in};
+ghost use Rattle.ir_event.specs.Panels.{is_kind};
 ghost use Rattle.rewriter_desk.specs.Journals.{IsJournal, IsSlotted};
 ghost use Rattle.rewriter_desk.specs.Moves.{Grown};
 ghost use Rattle.rewriter.specs.Benched.{Led};
@@ -20,6 +22,7 @@ use crate::marks::settle;
 use ir_event::analysis::Analysis;
 use ir_event::event::Event;
 use ir_event::panel::Panel;
+use ir_event::row::Kind;
 use ir_event::trees::tree::TreeOp;
 use ir_event::types::context::Context;
 use ir_event::types::ids::{AttrId, NameId, TypeId};
@@ -136,6 +139,13 @@ impl<L: Analysis> Bench<L> {
         ensures { result.now ≡ self.now.listeners }
     {
         self.panel.listeners()
+    }
+
+    /// The listener of a kind, if one is attached.
+    pub fn listener(&self, kind: Kind) -> Option<&L>
+        ensures { option_map (λ listener. listener.now) result ≡ find (is_kind L.meaning kind) self.now.listeners }
+    {
+        self.panel.listener(kind)
     }
 
     /// Whether a mark is open.
