@@ -34,7 +34,6 @@ pub fn entry(ctx: &Context, entries: &[(NameId, AttrId)], key: Word) -> Option<A
 }
 
 /// Whether a name is that of a key.
-#[tactic(auto, using(ir_event::proofs::Truths::turned))]
 fn is_key(ctx: &Context, name: NameId, key: Word) -> bool
     ensures { result ≡ bytes_eq (word_bytes key) (name_term ctx.now name) }
 {
