@@ -15,7 +15,7 @@ import sys
 
 IMPORT = re.compile(r"^\s*(?:pub )?use (Rattle\.[^\s;{]+)", re.MULTILINE)
 GHOST = re.compile(r"^\s*(?:pub )?ghost use (Rattle\.[^\s;{]+)", re.MULTILINE)
-WHOLE = re.compile(r"^pub use (Rattle\.\w+\.(?:specs|proofs)(?:\.[a-z]\w*)?)(?: as (\w+))?$", re.MULTILINE)
+WHOLE = re.compile(r"^pub use (Rattle\.\w+\.(?:specs|proofs)(?:\.[a-z]\w*)*)(?: as (\w+))?$", re.MULTILINE)
 WHOLE_CODE = re.compile(r"^pub use ([a-z_:]+)(?: as (\w+))?;", re.MULTILINE)
 root = pathlib.Path("crates")
 

@@ -17,5 +17,4 @@ pub mod Steps
 pub mod Used
 pub mod Waiting
 pub mod Walks
-pub use Rattle.patterns.proofs.of_rewriter as of_rewriter_bench
 pub use Rattle.patterns.proofs.of_rewriter

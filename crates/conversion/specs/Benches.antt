@@ -2,7 +2,7 @@
 use Rattle.std.specs.Prelude.{[], ◌++◌}
 use Rattle.ir_event.specs.types.Sound.{Holds}
 use Rattle.ir_event.specs.Listener.{Listener}
-use Rattle.patterns.proofs.Told.{heard_none, heard_more}
+use Rattle.patterns.proofs.Heard.{heard_stays, heard_through}
 use Rattle.patterns.specs.Benched.{Benched, Led}
 use Rattle.patterns.specs.Held.{Held, module_held, open_marks}
 use Rattle.conversion.specs.States.{State}
@@ -22,10 +22,10 @@ module _ {B : Type 0} (meaning : B → Listener) where
   LedOn a b = Holds a.desk.ctx → Holds b.desk.ctx × Led meaning a b
 
   pub led_none : (a : Benched B) → LedOn a a
-  led_none a holds = (holds, ([], heard_none meaning a))
+  led_none a holds = (holds, ([], heard_stays meaning a))
 
   pub led_more : (a b c : Benched B) → LedOn a b → LedOn b c → LedOn a c
   led_more a b c h k holds =
       let one = h holds in
       let two = k one.0 in
-      (two.0, (one.1.0 ++ two.1.0, heard_more meaning one.1.0 two.1.0 a b c one.0 one.1.1 two.1.1))
+      (two.0, (one.1.0 ++ two.1.0, heard_through meaning one.1.0 two.1.0 a b c one.0 one.1.1 two.1.1))

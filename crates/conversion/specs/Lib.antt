@@ -12,6 +12,5 @@ pub use Rattle.conversion_base.specs.Rewrites
 pub use Rattle.conversion_base.specs.Rule
 pub use Rattle.conversion_base.specs.RuleNames
 pub use Rattle.patterns.specs.runs.Runs
-pub use Rattle.patterns.specs.rewriter as rewriter_bench
 pub use Rattle.patterns.specs as patterns
 pub use Rattle.patterns.specs.rewriter

@@ -18,4 +18,3 @@ mod walk;
 pub use conversion_base::{laws, names, rule, target};
 pub use patterns as patterns;
 pub use patterns::rewriter;
-pub use rewriter as rewriter_bench;

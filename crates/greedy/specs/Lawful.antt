@@ -6,7 +6,7 @@ use Rattle.ir_types.proofs.Growth.{grows_refl, grows_trans}
 use Rattle.ir_event.specs.Listener.{Listener}
 use Rattle.patterns.specs.Benched.{Benched}
 use Rattle.patterns.specs.runs.Interning.{IsFull}
-use Rattle.patterns.proofs.Told.{heard_none, heard_more}
+use Rattle.patterns.proofs.Heard.{heard_stays, heard_through}
 use Rattle.greedy.specs.Benches.{Onward}
 
 front_longer : {A : Type 0} (n : ℕ) (xs ys : List A) → IsFront xs ys → n ≤ length xs → n ≤ length ys
@@ -18,7 +18,7 @@ full_stays c d g (inr l) = inr (front_longer most_things c.attrs d.attrs g.attrs
 
 module _ {B : Type 0} (meaning : B → Listener) where
   pub onward_stays : (b : Benched B) → Onward meaning b b
-  onward_stays b = record { grows = grows_refl b.desk.ctx; led = λ h. (h, ([], heard_none meaning b)) }
+  onward_stays b = record { grows = grows_refl b.desk.ctx; led = λ h. (h, ([], heard_stays meaning b)) }
 
   pub onward_through : (a b d : Benched B) → Onward meaning a b → Onward meaning b d → Onward meaning a d
   onward_through a b d f g = record {
@@ -26,5 +26,5 @@ module _ {B : Type 0} (meaning : B → Listener) where
     led = λ h.
         let x = f.led h in
         let y = g.led x.0 in
-        (y.0, (x.1.0 ++ y.1.0, heard_more meaning x.1.0 y.1.0 a b d x.0 x.1.1 y.1.1));
+        (y.0, (x.1.0 ++ y.1.0, heard_through meaning x.1.0 y.1.0 a b d x.0 x.1.1 y.1.1));
   }

@@ -3,7 +3,7 @@ use Rattle.std.specs.Prelude.{◌≡◌, ℕ, ◌+◌, false, None}
 use Rattle.std.specs.Ordering.{nat_cmp}
 use Rattle.std.specs.BTreeMap.{BTreeMap}
 use Rattle.std.specs.BTreeMap as tree
-use Rattle.ir_event.proofs.of_types.Growth.{grows_trans}
+use Rattle.ir_types.proofs.Growth.{grows_trans}
 use Rattle.ir_event.specs.Bounds.{operands_of}
 use Rattle.ir_event.specs.Listener.{Listener}
 use Rattle.listeners_symbols.specs.declared.role.Role.{Role as Numbers}

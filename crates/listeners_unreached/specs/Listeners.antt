@@ -1,6 +1,6 @@
 -- What the listener means.
 use Rattle.std.specs.Prelude.{◌≡◌, ◌+◌, false, None}
-use Rattle.ir_event.proofs.of_types.Growth.{grows_trans}
+use Rattle.ir_types.proofs.Growth.{grows_trans}
 use Rattle.ir_event.specs.trees.Ids.{HasDistinctIds}
 use Rattle.ir_event.specs.Bounds.{operands_of}
 use Rattle.ir_event.specs.Listener.{Listener}

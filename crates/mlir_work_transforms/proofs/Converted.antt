@@ -6,14 +6,14 @@ use Rattle.ir_event.specs.types.declared.refusal.Refusal.{Refusal}
 use Rattle.ir_event.specs.types.declared.refusal.Refusal.TheVariants.{BadTarget, Full, Memory}
 use Rattle.ir_event.specs.Listener.{Listener}
 use Rattle.ir_event.specs.Modules.{Module}
-use Rattle.conversion.proofs.of_rewriter_bench.Together.{Ages}
-use Rattle.conversion.proofs.of_rewriter_bench.Told.{heard_more}
-use Rattle.conversion.specs.rewriter_bench.Benched.{Benched, Does, Led, state_of}
-use Rattle.conversion.specs.rewriter_bench.Held.{module_held}
-use Rattle.conversion.specs.rewriter_bench.Moves.{Recorded}
-use Rattle.conversion.proofs.of_rewriter_bench.Noted.{recorded_more}
+use Rattle.conversion.proofs.of_rewriter.Together.{Ages}
+use Rattle.conversion.proofs.of_rewriter.Told.{heard_more}
+use Rattle.conversion.specs.rewriter.Benched.{Benched, Does, Led, state_of}
+use Rattle.conversion.specs.rewriter.Held.{module_held}
+use Rattle.conversion.specs.rewriter.Moves.{Recorded}
+use Rattle.conversion.proofs.of_rewriter.Noted.{recorded_more}
 use Rattle.conversion.specs.Runs.{Noted}
-use Rattle.conversion.specs.rewriter_bench.Machine.{Change, Goes, IsFullSo, Nothing, Refused, State as Machine, due, due_change, fault_reply}
+use Rattle.conversion.specs.rewriter.Machine.{Change, Goes, IsFullSo, Nothing, Refused, State as Machine, due, due_change, fault_reply}
 use Rattle.conversion.proofs.Replied.{converts_goes}
 use Rattle.conversion.specs.Benches.{seen}
 use Rattle.conversion.specs.Conversion.{Ended, converted, given_up, conversion_of}

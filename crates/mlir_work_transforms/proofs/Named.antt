@@ -18,11 +18,11 @@ use Rattle.ir_event.proofs.of_types.CallNumbers.{new_name, name_stands}
 use Rattle.ir_event.proofs.of_types.Growth.{front_agree, front_length, grows_refl, grows_trans}
 use Rattle.ir_event.specs.Listener.{Listener}
 use Rattle.ir_event.proofs.of_tree_laws.Listed.{both}
-use Rattle.conversion.proofs.of_rewriter_bench.Noted.{recorded_more, recorded_none}
-use Rattle.conversion.specs.rewriter_bench.Benched.{Benched, Led}
-use Rattle.conversion.specs.rewriter_bench.Held.{Held}
-use Rattle.conversion.specs.rewriter_bench.Moves.{Grown, Recorded}
-use Rattle.conversion.specs.rewriter_bench.Panels.{all_shown}
+use Rattle.conversion.proofs.of_rewriter.Noted.{recorded_more, recorded_none}
+use Rattle.conversion.specs.rewriter.Benched.{Benched, Led}
+use Rattle.conversion.specs.rewriter.Held.{Held}
+use Rattle.conversion.specs.rewriter.Moves.{Grown, Recorded}
+use Rattle.conversion.specs.rewriter.Panels.{all_shown}
 use Rattle.conversion.specs.Benches.{led_more, led_none}
 use Rattle.conversion.specs.States.{IsWant}
 use Rattle.mlir_work_transforms.specs.Interned.{AreNumbers, Interned}

@@ -4,8 +4,8 @@ use Rattle.std.specs.List.{All}
 use Rattle.ir_event.specs.types.Things.{Things, Grows, IsName}
 use Rattle.ir_event.specs.types.Terms.{name_term}
 use Rattle.ir_event.specs.Listener.{Listener}
-use Rattle.conversion.specs.rewriter_bench.Benched.{Benched, state_of}
-use Rattle.conversion.specs.rewriter_bench.Moves.{Recorded}
+use Rattle.conversion.specs.rewriter.Benched.{Benched, state_of}
+use Rattle.conversion.specs.rewriter.Moves.{Recorded}
 use Rattle.mlir_work_script.specs.Items.{numbers_of}
 use Rattle.conversion.specs.Benches.{LedOn}
 

@@ -1,10 +1,10 @@
 //! Converting the module of a bench.
 ghost use Rattle.std.specs.Prelude.{◌≡◌, [], true, MatchResult, OnOk};
 ghost use Rattle.ir_event.specs.types.Things.{Grows};
-ghost use Rattle.conversion.specs.rewriter_bench.Machine.{Change};
-ghost use Rattle.conversion.specs.rewriter_bench.Benched.{Does, Led};
-ghost use Rattle.conversion.specs.rewriter_bench.Held.{module_held};
-ghost use Rattle.conversion.specs.rewriter_bench.Moves.{Recorded};
+ghost use Rattle.conversion.specs.rewriter.Machine.{Change};
+ghost use Rattle.conversion.specs.rewriter.Benched.{Does, Led};
+ghost use Rattle.conversion.specs.rewriter.Held.{module_held};
+ghost use Rattle.conversion.specs.rewriter.Moves.{Recorded};
 ghost use Rattle.conversion.specs.Runs.{Noted};
 ghost use Rattle.mlir_work_script.specs.Clauses.{clauses_of, target_of as said_target};
 ghost use Rattle.conversion.specs.Conversion.{has_no_cast};
@@ -14,8 +14,8 @@ ghost use Rattle.conversion.specs.States.{Converts};
 
 use crate::target::target_of;
 use conversion::fault::Fault;
-use conversion::rewriter_bench::Bench;
-use conversion::rewriter_bench::laws::led_benches_are_kept;
+use conversion::rewriter::Bench;
+use conversion::rewriter::laws::led_benches_are_kept;
 use ir_event::analysis::Analysis;
 use ir_event::types::refusal::Refusal;
 use mlir_work_script::clauses::Clauses;

@@ -11,7 +11,7 @@ ghost use Rattle.conversion.specs.States.{IsWant};
 ghost use Rattle.mlir_work_transforms.specs.Interned.{AreNumbers, Interned, numbers_behind};
 
 use conversion::names::Names;
-use conversion::rewriter_bench::Bench;
+use conversion::rewriter::Bench;
 use ir_event::analysis::Analysis;
 use ir_event::types::ids::NameId;
 use ir_event::types::refusal::Refusal;

@@ -8,7 +8,7 @@ ghost use Rattle.mlir_work_transforms.specs.Interned.{Interned};
 
 use crate::names::{names_in, numbers_in};
 use crate::rules::rules_of;
-use conversion::rewriter_bench::Bench;
+use conversion::rewriter::Bench;
 use conversion::target::Target;
 use ir_event::analysis::Analysis;
 use ir_event::types::refusal::Refusal;

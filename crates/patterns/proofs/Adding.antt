@@ -4,8 +4,8 @@ use Rattle.ir_event.specs.types.Things.{Things}
 use Rattle.ir_event.specs.types.Sound.{Holds}
 use Rattle.ir_event.proofs.of_types.Growth.{grows_refl, grows_trans}
 use Rattle.ir_event.specs.Listener.{Listener}
-use Rattle.patterns_lowering.specs.runs.rewriter_bench.Moves.{Grown}
-use Rattle.patterns_lowering.proofs.of_runs.of_rewriter_bench.Told.{heard_none, heard_more, heard_grown}
+use Rattle.patterns_lowering.specs.rewriter.Moves.{Grown}
+use Rattle.patterns_lowering.proofs.of_rewriter.Told.{heard_none, heard_more, heard_grown}
 use Rattle.patterns_lowering.specs.runs.Benched.{Benched, Heard}
 use Rattle.patterns_lowering.specs.runs.Held.{Held}
 use Rattle.patterns_lowering.specs.runs.Interning.{Added}

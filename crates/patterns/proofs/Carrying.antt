@@ -13,8 +13,8 @@ use Rattle.ir_event.specs.tree_laws.Reasons.{unless}
 use Rattle.ir_event.specs.Listener.{Listener}
 use Rattle.ir_event.specs.Modules.{Module, module_in, module_meaning}
 use Rattle.ir_event.specs.declared.world.World.{World}
-use Rattle.patterns_lowering.specs.runs.rewriter_bench.Moves.{Grown, Recorded, all_noted}
-use Rattle.patterns_lowering.proofs.of_runs.of_rewriter_bench.Told.{heard_none, heard_more}
+use Rattle.patterns_lowering.specs.rewriter.Moves.{Grown, Recorded, all_noted}
+use Rattle.patterns_lowering.proofs.of_rewriter.Told.{heard_none, heard_more}
 use Rattle.patterns_lowering.specs.runs.Benched.{Benched, Journaled}
 use Rattle.patterns_lowering.specs.runs.Contents.{Edit, all_edited}
 use Rattle.patterns_lowering.specs.runs.Held.{Held, module_held}

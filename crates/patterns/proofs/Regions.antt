@@ -12,7 +12,7 @@ use Rattle.patterns_facts.specs.base.Opening.{open_branch, open_loop, stop_loop}
 use Rattle.patterns_facts.specs.base.Rules.{rule}
 use Rattle.patterns_facts.specs.base.declared.rule.Rule.{Rule}
 use Rattle.patterns_facts.specs.base.declared.rule.Rule.TheVariants.{OpenBranch, OpenLoop, StopLoop}
-use Rattle.patterns_lowering.specs.regions.Rules.{open_branch_at, open_loop_at, stop_loop_at}
+use Rattle.patterns_lowering.specs.region_rules.Rules.{open_branch_at, open_loop_at, stop_loop_at}
 
 module _ (t : Operation) (n : ℕ) (front : Place) (x : ℕ) (o : Operation) (is : find x t ≡ Some o) (p : Option (List Edit)) (r : Rule) where
   pub when_open_branch : r ≡ OpenBranch → p ≡ open_branch_at x t front → p ≡ rule r t n front o

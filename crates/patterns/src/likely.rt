@@ -8,7 +8,7 @@ use ir_event::store::node::Node;
 use ir_event::types::ids::OpId;
 use ir_event::world::World;
 use patterns_facts::base::rule::Rule;
-use patterns_lowering::regions::tests::{may_choose, may_go_once, may_stop};
+use patterns_lowering::region_rules::tests::{may_choose, may_go_once, may_stop};
 use patterns_plans::dead::is_dead;
 use patterns_plans::may::may_apply;
 

@@ -18,7 +18,7 @@ use ir_event::world::World;
 use patterns_facts::base::rule::Rule;
 use patterns_lowering::plan::Lowering;
 use patterns_lowering::plans::plan_lowered;
-use patterns_lowering::regions::plans::{plan_open_branch, plan_open_loop, plan_stop_loop};
+use patterns_lowering::region_rules::plans::{plan_open_branch, plan_open_loop, plan_stop_loop};
 use patterns_plans::dead::erase;
 use patterns_plans::planned::plan;
 use patterns_plans::reads::clean::is_clean;

@@ -24,10 +24,10 @@ use Rattle.ir_event.specs.trees.Passing.{entry_passes}
 use Rattle.ir_event.proofs.of_tree_laws.Listed.{bool_cases}
 use Rattle.ir_event.specs.declared.event.Event.{Event}
 use Rattle.ir_event.specs.Listener.{Listener}
-use Rattle.patterns_runs.specs.rewriter_bench.Benched.{Benched, Heard}
-use Rattle.patterns_runs.specs.rewriter_bench.Held.{Held}
-use Rattle.patterns_runs.specs.rewriter_bench.Moves.{Grown}
-use Rattle.patterns_runs.proofs.of_rewriter_bench.Told.{heard_grown}
+use Rattle.patterns_runs.specs.rewriter.Benched.{Benched, Heard}
+use Rattle.patterns_runs.specs.rewriter.Held.{Held}
+use Rattle.patterns_runs.specs.rewriter.Moves.{Grown}
+use Rattle.patterns_runs.proofs.of_rewriter.Told.{heard_grown}
 use Rattle.patterns_yields.specs.base.Made.{i64}
 use Rattle.patterns_yields.specs.base.Lowering.{lowered_attr}
 use Rattle.patterns_runs.specs.Interning.{Added, IsNoRoom}

@@ -18,4 +18,3 @@ pub mod Named
 pub mod Asked
 pub use Rattle.patterns_runs.proofs as of_runs
 pub use Rattle.patterns_runs.proofs.of_rewriter
-pub use Rattle.patterns_runs.proofs.Told

@@ -7,5 +7,5 @@ pub mod Lowered
 pub mod Numbers
 pub mod Counts
 pub use Rattle.patterns_runs.specs as runs
-pub use Rattle.patterns_regions.specs as regions
+pub use Rattle.patterns_regions.specs as region_rules
 pub use Rattle.patterns_runs.specs.rewriter

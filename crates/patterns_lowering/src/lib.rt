@@ -22,7 +22,7 @@ pub mod plans;
 mod reading;
 mod users;
 
-pub use patterns_regions as regions;
+pub use patterns_regions as region_rules;
 pub use patterns_regions::reads;
 pub use patterns_runs as runs;
 pub use patterns_runs::rewriter;

@@ -14,7 +14,7 @@ use Rattle.op_registry.specs.Registry.{row_of}
 use Rattle.op_registry.specs.Properties.{kinds, kind_of, is_of_kind, is_allowed, is_overflow, integer_of}
 use Rattle.ir_verify_base.specs.Types.{is_number}
 use Rattle.ir_verify_base.specs.Fits.{Node, Outer, Surroundings}
-use Rattle.ir_verify.specs.Breaks.{told_in, numbers_from, broken}
+use Rattle.patterns_base.specs.verify.Breaks.{told_in, numbers_from, broken}
 use Rattle.patterns_base.specs.Keeps.{Each}
 use Rattle.patterns_laws.specs.Words.{among}
 use Rattle.patterns_reads.specs.Pairs.{pairs, AreFlags}

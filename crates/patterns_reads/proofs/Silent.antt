@@ -24,7 +24,7 @@ use Rattle.ir_verify_base.proofs.Meanings.{map_node_of}
 use Rattle.ir_verify_base.specs.Types.{is_number}
 use Rattle.ir_verify_base.specs.Numbers.{node_in}
 use Rattle.ir_verify_base.specs.Fits.{Node, Outer, Surroundings}
-use Rattle.ir_verify.specs.Breaks.{told_in, broken}
+use Rattle.patterns_base.specs.verify.Breaks.{told_in, broken}
 use Rattle.patterns_base.specs.Diagnostics.{broken_at}
 use Rattle.patterns_base.specs.Looks.{breaks_none}
 use Rattle.patterns_reads.specs.Plain.{plain, IsPlain}

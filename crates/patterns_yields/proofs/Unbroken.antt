@@ -14,9 +14,9 @@ use Rattle.listeners_surroundings.specs.Surroundings.{surround}
 use Rattle.ir_verify_base.specs.Fits.{Surroundings}
 use Rattle.ir_verify_base.specs.Shapes.{breaks_1, breaks_3, breaks_5, breaks_12, breaks_13, is_well_shaped}
 use Rattle.ir_verify_base.specs.TypeRules.{breaks_2, breaks_4, breaks_7, breaks_14, breaks_18, breaks_19, breaks_20}
-use Rattle.ir_verify.specs.BlockRules.{breaks_6, breaks_8, breaks_9, breaks_21}
-use Rattle.ir_verify.specs.PlaceRules.{breaks_10, breaks_11, breaks_15, breaks_16, breaks_17}
-use Rattle.ir_verify.specs.Breaks.{told_of, told_in, numbers_from, broken}
+use Rattle.patterns_base.specs.verify.BlockRules.{breaks_6, breaks_8, breaks_9, breaks_21}
+use Rattle.patterns_base.specs.verify.PlaceRules.{breaks_10, breaks_11, breaks_15, breaks_16, breaks_17}
+use Rattle.patterns_base.specs.verify.Breaks.{told_of, told_in, numbers_from, broken}
 use Rattle.patterns_base.specs.Diagnostics.{broken_at}
 use Rattle.patterns_base.specs.Looks.{Header, breaks_none, is_clean}
 use Rattle.std.proofs.lemmas.Bool.{and_parts}

@@ -29,8 +29,8 @@ use Rattle.listeners_surroundings.proofs.Spots.{stands_in}
 use Rattle.ir_verify_base.specs.Types.{is_boolean, same_types}
 use Rattle.ir_verify_base.specs.Fits.{Node, Surroundings, Known, block_at, first_fit, is_named, is_there, known_of, there, types_fit}
 use Rattle.ir_verify_base.specs.TypeRules.{is_no_number}
-use Rattle.ir_verify.specs.BlockRules.{breaks_9, ends_otherwise, isnt_wanted, last_at}
-use Rattle.ir_verify.specs.PlaceRules.{differ, ended_of, if_well_shaped, yielded}
+use Rattle.patterns_base.specs.verify.BlockRules.{breaks_9, ends_otherwise, isnt_wanted, last_at}
+use Rattle.patterns_base.specs.verify.PlaceRules.{differ, ended_of, if_well_shaped, yielded}
 use Rattle.patterns_base.specs.Looks.{Ended, body, is_clean, is_index_value}
 use Rattle.patterns_yields.specs.Yields.{IsCleanOf, LoopsHandOnAll, ChoicesHandOnAll, ChoicesAskTruth}
 use Rattle.patterns_yields.proofs.Unbroken.{Stand, Unbroken, clean_unbroken, spoken}

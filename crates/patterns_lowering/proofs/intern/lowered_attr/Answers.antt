@@ -1,6 +1,6 @@
 use Rattle.std.proofs.Common.{◌∙◌, ap, sym, subst}
 use Rattle.ir_event.specs.types.Things.{Things}
-use Rattle.patterns_runs.specs.rewriter_bench.Benched.{Benched}
+use Rattle.patterns_runs.specs.rewriter.Benched.{Benched}
 use Rattle.patterns_runs.specs.Interning.{IsNoRoom}
 use Rattle.patterns_lowering.specs.Refused.{as_full}
 use Rattle.ir_event.specs.types.Terms.{attr_term, type_term}
