@@ -1,5 +1,5 @@
 -- The rules that a list of a command names.
-use Rattle.std.proofs.Common.{◌≡◌, refl, ap, sym, ◌∙◌, subst, ℕ, Bool, true, false, cond, List, [], ◌∷◌, ◌++◌, append-nil, append_assoc, map, Option, Some, None, option_map}
+use Rattle.std.proofs.Common.{◌≡◌, refl, ap, sym, ◌∙◌, subst, ℕ, Bool, true, false, cond, List, [], ◌∷◌, ◌++◌, append-nil, map, inl, inr, Option, Some, None, option_map}
 use Rattle.std.specs.Prelude.{is_some, option_and_then}
 use Rattle.std.proofs.lemmas.List.Elements.{All-nil, All-cons}
 use Rattle.std.proofs.lemmas.Bool.{cases_Bool}
@@ -7,8 +7,8 @@ use Rattle.conversion.specs.rewriter.Commands.{RuleName}
 use Rattle.patterns_base.specs.RuleNames.{is_canonical}
 use Rattle.patterns_base.specs.declared.rule.Rule.{Rule}
 use Rattle.conversion.specs.patterns.Rows.{AreCanonical}
-use Rattle.mlir_work_script.specs.Items.{items_behind, items_of}
-use Rattle.mlir_work_script.specs.RuleNames.{name_or_none, names_of, rule_in}
+use Rattle.mlir_work_script.specs.Items.{items_behind}
+use Rattle.mlir_work_script.specs.RuleNames.{name_or_none, rule_in}
 use Rattle.mlir_work_transforms.specs.Applying.{rule_named}
 use Rattle.mlir_work_transforms.proofs.Ruled.{joined, one_joined}
 use Rattle.mlir_work_transforms.specs.Rewriting.{canonical_named, if_canonical, rules_named}
@@ -73,9 +73,9 @@ if_tried (Some q) r e = elim (cases_Bool (is_canonical q)) [
 
 pub named_are_tried : (names : List RuleName) (rs : List Rule) → Some rs ≡ rules_named names → AreCanonical rs
 named_are_tried [] rs e = (let none : rs ≡ [] = cc in subst AreCanonical (sym none) (All-nil IsTried))
-named_are_tried (name ∷ names) rs e = by (canonical_named name) refl (rules_named names) refl e
+named_are_tried (name ∷ names) rs e = by (canonical_named name) refl (rules_named names) refl (λ xs h. named_are_tried names xs h) e
   where
-    by : (a : Option Rule) → canonical_named name ≡ a → (o : Option (List Rule)) → rules_named names ≡ o → Some rs ≡ option_and_then (λ r. option_map (λ xs. r ∷ xs) o) a → AreCanonical rs
-    by None i o j h = absurd cc
-    by (Some r) i None j h = absurd cc
-    by (Some r) i (Some xs) j h = (let is : rs ≡ r ∷ xs = cc in subst AreCanonical (sym is) (All-cons IsTried r xs (if_tried (rule_named name) r i) (named_are_tried names xs (sym j))))
+    by : (a : Option Rule) → canonical_named name ≡ a → (o : Option (List Rule)) → rules_named names ≡ o → ((xs : List Rule) → Some xs ≡ rules_named names → AreCanonical xs) → Some rs ≡ option_and_then (λ r. option_map (λ xs. r ∷ xs) o) a → AreCanonical rs
+    by None i o j rest h = absurd cc
+    by (Some r) i None j rest h = absurd cc
+    by (Some r) i (Some xs) j rest h = (let is : rs ≡ r ∷ xs = cc in subst AreCanonical (sym is) (All-cons IsTried r xs (if_tried (rule_named name) r i) (rest xs (sym j))))
