@@ -16,5 +16,5 @@ mod tried;
 mod walk;
 
 pub use conversion_base::{laws, names, rule, target};
-pub use patterns as patterns;
+pub use patterns;
 pub use patterns::rewriter;

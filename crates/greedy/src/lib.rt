@@ -19,4 +19,4 @@ mod users;
 mod walk;
 mod work;
 
-pub use patterns as patterns;
+pub use patterns;

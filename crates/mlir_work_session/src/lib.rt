@@ -23,7 +23,7 @@ mod texts;
 mod transforming;
 mod unread;
 
-pub use greedy as greedy;
+pub use greedy;
 pub use ir_text::reader;
 pub use mlir_work_script::{
     cells, clauses, command, expect, input, items, keys, kind, lines, numbers, order, outcome,
