@@ -26,13 +26,13 @@ pub returns-clause-fulfils : goal.returns-clause-fulfils
 returns-clause-fulfils g c supply =
     let names = names_of c.args.rules.now in
     let rules = rw c.in-Ok-Some.field-0-is at c.in-Ok-Some.ensures.rules in
-    fulfils_ruled (way_of supply c.args.manner.now) names c.args.limit (rewriting c.in-Ok-Some.rules.items c.limit_of.result) _ _ _ _ (rules_rewrite names _ _ _ rules c.limit_of.ensures) c.reply_canonical.ensures (rw c.deref.ensures.value at c.rewrite_by.ensures.does)
+    fulfils_ruled (way_of supply c.args.manner.now) names c.args.limit (rewriting c.in-Ok-Some.rules.items c.limit_of.result) _ _ _ _ (rules_rewrite names _ _ _ rules c.limit_of.ensures) c.reply_canonical.ensures (rw c.deref.ensures.value at c.rewrite.ensures.does)
 
 pub returns-clause-room : goal.returns-clause-room
 returns-clause-room g c f is =
     let names = names_of c.args.rules.now in
     let rules = rw c.in-Ok-Some.field-0-is at c.in-Ok-Some.ensures.rules in
-    rules_room _ names c.in-Ok-Some.rules.items _ _ f _ _ _ _ (λ more. inr more) rules c.limit_of.ensures is c.reply_canonical.ensures (rw c.deref.ensures.value at c.rewrite_by.ensures.room)
+    rules_room _ names c.in-Ok-Some.rules.items _ _ f _ _ _ _ (λ more. inr more) rules c.limit_of.ensures is c.reply_canonical.ensures (rw c.deref.ensures.value at c.rewrite.ensures.room)
 
 pub returns-clause-kept : goal.returns-clause-kept
-returns-clause-kept g c = c.led_benches_are_kept.ensures.kept _ _ c.rewrite_by.ensures.led c.requires
+returns-clause-kept g c = c.led_benches_are_kept.ensures.kept _ _ c.rewrite.ensures.led c.requires
