@@ -40,6 +40,12 @@ def whole(text, brief=True, limit=script.LIMIT):
     GOLDEN.case(words, text, script.run(text, brief, script.BOXES, script.ALL, limit))
 
 
+REFUSALS = """1 BadToken|2 Unexpected|3 UnknownValue|4 Redefined|5 TypeMismatch|6 BadWidth|7 BadValue|8 MultipleBlocks
+9 Successors|10 TooDeep|11 TooMany|12 DuplicateKey|13 LeftOut|14 NotUtf8|20 NoSuchOp|21 NoSuchValue|22 HasUses
+23 NotVisible|24 TypeDiffers|25 NoSuchIndex|26 NoSuchKey|27 IntoItself|28 OtherTable|29 IsRoot|30 NotEmpty|31 Full
+32 IdsExhausted|33 TooDeepHere|34 TooManyMarks|35 NoMark|36 Memory|40 Stale|41 NoSuchKind|42 KindTaken|50 BadLimit
+51 NotLegalised|52 ChainTooDeep|53 Unreconciled|54 BadTarget|60 BadCommand""".replace("\n", "|").split("|")
+
 # What a script's words say.
 KINDS = {number: name.encode() for number, name in script.KINDS.items()}
 NUMBERS = {name: number for number, name in KINDS.items()}
@@ -146,6 +152,15 @@ def apply_says(rule, op):
     return f"apply {number} {op_of(op)[0]}" if number in range(1, 31) else "bad"
 
 
+def refusal_of(word):
+    """The number and the word of a refusal, by one of them."""
+    for refusal in REFUSALS:
+        number, name = refusal.encode().split()
+        if word == name or number_of(word) == int(number):
+            return refusal
+    return None
+
+
 def line_says(line):
     try:
         line.decode()
@@ -154,7 +169,29 @@ def line_says(line):
     text = line.strip(b" \t\r")
     if not text or text.startswith(b"//"):
         return "nothing"
+    found = re.fullmatch(rb"expect[ \t]+([^ \t]+)(?:[ \t]+(.*))?", text, re.S)
+    if found and refusal_of(found[1]):
+        return f"expects {refusal_of(found[1])} {text_says(found[2] or b'')}"
+    return text_says(text)
+
+
+def tried_says(word):
+    """Whether each item of a list names a rule that may be tried, by its number, or by a word."""
+    return all(number_of(item) in range(1, 25) if item[:1].isdigit() else item for item in word.split(b","))
+
+
+def text_says(text):
     words = re.split(rb"[ \t]+", text)
+    rewrites = words[1:] if words[0] == b"rewrite" else words[2:] if words[:2] == [b"canon", b"only"] else []
+    if rewrites and tried_says(rewrites[0]):
+        if len(rewrites) == 1:
+            return f"rewrite {told(rewrites[0])} limit none"
+        if len(rewrites) == 3 and rewrites[1] == b"limit" and number_of(rewrites[2]) is not None:
+            return f"rewrite {told(rewrites[0])} limit {number_of(rewrites[2])}"
+    if words == [b"print", b"ids"]:
+        return "ids"
+    if len(words) == 2 and words[0] == b"attach" and kind_of(words[1]) is not None:
+        return f"attach {kind_of(words[1])}"
     if words in ([b"print"], [b"begin"], [b"commit"], [b"rollback"], [b"sweep"]):
         return words[0].decode()
     if len(words) == 3 and words[0] == b"apply" and op_of(words[2]):
@@ -209,7 +246,20 @@ MOVES = {"move #3 before #2": "3 before 2", "move\t#3  after\t#002\r": "3 after 
          "move #3 end #1 00": "3 end 1 0",
          "move #4294967295 end #4294967295 4294967295": "4294967295 end 4294967295 4294967295"}
 KINDS_ALONE = {"detach uses": "detach 1", "resync uses": "resync 1", "detach kind9": "detach 9",
-               "\tresync  kind255 \r": "resync 255", "detach constants": "detach 6", "resync unreached": "resync 7"}
+               "\tresync  kind255 \r": "resync 255", "detach constants": "detach 6", "resync unreached": "resync 7",
+               "attach uses": "attach 1", "\tattach  unreached \r": "attach 7", "attach kind9": "attach 9"}
+ORDERS = {"rewrite 1": "rewrite [1] limit none", "rewrite 4,drop-one,0024": "rewrite [4,drop-one,0024] limit none",
+          "\tcanon  only\t1,2  limit 007\r": "rewrite [1,2] limit 7",
+          "rewrite nope,#1 limit 0": "rewrite [nope,#1] limit 0",
+          "canon only limit": "rewrite [limit] limit none", "canon only 1,1": "rewrite [1,1] limit none",
+          "rewrite -1,_": "rewrite [-1,_] limit none",
+          "print ids": "ids", "\tprint  ids \r": "ids", "expect 22 erase #3": "expects 22 HasUses erase 3",
+          "expect HasUses erase #3": "expects 22 HasUses erase 3", "\texpect  0060\tnonsense\r":
+              "expects 60 BadCommand bad",
+          "expect 22": "expects 22 HasUses bad", "expect 22 // x": "expects 22 HasUses bad",
+          "expect 60 expect 60 print": "expects 60 BadCommand bad", "expect 1 print ids": "expects 1 BadToken ids",
+          "expect 42 attach dead": "expects 42 KindTaken attach 5",
+          "expect 2 insert end #0 0 x": "expects 2 Unexpected insert end 0 0 [x]"}
 ALONE = {"begin": "begin", "\tcommit \r": "commit", "rollback\t": "rollback", "sweep": "sweep", " sweep\t\r": "sweep",
          "erase #1": "erase 1", " erase\t#0004294967295": "erase 4294967295",
          "replace %v1.0 %a2.0.1": "replace 1.0 2.0.1", "replace\t%a1.2.3  %v01.00\r": "replace 1.2.3 1.0",
@@ -253,47 +303,53 @@ CHANGES = {"canon": "canon", "\tcanon \r": "canon", "canon limit 1": "canon 1", 
            "convert full legal a\rb,\xe9": "convert full legal [a\\rb,\\xc3\\xa9] depth none"}
 BAD = """move|move #3|move #3 before|move 3 before #2|move #3 before 2|move #3 before #2 x|move #3 start #1
 move #3 start #1 0 0|move #3 end #1 x|move #3 under #1|move #3 Before #2|move #3 before# 2|move #3 start#1 0
-move #4294967296 before #2|move #3 before #4294967296|move #3 end #1 4294967296|moves #3 before #2|set-attr
-set-attr #3|set-attr #3 k|set-attr #3 k \t|set-attr 3 k 1|set-attr #3 9k 1|set-attr #3 k-a 1|set-attr #3 "k 1
-set-attr #3 "k"1|set-attr #3 "k"" 1|set-attr #3 "\\q" 1|set-attr #3 "\\4" 1|set-attr #3 "k"\r 1|set-attr #3 \r"k" 1
-set-attr #3 k\r 1|set-attr #3 \xe9 1|set-attr # k 1|set_attr #3 k 1|set-attr #3 "a\rb" 1|set-attr #3 "a\x0bb" 1
-set-attr #3 @k 1|set-attr #3 = 1|set-attr #3 // 1|drop-attr|drop-attr #3|drop-attr #3 k x|drop-attr #3 "k" x
-drop-attr #3 "k|drop-attr 3 k|drop-attr #3 9|drop-attr #3 k k|drop-attr #3 //|detach|detach uses uses|detach Uses
-detach kind1|detachuses|resync|resync uses x|resync use|resync kind256|canon x|canon 1|canon limit|canon limit x
-canon limit -1|canon limit +1|canon limit 1 x|canon limit 1 limit 1|canon limit limit|canon limits 1|canon Limit 1
+move #4294967296 before #2|move #3 before #4294967296|move #3 end #1 4294967296|moves #3 before #2|set-attr|set-attr #3
+set-attr #3 k|set-attr #3 k \t|set-attr 3 k 1|set-attr #3 9k 1|set-attr #3 k-a 1|set-attr #3 "k 1|set-attr #3 "k"1
+set-attr #3 "k"" 1|set-attr #3 "\\q" 1|set-attr #3 "\\4" 1|set-attr #3 "k"\r 1|set-attr #3 \r"k" 1|set-attr #3 k\r 1
+set-attr #3 \xe9 1|set-attr # k 1|set_attr #3 k 1|set-attr #3 "a\rb" 1|set-attr #3 "a\x0bb" 1|set-attr #3 @k 1
+set-attr #3 = 1|set-attr #3 // 1|drop-attr|drop-attr #3|drop-attr #3 k x|drop-attr #3 "k" x|drop-attr #3 "k
+drop-attr 3 k|drop-attr #3 9|drop-attr #3 k k|drop-attr #3 //|detach|detach uses uses|detach Uses|detach kind1
+detachuses|resync|resync uses x|resync use|resync kind256|canon x|canon 1|canon limit|canon limit x|canon limit -1
+canon limit +1|canon limit 1 x|canon limit 1 limit 1|canon limit limit|canon limits 1|canon Limit 1
 canon limit 4294967296|canon limit 1,2|canon limit #1|canon //|canonlimit 1|canonicalize|Canon|cano|canon\xa0|convert
 convert x|convert Partial|convert partial x|convert partial,full|convert partial full|convert legal a
 convert legal a partial|convert partially|converts partial|Convert full|convert partial legal|convert partial legal ,
 convert partial legal a,|convert partial legal ,a|convert partial legal a,,b|convert partial legal a, b
 convert partial legal a b|convert partial legal a legal b|convert partial legal a legal a
-convert partial legal a illegal|convert partial illegal|convert partial illegal b,,
-convert partial illegal a illegal b|convert partial dynamic|convert partial dynamic ,,
-convert partial dynamic a dynamic b|convert partial rules|convert partial rules x|convert partial rules ,
-convert partial rules 1,|convert partial rules ,1|convert partial rules 1,,2|convert partial rules 1 2
-convert partial rules 1,x|convert partial rules -1|convert partial rules +1|convert partial rules 4294967296
-convert partial rules 1,4294967296|convert partial rules 2 rules 2|convert partial rules #2|convert partial depth
-convert partial depth x|convert partial depth 1,2|convert partial depth 1 depth 1|convert partial depth 4294967296
-convert partial depth -1|convert partial depth 1 x|convert partial Legal a|convert partial legals a
-convert partial rule 2|convert partial limit 1|convert partial depth 1 legal|erase|erase 1|erase #|erase #1 x
-erase #1 #2|erase #4294967296|Erase #1|erase#1|replace|replace %v1.0|replace %v1.0 %v1|replace %v1.0 %v2.0 x
-replace 1.0 %v2.0|replace %v1.0 #2|replace %v4294967296.0 %v1.0|insert|insert end|insert end #0|insert end #0 0
-insert end #0 0 \t|insert end #0 x y|insert end 0 0 x|insert before #1|insert before #1 \t|insert before 1 x
-insert under #1 x|insert end #0 4294967296 x|insert "test.a"() : () -> ()|begin x|begin //|Begin|commit 1|commits
-rollback #1|rollback  x|roll back|undo|report|report nonsense|report Uses|report use|report uses uses|report uses \r x
-reportuses|Report uses|report kind|report kind1|report kind6|report kind07|report kind00|report kind256
-report kind4294967305|report kind-1|report kind9x|report 1|report kind7|report Unreached|sweep x|sweep //|Sweep|sweeps
-swee|sweep #1|apply|apply 1|apply #1|apply 1 #|apply 1 2|apply 0 #1|apply 31 #1|apply 00031 #1|apply 1x #1|apply 1 #1 x
-apply 4294967297 #1|apply drop-zero|apply drop-zero 3|apply drop-zero #3 #4|apply drop zero #3|Apply 1 #2|applies 1 #2
-apply 1 #4294967296|print x|print //|Print|prin|prints|/print|print\x0b|\x0cprint|jump|set-operand|set-operand #3
-set-operand #3 0|set-operand #3 0 %v2.0 x|set-operand 3 0 %v2.0|set-operand # 0 %v2.0|set-operand ##3 0 %v2.0
-set-operand # 3 0 %v2.0|set-operand #3 x %v2.0|set-operand #3 -1 %v2.0|set-operand #3 +1 %v2.0
-set-operand #0x3 0 %v2.0|set-operand #3 0 #2|set_operand #3 0 %v2.0|set-operand #3 0 v2.0|set-operand #3 0 %
-set-operand #3 0 %v|set-operand #3 0 %v2|set-operand #3 0 %v2.|set-operand #3 0 %v.0|set-operand #3 0 %v2.0.0
-set-operand #3 0 %v2..0|set-operand #3 0 %V2.0|set-operand #3 0 %v 2.0|set-operand #3 0 %a1.0|set-operand #3 0 %a1.0.
-set-operand #3 0 %a1..0|set-operand #3 0 %a.0.0|set-operand #3 0 %a1.0.0.0|set-operand #3 0 %b1.0.0
-set-operand #4294967296 0 %v2.0|set-operand #3 4294967296 %v2.0|set-operand #3 0 %v4294967296.0
-set-operand #3 0 %v2.4294967296|set-operand #3 0 %a1.4294967296.0|set-operand #42949672950 0 %v2.0
-set-operand #99999999999999999999999 0 %v2.0""".replace("\n", "|").split("|")
+convert partial legal a illegal|convert partial illegal|convert partial illegal b,,|convert partial illegal a illegal b
+convert partial dynamic|convert partial dynamic ,,|convert partial dynamic a dynamic b|convert partial rules
+convert partial rules x|convert partial rules ,|convert partial rules 1,|convert partial rules ,1
+convert partial rules 1,,2|convert partial rules 1 2|convert partial rules 1,x|convert partial rules -1
+convert partial rules +1|convert partial rules 4294967296|convert partial rules 1,4294967296
+convert partial rules 2 rules 2|convert partial rules #2|convert partial depth|convert partial depth x
+convert partial depth 1,2|convert partial depth 1 depth 1|convert partial depth 4294967296|convert partial depth -1
+convert partial depth 1 x|convert partial Legal a|convert partial legals a|convert partial rule 2
+convert partial limit 1|convert partial depth 1 legal|erase|erase 1|erase #|erase #1 x|erase #1 #2|erase #4294967296
+Erase #1|erase#1|replace|replace %v1.0|replace %v1.0 %v1|replace %v1.0 %v2.0 x|replace 1.0 %v2.0|replace %v1.0 #2
+replace %v4294967296.0 %v1.0|insert|insert end|insert end #0|insert end #0 0|insert end #0 0 \t|insert end #0 x y
+insert end 0 0 x|insert before #1|insert before #1 \t|insert before 1 x|insert under #1 x|insert end #0 4294967296 x
+insert "test.a"() : () -> ()|begin x|begin //|Begin|commit 1|commits|rollback #1|rollback  x|roll back|undo|report
+report nonsense|report Uses|report use|report uses uses|report uses \r x|reportuses|Report uses|report kind|report kind1
+report kind6|report kind07|report kind00|report kind256|report kind4294967305|report kind-1|report kind9x|report 1
+report kind7|report Unreached|sweep x|sweep //|Sweep|sweeps|swee|sweep #1|apply|apply 1|apply #1|apply 1 #|apply 1 2
+apply 0 #1|apply 31 #1|apply 00031 #1|apply 1x #1|apply 1 #1 x|apply 4294967297 #1|apply drop-zero|apply drop-zero 3
+apply drop-zero #3 #4|apply drop zero #3|Apply 1 #2|applies 1 #2|apply 1 #4294967296|rewrite|rewrite 25|rewrite 0
+rewrite 1,|rewrite ,1|rewrite 1,,2|rewrite 1, 2|rewrite 1 2|rewrite 1,30|rewrite 1 limit|rewrite 1 limit x
+rewrite 1 limit 2 3|rewrite limit 3|rewrite 1x|rewrite 1 limits 2|rewrites 1|Rewrite 1|rewrite 4294967297
+rewrite 1 limit 4294967296|canon only|canon only 25|canon only 1 limit|canon only limit 3|canononly 1|canon Only 1
+canon only 1,|canon 1 only|attach|attach uses uses|attach Uses|attach kind1|attachuses|attach x|attach #1|attach all
+print id|print idss|print ids x|print ids ids|print Ids|printids|print ids //|expect|expect print|expect 99 print
+expect 0 print|expect 22x erase #3|expect Hasuses erase #3|expect hasuses erase #3|expect -22 erase #3|Expect 22 print
+expect 4294967318 erase #3|expect22 print|expects 22 print|expect 22,23 print|expect 15 print|expect 39 print|print x
+print //|Print|prin|prints|/print|print\x0b|\x0cprint|jump|set-operand|set-operand #3|set-operand #3 0
+set-operand #3 0 %v2.0 x|set-operand 3 0 %v2.0|set-operand # 0 %v2.0|set-operand ##3 0 %v2.0|set-operand # 3 0 %v2.0
+set-operand #3 x %v2.0|set-operand #3 -1 %v2.0|set-operand #3 +1 %v2.0|set-operand #0x3 0 %v2.0|set-operand #3 0 #2
+set_operand #3 0 %v2.0|set-operand #3 0 v2.0|set-operand #3 0 %|set-operand #3 0 %v|set-operand #3 0 %v2
+set-operand #3 0 %v2.|set-operand #3 0 %v.0|set-operand #3 0 %v2.0.0|set-operand #3 0 %v2..0|set-operand #3 0 %V2.0
+set-operand #3 0 %v 2.0|set-operand #3 0 %a1.0|set-operand #3 0 %a1.0.|set-operand #3 0 %a1..0|set-operand #3 0 %a.0.0
+set-operand #3 0 %a1.0.0.0|set-operand #3 0 %b1.0.0|set-operand #4294967296 0 %v2.0|set-operand #3 4294967296 %v2.0
+set-operand #3 0 %v4294967296.0|set-operand #3 0 %v2.4294967296|set-operand #3 0 %a1.4294967296.0
+set-operand #42949672950 0 %v2.0|set-operand #99999999999999999999999 0 %v2.0""".replace("\n", "|").split("|")
 
 
 def lines():
@@ -307,7 +363,10 @@ def lines():
         line(text, "set " + want)
     for text, want in MOVES.items():
         line(text, "move " + want)
-    for table in (KINDS_ALONE, ALONE, INSERTS, ENTRIES, CHANGES):
+    for refusal in REFUSALS:
+        for word in refusal.split():
+            line(f"expect {word} sweep", f"expects {refusal} sweep")
+    for table in (KINDS_ALONE, ALONE, INSERTS, ENTRIES, CHANGES, ORDERS):
         for text, want in table.items():
             line(text, want)
     for text in BAD:
@@ -323,7 +382,8 @@ def lines():
     for text in ("report uses", "report kind10", "print", "// x", "set-operand #3 10 %v2.0", "set-operand #3 0 %a1.0.2",
                  "move #3 after #2", "move #3 end #1 0", "set-attr #3 k.a 1",
                  "set-attr #3 \"a\\n\" 1", "drop-attr #3 k", "detach uses", "resync kind10", "canon limit 10",
-                 "convert full depth 2 legal a,b rules 2,25"):
+                 "convert full depth 2 legal a,b rules 2,25", "attach dead", "print ids", "expect 22 print",
+                 "rewrite 2,drop-one limit 10"):
         text = text.encode()
         for place in range(len(text) + 1):
             line(text[:place] + text[place + 1:])
@@ -396,13 +456,6 @@ def cuts():
         case(f"long {count}", "true" if count > 16777216 else "false")
 
 
-REFUSALS = """1 BadToken|2 Unexpected|3 UnknownValue|4 Redefined|5 TypeMismatch|6 BadWidth|7 BadValue|8 MultipleBlocks
-9 Successors|10 TooDeep|11 TooMany|12 DuplicateKey|13 LeftOut|14 NotUtf8|20 NoSuchOp|21 NoSuchValue|22 HasUses
-23 NotVisible|24 TypeDiffers|25 NoSuchIndex|26 NoSuchKey|27 IntoItself|28 OtherTable|29 IsRoot|30 NotEmpty|31 Full
-32 IdsExhausted|33 TooDeepHere|34 TooManyMarks|35 NoMark|36 Memory|40 Stale|41 NoSuchKind|42 KindTaken|50 BadLimit
-51 NotLegalised|52 ChainTooDeep|53 Unreconciled|54 BadTarget|60 BadCommand""".replace("\n", "|").split("|")
-
-
 def replies():
     """Each call that writes, with what it writes."""
     out = []
@@ -418,6 +471,7 @@ def replies():
         out += [(f"refused 1 {word}", f"1 refused {refusal}\n"), (f"module {word}", f"module refused {refusal}\n"),
                 (f"module {word} 16", f"module refused {refusal} at 16\n"),
                 (f"refused-at 9 {word} 17", f"9 refused {refusal} at 17\n"),
+                (f"expected 7 {word}", f"7 expected {refusal}\n"),
                 (f"attach 9 {word}", f"attach kind9 refused {refusal}\n"),
                 (f"attach 1 {word}", f"attach uses refused {refusal}\n")]
     for offset in (0, 9, 10, 33554431, 33554432):
@@ -788,6 +842,78 @@ def panels():
     due(over + b"detach kind9\nresync effects\ndetach uses\ndetach diagnostics\nmove #2 start #1 0\nprint\n", [41])
 
 
+def attaching():
+    """Analyses that were dropped are made anew."""
+    over, boxes = TEXT + DIVIDER, script.BOXES
+    for kind in boxes:
+        kind = kind.encode()
+        asked = b"report %s\n" % kind
+        due(over + b"attach %s\ndetach %s\nattach %s\n" % (kind, kind, kind) + asked, [42], boxes)
+        # It is of the module that is held, whatever was edited while it wasn't there.
+        due(BLOCKS + DIVIDER + b"detach %s\nreplace %%v3.0 %%v1.0\nerase #3\nset-attr #1 k unit\n" % kind
+            + b"attach %s\n" % kind + asked + b"move #1 after #2\nerase #2\n" + asked
+            + b"detach %s\n" % kind + asked, [23, 41], boxes)
+    every = [kind.encode() for kind in boxes]
+    due(over + b"".join(b"detach %s\n" % kind for kind in every) + b"set-operand #3 0 %v2.0\n"
+        + b"".join(b"attach %s\n" % kind for kind in every[::-1]), (), boxes)
+    due(over + b"begin\ndetach uses\nset-operand #3 0 %v2.0\nattach uses\nrollback\nreport uses\nbegin\n"
+               b"detach dead\nrollback\nreport dead\nattach dead\nreport dead\n", [41], boxes)
+    due(over + b"attach kind9\nattach kind255\ndetach kind9\nresync uses\nattach kind0\nattach dead\n", [41, 42],
+        boxes)
+
+
+def with_ids():
+    """The module is printed with the ids of its operations."""
+    for text in (TEXT, BLOCKS, b"", nested(5) + b"\n" + BLOCKS, nested(128),
+                 b'"t.a"() ({}, {}) : () -> ()\n"t.b"() ({\n^a(%x: i1, %y: i8):\n}) {k = "\\0A// #7"} : () -> ()\n'):
+        due(text + DIVIDER + b"print ids\nprint\n", (), script.BOXES)
+    due(BLOCKS + DIVIDER + b"insert start #2 0 \"t.n\"() ({\"t.m\"() : () -> ()}) : () -> ()\nerase #5\nprint ids\n"
+                           b"begin\nmove #1 before #0\nerase #6\nprint ids\nrollback\nprint  ids\n", [29],
+        script.BOXES)
+
+
+def expecting():
+    """Lines say how their command is to be refused: the status and the line below the reply."""
+    over, boxes = TEXT + DIVIDER, script.BOXES
+    right = (b"expect 22 erase #2\nexpect HasUses erase #2\nexpect 20 erase #9\nexpect 60 jump\n"
+             b"expect 1 set-attr #3 k $\n")
+    due(over + right, [22, 20, 60, 1], boxes)
+    due(over + b"expect 51 convert full illegal arith.addi\n"
+               b"expect NotLegalised convert partial illegal arith.addi rules 25\n"
+               b"expect 54 convert partial legal a,b illegal b,c\n", [51, 54], boxes)
+    due(over + b"expect 41 report kind9\nexpect 42 attach uses\nexpect 35 commit\nexpect 50 canon limit 0\n",
+        [41, 42, 35, 50], boxes)
+    for line in (b"expect 23 erase #2", b"expect 22 erase #4", b"expect 22 print", b"expect 22 report uses",
+                 b"expect 22 jump", b"expect 22", b"expect 99 erase #2", b"expect erase #2", b"expect 60 print ids",
+                 b"expect 2 set-attr #3 k $", b"expect 54 convert partial illegal arith.addi", b"expect 60 expect 22",
+                 b"expect 22 expect 22 erase #2", b"expect 36 begin", b"expect 35 insert end #0 0 \"t.a\"() : () -> ()",
+                 b"expect 22 // x", b"// expect 22 x", b"expect 22 erase #2 #2", b"expect 22 canon",
+                 b"expect 22 sweep"):
+        text = over + right + line + b"\nreport uses\n"
+        for brief in (True, False):
+            whole(text, brief)
+    # What isn't expected counts as before, also beside what is.
+    due(over + b"expect 22 erase #2\nerase #2\nexpect 22 erase #2\n", [22], boxes)
+    due(over + b"begin\nexpect 22 erase #2\nexpect 22 erase #4\nrollback\nprint\n", [22], boxes)
+
+
+def rewriting():
+    """Some rules are tried, in an order of their own."""
+    boxes = script.BOXES
+    text = sums(6) + DIVIDER
+    every = [b"1", b"2", b"3", b"4", b"1,2", b"2,1", b"4,3,2,1", b"fold-to-constant,swap-constant",
+             b"drop-zero,10,1", b"24", b"1,1,2,2", b",".join(b"%d" % number for number in range(1, 25)),
+             b",".join(b"%d" % number for number in range(24, 0, -1))]
+    for rules in every:
+        due(text + b"begin\nrewrite %s\nprint\nrewrite %s\nrollback\ncanon only %s limit 2\n" % (rules, rules, rules)
+            + b"report constants\nprint\n", (), boxes)
+    due(text + b"rewrite 25\nrewrite 1,30\nrewrite lower-loop\nrewrite nope\nrewrite 1,nope\nrewrite nope,25\n"
+               b"rewrite 1 limit 0\nrewrite nope limit 0\nrewrite 1 limit 1000001\nrewrite 1 limit 1000000\n"
+               b"rewrite 1,\n"
+               b"canon only\ncanon only 1 limit\nexpect 26 canon only nope\n", [60, 26, 50], boxes)
+    whole(text + b"rewrite 2\nrewrite 1,2,3,4\nprint\n", True, 1)
+
+
 def sweeps():
     """The private symbols that nothing reaches are taken away, all of them or none."""
     shown = b"report unreached\nreport symbols\nprint\n"
@@ -963,8 +1089,8 @@ def analyses(kinds, text, brief=True):
 
 
 GOLDEN_PARTS = {
-    "runs": (runs, moves, entries, wholes, panels, sweeps, over_limits, beginnings, byte_limits, failing_ends,
-             failing_lives, interactive),
+    "runs": (runs, moves, entries, wholes, panels, attaching, with_ids, expecting, rewriting, sweeps, over_limits,
+             beginnings, byte_limits, failing_ends, failing_lives, interactive),
     "pages": (refused, worked),
     "command_line": (command_lines,),
 }

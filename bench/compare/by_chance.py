@@ -120,7 +120,7 @@ def made(maker, most):
 
 def asked(maker, known):
     """A few lines that ask what a module is, or rewrite it."""
-    asks = ["print"] + [f"report {kind}" for kind in script.BOXES]
+    asks = ["print", "print ids"] + [f"report {kind}" for kind in script.BOXES]
     lines = maker.sample(asks, maker.randrange(1, 4))
     if maker.random() < 0.3:
         lines += [maker.choice([script_lines.rewriting(maker) if "convert" in known else "canon", "sweep"]), "print"]
@@ -138,10 +138,9 @@ class Runs:
         self.lines.append(line)
         for kept in script.lines_of(line.encode("latin-1")):
             self.count += 1
-            reply, is_listed = self.run.reply(kept) if kept is not None else (" refused 60 BadCommand\n", True)
-            if reply.startswith(" refused"):
-                self.status = 1
-            self.out.append(f"{self.count}{reply}" + (self.run.all_rows() if is_listed and not self.brief else ""))
+            is_right, told = script.answer(self.run, self.count, kept, self.brief)
+            self.status = self.status if is_right else 1
+            self.out.append(told)
 
     def case(self, kind, text, limit):
         answer = self.status, "".join(self.out).encode()

@@ -13,7 +13,8 @@ ODD = [
     "begin x", "commit 1", "rollback #1", 'insert before #1 %0 = "test.a"() : () -> ()', "// a comment", "",
     " \terase\t#2  \r", 'insert end #0 0 "test.a"(%v99.0) : (i32) -> ()',
     'insert end #0 0 "test.a"() : () -> () "test.b"() : () -> ()', 'insert end #0 0 "test.a"()', "report uses",
-    "report kind9", "report use", "print", "resync kind7", "detach kind7",
+    "report kind9", "report use", "print", "print ids", "print id", "resync kind7", "detach kind7", "attach kind9",
+    "attach kind7", "attach uses dead", "expect 22", "expect 99 print", "expect expect", "expect 60 expect 60 print",
     'insert start #0 0 %a:2 = "test.a"() ({ ^bb0(%b: i8): "test.b"(%b) : (i8) -> () }, {}) {k} : () -> (i1, i2)']
 
 RULES = [2, 25, 26, 27, 28, 29, 30]
@@ -39,6 +40,11 @@ def rewriting(maker):
     if maker.random() < 0.2:
         rule = maker.choice([maker.randrange(32), maker.choice(rewrites.WORDS), "1", "2"])
         return f"apply {rule} #{maker.randrange(20)}"
+    if maker.random() < 0.2:
+        rules = ",".join(str(maker.choice([1, 2, 3, maker.randrange(1, 25), maker.choice(rewrites.WORDS)]))
+                         for _ in range(maker.randrange(1, 9)))
+        word, behind = maker.choice(["rewrite", "canon only"]), maker.choice(["", "", " limit 2", " limit 0", " limit"])
+        return f"{word} {rules}{behind}"
     if maker.random() < 0.5:
         return maker.choice(["canon", "canon", "canon limit 1", "canon limit 3", "canon limit 0", "canon limit"])
     return conversion(maker)
@@ -92,7 +98,16 @@ def conversions(maker, module):
 
 
 def line_of(maker, scripter):
-    """A line of a script, of which `scripter` makes edits and marks."""
+    """A line of a script, one of ten with a refusal that it expects, which is the right one now and then."""
+    line = plain_line(maker, scripter)
+    if maker.random() >= 0.1:
+        return line
+    often = [22, 23, 20, 60, 21, 24, 25, 26, 42, 50, 51, "HasUses", "BadCommand", "None"]
+    return f"expect {maker.choice([*often, *script.REFUSALS])} {line}"
+
+
+def plain_line(maker, scripter):
+    """A line without one, of which `scripter` makes edits and marks."""
     part = maker.random()
     if maker.random() < 0.3:
         return rewriting(maker)
@@ -103,5 +118,6 @@ def line_of(maker, scripter):
     if part < 0.9:
         return maker.choice(ODD)
     if part < 0.98:
-        return maker.choice(["resync", "resync", "resync", "report"]) + " " + maker.choice(script.BOXES)
-    return f"detach {maker.choice(script.BOXES)}"
+        word = maker.choice(["resync", "resync", "resync", "report", "attach"])
+        return f"{word} {maker.choice(script.BOXES)}"
+    return f"{maker.choice(['detach', 'detach', 'attach'])} {maker.choice(script.BOXES)}"

@@ -196,3 +196,20 @@ def text_of(module):
     """The printed text of a module."""
     ops = module.ops()
     return Printer(lambda value: module.type_of(value, ops)).op(module.root, "")
+
+
+def line_ids(op):
+    """The ids of the operations of which the lines of an operation's text are parts."""
+    found = [op.id]
+    for block in op.blocks():
+        found += [op.id] * bool(block.args or not block.ops)
+        for inner in block.ops:
+            found += line_ids(inner)
+        found.append(op.id)
+    return found
+
+
+def ids_text(module):
+    """The printed text of a module with the id of the operation at the end of each line, as a comment."""
+    lines = text_of(module).splitlines()
+    return "".join(f"{line} // #{number}\n" for line, number in zip(lines, line_ids(module.root), strict=True))

@@ -96,7 +96,7 @@ class Follower:
     def may_lack(self, word, reply):
         """Whether memory may be wanting for a command that is due a reply else."""
         is_free = word in NEVER or word in FREE and not self.state.marks
-        return not is_free and not any(f" refused {number} " in reply for number in (41, 60))
+        return not is_free and not any(f" refused {number} " in reply for number in (41, 42, 60))
 
     def reply(self, count, line):
         """Passes the reply to a line; says whether a listing follows, and whether the listeners were told of
@@ -122,7 +122,7 @@ class Follower:
             self.wrong(f"line {count}: {line} is due{due}")
         self.status = self.status if accepts else 1
         self.state = behind
-        if word in ("report", "resync", "detach") and accepts:
+        if word in ("report", "resync", "detach", "attach") and accepts:
             self.doubtful.discard(kind)
             self.stale.discard(kind)
         return is_listed, word in EDITS and (accepts or word in UNDONE)

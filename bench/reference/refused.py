@@ -34,19 +34,19 @@ class Once(Run):
         reply, is_listed = self.reply(line)
         if word == "report" and reply.startswith(" ok") and kind in self.stale:
             reply = " refused 40 Stale\n"
-        if word in ("resync", "detach") and reply.startswith(" ok"):
+        if word in ("resync", "detach", "attach") and reply.startswith(" ok"):
             self.stale.discard(kind)
         if fault is None or fault[0] in ("module", "rows"):
             return reply, is_listed
         if " 60 " in reply:
             return None
         if fault[0] == "stale":
-            is_told = word not in ("report", "print", "resync", "detach", "begin", "commit")
+            is_told = word not in ("report", "print", "resync", "detach", "attach", "begin", "commit")
             if not is_told or fault[1] not in self.boxes or fault[1] in self.stale:
                 return None
             self.stale.add(fault[1])
             return reply, is_listed
-        if word in NEVER or word in FREE and not before[2] or " 41 " in reply or " 40 " in reply:
+        if word in NEVER or word in FREE and not before[2] or any(f" {it} " in reply for it in (40, 41, 42)):
             return None
         self.back(before)
         if word == "resync":

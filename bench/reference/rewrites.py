@@ -466,21 +466,31 @@ def rules_of(op):
     return [1] + list(range(2, 22) if op.name.startswith(b"arith.") else range(21, 25))
 
 
-def first(module):
-    """The module after the first rule of 1 to 24 at the first operation at which one applies, or none."""
+CANONICAL = tuple(range(1, 25))
+
+
+def first(module, rules=CANONICAL):
+    """The module after the first of some rules of 1 to 24, in their order, that applies at the first operation at which
+    one does, or none."""
     for op in walk(module.root):
-        for rule in rules_of(op) if is_clean(module, op.id) else []:
+        named = rules_of(op)
+        for rule in [rule for rule in rules if rule in named] if is_clean(module, op.id) else []:
             found = after(module, rule, op.id)
             if found is not None:
                 return found
     return None
 
 
-def canonical(module, limit):
-    """The module after at most so many rewrites, how many were made, and whether no rule applies."""
+def rewritten(module, rules, limit):
+    """The module after at most so many rewrites by some rules, how many were made, and whether no rule applies."""
     for count in range(limit):
-        found = first(module)
+        found = first(module, rules)
         if found is None:
             return module, count, True
         module = found
-    return module, limit, first(module) is None
+    return module, limit, first(module, rules) is None
+
+
+def canonical(module, limit):
+    """The same by the rules of canonicalization, in the order of their numbers."""
+    return rewritten(module, CANONICAL, limit)

@@ -3,13 +3,14 @@ import re
 
 from . import aliases, conversion, edits, opaque, rewrites
 from .analyses import ANALYSES, KINDS, unreached_ops
-from .module import printing, read, read_attr, read_op, rules, text_of
+from .module import ids_text, printing, read, read_attr, read_op, rules, text_of
 
 WORDS = {20: "NoSuchOp", 21: "NoSuchValue", 22: "HasUses", 23: "NotVisible", 24: "TypeDiffers", 25: "NoSuchIndex",
          26: "NoSuchKey",
          27: "IntoItself", 28: "OtherTable", 29: "IsRoot", 30: "NotEmpty", 31: "Full", 32: "IdsExhausted",
          33: "TooDeepHere",
-         34: "TooManyMarks", 35: "NoMark", 36: "Memory", 40: "Stale", 41: "NoSuchKind", 50: "BadLimit",
+         34: "TooManyMarks", 35: "NoMark", 36: "Memory", 40: "Stale", 41: "NoSuchKind", 42: "KindTaken",
+         50: "BadLimit",
          51: "NotLegalised", 52: "ChainTooDeep", 53: "Unreconciled",
          54: "BadTarget", 60: "BadCommand"}
 BOXES = tuple(KINDS.values())
@@ -17,8 +18,12 @@ KIND_WORDS = {KINDS.get(kind, f"kind{kind}") for kind in range(256)}
 MOST_MARKS = 16
 FIRST = {"report", "print", "set-operand", "move", "set-attr", "drop-attr", "resync", "detach"}
 EDITS = FIRST | {"erase", "insert", "replace"}
-ALL = EDITS | {"begin", "commit", "rollback", "sweep", "canon", "convert", "apply"}
+ALL = EDITS | {"begin", "commit", "rollback", "sweep", "canon", "convert", "apply", "attach", "rewrite"}
+REFUSALS = {**rules.WORDS, **WORDS}
+NUMBERS = {word: number for number, word in REFUSALS.items()}
 MOST_LIMIT, LIMIT = 1000000, 1000
+# The rules that `rewrite` may try; the others are conversion's.
+MOST_TRIED = 24
 
 
 class Bad(Exception):
@@ -122,8 +127,8 @@ class Run:
         return "", self.rows(kind)
 
     def print(self, text):
-        need(text == "")
-        return "", text_of(self.module)
+        need(text in ("", "ids"))
+        return "", ids_text(self.module) if text else text_of(self.module)
 
     def set_operand(self, text):
         words = re.split("[ \t]+", text)
@@ -173,6 +178,12 @@ class Run:
         self.is_attached(self.kind_of(text))
         self.boxes.remove(text)
 
+    def attach(self, text):
+        kind = self.kind_of(text)
+        edits.refuse(41, kind not in BOXES)
+        edits.refuse(42, kind in self.boxes)
+        self.boxes.append(kind)
+
     def begin(self, text):
         need(text == "")
         edits.refuse(34, len(self.marks) == MOST_MARKS)
@@ -190,10 +201,24 @@ class Run:
 
     def canon(self, text):
         words = re.split("[ \t]+", text) if text else []
+        if words[:1] == ["only"]:
+            return self.rewrite(cut(text)[1])
         need(not words or len(words) == 2 and words[0] == "limit")
         limit = number(words[1]) if words else self.limit
         edits.refuse(50, not 1 <= limit <= MOST_LIMIT)
         self.module, count, is_done = rewrites.canonical(self.module, limit)
+        return ("converged" if is_done else "limit") + f" {count}", ""
+
+    def rewrite(self, text):
+        words = re.split("[ \t]+", text)
+        names = words[0].split(",")
+        need("" not in names and (len(words) == 1 or len(words) == 3 and words[1] == "limit"))
+        need(all(not name[0].isdigit() or rule_of(name) <= MOST_TRIED for name in names))
+        limit = number(words[2]) if len(words) == 3 else self.limit
+        asked = [rule_of(name) for name in names]
+        edits.refuse(26, any(rule is None or rule > MOST_TRIED for rule in asked))
+        edits.refuse(50, not 1 <= limit <= MOST_LIMIT)
+        self.module, count, is_done = rewrites.rewritten(self.module, asked, limit)
         return ("converged" if is_done else "limit") + f" {count}", ""
 
     def convert(self, text):
@@ -272,12 +297,29 @@ def lines_of(script):
             yield line.decode("latin-1")
 
 
+def expected(line):
+    """The number of the refusal that a line expects, or none, and the command behind it."""
+    word, rest = cut(line)
+    if word != "expect":
+        return None, line
+    name, command = cut(rest)
+    number = int(name) if re.fullmatch("[0-9]+", name) else NUMBERS.get(name)
+    return (number, command) if number in REFUSALS else (None, line)
+
+
 def answer(here, count, line, brief):
-    """Whether a line is accepted, and what is written for it, where it is the one of that number."""
-    reply, is_listed = here.reply(line) if line is not None else (" refused 60 BadCommand\n", True)
-    listing = here.all_rows() if is_listed and not brief else ""
+    """Whether what comes of a line is right, and what is written for it, where it is the one of that number."""
+    wanted, command = expected(line) if line is not None else (None, None)
+    reply, is_listed = here.reply(command) if line is not None else (" refused 60 BadCommand\n", True)
     # (a check of a pattern of one's own fails)
-    return not reply.startswith((" refused", " fails")), f"{count}{reply}{listing}"
+    is_right = not reply.startswith((" refused", " fails"))
+    if wanted is not None:
+        is_right = reply.startswith(f" refused {wanted} ")
+        first, below = reply.split("\n", 1)
+        told = "" if is_right else f"{count} expected {wanted} {REFUSALS[wanted]}\n"
+        reply = f"{first}\n{told}{below}"
+    listing = here.all_rows() if is_listed and not brief else ""
+    return is_right, f"{count}{reply}{listing}"
 
 
 def obey(here, script, brief):

@@ -20,7 +20,7 @@ Text = Union[str, bytes]
 ValueText = Union[Value, str]
 _BLANKS = b" \t\r"
 _WORD = re.compile(rb"[^ \t]*")
-_LOOKS = (b"print", b"report", b"begin", b"commit", b"detach", b"resync")
+_LOOKS = (b"print", b"report", b"begin", b"commit", b"attach", b"detach", b"resync")
 _COMMENT = re.compile(rb'("(?:[^"\\\n]|\\.)*")|//[^\n]*')
 # The reply where an operation isn't there.
 _NO_SUCH_OP = 20
@@ -336,6 +336,10 @@ class Session:
     def detach(self, kind: str) -> None:
         """Drops an analysis; no rollback brings it back."""
         self.command(f"detach {kind}")
+
+    def attach(self, kind: str) -> None:
+        """Makes an analysis anew that was dropped."""
+        self.command(f"attach {kind}")
 
     def resync(self, kind: str) -> None:
         """An analysis begins again, as where it is stale."""

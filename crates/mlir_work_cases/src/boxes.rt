@@ -11,8 +11,10 @@ use listeners_unreached::unreached::Unreached;
 use mlir_work_cases_base::at_most::AtMost;
 use mlir_work_cases_base::texts::number;
 use mlir_work_cases_base::witness::{Plan, Witness};
+use mlir_work_listeners::seven::Seven;
 use mlir_work_run::live::run_live;
 use mlir_work_run::run::{Options, run};
+use mlir_work_run::supplied::Supplied;
 use std::alloc::{AllocError, Global};
 use std::io::{Read, Write};
 
@@ -49,7 +51,7 @@ fn wanted(alloc: Global, text: &str) -> Result<Plan, AllocError> {
 }
 
 /// Runs whole, or, where answers have ends, so that each line is answered as soon as it is there.
-fn run_either<R: Read, W: Write, L: Analysis>(
+fn run_either<R: Read, W: Write, L: Supplied>(
     alloc: Global,
     options: Options,
     reader: &mut R,
@@ -101,10 +103,10 @@ pub fn status_of<R: Read, W: Write>(
 }
 
 /// So many listeners of uses.
-fn many_uses(alloc: Global, count: u64) -> Result<Vec<Uses>, AllocError> {
+fn many_uses(alloc: Global, count: u64) -> Result<Vec<Seven>, AllocError> {
     let mut listeners = Vec::new(alloc);
     for _ in 0..count {
-        listeners.push(Uses::new(alloc))?;
+        listeners.push(Seven::Uses(Uses::new(alloc)))?;
     }
     Ok(listeners)
 }

@@ -4,11 +4,13 @@ use ir_event::types::ids::OpId;
 use mlir_work_cases_base::texts::{both_shown, bytes, number, put_all_shown, shown};
 use mlir_work_run::clauses::Clauses;
 use mlir_work_run::command::{Command, Line, read_line};
+use mlir_work_run::expect::expected_of;
 use mlir_work_run::input::{script_is_too_long, split};
 use mlir_work_run::keys::{Key, bytes_of};
 use mlir_work_run::kind::kind_named;
 use mlir_work_run::lines::split_line;
 use mlir_work_run::numbers;
+use mlir_work_run::order::Order;
 use mlir_work_run::rule_name::RuleName;
 use mlir_work_run::spots::Spot;
 use mlir_work_run::values::{op_named, value_named};
@@ -162,13 +164,41 @@ fn told_command(alloc: Global, command: &Command<'_>) -> Result<String, AllocErr
     }
 }
 
-/// A line.
-fn told_line(alloc: Global, text: &[u8]) -> Result<String, AllocError> {
-    let line = read_line(text);
-    match &line {
+/// A line that rewrites by some rules.
+fn told_rewrite(alloc: Global, rules: &[u8], limit: Option<u32>) -> Result<String, AllocError> {
+    let rules = shown(alloc, rules)?;
+    let limit = told_number(alloc, limit)?;
+    format!(in alloc; "rewrite {rules} limit {limit}")
+}
+
+/// An order.
+fn told_order(alloc: Global, order: &Order<'_>) -> Result<String, AllocError> {
+    match order {
+        Order::Attach(kind) => format!(in alloc; "attach {}", kind.number()),
+        Order::PrintIds => String::from_str(alloc, "ids"),
+        Order::Rewrite { rules, limit } => told_rewrite(alloc, rules, *limit),
+    }
+}
+
+/// What a line says.
+fn told_said(alloc: Global, line: &Line<'_>) -> Result<String, AllocError> {
+    match line {
         Line::Nothing => String::from_str(alloc, "nothing"),
         Line::Bad => String::from_str(alloc, "bad"),
         Line::Obey(command) => told_command(alloc, command),
+        Line::Ordered(order) => told_order(alloc, order),
+    }
+}
+
+/// A line.
+fn told_line(alloc: Global, text: &[u8]) -> Result<String, AllocError> {
+    let line = read_line(text);
+    let said = told_said(alloc, &line)?;
+    match expected_of(text) {
+        Some(refusal) => {
+            format!(in alloc; "expects {} {} {said}", refusal.number(), refusal.word())
+        }
+        None => Ok(said),
     }
 }
 

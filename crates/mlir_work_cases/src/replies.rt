@@ -7,8 +7,9 @@ use mlir_work_run::cells::{put_number, put_op_id, put_value};
 use mlir_work_run::kind::Kind;
 use mlir_work_run::outcome::Outcome;
 use mlir_work_run::replies::{
-    put_attach_refused, put_kind, put_kind_memory, put_module_memory, put_module_refused, put_ok,
-    put_outcome, put_refused, put_refused_at, put_refused_on, put_stale,
+    put_attach_refused, put_expected, put_kind, put_kind_memory, put_module_memory,
+    put_module_refused, put_ok, put_outcome, put_refused, put_refused_at, put_refused_on,
+    put_stale,
 };
 use mlir_work_run::writing::{WriteFault, put_all};
 use std::alloc::{AllocError, Global};
@@ -133,6 +134,12 @@ fn put_box<W: Write>(writer: &mut W, text: &str) -> Result<(), WriteFault> {
     put_attach_refused(writer, kind(number), refusal(word))
 }
 
+/// What was expected: `7 HasUses`.
+fn put_wanted<W: Write>(writer: &mut W, text: &str) -> Result<(), WriteFault> {
+    let (count, word) = first(text);
+    put_expected(writer, number(count), refusal(word))
+}
+
 /// Writes what a call writes.
 pub fn put_reply<W: Write>(writer: &mut W, call: &str, text: &str) -> Result<(), WriteFault> {
     match call {
@@ -143,6 +150,7 @@ pub fn put_reply<W: Write>(writer: &mut W, call: &str, text: &str) -> Result<(),
         "came" => put_what_came(writer, text),
         "module" => put_module(writer, text),
         "attach" => put_box(writer, text),
+        "expected" => put_wanted(writer, text),
         "rows" => put_kind(writer, kind(text)),
         "stale" => put_stale(writer, kind(text)),
         "memory" => put_kind_memory(writer, kind(text)),

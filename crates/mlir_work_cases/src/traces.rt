@@ -2,7 +2,6 @@
 ghost use Rattle.std.specs.Prelude.{◌≡◌, []};
 
 use crate::runs::told;
-use ir_event::analysis::Analysis;
 use ir_event::event::Event;
 use ir_event::types::context::Context;
 use ir_event::types::ids::OpId;
@@ -17,6 +16,7 @@ use mlir_work_run::Bench;
 use mlir_work_run::input::split;
 use mlir_work_run::manner::Manner;
 use mlir_work_run::script::run_script;
+use mlir_work_run::supplied::Supplied;
 use rewriter_cases_base::worlds::{bench_of, world_of};
 use std::alloc::{AllocError, Global};
 use std::fmt::Write;
@@ -60,7 +60,7 @@ fn put_trace(out: &mut String, bench: &Bench<Witness>) -> Result<(), AllocError>
 }
 
 /// Attaches a listener to a bench without any, and runs a script over it, of an input of so many bytes; gives the status.
-fn run_heard<L: Analysis>(
+fn run_heard<L: Supplied>(
     alloc: Global,
     bytes: usize,
     bench: &mut Bench<L>,

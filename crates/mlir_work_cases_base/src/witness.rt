@@ -1,5 +1,5 @@
 //! A listener without rows, which remembers what it was told.
-ghost use Rattle.std.specs.Prelude.{◌≡◌, true};
+ghost use Rattle.std.specs.Prelude.{◌≡◌, true, None};
 
 use crate::events::text_of;
 use ir_event::analysis::Analysis;
@@ -10,6 +10,7 @@ use ir_event::trees::value::Value;
 use ir_event::types::ids::{AttrId, OpId};
 use ir_event::view::View;
 use ir_event::world::World;
+use mlir_work_session_base::supplied::Supplied;
 use std::alloc::Global;
 
 /// What a witness goes by.
@@ -139,5 +140,14 @@ impl Analysis for Witness {
             return Err(ReportFault::Stale);
         }
         Ok(Vec::new(self.alloc))
+    }
+}
+
+/// No witness is made by its kind.
+impl Supplied for Witness {
+    ghost supply = { λ kind. None };
+
+    fn of_kind(_alloc: Global, _kind: Kind) -> Option<Witness> {
+        None
     }
 }

@@ -7,23 +7,24 @@ use Rattle.ir_event.specs.Modules.{Module}
 use Rattle.rewriter.specs.Panels.{Shown, all_shown}
 use Rattle.rewriter.specs.Commands.{Response}
 use Rattle.rewriter.specs.Machine.{State}
-use Rattle.mlir_work_listeners.specs.Listeners.{seven_listener}
-use Rattle.mlir_work_script.specs.Commands.{Spoken, Nothing, Bad, Obey, line_says}
+use Rattle.mlir_work_listeners.specs.Listeners.{seven_listener, seven_supply}
+use Rattle.mlir_work_script.specs.Commands.{Spoken, Nothing, Bad, Obey, Ordered, line_says}
+use Rattle.mlir_work_script.specs.Expecting.{line_expects}
 use Rattle.mlir_work_script.specs.Lines.{is_newline, line_of, after_line, onto_first}
 use Rattle.mlir_work_session.specs.Limits.{most_input_bytes, most_script_bytes}
-use Rattle.mlir_work_session.specs.Output.{Attaches, Line, Replied, is_accepted, reply_line, worse}
+use Rattle.mlir_work_session.specs.Output.{Attaches, Line, Replied, is_right, reply_text, way_of, worse}
 use Rattle.mlir_work_session.specs.Parts.{module_text, script_text}
 use Rattle.mlir_work_session.specs.Writes.{joined}
 use Rattle.mlir_work_session.proofs.Wider.{line_wider}
 use Rattle.mlir_work_run.specs.Live.{Live, Lives, divider_bytes, whole_lines}
-use Rattle.mlir_work_run.specs.Whole.{manner_of}
+use Rattle.mlir_work_run.specs.Whole.{Setting, setting_of, way_at}
 use Rattle.mlir_work_run.proofs.Within.{joined_same, live_whole}
 use Rattle.mlir_work_held.specs.declared.answer.Answer.{Answer}
 use Rattle.mlir_work_held.specs.declared.session.Session.{Session}
-use Rattle.mlir_work_held.specs.Answers.{answer_of, nothing}
+use Rattle.mlir_work_held.specs.Answers.{answer_of}
 use Rattle.mlir_work_held.specs.Opened.{Opened}
 use Rattle.mlir_work_held.specs.Stepped.{Answered, IsLeft, Said, SteppedBefore, most_counted, state, way}
-use Rattle.mlir_work_held.specs.Talks.{AreWritten, IsOutputOf, IsWritten, Talks, Told, briefly}
+use Rattle.mlir_work_held.specs.Talks.{AreWritten, IsOutputOf, Talks, Told, briefly, told_of}
 
 -- ---- the lines of a text
 
@@ -52,28 +53,34 @@ one_line (b ∷ bs) s line a t e h = absurd (omega (arith, ap length e))
 -- ---- lines that are said are those of a live run
 
 module _ (limit : ℕ) where
+  abbrev setting : Setting
+  setting = setting_of seven_supply (briefly limit)
+
   -- the lines may be answered so by a live run, which writes what these answers are written as
   abbrev IsLived : ℕ → ℕ → Session → List (List ℕ) → List Told → Type 0
-  IsLived read n s lines told = (status : ℕ) × (out : List ℕ) × Lives (briefly limit) read n (state s) lines status out × AreWritten n told status out
+  IsLived read n s lines told = (status : ℕ) × (out : List ℕ) × Lives setting read n (state s) lines status out × AreWritten n told status out
 
   -- the lines behind one, with any numbers and states
   abbrev Behind : ℕ → List (List ℕ) → ℕ → State → ℕ → List ℕ → Type 0
-  Behind read lines m u st o = Lives (briefly limit) read m u lines st o
+  Behind read lines m u st o = Lives setting read m u lines st o
 
   module _ (read n : ℕ) (s : Session) (line : List ℕ) (lines : List (List ℕ)) (a : Answer) (t : Session) (rest : List Told) (within : s.bytes + length line ≤ read) (same : s.limit ≡ limit) where
     abbrev all_told : List Told
-    all_told = record { answer = a; shows = t.shows.items } ∷ rest
+    all_told = told_of line a t ∷ rest
+
+    abbrev expected : Option Refusal
+    expected = line_expects (line_of line)
 
     -- the line, and those behind it
     abbrev IsLivedOn : Spoken → Type 0
-    IsLivedOn spoken = (status : ℕ) × (out : List ℕ) × Line (Behind read lines) (manner_of (briefly limit) read) n (state s) spoken status out × AreWritten n all_told status out
+    IsLivedOn spoken = (status : ℕ) × (out : List ℕ) × Line (Behind read lines) (way_at setting read) n (state s) expected spoken status out × AreWritten n all_told status out
 
     least : (way s line).bytes ≤ read
     least = let below = min-le_left (s.bytes + length line) most_counted in omega (arith, below, within)
 
     replied : (spoken : Spoken) (h : Answered (way s line) s spoken a t) (later : IsLived read (n + 1) t lines rest)
-        → Replied (Behind read lines) (way s line) n (state s) spoken (worse (is_accepted h.response) later.0) ((reply_line n h.response ++ t.shows.items) ++ later.1)
-    replied spoken h later = let text = reply_line n h.response ++ t.shows.items in record {
+        → Replied (Behind read lines) (way_of seven_supply (way s line)) n (state s) expected spoken (worse (is_right expected h.response) later.0) ((reply_text n expected h.response ++ t.shows.items) ++ later.1)
+    replied spoken h later = let text = reply_text n expected h.response ++ t.shows.items in record {
       response = h.response;
       shows = t.shows.items;
       after = state t;
@@ -81,7 +88,7 @@ module _ (limit : ℕ) where
       later = later.0;
       rest = later.1;
       replies = h.replies;
-      replied = (text, ([], refl, ap (λ (xs : List ℕ). reply_line n h.response ++ xs) (sym (append-nil t.shows.items))), sym (append-nil text));
+      replied = (text, ([], refl, ap (λ (xs : List ℕ). reply_text n expected h.response ++ xs) (sym (append-nil t.shows.items))), sym (append-nil text));
       full = h.bounded;
       goes_on = later.2;
       status_is = refl;
@@ -89,7 +96,7 @@ module _ (limit : ℕ) where
     }
 
     written : (response : Response) → a ≡ answer_of response (length t.shows.items) → (later : IsLived read (n + 1) t lines rest)
-        → AreWritten n all_told (worse (is_accepted response) later.0) ((reply_line n response ++ t.shows.items) ++ later.1)
+        → AreWritten n all_told (worse (is_right expected response) later.0) ((reply_text n expected response ++ t.shows.items) ++ later.1)
     written response is later = inr (record {
       response = response;
       later = later.0;
@@ -101,27 +108,31 @@ module _ (limit : ℕ) where
     })
 
     -- how a line is answered by a run that has read so much, with that limit
-    wide : (spoken : Spoken) (st : ℕ) (o : List ℕ) → Line (Behind read lines) (way s line) n (state s) spoken st o → Line (Behind read lines) (manner_of (briefly limit) read) n (state s) spoken st o
+    wide : (spoken : Spoken) (st : ℕ) (o : List ℕ) → Line (Behind read lines) (way_of seven_supply (way s line)) n (state s) expected spoken st o → Line (Behind read lines) (way_at setting read) n (state s) expected spoken st o
     wide spoken st o h =
-        subst (λ (l : ℕ). Line (Behind read lines) (record { brief = true; bytes = read; limit = l; ends = false }) n (state s) spoken st o) same
-        (line_wider (way s line) read least (Behind read lines) (Behind read lines) (λ m u status out k. k) n (state s) spoken st o h)
+        subst (λ (l : ℕ). Line (Behind read lines) (way_of seven_supply (record { brief = true; bytes = read; limit = l; ends = false })) n (state s) expected spoken st o) same
+        (line_wider (way_of seven_supply (way s line)) read least (Behind read lines) (Behind read lines) (λ m u status out k. k) n (state s) expected spoken st o h)
 
     lived_line : (spoken : Spoken) → Said (way s line) s spoken a t → ((m : ℕ) → IsLived read m t lines rest) → IsLivedOn spoken
     lived_line Nothing h more =
         let later = more n in
-        (later.0, later.1, subst (λ (u : State). Lives (briefly limit) read n u lines later.0 later.1) h.1.state later.2, inl (h.0, later.3))
+        (later.0, later.1, subst (λ (u : State). Lives setting read n u lines later.0 later.1) h.1.state later.2, inl (h.0, later.3))
     lived_line Bad h more =
         let later = more (n + 1) in
         (_, _, wide Bad _ _ (replied Bad h later), written h.response h.told later)
     lived_line (Obey said) h more =
         let later = more (n + 1) in
         (_, _, wide (Obey said) _ _ (replied (Obey said) h later), written h.response h.told later)
+    lived_line (Ordered order) h more =
+        let later = more (n + 1) in
+        (_, _, wide (Ordered order) _ _ (replied (Ordered order) h later), written h.response h.told later)
 
     -- what is known of the session behind the line
     counted_on : (spoken : Spoken) → Said (way s line) s spoken a t → (t.bytes ≤ read) × (t.limit ≡ limit)
     counted_on Nothing h = (let e = h.1.counted in omega (arith, e, within), h.1.limit ∙ same)
     counted_on Bad h = (let e = h.counted in omega (arith, e, least), h.limit ∙ same)
     counted_on (Obey said) h = (let e = h.counted in omega (arith, e, least), h.limit ∙ same)
+    counted_on (Ordered order) h = (let e = h.counted in omega (arith, e, least), h.limit ∙ same)
 
   pub lived : (lines : List (List ℕ)) (read n : ℕ) (s : Session) (told : List Told) → s.bytes ≤ read → s.limit ≡ limit → AreAlone lines → length (joined lines) ≤ most_script_bytes → Talks s lines told → IsLived read n s lines told
   lived [] read n s told within same alone few none = (0, [], (refl, refl), subst (λ (all : List Told). AreWritten n all 0 []) (sym none) (refl, refl))
@@ -159,7 +170,7 @@ talked_whole limit input s told short few opened talks =
     let within : s.bytes ≤ read = (let e = opened.counted in omega (arith, e)) in
     let h = lived limit lines read 1 s told within opened.limit_is (alone_lines (script_text input)) (rw (joined_same (script_text input)) few) talks in
     let silent = silent_boxes (all_shown seven_listener boxes) [] (state s).panel opened.attached.1 attached in
-    let live : Live (briefly limit) (all_shown seven_listener boxes) (state s).held read lines h.0 h.1 = record {
+    let live : Live (setting limit) (all_shown seven_listener boxes) (state s).held read lines h.0 h.1 = record {
       begun = state s;
       accepted = true;
       front = [];
@@ -170,4 +181,4 @@ talked_whole limit input s told short few opened talks =
       status_is = refl;
       out_is = refl;
     } in
-    (boxes, h.0, h.1, opened.attached.2, h.3, live_whole (briefly limit) (all_shown seven_listener boxes) input h.0 h.1 short few (inr ((state s).held, opened.world, live)))
+    (boxes, h.0, h.1, opened.attached.2, h.3, live_whole (setting limit) (all_shown seven_listener boxes) input h.0 h.1 short few (inr ((state s).held, opened.world, live)))

@@ -4,10 +4,10 @@ use Rattle.ir_event.specs.types.declared.refusal.Refusal.TheVariants.{BadCommand
 use Rattle.rewriter.specs.Commands.{Response}
 use Rattle.rewriter.specs.Benched.{state_of}
 use Rattle.rewriter.specs.Machine.{State}
-use Rattle.mlir_work_listeners.specs.Listeners.{seven_listener}
-use Rattle.mlir_work_script.specs.Commands.{Spoken, Nothing, Bad, Obey, line_says}
+use Rattle.mlir_work_listeners.specs.Listeners.{seven_listener, seven_supply}
+use Rattle.mlir_work_script.specs.Commands.{Spoken, Nothing, Bad, Obey, Ordered, line_says}
 use Rattle.mlir_work_script.specs.Lines.{line_of, after_line}
-use Rattle.mlir_work_session.specs.Output.{IsBounded, Replies}
+use Rattle.mlir_work_session.specs.Output.{IsBounded, Replies, way_of}
 use Rattle.mlir_work_session.specs.declared.manner.Manner.{Manner}
 use Rattle.mlir_work_held.specs.declared.answer.Answer.{Answer}
 use Rattle.mlir_work_held.specs.declared.session.Session.{Session}
@@ -28,7 +28,7 @@ way s line = record { brief = true; bytes = min (s.bytes + length line) most_cou
 -- what is said is replied to as the machine does, and the answer tells that reply
 pub record Answered (manner : Manner) (s : Session) (spoken : Spoken) (a : Answer) (t : Session) : Type 0 where
   pub response : Response
-  pub replies : Replies manner (state s) spoken response t.shows.items (state t)
+  pub replies : Replies (way_of seven_supply manner) (state s) spoken response t.shows.items (state t)
   pub bounded : IsBounded manner.bytes response
   pub told : a ≡ answer_of response (length t.shows.items)
   pub counted : t.bytes ≡ manner.bytes
@@ -46,6 +46,7 @@ abbrev pub Said : Manner → Session → Spoken → Answer → Session → Type 
 Said manner s Nothing a t = (a ≡ nothing) × IsLeft s t
 Said manner s Bad a t = Answered manner s Bad a t
 Said manner s (Obey command) a t = Answered manner s (Obey command) a t
+Said manner s (Ordered order) a t = Answered manner s (Ordered order) a t
 
 -- the first line of a text, behind which nothing stands; a text with more behind its first line feed is no line, and
 -- refused as a bad command

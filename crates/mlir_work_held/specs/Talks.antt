@@ -1,28 +1,36 @@
 -- What lines that are said to a session one after the other come to: what a whole run writes for them.
-use Rattle.std.specs.Prelude.{◌≡◌, ℕ, ◌+◌, List, [], ◌∷◌, ◌++◌, length, ◌⊎◌, true, false}
+use Rattle.std.specs.Prelude.{◌≡◌, ℕ, ◌+◌, List, [], ◌∷◌, ◌++◌, length, ◌⊎◌, true, false, Option}
+use Rattle.ir_event.specs.types.declared.refusal.Refusal.{Refusal}
 use Rattle.rewriter.specs.Commands.{Response}
 use Rattle.rewriter.specs.Panels.{all_shown}
-use Rattle.mlir_work_listeners.specs.Listeners.{seven_listener, kinds_of}
+use Rattle.mlir_work_listeners.specs.Listeners.{seven_listener, seven_supply, kinds_of}
 use Rattle.mlir_work_listeners.specs.declared.seven.Seven.{Seven}
-use Rattle.mlir_work_session.specs.Output.{is_accepted, reply_line, worse}
-use Rattle.mlir_work_run.specs.Whole.{IsOutput}
+use Rattle.mlir_work_script.specs.Expecting.{line_expects}
+use Rattle.mlir_work_script.specs.Lines.{line_of}
+use Rattle.mlir_work_session.specs.Output.{is_right, reply_text, worse}
+use Rattle.mlir_work_run.specs.Whole.{IsOutput, setting_of}
 use Rattle.mlir_work_run.specs.declared.run.Options.{Options}
 use Rattle.mlir_work_held.specs.Answers.{answer_of, nothing}
 use Rattle.mlir_work_held.specs.Stepped.{Stepped}
 use Rattle.mlir_work_held.specs.declared.answer.Answer.{Answer}
 use Rattle.mlir_work_held.specs.declared.session.Session.{Session}
 
--- an answer, and the bytes that its line shows
+-- what a line expects, its answer, and the bytes that it shows
 pub record Told : Type 0 where
+  pub expected : Option Refusal
   pub answer : Answer
   pub shows : List ℕ
+
+-- a line is answered so in the session that is then t
+abbrev pub told_of : List ℕ → Answer → Session → Told
+told_of line a t = record { expected = line_expects (line_of line); answer = a; shows = t.shows.items }
 
 -- these lines are said to s one after the other, and each is answered so
 abbrev pub Talks : Session → List (List ℕ) → List Told → Type 0
 Talks s [] told = told ≡ []
 Talks s (line ∷ lines) told =
     (a : Answer) × (t : Session) × (rest : List Told)
-    × Stepped s line a t × Talks t lines rest × (told ≡ record { answer = a; shows = t.shows.items } ∷ rest)
+    × Stepped s line a t × Talks t lines rest × (told ≡ told_of line a t ∷ rest)
 
 -- an answer with the number n is written so, and the rest follows: one to a line that says nothing isn't written, nor
 -- counted; of another the line of the reply is, and what it shows
@@ -32,8 +40,8 @@ pub record IsWritten (Rest : ℕ → ℕ → List ℕ → Type 0) (n : ℕ) (tol
   pub rest : List ℕ
   pub answered : told.answer ≡ answer_of response (length told.shows)
   pub goes_on : Rest (n + 1) later rest
-  pub status_is : status ≡ worse (is_accepted response) later
-  pub out_is : out ≡ (reply_line n response ++ told.shows) ++ rest
+  pub status_is : status ≡ worse (is_right told.expected response) later
+  pub out_is : out ≡ (reply_text n told.expected response ++ told.shows) ++ rest
 
 -- these answers, the first of them with the number n, are written so, and give this status
 abbrev pub AreWritten : ℕ → List Told → ℕ → List ℕ → Type 0
@@ -52,4 +60,4 @@ IsOutputOf limit input told =
     (boxes : List Seven) × (status : ℕ) × (out : List ℕ)
     × (kinds_of boxes ≡ 1 ∷ 2 ∷ 3 ∷ 4 ∷ 5 ∷ 6 ∷ 7 ∷ [])
     × AreWritten 1 told status out
-    × IsOutput (briefly limit) (all_shown seven_listener boxes) input status out
+    × IsOutput (setting_of seven_supply (briefly limit)) (all_shown seven_listener boxes) input status out

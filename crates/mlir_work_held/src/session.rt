@@ -81,6 +81,7 @@ fn say_line(alloc: Global, session: &mut Session, manner: &Manner, line: &[u8]) 
         }
         Line::Bad => return obey_line(alloc, session, manner, &Line::Bad),
         Line::Obey(command) => return obey_line(alloc, session, manner, &Line::Obey(command)),
+        Line::Ordered(order) => return obey_line(alloc, session, manner, &Line::Ordered(order)),
     }
 }
 

@@ -1,5 +1,7 @@
--- What one of the seven listeners means.
-use Rattle.std.specs.Prelude.{ℕ, List, map}
+-- What one of the seven listeners means, and which there is of each kind.
+use Rattle.std.specs.Prelude.{ℕ, List, map, ◌==◌, true, Option, Some, None, if◌then◌else◌}
+use Rattle.ir_event.specs.trees.Meaning.{Operation}
+use Rattle.ir_event.specs.Rows.{RowTerm}
 use Rattle.ir_event.specs.Listener.{Listener}
 use Rattle.listeners.specs.Listeners.{uses_listener}
 use Rattle.listeners_symbols.specs.Listeners.{symbols_listener}
@@ -8,6 +10,13 @@ use Rattle.effects.specs.Listeners.{effects_listener}
 use Rattle.effects.specs.Listeners.{dead_listener}
 use Rattle.constants.specs.Listeners.{constants_listener}
 use Rattle.listeners_unreached.specs.Listeners.{unreached_listener}
+use Rattle.listeners.specs.Uses.{uses_rows}
+use Rattle.listeners_symbols.specs.Symbols.{symbol_rows}
+use Rattle.ir_verify.specs.Diagnostics.{diagnostics_of}
+use Rattle.effects.specs.Reports.{effects_rows, dead_rows}
+use Rattle.constants.specs.Rows.{constants_rows}
+use Rattle.listeners_unreached.specs.Unreached.{unreached_rows}
+use Rattle.rewriter_machine.specs.Panels.{Shown}
 use Rattle.mlir_work_listeners.specs.declared.seven.Seven.{Seven}
 use Rattle.mlir_work_listeners.specs.declared.seven.Seven.TheVariants as code
 
@@ -23,3 +32,19 @@ seven_listener (code.Unreached it) = unreached_listener it
 -- their kinds
 abbrev pub kinds_of : List Seven → List ℕ
 kinds_of all = map (λ it. (seven_listener it).kind) all
+
+-- what is seen of a listener that has not begun
+abbrev pub unbegun : ℕ → (Operation → List RowTerm) → Option Shown
+unbegun kind analysis = Some (record { kind = kind; analysis = analysis; stale = true })
+
+-- and of the one of a kind
+abbrev pub seven_supply : ℕ → Option Shown
+seven_supply kind =
+    if kind == 1 then unbegun 1 uses_rows
+    else if kind == 2 then unbegun 2 symbol_rows
+    else if kind == 3 then unbegun 3 diagnostics_of
+    else if kind == 4 then unbegun 4 effects_rows
+    else if kind == 5 then unbegun 5 dead_rows
+    else if kind == 6 then unbegun 6 constants_rows
+    else if kind == 7 then unbegun 7 unreached_rows
+    else None

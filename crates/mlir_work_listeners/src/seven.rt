@@ -14,6 +14,7 @@ use ir_verify::diagnostics::Diagnostics;
 use listeners::Symbols;
 use listeners::uses::Uses;
 use listeners_unreached::unreached::Unreached;
+use mlir_work_session_base::supplied::Supplied;
 use std::alloc::{AllocError, Global};
 
 /// One of the seven listeners.
@@ -90,6 +91,25 @@ impl Analysis for Seven {
             Seven::Dead(it) => it.report(),
             Seven::Constants(it) => it.report(),
             Seven::Unreached(it) => it.report(),
+        }
+    }
+}
+
+impl Supplied for Seven {
+    ghost use Rattle.mlir_work_listeners.specs.Listeners.{seven_supply};
+
+    ghost supply = { seven_supply };
+
+    fn of_kind(alloc: Global, kind: Kind) -> Option<Seven> {
+        match kind.number() {
+            1 => Some(Seven::Uses(Uses::new(alloc))),
+            2 => Some(Seven::Symbols(Symbols::new(alloc))),
+            3 => Some(Seven::Diagnostics(Diagnostics::new(alloc))),
+            4 => Some(Seven::Effects(Effects::new(alloc))),
+            5 => Some(Seven::Dead(Dead::new(alloc))),
+            6 => Some(Seven::Constants(Constants::new(alloc))),
+            7 => Some(Seven::Unreached(Unreached::new(alloc))),
+            _ => None,
         }
     }
 }

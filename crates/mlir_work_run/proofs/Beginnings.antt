@@ -8,7 +8,7 @@ use Rattle.mlir_work_session.specs.Parts.{IsSplit, at_divider, module_from, modu
 use Rattle.mlir_work_session.specs.Writes.{Stream, joined}
 use Rattle.mlir_work_session.proofs.Dividing.{divided}
 use Rattle.mlir_work_run.specs.Live.{AreFirst, IsLiveOf, IsWholeUpTo, LiveEndedAt, up_to, whole_lines}
-use Rattle.mlir_work_run.specs.declared.run.Options.{Options}
+use Rattle.mlir_work_run.specs.Whole.{Setting}
 use Rattle.mlir_work_run.proofs.Lives.{FirstOf, IsWhole, first_of}
 use Rattle.mlir_work_run.proofs.Within.{joined_same, live_whole}
 
@@ -138,21 +138,21 @@ begins input [] first =
     (alone.0, ap whole_lines alone.1, alone.1, shorter input (module_text input) (script_text input) (divided true input))
 begins input (line ∷ lines) (others, e) = begins_some input (script_text input) line lines others refl e
 
-module _ (options : Options) (boxes : List Shown) (input : List ℕ) where
+module _ (setting : Setting) (boxes : List Shown) (input : List ℕ) where
   -- what answers some lines of an input is an output of the input up to them
-  pub live_up_to : (lines : List (List ℕ)) (status : ℕ) (out : List ℕ) → AreFirst (whole_lines (script_text input)) lines → IsLiveOf options boxes input lines status out → IsWholeUpTo options boxes input lines status out
+  pub live_up_to : (lines : List (List ℕ)) (status : ℕ) (out : List ℕ) → AreFirst (whole_lines (script_text input)) lines → IsLiveOf setting boxes input lines status out → IsWholeUpTo setting boxes input lines status out
   live_up_to lines status out first (inl many) short few = absurd (let long = many.0 in omega (arith, long, short))
   live_up_to lines status out first (inr live) short few =
       let new = up_to (module_text input) lines in
       let b = begins input lines first in
-      live_whole options boxes new status out (let l = b.3 in omega (arith, l, short)) (rw (b.2) few) (rw (b.0, b.1) live)
+      live_whole setting boxes new status out (let l = b.3 in omega (arith, l, short)) (rw (b.2) few) (rw (b.0, b.1) live)
 
-  so_at : (a b : Stream) (handed : Bool) (status : ℕ) → LiveEndedAt (IsLiveOf options boxes input) (whole_lines (script_text input)) a b handed status → LiveEndedAt (IsWholeUpTo options boxes input) (whole_lines (script_text input)) a b handed status
+  so_at : (a b : Stream) (handed : Bool) (status : ℕ) → LiveEndedAt (IsLiveOf setting boxes input) (whole_lines (script_text input)) a b handed status → LiveEndedAt (IsWholeUpTo setting boxes input) (whole_lines (script_text input)) a b handed status
   so_at a b handed status (inl (final, (o, p, h, on))) = inl (final, (o, live_up_to (whole_lines (script_text input)) status o ([], sym (append-nil (whole_lines (script_text input)))) p, h, on))
   so_at a b handed status (inr (four, inl (on, inl h))) = inr (four, inl (on, inl h))
   so_at a b handed status (inr (four, inl (on, inr (lines, st, o, first, p, h)))) = inr (four, inl (on, inr (lines, st, o, first, live_up_to lines st o first p, h)))
   so_at a b handed status (inr (four, inr (lines, st, o, first, p, h))) = inr (four, inr (lines, st, o, first, live_up_to lines st o first p, h))
 
-pub live_at_whole : (options : Options) (boxes : List Shown) (o : Option (List ℕ)) (a b : Stream) (handed : Bool) (status : ℕ) → IfSome o (λ input. LiveEndedAt (IsLiveOf options boxes input) (whole_lines (script_text input)) a b handed status) → IfSome o (λ input. LiveEndedAt (IsWholeUpTo options boxes input) (whole_lines (script_text input)) a b handed status)
-live_at_whole options boxes None a b handed status h = tt
-live_at_whole options boxes (Some input) a b handed status h = so_at options boxes input a b handed status h
+pub live_at_whole : (setting : Setting) (boxes : List Shown) (o : Option (List ℕ)) (a b : Stream) (handed : Bool) (status : ℕ) → IfSome o (λ input. LiveEndedAt (IsLiveOf setting boxes input) (whole_lines (script_text input)) a b handed status) → IfSome o (λ input. LiveEndedAt (IsWholeUpTo setting boxes input) (whole_lines (script_text input)) a b handed status)
+live_at_whole setting boxes None a b handed status h = tt
+live_at_whole setting boxes (Some input) a b handed status h = so_at setting boxes input a b handed status h

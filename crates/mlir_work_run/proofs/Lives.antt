@@ -10,6 +10,7 @@ use Rattle.mlir_work_lines.proofs.Feeds.{keeps_join}
 use Rattle.mlir_work_lines.specs.declared.feed.Stop.{Stop}
 use Rattle.mlir_work_lines.specs.declared.feed.Stop.TheVariants.{Broken, Memory as OutOfMemory, TooMany}
 use Rattle.mlir_work_session.specs.Commands.{line_says}
+use Rattle.mlir_work_session.specs.Expecting.{line_expects}
 use Rattle.mlir_work_session.specs.Lines.{is_newline, line_of, after_line, onto_first}
 use Rattle.mlir_work_session.specs.Limits.{most_script_bytes}
 use Rattle.mlir_work_session.specs.Machine.{State}
@@ -24,11 +25,10 @@ use Rattle.mlir_work_session.proofs.Joins.{front_join, front_more, grows_fails, 
 use Rattle.mlir_work_session.proofs.Runs.{line_answered, status_before, worse_behind}
 use Rattle.mlir_work_run.specs.Ends.{HandedOut, IsFinal}
 use Rattle.mlir_work_run.specs.Live.{IsLive, IsLiveOf, IsUpTo, Live, LiveEnded, LiveEndedAt, LiveRead, Lives, divider_bytes, exit_of, halt_of, halted_of, whole_lines}
-use Rattle.mlir_work_run.specs.Whole.{manner_of}
+use Rattle.mlir_work_run.specs.Whole.{Setting, way_at}
 use Rattle.mlir_work_run.proofs.Statuses.{IsLow, final_low, low_line, low_worse}
 use Rattle.mlir_work_run.specs.declared.live.Halt.{Halt}
 use Rattle.mlir_work_run.specs.declared.live.Halt.TheVariants.{Read as ReadFailed, Write as WriteFailed, Memory as NoMemory, TooLong}
-use Rattle.mlir_work_run.specs.declared.run.Options.{Options}
 
 -- ---- lines
 
@@ -69,24 +69,24 @@ next_line (Some all) (Some rest) line h lt = next_of all rest line h.0 h.2 lt (f
 
 -- ---- lines that are answered
 
-module _ (options : Options) (before : ℕ) (begun : State) where
+module _ (setting : Setting) (before : ℕ) (begun : State) where
   -- these lines were answered so, and what may answer more of them may come behind
   pub record Goes (lines : List (List ℕ)) (read n : ℕ) (s : State) (accepted : Bool) (out : List ℕ) : Type 0 where
-    pub goes : (more : List (List ℕ)) (later : ℕ) (rest : List ℕ) → Lives options read n s more later rest → Lives options before 1 begun (lines ++ more) (worse accepted later) (out ++ rest)
+    pub goes : (more : List (List ℕ)) (later : ℕ) (rest : List ℕ) → Lives setting read n s more later rest → Lives setting before 1 begun (lines ++ more) (worse accepted later) (out ++ rest)
 
   goes_none : Goes [] before 1 begun true []
   goes_none = record { goes = λ more later rest h. h }
 
   -- they are all for now
-  goes_so_far : (lines : List (List ℕ)) (read n : ℕ) (s : State) (accepted : Bool) (out : List ℕ) → Goes lines read n s accepted out → Lives options before 1 begun lines (worse accepted 0) out
+  goes_so_far : (lines : List (List ℕ)) (read n : ℕ) (s : State) (accepted : Bool) (out : List ℕ) → Goes lines read n s accepted out → Lives setting before 1 begun lines (worse accepted 0) out
   goes_so_far lines read n s accepted out h = rw (append-nil, append-nil) at (h.goes [] 0 [] (refl, refl))
 
   -- one more is answered
-  goes_step : (lines : List (List ℕ)) (read n : ℕ) (s t : State) (accepted : Bool) (out line told_out : List ℕ) (told : Option Bool) → Goes lines read n s accepted out → length line ≤ most_script_bytes → IsAnswered (manner_of options (read + length line)) n s (line_says (line_of line)) t told told_out →
+  goes_step : (lines : List (List ℕ)) (read n : ℕ) (s t : State) (accepted : Bool) (out line told_out : List ℕ) (told : Option Bool) → Goes lines read n s accepted out → length line ≤ most_script_bytes → IsAnswered (way_at setting (read + length line)) n s (line_expects (line_of line)) (line_says (line_of line)) t told told_out →
       Goes (lines ++ line ∷ []) (read + length line) (number_behind n told) t (accepted_behind accepted told) (out ++ told_out)
   goes_step lines read n s t accepted out line told_out told h short answered = record {
     goes = λ more later rest k.
-        let step = line_answered (λ m x st o. Lives options (read + length line) m x more st o) (manner_of options (read + length line)) n s (line_says (line_of line)) t told told_out answered later rest k in
+        let step = line_answered (λ m x st o. Lives setting (read + length line) m x more st o) (way_at setting (read + length line)) n s (line_expects (line_of line)) (line_says (line_of line)) t told told_out answered later rest k in
         let all = h.goes (line ∷ more) (status_before told later) (told_out ++ rest) (short, step) in
         rw (append_assoc, append_assoc, ← worse_behind) all;
   }
@@ -103,7 +103,7 @@ module _ (options : Options) (before : ℕ) (begun : State) where
   lived_none (Some all) a = ([], [], refl, grows_none a, goes_none)
 
   pub lived_step : (o mid new : Option (List ℕ)) (read more n : ℕ) (s t : State) (accepted : Bool) (a b c : Stream) (line told_out : List ℕ) (told : Option Bool) → Lived o mid read n s accepted a b → TakesLine mid new line → 0 < length line → length line ≤ most_script_bytes → more ≡ read + length line →
-      IsAnswered (manner_of options more) n s (line_says (line_of line)) t told told_out → Grows b c told_out → Lived o new more (number_behind n told) t (accepted_behind accepted told) a c
+      IsAnswered (way_at setting more) n s (line_expects (line_of line)) (line_says (line_of line)) t told told_out → Grows b c told_out → Lived o new more (number_behind n told) t (accepted_behind accepted told) a c
   lived_step None mid new read more n s t accepted a b c line told_out told h takes some short is answered wrote = tt
   lived_step (Some all) None new read more n s t accepted a b c line told_out told h takes some short is answered wrote = absurd h
   lived_step (Some all) (Some left) None read more n s t accepted a b c line told_out told h takes some short is answered wrote = absurd takes
@@ -117,7 +117,7 @@ module _ (options : Options) (before : ℕ) (begun : State) where
       )
 
   -- nothing waits any more
-  pub lived_end : (o left : Option (List ℕ)) (read n : ℕ) (s : State) (accepted handed : Bool) (status : ℕ) (a b : Stream) → Lived o left read n s accepted a b → IsAtEnd left → handed ≡ true → status ≡ worse accepted 0 → IfSome o (λ script. LiveEnded (Lives options before 1 begun) (whole_lines script) a b handed (Ok status))
+  pub lived_end : (o left : Option (List ℕ)) (read n : ℕ) (s : State) (accepted handed : Bool) (status : ℕ) (a b : Stream) → Lived o left read n s accepted a b → IsAtEnd left → handed ≡ true → status ≡ worse accepted 0 → IfSome o (λ script. LiveEnded (Lives setting before 1 begun) (whole_lines script) a b handed (Ok status))
   lived_end None left read n s accepted handed status a b h end on is = tt
   lived_end (Some all) None read n s accepted handed status a b h end on is = absurd h
   lived_end (Some all) (Some left) read n s accepted handed status a b (lines, out, cut, grows, goes) end on is =
@@ -125,23 +125,23 @@ module _ (options : Options) (before : ℕ) (begun : State) where
       let all_lines : whole_lines all ≡ lines = cut ∙ ap (λ (xs : List ℕ). lines ++ whole_lines xs) none ∙ append-nil lines in
       (out, rw (all_lines, is) (goes_so_far lines read n s accepted out goes), grows, on)
 
-  so_far : (all left : List ℕ) (read n : ℕ) (s : State) (accepted : Bool) (a b : Stream) → Lived (Some all) (Some left) read n s accepted a b → IsUpTo (Lives options before 1 begun) (whole_lines all) a b
+  so_far : (all left : List ℕ) (read n : ℕ) (s : State) (accepted : Bool) (a b : Stream) → Lived (Some all) (Some left) read n s accepted a b → IsUpTo (Lives setting before 1 begun) (whole_lines all) a b
   so_far all left read n s accepted a b (lines, out, cut, grows, goes) = (lines, worse accepted 0, out, (whole_lines left, cut), goes_so_far lines read n s accepted out goes, grows)
 
   -- the next line isn't taken
-  halted_so : (halt : Stop) (all : List ℕ) (a b : Stream) (handed : Bool) → handed ≡ true → IsUpTo (Lives options before 1 begun) (whole_lines all) a b → LiveEnded (Lives options before 1 begun) (whole_lines all) a b handed (Err (halt_of halt))
+  halted_so : (halt : Stop) (all : List ℕ) (a b : Stream) (handed : Bool) → handed ≡ true → IsUpTo (Lives setting before 1 begun) (whole_lines all) a b → LiveEnded (Lives setting before 1 begun) (whole_lines all) a b handed (Err (halt_of halt))
   halted_so Broken all a b handed on h = (on, inr h)
   halted_so OutOfMemory all a b handed on h = (on, h)
   halted_so TooMany all a b handed on h = (on, h)
 
-  pub lived_halts : (o left : Option (List ℕ)) (read n : ℕ) (s : State) (accepted handed : Bool) (a b : Stream) (stop : Stop) (halt : Halt) → Lived o left read n s accepted a b → handed ≡ true → halt ≡ halt_of stop → IfSome o (λ script. LiveEnded (Lives options before 1 begun) (whole_lines script) a b handed (Err halt))
+  pub lived_halts : (o left : Option (List ℕ)) (read n : ℕ) (s : State) (accepted handed : Bool) (a b : Stream) (stop : Stop) (halt : Halt) → Lived o left read n s accepted a b → handed ≡ true → halt ≡ halt_of stop → IfSome o (λ script. LiveEnded (Lives setting before 1 begun) (whole_lines script) a b handed (Err halt))
   lived_halts None left read n s accepted handed a b stop halt h on is = tt
   lived_halts (Some all) None read n s accepted handed a b stop halt h on is = absurd h
   lived_halts (Some all) (Some left) read n s accepted handed a b stop halt h on is = rw is (halted_so stop all a b handed on (so_far all left read n s accepted a b h))
 
   -- a write of its answer failed
   pub lived_cut : (o mid new : Option (List ℕ)) (read more n : ℕ) (s t : State) (accepted handed : Bool) (a b c : Stream) (line told_out : List ℕ) (told : Option Bool) → Lived o mid read n s accepted a b → TakesLine mid new line → 0 < length line → length line ≤ most_script_bytes → more ≡ read + length line →
-      IsAnswered (manner_of options more) n s (line_says (line_of line)) t told told_out → GrowsFront b c told_out → IfSome o (λ script. LiveEnded (Lives options before 1 begun) (whole_lines script) a c handed (Err WriteFailed))
+      IsAnswered (way_at setting more) n s (line_expects (line_of line)) (line_says (line_of line)) t told told_out → GrowsFront b c told_out → IfSome o (λ script. LiveEnded (Lives setting before 1 begun) (whole_lines script) a c handed (Err WriteFailed))
   lived_cut None mid new read more n s t accepted handed a b c line told_out told h takes some short is answered wrote = tt
   lived_cut (Some all) None new read more n s t accepted handed a b c line told_out told h takes some short is answered wrote = absurd h
   lived_cut (Some all) (Some left) None read more n s t accepted handed a b c line told_out told h takes some short is answered wrote = absurd takes
@@ -158,18 +158,18 @@ module _ (options : Options) (before : ℕ) (begun : State) where
 
 -- ---- modules, and lines behind them
 
-module _ (options : Options) (boxes : List Shown) (m : Module) (before : ℕ) where
-  live_of : (s : State) (accepted : Bool) (front : List ℕ) → Begun options.ends boxes m s accepted front → (lines : List (List ℕ)) (later : ℕ) (rest : List ℕ) → Lives options before 1 s lines later rest → Live options boxes m before lines (worse accepted later) (front ++ rest)
+module _ (setting : Setting) (boxes : List Shown) (m : Module) (before : ℕ) where
+  live_of : (s : State) (accepted : Bool) (front : List ℕ) → Begun setting.options.ends boxes m s accepted front → (lines : List (List ℕ)) (later : ℕ) (rest : List ℕ) → Lives setting before 1 s lines later rest → Live setting boxes m before lines (worse accepted later) (front ++ rest)
   live_of s accepted front h lines later rest k = record { begun = s; accepted = accepted; front = front; later = later; rest = rest; begins = h; lives = k; status_is = refl; out_is = refl }
 
   abbrev After : State → List ℕ → Bool → Stream → Stream → Type 0
-  After s front accepted a b = Begun options.ends boxes m s accepted front × Grows a b front
+  After s front accepted a b = Begun setting.options.ends boxes m s accepted front × Grows a b front
 
-  up_to_behind : (s : State) (accepted : Bool) (front : List ℕ) (all : List (List ℕ)) (a b c : Stream) → After s front accepted a b → IsUpTo (Lives options before 1 s) all b c → IsUpTo (Live options boxes m before) all a c
+  up_to_behind : (s : State) (accepted : Bool) (front : List ℕ) (all : List (List ℕ)) (a b c : Stream) → After s front accepted a b → IsUpTo (Lives setting before 1 s) all b c → IsUpTo (Live setting boxes m before) all a c
   up_to_behind s accepted front all a b c (h, wrote) (lines, later, rest, first, lives, more) = (lines, worse accepted later, front ++ rest, first, live_of s accepted front h lines later rest lives, grows_join a b c front rest wrote more)
 
   -- nothing was written behind the answer to the module
-  none_behind : (s : State) (accepted : Bool) (front : List ℕ) (all : List (List ℕ)) (a b c : Stream) → After s front accepted a b → Stays b c → IsUpTo (Live options boxes m before) all a c
+  none_behind : (s : State) (accepted : Bool) (front : List ℕ) (all : List (List ℕ)) (a b c : Stream) → After s front accepted a b → Stays b c → IsUpTo (Live setting boxes m before) all a c
   none_behind s accepted front all a b c (h, wrote) stays = ([], worse accepted 0, front ++ [], (all, refl), live_of s accepted front h [] 0 [] (refl, refl), rw append-nil (grows_stays a b c front wrote stays))
 
   -- what came of the lines, and of all
@@ -177,7 +177,7 @@ module _ (options : Options) (boxes : List Shown) (m : Module) (before : ℕ) wh
   worse_of accepted (Ok status) = Ok (worse accepted status)
   worse_of accepted (Err halt) = Err halt
 
-  behind : (s : State) (accepted : Bool) (front : List ℕ) (all : List (List ℕ)) (a b c : Stream) (handed : Bool) (r q : Result ℕ Halt) → q ≡ worse_of accepted r → After s front accepted a b → LiveEnded (Lives options before 1 s) all b c handed r → LiveEnded (Live options boxes m before) all a c handed q
+  behind : (s : State) (accepted : Bool) (front : List ℕ) (all : List (List ℕ)) (a b c : Stream) (handed : Bool) (r q : Result ℕ Halt) → q ≡ worse_of accepted r → After s front accepted a b → LiveEnded (Lives setting before 1 s) all b c handed r → LiveEnded (Live setting boxes m before) all a c handed q
   behind s accepted front all a b c handed (Ok later) q is (h, wrote) (rest, lives, more, on) = rw is (front ++ rest, live_of s accepted front h all later rest lives, grows_join a b c front rest wrote more, on)
   behind s accepted front all a b c handed (Err ReadFailed) q is before (on, inl stays) = rw is (on, inr (none_behind s accepted front all a b c before stays))
   behind s accepted front all a b c handed (Err ReadFailed) q is before (on, inr h) = rw is (on, inr (up_to_behind s accepted front all a b c before h))
@@ -185,13 +185,13 @@ module _ (options : Options) (boxes : List Shown) (m : Module) (before : ℕ) wh
   behind s accepted front all a b c handed (Err TooLong) q is before (on, h) = rw is (on, up_to_behind s accepted front all a b c before h)
   behind s accepted front all a b c handed (Err WriteFailed) q is (h, wrote) (lines, later, rest, first, lives, more) = rw is (lines, worse accepted later, front ++ rest, first, live_of s accepted front h lines later rest lives, front_join a b c front rest wrote more)
 
-  pub behind_if : (o : Option (List ℕ)) (s : State) (accepted : Bool) (front : List ℕ) (a b c : Stream) (handed : Bool) (r q : Result ℕ Halt) → q ≡ worse_of accepted r → Begun options.ends boxes m s accepted front → Grows a b front →
-      IfSome o (λ script. LiveEnded (Lives options before 1 s) (whole_lines script) b c handed r) → IfSome o (λ script. LiveEnded (Live options boxes m before) (whole_lines script) a c handed q)
+  pub behind_if : (o : Option (List ℕ)) (s : State) (accepted : Bool) (front : List ℕ) (a b c : Stream) (handed : Bool) (r q : Result ℕ Halt) → q ≡ worse_of accepted r → Begun setting.options.ends boxes m s accepted front → Grows a b front →
+      IfSome o (λ script. LiveEnded (Lives setting before 1 s) (whole_lines script) b c handed r) → IfSome o (λ script. LiveEnded (Live setting boxes m before) (whole_lines script) a c handed q)
   behind_if None s accepted front a b c handed r q is h wrote more = tt
   behind_if (Some script) s accepted front a b c handed r q is h wrote more = behind s accepted front (whole_lines script) a b c handed r q is (h, wrote) more
 
   -- a write of the answer to the module failed
-  pub begun_cut : (o : Option (List ℕ)) (s : State) (accepted : Bool) (front : List ℕ) (a b : Stream) (handed : Bool) → Begun options.ends boxes m s accepted front → GrowsFront a b front → IfSome o (λ script. LiveEnded (Live options boxes m before) (whole_lines script) a b handed (Err WriteFailed))
+  pub begun_cut : (o : Option (List ℕ)) (s : State) (accepted : Bool) (front : List ℕ) (a b : Stream) (handed : Bool) → Begun setting.options.ends boxes m s accepted front → GrowsFront a b front → IfSome o (λ script. LiveEnded (Live setting boxes m before) (whole_lines script) a b handed (Err WriteFailed))
   begun_cut None s accepted front a b handed h wrote = tt
   begun_cut (Some script) s accepted front a b handed h wrote = ([], worse accepted 0, front ++ [], (whole_lines script, refl), live_of s accepted front h [] 0 [] (refl, refl), front_more a b front [] wrote)
 
@@ -243,29 +243,29 @@ module _ (P : List (List ℕ) → ℕ → List ℕ → Type 0) (all : List (List
 
 -- ---- whole inputs
 
-module _ (options : Options) (boxes : List Shown) where
+module _ (setting : Setting) (boxes : List Shown) where
   -- the module was taken, and then it and the lines behind it were answered
-  pub live_ran : (o left : Option (List ℕ)) (text : List ℕ) (a b c : Stream) (handed : Bool) (r : Result ℕ Halt) → TakesModule (waiting [] o) left text → Stays a b → IfSome left (λ script. LiveEnded (IsLive options boxes text) (whole_lines script) b c handed r) →
-      IfSome o (λ input. LiveEnded (IsLiveOf options boxes input) (whole_lines (script_text input)) a c handed r)
+  pub live_ran : (o left : Option (List ℕ)) (text : List ℕ) (a b c : Stream) (handed : Bool) (r : Result ℕ Halt) → TakesModule (waiting [] o) left text → Stays a b → IfSome left (λ script. LiveEnded (IsLive setting boxes text) (whole_lines script) b c handed r) →
+      IfSome o (λ input. LiveEnded (IsLiveOf setting boxes input) (whole_lines (script_text input)) a c handed r)
   live_ran None left text a b c handed r takes stays h = tt
   live_ran (Some input) None text a b c handed r takes stays h = absurd takes
   live_ran (Some input) (Some script) text a b c handed r (is, more) stays h =
-      let told = then_ended (IsLive options boxes text) (whole_lines script) a b c stays handed r h in
-      ended_so (IsLive options boxes (module_text input)) (IsLiveOf options boxes input) (λ lines st out k. inr k) (whole_lines (script_text input)) a c handed r (rw (is, more) at told)
+      let told = then_ended (IsLive setting boxes text) (whole_lines script) a b c stays handed r h in
+      ended_so (IsLive setting boxes (module_text input)) (IsLiveOf setting boxes input) (λ lines st out k. inr k) (whole_lines (script_text input)) a c handed r (rw (is, more) at told)
 
   -- or it wasn't
-  pub live_unread : (o : Option (List ℕ)) (a b : Stream) (handed : Bool) → handed ≡ true → Stays a b → IfSome o (λ input. LiveEnded (IsLiveOf options boxes input) (whole_lines (script_text input)) a b handed (Err ReadFailed))
+  pub live_unread : (o : Option (List ℕ)) (a b : Stream) (handed : Bool) → handed ≡ true → Stays a b → IfSome o (λ input. LiveEnded (IsLiveOf setting boxes input) (whole_lines (script_text input)) a b handed (Err ReadFailed))
   live_unread None a b handed on stays = tt
   live_unread (Some input) a b handed on stays = (on, inl stays)
 
   -- or there was no memory for it, or there are too many bytes of it
-  pub live_refused : (o : Option (List ℕ)) (R : ℕ → List ℕ → Type 0) (Why : List ℕ → Type 0) (a b c : Stream) (handed : Bool) (r : Result ℕ WriteFault) (q : Result ℕ Halt) → q ≡ halted_of r → IfSome o Why → ((input : List ℕ) → Why input → (lines : List (List ℕ)) (st : ℕ) (out : List ℕ) → R st out → IsLiveOf options boxes input lines st out) → Stays a b → HandedOut R b c handed r →
-      IfSome o (λ input. LiveEnded (IsLiveOf options boxes input) (whole_lines (script_text input)) a c handed q)
+  pub live_refused : (o : Option (List ℕ)) (R : ℕ → List ℕ → Type 0) (Why : List ℕ → Type 0) (a b c : Stream) (handed : Bool) (r : Result ℕ WriteFault) (q : Result ℕ Halt) → q ≡ halted_of r → IfSome o Why → ((input : List ℕ) → Why input → (lines : List (List ℕ)) (st : ℕ) (out : List ℕ) → R st out → IsLiveOf setting boxes input lines st out) → Stays a b → HandedOut R b c handed r →
+      IfSome o (λ input. LiveEnded (IsLiveOf setting boxes input) (whole_lines (script_text input)) a c handed q)
   live_refused None R Why a b c handed r q is why so stays h = tt
-  live_refused (Some input) R Why a b c handed r q is why so stays h = then_ended (IsLiveOf options boxes input) (whole_lines (script_text input)) a b c stays handed q (refused_so (IsLiveOf options boxes input) R (whole_lines (script_text input)) b c handed r q is (so input why) h)
+  live_refused (Some input) R Why a b c handed r q is why so stays h = then_ended (IsLiveOf setting boxes input) (whole_lines (script_text input)) a b c stays handed q (refused_so (IsLiveOf setting boxes input) R (whole_lines (script_text input)) b c handed r q is (so input why) h)
 
   -- or nothing could be handed on at first
-  pub live_failed : (o : Option (List ℕ)) (a b : Stream) (handed : Bool) → Fails a b → IfSome o (λ input. LiveEnded (IsLiveOf options boxes input) (whole_lines (script_text input)) a b handed (Err WriteFailed))
+  pub live_failed : (o : Option (List ℕ)) (a b : Stream) (handed : Bool) → Fails a b → IfSome o (λ input. LiveEnded (IsLiveOf setting boxes input) (whole_lines (script_text input)) a b handed (Err WriteFailed))
   live_failed None a b handed fails = tt
   live_failed (Some input) a b handed fails =
       let line = module_refused_line Memory None in
@@ -273,23 +273,23 @@ module _ (options : Options) (boxes : List Shown) where
 
   -- ---- statuses
 
-  low_lives : (lines : List (List ℕ)) (read n : ℕ) (s : State) (status : ℕ) (out : List ℕ) → Lives options read n s lines status out → IsLow status
+  low_lives : (lines : List (List ℕ)) (read n : ℕ) (s : State) (status : ℕ) (out : List ℕ) → Lives setting read n s lines status out → IsLow status
   low_lives [] read n s status out h = inl h.0
-  low_lives (line ∷ lines) read n s status out h = low_line (λ m t st o. Lives options (read + length line) m t lines st o) (manner_of options (read + length line)) n s (line_says (line_of line)) status out (λ m t st o k. low_lives lines (read + length line) m t st o k) h.1
+  low_lives (line ∷ lines) read n s status out h = low_line (λ m t st o. Lives setting (read + length line) m t lines st o) (way_at setting (read + length line)) n s (line_expects (line_of line)) (line_says (line_of line)) status out (λ m t st o k. low_lives lines (read + length line) m t st o k) h.1
 
-  final_live : (input : List ℕ) (lines : List (List ℕ)) (status : ℕ) (out : List ℕ) → IsLiveOf options boxes input lines status out → IsFinal status
+  final_live : (input : List ℕ) (lines : List (List ℕ)) (status : ℕ) (out : List ℕ) → IsLiveOf setting boxes input lines status out → IsFinal status
   final_live input lines status out (inl h) = inr (inr h.1.0)
   final_live input lines status out (inr (inl (refusal, offset, why, h))) = inr (inr h.0)
   final_live input lines status out (inr (inr (m, read, h))) = final_low status (rw h.status_is (low_worse h.accepted h.later (low_lives lines (length (module_text input) + divider_bytes) 1 h.begun h.later h.rest h.lives)))
 
-  at_status : (input : List ℕ) (all : List (List ℕ)) (a b : Stream) (handed : Bool) (r : Result ℕ Halt) → LiveEnded (IsLiveOf options boxes input) all a b handed r → LiveEndedAt (IsLiveOf options boxes input) all a b handed (exit_of r)
+  at_status : (input : List ℕ) (all : List (List ℕ)) (a b : Stream) (handed : Bool) (r : Result ℕ Halt) → LiveEnded (IsLiveOf setting boxes input) all a b handed r → LiveEndedAt (IsLiveOf setting boxes input) all a b handed (exit_of r)
   at_status input all a b handed (Ok st) (o, p, h, on) = inl (final_live input all st o p, (o, p, h, on))
   at_status input all a b handed (Err ReadFailed) (on, h) = inr (refl, inl (on, h))
   at_status input all a b handed (Err NoMemory) (on, h) = inr (refl, inl (on, inr h))
   at_status input all a b handed (Err TooLong) (on, h) = inr (refl, inl (on, inr h))
   at_status input all a b handed (Err WriteFailed) h = inr (refl, inr h)
 
-  pub live_at : (o : Option (List ℕ)) (a b : Stream) (handed : Bool) (r : Result ℕ Halt) (status : ℕ) → status ≡ exit_of r → IfSome o (λ input. LiveEnded (IsLiveOf options boxes input) (whole_lines (script_text input)) a b handed r) → IfSome o (λ input. LiveEndedAt (IsLiveOf options boxes input) (whole_lines (script_text input)) a b handed status)
+  pub live_at : (o : Option (List ℕ)) (a b : Stream) (handed : Bool) (r : Result ℕ Halt) (status : ℕ) → status ≡ exit_of r → IfSome o (λ input. LiveEnded (IsLiveOf setting boxes input) (whole_lines (script_text input)) a b handed r) → IfSome o (λ input. LiveEndedAt (IsLiveOf setting boxes input) (whole_lines (script_text input)) a b handed status)
   live_at None a b handed r status is h = tt
   live_at (Some input) a b handed r status is h = rw is (at_status input (whole_lines (script_text input)) a b handed r h)
 

@@ -1,19 +1,19 @@
 -- Which statuses an output may have.
 use Rattle.std.proofs.Common.{◌≡◌, arith, sym, subst, inl, inr, ◌⊎◌, refl, ℕ, ◌+◌, List, [], ◌∷◌, length, Bool, true, false, Option, Some, None, Result, Ok, Err}
 use Rattle.std.specs.Prelude.{IfSome}
+use Rattle.ir_event.specs.types.declared.refusal.Refusal.{Refusal}
 use Rattle.ir_event.specs.Modules.{Module}
-use Rattle.mlir_work_session.specs.Commands.{Spoken, Nothing, Bad, Obey, line_says}
+use Rattle.mlir_work_session.specs.Commands.{Spoken, Nothing, Bad, Obey, Ordered, line_says}
+use Rattle.mlir_work_session.specs.Expecting.{line_expects}
 use Rattle.mlir_work_session.specs.Lines.{lines_of}
 use Rattle.mlir_work_session.specs.Parts.{script_text}
 use Rattle.mlir_work_session.specs.Machine.{State}
 use Rattle.mlir_work_session.specs.Panels.{Shown}
 use Rattle.mlir_work_session.specs.Reads.{Intake}
 use Rattle.mlir_work_session.specs.Writes.{Stream}
-use Rattle.mlir_work_session.specs.declared.manner.Manner.{Manner}
-use Rattle.mlir_work_session.specs.Output.{Line, Runs, IsSession, worse, is_accepted}
+use Rattle.mlir_work_session.specs.Output.{Line, Runs, IsSession, Way, worse, is_right}
 use Rattle.mlir_work_run.specs.Ends.{EndedSo, HasFailed, HasStatus, IsFinal, Leaves, LeavesAt, status_of}
-use Rattle.mlir_work_run.specs.Whole.{IsOutput, manner_of}
-use Rattle.mlir_work_run.specs.declared.run.Options.{Options}
+use Rattle.mlir_work_run.specs.Whole.{IsOutput, Setting, way_at}
 use Rattle.mlir_work_run.specs.declared.run.Fault.{Fault}
 use Rattle.mlir_work_run.specs.declared.run.Fault.TheVariants.{Read as ReadFailed, Write as WriteFailed}
 
@@ -25,41 +25,42 @@ pub low_worse : (accepted : Bool) (later : ℕ) → IsLow later → IsLow (worse
 low_worse true later h = h
 low_worse false later h = inr refl
 
-pub low_line : (Rest : ℕ → State → ℕ → List ℕ → Type 0) (manner : Manner) (n : ℕ) (s : State) (spoken : Spoken) (status : ℕ) (out : List ℕ) → ((m : ℕ) (t : State) (st : ℕ) (o : List ℕ) → Rest m t st o → IsLow st) → Line Rest manner n s spoken status out → IsLow status
-low_line Rest manner n s Nothing status out f h = f n s status out h
-low_line Rest manner n s Bad status out f h = rw h.status_is (low_worse (is_accepted h.response) h.later (f (n + 1) h.after h.later h.rest h.goes_on))
-low_line Rest manner n s (Obey said) status out f h = rw h.status_is (low_worse (is_accepted h.response) h.later (f (n + 1) h.after h.later h.rest h.goes_on))
+pub low_line : (Rest : ℕ → State → ℕ → List ℕ → Type 0) (way : Way) (n : ℕ) (s : State) (expected : Option Refusal) (spoken : Spoken) (status : ℕ) (out : List ℕ) → ((m : ℕ) (t : State) (st : ℕ) (o : List ℕ) → Rest m t st o → IsLow st) → Line Rest way n s expected spoken status out → IsLow status
+low_line Rest way n s expected Nothing status out f h = f n s status out h
+low_line Rest way n s expected Bad status out f h = rw h.status_is (low_worse (is_right expected h.response) h.later (f (n + 1) h.after h.later h.rest h.goes_on))
+low_line Rest way n s expected (Obey said) status out f h = rw h.status_is (low_worse (is_right expected h.response) h.later (f (n + 1) h.after h.later h.rest h.goes_on))
+low_line Rest way n s expected (Ordered order) status out f h = rw h.status_is (low_worse (is_right expected h.response) h.later (f (n + 1) h.after h.later h.rest h.goes_on))
 
-low_runs : (manner : Manner) (lines : List (List ℕ)) (n : ℕ) (s : State) (status : ℕ) (out : List ℕ) → Runs manner n s lines status out → IsLow status
-low_runs manner [] n s status out h = inl h.0
-low_runs manner (line ∷ lines) n s status out h = low_line (λ m t st o. Runs manner m t lines st o) manner n s (line_says line) status out (λ m t st o k. low_runs manner lines m t st o k) h
+low_runs : (way : Way) (lines : List (List ℕ)) (n : ℕ) (s : State) (status : ℕ) (out : List ℕ) → Runs way n s lines status out → IsLow status
+low_runs way [] n s status out h = inl h.0
+low_runs way (line ∷ lines) n s status out h = low_line (λ m t st o. Runs way m t lines st o) way n s (line_expects line) (line_says line) status out (λ m t st o k. low_runs way lines m t st o k) h
 
-low_session : (manner : Manner) (boxes : List Shown) (m : Module) (script : List ℕ) (status : ℕ) (out : List ℕ) → IsSession manner boxes m script status out → IsLow status
-low_session manner boxes m script status out (inl h) = inr h.1.0
-low_session manner boxes m script status out (inr h) = rw h.1.status_is (low_worse h.1.accepted h.1.later (low_runs manner (lines_of script) 1 (record { held = m; marks = []; panel = h.1.panel }) h.1.later h.1.rest h.1.runs))
+low_session : (way : Way) (boxes : List Shown) (m : Module) (script : List ℕ) (status : ℕ) (out : List ℕ) → IsSession way boxes m script status out → IsLow status
+low_session way boxes m script status out (inl h) = inr h.1.0
+low_session way boxes m script status out (inr h) = rw h.1.status_is (low_worse h.1.accepted h.1.later (low_runs way (lines_of script) 1 (record { held = m; marks = []; panel = h.1.panel }) h.1.later h.1.rest h.1.runs))
 
 pub final_low : (status : ℕ) → IsLow status → IsFinal status
 final_low status (inl e) = inl e
 final_low status (inr e) = inr (inl e)
 
 -- an output has a status below that of a fault
-pub final_output : (options : Options) (boxes : List Shown) (input : List ℕ) (status : ℕ) (out : List ℕ) → IsOutput options boxes input status out → IsFinal status
-final_output options boxes input status out (inl h) = inr (inr h.1.0)
-final_output options boxes input status out (inr (short, inl (refusal, offset, why, h))) = inr (inr h.0)
-final_output options boxes input status out (inr (short, inr (m, read, h))) = final_low status (low_session (manner_of options (length input)) boxes m (script_text input) status out h)
+pub final_output : (setting : Setting) (boxes : List Shown) (input : List ℕ) (status : ℕ) (out : List ℕ) → IsOutput setting boxes input status out → IsFinal status
+final_output setting boxes input status out (inl h) = inr (inr h.1.0)
+final_output setting boxes input status out (inr (short, inl (refusal, offset, why, h))) = inr (inr h.0)
+final_output setting boxes input status out (inr (short, inr (m, read, h))) = final_low status (low_session (way_at setting (length input)) boxes m (script_text input) status out h)
 
-ended_status : (options : Options) (boxes : List Shown) (input : List ℕ) (a b : Option (List ℕ)) (r : Result ℕ Fault) → EndedSo (IsOutput options boxes input) a b r → HasStatus (IsOutput options boxes input) a b (status_of r)
-ended_status options boxes input a b (Ok status) (out, h, wrote) = inl (final_output options boxes input status out h, (out, h, wrote))
-ended_status options boxes input a b (Err ReadFailed) h = inr (refl, inl h)
-ended_status options boxes input a b (Err WriteFailed) h = inr (refl, inr h)
+ended_status : (setting : Setting) (boxes : List Shown) (input : List ℕ) (a b : Option (List ℕ)) (r : Result ℕ Fault) → EndedSo (IsOutput setting boxes input) a b r → HasStatus (IsOutput setting boxes input) a b (status_of r)
+ended_status setting boxes input a b (Ok status) (out, h, wrote) = inl (final_output setting boxes input status out h, (out, h, wrote))
+ended_status setting boxes input a b (Err ReadFailed) h = inr (refl, inl h)
+ended_status setting boxes input a b (Err WriteFailed) h = inr (refl, inr h)
 
 -- what is known of a run is known of its exit status
-has_status : (options : Options) (boxes : List Shown) (input : List ℕ) (a b : Option (List ℕ)) (r : Result ℕ Fault) (status : ℕ) → status ≡ status_of r → EndedSo (IsOutput options boxes input) a b r → HasStatus (IsOutput options boxes input) a b status
-has_status options boxes input a b r status e h = subst (λ (n : ℕ). HasStatus (IsOutput options boxes input) a b n) (sym e) (ended_status options boxes input a b r h)
+has_status : (setting : Setting) (boxes : List Shown) (input : List ℕ) (a b : Option (List ℕ)) (r : Result ℕ Fault) (status : ℕ) → status ≡ status_of r → EndedSo (IsOutput setting boxes input) a b r → HasStatus (IsOutput setting boxes input) a b status
+has_status setting boxes input a b r status e h = subst (λ (n : ℕ). HasStatus (IsOutput setting boxes input) a b n) (sym e) (ended_status setting boxes input a b r h)
 
-pub if_has_status : (o : Option (List ℕ)) (options : Options) (boxes : List Shown) (a b : Option (List ℕ)) (r : Result ℕ Fault) (status : ℕ) → status ≡ status_of r → IfSome o (λ input. EndedSo (IsOutput options boxes input) a b r) → IfSome o (λ input. HasStatus (IsOutput options boxes input) a b status)
-if_has_status None options boxes a b r status e h = tt
-if_has_status (Some input) options boxes a b r status e h = has_status options boxes input a b r status e h
+pub if_has_status : (o : Option (List ℕ)) (setting : Setting) (boxes : List Shown) (a b : Option (List ℕ)) (r : Result ℕ Fault) (status : ℕ) → status ≡ status_of r → IfSome o (λ input. EndedSo (IsOutput setting boxes input) a b r) → IfSome o (λ input. HasStatus (IsOutput setting boxes input) a b status)
+if_has_status None setting boxes a b r status e h = tt
+if_has_status (Some input) setting boxes a b r status e h = has_status setting boxes input a b r status e h
 
 -- how a run leaves its reader and its writer is known of its exit status
 leaves_status : (taken left : Intake) (a b : Stream) (handed : Bool) (r : Result ℕ Fault) → Leaves taken left a b handed r → LeavesAt taken left a b handed (status_of r)

@@ -3,6 +3,7 @@ use Rattle.std.proofs.Common.{◌≡◌, ◌∙◌, ap, subst, refl, ℕ, ◌+�
 use Rattle.std.specs.Prelude.{codes}
 use Rattle.ir_event.specs.Modules.{Module}
 use Rattle.mlir_work_session.specs.Commands.{line_says}
+use Rattle.mlir_work_session.specs.Expecting.{line_expects}
 use Rattle.mlir_work_session.specs.Lines.{is_newline, line_of, lines_of, onto_first}
 use Rattle.mlir_work_session.specs.Limits.{most_input_bytes, most_script_bytes}
 use Rattle.mlir_work_session.specs.Machine.{State}
@@ -13,8 +14,7 @@ use Rattle.mlir_work_session.specs.Writes.{joined}
 use Rattle.mlir_work_session.proofs.Dividing.{divided}
 use Rattle.mlir_work_session.proofs.Wider.{line_wider}
 use Rattle.mlir_work_run.specs.Live.{IsLive, Live, Lives, divider_bytes, whole_lines}
-use Rattle.mlir_work_run.specs.Whole.{IsOutput, manner_of}
-use Rattle.mlir_work_run.specs.declared.run.Options.{Options}
+use Rattle.mlir_work_run.specs.Whole.{IsOutput, Setting, way_at}
 
 -- ---- lines, with and without their line feeds
 
@@ -45,18 +45,18 @@ joined_same (b ∷ bs) = joined_at b bs (is_newline b) refl (joined_same bs)
 
 -- ---- what is answered early is answered so in the end
 
-module _ (options : Options) (total : ℕ) where
-  lives_run : (lines : List (List ℕ)) (read n : ℕ) (s : State) (status : ℕ) (out : List ℕ) → read + length (joined lines) ≤ total → Lives options read n s lines status out → Runs (manner_of options total) n s (map line_of lines) status out
+module _ (setting : Setting) (total : ℕ) where
+  lives_run : (lines : List (List ℕ)) (read n : ℕ) (s : State) (status : ℕ) (out : List ℕ) → read + length (joined lines) ≤ total → Lives setting read n s lines status out → Runs (way_at setting total) n s (map line_of lines) status out
   lives_run [] read n s status out most h = h
   lives_run (line ∷ lines) read n s status out most h =
       let long = length-append line (joined lines) in
       let here : read + length line ≤ total = omega (arith, most, long) in
       let rest : (read + length line) + length (joined lines) ≤ total = omega (arith, most, long) in
-      line_wider (manner_of options (read + length line)) total here (λ m t st o. Lives options (read + length line) m t lines st o) (λ m t st o. Runs (manner_of options total) m t (map line_of lines) st o) (λ m t st o k. lives_run lines (read + length line) m t st o rest k) n s (line_says (line_of line)) status out h.1
+      line_wider (way_at setting (read + length line)) total here (λ m t st o. Lives setting (read + length line) m t lines st o) (λ m t st o. Runs (way_at setting total) m t (map line_of lines) st o) (λ m t st o k. lives_run lines (read + length line) m t st o rest k) n s (line_expects (line_of line)) (line_says (line_of line)) status out h.1
 
-  script_runs : (script : List ℕ) (read : ℕ) (s : State) (status : ℕ) (out : List ℕ) → read + length script ≤ total → Lives options read 1 s (whole_lines script) status out → Runs (manner_of options total) 1 s (lines_of script) status out
+  script_runs : (script : List ℕ) (read : ℕ) (s : State) (status : ℕ) (out : List ℕ) → read + length script ≤ total → Lives setting read 1 s (whole_lines script) status out → Runs (way_at setting total) 1 s (lines_of script) status out
   script_runs script read s status out most h =
-      subst (λ (ls : List (List ℕ)). Runs (manner_of options total) 1 s ls status out) (lines_same script) (lives_run (whole_lines script) read 1 s status out (rw (joined_same script) most) h)
+      subst (λ (ls : List (List ℕ)). Runs (way_at setting total) 1 s ls status out) (lines_same script) (lives_run (whole_lines script) read 1 s status out (rw (joined_same script) most) h)
 
 -- the module, the divider and the script
 split_long : (input text : List ℕ) (b : ℕ) (bs : List ℕ) → IsSplit input text (b ∷ bs) → length text + divider_bytes + length (b ∷ bs) ≤ length input
@@ -64,24 +64,24 @@ split_long input text b bs (inl (end, is, inl ends)) = omega (arith, ap length i
 split_long input text b bs (inl (end, is, inr (ends, none))) = absurd (omega (arith, ap length none))
 split_long input text b bs (inr (is, none)) = absurd (omega (arith, ap length none))
 
-input_runs : (options : Options) (input script : List ℕ) (s : State) (status : ℕ) (out : List ℕ) → IsSplit input (module_text input) script → Lives options (length (module_text input) + divider_bytes) 1 s (whole_lines script) status out → Runs (manner_of options (length input)) 1 s (lines_of script) status out
-input_runs options input [] s status out split h = h
-input_runs options input (b ∷ bs) s status out split h = script_runs options (length input) (b ∷ bs) (length (module_text input) + divider_bytes) s status out (split_long input (module_text input) b bs split) h
+input_runs : (setting : Setting) (input script : List ℕ) (s : State) (status : ℕ) (out : List ℕ) → IsSplit input (module_text input) script → Lives setting (length (module_text input) + divider_bytes) 1 s (whole_lines script) status out → Runs (way_at setting (length input)) 1 s (lines_of script) status out
+input_runs setting input [] s status out split h = h
+input_runs setting input (b ∷ bs) s status out split h = script_runs setting (length input) (b ∷ bs) (length (module_text input) + divider_bytes) s status out (split_long input (module_text input) b bs split) h
 
-session_of : (options : Options) (boxes : List Shown) (m : Module) (input : List ℕ) (status : ℕ) (out : List ℕ) → Live options boxes m (length (module_text input) + divider_bytes) (whole_lines (script_text input)) status out → Session (manner_of options (length input)) boxes m (script_text input) status out
-session_of options boxes m input status out h = record {
+session_of : (setting : Setting) (boxes : List Shown) (m : Module) (input : List ℕ) (status : ℕ) (out : List ℕ) → Live setting boxes m (length (module_text input) + divider_bytes) (whole_lines (script_text input)) status out → Session (way_at setting (length input)) boxes m (script_text input) status out
+session_of setting boxes m input status out h = record {
   panel = h.begins.panel;
   accepted = h.accepted;
   front = h.begins.front;
   later = h.later;
   rest = h.rest;
   attached = h.begins.attached;
-  runs = subst (λ (s : State). Runs (manner_of options (length input)) 1 s (lines_of (script_text input)) h.later h.rest) h.begins.state_is (input_runs options input (script_text input) h.begun h.later h.rest (divided true input) h.lives);
+  runs = subst (λ (s : State). Runs (way_at setting (length input)) 1 s (lines_of (script_text input)) h.later h.rest) h.begins.state_is (input_runs setting input (script_text input) h.begun h.later h.rest (divided true input) h.lives);
   status_is = h.status_is;
   out_is = h.out_is ∙ ap (λ (xs : List ℕ). xs ++ h.rest) h.begins.out_is;
 }
 
 -- what answers an input as it comes is an output of it, within the limits
-pub live_whole : (options : Options) (boxes : List Shown) (input : List ℕ) (status : ℕ) (out : List ℕ) → length input ≤ most_input_bytes → length (script_text input) ≤ most_script_bytes → IsLive options boxes (module_text input) (whole_lines (script_text input)) status out → IsOutput options boxes input status out
-live_whole options boxes input status out short few (inl unread) = inr (short, inl unread)
-live_whole options boxes input status out short few (inr (m, world, h)) = inr (short, inr (m, world, inr (few, session_of options boxes m input status out h)))
+pub live_whole : (setting : Setting) (boxes : List Shown) (input : List ℕ) (status : ℕ) (out : List ℕ) → length input ≤ most_input_bytes → length (script_text input) ≤ most_script_bytes → IsLive setting boxes (module_text input) (whole_lines (script_text input)) status out → IsOutput setting boxes input status out
+live_whole setting boxes input status out short few (inl unread) = inr (short, inl unread)
+live_whole setting boxes input status out short few (inr (m, world, h)) = inr (short, inr (m, world, inr (few, session_of setting boxes m input status out h)))

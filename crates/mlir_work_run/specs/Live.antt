@@ -4,6 +4,7 @@ use Rattle.ir_event.specs.Modules.{Module}
 use Rattle.mlir_work_lines.specs.declared.feed.Stop.{Stop}
 use Rattle.mlir_work_lines.specs.declared.feed.Stop.TheVariants.{Broken, Memory as OutOfMemory, TooMany}
 use Rattle.mlir_work_session.specs.Commands.{line_says}
+use Rattle.mlir_work_session.specs.Expecting.{line_expects}
 use Rattle.mlir_work_session.specs.Lines.{is_newline, line_of, onto_first}
 use Rattle.mlir_work_session.specs.Limits.{most_input_bytes, most_script_bytes}
 use Rattle.mlir_work_session.specs.Machine.{State}
@@ -14,10 +15,9 @@ use Rattle.mlir_work_session.specs.Reads.{Intake}
 use Rattle.mlir_work_session.specs.WriteFault.{WriteFault}
 use Rattle.mlir_work_session.specs.Writes.{Grows, GrowsFront, Stays, Stream, joined}
 use Rattle.mlir_work_run.specs.Ends.{IsFinal}
-use Rattle.mlir_work_run.specs.Whole.{IsOutput, IsTooMany, IsUnread, IsWorldOf, manner_of}
+use Rattle.mlir_work_run.specs.Whole.{IsOutput, IsTooMany, IsUnread, IsWorldOf, Setting, way_at}
 use Rattle.mlir_work_run.specs.declared.live.Halt.{Halt}
 use Rattle.mlir_work_run.specs.declared.live.Halt.TheVariants.{Read as ReadFailed, Write as WriteFailed, Memory as NoMemory, TooLong}
-use Rattle.mlir_work_run.specs.declared.run.Options.{Options}
 
 -- the lines of a text, each with its line feed, if it has one
 abbrev pub whole_lines : List ℕ → List (List ℕ)
@@ -30,35 +30,35 @@ divider_bytes = 9
 
 -- from s, with n the next number, these lines are answered so, one after the other, where so many bytes were read before
 -- them: each is within its limit, and is answered as one of an input that ends with it
-abbrev pub Lives : Options → ℕ → ℕ → State → List (List ℕ) → ℕ → List ℕ → Type 0
-Lives options read n s [] status out = (status ≡ 0) × (out ≡ [])
-Lives options read n s (line ∷ lines) status out =
+abbrev pub Lives : Setting → ℕ → ℕ → State → List (List ℕ) → ℕ → List ℕ → Type 0
+Lives setting read n s [] status out = (status ≡ 0) × (out ≡ [])
+Lives setting read n s (line ∷ lines) status out =
     (length line ≤ most_script_bytes)
-    × Line (λ m t st o. Lives options (read + length line) m t lines st o) (manner_of options (read + length line)) n s
-    (line_says (line_of line)) status out
+    × Line (λ m t st o. Lives setting (read + length line) m t lines st o) (way_at setting (read + length line)) n s
+    (line_expects (line_of line)) (line_says (line_of line)) status out
 
 -- boxes are attached to a module, and then lines are answered
-pub record Live (options : Options) (boxes : List Shown) (m : Module) (read : ℕ) (lines : List (List ℕ)) (status : ℕ) (out : List ℕ) : Type 0 where
+pub record Live (setting : Setting) (boxes : List Shown) (m : Module) (read : ℕ) (lines : List (List ℕ)) (status : ℕ) (out : List ℕ) : Type 0 where
   pub begun : State
   pub accepted : Bool
   pub front : List ℕ
   pub later : ℕ
   pub rest : List ℕ
-  pub begins : Begun options.ends boxes m begun accepted front
-  pub lives : Lives options read 1 begun lines later rest
+  pub begins : Begun setting.options.ends boxes m begun accepted front
+  pub lives : Lives setting read 1 begun lines later rest
   pub status_is : status ≡ worse accepted later
   pub out_is : out ≡ front ++ rest
 
 -- this status and these bytes answer the text of a module, and these lines behind it, as they come
-abbrev pub IsLive : Options → List Shown → List ℕ → List (List ℕ) → ℕ → List ℕ → Type 0
-IsLive options boxes text lines status out =
+abbrev pub IsLive : Setting → List Shown → List ℕ → List (List ℕ) → ℕ → List ℕ → Type 0
+IsLive setting boxes text lines status out =
     IsUnread text status out
-    ⊎ ((m : Module) × IsWorldOf text m × Live options boxes m (length text + divider_bytes) lines status out)
+    ⊎ ((m : Module) × IsWorldOf text m × Live setting boxes m (length text + divider_bytes) lines status out)
 
 -- of an input whose script begins with these lines; or it is too long, which is known before a line of it is answered
-abbrev pub IsLiveOf : Options → List Shown → List ℕ → List (List ℕ) → ℕ → List ℕ → Type 0
-IsLiveOf options boxes input lines status out =
-    IsTooMany input status out ⊎ IsLive options boxes (module_text input) lines status out
+abbrev pub IsLiveOf : Setting → List Shown → List ℕ → List (List ℕ) → ℕ → List ℕ → Type 0
+IsLiveOf setting boxes input lines status out =
+    IsTooMany input status out ⊎ IsLive setting boxes (module_text input) lines status out
 
 -- an input up to a line, where there are any: the text of the module, the divider, and these lines
 abbrev pub up_to : List ℕ → List (List ℕ) → List ℕ
@@ -66,10 +66,10 @@ up_to text [] = text
 up_to text (line ∷ lines) = text ++ (codes "// -----" ++ 10 ∷ joined (line ∷ lines))
 
 -- what a whole run writes for an input up to a line, where that is within the limits
-abbrev pub IsWholeUpTo : Options → List Shown → List ℕ → List (List ℕ) → ℕ → List ℕ → Type 0
-IsWholeUpTo options boxes input lines status out =
+abbrev pub IsWholeUpTo : Setting → List Shown → List ℕ → List (List ℕ) → ℕ → List ℕ → Type 0
+IsWholeUpTo setting boxes input lines status out =
     length input ≤ most_input_bytes → length (joined lines) ≤ most_script_bytes
-    → IsOutput options boxes (up_to (module_text input) lines) status out
+    → IsOutput setting boxes (up_to (module_text input) lines) status out
 
 -- ---- how a live run ends
 

@@ -11,7 +11,7 @@ use Rattle.mlir_work_session.specs.Parts.{module_text, script_text}
 use Rattle.mlir_work_session.specs.Replies.{module_refused_line}
 use Rattle.mlir_work_session.specs.Limits.{most_input_bytes}
 use Rattle.mlir_work_session.specs.Panels.{Shown}
-use Rattle.mlir_work_session.specs.Output.{IsSession}
+use Rattle.mlir_work_session.specs.Output.{IsSession, Way, way_of}
 use Rattle.mlir_work_session.specs.declared.manner.Manner.{Manner}
 use Rattle.mlir_work_run.specs.declared.run.Options.{Options}
 
@@ -42,15 +42,26 @@ IsTooMany input status out = (most_input_bytes < length input) × IsRefusal TooM
 abbrev pub manner_of : Options → ℕ → Manner
 manner_of options bytes = record { brief = options.brief; bytes = bytes; limit = options.limit; ends = options.ends }
 
+-- what a run is told, and what is seen of the analyses that it can make anew
+pub record Setting : Type 0 where
+  pub options : Options
+  pub supply : ℕ → Option Shown
+
+abbrev pub setting_of : (ℕ → Option Shown) → Options → Setting
+setting_of supply options = record { options = options; supply = supply }
+
+abbrev pub way_at : Setting → ℕ → Way
+way_at setting bytes = way_of setting.supply (manner_of setting.options bytes)
+
 -- the text spells a tree; boxes are attached to its module, and the script is run over it
-abbrev pub IsRead : Options → List Shown → List ℕ → ℕ → List ℕ → Type 0
-IsRead options boxes input status out =
+abbrev pub IsRead : Setting → List Shown → List ℕ → ℕ → List ℕ → Type 0
+IsRead setting boxes input status out =
     (m : Module) × IsWorldOf (module_text input) m
-    × IsSession (manner_of options (length input)) boxes m (script_text input) status out
+    × IsSession (way_at setting (length input)) boxes m (script_text input) status out
 
 -- this status and these bytes are an output of the input, with these boxes; an input that is too long has but one
-abbrev pub IsOutput : Options → List Shown → List ℕ → ℕ → List ℕ → Type 0
-IsOutput options boxes input status out =
+abbrev pub IsOutput : Setting → List Shown → List ℕ → ℕ → List ℕ → Type 0
+IsOutput setting boxes input status out =
     IsTooMany input status out
     ⊎ ((length input ≤ most_input_bytes)
-    × (IsUnread (module_text input) status out ⊎ IsRead options boxes input status out))
+    × (IsUnread (module_text input) status out ⊎ IsRead setting boxes input status out))

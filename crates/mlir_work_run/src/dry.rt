@@ -3,12 +3,12 @@ ghost use Rattle.std.specs.Prelude.{ℕ, List, Some, None, false, true};
 ghost use Rattle.mlir_work_session.specs.Panels.{all_shown};
 ghost use Rattle.mlir_work_session.specs.Reads.{Intake};
 ghost use Rattle.mlir_work_session.specs.Writes.{Stream};
-ghost use Rattle.mlir_work_run.specs.Whole.{IsOutput};
+ghost use Rattle.mlir_work_run.specs.Whole.{IsOutput, setting_of};
 
 use crate::run::{Options, run_watched};
-use ir_event::analysis::Analysis;
 use mlir_work_session::sink::Sink;
 use mlir_work_session::source::{Source, SourceFault};
+use mlir_work_session::supplied::Supplied;
 use mlir_work_session::writing::WriteFault;
 use std::alloc::Global;
 use std::io::Read;
@@ -50,14 +50,14 @@ impl Sink for Nowhere {
 }
 
 /// The exit status of a run of an input: 0, 1 or 3, that of an output which it has. Status 4 isn't answered.
-pub fn dry_run<L: Analysis>(
+pub fn dry_run<L: Supplied>(
     alloc: Global,
     key: u64,
     options: Options,
     input: &[u8],
     boxes: Vec<L>,
 ) -> u8
-    ensures { (out : List ℕ) × IsOutput options (all_shown L.meaning boxes.items) input.now result out }
+    ensures { (out : List ℕ) × IsOutput (setting_of L.supply options) (all_shown L.meaning boxes.items) input.now result out }
 {
     let mut reader = Bytes { rest: input };
     run_watched(alloc, key, options, &mut reader, &mut Nowhere, boxes)

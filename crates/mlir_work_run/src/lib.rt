@@ -9,6 +9,7 @@ pub mod run;
 mod text;
 
 pub use mlir_work_session::{
-    Bench, cells, clauses, command, greedy, input, keys, kind, lines, manner, numbers, outcome,
-    reader, replies, rule_name, script, sink, source, spots, values, watched, words, writing,
+    Bench, cells, clauses, command, expect, greedy, input, keys, kind, lines, manner, numbers,
+    order, outcome, reader, replies, rule_name, script, sink, source, spots, supplied, values,
+    watched, words, writing,
 };

@@ -5,17 +5,17 @@ ghost use Rattle.ir_event.specs.Modules.{module_in};
 ghost use Rattle.mlir_work_lines.specs.Feeding.{waiting};
 ghost use Rattle.mlir_work_session.specs.Benched.{IsKept, state_of};
 ghost use Rattle.mlir_work_session.specs.Commands.{line_says};
+ghost use Rattle.mlir_work_session.specs.Expecting.{line_expects};
 ghost use Rattle.mlir_work_session.specs.Held.{module_held, open_marks};
 ghost use Rattle.mlir_work_session.specs.Lines.{line_of};
-ghost use Rattle.mlir_work_session.specs.Output.{Begun, IsAnswered, worse as worst};
+ghost use Rattle.mlir_work_session.specs.Output.{Begun, IsAnswered, way_of, worse as worst};
 ghost use Rattle.mlir_work_session.specs.Limits.{most_input_bytes, most_script_bytes};
 ghost use Rattle.mlir_work_session.specs.Panels.{Shown, all_shown};
 ghost use Rattle.mlir_work_session.specs.Parts.{module_text, script_text};
 ghost use Rattle.mlir_work_session.specs.Ran.{AttachedOut, RanOut};
 ghost use Rattle.mlir_work_run.specs.Live.{AreFirst, IsLive, IsLiveOf, IsWholeUpTo, Live, LiveEnded, LiveEndedAt, LiveRead, Lives, divider_bytes};
 ghost use Rattle.mlir_work_run.specs.Live.{exit_of, halt_of, halted_of, whole_lines};
-ghost use Rattle.mlir_work_run.specs.Whole.{IsOutput, IsWorldOf, WhyNot};
-ghost use Rattle.mlir_work_run.specs.declared.run.Options.{Options as Way};
+ghost use Rattle.mlir_work_run.specs.Whole.{IsOutput, IsWorldOf, Setting, WhyNot, setting_of};
 ghost use Rattle.rewriter_laws.specs.Journals.{IsSlotted, IsTidy};
 
 use crate::run::{Options, Unread, hold, manner_of, no_memory, refuse, tree_of};
@@ -32,6 +32,7 @@ use mlir_work_session::opening::begin;
 use mlir_work_session::script::{accepted_behind, answer_line, number_behind};
 use mlir_work_session::sink::Sink;
 use mlir_work_session::source::Source;
+use mlir_work_session::supplied::Supplied;
 use mlir_work_session::writing::{WriteFault, flush};
 use std::alloc::Global;
 use thiserror::Error;
@@ -76,8 +77,8 @@ fn halted(ran: Result<u8, WriteFault>) -> Result<u8, Halt>
 }
 
 /// Answers a line, which may have its line feed, and hands on what was written: one step of a live run. `n` is the
-/// number of the next reply. Says whether the command was accepted, or nothing of a line that says nothing.
-pub fn live_step<L: Analysis, W: Sink>(
+/// number of the next reply. Says whether what came is right, or nothing of a line that says nothing.
+pub fn live_step<L: Supplied, W: Sink>(
     alloc: Global,
     manner: &Manner,
     bench: &mut Bench<L>,
@@ -86,8 +87,8 @@ pub fn live_step<L: Analysis, W: Sink>(
     writer: &mut W,
 ) -> Result<Option<bool>, WriteFault>
     requires { IsKept L.meaning bench.old }
-    ensures answered { RanOut (IsAnswered manner.now n (state_of L.meaning bench.old) (line_says (line_of line.now))
-        (state_of L.meaning bench.new)) (W.stream writer.old) (W.stream writer.new) result }
+    ensures answered { RanOut (IsAnswered (way_of L.supply manner.now) n (state_of L.meaning bench.old)
+        (line_expects (line_of line.now)) (line_says (line_of line.now)) (state_of L.meaning bench.new)) (W.stream writer.old) (W.stream writer.new) result }
     ensures handed { IfOk result (λ _. W.handed writer.new ≡ true) }
     ensures kept { IsKept L.meaning bench.new }
 {
@@ -135,7 +136,7 @@ fn status_of(accepted: bool) -> u8
 
 /// Answers the lines of an input, each as soon as it is there, behind so many bytes that were read: takes one, answers it,
 /// and hands on what was written before the next is read.
-fn answer_lines<L: Analysis, R: Source, W: Sink>(
+fn answer_lines<L: Supplied, R: Source, W: Sink>(
     alloc: Global,
     options: Options,
     before: usize,
@@ -148,7 +149,7 @@ fn answer_lines<L: Analysis, R: Source, W: Sink>(
     requires handed { W.handed writer.old ≡ true }
     requires behind { divider_bytes ≤ before }
     ensures ended { IfSome (waiting kept.old.items (R.intake reader.old).remaining) (λ script. LiveEnded
-        (Lives options before 1 (state_of L.meaning bench.old)) (whole_lines script)
+        (Lives (setting_of L.supply options) before 1 (state_of L.meaning bench.old)) (whole_lines script)
         (W.stream writer.old) (W.stream writer.new) (W.handed writer.new) result) }
     ensures read { LiveRead (R.intake reader.old) (R.intake reader.new) result }
 {
@@ -182,7 +183,7 @@ fn worse(accepted: bool, status: u8) -> u8
 }
 
 /// Answers a module and the lines behind it.
-fn answer_bench<L: Analysis, R: Source, W: Sink>(
+fn answer_bench<L: Supplied, R: Source, W: Sink>(
     alloc: Global,
     options: Options,
     before: usize,
@@ -196,7 +197,8 @@ fn answer_bench<L: Analysis, R: Source, W: Sink>(
     requires unmarked { open_marks bench.old.desk ≡ [] }
     requires behind { divider_bytes ≤ before }
     ensures ended { IfSome (waiting kept.old.items (R.intake reader.old).remaining) (λ script. LiveEnded
-        (Live options (all_shown L.meaning boxes.items) (module_held bench.old.desk) before) (whole_lines script)
+        (Live (setting_of L.supply options) (all_shown L.meaning boxes.items) (module_held bench.old.desk) before)
+        (whole_lines script)
         (W.stream writer.old) (W.stream writer.new) (W.handed writer.new) result) }
     ensures read { LiveRead (R.intake reader.old) (R.intake reader.new) result }
 {
@@ -211,7 +213,7 @@ fn answer_bench<L: Analysis, R: Source, W: Sink>(
 }
 
 /// Makes a bench of a world that was read, and answers it and the lines behind it.
-fn answer_world<L: Analysis, R: Source, W: Sink>(
+fn answer_world<L: Supplied, R: Source, W: Sink>(
     alloc: Global,
     options: Options,
     before: usize,
@@ -225,7 +227,8 @@ fn answer_world<L: Analysis, R: Source, W: Sink>(
     requires tidy { IsTidy world.store }
     requires behind { divider_bytes ≤ before }
     ensures ended { IfSome (waiting kept.old.items (R.intake reader.old).remaining) (λ script. LiveEnded
-        (Live options (all_shown L.meaning boxes.items) (module_in world) before) (whole_lines script)
+        (Live (setting_of L.supply options) (all_shown L.meaning boxes.items) (module_in world) before)
+        (whole_lines script)
         (W.stream writer.old) (W.stream writer.new) (W.handed writer.new) result) }
     ensures read { LiveRead (R.intake reader.old) (R.intake reader.new) result }
 {
@@ -270,7 +273,7 @@ fn taken(alloc: Global, key: u64, text: Vec<u8>) -> Result<(World, usize), Unrea
 }
 
 /// Answers the text of a module, and the lines behind it.
-fn answer_text<L: Analysis, R: Source, W: Sink>(
+fn answer_text<L: Supplied, R: Source, W: Sink>(
     alloc: Global,
     key: u64,
     options: Options,
@@ -281,7 +284,7 @@ fn answer_text<L: Analysis, R: Source, W: Sink>(
     boxes: Vec<L>,
 ) -> Result<u8, Halt>
     ensures ended { IfSome (waiting kept.old.items (R.intake reader.old).remaining) (λ script. LiveEnded
-        (IsLive options (all_shown L.meaning boxes.items) text.items) (whole_lines script)
+        (IsLive (setting_of L.supply options) (all_shown L.meaning boxes.items) text.items) (whole_lines script)
         (W.stream writer.old) (W.stream writer.new) (W.handed writer.new) result) }
     ensures read { LiveRead (R.intake reader.old) (R.intake reader.new) result }
 {
@@ -296,7 +299,7 @@ fn answer_text<L: Analysis, R: Source, W: Sink>(
 /// Reads a module, and then a line at a time; answers each as soon as it is there, and hands on what was written before
 /// the next is read. No read is made while a whole line is kept. A line may have as many bytes as a script, and the module
 /// as many as an input; how many lines there are, and how long all of them are, has no limit.
-pub fn answer_live<L: Analysis, R: Source, W: Sink>(
+pub fn answer_live<L: Supplied, R: Source, W: Sink>(
     alloc: Global,
     key: u64,
     options: Options,
@@ -305,7 +308,7 @@ pub fn answer_live<L: Analysis, R: Source, W: Sink>(
     boxes: Vec<L>,
 ) -> Result<u8, Halt>
     ensures ended { IfSome (R.intake reader.old).remaining (λ input. LiveEnded
-        (IsLiveOf options (all_shown L.meaning boxes.items) input) (whole_lines (script_text input))
+        (IsLiveOf (setting_of L.supply options) (all_shown L.meaning boxes.items) input) (whole_lines (script_text input))
         (W.stream writer.old) (W.stream writer.new) (W.handed writer.new) result) }
     ensures read { LiveRead (R.intake reader.old) (R.intake reader.new) result }
 {
@@ -342,20 +345,20 @@ fn exit_status(ended: Result<u8, Halt>) -> u8
 /// ends, where the input and its script are within their limits; and what answers the first of these lines is one of the
 /// input up to them.
 pub fn live_runs_are_whole()
-    ensures all { (options : Way) (boxes : List Shown) (input : List ℕ) (status : ℕ) (out : List ℕ)
+    ensures all { (setting : Setting) (boxes : List Shown) (input : List ℕ) (status : ℕ) (out : List ℕ)
         → length input ≤ most_input_bytes → length (script_text input) ≤ most_script_bytes
-        → IsLive options boxes (module_text input) (whole_lines (script_text input)) status out
-        → IsOutput options boxes input status out }
-    ensures up_to { (options : Way) (boxes : List Shown) (input : List ℕ) (lines : List (List ℕ)) (status : ℕ)
+        → IsLive setting boxes (module_text input) (whole_lines (script_text input)) status out
+        → IsOutput setting boxes input status out }
+    ensures up_to { (setting : Setting) (boxes : List Shown) (input : List ℕ) (lines : List (List ℕ)) (status : ℕ)
         (out : List ℕ) → AreFirst (whole_lines (script_text input)) lines
-        → IsLiveOf options boxes input lines status out → IsWholeUpTo options boxes input lines status out }
+        → IsLiveOf setting boxes input lines status out → IsWholeUpTo setting boxes input lines status out }
 {}
 
 /// Runs as `answer_live` does, and gives the exit status: 0 where all was accepted, 1 where a command or a listener was
 /// refused, 3 where the module was; 4 where a read or a write failed, or a line is too long, or found no memory. All that
 /// answers the lines before that is handed on then, but where a write failed: of that a front is written. Nothing that is
 /// written depends on the key with which names are hashed.
-pub fn run_live<L: Analysis, R: Source, W: Sink>(
+pub fn run_live<L: Supplied, R: Source, W: Sink>(
     alloc: Global,
     key: u64,
     options: Options,
@@ -364,10 +367,10 @@ pub fn run_live<L: Analysis, R: Source, W: Sink>(
     boxes: Vec<L>,
 ) -> u8
     ensures live { IfSome (R.intake reader.old).remaining (λ input. LiveEndedAt
-        (IsLiveOf options (all_shown L.meaning boxes.items) input) (whole_lines (script_text input))
+        (IsLiveOf (setting_of L.supply options) (all_shown L.meaning boxes.items) input) (whole_lines (script_text input))
         (W.stream writer.old) (W.stream writer.new) (W.handed writer.new) result) }
     ensures whole { IfSome (R.intake reader.old).remaining (λ input. LiveEndedAt
-        (IsWholeUpTo options (all_shown L.meaning boxes.items) input) (whole_lines (script_text input))
+        (IsWholeUpTo (setting_of L.supply options) (all_shown L.meaning boxes.items) input) (whole_lines (script_text input))
         (W.stream writer.old) (W.stream writer.new) (W.handed writer.new) result) }
 {
     exit_status(answer_live(alloc, key, options, reader, writer, boxes))

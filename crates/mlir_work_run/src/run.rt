@@ -13,12 +13,11 @@ ghost use Rattle.mlir_work_session.specs.Lines.{lines_of};
 ghost use Rattle.mlir_work_session.specs.Parts.{module_text, script_text};
 ghost use Rattle.mlir_work_session.specs.Reads.{AreMadeAtMost};
 ghost use Rattle.mlir_work_session.specs.Writes.{HandsOn};
-ghost use Rattle.mlir_work_session.specs.Output.{IsSession};
-ghost use Rattle.mlir_work_session.specs.declared.manner.Manner.{Manner as Way};
+ghost use Rattle.mlir_work_session.specs.Output.{IsSession, Way, way_of};
 ghost use Rattle.mlir_work_session.specs.PrintsAlone.{all_print, kinds_apart};
 ghost use Rattle.mlir_work_run.specs.Ends.{EndedSo, HandedOut, HasFailed, HasStatus, Leaves, LeavesAt, ended_of};
 ghost use Rattle.mlir_work_run.specs.Ends.{status_of};
-ghost use Rattle.mlir_work_run.specs.Whole.{IsOutput, IsRefusal, WhyNot, manner_of};
+ghost use Rattle.mlir_work_run.specs.Whole.{IsOutput, IsRefusal, WhyNot, manner_of, setting_of};
 
 use dialects_int::tables::registry;
 use ir_event::analysis::Analysis;
@@ -36,6 +35,7 @@ use mlir_work_session::replies::put_module_refused;
 use mlir_work_session::session::run_session;
 use mlir_work_session::sink::Sink;
 use mlir_work_session::source::Source;
+use mlir_work_session::supplied::Supplied;
 use mlir_work_session::writing::{WriteFault, flush};
 use rewriter_laws::journal_laws::{stores_stay_slotted, stores_stay_tidy};
 use std::alloc::Global;
@@ -211,7 +211,7 @@ fn answer_prints<W: Sink, L: Analysis>(
     requires short { length script.now ≤ most_script_bytes }
     requires prints { all_print (lines_of script.now) ≡ true }
     requires apart { kinds_apart L.meaning boxes.now ≡ true }
-    ensures { (way : Way) (next : ℕ) → way.ends ≡ false → HandedOut
+    ensures { (way : Way) (next : ℕ) → way.manner.ends ≡ false → HandedOut
         (IsSession way (all_shown L.meaning boxes.now)
         (record { tree = meaning ctx.now tree.now; next = next }) script.now)
         (W.stream writer.old) (W.stream writer.new) (W.handed writer.new) result }
@@ -223,7 +223,7 @@ fn answer_prints<W: Sink, L: Analysis>(
 }
 
 /// Makes a world of a tree that was read, and runs a script over it.
-fn answer_script<W: Sink, L: Analysis>(
+fn answer_script<W: Sink, L: Supplied>(
     alloc: Global,
     manner: &Manner,
     world: World,
@@ -233,7 +233,7 @@ fn answer_script<W: Sink, L: Analysis>(
 ) -> Result<u8, WriteFault>
     requires slotted { IsSlotted world.store }
     requires tidy { IsTidy world.store }
-    ensures { HandedOut (IsSession manner.now (all_shown L.meaning boxes.items) (module_in world) script.now)
+    ensures { HandedOut (IsSession (way_of L.supply manner.now) (all_shown L.meaning boxes.items) (module_in world) script.now)
         (W.stream writer.old) (W.stream writer.new) (W.handed writer.new) result }
 {
     match run_session(alloc, manner, world, script, writer, boxes) {
@@ -255,7 +255,7 @@ pub(crate) fn manner_of(options: Options, bytes: usize) -> Manner
 }
 
 /// Runs an input that was read. A script that only prints is answered from the tree, without a world.
-fn answer_input<W: Sink, L: Analysis>(
+fn answer_input<W: Sink, L: Supplied>(
     alloc: Global,
     key: u64,
     options: Options,
@@ -264,7 +264,7 @@ fn answer_input<W: Sink, L: Analysis>(
     boxes: Vec<L>,
 ) -> Result<u8, WriteFault>
     requires { length input.items ≤ most_input_bytes }
-    ensures { HandedOut (IsOutput options (all_shown L.meaning boxes.items) input.items)
+    ensures { HandedOut (IsOutput (setting_of L.supply options) (all_shown L.meaning boxes.items) input.items)
         (W.stream writer.old) (W.stream writer.new) (W.handed writer.new) result }
 {
     let manner = manner_of(options, input.len());
@@ -294,7 +294,7 @@ fn ended(ran: Result<u8, WriteFault>) -> Result<u8, Fault>
 /// After a read fault nothing is written; after a write fault a front of an output is. At most `MAX_READS` reads are
 /// made. A fault is answered only where a read or a write failed, or one more read was wanted. Nothing that is written
 /// depends on the key with which names are hashed.
-pub fn read_and_answer_watched<R: Source, W: Sink, L: Analysis>(
+pub fn read_and_answer_watched<R: Source, W: Sink, L: Supplied>(
     alloc: Global,
     key: u64,
     options: Options,
@@ -303,7 +303,7 @@ pub fn read_and_answer_watched<R: Source, W: Sink, L: Analysis>(
     boxes: Vec<L>,
 ) -> Result<u8, Fault>
     ensures ran { IfSome (R.intake reader.old).remaining (λ input. EndedSo
-        (IsOutput options (all_shown L.meaning boxes.items) input)
+        (IsOutput (setting_of L.supply options) (all_shown L.meaning boxes.items) input)
         (W.stream writer.old).contents (W.stream writer.new).contents result) }
     ensures leaves { Leaves (R.intake reader.old) (R.intake reader.new)
         (W.stream writer.old) (W.stream writer.new) (W.handed writer.new) result }
@@ -326,7 +326,7 @@ pub fn read_and_answer_watched<R: Source, W: Sink, L: Analysis>(
 
 /// Reads the whole input, and then runs it. After a read fault nothing is written; after a write fault a
 /// front of an output is. Nothing that is written depends on the key with which names are hashed.
-pub fn read_and_answer<R: Read, W: Write, L: Analysis>(
+pub fn read_and_answer<R: Read, W: Write, L: Supplied>(
     alloc: Global,
     key: u64,
     options: Options,
@@ -335,7 +335,7 @@ pub fn read_and_answer<R: Read, W: Write, L: Analysis>(
     boxes: Vec<L>,
 ) -> Result<u8, Fault>
     ensures ran { IfSome (R.remaining reader.old) (λ input. EndedSo
-        (IsOutput options (all_shown L.meaning boxes.items) input)
+        (IsOutput (setting_of L.supply options) (all_shown L.meaning boxes.items) input)
         (W.contents writer.old) (W.contents writer.new) result) }
     ensures unread { IfErr result (λ e. e ≡ Fault.Read → Keeps (W.contents writer.old) (W.contents writer.new)) }
 {
@@ -357,7 +357,7 @@ fn exit_status(ended: Result<u8, Fault>) -> u8
 /// failed, or one more read than `MAX_READS` was wanted. After a read fault nothing was written; all is read before the
 /// first byte is written, and all that is written is handed on where the answer isn't 4. Nothing that is written
 /// depends on the key with which names are hashed.
-pub fn run_watched<L: Analysis, R: Source, W: Sink>(
+pub fn run_watched<L: Supplied, R: Source, W: Sink>(
     alloc: Global,
     key: u64,
     options: Options,
@@ -366,7 +366,7 @@ pub fn run_watched<L: Analysis, R: Source, W: Sink>(
     boxes: Vec<L>,
 ) -> u8
     ensures ran { IfSome (R.intake reader.old).remaining (λ input. HasStatus
-        (IsOutput options (all_shown L.meaning boxes.items) input)
+        (IsOutput (setting_of L.supply options) (all_shown L.meaning boxes.items) input)
         (W.stream writer.old).contents (W.stream writer.new).contents result) }
     ensures leaves { LeavesAt (R.intake reader.old) (R.intake reader.new)
         (W.stream writer.old) (W.stream writer.new) (W.handed writer.new) result }
@@ -380,7 +380,7 @@ pub fn run_watched<L: Analysis, R: Source, W: Sink>(
 /// what was read, and the answer is the exit status: 0 where all was accepted, 1 where a command or a box
 /// was refused, 3 where the module was, 4 where a read or a write failed, and then nothing was written, or a
 /// front of an output.
-pub fn run<L: Analysis, R: Read, W: Write>(
+pub fn run<L: Supplied, R: Read, W: Write>(
     alloc: Global,
     options: Options,
     reader: &mut R,
@@ -388,7 +388,7 @@ pub fn run<L: Analysis, R: Read, W: Write>(
     boxes: Vec<L>,
 ) -> u8
     ensures { IfSome (R.remaining reader.old) (λ input. HasStatus
-        (IsOutput options (all_shown L.meaning boxes.items) input)
+        (IsOutput (setting_of L.supply options) (all_shown L.meaning boxes.items) input)
         (W.contents writer.old) (W.contents writer.new) result) }
 {
     run_keyed(alloc, 0, options, reader, writer, boxes)
@@ -396,7 +396,7 @@ pub fn run<L: Analysis, R: Read, W: Write>(
 
 /// Runs as `run` does, but names are hashed with a key that nobody who writes a text knows, so that no text can be
 /// written whose names collide. Nothing that is written depends on it.
-pub fn run_keyed<L: Analysis, R: Read, W: Write>(
+pub fn run_keyed<L: Supplied, R: Read, W: Write>(
     alloc: Global,
     key: u64,
     options: Options,
@@ -405,7 +405,7 @@ pub fn run_keyed<L: Analysis, R: Read, W: Write>(
     boxes: Vec<L>,
 ) -> u8
     ensures { IfSome (R.remaining reader.old) (λ input. HasStatus
-        (IsOutput options (all_shown L.meaning boxes.items) input)
+        (IsOutput (setting_of L.supply options) (all_shown L.meaning boxes.items) input)
         (W.contents writer.old) (W.contents writer.new) result) }
 {
     run_watched(alloc, key, options, reader, writer, boxes)

@@ -43,6 +43,8 @@ not counted.
 
 To look:
   print                      the module
+  print ids                  the module with the number of its operation at the
+                             end of each line, as a comment
   report KIND                the rows of an analysis
 
 To edit:
@@ -63,6 +65,11 @@ To rewrite:
                              the lowest such rule, again and again, until none
                              applies, or `--limit` times
   canon limit N              the same, N times at most
+  rewrite RULES              the same, but only by RULES of 1 to 24, which are
+                             tried in this order at an operation
+  rewrite RULES limit N      the same, N times at most
+  canon only RULES           as `rewrite RULES`
+  canon only RULES limit N   as `rewrite RULES limit N`
   convert MODE CLAUSES       operations that aren't legal for a target are
                              replaced by rules, one after another, and casts
                              between types reconciled, or all stays as it was
@@ -77,11 +84,17 @@ Marks, of which 16 may be open:
   begin                      a mark is made of the module
   commit                     the newest mark is dropped
   rollback                   the module of the newest mark is held again, and
-                             the mark is dropped; a `detach` is not undone
+                             the mark is dropped; a `detach` or an `attach`
+                             is not undone
 
 Analyses, which are all attached at the beginning:
   detach KIND                an analysis is dropped
+  attach KIND                one that was dropped is made anew, and reported last
   resync KIND                an analysis begins again
+
+To say what is to come:
+  expect REFUSAL COMMAND     COMMAND, the rest of the line, is to be refused so:
+                             then the refusal is right, and anything else wrong
 
 Operations are numbered in the order of the text, and the module around them is
 #0; one that is put in takes the next free number, and those inside it the next.
@@ -91,6 +104,8 @@ Operations are numbered in the order of the text, and the module around them is
              block of region R of #N
   OPERATION  one line in generic form; it names values of the module as above
   RULE       the number of a rule, or its word, as 4 or drop-zero
+  RULES      rules with commas and no blanks, as 4,drop-one
+  REFUSAL    the number of a refusal, or its word, as 22 or HasUses
   KEY        a bare identifier or a string literal; it is one of the properties
              where it is inherent to the operation or they have it, else one of
              the attributes
@@ -103,13 +118,15 @@ Operations are numbered in the order of the text, and the module around them is
 
 Each command is replied to by a line that begins with its number: `1 ok`, and
 behind an insert the number of the new operation, as `1 ok #4`; a sweep by how
-many symbols it took, as `1 swept 2`; a `canon` by how many rewrites it made, as
-`1 converged 3`, or `1 limit 3` where a rule still applies; a `convert` by how
-many rules stand, as `1 converted 2`; an `apply` by `1 applied 1`, or
-`1 applied 0` where the rule doesn't apply. What is refused, as
-`1 refused 23 NotVisible`, changes nothing, and the next command is tried;
+many symbols it took, as `1 swept 2`; a `canon` or a `rewrite` by how many
+rewrites it made, as `1 converged 3`, or `1 limit 3` where a rule still applies;
+a `convert` by how many rules stand, as `1 converted 2`; an `apply` by
+`1 applied 1`, or `1 applied 0` where the rule doesn't apply. What is refused,
+as `1 refused 23 NotVisible`, changes nothing, and the next command is tried;
 `1 refused 2 Unexpected at 4` says at which byte the ATTRIBUTE or the OPERATION
 is wrong, and `1 refused 51 NotLegalised #3` for which operation a `convert` is.
+Where a line expects a refusal and something else comes, `1 expected 22 HasUses`
+stands below the reply.
 
 Kinds:
   uses         the uses of each value: the value, the operation that uses it,
@@ -128,9 +145,10 @@ Kinds:
                name
 
 Exit status:
-  0  each command was accepted; also of --help
-  1  a command was refused, or an analysis that was to be attached; what each
-     number means stands in docs/REFUSALS.md
+  0  each command was accepted, or refused as it was expected to be; also of
+     --help
+  1  a command was refused, or not as it was expected to be, or an analysis that
+     was to be attached; what each number means stands in docs/REFUSALS.md
   2  the command line is wrong, or there was no memory to begin
   3  the module was refused, as in `module refused 3 UnknownValue at 9`: the
      number and word of the reason, and the byte where it stands

@@ -1,4 +1,4 @@
--- What a line of a script says.
+-- What a line of a script says, but for the refusal that it may expect.
 use Rattle.std.specs.Prelude.{ℕ, List, [], ◌∷◌, ◌==◌, ◌||◌, Bool, Option, Some, None, if◌then◌else◌, codes, length}
 use Rattle.std.specs.Prelude.{nat_eq}
 use Rattle.std.specs.List.{starts_with}
@@ -13,19 +13,22 @@ use Rattle.mlir_work_script.specs.declared.command.Command.{Command}
 use Rattle.mlir_work_script.specs.declared.command.Command.TheVariants as code
 use Rattle.mlir_work_script.specs.declared.command.Line.{Line}
 use Rattle.mlir_work_script.specs.declared.command.Line.TheVariants as line
+use Rattle.mlir_work_script.specs.Expecting.{command_behind, expected_in}
 use Rattle.mlir_work_script.specs.Keys.{key_bytes, key_in}
 use Rattle.mlir_work_script.specs.Kinds.{kind_of}
 use Rattle.mlir_work_script.specs.Numbers.{number_of}
+use Rattle.mlir_work_script.specs.Orders.{Order, order_in, order_of}
 use Rattle.mlir_work_script.specs.RuleNames.{name_of, rule_in}
 use Rattle.mlir_work_script.specs.Spots.{spot_of, spot_in}
 use Rattle.mlir_work_script.specs.Values.{op_of, value_of}
 use Rattle.mlir_work_script.specs.Words.{trim, word_of, after_word, words_of}
 
--- what a line says: nothing, no command, or a command
+-- what a line says: nothing, no command, a command of the bench, or an order of the session
 pub data Spoken : Type 0 where
   Nothing : Spoken
   Bad : Spoken
   Obey : (said : Said) → Spoken
+  Ordered : (order : Order) → Spoken
 
 -- a command, wherever its text lies in memory
 abbrev pub said_of : Command → Said
@@ -52,6 +55,7 @@ abbrev pub spoken_of : Line → Spoken
 spoken_of line.Nothing = Nothing
 spoken_of line.Bad = Bad
 spoken_of (line.Obey command) = Obey (said_of command)
+spoken_of (line.Ordered order) = Ordered (order_of order)
 
 -- the command, if nothing is left
 abbrev pub alone : List ℕ → Option Said → Option Said
@@ -206,10 +210,19 @@ abbrev pub obey_from : Option Said → Spoken
 obey_from None = Bad
 obey_from (Some said) = Obey said
 
+abbrev pub order_or : Option Order → Option Said → Spoken
+order_or None said = obey_from said
+order_or (Some order) said = Ordered order
+
+-- what a text says that is no comment and not empty, or that stands behind a refusal
+abbrev pub text_says : List ℕ → Spoken
+text_says text = order_or (order_in text) (command_of text)
+
 -- what a trimmed line of UTF-8 says: an empty one and a comment say nothing
 abbrev pub trimmed_says : List ℕ → Spoken
 trimmed_says text =
-    if (length text == 0) || starts_with nat_eq text (codes "//") then Nothing else obey_from (command_of text)
+    if (length text == 0) || starts_with nat_eq text (codes "//") then Nothing
+    else text_says (command_behind (expected_in text) text)
 
 -- what a line says; one that isn't UTF-8 is no command, also where it is a comment
 abbrev pub line_says : List ℕ → Spoken

@@ -10,6 +10,8 @@ pub mod Kinds
 pub mod Spots
 pub mod Keys
 pub mod RuleNames
+pub mod Orders
+pub mod Expecting
 pub mod Commands
 pub mod Writes
 pub mod Limits

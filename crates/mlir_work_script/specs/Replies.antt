@@ -39,6 +39,10 @@ at_offset None = codes "\n"
 abbrev pub refused_at_line : ℕ → Refusal → ℕ → List ℕ
 refused_at_line n refusal offset = decimal n ++ (codes " refused " ++ (text_of refusal ++ at_offset (Some offset)))
 
+-- `1 expected 22 HasUses`, below the reply to a command that was to be refused so and wasn't
+abbrev pub expected_line : ℕ → Refusal → List ℕ
+expected_line n refusal = decimal n ++ (codes " expected " ++ (text_of refusal ++ codes "\n"))
+
 -- `module refused 7 BadValue at 16`, or without an offset
 abbrev pub module_refused_line : Refusal → Option ℕ → List ℕ
 module_refused_line refusal offset = codes "module refused " ++ (text_of refusal ++ at_offset offset)

@@ -1,21 +1,22 @@
 //! The commands of a script.
 ghost use Rattle.std.specs.Prelude.{◌≡◌, Some};
 ghost use Rattle.std.specs.Option.{option_map};
-ghost use Rattle.std.specs.Str.{is_utf8};
 ghost use Rattle.rewriter_machine.specs.Commands as said;
 ghost use Rattle.mlir_work_script.specs.Commands.{said_of, spoken_of, with_kind, set_operand_in, move_in, set_attr_in};
 ghost use Rattle.mlir_work_script.specs.Commands.{drop_attr_in, erase_in, insert_in, replace_in, alone, limit_in};
 ghost use Rattle.mlir_work_script.specs.Commands.{apply_in, canon_in, convert_in, entry_command, mark_command, panel_command};
-ghost use Rattle.mlir_work_script.specs.Commands.{transforming_command, command_of, line_says};
+ghost use Rattle.mlir_work_script.specs.Commands.{transforming_command, command_of, line_says, text_says};
 
 use crate::clauses::{Clauses, clauses_in, mode_named};
+use crate::expect::{command_behind, expected_in};
 use crate::keys::{Key, split_key};
 use crate::kind::{Kind, kind_named};
 use crate::numbers::number;
+use crate::order::{Order, order_in};
 use crate::rule_name::{RuleName, rule_named};
 use crate::spots::{Spot, split_spot};
 use crate::values::{op_named, value_named};
-use crate::words::{split_word, trim};
+use crate::words::{is_text, split_word, trim};
 use ir_event::trees::value::Value;
 use ir_event::types::ids::OpId;
 
@@ -111,14 +112,10 @@ pub enum Line<'a> {
     Nothing,
     /// No command, though it should be one.
     Bad,
-    /// A command.
+    /// A command of the bench.
     Obey(Command<'a>),
-}
-
-fn is_text(line: &[u8]) -> bool
-    ensures { result ≡ is_utf8 line.now }
-{
-    str::from_utf8(line).is_ok()
+    /// An order of the session.
+    Ordered(Order<'a>),
 }
 
 /// `report KIND`, behind its name.
@@ -443,8 +440,22 @@ fn command_in(text: &[u8]) -> Option<Command<'_>>
     entry_command(name, rest)
 }
 
-/// What a line says. Spaces, tabs and carriage returns at its ends don't count; words are separated by
-/// spaces or tabs. A line that isn't UTF-8 is bad, also where it is a comment.
+/// What a text says that is no comment and not empty, or that stands behind a refusal.
+fn read_text(text: &[u8]) -> Line<'_>
+    ensures { spoken_of result ≡ text_says text.now }
+{
+    if let Some(order) = order_in(text) {
+        return Line::Ordered(order);
+    }
+    match command_in(text) {
+        None => Line::Bad,
+        Some(command) => Line::Obey(command),
+    }
+}
+
+/// What a line says, but for the refusal that it may expect (`expect::expected_of`). Spaces, tabs and carriage returns
+/// at its ends don't count; words are separated by spaces or tabs. A line that isn't UTF-8 is bad, also where it is a
+/// comment.
 pub fn read_line(line: &[u8]) -> Line<'_>
     ensures { spoken_of result ≡ line_says line.now }
 {
@@ -455,8 +466,5 @@ pub fn read_line(line: &[u8]) -> Line<'_>
     if text.is_empty() || text.starts_with(b"//") {
         return Line::Nothing;
     }
-    match command_in(text) {
-        None => Line::Bad,
-        Some(command) => Line::Obey(command),
-    }
+    read_text(command_behind(expected_in(text), text))
 }

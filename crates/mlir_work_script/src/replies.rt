@@ -5,7 +5,7 @@ ghost use Rattle.mlir_work_script.specs.Kinds.{kind_word};
 ghost use Rattle.mlir_work_script.specs.Outcomes.{outcome_of};
 ghost use Rattle.mlir_work_script.specs.Replies.{made_line, ok_line, outcome_line, refused_line, refused_at_line};
 ghost use Rattle.mlir_work_script.specs.Replies.{refused_on_line, module_refused_line, attach_refused_line, kind_line};
-ghost use Rattle.mlir_work_script.specs.Replies.{stale_line, kind_memory_line, module_memory_line};
+ghost use Rattle.mlir_work_script.specs.Replies.{stale_line, kind_memory_line, module_memory_line, expected_line};
 ghost use Rattle.mlir_work_script.specs.Writes.{Puts};
 
 use crate::kind::{Kind, name_of};
@@ -131,6 +131,25 @@ pub fn put_refused_at<W: Sink>(
             refusal.word().as_bytes(),
             b" at ",
             place.format(offset).as_bytes(),
+            b"\n",
+        ],
+    )
+}
+
+/// Writes that a command was to be refused so, and wasn't: `1 expected 22 HasUses`.
+pub fn put_expected<W: Sink>(writer: &mut W, n: u64, refusal: Refusal) -> Result<(), WriteFault>
+    ensures { Puts (W.stream writer.old) (W.stream writer.new) (expected_line n refusal) result }
+{
+    let mut command = Buffer::new();
+    let mut number = Buffer::new();
+    put_all(
+        writer,
+        &[
+            command.format(n).as_bytes(),
+            b" expected ",
+            number.format(refusal.number()).as_bytes(),
+            b" ",
+            refusal.word().as_bytes(),
             b"\n",
         ],
     )

@@ -1,7 +1,8 @@
-//! How a command names a rule.
+//! How a command names a rule, and a list of rules.
 ghost use Rattle.std.specs.Prelude.{◌≡◌, option_map};
-ghost use Rattle.mlir_work_script.specs.RuleNames.{name_of, numbered, rule_in};
+ghost use Rattle.mlir_work_script.specs.RuleNames.{are_tried, is_tried, name_of, name_or_none, numbered, rule_in};
 
+use crate::items::split_item;
 use crate::numbers::number;
 
 /// A rule of a command, by its number or by its word.
@@ -35,4 +36,40 @@ pub fn rule_named(word: &[u8]) -> Option<RuleName<'_>>
         return Some(RuleName::Worded(word));
     }
     numbered(number(word)?)
+}
+
+/// The name that an item of a list of rules is. One that is none is as the word that no rule has.
+pub fn name_in(item: &[u8]) -> RuleName<'_>
+    ensures { name_of result ≡ name_or_none (rule_in item.now) }
+{
+    match rule_named(item) {
+        Some(name) => name,
+        None => RuleName::Worded(b""),
+    }
+}
+
+/// Whether an item of a list names a rule that rewriting may try: the numbers 25 to 30 are those of conversion.
+fn is_tried(item: &[u8]) -> bool
+    ensures { result ≡ is_tried item.now }
+{
+    match rule_named(item) {
+        Some(RuleName::Numbered(number)) => number <= 24,
+        Some(RuleName::Worded(_)) => true,
+        None => false,
+    }
+}
+
+/// Whether each item of a list does.
+pub(crate) fn are_tried(text: &[u8]) -> bool
+    ensures { result ≡ are_tried text.now }
+{
+    let mut rest = Some(text);
+    'items: while let Some(items) = rest {
+        let (item, behind) = split_item(items);
+        if !is_tried(item) {
+            return false;
+        }
+        rest = behind;
+    }
+    true
 }

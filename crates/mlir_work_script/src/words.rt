@@ -1,5 +1,6 @@
 //! The words of a line.
 ghost use Rattle.std.specs.Prelude.{◌≡◌, position};
+ghost use Rattle.std.specs.Str.{is_utf8};
 ghost use Rattle.mlir_work_script.specs.Words.{is_blank, is_edge, trim_front, trim_back, trim, skip_blanks, word_of};
 ghost use Rattle.mlir_work_script.specs.Words.{after_word};
 
@@ -79,4 +80,11 @@ pub fn split_word(text: &[u8]) -> (&[u8], &[u8])
         Some(end) => (&text[..end], skip_blanks(&text[end + 1..])),
         None => (text, &[]),
     }
+}
+
+/// Whether a line is UTF-8.
+pub(crate) fn is_text(line: &[u8]) -> bool
+    ensures { result ≡ is_utf8 line.now }
+{
+    str::from_utf8(line).is_ok()
 }

@@ -2,13 +2,13 @@ pub mod Placed
 pub mod Panels
 pub mod Reading
 pub mod Obeying
+pub mod Fulfilling
 pub mod Room
 pub mod Listings
 pub mod Runs
 pub mod Attaching
 pub mod Sessions
 pub mod Printing
-pub mod RowWalks
 pub mod Wider
 pub use Rattle.mlir_work_script.proofs.Dividing
 pub use Rattle.mlir_work_script.proofs.Joins

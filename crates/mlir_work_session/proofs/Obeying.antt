@@ -28,7 +28,7 @@ use Rattle.mlir_work_transforms.specs.Rule.{Rule}
 use Rattle.mlir_work_transforms.specs.Sweep.{sweeping}
 use Rattle.mlir_work_session.specs.declared.manner.Manner.{Manner}
 use Rattle.mlir_work_session.specs.Machine.{AsksIn, Obeys, limit_or, shows_text}
-use Rattle.mlir_work_session.specs.RowText.{rows_text}
+use Rattle.mlir_work_session_base.specs.RowText.{rows_text}
 use Rattle.mlir_work_session.proofs.Panels.{all_stay, find_shown}
 
 module _ (manner : Manner) where
@@ -98,7 +98,7 @@ module _ (manner : Manner) where
 
   -- ---- each command has an answer
 
-  abbrev Some_goes : State → Call → Type 0
+  abbrev pub Some_goes : State → Call → Type 0
   Some_goes s c = (reply : Reply) × (shows : Shows) × (t : State) × Goes s c reply shows t
 
   abbrev goes_as : (s : State) (a : Answer) → List Shown → State
@@ -116,7 +116,7 @@ module _ (manner : Manner) where
       let there : has_kind kind s.panel ≡ true = ap is_some e in
       (Done, Nothing, record s { panel = remove s.panel place }, record { answer = inl (rw there refl); panel = record { place = place; is = e; rest = refl } })
 
-  some_goes : (s : State) (c : Call) → Some_goes s c
+  pub some_goes : (s : State) (c : Call) → Some_goes s c
   some_goes s (Do e) = let a = due s (Do e) in (a.reply, a.shows, goes_as s a s.panel, record { answer = inl refl; panel = all_stay s.panel })
   some_goes s (call.Change f) = (Refused Memory, Nothing, s, record { answer = inr (refl, inl refl); panel = all_stay s.panel })
   some_goes s call.Mark = (Refused Memory, Nothing, s, record { answer = inr (refl, refl); panel = refl })

@@ -28,7 +28,8 @@ use Rattle.mlir_work_transforms.specs.rewriter.Held.{Held, module_held, open_mar
 use Rattle.mlir_work_transforms.specs.rewriter.Moves.{Grown as DeskGrown}
 use Rattle.mlir_work_transforms.specs.rewriter.Benched.{Benched, IsKept, Led, state_of}
 use Rattle.mlir_work_session.specs.Texts.{Grown, NotRead}
-use Rattle.mlir_work_session.specs.RowText.{rows_text}
+use Rattle.mlir_work_session_base.specs.IdsText.{ids_text}
+use Rattle.mlir_work_session_base.specs.RowText.{rows_text}
 use Rattle.mlir_work_session.specs.Output.{IsModule, AreKinds, IsListing}
 use Rattle.ir_event.specs.Panels.{AllKept}
 use Rattle.mlir_work_session.proofs.Placed.{spot_beside}
@@ -41,6 +42,9 @@ module_seen h w ctx store = λ i. module_meaning (ctx i) (store i).module_of
 
 pub held_text : (h : Held) (w : World) → w.ctx ≡ h.ctx → w.store ≡ h.store → (bytes : List ℕ) → bytes ≡ text_of (module_in w).tree → bytes ≡ text_of (module_held h).tree
 held_text h w ctx store bytes is = is ∙ ap (λ m. text_of m.tree) (module_seen h w ctx store)
+
+pub held_ids : (h : Held) (w : World) → w.ctx ≡ h.ctx → w.store ≡ h.store → (bytes : List ℕ) → bytes ≡ ids_text (module_in w).tree → bytes ≡ ids_text (module_held h).tree
+held_ids h w ctx store bytes is = is ∙ ap (λ m. ids_text m.tree) (module_seen h w ctx store)
 
 pub sound_holds : (c d : Things) → d ≡ c → IsSound d → Holds c
 sound_holds c d same sound = subst Holds same sound.holds

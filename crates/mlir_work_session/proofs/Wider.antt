@@ -7,23 +7,24 @@ use Rattle.mlir_work_transforms.specs.rewriter.Commands as command
 use Rattle.mlir_work_transforms.specs.rewriter.Commands.{Asked, Ask, CanFill, Command, IsAttrRefusal, IsOpRefusal, Misplaced, Response, TextRefused, Unread}
 use Rattle.mlir_work_transforms.specs.rewriter.Machine.{State}
 use Rattle.mlir_work_transforms.specs.rewriter.Texts.{SpellsBeside}
-use Rattle.mlir_work_script.specs.Commands.{Spoken, Nothing, Bad, Obey}
-use Rattle.mlir_work_session.specs.Machine.{AsksIn}
-use Rattle.mlir_work_session.specs.Output.{Line, Manner, Replied, Replies}
+use Rattle.mlir_work_script.specs.Commands.{Spoken, Nothing, Bad, Obey, Ordered}
+use Rattle.mlir_work_script.specs.Orders.{Attach, Order, PrintIds, Rewrite}
+use Rattle.mlir_work_session.specs.Machine.{AsksIn, OrdersIn}
+use Rattle.mlir_work_session.specs.Output.{Line, Way, way_of, Replied, Replies}
 
-module _ (manner : Manner) (bytes : ℕ) (longer : manner.bytes ≤ bytes) where
-  abbrev pub wider : Manner
-  wider = record manner { bytes = bytes }
+module _ (way : Way) (bytes : ℕ) (longer : way.manner.bytes ≤ bytes) where
+  abbrev pub wider : Way
+  wider = way_of way.supply (record way.manner { bytes = bytes })
 
-  fills : CanFill manner.bytes → CanFill bytes
+  fills : CanFill way.manner.bytes → CanFill bytes
   fills h = omega (arith, h, longer)
 
-  text_wider : {X : Type 0} (IsRefusal : Refusal → Option ℕ → Type 0) (Spelled : X → Type 0) (refusal : Refusal) (offset : Option ℕ) → TextRefused manner.bytes IsRefusal Spelled refusal offset → TextRefused bytes IsRefusal Spelled refusal offset
+  text_wider : {X : Type 0} (IsRefusal : Refusal → Option ℕ → Type 0) (Spelled : X → Type 0) (refusal : Refusal) (offset : Option ℕ) → TextRefused way.manner.bytes IsRefusal Spelled refusal offset → TextRefused bytes IsRefusal Spelled refusal offset
   text_wider IsRefusal Spelled refusal offset (is, inl none) = (is, inl none)
   text_wider IsRefusal Spelled refusal offset (is, inr (inl (many, h))) = (is, inr (inl (many, fills h)))
   text_wider IsRefusal Spelled refusal offset (is, inr (inr memory)) = (is, inr (inr memory))
 
-  asks_wider : (c : Command) (m : Module) (asked : Asked) → AsksIn manner c m asked → AsksIn wider c m asked
+  asks_wider : (c : Command) (m : Module) (asked : Asked) → AsksIn way.manner c m asked → AsksIn wider.manner c m asked
   asks_wider (command.Erase x) m asked h = h
   asks_wider (command.Move x spot) m asked h = h
   asks_wider (command.Insert spot text) m (Ask call) h = h
@@ -47,14 +48,20 @@ module _ (manner : Manner) (bytes : ℕ) (longer : manner.bytes ≤ bytes) where
   asks_wider (command.Report kind) m asked h = h
   asks_wider command.Print m asked h = h
 
-  replies_wider : (s : State) (spoken : Spoken) (response : Response) (shows : List ℕ) (t : State) → Replies manner s spoken response shows t → Replies wider s spoken response shows t
+  orders_wider : (order : Order) (asked : Asked) → OrdersIn way order asked → OrdersIn wider order asked
+  orders_wider (Attach kind) asked h = h
+  orders_wider PrintIds asked h = h
+  orders_wider (Rewrite names limit) asked h = h
+
+  replies_wider : (s : State) (spoken : Spoken) (response : Response) (shows : List ℕ) (t : State) → Replies way s spoken response shows t → Replies wider s spoken response shows t
   replies_wider s Nothing response shows t h = absurd h
   replies_wider s Bad response shows t h = h
+  replies_wider s (Ordered order) response shows t h = record { asked = h.asked; shows = h.shows; asks = orders_wider order h.asked h.asks; follows = h.follows; text = h.text }
   replies_wider s (Obey said) response shows t h = record { asked = h.asked; shows = h.shows; asks = asks_wider said s.held h.asked h.asks; follows = h.follows; text = h.text }
 
   module _ (Rest More : ℕ → State → ℕ → List ℕ → Type 0) (goes_on : (m : ℕ) (t : State) (st : ℕ) (o : List ℕ) → Rest m t st o → More m t st o) where
-    replied_wider : (n : ℕ) (s : State) (spoken : Spoken) (status : ℕ) (out : List ℕ) → Replied Rest manner n s spoken status out → Replied More wider n s spoken status out
-    replied_wider n s spoken status out h = record {
+    replied_wider : (n : ℕ) (s : State) (expected : Option Refusal) (spoken : Spoken) (status : ℕ) (out : List ℕ) → Replied Rest way n s expected spoken status out → Replied More wider n s expected spoken status out
+    replied_wider n s expected spoken status out h = record {
       response = h.response;
       shows = h.shows;
       after = h.after;
@@ -69,7 +76,8 @@ module _ (manner : Manner) (bytes : ℕ) (longer : manner.bytes ≤ bytes) where
       out_is = h.out_is;
     }
 
-    pub line_wider : (n : ℕ) (s : State) (spoken : Spoken) (status : ℕ) (out : List ℕ) → Line Rest manner n s spoken status out → Line More wider n s spoken status out
-    line_wider n s Nothing status out h = goes_on n s status out h
-    line_wider n s Bad status out h = replied_wider n s Bad status out h
-    line_wider n s (Obey said) status out h = replied_wider n s (Obey said) status out h
+    pub line_wider : (n : ℕ) (s : State) (expected : Option Refusal) (spoken : Spoken) (status : ℕ) (out : List ℕ) → Line Rest way n s expected spoken status out → Line More wider n s expected spoken status out
+    line_wider n s expected Nothing status out h = goes_on n s status out h
+    line_wider n s expected Bad status out h = replied_wider n s expected Bad status out h
+    line_wider n s expected (Obey said) status out h = replied_wider n s expected (Obey said) status out h
+    line_wider n s expected (Ordered order) status out h = replied_wider n s expected (Ordered order) status out h

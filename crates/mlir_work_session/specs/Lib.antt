@@ -1,10 +1,11 @@
-pub mod RowText
 pub mod Texts
 pub mod Machine
 pub mod Output
 pub mod Ran
 pub mod PrintsAlone
 pub use Rattle.mlir_work_script.specs.Commands
+pub use Rattle.mlir_work_script.specs.Expecting
+pub use Rattle.mlir_work_script.specs.Orders
 pub use Rattle.mlir_work_script.specs.Limits
 pub use Rattle.mlir_work_script.specs.Lines
 pub use Rattle.mlir_work_script.specs.Parts

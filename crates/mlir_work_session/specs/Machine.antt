@@ -1,20 +1,26 @@
--- What a command makes of a bench: as the machine has it, and the bytes that are shown.
+-- What a command or an order makes of a bench: as the machine has it, and the bytes that are shown.
 use Rattle.std.specs.Prelude.{◌≡◌, ℕ, List, [], Option, Some, None, ⊤}
+use Rattle.ir_event.specs.types.declared.refusal.Refusal.TheVariants.{NoSuchKind}
 use Rattle.ir_event.specs.Modules.{Module}
 use Rattle.ir_text.specs.Printing.{text_of}
 use Rattle.ir_text.specs.Public.{SpellsAttr}
 use Rattle.mlir_work_transforms.specs.rewriter.Texts.{SpellsBeside}
-use Rattle.mlir_work_transforms.specs.rewriter.Commands.{Apply, Canon, Command, Convert, Asked}
-use Rattle.mlir_work_transforms.specs.rewriter.Commands.{Asks, Response, Replied, TextRefusedAt, Follows}
+use Rattle.mlir_work_transforms.specs.rewriter.Commands.{AppliesRule, Apply, Canon, Command, Convert, Asked}
+use Rattle.mlir_work_transforms.specs.rewriter.Commands.{Ask, Asks, Misplaced, Response, Replied, TextRefusedAt, Follows}
 use Rattle.mlir_work_transforms.specs.rewriter.Machine.{Done, DoneAs, DoneWith, IsFullSo, Refused, RefusedOn}
 use Rattle.mlir_work_transforms.specs.rewriter.Machine.{Reply as Answered, Shows, Nothing, Rows, Transformation, Tree}
+use Rattle.mlir_work_transforms.specs.rewriter.Machine as call
+use Rattle.mlir_work_transforms.specs.rewriter.Panels.{Shown}
 pub use Rattle.mlir_work_transforms.specs.rewriter.Machine.{State}
+use Rattle.mlir_work_script.specs.Orders.{Attach, Order, PrintIds, Rewrite}
 use Rattle.mlir_work_script.specs.Outcomes.{outcome_of}
 use Rattle.greedy.specs.Changes.{canonicalizing}
 use Rattle.mlir_work_transforms.specs.Converting.{conversion}
 use Rattle.mlir_work_transforms.specs.Applying.{application}
+use Rattle.mlir_work_transforms.specs.Rewriting.{rewriting_named}
 use Rattle.mlir_work_transforms.specs.Sweep.{sweeping}
-use Rattle.mlir_work_session.specs.RowText.{rows_text}
+use Rattle.mlir_work_session_base.specs.IdsText.{ids_text}
+use Rattle.mlir_work_session_base.specs.RowText.{rows_text}
 use Rattle.mlir_work_session.specs.declared.manner.Manner.{Manner}
 use Rattle.mlir_work_session.specs.declared.reply.Reply.{Reply}
 use Rattle.mlir_work_session.specs.declared.reply.Reply.TheVariants as code
@@ -51,6 +57,43 @@ pub record Obeys (manner : Manner) (s : State) (command : Command) (response : R
   pub follows : Follows s asked response shows t
   pub text : bytes ≡ shows_text shows
 
+-- ---- orders
+
+-- how a script is run: its manner, and what is seen of an analysis of a kind that is made anew, where there is one
+pub record Way : Type 0 where
+  pub manner : Manner
+  pub supply : ℕ → Option Shown
+
+abbrev pub way_of : (ℕ → Option Shown) → Manner → Way
+way_of supply manner = record { manner = manner; supply = supply }
+
+-- an analysis is attached, where there is one of the kind; else that is refused as where none is attached
+abbrev pub AttachesKind : Option Shown → Asked → Type 0
+AttachesKind None asked = asked ≡ Misplaced NoSuchKind
+AttachesKind (Some a) asked = asked ≡ Ask (call.Attach a)
+
+-- what an order comes to
+abbrev pub OrdersIn : Way → Order → Asked → Type 0
+OrdersIn way (Attach kind) asked = AttachesKind (way.supply kind) asked
+OrdersIn way PrintIds asked = asked ≡ Ask call.Print
+OrdersIn way (Rewrite names limit) asked = AppliesRule (rewriting_named names (limit_or way.manner.limit limit)) asked
+
+-- the bytes that are shown below the reply to one: a module stands with the ids of its operations
+abbrev pub order_shows : Shows → List ℕ
+order_shows Nothing = []
+order_shows (Rows rows) = rows_text rows
+order_shows (Tree t) = ids_text t
+
+-- from s an order may be answered so, with these bytes below the reply, and lead to t
+pub record Fulfils (way : Way) (s : State) (order : Order) (response : Response) (bytes : List ℕ) (t : State) : Type 0 where
+  pub asked : Asked
+  pub shows : Shows
+  pub asks : OrdersIn way order asked
+  pub follows : Follows s asked response shows t
+  pub text : bytes ≡ order_shows shows
+
+-- ---- room
+
 -- where a command that rewrites is refused with 31, that is due in the module, or `full` is so, which says that the
 -- context is; of other commands 31 is answered only where it is due
 abbrev pub FullSo : Type 0 → State → Transformation → Response → Type 0
@@ -62,3 +105,9 @@ AsksRoom full manner s (Convert target) response = FullSo full s (conversion tar
 AsksRoom full manner s (Apply name x) response =
     (f : Transformation) → application name x ≡ Some f → FullSo full s f response
 AsksRoom full manner s _ response = ⊤
+
+-- and of orders
+abbrev pub OrdersRoom : Type 0 → Way → State → Order → Response → Type 0
+OrdersRoom full way s (Rewrite names limit) response =
+    (f : Transformation) → rewriting_named names (limit_or way.manner.limit limit) ≡ Some f → FullSo full s f response
+OrdersRoom full way s _ response = ⊤

@@ -1,6 +1,7 @@
 -- The output of a script, as a relation: memory may be refused at any command, and a listener may turn stale
 -- where it is told of an edit. All else is determined.
-use Rattle.std.specs.Prelude.{◌≡◌, ℕ, ◌+◌, ◌<◌, ◌≤◌, List, [], ◌∷◌, ◌++◌, length, Bool, true, false, not, ◌&&◌, ◌⊎◌, Option, Some, None, is_none, if◌then◌else◌, codes}
+use Rattle.std.specs.Prelude.{◌≡◌, ℕ, ◌+◌, ◌<◌, ◌≤◌, List, [], ◌∷◌, ◌++◌, length, Bool, true, false, not, ◌==◌, ◌&&◌, ◌⊎◌, Option, Some, None, is_none, if◌then◌else◌, codes}
+use Rattle.ir_event.specs.types.Refusals.{number_of}
 use Rattle.ir_event.specs.types.declared.refusal.Refusal.{Refusal}
 use Rattle.ir_event.specs.types.declared.refusal.Refusal.TheVariants.{BadCommand, KindTaken, Memory}
 use Rattle.ir_event.specs.Modules.{Module}
@@ -11,12 +12,15 @@ use Rattle.mlir_work_transforms.specs.rewriter.Commands.{Command, Report, Print}
 use Rattle.mlir_work_transforms.specs.rewriter.Commands.{Response, Replied as Says, TextRefusedAt}
 use Rattle.mlir_work_transforms.specs.rewriter.Machine.{State, Done, DoneAs, DoneWith, Refused, RefusedOn}
 use Rattle.mlir_work_transforms.specs.rewriter.Panels.{Shown, Attached, has_kind}
-use Rattle.mlir_work_script.specs.Commands.{Spoken, Nothing, Bad, Obey, line_says}
+use Rattle.mlir_work_script.specs.Commands.{Spoken, Nothing, Bad, Obey, Ordered, line_says}
+use Rattle.mlir_work_script.specs.Expecting.{line_expects}
 use Rattle.mlir_work_script.specs.Limits.{most_script_bytes}
 use Rattle.mlir_work_script.specs.Lines.{lines_of}
-use Rattle.mlir_work_script.specs.Replies.{ok_line, made_line, outcome_line, refused_line, refused_on_line, refused_at_line, attach_refused_line, kind_line, stale_line, kind_memory_line, module_memory_line}
-use Rattle.mlir_work_session.specs.RowText.{rows_text}
-use Rattle.mlir_work_session.specs.Machine.{Obeys}
+use Rattle.mlir_work_script.specs.Orders.{Order, PrintIds}
+use Rattle.mlir_work_script.specs.Replies.{expected_line, ok_line, made_line, outcome_line, refused_line, refused_on_line, refused_at_line, attach_refused_line, kind_line, stale_line, kind_memory_line, module_memory_line}
+use Rattle.mlir_work_session_base.specs.RowText.{rows_text}
+use Rattle.mlir_work_session.specs.Machine.{Fulfils, Obeys}
+pub use Rattle.mlir_work_session.specs.Machine.{Way, way_of}
 pub use Rattle.mlir_work_session.specs.declared.manner.Manner.{Manner}
 
 -- ---- replies
@@ -39,7 +43,35 @@ is_accepted (Says (Refused refusal)) = false
 is_accepted (Says (RefusedOn refusal x)) = false
 is_accepted (TextRefusedAt refusal offset) = false
 
--- the status is 1 where something was refused
+-- whether one refusal is another
+abbrev pub same_refusal : Refusal → Refusal → Bool
+same_refusal wanted refusal = number_of wanted == number_of refusal
+
+-- whether the command was refused for this
+abbrev pub is_refused_for : Refusal → Response → Bool
+is_refused_for wanted (Says Done) = false
+is_refused_for wanted (Says (DoneAs x)) = false
+is_refused_for wanted (Says (DoneWith outcome)) = false
+is_refused_for wanted (Says (Refused refusal)) = same_refusal wanted refusal
+is_refused_for wanted (Says (RefusedOn refusal x)) = same_refusal wanted refusal
+is_refused_for wanted (TextRefusedAt refusal offset) = same_refusal wanted refusal
+
+-- whether a response is as the line wants it: the command is refused as it expects, or is accepted, where it expects
+-- nothing
+abbrev pub is_right : Option Refusal → Response → Bool
+is_right None response = is_accepted response
+is_right (Some wanted) response = is_refused_for wanted response
+
+-- below the reply stands what was expected, where something else came
+abbrev pub surprise_line : ℕ → Option Refusal → Response → List ℕ
+surprise_line n None response = []
+surprise_line n (Some wanted) response = if is_refused_for wanted response then [] else expected_line n wanted
+
+-- the reply to command n, of which this was expected
+abbrev pub reply_text : ℕ → Option Refusal → Response → List ℕ
+reply_text n expected response = reply_line n response ++ surprise_line n expected response
+
+-- the status is 1 where something wasn't right
 abbrev pub worse : Bool → ℕ → ℕ
 worse accepted status = if accepted then status else 1
 
@@ -77,6 +109,7 @@ abbrev pub says_nothing : Spoken → Bool
 says_nothing Nothing = true
 says_nothing Bad = false
 says_nothing (Obey command) = false
+says_nothing (Ordered order) = false
 
 -- whether a command asks to be shown something, and so gets no listing
 abbrev pub shows_alone : Command → Bool
@@ -84,20 +117,27 @@ shows_alone (Report kind) = true
 shows_alone Print = true
 shows_alone _ = false
 
+-- and whether an order does
+abbrev pub order_asks : Order → Bool
+order_asks PrintIds = true
+order_asks _ = false
+
 abbrev pub asks : Spoken → Bool
 asks Nothing = false
 asks Bad = false
 asks (Obey command) = shows_alone command
+asks (Ordered order) = order_asks order
 
 -- the reply to a line that isn't nothing
-abbrev pub Replies : Manner → State → Spoken → Response → List ℕ → State → Type 0
-Replies manner s Nothing response shows t = ⊥
-Replies manner s Bad response shows t = (response ≡ Says (Refused BadCommand)) × (shows ≡ []) × (t ≡ s)
-Replies manner s (Obey command) response shows t = Obeys manner s command response shows t
+abbrev pub Replies : Way → State → Spoken → Response → List ℕ → State → Type 0
+Replies way s Nothing response shows t = ⊥
+Replies way s Bad response shows t = (response ≡ Says (Refused BadCommand)) × (shows ≡ []) × (t ≡ s)
+Replies way s (Obey command) response shows t = Obeys way.manner s command response shows t
+Replies way s (Ordered order) response shows t = Fulfils way s order response shows t
 
 -- a reply, what it shows, and a listing where one is due
-abbrev pub IsReplied : Bool → State → ℕ → Response → List ℕ → List ℕ → Type 0
-IsReplied listed t n response shows out = (more : List ℕ) × IsListingIf listed t more × (out ≡ reply_line n response ++ (shows ++ more))
+abbrev pub IsReplied : Bool → State → ℕ → Option Refusal → Response → List ℕ → List ℕ → Type 0
+IsReplied listed t n expected response shows out = (more : List ℕ) × IsListingIf listed t more × (out ≡ reply_text n expected response ++ (shows ++ more))
 
 -- the end of an answer: an empty line, where one is due
 abbrev pub end_of : Bool → List ℕ
@@ -112,54 +152,55 @@ IsEnded ends P out = (text : List ℕ) × P text × (out ≡ text ++ end_of ends
 abbrev pub IsBounded : ℕ → Response → Type 0
 IsBounded bytes response = (refusal : Refusal) (offset : ℕ) → response ≡ TextRefusedAt refusal offset → offset ≤ bytes
 
--- a line is replied to, and the rest follows
-pub record Replied (Rest : ℕ → State → ℕ → List ℕ → Type 0) (manner : Manner) (n : ℕ) (s : State) (spoken : Spoken) (status : ℕ) (out : List ℕ) : Type 0 where
+-- a line is replied to, which expects this, and the rest follows
+pub record Replied (Rest : ℕ → State → ℕ → List ℕ → Type 0) (way : Way) (n : ℕ) (s : State) (expected : Option Refusal) (spoken : Spoken) (status : ℕ) (out : List ℕ) : Type 0 where
   pub response : Response
   pub shows : List ℕ
   pub after : State
   pub text : List ℕ
   pub later : ℕ
   pub rest : List ℕ
-  pub replies : Replies manner s spoken response shows after
-  pub replied : IsEnded manner.ends (IsReplied (not manner.brief && not (asks spoken)) after n response shows) text
-  pub full : IsBounded manner.bytes response
+  pub replies : Replies way s spoken response shows after
+  pub replied : IsEnded way.manner.ends (IsReplied (not way.manner.brief && not (asks spoken)) after n expected response shows) text
+  pub full : IsBounded way.manner.bytes response
   pub goes_on : Rest (n + 1) after later rest
-  pub status_is : status ≡ worse (is_accepted response) later
+  pub status_is : status ≡ worse (is_right expected response) later
   pub out_is : out ≡ text ++ rest
 
-abbrev pub Line : (ℕ → State → ℕ → List ℕ → Type 0) → Manner → ℕ → State → Spoken → ℕ → List ℕ → Type 0
-Line Rest manner n s Nothing status out = Rest n s status out
-Line Rest manner n s Bad status out = Replied Rest manner n s Bad status out
-Line Rest manner n s (Obey command) status out = Replied Rest manner n s (Obey command) status out
+abbrev pub Line : (ℕ → State → ℕ → List ℕ → Type 0) → Way → ℕ → State → Option Refusal → Spoken → ℕ → List ℕ → Type 0
+Line Rest way n s expected Nothing status out = Rest n s status out
+Line Rest way n s expected Bad status out = Replied Rest way n s expected Bad status out
+Line Rest way n s expected (Obey command) status out = Replied Rest way n s expected (Obey command) status out
+Line Rest way n s expected (Ordered order) status out = Replied Rest way n s expected (Ordered order) status out
 
 -- from s, with n the next number, these lines may give this status and this output
-abbrev pub Runs : Manner → ℕ → State → List (List ℕ) → ℕ → List ℕ → Type 0
-Runs manner n s [] status out = (status ≡ 0) × (out ≡ [])
-Runs manner n s (line ∷ lines) status out = Line (λ m t st o. Runs manner m t lines st o) manner n s (line_says line) status out
+abbrev pub Runs : Way → ℕ → State → List (List ℕ) → ℕ → List ℕ → Type 0
+Runs way n s [] status out = (status ≡ 0) × (out ≡ [])
+Runs way n s (line ∷ lines) status out = Line (λ m t st o. Runs way m t lines st o) way n s (line_expects line) (line_says line) status out
 
 -- ---- one line
 
--- a line with the number n is replied to: it is accepted or not, this is written, and the state is then t
-pub record IsToldOf (manner : Manner) (n : ℕ) (s : State) (spoken : Spoken) (t : State) (accepted : Bool) (out : List ℕ) : Type 0 where
+-- a line with the number n is replied to: what came is right or not, this is written, and the state is then t
+pub record IsToldOf (way : Way) (n : ℕ) (s : State) (expected : Option Refusal) (spoken : Spoken) (t : State) (right : Bool) (out : List ℕ) : Type 0 where
   pub response : Response
   pub shows : List ℕ
   pub something : says_nothing spoken ≡ false
-  pub replies : Replies manner s spoken response shows t
-  pub replied : IsEnded manner.ends (IsReplied (not manner.brief && not (asks spoken)) t n response shows) out
-  pub full : IsBounded manner.bytes response
-  pub accepted_is : accepted ≡ is_accepted response
+  pub replies : Replies way s spoken response shows t
+  pub replied : IsEnded way.manner.ends (IsReplied (not way.manner.brief && not (asks spoken)) t n expected response shows) out
+  pub full : IsBounded way.manner.bytes response
+  pub right_is : right ≡ is_right expected response
 
--- one step of the machine: a line says nothing, and nothing is written; or it is replied to, and accepted or not
-abbrev pub IsAnswered : Manner → ℕ → State → Spoken → State → Option Bool → List ℕ → Type 0
-IsAnswered manner n s spoken t None out = (says_nothing spoken ≡ true) × (t ≡ s) × (out ≡ [])
-IsAnswered manner n s spoken t (Some accepted) out = IsToldOf manner n s spoken t accepted out
+-- one step of the machine: a line says nothing, and nothing is written; or it is replied to, and what came is right or not
+abbrev pub IsAnswered : Way → ℕ → State → Option Refusal → Spoken → State → Option Bool → List ℕ → Type 0
+IsAnswered way n s expected spoken t None out = (says_nothing spoken ≡ true) × (t ≡ s) × (out ≡ [])
+IsAnswered way n s expected spoken t (Some right) out = IsToldOf way n s expected spoken t right out
 
 -- the number of the next reply, behind what came of a line
 abbrev pub number_behind : ℕ → Option Bool → ℕ
 number_behind n None = n
 number_behind n (Some accepted) = n + 1
 
--- whether all was accepted, behind what came of a line
+-- whether all was right, behind what came of a line
 abbrev pub accepted_behind : Bool → Option Bool → Bool
 accepted_behind accepted None = accepted
 accepted_behind accepted (Some more) = accepted && more
@@ -197,22 +238,22 @@ pub record Begun (ends : Bool) (boxes : List Shown) (m : Module) (s : State) (ac
   pub out_is : out ≡ front ++ end_of ends
 
 -- boxes are attached to a panel that has none, and then the lines of a script are run
-pub record Session (manner : Manner) (boxes : List Shown) (m : Module) (script : List ℕ) (status : ℕ) (out : List ℕ) : Type 0 where
+pub record Session (way : Way) (boxes : List Shown) (m : Module) (script : List ℕ) (status : ℕ) (out : List ℕ) : Type 0 where
   pub panel : List Shown
   pub accepted : Bool
   pub front : List ℕ
   pub later : ℕ
   pub rest : List ℕ
   pub attached : Attaches boxes [] panel accepted front
-  pub runs : Runs manner 1 (record { held = m; marks = []; panel = panel }) (lines_of script) later rest
+  pub runs : Runs way 1 (record { held = m; marks = []; panel = panel }) (lines_of script) later rest
   pub status_is : status ≡ worse accepted later
-  pub out_is : out ≡ (front ++ end_of manner.ends) ++ rest
+  pub out_is : out ≡ (front ++ end_of way.manner.ends) ++ rest
 
 -- a script that is too long is one command that is none
 abbrev pub IsBadScript : ℕ → List ℕ → Type 0
 IsBadScript status out = (status ≡ 1) × (out ≡ refused_line 1 BadCommand)
 
 -- this status and these bytes are an output of a script over a module, with these boxes
-abbrev pub IsSession : Manner → List Shown → Module → List ℕ → ℕ → List ℕ → Type 0
-IsSession manner boxes m script status out =
-    ((most_script_bytes < length script) × IsBadScript status out) ⊎ ((length script ≤ most_script_bytes) × Session manner boxes m script status out)
+abbrev pub IsSession : Way → List Shown → Module → List ℕ → ℕ → List ℕ → Type 0
+IsSession way boxes m script status out =
+    ((most_script_bytes < length script) × IsBadScript status out) ⊎ ((length script ≤ most_script_bytes) × Session way boxes m script status out)

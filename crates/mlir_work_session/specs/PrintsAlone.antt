@@ -1,5 +1,5 @@
 -- Scripts that only ask for the module, and so need no analysis.
-use Rattle.std.specs.Prelude.{◌≡◌, ℕ, List, [], ◌∷◌, Bool, true, false, not, ◌&&◌, ◌⊎◌}
+use Rattle.std.specs.Prelude.{◌≡◌, ℕ, List, [], ◌∷◌, Bool, true, false, not, ◌&&◌, ◌⊎◌, is_none}
 use Rattle.std.specs.List.{list_all}
 use Rattle.ir_event.specs.types.declared.refusal.Refusal.TheVariants.{Memory}
 use Rattle.ir_event.specs.trees.Meaning.{Operation}
@@ -7,7 +7,8 @@ use Rattle.ir_event.specs.Listener.{Listener}
 use Rattle.ir_event.specs.Panels.{has_kind}
 use Rattle.ir_text.specs.Printing.{text_of}
 use Rattle.mlir_work_transforms.specs.rewriter.Commands.{Command, Print}
-use Rattle.mlir_work_script.specs.Commands.{Spoken, Nothing, Bad, Obey, line_says}
+use Rattle.mlir_work_script.specs.Commands.{Spoken, Nothing, Bad, Obey, Ordered, line_says}
+use Rattle.mlir_work_script.specs.Expecting.{line_expects}
 use Rattle.mlir_work_session.specs.declared.reply.Reply.{Reply}
 use Rattle.mlir_work_session.specs.declared.reply.Reply.TheVariants.{Done, Refused}
 
@@ -21,10 +22,15 @@ abbrev pub prints_alone : Spoken → Bool
 prints_alone Nothing = true
 prints_alone Bad = false
 prints_alone (Obey command) = is_print command
+prints_alone (Ordered order) = false
+
+-- whether a line does, and expects nothing
+abbrev pub line_prints : List ℕ → Bool
+line_prints line = is_none (line_expects line) && prints_alone (line_says line)
 
 -- whether each of some lines does
 abbrev pub all_print : List (List ℕ) → Bool
-all_print lines = list_all (λ line. prints_alone (line_says line)) lines
+all_print lines = list_all line_prints lines
 
 -- whether no two of some listeners have one kind; `B` is a type of listeners, and `meaning` what each of them means
 abbrev pub kinds_apart : {B : Type 0} → (B → Listener) → List B → Bool

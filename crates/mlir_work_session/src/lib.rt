@@ -11,11 +11,11 @@ pub mod manner;
 mod marks;
 pub mod opening;
 mod operations;
+pub mod orders;
 mod places;
 pub mod prints;
 pub mod reply;
 mod replying;
-mod rows;
 pub mod script;
 pub mod session;
 pub mod shows;
@@ -26,7 +26,8 @@ mod unread;
 pub use greedy;
 pub use ir_text::reader;
 pub use mlir_work_script::{
-    cells, clauses, command, input, items, keys, kind, lines, numbers, outcome, replies, rule_name,
-    sink, source, spots, values, watched, words, writing,
+    cells, clauses, command, expect, input, items, keys, kind, lines, numbers, order, outcome,
+    replies, rule_name, sink, source, spots, values, watched, words, writing,
 };
+pub use mlir_work_session_base::supplied;
 pub use mlir_work_transforms::rewriter::Bench;

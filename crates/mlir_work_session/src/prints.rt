@@ -9,7 +9,7 @@ ghost use Rattle.mlir_work_script.specs.Writes.{Puts};
 ghost use Rattle.mlir_work_script.specs.Limits.{most_script_bytes};
 ghost use Rattle.mlir_work_transforms.specs.rewriter.Panels.{Shown, all_shown};
 ghost use Rattle.mlir_work_session.specs.Machine.{response_of};
-ghost use Rattle.mlir_work_session.specs.Output.{IsSession, Manner, Runs, reply_line};
+ghost use Rattle.mlir_work_session.specs.Output.{IsSession, Runs, Way, reply_line};
 ghost use Rattle.mlir_work_session.specs.PrintsAlone.{IsPrinted, all_print, is_print, kinds_apart, prints_alone};
 ghost use Rattle.mlir_work_session.specs.Ran.{RanOut};
 
@@ -23,6 +23,7 @@ use ir_event::types::context::Context;
 use ir_event::types::refusal::Refusal;
 use ir_text::printer::print;
 use mlir_work_script::command::{Command, Line, read_line};
+use mlir_work_script::expect::expected_of;
 use mlir_work_script::lines::split_line;
 use mlir_work_script::sink::Sink;
 use mlir_work_script::writing::{WriteFault, put};
@@ -38,7 +39,7 @@ fn is_print(command: &Command<'_>) -> bool
     }
 }
 
-/// Whether a line says nothing, or asks for the module.
+/// Whether what a line says is nothing, or asks for the module.
 fn prints(line: &Line<'_>) -> bool
     ensures { result ≡ prints_alone (spoken_of line.now) }
 {
@@ -46,6 +47,7 @@ fn prints(line: &Line<'_>) -> bool
         Line::Nothing => true,
         Line::Bad => false,
         Line::Obey(command) => is_print(command),
+        Line::Ordered(_) => false,
     }
 }
 
@@ -81,13 +83,17 @@ fn kinds_differ<L: Analysis>(listeners: &[L]) -> bool
     true
 }
 
-/// Whether each line of a script says nothing, or asks for the module, and no two of some listeners have one kind.
+/// Whether each line of a script says nothing, or asks for the module and expects nothing, and no two of some listeners
+/// have one kind.
 pub fn only_prints<L: Analysis>(script: &[u8], listeners: &[L]) -> bool
     ensures { result ≡ (all_print (lines_of script.now) && kinds_apart L.meaning listeners.now) }
 {
     let mut text = script;
     while !text.is_empty() {
         let (first, rest) = split_line(text);
+        if expected_of(first).is_some() {
+            return false;
+        }
         let line = read_line(first);
         if !prints(&line) {
             return false;
@@ -134,7 +140,7 @@ fn print_lines<W: Sink>(
 ) -> Result<u8, WriteFault>
     requires known { IsTrue (is_known ctx.now tree.now) }
     requires prints { all_print (lines_of script.now) ≡ true }
-    ensures { (manner : Manner) (next : ℕ) (panel : List Shown) → manner.ends ≡ false → RanOut (Runs manner 1 (record { held = record { tree = meaning ctx.now tree.now; next = next }; marks = []; panel = panel }) (lines_of script.now)) (W.stream writer.old) (W.stream writer.new) result }
+    ensures { (way : Way) (next : ℕ) (panel : List Shown) → way.manner.ends ≡ false → RanOut (Runs way 1 (record { held = record { tree = meaning ctx.now tree.now; next = next }; marks = []; panel = panel }) (lines_of script.now)) (W.stream writer.old) (W.stream writer.new) result }
 {
     let mut text = script;
     let mut n = 1u64;
@@ -171,7 +177,7 @@ pub fn print_session<L: Analysis, W: Sink>(
     requires short { length script.now ≤ most_script_bytes }
     requires prints { all_print (lines_of script.now) ≡ true }
     requires apart { kinds_apart L.meaning boxes.now ≡ true }
-    ensures { (manner : Manner) (next : ℕ) → manner.ends ≡ false → RanOut (IsSession manner (all_shown L.meaning boxes.now) (record { tree = meaning ctx.now tree.now; next = next }) script.now) (W.stream writer.old) (W.stream writer.new) result }
+    ensures { (way : Way) (next : ℕ) → way.manner.ends ≡ false → RanOut (IsSession way (all_shown L.meaning boxes.now) (record { tree = meaning ctx.now tree.now; next = next }) script.now) (W.stream writer.old) (W.stream writer.new) result }
 {
     print_lines(alloc, ctx, tree, script, writer)
 }

@@ -1,7 +1,7 @@
 //! Replies to commands.
 ghost use Rattle.std.specs.Prelude.{◌≡◌};
 ghost use Rattle.mlir_work_session.specs.Machine.{response_of};
-ghost use Rattle.mlir_work_session.specs.Output.{is_accepted as accepts};
+ghost use Rattle.mlir_work_session.specs.Output.{is_accepted as accepts, is_refused_for as refuses_for, same_refusal};
 
 use ir_event::types::ids::OpId;
 use ir_event::types::refusal::Refusal;
@@ -24,6 +24,13 @@ pub enum Reply {
     RefusedAt(Refusal, usize),
 }
 
+/// Whether one refusal is another.
+fn is_same(expected: Refusal, refusal: Refusal) -> bool
+    ensures { result ≡ same_refusal expected refusal }
+{
+    expected.number() == refusal.number()
+}
+
 impl Reply {
     /// Whether the command was accepted.
     pub fn is_accepted(self) -> bool
@@ -36,6 +43,20 @@ impl Reply {
             Reply::Refused(_) => false,
             Reply::RefusedOn(_, _) => false,
             Reply::RefusedAt(_, _) => false,
+        }
+    }
+
+    /// Whether the command was refused for this.
+    pub fn is_refused_for(self, expected: Refusal) -> bool
+        ensures { result ≡ refuses_for expected (response_of self) }
+    {
+        match self {
+            Reply::Done => false,
+            Reply::DoneAs(_) => false,
+            Reply::DoneWith(_) => false,
+            Reply::Refused(refusal) => is_same(expected, refusal),
+            Reply::RefusedOn(refusal, _) => is_same(expected, refusal),
+            Reply::RefusedAt(refusal, _) => is_same(expected, refusal),
         }
     }
 }

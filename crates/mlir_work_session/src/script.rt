@@ -1,29 +1,36 @@
 //! Scripts, over a module and its listeners.
 ghost use Rattle.std.specs.Prelude.{◌≡◌, ◌+◌, ◌<◌, ◌^◌, false, ◌&&◌, not};
 ghost use Rattle.mlir_work_script.specs.Commands.{line_says, said_of, spoken_of};
+ghost use Rattle.mlir_work_script.specs.Expecting.{line_expects};
 ghost use Rattle.mlir_work_script.specs.Lines.{lines_of};
+ghost use Rattle.mlir_work_script.specs.Orders.{order_of};
 ghost use Rattle.mlir_work_script.specs.Writes.{Puts, PutsSome};
 ghost use Rattle.mlir_work_transforms.specs.rewriter.Benched.{IsKept, state_of};
-ghost use Rattle.mlir_work_session.specs.Machine.{response_of};
+ghost use Rattle.mlir_work_session.specs.Machine.{response_of, way_of};
 ghost use Rattle.mlir_work_session.specs.Output.{IsAnswered, IsBounded, IsReplied, Replies, Runs, accepted_behind as still_accepted, asks as asks_to};
-ghost use Rattle.mlir_work_session.specs.Output.{end_of, number_behind as next_number, says_nothing, shows_alone, reply_line};
+ghost use Rattle.mlir_work_session.specs.Output.{end_of, number_behind as next_number, order_asks, says_nothing, shows_alone, reply_line};
+ghost use Rattle.mlir_work_session.specs.Output.{is_right, reply_text, surprise_line};
 ghost use Rattle.mlir_work_session.specs.Ran.{RanOut};
 
 use crate::commands::obey;
 use crate::listing::put_listing;
 use crate::manner::Manner;
+use crate::orders::fulfil;
 use crate::reply::Reply;
 use crate::shows::Answered;
 use crate::unread::reply_within;
 use ir_event::analysis::Analysis;
 use ir_event::types::refusal::Refusal;
 use mlir_work_script::command::{Command, Line, read_line};
+use mlir_work_script::expect::expected_of;
 use mlir_work_script::lines::split_line;
+use mlir_work_script::order::Order;
 use mlir_work_script::replies::{
-    put_made, put_ok, put_outcome, put_refused, put_refused_at, put_refused_on,
+    put_expected, put_made, put_ok, put_outcome, put_refused, put_refused_at, put_refused_on,
 };
 use mlir_work_script::sink::Sink;
 use mlir_work_script::writing::{WriteFault, put};
+use mlir_work_session_base::supplied::Supplied;
 use mlir_work_transforms::rewriter::Bench;
 use std::alloc::Global;
 
@@ -38,6 +45,16 @@ fn shows_alone(command: &Command<'_>) -> bool
     }
 }
 
+/// Whether an order asks to be shown something.
+fn order_asks(order: &Order<'_>) -> bool
+    ensures { result ≡ order_asks (order_of order.now) }
+{
+    match order {
+        Order::PrintIds => true,
+        _ => false,
+    }
+}
+
 /// Whether a line asks to be shown something.
 fn asks(line: &Line<'_>) -> bool
     ensures { result ≡ asks_to (spoken_of line.now) }
@@ -46,6 +63,7 @@ fn asks(line: &Line<'_>) -> bool
         Line::Nothing => false,
         Line::Bad => false,
         Line::Obey(command) => shows_alone(command),
+        Line::Ordered(order) => order_asks(order),
     }
 }
 
@@ -57,6 +75,7 @@ pub fn is_nothing(line: &Line<'_>) -> bool
         Line::Nothing => true,
         Line::Bad => false,
         Line::Obey(_) => false,
+        Line::Ordered(_) => false,
     }
 }
 
@@ -73,7 +92,7 @@ pub(crate) fn both(a: bool, b: bool) -> bool
 }
 
 /// What a line that isn't nothing is answered, in a script that is run so.
-pub fn answer<L: Analysis>(
+pub fn answer<L: Supplied>(
     alloc: Global,
     manner: &Manner,
     bench: &mut Bench<L>,
@@ -81,7 +100,7 @@ pub fn answer<L: Analysis>(
 ) -> Answered
     requires kept { IsKept L.meaning bench.old }
     requires something { says_nothing (spoken_of line.now) ≡ false }
-    ensures replies { Replies manner.now (state_of L.meaning bench.old) (spoken_of line.now) (response_of result.reply) result.shows.items (state_of L.meaning bench.new) }
+    ensures replies { Replies (way_of L.supply manner.now) (state_of L.meaning bench.old) (spoken_of line.now) (response_of result.reply) result.shows.items (state_of L.meaning bench.new) }
     ensures bounded { IsBounded manner.now.bytes (response_of result.reply) }
     ensures kept { IsKept L.meaning bench.new }
 {
@@ -93,6 +112,7 @@ pub fn answer<L: Analysis>(
                 shows: answered.shows,
             }
         }
+        Line::Ordered(order) => fulfil(alloc, manner, bench, order),
         Line::Nothing | Line::Bad => Answered {
             reply: Reply::Refused(Refusal::BadCommand),
             shows: Vec::new(alloc),
@@ -114,19 +134,63 @@ pub(crate) fn put_reply<W: Sink>(writer: &mut W, n: u64, reply: Reply) -> Result
     }
 }
 
+/// Writes what was expected, where something else came.
+fn put_surprise<W: Sink>(
+    writer: &mut W,
+    n: u64,
+    expected: &Option<Refusal>,
+    reply: &Reply,
+) -> Result<(), WriteFault>
+    ensures { Puts (W.stream writer.old) (W.stream writer.new) (surprise_line n expected.now (response_of reply.now)) result }
+{
+    let Some(refusal) = *expected else {
+        return Ok(());
+    };
+    if reply.is_refused_for(refusal) {
+        return Ok(());
+    }
+    put_expected(writer, n, refusal)
+}
+
+/// Writes the line of a reply, and below it what was expected, where something else came.
+fn put_reply_text<W: Sink>(
+    writer: &mut W,
+    n: u64,
+    expected: &Option<Refusal>,
+    reply: &Reply,
+) -> Result<(), WriteFault>
+    ensures { Puts (W.stream writer.old) (W.stream writer.new) (reply_text n expected.now (response_of reply.now)) result }
+{
+    match put_reply(writer, n, *reply) {
+        Ok(()) => put_surprise(writer, n, expected, reply),
+        Err(fault) => Err(fault),
+    }
+}
+
+/// Whether a reply is as a line wants it.
+fn is_right(expected: &Option<Refusal>, reply: &Reply) -> bool
+    ensures { result ≡ is_right expected.now (response_of reply.now) }
+{
+    match expected {
+        None => reply.is_accepted(),
+        Some(refusal) => reply.is_refused_for(*refusal),
+    }
+}
+
 /// Writes a reply, what it shows, and a listing where one is due.
 fn put_answer<L: Analysis, W: Sink>(
     alloc: Global,
     listed: bool,
     bench: &Bench<L>,
     n: u64,
+    expected: &Option<Refusal>,
     answered: &Answered,
     writer: &mut W,
 ) -> Result<(), WriteFault>
     requires { IsKept L.meaning bench.now }
-    ensures { PutsSome (IsReplied listed (state_of L.meaning bench.now) n (response_of answered.now.reply) answered.now.shows.items) (W.stream writer.old) (W.stream writer.new) result }
+    ensures { PutsSome (IsReplied listed (state_of L.meaning bench.now) n expected.now (response_of answered.now.reply) answered.now.shows.items) (W.stream writer.old) (W.stream writer.new) result }
 {
-    match put_reply(writer, n, answered.reply) {
+    match put_reply_text(writer, n, expected, &answered.reply) {
         Ok(()) => {}
         Err(fault) => return Err(fault),
     }
@@ -151,9 +215,9 @@ pub(crate) fn put_end<W: Sink>(writer: &mut W, ends: bool) -> Result<(), WriteFa
 }
 
 /// Answers a line of a script over a module and listeners that each agree with it or are stale: `n` is the number of the
-/// next reply, and `line` has no line feed. Writes what is written for it, and says whether the command was accepted, or
-/// nothing of a line that says nothing, for which nothing is written.
-pub fn answer_line<L: Analysis, W: Sink>(
+/// next reply, and `line` has no line feed. Writes what is written for it, and says whether what came is right: the command
+/// was accepted, or refused as the line expects. Of a line that says nothing it says nothing, and nothing is written.
+pub fn answer_line<L: Supplied, W: Sink>(
     alloc: Global,
     manner: &Manner,
     bench: &mut Bench<L>,
@@ -162,21 +226,22 @@ pub fn answer_line<L: Analysis, W: Sink>(
     writer: &mut W,
 ) -> Result<Option<bool>, WriteFault>
     requires { IsKept L.meaning bench.old }
-    ensures answered { RanOut (IsAnswered manner.now n (state_of L.meaning bench.old) (line_says line.now) (state_of L.meaning bench.new)) (W.stream writer.old) (W.stream writer.new) result }
+    ensures answered { RanOut (IsAnswered (way_of L.supply manner.now) n (state_of L.meaning bench.old) (line_expects line.now) (line_says line.now) (state_of L.meaning bench.new)) (W.stream writer.old) (W.stream writer.new) result }
     ensures kept { IsKept L.meaning bench.new }
 {
+    let expected = expected_of(line);
     let line = read_line(line);
     if is_nothing(&line) {
         return Ok(None);
     }
     let answered = answer(alloc, manner, bench, &line);
     let listed = is_listed(manner.brief, &line);
-    match put_answer(alloc, listed, bench, n, &answered, writer) {
+    match put_answer(alloc, listed, bench, n, &expected, &answered, writer) {
         Ok(()) => {}
         Err(fault) => return Err(fault),
     }
     match put_end(writer, manner.ends) {
-        Ok(()) => Ok(Some(answered.reply.is_accepted())),
+        Ok(()) => Ok(Some(is_right(&expected, &answered.reply))),
         Err(fault) => Err(fault),
     }
 }
@@ -192,7 +257,7 @@ pub fn number_behind(n: u64, told: Option<bool>) -> u64
     }
 }
 
-/// Whether all was accepted, behind what came of a line.
+/// Whether all was right, behind what came of a line.
 pub fn accepted_behind(accepted: bool, told: Option<bool>) -> bool
     ensures { result ≡ still_accepted accepted told }
 {
@@ -203,8 +268,8 @@ pub fn accepted_behind(accepted: bool, told: Option<bool>) -> bool
 }
 
 /// Runs a script over a module and listeners that each agree with it or are stale, and writes as it goes.
-/// The status is 1 where a command was refused.
-pub fn run_script<L: Analysis, W: Sink>(
+/// The status is 1 where a command was refused of which that wasn't expected, or not as it was.
+pub fn run_script<L: Supplied, W: Sink>(
     alloc: Global,
     manner: &Manner,
     bench: &mut Bench<L>,
@@ -212,7 +277,7 @@ pub fn run_script<L: Analysis, W: Sink>(
     writer: &mut W,
 ) -> Result<u8, WriteFault>
     requires { IsKept L.meaning bench.old }
-    ensures { RanOut (Runs manner.now 1 (state_of L.meaning bench.old) (lines_of script.now)) (W.stream writer.old) (W.stream writer.new) result }
+    ensures { RanOut (Runs (way_of L.supply manner.now) 1 (state_of L.meaning bench.old) (lines_of script.now)) (W.stream writer.old) (W.stream writer.new) result }
 {
     let mut text = script;
     let mut n = 1u64;

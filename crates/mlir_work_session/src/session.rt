@@ -4,19 +4,20 @@ ghost use Rattle.ir_event.specs.Modules.{module_in};
 ghost use Rattle.mlir_work_transforms.specs.rewriter.Journals.{IsSlotted, IsTidy};
 ghost use Rattle.mlir_work_transforms.specs.rewriter.Held.{module_held, open_marks};
 ghost use Rattle.mlir_work_transforms.specs.rewriter.Panels.{all_shown};
+ghost use Rattle.mlir_work_session.specs.Machine.{way_of};
 ghost use Rattle.mlir_work_session.specs.Output.{IsSession, IsBadScript, Session, worse as worst};
 ghost use Rattle.mlir_work_session.specs.Ran.{RanOut};
 
 use crate::manner::Manner;
 use crate::opening::begin;
 use crate::script::run_script;
-use ir_event::analysis::Analysis;
 use ir_event::types::refusal::Refusal;
 use ir_event::world::World;
 use mlir_work_script::input::script_is_too_long;
 use mlir_work_script::replies::put_refused;
 use mlir_work_script::sink::Sink;
 use mlir_work_script::writing::WriteFault;
+use mlir_work_session_base::supplied::Supplied;
 use mlir_work_transforms::rewriter::Bench;
 use std::alloc::Global;
 
@@ -27,7 +28,7 @@ fn worse(accepted: bool, status: u8) -> u8
 }
 
 /// Begins a session, and runs a script.
-fn attach_and_run<L: Analysis, W: Sink>(
+fn attach_and_run<L: Supplied, W: Sink>(
     alloc: Global,
     manner: &Manner,
     bench: &mut Bench<L>,
@@ -37,7 +38,7 @@ fn attach_and_run<L: Analysis, W: Sink>(
 ) -> Result<u8, WriteFault>
     requires none { bench.old.listeners ≡ [] }
     requires unmarked { open_marks bench.old.desk ≡ [] }
-    ensures { RanOut (Session manner.now (all_shown L.meaning boxes.items) (module_held bench.old.desk) script.now) (W.stream writer.old) (W.stream writer.new) result }
+    ensures { RanOut (Session (way_of L.supply manner.now) (all_shown L.meaning boxes.items) (module_held bench.old.desk) script.now) (W.stream writer.old) (W.stream writer.new) result }
 {
     let accepted = match begin(manner.ends, bench, boxes, writer) {
         Ok(accepted) => accepted,
@@ -61,7 +62,7 @@ fn refuse_script<W: Sink>(writer: &mut W) -> Result<u8, WriteFault>
 
 /// Attaches listeners to a module, in order, and runs a script over it; writes as it goes. The status is 1
 /// where a listener or a command was refused, and else 0. A script over its limit is one bad command.
-pub fn run_session<L: Analysis, W: Sink>(
+pub fn run_session<L: Supplied, W: Sink>(
     alloc: Global,
     manner: &Manner,
     world: World,
@@ -71,7 +72,7 @@ pub fn run_session<L: Analysis, W: Sink>(
 ) -> Result<u8, WriteFault>
     requires slotted { IsSlotted world.store }
     requires tidy { IsTidy world.store }
-    ensures { RanOut (IsSession manner.now (all_shown L.meaning boxes.items) (module_in world) script.now) (W.stream writer.old) (W.stream writer.new) result }
+    ensures { RanOut (IsSession (way_of L.supply manner.now) (all_shown L.meaning boxes.items) (module_in world) script.now) (W.stream writer.old) (W.stream writer.new) result }
 {
     if script_is_too_long(script) {
         return refuse_script(writer);

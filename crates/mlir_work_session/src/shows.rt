@@ -5,19 +5,19 @@ ghost use Rattle.ir_event.specs.Rows.{RowIsOf, rows_meaning};
 ghost use Rattle.ir_text.specs.Printing.{text_of};
 ghost use Rattle.mlir_work_transforms.specs.rewriter.Commands.{Report, Print};
 ghost use Rattle.mlir_work_transforms.specs.rewriter.Benched.{IsKept, state_of};
-ghost use Rattle.mlir_work_session.specs.RowText.{rows_text};
+ghost use Rattle.mlir_work_session_base.specs.RowText.{rows_text};
 ghost use Rattle.mlir_work_session.specs.Machine.{Obeys, response_of};
 ghost use Rattle.mlir_work_session.specs.Output.{Manner};
 ghost use Rattle.mlir_work_session.specs.declared.reply.Reply.TheVariants.{Refused};
 
 use crate::reply::Reply;
-use crate::rows::text_of_rows;
 use ir_event::analysis::Analysis;
 use ir_event::row::{ReportFault, Row};
 use ir_event::types::refusal::Refusal;
 use ir_event::world::World;
 use ir_text::printer::print;
 use mlir_work_script::kind::Kind;
+use mlir_work_session_base::rows::text_of_rows;
 use mlir_work_transforms::rewriter::Bench;
 use std::alloc::Global;
 

@@ -1,27 +1,30 @@
 //! Commands that transform the module of a bench.
-ghost use Rattle.std.specs.Prelude.{◌≡◌, []};
-ghost use Rattle.std.specs.Prelude.{Some};
+ghost use Rattle.std.specs.Prelude.{◌≡◌, [], ℕ, Option, Some};
 ghost use Rattle.mlir_work_transforms.specs.rewriter.Commands.{Apply, Canon, Convert, Sweep};
 ghost use Rattle.mlir_work_transforms.specs.rewriter.Machine.{Transformation};
-ghost use Rattle.mlir_work_script.specs.RuleNames.{name_of};
+ghost use Rattle.mlir_work_transforms.specs.rewriter.Panels.{Shown};
+ghost use Rattle.mlir_work_script.specs.Orders.{Rewrite};
+ghost use Rattle.mlir_work_script.specs.RuleNames.{name_of, names_of};
 ghost use Rattle.mlir_work_transforms.specs.Applying.{application};
 ghost use Rattle.mlir_work_transforms.specs.rewriter.Benched.{IsKept, state_of};
 ghost use Rattle.mlir_work_script.specs.Clauses.{clauses_of, target_of};
 ghost use Rattle.ir_text.specs.Public.{IsFull};
 ghost use Rattle.greedy.specs.Changes.{canonicalizing};
 ghost use Rattle.mlir_work_transforms.specs.Converting.{conversion};
-ghost use Rattle.mlir_work_session.specs.Machine.{FullSo, Obeys, limit_or, response_of};
+ghost use Rattle.mlir_work_transforms.specs.Rewriting.{rewriting_named};
+ghost use Rattle.mlir_work_session.specs.Machine.{Fulfils, FullSo, Obeys, limit_or, response_of, way_of};
 ghost use Rattle.mlir_work_session.specs.Output.{Manner as Way};
 
 use crate::manner::Manner;
 use crate::reply::Reply;
 use crate::replying::{reply_applied, reply_canonical, reply_converted, reply_swept};
-use greedy::bench::canonicalize;
+use greedy::bench::{canonicalize, rewrite as rewrite_by};
 use ir_event::analysis::Analysis;
 use ir_event::types::ids::OpId;
 use ir_event::types::refusal::Refusal;
 use mlir_work_script::clauses::Clauses;
 use mlir_work_script::rule_name::RuleName;
+use mlir_work_transforms::rewrite::rules_in;
 use mlir_work_transforms::rewriter::Bench;
 use mlir_work_transforms::rewriter::laws::led_benches_are_kept;
 use mlir_work_transforms::{apply, convert, sweep};
@@ -96,4 +99,26 @@ pub(crate) fn apply<L: Analysis>(
         return Reply::Refused(Refusal::NoSuchKey);
     };
     reply_applied(apply::apply(alloc, bench, rule, op))
+}
+
+/// Rewrites by some rules, where each name is that of one, until none of them applies any more, or so many times.
+pub(crate) fn rewrite<L: Analysis>(
+    alloc: Global,
+    manner: &Manner,
+    bench: &mut Bench<L>,
+    rules: &[u8],
+    limit: Option<u32>,
+) -> Reply
+    requires { IsKept L.meaning bench.old }
+    ensures fulfils { (supply : ℕ → Option Shown) → Fulfils (way_of supply manner.now) (state_of L.meaning bench.old) (Rewrite (names_of rules.now) limit) (response_of result) [] (state_of L.meaning bench.new) }
+    ensures room { (f : Transformation) → rewriting_named (names_of rules.now) (limit_or manner.now.limit limit) ≡ Some f → FullSo (IsFull bench.new.desk.ctx) (state_of L.meaning bench.old) f (response_of result) }
+    ensures kept { IsKept L.meaning bench.new }
+{
+    led_benches_are_kept::<L>();
+    let rules = match rules_in(alloc, rules) {
+        Ok(Some(rules)) => rules,
+        Ok(None) => return Reply::Refused(Refusal::NoSuchKey),
+        Err(refusal) => return Reply::Refused(refusal),
+    };
+    reply_canonical(rewrite_by(alloc, bench, &rules, limit_of(manner, limit)))
 }

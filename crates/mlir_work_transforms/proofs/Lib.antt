@@ -5,4 +5,5 @@ pub mod Converted
 pub mod Listed
 pub mod Named
 pub mod Ruled
+pub mod Chosen
 pub use Rattle.conversion.proofs.of_rewriter

@@ -10,14 +10,14 @@ use Rattle.ir_event.proofs.of_types.Truths.{rest_at}
 abbrev pub joined : List Rule → Option (List Rule) → Option (List Rule)
 joined done rest = option_map (λ rs. done ++ rs) rest
 
-none_joined : (o : Option (List Rule)) → joined [] o ≡ o
+pub none_joined : (o : Option (List Rule)) → joined [] o ≡ o
 none_joined None = refl
 none_joined (Some rs) = refl
 
 pub rules_none : (all : List ℕ) → joined [] (rules_of all) ≡ rules_of all
 rules_none all = none_joined (rules_of all)
 
-one_joined : (done : List Rule) (r : Rule) (o : Option (List Rule)) → joined done (option_map (λ rs. r ∷ rs) o) ≡ joined (done ++ r ∷ []) o
+pub one_joined : (done : List Rule) (r : Rule) (o : Option (List Rule)) → joined done (option_map (λ rs. r ∷ rs) o) ≡ joined (done ++ r ∷ []) o
 one_joined done r None = refl
 one_joined done r (Some rs) = ap Some (sym (append_assoc done (r ∷ []) rs))
 

@@ -1,4 +1,5 @@
 pub mod Applying
+pub mod Rewriting
 pub mod Sweep
 pub mod Erasing
 pub mod Interned

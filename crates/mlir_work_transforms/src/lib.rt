@@ -6,6 +6,7 @@ pub mod apply;
 pub mod convert;
 pub mod laws;
 mod names;
+pub mod rewrite;
 mod rules;
 pub mod sweep;
 mod target;

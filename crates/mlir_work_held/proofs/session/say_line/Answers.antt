@@ -11,3 +11,6 @@ returns-in-Bad-clause-said c = subst (λ (spoken : Spoken). Said c.args.manner.n
 
 pub returns-in-Obey-clause-said : goal.returns-in-Obey-clause-said
 returns-in-Obey-clause-said c = subst (λ (spoken : Spoken). Said c.args.manner.now c.args.session.now spoken c.obey_line-in-Obey.result c.obey_line-in-Obey.new.session) c.in-Obey.ensures c.obey_line-in-Obey.ensures.answered
+
+pub returns-in-Ordered-clause-said : goal.returns-in-Ordered-clause-said
+returns-in-Ordered-clause-said c = subst (λ (spoken : Spoken). Said c.args.manner.now c.args.session.now spoken c.obey_line-in-Ordered.result c.obey_line-in-Ordered.new.session) c.in-Ordered.ensures c.obey_line-in-Ordered.ensures.answered

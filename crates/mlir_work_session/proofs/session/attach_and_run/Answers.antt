@@ -1,21 +1,22 @@
 use Rattle.mlir_work_transforms.specs.rewriter.Held.{module_held}
 use Rattle.mlir_work_transforms.specs.rewriter.Panels.{all_shown}
+use Rattle.mlir_work_session.specs.Machine.{way_of}
 use Rattle.mlir_work_session.proofs.Sessions.{session_ran, session_cut, session_begun}
 use Rattle.mlir_work_session.proofs.session.attach_and_run.Goals as goal
 
 pub returns-in-Err : goal.returns-in-Err
 returns-in-Err g c =
     let had = c.in-Err.ensures.begun in
-    session_begun c.args.manner.now (all_shown g.L.Analysis.meaning c.args.boxes.items) (module_held c.args.bench.now.desk) c.args.script.now (g.W.Sink.stream c.args.writer.now) (g.W.Sink.stream c.begin.new.writer) had.0 had.1 had.2 had.3 had.4
+    session_begun (way_of g.L.Supplied.supply c.args.manner.now) (all_shown g.L.Analysis.meaning c.args.boxes.items) (module_held c.args.bench.now.desk) c.args.script.now (g.W.Sink.stream c.args.writer.now) (g.W.Sink.stream c.begin.new.writer) had.0 had.1 had.2 had.3 had.4
 
 pub returns-in-Ok-run_script : goal.returns-in-Ok-run_script
 returns-in-Ok-run_script g c =
     let had = c.in-Ok.ensures.begun in
     let ran = c.in-Ok-run_script.ensures in
-    rw c.worse.ensures (session_ran c.args.manner.now (all_shown g.L.Analysis.meaning c.args.boxes.items) (module_held c.args.bench.now.desk) c.args.script.now _ _ _ _ c.in-Ok.accepted had.0 c.in-Ok-run_script.status ran.0 had.1 had.2 ran.1 ran.2)
+    rw c.worse.ensures (session_ran (way_of g.L.Supplied.supply c.args.manner.now) (all_shown g.L.Analysis.meaning c.args.boxes.items) (module_held c.args.bench.now.desk) c.args.script.now _ _ _ _ c.in-Ok.accepted had.0 c.in-Ok-run_script.status ran.0 had.1 had.2 ran.1 ran.2)
 
 pub returns-in-Err-run_script : goal.returns-in-Err-run_script
 returns-in-Err-run_script g c =
     let had = c.in-Ok.ensures.begun in
     let ran = c.in-Err-run_script.ensures in
-    session_cut c.args.manner.now (all_shown g.L.Analysis.meaning c.args.boxes.items) (module_held c.args.bench.now.desk) c.args.script.now _ _ _ _ c.in-Ok.accepted had.0 ran.0 ran.1 had.1 had.2 ran.2 ran.3
+    session_cut (way_of g.L.Supplied.supply c.args.manner.now) (all_shown g.L.Analysis.meaning c.args.boxes.items) (module_held c.args.bench.now.desk) c.args.script.now _ _ _ _ c.in-Ok.accepted had.0 ran.0 ran.1 had.1 had.2 ran.2 ran.3

@@ -1,0 +1,127 @@
+//! What a line may say beside the commands of a bench.
+ghost use Rattle.std.specs.Prelude.{◌≡◌, option_map};
+ghost use Rattle.mlir_work_script.specs.Orders.{attach_in, ids_in, limited_in, only_in, order_in, order_named, order_of};
+ghost use Rattle.mlir_work_script.specs.Orders.{rewrite_in, ruled_in};
+ghost use Rattle.mlir_work_script.specs.RuleNames.{names_of};
+
+use crate::kind::{Kind, kind_named};
+use crate::numbers::number;
+use crate::rule_name::are_tried;
+use crate::words::split_word;
+
+/// What only a session can do.
+#[derive(Clone, Copy)]
+pub enum Order<'a> {
+    /// `attach KIND` makes the analysis of a kind anew, and attaches it.
+    Attach(Kind),
+    /// `print ids` prints the module with the ids of its operations.
+    PrintIds,
+    /// `rewrite RULES [limit N]` and `canon only RULES [limit N]` apply rules until none of them applies any more, or so
+    /// many times.
+    Rewrite {
+        /// The rules, in the order in which they are tried at an operation, between commas.
+        rules: &'a [u8],
+        /// The most rewrites, where the line says so.
+        limit: Option<u32>,
+    },
+}
+
+/// `attach KIND`, behind its name.
+fn attach<'a>(rest: &[u8]) -> Option<Order<'a>>
+    ensures { option_map order_of result ≡ attach_in rest.now }
+{
+    let (kind, left) = split_word(rest);
+    if !left.is_empty() {
+        return None;
+    }
+    let kind = kind_named(kind)?;
+    Some(Order::Attach(kind))
+}
+
+/// `print ids`, behind its name.
+fn ids<'a>(rest: &[u8]) -> Option<Order<'a>>
+    ensures { option_map order_of result ≡ ids_in rest.now }
+{
+    if rest != b"ids".as_slice() {
+        return None;
+    }
+    Some(Order::PrintIds)
+}
+
+/// `limit N`, behind rules.
+fn limited<'a>(rules: &'a [u8], text: &[u8]) -> Option<Order<'a>>
+    ensures { option_map order_of result ≡ limited_in (names_of rules.now) text.now }
+{
+    let (name, rest) = split_word(text);
+    if name != b"limit".as_slice() {
+        return None;
+    }
+    let (limit, left) = split_word(rest);
+    if !left.is_empty() {
+        return None;
+    }
+    let limit = number(limit)?;
+    Some(Order::Rewrite {
+        rules,
+        limit: Some(limit),
+    })
+}
+
+/// What stands behind rules.
+fn ruled<'a>(rules: &'a [u8], rest: &[u8]) -> Option<Order<'a>>
+    ensures { option_map order_of result ≡ ruled_in (names_of rules.now) rest.now }
+{
+    if rest.is_empty() {
+        return Some(Order::Rewrite { rules, limit: None });
+    }
+    limited(rules, rest)
+}
+
+/// `rewrite RULES [limit N]`, behind its name.
+fn rewrite(rest: &[u8]) -> Option<Order<'_>>
+    ensures { option_map order_of result ≡ rewrite_in rest.now }
+{
+    let (rules, rest) = split_word(rest);
+    if !are_tried(rules) {
+        return None;
+    }
+    ruled(rules, rest)
+}
+
+/// `canon only RULES [limit N]`, behind its name.
+fn only(rest: &[u8]) -> Option<Order<'_>>
+    ensures { option_map order_of result ≡ only_in rest.now }
+{
+    let (name, rest) = split_word(rest);
+    if name != b"only".as_slice() {
+        return None;
+    }
+    rewrite(rest)
+}
+
+/// The order of a name.
+fn order_named<'a>(name: &[u8], rest: &'a [u8]) -> Option<Order<'a>>
+    ensures { option_map order_of result ≡ order_named name.now rest.now }
+{
+    if name == b"attach".as_slice() {
+        return attach(rest);
+    }
+    if name == b"print".as_slice() {
+        return ids(rest);
+    }
+    if name == b"rewrite".as_slice() {
+        return rewrite(rest);
+    }
+    if name == b"canon".as_slice() {
+        return only(rest);
+    }
+    None
+}
+
+/// The order that a trimmed line is.
+pub(crate) fn order_in(text: &[u8]) -> Option<Order<'_>>
+    ensures { option_map order_of result ≡ order_in text.now }
+{
+    let (name, rest) = split_word(text);
+    order_named(name, rest)
+}

@@ -1,0 +1,112 @@
+-- How orders are answered.
+use Rattle.std.proofs.Common.{◌≡◌, ◌∙◌, ap, sym, subst, refl, inl, inr, ℕ, List, [], Option, Some, None, false, true}
+use Rattle.std.specs.Prelude.{is_some, option_map}
+use Rattle.ir_event.specs.types.declared.refusal.Refusal.{Refusal}
+use Rattle.ir_event.specs.types.declared.refusal.Refusal.TheVariants.{Memory, NoSuchKey, NoSuchKind}
+use Rattle.mlir_work_transforms.specs.rewriter.Commands.{AppliesRule, RuleName, Asked, Ask, Misplaced, Unread, Follows, Response, Replied, TextRefusedAt}
+use Rattle.mlir_work_transforms.specs.rewriter.Machine as call
+use Rattle.mlir_work_transforms.specs.rewriter.Machine.{State, Call, Reply, Done, Refused, Shows, Nothing, Transformation, Tree, Goes}
+use Rattle.mlir_work_transforms.specs.rewriter.Panels.{Shown}
+use Rattle.mlir_work_script.specs.Orders.{Attach, Order, PrintIds, Rewrite}
+use Rattle.mlir_work_session_base.specs.IdsText.{ids_text}
+use Rattle.mlir_work_session.specs.Machine.{AttachesKind, Fulfils, OrdersIn, Way, limit_or, order_shows}
+use Rattle.mlir_work_session.specs.Output.{IsBounded}
+use Rattle.greedy.specs.Changes.{rewriting}
+use Rattle.mlir_work_transforms.specs.Rewriting.{rewriting_named, rules_named}
+use Rattle.mlir_work_transforms.specs.Rule.{Rule}
+use Rattle.mlir_work_session.proofs.Obeying.{some_goes}
+use Rattle.mlir_work_session.proofs.Panels.{all_stay}
+
+module _ (way : Way) where
+  -- an order that comes to a call
+  pub fulfils_call : (s t : State) (o : Order) (c : Call) (reply : Reply) (shows : Shows) → OrdersIn way o (Ask c) → Goes s c reply shows t → Fulfils way s o (Replied reply) (order_shows shows) t
+  fulfils_call s t o c reply shows asks goes = record { asked = Ask c; shows = shows; asks = asks; follows = goes; text = refl }
+
+  -- ---- attaching
+
+  -- a kind of which there is no analysis
+  pub fulfils_unsupplied : (kind : ℕ) (s : State) → way.supply kind ≡ None → Fulfils way s (Attach kind) (Replied (Refused NoSuchKind)) [] s
+  fulfils_unsupplied kind s e =
+      record { asked = Misplaced NoSuchKind; shows = Nothing; asks = subst (λ (o : Option Shown). AttachesKind o (Misplaced NoSuchKind)) (sym e) refl; follows = (refl, refl, refl); text = refl }
+
+  asks_supplied : (kind : ℕ) (a : Shown) → way.supply kind ≡ Some a → OrdersIn way (Attach kind) (Ask (call.Attach a))
+  asks_supplied kind a e = subst (λ (o : Option Shown). AttachesKind o (Ask (call.Attach a))) (sym e) refl
+
+  -- one of which there is one
+  pub fulfils_supplied : (kind : ℕ) (a : Shown) (s t : State) (reply : Reply) (response : Response) → way.supply kind ≡ Some a → response ≡ Replied reply → Goes s (call.Attach a) reply Nothing t → Fulfils way s (Attach kind) response [] t
+  fulfils_supplied kind a s t reply response e is goes = rw is (fulfils_call s t (Attach kind) (call.Attach a) reply Nothing (asks_supplied kind a e) goes)
+
+  -- ---- printing
+
+  pub fulfils_printed : (s : State) (bytes : List ℕ) → bytes ≡ ids_text s.held.tree → Fulfils way s PrintIds (Replied Done) bytes s
+  fulfils_printed s bytes is = rw is (fulfils_call s s PrintIds call.Print Done (Tree s.held.tree) refl (record { answer = inl refl; panel = refl }))
+
+  pub fulfils_unprinted : (s : State) → Fulfils way s PrintIds (Replied (Refused Memory)) [] s
+  fulfils_unprinted s = fulfils_call s s PrintIds call.Print (Refused Memory) Nothing refl (record { answer = inr (refl, refl); panel = refl })
+
+  -- ---- rewriting
+
+  -- a list in which a name is no rule's
+  pub fulfils_unruled : (names : List RuleName) (limit : Option ℕ) (s : State) → rewriting_named names (limit_or way.manner.limit limit) ≡ None → Fulfils way s (Rewrite names limit) (Replied (Refused NoSuchKey)) [] s
+  fulfils_unruled names limit s e =
+      record { asked = Misplaced NoSuchKey; shows = Nothing; asks = subst (λ (o : Option Transformation). AppliesRule o (Misplaced NoSuchKey)) (sym e) refl; follows = (refl, refl, refl); text = refl }
+
+  asks_ruled : (names : List RuleName) (limit : Option ℕ) (f : Transformation) → rewriting_named names (limit_or way.manner.limit limit) ≡ Some f → OrdersIn way (Rewrite names limit) (Ask (call.Change f))
+  asks_ruled names limit f e = subst (λ (o : Option Transformation). AppliesRule o (Ask (call.Change f))) (sym e) refl
+
+  -- one of rules
+  pub fulfils_ruled : (names : List RuleName) (limit : Option ℕ) (f : Transformation) (s t : State) (reply : Reply) (response : Response) → rewriting_named names (limit_or way.manner.limit limit) ≡ Some f → response ≡ Replied reply → Goes s (call.Change f) reply Nothing t → Fulfils way s (Rewrite names limit) response [] t
+  fulfils_ruled names limit f s t reply response e is goes = rw is (fulfils_call s t (Rewrite names limit) (call.Change f) reply Nothing (asks_ruled names limit f e) goes)
+
+  -- for which there is no memory
+  pub fulfils_unlisted : (names : List RuleName) (limit : Option ℕ) (s : State) (refusal : Refusal) → refusal ≡ Memory → is_some (rules_named names) ≡ true → Fulfils way s (Rewrite names limit) (Replied (Refused refusal)) [] s
+  fulfils_unlisted names limit s refusal is there = go (rules_named names) refl
+    where
+      go : (o : Option (List Rule)) → rules_named names ≡ o → Fulfils way s (Rewrite names limit) (Replied (Refused refusal)) [] s
+      go None e = absurd (let f : false ≡ true = sym (ap is_some e) ∙ there in cc)
+      go (Some rs) e =
+          rw is (fulfils_ruled names limit (rewriting rs (limit_or way.manner.limit limit)) s s (Refused Memory) (Replied (Refused Memory)) (ap (option_map (λ rs. rewriting rs (limit_or way.manner.limit limit))) e) refl (record { answer = inr (refl, inl refl); panel = all_stay s.panel }))
+
+  -- ---- each order has an answer, and none of them is refused at a byte
+
+  abbrev pub SomeFulfilled : State → Order → Type 0
+  SomeFulfilled s o = (response : Response) × (bytes : List ℕ) × (t : State) × Fulfils way s o response bytes t
+
+  by_call : (s : State) (o : Order) (c : Call) → OrdersIn way o (Ask c) → SomeFulfilled s o
+  by_call s o c asks = let g = some_goes way.manner s c in (Replied g.0, order_shows g.1, g.2, fulfils_call s g.2 o c g.0 g.1 asks g.3)
+
+  by_kind : (s : State) (kind : ℕ) (a : Option Shown) → way.supply kind ≡ a → SomeFulfilled s (Attach kind)
+  by_kind s kind None e = (Replied (Refused NoSuchKind), [], s, fulfils_unsupplied kind s e)
+  by_kind s kind (Some a) e = by_call s (Attach kind) (call.Attach a) (asks_supplied kind a e)
+
+  by_rules : (s : State) (names : List RuleName) (limit : Option ℕ) (f : Option Transformation) → rewriting_named names (limit_or way.manner.limit limit) ≡ f → SomeFulfilled s (Rewrite names limit)
+  by_rules s names limit None e = (Replied (Refused NoSuchKey), [], s, fulfils_unruled names limit s e)
+  by_rules s names limit (Some f) e = by_call s (Rewrite names limit) (call.Change f) (asks_ruled names limit f e)
+
+  pub some_fulfilled : (s : State) (o : Order) → SomeFulfilled s o
+  some_fulfilled s (Attach kind) = by_kind s kind (way.supply kind) refl
+  some_fulfilled s PrintIds = by_call s PrintIds call.Print refl
+  some_fulfilled s (Rewrite names limit) = by_rules s names limit (rewriting_named names (limit_or way.manner.limit limit)) refl
+
+-- an order is no text that isn't read
+never_unread : (way : Way) (o : Order) (refusal : Refusal) (offset : Option ℕ) → OrdersIn way o (Unread refusal offset) → ⊥
+never_unread way (Attach kind) refusal offset asks = go (way.supply kind) asks
+  where
+    go : (a : Option Shown) → AttachesKind a (Unread refusal offset) → ⊥
+    go None e = absurd cc
+    go (Some a) e = absurd cc
+never_unread way (Rewrite names limit) refusal offset asks = go (rewriting_named names (limit_or way.manner.limit limit)) asks
+  where
+    go : (o : Option Transformation) → AppliesRule o (Unread refusal offset) → ⊥
+    go None e = absurd cc
+    go (Some f) e = absurd cc
+never_unread way PrintIds refusal offset asks = absurd (let e : Unread refusal offset ≡ Ask call.Print = asks in cc)
+
+not_at : (way : Way) (s t : State) (o : Order) (asked : Asked) (shows : Shows) (refusal : Refusal) (offset : ℕ) → OrdersIn way o asked → Follows s asked (TextRefusedAt refusal offset) shows t → ⊥
+not_at way s t o (Ask c) shows refusal offset asks follows = follows
+not_at way s t o (Misplaced why) shows refusal offset asks follows = absurd (let e : TextRefusedAt refusal offset ≡ Replied (Refused why) = follows.0 in cc)
+not_at way s t o (Unread why place) shows refusal offset asks follows = never_unread way o why place asks
+
+pub fulfils_bounded : (bytes : ℕ) (way : Way) (s : State) (o : Order) (response : Response) (shown : List ℕ) (t : State) → Fulfils way s o response shown t → IsBounded bytes response
+fulfils_bounded bytes way s o response shown t h = λ refusal offset is.
+    absurd (not_at way s t o h.asked h.shows refusal offset h.asks (subst (λ (r : Response). Follows s h.asked r h.shows t) is h.follows))

@@ -1,0 +1,13 @@
+use Rattle.std.proofs.Common.{ap}
+use Rattle.mlir_work_script.specs.Orders.{order_of}
+use Rattle.mlir_work_session.specs.Machine.{response_of, way_of}
+use Rattle.mlir_work_session.proofs.Room.{fulfils_plainly, orders_room_plainly}
+use Rattle.mlir_work_session.proofs.orders.fulfil.Goals as goal
+
+pub returns-in-Rewrite-clause-fulfils : goal.returns-in-Rewrite-clause-fulfils
+returns-in-Rewrite-clause-fulfils g c =
+    fulfils_plainly (way_of g.L.Supplied.supply c.args.manner.now) _ _ _ _ _ _ _ (ap order_of c.in-Rewrite.is) (ap response_of c.plain-in-Rewrite.ensures.reply) c.plain-in-Rewrite.ensures.shows (c.rewrite.ensures.fulfils g.L.Supplied.supply)
+
+pub returns-in-Rewrite-clause-room : goal.returns-in-Rewrite-clause-room
+returns-in-Rewrite-clause-room g c =
+    orders_room_plainly _ (way_of g.L.Supplied.supply c.args.manner.now) _ _ _ _ _ (ap order_of c.in-Rewrite.is) (ap response_of c.plain-in-Rewrite.ensures.reply) c.rewrite.ensures.room

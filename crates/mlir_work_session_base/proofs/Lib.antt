@@ -1,0 +1,2 @@
+pub mod RowWalks
+pub mod Lines

@@ -1,0 +1,26 @@
+-- Rewriting by the rules that a command names, as a transformation.
+use Rattle.std.specs.Prelude.{ℕ, List, [], ◌∷◌, Option, Some, None, option_and_then, option_map, if◌then◌else◌}
+use Rattle.conversion.specs.rewriter.Commands.{RuleName}
+use Rattle.conversion.specs.rewriter.Machine.{Transformation}
+use Rattle.patterns_base.specs.RuleNames.{is_canonical}
+use Rattle.patterns_base.specs.declared.rule.Rule.{Rule}
+use Rattle.greedy.specs.Changes.{rewriting}
+use Rattle.mlir_work_transforms.specs.Applying.{rule_named}
+
+-- a rule, if canonicalization tries it
+abbrev pub if_canonical : Rule → Option Rule
+if_canonical r = if is_canonical r then Some r else None
+
+-- the rule of a name, if there is one that canonicalization tries
+abbrev pub canonical_named : RuleName → Option Rule
+canonical_named name = option_and_then if_canonical (rule_named name)
+
+-- those of some names in their order, if each names one
+abbrev pub rules_named : List RuleName → Option (List Rule)
+rules_named [] = Some []
+rules_named (name ∷ names) =
+    option_and_then (λ r. option_map (λ rs. r ∷ rs) (rules_named names)) (canonical_named name)
+
+-- the transformation of a command, of at most so many rewrites
+abbrev pub rewriting_named : List RuleName → ℕ → Option Transformation
+rewriting_named names limit = option_map (λ rs. rewriting rs limit) (rules_named names)

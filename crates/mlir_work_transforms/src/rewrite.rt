@@ -1,0 +1,70 @@
+//! The rules that a command of rewriting names.
+ghost use Rattle.std.specs.Prelude.{◌≡◌, true, is_some, IfErr, IfOk, IfSome, option_map};
+ghost use Rattle.ir_event.specs.types.declared.refusal.Refusal.TheVariants.{Memory as NoMemory};
+ghost use Rattle.conversion.specs.patterns.Rows.{AreCanonical};
+ghost use Rattle.mlir_work_script.specs.RuleNames.{name_of, names_of};
+ghost use Rattle.mlir_work_transforms.specs.Rewriting.{canonical_named, rules_named};
+
+use crate::apply::rule_named;
+use ir_event::types::refusal::Refusal;
+use mlir_work_script::items::split_item;
+use mlir_work_script::rule_name::{RuleName, name_in};
+use patterns_base::rule::Rule;
+use std::alloc::Global;
+
+/// The rule of a name, if there is one that canonicalization tries.
+fn canonical_named(name: &RuleName<'_>) -> Option<Rule>
+    ensures { result ≡ canonical_named (name_of name.now) }
+{
+    let Some(rule) = rule_named(name) else {
+        return None;
+    };
+    if rule.is_canonical() {
+        Some(rule)
+    } else {
+        None
+    }
+}
+
+/// Whether each item of a list names a rule that canonicalization tries.
+fn are_named(list: &[u8]) -> bool
+    ensures { result ≡ is_some (rules_named (names_of list.now)) }
+{
+    let mut rest = Some(list);
+    'items: while let Some(items) = rest {
+        let (item, behind) = split_item(items);
+        let Some(_) = canonical_named(&name_in(item)) else {
+            return false;
+        };
+        rest = behind;
+    }
+    true
+}
+
+/// The rules that a list names, in its order, if each item names one that canonicalization tries.
+///
+/// Refusals: `Memory`, where each does.
+pub fn rules_in(alloc: Global, list: &[u8]) -> Result<Option<Vec<Rule>>, Refusal>
+    ensures rules { IfOk result (λ found. option_map (λ v. v.items) found ≡ rules_named (names_of list.now)) }
+    ensures canonical { IfOk result (λ found. IfSome found (λ v. AreCanonical v.items)) }
+    ensures want { IfErr result
+        (λ refusal. (refusal ≡ NoMemory) × (is_some (rules_named (names_of list.now)) ≡ true)) }
+{
+    if !are_named(list) {
+        return Ok(None);
+    }
+    let mut rules = Vec::new(alloc);
+    let mut rest = Some(list);
+    'items: while let Some(items) = rest {
+        let (item, behind) = split_item(items);
+        let Some(rule) = canonical_named(&name_in(item)) else {
+            return Ok(None);
+        };
+        match rules.push(rule) {
+            Ok(()) => {}
+            Err(_) => return Err(Refusal::Memory),
+        }
+        rest = behind;
+    }
+    Ok(Some(rules))
+}
