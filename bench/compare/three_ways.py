@@ -108,6 +108,12 @@ def told(pipe, module, those, last):
     return status, b"".join([*answers, *more])
 
 
+def is_right(line, reply):
+    """Whether the reply to a line is as it wants it."""
+    wanted, _ = script.expected(line.decode("utf-8", "surrogateescape"))
+    return reply.outcome != "refused" if wanted is None else reply.text.startswith(f"refused {wanted} ")
+
+
 def library(make, case):
     """The status and the bytes of another way."""
     module, behind = script.split(case.text)
@@ -121,7 +127,7 @@ def library(make, case):
         replies = way.lines(lines)
     finally:
         way.close()
-    status = int(bool(out) or any(it.outcome == "refused" for it in replies))
+    status = int(bool(out) or not all(map(is_right, lines, replies)))
     text = out + "".join(f"{number} {it.text}\n{it.shown}" for number, it in enumerate(replies, 1))
     return status, text.encode("utf-8", "surrogateescape")
 

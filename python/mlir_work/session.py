@@ -19,6 +19,8 @@ Text = Union[str, bytes]
 ValueText = Union[Value, str]
 _BLANKS = b" \t\r"
 _WORD = re.compile(rb"[^ \t]*")
+# What stands in front of a command that is to be refused.
+_EXPECTED = re.compile(rb"^expect[ \t]+[^ \t]+[ \t]+")
 _LOOKS = (b"print", b"report", b"begin", b"commit", b"attach", b"detach", b"resync")
 _COMMENT = re.compile(rb'("(?:[^"\\\n]|\\.)*")|//[^\n]*')
 # The reply where an operation isn't there.
@@ -163,7 +165,7 @@ class Session:
         if reply.outcome == "refused":
             self.refused += 1
             return reply.refusal(line.decode("utf-8", "replace"))
-        word = _WORD.match(line)[0]  # type: ignore[index]
+        word = _WORD.match(_EXPECTED.sub(b"", line))[0]  # type: ignore[index]
         if word == b"begin":
             self.marks += 1
         elif word in (b"commit", b"rollback"):
@@ -274,6 +276,13 @@ class Session:
     def canon(self, limit: Optional[int] = None) -> Canonicalized:
         """Rewrites by the rules of docs/CANONICALIZE.md until none applies, or so many times."""
         reply = self.command("canon" if limit is None else f"canon limit {limit}")
+        return Canonicalized(reply.number or 0, reply.outcome == "converged")
+
+    def rewrite(self, rules: Iterable[Union[int, str]], limit: Optional[int] = None) -> Canonicalized:
+        """Rewrites by some of the rules 1 to 24, by their numbers or their words, which are tried in this order, until
+        none of them applies, or so many times."""
+        named = "rewrite " + ",".join(str(it) for it in rules)
+        reply = self.command(named if limit is None else f"{named} limit {limit}")
         return Canonicalized(reply.number or 0, reply.outcome == "converged")
 
     def convert(self, mode: str = "partial", *, legal: Iterable[str] = (), illegal: Iterable[str] = (),

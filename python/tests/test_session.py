@@ -410,7 +410,7 @@ class Operations(Case):
         with session(text) as s:
             self.assertEqual(list(found(s)), list(wanted(run.module)))
             for line in more(run):
-                run.reply(line)
+                run.reply(script.expected(line)[1])
                 s.commands([line])
             self.assertEqual(list(found(s)), list(wanted(run.module)))
             self.assertEqual(s.print(), text_of(run.module))
@@ -473,7 +473,8 @@ class Package(unittest.TestCase):
 
     def test_each_command_has_a_method(self):
         import forms
-        for word in forms.forms():
+        # (what a refused command raises says why, so none is needed for `expect`)
+        for word in set(forms.forms()) - {"expect"}:
             self.assertTrue(callable(getattr(mlir_work.Session, word.replace("-", "_"))), word)
         self.assertEqual(list(mlir_work.KINDS), forms.kinds())
 
