@@ -174,6 +174,12 @@ class Session:
             self._listing = None
         return None
 
+    def expect(self, refusal: Union[int, str], line: Text) -> bool:
+        """Obeys a line that is to be refused so, by the number or the word of a refusal, and whether it was."""
+        wanted = refusal.encode() if isinstance(refusal, str) else str(refusal).encode()
+        reply = self.commands([b"expect " + wanted + b" " + _bytes(line)])[0]
+        return reply.outcome == "refused" and " expected " not in reply.shown.partition("\n")[0]
+
     # What it shows.
 
     def print(self) -> str:
@@ -279,10 +285,9 @@ class Session:
         return Canonicalized(reply.number or 0, reply.outcome == "converged")
 
     def rewrite(self, rules: Iterable[Union[int, str]], limit: Optional[int] = None) -> Canonicalized:
-        """Rewrites by some of the rules 1 to 24, by their numbers or their words, which are tried in this order, until
-        none of them applies, or so many times."""
-        named = "rewrite " + ",".join(str(it) for it in rules)
-        reply = self.command(named if limit is None else f"{named} limit {limit}")
+        """Rewrites by these rules of 1 to 24 alone, by their numbers or words, tried in this order at an operation."""
+        behind = "" if limit is None else f" limit {limit}"
+        reply = self.command(f"rewrite {','.join(map(str, rules))}{behind}")
         return Canonicalized(reply.number or 0, reply.outcome == "converged")
 
     def convert(self, mode: str = "partial", *, legal: Iterable[str] = (), illegal: Iterable[str] = (),

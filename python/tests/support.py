@@ -50,8 +50,8 @@ class Referred(mlir_work.Way):
     def line(self, line):
         kept, = script.lines_of(line)
         self.count += 1
-        is_right, told = script.answer(self.run, self.count, kept, True)
-        text, _, shown = told.partition(" ")[2].partition("\n")
+        is_right, answer = script.answer(self.run, self.count, kept, True)
+        text, _, shown = answer.partition(" ")[2].partition("\n")
         self.status |= not is_right
         return mlir_work.Reply(text, shown)
 
