@@ -108,12 +108,6 @@ def told(pipe, module, those, last):
     return status, b"".join([*answers, *more])
 
 
-def is_right(line, reply):
-    """Whether the reply to a line is as it wants it."""
-    wanted, _ = script.expected(line.decode("utf-8", "surrogateescape"))
-    return reply.outcome != "refused" if wanted is None else reply.text.startswith(f"refused {wanted} ")
-
-
 def library(make, case):
     """The status and the bytes of another way."""
     module, behind = script.split(case.text)

@@ -473,8 +473,7 @@ class Package(unittest.TestCase):
 
     def test_each_command_has_a_method(self):
         import forms
-        # (what a refused command raises says why, so none is needed for `expect`)
-        for word in set(forms.forms()) - {"expect"}:
+        for word in forms.forms():
             self.assertTrue(callable(getattr(mlir_work.Session, word.replace("-", "_"))), word)
         self.assertEqual(list(mlir_work.KINDS), forms.kinds())
 
