@@ -19,6 +19,8 @@ Text = Union[str, bytes]
 ValueText = Union[Value, str]
 _BLANKS = b" \t\r"
 _WORD = re.compile(rb"[^ \t]*")
+# What stands in front of a command that is to be refused.
+_EXPECTED = re.compile(rb"^expect[ \t]+[^ \t]+[ \t]+")
 _LOOKS = (b"print", b"report", b"begin", b"commit", b"attach", b"detach", b"resync")
 _COMMENT = re.compile(rb'("(?:[^"\\\n]|\\.)*")|//[^\n]*')
 # The reply where an operation isn't there.
@@ -163,7 +165,7 @@ class Session:
         if reply.outcome == "refused":
             self.refused += 1
             return reply.refusal(line.decode("utf-8", "replace"))
-        word = _WORD.match(line)[0]  # type: ignore[index]
+        word = _WORD.match(_EXPECTED.sub(b"", line))[0]  # type: ignore[index]
         if word == b"begin":
             self.marks += 1
         elif word in (b"commit", b"rollback"):
