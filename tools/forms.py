@@ -138,7 +138,7 @@ def missing(line, those):
     if not wanted:
         return f"`{line[column:]}` is too much: {write}"
     if LITERAL.fullmatch(wanted[0]):
-        words = " or ".join(f"`{it}`" for word in wanted for it in word.strip("()").split("|"))
+        words = " or ".join(dict.fromkeys(f"`{it}`" for word in wanted for it in word.strip("()").split("|")))
         return f"`{stands}` stands where {words} is wanted: {write}" if stands else f"{words} is missing: {write}"
     begins = f"`{stands}` is no {wanted[0]}" if stands else f"{wanted[0]} is missing"
     return "; ".join(filter(None, (f"{begins}: {write}", part(wanted[0])[1])))

@@ -120,7 +120,11 @@ def library(make, case):
         lines = [it.strip(b" \t\r") for it in behind.split(b"\n") if is_counted(it)]
         replies = way.lines(lines)
     finally:
-        status = way.close() or int(bool(out))
+        way.close()
+    wanted = [script.expected(line.decode("latin-1"))[0] for line in lines]
+    are_right = [it.outcome != "refused" if refusal is None else it.text.startswith(f"refused {refusal} ")
+                 for it, refusal in zip(replies, wanted)]
+    status = int(bool(out) or not all(are_right))
     text = out + "".join(f"{number} {it.text}\n{it.shown}" for number, it in enumerate(replies, 1))
     return status, text.encode("utf-8", "surrogateescape")
 

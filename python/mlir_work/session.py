@@ -20,6 +20,8 @@ Text = Union[str, bytes]
 ValueText = Union[Value, str]
 _BLANKS = b" \t\r"
 _WORD = re.compile(rb"[^ \t]*")
+# What stands in front of a command that is to be refused.
+_EXPECTED = re.compile(rb"^expect[ \t]+[^ \t]+[ \t]+")
 _LOOKS = (b"print", b"report", b"begin", b"commit", b"attach", b"detach", b"resync")
 _COMMENT = re.compile(rb'("(?:[^"\\\n]|\\.)*")|//[^\n]*')
 # The reply where an operation isn't there.
@@ -173,7 +175,7 @@ class Session:
         if reply.outcome == "refused":
             self.refused += 1
             return reply.refusal(line.decode("utf-8", "replace"))
-        word = _WORD.match(line)[0]  # type: ignore[index]
+        word = _WORD.match(_EXPECTED.sub(b"", line))[0]  # type: ignore[index]
         if word == b"begin":
             self.marks += 1
         elif word in (b"commit", b"rollback"):
@@ -181,6 +183,12 @@ class Session:
         if word not in _LOOKS:
             self._listing = None
         return None
+
+    def expect(self, refusal: Union[int, str], line: Text) -> bool:
+        """Obeys a line that is to be refused so, by the number or the word of a refusal, and whether it was."""
+        wanted = refusal.encode() if isinstance(refusal, str) else str(refusal).encode()
+        reply = self.commands([b"expect " + wanted + b" " + _bytes(line)])[0]
+        return reply.outcome == "refused" and " expected " not in reply.shown.partition("\n")[0]
 
     # What it shows.
 
@@ -284,6 +292,12 @@ class Session:
     def canon(self, limit: Optional[int] = None) -> Canonicalized:
         """Rewrites by the rules of docs/CANONICALIZE.md until none applies, or so many times."""
         reply = self.command("canon" if limit is None else f"canon limit {limit}")
+        return Canonicalized(reply.number or 0, reply.outcome == "converged")
+
+    def rewrite(self, rules: Iterable[Union[int, str]], limit: Optional[int] = None) -> Canonicalized:
+        """Rewrites by these rules of 1 to 24 alone, by their numbers or words, tried in this order at an operation."""
+        behind = "" if limit is None else f" limit {limit}"
+        reply = self.command(f"rewrite {','.join(map(str, rules))}{behind}")
         return Canonicalized(reply.number or 0, reply.outcome == "converged")
 
     def convert(self, mode: str = "partial", *, legal: Iterable[str] = (), illegal: Iterable[str] = (),

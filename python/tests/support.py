@@ -59,7 +59,7 @@ class Referred(mlir_work.Way):
     """A way over bench/reference, in this process."""
 
     def __init__(self):
-        self.run, self.status = None, 0
+        self.run, self.status, self.count = None, 0, 0
 
     def open(self, text, limit=None):
         try:
@@ -70,9 +70,10 @@ class Referred(mlir_work.Way):
 
     def line(self, line):
         kept, = script.lines_of(line)
-        reply = self.run.reply(kept)[0] if kept is not None else " refused 60 BadCommand\n"
-        text, _, shown = reply[1:].partition("\n")
-        self.status |= text.startswith("refused")
+        self.count += 1
+        is_right, answer = script.answer(self.run, self.count, kept, True)
+        text, _, shown = answer.partition(" ")[2].partition("\n")
+        self.status |= not is_right
         return mlir_work.Reply(text, shown)
 
     def close(self):

@@ -410,7 +410,7 @@ class Operations(Case):
         with session(text) as s:
             self.assertEqual(list(found(s)), list(wanted(run.module)))
             for line in more(run):
-                run.reply(line)
+                run.reply(script.expected(line)[1])
                 s.commands([line])
             self.assertEqual(list(found(s)), list(wanted(run.module)))
             self.assertEqual(s.print(), text_of(run.module))

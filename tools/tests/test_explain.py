@@ -27,7 +27,7 @@ MISSPELT = {
     "delete #8": (0, "write `erase #N`"),
     "inesrt": (0, "write `insert PLACE OPERATION`"),
     "xyzzy": (0, "they are print, report, "),
-    "canon 5": (6, "`5` stands where `limit` is wanted: write `canon` or `canon limit N`"),
+    "canon 5": (6, "`5` stands where `limit` or `only` is wanted: write `canon` or `canon limit N` or `canon only "),
     "canon limit": (11, "N is missing: write `canon limit N`"),
     "canon limit #5": (12, "`#5` is no N: write `canon limit N`"),
     "canon limit 4294967296": (12, "4294967296 is above 4294967295"),

@@ -190,8 +190,10 @@ fn told_said(alloc: Global, line: &Line<'_>) -> Result<String, AllocError> {
     }
 }
 
-/// A line.
+/// A line. (The checker of borrows has to meet each type that a line may hold.)
 fn told_line(alloc: Global, text: &[u8]) -> Result<String, AllocError> {
+    let _command = Line::Obey(Command::Print);
+    let _order = Line::Ordered(Order::PrintIds);
     let line = read_line(text);
     let said = told_said(alloc, &line)?;
     match expected_of(text) {
