@@ -167,7 +167,8 @@ void mlir_work_open(mlir_work_session *session, const uint8_t *text, size_t text
                     mlir_work_answer *answer);
 
 /* Says a line of a script: one command, with or without a line feed at its end. A text of several lines is refused
-   (60 BadCommand). */
+   (60 BadCommand). Of `expect REFUSAL COMMAND` the answer is that to COMMAND: whether it is the one that was expected
+   is the caller's to see. */
 void mlir_work_command(mlir_work_session *session, const uint8_t *line, size_t line_length, mlir_work_answer *answer);
 
 /* Copies what the last line showed, from byte `from` on, into at most `into_length` bytes, and returns how many were

@@ -3,6 +3,7 @@ import ctypes
 import functools
 import os
 import pathlib
+import re
 import secrets
 from typing import List, Optional, Union
 
@@ -25,6 +26,8 @@ _WORDS = {
     32: "IdsExhausted", 33: "TooDeepHere", 34: "TooManyMarks", 35: "NoMark", 36: "Memory", 40: "Stale",
     41: "NoSuchKind", 42: "KindTaken", 50: "BadLimit", 51: "NotLegalised", 52: "ChainTooDeep", 53: "Unreconciled",
     54: "BadTarget", 60: "BadCommand"}
+_NUMBERS = {word: number for number, word in _WORDS.items()}
+_EXPECTS = re.compile(r"[ \t\r]*expect[ \t]+([^ \t]+)")
 
 
 class _Slot(ctypes.Structure):
@@ -84,6 +87,18 @@ def _said(answer: _Answer) -> str:
     return f"refused {answer.refusal} {_WORDS[answer.refusal]}{place}"
 
 
+def _expected(line: bytes) -> Optional[int]:
+    """The number of the refusal that a line expects, if it expects one."""
+    try:
+        found = _EXPECTS.match(line.decode()) if b"expect" in line else None
+    except UnicodeDecodeError:
+        return None
+    if not found:
+        return None
+    number = int(found[1]) if re.fullmatch("[0-9]+", found[1]) else _NUMBERS.get(found[1])
+    return number if number in _WORDS else None
+
+
 class Library(Way):
     """A module that the library holds in this process. `library` is the file of the shared object."""
 
@@ -93,7 +108,7 @@ class Library(Way):
             raise FileNotFoundError(f"there is no {NAME}: name it, or set {VARIABLE}")
         self._calls = _calls(path)
         self._held, self._answer = _Handle(), _Answer()
-        self._status = 0
+        self._count = self._status = 0
 
     def open(self, text: bytes, limit: Optional[int] = None) -> List[str]:
         self._calls.mlir_work_open(self._held, text, len(text), secrets.randbits(64),
@@ -108,13 +123,22 @@ class Library(Way):
         self._calls.mlir_work_command(self._held, line, len(line), answer)
         if answer.outcome == _NO_SESSION:
             raise SessionClosed("the session is closed")
-        if _REFUSED <= answer.outcome <= _REFUSED_AT:
-            self._status = 1
+        self._count += answer.outcome != _NOTHING
+        surprise = self._follow(_expected(line))
         if not answer.shown:
-            return Reply(_said(answer), "")
+            return Reply(_said(answer), surprise)
         shown = ctypes.create_string_buffer(answer.shown)
         self._calls.mlir_work_read(self._held, 0, shown, answer.shown)
-        return Reply(_said(answer), shown.raw.decode("utf-8", "surrogateescape"))
+        return Reply(_said(answer), surprise + shown.raw.decode("utf-8", "surrogateescape"))
+
+    def _follow(self, expected: Optional[int]) -> str:
+        """Follows whether what was answered is right, and gives the line that stands below the reply where a refusal
+        was expected and didn't come."""
+        refused = self._answer.refusal if _REFUSED <= self._answer.outcome <= _REFUSED_AT else None
+        if refused == expected:
+            return ""
+        self._status = 1
+        return "" if expected is None else f"{self._count} expected {expected} {_WORDS[expected]}\n"
 
     def close(self) -> Optional[int]:
         self._calls.mlir_work_close(self._held)

@@ -69,7 +69,7 @@ static const char *const lines[] = {
     "set-attr #3 key [1, \"two\", @f::@g]", "drop-attr #3 key", "move #9 end #0 0", "report uses", "report symbols",
     "commit", "begin", "apply erase-dead #3", "apply 1 #5", "canon", "convert partial illegal arith.remsi rules 27",
     "print", "rollback", "print", "sweep", "report unreached", "resync dead", "report dead", "detach uses",
-    "report uses", "print", "erase #99"};
+    "report uses", "attach uses", "report uses", "print", "print ids", "erase #99", "expect 20 erase #99"};
 
 enum { LINES = sizeof lines / sizeof *lines };
 static struct told wanted[LINES];
