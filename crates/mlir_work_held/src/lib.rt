@@ -8,5 +8,3 @@ pub mod laws;
 pub mod opening;
 pub mod queries;
 pub mod session;
-#[cfg(test)]
-mod tests;
