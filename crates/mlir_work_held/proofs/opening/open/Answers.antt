@@ -8,6 +8,6 @@ returns-clause-opened c = record {
   unmarked = c.in-Some.ensures.unmarked;
   attached = c.in-Some.ensures.attached;
   limit_is = refl;
-  counted = c.len-bytes.ensures;
+  counted = refl;
   shows = c.new.ensures.items;
 }
