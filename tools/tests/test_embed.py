@@ -84,7 +84,8 @@ class Library(unittest.TestCase):
 
     def test_edits(self):
         out = ran([self.built("examples/embed/edits.c"), "200", "1000"]).decode()
-        self.assertRegex(out, r"^200 edits of 1000 operations, by lines .*\n200 edits of 1000 operations, by numbers")
+        told = "200 edits of 1000 operations, by "
+        self.assertRegex(out, rf"^{told}lines: .*\n{told}numbers: ")
 
     def test_what_is_handed_out(self):
         """Only the calls of the header, and all of them."""
