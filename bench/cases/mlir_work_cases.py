@@ -958,7 +958,7 @@ def sums(count):
 def command_lines():
     """What the words of a command line ask for, or what is printed of them, and whether that is a fault."""
     help_text = pathlib.Path("tools/help.txt").read_bytes()
-    usage, more = b"\n\nUsage: mlir_work [OPTIONS]\n", b"\nFor more information, try '--help'.\n"
+    usage, more = b"\n\nUsage: mlir_work [OPTIONS] [MODULE]\n", b"\nFor more information, try '--help'.\n"
 
     def limited(words, limit, count):
         text = sums(count) + DIVIDER + b"canon\n"
@@ -988,14 +988,20 @@ def command_lines():
     for words in ("--limit", "--limit --brief", "--brief --limit"):
         wrong(words.split(), b"a value is required for '--limit <N>' but none was supplied\n" + more)
     wrong("--limit 5 --limit 5".split(), b"the argument '--limit <N>' cannot be used multiple times" + usage + more)
-    for words, word in (("--limit 5 6", "6"), ("--limit -1", "-1"), ("-l 5", "-l")):
-        wrong(words.split(), b"unexpected argument '%s' found" % word.encode() + usage + more)
+    def unexpected(words, word):
+        tip = f"\n\n  tip: to pass '{word}' as a value, use '-- {word}'"
+        wrong(words.split(), f"unexpected argument '{word}' found{tip}".encode() + usage + more)
+
+    wrong("--limit 5 6".split(), b"6: it can't be read\n")
+    unexpected("--limit -1", "-1")
+    unexpected("-l 5", "-l")
     for words in ("--help", "-h", "--brief --help"):
         GOLDEN.case(words.split(), b"", (0, help_text))
     for words in ("--version", "-V"):
         GOLDEN.case([words], b"", (0, b"mlir_work %s\n" % VERSION))
-    for words in ("--nonsense", "x", "-b"):
-        wrong([words], b"unexpected argument '%s' found" % words.encode() + usage + more)
+    unexpected("--nonsense", "--nonsense")
+    wrong(["x"], b"x: it can't be read\n")
+    unexpected("-b", "-b")
     wrong(["--interactive", "--interactive"],
           b"the argument '--interactive' cannot be used multiple times" + usage + more)
     wrong(["--brief", "--brief"], b"the argument '--brief' cannot be used multiple times" + usage + more)
