@@ -11,11 +11,11 @@ use Rattle.mlir_work_listeners.specs.Listeners.{seven_listener, seven_supply}
 use Rattle.mlir_work_script.specs.Commands.{Spoken, Nothing, Bad, Obey, Ordered, line_says}
 use Rattle.mlir_work_script.specs.Expecting.{line_expects}
 use Rattle.mlir_work_script.specs.Lines.{is_newline, line_of, after_line, onto_first}
-use Rattle.mlir_work_session.specs.Limits.{most_input_bytes, most_script_bytes}
-use Rattle.mlir_work_session.specs.Output.{Attaches, Line, Replied, is_right, reply_text, way_of, worse}
-use Rattle.mlir_work_session.specs.Parts.{module_text, script_text}
-use Rattle.mlir_work_session.specs.Writes.{joined}
-use Rattle.mlir_work_session.proofs.Wider.{line_wider}
+use Rattle.mlir_work_run.specs.session.Limits.{most_input_bytes, most_script_bytes}
+use Rattle.mlir_work_run.specs.session.Output.{Attaches, Line, Replied, is_right, reply_text, way_of, worse}
+use Rattle.mlir_work_run.specs.session.Parts.{module_text, script_text}
+use Rattle.mlir_work_run.specs.session.Writes.{joined}
+use Rattle.mlir_work_run.proofs.Wider.{line_wider}
 use Rattle.mlir_work_run.specs.Live.{Live, Lives, divider_bytes, whole_lines}
 use Rattle.mlir_work_run.specs.Whole.{Setting, setting_of, way_at}
 use Rattle.mlir_work_run.proofs.Within.{joined_same, live_whole}

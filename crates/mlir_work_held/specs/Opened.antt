@@ -6,8 +6,8 @@ use Rattle.ir_event.specs.Modules.{Module}
 use Rattle.rewriter.specs.Panels.{Shown, all_shown}
 use Rattle.mlir_work_listeners.specs.Listeners.{seven_listener, kinds_of}
 use Rattle.mlir_work_listeners.specs.declared.seven.Seven.{Seven}
-use Rattle.mlir_work_session.specs.Limits.{most_input_bytes}
-use Rattle.mlir_work_session.specs.Output.{Attaches}
+use Rattle.mlir_work_run.specs.session.Limits.{most_input_bytes}
+use Rattle.mlir_work_run.specs.session.Output.{Attaches}
 use Rattle.mlir_work_run.specs.Whole.{IsWorldOf, WhyNot}
 use Rattle.mlir_work_held.specs.declared.session.Session.{Session}
 use Rattle.mlir_work_held.specs.Stepped.{state}

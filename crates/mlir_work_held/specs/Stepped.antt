@@ -7,8 +7,8 @@ use Rattle.rewriter.specs.Machine.{State}
 use Rattle.mlir_work_listeners.specs.Listeners.{seven_listener, seven_supply}
 use Rattle.mlir_work_script.specs.Commands.{Spoken, Nothing, Bad, Obey, Ordered, line_says}
 use Rattle.mlir_work_script.specs.Lines.{line_of, after_line}
-use Rattle.mlir_work_session.specs.Output.{IsBounded, Replies, way_of}
-use Rattle.mlir_work_session.specs.declared.manner.Manner.{Manner}
+use Rattle.mlir_work_run.specs.session.Output.{IsBounded, Replies, way_of}
+use Rattle.mlir_work_run.specs.session.declared.manner.Manner.{Manner}
 use Rattle.mlir_work_held.specs.declared.answer.Answer.{Answer}
 use Rattle.mlir_work_held.specs.declared.session.Session.{Session}
 use Rattle.mlir_work_held.specs.Answers.{answer_of, nothing, refused}

@@ -7,7 +7,7 @@ use Rattle.mlir_work_listeners.specs.Listeners.{seven_listener, seven_supply, ki
 use Rattle.mlir_work_listeners.specs.declared.seven.Seven.{Seven}
 use Rattle.mlir_work_script.specs.Expecting.{line_expects}
 use Rattle.mlir_work_script.specs.Lines.{line_of}
-use Rattle.mlir_work_session.specs.Output.{is_right, reply_text, worse}
+use Rattle.mlir_work_run.specs.session.Output.{is_right, reply_text, worse}
 use Rattle.mlir_work_run.specs.Whole.{IsOutput, setting_of}
 use Rattle.mlir_work_run.specs.declared.run.Options.{Options}
 use Rattle.mlir_work_held.specs.Answers.{answer_of, nothing}

@@ -1,12 +1,12 @@
 //! What a line is answered, in numbers.
 ghost use Rattle.std.specs.Prelude.{◌≡◌, ℕ};
 ghost use Rattle.mlir_work_script.specs.Outcomes.{outcome_of};
-ghost use Rattle.mlir_work_session.specs.Machine.{response_of};
+ghost use Rattle.mlir_work_run.specs.session.Machine.{response_of};
 ghost use Rattle.mlir_work_held.specs.Answers.{answer_of, came_of, closed as no_session, nothing as no_command, refused as refused_for, opened as a_session, unopened as unopened_for};
 
 use ir_event::types::refusal::Refusal;
-use mlir_work_session::outcome::Outcome;
-use mlir_work_session::reply::Reply;
+use mlir_work_run::outcome::Outcome;
+use mlir_work_run::reply::Reply;
 
 /// What a call answers. It is numbers, so that an answer takes no memory and isn't lost behind an edit that was made.
 #[repr(C)]

@@ -13,9 +13,9 @@ use crate::answer::Answer;
 use crate::session::{Session, obey_line, way};
 use ir_event::trees::value::Value;
 use ir_event::types::ids::OpId;
+use mlir_work_run::command::{Command, Line};
+use mlir_work_run::spots::Spot;
 use mlir_work_script::order::Order;
-use mlir_work_session::command::{Command, Line};
-use mlir_work_session::spots::Spot;
 use std::alloc::Global;
 
 /// `set-operand`: a value becomes an operand of an operation, by its place.

@@ -1,7 +1,7 @@
 //! What is known of sessions, whatever is said to them.
 ghost use Rattle.std.specs.Prelude.{ℕ, List, length, ◌≤◌};
-ghost use Rattle.mlir_work_session.specs.Limits.{most_input_bytes, most_script_bytes};
-ghost use Rattle.mlir_work_session.specs.Parts.{module_text, script_text};
+ghost use Rattle.mlir_work_run.specs.session.Limits.{most_input_bytes, most_script_bytes};
+ghost use Rattle.mlir_work_run.specs.session.Parts.{module_text, script_text};
 ghost use Rattle.mlir_work_run.specs.Live.{whole_lines};
 ghost use Rattle.mlir_work_held.specs.declared.session.Session.{Session};
 ghost use Rattle.mlir_work_held.specs.Opened.{Opened};

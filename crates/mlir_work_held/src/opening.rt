@@ -12,9 +12,9 @@ use crate::session::Session;
 use ir_event::types::refusal::Refusal;
 use ir_event::world::World;
 use mlir_work_listeners::seven::{Seven, all_listeners};
+use mlir_work_run::boxes::attach_all;
+use mlir_work_run::input::MAX_INPUT_BYTES;
 use mlir_work_run::run::{hold, tree_of};
-use mlir_work_session::boxes::attach_all;
-use mlir_work_session::input::MAX_INPUT_BYTES;
 use rewriter::Bench;
 use std::alloc::Global;
 

@@ -3,16 +3,16 @@ ghost use Rattle.std.specs.Prelude.{◌≡◌, length, min, take, drop, ◌++◌
 ghost use Rattle.rewriter.specs.Benched.{IsKept};
 ghost use Rattle.mlir_work_listeners.specs.Listeners.{seven_listener};
 ghost use Rattle.mlir_work_script.specs.Commands.{line_says, spoken_of};
-ghost use Rattle.mlir_work_session.specs.Output.{says_nothing};
+ghost use Rattle.mlir_work_run.specs.session.Output.{says_nothing};
 ghost use Rattle.mlir_work_held.specs.Stepped.{Answered, IsLeft, Said, Stepped, way};
 
 use crate::answer::{Answer, answer_of, nothing, refused};
 use ir_event::types::refusal::Refusal;
 use mlir_work_listeners::seven::Seven;
-use mlir_work_session::command::{Line, read_line};
-use mlir_work_session::lines::split_line;
-use mlir_work_session::manner::Manner;
-use mlir_work_session::script::answer;
+use mlir_work_run::command::{Line, read_line};
+use mlir_work_run::lines::split_line;
+use mlir_work_run::manner::Manner;
+use mlir_work_run::script::answer;
 use rewriter::Bench;
 use std::alloc::Global;
 

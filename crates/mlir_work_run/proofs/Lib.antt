@@ -4,3 +4,5 @@ pub mod Statuses
 pub mod Lives
 pub mod Within
 pub mod Beginnings
+pub use Rattle.mlir_work_session.proofs.Runs
+pub use Rattle.mlir_work_session.proofs.Wider

@@ -9,7 +9,7 @@ pub mod run;
 mod text;
 
 pub use mlir_work_session::{
-    Bench, cells, clauses, command, expect, greedy, input, keys, kind, lines, manner, numbers,
-    order, outcome, reader, replies, rule_name, script, sink, source, spots, supplied, values,
-    watched, words, writing,
+    Bench, boxes, cells, clauses, command, expect, greedy, input, keys, kind, lines, manner,
+    numbers, order, outcome, reader, replies, reply, rule_name, script, sink, source, spots,
+    supplied, values, watched, words, writing,
 };

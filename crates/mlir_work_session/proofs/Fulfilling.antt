@@ -11,7 +11,7 @@ use Rattle.mlir_work_script.specs.Orders.{Attach, Order, PrintIds, Rewrite}
 use Rattle.mlir_work_session_base.specs.IdsText.{ids_text}
 use Rattle.mlir_work_session.specs.Machine.{AttachesKind, Fulfils, OrdersIn, Way, limit_or, order_shows}
 use Rattle.mlir_work_session.specs.Output.{IsBounded}
-use Rattle.greedy.specs.Changes.{rewriting}
+use Rattle.mlir_work_transforms.specs.greedy.Changes.{rewriting}
 use Rattle.mlir_work_transforms.specs.Rewriting.{rewriting_named, rules_named}
 use Rattle.mlir_work_transforms.specs.Rule.{Rule}
 use Rattle.mlir_work_session.proofs.Obeying.{some_goes}

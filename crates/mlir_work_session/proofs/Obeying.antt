@@ -21,7 +21,7 @@ use Rattle.mlir_work_transforms.specs.rewriter.Machine.{State, OpenMark, Call, D
 use Rattle.mlir_work_transforms.specs.rewriter.Panels.{Shown, is_kind, has_kind, shown}
 use Rattle.mlir_work_transforms.specs.rewriter.Spots.{Spot, spot_place}
 use Rattle.mlir_work_session.specs.Texts.{NotRead}
-use Rattle.greedy.specs.Changes.{canonicalizing}
+use Rattle.mlir_work_transforms.specs.greedy.Changes.{canonicalizing}
 use Rattle.mlir_work_transforms.specs.Applying.{applying, rule_named}
 use Rattle.mlir_work_transforms.specs.Converting.{conversion}
 use Rattle.mlir_work_transforms.specs.Rule.{Rule}

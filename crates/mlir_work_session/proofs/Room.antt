@@ -6,10 +6,10 @@ use Rattle.ir_event.specs.types.declared.refusal.Refusal.TheVariants.{Full}
 use Rattle.mlir_work_transforms.specs.rewriter.Commands.{Command, Response, Replied, RuleName}
 use Rattle.mlir_work_transforms.specs.rewriter.Machine.{IsFullSo, Refused, Reply, State, Transformation}
 use Rattle.mlir_work_script.specs.Orders.{Order}
-use Rattle.greedy.specs.Changes.{canonical_reply, canonicalizing, rewriting}
-use Rattle.greedy.specs.Outcomes.{IsReason}
-use Rattle.greedy.specs.declared.outcome.Outcome.{Outcome as Ended}
-use Rattle.greedy.proofs.Changing.{canon_full}
+use Rattle.mlir_work_transforms.specs.greedy.Changes.{canonical_reply, canonicalizing, rewriting}
+use Rattle.mlir_work_transforms.specs.greedy.Outcomes.{IsReason}
+use Rattle.mlir_work_transforms.specs.greedy.declared.outcome.Outcome.{Outcome as Ended}
+use Rattle.mlir_work_transforms.proofs.Changing.{canon_full}
 use Rattle.mlir_work_transforms.specs.Applying.{application, applying, rule_named}
 use Rattle.mlir_work_transforms.specs.Rewriting.{rewriting_named, rules_named}
 use Rattle.mlir_work_transforms.specs.Rule.{Rule}

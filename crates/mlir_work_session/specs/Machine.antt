@@ -14,7 +14,7 @@ use Rattle.mlir_work_transforms.specs.rewriter.Panels.{Shown}
 pub use Rattle.mlir_work_transforms.specs.rewriter.Machine.{State}
 use Rattle.mlir_work_script.specs.Orders.{Attach, Order, PrintIds, Rewrite}
 use Rattle.mlir_work_script.specs.Outcomes.{outcome_of}
-use Rattle.greedy.specs.Changes.{canonicalizing}
+use Rattle.mlir_work_transforms.specs.greedy.Changes.{canonicalizing}
 use Rattle.mlir_work_transforms.specs.Converting.{conversion}
 use Rattle.mlir_work_transforms.specs.Applying.{application}
 use Rattle.mlir_work_transforms.specs.Rewriting.{rewriting_named}

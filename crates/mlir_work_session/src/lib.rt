@@ -23,11 +23,11 @@ mod texts;
 mod transforming;
 mod unread;
 
-pub use greedy;
 pub use ir_text::reader;
 pub use mlir_work_script::{
     cells, clauses, command, expect, input, items, keys, kind, lines, numbers, order, outcome,
     replies, rule_name, sink, source, spots, values, watched, words, writing,
 };
 pub use mlir_work_session_base::supplied;
+pub use mlir_work_transforms::greedy;
 pub use mlir_work_transforms::rewriter::Bench;

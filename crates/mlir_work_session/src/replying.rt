@@ -3,18 +3,18 @@ ghost use Rattle.std.specs.Prelude.{◌≡◌};
 ghost use Rattle.mlir_work_transforms.specs.rewriter.Commands.{Replied};
 ghost use Rattle.mlir_work_transforms.specs.rewriter.Machine.{fault_reply};
 ghost use Rattle.mlir_work_transforms.specs.rewriter.Benched.{id_reply_of, reply_of};
-ghost use Rattle.greedy.specs.Changes.{canonical_reply};
+ghost use Rattle.mlir_work_transforms.specs.greedy.Changes.{canonical_reply};
 ghost use Rattle.mlir_work_transforms.specs.Applying.{applied_reply};
 ghost use Rattle.mlir_work_transforms.specs.Converting.{conversion_reply};
 ghost use Rattle.mlir_work_transforms.specs.Sweep.{sweep_reply};
 ghost use Rattle.mlir_work_session.specs.Machine.{response_of};
 
 use crate::reply::Reply;
-use greedy::outcome::Outcome as Ended;
 use ir_event::types::ids::OpId;
 use ir_event::types::refusal::Refusal;
 use mlir_work_script::outcome::Outcome;
 use mlir_work_transforms::fault::Fault;
+use mlir_work_transforms::greedy::outcome::Outcome as Ended;
 
 /// The reply to a call that changes.
 pub(crate) fn reply_to(called: Result<(), Refusal>) -> Reply

@@ -13,8 +13,8 @@ use Rattle.conversion.specs.rewriter.Machine.{Answer, Change, IsAnswer, IsFullSo
 use Rattle.conversion.specs.rewriter.Panels.{AllAge}
 use Rattle.conversion.specs.patterns.Applied.{Gave, IsReason, IsRefusedSo}
 use Rattle.conversion.specs.patterns.runs.Interning.{IsFull}
-use Rattle.patterns_base.specs.Rewrites.{Rewrite, none, refused, becomes, rewrite_of}
-use Rattle.patterns_base.specs.declared.rule.Rule.{Rule}
+use Rattle.conversion.specs.patterns.Rewrites.{Rewrite, none, refused, becomes, rewrite_of}
+use Rattle.conversion.specs.patterns.Rule.{Rule}
 use Rattle.mlir_work_transforms.specs.Applying.{applied_at, applied_reply, applying, made_of}
 use Rattle.std.proofs.lemmas.Bool.{cases_Bool}
 

@@ -4,8 +4,8 @@ use Rattle.std.specs.Prelude.{is_some, option_and_then}
 use Rattle.std.proofs.lemmas.List.Elements.{All-nil, All-cons}
 use Rattle.std.proofs.lemmas.Bool.{cases_Bool}
 use Rattle.conversion.specs.rewriter.Commands.{RuleName}
-use Rattle.patterns_base.specs.RuleNames.{is_canonical}
-use Rattle.patterns_base.specs.declared.rule.Rule.{Rule}
+use Rattle.conversion.specs.patterns.RuleNames.{is_canonical}
+use Rattle.conversion.specs.patterns.Rule.{Rule}
 use Rattle.conversion.specs.patterns.Rows.{AreCanonical}
 use Rattle.mlir_work_script.specs.Items.{items_behind}
 use Rattle.mlir_work_script.specs.RuleNames.{name_or_none, rule_in}

@@ -7,3 +7,4 @@ pub mod Named
 pub mod Ruled
 pub mod Chosen
 pub use Rattle.conversion.proofs.of_rewriter
+pub use Rattle.greedy.proofs.Changing

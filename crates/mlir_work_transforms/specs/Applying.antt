@@ -6,9 +6,9 @@ use Rattle.ir_event.specs.trees.Ids.{has_id}
 use Rattle.ir_event.specs.Modules.{Module}
 use Rattle.conversion.specs.rewriter.Commands.{RuleName, Numbered, Worded}
 use Rattle.conversion.specs.rewriter.Machine.{Applied, DoneWith, Fault, Outcome, Refused, Reply, Transformation}
-use Rattle.patterns_base.specs.Rewrites.{Rewrite, none, refused, becomes, rewrite_of}
-use Rattle.patterns_base.specs.RuleNames.{by_number, by_word}
-use Rattle.patterns_base.specs.declared.rule.Rule.{Rule}
+use Rattle.conversion.specs.patterns.Rewrites.{Rewrite, none, refused, becomes, rewrite_of}
+use Rattle.conversion.specs.patterns.RuleNames.{by_number, by_word}
+use Rattle.conversion.specs.patterns.Rule.{Rule}
 
 -- how often a rule was applied
 abbrev pub applied_times : Bool → ℕ

@@ -5,5 +5,6 @@ pub mod Erasing
 pub mod Interned
 pub use Rattle.conversion.specs.Converting
 pub use Rattle.conversion.specs.declared.fault.Fault
-pub use Rattle.patterns_base.specs.declared.rule.Rule
+pub use Rattle.conversion.specs.patterns.Rule
 pub use Rattle.conversion.specs.rewriter
+pub use Rattle.greedy.specs as greedy

@@ -2,8 +2,8 @@
 use Rattle.std.specs.Prelude.{ℕ, List, [], ◌∷◌, Option, Some, None, option_and_then, option_map, if◌then◌else◌}
 use Rattle.conversion.specs.rewriter.Commands.{RuleName}
 use Rattle.conversion.specs.rewriter.Machine.{Transformation}
-use Rattle.patterns_base.specs.RuleNames.{is_canonical}
-use Rattle.patterns_base.specs.declared.rule.Rule.{Rule}
+use Rattle.conversion.specs.patterns.RuleNames.{is_canonical}
+use Rattle.conversion.specs.patterns.Rule.{Rule}
 use Rattle.greedy.specs.Changes.{rewriting}
 use Rattle.mlir_work_transforms.specs.Applying.{rule_named}
 

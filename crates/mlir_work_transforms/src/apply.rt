@@ -9,11 +9,11 @@ ghost use Rattle.mlir_work_transforms.specs.Applying.{applied_reply, applying, r
 
 use conversion::rewriter::Bench;
 use conversion::rewriter::laws::led_benches_are_kept;
+use greedy::patterns::rule::Rule;
 use ir_event::analysis::Analysis;
 use ir_event::types::ids::OpId;
 use ir_event::types::refusal::Refusal;
 use mlir_work_script::rule_name::RuleName;
-use patterns_base::rule::Rule;
 use std::alloc::Global;
 
 /// The rule that a command names, if there is one of that name.

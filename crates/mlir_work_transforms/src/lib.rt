@@ -12,3 +12,4 @@ pub mod sweep;
 mod target;
 
 pub use conversion::{fault, rewriter};
+pub use greedy;

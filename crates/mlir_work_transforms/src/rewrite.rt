@@ -6,10 +6,10 @@ ghost use Rattle.mlir_work_script.specs.RuleNames.{name_of, names_of};
 ghost use Rattle.mlir_work_transforms.specs.Rewriting.{canonical_named, rules_named};
 
 use crate::apply::rule_named;
+use greedy::patterns::rule::Rule;
 use ir_event::types::refusal::Refusal;
 use mlir_work_script::items::split_item;
 use mlir_work_script::rule_name::{RuleName, name_in};
-use patterns_base::rule::Rule;
 use std::alloc::Global;
 
 /// The rule of a name, if there is one that canonicalization tries.

@@ -1,7 +1,7 @@
 use Rattle.std.proofs.Common.{◌≡◌, ◌∙◌, ap, sym, inr}
 use Rattle.std.specs.Prelude.{option_map}
 use Rattle.ir_event.specs.types.declared.refusal.Refusal.TheVariants.{Full, Memory}
-use Rattle.greedy.specs.Changes.{rewriting}
+use Rattle.mlir_work_transforms.specs.greedy.Changes.{rewriting}
 use Rattle.mlir_work_script.specs.RuleNames.{names_of}
 use Rattle.mlir_work_session.specs.Machine.{limit_or, way_of}
 use Rattle.mlir_work_session.proofs.Fulfilling.{fulfils_ruled, fulfils_unlisted, fulfils_unruled}

@@ -1,6 +1,6 @@
 use Rattle.std.proofs.Common.{◌≡◌, ◌∙◌, ap, sym, refl, subst, List}
 use Rattle.std.specs.Option.{option_copied}
-use Rattle.patterns_base.specs.declared.rule.Rule.{Rule}
+use Rattle.conversion.specs.patterns.Rule.{Rule}
 use Rattle.mlir_work_script.specs.Items.{items_behind}
 use Rattle.mlir_work_script.specs.RuleNames.{names_of}
 use Rattle.mlir_work_transforms.specs.Rewriting.{canonical_named, rules_named}
