@@ -1,29 +1,32 @@
 """Runs a module and a script by the rules, as the program does, in bench/:
 
-python3 -m reference [--brief] [--limit N] [--opaque | --interactive] < INPUT
-python3 -m reference [--brief] [--limit N] --own-patterns [--patterns FILE].. < INPUT
+python3 -m reference [--brief] [--limit N] [--format FORMAT] [--opaque] < INPUT
+python3 -m reference [--brief] [--limit N] --interactive < INPUT
+python3 -m reference [--brief] [--limit N] [--format FORMAT] --own-patterns [--patterns FILE].. < INPUT
 
-With --interactive each line is answered as soon as it is there. With --opaque, which the program doesn't have yet,
-opaque terms, aliases and locations are read. With --own-patterns it knows the commands of docs/PATTERNS.md too, which
-the program doesn't have; a file has patterns, one a line, which are there from the start."""
+FORMAT is text or json. With --interactive each line is answered as soon as it is there. With --opaque, which the
+program doesn't have yet, opaque terms, aliases and locations are read. With --own-patterns it knows the commands of
+docs/PATTERNS.md too, which the program doesn't have; a file has patterns, one a line, which are there from the
+start."""
 import pathlib
 import re
 import sys
 
-from . import live, own
+from . import json_lines, live, own
 from .script import LIMIT, MOST_LIMIT, run, run_opaque
 
 
 class Options:
-    """Whether to be brief, the limit, whether opaque terms are read, whether lines are answered one by one, and the
-    files of patterns; none of these where there are to be no patterns."""
+    """Whether to be brief, the limit, the format, whether opaque terms are read, whether lines are answered one by one,
+    and the files of patterns; none of these where there are to be no patterns."""
 
     def __init__(self, words):
         self.brief, self.limit, self.is_open, self.is_live, self.files = False, None, False, False, None
+        self.format = None
         while words:
             words = self.after(*words)
         self.limit = self.limit or LIMIT
-        if self.is_open + self.is_live + (self.files is not None) > 1:
+        if self.is_open + self.is_live + (self.files is not None) > 1 or self.is_live and self.format:
             raise ValueError
 
     def after(self, word, *rest):
@@ -37,6 +40,9 @@ class Options:
         if word == "--interactive" and not self.is_live:
             self.is_live = True
             return rest
+        if word == "--format" and self.format is None and rest and rest[0] in ("text", "json"):
+            self.format = rest[0]
+            return rest[1:]
         if word == "--own-patterns" and self.files is None:
             self.files = []
             return rest
@@ -57,7 +63,7 @@ class Options:
                 out.flush()
             return status
         status, told = self.run_whole(given.read())
-        out.write(told)
+        out.write(json_lines.json_of(told) if self.format == "json" else told)
         return status
 
     def run_whole(self, text):

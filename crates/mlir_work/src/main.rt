@@ -6,11 +6,13 @@ mod files;
 use crate::files::{Fault, input, names_any, output_of};
 use clap::Error;
 use clap::error::ErrorKind;
+use mlir_work_front::json::run_as_json;
+use mlir_work_front::options::{Format, Given, options_of};
 use mlir_work_listeners::seven::all_listeners;
 use mlir_work_run::dry::Bytes;
 use mlir_work_run::live::run_live;
-use mlir_work_run::options::{Given, options_of};
 use mlir_work_run::run::{Options, run_watched};
+use mlir_work_run::source::Source;
 use mlir_work_run::watched::Watched;
 use std::alloc::AllocError;
 use std::io::BufWriter;
@@ -73,28 +75,23 @@ fn refuse_input(rt: &HostRuntime, fault: &Fault<'_>) -> u8 {
     2
 }
 
-/// Runs an input that is there, and gives the status.
-fn run_input<W: io::Write + Drop>(
+/// Runs what a reader has, with the analyses of the program, in the order of their kinds, and gives the status.
+fn run_all<R: Source, W: io::Write + Drop>(
     rt: &HostRuntime,
-    options: Options,
-    input: &[u8],
+    given: &Given<'_>,
+    reader: &mut R,
     writer: W,
 ) -> Result<u8, AllocError> {
-    let listeners = all_listeners(rt.alloc())?;
+    let boxes = all_listeners(rt.alloc())?;
     let Ok(writer) = BufWriter::new(rt.alloc(), writer) else {
         return Err(AllocError);
     };
-    let mut reader = Bytes { rest: input };
     let mut writer = Watched::new(writer);
-    let key = key_of(rt);
-    Ok(run_watched(
-        rt.alloc(),
-        key,
-        options,
-        &mut reader,
-        &mut writer,
-        listeners,
-    ))
+    let (alloc, key, options) = (rt.alloc(), key_of(rt), given.options);
+    match given.format {
+        Format::Text => Ok(run_watched(alloc, key, options, reader, &mut writer, boxes)),
+        Format::Json => run_as_json(alloc, key, options, reader, &mut writer, boxes),
+    }
 }
 
 /// Runs what the command line names, and gives the status.
@@ -103,11 +100,12 @@ fn run_named(rt: &HostRuntime, given: &Given<'_>) -> Result<u8, AllocError> {
         Ok(input) => input,
         Err(fault) => return Ok(refuse_input(rt, &fault)),
     };
+    let mut reader = Bytes { rest: &input };
     let Some(name) = output_of(given) else {
-        return run_input(rt, given.options, &input, io::writer(rt));
+        return run_all(rt, given, &mut reader, io::writer(rt));
     };
     match fs::create(rt, name) {
-        Ok(file) => run_input(rt, given.options, &input, file),
+        Ok(file) => run_all(rt, given, &mut reader, file),
         Err(_) => {
             let _ = eprintln!(rt; "error: {name}: it can't be written");
             Ok(2)
@@ -115,35 +113,21 @@ fn run_named(rt: &HostRuntime, given: &Given<'_>) -> Result<u8, AllocError> {
     }
 }
 
-/// Runs with the analyses of the program, in the order of their kinds, and gives the status. With `--interactive` each
-/// line is answered as soon as it is there, and else all is read first.
-fn run_all(rt: &HostRuntime, options: Options) -> Result<u8, AllocError> {
+/// Answers each line of standard input as soon as it is there, with the analyses of the program, in the order of their
+/// kinds, and gives the status.
+fn answer_lines(rt: &HostRuntime, options: Options) -> Result<u8, AllocError> {
     let listeners = all_listeners(rt.alloc())?;
     let Ok(writer) = BufWriter::new(rt.alloc(), io::writer(rt)) else {
         return Err(AllocError);
     };
-    let mut reader = Watched::new(rt.stdin());
-    let mut writer = Watched::new(writer);
-    let key = key_of(rt);
-    Ok(if options.ends {
-        run_live(
-            rt.alloc(),
-            key,
-            options,
-            &mut reader,
-            &mut writer,
-            listeners,
-        )
-    } else {
-        run_watched(
-            rt.alloc(),
-            key,
-            options,
-            &mut reader,
-            &mut writer,
-            listeners,
-        )
-    })
+    Ok(run_live(
+        rt.alloc(),
+        key_of(rt),
+        options,
+        &mut Watched::new(rt.stdin()),
+        &mut Watched::new(writer),
+        listeners,
+    ))
 }
 
 /// Runs what the command line says, and gives the status.
@@ -151,7 +135,10 @@ fn run_given(rt: &HostRuntime, given: &Given<'_>) -> Result<u8, AllocError> {
     if names_any(given) || output_of(given).is_some() {
         return run_named(rt, given);
     }
-    run_all(rt, given.options)
+    if given.options.ends {
+        return answer_lines(rt, given.options);
+    }
+    run_all(rt, given, &mut Watched::new(rt.stdin()), io::writer(rt))
 }
 
 fn main(rt: HostRuntime) -> ExitCode {

@@ -1,0 +1,123 @@
+"""The output of a run as JSON, by the table of docs/JSON.md: an object a line, its keys in order."""
+import json
+import re
+
+# The words of a row of `symbols`, with what their cells are.
+SYMBOLS = {b"def": ("table", "name", "op"), b"duplicate": ("table", "name", "op"), b"use": ("op", "name", "target"),
+           b"unresolved": ("op", "name"), b"mismatch": ("op", "target")}
+MOST = 2 ** 32
+# A cell ends at a blank that stands in no quotes.
+CELL = re.compile(rb'(?:"[^"]*(?:"|\Z)|[^ "])*')
+
+
+def cut(text):
+    """The first cell, and what stands behind its blank."""
+    end = CELL.match(text).end()
+    return text[:end], text[end + 1:]
+
+
+def parts(text, mark):
+    """The parts of a text that end at a mark, or at its end."""
+    found = text.split(mark)
+    return found if found[-1] else found[:-1]
+
+
+def shown(word):
+    """A text. What is no UTF-8 is U+FFFD."""
+    return word.decode("utf-8", "replace")
+
+
+def number(word):
+    """The number that a word is as it is printed, or else the word."""
+    if re.fullmatch(rb"0|[1-9][0-9]*", word) and int(word) < MOST:
+        return int(word)
+    return shown(word)
+
+
+def refusal(rest):
+    """`22 HasUses`, and behind it an operation, or `at` and an offset."""
+    refused, rest = cut(rest)
+    word, place = cut(rest)
+    told = {"refused": number(refused), "word": shown(word)}
+    if place.startswith(b"#"):
+        return {**told, "op": shown(place)}
+    return {**told, "offset": number(cut(place)[1])} if place else told
+
+
+def reply(line):
+    n, rest = cut(line)
+    told, (word, behind) = {"n": number(n)}, cut(rest)
+    if word == b"refused":
+        return {**told, **refusal(behind)}
+    if word == b"expected":
+        expected, word = cut(behind)
+        return {**told, "expected": number(expected), "word": shown(word)}
+    told["reply"] = shown(word)
+    if behind.startswith(b"#"):
+        return {**told, "op": shown(behind)}
+    return {**told, "count": number(behind)} if behind else told
+
+
+def row_of_operation(line):
+    op, rest = cut(line)
+    if not rest:
+        return {"kind": "dead", "op": shown(line)}
+    told = {"op": shown(op)}
+    if rest.startswith(b"@"):
+        return {"kind": "unreached", **told, "name": shown(rest)}
+    if rest.startswith(b"V"):
+        return {"kind": "diagnostics", **told, "rule": shown(rest)}
+    return {"kind": "effects", **told, "words": [shown(word) for word in parts(rest, b" ")]}
+
+
+def row_of_value(line):
+    value, rest = cut(line)
+    if not rest.startswith(b"#"):
+        return {"kind": "constants", "value": shown(value), "attribute": shown(rest)}
+    user, operand = cut(rest)
+    return {"kind": "uses", "value": shown(value), "user": shown(user), "operand": number(operand)}
+
+
+def row_of_symbols(line):
+    group, rest = cut(line)
+    told, keys = {"kind": "symbols", "group": shown(group)}, SYMBOLS[group]
+    for key in keys[:-1]:
+        cell, rest = cut(rest)
+        told[key] = shown(cell)
+    return {**told, keys[-1]: shown(rest)}
+
+
+def worded(line):
+    """A line that begins with a word."""
+    word, rest = cut(line)
+    if word in SYMBOLS:
+        return row_of_symbols(line)
+    if word == b"--":
+        kind, state = cut(rest)
+        return {"kind": shown(kind), **({"state": shown(state)} if state else {})}
+    if word == b"module":
+        return refusal(cut(rest)[1])
+    if word == b"attach":
+        kind, rest = cut(rest)
+        return {"attach": shown(kind), **refusal(cut(rest)[1])}
+    return {"text": shown(line)}
+
+
+def said(line):
+    """What a line says, without its end."""
+    first = line[:1]
+    if first.isdigit():
+        return reply(line)
+    if first == b"#":
+        return row_of_operation(line)
+    if first == b"%":
+        return row_of_value(line)
+    if first and first in b' "}^':
+        return {"module": shown(line)}
+    return worded(line)
+
+
+def json_of(output):
+    """A whole output as JSON."""
+    return "".join(json.dumps(said(line), sort_keys=True, ensure_ascii=False, separators=(",", ":")) + "\n"
+                   for line in parts(output, b"\n")).encode()

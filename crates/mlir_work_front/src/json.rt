@@ -1,0 +1,59 @@
+//! A run whose output is written as JSON.
+ghost use Rattle.std.specs.Prelude.{◌≡◌, ℕ, IfOk, IfSome, OnErr};
+ghost use Rattle.std.specs.Io.KnownBytes.{Keeps};
+ghost use Rattle.mlir_work_session.specs.Panels.{all_shown};
+ghost use Rattle.mlir_work_session.specs.Writes.{Puts};
+ghost use Rattle.mlir_work_run.specs.Ends.{HasStatus};
+ghost use Rattle.mlir_work_run.specs.Whole.{IsOutput, setting_of};
+ghost use Rattle.mlir_work_front.specs.Json.{IsJsonOutput};
+
+use mlir_work_json::text::json_text;
+use mlir_work_run::run::{Options, run_watched};
+use mlir_work_run::sink::Sink;
+use mlir_work_run::source::Source;
+use mlir_work_run::supplied::Supplied;
+use mlir_work_run::watched::Watched;
+use mlir_work_run::writing::{WriteFault, flush, put};
+use std::alloc::{AllocError, Global};
+
+/// Writes all bytes, and hands them on.
+fn written<W: Sink>(writer: &mut W, bytes: &[u8]) -> Result<(), WriteFault>
+    ensures { Puts (W.stream writer.old) (W.stream writer.new) bytes.now result }
+{
+    match put(writer, bytes) {
+        Ok(()) => flush(writer),
+        Err(fault) => Err(fault),
+    }
+}
+
+/// Reads the whole input, a module and a script, and then writes the output as JSON, an object for each line of it. What
+/// is written is the JSON of an output of what was read, with the exit status of `run_watched`, which is 4 where a read
+/// or a write failed. The output is held in memory before any of it is written: where there is none for it, or for the
+/// JSON, nothing was written, and there is no status.
+pub fn run_as_json<L: Supplied, R: Source, W: Sink>(
+    alloc: Global,
+    key: u64,
+    options: Options,
+    reader: &mut R,
+    writer: &mut W,
+    boxes: Vec<L>,
+) -> Result<u8, AllocError>
+    ensures ran { IfOk result (λ status. IfSome (R.intake reader.old).remaining (λ input. HasStatus
+        (IsJsonOutput (setting_of L.supply options) (all_shown L.meaning boxes.items) input)
+        (W.stream writer.old).contents (W.stream writer.new).contents status)) }
+    ensures unwritten { OnErr result (Keeps (W.stream writer.old).contents (W.stream writer.new).contents) }
+{
+    let mut kept = Watched::new(Vec::new(alloc));
+    let status = run_watched(alloc, key, options, reader, &mut kept, boxes);
+    if kept.has_failed() {
+        return Err(AllocError);
+    }
+    if status == 4 {
+        return Ok(4);
+    }
+    let json = json_text(alloc, &kept.into_inner())?;
+    match written(writer, &json) {
+        Ok(()) => Ok(status),
+        Err(WriteFault) => Ok(4),
+    }
+}

@@ -1,0 +1,193 @@
+//! The texts of `--help` and `--version`.
+
+/// What `--version` says behind the program's name: the newest version of CHANGELOG.md.
+pub(crate) const VERSION: &str = "1.0.0";
+
+/// What stands above the usage.
+pub(crate) const ABOUT: &str = "\
+Edits an MLIR module in generic text form by a script, and reports analyses that
+are kept up to date.
+
+Standard input, or the file MODULE, is the module, a line that is exactly
+`// -----`, and the script; without such a line the script is empty. Replies,
+the module and the rows of analyses go to standard output.";
+
+/// What is said of MODULE.
+pub(crate) const MODULE: &str = "The module, with a script behind it or not; `-` is standard input";
+
+/// What `--script` says.
+pub(crate) const SCRIPT: &str = "A further script; it may stand more than once";
+
+/// What `--command` says.
+pub(crate) const COMMAND: &str = "A further command, behind all scripts; likewise";
+
+/// What `--output` says.
+pub(crate) const OUTPUT: &str = "Where the output goes, not to standard output";
+
+/// What `--brief` says.
+pub(crate) const BRIEF: &str = "Leave out the module and all rows behind each edit";
+
+/// What `--limit` says.
+pub(crate) const LIMIT: &str = "The most rewrites of a plain `canon`";
+
+/// Its number, where it isn't there.
+pub(crate) const DEFAULT_LIMIT: &str = "1000";
+
+/// What `--format` says.
+pub(crate) const FORMAT: &str = "`text`, or `json`: an object a line";
+
+/// The format of lines of text, which is there where none is named.
+pub(crate) const TEXT: &str = "text";
+
+/// The format of JSON.
+pub(crate) const JSON: &str = "json";
+
+/// What `--interactive` says.
+pub(crate) const INTERACTIVE: &str = "Answer each line at once, and end it by an empty line";
+
+/// What stands below the options.
+pub(crate) const AFTER: &str = "\
+Commands, one a line; empty lines and lines that begin with `//` are skipped and
+not counted.
+
+To look:
+  print                      the module
+  print ids                  the module with the number of its operation at the
+                             end of each line, as a comment
+  report KIND                the rows of an analysis
+
+To edit:
+  set-operand #N K VALUE     VALUE becomes operand K of operation #N
+  replace VALUE VALUE        the second VALUE is used in place of the first,
+                             everywhere
+  insert PLACE OPERATION     OPERATION, the rest of the line, is put in, with
+                             what is inside it
+  move #N PLACE              operation #N, with what is inside it, is moved
+  erase #N                   operation #N, with what is inside it, is taken away
+  set-attr #N KEY ATTRIBUTE  ATTRIBUTE, the rest of the line, becomes the entry
+                             KEY of operation #N
+  drop-attr #N KEY           the entry KEY of operation #N is taken out
+
+To rewrite:
+  canon                      the first operation to which one of the rules 1 to
+                             24 applies (docs/CANONICALIZE.md) is rewritten by
+                             the lowest such rule, again and again, until none
+                             applies, or `--limit` times
+  canon limit N              the same, N times at most
+  rewrite RULES              the same, but only by RULES of 1 to 24, which are
+                             tried in this order at an operation
+  rewrite RULES limit N      the same, N times at most
+  canon only RULES           as `rewrite RULES`
+  canon only RULES limit N   as `rewrite RULES limit N`
+  convert MODE CLAUSES       operations that aren't legal for a target are
+                             replaced by rules, one after another, and casts
+                             between types reconciled, or all stays as it was
+                             (docs/CONVERT.md); MODE is `partial`, or `full`,
+                             where each operation has to be legal in the end
+  sweep                      the private symbols that nothing reaches are taken
+                             away, with what is inside them, or none of them
+  apply RULE #N              one of the rules 1 to 30 is applied at operation #N,
+                             where it applies there
+
+Marks, of which 16 may be open:
+  begin                      a mark is made of the module
+  commit                     the newest mark is dropped
+  rollback                   the module of the newest mark is held again, and
+                             the mark is dropped; a `detach` or an `attach`
+                             is not undone
+
+Analyses, which are all attached at the beginning:
+  detach KIND                an analysis is dropped
+  attach KIND                one that was dropped is made anew, and reported last
+  resync KIND                an analysis begins again
+
+To say what is to come:
+  expect REFUSAL COMMAND     COMMAND, the rest of the line, is to be refused so:
+                             then the refusal is right, and anything else wrong
+
+Operations are numbered in the order of the text, and the module around them is
+#0; one that is put in takes the next free number, and those inside it the next.
+  VALUE      %vN.K, result K of #N, or %aN.R.K, argument K of the block of
+             region R of #N; the names of the text, as %c, are gone
+  PLACE      `before #N`, `after #N`, or `start #N R` or `end #N R`, of the
+             block of region R of #N
+  OPERATION  one line in generic form; it names values of the module as above
+  RULE       the number of a rule, or its word, as 4 or drop-zero
+  RULES      rules with commas and no blanks, as 4,drop-one
+  REFUSAL    the number of a refusal, or its word, as 22 or HasUses
+  KEY        a bare identifier or a string literal; it is one of the properties
+             where it is inherent to the operation or they have it, else one of
+             the attributes
+  ATTRIBUTE  as in a text: a string has quotes, and `5` is `5 : i64`
+  CLAUSES    any of these, each once: `legal NAMES`, `illegal NAMES`, and
+             `dynamic NAMES`, legal where nothing of theirs is an index;
+             `rules NUMBERS`, of 2 and 25 to 30, tried in this order; and
+             `depth N`, how deep rules follow one another, 16 at most; NAMES
+             and NUMBERS have commas and no blanks, as `rules 27,26`
+
+Each command is replied to by a line that begins with its number: `1 ok`, and
+behind an insert the number of the new operation, as `1 ok #4`; a sweep by how
+many symbols it took, as `1 swept 2`; a `canon` or a `rewrite` by how many
+rewrites it made, as `1 converged 3`, or `1 limit 3` where a rule still applies;
+a `convert` by how many rules stand, as `1 converted 2`; an `apply` by
+`1 applied 1`, or `1 applied 0` where the rule doesn't apply. What is refused,
+as `1 refused 23 NotVisible`, changes nothing, and the next command is tried;
+`1 refused 2 Unexpected at 4` says at which byte the ATTRIBUTE or the OPERATION
+is wrong, and `1 refused 51 NotLegalised #3` for which operation a `convert` is.
+Where a line expects a refusal and something else comes, `1 expected 22 HasUses`
+stands below the reply.
+
+With `--format json` each of these lines, of the module's and of the rows is an
+object, as {\"n\":1,\"refused\":22,\"word\":\"HasUses\"} (docs/JSON.md). It doesn't
+go with `--interactive`.
+
+Kinds:
+  uses         the uses of each value: the value, the operation that uses it,
+               and the number of the operand
+  symbols      the symbols that are defined, what each reference to one resolves
+               to, and the calls that don't fit
+  diagnostics  what the verifier finds wrong: the operation, and the number of
+               the rule that it breaks (docs/VERIFIER.md)
+  effects      what operations do to memory: `unknown`, `allocate`, `free`,
+               `read`, `write`
+  dead         the operations that may be erased: no result is used, and nothing
+               is written or freed
+  constants    the values that are known without running, each with its
+               attribute
+  unreached    the private symbols that nothing reaches: the operation, and its
+               name
+
+Exit status:
+  0  each command was accepted, or refused as it was expected to be; also of
+     --help
+  1  a command was refused, or not as it was expected to be, or an analysis that
+     was to be attached; what each number means stands in docs/REFUSALS.md
+  2  the command line is wrong, or there was no memory to begin
+  3  the module was refused, as in `module refused 3 UnknownValue at 9`: the
+     number and word of the reason, and the byte where it stands
+  4  a read or a write failed; with `--interactive` also where a line found no
+     memory, or is longer than 16 MiB
+
+Custom forms are not read: print them with `mlir-opt --mlir-print-op-generic`
+first.
+
+Example:
+  $ mlir_work --brief <<'END'
+  %a = \"arith.constant\"() <{value = 1 : i32}> : () -> i32
+  %b = \"arith.constant\"() <{value = 2 : i32}> : () -> i32
+  \"test.pair\"(%a, %b) : (i32, i32) -> ()
+  // -----
+  begin
+  set-operand #3 1 %v1.0
+  report dead
+  rollback
+  report uses
+  END
+  1 ok
+  2 ok
+  3 ok
+  #2
+  4 ok
+  5 ok
+  %v1.0 #3 0
+  %v2.0 #3 1";

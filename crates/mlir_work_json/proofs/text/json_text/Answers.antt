@@ -1,0 +1,20 @@
+use Rattle.std.proofs.Common.{◌≡◌, ◌++◌, refl, sym, ap, ◌∙◌, length}
+use Rattle.mlir_work_json.specs.Cuts.{before}
+use Rattle.mlir_work_json.specs.Lines.{is_end, json_line}
+use Rattle.mlir_work_json.proofs.Writing.{line_done, not_empty, all_written}
+use Rattle.mlir_work_json.proofs.text.json_text.Goals as goal
+
+pub loop-rest-init : goal.loop-rest-init
+loop-rest-init c = rw c.new-json.ensures.items refl
+
+pub loop-rest-smaller : goal.loop-rest-smaller
+loop-rest-smaller c = c.cut_at.ensures.shorter (not_empty (length c.loop-rest.rest.now) (sym c.is_empty.ensures ∙ c.loop-rest-test.true))
+
+pub loop-rest-preserved : goal.loop-rest-preserved
+loop-rest-preserved c =
+    let nonempty = not_empty (length c.loop-rest.rest.now) (sym c.is_empty.ensures ∙ c.loop-rest-test.true) in
+    rw (c.in_ok-put_line.ensures, c.cut_at.ensures.before, c.cut_at.ensures.after)
+    (line_done c.loop-rest.json.items c.loop-rest.rest.now nonempty ∙ c.loop-rest.invariant)
+
+pub returns : goal.returns
+returns c = all_written c.loop-rest.json.items c.loop-rest.rest.now _ (sym c.is_empty.ensures ∙ c.loop-rest-test.false) c.loop-rest.invariant

@@ -1,0 +1,55 @@
+-- A text cut at a byte of a kind.
+use Rattle.std.specs.Prelude.{ℕ, suc, ◌+◌, List, [], ◌∷◌, ◌==◌, ◌&&◌, not, Bool, false, if◌then◌else◌, take, drop}
+
+-- what stands before the first byte that p picks
+abbrev pub before : (ℕ → Bool) → List ℕ → List ℕ
+before p [] = []
+before p (b ∷ bs) = if p b then [] else b ∷ before p bs
+
+-- what stands after it: nothing where there is no such byte
+abbrev pub after : (ℕ → Bool) → List ℕ → List ℕ
+after p [] = []
+after p (b ∷ bs) = if p b then bs else after p bs
+
+-- b before the first part
+abbrev pub onto_first : ℕ → List (List ℕ) → List (List ℕ)
+onto_first b [] = (b ∷ []) ∷ []
+onto_first b (part ∷ parts) = (b ∷ part) ∷ parts
+
+-- the parts that end at a byte that p picks, or at the end
+abbrev pub parts : (ℕ → Bool) → List ℕ → List (List ℕ)
+parts p [] = []
+parts p (b ∷ bs) = if p b then [] ∷ parts p bs else onto_first b (parts p bs)
+
+-- ---- cells of a line, with a blank between
+
+abbrev pub is_blank : ℕ → Bool
+is_blank b = b == 32
+
+-- a blank that stands in no quotes ends a cell
+abbrev pub ends_cell : Bool → ℕ → Bool
+ends_cell quoted b = not quoted && is_blank b
+
+-- whether what follows a byte stands in quotes
+abbrev pub quoted_behind : Bool → ℕ → Bool
+quoted_behind quoted b = if b == 34 then not quoted else quoted
+
+-- how long the first cell is
+abbrev pub cell_len : Bool → List ℕ → ℕ
+cell_len quoted [] = 0
+cell_len quoted (b ∷ bs) = if ends_cell quoted b then 0 else suc (cell_len (quoted_behind quoted b) bs)
+
+-- the first cell
+abbrev pub cell : List ℕ → List ℕ
+cell text = take (cell_len false text) text
+
+-- what stands behind it and its blank
+abbrev pub behind : List ℕ → List ℕ
+behind text = drop (cell_len false text + 1) text
+
+-- the second cell, and what stands behind it
+abbrev pub second : List ℕ → List ℕ
+second text = cell (behind text)
+
+abbrev pub behind_second : List ℕ → List ℕ
+behind_second text = behind (behind text)

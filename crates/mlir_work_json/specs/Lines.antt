@@ -1,0 +1,54 @@
+-- What a run writes, as JSON: each line is an object of a line.
+use Rattle.std.specs.Prelude.{ℕ, List, [], ◌∷◌, ◌++◌, ◌==◌, Bool, codes}
+use Rattle.serde_json.specs.Data.{Data, object, no_members}
+use Rattle.serde_json.specs.Written.{compact_text}
+use Rattle.mlir_work_json.specs.Cuts.{parts}
+use Rattle.mlir_work_json.specs.Forms.{form_of}
+use Rattle.mlir_work_json.specs.Items.{Member, text, put_all}
+use Rattle.mlir_work_json.specs.Replies.{reply_members, heading_members, unread_members, unattached_members}
+use Rattle.mlir_work_json.specs.Rows.{use_members, constant_members, dead_members, unreached_members, diagnostic_members, effect_members, definition_members, reference_members, unresolved_members, mismatch_members}
+use Rattle.mlir_work_json.specs.declared.form.Form.{Form}
+use Rattle.mlir_work_json.specs.declared.form.Form.TheVariants.{Reply, Heading, Unread, Unattached, Module, Use, Constant, Dead, Unreached, Diagnostic, Effect, Definition, Reference, Unresolved, Mismatch, Other}
+
+-- the members of a line of a form
+abbrev pub form_members : Form → List ℕ → List Member
+form_members Reply line = reply_members line
+form_members Heading line = heading_members line
+form_members Unread line = unread_members line
+form_members Unattached line = unattached_members line
+form_members Module line = text (codes "module") line ∷ []
+form_members Use line = use_members line
+form_members Constant line = constant_members line
+form_members Dead line = dead_members line
+form_members Unreached line = unreached_members line
+form_members Diagnostic line = diagnostic_members line
+form_members Effect line = effect_members line
+form_members Definition line = definition_members line
+form_members Reference line = reference_members line
+form_members Unresolved line = unresolved_members line
+form_members Mismatch line = mismatch_members line
+form_members Other line = text (codes "text") line ∷ []
+
+-- the members of a line
+unfoldable pub line_members : List ℕ → List Member
+line_members line = form_members (form_of line) line
+
+-- the object of a line
+abbrev pub line_data : List ℕ → Data
+line_data line = object (put_all (line_members line) no_members)
+
+-- a line as JSON, both without their ends
+abbrev pub json_line : List ℕ → List ℕ
+json_line line = compact_text (line_data line)
+
+-- lines as JSON, each with an end behind it
+abbrev pub json_lines : List (List ℕ) → List ℕ
+json_lines [] = []
+json_lines (line ∷ lines) = (json_line line ++ 10 ∷ []) ++ json_lines lines
+
+abbrev pub is_end : ℕ → Bool
+is_end b = b == 10
+
+-- a whole output as JSON
+abbrev pub json_text : List ℕ → List ℕ
+json_text output = json_lines (parts is_end output)

@@ -1,0 +1,59 @@
+-- The members of lines that reply.
+use Rattle.std.specs.Prelude.{ℕ, List, [], ◌∷◌, ◌++◌, ◌==◌, if◌then◌else◌, codes}
+use Rattle.std.specs.Str.{bytes_eq}
+use Rattle.mlir_work_json.specs.Cuts.{cell, behind, second, behind_second}
+use Rattle.mlir_work_json.specs.Items.{Member, text, numeral}
+
+-- behind a refusal: nothing, `#2`, or `at 17`
+abbrev pub place_members : List ℕ → List Member
+place_members [] = []
+place_members (b ∷ bs) =
+    if b == 35 then text (codes "op") (b ∷ bs) ∷ [] else numeral (codes "offset") (behind (b ∷ bs)) ∷ []
+
+-- `22 HasUses`, and its place
+abbrev pub refusal_members : List ℕ → List Member
+refusal_members line =
+    numeral (codes "refused") (cell line) ∷ text (codes "word") (second line) ∷ place_members (behind_second line)
+
+-- `22 HasUses`
+abbrev pub expected_members : List ℕ → List Member
+expected_members line = numeral (codes "expected") (cell line) ∷ text (codes "word") (behind line) ∷ []
+
+-- behind the word of what was done: nothing, `#12`, or `3`
+abbrev pub result_members : List ℕ → List Member
+result_members [] = []
+result_members (b ∷ bs) =
+    if b == 35 then text (codes "op") (b ∷ bs) ∷ [] else numeral (codes "count") (b ∷ bs) ∷ []
+
+-- `ok`, `ok #12`, `converged 3`
+abbrev pub done_members : List ℕ → List Member
+done_members line = text (codes "reply") (cell line) ∷ result_members (behind line)
+
+-- what stands behind the number of a reply
+abbrev pub answer_members : List ℕ → List Member
+answer_members line =
+    if bytes_eq (cell line) (codes "refused") then refusal_members (behind line)
+    else if bytes_eq (cell line) (codes "expected") then expected_members (behind line)
+    else done_members line
+
+-- `1 ok`, `1 ok #12`, `1 converged 3`, `1 refused 22 HasUses`, `1 refused 51 NotLegalised #2`,
+-- `1 refused 3 UnknownValue at 17`, `1 expected 22 HasUses`
+abbrev pub reply_members : List ℕ → List Member
+reply_members line = numeral (codes "n") (cell line) ∷ answer_members (behind line)
+
+-- `module refused 7 BadValue at 16`
+abbrev pub unread_members : List ℕ → List Member
+unread_members line = refusal_members (behind_second line)
+
+-- `attach uses refused 36 Memory`
+abbrev pub unattached_members : List ℕ → List Member
+unattached_members line = text (codes "attach") (second line) ∷ refusal_members (behind (behind_second line))
+
+-- behind the kind of a heading: nothing, `stale` or `memory`
+abbrev pub state_members : List ℕ → List Member
+state_members [] = []
+state_members (b ∷ bs) = text (codes "state") (b ∷ bs) ∷ []
+
+-- `-- uses`, `-- uses stale`, `-- uses memory`
+abbrev pub heading_members : List ℕ → List Member
+heading_members line = text (codes "kind") (second line) ∷ state_members (behind_second line)

@@ -1,0 +1,76 @@
+//! Texts cut at a byte.
+ghost use Rattle.std.specs.Prelude.{◌≡◌, ◌==◌, ◌<◌, ◌≤◌, length, position, false};
+ghost use Rattle.mlir_work_json.specs.Cuts.{before, after, ends_cell, quoted_behind, cell_len, cell, behind};
+
+/// The blank between the cells of a line.
+pub(crate) const BLANK: u8 = b' ';
+
+/// Where the byte first stands.
+fn place_of(text: &[u8], byte: u8) -> Option<usize>
+    ensures { result ≡ position (λ b. b == byte) text.now }
+{
+    text.iter().position(|b| *b == byte)
+}
+
+/// What stands before the byte where it first stands, and what stands after it.
+pub(crate) fn cut_at(text: &[u8], byte: u8) -> (&[u8], &[u8])
+    ensures before { result.0.now ≡ before (λ b. b == byte) text.now }
+    ensures after { result.1.now ≡ after (λ b. b == byte) text.now }
+    ensures shorter { 0 < length text.now → length result.1.now < length text.now }
+{
+    match place_of(text, byte) {
+        Some(place) => (&text[..place], &text[place + 1..]),
+        None => (text, &[]),
+    }
+}
+
+/// Whether a blank ends a cell, as one does that stands in no quotes.
+fn ends_cell(quoted: bool, byte: u8) -> bool
+    ensures { result ≡ ends_cell quoted byte }
+{
+    !quoted && byte == BLANK
+}
+
+/// Whether what follows a byte stands in quotes.
+fn quoted_behind(quoted: bool, byte: u8) -> bool
+    ensures { result ≡ quoted_behind quoted byte }
+{
+    if byte == b'"' { !quoted } else { quoted }
+}
+
+/// How long the first cell of a text is.
+fn cell_len(text: &[u8]) -> usize
+    ensures length { result ≡ cell_len false text.now }
+    ensures within { result ≤ length text.now }
+{
+    let mut quoted = false;
+    let mut len = 0;
+    for byte in text {
+        if ends_cell(quoted, *byte) {
+            return len;
+        }
+        quoted = quoted_behind(quoted, *byte);
+        len += 1;
+    }
+    len
+}
+
+/// The first cell of a text, and what stands behind the blank after it.
+pub(crate) fn cut_cell(text: &[u8]) -> (&[u8], &[u8])
+    ensures cell { result.0.now ≡ cell text.now }
+    ensures behind { result.1.now ≡ behind text.now }
+{
+    let end = cell_len(text);
+    if end < text.len() {
+        (&text[..end], &text[end + 1..])
+    } else {
+        (text, &[])
+    }
+}
+
+/// What stands behind the first cell of a text.
+pub(crate) fn behind_cell(text: &[u8]) -> &[u8]
+    ensures { result.now ≡ behind text.now }
+{
+    cut_cell(text).1
+}

@@ -1,0 +1,75 @@
+//! Members of the object of a line.
+ghost use Rattle.std.specs.Prelude.{◌≡◌, [], ◌∷◌, map, IfOk};
+ghost use Rattle.serde_json.specs.View.{view};
+ghost use Rattle.mlir_work_json.specs.Cuts.{is_blank, parts};
+ghost use Rattle.mlir_work_json.specs.Items.{Puts, Texts, text, numeral, text_data};
+
+use crate::cuts::{BLANK, cut_at};
+use crate::numbers::number;
+use serde_json::{Map, Value, put};
+use std::alloc::{AllocError, Global};
+
+/// The members of an object, in the order of their keys.
+pub(crate) type Object = Map<String, Value>;
+
+/// A text. A byte that is no UTF-8 becomes U+FFFD.
+fn text_value(alloc: Global, word: &[u8]) -> Result<Value, AllocError>
+    ensures { IfOk result (λ v. view v ≡ text_data word.now) }
+{
+    Ok(Value::String(String::from_utf8_lossy(alloc, word)?))
+}
+
+/// Puts a member whose value is a text.
+pub(crate) fn put_text(
+    object: &mut Object,
+    alloc: Global,
+    key: &str,
+    word: &[u8],
+) -> Result<(), AllocError>
+    ensures { Puts result object.old object.new (text key.now word.now ∷ []) }
+{
+    let value = text_value(alloc, word)?;
+    put(object, alloc, key, value)
+}
+
+/// Puts a member whose value is the number that a word is, or else the word.
+pub(crate) fn put_number(
+    object: &mut Object,
+    alloc: Global,
+    key: &str,
+    word: &[u8],
+) -> Result<(), AllocError>
+    ensures { Puts result object.old object.new (numeral key.now word.now ∷ []) }
+{
+    match number(word) {
+        Some(n) => put(object, alloc, key, Value::from(n)),
+        None => put_text(object, alloc, key, word),
+    }
+}
+
+/// The words of a text, which stand with a blank between.
+fn texts_value(alloc: Global, text: &[u8]) -> Result<Vec<Value>, AllocError>
+    ensures { IfOk result (λ v. map view v.items ≡ map text_data (parts is_blank text.now)) }
+{
+    let mut values = Vec::new(alloc);
+    let mut rest = text;
+    while !rest.is_empty() {
+        let (word, behind) = cut_at(rest, BLANK);
+        values.push(text_value(alloc, word)?)?;
+        rest = behind;
+    }
+    Ok(values)
+}
+
+/// Puts a member whose value is the words of a text.
+pub(crate) fn put_texts(
+    object: &mut Object,
+    alloc: Global,
+    key: &str,
+    text: &[u8],
+) -> Result<(), AllocError>
+    ensures { Puts result object.old object.new ((key.now, Texts (parts is_blank text.now)) ∷ []) }
+{
+    let values = texts_value(alloc, text)?;
+    put(object, alloc, key, Value::Array(values))
+}

@@ -1,0 +1,122 @@
+//! The members of lines that reply.
+ghost use Rattle.mlir_work_json.specs.Items.{Puts};
+ghost use Rattle.mlir_work_json.specs.Replies.{place_members, refusal_members, expected_members, result_members};
+ghost use Rattle.mlir_work_json.specs.Replies.{done_members, answer_members, reply_members, unread_members};
+ghost use Rattle.mlir_work_json.specs.Replies.{unattached_members, state_members, heading_members};
+
+use crate::cuts::{behind_cell, cut_cell};
+use crate::members::{Object, put_number, put_text};
+use std::alloc::{AllocError, Global};
+
+/// Puts what stands behind a refusal: nothing, `#2`, or `at 17`.
+fn put_place(object: &mut Object, alloc: Global, place: &[u8]) -> Result<(), AllocError>
+    ensures { Puts result object.old object.new (place_members place.now) }
+{
+    match place {
+        [] => Ok(()),
+        [b'#', ..] => put_text(object, alloc, "op", place),
+        _ => put_number(object, alloc, "offset", behind_cell(place)),
+    }
+}
+
+/// Puts a refusal, `22 HasUses`, and its place.
+fn put_refusal(object: &mut Object, alloc: Global, line: &[u8]) -> Result<(), AllocError>
+    ensures { Puts result object.old object.new (refusal_members line.now) }
+{
+    let (refusal, rest) = cut_cell(line);
+    let (word, place) = cut_cell(rest);
+    put_number(object, alloc, "refused", refusal)?;
+    put_text(object, alloc, "word", word)?;
+    put_place(object, alloc, place)
+}
+
+/// Puts a refusal that was expected, `22 HasUses`.
+fn put_expected(object: &mut Object, alloc: Global, line: &[u8]) -> Result<(), AllocError>
+    ensures { Puts result object.old object.new (expected_members line.now) }
+{
+    let (refusal, word) = cut_cell(line);
+    put_number(object, alloc, "expected", refusal)?;
+    put_text(object, alloc, "word", word)
+}
+
+/// Puts what stands behind the word of what was done: nothing, `#12`, or `3`.
+fn put_result(object: &mut Object, alloc: Global, made: &[u8]) -> Result<(), AllocError>
+    ensures { Puts result object.old object.new (result_members made.now) }
+{
+    match made {
+        [] => Ok(()),
+        [b'#', ..] => put_text(object, alloc, "op", made),
+        _ => put_number(object, alloc, "count", made),
+    }
+}
+
+/// Puts what was done: `ok`, `ok #12`, `converged 3`.
+fn put_done(object: &mut Object, alloc: Global, line: &[u8]) -> Result<(), AllocError>
+    ensures { Puts result object.old object.new (done_members line.now) }
+{
+    let (word, made) = cut_cell(line);
+    put_text(object, alloc, "reply", word)?;
+    put_result(object, alloc, made)
+}
+
+/// Puts what stands behind the number of a reply.
+fn put_answer(object: &mut Object, alloc: Global, line: &[u8]) -> Result<(), AllocError>
+    ensures { Puts result object.old object.new (answer_members line.now) }
+{
+    let (word, rest) = cut_cell(line);
+    if word == b"refused".as_slice() {
+        return put_refusal(object, alloc, rest);
+    }
+    if word == b"expected".as_slice() {
+        return put_expected(object, alloc, rest);
+    }
+    put_done(object, alloc, line)
+}
+
+/// Puts a reply, behind its number.
+pub(crate) fn put_reply(object: &mut Object, alloc: Global, line: &[u8]) -> Result<(), AllocError>
+    ensures { Puts result object.old object.new (reply_members line.now) }
+{
+    let (n, answer) = cut_cell(line);
+    put_number(object, alloc, "n", n)?;
+    put_answer(object, alloc, answer)
+}
+
+/// Puts the refusal of a module.
+pub(crate) fn put_unread(object: &mut Object, alloc: Global, line: &[u8]) -> Result<(), AllocError>
+    ensures { Puts result object.old object.new (unread_members line.now) }
+{
+    put_refusal(object, alloc, behind_cell(behind_cell(line)))
+}
+
+/// Puts the refusal of an analysis.
+pub(crate) fn put_unattached(
+    object: &mut Object,
+    alloc: Global,
+    line: &[u8],
+) -> Result<(), AllocError>
+    ensures { Puts result object.old object.new (unattached_members line.now) }
+{
+    let (kind, rest) = cut_cell(behind_cell(line));
+    put_text(object, alloc, "attach", kind)?;
+    put_refusal(object, alloc, behind_cell(rest))
+}
+
+/// Puts what stands in place of the rows of a kind.
+fn put_state(object: &mut Object, alloc: Global, state: &[u8]) -> Result<(), AllocError>
+    ensures { Puts result object.old object.new (state_members state.now) }
+{
+    if state.is_empty() {
+        return Ok(());
+    }
+    put_text(object, alloc, "state", state)
+}
+
+/// Puts what stands above the rows of a kind, or in their place.
+pub(crate) fn put_heading(object: &mut Object, alloc: Global, line: &[u8]) -> Result<(), AllocError>
+    ensures { Puts result object.old object.new (heading_members line.now) }
+{
+    let (kind, state) = cut_cell(behind_cell(line));
+    put_text(object, alloc, "kind", kind)?;
+    put_state(object, alloc, state)
+}
