@@ -5,16 +5,18 @@ to sixteen marks and all seven listeners. Each case comes from the seed and its 
 again by `--first`.
 
 usage: bench/compare/by_chance.py PROGRAM [CASES [SEED]] [--first N] [--processes N] [--only KIND,..]
-                                  [--without COMMAND,..] [--table] [--files FILE..]
+                                  [--without COMMAND,..] [--table | --json] [--files FILE..]
 
 CASES is 20000, SEED 1 and the processes are one where they aren't given. The kinds are text, file, script, long and
 conversions; the last, scripts of conversions that fit their module, is there with `--only` alone. Without files the
 cases of files are texts too. A program that hasn't a command is compared without it. With `--table` the program is the
-one built from crates/mlir_work_cases, which runs many cases in one process; else each case is one. The seed is printed,
-what a case costs, how conversions were replied to, and each difference, whole; the status is 1 where there is one."""
+one built from crates/mlir_work_cases, which runs many cases in one process; else each case is one. With `--json` it is
+asked for JSON, and each line of that has to be JSON to Python too. The seed is printed, what a case costs, how
+conversions were replied to, and each difference, whole; the status is 1 where there is one."""
 import argparse
 import collections
 import concurrent.futures
+import json
 import os
 import pathlib
 import random
@@ -27,7 +29,7 @@ sys.dont_write_bytecode = True
 sys.path.append(str(pathlib.Path(__file__).resolve().parents[1]))  # bench/, where the other rooms are
 
 import script_lines  # noqa: E402
-from reference import chance, script  # noqa: E402
+from reference import chance, json_lines, script  # noqa: E402
 from reference.lines import given, told  # noqa: E402
 from reference.module import rules, text_of  # noqa: E402
 
@@ -43,6 +45,9 @@ WORDS = """i32 i64 index i1 i129 si8 ui128 memref<?x4xi32> () ({ }) ({}) ({^bb0:
 "\\ " array<i32: 1> dense<1> #arith.overflow<nsw> sym_name value callee loc("x") f32 vector<4xi8> !t.x
 affine_map<(d0)->(d0)> ! ^ \x00 \xff \xc3\xa9 \x0b""".encode("latin-1").split()
 TOKEN = re.compile(rb'"(?:[^"\\\n]|\\.)*"|[%@#!^]?[A-Za-z0-9_$.]+|\s+|->|[^\sA-Za-z0-9]', re.S)
+# How a module is refused where the rules leave the number open, as text and as JSON.
+OPEN = (rb"module refused ([1-9]|1[0-4]) [A-Za-z0-9]+ at [0-9]+\n",
+        rb'\{"offset":[0-9]+,"refused":([1-9]|1[0-4]),"word":"[A-Za-z0-9]+"\}\n')
 CONVERTED = re.compile(r"(?m)^[0-9]+ (converted|refused 5[1-4] \w+)")
 Case = collections.namedtuple("Case", "kind text brief limit answer commands")
 
@@ -216,8 +221,9 @@ def case_of(number, seed, known, files, only=()):
 
 # The program.
 
-def alone(program, case):
+def alone(program, case, is_json=False):
     words = ["--brief"] * case.brief + (["--limit", str(case.limit)] if case.limit != script.LIMIT else [])
+    words += ["--format", "json"] * is_json
     ran = subprocess.run([program, *words], input=case.text, stdout=subprocess.PIPE, stderr=subprocess.DEVNULL)
     return ran.returncode, ran.stdout
 
@@ -234,10 +240,21 @@ def of_table(program, cases):
     return ran.stdout.decode().split("\n")
 
 
-def is_answer(case, status, out):
+def is_answer(case, status, out, is_json=False):
     if case.answer[1] is None:
-        return status == 3 and re.fullmatch(rb"module refused ([1-9]|1[0-4]) [A-Za-z0-9]+ at [0-9]+\n", out)
+        return status == 3 and re.fullmatch(OPEN[is_json], out)
     return (status, out) == case.answer
+
+
+def in_json(case):
+    """A case whose answer is JSON, each line of which Python reads."""
+    status, out = case.answer
+    if out is None:
+        return case
+    told = json_lines.json_of(out)
+    for line in told.splitlines():
+        json.loads(line)
+    return case._replace(answer=(status, told))
 
 
 def is_told(case, line):
@@ -259,15 +276,15 @@ def part(words, files, numbers):
     began, counts, wrong = time.process_time(), collections.Counter(), []
     known = script.ALL - set(words.without.split(","))
     cases = [(number, case_of(number, words.seed, known, files, words.only)) for number in numbers]
-    cases = [(number, case) for number, case in cases if case is not None]
+    cases = [(number, in_json(case) if words.json else case) for number, case in cases if case is not None]
     lines = of_table(words.program, [case for _, case in cases]) if words.table else None
     for place, (number, case) in enumerate(cases):
         counts[case.kind] += 1
         counts["refused"] += case.answer[0] == 3
         counts["commands"] += case.commands
         counts.update(CONVERTED.findall((case.answer[1] or b"").decode()))
-        found = lines[place] if words.table else alone(words.program, case)
-        if not (is_told(case, found) if words.table else is_answer(case, *found)):
+        found = lines[place] if words.table else alone(words.program, case, words.json)
+        if not (is_told(case, found) if words.table else is_answer(case, *found, words.json)):
             wrong.append((number, case, found))
     return counts, wrong, time.process_time() - began
 
@@ -296,6 +313,7 @@ def options():
     reader.add_argument("--only", default=(), type=lambda word: word.split(","))
     reader.add_argument("--without", default="")
     reader.add_argument("--table", action="store_true")
+    reader.add_argument("--json", action="store_true")
     reader.add_argument("--files", nargs="*", default=[])
     return reader.parse_args()
 

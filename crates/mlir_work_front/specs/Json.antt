@@ -1,6 +1,8 @@
 -- The output of an input, as JSON.
-use Rattle.std.specs.Prelude.{◌≡◌, ℕ, List}
+use Rattle.std.specs.Prelude.{◌≡◌, ℕ, List, ◌⊎◌, Option}
+use Rattle.std.specs.Io.KnownBytes.{Appends}
 use Rattle.mlir_work_session.specs.Panels.{Shown}
+use Rattle.mlir_work_session.specs.Writes.{AppendsFront}
 use Rattle.mlir_work_json.specs.Lines.{json_text}
 use Rattle.mlir_work_run.specs.Whole.{IsOutput, Setting}
 
@@ -8,3 +10,8 @@ use Rattle.mlir_work_run.specs.Whole.{IsOutput, Setting}
 abbrev pub IsJsonOutput : Setting → List Shown → List ℕ → ℕ → List ℕ → Type 0
 IsJsonOutput setting boxes input status json =
     (out : List ℕ) × IsOutput setting boxes input status out × (json ≡ json_text out)
+
+-- the JSON of an output was written, and its status stays; or a front of it, with status 4
+abbrev pub IsTold : ℕ → List ℕ → Option (List ℕ) → Option (List ℕ) → ℕ → Type 0
+IsTold status out old new told =
+    ((told ≡ status) × Appends old new (json_text out)) ⊎ ((told ≡ 4) × AppendsFront old new (json_text out))

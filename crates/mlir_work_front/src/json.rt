@@ -1,11 +1,11 @@
 //! A run whose output is written as JSON.
-ghost use Rattle.std.specs.Prelude.{◌≡◌, ℕ, IfOk, IfSome, OnErr};
+ghost use Rattle.std.specs.Prelude.{[], Some, IfOk, IfSome, OnErr};
 ghost use Rattle.std.specs.Io.KnownBytes.{Keeps};
 ghost use Rattle.mlir_work_session.specs.Panels.{all_shown};
 ghost use Rattle.mlir_work_session.specs.Writes.{Puts};
 ghost use Rattle.mlir_work_run.specs.Ends.{HasStatus};
 ghost use Rattle.mlir_work_run.specs.Whole.{IsOutput, setting_of};
-ghost use Rattle.mlir_work_front.specs.Json.{IsJsonOutput};
+ghost use Rattle.mlir_work_front.specs.Json.{IsJsonOutput, IsTold};
 
 use mlir_work_json::text::json_text;
 use mlir_work_run::run::{Options, run_watched};
@@ -26,6 +26,44 @@ fn written<W: Sink>(writer: &mut W, bytes: &[u8]) -> Result<(), WriteFault>
     }
 }
 
+/// Reads the whole input, and keeps the output in memory, with its status.
+fn kept_output<L: Supplied, R: Source>(
+    alloc: Global,
+    key: u64,
+    options: Options,
+    reader: &mut R,
+    boxes: Vec<L>,
+) -> Result<(u8, Vec<u8>), AllocError>
+    ensures { IfOk result (λ kept. IfSome (R.intake reader.old).remaining (λ input. HasStatus
+        (IsOutput (setting_of L.supply options) (all_shown L.meaning boxes.items) input)
+        (Some []) (Some kept.1.items) kept.0)) }
+{
+    let mut kept = Watched::new(Vec::new(alloc));
+    let status = run_watched(alloc, key, options, reader, &mut kept, boxes);
+    if kept.has_failed() {
+        return Err(AllocError);
+    }
+    Ok((status, kept.into_inner()))
+}
+
+/// Writes an output as JSON, and gives its status, or 4 where a write fails.
+fn tell<W: Sink>(
+    alloc: Global,
+    writer: &mut W,
+    status: u8,
+    output: &[u8],
+) -> Result<u8, AllocError>
+    ensures told { IfOk result (λ told. IsTold status output.now
+        (W.stream writer.old).contents (W.stream writer.new).contents told) }
+    ensures unwritten { OnErr result (Keeps (W.stream writer.old).contents (W.stream writer.new).contents) }
+{
+    let json = json_text(alloc, output)?;
+    match written(writer, &json) {
+        Ok(()) => Ok(status),
+        Err(WriteFault) => Ok(4),
+    }
+}
+
 /// Reads the whole input, a module and a script, and then writes the output as JSON, an object for each line of it. What
 /// is written is the JSON of an output of what was read, with the exit status of `run_watched`, which is 4 where a read
 /// or a write failed. The output is held in memory before any of it is written: where there is none for it, or for the
@@ -43,17 +81,9 @@ pub fn run_as_json<L: Supplied, R: Source, W: Sink>(
         (W.stream writer.old).contents (W.stream writer.new).contents status)) }
     ensures unwritten { OnErr result (Keeps (W.stream writer.old).contents (W.stream writer.new).contents) }
 {
-    let mut kept = Watched::new(Vec::new(alloc));
-    let status = run_watched(alloc, key, options, reader, &mut kept, boxes);
-    if kept.has_failed() {
-        return Err(AllocError);
-    }
+    let (status, output) = kept_output(alloc, key, options, reader, boxes)?;
     if status == 4 {
         return Ok(4);
     }
-    let json = json_text(alloc, &kept.into_inner())?;
-    match written(writer, &json) {
-        Ok(()) => Ok(status),
-        Err(WriteFault) => Ok(4),
-    }
+    tell(alloc, writer, status, &output)
 }

@@ -2,7 +2,7 @@
 use Rattle.std.proofs.Common.{◌≡◌, ℕ, ◌≤◌, List, [], ◌∷◌, map, Bool, true, false, Ordering, Less, Equal, Greater, refl, arith}
 use Rattle.std.specs.Prelude.{◌||◌}
 use Rattle.std.specs.Ordering.{match_ordering}
-use Rattle.serde_json.specs.Data.{Data, object, Members, no_members, member, put, depth, items_depth, members_depth}
+use Rattle.serde_json.specs.Data.{Data, Members, no_members, member, put, depth, items_depth, members_depth}
 use Rattle.serde_json.specs.Read.{max_depth}
 use Rattle.serde_json.specs.View.{items_of}
 use Rattle.serde_json.specs.Written.{has_float, items_have_float, members_have_float}
@@ -10,10 +10,10 @@ use Rattle.mlir_work_json.specs.Items.{Item, Text, Number, Texts, Member, text_d
 use Rattle.mlir_work_json.specs.Lines.{line_data, line_members}
 
 -- neither is true, and so the two parts of one that isn't
-neither : (a b : Bool) → a ≡ false → b ≡ false → (a || b) ≡ false
+pub neither : (a b : Bool) → a ≡ false → b ≡ false → (a || b) ≡ false
 neither a b p q = rw (p, q) refl
 
-both : (a b : Bool) → (a || b) ≡ false → (a ≡ false) × (b ≡ false)
+pub both : (a b : Bool) → (a || b) ≡ false → (a ≡ false) × (b ≡ false)
 both true b h = (h, elim b as (λ t. t ≡ false) [ true ↦ h | false ↦ refl ])
 both false b h = (refl, h)
 

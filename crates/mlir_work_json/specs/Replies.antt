@@ -1,5 +1,5 @@
 -- The members of lines that reply.
-use Rattle.std.specs.Prelude.{ℕ, List, [], ◌∷◌, ◌++◌, ◌==◌, if◌then◌else◌, codes}
+use Rattle.std.specs.Prelude.{ℕ, List, [], ◌∷◌, ◌==◌, if◌then◌else◌, codes}
 use Rattle.std.specs.Str.{bytes_eq}
 use Rattle.mlir_work_json.specs.Cuts.{cell, behind, second, behind_second}
 use Rattle.mlir_work_json.specs.Items.{Member, text, numeral}

@@ -1,9 +1,10 @@
 //! What a run writes, as JSON.
-ghost use Rattle.std.specs.Prelude.{◌≡◌, [], ◌∷◌, ◌++◌, Some, IfOk, OnOk};
+ghost use Rattle.std.specs.Prelude.{◌≡◌, [], ◌∷◌, ◌++◌, map, Some, IfOk, OnOk};
 ghost use Rattle.serde_json.specs.Read.{read};
 ghost use Rattle.serde_json.specs.View.{view};
+ghost use Rattle.mlir_work_json.specs.Cuts.{parts};
 ghost use Rattle.mlir_work_json.specs.Items.{Puts};
-ghost use Rattle.mlir_work_json.specs.Lines.{form_members, line_members, line_data, json_line, json_lines, json_text};
+ghost use Rattle.mlir_work_json.specs.Lines.{form_members, is_end, line_data, json_line, json_text};
 
 use crate::cuts::cut_at;
 use crate::form::{Form, form_of};
@@ -68,9 +69,11 @@ fn put_line(json: &mut Vec<u8>, alloc: Global, line: &[u8]) -> Result<(), AllocE
     Ok(())
 }
 
-/// An output as JSON: each line of it is an object of a line.
+/// An output as JSON: each line of it is an object of a line, and the lines of the JSON are the JSON of its lines.
 pub fn json_text(alloc: Global, output: &[u8]) -> Result<Vec<u8>, AllocError>
-    ensures { IfOk result (λ json. json.items ≡ json_text output.now) }
+    ensures text { IfOk result (λ json. json.items ≡ json_text output.now) }
+    ensures lines { IfOk result (λ json. parts is_end json.items
+        ≡ map json_line (parts is_end output.now)) }
 {
     let mut json = Vec::new(alloc);
     let mut rest = output;

@@ -1,6 +1,6 @@
-use Rattle.std.proofs.Common.{◌≡◌, ◌∷◌, ◌+◌, ◌∙◌, ap, refl, sym, suc, drop, add-one, get_or, false, true, arith}
+use Rattle.std.proofs.Common.{◌≡◌, ◌∷◌, ◌+◌, ◌∙◌, ap, refl, sym, suc, drop, add-one, get_or, arith}
 use Rattle.std.proofs.Math.Seq.{drop-cons}
-use Rattle.mlir_work_json.specs.Cuts.{cell_len, ends_cell, quoted_behind}
+use Rattle.mlir_work_json.specs.Cuts.{cell_len, quoted_behind}
 use Rattle.mlir_work_json.proofs.Cutting.{cell_ends, cell_goes_on}
 use Rattle.mlir_work_json.proofs.cuts.cell_len.Goals as goal
 

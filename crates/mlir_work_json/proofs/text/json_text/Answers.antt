@@ -1,6 +1,7 @@
-use Rattle.std.proofs.Common.{◌≡◌, ◌++◌, refl, sym, ap, ◌∙◌, length}
-use Rattle.mlir_work_json.specs.Cuts.{before}
-use Rattle.mlir_work_json.specs.Lines.{is_end, json_line}
+use Rattle.std.proofs.Common.{refl, sym, ap, ◌∙◌, length}
+use Rattle.mlir_work_json.specs.Cuts.{parts}
+use Rattle.mlir_work_json.specs.Lines.{is_end}
+use Rattle.mlir_work_json.proofs.OneLine.{lines_of_json}
 use Rattle.mlir_work_json.proofs.Writing.{line_done, not_empty, all_written}
 use Rattle.mlir_work_json.proofs.text.json_text.Goals as goal
 
@@ -16,5 +17,10 @@ loop-rest-preserved c =
     rw (c.in_ok-put_line.ensures, c.cut_at.ensures.before, c.cut_at.ensures.after)
     (line_done c.loop-rest.json.items c.loop-rest.rest.now nonempty ∙ c.loop-rest.invariant)
 
-pub returns : goal.returns
-returns c = all_written c.loop-rest.json.items c.loop-rest.rest.now _ (sym c.is_empty.ensures ∙ c.loop-rest-test.false) c.loop-rest.invariant
+pub returns-clause-text : goal.returns-clause-text
+returns-clause-text c = all_written c.loop-rest.json.items c.loop-rest.rest.now _ (sym c.is_empty.ensures ∙ c.loop-rest-test.false) c.loop-rest.invariant
+
+pub returns-clause-lines : goal.returns-clause-lines
+returns-clause-lines c =
+    let whole = all_written c.loop-rest.json.items c.loop-rest.rest.now _ (sym c.is_empty.ensures ∙ c.loop-rest-test.false) c.loop-rest.invariant in
+    ap (parts is_end) whole ∙ lines_of_json (parts is_end c.args.output.now)

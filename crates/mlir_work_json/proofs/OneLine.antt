@@ -1,0 +1,131 @@
+-- JSON has no end of a line within, so the lines of JSON are those that it was made of.
+use Rattle.std.proofs.Common.{◌≡◌, ◌==◌, ℕ, zero, suc, ◌+◌, ◌<◌, ◌/◌, ◌%◌, List, [], ◌∷◌, ◌++◌, map, Bool, true, false, cond, if◌then◌else◌, refl, ap, subst, ◌∙◌, arith}
+use Rattle.std.specs.Prelude.{◌||◌, nat_lt, decimal, pos, negsuc}
+use Rattle.std.specs.Char.{digit_char}
+use Rattle.std.specs.Fmt.{digit_glyph, digits, digits_onto}
+use Rattle.json.specs.Print.{escape_letter, escape_byte, escape, quoted}
+use Rattle.serde_json.specs.Data.{Num, unsigned, negative, float, Data, null, boolean, number, string, array, object, Items, no_items, item, Members, no_members, member}
+use Rattle.serde_json.specs.Written.{number_text, comma_if, compact_text, items_text, members_text}
+use Rattle.mlir_work_json.specs.Cuts.{parts, onto_first}
+use Rattle.mlir_work_json.specs.Lines.{is_end, line_data, json_line, json_lines}
+use Rattle.mlir_work_json.proofs.Flat.{neither, both}
+
+-- whether an end stands within
+abbrev pub has_end : List ℕ → Bool
+has_end [] = false
+has_end (b ∷ bs) = is_end b || has_end bs
+
+clear_append : (xs ys : List ℕ) → has_end xs ≡ false → has_end ys ≡ false → has_end (xs ++ ys) ≡ false
+clear_append [] ys p q = q
+clear_append (x ∷ xs) ys p q = let first = both (is_end x) (has_end xs) p in neither (is_end x) (has_end (xs ++ ys)) first.0 (clear_append xs ys first.1 q)
+
+-- ---- strings
+
+clear_cond : (t : Bool) (xs ys : List ℕ) → has_end xs ≡ false → has_end ys ≡ false → has_end (cond t xs ys) ≡ false
+clear_cond true xs ys p q = p
+clear_cond false xs ys p q = q
+
+other : (t : Bool) (a b : ℕ) → is_end a ≡ false → is_end b ≡ false → is_end (cond t a b) ≡ false
+other true a b p q = p
+other false a b p q = q
+
+above : (n : ℕ) → 10 < n → is_end n ≡ false
+above n h = grind (arith, h)
+
+letter_clear : (x : ℕ) → is_end x ≡ false → is_end (escape_letter x) ≡ false
+letter_clear x e =
+    other ((x == 34) || (x == 92)) x _ e (other (x == 8) 98 _ refl (other (x == 12) 102 _ refl (other (x == 10) 110 _ refl (other (x == 13) 114 _ refl (other (x == 9) 116 0 refl refl)))))
+
+digit_clear : (d : ℕ) → is_end (digit_char d) ≡ false
+digit_clear d = other _ (48 + d) (87 + d) (above (48 + d) (omega arith)) (above (87 + d) (omega arith))
+
+escaped_at : (x : ℕ) (t : Bool) → is_end x ≡ t → has_end (escape_byte x) ≡ false
+unfolding escape_byte
+escaped_at x true e = let is : 10 ≡ x = grind (arith, e) in subst (λ n. has_end (escape_byte n) ≡ false) is refl
+escaped_at x false e =
+    let coded : List ℕ = 92 ∷ 117 ∷ 48 ∷ 48 ∷ digit_char (x / 16) ∷ digit_char (x % 16) ∷ [] in
+    clear_cond (nat_lt 0 (escape_letter x)) (92 ∷ escape_letter x ∷ []) (cond (nat_lt x 32) coded (x ∷ []))
+    (neither (is_end (escape_letter x)) false (letter_clear x e) refl)
+    (clear_cond (nat_lt x 32) coded (x ∷ [])
+    (neither (is_end (digit_char (x / 16))) _ (digit_clear (x / 16)) (neither (is_end (digit_char (x % 16))) false (digit_clear (x % 16)) refl))
+    (neither (is_end x) false e refl))
+
+clear_escape : (s : List ℕ) → has_end (escape s) ≡ false
+clear_escape [] = refl
+clear_escape (x ∷ xs) = clear_append (escape_byte x) (escape xs) (escaped_at x (is_end x) refl) (clear_escape xs)
+
+clear_quoted : (s : List ℕ) → has_end (quoted s) ≡ false
+clear_quoted s = clear_append (escape s) (34 ∷ []) (clear_escape s) refl
+
+-- ---- numbers
+
+either_way : (t : Bool) (a b : ℕ) → is_end a ≡ false → is_end b ≡ false → is_end (if t then a else b) ≡ false
+either_way true a b p q = p
+either_way false a b p q = q
+
+glyph_clear : (upper : Bool) (d : ℕ) → is_end (digit_glyph upper d) ≡ false
+glyph_clear upper d =
+    either_way _ (48 + d) _ (above (48 + d) (omega arith)) (either_way upper (55 + d) (87 + d) (above (55 + d) (omega arith)) (above (87 + d) (omega arith)))
+
+clear_if : (t : Bool) (xs ys : List ℕ) → has_end xs ≡ false → has_end ys ≡ false → has_end (if t then xs else ys) ≡ false
+clear_if true xs ys p q = p
+clear_if false xs ys p q = q
+
+clear_onto : (k base : ℕ) (upper : Bool) (n : ℕ) (acc : List ℕ) → has_end acc ≡ false → has_end (digits_onto k base upper n acc) ≡ false
+clear_onto zero base upper n acc h = h
+clear_onto (suc k) base upper n acc h =
+    let more = neither (is_end (digit_glyph upper (n % base))) (has_end acc) (glyph_clear upper (n % base)) h in
+    clear_if _ (digit_glyph upper (n % base) ∷ acc) (digits_onto k base upper (n / base) (digit_glyph upper (n % base) ∷ acc)) more
+    (clear_onto k base upper (n / base) (digit_glyph upper (n % base) ∷ acc) more)
+
+clear_decimal : (n : ℕ) → has_end (decimal n) ≡ false
+unfolding digits
+clear_decimal n = clear_onto 64 10 false n [] refl
+
+clear_number : (n : Num) → has_end (number_text n) ≡ false
+clear_number (unsigned n) = clear_decimal n
+clear_number (negative (pos n)) = clear_decimal n
+clear_number (negative (negsuc n)) = clear_decimal (suc n)
+clear_number (float x) = refl
+
+-- ---- values
+
+clear_comma : (later : Bool) → has_end (comma_if later) ≡ false
+clear_comma true = refl
+clear_comma false = refl
+
+mutual
+  clear_value : (d : Data) → has_end (compact_text d) ≡ false
+  clear_value null = refl
+  clear_value (boolean true) = refl
+  clear_value (boolean false) = refl
+  clear_value (number n) = clear_number n
+  clear_value (string s) = clear_quoted s
+  clear_value (array ds) = clear_items false ds
+  clear_value (object ms) = clear_members false ms
+
+  clear_items : (later : Bool) (ds : Items) → has_end (items_text later ds) ≡ false
+  clear_items later no_items = refl
+  clear_items later (item d ds) =
+      clear_append (comma_if later) (compact_text d ++ items_text true ds) (clear_comma later)
+      (clear_append (compact_text d) (items_text true ds) (clear_value d) (clear_items true ds))
+
+  clear_members : (later : Bool) (ms : Members) → has_end (members_text later ms) ≡ false
+  clear_members later no_members = refl
+  clear_members later (member k d ms) =
+      clear_append (comma_if later) (quoted k ++ 58 ∷ (compact_text d ++ members_text true ms)) (clear_comma later)
+      (clear_append (quoted k) (58 ∷ (compact_text d ++ members_text true ms)) (clear_quoted k)
+      (clear_append (compact_text d) (members_text true ms) (clear_value d) (clear_members true ms)))
+
+-- ---- lines
+
+-- a text without an end, and then one, is the first part
+one_part : (line rest : List ℕ) → has_end line ≡ false → parts is_end ((line ++ 10 ∷ []) ++ rest) ≡ line ∷ parts is_end rest
+one_part [] rest h = refl
+one_part (b ∷ bs) rest h = let first = both (is_end b) (has_end bs) h in rw (first.0) (ap (onto_first b) (one_part bs rest first.1))
+
+-- the lines of the JSON of lines are the JSON of each
+pub lines_of_json : (lines : List (List ℕ)) → parts is_end (json_lines lines) ≡ map json_line lines
+lines_of_json [] = refl
+lines_of_json (line ∷ lines) =
+    one_part (json_line line) (json_lines lines) (clear_value (line_data line)) ∙ ap (λ ls. json_line line ∷ ls) (lines_of_json lines)

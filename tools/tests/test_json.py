@@ -1,0 +1,86 @@
+"""docs/JSON.md: each line of its tables is the object beside it, by the rules; its run is typed; and with files, to a
+file, by wrong words and on a full disk the program writes JSON as it writes text, where it knows `--format`."""
+import json
+import os
+import pathlib
+import re
+import subprocess
+import sys
+import tempfile
+import unittest
+
+from support import program
+
+ROOT = pathlib.Path(__file__).resolve().parents[2]
+sys.path.append(str(ROOT / "bench"))
+
+from reference import json_lines  # noqa: E402
+
+PAGE = (ROOT / "docs/JSON.md").read_text()
+ROW = re.compile(r"^\| `([^`]*)`[^|]* \| `(\{[^`]*\})` \|$", re.M)
+RUN = re.compile(r"    \$ mlir_work (.*) <<'END'\n((?:    .*\n)*?)    END\n((?:    .*\n)*)")
+MODULE = b'%0 = "t.a"() {n = "\\22 \\\\ \\FF"} : () -> i32\n"t.b"(%0) : (i32) -> ()\n// -----\n'
+SCRIPT = MODULE + b"report uses\nerase #1\n"
+
+
+def has_json():
+    try:
+        return program.words()[0][0] != os.sys.executable and program.has_option("--format")
+    except program.Fault:
+        return False
+
+
+class Page(unittest.TestCase):
+    def test_tables(self):
+        rows = ROW.findall(PAGE)
+        self.assertGreater(len(rows), 24)
+        for line, shown in rows:
+            self.assertEqual(json_lines.json_of(line.encode()).decode(), shown + "\n")
+            self.assertEqual(list(json.loads(shown)), sorted(json.loads(shown)))
+
+
+@unittest.skipUnless(has_json(), "the program writes no JSON")
+class Program(unittest.TestCase):
+    def ran(self, *words, given=SCRIPT, to=subprocess.PIPE):
+        """The status, and what is written to both ends."""
+        before, more = program.words()
+        it = subprocess.run([*before, "--brief", *words], input=given, stdout=to, stderr=subprocess.PIPE, check=False,
+                            env={**os.environ, **more})
+        return it.returncode, it.stdout, it.stderr
+
+    def test_run(self):
+        words, given, wanted = (re.sub("(?m)^    ", "", it) for it in RUN.search(PAGE).groups())
+        self.assertEqual(words, "--brief --format json")
+        self.assertEqual(self.ran("--format", "json", given=given.encode()), (1, wanted.encode(), b""))
+
+    def test_formats(self):
+        status, text, _ = self.ran()
+        self.assertEqual(self.ran("--format", "text"), (status, text, b""))
+        self.assertEqual(self.ran("--format=json"), (status, json_lines.json_of(text), b""))
+
+    def test_files(self):
+        _, text, _ = self.ran()
+        with tempfile.TemporaryDirectory() as folder:
+            there, out = pathlib.Path(folder) / "m.mlir", pathlib.Path(folder) / "out.json"
+            there.write_bytes(MODULE)
+            commands = ("-e", "report uses", "-e", "erase #1")
+            self.assertEqual(self.ran("--format", "json", str(there), *commands), (1, json_lines.json_of(text), b""))
+            self.assertEqual(self.ran("--format", "json", str(there), *commands, "-o", str(out)), (1, b"", b""))
+            self.assertEqual(out.read_bytes(), json_lines.json_of(text))
+
+    def test_wrong_words(self):
+        for words in (["--format"], ["--format", "xml"], ["--format", "JSON"], ["--format=json", "--interactive"],
+                      ["--format=text", "--format=json"]):
+            status, out, told = self.ran(*words)
+            self.assertEqual((status, out), (2, b""), words)
+            self.assertIn(b"error:", told)
+
+    def test_ends(self):
+        with open("/dev/full", "wb") as full:
+            self.assertEqual(self.ran("--format", "json", to=full)[0], 4)
+        self.assertEqual(self.ran("--format", "json", given=b"(")[:2],
+                         (3, b'{"offset":0,"refused":2,"word":"Unexpected"}\n'))
+
+
+if __name__ == "__main__":
+    unittest.main()
