@@ -100,7 +100,9 @@ fn run_named(rt: &HostRuntime, given: &Given<'_>) -> Result<u8, AllocError> {
         Ok(input) => input,
         Err(fault) => return Ok(refuse_input(rt, &fault)),
     };
-    let mut reader = Bytes { rest: &input };
+    let mut reader = Bytes {
+        rest: input.as_slice(),
+    };
     let Some(name) = output_of(given) else {
         return run_all(rt, given, &mut reader, io::writer(rt));
     };
@@ -120,12 +122,15 @@ fn answer_lines(rt: &HostRuntime, options: Options) -> Result<u8, AllocError> {
     let Ok(writer) = BufWriter::new(rt.alloc(), io::writer(rt)) else {
         return Err(AllocError);
     };
+    let mut reader = Watched::new(rt.stdin());
+    let mut writer = Watched::new(writer);
+    let key = key_of(rt);
     Ok(run_live(
         rt.alloc(),
-        key_of(rt),
+        key,
         options,
-        &mut Watched::new(rt.stdin()),
-        &mut Watched::new(writer),
+        &mut reader,
+        &mut writer,
         listeners,
     ))
 }
@@ -138,7 +143,8 @@ fn run_given(rt: &HostRuntime, given: &Given<'_>) -> Result<u8, AllocError> {
     if given.options.ends {
         return answer_lines(rt, given.options);
     }
-    run_all(rt, given, &mut Watched::new(rt.stdin()), io::writer(rt))
+    let mut reader = Watched::new(rt.stdin());
+    run_all(rt, given, &mut reader, io::writer(rt))
 }
 
 fn main(rt: HostRuntime) -> ExitCode {

@@ -47,12 +47,7 @@ fn kept_output<L: Supplied, R: Source>(
 }
 
 /// Writes an output as JSON, and gives its status, or 4 where a write fails.
-fn tell<W: Sink>(
-    alloc: Global,
-    writer: &mut W,
-    status: u8,
-    output: &[u8],
-) -> Result<u8, AllocError>
+fn tell<W: Sink>(alloc: Global, writer: &mut W, status: u8, output: &[u8]) -> Result<u8, AllocError>
     ensures told { IfOk result (λ told. IsTold status output.now
         (W.stream writer.old).contents (W.stream writer.new).contents told) }
     ensures unwritten { OnErr result (Keeps (W.stream writer.old).contents (W.stream writer.new).contents) }
