@@ -16,6 +16,8 @@ import words  # noqa: E402
 HERE = pathlib.Path(__file__).resolve().parent
 OPTION = re.compile(r"^ +(?:-(\w), )?--([\w-]+)(?: <(\w+)>)? +(.*)$", re.M)
 PROMPT, PROGRAM = "mlir-work", "mlir_work"
+# The words of an option that takes one of a few.
+FORMATS = "text json"
 
 
 def options(text):
@@ -93,8 +95,11 @@ def bash(text, _):
     cases = "\n".join(f"        {part.word}) options='{' '.join(names[-1] for names, *_ in part.options)}' ;;"
                       for part in parts())
     return f"""_{PROGRAM}() {{
-    [ "${{COMP_WORDS[COMP_CWORD-1]}}" = --limit ] ||
-        COMPREPLY=($(compgen -W "{of_program}" -- "${{COMP_WORDS[COMP_CWORD]}}"))
+    case ${{COMP_WORDS[COMP_CWORD-1]}} in
+    --limit) ;;
+    --format) COMPREPLY=($(compgen -W "{FORMATS}" -- "${{COMP_WORDS[COMP_CWORD]}}")) ;;
+    *) COMPREPLY=($(compgen -W "{of_program}" -- "${{COMP_WORDS[COMP_CWORD]}}")) ;;
+    esac
 }}
 complete -F _{PROGRAM} {PROGRAM}
 _{PROGRAM}_prompt() {{
@@ -126,7 +131,7 @@ def zsh_options(part):
 def zsh(text, _):
     """Completion for zsh."""
     quoted = [of_zsh(about) for *_, about in options(text)]
-    rows = [f"  '--{word}[{about}]{':' + takes if takes else ''}'"
+    rows = [f"  '--{word}[{about}]{':' + takes if takes else ''}{f':({FORMATS})' if takes == 'FORMAT' else ''}'"
             for (_, word, takes, _), about in zip(options(text), quoted)]
     commands = " ".join(f"'{part.word}:{of_zsh(part.about)}'" for part in parts())
     cases = "\n".join(f"    {part.word}) _arguments {zsh_options(part)} '*:file:_files' ;;" for part in parts())
