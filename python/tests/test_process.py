@@ -241,8 +241,8 @@ class Lost(Case):
 
 
 class Interrupted(Case):
-    def interrupt(self, seconds=0.05):
-        """Interrupts what is done then, as Ctrl-C does."""
+    def interrupt(self, seconds=0.4):
+        """Interrupts what is done then, as Ctrl-C does: late enough that it has begun on a busy machine too."""
         def raise_it(*_):
             raise KeyboardInterrupt
         old = signal.signal(signal.SIGALRM, raise_it)
@@ -259,7 +259,7 @@ class Interrupted(Case):
         self.assertRaises(mlir_work.SessionClosed, s.erase, 1)
 
     def test_while_it_opens(self):
-        self.interrupt(0.2)
+        self.interrupt()
         with self.assertRaises(KeyboardInterrupt):
             mlir_work.Session(TEXT * 10000, fake(SILENT))
 
@@ -294,7 +294,7 @@ with mlir_work.Session({TEXT!r}, {PROGRAM!r}) as s:
         self.assertEqual((ran.returncode, ran.stdout), (0, b"2\n"))
 
     def test_a_call_within_a_call(self):
-        s = mlir_work.Session(TEXT, fake(ANSWERS + "line(); time.sleep(0.2); say('1 ok\\n\\n'); line()"))
+        s = mlir_work.Session(TEXT, fake(ANSWERS + "line(); time.sleep(1.2); say('1 ok\\n\\n'); line()"))
         said = []
 
         def call(*_):
@@ -304,7 +304,7 @@ with mlir_work.Session({TEXT!r}, {PROGRAM!r}) as s:
                 said.append(fault)
         old = signal.signal(signal.SIGALRM, call)
         self.addCleanup(signal.signal, signal.SIGALRM, old)
-        signal.setitimer(signal.ITIMER_REAL, 0.05)
+        signal.setitimer(signal.ITIMER_REAL, 0.4)
         s.erase(1)
         self.assertEqual((len(said), s.close()), (1, 0))
 

@@ -1,8 +1,8 @@
 -- The output of an input, as JSON.
 use Rattle.std.specs.Prelude.{◌≡◌, ℕ, List, ◌⊎◌, Option}
 use Rattle.std.specs.Io.KnownBytes.{Appends}
-use Rattle.mlir_work_session.specs.Panels.{Shown}
-use Rattle.mlir_work_session.specs.Writes.{AppendsFront}
+use Rattle.mlir_work_run.specs.session.Panels.{Shown}
+use Rattle.mlir_work_run.specs.session.Writes.{AppendsFront}
 use Rattle.mlir_work_json.specs.Lines.{json_text}
 use Rattle.mlir_work_run.specs.Whole.{IsOutput, Setting}
 

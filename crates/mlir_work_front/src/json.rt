@@ -1,8 +1,8 @@
 //! A run whose output is written as JSON.
 ghost use Rattle.std.specs.Prelude.{[], Some, IfOk, IfSome, OnErr};
 ghost use Rattle.std.specs.Io.KnownBytes.{Keeps};
-ghost use Rattle.mlir_work_session.specs.Panels.{all_shown};
-ghost use Rattle.mlir_work_session.specs.Writes.{Puts};
+ghost use Rattle.mlir_work_run.specs.session.Panels.{all_shown};
+ghost use Rattle.mlir_work_run.specs.session.Writes.{Puts};
 ghost use Rattle.mlir_work_run.specs.Ends.{HasStatus};
 ghost use Rattle.mlir_work_run.specs.Whole.{IsOutput, setting_of};
 ghost use Rattle.mlir_work_front.specs.Json.{IsJsonOutput, IsTold};

@@ -1,12 +1,9 @@
-//! What a whole run writes is an output of what it read: a module and a script, from bytes to bytes. And the command
-//! line.
+//! What a whole run writes is an output of what it read: a module and a script, from bytes to bytes.
 #![tactic(auto)]
 
 pub mod dry;
 pub mod live;
-pub mod options;
 pub mod run;
-mod text;
 
 pub use mlir_work_session::{
     Bench, boxes, cells, clauses, command, expect, greedy, input, keys, kind, lines, manner,
