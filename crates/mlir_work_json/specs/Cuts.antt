@@ -1,5 +1,5 @@
 -- A text cut at a byte of a kind.
-use Rattle.std.specs.Prelude.{ℕ, suc, ◌+◌, List, [], ◌∷◌, ◌==◌, ◌&&◌, not, Bool, false, if◌then◌else◌, take, drop}
+use Rattle.std.specs.Prelude.{ℕ, suc, ◌+◌, List, [], ◌∷◌, ◌==◌, ◌&&◌, ◌||◌, not, Bool, true, false, if◌then◌else◌, take, drop}
 
 -- what stands before the first byte that p picks
 abbrev pub before : (ℕ → Bool) → List ℕ → List ℕ
@@ -53,3 +53,10 @@ second text = cell (behind text)
 
 abbrev pub behind_second : List ℕ → List ℕ
 behind_second text = behind (behind text)
+
+-- ---- for laws
+
+-- whether a text is one cell, wherever it stands: it has no blank and no quote
+abbrev pub is_whole : List ℕ → Bool
+is_whole [] = true
+is_whole (b ∷ bs) = not ((b == 32) || (b == 34)) && is_whole bs

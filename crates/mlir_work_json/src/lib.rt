@@ -3,6 +3,7 @@
 
 mod cuts;
 mod form;
+pub mod laws;
 mod members;
 mod numbers;
 mod replies;
