@@ -1,10 +1,9 @@
 -- How a run ends whose output is written as JSON.
-use Rattle.std.proofs.Common.{◌≡◌, ◌==◌, ℕ, List, [], ◌++◌, append-nil, Bool, true, false, Option, Some, None, Result, Ok, Err, refl, sym, subst, inl, inr, ◌⊎◌, arith}
+use Rattle.std.proofs.Common.{◌≡◌, ℕ, List, [], append-nil, Option, Some, None, Result, Ok, Err, refl, sym, subst, inl, inr}
 use Rattle.std.specs.Prelude.{IfSome}
-use Rattle.std.specs.Io.KnownBytes.{Appends, Keeps}
-use Rattle.mlir_work_session.specs.Panels.{Shown}
-use Rattle.mlir_work_session.specs.Writes.{AppendsFront, Grows, HandsOn, Puts, Stream}
-use Rattle.mlir_work_session.proofs.Joins.{grows_fails, grows_stays, keeps_same}
+use Rattle.mlir_work_run.specs.session.Panels.{Shown}
+use Rattle.mlir_work_run.specs.session.Writes.{Grows, HandsOn, Puts, Stream}
+use Rattle.mlir_work_script.proofs.Joins.{grows_fails, grows_stays}
 use Rattle.mlir_work_json.specs.Lines.{json_text}
 use Rattle.mlir_work_run.specs.Ends.{HasStatus, IsFinal}
 use Rattle.mlir_work_run.specs.Whole.{IsOutput, Setting}
@@ -21,14 +20,6 @@ pub kept_so : (o : Option (List ℕ)) (P : List ℕ → ℕ → List ℕ → Typ
 kept_so o P start kept items status e k h =
     subst (λ (xs : List ℕ). IfSome o (λ input. HasStatus (P input) (Some []) (Some xs) status)) (sym k)
     (subst (λ (xs : List ℕ). IfSome o (λ input. HasStatus (P input) (Some xs) (Some kept) status)) e h)
-
--- status 4, and nothing was written
-pub nothing_told : (o : Option (List ℕ)) (P : List ℕ → ℕ → List ℕ → Type 0) (a : Option (List ℕ)) → IfSome o (λ input. HasStatus (P input) a a 4)
-nothing_told None P a = tt
-nothing_told (Some input) P a = inr (refl, inl (keeps_same a))
-
-pub not_four : (n : ℕ) → (n == 4) ≡ false → n ≡ 4 → ⊥
-not_four n e h = absurd (grind (arith, e, h))
 
 kept_is : (Q : ℕ → List ℕ → Type 0) (kept : List ℕ) (status : ℕ) → (status ≡ 4 → ⊥) → HasStatus Q (Some []) (Some kept) status → IsFinal status × Q status kept
 kept_is Q kept status none (inl (final, (out, h, wrote))) = (final, subst (λ (xs : List ℕ). Q status xs) (sym wrote) h)

@@ -60,7 +60,7 @@ fn limit<'a>(alloc: Global) -> Arg<'a> {
 }
 
 /// The option that says in which form the output is written.
-fn format<'a>(alloc: Global) -> Arg<'a> {
+fn output_format<'a>(alloc: Global) -> Arg<'a> {
     Arg::new(alloc, "format")
         .long("format")
         .value_name("FORMAT")
@@ -131,7 +131,7 @@ fn command<'a>(alloc: Global) -> Result<Command<'a>, AllocError> {
         .arg(output(alloc))?
         .arg(brief(alloc))?
         .arg(limit(alloc))?
-        .arg(format(alloc))?
+        .arg(output_format(alloc))?
         .arg(interactive(alloc)?)
 }
 

@@ -1,6 +1,8 @@
-use Rattle.std.proofs.Common.{sym, ap, ◌∙◌}
-use Rattle.mlir_work_session.specs.Panels.{all_shown}
+use Rattle.std.proofs.lemmas.Result.{IfOk-weaker}
+use Rattle.mlir_work_run.specs.session.Panels.{all_shown}
 use Rattle.mlir_work_run.specs.Whole.{setting_of}
-use Rattle.mlir_work_front.specs.Json.{IsJsonOutput}
-use Rattle.mlir_work_front.proofs.Told.{if_told, nothing_told, not_four}
+use Rattle.mlir_work_front.proofs.Told.{if_told}
 use Rattle.mlir_work_front.proofs.json.run_as_json.Goals as goal
+
+pub returns-clause-ran : goal.returns-clause-ran
+returns-clause-ran g c = IfOk-weaker c.tell.result _ _ (λ told h. if_told (g.R.Source.intake c.args.reader.now).remaining (setting_of g.L.Supplied.supply c.args.options) (all_shown g.L.Analysis.meaning c.args.boxes.items) c.in_ok-status.output.items _ _ c.in_ok-status.status told c.if-status-eq4.false c.in_ok-status.ensures h) (rw c.deref.ensures.value at c.tell.ensures.told)
