@@ -1,8 +1,8 @@
 //! The input of a run from files and commands that the command line names, and its output to a file.
 
+use mlir_work_front::input::{ReadFault, read_all};
 use mlir_work_front::options::Given;
 use mlir_work_inputs::inputs::input_of;
-use mlir_work_run::input::{ReadFault, read_all};
 use std::alloc::Global;
 use std::{fs, io};
 

@@ -4,3 +4,5 @@
 pub mod json;
 pub mod options;
 mod text;
+
+pub use mlir_work_run::{dry, input, live, run, source, watched};
