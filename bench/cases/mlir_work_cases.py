@@ -1005,6 +1005,18 @@ def command_lines():
     wrong(["--interactive", "--interactive"],
           b"the argument '--interactive' cannot be used multiple times" + usage + more)
     wrong(["--brief", "--brief"], b"the argument '--brief' cannot be used multiple times" + usage + more)
+    formats = b"\n  [possible values: text, json]\n" + more
+    for word in ("xml", "JSON"):
+        wrong([f"--format={word}"], f"invalid value '{word}' for '--format <FORMAT>'".encode() + formats)
+    for word in ("--format", "--format="):
+        wrong([word], b"a value is required for '--format <FORMAT>' but none was supplied" + formats)
+    wrong("--format json --format text".split(),
+          b"the argument '--format <FORMAT>' cannot be used multiple times" + usage + more)
+    for word in ("text", "json"):
+        wrong(["--interactive", "--format", word],
+              b"the argument '--interactive' cannot be used with '--format <FORMAT>'"
+              + usage.replace(b"[OPTIONS]", b"--interactive") + more)
+    GOLDEN.case("--format json --brief --help".split(), b"", (0, help_text))
     # The example of the help.
     example = re.search(rb"<<'END'\n(.*)  END\n(.*)", help_text, re.S)
     module, out = (re.sub(rb"(?m)^  ", b"", part) for part in example.groups())
