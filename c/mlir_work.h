@@ -56,7 +56,10 @@ enum mlir_work_outcome {
   MLIR_WORK_REFUSED_ON = 8, /* and number: the operation because of which */
   MLIR_WORK_REFUSED_AT = 9, /* and number: the byte of the text that is refused, counted from 0 */
   MLIR_WORK_NO_SESSION = 10, /* the handle is closed */
-  MLIR_WORK_APPLIED = 11    /* number: how often the rule was applied, 0 or 1 */
+  MLIR_WORK_APPLIED = 11,   /* number: how often the rule or the pattern was applied, 0 or 1 */
+  MLIR_WORK_HOLDS = 12,     /* number: the width up to which a pattern gives what was there */
+  MLIR_WORK_EMPTY = 13,     /* number: the width up to which a pattern applies nowhere */
+  MLIR_WORK_FAILS = 14      /* number: a width at which a pattern fails; the rows are shown */
 };
 
 /* Why something is refused: docs/REFUSALS.md. */
@@ -165,6 +168,11 @@ static inline const char *mlir_work_refusal_word(uint32_t refusal) {
    handle is closed. */
 void mlir_work_open(mlir_work_session *session, const uint8_t *text, size_t text_length, uint64_t key, uint32_t limit,
                     mlir_work_answer *answer);
+
+/* The same, and types and attributes that aren't known are kept as they are spelled, in this text and in each line, as
+   `mlir_work --opaque` does. */
+void mlir_work_open_opaque(mlir_work_session *session, const uint8_t *text, size_t text_length, uint64_t key,
+                           uint32_t limit, mlir_work_answer *answer);
 
 /* Says a line of a script: one command, with or without a line feed at its end. A text of several lines is refused
    (60 BadCommand). Of `expect REFUSAL COMMAND` the answer is that to COMMAND: whether it is the one that was expected

@@ -57,13 +57,15 @@ private:
 class Session {
 public:
   // Throws Refused where the text isn't that of a module. `limit`: the most rewrites of a `canon` that says none.
-  explicit Session(std::string_view module, std::uint32_t limit = 1000) {
+  // `opaque`: types and attributes that aren't known are kept as they are spelled.
+  explicit Session(std::string_view module, std::uint32_t limit = 1000, bool opaque = false) {
     if (mlir_work_version() != MLIR_WORK_VERSION)
       throw std::runtime_error("the library has another version than mlir_work.h");
     std::random_device random;
     const std::uint64_t key = (std::uint64_t{random()} << 32) | random();
     mlir_work_answer answer;
-    mlir_work_open(&held_, bytes(module), module.size(), key, limit, &answer);
+    const auto open = opaque ? mlir_work_open_opaque : mlir_work_open;
+    open(&held_, bytes(module), module.size(), key, limit, &answer);
     if (answer.outcome != MLIR_WORK_OK)
       throw Refused(answer);
   }

@@ -61,6 +61,7 @@ COMMANDS = {
     "tools/install.sh PREFIX": Typed("installed", line="tools/install.sh prefix && prefix/bin/mlir_work --help"),
     "tools/session.py FILE": Typed('    #0  "builtin.module"', line="tools/session.py module.mlir", given=SESSION),
     "tools/session.py module.mlir": Typed('    #0  "builtin.module"', given=SESSION),
+    "tools/session.py --opaque module.mlir": Typed('    #0  "builtin.module"', given=SESSION),
     "tools/session.py examples/fold.mlir": Typed('    #0  "builtin.module"', given=SESSION),
     "tools/explain.py MODULE SCRIPT": Typed("s:1:1: 22 HasUses: ", line="tools/explain.py module.mlir s", status=1),
     "tools/explain.py module.mlir FILE": Typed(""),

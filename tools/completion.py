@@ -27,6 +27,10 @@ class Completion:
         """The names of the operations in the module, in quotes."""
         return {it[0].strip() for text in self.session.listing().texts if (it := NAME.search(text))}
 
+    def patterns(self):
+        """The names of the patterns that were defined."""
+        return [line.split()[1] for line in self.session.kept() if line.split()[:1] == ["pattern"]]
+
     def of_kind(self, kind):
         """What may stand for a part of a form."""
         if kind == "KIND":
@@ -38,7 +42,9 @@ class Completion:
         if kind == "MODE":
             return ["partial", "full"]
         if kind == "RULE":
-            return [name for name in pages.rules() if not re.fullmatch(r"v\d+", name)]
+            return [name for name in pages.rules() if not re.fullmatch(r"v\d+", name)] + self.patterns()
+        if kind == "NAME":
+            return self.patterns()
         return kind.strip("()").split("|") if forms.LITERAL.fullmatch(kind) else []
 
     def wanted(self, before):

@@ -98,6 +98,7 @@ def arguments(parser):
     parser.add_argument("module", metavar="MODULE", help="a file with a module in generic form")
     parser.add_argument("script", metavar="SCRIPT", nargs="?",
                         help="a file with a script; without it the script stands in MODULE, behind a line `// -----`")
+    program.arguments(parser)
 
 
 def run(given):

@@ -16,6 +16,7 @@ NUMBER = r"[0-9]+"
 VALUE = rf"%v{NUMBER}\.{NUMBER}|%a{NUMBER}\.{NUMBER}\.{NUMBER}"
 PLACE = rf"(?:before|after)[ \t]+#{NUMBER}|(?:start|end)[ \t]+#{NUMBER}[ \t]+{NUMBER}"
 KEY = r'"(?:[^"\\]|\\(?:[nt"\\]|[0-9A-Fa-f]{2}))*"|[A-Za-z_][A-Za-z0-9_$.]*'
+NAME = r"[^ \t0-9][^ \t]*"
 RULE = r"0*(?:[1-9]|[12][0-9]|30)(?![^ \t])|[^ \t0-9][^ \t]*"
 TRIED = r"(?:0*(?:[1-9]|1[0-9]|2[0-4])(?![^ \t,])|[^ \t0-9,][^ \t,]*)"
 RULES = rf"{TRIED}(?:,{TRIED})*(?![^ \t])"
@@ -24,16 +25,18 @@ PARTS = {
     "#N": (f"#{NUMBER}", "an operation is written as #3"),
     "K": (NUMBER, "operands are counted from 0"),
     "N": (NUMBER, "it is a whole number"),
+    "W": (NUMBER, "a width is a whole number"),
+    "NAME": (NAME, "the name of a pattern doesn't begin with a digit"),
     "MODE": ("partial|full", "a mode is `partial` or `full`"),
     "VALUE": (VALUE, "a value is %vN.K, result K of #N, or %aN.R.K, argument K of the block of its region R"),
     "PLACE": (PLACE, "a place is `before #N`, `after #N`, `start #N R` or `end #N R`"),
-    "RULE": (RULE, "a rule is a number of 1 to 30, or its word, as drop-zero"),
+    "RULE": (RULE, "a rule is a number of 1 to 30, or its word, as drop-zero, or the name of a pattern"),
     "RULES": (RULES, "rules are tried in their order: numbers of 1 to 24, or words, with commas, as 4,drop-one"),
     "REFUSAL": (r"[0-9]+|[A-Z][A-Za-z0-9]*", "a refusal is its number, or its word, as 22 or HasUses"),
     "KEY": (KEY, 'a key is a bare identifier, or a string as "a b"'),
 }
 # Words of the rest of a line: what is refused in it is told by a byte, counted from its first.
-TEXTS = {"OPERATION", "ATTRIBUTE", "COMMAND"}
+TEXTS = {"OPERATION", "ATTRIBUTE", "PATTERN", "COMMAND"}
 
 
 class Fault:

@@ -14,9 +14,13 @@ OPENED = re.compile(r"\((\{\}, )*\{$")
 NEXT_REGION = re.compile(r"\}, ((?:\{\}, )*)\{$")
 ARGUMENT = re.compile(r"%(\w+):")
 NAMED = re.compile(r"%([^,) ]+)")
+# A string, in which a quote stands only where a text is kept as it is spelled.
+STRING = re.compile(r'"((?:[^"\\]|\\.)*)"')
+QUOTE = '\\"'
 NEW = re.compile(r"ok #(\d+)")
 SYMBOL = re.compile(r'sym_name = ("[^"]*")')
 BARE = re.compile(r'"([A-Za-z_][\w$.]*)"')
+SEVERAL = re.compile(r"[0-9]+(?:#[0-9]+|:[0-9]+)")
 VALUE = re.compile(r"%v(\d+)\.(\d+)|%a(\d+)\.\d+\.\d+")
 RESULTS = re.compile(r" *%\d+(?::(\d+))? = ")
 MARGIN = 6
@@ -112,11 +116,13 @@ class Names:
     def called(self, printed):
         """What values are called."""
         owners, arguments = self.owners, self.arguments
-        return [f"%v{owners[int(name)]}.0" if name.isdecimal() else arguments.get(name) or self.several(name)
-                for name in printed]
+        return [f"%v{owners[int(name)]}.0" if name.isdecimal() and int(name) < len(owners)
+                else arguments.get(name) or self.several(name) for name in printed]
 
     def several(self, name):
-        """What one of several results is called, or all of them are."""
+        """What one of several results is called, or all of them are; a name of a text that is kept is what it was."""
+        if not SEVERAL.fullmatch(name) or int(name.split("#")[0].split(":")[0]) >= len(self.owners):
+            return "%" + name
         result, _, count = name.partition(":")
         result, _, place = result.partition("#")
         number = self.owners[int(result)]
@@ -245,9 +251,10 @@ class Listing:
         return [line for begin in range(0, len(places), SOME) for line in self.some(places[begin:begin + SOME])]
 
     def some(self, places):
-        """The same for a few lines. Strings are left as they are: none of them has a quote in it, since that is printed
-        by its number."""
-        parts = self.without_numbers("\n".join([self.texts[place] for place in places])).split('"')
+        """The same for a few lines. Strings are left as they are: mostly none of them has a quote in it, since that is
+        printed by its number."""
+        text = self.without_numbers("\n".join([self.texts[place] for place in places]))
+        parts = STRING.split(text) if QUOTE in text else text.split('"')
         pieces = NAMED.split('"'.join(parts[::2]))
         pieces[1::2] = self.names.called(pieces[1::2])
         parts[::2] = "".join(pieces).split('"')

@@ -12,8 +12,9 @@ from program import ROOT
 
 REFUSAL = re.compile(r"refused (\d+) (\w+)(?: at (\d+))?(?: #(\d+))?$")
 # Words that are typed for commands which are named otherwise.
-MEANT = {"abort": "rollback", "add": "insert", "canonicalize": "canon", "delete": "erase", "legalize": "convert",
-         "mark": "begin", "remove": "erase", "show": "print", "symbol-dce": "sweep", "undo": "rollback"}
+MEANT = {"abort": "rollback", "add": "insert", "canonicalize": "canon", "define": "pattern", "delete": "erase",
+         "legalize": "convert", "mark": "begin", "remove": "erase", "show": "print", "symbol-dce": "sweep",
+         "trace": "canon", "undo": "rollback"}
 # The same for words of the prompt.
 MEANT_THERE = {"?": "help", "exit": "quit", "info": "help", "list": "ids", "load": "source", "ls": "ids", "man": "help",
                "output": "write", "q": "quit", "read": "source", "search": "find", "u": "undo", "verify": "diagnostics"}

@@ -51,6 +51,7 @@ def main(words):
         words = ["open", *words]
     given = parser().parse_args(words)
     try:
+        program.ask(getattr(given, "opaque", False))
         return given.run(given)
     except BrokenPipeError:
         os.dup2(os.open(os.devnull, os.O_WRONLY), sys.stdout.fileno())

@@ -16,6 +16,9 @@ import sources
 
 ROOT = sources.ROOT
 HELP = ROOT / "tools/help.txt"
+OPAQUE = "--opaque"
+# Words that each run of the program has, besides its own: what the command line asks of it.
+ASKED = []
 DIVIDER = b"// -----"
 MOST_SCRIPT = 16 * 1024 * 1024
 BLANKS = b" \t\r"
@@ -36,7 +39,13 @@ def of_sources():
 
 
 def words():
-    """The program's words, and what its environment has besides."""
+    """The program's words, with those that each run has, and what its environment has besides."""
+    program, more = started()
+    return [*program, *ASKED], more
+
+
+def started():
+    """The words that start the program, and what its environment has besides."""
     named = os.environ.get("MLIR_WORK")
     if named == "reference":
         paths = {"PYTHONPATH": str(ROOT / "bench"), "PYTHONDONTWRITEBYTECODE": "1"}
@@ -59,11 +68,29 @@ def helped(program, more):
 
 def has_option(option):
     """Whether the program's help names an option."""
-    program, more = words()
+    program, more = started()
     try:
         return re.search(rf"^ +(?:-\w, )?{option}\b", helped(tuple(program), tuple(more.items())), re.M) is not None
     except OSError as fault:
         raise Fault(f"{program[0]}: {fault.strerror}") from None
+
+
+def arguments(parser):
+    """What stands on the command line of each that runs the program."""
+    parser.add_argument(OPAQUE, action="store_true",
+                        help="keep types and attributes that aren't known as they are spelled, as the program does")
+
+
+def ask(is_opaque):
+    """Has each run keep what isn't known, or not; raises `Fault` where the program can't."""
+    ASKED[:] = [OPAQUE] * is_opaque
+    if is_opaque and not has_option(OPAQUE):
+        raise Fault(f"{started()[0][0]} has no {OPAQUE}")
+
+
+def lines_of(text):
+    """The lines of what the program writes. (What else ends a line elsewhere may stand in a string of a text.)"""
+    return text.removesuffix("\n").split("\n") if text else []
 
 
 def joined(module, script):
@@ -141,7 +168,7 @@ def written(text):
 def ran(text):
     """The status of a run over an input, with --brief, and the lines that it wrote."""
     status, out = written(text)
-    return status, out.splitlines()
+    return status, lines_of(out)
 
 
 def answered(module, script):

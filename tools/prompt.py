@@ -226,6 +226,7 @@ def arguments(parser):
     parser.add_argument("script", metavar="SCRIPT", nargs="?", help="a file with lines that are taken first")
     parser.add_argument("--color", choices=["auto", "always", "never"], default="auto",
                         help="whether to colour what is shown [default: auto, on a terminal without NO_COLOR]")
+    program.arguments(parser)
 
 
 def run(given):

@@ -238,6 +238,7 @@ def arguments(parser):
                       help="a command of the shell that ends with status 0: the module is its input, and $1 its file")
     parser.add_argument("-o", "--output", metavar="FILE",
                         help="where the module is written; the script goes beside it, as FILE.script")
+    program.arguments(parser)
 
 
 def told(count):

@@ -13,9 +13,11 @@ from program import answered, is_counted, joined, ran, replies
 
 # Commands that make neither the module nor a report another, and are run again; how many marks more there are behind
 # one.
-KEEPS, MARKS = {"begin", "commit"}, {"begin": 1, "commit": -1, "rollback": -1}
+KEEPS, MARKS = {"begin", "commit", "pattern", "check"}, {"begin": 1, "commit": -1, "rollback": -1}
 MOST_MARKS = 16
 REWRITES = re.compile(r"(?:converged|limit) (\d+)")
+# What a line rewrites by, without a limit, and whether the rewrites are told.
+REWRITING = re.compile(r"rewrite[ \t]+[^ \t]+|canon(?:[ \t]+only[ \t]+[^ \t]+)?")
 # A script that is too long has one reply in place of one for each line.
 REFUSED = ("refused 60 BadCommand", [])
 # So many steps there are mostly, and half as many of one line.
@@ -59,11 +61,11 @@ class Step:
 
 def rewrites(line, reply, most):
     """The lines that make what a line made, one rewrite each, but for what is more than `most`, which is one."""
-    found = REWRITES.fullmatch(reply) if line.split()[0] == "canon" else None
-    count = int(found.group(1)) if found else 0
+    found, by = REWRITES.fullmatch(reply), REWRITING.match(line)
+    count = int(found.group(1)) if found and by else 0
     if count < 2:
         return [line]
-    return ["canon limit 1"] * min(count, most) + [f"canon limit {count - most}"] * (count > most)
+    return [f"{by.group()} limit 1"] * min(count, most) + [f"{by.group()} limit {count - most}"] * (count > most)
 
 
 def of_line(line, reply, notes, most):

@@ -25,10 +25,12 @@ from kept import put  # noqa: E402
 from listing import MADE  # noqa: E402
 
 WIDTH = 100
-# Commands that edit what they don't name: behind them stands what they changed, up to so many lines.
-WITH_DIFF, MOST_DIFF = {"apply", "canon", "convert", "sweep"}, 60
+# Commands that edit what they don't name: behind them stands what they changed, up to so many lines; but behind those
+# that tell their rewrites just these.
+WITH_DIFF, MOST_DIFF = {"apply", "canon", "convert", "rewrite", "sweep"}, 60
+TRACED = re.compile(r"(?:canon|(?:rewrite|canon[ \t]+only)[ \t]+[^ \t]+)[ \t]+trace(?![^ \t])")
 # So many operations they make mostly for each that there is, and so many besides; so often a plain `canon` rewrites.
-MAKES, MADE_MOSTLY, LIMIT = {"canon": 2, "convert": 4}, 64, 1000
+MAKES, MADE_MOSTLY, LIMIT = {"canon": 2, "convert": 4, "rewrite": 2}, 64, 1000
 # So many listings are kept.
 MOST_LISTINGS = 2
 # A script that is too long has one reply in place of one for each line.
@@ -48,8 +50,8 @@ def cut_off(changes):
 def bound(line, count):
     """Below what most numbers are behind a line, where the next free number before it is `count`."""
     word, *rest = line.split()
-    rewrites = int(rest[-1]) if rest and rest[-1].isdecimal() else LIMIT
-    return count + MAKES.get(word, 0) * (min(count, rewrites) if word == "canon" else count) + MADE_MOSTLY
+    rewrites = int(rest[-1]) if rest[-2:-1] == ["limit"] and rest[-1].isdecimal() else LIMIT
+    return count + MAKES.get(word, 0) * (count if word == "convert" else min(count, rewrites)) + MADE_MOSTLY
 
 
 class Entry:
@@ -200,7 +202,8 @@ class Session:
     def command(self, line):
         """Runs a command of a script, and keeps it where it is accepted."""
         word, count = line.split()[0], self.count
-        reply, below = self.rewritten(line) if word in WITH_DIFF else self.run(line)
+        has_diff = word in WITH_DIFF and not TRACED.match(line)
+        reply, below = self.rewritten(line) if has_diff else self.run(line)
         if reply.startswith("refused"):
             return self.refused(reply, line.encode("utf-8", "surrogateescape"))
         self.add(Entry(line, word not in forms.looks(), count))

@@ -38,7 +38,7 @@ class Again:
         typed = run.add(line)
         run.add(listing.PROBE)
         reply, below = run.go().written.reply(typed)
-        return reply, below.splitlines(), run.free(typed + 1)
+        return reply, program.lines_of(below), run.free(typed + 1)
 
     def listed(self, kept, bound):
         """The listing behind some edits; most numbers are below the bound."""
@@ -55,7 +55,7 @@ class Again:
         run = listing.Run(self.module, [f"detach {it}" for it in kinds() if it != kind] + kept, False)
         before = run.count
         run.add(*lines, question)
-        *replies, last = program.replies(run.go().written.text.splitlines())[before:]
+        *replies, last = program.replies(program.lines_of(run.go().written.text))[before:]
         return [reply for reply, _ in replies], last
 
     def stop(self):

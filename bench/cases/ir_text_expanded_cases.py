@@ -54,7 +54,7 @@ def texts():
     """Each text: those by hand, the shorter modules with aliases, and those with some pieces changed."""
     yield from TEXTS
     yield from (text.encode() for text, _ in opaque_cases.texts() if "#" in text or "!" in text or "loc" in text)
-    found = [text for name, text, _ in opaque_cases.modules() if "6_alias" in name and len(text) <= LONGEST]
+    found = [it.text for it in opaque_cases.modules() if it.has_aliases and len(it.text) <= LONGEST]
     yield from found
     chance = random.Random(19)
     sources = TEXTS + found

@@ -38,7 +38,8 @@ def shown(name):
     return "".join(chr(code) if 32 <= code < 127 and code != 92 else f"\\x{code:02x}" for code in name)
 
 
-# A type is ("i" | "si" | "ui", width), ("index",), ("func", inputs, outputs) or ("memref", element, dimensions).
+# A type is ("i" | "si" | "ui", width), ("index",), ("func", inputs, outputs), ("memref", element, dimensions) or
+# ("opaque", text).
 def type_words(node):
     if node[0] == "func":
         return " ".join(["func", *map(str, node[1]), ">", *map(str, node[2])])
@@ -48,10 +49,12 @@ def type_words(node):
 
 
 # An attribute is ("int", type, bits), ("str", name), ("ty", type), ("unit",), ("array", items), ("dict", entries),
-# ("sym", names), ("dense", type, values) or ("overflow", nsw, nuw).
+# ("sym", names), ("dense", type, values), ("overflow", nsw, nuw) or ("opaque", type or None, text).
 def attr_words(node):
     if node[0] == "dict":
         return " ".join(["dict", *(f"{k}:{a}" for k, a in node[1])])
+    if node[0] == "opaque":
+        return f"opaque {'-' if node[1] is None else node[1]} {node[2]}"
     flat = [part for item in node[1:] for part in (item if isinstance(item, tuple) else (item,))]
     return " ".join(map(str, [node[0], *flat]))
 
@@ -110,12 +113,14 @@ class Context:
             return 1 + max([self.type_depth(self.types[t]) for t in node[1] + node[2]], default=0)
         if node[0] == "memref":
             inner = self.types[node[1]]
-            return 1 if width_of(inner) is not None else 1 + self.type_depth(inner)
+            return 1 if width_of(inner) is not None or inner[0] == "opaque" else 1 + self.type_depth(inner)
         return 1
 
     def attr_depth(self, node):
         if node[0] == "ty":
             return self.type_depth(self.types[node[1]])
+        if node[0] == "opaque":
+            return 1 if node[1] is None else self.type_depth(self.types[node[1]])
         if node[0] in ("array", "dict"):
             items = [a for _, a in node[1]] if node[0] == "dict" else node[1]
             return 1 + max([self.attr_depth(self.attrs[a]) for a in items], default=0)
@@ -134,6 +139,8 @@ class Context:
     def attr_fault(self, node):
         if node[0] in ("int", "ty",
                        "dense") and node[1] >= len(self.types) or node[0] == "str" and node[1] >= len(self.names):
+            return INDEX
+        if node[0] == "opaque" and node[1] is not None and node[1] >= len(self.types):
             return INDEX
         if node[0] == "sym" and any(n >= len(self.names)
                                     for n in node[1]) or node[0] == "array" and any(
@@ -240,15 +247,16 @@ def other_types():
     context.type("i", 8)
     context.type("func", (), ())
     context.type("memref", 0, ())
-    for ty, number in itertools.product((1, 2, 3), (-1, 0, 1, 255, 2 ** 64)):
+    context.type("opaque", "f32")
+    for ty, number in itertools.product((1, 2, 3, 4), (-1, 0, 1, 255, 2 ** 64)):
         context.fits(ty, number)
         if number >= 0:
             context.reading(ty, number)
-            if ty < 3:
+            if ty < 4:
                 context.attr("int", ty, number)
-    for ty in (1, 2):
+    for ty in (1, 2, 3):
         context.attr("dense", ty, (0,))
-    for words in ("func >", "memref 0", "memref 0 ?"):
+    for words in ("func >", "memref 0", "memref 0 ?", "opaque f32", "opaque !d.t<a  b>"):
         case(f"literal {words} : 0", "false none")
         case(f"value {words} : 0", "false")
         case(f"bits {words} : 0", "false")
@@ -328,7 +336,9 @@ def numbering():
              ("func", (), (0,)), ("func", (0, 1), ()),
              ("func", (1, 0), ()), ("func", (0,), (1,)), ("func", (0, 0), ()), ("memref", 0, ()),
              ("memref", 0, (None,)), ("memref", 0, (0,)), ("memref", 0, (4,)),
-             ("memref", 1, (4,)), ("memref", 0, (4, None)), ("memref", 0, (None, 4)), ("i", 128), ("ui", 128)]
+             ("memref", 1, (4,)), ("memref", 0, (4, None)), ("memref", 0, (None, 4)), ("i", 128), ("ui", 128),
+             ("opaque", "f32"), ("opaque", "f64"), ("opaque", "tensor<4xf32>"), ("opaque", "tensor< 4xf32>"),
+             ("opaque", "index"), ("memref", 21, (4,))]
     attrs = [("unit",), ("int", 0, 1), ("int", 0, 255), ("int", 1, 1), ("int", 4, 1), ("str", 0), ("str", 1), ("ty", 0),
              ("ty", 1), ("array", ()), ("array", (0,)),
              ("array", (0, 0)), ("array", (0, 1)), ("array", (1, 0)), ("dict", ()), ("dict", ((0, 0),)),
@@ -337,7 +347,9 @@ def numbering():
              ("sym", (1, 0)), ("dense", 0, ()), ("dense", 0, (1,)),
              ("dense", 1, (1,)), ("dense", 0, (1, 1)), ("overflow", 0, 0), ("overflow", 1, 0), ("overflow", 0, 1),
              ("overflow", 1, 1), ("int", 19, 2 ** 128 - 1),
-             ("int", 20, 2 ** 128 - 1)]
+             ("int", 20, 2 ** 128 - 1), ("opaque", None, "#d.a"), ("opaque", None, "#d.b"), ("opaque", 21, "#d.a"),
+             ("opaque", 22, "#d.a"), ("opaque", 21, "1.0"), ("opaque", 21, "1.00"), ("opaque", None, "unit"),
+             ("opaque", 0, "unit"), ("ty", 21)]
     for _ in range(2):
         for node in types:
             context.type(*node)
@@ -357,14 +369,16 @@ def parts_that_are_not_there():
     context.attr("ty", 0)
     context.attr("int", 0, 0)
     context.attr("dense", 0, ())
-    context.attr("array", (0,))
-    context.attr("dict", ((0, 0),))
+    context.attr("opaque", 0, "1.0")
+    context.attr("opaque", None, "1.0")
+    context.attr("array", (1,))
+    context.attr("dict", ((0, 1),))
     context.fits(0, 0)
     context.reading(0, 0)
     context.type("i", 1)
     context.attr("unit")
     context.attr("dict", ((54, 0),))
-    context.attr("dict", ((0, 1),))
+    context.attr("dict", ((0, 2),))
     context.type("func", (0, 1), ())
     context.type("func", (0,), (1,))
     context.type("func", (0,), (0,))
@@ -374,7 +388,7 @@ def parts_that_are_not_there():
 def first_types():
     context = Context()
     for node in (("si", 8), ("index",), ("memref", 0, (4, None)), ("memref", 1, ()), ("memref", 2, ()),
-                 ("func", (), ())):
+                 ("func", (), ()), ("opaque", "f32"), ("memref", 6, ())):
         context.type(*node)
     return context
 
@@ -389,17 +403,18 @@ def wrapped(context, last):
 
 
 def depths():
-    for number, wanted in enumerate((31, 31, 31, 31, 30, 31)):
+    for number, wanted in enumerate((31, 31, 31, 31, 30, 31, 31, 31)):
         context = first_types()
         last, rounds = wrapped(context, number)
         assert rounds == wanted, number
         assert context.type("memref", last, (None,)) == DEEP
         context.ask_counts()
-    for kind, holders in itertools.product(range(11), range(3)):
+    for kind, holders in itertools.product(range(14), range(3)):
         context = first_types()
         deep, _ = wrapped(context, 0)
         leaf = [("unit",), ("int", 0, 0), ("str", 0), ("ty", 0), ("array", ()), ("dict", ()), ("sym", ()),
-                ("dense", 0, ()), ("overflow", 1, 0), ("ty", 4), ("ty", deep)][kind]
+                ("dense", 0, ()), ("overflow", 1, 0), ("ty", 4), ("ty", deep),
+                ("opaque", None, "#d.a"), ("opaque", 4, "#d.a"), ("opaque", deep, "#d.a")][kind]
         context.attr(*leaf)
         last = 0
         for round in range(100):
@@ -407,7 +422,7 @@ def depths():
             if context.attr(*(("array", (last,)) if is_array else ("dict", ((0, last),)))):
                 break
             last = len(context.attrs) - 1
-        assert round == (31, 31, 31, 31, 31, 31, 31, 31, 31, 30, 0)[kind], (kind, holders)
+        assert round == (31, 31, 31, 31, 31, 31, 31, 31, 31, 30, 0, 31, 30, 0)[kind], (kind, holders)
         context.ask_counts()
 
 

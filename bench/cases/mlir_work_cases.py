@@ -4,8 +4,8 @@ of scripts, inputs and replies by regular expressions and Python's own cuts. And
 that are of whole runs with all listeners, of the same rules. Run it at the top of the repository.
 
 The whole runs are written out here or in bench/cases/worked_rows.txt, and compared with what the rules of
-bench/reference give for them, or are of analyses_cases.py, verifier_cases.py, conversion_cases.py and heard_cases.py,
-many by chance from the seeds there, and have what the rules give."""
+bench/reference give for them, or are of analyses_cases.py, verifier_cases.py, conversion_cases.py, heard_cases.py,
+own_pattern_cases.py and trace_cases.py, many by chance from the seeds there, and have what the rules give."""
 import itertools
 import pathlib
 import re
@@ -17,7 +17,9 @@ sys.path.append(str(pathlib.Path(__file__).resolve().parents[1]))  # bench/, whe
 import analyses_cases  # noqa: E402
 import conversion_cases  # noqa: E402
 import heard_cases  # noqa: E402
+import own_pattern_cases  # noqa: E402
 import rule_cases  # noqa: E402
+import trace_cases  # noqa: E402
 import verifier_cases  # noqa: E402
 import worked_rows  # noqa: E402
 from compare import refusals  # noqa: E402
@@ -180,14 +182,49 @@ def tried_says(word):
     return all(number_of(item) in range(1, 25) if item[:1].isdigit() else item for item in word.split(b","))
 
 
+def book_says(text):
+    """What a line says of the patterns of one's own, if it does."""
+    name, rest = re.fullmatch(rb"([^ \t]*)[ \t]*(.*)", text, re.S).groups()
+    words = re.split(rb"[ \t]+", rest)
+    if name == b"pattern" and rest:
+        return f"pattern {told(rest)}"
+    if name == b"patterns" and not rest:
+        return "patterns"
+    if name == b"check" and rest and not words[0][:1].isdigit():
+        if len(words) == 1:
+            return f"check {told(words[0])} width none"
+        if len(words) == 3 and words[1] == b"width" and number_of(words[2]) is not None:
+            return f"check {told(words[0])} width {number_of(words[2])}"
+    return None
+
+
+def limit_says(words):
+    """What is said of a limit, where words are one or none."""
+    if not words:
+        return "limit none"
+    is_limit = len(words) == 2 and words[0] == b"limit" and number_of(words[1]) is not None
+    return f"limit {number_of(words[1])}" if is_limit else None
+
+
+def rewrite_says(words):
+    """What the words of a line say of rewriting by some rules, or of rewriting that is told, if they do."""
+    if words[:2] == [b"canon", b"trace"]:
+        says = limit_says(words[2:])
+        return says and f"trace all {says}"
+    found = words[1:] if words[0] == b"rewrite" else words[2:] if words[:2] == [b"canon", b"only"] else []
+    if not found or not tried_says(found[0]):
+        return None
+    is_traced = found[1:2] == [b"trace"]
+    says = limit_says(found[1 + is_traced:])
+    return says and f"{'trace' if is_traced else 'rewrite'} {told(found[0])} {says}"
+
+
 def text_says(text):
+    if book_says(text):
+        return book_says(text)
     words = re.split(rb"[ \t]+", text)
-    rewrites = words[1:] if words[0] == b"rewrite" else words[2:] if words[:2] == [b"canon", b"only"] else []
-    if rewrites and tried_says(rewrites[0]):
-        if len(rewrites) == 1:
-            return f"rewrite {told(rewrites[0])} limit none"
-        if len(rewrites) == 3 and rewrites[1] == b"limit" and number_of(rewrites[2]) is not None:
-            return f"rewrite {told(rewrites[0])} limit {number_of(rewrites[2])}"
+    if rewrite_says(words):
+        return rewrite_says(words)
     if words == [b"print", b"ids"]:
         return "ids"
     if len(words) == 2 and words[0] == b"attach" and kind_of(words[1]) is not None:
@@ -253,6 +290,15 @@ ORDERS = {"rewrite 1": "rewrite [1] limit none", "rewrite 4,drop-one,0024": "rew
           "rewrite nope,#1 limit 0": "rewrite [nope,#1] limit 0",
           "canon only limit": "rewrite [limit] limit none", "canon only 1,1": "rewrite [1,1] limit none",
           "rewrite -1,_": "rewrite [-1,_] limit none",
+          "canon trace": "trace all limit none", "\tcanon \t trace\tlimit  0007 \r": "trace all limit 7",
+          "canon trace limit 0": "trace all limit 0", "canon trace limit 4294967295": "trace all limit 4294967295",
+          "rewrite 1 trace": "trace [1] limit none",
+          "rewrite 4,drop-one\ttrace  limit 10": "trace [4,drop-one] limit 10",
+          "canon only 024,nope trace": "trace [024,nope] limit none",
+          "canon only trace limit 2": "rewrite [trace] limit 2", "rewrite trace": "rewrite [trace] limit none",
+          "rewrite trace trace limit 3": "trace [trace] limit 3", "canon only trace trace": "trace [trace] limit none",
+          "expect 50 canon trace limit 0": "expects 50 BadLimit trace all limit 0",
+          "expect 26 rewrite x trace": "expects 26 NoSuchKey trace [x] limit none",
           "print ids": "ids", "\tprint  ids \r": "ids", "expect 22 erase #3": "expects 22 HasUses erase 3",
           "expect HasUses erase #3": "expects 22 HasUses erase 3", "\texpect  0060\tnonsense\r":
               "expects 60 BadCommand bad",
@@ -260,6 +306,14 @@ ORDERS = {"rewrite 1": "rewrite [1] limit none", "rewrite 4,drop-one,0024": "rew
           "expect 60 expect 60 print": "expects 60 BadCommand bad", "expect 1 print ids": "expects 1 BadToken ids",
           "expect 42 attach dead": "expects 42 KindTaken attach 5",
           "expect 2 insert end #0 0 x": "expects 2 Unexpected insert end 0 0 [x]"}
+BOOK_ORDERS = {"pattern p": "pattern [p]", "\tpattern \t p\targ => %a // x \r": "pattern [p\\targ => %a // x]",
+               "pattern //": "pattern [//]", "pattern 1": "pattern [1]", "pattern pattern": "pattern [pattern]",
+               "patterns": "patterns", " patterns\t\r": "patterns", "check p": "check [p] width none",
+               "\tcheck  a-b.c \r": "check [a-b.c] width none", "check width": "check [width] width none",
+               "check p\twidth  008\r": "check [p] width 8", "check width width 0": "check [width] width 0",
+               "check #1 width 4294967295": "check [#1] width 4294967295",
+               "expect 26 check nope": "expects 26 NoSuchKey check [nope] width none",
+               "expect 4 pattern p q": "expects 4 Redefined pattern [p q]"}
 ALONE = {"begin": "begin", "\tcommit \r": "commit", "rollback\t": "rollback", "sweep": "sweep", " sweep\t\r": "sweep",
          "erase #1": "erase 1", " erase\t#0004294967295": "erase 4294967295",
          "replace %v1.0 %a2.0.1": "replace 1.0 2.0.1", "replace\t%a1.2.3  %v01.00\r": "replace 1.2.3 1.0",
@@ -337,7 +391,13 @@ apply drop-zero #3 #4|apply drop zero #3|Apply 1 #2|applies 1 #2|apply 1 #429496
 rewrite 1,|rewrite ,1|rewrite 1,,2|rewrite 1, 2|rewrite 1 2|rewrite 1,30|rewrite 1 limit|rewrite 1 limit x
 rewrite 1 limit 2 3|rewrite limit 3|rewrite 1x|rewrite 1 limits 2|rewrites 1|Rewrite 1|rewrite 4294967297
 rewrite 1 limit 4294967296|canon only|canon only 25|canon only 1 limit|canon only limit 3|canononly 1|canon Only 1
-canon only 1,|canon 1 only|attach|attach uses uses|attach Uses|attach kind1|attachuses|attach x|attach #1|attach all
+canon only 1,|canon 1 only|canon trace x|canon trace limit|canon trace limit x|canon trace limit 1 2|canon trace 1
+canon trace limit 4294967296|canon trace only 1|canon limit 1 trace|canontrace|canon trace trace|canon Trace
+canon tracelimit 1|rewrite 1 tracelimit 1|rewrite 1trace|canon trace,1|rewrite trace limit|canon trace limit -1
+canon traces|rewrite 1 traces|rewrite 1 trace x|rewrite 1 trace trace|rewrite 1 trace limit|rewrite 1 limit 1 trace
+rewrite 25 trace|rewrite 1, trace|rewrite 1 trace limit -1|rewrite 1 trace 1|canon only 1 trace only|trace|trace limit 1
+canon only 30 trace|canon only trace limit|canon only trace x|attach|attach uses uses|attach Uses|attach kind1
+attachuses|attach x|attach #1|attach all
 print id|print idss|print ids x|print ids ids|print Ids|printids|print ids //|expect|expect print|expect 99 print
 expect 0 print|expect 22x erase #3|expect Hasuses erase #3|expect hasuses erase #3|expect -22 erase #3|Expect 22 print
 expect 4294967318 erase #3|expect22 print|expects 22 print|expect 22,23 print|expect 15 print|expect 39 print|print x
@@ -349,6 +409,9 @@ set-operand #3 0 %v2.|set-operand #3 0 %v.0|set-operand #3 0 %v2.0.0|set-operand
 set-operand #3 0 %v 2.0|set-operand #3 0 %a1.0|set-operand #3 0 %a1.0.|set-operand #3 0 %a1..0|set-operand #3 0 %a.0.0
 set-operand #3 0 %a1.0.0.0|set-operand #3 0 %b1.0.0|set-operand #4294967296 0 %v2.0|set-operand #3 4294967296 %v2.0
 set-operand #3 0 %v4294967296.0|set-operand #3 0 %v2.4294967296|set-operand #3 0 %a1.4294967296.0
+pattern|Pattern p|patterns x|patterns //|pattern|patternsp|check|check 4|check 4x|check p x|check p width
+check p width x|check p width -1|check p width 4294967296|check p width 1 2|check p Width 1|check p q width 1
+check 1 width 2|Check p|checks p
 set-operand #42949672950 0 %v2.0|set-operand #99999999999999999999999 0 %v2.0""".replace("\n", "|").split("|")
 
 
@@ -366,7 +429,7 @@ def lines():
     for refusal in REFUSALS:
         for word in refusal.split():
             line(f"expect {word} sweep", f"expects {refusal} sweep")
-    for table in (KINDS_ALONE, ALONE, INSERTS, ENTRIES, CHANGES, ORDERS):
+    for table in (KINDS_ALONE, ALONE, INSERTS, ENTRIES, CHANGES, ORDERS, BOOK_ORDERS):
         for text, want in table.items():
             line(text, want)
     for text in BAD:
@@ -383,7 +446,8 @@ def lines():
                  "move #3 after #2", "move #3 end #1 0", "set-attr #3 k.a 1",
                  "set-attr #3 \"a\\n\" 1", "drop-attr #3 k", "detach uses", "resync kind10", "canon limit 10",
                  "convert full depth 2 legal a,b rules 2,25", "attach dead", "print ids", "expect 22 print",
-                 "rewrite 2,drop-one limit 10"):
+                 "rewrite 2,drop-one limit 10", "canon trace limit 10", "rewrite 2,x trace limit 3", "pattern p x",
+                 "patterns", "check p width 10"):
         text = text.encode()
         for place in range(len(text) + 1):
             line(text[:place] + text[place + 1:])
@@ -1004,7 +1068,8 @@ def command_lines():
     unexpected("-b", "-b")
     wrong(["--interactive", "--interactive"],
           b"the argument '--interactive' cannot be used multiple times" + usage + more)
-    wrong(["--brief", "--brief"], b"the argument '--brief' cannot be used multiple times" + usage + more)
+    for word in ("--brief", "--opaque"):
+        wrong([word, word], f"the argument '{word}' cannot be used multiple times".encode() + usage + more)
     formats = b"\n  [possible values: text, json]\n" + more
     for word in ("xml", "JSON"):
         wrong([f"--format={word}"], f"invalid value '{word}' for '--format <FORMAT>'".encode() + formats)
@@ -1017,6 +1082,13 @@ def command_lines():
               b"the argument '--interactive' cannot be used with '--format <FORMAT>'"
               + usage.replace(b"[OPTIONS]", b"--interactive") + more)
     GOLDEN.case("--format json --brief --help".split(), b"", (0, help_text))
+    # Types and attributes that aren't known, which are kept where that is asked for.
+    kept = (b'%0 = "t.a"() {x = 1.0 : f32, y = #d.a<b>} : () -> tensor<4xf32>\n' + DIVIDER
+            + b'insert end #0 0 "t.b"(%v1.0) : (tensor<4xf32>) -> !d.t\nset-attr #2 z dense<0.5> : tensor<4xf32>\n'
+            + b"set-attr #1 x array<f32: 1.0>\nset-attr #1 y 1.0 : i32\nreport uses\nprint\n")
+    for words in ("--opaque", "--opaque --brief"):
+        GOLDEN.case(words.split(), kept, script.run_opaque(kept, "--brief" in words))
+    GOLDEN.case(["--brief"], kept, script.run(kept))
     # The example of the help.
     example = re.search(rb"<<'END'\n(.*)  END\n(.*)", help_text, re.S)
     module, out = (re.sub(rb"(?m)^  ", b"", part) for part in example.groups())
@@ -1115,7 +1187,8 @@ GOLDEN_PARTS = {
 
 
 def main():
-    print("seeds", analyses_cases.SEED, verifier_cases.SEED, heard_cases.SEED, conversion_cases.SEED)
+    print("seeds", analyses_cases.SEED, verifier_cases.SEED, heard_cases.SEED, conversion_cases.SEED,
+          own_pattern_cases.SEED, trace_cases.SEED)
     for part in (lines, words, cuts, writes, reads):
         part()
     for area, parts in GOLDEN_PARTS.items():
@@ -1124,6 +1197,8 @@ def main():
             part()
     analyses_cases.all_cases(analyses, GOLDEN.begin)
     conversion_cases.all_cases(analyses, GOLDEN.begin)
+    own_pattern_cases.all_cases(whole, GOLDEN.begin)
+    trace_cases.all_cases(GOLDEN.case, GOLDEN.begin)
     heard_cases.all_cases(case)
     GOLDEN.begin("rules/applied")
     rule_cases.all_cases(GOLDEN.case, case)

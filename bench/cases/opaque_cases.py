@@ -4,7 +4,7 @@ and the modules of tests/opaque. At the top of the repository
 
     bench/cases/opaque_cases.py [PROGRAM]
 
-asks the rules in Python, or a program that knows `--opaque`, and says which answer otherwise."""
+asks the rules in Python, or a program, and says which answer otherwise."""
 import argparse
 import pathlib
 import subprocess
@@ -19,7 +19,7 @@ from reference import rules, script  # noqa: E402
 MODULES = ROOT / "tests/opaque/modules.tar.xz"
 # An operation with an attribute, which begins at byte 13, and one with the type of a result, which begins at 21.
 ATTRIBUTE, TYPE = '"t.u"() {x = %s} : () -> ()', '%%0 = "t.u"() : () -> %s'
-SAME = "same"
+SAME, OPAQUE = "same", "--opaque"
 FLOATS = '%%0 = "arith.constant"() <{value = 1.5 : f32}> : () -> %s'
 FUNCTION = '"t.f"() ({\n^bb0(%a: i32 loc("f":1:2)):\n  "t.g"(%a) : (i32) -> () loc(#loc1)\n}) : () -> () loc("g")\n'
 
@@ -77,6 +77,9 @@ WHOLES = [
     ('%0 = "t.u"() : () -> tensor<4xf32>\n"t.v"(%0) : (tensor< 4xf32>) -> ()', (5, 45), (13, 21)),
     (FLOATS % "f32", [], (13, 34)),
     (FLOATS % "i32", ["#1 V13"], (13, 34)),
+]
+# With aliases and locations.
+ALIASED = [
     ('#m = affine_map<(d0) -> (d0)>\n!t = memref<4xf32, #m>\n%0 = "t.u"() {m = #m} : () -> !t',
      '%0 = "t.u"() {m = affine_map<(d0) -> (d0)>} : () -> memref<4xf32, affine_map<(d0) -> (d0)>>', (13, 0)),
     ('#m = 1 : i8\n#m = 2 : i8\n"t.u"() : () -> ()', (4, 12), (13, 0)),
@@ -137,8 +140,9 @@ LINES = [
     ('insert before #9 "t.n"(%a1.0.0) : (f64) -> ()', "refused 5 TypeMismatch at 15"),
     ("replace %v2.0 %a1.0.0", "ok"),
     ("replace %v2.0 %a1.0.1", "refused 24 TypeDiffers"),
-    # (`select` takes any type; the first rule takes the unused ones away; the sum of vectors stays, with its zero)
-    ("canon", "converged 4"),
+    # (`select` takes any type; the first rule takes the truth away that nothing uses then, and no constant of a float;
+    # the sum of vectors stays, with its zero)
+    ("canon", "converged 2"),
     ("report uses", "ok\n%a1.0.0 #8 1\n%a1.0.0 #10 0\n%a1.0.1 #4 0\n%v3.0 #4 1\n%v4.0 #8 0"),
     ("set-attr #3 value 1 : i32", "ok"),
     ("report diagnostics", "ok"),
@@ -147,30 +151,56 @@ LINES = [
 
 
 def texts():
-    """Each text, with the answers."""
+    """Each text, with the answers, the last of them without a flag."""
     for form, rows in ((TYPE, TYPES), (ATTRIBUTE, ATTRIBUTES)):
         for text, *answers in rows:
             yield form % text, answers
-    for text, *answers in WHOLES:
+    for text, *answers in WHOLES + ALIASED:
         yield text, answers
 
 
+def asked_texts():
+    """Each text, the words with which it is asked, and the answer."""
+    for text, (answer, plain) in texts():
+        yield text, (OPAQUE,), answer
+        yield text, (), plain
+
+
+class Module:
+    """A module of tests/opaque: its name, its text, what is printed for it or how it is refused, and how it is refused
+    without a flag."""
+
+    def __init__(self, name, text, answer, plain):
+        self.name, self.text, self.answer, self.plain = name, text, answer, plain
+        step = name.partition("/")[0]
+        self.has_aliases, self.is_refused = step == "6_alias", step == "refused"
+
+
 def modules():
-    """Each module's name, its text, and what is printed for it or how it is refused."""
+    """The modules."""
     with tarfile.open(MODULES) as archive:
-        found = {it.name: archive.extractfile(it).read() for it in archive if it.isfile()}
+        found = {it.name.removeprefix("open/"): archive.extractfile(it).read() for it in archive if it.isfile()}
+    lines = [line.split("\t") for line in found["MANIFEST.tsv"].decode().splitlines()[1:]]
+    plain = {name: f"module {said}\n".encode() for name, _, _, _, _, said, *_ in lines}
     for name, text in sorted(found.items()):
         front = name.removesuffix(".mlir")
         if front != name:
-            yield front, text, found.get(front + ".norm") or found[front + ".refused"]
+            yield Module(front, text, found.get(front + ".norm") or found[front + ".refused"], plain[front])
 
 
-def asked(program, text, is_open):
-    """The status and the output of a run."""
-    if program is None:
-        return (script.run_opaque if is_open else script.run)(text)
-    ran = subprocess.run([program, "--brief"] + ["--opaque"] * is_open, input=text, capture_output=True, check=False)
-    return ran.returncode, ran.stdout
+# Runs: `run` gives the status and the output for words and an input.
+
+def by_rules(words, text):
+    """What the rules say."""
+    return (script.run_opaque if OPAQUE in words else script.run)(text)
+
+
+def by_program(program):
+    """What a program says."""
+    def run(words, text):
+        ran = subprocess.run([program, "--brief", *words], input=text, capture_output=True, check=False)
+        return ran.returncode, ran.stdout
+    return run
 
 
 def case_of(text, answer):
@@ -184,50 +214,63 @@ def case_of(text, answer):
     return f"{text}\n// -----\nprint\n", 0, '1 ok\n"builtin.module"() ({\n' + lines + "}) : () -> ()\n"
 
 
-def told(program, text, answer, is_open):
+def text_told(run, text, words, answer):
     """What is wrong with the answer for a text, or none."""
     given, status, output = case_of(text, answer)
-    found = asked(program, given.encode(), is_open)
+    found = run(words, given.encode())
     if found == (status, output.encode()):
         return None
-    return f"{text!r}, {'' if is_open else 'not '}opaque: {found}, and not {(status, output)}"
+    return f"{text!r}, {' '.join(words)}: {found}, and not {(status, output)}"
 
 
-def script_told(program):
-    """What is wrong with the replies to the lines, or none."""
+def whole_script():
+    """The script over the operations beyond the table, as an input, and what is written for it."""
     given = BEYOND + "".join(f"{line}\n" for line, _ in LINES)
-    wanted = "".join(f"{number} {reply}\n" for number, (_, reply) in enumerate(LINES, 1))
-    found = asked(program, given.encode(), True)
+    return given, "".join(f"{number} {reply}\n" for number, (_, reply) in enumerate(LINES, 1))
+
+
+def script_told(run):
+    """What is wrong with the replies to the lines, or none."""
+    given, wanted = whole_script()
+    found = run((OPAQUE,), given.encode())
     return None if found == (1, wanted.encode()) else f"beyond the table: {found[1].decode()}, and not {wanted}"
 
 
-def module_told(program, name, text, answer):
-    """What is wrong with the answers for a module: it is printed so, without a row of diagnostics, or refused so."""
-    if name.split("/")[-2] == "refused":
-        found = asked(program, text, True)
-        return None if found == (3, b"module " + answer) else f"{name}: {found}, and not {answer}"
-    text += b"" if text.endswith(b"\n") else b"\n"
-    found = asked(program, text + b"// -----\nprint\nreport diagnostics\n", True)
-    return None if found == (0, b"1 ok\n" + answer + b"2 ok\n") else f"{name}: {found[1][:400]}"
+def asked_modules(module):
+    """What is asked of a module: words, the input, the status and what is written. It is printed so, without a row of
+    diagnostics, and what is printed is read again so; or it is refused so. Without the flag it is refused."""
+    yield (), module.text, (3, module.plain)
+    if module.is_refused:
+        yield (OPAQUE,), module.text, (3, b"module " + module.answer)
+        return
+    for text in (module.text, module.answer):
+        given = text + b"\n" * (not text.endswith(b"\n")) + b"// -----\nprint\nreport diagnostics\n"
+        yield (OPAQUE,), given, (0, b"1 ok\n" + module.answer + b"2 ok\n")
 
 
-def faults(program):
+def module_told(run, module):
+    """What is wrong with the answers for a module, each."""
+    for words, text, wanted in asked_modules(module):
+        found = run(words, text)
+        if found != wanted:
+            yield (f"{module.name}, {' '.join(words)}: {found[0]} {found[1][:400]}, and not {wanted[0]} "
+                   f"{wanted[1][:400]}")
+
+
+def faults(run):
     """What is answered otherwise, and how much was asked."""
-    count, found = 1, [script_told(program)]
-    for text, answers in texts():
-        for answer, is_open in zip(answers, (True, False)):
-            count += 1
-            found.append(told(program, text, answer, is_open))
-    for name, text, answer in modules():
-        count += 1
-        found.append(module_told(program, name, text, answer))
-    return count, [it for it in found if it is not None]
+    told = [script_told(run)] + [text_told(run, *it) for it in asked_texts()]
+    for module in modules():
+        found = list(module_told(run, module))
+        told.append("\n".join(found) if found else None)
+    return len(told), [it for it in told if it is not None]
 
 
 def main():
     parser = argparse.ArgumentParser(description=__doc__, formatter_class=argparse.RawDescriptionHelpFormatter)
     parser.add_argument("program", nargs="?")
-    count, found = faults(parser.parse_args().program)
+    program = parser.parse_args().program
+    count, found = faults(by_program(program) if program else by_rules)
     print(*found, sep="\n", end="\n" if found else "")
     print(f"{count - len(found)} right, {len(found)} wrong")
     sys.exit(bool(found))

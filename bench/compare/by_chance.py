@@ -4,18 +4,21 @@ that are cut and changed, modules of files that are, short scripts, and long one
 to sixteen marks and all seven listeners. Each case comes from the seed and its own number alone, so that one is had
 again by `--first`.
 
-usage: bench/compare/by_chance.py PROGRAM [CASES [SEED]] [--first N] [--processes N] [--only KIND,..]
+usage: bench/compare/by_chance.py PROGRAM [CASES [SEED]] [--first N] [--processes N] [--only KIND,..] [--opaque N]
                                   [--without COMMAND,..] [--table | --json] [--files FILE..]
 
 CASES is 20000, SEED 1 and the processes are one where they aren't given. The kinds are text, file, script, long and
 conversions; the last, scripts of conversions that fit their module, is there with `--only` alone. Without files the
-cases of files are texts too. A program that hasn't a command is compared without it. With `--table` the program is the
-one built from crates/mlir_work_cases, which runs many cases in one process; else each case is one. With `--json` it is
-asked for JSON, and each line of that has to be JSON to Python too. The seed is printed, what a case costs, how
-conversions were replied to, and each difference, whole; the status is 1 where there is one."""
+cases of files are texts too. A program that hasn't a command is compared without it. N of a hundred cases have opaque
+terms, and go with `--opaque`: 25 where nothing is said, and none with `--table`; their files are those of tests/opaque.
+With `--table` the program is the one built from crates/mlir_work_cases, which runs many cases in one process; else each
+case is one. With `--json` it is asked for JSON, and each line of that has to be JSON to Python too. The seed is
+printed, what a case costs, how conversions were replied to, and each difference, whole; the status is 1 where there is
+one."""
 import argparse
 import collections
 import concurrent.futures
+import functools
 import json
 import os
 import pathlib
@@ -26,10 +29,12 @@ import sys
 import time
 
 sys.dont_write_bytecode = True
-sys.path.append(str(pathlib.Path(__file__).resolve().parents[1]))  # bench/, where the other rooms are
+BENCH = pathlib.Path(__file__).resolve().parents[1]  # where the other rooms are
+sys.path += [str(BENCH), str(BENCH / "cases")]
 
+import opaque_cases  # noqa: E402
 import script_lines  # noqa: E402
-from reference import chance, json_lines, script  # noqa: E402
+from reference import aliases, chance, json_lines, script, texts  # noqa: E402
 from reference.lines import given, told  # noqa: E402
 from reference.module import rules, text_of  # noqa: E402
 
@@ -49,7 +54,7 @@ TOKEN = re.compile(rb'"(?:[^"\\\n]|\\.)*"|[%@#!^]?[A-Za-z0-9_$.]+|\s+|->|[^\sA-Z
 OPEN = (rb"module refused ([1-9]|1[0-4]) [A-Za-z0-9]+ at [0-9]+\n",
         rb'\{"offset":[0-9]+,"refused":([1-9]|1[0-4]),"word":"[A-Za-z0-9]+"\}\n')
 CONVERTED = re.compile(r"(?m)^[0-9]+ (converted|refused 5[1-4] \w+)")
-Case = collections.namedtuple("Case", "kind text brief limit answer commands")
+Case = collections.namedtuple("Case", "kind text brief limit answer commands is_opaque")
 
 
 # Texts that are changed.
@@ -71,16 +76,16 @@ def changed_bytes(maker, text):
     return text[:end] + text[at:]
 
 
-def changed_words(maker, text):
+def changed_words(maker, text, pieces):
     words = TOKEN.findall(text)
     if not words:
-        return maker.choice(WORDS)
+        return maker.choice(pieces)
     at, other = maker.randrange(len(words)), maker.randrange(len(words))
     how = maker.randrange(6)
     if how == 0:
-        words[at] = maker.choice(WORDS)
+        words[at] = maker.choice(pieces)
     elif how == 1:
-        words.insert(at, maker.choice(WORDS) + b" ")
+        words.insert(at, maker.choice(pieces) + b" ")
     elif how == 2:
         words[at], words[other] = words[other], words[at]
     elif how == 3:
@@ -108,19 +113,35 @@ def changed_lines(maker, text):
     return b"\n".join(lines)
 
 
-def changed(maker, text):
+def changed(maker, text, is_opaque=False):
     """A text that is changed at up to four places; one of ten isn't."""
+    pieces = WORDS + texts.OPEN_PIECES + texts.OPEN_TYPES + texts.OPEN_ATTRS if is_opaque else WORDS
     for _ in range(maker.choice([0, 1, 1, 1, 1, 1, 2, 2, 3, 4])):
-        text = maker.choice([changed_bytes, changed_words, changed_words, changed_lines])(maker, text)
+        call = maker.choice([changed_bytes, changed_words, changed_words, changed_lines])
+        text = call(maker, text, pieces) if call is changed_words else call(maker, text)
     return text
 
 
 # Scripts.
 
-def made(maker, most):
+def made(maker, most, is_opaque):
     """The text of a module."""
     taste = maker.choice(sorted(chance.TASTES))
-    return text_of(chance.module(maker, maker.randrange(2, most), maker.choice([0, 0, 0.1, 0.3]), taste)).encode()
+    found = chance.module(maker, maker.randrange(2, most), maker.choice([0, 0, 0.1, 0.3]), taste)
+    return text_of(chance.opened(maker, found) if is_opaque else found).encode()
+
+
+@functools.lru_cache(maxsize=None)
+def opaque_files():
+    """The texts of the smaller modules with opaque terms that are read."""
+    return [it.text for it in opaque_cases.modules() if len(it.text) < 8192 and not it.is_refused]
+
+
+def line_of(maker, scripter, is_opaque):
+    """A line of a script."""
+    if is_opaque and maker.random() < 0.15:
+        return chance.opaque_line(maker, scripter)
+    return script_lines.line_of(maker, scripter)
 
 
 def asked(maker, known):
@@ -135,8 +156,10 @@ def asked(maker, known):
 class Runs:
     """A run by the rules over lines that are made as it goes."""
 
-    def __init__(self, text, known, limit, brief):
-        self.run, self.brief = script.Run(script.read(text), script.BOXES, known, limit), brief
+    def __init__(self, text, known, limit, brief, is_opaque=False):
+        reader = aliases.Reader if is_opaque else rules.Reader
+        self.run, self.brief = script.Run(script.read(text, reader), script.BOXES, known, limit), brief
+        self.run.reader, self.is_opaque = reader, is_opaque
         self.lines, self.count, self.out, self.status = [], 0, [], 0
 
     def obey(self, line):
@@ -150,39 +173,39 @@ class Runs:
     def case(self, kind, text, limit):
         answer = self.status, "".join(self.out).encode()
         return Case(kind, text + DIVIDER + "\n".join(self.lines).encode("latin-1"), self.brief, limit, answer,
-                    self.count)
+                    self.count, self.is_opaque)
 
 
-def a_text(maker, known, text, kind):
+def a_text(maker, known, text, kind, is_opaque):
     """A text that is read, or isn't; with a few lines behind it."""
-    text = changed(maker, text)
+    text = changed(maker, text, is_opaque)
     if text and not text.endswith(b"\n"):
         text += b"\n"
     text = text.replace(DIVIDER, b"// ----\n")
     try:
-        runs = Runs(text, known, script.LIMIT, True)
+        runs = Runs(text, known, script.LIMIT, True, is_opaque)
     except rules.Refused as fault:
         said = f"module refused {script.printing.refusal(fault)}\n".encode()
-        return Case(kind, text + DIVIDER + b"print\n", True, script.LIMIT, (3, said), 0)
+        return Case(kind, text + DIVIDER + b"print\n", True, script.LIMIT, (3, said), 0, is_opaque)
     except rules.Open:
         # That it is refused is said, but not by which number.
-        return Case(kind, text + DIVIDER + b"print\n", True, script.LIMIT, (3, None), 0)
+        return Case(kind, text + DIVIDER + b"print\n", True, script.LIMIT, (3, None), 0, is_opaque)
     for line in asked(maker, known):
         runs.obey(line)
     return runs.case(kind, text, script.LIMIT)
 
 
-def a_script(maker, known, most, ops, brief):
+def a_script(maker, known, most, ops, brief, is_opaque):
     """A script of so many commands at most; one in forty opens all the marks that there may be, and one more."""
-    text, limit = made(maker, ops), maker.choice([script.LIMIT] * 4 + [1, 2]) if brief else script.LIMIT
-    runs = Runs(text, known, limit, brief)
+    text, limit = made(maker, ops, is_opaque), maker.choice([script.LIMIT] * 4 + [1, 2]) if brief else script.LIMIT
+    runs = Runs(text, known, limit, brief, is_opaque)
     scripter, deep = chance.Scripter(maker, runs.run), maker.random() < 0.025
     for _ in range(17 if deep else 0):
         runs.obey("begin")
         if maker.random() < 0.5:
-            runs.obey(script_lines.line_of(maker, scripter))
+            runs.obey(line_of(maker, scripter, is_opaque))
     for _ in range(maker.randrange(1, most)):
-        runs.obey(script_lines.line_of(maker, scripter))
+        runs.obey(line_of(maker, scripter, is_opaque))
     for _ in range(maker.randrange(18) if deep else 0):
         runs.obey(maker.choice(["rollback", "rollback", "commit"]))
     for line in asked(maker, known) if brief else []:
@@ -190,31 +213,38 @@ def a_script(maker, known, most, ops, brief):
     return runs.case("long" if not brief else "script", text, limit)
 
 
-def conversions(maker, known):
+def conversions(maker, known, is_opaque):
     """A script of conversions, most of which fit their module."""
     ops, odd = maker.randrange(2, 40), maker.choice([0, 0.1, 0.3])
-    text = text_of(chance.module(maker, ops, odd, maker.choice(["any", "any", "constants"]))).encode()
-    runs = Runs(text, known, script.LIMIT, maker.random() < 1 / 3)
+    found = chance.module(maker, ops, odd, maker.choice(["any", "any", "constants"]))
+    text = text_of(chance.opened(maker, found) if is_opaque else found).encode()
+    runs = Runs(text, known, script.LIMIT, maker.random() < 1 / 3, is_opaque)
     for _ in range(maker.randrange(1, 6)):
         for line in script_lines.conversions(maker, runs.run.module):
             runs.obey(line)
     return runs.case("conversions", text, script.LIMIT)
 
 
-def case_of(number, seed, known, files, only=()):
-    """The case with a number, or none where the rules leave it open."""
+def case_of(number, seed, known, files, only=(), share=0):
+    """The case with a number, or none where the rules leave it open. A share of the cases, of a hundred, has opaque
+    terms."""
     maker = random.Random(f"{seed} {number}")
+    is_opaque = share > 0 and maker.randrange(100) < share
     kind = maker.choice([kind for kind in only or MIX for _ in range(1 if only else MIX[kind])])
     try:
         if kind == "conversions":
-            return conversions(maker, known)
+            return conversions(maker, known, is_opaque)
+        if kind == "file" and is_opaque:
+            return a_text(maker, known, maker.choice(opaque_files()), "file", True)
         if kind == "file" and files:
-            return a_text(maker, known, maker.choice(files), "file")
+            return a_text(maker, known, maker.choice(files), "file", False)
         if kind in ("file", "text"):
-            return a_text(maker, known, made(maker, 10), "text")
+            is_spelled = is_opaque and maker.random() < 0.5
+            text = texts.open_source(maker) if is_spelled else made(maker, 10, is_opaque)
+            return a_text(maker, known, text, "text", is_opaque)
         if kind == "script":
-            return a_script(maker, known, 6, 10, True)
-        return a_script(maker, known, script_lines.MOST_COMMANDS, script_lines.MOST_OPS, False)
+            return a_script(maker, known, 6, 10, True, is_opaque)
+        return a_script(maker, known, script_lines.MOST_COMMANDS, script_lines.MOST_OPS, False, is_opaque)
     except rules.Open:
         return None
 
@@ -223,7 +253,7 @@ def case_of(number, seed, known, files, only=()):
 
 def alone(program, case, is_json=False):
     words = ["--brief"] * case.brief + (["--limit", str(case.limit)] if case.limit != script.LIMIT else [])
-    words += ["--format", "json"] * is_json
+    words += ["--format", "json"] * is_json + ["--opaque"] * case.is_opaque
     ran = subprocess.run([program, *words], input=case.text, stdout=subprocess.PIPE, stderr=subprocess.DEVNULL)
     return ran.returncode, ran.stdout
 
@@ -265,7 +295,7 @@ def is_told(case, line):
 
 def show(number, case, found):
     wanted = case.answer[1].decode() if case.answer[1] is not None else "a refusal of the module"
-    print(f"case {number} ({case.kind}{', --brief' * case.brief}, --limit "
+    print(f"case {number} ({case.kind}{', --brief' * case.brief}{', --opaque' * case.is_opaque}, --limit "
           f"{case.limit}):\n{case.text.decode('latin-1')}\n"
           f"--- the program: {found}\n--- the rules: {case.answer[0]}\n{wanted}", flush=True)
 
@@ -275,12 +305,13 @@ def part(words, files, numbers):
     what differs, and the seconds of this process."""
     began, counts, wrong = time.process_time(), collections.Counter(), []
     known = script.ALL - set(words.without.split(","))
-    cases = [(number, case_of(number, words.seed, known, files, words.only)) for number in numbers]
+    cases = [(number, case_of(number, words.seed, known, files, words.only, words.opaque)) for number in numbers]
     cases = [(number, in_json(case) if words.json else case) for number, case in cases if case is not None]
     lines = of_table(words.program, [case for _, case in cases]) if words.table else None
     for place, (number, case) in enumerate(cases):
         counts[case.kind] += 1
         counts["refused"] += case.answer[0] == 3
+        counts["opaque"] += case.is_opaque
         counts["commands"] += case.commands
         counts.update(CONVERTED.findall((case.answer[1] or b"").decode()))
         found = lines[place] if words.table else alone(words.program, case, words.json)
@@ -297,8 +328,8 @@ def told_counts(counts):
     kinds = ", ".join(f"{counts[kind]:,} {kind}" for kind in ALL_KINDS if counts[kind])
     replies = ", ".join(f"{times:,} {reply}" for reply, times in sorted(counts.items())
                         if CONVERTED.match(f"1 {reply}"))
-    return (f"{total(counts):,} cases ({kinds}) with {counts['commands']:,} commands, {counts['refused']:,} modules "
-            f"refused; of conversions {replies or 'none'}")
+    return (f"{total(counts):,} cases ({kinds}; {counts['opaque']:,} with opaque terms) with {counts['commands']:,} "
+            f"commands, {counts['refused']:,} modules refused; of conversions {replies or 'none'}")
 
 
 def options():
@@ -311,11 +342,14 @@ def options():
     reader.add_argument("--first", type=int, default=0)
     reader.add_argument("--processes", type=int, default=1)
     reader.add_argument("--only", default=(), type=lambda word: word.split(","))
+    reader.add_argument("--opaque", type=int, default=25)
     reader.add_argument("--without", default="")
     reader.add_argument("--table", action="store_true")
     reader.add_argument("--json", action="store_true")
     reader.add_argument("--files", nargs="*", default=[])
-    return reader.parse_args()
+    found = reader.parse_args()
+    found.opaque = 0 if found.table else found.opaque
+    return found
 
 
 def main():

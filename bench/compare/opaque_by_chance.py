@@ -6,7 +6,7 @@ usage: bench/compare/opaque_by_chance.py [--program PROGRAM] [TEXTS [SEED]]
 
 What is read is printed as a text that is read again as the same. What is read without the flag is read with it as the
 same, and what is refused with it isn't read without. A text whose terms are put in as aliases, with locations beside
-them, is read as the text without. A program that knows the flag answers as the rules do. TEXTS is 2000, SEED 1; each
+them, is read as the text without. A program answers with `--opaque` as the rules do. TEXTS is 2000, SEED 1; each
 difference is printed, and the status is 1 where there is one."""
 import argparse
 import pathlib
@@ -27,10 +27,10 @@ BEHIND = rb"(?=[),>}\]\n]| \{\n|$)"
 SIGNATURE = re.compile(rb"( : \([^\n{:]*\) -> [^\n{:]*[^{\n:])\n")
 
 
-def said(read, text):
+def said(reader, text):
     """The text of a module that is read, or the number and place of its refusal; none where that is left open."""
     try:
-        return module.text_of(read(text)).encode()
+        return module.text_of(module.read(text, reader)).encode()
     except rules.Refused as fault:
         return fault.number, fault.at
     except rules.Open:
@@ -58,15 +58,17 @@ def differences(maker, program):
     text = texts.open_source(maker)
     if maker.random() < 0.7:
         text = texts.changed(maker, text, texts.OPEN_PIECES)
-    plain, found = said(module.read, text), said(aliases.read, text)
+    plain, found, whole = said(rules.Reader, text), said(opaque.Reader, text), said(aliases.Reader, text)
     if isinstance(plain, bytes) and found != plain:
         yield text, "read otherwise without the flag", plain, found
-    if isinstance(found, bytes):
-        again, spelled = said(aliases.read, found), with_aliases(maker, found)
-        if again != found:
-            yield text, "printed, and read otherwise", found, again
-        if said(aliases.read, spelled) != found:
-            yield spelled, "with aliases, and read otherwise", found, said(aliases.read, spelled)
+    if isinstance(found, bytes) and whole != found:
+        yield text, "read otherwise without aliases", found, whole
+    if isinstance(whole, bytes):
+        again, spelled = said(opaque.Reader, whole), with_aliases(maker, whole)
+        if again != whole:
+            yield text, "printed, and read otherwise", whole, again
+        if said(aliases.Reader, spelled) != whole:
+            yield spelled, "with aliases, and read otherwise", whole, said(aliases.Reader, spelled)
     if program is not None and found is not None:
         ran = subprocess.run([program, "--brief", "--opaque"], input=text + DIVIDER, capture_output=True, check=False)
         wanted = script.run_opaque(text + DIVIDER)

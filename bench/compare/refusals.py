@@ -13,8 +13,11 @@ import sys
 import tempfile
 
 RULE = re.compile(r"^### V\d+: .*?^```mlir\n(.*?)^```\n\n(.*?)\n\n", re.M | re.S)
+BEYOND = re.compile(r"^## Beyond the table\n.*?^```mlir\n(.*?)^```\n\n(.*?)^## ", re.M | re.S)
 SAYS = re.compile(r"`(#\d+ V\d+)`; `mlir-opt` at (\d+:\d+): (`+)(.*)\3")
 NAMED = {b"n": b"\n", b"r": b"\r", b"t": b"\t"}
+# The part of docs/REFUSALS.md with inputs that are run with `--opaque`.
+OPAQUE = re.compile(r"^## With `--opaque`\n.*?(?=^## )", re.M | re.S)
 
 
 def bytes_of(text):
@@ -27,7 +30,17 @@ def bytes_of(text):
 
 def rows(page=pathlib.Path("docs/REFUSALS.md")):
     """Each input, what the program says, and what mlir-opt says, or None where it isn't asked."""
-    for line in page.read_text().splitlines():
+    yield from rows_of(OPAQUE.sub("", page.read_text()))
+
+
+def opaque_rows(page=pathlib.Path("docs/REFUSALS.md")):
+    """Each input that is run with `--opaque`, and what the program says."""
+    return [(text, answer) for text, answer, _ in rows_of(OPAQUE.search(page.read_text())[0])]
+
+
+def rows_of(text):
+    """The rows of a part of the page."""
+    for line in text.splitlines():
         cells = [cell.strip() for cell in line.strip("|").split(" | ")]
         if line.startswith("| `") and len(cells) in (2, 3):
             yield bytes_of(cells[0].strip("`")), cells[1].strip("`"), cells[2].strip("`") if len(cells) == 3 else None
@@ -38,6 +51,12 @@ def broken(page=pathlib.Path("docs/VERIFIER.md")):
     for text, says in RULE.findall(page.read_text()):
         row, place, _, message = SAYS.fullmatch(" ".join(says.split())).groups()
         yield text.encode(), row, f"{place}: {message.strip()}"
+
+
+def beyond(page=pathlib.Path("docs/VERIFIER.md")):
+    """The input with operations beyond the table, and its rows."""
+    text, says = BEYOND.search(page.read_text()).groups()
+    return text.encode(), [row.encode() for row in re.findall(r"`(#\d+ V\d+)`", says)]
 
 
 def said_by(tool, text):

@@ -1,5 +1,6 @@
 """Lines of scripts by chance: edits, rewrites, conversions that fit a module, marks, and lines that are no commands.
 by_chance.py makes its scripts of them."""
+import pattern_lines
 from reference import rewrites, script
 from reference.module import walk
 
@@ -14,7 +15,8 @@ ODD = [
     " \terase\t#2  \r", 'insert end #0 0 "test.a"(%v99.0) : (i32) -> ()',
     'insert end #0 0 "test.a"() : () -> () "test.b"() : () -> ()', 'insert end #0 0 "test.a"()', "report uses",
     "report kind9", "report use", "print", "print ids", "print id", "resync kind7", "detach kind7", "attach kind9",
-    "attach kind7", "attach uses dead", "expect 22", "expect 99 print", "expect expect", "expect 60 expect 60 print",
+    "attach kind7", "attach uses dead", "canon trace only 1", "canon limit 1 trace", "rewrite trace", "expect 22",
+    "expect 99 print", "expect expect", "expect 60 expect 60 print",
     'insert start #0 0 %a:2 = "test.a"() ({ ^bb0(%b: i8): "test.b"(%b) : (i8) -> () }, {}) {k} : () -> (i1, i2)']
 
 RULES = [2, 25, 26, 27, 28, 29, 30]
@@ -44,9 +46,10 @@ def rewriting(maker):
         rules = ",".join(str(maker.choice([1, 2, 3, maker.randrange(1, 25), maker.choice(rewrites.WORDS)]))
                          for _ in range(maker.randrange(1, 9)))
         word, behind = maker.choice(["rewrite", "canon only"]), maker.choice(["", "", " limit 2", " limit 0", " limit"])
-        return f"{word} {rules}{behind}"
+        return f"{word} {rules}{maker.choice(['', ' trace'])}{behind}"
     if maker.random() < 0.5:
-        return maker.choice(["canon", "canon", "canon limit 1", "canon limit 3", "canon limit 0", "canon limit"])
+        word = maker.choice(["canon", "canon", "canon trace"])
+        return word + maker.choice(["", "", " limit 1", " limit 3", " limit 0", " limit"])
     return conversion(maker)
 
 
@@ -109,8 +112,10 @@ def line_of(maker, scripter):
 def plain_line(maker, scripter):
     """A line without one, of which `scripter` makes edits and marks."""
     part = maker.random()
-    if maker.random() < 0.3:
+    if maker.random() < 0.25:
         return rewriting(maker)
+    if maker.random() < 0.15:
+        return pattern_lines.line_of(maker, scripter.run)
     if part < 0.62:
         return scripter.edit()
     if part < 0.8:

@@ -55,6 +55,9 @@ CONVERTED = """"func.func"() <{function_type = (i32, i32) -> i32, sym_name = "r"
 %c = "arith.constant"() <{value = 2 : i32}> : () -> i32
 %s = "arith.muli"(%c, %c) : (i32, i32) -> i32
 """
+# A pattern that is right, and one that isn't.
+NEGATED = "pattern negated arith.addi(%a, c) => arith.subi(%a, neg(c))"
+HALF = "pattern half arith.divsi(%a, c) => arith.shrsi(%a, log2(c))"
 # The first mark stays open; those inside it are dropped, or gone back to.
 OPENED = [
     "begin", "set-operand #3 0 %v2.0", "move #2 start #1 0", "begin",
@@ -66,7 +69,9 @@ OPENED = [
     "convert partial illegal arith.remsi rules 27", "rollback",
     "convert partial illegal func.return rules 25", f"insert end #0 0 {PRIVATE}", "sweep", "erase #9", "jump",
     "set-attr #3 k 1 : i129", "insert before #3 %0 =",
-    'set-attr #1 function_type (i32) -> i64', "report diagnostics", "canon", "resync constants", "resync symbols",
+    'set-attr #1 function_type (i32) -> i64', "report diagnostics", "canon trace", "resync constants", "resync symbols",
+    NEGATED, HALF, "check half", "check negated width 2", "patterns", NEGATED, "pattern p arith.addi(%a) => %a",
+    'insert before #4 %0 = "arith.addi"(%a1.0.0, %v8.0) : (i32, i32) -> i32', "apply negated #4", "apply negated #9",
     "print", *ASKED, "detach dead", "report dead", "begin", "erase #1", "commit"]
 CLOSED = ["rollback", "rollback", "rollback"]
 # What is written by the last rollback, and how many lines have replies that fill what is written at once, without
@@ -162,13 +167,16 @@ COMMANDS = [
     ([], "set-attr #3 note {deep = [1 : i7, memref<?xi7>]}"), ([], f"insert end #0 0 {PRIVATE}"), ([], OPENED[4]),
     ([], "begin"), (["begin"] * 3, "begin"),
     ([], "report uses"), ([], "print"), ([], "resync uses"), ([f"insert end #0 0 {PRIVATE}"], "sweep"), ([], "sweep"),
-    ([], "canon"), ([], "canon limit 1"),
+    ([], "canon"), ([], "canon limit 1"), ([], "canon trace"), (["set-operand #3 0 %v2.0"], "canon trace limit 2"),
+    (["set-operand #3 0 %v2.0"], "rewrite 2,1"), (["set-operand #3 0 %v2.0"], "rewrite 2,1 trace"),
     (["set-operand #3 0 %v2.0"], "canon"), ([], "apply 1 #2"), ([], "apply 2 #3"), ([], "apply drop-zero #3"),
     (["begin", "set-operand #3 0 %v2.0", "erase #4", "insert end #1 0 \"test.z\"(%v3.0) : (i32) -> ()"], "rollback"),
+    ([], NEGATED), ([NEGATED], "patterns"), ([NEGATED], "check negated width 2"), ([HALF], "check half"),
+    ([NEGATED], "apply negated #3"), ([NEGATED], "apply negated #2"), ([NEGATED], NEGATED),
     ([f"insert before #4 {REMAINDER}"], TOO_DEEP),
     ([f"insert before #4 {REMAINDER}"], "convert partial illegal arith.remsi rules 27"), ([], "convert partial")]
-MARKED = {"set-operand", "move", "replace", "erase", "drop-attr", "set-attr", "insert", "sweep", "canon", "convert",
-          "apply"}
+MARKED = {"set-operand", "move", "replace", "erase", "drop-attr", "set-attr", "insert", "sweep", "canon", "rewrite",
+          "convert", "apply"}
 SIZES = [0, 1, 2, 3, 4, 7, 8, 11, 14, 15, 16]
 
 

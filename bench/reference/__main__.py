@@ -1,44 +1,40 @@
 """Runs a module and a script by the rules, as the program does, in bench/:
 
 python3 -m reference [--brief] [--limit N] [--format FORMAT] [--opaque] < INPUT
-python3 -m reference [--brief] [--limit N] --interactive < INPUT
-python3 -m reference [--brief] [--limit N] [--format FORMAT] --own-patterns [--patterns FILE].. < INPUT
+python3 -m reference [--brief] [--limit N] [--opaque] --interactive < INPUT
+python3 -m reference [--brief] [--limit N] [--format FORMAT] [--opaque] --own-patterns [--patterns FILE].. < INPUT
 
-FORMAT is text or json. With --interactive each line is answered as soon as it is there. With --opaque, which the
-program doesn't have yet, opaque terms, aliases and locations are read. With --own-patterns it knows the commands of
-docs/PATTERNS.md too, which the program doesn't have; a file has patterns, one a line, which are there from the
-start."""
+    --opaque    types and attributes that aren't known are kept as they are spelled, and aliases and locations are read
+
+FORMAT is text or json. With --interactive each line is answered as soon as it is there. With --own-patterns patterns of
+one's own may stand in the list of a `rewrite`, which the program doesn't have; a file has patterns, one a line, which
+are there from the start."""
 import pathlib
 import re
 import sys
 
-from . import json_lines, live, own
-from .script import LIMIT, MOST_LIMIT, run, run_opaque
+from . import aliases, json_lines, live, own, rules
+from .script import LIMIT, MOST_LIMIT, run
 
 
 class Options:
-    """Whether to be brief, the limit, the format, whether opaque terms are read, whether lines are answered one by one,
-    and the files of patterns; none of these where there are to be no patterns."""
+    """Whether to be brief, the limit, the format, what reads texts, whether lines are answered one by one, and the
+    files of patterns; none of these where there are to be no patterns."""
 
     def __init__(self, words):
-        self.brief, self.limit, self.is_open, self.is_live, self.files = False, None, False, False, None
-        self.format = None
+        self.limit, self.files, self.format, self.flags = None, None, None, set()
         while words:
             words = self.after(*words)
+        self.brief, self.is_live = "--brief" in self.flags, "--interactive" in self.flags
         self.limit = self.limit or LIMIT
-        if self.is_open + self.is_live + (self.files is not None) > 1 or self.is_live and self.format:
+        self.reader = aliases.Reader if "--opaque" in self.flags else rules.Reader
+        if self.is_live and (self.format or self.files is not None):
             raise ValueError
 
     def after(self, word, *rest):
         """Takes an option, and gives the words behind it; raises `ValueError` where it is none."""
-        if word == "--brief" and not self.brief:
-            self.brief = True
-            return rest
-        if word == "--opaque" and not self.is_open:
-            self.is_open = True
-            return rest
-        if word == "--interactive" and not self.is_live:
-            self.is_live = True
+        if word in ("--brief", "--opaque", "--interactive") and word not in self.flags:
+            self.flags.add(word)
             return rest
         if word == "--format" and self.format is None and rest and rest[0] in ("text", "json"):
             self.format = rest[0]
@@ -58,7 +54,7 @@ class Options:
     def run(self, given, out):
         """Runs an input, and gives the status."""
         if self.is_live:
-            for status, told in live.answers(live.lines_of(given), self.brief, self.limit):
+            for status, told in live.answers(live.lines_of(given), self.brief, self.limit, reader=self.reader):
                 out.write(told)
                 out.flush()
             return status
@@ -69,11 +65,11 @@ class Options:
     def run_whole(self, text):
         """The status of a whole run over an input, and what it writes."""
         if self.files is None:
-            return (run_opaque if self.is_open else run)(text, self.brief, limit=self.limit)
+            return run(text, self.brief, limit=self.limit, reader=self.reader)
         book = {}
         for file in self.files:
             own.read_book(pathlib.Path(file).read_bytes(), book)
-        return own.run(text, self.brief, self.limit, book)
+        return own.run(text, self.brief, self.limit, book, self.reader)
 
 
 def main(words):

@@ -8,7 +8,7 @@ alias keeps all that look like one, which the grammar refuses."""
 import bisect
 import re
 
-from . import module, opaque, rules
+from . import opaque, rules
 from .opaque import CLOSERS, MOST_OPEN, body_end, is_alias, name_end
 from .rules import COMMENT, MOST_BYTES, Refused
 
@@ -276,17 +276,29 @@ def expanded(text):
     return them.out
 
 
-def read(text):
-    """The module that a text spells with its aliases and locations; raises `rules.Refused`. A fault of the grammar
-    counts where it stands further left than one of the aliases."""
-    opaque.Reader(text)
-    found = expanded(text)
-    try:
-        made = module.read(found.text(), opaque.Reader)
-    except Refused as fault:
-        at = found.place(fault.at)
-        if found.fault is None or at < found.fault.at:
-            raise Refused(fault.number, at) from None
-    if found.fault is not None:
-        raise found.fault
-    return made
+class Reader:
+    """Reads opaque terms, and of a module aliases and locations too: only its expansion has to be UTF-8, and no longer
+    than a text may be."""
+
+    def __init__(self, text, outer=None):
+        self.text, self.outer = text, outer
+
+    def single(self):
+        return opaque.Reader(self.text, self.outer).single()
+
+    def one_attr(self):
+        return opaque.Reader(self.text).one_attr()
+
+    def source(self):
+        """The module that a text spells with its aliases and locations; raises `Refused`. A fault of the grammar counts
+        where it stands further left than one of the aliases."""
+        found = expanded(self.text)
+        try:
+            made = opaque.Reader(found.text()).source()
+        except Refused as fault:
+            at = found.place(fault.at)
+            if found.fault is None or at < found.fault.at:
+                raise Refused(fault.number, at) from None
+        if found.fault is not None:
+            raise found.fault
+        return made

@@ -317,6 +317,96 @@ def module(chance, most, wrong, taste="any"):
     return Maker(chance, most, wrong, taste).module()
 
 
+# Opaque terms. A type is put in the place of another one everywhere, so that most operations stay as right as before.
+
+OPAQUE_TYPES = [("opaque", text) for text in (
+    b"f32", b"f64", b"none", b"vector<4xi8>", b"vector<[4]x2xi32>", b"tensor<?x4xf32>", b"tensor< 4xi8>", b"!d.t",
+    b'!d.t<"a>b", (x -> y)>', b"!e<1>", b"complex<f32>", b"tuple<i8, f32>", b"memref<4xi8, 1>", b"memref<*xi32>")]
+# What an opaque attribute may be with a type, and what may be one without.
+TYPED = [b"1.5", b"-0.0", b"0x7FC0", b"dense<0>", b"dense<[[1, -2]]>", b"#d.a", b'#d.a<b = "x">', b'"s"',
+         b"dense_resource<r>"]
+ALONE = [b"1.0", b"#d.a", b"#d.a<x -> y>", b"affine_map<(d0) -> (d0)>", b"strided<[1], offset: ?>", b"distinct[0]<>",
+         b"array<f32: 1.0>", b'loc("f":1:2)', b'#d.b<"@f">']
+
+
+class Opener:
+    """Puts opaque terms into a module."""
+
+    def __init__(self, chance):
+        self.chance = chance
+        closed = dict.fromkeys([*KINDS_OF_T, *ODD_TYPES])
+        self.types = {ty: chance.choice(OPAQUE_TYPES) for ty in closed if chance.random() < 0.35}
+
+    def type(self, ty):
+        if ty in self.types:
+            return self.types[ty]
+        if ty[0] == "memref":
+            # (a memref is the element of another one only where that is opaque or known)
+            return ("memref", ty[1], self.type(ty[2]))
+        if ty[0] == "func":
+            return ("func", tuple(map(self.type, ty[1])), tuple(map(self.type, ty[2])))
+        return ty
+
+    def attr(self, attr):
+        """An attribute at the types that there are now."""
+        kind = attr[0]
+        if kind == "int" and attr[1] in self.types and self.chance.random() < 0.8:
+            return ("opaque", self.chance.choice(TYPED), self.types[attr[1]])
+        if kind == "ty":
+            return ("ty", self.type(attr[1]))
+        if kind == "array":
+            return ("array", tuple(map(self.attr, attr[1])))
+        if kind == "dict":
+            return ("dict", tuple((key, self.attr(it)) for key, it in attr[1]))
+        return attr
+
+    def any_attr(self):
+        """An opaque attribute."""
+        if self.chance.random() < 0.5:
+            return ("opaque", self.chance.choice(ALONE), None)
+        return ("opaque", self.chance.choice(TYPED), self.chance.choice(OPAQUE_TYPES))
+
+    def entries(self, entries, part):
+        """Entries at the types that there are now, of which a part is opaque."""
+        return {key: self.any_attr() if self.chance.random() < part else self.attr(it) for key, it in entries.items()}
+
+    def open(self, op):
+        """Opens an operation and all inside it."""
+        for it in walk(op):
+            it.results = list(map(self.type, it.results))
+            it.props, it.attrs = self.entries(it.props, 0.02), self.entries(it.attrs, 0.4)
+            if self.chance.random() < 0.05:
+                it.attrs[self.chance.choice([b"k", b"o"])] = self.any_attr()
+            for block in it.blocks():
+                block.args = list(map(self.type, block.args))
+
+
+def opened(chance, made):
+    """A module with opaque terms in it."""
+    Opener(chance).open(made.root)
+    return made
+
+
+def opaque_line(chance, scripter):
+    """A line of a script with opaque terms, most of which are right."""
+    term = printing.attr_text(Opener(chance).any_attr())
+    if chance.random() < 0.2:
+        term = chance.choice(["#m", "!t", "1.0 : i8", "1 : f32", "dense<1>", "#d.a<(x>", "#d.a<x", "tensor<4 // x>",
+                              "[#d.a, @f, f32]", "{a = !d.t, b}", "memref<4xf32, #m>", "#d.a<@f>", "0x7F : f16"])
+    if chance.random() < 0.6:
+        op, key = scripter.keyed()
+        return f"set-attr #{op.id} {printing.key_text(key)} {term}"
+    value = scripter.value()
+    ty = scripter.run.module.type_of(value) or I32
+    used, shown = value_text(value), printing.type_text(ty)
+    out = printing.type_text(chance.choice(OPAQUE_TYPES))
+    return f"insert {scripter.place()} " + chance.choice([
+        f'"test.u"({used}) {{k = {term}}} : ({shown}) -> {out}',
+        f'%r = "arith.constant"() <{{value = {term}}}> : () -> {out}',
+        f'"test.u"({used}) : ({out}) -> ()', f'%r = "builtin.unrealized_conversion_cast"({used}) : ({shown}) -> {out}',
+        f'"test.r"({used}) ({{ ^bb0(%x: {out}): "test.u"(%x, {used}) : ({out}, {shown}) -> () }}) : ({shown}) -> ()'])
+
+
 # Scripts.
 
 class Scripter:

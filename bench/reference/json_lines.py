@@ -6,6 +6,10 @@ import re
 SYMBOLS = {b"def": ("table", "name", "op"), b"duplicate": ("table", "name", "op"), b"use": ("op", "name", "target"),
            b"unresolved": ("op", "name"), b"mismatch": ("op", "target")}
 MOST = 2 ** 32
+# The words of a check, behind which a width stands, and what it says of a variable or a result, or how that begins.
+OF_WIDTH = (b"holds", b"empty", b"fails")
+OUTCOME = re.compile(rb"[-0-9].*|true|false|poison|undefined")
+VALUE = re.compile(rb"%v(N)\.(N)|%a(N)\.(N)\.(N)".replace(b"N", rb"0|[1-9][0-9]*"))
 # A cell ends at a blank that stands in no quotes.
 CELL = re.compile(rb'(?:"[^"]*(?:"|\Z)|[^ "])*')
 
@@ -55,7 +59,7 @@ def reply(line):
     told["reply"] = shown(word)
     if behind.startswith(b"#"):
         return {**told, "op": shown(behind)}
-    return {**told, "count": number(behind)} if behind else told
+    return {**told, "width" if word in OF_WIDTH else "count": number(behind)} if behind else told
 
 
 def row_of_operation(line):
@@ -70,9 +74,31 @@ def row_of_operation(line):
     return {"kind": "effects", **told, "words": [shown(word) for word in parts(rest, b" ")]}
 
 
+def row_of_check(line):
+    name, outcome = cut(line)
+    return {"kind": "check", "name": shown(name), "outcome": shown(outcome)}
+
+
+def row_of_pattern(line):
+    pattern, _, said = line.partition(b"/")
+    told = {"kind": "patterns", "name": shown(cut(line)[0]), "pattern": shown(pattern[:-1])}
+    said = cut(said)[1]
+    word, width = cut(said)
+    return {**told, "said": shown(word), "width": number(width)} if isinstance(number(width), int) else {
+        **told, "said": shown(said)}
+
+
+def names_value(word):
+    """Whether a word is a value of a module, as it is printed."""
+    found = VALUE.fullmatch(word)
+    return found is not None and all(it is None or int(it) < MOST for it in found.groups())
+
+
 def row_of_value(line):
     value, rest = cut(line)
     if not rest.startswith(b"#"):
+        if not names_value(value):
+            return row_of_check(line)
         return {"kind": "constants", "value": shown(value), "attribute": shown(rest)}
     user, operand = cut(rest)
     return {"kind": "uses", "value": shown(value), "user": shown(user), "operand": number(operand)}
@@ -87,14 +113,37 @@ def row_of_symbols(line):
     return {**told, keys[-1]: shown(rest)}
 
 
-def worded(line):
-    """A line that begins with a word."""
+def is_rewrite(line):
+    """Whether a line tells of a rewrite: an operation stands behind the number and the word of the rule."""
     word, rest = cut(line)
-    if word in SYMBOLS:
-        return row_of_symbols(line)
+    return word == b"rewrote" and cut(cut(rest)[1])[1].startswith(b"#")
+
+
+def row_of_rewrite(line):
+    rule, rest = cut(cut(line)[1])
+    word, rest = cut(rest)
+    op, rest = cut(rest)
+    told = {"kind": "trace", "rule": number(rule), "word": shown(word), "op": shown(op)}
+    if rest.startswith(b"made "):
+        made, rest = cut(cut(rest)[1])
+        told["made"] = [shown(it) for it in parts(made, b",")]
+    return {**told, "erased": shown(cut(rest)[1])} if rest else told
+
+
+def worded(line):
+    """A line that begins with a word. That of a pattern, or of one of its numbers, may be any."""
+    word, rest = cut(line)
+    if is_rewrite(line):
+        return row_of_rewrite(line)
     if word == b"--":
         kind, state = cut(rest)
         return {"kind": shown(kind), **({"state": shown(state)} if state else {})}
+    if rest.startswith(b"#"):
+        return row_of_symbols(line) if word in SYMBOLS else {"text": shown(line)}
+    if OUTCOME.fullmatch(cut(rest)[0]):
+        return row_of_check(line)
+    if b"=" in line:
+        return row_of_pattern(line)
     if word == b"module":
         return refusal(cut(rest)[1])
     if word == b"attach":

@@ -22,7 +22,8 @@ def lines_of(given):
     return iter(lambda: given.readline(MOST_LINE + 1), b"")
 
 
-def answers(lines, brief=True, limit=script.LIMIT, boxes=script.BOXES, commands=script.ALL):
+def answers(lines, brief=True, limit=script.LIMIT, boxes=script.BOXES, commands=script.ALL, make=script.Run,
+            reader=rules.Reader):
     """The answers to an input whose lines come one by one, each with its line feed, if it has one, and the exit status
     if the input ends behind it. A line that says nothing has no answer; one that is too long ends all."""
     lines = iter(lines)
@@ -30,10 +31,11 @@ def answers(lines, brief=True, limit=script.LIMIT, boxes=script.BOXES, commands=
     try:
         if len(text) > MOST_INPUT:
             raise rules.Refused(11, MOST_INPUT)
-        here = script.Run(read(text), boxes, commands, limit)
+        here = make(read(text, reader), boxes, commands, limit)
     except rules.Refused as fault:
         yield 3, f"module refused {printing.refusal(fault)}\n".encode()
         return
+    here.reader = reader
     status, count = 0, 0
     yield status, END
     for line in lines:
@@ -47,7 +49,7 @@ def answers(lines, brief=True, limit=script.LIMIT, boxes=script.BOXES, commands=
             yield status, told.encode() + END
 
 
-def run(text, brief=True, limit=script.LIMIT):
+def run(text, brief=True, limit=script.LIMIT, reader=rules.Reader):
     """The status of a run over an input, and what it writes."""
-    statuses, told = zip(*answers(lines_of(io.BytesIO(text)), brief, limit))
+    statuses, told = zip(*answers(lines_of(io.BytesIO(text)), brief, limit, reader=reader))
     return statuses[-1], b"".join(told)

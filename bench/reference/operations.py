@@ -103,8 +103,7 @@ def has_kind(key, attr):
     return True
 
 
-# What the table doesn't speak of: an operation beyond it breaks no rule on integers, and none but the first of the
-# rewrite rules applies at it.
+# What the table doesn't speak of: an operation beyond it breaks no rule on integers, and no rewrite rule applies at it.
 
 MEMREFS = {b"memref.load": (0, None), b"memref.store": (1, None), b"memref.dealloc": (0, None),
            b"memref.alloc": (None, 0)}

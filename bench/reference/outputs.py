@@ -12,10 +12,10 @@ from .script import ALL, BOXES, Run, lines_of, split
 
 MEMORY = " refused 36 Memory\n"
 # These tell a listener of events also where they are refused; the others of the edits only where they are accepted.
-UNDONE = {"insert", "erase", "replace", "canon", "convert", "sweep", "apply"}
+UNDONE = {"insert", "erase", "replace", "canon", "rewrite", "convert", "sweep", "apply"}
 EDITS = UNDONE | {"set-operand", "set-attr", "drop-attr", "move", "rollback"}
 QUIET = {"report", "print"}
-State = collections.namedtuple("State", "module boxes marks")
+State = collections.namedtuple("State", "module boxes marks book verdicts", defaults=({}, {}))
 
 
 class NoOutput(Exception):
@@ -32,12 +32,13 @@ class Rules:
 
     def answer(self, state, line):
         """The reply, whether a listing follows, and the state behind it."""
-        key = id(state.module), state.boxes, tuple(map(id, state.marks)), line
+        key = (id(state.module), state.boxes, tuple(map(id, state.marks)), id(state.book), id(state.verdicts), line)
         if key not in self.answers:
             run = Run(state.module, state.boxes, self.commands)
-            run.marks = list(state.marks)
+            run.marks, run.book, run.verdicts = list(state.marks), state.book, state.verdicts
             reply, is_listed = run.reply(line) if line is not None else (" refused 60 BadCommand\n", True)
-            self.answers[key] = reply, is_listed, State(run.module, tuple(run.boxes), tuple(run.marks)), state
+            behind = State(run.module, tuple(run.boxes), tuple(run.marks), run.book, run.verdicts)
+            self.answers[key] = reply, is_listed, behind, state
         return self.answers[key][:3]
 
     def text(self, module):
@@ -120,7 +121,7 @@ class Follower:
             return is_listed, word in UNDONE
         if word == "report" and accepts and kind in self.stale or not self.takes(f"{count}{due}"):
             self.wrong(f"line {count}: {line} is due{due}")
-        self.status = self.status if accepts else 1
+        self.status = self.status if accepts and not due.startswith(" fails ") else 1
         self.state = behind
         if word in ("report", "resync", "detach", "attach") and accepts:
             self.doubtful.discard(kind)

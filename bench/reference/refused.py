@@ -1,7 +1,7 @@
 """Which outputs of a run one refused allocation explains, with a word for each."""
 from .analyses import ANALYSES
 from .module import read, text_of
-from .script import ALL, BOXES, Run, lines_of, split
+from .script import ALL, BOXES, LOOKS, Run, lines_of, split
 
 NEVER = {"commit", "rollback", "detach"}
 # These take no memory in the module where no mark is open.
@@ -19,11 +19,11 @@ class Once(Run):
         self.stale = set()
 
     def state(self):
-        return self.module, list(self.boxes), list(self.marks), set(self.stale)
+        return self.module, list(self.boxes), list(self.marks), set(self.stale), self.book, self.verdicts
 
     def back(self, state):
         """Goes back to a state, which may be gone back to again."""
-        module, boxes, marks, stale = state
+        module, boxes, marks, stale, self.book, self.verdicts = state
         self.module, self.boxes, self.marks, self.stale = module, list(boxes), list(marks), set(stale)
 
     def answered(self, line, fault):
@@ -41,7 +41,7 @@ class Once(Run):
         if " 60 " in reply:
             return None
         if fault[0] == "stale":
-            is_told = word not in ("report", "print", "resync", "detach", "attach", "begin", "commit")
+            is_told = word not in LOOKS | {"resync", "detach", "attach", "begin", "commit"}
             if not is_told or fault[1] not in self.boxes or fault[1] in self.stale:
                 return None
             self.stale.add(fault[1])
@@ -106,8 +106,10 @@ def runs(here, lines, brief, faults):
 
 
 def status_of(out):
-    """1 where a reply or an attach refuses: no row and no line of a module has such a second or third word."""
-    return int(any(line.split()[1:2] == ["refused"] or line.startswith("attach ") for line in out.splitlines()))
+    """1 where a reply or an attach refuses, or a check fails: no row and no line of a module has such a second or third
+    word."""
+    wrong = (["refused"], ["fails"])
+    return int(any(line.split()[1:2] in wrong or line.startswith("attach ") for line in out.splitlines()))
 
 
 def explained(text, brief, boxes=BOXES, commands=ALL):

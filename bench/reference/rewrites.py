@@ -443,13 +443,12 @@ def is_clean(module, number):
 
 
 def after(module, rule, number):
-    """The module after a rule at an operation that is clean, or none where it doesn't apply. Beyond the table the first
-    rule alone does."""
+    """The module after a rule at an operation that is clean, or none where it doesn't apply. Beyond the table none
+    does."""
     tried = module.copy()
     site = Site(tried, number)
     try:
-        if rule != 1:
-            site.within(site.x)
+        site.within(site.x)
         RULES[rule - 1](site)
     except No:
         return None
@@ -469,26 +468,48 @@ def rules_of(op):
 CANONICAL = tuple(range(1, 25))
 
 
-def first(module, rules=CANONICAL):
+def fired(module, rules):
     """The module after the first of some rules of 1 to 24, in their order, that applies at the first operation at which
-    one does, or none."""
+    one does, that rule, and the operation, or none."""
     for op in walk(module.root):
         named = rules_of(op)
         for rule in [rule for rule in rules if rule in named] if is_clean(module, op.id) else []:
             found = after(module, rule, op.id)
             if found is not None:
-                return found
+                return found, rule, op.id
     return None
 
 
-def rewritten(module, rules, limit):
-    """The module after at most so many rewrites by some rules, how many were made, and whether no rule applies."""
-    for count in range(limit):
-        found = first(module, rules)
+def first(module, rules=CANONICAL):
+    """The module after it, or none."""
+    found = fired(module, rules)
+    return found and found[0]
+
+
+def told(module, found, rule, op):
+    """What is told of a rewrite of a module: the rule, the operation, which operations it made, and whether the
+    operation went."""
+    made = ",".join(f"#{number}" for number in range(module.next, found.next))
+    gone = "" if op in found.ops() else f" erased #{op}"
+    return f"rewrote {rule} {WORDS[rule - 1]} #{op}{made and ' made '}{made}{gone}"
+
+
+def traced(module, rules, limit):
+    """The module after at most so many rewrites by some rules, what is told of each, and whether no rule applies."""
+    lines = []
+    while len(lines) < limit:
+        found = fired(module, rules)
         if found is None:
-            return module, count, True
-        module = found
-    return module, limit, first(module, rules) is None
+            return module, lines, True
+        lines.append(told(module, *found))
+        module = found[0]
+    return module, lines, first(module, rules) is None
+
+
+def rewritten(module, rules, limit):
+    """The same, but how many rewrites there were and not what is told of each."""
+    module, lines, is_done = traced(module, rules, limit)
+    return module, len(lines), is_done
 
 
 def canonical(module, limit):

@@ -1,7 +1,7 @@
 """Whole runs: a module, a script, and what is written."""
 import re
 
-from . import aliases, conversion, edits, opaque, rewrites
+from . import aliases, conversion, edits, pattern_checks, pattern_uses, patterns, rewrites
 from .analyses import ANALYSES, KINDS, unreached_ops
 from .module import ids_text, printing, read, read_attr, read_op, rules, text_of
 
@@ -18,7 +18,10 @@ KIND_WORDS = {KINDS.get(kind, f"kind{kind}") for kind in range(256)}
 MOST_MARKS = 16
 FIRST = {"report", "print", "set-operand", "move", "set-attr", "drop-attr", "resync", "detach"}
 EDITS = FIRST | {"erase", "insert", "replace"}
-ALL = EDITS | {"begin", "commit", "rollback", "sweep", "canon", "convert", "apply", "attach", "rewrite"}
+ALL = EDITS | {"begin", "commit", "rollback", "sweep", "canon", "convert", "apply", "attach", "rewrite", "pattern",
+               "patterns", "check"}
+# These leave the module, and have no listing, but where they are refused as no command.
+LOOKS = {"report", "print", "pattern", "patterns", "check"}
 REFUSALS = {**rules.WORDS, **WORDS}
 NUMBERS = {word: number for number, word in REFUSALS.items()}
 MOST_LIMIT, LIMIT = 1000000, 1000
@@ -94,14 +97,27 @@ def need(is_so):
         raise Bad
 
 
+def applied(module, rule, number):
+    """Applies a rule or a pattern at an operation of a module, and says whether it did."""
+    if not isinstance(rule, int):
+        return pattern_uses.apply(rule, module, number)
+    found = rewrites.apply(module, rule, number)
+    if found is not None:
+        module.root, module.next = found.root, found.next
+    return found is not None
+
+
 class Run:
-    """A module with its marks and the kinds that are attached; `reader` reads what a line has."""
+    """A module with its marks and the kinds that are attached, and a book of patterns of one's own, by their names,
+    with what was said of them, which no rollback changes; `reader` reads what a line has."""
 
     reader = rules.Reader
 
     def __init__(self, module, boxes=BOXES, commands=ALL, limit=LIMIT):
         self.limit = limit
         self.module, self.boxes, self.commands, self.marks = module, list(boxes), commands, []
+        # (neither is ever changed in its place)
+        self.book, self.verdicts = {}, {}
 
     def edit(self, call, *args):
         """Makes an edit whole, or not at all."""
@@ -199,27 +215,39 @@ class Run:
         edits.refuse(35, not self.marks)
         self.module = self.marks.pop()
 
+    def limited(self, words):
+        """The limit that words say, `limit N`, or that of the run, where there are none."""
+        need(not words or len(words) == 2 and words[0] == "limit")
+        return number(words[1]) if words else self.limit
+
+    def rewritten(self, asked, limit, is_traced=False):
+        """Rewrites by some rules, and tells each rewrite, or how many there were alone."""
+        edits.refuse(50, not 1 <= limit <= MOST_LIMIT)
+        self.module, lines, is_done = rewrites.traced(self.module, asked, limit)
+        told = "".join(line + "\n" for line in lines) if is_traced else ""
+        return ("converged" if is_done else "limit") + f" {len(lines)}", told
+
     def canon(self, text):
         words = re.split("[ \t]+", text) if text else []
         if words[:1] == ["only"]:
             return self.rewrite(cut(text)[1])
-        need(not words or len(words) == 2 and words[0] == "limit")
-        limit = number(words[1]) if words else self.limit
-        edits.refuse(50, not 1 <= limit <= MOST_LIMIT)
-        self.module, count, is_done = rewrites.canonical(self.module, limit)
-        return ("converged" if is_done else "limit") + f" {count}", ""
+        is_traced = words[:1] == ["trace"]
+        return self.rewritten(rewrites.CANONICAL, self.limited(words[is_traced:]), is_traced)
+
+    def named(self, name):
+        """The rule that a word of a list names; none where it is a word that no rule has."""
+        need(not name[0].isdigit() or rule_of(name) <= MOST_TRIED)
+        return rule_of(name)
 
     def rewrite(self, text):
         words = re.split("[ \t]+", text)
         names = words[0].split(",")
-        need("" not in names and (len(words) == 1 or len(words) == 3 and words[1] == "limit"))
-        need(all(not name[0].isdigit() or rule_of(name) <= MOST_TRIED for name in names))
-        limit = number(words[2]) if len(words) == 3 else self.limit
-        asked = [rule_of(name) for name in names]
+        need("" not in names)
+        asked = [self.named(name) for name in names]
+        is_traced = words[1:2] == ["trace"]
+        limit = self.limited(words[1 + is_traced:])
         edits.refuse(26, any(rule is None or rule > MOST_TRIED for rule in asked))
-        edits.refuse(50, not 1 <= limit <= MOST_LIMIT)
-        self.module, count, is_done = rewrites.rewritten(self.module, asked, limit)
-        return ("converged" if is_done else "limit") + f" {count}", ""
+        return self.rewritten(asked, limit, is_traced)
 
     def convert(self, text):
         words = re.split("[ \t]+", text)
@@ -246,12 +274,36 @@ class Run:
     def apply(self, text):
         words = re.split("[ \t]+", text)
         need(len(words) == 2 and words[0])
-        rule, op = rule_of(words[0]), op_of(words[1])
+        name, op = words[0], op_of(words[1])
+        rule = self.book[name] if name in self.book else rule_of(name)
         edits.refuse(26, rule is None)
         edits.refuse(20, op not in self.module.ops())
-        found = rewrites.apply(self.module, rule, op)
-        self.module = found or self.module
-        return f"applied {int(found is not None)}", ""
+        tried = self.module.copy()
+        is_done = applied(tried, rule, op)
+        self.module = tried if is_done else self.module
+        return f"applied {int(is_done)}", ""
+
+    def pattern(self, text):
+        need(text != "")
+        found = patterns.read(text.encode("latin-1"), self.book)
+        self.book = {**self.book, found.name: found}
+
+    def patterns(self, text):
+        need(text == "")
+        rows = [f"{patterns.text_of(it)} // {self.verdicts.get(name, 'not checked')}\n" for name, it in
+                self.book.items()]
+        return "", "".join(rows)
+
+    def check(self, text):
+        words = re.split("[ \t]+", text)
+        need(len(words) in (1, 3) and (len(words) == 1 or words[1] == "width"))
+        most = number(words[2]) if len(words) == 3 else None
+        need(words[0] and not words[0][0].isdigit())
+        edits.refuse(26, words[0] not in self.book)
+        found = self.book[words[0]]
+        verdict, rows = pattern_checks.check(found, pattern_checks.default_width(found) if most is None else most)
+        self.verdicts = {**self.verdicts, found.name: verdict}
+        return verdict, "".join(row + "\n" for row in rows)
 
     def reply(self, line):
         """The reply to a line that is no comment, and whether it has a listing."""
@@ -259,17 +311,17 @@ class Run:
         try:
             need(word in self.commands)
             after, below = getattr(self, word.replace("-", "_"))(rest) or ("", "")
-            return f" {after or 'ok'}\n{below}", word not in ("report", "print")
+            return f" {after or 'ok'}\n{below}", word not in LOOKS
         except Bad:
             return " refused 60 BadCommand\n", True
         except rules.Refused as fault:
             text = "32 IdsExhausted" if fault.number == 32 else printing.refusal(fault)
-            return f" refused {text}\n", True
+            return f" refused {text}\n", word not in LOOKS
         except conversion.Refused as fault:
             op = "" if fault.op is None else f" #{fault.op}"
             return f" refused {fault.number} {WORDS[fault.number]}{op}\n", True
         except edits.Refused as fault:
-            return f" refused {fault.number} {WORDS[fault.number]}\n", word not in ("report", "print")
+            return f" refused {fault.number} {WORDS[fault.number]}\n", word not in LOOKS
 
     def listed(self, kind):
         return f"-- {kind}\n{self.rows(kind)}"
@@ -328,22 +380,17 @@ def obey(here, script, brief):
     return int(not all(is_accepted for is_accepted, _ in answers)), "".join(told for _, told in answers).encode()
 
 
-def run(text, brief=True, boxes=BOXES, commands=ALL, limit=LIMIT, make=Run):
-    """The status of a run over an input, and what it writes."""
+def run(text, brief=True, boxes=BOXES, commands=ALL, limit=LIMIT, make=Run, reader=rules.Reader):
+    """The status of a run over an input, and what it writes; `reader` reads the module and what a line has."""
     text, script = split(text)
     try:
-        here = make(read(text), boxes, commands, limit)
+        here = make(read(text, reader), boxes, commands, limit)
     except rules.Refused as fault:
         return 3, f"module refused {printing.refusal(fault)}\n".encode()
+    here.reader = reader
     return obey(here, script, brief)
 
 
-def run_opaque(text, brief=True, boxes=BOXES, commands=ALL, limit=LIMIT):
-    """The same with opaque terms, aliases and locations in the module, and opaque terms in the script."""
-    text, script = split(text)
-    try:
-        here = Run(aliases.read(text), boxes, commands, limit)
-    except rules.Refused as fault:
-        return 3, f"module refused {printing.refusal(fault)}\n".encode()
-    here.reader = opaque.Reader
-    return obey(here, script, brief)
+def run_opaque(text, brief=True, limit=LIMIT):
+    """The same with opaque terms, in the module, where aliases and locations are read too, and in the script."""
+    return run(text, brief, limit=limit, reader=aliases.Reader)

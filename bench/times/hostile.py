@@ -166,6 +166,7 @@ def commands(shape):
 
 def rewrites(shape):
     yield "canon", 1, ["canon limit 1000000"]
+    yield "canon trace", 1, ["canon trace limit 1000000"]
     yield "begin, canon, rollback", 1, ["begin", "canon limit 1000000", "rollback"]
     yield "convert", 1, [f"convert partial {shape.convert}"]
 

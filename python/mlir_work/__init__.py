@@ -10,13 +10,16 @@ docs/EMBED.md has a tour."""
 from .errors import Error, ModuleRefused, ProcessLost, Refused, SessionClosed
 from .library import Library
 from .operations import Operation
+from .patterns import Checked, Pattern
 from .process import Process
 from .reply import Reply
+from .rewrites import Canonicalized, Rewrite, Traced
 from .rows import KINDS, Constant, Dead, Diagnostic, Effect, Row, Symbol, Unreached, Use
-from .session import Canonicalized, Session
+from .session import Session
 from .values import Argument, Result, Value, after, before, end, quoted, start
 from .way import Way
 
-__all__ = ["KINDS", "Argument", "Canonicalized", "Constant", "Dead", "Diagnostic", "Effect", "Error", "Library",
-           "ModuleRefused", "Operation", "Process", "ProcessLost", "Refused", "Reply", "Result", "Row", "Session",
-           "SessionClosed", "Symbol", "Unreached", "Use", "Value", "Way", "after", "before", "end", "quoted", "start"]
+__all__ = ["KINDS", "Argument", "Canonicalized", "Checked", "Constant", "Dead", "Diagnostic", "Effect", "Error",
+           "Library", "ModuleRefused", "Operation", "Pattern", "Process", "ProcessLost", "Refused", "Reply", "Result",
+           "Rewrite", "Row", "Session", "SessionClosed", "Symbol", "Traced", "Unreached", "Use", "Value", "Way",
+           "after", "before", "end", "quoted", "start"]

@@ -16,8 +16,9 @@ from .way import Way
 VERSION, VARIABLE = 1, "MLIR_WORK_LIBRARY"
 NAME = "libmlir_work.so"
 DEFAULT_LIMIT = 1000
-_NOTHING, _OK, _MADE, _REFUSED, _REFUSED_ON, _REFUSED_AT, _NO_SESSION = 0, 1, 2, 7, 8, 9, 10
-_COUNTED = {3: "swept", 4: "converged", 5: "limit", 6: "converted", 11: "applied"}
+_NOTHING, _OK, _MADE, _REFUSED, _REFUSED_ON, _REFUSED_AT, _NO_SESSION, _FAILS = 0, 1, 2, 7, 8, 9, 10, 14
+_COUNTED = {
+    3: "swept", 4: "converged", 5: "limit", 6: "converted", 11: "applied", 12: "holds", 13: "empty", _FAILS: "fails"}
 _WORDS = {
     1: "BadToken", 2: "Unexpected", 3: "UnknownValue", 4: "Redefined", 5: "TypeMismatch", 6: "BadWidth", 7: "BadValue",
     8: "MultipleBlocks", 9: "Successors", 10: "TooDeep", 11: "TooMany", 12: "DuplicateKey", 13: "LeftOut",
@@ -52,12 +53,15 @@ def _calls(path: str) -> ctypes.CDLL:
     calls.mlir_work_version.restype = ctypes.c_uint32
     if calls.mlir_work_version() != VERSION:
         raise Error(f"{path} has version {calls.mlir_work_version()} of the calls, and this package {VERSION}")
+    opens = [handle, text, size, ctypes.c_uint64, ctypes.c_uint32, answer]
     for call, takes, gives in (
-            (calls.mlir_work_open, [handle, text, size, ctypes.c_uint64, ctypes.c_uint32, answer], None),
+            (calls.mlir_work_open, opens, None),
             (calls.mlir_work_command, [handle, text, size, answer], None),
             (calls.mlir_work_read, [handle, size, text, size], size),
             (calls.mlir_work_close, [handle], None)):
         call.argtypes, call.restype = takes, gives
+    if hasattr(calls, "mlir_work_open_opaque"):  # (an older library has none)
+        calls.mlir_work_open_opaque.argtypes, calls.mlir_work_open_opaque.restype = opens, None
     return calls
 
 
@@ -110,9 +114,10 @@ class Library(Way):
         self._held, self._answer = _Handle(), _Answer()
         self._count = self._status = 0
 
-    def open(self, text: bytes, limit: Optional[int] = None) -> List[str]:
-        self._calls.mlir_work_open(self._held, text, len(text), secrets.randbits(64),
-                                   DEFAULT_LIMIT if limit is None else limit, self._answer)
+    def open(self, text: bytes, limit: Optional[int] = None, opaque: bool = False) -> List[str]:
+        opens = self._calls.mlir_work_open_opaque if opaque else self._calls.mlir_work_open
+        opens(self._held, text, len(text), secrets.randbits(64), DEFAULT_LIMIT if limit is None else limit,
+              self._answer)
         if self._answer.outcome == _OK:
             return []
         at = self._answer.number if self._answer.outcome == _REFUSED_AT else None
@@ -135,7 +140,7 @@ class Library(Way):
         """Follows whether what was answered is right, and gives the line that stands below the reply where a refusal
         was expected and didn't come."""
         refused = self._answer.refusal if _REFUSED <= self._answer.outcome <= _REFUSED_AT else None
-        if refused == expected:
+        if refused == expected and self._answer.outcome != _FAILS:
             return ""
         self._status = 1
         return "" if expected is None else f"{self._count} expected {expected} {_WORDS[expected]}\n"

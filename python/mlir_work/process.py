@@ -56,10 +56,10 @@ class Process(Way):
         self._pipe: Optional[Pipe] = None
         self._count = 0
 
-    def open(self, text: bytes, limit: Optional[int] = None) -> List[str]:
+    def open(self, text: bytes, limit: Optional[int] = None, opaque: bool = False) -> List[str]:
         if DIVIDER in text.split(b"\n"):
             raise ValueError("the text of a module has no line `// -----`, which would end it")
-        more = ["--limit", str(limit)] if limit is not None else []
+        more = (["--limit", str(limit)] if limit is not None else []) + ["--opaque"] * opaque
         self._pipe = Pipe([*self._words, "--brief", "--interactive", *more], self._environment, self._timeout)
         ended = b"" if text.endswith(b"\n") or not text else b"\n"
         answer, = self._ask(text + ended + DIVIDER + b"\n", [FIRST], True)

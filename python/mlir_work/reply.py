@@ -27,7 +27,8 @@ class Reply(NamedTuple):
 
     @property
     def number(self) -> Optional[int]:
-        """The operation that was put in, or how many symbols, rewrites or rules it were; None for a bare `ok`."""
+        """The operation that was put in, how many symbols, rewrites or rules it were, or the width of a check; None for
+        a bare `ok`."""
         found = None if self.outcome == "refused" else _NUMBER.fullmatch(self.text)
         return int(found[1]) if found else None
 

@@ -3,15 +3,16 @@ import contextlib
 import re
 import threading
 from types import TracebackType
-from typing import (Iterable, Iterator, List, Literal, NamedTuple, Optional, Sequence, SupportsIndex, Type, Union,
-                    overload)
+from typing import Iterable, Iterator, List, Literal, Optional, Sequence, SupportsIndex, Type, Union, overload
 
 from . import operations as listings
 from .errors import Error, Refused, SessionClosed
 from .library import Library, is_preferred
 from .operations import Operation
+from .patterns import Checked, Pattern, checked_of, patterns_of
 from .process import DIVIDER, Process, Program
 from .reply import Reply
+from .rewrites import Canonicalized, Traced, canonicalized_of, traced_of
 from .rows import KINDS, Constant, Dead, Diagnostic, Effect, Row, Symbol, Unreached, Use, rows_of
 from .values import Value, key_text, op_text
 from .way import Way
@@ -22,17 +23,10 @@ _BLANKS = b" \t\r"
 _WORD = re.compile(rb"[^ \t]*")
 # What stands in front of a command that is to be refused.
 _EXPECTED = re.compile(rb"^expect[ \t]+[^ \t]+[ \t]+")
-_LOOKS = (b"print", b"report", b"begin", b"commit", b"attach", b"detach", b"resync")
+_LOOKS = (b"print", b"report", b"begin", b"commit", b"attach", b"detach", b"resync", b"pattern", b"patterns", b"check")
 _COMMENT = re.compile(rb'("(?:[^"\\\n]|\\.)*")|//[^\n]*')
 # The reply where an operation isn't there.
 _NO_SUCH_OP = 20
-
-
-class Canonicalized(NamedTuple):
-    """How many rewrites a `canon` made, and whether no rule applies behind them."""
-
-    rewrites: int
-    is_done: bool
 
 
 def _bytes(text: Text) -> bytes:
@@ -49,6 +43,16 @@ def _way_to(program: Optional[Program], timeout: Optional[float]) -> Way:
 def _listed(names: Iterable[str]) -> List[str]:
     """Names as a list; a string is one name."""
     return [names] if isinstance(names, str) else list(names)
+
+
+def _ruled(rules: Iterable[Union[int, str]]) -> str:
+    """Rules with commas; a string is one rule, or some with commas."""
+    return rules if isinstance(rules, str) else ",".join(map(str, rules))
+
+
+def _limited(limit: Optional[int]) -> str:
+    """What stands behind a line for a limit, if there is one."""
+    return "" if limit is None else f" limit {limit}"
 
 
 def _one_line(text: Text) -> str:
@@ -68,14 +72,16 @@ class Session:
     neither does, it is the library beside the package, if there is one, or the `mlir_work` on the path. `kinds` are the
     analyses that are wanted, all where nothing is said; `limit` is the most rewrites of a plain `canon`. A program that
     keeps silent for longer than `timeout` seconds is given up; without one it is waited for. `way` is another way to
-    the workbench than these.
+    the workbench than these. With `opaque` types and attributes that aren't known are kept as they are spelled, in the
+    text and in commands.
 
     Raises ModuleRefused. Each call below raises Refused where the command is refused, which changes nothing, and
     ProcessLost where the program ended, which closes the session, as an interrupt within a call does. A session is one
     thread's, the one that opened it; several sessions are independent."""
 
     def __init__(self, text: Text, program: Optional[Program] = None, kinds: Optional[Iterable[str]] = None,
-                 limit: Optional[int] = None, *, timeout: Optional[float] = None, way: Optional[Way] = None) -> None:
+                 limit: Optional[int] = None, *, timeout: Optional[float] = None, way: Optional[Way] = None,
+                 opaque: bool = False) -> None:
         wanted = None if kinds is None else _listed(kinds)
         unknown = [kind for kind in wanted or () if kind not in KINDS]
         if unknown:
@@ -92,7 +98,8 @@ class Session:
         self.unattached: List[str] = []
         """A line for each analysis for which there was no memory, as `attach uses refused 36 Memory`."""
         try:
-            self.unattached = self._way.open(_bytes(text), limit)
+            self.unattached = (
+                self._way.open(_bytes(text), limit, True) if opaque else self._way.open(_bytes(text), limit))
             there = set(KINDS) - {it.split()[1] for it in self.unattached}
             for kind in KINDS if wanted is not None else ():
                 if kind in there and kind not in (wanted or ()):
@@ -291,14 +298,16 @@ class Session:
 
     def canon(self, limit: Optional[int] = None) -> Canonicalized:
         """Rewrites by the rules of docs/CANONICALIZE.md until none applies, or so many times."""
-        reply = self.command("canon" if limit is None else f"canon limit {limit}")
-        return Canonicalized(reply.number or 0, reply.outcome == "converged")
+        return canonicalized_of(self.command(f"canon{_limited(limit)}"))
 
     def rewrite(self, rules: Iterable[Union[int, str]], limit: Optional[int] = None) -> Canonicalized:
         """Rewrites by these rules of 1 to 24 alone, by their numbers or words, tried in this order at an operation."""
-        behind = "" if limit is None else f" limit {limit}"
-        reply = self.command(f"rewrite {','.join(map(str, rules))}{behind}")
-        return Canonicalized(reply.number or 0, reply.outcome == "converged")
+        return canonicalized_of(self.command(f"rewrite {_ruled(rules)}{_limited(limit)}"))
+
+    def trace(self, rules: Optional[Iterable[Union[int, str]]] = None, limit: Optional[int] = None) -> Traced:
+        """Rewrites as `canon` does, or as `rewrite` does where there are rules, and tells each rewrite."""
+        line = "canon" if rules is None else f"rewrite {_ruled(rules)}"
+        return traced_of(self.command(f"{line} trace{_limited(limit)}"))
 
     def convert(self, mode: str = "partial", *, legal: Iterable[str] = (), illegal: Iterable[str] = (),
                 dynamic: Iterable[str] = (), rules: Iterable[int] = (), depth: Optional[int] = None) -> int:
@@ -313,8 +322,24 @@ class Session:
         return self.command("sweep").number or 0
 
     def apply(self, rule: Union[int, str], operation: SupportsIndex) -> bool:
-        """Applies a rule of 1 to 30, by its number or its word, at an operation; whether it applied there."""
+        """Applies a rule of 1 to 30, by its number or its word, or a pattern, by its name, at an operation; whether it
+        applied there."""
         return bool(self.command(f"apply {rule} {op_text(operation)}").number)
+
+    # Patterns of one's own.
+
+    def pattern(self, text: Text) -> None:
+        """Defines a pattern: its name, and what is made of what, as `half arith.divui(%a, 2) => arith.shrui(%a, 1)`. No
+        rollback takes it away."""
+        self.command(f"pattern {_one_line(text)}")
+
+    def patterns(self) -> List[Pattern]:
+        """The patterns that were defined, in their order."""
+        return patterns_of(self.command("patterns").shown)
+
+    def check(self, name: str, width: Optional[int] = None) -> Checked:
+        """Tries a pattern for all values, at all widths up to one; that it fails raises nothing."""
+        return checked_of(self.command(f"check {name}" if width is None else f"check {name} width {width}"))
 
     # Marks and analyses.
 

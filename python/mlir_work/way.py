@@ -9,9 +9,10 @@ class Way(abc.ABC):
     """A module that is held somewhere, and told a line at a time. One thread at a time calls it."""
 
     @abc.abstractmethod
-    def open(self, text: bytes, limit: Optional[int]) -> List[str]:
-        """Takes the text of a module; `limit` is the most rewrites of a plain `canon`. Gives a line for each analysis
-        that couldn't be attached, as `attach uses refused 36 Memory`; a text that is refused raises ModuleRefused."""
+    def open(self, text: bytes, limit: Optional[int], opaque: bool = False) -> List[str]:
+        """Takes the text of a module; `limit` is the most rewrites of a plain `canon`, and with `opaque` types and
+        attributes that aren't known are kept as they are spelled. Gives a line for each analysis that couldn't be
+        attached, as `attach uses refused 36 Memory`; a text that is refused raises ModuleRefused."""
 
     @abc.abstractmethod
     def line(self, line: bytes) -> Reply:

@@ -22,7 +22,7 @@ sys.path.append(str(ROOT / "bench"))
 import library  # noqa: E402
 import mlir_work  # noqa: E402
 import program  # noqa: E402
-from reference import rules, script  # noqa: E402
+from reference import aliases, rules, script  # noqa: E402
 
 LIVE = [sys.executable, "-S", "-E", str(ROOT / "tools/tests/live.py")]
 
@@ -61,23 +61,30 @@ class Referred(mlir_work.Way):
     def __init__(self):
         self.run, self.status, self.count = None, 0, 0
 
-    def open(self, text, limit=None):
+    def open(self, text, limit=None, opaque=False):
+        reader = aliases.Reader if opaque else rules.Reader
         try:
-            self.run = script.Run(script.read(text), limit=script.LIMIT if limit is None else limit)
+            self.run = script.Run(script.read(text, reader), limit=script.LIMIT if limit is None else limit)
         except rules.Refused as fault:
             raise mlir_work.ModuleRefused(fault.number, rules.WORDS[fault.number], fault.at) from None
+        self.run.reader = reader
         return []
 
     def line(self, line):
-        kept, = script.lines_of(line)
+        said, = script.lines_of(line)
         self.count += 1
-        is_right, answer = script.answer(self.run, self.count, kept, True)
+        is_right, answer = script.answer(self.run, self.count, said, True)
         text, _, shown = answer.partition(" ")[2].partition("\n")
         self.status |= not is_right
         return mlir_work.Reply(text, shown)
 
     def close(self):
         return self.status
+
+
+def knows_opaque():
+    """Whether sessions go over what keeps types and attributes that aren't known."""
+    return REAL is None or program.has_option("--opaque")
 
 
 def session(text, **more):

@@ -6,7 +6,7 @@ import threading
 import typing
 import unittest
 
-from support import ROOT, Case, Referred, example, session
+from support import ROOT, Case, Referred, example, knows_opaque, session
 
 import mlir_work
 from mlir_work import Argument, Dead, Result, Symbol, after, before, end, quoted, start
@@ -19,6 +19,11 @@ import script_lines  # noqa: E402
 PAIR = """%a = "arith.constant"() <{value = 1 : i32}> : () -> i32
 %b = "arith.constant"() <{value = 2 : i32}> : () -> i32
 "test.pair"(%a, %b) : (i32, i32) -> ()
+"""
+SWAPPED = """%a = "test.a"() : () -> i32
+%1 = "arith.constant"() <{value = 1 : i32}> : () -> i32
+%p = "arith.muli"(%1, %a) : (i32, i32) -> i32
+"test.u"(%p) : (i32) -> ()
 """
 ODD = '''"func.func"() <{function_type = () -> (), sym_name = "a b\\0A\\"#3",
                   sym_visibility = "private"}> ({}) : () -> ()
@@ -104,6 +109,36 @@ class Calls(Case):
         self.assertEqual(caught.exception.number, 41)
         self.assertEqual(s.report("constants"), [(Result(1), "1 : i32"), (Result(2), "2 : i32")])
 
+    def test_patterns(self):
+        s = self.s
+        s.pattern("half arith.divsi(%a, c) => arith.shrsi(%a, log2(c))")
+        s.pattern("double arith.muli(%a, 2) =>\n  arith.addi(%a, %a) // a comment")
+        s.pattern("never arith.addi(%a, 300) => %a")
+        found = s.check("half", 4)
+        self.assertEqual(found, ("fails", 2, (("%a", "-2 : i2"), ("c", "-2 : i2"), ("old", "1 : i2"),
+                                              ("new", "-1 : i2"))))
+        self.assertFalse(found.is_right)
+        self.assertEqual([s.check("double"), s.check("never")], [("holds", 8, ()), ("empty", 8, ())])
+        self.assertEqual([(it.name, it.said) for it in s.patterns()],
+                         [("half", "fails 2"), ("double", "holds 8"), ("never", "empty 8")])
+        with session(PAIR) as other:
+            for it in s.patterns():
+                other.pattern(it.text)
+            self.assertEqual([it.text for it in other.patterns()], [it.text for it in s.patterns()])
+        with s.mark():
+            made = s.insert(after(2), '"arith.muli"(%v1.0, %v2.0) : (i32, i32) -> i32')
+            self.assertTrue(s.apply("double", made))
+            self.assertFalse(s.apply("double", 1))
+        self.assertTrue(any(line.startswith('%2 = "arith.addi"(%0, %0)') for line in lines(s)))
+        for line, number, at in (("check nope", 26, None), ("apply nope #1", 26, None),
+                                 ("check half width 0", 50, None),
+                                 ("pattern half arith.addi(%a, %b) => %a", 4, 0),
+                                 ("pattern p arith.addi(%a, %b) => %c", 3, 24)):
+            with self.assertRaises(mlir_work.Refused) as caught:
+                s.command(line)
+            self.assertEqual((caught.exception.number, caught.exception.at), (number, at), line)
+        self.assertEqual(s.close(), 1)
+
     def test_rewrites(self):
         with session(example("canon")) as s:
             self.assertEqual(s.canon(1), (1, False))
@@ -127,9 +162,40 @@ class Calls(Case):
             s.erase(3)
             self.assertTrue(s.apply("erase-dead", 2))
 
+    def test_rewrites_that_are_told(self):
+        with session(example("canon")) as s:
+            s.begin()
+            regroup, dead = (10, "regroup-constants", 6, (16, 17), True), (1, "erase-dead", 3, (), True)
+            self.assertEqual(s.trace(limit=2), ([regroup, dead], False))
+            s.rollback()
+            self.assertEqual(s.trace([10], 1), ([regroup], True))
+            told = s.trace()
+            self.assertEqual((len(told.rewrites), told.is_done, told.rewrites[0].word), (14, True, "erase-dead"))
+            self.assertEqual((s.trace(), s.trace(["drop-one", 2])), (([], True), ([], True)))
+            for limit, rules, number in ((0, None, 50), (1, ["nope"], 26), (0, ["nope"], 26), (0, [4], 50)):
+                with self.assertRaises(mlir_work.Refused) as caught:
+                    s.trace(rules, limit)
+                self.assertEqual(caught.exception.number, number)
+        with session(SWAPPED) as s:
+            told = s.trace("swap-constant,5")
+            self.assertEqual(told.rewrites[0], mlir_work.Rewrite(3, "swap-constant", 3))
+            self.assertEqual([(it.rule, it.operation, it.is_erased) for it in told.rewrites[1:]], [(5, 3, True)])
+            self.assertEqual(s.rewrite("erase-dead"), (1, True))
+
     def test_the_limit(self):
         with session(example("canon"), limit=2) as s:
             self.assertEqual(s.canon(), (2, False))
+
+    def test_texts_that_are_kept(self):
+        text = '%a = "test.a"() {x = 1.0 : f32} : () -> tensor<4xf32>\n'
+        self.assertRaises(mlir_work.ModuleRefused, session, text)
+        if not knows_opaque():
+            self.skipTest("the program has no --opaque")
+        with session(text, opaque=True) as s:
+            s.set_attr(1, "y", "#d.a<b>")
+            self.assertEqual(s.insert(after(1), '"test.b"(%v1.0) : (tensor<4xf32>) -> !d.t'), 2)
+            self.assertEqual(lines(s), ['%0 = "test.a"() {x = 1.0 : f32, y = #d.a<b>} : () -> tensor<4xf32>',
+                                        '%1 = "test.b"(%0) : (tensor<4xf32>) -> !d.t'])
 
     def test_the_kinds(self):
         with session(PAIR, kinds=["dead", "uses"]) as s:

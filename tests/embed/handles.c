@@ -196,6 +196,45 @@ static int edits(void) {
   return 0;
 }
 
+/* Patterns of one's own, which belong to a session, and which no rollback takes away. */
+static int patterns(void) {
+  static const char rows[] = "%a -2 : i2\nc -2 : i2\nold 1 : i2\nnew -1 : i2\n";
+  mlir_work_session session = MLIR_WORK_CLOSED, other = MLIR_WORK_CLOSED;
+  mlir_work_answer answer;
+  uint8_t shown[256] = {0};
+  WANT(opened(&session, sums).outcome == MLIR_WORK_OK && opened(&other, sums).outcome == MLIR_WORK_OK);
+  answer = said(&session, "pattern twice arith.addi(%a) => %a");
+  WANT(answer.outcome == MLIR_WORK_REFUSED_AT && answer.refusal == MLIR_WORK_TYPE_MISMATCH && answer.number == 6);
+  WANT(said(&session, "begin").outcome == MLIR_WORK_OK);
+  answer = said(&session, "pattern twice arith.addi(%a, %a) => arith.muli(%a, 2)");
+  WANT(answer.outcome == MLIR_WORK_OK && !answer.shown);
+  WANT(said(&session, "rollback").outcome == MLIR_WORK_OK);
+  answer = said(&session, "check twice");
+  WANT(answer.outcome == MLIR_WORK_HOLDS && answer.number == 8);
+  answer = said(&session, "pattern half arith.divsi(%a, c) => arith.shrsi(%a, log2(c))");
+  WANT(answer.outcome == MLIR_WORK_OK);
+  answer = said(&session, "check half width 1");
+  WANT(answer.outcome == MLIR_WORK_HOLDS && answer.number == 1 && !answer.refusal && !answer.shown);
+  answer = said(&session, "check half");
+  WANT(answer.outcome == MLIR_WORK_FAILS && answer.number == 2 && answer.shown == strlen(rows));
+  WANT(mlir_work_read(&session, 0, shown, sizeof shown - 1) == strlen(rows) && !strcmp((const char *)shown, rows));
+  answer = said(&session, "check half width 0");
+  WANT(answer.outcome == MLIR_WORK_REFUSED && answer.refusal == MLIR_WORK_BAD_LIMIT);
+  WANT(said(&session, "pattern never arith.addi(%a, 300) => %a").outcome == MLIR_WORK_OK);
+  answer = said(&session, "check never");
+  WANT(answer.outcome == MLIR_WORK_EMPTY && answer.number == 8);
+  WANT(said(&session, "patterns").shown > 0 && said(&other, "patterns").shown == 0);
+  answer = said(&session, "apply twice #2");
+  WANT(answer.outcome == MLIR_WORK_APPLIED && answer.number == 1 && !mlir_work_has(&session, 2));
+  answer = said(&session, "apply half #3");
+  WANT(answer.outcome == MLIR_WORK_APPLIED && answer.number == 0);
+  answer = said(&other, "apply twice #2");
+  WANT(answer.outcome == MLIR_WORK_REFUSED && answer.refusal == MLIR_WORK_NO_SUCH_KEY);
+  mlir_work_close(&session);
+  mlir_work_close(&other);
+  return 0;
+}
+
 static const char named[] =
     "%c = \"arith.constant\"() <{value = -1 : i32}> : () -> i32\n"
     "%t = \"arith.constant\"() <{value = true}> : () -> i1\n"
@@ -224,6 +263,26 @@ static int tabs(void) {
   return 0;
 }
 
+/* Types and attributes that aren't known are kept where a session is opened so, and refused elsewhere. */
+static int kept(void) {
+  static const char text[] = "%0 = \"test.a\"() {x = 1.0 : f32} : () -> tensor<4xf32>\n";
+  mlir_work_session session = MLIR_WORK_CLOSED;
+  mlir_work_answer answer = opened(&session, text);
+  uint8_t shown[256] = {0};
+  WANT(answer.outcome == MLIR_WORK_REFUSED_AT && answer.refusal == MLIR_WORK_LEFT_OUT);
+  mlir_work_open_opaque(&session, (const uint8_t *)text, strlen(text), 7, 1000, &answer);
+  WANT(answer.outcome == MLIR_WORK_OK);
+  WANT(said(&session, "set-attr #1 y #d.a<b>").outcome == MLIR_WORK_OK);
+  WANT(said(&session, "insert end #0 0 \"test.b\"(%v1.0) : (tensor<4xf32>) -> !d.t").outcome == MLIR_WORK_MADE);
+  WANT(said(&session, "print").outcome == MLIR_WORK_OK);
+  mlir_work_read(&session, 0, shown, sizeof shown - 1);
+  WANT(strstr((const char *)shown, "{x = 1.0 : f32, y = #d.a<b>} : () -> tensor<4xf32>"));
+  WANT(strstr((const char *)shown, "(tensor<4xf32>) -> !d.t"));
+  WANT(opened(&session, text).outcome == MLIR_WORK_REFUSED_AT);
+  mlir_work_close(&session);
+  return 0;
+}
+
 /* Many at once, each by itself. */
 static int many(void) {
   enum { MANY = 64 };
@@ -246,5 +305,6 @@ static int many(void) {
 
 int main(void) {
   WANT(mlir_work_version() == MLIR_WORK_VERSION);
-  return closed() || foreign() || refused() || lines() || questions() || edits() || tabs() || many();
+  return closed() || foreign() || refused() || lines() || questions() || edits() || patterns() || tabs() || kept() ||
+         many();
 }

@@ -15,7 +15,7 @@ import program  # noqa: E402
 def referred(text):
     """The status of a run by bench/reference, and the text that it writes."""
     from reference import script
-    status, out = script.run(text, True)
+    status, out = (script.run_opaque if program.OPAQUE in program.ASKED else script.run)(text, True)
     return status, out.decode()
 
 

@@ -70,6 +70,20 @@ class Files(unittest.TestCase):
             with self.subTest(text=text):
                 self.check_runs(divided + b"print\nprint\n", module, "-e", "print", "-e", "print")
 
+    @unittest.skipUnless(program.has_option("--split-input-file"), "the program splits no files")
+    def test_split(self):
+        parts = (MODULE, b'"t.a"() : () -> ()\n', b'"a"(\n', b"", MODULE[:-1])
+        module = self.named("m.mlir", DIVIDER.join(parts))
+        whole = [part if part.endswith(b"\n") or not part else part + b"\n" for part in parts]
+        ends = [referred(part + DIVIDER + SCRIPT) for part in whole]
+        wanted = DIVIDER.decode().join(out for _, out in ends)
+        script = self.named("a.script", SCRIPT)
+        self.assertEqual(self.ran(module, "--split-input-file", "-s", script), (max(it for it, _ in ends), wanted, ""))
+        both = DIVIDER.join(parts[:2])
+        status, out, told = self.ran("--split-input-file", "--format", "json", "-e", "erase #1", given=both)
+        self.assertEqual((status, told, out.count('{"divider":true}\n')), (1, "", 1))
+        self.check_runs(MODULE, "--split-input-file", given=MODULE)
+
     def test_refused_module(self):
         module = self.named("m.mlir", b'"a"(')
         status, out, told = self.ran(module, "-e", "print")

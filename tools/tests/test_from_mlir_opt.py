@@ -12,11 +12,12 @@ TOOL = shutil.which("mlir-opt-22")
 
 
 def rows():
-    """The rows of the table of what isn't read: the text, and what is said of it."""
+    """The rows of the table of what isn't read: the text, what is said of it, and what is with `--opaque`."""
     for line in PAGE.splitlines():
         cells = re.split(r" \| ", line.strip("| "))
-        if len(cells) == 4 and re.fullmatch(r"`\d+ \w+ at \d+`", cells[2]):
-            yield cells[1].strip("`"), cells[2].strip("`")
+        if len(cells) == 5 and re.fullmatch(r"`\d+ \w+ at \d+`", cells[2]):
+            text, says, kept = (cell.strip("`") for cell in cells[1:4])
+            yield text, says, says if kept == "the same" else kept
 
 
 def remedies():
@@ -30,13 +31,28 @@ def generic(module, flags):
     return subprocess.run(words, input=module.encode(), stdout=subprocess.PIPE, check=True).stdout
 
 
+def answer(says):
+    """The status and the lines of a run over a text of which that is said."""
+    return (0, []) if says == "read" else (3, [f"module refused {says}"])
+
+
 class NotRead(unittest.TestCase):
     def test_rows(self):
         found = list(rows())
         self.assertEqual(len(found), 16)
-        for text, says in found:
+        for text, says, _ in found:
             with self.subTest(text):
-                self.assertEqual(program.ran(text.encode()), (3, [f"module refused {says}"]))
+                self.assertEqual(program.ran(text.encode()), answer(says))
+
+    def test_rows_with_opaque_terms(self):
+        self.addCleanup(program.ask, False)
+        try:
+            program.ask(True)
+        except program.Fault as fault:
+            self.skipTest(str(fault))
+        for text, _, kept in rows():
+            with self.subTest(text):
+                self.assertEqual(program.ran(text.encode()), answer(kept))
 
     @unittest.skipUnless(TOOL, "mlir-opt-22 isn't installed")
     def test_remedies(self):

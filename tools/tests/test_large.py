@@ -196,7 +196,7 @@ class Replies(unittest.TestCase):
 
     def test_bounds(self):
         lines = {"sweep": 0, "canon": 2000, "canon limit 3": 6, "canon limit 9999999": 20000, "canon limit": 2000,
-                 "convert partial": 40000}
+                 "rewrite 4": 2000, "rewrite 4,1 trace limit 3": 6, "canon only 4": 2000, "convert partial": 40000}
         self.assertEqual({line: session.bound(line, 10000) - 10000 - session.MADE_MOSTLY for line in lines}, lines)
 
 

@@ -116,6 +116,19 @@ class Steps(unittest.TestCase):
         self.assertEqual(steps[-1].state.lines, filled(module, b"canon limit 999")[-1].state.lines)
         self.assertEqual(len(filled(module, b"canon\n" * 2)), 17)
 
+    def test_rewrites_by_some_rules(self):
+        module, _ = example("canon")
+        for line in (b"canon trace", b"rewrite 1,10", b"rewrite 10,1 trace", b"canon only 1,10", b"canon limit 3",
+                     b"canon only 10,1 trace limit 2", b"\tcanon  trace\tlimit 4"):
+            with self.subTest(line):
+                steps = filled(module, line)
+                reply = program.replies(program.asked(module, [line.decode()])[1])[0][0]
+                count = int(reply.split()[1])
+                self.assertGreater(count, 1)
+                self.assertEqual([step.part for step in steps[1:]], [(at, count) for at in range(1, count + 1)])
+                self.assertEqual(steps[-1].reply, f"rewrite {count} of {count}: {reply}")
+                self.assertEqual(steps[-1].state.lines, replay.keyed(listing.listed(module, [line.decode()], 99)))
+
     def test_most(self):
         module, _ = example("canon")
         whole = filled(module, b"canon\nset-attr #1 k 1\n")

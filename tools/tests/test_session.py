@@ -166,6 +166,22 @@ class Typed(unittest.TestCase):
         self.assertIsNone(here.seen)
 
 
+    def test_rewrites(self):
+        here = example("canon")
+        self.assertEqual(here.answer("canon trace limit 2"),
+                         ["limit 2", "rewrote 10 regroup-constants #6 made #16,#17 erased #6",
+                          "rewrote 1 erase-dead #3 erased #3"])
+        self.assertEqual(here.answer("undo"), ["undone: canon trace limit 2"])
+        reply, around, *lines = here.answer("rewrite 1,10 limit 2")
+        self.assertEqual((reply, around[:2], {line[0] for line in lines}), ("limit 2", "@@", {"+", "-"}))
+        self.assertEqual(here.answer("rewrite 1,10 trace")[-1].split()[0], "rewrote")
+        self.assertEqual(here.answer("canon only 1,10 trace"), ["converged 0"])
+        self.assertEqual(here.answer("canon only 1"), ["converged 0", "nothing changed"])
+        self.assertTrue(here.answer("canon trace limit 0")[0].startswith("refused 50 BadLimit: "))
+        self.assertEqual(here.kept(), ["rewrite 1,10 limit 2", "rewrite 1,10 trace", "canon only 1,10 trace",
+                                       "canon only 1"])
+
+
 class Replied(unittest.TestCase):
     def test_replies(self):
         lines = ["1 ok #3", "2 ok", "%v1.0 #2 0", "3 refused 22 HasUses"]

@@ -46,6 +46,9 @@ WRONG = {
     "?": "write `help [WORD]`",
     "verify": "write `report diagnostics`",
     "source /none/s": "No such file",
+    "check half": "26 NoSuchKey", "check 4": "`4` is no NAME: write `check NAME` or `check NAME width W`",
+    "pattern": "the rest of the line is the pattern", "define half": "write `pattern PATTERN`",
+    "pattern p arith.muli(%a) => %a": "5 TypeMismatch", "patterns x": "`x` is too much: write `patterns`",
 }
 HELP = {"22": ["22 HasUses", "22 `open-branch`"], "refusal 22": ["22 HasUses"], "hasuses": ["22 HasUses"],
         "V15": ["V15: what a function returns"], "erase-dead": ["1 `erase-dead`"], "rule 30": ["30 `lower-choice`"],
@@ -55,12 +58,14 @@ BEGUN = {
     "": ["ids", "diagnostics", "set-operand"], "era": ["erase"], "report dia": ["diagnostics"],
     "erase #1": ["#1", "#10"],
     "move #8 ": ["before", "after", "start", "end"], "move #8 before #1": ["#1", "#10"], "replace %v1": ["%v10.0"],
-    "set-operand #8 0 %a6": ["%a6.0.0"], "canon ": ["limit"], "convert ": ["partial", "full"],
+    "set-operand #8 0 %a6": ["%a6.0.0"], "canon ": ["limit", "only", "trace"],
+    "canon trace ": ["limit"], "rewrite 4,1 ": ["limit", "trace"], "convert ": ["partial", "full"],
     "diff ": ["start", "here"],
     "convert partial ": ["legal", "rules"], "convert partial illegal arith.mu": ["arith.muli"], "help HasU": [],
     "convert partial illegal arith.addi,arith.mu": ["arith.muli"], "convert partial rules 2": ["2", "25"],
     "apply drop-z": ["drop-zero"], "apply 4 #1": ["#1", "#10"], "help v1": ["v15"],
     "at #1": ["#1", "#10"], "find arith.mu": ["arith.muli"], "rollback ": ["here"],
+    "check ha": ["half"], "apply ha": ["half"], "check half ": ["width"],
     'insert before #8 "arith.mu': ['"arith.muli"'], "save /etc/hos": ["/etc/hosts"],
 }
 
@@ -169,7 +174,7 @@ class Edited(unittest.TestCase):
         self.assertEqual([f"v{number}" for number in range(1, 25) if not pages.about(f"V{number}")], [])
 
     def test_completion(self):
-        self.said("begin here")
+        self.said("begin here", "pattern half arith.divui(%a, 2) => arith.shrui(%a, 1)")
         for line, wanted in BEGUN.items():
             text = re.split(r"[ ,]", line)[-1]
             found = completion.Completion(self.here).completed(text, line, len(line) - len(text))

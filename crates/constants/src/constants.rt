@@ -1,7 +1,7 @@
 //! The listener that keeps the known values.
-ghost use Rattle.std.specs.Prelude.{◌≡◌, ◌≤◌, ◌+◌, ◌⊎◌, ℕ, true};
-ghost use Rattle.ir_event.specs.Modules.{Module, things_in, module_in, shown_in};
-ghost use Rattle.ir_event.specs.Listener.{Told, ShowsTaken};
+ghost use Rattle.std.specs.Prelude.{◌≡◌, true};
+ghost use Rattle.ir_event.specs.Modules.{Module, things_in, module_in};
+ghost use Rattle.ir_event.specs.Hearing.{Hears};
 ghost use Rattle.ir_event.specs.Step.{Step};
 ghost use Rattle.constants.specs.Tables.{teaches_nothing};
 
@@ -67,14 +67,7 @@ impl Analysis for Constants {
 
     /// Where it agreed before an operation was taken or moved it agrees afterwards, and isn't stale.
     fn told<'a>(&mut self, view: View<'a>, event: Event) -> View<'a>
-        ensures told { Told event (things_in view.entry.world.now) (module_in view.entry.world.now)
-            (shown_in view.entry.world.now) (constants_listener self.old) (constants_listener self.new) }
-        ensures looks { (m : Module) → Step (things_in view.entry.world.now) event m (module_in view.entry.world.now)
-            → ShowsTaken event m (shown_in view.entry.world.now)
-            → ((constants_listener self.old).agrees (things_in view.entry.world.now) m
-            ⊎ ((constants_listener self.old).stale ≡ true)) → result.looks
-            ≤ view.entry.looks + (constants_listener self.old).most event m (module_in view.entry.world.now) }
-        ensures world { result.world.now ≡ view.entry.world.now }
+        ensures heard { Hears event view.entry result (constants_listener self.old) (constants_listener self.new) }
         ensures grown { (m : Module) → teaches_nothing event ≡ true
             → Step (things_in view.entry.world.now) event m (module_in view.entry.world.now)
             → (constants_listener self.old).agrees (things_in view.entry.world.now) m

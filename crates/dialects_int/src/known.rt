@@ -45,6 +45,7 @@ fn kind_in(node: &TypeNode) -> Option<BitsKind>
         TypeNode::Index => Some(BitsKind::Index),
         TypeNode::Func { .. } => None,
         TypeNode::Memref { .. } => None,
+        TypeNode::Opaque(_) => None,
     }
 }
 

@@ -1,8 +1,9 @@
 //! The listener that keeps the dead operations.
-ghost use Rattle.std.specs.Prelude.{◌≡◌, ◌≤◌, ◌+◌, ◌⊎◌, ℕ, None, true};
+ghost use Rattle.std.specs.Prelude.{◌≡◌, ◌≤◌, ◌+◌, ℕ, None, true};
 ghost use Rattle.std.specs.Bool.{OnTrue};
 ghost use Rattle.ir_event.specs.Modules.{Module, things_in, module_in, shown_in};
-ghost use Rattle.ir_event.specs.Listener.{Told, ShowsTaken, is_take};
+ghost use Rattle.ir_event.specs.Listener.{ShowsTaken, is_take};
+ghost use Rattle.ir_event.specs.Hearing.{Hears};
 ghost use Rattle.ir_event.specs.Step.{Step};
 ghost use Rattle.effects.specs.Counts.{counts_in, Counted};
 
@@ -86,14 +87,7 @@ impl Analysis for Dead {
     /// Where it agreed before an operation was taken, and that one is shown, it agrees afterwards, and isn't stale. It
     /// looks at most twice, at an operation that was put or taken.
     fn told<'a>(&mut self, view: View<'a>, event: Event) -> View<'a>
-        ensures told { Told event (things_in view.entry.world.now) (module_in view.entry.world.now)
-            (shown_in view.entry.world.now) (dead_listener self.old) (dead_listener self.new) }
-        ensures looks { (m : Module) → Step (things_in view.entry.world.now) event m (module_in view.entry.world.now)
-            → ShowsTaken event m (shown_in view.entry.world.now)
-            → ((dead_listener self.old).agrees (things_in view.entry.world.now) m
-            ⊎ ((dead_listener self.old).stale ≡ true))
-            → result.looks ≤ view.entry.looks + (dead_listener self.old).most event m (module_in view.entry.world.now) }
-        ensures world { result.world.now ≡ view.entry.world.now }
+        ensures heard { Hears event view.entry result (dead_listener self.old) (dead_listener self.new) }
         ensures twice { result.looks ≤ view.entry.looks + 2 }
         ensures take { (m : Module) → is_take event ≡ true → Step (things_in view.entry.world.now) event m
             (module_in view.entry.world.now) → ShowsTaken event m (shown_in view.entry.world.now)

@@ -1,7 +1,8 @@
 //! The listener that keeps the effects of operations.
-ghost use Rattle.std.specs.Prelude.{◌≡◌, ◌≤◌, ◌+◌, ◌⊎◌, true};
-ghost use Rattle.ir_event.specs.Modules.{Module, things_in, module_in, shown_in};
-ghost use Rattle.ir_event.specs.Listener.{Told, ShowsTaken, is_take};
+ghost use Rattle.std.specs.Prelude.{◌≡◌, ◌≤◌, ◌+◌, true};
+ghost use Rattle.ir_event.specs.Modules.{Module, things_in, module_in};
+ghost use Rattle.ir_event.specs.Listener.{is_take};
+ghost use Rattle.ir_event.specs.Hearing.{Hears};
 ghost use Rattle.ir_event.specs.Step.{Step};
 
 use crate::collect::put_module;
@@ -73,14 +74,7 @@ impl Analysis for Effects {
     /// Where it agreed before an operation was taken it agrees afterwards, and isn't stale. It looks once, at an
     /// operation that was put.
     fn told<'a>(&mut self, view: View<'a>, event: Event) -> View<'a>
-        ensures told { Told event (things_in view.entry.world.now) (module_in view.entry.world.now)
-            (shown_in view.entry.world.now) (effects_listener self.old) (effects_listener self.new) }
-        ensures looks { (m : Module) → Step (things_in view.entry.world.now) event m (module_in view.entry.world.now)
-            → ShowsTaken event m (shown_in view.entry.world.now)
-            → ((effects_listener self.old).agrees (things_in view.entry.world.now) m
-            ⊎ ((effects_listener self.old).stale ≡ true)) → result.looks
-            ≤ view.entry.looks + (effects_listener self.old).most event m (module_in view.entry.world.now) }
-        ensures world { result.world.now ≡ view.entry.world.now }
+        ensures heard { Hears event view.entry result (effects_listener self.old) (effects_listener self.new) }
         ensures once { result.looks ≤ view.entry.looks + 1 }
         ensures take { (m : Module) → is_take event ≡ true
             → Step (things_in view.entry.world.now) event m (module_in view.entry.world.now)

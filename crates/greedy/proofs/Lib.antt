@@ -36,3 +36,4 @@ pub mod Starts
 pub mod Rootless
 pub mod Law
 mod Following
+mod Traces

@@ -27,13 +27,13 @@ use Rattle.greedy.proofs.Rootless.{no_rules}
 use Rattle.greedy.proofs.Listed.{first_there, listed_at, listed_more, listed_past}
 
 -- a rewrite that there is
-becomes_none : (p : Module) → becomes p ≡ none → ⊥
+pub becomes_none : (p : Module) → becomes p ≡ none → ⊥
 becomes_none p e = true≢false (ap (λ a. elim a as (λ _. Bool) [ none ↦ false | refused g ↦ true | becomes p ↦ true ]) e)
 
 refused_none : (f : Refusal) → refused f ≡ none → ⊥
 refused_none f e = true≢false (ap (λ a. elim a as (λ _. Bool) [ none ↦ false | refused g ↦ true | becomes p ↦ true ]) e)
 
-or_none : (a b : Rewrite) → or_else a b ≡ none → (a ≡ none) × (b ≡ none)
+pub or_none : (a b : Rewrite) → or_else a b ≡ none → (a ≡ none) × (b ≡ none)
 or_none none b e = (refl, e)
 or_none (refused f) b e = absurd (refused_none f e)
 or_none (becomes p) b e = absurd (becomes_none p e)
@@ -43,17 +43,17 @@ stops none b n = absurd (n refl)
 stops (refused e) b n = refl
 stops (becomes p) b n = refl
 
-before_here : (x y : ℕ) (xs : List ℕ) → is_listed y xs ≡ true → comes_after x y (x ∷ xs) ≡ true
+pub before_here : (x y : ℕ) (xs : List ℕ) → is_listed y xs ≡ true → comes_after x y (x ∷ xs) ≡ true
 before_here x y xs k = ap (λ c. cond c (is_listed y xs) (comes_after x y xs)) (eq-eqb x x refl) ∙ k
 
-before_later : (x z y : ℕ) (xs : List ℕ) → is_listed y xs ≡ true → comes_after z y xs ≡ true → comes_after z y (x ∷ xs) ≡ true
+pub before_later : (x z y : ℕ) (xs : List ℕ) → is_listed y xs ≡ true → comes_after z y xs ≡ true → comes_after z y (x ∷ xs) ≡ true
 before_later x z y xs k c = elim (bool_cases (eqb x z)) [
   | inl e ↦ ap (λ c. cond c (is_listed y xs) (comes_after z y xs)) e ∙ k
   | inr e ↦ ap (λ c. cond c (is_listed y xs) (comes_after z y xs)) e ∙ c
 ]
 
 -- ---- the rules at an operation
-gave : (a : Rewrite) (b : Bool) (p n : Module) → b ≡ true → Applied a b p n → a ≡ becomes n
+pub gave : (a : Rewrite) (b : Bool) (p n : Module) → b ≡ true → Applied a b p n → a ≡ becomes n
 gave none b p n t h = absurd (true≢false (sym t ∙ h.0))
 gave (refused e) b p n t h = absurd h
 gave (becomes q) b p n t h = ap becomes (sym h.1)
@@ -152,7 +152,7 @@ module _ (rs : List Rule) where
 
   -- ---- taking from a worklist
   module _ (m : Module) (x p : ℕ) (a : List ℕ) (p2 : ℕ) (a2 : List ℕ) (r : Right rs p a m) (k : Taken x p a p2 a2 m.tree) where
-    first_waits : (z : ℕ) → precedes z x m.tree ≡ true → first_rule rs m z ≡ none
+    pub first_waits : (z : ℕ) → precedes z x m.tree ≡ true → first_rule rs m z ≡ none
     first_waits z h = r.covers z (first_there z x (ids m.tree) h) (k.first z h)
 
     -- the first operation that waits is the next step's, if a rule applies there

@@ -16,3 +16,5 @@ pub mod Following
 pub mod Orders
 pub mod Rewriting
 pub mod Ruled
+pub mod Tracing
+pub mod Traced

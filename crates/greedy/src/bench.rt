@@ -1,7 +1,8 @@
 //! Benches with the rules of canonicalization.
-ghost use Rattle.std.specs.Prelude.{◌≡◌, [], is_some, IfErr, IfOk, MatchResult, OnErr};
+ghost use Rattle.std.specs.Prelude.{◌≡◌, [], is_some, IfErr, IfOk, MatchResult, OnErr, OnOk};
 ghost use Rattle.ir_event.specs.types.Things.{Grows};
-ghost use Rattle.patterns_base.specs.Canonicalization.{first_rule};
+ghost use Rattle.patterns_base.specs.Canonicalization.{first_rule, greedy_rules};
+ghost use Rattle.patterns.specs.Firing.{firing};
 ghost use Rattle.patterns.specs.Rows.{AreCanonical};
 ghost use Rattle.rewriter_machine.specs.Machine.{Change, IsFullSo};
 ghost use Rattle.patterns.specs.rewriter.Moves.{Recorded};
@@ -13,12 +14,14 @@ ghost use Rattle.patterns.specs.runs.Interning.{IsFull};
 ghost use Rattle.greedy.specs.Changes.{canonical_reply, canonicalizing, rewriting};
 ghost use Rattle.greedy.specs.Outcomes.{IsReason, IsReasonBy};
 ghost use Rattle.greedy.specs.Ruled.{MayRun, rules_in};
+ghost use Rattle.greedy.specs.Tracing.{trace_of};
 
 use crate::journal::touched;
 use crate::outcome::Outcome;
 use crate::rewriting::Rewriting;
 use crate::rules::Rules;
-use crate::run::{run, run_list};
+use crate::run::{run, run_list, run_list_told, run_told};
+use crate::tracer::Tracer;
 use crate::walk::{following, precedes, preceding};
 use ir_event::analysis::Analysis;
 use ir_event::types::ids::OpId;
@@ -45,6 +48,7 @@ fn first_of<L: Analysis>(
     requires { MayRun rules.now }
     ensures ok { IfOk result (λ r. Gave (first_rule (rules_in rules.now) (module_held bench.old.desk) op) (is_some r)
         (module_held bench.old.desk) (module_held bench.new.desk)) }
+    ensures fired { IfOk result (λ r. r ≡ firing (rules_in rules.now) (module_held bench.old.desk) op) }
     ensures err { OnErr result (module_held bench.new.desk ≡ module_held bench.old.desk) }
     ensures refused { IfErr result (λ e. IsFailure (first_rule (rules_in rules.now) (module_held bench.old.desk) op) op
         (module_held bench.old.desk) bench.new.desk.ctx e) }
@@ -122,11 +126,20 @@ impl<L: Analysis> Rewriting for Bench<L> {
         Bench::journal_len(self)
     }
 
-    fn first(&mut self, alloc: Global, rules: &Rules<'_>, op: OpId) -> Result<bool, Refusal> {
+    fn next_id(&self) -> u32 {
+        self.world().store.next_id()
+    }
+
+    fn first(
+        &mut self,
+        alloc: Global,
+        rules: &Rules<'_>,
+        op: OpId,
+    ) -> Result<Option<Rule>, Refusal> {
         let rule = first_of(alloc, self, rules, op);
         Bench::is_formed(self);
         match rule {
-            Ok(rule) => Ok(rule.is_some()),
+            Ok(rule) => Ok(rule),
             Err(refusal) => Err(refusal),
         }
     }
@@ -181,6 +194,32 @@ pub fn canonicalize<L: Analysis>(
     run(alloc, bench, limit)
 }
 
+/// Canonicalizes the module of a bench, as `canonicalize` does, and has each rewrite taken down, in their order. What
+/// was taken down of one that is refused says nothing.
+///
+/// Refusals: as those of `canonicalize`.
+pub fn canonicalize_traced<L: Analysis, T: Tracer>(
+    alloc: Global,
+    bench: &mut Bench<L>,
+    limit: u32,
+    trace: &mut T,
+) -> Result<Outcome, Refusal>
+    ensures does { Does L.meaning (Change (canonicalizing limit)) (canonical_reply result) bench.old bench.new }
+    ensures trace { OnOk result
+        (T.traced (trace_of greedy_rules limit (module_held bench.old.desk)) trace.old trace.new) }
+    ensures refused { IfErr result (λ e. IsReason limit (module_held bench.old.desk) (IsFull bench.new.desk.ctx) e) }
+    ensures room { IsFullSo (IsFull bench.new.desk.ctx) (state_of L.meaning bench.old) (canonicalizing limit)
+        (canonical_reply result) }
+    ensures led { Led L.meaning bench.old bench.new }
+    ensures grows { Grows bench.old.desk.ctx bench.new.desk.ctx }
+    ensures journal { MatchResult result (λ _. Noted bench.old.desk bench.new.desk)
+        (λ _. Recorded [] bench.old.desk bench.new.desk) }
+{
+    led_benches_are_kept::<L>();
+    bench.is_formed();
+    run_told(alloc, bench, limit, trace)
+}
+
 /// Rewrites the module of a bench by a list of rules, of which canonicalization tries each: the first operation in
 /// pre-order at which one of them applies, with the first of the list that does, again and again, up to a limit of
 /// rewrites. It is whole or not made at all.
@@ -206,4 +245,32 @@ pub fn rewrite<L: Analysis>(
     led_benches_are_kept::<L>();
     bench.is_formed();
     run_list(alloc, bench, rules, limit)
+}
+
+/// Rewrites the module of a bench by a list of rules, as `rewrite` does, and has each rewrite taken down, in
+/// their order. What was taken down of one that is refused says nothing.
+///
+/// Refusals: as those of `canonicalize`.
+pub fn rewrite_traced<L: Analysis, T: Tracer>(
+    alloc: Global,
+    bench: &mut Bench<L>,
+    rules: &[Rule],
+    limit: u32,
+    trace: &mut T,
+) -> Result<Outcome, Refusal>
+    requires { AreCanonical rules.now }
+    ensures does { Does L.meaning (Change (rewriting rules.now limit)) (canonical_reply result) bench.old bench.new }
+    ensures trace { OnOk result (T.traced (trace_of rules.now limit (module_held bench.old.desk)) trace.old trace.new) }
+    ensures refused { IfErr result
+        (λ e. IsReasonBy rules.now limit (module_held bench.old.desk) (IsFull bench.new.desk.ctx) e) }
+    ensures room { IsFullSo (IsFull bench.new.desk.ctx) (state_of L.meaning bench.old) (rewriting rules.now limit)
+        (canonical_reply result) }
+    ensures led { Led L.meaning bench.old bench.new }
+    ensures grows { Grows bench.old.desk.ctx bench.new.desk.ctx }
+    ensures journal { MatchResult result (λ _. Noted bench.old.desk bench.new.desk)
+        (λ _. Recorded [] bench.old.desk bench.new.desk) }
+{
+    led_benches_are_kept::<L>();
+    bench.is_formed();
+    run_list_told(alloc, bench, rules, limit, trace)
 }

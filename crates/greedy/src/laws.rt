@@ -15,11 +15,17 @@ ghost use Rattle.greedy.specs.Near.{Leads};
 ghost use Rattle.greedy.specs.Reached.{any_reaches, ends, reaches};
 ghost use Rattle.greedy.specs.Shown.{shown_operands};
 ghost use Rattle.greedy.specs.Rewriting.{IsOfItsRules};
+ghost use Rattle.greedy.specs.Tracing.{TraceIsCounted};
 ghost use Rattle.greedy.specs.Sights.{ListsAround, ListsSeers, end_sight, is_listed, sight};
 
 /// Rewriting by the rules of canonicalization, in the order of their numbers, is canonicalization.
 pub fn rewriting_by_its_rules_is_canonicalization()
     ensures { IsOfItsRules }
+{}
+
+/// As many rewrites are told as there were.
+pub fn each_rewrite_is_told()
+    ensures { TraceIsCounted }
 {}
 
 /// The lowest rule of canonicalization that applies at an operation leaves the operations before it, and those that

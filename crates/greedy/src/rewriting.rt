@@ -1,5 +1,5 @@
 //! What the driver needs of a bench and of the rules.
-ghost use Rattle.std.specs.Prelude.{◌≡◌, ◌≢◌, ◌<◌, ◌≤◌, All, IfOk, IfErr, OnErr, OnOk, IfSome, IfNone, ◌⊎◌, [], ◌∷◌};
+ghost use Rattle.std.specs.Prelude.{◌≡◌, ◌≢◌, ◌<◌, ◌≤◌, All, IfOk, IfErr, OnErr, OnOk, IfSome, IfNone, is_some, ◌⊎◌, [], ◌∷◌};
 ghost use Rattle.std.specs.Prelude.{List, ℕ, true, false};
 ghost use Rattle.ir_event.specs.types.declared.refusal.Refusal.TheVariants.{Memory as NoMemory};
 ghost use Rattle.ir_event.specs.trees.Ids.{HasDistinctIds, has_id, ids};
@@ -7,6 +7,7 @@ ghost use Rattle.ir_event.specs.trees.Tree.{head};
 ghost use Rattle.ir_event.specs.tree_laws.Reads.{precedes};
 ghost use Rattle.ir_event.specs.Modules.{Module};
 ghost use Rattle.rewriter_machine.specs.Machine.{OpenMark};
+ghost use Rattle.patterns.specs.Firing.{firing};
 ghost use Rattle.patterns.specs.rewriter.Held.{Held};
 ghost use Rattle.patterns.specs.rewriter.Rolling.{Dropped};
 ghost use Rattle.patterns.specs.runs.Runs.{Noted};
@@ -20,6 +21,7 @@ ghost use Rattle.greedy.specs.Ruled.{MayRun, rules_in};
 use crate::rules::Rules;
 use ir_event::types::ids::OpId;
 use ir_event::types::refusal::Refusal;
+use patterns_base::rule::Rule;
 use std::alloc::Global;
 
 /// A bench with rules.
@@ -87,12 +89,18 @@ pub trait Rewriting {
     fn journal_len(&self) -> usize
         ensures { result ≡ events self.now };
 
-    /// Applies the first of a run's rules that applies at an operation. The answer is whether there is one.
-    fn first(&mut self, alloc: Global, rules: &Rules<'_>, op: OpId) -> Result<bool, Refusal>
+    /// The next free id.
+    fn next_id(&self) -> u32
+        ensures { result ≡ (held self.now).next };
+
+    /// Applies the first of a run's rules that applies at an operation. The answer is that rule, if there is one.
+    fn first(&mut self, alloc: Global, rules: &Rules<'_>, op: OpId) -> Result<Option<Rule>, Refusal>
         requires there { has_id op (held self.old).tree ≡ true }
         requires ruled { MayRun rules.now }
         ensures ok { IfOk result
-            (λ done. Applied (first_rule (rules_in rules.now) (held self.old) op) done (held self.old) (held self.new)) }
+            (λ r. Applied (first_rule (rules_in rules.now) (held self.old) op) (is_some r) (held self.old)
+            (held self.new)) }
+        ensures fired { IfOk result (λ r. r ≡ firing (rules_in rules.now) (held self.old) op) }
         ensures err { OnErr result (held self.new ≡ held self.old) }
         ensures refused { IfErr result
             (λ e. Refuses (first_rule (rules_in rules.now) (held self.old) op) (full self.new) e) }

@@ -1,8 +1,9 @@
 //! The driver.
-ghost use Rattle.std.specs.Prelude.{◌≡◌, ◌≢◌, ◌⊎◌, ◌≤◌, ℕ, IfOk, IfErr, OnErr, OnOk, MatchResult, List, [], ◌++◌, ◌∷◌};
+ghost use Rattle.std.specs.Prelude.{◌≡◌, ◌≢◌, ◌⊎◌, ◌≤◌, ℕ, IfOk, IfErr, OnErr, OnOk, MatchResult, is_some, List, [], ◌++◌, ◌∷◌};
 ghost use Rattle.std.specs.Prelude.{true, false};
 ghost use Rattle.ir_event.specs.types.declared.refusal.Refusal.TheVariants.{Memory as NoMemory};
 ghost use Rattle.ir_event.specs.trees.Ids.{has_id};
+ghost use Rattle.patterns_base.specs.Canonicalization.{greedy_rules};
 ghost use Rattle.patterns_base.specs.declared.rule.Rule.{Rule as Tried};
 ghost use Rattle.patterns.specs.Rows.{AreCanonical};
 ghost use Rattle.greedy.specs.Outcomes.{Applied, ComeTo, IsCanonical, IsReason, IsReasonBy, IsRewriting, Refuses, Stop};
@@ -14,10 +15,13 @@ ghost use Rattle.patterns.specs.runs.Runs.{Noted};
 ghost use Rattle.greedy.specs.Work.{IsWork, Right, CoversBut, Rewritten, StillWaits, waits};
 ghost use Rattle.greedy.specs.Sights.{is_listed};
 ghost use Rattle.greedy.specs.Listing.{Touched};
+ghost use Rattle.greedy.specs.Tracing.{fired_next, trace_of};
 
+use crate::fired::Fired;
 use crate::outcome::Outcome;
 use crate::rewriting::Rewriting;
 use crate::rules::Rules;
+use crate::tracer::{Silent, Tracer};
 use crate::work::{Work, add, settle, take};
 use ir_event::types::ids::OpId;
 use ir_event::types::refusal::Refusal;
@@ -81,22 +85,24 @@ fn renew<R: Rewriting>(
 }
 
 /// Whether a rule applies anywhere; if so, one rewrite: the first operation in pre-order at which a rule applies, with
-/// the first such rule.
+/// the first such rule. The answer tells of it.
 fn one<R: Rewriting>(
     alloc: Global,
     bench: &mut R,
     rules: &Rules<'_>,
     work: &mut Work,
     examined: &mut u64,
-) -> Result<bool, Refusal>
+) -> Result<Option<Fired>, Refusal>
     requires marked { R.marks bench.old ≢ [] }
     requires ruled { MayRun rules.now }
     requires right { Right (rules_in rules.now) work.old.passed work.old.again.items (R.held bench.old) }
     ensures ok { IfOk result
-        (λ done. Applied (next_by (rules_in rules.now) (R.held bench.old)) done (R.held bench.old) (R.held bench.new)) }
+        (λ f. Applied (next_by (rules_in rules.now) (R.held bench.old)) (is_some f) (R.held bench.old)
+        (R.held bench.new)) }
+    ensures fired { IfOk result (λ f. f ≡ fired_next (rules_in rules.now) (R.held bench.old)) }
     ensures refused { IfErr result
         (λ e. Refuses (next_by (rules_in rules.now) (R.held bench.old)) (R.full bench.new) e) }
-    ensures right { IfOk result (λ done. done ≡ true
+    ensures right { IfOk result (λ f. is_some f ≡ true
         → Right (rules_in rules.now) work.new.passed work.new.again.items (R.held bench.new)) }
     ensures marks { R.marks bench.new ≡ R.marks bench.old }
     ensures journal { Noted (R.desk bench.old) (R.desk bench.new) }
@@ -107,19 +113,27 @@ fn one<R: Rewriting>(
         if let Some(before) = bench.preceding(op) {
             *examined = examined.saturating_add(1);
             let from = bench.journal_len();
+            let next = bench.next_id();
             match bench.first(alloc, rules, op) {
-                Ok(true) => {
+                Ok(Some(rule)) => {
+                    let fired = Fired {
+                        rule,
+                        op,
+                        from: next,
+                        until: bench.next_id(),
+                        stays: bench.in_tree(op),
+                    };
                     return match renew(alloc, bench, work, op, before, from) {
-                        Ok(()) => Ok(true),
+                        Ok(()) => Ok(Some(fired)),
                         Err(refusal) => Err(refusal),
                     };
                 }
-                Ok(false) => {}
+                Ok(None) => {}
                 Err(refusal) => return Err(refusal),
             }
         }
     }
-    Ok(false)
+    Ok(None)
 }
 
 /// What a try says that was refused: a rule applies, but for want of memory.
@@ -157,24 +171,26 @@ fn applies<R: Rewriting>(
     let done = one(alloc, bench, rules, work, examined);
     bench.rollback();
     match done {
-        Ok(any) => Ok(any),
+        Ok(fired) => Ok(fired.is_some()),
         Err(refusal) => tried(refusal),
     }
 }
 
-/// Up to so many rewrites.
-fn rewrites<R: Rewriting>(
+/// Up to so many rewrites, each of which is taken down.
+fn rewrites<R: Rewriting, T: Tracer>(
     alloc: Global,
     bench: &mut R,
     rules: &Rules<'_>,
     work: &mut Work,
     examined: &mut u64,
     limit: u32,
+    trace: &mut T,
 ) -> Result<Outcome, Refusal>
     requires marked { R.marks bench.old ≢ [] }
     requires ruled { MayRun rules.now }
     requires right { Right (rules_in rules.now) work.old.passed work.old.again.items (R.held bench.old) }
     ensures ok { IfOk result (λ o. ComeTo (rules_in rules.now) limit (R.held bench.old) o (R.held bench.new)) }
+    ensures trace { OnOk result (T.traced (trace_of (rules_in rules.now) limit (R.held bench.old)) trace.old trace.new) }
     ensures refused { IfErr result (λ e. Stop (rules_in rules.now) limit (R.held bench.old) (R.full bench.new) e) }
     ensures marks { R.marks bench.new ≡ R.marks bench.old }
     ensures journal { Noted (R.desk bench.old) (R.desk bench.new) }
@@ -183,8 +199,11 @@ fn rewrites<R: Rewriting>(
     let mut count = 0;
     'rewrites: while count < limit {
         match one(alloc, bench, rules, work, examined) {
-            Ok(true) => {}
-            Ok(false) => return Ok(Outcome::Converged(count)),
+            Ok(Some(fired)) => match trace.note(fired) {
+                Ok(()) => {}
+                Err(refusal) => return Err(refusal),
+            },
+            Ok(None) => return Ok(Outcome::Converged(count)),
             Err(refusal) => return Err(refusal),
         }
         count += 1;
@@ -197,16 +216,18 @@ fn rewrites<R: Rewriting>(
 }
 
 /// Up to so many rewrites, from a module at whose every operation a rule may apply.
-fn rewritten<R: Rewriting>(
+fn rewritten<R: Rewriting, T: Tracer>(
     alloc: Global,
     bench: &mut R,
     rules: &Rules<'_>,
     examined: &mut u64,
     limit: u32,
+    trace: &mut T,
 ) -> Result<Outcome, Refusal>
     requires marked { R.marks bench.old ≢ [] }
     requires ruled { MayRun rules.now }
     ensures ok { IfOk result (λ o. ComeTo (rules_in rules.now) limit (R.held bench.old) o (R.held bench.new)) }
+    ensures trace { OnOk result (T.traced (trace_of (rules_in rules.now) limit (R.held bench.old)) trace.old trace.new) }
     ensures refused { IfErr result (λ e. Stop (rules_in rules.now) limit (R.held bench.old) (R.full bench.new) e) }
     ensures marks { R.marks bench.new ≡ R.marks bench.old }
     ensures journal { Noted (R.desk bench.old) (R.desk bench.new) }
@@ -217,7 +238,48 @@ fn rewritten<R: Rewriting>(
         passed: bench.root(),
         again: Vec::new(alloc),
     };
-    rewrites(alloc, bench, rules, &mut work, examined, limit)
+    rewrites(alloc, bench, rules, &mut work, examined, limit, trace)
+}
+
+/// Rewrites by some rules, as often as one applies and up to a limit: the first operation in pre-order at which one
+/// applies, with the first such rule. Each rewrite is taken down. The answer is also how many operations were
+/// looked at. Refused, all is as it was.
+pub fn run_told_by<R: Rewriting, T: Tracer>(
+    alloc: Global,
+    bench: &mut R,
+    rules: &Rules<'_>,
+    limit: u32,
+    trace: &mut T,
+) -> Result<(Outcome, u64), Refusal>
+    requires { MayRun rules.now }
+    ensures ok { IfOk result (λ o. IsRewriting (rules_in rules.now) limit (R.held bench.old) o.0 (R.held bench.new)) }
+    ensures trace { OnOk result (T.traced (trace_of (rules_in rules.now) limit (R.held bench.old)) trace.old trace.new) }
+    ensures err { OnErr result (R.held bench.new ≡ R.held bench.old) }
+    ensures refused { IfErr result
+        (λ e. IsReasonBy (rules_in rules.now) limit (R.held bench.old) (R.full bench.new) e) }
+    ensures marks { R.marks bench.new ≡ R.marks bench.old }
+    ensures journal { MatchResult result (λ _. Noted (R.desk bench.old) (R.desk bench.new))
+        (λ _. Recorded [] (R.desk bench.old) (R.desk bench.new)) }
+    ensures onward { R.onward bench.old bench.new }
+{
+    if limit < 1 || limit > 1_000_000 {
+        return Err(Refusal::BadLimit);
+    }
+    match bench.step() {
+        Ok(()) => {}
+        Err(_) => return Err(Refusal::Memory),
+    }
+    let mut examined = 0;
+    match rewritten(alloc, bench, rules, &mut examined, limit, trace) {
+        Ok(outcome) => {
+            bench.commit();
+            Ok((outcome, examined))
+        }
+        Err(refusal) => {
+            bench.rollback();
+            Err(refusal)
+        }
+    }
 }
 
 /// Rewrites by some rules, as often as one applies and up to a limit: the first operation in pre-order at which one
@@ -239,45 +301,38 @@ pub fn run_counted_by<R: Rewriting>(
         (λ _. Recorded [] (R.desk bench.old) (R.desk bench.new)) }
     ensures onward { R.onward bench.old bench.new }
 {
-    if limit < 1 || limit > 1_000_000 {
-        return Err(Refusal::BadLimit);
-    }
-    match bench.step() {
-        Ok(()) => {}
-        Err(_) => return Err(Refusal::Memory),
-    }
-    let mut examined = 0;
-    match rewritten(alloc, bench, rules, &mut examined, limit) {
-        Ok(outcome) => {
-            bench.commit();
-            Ok((outcome, examined))
-        }
-        Err(refusal) => {
-            bench.rollback();
-            Err(refusal)
-        }
+    match run_told_by(alloc, bench, rules, limit, &mut Silent) {
+        Ok(counted) => Ok(counted),
+        Err(refusal) => Err(refusal),
     }
 }
 
-/// Rewrites by some rules, as often as one applies and up to a limit: the first operation in pre-order at which one
-/// applies, with the first such rule. Refused, all is as it was.
-pub fn run_by<R: Rewriting>(
+/// Rewrites by the rules of a list, as often as one applies and up to a limit: the first operation in pre-order at which
+/// one applies, with the first of the list that does. Each rewrite is taken down. Refused, all is as it was.
+pub fn run_list_told<R: Rewriting, T: Tracer>(
     alloc: Global,
     bench: &mut R,
-    rules: &Rules<'_>,
+    rules: &[Rule],
     limit: u32,
+    trace: &mut T,
 ) -> Result<Outcome, Refusal>
-    requires { MayRun rules.now }
-    ensures ok { IfOk result (λ o. IsRewriting (rules_in rules.now) limit (R.held bench.old) o (R.held bench.new)) }
+    requires { AreCanonical rules.now }
+    ensures ok { IfOk result (λ o. IsRewriting rules.now limit (R.held bench.old) o (R.held bench.new)) }
+    ensures trace { OnOk result (T.traced (trace_of rules.now limit (R.held bench.old)) trace.old trace.new) }
     ensures err { OnErr result (R.held bench.new ≡ R.held bench.old) }
-    ensures refused { IfErr result
-        (λ e. IsReasonBy (rules_in rules.now) limit (R.held bench.old) (R.full bench.new) e) }
+    ensures refused { IfErr result (λ e. IsReasonBy rules.now limit (R.held bench.old) (R.full bench.new) e) }
     ensures marks { R.marks bench.new ≡ R.marks bench.old }
     ensures journal { MatchResult result (λ _. Noted (R.desk bench.old) (R.desk bench.new))
         (λ _. Recorded [] (R.desk bench.old) (R.desk bench.new)) }
     ensures onward { R.onward bench.old bench.new }
 {
-    match run_counted_by(alloc, bench, rules, limit) {
+    if limit < 1 || limit > 1_000_000 {
+        return Err(Refusal::BadLimit);
+    }
+    let Ok(rows) = Rows::new(alloc, rules) else {
+        return Err(Refusal::Memory);
+    };
+    match run_told_by(alloc, bench, &Rules::OfList(&rows), limit, trace) {
         Ok((outcome, _)) => Ok(outcome),
         Err(refusal) => Err(refusal),
     }
@@ -300,14 +355,28 @@ pub fn run_list<R: Rewriting>(
         (λ _. Recorded [] (R.desk bench.old) (R.desk bench.new)) }
     ensures onward { R.onward bench.old bench.new }
 {
-    if limit < 1 || limit > 1_000_000 {
-        return Err(Refusal::BadLimit);
-    }
-    let Ok(rows) = Rows::new(alloc, rules) else {
-        return Err(Refusal::Memory);
-    };
-    match run_by(alloc, bench, &Rules::OfList(&rows), limit) {
-        Ok(outcome) => Ok(outcome),
+    run_list_told(alloc, bench, rules, limit, &mut Silent)
+}
+
+/// Rewrites by the rules of canonicalization, as often as one applies and up to a limit: the first operation in
+/// pre-order at which a rule applies, with the lowest such rule. Each rewrite is taken down. Refused, all is as it was.
+pub fn run_told<R: Rewriting, T: Tracer>(
+    alloc: Global,
+    bench: &mut R,
+    limit: u32,
+    trace: &mut T,
+) -> Result<Outcome, Refusal>
+    ensures ok { IfOk result (λ o. IsCanonical limit (R.held bench.old) o (R.held bench.new)) }
+    ensures trace { OnOk result (T.traced (trace_of greedy_rules limit (R.held bench.old)) trace.old trace.new) }
+    ensures err { OnErr result (R.held bench.new ≡ R.held bench.old) }
+    ensures refused { IfErr result (λ e. IsReason limit (R.held bench.old) (R.full bench.new) e) }
+    ensures marks { R.marks bench.new ≡ R.marks bench.old }
+    ensures journal { MatchResult result (λ _. Noted (R.desk bench.old) (R.desk bench.new))
+        (λ _. Recorded [] (R.desk bench.old) (R.desk bench.new)) }
+    ensures onward { R.onward bench.old bench.new }
+{
+    match run_told_by(alloc, bench, &Rules::OfCanonicalization, limit, trace) {
+        Ok((outcome, _)) => Ok(outcome),
         Err(refusal) => Err(refusal),
     }
 }

@@ -1,9 +1,9 @@
 -- Steps between what modules of numbers stand for.
-use Rattle.std.proofs.Common.{◌≡◌, refl, ap, sym, ◌∙◌, subst, ℕ, ◌<◌, ◌≤◌, eqb, List, Option, Some, None, slice_get, IsTrue, length-append, arith}
+use Rattle.std.proofs.Common.{◌≡◌, refl, ap, sym, ◌∙◌, subst, ℕ, ◌<◌, ◌≤◌, eqb, List, Option, Some, None, slice_get, IsTrue, arith}
 use Rattle.std.specs.Prelude.{option_map, option_and_then, Result, Ok, Err, OnOk, OnErr, IfOk}
 use Rattle.op_registry.specs.types.declared.refusal.Refusal.{Refusal}
 use Rattle.std.specs.List.{IsDistinct, All}
-use Rattle.op_registry.specs.types.Things.{Things, Grows, IsName, IsAttr}
+use Rattle.op_registry.specs.types.Things.{Things, Grows}
 use Rattle.op_registry.specs.types.Sound.{Holds}
 use Rattle.op_registry.specs.types.Terms.{name_term, type_term, attr_term}
 use Rattle.op_registry.specs.types.Words.{is_isolated}
@@ -20,12 +20,13 @@ use Rattle.ir_store.proofs.of_trees.MappedEdits.{map_with_operand}
 use Rattle.ir_store.proofs.of_trees.SoundEdits.{operand_sound}
 use Rattle.ir_store.proofs.of_tree_laws.Contents.{map_dictionaries}
 use Rattle.ir_event.specs.declared.event.Event.{Event}
-use Rattle.ir_event.specs.declared.event.Event.TheVariants.{Put, Take, SetOperand, SetEntry, Shift}
+use Rattle.ir_event.specs.declared.event.Event.TheVariants.{SetOperand}
 use Rattle.ir_event.specs.Modules.{Module, module_meaning}
-use Rattle.ir_store.specs.tree_laws.Changes.{operand_at, SetsEntry}
+use Rattle.ir_store.specs.tree_laws.Changes.{operand_at}
 use Rattle.ir_store.specs.Stored.{Stored}
 use Rattle.ir_store.specs.Calls.{after_operand}
-use Rattle.ir_event.specs.Step.{Changes, EventIsOf, IsAttrOrNone, IsSorted, Step, IsOperandEvent, IsOperandStep}
+use Rattle.ir_event.specs.Step.{IsSorted, Step, Steps, IsOperandEvent, IsOperandStep}
+use Rattle.ir_event.proofs.Further.{step_further, steps_further}
 use Rattle.ir_event.proofs.Operands.{undone, set_there}
 
 -- what a well-formed module stands for is well-formed
@@ -98,40 +99,11 @@ operand_steps c x k old new m w v sound e =
     }
 
 -- a step is one in a context that has more
-attr_or_none_stays : (c d : Things) (a : Option ℕ) → Holds c → Grows c d → IsAttrOrNone c a → option_map (attr_term d) a ≡ option_map (attr_term c) a
-attr_or_none_stays c d None holds g is = refl
-attr_or_none_stays c d (Some a) holds g is = ap Some (attr_stays c d a holds g is)
-
-pub changes_stay : (c d : Things) (e : Event) (m n : Module) → Holds c → Grows c d → EventIsOf c e → Changes c e m n → Changes d e m n
-changes_stay c d (Put x place fresh) m n holds g is s = s
-changes_stay c d (Take x place fresh) m n holds g is s = s
-changes_stay c d (SetOperand x k old new) m n holds g is s = s
-changes_stay c d (SetEntry x part key old new) m n holds g is s =
-    let k = sym (name_stays c d key g is.0) in
-    let a = sym (attr_or_none_stays c d old holds g is.1.0) in
-    let b = sym (attr_or_none_stays c d new holds g is.1.1) in
-    subst (λ (p : (List ℕ × Option _) × Option _). SetsEntry key_before x part p.0.0 p.0.1 p.1 m n) (λ i. ((k i, a i), b i)) s
-changes_stay c d (Shift x old new) m n holds g is s = s
-
-grown_name : (c d : Things) (n : ℕ) → Grows c d → IsName c n → IsName d n
-grown_name c d n g is = let e = g.names.1 in rw e (omega (arith, length-append c.names g.names.0))
-
-grown_attr : (c d : Things) (n : ℕ) → Grows c d → IsAttr c n → IsAttr d n
-grown_attr c d n g is = let e = g.attrs.1 in rw e (omega (arith, length-append c.attrs g.attrs.0))
-
-grown_attr_or_none : (c d : Things) (a : Option ℕ) → Grows c d → IsAttrOrNone c a → IsAttrOrNone d a
-grown_attr_or_none c d None g is = tt
-grown_attr_or_none c d (Some a) g is = grown_attr c d a g is
-
-numbers_stay : (c d : Things) (e : Event) → Grows c d → EventIsOf c e → EventIsOf d e
-numbers_stay c d (Put x place fresh) g is = tt
-numbers_stay c d (Take x place fresh) g is = tt
-numbers_stay c d (SetOperand x k old new) g is = tt
-numbers_stay c d (SetEntry x part key old new) g is = (grown_name c d key g is.0, (grown_attr_or_none c d old g is.1.0, grown_attr_or_none c d new g is.1.1))
-numbers_stay c d (Shift x old new) g is = tt
-
 pub step_stays : (c d : Things) (e : Event) (m n : Module) → Holds c → Grows c d → Step c e m n → Step d e m n
-step_stays c d e m n holds g s = record { before = s.before; after = s.after; sorted_before = s.sorted_before; sorted_after = s.sorted_after; numbers = numbers_stay c d e g s.numbers; changes = changes_stay c d e m n holds g s.numbers s.changes }
+step_stays c d e m n holds g s = step_further c d g (λ k is. name_stays c d k g is) (λ a is. attr_stays c d a holds g is) e m n s
+
+pub steps_stay : (c d : Things) (es : List Event) (m n : Module) → Holds c → Grows c d → Steps c es m n → Steps d es m n
+steps_stay c d es m n holds g s = steps_further c d g (λ k is. name_stays c d k g is) (λ a is. attr_stays c d a holds g is) es m n s
 
 -- an operand that was set, or was not
 pub set_sound : (c : Things) (x k : ℕ) (v : Value) (m n : Stored) (r : Result Event Refusal) → OnOk r (n ≡ after_operand x k v m) → OnErr r (n ≡ m) → IsSoundIn c m.module_of.tree → IsSoundIn c n.module_of.tree

@@ -2,7 +2,7 @@
 use Rattle.std.specs.Prelude.{◌≡◌, ℕ, ◌<◌, List, [], ◌∷◌, map, nat_lt, if◌then◌else◌}
 use Rattle.std.specs.List.{All}
 use Rattle.op_registry.specs.types.Things.{Things, IsName, IsAttr}
-use Rattle.op_registry.specs.types.Terms.{AttrTerm, IntegerOf, String, TypeOf, Flag, Array, Dictionary, Symbol, DenseArray, Overflow, name_term, attr_term}
+use Rattle.op_registry.specs.types.Terms.{AttrTerm, IntegerOf, String, TypeOf, Flag, Array, Dictionary, Symbol, DenseArray, Overflow, OpaqueOf, name_term, attr_term}
 use Rattle.op_registry.specs.types.declared.bits.BitsKind.{BitsKind}
 use Rattle.ir_store.specs.trees.declared.value.Value.{Value}
 use Rattle.ir_event.specs.declared.row.Cell.{Cell}
@@ -53,6 +53,7 @@ IsSymbol (Dictionary items) = ⊥
 IsSymbol (Symbol parts) = Unit {0}
 IsSymbol (DenseArray ty values) = ⊥
 IsSymbol (Overflow nsw nuw) = ⊥
+IsSymbol (OpaqueOf text ty) = ⊥
 
 -- a cell's numbers are of a context: a name, a symbol reference, and one of ten tags
 abbrev pub CellIsOf : Things → Cell → Type 0

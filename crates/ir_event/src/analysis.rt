@@ -1,10 +1,10 @@
 //! Listeners.
-ghost use Rattle.std.specs.Prelude.{◌≡◌, ◌≤◌, ◌+◌, ◌⊎◌, true, OnErr, OnOk, MatchResult};
+ghost use Rattle.std.specs.Prelude.{◌≡◌, true, OnErr, OnOk, MatchResult};
 ghost use Rattle.op_registry.specs.types.Things.{Things};
-ghost use Rattle.ir_event.specs.Modules.{Module, things_in, module_in, shown_in};
+ghost use Rattle.ir_event.specs.Modules.{Module, things_in, module_in};
 ghost use Rattle.ir_event.specs.Rows.{Shows};
-ghost use Rattle.ir_event.specs.Listener.{Listener, SameAnalysis, ShowsTaken, Told};
-ghost use Rattle.ir_event.specs.Step.{Step};
+ghost use Rattle.ir_event.specs.Listener.{Listener, SameAnalysis};
+ghost use Rattle.ir_event.specs.Hearing.{Hears};
 ghost use Rattle.ir_event.specs.declared.row.ReportFault.TheVariants.{Stale, Memory as NoMemory};
 
 use crate::event::Event;
@@ -30,10 +30,7 @@ pub trait Analysis: Drop {
     /// Hears of an event that was just made. The view shows the module after it, and is given back. Where the
     /// listener agreed with the module before or was stale it looks no more often than `most` says.
     fn told<'a>(&mut self, view: View<'a>, event: Event) -> View<'a>
-        ensures told { Told event (things_in view.entry.world.now) (module_in view.entry.world.now) (shown_in view.entry.world.now) (meaning self.old) (meaning self.new) }
-        ensures looks { (m : Module) → Step (things_in view.entry.world.now) event m (module_in view.entry.world.now) → ShowsTaken event m (shown_in view.entry.world.now)
-            → ((meaning self.old).agrees (things_in view.entry.world.now) m ⊎ ((meaning self.old).stale ≡ true)) → result.looks ≤ view.entry.looks + (meaning self.old).most event m (module_in view.entry.world.now) }
-        ensures world { result.world.now ≡ view.entry.world.now };
+        ensures heard { Hears event view.entry result (meaning self.old) (meaning self.new) };
 
     /// Whether it has given up until it begins again.
     fn stale(&self) -> bool

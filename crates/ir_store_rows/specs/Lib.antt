@@ -1,5 +1,6 @@
 pub mod Gone
 pub mod Shelf
+pub mod Lending
 pub mod Rows
 pub mod Drafts
 pub use Rattle.ir_store_contents.specs.declared.area.Area

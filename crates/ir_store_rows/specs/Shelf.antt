@@ -3,7 +3,10 @@ use Rattle.std.specs.Prelude.{◌≡◌, ℕ, Bool, true, false, option_map, is_
 use Rattle.slab.specs.Slab.{Slab, get}
 use Rattle.ir_store_rows.specs.declared.held.Held.{Held}
 use Rattle.ir_store_rows.specs.declared.held.Held.TheVariants.{Nothing, Head as Leading, AtShort, AtPlain, AtEntered, AtWhole}
+use Rattle.ir_store_contents.specs.declared.made.Plain.{Plain}
+use Rattle.ir_store_contents.specs.declared.made.Entries.{Entries}
 use Rattle.ir_store_contents.specs.declared.made.Entered.{Entered}
+use Rattle.ir_store_contents.specs.declared.made.Whole.{Whole}
 use Rattle.ir_store_rows.specs.declared.shelf.Shelf.{Shelf}
 use Rattle.ir_store_contents.specs.Contents.{Contents, no_contents, head_contents}
 use Rattle.ir_store_contents.specs.Made.{short_contents, plain_contents, entered_contents, whole_contents}
@@ -23,6 +26,24 @@ or_none (Some c) = c
 
 abbrev pub contents_at : Shelf → Held → Contents
 contents_at s h = or_none (found s h)
+
+-- the operands and results of what it holds, where they aren't those of an operation with few of them
+abbrev pub plain_found : Shelf → Held → Option Plain
+plain_found s (Nothing n) = None
+plain_found s (Leading owner number) = None
+plain_found s (AtShort k) = None
+plain_found s (AtPlain k) = get s.plain k
+plain_found s (AtEntered k) = option_map (λ (it : Entered). it.plain) (get s.entered k)
+plain_found s (AtWhole k) = option_map (λ (it : Whole). it.plain) (get s.whole k)
+
+-- the dictionaries of what it holds, where that has room for entries
+abbrev pub entries_found : Shelf → Held → Option Entries
+entries_found s (Nothing n) = None
+entries_found s (Leading owner number) = None
+entries_found s (AtShort k) = None
+entries_found s (AtPlain k) = None
+entries_found s (AtEntered k) = option_map (λ (it : Entered). it.entries) (get s.entered k)
+entries_found s (AtWhole k) = option_map (λ (it : Whole). it.entries) (get s.whole k)
 
 -- whether it has a key
 abbrev pub is_key : Held → Bool
@@ -59,11 +80,6 @@ respared n (AtShort k) = AtShort k
 respared n (AtPlain k) = AtPlain k
 respared n (AtEntered k) = AtEntered k
 respared n (AtWhole k) = AtWhole k
-
--- one key of a slab has a value that tells this, and what stands under others is the same
-pub record Sets {X : Type 0} (tells : X → Contents) (s t : Slab X) (k : ℕ) (c : Contents) : Type 0 where
-  pub own : option_map tells (get t k) ≡ Some c
-  pub others : (q : ℕ) → (q ≡ k → ⊥) → get t q ≡ get s q
 
 -- under each key stands the same
 abbrev pub AllSame : {X : Type 0} → Slab X → Slab X → Type 0

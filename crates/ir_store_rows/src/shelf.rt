@@ -1,13 +1,16 @@
 //! What operations have, under keys: in four slabs, so that each takes no more room than what it has asks.
-ghost use Rattle.std.specs.Prelude.{◌≡◌, ◌<◌, ◌≤◌, [], ◌||◌, true, nat_lt, map, length, slice_get, Some, None, is_some, option_map, IfOk, IsOk, OnOk, OnErr, MatchOption, MatchResult};
+ghost use Rattle.std.specs.Prelude.{◌≡◌, ◌<◌, ◌≤◌, [], ◌||◌, true, nat_lt, map, length, slice_get, Some, None, is_some, option_copied, IfOk, IsOk, OnOk, OnErr, MatchOption, MatchResult};
+ghost use Rattle.std.specs.Borrow.{sem};
+ghost use Rattle.std.specs.Option.{option_copied_mut};
 ghost use Rattle.slab.specs.Slab.{get, HasRoomFor, Updates};
 ghost use Rattle.ir_store_contents.specs.trees.Edits.{entry_at};
 ghost use Rattle.ir_store_contents.specs.trees.Meaning.{key_before_in, rises};
 ghost use Rattle.ir_store_contents.specs.Slots.{has_key, has_slot as is_slot, with_change, WantsNoSlot};
 ghost use Rattle.ir_store_contents.specs.Shapes.{shape_of};
-ghost use Rattle.ir_store_contents.specs.Contents.{no_slots, no_contents, with_operand, dictionary_in, with_dictionary, without_gone, HasNoEntries};
-ghost use Rattle.ir_store_contents.specs.Made.{short_contents, plain_contents, entered_contents, whole_contents, made_contents};
-ghost use Rattle.ir_store_rows.specs.Shelf.{found, or_none, contents_at, Sets, AllSame, Adds, Takes, Moves, Swaps, AllAlike};
+ghost use Rattle.ir_store_contents.specs.Contents.{no_slots, with_operand, dictionary_in, with_dictionary, without_gone, HasNoEntries};
+ghost use Rattle.ir_store_contents.specs.Made.{short_contents, plain_contents, made_contents};
+ghost use Rattle.ir_store_rows.specs.Shelf.{found, contents_at, plain_found, entries_found, AllSame, Adds, Takes, Moves, Swaps, AllAlike};
+ghost use Rattle.ir_store_rows.specs.Lending.{LendsPlain, LendsEntries};
 
 use crate::held::Held;
 use ir_store_contents::trees::place::Part;
@@ -32,30 +35,39 @@ pub struct Shelf {
 }
 
 impl Shelf {
+    /// The operands of what a slot holds and the types of its results, in order.
+    #[inline]
+    fn lists(&self, held: &Held) -> (&[Value], &[TypeId])
+        ensures operands { result.0.now ≡ (contents_at self.now held.now).operands }
+        ensures results { result.1.now ≡ (contents_at self.now held.now).results }
+    {
+        match held {
+            Held::Nothing(_) | Held::Head { .. } => (&[], &[]),
+            Held::AtShort(key) => match self.short.get(*key as usize) {
+                None => (&[], &[]),
+                Some(it) => (it.operands.as_slice(), it.results.as_slice()),
+            },
+            Held::AtPlain(key) => match self.plain.get(*key as usize) {
+                None => (&[], &[]),
+                Some(it) => (it.operands.as_slice(), it.results.as_slice()),
+            },
+            Held::AtEntered(key) => match self.entered.get(*key as usize) {
+                None => (&[], &[]),
+                Some(it) => (it.plain.operands.as_slice(), it.plain.results.as_slice()),
+            },
+            Held::AtWhole(key) => match self.whole.get(*key as usize) {
+                None => (&[], &[]),
+                Some(it) => (it.plain.operands.as_slice(), it.plain.results.as_slice()),
+            },
+        }
+    }
+
     /// The operands of what a slot holds, in order.
     #[inline]
     pub(crate) fn operands(&self, held: &Held) -> &[Value]
         ensures { result.now ≡ (contents_at self.now held.now).operands }
     {
-        match held {
-            Held::Nothing(_) | Held::Head { .. } => &[],
-            Held::AtShort(key) => match self.short.get(*key as usize) {
-                None => &[],
-                Some(it) => it.operands.as_slice(),
-            },
-            Held::AtPlain(key) => match self.plain.get(*key as usize) {
-                None => &[],
-                Some(it) => it.operands.as_slice(),
-            },
-            Held::AtEntered(key) => match self.entered.get(*key as usize) {
-                None => &[],
-                Some(it) => it.plain.operands.as_slice(),
-            },
-            Held::AtWhole(key) => match self.whole.get(*key as usize) {
-                None => &[],
-                Some(it) => it.plain.operands.as_slice(),
-            },
-        }
+        self.lists(held).0
     }
 
     /// The types of its results, in order.
@@ -63,25 +75,7 @@ impl Shelf {
     pub(crate) fn results(&self, held: &Held) -> &[TypeId]
         ensures { result.now ≡ (contents_at self.now held.now).results }
     {
-        match held {
-            Held::Nothing(_) | Held::Head { .. } => &[],
-            Held::AtShort(key) => match self.short.get(*key as usize) {
-                None => &[],
-                Some(it) => it.results.as_slice(),
-            },
-            Held::AtPlain(key) => match self.plain.get(*key as usize) {
-                None => &[],
-                Some(it) => it.results.as_slice(),
-            },
-            Held::AtEntered(key) => match self.entered.get(*key as usize) {
-                None => &[],
-                Some(it) => it.plain.results.as_slice(),
-            },
-            Held::AtWhole(key) => match self.whole.get(*key as usize) {
-                None => &[],
-                Some(it) => it.plain.results.as_slice(),
-            },
-        }
+        self.lists(held).1
     }
 
     /// Its regions.
@@ -97,20 +91,73 @@ impl Shelf {
         }
     }
 
-    /// One of its dictionaries.
-    pub(crate) fn dictionary(&self, held: &Held, part: Part) -> Option<&Dictionary>
-        ensures { MatchOption result (dictionary_in part (contents_at self.now held.now) ≡ no_slots) (λ d. d.now ≡ dictionary_in part (contents_at self.now held.now)) }
+    /// Its dictionaries, where it has room for entries.
+    #[inline]
+    fn entries(&self, held: &Held) -> Option<&Entries>
+        ensures { option_copied result ≡ entries_found self.now held.now }
     {
         match held {
             Held::AtEntered(key) => match self.entered.get(*key as usize) {
                 None => None,
-                Some(it) => Some(it.entries.part(part)),
+                Some(it) => Some(&it.entries),
             },
             Held::AtWhole(key) => match self.whole.get(*key as usize) {
                 None => None,
-                Some(it) => Some(it.entries.part(part)),
+                Some(it) => Some(&it.entries),
             },
             _ => None,
+        }
+    }
+
+    /// Its dictionaries, to be changed.
+    #[inline]
+    fn entries_mut(&mut self, held: &Held) -> Option<&mut Entries>
+        ensures* writes_back { sem 𝓛 (LendsEntries self.entry held.now result) }
+        ensures value { option_copied_mut result ≡ entries_found self.old held.now }
+    {
+        match held {
+            Held::AtEntered(key) => match self.entered.get_mut(*key as usize) {
+                None => None,
+                Some(it) => Some(&mut it.entries),
+            },
+            Held::AtWhole(key) => match self.whole.get_mut(*key as usize) {
+                None => None,
+                Some(it) => Some(&mut it.entries),
+            },
+            _ => None,
+        }
+    }
+
+    /// Its operands and results, to be changed, where they aren't those of an operation with few of them.
+    #[inline]
+    fn plain_mut(&mut self, held: &Held) -> Option<&mut Plain>
+        ensures* writes_back { sem 𝓛 (LendsPlain self.entry held.now result) }
+        ensures value { option_copied_mut result ≡ plain_found self.old held.now }
+    {
+        match held {
+            Held::AtPlain(key) => match self.plain.get_mut(*key as usize) {
+                None => None,
+                Some(it) => Some(it),
+            },
+            Held::AtEntered(key) => match self.entered.get_mut(*key as usize) {
+                None => None,
+                Some(it) => Some(&mut it.plain),
+            },
+            Held::AtWhole(key) => match self.whole.get_mut(*key as usize) {
+                None => None,
+                Some(it) => Some(&mut it.plain),
+            },
+            _ => None,
+        }
+    }
+
+    /// One of its dictionaries.
+    pub(crate) fn dictionary(&self, held: &Held, part: Part) -> Option<&Dictionary>
+        ensures { MatchOption result (dictionary_in part (contents_at self.now held.now) ≡ no_slots) (λ d. d.now ≡ dictionary_in part (contents_at self.now held.now)) }
+    {
+        match self.entries(held) {
+            None => None,
+            Some(entries) => Some(entries.part(part)),
         }
     }
 
@@ -118,16 +165,9 @@ impl Shelf {
     pub(crate) fn has_gone(&self, held: &Held) -> bool
         ensures { result ≡ (nat_lt 0 (length (contents_at self.now held.now).properties.gone) || nat_lt 0 (length (contents_at self.now held.now).attributes.gone)) }
     {
-        match held {
-            Held::AtEntered(key) => match self.entered.get(*key as usize) {
-                None => false,
-                Some(it) => it.entries.has_gone(),
-            },
-            Held::AtWhole(key) => match self.whole.get(*key as usize) {
-                None => false,
-                Some(it) => it.entries.has_gone(),
-            },
-            _ => false,
+        match self.entries(held) {
+            None => false,
+            Some(entries) => entries.has_gone(),
         }
     }
 
@@ -138,11 +178,11 @@ impl Shelf {
         ensures was { slice_get (contents_at self.old held.now).operands place ≡ Some result }
     {
         match held {
-            Held::AtShort(key) => put_short(&mut self.short, *key, place, value),
-            Held::AtPlain(key) => put_plain(&mut self.plain, *key, place, value),
-            Held::AtEntered(key) => put_entered(&mut self.entered, *key, place, value),
-            Held::AtWhole(key) => put_whole(&mut self.whole, *key, place, value),
-            Held::Nothing(_) | Held::Head { .. } => unreachable!(),
+            Held::AtShort(key) => self.short[*key as usize].put_operand(place, value),
+            _ => match self.plain_mut(held) {
+                None => unreachable!(),
+                Some(it) => it.put_operand(place, value),
+            },
         }
     }
 
@@ -188,10 +228,9 @@ impl Shelf {
             (λ _. Swaps self.old self.new held.now held.now (contents_at self.old held.now)) }
         ensures slot { rises (key_before_in ctx.now) (dictionary_in part (contents_at self.old held.now)).present ≡ true → WantsNoSlot key value (dictionary_in part (contents_at self.old held.now)) → IsOk result }
     {
-        match held {
-            Held::AtEntered(at) => change_entered(ctx, &mut self.entered, *at, part, key, value),
-            Held::AtWhole(at) => change_whole(ctx, &mut self.whole, *at, part, key, value),
-            _ => Err(AllocError),
+        match self.entries_mut(held) {
+            None => Err(AllocError),
+            Some(entries) => entries.change(ctx, part, key, value),
         }
     }
 
@@ -224,10 +263,9 @@ impl Shelf {
         requires entry { value ≡ None → has_key key (dictionary_in part (contents_at self.old held.now)).present ≡ true }
         ensures { Swaps self.old self.new held.now held.now (with_dictionary part (with_change (key_before_in ctx.now) key value (dictionary_in part (contents_at self.old held.now))) (contents_at self.old held.now)) }
     {
-        match held {
-            Held::AtEntered(at) => revert_entered(ctx, &mut self.entered, *at, part, key, value),
-            Held::AtWhole(at) => revert_whole(ctx, &mut self.whole, *at, part, key, value),
-            _ => unreachable!(),
+        match self.entries_mut(held) {
+            None => unreachable!(),
+            Some(entries) => entries.revert(ctx, part, key, value),
         }
     }
 
@@ -236,10 +274,9 @@ impl Shelf {
         requires { is_some (found self.old held.now) ≡ true }
         ensures { Swaps self.old self.new held.now held.now (without_gone (contents_at self.old held.now)) }
     {
-        match held {
-            Held::AtEntered(at) => drop_entered(&mut self.entered, *at),
-            Held::AtWhole(at) => drop_whole(&mut self.whole, *at),
-            _ => {}
+        match self.entries_mut(held) {
+            None => {}
+            Some(entries) => entries.drop_gone(),
         }
     }
 
@@ -374,138 +411,4 @@ fn lengthened(
     let entries = Entries::empty(alloc);
     entered.insert_reserved(Entered { plain, entries });
     Ok(at)
-}
-
-/// Makes a value an operand of an operation without entries and regions, and gives the one that was there.
-fn put_plain(slab: &mut Slab<Plain>, key: u32, place: usize, value: Value) -> Value
-    requires { place < length (or_none (option_map plain_contents (get slab.old key))).operands }
-    ensures put { Sets plain_contents slab.old slab.new key (with_operand place value (or_none (option_map plain_contents (get slab.old key)))) }
-    ensures was { slice_get (or_none (option_map plain_contents (get slab.old key))).operands place ≡ Some result }
-{
-    let it = &mut slab[key as usize];
-    it.put_operand(place, value)
-}
-
-/// Makes a value an operand of an operation with few operands and results, and gives the one that was there.
-fn put_short(slab: &mut Slab<Short>, key: u32, place: usize, value: Value) -> Value
-    requires { place < length (or_none (option_map short_contents (get slab.old key))).operands }
-    ensures put { Sets short_contents slab.old slab.new key (with_operand place value (or_none (option_map short_contents (get slab.old key)))) }
-    ensures was { slice_get (or_none (option_map short_contents (get slab.old key))).operands place ≡ Some result }
-{
-    let it = &mut slab[key as usize];
-    it.put_operand(place, value)
-}
-
-/// Makes a value an operand of an operation without regions, and gives the one that was there.
-fn put_entered(slab: &mut Slab<Entered>, key: u32, place: usize, value: Value) -> Value
-    requires { place < length (or_none (option_map entered_contents (get slab.old key))).operands }
-    ensures put { Sets entered_contents slab.old slab.new key (with_operand place value (or_none (option_map entered_contents (get slab.old key)))) }
-    ensures was { slice_get (or_none (option_map entered_contents (get slab.old key))).operands place ≡ Some result }
-{
-    let it = &mut slab[key as usize];
-    it.plain.put_operand(place, value)
-}
-
-/// Makes a value an operand of any operation, and gives the one that was there.
-fn put_whole(slab: &mut Slab<Whole>, key: u32, place: usize, value: Value) -> Value
-    requires { place < length (or_none (option_map whole_contents (get slab.old key))).operands }
-    ensures put { Sets whole_contents slab.old slab.new key (with_operand place value (or_none (option_map whole_contents (get slab.old key)))) }
-    ensures was { slice_get (or_none (option_map whole_contents (get slab.old key))).operands place ≡ Some result }
-{
-    let it = &mut slab[key as usize];
-    it.plain.put_operand(place, value)
-}
-
-/// Sets a key of a dictionary of an operation without regions to an attribute, or takes it out.
-fn change_entered(
-    ctx: &Context,
-    slab: &mut Slab<Entered>,
-    at: u32,
-    part: Part,
-    key: NameId,
-    value: Option<AttrId>,
-) -> Result<(), AllocError>
-    requires there { is_some (get slab.old at) ≡ true }
-    requires entry { value ≡ None → is_some (entry_at (key_before_in ctx.now) key (dictionary_in part (or_none (option_map entered_contents (get slab.old at)))).present) ≡ true }
-    ensures sets { MatchResult result
-        (λ _. Sets entered_contents slab.old slab.new at (with_dictionary part (with_change (key_before_in ctx.now) key value (dictionary_in part (or_none (option_map entered_contents (get slab.old at))))) (or_none (option_map entered_contents (get slab.old at)))))
-        (λ _. Sets entered_contents slab.old slab.new at (or_none (option_map entered_contents (get slab.old at)))) }
-    ensures slot { rises (key_before_in ctx.now) (dictionary_in part (or_none (option_map entered_contents (get slab.old at)))).present ≡ true → WantsNoSlot key value (dictionary_in part (or_none (option_map entered_contents (get slab.old at)))) → IsOk result }
-{
-    let it = &mut slab[at as usize];
-    it.entries.change(ctx, part, key, value)
-}
-
-/// Sets a key of a dictionary of any operation to an attribute, or takes it out.
-fn change_whole(
-    ctx: &Context,
-    slab: &mut Slab<Whole>,
-    at: u32,
-    part: Part,
-    key: NameId,
-    value: Option<AttrId>,
-) -> Result<(), AllocError>
-    requires there { is_some (get slab.old at) ≡ true }
-    requires entry { value ≡ None → is_some (entry_at (key_before_in ctx.now) key (dictionary_in part (or_none (option_map whole_contents (get slab.old at)))).present) ≡ true }
-    ensures sets { MatchResult result
-        (λ _. Sets whole_contents slab.old slab.new at (with_dictionary part (with_change (key_before_in ctx.now) key value (dictionary_in part (or_none (option_map whole_contents (get slab.old at))))) (or_none (option_map whole_contents (get slab.old at)))))
-        (λ _. Sets whole_contents slab.old slab.new at (or_none (option_map whole_contents (get slab.old at)))) }
-    ensures slot { rises (key_before_in ctx.now) (dictionary_in part (or_none (option_map whole_contents (get slab.old at)))).present ≡ true → WantsNoSlot key value (dictionary_in part (or_none (option_map whole_contents (get slab.old at)))) → IsOk result }
-{
-    let it = &mut slab[at as usize];
-    it.entries.change(ctx, part, key, value)
-}
-
-/// Sets a key that has a slot in a dictionary of an operation without regions, or takes it out, without memory.
-fn revert_entered(
-    ctx: &Context,
-    slab: &mut Slab<Entered>,
-    at: u32,
-    part: Part,
-    key: NameId,
-    value: Option<AttrId>,
-)
-    requires sorted { rises (key_before_in ctx.now) (dictionary_in part (or_none (option_map entered_contents (get slab.old at)))).present ≡ true }
-    requires slot { is_slot key (dictionary_in part (or_none (option_map entered_contents (get slab.old at)))) ≡ true }
-    requires entry { value ≡ None → has_key key (dictionary_in part (or_none (option_map entered_contents (get slab.old at)))).present ≡ true }
-    ensures { Sets entered_contents slab.old slab.new at (with_dictionary part (with_change (key_before_in ctx.now) key value (dictionary_in part (or_none (option_map entered_contents (get slab.old at))))) (or_none (option_map entered_contents (get slab.old at)))) }
-{
-    let it = &mut slab[at as usize];
-    it.entries.revert(ctx, part, key, value);
-}
-
-/// Sets a key that has a slot in a dictionary of any operation, or takes it out, without memory.
-fn revert_whole(
-    ctx: &Context,
-    slab: &mut Slab<Whole>,
-    at: u32,
-    part: Part,
-    key: NameId,
-    value: Option<AttrId>,
-)
-    requires sorted { rises (key_before_in ctx.now) (dictionary_in part (or_none (option_map whole_contents (get slab.old at)))).present ≡ true }
-    requires slot { is_slot key (dictionary_in part (or_none (option_map whole_contents (get slab.old at)))) ≡ true }
-    requires entry { value ≡ None → has_key key (dictionary_in part (or_none (option_map whole_contents (get slab.old at)))).present ≡ true }
-    ensures { Sets whole_contents slab.old slab.new at (with_dictionary part (with_change (key_before_in ctx.now) key value (dictionary_in part (or_none (option_map whole_contents (get slab.old at))))) (or_none (option_map whole_contents (get slab.old at)))) }
-{
-    let it = &mut slab[at as usize];
-    it.entries.revert(ctx, part, key, value);
-}
-
-/// Gives up the slots of the keys that are gone of an operation without regions.
-fn drop_entered(slab: &mut Slab<Entered>, at: u32)
-    requires { is_some (get slab.old at) ≡ true }
-    ensures { Sets entered_contents slab.old slab.new at (without_gone (or_none (option_map entered_contents (get slab.old at)))) }
-{
-    let it = &mut slab[at as usize];
-    it.entries.drop_gone();
-}
-
-/// Gives up the slots of the keys that are gone of any operation.
-fn drop_whole(slab: &mut Slab<Whole>, at: u32)
-    requires { is_some (get slab.old at) ≡ true }
-    ensures { Sets whole_contents slab.old slab.new at (without_gone (or_none (option_map whole_contents (get slab.old at)))) }
-{
-    let it = &mut slab[at as usize];
-    it.entries.drop_gone();
 }

@@ -1,11 +1,11 @@
 -- Attributes that are read fit.
 use Rattle.std.proofs.Common.{◌≡◌, ◌≤◌, ◌+◌, ℕ, zero, suc, Bool, true, false, List, [], ◌∷◌, ◌++◌, length, Option, Some, None, ℤ, refl, ap, arith, length-append, le-leb}
-use Rattle.std.specs.Prelude.{nat_eq, if◌then◌else◌, nat_le, map}
+use Rattle.std.specs.Prelude.{nat_eq, ◌&&◌, if◌then◌else◌, nat_le, map, option_and_then}
 use Rattle.std.specs.List.{list_all}
 use Rattle.std.specs.Str.{bytes_eq}
 use Rattle.ir_text_tokens.specs.declared.token.Mark.{Mark}
 use Rattle.ir_text_tokens.specs.declared.token.Mark.TheVariants.{OpenRound, OpenCurly, CloseCurly, OpenSquare, CloseSquare, Less, Greater, Comma, Equal, Colon, DoubleColon, Minus}
-use Rattle.ir_text_tokens.specs.Tokens.{Lexeme, mark, integer, string, bare, hash, symbol, quoted, next}
+use Rattle.ir_text_tokens.specs.Tokens.{Lexeme, mark, integer, float, string, bare, hash, bang, symbol, quoted, skip, next}
 use Rattle.ir_text_tokens.specs.Strings.{string_bytes}
 use Rattle.ir_text_tokens.specs.Numbers.{integer_of, below_limit}
 use Rattle.ir_types.specs.declared.node.Sign.TheVariants.{Signless}
@@ -32,12 +32,18 @@ use Rattle.ir_text_types.specs.TypeReading.{many, type_done, type_at}
 use Rattle.ir_text_types.specs.Lists.{more_at, more_from, list_at, list_from}
 use Rattle.ir_text_types.proofs.Worlds.{bind_read, option_read}
 use Rattle.ir_text_operations.specs.attributes.declared.flag.Flag.{Flag}
-use Rattle.ir_text_operations.specs.attributes.Literals.{Word, Truth, UnitWord, ArrayWord, TypeWord, word_of, truth_bits, overflow_word, none_word, flag_of, has_nsw, has_nuw}
+use Rattle.ir_text_operations.specs.attributes.Literals.{Word, Truth, UnitWord, ArrayWord, TypeWord, array_word, word_of, truth_bits, overflow_word, none_word, flag_of, has_nsw, has_nuw}
 use Rattle.ir_text_operations.specs.attributes.Elements.{bits_of, type_of, element_named, is_bit, item_value}
 use Rattle.ir_text_operations.specs.attributes.Keyed.{has_key}
-use Rattle.ir_text_operations.specs.attributes.AttrReading.{attr_done, name_done, truth_at, string_attr_at, type_attr_at, suffix_from, suffix_at, literal_done, literal_at, negative_from, negative_at, flag_from, flag_at, some_flags_at, no_flags_at, flags_from, flags_at, overflow_at, part_from, part_at, parts_from, parts_at, symbol_attr_at, element_from, element_at, truth_item, number_item, minus_from, minus_item, mark_item, item_from, item_at, some_items_at, no_items_at, items_from, items_at, dense_done, dense_at, Entries, key_from, key_at, unit_value_at, value_from, value_by, entry_by, entries_by, dictionary_by, attrs_by, array_by, word_attr, mark_attr, attr_from, attr_at}
+use Rattle.ir_text_operations.specs.attributes.AttrReading.{attr_done, name_done, truth_at, string_attr_at, type_attr_at, suffix_from, suffix_at, literal_done, literal_at, negative_from, negative_at, flag_from, flag_at, some_flags_at, no_flags_at, flags_from, flags_at, overflow_at, part_from, part_at, parts_from, parts_at, symbol_attr_at, element_from, element_at, truth_item, number_item, minus_from, minus_item, mark_item, item_from, item_at, some_items_at, no_items_at, items_from, items_at, dense_done, dense_at, Entries, key_from, key_at, unit_value_at, value_from, value_by, entry_by, entries_by, dictionary_by, attrs_by, array_by, word_attr, mark_attr, attr_from, attr_at, typed_at, opaque_typed_done, opaque_typed_at, colon_from, tail_at, kept_at, string_at, array_word_at, bare_attr, hash_attr}
+use Rattle.ir_text_operations.specs.attributes.declared.tail.Tail.{Tail}
+use Rattle.ir_text_operations.specs.attributes.declared.tail.Tail.TheVariants.{SomeType, TypeOrNone, OpaqueOrNone, NoType}
+use Rattle.ir_text_operations.specs.attributes.OpaqueAttributes.{tail_in, kept_text, with_angles, distinct_word, location_word, quoted_text, signed_text, is_hexadecimal, is_opaque_type, opens_other}
+use Rattle.ir_text_types.specs.OpaqueTypes.{with_body, bracketed, dialect_text}
+use Rattle.ir_text_types.proofs.Shorter.{IsWithin, within_if, within_more, with_body_within, bracketed_within, dialect_within}
+use Rattle.ir_text_bodies.specs.Bodies.{begins}
 use Rattle.ir_text.specs.Room.{Fits}
-use Rattle.ir_text.proofs.Lengths.{gain}
+use Rattle.ir_text.proofs.Lengths.{gain, skip_length}
 use Rattle.ir_text.proofs.Fits.{fits_to, Has, Good, wrong, reads, good_then, good_some, unless_good, more_good, list_good, text, things}
 use Rattle.ir_text.proofs.Steps.{token_fits, mark_fits, call_good, with_name_fits, name_not_full, type_done_good, full_count}
 use Rattle.ir_text.proofs.TypeRoom.{type_good}
@@ -66,6 +72,7 @@ fault_apart y other e = by_value y e
     by_value (terms.Dictionary entries) e = by_depth (nat_le (attr_depth (terms.Dictionary entries)) 32) e
     by_value (terms.Symbol parts) e = by_depth (nat_le 1 32) e
     by_value (terms.Overflow nsw nuw) e = by_depth (nat_le 1 32) e
+    by_value (terms.OpaqueOf text ty) e = by_depth (nat_le (attr_depth (terms.OpaqueOf text ty)) 32) e
 
 -- twins are another fault
 twins_apart : (node : AttrNode) (o : Option Refusal) → first_reason o (key_reason node) ≡ Some TooMany → o ≡ Some TooMany
@@ -86,6 +93,7 @@ twins_apart node None e = absurd (by node e)
     by (attr.Sym xs) e = absurd cc
     by (attr.Dense t vs) e = absurd cc
     by (attr.Overflow a b) e = absurd cc
+    by (attr.Opaque text ty) e = absurd cc
 
 attr_not_full : (i j k : ℕ) (node : AttrNode) (b : List ℕ) (c : Things) → count_reason node ≡ None → Fits i j (k + 1) b c → attr_reason node c ≡ Some TooMany → ⊥
 attr_not_full i j k node b c few h e =
@@ -129,40 +137,110 @@ string_good i j k raw s h = by (name_reason (string_bytes raw) s.1) refl
     by (Some TooMany) e = absurd (name_not_full i j (k + 1) (string_bytes raw) s.0 s.1 h e)
     by (Some _) e = wrong text things
 
-type_attr_good : (depth i j k : ℕ) (s : Typed) → Has text things i j k s → Good text things i j k (type_attr_at depth s)
+type_attr_good : (o : Bool) (depth i j k : ℕ) (s : Typed) → Has text things i j k s → Good text things i j k (type_attr_at o depth s)
 unfolding type_attr_at
-type_attr_good depth i j k s h = good_then text things (type_at depth s) _ (type_good depth i j k s h) (λ t f. done_good i j k (attr.Ty t.0) t.1 refl (fits_to f (omega arith) (omega arith) (omega arith)))
+type_attr_good o depth i j k s h = good_then text things (type_at o depth s) _ (type_good o depth i j k s h) (λ t f. done_good i j k (attr.Ty t.0) t.1 refl (fits_to f (omega arith) (omega arith) (omega arith)))
 
 -- ---- literals
 
-suffix_good : (i j k : ℕ) (s : Typed) → Has text things i (j + 1) k s → Good text things i j k (suffix_at s)
+suffix_good : (o : Bool) (i j k : ℕ) (s : Typed) → Has text things i (j + 1) k s → Good text things i j k (suffix_at o s)
 unfolding suffix_at
-suffix_good i j k s h = by (after_typed Colon s) refl
+suffix_good o i j k s h = by (after_typed Colon s) refl
   where
-    by : (o : Option Typed) → after_typed Colon s ≡ o → Good text things i j k (suffix_from s o)
-    by (Some c) e = good_less (type_at 32 c) (type_good 32 (i + 1) (j + 1) (k + 1) c (fits_to (mark_fits Colon refl i (j + 1) k s c e h) (omega arith) (omega arith) (omega arith)))
+    by : (c : Option Typed) → after_typed Colon s ≡ c → Good text things i j k (suffix_from o s c)
+    by (Some c) e = good_less (type_at o 32 c) (type_good o 32 (i + 1) (j + 1) (k + 1) c (fits_to (mark_fits Colon refl i (j + 1) k s c e h) (omega arith) (omega arith) (omega arith)))
       where
-        good_less : (o : Outcome (ℕ × Typed)) → Good text things (i + 1 + 1) (j + 1) (k + 1 + 1) o → Good text things i j k o
+        good_less : (x : Outcome (ℕ × Typed)) → Good text things (i + 1 + 1) (j + 1) (k + 1 + 1) x → Good text things i j k x
         good_less (Read x) g = reads text things x (fits_to g.still (omega arith) (omega arith) (omega arith))
         good_less Wrong g = wrong text things
         good_less Full g = absurd g.still
     by None e = type_done_good i j k (type.Int Signless 64) s h
 
-literal_good : (i j k : ℕ) (negative : Bool) (digits : List ℕ) (s : Typed) → Has text things i (j + 1) (k + 1) s → Good text things i j k (literal_at negative digits s)
+literal_good : (o : Bool) (i j k : ℕ) (negative : Bool) (digits : List ℕ) (s : Typed) → Has text things i (j + 1) (k + 1) s → Good text things i j k (literal_at o negative digits s)
 unfolding literal_at literal_done
-literal_good i j k negative digits s h =
+literal_good o i j k negative digits s h =
     good_some text things (below_limit (integer_of digits)) _ (λ n e.
-    good_then text things (suffix_at s) _ (suffix_good i j (k + 1) s h) (λ t f.
-    good_some text things (literal_bits (type_term t.1.1 t.0) negative n) _ (λ bits b.
-    done_good i j k (attr.Int t.0 bits) t.1 refl f)))
-
-negative_good : (i j k : ℕ) (s : Typed) → Has text things i j k s → Good text things i j k (negative_at s)
-unfolding negative_at
-negative_good i j k s h = good_some text things (next s.0) (λ t. negative_from s.1 t.0 t.1) (λ t e. by t.0 t.1 e)
+    good_then text things (suffix_at o s) _ (suffix_good o i j (k + 1) s h) (λ t f. by n t.0 (type_term t.1.1 t.0) t.1 f (is_opaque_type (type_term t.1.1 t.0) && is_hexadecimal digits)))
   where
-    by : (l : Lexeme) (rest : List ℕ) → next s.0 ≡ Some (l, rest) → Good text things i j k (negative_from s.1 l rest)
-    by (integer digits) rest e = literal_good i j k true digits (rest, s.1) (fits_to (token_fits i j k s.0 rest s.1 (integer digits) e h) (omega arith) (omega arith) (omega arith))
-    by _ rest e = wrong text things
+    by : (n t : ℕ) (ty : TypeTerm) (s : Typed) → Has text things i j (k + 1) s → (b : Bool) → Good text things i j k (if b then attr_done (attr.Opaque (signed_text negative digits) (Some t)) s else (of_option (literal_bits ty negative n) >>= λ bits. attr_done (attr.Int t bits) s))
+    by n t ty s f true = done_good i j k (attr.Opaque (signed_text negative digits) (Some t)) s refl f
+    by n t ty s f false = good_some text things (literal_bits ty negative n) (λ bits. attr_done (attr.Int t bits) s) (λ bits b. done_good i j k (attr.Int t bits) s refl f)
+
+-- ---- attributes that are kept as they are spelled
+
+kept_text_within : (word rest : List ℕ) → IsWithin (length rest) (kept_text word rest)
+unfolding kept_text
+kept_text_within word rest =
+    let le = skip_length rest in
+    let less = λ (o : Option (List ℕ × List ℕ)) (w : IsWithin (length (skip rest)) o). within_more (length (skip rest)) (length rest) o le w in
+    within_if (length rest) (bytes_eq word distinct_word) (option_and_then with_angles (bracketed 91 word (skip rest))) (if bytes_eq word location_word then bracketed 40 word (skip rest) else bracketed 60 word (skip rest))
+    (less (option_and_then with_angles (bracketed 91 word (skip rest))) (both (bracketed 91 word (skip rest)) (bracketed_within 91 word (skip rest))))
+    (within_if (length rest) (bytes_eq word location_word) (bracketed 40 word (skip rest)) (bracketed 60 word (skip rest)) (less (bracketed 40 word (skip rest)) (bracketed_within 40 word (skip rest))) (less (bracketed 60 word (skip rest)) (bracketed_within 60 word (skip rest))))
+  where
+    angles : (x : List ℕ × List ℕ) → length x.1 ≤ length (skip rest) → IsWithin (length (skip rest)) (with_angles x)
+    angles x l =
+        let m = skip_length x.1 in
+        within_if (length (skip rest)) (begins 60 (skip x.1)) (with_body x.0 (skip x.1)) (Some x) (within_more (length (skip x.1)) (length (skip rest)) (with_body x.0 (skip x.1)) (omega (arith, l, m)) (with_body_within x.0 (skip x.1))) l
+
+    both : (o : Option (List ℕ × List ℕ)) → IsWithin (length (skip rest)) o → IsWithin (length (skip rest)) (option_and_then with_angles o)
+    both None w = tt
+    both (Some x) w = angles x w
+
+module _ (o : Bool) (types : ℕ) where
+  typed_good : (text' : List ℕ) (i j k : ℕ) (s : Typed) → Has text things i j k s → Good text things i j k (typed_at o types text' s)
+  unfolding typed_at
+  typed_good text' i j k s h =
+      good_then text things (type_at o types s) _ (type_good o types i j k s h) (λ t f. done_good i j k (attr.Opaque text' (Some t.0)) t.1 refl (fits_to f (omega arith) (omega arith) (omega arith)))
+
+  opaque_typed_good : (text' : List ℕ) (i j k : ℕ) (s : Typed) → Has text things i j k s → Good text things i j k (opaque_typed_at o types text' s)
+  unfolding opaque_typed_at opaque_typed_done
+  opaque_typed_good text' i j k s h =
+      good_then text things (type_at o types s) _ (type_good o types i j k s h) (λ t f. by t.0 t.1 (fits_to f (omega arith) (omega arith) (omega arith)) (is_opaque_type (type_term t.1.1 t.0)))
+    where
+      by : (t : ℕ) (s : Typed) → Has text things i j (k + 1) s → (b : Bool) → Good text things i j k (if b then attr_done (attr.Opaque text' (Some t)) s else Wrong)
+      by t s f true = done_good i j k (attr.Opaque text' (Some t)) s refl f
+      by t s f false = wrong text things
+
+  -- behind a colon, or where none stands
+  colon_good : (p q : Parse Typed ℕ) (i j k : ℕ) (s : Typed) → ((c : Typed) → Has text things i j k c → Good text things i j k (p c)) → Good text things i j k (q s) → Has text things i j k s → Good text things i j k (colon_from o p q s (after_typed Colon s))
+  colon_good p q i j k s first second h = by (after_typed Colon s) refl
+    where
+      by : (c : Option Typed) → after_typed Colon s ≡ c → Good text things i j k (colon_from o p q s c)
+      by (Some c) e = first c (fits_to (mark_fits Colon refl i j k s c e h) (omega arith) (omega arith) (omega arith))
+      by None e = second
+
+  tail_good : (tail : Tail) (text' : List ℕ) (i j k : ℕ) (s : Typed) → Has text things i j (k + 1) s → Good text things i j k (tail_at o types tail text' s)
+  tail_good SomeType text' i j k s h =
+      good_some text things (after_typed Colon s) (typed_at o types text') (λ c e. typed_good text' i j k c (fits_to (mark_fits Colon refl i j (k + 1) s c e h) (omega arith) (omega arith) (omega arith)))
+  tail_good TypeOrNone text' i j k s h =
+      colon_good (typed_at o types text') (attr_done (attr.Opaque text' None)) i j k s (λ c f. typed_good text' i j k c f) (done_good i j k (attr.Opaque text' None) s refl h) (fits_to h (omega arith) (omega arith) (omega arith))
+  tail_good OpaqueOrNone text' i j k s h =
+      colon_good (opaque_typed_at o types text') (attr_done (attr.Opaque text' None)) i j k s (λ c f. opaque_typed_good text' i j k c f) (done_good i j k (attr.Opaque text' None) s refl h) (fits_to h (omega arith) (omega arith) (omega arith))
+  tail_good NoType text' i j k s h = done_good i j k (attr.Opaque text' None) s refl h
+
+  kept_good : (tail : Tail) (found : Option (List ℕ × List ℕ)) (bytes : List ℕ) (c : Things) (i j k : ℕ) → IsWithin (length bytes) found → Fits i j (k + 1) bytes c → Good text things i j k (kept_at o types tail found c)
+  kept_good tail None bytes c i j k w h = wrong text things
+  kept_good tail (Some x) bytes c i j k w h = tail_good tail x.0 i j k (x.1, c) (fits_to h (omega (arith, w)) (omega (arith, w)) (omega (arith, w)))
+
+  float_good : (digits : List ℕ) (i j k : ℕ) (s : Typed) → Has text things i j (k + 1) s → (b : Bool) → Good text things i j k (if b then tail_at o types OpaqueOrNone digits s else Wrong)
+  float_good digits i j k s h true = tail_good OpaqueOrNone digits i j k s h
+  float_good digits i j k s h false = wrong text things
+
+  string_or_kept_good : (raw : List ℕ) (i j k : ℕ) (s : Typed) → Has text things (i + 2) j (k + 1) s → Good text things i j k (string_at o types raw s)
+  string_or_kept_good raw i j k s h = by o
+    where
+      by : (b : Bool) → Good text things i j k (if b then colon_from o (typed_at o types (quoted_text raw)) (string_attr_at raw) s (after_typed Colon s) else string_attr_at raw s)
+      by true = colon_good (typed_at o types (quoted_text raw)) (string_attr_at raw) i j k s (λ c f. typed_good (quoted_text raw) i j k c f) (string_good i j k raw s h) (fits_to h (omega arith) (omega arith) (omega arith))
+      by false = string_good i j k raw s h
+
+  negative_good : (i j k : ℕ) (s : Typed) → Has text things i j k s → Good text things i j k (negative_at o types s)
+  unfolding negative_at
+  negative_good i j k s h = good_some text things (next s.0) (λ t. negative_from o types s.1 t.0 t.1) (λ t e. by t.0 t.1 e)
+    where
+      by : (l : Lexeme) (rest : List ℕ) → next s.0 ≡ Some (l, rest) → Good text things i j k (negative_from o types s.1 l rest)
+      by (integer digits) rest e = literal_good o i j k true digits (rest, s.1) (fits_to (token_fits i j k s.0 rest s.1 (integer digits) e h) (omega arith) (omega arith) (omega arith))
+      by (float digits) rest e = float_good (45 ∷ digits) i j k (rest, s.1) (fits_to (token_fits i j k s.0 rest s.1 (float digits) e h) (omega arith) (omega arith) (omega arith)) o
+      by _ rest e = wrong text things
 
 -- ---- flags
 
@@ -367,36 +445,57 @@ module _ (depth : ℕ) (p : Parse Typed ℕ) (one : (i j k : ℕ) (s : Typed) �
       good_then text things (list_at after_typed CloseSquare (λ before. p) many s) _ (list_good text things after_typed mark_fits CloseSquare refl (λ before. p) i j (k + 1) i j (k + 1) (omega arith) (omega arith) (omega arith) (λ before s g. one i j (k + 1) s g) many s h) (λ xs f.
       done_good i j k (attr.Array xs.0) xs.1 refl f)
 
-  -- ---- by the first token
+-- ---- by the first token
 
-  word_good : (i j k types : ℕ) (w : Word) (s : Typed) (rest : List ℕ) → Has text things i j k s → Fits (i + 1) (j + 1) (k + 1) rest s.1 → Good text things i j k (word_attr types w s rest)
-  word_good i j k types (Truth b) s rest h f = truth_good i j k b (rest, s.1) (fits_to f (omega arith) (omega arith) (omega arith))
-  word_good i j k types UnitWord s rest h f = done_good i j k attr.Unit (rest, s.1) refl (fits_to f (omega arith) (omega arith) (omega arith))
-  word_good i j k types ArrayWord s rest h f = dense_good i j k (rest, s.1) (fits_to f (omega arith) (omega arith) (omega arith))
-  word_good i j k types TypeWord s rest h f = type_attr_good types i j k s h
+module _ (o : Bool) (types : ℕ) where
+  array_word_good : (i j k : ℕ) (rest : List ℕ) (c : Things) → Fits (i + 1) (j + 1) (k + 1) rest c → Good text things i j k (array_word_at o types c rest)
+  array_word_good i j k rest c f = by (o && opens_other rest)
+    where
+      by : (b : Bool) → Good text things i j k (if b then kept_at o types NoType (bracketed 60 array_word (skip rest)) c else dense_at (rest, c))
+      by true =
+          kept_good o types NoType (bracketed 60 array_word (skip rest)) rest c i j k (within_more (length (skip rest)) (length rest) (bracketed 60 array_word (skip rest)) (skip_length rest) (bracketed_within 60 array_word (skip rest))) (fits_to f (omega arith) (omega arith) (omega arith))
+      by false = dense_good i j k (rest, c) (fits_to f (omega arith) (omega arith) (omega arith))
 
-  mark_good : (i j k types : ℕ) (m : Mark) (s : Typed) (rest : List ℕ) → Has text things i j k s → Fits (i + gain (mark m)) (j + gain (mark m)) (k + gain (mark m)) rest s.1 → Good text things i j k (mark_attr types depth p m s rest)
-  mark_good i j k types Minus s rest h f = negative_good i j k (rest, s.1) (fits_to f (omega arith) (omega arith) (omega arith))
-  mark_good i j k types OpenRound s rest h f = type_attr_good types i j k s h
-  mark_good i j k types OpenSquare s rest h f = array_good i j k (rest, s.1) (fits_to f (omega arith) (omega arith) (omega arith))
-  mark_good i j k types OpenCurly s rest h f = dictionary_good i j k (rest, s.1) (fits_to f (omega arith) (omega arith) (omega arith))
+  word_good : (i j k : ℕ) (w : Word) (s : Typed) (rest : List ℕ) → Has text things i j k s → Fits (i + 1) (j + 1) (k + 1) rest s.1 → Good text things i j k (word_attr o types w s rest)
+  word_good i j k (Truth b) s rest h f = truth_good i j k b (rest, s.1) (fits_to f (omega arith) (omega arith) (omega arith))
+  word_good i j k UnitWord s rest h f = done_good i j k attr.Unit (rest, s.1) refl (fits_to f (omega arith) (omega arith) (omega arith))
+  word_good i j k ArrayWord s rest h f = array_word_good i j k rest s.1 f
+  word_good i j k TypeWord s rest h f = type_attr_good o types i j k s h
+
+  bare_good : (i j k : ℕ) (tail : Option Tail) (w : List ℕ) (s : Typed) (rest : List ℕ) → Has text things i j k s → Fits (i + 1) (j + 1) (k + 1) rest s.1 → Good text things i j k (bare_attr o types tail w s rest)
+  bare_good i j k None w s rest h f = word_good i j k (word_of w) s rest h f
+  bare_good i j k (Some tail) w s rest h f = kept_good o types tail (kept_text w rest) rest s.1 i j k (kept_text_within w rest) (fits_to f (omega arith) (omega arith) (omega arith))
+
+  hash_good : (i j k : ℕ) (name : List ℕ) (s : Typed) (rest : List ℕ) → Fits (i + 1) (j + 1) (k + 1) rest s.1 → Good text things i j k (hash_attr o types name s rest)
+  hash_good i j k name s rest f = by (bytes_eq name overflow_word) o
+    where
+      by : (b q : Bool) → Good text things i j k (if b then overflow_at (rest, s.1) else if q then kept_at o types TypeOrNone (dialect_text 35 name rest) s.1 else Wrong)
+      by true q = overflow_good i j k (rest, s.1) (fits_to f (omega arith) (omega arith) (omega arith))
+      by false true = kept_good o types TypeOrNone (dialect_text 35 name rest) rest s.1 i j k (dialect_within 35 name rest) (fits_to f (omega arith) (omega arith) (omega arith))
+      by false false = wrong text things
+
+module _ (o : Bool) (depth : ℕ) (p : Parse Typed ℕ) (one : (i j k : ℕ) (s : Typed) → Has text things i j k s → Good text things i j k (p s)) where
+  mark_good : (i j k types : ℕ) (m : Mark) (s : Typed) (rest : List ℕ) → Has text things i j k s → Fits (i + gain (mark m)) (j + gain (mark m)) (k + gain (mark m)) rest s.1 → Good text things i j k (mark_attr o types depth p m s rest)
+  mark_good i j k types Minus s rest h f = negative_good o types i j k (rest, s.1) (fits_to f (omega arith) (omega arith) (omega arith))
+  mark_good i j k types OpenRound s rest h f = type_attr_good o types i j k s h
+  mark_good i j k types OpenSquare s rest h f = array_good depth p one i j k (rest, s.1) (fits_to f (omega arith) (omega arith) (omega arith))
+  mark_good i j k types OpenCurly s rest h f = dictionary_good depth p one i j k (rest, s.1) (fits_to f (omega arith) (omega arith) (omega arith))
   mark_good i j k types _ s rest h f = wrong text things
 
-  pub from_good : (i j k types : ℕ) (s : Typed) (l : Lexeme) (rest : List ℕ) → Has text things i j k s → next s.0 ≡ Some (l, rest) → Good text things i j k (attr_from types depth p s l rest)
-  from_good i j k types s (bare w) rest h e = word_good i j k types (word_of w) s rest h (token_fits i j k s.0 rest s.1 (bare w) e h)
+  pub from_good : (i j k types : ℕ) (s : Typed) (l : Lexeme) (rest : List ℕ) → Has text things i j k s → next s.0 ≡ Some (l, rest) → Good text things i j k (attr_from o types depth p s l rest)
+  from_good i j k types s (bare w) rest h e = bare_good o types i j k (tail_in o w) w s rest h (token_fits i j k s.0 rest s.1 (bare w) e h)
   from_good i j k types s (mark m) rest h e = mark_good i j k types m s rest h (token_fits i j k s.0 rest s.1 (mark m) e h)
-  from_good i j k types s (integer digits) rest h e = literal_good i j k false digits (rest, s.1) (fits_to (token_fits i j k s.0 rest s.1 (integer digits) e h) (omega arith) (omega arith) (omega arith))
-  from_good i j k types s (string raw) rest h e = string_good i j k raw (rest, s.1) (fits_to (token_fits i j k s.0 rest s.1 (string raw) e h) (omega arith) (omega arith) (omega arith))
+  from_good i j k types s (integer digits) rest h e = literal_good o i j k false digits (rest, s.1) (fits_to (token_fits i j k s.0 rest s.1 (integer digits) e h) (omega arith) (omega arith) (omega arith))
+  from_good i j k types s (float digits) rest h e = float_good o types digits i j k (rest, s.1) (fits_to (token_fits i j k s.0 rest s.1 (float digits) e h) (omega arith) (omega arith) (omega arith)) o
+  from_good i j k types s (string raw) rest h e = string_or_kept_good o types raw i j k (rest, s.1) (fits_to (token_fits i j k s.0 rest s.1 (string raw) e h) (omega arith) (omega arith) (omega arith))
   from_good i j k types s (symbol n) rest h e = symbol_good i j k s h
   from_good i j k types s (quoted raw) rest h e = symbol_good i j k s h
-  from_good i j k types s (hash w) rest h e = by (bytes_eq w overflow_word)
-    where
-      by : (b : Bool) → Good text things i j k (if b then overflow_at (rest, s.1) else Wrong)
-      by true = overflow_good i j k (rest, s.1) (fits_to (token_fits i j k s.0 rest s.1 (hash w) e h) (omega arith) (omega arith) (omega arith))
-      by false = wrong text things
+  from_good i j k types s (hash name) rest h e = hash_good o types i j k name s rest (token_fits i j k s.0 rest s.1 (hash name) e h)
+  from_good i j k types s (bang name) rest h e = type_attr_good o types i j k s h
   from_good i j k types s _ rest h e = wrong text things
 
-pub attr_good : (depth i j k : ℕ) (s : Typed) → Has text things i j k s → Good text things i j k (attr_at depth s)
+pub attr_good : (o : Bool) (depth i j k : ℕ) (s : Typed) → Has text things i j k s → Good text things i j k (attr_at o depth s)
 unfolding attr_at
-attr_good zero i j k s h = wrong text things
-attr_good (suc depth) i j k s h = good_some text things (next s.0) (λ t. attr_from (suc depth) depth (attr_at depth) s t.0 t.1) (λ t e. from_good depth (attr_at depth) (attr_good depth) i j k (suc depth) s t.0 t.1 h e)
+attr_good o zero i j k s h = wrong text things
+attr_good o (suc depth) i j k s h =
+    good_some text things (next s.0) (λ t. attr_from o (suc depth) depth (attr_at o depth) s t.0 t.1) (λ t e. from_good o depth (attr_at o depth) (attr_good o depth) i j k (suc depth) s t.0 t.1 h e)

@@ -4,8 +4,8 @@ use Rattle.std.specs.Prelude.{if◌then◌else◌}
 use Rattle.ir_text_tokens.specs.declared.token.Mark.TheVariants.{OpenCurly, CloseCurly, Less, Greater}
 use Rattle.ir_text_types.specs.Outcomes.{Outcome, Read, Wrong, Full}
 use Rattle.ir_text_types.specs.Typed.{Typed, after_typed}
-use Rattle.ir_text_operations.specs.attributes.AttrReading.{Entries, key_at, value_at, attr_at}
-use Rattle.ir_text_operations.specs.EntryReading.{refused_in, entry_at, entries_at, some_properties, properties_from, properties_at, attributes_from, attributes_at}
+use Rattle.ir_text_operations.specs.attributes.AttrReading.{Entries, key_at, attr_at}
+use Rattle.ir_text_operations.specs.EntryReading.{refused_in, value_here, entry_at, entries_at, some_properties, properties_from, properties_at, attributes_from, attributes_at}
 use Rattle.ir_text.proofs.Fits.{fits_to, Has, Good, wrong, reads, good_then, good_some, unless_good, list_good, text, things}
 use Rattle.ir_text.proofs.Steps.{mark_fits}
 use Rattle.ir_text.proofs.AttrRoom.{key_good, value_good, attr_good}
@@ -14,7 +14,7 @@ entry_good : (i j k : ℕ) (op : Option ℕ) (properties before : Entries) (s : 
 unfolding entry_at
 entry_good i j k op properties before s h =
     good_then text things (key_at s) _ (key_good i j k s h) (λ key f.
-    good_then text things (if refused_in key.1.1 op properties key.0 before then Wrong else value_at 32 key.1) _ (unless_good text things (refused_in key.1.1 op properties key.0 before) (value_at 32 key.1) (value_good 32 (attr_at 32) (attr_good 32) i j k key.1 (fits_to f (omega arith) (omega arith) (omega arith)))) (λ a g.
+    good_then text things (if refused_in key.1.1 op properties key.0 before then Wrong else value_here 32 key.1) _ (unless_good text things (refused_in key.1.1 op properties key.0 before) (value_here 32 key.1) (value_good 32 (attr_at key.1.1.opaque 32) (attr_good key.1.1.opaque 32) i j k key.1 (fits_to f (omega arith) (omega arith) (omega arith)))) (λ a g.
     reads text things ((key.0, a.0), a.1) g))
 
 entries_good : (i j k : ℕ) (op : Option ℕ) (properties : Entries) (s : Typed) → Has text things (i + 1) j k s → Good text things (i + 1) j k (entries_at op properties s)

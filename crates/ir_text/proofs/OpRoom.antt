@@ -17,9 +17,8 @@ use Rattle.ir_tree.specs.Tree.{Op, Region}
 use Rattle.ir_text_types.specs.Marks.{after}
 use Rattle.ir_text_types.specs.Outcomes.{Outcome, Read, Wrong, Full, ◌>>=◌, interned, Parse}
 use Rattle.ir_text_types.specs.Typed.{Typed, after_typed, name_step}
-use Rattle.ir_text_types.specs.TypeReading.{type_at, function_type_at}
 use Rattle.ir_text_operations.specs.names.declared.bound.Bound.{Bound}
-use Rattle.ir_text_operations.specs.names.BlockReading.{bind, results_of, bind_results, finish, arg_at, args_at, label_args_from, some_args_at, label_args_at, head_from, head_at}
+use Rattle.ir_text_operations.specs.names.BlockReading.{bind, type_here, results_of, bind_results, finish, arg_at, args_at, label_args_from, some_args_at, label_args_at, head_from, head_at}
 use Rattle.ir_text_operations.specs.names.NameReading.{value_name_at}
 use Rattle.ir_text_operations.specs.names.Packs.{Counted, counts}
 use Rattle.ir_text_operations.specs.names.States.{State, to_bytes, after_in, typed, with_typed, with_scopes, inside, outside}
@@ -27,7 +26,7 @@ use Rattle.ir_text_operations.specs.attributes.AttrReading.{Entries}
 use Rattle.ir_text_operations.specs.EntryReading.{properties_at, attributes_at}
 use Rattle.ir_text_operations.specs.FrontReading.{Frees, Start, start_at}
 use Rattle.ir_text_operations.specs.Made.{region_of}
-use Rattle.ir_text_operations.specs.OpReading.{ops_from, ops_at, region_at, regions_from, regions_at, bound_types, op_of, tail_at, begun, op_with, op_at}
+use Rattle.ir_text_operations.specs.OpReading.{ops_from, ops_at, region_at, regions_from, regions_at, bound_types, op_of, signature_here, tail_at, begun, op_with, op_at}
 use Rattle.ir_text.specs.Room.{Fits}
 use Rattle.ir_text.proofs.Lengths.{gain}
 use Rattle.ir_text.proofs.Fits.{fits_to, after_length, Has, Good, wrong, reads, good_then, good_into, good_some, good_quiet, more_good, list_good, text, things}
@@ -90,7 +89,7 @@ unfolding arg_at
 argument_good i j k id r before s h =
     good_into same (λ b. s.things) left known (value_name_at s.bytes) _ (name_at_good s.things i j k s.bytes h) (λ n f.
     good_some left known (after_in Colon (to_bytes s n.1)) _ (λ c e.
-    good_into text things left known (type_at 32 (typed c)) _ (type_good 32 (i + 1) (j + 1) (k + 1) (typed c) (mark_goes Colon refl i j k (to_bytes s n.1) c e f)) (λ y g.
+    good_into text things left known (type_here 32 (typed c)) _ (type_good c.things.opaque 32 (i + 1) (j + 1) (k + 1) (typed c) (mark_goes Colon refl i j k (to_bytes s n.1) c e f)) (λ y g.
     good_quiet left known (bind n.0 ((record { value = values.Arg id r (length before); ty = y.0 }) ∷ []) (to_bytes s n.1).scopes) _ (bind_quiet n.0 ((record { value = values.Arg id r (length before); ty = y.0 }) ∷ []) (to_bytes s n.1).scopes) (λ scopes m.
     reads left known (y.0, with_scopes (with_typed (to_bytes s n.1) y.1) scopes) (fits_to g (omega arith) (omega arith) (omega arith))))))
 
@@ -152,7 +151,7 @@ unfolding tail_at
 tail_good i j k id name start properties regions s h =
     good_into text things left known (attributes_at name properties (typed s)) _ (attributes_good i j k name properties (typed s) h) (λ e f.
     good_some left known (after_typed Colon e.1) _ (λ c m.
-    good_into text things left known (function_type_at c) _ (function_type_good i j k c (fits_to (mark_fits Colon refl i j k e.1 c m f) (omega arith) (omega arith) (omega arith))) (λ t g.
+    good_into text things left known (signature_here c) _ (function_type_good c.1.opaque i j k c (fits_to (mark_fits Colon refl i j k e.1 c m f) (omega arith) (omega arith) (omega arith))) (λ t g.
     good_quiet left known (if bytes_eq (bound_types start.operands) t.0.0 then finish id start.results t.0.1 s.scopes else Wrong) _ (by t (bytes_eq (bound_types start.operands) t.0.0)) (λ scopes n.
     reads left known (op_of t.1.1 id name start.operands properties e.0 t.0.1 regions, with_scopes (with_typed s t.1) scopes) g))))
   where

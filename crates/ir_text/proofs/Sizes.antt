@@ -1,6 +1,6 @@
 -- How large types and attributes are, by which the printer's recursions end.
 use Rattle.std.proofs.Common.{◌≡◌, ℕ, zero, suc, ◌+◌, ◌<◌, List, [], ◌∷◌, length, get_or, arith}
-use Rattle.ir_types.specs.Terms.{attr_at, entries_at, TypeTerm, Integer, Index, Function, Memref, TypeTerms, no_types, next_type, AttrTerm, Array, Dictionary, AttrTerms, no_attrs, next_attr, EntryTerms, no_entries, next_entry}
+use Rattle.ir_types.specs.Terms.{attr_at, entries_at, TypeTerm, Integer, Index, Function, Memref, OpaqueType, TypeTerms, no_types, next_type, AttrTerm, Array, Dictionary, AttrTerms, no_attrs, next_attr, EntryTerms, no_entries, next_entry}
 
 abbrev mutual
   pub type_size : TypeTerm → ℕ
@@ -8,6 +8,7 @@ abbrev mutual
   type_size Index = 1
   type_size (Function inputs outputs) = types_size inputs + types_size outputs + 2
   type_size (Memref dims elem) = type_size elem + 1
+  type_size (OpaqueType text) = 1
 
   pub types_size : TypeTerms → ℕ
   types_size no_types = 0

@@ -13,9 +13,9 @@ use Rattle.ir_text_operations.specs.Claims.{IsOnly, IsNone, IsBody, IsSource}
 use Rattle.ir_text_operations.specs.Spelling.{IsExplicit}
 use Rattle.ir_text_operations.proofs.Modules.{body_is_source}
 
-pub source_read : (bytes : List ℕ) (r : Result (Things × Op) ReadError) → IsNone (IsExplicit bytes) → IfOk r (λ x. IsOnly (IsBody bytes) x.0 x.1) → IfOk r (λ x. IsOnly (IsSource bytes) x.0 x.1)
-source_read bytes (Ok x) none h = body_is_source bytes x.0 x.1 none h
-source_read bytes (Err e) none h = tt
+pub source_read : (o : Bool) (bytes : List ℕ) (r : Result (Things × Op) ReadError) → IsNone (IsExplicit o bytes) → IfOk r (λ x. IsOnly (IsBody o bytes) x.0 x.1) → IfOk r (λ x. IsOnly (IsSource o bytes) x.0 x.1)
+source_read o bytes (Ok x) none h = body_is_source o bytes x.0 x.1 none h
+source_read o bytes (Err e) none h = tt
 
 -- a text that is not refused is within its limit
 pub within_limit : (bytes : List ℕ) → None ≡ text_reason bytes → length bytes ≤ 16777216

@@ -96,6 +96,7 @@ fault_apart y other e = by_size y e
     by_size (terms.Memref dims elem) e = by_shape (type_depth (terms.Memref dims elem)) (list_all is_dimension dims) e
     by_size terms.Index e = by_depth (nat_le 1 32) e
     by_size (terms.Function inputs outputs) e = by_depth (nat_le (type_depth (terms.Function inputs outputs)) 32) e
+    by_size (terms.OpaqueType text) e = by_depth (nat_le 1 32) e
 
 type_not_full : (i j k : ℕ) (node : TypeNode) (b : List ℕ) (c : Things) → Fits i (j + 1) k b c → type_reason node c ≡ Some TooMany → ⊥
 type_not_full i j k node b c h e = let f = full_count (same_type node) c.types (fault_apart (type_node_term c node) (full_reason (same_type node) c.types) e) in omega (arith, h.types, f)

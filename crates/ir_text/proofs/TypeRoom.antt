@@ -1,17 +1,20 @@
 -- Types that are read fit: a type takes a byte or more of its text beside those that its number stands for.
 use Rattle.std.proofs.Common.{◌≡◌, ◌≤◌, ◌+◌, ℕ, zero, suc, Bool, true, false, List, [], ◌∷◌, ◌++◌, length, take, drop, Option, Some, None, refl, arith}
-use Rattle.std.specs.Prelude.{if◌then◌else◌, ◌==◌, option_map, option_and_then}
+use Rattle.std.specs.Prelude.{if◌then◌else◌, ◌==◌, ◌&&◌, option_map, option_and_then}
 use Rattle.std.specs.Char.{is_ascii_digit}
 use Rattle.std.specs.Str.{bytes_eq}
 use Rattle.ir_text_tokens.specs.declared.token.Mark.TheVariants.{OpenRound, CloseRound, Less, Greater, Arrow}
-use Rattle.ir_text_tokens.specs.Tokens.{Lexeme, bare, next, skip, digits_len}
-use Rattle.ir_types.specs.declared.node.TypeNode.TheVariants.{Func, Memref}
-use Rattle.ir_text_types.specs.Outcomes.{Read, ◌>>=◌, of_option, Parse}
+use Rattle.ir_text_tokens.specs.Tokens.{Lexeme, bare, bang, next, skip, digits_len}
+use Rattle.ir_types.specs.declared.node.TypeNode.TheVariants.{Func, Memref, Opaque}
+use Rattle.ir_types.specs.Things.{Things}
+use Rattle.ir_text_types.specs.Outcomes.{Read, Wrong, ◌>>=◌, of_option, Parse}
+use Rattle.ir_text_types.specs.OpaqueTypes.{is_opaque_word, word_text, dialect_text}
 use Rattle.ir_text_types.specs.Typed.{Typed, after_typed}
 use Rattle.ir_text_types.specs.Scalars.{scalar_of, memref_word}
 use Rattle.ir_text_types.specs.ShapeGrammar.{begins_dimension}
 use Rattle.ir_text_types.specs.ShapeReading.{cross_from, cross_at, crossed, size_of, sized, dimension_from, dimension_at, dimensions_at}
-use Rattle.ir_text_types.specs.TypeReading.{many, type_done, scalar_done, scalar_from, scalar_at, shape_at, memref_at, word_from, word_type_from, word_type_at, types_at, outputs_from, outputs_at, signature_at, function_at, type_from, type_at, function_type_at}
+use Rattle.ir_text_types.specs.TypeReading.{many, type_done, scalar_done, scalar_from, scalar_at, shape_at, opaque_done, element_at, memref_at, word_from, word_type_from, word_type_at, types_at, outputs_from, outputs_at, signature_at, function_at, type_from, type_at, function_type_at}
+use Rattle.ir_text_types.proofs.Shorter.{IsWithin, word_within, dialect_within}
 use Rattle.ir_text.specs.Room.{Fits}
 use Rattle.ir_text.proofs.Lengths.{skip_length, drop_less}
 use Rattle.ir_text.proofs.Fits.{fits_to, Has, Good, wrong, reads, good_then, good_some, list_good, text, things}
@@ -99,26 +102,48 @@ scalar_good i j k s h = good_some text things (next s.0) (λ t. scalar_from s.1 
     by (bare word) rest e = scalar_done_good (i + 1) j (k + 1) word (rest, s.1) (token_fits i j k s.0 rest s.1 (bare word) e h)
     by _ rest e = wrong text things
 
-memref_good : (i j k : ℕ) (s : Typed) → Has text things i j k s → Good text things i j k (memref_at s)
-unfolding memref_at
-memref_good i j k s h =
-    good_some text things (after_typed Less s) _ (λ a e.
-    good_then text things (shape_at a) _ (shape_good (i + 1) (j + 1) (k + 1) a (mark_fits Less refl i j k s a e h)) (λ dims d.
-    good_then text things (scalar_at dims.1) _ (scalar_good (i + 1) (j + 1) (k + 1) dims.1 d) (λ elem m.
-    good_some text things (after_typed Greater elem.1) _ (λ c g.
-    type_done_good i j k (Memref dims.0 elem.0) c (let f = mark_fits Greater refl (i + 1 + 1) (j + 1) (k + 1 + 1) elem.1 c g m in fits_to f (omega arith) (omega arith) (omega arith))))))
+-- ---- types that begin with a word, or the name of a dialect
 
-word_type_good : (i j k : ℕ) (s : Typed) → Has text things i j k s → Good text things (i + 1) j (k + 1) (word_type_at s)
-unfolding word_type_at
-word_type_good i j k s h = good_some text things (next s.0) (λ t. word_type_from s.1 t.0 t.1) (λ t e. by t.0 t.1 e)
-  where
-    by_word : (p : Bool) (word rest : List ℕ) → Fits (i + 1) (j + 1) (k + 1) rest s.1 → Good text things (i + 1) j (k + 1) (word_from p word (rest, s.1))
-    by_word true word rest f = memref_good (i + 1) j (k + 1) (rest, s.1) (fits_to f (omega arith) (omega arith) (omega arith))
-    by_word false word rest f = scalar_done_good (i + 1) j (k + 1) word (rest, s.1) f
+opaque_done_good : (i j k : ℕ) (found : Option (List ℕ × List ℕ)) (bytes : List ℕ) (c : Things) → IsWithin (length bytes) found → Fits i (j + 1) k bytes c → Good text things i j k (opaque_done found c)
+opaque_done_good i j k None bytes c w h = wrong text things
+opaque_done_good i j k (Some x) bytes c w h = type_done_good i j k (Opaque x.0) (x.1, c) (fits_to h (omega (arith, w)) (omega (arith, w)) (omega (arith, w)))
 
-    by : (l : Lexeme) (rest : List ℕ) → next s.0 ≡ Some (l, rest) → Good text things (i + 1) j (k + 1) (word_type_from s.1 l rest)
-    by (bare word) rest e = by_word (bytes_eq word memref_word) word rest (token_fits i j k s.0 rest s.1 (bare word) e h)
-    by _ rest e = wrong text things
+module _ (o : Bool) where
+  module _ (m : Parse Typed ℕ) (inner : (i j k : ℕ) (s : Typed) → Has text things i j k s → Good text things i j k (m s)) where
+    word_type_good : (i j k : ℕ) (s : Typed) → Has text things i j k s → Good text things (i + 1) j (k + 1) (word_type_at o m s)
+    unfolding word_type_at
+    word_type_good i j k s h = good_some text things (next s.0) (λ t. word_type_from o m s.1 t.0 t.1) (λ t e. by t.0 t.1 e)
+      where
+        by_word : (b p : Bool) (word rest : List ℕ) → Fits (i + 1) (j + 1) (k + 1) rest s.1 → Good text things (i + 1) j (k + 1) (word_from m b p word rest s.1)
+        by_word true p word rest f = opaque_done_good (i + 1) j (k + 1) (word_text word rest) rest s.1 (word_within word rest (skip_length rest)) f
+        by_word false true word rest f = inner (i + 1) j (k + 1) (rest, s.1) (fits_to f (omega arith) (omega arith) (omega arith))
+        by_word false false word rest f = scalar_done_good (i + 1) j (k + 1) word (rest, s.1) f
+
+        by_name : (b : Bool) (name rest : List ℕ) → Fits (i + 1) (j + 1) (k + 1) rest s.1 → Good text things (i + 1) j (k + 1) (if b then opaque_done (dialect_text 33 name rest) s.1 else Wrong)
+        by_name true name rest f = opaque_done_good (i + 1) j (k + 1) (dialect_text 33 name rest) rest s.1 (dialect_within 33 name rest) f
+        by_name false name rest f = wrong text things
+
+        by : (l : Lexeme) (rest : List ℕ) → next s.0 ≡ Some (l, rest) → Good text things (i + 1) j (k + 1) (word_type_from o m s.1 l rest)
+        by (bare word) rest e = by_word (o && is_opaque_word word rest) (bytes_eq word memref_word) word rest (token_fits i j k s.0 rest s.1 (bare word) e h)
+        by (bang name) rest e = by_name o name rest (token_fits i j k s.0 rest s.1 (bang name) e h)
+        by _ rest e = wrong text things
+
+    element_good : (i j k : ℕ) (s : Typed) → Has text things i j k s → Good text things (i + 1) j (k + 1) (element_at o m s)
+    element_good i j k s h = by o
+      where
+        by : (b : Bool) → Good text things (i + 1) j (k + 1) (if b then word_type_at o m s else scalar_at s)
+        by true = word_type_good i j k s h
+        by false = scalar_good i j k s h
+
+  memref_good : (depth i j k : ℕ) (s : Typed) → Has text things i j k s → Good text things i j k (memref_at o depth s)
+  unfolding memref_at
+  memref_good zero i j k s h = wrong text things
+  memref_good (suc depth) i j k s h =
+      good_some text things (after_typed Less s) _ (λ a e.
+      good_then text things (shape_at a) _ (shape_good (i + 1) (j + 1) (k + 1) a (mark_fits Less refl i j k s a e h)) (λ dims d.
+      good_then text things (element_at o (memref_at o depth) dims.1) _ (element_good (memref_at o depth) (memref_good depth) (i + 1) (j + 1) (k + 1) dims.1 d) (λ elem m.
+      good_some text things (after_typed Greater elem.1) _ (λ c g.
+      type_done_good i j k (Memref dims.0 elem.0) c (let f = mark_fits Greater refl (i + 1 + 1) (j + 1) (k + 1 + 1) elem.1 c g m in fits_to f (omega arith) (omega arith) (omega arith))))))
 
 -- ---- function types
 
@@ -147,15 +172,15 @@ module _ (p : Parse Typed ℕ) (one : (i j k : ℕ) (s : Typed) → Has text thi
   unfolding function_at
   function_good i j k s h = good_then text things (signature_at p many s) _ (signature_good many i (j + 1) k s h) (λ x f. type_done_good i j k (Func x.0.0 x.0.1) x.1 f)
 
-pub type_good : (depth i j k : ℕ) (s : Typed) → Has text things i j k s → Good text things (i + 1) j (k + 1) (type_at depth s)
+pub type_good : (o : Bool) (depth i j k : ℕ) (s : Typed) → Has text things i j k s → Good text things (i + 1) j (k + 1) (type_at o depth s)
 unfolding type_at
-type_good zero i j k s h = wrong text things
-type_good (suc depth) i j k s h = by (after_typed OpenRound s) refl (type_good depth)
+type_good o zero i j k s h = wrong text things
+type_good o (suc depth) i j k s h = by (after_typed OpenRound s) refl (type_good o depth)
   where
-    by : (o : Option Typed) → after_typed OpenRound s ≡ o → ((i j k : ℕ) (s : Typed) → Has text things i j k s → Good text things (i + 1) j (k + 1) (type_at depth s)) → Good text things (i + 1) j (k + 1) (type_from (type_at depth) s o)
-    by (Some c) e go = function_good (type_at depth) go (i + 1) j (k + 1) c (mark_fits OpenRound refl i j k s c e h)
-    by None e go = word_type_good i j k s h
+    by : (c : Option Typed) → after_typed OpenRound s ≡ c → ((i j k : ℕ) (s : Typed) → Has text things i j k s → Good text things (i + 1) j (k + 1) (type_at o depth s)) → Good text things (i + 1) j (k + 1) (type_from (type_at o depth) (word_type_at o (memref_at o (suc depth))) s c)
+    by (Some c) e go = function_good (type_at o depth) go (i + 1) j (k + 1) c (mark_fits OpenRound refl i j k s c e h)
+    by None e go = word_type_good o (memref_at o (suc depth)) (memref_good o (suc depth)) i j k s h
 
-pub function_type_good : (i j k : ℕ) (s : Typed) → Has text things i j k s → Good text things i j k (function_type_at s)
+pub function_type_good : (o : Bool) (i j k : ℕ) (s : Typed) → Has text things i j k s → Good text things i j k (function_type_at o s)
 unfolding function_type_at
-function_type_good i j k s h = good_some text things (after_typed OpenRound s) _ (λ c e. signature_good (type_at 32) (type_good 32) 256 i j k c (fits_to (mark_fits OpenRound refl i j k s c e h) (omega arith) (omega arith) (omega arith)))
+function_type_good o i j k s h = good_some text things (after_typed OpenRound s) _ (λ c e. signature_good (type_at o 32) (type_good o 32) 256 i j k c (fits_to (mark_fits OpenRound refl i j k s c e h) (omega arith) (omega arith) (omega arith)))

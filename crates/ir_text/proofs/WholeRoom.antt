@@ -1,5 +1,5 @@
 -- No text within its limit fills a new context.
-use Rattle.std.proofs.Common.{◌≡◌, ◌≤◌, ℕ, List, [], length, subst, ⊎_elim, arith}
+use Rattle.std.proofs.Common.{◌≡◌, ◌≤◌, ℕ, Bool, List, [], length, subst, ⊎_elim, arith}
 use Rattle.std.specs.Str.{bytes_eq}
 use Rattle.ir_text_tokens.specs.declared.token.Mark.{Mark}
 use Rattle.ir_text_tokens.specs.declared.token.Mark.TheVariants.{End}
@@ -32,22 +32,22 @@ kept bytes held i j k o x s e g = let h = (subst (Good bytes held i j k) e g).st
 
 -- ---- types
 
-pub type_room : (depth : ℕ) (c : Things) (bytes : List ℕ) → HasRoom bytes c → type_at depth (bytes, c) ≡ Full → ⊥
-type_room depth c bytes h e = never text things (type_at depth (bytes, c)) e (type_good depth 0 0 0 (bytes, c) h)
+pub type_room : (o : Bool) (depth : ℕ) (c : Things) (bytes : List ℕ) → HasRoom bytes c → type_at o depth (bytes, c) ≡ Full → ⊥
+type_room o depth c bytes h e = never text things (type_at o depth (bytes, c)) e (type_good o depth 0 0 0 (bytes, c) h)
 
-pub type_left : (depth n : ℕ) (c d : Things) (bytes rest : List ℕ) → HasRoom bytes c → type_at depth (bytes, c) ≡ Read (n, (rest, d)) → HasRoom rest d
-type_left depth n c d bytes rest h e = kept text things 1 0 1 (type_at depth (bytes, c)) n (rest, d) e (type_good depth 0 0 0 (bytes, c) h)
+pub type_left : (o : Bool) (depth n : ℕ) (c d : Things) (bytes rest : List ℕ) → HasRoom bytes c → type_at o depth (bytes, c) ≡ Read (n, (rest, d)) → HasRoom rest d
+type_left o depth n c d bytes rest h e = kept text things 1 0 1 (type_at o depth (bytes, c)) n (rest, d) e (type_good o depth 0 0 0 (bytes, c) h)
 
-pub function_type_room : (c : Things) (bytes : List ℕ) → HasRoom bytes c → function_type_at (bytes, c) ≡ Full → ⊥
-function_type_room c bytes h e = never text things (function_type_at (bytes, c)) e (function_type_good 0 0 0 (bytes, c) h)
+pub function_type_room : (o : Bool) (c : Things) (bytes : List ℕ) → HasRoom bytes c → function_type_at o (bytes, c) ≡ Full → ⊥
+function_type_room o c bytes h e = never text things (function_type_at o (bytes, c)) e (function_type_good o 0 0 0 (bytes, c) h)
 
 -- ---- attributes
 
-pub attr_room : (depth : ℕ) (c : Things) (bytes : List ℕ) → HasRoom bytes c → attr_at depth (bytes, c) ≡ Full → ⊥
-attr_room depth c bytes h e = never text things (attr_at depth (bytes, c)) e (attr_good depth 0 0 0 (bytes, c) h)
+pub attr_room : (o : Bool) (depth : ℕ) (c : Things) (bytes : List ℕ) → HasRoom bytes c → attr_at o depth (bytes, c) ≡ Full → ⊥
+attr_room o depth c bytes h e = never text things (attr_at o depth (bytes, c)) e (attr_good o depth 0 0 0 (bytes, c) h)
 
-pub attr_left : (depth n : ℕ) (c d : Things) (bytes rest : List ℕ) → HasRoom bytes c → attr_at depth (bytes, c) ≡ Read (n, (rest, d)) → HasRoom rest d
-attr_left depth n c d bytes rest h e = kept text things 0 0 0 (attr_at depth (bytes, c)) n (rest, d) e (attr_good depth 0 0 0 (bytes, c) h)
+pub attr_left : (o : Bool) (depth n : ℕ) (c d : Things) (bytes rest : List ℕ) → HasRoom bytes c → attr_at o depth (bytes, c) ≡ Read (n, (rest, d)) → HasRoom rest d
+attr_left o depth n c d bytes rest h e = kept text things 0 0 0 (attr_at o depth (bytes, c)) n (rest, d) e (attr_good o depth 0 0 0 (bytes, c) h)
 
 -- ---- operations
 
@@ -63,17 +63,17 @@ ops_room free close last depth first c bytes h e =
 
 -- ---- texts
 
-new_fits : (i : ℕ) (bytes : List ℕ) → i ≤ 2 → length bytes ≤ 16777216 → Fits i 0 0 bytes new_things
-new_fits i bytes few h = record { names = omega (arith, word_count, few, h); types = omega (arith, h); attrs = omega (arith, h) }
+new_fits : (o : Bool) (i : ℕ) (bytes : List ℕ) → i ≤ 2 → length bytes ≤ 16777216 → Fits i 0 0 bytes (new_things o)
+new_fits o i bytes few h = record { names = omega (arith, word_count, few, h); types = omega (arith, h); attrs = omega (arith, h) }
 
-no_name : name_step module_word new_things ≡ Full → ⊥
+no_name : (o : Bool) → name_step module_word (new_things o) ≡ Full → ⊥
 unfolding name_step
-no_name e = let f = full_count (bytes_eq module_word) words (full_interned (name_reason module_word new_things) (with_name module_word new_things) e) in omega (arith, word_count, f)
+no_name o e = let f = full_count (bytes_eq module_word) words (full_interned (name_reason module_word (new_things o)) (with_name module_word (new_things o)) e) in omega (arith, word_count, f)
 
-pub text_fits : (bytes : List ℕ) → length bytes ≤ 16777216 → Fills bytes → ⊥
-text_fits bytes h fills = ⊎_elim
-    (λ (r : RootFills bytes new_things). op_room (free_bound no_types) 1048576 129 0 new_things bytes (new_fits 0 bytes (omega arith) h) r)
+pub text_fits : (o : Bool) (bytes : List ℕ) → length bytes ≤ 16777216 → Fills o bytes → ⊥
+text_fits o bytes h fills = ⊎_elim
+    (λ (r : RootFills bytes (new_things o)). op_room (free_bound no_types) 1048576 129 0 (new_things o) bytes (new_fits o 0 bytes (omega arith) h) r)
     (⊎_elim
-    (⊎_elim no_name (λ (r : OpsFill 128 1 bytes (with_name module_word new_things).1). ops_room (free_bound no_types) End 1048576 128 1 (with_name module_word new_things).1 bytes (with_name_fits 0 0 0 module_word bytes new_things (new_fits 2 bytes (omega arith) h)) r))
-    (λ (r : OpsFill 129 0 bytes new_things). ops_room (free_bound no_types) End 1048576 129 0 new_things bytes (new_fits 0 bytes (omega arith) h) r))
+    (⊎_elim (no_name o) (λ (r : OpsFill 128 1 bytes (with_name module_word (new_things o)).1). ops_room (free_bound no_types) End 1048576 128 1 (with_name module_word (new_things o)).1 bytes (with_name_fits 0 0 0 module_word bytes (new_things o) (new_fits o 2 bytes (omega arith) h)) r))
+    (λ (r : OpsFill 129 0 bytes (new_things o)). ops_room (free_bound no_types) End 1048576 129 0 (new_things o) bytes (new_fits o 0 bytes (omega arith) h) r))
     fills

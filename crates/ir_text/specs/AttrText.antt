@@ -1,9 +1,9 @@
 -- How attributes are written.
-use Rattle.std.specs.Prelude.{ℕ, ℤ, pos, Bool, true, false, ◌==◌, if◌then◌else◌, List, [], ◌∷◌, ◌++◌, map, codes}
+use Rattle.std.specs.Prelude.{ℕ, ℤ, pos, Bool, true, false, ◌==◌, if◌then◌else◌, List, [], ◌∷◌, ◌++◌, map, codes, Option, None, Some}
 use Rattle.std.specs.Ordering.{int_eq}
 use Rattle.std.specs.Fmt.{signed_decimal}
 use Rattle.ir_types.specs.declared.node.Sign.TheVariants.{Signless}
-use Rattle.ir_types.specs.Terms.{TypeTerm, Integer, AttrTerm, IntegerOf, String, TypeOf, Flag, Array, Dictionary, Symbol, DenseArray, Overflow, AttrTerms, no_attrs, next_attr, EntryTerms, no_entries, next_entry}
+use Rattle.ir_types.specs.Terms.{TypeTerm, Integer, AttrTerm, IntegerOf, String, TypeOf, Flag, Array, Dictionary, Symbol, DenseArray, Overflow, OpaqueOf, AttrTerms, no_attrs, next_attr, EntryTerms, no_entries, next_entry}
 use Rattle.ir_types.specs.Readings.{reading_of}
 use Rattle.ir_text.specs.Rows.{parted}
 use Rattle.ir_text_tokens.specs.Printing.{string_text, key_text}
@@ -46,6 +46,11 @@ flags_text true false = codes "nsw"
 flags_text false true = codes "nuw"
 flags_text true true = codes "nsw, nuw"
 
+-- an opaque attribute: its text and, where there is one, its type
+abbrev pub opaque_text : List ℕ → Option TypeTerm → List ℕ
+opaque_text text None = text
+opaque_text text (Some ty) = text ++ (codes " : " ++ type_text ty)
+
 -- whether an attribute is `unit`
 abbrev pub is_flag : AttrTerm → Bool
 is_flag Flag = true
@@ -71,6 +76,7 @@ abbrev mutual
   attr_text (Symbol parts) = parted (codes "::") true (map part_text parts)
   attr_text (DenseArray elem zs) = dense_text elem zs
   attr_text (Overflow nsw nuw) = codes "#arith.overflow<" ++ (flags_text nsw nuw ++ codes ">")
+  attr_text (OpaqueOf text ty) = opaque_text text ty
 
   pub attr_texts : AttrTerms → List (List ℕ)
   attr_texts no_attrs = []

@@ -3,7 +3,7 @@ use Rattle.std.specs.Prelude.{ℕ, Bool, true, false, not, if◌then◌else◌, 
 use Rattle.std.specs.Fmt.{decimal}
 use Rattle.ir_types.specs.declared.node.Sign.{Sign}
 use Rattle.ir_types.specs.declared.node.Sign.TheVariants.{Signless, Signed, Unsigned}
-use Rattle.ir_types.specs.Terms.{TypeTerm, Integer, Index, Function, Memref, TypeTerms, no_types, next_type}
+use Rattle.ir_types.specs.Terms.{TypeTerm, Integer, Index, Function, Memref, OpaqueType, TypeTerms, no_types, next_type}
 use Rattle.ir_text.specs.Rows.{parted}
 
 -- what stands in front of an integer type's width
@@ -42,6 +42,7 @@ abbrev mutual
   type_text Index = codes "index"
   type_text (Function inputs outputs) = in_round (type_texts inputs) ++ (codes " -> " ++ outputs_text (is_lone outputs) (type_texts outputs))
   type_text (Memref dims elem) = codes "memref<" ++ (flat_map dimension_text dims ++ (type_text elem ++ codes ">"))
+  type_text (OpaqueType text) = text
 
   pub type_texts : TypeTerms → List (List ℕ)
   type_texts no_types = []

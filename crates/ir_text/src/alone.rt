@@ -15,23 +15,29 @@ use ir_types::context::Context;
 use std::alloc::Global;
 
 /// A context with nothing but the words of the operation table, which hashes with a key.
-fn new_context(alloc: Global, key: u64) -> Result<Context, ReadError>
-    ensures ok { IfOk result (λ c. c ≡ new_things) }
+fn new_context(alloc: Global, key: u64, opaque: bool) -> Result<Context, ReadError>
+    ensures ok { IfOk result (λ c. c ≡ new_things opaque) }
     ensures err { IfErr result (λ e. e ≡ ReadError.Memory) }
 {
-    match Context::keyed(alloc, key) {
+    match Context::in_mode(alloc, key, opaque) {
         Ok(ctx) => Ok(ctx),
         Err(_) => Err(ReadError::Memory),
     }
 }
 
 /// The root, where the text is one module without operands and results.
-fn root_alone(alloc: Global, key: u64, bytes: &[u8]) -> Result<(Context, Root), ReadError>
-    ensures ok { IfOk result (λ x. IsRootOrNone bytes.now x.0 x.1) }
+fn root_alone(
+    alloc: Global,
+    key: u64,
+    opaque: bool,
+    bytes: &[u8],
+) -> Result<(Context, Root), ReadError>
+    ensures ok { IfOk result (λ x. IsRootOrNone opaque bytes.now x.0 x.1) }
+    ensures mode { IfOk result (λ x. x.0.opaque ≡ opaque) }
     ensures err { (f : TextFault) → result ≡ Err (ReadError.Refused f) → ⊥ }
-    ensures full { (left : ℕ) → result ≡ Err (ReadError.Full left) → RootFills bytes.now new_things }
+    ensures full { (left : ℕ) → result ≡ Err (ReadError.Full left) → RootFills bytes.now (new_things opaque) }
 {
-    let mut ctx = match new_context(alloc, key) {
+    let mut ctx = match new_context(alloc, key, opaque) {
         Ok(ctx) => ctx,
         Err(_) => return Err(ReadError::Memory),
     };
@@ -42,12 +48,18 @@ fn root_alone(alloc: Global, key: u64, bytes: &[u8]) -> Result<(Context, Root), 
 }
 
 /// An implicit root of the operations of a text.
-fn body_alone(alloc: Global, key: u64, bytes: &[u8]) -> Result<(Context, TreeOp), ReadError>
-    ensures read { IfOk result (λ x. IsOnly (IsBody bytes.now) x.0 x.1) }
-    ensures refused { (f : TextFault) → result ≡ Err (ReadError.Refused f) → IsNone (IsBody bytes.now) }
-    ensures full { (left : ℕ) → result ≡ Err (ReadError.Full left) → BodyFills bytes.now new_things }
+fn body_alone(
+    alloc: Global,
+    key: u64,
+    opaque: bool,
+    bytes: &[u8],
+) -> Result<(Context, TreeOp), ReadError>
+    ensures read { IfOk result (λ x. IsOnly (IsBody opaque bytes.now) x.0 x.1) }
+    ensures mode { IfOk result (λ x. x.0.opaque ≡ opaque) }
+    ensures refused { (f : TextFault) → result ≡ Err (ReadError.Refused f) → IsNone (IsBody opaque bytes.now) }
+    ensures full { (left : ℕ) → result ≡ Err (ReadError.Full left) → BodyFills bytes.now (new_things opaque) }
 {
-    let mut ctx = match new_context(alloc, key) {
+    let mut ctx = match new_context(alloc, key, opaque) {
         Ok(ctx) => ctx,
         Err(_) => return Err(ReadError::Memory),
     };
@@ -58,10 +70,16 @@ fn body_alone(alloc: Global, key: u64, bytes: &[u8]) -> Result<(Context, TreeOp)
 }
 
 /// The fault of a text as it is written.
-fn fault_alone(alloc: Global, key: u64, bytes: &[u8], fault: Fault) -> Result<Fault, ReadError>
-    ensures { (left : ℕ) → result ≡ Err (ReadError.Full left) → OpsFill most_levels 0 bytes.now new_things }
+fn fault_alone(
+    alloc: Global,
+    key: u64,
+    opaque: bool,
+    bytes: &[u8],
+    fault: Fault,
+) -> Result<Fault, ReadError>
+    ensures { (left : ℕ) → result ≡ Err (ReadError.Full left) → OpsFill most_levels 0 bytes.now (new_things opaque) }
 {
-    let mut ctx = match new_context(alloc, key) {
+    let mut ctx = match new_context(alloc, key, opaque) {
         Ok(ctx) => ctx,
         Err(_) => return Err(ReadError::Memory),
     };
@@ -76,18 +94,20 @@ fn fault_alone(alloc: Global, key: u64, bytes: &[u8], fault: Fault) -> Result<Fa
 fn without_root(
     alloc: Global,
     key: u64,
+    opaque: bool,
     bytes: &[u8],
     other: Option<Fault>,
 ) -> Result<(Context, TreeOp), ReadError>
-    ensures read { IfOk result (λ x. IsOnly (IsBody bytes.now) x.0 x.1) }
-    ensures refused { (f : TextFault) → result ≡ Err (ReadError.Refused f) → IsNone (IsBody bytes.now) }
-    ensures full { (left : ℕ) → result ≡ Err (ReadError.Full left) → Fills bytes.now }
+    ensures read { IfOk result (λ x. IsOnly (IsBody opaque bytes.now) x.0 x.1) }
+    ensures mode { IfOk result (λ x. x.0.opaque ≡ opaque) }
+    ensures refused { (f : TextFault) → result ≡ Err (ReadError.Refused f) → IsNone (IsBody opaque bytes.now) }
+    ensures full { (left : ℕ) → result ≡ Err (ReadError.Full left) → Fills opaque bytes.now }
 {
-    match body_alone(alloc, key, bytes) {
+    match body_alone(alloc, key, opaque, bytes) {
         Ok(found) => Ok(found),
         Err(ReadError::Refused(fault)) => match other {
             Some(other) => Err(ReadError::Refused(other)),
-            None => match fault_alone(alloc, key, bytes, fault) {
+            None => match fault_alone(alloc, key, opaque, bytes, fault) {
                 Ok(fault) => Err(ReadError::Refused(fault)),
                 Err(e) => Err(e),
             },
@@ -97,18 +117,24 @@ fn without_root(
 }
 
 /// The tree of a text, before its limits are looked at.
-fn source_alone(alloc: Global, key: u64, bytes: &[u8]) -> Result<(Context, TreeOp), ReadError>
-    ensures read { IfOk result (λ x. IsOnly (IsSource bytes.now) x.0 x.1) }
-    ensures refused { (f : TextFault) → result ≡ Err (ReadError.Refused f) → IsNone (IsSource bytes.now) }
-    ensures full { (left : ℕ) → result ≡ Err (ReadError.Full left) → Fills bytes.now }
+fn source_alone(
+    alloc: Global,
+    key: u64,
+    opaque: bool,
+    bytes: &[u8],
+) -> Result<(Context, TreeOp), ReadError>
+    ensures read { IfOk result (λ x. IsOnly (IsSource opaque bytes.now) x.0 x.1) }
+    ensures mode { IfOk result (λ x. x.0.opaque ≡ opaque) }
+    ensures refused { (f : TextFault) → result ≡ Err (ReadError.Refused f) → IsNone (IsSource opaque bytes.now) }
+    ensures full { (left : ℕ) → result ≡ Err (ReadError.Full left) → Fills opaque bytes.now }
 {
-    let (ctx, root) = match root_alone(alloc, key, bytes) {
+    let (ctx, root) = match root_alone(alloc, key, opaque, bytes) {
         Ok(found) => found,
         Err(e) => return Err(e),
     };
     match root {
         Root::Is(tree) => Ok((ctx, tree)),
-        Root::Other(other) => without_root(alloc, key, bytes, other),
+        Root::Other(other) => without_root(alloc, key, opaque, bytes, other),
     }
 }
 
@@ -116,18 +142,20 @@ fn source_alone(alloc: Global, key: u64, bytes: &[u8]) -> Result<(Context, TreeO
 pub(crate) fn tree_alone(
     alloc: Global,
     key: u64,
+    opaque: bool,
     bytes: &[u8],
 ) -> Result<(Context, TreeOp), ReadError>
-    ensures read { IfOk result (λ x. IsOnly (Spells bytes.now) x.0 x.1) }
+    ensures read { IfOk result (λ x. IsOnly (Spells opaque bytes.now) x.0 x.1) }
+    ensures mode { IfOk result (λ x. x.0.opaque ≡ opaque) }
     ensures sound { IfOk result (λ x. IsSoundIn x.0 x.1) }
-    ensures refused { (f : TextFault) → result ≡ Err (ReadError.Refused f) → IsNone (Spells bytes.now) }
+    ensures refused { (f : TextFault) → result ≡ Err (ReadError.Refused f) → IsNone (Spells opaque bytes.now) }
     ensures room { (left : ℕ) → result ≡ Err (ReadError.Full left) → ⊥ }
 {
     match within_limits(bytes) {
         Ok(()) => {}
         Err(error) => return Err(error),
     }
-    let (ctx, tree) = match source_alone(alloc, key, bytes) {
+    let (ctx, tree) = match source_alone(alloc, key, opaque, bytes) {
         Ok(found) => found,
         Err(e) => return Err(e),
     };

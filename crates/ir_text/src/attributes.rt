@@ -1,11 +1,11 @@
 //! The text of attributes.
 ghost use Rattle.std.specs.Prelude.{◌≡◌, ◌<◌, ◌++◌, ℕ, OnOk, true, length, map, codes};
 ghost use Rattle.std.specs.List.{All};
-ghost use Rattle.ir_types.specs.Things.{IsName, IsType, IsAttr};
+ghost use Rattle.ir_types.specs.Things.{IsName, IsType, IsAttr, IsBelow};
 ghost use Rattle.ir_types.specs.Readings.{reading_of};
-ghost use Rattle.ir_types.specs.Terms.{name_term, type_term, attr_term, attr_terms, attrs_at, entries_at};
+ghost use Rattle.ir_types.specs.Terms.{name_term, type_term, type_terms, some_type_at, attr_term, attr_terms, attrs_at, entries_at};
 ghost use Rattle.ir_text.specs.Rows.{parted};
-ghost use Rattle.ir_text.specs.AttrText.{is_truth, truth_text, number_text, integer_text, items_text, dense_text, part_text, flags_text, is_flag, entry_text, in_curly, attr_text, attr_texts, entry_texts};
+ghost use Rattle.ir_text.specs.AttrText.{is_truth, truth_text, number_text, integer_text, items_text, dense_text, part_text, flags_text, opaque_text, is_flag, entry_text, in_curly, attr_text, attr_texts, entry_texts};
 
 use crate::between::put_between;
 use crate::numbers::{put_reading, put_signed};
@@ -38,6 +38,7 @@ fn is_truth(ctx: &Context, id: TypeId) -> bool
         TypeNode::Index => false,
         TypeNode::Func { .. } => false,
         TypeNode::Memref { .. } => false,
+        TypeNode::Opaque(_) => false,
     }
 }
 
@@ -160,6 +161,26 @@ fn put_flags(out: &mut Vec<u8>, nsw: bool, nuw: bool) -> Result<(), AllocError>
     out.extend_from_slice(b">")
 }
 
+/// Appends an opaque attribute: its text and, where it has one, its type.
+fn put_opaque(
+    ctx: &Context,
+    out: &mut Vec<u8>,
+    text: &[u8],
+    ty: &Option<TypeId>,
+) -> Result<(), AllocError>
+    requires { IsBelow (length ctx.now.types) ty.now }
+    ensures { OnOk result (out.new.items ≡ out.old.items ++ opaque_text text.now (some_type_at (type_terms ctx.now) ty.now)) }
+{
+    out.extend_from_slice(text)?;
+    match ty {
+        None => Ok(()),
+        Some(ty) => {
+            out.extend_from_slice(b" : ")?;
+            put_type(ctx, out, *ty)
+        }
+    }
+}
+
 fn is_flag(ctx: &Context, id: AttrId) -> bool
     requires { IsAttr ctx.now id }
     ensures { result ≡ is_flag (attr_term ctx.now id) }
@@ -187,6 +208,7 @@ pub fn put_attr(ctx: &Context, out: &mut Vec<u8>, id: AttrId) -> Result<(), Allo
         AttrNode::Sym(parts) => put_symbol(ctx, out, parts.as_slice()),
         AttrNode::Dense { elem, values } => put_dense(ctx, out, *elem, values.as_slice()),
         AttrNode::Overflow { nsw, nuw } => put_flags(out, *nsw, *nuw),
+        AttrNode::Opaque { text, ty } => put_opaque(ctx, out, text.as_slice(), ty),
     }
 }
 

@@ -34,9 +34,9 @@ use std::alloc::Global;
 /// `MultipleBlocks`, `Successors`, `TooDeep`, `TooMany`, `DuplicateKey`, `LeftOut`, `NotUtf8`. `Full` is answered
 /// where the context grew full, and `Memory` where there is none.
 pub fn read(alloc: Global, ctx: &mut Context, bytes: &[u8]) -> Result<TreeOp, ReadError>
-    ensures read { IfOk result (λ t. IsOnly (Spells bytes.now) ctx.new t) }
+    ensures read { IfOk result (λ t. IsOnly (Spells ctx.old.opaque bytes.now) ctx.new t) }
     ensures sound { IfOk result (λ t. IsSoundIn ctx.new t) }
-    ensures refused { (r : Refusal) (o : ℕ) → result ≡ Err (ReadError.Refused r o) → IsNone (Spells bytes.now) }
+    ensures refused { (r : Refusal) (o : ℕ) → result ≡ Err (ReadError.Refused r o) → IsNone (Spells ctx.old.opaque bytes.now) }
     ensures told { IfErr result (λ e. IsTold bytes.now e) }
     ensures grows { Grows ctx.old ctx.new }
     ensures full { (o : ℕ) → result ≡ Err (ReadError.Full o) → IsFull ctx.new }
@@ -50,18 +50,25 @@ pub fn read(alloc: Global, ctx: &mut Context, bytes: &[u8]) -> Result<TreeOp, Re
 /// The tree that a text spells, numbered from 0 in pre-order, and a context that holds what it names. A text
 /// that is one `builtin.module` without operands and results has it as its root; any other is the body of an
 /// implicit root. The context hashes with a key, on which no answer depends; to whoever writes the text it is to be
-/// unknown, so that no text has names that collide.
+/// unknown, so that no text has names that collide. `opaque` says whether types and attributes that aren't known are
+/// read as opaque ones, here and in whatever is read into the context from then on.
 ///
 /// Refusals: those of reading into a context that is there. `Full` is none of them: no text within its limit
 /// fills a new context.
-pub fn read_new(alloc: Global, key: u64, bytes: &[u8]) -> Result<(Context, TreeOp), ReadError>
-    ensures read { IfOk result (λ x. IsOnly (Spells bytes.now) x.0 x.1) }
+pub fn read_new(
+    alloc: Global,
+    key: u64,
+    opaque: bool,
+    bytes: &[u8],
+) -> Result<(Context, TreeOp), ReadError>
+    ensures read { IfOk result (λ x. IsOnly (Spells opaque bytes.now) x.0 x.1) }
     ensures sound { IfOk result (λ x. IsSoundIn x.0 x.1) }
-    ensures refused { (r : Refusal) (o : ℕ) → result ≡ Err (ReadError.Refused r o) → IsNone (Spells bytes.now) }
+    ensures mode { IfOk result (λ x. x.0.opaque ≡ opaque) }
+    ensures refused { (r : Refusal) (o : ℕ) → result ≡ Err (ReadError.Refused r o) → IsNone (Spells opaque bytes.now) }
     ensures told { IfErr result (λ e. IsTold bytes.now e) }
     ensures room { (o : ℕ) → result ≡ Err (ReadError.Full o) → ⊥ }
 {
-    match tree_alone(alloc, key, bytes) {
+    match tree_alone(alloc, key, opaque, bytes) {
         Ok(found) => Ok(found),
         Err(e) => Err(ReadError::at(e, bytes)),
     }
@@ -81,9 +88,9 @@ pub fn read_op<O: Outer>(
     outer: &O,
 ) -> Result<TreeOp, ReadError>
     requires { (v : TreeValue) → IfSome (O.types outer.now v) (λ ty. IsType ctx.old ty) }
-    ensures read { IfOk result (λ t. IsOnly (SpellsOp (free_term (O.types outer.now) ctx.old) (O.next outer.now) bytes.now) ctx.new t) }
+    ensures read { IfOk result (λ t. IsOnly (SpellsOp ctx.old.opaque (free_term (O.types outer.now) ctx.old) (O.next outer.now) bytes.now) ctx.new t) }
     ensures sound { IfOk result (λ t. IsSoundIn ctx.new t) }
-    ensures refused { (r : Refusal) (o : ℕ) → result ≡ Err (ReadError.Refused r o) → IsNone (SpellsOp (free_term (O.types outer.now) ctx.old) (O.next outer.now) bytes.now) }
+    ensures refused { (r : Refusal) (o : ℕ) → result ≡ Err (ReadError.Refused r o) → IsNone (SpellsOp ctx.old.opaque (free_term (O.types outer.now) ctx.old) (O.next outer.now) bytes.now) }
     ensures told { IfErr result (λ e. IsOpTold bytes.now e) }
     ensures grows { Grows ctx.old ctx.new }
     ensures full { (o : ℕ) → result ≡ Err (ReadError.Full o) → IsFull ctx.new }
@@ -105,13 +112,14 @@ pub fn read_op<O: Outer>(
 /// Refusals: `TooMany` for a text over its limit, and `NotUtf8`; those of attributes; `Unexpected` for a token
 /// behind the attribute. `Full` is answered where the context grew full, and `Memory` where there is none.
 pub fn parse_attr(alloc: Global, ctx: &mut Context, bytes: &[u8]) -> Result<AttrId, ReadError>
-    ensures read { IfOk result (λ n. IsOnlyAttr (SpellsAttr bytes.now) ctx.new n) }
+    ensures read { IfOk result (λ n. IsOnlyAttr (SpellsAttr ctx.old.opaque bytes.now) ctx.new n) }
     ensures grows { Grows ctx.old ctx.new }
-    ensures refused { (r : Refusal) (o : ℕ) → result ≡ Err (ReadError.Refused r o) → IsNoAttr (SpellsAttr bytes.now) }
+    ensures refused { (r : Refusal) (o : ℕ) → result ≡ Err (ReadError.Refused r o) → IsNoAttr (SpellsAttr ctx.old.opaque bytes.now) }
     ensures told { IfErr result (λ e. IsTold bytes.now e) }
     ensures full { (o : ℕ) → result ≡ Err (ReadError.Full o) → IsFull ctx.new }
 {
-    match attributes::parse_attr(alloc, ctx, bytes) {
+    let opaque = ctx.is_opaque();
+    match attributes::parse_attr(alloc, ctx, bytes, opaque) {
         Ok(id) => Ok(id),
         Err(e) => Err(ReadError::at(e, bytes)),
     }

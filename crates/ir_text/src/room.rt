@@ -1,6 +1,6 @@
 //! Laws: reading fills no context that has room for the text. A context is given by what it holds, and a
 //! reading by its definition, which the contracts of the functions that read name.
-ghost use Rattle.std.specs.Prelude.{◌≡◌, ◌≤◌, ℕ, List, [], length};
+ghost use Rattle.std.specs.Prelude.{◌≡◌, ◌≤◌, ℕ, Bool, List, [], length};
 ghost use Rattle.ir_types.specs.Things.{Things};
 ghost use Rattle.ir_tree.specs.Limits.{most_ops};
 ghost use Rattle.ir_tree.specs.Tree.{Op};
@@ -18,15 +18,15 @@ ghost use Rattle.ir_text.specs.Room.{HasRoom};
 /// Where a context has room for a text, reading a type of it doesn't fill the context; and then there is room
 /// for what is left. So it is with function types.
 pub fn types_fit()
-    ensures room { (depth : ℕ) (c : Things) (bytes : List ℕ) → HasRoom bytes c → type_at depth (bytes, c) ≡ Full → ⊥ }
-    ensures left { (depth n : ℕ) (c d : Things) (bytes rest : List ℕ) → HasRoom bytes c → type_at depth (bytes, c) ≡ Read (n, (rest, d)) → HasRoom rest d }
-    ensures function { (c : Things) (bytes : List ℕ) → HasRoom bytes c → function_type_at (bytes, c) ≡ Full → ⊥ }
+    ensures room { (o : Bool) (depth : ℕ) (c : Things) (bytes : List ℕ) → HasRoom bytes c → type_at o depth (bytes, c) ≡ Full → ⊥ }
+    ensures left { (o : Bool) (depth n : ℕ) (c d : Things) (bytes rest : List ℕ) → HasRoom bytes c → type_at o depth (bytes, c) ≡ Read (n, (rest, d)) → HasRoom rest d }
+    ensures function { (o : Bool) (c : Things) (bytes : List ℕ) → HasRoom bytes c → function_type_at o (bytes, c) ≡ Full → ⊥ }
 {}
 
 /// So it is with attributes.
 pub fn attributes_fit()
-    ensures room { (depth : ℕ) (c : Things) (bytes : List ℕ) → HasRoom bytes c → attr_at depth (bytes, c) ≡ Full → ⊥ }
-    ensures left { (depth n : ℕ) (c d : Things) (bytes rest : List ℕ) → HasRoom bytes c → attr_at depth (bytes, c) ≡ Read (n, (rest, d)) → HasRoom rest d }
+    ensures room { (o : Bool) (depth : ℕ) (c : Things) (bytes : List ℕ) → HasRoom bytes c → attr_at o depth (bytes, c) ≡ Full → ⊥ }
+    ensures left { (o : Bool) (depth n : ℕ) (c d : Things) (bytes rest : List ℕ) → HasRoom bytes c → attr_at o depth (bytes, c) ≡ Read (n, (rest, d)) → HasRoom rest d }
 {}
 
 /// And with operations, one or all up to a mark.
@@ -38,5 +38,5 @@ pub fn operations_fit()
 
 /// A text within its limit fills no new context.
 pub fn texts_fit()
-    ensures { (bytes : List ℕ) → length bytes ≤ most_bytes → Fills bytes → ⊥ }
+    ensures { (o : Bool) (bytes : List ℕ) → length bytes ≤ most_bytes → Fills o bytes → ⊥ }
 {}

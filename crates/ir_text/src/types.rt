@@ -94,6 +94,7 @@ pub fn put_type(ctx: &Context, out: &mut Vec<u8>, id: TypeId) -> Result<(), Allo
             put_type(ctx, out, *elem)?;
             out.extend_from_slice(b">")
         }
+        TypeNode::Opaque(text) => out.extend_from_slice(text.as_slice()),
     }
 }
 

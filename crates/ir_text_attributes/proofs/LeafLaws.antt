@@ -1,32 +1,36 @@
 -- Attributes of one token, literals and flags: those that are read are spelled, and those that are
 -- spelled are read.
+use Rattle.std.specs.Prelude.{◌&&◌, if◌then◌else◌}
 use Rattle.std.specs.Str.{bytes_eq}
-use Rattle.std.proofs.Common.{◌≡◌, ℕ, Bool, true, false, List, [], ◌∷◌, Some, None, refl, sym, ap, subst, ◌∙◌, ◌⊎◌, inl, inr}
+use Rattle.std.proofs.Common.{◌≡◌, ℕ, Bool, true, false, List, [], ◌∷◌, Option, Some, None, refl, sym, ap, subst, ◌∙◌, ◌⊎◌, inl, inr}
 use Rattle.ir_text_tokens.specs.declared.token.Mark.TheVariants.{Less, Greater, Colon}
 use Rattle.ir_text_tokens.specs.Strings.{string_bytes}
 use Rattle.ir_text_tokens.specs.Numbers.{integer_of, below_limit}
-use Rattle.ir_text_tokens.specs.Tokens.{Lexeme, integer, bare}
+use Rattle.ir_text_tokens.specs.Tokens.{Lexeme, integer, float, bare}
 use Rattle.ir_types.specs.declared.node.Sign.TheVariants.{Signless}
 use Rattle.ir_types.specs.declared.node.TypeNode.TheVariants as type
 use Rattle.ir_types.specs.declared.node.AttrNode.TheVariants as attr
 use Rattle.ir_types.specs.Things.{Things}
-use Rattle.ir_types.specs.Terms.{TypeTerm, Integer, AttrTerm, IntegerOf, String, TypeOf, Flag, Overflow}
+use Rattle.ir_types.specs.Terms.{TypeTerm, Integer, AttrTerm, IntegerOf, String, TypeOf, Flag, Overflow, OpaqueOf}
 use Rattle.ir_types.specs.Dictionaries.{kept}
 use Rattle.ir_types.specs.Readings.{literal_bits}
 use Rattle.ir_types.specs.Reasons.{type_fault}
 use Rattle.ir_text_attributes.specs.declared.flag.Flag as code
-use Rattle.ir_text_types.specs.Outcomes.{Read, ◌>>=◌, of_option, Parse}
+use Rattle.ir_text_types.specs.Outcomes.{Read, Wrong, ◌>>=◌, of_option, Parse}
 use Rattle.ir_text_types.specs.Typed.{Text, Typed, after_typed, name_step}
+use Rattle.ir_text_attributes.specs.declared.tail.Tail.{Tail}
+use Rattle.ir_text_attributes.specs.declared.tail.Tail.TheVariants.{SomeType, TypeOrNone, OpaqueOrNone, NoType}
+use Rattle.ir_text_attributes.specs.OpaqueAttributes.{quoted_text, signed_text, is_hexadecimal, is_opaque_type}
 use Rattle.ir_text_attributes.specs.Literals.{truth_bits, none_word, flag_of, has_nsw, has_nuw}
 use Rattle.ir_text_types.specs.TypeReading.{many, type_done, type_at}
-use Rattle.ir_text_attributes.specs.AttrReading.{attr_done, truth_at, string_attr_at, type_attr_at, suffix_from, suffix_at, literal_done, literal_at, negative_from, negative_at, flag_from, flag_at, some_flags_at, no_flags_at, flags_from, flags_at, overflow_at}
-use Rattle.ir_text_types.specs.Grammars.{Grammar, Then, Done, After, IsMore, IsMark, Token}
+use Rattle.ir_text_attributes.specs.AttrReading.{attr_done, truth_at, string_attr_at, type_attr_at, suffix_from, suffix_at, literal_of, literal_done, literal_at, typed_at, opaque_of, opaque_typed_done, opaque_typed_at, colon_from, tail_at, kept_at, string_at, negative_from, negative_at, flag_from, flag_at, some_flags_at, no_flags_at, flags_from, flags_at, overflow_at}
+use Rattle.ir_text_types.specs.Grammars.{Grammar, Then, Done, When, After, Either, IsMore, IsMark, Token}
 use Rattle.ir_text_types.specs.TypeGrammar.{IsType}
-use Rattle.ir_text_attributes.specs.AttrGrammar.{IsFine, IsTypeAttr, IsSuffix, IsLiteralOf, IsLiteral, IsNegative, IsFlag, IsFlags, IsOverflow}
+use Rattle.ir_text_attributes.specs.AttrGrammar.{IsFine, IsTypeAttr, IsSuffix, IsIntegerOf, IsLiteralOf, IsLiteral, IsTyped, IsOpaqueTyped, IsTail, IsKept, IsString, IsNegativeFrom, IsNegative, IsFlag, IsFlags, IsOverflow}
 use Rattle.ir_text_types.specs.Worlds.{From}
 use Rattle.ir_text_types.specs.Standing.{NameStands, TypeStands, AttrStands}
 use Rattle.ir_text_types.specs.Laws.{Each}
-use Rattle.ir_text_types.proofs.Worlds.{bind_assoc, Exact, exact_where, exact_spelled, exact_for, nothing_exact, choice_exact, some_exact, then_exact, done_exact, after_exact, either_exact, more_exact}
+use Rattle.ir_text_types.proofs.Worlds.{bind_assoc, Exact, exact_where, exact_spelled, exact_for, nothing_exact, choice_exact, guard_exact, some_exact, then_exact, done_exact, after_exact, either_exact, more_exact}
 use Rattle.ir_text_types.proofs.TextLaws.{things, Same, typed_marks}
 use Rattle.ir_text_types.proofs.TokenLaws.{behind_exact, token_exact}
 use Rattle.ir_text_types.proofs.TypeLaws.{type_done_exact, type_exact}
@@ -76,55 +80,111 @@ truth_exact b c =
     (then_exact things Same c TypeStands AttrStands (type_done (type.Int Signless 1)) (Done (Integer Signless 1)) (λ t. attr_done (attr.Int t (truth_bits b))) (λ y. IsFine (IntegerOf y (truth_bits b))) (signless_exact 1 refl c) (λ d t y g r.
     attr_done_exact d (attr.Int t (truth_bits b)) (IntegerOf y (truth_bits b)) (refl, refl) (λ z k w. integer_node (truth_bits b) z t y (r z k w))))
 
-pub type_attr_exact : (depth : ℕ) (c : Things) → Exact things Same c AttrStands (type_attr_at depth) (IsTypeAttr depth)
+pub type_attr_exact : (o : Bool) (depth : ℕ) (c : Things) → Exact things Same c AttrStands (type_attr_at o depth) (IsTypeAttr o depth)
 unfolding type_attr_at
-type_attr_exact depth c =
-    then_exact things Same c TypeStands AttrStands (type_at depth) (IsType depth) (λ t. attr_done (attr.Ty t)) (λ t. IsFine (TypeOf t)) (type_exact depth c) (λ d t y g r.
+type_attr_exact o depth c =
+    then_exact things Same c TypeStands AttrStands (type_at o depth) (IsType o depth) (λ t. attr_done (attr.Ty t)) (λ t. IsFine (TypeOf t)) (type_exact o depth c) (λ d t y g r.
     attr_done_exact d (attr.Ty t) (TypeOf y) (refl, refl) (λ z k w. type_node z t y (r z k w)))
 
 -- ---- literals
 
-suffix_exact : (c : Things) → Exact things Same c TypeStands suffix_at IsSuffix
+suffix_exact : (o : Bool) (c : Things) → Exact things Same c TypeStands (suffix_at o) (IsSuffix o)
 unfolding suffix_at
-suffix_exact c =
-    either_exact things Same after_typed IsMark typed_marks c TypeStands Colon suffix_from (type_at 32) (type_done (type.Int Signless 64)) (IsType 32) (Done (Integer Signless 64)) (λ s mid. refl) (λ s. refl) (type_exact 32 c) (signless_exact 64 refl c)
+suffix_exact o c =
+    either_exact things Same after_typed IsMark typed_marks c TypeStands Colon (suffix_from o) (type_at o 32) (type_done (type.Int Signless 64)) (IsType o 32) (Done (Integer Signless 64)) (λ s mid. refl) (λ s. refl) (type_exact o 32 c) (signless_exact 64 refl c)
 
-abbrev literal_of : Bool → ℕ → ℕ → TypeTerm → Parse Typed ℕ
-literal_of negative n t ty s = of_option (literal_bits ty negative n) >>= λ bits. attr_done (attr.Int t bits) s
+opaque_node : (text : List ℕ) (z : Things) (n : ℕ) (y : TypeTerm) → TypeStands z n y → IsNodeOf (attr.Opaque text (Some n)) (OpaqueOf text (Some y)) z
+unfolding kept
+opaque_node text z n y h = (h.0, ap (λ t. OpaqueOf text (Some t)) h.1)
 
-literal_done_exact : (negative : Bool) (n : ℕ) (c : Things) (t : ℕ) (ty : TypeTerm) → From (λ z. TypeStands z t ty) c → Exact things Same c AttrStands (literal_done negative n t) (IsLiteralOf negative n ty)
+untyped_node : (text : List ℕ) (z : Things) → IsNodeOf (attr.Opaque text None) (OpaqueOf text None) z
+unfolding kept
+untyped_node text z = (tt, refl)
+
+opaque_exact : (text : List ℕ) (c : Things) (t : ℕ) (ty : TypeTerm) → From (λ z. TypeStands z t ty) c → Exact things Same c AttrStands (attr_done (attr.Opaque text (Some t))) (IsFine (OpaqueOf text (Some ty)))
+opaque_exact text c t ty r = attr_done_exact c (attr.Opaque text (Some t)) (OpaqueOf text (Some ty)) (refl, refl) (λ z k w. opaque_node text z t ty (r z k w))
+
+untyped_exact : (text : List ℕ) (c : Things) → Exact things Same c AttrStands (attr_done (attr.Opaque text None)) (IsFine (OpaqueOf text None))
+untyped_exact text c = attr_done_exact c (attr.Opaque text None) (OpaqueOf text None) (refl, refl) (λ z k w. untyped_node text z)
+
+integer_exact : (negative : Bool) (n : ℕ) (c : Things) (t : ℕ) (ty : TypeTerm) → From (λ z. TypeStands z t ty) c → Exact things Same c AttrStands (λ s. of_option (literal_bits ty negative n) >>= λ bits. attr_done (attr.Int t bits) s) (IsIntegerOf negative n ty)
+integer_exact negative n c t ty r =
+    some_exact things Same c AttrStands (literal_bits ty negative n) (λ bits. attr_done (attr.Int t bits)) (λ bits. IsFine (IntegerOf ty bits)) (λ bits.
+    attr_done_exact c (attr.Int t bits) (IntegerOf ty bits) (refl, refl) (λ z k w. integer_node bits z t ty (r z k w)))
+
+literal_of_exact : (negative : Bool) (digits : List ℕ) (n : ℕ) (c : Things) (t : ℕ) (ty : TypeTerm) → From (λ z. TypeStands z t ty) c → Exact things Same c AttrStands (literal_of negative digits n t ty) (IsLiteralOf negative digits n ty)
+literal_of_exact negative digits n c t ty r =
+    choice_exact things Same c AttrStands (is_opaque_type ty && is_hexadecimal digits) (attr_done (attr.Opaque (signed_text negative digits) (Some t))) (λ s. of_option (literal_bits ty negative n) >>= λ bits. attr_done (attr.Int t bits) s)
+    (IsFine (OpaqueOf (signed_text negative digits) (Some ty))) (IsIntegerOf negative n ty) (opaque_exact (signed_text negative digits) c t ty r) (integer_exact negative n c t ty r)
+
+literal_done_exact : (negative : Bool) (digits : List ℕ) (n : ℕ) (c : Things) (t : ℕ) (ty : TypeTerm) → From (λ z. TypeStands z t ty) c → Exact things Same c AttrStands (literal_done negative digits n t) (IsLiteralOf negative digits n ty)
 unfolding literal_done
-literal_done_exact negative n c t ty r =
-    exact_where things Same c AttrStands (literal_done negative n t) (literal_of negative n t ty) (IsLiteralOf negative n ty) (λ s g sound. ap (λ u. literal_of negative n t u s) (r s.1 g sound).1)
-    (some_exact things Same c AttrStands (literal_bits ty negative n) (λ bits. attr_done (attr.Int t bits)) (λ bits. IsFine (IntegerOf ty bits)) (λ bits.
-    attr_done_exact c (attr.Int t bits) (IntegerOf ty bits) (refl, refl) (λ z k w. integer_node bits z t ty (r z k w))))
+literal_done_exact negative digits n c t ty r =
+    exact_where things Same c AttrStands (literal_done negative digits n t) (literal_of negative digits n t ty) (IsLiteralOf negative digits n ty) (λ s g sound. ap (λ u. literal_of negative digits n t u s) (r s.1 g sound).1)
+    (literal_of_exact negative digits n c t ty r)
 
-pub literal_exact : (negative : Bool) (digits : List ℕ) (c : Things) → Exact things Same c AttrStands (literal_at negative digits) (IsLiteral negative digits)
+pub literal_exact : (o negative : Bool) (digits : List ℕ) (c : Things) → Exact things Same c AttrStands (literal_at o negative digits) (IsLiteral o negative digits)
 unfolding literal_at
-literal_exact negative digits c =
-    some_exact things Same c AttrStands (below_limit (integer_of digits)) (λ n s. suffix_at s >>= λ t. literal_done negative n t.0 t.1) (λ n. Then IsSuffix (IsLiteralOf negative n)) (λ n.
-    then_exact things Same c TypeStands AttrStands suffix_at IsSuffix (literal_done negative n) (IsLiteralOf negative n) (suffix_exact c) (λ d t ty g r. literal_done_exact negative n d t ty r))
+literal_exact o negative digits c =
+    some_exact things Same c AttrStands (below_limit (integer_of digits)) (λ n s. suffix_at o s >>= λ t. literal_done negative digits n t.0 t.1) (λ n. Then (IsSuffix o) (IsLiteralOf negative digits n)) (λ n.
+    then_exact things Same c TypeStands AttrStands (suffix_at o) (IsSuffix o) (literal_done negative digits n) (IsLiteralOf negative digits n) (suffix_exact o c) (λ d t ty g r. literal_done_exact negative digits n d t ty r))
 
-abbrev NegativeFrom : Lexeme → Text → Grammar Text AttrTerm
-NegativeFrom (integer digits) rest y old new = IsLiteral true digits y rest new
-NegativeFrom _ rest y old new = ⊥
+-- ---- attributes that are kept as they are spelled
 
-negative_from_exact : (c : Things) (l : Lexeme) (rest : Text) → Exact things Same c AttrStands (λ s. negative_from s.1 l rest) (NegativeFrom l rest)
-negative_from_exact c (integer digits) rest = behind_exact c AttrStands rest (literal_at true digits) (IsLiteral true digits) (literal_exact true digits c)
-negative_from_exact c _ rest = nothing_exact things Same c AttrStands
+module _ (o : Bool) (types : ℕ) where
+  typed_exact : (text : List ℕ) (c : Things) → Exact things Same c AttrStands (typed_at o types text) (IsTyped o types text)
+  unfolding typed_at
+  typed_exact text c =
+      then_exact things Same c TypeStands AttrStands (type_at o types) (IsType o types) (λ t. attr_done (attr.Opaque text (Some t))) (λ t. IsFine (OpaqueOf text (Some t))) (type_exact o types c) (λ d t y g r. opaque_exact text d t y r)
 
-negative_into : (y : AttrTerm) (t t' : Text) → (l : Lexeme) × (rest : Text) × Token l t rest × NegativeFrom l rest y t t' → IsNegative y t t'
-negative_into y t t' k = by_token k.0 k.1 k.2 k.3
-  where
-    by_token : (l : Lexeme) (rest : Text) → Token l t rest → NegativeFrom l rest y t t' → IsNegative y t t'
-    by_token (integer digits) rest token k = (digits, rest, token, k)
-    by_token _ rest token k = absurd k
+  opaque_done_exact : (text : List ℕ) (c : Things) (t : ℕ) (ty : TypeTerm) → From (λ z. TypeStands z t ty) c → Exact things Same c AttrStands (opaque_typed_done o t text) (When (is_opaque_type ty ≡ true) (IsFine (OpaqueOf text (Some ty))))
+  unfolding opaque_typed_done
+  opaque_done_exact text c t ty r =
+      exact_where things Same c AttrStands (opaque_typed_done o t text) (opaque_of o t text ty) (When (is_opaque_type ty ≡ true) (IsFine (OpaqueOf text (Some ty)))) (λ s g sound. ap (λ u. opaque_of o t text u s) (r s.1 g sound).1)
+      (guard_exact things Same c AttrStands (is_opaque_type ty) (attr_done (attr.Opaque text (Some t))) (IsFine (OpaqueOf text (Some ty))) (opaque_exact text c t ty r))
 
-pub negative_exact : (c : Things) → Exact things Same c AttrStands negative_at IsNegative
-unfolding negative_at
-negative_exact c =
-    exact_spelled things Same c AttrStands negative_at (λ y old new. (l : Lexeme) × (rest : Text) × Token l old rest × NegativeFrom l rest y old new) IsNegative negative_into (λ y t t' k. (integer k.0, k.1, k.2, k.3))
-    (token_exact c AttrStands (λ s l rest. negative_from s.1 l rest) NegativeFrom (negative_from_exact c))
+  opaque_typed_exact : (text : List ℕ) (c : Things) → Exact things Same c AttrStands (opaque_typed_at o types text) (IsOpaqueTyped o types text)
+  unfolding opaque_typed_at
+  opaque_typed_exact text c =
+      then_exact things Same c TypeStands AttrStands (type_at o types) (IsType o types) (λ t. opaque_typed_done o t text) (λ t. When (is_opaque_type t ≡ true) (IsFine (OpaqueOf text (Some t)))) (type_exact o types c) (λ d t y g r. opaque_done_exact text d t y r)
+
+  pub tail_exact : (tail : Tail) (text : List ℕ) (c : Things) → Exact things Same c AttrStands (tail_at o types tail text) (IsTail o types tail text)
+  tail_exact SomeType text c = after_exact things Same after_typed IsMark typed_marks c AttrStands Colon (typed_at o types text) (IsTyped o types text) (typed_exact text c)
+  tail_exact TypeOrNone text c =
+      either_exact things Same after_typed IsMark typed_marks c AttrStands Colon (colon_from o (typed_at o types text) (attr_done (attr.Opaque text None))) (typed_at o types text) (attr_done (attr.Opaque text None)) (IsTyped o types text) (IsFine (OpaqueOf text None))
+      (λ s mid. refl) (λ s. refl) (typed_exact text c) (untyped_exact text c)
+  tail_exact OpaqueOrNone text c =
+      either_exact things Same after_typed IsMark typed_marks c AttrStands Colon (colon_from o (opaque_typed_at o types text) (attr_done (attr.Opaque text None))) (opaque_typed_at o types text) (attr_done (attr.Opaque text None)) (IsOpaqueTyped o types text) (IsFine (OpaqueOf text None))
+      (λ s mid. refl) (λ s. refl) (opaque_typed_exact text c) (untyped_exact text c)
+  tail_exact NoType text c = untyped_exact text c
+
+  pub kept_exact : (tail : Tail) (found : Option (List ℕ × List ℕ)) (c : Things) → Exact things Same c AttrStands (λ s. kept_at o types tail found s.1) (λ y old new. IsKept o types tail found y new)
+  kept_exact tail found c =
+      some_exact things Same c AttrStands found (λ x s. tail_at o types tail x.0 (x.1, s.1)) (λ x y old new. IsTail o types tail x.0 y x.1 new) (λ x.
+      behind_exact c AttrStands x.1 (tail_at o types tail x.0) (IsTail o types tail x.0) (tail_exact tail x.0 c))
+
+  -- digits of a float
+  pub float_exact : (text rest : List ℕ) (c : Things) → Exact things Same c AttrStands (λ s. if o then tail_at o types OpaqueOrNone text (rest, s.1) else Wrong) (λ y old new. (o ≡ true) × IsTail o types OpaqueOrNone text y rest new)
+  float_exact text rest c =
+      guard_exact things Same c AttrStands o (λ s. tail_at o types OpaqueOrNone text (rest, s.1)) (λ y old new. IsTail o types OpaqueOrNone text y rest new)
+      (behind_exact c AttrStands rest (tail_at o types OpaqueOrNone text) (IsTail o types OpaqueOrNone text) (tail_exact OpaqueOrNone text c))
+
+  pub string_or_kept_exact : (raw : List ℕ) (c : Things) → Exact things Same c AttrStands (string_at o types raw) (IsString o types raw)
+  string_or_kept_exact raw c =
+      choice_exact things Same c AttrStands o (λ s. colon_from o (typed_at o types (quoted_text raw)) (string_attr_at raw) s (after_typed Colon s)) (string_attr_at raw)
+      (Either IsMark Colon (IsTyped o types (quoted_text raw)) (IsFine (String (string_bytes raw)))) (IsFine (String (string_bytes raw)))
+      (either_exact things Same after_typed IsMark typed_marks c AttrStands Colon (colon_from o (typed_at o types (quoted_text raw)) (string_attr_at raw)) (typed_at o types (quoted_text raw)) (string_attr_at raw) (IsTyped o types (quoted_text raw)) (IsFine (String (string_bytes raw)))
+      (λ s mid. refl) (λ s. refl) (typed_exact (quoted_text raw) c) (string_exact raw c))
+      (string_exact raw c)
+
+  negative_from_exact : (c : Things) (l : Lexeme) (rest : Text) → Exact things Same c AttrStands (λ s. negative_from o types s.1 l rest) (λ y old new. IsNegativeFrom o types l y rest new)
+  negative_from_exact c (integer digits) rest = behind_exact c AttrStands rest (literal_at o true digits) (IsLiteral o true digits) (literal_exact o true digits c)
+  negative_from_exact c (float digits) rest = float_exact (45 ∷ digits) rest c
+  negative_from_exact c _ rest = nothing_exact things Same c AttrStands
+
+  pub negative_exact : (c : Things) → Exact things Same c AttrStands (negative_at o types) (IsNegative o types)
+  unfolding negative_at
+  negative_exact c = token_exact c AttrStands (λ s l rest. negative_from o types s.1 l rest) (λ l rest y old new. IsNegativeFrom o types l y rest new) (negative_from_exact c)
 
 -- ---- flags
 

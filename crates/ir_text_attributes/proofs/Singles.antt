@@ -1,6 +1,6 @@
 -- One attribute of a text, by the laws of attributes.
 use Rattle.std.specs.Prelude.{Result, Err}
-use Rattle.std.proofs.Common.{◌≡◌, ℕ, List, [], Option, Some, None, refl, sym, ap, subst, ◌∙◌, ⊎_elim}
+use Rattle.std.proofs.Common.{◌≡◌, ℕ, Bool, List, [], Option, Some, None, refl, sym, ap, subst, ◌∙◌, ⊎_elim}
 use Rattle.ir_text_tokens.specs.declared.fault.Fault.{Fault}
 use Rattle.ir_text_tokens.specs.declared.token.Mark.TheVariants.{End}
 use Rattle.ir_text_tokens.specs.Limits.{text_reason}
@@ -25,38 +25,38 @@ use Rattle.ir_text_attributes.specs.Claims.{IsOnlyAttr, IsNoAttr}
 use Rattle.ir_text_attributes.proofs.AttrLaws.{attr_read, attr_spelled}
 use Rattle.ir_text_attributes.proofs.UniqueAttributes.{attr_one}
 
-module _ (bytes : List ℕ) (c : Things) (sound : IsSound c) where
+module _ (o : Bool) (bytes : List ℕ) (c : Things) (sound : IsSound c) where
   -- what is left behind an attribute that is spelled
-  rest_is : (n : ℕ) (s : Typed) → attr_at 32 (bytes, c) ≡ Read (n, s) → (y : AttrTerm) (rest : List ℕ) → IsAttr 32 y bytes rest → rest ≡ s.0
+  rest_is : (n : ℕ) (s : Typed) → attr_at o 32 (bytes, c) ≡ Read (n, s) → (y : AttrTerm) (rest : List ℕ) → IsAttr o 32 y bytes rest → rest ≡ s.0
   rest_is n s e y rest k =
-      let r = attr_read 32 c s.1 bytes s.0 n sound e in
-      (attr_one 32 bytes y (attr_term s.1 n) rest s.0 k r.3).1
+      let r = attr_read o 32 c s.1 bytes s.0 n sound e in
+      (attr_one o 32 bytes y (attr_term s.1 n) rest s.0 k r.3).1
 
-  alone_read : (n : ℕ) (s : Typed) (end : List ℕ) → attr_at 32 (bytes, c) ≡ Read (n, s) → after End s.0 ≡ Some end → IsOnlyAttr (IsSingleAttr bytes) s.1 n × Grows c s.1
+  alone_read : (n : ℕ) (s : Typed) (end : List ℕ) → attr_at o 32 (bytes, c) ≡ Read (n, s) → after End s.0 ≡ Some end → IsOnlyAttr (IsSingleAttr o bytes) s.1 n × Grows c s.1
   unfolding IsSingleAttr
   alone_read n s end e ends =
-      let r = attr_read 32 c s.1 bytes s.0 n sound e in (
+      let r = attr_read o 32 c s.1 bytes s.0 n sound e in (
         record {
           known = r.2;
           holds = (s.0, end, r.3, after_found End s.0 end ends);
-          only = λ y h. (attr_one 32 bytes y (attr_term s.1 n) h.0 s.0 h.2 r.3).0;
+          only = λ y h. (attr_one o 32 bytes y (attr_term s.1 n) h.0 s.0 h.2 r.3).0;
         },
         r.0,
       )
 
-  more_wrong : (n : ℕ) (s : Typed) → attr_at 32 (bytes, c) ≡ Read (n, s) → after End s.0 ≡ None → IsNoAttr (IsSingleAttr bytes)
+  more_wrong : (n : ℕ) (s : Typed) → attr_at o 32 (bytes, c) ≡ Read (n, s) → after End s.0 ≡ None → IsNoAttr (IsSingleAttr o bytes)
   unfolding IsSingleAttr
   more_wrong n s e more y h =
       let left = rest_is n s e y h.0 h.2 in
       let ends = after_only End s.0 h.1 (subst (λ b. IsMark End b h.1) left h.3) in
       let clash : None ≡ Some h.1 = sym more ∙ ends in absurd cc
 
-  none_wrong : attr_at 32 (bytes, c) ≡ Wrong → IsNoAttr (IsSingleAttr bytes)
+  none_wrong : attr_at o 32 (bytes, c) ≡ Wrong → IsNoAttr (IsSingleAttr o bytes)
   unfolding IsSingleAttr
   none_wrong e y h = ⊎_elim
-      (λ (f : attr_at 32 (bytes, c) ≡ Full). absurd cc)
-      (λ (f : (n : ℕ) × (d : Things) × (attr_at 32 (bytes, c) ≡ Read (n, (h.0, d))) × Grows c d × IsSound d × AttrStands d n y). let g = f.2 in absurd cc)
-      (attr_spelled 32 c bytes h.0 y sound h.2)
+      (λ (f : attr_at o 32 (bytes, c) ≡ Full). absurd cc)
+      (λ (f : (n : ℕ) × (d : Things) × (attr_at o 32 (bytes, c) ≡ Read (n, (h.0, d))) × Grows c d × IsSound d × AttrStands d n y). let g = f.2 in absurd cc)
+      (attr_spelled o 32 c bytes h.0 y sound h.2)
 
   abbrev told : ℕ → Things → List ℕ → Outcome (ℕ × Things)
   told n d end = Read (n, d)
@@ -71,41 +71,41 @@ module _ (bytes : List ℕ) (c : Things) (sound : IsSound c) where
       (ap (λ (q : ℕ × Things). q.0) p, ap (λ (q : ℕ × Things). q.1) p)
 
   -- the same, by the reader of one attribute
-  pub single_read : (n : ℕ) (d : Things) → single_attr_at bytes c ≡ Read (n, d) → IsOnlyAttr (IsSingleAttr bytes) d n × Grows c d
+  pub single_read : (n : ℕ) (d : Things) → single_attr_at o bytes c ≡ Read (n, d) → IsOnlyAttr (IsSingleAttr o bytes) d n × Grows c d
   unfolding single_attr_at
   single_read n d e =
-      let a = bind_read (attr_at 32 (bytes, c)) whole (n, d) e in
+      let a = bind_read (attr_at o 32 (bytes, c)) whole (n, d) e in
       let b = option_read (after End a.0.1.0) (told a.0.0 a.0.1.1) (n, d) a.2 in
       let q = parts_are a.0.0 n a.0.1.1 d b.2 in
-      subst (λ (u : ℕ × Things). IsOnlyAttr (IsSingleAttr bytes) u.1 u.0 × Grows c u.1) (λ i. (q.0 i, q.1 i)) (alone_read a.0.0 a.0.1 b.0 a.1 b.1)
+      subst (λ (u : ℕ × Things). IsOnlyAttr (IsSingleAttr o bytes) u.1 u.0 × Grows c u.1) (λ i. (q.0 i, q.1 i)) (alone_read a.0.0 a.0.1 b.0 a.1 b.1)
 
-  pub single_wrong : single_attr_at bytes c ≡ Wrong → IsNoAttr (IsSingleAttr bytes)
+  pub single_wrong : single_attr_at o bytes c ≡ Wrong → IsNoAttr (IsSingleAttr o bytes)
   unfolding single_attr_at
-  single_wrong e = by_attr (attr_at 32 (bytes, c)) refl e
+  single_wrong e = by_attr (attr_at o 32 (bytes, c)) refl e
     where
-      by_end : (n : ℕ) (s : Typed) → attr_at 32 (bytes, c) ≡ Read (n, s) → (o : Option (List ℕ)) → after End s.0 ≡ o → (of_option o >>= told n s.1) ≡ Wrong → IsNoAttr (IsSingleAttr bytes)
+      by_end : (n : ℕ) (s : Typed) → attr_at o 32 (bytes, c) ≡ Read (n, s) → (q : Option (List ℕ)) → after End s.0 ≡ q → (of_option q >>= told n s.1) ≡ Wrong → IsNoAttr (IsSingleAttr o bytes)
       by_end n s read None none w = more_wrong n s read none
       by_end n s read (Some end) ends w = absurd cc
 
-      by_attr : (o : Outcome (ℕ × Typed)) → attr_at 32 (bytes, c) ≡ o → (o >>= whole) ≡ Wrong → IsNoAttr (IsSingleAttr bytes)
+      by_attr : (q : Outcome (ℕ × Typed)) → attr_at o 32 (bytes, c) ≡ q → (q >>= whole) ≡ Wrong → IsNoAttr (IsSingleAttr o bytes)
       by_attr (Read x) read w = by_end x.0 x.1 read (after End x.1.0) refl w
       by_attr Wrong wrong w = none_wrong wrong
       by_attr Full full w = absurd cc
 
 -- ---- and the limits of a text
 
-module _ (bytes : List ℕ) where
-  pub attr_spells : (c : Things) (n : ℕ) → text_reason bytes ≡ None → IsOnlyAttr (IsSingleAttr bytes) c n → IsOnlyAttr (SpellsAttr bytes) c n
+module _ (o : Bool) (bytes : List ℕ) where
+  pub attr_spells : (c : Things) (n : ℕ) → text_reason bytes ≡ None → IsOnlyAttr (IsSingleAttr o bytes) c n → IsOnlyAttr (SpellsAttr o bytes) c n
   attr_spells c n text h = record {
     known = h.known;
     holds = record { text = text; spelled = h.holds };
     only = λ y s. h.only y s.spelled;
   }
 
-  pub none_spelled : IsNoAttr (IsSingleAttr bytes) → IsNoAttr (SpellsAttr bytes)
+  pub none_spelled : IsNoAttr (IsSingleAttr o bytes) → IsNoAttr (SpellsAttr o bytes)
   none_spelled none y s = none y s.spelled
 
-  pub no_text : (r : TextRefusal × ℕ) → text_reason bytes ≡ Some r → IsNoAttr (SpellsAttr bytes)
+  pub no_text : (r : TextRefusal × ℕ) → text_reason bytes ≡ Some r → IsNoAttr (SpellsAttr o bytes)
   no_text r e y s = let t = s.text in absurd cc
 
 -- ---- and what is answered

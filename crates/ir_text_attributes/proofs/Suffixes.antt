@@ -1,5 +1,5 @@
 -- The type behind a literal is of the context as it is then.
-use Rattle.std.proofs.Common.{◌≡◌, ℕ, List, Option, Some, None}
+use Rattle.std.proofs.Common.{◌≡◌, ℕ, Bool, List, Option, Some, None}
 use Rattle.std.specs.Prelude.{option_map}
 use Rattle.ir_types.specs.declared.node.TypeNode.TheVariants as type
 use Rattle.ir_types.specs.declared.node.Sign.TheVariants.{Signless}
@@ -11,10 +11,10 @@ use Rattle.ir_text_types.specs.Outcomes.{Read}
 use Rattle.ir_text_attributes.specs.AttrReading.{suffix_from, suffix_at}
 use Rattle.ir_text_types.proofs.Numbered.{type_done_known, type_known}
 
-pub suffix_known : (bytes rest : List ℕ) (c d : Things) (n : ℕ) → IsSound c → suffix_at (bytes, c) ≡ Read (n, (rest, d)) → IsType d n
+pub suffix_known : (o : Bool) (bytes rest : List ℕ) (c d : Things) (n : ℕ) → IsSound c → suffix_at o (bytes, c) ≡ Read (n, (rest, d)) → IsType d n
 unfolding suffix_at
-suffix_known bytes rest c d n sound e = by_case (after Colon bytes) e
+suffix_known o bytes rest c d n sound e = by_case (after Colon bytes) e
   where
-    by_case : (o : Option (List ℕ)) → suffix_from (bytes, c) (option_map (λ r. (r, c)) o) ≡ Read (n, (rest, d)) → IsType d n
+    by_case : (m : Option (List ℕ)) → suffix_from o (bytes, c) (option_map (λ r. (r, c)) m) ≡ Read (n, (rest, d)) → IsType d n
     by_case None e = type_done_known (type.Int Signless 64) bytes rest c d n e
-    by_case (Some r) e = type_known 32 r rest c d n sound e
+    by_case (Some r) e = type_known o 32 r rest c d n sound e

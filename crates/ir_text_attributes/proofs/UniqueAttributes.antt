@@ -1,25 +1,29 @@
 -- A text spells at most one attribute.
-use Rattle.std.specs.Prelude.{ℤ}
+use Rattle.std.specs.Prelude.{ℤ, ◌&&◌, Option}
 use Rattle.std.specs.Str.{bytes_eq}
 use Rattle.std.proofs.Common.{◌≡◌, ℕ, zero, suc, Bool, true, false, true≢false, List, [], ◌∷◌, ◌++◌, Some, None, refl, sym, ap, subst, ◌∙◌, ◌⊎◌, inl, inr}
 use Rattle.ir_text_tokens.specs.declared.token.Mark.{Mark}
 use Rattle.ir_text_tokens.specs.declared.token.Mark.TheVariants.{OpenRound, OpenCurly, CloseCurly, OpenSquare, CloseSquare, Less, Greater, Equal, Colon, DoubleColon, Minus}
 use Rattle.ir_text_tokens.specs.Strings.{string_bytes}
-use Rattle.ir_text_tokens.specs.Tokens.{Lexeme, mark, integer, string, bare, hash, symbol, quoted}
+use Rattle.ir_text_tokens.specs.Tokens.{Lexeme, mark, integer, float, string, bare, hash, bang, symbol, quoted, skip}
 use Rattle.ir_types.specs.declared.node.Sign.TheVariants.{Signless}
-use Rattle.ir_types.specs.Terms.{TypeTerm, Integer, AttrTerm, IntegerOf, String, TypeOf, Flag, Array, Dictionary, Symbol, DenseArray, Overflow}
+use Rattle.ir_types.specs.Terms.{TypeTerm, Integer, AttrTerm, IntegerOf, String, TypeOf, Flag, Array, Dictionary, Symbol, DenseArray, Overflow, OpaqueOf}
 use Rattle.ir_types.specs.Reasons.{attr_fault}
 use Rattle.ir_text_attributes.specs.declared.flag.Flag as code
-use Rattle.ir_text_attributes.specs.Literals.{Word, Truth, UnitWord, ArrayWord, TypeWord, word_of, truth_bits, none_word, flag_of, has_nsw, has_nuw}
+use Rattle.ir_text_attributes.specs.Literals.{Word, Truth, UnitWord, ArrayWord, TypeWord, array_word, word_of, truth_bits, overflow_word, none_word, flag_of, has_nsw, has_nuw}
 use Rattle.ir_types.specs.Readings.{literal_bits, reading_of}
 use Rattle.ir_text_attributes.specs.Elements.{element_of}
-use Rattle.ir_text_attributes.specs.AttrGrammar.{EntryTerm, IsPart, IsParts, IsSymbol, IsElement, IsItemNumber, IsItem, IsItems, IsDense, IsKey, IsUnitValue, IsValue, IsEntry, IsDictionary, IsArray, attrs_of, entries_of, IsFine, IsTypeAttr, IsSuffix, IsLiteralOf, IsLiteral, IsNegative, IsFlag, IsFlags, IsOverflow, IsWordAttr, IsMarkAttr, IsAttrFrom, IsAttr}
+use Rattle.ir_text_attributes.specs.AttrGrammar.{EntryTerm, IsPart, IsParts, IsSymbol, IsElement, IsItemNumber, IsItem, IsItems, IsDense, IsKey, IsUnitValue, IsValue, IsEntry, IsDictionary, IsArray, attrs_of, entries_of, IsFine, IsTypeAttr, IsSuffix, IsIntegerOf, IsLiteralOf, IsLiteral, IsTyped, IsOpaqueTyped, IsTail, IsKept, IsString, IsNegativeFrom, IsNegative, IsFlag, IsFlags, IsOverflow, IsArrayWord, IsWordAttr, IsBare, IsMarkAttr, IsHash, IsAttrFrom, IsAttr}
 use Rattle.ir_text_attributes.specs.Keyed.{has_key, in_order}
 use Rattle.ir_tree.specs.Meaning.{key_before}
 use Rattle.ir_text_types.specs.TypeReading.{many}
-use Rattle.ir_text_types.specs.Grammars.{When, Grammar, Then, Done, After, Not, IsMore, IsList, Token, IsMark}
+use Rattle.ir_text_types.specs.Grammars.{When, Grammar, Then, Done, After, Either, Not, IsMore, IsList, Token, IsMark}
 use Rattle.ir_text_types.specs.Typed.{Text}
+use Rattle.ir_text_types.specs.OpaqueTypes.{bracketed, dialect_text}
 use Rattle.ir_text_types.specs.TypeGrammar.{IsType}
+use Rattle.ir_text_attributes.specs.declared.tail.Tail.{Tail}
+use Rattle.ir_text_attributes.specs.declared.tail.Tail.TheVariants.{SomeType, TypeOrNone, OpaqueOrNone, NoType}
+use Rattle.ir_text_attributes.specs.OpaqueAttributes.{tail_in, kept_text, quoted_text, signed_text, is_hexadecimal, is_opaque_type, opens_other}
 use Rattle.ir_text_types.proofs.Unique.{IsOne, then_one, done_one, done_if_one, after_one, either_one, more_one, list_one, token_one, mark_one, type_one}
 
 behind_one : {B : Type 0} (rest : Text) (P : Grammar Text B) → IsOne P → IsOne {T = Text} (λ y old new. P y rest new)
@@ -36,30 +40,73 @@ none_one t y y' n n' k l = absurd k
 fine_one : (z : AttrTerm) → IsOne (IsFine z)
 fine_one z = done_if_one (attr_fault z ≡ None) z
 
-type_attr_one : (depth : ℕ) → IsOne (IsTypeAttr depth)
-type_attr_one depth = then_one (IsType depth) (λ t. IsFine (TypeOf t)) (type_one depth) (λ t. fine_one (TypeOf t))
+type_attr_one : (o : Bool) (depth : ℕ) → IsOne (IsTypeAttr o depth)
+type_attr_one o depth = then_one (IsType o depth) (λ t. IsFine (TypeOf t)) (type_one o depth) (λ t. fine_one (TypeOf t))
 
-suffix_one : IsOne IsSuffix
-suffix_one = either_one IsMark mark_one Colon (IsType 32) (Done (Integer Signless 64)) (type_one 32) (done_one (Integer Signless 64))
+suffix_one : (o : Bool) → IsOne (IsSuffix o)
+suffix_one o = either_one IsMark mark_one Colon (IsType o 32) (Done (Integer Signless 64)) (type_one o 32) (done_one (Integer Signless 64))
 
-literal_of_one : (negative : Bool) (n : ℕ) (ty : TypeTerm) → IsOne (IsLiteralOf negative n ty)
-literal_of_one negative n ty t y y' m m' k l =
+integer_of_one : (negative : Bool) (n : ℕ) (ty : TypeTerm) → IsOne (IsIntegerOf negative n ty)
+integer_of_one negative n ty t y y' m m' k l =
     let some : Some k.0 ≡ Some l.0 = sym k.1 ∙ l.1 in
     let same : k.0 ≡ l.0 = cc (some) in
     fine_one (IntegerOf ty k.0) t y y' m m' k.2 (subst (λ bits. IsFine (IntegerOf ty bits) y' t m') (sym same) l.2)
 
-literal_one : (negative : Bool) (digits : List ℕ) → IsOne (IsLiteral negative digits)
-literal_one negative digits t y y' n n' k l =
+-- one of two, by a test
+choice_one : {B : Type 0} (b : Bool) (P Q : Grammar Text B) → IsOne P → IsOne Q → IsOne {T = Text} (λ y old new. ((b ≡ true) × P y old new) ⊎ ((b ≡ false) × Q y old new))
+choice_one b P Q first second t y y' n n' (inl k) (inl l) = first t y y' n n' k.1 l.1
+choice_one b P Q first second t y y' n n' (inl k) (inr l) = absurd (true≢false (sym k.0 ∙ l.0))
+choice_one b P Q first second t y y' n n' (inr k) (inl l) = absurd (true≢false (sym l.0 ∙ k.0))
+choice_one b P Q first second t y y' n n' (inr k) (inr l) = second t y y' n n' k.1 l.1
+
+guard_one : {B : Type 0} (F : Type 0) (P : Grammar Text B) → IsOne P → IsOne {T = Text} (λ y old new. F × P y old new)
+guard_one F P one t y y' n n' k l = one t y y' n n' k.1 l.1
+
+literal_of_one : (negative : Bool) (digits : List ℕ) (n : ℕ) (ty : TypeTerm) → IsOne (IsLiteralOf negative digits n ty)
+literal_of_one negative digits n ty =
+    choice_one (is_opaque_type ty && is_hexadecimal digits) (IsFine (OpaqueOf (signed_text negative digits) (Some ty))) (IsIntegerOf negative n ty) (fine_one (OpaqueOf (signed_text negative digits) (Some ty))) (integer_of_one negative n ty)
+
+literal_one : (o negative : Bool) (digits : List ℕ) → IsOne (IsLiteral o negative digits)
+literal_one o negative digits t y y' n n' k l =
     let some : Some k.0 ≡ Some l.0 = sym k.1 ∙ l.1 in
     let same : k.0 ≡ l.0 = cc (some) in
-    then_one IsSuffix (IsLiteralOf negative k.0) suffix_one (literal_of_one negative k.0) t y y' n n' k.2
-    (subst (λ m. Then IsSuffix (IsLiteralOf negative m) y' t n') (sym same) l.2)
+    then_one (IsSuffix o) (IsLiteralOf negative digits k.0) (suffix_one o) (literal_of_one negative digits k.0) t y y' n n' k.2
+    (subst (λ m. Then (IsSuffix o) (IsLiteralOf negative digits m) y' t n') (sym same) l.2)
 
-negative_one : IsOne IsNegative
-negative_one t y y' n n' k l =
-    let e = token_one (integer k.0) (integer l.0) t k.1 l.1 k.2 l.2 in
-    let same : k.0 ≡ l.0 = cc (e.0) in
-    literal_one true k.0 k.1 y y' n n' k.3 (subst (λ r. IsLiteral true k.0 y' r n') (sym e.1) (subst (λ ds. IsLiteral true ds y' l.1 n') (sym same) l.3))
+-- ---- attributes that are kept as they are spelled
+
+module _ (o : Bool) (types : ℕ) where
+  typed_one : (text : List ℕ) → IsOne (IsTyped o types text)
+  typed_one text = then_one (IsType o types) (λ t. IsFine (OpaqueOf text (Some t))) (type_one o types) (λ t. fine_one (OpaqueOf text (Some t)))
+
+  opaque_typed_one : (text : List ℕ) → IsOne (IsOpaqueTyped o types text)
+  opaque_typed_one text =
+      then_one (IsType o types) (λ t. When (is_opaque_type t ≡ true) (IsFine (OpaqueOf text (Some t)))) (type_one o types) (λ t. guard_one (is_opaque_type t ≡ true) (IsFine (OpaqueOf text (Some t))) (fine_one (OpaqueOf text (Some t))))
+
+  tail_one : (tail : Tail) (text : List ℕ) → IsOne (IsTail o types tail text)
+  tail_one SomeType text = after_one IsMark mark_one Colon (IsTyped o types text) (typed_one text)
+  tail_one TypeOrNone text = either_one IsMark mark_one Colon (IsTyped o types text) (IsFine (OpaqueOf text None)) (typed_one text) (fine_one (OpaqueOf text None))
+  tail_one OpaqueOrNone text = either_one IsMark mark_one Colon (IsOpaqueTyped o types text) (IsFine (OpaqueOf text None)) (opaque_typed_one text) (fine_one (OpaqueOf text None))
+  tail_one NoType text = fine_one (OpaqueOf text None)
+
+  kept_one : (tail : Tail) (found : Option (List ℕ × List ℕ)) (y y' : AttrTerm) (n n' : Text) → IsKept o types tail found y n → IsKept o types tail found y' n' → (y ≡ y') × (n ≡ n')
+  kept_one tail found y y' n n' k l =
+      let some : Some k.0 ≡ Some l.0 = sym k.1 ∙ l.1 in
+      let same : k.0 ≡ l.0 = cc (some) in
+      tail_one tail k.0.0 k.0.1 y y' n n' k.2 (subst (λ (x : List ℕ × List ℕ). IsTail o types tail x.0 y' x.1 n') (sym same) l.2)
+
+  string_one : (raw : List ℕ) → IsOne (IsString o types raw)
+  string_one raw =
+      choice_one o (Either IsMark Colon (IsTyped o types (quoted_text raw)) (IsFine (String (string_bytes raw)))) (IsFine (String (string_bytes raw)))
+      (either_one IsMark mark_one Colon (IsTyped o types (quoted_text raw)) (IsFine (String (string_bytes raw))) (typed_one (quoted_text raw)) (fine_one (String (string_bytes raw)))) (fine_one (String (string_bytes raw)))
+
+  negative_from_one : (l : Lexeme) → IsOne (IsNegativeFrom o types l)
+  negative_from_one (integer digits) = literal_one o true digits
+  negative_from_one (float digits) = guard_one (o ≡ true) (IsTail o types OpaqueOrNone (45 ∷ digits)) (tail_one OpaqueOrNone (45 ∷ digits))
+  negative_from_one _ = none_one
+
+  negative_one : IsOne (IsNegative o types)
+  negative_one = first_one (λ l rest y old new. IsNegativeFrom o types l y rest new) (λ l rest. behind_one rest (IsNegativeFrom o types l) (negative_from_one l))
 
 flag_one : IsOne IsFlag
 flag_one t y y' n n' k l =
@@ -229,32 +276,50 @@ module _ (depth : ℕ) (P : Grammar Text AttrTerm) (item : IsOne P) where
   array_one =
       then_one (IsList IsMark CloseSquare (λ before. P) many) (λ xs. IsFine (Array (attrs_of xs))) (list_one IsMark mark_one CloseSquare (λ before. P) (λ before. item) many) (λ xs. fine_one (Array (attrs_of xs)))
 
-  -- ---- attributes
+-- ---- attributes
 
-  word_one : (w : Word) (rest : Text) → IsOne (IsWordAttr depth P w rest)
+module _ (o : Bool) (types : ℕ) where
+  array_word_one : (rest : Text) → IsOne {T = Text} (λ y old new. IsArrayWord o types rest y new)
+  array_word_one rest =
+      choice_one (o && opens_other rest) (λ y old new. IsKept o types NoType (bracketed 60 array_word (skip rest)) y new) (λ y old new. IsDense y rest new)
+      (λ t y y' n n' k l. kept_one o types NoType (bracketed 60 array_word (skip rest)) y y' n n' k l) (behind_one rest IsDense dense_one)
+
+  word_one : (w : Word) (rest : Text) → IsOne (IsWordAttr o types w rest)
   word_one (Truth b) rest = behind_one rest (IsFine (IntegerOf (Integer Signless 1) (truth_bits b))) (fine_one (IntegerOf (Integer Signless 1) (truth_bits b)))
   word_one UnitWord rest = behind_one rest (IsFine Flag) (fine_one Flag)
-  word_one ArrayWord rest = behind_one rest IsDense dense_one
-  word_one TypeWord rest = type_attr_one (suc depth)
+  word_one ArrayWord rest = array_word_one rest
+  word_one TypeWord rest = type_attr_one o types
 
-  marked_one : (m : Mark) (rest : Text) → IsOne (IsMarkAttr depth P m rest)
-  marked_one Minus rest = behind_one rest IsNegative negative_one
-  marked_one OpenRound rest = type_attr_one (suc depth)
-  marked_one OpenSquare rest = behind_one rest (IsArray depth P) array_one
-  marked_one OpenCurly rest = behind_one rest (IsDictionary depth P) dictionary_one
+  bare_one : (tail : Option Tail) (w : List ℕ) (rest : Text) → IsOne (IsBare o types tail w rest)
+  bare_one None w rest = word_one (word_of w) rest
+  bare_one (Some tail) w rest = λ t y y' n n' k l. kept_one o types tail (kept_text w rest) y y' n n' k l
+
+  hash_one : (name : List ℕ) (rest : Text) → IsOne {T = Text} (λ y old new. IsHash o types name rest y new)
+  hash_one name rest =
+      choice_one (bytes_eq name overflow_word) (λ y old new. IsOverflow y rest new) (λ y old new. (o ≡ true) × IsKept o types TypeOrNone (dialect_text 35 name rest) y new)
+      (behind_one rest IsOverflow overflow_one) (λ t y y' n n' k l. kept_one o types TypeOrNone (dialect_text 35 name rest) y y' n n' k.1 l.1)
+
+module _ (o : Bool) (depth : ℕ) (P : Grammar Text AttrTerm) (item : IsOne P) where
+  marked_one : (m : Mark) (rest : Text) → IsOne (IsMarkAttr o depth P m rest)
+  marked_one Minus rest = behind_one rest (IsNegative o (suc depth)) (negative_one o (suc depth))
+  marked_one OpenRound rest = type_attr_one o (suc depth)
+  marked_one OpenSquare rest = behind_one rest (IsArray depth P) (array_one depth P item)
+  marked_one OpenCurly rest = behind_one rest (IsDictionary depth P) (dictionary_one depth P item)
   marked_one _ rest = none_one
 
-  attr_from_one : (l : Lexeme) (rest : Text) → IsOne (IsAttrFrom depth P l rest)
-  attr_from_one (bare w) rest = word_one (word_of w) rest
+  attr_from_one : (l : Lexeme) (rest : Text) → IsOne (IsAttrFrom o depth P l rest)
+  attr_from_one (bare w) rest = bare_one o (suc depth) (tail_in o w) w rest
   attr_from_one (mark m) rest = marked_one m rest
-  attr_from_one (integer digits) rest = behind_one rest (IsLiteral false digits) (literal_one false digits)
-  attr_from_one (string raw) rest = behind_one rest (IsFine (String (string_bytes raw))) (fine_one (String (string_bytes raw)))
+  attr_from_one (integer digits) rest = behind_one rest (IsLiteral o false digits) (literal_one o false digits)
+  attr_from_one (float digits) rest = λ t y y' n n' k l. tail_one o (suc depth) OpaqueOrNone digits rest y y' n n' k.1 l.1
+  attr_from_one (string raw) rest = behind_one rest (IsString o (suc depth) raw) (string_one o (suc depth) raw)
   attr_from_one (symbol n) rest = symbol_one
   attr_from_one (quoted raw) rest = symbol_one
-  attr_from_one (hash w) rest = λ t y y' n n' k l. overflow_one rest y y' n n' k.1 l.1
+  attr_from_one (hash name) rest = hash_one o (suc depth) name rest
+  attr_from_one (bang name) rest = type_attr_one o (suc depth)
   attr_from_one _ rest = none_one
 
-pub attr_one : (depth : ℕ) → IsOne (IsAttr depth)
+pub attr_one : (o : Bool) (depth : ℕ) → IsOne (IsAttr o depth)
 unfolding IsAttr
-attr_one zero = none_one
-attr_one (suc depth) = first_one (IsAttrFrom depth (IsAttr depth)) (attr_from_one depth (IsAttr depth) (attr_one depth))
+attr_one o zero = none_one
+attr_one o (suc depth) = first_one (IsAttrFrom o depth (IsAttr o depth)) (attr_from_one o depth (IsAttr o depth) (attr_one o depth))

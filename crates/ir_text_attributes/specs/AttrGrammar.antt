@@ -1,15 +1,15 @@
 -- The grammar of attributes, in terms of what is spelled. Language Reference, "Attributes"; Builtin
 -- Dialect, "Attributes".
-use Rattle.std.specs.Prelude.{◌≡◌, ◌⊎◌, ℕ, zero, suc, Bool, true, false, List, [], ◌∷◌, ◌++◌, Some, None, ℤ}
+use Rattle.std.specs.Prelude.{◌≡◌, ◌⊎◌, ℕ, zero, suc, Bool, true, false, ◌&&◌, List, [], ◌∷◌, ◌++◌, Option, Some, None, ℤ}
 use Rattle.std.specs.Str.{bytes_eq}
 use Rattle.ir_text_tokens.specs.declared.token.Mark.{Mark}
 use Rattle.ir_text_tokens.specs.declared.token.Mark.TheVariants.{OpenRound, OpenCurly, CloseCurly, OpenSquare, CloseSquare, Less, Greater, Equal, Colon, DoubleColon, Minus}
-use Rattle.ir_text_tokens.specs.Tokens.{Lexeme, mark, integer, string, bare, hash, symbol, quoted}
+use Rattle.ir_text_tokens.specs.Tokens.{Lexeme, mark, integer, float, string, bare, hash, bang, symbol, quoted, skip}
 use Rattle.ir_text_tokens.specs.Strings.{string_bytes}
 use Rattle.ir_text_tokens.specs.Numbers.{integer_of, below_limit}
 use Rattle.ir_types.specs.declared.node.Sign.TheVariants.{Signless}
 use Rattle.ir_types.specs.Limits.{most_depth, most_entries}
-use Rattle.ir_types.specs.Terms.{TypeTerm, Integer, AttrTerm, IntegerOf, String, TypeOf, Flag, Array, Dictionary, Symbol, DenseArray, Overflow, AttrTerms, no_attrs, next_attr, EntryTerms, no_entries, next_entry}
+use Rattle.ir_types.specs.Terms.{TypeTerm, Integer, AttrTerm, IntegerOf, String, TypeOf, Flag, Array, Dictionary, Symbol, DenseArray, Overflow, OpaqueOf, AttrTerms, no_attrs, next_attr, EntryTerms, no_entries, next_entry}
 use Rattle.ir_types.specs.Readings.{literal_bits, reading_of}
 use Rattle.ir_types.specs.Reasons.{attr_fault}
 use Rattle.ir_tree.specs.Meaning.{key_before}
@@ -17,8 +17,12 @@ use Rattle.ir_text_attributes.specs.declared.flag.Flag as code
 use Rattle.ir_text_types.specs.Grammars.{Grammar, Then, Done, DoneIf, When, After, Not, Either, IsMore, IsList, Token, IsMark}
 use Rattle.ir_text_types.specs.TypeReading.{many}
 use Rattle.ir_text_types.specs.Typed.{Text}
+use Rattle.ir_text_types.specs.OpaqueTypes.{bracketed, dialect_text}
 use Rattle.ir_text_types.specs.TypeGrammar.{IsType}
-use Rattle.ir_text_attributes.specs.Literals.{Word, Truth, UnitWord, ArrayWord, TypeWord, word_of, truth_bits, overflow_word, none_word, flag_of, has_nsw, has_nuw}
+use Rattle.ir_text_attributes.specs.declared.tail.Tail.{Tail}
+use Rattle.ir_text_attributes.specs.declared.tail.Tail.TheVariants.{SomeType, TypeOrNone, OpaqueOrNone, NoType}
+use Rattle.ir_text_attributes.specs.OpaqueAttributes.{tail_in, kept_text, quoted_text, signed_text, is_hexadecimal, is_opaque_type, opens_other}
+use Rattle.ir_text_attributes.specs.Literals.{Word, Truth, UnitWord, ArrayWord, TypeWord, array_word, word_of, truth_bits, overflow_word, none_word, flag_of, has_nsw, has_nuw}
 use Rattle.ir_text_attributes.specs.Keyed.{has_key, in_order}
 pub use Rattle.ir_text_attributes.specs.Elements.{is_bit, element_of}
 
@@ -26,28 +30,68 @@ pub use Rattle.ir_text_attributes.specs.Elements.{is_bit, element_of}
 abbrev pub IsFine : AttrTerm → Grammar Text AttrTerm
 IsFine y = DoneIf (attr_fault y ≡ None) y
 
--- a type as an attribute
-abbrev pub IsTypeAttr : ℕ → Grammar Text AttrTerm
-IsTypeAttr depth = Then (IsType depth) (λ t. IsFine (TypeOf t))
-
--- ---- literals
-
--- the type behind a colon, or 64 bits where none follows
-abbrev pub IsSuffix : Grammar Text TypeTerm
-IsSuffix = Either IsMark Colon (IsType most_depth) (Done (Integer Signless 64))
-
 -- a magnitude, with a minus before it or none, as a literal of a type, which has bits of it
-abbrev pub IsLiteralOf : Bool → ℕ → TypeTerm → Grammar Text AttrTerm
-IsLiteralOf negative n t y old new = (bits : ℕ) × (literal_bits t negative n ≡ Some bits) × IsFine (IntegerOf t bits) y old new
+abbrev pub IsIntegerOf : Bool → ℕ → TypeTerm → Grammar Text AttrTerm
+IsIntegerOf negative n t y old new = (bits : ℕ) × (literal_bits t negative n ≡ Some bits) × IsFine (IntegerOf t bits) y old new
 
--- behind the digits
-abbrev pub IsLiteral : Bool → List ℕ → Grammar Text AttrTerm
-IsLiteral negative digits y old new =
-    (n : ℕ) × (below_limit (integer_of digits) ≡ Some n) × Then IsSuffix (IsLiteralOf negative n) y old new
+-- hexadecimal digits of an opaque type are kept as they are spelled, other digits are an integer
+abbrev pub IsLiteralOf : Bool → List ℕ → ℕ → TypeTerm → Grammar Text AttrTerm
+IsLiteralOf negative digits n t y old new =
+    (((is_opaque_type t && is_hexadecimal digits) ≡ true) × IsFine (OpaqueOf (signed_text negative digits) (Some t)) y old new)
+    ⊎ (((is_opaque_type t && is_hexadecimal digits) ≡ false) × IsIntegerOf negative n t y old new)
 
--- behind a minus
-abbrev pub IsNegative : Grammar Text AttrTerm
-IsNegative y old new = (digits : List ℕ) × (rest : Text) × Token (integer digits) old rest × IsLiteral true digits y rest new
+-- what begins with a type; `opaque` tells whether types and attributes that aren't known are spelled by their texts,
+-- and `types` how deep a type may be
+module _ (opaque : Bool) where
+  -- a type as an attribute
+  abbrev pub IsTypeAttr : ℕ → Grammar Text AttrTerm
+  IsTypeAttr types = Then (IsType opaque types) (λ t. IsFine (TypeOf t))
+
+  -- ---- literals
+
+  -- the type behind a colon, or 64 bits where none follows
+  abbrev pub IsSuffix : Grammar Text TypeTerm
+  IsSuffix = Either IsMark Colon (IsType opaque most_depth) (Done (Integer Signless 64))
+
+  -- behind the digits
+  abbrev pub IsLiteral : Bool → List ℕ → Grammar Text AttrTerm
+  IsLiteral negative digits y old new =
+      (n : ℕ) × (below_limit (integer_of digits) ≡ Some n) × Then IsSuffix (IsLiteralOf negative digits n) y old new
+
+  -- ---- attributes that are kept as they are spelled
+
+  -- the type behind the colon
+  abbrev pub IsTyped : ℕ → List ℕ → Grammar Text AttrTerm
+  IsTyped types text = Then (IsType opaque types) (λ t. IsFine (OpaqueOf text (Some t)))
+
+  abbrev pub IsOpaqueTyped : ℕ → List ℕ → Grammar Text AttrTerm
+  IsOpaqueTyped types text = Then (IsType opaque types) (λ t. When (is_opaque_type t ≡ true) (IsFine (OpaqueOf text (Some t))))
+
+  -- what stands behind the text
+  abbrev pub IsTail : ℕ → Tail → List ℕ → Grammar Text AttrTerm
+  IsTail types SomeType text = After IsMark Colon (IsTyped types text)
+  IsTail types TypeOrNone text = Either IsMark Colon (IsTyped types text) (IsFine (OpaqueOf text None))
+  IsTail types OpaqueOrNone text = Either IsMark Colon (IsOpaqueTyped types text) (IsFine (OpaqueOf text None))
+  IsTail types NoType text = IsFine (OpaqueOf text None)
+
+  -- a text, where there is one, with what follows it
+  abbrev pub IsKept : ℕ → Tail → Option (List ℕ × List ℕ) → AttrTerm → Text → Type 0
+  IsKept types tail found y new = (x : List ℕ × List ℕ) × (found ≡ Some x) × IsTail types tail x.0 y x.1 new
+
+  -- a string: one that a type follows is kept as it is spelled
+  abbrev pub IsString : ℕ → List ℕ → Grammar Text AttrTerm
+  IsString types raw y old new =
+      ((opaque ≡ true) × Either IsMark Colon (IsTyped types (quoted_text raw)) (IsFine (String (string_bytes raw))) y old new)
+      ⊎ ((opaque ≡ false) × IsFine (String (string_bytes raw)) y old new)
+
+  -- behind a minus, by the token
+  abbrev pub IsNegativeFrom : ℕ → Lexeme → Grammar Text AttrTerm
+  IsNegativeFrom types (integer digits) y rest new = IsLiteral true digits y rest new
+  IsNegativeFrom types (float digits) y rest new = (opaque ≡ true) × IsTail types OpaqueOrNone (45 ∷ digits) y rest new
+  IsNegativeFrom types _ y rest new = ⊥
+
+  abbrev pub IsNegative : ℕ → Grammar Text AttrTerm
+  IsNegative types y old new = (t : Lexeme) × (rest : Text) × Token t old rest × IsNegativeFrom types t y rest new
 
 -- ---- flags
 
@@ -147,32 +191,53 @@ module _ (depth : ℕ) (P : Grammar Text AttrTerm) where
   unfoldable pub IsArray : Grammar Text AttrTerm
   IsArray = Then (IsList IsMark CloseSquare (λ before. P) many) (λ xs. IsFine (Array (attrs_of xs)))
 
-  -- ---- by the first token, behind which stands `rest`
+-- ---- by the first token, behind which stands `rest`
+
+module _ (opaque : Bool) (types : ℕ) where
+  -- a dense array of integers, or one that is kept as it is spelled
+  abbrev pub IsArrayWord : Text → AttrTerm → Text → Type 0
+  IsArrayWord rest y new =
+      (((opaque && opens_other rest) ≡ true) × IsKept opaque types NoType (bracketed 60 array_word (skip rest)) y new)
+      ⊎ (((opaque && opens_other rest) ≡ false) × IsDense y rest new)
 
   abbrev pub IsWordAttr : Word → Text → Grammar Text AttrTerm
   IsWordAttr (Truth b) rest y old new = IsFine (IntegerOf (Integer Signless 1) (truth_bits b)) y rest new
   IsWordAttr UnitWord rest y old new = IsFine Flag y rest new
-  IsWordAttr ArrayWord rest y old new = IsDense y rest new
-  IsWordAttr TypeWord rest y old new = IsTypeAttr (suc depth) y old new
+  IsWordAttr ArrayWord rest y old new = IsArrayWord rest y new
+  IsWordAttr TypeWord rest y old new = IsTypeAttr opaque types y old new
 
+  -- by what follows the text that a word begins, where one does
+  abbrev pub IsBare : Option Tail → List ℕ → Text → Grammar Text AttrTerm
+  IsBare None word rest y old new = IsWordAttr (word_of word) rest y old new
+  IsBare (Some tail) word rest y old new = IsKept opaque types tail (kept_text word rest) y new
+
+  -- behind a name with its sign: flags, or an attribute of a dialect
+  abbrev pub IsHash : List ℕ → Text → AttrTerm → Text → Type 0
+  IsHash name rest y new =
+      ((bytes_eq name overflow_word ≡ true) × IsOverflow y rest new)
+      ⊎ ((bytes_eq name overflow_word ≡ false) × ((opaque ≡ true) × IsKept opaque types TypeOrNone (dialect_text 35 name rest) y new))
+
+module _ (opaque : Bool) (depth : ℕ) (P : Grammar Text AttrTerm) where
   abbrev pub IsMarkAttr : Mark → Text → Grammar Text AttrTerm
-  IsMarkAttr Minus rest y old new = IsNegative y rest new
-  IsMarkAttr OpenRound rest y old new = IsTypeAttr (suc depth) y old new
-  IsMarkAttr OpenSquare rest y old new = IsArray y rest new
-  IsMarkAttr OpenCurly rest y old new = IsDictionary y rest new
+  IsMarkAttr Minus rest y old new = IsNegative opaque (suc depth) y rest new
+  IsMarkAttr OpenRound rest y old new = IsTypeAttr opaque (suc depth) y old new
+  IsMarkAttr OpenSquare rest y old new = IsArray depth P y rest new
+  IsMarkAttr OpenCurly rest y old new = IsDictionary depth P y rest new
   IsMarkAttr _ rest y old new = ⊥
 
   abbrev pub IsAttrFrom : Lexeme → Text → Grammar Text AttrTerm
-  IsAttrFrom (bare w) rest y old new = IsWordAttr (word_of w) rest y old new
+  IsAttrFrom (bare w) rest y old new = IsBare opaque (suc depth) (tail_in opaque w) w rest y old new
   IsAttrFrom (mark m) rest y old new = IsMarkAttr m rest y old new
-  IsAttrFrom (integer digits) rest y old new = IsLiteral false digits y rest new
-  IsAttrFrom (string raw) rest y old new = IsFine (String (string_bytes raw)) y rest new
+  IsAttrFrom (integer digits) rest y old new = IsLiteral opaque false digits y rest new
+  IsAttrFrom (float digits) rest y old new = (opaque ≡ true) × IsTail opaque (suc depth) OpaqueOrNone digits y rest new
+  IsAttrFrom (string raw) rest y old new = IsString opaque (suc depth) raw y rest new
   IsAttrFrom (symbol n) rest y old new = IsSymbol y old new
   IsAttrFrom (quoted raw) rest y old new = IsSymbol y old new
-  IsAttrFrom (hash w) rest y old new = (bytes_eq w overflow_word ≡ true) × IsOverflow y rest new
+  IsAttrFrom (hash name) rest y old new = IsHash opaque (suc depth) name rest y new
+  IsAttrFrom (bang name) rest y old new = IsTypeAttr opaque (suc depth) y old new
   IsAttrFrom _ rest y old new = ⊥
 
 -- an attribute of at most that depth
-unfoldable pub IsAttr : ℕ → Grammar Text AttrTerm
-IsAttr zero y old new = ⊥
-IsAttr (suc depth) y old new = (t : Lexeme) × (rest : Text) × Token t old rest × IsAttrFrom depth (IsAttr depth) t rest y old new
+unfoldable pub IsAttr : Bool → ℕ → Grammar Text AttrTerm
+IsAttr opaque zero y old new = ⊥
+IsAttr opaque (suc depth) y old new = (t : Lexeme) × (rest : Text) × Token t old rest × IsAttrFrom opaque depth (IsAttr opaque depth) t rest y old new

@@ -1,9 +1,9 @@
 -- Reading attributes into numbers of a context.
-use Rattle.std.specs.Prelude.{ℕ, zero, suc, nat_eq, Bool, true, false, if◌then◌else◌, List, [], ◌∷◌, ◌++◌, Option, Some, None, ℤ}
+use Rattle.std.specs.Prelude.{ℕ, zero, suc, nat_eq, Bool, true, false, ◌&&◌, if◌then◌else◌, List, [], ◌∷◌, ◌++◌, Option, Some, None, ℤ}
 use Rattle.std.specs.Str.{bytes_eq}
 use Rattle.ir_text_tokens.specs.declared.token.Mark.{Mark}
 use Rattle.ir_text_tokens.specs.declared.token.Mark.TheVariants.{OpenRound, OpenCurly, CloseCurly, OpenSquare, CloseSquare, Less, Greater, Equal, Colon, DoubleColon, Minus}
-use Rattle.ir_text_tokens.specs.Tokens.{Lexeme, mark, integer, string, bare, hash, symbol, quoted, next}
+use Rattle.ir_text_tokens.specs.Tokens.{Lexeme, mark, integer, float, string, bare, hash, bang, symbol, quoted, next, skip}
 use Rattle.ir_text_tokens.specs.Strings.{string_bytes}
 use Rattle.ir_text_tokens.specs.Numbers.{integer_of, below_limit}
 use Rattle.ir_types.specs.declared.node.Sign.TheVariants.{Signless}
@@ -19,8 +19,12 @@ use Rattle.ir_text_attributes.specs.declared.element.Element.{Element}
 use Rattle.ir_text_types.specs.Outcomes.{Outcome, Read, Wrong, ◌>>=◌, of_option, Parse}
 use Rattle.ir_text_types.specs.Lists.{more_at, list_at}
 use Rattle.ir_text_types.specs.Typed.{Typed, after_typed, name_step, attr_step}
+use Rattle.ir_text_types.specs.OpaqueTypes.{bracketed, dialect_text}
 use Rattle.ir_text_types.specs.TypeReading.{many, type_done, type_at}
-use Rattle.ir_text_attributes.specs.Literals.{Word, Truth, UnitWord, ArrayWord, TypeWord, word_of, truth_bits, overflow_word, none_word, flag_of, has_nsw, has_nuw}
+use Rattle.ir_text_attributes.specs.declared.tail.Tail.{Tail}
+use Rattle.ir_text_attributes.specs.declared.tail.Tail.TheVariants.{SomeType, TypeOrNone, OpaqueOrNone, NoType}
+use Rattle.ir_text_attributes.specs.OpaqueAttributes.{tail_in, kept_text, quoted_text, signed_text, is_hexadecimal, is_opaque_type, opens_other}
+use Rattle.ir_text_attributes.specs.Literals.{Word, Truth, UnitWord, ArrayWord, TypeWord, array_word, word_of, truth_bits, overflow_word, none_word, flag_of, has_nsw, has_nuw}
 use Rattle.ir_text_attributes.specs.Elements.{bits_of, type_of, element_named, is_bit, item_value}
 use Rattle.ir_text_attributes.specs.Keyed.{has_key}
 
@@ -46,39 +50,89 @@ string_attr_at raw s = do
   n ← name_step (string_bytes raw) s.1
   attr_done (attr.Str n.0) (s.0, n.1)
 
-unfoldable pub type_attr_at : ℕ → Parse Typed ℕ
-type_attr_at depth s = do
-  t ← type_at depth s
-  attr_done (attr.Ty t.0) t.1
+-- the literal of a type, where it is one; hexadecimal digits of an opaque type are kept as they are spelled
+abbrev pub literal_of : Bool → List ℕ → ℕ → ℕ → TypeTerm → Parse Typed ℕ
+literal_of negative digits n t ty s =
+    if is_opaque_type ty && is_hexadecimal digits then attr_done (attr.Opaque (signed_text negative digits) (Some t)) s
+    else of_option (literal_bits ty negative n) >>= λ bits. attr_done (attr.Int t bits) s
 
--- ---- literals
+unfoldable pub literal_done : Bool → List ℕ → ℕ → ℕ → Parse Typed ℕ
+literal_done negative digits n t s = literal_of negative digits n t (type_term s.1 t) s
 
-abbrev pub suffix_from : Typed → Option Typed → Outcome (ℕ × Typed)
-suffix_from s (Some c) = type_at most_depth c
-suffix_from s None = type_done (type.Int Signless 64) s
+-- what begins with a type; `opaque` tells whether types and attributes that aren't known are read as their texts, and
+-- `types` how deep a type may be
+module _ (opaque : Bool) where
+  unfoldable pub type_attr_at : ℕ → Parse Typed ℕ
+  type_attr_at types s = do
+    t ← type_at opaque types s
+    attr_done (attr.Ty t.0) t.1
 
--- the type of a literal: 64 bits where no colon follows
-unfoldable pub suffix_at : Parse Typed ℕ
-suffix_at s = suffix_from s (after_typed Colon s)
+  -- ---- literals
 
--- the literal of a type, where it is one
-unfoldable pub literal_done : Bool → ℕ → ℕ → Parse Typed ℕ
-literal_done negative n t s = of_option (literal_bits (type_term s.1 t) negative n) >>= λ bits. attr_done (attr.Int t bits) s
+  abbrev pub suffix_from : Typed → Option Typed → Outcome (ℕ × Typed)
+  suffix_from s (Some c) = type_at opaque most_depth c
+  suffix_from s None = type_done (type.Int Signless 64) s
 
--- behind the digits
-unfoldable pub literal_at : Bool → List ℕ → Parse Typed ℕ
-literal_at negative digits s = do
-  n ← of_option (below_limit (integer_of digits))
-  t ← suffix_at s
-  literal_done negative n t.0 t.1
+  -- the type of a literal: 64 bits where no colon follows
+  unfoldable pub suffix_at : Parse Typed ℕ
+  suffix_at s = suffix_from s (after_typed Colon s)
 
-abbrev pub negative_from : Things → Lexeme → List ℕ → Outcome (ℕ × Typed)
-negative_from c (integer digits) rest = literal_at true digits (rest, c)
-negative_from c _ rest = Wrong
+  -- behind the digits
+  unfoldable pub literal_at : Bool → List ℕ → Parse Typed ℕ
+  literal_at negative digits s = do
+    n ← of_option (below_limit (integer_of digits))
+    t ← suffix_at s
+    literal_done negative digits n t.0 t.1
 
--- behind a minus
-unfoldable pub negative_at : Parse Typed ℕ
-negative_at s = of_option (next s.0) >>= λ t. negative_from s.1 t.0 t.1
+  -- ---- attributes that are kept as they are spelled
+
+  -- the type behind the colon
+  unfoldable pub typed_at : ℕ → List ℕ → Parse Typed ℕ
+  typed_at types text s = do
+    t ← type_at opaque types s
+    attr_done (attr.Opaque text (Some t.0)) t.1
+
+  abbrev pub opaque_of : ℕ → List ℕ → TypeTerm → Parse Typed ℕ
+  opaque_of t text ty s = if is_opaque_type ty then attr_done (attr.Opaque text (Some t)) s else Wrong
+
+  unfoldable pub opaque_typed_done : ℕ → List ℕ → Parse Typed ℕ
+  opaque_typed_done t text s = opaque_of t text (type_term s.1 t) s
+
+  unfoldable pub opaque_typed_at : ℕ → List ℕ → Parse Typed ℕ
+  opaque_typed_at types text s = do
+    t ← type_at opaque types s
+    opaque_typed_done t.0 text t.1
+
+  -- p reads what stands behind a colon, and q where none stands
+  abbrev pub colon_from : Parse Typed ℕ → Parse Typed ℕ → Typed → Option Typed → Outcome (ℕ × Typed)
+  colon_from p q s (Some c) = p c
+  colon_from p q s None = q s
+
+  -- what stands behind the text
+  abbrev pub tail_at : ℕ → Tail → List ℕ → Parse Typed ℕ
+  tail_at types SomeType text s = of_option (after_typed Colon s) >>= typed_at types text
+  tail_at types TypeOrNone text s = colon_from (typed_at types text) (attr_done (attr.Opaque text None)) s (after_typed Colon s)
+  tail_at types OpaqueOrNone text s = colon_from (opaque_typed_at types text) (attr_done (attr.Opaque text None)) s (after_typed Colon s)
+  tail_at types NoType text s = attr_done (attr.Opaque text None) s
+
+  -- a text, where there is one, with what follows it
+  abbrev pub kept_at : ℕ → Tail → Option (List ℕ × List ℕ) → Things → Outcome (ℕ × Typed)
+  kept_at types tail found c = of_option found >>= λ x. tail_at types tail x.0 (x.1, c)
+
+  -- a string: one that a type follows is kept as it is spelled
+  abbrev pub string_at : ℕ → List ℕ → Parse Typed ℕ
+  string_at types raw s =
+      if opaque then colon_from (typed_at types (quoted_text raw)) (string_attr_at raw) s (after_typed Colon s)
+      else string_attr_at raw s
+
+  abbrev pub negative_from : ℕ → Things → Lexeme → List ℕ → Outcome (ℕ × Typed)
+  negative_from types c (integer digits) rest = literal_at true digits (rest, c)
+  negative_from types c (float digits) rest = if opaque then tail_at types OpaqueOrNone (45 ∷ digits) (rest, c) else Wrong
+  negative_from types c _ rest = Wrong
+
+  -- behind a minus
+  unfoldable pub negative_at : ℕ → Parse Typed ℕ
+  negative_at types s = of_option (next s.0) >>= λ t. negative_from types s.1 t.0 t.1
 
 -- ---- flags
 
@@ -253,35 +307,54 @@ module _ (depth : ℕ) (p : Parse Typed ℕ) where
 
 -- ---- by the first token, behind which stands `rest`; types have a depth of their own
 
-abbrev pub word_attr : ℕ → Word → Typed → List ℕ → Outcome (ℕ × Typed)
-word_attr types (Truth b) s rest = truth_at b (rest, s.1)
-word_attr types UnitWord s rest = attr_done attr.Unit (rest, s.1)
-word_attr types ArrayWord s rest = dense_at (rest, s.1)
-word_attr types TypeWord s rest = type_attr_at types s
+module _ (opaque : Bool) (types : ℕ) where
+  -- a dense array of integers, or one that is kept as it is spelled
+  abbrev pub array_word_at : Things → List ℕ → Outcome (ℕ × Typed)
+  array_word_at c rest = if opaque && opens_other rest then kept_at opaque types NoType (bracketed 60 array_word (skip rest)) c else dense_at (rest, c)
 
-module _ (types depth : ℕ) (p : Parse Typed ℕ) where
+  abbrev pub word_attr : Word → Typed → List ℕ → Outcome (ℕ × Typed)
+  word_attr (Truth b) s rest = truth_at b (rest, s.1)
+  word_attr UnitWord s rest = attr_done attr.Unit (rest, s.1)
+  word_attr ArrayWord s rest = array_word_at s.1 rest
+  word_attr TypeWord s rest = type_attr_at opaque types s
+
+  -- by what follows the text that a word begins, where one does
+  abbrev pub bare_attr : Option Tail → List ℕ → Typed → List ℕ → Outcome (ℕ × Typed)
+  bare_attr None word s rest = word_attr (word_of word) s rest
+  bare_attr (Some tail) word s rest = kept_at opaque types tail (kept_text word rest) s.1
+
+  -- behind a name with its sign: flags, or an attribute of a dialect
+  abbrev pub hash_attr : List ℕ → Typed → List ℕ → Outcome (ℕ × Typed)
+  hash_attr name s rest =
+      if bytes_eq name overflow_word then overflow_at (rest, s.1)
+      else if opaque then kept_at opaque types TypeOrNone (dialect_text 35 name rest) s.1
+      else Wrong
+
+module _ (opaque : Bool) (types depth : ℕ) (p : Parse Typed ℕ) where
   abbrev pub mark_attr : Mark → Typed → List ℕ → Outcome (ℕ × Typed)
-  mark_attr Minus s rest = negative_at (rest, s.1)
-  mark_attr OpenRound s rest = type_attr_at types s
+  mark_attr Minus s rest = negative_at opaque types (rest, s.1)
+  mark_attr OpenRound s rest = type_attr_at opaque types s
   mark_attr OpenSquare s rest = array_by depth p (rest, s.1)
   mark_attr OpenCurly s rest = dictionary_by depth p (rest, s.1)
   mark_attr _ s rest = Wrong
 
   abbrev pub attr_from : Typed → Lexeme → List ℕ → Outcome (ℕ × Typed)
-  attr_from s (bare w) rest = word_attr types (word_of w) s rest
+  attr_from s (bare w) rest = bare_attr opaque types (tail_in opaque w) w s rest
   attr_from s (mark m) rest = mark_attr m s rest
-  attr_from s (integer digits) rest = literal_at false digits (rest, s.1)
-  attr_from s (string raw) rest = string_attr_at raw (rest, s.1)
+  attr_from s (integer digits) rest = literal_at opaque false digits (rest, s.1)
+  attr_from s (float digits) rest = if opaque then tail_at opaque types OpaqueOrNone digits (rest, s.1) else Wrong
+  attr_from s (string raw) rest = string_at opaque types raw (rest, s.1)
   attr_from s (symbol n) rest = symbol_attr_at s
   attr_from s (quoted raw) rest = symbol_attr_at s
-  attr_from s (hash w) rest = if bytes_eq w overflow_word then overflow_at (rest, s.1) else Wrong
+  attr_from s (hash name) rest = hash_attr opaque types name s rest
+  attr_from s (bang name) rest = type_attr_at opaque types s
   attr_from s _ rest = Wrong
 
 -- an attribute of at most that depth
-unfoldable pub attr_at : ℕ → Parse Typed ℕ
-attr_at zero s = Wrong
-attr_at (suc depth) s = of_option (next s.0) >>= λ t. attr_from (suc depth) depth (attr_at depth) s t.0 t.1
+unfoldable pub attr_at : Bool → ℕ → Parse Typed ℕ
+attr_at opaque zero s = Wrong
+attr_at opaque (suc depth) s = of_option (next s.0) >>= λ t. attr_from opaque (suc depth) depth (attr_at opaque depth) s t.0 t.1
 
 -- the value of an entry
-abbrev pub value_at : ℕ → Parse Typed ℕ
-value_at depth = value_by depth (attr_at depth)
+abbrev pub value_at : Bool → ℕ → Parse Typed ℕ
+value_at opaque depth = value_by depth (attr_at opaque depth)

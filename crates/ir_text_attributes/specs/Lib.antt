@@ -1,4 +1,5 @@
 pub mod Literals
+pub mod OpaqueAttributes
 pub mod Elements
 pub mod Keyed
 pub mod AttrReading

@@ -1,5 +1,5 @@
 -- Reading one attribute and nothing after it.
-use Rattle.std.specs.Prelude.{ℕ, List}
+use Rattle.std.specs.Prelude.{ℕ, Bool, List}
 use Rattle.ir_text_tokens.specs.declared.token.Mark.TheVariants.{End}
 use Rattle.ir_types.specs.Limits.{most_depth}
 use Rattle.ir_types.specs.Things.{Things}
@@ -7,5 +7,5 @@ use Rattle.ir_text_types.specs.Marks.{after}
 use Rattle.ir_text_types.specs.Outcomes.{Outcome, Read, ◌>>=◌, of_option}
 use Rattle.ir_text_attributes.specs.AttrReading.{attr_at}
 
-unfoldable pub single_attr_at : List ℕ → Things → Outcome (ℕ × Things)
-single_attr_at bytes c = attr_at most_depth (bytes, c) >>= λ x. of_option (after End x.1.0) >>= λ end. Read (x.0, x.1.1)
+unfoldable pub single_attr_at : Bool → List ℕ → Things → Outcome (ℕ × Things)
+single_attr_at opaque bytes c = attr_at opaque most_depth (bytes, c) >>= λ x. of_option (after End x.1.0) >>= λ end. Read (x.0, x.1.1)

@@ -23,9 +23,10 @@ fn attrs<'a>(
     alloc: Global,
     ctx: &mut Context,
     bytes: &'a [u8],
+    opaque: bool,
     depth: u32,
 ) -> Result<(Vec<AttrId>, &'a [u8]), ReadError>
-    ensures reads { Gives (λ x. (x.0.items, (x.1.now, ctx.new))) result (attrs_by depth (attr_at depth) (bytes.now, ctx.old)) }
+    ensures reads { Gives (λ x. (x.0.items, (x.1.now, ctx.new))) result (attrs_by depth (attr_at opaque depth) (bytes.now, ctx.old)) }
     ensures grows { Grows ctx.old ctx.new }
 {
     let mut items = Vec::new(alloc);
@@ -34,7 +35,7 @@ fn attrs<'a>(
     }
     let mut rest = bytes;
     'items: for _ in 0..MANY {
-        let (item, tail) = match attr(alloc, ctx, rest, depth) {
+        let (item, tail) = match attr(alloc, ctx, rest, opaque, depth) {
             Ok(found) => found,
             Err(e) => return Err(e),
         };
@@ -54,13 +55,14 @@ pub(crate) fn array<'a>(
     alloc: Global,
     ctx: &mut Context,
     bytes: &'a [u8],
+    opaque: bool,
     depth: u32,
 ) -> Result<(AttrId, &'a [u8]), ReadError>
-    ensures reads { Gives (λ x. (x.0, (x.1.now, ctx.new))) result (array_by depth (attr_at depth) (bytes.now, ctx.old)) }
+    ensures reads { Gives (λ x. (x.0, (x.1.now, ctx.new))) result (array_by depth (attr_at opaque depth) (bytes.now, ctx.old)) }
     ensures grows { Grows ctx.old ctx.new }
 {
     ctx.sound();
-    let (items, rest) = match attrs(alloc, ctx, bytes, depth) {
+    let (items, rest) = match attrs(alloc, ctx, bytes, opaque, depth) {
         Ok(found) => found,
         Err(e) => return Err(e),
     };

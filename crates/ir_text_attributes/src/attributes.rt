@@ -1,26 +1,32 @@
 //! Attributes. Language Reference, "Attributes"; Builtin Dialect, "Attributes".
 ghost use Rattle.std.specs.Prelude.{◌≡◌, if◌then◌else◌};
-ghost use Rattle.std.specs.Str.{bytes_eq};
 ghost use Rattle.ir_types.specs.Things.{AttrIsOf, Grows};
 ghost use Rattle.ir_text_types.specs.Outcomes.{Gives, Wrong};
-ghost use Rattle.ir_text_attributes.specs.Literals.{word_of, overflow_word};
-ghost use Rattle.ir_text_attributes.specs.AttrReading.{attr_done, truth_at, string_attr_at, type_attr_at, overflow_at, word_attr, mark_attr, attr_at};
+ghost use Rattle.ir_text_attributes.specs.Literals.{word_of};
+ghost use Rattle.ir_text_attributes.specs.OpaqueAttributes.{tail_in};
+ghost use Rattle.ir_text_attributes.specs.declared.tail.Tail.TheVariants.{OpaqueOrNone};
+ghost use Rattle.ir_text_attributes.specs.AttrReading.{attr_done, truth_at, string_attr_at, type_attr_at, overflow_at, tail_at, string_at, array_word_at, word_attr, bare_attr, mark_attr, hash_attr, attr_at};
 
 use crate::arrays::array;
 use crate::dense::dense;
 use crate::dictionaries::dictionary;
 use crate::flags::{flags, has_nsw, has_nuw};
 use crate::literals::{literal, negative};
+use crate::spelled::{array_text, kept_text, opens_other, quoted_text, signed_text, tail_in};
 use crate::symbols::symbol;
+use crate::tail::Tail;
+use crate::tails::{tail, typed};
 use ir_text_tokens::refusal::TextRefusal;
 use ir_text_tokens::strings::string_value;
 use ir_text_tokens::token::{Mark, Token};
 use ir_text_types::error::{ReadError, wrong};
-use ir_text_types::steps::{self, expect, token};
+use ir_text_types::opaque::dialect_text;
+use ir_text_types::steps::{self, after, expect, token};
 use ir_text_types::types::{self, token_refusal, ty};
 use ir_types::context::Context;
 use ir_types::ids::AttrId;
 use ir_types::node::{AttrNode, Sign, TypeNode};
+use ir_types_items::lists::Items;
 use std::alloc::Global;
 
 /// The number of an attribute that stands in front of these bytes.
@@ -91,13 +97,14 @@ fn type_attr<'a>(
     alloc: Global,
     ctx: &mut Context,
     bytes: &'a [u8],
+    opaque: bool,
     depth: u32,
 ) -> Result<(AttrId, &'a [u8]), ReadError>
-    ensures reads { Gives (λ x. (x.0, (x.1.now, ctx.new))) result (type_attr_at depth (bytes.now, ctx.old)) }
+    ensures reads { Gives (λ x. (x.0, (x.1.now, ctx.new))) result (type_attr_at opaque depth (bytes.now, ctx.old)) }
     ensures grows { Grows ctx.old ctx.new }
 {
     ctx.sound();
-    let (id, rest) = match ty(alloc, ctx, bytes, depth) {
+    let (id, rest) = match ty(alloc, ctx, bytes, opaque, depth) {
         Ok(found) => found,
         Err(e) => return Err(e),
     };
@@ -121,7 +128,58 @@ fn overflow<'a>(
     kept(ctx, AttrNode::Overflow { nsw, nuw }, rest)
 }
 
-/// An attribute that begins with a word, behind which stands `rest`; a type of at most that depth.
+/// A string, behind which these bytes stand: one that a type follows is kept as it is spelled, where such attributes
+/// are read.
+#[tactic(auto, using(ir_types::proofs::Growth::grows_refl, ir_types::proofs::Growth::grows_trans))]
+fn string_attr<'a>(
+    alloc: Global,
+    ctx: &mut Context,
+    raw: &[u8],
+    bytes: &'a [u8],
+    opaque: bool,
+    types: u32,
+) -> Result<(AttrId, &'a [u8]), ReadError>
+    ensures reads { Gives (λ x. (x.0, (x.1.now, ctx.new))) result (string_at opaque types raw.now (bytes.now, ctx.old)) }
+    ensures grows { Grows ctx.old ctx.new }
+{
+    if !opaque {
+        return string(alloc, ctx, raw, bytes);
+    }
+    match after(bytes, Mark::Colon) {
+        Some(rest) => {
+            let text = quoted_text(alloc, raw)?;
+            typed(alloc, ctx, text, rest, opaque, types)
+        }
+        None => string(alloc, ctx, raw, bytes),
+    }
+}
+
+/// A dense array of integers behind its word, or one that is kept as it is spelled.
+#[tactic(auto, using(ir_types::proofs::Growth::grows_refl, ir_types::proofs::Growth::grows_trans))]
+fn array_attr<'a>(
+    alloc: Global,
+    ctx: &mut Context,
+    rest: &'a [u8],
+    opaque: bool,
+    types: u32,
+) -> Result<(AttrId, &'a [u8]), ReadError>
+    ensures reads { Gives (λ x. (x.0, (x.1.now, ctx.new))) result (array_word_at opaque types ctx.old rest.now) }
+    ensures grows { Grows ctx.old ctx.new }
+{
+    if opaque && opens_other(rest) {
+        return match array_text(alloc, rest) {
+            Ok((text, behind)) => {
+                let text = Items::new(text);
+                tail(alloc, ctx, Tail::NoType, text, behind, opaque, types)
+            }
+            Err(e) => Err(e),
+        };
+    }
+    dense(alloc, ctx, rest)
+}
+
+/// An attribute that begins with a word that nothing is kept behind, behind which stands `rest`; a type of at most that
+/// depth.
 #[tactic(auto, using(ir_types::proofs::Growth::grows_refl, ir_types::proofs::Growth::grows_trans))]
 fn word_attr<'a>(
     alloc: Global,
@@ -129,9 +187,10 @@ fn word_attr<'a>(
     word: &[u8],
     bytes: &'a [u8],
     rest: &'a [u8],
+    opaque: bool,
     types: u32,
 ) -> Result<(AttrId, &'a [u8]), ReadError>
-    ensures reads { Gives (λ x. (x.0, (x.1.now, ctx.new))) result (word_attr types (word_of word.now) (bytes.now, ctx.old) rest.now) }
+    ensures reads { Gives (λ x. (x.0, (x.1.now, ctx.new))) result (word_attr opaque types (word_of word.now) (bytes.now, ctx.old) rest.now) }
     ensures grows { Grows ctx.old ctx.new }
 {
     if word == b"true".as_slice() {
@@ -144,9 +203,35 @@ fn word_attr<'a>(
         return kept(ctx, AttrNode::Unit, rest);
     }
     if word == b"array".as_slice() {
-        return dense(alloc, ctx, rest);
+        return array_attr(alloc, ctx, rest, opaque, types);
     }
-    type_attr(alloc, ctx, bytes, types)
+    type_attr(alloc, ctx, bytes, opaque, types)
+}
+
+/// An attribute that begins with a word, behind which stands `rest`.
+#[tactic(auto, using(ir_types::proofs::Growth::grows_refl, ir_types::proofs::Growth::grows_trans))]
+fn bare_attr<'a>(
+    alloc: Global,
+    ctx: &mut Context,
+    word: &[u8],
+    bytes: &'a [u8],
+    rest: &'a [u8],
+    opaque: bool,
+    types: u32,
+) -> Result<(AttrId, &'a [u8]), ReadError>
+    ensures reads { Gives (λ x. (x.0, (x.1.now, ctx.new))) result (bare_attr opaque types (tail_in opaque word.now) word.now (bytes.now, ctx.old) rest.now) }
+    ensures grows { Grows ctx.old ctx.new }
+{
+    let Some(following) = tail_in(opaque, word) else {
+        return word_attr(alloc, ctx, word, bytes, rest, opaque, types);
+    };
+    match kept_text(alloc, word, rest) {
+        Ok((text, behind)) => {
+            let text = Items::new(text);
+            tail(alloc, ctx, following, text, behind, opaque, types)
+        }
+        Err(e) => Err(e),
+    }
 }
 
 /// An attribute that begins with a mark, behind which stands `rest`: a type of at most `types` deep, or
@@ -159,37 +244,67 @@ fn mark_attr<'a>(
     mark: Mark,
     bytes: &'a [u8],
     rest: &'a [u8],
+    opaque: bool,
     types: u32,
     depth: u32,
 ) -> Result<(AttrId, &'a [u8]), ReadError>
-    ensures reads { Gives (λ x. (x.0, (x.1.now, ctx.new))) result (mark_attr types depth (attr_at depth) mark (bytes.now, ctx.old) rest.now) }
+    ensures reads { Gives (λ x. (x.0, (x.1.now, ctx.new))) result (mark_attr opaque types depth (attr_at opaque depth) mark (bytes.now, ctx.old) rest.now) }
     ensures grows { Grows ctx.old ctx.new }
 {
     match mark {
-        Mark::Minus => negative(alloc, ctx, bytes, rest),
-        Mark::OpenRound => type_attr(alloc, ctx, bytes, types),
-        Mark::OpenSquare => array(alloc, ctx, rest, depth),
-        Mark::OpenCurly => dictionary(alloc, ctx, rest, depth),
+        Mark::Minus => negative(alloc, ctx, bytes, rest, opaque, types),
+        Mark::OpenRound => type_attr(alloc, ctx, bytes, opaque, types),
+        Mark::OpenSquare => array(alloc, ctx, rest, opaque, depth),
+        Mark::OpenCurly => dictionary(alloc, ctx, rest, opaque, depth),
         _ => Err(ReadError::Refused(wrong(TextRefusal::Unexpected, bytes))),
     }
 }
 
-/// The flags of an integer operation behind their name; no other name begins an attribute.
+/// What stands behind a name and its sign: the flags of an integer operation, or an attribute of a dialect.
 #[tactic(auto, using(ir_types::proofs::Growth::grows_refl, ir_types::proofs::Growth::grows_trans))]
 fn hash_attr<'a>(
     alloc: Global,
     ctx: &mut Context,
     word: &[u8],
-    bytes: &[u8],
+    bytes: &'a [u8],
     rest: &'a [u8],
+    opaque: bool,
+    types: u32,
 ) -> Result<(AttrId, &'a [u8]), ReadError>
-    ensures reads { Gives (λ x. (x.0, (x.1.now, ctx.new))) result (if bytes_eq word.now overflow_word then overflow_at (rest.now, ctx.old) else Wrong) }
+    ensures reads { Gives (λ x. (x.0, (x.1.now, ctx.new))) result (hash_attr opaque types word.now (bytes.now, ctx.old) rest.now) }
     ensures grows { Grows ctx.old ctx.new }
 {
     if word == b"arith.overflow".as_slice() {
         return overflow(alloc, ctx, rest);
     }
-    Err(ReadError::Refused(wrong(TextRefusal::LeftOut, bytes)))
+    if !opaque {
+        return Err(ReadError::Refused(wrong(TextRefusal::LeftOut, bytes)));
+    }
+    match dialect_text(alloc, b'#', word, bytes, rest) {
+        Ok((text, behind)) => tail(alloc, ctx, Tail::TypeOrNone, text, behind, opaque, types),
+        Err(e) => Err(e),
+    }
+}
+
+/// The digits of a float, behind which stands `rest`.
+#[tactic(auto, using(ir_types::proofs::Growth::grows_refl, ir_types::proofs::Growth::grows_trans))]
+fn float_attr<'a>(
+    alloc: Global,
+    ctx: &mut Context,
+    digits: &[u8],
+    bytes: &[u8],
+    rest: &'a [u8],
+    opaque: bool,
+    types: u32,
+) -> Result<(AttrId, &'a [u8]), ReadError>
+    ensures reads { Gives (λ x. (x.0, (x.1.now, ctx.new))) result (if opaque then tail_at opaque types OpaqueOrNone digits.now (rest.now, ctx.old) else Wrong) }
+    ensures grows { Grows ctx.old ctx.new }
+{
+    if !opaque {
+        return Err(ReadError::Refused(wrong(TextRefusal::LeftOut, bytes)));
+    }
+    let text = signed_text(alloc, false, digits)?;
+    tail(alloc, ctx, Tail::OpaqueOrNone, text, rest, opaque, types)
 }
 
 /// Whether a mark begins an attribute.
@@ -204,7 +319,7 @@ fn mark_begins(mark: Mark) -> bool {
 }
 
 /// Why no attribute may begin here: it is too deep, where one begins.
-fn past_refusal(bytes: &[u8]) -> TextRefusal {
+fn past_refusal(bytes: &[u8], opaque: bool) -> TextRefusal {
     let Ok((found, _)) = token(bytes) else {
         return TextRefusal::Unexpected;
     };
@@ -216,6 +331,9 @@ fn past_refusal(bytes: &[u8]) -> TextRefusal {
         Token::Quoted(_) => TextRefusal::TooDeep,
         Token::Mark(mark) if mark_begins(mark) => TextRefusal::TooDeep,
         Token::Hash(word) if word == b"arith.overflow".as_slice() => TextRefusal::TooDeep,
+        Token::Hash(_) if opaque => TextRefusal::TooDeep,
+        Token::Bang(_) if opaque => TextRefusal::TooDeep,
+        Token::Float(_) if opaque => TextRefusal::TooDeep,
         _ => token_refusal(&found),
     }
 }
@@ -235,23 +353,26 @@ pub fn attr<'a>(
     alloc: Global,
     ctx: &mut Context,
     bytes: &'a [u8],
+    opaque: bool,
     depth: u32,
 ) -> Result<(AttrId, &'a [u8]), ReadError>
-    ensures reads { Gives (λ x. (x.0, (x.1.now, ctx.new))) result (attr_at depth (bytes.now, ctx.old)) }
+    ensures reads { Gives (λ x. (x.0, (x.1.now, ctx.new))) result (attr_at opaque depth (bytes.now, ctx.old)) }
     ensures grows { Grows ctx.old ctx.new }
 {
     if depth == 0 {
-        return Err(ReadError::Refused(wrong(past_refusal(bytes), bytes)));
+        return Err(ReadError::Refused(wrong(past_refusal(bytes, opaque), bytes)));
     }
     let (found, rest) = token(bytes)?;
     match found {
-        Token::Bare(word) => word_attr(alloc, ctx, word, bytes, rest, depth),
-        Token::Mark(mark) => mark_attr(alloc, ctx, mark, bytes, rest, depth, depth - 1),
-        Token::Integer(digits) => literal(alloc, ctx, bytes, false, digits, rest),
-        Token::String(raw) => string(alloc, ctx, raw, rest),
+        Token::Bare(word) => bare_attr(alloc, ctx, word, bytes, rest, opaque, depth),
+        Token::Mark(mark) => mark_attr(alloc, ctx, mark, bytes, rest, opaque, depth, depth - 1),
+        Token::Integer(digits) => literal(alloc, ctx, bytes, false, digits, rest, opaque),
+        Token::Float(digits) => float_attr(alloc, ctx, digits, bytes, rest, opaque, depth),
+        Token::String(raw) => string_attr(alloc, ctx, raw, rest, opaque, depth),
         Token::Symbol(_) => symbol(alloc, ctx, bytes),
         Token::Quoted(_) => symbol(alloc, ctx, bytes),
-        Token::Hash(word) => hash_attr(alloc, ctx, word, bytes, rest),
+        Token::Hash(word) => hash_attr(alloc, ctx, word, bytes, rest, opaque, depth),
+        Token::Bang(_) => type_attr(alloc, ctx, bytes, opaque, depth),
         _ => Err(ReadError::Refused(wrong(token_refusal(&found), bytes))),
     }
 }

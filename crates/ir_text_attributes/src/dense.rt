@@ -1,5 +1,5 @@
 //! Dense arrays of integers. Builtin Dialect, "DenseArrayAttr".
-ghost use Rattle.std.specs.Prelude.{◌≡◌, ◌<◌, ◌≤◌, ◌^◌, IfSome};
+ghost use Rattle.std.specs.Prelude.{◌≡◌, ◌<◌, ◌≤◌, ◌^◌, IfSome, is_some};
 ghost use Rattle.ir_types.specs.Things.{Things, Grows};
 ghost use Rattle.ir_types.specs.Readings as readings;
 ghost use Rattle.ir_types.specs.Readings.{reading_of};
@@ -45,6 +45,13 @@ fn element_named(word: &[u8]) -> Option<Element>
         return Some(Element::I64);
     }
     None
+}
+
+/// Whether a word names an element type.
+pub(crate) fn is_element(word: &[u8]) -> bool
+    ensures { result ≡ is_some (element_named word.now) }
+{
+    element_named(word).is_some()
 }
 
 /// How many bits an element has.

@@ -81,13 +81,14 @@ pub fn value<'a>(
     ctx: &mut Context,
     start: &[u8],
     bytes: &'a [u8],
+    opaque: bool,
     depth: u32,
 ) -> Result<(AttrId, &'a [u8]), ReadError>
-    ensures reads { Gives (λ x. (x.0, (x.1.now, ctx.new))) result (value_at depth (bytes.now, ctx.old)) }
+    ensures reads { Gives (λ x. (x.0, (x.1.now, ctx.new))) result (value_at opaque depth (bytes.now, ctx.old)) }
     ensures grows { Grows ctx.old ctx.new }
 {
     match after(bytes, Mark::Equal) {
-        Some(rest) => attr(alloc, ctx, rest, depth),
+        Some(rest) => attr(alloc, ctx, rest, opaque, depth),
         None => unit_value(ctx, start, bytes, depth),
     }
 }
@@ -100,9 +101,10 @@ fn entry<'a>(
     ctx: &mut Context,
     before: &[Entry],
     bytes: &'a [u8],
+    opaque: bool,
     depth: u32,
 ) -> Result<(Entry, &'a [u8]), ReadError>
-    ensures reads { Gives (λ x. (x.0, (x.1.now, ctx.new))) result (entry_by depth (attr_at depth) before.now (bytes.now, ctx.old)) }
+    ensures reads { Gives (λ x. (x.0, (x.1.now, ctx.new))) result (entry_by depth (attr_at opaque depth) before.now (bytes.now, ctx.old)) }
     ensures grows { Grows ctx.old ctx.new }
 {
     let (key, rest) = match key(alloc, ctx, bytes) {
@@ -112,7 +114,7 @@ fn entry<'a>(
     if has_key(key, before) {
         return Err(ReadError::Refused(wrong(TextRefusal::DuplicateKey, bytes)));
     }
-    let (attr, rest) = match value(alloc, ctx, bytes, rest, depth) {
+    let (attr, rest) = match value(alloc, ctx, bytes, rest, opaque, depth) {
         Ok(found) => found,
         Err(e) => return Err(e),
     };
@@ -143,9 +145,10 @@ fn entries<'a>(
     alloc: Global,
     ctx: &mut Context,
     bytes: &'a [u8],
+    opaque: bool,
     depth: u32,
 ) -> Result<(Vec<Entry>, &'a [u8]), ReadError>
-    ensures reads { Gives (λ x. (x.0.items, (x.1.now, ctx.new))) result (entries_by depth (attr_at depth) (bytes.now, ctx.old)) }
+    ensures reads { Gives (λ x. (x.0.items, (x.1.now, ctx.new))) result (entries_by depth (attr_at opaque depth) (bytes.now, ctx.old)) }
     ensures grows { Grows ctx.old ctx.new }
 {
     let mut items = Vec::new(alloc);
@@ -154,7 +157,7 @@ fn entries<'a>(
     }
     let mut rest = bytes;
     'items: for _ in 0..MOST_ENTRIES {
-        let (item, tail) = match entry(alloc, ctx, &items, rest, depth) {
+        let (item, tail) = match entry(alloc, ctx, &items, rest, opaque, depth) {
             Ok(found) => found,
             Err(e) => return Err(e),
         };
@@ -174,13 +177,14 @@ pub(crate) fn dictionary<'a>(
     alloc: Global,
     ctx: &mut Context,
     bytes: &'a [u8],
+    opaque: bool,
     depth: u32,
 ) -> Result<(AttrId, &'a [u8]), ReadError>
-    ensures reads { Gives (λ x. (x.0, (x.1.now, ctx.new))) result (dictionary_by depth (attr_at depth) (bytes.now, ctx.old)) }
+    ensures reads { Gives (λ x. (x.0, (x.1.now, ctx.new))) result (dictionary_by depth (attr_at opaque depth) (bytes.now, ctx.old)) }
     ensures grows { Grows ctx.old ctx.new }
 {
     ctx.sound();
-    let (entries, rest) = match entries(alloc, ctx, bytes, depth) {
+    let (entries, rest) = match entries(alloc, ctx, bytes, opaque, depth) {
         Ok(found) => found,
         Err(e) => return Err(e),
     };

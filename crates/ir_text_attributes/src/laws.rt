@@ -1,6 +1,6 @@
 //! Laws of reading. A context is given by what it holds, and a reading by its definition, which the
 //! contracts of the functions that read name.
-ghost use Rattle.std.specs.Prelude.{◌≡◌, ◌⊎◌, ℕ, List};
+ghost use Rattle.std.specs.Prelude.{◌≡◌, ◌⊎◌, ℕ, Bool, List};
 ghost use Rattle.ir_types.specs.Sound.{IsSound};
 ghost use Rattle.ir_types.specs.Terms.{AttrTerm, attr_term};
 ghost use Rattle.ir_types.specs.Things.{Things, Grows, IsAttr as IsAttrOf};
@@ -14,13 +14,13 @@ ghost use Rattle.ir_text_types.specs.Standing.{AttrStands};
 /// An attribute that is read is spelled by the grammar, as the grown context has it; and each attribute
 /// that is spelled is read, unless the context grows full on the way.
 pub fn attributes_are_read_as_spelled()
-    ensures found { (depth : ℕ) (c d : Things) (bytes rest : List ℕ) (n : ℕ) → IsSound c → attr_at depth (bytes, c) ≡ Read (n, (rest, d)) → Grows c d × IsSound d × IsAttrOf d n × IsAttr depth (attr_term d n) bytes rest }
-    ensures only { (depth : ℕ) (c : Things) (bytes rest : List ℕ) (y : AttrTerm) → IsSound c → IsAttr depth y bytes rest → (attr_at depth (bytes, c) ≡ Full) ⊎ ((n : ℕ) × (d : Things) × (attr_at depth (bytes, c) ≡ Read (n, (rest, d))) × Grows c d × IsSound d × AttrStands d n y) }
+    ensures found { (o : Bool) (depth : ℕ) (c d : Things) (bytes rest : List ℕ) (n : ℕ) → IsSound c → attr_at o depth (bytes, c) ≡ Read (n, (rest, d)) → Grows c d × IsSound d × IsAttrOf d n × IsAttr o depth (attr_term d n) bytes rest }
+    ensures only { (o : Bool) (depth : ℕ) (c : Things) (bytes rest : List ℕ) (y : AttrTerm) → IsSound c → IsAttr o depth y bytes rest → (attr_at o depth (bytes, c) ≡ Full) ⊎ ((n : ℕ) × (d : Things) × (attr_at o depth (bytes, c) ≡ Read (n, (rest, d))) × Grows c d × IsSound d × AttrStands d n y) }
 {}
 
 /// A text spells at most one attribute at its front, and leaves one rest.
 pub fn attributes_have_one_reading()
-    ensures { (depth : ℕ) (bytes rest other : List ℕ) (y z : AttrTerm) → IsAttr depth y bytes rest → IsAttr depth z bytes other → (y ≡ z) × (rest ≡ other) }
+    ensures { (o : Bool) (depth : ℕ) (bytes rest other : List ℕ) (y z : AttrTerm) → IsAttr o depth y bytes rest → IsAttr o depth z bytes other → (y ≡ z) × (rest ≡ other) }
 {}
 
 /// Entries in order are those that were given, and where no two of these have one key, each key comes before

@@ -11,4 +11,7 @@ mod flags;
 pub mod laws;
 mod literals;
 pub mod single;
+mod spelled;
 mod symbols;
+pub mod tail;
+mod tails;

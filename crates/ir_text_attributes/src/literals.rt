@@ -2,9 +2,14 @@
 ghost use Rattle.std.specs.Prelude.{◌≡◌};
 ghost use Rattle.ir_types.specs.Things.{IsType, Grows};
 ghost use Rattle.ir_text_types.specs.Outcomes.{Gives};
+ghost use Rattle.ir_types.specs.Terms.{type_term};
+ghost use Rattle.ir_text_attributes.specs.OpaqueAttributes.{is_opaque_type};
 ghost use Rattle.ir_text_attributes.specs.AttrReading.{suffix_at, literal_done, literal_at, negative_at};
 
 use crate::attributes::kept;
+use crate::spelled::{is_hexadecimal, signed_text};
+use crate::tail::Tail;
+use crate::tails::tail;
 use ir_text_tokens::fault::Fault;
 use ir_text_tokens::numbers::integer_value;
 use ir_text_tokens::refusal::TextRefusal;
@@ -16,6 +21,7 @@ use ir_types::context::Context;
 use ir_types::ids::{AttrId, TypeId};
 use ir_types::limits::MOST_DEPTH;
 use ir_types::node::{AttrNode, Sign, TypeNode};
+use ir_types::things::type_of;
 use std::alloc::Global;
 
 /// The type of a literal behind a colon, or `i64` where none follows.
@@ -24,12 +30,13 @@ fn suffix<'a>(
     alloc: Global,
     ctx: &mut Context,
     bytes: &'a [u8],
+    opaque: bool,
 ) -> Result<(TypeId, &'a [u8]), ReadError>
-    ensures reads { Gives (λ x. (x.0, (x.1.now, ctx.new))) result (suffix_at (bytes.now, ctx.old)) }
+    ensures reads { Gives (λ x. (x.0, (x.1.now, ctx.new))) result (suffix_at opaque (bytes.now, ctx.old)) }
     ensures grows { Grows ctx.old ctx.new }
 {
     match after(bytes, Mark::Colon) {
-        Some(rest) => ty(alloc, ctx, rest, MOST_DEPTH),
+        Some(rest) => ty(alloc, ctx, rest, opaque, MOST_DEPTH),
         None => {
             let word = TypeNode::Int {
                 sign: Sign::Signless,
@@ -65,7 +72,16 @@ fn misfit(ctx: &Context, ty: TypeId, start: &[u8], bytes: &[u8]) -> Fault
     }
 }
 
-/// A literal behind its digits, where `bytes` stand. It begins, its minus included, at `start`.
+/// Whether a type is kept as it is spelled.
+pub(crate) fn is_opaque_type(ctx: &Context, ty: TypeId) -> bool
+    requires { IsType ctx.now ty }
+    ensures { result ≡ is_opaque_type (type_term ctx.now ty) }
+{
+    matches!(type_of(ctx, ty), TypeNode::Opaque(_))
+}
+
+/// A literal behind its digits, where `bytes` stand. It begins, its minus included, at `start`. Hexadecimal digits of
+/// an opaque type are kept as they are spelled.
 #[tactic(auto, using(ir_types::proofs::Growth::grows_refl, ir_types::proofs::Growth::grows_trans), unfolding(crate::specs::AttrReading::literal_at, crate::specs::AttrReading::literal_done))]
 pub(crate) fn literal<'a>(
     alloc: Global,
@@ -74,41 +90,57 @@ pub(crate) fn literal<'a>(
     negative: bool,
     digits: &[u8],
     bytes: &'a [u8],
+    opaque: bool,
 ) -> Result<(AttrId, &'a [u8]), ReadError>
-    ensures reads { Gives (λ x. (x.0, (x.1.now, ctx.new))) result (literal_at negative digits.now (bytes.now, ctx.old)) }
+    ensures reads { Gives (λ x. (x.0, (x.1.now, ctx.new))) result (literal_at opaque negative digits.now (bytes.now, ctx.old)) }
     ensures grows { Grows ctx.old ctx.new }
 {
     ctx.sound();
     let Some(magnitude) = integer_value(digits) else {
         return Err(ReadError::Refused(wrong(TextRefusal::BadValue, start)));
     };
-    let (ty, rest) = match suffix(alloc, ctx, bytes) {
+    let (ty, rest) = match suffix(alloc, ctx, bytes, opaque) {
         Ok(found) => found,
         Err(e) => return Err(e),
     };
+    if is_opaque_type(ctx, ty) && is_hexadecimal(digits) {
+        let text = signed_text(alloc, negative, digits)?;
+        let ty = Some(ty);
+        return kept(ctx, AttrNode::Opaque { text, ty }, rest);
+    }
     match ctx.literal_bits(ty, negative, magnitude) {
         Some(value) => kept(ctx, AttrNode::Int { ty, value }, rest),
         None => Err(ReadError::Refused(misfit(ctx, ty, start, bytes))),
     }
 }
 
-/// A literal behind its minus, which stands at `start`.
+/// A literal behind its minus, which stands at `start`, or a float.
 ///
-/// Refusals: `LeftOut` at a float, and `Unexpected` at what is no number; and those of literals.
+/// Refusals: `LeftOut` at a float where none is kept as it is spelled, and `Unexpected` at what is no number; and
+/// those of literals.
 #[tactic(auto, using(ir_types::proofs::Growth::grows_refl, ir_types::proofs::Growth::grows_trans), unfolding(crate::specs::AttrReading::negative_at))]
 pub(crate) fn negative<'a>(
     alloc: Global,
     ctx: &mut Context,
     start: &[u8],
     bytes: &'a [u8],
+    opaque: bool,
+    types: u32,
 ) -> Result<(AttrId, &'a [u8]), ReadError>
-    ensures reads { Gives (λ x. (x.0, (x.1.now, ctx.new))) result (negative_at (bytes.now, ctx.old)) }
+    ensures reads { Gives (λ x. (x.0, (x.1.now, ctx.new))) result (negative_at opaque types (bytes.now, ctx.old)) }
     ensures grows { Grows ctx.old ctx.new }
 {
     let (found, rest) = token(bytes)?;
     match found {
-        Token::Integer(digits) => literal(alloc, ctx, start, true, digits, rest),
-        Token::Float(_) => Err(ReadError::Refused(wrong(TextRefusal::LeftOut, bytes))),
+        Token::Integer(digits) => literal(alloc, ctx, start, true, digits, rest, opaque),
+        Token::Float(digits) => {
+            if opaque {
+                let text = signed_text(alloc, true, digits)?;
+                tail(alloc, ctx, Tail::OpaqueOrNone, text, rest, opaque, types)
+            } else {
+                Err(ReadError::Refused(wrong(TextRefusal::LeftOut, bytes)))
+            }
+        }
         _ => Err(ReadError::Refused(wrong(TextRefusal::Unexpected, bytes))),
     }
 }

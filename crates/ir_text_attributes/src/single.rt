@@ -20,11 +20,11 @@ use std::alloc::Global;
 
 /// The attribute of a text in which nothing stands after it.
 #[tactic(auto, using(ir_types::proofs::Growth::grows_refl, ir_types::proofs::Growth::grows_trans), unfolding(crate::specs::SingleReading::single_attr_at))]
-fn single(alloc: Global, ctx: &mut Context, bytes: &[u8]) -> Result<AttrId, ReadError>
-    ensures reads { Gives (λ n. (n, ctx.new)) result (single_attr_at bytes.now ctx.old) }
+fn single(alloc: Global, ctx: &mut Context, bytes: &[u8], opaque: bool) -> Result<AttrId, ReadError>
+    ensures reads { Gives (λ n. (n, ctx.new)) result (single_attr_at opaque bytes.now ctx.old) }
     ensures grows { Grows ctx.old ctx.new }
 {
-    let (id, rest) = match attr(alloc, ctx, bytes, MOST_DEPTH) {
+    let (id, rest) = match attr(alloc, ctx, bytes, opaque, MOST_DEPTH) {
         Ok(found) => found,
         Err(e) => return Err(e),
     };
@@ -36,17 +36,22 @@ fn single(alloc: Global, ctx: &mut Context, bytes: &[u8]) -> Result<AttrId, Read
 
 /// The attribute that a text spells, as far as its error is one of reading.
 #[tactic(auto, using(ir_types::proofs::Growth::grows_refl, ir_types::proofs::Growth::grows_trans))]
-fn attr_of_text(alloc: Global, ctx: &mut Context, bytes: &[u8]) -> Result<AttrId, ReadError>
-    ensures read { IfOk result (λ n. IsOnlyAttr (SpellsAttr bytes.now) ctx.new n) }
+fn attr_of_text(
+    alloc: Global,
+    ctx: &mut Context,
+    bytes: &[u8],
+    opaque: bool,
+) -> Result<AttrId, ReadError>
+    ensures read { IfOk result (λ n. IsOnlyAttr (SpellsAttr opaque bytes.now) ctx.new n) }
     ensures grows { Grows ctx.old ctx.new }
-    ensures refused { (f : TextFault) → result ≡ Err (ReadError.Refused f) → IsNoAttr (SpellsAttr bytes.now) }
+    ensures refused { (f : TextFault) → result ≡ Err (ReadError.Refused f) → IsNoAttr (SpellsAttr opaque bytes.now) }
 {
     match within_limits(bytes) {
         Ok(()) => {}
         Err(error) => return Err(error),
     }
     ctx.sound();
-    match single(alloc, ctx, bytes) {
+    match single(alloc, ctx, bytes, opaque) {
         Ok(id) => Ok(id),
         Err(e) => Err(e),
     }
@@ -58,13 +63,18 @@ fn attr_of_text(alloc: Global, ctx: &mut Context, bytes: &[u8]) -> Result<AttrId
 /// `Refused` has the fault and how many bytes are left where it stands; such a text spells no attribute.
 /// Refusals: `TooMany` for a text over its limit, and `NotUtf8`; those of attributes; `Unexpected` for a token
 /// behind the attribute. `Full` is answered where the context grew full, and `Memory` where there is none.
-pub fn parse_attr(alloc: Global, ctx: &mut Context, bytes: &[u8]) -> Result<AttrId, ReadError>
-    ensures read { IfOk result (λ n. IsOnlyAttr (SpellsAttr bytes.now) ctx.new n) }
+pub fn parse_attr(
+    alloc: Global,
+    ctx: &mut Context,
+    bytes: &[u8],
+    opaque: bool,
+) -> Result<AttrId, ReadError>
+    ensures read { IfOk result (λ n. IsOnlyAttr (SpellsAttr opaque bytes.now) ctx.new n) }
     ensures grows { Grows ctx.old ctx.new }
-    ensures refused { (f : TextFault) → result ≡ Err (ReadError.Refused f) → IsNoAttr (SpellsAttr bytes.now) }
+    ensures refused { (f : TextFault) → result ≡ Err (ReadError.Refused f) → IsNoAttr (SpellsAttr opaque bytes.now) }
     ensures full { (left : ℕ) → result ≡ Err (ReadError.Full left) → IsFull ctx.new }
 {
-    match attr_of_text(alloc, ctx, bytes) {
+    match attr_of_text(alloc, ctx, bytes, opaque) {
         Ok(id) => Ok(id),
         Err(e) => Err(told(ctx, e)),
     }

@@ -31,7 +31,7 @@ shorter_step o os c cs r h e = from (steps c o os cs r e)
     from (inr (inl s)) = omega (arith, h s.1 (o ∷ os) 0 s.4)
     from (inr (inr s)) = omega (arith, h o os (part_len c cs) s.3)
 
-shorter : (o : ℕ) (os : List ℕ) (n : ℕ) (bs r : List ℕ) → scan (o ∷ os) n bs ≡ Ok r → n + length r < length bs
+pub shorter : (o : ℕ) (os : List ℕ) (n : ℕ) (bs r : List ℕ) → scan (o ∷ os) n bs ≡ Ok r → n + length r < length bs
 unfolding scan
 shorter o os n [] r e = absurd (cc)
 shorter o os (suc n) (c ∷ cs) r e = omega (arith, shorter o os n cs r e)

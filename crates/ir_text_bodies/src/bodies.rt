@@ -24,8 +24,9 @@ pub fn closer_of(byte: u8) -> Option<u8>
     }
 }
 
+/// Whether a dot stands in a name.
 #[tactic(auto, unfolding(crate::specs::Bodies::has_dot))]
-fn has_dot(name: &[u8]) -> bool
+pub fn has_dot(name: &[u8]) -> bool
     ensures { result ≡ has_dot name.now }
 {
     let mut rest = name;

@@ -10,7 +10,6 @@ use Rattle.ir_text_types.specs.declared.error.ReadError.TheVariants as errors
 use Rattle.ir_text_types.specs.Marks.{after}
 use Rattle.ir_text_types.specs.Outcomes.{Outcome, Read, ◌>>=◌, of_option, Fails}
 use Rattle.ir_text_types.specs.Typed.{Typed}
-use Rattle.ir_text_types.specs.TypeReading.{type_at}
 use Rattle.ir_text_types.proofs.ListSteps.{fails_with, fails_option}
 use Rattle.ir_text_names.specs.declared.bound.Bound.{Bound}
 use Rattle.ir_text_names.specs.declared.lists.Behind.{Behind}
@@ -19,7 +18,7 @@ use Rattle.ir_text_names.specs.Alike.{IsAlike}
 use Rattle.ir_text_names.specs.ListSteps.{IsBehind}
 use Rattle.ir_text_names.specs.States.{State, to_bytes, after_in, typed, with_typed, with_scopes}
 use Rattle.ir_text_names.specs.NameReading.{value_name_at}
-use Rattle.ir_text_names.specs.BlockReading.{bind, arg_behind_name, arg_at, colon_type_at}
+use Rattle.ir_text_names.specs.BlockReading.{bind, arg_behind_name, arg_at, colon_type_at, type_here}
 use Rattle.ir_text_names.proofs.ItemSteps.{BehindIn}
 
 -- an error alike fails where the other does
@@ -39,8 +38,8 @@ module _ (id r : ℕ) (before : List ℕ) (s : State) where
   abbrev from_type : List ℕ × List ℕ → Outcome (ℕ × State)
   from_type n = colon_type_at (n.1, s.things) >>= bound_as n.0
 
-  colon_same : (n : List ℕ × List ℕ) (o : Option (List ℕ)) → (of_option (option_map (to_bytes (to_bytes s n.1)) o) >>= λ c. type_at 32 (typed c) >>= λ y. bind n.0 (pack y.0) (to_bytes s n.1).scopes >>= λ scopes. Read (y.0, with_scopes (with_typed (to_bytes s n.1) y.1) scopes))
-      ≡ ((of_option (option_map (λ rest. (rest, s.things)) o) >>= type_at 32) >>= bound_as n.0)
+  colon_same : (n : List ℕ × List ℕ) (o : Option (List ℕ)) → (of_option (option_map (to_bytes (to_bytes s n.1)) o) >>= λ c. type_here 32 (typed c) >>= λ y. bind n.0 (pack y.0) (to_bytes s n.1).scopes >>= λ scopes. Read (y.0, with_scopes (with_typed (to_bytes s n.1) y.1) scopes))
+      ≡ ((of_option (option_map (λ rest. (rest, s.things)) o) >>= type_here 32) >>= bound_as n.0)
   unfolding bound_as
   colon_same n (Some rest) = refl
   colon_same n None = refl

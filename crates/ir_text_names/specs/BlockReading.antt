@@ -38,14 +38,18 @@ finish id (Some names) outputs s = if counts names == length outputs then bind_r
 
 -- ---- blocks
 
+-- a type, as the context's flag has it
+abbrev pub type_here : ℕ → Parse Typed ℕ
+type_here depth s = type_at s.1.opaque depth s
+
 -- a colon and a type
 unfoldable pub colon_type_at : Parse Typed ℕ
-colon_type_at s = of_option (after_typed Colon s) >>= type_at most_depth
+colon_type_at s = of_option (after_typed Colon s) >>= type_here most_depth
 
 abbrev pub arg_behind_name : ℕ → ℕ → ℕ → State → List ℕ → Outcome (ℕ × State)
 arg_behind_name id r k s name = do
   c ← of_option (after_in Colon s)
-  y ← type_at most_depth (typed c)
+  y ← type_here most_depth (typed c)
   scopes ← bind name ((record { value = values.Arg id r k; ty = y.0 }) ∷ []) s.scopes
   Read (y.0, with_scopes (with_typed s y.1) scopes)
 

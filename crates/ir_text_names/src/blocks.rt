@@ -82,8 +82,9 @@ fn colon_type<'a>(
     ensures reads { Gives (λ x. (x.0, (x.1.now, ctx.new))) result (colon_type_at (bytes.now, ctx.old)) }
     ensures grows { Grows ctx.old ctx.new }
 {
+    let opaque = ctx.is_opaque();
     match expect(bytes, Mark::Colon) {
-        Ok(rest) => ty(alloc, ctx, rest, MOST_DEPTH),
+        Ok(rest) => ty(alloc, ctx, rest, opaque, MOST_DEPTH),
         Err(e) => Err(e),
     }
 }

@@ -27,27 +27,33 @@ use Rattle.ir_text_types.specs.Typed.{Text, Typed}
 use Rattle.ir_text_types.specs.Worlds.{From}
 use Rattle.ir_text_types.specs.Standing.{TypeStands}
 use Rattle.ir_text_types.specs.Laws.{Each}
-use Rattle.ir_text_types.proofs.Worlds.{bind_assoc, later, Exact, exact_where, exact_spelled, then_exact, done_exact, after_exact, either_exact, list_exact}
+use Rattle.ir_text_types.proofs.Worlds.{bind_assoc, later, Exact, exact_where, exact_spelled, then_exact, done_exact, after_exact, either_exact}
+use Rattle.ir_text_types.proofs.TextLaws.{things, Same}
 use Rattle.ir_text_types.proofs.TypeLaws.{type_exact}
 use Rattle.ir_text_names.specs.States.{State, to_bytes, after_in, typed, with_typed, with_scopes, inside, outside}
 use Rattle.ir_text_names.specs.NameReading.{value_name_at}
 use Rattle.ir_text_operations.specs.Made.{region_of}
-use Rattle.ir_text_names.specs.BlockReading.{bind, arg_behind_name, arg_at, args_at, label_args_from, label_args_at, head_from, head_at}
+use Rattle.ir_text_names.specs.BlockReading.{bind, type_here, arg_behind_name, arg_at, args_at, label_args_from, label_args_at, head_from, head_at}
 use Rattle.ir_text_operations.specs.OpReading.{ops_from, ops_at, region_at, regions_from, regions_at}
 use Rattle.ir_text_operations.specs.Seen.{PackTerm, Seen, seen_scopes, seen_inside, seen_outside, IsMarkSeen, InText, IsBound}
 use Rattle.ir_text_operations.specs.OpGrammar.{IsName, IsArg, IsLabelArgs, IsHeadFrom, IsHead, IsOps, RegionTerm, IsRegion, IsRegions}
 use Rattle.ir_text_operations.specs.Standing.{Equals, Both, StateStands, OpStands, RegionStands}
-use Rattle.ir_text_operations.proofs.FrontLaws.{name_exact, begin_exact, some_items_exact}
+use Rattle.ir_text_operations.proofs.FrontLaws.{name_exact, begin_exact, items_exact, some_items_exact}
 use Rattle.ir_text_operations.proofs.EntryLaws.{each_length}
 use Rattle.ir_text_operations.proofs.NameLaws.{held, state_marks, behind_exact, state_token, in_typed, in_text, typed_exact, text_exact, inside_exact, outside_exact, each_more, bind_scoped, scoped_exact}
 
 -- ---- arguments
 
+type_read : (o : Bool) (c : Things) → c.opaque ≡ o → Exact things Same c TypeStands (type_here 32) (IsType o 32)
+type_read o c mode =
+    exact_where things Same c TypeStands (type_here 32) (type_at o 32) (IsType o 32) (λ s g sound. ap (λ b. type_at b 32 s) (g.opaque ∙ mode))
+    (type_exact o 32 c)
+
 abbrev binding : ℕ → ℕ → ℕ → List ℕ → ℕ → State → Outcome (ℕ × State)
 binding id r k n y s = bind n ((record { value = values.Arg id r k; ty = y }) ∷ []) s.scopes >>= λ u. Read (y, with_scopes s u)
 
 abbrev arg_type : ℕ → ℕ → ℕ → List ℕ → State → Outcome (ℕ × State)
-arg_type id r k n s = in_typed (type_at 32) s >>= λ y. binding id r k n y.0 y.1
+arg_type id r k n s = in_typed (type_here 32) s >>= λ y. binding id r k n y.0 y.1
 
 abbrev arg_rest : ℕ → ℕ → ℕ → List ℕ → State → Outcome (ℕ × State)
 arg_rest id r k n s = of_option (after_in Colon s) >>= arg_type id r k n
@@ -59,10 +65,10 @@ named_same id r k n s = by_rest (after Colon s.bytes)
     put rest x = Read (x.0, with_typed (to_bytes s rest) x.1)
 
     by_rest : (o : Option Text)
-        → (of_option (option_map (to_bytes s) o) >>= λ c. type_at 32 (typed c) >>= λ y. bind n ((record { value = values.Arg id r k; ty = y.0 }) ∷ []) s.scopes >>= λ u. Read (y.0, with_scopes (with_typed s y.1) u))
+        → (of_option (option_map (to_bytes s) o) >>= λ c. type_here 32 (typed c) >>= λ y. bind n ((record { value = values.Arg id r k; ty = y.0 }) ∷ []) s.scopes >>= λ u. Read (y.0, with_scopes (with_typed s y.1) u))
         ≡ (of_option (option_map (to_bytes s) o) >>= arg_type id r k n)
     by_rest None = refl
-    by_rest (Some rest) = sym (bind_assoc (type_at 32 (rest, s.things)) (λ x. Read (x.0, with_typed (to_bytes s rest) x.1)) (λ y. binding id r k n y.0 y.1))
+    by_rest (Some rest) = sym (bind_assoc (type_here 32 (rest, s.things)) (λ x. Read (x.0, with_typed (to_bytes s rest) x.1)) (λ y. binding id r k n y.0 y.1))
 
 abbrev arg_in : ℕ → ℕ → ℕ → State → Outcome (ℕ × State)
 arg_in id r k s = in_text value_name_at s >>= λ n. arg_rest id r k n.0 n.1
@@ -82,50 +88,52 @@ bound_exact id r k j n m y t c place same stands =
     (scoped_exact c TypeStands y t stands (bind n ((record { value = values.Arg id r k; ty = y }) ∷ [])) (IsBound n ((record { value = values.Arg id r j; type = t }) ∷ []))
     (bind_scoped c n ((record { value = values.Arg id r k; ty = y }) ∷ []) ((record { value = values.Arg id r j; type = t }) ∷ []) (λ z g w. ((ap (values.Arg id r) place, stands z g w), tt))))
 
-arg_exact : (id r : ℕ) (c : Things) (xs : List ℕ) (ys : List TypeTerm) → length xs ≡ length ys → Exact held StateStands c TypeStands (arg_at id r xs) (IsArg id r ys)
+arg_exact : (id r : ℕ) (c : Things) (xs : List ℕ) (ys : List TypeTerm) → length xs ≡ length ys → Exact held StateStands c TypeStands (arg_at id r xs) (IsArg c.opaque id r ys)
 arg_exact id r c xs ys len =
-    exact_where held StateStands c TypeStands (arg_at id r xs) (arg_in id r (length xs)) (IsArg id r ys) (λ s g sound. arg_same id r xs s)
-    (then_exact held StateStands c Equals TypeStands (in_text value_name_at) (InText IsName) (λ n. arg_rest id r (length xs) n) (λ n. After IsMarkSeen Colon (Then (InText (IsType 32)) (λ t. Binds id r (length ys) n t)))
+    exact_where held StateStands c TypeStands (arg_at id r xs) (arg_in id r (length xs)) (IsArg c.opaque id r ys) (λ s g sound. arg_same id r xs s)
+    (then_exact held StateStands c Equals TypeStands (in_text value_name_at) (InText IsName) (λ n. arg_rest id r (length xs) n) (λ n. After IsMarkSeen Colon (Then (InText (IsType c.opaque 32)) (λ t. Binds id r (length ys) n t)))
     (text_exact c Equals value_name_at IsName (λ d g. name_exact d)) (λ d n n' g same.
-    after_exact held StateStands after_in IsMarkSeen state_marks d TypeStands Colon (arg_type id r (length xs) n) (Then (InText (IsType 32)) (λ t. Binds id r (length ys) n' t))
-    (then_exact held StateStands d TypeStands TypeStands (in_typed (type_at 32)) (InText (IsType 32)) (λ y. binding id r (length xs) n y) (λ t. Binds id r (length ys) n' t) (typed_exact d TypeStands (type_at 32) (IsType 32) (type_exact 32 d)) (λ e y t h stands.
+    after_exact held StateStands after_in IsMarkSeen state_marks d TypeStands Colon (arg_type id r (length xs) n) (Then (InText (IsType c.opaque 32)) (λ t. Binds id r (length ys) n' t))
+    (then_exact held StateStands d TypeStands TypeStands (in_typed (type_here 32)) (InText (IsType c.opaque 32)) (λ y. binding id r (length xs) n y) (λ t. Binds id r (length ys) n' t) (typed_exact d TypeStands (type_here 32) (IsType c.opaque 32) (type_read c.opaque d g.opaque)) (λ e y t h stands.
     begin_exact held StateStands e TypeStands (λ s. binding id r (length xs) n y) (λ u. Binds id r (length ys) n' t) (λ s u up sound now. bound_exact id r (length xs) (length ys) n n' y t s.things len (same s.things (grows_trans d e s.things h up) sound) (later (λ z. TypeStands z y t) e s.things up stands))))))
 
-item_exact : (id r : ℕ) (c : Things) (xs : List ℕ) (ys : List TypeTerm) → From (λ z. Each TypeStands z xs ys) c → Exact held StateStands c TypeStands (arg_at id r xs) (IsArg id r ys)
-item_exact id r c xs ys stand =
-    begin_exact held StateStands c TypeStands (λ s. arg_at id r xs) (λ t. IsArg id r ys) (λ s t g sound h. arg_exact id r s.things xs ys (each_length TypeStands s.things xs ys (stand s.things g sound)))
+item_exact : (id r : ℕ) (base c : Things) (xs : List ℕ) (ys : List TypeTerm) → Grows base c → From (λ z. Each TypeStands z xs ys) c → Exact held StateStands c TypeStands (arg_at id r xs) (IsArg base.opaque id r ys)
+item_exact id r base c xs ys b stand =
+    begin_exact held StateStands c TypeStands (λ s. arg_at id r xs) (λ t. IsArg base.opaque id r ys) (λ s t g sound h.
+    subst (λ o. Exact held StateStands s.things TypeStands (arg_at id r xs) (IsArg o id r ys)) (g.opaque ∙ b.opaque)
+    (arg_exact id r s.things xs ys (each_length TypeStands s.things xs ys (stand s.things g sound))))
 
-args_exact : (id r : ℕ) (c : Things) → Exact held StateStands c (Each TypeStands) (args_at id r) (IsList IsMarkSeen CloseRound (IsArg id r) 256)
+args_exact : (id r : ℕ) (c : Things) → Exact held StateStands c (Each TypeStands) (args_at id r) (IsList IsMarkSeen CloseRound (IsArg c.opaque id r) 256)
 unfolding args_at
-args_exact id r c = list_exact held StateStands after_in IsMarkSeen state_marks TypeStands CloseRound (arg_at id r) (IsArg id r) (item_exact id r) 256 c
+args_exact id r c = items_exact held StateStands c after_in IsMarkSeen state_marks TypeStands CloseRound (arg_at id r) (IsArg c.opaque id r) (item_exact id r c) 256
 
 -- ---- the head of a block
 
-label_args_exact : (id r : ℕ) (c : Things) → Exact held StateStands c (Each TypeStands) (label_args_at id r) (IsLabelArgs id r)
+label_args_exact : (id r : ℕ) (c : Things) → Exact held StateStands c (Each TypeStands) (label_args_at id r) (IsLabelArgs c.opaque id r)
 unfolding label_args_at
 label_args_exact id r c =
-    then_exact held StateStands c (Each TypeStands) (Each TypeStands) (λ s. label_args_from id r s (after_in OpenRound s)) (Either IsMarkSeen OpenRound (IsList IsMarkSeen CloseRound (IsArg id r) 256) (Done [])) (λ a s. of_option (after_in Colon s) >>= λ c. Read (a, c)) (λ args. After IsMarkSeen Colon (Done args))
-    (either_exact held StateStands after_in IsMarkSeen state_marks c (Each TypeStands) OpenRound (label_args_from id r) (args_at id r) (λ s. Read ([], s)) (IsList IsMarkSeen CloseRound (IsArg id r) 256) (Done []) (λ s mid. refl) (λ s. refl) (args_exact id r c)
+    then_exact held StateStands c (Each TypeStands) (Each TypeStands) (λ s. label_args_from id r s (after_in OpenRound s)) (Either IsMarkSeen OpenRound (IsList IsMarkSeen CloseRound (IsArg c.opaque id r) 256) (Done [])) (λ a s. of_option (after_in Colon s) >>= λ c. Read (a, c)) (λ args. After IsMarkSeen Colon (Done args))
+    (either_exact held StateStands after_in IsMarkSeen state_marks c (Each TypeStands) OpenRound (label_args_from id r) (args_at id r) (λ s. Read ([], s)) (IsList IsMarkSeen CloseRound (IsArg c.opaque id r) 256) (Done []) (λ s mid. refl) (λ s. refl) (args_exact id r c)
     (done_exact held StateStands c (Each TypeStands) [] [] (λ z g w. tt)))
     (λ d xs ys g stand. after_exact held StateStands after_in IsMarkSeen state_marks d (Each TypeStands) Colon (λ s. Read (xs, s)) (Done ys) (done_exact held StateStands d (Each TypeStands) xs ys stand))
 
 abbrev pub HeadStands : Things → Option (List ℕ) → Option (List TypeTerm) → Type 0
 HeadStands = Both (Each TypeStands)
 
-labelled_exact : (id r : ℕ) (c : Things) → Exact held StateStands c HeadStands (λ s. label_args_at id r s >>= λ a. Read (Some a.0, a.1)) (λ y old new. (args : List TypeTerm) × IsLabelArgs id r args old new × (y ≡ Some args))
+labelled_exact : (id r : ℕ) (c : Things) → Exact held StateStands c HeadStands (λ s. label_args_at id r s >>= λ a. Read (Some a.0, a.1)) (λ y old new. (args : List TypeTerm) × IsLabelArgs c.opaque id r args old new × (y ≡ Some args))
 labelled_exact id r c =
-    exact_spelled held StateStands c HeadStands (λ s. label_args_at id r s >>= λ a. Read (Some a.0, a.1)) (Then (IsLabelArgs id r) (λ args. Done (Some args))) (λ y old new. (args : List TypeTerm) × IsLabelArgs id r args old new × (y ≡ Some args))
-    (λ y t t' k. (k.0, subst (λ u. IsLabelArgs id r k.0 t u) (sym k.3.1) k.2, k.3.0)) (λ y t t' k. (k.0, t', k.1, (k.2, refl)))
-    (then_exact held StateStands c (Each TypeStands) HeadStands (label_args_at id r) (IsLabelArgs id r) (λ a s. Read (Some a, s)) (λ args. Done (Some args)) (label_args_exact id r c) (λ d xs ys g stand.
+    exact_spelled held StateStands c HeadStands (λ s. label_args_at id r s >>= λ a. Read (Some a.0, a.1)) (Then (IsLabelArgs c.opaque id r) (λ args. Done (Some args))) (λ y old new. (args : List TypeTerm) × IsLabelArgs c.opaque id r args old new × (y ≡ Some args))
+    (λ y t t' k. (k.0, subst (λ u. IsLabelArgs c.opaque id r k.0 t u) (sym k.3.1) k.2, k.3.0)) (λ y t t' k. (k.0, t', k.1, (k.2, refl)))
+    (then_exact held StateStands c (Each TypeStands) HeadStands (label_args_at id r) (IsLabelArgs c.opaque id r) (λ a s. Read (Some a, s)) (λ args. Done (Some args)) (label_args_exact id r c) (λ d xs ys g stand.
     done_exact held StateStands d HeadStands (Some xs) (Some ys) stand))
 
-head_from_exact : (id r : ℕ) (c : Things) (l : Lexeme) (rest : Text) → Exact held StateStands c HeadStands (λ s. head_from id r s l rest) (IsHeadFrom id r l rest)
-head_from_exact id r c (label l) rest = behind_exact c HeadStands rest (λ s. label_args_at id r s >>= λ a. Read (Some a.0, a.1)) (λ y old new. (args : List TypeTerm) × IsLabelArgs id r args old new × (y ≡ Some args)) (labelled_exact id r c)
+head_from_exact : (id r : ℕ) (c : Things) (l : Lexeme) (rest : Text) → Exact held StateStands c HeadStands (λ s. head_from id r s l rest) (IsHeadFrom c.opaque id r l rest)
+head_from_exact id r c (label l) rest = behind_exact c HeadStands rest (λ s. label_args_at id r s >>= λ a. Read (Some a.0, a.1)) (λ y old new. (args : List TypeTerm) × IsLabelArgs c.opaque id r args old new × (y ≡ Some args)) (labelled_exact id r c)
 head_from_exact id r c _ rest = done_exact held StateStands c HeadStands None None (λ z g w. tt)
 
-head_exact : (id r : ℕ) (c : Things) → Exact held StateStands c HeadStands (head_at id r) (IsHead id r)
+head_exact : (id r : ℕ) (c : Things) → Exact held StateStands c HeadStands (head_at id r) (IsHead c.opaque id r)
 unfolding head_at
-head_exact id r c = state_token c HeadStands (head_from id r) (IsHeadFrom id r) (head_from_exact id r c)
+head_exact id r c = state_token c HeadStands (head_from id r) (IsHeadFrom c.opaque id r) (head_from_exact id r c)
 
 -- ---- operations up to a mark
 
@@ -197,27 +205,30 @@ module _ (p : Parse State (List Op)) (P : Grammar Seen (List Operation)) (base :
   block_in k s = head_at id k s >>= λ h. p h.1 >>= λ os. Read (region_of h.0 os.0, outside os.1)
 
   abbrev IsBlock : ℕ → Grammar Seen RegionTerm
-  IsBlock k = Then (IsHead id k) (λ h. Then P (λ os. Leaves (region_of h os)))
+  IsBlock k = Then (IsHead base.opaque id k) (λ h. Then P (λ os. Leaves (region_of h os)))
+
+  head_here : (k : ℕ) (c : Things) → Grows base c → Exact held StateStands c HeadStands (head_at id k) (IsHead base.opaque id k)
+  head_here k c b = subst (λ o. Exact held StateStands c HeadStands (head_at id k) (IsHead o id k)) b.opaque (head_exact id k c)
 
   block_exact : (k : ℕ) (c : Things) → Grows base c → Exact held StateStands c RegionStands (block_in k) (IsBlock k)
   block_exact k c b =
-      then_exact held StateStands c HeadStands RegionStands (head_at id k) (IsHead id k) (λ h s. p s >>= λ os. Read (region_of h os.0, outside os.1)) (λ h. Then P (λ os. Leaves (region_of h os))) (head_exact id k c) (λ d h h' g heads.
+      then_exact held StateStands c HeadStands RegionStands (head_at id k) (IsHead base.opaque id k) (λ h s. p s >>= λ os. Read (region_of h os.0, outside os.1)) (λ h. Then P (λ os. Leaves (region_of h os))) (head_here k c b) (λ d h h' g heads.
       then_exact held StateStands d (Each OpStands) RegionStands p P (λ os s. Read (region_of h os, outside s)) (λ os. Leaves (region_of h' os)) (body d (grows_trans base c d b g)) (λ e os os' up stand.
       outside_exact e RegionStands (region_of h os) (region_of h' os') (λ z j w. region_stands z h h' os os' (heads z (grows_trans d e z up j) w) (stand z j w))))
 
-  region_exact : (c : Things) → Grows base c → (xs : List Region) (ys : List RegionTerm) → length xs ≡ length ys → Exact held StateStands c RegionStands (region_at p id isolated xs) (IsRegion P id isolated ys)
+  region_exact : (c : Things) → Grows base c → (xs : List Region) (ys : List RegionTerm) → length xs ≡ length ys → Exact held StateStands c RegionStands (region_at p id isolated xs) (IsRegion base.opaque P id isolated ys)
   unfolding region_at
   region_exact c b xs ys len =
       after_exact held StateStands after_in IsMarkSeen state_marks c RegionStands OpenCurly (λ s. block_in (length xs) (inside isolated s)) (λ y old new. IsBlock (length ys) y (seen_inside isolated old) new)
       (inside_exact c RegionStands isolated (block_in (length xs)) (IsBlock (length ys)) (subst (λ k. Exact held StateStands c RegionStands (block_in (length xs)) (IsBlock k)) len (block_exact (length xs) c b)))
 
-  one_region_exact : (c : Things) → Grows base c → (xs : List Region) (ys : List RegionTerm) → From (λ z. Each RegionStands z xs ys) c → Exact held StateStands c RegionStands (region_at p id isolated xs) (IsRegion P id isolated ys)
+  one_region_exact : (c : Things) → Grows base c → (xs : List Region) (ys : List RegionTerm) → From (λ z. Each RegionStands z xs ys) c → Exact held StateStands c RegionStands (region_at p id isolated xs) (IsRegion base.opaque P id isolated ys)
   one_region_exact c b xs ys stand =
-      begin_exact held StateStands c RegionStands (λ s. region_at p id isolated xs) (λ t. IsRegion P id isolated ys) (λ s t g sound h. region_exact s.things (grows_trans base c s.things b g) xs ys (each_length RegionStands s.things xs ys (stand s.things g sound)))
+      begin_exact held StateStands c RegionStands (λ s. region_at p id isolated xs) (λ t. IsRegion base.opaque P id isolated ys) (λ s t g sound h. region_exact s.things (grows_trans base c s.things b g) xs ys (each_length RegionStands s.things xs ys (stand s.things g sound)))
 
-  pub regions_exact : (c : Things) → Grows base c → Exact held StateStands c (Each RegionStands) (regions_at p id isolated) (IsRegions P id isolated)
+  pub regions_exact : (c : Things) → Grows base c → Exact held StateStands c (Each RegionStands) (regions_at p id isolated) (IsRegions base.opaque P id isolated)
   unfolding regions_at
   regions_exact c b =
-      either_exact held StateStands after_in IsMarkSeen state_marks c (Each RegionStands) OpenRound (regions_from p id isolated) (more_at after_in CloseRound (region_at p id isolated) 16 []) (λ s. Read ([], s)) (IsMore IsMarkSeen CloseRound (IsRegion P id isolated) 16 []) (Done [])
-      (λ s mid. refl) (λ s. refl) (some_items_exact held StateStands c after_in IsMarkSeen state_marks RegionStands CloseRound (region_at p id isolated) (IsRegion P id isolated) (λ d xs ys g stand. one_region_exact d (grows_trans base c d b g) xs ys stand) 16)
+      either_exact held StateStands after_in IsMarkSeen state_marks c (Each RegionStands) OpenRound (regions_from p id isolated) (more_at after_in CloseRound (region_at p id isolated) 16 []) (λ s. Read ([], s)) (IsMore IsMarkSeen CloseRound (IsRegion base.opaque P id isolated) 16 []) (Done [])
+      (λ s mid. refl) (λ s. refl) (some_items_exact held StateStands c after_in IsMarkSeen state_marks RegionStands CloseRound (region_at p id isolated) (IsRegion base.opaque P id isolated) (λ d xs ys g stand. one_region_exact d (grows_trans base c d b g) xs ys stand) 16)
       (done_exact held StateStands c (Each RegionStands) [] [] (λ z g w. tt))

@@ -22,7 +22,7 @@ use Rattle.ir_text_types.proofs.TextLaws.{things, Same, typed_marks}
 use Rattle.ir_text_attributes.proofs.PartLaws.{keys_agree, key_exact, value_exact}
 use Rattle.ir_text_attributes.proofs.AttrLaws.{attr_exact}
 use Rattle.ir_text_operations.specs.Entries.{moved, staying, is_refused}
-use Rattle.ir_text_operations.specs.EntryReading.{is_property_in, refused_in, entry_at, entries_at, some_properties, properties_from, properties_at, attributes_from, attributes_at}
+use Rattle.ir_text_operations.specs.EntryReading.{is_property_in, refused_in, value_here, entry_at, entries_at, some_properties, properties_from, properties_at, attributes_from, attributes_at}
 use Rattle.ir_text_operations.specs.OpGrammar.{is_property, IsEntryValue, IsOpEntry, IsEntries, IsProperties, IsAttributes}
 use Rattle.ir_text_operations.specs.Standing.{Both, EntryStands}
 use Rattle.ir_text_operations.proofs.FrontLaws.{items_exact}
@@ -78,58 +78,60 @@ refused_same z op name ps qs k y es fs sound o p h e =
 
 -- ---- entries
 
-value_read : (c : Things) → Exact things Same c AttrStands (value_at 32) IsEntryValue
-value_read c = value_exact 32 (attr_at 32) (IsAttr 32) (attr_exact 32) c
+value_read : (o : Bool) (c : Things) → c.opaque ≡ o → Exact things Same c AttrStands (value_here 32) (IsEntryValue o)
+value_read o c mode =
+    exact_where things Same c AttrStands (value_here 32) (value_at o 32) (IsEntryValue o) (λ s g sound. ap (λ b. value_at b 32 s) (g.opaque ∙ mode))
+    (value_exact 32 (attr_at o 32) (IsAttr o 32) (attr_exact o 32) c)
 
 abbrev with_value : ℕ → Outcome (ℕ × Typed) → Outcome ((ℕ × ℕ) × Typed)
 with_value k o = o >>= λ a. Read ((k, a.0), a.1)
 
-module _ (d : Things) (k : ℕ) (y : List ℕ) (stands : From (λ z. NameStands z k y) d) where
-  allowed_exact : (b : Bool) → Exact things Same d EntryStands (λ s. with_value k (if b then Wrong else value_at 32 s)) (When (b ≡ false) (Then IsEntryValue (λ a. Done (y, a))))
+module _ (o : Bool) (d : Things) (mode : d.opaque ≡ o) (k : ℕ) (y : List ℕ) (stands : From (λ z. NameStands z k y) d) where
+  allowed_exact : (b : Bool) → Exact things Same d EntryStands (λ s. with_value k (if b then Wrong else value_here 32 s)) (When (b ≡ false) (Then (IsEntryValue o) (λ a. Done (y, a))))
   allowed_exact true =
-      exact_spelled things Same d EntryStands (λ s. Wrong) (λ v old new. ⊥) (When (true ≡ false) (Then IsEntryValue (λ a. Done (y, a)))) (λ v t t' e. absurd e) (λ v t t' e. absurd (true≢false e.0))
+      exact_spelled things Same d EntryStands (λ s. Wrong) (λ v old new. ⊥) (When (true ≡ false) (Then (IsEntryValue o) (λ a. Done (y, a)))) (λ v t t' e. absurd e) (λ v t t' e. absurd (true≢false e.0))
       (nothing_exact things Same d EntryStands)
   allowed_exact false =
-      exact_spelled things Same d EntryStands (λ s. with_value k (value_at 32 s)) (Then IsEntryValue (λ a. Done (y, a))) (When (false ≡ false) (Then IsEntryValue (λ a. Done (y, a)))) (λ v t t' e. (refl, e)) (λ v t t' e. e.1)
-      (then_exact things Same d AttrStands EntryStands (value_at 32) IsEntryValue (λ a s. Read ((k, a), s)) (λ a. Done (y, a)) (value_read d) (λ e a v g r.
+      exact_spelled things Same d EntryStands (λ s. with_value k (value_here 32 s)) (Then (IsEntryValue o) (λ a. Done (y, a))) (When (false ≡ false) (Then (IsEntryValue o) (λ a. Done (y, a)))) (λ v t t' e. (refl, e)) (λ v t t' e. e.1)
+      (then_exact things Same d AttrStands EntryStands (value_here 32) (IsEntryValue o) (λ a s. Read ((k, a), s)) (λ a. Done (y, a)) (value_read o d mode) (λ e a v g r.
       done_exact things Same e EntryStands (k, a) (y, v) (λ z j w. (stands z (grows_trans d e z g j) w, r z j w))))
 
 module _ (base : Things) (op : Option ℕ) (name : Option (List ℕ)) (ps : Entries) (qs : List EntryTerm) (names : From (λ z. Both NameStands z op name) base) (before : From (λ z. Each EntryStands z ps qs) base) where
-  entry_exact : (c : Things) (es : Entries) (fs : List EntryTerm) → Grows base c → From (λ z. Each EntryStands z es fs) c → Exact things Same c EntryStands (entry_at op ps es) (IsOpEntry name qs fs)
+  entry_exact : (c : Things) (es : Entries) (fs : List EntryTerm) → Grows base c → From (λ z. Each EntryStands z es fs) c → Exact things Same c EntryStands (entry_at op ps es) (IsOpEntry base.opaque name qs fs)
   unfolding entry_at
   entry_exact c es fs b front =
-      then_exact things Same c NameStands EntryStands key_at IsKey (λ k s. with_value k (if refused_in s.1 op ps k es then Wrong else value_at 32 s)) (λ y. When (is_refused bytes_eq (is_property name) qs y fs ≡ false) (Then IsEntryValue (λ a. Done (y, a))))
+      then_exact things Same c NameStands EntryStands key_at IsKey (λ k s. with_value k (if refused_in s.1 op ps k es then Wrong else value_here 32 s)) (λ y. When (is_refused bytes_eq (is_property name) qs y fs ≡ false) (Then (IsEntryValue base.opaque) (λ a. Done (y, a))))
       (key_exact c) (λ d k y g r.
-      exact_where things Same d EntryStands (λ s. with_value k (if refused_in s.1 op ps k es then Wrong else value_at 32 s)) (λ s. with_value k (if is_refused bytes_eq (is_property name) qs y fs then Wrong else value_at 32 s)) (When (is_refused bytes_eq (is_property name) qs y fs ≡ false) (Then IsEntryValue (λ a. Done (y, a))))
+      exact_where things Same d EntryStands (λ s. with_value k (if refused_in s.1 op ps k es then Wrong else value_here 32 s)) (λ s. with_value k (if is_refused bytes_eq (is_property name) qs y fs then Wrong else value_here 32 s)) (When (is_refused bytes_eq (is_property name) qs y fs ≡ false) (Then (IsEntryValue base.opaque) (λ a. Done (y, a))))
       (λ s h sound.
       let up = grows_trans c d s.1 g h in
       let all = grows_trans base c s.1 b up in
-      ap (λ t. with_value k (if t then Wrong else value_at 32 s)) (refused_same s.1 op name ps qs k y es fs sound (names s.1 all sound) (before s.1 all sound) (r s.1 h sound) (front s.1 up sound)))
-      (allowed_exact d k y r (is_refused bytes_eq (is_property name) qs y fs)))
+      ap (λ t. with_value k (if t then Wrong else value_here 32 s)) (refused_same s.1 op name ps qs k y es fs sound (names s.1 all sound) (before s.1 all sound) (r s.1 h sound) (front s.1 up sound)))
+      (allowed_exact base.opaque d (g.opaque ∙ b.opaque) k y r (is_refused bytes_eq (is_property name) qs y fs)))
 
-  entries_exact : Exact things Same base (Each EntryStands) (entries_at op ps) (IsEntries name qs)
+  entries_exact : Exact things Same base (Each EntryStands) (entries_at op ps) (IsEntries base.opaque name qs)
   unfolding entries_at
-  entries_exact = items_exact things Same base after_typed IsMark typed_marks EntryStands CloseCurly (entry_at op ps) (IsOpEntry name qs) entry_exact 513
+  entries_exact = items_exact things Same base after_typed IsMark typed_marks EntryStands CloseCurly (entry_at op ps) (IsOpEntry base.opaque name qs) entry_exact 513
 
 -- ---- both dictionaries
 
 no_entries_exact : (c : Things) → Exact things Same c (Each EntryStands) (λ s. Read ([], s)) (Done [])
 no_entries_exact c = done_exact things Same c (Each EntryStands) [] [] (λ z g w. tt)
 
-some_properties_exact : (c : Things) → Exact things Same c (Each EntryStands) some_properties (After IsMark OpenCurly (Then (IsEntries None []) (λ es. After IsMark Greater (Done es))))
+some_properties_exact : (c : Things) → Exact things Same c (Each EntryStands) some_properties (After IsMark OpenCurly (Then (IsEntries c.opaque None []) (λ es. After IsMark Greater (Done es))))
 unfolding some_properties
 some_properties_exact c =
     after_exact things Same after_typed IsMark typed_marks c (Each EntryStands) OpenCurly _ _
     (then_exact things Same c (Each EntryStands) (Each EntryStands) _ _ _ _ (entries_exact c None None [] [] (λ z g w. tt) (λ z g w. tt)) (λ d es fs g r.
     after_exact things Same after_typed IsMark typed_marks d (Each EntryStands) Greater (λ s. Read (es, s)) (Done fs) (done_exact things Same d (Each EntryStands) es fs r)))
 
-pub properties_exact : (c : Things) → Exact things Same c (Each EntryStands) properties_at IsProperties
+pub properties_exact : (c : Things) → Exact things Same c (Each EntryStands) properties_at (IsProperties c.opaque)
 unfolding properties_at
 properties_exact c =
     either_exact things Same after_typed IsMark typed_marks c (Each EntryStands) Less properties_from some_properties (λ s. Read ([], s)) _ _ (λ s mid. refl) (λ s. refl) (some_properties_exact c) (no_entries_exact c)
 
-pub attributes_exact : (c : Things) (op : ℕ) (name : List ℕ) (ps : Entries) (qs : List EntryTerm) → From (λ z. NameStands z op name) c → From (λ z. Each EntryStands z ps qs) c → Exact things Same c (Each EntryStands) (attributes_at op ps) (IsAttributes name qs)
+pub attributes_exact : (c : Things) (op : ℕ) (name : List ℕ) (ps : Entries) (qs : List EntryTerm) → From (λ z. NameStands z op name) c → From (λ z. Each EntryStands z ps qs) c → Exact things Same c (Each EntryStands) (attributes_at op ps) (IsAttributes c.opaque name qs)
 unfolding attributes_at
 attributes_exact c op name ps qs o p =
-    either_exact things Same after_typed IsMark typed_marks c (Each EntryStands) OpenCurly (attributes_from op ps) (entries_at (Some op) ps) (λ s. Read ([], s)) (IsEntries (Some name) qs) (Done []) (λ s mid. refl) (λ s. refl)
+    either_exact things Same after_typed IsMark typed_marks c (Each EntryStands) OpenCurly (attributes_from op ps) (entries_at (Some op) ps) (λ s. Read ([], s)) (IsEntries c.opaque (Some name) qs) (Done []) (λ s mid. refl) (λ s. refl)
     (entries_exact c (Some op) (Some name) ps qs o p) (no_entries_exact c)

@@ -1,5 +1,5 @@
 -- The tree of a text, by the laws of operations.
-use Rattle.std.proofs.Common.{◌≡◌, ℕ, true, false, ◌&&◌, List, [], ◌∷◌, map, length, Option, Some, None, is_some, refl, sym, ap, subst, ◌∙◌, inl, inr, ⊎_elim, arith, lt-ltb}
+use Rattle.std.proofs.Common.{◌≡◌, ℕ, Bool, true, false, ◌&&◌, List, [], ◌∷◌, map, length, Option, Some, None, is_some, refl, sym, ap, subst, ◌∙◌, inl, inr, ⊎_elim, arith, lt-ltb}
 use Rattle.std.specs.Prelude.{IsTrue, option_map, option_and_then}
 use Rattle.ir_text_tokens.specs.declared.token.Mark.TheVariants.{End}
 use Rattle.ir_text_tokens.specs.Limits.{text_reason}
@@ -66,8 +66,8 @@ no_frees c = λ z g w name. nothing_free z (value_named name)
 abbrev pub reading : ℕ → Parse State Op
 reading depth = op_at no_free 1048576 depth
 
-abbrev pub spelling : ℕ → Grammar Seen Operation
-spelling depth = IsOp no_names 1048576 depth
+abbrev pub spelling : Bool → ℕ → Grammar Seen Operation
+spelling opaque depth = IsOp opaque no_names 1048576 depth
 
 pub fresh_agrees : (first : ℕ) (bytes : List ℕ) (c : Things) → Agree held StateStands (fresh first bytes c) (seen_fresh first bytes)
 fresh_agrees first bytes c z g w = (refl, (tt, tt), refl)
@@ -83,12 +83,12 @@ read_parts {A} {S} x y s t e =
 
 -- ---- an explicit root
 
-pub not_begun : (bytes : List ℕ) → begins_module bytes ≡ false → IsNone (IsExplicit bytes)
+pub not_begun : (o : Bool) (bytes : List ℕ) → begins_module bytes ≡ false → IsNone (IsExplicit o bytes)
 unfolding IsExplicit
-not_begun bytes e y h = let g = h.0 in absurd cc
+not_begun o bytes e y h = let g = h.0 in absurd cc
 
 -- what is spelled was read
-explicit_is : (bytes : List ℕ) (c : Things) (x : Op) (s : State) → IsSound c → reading 129 (fresh 0 bytes c) ≡ Read (x, s) → (y : Operation) → IsExplicit bytes y
+explicit_is : (bytes : List ℕ) (c : Things) (x : Op) (s : State) → IsSound c → reading 129 (fresh 0 bytes c) ≡ Read (x, s) → (y : Operation) → IsExplicit c.opaque bytes y
     → (y ≡ meaning s.things x) × ((rest : List ℕ) × IsMark End s.bytes rest) × (is_root y ≡ true)
 unfolding IsExplicit
 explicit_is bytes c x s sound e y h = ⊎_elim
@@ -103,7 +103,7 @@ explicit_is bytes c x s sound e y h = ⊎_elim
     ((op_exact no_free no_names 1048576 c (no_frees c) 129 c (grows_refl c)).only (fresh 0 bytes c) (seen_fresh 0 bytes) y h.1.0 (grows_refl c) sound (fresh_agrees 0 bytes c) h.1.2)
 
 pub explicit_read : (bytes : List ℕ) (c : Things) (x : Op) (s : State) (rest : List ℕ) → IsSound c → begins_module bytes ≡ true → reading 129 (fresh 0 bytes c) ≡ Read (x, s)
-    → after End s.bytes ≡ Some rest → is_root (meaning s.things x) ≡ true → IsOnly (IsExplicit bytes) s.things x
+    → after End s.bytes ≡ Some rest → is_root (meaning s.things x) ≡ true → IsOnly (IsExplicit c.opaque bytes) s.things x
 unfolding IsExplicit
 explicit_read bytes c x s rest sound begins e ends root =
     let f = (op_exact no_free no_names 1048576 c (no_frees c) 129 c (grows_refl c)).found (fresh 0 bytes c) (seen_fresh 0 bytes) x s (grows_refl c) sound (fresh_agrees 0 bytes c) e in
@@ -111,15 +111,15 @@ explicit_read bytes c x s rest sound begins e ends root =
     let mark : IsMark End f.1.bytes rest = subst (λ b. IsMark End b rest) (bytes_now s f.1 f.3.sound f.3.agree) (after_found End s.bytes rest ends) in
     record {
       known = r.0;
-      holds = (begins, (f.1, rest, subst (λ y. spelling 129 y (seen_fresh 0 bytes) f.1) (sym r.1) f.2, mark), root);
+      holds = (begins, (f.1, rest, subst (λ y. spelling c.opaque 129 y (seen_fresh 0 bytes) f.1) (sym r.1) f.2, mark), root);
       only = λ y h. (explicit_is bytes c x s sound e y h).0;
     }
 
 pub explicit_whole : (bytes : List ℕ) (c : Things) (x : Op) (s : State) → IsSound c → begins_module bytes ≡ true → reading 129 (fresh 0 bytes c) ≡ Read (x, s)
-    → (is_some (after End s.bytes) && is_root (meaning s.things x)) ≡ true → IsOnly (IsExplicit bytes) s.things x
+    → (is_some (after End s.bytes) && is_root (meaning s.things x)) ≡ true → IsOnly (IsExplicit c.opaque bytes) s.things x
 explicit_whole bytes c x s sound begins e whole = by (after End s.bytes) refl whole
   where
-    by : (o : Option (List ℕ)) → after End s.bytes ≡ o → (is_some o && is_root (meaning s.things x)) ≡ true → IsOnly (IsExplicit bytes) s.things x
+    by : (o : Option (List ℕ)) → after End s.bytes ≡ o → (is_some o && is_root (meaning s.things x)) ≡ true → IsOnly (IsExplicit c.opaque bytes) s.things x
     by None k w = absurd cc
     by (Some rest) k w = explicit_read bytes c x s rest sound begins e k w
 
@@ -144,14 +144,14 @@ named_module c d n e = subst (λ (p : ℕ × Things). IsName p.1 p.0 × (name_te
     (slice_get_within _ _ _ (name_stands module_word c), new_name module_word c)
 
 pub explicit_other : (bytes : List ℕ) (c : Things) (x : Op) (s : State) → IsSound c → reading 129 (fresh 0 bytes c) ≡ Read (x, s)
-    → (is_some (after End s.bytes) && is_root (meaning s.things x)) ≡ false → IsNone (IsExplicit bytes)
+    → (is_some (after End s.bytes) && is_root (meaning s.things x)) ≡ false → IsNone (IsExplicit c.opaque bytes)
 explicit_other bytes c x s sound e not_whole y h =
     let k = explicit_is bytes c x s sound e y h in
     let ends : after End s.bytes ≡ Some k.1.0 = after_only End s.bytes k.1.0 k.1.1 in
     let root : is_root (meaning s.things x) ≡ true = ap is_root (sym k.0) ∙ k.2 in
     let g = sym not_whole ∙ (λ i. is_some (ends i) && root i) in absurd cc
 
-pub explicit_wrong : (bytes : List ℕ) (c : Things) → IsSound c → reading 129 (fresh 0 bytes c) ≡ Wrong → IsNone (IsExplicit bytes)
+pub explicit_wrong : (bytes : List ℕ) (c : Things) → IsSound c → reading 129 (fresh 0 bytes c) ≡ Wrong → IsNone (IsExplicit c.opaque bytes)
 unfolding IsExplicit
 explicit_wrong bytes c sound e y h = ⊎_elim
     (λ (f : reading 129 (fresh 0 bytes c) ≡ Full). absurd cc)
@@ -170,7 +170,7 @@ known_parts : (z : Things) (n : ℕ) (xs : List Op) (ys : List Operation) → is
 known_parts z n xs ys name h = rw (name, ops_known z xs ys h) refl
 
 -- the operations that are spelled were read
-body_is : (bytes : List ℕ) (c : Things) (xs : List Op) (s : State) → IsSound c → ops_at End (reading 128) 1048576 [] (fresh 1 bytes c) ≡ Read (xs, s) → (y : Operation) → IsBody bytes y
+body_is : (bytes : List ℕ) (c : Things) (xs : List Op) (s : State) → IsSound c → ops_at End (reading 128) 1048576 [] (fresh 1 bytes c) ≡ Read (xs, s) → (y : Operation) → IsBody c.opaque bytes y
     → (os : List Operation) × Each OpStands s.things xs os × (y ≡ module_of os)
 unfolding IsBody
 body_is bytes c xs s sound e y h = ⊎_elim
@@ -180,8 +180,8 @@ body_is bytes c xs s sound e y h = ⊎_elim
     (h.0, subst (λ (u : List Op × State). Each OpStands u.1.things u.0 h.0) (λ i. (q.0 i, q.1 i)) (f.3.stands f.1.things (grows_refl f.1.things) f.3.sound), h.3))
     ((source_exact no_free no_names 1048576 c (no_frees c) 128 c (grows_refl c)).only (fresh 1 bytes c) (seen_fresh 1 bytes) h.0 h.1 (grows_refl c) sound (fresh_agrees 1 bytes c) h.2)
 
-pub body_read : (bytes : List ℕ) (c : Things) (n : ℕ) (xs : List Op) (s : State) → IsSound c → IsName c n → name_term c n ≡ module_word → ops_at End (reading 128) 1048576 [] (fresh 1 bytes c) ≡ Read (xs, s)
-    → IsOnly (IsBody bytes) s.things (module_with n xs)
+body_read : (bytes : List ℕ) (c : Things) (n : ℕ) (xs : List Op) (s : State) → IsSound c → IsName c n → name_term c n ≡ module_word → ops_at End (reading 128) 1048576 [] (fresh 1 bytes c) ≡ Read (xs, s)
+    → IsOnly (IsBody c.opaque bytes) s.things (module_with n xs)
 unfolding IsBody
 body_read bytes c n xs s sound of_c name e =
     let f = (source_exact no_free no_names 1048576 c (no_frees c) 128 c (grows_refl c)).found (fresh 1 bytes c) (seen_fresh 1 bytes) xs s (grows_refl c) sound (fresh_agrees 1 bytes c) e in
@@ -193,34 +193,42 @@ body_read bytes c n xs s sound of_c name e =
       only = λ y h. let k = body_is bytes c xs s sound e y h in k.2 ∙ sym (with_parts s.things n xs k.0 named k.1);
     }
 
-pub body_wrong : (bytes : List ℕ) (c : Things) → IsSound c → ops_at End (reading 128) 1048576 [] (fresh 1 bytes c) ≡ Wrong → IsNone (IsBody bytes)
+body_wrong : (bytes : List ℕ) (c : Things) → IsSound c → ops_at End (reading 128) 1048576 [] (fresh 1 bytes c) ≡ Wrong → IsNone (IsBody c.opaque bytes)
 unfolding IsBody
 body_wrong bytes c sound e y h = ⊎_elim
     (λ (f : ops_at End (reading 128) 1048576 [] (fresh 1 bytes c) ≡ Full). absurd cc)
     (λ (f : (xs' : List Op) × (s' : State) × (ops_at End (reading 128) 1048576 [] (fresh 1 bytes c) ≡ Read (xs', s')) × Step held StateStands (Each OpStands) (fresh 1 bytes c) xs' h.0 s' h.1). let g = f.2 in absurd cc)
     ((source_exact no_free no_names 1048576 c (no_frees c) 128 c (grows_refl c)).only (fresh 1 bytes c) (seen_fresh 1 bytes) h.0 h.1 (grows_refl c) sound (fresh_agrees 1 bytes c) h.2)
 
+-- in a context that grew from one of that flag
+pub body_read_in : (o : Bool) (bytes : List ℕ) (c : Things) (n : ℕ) (xs : List Op) (s : State) → c.opaque ≡ o → IsSound c → IsName c n → name_term c n ≡ module_word → ops_at End (reading 128) 1048576 [] (fresh 1 bytes c) ≡ Read (xs, s)
+    → IsOnly (IsBody o bytes) s.things (module_with n xs)
+body_read_in o bytes c n xs s mode sound of_c name e = subst (λ b. IsOnly (IsBody b bytes) s.things (module_with n xs)) mode (body_read bytes c n xs s sound of_c name e)
+
+pub body_wrong_in : (o : Bool) (bytes : List ℕ) (c : Things) → c.opaque ≡ o → IsSound c → ops_at End (reading 128) 1048576 [] (fresh 1 bytes c) ≡ Wrong → IsNone (IsBody o bytes)
+body_wrong_in o bytes c mode sound e = subst (λ b. IsNone (IsBody b bytes)) mode (body_wrong bytes c sound e)
+
 -- ---- the one or the other
 
-pub root_is_source : (bytes : List ℕ) (c : Things) (t : Op) → IsOnly (IsExplicit bytes) c t → IsOnly (IsSource bytes) c t
+pub root_is_source : (o : Bool) (bytes : List ℕ) (c : Things) (t : Op) → IsOnly (IsExplicit o bytes) c t → IsOnly (IsSource o bytes) c t
 unfolding IsImplicit
-root_is_source bytes c t h = record {
+root_is_source o bytes c t h = record {
   known = h.known;
   holds = inl h.holds;
-  only = λ y k. ⊎_elim (λ (e : IsExplicit bytes y). h.only y e) (λ (i : IsImplicit bytes y). absurd (i.0 (meaning c t) h.holds)) k;
+  only = λ y k. ⊎_elim (λ (e : IsExplicit o bytes y). h.only y e) (λ (i : IsImplicit o bytes y). absurd (i.0 (meaning c t) h.holds)) k;
 }
 
-pub body_is_source : (bytes : List ℕ) (c : Things) (t : Op) → IsNone (IsExplicit bytes) → IsOnly (IsBody bytes) c t → IsOnly (IsSource bytes) c t
+pub body_is_source : (o : Bool) (bytes : List ℕ) (c : Things) (t : Op) → IsNone (IsExplicit o bytes) → IsOnly (IsBody o bytes) c t → IsOnly (IsSource o bytes) c t
 unfolding IsImplicit IsBody
-body_is_source bytes c t none h = record {
+body_is_source o bytes c t none h = record {
   known = h.known;
   holds = inr (none, h.holds);
-  only = λ y k. ⊎_elim (λ (e : IsExplicit bytes y). absurd (none y e)) (λ (i : IsImplicit bytes y). h.only y i.1) k;
+  only = λ y k. ⊎_elim (λ (e : IsExplicit o bytes y). absurd (none y e)) (λ (i : IsImplicit o bytes y). h.only y i.1) k;
 }
 
-pub no_source : (bytes : List ℕ) → IsNone (IsExplicit bytes) → IsNone (IsBody bytes) → IsNone (IsSource bytes)
+pub no_source : (o : Bool) (bytes : List ℕ) → IsNone (IsExplicit o bytes) → IsNone (IsBody o bytes) → IsNone (IsSource o bytes)
 unfolding IsImplicit IsBody
-no_source bytes none other y k = ⊎_elim (λ (e : IsExplicit bytes y). none y e) (λ (i : IsImplicit bytes y). other y i.1) k
+no_source o bytes none other y k = ⊎_elim (λ (e : IsExplicit o bytes y). none y e) (λ (i : IsImplicit o bytes y). other y i.1) k
 
 -- ---- what is looked at afterwards
 
@@ -242,8 +250,8 @@ module _ (c : Things) where
   pub numbers_are : (t : Op) → ids (meaning c t) ≡ ids t
   numbers_are t = map_ids (name_term c) (type_term c) (attr_term c) t
 
-  pub spelled_of : (bytes : List ℕ) (t : Op) → IsOnly (IsSource bytes) c t → text_reason bytes ≡ None → IsModuleTree c t → IsOnly (Spells bytes) c t
-  spelled_of bytes t h text w = record {
+  pub spelled_of : (o : Bool) (bytes : List ℕ) (t : Op) → IsOnly (IsSource o bytes) c t → text_reason bytes ≡ None → IsModuleTree c t → IsOnly (Spells o bytes) c t
+  spelled_of o bytes t h text w = record {
     known = h.known;
     holds = record {
       text = text;
@@ -259,8 +267,8 @@ module _ (c : Things) where
     only = λ y s. h.only y s.spelled;
   }
 
-  pub none_of : (bytes : List ℕ) (t : Op) → IsOnly (IsSource bytes) c t → (IsModuleTree c t → ⊥) → IsNone (Spells bytes)
-  none_of bytes t h not_whole y s =
+  pub none_of : (o : Bool) (bytes : List ℕ) (t : Op) → IsOnly (IsSource o bytes) c t → (IsModuleTree c t → ⊥) → IsNone (Spells o bytes)
+  none_of o bytes t h not_whole y s =
       let same : y ≡ meaning c t = h.only y s.spelled in
       let formed : IsFormed is_isolated (meaning c t) = subst (IsFormed is_isolated) same s.formed in
       let numbered : IsNumberedFrom 0 (meaning c t) = subst (λ (u : Operation). ids u ≡ range_with_len 0 (length (ids u))) same s.numbered in
@@ -275,8 +283,8 @@ module _ (c : Things) where
         record { known = h.known; sorted = subst IsTrue (all_rise t) sorted },
       )
 
-pub source_none : (bytes : List ℕ) → IsNone (IsSource bytes) → IsNone (Spells bytes)
-source_none bytes none y s = none y s.spelled
+pub source_none : (o : Bool) (bytes : List ℕ) → IsNone (IsSource o bytes) → IsNone (Spells o bytes)
+source_none o bytes none y s = none y s.spelled
 
-pub text_none : (bytes : List ℕ) (r : TextRefusal × ℕ) → text_reason bytes ≡ Some r → IsNone (Spells bytes)
-text_none bytes r e y s = let t = s.text in absurd cc
+pub text_none : (o : Bool) (bytes : List ℕ) (r : TextRefusal × ℕ) → text_reason bytes ≡ Some r → IsNone (Spells o bytes)
+text_none o bytes r e y s = let t = s.text in absurd cc

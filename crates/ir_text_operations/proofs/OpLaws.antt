@@ -24,6 +24,7 @@ use Rattle.ir_text_types.specs.Worlds.{From}
 use Rattle.ir_text_types.specs.Standing.{NameStands, TypeStands}
 use Rattle.ir_text_types.specs.Laws.{Each, SignatureStands}
 use Rattle.ir_text_types.proofs.Worlds.{bind_assoc, later, Exact, Step, Reads, exact_where, exact_spelled, nothing_exact, then_exact, after_exact}
+use Rattle.ir_text_types.proofs.TextLaws.{things, Same}
 use Rattle.ir_text_types.proofs.TypeLaws.{function_type_exact}
 use Rattle.ir_text_attributes.proofs.NodeLaws as attrs
 use Rattle.ir_text_names.specs.declared.bound.Bound.{Bound}
@@ -33,7 +34,7 @@ use Rattle.ir_text_attributes.specs.AttrReading.{Entries}
 use Rattle.ir_text_operations.specs.EntryReading.{properties_at, attributes_at}
 use Rattle.ir_text_operations.specs.Made.{made}
 use Rattle.ir_text_names.specs.BlockReading.{finish}
-use Rattle.ir_text_operations.specs.OpReading.{bound_types, op_of, regions_at, ops_at, tail_at, begun, op_with, op_at}
+use Rattle.ir_text_operations.specs.OpReading.{bound_types, op_of, signature_here, regions_at, ops_at, tail_at, begun, op_with, op_at}
 use Rattle.ir_text_operations.specs.Seen.{BoundTerm, PackTerm, Seen, seen_rest, seen_scopes, seen_fresh, IsMarkSeen, InText}
 use Rattle.ir_text_attributes.specs.AttrGrammar.{EntryTerm}
 use Rattle.ir_text_operations.specs.OpGrammar.{FreeTerms, StartTerm, RegionTerm, is_property, IsStart, IsProperties, IsAttributes, IsRegions, IsFinished, IsOps, IsTail, IsOpWith, IsOp}
@@ -93,6 +94,11 @@ terms_one z (x ∷ xs) (y ∷ ys) (v ∷ vs) h k = λ i. (sym h.0.1 ∙ k.0.1) i
 
 -- ---- behind the regions
 
+signature_read : (o : Bool) (c : Things) → c.opaque ≡ o → Exact things Same c SignatureStands signature_here (IsFunctionType o)
+signature_read o c mode =
+    exact_where things Same c SignatureStands signature_here (function_type_at o) (IsFunctionType o) (λ s g sound. ap (λ b. function_type_at b s) (g.opaque ∙ mode))
+    (function_type_exact o c)
+
 abbrev Signature : Type 0
 Signature = List ℕ × List ℕ
 
@@ -107,20 +113,20 @@ module _ (id name : ℕ) (h : Start) (ps : Entries) (gs : List Region) where
   ends es sig s = ended s.things es sig s
 
   abbrev tail_type : Entries → State → Outcome (Op × State)
-  tail_type es s = in_typed function_type_at s >>= λ t. ends es t.0 t.1
+  tail_type es s = in_typed signature_here s >>= λ t. ends es t.0 t.1
 
   abbrev tail_in : State → Outcome (Op × State)
   tail_in s = in_typed (attributes_at name ps) s >>= λ e. of_option (after_in Colon e.1) >>= tail_type e.0
 
   abbrev tail_from : State → Entries → Typed → Outcome (Op × State)
-  tail_from s es t = of_option (after_typed Colon t) >>= λ c. function_type_at c >>= λ u. ends es u.0 (with_typed s u.1)
+  tail_from s es t = of_option (after_typed Colon t) >>= λ c. signature_here c >>= λ u. ends es u.0 (with_typed s u.1)
 
   type_same : (s : State) (es : Entries) (t : Typed) → tail_from s es t ≡ (of_option (after_in Colon (with_typed s t)) >>= tail_type es)
   type_same s es t = by_rest (after Colon t.0)
     where
-      by_rest : (o : Option Text) → (of_option (option_map (λ r. (r, t.1)) o) >>= λ c. function_type_at c >>= λ u. ends es u.0 (with_typed s u.1)) ≡ (of_option (option_map (to_bytes (with_typed s t)) o) >>= tail_type es)
+      by_rest : (o : Option Text) → (of_option (option_map (λ r. (r, t.1)) o) >>= λ c. signature_here c >>= λ u. ends es u.0 (with_typed s u.1)) ≡ (of_option (option_map (to_bytes (with_typed s t)) o) >>= tail_type es)
       by_rest None = refl
-      by_rest (Some rest) = sym (bind_assoc (function_type_at (rest, t.1)) (λ x. Read (x.0, with_typed s x.1)) (λ u. ends es u.0 u.1))
+      by_rest (Some rest) = sym (bind_assoc (signature_here (rest, t.1)) (λ x. Read (x.0, with_typed s x.1)) (λ u. ends es u.0 u.1))
 
   tail_same : (s : State) → tail_at id name h ps gs s ≡ tail_in s
   unfolding tail_at
@@ -182,13 +188,13 @@ module _ (id name : ℕ) (h : Start) (ps : Entries) (gs : List Region) where
           (when_exact c OpStands (bytes_eq (bound_types h.operands) sig.0) (map (λ b. b.type) begin.operands ≡ terms.0) finishing (Ends fs terms.1) fits fits_back finished_exact)
 
     pub tail_exact : (c : Things) → From (λ z. StartStands z h begin) c → From (λ z. NameStands z name begin.name) c → From (λ z. Each EntryStands z ps qs) c → From (λ z. Each RegionStands z gs ys) c
-        → Exact held StateStands c OpStands (tail_at id name h ps gs) (IsTail id begin qs ys)
+        → Exact held StateStands c OpStands (tail_at id name h ps gs) (IsTail c.opaque id begin qs ys)
     tail_exact c starts names before regions =
-        exact_where held StateStands c OpStands (tail_at id name h ps gs) tail_in (IsTail id begin qs ys) (λ s g sound. tail_same s)
-        (then_exact held StateStands c (Each EntryStands) OpStands (in_typed (attributes_at name ps)) (InText (IsAttributes begin.name qs)) (λ es s. of_option (after_in Colon s) >>= tail_type es) (λ fs. After IsMarkSeen Colon (Then (InText IsFunctionType) (Checked fs)))
-        (typed_exact c (Each EntryStands) (attributes_at name ps) (IsAttributes begin.name qs) (attributes_exact c name begin.name ps qs names before)) (λ d es fs g entries.
-        after_exact held StateStands after_in IsMarkSeen state_marks d OpStands Colon (tail_type es) (Then (InText IsFunctionType) (Checked fs))
-        (then_exact held StateStands d SignatureStands OpStands (in_typed function_type_at) (InText IsFunctionType) (ends es) (Checked fs) (typed_exact d SignatureStands function_type_at IsFunctionType (function_type_exact d)) (λ e sig terms up types.
+        exact_where held StateStands c OpStands (tail_at id name h ps gs) tail_in (IsTail c.opaque id begin qs ys) (λ s g sound. tail_same s)
+        (then_exact held StateStands c (Each EntryStands) OpStands (in_typed (attributes_at name ps)) (InText (IsAttributes c.opaque begin.name qs)) (λ es s. of_option (after_in Colon s) >>= tail_type es) (λ fs. After IsMarkSeen Colon (Then (InText (IsFunctionType c.opaque)) (Checked fs)))
+        (typed_exact c (Each EntryStands) (attributes_at name ps) (IsAttributes c.opaque begin.name qs) (attributes_exact c name begin.name ps qs names before)) (λ d es fs g entries.
+        after_exact held StateStands after_in IsMarkSeen state_marks d OpStands Colon (tail_type es) (Then (InText (IsFunctionType c.opaque)) (Checked fs))
+        (then_exact held StateStands d SignatureStands OpStands (in_typed signature_here) (InText (IsFunctionType c.opaque)) (ends es) (Checked fs) (typed_exact d SignatureStands signature_here (IsFunctionType c.opaque) (signature_read c.opaque d g.opaque)) (λ e sig terms up types.
         begin_exact held StateStands e OpStands (λ s. ended s.things es sig) (λ t. Checked fs terms) (λ s t k sound now.
         let from_d = grows_trans d e s.things up k in
         let from_c = grows_trans c d s.things g from_d in
@@ -241,39 +247,44 @@ module _ (free : Frees) (outer : FreeTerms) (base : Things) (frees : From (λ z.
       ∙ sym (bind_assoc (start_at free s.scopes.here s.bytes) (λ x. Read (x.0, to_bytes s x.1)) (λ h. at_name s.next h.0 h.1))
 
   abbrev Regioned : ℕ → StartTerm → List EntryTerm → Grammar Seen Operation
-  Regioned id begin qs = Then (IsRegions P id (is_isolated begin.name)) (λ ys. IsTail id begin qs ys)
+  Regioned id begin qs = Then (IsRegions base.opaque P id (is_isolated begin.name)) (λ ys. IsTail base.opaque id begin qs ys)
 
   abbrev Next : ℕ → StartTerm → List EntryTerm → Grammar Seen Operation
   Next id begin qs y old new = Regioned id begin qs y (seen_next old) new
 
   abbrev Propertied : ℕ → StartTerm → Grammar Seen Operation
-  Propertied id begin = Then (InText IsProperties) (λ qs. Next id begin qs)
+  Propertied id begin = Then (InText (IsProperties base.opaque)) (λ qs. Next id begin qs)
 
   abbrev Started : List (Binding PackTerm) → ℕ → Grammar Seen Operation
   Started there id = Then (InText (IsStart outer there)) (λ begin. Propertied id begin)
 
-  started_into : (y : Operation) (t t' : Seen) → Started t.scopes.here t.next y t t' → IsOpWith outer P y t t'
+  started_into : (y : Operation) (t t' : Seen) → Started t.scopes.here t.next y t t' → IsOpWith base.opaque outer P y t t'
   started_into y t t' k =
       let start = k.2 in
       let rest = k.3 in
       let props = rest.2 in
       let first : k.1 ≡ seen_rest t start.0 = start.2 in
       let second : rest.1 ≡ seen_rest t props.0 = props.2 ∙ ap (λ m. seen_rest m props.0) first in
-      (k.0, start.0, rest.0, props.0, start.1, subst (λ m. IsProperties rest.0 m.bytes props.0) first props.1, subst (λ m. Regioned t.next k.0 rest.0 y (seen_next m) t') second rest.3)
+      (k.0, start.0, rest.0, props.0, start.1, subst (λ m. IsProperties base.opaque rest.0 m.bytes props.0) first props.1, subst (λ m. Regioned t.next k.0 rest.0 y (seen_next m) t') second rest.3)
 
-  started_back : (y : Operation) (t t' : Seen) → IsOpWith outer P y t t' → Started t.scopes.here t.next y t t'
+  started_back : (y : Operation) (t t' : Seen) → IsOpWith base.opaque outer P y t t' → Started t.scopes.here t.next y t t'
   started_back y t t' k = (k.0, seen_rest t k.1, (k.1, k.4, refl), (k.2, seen_rest t k.3, (k.3, k.5, refl), k.6))
+
+  -- in a context that grew, as in the base
+  properties_here : (c : Things) → Grows base c → Exact things Same c (Each EntryStands) properties_at (IsProperties base.opaque)
+  properties_here c b = subst (λ o. Exact things Same c (Each EntryStands) properties_at (IsProperties o)) b.opaque (properties_exact c)
 
   module _ (id : ℕ) (h : Start) (begin : StartTerm) where
     regioned_exact : (c : Things) → Grows base c → (n : ℕ) (es : Entries) (qs : List EntryTerm) → From (λ z. StartStands z h begin) c → From (λ z. NameStands z n begin.name) c → From (λ z. Each EntryStands z es qs) c
         → Exact held StateStands c OpStands (at_regions id h n (is_isolated begin.name) es) (Regioned id begin qs)
     regioned_exact c b n es qs starts names before =
-        then_exact held StateStands c (Each RegionStands) OpStands (regions_at p id (is_isolated begin.name)) (IsRegions P id (is_isolated begin.name)) (λ gs. tail_at id n h es gs) (λ ys. IsTail id begin qs ys) (regions_exact p P base body id (is_isolated begin.name) c b) (λ d gs ys g stand.
-        tail_exact id n h es gs begin qs ys d (later (λ z. StartStands z h begin) c d g starts) (later (λ z. NameStands z n begin.name) c d g names) (later (λ z. Each EntryStands z es qs) c d g before) stand)
+        then_exact held StateStands c (Each RegionStands) OpStands (regions_at p id (is_isolated begin.name)) (IsRegions base.opaque P id (is_isolated begin.name)) (λ gs. tail_at id n h es gs) (λ ys. IsTail base.opaque id begin qs ys) (regions_exact p P base body id (is_isolated begin.name) c b) (λ d gs ys g stand.
+        subst (λ o. Exact held StateStands d OpStands (tail_at id n h es gs) (IsTail o id begin qs ys)) (g.opaque ∙ b.opaque)
+        (tail_exact id n h es gs begin qs ys d (later (λ z. StartStands z h begin) c d g starts) (later (λ z. NameStands z n begin.name) c d g names) (later (λ z. Each EntryStands z es qs) c d g before) stand))
 
     propertied_exact : (c : Things) → Grows base c → (n : ℕ) → From (λ z. StartStands z h begin) c → From (λ z. NameStands z n begin.name) c → Exact held StateStands c OpStands (at_properties id h n (is_isolated begin.name)) (Propertied id begin)
     propertied_exact c b n starts names =
-        then_exact held StateStands c (Each EntryStands) OpStands (in_typed properties_at) (InText IsProperties) (λ es s. at_regions id h n (is_isolated begin.name) es (next_id s)) (λ qs. Next id begin qs) (typed_exact c (Each EntryStands) properties_at IsProperties (properties_exact c)) (λ d es qs g before.
+        then_exact held StateStands c (Each EntryStands) OpStands (in_typed properties_at) (InText (IsProperties base.opaque)) (λ es s. at_regions id h n (is_isolated begin.name) es (next_id s)) (λ qs. Next id begin qs) (typed_exact c (Each EntryStands) properties_at (IsProperties base.opaque) (properties_here c b)) (λ d es qs g before.
         shift_exact held StateStands d OpStands next_id seen_next (at_regions id h n (is_isolated begin.name) es) (Regioned id begin qs) (λ s t sound a. (grows_refl s.things, sound, λ z k w. let now = a z k w in (now.0, now.1, ap (λ m. m + 1) now.2)))
         (regioned_exact d (grows_trans base c d b g) n es qs (later (λ z. StartStands z h begin) c d g starts) (later (λ z. NameStands z n begin.name) c d g names) before))
 
@@ -298,30 +309,30 @@ module _ (free : Frees) (outer : FreeTerms) (base : Things) (frees : From (λ z.
       begin_exact held StateStands d OpStands (λ s. at_name id h) (λ t. Propertied id begin) (λ s t k sound now.
       named_exact id h begin s.things (grows_trans base d s.things (grows_trans base c d b g) k) sound (later (λ z. StartStands z h begin) d s.things k starts)))
 
-  pub op_with_exact : (c : Things) → Grows base c → Exact held StateStands c OpStands (op_with free p) (IsOpWith outer P)
+  pub op_with_exact : (c : Things) → Grows base c → Exact held StateStands c OpStands (op_with free p) (IsOpWith base.opaque outer P)
   op_with_exact c b =
-      exact_where held StateStands c OpStands (op_with free p) (λ s. at_start s.scopes.here s.next s) (IsOpWith outer P) (λ s g sound. op_same s)
-      (exact_spelled held StateStands c OpStands (λ s. at_start s.scopes.here s.next s) (λ y old new. Started old.scopes.here old.next y old new) (IsOpWith outer P) started_into started_back
+      exact_where held StateStands c OpStands (op_with free p) (λ s. at_start s.scopes.here s.next s) (IsOpWith base.opaque outer P) (λ s g sound. op_same s)
+      (exact_spelled held StateStands c OpStands (λ s. at_start s.scopes.here s.next s) (λ y old new. Started old.scopes.here old.next y old new) (IsOpWith base.opaque outer P) started_into started_back
       (begin_exact held StateStands c OpStands (λ s. at_start s.scopes.here s.next) (λ t. Started t.scopes.here t.next) (λ s t g sound now.
       subst (λ n. Exact held StateStands s.things OpStands (at_start s.scopes.here s.next) (Started t.scopes.here n)) (now s.things (grows_refl s.things) sound).2
       (started_exact s.things (grows_trans base c s.things b g) s.scopes.here t.scopes.here s.next (λ z k w. (now z k w).1.0)))))
 
 module _ (free : Frees) (outer : FreeTerms) (last : ℕ) (base : Things) (frees : From (λ z. FreeStands z free outer) base) where
-  pub op_exact : (depth : ℕ) (c : Things) → Grows base c → Exact held StateStands c OpStands (op_at free last depth) (IsOp outer last depth)
+  pub op_exact : (depth : ℕ) (c : Things) → Grows base c → Exact held StateStands c OpStands (op_at free last depth) (IsOp base.opaque outer last depth)
   unfolding op_at IsOp
   op_exact zero c b = record { found = λ s t x s' g sound h e. absurd cc; only = λ s t y t' g sound h k. absurd k }
   op_exact (suc depth) c b =
       let p = ops_at CloseCurly (op_at free last depth) 1048576 [] in
-      let P = IsOps CloseCurly (IsOp outer last depth) 1048576 [] in
-      begin_exact held StateStands c OpStands (λ u s. if nat_lt u.next last then op_with free p s else Wrong) (λ v. When (v.next < last) (IsOpWith outer P)) (λ s t g sound now.
+      let P = IsOps CloseCurly (IsOp base.opaque outer last depth) 1048576 [] in
+      begin_exact held StateStands c OpStands (λ u s. if nat_lt u.next last then op_with free p s else Wrong) (λ v. When (v.next < last) (IsOpWith base.opaque outer P)) (λ s t g sound now.
       let next = (now s.things (grows_refl s.things) sound).2 in
-      when_exact s.things OpStands (nat_lt s.next last) (t.next < last) (op_with free p) (IsOpWith outer P)
+      when_exact s.things OpStands (nat_lt s.next last) (t.next < last) (op_with free p) (IsOpWith base.opaque outer P)
       (λ e. subst (λ n. n < last) next (ltb-true s.next last e)) (λ k. lt-ltb s.next last (subst (λ n. n < last) (sym next) k))
-      (op_with_exact free outer base frees p P (λ d up. ops_exact CloseCurly (op_at free last depth) (IsOp outer last depth) base (op_exact depth) 1048576 d up [] [] (λ z k w. tt)) s.things (grows_trans base c s.things b g)))
+      (op_with_exact free outer base frees p P (λ d up. ops_exact CloseCurly (op_at free last depth) (IsOp base.opaque outer last depth) base (op_exact depth) 1048576 d up [] [] (λ z k w. tt)) s.things (grows_trans base c s.things b g)))
 
   -- operations up to the end of a text
-  pub source_exact : (depth : ℕ) (c : Things) → Grows base c → Exact held StateStands c (Each OpStands) (ops_at End (op_at free last depth) 1048576 []) (IsOps End (IsOp outer last depth) 1048576 [])
-  source_exact depth c b = ops_exact End (op_at free last depth) (IsOp outer last depth) base (op_exact depth) 1048576 c b [] [] (λ z k w. tt)
+  pub source_exact : (depth : ℕ) (c : Things) → Grows base c → Exact held StateStands c (Each OpStands) (ops_at End (op_at free last depth) 1048576 []) (IsOps End (IsOp base.opaque outer last depth) 1048576 [])
+  source_exact depth c b = ops_exact End (op_at free last depth) (IsOp base.opaque outer last depth) base (op_exact depth) 1048576 c b [] [] (λ z k w. tt)
 
 -- ---- from a text
 
@@ -345,13 +356,13 @@ each_meaning z (x ∷ xs) (y ∷ ys) h = λ i. h.0.1 i ∷ each_meaning z xs ys 
 
 module _ (free : Frees) (outer : FreeTerms) (last : ℕ) where
   pub op_read : (depth next : ℕ) (c : Things) (bytes : Text) (o : Op) (s : State) → IsSound c → From (λ z. FreeStands z free outer) c → op_at free last depth (fresh next bytes c) ≡ Read (o, s)
-      → Grows c s.things × IsSound s.things × IsTrue (is_known s.things o) × (t : Seen) × IsOp outer last depth (meaning s.things o) (seen_fresh next bytes) t × StateStands s.things s t
+      → Grows c s.things × IsSound s.things × IsTrue (is_known s.things o) × (t : Seen) × IsOp c.opaque outer last depth (meaning s.things o) (seen_fresh next bytes) t × StateStands s.things s t
   op_read depth next c bytes o s sound frees e =
       let f = (op_exact free outer last c frees depth c (grows_refl c)).found (fresh next bytes c) (seen_fresh next bytes) o s (grows_refl c) sound (fresh_agrees next bytes c) e in
       let r = f.3.stands s.things (grows_refl s.things) f.3.sound in
-      (f.3.grows, f.3.sound, r.0, f.1, subst (λ y. IsOp outer last depth y (seen_fresh next bytes) f.1) (sym r.1) f.2, f.3.agree s.things (grows_refl s.things) f.3.sound)
+      (f.3.grows, f.3.sound, r.0, f.1, subst (λ y. IsOp c.opaque outer last depth y (seen_fresh next bytes) f.1) (sym r.1) f.2, f.3.agree s.things (grows_refl s.things) f.3.sound)
 
-  pub op_spelled : (depth next : ℕ) (c : Things) (bytes : Text) (y : Operation) (t : Seen) → IsSound c → From (λ z. FreeStands z free outer) c → IsOp outer last depth y (seen_fresh next bytes) t
+  pub op_spelled : (depth next : ℕ) (c : Things) (bytes : Text) (y : Operation) (t : Seen) → IsSound c → From (λ z. FreeStands z free outer) c → IsOp c.opaque outer last depth y (seen_fresh next bytes) t
       → (op_at free last depth (fresh next bytes c) ≡ Full) ⊎ ((o : Op) × (s : State) × (op_at free last depth (fresh next bytes c) ≡ Read (o, s)) × Grows c s.things × IsSound s.things × OpStands s.things o y × StateStands s.things s t)
   op_spelled depth next c bytes y t sound frees k = ⊎_elim
       (λ (e : op_at free last depth (fresh next bytes c) ≡ Full). inl e)
@@ -360,13 +371,13 @@ module _ (free : Frees) (outer : FreeTerms) (last : ℕ) where
       ((op_exact free outer last c frees depth c (grows_refl c)).only (fresh next bytes c) (seen_fresh next bytes) y t (grows_refl c) sound (fresh_agrees next bytes c) k)
 
   pub ops_read : (depth next : ℕ) (c : Things) (bytes : Text) (os : List Op) (s : State) → IsSound c → From (λ z. FreeStands z free outer) c → ops_at End (op_at free last depth) 1048576 [] (fresh next bytes c) ≡ Read (os, s)
-      → Grows c s.things × IsSound s.things × IsTrue (list_all (is_known s.things) os) × (t : Seen) × IsOps End (IsOp outer last depth) 1048576 [] (map (meaning s.things) os) (seen_fresh next bytes) t × StateStands s.things s t
+      → Grows c s.things × IsSound s.things × IsTrue (list_all (is_known s.things) os) × (t : Seen) × IsOps End (IsOp c.opaque outer last depth) 1048576 [] (map (meaning s.things) os) (seen_fresh next bytes) t × StateStands s.things s t
   ops_read depth next c bytes os s sound frees e =
       let f = (source_exact free outer last c frees depth c (grows_refl c)).found (fresh next bytes c) (seen_fresh next bytes) os s (grows_refl c) sound (fresh_agrees next bytes c) e in
       let r = f.3.stands s.things (grows_refl s.things) f.3.sound in
-      (f.3.grows, f.3.sound, each_known s.things os f.0 r, f.1, subst (λ ys. IsOps End (IsOp outer last depth) 1048576 [] ys (seen_fresh next bytes) f.1) (sym (each_meaning s.things os f.0 r)) f.2, f.3.agree s.things (grows_refl s.things) f.3.sound)
+      (f.3.grows, f.3.sound, each_known s.things os f.0 r, f.1, subst (λ ys. IsOps End (IsOp c.opaque outer last depth) 1048576 [] ys (seen_fresh next bytes) f.1) (sym (each_meaning s.things os f.0 r)) f.2, f.3.agree s.things (grows_refl s.things) f.3.sound)
 
-  pub ops_spelled : (depth next : ℕ) (c : Things) (bytes : Text) (ys : List Operation) (t : Seen) → IsSound c → From (λ z. FreeStands z free outer) c → IsOps End (IsOp outer last depth) 1048576 [] ys (seen_fresh next bytes) t
+  pub ops_spelled : (depth next : ℕ) (c : Things) (bytes : Text) (ys : List Operation) (t : Seen) → IsSound c → From (λ z. FreeStands z free outer) c → IsOps End (IsOp c.opaque outer last depth) 1048576 [] ys (seen_fresh next bytes) t
       → (ops_at End (op_at free last depth) 1048576 [] (fresh next bytes c) ≡ Full)
       ⊎ ((os : List Op) × (s : State) × (ops_at End (op_at free last depth) 1048576 [] (fresh next bytes c) ≡ Read (os, s)) × Grows c s.things × IsSound s.things × Each OpStands s.things os ys × StateStands s.things s t)
   ops_spelled depth next c bytes ys t sound frees k = ⊎_elim

@@ -13,7 +13,6 @@ use Rattle.ir_text_types.specs.declared.error.ReadError.TheVariants as errors
 use Rattle.ir_text_types.specs.Marks.{after}
 use Rattle.ir_text_types.specs.Outcomes.{Outcome, Read, Wrong, Full, ◌>>=◌, of_option, Parse, Fails}
 use Rattle.ir_text_types.specs.Typed.{Text, Typed, after_typed, name_step}
-use Rattle.ir_text_types.specs.TypeReading.{function_type_at}
 use Rattle.ir_text_types.proofs.ListSteps.{fails_with}
 use Rattle.ir_text_types.proofs.Worlds.{bind_assoc}
 use Rattle.ir_text_names.specs.declared.bound.Bound.{Bound}
@@ -25,7 +24,7 @@ use Rattle.ir_text_attributes.specs.AttrReading.{Entries}
 use Rattle.ir_text_operations.specs.EntryReading.{properties_at, attributes_at}
 use Rattle.ir_text_operations.specs.FrontReading.{Frees, Start, start_at, op_name_at, uses_at}
 use Rattle.ir_text_operations.specs.Made.{region_of}
-use Rattle.ir_text_operations.specs.OpReading.{bound_types, op_of, tail_at, begun, region_at, regions_at, ops_at, op_with, op_at}
+use Rattle.ir_text_operations.specs.OpReading.{bound_types, op_of, signature_here, tail_at, begun, region_at, regions_at, ops_at, op_with, op_at}
 use Rattle.ir_text_operations.specs.Openings.{IsOfText, Opened, called_at, opening_at, result_types_at, finished_at}
 
 -- what is read on where the same is read on
@@ -165,12 +164,12 @@ module _ (id name : ℕ) (h : Start) (properties : Entries) (regions : List Regi
   by_type e Wrong = refl
   by_type e Full = refl
 
-  by_colon : (e : Entries × Typed) (o : Option Typed) → (of_option o >>= λ c. function_type_at c >>= λ t. (if bytes_eq (bound_types h.operands) t.0.0 then finish id h.results t.0.1 s.scopes else Wrong) >>= with_scoped e t)
-      ≡ (((of_option o >>= λ c. function_type_at c >>= with_test) >>= bound_behind e) >>= op_behind e.0)
-  by_colon e (Some c) = by_type e (function_type_at c)
+  by_colon : (e : Entries × Typed) (o : Option Typed) → (of_option o >>= λ c. signature_here c >>= λ t. (if bytes_eq (bound_types h.operands) t.0.0 then finish id h.results t.0.1 s.scopes else Wrong) >>= with_scoped e t)
+      ≡ (((of_option o >>= λ c. signature_here c >>= with_test) >>= bound_behind e) >>= op_behind e.0)
+  by_colon e (Some c) = by_type e (signature_here c)
   by_colon e None = refl
 
-  by_entries : (e : Entries × Typed) → (of_option (after_typed Colon e.1) >>= λ c. function_type_at c >>= λ t. (if bytes_eq (bound_types h.operands) t.0.0 then finish id h.results t.0.1 s.scopes else Wrong) >>= with_scoped e t)
+  by_entries : (e : Entries × Typed) → (of_option (after_typed Colon e.1) >>= λ c. signature_here c >>= λ t. (if bytes_eq (bound_types h.operands) t.0.0 then finish id h.results t.0.1 s.scopes else Wrong) >>= with_scoped e t)
       ≡ with_entries e
   unfolding finished_at result_types_at
   by_entries e = by_colon e (after_typed Colon e.1)

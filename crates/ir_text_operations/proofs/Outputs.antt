@@ -9,6 +9,7 @@ use Rattle.ir_text_types.specs.Outcomes.{Outcome, Read, Wrong, ◌>>=◌, of_opt
 use Rattle.ir_text_types.specs.Lists.{more_from, more_at, list_from, list_at}
 use Rattle.ir_text_types.specs.Typed.{Typed, after_typed}
 use Rattle.ir_text_types.specs.TypeReading.{types_at, outputs_from, outputs_at, signature_at, many, type_at, function_type_at}
+use Rattle.ir_text_operations.specs.OpReading.{signature_here}
 use Rattle.ir_text_types.proofs.Worlds.{bind_read, option_read}
 use Rattle.ir_text_operations.specs.Openings.{result_types_at}
 
@@ -66,11 +67,11 @@ signature_length p room s x s' h e =
     rw (← same) (outputs_length p room a.0 o.0.0 o.0.1 (after_typed OpenRound a.0) h o.1)
 
 -- an operation has at most 256 results
-pub function_type_length : (s : Typed) (x : List ℕ × List ℕ) (s' : Typed) → function_type_at s ≡ Read (x, s') → length x.1 ≤ 256
+pub function_type_length : (s : Typed) (x : List ℕ × List ℕ) (s' : Typed) → signature_here s ≡ Read (x, s') → length x.1 ≤ 256
 unfolding function_type_at
 function_type_length s x s' e =
-    let c = option_read (after_typed OpenRound s) (signature_at (type_at 32) 256) (x, s') e in
-    signature_length (type_at 32) 256 c.0 x s' (omega arith) c.2
+    let c = option_read (after_typed OpenRound s) (signature_at (type_at s.1.opaque 32) 256) (x, s') e in
+    signature_length (type_at s.1.opaque 32) 256 c.0 x s' (omega arith) c.2
 
 -- and so where its operands agree
 abbrev tested : Bool → List ℕ × Typed → Outcome (List ℕ × Typed)
@@ -83,7 +84,7 @@ test_read false xs t ys u e = absurd cc
 pub outputs_few : (inputs : List ℕ) (s : Typed) (xs : List ℕ) (s' : Typed) → result_types_at inputs s ≡ Read (xs, s') → length xs ≤ 256
 unfolding result_types_at
 outputs_few inputs s xs s' e =
-    let c = option_read (after_typed Colon s) (λ c. function_type_at c >>= λ t. tested (bytes_eq inputs t.0.0) (t.0.1, t.1)) (xs, s') e in
-    let t = bind_read (function_type_at c.0) (λ t. tested (bytes_eq inputs t.0.0) (t.0.1, t.1)) (xs, s') c.2 in
+    let c = option_read (after_typed Colon s) (λ c. signature_here c >>= λ t. tested (bytes_eq inputs t.0.0) (t.0.1, t.1)) (xs, s') e in
+    let t = bind_read (signature_here c.0) (λ t. tested (bytes_eq inputs t.0.0) (t.0.1, t.1)) (xs, s') c.2 in
     let same = test_read (bytes_eq inputs t.0.0.0) t.0.0.1 t.0.1 xs s' t.2 in
     rw (← same) (function_type_length c.0 t.0.0 t.0.1 t.1)

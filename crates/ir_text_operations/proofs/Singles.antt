@@ -1,7 +1,7 @@
 -- One operation of a text, by the laws of operations.
 use Rattle.std.specs.Prelude.{IsTrue, IfSome, Result, Err, option_map, option_and_then}
 use Rattle.std.specs.List.{range_with_len}
-use Rattle.std.proofs.Common.{◌≡◌, ◌≤◌, ℕ, List, length, Option, Some, None, refl, sym, ap, subst, ◌∙◌, ⊎_elim, arith}
+use Rattle.std.proofs.Common.{◌≡◌, ◌≤◌, ℕ, Bool, List, length, Option, Some, None, refl, sym, ap, subst, ◌∙◌, ⊎_elim, arith}
 use Rattle.ir_text_tokens.specs.declared.token.Mark.TheVariants.{End}
 use Rattle.ir_text_tokens.specs.Limits.{text_reason}
 use Rattle.ir_text_tokens.specs.declared.refusal.TextRefusal.{TextRefusal}
@@ -64,7 +64,7 @@ module _ (types : Value → Option ℕ) (c : Things) (known : (v : Value) → If
 
 module _ (free : Frees) (outer : FreeTerms) (last first : ℕ) (bytes : List ℕ) (c : Things) (sound : IsSound c) (frees : From (λ z. FreeStands z free outer) c) where
   -- what is spelled was read
-  single_is : (x : Op) (s : State) → op_at free last 129 (fresh first bytes c) ≡ Read (x, s) → (y : Operation) → IsSingleOp outer last first bytes y → (y ≡ meaning s.things x) × ((rest : List ℕ) × IsMark End s.bytes rest)
+  single_is : (x : Op) (s : State) → op_at free last 129 (fresh first bytes c) ≡ Read (x, s) → (y : Operation) → IsSingleOp c.opaque outer last first bytes y → (y ≡ meaning s.things x) × ((rest : List ℕ) × IsMark End s.bytes rest)
   unfolding IsSingleOp
   single_is x s e y h = ⊎_elim
       (λ (f : op_at free last 129 (fresh first bytes c) ≡ Full). absurd cc)
@@ -76,7 +76,7 @@ module _ (free : Frees) (outer : FreeTerms) (last first : ℕ) (bytes : List ℕ
       ))
       ((op_exact free outer last c frees 129 c (grows_refl c)).only (fresh first bytes c) (seen_fresh first bytes) y h.0 (grows_refl c) sound (fresh_agrees first bytes c) h.2)
 
-  pub single_read : (x : Op) (s : State) (rest : List ℕ) → op_at free last 129 (fresh first bytes c) ≡ Read (x, s) → after End s.bytes ≡ Some rest → IsOnly (IsSingleOp outer last first bytes) s.things x
+  pub single_read : (x : Op) (s : State) (rest : List ℕ) → op_at free last 129 (fresh first bytes c) ≡ Read (x, s) → after End s.bytes ≡ Some rest → IsOnly (IsSingleOp c.opaque outer last first bytes) s.things x
   unfolding IsSingleOp
   single_read x s rest e ends =
       let f = (op_exact free outer last c frees 129 c (grows_refl c)).found (fresh first bytes c) (seen_fresh first bytes) x s (grows_refl c) sound (fresh_agrees first bytes c) e in
@@ -84,17 +84,17 @@ module _ (free : Frees) (outer : FreeTerms) (last first : ℕ) (bytes : List ℕ
       let mark : IsMark End f.1.bytes rest = subst (λ b. IsMark End b rest) (bytes_now s f.1 f.3.sound f.3.agree) (after_found End s.bytes rest ends) in
       record {
         known = r.0;
-        holds = (f.1, rest, subst (λ y. IsOp outer last 129 y (seen_fresh first bytes) f.1) (sym r.1) f.2, mark);
+        holds = (f.1, rest, subst (λ y. IsOp c.opaque outer last 129 y (seen_fresh first bytes) f.1) (sym r.1) f.2, mark);
         only = λ y h. (single_is x s e y h).0;
       }
 
-  pub single_more : (x : Op) (s : State) → op_at free last 129 (fresh first bytes c) ≡ Read (x, s) → after End s.bytes ≡ None → IsNone (IsSingleOp outer last first bytes)
+  pub single_more : (x : Op) (s : State) → op_at free last 129 (fresh first bytes c) ≡ Read (x, s) → after End s.bytes ≡ None → IsNone (IsSingleOp c.opaque outer last first bytes)
   single_more x s e more y h =
       let k = single_is x s e y h in
       let ends = after_only End s.bytes k.1.0 k.1.1 in
       let clash : None ≡ Some k.1.0 = sym more ∙ ends in absurd cc
 
-  pub single_wrong : op_at free last 129 (fresh first bytes c) ≡ Wrong → IsNone (IsSingleOp outer last first bytes)
+  pub single_wrong : op_at free last 129 (fresh first bytes c) ≡ Wrong → IsNone (IsSingleOp c.opaque outer last first bytes)
   unfolding IsSingleOp
   single_wrong e y h = ⊎_elim
       (λ (f : op_at free last 129 (fresh first bytes c) ≡ Full). absurd cc)
@@ -108,31 +108,31 @@ module _ (free : Frees) (outer : FreeTerms) (last first : ℕ) (bytes : List ℕ
   whole x = of_option (after End x.1.bytes) >>= told x.0 x.1.things
 
   -- the same, by the reader of one operation
-  pub alone_read : (x : Op) (d : Things) → single_op_at free last (fresh first bytes c) ≡ Read (x, d) → IsOnly (IsSingleOp outer last first bytes) d x
+  pub alone_read : (x : Op) (d : Things) → single_op_at free last (fresh first bytes c) ≡ Read (x, d) → IsOnly (IsSingleOp c.opaque outer last first bytes) d x
   unfolding single_op_at
   alone_read x d e =
       let a = bind_read (op_at free last 129 (fresh first bytes c)) whole (x, d) e in
       let b = option_read (after End a.0.1.bytes) (told a.0.0 a.0.1.things) (x, d) a.2 in
       let q = read_parts a.0.0 x a.0.1.things d b.2 in
-      subst (λ (u : Op × Things). IsOnly (IsSingleOp outer last first bytes) u.1 u.0) (λ i. (q.0 i, q.1 i)) (single_read a.0.0 a.0.1 b.0 a.1 b.1)
+      subst (λ (u : Op × Things). IsOnly (IsSingleOp c.opaque outer last first bytes) u.1 u.0) (λ i. (q.0 i, q.1 i)) (single_read a.0.0 a.0.1 b.0 a.1 b.1)
 
-  pub alone_wrong : single_op_at free last (fresh first bytes c) ≡ Wrong → IsNone (IsSingleOp outer last first bytes)
+  pub alone_wrong : single_op_at free last (fresh first bytes c) ≡ Wrong → IsNone (IsSingleOp c.opaque outer last first bytes)
   unfolding single_op_at
   alone_wrong e = by_op (op_at free last 129 (fresh first bytes c)) refl e
     where
-      by_end : (x : Op) (s : State) → op_at free last 129 (fresh first bytes c) ≡ Read (x, s) → (o : Option (List ℕ)) → after End s.bytes ≡ o → (of_option o >>= told x s.things) ≡ Wrong → IsNone (IsSingleOp outer last first bytes)
+      by_end : (x : Op) (s : State) → op_at free last 129 (fresh first bytes c) ≡ Read (x, s) → (o : Option (List ℕ)) → after End s.bytes ≡ o → (of_option o >>= told x s.things) ≡ Wrong → IsNone (IsSingleOp c.opaque outer last first bytes)
       by_end x s read None none w = single_more x s read none
       by_end x s read (Some rest) ends w = absurd cc
 
-      by_op : (o : Outcome (Op × State)) → op_at free last 129 (fresh first bytes c) ≡ o → (o >>= whole) ≡ Wrong → IsNone (IsSingleOp outer last first bytes)
+      by_op : (o : Outcome (Op × State)) → op_at free last 129 (fresh first bytes c) ≡ o → (o >>= whole) ≡ Wrong → IsNone (IsSingleOp c.opaque outer last first bytes)
       by_op (Read x) read w = by_end x.0 x.1 read (after End x.1.bytes) refl w
       by_op Wrong wrong w = single_wrong wrong
       by_op Full full w = absurd cc
 
 -- ---- what is looked at afterwards
 
-module _ (outer : FreeTerms) (first : ℕ) (bytes : List ℕ) where
-  pub part_spelled : (c : Things) (t : Op) → text_reason bytes ≡ None → IsOnly (IsSingleOp outer (last_from first) first bytes) c t → IsLoneTree first c t → IsOnly (SpellsOp outer first bytes) c t
+module _ (o : Bool) (outer : FreeTerms) (first : ℕ) (bytes : List ℕ) where
+  pub part_spelled : (c : Things) (t : Op) → text_reason bytes ≡ None → IsOnly (IsSingleOp o outer (last_from first) first bytes) c t → IsLoneTree first c t → IsOnly (SpellsOp o outer first bytes) c t
   part_spelled c t text h w = record {
     known = h.known;
     holds = record {
@@ -146,7 +146,7 @@ module _ (outer : FreeTerms) (first : ℕ) (bytes : List ℕ) where
     only = λ y s. h.only y s.spelled;
   }
 
-  pub no_part : (c : Things) (t : Op) → IsOnly (IsSingleOp outer (last_from first) first bytes) c t → (IsLoneTree first c t → ⊥) → IsNone (SpellsOp outer first bytes)
+  pub no_part : (c : Things) (t : Op) → IsOnly (IsSingleOp o outer (last_from first) first bytes) c t → (IsLoneTree first c t → ⊥) → IsNone (SpellsOp o outer first bytes)
   no_part c t h not_part y s =
       let same : y ≡ meaning c t = h.only y s.spelled in
       let shallow : depth (meaning c t) ≤ most_around = subst (λ (u : Operation). depth u ≤ most_around) same s.shallow in
@@ -160,8 +160,8 @@ module _ (outer : FreeTerms) (first : ℕ) (bytes : List ℕ) where
         record { known = h.known; sorted = subst IsTrue (all_rise c t) sorted },
       )
 
-  pub single_none : IsNone (IsSingleOp outer (last_from first) first bytes) → IsNone (SpellsOp outer first bytes)
+  pub single_none : IsNone (IsSingleOp o outer (last_from first) first bytes) → IsNone (SpellsOp o outer first bytes)
   single_none none y s = none y s.spelled
 
-  pub no_text : (r : TextRefusal × ℕ) → text_reason bytes ≡ Some r → IsNone (SpellsOp outer first bytes)
+  pub no_text : (r : TextRefusal × ℕ) → text_reason bytes ≡ Some r → IsNone (SpellsOp o outer first bytes)
   no_text r e y s = let t = s.text in absurd cc

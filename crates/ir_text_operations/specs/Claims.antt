@@ -1,5 +1,5 @@
 -- What is read against what is spelled.
-use Rattle.std.specs.Prelude.{◌≡◌, ◌≤◌, ◌⊎◌, ℕ, List, [], IsTrue}
+use Rattle.std.specs.Prelude.{◌≡◌, ◌≤◌, ◌⊎◌, ℕ, Bool, List, [], IsTrue}
 use Rattle.ir_text_tokens.specs.declared.token.Mark.TheVariants.{End}
 use Rattle.ir_types.specs.Things.{Things}
 use Rattle.ir_tree.specs.Tree.{Op, op, region, block, no_regions, ops_of}
@@ -25,17 +25,17 @@ abbrev pub IsNone : (Operation → Type 0) → Type 0
 IsNone F = (y : Operation) → F y → ⊥
 
 -- the root that was read, or there is none
-abbrev pub IsRootOrNone : List ℕ → Things → Root → Type 0
-IsRootOrNone bytes c (root.Is t) = IsOnly (IsExplicit bytes) c t
-IsRootOrNone bytes c (root.Other fault) = IsNone (IsExplicit bytes)
+abbrev pub IsRootOrNone : Bool → List ℕ → Things → Root → Type 0
+IsRootOrNone opaque bytes c (root.Is t) = IsOnly (IsExplicit opaque bytes) c t
+IsRootOrNone opaque bytes c (root.Other fault) = IsNone (IsExplicit opaque bytes)
 
 -- the operations of an implicit root
-unfoldable pub IsBody : List ℕ → Operation → Type 0
-IsBody bytes t = (os : List Operation) × (end : Seen) × IsOps End (IsOp no_names most_ops most_around) most_ops [] os (seen_fresh 1 bytes) end × (t ≡ module_of os)
+unfoldable pub IsBody : Bool → List ℕ → Operation → Type 0
+IsBody opaque bytes t = (os : List Operation) × (end : Seen) × IsOps End (IsOp opaque no_names most_ops most_around) most_ops [] os (seen_fresh 1 bytes) end × (t ≡ module_of os)
 
 -- the one or the other
-abbrev pub IsSource : List ℕ → Operation → Type 0
-IsSource bytes t = IsExplicit bytes t ⊎ IsImplicit bytes t
+abbrev pub IsSource : Bool → List ℕ → Operation → Type 0
+IsSource opaque bytes t = IsExplicit opaque bytes t ⊎ IsImplicit opaque bytes t
 
 -- a tree of numbers that may be a module's
 abbrev pub IsModuleTree : Things → Op → Type 0

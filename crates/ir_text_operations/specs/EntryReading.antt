@@ -21,10 +21,14 @@ is_property_in c (Some op) k = is_inherent (name_term c op) (name_term c k)
 abbrev pub refused_in : Things → Option ℕ → Entries → ℕ → Entries → Bool
 refused_in c op properties k es = keyed.is_refused nat_eq (is_property_in c op) properties k es
 
+-- the attribute of an entry, as the context's flag has it
+abbrev pub value_here : ℕ → Parse Typed ℕ
+value_here depth s = value_at s.1.opaque depth s
+
 unfoldable pub entry_at : Option ℕ → Entries → Entries → Parse Typed (ℕ × ℕ)
 entry_at op properties before s = do
   k ← key_at s
-  a ← (if refused_in k.1.1 op properties k.0 before then Wrong else value_at most_depth k.1)
+  a ← (if refused_in k.1.1 op properties k.0 before then Wrong else value_here most_depth k.1)
   Read ((k.0, a.0), a.1)
 
 -- entries up to the closing brace

@@ -1,5 +1,5 @@
 -- Reading that comes to a full context.
-use Rattle.std.specs.Prelude.{◌≡◌, ◌⊎◌, ℕ, List, []}
+use Rattle.std.specs.Prelude.{◌≡◌, ◌⊎◌, ℕ, Bool, List, []}
 use Rattle.ir_text_tokens.specs.declared.token.Mark.TheVariants.{End}
 use Rattle.ir_types.specs.Things.{Things}
 use Rattle.ir_types.specs.Interning.{with_name}
@@ -14,8 +14,8 @@ use Rattle.ir_text_operations.specs.OpReading.{op_at, ops_at}
 use Rattle.ir_text_operations.specs.Spelling.{module_word}
 
 -- what a new context holds: the words of the operation table
-abbrev pub new_things : Things
-new_things = record { names = words; types = []; attrs = [] }
+abbrev pub new_things : Bool → Things
+new_things opaque = record { names = words; types = []; attrs = []; opaque = opaque }
 
 -- so it is where the text is read as one operation, with ids from 0 on
 abbrev pub RootFills : List ℕ → Things → Type 0
@@ -30,5 +30,5 @@ abbrev pub BodyFills : List ℕ → Things → Type 0
 BodyFills bytes c = (name_step module_word c ≡ Full) ⊎ OpsFill most_around 1 bytes (with_name module_word c).1
 
 -- in one of the ways in which a text is read, each with a new context
-abbrev pub Fills : List ℕ → Type 0
-Fills bytes = RootFills bytes new_things ⊎ (BodyFills bytes new_things ⊎ OpsFill most_levels 0 bytes new_things)
+abbrev pub Fills : Bool → List ℕ → Type 0
+Fills opaque bytes = RootFills bytes (new_things opaque) ⊎ (BodyFills bytes (new_things opaque) ⊎ OpsFill most_levels 0 bytes (new_things opaque))

@@ -94,46 +94,48 @@ abbrev pub is_property : Option (List ℕ) → List ℕ → Bool
 is_property None k = false
 is_property (Some op) k = is_inherent op k
 
--- the attribute of an entry
-abbrev pub IsEntryValue : Grammar Text AttrTerm
-IsEntryValue = IsValue most_depth (IsAttr most_depth)
+-- whether types and attributes that aren't known are spelled by their texts
+module _ (opaque : Bool) where
+  -- the attribute of an entry
+  abbrev pub IsEntryValue : Grammar Text AttrTerm
+  IsEntryValue = IsValue most_depth (IsAttr opaque most_depth)
 
--- an entry whose key does not stand before it, nor among the properties, and for which there is room
-abbrev pub IsOpEntry : Option (List ℕ) → List EntryTerm → List EntryTerm → Grammar Text EntryTerm
-IsOpEntry op properties before =
-    Then IsKey (λ k. When (is_refused bytes_eq (is_property op) properties k before ≡ false) (Then IsEntryValue (λ a. Done (k, a))))
+  -- an entry whose key does not stand before it, nor among the properties, and for which there is room
+  abbrev pub IsOpEntry : Option (List ℕ) → List EntryTerm → List EntryTerm → Grammar Text EntryTerm
+  IsOpEntry op properties before =
+      Then IsKey (λ k. When (is_refused bytes_eq (is_property op) properties k before ≡ false) (Then IsEntryValue (λ a. Done (k, a))))
 
-abbrev pub IsEntries : Option (List ℕ) → List EntryTerm → Grammar Text (List EntryTerm)
-IsEntries op properties = IsList IsMark CloseCurly (IsOpEntry op properties) most_written
+  abbrev pub IsEntries : Option (List ℕ) → List EntryTerm → Grammar Text (List EntryTerm)
+  IsEntries op properties = IsList IsMark CloseCurly (IsOpEntry op properties) most_written
 
--- the properties, where they are written
-abbrev pub IsProperties : Grammar Text (List EntryTerm)
-IsProperties = Either IsMark Less (After IsMark OpenCurly (Then (IsEntries None []) (λ es. After IsMark Greater (Done es)))) (Done [])
+  -- the properties, where they are written
+  abbrev pub IsProperties : Grammar Text (List EntryTerm)
+  IsProperties = Either IsMark Less (After IsMark OpenCurly (Then (IsEntries None []) (λ es. After IsMark Greater (Done es)))) (Done [])
 
--- the attribute dictionary, where it is written
-abbrev pub IsAttributes : List ℕ → List EntryTerm → Grammar Text (List EntryTerm)
-IsAttributes op properties = Either IsMark OpenCurly (IsEntries (Some op) properties) (Done [])
+  -- the attribute dictionary, where it is written
+  abbrev pub IsAttributes : List ℕ → List EntryTerm → Grammar Text (List EntryTerm)
+  IsAttributes op properties = Either IsMark OpenCurly (IsEntries (Some op) properties) (Done [])
 
--- ---- blocks
+  -- ---- blocks
 
--- an argument, whose name can be seen from then on
-abbrev pub IsArg : ℕ → ℕ → List TypeTerm → Grammar Seen TypeTerm
-IsArg id r before = Then (InText IsName) (λ n. After IsMarkSeen Colon (Then (InText (IsType most_depth)) (λ t. binds n t)))
-  where
-    binds : List ℕ → TypeTerm → Grammar Seen TypeTerm
-    binds n t y old new = (scopes : Scopes PackTerm) × IsBound n ((record { value = values.Arg id r (length before); type = t }) ∷ []) old.scopes scopes × (y ≡ t) × (new ≡ seen_scopes old scopes)
+  -- an argument, whose name can be seen from then on
+  abbrev pub IsArg : ℕ → ℕ → List TypeTerm → Grammar Seen TypeTerm
+  IsArg id r before = Then (InText IsName) (λ n. After IsMarkSeen Colon (Then (InText (IsType opaque most_depth)) (λ t. binds n t)))
+    where
+      binds : List ℕ → TypeTerm → Grammar Seen TypeTerm
+      binds n t y old new = (scopes : Scopes PackTerm) × IsBound n ((record { value = values.Arg id r (length before); type = t }) ∷ []) old.scopes scopes × (y ≡ t) × (new ≡ seen_scopes old scopes)
 
--- arguments in parentheses or none, and a colon
-abbrev pub IsLabelArgs : ℕ → ℕ → Grammar Seen (List TypeTerm)
-IsLabelArgs id r = Then (Either IsMarkSeen OpenRound (IsList IsMarkSeen CloseRound (IsArg id r) most_items) (Done [])) (λ args. After IsMarkSeen Colon (Done args))
+  -- arguments in parentheses or none, and a colon
+  abbrev pub IsLabelArgs : ℕ → ℕ → Grammar Seen (List TypeTerm)
+  IsLabelArgs id r = Then (Either IsMarkSeen OpenRound (IsList IsMarkSeen CloseRound (IsArg id r) most_items) (Done [])) (λ args. After IsMarkSeen Colon (Done args))
 
-abbrev pub IsHeadFrom : ℕ → ℕ → Lexeme → Text → Grammar Seen (Option (List TypeTerm))
-IsHeadFrom id r (label l) rest y old new = (args : List TypeTerm) × IsLabelArgs id r args (seen_rest old rest) new × (y ≡ Some args)
-IsHeadFrom id r _ rest y old new = (y ≡ None) × (new ≡ old)
+  abbrev pub IsHeadFrom : ℕ → ℕ → Lexeme → Text → Grammar Seen (Option (List TypeTerm))
+  IsHeadFrom id r (label l) rest y old new = (args : List TypeTerm) × IsLabelArgs id r args (seen_rest old rest) new × (y ≡ Some args)
+  IsHeadFrom id r _ rest y old new = (y ≡ None) × (new ≡ old)
 
--- a label with the arguments of the block, where a label comes first
-abbrev pub IsHead : ℕ → ℕ → Grammar Seen (Option (List TypeTerm))
-IsHead id r y old new = (t : Lexeme) × (rest : Text) × Token t old.bytes rest × IsHeadFrom id r t rest y old new
+  -- a label with the arguments of the block, where a label comes first
+  abbrev pub IsHead : ℕ → ℕ → Grammar Seen (Option (List TypeTerm))
+  IsHead id r y old new = (t : Lexeme) × (rest : Text) × Token t old.bytes rest × IsHeadFrom id r t rest y old new
 
 -- ---- operations up to a closing mark, at most so many, behind those of `front`
 
@@ -147,19 +149,20 @@ module _ (close : Mark) (P : Grammar Seen Operation) where
 abbrev pub RegionTerm : Type 0
 RegionTerm = RegionOf (List ℕ) TypeTerm AttrTerm
 
--- the names of a region are hidden again at its end; in one of an isolated operation no other names are seen
-abbrev pub IsRegion : Grammar Seen (List Operation) → ℕ → Bool → List RegionTerm → Grammar Seen RegionTerm
-IsRegion P id isolated before = After IsMarkSeen OpenCurly inner
-  where
-    leaves : RegionTerm → Grammar Seen RegionTerm
-    leaves g y old new = (y ≡ g) × (new ≡ seen_outside old)
+module _ (opaque : Bool) where
+  -- the names of a region are hidden again at its end; in one of an isolated operation no other names are seen
+  abbrev pub IsRegion : Grammar Seen (List Operation) → ℕ → Bool → List RegionTerm → Grammar Seen RegionTerm
+  IsRegion P id isolated before = After IsMarkSeen OpenCurly inner
+    where
+      leaves : RegionTerm → Grammar Seen RegionTerm
+      leaves g y old new = (y ≡ g) × (new ≡ seen_outside old)
 
-    inner : Grammar Seen RegionTerm
-    inner y old new = Then (IsHead id (length before)) (λ h. Then P (λ os. leaves (region_of h os))) y (seen_inside isolated old) new
+      inner : Grammar Seen RegionTerm
+      inner y old new = Then (IsHead opaque id (length before)) (λ h. Then P (λ os. leaves (region_of h os))) y (seen_inside isolated old) new
 
--- regions in parentheses, or none
-abbrev pub IsRegions : Grammar Seen (List Operation) → ℕ → Bool → Grammar Seen (List RegionTerm)
-IsRegions P id isolated = Either IsMarkSeen OpenRound (IsMore IsMarkSeen CloseRound (IsRegion P id isolated) most_regions []) (Done [])
+  -- regions in parentheses, or none
+  abbrev pub IsRegions : Grammar Seen (List Operation) → ℕ → Bool → Grammar Seen (List RegionTerm)
+  IsRegions P id isolated = Either IsMarkSeen OpenRound (IsMore IsMarkSeen CloseRound (IsRegion P id isolated) most_regions []) (Done [])
 
 -- ---- operations
 
@@ -178,23 +181,24 @@ abbrev pub IsFinished : ℕ → Option (List Counted) → List TypeTerm → (old
 IsFinished id None outputs old new = new ≡ old
 IsFinished id (Some names) outputs old new = (counts names ≡ length outputs) × IsBoundResults id 0 names outputs old new
 
--- behind the regions: the attributes, and the function type, whose inputs are the types of the operands
-abbrev pub IsTail : ℕ → StartTerm → List EntryTerm → List RegionTerm → Grammar Seen Operation
-IsTail id h properties regions =
-    Then (InText (IsAttributes h.name properties)) (λ es. After IsMarkSeen Colon (Then (InText IsFunctionType) (λ t. When (map (λ b. b.type) h.operands ≡ t.0) (ends es t.1))))
-  where
-    ends : List EntryTerm → List TypeTerm → Grammar Seen Operation
-    ends es outputs y old new =
-        (scopes : Scopes PackTerm) × IsFinished id h.results outputs old.scopes scopes × (new ≡ seen_scopes old scopes)
-        × (y ≡ made (is_property (Some h.name)) key_before id h.name (map (λ b. b.value) h.operands) properties es outputs regions)
+module _ (opaque : Bool) where
+  -- behind the regions: the attributes, and the function type, whose inputs are the types of the operands
+  abbrev pub IsTail : ℕ → StartTerm → List EntryTerm → List RegionTerm → Grammar Seen Operation
+  IsTail id h properties regions =
+      Then (InText (IsAttributes opaque h.name properties)) (λ es. After IsMarkSeen Colon (Then (InText (IsFunctionType opaque)) (λ t. When (map (λ b. b.type) h.operands ≡ t.0) (ends es t.1))))
+    where
+      ends : List EntryTerm → List TypeTerm → Grammar Seen Operation
+      ends es outputs y old new =
+          (scopes : Scopes PackTerm) × IsFinished id h.results outputs old.scopes scopes × (new ≡ seen_scopes old scopes)
+          × (y ≡ made (is_property (Some h.name)) key_before id h.name (map (λ b. b.value) h.operands) properties es outputs regions)
 
-abbrev pub IsOpWith : FreeTerms → Grammar Seen (List Operation) → Grammar Seen Operation
-IsOpWith free P y old new =
-    (h : StartTerm) × (mid : Text) × (properties : List EntryTerm) × (rest : Text)
-    × IsStart free old.scopes.here h old.bytes mid × IsProperties properties mid rest
-    × Then (IsRegions P old.next (is_isolated h.name)) (λ regions. IsTail old.next h properties regions) y (record { bytes = rest; scopes = old.scopes; next = old.next + 1 }) new
+  abbrev pub IsOpWith : FreeTerms → Grammar Seen (List Operation) → Grammar Seen Operation
+  IsOpWith free P y old new =
+      (h : StartTerm) × (mid : Text) × (properties : List EntryTerm) × (rest : Text)
+      × IsStart free old.scopes.here h old.bytes mid × IsProperties opaque properties mid rest
+      × Then (IsRegions opaque P old.next (is_isolated h.name)) (λ regions. IsTail old.next h properties regions) y (record { bytes = rest; scopes = old.scopes; next = old.next + 1 }) new
 
--- an operation with at most that many levels, of which it is one; ids are given in pre-order, each below `last`
-unfoldable pub IsOp : FreeTerms → ℕ → ℕ → Grammar Seen Operation
-IsOp free last zero y old new = ⊥
-IsOp free last (suc depth) y old new = (old.next < last) × IsOpWith free (IsOps CloseCurly (IsOp free last depth) most_ops []) y old new
+  -- an operation with at most that many levels, of which it is one; ids are given in pre-order, each below `last`
+  unfoldable pub IsOp : FreeTerms → ℕ → ℕ → Grammar Seen Operation
+  IsOp free last zero y old new = ⊥
+  IsOp free last (suc depth) y old new = (old.next < last) × IsOpWith free (IsOps CloseCurly (IsOp free last depth) most_ops []) y old new

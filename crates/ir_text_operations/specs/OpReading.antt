@@ -59,12 +59,16 @@ abbrev pub op_of : Things → ℕ → ℕ → List Bound → Entries → Entries
 op_of c id name operands properties attributes outputs regions =
     made (is_property_in c (Some name)) (key_before_in c) id name (values_of operands) properties attributes outputs regions
 
+-- a function type, as the context's flag has it
+abbrev pub signature_here : Parse Typed (List ℕ × List ℕ)
+signature_here s = function_type_at s.1.opaque s
+
 -- behind the regions
 unfoldable pub tail_at : ℕ → ℕ → Start → Entries → List Region → Parse State Op
 tail_at id name h properties regions s = do
   e ← attributes_at name properties (typed s)
   c ← of_option (after_typed Colon e.1)
-  t ← function_type_at c
+  t ← signature_here c
   scopes ← (if bytes_eq (bound_types h.operands) t.0.0 then finish id h.results t.0.1 s.scopes else Wrong)
   Read (op_of t.1.1 id name h.operands properties e.0 t.0.1 regions, with_scopes (with_typed s t.1) scopes)
 

@@ -10,7 +10,6 @@ use Rattle.ir_text_types.specs.declared.error.ReadError.TheVariants as errors
 use Rattle.ir_text_types.specs.Marks.{after}
 use Rattle.ir_text_types.specs.Outcomes.{Read, Wrong, ◌>>=◌, of_option, Parse}
 use Rattle.ir_text_types.specs.Typed.{Text, Typed, after_typed, name_step}
-use Rattle.ir_text_types.specs.TypeReading.{function_type_at}
 use Rattle.ir_text_names.specs.declared.bound.Bound.{Bound}
 use Rattle.ir_text_names.specs.BlockReading.{finish}
 use Rattle.ir_text_names.specs.States.{State, typed, with_typed, with_scopes}
@@ -19,7 +18,7 @@ use Rattle.ir_text_operations.specs.Entries.{properties_of, attributes_of}
 use Rattle.ir_text_attributes.specs.AttrReading.{Entries}
 use Rattle.ir_text_operations.specs.EntryReading.{is_property_in, properties_at}
 use Rattle.ir_text_operations.specs.FrontReading.{Frees, Start, start_view, start_at, op_name_at}
-use Rattle.ir_text_operations.specs.OpReading.{bound_types}
+use Rattle.ir_text_operations.specs.OpReading.{bound_types, signature_here}
 
 -- the text is wrong, or there is no memory; the context isn't full
 abbrev pub IsOfText : ReadError → Type 0
@@ -55,7 +54,7 @@ opening_at free here s = do
 unfoldable pub result_types_at : List ℕ → Parse Typed (List ℕ)
 result_types_at inputs s = do
   c ← of_option (after_typed Colon s)
-  t ← function_type_at c
+  t ← signature_here c
   if bytes_eq inputs t.0.0 then Read (t.0.1, t.1) else Wrong
 
 -- the same, with the names of the results bound

@@ -37,25 +37,26 @@ abbrev pub is_root : Operation → Bool
 is_root t = is_table (head t).name && (length (head t).operands == 0 && length (head t).results == 0)
 
 -- the text is one operation, and that is such a module: it is the root
-unfoldable pub IsExplicit : List ℕ → Operation → Type 0
-IsExplicit bytes t =
-    (begins_module bytes ≡ true) × ((end : Seen) × (rest : List ℕ) × IsOp no_names most_ops most_levels t (seen_fresh 0 bytes) end × IsMark End end.bytes rest) × (is_root t ≡ true)
+unfoldable pub IsExplicit : Bool → List ℕ → Operation → Type 0
+IsExplicit opaque bytes t =
+    (begins_module bytes ≡ true) × ((end : Seen) × (rest : List ℕ) × IsOp opaque no_names most_ops most_levels t (seen_fresh 0 bytes) end × IsMark End end.bytes rest) × (is_root t ≡ true)
 
 -- a module of these operations
 abbrev pub module_of : List Operation → Operation
 module_of os = op (record { id = 0; name = module_word; operands = []; results = []; properties = []; attributes = [] }) (region (block [] (ops_of os)) no_regions)
 
 -- the text is any other list of operations: they are those of an implicit root
-unfoldable pub IsImplicit : List ℕ → Operation → Type 0
-IsImplicit bytes t =
-    ((o : Operation) → IsExplicit bytes o → ⊥)
-    × ((os : List Operation) × (end : Seen) × IsOps End (IsOp no_names most_ops most_around) most_ops [] os (seen_fresh 1 bytes) end × (t ≡ module_of os))
+unfoldable pub IsImplicit : Bool → List ℕ → Operation → Type 0
+IsImplicit opaque bytes t =
+    ((o : Operation) → IsExplicit opaque bytes o → ⊥)
+    × ((os : List Operation) × (end : Seen) × IsOps End (IsOp opaque no_names most_ops most_around) most_ops [] os (seen_fresh 1 bytes) end × (t ≡ module_of os))
 
 -- a text spells a tree whose ids are 0, 1, .. in pre-order, whose operations see their operands, which passes
--- no limit, and whose dictionaries are sorted, each key once
-pub record Spells (bytes : List ℕ) (t : Operation) : Type 0 where
+-- no limit, and whose dictionaries are sorted, each key once; `opaque` says whether types and attributes that aren't
+-- known are spelled by their texts
+pub record Spells (opaque : Bool) (bytes : List ℕ) (t : Operation) : Type 0 where
   pub text : text_reason bytes ≡ None
-  pub spelled : IsExplicit bytes t ⊎ IsImplicit bytes t
+  pub spelled : IsExplicit opaque bytes t ⊎ IsImplicit opaque bytes t
   pub formed : IsFormed is_isolated t
   pub numbered : IsNumberedFrom 0 t
   pub sorted : IsTrue (every (dictionaries_rise key_before) t)
@@ -68,15 +69,15 @@ abbrev pub last_from : ℕ → ℕ
 last_from next = min (next + most_ops) most_next
 
 -- the text is one operation and nothing after it; the names that it leaves free stand for values of the module around
-unfoldable pub IsSingleOp : FreeTerms → ℕ → ℕ → List ℕ → Operation → Type 0
-IsSingleOp free last next bytes t = (end : Seen) × (rest : List ℕ) × IsOp free last most_levels t (seen_fresh next bytes) end × IsMark End end.bytes rest
+unfoldable pub IsSingleOp : Bool → FreeTerms → ℕ → ℕ → List ℕ → Operation → Type 0
+IsSingleOp opaque free last next bytes t = (end : Seen) × (rest : List ℕ) × IsOp opaque free last most_levels t (seen_fresh next bytes) end × IsMark End end.bytes rest
 
 -- a text spells an operation whose ids are next, next + 1, .. in pre-order, each below the greatest, which
 -- passes no limit, and whose dictionaries are sorted, each key once. Its operands are seen where they stand,
 -- as the grammar has it, or free
-pub record SpellsOp (free : FreeTerms) (next : ℕ) (bytes : List ℕ) (t : Operation) : Type 0 where
+pub record SpellsOp (opaque : Bool) (free : FreeTerms) (next : ℕ) (bytes : List ℕ) (t : Operation) : Type 0 where
   pub text : text_reason bytes ≡ None
-  pub spelled : IsSingleOp free (last_from next) next bytes t
+  pub spelled : IsSingleOp opaque free (last_from next) next bytes t
   pub shallow : depth t ≤ most_around
   pub counts : IsTrue (counts_fit t)
   pub numbered : IsNumberedFrom next t

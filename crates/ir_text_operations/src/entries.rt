@@ -56,7 +56,8 @@ fn entry<'a>(
     if let Some(refusal) = refusal(ctx, op, properties, key, before) {
         return Err(ReadError::Refused(wrong(refusal, bytes)));
     }
-    let (attr, rest) = match value(alloc, ctx, bytes, rest, MOST_DEPTH) {
+    let opaque = ctx.is_opaque();
+    let (attr, rest) = match value(alloc, ctx, bytes, rest, opaque, MOST_DEPTH) {
         Ok(found) => found,
         Err(e) => return Err(e),
     };

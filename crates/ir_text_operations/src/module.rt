@@ -96,7 +96,7 @@ fn module_name(ctx: &mut Context, rest: &[u8]) -> Result<NameId, ReadError>
 /// The root, where the text is one module without operands and results.
 #[tactic(auto, using(ir_types::proofs::Growth::grows_refl, ir_types::proofs::Growth::grows_trans))]
 pub fn explicit(alloc: Global, ctx: &mut Context, bytes: &[u8]) -> Result<Root, ReadError>
-    ensures ok { IfOk result (λ r. IsRootOrNone bytes.now ctx.new r) }
+    ensures ok { IfOk result (λ r. IsRootOrNone ctx.old.opaque bytes.now ctx.new r) }
     ensures err { (f : TextFault) → result ≡ Err (ReadError.Refused f) → ⊥ }
     ensures grows { Grows ctx.old ctx.new }
     ensures full { (left : ℕ) → result ≡ Err (ReadError.Full left) → RootFills bytes.now ctx.old }
@@ -149,8 +149,8 @@ fn root_of(alloc: Global, name: NameId, body: Vec<TreeOp>) -> Result<TreeOp, All
 /// An implicit root of the operations of a text.
 #[tactic(auto, using(ir_types::proofs::Growth::grows_refl, ir_types::proofs::Growth::grows_trans))]
 pub fn implicit(alloc: Global, ctx: &mut Context, bytes: &[u8]) -> Result<TreeOp, ReadError>
-    ensures read { IfOk result (λ t. IsOnly (IsBody bytes.now) ctx.new t) }
-    ensures refused { (f : TextFault) → result ≡ Err (ReadError.Refused f) → IsNone (IsBody bytes.now) }
+    ensures read { IfOk result (λ t. IsOnly (IsBody ctx.old.opaque bytes.now) ctx.new t) }
+    ensures refused { (f : TextFault) → result ≡ Err (ReadError.Refused f) → IsNone (IsBody ctx.old.opaque bytes.now) }
     ensures grows { Grows ctx.old ctx.new }
     ensures full { (left : ℕ) → result ≡ Err (ReadError.Full left) → BodyFills bytes.now ctx.old }
 {
@@ -253,8 +253,8 @@ pub fn as_written(
 /// The tree of a text, before its limits are looked at.
 #[tactic(auto, using(ir_types::proofs::Growth::grows_refl, ir_types::proofs::Growth::grows_trans))]
 fn source(alloc: Global, ctx: &mut Context, bytes: &[u8]) -> Result<TreeOp, ReadError>
-    ensures read { IfOk result (λ t. IsOnly (IsSource bytes.now) ctx.new t) }
-    ensures refused { (f : TextFault) → result ≡ Err (ReadError.Refused f) → IsNone (IsSource bytes.now) }
+    ensures read { IfOk result (λ t. IsOnly (IsSource ctx.old.opaque bytes.now) ctx.new t) }
+    ensures refused { (f : TextFault) → result ≡ Err (ReadError.Refused f) → IsNone (IsSource ctx.old.opaque bytes.now) }
     ensures grows { Grows ctx.old ctx.new }
 {
     let other = match explicit(alloc, ctx, bytes) {
@@ -304,9 +304,9 @@ pub fn looked_at(alloc: Global, ctx: &Context, tree: &TreeOp) -> Result<(), Read
 /// The tree that a text spells, as far as its error is one of reading.
 #[tactic(auto, using(ir_types::proofs::Growth::grows_refl, ir_types::proofs::Growth::grows_trans))]
 fn tree_of_text(alloc: Global, ctx: &mut Context, bytes: &[u8]) -> Result<TreeOp, ReadError>
-    ensures read { IfOk result (λ t. IsOnly (Spells bytes.now) ctx.new t) }
+    ensures read { IfOk result (λ t. IsOnly (Spells ctx.old.opaque bytes.now) ctx.new t) }
     ensures sound { IfOk result (λ t. IsSoundIn ctx.new t) }
-    ensures refused { (f : TextFault) → result ≡ Err (ReadError.Refused f) → IsNone (Spells bytes.now) }
+    ensures refused { (f : TextFault) → result ≡ Err (ReadError.Refused f) → IsNone (Spells ctx.old.opaque bytes.now) }
     ensures grows { Grows ctx.old ctx.new }
 {
     match within_limits(bytes) {
@@ -332,9 +332,9 @@ fn tree_of_text(alloc: Global, ctx: &mut Context, bytes: &[u8]) -> Result<TreeOp
 /// `BadValue`, `MultipleBlocks`, `Successors`, `TooDeep`, `TooMany`, `DuplicateKey`, `LeftOut`, with how many
 /// bytes are left where the fault stands; `Full` where the context grew full; `Memory`.
 pub fn read(alloc: Global, ctx: &mut Context, bytes: &[u8]) -> Result<TreeOp, ReadError>
-    ensures read { IfOk result (λ t. IsOnly (Spells bytes.now) ctx.new t) }
+    ensures read { IfOk result (λ t. IsOnly (Spells ctx.old.opaque bytes.now) ctx.new t) }
     ensures sound { IfOk result (λ t. IsSoundIn ctx.new t) }
-    ensures refused { (f : TextFault) → result ≡ Err (ReadError.Refused f) → IsNone (Spells bytes.now) }
+    ensures refused { (f : TextFault) → result ≡ Err (ReadError.Refused f) → IsNone (Spells ctx.old.opaque bytes.now) }
     ensures grows { Grows ctx.old ctx.new }
     ensures full { (left : ℕ) → result ≡ Err (ReadError.Full left) → IsFull ctx.new }
 {

@@ -147,10 +147,10 @@ fn op_of_text<O: Outer>(
     outer: &O,
 ) -> Result<TreeOp, OpError>
     requires { (v : TreeValue) → IfSome (O.types outer.now v) (λ ty. IsType ctx.old ty) }
-    ensures read { IfOk result (λ t. IsOnly (SpellsOp (free_term (O.types outer.now) ctx.old) (O.next outer.now) bytes.now) ctx.new t) }
+    ensures read { IfOk result (λ t. IsOnly (SpellsOp ctx.old.opaque (free_term (O.types outer.now) ctx.old) (O.next outer.now) bytes.now) ctx.new t) }
     ensures sound { IfOk result (λ t. IsSoundIn ctx.new t) }
-    ensures refused { (f : TextFault) → result ≡ Err (OpError.Text (ReadError.Refused f)) → IsNone (SpellsOp (free_term (O.types outer.now) ctx.old) (O.next outer.now) bytes.now) }
-    ensures exhausted { result ≡ Err OpError.IdsExhausted → IsNone (SpellsOp (free_term (O.types outer.now) ctx.old) (O.next outer.now) bytes.now) }
+    ensures refused { (f : TextFault) → result ≡ Err (OpError.Text (ReadError.Refused f)) → IsNone (SpellsOp ctx.old.opaque (free_term (O.types outer.now) ctx.old) (O.next outer.now) bytes.now) }
+    ensures exhausted { result ≡ Err OpError.IdsExhausted → IsNone (SpellsOp ctx.old.opaque (free_term (O.types outer.now) ctx.old) (O.next outer.now) bytes.now) }
     ensures grows { Grows ctx.old ctx.new }
 {
     match within_limits(bytes) {
@@ -192,10 +192,10 @@ pub fn read_op<O: Outer>(
     outer: &O,
 ) -> Result<TreeOp, OpError>
     requires { (v : TreeValue) → IfSome (O.types outer.now v) (λ ty. IsType ctx.old ty) }
-    ensures read { IfOk result (λ t. IsOnly (SpellsOp (free_term (O.types outer.now) ctx.old) (O.next outer.now) bytes.now) ctx.new t) }
+    ensures read { IfOk result (λ t. IsOnly (SpellsOp ctx.old.opaque (free_term (O.types outer.now) ctx.old) (O.next outer.now) bytes.now) ctx.new t) }
     ensures sound { IfOk result (λ t. IsSoundIn ctx.new t) }
-    ensures refused { (f : TextFault) → result ≡ Err (OpError.Text (ReadError.Refused f)) → IsNone (SpellsOp (free_term (O.types outer.now) ctx.old) (O.next outer.now) bytes.now) }
-    ensures exhausted { result ≡ Err OpError.IdsExhausted → IsNone (SpellsOp (free_term (O.types outer.now) ctx.old) (O.next outer.now) bytes.now) }
+    ensures refused { (f : TextFault) → result ≡ Err (OpError.Text (ReadError.Refused f)) → IsNone (SpellsOp ctx.old.opaque (free_term (O.types outer.now) ctx.old) (O.next outer.now) bytes.now) }
+    ensures exhausted { result ≡ Err OpError.IdsExhausted → IsNone (SpellsOp ctx.old.opaque (free_term (O.types outer.now) ctx.old) (O.next outer.now) bytes.now) }
     ensures grows { Grows ctx.old ctx.new }
     ensures full { (left : ℕ) → result ≡ Err (OpError.Text (ReadError.Full left)) → IsFull ctx.new }
 {

@@ -45,7 +45,8 @@ fn outputs<'a>(
         Ok(rest) => rest,
         Err(e) => return Err(e),
     };
-    let ((inputs, results), rest) = match function_type(alloc, ctx, rest) {
+    let opaque = ctx.is_opaque();
+    let ((inputs, results), rest) = match function_type(alloc, ctx, rest, opaque) {
         Ok(found) => found,
         Err(e) => return Err(e),
     };

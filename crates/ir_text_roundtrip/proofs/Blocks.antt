@@ -64,19 +64,19 @@ with_argument id r k m t s = bound (argument_word m) (argument_pack id r k t) s
 abbrev behind_argument : ℕ → ℕ → ℕ → ℕ → TypeTerm → Seen → List ℕ → Seen
 behind_argument id r k m t s rest = record { bytes = rest; scopes = with_argument id r k m t s.scopes; next = s.next }
 
-argument_read : (id r : ℕ) (before : List TypeTerm) (m : ℕ) (t : TypeTerm) (s : Seen) (c : ℕ) (rest : List ℕ) → m < 2 ^ 128 → FitsType 32 t → (c ≡ 44) ⊎ (c ≡ 41) → find (argument_word m) s.scopes.here ≡ None
-    → next_token s.bytes ≡ next_token (argument_text m t ++ c ∷ rest) → IsArg id r before t s (behind_argument id r (length before) m t s (c ∷ rest))
+argument_read : (id r : ℕ) (before : List TypeTerm) (m : ℕ) (t : TypeTerm) (s : Seen) (c : ℕ) (rest : List ℕ) → m < 2 ^ 128 → FitsType false 32 t → (c ≡ 44) ⊎ (c ≡ 41) → find (argument_word m) s.scopes.here ≡ None
+    → next_token s.bytes ≡ next_token (argument_text m t ++ c ∷ rest) → IsArg false id r before t s (behind_argument id r (length before) m t s (c ∷ rest))
 argument_read id r before m t s c rest lt fit ends fresh e =
     let typed = type_text t ++ c ∷ rest in
     let back = 58 ∷ 32 ∷ typed in
     let apart : argument_text m t ++ c ∷ rest ≡ 37 ∷ (argument_word m ++ back) = ap (λ (l : List ℕ). 37 ∷ 97 ∷ 114 ∷ 103 ∷ l) (append_assoc (decimal m) (58 ∷ 32 ∷ type_text t) (c ∷ rest)) in
     let name : Token (value (argument_word m)) s.bytes back = e ∙ ap next_token apart ∙ value_token (argument_word m) back (argument_name m lt) refl in
-    let type : IsType 32 t (32 ∷ typed) (c ∷ rest) = space (IsType 32) (type_ahead 32) t typed (c ∷ rest) (spelled c ends) in
+    let type : (IsType false) 32 t (32 ∷ typed) (c ∷ rest) = space ((IsType false) 32) (type_ahead false 32) t typed (c ∷ rest) (spelled c ends) in
     (argument_word m, seen_rest s back, (back, name, refl), (seen_rest s (32 ∷ typed), mark_seen Colon (seen_rest s back) (32 ∷ typed) (mark_token Colon (32 ∷ typed) refl), (t, seen_rest s (c ∷ rest), (c ∷ rest, type, refl), (with_argument id r (length before) m t s.scopes, (fresh, refl), refl, refl))))
   where
-    spelled : (c : ℕ) → (c ≡ 44) ⊎ (c ≡ 41) → IsType 32 t (type_text t ++ c ∷ rest) (c ∷ rest)
-    spelled c (inl k) = subst (λ (d : ℕ). IsType 32 t (type_text t ++ d ∷ rest) (d ∷ rest)) (sym k) (type_again 32 (omega arith) t (44 ∷ rest) fit.0 fit.1 refl)
-    spelled c (inr k) = subst (λ (d : ℕ). IsType 32 t (type_text t ++ d ∷ rest) (d ∷ rest)) (sym k) (type_again 32 (omega arith) t (41 ∷ rest) fit.0 fit.1 refl)
+    spelled : (c : ℕ) → (c ≡ 44) ⊎ (c ≡ 41) → (IsType false) 32 t (type_text t ++ c ∷ rest) (c ∷ rest)
+    spelled c (inl k) = subst (λ (d : ℕ). (IsType false) 32 t (type_text t ++ d ∷ rest) (d ∷ rest)) (sym k) (type_again false 32 (omega arith) t (44 ∷ rest) fit.0 fit.1 refl)
+    spelled c (inr k) = subst (λ (d : ℕ). (IsType false) 32 t (type_text t ++ d ∷ rest) (d ∷ rest)) (sym k) (type_again false 32 (omega arith) t (41 ∷ rest) fit.0 fit.1 refl)
 
 -- ---- arguments up to the closing parenthesis
 
@@ -84,11 +84,11 @@ module _ (f : ℕ → ℕ) (scope : List Frame) (x r : ℕ) (away : (v : Value) 
   -- what arguments from place k on leave behind
   pub record ArgumentsRead (room : ℕ) (front : List TypeTerm) (t : TypeTerm) (ts : List TypeTerm) (n : Names) (s : Seen) (rest : List ℕ) : Type 0 where
     pub scopes : Scopes PackTerm
-    pub reads : IsMore IsMarkSeen CloseRound (IsArg (f x) r) room front (front ++ t ∷ ts) s (record { bytes = rest; scopes = scopes; next = s.next })
+    pub reads : IsMore IsMarkSeen CloseRound (IsArg false (f x) r) room front (front ++ t ∷ ts) s (record { bytes = rest; scopes = scopes; next = s.next })
     pub joined : Joined f (scope ++ arguments x r (length front + length (t ∷ ts)) ∷ []) (arguments_names x r (length front) (t ∷ ts) n) scopes.here
     pub outer : scopes.outer ≡ s.scopes.outer
 
-  pub arguments_more : (room : ℕ) (front : List TypeTerm) (t : TypeTerm) (ts : List TypeTerm) (n : Names) (s : Seen) (rest : List ℕ) → Joined f (scope ++ arguments x r (length front) ∷ []) n s.scopes.here → n.arguments + length (t ∷ ts) < 2 ^ 128 → AllByRecursion (FitsType 32) (t ∷ ts) → length (t ∷ ts) ≤ room
+  pub arguments_more : (room : ℕ) (front : List TypeTerm) (t : TypeTerm) (ts : List TypeTerm) (n : Names) (s : Seen) (rest : List ℕ) → Joined f (scope ++ arguments x r (length front) ∷ []) n s.scopes.here → n.arguments + length (t ∷ ts) < 2 ^ 128 → AllByRecursion (FitsType false 32) (t ∷ ts) → length (t ∷ ts) ≤ room
       → next_token s.bytes ≡ next_token (argument_text n.arguments t ++ arguments_then (length front + 1) ts (n.arguments + 1) (41 ∷ rest)) → ArgumentsRead room front t ts n s rest
   unfolding IsMore
   arguments_more zero front t ts n s rest j small fit le e = absurd (omega (arith, le))
@@ -122,7 +122,7 @@ module _ (f : ℕ → ℕ) (scope : List Frame) (x r : ℕ) (away : (v : Value) 
       let count : length front' + length (u ∷ us) ≡ k + length (t ∷ u ∷ us) = omega (arith, grown) in
       record {
         scopes = more.scopes;
-        reads = (t, mid, first, inr (open_yet, after, mark_seen Comma mid (32 ∷ behind) (mark_token Comma (32 ∷ behind) tt), subst (λ l. IsMore IsMarkSeen CloseRound (IsArg (f x) r) room front' l after (record { bytes = rest; scopes = more.scopes; next = s.next })) (sym all) more.reads));
+        reads = (t, mid, first, inr (open_yet, after, mark_seen Comma mid (32 ∷ behind) (mark_token Comma (32 ∷ behind) tt), subst (λ l. IsMore IsMarkSeen CloseRound (IsArg false (f x) r) room front' l after (record { bytes = rest; scopes = more.scopes; next = s.next })) (sym all) more.reads));
         joined = subst (λ (i : ℕ). Joined f (scope ++ arguments x r i ∷ []) (arguments_names x r k (t ∷ u ∷ us) n) more.scopes.here) count (subst (λ (i : ℕ). Joined f (scope ++ arguments x r (length front' + length (u ∷ us)) ∷ []) (arguments_names x r i (u ∷ us) names) more.scopes.here) grown more.joined);
         outer = more.outer;
       }

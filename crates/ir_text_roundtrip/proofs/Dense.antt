@@ -1,18 +1,22 @@
 -- Dense arrays that are printed are read again.
-use Rattle.std.proofs.Common.{◌≡◌, ℕ, zero, suc, ◌≤◌, ℤ, pos, negsuc, Bool, true, false, List, [], ◌∷◌, ◌++◌, map, length, Some, None, refl, sym, ap, subst, ◌∙◌, append_assoc, inl, inr, arith}
-use Rattle.std.specs.Prelude.{◌⊎◌, ◌||◌, ◌==◌, codes, nat_le, nat_lt}
+use Rattle.std.proofs.Common.{◌≡◌, ℕ, zero, suc, ◌≤◌, ℤ, pos, negsuc, Bool, true, false, List, [], ◌∷◌, ◌++◌, map, length, Option, Some, None, refl, sym, ap, subst, ◌∙◌, append_assoc, inl, inr, arith}
+use Rattle.std.specs.Prelude.{◌⊎◌, ◌||◌, ◌&&◌, ◌==◌, not, is_some, option_map, option_and_then, codes, nat_le, nat_lt}
 use Rattle.std.proofs.lemmas.Bool.Decides.{nat_tests}
 use Rattle.ir_types.specs.Readings.{signed_of}
 use Rattle.std.specs.List.{list_all}
 use Rattle.std.specs.Fmt.{decimal, digits}
 use Rattle.std.proofs.lemmas.Bool.{eqb-true, and_parts, or_cases, leb-true}
 use Rattle.ir_types.specs.declared.node.Sign.TheVariants.{Signless, Signed, Unsigned}
-use Rattle.ir_types.specs.Terms.{TypeTerm, Integer, Index, Function, Memref, DenseArray}
+use Rattle.ir_types.specs.Terms.{TypeTerm, Integer, Index, Function, Memref, OpaqueType, DenseArray}
 use Rattle.ir_types.specs.Ranges.{is_value_number}
 use Rattle.ir_types.specs.Reasons.{attr_fault}
 use Rattle.ir_text_tokens.specs.declared.token.Mark.TheVariants.{Less, Greater, Comma, Colon, Minus}
 use Rattle.ir_text_tokens.specs.Bytes.{is_word}
-use Rattle.ir_text_tokens.specs.Tokens.{mark, integer, bare}
+use Rattle.ir_text_tokens.specs.Tokens.{mark, integer, bare, next}
+use Rattle.ir_text_types.specs.Marks.{after}
+use Rattle.ir_text_types.proofs.TextLaws.{after_only}
+use Rattle.ir_text_attributes.specs.declared.element.Element.{Element}
+use Rattle.ir_text_attributes.specs.OpaqueAttributes.{begins_other, has_bad_width, is_other_element, is_so, opens_other, tail_of}
 use Rattle.ir_text_tokens.specs.Printing.{Stops, extends_integer, is_bare_id}
 use Rattle.ir_text_tokens.proofs.Decimals.{integer_again}
 use Rattle.ir_text_tokens.proofs.Printed.{bare_token, decimal_token, mark_token, minus_token}
@@ -22,7 +26,7 @@ use Rattle.ir_text.specs.AttrText.{is_truth, number_text, items_text, dense_text
 use Rattle.ir_text_types.specs.Grammars.{IsMore, IsMark}
 use Rattle.ir_text_types.specs.TypeReading.{many}
 use Rattle.ir_text_attributes.specs.Literals.{true_word, false_word, array_word}
-use Rattle.ir_text_attributes.specs.Elements.{element_of}
+use Rattle.ir_text_attributes.specs.Elements.{element_named, element_of, type_of}
 use Rattle.ir_text_attributes.specs.AttrGrammar.{IsItem, IsItems, IsDense}
 use Rattle.ir_text_roundtrip.specs.Written.{is_written_type}
 use Rattle.ir_text_roundtrip.specs.WrittenAttributes.{is_element}
@@ -31,6 +35,7 @@ use Rattle.ir_text_roundtrip.proofs.Ahead.{Ahead, Lacks, more_ahead, space}
 use Rattle.ir_text_roundtrip.proofs.Rows.{AllFit, Items, more_again}
 use Rattle.ir_text_roundtrip.proofs.Values.{IsPlain, plain}
 use Rattle.ir_text_roundtrip.proofs.Leaves.{Begins}
+use Rattle.ir_text_roundtrip.proofs.TypeWords.{word_behind}
 use Rattle.ir_text_tokens.proofs.Places.{is_below}
 use Rattle.ir_tree.proofs.Counts.{below_none}
 
@@ -82,7 +87,7 @@ record IsNamed (elem : TypeTerm) : Type 0 where
   pub text : type_text elem ≡ word
   pub bare : is_bare_id word ≡ true
   pub element : element_of word ≡ Some elem
-  pub type : is_written_type elem ≡ true
+  pub type : is_written_type false elem ≡ true
   pub truth : is_truth elem ≡ true → elem ≡ Integer Signless 1
 
 one : IsNamed (Integer Signless 1)
@@ -131,6 +136,7 @@ named (Integer Unsigned w) e = absurd cc
 named Index e = absurd cc
 named (Function ins outs) e = absurd cc
 named (Memref dims elem) e = absurd cc
+named (OpaqueType text) e = absurd cc
 
 -- ---- the items of an element type
 
@@ -142,7 +148,7 @@ item_read elem z rest k v s = from (is_truth elem) refl
   where
     from : (b : Bool) → is_truth elem ≡ b → IsItem elem z (number_text (is_truth elem) z ++ rest) rest
     from true e = subst (λ u. is_value_number u z ≡ true → IsItem u z (number_text (is_truth u) z ++ rest) rest) (sym (k.truth e)) (λ w. truth_item z rest w s.0) v
-    from false e = subst (λ b. IsItem elem z (number_text b z ++ rest) rest) (sym e) (number_item elem z rest (plain elem z k.type v) s.1)
+    from false e = subst (λ b. IsItem elem z (number_text b z ++ rest) rest) (sym e) (number_item elem z rest (plain false elem z k.type v) s.1)
 
 dense_items : (elem : TypeTerm) → IsNamed elem → Items Greater (λ before. IsItem elem) (number_text (is_truth elem)) (FitsItem elem) EndsItem
 dense_items elem k = record {
@@ -176,13 +182,36 @@ ends_word elem (z ∷ zs) rest = refl
 dense_fine : (elem : TypeTerm) (zs : List ℤ) → list_all (is_value_number elem) zs ≡ true → attr_fault (DenseArray elem zs) ≡ None
 dense_fine elem zs e = rw e refl
 
-pub dense_read : (depth : ℕ) (elem : TypeTerm) (zs : List ℤ) (rest : List ℕ) → is_element elem ≡ true → nat_le (length zs) many ≡ true → list_all (is_value_number elem) zs ≡ true → Begins depth (DenseArray elem zs) (dense_text elem zs ++ rest) rest
-dense_read depth elem zs rest e count v =
+-- an array of such elements is kept in no text
+dense_known : (o : Bool) (elem : TypeTerm) (w back : List ℕ) → element_of w ≡ Some elem → next (w ++ back) ≡ Some (bare w, back) → (o && opens_other (60 ∷ w ++ back)) ≡ false
+unfolding opens_other
+dense_known o elem w back e t =
+    let behind : after Less (60 ∷ w ++ back) ≡ Some (w ++ back) = after_only Less (60 ∷ w ++ back) (w ++ back) (mark_token Less (w ++ back) tt) in
+    let word : is_other_element (bare w) ≡ false = ap (λ b. not b && not (has_bad_width w)) (named_so (element_named w) e) in
+    let other : is_so (option_and_then begins_other (after Less (60 ∷ w ++ back))) ≡ false = rw (behind, t) word in
+    ap (λ b. o && b) other ∙ never o
+  where
+    named_so : (n : Option Element) → option_map type_of n ≡ Some elem → is_some n ≡ true
+    named_so None e = absurd cc
+    named_so (Some n) e = refl
+
+    never : (b : Bool) → (b && false) ≡ false
+    never true = refl
+    never false = refl
+
+none_kept : tail_of array_word ≡ None
+unfolding tail_of
+none_kept = refl
+
+pub dense_read : (o : Bool) (depth : ℕ) (elem : TypeTerm) (zs : List ℤ) (rest : List ℕ) → is_element elem ≡ true → nat_le (length zs) many ≡ true → list_all (is_value_number elem) zs ≡ true → Begins o depth (DenseArray elem zs) (dense_text elem zs ++ rest) rest
+dense_read o depth elem zs rest e count v =
     let k = named elem e in
     let items = items_text (is_truth elem) zs in
     let back = items ++ 62 ∷ rest in
     let inside = k.word ++ back in
     let apart : dense_text elem zs ++ rest ≡ array_word ++ 60 ∷ inside = ap (λ (l : List ℕ). array_word ++ 60 ∷ l) (append_assoc (type_text elem) (items ++ 62 ∷ []) rest ∙ ap (λ (l : List ℕ). type_text elem ++ l) (append_assoc items (62 ∷ []) rest) ∙ ap (λ (l : List ℕ). l ++ back) k.text) in
+    let token = bare_token k.word back k.bare (ends_word elem zs rest) in
     let dense : IsDense (DenseArray elem zs) (60 ∷ inside) rest =
-    (inside, mark_token Less inside tt, (elem, back, (k.word, bare_token k.word back k.bare (ends_word elem zs rest), k.element), (zs, rest, items_read elem zs rest k v (leb-true (length zs) many count), (dense_fine elem zs v, refl, refl)))) in
-    rw apart (bare array_word, 60 ∷ inside, bare_token array_word (60 ∷ inside) refl refl, dense)
+    (inside, mark_token Less inside tt, (elem, back, (k.word, token, k.element), (zs, rest, items_read elem zs rest k v (leb-true (length zs) many count), (dense_fine elem zs v, refl, refl)))) in
+    rw apart
+    (bare array_word, 60 ∷ inside, bare_token array_word (60 ∷ inside) refl refl, word_behind o depth array_word (60 ∷ inside) (DenseArray elem zs) (array_word ++ 60 ∷ inside) rest none_kept (inr (dense_known o elem k.word back k.element token, dense)))

@@ -1,9 +1,9 @@
 -- Entries of dictionaries that are printed are read again.
 use Rattle.std.proofs.Common.{◌≡◌, ℕ, Bool, true, false, List, [], ◌∷◌, ◌++◌, map, refl, sym, ap, subst, ◌∙◌, append_assoc, inl, inr}
 use Rattle.std.specs.Prelude.{codes}
-use Rattle.ir_types.specs.Terms.{AttrTerm, IntegerOf, String, TypeOf, Flag, Array, Dictionary, Symbol, DenseArray, Overflow, EntryTerms, no_entries, next_entry}
+use Rattle.ir_types.specs.Terms.{AttrTerm, IntegerOf, String, TypeOf, Flag, Array, Dictionary, Symbol, DenseArray, Overflow, OpaqueOf, EntryTerms, no_entries, next_entry}
 use Rattle.ir_text_tokens.specs.declared.token.Mark.{Mark}
-use Rattle.ir_text_tokens.specs.declared.token.Mark.TheVariants.{CloseCurly, CloseSquare, Comma, DoubleColon, Equal, End}
+use Rattle.ir_text_tokens.specs.declared.token.Mark.TheVariants.{CloseCurly, CloseSquare, Colon, Comma, DoubleColon, Equal, End, Less}
 use Rattle.ir_text_tokens.specs.Bytes.{is_word}
 use Rattle.ir_text_tokens.specs.Tokens.{mark, bare, string}
 use Rattle.ir_text_tokens.specs.Printing.{AreBytes, Stops, is_bare_id, key_text, raw_text}
@@ -36,26 +36,40 @@ key_read key rest h s = elim (cases_Bool (is_bare_id key)) [
 -- ---- values
 
 -- what may stand behind an entry
-abbrev pub EndsEntry : List ℕ → Type 0
-EndsEntry rest = Stops is_word rest × Not IsMark Equal rest × EndsAttr rest
+abbrev pub EndsEntry : Bool → List ℕ → Type 0
+EndsEntry o rest = Stops is_word rest × Not IsMark Equal rest × EndsAttr o rest
 
-pub comma_ends : (rest : List ℕ) → EndsAttr (44 ∷ rest)
-comma_ends rest = (refl, lacks_token (mark Comma) DoubleColon (44 ∷ rest) rest (mark_token Comma rest tt) (λ e. absurd cc))
+-- what begins with another token
+apart : (m k : Mark) (rest new : List ℕ) → IsMark m rest new → (mark m ≡ mark k → ⊥) → Not IsMark k rest
+apart m k rest new t other = lacks_token (mark m) k rest new t other
 
-pub square_ends : (rest : List ℕ) → EndsAttr (93 ∷ rest)
-square_ends rest = (refl, lacks_token (mark CloseSquare) DoubleColon (93 ∷ rest) rest (mark_token CloseSquare rest tt) (λ e. absurd cc))
+pub comma_ends : (o : Bool) (rest : List ℕ) → EndsAttr o (44 ∷ rest)
+comma_ends false rest = let t = mark_token Comma rest tt in (refl, apart Comma DoubleColon (44 ∷ rest) rest t (λ e. absurd cc))
+comma_ends true rest =
+    let t = mark_token Comma rest tt in
+    (refl, apart Comma DoubleColon (44 ∷ rest) rest t (λ e. absurd cc), apart Comma Colon (44 ∷ rest) rest t (λ e. absurd cc), apart Comma Less (44 ∷ rest) rest t (λ e. absurd cc))
 
-pub curly_ends : (rest : List ℕ) → EndsAttr (125 ∷ rest)
-curly_ends rest = (refl, lacks_token (mark CloseCurly) DoubleColon (125 ∷ rest) rest (mark_token CloseCurly rest tt) (λ e. absurd cc))
+pub square_ends : (o : Bool) (rest : List ℕ) → EndsAttr o (93 ∷ rest)
+square_ends false rest = let t = mark_token CloseSquare rest tt in (refl, apart CloseSquare DoubleColon (93 ∷ rest) rest t (λ e. absurd cc))
+square_ends true rest =
+    let t = mark_token CloseSquare rest tt in
+    (refl, apart CloseSquare DoubleColon (93 ∷ rest) rest t (λ e. absurd cc), apart CloseSquare Colon (93 ∷ rest) rest t (λ e. absurd cc), apart CloseSquare Less (93 ∷ rest) rest t (λ e. absurd cc))
 
-pub nothing_ends : EndsAttr []
-nothing_ends = (tt, lacks_token (mark End) DoubleColon [] [] (mark_token End [] refl) (λ e. absurd cc))
+pub curly_ends : (o : Bool) (rest : List ℕ) → EndsAttr o (125 ∷ rest)
+curly_ends false rest = let t = mark_token CloseCurly rest tt in (refl, apart CloseCurly DoubleColon (125 ∷ rest) rest t (λ e. absurd cc))
+curly_ends true rest =
+    let t = mark_token CloseCurly rest tt in
+    (refl, apart CloseCurly DoubleColon (125 ∷ rest) rest t (λ e. absurd cc), apart CloseCurly Colon (125 ∷ rest) rest t (λ e. absurd cc), apart CloseCurly Less (125 ∷ rest) rest t (λ e. absurd cc))
 
-pub comma_entry : (rest : List ℕ) → EndsEntry (44 ∷ rest)
-comma_entry rest = (refl, lacks_token (mark Comma) Equal (44 ∷ rest) rest (mark_token Comma rest tt) (λ e. absurd cc), comma_ends rest)
+pub nothing_ends : (o : Bool) → EndsAttr o []
+nothing_ends false = let t = mark_token End [] refl in (tt, apart End DoubleColon [] [] t (λ e. absurd cc))
+nothing_ends true = let t = mark_token End [] refl in (tt, apart End DoubleColon [] [] t (λ e. absurd cc), apart End Colon [] [] t (λ e. absurd cc), apart End Less [] [] t (λ e. absurd cc))
 
-pub close_entry : (rest : List ℕ) → EndsEntry (125 ∷ rest)
-close_entry rest = (refl, lacks_token (mark CloseCurly) Equal (125 ∷ rest) rest (mark_token CloseCurly rest tt) (λ e. absurd cc), curly_ends rest)
+pub comma_entry : (o : Bool) (rest : List ℕ) → EndsEntry o (44 ∷ rest)
+comma_entry o rest = (refl, apart Comma Equal (44 ∷ rest) rest (mark_token Comma rest tt) (λ e. absurd cc), comma_ends o rest)
+
+pub close_entry : (o : Bool) (rest : List ℕ) → EndsEntry o (125 ∷ rest)
+close_entry o rest = (refl, apart CloseCurly Equal (125 ∷ rest) rest (mark_token CloseCurly rest tt) (λ e. absurd cc), curly_ends o rest)
 
 abbrev pub text_of_entry : EntryTerm → List ℕ
 text_of_entry e = entry_text e.0 (is_flag e.1) (attr_text e.1)
@@ -74,14 +88,15 @@ flag_is (Dictionary es) e = absurd cc
 flag_is (Symbol parts) e = absurd cc
 flag_is (DenseArray elem zs) e = absurd cc
 flag_is (Overflow nsw nuw) e = absurd cc
+flag_is (OpaqueOf text ty) e = absurd cc
 
 -- a key and its value, where P reads the attribute and Q is unit
-module _ (P Q : Grammar (List ℕ) AttrTerm) (ahead : Ahead P) where
+module _ (o : Bool) (P Q : Grammar (List ℕ) AttrTerm) (ahead : Ahead P) where
   -- what stands behind the key, and the value in it
   abbrev pub IsRest : List ℕ → AttrTerm → List ℕ → Type 0
   IsRest key a rest = (mid : List ℕ) × IsKey key (text_of_entry (key, a) ++ rest) mid × Either IsMark Equal P Q a mid rest
 
-  pub entry_parts : (key : List ℕ) (a : AttrTerm) (rest : List ℕ) → AreBytes key → EndsEntry rest → P a (attr_text a ++ rest) rest → (is_flag a ≡ true → Q Flag rest rest) → IsRest key a rest
+  pub entry_parts : (key : List ℕ) (a : AttrTerm) (rest : List ℕ) → AreBytes key → EndsEntry o rest → P a (attr_text a ++ rest) rest → (is_flag a ≡ true → Q Flag rest rest) → IsRest key a rest
   entry_parts key a rest h s read unit = from (is_flag a) refl
     where
       valued : is_flag a ≡ false → text_of_entry (key, a) ++ rest ≡ key_text key ++ (32 ∷ 61 ∷ 32 ∷ (attr_text a ++ rest))

@@ -1,5 +1,5 @@
 -- Trees that a text can spell, with the limits of a formed one.
-use Rattle.std.proofs.Common.{◌≤◌, ℕ, List, length}
+use Rattle.std.proofs.Common.{◌≤◌, ℕ, false, List, length}
 use Rattle.std.specs.List.{AllByRecursion}
 use Rattle.ir_types.specs.Terms.{TypeTerm, AttrTerm}
 use Rattle.ir_tree.specs.Tree.{HeadOf, op, RegionsOf, no_regions, region, RegionOf, empty, block, OpsOf, no_ops, next, region_count}
@@ -26,7 +26,7 @@ abbrev mutual
 
   pub FitsRegion : RegionOf (List ℕ) TypeTerm AttrTerm → Type 0
   FitsRegion empty = Unit {0}
-  FitsRegion (block args os) = (length args ≤ 256) × AllByRecursion (FitsType 32) args × FitsOps os
+  FitsRegion (block args os) = (length args ≤ 256) × AllByRecursion (FitsType false 32) args × FitsOps os
 
   pub FitsOps : OpsOf (List ℕ) TypeTerm AttrTerm → Type 0
   FitsOps no_ops = Unit {0}

@@ -106,7 +106,7 @@ pub all_so : {X : Type 0} (P Q : X → Type 0) → ((x : X) → P x → Q x) →
 all_so P Q h [] a = tt
 all_so P Q h (x ∷ xs) a = (h x a.0, all_so P Q h xs a.1)
 
-pub types_fit : (f : ℕ → ℕ) (named : Named) (here : Here) (vs : List Value) → AllByRecursion (IsSeen f named here) vs → AllByRecursion (FitsType 32) (map (value_type named) vs)
+pub types_fit : (f : ℕ → ℕ) (named : Named) (here : Here) (vs : List Value) → AllByRecursion (IsSeen f named here) vs → AllByRecursion (FitsType false 32) (map (value_type named) vs)
 types_fit f named here [] h = tt
 types_fit f named here (v ∷ vs) h = (rw (h.0).named (h.0).read.type, types_fit f named here vs h.1)
 
@@ -120,7 +120,7 @@ types_count a (v ∷ vs) = ap suc (types_count a vs)
 
 -- ---- results
 
-pub joined_end : (f : ℕ → ℕ) (scope : List Frame) (n m : Names) (s : Scopes PackTerm) (x : ℕ) (ts : List TypeTerm) → Joined f scope n s.here → ((v : Value) → in_scope scope v ≡ true → naming_of m.named v ≡ naming_of n.named v) → length ts ≤ 256 → AllByRecursion (FitsType 32) ts → OwnNames m x ts n.results → n.results < 2 ^ 128 → (results_names x ts n).results ≤ m.results → n.arguments ≤ m.arguments
+pub joined_end : (f : ℕ → ℕ) (scope : List Frame) (n m : Names) (s : Scopes PackTerm) (x : ℕ) (ts : List TypeTerm) → Joined f scope n s.here → ((v : Value) → in_scope scope v ≡ true → naming_of m.named v ≡ naming_of n.named v) → length ts ≤ 256 → AllByRecursion (FitsType false 32) ts → OwnNames m x ts n.results → n.results < 2 ^ 128 → (results_names x ts n).results ≤ m.results → n.arguments ≤ m.arguments
     → Joined f (scope ++ results x (length ts) ∷ []) m (finished n.results (f x) ts s).here
 joined_end f scope n m s x [] j keep few fit own small more more_arguments = joined_no_results f scope n m s.here j keep x more_arguments more
 joined_end f scope n m s x (t ∷ ts) j keep few fit own small more more_arguments = joined_results f scope n m s.here j keep x more_arguments (t ∷ ts) few fit own small more
@@ -134,7 +134,7 @@ plain_head m (t ∷ ts) h named rest fit lt few =
 
 -- ---- steps of the grammar
 
-pub op_from : (last depth : ℕ) (y : Operation) (old new : Seen) → old.next < last → IsOpWith no_names (IsOps CloseCurly (IsOp no_names last depth) 1048576 []) y old new → IsOp no_names last (suc depth) y old new
+pub op_from : (last depth : ℕ) (y : Operation) (old new : Seen) → old.next < last → IsOpWith false no_names (IsOps CloseCurly (IsOp false no_names last depth) 1048576 []) y old new → IsOp false no_names last (suc depth) y old new
 unfolding IsOp
 op_from last depth y old new lt h = (lt, h)
 

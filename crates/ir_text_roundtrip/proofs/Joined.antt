@@ -53,7 +53,7 @@ pub record IsRead (f : ℕ → ℕ) (here : Here) (v : Value) (y : Naming) : Typ
   pub bound : find (word_of y.name) here ≡ Some pack
   pub place : slice_get pack (place_of y.name) ≡ Some (term_of f v y.type)
   pub small : IsSmall y.name
-  pub type : FitsType 32 y.type
+  pub type : FitsType false 32 y.type
 
 pub record IsSeen (f : ℕ → ℕ) (names : Named) (here : Here) (v : Value) : Type 0 where
   pub naming : Naming
@@ -132,7 +132,7 @@ pub result_shown : (v : Value) (x n : ℕ) → shows v (results x n) ≡ true �
 result_shown (Result y k) x n e = let p = and_parts (y == x) (nat_lt k n) e in (k, ap (λ a. Result a k) (eqb-true y x p.0), grind (arith, nat_tests))
 result_shown (Arg y s k) x n e = absurd cc
 
-result_read : (f : ℕ → ℕ) (here : Here) (x : ℕ) (ts : List TypeTerm) (n k : ℕ) (t : TypeTerm) → n < 2 ^ 128 → length ts ≤ 256 → k < length ts → slice_get ts k ≡ Some t → FitsType 32 t
+result_read : (f : ℕ → ℕ) (here : Here) (x : ℕ) (ts : List TypeTerm) (n k : ℕ) (t : TypeTerm) → n < 2 ^ 128 → length ts ≤ 256 → k < length ts → slice_get ts k ≡ Some t → FitsType false 32 t
     → IsRead f (here ++ (record { name = decimal n; value = result_terms (f x) 0 ts }) ∷ []) (Result x k) (record { name = result_name (length ts == 1) n k; type = t })
 result_read f here x ts n k t lt few within e fit = from (length ts == 1) refl
   where
@@ -160,7 +160,7 @@ module _ (f : ℕ → ℕ) (scope : List Frame) (n m : Names) (here : Here) (j :
     fresh_arguments = λ k le lt. j.fresh_arguments k (omega (arith, le, more_arguments)) lt;
   }
 
-  pub joined_results : (ts : List TypeTerm) → length ts ≤ 256 → AllByRecursion (FitsType 32) ts → OwnNames m x ts n.results → n.results < 2 ^ 128 → n.results + 1 ≤ m.results
+  pub joined_results : (ts : List TypeTerm) → length ts ≤ 256 → AllByRecursion (FitsType false 32) ts → OwnNames m x ts n.results → n.results < 2 ^ 128 → n.results + 1 ≤ m.results
       → Joined f (scope ++ results x (length ts) ∷ []) m (here ++ (record { name = decimal n.results; value = result_terms (f x) 0 ts }) ∷ [])
   joined_results ts few fit own small more = record {
     seen = λ v e. ⊎_elim
@@ -184,7 +184,7 @@ module _ (f : ℕ → ℕ) (scope : List Frame) (n m : Names) (here : Here) (j :
           (record {
             naming = record { name = result_name (length ts == 1) n.results r.0; type = t.0 };
             named = own r.0 t.0 t.1;
-            read = result_read f here x ts n.results r.0 t.0 small few r.2 t.1 (all_get (FitsType 32) ts r.0 t.0 fit t.1);
+            read = result_read f here x ts n.results r.0 t.0 small few r.2 t.1 (all_get (FitsType false 32) ts r.0 t.0 fit t.1);
           })
 
 -- ---- an argument comes into sight
@@ -214,7 +214,7 @@ elsewhere (Result y k) x r n e = refl
 elsewhere (Arg y s k) x r n e = rw e refl
 
 module _ (f : ℕ → ℕ) (scope : List Frame) (n : Names) (here : Here) (x r k : ℕ) (t : TypeTerm) (away : (v : Value) → in_scope scope v ≡ true → (source_id (source_of v) == x) ≡ false) where
-  pub joined_argument : Joined f (scope ++ arguments x r k ∷ []) n here → n.arguments < 2 ^ 128 → FitsType 32 t
+  pub joined_argument : Joined f (scope ++ arguments x r k ∷ []) n here → n.arguments < 2 ^ 128 → FitsType false 32 t
       → Joined f (scope ++ arguments x r (k + 1) ∷ []) (argument_names x r k t n) (here ++ (record { name = argument_word n.arguments; value = record { value = Arg (f x) r k; type = t } ∷ [] }) ∷ [])
   joined_argument j small fit = record {
     seen = λ v e. ⊎_elim

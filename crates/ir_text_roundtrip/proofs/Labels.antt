@@ -36,7 +36,7 @@ pub record Plain (bytes : List ℕ) : Type 0 where
   pub lexeme : Lexeme
   pub behind : List ℕ
   pub token : Token lexeme bytes behind
-  pub no_label : (id r : ℕ) (s : Seen) → IsHeadFrom id r lexeme behind None s s
+  pub no_label : (id r : ℕ) (s : Seen) → IsHeadFrom false id r lexeme behind None s s
   pub no_mark : (m : Mark) → lexeme ≡ mark m → ⊥
 
 -- the first operation begins so, where there is one
@@ -72,14 +72,14 @@ module _ (f : ℕ → ℕ) (scope : List Frame) (x r : ℕ) (away : (v : Value) 
   pub record LabelRead (args : List TypeTerm) (os : Ops) (n : Names) (s : Seen) (rest : List ℕ) : Type 0 where
     pub front : Option (List TypeTerm)
     pub now : Seen
-    pub reads : IsHead (f x) r front s now
+    pub reads : IsHead false (f x) r front s now
     pub text : next_token now.bytes ≡ next_token rest
     pub joined : Joined f (scope ++ arguments x r (length args) ∷ []) (arguments_names x r 0 args n) now.scopes.here
     pub outer : now.scopes.outer ≡ s.scopes.outer
     pub same : now.next ≡ s.next
     pub made : region_of front (op_list (ops_with_ids f os)) ≡ block args (ops_with_ids f os)
 
-  pub label_again : (margin : List ℕ) (args : List TypeTerm) (os : Ops) (n : Names) (s : Seen) (rest : List ℕ) → AreBlank margin → Joined f scope n s.scopes.here → n.arguments + length args < 2 ^ 128 → AllByRecursion (FitsType 32) args → length args ≤ 256
+  pub label_again : (margin : List ℕ) (args : List TypeTerm) (os : Ops) (n : Names) (s : Seen) (rest : List ℕ) → AreBlank margin → Joined f scope n s.scopes.here → n.arguments + length args < 2 ^ 128 → AllByRecursion (FitsType false 32) args → length args ≤ 256
       → next_token s.bytes ≡ next_token (label_then margin args os n rest) → PlainFirst os rest → LabelRead args os n s rest
   unfolding IsList
   label_again margin [] no_ops n s rest blank j small fit few e plain =

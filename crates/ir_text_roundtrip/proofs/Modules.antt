@@ -1,5 +1,5 @@
 -- The text of a module spells it, with its ids in pre-order.
-use Rattle.std.proofs.Common.{◌≡◌, ℕ, true, List, [], ◌∷◌, ◌++◌, ◌≤◌, map, length, ap, subst, ◌∙◌, arith, inl}
+use Rattle.std.proofs.Common.{◌≡◌, ℕ, true, false, List, [], ◌∷◌, ◌++◌, ◌≤◌, map, length, ap, subst, ◌∙◌, arith, inl}
 use Rattle.std.specs.Prelude.{◌==◌, ◌&&◌}
 use Rattle.std.specs.Str.{bytes_eq}
 use Rattle.std.proofs.lemmas.Bool.{eqb-true, and_parts}
@@ -56,11 +56,11 @@ root_with f (op h rs) = ap (λ (n : ℕ). is_table h.name && (n == 0 && length h
 
 -- ---- modules
 
-explicit : (f : ℕ → ℕ) (t : Operation) → is_root t ≡ true → IsWritable t → IsSingleOp no_names 1048576 0 (text_of t) (with_ids f t) → IsExplicit (text_of t) (with_ids f t)
+explicit : (f : ℕ → ℕ) (t : Operation) → is_root t ≡ true → IsWritable t → IsSingleOp false no_names 1048576 0 (text_of t) (with_ids f t) → IsExplicit false (text_of t) (with_ids f t)
 unfolding IsExplicit IsSingleOp
 explicit f t root w single = (begins_so t root w, single, root_with f t ∙ root)
 
-pub module_again : (t : Operation) → IsFormed is_isolated t → HasDistinctIds t → is_root t ≡ true → IsWritable t → length (text_of t) ≤ most_bytes → Spells (text_of t) (renumbered t)
+pub module_again : (t : Operation) → IsFormed is_isolated t → HasDistinctIds t → is_root t ≡ true → IsWritable t → length (text_of t) ≤ most_bytes → Spells false (text_of t) (renumbered t)
 module_again t formed distinct root w few =
     let f = place_in (ids t) in
     let test = dictionaries_rise key_before in
@@ -74,5 +74,5 @@ module_again t formed distinct root w few =
     }
 
 -- a module whose ids are in order is spelled as it is
-pub numbered_again : (t : Operation) → IsFormed is_isolated t → IsNumberedFrom 0 t → is_root t ≡ true → IsWritable t → length (text_of t) ≤ most_bytes → Spells (text_of t) t
-numbered_again t formed e root w few = subst (Spells (text_of t)) (renumbered_stays is_isolated t formed e) (module_again t formed (numbered_distinct 0 t e) root w few)
+pub numbered_again : (t : Operation) → IsFormed is_isolated t → IsNumberedFrom 0 t → is_root t ≡ true → IsWritable t → length (text_of t) ≤ most_bytes → Spells false (text_of t) t
+numbered_again t formed e root w few = subst (Spells false (text_of t)) (renumbered_stays is_isolated t formed e) (module_again t formed (numbered_distinct 0 t e) root w few)

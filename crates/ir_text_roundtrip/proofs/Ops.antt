@@ -80,7 +80,7 @@ first_plain margin (next t ts) n rest blank fit lt =
 
 module _ (f : ℕ → ℕ) (last : ℕ) where
   abbrev One : ℕ → Grammar Seen Operation
-  One d = IsOp no_names last d
+  One d = IsOp false no_names last d
 
   abbrev Row : ℕ → Grammar Seen (List Operation)
   Row d = IsOps CloseCurly (One d) 1048576 []
@@ -88,13 +88,13 @@ module _ (f : ℕ → ℕ) (last : ℕ) where
   -- an operation that is read with its new id
   pub record OpRead (d : ℕ) (scope : List Frame) (t : Operation) (n : Names) (s : Seen) (rest : List ℕ) : Type 0 where
     pub scopes : Scopes PackTerm
-    pub reads : IsOp no_names last d (with_ids f t) s (record { bytes = 10 ∷ rest; scopes = scopes; next = s.next + length (ids t) })
+    pub reads : IsOp false no_names last d (with_ids f t) s (record { bytes = 10 ∷ rest; scopes = scopes; next = s.next + length (ids t) })
     pub joined : Joined f (scope ++ results_of t ∷ []) (op_names t n) scopes.here
     pub outer : scopes.outer ≡ s.scopes.outer
 
   pub record OpsRead (d room : ℕ) (front : List Operation) (os : Ops) (s : Seen) (rest : List ℕ) : Type 0 where
     pub scopes : Scopes PackTerm
-    pub reads : IsOps CloseCurly (IsOp no_names last d) room front (front ++ op_list (ops_with_ids f os)) s (record { bytes = rest; scopes = scopes; next = s.next + length (ops_ids os) })
+    pub reads : IsOps CloseCurly (IsOp false no_names last d) room front (front ++ op_list (ops_with_ids f os)) s (record { bytes = rest; scopes = scopes; next = s.next + length (ops_ids os) })
     pub outer : scopes.outer ≡ s.scopes.outer
 
   -- that one operation is read, as a premise
@@ -163,7 +163,7 @@ module _ (f : ℕ → ℕ) (last : ℕ) where
   -- that a region is read, as a premise
   abbrev pub ReadsRegion : ℕ → Region → Type 0
   ReadsRegion d g = (margin : List ℕ) (isolated : Bool) (scope : List Frame) (x r : ℕ) (front : List RegionTerm) (n : Names) (s : Seen) (rest : List ℕ) → AreBlank margin → FitsRegion g → SeesRegion scope x r g → region_depth g ≤ d → length (region_ids g) < 1048576 → length front ≡ r → Fresh f last scope n s.next 256 (region_ids g) → AllByRecursion (λ y. (x == y) ≡ false) (region_ids g) → ((v : Value) → in_scope scope v ≡ true → (source_id (source_of v) == x) ≡ false)
-      → Joined f scope n (if isolated then [] else s.scopes.here) → next_token s.bytes ≡ next_token (region_then margin x r g n rest) → IsRegion (Row d) (f x) isolated front (region_with_ids f g) s (behind s rest (length (region_ids g)))
+      → Joined f scope n (if isolated then [] else s.scopes.here) → next_token s.bytes ≡ next_token (region_then margin x r g n rest) → IsRegion false (Row d) (f x) isolated front (region_with_ids f g) s (behind s rest (length (region_ids g)))
 
   pub empty_read : (d : ℕ) → ReadsRegion d empty
   empty_read d margin isolated scope x r front n s rest blank fit sees deep few place fresh own apart j e =
@@ -205,13 +205,13 @@ module _ (f : ℕ → ℕ) (last : ℕ) where
       let state : behind s rest (length (ops_ids os)) ≡ seen_outside ended =
       ap (λ (l : Scopes PackTerm). record { bytes = rest; scopes = l; next = s.next + length (ops_ids os) }) (sym scopes_back)
       ∙ ap (λ (i : ℕ). record { bytes = rest; scopes = left row.scopes; next = i + length (ops_ids os) }) (sym label.same) in
-      (opened, mark_seen OpenCurly s text (e ∙ mark_token OpenCurly text tt), (label.front, label.now, subst (λ (i : ℕ). IsHead (f x) i label.front within label.now) (sym place) label.reads, (op_list (ops_with_ids f os), ended, row.reads, (sym label.made, state))))
+      (opened, mark_seen OpenCurly s text (e ∙ mark_token OpenCurly text tt), (label.front, label.now, subst (λ (i : ℕ). IsHead false (f x) i label.front within label.now) (sym place) label.reads, (op_list (ops_with_ids f os), ended, row.reads, (sym label.made, state))))
 
   -- that regions are read up to the closing parenthesis, as a premise
   abbrev pub ReadsRegions : ℕ → Region → Regions → Type 0
   ReadsRegions d g rs = (room : ℕ) (margin : List ℕ) (isolated : Bool) (scope : List Frame) (x r : ℕ) (front : List RegionTerm) (n : Names) (s : Seen) (rest : List ℕ) → AreBlank margin → FitsRegions (region g rs) → SeesRegions scope x r (region g rs) → regions_depth (region g rs) ≤ d → length (regions_ids (region g rs)) < 1048576 → region_count (region g rs) ≤ room → length front ≡ r → Fresh f last scope n s.next (256 * region_count (region g rs)) (regions_ids (region g rs)) → AllByRecursion (λ y. (x == y) ≡ false) (regions_ids (region g rs)) → ((v : Value) → in_scope scope v ≡ true → (source_id (source_of v) == x) ≡ false)
       → Joined f scope n (if isolated then [] else s.scopes.here) → next_token s.bytes ≡ next_token (region_then margin x r g n (regions_then margin x (r + 1) rs (region_names x r g n) (41 ∷ rest)))
-      → IsMore IsMarkSeen CloseRound (IsRegion (Row d) (f x) isolated) room front (front ++ region_list (regions_with_ids f (region g rs))) s (behind s rest (length (regions_ids (region g rs))))
+      → IsMore IsMarkSeen CloseRound (IsRegion false (Row d) (f x) isolated) room front (front ++ region_list (regions_with_ids f (region g rs))) s (behind s rest (length (regions_ids (region g rs))))
 
   pub last_read : (d : ℕ) (g : Region) → ReadsRegion d g → ReadsRegions d g no_regions
   last_read d g one zero margin isolated scope x r front n s rest blank fit sees deep few count place fresh own apart j e = absurd (omega (arith, count))
@@ -221,8 +221,8 @@ module _ (f : ℕ → ℕ) (last : ℕ) where
       let fresh_one = fresh_front f last scope n s.next (256 * region_count (region g no_regions)) 256 (region_ids g) [] fresh (omega arith) in
       let read = one margin isolated scope x r front n s (41 ∷ rest) blank fit.0 sees.0 (omega (arith, deep)) (omega (arith, few, same)) place fresh_one (all_front _ (region_ids g) [] own) apart j e in
       let mid = behind s (41 ∷ rest) (length (region_ids g)) in
-      subst (λ (i : ℕ). IsMore IsMarkSeen CloseRound (IsRegion (Row d) (f x) isolated) (suc room) front (front ++ region_with_ids f g ∷ []) s (behind s rest i)) same
-      (more_last (IsRegion (Row d) (f x) isolated) room front (region_with_ids f g) s mid (seen_rest mid rest) read (mark_seen CloseRound mid rest (mark_token CloseRound rest tt)))
+      subst (λ (i : ℕ). IsMore IsMarkSeen CloseRound (IsRegion false (Row d) (f x) isolated) (suc room) front (front ++ region_with_ids f g ∷ []) s (behind s rest i)) same
+      (more_last (IsRegion false (Row d) (f x) isolated) room front (region_with_ids f g) s mid (seen_rest mid rest) read (mark_seen CloseRound mid rest (mark_token CloseRound rest tt)))
 
   pub further_read : (d : ℕ) (g k : Region) (rs : Regions) → ReadsRegion d g → ReadsRegions d k rs → ReadsRegions d g (region k rs)
   further_read d g k rs one others zero margin isolated scope x r front n s rest blank fit sees deep few count place fresh own apart j e = absurd (omega (arith, count))
@@ -248,9 +248,9 @@ module _ (f : ℕ → ℕ) (last : ℕ) where
       let open_yet = not_seen CloseRound mid (lacks_token (mark Comma) CloseRound (44 ∷ 32 ∷ ahead) (32 ∷ ahead) (mark_token Comma (32 ∷ ahead) tt) (λ e. absurd cc)) in
       let all : front' ++ region_list (regions_with_ids f (region k rs)) ≡ front ++ region_list (regions_with_ids f (region g (region k rs))) = append_assoc front (region_with_ids f g ∷ []) (region_list (regions_with_ids f (region k rs))) in
       let total : s.next + length (region_ids g) + length tail ≡ s.next + length (regions_ids (region g (region k rs))) = omega (arith, sum) in
-      let whole = more_one (IsRegion (Row d) (f x) isolated) room front _ (region_with_ids f g) s mid after _ read open_yet (mark_seen Comma mid (32 ∷ ahead) (mark_token Comma (32 ∷ ahead) tt)) more in
-      subst (λ l. IsMore IsMarkSeen CloseRound (IsRegion (Row d) (f x) isolated) (suc room) front l s (behind s rest (length (regions_ids (region g (region k rs)))))) all
-      (subst (λ (i : ℕ). IsMore IsMarkSeen CloseRound (IsRegion (Row d) (f x) isolated) (suc room) front (front' ++ region_list (regions_with_ids f (region k rs))) s (record { bytes = rest; scopes = s.scopes; next = i })) total whole)
+      let whole = more_one (IsRegion false (Row d) (f x) isolated) room front _ (region_with_ids f g) s mid after _ read open_yet (mark_seen Comma mid (32 ∷ ahead) (mark_token Comma (32 ∷ ahead) tt)) more in
+      subst (λ l. IsMore IsMarkSeen CloseRound (IsRegion false (Row d) (f x) isolated) (suc room) front l s (behind s rest (length (regions_ids (region g (region k rs)))))) all
+      (subst (λ (i : ℕ). IsMore IsMarkSeen CloseRound (IsRegion false (Row d) (f x) isolated) (suc room) front (front' ++ region_list (regions_with_ids f (region k rs))) s (record { bytes = rest; scopes = s.scopes; next = i })) total whole)
 
   -- ---- one operation
 
@@ -260,7 +260,7 @@ module _ (f : ℕ → ℕ) (last : ℕ) where
 
   pub record MiddleRead (d : ℕ) (margin : List ℕ) (h : Head) (rs : Regions) (m : Names) (s : Seen) (tail : List ℕ) : Type 0 where
     pub no_less : Not IsMark Less (middle margin h rs m tail)
-    pub reads : IsRegions (Row d) (f h.id) (is_isolated h.name) (region_list (regions_with_ids f rs)) s (behind s tail (length (regions_ids rs)))
+    pub reads : IsRegions false (Row d) (f h.id) (is_isolated h.name) (region_list (regions_with_ids f rs)) s (behind s tail (length (regions_ids rs)))
 
   -- that the regions of an operation are read, as a premise
   abbrev pub ReadsMiddle : ℕ → Regions → Type 0
@@ -330,8 +330,8 @@ module _ (f : ℕ → ℕ) (last : ℕ) where
       let y = with_ids f (op h rs) in
       let kids = region_list (regions_with_ids f rs) in
       let first = start_of f m.named n.results h in
-      let tail_read = subst (λ (i : ℕ). IsTail s.next first h.properties kids y after (record { bytes = 10 ∷ rest; scopes = scopes; next = i })) count ended in
-      let regions_read = subst (λ (i : ℕ). IsRegions (Row d) i isolated kids begun after) fresh.runs.0 mid.reads in
+      let tail_read = subst (λ (i : ℕ). IsTail false s.next first h.properties kids y after (record { bytes = 10 ∷ rest; scopes = scopes; next = i })) count ended in
+      let regions_read = subst (λ (i : ℕ). IsRegions false (Row d) i isolated kids begun after) fresh.runs.0 mid.reads in
       let keep_all : (v : Value) → in_scope scope v ≡ true → naming_of p.named v ≡ naming_of n.named v = λ v i. keep_p v i ∙ keep_m v i in
       let more_arguments : n.arguments ≤ p.arguments = omega (arith, named.arguments, inner.arguments) in
       let end = joined_end f scope n p s.scopes h.id h.results j keep_all fit.0.results fit.0.written.types (λ i t k. own_results h.id 0 rs h.results n i t own.0 k) lt inner.results more_arguments in

@@ -25,12 +25,12 @@ unfolding skip
 cross_stays [] = refl
 cross_stays (d ∷ ds) = refl
 
-mark_stays : (cs : List ℕ) → skip (63 ∷ cs) ≡ 63 ∷ cs
+pub mark_stays : (cs : List ℕ) → skip (63 ∷ cs) ≡ 63 ∷ cs
 unfolding skip
 mark_stays [] = refl
 mark_stays (d ∷ ds) = refl
 
-digits_stay : (ds rest : List ℕ) → prefix_len is_ascii_digit ds ≡ length ds → 1 ≤ length ds → skip (ds ++ rest) ≡ ds ++ rest
+pub digits_stay : (ds rest : List ℕ) → prefix_len is_ascii_digit ds ≡ length ds → 1 ≤ length ds → skip (ds ++ rest) ≡ ds ++ rest
 digits_stay [] rest h le = absurd (omega (arith, le))
 digits_stay (d ∷ ds) rest h le = digit_stays d (ds ++ rest) (first_passes is_ascii_digit d ds h)
 
@@ -49,15 +49,18 @@ word_stops : (w rest : List ℕ) → is_bare_id w ≡ true → begins_dimension 
 word_stops [] rest e = absurd cc
 word_stops (c ∷ cs) rest e = no_dimension c (and_parts (is_letter c) (prefix_len is_word cs == length cs) e).0
 
-pub dimensions_again : (dims : List (Option ℕ)) (w mid rest : List ℕ) → list_all is_dimension dims ≡ true → Token (bare w) mid rest → AreDimensions dims (flat_map dimension_text dims ++ mid) mid
-dimensions_again [] w mid rest e word = (rw (next_front mid rest (bare w) word) (word_stops w rest (next_whole mid rest (bare w) word).0), refl)
-dimensions_again (None ∷ ds) w mid rest e word =
+pub word_no_dimension : (w mid rest : List ℕ) → Token (bare w) mid rest → begins_dimension (skip mid) ≡ false
+word_no_dimension w mid rest word = rw (next_front mid rest (bare w) word) (word_stops w rest (next_whole mid rest (bare w) word).0)
+
+pub dimensions_again : (dims : List (Option ℕ)) (mid : List ℕ) → list_all is_dimension dims ≡ true → begins_dimension (skip mid) ≡ false → AreDimensions dims (flat_map dimension_text dims ++ mid) mid
+dimensions_again [] mid e none = (none, refl)
+dimensions_again (None ∷ ds) mid e none =
     let back = flat_map dimension_text ds ++ mid in
     let apart : flat_map dimension_text (None ∷ ds) ++ mid ≡ 63 ∷ 120 ∷ back = ap (λ (l : List ℕ). l ++ mid) (flat_map-cons dimension_text None ds) ∙ append_assoc (dimension_text None) (flat_map dimension_text ds) mid in
-    rw apart (back, (120 ∷ back, mark_stays (120 ∷ back), cross_stays back), dimensions_again ds w mid rest e word)
-dimensions_again (Some n ∷ ds) w mid rest e word =
+    rw apart (back, (120 ∷ back, mark_stays (120 ∷ back), cross_stays back), dimensions_again ds mid e none)
+dimensions_again (Some n ∷ ds) mid e none =
     let back = flat_map dimension_text ds ++ mid in
     let p = and_parts (is_dimension (Some n)) (list_all is_dimension ds) e in
     let k = decimal_number n (small n p.0) in
     let apart : flat_map dimension_text (Some n ∷ ds) ++ mid ≡ decimal n ++ (120 ∷ back) = ap (λ (l : List ℕ). l ++ mid) (flat_map-cons dimension_text (Some n) ds) ∙ append_assoc (dimension_text (Some n)) (flat_map dimension_text ds) mid ∙ append_assoc (decimal n) (120 ∷ []) back in
-    rw apart (back, (decimal n, 120 ∷ back, digits_stay (decimal n) (120 ∷ back) k.digits k.some, some_digits (decimal n) k.digits k.some, sym k.value, cross_stays back), dimensions_again ds w mid rest p.1 word)
+    rw apart (back, (decimal n, 120 ∷ back, digits_stay (decimal n) (120 ∷ back) k.digits k.some, some_digits (decimal n) k.digits k.some, sym k.value, cross_stays back), dimensions_again ds mid p.1 none)

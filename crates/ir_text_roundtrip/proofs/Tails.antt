@@ -1,5 +1,5 @@
 -- What is printed of an operation behind its regions is read again.
-use Rattle.std.proofs.Common.{◌≡◌, ℕ, ◌+◌, ◌≤◌, true, List, [], ◌∷◌, ◌++◌, map, length, Some, None, refl, sym, ap, ◌∙◌, arith}
+use Rattle.std.proofs.Common.{◌≡◌, ℕ, ◌+◌, ◌≤◌, true, List, [], ◌∷◌, ◌++◌, map, length, Some, None, refl, sym, ap, ◌∙◌, arith, false}
 use Rattle.std.specs.Prelude.{codes}
 use Rattle.std.specs.Fmt.{decimal}
 use Rattle.std.specs.List.{AllByRecursion}
@@ -79,18 +79,18 @@ made_again f id named h rs fit e =
     let a = attributes_stay h.name h.properties h.attributes fit.written.attributes.sorted fit.written.others in
     rw (bound_values f named [] h.operands, p, a, regions_back (regions_with_ids f rs), sym e) refl
 
-type_spaced : (ins outs : List TypeTerm) (back rest : List ℕ) → IsFunctionType (ins, outs) back rest → IsFunctionType (ins, outs) (32 ∷ back) rest
+type_spaced : (ins outs : List TypeTerm) (back rest : List ℕ) → (IsFunctionType false) (ins, outs) back rest → (IsFunctionType false) (ins, outs) (32 ∷ back) rest
 unfolding IsFunctionType
 type_spaced ins outs back rest k = (k.0, space_token _ back k.0 k.1, k.2)
 
-pub tail_again : (f : ℕ → ℕ) (m : ℕ) (first named : Named) (h : Head) (rs : Regions) (id : ℕ) (s : Seen) (rest : List ℕ) → FitsHead h → AllByRecursion (FitsType 32) (map (value_type named) h.operands) → length (map (value_type named) h.operands) ≤ 256 → map (value_type first) h.operands ≡ map (value_type named) h.operands → f h.id ≡ id
-    → find (decimal m) s.scopes.here ≡ None → s.bytes ≡ tail_then h named rest → IsTail id (start_of f first m h) h.properties (region_list (regions_with_ids f rs)) (with_ids f (op h rs)) s (record { bytes = 10 ∷ rest; scopes = finished m id h.results s.scopes; next = s.next })
+pub tail_again : (f : ℕ → ℕ) (m : ℕ) (first named : Named) (h : Head) (rs : Regions) (id : ℕ) (s : Seen) (rest : List ℕ) → FitsHead h → AllByRecursion (FitsType false 32) (map (value_type named) h.operands) → length (map (value_type named) h.operands) ≤ 256 → map (value_type first) h.operands ≡ map (value_type named) h.operands → f h.id ≡ id
+    → find (decimal m) s.scopes.here ≡ None → s.bytes ≡ tail_then h named rest → IsTail false id (start_of f first m h) h.properties (region_list (regions_with_ids f rs)) (with_ids f (op h rs)) s (record { bytes = 10 ∷ rest; scopes = finished m id h.results s.scopes; next = s.next })
 tail_again f m first named h rs id s rest fit types few same e fresh bytes =
     let ins = map (value_type named) h.operands in
     let back = types_then h named rest in
     let colon : Token (mark Colon) (colon_then h named rest) (32 ∷ back) = space_token (mark Colon) (58 ∷ 32 ∷ back) (32 ∷ back) (mark_token Colon (32 ∷ back) refl) in
     let lacks = lacks_token (mark Colon) OpenCurly (colon_then h named rest) (32 ∷ back) colon (λ k. absurd cc) in
     let attributes = attributes_again h.name h.properties h.attributes (colon_then h named rest) fit.attributes fit.written.attributes fit.written.others lacks in
-    let type = type_spaced ins h.results back (10 ∷ rest) (function_type_again ins h.results (10 ∷ rest) (omega (arith, few)) fit.results types fit.written.types refl) in
+    let type = type_spaced ins h.results back (10 ∷ rest) (function_type_again false ins h.results (10 ∷ rest) (omega (arith, few)) fit.results types fit.written.types refl) in
     let inputs : map (λ (b : BoundTerm). b.type) (map (bound_of f first []) h.operands) ≡ ins = bound_types f first [] h.operands ∙ same in
     (h.attributes, seen_rest s (colon_then h named rest), (colon_then h named rest, rw bytes attributes, refl), (seen_rest s (32 ∷ back), (32 ∷ back, colon, refl), ((ins, h.results), seen_rest s (10 ∷ rest), (10 ∷ rest, type, refl), (inputs, (finished m id h.results s.scopes, finish_read m id h.results s.scopes fresh, refl, made_again f id first h rs fit e)))))

@@ -1,5 +1,5 @@
 -- The whole text of an operation is read again.
-use Rattle.std.proofs.Common.{◌≡◌, ℕ, ◌+◌, ◌≤◌, true, eqb, [], ◌∷◌, length, refl, sym, ap, ◌∙◌, arith}
+use Rattle.std.proofs.Common.{◌≡◌, ℕ, ◌+◌, ◌≤◌, true, false, eqb, [], ◌∷◌, length, refl, sym, ap, ◌∙◌, arith}
 use Rattle.std.specs.List.{IsDistinct, list_all}
 use Rattle.ir_types.specs.Words.{is_isolated}
 use Rattle.ir_tree.specs.Ids.{ids}
@@ -27,7 +27,7 @@ pub whole_text : (t : Operation) → text_of t ≡ op_then [] t (names_of blank)
 whole_text t = sym (append_none (text_of t)) ∙ (puts_op [] t).text blank []
 
 -- where f gives the ids 0, 1, .. in pre-order
-pub single_again : (f : ℕ → ℕ) (t : Operation) → FitsOp t → list_all sees_operands (sites is_isolated [] t) ≡ true → Runs f 0 (ids t) → IsDistinct eqb (ids t) → depth t ≤ 128 → length (ids t) ≤ 1048576 → IsSingleOp no_names 1048576 0 (text_of t) (with_ids f t)
+pub single_again : (f : ℕ → ℕ) (t : Operation) → FitsOp t → list_all sees_operands (sites is_isolated [] t) ≡ true → Runs f 0 (ids t) → IsDistinct eqb (ids t) → depth t ≤ 128 → length (ids t) ≤ 1048576 → IsSingleOp false no_names 1048576 0 (text_of t) (with_ids f t)
 unfolding IsSingleOp
 single_again f t fit sees runs distinct deep few =
     let n = names_of blank in

@@ -1,3 +1,5 @@
+pub mod Kept
+pub mod KeptAttributes
 pub mod Written
 pub mod WrittenAttributes
 pub mod Standing

@@ -1,30 +1,39 @@
 -- Types that a text can spell.
-use Rattle.std.specs.Prelude.{◌≡◌, ◌≤◌, ℕ, nat_le, Bool, true, ◌&&◌, List, [], ◌∷◌, length}
+use Rattle.std.specs.Prelude.{◌≡◌, ◌≤◌, ℕ, nat_le, Bool, true, false, not, ◌&&◌, if◌then◌else◌, List, [], ◌∷◌, length}
 use Rattle.std.specs.List.{list_all}
-use Rattle.ir_types.specs.Terms.{TypeTerm, Integer, Index, Function, Memref, TypeTerms, no_types, next_type}
+use Rattle.ir_types.specs.Terms.{TypeTerm, Integer, Index, Function, Memref, OpaqueType, TypeTerms, no_types, next_type}
 use Rattle.ir_types.specs.Depths.{is_scalar, type_depth}
 use Rattle.ir_types.specs.Reasons.{is_width, is_dimension}
 use Rattle.ir_text_types.specs.TypeReading.{many}
+use Rattle.ir_text.specs.TypeText.{is_function}
+use Rattle.ir_text_roundtrip.specs.Kept.{is_type_text}
 
 -- the types of a list
 abbrev pub types_list : TypeTerms → List TypeTerm
 types_list no_types = []
 types_list (next_type t ts) = t ∷ types_list ts
 
--- integer types have widths that there are; a memref has at most as many dimensions as a text has bytes, each in its
--- limit, and an integer or index element; a function type has at most as many inputs as a text has bytes, and so many
--- outputs, which are such types
-abbrev mutual
-  pub is_written_type : TypeTerm → Bool
-  is_written_type (Integer sign width) = is_width width
-  is_written_type Index = true
-  is_written_type (Function inputs outputs) = (nat_le (length (types_list inputs)) many && nat_le (length (types_list outputs)) many) && (are_written_types inputs && are_written_types outputs)
-  is_written_type (Memref dims elem) = (nat_le (length dims) many && list_all is_dimension dims) && (is_scalar elem && is_written_type elem)
+-- the types that a memref's elements may have: integer types and index, and where types are kept as they are spelled,
+-- all but function types
+abbrev pub may_stand : Bool → TypeTerm → Bool
+may_stand opaque t = if opaque then not (is_function t) else is_scalar t
 
-  pub are_written_types : TypeTerms → Bool
-  are_written_types no_types = true
-  are_written_types (next_type t ts) = is_written_type t && are_written_types ts
+-- integer types have widths that there are; a memref has at most as many dimensions as a text has bytes, each in its
+-- limit, and an element that may stand there; a function type has at most as many inputs as a text has bytes, and so
+-- many outputs, which are such types; and a type that is kept as it is spelled is the text of one, where there are such
+abbrev mutual
+  pub is_written_type : Bool → TypeTerm → Bool
+  is_written_type opaque (Integer sign width) = is_width width
+  is_written_type opaque Index = true
+  is_written_type opaque (Function inputs outputs) =
+      (nat_le (length (types_list inputs)) many && nat_le (length (types_list outputs)) many) && (are_written_types opaque inputs && are_written_types opaque outputs)
+  is_written_type opaque (Memref dims elem) = (nat_le (length dims) many && list_all is_dimension dims) && (may_stand opaque elem && is_written_type opaque elem)
+  is_written_type opaque (OpaqueType text) = opaque && is_type_text text
+
+  pub are_written_types : Bool → TypeTerms → Bool
+  are_written_types opaque no_types = true
+  are_written_types opaque (next_type t ts) = is_written_type opaque t && are_written_types opaque ts
 
 -- a type that a text can spell where so many levels are left
-abbrev pub FitsType : ℕ → TypeTerm → Type 0
-FitsType depth t = (type_depth t ≤ depth) × (is_written_type t ≡ true)
+abbrev pub FitsType : Bool → ℕ → TypeTerm → Type 0
+FitsType opaque depth t = (type_depth t ≤ depth) × (is_written_type opaque t ≡ true)

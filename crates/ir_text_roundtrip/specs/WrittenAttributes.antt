@@ -1,21 +1,22 @@
 -- Attributes that a text can spell.
-use Rattle.std.specs.Prelude.{◌≡◌, ◌≤◌, ℕ, nat_le, nat_lt, Bool, true, false, not, ◌&&◌, ◌||◌, ◌==◌, List, [], ◌∷◌, length}
+use Rattle.std.specs.Prelude.{◌≡◌, ◌≤◌, ℕ, nat_le, nat_lt, Bool, true, false, not, ◌&&◌, ◌||◌, ◌==◌, List, [], ◌∷◌, length, Option, None, Some}
 use Rattle.std.specs.List.{AllByRecursion, list_all}
 use Rattle.std.specs.Str.{bytes_eq}
 use Rattle.ir_types.specs.declared.node.Sign.TheVariants.{Signless}
 use Rattle.ir_types.specs.Limits.{most_depth, most_entries}
-use Rattle.ir_types.specs.Terms.{TypeTerm, Integer, AttrTerm, IntegerOf, String, TypeOf, Flag, Array, Dictionary, Symbol, DenseArray, Overflow, AttrTerms, no_attrs, next_attr, EntryTerms, no_entries, next_entry}
+use Rattle.ir_types.specs.Terms.{TypeTerm, Integer, AttrTerm, IntegerOf, String, TypeOf, Flag, Array, Dictionary, Symbol, DenseArray, Overflow, OpaqueOf, AttrTerms, no_attrs, next_attr, EntryTerms, no_entries, next_entry}
 use Rattle.ir_types.specs.Depths.{attr_depth}
 use Rattle.ir_types.specs.Ranges.{is_value_number}
 use Rattle.ir_types.specs.Readings.{is_bits_of}
 use Rattle.ir_types.specs.Words.{is_inherent}
 use Rattle.ir_tree.specs.Meaning.{key_before, rises}
-use Rattle.ir_text_tokens.specs.declared.token.Mark.TheVariants.{DoubleColon}
+use Rattle.ir_text_tokens.specs.declared.token.Mark.TheVariants.{Colon, DoubleColon, Less}
 use Rattle.ir_text_tokens.specs.Bytes.{is_suffix}
 use Rattle.ir_text_tokens.specs.Printing.{Stops}
 use Rattle.ir_text_types.specs.Grammars.{Not, IsMark}
 use Rattle.ir_text_types.specs.TypeReading.{many}
 use Rattle.ir_text_attributes.specs.Keyed.{has_key}
+use Rattle.ir_text_roundtrip.specs.KeptAttributes.{is_attr_text}
 use Rattle.ir_text_roundtrip.specs.Written.{is_written_type}
 
 -- the attributes of an array, and the entries of a dictionary
@@ -40,43 +41,53 @@ abbrev pub is_element : TypeTerm → Bool
 is_element (Integer Signless w) = (((w == 1 || w == 8) || w == 16) || w == 32) || w == 64
 is_element _ = false
 
+-- the type that follows an attribute's text is one that a text can spell
+abbrev pub is_written_tail : Bool → Option TypeTerm → Bool
+is_written_tail opaque None = true
+is_written_tail opaque (Some ty) = is_written_type opaque ty
+
 -- an integer is the bits of one of its type; names are of bytes; an array has at most as many items as a text has
 -- bytes; a dictionary has no more entries than it may, in the order of their keys, each key once; the items of a dense
--- array are values of their type
+-- array are values of their type; and one that is kept as it is spelled is the text of one, where there are such, with a
+-- type that may follow it
 abbrev mutual
-  pub is_written : AttrTerm → Bool
-  is_written (IntegerOf ty bits) = is_written_type ty && is_bits_of ty bits
-  is_written (String v) = are_bytes v
-  is_written (TypeOf ty) = is_written_type ty
-  is_written Flag = true
-  is_written (Array items) = nat_le (length (attrs_list items)) many && are_written items
-  is_written (Dictionary entries) = (nat_le (length (entries_list entries)) most_entries && rises key_before (entries_list entries)) && are_written_entries entries
-  is_written (Symbol parts) = are_parts parts
-  is_written (DenseArray elem zs) = is_element elem && (nat_le (length zs) many && list_all (is_value_number elem) zs)
-  is_written (Overflow nsw nuw) = true
+  pub is_written : Bool → AttrTerm → Bool
+  is_written opaque (IntegerOf ty bits) = is_written_type opaque ty && is_bits_of ty bits
+  is_written opaque (String v) = are_bytes v
+  is_written opaque (TypeOf ty) = is_written_type opaque ty
+  is_written opaque Flag = true
+  is_written opaque (Array items) = nat_le (length (attrs_list items)) many && are_written opaque items
+  is_written opaque (Dictionary entries) =
+      (nat_le (length (entries_list entries)) most_entries && rises key_before (entries_list entries)) && are_written_entries opaque entries
+  is_written opaque (Symbol parts) = are_parts parts
+  is_written opaque (DenseArray elem zs) = is_element elem && (nat_le (length zs) many && list_all (is_value_number elem) zs)
+  is_written opaque (Overflow nsw nuw) = true
+  is_written opaque (OpaqueOf text ty) = opaque && (is_attr_text text ty && is_written_tail opaque ty)
 
-  pub are_written : AttrTerms → Bool
-  are_written no_attrs = true
-  are_written (next_attr a as') = is_written a && are_written as'
+  pub are_written : Bool → AttrTerms → Bool
+  are_written opaque no_attrs = true
+  are_written opaque (next_attr a as') = is_written opaque a && are_written opaque as'
 
-  pub are_written_entries : EntryTerms → Bool
-  are_written_entries no_entries = true
-  are_written_entries (next_entry key a es) = (are_bytes key && is_written a) && are_written_entries es
+  pub are_written_entries : Bool → EntryTerms → Bool
+  are_written_entries opaque no_entries = true
+  are_written_entries opaque (next_entry key a es) = (are_bytes key && is_written opaque a) && are_written_entries opaque es
 
 -- an attribute that a text can spell where so many levels are left
-abbrev pub FitsAttr : ℕ → AttrTerm → Type 0
-FitsAttr depth a = (attr_depth a ≤ depth) × (is_written a ≡ true)
+abbrev pub FitsAttr : Bool → ℕ → AttrTerm → Type 0
+FitsAttr opaque depth a = (attr_depth a ≤ depth) × (is_written opaque a ≡ true)
 
--- what may stand behind an attribute: its first byte goes on no name, and its first token is not `::`
-abbrev pub EndsAttr : List ℕ → Type 0
-EndsAttr rest = Stops is_suffix rest × Not IsMark DoubleColon rest
+-- what may stand behind an attribute: its first byte goes on no name, and its first token is not `::`, nor, where
+-- attributes are kept as they are spelled, a colon or `<`
+abbrev pub EndsAttr : Bool → List ℕ → Type 0
+EndsAttr false rest = Stops is_suffix rest × Not IsMark DoubleColon rest
+EndsAttr true rest = Stops is_suffix rest × Not IsMark DoubleColon rest × Not IsMark Colon rest × Not IsMark Less rest
 
 -- a dictionary of an operation that a text can spell, where it has no more entries than a dictionary may have: it is
 -- sorted by its keys, each key once; keys are of bytes, and the grammar writes each value
 pub record IsWritableDictionary (es : List (List ℕ × AttrTerm)) : Type 0 where
   pub sorted : rises key_before es ≡ true
   pub keys : AllByRecursion (λ e. are_bytes e.0 ≡ true) es
-  pub values : AllByRecursion (λ e. FitsAttr most_depth e.1) es
+  pub values : AllByRecursion (λ e. FitsAttr false most_depth e.1) es
 
 -- attributes that are no properties of the operation, neither by their keys nor since they stand there
 abbrev pub AreOthers : List ℕ → List (List ℕ × AttrTerm) → List (List ℕ × AttrTerm) → Type 0

@@ -13,7 +13,7 @@ use Rattle.ir_text_roundtrip.specs.WrittenAttributes.{are_bytes, IsWritableDicti
 pub record IsWritableHead (h : HeadOf (List ℕ) TypeTerm AttrTerm) : Type 0 where
   pub named : (length h.name == 0) ≡ false
   pub bytes : are_bytes h.name ≡ true
-  pub types : AllByRecursion (FitsType most_depth) h.results
+  pub types : AllByRecursion (FitsType false most_depth) h.results
   pub properties : IsWritableDictionary h.properties
   pub attributes : IsWritableDictionary h.attributes
   pub others : AreOthers h.name h.properties h.attributes
@@ -29,7 +29,7 @@ abbrev mutual
 
   pub IsWritableRegion : RegionOf (List ℕ) TypeTerm AttrTerm → Type 0
   IsWritableRegion empty = Unit {0}
-  IsWritableRegion (block args os) = AllByRecursion (FitsType most_depth) args × AreWritableOps os
+  IsWritableRegion (block args os) = AllByRecursion (FitsType false most_depth) args × AreWritableOps os
 
   pub AreWritableOps : OpsOf (List ℕ) TypeTerm AttrTerm → Type 0
   AreWritableOps no_ops = Unit {0}

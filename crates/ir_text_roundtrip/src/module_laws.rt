@@ -1,5 +1,5 @@
 //! Laws of modules that are printed.
-ghost use Rattle.std.specs.Prelude.{◌≡◌, ◌≤◌, ◌++◌, ℕ, List, [], length, true};
+ghost use Rattle.std.specs.Prelude.{◌≡◌, ◌≤◌, ◌++◌, ℕ, List, [], length, true, false};
 ghost use Rattle.std.specs.Str.{IsAscii};
 ghost use Rattle.ir_types.specs.Words.{is_isolated};
 ghost use Rattle.ir_tree.specs.Ids.{HasDistinctIds, IsNumberedFrom, ids};
@@ -24,7 +24,7 @@ pub fn operations_are_appended()
 /// An operation that a text can spell, whose operands are visible and which passes no limit of a formed tree, is
 /// spelled by its text, with the ids 0, 1, .. in pre-order.
 pub fn operations_are_read_back()
-    ensures { (f : ℕ → ℕ) (t : Operation) → IsWritable t → counts_fit t ≡ true → operands_visible is_isolated t ≡ true → Runs f 0 (ids t) → HasDistinctIds t → depth t ≤ most_around → IsSingleOp no_names most_ops 0 (text_of t) (with_ids f t) }
+    ensures { (f : ℕ → ℕ) (t : Operation) → IsWritable t → counts_fit t ≡ true → operands_visible is_isolated t ≡ true → Runs f 0 (ids t) → HasDistinctIds t → depth t ≤ most_around → IsSingleOp false no_names most_ops 0 (text_of t) (with_ids f t) }
 {}
 
 /// What is printed for a tree that a text can spell is ASCII.
@@ -36,10 +36,10 @@ pub fn texts_are_ascii()
 /// this tree. The module is formed, its ids are distinct, and it is one that a text can spell. That its text
 /// is no longer than a text may be is a premise.
 pub fn modules_are_read_back()
-    ensures { (t : Operation) → IsFormed is_isolated t → HasDistinctIds t → is_root t ≡ true → IsWritable t → length (text_of t) ≤ most_bytes → Spells (text_of t) (renumbered t) }
+    ensures { (t : Operation) → IsFormed is_isolated t → HasDistinctIds t → is_root t ≡ true → IsWritable t → length (text_of t) ≤ most_bytes → Spells false (text_of t) (renumbered t) }
 {}
 
 /// A module whose ids are in pre-order from 0 on, as those of a module that was read are, is read again as it is.
 pub fn numbered_modules_are_read_back()
-    ensures { (t : Operation) → IsFormed is_isolated t → IsNumberedFrom 0 t → is_root t ≡ true → IsWritable t → length (text_of t) ≤ most_bytes → Spells (text_of t) t }
+    ensures { (t : Operation) → IsFormed is_isolated t → IsNumberedFrom 0 t → is_root t ≡ true → IsWritable t → length (text_of t) ≤ most_bytes → Spells false (text_of t) t }
 {}

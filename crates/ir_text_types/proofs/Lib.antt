@@ -11,3 +11,4 @@ pub mod ShapeLaws
 pub mod TypeLaws
 pub mod Unique
 pub mod Numbered
+pub mod Shorter

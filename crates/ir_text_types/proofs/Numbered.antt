@@ -1,5 +1,5 @@
 -- What is interned on the way is of the context as it is then.
-use Rattle.std.proofs.Common.{◌≡◌, ℕ, List, Some, slice_get, refl, ap, subst, ◌∙◌}
+use Rattle.std.proofs.Common.{◌≡◌, ℕ, Bool, List, Some, slice_get, refl, ap, subst, ◌∙◌}
 use Rattle.std.proofs.lemmas.Option.{slice_get_within}
 use Rattle.ir_types.specs.declared.node.TypeNode.{TypeNode}
 use Rattle.ir_types.specs.Things.{Things, IsName, IsType}
@@ -30,7 +30,7 @@ type_done_known node bytes rest c d n e =
     let at : slice_get d.types n ≡ Some node = subst (λ (q : ℕ × Things). slice_get q.1.types q.0 ≡ Some node) (a.1 ∙ same) (type_stands node c) in
     slice_get_within d.types n node at
 
-pub type_known : (depth : ℕ) (bytes rest : List ℕ) (c d : Things) (n : ℕ) → IsSound c → type_at depth (bytes, c) ≡ Read (n, (rest, d)) → IsType d n
-type_known depth bytes rest c d n sound e =
-    let f = (type_exact depth c).found (bytes, c) bytes n (rest, d) (grows_refl c) sound (λ z g w. refl) e in
+pub type_known : (o : Bool) (depth : ℕ) (bytes rest : List ℕ) (c d : Things) (n : ℕ) → IsSound c → type_at o depth (bytes, c) ≡ Read (n, (rest, d)) → IsType d n
+type_known o depth bytes rest c d n sound e =
+    let f = (type_exact o depth c).found (bytes, c) bytes n (rest, d) (grows_refl c) sound (λ z g w. refl) e in
     (f.3.stands d (grows_refl d) f.3.sound).0

@@ -8,7 +8,7 @@ use Rattle.std.proofs.lemmas.Option.{slice_get_within}
 use Rattle.std.proofs.lemmas.List.Elements.{All-from_recursion}
 use Rattle.ir_text_tokens.specs.declared.token.Mark.TheVariants.{OpenRound, CloseRound, Less, Greater, Arrow}
 use Rattle.ir_text_tokens.specs.Numbers.{integer_of}
-use Rattle.ir_text_tokens.specs.Tokens.{Lexeme, bare, next}
+use Rattle.ir_text_tokens.specs.Tokens.{Lexeme, bare, bang, next}
 use Rattle.ir_types.specs.declared.node.Sign.{Sign}
 use Rattle.ir_types.specs.declared.node.Sign.TheVariants.{Signless, Signed, Unsigned}
 use Rattle.ir_types.specs.declared.node.TypeNode.{TypeNode}
@@ -31,15 +31,16 @@ use Rattle.ir_types.proofs.AcceptedCalls.{accepted_type, neither_back, neither}
 use Rattle.ir_text_types.specs.Outcomes.{Outcome, Read, Wrong, Full, ◌>>=◌, of_option, interned, Parse}
 use Rattle.ir_text_types.specs.Typed.{Typed, after_typed, type_step}
 use Rattle.ir_text_types.specs.Scalars.{within, width_of, begins_zero, signed_of_word, integer_type_of, scalar_of, index_word, memref_word}
+use Rattle.ir_text_types.specs.OpaqueTypes.{is_opaque_word, word_text, dialect_text}
 use Rattle.ir_text_types.specs.ShapeGrammar.{IsShape}
 use Rattle.ir_text_types.specs.ShapeReading.{dimensions_at}
-use Rattle.ir_text_types.specs.TypeReading.{many, type_done, scalar_from, scalar_at, shape_at, memref_at, word_from, word_type_from, word_type_at, types_at, outputs_from, outputs_at, signature_at, function_at, type_from as type_read_from, type_at, function_type_at}
+use Rattle.ir_text_types.specs.TypeReading.{many, type_done, scalar_from, scalar_at, scalar_done, shape_at, opaque_done, word_from, word_type_from, word_type_at, element_at, memref_at, types_at, outputs_from, outputs_at, signature_at, function_at, type_from as type_read_from, type_at, function_type_at}
 use Rattle.ir_text_types.specs.Grammars.{Grammar, Then, Done, DoneIf, After, IsMark, Token}
-use Rattle.ir_text_types.specs.TypeGrammar.{types_of, IsScalar, IsMemref, IsWordFrom, IsWordType, IsTypes, IsOutputs, IsSignature, IsFunction, IsType, IsFunctionType}
+use Rattle.ir_text_types.specs.TypeGrammar.{types_of, IsScalar, IsOpaque, IsWordFrom, IsBehind, IsWordType, IsElement, IsMemref, IsTypes, IsOutputs, IsSignature, IsFunction, IsType, IsFunctionType}
 use Rattle.ir_text_types.specs.Worlds.{From}
 use Rattle.ir_text_types.specs.Standing.{TypeStands}
 use Rattle.ir_text_types.specs.Laws.{TypesStand, SignatureStands}
-use Rattle.ir_text_types.proofs.Worlds.{bind_read, option_read, Exact, Step, Comes, Reads, step_on, reads_on, exact_spelled, nothing_exact, then_exact, done_exact, after_exact, either_exact, list_exact}
+use Rattle.ir_text_types.proofs.Worlds.{bind_read, option_read, Exact, Step, Comes, Reads, step_on, reads_on, exact_spelled, nothing_exact, choice_exact, guard_exact, some_exact, then_exact, done_exact, after_exact, either_exact, list_exact}
 use Rattle.ir_text_types.proofs.TextLaws.{things, Same, text_now, typed_marks}
 use Rattle.ir_text_types.proofs.TokenLaws.{text_exact, behind_exact, token_exact}
 use Rattle.ir_text_types.proofs.ShapeLaws.{dimensions_only, dimensions_found}
@@ -154,12 +155,14 @@ word_stands (node.Int sign width) c h = (tt, refl)
 word_stands node.Index c h = (tt, refl)
 word_stands (node.Func inputs outputs) c h = absurd h
 word_stands (node.Memref dims elem) c h = absurd h
+word_stands (node.Opaque text) c h = absurd h
 
 word_fine : (z : TypeNode) → IsWord z → type_fault (type_from [] z) ≡ None
 word_fine (node.Int sign width) h = rw h refl
 word_fine node.Index h = refl
 word_fine (node.Func inputs outputs) h = absurd h
 word_fine (node.Memref dims elem) h = absurd h
+word_fine (node.Opaque text) h = absurd h
 
 scalar_found : (s : Typed) (t : List ℕ) (x : ℕ) (s' : Typed) (l : Lexeme) (rest : List ℕ) → next s.0 ≡ Some (l, rest) → IsSound s.1 → s.0 ≡ t → scalar_from s.1 l rest ≡ Read (x, s') → Comes things Same TypeStands IsScalar s t x s'
 scalar_found s t x s' (bare word) rest token sound same e =
@@ -207,24 +210,6 @@ dims_fine dims elem e = by_case (list_all is_dimension dims) refl e
 memref_stands : (z : Things) (dims ds : List (Option ℕ)) (n : ℕ) (y : TypeTerm) → dims ≡ ds → TypeStands z n y → IsNodeOf (node.Memref dims n) (terms.Memref ds y) z
 memref_stands z dims ds n y e h = (h.0, λ i. terms.Memref (e i) (h.1 i))
 
--- what stands behind the dimensions
-abbrev IsElement : List (Option ℕ) → Grammar (List ℕ) TypeTerm
-IsElement dims = Then IsScalar (λ elem. After IsMark Greater (DoneIf (type_fault (terms.Memref dims elem) ≡ None) (terms.Memref dims elem)))
-
-pub memref_exact : (c : Things) → Exact things Same c TypeStands memref_at IsMemref
-unfolding memref_at IsMemref
-memref_exact c =
-    exact_spelled things Same c TypeStands memref_at (After IsMark Less (Then IsGoodShape IsElement)) IsMemref
-    (λ y t t' k. (k.0, k.1, (k.2.0, k.2.1, k.2.2.1, k.2.3)))
-    (λ y t t' k. (k.0, k.1, (k.2.0, k.2.1, (dims_fine k.2.0 k.2.3.0 k.2.3.3.2.0, k.2.2), k.2.3)))
-    (after_exact things Same after_typed IsMark typed_marks c TypeStands Less _ _
-    (then_exact things Same c (λ z x y. x ≡ y) TypeStands shape_at IsGoodShape _ IsElement (shape_exact c) (λ d dims ds g r.
-    then_exact things Same d TypeStands TypeStands scalar_at IsScalar _ _ (scalar_exact d) (λ e n y h k.
-    after_exact things Same after_typed IsMark typed_marks e TypeStands Greater _ _
-    (type_done_exact e (node.Memref dims n) (terms.Memref ds y) (λ z l w. memref_stands z dims ds n y (r z (grows_trans d e z h l) w) (k z l w)))))))
-
--- ---- types that begin with a word
-
 -- what the type of a word is, where it has one
 node_exact : (word : List ℕ) (c : Things) (o : Option TypeNode) → scalar_of word ≡ o
     → Exact things Same c TypeStands (λ s. of_option o >>= λ n. type_done n s) (λ y old new. (n : TypeNode) × (o ≡ Some n) × (y ≡ type_from [] n) × (new ≡ old))
@@ -237,29 +222,54 @@ node_exact word c (Some v) e =
     (λ y t t' k. (v, refl, k.1, k.2)) (λ y t t' k. let same : v ≡ k.0 = cc (k.1) in (word_fine v w, k.2 ∙ ap (type_from []) (sym same), k.3))
     (type_done_exact c v (type_from [] v) (λ z g k. word_stands v z w))
 
-word_exact : (b : Bool) (word : List ℕ) (c : Things) → Exact things Same c TypeStands (word_from b word) (IsWordFrom b word)
-word_exact true word c = memref_exact c
-word_exact false word c = node_exact word c (scalar_of word) refl
+-- ---- types that are kept as they are spelled
 
--- a word and what stands behind it
-abbrev IsBehind : Lexeme → List ℕ → Grammar (List ℕ) TypeTerm
-IsBehind (bare word) rest y old new = IsWordFrom (bytes_eq word memref_word) word y rest new
-IsBehind _ rest y old new = ⊥
+opaque_exact : (found : Option (List ℕ × List ℕ)) (c : Things) → Exact things Same c TypeStands (λ s. opaque_done found s.1) (λ y old new. IsOpaque found y new)
+opaque_exact found c =
+    exact_spelled things Same c TypeStands (λ s. opaque_done found s.1)
+    (λ y old new. (x : List ℕ × List ℕ) × (found ≡ Some x) × DoneIf (type_fault (terms.OpaqueType x.0) ≡ None) (terms.OpaqueType x.0) y x.1 new)
+    (λ y old new. IsOpaque found y new)
+    (λ y t t' k. (k.0, k.1, k.2.1, k.2.2)) (λ y t t' k. (k.0, k.1, (refl, k.2, k.3)))
+    (some_exact things Same c TypeStands found (λ x s. type_done (node.Opaque x.0) (x.1, s.1)) (λ x y old new. DoneIf (type_fault (terms.OpaqueType x.0) ≡ None) (terms.OpaqueType x.0) y x.1 new)
+    (λ x. behind_exact c TypeStands x.1 (type_done (node.Opaque x.0)) (DoneIf (type_fault (terms.OpaqueType x.0) ≡ None) (terms.OpaqueType x.0)) (type_done_exact c (node.Opaque x.0) (terms.OpaqueType x.0) (λ z g w. (tt, refl)))))
 
-behind_word : (c : Things) (l : Lexeme) (rest : List ℕ) → Exact things Same c TypeStands (λ s. word_type_from s.1 l rest) (IsBehind l rest)
-behind_word c (bare word) rest = behind_exact c TypeStands rest (word_from (bytes_eq word memref_word) word) (IsWordFrom (bytes_eq word memref_word) word) (word_exact (bytes_eq word memref_word) word c)
-behind_word c _ rest = nothing_exact things Same c TypeStands
+-- ---- types that begin with a word, or the name of a dialect
 
-pub word_type_exact : (c : Things) → Exact things Same c TypeStands word_type_at IsWordType
-unfolding word_type_at
-word_type_exact c =
-    exact_spelled things Same c TypeStands word_type_at (λ y old new. (l : Lexeme) × (rest : List ℕ) × Token l old rest × IsBehind l rest y old new) IsWordType
-    (λ y t t' k. into k.0 k.1 y t t' k.2 k.3) (λ y t t' k. (bare k.0, k.1, k.2, k.3))
-    (token_exact c TypeStands (λ s l rest. word_type_from s.1 l rest) IsBehind (behind_word c))
-  where
-    into : (l : Lexeme) (rest : List ℕ) (y : TypeTerm) (t t' : List ℕ) → Token l t rest → IsBehind l rest y t t' → IsWordType y t t'
-    into (bare word) rest y t t' token k = (word, rest, token, k)
-    into _ rest y t t' token k = absurd k
+module _ (o : Bool) (m : Parse Typed ℕ) (M : Grammar (List ℕ) TypeTerm) (inner : (c : Things) → Exact things Same c TypeStands m M) where
+  word_exact : (b memref : Bool) (word rest : List ℕ) (c : Things) → Exact things Same c TypeStands (λ s. word_from m b memref word rest s.1) (λ y old new. IsWordFrom M b memref word y rest new)
+  word_exact true memref word rest c = opaque_exact (word_text word rest) c
+  word_exact false true word rest c = behind_exact c TypeStands rest m M (inner c)
+  word_exact false false word rest c =
+      behind_exact c TypeStands rest (scalar_done word) (λ y old new. (n : TypeNode) × (scalar_of word ≡ Some n) × (y ≡ type_from [] n) × (new ≡ old)) (node_exact word c (scalar_of word) refl)
+
+  behind_word : (c : Things) (l : Lexeme) (rest : List ℕ) → Exact things Same c TypeStands (λ s. word_type_from o m s.1 l rest) (λ y old new. IsBehind o M l y rest new)
+  behind_word c (bare word) rest = word_exact (o && is_opaque_word word rest) (bytes_eq word memref_word) word rest c
+  behind_word c (bang name) rest = guard_exact things Same c TypeStands o (λ s. opaque_done (dialect_text 33 name rest) s.1) (λ y old new. IsOpaque (dialect_text 33 name rest) y new) (opaque_exact (dialect_text 33 name rest) c)
+  behind_word c _ rest = nothing_exact things Same c TypeStands
+
+  pub word_type_exact : (c : Things) → Exact things Same c TypeStands (word_type_at o m) (IsWordType o M)
+  unfolding word_type_at
+  word_type_exact c = token_exact c TypeStands (λ s l rest. word_type_from o m s.1 l rest) (λ l rest y old new. IsBehind o M l y rest new) (behind_word c)
+
+  pub element_exact : (c : Things) → Exact things Same c TypeStands (element_at o m) (IsElement o M)
+  element_exact c = choice_exact things Same c TypeStands o (word_type_at o m) scalar_at (IsWordType o M) IsScalar (word_type_exact c) (scalar_exact c)
+
+-- what stands behind the dimensions
+abbrev Elements : Bool → ℕ → List (Option ℕ) → Grammar (List ℕ) TypeTerm
+Elements o depth dims = Then (IsElement o (IsMemref o depth)) (λ elem. After IsMark Greater (DoneIf (type_fault (terms.Memref dims elem) ≡ None) (terms.Memref dims elem)))
+
+pub memref_exact : (o : Bool) (depth : ℕ) (c : Things) → Exact things Same c TypeStands (memref_at o depth) (IsMemref o depth)
+unfolding memref_at IsMemref
+memref_exact o zero c = record { found = λ s t x s' g sound h e. absurd cc; only = λ s t y t' g sound h k. absurd k }
+memref_exact o (suc depth) c =
+    exact_spelled things Same c TypeStands (memref_at o (suc depth)) (After IsMark Less (Then IsGoodShape (Elements o depth))) (IsMemref o (suc depth))
+    (λ y t t' k. (k.0, k.1, (k.2.0, k.2.1, k.2.2.1, k.2.3)))
+    (λ y t t' k. (k.0, k.1, (k.2.0, k.2.1, (dims_fine k.2.0 k.2.3.0 k.2.3.3.2.0, k.2.2), k.2.3)))
+    (after_exact things Same after_typed IsMark typed_marks c TypeStands Less _ _
+    (then_exact things Same c (λ z x y. x ≡ y) TypeStands shape_at IsGoodShape _ (Elements o depth) (shape_exact c) (λ d dims ds g r.
+    then_exact things Same d TypeStands TypeStands (element_at o (memref_at o depth)) (IsElement o (IsMemref o depth)) _ _ (element_exact o (memref_at o depth) (IsMemref o depth) (memref_exact o depth) d) (λ e n y h k.
+    after_exact things Same after_typed IsMark typed_marks e TypeStands Greater _ _
+    (type_done_exact e (node.Memref dims n) (terms.Memref ds y) (λ z l w. memref_stands z dims ds n y (r z (grows_trans d e z h l) w) (k z l w)))))))
 
 -- ---- types in parentheses
 
@@ -309,36 +319,36 @@ module _ (p : Parse Typed ℕ) (P : Grammar (List ℕ) TypeTerm) (item : (c : Th
 
 -- ---- types, and the function types of operations
 
-pub type_exact : (depth : ℕ) (c : Things) → Exact things Same c TypeStands (type_at depth) (IsType depth)
+pub type_exact : (o : Bool) (depth : ℕ) (c : Things) → Exact things Same c TypeStands (type_at o depth) (IsType o depth)
 unfolding type_at IsType
-type_exact zero c = record { found = λ s t x s' g sound h e. absurd cc; only = λ s t y t' g sound h k. absurd k }
-type_exact (suc depth) c =
-    either_exact things Same after_typed IsMark typed_marks c TypeStands OpenRound (type_read_from (type_at depth)) (function_at (type_at depth)) word_type_at (IsFunction (IsType depth)) IsWordType
-    (λ s mid. refl) (λ s. refl) (function_exact (type_at depth) (IsType depth) (type_exact depth) c) (word_type_exact c)
+type_exact o zero c = record { found = λ s t x s' g sound h e. absurd cc; only = λ s t y t' g sound h k. absurd k }
+type_exact o (suc depth) c =
+    either_exact things Same after_typed IsMark typed_marks c TypeStands OpenRound (type_read_from (type_at o depth) (word_type_at o (memref_at o (suc depth)))) (function_at (type_at o depth)) (word_type_at o (memref_at o (suc depth))) (IsFunction (IsType o depth)) (IsWordType o (IsMemref o (suc depth)))
+    (λ s mid. refl) (λ s. refl) (function_exact (type_at o depth) (IsType o depth) (type_exact o depth) c) (word_type_exact o (memref_at o (suc depth)) (IsMemref o (suc depth)) (memref_exact o (suc depth)) c)
 
-pub function_type_exact : (c : Things) → Exact things Same c SignatureStands function_type_at IsFunctionType
+pub function_type_exact : (o : Bool) (c : Things) → Exact things Same c SignatureStands (function_type_at o) (IsFunctionType o)
 unfolding function_type_at IsFunctionType
-function_type_exact c =
-    after_exact things Same after_typed IsMark typed_marks c SignatureStands OpenRound (signature_at (type_at 32) 256) (IsSignature (IsType 32) 256) (signature_exact (type_at 32) (IsType 32) (type_exact 32) 256 c)
+function_type_exact o c =
+    after_exact things Same after_typed IsMark typed_marks c SignatureStands OpenRound (signature_at (type_at o 32) 256) (IsSignature (IsType o 32) 256) (signature_exact (type_at o 32) (IsType o 32) (type_exact o 32) 256 c)
 
 -- ---- from a text
 
-pub type_read : (depth : ℕ) (c d : Things) (bytes rest : List ℕ) (n : ℕ) → IsSound c → type_at depth (bytes, c) ≡ Read (n, (rest, d)) → Grows c d × IsSound d × of.IsType d n × IsType depth (type_term d n) bytes rest
-type_read depth c d bytes rest n sound e =
-    let f = (type_exact depth c).found (bytes, c) bytes n (rest, d) (grows_refl c) sound (λ z g w. refl) e in
+pub type_read : (o : Bool) (depth : ℕ) (c d : Things) (bytes rest : List ℕ) (n : ℕ) → IsSound c → type_at o depth (bytes, c) ≡ Read (n, (rest, d)) → Grows c d × IsSound d × of.IsType d n × IsType o depth (type_term d n) bytes rest
+type_read o depth c d bytes rest n sound e =
+    let f = (type_exact o depth c).found (bytes, c) bytes n (rest, d) (grows_refl c) sound (λ z g w. refl) e in
     let r = f.3.stands d (grows_refl d) f.3.sound in
-    let spelled : IsType depth (type_term d n) bytes f.1 = subst (λ y. IsType depth y bytes f.1) (sym r.1) f.2 in
-    (f.3.grows, f.3.sound, r.0, subst (λ b. IsType depth (type_term d n) bytes b) (sym (text_now (rest, d) f.1 f.3.sound f.3.agree)) spelled)
+    let spelled : IsType o depth (type_term d n) bytes f.1 = subst (λ y. IsType o depth y bytes f.1) (sym r.1) f.2 in
+    (f.3.grows, f.3.sound, r.0, subst (λ b. IsType o depth (type_term d n) bytes b) (sym (text_now (rest, d) f.1 f.3.sound f.3.agree)) spelled)
 
 abbrev pair : {A : Type 0} → A → Things → List ℕ → Outcome (A × Typed)
 pair x d b = Read (x, (b, d))
 
-pub type_spelled : (depth : ℕ) (c : Things) (bytes rest : List ℕ) (y : TypeTerm) → IsSound c → IsType depth y bytes rest → (type_at depth (bytes, c) ≡ Full) ⊎ ((n : ℕ) × (d : Things) × (type_at depth (bytes, c) ≡ Read (n, (rest, d))) × Grows c d × IsSound d × TypeStands d n y)
-type_spelled depth c bytes rest y sound k = ⊎_elim
-    (λ (e : type_at depth (bytes, c) ≡ Full). inl e)
-    (λ (f : (n : ℕ) × (s : Typed) × (type_at depth (bytes, c) ≡ Read (n, s)) × Step things Same TypeStands (bytes, c) n y s rest).
+pub type_spelled : (o : Bool) (depth : ℕ) (c : Things) (bytes rest : List ℕ) (y : TypeTerm) → IsSound c → IsType o depth y bytes rest → (type_at o depth (bytes, c) ≡ Full) ⊎ ((n : ℕ) × (d : Things) × (type_at o depth (bytes, c) ≡ Read (n, (rest, d))) × Grows c d × IsSound d × TypeStands d n y)
+type_spelled o depth c bytes rest y sound k = ⊎_elim
+    (λ (e : type_at o depth (bytes, c) ≡ Full). inl e)
+    (λ (f : (n : ℕ) × (s : Typed) × (type_at o depth (bytes, c) ≡ Read (n, s)) × Step things Same TypeStands (bytes, c) n y s rest).
     inr (f.0, f.1.1, f.2 ∙ ap (pair f.0 f.1.1) (text_now f.1 rest f.3.sound f.3.agree), f.3.grows, f.3.sound, f.3.stands f.1.1 (grows_refl f.1.1) f.3.sound))
-    ((type_exact depth c).only (bytes, c) bytes y rest (grows_refl c) sound (λ z g w. refl) k)
+    ((type_exact o depth c).only (bytes, c) bytes y rest (grows_refl c) sound (λ z g w. refl) k)
 
 -- ---- and function types
 
@@ -351,22 +361,22 @@ stand_map z xs ys h = (All-from_recursion (of.IsType z) xs (each_below z xs ys h
     terms_are z (x ∷ xs) [] h = absurd h
     terms_are z (x ∷ xs) (y ∷ ys) h = λ i. h.0.1 i ∷ terms_are z xs ys h.1 i
 
-pub function_type_read : (c d : Things) (bytes rest : List ℕ) (x : List ℕ × List ℕ) → IsSound c → function_type_at (bytes, c) ≡ Read (x, (rest, d))
-    → Grows c d × IsSound d × All (of.IsType d) x.0 × All (of.IsType d) x.1 × IsFunctionType (map (type_term d) x.0, map (type_term d) x.1) bytes rest
-function_type_read c d bytes rest x sound e =
-    let f = (function_type_exact c).found (bytes, c) bytes x (rest, d) (grows_refl c) sound (λ z g w. refl) e in
+pub function_type_read : (o : Bool) (c d : Things) (bytes rest : List ℕ) (x : List ℕ × List ℕ) → IsSound c → function_type_at o (bytes, c) ≡ Read (x, (rest, d))
+    → Grows c d × IsSound d × All (of.IsType d) x.0 × All (of.IsType d) x.1 × IsFunctionType o (map (type_term d) x.0, map (type_term d) x.1) bytes rest
+function_type_read o c d bytes rest x sound e =
+    let f = (function_type_exact o c).found (bytes, c) bytes x (rest, d) (grows_refl c) sound (λ z g w. refl) e in
     let r = f.3.stands d (grows_refl d) f.3.sound in
     let ins = stand_map d x.0 f.0.0 r.0 in
     let outs = stand_map d x.1 f.0.1 r.1 in
     let y : List TypeTerm × List TypeTerm = (map (type_term d) x.0, map (type_term d) x.1) in
     let same : f.0 ≡ y = λ i. (sym ins.1 i, sym outs.1 i) in
-    let spelled : IsFunctionType y bytes f.1 = subst (λ y'. IsFunctionType y' bytes f.1) same f.2 in
-    (f.3.grows, f.3.sound, ins.0, outs.0, subst (λ b. IsFunctionType y bytes b) (sym (text_now (rest, d) f.1 f.3.sound f.3.agree)) spelled)
+    let spelled : IsFunctionType o y bytes f.1 = subst (λ y'. IsFunctionType o y' bytes f.1) same f.2 in
+    (f.3.grows, f.3.sound, ins.0, outs.0, subst (λ b. IsFunctionType o y bytes b) (sym (text_now (rest, d) f.1 f.3.sound f.3.agree)) spelled)
 
-pub function_type_spelled : (c : Things) (bytes rest : List ℕ) (y : List TypeTerm × List TypeTerm) → IsSound c → IsFunctionType y bytes rest
-    → (function_type_at (bytes, c) ≡ Full) ⊎ ((x : List ℕ × List ℕ) × (d : Things) × (function_type_at (bytes, c) ≡ Read (x, (rest, d))) × Grows c d × IsSound d × SignatureStands d x y)
-function_type_spelled c bytes rest y sound k = ⊎_elim
-    (λ (e : function_type_at (bytes, c) ≡ Full). inl e)
-    (λ (f : (x : List ℕ × List ℕ) × (s : Typed) × (function_type_at (bytes, c) ≡ Read (x, s)) × Step things Same SignatureStands (bytes, c) x y s rest).
+pub function_type_spelled : (o : Bool) (c : Things) (bytes rest : List ℕ) (y : List TypeTerm × List TypeTerm) → IsSound c → IsFunctionType o y bytes rest
+    → (function_type_at o (bytes, c) ≡ Full) ⊎ ((x : List ℕ × List ℕ) × (d : Things) × (function_type_at o (bytes, c) ≡ Read (x, (rest, d))) × Grows c d × IsSound d × SignatureStands d x y)
+function_type_spelled o c bytes rest y sound k = ⊎_elim
+    (λ (e : function_type_at o (bytes, c) ≡ Full). inl e)
+    (λ (f : (x : List ℕ × List ℕ) × (s : Typed) × (function_type_at o (bytes, c) ≡ Read (x, s)) × Step things Same SignatureStands (bytes, c) x y s rest).
     inr (f.0, f.1.1, f.2 ∙ ap (pair f.0 f.1.1) (text_now f.1 rest f.3.sound f.3.agree), f.3.grows, f.3.sound, f.3.stands f.1.1 (grows_refl f.1.1) f.3.sound))
-    ((function_type_exact c).only (bytes, c) bytes y rest (grows_refl c) sound (λ z g w. refl) k)
+    ((function_type_exact o c).only (bytes, c) bytes y rest (grows_refl c) sound (λ z g w. refl) k)

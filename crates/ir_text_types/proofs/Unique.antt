@@ -1,17 +1,18 @@
 -- Grammars by which a text has one reading.
-use Rattle.std.proofs.Common.{◌≡◌, ℕ, zero, suc, Bool, true, false, List, [], ◌∷◌, ◌++◌, Some, None, sym, ap, subst, ◌∙◌, ◌⊎◌, inl, inr}
+use Rattle.std.proofs.Common.{◌≡◌, ℕ, zero, suc, Bool, true, false, true≢false, ◌&&◌, List, [], ◌∷◌, ◌++◌, Option, Some, None, sym, ap, subst, ◌∙◌, ◌⊎◌, inl, inr}
 use Rattle.std.specs.Str.{bytes_eq}
 use Rattle.std.proofs.lemmas.Option.{some_pair_parts}
 use Rattle.ir_text_tokens.specs.declared.token.Mark.{Mark}
 use Rattle.ir_text_tokens.specs.declared.token.Mark.TheVariants.{OpenRound, CloseRound, Less, Greater, Arrow, Comma}
-use Rattle.ir_text_tokens.specs.Tokens.{Lexeme, mark, bare}
-use Rattle.ir_types.specs.Terms.{TypeTerm, Function, Memref, type_from}
+use Rattle.ir_text_tokens.specs.Tokens.{Lexeme, mark, bare, bang}
+use Rattle.ir_types.specs.Terms.{TypeTerm, Function, Memref, OpaqueType, type_from}
 use Rattle.ir_types.specs.Reasons.{type_fault}
 use Rattle.ir_text_types.specs.Scalars.{scalar_of, memref_word}
+use Rattle.ir_text_types.specs.OpaqueTypes.{is_opaque_word, word_text, dialect_text}
 use Rattle.ir_text_types.specs.ShapeGrammar.{IsShape}
 use Rattle.ir_text_types.specs.TypeReading.{many}
 use Rattle.ir_text_types.specs.Grammars.{Grammar, Then, Done, DoneIf, After, Not, Either, IsMore, IsList, Token, IsMark}
-use Rattle.ir_text_types.specs.TypeGrammar.{types_of, IsScalar, IsMemref, IsWordFrom, IsWordType, IsTypes, IsOutputs, IsSignature, IsFunction, IsType, IsFunctionType}
+use Rattle.ir_text_types.specs.TypeGrammar.{types_of, IsScalar, IsOpaque, IsWordFrom, IsBehind, IsWordType, IsElement, IsMemref, IsTypes, IsOutputs, IsSignature, IsFunction, IsType, IsFunctionType}
 use Rattle.ir_text_types.proofs.ShapeLaws.{dimensions_one}
 
 module _ {T : Type 0} where
@@ -93,25 +94,43 @@ scalar_one t y y' n n' k l =
 shape_one : (room : ℕ) → IsOne (IsShape room)
 shape_one room t y y' n n' k l = dimensions_one y y' t n n' k.1 l.1
 
-memref_one : IsOne IsMemref
-unfolding IsMemref
-memref_one =
-    after_one IsMark mark_one Less _ (then_one (IsShape many) _ (shape_one many) (λ dims. then_one IsScalar _ scalar_one (λ elem.
-    after_one IsMark mark_one Greater _ (done_if_one (type_fault (Memref dims elem) ≡ None) (Memref dims elem)))))
-
-word_one : (b : Bool) (word : List ℕ) → IsOne (IsWordFrom b word)
-word_one true word = memref_one
-word_one false word = λ t y y' n n' k l.
+opaque_one : (found : Option (List ℕ × List ℕ)) (y y' : TypeTerm) (n n' : List ℕ) → IsOpaque found y n → IsOpaque found y' n' → (y ≡ y') × (n ≡ n')
+opaque_one found y y' n n' k l =
     let some : Some k.0 ≡ Some l.0 = sym k.1 ∙ l.1 in
-    let node : k.0 ≡ l.0 = cc (some) in
-    (k.2 ∙ ap (type_from []) node ∙ sym l.2, k.3 ∙ sym l.3)
+    let same : k.0 ≡ l.0 = cc (some) in
+    (k.2 ∙ ap (λ (x : List ℕ × List ℕ). OpaqueType x.0) same ∙ sym l.2, k.3 ∙ ap (λ (x : List ℕ × List ℕ). x.1) same ∙ sym l.3)
 
-word_type_one : IsOne IsWordType
-word_type_one t y y' n n' k l =
-    let e = token_one (bare k.0) (bare l.0) t k.1 l.1 k.2 l.2 in
-    let word : l.0 ≡ k.0 = cc (e.0) in
-    let same = subst (λ w. IsWordFrom (bytes_eq w memref_word) w y' l.1 n') word l.3 in
-    word_one (bytes_eq k.0 memref_word) k.0 k.1 y y' n n' k.3 (subst (λ rest. IsWordFrom (bytes_eq k.0 memref_word) k.0 y' rest n') (sym e.1) same)
+module _ (o : Bool) (M : Grammar (List ℕ) TypeTerm) (inner : IsOne M) where
+  word_one : (b memref : Bool) (word : List ℕ) → IsOne (IsWordFrom M b memref word)
+  word_one true memref word t y y' n n' k l = opaque_one (word_text word t) y y' n n' k l
+  word_one false true word t y y' n n' k l = inner t y y' n n' k l
+  word_one false false word t y y' n n' k l =
+      let some : Some k.0 ≡ Some l.0 = sym k.1 ∙ l.1 in
+      let node : k.0 ≡ l.0 = cc (some) in
+      (k.2 ∙ ap (type_from []) node ∙ sym l.2, k.3 ∙ sym l.3)
+
+  behind_one : (token : Lexeme) → IsOne (IsBehind o M token)
+  behind_one (bare word) t y y' n n' k l = word_one (o && is_opaque_word word t) (bytes_eq word memref_word) word t y y' n n' k l
+  behind_one (bang name) t y y' n n' k l = opaque_one (dialect_text 33 name t) y y' n n' k.1 l.1
+  behind_one _ t y y' n n' k l = absurd k
+
+  pub word_type_one : IsOne (IsWordType o M)
+  word_type_one t y y' n n' k l =
+      let e = token_one k.0 l.0 t k.1 l.1 k.2 l.2 in
+      behind_one k.0 k.1 y y' n n' k.3 (subst (λ rest. IsBehind o M k.0 y' rest n') (sym e.1) (subst (λ token. IsBehind o M token y' l.1 n') (sym e.0) l.3))
+
+  element_one : IsOne (IsElement o M)
+  element_one t y y' n n' (inl k) (inl l) = word_type_one t y y' n n' k.1 l.1
+  element_one t y y' n n' (inl k) (inr l) = absurd (true≢false (sym k.0 ∙ l.0))
+  element_one t y y' n n' (inr k) (inl l) = absurd (true≢false (sym l.0 ∙ k.0))
+  element_one t y y' n n' (inr k) (inr l) = scalar_one t y y' n n' k.1 l.1
+
+memref_one : (o : Bool) (depth : ℕ) → IsOne (IsMemref o depth)
+unfolding IsMemref
+memref_one o zero t y y' n n' k l = absurd k
+memref_one o (suc depth) t y y' n n' k l =
+    after_one IsMark mark_one Less _ (then_one (IsShape many) _ (shape_one many) (λ dims. then_one (IsElement o (IsMemref o depth)) _ (element_one o (IsMemref o depth) (memref_one o depth)) (λ elem.
+    after_one IsMark mark_one Greater _ (done_if_one (type_fault (Memref dims elem) ≡ None) (Memref dims elem))))) t y y' n n' k l
 
 module _ (P : Grammar (List ℕ) TypeTerm) (item : IsOne P) where
   types_one : (room : ℕ) → IsOne (IsTypes P room)
@@ -130,11 +149,12 @@ module _ (P : Grammar (List ℕ) TypeTerm) (item : IsOne P) where
   unfolding IsFunction
   function_one = then_one (IsSignature P many) _ (signature_one many) (λ x. done_if_one (type_fault (Function (types_of x.0) (types_of x.1)) ≡ None) (Function (types_of x.0) (types_of x.1)))
 
-pub type_one : (depth : ℕ) → IsOne (IsType depth)
+pub type_one : (o : Bool) (depth : ℕ) → IsOne (IsType o depth)
 unfolding IsType
-type_one zero t y y' n n' k l = absurd k
-type_one (suc depth) t y y' n n' k l = either_one IsMark mark_one OpenRound (IsFunction (IsType depth)) IsWordType (function_one (IsType depth) (type_one depth)) word_type_one t y y' n n' k l
+type_one o zero t y y' n n' k l = absurd k
+type_one o (suc depth) t y y' n n' k l =
+    either_one IsMark mark_one OpenRound (IsFunction (IsType o depth)) (IsWordType o (IsMemref o (suc depth))) (function_one (IsType o depth) (type_one o depth)) (word_type_one o (IsMemref o (suc depth)) (memref_one o (suc depth))) t y y' n n' k l
 
-pub function_type_one : IsOne IsFunctionType
+pub function_type_one : (o : Bool) → IsOne (IsFunctionType o)
 unfolding IsFunctionType
-function_type_one = after_one IsMark mark_one OpenRound (IsSignature (IsType 32) 256) (signature_one (IsType 32) (type_one 32) 256)
+function_type_one o = after_one IsMark mark_one OpenRound (IsSignature (IsType o 32) 256) (signature_one (IsType o 32) (type_one o 32) 256)

@@ -1,17 +1,18 @@
 -- The grammar of types, in terms of what is spelled. Language Reference, "Type System"; Builtin Dialect,
 -- "Types".
-use Rattle.std.specs.Prelude.{◌≡◌, ℕ, zero, suc, Bool, true, false, List, [], ◌∷◌, Some, None}
+use Rattle.std.specs.Prelude.{◌≡◌, ◌⊎◌, ℕ, zero, suc, Bool, true, false, ◌&&◌, List, [], ◌∷◌, Option, Some, None}
 use Rattle.std.specs.Str.{bytes_eq}
 use Rattle.ir_text_tokens.specs.declared.token.Mark.TheVariants.{OpenRound, CloseRound, Less, Greater, Arrow}
-use Rattle.ir_text_tokens.specs.Tokens.{bare}
+use Rattle.ir_text_tokens.specs.Tokens.{Lexeme, bare, bang}
 use Rattle.ir_types.specs.declared.node.TypeNode.{TypeNode}
 use Rattle.ir_tree.specs.Limits.{most_items}
 use Rattle.ir_types.specs.Limits.{most_depth}
-use Rattle.ir_types.specs.Terms.{TypeTerm, TypeTerms, no_types, next_type, Function, Memref, type_from}
+use Rattle.ir_types.specs.Terms.{TypeTerm, TypeTerms, no_types, next_type, Function, Memref, OpaqueType, type_from}
 use Rattle.ir_types.specs.Reasons.{type_fault}
 use Rattle.ir_text_types.specs.Grammars.{Grammar, Then, Done, DoneIf, After, Either, IsList, Token, IsMark}
 use Rattle.ir_text_types.specs.Typed.{Text}
 use Rattle.ir_text_types.specs.Scalars.{scalar_of, memref_word}
+use Rattle.ir_text_types.specs.OpaqueTypes.{is_opaque_word, word_text, dialect_text}
 use Rattle.ir_text_types.specs.ShapeGrammar.{IsShape}
 use Rattle.ir_text_types.specs.TypeReading.{many}
 
@@ -24,18 +25,41 @@ types_of (t ∷ ts) = next_type t (types_of ts)
 abbrev pub IsScalar : Grammar Text TypeTerm
 IsScalar y old new = (word : List ℕ) × (node : TypeNode) × Token (bare word) old new × (scalar_of word ≡ Some node) × (y ≡ type_from [] node)
 
--- a memref behind its word: dimensions and an element in angle brackets; no dimension is too great
-unfoldable pub IsMemref : Grammar Text TypeTerm
-IsMemref = After IsMark Less (Then (IsShape many) (λ dims. Then IsScalar (λ elem. After IsMark Greater (DoneIf (type_fault (Memref dims elem) ≡ None) (Memref dims elem)))))
+-- a type that is its text, where there is one, with what follows it
+abbrev pub IsOpaque : Option (List ℕ × List ℕ) → TypeTerm → Text → Type 0
+IsOpaque found y new = (x : List ℕ × List ℕ) × (found ≡ Some x) × (y ≡ OpaqueType x.0) × (new ≡ x.1)
 
--- what stands behind a word: of a memref all but the word, and of an integer type and index nothing
-abbrev pub IsWordFrom : Bool → List ℕ → Grammar Text TypeTerm
-IsWordFrom true word y rest new = IsMemref y rest new
-IsWordFrom false word y rest new = (node : TypeNode) × (scalar_of word ≡ Some node) × (y ≡ type_from [] node) × (new ≡ rest)
+-- what stands behind a word: what is kept as it is spelled, of a memref all but the word, which M spells, and of an
+-- integer type and index nothing
+abbrev pub IsWordFrom : Grammar Text TypeTerm → Bool → Bool → List ℕ → Grammar Text TypeTerm
+IsWordFrom M true memref word y rest new = IsOpaque (word_text word rest) y new
+IsWordFrom M false true word y rest new = M y rest new
+IsWordFrom M false false word y rest new = (node : TypeNode) × (scalar_of word ≡ Some node) × (y ≡ type_from [] node) × (new ≡ rest)
 
--- a type that begins with a word
-abbrev pub IsWordType : Grammar Text TypeTerm
-IsWordType y old new = (word : List ℕ) × (rest : List ℕ) × Token (bare word) old rest × IsWordFrom (bytes_eq word memref_word) word y rest new
+-- types that begin with a word or with the name of a dialect; `opaque` tells whether those that aren't known are
+-- spelled by their texts
+module _ (opaque : Bool) where
+  -- M spells a memref behind its word
+  module _ (M : Grammar Text TypeTerm) where
+    abbrev pub IsBehind : Lexeme → Grammar Text TypeTerm
+    IsBehind (bare word) y rest new = IsWordFrom M (opaque && is_opaque_word word rest) (bytes_eq word memref_word) word y rest new
+    IsBehind (bang name) y rest new = (opaque ≡ true) × IsOpaque (dialect_text 33 name rest) y new
+    IsBehind _ y rest new = ⊥
+
+    -- a type that is no function type
+    abbrev pub IsWordType : Grammar Text TypeTerm
+    IsWordType y old new = (token : Lexeme) × (rest : List ℕ) × Token token old rest × IsBehind token y rest new
+
+    -- the element of a memref: an integer type or index, unless types are spelled by their texts
+    abbrev pub IsElement : Grammar Text TypeTerm
+    IsElement y old new = ((opaque ≡ true) × IsWordType y old new) ⊎ ((opaque ≡ false) × IsScalar y old new)
+
+  -- a memref behind its word: dimensions and an element in angle brackets; no dimension is too great. At most so many
+  -- memrefs stand within each other
+  unfoldable pub IsMemref : ℕ → Grammar Text TypeTerm
+  IsMemref zero y old new = ⊥
+  IsMemref (suc depth) y old new =
+      After IsMark Less (Then (IsShape many) (λ dims. Then (IsElement (IsMemref depth)) (λ elem. After IsMark Greater (DoneIf (type_fault (Memref dims elem) ≡ None) (Memref dims elem))))) y old new
 
 module _ (P : Grammar Text TypeTerm) where
   -- types up to a closing parenthesis, at most so many
@@ -54,11 +78,12 @@ module _ (P : Grammar Text TypeTerm) where
   unfoldable pub IsFunction : Grammar Text TypeTerm
   IsFunction = Then (IsSignature many) (λ x. DoneIf (type_fault (Function (types_of x.0) (types_of x.1)) ≡ None) (Function (types_of x.0) (types_of x.1)))
 
--- a type of at most that depth
-unfoldable pub IsType : ℕ → Grammar Text TypeTerm
-IsType zero y old new = ⊥
-IsType (suc depth) y old new = Either IsMark OpenRound (IsFunction (IsType depth)) IsWordType y old new
+module _ (opaque : Bool) where
+  -- a type of at most that depth
+  unfoldable pub IsType : ℕ → Grammar Text TypeTerm
+  IsType zero y old new = ⊥
+  IsType (suc depth) y old new = Either IsMark OpenRound (IsFunction (IsType depth)) (IsWordType opaque (IsMemref opaque (suc depth))) y old new
 
--- the function type of an operation, with at most as many outputs as it may have results
-unfoldable pub IsFunctionType : Grammar Text (List TypeTerm × List TypeTerm)
-IsFunctionType = After IsMark OpenRound (IsSignature (IsType most_depth) most_items)
+  -- the function type of an operation, with at most as many outputs as it may have results
+  unfoldable pub IsFunctionType : Grammar Text (List TypeTerm × List TypeTerm)
+  IsFunctionType = After IsMark OpenRound (IsSignature (IsType most_depth) most_items)

@@ -1,18 +1,19 @@
 -- Reading types into numbers of a context.
-use Rattle.std.specs.Prelude.{ℕ, zero, suc, Bool, true, false, List, [], ◌∷◌, Option, Some, None}
+use Rattle.std.specs.Prelude.{ℕ, zero, suc, Bool, true, false, ◌&&◌, if◌then◌else◌, List, [], ◌∷◌, Option, Some, None}
 use Rattle.std.specs.Str.{bytes_eq}
 use Rattle.ir_text_tokens.specs.declared.token.Mark.TheVariants.{OpenRound, CloseRound, Less, Greater, Arrow}
 use Rattle.ir_text_tokens.specs.Limits.{most_bytes}
-use Rattle.ir_text_tokens.specs.Tokens.{Lexeme, bare, next}
+use Rattle.ir_text_tokens.specs.Tokens.{Lexeme, bare, bang, next}
 use Rattle.ir_tree.specs.Limits.{most_items}
 use Rattle.ir_types.specs.declared.node.TypeNode.{TypeNode}
-use Rattle.ir_types.specs.declared.node.TypeNode.TheVariants.{Func, Memref}
+use Rattle.ir_types.specs.declared.node.TypeNode.TheVariants.{Func, Memref, Opaque}
 use Rattle.ir_types.specs.Limits.{most_depth}
 use Rattle.ir_types.specs.Things.{Things}
 use Rattle.ir_text_types.specs.Outcomes.{Outcome, Read, Wrong, ◌>>=◌, of_option, Parse}
 use Rattle.ir_text_types.specs.Lists.{list_at}
 use Rattle.ir_text_types.specs.Typed.{Typed, after_typed, type_step}
 use Rattle.ir_text_types.specs.Scalars.{scalar_of, memref_word}
+use Rattle.ir_text_types.specs.OpaqueTypes.{is_opaque_word, word_text, dialect_text}
 use Rattle.ir_text_types.specs.ShapeReading.{dimensions_at}
 
 -- the most items of a list that has no limit of its own: no text has more
@@ -40,27 +41,43 @@ scalar_at s = of_option (next s.0) >>= λ t. scalar_from s.1 t.0 t.1
 abbrev pub shape_at : Parse Typed (List (Option ℕ))
 shape_at s = of_option (dimensions_at many [] s.0) >>= λ x. Read (x.0, (x.1, s.1))
 
--- a memref behind its word
-unfoldable pub memref_at : Parse Typed ℕ
-memref_at s = do
-  a ← of_option (after_typed Less s)
-  dims ← shape_at a
-  elem ← scalar_at dims.1
-  c ← of_option (after_typed Greater elem.1)
-  type_done (Memref dims.0 elem.0) c
+-- a type that is its text, where there is one
+abbrev pub opaque_done : Option (List ℕ × List ℕ) → Things → Outcome (ℕ × Typed)
+opaque_done found c = of_option found >>= λ x. type_done (Opaque x.0) (x.1, c)
 
--- a memref, an integer type or index, behind its word
-abbrev pub word_from : Bool → List ℕ → Parse Typed ℕ
-word_from true word s = memref_at s
-word_from false word s = scalar_done word s
+-- behind a word: the text of a type that is kept as it is spelled, a memref, which m reads, or an integer type or index
+abbrev pub word_from : Parse Typed ℕ → Bool → Bool → List ℕ → List ℕ → Things → Outcome (ℕ × Typed)
+word_from m true memref word rest c = opaque_done (word_text word rest) c
+word_from m false true word rest c = m (rest, c)
+word_from m false false word rest c = scalar_done word (rest, c)
 
-abbrev pub word_type_from : Things → Lexeme → List ℕ → Outcome (ℕ × Typed)
-word_type_from c (bare word) rest = word_from (bytes_eq word memref_word) word (rest, c)
-word_type_from c _ rest = Wrong
+-- types that begin with a word or with the name of a dialect; `opaque` tells whether those that aren't known are read
+-- as their texts
+module _ (opaque : Bool) where
+  -- m reads a memref behind its word
+  module _ (m : Parse Typed ℕ) where
+    abbrev pub word_type_from : Things → Lexeme → List ℕ → Outcome (ℕ × Typed)
+    word_type_from c (bare word) rest = word_from m (opaque && is_opaque_word word rest) (bytes_eq word memref_word) word rest c
+    word_type_from c (bang name) rest = if opaque then opaque_done (dialect_text 33 name rest) c else Wrong
+    word_type_from c _ rest = Wrong
 
--- a type that begins with a word
-unfoldable pub word_type_at : Parse Typed ℕ
-word_type_at s = of_option (next s.0) >>= λ t. word_type_from s.1 t.0 t.1
+    -- a type that is no function type
+    unfoldable pub word_type_at : Parse Typed ℕ
+    word_type_at s = of_option (next s.0) >>= λ t. word_type_from s.1 t.0 t.1
+
+    -- the element of a memref: an integer type or index, unless types are read as their texts
+    abbrev pub element_at : Parse Typed ℕ
+    element_at s = if opaque then word_type_at s else scalar_at s
+
+  -- a memref behind its word, with at most so many memrefs within each other
+  unfoldable pub memref_at : ℕ → Parse Typed ℕ
+  memref_at zero s = Wrong
+  memref_at (suc depth) s = do
+    a ← of_option (after_typed Less s)
+    dims ← shape_at a
+    elem ← element_at (memref_at depth) dims.1
+    c ← of_option (after_typed Greater elem.1)
+    type_done (Memref dims.0 elem.0) c
 
 module _ (p : Parse Typed ℕ) where
   -- types up to a closing parenthesis, at most so many
@@ -88,17 +105,19 @@ module _ (p : Parse Typed ℕ) where
     x ← signature_at many s
     type_done (Func x.0.0 x.0.1) x.1
 
-abbrev pub type_from : Parse Typed ℕ → Typed → Option Typed → Outcome (ℕ × Typed)
-type_from p s (Some c) = function_at p c
-type_from p s None = word_type_at s
+-- p reads the parts of a function type, and q another type
+abbrev pub type_from : Parse Typed ℕ → Parse Typed ℕ → Typed → Option Typed → Outcome (ℕ × Typed)
+type_from p q s (Some c) = function_at p c
+type_from p q s None = q s
 
--- a type of at most that depth
-unfoldable pub type_at : ℕ → Parse Typed ℕ
-type_at zero s = Wrong
-type_at (suc depth) s = type_from (type_at depth) s (after_typed OpenRound s)
+module _ (opaque : Bool) where
+  -- a type of at most that depth
+  unfoldable pub type_at : ℕ → Parse Typed ℕ
+  type_at zero s = Wrong
+  type_at (suc depth) s = type_from (type_at depth) (word_type_at opaque (memref_at opaque (suc depth))) s (after_typed OpenRound s)
 
--- the function type of an operation, with at most as many outputs as it may have results
-unfoldable pub function_type_at : Parse Typed (List ℕ × List ℕ)
-function_type_at s = do
-  c ← of_option (after_typed OpenRound s)
-  signature_at (type_at most_depth) most_items c
+  -- the function type of an operation, with at most as many outputs as it may have results
+  unfoldable pub function_type_at : Parse Typed (List ℕ × List ℕ)
+  function_type_at s = do
+    c ← of_option (after_typed OpenRound s)
+    signature_at (type_at most_depth) most_items c

@@ -1,6 +1,6 @@
 //! Laws of reading. A context is given by what it holds, and a reading by its definition, which the
 //! contracts of the functions that read name.
-ghost use Rattle.std.specs.Prelude.{◌≡◌, ◌⊎◌, ℕ, List, map};
+ghost use Rattle.std.specs.Prelude.{◌≡◌, ◌⊎◌, ℕ, Bool, List, map};
 ghost use Rattle.std.specs.List.{All};
 ghost use Rattle.ir_types.specs.Sound.{IsSound};
 ghost use Rattle.ir_types.specs.Terms.{TypeTerm, type_term};
@@ -12,21 +12,22 @@ ghost use Rattle.ir_text_types.specs.TypeGrammar.{IsType, IsFunctionType};
 ghost use Rattle.ir_text_types.specs.TypeReading.{type_at, function_type_at};
 
 /// A type that is read is spelled by the grammar, as the grown context has it; and each type that is
-/// spelled is read, unless the context grows full on the way.
+/// spelled is read, unless the context grows full on the way. So it is where unknown types are read as
+/// their texts, and where they aren't.
 pub fn types_are_read_as_spelled()
-    ensures found { (depth : ℕ) (c d : Things) (bytes rest : List ℕ) (n : ℕ) → IsSound c → type_at depth (bytes, c) ≡ Read (n, (rest, d)) → Grows c d × IsSound d × IsTypeOf d n × IsType depth (type_term d n) bytes rest }
-    ensures only { (depth : ℕ) (c : Things) (bytes rest : List ℕ) (y : TypeTerm) → IsSound c → IsType depth y bytes rest → (type_at depth (bytes, c) ≡ Full) ⊎ ((n : ℕ) × (d : Things) × (type_at depth (bytes, c) ≡ Read (n, (rest, d))) × Grows c d × IsSound d × TypeStands d n y) }
+    ensures found { (o : Bool) (depth : ℕ) (c d : Things) (bytes rest : List ℕ) (n : ℕ) → IsSound c → type_at o depth (bytes, c) ≡ Read (n, (rest, d)) → Grows c d × IsSound d × IsTypeOf d n × IsType o depth (type_term d n) bytes rest }
+    ensures only { (o : Bool) (depth : ℕ) (c : Things) (bytes rest : List ℕ) (y : TypeTerm) → IsSound c → IsType o depth y bytes rest → (type_at o depth (bytes, c) ≡ Full) ⊎ ((n : ℕ) × (d : Things) × (type_at o depth (bytes, c) ≡ Read (n, (rest, d))) × Grows c d × IsSound d × TypeStands d n y) }
 {}
 
 /// A function type that is read is spelled by the grammar, as the grown context has it; and each
 /// function type that is spelled is read, unless the context grows full on the way.
 pub fn function_types_are_read_as_spelled()
-    ensures found { (c d : Things) (bytes rest : List ℕ) (x : List ℕ × List ℕ) → IsSound c → function_type_at (bytes, c) ≡ Read (x, (rest, d)) → Grows c d × IsSound d × All (IsTypeOf d) x.0 × All (IsTypeOf d) x.1 × IsFunctionType (map (type_term d) x.0, map (type_term d) x.1) bytes rest }
-    ensures only { (c : Things) (bytes rest : List ℕ) (y : List TypeTerm × List TypeTerm) → IsSound c → IsFunctionType y bytes rest → (function_type_at (bytes, c) ≡ Full) ⊎ ((x : List ℕ × List ℕ) × (d : Things) × (function_type_at (bytes, c) ≡ Read (x, (rest, d))) × Grows c d × IsSound d × SignatureStands d x y) }
+    ensures found { (o : Bool) (c d : Things) (bytes rest : List ℕ) (x : List ℕ × List ℕ) → IsSound c → function_type_at o (bytes, c) ≡ Read (x, (rest, d)) → Grows c d × IsSound d × All (IsTypeOf d) x.0 × All (IsTypeOf d) x.1 × IsFunctionType o (map (type_term d) x.0, map (type_term d) x.1) bytes rest }
+    ensures only { (o : Bool) (c : Things) (bytes rest : List ℕ) (y : List TypeTerm × List TypeTerm) → IsSound c → IsFunctionType o y bytes rest → (function_type_at o (bytes, c) ≡ Full) ⊎ ((x : List ℕ × List ℕ) × (d : Things) × (function_type_at o (bytes, c) ≡ Read (x, (rest, d))) × Grows c d × IsSound d × SignatureStands d x y) }
 {}
 
 /// A text spells at most one type at its front, and leaves one rest; so it is with function types.
 pub fn types_have_one_reading()
-    ensures ty { (depth : ℕ) (bytes rest other : List ℕ) (y z : TypeTerm) → IsType depth y bytes rest → IsType depth z bytes other → (y ≡ z) × (rest ≡ other) }
-    ensures function { (bytes rest other : List ℕ) (y z : List TypeTerm × List TypeTerm) → IsFunctionType y bytes rest → IsFunctionType z bytes other → (y ≡ z) × (rest ≡ other) }
+    ensures ty { (o : Bool) (depth : ℕ) (bytes rest other : List ℕ) (y z : TypeTerm) → IsType o depth y bytes rest → IsType o depth z bytes other → (y ≡ z) × (rest ≡ other) }
+    ensures function { (o : Bool) (bytes rest other : List ℕ) (y z : List TypeTerm × List TypeTerm) → IsFunctionType o y bytes rest → IsFunctionType o z bytes other → (y ≡ z) × (rest ≡ other) }
 {}

@@ -5,6 +5,7 @@
 pub mod error;
 pub mod full;
 pub mod laws;
+pub mod opaque;
 pub mod scalars;
 mod shapes;
 pub mod steps;

@@ -1,17 +1,22 @@
 //! Types. Language Reference, "Type System"; Builtin Dialect, "Types".
-ghost use Rattle.std.specs.Prelude.{◌≡◌, ◌∷◌, [], IfOk, option_map};
+ghost use Rattle.std.specs.Prelude.{◌≡◌, ◌∷◌, ◌&&◌, [], IfOk, option_map};
 ghost use Rattle.std.specs.List.{All};
 ghost use Rattle.ir_types.specs.Things.{Things, IsType, TypeIsOf, Grows};
 ghost use Rattle.ir_text_tokens.specs.declared.token.Mark.TheVariants.{Greater};
 ghost use Rattle.ir_text_tokens.specs.Tokens.{lexeme_of};
+ghost use Rattle.std.specs.Str.{bytes_eq};
+ghost use Rattle.ir_text_types.specs.OpaqueTypes.{dialect_text, is_opaque_word, word_text};
+ghost use Rattle.ir_text_types.specs.Scalars.{memref_word};
 ghost use Rattle.ir_text_types.specs.Outcomes.{Gives, of_option};
 ghost use Rattle.ir_text_types.specs.Marks.{after};
-ghost use Rattle.ir_text_types.specs.TypeReading.{type_done, scalar_done, scalar_at, memref_at, word_type_at, types_at, outputs_at, signature_at, function_at, type_at, function_type_at, many};
+ghost use Rattle.ir_text_types.specs.TypeReading.{type_done, scalar_done, scalar_at, opaque_done, word_from, word_type_at, element_at, memref_at, types_at, outputs_at, signature_at, function_at, type_at, function_type_at, many};
 
 use crate::error::{ReadError, wrong};
+use crate::opaque::{dialect_text, is_opaque_word, word_text};
 use crate::scalars::{is_memref, scalar_of, word_refusal};
 use crate::shapes::dimensions;
 use crate::steps::{self, after, expect, token};
+use ir_text_tokens::fault::Fault;
 use ir_text_tokens::limits::MOST_BYTES;
 use ir_text_tokens::refusal::TextRefusal;
 use ir_text_tokens::token::{Mark, Token};
@@ -60,11 +65,11 @@ fn scalar<'a>(
     }
 }
 
-/// The element of a memref: a type that is one word.
+/// The element of a memref where all types are known: one that is one word.
 ///
 /// Refusals: `BadWidth`; `LeftOut` where another type begins, or a `*`; else `Unexpected`.
 #[tactic(auto, using(ir_types::proofs::Growth::grows_refl, ir_types::proofs::Growth::grows_trans), unfolding(crate::specs::TypeReading::scalar_at))]
-fn element<'a>(ctx: &mut Context, bytes: &'a [u8]) -> Result<(TypeId, &'a [u8]), ReadError>
+fn known_element<'a>(ctx: &mut Context, bytes: &'a [u8]) -> Result<(TypeId, &'a [u8]), ReadError>
     ensures reads { Gives (λ x. (x.0, (x.1.now, ctx.new))) result (scalar_at (bytes.now, ctx.old)) }
     ensures grows { Grows ctx.old ctx.new }
 {
@@ -85,27 +90,69 @@ fn closed(bytes: &[u8]) -> Result<&[u8], ReadError>
     }
 }
 
+/// A type that begins with a word and is kept as it is spelled.
+#[tactic(auto, using(ir_types::proofs::Growth::grows_refl, ir_types::proofs::Growth::grows_trans))]
+fn opaque_word<'a>(
+    alloc: Global,
+    ctx: &mut Context,
+    word: &[u8],
+    rest: &'a [u8],
+) -> Result<(TypeId, &'a [u8]), ReadError>
+    ensures reads { Gives (λ x. (x.0, (x.1.now, ctx.new))) result (opaque_done (word_text word.now rest.now) ctx.old) }
+    ensures grows { Grows ctx.old ctx.new }
+{
+    match word_text(alloc, word, rest) {
+        Ok((text, rest)) => kept(ctx, TypeNode::Opaque(text), rest),
+        Err(e) => Err(e),
+    }
+}
+
+/// A type that begins with the name of a dialect, which stands at `start` with its sign.
+#[tactic(auto, using(ir_types::proofs::Growth::grows_refl, ir_types::proofs::Growth::grows_trans))]
+fn dialect_type<'a>(
+    alloc: Global,
+    ctx: &mut Context,
+    name: &[u8],
+    start: &[u8],
+    rest: &'a [u8],
+) -> Result<(TypeId, &'a [u8]), ReadError>
+    ensures reads { Gives (λ x. (x.0, (x.1.now, ctx.new))) result (opaque_done (dialect_text 33 name.now rest.now) ctx.old) }
+    ensures grows { Grows ctx.old ctx.new }
+{
+    match dialect_text(alloc, b'!', name, start, rest) {
+        Ok((text, rest)) => kept(ctx, TypeNode::Opaque(text), rest),
+        Err(e) => Err(e),
+    }
+}
+
 /// A memref behind its word: dimensions and an element in angle brackets (Builtin Dialect,
-/// "MemRefType").
+/// "MemRefType"), with at most so many memrefs within each other. Its word stands at `start`.
 ///
 /// Refusals: `Unexpected`; `BadValue` at a dimension that is too great; those of the element;
-/// `LeftOut` at a comma behind it.
+/// `LeftOut` at a comma behind it; `TooDeep`.
+#[cycle(words)]
 #[tactic(auto, using(ir_types::proofs::Growth::grows_refl, ir_types::proofs::Growth::grows_trans), unfolding(crate::specs::TypeReading::memref_at))]
 fn memref<'a>(
     alloc: Global,
     ctx: &mut Context,
+    start: &[u8],
     bytes: &'a [u8],
+    opaque: bool,
+    depth: u32,
 ) -> Result<(TypeId, &'a [u8]), ReadError>
-    ensures reads { Gives (λ x. (x.0, (x.1.now, ctx.new))) result (memref_at (bytes.now, ctx.old)) }
+    ensures reads { Gives (λ x. (x.0, (x.1.now, ctx.new))) result (memref_at opaque depth (bytes.now, ctx.old)) }
     ensures grows { Grows ctx.old ctx.new }
 {
     ctx.sound();
+    if depth == 0 {
+        return Err(ReadError::Refused(wrong(TextRefusal::TooDeep, start)));
+    }
     let rest = expect(bytes, Mark::Less)?;
     let (dims, rest) = match dimensions(alloc, rest) {
         Ok(found) => found,
         Err(e) => return Err(e),
     };
-    let (elem, rest) = match element(ctx, rest) {
+    let (elem, rest) = match element(alloc, ctx, rest, opaque, depth - 1) {
         Ok(found) => found,
         Err(e) => return Err(e),
     };
@@ -117,24 +164,76 @@ fn memref<'a>(
     kept(ctx, node, rest)
 }
 
-/// A type that begins with a word: a memref, an integer type or index.
-#[inline(always)]
+/// The element of a memref.
+#[cycle(words)]
+#[tactic(auto, using(ir_types::proofs::Growth::grows_refl, ir_types::proofs::Growth::grows_trans))]
+fn element<'a>(
+    alloc: Global,
+    ctx: &mut Context,
+    bytes: &'a [u8],
+    opaque: bool,
+    depth: u32,
+) -> Result<(TypeId, &'a [u8]), ReadError>
+    ensures reads { Gives (λ x. (x.0, (x.1.now, ctx.new))) result (element_at opaque (memref_at opaque depth) (bytes.now, ctx.old)) }
+    ensures grows { Grows ctx.old ctx.new }
+{
+    if !opaque {
+        return known_element(ctx, bytes);
+    }
+    match word_type(alloc, ctx, bytes, opaque, depth) {
+        Ok(found) => Ok(found),
+        Err(ReadError::Refused(fault)) => Err(ReadError::Refused(element_fault(fault, bytes))),
+        Err(e) => Err(e),
+    }
+}
+
+/// What stands behind a word, which stands at `start`: a type that is kept as it is spelled, a memref, an integer type
+/// or index.
+#[cycle(words)]
+#[tactic(auto, using(ir_types::proofs::Growth::grows_refl, ir_types::proofs::Growth::grows_trans))]
+fn behind_word<'a>(
+    alloc: Global,
+    ctx: &mut Context,
+    word: &[u8],
+    start: &[u8],
+    rest: &'a [u8],
+    opaque: bool,
+    depth: u32,
+) -> Result<(TypeId, &'a [u8]), ReadError>
+    ensures reads { Gives (λ x. (x.0, (x.1.now, ctx.new))) result (word_from (memref_at opaque depth) (opaque && is_opaque_word word.now rest.now) (bytes_eq word.now memref_word) word.now rest.now ctx.old) }
+    ensures grows { Grows ctx.old ctx.new }
+{
+    if opaque && is_opaque_word(word, rest) {
+        return opaque_word(alloc, ctx, word, rest);
+    }
+    if is_memref(word) {
+        memref(alloc, ctx, start, rest, opaque, depth)
+    } else {
+        scalar(ctx, word, start, rest)
+    }
+}
+
+/// A type that is no function type: a memref, an integer type, index, or one that is kept as it is spelled.
+#[cycle(words)]
 #[tactic(auto, using(ir_types::proofs::Growth::grows_refl, ir_types::proofs::Growth::grows_trans), unfolding(crate::specs::TypeReading::word_type_at))]
 fn word_type<'a>(
     alloc: Global,
     ctx: &mut Context,
     bytes: &'a [u8],
+    opaque: bool,
+    depth: u32,
 ) -> Result<(TypeId, &'a [u8]), ReadError>
-    ensures reads { Gives (λ x. (x.0, (x.1.now, ctx.new))) result (word_type_at (bytes.now, ctx.old)) }
+    ensures reads { Gives (λ x. (x.0, (x.1.now, ctx.new))) result (word_type_at opaque (memref_at opaque depth) (bytes.now, ctx.old)) }
     ensures grows { Grows ctx.old ctx.new }
 {
     let (found, rest) = token(bytes)?;
     match found {
-        Token::Bare(word) => {
-            if is_memref(word) {
-                memref(alloc, ctx, rest)
+        Token::Bare(word) => behind_word(alloc, ctx, word, bytes, rest, opaque, depth),
+        Token::Bang(name) => {
+            if opaque {
+                dialect_type(alloc, ctx, name, bytes, rest)
             } else {
-                scalar(ctx, word, bytes, rest)
+                Err(ReadError::Refused(wrong(TextRefusal::LeftOut, bytes)))
             }
         }
         _ => Err(ReadError::Refused(wrong(token_refusal(&found), bytes))),
@@ -161,6 +260,15 @@ fn element_refusal(found: &Token<'_>) -> TextRefusal {
     }
 }
 
+/// The fault of an element: a function type is left out, and so are sizes that aren't known.
+fn element_fault(fault: Fault, bytes: &[u8]) -> Fault {
+    if after(bytes, Mark::OpenRound).is_some() || after(bytes, Mark::Star).is_some() {
+        wrong(TextRefusal::LeftOut, bytes)
+    } else {
+        fault
+    }
+}
+
 /// Why a memref isn't closed behind its element.
 fn closing_refusal(bytes: &[u8]) -> TextRefusal {
     match after(bytes, Mark::Comma) {
@@ -176,10 +284,11 @@ fn types<'a>(
     alloc: Global,
     ctx: &mut Context,
     bytes: &'a [u8],
+    opaque: bool,
     depth: u32,
     room: usize,
 ) -> Result<(Vec<TypeId>, &'a [u8]), ReadError>
-    ensures reads { Gives (λ x. (x.0.items, (x.1.now, ctx.new))) result (types_at (type_at depth) room (bytes.now, ctx.old)) }
+    ensures reads { Gives (λ x. (x.0.items, (x.1.now, ctx.new))) result (types_at (type_at opaque depth) room (bytes.now, ctx.old)) }
     ensures grows { Grows ctx.old ctx.new }
 {
     let mut items = Vec::new(alloc);
@@ -188,7 +297,7 @@ fn types<'a>(
     }
     let mut rest = bytes;
     'items: for _ in 0..room {
-        let (item, tail) = match ty(alloc, ctx, rest, depth) {
+        let (item, tail) = match ty(alloc, ctx, rest, opaque, depth) {
             Ok(found) => found,
             Err(e) => return Err(e),
         };
@@ -198,7 +307,7 @@ fn types<'a>(
         }
         rest = expect(tail, Mark::Comma)?;
     }
-    Err(ReadError::Refused(wrong(past_refusal(rest, TextRefusal::TooMany), rest)))
+    Err(ReadError::Refused(wrong(past_refusal(rest, opaque, TextRefusal::TooMany), rest)))
 }
 
 fn one(alloc: Global, item: TypeId) -> Result<Vec<TypeId>, AllocError>
@@ -216,16 +325,17 @@ fn outputs<'a>(
     alloc: Global,
     ctx: &mut Context,
     bytes: &'a [u8],
+    opaque: bool,
     depth: u32,
     room: usize,
 ) -> Result<(Vec<TypeId>, &'a [u8]), ReadError>
-    ensures reads { Gives (λ x. (x.0.items, (x.1.now, ctx.new))) result (outputs_at (type_at depth) room (bytes.now, ctx.old)) }
+    ensures reads { Gives (λ x. (x.0.items, (x.1.now, ctx.new))) result (outputs_at (type_at opaque depth) room (bytes.now, ctx.old)) }
     ensures grows { Grows ctx.old ctx.new }
 {
     if let Some(rest) = after(bytes, Mark::OpenRound) {
-        return types(alloc, ctx, rest, depth, room);
+        return types(alloc, ctx, rest, opaque, depth, room);
     }
-    let (item, rest) = match ty(alloc, ctx, bytes, depth) {
+    let (item, rest) = match ty(alloc, ctx, bytes, opaque, depth) {
         Ok(found) => found,
         Err(e) => return Err(e),
     };
@@ -240,18 +350,19 @@ fn signature<'a>(
     alloc: Global,
     ctx: &mut Context,
     bytes: &'a [u8],
+    opaque: bool,
     depth: u32,
     room: usize,
 ) -> Result<((Vec<TypeId>, Vec<TypeId>), &'a [u8]), ReadError>
-    ensures reads { Gives (λ x. ((x.0.0.items, x.0.1.items), (x.1.now, ctx.new))) result (signature_at (type_at depth) room (bytes.now, ctx.old)) }
+    ensures reads { Gives (λ x. ((x.0.0.items, x.0.1.items), (x.1.now, ctx.new))) result (signature_at (type_at opaque depth) room (bytes.now, ctx.old)) }
     ensures grows { Grows ctx.old ctx.new }
 {
-    let (inputs, rest) = match types(alloc, ctx, bytes, depth, MANY) {
+    let (inputs, rest) = match types(alloc, ctx, bytes, opaque, depth, MANY) {
         Ok(found) => found,
         Err(e) => return Err(e),
     };
     let rest = expect(rest, Mark::Arrow)?;
-    let (outputs, rest) = match outputs(alloc, ctx, rest, depth, room) {
+    let (outputs, rest) = match outputs(alloc, ctx, rest, opaque, depth, room) {
         Ok(found) => found,
         Err(e) => return Err(e),
     };
@@ -265,13 +376,14 @@ fn function<'a>(
     alloc: Global,
     ctx: &mut Context,
     bytes: &'a [u8],
+    opaque: bool,
     depth: u32,
 ) -> Result<(TypeId, &'a [u8]), ReadError>
-    ensures reads { Gives (λ x. (x.0, (x.1.now, ctx.new))) result (function_at (type_at depth) (bytes.now, ctx.old)) }
+    ensures reads { Gives (λ x. (x.0, (x.1.now, ctx.new))) result (function_at (type_at opaque depth) (bytes.now, ctx.old)) }
     ensures grows { Grows ctx.old ctx.new }
 {
     ctx.sound();
-    let ((inputs, outputs), rest) = match signature(alloc, ctx, bytes, depth, MANY) {
+    let ((inputs, outputs), rest) = match signature(alloc, ctx, bytes, opaque, depth, MANY) {
         Ok(found) => found,
         Err(e) => return Err(e),
     };
@@ -293,24 +405,29 @@ pub fn ty<'a>(
     alloc: Global,
     ctx: &mut Context,
     bytes: &'a [u8],
+    opaque: bool,
     depth: u32,
 ) -> Result<(TypeId, &'a [u8]), ReadError>
-    ensures reads { Gives (λ x. (x.0, (x.1.now, ctx.new))) result (type_at depth (bytes.now, ctx.old)) }
+    ensures reads { Gives (λ x. (x.0, (x.1.now, ctx.new))) result (type_at opaque depth (bytes.now, ctx.old)) }
     ensures grows { Grows ctx.old ctx.new }
 {
     if depth == 0 {
-        return Err(ReadError::Refused(wrong(past_refusal(bytes, TextRefusal::TooDeep), bytes)));
+        return Err(ReadError::Refused(wrong(
+            past_refusal(bytes, opaque, TextRefusal::TooDeep),
+            bytes,
+        )));
     }
     match after(bytes, Mark::OpenRound) {
-        Some(rest) => function(alloc, ctx, rest, depth - 1),
-        None => word_type(alloc, ctx, bytes),
+        Some(rest) => function(alloc, ctx, rest, opaque, depth - 1),
+        None => word_type(alloc, ctx, bytes, opaque, depth),
     }
 }
 
 /// Why no type may begin here: it is past a limit, where one begins.
-fn past_refusal(bytes: &[u8], limit: TextRefusal) -> TextRefusal {
+fn past_refusal(bytes: &[u8], opaque: bool, limit: TextRefusal) -> TextRefusal {
     match token(bytes) {
         Ok((Token::Bare(_), _)) => limit,
+        Ok((Token::Bang(_), _)) if opaque => limit,
         Ok((Token::Mark(Mark::OpenRound), _)) => limit,
         Ok((found, _)) => token_refusal(&found),
         Err(_) => TextRefusal::Unexpected,
@@ -323,10 +440,11 @@ pub fn function_type<'a>(
     alloc: Global,
     ctx: &mut Context,
     bytes: &'a [u8],
+    opaque: bool,
 ) -> Result<((Vec<TypeId>, Vec<TypeId>), &'a [u8]), ReadError>
-    ensures reads { Gives (λ x. ((x.0.0.items, x.0.1.items), (x.1.now, ctx.new))) result (function_type_at (bytes.now, ctx.old)) }
+    ensures reads { Gives (λ x. ((x.0.0.items, x.0.1.items), (x.1.now, ctx.new))) result (function_type_at opaque (bytes.now, ctx.old)) }
     ensures grows { Grows ctx.old ctx.new }
 {
     let rest = expect(bytes, Mark::OpenRound)?;
-    signature(alloc, ctx, rest, MOST_DEPTH, MOST_ITEMS)
+    signature(alloc, ctx, rest, opaque, MOST_DEPTH, MOST_ITEMS)
 }

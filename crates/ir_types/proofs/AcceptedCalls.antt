@@ -83,6 +83,7 @@ kept_in_order c (attr.Array items) apart of_c few once = tt
 kept_in_order c (attr.Sym parts) apart of_c few once = tt
 kept_in_order c (attr.Dense elem values) apart of_c few once = tt
 kept_in_order c (attr.Overflow nsw nuw) apart of_c few once = tt
+kept_in_order c (attr.Opaque text ty) apart of_c few once = tt
 
 -- a call against which no reason stands keeps a context sound
 pub accepted_name : (bytes : List ℕ) (c : Things) → IsSound c → name_reason bytes c ≡ None → IsSound (with_name bytes c).1

@@ -1,5 +1,5 @@
 -- A context begins with the words.
-use Rattle.std.proofs.Common.{◌≡◌, ◌∙◌, refl, sym, ap, subst, ℕ, zero, suc, ◌+◌, cond, List, [], ◌∷◌, ◌++◌, length, map, take, slice_get, Some, arith}
+use Rattle.std.proofs.Common.{◌≡◌, ◌∙◌, refl, sym, ap, subst, ℕ, Bool, zero, suc, ◌+◌, cond, List, [], ◌∷◌, ◌++◌, length, map, take, slice_get, Some, arith}
 use Rattle.std.specs.List.{list_any}
 use Rattle.std.specs.Str.{bytes_eq}
 use Rattle.ir_types_items.specs.Interned.{with_last}
@@ -17,11 +17,11 @@ one_more_word f i word ks new key before at is made =
     names_inserted f ks new key made ∙ ap (λ b. with_last (bytes_eq b) b (map f ks)) is ∙ next_word i word (map f ks) before at
 
 -- after all of them
-pub begun_with : (names : List (List ℕ)) (types : List (TypeNode × ℕ)) (attrs : List (AttrNode × ℕ)) (i : ℕ) → i ≡ 54 → names ≡ take i words → types ≡ [] → attrs ≡ [] → IsKeptWithDepths names types attrs
-begun_with names types attrs i e all none_t none_a =
+pub begun_with : (o : Bool) (names : List (List ℕ)) (types : List (TypeNode × ℕ)) (attrs : List (AttrNode × ℕ)) (i : ℕ) → i ≡ 54 → names ≡ take i words → types ≡ [] → attrs ≡ [] → IsKeptWithDepths o names types attrs
+begun_with o names types attrs i e all none_t none_a =
     let w = first_words names i e all in
     let long : length names ≡ 54 = ap length w.0 ∙ word_count in
-    subst (λ t. IsKeptWithDepths names t attrs) (sym none_t) (subst (λ a. IsKeptWithDepths names [] a) (sym none_a) (record {
+    subst (λ t. IsKeptWithDepths o names t attrs) (sym none_t) (subst (λ a. IsKeptWithDepths o names [] a) (sym none_a) (record {
       holds = record {
         few_names = omega arith;
         few_types = omega arith;
@@ -37,7 +37,7 @@ begun_with names types attrs i e all none_t none_a =
       attr_depths = refl;
     }))
 
-pub begun_things : (names : List (List ℕ)) (types : List (TypeNode × ℕ)) (attrs : List (AttrNode × ℕ)) (i : ℕ) → i ≡ 54 → names ≡ take i words → types ≡ [] → attrs ≡ [] → things_of names types attrs ≡ record { names = words; types = []; attrs = [] }
-begun_things names types attrs i e all none_t none_a =
+pub begun_things : (o : Bool) (names : List (List ℕ)) (types : List (TypeNode × ℕ)) (attrs : List (AttrNode × ℕ)) (i : ℕ) → i ≡ 54 → names ≡ take i words → types ≡ [] → attrs ≡ [] → things_of o names types attrs ≡ record { names = words; types = []; attrs = []; opaque = o }
+begun_things o names types attrs i e all none_t none_a =
     let w = first_words names i e all in
-    (λ k. things_of (w.0 k) (none_t k) (none_a k))
+    (λ k. things_of o (w.0 k) (none_t k) (none_a k))

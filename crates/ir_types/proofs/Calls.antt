@@ -75,6 +75,7 @@ fine_width known (type.Int sign width) e = go (is_width width) refl
 fine_width known type.Index e = tt
 fine_width known (type.Func is os) e = tt
 fine_width known (type.Memref ds el) e = tt
+fine_width known (type.Opaque text) e = tt
 
 pub width_of_type : (c : Things) (n : ℕ) (node : TypeNode) → Holds c → slice_get c.types n ≡ Some node → HasWidth node
 width_of_type c n node h at = fine_width (type_terms c) node (ap type_fault (sym (type_term_is c n node h at)) ∙ h.types_fine n (slice_get_within c.types n node at))

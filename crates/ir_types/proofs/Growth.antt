@@ -36,7 +36,7 @@ front_agree d xs ys f i h = ap (λ l. get_or l i d) f.1 ∙ agree_longer d (leng
 
 -- growth
 pub grows_refl : (c : Things) → Grows c c
-grows_refl c = record { names = front_refl c.names; types = front_refl c.types; attrs = front_refl c.attrs }
+grows_refl c = record { names = front_refl c.names; types = front_refl c.types; attrs = front_refl c.attrs; opaque = refl }
 
 pub grows_trans : (b c d : Things) → Grows b c → Grows c d → Grows b d
 grows_trans b c d g h =
@@ -44,6 +44,7 @@ grows_trans b c d g h =
       names = front_trans b.names c.names d.names g.names h.names;
       types = front_trans b.types c.types d.types g.types h.types;
       attrs = front_trans b.attrs c.attrs d.attrs g.attrs h.attrs;
+      opaque = h.opaque ∙ g.opaque;
     }
 
 -- what each call makes of each list
@@ -86,12 +87,12 @@ attr_attrs node c = refl
 -- each call grows
 pub grows_name : (bytes : List ℕ) (c : Things) → Grows c (with_name bytes c).1
 unfolding with_name
-grows_name bytes c = record { names = with_last_front (bytes_eq bytes) bytes c.names; types = front_refl c.types; attrs = front_refl c.attrs }
+grows_name bytes c = record { names = with_last_front (bytes_eq bytes) bytes c.names; types = front_refl c.types; attrs = front_refl c.attrs; opaque = refl }
 
 pub grows_type : (node : TypeNode) (c : Things) → Grows c (with_type node c).1
 unfolding with_type
-grows_type node c = record { names = front_refl c.names; types = with_last_front (same_type node) node c.types; attrs = front_refl c.attrs }
+grows_type node c = record { names = front_refl c.names; types = with_last_front (same_type node) node c.types; attrs = front_refl c.attrs; opaque = refl }
 
 pub grows_attr : (node : AttrNode) (c : Things) → Grows c (with_attr node c).1
 unfolding with_attr
-grows_attr node c = record { names = front_refl c.names; types = front_refl c.types; attrs = with_last_front (same_attr (kept c.names node)) (kept c.names node) c.attrs }
+grows_attr node c = record { names = front_refl c.names; types = front_refl c.types; attrs = with_last_front (same_attr (kept c.names node)) (kept c.names node) c.attrs; opaque = refl }

@@ -37,7 +37,7 @@ enough_names names e = let l : length (take 54 names) ≡ 54 = ap length e in om
 pub holds_names : (c : Things) (more : List (List ℕ)) → Holds c → length (c.names ++ more) ≤ most_things → Holds (record c { names = c.names ++ more })
 holds_names c more h few =
     let d : Things = record c { names = c.names ++ more } in
-    let g : Grows c d = record { names = (more, refl); types = front_refl c.types; attrs = front_refl c.attrs } in
+    let g : Grows c d = record { names = (more, refl); types = front_refl c.types; attrs = front_refl c.attrs; opaque = refl } in
     let longer = front_length c.names d.names g.names in
     record {
       few_names = few;
@@ -61,7 +61,7 @@ holds_name bytes c h few =
 pub holds_push_type : (node : TypeNode) (c : Things) → Holds c → TypeIsOf c node → type_fault (type_node_term c node) ≡ None → length (c.types ++ node ∷ []) ≤ most_things → Holds (record c { types = c.types ++ node ∷ [] })
 holds_push_type node c h of_c fine few =
     let d : Things = record c { types = c.types ++ node ∷ [] } in
-    let g : Grows c d = record { names = front_refl c.names; types = (node ∷ [], refl); attrs = front_refl c.attrs } in
+    let g : Grows c d = record { names = front_refl c.names; types = (node ∷ [], refl); attrs = front_refl c.attrs; opaque = refl } in
     let longer = front_length c.types d.types g.types in
     let len : length d.types ≡ length c.types + 1 = length-append c.types (node ∷ []) in
     let made = type_terms_push c node in
@@ -98,7 +98,7 @@ holds_type node c h of_c fine few = ⊎_elim
 pub holds_push_attr : (node : AttrNode) (c : Things) → Holds c → AttrIsOf c node → attr_fault (attr_node_term c node) ≡ None → IsKept c.names node → length (c.attrs ++ node ∷ []) ≤ most_things → Holds (record c { attrs = c.attrs ++ node ∷ [] })
 holds_push_attr node c h of_c fine in_order few =
     let d : Things = record c { attrs = c.attrs ++ node ∷ [] } in
-    let g : Grows c d = record { names = front_refl c.names; types = front_refl c.types; attrs = (node ∷ [], refl) } in
+    let g : Grows c d = record { names = front_refl c.names; types = front_refl c.types; attrs = (node ∷ [], refl); opaque = refl } in
     let len : length d.attrs ≡ length c.attrs + 1 = length-append c.attrs (node ∷ []) in
     let made = attr_terms_push c node in
     let count = length-attr_terms c in

@@ -71,6 +71,7 @@ kept_parts names l m n (attr.Dict es) below = (
 kept_parts names l m n (attr.Sym parts) below = below
 kept_parts names l m n (attr.Dense elem values) below = below
 kept_parts names l m n (attr.Overflow nsw nuw) below = below
+kept_parts names l m n (attr.Opaque text ty) below = below
 
 pub kept_of : (c : Things) (node : AttrNode) → AttrIsOf c node → AttrIsOf c (kept c.names node)
 kept_of c node of_c = kept_parts c.names (length c.names) (length c.types) (length c.attrs) node of_c

@@ -29,6 +29,7 @@ plain_kept names n (attr.Array items) other = (refl, tt)
 plain_kept names n (attr.Sym parts) other = (refl, tt)
 plain_kept names n (attr.Dense elem values) other = (refl, tt)
 plain_kept names n (attr.Overflow nsw nuw) other = (refl, tt)
+plain_kept names n (attr.Opaque text ty) other = (refl, tt)
 
 module _ (names : List (List ℕ)) (n : ℕ) (node : AttrNode) (es : List (ℕ × ℕ)) (is : node ≡ attr.Dict es) (few : length es ≤ most_entries) where
   -- a dictionary in which each key stands once is sorted

@@ -10,7 +10,7 @@ use Rattle.std.proofs.Math.Nat.{mod-eq_of_lt, div-add-mod', mul-le-mul_left}
 use Rattle.std.proofs.lemmas.Bool.{cases_lt}
 use Rattle.ir_types.specs.declared.node.Sign.{Sign}
 use Rattle.ir_types.specs.declared.node.Sign.TheVariants.{Signless, Signed, Unsigned}
-use Rattle.ir_types.specs.Terms.{TypeTerm, Integer, Index, Function, Memref}
+use Rattle.ir_types.specs.Terms.{TypeTerm, Integer, Index, Function, Memref, OpaqueType}
 use Rattle.ir_types.specs.Limits.{index_width}
 use Rattle.ir_types.specs.Ranges.{is_signed, is_unsigned, is_literal, is_value, is_signed_number, is_value_number}
 use Rattle.ir_types.specs.Readings.{IsSameModulo, signed_of, wrapped, type_width, is_bits_of, reading_of, literal_number, literal_bits}
@@ -77,6 +77,7 @@ type_bits_back (Integer Unsigned w) bits some h = unsigned_back w bits (ltb-true
 type_bits_back Index bits some h = bits_back index_width bits some (ltb-true bits (2 ^ index_width) h)
 type_bits_back (Function inputs outputs) bits some h = absurd (cc h)
 type_bits_back (Memref dims elem) bits some h = absurd (cc h)
+type_bits_back (OpaqueType text) bits some h = absurd (cc h)
 
 not_below_zero : (n : ℕ) → int_lt (pos n) (pos 0) ≡ false
 not_below_zero n = grind (arith, nat_tests)
@@ -92,6 +93,7 @@ type_number_back (Integer Unsigned w) number some h = unsigned_number w number h
 type_number_back Index number some h = signed_back index_width number some h
 type_number_back (Function inputs outputs) number some h = absurd (cc h)
 type_number_back (Memref dims elem) number some h = absurd (cc h)
+type_number_back (OpaqueType text) number some h = absurd (cc h)
 
 pub type_number_fits : (ty : TypeTerm) (bits : ℕ) → 1 ≤ type_width ty → is_bits_of ty bits ≡ true → is_value_number ty (reading_of ty bits) ≡ true
 type_number_fits (Integer Signless w) bits some h = signed_fits w bits some (ltb-true bits (2 ^ w) h)
@@ -100,6 +102,7 @@ type_number_fits (Integer Unsigned w) bits some h = rw (not_below_zero bits) h
 type_number_fits Index bits some h = signed_fits index_width bits some (ltb-true bits (2 ^ index_width) h)
 type_number_fits (Function inputs outputs) bits some h = absurd (cc h)
 type_number_fits (Memref dims elem) bits some h = absurd (cc h)
+type_number_fits (OpaqueType text) bits some h = absurd (cc h)
 
 -- what is printed is a literal
 signless_literal : (w : ℕ) (negative : Bool) (m : ℕ) → 1 ≤ w → is_signed w negative m ≡ true → is_literal (Integer Signless w) negative m ≡ true
@@ -113,6 +116,7 @@ value_is_literal (Integer Unsigned w) negative m some h = h
 value_is_literal Index negative m some h = h
 value_is_literal (Function inputs outputs) negative m some h = h
 value_is_literal (Memref dims elem) negative m some h = h
+value_is_literal (OpaqueType text) negative m some h = h
 
 pub number_is : (number : ℤ) → literal_number (int_lt number (pos 0)) (unsigned_abs number) ≡ number
 number_is (pos n) = rw (not_below_zero n) refl
@@ -151,6 +155,7 @@ literal_is_bits (Integer sign w) negative m bits e = literal_below w (literal_nu
 literal_is_bits Index negative m bits e = literal_below index_width (literal_number negative m) (is_literal Index negative m) bits e
 literal_is_bits (Function inputs outputs) negative m bits e = absurd (cc e)
 literal_is_bits (Memref dims elem) negative m bits e = absurd (cc e)
+literal_is_bits (OpaqueType text) negative m bits e = absurd (cc e)
 
 -- a number is its bits and a multiple of 2^w
 split : (w : ℕ) (number : ℤ) → (k : ℤ) × (number ≡ pos (wrapped w number) +ℤ k *ℤ pos (2 ^ w))

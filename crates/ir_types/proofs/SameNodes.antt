@@ -92,6 +92,7 @@ same_type_is (type.Func is os) (type.Func js ps) h =
     λ i. type.Func (list_is number_is is js (first_so (pointwise ◌==◌ is js) (pointwise ◌==◌ os ps) h) i) (list_is number_is os ps (second_so (pointwise ◌==◌ is js) (pointwise ◌==◌ os ps) h) i)
 same_type_is (type.Memref ds e) (type.Memref es f) h =
     λ i. type.Memref (list_is (option_is number_is) ds es (first_so (pointwise (option_eq ◌==◌) ds es) (e == f) h) i) (number_is e f (second_so (pointwise (option_eq ◌==◌) ds es) (e == f) h) i)
+same_type_is (type.Opaque s) (type.Opaque t) h = ap type.Opaque (list_is number_is s t h)
 same_type_is _ _ h = absurd (true≢false (sym h))
 
 pub same_type_refl : (x : TypeNode) → same_type x x ≡ true
@@ -100,6 +101,7 @@ same_type_refl (type.Int s v) = and_from (same_sign s s) (v == v) (sign_refl s) 
 same_type_refl type.Index = refl
 same_type_refl (type.Func is os) = and_from (pointwise ◌==◌ is is) (pointwise ◌==◌ os os) (list_refl ◌==◌ number_refl is) (list_refl ◌==◌ number_refl os)
 same_type_refl (type.Memref ds e) = and_from (pointwise (option_eq ◌==◌) ds ds) (e == e) (list_refl (option_eq ◌==◌) (option_refl ◌==◌ number_refl) ds) (number_refl e)
+same_type_refl (type.Opaque s) = list_refl ◌==◌ number_refl s
 
 -- attributes
 pub same_attr_is : (x y : AttrNode) → same_attr x y ≡ true → x ≡ y
@@ -114,6 +116,8 @@ same_attr_is (attr.Sym xs) (attr.Sym ys) h = ap attr.Sym (list_is number_is xs y
 same_attr_is (attr.Dense s xs) (attr.Dense t ys) h =
     λ i. attr.Dense (number_is s t (first_so (s == t) (pointwise int_eq xs ys) h) i) (list_is integer_is xs ys (second_so (s == t) (pointwise int_eq xs ys) h) i)
 same_attr_is (attr.Overflow a b) (attr.Overflow c d) h = λ i. attr.Overflow (boolean_is a c (first_so (beq a c) (beq b d) h) i) (boolean_is b d (second_so (beq a c) (beq b d) h) i)
+same_attr_is (attr.Opaque s t) (attr.Opaque r u) h =
+    λ i. attr.Opaque (list_is number_is s r (first_so (pointwise ◌==◌ s r) (option_eq ◌==◌ t u) h) i) (option_is number_is t u (second_so (pointwise ◌==◌ s r) (option_eq ◌==◌ t u) h) i)
 same_attr_is _ _ h = absurd (true≢false (sym h))
 
 pub same_attr_refl : (x : AttrNode) → same_attr x x ≡ true
@@ -127,6 +131,7 @@ same_attr_refl (attr.Dict xs) = list_refl same_entry entry_refl xs
 same_attr_refl (attr.Sym xs) = list_refl ◌==◌ number_refl xs
 same_attr_refl (attr.Dense s xs) = and_from (s == s) (pointwise int_eq xs xs) (number_refl s) (list_refl int_eq integer_refl xs)
 same_attr_refl (attr.Overflow a b) = and_from (beq a a) (beq b b) (boolean_refl a) (boolean_refl b)
+same_attr_refl (attr.Opaque s t) = and_from (pointwise ◌==◌ s s) (option_eq ◌==◌ t t) (list_refl ◌==◌ number_refl s) (option_refl ◌==◌ number_refl t)
 
 -- the derived `==` is the test
 derived_sign : (s t : Sign) → sameb the_type s t ≡ same_sign s t
@@ -141,6 +146,7 @@ derived_type (type.Int s v) (type.Int t w) = ap (λ b. b && (v == w)) (derived_s
 derived_type type.Index type.Index = refl
 derived_type (type.Func is os) (type.Func js ps) = refl
 derived_type (type.Memref ds e) (type.Memref es f) = refl
+derived_type (type.Opaque s) (type.Opaque t) = refl
 derived_type _ _ = refl
 
 pub derived_attr : (x y : AttrNode) → (attr_node_eq.ghosts).eq x y ≡ same_attr x y
@@ -154,4 +160,5 @@ derived_attr (attr.Dict xs) (attr.Dict ys) = refl
 derived_attr (attr.Sym xs) (attr.Sym ys) = refl
 derived_attr (attr.Dense s xs) (attr.Dense t ys) = refl
 derived_attr (attr.Overflow a b) (attr.Overflow c d) = refl
+derived_attr (attr.Opaque s t) (attr.Opaque r u) = refl
 derived_attr _ _ = refl

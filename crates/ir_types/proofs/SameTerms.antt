@@ -8,7 +8,7 @@ use Rattle.ir_types.specs.declared.node.Sign.{Sign}
 use Rattle.ir_types.specs.declared.node.Sign.TheVariants.{Signless, Signed, Unsigned}
 use Rattle.ir_types.specs.Same.{same_sign}
 use Rattle.ir_types.specs.Things.{Things, IsType}
-use Rattle.ir_types.specs.Terms.{TypeTerm, Integer, Index, Function, Memref, TypeTerms, no_types, next_type, type_term}
+use Rattle.ir_types.specs.Terms.{TypeTerm, Integer, Index, Function, Memref, OpaqueType, TypeTerms, no_types, next_type, type_term}
 use Rattle.ir_types.specs.Sound.{IsSound}
 use Rattle.ir_types.proofs.Terms.{type_term_one}
 use Rattle.std.proofs.lemmas.Bool.{cases_Bool, and_from}
@@ -51,6 +51,16 @@ pub dims_refl : (xs : List (Option ℕ)) → pointwise (option_eq ◌==◌) xs x
 dims_refl [] = refl
 dims_refl (x ∷ xs) = and_from (option_eq ◌==◌ x x) (pointwise (option_eq ◌==◌) xs xs) (dim_refl x) (dims_refl xs)
 
+text_is : (xs ys : List ℕ) → pointwise ◌==◌ xs ys ≡ true → xs ≡ ys
+text_is [] [] h = refl
+text_is [] (y ∷ ys) h = absurd (true≢false (sym h))
+text_is (x ∷ xs) [] h = absurd (true≢false (sym h))
+text_is (x ∷ xs) (y ∷ ys) h = λ i. number_is x y (first_so (x == y) (pointwise ◌==◌ xs ys) h) i ∷ text_is xs ys (second_so (x == y) (pointwise ◌==◌ xs ys) h) i
+
+text_refl : (xs : List ℕ) → pointwise ◌==◌ xs xs ≡ true
+text_refl [] = refl
+text_refl (x ∷ xs) = and_from (x == x) (pointwise ◌==◌ xs xs) (number_refl x) (text_refl xs)
+
 mutual
   pub type_is : (t u : TypeTerm) → same_type t u ≡ true → t ≡ u
   type_is (Integer s v) (Integer r w) h = λ i. Integer (sign_is s r (first_so (same_sign s r) (v == w) h) i) (number_is v w (second_so (same_sign s r) (v == w) h) i)
@@ -70,6 +80,15 @@ mutual
   type_is (Memref ds e) (Integer r w) h = absurd (true≢false (sym h))
   type_is (Memref ds e) Index h = absurd (true≢false (sym h))
   type_is (Memref ds e) (Function js ps) h = absurd (true≢false (sym h))
+  type_is (OpaqueType s) (OpaqueType t) h = ap OpaqueType (text_is s t h)
+  type_is (Integer s v) (OpaqueType t) h = absurd (true≢false (sym h))
+  type_is Index (OpaqueType t) h = absurd (true≢false (sym h))
+  type_is (Function is os) (OpaqueType t) h = absurd (true≢false (sym h))
+  type_is (Memref ds e) (OpaqueType t) h = absurd (true≢false (sym h))
+  type_is (OpaqueType s) (Integer r w) h = absurd (true≢false (sym h))
+  type_is (OpaqueType s) Index h = absurd (true≢false (sym h))
+  type_is (OpaqueType s) (Function js ps) h = absurd (true≢false (sym h))
+  type_is (OpaqueType s) (Memref es f) h = absurd (true≢false (sym h))
 
   terms_are : (ts us : TypeTerms) → same_terms ts us ≡ true → ts ≡ us
   terms_are no_types no_types h = refl
@@ -83,6 +102,7 @@ mutual
   type_refl Index = refl
   type_refl (Function is os) = and_from (same_terms is is) (same_terms os os) (terms_refl is) (terms_refl os)
   type_refl (Memref ds e) = and_from (pointwise (option_eq ◌==◌) ds ds) (same_type e e) (dims_refl ds) (type_refl e)
+  type_refl (OpaqueType s) = text_refl s
 
   pub terms_refl : (ts : TypeTerms) → same_terms ts ts ≡ true
   terms_refl no_types = refl

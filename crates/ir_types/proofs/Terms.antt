@@ -1,5 +1,5 @@
 -- What a number stands for stays when the things grow, is what its node is, and is no other number's.
-use Rattle.std.specs.Prelude.{ℕ, List}
+use Rattle.std.specs.Prelude.{ℕ, List, Option, None}
 use Rattle.std.specs.List.{AllByRecursion}
 use Rattle.std.proofs.Common.{◌≡◌, ◌<◌, ◌≤◌, [], ◌∷◌, ◌++◌, map, Some, length, get_or, slice_get, sym, ap, subst, refl, ◌∙◌, arith}
 use Rattle.std.proofs.lemmas.List.Elements.{recursion_from_All, All-weaker}
@@ -10,8 +10,8 @@ use Rattle.ir_types.specs.declared.node.TypeNode.{TypeNode}
 use Rattle.ir_types.specs.declared.node.TypeNode.TheVariants as type
 use Rattle.ir_types.specs.declared.node.AttrNode.{AttrNode}
 use Rattle.ir_types.specs.declared.node.AttrNode.TheVariants as attr
-use Rattle.ir_types.specs.Things.{Things, IsName, IsType, IsAttr, TypesBelow, PartsBelow, TypeIsOf, AttrIsOf, Grows}
-use Rattle.ir_types.specs.Terms.{TypeTerm, Index, Function, Memref, next_type, AttrTerm, IntegerOf, String, TypeOf, Flag, Array, Dictionary, Symbol, DenseArray, next_attr, next_entry, name_term, type_at, types_at, type_from, type_terms, type_term, type_node_term, attr_at, attrs_at, entries_at, attr_from, attr_terms, attr_term, attr_node_term}
+use Rattle.ir_types.specs.Things.{Things, IsName, IsType, IsAttr, TypesBelow, IsBelow, PartsBelow, TypeIsOf, AttrIsOf, Grows}
+use Rattle.ir_types.specs.Terms.{TypeTerm, Index, Function, Memref, next_type, AttrTerm, IntegerOf, String, TypeOf, Flag, Array, Dictionary, Symbol, DenseArray, OpaqueOf, next_attr, next_entry, name_term, type_at, types_at, some_type_at, type_from, type_terms, type_term, type_node_term, attr_at, attrs_at, entries_at, attr_from, attr_terms, attr_term, attr_node_term}
 use Rattle.ir_types.specs.Interning.{with_name, with_type}
 use Rattle.ir_types.specs.Sound.{Holds, IsSound}
 use Rattle.ir_types.proofs.Building.{Agree, AreTold, built-push, built_agree, built_same, built_is, built_told, length-built}
@@ -28,6 +28,11 @@ type_from_agree n ys zs same type.Index below = refl
 type_from_agree n ys zs same (type.Func inputs outputs) below =
     λ i. Function (types_agree n ys zs same inputs (recursion_from_All (λ t. t < n) inputs below.0) i) (types_agree n ys zs same outputs (recursion_from_All (λ t. t < n) outputs below.1) i)
 type_from_agree n ys zs same (type.Memref dims elem) below = ap (Memref dims) (same elem below)
+type_from_agree n ys zs same (type.Opaque text) below = refl
+
+some_agrees : (n : ℕ) (ys zs : List TypeTerm) → Agree Index n ys zs → (ty : Option ℕ) → IsBelow n ty → some_type_at ys ty ≡ some_type_at zs ty
+some_agrees n ys zs same None below = refl
+some_agrees n ys zs same (Some t) below = ap Some (same t below)
 
 attrs_agree : (n : ℕ) (ys zs : List AttrTerm) → Agree Flag n ys zs → (ids : List ℕ) → AllByRecursion (λ a. a < n) ids → attrs_at ys ids ≡ attrs_at zs ids
 attrs_agree n ys zs same [] all = refl
@@ -52,6 +57,7 @@ attr_from_agree l m n vs ws ts us ys zs names types same (attr.Dict entries) bel
 attr_from_agree l m n vs ws ts us ys zs names types same (attr.Sym parts) below = ap Symbol (parts_agree l vs ws names parts (recursion_from_All (λ n. n < l) parts below))
 attr_from_agree l m n vs ws ts us ys zs names types same (attr.Dense elem values) below = ap (λ t. DenseArray t values) (types elem below)
 attr_from_agree l m n vs ws ts us ys zs names types same (attr.Overflow nsw nuw) below = refl
+attr_from_agree l m n vs ws ts us ys zs names types same (attr.Opaque text ty) below = ap (OpaqueOf text) (some_agrees m ts us types ty below)
 
 -- numbers below a bound are below a higher one
 pub types_below_more : (m n : ℕ) (node : TypeNode) → m ≤ n → TypesBelow m node → TypesBelow n node
@@ -59,6 +65,11 @@ types_below_more m n (type.Int sign width) h below = tt
 types_below_more m n type.Index h below = tt
 types_below_more m n (type.Func inputs outputs) h below = (All-weaker (λ t. t < m) (λ t. t < n) (λ t k. omega arith) inputs below.0, All-weaker (λ t. t < m) (λ t. t < n) (λ t k. omega arith) outputs below.1)
 types_below_more m n (type.Memref dims elem) h below = omega arith
+types_below_more m n (type.Opaque text) h below = tt
+
+below_more : (m n : ℕ) (ty : Option ℕ) → m ≤ n → IsBelow m ty → IsBelow n ty
+below_more m n None h below = tt
+below_more m n (Some t) h below = omega arith
 
 pub parts_below_more : (l m n k o p : ℕ) (node : AttrNode) → l ≤ k → m ≤ o → n ≤ p → PartsBelow l m n node → PartsBelow k o p node
 parts_below_more l m n k o p (attr.Int ty value) f g h below = omega arith
@@ -73,6 +84,7 @@ parts_below_more l m n k o p (attr.Dict entries) f g h below = (
 parts_below_more l m n k o p (attr.Sym parts) f g h below = All-weaker (λ a. a < l) (λ a. a < k) (λ a b. omega arith) parts below
 parts_below_more l m n k o p (attr.Dense elem values) f g h below = omega arith
 parts_below_more l m n k o p (attr.Overflow nsw nuw) f g h below = tt
+parts_below_more l m n k o p (attr.Opaque text ty) f g h below = below_more m o ty g below
 
 -- one thing more has what its node is
 pub type_terms_push : (c : Things) (node : TypeNode) → type_terms (record c { types = c.types ++ node ∷ [] }) ≡ type_terms c ++ type_node_term c node ∷ []
@@ -172,7 +184,13 @@ type_from_one done told (type.Memref ds x) (type.Memref es y) h k e =
     let p : ds ≡ es = cc in
     let q : type_at done x ≡ type_at done y = cc in
     λ i. type.Memref (p i) (told x y h k q i)
+type_from_one done told (type.Opaque s) (type.Opaque t) h k e = let p : s ≡ t = cc in ap type.Opaque p
 type_from_one done told _ _ h k e = cc
+
+some_one : (done : List TypeTerm) → AreTold Index done → (t u : Option ℕ) → IsBelow (length done) t → IsBelow (length done) u → some_type_at done t ≡ some_type_at done u → t ≡ u
+some_one done told None None h k e = refl
+some_one done told (Some t) (Some u) h k e = let p : type_at done t ≡ type_at done u = cc in ap Some (told t u h k p)
+some_one done told _ _ h k e = cc
 
 attrs_one : (done : List AttrTerm) → AreTold Flag done → (xs ys : List ℕ) → AllByRecursion (λ a. a < length done) xs → AllByRecursion (λ a. a < length done) ys → attrs_at done xs ≡ attrs_at done ys → xs ≡ ys
 attrs_one done told [] [] h k e = refl
@@ -233,6 +251,10 @@ attr_from_one names types apart of_types done told (attr.Overflow a b) (attr.Ove
     let p : a ≡ c = cc in
     let q : b ≡ d = cc in
     λ i. attr.Overflow (p i) (q i)
+attr_from_one names types apart of_types done told (attr.Opaque s t) (attr.Opaque r u) h k e =
+    let p : s ≡ r = cc in
+    let q : some_type_at types t ≡ some_type_at types u = cc in
+    λ i. attr.Opaque (p i) (some_one types of_types t u h k q i)
 attr_from_one names types apart of_types done told _ _ h k e = cc
 
 -- so different numbers mean different things

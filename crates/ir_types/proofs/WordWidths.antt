@@ -17,3 +17,4 @@ fine_width ty known (type.Int sign width) fine same = by (is_width width) refl (
 fine_width ty known type.Index fine same = tt
 fine_width ty known (type.Func inputs outputs) fine same = tt
 fine_width ty known (type.Memref dims elem) fine same = tt
+fine_width ty known (type.Opaque text) fine same = tt

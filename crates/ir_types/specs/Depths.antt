@@ -1,11 +1,12 @@
 -- How deep types and attributes are.
-use Rattle.std.specs.Prelude.{ℕ, ◌+◌, max, Bool, true, false, if◌then◌else◌}
-use Rattle.ir_types.specs.Terms.{TypeTerm, Integer, Index, Function, Memref, TypeTerms, no_types, next_type, AttrTerm, IntegerOf, String, TypeOf, Flag, Array, Dictionary, Symbol, DenseArray, Overflow, AttrTerms, no_attrs, next_attr, EntryTerms, no_entries, next_entry}
+use Rattle.std.specs.Prelude.{ℕ, ◌+◌, max, Bool, true, false, if◌then◌else◌, None, Some}
+use Rattle.ir_types.specs.Terms.{TypeTerm, Integer, Index, Function, Memref, OpaqueType, TypeTerms, no_types, next_type, AttrTerm, IntegerOf, String, TypeOf, Flag, Array, Dictionary, Symbol, DenseArray, Overflow, OpaqueOf, AttrTerms, no_attrs, next_attr, EntryTerms, no_entries, next_entry}
 
--- integer types and index
+-- integer types, index and opaque types
 abbrev pub is_scalar : TypeTerm → Bool
 is_scalar (Integer sign width) = true
 is_scalar Index = true
+is_scalar (OpaqueType text) = true
 is_scalar _ = false
 
 -- a leaf has depth 1, a memref of scalars among them; anything else is one deeper than its deepest part
@@ -15,13 +16,14 @@ abbrev mutual
   type_depth Index = 1
   type_depth (Function inputs outputs) = 1 + max (types_depth inputs) (types_depth outputs)
   type_depth (Memref dims elem) = if is_scalar elem then 1 else 1 + type_depth elem
+  type_depth (OpaqueType text) = 1
 
   -- the greatest depth, or 0 where there are none
   pub types_depth : TypeTerms → ℕ
   types_depth no_types = 0
   types_depth (next_type t ts) = max (type_depth t) (types_depth ts)
 
--- a type is as deep as an attribute; arrays and dictionaries are one deeper than their deepest item
+-- an attribute that is a type, or opaque with a type, is as deep as it; arrays and dictionaries are one deeper than their deepest item
 abbrev mutual
   pub attr_depth : AttrTerm → ℕ
   attr_depth (IntegerOf ty bits) = 1
@@ -33,6 +35,8 @@ abbrev mutual
   attr_depth (Symbol parts) = 1
   attr_depth (DenseArray elem values) = 1
   attr_depth (Overflow nsw nuw) = 1
+  attr_depth (OpaqueOf text None) = 1
+  attr_depth (OpaqueOf text (Some ty)) = type_depth ty
 
   pub attrs_depth : AttrTerms → ℕ
   attrs_depth no_attrs = 0

@@ -1,5 +1,5 @@
 -- What the fields of a context hold.
-use Rattle.std.specs.Prelude.{◌≡◌, ℕ, List, map}
+use Rattle.std.specs.Prelude.{◌≡◌, ℕ, Bool, List, map}
 use Rattle.std.specs.Map.{keys_of, values_of}
 use Rattle.ir_types.specs.declared.node.TypeNode.{TypeNode}
 use Rattle.ir_types.specs.declared.node.AttrNode.{AttrNode}
@@ -9,11 +9,11 @@ use Rattle.ir_types.specs.Depths.{type_depth, attr_depth}
 use Rattle.ir_types.specs.Sound.{Holds}
 
 -- the things, where each type and each attribute is kept with its depth
-abbrev pub things_of : List (List ℕ) → List (TypeNode × ℕ) → List (AttrNode × ℕ) → Things
-things_of names types attrs = record { names = names; types = keys_of types; attrs = keys_of attrs }
+abbrev pub things_of : Bool → List (List ℕ) → List (TypeNode × ℕ) → List (AttrNode × ℕ) → Things
+things_of opaque names types attrs = record { names = names; types = keys_of types; attrs = keys_of attrs; opaque = opaque }
 
 -- what holds of them, and that the depths are theirs
-pub record IsKeptWithDepths (names : List (List ℕ)) (types : List (TypeNode × ℕ)) (attrs : List (AttrNode × ℕ)) : Type 0 where
-  pub holds : Holds (things_of names types attrs)
-  pub type_depths : values_of types ≡ map type_depth (type_terms (things_of names types attrs))
-  pub attr_depths : values_of attrs ≡ map attr_depth (attr_terms (things_of names types attrs))
+pub record IsKeptWithDepths (opaque : Bool) (names : List (List ℕ)) (types : List (TypeNode × ℕ)) (attrs : List (AttrNode × ℕ)) : Type 0 where
+  pub holds : Holds (things_of opaque names types attrs)
+  pub type_depths : values_of types ≡ map type_depth (type_terms (things_of opaque names types attrs))
+  pub attr_depths : values_of attrs ≡ map attr_depth (attr_terms (things_of opaque names types attrs))

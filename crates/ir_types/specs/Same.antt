@@ -26,6 +26,7 @@ same_type (type.Int s v) (type.Int t w) = same_sign s t && (v == w)
 same_type type.Index type.Index = true
 same_type (type.Func is os) (type.Func js ps) = pointwise ◌==◌ is js && pointwise ◌==◌ os ps
 same_type (type.Memref ds e) (type.Memref es f) = pointwise (option_eq ◌==◌) ds es && (e == f)
+same_type (type.Opaque s) (type.Opaque t) = pointwise ◌==◌ s t
 same_type _ _ = false
 
 -- and attributes
@@ -39,4 +40,5 @@ same_attr (attr.Dict xs) (attr.Dict ys) = pointwise same_entry xs ys
 same_attr (attr.Sym xs) (attr.Sym ys) = pointwise ◌==◌ xs ys
 same_attr (attr.Dense s xs) (attr.Dense t ys) = (s == t) && pointwise int_eq xs ys
 same_attr (attr.Overflow a b) (attr.Overflow c d) = beq a c && beq b d
+same_attr (attr.Opaque s t) (attr.Opaque r u) = pointwise ◌==◌ s r && option_eq ◌==◌ t u
 same_attr _ _ = false

@@ -2,7 +2,7 @@
 use Rattle.std.specs.Prelude.{List, [], ◌∷◌, Bool, true, false, ◌==◌, ◌&&◌, Option, Some, None}
 use Rattle.std.specs.Option.{option_eq}
 use Rattle.std.specs.Cmp.Lexicographic.{pointwise}
-use Rattle.ir_types.specs.Terms.{TypeTerm, Integer, Index, Function, Memref, TypeTerms, no_types, next_type}
+use Rattle.ir_types.specs.Terms.{TypeTerm, Integer, Index, Function, Memref, OpaqueType, TypeTerms, no_types, next_type}
 use Rattle.ir_types.specs.Same.{same_sign}
 
 abbrev mutual
@@ -12,6 +12,7 @@ abbrev mutual
   same_type Index Index = true
   same_type (Function is os) (Function js ps) = same_terms is js && same_terms os ps
   same_type (Memref ds e) (Memref es f) = pointwise (option_eq ◌==◌) ds es && same_type e f
+  same_type (OpaqueType s) (OpaqueType t) = pointwise ◌==◌ s t
   same_type _ _ = false
 
   pub same_terms : TypeTerms → TypeTerms → Bool

@@ -1,5 +1,5 @@
 -- What a number stands for: a name's bytes, and a type or attribute with its parts in place of their numbers.
-use Rattle.std.specs.Prelude.{ℕ, ℤ, Bool, List, [], ◌∷◌, Option, map, slice_index_or}
+use Rattle.std.specs.Prelude.{ℕ, ℤ, Bool, List, [], ◌∷◌, Option, None, Some, map, slice_index_or}
 use Rattle.ir_types_items.specs.Built.{built}
 use Rattle.ir_types.specs.declared.node.Sign.{Sign}
 use Rattle.ir_types.specs.declared.node.TypeNode.{TypeNode}
@@ -8,20 +8,21 @@ use Rattle.ir_types.specs.declared.node.AttrNode.{AttrNode}
 use Rattle.ir_types.specs.declared.node.AttrNode.TheVariants as attr
 use Rattle.ir_types.specs.Things.{Things}
 
--- types
+-- types; an opaque one is its text
 mutual
   pub data TypeTerm : Type 0 where
     Integer : Sign → ℕ → TypeTerm
     Index : TypeTerm
     Function : TypeTerms → TypeTerms → TypeTerm
     Memref : List (Option ℕ) → TypeTerm → TypeTerm
+    OpaqueType : List ℕ → TypeTerm
 
   -- lists of them
   pub data TypeTerms : Type 0 where
     no_types : TypeTerms
     next_type : TypeTerm → TypeTerms → TypeTerms
 
--- attributes; an integer is known by its bits
+-- attributes; an integer is known by its bits, an opaque one by its text and the type that may follow
 mutual
   pub data AttrTerm : Type 0 where
     IntegerOf : TypeTerm → ℕ → AttrTerm
@@ -33,6 +34,7 @@ mutual
     Symbol : List (List ℕ) → AttrTerm
     DenseArray : TypeTerm → List ℤ → AttrTerm
     Overflow : Bool → Bool → AttrTerm
+    OpaqueOf : List ℕ → Option TypeTerm → AttrTerm
 
   -- lists of them
   pub data AttrTerms : Type 0 where
@@ -56,12 +58,17 @@ abbrev pub types_at : List TypeTerm → List ℕ → TypeTerms
 types_at known [] = no_types
 types_at known (n ∷ ns) = next_type (type_at known n) (types_at known ns)
 
+abbrev pub some_type_at : List TypeTerm → Option ℕ → Option TypeTerm
+some_type_at known None = None
+some_type_at known (Some n) = Some (type_at known n)
+
 -- a type's node with what its numbers stand for
 abbrev pub type_from : List TypeTerm → TypeNode → TypeTerm
 type_from known (type.Int sign width) = Integer sign width
 type_from known type.Index = Index
 type_from known (type.Func inputs outputs) = Function (types_at known inputs) (types_at known outputs)
 type_from known (type.Memref dims elem) = Memref dims (type_at known elem)
+type_from known (type.Opaque text) = OpaqueType text
 
 -- the types of a context, in order
 abbrev pub type_terms : Things → List TypeTerm
@@ -98,6 +105,7 @@ attr_from names types known (attr.Dict entries) = Dictionary (entries_at names k
 attr_from names types known (attr.Sym parts) = Symbol (map (λ n. slice_index_or names n []) parts)
 attr_from names types known (attr.Dense elem values) = DenseArray (type_at types elem) values
 attr_from names types known (attr.Overflow nsw nuw) = Overflow nsw nuw
+attr_from names types known (attr.Opaque text ty) = OpaqueOf text (some_type_at types ty)
 
 -- the attributes of a context, in order
 abbrev pub attr_terms : Things → List AttrTerm

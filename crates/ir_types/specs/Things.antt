@@ -1,16 +1,18 @@
 -- What a context holds: names, types and attributes, each at the place that is its number.
-use Rattle.std.specs.Prelude.{ℕ, ◌<◌, ◌≡◌, List, ◌++◌, length}
+use Rattle.std.specs.Prelude.{ℕ, ◌<◌, ◌≡◌, Bool, List, ◌++◌, length, Option, None, Some}
 use Rattle.std.specs.List.{All}
 use Rattle.ir_types.specs.declared.node.TypeNode.{TypeNode}
 use Rattle.ir_types.specs.declared.node.TypeNode.TheVariants as type
 use Rattle.ir_types.specs.declared.node.AttrNode.{AttrNode}
 use Rattle.ir_types.specs.declared.node.AttrNode.TheVariants as attr
 
--- the names by their bytes, and the nodes of the types and attributes
+-- the names by their bytes, and the nodes of the types and attributes; and whether types and attributes that aren't
+-- known are read as opaque ones, which nothing changes
 pub record Things : Type 0 where
   pub names : List (List ℕ)
   pub types : List TypeNode
   pub attrs : List AttrNode
+  pub opaque : Bool
 
 -- numbers that are of these things
 abbrev pub IsName : Things → ℕ → Type 0
@@ -28,6 +30,12 @@ TypesBelow n (type.Int sign width) = Unit {0}
 TypesBelow n type.Index = Unit {0}
 TypesBelow n (type.Func inputs outputs) = All (λ t. t < n) inputs × All (λ t. t < n) outputs
 TypesBelow n (type.Memref dims elem) = elem < n
+TypesBelow n (type.Opaque text) = Unit {0}
+
+-- and the one that may follow an attribute
+abbrev pub IsBelow : ℕ → Option ℕ → Type 0
+IsBelow n None = Unit {0}
+IsBelow n (Some t) = t < n
 
 -- the names, types and attributes that an attribute's node names are among the first ones
 abbrev pub PartsBelow : ℕ → ℕ → ℕ → AttrNode → Type 0
@@ -40,6 +48,7 @@ PartsBelow names types attrs (attr.Dict entries) = All (λ (e : ℕ × ℕ). e.0
 PartsBelow names types attrs (attr.Sym parts) = All (λ n. n < names) parts
 PartsBelow names types attrs (attr.Dense elem values) = elem < types
 PartsBelow names types attrs (attr.Overflow nsw nuw) = Unit {0}
+PartsBelow names types attrs (attr.Opaque text ty) = IsBelow types ty
 
 -- every number in a node is of these things
 abbrev pub TypeIsOf : Things → TypeNode → Type 0
@@ -57,3 +66,4 @@ pub record Grows (old new : Things) : Type 0 where
   pub names : IsFront old.names new.names
   pub types : IsFront old.types new.types
   pub attrs : IsFront old.attrs new.attrs
+  pub opaque : new.opaque ≡ old.opaque

@@ -38,7 +38,7 @@ impl Context {
         ensures { result ≡ type_depth (type_node_term self.now node.now) }
     {
         match node {
-            TypeNode::Int { .. } | TypeNode::Index => 1,
+            TypeNode::Int { .. } | TypeNode::Index | TypeNode::Opaque(_) => 1,
             TypeNode::Func { inputs, outputs } => {
                 let inputs = self.types_depth(inputs.as_slice());
                 let outputs = self.types_depth(outputs.as_slice());
@@ -54,7 +54,7 @@ impl Context {
         }
     }
 
-    /// Whether a type is an integer type or index.
+    /// Whether a type is an integer type, index or opaque.
     fn is_scalar(&self, id: TypeId) -> bool
         requires { IsType self.now id }
         ensures { result ≡ is_scalar (type_term self.now id) }
@@ -98,6 +98,10 @@ impl Context {
     {
         match node {
             AttrNode::Ty(ty) => self.type_depth(*ty),
+            AttrNode::Opaque { ty, .. } => match ty {
+                Some(ty) => self.type_depth(*ty),
+                None => 1,
+            },
             AttrNode::Array(items) => 1 + self.attrs_depth(items.as_slice()),
             AttrNode::Dict(entries) => 1 + self.entries_depth(entries.as_slice()),
             AttrNode::Int { .. }
@@ -177,13 +181,14 @@ impl Context {
     }
 }
 
-/// Whether a node is that of an integer type or of index.
+/// Whether a node is that of an integer type, of index or of an opaque type.
 fn is_scalar_node(node: &TypeNode) -> bool
     ensures { (known : List TypeTerm) → result ≡ is_scalar (type_from known node.now) }
 {
     match node {
         TypeNode::Int { .. } => true,
         TypeNode::Index => true,
+        TypeNode::Opaque(_) => true,
         TypeNode::Func { .. } => false,
         TypeNode::Memref { .. } => false,
     }
@@ -208,7 +213,7 @@ fn size_fault(node: &TypeNode) -> Option<Refusal>
                 Some(Refusal::BadValue)
             }
         }
-        TypeNode::Index | TypeNode::Func { .. } => None,
+        TypeNode::Index | TypeNode::Func { .. } | TypeNode::Opaque(_) => None,
     }
 }
 

@@ -1,5 +1,5 @@
 //! The context: names, types and attributes, each known by a number. It only grows.
-ghost use Rattle.std.specs.Prelude.{◌≡◌, ◌<◌, ◌≤◌, ◌↔◌, Some, None, Ok, Err, [], true, IfOk, IsOk, OnOk, OnErr, IfErr, IsTrue, length, slice_get};
+ghost use Rattle.std.specs.Prelude.{◌≡◌, ◌<◌, ◌≤◌, ◌↔◌, Some, None, Ok, Err, [], true, false, IfOk, IsOk, OnOk, OnErr, IfErr, IsTrue, length, slice_get};
 ghost use Rattle.ir_types.specs.Things.{IsName, IsType, IsAttr, Grows, TypeIsOf, AttrIsOf};
 ghost use Rattle.ir_types.specs.Limits.{most_depth};
 ghost use Rattle.ir_types.specs.Interning.{with_name, with_type, with_attr, knows_name, knows_type, knows_attr};
@@ -31,6 +31,7 @@ pub struct Context {
     names: IndexSet<Vec<u8>, Keyed>,
     types: IndexMap<TypeNode, u32, Keyed>,
     attrs: IndexMap<AttrNode, u32, Keyed>,
+    opaque: bool,
 }
 
 impl Model for Context {
@@ -41,9 +42,9 @@ impl Model for Context {
 
     ghost use Rattle.ir_types.specs.Held.{things_of, IsKeptWithDepths};
 
-    ghost view = { λ c. things_of (map (λ v. v.items) c.names.keys) c.types.entries c.attrs.entries };
+    ghost view = { λ c. things_of c.opaque (map (λ v. v.items) c.names.keys) c.types.entries c.attrs.entries };
 
-    ghost invariant = { λ c. IsKeptWithDepths (map (λ v. v.items) c.names.keys) c.types.entries c.attrs.entries };
+    ghost invariant = { λ c. IsKeptWithDepths c.opaque (map (λ v. v.items) c.names.keys) c.types.entries c.attrs.entries };
 }
 
 impl Context {
@@ -52,7 +53,7 @@ impl Context {
     ///
     /// Refusals: `Memory` alone.
     pub fn new(alloc: Global) -> Result<Context, Refusal>
-        ensures ok { IfOk result (λ c. c ≡ record { names = words; types = []; attrs = [] }) }
+        ensures ok { IfOk result (λ c. c ≡ record { names = words; types = []; attrs = []; opaque = false }) }
         ensures refused { IfErr result (λ refusal. refusal ≡ Refusal.Memory) }
     {
         Context::keyed(alloc, 0)
@@ -63,7 +64,18 @@ impl Context {
     ///
     /// Refusals: `Memory` alone.
     pub fn keyed(alloc: Global, key: u64) -> Result<Context, Refusal>
-        ensures ok { IfOk result (λ c. c ≡ record { names = words; types = []; attrs = [] }) }
+        ensures ok { IfOk result (λ c. c ≡ record { names = words; types = []; attrs = []; opaque = false }) }
+        ensures refused { IfErr result (λ refusal. refusal ≡ Refusal.Memory) }
+    {
+        Context::in_mode(alloc, key, false)
+    }
+
+    /// A context that holds the words of the operation table alone, and has a key of its own. `opaque` says whether
+    /// types and attributes that aren't known are to be read as opaque ones.
+    ///
+    /// Refusals: `Memory` alone.
+    pub fn in_mode(alloc: Global, key: u64, opaque: bool) -> Result<Context, Refusal>
+        ensures ok { IfOk result (λ c. c ≡ record { names = words; types = []; attrs = []; opaque = opaque }) }
         ensures refused { IfErr result (λ refusal. refusal ≡ Refusal.Memory) }
     {
         let keyed = Keyed::new(key);
@@ -77,7 +89,15 @@ impl Context {
             names,
             types: IndexMap::with_hasher(alloc, keyed),
             attrs: IndexMap::with_hasher(alloc, keyed),
+            opaque,
         })
+    }
+
+    /// Whether types and attributes that aren't known are read as opaque ones.
+    pub fn is_opaque(&self) -> bool
+        ensures { result ≡ self.now.opaque }
+    {
+        self.opaque
     }
 
     /// What its things are hashed with.

@@ -33,6 +33,9 @@ pub enum TypeNode {
         dims: Items<Option<u64>>,
         elem: TypeId,
     },
+    /// A type of which the text alone is known: `tensor<4xf32>`, `!llvm.ptr`. It is neither an integer nor index, nor
+    /// a function, nor a memref (Builtin Dialect, "OpaqueType").
+    Opaque(Items<u8>),
 }
 
 /// An attribute whose parts are names, types and attributes of the context (Builtin Dialect,
@@ -58,4 +61,7 @@ pub enum AttrNode {
     Dense { elem: TypeId, values: Items<i64> },
     /// The flags of an integer operation: `#arith.overflow<nsw, nuw>`.
     Overflow { nsw: bool, nuw: bool },
+    /// An attribute of which the text alone is known, and its type, where one follows: `#d.a<x>`, `1.0 : f32`
+    /// (Builtin Dialect, "OpaqueAttr").
+    Opaque { text: Items<u8>, ty: Option<TypeId> },
 }

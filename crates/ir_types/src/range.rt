@@ -21,6 +21,7 @@ pub fn is_literal(node: &TypeNode, negative: bool, magnitude: u128) -> bool
         TypeNode::Index => is_signed(INDEX_WIDTH, negative, magnitude),
         TypeNode::Func { .. } => false,
         TypeNode::Memref { .. } => false,
+        TypeNode::Opaque(_) => false,
     }
 }
 
@@ -36,6 +37,7 @@ pub fn is_value(node: &TypeNode, value: i128) -> bool
         TypeNode::Index => is_signed(INDEX_WIDTH, value < 0, value.unsigned_abs()),
         TypeNode::Func { .. } => false,
         TypeNode::Memref { .. } => false,
+        TypeNode::Opaque(_) => false,
     }
 }
 
@@ -49,6 +51,7 @@ pub fn is_bits(node: &TypeNode, bits: u128) -> bool
         TypeNode::Index => is_unsigned(INDEX_WIDTH, false, bits),
         TypeNode::Func { .. } => false,
         TypeNode::Memref { .. } => false,
+        TypeNode::Opaque(_) => false,
     }
 }
 

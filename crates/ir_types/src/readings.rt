@@ -27,6 +27,7 @@ pub fn literal_bits(node: &TypeNode, negative: bool, magnitude: u128) -> Option<
         TypeNode::Index => bits_of_width(Sign::Signed, INDEX_WIDTH, negative, magnitude),
         TypeNode::Func { .. } => None,
         TypeNode::Memref { .. } => None,
+        TypeNode::Opaque(_) => None,
     }
 }
 
@@ -46,6 +47,7 @@ pub fn read_bits(node: &TypeNode, bits: u128) -> Reading
         TypeNode::Index => signed_reading(INDEX_WIDTH, bits),
         TypeNode::Func { .. } => unsigned_reading(bits),
         TypeNode::Memref { .. } => unsigned_reading(bits),
+        TypeNode::Opaque(_) => unsigned_reading(bits),
     }
 }
 

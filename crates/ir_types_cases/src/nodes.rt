@@ -76,7 +76,12 @@ fn memref(alloc: Global, text: &str) -> Result<TypeNode, AllocError> {
     Ok(TypeNode::Memref { dims, elem })
 }
 
-/// A type: `i 8`, `si 8`, `ui 8`, `func 0 1 > 2`, `memref 0 4 ?`, and `index` for anything else.
+/// The bytes of a text.
+fn bytes(alloc: Global, text: &str) -> Result<Items<u8>, AllocError> {
+    Ok(Items::new(Vec::from_slice(alloc, text.as_bytes())?))
+}
+
+/// A type: `i 8`, `si 8`, `ui 8`, `func 0 1 > 2`, `memref 0 4 ?`, `opaque f32`, and `index` for anything else.
 pub fn type_node(alloc: Global, text: &str) -> Result<TypeNode, AllocError> {
     let (kind, rest) = first(text);
     match kind {
@@ -85,6 +90,7 @@ pub fn type_node(alloc: Global, text: &str) -> Result<TypeNode, AllocError> {
         "ui" => Ok(integer(Sign::Unsigned, rest)),
         "func" => function(alloc, rest),
         "memref" => memref(alloc, rest),
+        "opaque" => Ok(TypeNode::Opaque(bytes(alloc, rest)?)),
         _ => Ok(TypeNode::Index),
     }
 }
@@ -112,8 +118,16 @@ fn dense(alloc: Global, text: &str) -> Result<AttrNode, AllocError> {
     Ok(AttrNode::Dense { elem, values })
 }
 
+/// An opaque attribute: `0 1.0` of type 0, and `- #d.a` of none.
+fn opaque(alloc: Global, words: &str) -> Result<AttrNode, AllocError> {
+    let (ty, rest) = first(words);
+    let text = bytes(alloc, rest)?;
+    let ty = if ty == "-" { None } else { Some(type_id(ty)) };
+    Ok(AttrNode::Opaque { text, ty })
+}
+
 /// An attribute: `int 0 1`, `str 0`, `ty 0`, `array 0 1`, `dict 0:1 1:1`, `sym 0 1`, `dense 0 1 1`,
-/// `overflow 1 0`, and `unit` for anything else.
+/// `overflow 1 0`, `opaque 0 1.0`, and `unit` for anything else.
 pub fn attr_node(alloc: Global, text: &str) -> Result<AttrNode, AllocError> {
     let (kind, rest) = first(text);
     match kind {
@@ -125,6 +139,7 @@ pub fn attr_node(alloc: Global, text: &str) -> Result<AttrNode, AllocError> {
         "sym" => Ok(AttrNode::Sym(names(alloc, rest)?)),
         "dense" => dense(alloc, rest),
         "overflow" => Ok(overflow(rest)),
+        "opaque" => opaque(alloc, rest),
         _ => Ok(AttrNode::Unit),
     }
 }

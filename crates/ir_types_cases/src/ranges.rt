@@ -27,6 +27,7 @@ fn has_width(node: &TypeNode) -> bool
     match node {
         TypeNode::Int { width, .. } => is_width(*width),
         TypeNode::Index | TypeNode::Func { .. } | TypeNode::Memref { .. } => true,
+        TypeNode::Opaque(_) => true,
     }
 }
 

@@ -94,6 +94,10 @@ fn put_type(out: &mut String, node: &TypeNode) -> Result<(), AllocError> {
             put_function(out, inputs.as_slice(), outputs.as_slice())
         }
         TypeNode::Memref { dims, elem } => put_memref(out, *elem, dims.as_slice()),
+        TypeNode::Opaque(text) => {
+            out.push_str("opaque ")?;
+            put_bytes(out, text.as_slice())
+        }
     }
 }
 
@@ -127,6 +131,15 @@ fn put_symbol(out: &mut String, parts: &[NameId]) -> Result<(), AllocError> {
     put_names(out, parts)
 }
 
+fn put_opaque(out: &mut String, text: &[u8], ty: Option<TypeId>) -> Result<(), AllocError> {
+    match ty {
+        Some(ty) => put_id(out, "opaque ", ty.number())?,
+        None => out.push_str("opaque -")?,
+    }
+    out.push_str(" ")?;
+    put_bytes(out, text)
+}
+
 fn put_attr(out: &mut String, node: &AttrNode) -> Result<(), AllocError> {
     match node {
         AttrNode::Int { ty, value } => put_int(out, *ty, *value),
@@ -138,6 +151,7 @@ fn put_attr(out: &mut String, node: &AttrNode) -> Result<(), AllocError> {
         AttrNode::Sym(parts) => put_symbol(out, parts.as_slice()),
         AttrNode::Dense { elem, values } => put_dense(out, *elem, values.as_slice()),
         AttrNode::Overflow { nsw, nuw } => put_flags(out, *nsw, *nuw),
+        AttrNode::Opaque { text, ty } => put_opaque(out, text.as_slice(), *ty),
     }
 }
 

@@ -9,7 +9,8 @@ use Rattle.ir_verify_base.specs.Mapped.{map_outer}
 use Rattle.ir_verify_base.specs.Gathered.{gathered_in, outer_in as gathered_outer}
 use Rattle.ir_verify_base.specs.Numbers.{typed, node_in, outer_in, around_in}
 use Rattle.ir_verify.specs.declared.rules.RuleSet.{RuleSet}
-use Rattle.ir_verify.specs.Sets.{set_of}
+use Rattle.ir_verify.specs.declared.finding.Finding.{Finding}
+use Rattle.ir_verify.specs.Sets.{set_of, finding_of}
 
 types_gathered : (c : Things) (ts : List ℕ) → typed c ts ≡ map (option_map (type_term c)) (map Some ts)
 types_gathered c [] = refl
@@ -29,3 +30,6 @@ gathered_around c a = λ i. record {
 
 pub gathered_told : (c : Things) (a : Around) (r : RuleSet) → r ≡ set_of (around_in c a) → r ≡ set_of (gathered_in c a)
 gathered_told c a r e = e ∙ ap set_of (gathered_around c a)
+
+pub gathered_beyond : (c : Things) (a : Around) (r : Finding) → r ≡ finding_of (around_in c a) → r ≡ finding_of (gathered_in c a)
+gathered_beyond c a r e = e ∙ ap finding_of (gathered_around c a)

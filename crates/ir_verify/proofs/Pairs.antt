@@ -1,4 +1,4 @@
--- The rows of diagnostics are those of the pairs of an operation and a rule that it breaks, rising.
+-- The rows of diagnostics are those of the pairs of an operation and a rule that is told of it, rising.
 use Rattle.std.proofs.Common.{◌≡◌, refl, sym, ap, ◌∙◌, subst, ℕ, ◌+◌, ◌<◌, Bool, true, false, cond, eqb-true, eq-eqb, List, [], ◌∷◌, ◌++◌, map, Option, Some, None, inl, inr, arith}
 use lib.Dec.{T}
 use Rattle.std.specs.Prelude.{⊤}
@@ -6,7 +6,7 @@ use Rattle.std.specs.declared.cmp.Ordering.{Ordering}
 use Rattle.std.specs.declared.cmp.Ordering.TheVariants.{Less, Equal, Greater}
 use Rattle.std.specs.Ordering.{ordering_then, nat_cmp, eq_by_cmp, is_lt}
 use Rattle.std.specs.Cmp.{nat_cmp_is}
-use Rattle.std.specs.List.{AllByRecursion}
+use Rattle.std.specs.List.{AllByRecursion, filter}
 use Rattle.std.specs.List.Sorted.{IsStrictlySortedBy}
 use Rattle.std.specs.FinMap.Entries.{put, by_order, find, below_all, is_sorted}
 use Rattle.ir_tree.specs.Meaning.{Operation}
@@ -14,10 +14,12 @@ use Rattle.ir_tree_laws.specs.Members.{In}
 use Rattle.ir_tree_laws.specs.Stands.{StandOf, stand_id, stands}
 use Rattle.ir_tree_laws.proofs.Listed.{bool_cases, in_left, in_right, in_parts, in_map, in_mapped}
 use Rattle.ir_verify_base.specs.Surroundings.{surround}
+use Rattle.ir_verify_base.specs.Fits.{Surroundings}
 use Rattle.ir_verify_base.specs.Facts.{sorted_in, sorted_facts}
 use Rattle.ir_verify_base.proofs.SortedFacts.{tied, left, right, unfound, found, is_in_order}
 use Rattle.op_registry.specs.Registry.{row_of}
 use Rattle.ir_verify.specs.Breaks.{told_in, numbers_from, broken}
+use Rattle.ir_verify.specs.Beyond.{is_beyond, is_on_types, told}
 use Rattle.ir_verify.specs.Diagnostics.{rule_rows, rows_of, diagnostics_of}
 use Rattle.ir_verify.specs.Pairs.{ArePairs, pair_cmp, pair_row}
 
@@ -93,6 +95,27 @@ numbers_rise n [] = tt
 numbers_rise n (true ∷ bs) = (numbers_above n (n + 1) bs (omega arith), numbers_rise (n + 1) bs)
 numbers_rise n (false ∷ bs) = numbers_rise (n + 1) bs
 
+-- and so do those that are told
+above_kept : (x : ℕ) (p : ℕ → Bool) (rs : List ℕ) → AllByRecursion (λ y. nat_cmp x y ≡ Less) rs → AllByRecursion (λ y. nat_cmp x y ≡ Less) (filter p rs)
+above_kept x p [] a = tt
+above_kept x p (r ∷ rs) a = one (p r) (filter p rs) (above_kept x p rs a.1)
+  where
+    one : (b : Bool) (l : List ℕ) → AllByRecursion (λ y. nat_cmp x y ≡ Less) l → AllByRecursion (λ y. nat_cmp x y ≡ Less) (cond b (r ∷ l) l)
+    one true l h = (a.0, h)
+    one false l h = h
+
+kept_rise : (p : ℕ → Bool) (rs : List ℕ) → IsStrictlySortedBy nat_cmp rs → IsStrictlySortedBy nat_cmp (filter p rs)
+unfolding IsStrictlySortedBy
+kept_rise p [] h = tt
+kept_rise p (r ∷ rs) h = one (p r) (filter p rs) (above_kept r p rs h.0) (kept_rise p rs h.1)
+  where
+    one : (b : Bool) (l : List ℕ) → AllByRecursion (λ y. nat_cmp r y ≡ Less) l → IsStrictlySortedBy nat_cmp l → IsStrictlySortedBy nat_cmp (cond b (r ∷ l) l)
+    one true l a k = (a, k)
+    one false l a k = k
+
+told_rise : (s : Surroundings) → IsStrictlySortedBy nat_cmp (told s)
+told_rise s = kept_rise _ (numbers_from 1 (told_in (row_of s.node.head.name) s)) (numbers_rise 1 (told_in (row_of s.node.head.name) s))
+
 -- the rules of each rise
 abbrev EachRises : List (ℕ × List ℕ) → Type 0
 EachRises [] = ⊤
@@ -106,9 +129,9 @@ put_rises x rs (e ∷ es) r h = elim (nat_cmp x e.0) as (λ o. EachRises (by_ord
   | Greater ↦ (h.0, put_rises x rs es r h.1)
 ]
 
-facts_rise : (t : Operation) (ss : List (StandOf (List ℕ) _ _)) → EachRises (sorted_in broken t ss)
+facts_rise : (t : Operation) (ss : List (StandOf (List ℕ) _ _)) → EachRises (sorted_in told t ss)
 facts_rise t [] = tt
-facts_rise t (s ∷ ss) = put_rises (stand_id s) (broken (surround t s)) (sorted_in broken t ss) (numbers_rise 1 (told_in (row_of (surround t s).node.head.name) (surround t s))) (facts_rise t ss)
+facts_rise t (s ∷ ss) = put_rises (stand_id s) (told (surround t s)) (sorted_in told t ss) (told_rise (surround t s)) (facts_rise t ss)
 
 -- and so do their pairs
 abbrev Above : ℕ × ℕ → List (ℕ × ℕ) → Type 0
@@ -143,14 +166,14 @@ pairs_rise (e ∷ es) o h = more_rise e.0 e.1 (pairs_of es) h.0 (λ r. all_above
 -- ---- the law
 pub pairs_told : (t : Operation) → (ps : List (ℕ × ℕ)) × (diagnostics_of t ≡ map pair_row ps) × ArePairs t ps
 pairs_told t =
-    let es = sorted_facts broken t in
-    let sorted = is_in_order broken t (stands [] t) in
-    let at = λ (x : ℕ). found broken t x (stands [] t) in (
+    let es = sorted_facts told t in
+    let sorted = is_in_order told t (stands [] t) in
+    let at = λ (x : ℕ). found told t x (stands [] t) in (
       pairs_of es,
       rows_say es,
       record {
-        broken = λ p i. (let w = held es sorted p i in (w.0, sym (at p.0) ∙ w.1, w.2));
-        told = λ p w. listed es p (w.0, at p.0 ∙ w.1, w.2);
+        is_told = λ p i. (let w = held es sorted p i in (w.0, sym (at p.0) ∙ w.1, w.2));
+        all = λ p w. listed es p (w.0, at p.0 ∙ w.1, w.2);
         rising = pairs_rise es sorted (facts_rise t (stands [] t));
       },
     )

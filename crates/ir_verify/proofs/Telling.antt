@@ -1,6 +1,6 @@
 -- The rules in the set of an operation are those that it breaks, and the rows of a table of such sets are those of the tree.
-use Rattle.std.proofs.Common.{◌≡◌, refl, sym, ap, ◌∙◌, subst, ℕ, ◌≤◌, List, [], ◌∷◌, ◌++◌, length, map, cond, false, true≢false, eqb-true, inl, inr, not, Option, Some, None, arith}
-use Rattle.std.specs.Prelude.{option_map, ◌==◌}
+use Rattle.std.proofs.Common.{◌≡◌, refl, sym, ap, ◌∙◌, subst, ℕ, ◌≤◌, Bool, List, [], ◌∷◌, ◌++◌, length, map, cond, false, true≢false, eqb-true, inl, inr, not, Option, Some, None, arith}
+use Rattle.std.specs.Prelude.{option_map, codes, ◌==◌, ◌&&◌}
 use Rattle.std.specs.List.{All, filter}
 use Rattle.std.specs.Ordering.{nat_cmp}
 use Rattle.std.specs.declared.cmp.Ordering.TheVariants.{Less, Equal, Greater}
@@ -19,10 +19,12 @@ use Rattle.ir_verify_base.specs.events.declared.row.Row.{Row as Line}
 use Rattle.ir_verify_base.specs.events.Rows.{cell_meaning, rows_meaning, CellIsOf, RowIsOf, Shows}
 use Rattle.ir_verify_base.specs.Surroundings.{surround, surroundings}
 use Rattle.ir_verify_base.specs.Facts.{fact_of, sorted_in, sorted_facts, kept_facts}
-use Rattle.ir_verify_base.specs.Fits.{Surroundings}
+use Rattle.ir_verify_base.specs.Fits.{Surroundings, is_named}
 use Rattle.ir_verify.specs.declared.rules.RuleSet.{RuleSet}
+use Rattle.ir_verify.specs.declared.finding.Finding.{Finding}
 use Rattle.ir_verify.specs.Breaks.{told_in, broken, numbers_from}
-use Rattle.ir_verify.specs.Sets.{bits_of, rules_in, has_any, set_of}
+use Rattle.ir_verify.specs.Beyond.{is_beyond, is_on_types, told}
+use Rattle.ir_verify.specs.Sets.{bits_of, rules_in, has_any, set_of, finding_of, breaks_any, is_told, rules_told}
 use Rattle.ir_verify.specs.Diagnostics.{broken_at, rule_rows, rows_of, diagnostics_of}
 use Rattle.ir_verify.specs.Reports.{rule_cells, rules_cells, all_cells}
 use Rattle.ir_verify.proofs.Sets.{unpacked, none}
@@ -43,22 +45,6 @@ set_read x t o e = ap (option_map rules_in) e ∙ go (surroundings x t)
     go None = refl
     go (Some s) = ap Some (rules_broken s)
 
--- ---- tables of sets
-abbrev read : ℕ × RuleSet → ℕ × List ℕ
-read e = (e.0, rules_in e.1)
-
-put_read : (x : ℕ) (r : RuleSet) (es : List (ℕ × RuleSet)) → map read (put nat_cmp x r es) ≡ put nat_cmp x (rules_in r) (map read es)
-put_read x r [] = refl
-put_read x r (e ∷ es) = elim (nat_cmp x e.0) as (λ o. map read (by_order o ((x, r) ∷ e ∷ es) ((e.0, r) ∷ es) (e ∷ put nat_cmp x r es)) ≡ by_order o ((x, rules_in r) ∷ read e ∷ map read es) ((e.0, rules_in r) ∷ map read es) (read e ∷ put nat_cmp x (rules_in r) (map read es))) [
-  | Less ↦ refl
-  | Equal ↦ refl
-  | Greater ↦ ap (λ l. read e ∷ l) (put_read x r es)
-]
-
-facts_read : (t : Operation) (ss : List (StandOf (List ℕ) _ _)) → map read (sorted_in set_of t ss) ≡ sorted_in broken t ss
-facts_read t [] = refl
-facts_read t (s ∷ ss) = put_read (stand_id s) (set_of (surround t s)) (sorted_in set_of t ss) ∙ λ i. put nat_cmp (stand_id s) (rules_broken (surround t s) i) (facts_read t ss i)
-
 -- an operation that breaks no rule has no row
 no_bits : (n : ℕ) → not (n == 0) ≡ false → n ≡ 0
 no_bits n e = elim (bool_cases (n == 0)) [ inl k ↦ eqb-true n 0 k | inr k ↦ absurd (true≢false (sym (ap not k) ∙ e)) ]
@@ -67,13 +53,44 @@ no_rules : (set : RuleSet) → has_any set ≡ false → rules_in set ≡ []
 unfolding rules_in
 no_rules set e = ap (λ n. numbers_from 1 (bits_of 24 n)) (no_bits set.bits e) ∙ none 24 1
 
-all_rows : (es : List (ℕ × RuleSet)) → rows_of (map read (filter (λ (e : ℕ × RuleSet). has_any e.1) es)) ≡ rows_of (map read es)
+-- what is told of an operation, read
+abbrev is_told_of : Surroundings → ℕ → Bool
+is_told_of s r = not (is_beyond s && is_on_types (is_named s.node (codes "arith.constant")) r)
+
+pub finding_read : (s : Surroundings) → rules_told (finding_of s) ≡ told s
+unfolding rules_told
+finding_read s = elim (bool_cases (has_any (set_of s))) [
+  | inl k ↦ ap (λ b. filter (λ r. not ((b && is_beyond s) && is_on_types (is_named s.node (codes "arith.constant")) r)) (rules_in (set_of s))) k ∙ ap (filter (is_told_of s)) (rules_broken s)
+  | inr k ↦ ap (filter (is_told (finding_of s))) (no_rules (set_of s) k) ∙ sym (ap (filter (is_told_of s)) (sym (rules_broken s) ∙ no_rules (set_of s) k))
+]
+
+none_told : (f : Finding) → breaks_any f ≡ false → rules_told f ≡ []
+unfolding rules_told
+none_told f e = ap (filter (is_told f)) (no_rules f.broken e)
+
+-- ---- tables of findings
+abbrev read : ℕ × Finding → ℕ × List ℕ
+read e = (e.0, rules_told e.1)
+
+put_read : (x : ℕ) (r : Finding) (es : List (ℕ × Finding)) → map read (put nat_cmp x r es) ≡ put nat_cmp x (rules_told r) (map read es)
+put_read x r [] = refl
+put_read x r (e ∷ es) = elim (nat_cmp x e.0) as (λ o. map read (by_order o ((x, r) ∷ e ∷ es) ((e.0, r) ∷ es) (e ∷ put nat_cmp x r es)) ≡ by_order o ((x, rules_told r) ∷ read e ∷ map read es) ((e.0, rules_told r) ∷ map read es) (read e ∷ put nat_cmp x (rules_told r) (map read es))) [
+  | Less ↦ refl
+  | Equal ↦ refl
+  | Greater ↦ ap (λ l. read e ∷ l) (put_read x r es)
+]
+
+facts_read : (t : Operation) (ss : List (StandOf (List ℕ) _ _)) → map read (sorted_in finding_of t ss) ≡ sorted_in told t ss
+facts_read t [] = refl
+facts_read t (s ∷ ss) = put_read (stand_id s) (finding_of (surround t s)) (sorted_in finding_of t ss) ∙ λ i. put nat_cmp (stand_id s) (finding_read (surround t s) i) (facts_read t ss i)
+
+all_rows : (es : List (ℕ × Finding)) → rows_of (map read (filter (λ (e : ℕ × Finding). breaks_any e.1) es)) ≡ rows_of (map read es)
 all_rows [] = refl
 all_rows (e ∷ es) =
-    let rest = filter (λ (e : ℕ × RuleSet). has_any e.1) es in
-    elim (bool_cases (has_any e.1)) [
-      | inl k ↦ ap (λ b. rows_of (map read (cond b (e ∷ rest) rest))) k ∙ ap (λ l. rule_rows e.0 (rules_in e.1) ++ l) (all_rows es)
-      | inr k ↦ ap (λ b. rows_of (map read (cond b (e ∷ rest) rest))) k ∙ all_rows es ∙ sym (ap (λ l. rule_rows e.0 l ++ rows_of (map read es)) (no_rules e.1 k))
+    let rest = filter (λ (e : ℕ × Finding). breaks_any e.1) es in
+    elim (bool_cases (breaks_any e.1)) [
+      | inl k ↦ ap (λ b. rows_of (map read (cond b (e ∷ rest) rest))) k ∙ ap (λ l. rule_rows e.0 (rules_told e.1) ++ l) (all_rows es)
+      | inr k ↦ ap (λ b. rows_of (map read (cond b (e ∷ rest) rest))) k ∙ all_rows es ∙ sym (ap (λ l. rule_rows e.0 l ++ rows_of (map read es)) (none_told e.1 k))
     ]
 
 -- ---- rows
@@ -82,9 +99,9 @@ module _ (c : Things) where
   cells_say x [] = refl
   cells_say x (r ∷ rs) = ap (λ l. map (cell_meaning c) (rule_cells x r) ∷ l) (cells_say x rs)
 
-  all_say : (es : List (ℕ × RuleSet)) → map (map (cell_meaning c)) (all_cells es) ≡ rows_of (map read es)
+  all_say : (es : List (ℕ × Finding)) → map (map (cell_meaning c)) (all_cells es) ≡ rows_of (map read es)
   all_say [] = refl
-  all_say (e ∷ es) = map-append (map (cell_meaning c)) (rules_cells e.0 (rules_in e.1)) (all_cells es) ∙ λ i. cells_say e.0 (rules_in e.1) i ++ all_say es i
+  all_say (e ∷ es) = map-append (map (cell_meaning c)) (rules_cells e.0 (rules_told e.1)) (all_cells es) ∙ λ i. cells_say e.0 (rules_told e.1) i ++ all_say es i
 
   lines_say : (rows : List Line) → rows_meaning c rows ≡ map (map (cell_meaning c)) (map (λ (r : Line). r.cells.items) rows)
   lines_say [] = refl
@@ -99,16 +116,16 @@ module _ (c : Things) where
       All-cons (λ cells. All (CellIsOf c) cells) (rule_cells x r) (rules_cells x rs)
       (All-cons (CellIsOf c) (Op x) (Rule r ∷ []) (tt {0}) (All-cons (CellIsOf c) (Rule r) [] (tt {0}) (All-nil (CellIsOf c)))) (cells_known x rs)
 
-  all_known : (es : List (ℕ × RuleSet)) → AreOf (all_cells es)
+  all_known : (es : List (ℕ × Finding)) → AreOf (all_cells es)
   all_known [] = All-nil (λ cells. All (CellIsOf c) cells)
-  all_known (e ∷ es) = All-append (λ cells. All (CellIsOf c) cells) (rules_cells e.0 (rules_in e.1)) (all_cells es) (cells_known e.0 (rules_in e.1)) (all_known es)
+  all_known (e ∷ es) = All-append (λ cells. All (CellIsOf c) cells) (rules_cells e.0 (rules_told e.1)) (all_cells es) (cells_known e.0 (rules_told e.1)) (all_known es)
 
   lines_known : (rows : List Line) → AreOf (map (λ (r : Line). r.cells.items) rows) → All (RowIsOf c) rows
   lines_known [] a = All-nil (RowIsOf c)
   lines_known (r ∷ rows) a = All-cons (RowIsOf c) r rows (All-head (λ cells. All (CellIsOf c) cells) r.cells.items _ a) (lines_known rows (All-tail (λ cells. All (CellIsOf c) cells) r.cells.items _ a))
 
-  pub shows_diagnostics : (t : Operation) (es : List (ℕ × RuleSet)) (rows : List Line) → es ≡ kept_facts set_of has_any t → map (λ (r : Line). r.cells.items) rows ≡ all_cells es → Shows c rows (diagnostics_of t)
+  pub shows_diagnostics : (t : Operation) (es : List (ℕ × Finding)) (rows : List Line) → es ≡ kept_facts finding_of breaks_any t → map (λ (r : Line). r.cells.items) rows ≡ all_cells es → Shows c rows (diagnostics_of t)
   shows_diagnostics t es rows e is = record {
-    says = lines_say rows ∙ ap (map (map (cell_meaning c))) is ∙ all_say es ∙ ap (λ l. rows_of (map read l)) e ∙ all_rows (sorted_facts set_of t) ∙ ap rows_of (facts_read t (stands [] t));
+    says = lines_say rows ∙ ap (map (map (cell_meaning c))) is ∙ all_say es ∙ ap (λ l. rows_of (map read l)) e ∙ all_rows (sorted_facts finding_of t) ∙ ap rows_of (facts_read t (stands [] t));
     known = lines_known rows (subst AreOf (sym is) (all_known es));
   }

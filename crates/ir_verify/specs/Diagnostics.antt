@@ -1,4 +1,4 @@
--- The analysis of diagnostics: which operations of a tree break which rules.
+-- The analysis of diagnostics: which rules are told of which operations of a tree.
 use Rattle.std.specs.Prelude.{◌≡◌, ℕ, List, [], ◌∷◌, ◌++◌, true, false, Option, option_map}
 use Rattle.ir_types.specs.declared.refusal.Refusal.{Refusal}
 use Rattle.ir_types.specs.declared.refusal.Refusal.TheVariants.{NoSuchOp, Memory}
@@ -8,10 +8,15 @@ use Rattle.ir_verify_base.specs.events.Rows.{RowTerm, Op, Rule}
 use Rattle.ir_verify_base.specs.Surroundings.{surroundings}
 use Rattle.ir_verify_base.specs.Facts.{sorted_facts}
 use Rattle.ir_verify.specs.Breaks.{broken}
+use Rattle.ir_verify.specs.Beyond.{told}
 
 -- the rules that operation x of a tree breaks, if it is there
 abbrev pub broken_at : ℕ → Operation → Option (List ℕ)
 broken_at x t = option_map broken (surroundings x t)
+
+-- the rules that are told of it
+abbrev pub told_at : ℕ → Operation → Option (List ℕ)
+told_at x t = option_map told (surroundings x t)
 
 -- why operation x of a tree isn't checked: it isn't there, or memory was refused
 abbrev pub Unchecked : ℕ → Operation → Refusal → Type 0
@@ -31,4 +36,4 @@ rows_of (e ∷ es) = rule_rows e.0 e.1 ++ rows_of es
 
 -- the rows of a tree, by operation and rule
 abbrev pub diagnostics_of : Operation → List RowTerm
-diagnostics_of t = rows_of (sorted_facts broken t)
+diagnostics_of t = rows_of (sorted_facts told t)

@@ -1,6 +1,7 @@
 pub mod BlockRules
 pub mod PlaceRules
 pub mod Breaks
+pub mod Beyond
 pub mod Sets
 pub mod Diagnostics
 pub mod Pairs

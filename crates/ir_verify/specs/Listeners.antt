@@ -5,7 +5,7 @@ use Rattle.std.specs.BTreeMap.{get}
 use Rattle.ir_verify_base.specs.events.Listener.{Listener}
 use Rattle.ir_verify_base.specs.Facts.{Keeps, most_looks}
 use Rattle.ir_verify.specs.declared.diagnostics.Diagnostics.{Diagnostics}
-use Rattle.ir_verify.specs.Sets.{has_any, set_of}
+use Rattle.ir_verify.specs.Sets.{breaks_any, finding_of}
 use Rattle.ir_verify.specs.Diagnostics.{diagnostics_of}
 
 -- the table keeps of each operation of the module that breaks rules which they are. It looks at most eight times, and
@@ -14,7 +14,7 @@ abbrev pub diagnostics_listener : Diagnostics → Listener
 diagnostics_listener s = record {
   kind = 3;
   analysis = diagnostics_of;
-  agrees = λ c m. (s.kept.stale ≡ false) × Keeps set_of has_any m.tree (get nat_cmp s.kept.table);
+  agrees = λ c m. (s.kept.stale ≡ false) × Keeps finding_of breaks_any m.tree (get nat_cmp s.kept.table);
   stale = s.kept.stale;
   heard = None;
   most = λ e m n. most_looks e n.tree;

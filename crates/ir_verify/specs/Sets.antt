@@ -1,9 +1,12 @@
--- Sets of rules, as numbers of 24 bits.
-use Rattle.std.specs.Prelude.{ℕ, zero, suc, ◌+◌, ◌*◌, ◌/◌, ◌%◌, List, [], ◌∷◌, Bool, true, false, not, ◌==◌}
+-- Sets of rules, as numbers of 24 bits, and what is told of an operation.
+use Rattle.std.specs.Prelude.{ℕ, zero, suc, ◌+◌, ◌*◌, ◌/◌, ◌%◌, List, [], ◌∷◌, Bool, true, false, not, codes, ◌==◌, ◌&&◌}
+use Rattle.std.specs.List.{filter}
 use Rattle.op_registry.specs.Registry.{row_of}
 use Rattle.ir_verify.specs.declared.rules.RuleSet.{RuleSet}
-use Rattle.ir_verify_base.specs.Fits.{Surroundings}
+use Rattle.ir_verify.specs.declared.finding.Finding.{Finding}
+use Rattle.ir_verify_base.specs.Fits.{Surroundings, is_named}
 use Rattle.ir_verify.specs.Breaks.{told_in, numbers_from}
+use Rattle.ir_verify.specs.Beyond.{is_beyond, is_on_types}
 
 -- a number with one bit more below the others
 abbrev pub with_bit : Bool → ℕ → ℕ
@@ -31,3 +34,23 @@ has_any set = not (set.bits == 0)
 -- the set of the rules that an operation breaks
 abbrev pub set_of : Surroundings → RuleSet
 set_of s = record { bits = packed (told_in (row_of s.node.head.name) s) }
+
+-- what is kept of an operation: the rules that it breaks, and, where there are some, whether it is beyond the table, and
+-- whether it is a constant
+abbrev pub finding_of : Surroundings → Finding
+finding_of s = record {
+  broken = set_of s;
+  beyond = has_any (set_of s) && is_beyond s;
+  constant = is_named s.node (codes "arith.constant");
+}
+
+-- whether it breaks any
+abbrev pub breaks_any : Finding → Bool
+breaks_any t = has_any t.broken
+
+-- the rules that are told of it
+abbrev pub is_told : Finding → ℕ → Bool
+is_told t r = not (t.beyond && is_on_types t.constant r)
+
+unfoldable pub rules_told : Finding → List ℕ
+rules_told t = filter (is_told t) (rules_in t.broken)

@@ -1,8 +1,8 @@
 //! The listener that keeps the diagnostics of a module.
 ghost use Rattle.std.specs.Prelude.{◌≡◌, true};
 
+use crate::finding::Finding;
 use crate::report::rows;
-use crate::rules::RuleSet;
 use ir_verify_base::events::analysis::Analysis;
 use ir_verify_base::events::event::Event;
 use ir_verify_base::events::row::{Kind, Memory, ReportFault, Row};
@@ -11,14 +11,15 @@ use ir_verify_base::events::world::World;
 use ir_verify_base::kept::Kept;
 use std::alloc::Global;
 
-/// The analysis `diagnostics`: which operations break which rules.
+/// The analysis `diagnostics`: which operations break which rules. Of an operation beyond the table (an addition of
+/// vectors, say, which is opaque here) the rules on the types that the table names aren't told.
 ///
 /// It keeps of each operation that breaks rules which they are. After an event it looks again at the operations near
 /// it, which alone can break other rules than before.
 #[derive(Drop)]
 pub struct Diagnostics {
     alloc: Global,
-    kept: Kept<RuleSet>,
+    kept: Kept<Finding>,
 }
 
 impl Diagnostics {

@@ -4,6 +4,7 @@
 mod block_rules;
 pub mod check;
 pub mod diagnostics;
+pub mod finding;
 pub mod laws;
 mod place_rules;
 mod report;

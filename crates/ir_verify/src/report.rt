@@ -1,10 +1,10 @@
 //! The rows of the report.
 ghost use Rattle.std.specs.Prelude.{◌≡◌, ◌++◌, [], ◌∷◌, map, OnOk, IfOk};
 ghost use Rattle.ir_verify_base.specs.events.declared.row.Row.{Row as Line};
-ghost use Rattle.ir_verify.specs.Sets.{rules_in};
+ghost use Rattle.ir_verify.specs.Sets.{rules_told};
 ghost use Rattle.ir_verify.specs.Reports.{rule_cells, rules_cells, all_cells};
 
-use crate::rules::RuleSet;
+use crate::finding::Finding;
 use ir_tree::value::Value;
 use ir_types::ids::OpId;
 use ir_verify_base::events::row::{Cell, Row};
@@ -35,17 +35,22 @@ fn push_rows(alloc: Global, op: OpId, rules: &[u8], out: &mut Vec<Row>) -> Resul
     Ok(())
 }
 
-/// Adds a row for each rule of a set that an operation breaks.
-fn push_set(alloc: Global, op: OpId, set: &RuleSet, out: &mut Vec<Row>) -> Result<(), AllocError>
+/// Adds a row for each rule that is told of an operation.
+fn push_told(
+    alloc: Global,
+    op: OpId,
+    finding: &Finding,
+    out: &mut Vec<Row>,
+) -> Result<(), AllocError>
     ensures { OnOk result (map (λ (r : Line). r.cells.items) out.new.items
-        ≡ map (λ (r : Line). r.cells.items) out.old.items ++ rules_cells op (rules_in set.now)) }
+        ≡ map (λ (r : Line). r.cells.items) out.old.items ++ rules_cells op (rules_told finding.now)) }
 {
-    let rules = set.numbers(alloc)?;
+    let rules = finding.numbers(alloc)?;
     push_rows(alloc, op, &rules, out)
 }
 
 /// A row for each operation and each rule that it breaks, by operation and rule.
-pub(crate) fn rows(alloc: Global, table: &BTreeMap<u32, RuleSet>) -> Result<Vec<Row>, AllocError>
+pub(crate) fn rows(alloc: Global, table: &BTreeMap<u32, Finding>) -> Result<Vec<Row>, AllocError>
     ensures { IfOk result (λ out. map (λ (r : Line). r.cells.items) out.items ≡ all_cells table.now.entries) }
 {
     let mut out = Vec::new(alloc);
@@ -56,14 +61,14 @@ pub(crate) fn rows(alloc: Global, table: &BTreeMap<u32, RuleSet>) -> Result<Vec<
 /// Adds them.
 fn push_all(
     alloc: Global,
-    table: &BTreeMap<u32, RuleSet>,
+    table: &BTreeMap<u32, Finding>,
     out: &mut Vec<Row>,
 ) -> Result<(), AllocError>
     ensures { OnOk result (map (λ (r : Line). r.cells.items) out.new.items
         ≡ map (λ (r : Line). r.cells.items) out.old.items ++ all_cells table.now.entries) }
 {
     for (op, rules) in table {
-        push_set(alloc, OpId::new(*op), rules, out)?;
+        push_told(alloc, OpId::new(*op), rules, out)?;
     }
     Ok(())
 }

@@ -49,6 +49,13 @@ impl RuleSet {
         RuleSet { bits }
     }
 
+    /// Whether a rule is in the set.
+    pub(crate) fn has_any(&self) -> bool
+        ensures { result ≡ has_any self.now }
+    {
+        self.bits != 0
+    }
+
     /// The numbers of the rules in the set, rising.
     pub fn numbers(&self, alloc: Global) -> Result<Vec<u8>, AllocError>
         ensures { IfOk result (λ v. v.items ≡ rules_in self.now) }
@@ -80,12 +87,12 @@ impl Fact for RuleSet {
     }
 
     fn is_kept(&self) -> bool {
-        self.bits != 0
+        self.has_any()
     }
 }
 
 /// Whether an operation with a name may break rules: no other than a listed one does.
-fn may_break(ctx: &Context, name: NameId) -> bool
+pub(crate) fn may_break(ctx: &Context, name: NameId) -> bool
     ensures { result ≡ false → (s : Surroundings) → s.node.head.name ≡ name_term ctx.now name
         → has_any (set_of s) ≡ false }
 {

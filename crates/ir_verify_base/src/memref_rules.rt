@@ -53,6 +53,7 @@ fn memref_in(node: &TypeNode) -> Option<Memref>
         TypeNode::Int { .. } => None,
         TypeNode::Index => None,
         TypeNode::Func { .. } => None,
+        TypeNode::Opaque(_) => None,
         TypeNode::Memref { dims, elem } => Some(Memref {
             rank: dims.len(),
             unknown: unknown_count(dims.as_slice()),
@@ -189,6 +190,7 @@ fn are_others(node: &AttrNode, sizes: usize) -> bool
         AttrNode::Sym(_) => false,
         AttrNode::Dense { values, .. } => !are_sizes(values.as_slice(), sizes),
         AttrNode::Overflow { .. } => false,
+        AttrNode::Opaque { .. } => false,
     }
 }
 

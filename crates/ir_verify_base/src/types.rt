@@ -66,6 +66,7 @@ fn width_in(node: &TypeNode) -> Option<u32>
         TypeNode::Index => None,
         TypeNode::Func { .. } => None,
         TypeNode::Memref { .. } => None,
+        TypeNode::Opaque(_) => None,
     }
 }
 
@@ -90,6 +91,7 @@ fn node_is_integer(node: &TypeNode) -> bool
         TypeNode::Index => false,
         TypeNode::Func { .. } => false,
         TypeNode::Memref { .. } => false,
+        TypeNode::Opaque(_) => false,
     }
 }
 
@@ -110,6 +112,7 @@ fn node_is_index(node: &TypeNode) -> bool
         TypeNode::Index => true,
         TypeNode::Func { .. } => false,
         TypeNode::Memref { .. } => false,
+        TypeNode::Opaque(_) => false,
     }
 }
 
@@ -142,6 +145,7 @@ fn node_is_boolean(node: &TypeNode) -> bool
         TypeNode::Index => false,
         TypeNode::Func { .. } => false,
         TypeNode::Memref { .. } => false,
+        TypeNode::Opaque(_) => false,
     }
 }
 
@@ -162,5 +166,6 @@ fn node_is_memref(node: &TypeNode) -> bool
         TypeNode::Index => false,
         TypeNode::Func { .. } => false,
         TypeNode::Memref { .. } => true,
+        TypeNode::Opaque(_) => false,
     }
 }

@@ -1,7 +1,8 @@
 //! The listener that keeps the uses of values.
-ghost use Rattle.std.specs.Prelude.{◌≡◌, ◌≤◌, ◌+◌, ◌⊎◌, true, IfOk};
+ghost use Rattle.std.specs.Prelude.{◌≡◌, true, IfOk};
 ghost use Rattle.ir_event.specs.Modules.{Module, things_in, module_in, shown_in};
-ghost use Rattle.ir_event.specs.Listener.{Told, ShowsTaken};
+ghost use Rattle.ir_event.specs.Listener.{ShowsTaken};
+ghost use Rattle.ir_event.specs.Hearing.{Hears};
 ghost use Rattle.ir_event.specs.Step.{Step};
 ghost use Rattle.listeners.specs.Following.{adds_no_use};
 ghost use Rattle.listeners.specs.Uses.{all_uses, in_order};
@@ -78,14 +79,7 @@ impl Analysis for Uses {
     /// Where it agreed before an operation was taken or moved, or an entry was set, it agrees afterwards, and isn't
     /// stale.
     fn told<'a>(&mut self, view: View<'a>, event: Event) -> View<'a>
-        ensures told { Told event (things_in view.entry.world.now) (module_in view.entry.world.now)
-            (shown_in view.entry.world.now) (uses_listener self.old) (uses_listener self.new) }
-        ensures looks { (m : Module) → Step (things_in view.entry.world.now) event m (module_in view.entry.world.now)
-            → ShowsTaken event m (shown_in view.entry.world.now)
-            → ((uses_listener self.old).agrees (things_in view.entry.world.now) m
-            ⊎ ((uses_listener self.old).stale ≡ true))
-            → result.looks ≤ view.entry.looks + (uses_listener self.old).most event m (module_in view.entry.world.now) }
-        ensures world { result.world.now ≡ view.entry.world.now }
+        ensures heard { Hears event view.entry result (uses_listener self.old) (uses_listener self.new) }
         ensures grown { (m : Module) → adds_no_use event ≡ true → Step (things_in view.entry.world.now) event m
             (module_in view.entry.world.now) → ShowsTaken event m (shown_in view.entry.world.now)
             → (uses_listener self.old).agrees (things_in view.entry.world.now) m

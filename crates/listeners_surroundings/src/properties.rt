@@ -64,5 +64,6 @@ fn string_in(node: &AttrNode) -> Option<NameId>
         AttrNode::Sym(_) => None,
         AttrNode::Dense { .. } => None,
         AttrNode::Overflow { .. } => None,
+        AttrNode::Opaque { .. } => None,
     }
 }

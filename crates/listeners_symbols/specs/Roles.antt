@@ -5,7 +5,7 @@ use Rattle.std.specs.Prelude.{option_map, option_and_then}
 use Rattle.std.specs.List.{list_any}
 use Rattle.std.specs.Str.{bytes_eq}
 use Rattle.std.specs.Cmp.Lexicographic.{pointwise}
-use Rattle.ir_event.specs.types.Terms.{TypeTerm, AttrTerm, IntegerOf, String, TypeOf, Flag, Array, Dictionary, Symbol}
+use Rattle.ir_event.specs.types.Terms.{TypeTerm, AttrTerm, OpaqueOf, IntegerOf, String, TypeOf, Flag, Array, Dictionary, Symbol}
 use Rattle.ir_event.specs.types.Terms.{DenseArray, Overflow, AttrTerms, no_attrs, next_attr, EntryTerms, no_entries}
 use Rattle.ir_event.specs.types.Terms.{next_entry}
 use Rattle.ir_event.specs.types.Words.{is_table}
@@ -121,6 +121,7 @@ abbrev mutual
   with_symbols seen (Symbol parts) = with_reference seen (Symbol parts, parts)
   with_symbols seen (DenseArray ty values) = seen
   with_symbols seen (Overflow nsw nuw) = seen
+  with_symbols seen (OpaqueOf text ty) = seen
 
   pub with_each : References → AttrTerms → References
   with_each seen no_attrs = seen

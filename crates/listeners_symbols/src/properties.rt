@@ -103,6 +103,7 @@ fn parts_in(node: &AttrNode) -> Option<&[NameId]>
         AttrNode::Sym(parts) => Some(parts.as_slice()),
         AttrNode::Dense { .. } => None,
         AttrNode::Overflow { .. } => None,
+        AttrNode::Opaque { .. } => None,
     }
 }
 

@@ -74,6 +74,7 @@ fn add_attr(alloc: Global, ctx: &Context, id: AttrId, out: &mut Found) -> Result
         AttrNode::Sym(parts) => add(alloc, ctx, id, parts.as_slice(), out),
         AttrNode::Dense { .. } => Ok(()),
         AttrNode::Overflow { .. } => Ok(()),
+        AttrNode::Opaque { .. } => Ok(()),
     }
 }
 

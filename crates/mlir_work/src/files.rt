@@ -2,8 +2,8 @@
 
 use mlir_work_front::input::{ReadFault, read_all};
 use mlir_work_front::options::Given;
-use mlir_work_inputs::inputs::input_of;
-use std::alloc::Global;
+use mlir_work_inputs::inputs::{input_of, parts_of};
+use std::alloc::{AllocError, Global};
 use std::{fs, io};
 
 /// The name that stands for standard input and standard output.
@@ -35,7 +35,7 @@ pub(crate) fn output_of<'a>(given: &Given<'a>) -> Option<&'a str> {
 
 /// Whether the input comes from files or commands.
 pub(crate) fn names_any(given: &Given<'_>) -> bool {
-    given.module.is_some() || !given.scripts.is_empty() || !given.commands.is_empty()
+    given.split || given.module.is_some() || !given.scripts.is_empty() || !given.commands.is_empty()
 }
 
 /// The bytes of a file that was opened.
@@ -95,14 +95,48 @@ fn put_commands<'a>(
     Ok(())
 }
 
-/// One input of all that the command line names. Without the name of a module standard input has it.
-pub(crate) fn input<'a>(rt: &HostRuntime, given: &Given<'a>) -> Result<Vec<u8>, Fault<'a>> {
-    let module = text_of(rt, given.module.unwrap_or(STANDARD))?;
+/// The scripts and commands that the command line names.
+fn scripts_of<'a>(rt: &HostRuntime, given: &Given<'a>) -> Result<Vec<Vec<u8>>, Fault<'a>> {
     let mut scripts = Vec::new(rt.alloc());
     put_files(rt, &mut scripts, &given.scripts)?;
     put_commands(rt.alloc(), &mut scripts, &given.commands)?;
-    match input_of(rt.alloc(), module, &scripts) {
-        Ok(input) => Ok(input),
+    Ok(scripts)
+}
+
+/// The text of the module, or the texts of all modules where it is split.
+fn modules_of<'a>(rt: &HostRuntime, given: &Given<'a>) -> Result<Vec<Vec<u8>>, Fault<'a>> {
+    let text = text_of(rt, given.module.unwrap_or(STANDARD))?;
+    let found = if given.split {
+        parts_of(rt.alloc(), &text)
+    } else {
+        one(rt.alloc(), text)
+    };
+    match found {
+        Ok(modules) => Ok(modules),
         Err(_) => Err(Fault::Memory),
     }
+}
+
+/// One text alone.
+fn one(alloc: Global, text: Vec<u8>) -> Result<Vec<Vec<u8>>, AllocError> {
+    let mut texts = Vec::new(alloc);
+    texts.push(text)?;
+    Ok(texts)
+}
+
+/// The inputs of all that the command line names: one, or one for each module. Without the name of a module standard
+/// input has it.
+pub(crate) fn inputs<'a>(rt: &HostRuntime, given: &Given<'a>) -> Result<Vec<Vec<u8>>, Fault<'a>> {
+    let modules = modules_of(rt, given)?;
+    let scripts = scripts_of(rt, given)?;
+    let mut inputs = Vec::new(rt.alloc());
+    for module in modules {
+        let Ok(input) = input_of(rt.alloc(), module, &scripts) else {
+            return Err(Fault::Memory);
+        };
+        if inputs.push(input).is_err() {
+            return Err(Fault::Memory);
+        }
+    }
+    Ok(inputs)
 }

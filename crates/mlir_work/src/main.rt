@@ -3,7 +3,7 @@
 
 mod files;
 
-use crate::files::{Fault, input, names_any, output_of};
+use crate::files::{Fault, inputs, names_any, output_of};
 use clap::Error;
 use clap::error::ErrorKind;
 use mlir_work_front::dry::Bytes;
@@ -11,10 +11,12 @@ use mlir_work_front::json::run_as_json;
 use mlir_work_front::live::run_live;
 use mlir_work_front::options::{Format, Given, options_of};
 use mlir_work_front::run::{Options, run_watched};
+use mlir_work_front::sink::Sink;
 use mlir_work_front::source::Source;
 use mlir_work_front::watched::Watched;
+use mlir_work_front::writing::put;
 use mlir_work_listeners::seven::all_listeners;
-use std::alloc::AllocError;
+use std::alloc::{AllocError, Global};
 use std::io::BufWriter;
 use std::process::ExitCode;
 use std::random::RandomSource;
@@ -76,38 +78,87 @@ fn refuse_input(rt: &HostRuntime, fault: &Fault<'_>) -> u8 {
 }
 
 /// Runs what a reader has, with the analyses of the program, in the order of their kinds, and gives the status.
-fn run_all<R: Source, W: io::Write + Drop>(
+fn run_one<R: Source, W: Sink>(
     rt: &HostRuntime,
     given: &Given<'_>,
     reader: &mut R,
-    writer: W,
+    writer: &mut W,
 ) -> Result<u8, AllocError> {
     let boxes = all_listeners(rt.alloc())?;
-    let Ok(writer) = BufWriter::new(rt.alloc(), writer) else {
-        return Err(AllocError);
-    };
-    let mut writer = Watched::new(writer);
     let (alloc, key, options) = (rt.alloc(), key_of(rt), given.options);
     match given.format {
-        Format::Text => Ok(run_watched(alloc, key, options, reader, &mut writer, boxes)),
-        Format::Json => run_as_json(alloc, key, options, reader, &mut writer, boxes),
+        Format::Text => Ok(run_watched(alloc, key, options, reader, writer, boxes)),
+        Format::Json => run_as_json(alloc, key, options, reader, writer, boxes),
     }
+}
+
+/// A writer of which it is known whether it failed.
+fn watched<W: io::Write + Drop>(
+    alloc: Global,
+    writer: W,
+) -> Result<Watched<BufWriter<W>>, AllocError> {
+    match BufWriter::new(alloc, writer) {
+        Ok(writer) => Ok(Watched::new(writer)),
+        Err(_) => Err(AllocError),
+    }
+}
+
+/// Runs standard input, and gives the status.
+fn run_standard(rt: &HostRuntime, given: &Given<'_>) -> Result<u8, AllocError> {
+    let mut reader = Watched::new(rt.stdin());
+    let mut writer = watched(rt.alloc(), io::writer(rt))?;
+    run_one(rt, given, &mut reader, &mut writer)
+}
+
+/// Writes what stands between the outputs of two modules: the divider, or its object.
+fn put_divider<W: Sink>(given: &Given<'_>, writer: &mut W) -> bool {
+    let line: &[u8] = match given.format {
+        Format::Text => b"// -----\n",
+        Format::Json => b"{\"divider\":true}\n",
+    };
+    put(writer, line).is_ok()
+}
+
+/// Runs inputs, one behind the other, and gives the greatest status. It ends where a write fails.
+fn run_inputs<W: io::Write + Drop>(
+    rt: &HostRuntime,
+    given: &Given<'_>,
+    inputs: &[Vec<u8>],
+    writer: W,
+) -> Result<u8, AllocError> {
+    let mut writer = watched(rt.alloc(), writer)?;
+    let mut worst = 0;
+    let mut is_first = true;
+    for input in inputs {
+        if !is_first && !put_divider(given, &mut writer) {
+            return Ok(4);
+        }
+        is_first = false;
+        let mut reader = Bytes {
+            rest: input.as_slice(),
+        };
+        let status = run_one(rt, given, &mut reader, &mut writer)?;
+        if status > worst {
+            worst = status;
+        }
+        if worst == 4 {
+            return Ok(4);
+        }
+    }
+    Ok(worst)
 }
 
 /// Runs what the command line names, and gives the status.
 fn run_named(rt: &HostRuntime, given: &Given<'_>) -> Result<u8, AllocError> {
-    let input = match input(rt, given) {
-        Ok(input) => input,
+    let inputs = match inputs(rt, given) {
+        Ok(inputs) => inputs,
         Err(fault) => return Ok(refuse_input(rt, &fault)),
     };
-    let mut reader = Bytes {
-        rest: input.as_slice(),
-    };
     let Some(name) = output_of(given) else {
-        return run_all(rt, given, &mut reader, io::writer(rt));
+        return run_inputs(rt, given, &inputs, io::writer(rt));
     };
     match fs::create(rt, name) {
-        Ok(file) => run_all(rt, given, &mut reader, file),
+        Ok(file) => run_inputs(rt, given, &inputs, file),
         Err(_) => {
             let _ = eprintln!(rt; "error: {name}: it can't be written");
             Ok(2)
@@ -143,8 +194,7 @@ fn run_given(rt: &HostRuntime, given: &Given<'_>) -> Result<u8, AllocError> {
     if given.options.ends {
         return answer_lines(rt, given.options);
     }
-    let mut reader = Watched::new(rt.stdin());
-    run_all(rt, given, &mut reader, io::writer(rt))
+    run_standard(rt, given)
 }
 
 fn main(rt: HostRuntime) -> ExitCode {

@@ -27,10 +27,11 @@ abbrev pub ShownOf : Option Session → List ℕ
 ShownOf None = []
 ShownOf (Some s) = s.shows.items
 
--- a session was opened over the text, or why there is none
-abbrev pub OpenGoes : List ℕ → ℕ → Option Session → Answer → Type 0
-OpenGoes text limit None a = (refusal : Refusal) × (offset : Option ℕ) × WhyNotOpened text refusal offset × (a ≡ unopened refusal offset)
-OpenGoes text limit (Some s) a = Opened text limit s × (a ≡ opened)
+-- a session was opened over the text, or why there is none; `opaque` says whether types and attributes that aren't known
+-- are read as opaque ones
+abbrev pub OpenGoes : Bool → List ℕ → ℕ → Option Session → Answer → Type 0
+OpenGoes opaque text limit None a = (refusal : Refusal) × (offset : Option ℕ) × WhyNotOpened opaque text refusal offset × (a ≡ unopened refusal offset)
+OpenGoes opaque text limit (Some s) a = Opened opaque text limit s × (a ≡ opened)
 
 -- something is asked of the session that is held, which may change it; a closed handle stays closed
 abbrev pub Goes : (Session → Answer → Session → Type 0) → Option Session → Answer → Option Session → Type 0

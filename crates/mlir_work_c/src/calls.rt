@@ -1,5 +1,5 @@
 //! What C calls.
-ghost use Rattle.std.specs.Prelude.{◌≡◌, ◌++◌, IfErr, IfOk, None, Some, take, drop};
+ghost use Rattle.std.specs.Prelude.{◌≡◌, ◌++◌, IfErr, IfOk, None, Some, false, take, true, drop};
 ghost use Rattle.std.specs.Option.{MatchOption};
 ghost use Rattle.rewriter.specs.Benched.{IsKept};
 ghost use Rattle.mlir_work_listeners.specs.Listeners.{seven_listener};
@@ -23,12 +23,18 @@ pub extern "C" fn mlir_work_version() -> u32
 }
 
 /// A session over the text of a module, in a box, or why there is none.
-fn open_box(alloc: Global, key: u64, limit: u32, text: &[u8]) -> Result<Box<Session>, Unopened>
-    ensures opened { IfOk result (λ b. Opened text.now limit b.value) }
+fn open_box(
+    alloc: Global,
+    key: u64,
+    limit: u32,
+    opaque: bool,
+    text: &[u8],
+) -> Result<Box<Session>, Unopened>
+    ensures opened { IfOk result (λ b. Opened opaque text.now limit b.value) }
     ensures kept { IfOk result (λ b. IsKept seven_listener b.value.bench) }
-    ensures unopened { IfErr result (λ e. WhyNotOpened text.now e.refusal e.offset) }
+    ensures unopened { IfErr result (λ e. WhyNotOpened opaque text.now e.refusal e.offset) }
 {
-    let session = match open(alloc, key, limit, text) {
+    let session = match open(alloc, key, limit, opaque, text) {
         Ok(session) => session,
         Err(why) => return Err(why),
     };
@@ -42,6 +48,32 @@ fn open_box(alloc: Global, key: u64, limit: u32, text: &[u8]) -> Result<Box<Sess
 }
 
 /// Opens a session over the text of a module. What the handle held is given up first.
+fn open_into(
+    alloc: Global,
+    held: &mut Handle,
+    text: &[u8],
+    key: u64,
+    limit: u32,
+    opaque: bool,
+    answer: &mut Answer,
+)
+    requires kept { IsHeld held.old.slot.value }
+    ensures goes { OpenGoes opaque text.now limit held.new.slot.value answer.new }
+    ensures kept { IsHeld held.new.slot.value }
+{
+    let old = held.take(alloc);
+    drop(old);
+    match open_box(alloc, key, limit, opaque, text) {
+        Err(why) => *answer = unopened(why.refusal, why.offset),
+        Ok(session) => {
+            held.put(session);
+            *answer = opened();
+        }
+    }
+}
+
+/// Opens a session over the text of a module, whose types and attributes are known ones. What the handle held is given
+/// up first.
 #[unsafe(no_mangle)]
 pub extern "C" fn mlir_work_open(
     alloc: Global,
@@ -52,18 +84,28 @@ pub extern "C" fn mlir_work_open(
     answer: &mut Answer,
 )
     requires kept { IsHeld held.old.slot.value }
-    ensures goes { OpenGoes text.now limit held.new.slot.value answer.new }
+    ensures goes { OpenGoes false text.now limit held.new.slot.value answer.new }
     ensures kept { IsHeld held.new.slot.value }
 {
-    let old = held.take(alloc);
-    drop(old);
-    match open_box(alloc, key, limit, text) {
-        Err(why) => *answer = unopened(why.refusal, why.offset),
-        Ok(session) => {
-            held.put(session);
-            *answer = opened();
-        }
-    }
+    open_into(alloc, held, text, key, limit, false, answer);
+}
+
+/// Opens a session over the text of a module; types and attributes that aren't known are read as opaque ones, in it and
+/// in each line. What the handle held is given up first.
+#[unsafe(no_mangle)]
+pub extern "C" fn mlir_work_open_opaque(
+    alloc: Global,
+    held: &mut Handle,
+    text: &[u8],
+    key: u64,
+    limit: u32,
+    answer: &mut Answer,
+)
+    requires kept { IsHeld held.old.slot.value }
+    ensures goes { OpenGoes true text.now limit held.new.slot.value answer.new }
+    ensures kept { IsHeld held.new.slot.value }
+{
+    open_into(alloc, held, text, key, limit, true, answer);
 }
 
 /// Says a line to the session that the handle holds.

@@ -24,6 +24,7 @@ pub fn options(brief: bool) -> Options {
         brief,
         limit: 1000,
         ends: false,
+        opaque: false,
     }
 }
 
@@ -33,6 +34,7 @@ pub fn live() -> Options {
         brief: true,
         limit: 1000,
         ends: true,
+        opaque: false,
     }
 }
 

@@ -2,6 +2,7 @@
 use ir_event::trees::value::Value;
 use ir_event::types::ids::OpId;
 use mlir_work_cases_base::texts::{both_shown, bytes, number, put_all_shown, shown};
+use mlir_work_run::book_order::BookOrder;
 use mlir_work_run::clauses::Clauses;
 use mlir_work_run::command::{Command, Line, read_line};
 use mlir_work_run::expect::expected_of;
@@ -171,12 +172,49 @@ fn told_rewrite(alloc: Global, rules: &[u8], limit: Option<u32>) -> Result<Strin
     format!(in alloc; "rewrite {rules} limit {limit}")
 }
 
+/// A line that rewrites by some rules, or by those of canonicalization, and tells each rewrite.
+fn told_trace(
+    alloc: Global,
+    rules: Option<&[u8]>,
+    limit: Option<u32>,
+) -> Result<String, AllocError> {
+    let rules = match rules {
+        Some(rules) => shown(alloc, rules)?,
+        None => String::from_str(alloc, "all")?,
+    };
+    let limit = told_number(alloc, limit)?;
+    format!(in alloc; "trace {rules} limit {limit}")
+}
+
 /// An order.
 fn told_order(alloc: Global, order: &Order<'_>) -> Result<String, AllocError> {
     match order {
         Order::Attach(kind) => format!(in alloc; "attach {}", kind.number()),
         Order::PrintIds => String::from_str(alloc, "ids"),
         Order::Rewrite { rules, limit } => told_rewrite(alloc, rules, *limit),
+        Order::Trace { rules, limit } => told_trace(alloc, *rules, *limit),
+    }
+}
+
+/// A line that checks a pattern.
+fn told_check(alloc: Global, name: &[u8], width: Option<u32>) -> Result<String, AllocError> {
+    let name = shown(alloc, name)?;
+    let width = told_number(alloc, width)?;
+    format!(in alloc; "check {name} width {width}")
+}
+
+/// A line that defines a pattern.
+fn told_pattern(alloc: Global, text: &[u8]) -> Result<String, AllocError> {
+    let text = shown(alloc, text)?;
+    format!(in alloc; "pattern {text}")
+}
+
+/// An order about patterns.
+fn told_book_order(alloc: Global, order: &BookOrder<'_>) -> Result<String, AllocError> {
+    match order {
+        BookOrder::Define(text) => told_pattern(alloc, text),
+        BookOrder::Patterns => String::from_str(alloc, "patterns"),
+        BookOrder::Check { name, width } => told_check(alloc, name, *width),
     }
 }
 
@@ -187,6 +225,7 @@ fn told_said(alloc: Global, line: &Line<'_>) -> Result<String, AllocError> {
         Line::Bad => String::from_str(alloc, "bad"),
         Line::Obey(command) => told_command(alloc, command),
         Line::Ordered(order) => told_order(alloc, order),
+        Line::Booked(order) => told_book_order(alloc, order),
     }
 }
 
@@ -194,6 +233,7 @@ fn told_said(alloc: Global, line: &Line<'_>) -> Result<String, AllocError> {
 fn told_line(alloc: Global, text: &[u8]) -> Result<String, AllocError> {
     let _command = Line::Obey(Command::Print);
     let _order = Line::Ordered(Order::PrintIds);
+    let _booked = Line::Booked(BookOrder::Patterns);
     let line = read_line(text);
     let said = told_said(alloc, &line)?;
     match expected_of(text) {

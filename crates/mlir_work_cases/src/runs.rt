@@ -61,6 +61,7 @@ fn run_limited(alloc: Global, names: &str, text: &str) -> Result<String, AllocEr
         brief: true,
         limit,
         ends: false,
+        opaque: false,
     };
     over(alloc, names, options, &mut reader)
 }

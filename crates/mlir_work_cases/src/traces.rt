@@ -13,6 +13,7 @@ use mlir_work_cases_base::events::put_event;
 use mlir_work_cases_base::texts::{bytes, first, small};
 use mlir_work_cases_base::witness::{Plan, Witness};
 use mlir_work_run::Bench;
+use mlir_work_run::book::Book;
 use mlir_work_run::input::split;
 use mlir_work_run::manner::Manner;
 use mlir_work_run::script::run_script;
@@ -78,8 +79,10 @@ fn run_heard<L: Supplied>(
         bytes,
         limit: 1000,
         ends: false,
+        opaque: bench.world().ctx.is_opaque(),
     };
-    Ok(run_script(alloc, &manner, bench, script, written).unwrap_or(4))
+    let mut book = Book::new(alloc);
+    Ok(run_script(alloc, &manner, bench, &mut book, script, written).unwrap_or(4))
 }
 
 /// Runs the script of an input of so many bytes over a bench with a witness, and writes the status, the output, what was

@@ -5,4 +5,4 @@ pub mod json;
 pub mod options;
 mod text;
 
-pub use mlir_work_run::{dry, input, live, run, source, watched};
+pub use mlir_work_run::{dry, input, live, run, sink, source, watched, writing};

@@ -39,6 +39,9 @@ pub struct Given<'a> {
     pub output: Option<&'a str>,
     /// In which form the output is written.
     pub format: Format,
+    /// Whether the file of the module has several, between lines that are the divider, over each of which the scripts
+    /// are run.
+    pub split: bool,
 }
 
 /// The option that keeps listings away.
@@ -59,6 +62,14 @@ fn limit<'a>(alloc: Global) -> Arg<'a> {
         .value_parser(value_parser!(u32).range(1..=MOST_LIMIT))
 }
 
+/// The option that reads types and attributes that aren't known as opaque ones.
+fn opaque<'a>(alloc: Global) -> Arg<'a> {
+    Arg::new(alloc, "opaque")
+        .long("opaque")
+        .help(text::OPAQUE)
+        .action(ArgAction::SetTrue)
+}
+
 /// The option that says in which form the output is written.
 fn output_format<'a>(alloc: Global) -> Arg<'a> {
     Arg::new(alloc, "format")
@@ -68,6 +79,14 @@ fn output_format<'a>(alloc: Global) -> Arg<'a> {
         .default_value(text::TEXT)
         .value_parser(FORMATS)
         .hide_possible_values(true)
+}
+
+/// The option that runs the scripts over each of several modules.
+fn split<'a>(alloc: Global) -> Arg<'a> {
+    Arg::new(alloc, "split")
+        .long("split-input-file")
+        .help(text::SPLIT)
+        .action(ArgAction::SetTrue)
 }
 
 /// The option that answers each line as soon as it is there. Lines come from standard input alone then.
@@ -80,6 +99,7 @@ fn interactive<'a>(alloc: Global) -> Result<Arg<'a>, AllocError> {
         .conflicts_with("script")?
         .conflicts_with("command")?
         .conflicts_with("output")?
+        .conflicts_with("split")?
         .conflicts_with("format")
 }
 
@@ -131,7 +151,9 @@ fn command<'a>(alloc: Global) -> Result<Command<'a>, AllocError> {
         .arg(output(alloc))?
         .arg(brief(alloc))?
         .arg(limit(alloc))?
+        .arg(opaque(alloc))?
         .arg(output_format(alloc))?
+        .arg(split(alloc))?
         .arg(interactive(alloc)?)
 }
 
@@ -167,11 +189,13 @@ pub fn options_of<'a>(alloc: Global, words: &'a [String]) -> Result<Given<'a>, E
             brief: matches.get_flag("brief"),
             limit: matches.get_one::<u32>("limit").unwrap_or(DEFAULT_LIMIT),
             ends: matches.get_flag("interactive"),
+            opaque: matches.get_flag("opaque"),
         },
         module: matches.get_str("module"),
         scripts: values_of(alloc, &matches, "script")?,
         commands: values_of(alloc, &matches, "command")?,
         output: matches.get_str("output"),
         format: format_of(&matches),
+        split: matches.get_flag("split"),
     })
 }

@@ -33,8 +33,14 @@ pub(crate) const LIMIT: &str = "The most rewrites of a plain `canon`";
 /// Its number, where it isn't there.
 pub(crate) const DEFAULT_LIMIT: &str = "1000";
 
+/// What `--opaque` says.
+pub(crate) const OPAQUE: &str = "Keep unknown types and attributes, as their texts";
+
 /// What `--format` says.
 pub(crate) const FORMAT: &str = "`text`, or `json`: an object a line";
+
+/// What `--split-input-file` says.
+pub(crate) const SPLIT: &str = "Run the scripts over each module between dividers";
 
 /// The format of lines of text, which is there where none is named.
 pub(crate) const TEXT: &str = "text";
@@ -55,6 +61,8 @@ To look:
   print ids                  the module with the number of its operation at the
                              end of each line, as a comment
   report KIND                the rows of an analysis
+  patterns                   the patterns that were defined, and what the last
+                             check of each said
 
 To edit:
   set-operand #N K VALUE     VALUE becomes operand K of operation #N
@@ -79,6 +87,15 @@ To rewrite:
   rewrite RULES limit N      the same, N times at most
   canon only RULES           as `rewrite RULES`
   canon only RULES limit N   as `rewrite RULES limit N`
+  canon trace                as `canon`, and each rewrite is told, by a line as
+                             `rewrote 4 drop-zero #3 erased #3`
+  canon trace limit N        the same, N times at most
+  rewrite RULES trace        as `rewrite RULES`, and each rewrite is told
+  rewrite RULES trace limit N
+                             the same, N times at most
+  canon only RULES trace     as `rewrite RULES trace`
+  canon only RULES trace limit N
+                             as `rewrite RULES trace limit N`
   convert MODE CLAUSES       operations that aren't legal for a target are
                              replaced by rules, one after another, and casts
                              between types reconciled, or all stays as it was
@@ -86,8 +103,15 @@ To rewrite:
                              where each operation has to be legal in the end
   sweep                      the private symbols that nothing reaches are taken
                              away, with what is inside them, or none of them
-  apply RULE #N              one of the rules 1 to 30 is applied at operation #N,
-                             where it applies there
+  apply RULE #N              one of the rules 1 to 30, or a pattern of one's
+                             own, is applied at operation #N, where it applies
+
+Patterns of one's own, which no rollback takes away (docs/PATTERNS.md):
+  pattern PATTERN            PATTERN, the rest of the line, is defined
+  check NAME                 the pattern of that name is tried for all values
+                             at all widths from 1 to 8, or to the greatest at
+                             which its variables have no more than 16 bits
+  check NAME width W         the same, at widths from 1 to W
 
 Marks, of which 16 may be open:
   begin                      a mark is made of the module
@@ -112,12 +136,15 @@ Operations are numbered in the order of the text, and the module around them is
   PLACE      `before #N`, `after #N`, or `start #N R` or `end #N R`, of the
              block of region R of #N
   OPERATION  one line in generic form; it names values of the module as above
-  RULE       the number of a rule, or its word, as 4 or drop-zero
+  RULE       the number of a rule, or its word, as 4 or drop-zero; or the name
+             of a pattern
   RULES      rules with commas and no blanks, as 4,drop-one
   REFUSAL    the number of a refusal, or its word, as 22 or HasUses
   KEY        a bare identifier or a string literal; it is one of the properties
              where it is inherent to the operation or they have it, else one of
              the attributes
+  PATTERN    a name, and what is made of what, as
+             `half arith.divui(%a, 2) => arith.shrui(%a, 1)`
   ATTRIBUTE  as in a text: a string has quotes, and `5` is `5 : i64`
   CLAUSES    any of these, each once: `legal NAMES`, `illegal NAMES`, and
              `dynamic NAMES`, legal where nothing of theirs is an index;
@@ -128,14 +155,19 @@ Operations are numbered in the order of the text, and the module around them is
 Each command is replied to by a line that begins with its number: `1 ok`, and
 behind an insert the number of the new operation, as `1 ok #4`; a sweep by how
 many symbols it took, as `1 swept 2`; a `canon` or a `rewrite` by how many
-rewrites it made, as `1 converged 3`, or `1 limit 3` where a rule still applies;
-a `convert` by how many rules stand, as `1 converted 2`; an `apply` by
-`1 applied 1`, or `1 applied 0` where the rule doesn't apply. What is refused,
-as `1 refused 23 NotVisible`, changes nothing, and the next command is tried;
-`1 refused 2 Unexpected at 4` says at which byte the ATTRIBUTE or the OPERATION
-is wrong, and `1 refused 51 NotLegalised #3` for which operation a `convert` is.
-Where a line expects a refusal and something else comes, `1 expected 22 HasUses`
-stands below the reply.
+rewrites it made, as `1 converged 3`, or `1 limit 3` where a rule still applies,
+and with `trace` by a line for each, which says by which rule and at which
+operation, what was made, if anything was, and whether the operation went, as
+`rewrote 11 add-negative #5 made #7,#8 erased #5`; a `convert` by how many rules
+stand, as `1 converted 2`; an `apply` by `1 applied 1`, or `1 applied 0` where
+the rule doesn't apply; a `check` by the width up to which the pattern is right,
+as `1 holds 8`, or up to which it applies nowhere, as `1 empty 8`, or at which
+it is wrong, as `1 fails 2`, and then by which values, one a line. What is
+refused, as `1 refused 23 NotVisible`, changes nothing, and the next command is
+tried; `1 refused 2 Unexpected at 4` says at which byte the ATTRIBUTE, the
+OPERATION or the PATTERN is wrong, and `1 refused 51 NotLegalised #3` for which
+operation a `convert` is. Where a line expects a refusal and something else
+comes, `1 expected 22 HasUses` stands below the reply.
 
 With `--format json` each of these lines, of the module's and of the rows is an
 object, as {\"n\":1,\"refused\":22,\"word\":\"HasUses\"} (docs/JSON.md). It doesn't
@@ -161,7 +193,8 @@ Exit status:
   0  each command was accepted, or refused as it was expected to be; also of
      --help
   1  a command was refused, or not as it was expected to be, or an analysis that
-     was to be attached; what each number means stands in docs/REFUSALS.md
+     was to be attached, or a check failed; what each number of a refusal means
+     stands in docs/REFUSALS.md
   2  the command line is wrong, or there was no memory to begin
   3  the module was refused, as in `module refused 3 UnknownValue at 9`: the
      number and word of the reason, and the byte where it stands

@@ -5,14 +5,15 @@ use Rattle.std.proofs.Math.Nat.{min-le_left}
 use Rattle.ir_event.specs.types.declared.refusal.Refusal.{Refusal}
 use Rattle.ir_event.specs.Modules.{Module}
 use Rattle.rewriter.specs.Panels.{Shown, all_shown}
-use Rattle.rewriter.specs.Commands.{Response}
 use Rattle.rewriter.specs.Machine.{State}
 use Rattle.mlir_work_listeners.specs.Listeners.{seven_listener, seven_supply}
-use Rattle.mlir_work_script.specs.Commands.{Spoken, Nothing, Bad, Obey, Ordered, line_says}
+use Rattle.mlir_work_script.specs.Commands.{Spoken, Nothing, Bad, Obey, Ordered, Booked, line_says}
 use Rattle.mlir_work_script.specs.Expecting.{line_expects}
 use Rattle.mlir_work_script.specs.Lines.{is_newline, line_of, after_line, onto_first}
 use Rattle.mlir_work_run.specs.session.Limits.{most_input_bytes, most_script_bytes}
-use Rattle.mlir_work_run.specs.session.Output.{Attaches, Line, Replied, is_right, reply_text, way_of, worse}
+use Rattle.mlir_work_run.specs.session.Notices.{Notice}
+use Rattle.mlir_work_run.specs.session.Output.{Attaches, Line, Replied, Sitting, is_right, opening, reply_text, way_of, worse}
+use Rattle.mlir_work_run.specs.session.Shelf.{Book, book_view}
 use Rattle.mlir_work_run.specs.session.Parts.{module_text, script_text}
 use Rattle.mlir_work_run.specs.session.Writes.{joined}
 use Rattle.mlir_work_run.proofs.Wider.{line_wider}
@@ -23,7 +24,7 @@ use Rattle.mlir_work_held.specs.declared.answer.Answer.{Answer}
 use Rattle.mlir_work_held.specs.declared.session.Session.{Session}
 use Rattle.mlir_work_held.specs.Answers.{answer_of}
 use Rattle.mlir_work_held.specs.Opened.{Opened}
-use Rattle.mlir_work_held.specs.Stepped.{Answered, IsLeft, Said, SteppedBefore, most_counted, state, way}
+use Rattle.mlir_work_held.specs.Stepped.{Answered, IsLeft, Said, SteppedBefore, is_opaque, most_counted, sitting, state, way}
 use Rattle.mlir_work_held.specs.Talks.{AreWritten, IsOutputOf, Talks, Told, briefly, told_of}
 
 -- ---- the lines of a text
@@ -52,19 +53,19 @@ one_line (b ∷ bs) s line a t e h = absurd (omega (arith, ap length e))
 
 -- ---- lines that are said are those of a live run
 
-module _ (limit : ℕ) where
+module _ (opaque : Bool) (limit : ℕ) where
   abbrev setting : Setting
-  setting = setting_of seven_supply (briefly limit)
+  setting = setting_of seven_supply (briefly opaque limit)
 
   -- the lines may be answered so by a live run, which writes what these answers are written as
   abbrev IsLived : ℕ → ℕ → Session → List (List ℕ) → List Told → Type 0
-  IsLived read n s lines told = (status : ℕ) × (out : List ℕ) × Lives setting read n (state s) lines status out × AreWritten n told status out
+  IsLived read n s lines told = (status : ℕ) × (out : List ℕ) × Lives setting read n (sitting s) lines status out × AreWritten n told status out
 
   -- the lines behind one, with any numbers and states
-  abbrev Behind : ℕ → List (List ℕ) → ℕ → State → ℕ → List ℕ → Type 0
+  abbrev Behind : ℕ → List (List ℕ) → ℕ → Sitting → ℕ → List ℕ → Type 0
   Behind read lines m u st o = Lives setting read m u lines st o
 
-  module _ (read n : ℕ) (s : Session) (line : List ℕ) (lines : List (List ℕ)) (a : Answer) (t : Session) (rest : List Told) (within : s.bytes + length line ≤ read) (same : s.limit ≡ limit) where
+  module _ (read n : ℕ) (s : Session) (line : List ℕ) (lines : List (List ℕ)) (a : Answer) (t : Session) (rest : List Told) (within : s.bytes + length line ≤ read) (same : s.limit ≡ limit) (mode : is_opaque s ≡ opaque) where
     abbrev all_told : List Told
     all_told = told_of line a t ∷ rest
 
@@ -73,32 +74,32 @@ module _ (limit : ℕ) where
 
     -- the line, and those behind it
     abbrev IsLivedOn : Spoken → Type 0
-    IsLivedOn spoken = (status : ℕ) × (out : List ℕ) × Line (Behind read lines) (way_at setting read) n (state s) expected spoken status out × AreWritten n all_told status out
+    IsLivedOn spoken = (status : ℕ) × (out : List ℕ) × Line (Behind read lines) (way_at setting read) n (sitting s) expected spoken status out × AreWritten n all_told status out
 
     least : (way s line).bytes ≤ read
     least = let below = min-le_left (s.bytes + length line) most_counted in omega (arith, below, within)
 
     replied : (spoken : Spoken) (h : Answered (way s line) s spoken a t) (later : IsLived read (n + 1) t lines rest)
-        → Replied (Behind read lines) (way_of seven_supply (way s line)) n (state s) expected spoken (worse (is_right expected h.response) later.0) ((reply_text n expected h.response ++ t.shows.items) ++ later.1)
-    replied spoken h later = let text = reply_text n expected h.response ++ t.shows.items in record {
-      response = h.response;
+        → Replied (Behind read lines) (way_of seven_supply (way s line)) n (sitting s) expected spoken (worse (is_right expected h.notice) later.0) ((reply_text n expected h.notice ++ t.shows.items) ++ later.1)
+    replied spoken h later = let text = reply_text n expected h.notice ++ t.shows.items in record {
+      notice = h.notice;
       shows = t.shows.items;
-      after = state t;
+      after = sitting t;
       text = text;
       later = later.0;
       rest = later.1;
       replies = h.replies;
-      replied = (text, ([], refl, ap (λ (xs : List ℕ). reply_text n expected h.response ++ xs) (sym (append-nil t.shows.items))), sym (append-nil text));
+      replied = (text, ([], refl, ap (λ (xs : List ℕ). reply_text n expected h.notice ++ xs) (sym (append-nil t.shows.items))), sym (append-nil text));
       full = h.bounded;
       goes_on = later.2;
       status_is = refl;
       out_is = refl;
     }
 
-    written : (response : Response) → a ≡ answer_of response (length t.shows.items) → (later : IsLived read (n + 1) t lines rest)
-        → AreWritten n all_told (worse (is_right expected response) later.0) ((reply_text n expected response ++ t.shows.items) ++ later.1)
-    written response is later = inr (record {
-      response = response;
+    written : (notice : Notice) → a ≡ answer_of notice (length t.shows.items) → (later : IsLived read (n + 1) t lines rest)
+        → AreWritten n all_told (worse (is_right expected notice) later.0) ((reply_text n expected notice ++ t.shows.items) ++ later.1)
+    written notice is later = inr (record {
+      notice = notice;
       later = later.0;
       rest = later.1;
       answered = is;
@@ -108,46 +109,55 @@ module _ (limit : ℕ) where
     })
 
     -- how a line is answered by a run that has read so much, with that limit
-    wide : (spoken : Spoken) (st : ℕ) (o : List ℕ) → Line (Behind read lines) (way_of seven_supply (way s line)) n (state s) expected spoken st o → Line (Behind read lines) (way_at setting read) n (state s) expected spoken st o
+    wide : (spoken : Spoken) (st : ℕ) (o : List ℕ) → Line (Behind read lines) (way_of seven_supply (way s line)) n (sitting s) expected spoken st o → Line (Behind read lines) (way_at setting read) n (sitting s) expected spoken st o
     wide spoken st o h =
-        subst (λ (l : ℕ). Line (Behind read lines) (way_of seven_supply (record { brief = true; bytes = read; limit = l; ends = false })) n (state s) expected spoken st o) same
-        (line_wider (way_of seven_supply (way s line)) read least (Behind read lines) (Behind read lines) (λ m u status out k. k) n (state s) expected spoken st o h)
+        subst (λ (l : ℕ). Line (Behind read lines) (way_of seven_supply (record { brief = true; bytes = read; limit = l; ends = false; opaque = opaque })) n (sitting s) expected spoken st o) same
+        (subst (λ (b : Bool). Line (Behind read lines) (way_of seven_supply (record { brief = true; bytes = read; limit = s.limit; ends = false; opaque = b })) n (sitting s) expected spoken st o) mode
+        (line_wider (way_of seven_supply (way s line)) read least (Behind read lines) (Behind read lines) (λ m u status out k. k) n (sitting s) expected spoken st o h))
 
     lived_line : (spoken : Spoken) → Said (way s line) s spoken a t → ((m : ℕ) → IsLived read m t lines rest) → IsLivedOn spoken
     lived_line Nothing h more =
         let later = more n in
-        (later.0, later.1, subst (λ (u : State). Lives setting read n u lines later.0 later.1) h.1.state later.2, inl (h.0, later.3))
+        (later.0, later.1, subst (λ (u : Sitting). Lives setting read n u lines later.0 later.1) h.1.sitting later.2, inl (h.0, later.3))
     lived_line Bad h more =
         let later = more (n + 1) in
-        (_, _, wide Bad _ _ (replied Bad h later), written h.response h.told later)
+        (_, _, wide Bad _ _ (replied Bad h later), written h.notice h.told later)
     lived_line (Obey said) h more =
         let later = more (n + 1) in
-        (_, _, wide (Obey said) _ _ (replied (Obey said) h later), written h.response h.told later)
+        (_, _, wide (Obey said) _ _ (replied (Obey said) h later), written h.notice h.told later)
     lived_line (Ordered order) h more =
         let later = more (n + 1) in
-        (_, _, wide (Ordered order) _ _ (replied (Ordered order) h later), written h.response h.told later)
+        (_, _, wide (Ordered order) _ _ (replied (Ordered order) h later), written h.notice h.told later)
+    lived_line (Booked order) h more =
+        let later = more (n + 1) in
+        (_, _, wide (Booked order) _ _ (replied (Booked order) h later), written h.notice h.told later)
 
     -- what is known of the session behind the line
-    counted_on : (spoken : Spoken) → Said (way s line) s spoken a t → (t.bytes ≤ read) × (t.limit ≡ limit)
-    counted_on Nothing h = (let e = h.1.counted in omega (arith, e, within), h.1.limit ∙ same)
-    counted_on Bad h = (let e = h.counted in omega (arith, e, least), h.limit ∙ same)
-    counted_on (Obey said) h = (let e = h.counted in omega (arith, e, least), h.limit ∙ same)
-    counted_on (Ordered order) h = (let e = h.counted in omega (arith, e, least), h.limit ∙ same)
+    counted_on : (spoken : Spoken) → Said (way s line) s spoken a t → (t.bytes ≤ read) × (t.limit ≡ limit) × (is_opaque t ≡ opaque)
+    counted_on Nothing h = (let e = h.1.counted in omega (arith, e, within), h.1.limit ∙ same, h.1.mode ∙ mode)
+    counted_on Bad h = (let e = h.counted in omega (arith, e, least), h.limit ∙ same, h.mode ∙ mode)
+    counted_on (Obey said) h = (let e = h.counted in omega (arith, e, least), h.limit ∙ same, h.mode ∙ mode)
+    counted_on (Ordered order) h = (let e = h.counted in omega (arith, e, least), h.limit ∙ same, h.mode ∙ mode)
+    counted_on (Booked order) h = (let e = h.counted in omega (arith, e, least), h.limit ∙ same, h.mode ∙ mode)
 
-  pub lived : (lines : List (List ℕ)) (read n : ℕ) (s : Session) (told : List Told) → s.bytes ≤ read → s.limit ≡ limit → AreAlone lines → length (joined lines) ≤ most_script_bytes → Talks s lines told → IsLived read n s lines told
-  lived [] read n s told within same alone few none = (0, [], (refl, refl), subst (λ (all : List Told). AreWritten n all 0 []) (sym none) (refl, refl))
-  lived (line ∷ lines) read n s told within same alone few (a, t, rest, step, talks, is) =
+  pub lived : (lines : List (List ℕ)) (read n : ℕ) (s : Session) (told : List Told) → s.bytes ≤ read → s.limit ≡ limit → is_opaque s ≡ opaque → AreAlone lines → length (joined lines) ≤ most_script_bytes → Talks s lines told → IsLived read n s lines told
+  lived [] read n s told within same mode alone few none = (0, [], (refl, refl), subst (λ (all : List Told). AreWritten n all 0 []) (sym none) (refl, refl))
+  lived (line ∷ lines) read n s told within same mode alone few (a, t, rest, step, talks, is) =
       let all = length-append line (joined lines) in
       let more = read + length line in
       let here : s.bytes + length line ≤ more = omega (arith, within) in
       let fits : length line ≤ most_script_bytes = omega (arith, all, few) in
       let less : length (joined lines) ≤ most_script_bytes = omega (arith, all, few) in
       let said = one_line (after_line line) s line a t alone.0 step in
-      let on = counted_on more n s line lines a t rest here same (line_says (line_of line)) said in
-      let got = lived_line more n s line lines a t rest here same (line_says (line_of line)) said (λ m. lived lines more m t rest on.0 on.1 alone.1 less talks) in
+      let on = counted_on more n s line lines a t rest here same mode (line_says (line_of line)) said in
+      let got = lived_line more n s line lines a t rest here same mode (line_says (line_of line)) said (λ m. lived lines more m t rest on.0 on.1 on.2 alone.1 less talks) in
       (got.0, got.1, (fits, got.2), subst (λ (every : List Told). AreWritten n every got.0 got.1) (sym is) got.3)
 
 -- ---- the whole input
+
+-- a session without patterns
+opened_sitting : (s : Session) → book_view s.book ≡ [] → sitting s ≡ opening (state s)
+opened_sitting s e = ap (λ (book : Book). record { state = state s; book = book }) e
 
 -- a state without marks
 unmarked : (s : State) → s.marks ≡ [] → s ≡ record { held = s.held; marks = []; panel = s.panel }
@@ -160,25 +170,25 @@ silent_boxes (b ∷ bs) old new out (mid, None, true, rest, tried, others, accep
 silent_boxes (b ∷ bs) old new out (mid, None, false, rest, tried, others, accepted, is) = absurd (true≢false accepted)
 silent_boxes (b ∷ bs) old new out (mid, Some refusal, there, rest, tried, others, accepted, is) = absurd (true≢false accepted)
 
-pub talked_whole : (limit : ℕ) (input : List ℕ) (s : Session) (told : List Told) → length input ≤ most_input_bytes → length (script_text input) ≤ most_script_bytes → Opened (module_text input) limit s → Talks s (whole_lines (script_text input)) told → IsOutputOf limit input told
-talked_whole limit input s told short few opened talks =
+pub talked_whole : (opaque : Bool) (limit : ℕ) (input : List ℕ) (s : Session) (told : List Told) → length input ≤ most_input_bytes → length (script_text input) ≤ most_script_bytes → Opened opaque (module_text input) limit s → Talks s (whole_lines (script_text input)) told → IsOutputOf opaque limit input told
+talked_whole opaque limit input s told short few opened talks =
     let text = module_text input in
     let lines = whole_lines (script_text input) in
     let boxes = opened.attached.0 in
     let attached = opened.attached.3 in
     let read = length text + divider_bytes in
     let within : s.bytes ≤ read = (let e = opened.counted in omega (arith, e)) in
-    let h = lived limit lines read 1 s told within opened.limit_is (alone_lines (script_text input)) (rw (joined_same (script_text input)) few) talks in
+    let h = lived opaque limit lines read 1 s told within opened.limit_is opened.mode (alone_lines (script_text input)) (rw (joined_same (script_text input)) few) talks in
     let silent = silent_boxes (all_shown seven_listener boxes) [] (state s).panel opened.attached.1 attached in
-    let live : Live (setting limit) (all_shown seven_listener boxes) (state s).held read lines h.0 h.1 = record {
+    let live : Live (setting opaque limit) (all_shown seven_listener boxes) (state s).held read lines h.0 h.1 = record {
       begun = state s;
       accepted = true;
       front = [];
       later = h.0;
       rest = h.1;
       begins = record { panel = (state s).panel; front = opened.attached.1; attached = attached; state_is = unmarked (state s) opened.unmarked; out_is = sym (append-nil opened.attached.1 ∙ silent) };
-      lives = h.2;
+      lives = subst (λ (u : Sitting). Lives (setting opaque limit) read 1 u lines h.0 h.1) (opened_sitting s opened.empty) h.2;
       status_is = refl;
       out_is = refl;
     } in
-    (boxes, h.0, h.1, opened.attached.2, h.3, live_whole (setting limit) (all_shown seven_listener boxes) input h.0 h.1 short few (inr ((state s).held, opened.world, live)))
+    (boxes, h.0, h.1, opened.attached.2, h.3, live_whole (setting opaque limit) (all_shown seven_listener boxes) input h.0 h.1 short few (inr ((state s).held, opened.world, live)))

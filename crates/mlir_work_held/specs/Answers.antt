@@ -4,6 +4,9 @@ use Rattle.ir_event.specs.types.Refusals.{number_of}
 use Rattle.ir_event.specs.types.declared.refusal.Refusal.{Refusal}
 use Rattle.rewriter.specs.Commands.{Response, Replied, TextRefusedAt}
 use Rattle.rewriter.specs.Machine.{Applied, Converged, Converted, Done, DoneAs, DoneWith, Limited, Outcome, Refused, RefusedOn, Swept}
+use Rattle.mlir_work_run.specs.session.Notices.{Notice, Plain, Checked}
+use Rattle.mlir_work_run.specs.session.Said.{Said}
+use Rattle.mlir_work_run.specs.session.Said.TheVariants as said
 use Rattle.mlir_work_held.specs.declared.answer.Answer.{Answer}
 
 abbrev of_numbers : ℕ → ℕ → ℕ → ℕ → Answer
@@ -39,11 +42,22 @@ came_of (Limited n) shown = of_numbers 5 0 n shown
 came_of (Converted n) shown = of_numbers 6 0 n shown
 came_of (Applied n) shown = of_numbers 11 0 n shown
 
--- a response, below which so many bytes are shown
-abbrev pub answer_of : Response → ℕ → Answer
-answer_of (Replied Done) shown = of_numbers 1 0 0 shown
-answer_of (Replied (DoneAs x)) shown = of_numbers 2 0 x shown
-answer_of (Replied (DoneWith outcome)) shown = came_of outcome shown
-answer_of (Replied (Refused refusal)) shown = of_numbers 7 (number_of refusal) 0 shown
-answer_of (Replied (RefusedOn refusal x)) shown = of_numbers 8 (number_of refusal) x shown
-answer_of (TextRefusedAt refusal offset) shown = of_numbers 9 (number_of refusal) offset shown
+-- a reply, below which so many bytes are shown
+abbrev pub replied_of : Response → ℕ → Answer
+replied_of (Replied Done) shown = of_numbers 1 0 0 shown
+replied_of (Replied (DoneAs x)) shown = of_numbers 2 0 x shown
+replied_of (Replied (DoneWith outcome)) shown = came_of outcome shown
+replied_of (Replied (Refused refusal)) shown = of_numbers 7 (number_of refusal) 0 shown
+replied_of (Replied (RefusedOn refusal x)) shown = of_numbers 8 (number_of refusal) x shown
+replied_of (TextRefusedAt refusal offset) shown = of_numbers 9 (number_of refusal) offset shown
+
+-- what a check says of a pattern
+abbrev pub said_as : Said → ℕ → Answer
+said_as (said.Holds w) shown = of_numbers 12 0 w shown
+said_as (said.Empty w) shown = of_numbers 13 0 w shown
+said_as (said.Fails w) shown = of_numbers 14 0 w shown
+
+-- what a line is told, below which so many bytes are shown
+abbrev pub answer_of : Notice → ℕ → Answer
+answer_of (Plain response) shown = replied_of response shown
+answer_of (Checked told) shown = said_as told shown

@@ -1,12 +1,12 @@
 -- What lines that are said to a session one after the other come to: what a whole run writes for them.
-use Rattle.std.specs.Prelude.{◌≡◌, ℕ, ◌+◌, List, [], ◌∷◌, ◌++◌, length, ◌⊎◌, true, false, Option}
+use Rattle.std.specs.Prelude.{◌≡◌, ℕ, ◌+◌, Bool, List, [], ◌∷◌, ◌++◌, length, ◌⊎◌, true, false, Option}
 use Rattle.ir_event.specs.types.declared.refusal.Refusal.{Refusal}
-use Rattle.rewriter.specs.Commands.{Response}
 use Rattle.rewriter.specs.Panels.{all_shown}
 use Rattle.mlir_work_listeners.specs.Listeners.{seven_listener, seven_supply, kinds_of}
 use Rattle.mlir_work_listeners.specs.declared.seven.Seven.{Seven}
 use Rattle.mlir_work_script.specs.Expecting.{line_expects}
 use Rattle.mlir_work_script.specs.Lines.{line_of}
+use Rattle.mlir_work_run.specs.session.Notices.{Notice}
 use Rattle.mlir_work_run.specs.session.Output.{is_right, reply_text, worse}
 use Rattle.mlir_work_run.specs.Whole.{IsOutput, setting_of}
 use Rattle.mlir_work_run.specs.declared.run.Options.{Options}
@@ -35,13 +35,13 @@ Talks s (line ∷ lines) told =
 -- an answer with the number n is written so, and the rest follows: one to a line that says nothing isn't written, nor
 -- counted; of another the line of the reply is, and what it shows
 pub record IsWritten (Rest : ℕ → ℕ → List ℕ → Type 0) (n : ℕ) (told : Told) (status : ℕ) (out : List ℕ) : Type 0 where
-  pub response : Response
+  pub notice : Notice
   pub later : ℕ
   pub rest : List ℕ
-  pub answered : told.answer ≡ answer_of response (length told.shows)
+  pub answered : told.answer ≡ answer_of notice (length told.shows)
   pub goes_on : Rest (n + 1) later rest
-  pub status_is : status ≡ worse (is_right told.expected response) later
-  pub out_is : out ≡ (reply_text n told.expected response ++ told.shows) ++ rest
+  pub status_is : status ≡ worse (is_right told.expected notice) later
+  pub out_is : out ≡ (reply_text n told.expected notice ++ told.shows) ++ rest
 
 -- these answers, the first of them with the number n, are written so, and give this status
 abbrev pub AreWritten : ℕ → List Told → ℕ → List ℕ → Type 0
@@ -51,13 +51,13 @@ AreWritten n (told ∷ more) status out =
     ⊎ IsWritten (λ m st o. AreWritten m more st o) n told status out
 
 -- how a whole run of the same input goes: briefly, and no answer has an end
-abbrev pub briefly : ℕ → Options
-briefly limit = record { brief = true; limit = limit; ends = false }
+abbrev pub briefly : Bool → ℕ → Options
+briefly opaque limit = record { brief = true; limit = limit; ends = false; opaque = opaque }
 
 -- what these answers are written as is an output of the input, with the seven analyses
-abbrev pub IsOutputOf : ℕ → List ℕ → List Told → Type 0
-IsOutputOf limit input told =
+abbrev pub IsOutputOf : Bool → ℕ → List ℕ → List Told → Type 0
+IsOutputOf opaque limit input told =
     (boxes : List Seven) × (status : ℕ) × (out : List ℕ)
     × (kinds_of boxes ≡ 1 ∷ 2 ∷ 3 ∷ 4 ∷ 5 ∷ 6 ∷ 7 ∷ [])
     × AreWritten 1 told status out
-    × IsOutput (setting_of seven_supply (briefly limit)) (all_shown seven_listener boxes) input status out
+    × IsOutput (setting_of seven_supply (briefly opaque limit)) (all_shown seven_listener boxes) input status out

@@ -2,9 +2,12 @@
 ghost use Rattle.std.specs.Prelude.{◌≡◌, ℕ};
 ghost use Rattle.mlir_work_script.specs.Outcomes.{outcome_of};
 ghost use Rattle.mlir_work_run.specs.session.Machine.{response_of};
+ghost use Rattle.mlir_work_run.specs.session.Notices.{notice_of};
 ghost use Rattle.mlir_work_held.specs.Answers.{answer_of, came_of, closed as no_session, nothing as no_command, refused as refused_for, opened as a_session, unopened as unopened_for};
+ghost use Rattle.mlir_work_held.specs.Answers.{replied_of, said_as};
 
 use ir_event::types::refusal::Refusal;
+use mlir_work_run::notice::{Notice, Said};
 use mlir_work_run::outcome::Outcome;
 use mlir_work_run::reply::Reply;
 
@@ -15,7 +18,8 @@ pub struct Answer {
     /// 0: the line says nothing; 1: done; 2: done, and `number` is the operation that was made; 3: swept, `number`
     /// symbols; 4: converged after `number` rewrites; 5: stopped at the limit, after `number` rewrites; 6: converted by
     /// `number` rules; 7: refused; 8: refused because of operation `number`; 9: refused at byte `number` of a text; 10:
-    /// there is no session; 11: a rule was applied `number` times.
+    /// there is no session; 11: a rule or a pattern was applied `number` times; 12: a pattern holds up to width `number`;
+    /// 13: it applies nowhere up to that width; 14: it fails at that width.
     pub outcome: u32,
     /// The number of the refusal (docs/REFUSALS.md), or 0.
     pub refusal: u32,
@@ -89,8 +93,8 @@ fn done_with(outcome: Outcome, shown: u64) -> Answer
 }
 
 /// The answer of a reply that shows so many bytes.
-pub fn answer_of(reply: Reply, shown: u64) -> Answer
-    ensures { result ≡ answer_of (response_of reply) shown }
+fn replied_of(reply: Reply, shown: u64) -> Answer
+    ensures { result ≡ replied_of (response_of reply) shown }
 {
     match reply {
         Reply::Done => of_numbers(1, 0, 0, shown),
@@ -99,5 +103,26 @@ pub fn answer_of(reply: Reply, shown: u64) -> Answer
         Reply::Refused(refusal) => of_numbers(7, refusal.number(), 0, shown),
         Reply::RefusedOn(refusal, op) => of_numbers(8, refusal.number(), op.number() as u64, shown),
         Reply::RefusedAt(refusal, offset) => of_numbers(9, refusal.number(), offset as u64, shown),
+    }
+}
+
+/// The answer of a check that shows so many bytes.
+fn said_as(said: Said, shown: u64) -> Answer
+    ensures { result ≡ said_as said shown }
+{
+    match said {
+        Said::Holds(width) => of_numbers(12, 0, u64::from(width), shown),
+        Said::Empty(width) => of_numbers(13, 0, u64::from(width), shown),
+        Said::Fails(width) => of_numbers(14, 0, u64::from(width), shown),
+    }
+}
+
+/// The answer of what a line is told, below which so many bytes are shown.
+pub fn answer_of(notice: Notice, shown: u64) -> Answer
+    ensures { result ≡ answer_of (notice_of notice) shown }
+{
+    match notice {
+        Notice::Plain(reply) => replied_of(reply, shown),
+        Notice::Checked(said) => said_as(said, shown),
     }
 }

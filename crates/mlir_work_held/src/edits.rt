@@ -1,6 +1,6 @@
 //! Edits by numbers, as the commands of their names have them. They have no text, so no bytes of theirs are counted.
 //!
-//! Each names an order first, which is no part of it: the checker of borrows has to meet each type that a line may hold.
+//! Each names two orders first, which are no part of it: the checker of borrows has to meet each type that a line may hold.
 ghost use Rattle.std.specs.Prelude.{◌≡◌, []};
 ghost use Rattle.rewriter.specs.Benched.{IsKept};
 ghost use Rattle.rewriter.specs.Commands.{Erase, Move, Replace, SetOperand};
@@ -13,6 +13,7 @@ use crate::answer::Answer;
 use crate::session::{Session, obey_line, way};
 use ir_event::trees::value::Value;
 use ir_event::types::ids::OpId;
+use mlir_work_run::book_order::BookOrder;
 use mlir_work_run::command::{Command, Line};
 use mlir_work_run::spots::Spot;
 use mlir_work_script::order::Order;
@@ -30,7 +31,8 @@ pub fn set_operand(
     ensures answered { Answered (way session.old []) session.old (Obey (SetOperand op operand value)) result session.new }
     ensures kept { IsKept seven_listener session.new.bench }
 {
-    let _other = Line::Ordered(Order::PrintIds);
+    let _order = Line::Ordered(Order::PrintIds);
+    let _other = Line::Booked(BookOrder::Patterns);
     let manner = way(session, &[]);
     obey_line(
         alloc,
@@ -46,7 +48,8 @@ pub fn replace(alloc: Global, session: &mut Session, old: Value, new: Value) -> 
     ensures answered { Answered (way session.old []) session.old (Obey (Replace old new)) result session.new }
     ensures kept { IsKept seven_listener session.new.bench }
 {
-    let _other = Line::Ordered(Order::PrintIds);
+    let _order = Line::Ordered(Order::PrintIds);
+    let _other = Line::Booked(BookOrder::Patterns);
     let manner = way(session, &[]);
     obey_line(
         alloc,
@@ -62,7 +65,8 @@ pub fn erase(alloc: Global, session: &mut Session, op: OpId) -> Answer
     ensures answered { Answered (way session.old []) session.old (Obey (Erase op)) result session.new }
     ensures kept { IsKept seven_listener session.new.bench }
 {
-    let _other = Line::Ordered(Order::PrintIds);
+    let _order = Line::Ordered(Order::PrintIds);
+    let _other = Line::Booked(BookOrder::Patterns);
     let manner = way(session, &[]);
     obey_line(alloc, session, &manner, &Line::Obey(Command::Erase(op)))
 }
@@ -73,7 +77,8 @@ pub fn move_op(alloc: Global, session: &mut Session, op: OpId, spot: Spot) -> An
     ensures answered { Answered (way session.old []) session.old (Obey (Move op (spot_of spot))) result session.new }
     ensures kept { IsKept seven_listener session.new.bench }
 {
-    let _other = Line::Ordered(Order::PrintIds);
+    let _order = Line::Ordered(Order::PrintIds);
+    let _other = Line::Booked(BookOrder::Patterns);
     let manner = way(session, &[]);
     obey_line(
         alloc,

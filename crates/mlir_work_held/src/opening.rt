@@ -12,6 +12,7 @@ use crate::session::Session;
 use ir_event::types::refusal::Refusal;
 use ir_event::world::World;
 use mlir_work_listeners::seven::{Seven, all_listeners};
+use mlir_work_run::book::Book;
 use mlir_work_run::boxes::attach_all;
 use mlir_work_run::input::MAX_INPUT_BYTES;
 use mlir_work_run::run::{hold, tree_of};
@@ -39,13 +40,14 @@ fn no_memory() -> Unopened
 }
 
 /// The world of the module that a text spells, or why there is none.
-fn world_of(alloc: Global, key: u64, text: &[u8]) -> Result<World, Unopened>
-    ensures world { IfOk result (λ w. IsWorldOf text.now (module_in w)) }
+fn world_of(alloc: Global, key: u64, opaque: bool, text: &[u8]) -> Result<World, Unopened>
+    ensures world { IfOk result (λ w. IsWorldOf opaque text.now (module_in w)) }
+    ensures mode { IfOk result (λ w. w.ctx.opaque ≡ opaque) }
     ensures slotted { IfOk result (λ w. IsSlotted w.store) }
     ensures tidy { IfOk result (λ w. IsTidy w.store) }
-    ensures unread { IfErr result (λ e. WhyNot text.now e.refusal e.offset) }
+    ensures unread { IfErr result (λ e. WhyNot opaque text.now e.refusal e.offset) }
 {
-    let (ctx, tree) = match tree_of(alloc, key, text) {
+    let (ctx, tree) = match tree_of(alloc, key, opaque, text) {
         Ok(found) => found,
         Err(unread) => {
             return Err(Unopened {
@@ -68,6 +70,7 @@ fn bench_over(alloc: Global, world: World) -> Option<Bench<Seven>>
     ensures unmarked { IfSome result (λ b. (state_of seven_listener b).marks ≡ []) }
     ensures attached { IfSome result (λ b. AllAttached (state_of seven_listener b).panel) }
     ensures kept { IfSome result (λ b. IsKept seven_listener b) }
+    ensures mode { IfSome result (λ b. b.desk.ctx.opaque ≡ world.ctx.opaque) }
 {
     let Ok(boxes) = all_listeners(alloc) else {
         return None;
@@ -82,10 +85,17 @@ fn bench_over(alloc: Global, world: World) -> Option<Bench<Seven>>
 }
 
 /// A session over the module that a text spells, without marks and with all seven analyses; or why there is none.
-pub fn open(alloc: Global, key: u64, limit: u32, text: &[u8]) -> Result<Session, Unopened>
-    ensures opened { IfOk result (λ s. Opened text.now limit s) }
+/// `opaque` says whether types and attributes that aren't known are read as opaque ones, in the text and in each line.
+pub fn open(
+    alloc: Global,
+    key: u64,
+    limit: u32,
+    opaque: bool,
+    text: &[u8],
+) -> Result<Session, Unopened>
+    ensures opened { IfOk result (λ s. Opened opaque text.now limit s) }
     ensures kept { IfOk result (λ s. IsKept seven_listener s.bench) }
-    ensures unopened { IfErr result (λ e. WhyNotOpened text.now e.refusal e.offset) }
+    ensures unopened { IfErr result (λ e. WhyNotOpened opaque text.now e.refusal e.offset) }
 {
     let bytes = text.len();
     if bytes > MAX_INPUT_BYTES {
@@ -94,15 +104,17 @@ pub fn open(alloc: Global, key: u64, limit: u32, text: &[u8]) -> Result<Session,
             offset: Some(MAX_INPUT_BYTES),
         });
     }
-    let world = match world_of(alloc, key, text) {
+    let world = match world_of(alloc, key, opaque, text) {
         Ok(world) => world,
         Err(unopened) => return Err(unopened),
     };
     let Some(bench) = bench_over(alloc, world) else {
         return Err(no_memory());
     };
+    let book = Book::new(alloc);
     Ok(Session {
         bench,
+        book,
         limit,
         bytes,
         shows: Vec::new(alloc),

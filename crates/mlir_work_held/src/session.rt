@@ -4,11 +4,12 @@ ghost use Rattle.rewriter.specs.Benched.{IsKept};
 ghost use Rattle.mlir_work_listeners.specs.Listeners.{seven_listener};
 ghost use Rattle.mlir_work_script.specs.Commands.{line_says, spoken_of};
 ghost use Rattle.mlir_work_run.specs.session.Output.{says_nothing};
-ghost use Rattle.mlir_work_held.specs.Stepped.{Answered, IsLeft, Said, Stepped, way};
+ghost use Rattle.mlir_work_held.specs.Stepped.{Answered, IsLeft, Said, Stepped, is_opaque, way};
 
 use crate::answer::{Answer, answer_of, nothing, refused};
 use ir_event::types::refusal::Refusal;
 use mlir_work_listeners::seven::Seven;
+use mlir_work_run::book::Book;
 use mlir_work_run::command::{Line, read_line};
 use mlir_work_run::lines::split_line;
 use mlir_work_run::manner::Manner;
@@ -16,11 +17,13 @@ use mlir_work_run::script::answer;
 use rewriter::Bench;
 use std::alloc::Global;
 
-/// A module with its marks and its analyses, and what the last line showed.
+/// A module with its marks and its analyses, a book of patterns, and what the last line showed.
 #[derive(Drop)]
 pub struct Session {
     /// The module, its marks and its analyses.
     pub bench: Bench<Seven>,
+    /// The patterns of one's own.
+    pub book: Book,
     /// The most rewrites of a `canon` that says no limit.
     pub limit: u32,
     /// How many bytes were handed in so far, the module's text among them.
@@ -38,6 +41,7 @@ pub(crate) fn way(session: &Session, line: &[u8]) -> Manner
         bytes: session.bytes.saturating_add(line.len()),
         limit: session.limit,
         ends: false,
+        opaque: session.bench.world().ctx.is_opaque(),
     }
 }
 
@@ -49,14 +53,15 @@ pub(crate) fn obey_line(
     line: &Line<'_>,
 ) -> Answer
     requires kept { IsKept seven_listener session.old.bench }
+    requires mode { is_opaque session.old ≡ manner.now.opaque }
     requires something { says_nothing (spoken_of line.now) ≡ false }
     ensures answered { Answered manner.now session.old (spoken_of line.now) result session.new }
     ensures kept { IsKept seven_listener session.new.bench }
 {
-    let answered = answer(alloc, manner, &mut session.bench, line);
+    let answered = answer(alloc, manner, &mut session.bench, &mut session.book, line);
     session.bytes = manner.bytes;
     session.shows = answered.shows;
-    answer_of(answered.reply, session.shows.len() as u64)
+    answer_of(answered.notice, session.shows.len() as u64)
 }
 
 /// Nothing is shown any more, and all else stays.
@@ -71,6 +76,7 @@ fn leave(alloc: Global, session: &mut Session)
 /// Says a line without its line feed.
 fn say_line(alloc: Global, session: &mut Session, manner: &Manner, line: &[u8]) -> Answer
     requires kept { IsKept seven_listener session.old.bench }
+    requires mode { is_opaque session.old ≡ manner.now.opaque }
     ensures said { Said manner.now session.old (line_says line.now) result session.new }
     ensures kept { IsKept seven_listener session.new.bench }
 {
@@ -82,6 +88,7 @@ fn say_line(alloc: Global, session: &mut Session, manner: &Manner, line: &[u8]) 
         Line::Bad => return obey_line(alloc, session, manner, &Line::Bad),
         Line::Obey(command) => return obey_line(alloc, session, manner, &Line::Obey(command)),
         Line::Ordered(order) => return obey_line(alloc, session, manner, &Line::Ordered(order)),
+        Line::Booked(order) => return obey_line(alloc, session, manner, &Line::Booked(order)),
     }
 }
 

@@ -1,7 +1,7 @@
 -- The input that the text of a module and scripts make.
-use Rattle.std.specs.Prelude.{ℕ, List, [], ◌∷◌, ◌++◌, Bool, true, nat_lt, length, codes, if◌then◌else◌}
+use Rattle.std.specs.Prelude.{ℕ, zero, suc, List, [], ◌∷◌, ◌++◌, Bool, true, nat_lt, length, codes, if◌then◌else◌}
 use Rattle.mlir_work_script.specs.Lines.{is_newline, lines_of}
-use Rattle.mlir_work_script.specs.Parts.{module_text}
+use Rattle.mlir_work_script.specs.Parts.{module_text, script_text}
 
 -- whether a text is empty or ends with a line feed
 abbrev pub ends_line : List ℕ → Bool
@@ -35,3 +35,13 @@ divided text = if is_divided text then whole_lines text else whole_lines text ++
 abbrev pub input_of : List ℕ → List (List ℕ) → List ℕ
 input_of text [] = text
 input_of text (s ∷ ss) = divided text ++ one_script (s ∷ ss)
+
+-- the texts between the lines of a text that are the divider, of which there are at most so many
+abbrev pub parts_up_to : ℕ → List ℕ → List (List ℕ)
+parts_up_to zero text = text ∷ []
+parts_up_to (suc n) text =
+    if is_divided text then module_text text ∷ parts_up_to n (script_text text) else text ∷ []
+
+-- those of a whole text, in which no more can stand than it has bytes
+abbrev pub parts_of : List ℕ → List (List ℕ)
+parts_of text = parts_up_to (length text) text

@@ -1,6 +1,7 @@
 //! A module's text and scripts, put together to one input.
 ghost use Rattle.std.specs.Prelude.{◌≡◌, ◌++◌, [], ◌∷◌, map, IfOk, List, ℕ};
-ghost use Rattle.mlir_work_inputs.specs.Inputs.{divided, ends_line, input_of, is_divided, one_script, whole_lines};
+ghost use Rattle.mlir_work_inputs.specs.Inputs.{divided, ends_line, input_of, is_divided, one_script, parts_of};
+ghost use Rattle.mlir_work_inputs.specs.Inputs.{whole_lines};
 
 use mlir_work_script::input::split;
 use std::alloc::{AllocError, Global};
@@ -72,4 +73,32 @@ pub fn input_of(alloc: Global, text: Vec<u8>, scripts: &[Vec<u8>]) -> Result<Vec
     put_divided(&mut input, &text)?;
     put_scripts(&mut input, scripts)?;
     Ok(input)
+}
+
+/// Puts a text behind others.
+fn put_part(alloc: Global, parts: &mut Vec<Vec<u8>>, text: &[u8]) -> Result<(), AllocError>
+    ensures { IfOk result (λ _. map (λ s. s.items) parts.new.items
+        ≡ map (λ s. s.items) parts.old.items ++ text.now ∷ []) }
+{
+    let part = Vec::from_slice(alloc, text)?;
+    parts.push(part)?;
+    Ok(())
+}
+
+/// The modules of a text in which lines that are exactly `// -----` stand between them (`mlir-opt
+/// --split-input-file`): the texts between those lines, in their order.
+pub fn parts_of(alloc: Global, text: &[u8]) -> Result<Vec<Vec<u8>>, AllocError>
+    ensures { IfOk result (λ parts. map (λ s. s.items) parts.items ≡ parts_of text.now) }
+{
+    let mut parts = Vec::new(alloc);
+    let mut rest = text;
+    let mut most = text.len();
+    'parts: while most > 0 && is_divided(rest) {
+        let (module, behind) = split(rest);
+        put_part(alloc, &mut parts, module)?;
+        rest = behind;
+        most -= 1;
+    }
+    put_part(alloc, &mut parts, rest)?;
+    Ok(parts)
 }

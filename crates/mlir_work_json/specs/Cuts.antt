@@ -1,5 +1,5 @@
 -- A text cut at a byte of a kind.
-use Rattle.std.specs.Prelude.{ℕ, suc, ◌+◌, List, [], ◌∷◌, ◌==◌, ◌&&◌, ◌||◌, not, Bool, true, false, if◌then◌else◌, take, drop}
+use Rattle.std.specs.Prelude.{ℕ, suc, ◌+◌, ◌-◌, List, [], ◌∷◌, ◌==◌, ◌&&◌, ◌||◌, not, Bool, true, false, if◌then◌else◌, length, take, drop}
 
 -- what stands before the first byte that p picks
 abbrev pub before : (ℕ → Bool) → List ℕ → List ℕ
@@ -20,6 +20,10 @@ onto_first b (part ∷ parts) = (b ∷ part) ∷ parts
 abbrev pub parts : (ℕ → Bool) → List ℕ → List (List ℕ)
 parts p [] = []
 parts p (b ∷ bs) = if p b then [] ∷ parts p bs else onto_first b (parts p bs)
+
+-- a text without its last byte
+abbrev pub without_last : List ℕ → List ℕ
+without_last text = take (length text - 1) text
 
 -- ---- cells of a line, with a blank between
 

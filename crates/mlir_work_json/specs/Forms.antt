@@ -1,10 +1,11 @@
 -- What a line of an output is, told by how it begins.
-use Rattle.std.specs.Prelude.{ℕ, List, [], ◌∷◌, ◌==◌, ◌||◌, Bool, if◌then◌else◌, codes}
+use Rattle.std.specs.Prelude.{ℕ, List, [], ◌∷◌, ◌==◌, ◌||◌, ◌&&◌, Bool, false, if◌then◌else◌, is_some, codes, position}
 use Rattle.std.specs.Char.{is_ascii_digit}
 use Rattle.std.specs.Str.{bytes_eq}
-use Rattle.mlir_work_json.specs.Cuts.{cell, behind}
+use Rattle.mlir_work_json.specs.Cuts.{after, before, behind, behind_second, cell, second}
+use Rattle.mlir_work_json.specs.Numbers.{number_of}
 use Rattle.mlir_work_json.specs.declared.form.Form.{Form}
-use Rattle.mlir_work_json.specs.declared.form.Form.TheVariants.{Reply, Heading, Unread, Unattached, Module, Use, Constant, Dead, Unreached, Diagnostic, Effect, Definition, Reference, Unresolved, Mismatch, Other}
+use Rattle.mlir_work_json.specs.declared.form.Form.TheVariants.{Reply, Heading, Unread, Unattached, Module, Use, Constant, Dead, Unreached, Diagnostic, Effect, Definition, Reference, Unresolved, Mismatch, Rewritten, Pattern, Outcome, Other}
 
 -- a line of a module begins with a blank, a quote, a closing brace or a caret
 abbrev pub begins_module : ℕ → Bool
@@ -15,29 +16,92 @@ abbrev pub op_form : List ℕ → Form
 op_form [] = Dead
 op_form (b ∷ bs) = if b == 64 then Unreached else if b == 86 then Diagnostic else Effect
 
--- a row that begins with a value, by what stands behind that: an operation, or an attribute
-abbrev pub value_form : List ℕ → Form
-value_form [] = Constant
-value_form (b ∷ bs) = if b == 35 then Use else Constant
+-- ---- a value, as reports print it: `%v2.0`, `%a1.0.0`
 
--- a line that begins with a word
-abbrev pub word_form : List ℕ → Form
-word_form word =
-    if bytes_eq word (codes "--") then Heading
-    else if bytes_eq word (codes "module") then Unread
-    else if bytes_eq word (codes "attach") then Unattached
-    else if bytes_eq word (codes "def") then Definition
+abbrev pub is_dot : ℕ → Bool
+is_dot b = b == 46
+
+abbrev pub is_number : List ℕ → Bool
+is_number word = is_some (number_of word)
+
+-- `2.0`
+abbrev pub are_two : List ℕ → Bool
+are_two text = is_number (before is_dot text) && is_number (after is_dot text)
+
+-- `1.0.0`
+abbrev pub are_three : List ℕ → Bool
+are_three text = is_number (before is_dot text) && are_two (after is_dot text)
+
+abbrev pub names_value : List ℕ → Bool
+names_value [] = false
+names_value (a ∷ []) = false
+names_value (a ∷ b ∷ text) = if b == 118 then are_two text else if b == 97 then are_three text else false
+
+-- a row that begins with a value, or with a name that a pattern has for one
+abbrev pub named_form : List ℕ → Form
+named_form word = if names_value word then Constant else Outcome
+
+-- a row that begins so, by what stands behind that: an operation, or an attribute
+abbrev pub value_form : List ℕ → List ℕ → Form
+value_form word [] = named_form word
+value_form word (b ∷ bs) = if b == 35 then Use else named_form word
+
+-- ---- a line that begins with a word
+
+-- an attribute of a check begins with its number, or is `true` or `false`
+abbrev pub begins_number : List ℕ → Bool
+begins_number [] = false
+begins_number (b ∷ bs) = is_ascii_digit b || (b == 45)
+
+abbrev pub is_outcome : List ℕ → Bool
+is_outcome word =
+    begins_number word || (bytes_eq word (codes "true") || (bytes_eq word (codes "false")
+    || (bytes_eq word (codes "poison") || bytes_eq word (codes "undefined"))))
+
+abbrev pub begins_op : List ℕ → Bool
+begins_op [] = false
+begins_op (b ∷ bs) = b == 35
+
+-- a line that tells of a rewrite has an operation behind the number and the word of the rule; a constant of a pattern
+-- that is called so has none
+abbrev pub tells_rewrite : List ℕ → Bool
+tells_rewrite line = bytes_eq (cell line) (codes "rewrote") && begins_op (behind (behind_second line))
+
+-- a row of symbols, in which an operation stands behind the word
+abbrev pub symbol_form : List ℕ → Form
+symbol_form word =
+    if bytes_eq word (codes "def") then Definition
     else if bytes_eq word (codes "duplicate") then Definition
     else if bytes_eq word (codes "use") then Reference
     else if bytes_eq word (codes "unresolved") then Unresolved
     else if bytes_eq word (codes "mismatch") then Mismatch
     else Other
 
+-- what is refused that is no command
+abbrev pub refusal_form : List ℕ → Form
+refusal_form word =
+    if bytes_eq word (codes "module") then Unread
+    else if bytes_eq word (codes "attach") then Unattached
+    else Other
+
+-- a pattern has `=>`
+abbrev pub has_arrow : List ℕ → Bool
+has_arrow line = is_some (position (λ b. b == 61) line)
+
+abbrev pub word_form : List ℕ → Form
+word_form line =
+    if bytes_eq (cell line) (codes "--") then Heading
+    else if begins_op (behind line) then symbol_form (cell line)
+    else if tells_rewrite line then Rewritten
+    else if is_outcome (second line) then Outcome
+    else if has_arrow line then Pattern
+    else refusal_form (cell line)
+
 abbrev pub form_of : List ℕ → Form
 form_of [] = Other
 form_of (b ∷ bs) =
     if is_ascii_digit b then Reply
     else if b == 35 then op_form (behind (b ∷ bs))
-    else if b == 37 then value_form (behind (b ∷ bs))
+    else if b == 37 then value_form (cell (b ∷ bs)) (behind (b ∷ bs))
     else if begins_module b then Module
-    else word_form (cell (b ∷ bs))
+    else word_form (b ∷ bs)

@@ -1,5 +1,5 @@
 -- The members of lines that reply.
-use Rattle.std.specs.Prelude.{ℕ, List, [], ◌∷◌, ◌==◌, if◌then◌else◌, codes}
+use Rattle.std.specs.Prelude.{ℕ, List, [], ◌∷◌, ◌==◌, ◌||◌, Bool, if◌then◌else◌, codes}
 use Rattle.std.specs.Str.{bytes_eq}
 use Rattle.mlir_work_json.specs.Cuts.{cell, behind, second, behind_second}
 use Rattle.mlir_work_json.specs.Items.{Member, text, numeral}
@@ -19,15 +19,24 @@ refusal_members line =
 abbrev pub expected_members : List ℕ → List Member
 expected_members line = numeral (codes "expected") (cell line) ∷ text (codes "word") (behind line) ∷ []
 
--- behind the word of what was done: nothing, `#12`, or `3`
-abbrev pub result_members : List ℕ → List Member
-result_members [] = []
-result_members (b ∷ bs) =
-    if b == 35 then text (codes "op") (b ∷ bs) ∷ [] else numeral (codes "count") (b ∷ bs) ∷ []
+-- the words of a check, behind which a width stands
+abbrev pub says_width : List ℕ → Bool
+says_width word =
+    bytes_eq word (codes "holds") || (bytes_eq word (codes "empty") || bytes_eq word (codes "fails"))
 
--- `ok`, `ok #12`, `converged 3`
+-- what the number behind a word is
+abbrev pub number_key : List ℕ → List ℕ
+number_key word = if says_width word then codes "width" else codes "count"
+
+-- behind the word of what was done: nothing, `#12`, or `3`
+abbrev pub result_members : List ℕ → List ℕ → List Member
+result_members word [] = []
+result_members word (b ∷ bs) =
+    if b == 35 then text (codes "op") (b ∷ bs) ∷ [] else numeral (number_key word) (b ∷ bs) ∷ []
+
+-- `ok`, `ok #12`, `converged 3`, `holds 8`
 abbrev pub done_members : List ℕ → List Member
-done_members line = text (codes "reply") (cell line) ∷ result_members (behind line)
+done_members line = text (codes "reply") (cell line) ∷ result_members (cell line) (behind line)
 
 -- what stands behind the number of a reply
 abbrev pub answer_members : List ℕ → List Member
@@ -36,7 +45,7 @@ answer_members line =
     else if bytes_eq (cell line) (codes "expected") then expected_members (behind line)
     else done_members line
 
--- `1 ok`, `1 ok #12`, `1 converged 3`, `1 refused 22 HasUses`, `1 refused 51 NotLegalised #2`,
+-- `1 ok`, `1 ok #12`, `1 converged 3`, `1 holds 8`, `1 refused 22 HasUses`, `1 refused 51 NotLegalised #2`,
 -- `1 refused 3 UnknownValue at 17`, `1 expected 22 HasUses`
 abbrev pub reply_members : List ℕ → List Member
 reply_members line = numeral (codes "n") (cell line) ∷ answer_members (behind line)

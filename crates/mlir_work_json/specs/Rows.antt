@@ -1,7 +1,9 @@
 -- The members of rows. Each has its kind.
-use Rattle.std.specs.Prelude.{ℕ, List, [], ◌∷◌, codes}
-use Rattle.mlir_work_json.specs.Cuts.{cell, behind, second, behind_second, is_blank, parts}
+use Rattle.std.specs.Prelude.{ℕ, List, [], ◌∷◌, ◌==◌, Bool, if◌then◌else◌, is_some, codes}
+use Rattle.std.specs.Str.{bytes_eq}
+use Rattle.mlir_work_json.specs.Cuts.{after, before, behind, behind_second, cell, is_blank, parts, second, without_last}
 use Rattle.mlir_work_json.specs.Items.{Member, Texts, text, numeral}
+use Rattle.mlir_work_json.specs.Numbers.{number_of}
 
 abbrev pub kind : List ℕ → Member
 kind word = text (codes "kind") word
@@ -62,3 +64,50 @@ unresolved_members line =
 abbrev pub mismatch_members : List ℕ → List Member
 mismatch_members line =
     symbol_members line (text (codes "op") (second line) ∷ text (codes "target") (behind_second line) ∷ [])
+
+-- ---- rewrites
+
+abbrev pub is_comma : ℕ → Bool
+is_comma b = b == 44
+
+-- `erased #7`, or nothing
+abbrev pub erased_members : List ℕ → List Member
+erased_members [] = []
+erased_members (b ∷ bs) = text (codes "erased") (behind (b ∷ bs)) ∷ []
+
+-- `made #12,#13 erased #7`, or one of the two, or nothing
+abbrev pub change_members : List ℕ → List Member
+change_members line =
+    if bytes_eq (cell line) (codes "made")
+    then (codes "made", Texts (parts is_comma (second line))) ∷ erased_members (behind_second line)
+    else erased_members line
+
+-- `rewrote 10 regroup-constants #7 made #12,#13 erased #7`
+abbrev pub rewritten_members : List ℕ → List Member
+rewritten_members line =
+    kind (codes "trace") ∷ numeral (codes "rule") (second line) ∷ text (codes "word") (cell (behind_second line))
+    ∷ text (codes "op") (second (behind_second line)) ∷ change_members (behind_second (behind_second line))
+
+-- ---- patterns of one's own
+
+-- `holds 8`, or `not checked`
+abbrev pub said_members : List ℕ → List Member
+said_members said =
+    if is_some (number_of (behind said))
+    then text (codes "said") (cell said) ∷ numeral (codes "width") (behind said) ∷ []
+    else text (codes "said") said ∷ []
+
+-- no pattern has a slash within, and a blank stands in front of the comment
+abbrev pub is_slash : ℕ → Bool
+is_slash b = b == 47
+
+-- `half arith.divui(%a, 2) => arith.shrui(%a, 1) // holds 8`
+abbrev pub pattern_members : List ℕ → List Member
+pattern_members line =
+    kind (codes "patterns") ∷ text (codes "name") (cell line) ∷ text (codes "pattern") (without_last (before is_slash line))
+    ∷ said_members (behind (after is_slash line))
+
+-- `%a -2 : i2`, `c -2 : i2`, `old 1 : i2`, `new poison`
+abbrev pub outcome_members : List ℕ → List Member
+outcome_members line =
+    kind (codes "check") ∷ text (codes "name") (cell line) ∷ text (codes "outcome") (behind line) ∷ []

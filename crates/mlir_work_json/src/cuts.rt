@@ -1,6 +1,6 @@
 //! Texts cut at a byte.
-ghost use Rattle.std.specs.Prelude.{◌≡◌, ◌==◌, ◌<◌, ◌≤◌, length, position, false};
-ghost use Rattle.mlir_work_json.specs.Cuts.{before, after, ends_cell, quoted_behind, cell_len, cell, behind};
+ghost use Rattle.std.specs.Prelude.{◌≡◌, ◌==◌, ◌<◌, ◌≤◌, length, position, false, is_some};
+ghost use Rattle.mlir_work_json.specs.Cuts.{before, after, ends_cell, quoted_behind, cell_len, cell, behind, without_last};
 
 /// The blank between the cells of a line.
 pub(crate) const BLANK: u8 = b' ';
@@ -10,6 +10,20 @@ fn place_of(text: &[u8], byte: u8) -> Option<usize>
     ensures { result ≡ position (λ b. b == byte) text.now }
 {
     text.iter().position(|b| *b == byte)
+}
+
+/// Whether the byte stands in a text.
+pub(crate) fn has_byte(text: &[u8], byte: u8) -> bool
+    ensures { result ≡ is_some (position (λ b. b == byte) text.now) }
+{
+    place_of(text, byte).is_some()
+}
+
+/// A text without its last byte.
+pub(crate) fn without_last(text: &[u8]) -> &[u8]
+    ensures { result.now ≡ without_last text.now }
+{
+    &text[..text.len().saturating_sub(1)]
 }
 
 /// What stands before the byte where it first stands, and what stands after it.

@@ -1,8 +1,11 @@
 //! What a line of an output is.
 ghost use Rattle.std.specs.Prelude.{◌≡◌};
-ghost use Rattle.mlir_work_json.specs.Forms.{begins_module, op_form, value_form, word_form, form_of};
+ghost use Rattle.mlir_work_json.specs.Forms.{are_three, are_two, begins_module, begins_number, begins_op, form_of};
+ghost use Rattle.mlir_work_json.specs.Forms.{has_arrow, is_number, is_outcome, named_form, names_value, op_form};
+ghost use Rattle.mlir_work_json.specs.Forms.{refusal_form, symbol_form, tells_rewrite, value_form, word_form};
 
-use crate::cuts::{behind_cell, cut_cell};
+use crate::cuts::{behind_cell, cut_at, cut_cell, has_byte};
+use crate::numbers::number;
 
 /// What a line of an output is, told by how it begins.
 #[derive(Clone, Copy, Debug, PartialEq, Eq)]
@@ -37,6 +40,12 @@ pub enum Form {
     Unresolved,
     /// A row of `symbols`: a call that doesn't fit.
     Mismatch,
+    /// A rewrite that is told.
+    Rewritten,
+    /// A pattern, and what its last check said.
+    Pattern,
+    /// A row of a check: a variable, or a result, and what it is.
+    Outcome,
     /// No line of an output.
     Other,
 }
@@ -60,29 +69,105 @@ fn op_form(behind: &[u8]) -> Form
     }
 }
 
-/// What a row is in which this stands behind a value.
-fn value_form(behind: &[u8]) -> Form
-    ensures { result ≡ value_form behind.now }
+/// Whether a word is a number.
+fn is_number(word: &[u8]) -> bool
+    ensures { result ≡ is_number word.now }
 {
-    match behind {
-        [b'#', ..] => Form::Use,
-        _ => Form::Constant,
+    number(word).is_some()
+}
+
+/// Whether a text is two numbers: `2.0`.
+fn are_two(text: &[u8]) -> bool
+    ensures { result ≡ are_two text.now }
+{
+    let (op, place) = cut_at(text, b'.');
+    is_number(op) && is_number(place)
+}
+
+/// Whether a text is three numbers: `1.0.0`.
+fn are_three(text: &[u8]) -> bool
+    ensures { result ≡ are_three text.now }
+{
+    let (op, rest) = cut_at(text, b'.');
+    is_number(op) && are_two(rest)
+}
+
+/// Whether a word is the name of a value of a module, behind its first byte.
+fn names_value(word: &[u8]) -> bool
+    ensures { result ≡ names_value word.now }
+{
+    match word {
+        [_, b'v', text @ ..] => are_two(text),
+        [_, b'a', text @ ..] => are_three(text),
+        _ => false,
     }
 }
 
-/// What a line is that begins with this word.
-fn word_form(word: &[u8]) -> Form
-    ensures { result ≡ word_form word.now }
+/// What a row is that begins with the name of a value, of a module or of a pattern.
+fn named_form(word: &[u8]) -> Form
+    ensures { result ≡ named_form word.now }
 {
-    if word == b"--".as_slice() {
-        return Form::Heading;
+    if names_value(word) {
+        Form::Constant
+    } else {
+        Form::Outcome
     }
-    if word == b"module".as_slice() {
-        return Form::Unread;
+}
+
+/// What a row is in which this stands behind the name of a value.
+fn value_form(word: &[u8], behind: &[u8]) -> Form
+    ensures { result ≡ value_form word.now behind.now }
+{
+    match behind {
+        [b'#', ..] => Form::Use,
+        _ => named_form(word),
     }
-    if word == b"attach".as_slice() {
-        return Form::Unattached;
+}
+
+/// Whether a word begins as a number does.
+fn begins_number(word: &[u8]) -> bool
+    ensures { result ≡ begins_number word.now }
+{
+    match word {
+        [] => false,
+        [first, ..] => first.is_ascii_digit() || *first == b'-',
     }
+}
+
+/// Whether a word is what a check says of a variable or a result, or how that begins.
+fn is_outcome(word: &[u8]) -> bool
+    ensures { result ≡ is_outcome word.now }
+{
+    begins_number(word)
+        || word == b"true".as_slice()
+        || word == b"false".as_slice()
+        || word == b"poison".as_slice()
+        || word == b"undefined".as_slice()
+}
+
+/// Whether a text begins with an operation.
+fn begins_op(text: &[u8]) -> bool
+    ensures { result ≡ begins_op text.now }
+{
+    match text {
+        [b'#', ..] => true,
+        _ => false,
+    }
+}
+
+/// Whether a line tells of a rewrite.
+fn tells_rewrite(line: &[u8]) -> bool
+    ensures { result ≡ tells_rewrite line.now }
+{
+    let (word, behind) = cut_cell(line);
+    let rule = behind_cell(behind);
+    word == b"rewrote".as_slice() && begins_op(behind_cell(rule))
+}
+
+/// What a row of symbols is that begins with this word.
+fn symbol_form(word: &[u8]) -> Form
+    ensures { result ≡ symbol_form word.now }
+{
     if word == b"def".as_slice() || word == b"duplicate".as_slice() {
         return Form::Definition;
     }
@@ -96,6 +181,49 @@ fn word_form(word: &[u8]) -> Form
         return Form::Mismatch;
     }
     Form::Other
+}
+
+/// What is refused by a line that begins with this word.
+fn refusal_form(word: &[u8]) -> Form
+    ensures { result ≡ refusal_form word.now }
+{
+    if word == b"module".as_slice() {
+        return Form::Unread;
+    }
+    if word == b"attach".as_slice() {
+        return Form::Unattached;
+    }
+    Form::Other
+}
+
+/// Whether a line has the arrow of a pattern.
+fn has_arrow(line: &[u8]) -> bool
+    ensures { result ≡ has_arrow line.now }
+{
+    has_byte(line, b'=')
+}
+
+/// What a line is that begins with a word.
+fn word_form(line: &[u8]) -> Form
+    ensures { result ≡ word_form line.now }
+{
+    let (word, behind) = cut_cell(line);
+    if word == b"--".as_slice() {
+        return Form::Heading;
+    }
+    if begins_op(behind) {
+        return symbol_form(word);
+    }
+    if tells_rewrite(line) {
+        return Form::Rewritten;
+    }
+    if is_outcome(cut_cell(behind).0) {
+        return Form::Outcome;
+    }
+    if has_arrow(line) {
+        return Form::Pattern;
+    }
+    refusal_form(word)
 }
 
 /// What a line is.
@@ -112,10 +240,11 @@ pub(crate) fn form_of(line: &[u8]) -> Form
         return op_form(behind_cell(line));
     }
     if *first == b'%' {
-        return value_form(behind_cell(line));
+        let (word, behind) = cut_cell(line);
+        return value_form(word, behind);
     }
     if begins_module(*first) {
         return Form::Module;
     }
-    word_form(cut_cell(line).0)
+    word_form(line)
 }

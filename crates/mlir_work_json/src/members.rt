@@ -1,10 +1,10 @@
 //! Members of the object of a line.
-ghost use Rattle.std.specs.Prelude.{◌≡◌, [], ◌∷◌, map, IfOk};
+ghost use Rattle.std.specs.Prelude.{◌≡◌, ◌==◌, [], ◌∷◌, map, IfOk};
 ghost use Rattle.serde_json.specs.View.{view};
-ghost use Rattle.mlir_work_json.specs.Cuts.{is_blank, parts};
+ghost use Rattle.mlir_work_json.specs.Cuts.{parts};
 ghost use Rattle.mlir_work_json.specs.Items.{Puts, Texts, text, numeral, text_data};
 
-use crate::cuts::{BLANK, cut_at};
+use crate::cuts::cut_at;
 use crate::numbers::number;
 use serde_json::{Map, Value, put};
 use std::alloc::{AllocError, Global};
@@ -47,29 +47,30 @@ pub(crate) fn put_number(
     }
 }
 
-/// The words of a text, which stand with a blank between.
-fn texts_value(alloc: Global, text: &[u8]) -> Result<Vec<Value>, AllocError>
-    ensures { IfOk result (λ v. map view v.items ≡ map text_data (parts is_blank text.now)) }
+/// The parts of a text, which end at a byte.
+fn parts_value(alloc: Global, text: &[u8], end: u8) -> Result<Vec<Value>, AllocError>
+    ensures { IfOk result (λ v. map view v.items ≡ map text_data (parts (λ b. b == end) text.now)) }
 {
     let mut values = Vec::new(alloc);
     let mut rest = text;
     while !rest.is_empty() {
-        let (word, behind) = cut_at(rest, BLANK);
+        let (word, behind) = cut_at(rest, end);
         values.push(text_value(alloc, word)?)?;
         rest = behind;
     }
     Ok(values)
 }
 
-/// Puts a member whose value is the words of a text.
-pub(crate) fn put_texts(
+/// Puts a member whose value is the parts of a text, which end at a byte.
+pub(crate) fn put_parts(
     object: &mut Object,
     alloc: Global,
     key: &str,
     text: &[u8],
+    end: u8,
 ) -> Result<(), AllocError>
-    ensures { Puts result object.old object.new ((key.now, Texts (parts is_blank text.now)) ∷ []) }
+    ensures { Puts result object.old object.new ((key.now, Texts (parts (λ b. b == end) text.now)) ∷ []) }
 {
-    let values = texts_value(alloc, text)?;
+    let values = parts_value(alloc, text, end)?;
     put(object, alloc, key, Value::Array(values))
 }

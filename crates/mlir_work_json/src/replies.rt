@@ -1,7 +1,8 @@
 //! The members of lines that reply.
+ghost use Rattle.std.specs.Prelude.{◌≡◌};
 ghost use Rattle.mlir_work_json.specs.Items.{Puts};
 ghost use Rattle.mlir_work_json.specs.Replies.{place_members, refusal_members, expected_members, result_members};
-ghost use Rattle.mlir_work_json.specs.Replies.{done_members, answer_members, reply_members, unread_members};
+ghost use Rattle.mlir_work_json.specs.Replies.{number_key, says_width, done_members, answer_members, reply_members, unread_members};
 ghost use Rattle.mlir_work_json.specs.Replies.{unattached_members, state_members, heading_members};
 
 use crate::cuts::{behind_cell, cut_cell};
@@ -39,24 +40,43 @@ fn put_expected(object: &mut Object, alloc: Global, line: &[u8]) -> Result<(), A
     put_text(object, alloc, "word", word)
 }
 
+/// Whether a width stands behind a word, one of a check.
+fn says_width(word: &[u8]) -> bool
+    ensures { result ≡ says_width word.now }
+{
+    word == b"holds".as_slice() || word == b"empty".as_slice() || word == b"fails".as_slice()
+}
+
+/// What the number behind a word is.
+fn number_key(word: &[u8]) -> &'static str
+    ensures { result.now ≡ number_key word.now }
+{
+    if says_width(word) { "width" } else { "count" }
+}
+
 /// Puts what stands behind the word of what was done: nothing, `#12`, or `3`.
-fn put_result(object: &mut Object, alloc: Global, made: &[u8]) -> Result<(), AllocError>
-    ensures { Puts result object.old object.new (result_members made.now) }
+fn put_result(
+    object: &mut Object,
+    alloc: Global,
+    word: &[u8],
+    made: &[u8],
+) -> Result<(), AllocError>
+    ensures { Puts result object.old object.new (result_members word.now made.now) }
 {
     match made {
         [] => Ok(()),
         [b'#', ..] => put_text(object, alloc, "op", made),
-        _ => put_number(object, alloc, "count", made),
+        _ => put_number(object, alloc, number_key(word), made),
     }
 }
 
-/// Puts what was done: `ok`, `ok #12`, `converged 3`.
+/// Puts what was done: `ok`, `ok #12`, `converged 3`, `holds 8`.
 fn put_done(object: &mut Object, alloc: Global, line: &[u8]) -> Result<(), AllocError>
     ensures { Puts result object.old object.new (done_members line.now) }
 {
     let (word, made) = cut_cell(line);
     put_text(object, alloc, "reply", word)?;
-    put_result(object, alloc, made)
+    put_result(object, alloc, word, made)
 }
 
 /// Puts what stands behind the number of a reply.

@@ -2,10 +2,12 @@
 ghost use Rattle.mlir_work_json.specs.Items.{Puts};
 ghost use Rattle.mlir_work_json.specs.Rows.{use_members, constant_members, dead_members, unreached_members};
 ghost use Rattle.mlir_work_json.specs.Rows.{diagnostic_members, effect_members, definition_members, reference_members};
-ghost use Rattle.mlir_work_json.specs.Rows.{unresolved_members, mismatch_members};
+ghost use Rattle.mlir_work_json.specs.Rows.{unresolved_members, mismatch_members, said_members, pattern_members};
+ghost use Rattle.mlir_work_json.specs.Rows.{change_members, erased_members, outcome_members, rewritten_members};
 
-use crate::cuts::cut_cell;
-use crate::members::{Object, put_number, put_text, put_texts};
+use crate::cuts::{BLANK, behind_cell, cut_at, cut_cell, without_last};
+use crate::members::{Object, put_number, put_parts, put_text};
+use crate::numbers::number;
 use std::alloc::{AllocError, Global};
 
 /// Puts a row of `uses`: `%a1.0.0 #3 0`.
@@ -77,7 +79,7 @@ pub(crate) fn put_effect(object: &mut Object, alloc: Global, line: &[u8]) -> Res
     let (op, words) = cut_cell(line);
     put_text(object, alloc, "kind", b"effects")?;
     put_text(object, alloc, "op", op)?;
-    put_texts(object, alloc, "words", words)
+    put_parts(object, alloc, "words", words, BLANK)
 }
 
 /// Puts a row of `symbols`: `def #0 @f #1`, `duplicate #0 @f #1`.
@@ -146,4 +148,79 @@ pub(crate) fn put_mismatch(
     put_text(object, alloc, "group", group)?;
     put_text(object, alloc, "op", op)?;
     put_text(object, alloc, "target", target)
+}
+
+/// Puts that an operation went, `erased #7`, or nothing.
+fn put_erased(object: &mut Object, alloc: Global, line: &[u8]) -> Result<(), AllocError>
+    ensures { Puts result object.old object.new (erased_members line.now) }
+{
+    if line.is_empty() {
+        return Ok(());
+    }
+    put_text(object, alloc, "erased", behind_cell(line))
+}
+
+/// Puts what a rewrite made, and whether the operation went: `made #12,#13 erased #7`.
+fn put_change(object: &mut Object, alloc: Global, line: &[u8]) -> Result<(), AllocError>
+    ensures { Puts result object.old object.new (change_members line.now) }
+{
+    let (word, rest) = cut_cell(line);
+    if word != b"made".as_slice() {
+        return put_erased(object, alloc, line);
+    }
+    let (made, rest) = cut_cell(rest);
+    put_parts(object, alloc, "made", made, b',')?;
+    put_erased(object, alloc, rest)
+}
+
+/// Puts a rewrite that is told: `rewrote 10 regroup-constants #7 made #12,#13 erased #7`.
+pub(crate) fn put_rewritten(
+    object: &mut Object,
+    alloc: Global,
+    line: &[u8],
+) -> Result<(), AllocError>
+    ensures { Puts result object.old object.new (rewritten_members line.now) }
+{
+    let (_, rest) = cut_cell(line);
+    let (rule, rest) = cut_cell(rest);
+    let (word, rest) = cut_cell(rest);
+    let (op, rest) = cut_cell(rest);
+    put_text(object, alloc, "kind", b"trace")?;
+    put_number(object, alloc, "rule", rule)?;
+    put_text(object, alloc, "word", word)?;
+    put_text(object, alloc, "op", op)?;
+    put_change(object, alloc, rest)
+}
+
+/// Puts what a check said: `holds 8`, or that there was none.
+fn put_said(object: &mut Object, alloc: Global, said: &[u8]) -> Result<(), AllocError>
+    ensures { Puts result object.old object.new (said_members said.now) }
+{
+    let (word, width) = cut_cell(said);
+    if number(width).is_none() {
+        return put_text(object, alloc, "said", said);
+    }
+    put_text(object, alloc, "said", word)?;
+    put_number(object, alloc, "width", width)
+}
+
+/// Puts a pattern: `half arith.divui(%a, 2) => arith.shrui(%a, 1) // holds 8`.
+pub(crate) fn put_pattern(object: &mut Object, alloc: Global, line: &[u8]) -> Result<(), AllocError>
+    ensures { Puts result object.old object.new (pattern_members line.now) }
+{
+    let (pattern, comment) = cut_at(line, b'/');
+    put_text(object, alloc, "kind", b"patterns")?;
+    put_text(object, alloc, "name", cut_cell(line).0)?;
+    put_text(object, alloc, "pattern", without_last(pattern))?;
+    put_said(object, alloc, behind_cell(comment))
+}
+
+/// Puts a row of a check: `%a -2 : i2`, `new poison`.
+pub(crate) fn put_outcome(object: &mut Object, alloc: Global, line: &[u8]) -> Result<(), AllocError>
+    ensures { Puts result object.old object.new (outcome_members line.now) }
+{
+    let (name, outcome) = cut_cell(line);
+    put_text(object, alloc, "kind", b"check")?;
+    put_text(object, alloc, "name", name)?;
+    put_text(object, alloc, "outcome", outcome)
 }

@@ -1,5 +1,5 @@
 -- Live runs, line by line.
-use Rattle.std.proofs.Common.{◌≡◌, ◌∙◌, sym, ap, refl, ℕ, ◌+◌, ◌<◌, ◌≤◌, List, [], ◌∷◌, ◌++◌, length, length-append, append-nil, append_assoc, arith, Bool, true, false, ◌⊎◌, inl, inr, Option, Some, None, Result, Ok, Err}
+use Rattle.std.proofs.Common.{◌≡◌, ◌∙◌, sym, ap, refl, subst, ℕ, ◌+◌, ◌<◌, ◌≤◌, List, [], ◌∷◌, ◌++◌, length, length-append, append-nil, append_assoc, arith, Bool, true, false, ◌⊎◌, inl, inr, Option, Some, None, Result, Ok, Err}
 use Rattle.std.specs.Prelude.{IfSome, ⊤}
 use Rattle.std.specs.Io.KnownBytes.{IsAtEnd}
 use Rattle.ir_event.specs.types.declared.refusal.Refusal.TheVariants.{Memory}
@@ -14,11 +14,12 @@ use Rattle.mlir_work_session.specs.Expecting.{line_expects}
 use Rattle.mlir_work_session.specs.Lines.{is_newline, line_of, after_line, onto_first}
 use Rattle.mlir_work_session.specs.Limits.{most_script_bytes}
 use Rattle.mlir_work_session.specs.Machine.{State}
-use Rattle.mlir_work_session.specs.Output.{Begun, IsAnswered, accepted_behind, number_behind, worse}
+use Rattle.mlir_work_session.specs.Output.{Begun, IsAnswered, Sitting, accepted_behind, number_behind, opening, worse}
 use Rattle.mlir_work_session.specs.Panels.{Shown}
 use Rattle.mlir_work_session.specs.Parts.{module_text, script_text}
 use Rattle.mlir_work_session.specs.Reads.{Intake}
 use Rattle.mlir_work_session.specs.Replies.{module_refused_line}
+use Rattle.mlir_work_session.specs.Shelf.{Book}
 use Rattle.mlir_work_session.specs.WriteFault.{WriteFault}
 use Rattle.mlir_work_session.specs.Writes.{Fails, Grows, GrowsFront, Stays, Stream}
 use Rattle.mlir_work_session.proofs.Joins.{front_join, front_more, grows_fails, grows_join, grows_none, grows_stays}
@@ -69,20 +70,20 @@ next_line (Some all) (Some rest) line h lt = next_of all rest line h.0 h.2 lt (f
 
 -- ---- lines that are answered
 
-module _ (setting : Setting) (before : ℕ) (begun : State) where
+module _ (setting : Setting) (before : ℕ) (begun : Sitting) where
   -- these lines were answered so, and what may answer more of them may come behind
-  pub record Goes (lines : List (List ℕ)) (read n : ℕ) (s : State) (accepted : Bool) (out : List ℕ) : Type 0 where
+  pub record Goes (lines : List (List ℕ)) (read n : ℕ) (s : Sitting) (accepted : Bool) (out : List ℕ) : Type 0 where
     pub goes : (more : List (List ℕ)) (later : ℕ) (rest : List ℕ) → Lives setting read n s more later rest → Lives setting before 1 begun (lines ++ more) (worse accepted later) (out ++ rest)
 
   goes_none : Goes [] before 1 begun true []
   goes_none = record { goes = λ more later rest h. h }
 
   -- they are all for now
-  goes_so_far : (lines : List (List ℕ)) (read n : ℕ) (s : State) (accepted : Bool) (out : List ℕ) → Goes lines read n s accepted out → Lives setting before 1 begun lines (worse accepted 0) out
+  goes_so_far : (lines : List (List ℕ)) (read n : ℕ) (s : Sitting) (accepted : Bool) (out : List ℕ) → Goes lines read n s accepted out → Lives setting before 1 begun lines (worse accepted 0) out
   goes_so_far lines read n s accepted out h = rw (append-nil, append-nil) at (h.goes [] 0 [] (refl, refl))
 
   -- one more is answered
-  goes_step : (lines : List (List ℕ)) (read n : ℕ) (s t : State) (accepted : Bool) (out line told_out : List ℕ) (told : Option Bool) → Goes lines read n s accepted out → length line ≤ most_script_bytes → IsAnswered (way_at setting (read + length line)) n s (line_expects (line_of line)) (line_says (line_of line)) t told told_out →
+  goes_step : (lines : List (List ℕ)) (read n : ℕ) (s t : Sitting) (accepted : Bool) (out line told_out : List ℕ) (told : Option Bool) → Goes lines read n s accepted out → length line ≤ most_script_bytes → IsAnswered (way_at setting (read + length line)) n s (line_expects (line_of line)) (line_says (line_of line)) t told told_out →
       Goes (lines ++ line ∷ []) (read + length line) (number_behind n told) t (accepted_behind accepted told) (out ++ told_out)
   goes_step lines read n s t accepted out line told_out told h short answered = record {
     goes = λ more later rest k.
@@ -92,7 +93,7 @@ module _ (setting : Setting) (before : ℕ) (begun : State) where
   }
 
   -- what is known behind some lines of what waited, of which these wait yet
-  abbrev pub Lived : Option (List ℕ) → Option (List ℕ) → ℕ → ℕ → State → Bool → Stream → Stream → Type 0
+  abbrev pub Lived : Option (List ℕ) → Option (List ℕ) → ℕ → ℕ → Sitting → Bool → Stream → Stream → Type 0
   Lived None new read n s accepted a b = ⊤
   Lived (Some all) None read n s accepted a b = ⊥
   Lived (Some all) (Some left) read n s accepted a b =
@@ -102,7 +103,7 @@ module _ (setting : Setting) (before : ℕ) (begun : State) where
   lived_none None a = tt
   lived_none (Some all) a = ([], [], refl, grows_none a, goes_none)
 
-  pub lived_step : (o mid new : Option (List ℕ)) (read more n : ℕ) (s t : State) (accepted : Bool) (a b c : Stream) (line told_out : List ℕ) (told : Option Bool) → Lived o mid read n s accepted a b → TakesLine mid new line → 0 < length line → length line ≤ most_script_bytes → more ≡ read + length line →
+  pub lived_step : (o mid new : Option (List ℕ)) (read more n : ℕ) (s t : Sitting) (accepted : Bool) (a b c : Stream) (line told_out : List ℕ) (told : Option Bool) → Lived o mid read n s accepted a b → TakesLine mid new line → 0 < length line → length line ≤ most_script_bytes → more ≡ read + length line →
       IsAnswered (way_at setting more) n s (line_expects (line_of line)) (line_says (line_of line)) t told told_out → Grows b c told_out → Lived o new more (number_behind n told) t (accepted_behind accepted told) a c
   lived_step None mid new read more n s t accepted a b c line told_out told h takes some short is answered wrote = tt
   lived_step (Some all) None new read more n s t accepted a b c line told_out told h takes some short is answered wrote = absurd h
@@ -117,7 +118,7 @@ module _ (setting : Setting) (before : ℕ) (begun : State) where
       )
 
   -- nothing waits any more
-  pub lived_end : (o left : Option (List ℕ)) (read n : ℕ) (s : State) (accepted handed : Bool) (status : ℕ) (a b : Stream) → Lived o left read n s accepted a b → IsAtEnd left → handed ≡ true → status ≡ worse accepted 0 → IfSome o (λ script. LiveEnded (Lives setting before 1 begun) (whole_lines script) a b handed (Ok status))
+  pub lived_end : (o left : Option (List ℕ)) (read n : ℕ) (s : Sitting) (accepted handed : Bool) (status : ℕ) (a b : Stream) → Lived o left read n s accepted a b → IsAtEnd left → handed ≡ true → status ≡ worse accepted 0 → IfSome o (λ script. LiveEnded (Lives setting before 1 begun) (whole_lines script) a b handed (Ok status))
   lived_end None left read n s accepted handed status a b h end on is = tt
   lived_end (Some all) None read n s accepted handed status a b h end on is = absurd h
   lived_end (Some all) (Some left) read n s accepted handed status a b (lines, out, cut, grows, goes) end on is =
@@ -125,7 +126,7 @@ module _ (setting : Setting) (before : ℕ) (begun : State) where
       let all_lines : whole_lines all ≡ lines = cut ∙ ap (λ (xs : List ℕ). lines ++ whole_lines xs) none ∙ append-nil lines in
       (out, rw (all_lines, is) (goes_so_far lines read n s accepted out goes), grows, on)
 
-  so_far : (all left : List ℕ) (read n : ℕ) (s : State) (accepted : Bool) (a b : Stream) → Lived (Some all) (Some left) read n s accepted a b → IsUpTo (Lives setting before 1 begun) (whole_lines all) a b
+  so_far : (all left : List ℕ) (read n : ℕ) (s : Sitting) (accepted : Bool) (a b : Stream) → Lived (Some all) (Some left) read n s accepted a b → IsUpTo (Lives setting before 1 begun) (whole_lines all) a b
   so_far all left read n s accepted a b (lines, out, cut, grows, goes) = (lines, worse accepted 0, out, (whole_lines left, cut), goes_so_far lines read n s accepted out goes, grows)
 
   -- the next line isn't taken
@@ -134,13 +135,13 @@ module _ (setting : Setting) (before : ℕ) (begun : State) where
   halted_so OutOfMemory all a b handed on h = (on, h)
   halted_so TooMany all a b handed on h = (on, h)
 
-  pub lived_halts : (o left : Option (List ℕ)) (read n : ℕ) (s : State) (accepted handed : Bool) (a b : Stream) (stop : Stop) (halt : Halt) → Lived o left read n s accepted a b → handed ≡ true → halt ≡ halt_of stop → IfSome o (λ script. LiveEnded (Lives setting before 1 begun) (whole_lines script) a b handed (Err halt))
+  pub lived_halts : (o left : Option (List ℕ)) (read n : ℕ) (s : Sitting) (accepted handed : Bool) (a b : Stream) (stop : Stop) (halt : Halt) → Lived o left read n s accepted a b → handed ≡ true → halt ≡ halt_of stop → IfSome o (λ script. LiveEnded (Lives setting before 1 begun) (whole_lines script) a b handed (Err halt))
   lived_halts None left read n s accepted handed a b stop halt h on is = tt
   lived_halts (Some all) None read n s accepted handed a b stop halt h on is = absurd h
   lived_halts (Some all) (Some left) read n s accepted handed a b stop halt h on is = rw is (halted_so stop all a b handed on (so_far all left read n s accepted a b h))
 
   -- a write of its answer failed
-  pub lived_cut : (o mid new : Option (List ℕ)) (read more n : ℕ) (s t : State) (accepted handed : Bool) (a b c : Stream) (line told_out : List ℕ) (told : Option Bool) → Lived o mid read n s accepted a b → TakesLine mid new line → 0 < length line → length line ≤ most_script_bytes → more ≡ read + length line →
+  pub lived_cut : (o mid new : Option (List ℕ)) (read more n : ℕ) (s t : Sitting) (accepted handed : Bool) (a b c : Stream) (line told_out : List ℕ) (told : Option Bool) → Lived o mid read n s accepted a b → TakesLine mid new line → 0 < length line → length line ≤ most_script_bytes → more ≡ read + length line →
       IsAnswered (way_at setting more) n s (line_expects (line_of line)) (line_says (line_of line)) t told told_out → GrowsFront b c told_out → IfSome o (λ script. LiveEnded (Lives setting before 1 begun) (whole_lines script) a c handed (Err WriteFailed))
   lived_cut None mid new read more n s t accepted handed a b c line told_out told h takes some short is answered wrote = tt
   lived_cut (Some all) None new read more n s t accepted handed a b c line told_out told h takes some short is answered wrote = absurd h
@@ -159,13 +160,13 @@ module _ (setting : Setting) (before : ℕ) (begun : State) where
 -- ---- modules, and lines behind them
 
 module _ (setting : Setting) (boxes : List Shown) (m : Module) (before : ℕ) where
-  live_of : (s : State) (accepted : Bool) (front : List ℕ) → Begun setting.options.ends boxes m s accepted front → (lines : List (List ℕ)) (later : ℕ) (rest : List ℕ) → Lives setting before 1 s lines later rest → Live setting boxes m before lines (worse accepted later) (front ++ rest)
+  live_of : (s : State) (accepted : Bool) (front : List ℕ) → Begun setting.options.ends boxes m s accepted front → (lines : List (List ℕ)) (later : ℕ) (rest : List ℕ) → Lives setting before 1 (opening s) lines later rest → Live setting boxes m before lines (worse accepted later) (front ++ rest)
   live_of s accepted front h lines later rest k = record { begun = s; accepted = accepted; front = front; later = later; rest = rest; begins = h; lives = k; status_is = refl; out_is = refl }
 
   abbrev After : State → List ℕ → Bool → Stream → Stream → Type 0
   After s front accepted a b = Begun setting.options.ends boxes m s accepted front × Grows a b front
 
-  up_to_behind : (s : State) (accepted : Bool) (front : List ℕ) (all : List (List ℕ)) (a b c : Stream) → After s front accepted a b → IsUpTo (Lives setting before 1 s) all b c → IsUpTo (Live setting boxes m before) all a c
+  up_to_behind : (s : State) (accepted : Bool) (front : List ℕ) (all : List (List ℕ)) (a b c : Stream) → After s front accepted a b → IsUpTo (Lives setting before 1 (opening s)) all b c → IsUpTo (Live setting boxes m before) all a c
   up_to_behind s accepted front all a b c (h, wrote) (lines, later, rest, first, lives, more) = (lines, worse accepted later, front ++ rest, first, live_of s accepted front h lines later rest lives, grows_join a b c front rest wrote more)
 
   -- nothing was written behind the answer to the module
@@ -177,7 +178,7 @@ module _ (setting : Setting) (boxes : List Shown) (m : Module) (before : ℕ) wh
   worse_of accepted (Ok status) = Ok (worse accepted status)
   worse_of accepted (Err halt) = Err halt
 
-  behind : (s : State) (accepted : Bool) (front : List ℕ) (all : List (List ℕ)) (a b c : Stream) (handed : Bool) (r q : Result ℕ Halt) → q ≡ worse_of accepted r → After s front accepted a b → LiveEnded (Lives setting before 1 s) all b c handed r → LiveEnded (Live setting boxes m before) all a c handed q
+  behind : (s : State) (accepted : Bool) (front : List ℕ) (all : List (List ℕ)) (a b c : Stream) (handed : Bool) (r q : Result ℕ Halt) → q ≡ worse_of accepted r → After s front accepted a b → LiveEnded (Lives setting before 1 (opening s)) all b c handed r → LiveEnded (Live setting boxes m before) all a c handed q
   behind s accepted front all a b c handed (Ok later) q is (h, wrote) (rest, lives, more, on) = rw is (front ++ rest, live_of s accepted front h all later rest lives, grows_join a b c front rest wrote more, on)
   behind s accepted front all a b c handed (Err ReadFailed) q is before (on, inl stays) = rw is (on, inr (none_behind s accepted front all a b c before stays))
   behind s accepted front all a b c handed (Err ReadFailed) q is before (on, inr h) = rw is (on, inr (up_to_behind s accepted front all a b c before h))
@@ -185,10 +186,16 @@ module _ (setting : Setting) (boxes : List Shown) (m : Module) (before : ℕ) wh
   behind s accepted front all a b c handed (Err TooLong) q is before (on, h) = rw is (on, up_to_behind s accepted front all a b c before h)
   behind s accepted front all a b c handed (Err WriteFailed) q is (h, wrote) (lines, later, rest, first, lives, more) = rw is (lines, worse accepted later, front ++ rest, first, live_of s accepted front h lines later rest lives, front_join a b c front rest wrote more)
 
-  pub behind_if : (o : Option (List ℕ)) (s : State) (accepted : Bool) (front : List ℕ) (a b c : Stream) (handed : Bool) (r q : Result ℕ Halt) → q ≡ worse_of accepted r → Begun setting.options.ends boxes m s accepted front → Grows a b front →
-      IfSome o (λ script. LiveEnded (Lives setting before 1 s) (whole_lines script) b c handed r) → IfSome o (λ script. LiveEnded (Live setting boxes m before) (whole_lines script) a c handed q)
+  behind_if : (o : Option (List ℕ)) (s : State) (accepted : Bool) (front : List ℕ) (a b c : Stream) (handed : Bool) (r q : Result ℕ Halt) → q ≡ worse_of accepted r → Begun setting.options.ends boxes m s accepted front → Grows a b front →
+      IfSome o (λ script. LiveEnded (Lives setting before 1 (opening s)) (whole_lines script) b c handed r) → IfSome o (λ script. LiveEnded (Live setting boxes m before) (whole_lines script) a c handed q)
   behind_if None s accepted front a b c handed r q is h wrote more = tt
   behind_if (Some script) s accepted front a b c handed r q is h wrote more = behind s accepted front (whole_lines script) a b c handed r q is (h, wrote) more
+
+  -- the lines began with a book that is empty
+  pub behind_book : (o : Option (List ℕ)) (s : State) (book : Book) (accepted : Bool) (front : List ℕ) (a b c : Stream) (handed : Bool) (r q : Result ℕ Halt) → book ≡ [] → q ≡ worse_of accepted r → Begun setting.options.ends boxes m s accepted front → Grows a b front →
+      IfSome o (λ script. LiveEnded (Lives setting before 1 (record { state = s; book = book })) (whole_lines script) b c handed r) → IfSome o (λ script. LiveEnded (Live setting boxes m before) (whole_lines script) a c handed q)
+  behind_book o s book accepted front a b c handed r q none is h wrote more =
+      behind_if o s accepted front a b c handed r q is h wrote (subst (λ (k : Book). IfSome o (λ script. LiveEnded (Lives setting before 1 (record { state = s; book = k })) (whole_lines script) b c handed r)) none more)
 
   -- a write of the answer to the module failed
   pub begun_cut : (o : Option (List ℕ)) (s : State) (accepted : Bool) (front : List ℕ) (a b : Stream) (handed : Bool) → Begun setting.options.ends boxes m s accepted front → GrowsFront a b front → IfSome o (λ script. LiveEnded (Live setting boxes m before) (whole_lines script) a b handed (Err WriteFailed))
@@ -273,14 +280,14 @@ module _ (setting : Setting) (boxes : List Shown) where
 
   -- ---- statuses
 
-  low_lives : (lines : List (List ℕ)) (read n : ℕ) (s : State) (status : ℕ) (out : List ℕ) → Lives setting read n s lines status out → IsLow status
+  low_lives : (lines : List (List ℕ)) (read n : ℕ) (s : Sitting) (status : ℕ) (out : List ℕ) → Lives setting read n s lines status out → IsLow status
   low_lives [] read n s status out h = inl h.0
   low_lives (line ∷ lines) read n s status out h = low_line (λ m t st o. Lives setting (read + length line) m t lines st o) (way_at setting (read + length line)) n s (line_expects (line_of line)) (line_says (line_of line)) status out (λ m t st o k. low_lives lines (read + length line) m t st o k) h.1
 
   final_live : (input : List ℕ) (lines : List (List ℕ)) (status : ℕ) (out : List ℕ) → IsLiveOf setting boxes input lines status out → IsFinal status
   final_live input lines status out (inl h) = inr (inr h.1.0)
   final_live input lines status out (inr (inl (refusal, offset, why, h))) = inr (inr h.0)
-  final_live input lines status out (inr (inr (m, read, h))) = final_low status (rw h.status_is (low_worse h.accepted h.later (low_lives lines (length (module_text input) + divider_bytes) 1 h.begun h.later h.rest h.lives)))
+  final_live input lines status out (inr (inr (m, read, h))) = final_low status (rw h.status_is (low_worse h.accepted h.later (low_lives lines (length (module_text input) + divider_bytes) 1 (opening h.begun) h.later h.rest h.lives)))
 
   at_status : (input : List ℕ) (all : List (List ℕ)) (a b : Stream) (handed : Bool) (r : Result ℕ Halt) → LiveEnded (IsLiveOf setting boxes input) all a b handed r → LiveEndedAt (IsLiveOf setting boxes input) all a b handed (exit_of r)
   at_status input all a b handed (Ok st) (o, p, h, on) = inl (final_live input all st o p, (o, p, h, on))

@@ -1,8 +1,9 @@
 -- Ids that are 0, 1, .. are distinct, and below their number. What a tree stands for is numbered and formed as the tree.
 use Rattle.ir_event.specs.Modules.{Module}
-use Rattle.mlir_work_session.specs.Public.{IsOnly, Spells}
+use Rattle.mlir_work_session.specs.Public.{IsOnly}
+use Rattle.ir_text_modules.specs.Modules.{SpellsModule}
 use Rattle.mlir_work_run.specs.Whole.{IsWorldOf}
-use Rattle.std.specs.Prelude.{IsTrue}
+use Rattle.std.specs.Prelude.{Bool, IsTrue}
 use Rattle.std.proofs.Common.{ap, ◌≡◌, ◌≢◌, ◌<◌, ◌∙◌, sym, subst, ℕ, List, All, eqb, arith, refl}
 use Rattle.std.specs.Cmp.{unsigned_Decides}
 use Rattle.std.specs.List.{AllPairs, IsDistinct, range_with_len}
@@ -50,7 +51,7 @@ formed_meaning c t w = record {
 }
 
 -- a tree that was read gives the world of what its text spells
-pub world_is : (text : List ℕ) (c : Things) (t : Op) (m : Module) → IsOnly (Spells text) c t → m ≡ record { tree = meaning c t; next = op_count t } → IsWorldOf text m
-world_is text c t m h e =
+pub world_is : (opaque : Bool) (text : List ℕ) (c : Things) (t : Op) (m : Module) → IsOnly (SpellsModule opaque text) c t → m ≡ record { tree = meaning c t; next = op_count t } → IsWorldOf opaque text m
+world_is opaque text c t m h e =
     let at : ℕ → Module = λ n. record { tree = meaning c t; next = n } in
     (meaning c t, h.holds, e ∙ ap at (sym (count_meaning c t)))

@@ -3,15 +3,14 @@ use Rattle.std.proofs.Common.{◌≡◌, arith, sym, subst, inl, inr, ◌⊎◌,
 use Rattle.std.specs.Prelude.{IfSome}
 use Rattle.ir_event.specs.types.declared.refusal.Refusal.{Refusal}
 use Rattle.ir_event.specs.Modules.{Module}
-use Rattle.mlir_work_session.specs.Commands.{Spoken, Nothing, Bad, Obey, Ordered, line_says}
+use Rattle.mlir_work_session.specs.Commands.{Spoken, Nothing, Bad, Obey, Ordered, Booked, line_says}
 use Rattle.mlir_work_session.specs.Expecting.{line_expects}
 use Rattle.mlir_work_session.specs.Lines.{lines_of}
 use Rattle.mlir_work_session.specs.Parts.{script_text}
-use Rattle.mlir_work_session.specs.Machine.{State}
 use Rattle.mlir_work_session.specs.Panels.{Shown}
 use Rattle.mlir_work_session.specs.Reads.{Intake}
 use Rattle.mlir_work_session.specs.Writes.{Stream}
-use Rattle.mlir_work_session.specs.Output.{Line, Runs, IsSession, Way, worse, is_right}
+use Rattle.mlir_work_session.specs.Output.{Line, Runs, IsSession, Sitting, Way, opening, worse, is_right}
 use Rattle.mlir_work_run.specs.Ends.{EndedSo, HasFailed, HasStatus, IsFinal, Leaves, LeavesAt, status_of}
 use Rattle.mlir_work_run.specs.Whole.{IsOutput, Setting, way_at}
 use Rattle.mlir_work_run.specs.declared.run.Fault.{Fault}
@@ -25,19 +24,20 @@ pub low_worse : (accepted : Bool) (later : ℕ) → IsLow later → IsLow (worse
 low_worse true later h = h
 low_worse false later h = inr refl
 
-pub low_line : (Rest : ℕ → State → ℕ → List ℕ → Type 0) (way : Way) (n : ℕ) (s : State) (expected : Option Refusal) (spoken : Spoken) (status : ℕ) (out : List ℕ) → ((m : ℕ) (t : State) (st : ℕ) (o : List ℕ) → Rest m t st o → IsLow st) → Line Rest way n s expected spoken status out → IsLow status
+pub low_line : (Rest : ℕ → Sitting → ℕ → List ℕ → Type 0) (way : Way) (n : ℕ) (s : Sitting) (expected : Option Refusal) (spoken : Spoken) (status : ℕ) (out : List ℕ) → ((m : ℕ) (t : Sitting) (st : ℕ) (o : List ℕ) → Rest m t st o → IsLow st) → Line Rest way n s expected spoken status out → IsLow status
 low_line Rest way n s expected Nothing status out f h = f n s status out h
-low_line Rest way n s expected Bad status out f h = rw h.status_is (low_worse (is_right expected h.response) h.later (f (n + 1) h.after h.later h.rest h.goes_on))
-low_line Rest way n s expected (Obey said) status out f h = rw h.status_is (low_worse (is_right expected h.response) h.later (f (n + 1) h.after h.later h.rest h.goes_on))
-low_line Rest way n s expected (Ordered order) status out f h = rw h.status_is (low_worse (is_right expected h.response) h.later (f (n + 1) h.after h.later h.rest h.goes_on))
+low_line Rest way n s expected Bad status out f h = rw h.status_is (low_worse (is_right expected h.notice) h.later (f (n + 1) h.after h.later h.rest h.goes_on))
+low_line Rest way n s expected (Obey said) status out f h = rw h.status_is (low_worse (is_right expected h.notice) h.later (f (n + 1) h.after h.later h.rest h.goes_on))
+low_line Rest way n s expected (Ordered order) status out f h = rw h.status_is (low_worse (is_right expected h.notice) h.later (f (n + 1) h.after h.later h.rest h.goes_on))
+low_line Rest way n s expected (Booked order) status out f h = rw h.status_is (low_worse (is_right expected h.notice) h.later (f (n + 1) h.after h.later h.rest h.goes_on))
 
-low_runs : (way : Way) (lines : List (List ℕ)) (n : ℕ) (s : State) (status : ℕ) (out : List ℕ) → Runs way n s lines status out → IsLow status
+low_runs : (way : Way) (lines : List (List ℕ)) (n : ℕ) (s : Sitting) (status : ℕ) (out : List ℕ) → Runs way n s lines status out → IsLow status
 low_runs way [] n s status out h = inl h.0
 low_runs way (line ∷ lines) n s status out h = low_line (λ m t st o. Runs way m t lines st o) way n s (line_expects line) (line_says line) status out (λ m t st o k. low_runs way lines m t st o k) h
 
 low_session : (way : Way) (boxes : List Shown) (m : Module) (script : List ℕ) (status : ℕ) (out : List ℕ) → IsSession way boxes m script status out → IsLow status
 low_session way boxes m script status out (inl h) = inr h.1.0
-low_session way boxes m script status out (inr h) = rw h.1.status_is (low_worse h.1.accepted h.1.later (low_runs way (lines_of script) 1 (record { held = m; marks = []; panel = h.1.panel }) h.1.later h.1.rest h.1.runs))
+low_session way boxes m script status out (inr h) = rw h.1.status_is (low_worse h.1.accepted h.1.later (low_runs way (lines_of script) 1 (opening (record { held = m; marks = []; panel = h.1.panel })) h.1.later h.1.rest h.1.runs))
 
 pub final_low : (status : ℕ) → IsLow status → IsFinal status
 final_low status (inl e) = inl e

@@ -8,7 +8,7 @@ use Rattle.mlir_work_session.specs.Expecting.{line_expects}
 use Rattle.mlir_work_session.specs.Lines.{is_newline, line_of, onto_first}
 use Rattle.mlir_work_session.specs.Limits.{most_input_bytes, most_script_bytes}
 use Rattle.mlir_work_session.specs.Machine.{State}
-use Rattle.mlir_work_session.specs.Output.{Begun, Line, worse}
+use Rattle.mlir_work_session.specs.Output.{Begun, Line, Sitting, opening, worse}
 use Rattle.mlir_work_session.specs.Panels.{Shown}
 use Rattle.mlir_work_session.specs.Parts.{module_text}
 use Rattle.mlir_work_session.specs.Reads.{Intake}
@@ -30,7 +30,7 @@ divider_bytes = 9
 
 -- from s, with n the next number, these lines are answered so, one after the other, where so many bytes were read before
 -- them: each is within its limit, and is answered as one of an input that ends with it
-abbrev pub Lives : Setting → ℕ → ℕ → State → List (List ℕ) → ℕ → List ℕ → Type 0
+abbrev pub Lives : Setting → ℕ → ℕ → Sitting → List (List ℕ) → ℕ → List ℕ → Type 0
 Lives setting read n s [] status out = (status ≡ 0) × (out ≡ [])
 Lives setting read n s (line ∷ lines) status out =
     (length line ≤ most_script_bytes)
@@ -45,15 +45,15 @@ pub record Live (setting : Setting) (boxes : List Shown) (m : Module) (read : �
   pub later : ℕ
   pub rest : List ℕ
   pub begins : Begun setting.options.ends boxes m begun accepted front
-  pub lives : Lives setting read 1 begun lines later rest
+  pub lives : Lives setting read 1 (opening begun) lines later rest
   pub status_is : status ≡ worse accepted later
   pub out_is : out ≡ front ++ rest
 
 -- this status and these bytes answer the text of a module, and these lines behind it, as they come
 abbrev pub IsLive : Setting → List Shown → List ℕ → List (List ℕ) → ℕ → List ℕ → Type 0
 IsLive setting boxes text lines status out =
-    IsUnread text status out
-    ⊎ ((m : Module) × IsWorldOf text m × Live setting boxes m (length text + divider_bytes) lines status out)
+    IsUnread setting.options.opaque text status out
+    ⊎ ((m : Module) × IsWorldOf setting.options.opaque text m × Live setting boxes m (length text + divider_bytes) lines status out)
 
 -- of an input whose script begins with these lines; or it is too long, which is known before a line of it is answered
 abbrev pub IsLiveOf : Setting → List Shown → List ℕ → List (List ℕ) → ℕ → List ℕ → Type 0

@@ -1,12 +1,12 @@
 -- The output of an input: the text of a module, and a script.
-use Rattle.std.specs.Prelude.{◌≡◌, ℕ, ◌<◌, ◌≤◌, List, ◌⊎◌, Option, Some, None, length}
+use Rattle.std.specs.Prelude.{◌≡◌, ℕ, Bool, ◌<◌, ◌≤◌, List, ◌⊎◌, Option, Some, None, length}
 use Rattle.ir_event.specs.types.Refusals.{number_of}
 use Rattle.ir_event.specs.types.declared.refusal.Refusal.{Refusal}
 use Rattle.ir_event.specs.types.declared.refusal.Refusal.TheVariants.{TooMany, Memory}
 use Rattle.ir_event.specs.trees.Ids.{op_count}
 use Rattle.ir_event.specs.trees.Meaning.{Operation}
 use Rattle.ir_event.specs.Modules.{Module}
-use Rattle.mlir_work_session.specs.Public.{Spells}
+use Rattle.ir_text_modules.specs.Modules.{SpellsModule}
 use Rattle.mlir_work_session.specs.Parts.{module_text, script_text}
 use Rattle.mlir_work_session.specs.Replies.{module_refused_line}
 use Rattle.mlir_work_session.specs.Limits.{most_input_bytes}
@@ -20,19 +20,20 @@ abbrev pub IsRefusal : Refusal → Option ℕ → ℕ → List ℕ → Type 0
 IsRefusal refusal offset status out = (status ≡ 3) × (out ≡ module_refused_line refusal offset)
 
 -- why a text isn't read: there is no memory; or it spells no tree, and is refused for one of fourteen reasons, with an
--- offset. The context is new, and no text fills it
-abbrev pub WhyNot : List ℕ → Refusal → Option ℕ → Type 0
-WhyNot text refusal None = refusal ≡ Memory
-WhyNot text refusal (Some offset) = (number_of refusal ≤ 14) × ((y : Operation) → Spells text y → ⊥)
+-- offset. The context is new, and no text fills it. `opaque` says, here and below, whether types and attributes that
+-- aren't known are spelled by their texts, and the text may have aliases and locations
+abbrev pub WhyNot : Bool → List ℕ → Refusal → Option ℕ → Type 0
+WhyNot opaque text refusal None = refusal ≡ Memory
+WhyNot opaque text refusal (Some offset) = (number_of refusal ≤ 14) × ((y : Operation) → SpellsModule opaque text y → ⊥)
 
 -- the text is refused for that; which of the fourteen reasons it is, and its offset, are open
-abbrev pub IsUnread : List ℕ → ℕ → List ℕ → Type 0
-IsUnread text status out =
-    (refusal : Refusal) × (offset : Option ℕ) × WhyNot text refusal offset × IsRefusal refusal offset status out
+abbrev pub IsUnread : Bool → List ℕ → ℕ → List ℕ → Type 0
+IsUnread opaque text status out =
+    (refusal : Refusal) × (offset : Option ℕ) × WhyNot opaque text refusal offset × IsRefusal refusal offset status out
 
 -- the module of the tree that a text spells
-abbrev pub IsWorldOf : List ℕ → Module → Type 0
-IsWorldOf text m = (t : Operation) × Spells text t × (m ≡ record { tree = t; next = op_count t })
+abbrev pub IsWorldOf : Bool → List ℕ → Module → Type 0
+IsWorldOf opaque text m = (t : Operation) × SpellsModule opaque text t × (m ≡ record { tree = t; next = op_count t })
 
 -- there are too many bytes
 abbrev pub IsTooMany : List ℕ → ℕ → List ℕ → Type 0
@@ -40,7 +41,13 @@ IsTooMany input status out = (most_input_bytes < length input) × IsRefusal TooM
 
 -- how the script of an input of so many bytes is run
 abbrev pub manner_of : Options → ℕ → Manner
-manner_of options bytes = record { brief = options.brief; bytes = bytes; limit = options.limit; ends = options.ends }
+manner_of options bytes = record {
+  brief = options.brief;
+  bytes = bytes;
+  limit = options.limit;
+  ends = options.ends;
+  opaque = options.opaque;
+}
 
 -- what a run is told, and what is seen of the analyses that it can make anew
 pub record Setting : Type 0 where
@@ -56,7 +63,7 @@ way_at setting bytes = way_of setting.supply (manner_of setting.options bytes)
 -- the text spells a tree; boxes are attached to its module, and the script is run over it
 abbrev pub IsRead : Setting → List Shown → List ℕ → ℕ → List ℕ → Type 0
 IsRead setting boxes input status out =
-    (m : Module) × IsWorldOf (module_text input) m
+    (m : Module) × IsWorldOf setting.options.opaque (module_text input) m
     × IsSession (way_at setting (length input)) boxes m (script_text input) status out
 
 -- this status and these bytes are an output of the input, with these boxes; an input that is too long has but one
@@ -64,4 +71,4 @@ abbrev pub IsOutput : Setting → List Shown → List ℕ → ℕ → List ℕ �
 IsOutput setting boxes input status out =
     IsTooMany input status out
     ⊎ ((length input ≤ most_input_bytes)
-    × (IsUnread (module_text input) status out ⊎ IsRead setting boxes input status out))
+    × (IsUnread setting.options.opaque (module_text input) status out ⊎ IsRead setting boxes input status out))

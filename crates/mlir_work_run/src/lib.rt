@@ -6,7 +6,7 @@ pub mod live;
 pub mod run;
 
 pub use mlir_work_session::{
-    Bench, boxes, cells, clauses, command, expect, greedy, input, keys, kind, lines, manner,
-    numbers, order, outcome, reader, replies, reply, rule_name, script, sink, source, spots,
-    supplied, values, watched, words, writing,
+    Bench, book, book_order, boxes, cells, clauses, command, expect, greedy, input, keys, kind,
+    lines, manner, notice, numbers, order, outcome, reader, replies, reply, rule_name, script,
+    sink, source, spots, supplied, values, watched, words, writing,
 };

@@ -13,6 +13,7 @@ ghost use Rattle.mlir_work_session.specs.Limits.{most_input_bytes, most_script_b
 ghost use Rattle.mlir_work_session.specs.Panels.{Shown, all_shown};
 ghost use Rattle.mlir_work_session.specs.Parts.{module_text, script_text};
 ghost use Rattle.mlir_work_session.specs.Ran.{AttachedOut, RanOut};
+ghost use Rattle.mlir_work_session.specs.Sittings.{sitting_of};
 ghost use Rattle.mlir_work_run.specs.Live.{AreFirst, IsLive, IsLiveOf, IsWholeUpTo, Live, LiveEnded, LiveEndedAt, LiveRead, Lives, divider_bytes};
 ghost use Rattle.mlir_work_run.specs.Live.{exit_of, halt_of, halted_of, whole_lines};
 ghost use Rattle.mlir_work_run.specs.Whole.{IsOutput, IsWorldOf, Setting, WhyNot, setting_of};
@@ -25,6 +26,7 @@ use ir_event::world::World;
 use mlir_work_lines::feed::{Stop, take_line};
 use mlir_work_lines::parts::take_module;
 use mlir_work_session::Bench;
+use mlir_work_session::book::Book;
 use mlir_work_session::input::{MAX_INPUT_BYTES, MAX_SCRIPT_BYTES};
 use mlir_work_session::lines::split_line;
 use mlir_work_session::manner::Manner;
@@ -82,18 +84,21 @@ pub fn live_step<L: Supplied, W: Sink>(
     alloc: Global,
     manner: &Manner,
     bench: &mut Bench<L>,
+    book: &mut Book,
     n: u64,
     line: &[u8],
     writer: &mut W,
 ) -> Result<Option<bool>, WriteFault>
-    requires { IsKept L.meaning bench.old }
-    ensures answered { RanOut (IsAnswered (way_of L.supply manner.now) n (state_of L.meaning bench.old)
-        (line_expects (line_of line.now)) (line_says (line_of line.now)) (state_of L.meaning bench.new)) (W.stream writer.old) (W.stream writer.new) result }
+    requires kept { IsKept L.meaning bench.old }
+    requires mode { bench.old.desk.ctx.opaque ≡ manner.now.opaque }
+    ensures answered { RanOut (IsAnswered (way_of L.supply manner.now) n (sitting_of L.meaning bench.old book.old)
+        (line_expects (line_of line.now)) (line_says (line_of line.now)) (sitting_of L.meaning bench.new book.new)) (W.stream writer.old) (W.stream writer.new) result }
     ensures handed { IfOk result (λ _. W.handed writer.new ≡ true) }
     ensures kept { IsKept L.meaning bench.new }
+    ensures mode { bench.new.desk.ctx.opaque ≡ bench.old.desk.ctx.opaque }
 {
     let (line, _) = split_line(line);
-    let told = match answer_line(alloc, manner, bench, n, line, writer) {
+    let told = match answer_line(alloc, manner, bench, book, n, line, writer) {
         Ok(told) => told,
         Err(fault) => return Err(fault),
     };
@@ -116,6 +121,7 @@ fn begin_live<L: Analysis, W: Sink>(
         (state_of L.meaning bench.new) (W.stream writer.old) (W.stream writer.new) result }
     ensures handed { IfOk result (λ _. W.handed writer.new ≡ true) }
     ensures kept { IsKept L.meaning bench.new }
+    ensures mode { bench.new.desk.ctx.opaque ≡ bench.old.desk.ctx.opaque }
 {
     let accepted = match begin(ends, bench, boxes, writer) {
         Ok(accepted) => accepted,
@@ -141,15 +147,17 @@ fn answer_lines<L: Supplied, R: Source, W: Sink>(
     options: Options,
     before: usize,
     bench: &mut Bench<L>,
+    book: &mut Book,
     kept: &mut Vec<u8>,
     reader: &mut R,
     writer: &mut W,
 ) -> Result<u8, Halt>
     requires kept { IsKept L.meaning bench.old }
+    requires mode { bench.old.desk.ctx.opaque ≡ options.opaque }
     requires handed { W.handed writer.old ≡ true }
     requires behind { divider_bytes ≤ before }
     ensures ended { IfSome (waiting kept.old.items (R.intake reader.old).remaining) (λ script. LiveEnded
-        (Lives (setting_of L.supply options) before 1 (state_of L.meaning bench.old)) (whole_lines script)
+        (Lives (setting_of L.supply options) before 1 (sitting_of L.meaning bench.old book.old)) (whole_lines script)
         (W.stream writer.old) (W.stream writer.new) (W.handed writer.new) result) }
     ensures read { LiveRead (R.intake reader.old) (R.intake reader.new) result }
 {
@@ -167,7 +175,7 @@ fn answer_lines<L: Supplied, R: Source, W: Sink>(
         };
         read = more;
         let manner = manner_of(options, read);
-        let told = match live_step(alloc, &manner, bench, n, &line, writer) {
+        let told = match live_step(alloc, &manner, bench, book, n, &line, writer) {
             Ok(told) => told,
             Err(WriteFault) => return Err(Halt::Write),
         };
@@ -195,6 +203,7 @@ fn answer_bench<L: Supplied, R: Source, W: Sink>(
 ) -> Result<u8, Halt>
     requires none { bench.old.listeners ≡ [] }
     requires unmarked { open_marks bench.old.desk ≡ [] }
+    requires mode { bench.old.desk.ctx.opaque ≡ options.opaque }
     requires behind { divider_bytes ≤ before }
     ensures ended { IfSome (waiting kept.old.items (R.intake reader.old).remaining) (λ script. LiveEnded
         (Live (setting_of L.supply options) (all_shown L.meaning boxes.items) (module_held bench.old.desk) before)
@@ -206,7 +215,10 @@ fn answer_bench<L: Supplied, R: Source, W: Sink>(
         Ok(accepted) => accepted,
         Err(WriteFault) => return Err(Halt::Write),
     };
-    match answer_lines(alloc, options, before, bench, kept, reader, writer) {
+    let mut book = Book::new(alloc);
+    match answer_lines(
+        alloc, options, before, bench, &mut book, kept, reader, writer,
+    ) {
         Ok(status) => Ok(worse(accepted, status)),
         Err(halt) => Err(halt),
     }
@@ -225,6 +237,7 @@ fn answer_world<L: Supplied, R: Source, W: Sink>(
 ) -> Result<u8, Halt>
     requires slotted { IsSlotted world.store }
     requires tidy { IsTidy world.store }
+    requires mode { world.ctx.opaque ≡ options.opaque }
     requires behind { divider_bytes ≤ before }
     ensures ended { IfSome (waiting kept.old.items (R.intake reader.old).remaining) (λ script. LiveEnded
         (Live (setting_of L.supply options) (all_shown L.meaning boxes.items) (module_in world) before)
@@ -239,13 +252,14 @@ fn answer_world<L: Supplied, R: Source, W: Sink>(
 }
 
 /// The world of the module that a text spells, or why there is none.
-fn world_of(alloc: Global, key: u64, text: &[u8]) -> Result<World, Unread>
-    ensures world { IfOk result (λ w. IsWorldOf text.now (module_in w)) }
+fn world_of(alloc: Global, key: u64, opaque: bool, text: &[u8]) -> Result<World, Unread>
+    ensures world { IfOk result (λ w. IsWorldOf opaque text.now (module_in w)) }
+    ensures mode { IfOk result (λ w. w.ctx.opaque ≡ opaque) }
     ensures slotted { IfOk result (λ w. IsSlotted w.store) }
     ensures tidy { IfOk result (λ w. IsTidy w.store) }
-    ensures unread { IfErr result (λ e. WhyNot text.now e.refusal e.offset) }
+    ensures unread { IfErr result (λ e. WhyNot opaque text.now e.refusal e.offset) }
 {
-    let (ctx, tree) = match tree_of(alloc, key, text) {
+    let (ctx, tree) = match tree_of(alloc, key, opaque, text) {
         Ok(found) => found,
         Err(unread) => return Err(unread),
     };
@@ -256,17 +270,18 @@ fn world_of(alloc: Global, key: u64, text: &[u8]) -> Result<World, Unread>
 }
 
 /// The world of the module that a text spells, whose bytes are given back, and how many there are with the divider.
-fn taken(alloc: Global, key: u64, text: Vec<u8>) -> Result<(World, usize), Unread>
-    ensures world { IfOk result (λ x. IsWorldOf text.items (module_in x.0)) }
+fn taken(alloc: Global, key: u64, opaque: bool, text: Vec<u8>) -> Result<(World, usize), Unread>
+    ensures world { IfOk result (λ x. IsWorldOf opaque text.items (module_in x.0)) }
+    ensures mode { IfOk result (λ x. x.0.ctx.opaque ≡ opaque) }
     ensures slotted { IfOk result (λ x. IsSlotted x.0.store) }
     ensures tidy { IfOk result (λ x. IsTidy x.0.store) }
     ensures bytes { IfOk result (λ x. x.1 ≡ length text.items + divider_bytes) }
-    ensures unread { IfErr result (λ e. WhyNot text.items e.refusal e.offset) }
+    ensures unread { IfErr result (λ e. WhyNot opaque text.items e.refusal e.offset) }
 {
     let Some(before) = text.len().checked_add(DIVIDER_BYTES) else {
         return Err(no_memory());
     };
-    match world_of(alloc, key, &text) {
+    match world_of(alloc, key, opaque, &text) {
         Ok(world) => Ok((world, before)),
         Err(unread) => Err(unread),
     }
@@ -288,7 +303,7 @@ fn answer_text<L: Supplied, R: Source, W: Sink>(
         (W.stream writer.old) (W.stream writer.new) (W.handed writer.new) result) }
     ensures read { LiveRead (R.intake reader.old) (R.intake reader.new) result }
 {
-    match taken(alloc, key, text) {
+    match taken(alloc, key, options.opaque, text) {
         Ok((world, before)) => {
             answer_world(alloc, options, before, world, kept, reader, writer, boxes)
         }

@@ -5,7 +5,8 @@ ghost use Rattle.ir_event.specs.trees.Ids.{IsNumberedFrom, op_count};
 ghost use Rattle.ir_event.specs.trees.Meaning.{meaning, isolated_in, IsSoundIn};
 ghost use Rattle.ir_event.specs.trees.WellFormed.{IsFormed};
 ghost use Rattle.ir_event.specs.Modules.{module_in};
-ghost use Rattle.mlir_work_session.specs.Public.{IsOnly, Spells};
+ghost use Rattle.mlir_work_session.specs.Public.{IsOnly};
+ghost use Rattle.ir_text_modules.specs.Modules.{SpellsModule};
 ghost use Rattle.rewriter_laws.specs.Journals.{IsSlotted, IsTidy};
 ghost use Rattle.mlir_work_session.specs.Panels.{all_shown};
 ghost use Rattle.mlir_work_session.specs.Limits.{most_input_bytes, most_reads, most_script_bytes};
@@ -26,10 +27,10 @@ use ir_event::trees::tree::TreeOp;
 use ir_event::types::context::Context;
 use ir_event::types::refusal::Refusal;
 use ir_event::world::World;
+use ir_text_modules::module::read_module;
 use mlir_work_session::input::{MAX_INPUT_BYTES, ReadFault, read_all, script_is_too_long, split};
 use mlir_work_session::manner::Manner;
 use mlir_work_session::prints::{only_prints, print_session};
-use mlir_work_session::reader;
 use mlir_work_session::reader::ReadError;
 use mlir_work_session::replies::put_module_refused;
 use mlir_work_session::session::run_session;
@@ -52,6 +53,9 @@ pub struct Options {
     /// An empty line follows each answer, that to the module among them. The program answers each line as soon as it is
     /// there then (`live::run_live`).
     pub ends: bool,
+    /// Types and attributes that aren't known are read as opaque ones, which are their texts; and the module may have
+    /// aliases and locations.
+    pub opaque: bool,
 }
 
 /// Why a run has no status of its own.
@@ -73,13 +77,20 @@ pub struct Unread {
     pub offset: Option<usize>,
 }
 
-/// The tree that a text spells, and a context that holds what it names. No text within its limit fills it.
-pub fn tree_of(alloc: Global, key: u64, text: &[u8]) -> Result<(Context, TreeOp), Unread>
-    ensures read { IfOk result (λ x. IsOnly (Spells text.now) x.0 x.1) }
+/// The tree that a text spells, and a context that holds what it names. No text within its limit fills it. `opaque` says
+/// whether types and attributes that aren't known are read as opaque ones; then the text may have aliases and locations.
+pub fn tree_of(
+    alloc: Global,
+    key: u64,
+    opaque: bool,
+    text: &[u8],
+) -> Result<(Context, TreeOp), Unread>
+    ensures read { IfOk result (λ x. IsOnly (SpellsModule opaque text.now) x.0 x.1) }
     ensures sound { IfOk result (λ x. IsSoundIn x.0 x.1) }
-    ensures unread { IfErr result (λ e. WhyNot text.now e.refusal e.offset) }
+    ensures mode { IfOk result (λ x. x.0.opaque ≡ opaque) }
+    ensures unread { IfErr result (λ e. WhyNot opaque text.now e.refusal e.offset) }
 {
-    match reader::read_new(alloc, key, text) {
+    match read_module(alloc, key, opaque, text) {
         Ok(found) => Ok(found),
         Err(ReadError::Memory) => Err(Unread {
             refusal: Refusal::Memory,
@@ -110,6 +121,7 @@ pub fn hold(alloc: Global, ctx: Context, tree: TreeOp) -> Option<World>
     requires numbered { IsNumberedFrom 0 tree }
     requires formed { IsFormed (isolated_in ctx) tree }
     ensures module { IfSome result (λ w. module_in w ≡ record { tree = meaning ctx tree; next = op_count tree }) }
+    ensures ctx { IfSome result (λ w. w.ctx ≡ ctx) }
     ensures slotted { IfSome result (λ w. IsSlotted w.store) }
     ensures tidy { IfSome result (λ w. IsTidy w.store) }
 {
@@ -166,15 +178,17 @@ pub(crate) fn refuse<W: Sink>(writer: &mut W, unread: Unread) -> Result<u8, Writ
 fn taken_apart(
     alloc: Global,
     key: u64,
+    opaque: bool,
     input: Vec<u8>,
 ) -> Result<((Context, TreeOp), Vec<u8>), Unread>
-    ensures read { IfOk result (λ x. IsOnly (Spells (module_text input.items)) x.0.0 x.0.1) }
+    ensures read { IfOk result (λ x. IsOnly (SpellsModule opaque (module_text input.items)) x.0.0 x.0.1) }
     ensures sound { IfOk result (λ x. IsSoundIn x.0.0 x.0.1) }
+    ensures mode { IfOk result (λ x. x.0.0.opaque ≡ opaque) }
     ensures script { IfOk result (λ x. x.1.items ≡ script_text input.items) }
-    ensures unread { IfErr result (λ e. WhyNot (module_text input.items) e.refusal e.offset) }
+    ensures unread { IfErr result (λ e. WhyNot opaque (module_text input.items) e.refusal e.offset) }
 {
     let (module, script) = split(&input);
-    let found = match tree_of(alloc, key, module) {
+    let found = match tree_of(alloc, key, opaque, module) {
         Ok(found) => found,
         Err(unread) => return Err(unread),
     };
@@ -233,6 +247,7 @@ fn answer_script<W: Sink, L: Supplied>(
 ) -> Result<u8, WriteFault>
     requires slotted { IsSlotted world.store }
     requires tidy { IsTidy world.store }
+    requires mode { world.ctx.opaque ≡ manner.now.opaque }
     ensures { HandedOut (IsSession (way_of L.supply manner.now) (all_shown L.meaning boxes.items) (module_in world) script.now)
         (W.stream writer.old) (W.stream writer.new) (W.handed writer.new) result }
 {
@@ -251,6 +266,7 @@ pub(crate) fn manner_of(options: Options, bytes: usize) -> Manner
         bytes,
         limit: options.limit,
         ends: options.ends,
+        opaque: options.opaque,
     }
 }
 
@@ -268,7 +284,7 @@ fn answer_input<W: Sink, L: Supplied>(
         (W.stream writer.old) (W.stream writer.new) (W.handed writer.new) result }
 {
     let manner = manner_of(options, input.len());
-    let ((ctx, tree), script) = match taken_apart(alloc, key, input) {
+    let ((ctx, tree), script) = match taken_apart(alloc, key, options.opaque, input) {
         Ok(parts) => parts,
         Err(unread) => return refuse(writer, unread),
     };

@@ -8,6 +8,7 @@ use Rattle.ir_event.specs.trees.declared.value.Value.{Value}
 use Rattle.rewriter_machine.specs.Commands as said
 use Rattle.rewriter_machine.specs.Commands.{Command as Said, RuleName}
 use Rattle.rewriter_machine.specs.Spots.{Spot}
+use Rattle.mlir_work_script.specs.BookOrders.{BookOrder, book_order_in, book_order_of}
 use Rattle.mlir_work_script.specs.Clauses.{Clauses, clauses_of, mode_of, no_clauses, target_of, with_clauses}
 use Rattle.mlir_work_script.specs.declared.command.Command.{Command}
 use Rattle.mlir_work_script.specs.declared.command.Command.TheVariants as code
@@ -23,12 +24,13 @@ use Rattle.mlir_work_script.specs.Spots.{spot_of, spot_in}
 use Rattle.mlir_work_script.specs.Values.{op_of, value_of}
 use Rattle.mlir_work_script.specs.Words.{trim, word_of, after_word, words_of}
 
--- what a line says: nothing, no command, a command of the bench, or an order of the session
+-- what a line says: nothing, no command, a command of the bench, an order of the session, or one about its patterns
 pub data Spoken : Type 0 where
   Nothing : Spoken
   Bad : Spoken
   Obey : (said : Said) → Spoken
   Ordered : (order : Order) → Spoken
+  Booked : (order : BookOrder) → Spoken
 
 -- a command, wherever its text lies in memory
 abbrev pub said_of : Command → Said
@@ -56,6 +58,7 @@ spoken_of line.Nothing = Nothing
 spoken_of line.Bad = Bad
 spoken_of (line.Obey command) = Obey (said_of command)
 spoken_of (line.Ordered order) = Ordered (order_of order)
+spoken_of (line.Booked order) = Booked (book_order_of order)
 
 -- the command, if nothing is left
 abbrev pub alone : List ℕ → Option Said → Option Said
@@ -214,9 +217,13 @@ abbrev pub order_or : Option Order → Option Said → Spoken
 order_or None said = obey_from said
 order_or (Some order) said = Ordered order
 
+abbrev pub booked_or : Option BookOrder → Spoken → Spoken
+booked_or None said = said
+booked_or (Some order) said = Booked order
+
 -- what a text says that is no comment and not empty, or that stands behind a refusal
 abbrev pub text_says : List ℕ → Spoken
-text_says text = order_or (order_in text) (command_of text)
+text_says text = booked_or (book_order_in text) (order_or (order_in text) (command_of text))
 
 -- what a trimmed line of UTF-8 says: an empty one and a comment say nothing
 abbrev pub trimmed_says : List ℕ → Spoken

@@ -11,6 +11,7 @@ pub mod Spots
 pub mod Keys
 pub mod RuleNames
 pub mod Orders
+pub mod BookOrders
 pub mod Expecting
 pub mod Commands
 pub mod Writes

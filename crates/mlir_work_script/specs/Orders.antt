@@ -1,6 +1,6 @@
 -- What a line may say beside the commands of a bench: what only a session can do.
 use Rattle.std.specs.Prelude.{ℕ, List, ◌==◌, Option, Some, None, if◌then◌else◌, codes, length}
-use Rattle.std.specs.Option.{option_map}
+use Rattle.std.specs.Option.{option_copied, option_map}
 use Rattle.std.specs.Str.{bytes_eq}
 use Rattle.rewriter_machine.specs.Commands.{RuleName}
 use Rattle.mlir_work_script.specs.Kinds.{kind_of}
@@ -18,16 +18,19 @@ pub data Order : Type 0 where
   PrintIds : Order
   -- some rules are applied, in this order at each operation, until none applies any more; with a limit, or without one
   Rewrite : List RuleName → Option ℕ → Order
+  -- and each rewrite is told; where no rules are named, those of canonicalization are applied
+  Trace : Option (List RuleName) → Option ℕ → Order
 
 -- an order, wherever its text lies in memory
 abbrev pub order_of : Coded → Order
 order_of (code.Attach kind) = Attach kind
 order_of code.PrintIds = PrintIds
 order_of (code.Rewrite rules limit) = Rewrite (names_of rules.now) limit
+order_of (code.Trace rules limit) = Trace (option_map names_of (option_copied rules)) limit
 
--- the order, if nothing is left
-abbrev pub all_said : List ℕ → Option Order → Option Order
-all_said rest order = if length rest == 0 then order else None
+-- what was said, if nothing is left
+abbrev pub all_said : {A : Type 0} → List ℕ → Option A → Option A
+all_said rest said = if length rest == 0 then said else None
 
 -- attach KIND
 abbrev pub attach_in : List ℕ → Option Order
@@ -37,25 +40,37 @@ attach_in rest = all_said (after_word rest) (option_map Attach (kind_of (word_of
 abbrev pub ids_in : List ℕ → Option Order
 ids_in rest = if bytes_eq rest (codes "ids") then Some PrintIds else None
 
--- limit N, behind some rules
-abbrev pub limited_in : List RuleName → List ℕ → Option Order
-limited_in rules text =
+-- limit N
+abbrev pub limited_in : List ℕ → Option (Option ℕ)
+limited_in text =
     if bytes_eq (word_of text) (codes "limit")
-    then all_said (after_word (after_word text))
-    (option_map (λ n. Rewrite rules (Some n)) (number_of (word_of (after_word text))))
+    then all_said (after_word (after_word text)) (option_map (λ n. Some n) (number_of (word_of (after_word text))))
     else None
 
--- some rules, and then a limit or nothing
-abbrev pub ruled_in : List RuleName → List ℕ → Option Order
-ruled_in rules rest = if length rest == 0 then Some (Rewrite rules None) else limited_in rules rest
+-- [limit N]
+abbrev pub limit_in : List ℕ → Option (Option ℕ)
+limit_in text = if length text == 0 then Some None else limited_in text
 
--- rewrite RULES [limit N]
+-- [limit N], behind the word trace
+abbrev pub trace_in : Option (List RuleName) → List ℕ → Option Order
+trace_in rules rest = option_map (λ limit. Trace rules limit) (limit_in rest)
+
+-- [trace] [limit N], behind some rules
+abbrev pub ruled_in : List RuleName → List ℕ → Option Order
+ruled_in rules rest =
+    if bytes_eq (word_of rest) (codes "trace") then trace_in (Some rules) (after_word rest)
+    else option_map (λ limit. Rewrite rules limit) (limit_in rest)
+
+-- rewrite RULES [trace] [limit N]
 abbrev pub rewrite_in : List ℕ → Option Order
 rewrite_in rest = if are_tried (word_of rest) then ruled_in (names_of (word_of rest)) (after_word rest) else None
 
--- canon only RULES [limit N]
-abbrev pub only_in : List ℕ → Option Order
-only_in rest = if bytes_eq (word_of rest) (codes "only") then rewrite_in (after_word rest) else None
+-- canon only RULES [trace] [limit N], and canon trace [limit N]
+abbrev pub canon_order_in : List ℕ → Option Order
+canon_order_in rest =
+    if bytes_eq (word_of rest) (codes "only") then rewrite_in (after_word rest)
+    else if bytes_eq (word_of rest) (codes "trace") then trace_in None (after_word rest)
+    else None
 
 -- the order of this name, with the text behind the name
 abbrev pub order_named : List ℕ → List ℕ → Option Order
@@ -63,7 +78,7 @@ order_named name rest =
     if bytes_eq name (codes "attach") then attach_in rest
     else if bytes_eq name (codes "print") then ids_in rest
     else if bytes_eq name (codes "rewrite") then rewrite_in rest
-    else if bytes_eq name (codes "canon") then only_in rest
+    else if bytes_eq name (codes "canon") then canon_order_in rest
     else None
 
 -- the order that a trimmed line is

@@ -7,6 +7,7 @@ ghost use Rattle.mlir_work_script.specs.Commands.{drop_attr_in, erase_in, insert
 ghost use Rattle.mlir_work_script.specs.Commands.{apply_in, canon_in, convert_in, entry_command, mark_command, panel_command};
 ghost use Rattle.mlir_work_script.specs.Commands.{transforming_command, command_of, line_says, text_says};
 
+use crate::book_order::{BookOrder, book_order_in};
 use crate::clauses::{Clauses, clauses_in, mode_named};
 use crate::expect::{command_behind, expected_in};
 use crate::keys::{Key, split_key};
@@ -116,6 +117,8 @@ pub enum Line<'a> {
     Obey(Command<'a>),
     /// An order of the session.
     Ordered(Order<'a>),
+    /// One about its patterns.
+    Booked(BookOrder<'a>),
 }
 
 /// `report KIND`, behind its name.
@@ -444,6 +447,9 @@ fn command_in(text: &[u8]) -> Option<Command<'_>>
 fn read_text(text: &[u8]) -> Line<'_>
     ensures { spoken_of result ≡ text_says text.now }
 {
+    if let Some(order) = book_order_in(text) {
+        return Line::Booked(order);
+    }
     if let Some(order) = order_in(text) {
         return Line::Ordered(order);
     }

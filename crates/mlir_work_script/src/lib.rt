@@ -2,6 +2,7 @@
 //! says, and each line of the output is written as its definition says.
 #![tactic(auto)]
 
+pub mod book_order;
 pub mod cells;
 pub mod clauses;
 pub mod command;

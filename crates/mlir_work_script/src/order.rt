@@ -1,7 +1,7 @@
 //! What a line may say beside the commands of a bench.
-ghost use Rattle.std.specs.Prelude.{◌≡◌, option_map};
-ghost use Rattle.mlir_work_script.specs.Orders.{attach_in, ids_in, limited_in, only_in, order_in, order_named, order_of};
-ghost use Rattle.mlir_work_script.specs.Orders.{rewrite_in, ruled_in};
+ghost use Rattle.std.specs.Prelude.{◌≡◌, None, Some, option_map};
+ghost use Rattle.mlir_work_script.specs.Orders.{attach_in, canon_order_in, ids_in, limit_in, order_in, order_named};
+ghost use Rattle.mlir_work_script.specs.Orders.{order_of, Rewrite, rewrite_in, ruled_in, trace_in};
 ghost use Rattle.mlir_work_script.specs.RuleNames.{names_of};
 
 use crate::kind::{Kind, kind_named};
@@ -21,6 +21,13 @@ pub enum Order<'a> {
     Rewrite {
         /// The rules, in the order in which they are tried at an operation, between commas.
         rules: &'a [u8],
+        /// The most rewrites, where the line says so.
+        limit: Option<u32>,
+    },
+    /// `canon trace [limit N]` and `rewrite RULES trace [limit N]` do the same and tell each rewrite.
+    Trace {
+        /// The rules, where the line names some.
+        rules: Option<&'a [u8]>,
         /// The most rewrites, where the line says so.
         limit: Option<u32>,
     },
@@ -48,10 +55,13 @@ fn ids<'a>(rest: &[u8]) -> Option<Order<'a>>
     Some(Order::PrintIds)
 }
 
-/// `limit N`, behind rules.
-fn limited<'a>(rules: &'a [u8], text: &[u8]) -> Option<Order<'a>>
-    ensures { option_map order_of result ≡ limited_in (names_of rules.now) text.now }
+/// `[limit N]`: a limit, or none, and nothing behind it.
+fn limit(text: &[u8]) -> Option<Option<u32>>
+    ensures { result ≡ limit_in text.now }
 {
+    if text.is_empty() {
+        return Some(None);
+    }
     let (name, rest) = split_word(text);
     if name != b"limit".as_slice() {
         return None;
@@ -61,23 +71,48 @@ fn limited<'a>(rules: &'a [u8], text: &[u8]) -> Option<Order<'a>>
         return None;
     }
     let limit = number(limit)?;
-    Some(Order::Rewrite {
-        rules,
-        limit: Some(limit),
+    Some(Some(limit))
+}
+
+/// `[limit N]`, behind `trace`.
+fn trace<'a>(rest: &[u8]) -> Option<Order<'a>>
+    ensures { option_map order_of result ≡ trace_in None rest.now }
+{
+    let limit = limit(rest)?;
+    Some(Order::Trace { rules: None, limit })
+}
+
+/// `[limit N]`, behind rules and `trace`.
+fn traced<'a>(rules: &'a [u8], rest: &[u8]) -> Option<Order<'a>>
+    ensures { option_map order_of result ≡ trace_in (Some (names_of rules.now)) rest.now }
+{
+    let limit = limit(rest)?;
+    Some(Order::Trace {
+        rules: Some(rules),
+        limit,
     })
 }
 
-/// What stands behind rules.
+/// `[limit N]`, behind rules.
+fn untraced<'a>(rules: &'a [u8], rest: &[u8]) -> Option<Order<'a>>
+    ensures { option_map order_of result ≡ option_map (λ limit. Rewrite (names_of rules.now) limit) (limit_in rest.now) }
+{
+    let limit = limit(rest)?;
+    Some(Order::Rewrite { rules, limit })
+}
+
+/// `[trace] [limit N]`, behind rules.
 fn ruled<'a>(rules: &'a [u8], rest: &[u8]) -> Option<Order<'a>>
     ensures { option_map order_of result ≡ ruled_in (names_of rules.now) rest.now }
 {
-    if rest.is_empty() {
-        return Some(Order::Rewrite { rules, limit: None });
+    let (name, behind) = split_word(rest);
+    if name == b"trace".as_slice() {
+        return traced(rules, behind);
     }
-    limited(rules, rest)
+    untraced(rules, rest)
 }
 
-/// `rewrite RULES [limit N]`, behind its name.
+/// `rewrite RULES [trace] [limit N]`, behind its name.
 fn rewrite(rest: &[u8]) -> Option<Order<'_>>
     ensures { option_map order_of result ≡ rewrite_in rest.now }
 {
@@ -88,15 +123,18 @@ fn rewrite(rest: &[u8]) -> Option<Order<'_>>
     ruled(rules, rest)
 }
 
-/// `canon only RULES [limit N]`, behind its name.
-fn only(rest: &[u8]) -> Option<Order<'_>>
-    ensures { option_map order_of result ≡ only_in rest.now }
+/// `canon only RULES [trace] [limit N]` and `canon trace [limit N]`, behind their name.
+fn canon(rest: &[u8]) -> Option<Order<'_>>
+    ensures { option_map order_of result ≡ canon_order_in rest.now }
 {
     let (name, rest) = split_word(rest);
-    if name != b"only".as_slice() {
-        return None;
+    if name == b"only".as_slice() {
+        return rewrite(rest);
     }
-    rewrite(rest)
+    if name == b"trace".as_slice() {
+        return trace(rest);
+    }
+    None
 }
 
 /// The order of a name.
@@ -113,7 +151,7 @@ fn order_named<'a>(name: &[u8], rest: &'a [u8]) -> Option<Order<'a>>
         return rewrite(rest);
     }
     if name == b"canon".as_slice() {
-        return only(rest);
+        return canon(rest);
     }
     None
 }

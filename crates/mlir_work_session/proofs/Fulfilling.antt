@@ -1,25 +1,29 @@
 -- How orders are answered.
-use Rattle.std.proofs.Common.{◌≡◌, ◌∙◌, ap, sym, subst, refl, inl, inr, ℕ, List, [], Option, Some, None, false, true}
-use Rattle.std.specs.Prelude.{is_some, option_map}
+use Rattle.std.proofs.Common.{◌≡◌, ◌∙◌, ap, sym, subst, refl, inl, inr, ℕ, List, [], ◌++◌, Option, Some, None, false, true, Result, Ok, Err}
+use Rattle.std.specs.Prelude.{is_some, option_map, OnOk}
 use Rattle.ir_event.specs.types.declared.refusal.Refusal.{Refusal}
 use Rattle.ir_event.specs.types.declared.refusal.Refusal.TheVariants.{Memory, NoSuchKey, NoSuchKind}
+use Rattle.ir_event.specs.Modules.{Module}
 use Rattle.mlir_work_transforms.specs.rewriter.Commands.{AppliesRule, RuleName, Asked, Ask, Misplaced, Unread, Follows, Response, Replied, TextRefusedAt}
 use Rattle.mlir_work_transforms.specs.rewriter.Machine as call
 use Rattle.mlir_work_transforms.specs.rewriter.Machine.{State, Call, Reply, Done, Refused, Shows, Nothing, Transformation, Tree, Goes}
 use Rattle.mlir_work_transforms.specs.rewriter.Panels.{Shown}
-use Rattle.mlir_work_script.specs.Orders.{Attach, Order, PrintIds, Rewrite}
+use Rattle.mlir_work_script.specs.Orders.{Attach, Order, PrintIds, Rewrite, Trace}
 use Rattle.mlir_work_session_base.specs.IdsText.{ids_text}
-use Rattle.mlir_work_session.specs.Machine.{AttachesKind, Fulfils, OrdersIn, Way, limit_or, order_shows}
-use Rattle.mlir_work_session.specs.Output.{IsBounded}
-use Rattle.mlir_work_transforms.specs.greedy.Changes.{rewriting}
+use Rattle.mlir_work_session.specs.Machine.{AttachesKind, Fulfils, OrdersIn, Way, limit_or, order_bytes, told_if}
+use Rattle.mlir_work_book.specs.Replies.{IsBounded, is_accepted}
+use Rattle.mlir_work_transforms.specs.greedy.Changes.{canonical_reply, rewriting}
+use Rattle.mlir_work_transforms.specs.greedy.Tracing.{trace_of}
+use Rattle.mlir_work_transforms.specs.greedy.declared.outcome.Outcome.{Outcome as Ended}
 use Rattle.mlir_work_transforms.specs.Rewriting.{rewriting_named, rules_named}
+use Rattle.mlir_work_transforms.specs.TraceText.{trace_by, trace_text, traced_rules, tracing}
 use Rattle.mlir_work_transforms.specs.Rule.{Rule}
 use Rattle.mlir_work_session.proofs.Obeying.{some_goes}
 use Rattle.mlir_work_session.proofs.Panels.{all_stay}
 
 module _ (way : Way) where
   -- an order that comes to a call
-  pub fulfils_call : (s t : State) (o : Order) (c : Call) (reply : Reply) (shows : Shows) → OrdersIn way o (Ask c) → Goes s c reply shows t → Fulfils way s o (Replied reply) (order_shows shows) t
+  pub fulfils_call : (s t : State) (o : Order) (c : Call) (reply : Reply) (shows : Shows) → OrdersIn way o (Ask c) → Goes s c reply shows t → Fulfils way s o (Replied reply) (order_bytes way o s.held (Replied reply) shows) t
   fulfils_call s t o c reply shows asks goes = record { asked = Ask c; shows = shows; asks = asks; follows = goes; text = refl }
 
   -- ---- attaching
@@ -67,13 +71,37 @@ module _ (way : Way) where
       go (Some rs) e =
           rw is (fulfils_ruled names limit (rewriting rs (limit_or way.manner.limit limit)) s s (Refused Memory) (Replied (Refused Memory)) (ap (option_map (λ rs. rewriting rs (limit_or way.manner.limit limit))) e) refl (record { answer = inr (refl, inl refl); panel = all_stay s.panel }))
 
+  -- ---- telling
+
+  -- a list in which a name is no rule's
+  pub fulfils_untold : (names : Option (List RuleName)) (limit : Option ℕ) (s : State) → tracing names (limit_or way.manner.limit limit) ≡ None → Fulfils way s (Trace names limit) (Replied (Refused NoSuchKey)) [] s
+  fulfils_untold names limit s e =
+      record { asked = Misplaced NoSuchKey; shows = Nothing; asks = subst (λ (o : Option Transformation). AppliesRule o (Misplaced NoSuchKey)) (sym e) refl; follows = (refl, refl, refl); text = refl }
+
+  asks_told : (names : Option (List RuleName)) (limit : Option ℕ) (f : Transformation) → tracing names (limit_or way.manner.limit limit) ≡ Some f → OrdersIn way (Trace names limit) (Ask (call.Change f))
+  asks_told names limit f e = subst (λ (o : Option Transformation). AppliesRule o (Ask (call.Change f))) (sym e) refl
+
+  -- rewrites that are told, where they are made
+  pub fulfils_told : (names : Option (List RuleName)) (limit : Option ℕ) (f : Transformation) (s t : State) (reply : Reply) (response : Response) (bytes : List ℕ) → tracing names (limit_or way.manner.limit limit) ≡ Some f → response ≡ Replied reply → Goes s (call.Change f) reply Nothing t
+      → bytes ≡ told_if (is_accepted (Replied reply)) (trace_by (traced_rules names) (limit_or way.manner.limit limit) s.held) → Fulfils way s (Trace names limit) response bytes t
+  fulfils_told names limit f s t reply response bytes e is goes told = rw is (rw told (fulfils_call s t (Trace names limit) (call.Change f) reply Nothing (asks_told names limit f e) goes))
+
+  -- for which there is no memory
+  pub fulfils_forgot : (names : List RuleName) (limit : Option ℕ) (s : State) (refusal : Refusal) → refusal ≡ Memory → is_some (rules_named names) ≡ true → Fulfils way s (Trace (Some names) limit) (Replied (Refused refusal)) [] s
+  fulfils_forgot names limit s refusal is there = go (rules_named names) refl
+    where
+      go : (o : Option (List Rule)) → rules_named names ≡ o → Fulfils way s (Trace (Some names) limit) (Replied (Refused refusal)) [] s
+      go None e = absurd (let f : false ≡ true = sym (ap is_some e) ∙ there in cc)
+      go (Some rs) e =
+          rw is (fulfils_told (Some names) limit (rewriting rs (limit_or way.manner.limit limit)) s s (Refused Memory) (Replied (Refused Memory)) [] (ap (option_map (λ rs. rewriting rs (limit_or way.manner.limit limit))) e) refl (record { answer = inr (refl, inl refl); panel = all_stay s.panel }) refl)
+
   -- ---- each order has an answer, and none of them is refused at a byte
 
   abbrev pub SomeFulfilled : State → Order → Type 0
   SomeFulfilled s o = (response : Response) × (bytes : List ℕ) × (t : State) × Fulfils way s o response bytes t
 
   by_call : (s : State) (o : Order) (c : Call) → OrdersIn way o (Ask c) → SomeFulfilled s o
-  by_call s o c asks = let g = some_goes way.manner s c in (Replied g.0, order_shows g.1, g.2, fulfils_call s g.2 o c g.0 g.1 asks g.3)
+  by_call s o c asks = let g = some_goes way.manner s c in (Replied g.0, order_bytes way o s.held (Replied g.0) g.1, g.2, fulfils_call s g.2 o c g.0 g.1 asks g.3)
 
   by_kind : (s : State) (kind : ℕ) (a : Option Shown) → way.supply kind ≡ a → SomeFulfilled s (Attach kind)
   by_kind s kind None e = (Replied (Refused NoSuchKind), [], s, fulfils_unsupplied kind s e)
@@ -83,10 +111,27 @@ module _ (way : Way) where
   by_rules s names limit None e = (Replied (Refused NoSuchKey), [], s, fulfils_unruled names limit s e)
   by_rules s names limit (Some f) e = by_call s (Rewrite names limit) (call.Change f) (asks_ruled names limit f e)
 
+  by_trace : (s : State) (names : Option (List RuleName)) (limit : Option ℕ) (f : Option Transformation) → tracing names (limit_or way.manner.limit limit) ≡ f → SomeFulfilled s (Trace names limit)
+  by_trace s names limit None e = (Replied (Refused NoSuchKey), [], s, fulfils_untold names limit s e)
+  by_trace s names limit (Some f) e = by_call s (Trace names limit) (call.Change f) (asks_told names limit f e)
+
   pub some_fulfilled : (s : State) (o : Order) → SomeFulfilled s o
   some_fulfilled s (Attach kind) = by_kind s kind (way.supply kind) refl
   some_fulfilled s PrintIds = by_call s PrintIds call.Print refl
   some_fulfilled s (Rewrite names limit) = by_rules s names limit (rewriting_named names (limit_or way.manner.limit limit)) refl
+  some_fulfilled s (Trace names limit) = by_trace s names limit (tracing names (limit_or way.manner.limit limit)) refl
+
+-- what is told of rewrites by some rules, where no line was there before
+pub told_trace : (rs : List Rule) (n limit : ℕ) (m : Module) (called : Result Ended Refusal) (before after bytes : List ℕ) → n ≡ limit → before ≡ [] → OnOk called (after ≡ before ++ trace_text (trace_of rs n m))
+    → bytes ≡ told_if (is_accepted (Replied (canonical_reply called))) after → bytes ≡ told_if (is_accepted (Replied (canonical_reply called))) (trace_by (Some rs) limit m)
+told_trace rs n limit m (Ok o) before after bytes same none told is = is ∙ told ∙ ap (λ l. l ++ trace_text (trace_of rs n m)) none ∙ ap (λ k. trace_text (trace_of rs k m)) same
+told_trace rs n limit m (Err e) before after bytes same none told is = is
+
+-- of rules that are named
+pub told_named : (names : List RuleName) (rs : List Rule) (n limit : ℕ) (m : Module) (called : Result Ended Refusal) (before after bytes : List ℕ) → Some rs ≡ rules_named names → n ≡ limit → before ≡ [] → OnOk called (after ≡ before ++ trace_text (trace_of rs n m))
+    → bytes ≡ told_if (is_accepted (Replied (canonical_reply called))) after → bytes ≡ told_if (is_accepted (Replied (canonical_reply called))) (trace_by (traced_rules (Some names)) limit m)
+told_named names rs n limit m called before after bytes rules same none told is =
+    told_trace rs n limit m called before after bytes same none told is ∙ ap (λ o. told_if (is_accepted (Replied (canonical_reply called))) (trace_by o limit m)) rules
 
 -- an order is no text that isn't read
 never_unread : (way : Way) (o : Order) (refusal : Refusal) (offset : Option ℕ) → OrdersIn way o (Unread refusal offset) → ⊥
@@ -96,6 +141,11 @@ never_unread way (Attach kind) refusal offset asks = go (way.supply kind) asks
     go None e = absurd cc
     go (Some a) e = absurd cc
 never_unread way (Rewrite names limit) refusal offset asks = go (rewriting_named names (limit_or way.manner.limit limit)) asks
+  where
+    go : (o : Option Transformation) → AppliesRule o (Unread refusal offset) → ⊥
+    go None e = absurd cc
+    go (Some f) e = absurd cc
+never_unread way (Trace names limit) refusal offset asks = go (tracing names (limit_or way.manner.limit limit)) asks
   where
     go : (o : Option Transformation) → AppliesRule o (Unread refusal offset) → ⊥
     go None e = absurd cc

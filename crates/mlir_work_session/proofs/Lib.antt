@@ -3,6 +3,7 @@ pub mod Panels
 pub mod Reading
 pub mod Obeying
 pub mod Fulfilling
+pub mod Owning
 pub mod Room
 pub mod Listings
 pub mod Runs

@@ -44,15 +44,15 @@ module _ (manner : Manner) where
   pub obeys_misplaced : (x : ℕ) (spot : Spot) (s : State) (refusal : Refusal) → spot_place (Some x) spot s.held.tree ≡ Err refusal → Obeys manner s (command.Move x spot) (Replied (Refused refusal)) [] s
   obeys_misplaced x spot s refusal e = record { asked = Misplaced refusal; shows = Nothing; asks = e; follows = (refl, refl, refl); text = refl }
 
-  pub obeys_unread : (x : ℕ) (key text : List ℕ) (s t : State) (response : Response) → t ≡ s → NotRead manner.bytes IsAttrRefusal (SpellsAttr text) response → Obeys manner s (command.SetAttr x key text) response [] t
+  pub obeys_unread : (x : ℕ) (key text : List ℕ) (s t : State) (response : Response) → t ≡ s → NotRead manner.bytes IsAttrRefusal (SpellsAttr manner.opaque text) response → Obeys manner s (command.SetAttr x key text) response [] t
   obeys_unread x key text s t response same (refusal, offset, why, is) =
       record { asked = Unread refusal offset; shows = Nothing; asks = why; follows = (is, refl, same); text = refl }
 
-  pub obeys_unread_op : (spot : Spot) (text : List ℕ) (s t : State) (response : Response) → t ≡ s → NotRead manner.bytes IsOpRefusal (SpellsBeside s.held text) response → Obeys manner s (command.Insert spot text) response [] t
+  pub obeys_unread_op : (spot : Spot) (text : List ℕ) (s t : State) (response : Response) → t ≡ s → NotRead manner.bytes IsOpRefusal (SpellsBeside manner.opaque s.held text) response → Obeys manner s (command.Insert spot text) response [] t
   obeys_unread_op spot text s t response same (refusal, offset, why, is) =
       record { asked = Unread refusal offset; shows = Nothing; asks = why; follows = (is, refl, same); text = refl }
 
-  pub obeys_unplaced : (spot : Spot) (text : List ℕ) (s t : State) (o : Operation) (refusal : Refusal) → t ≡ s → SpellsBeside s.held text o → spot_place None spot s.held.tree ≡ Err refusal → Obeys manner s (command.Insert spot text) (Replied (Refused refusal)) [] t
+  pub obeys_unplaced : (spot : Spot) (text : List ℕ) (s t : State) (o : Operation) (refusal : Refusal) → t ≡ s → SpellsBeside manner.opaque s.held text o → spot_place None spot s.held.tree ≡ Err refusal → Obeys manner s (command.Insert spot text) (Replied (Refused refusal)) [] t
   obeys_unplaced spot text s t o refusal same spelled e =
       record { asked = Misplaced refusal; shows = Nothing; asks = (o, spelled, e); follows = (refl, refl, same); text = refl }
 
@@ -150,8 +150,8 @@ module _ (manner : Manner) where
       → AsksIn manner c s.held (Unread Memory None) × (shows ≡ Nothing) × (t ≡ s)
   memory_too s t c (Ask does) shows why offset asks follows = absurd follows
   memory_too s t c (Misplaced refusal) shows why offset asks follows = absurd (let e : TextRefusedAt why offset ≡ Replied (Refused refusal) = follows.0 in cc)
-  memory_too s t (command.Insert spot text) (Unread refusal at_byte) shows why offset asks follows = (no_memory_op (SpellsBeside s.held text), follows.1, follows.2)
-  memory_too s t (command.SetAttr x key text) (Unread refusal at_byte) shows why offset asks follows = (no_memory (SpellsAttr text), follows.1, follows.2)
+  memory_too s t (command.Insert spot text) (Unread refusal at_byte) shows why offset asks follows = (no_memory_op (SpellsBeside manner.opaque s.held text), follows.1, follows.2)
+  memory_too s t (command.SetAttr x key text) (Unread refusal at_byte) shows why offset asks follows = (no_memory (SpellsAttr manner.opaque text), follows.1, follows.2)
   memory_too s t (command.Move x spot) (Unread refusal at_byte) shows why offset asks follows = absurd asks
   memory_too s t (command.Erase x) (Unread refusal at_byte) shows why offset asks follows = absurd (let e : Unread refusal at_byte ≡ Ask (Do (edit.Erase x)) = asks in cc)
   memory_too s t (command.SetOperand x k v) (Unread refusal at_byte) shows why offset asks follows = absurd (let e : Unread refusal at_byte ≡ Ask (Do (edit.SetOperand x k v)) = asks in cc)
@@ -186,10 +186,10 @@ module _ (manner : Manner) where
   pub some_answer : (s : State) (c : Command) → SomeAnswer s c
   some_answer s (command.Erase x) = by_call s (command.Erase x) (Do (edit.Erase x)) refl
   some_answer s (command.Move x spot) = by_place s x spot (spot_place (Some x) spot s.held.tree) refl
-  some_answer s (command.Insert spot text) = (Replied (Refused Memory), [], s, record { asked = Unread Memory None; shows = Nothing; asks = no_memory_op (SpellsBeside s.held text); follows = (refl, refl, refl); text = refl }, λ why offset e. cc)
+  some_answer s (command.Insert spot text) = (Replied (Refused Memory), [], s, record { asked = Unread Memory None; shows = Nothing; asks = no_memory_op (SpellsBeside manner.opaque s.held text); follows = (refl, refl, refl); text = refl }, λ why offset e. cc)
   some_answer s (command.SetOperand x k v) = by_call s (command.SetOperand x k v) (Do (edit.SetOperand x k v)) refl
   some_answer s (command.Replace old new) = by_call s (command.Replace old new) (Do (edit.Replace old new)) refl
-  some_answer s (command.SetAttr x key text) = (Replied (Refused Memory), [], s, record { asked = Unread Memory None; shows = Nothing; asks = no_memory (SpellsAttr text); follows = (refl, refl, refl); text = refl }, λ why offset e. cc)
+  some_answer s (command.SetAttr x key text) = (Replied (Refused Memory), [], s, record { asked = Unread Memory None; shows = Nothing; asks = no_memory (SpellsAttr manner.opaque text); follows = (refl, refl, refl); text = refl }, λ why offset e. cc)
   some_answer s (command.DropAttr x key) = by_call s (command.DropAttr x key) (Do (edit.DropAttr x key)) refl
   some_answer s (command.Canon limit) = by_call s (command.Canon limit) (call.Change (canonicalizing (limit_or manner.limit limit))) refl
   some_answer s (command.Convert target) = by_call s (command.Convert target) (call.Change (conversion target)) refl

@@ -14,15 +14,18 @@ use Rattle.mlir_work_transforms.specs.rewriter.Commands.{Command, Ask, Replied, 
 use Rattle.mlir_work_transforms.specs.rewriter.Machine as call
 use Rattle.mlir_work_transforms.specs.rewriter.Machine.{State, Done, Refused, Tree, Nothing as NoRows}
 use Rattle.mlir_work_transforms.specs.rewriter.Panels.{Shown, all_shown, has_kind, is_kind}
-use Rattle.mlir_work_script.specs.Commands.{Spoken, Nothing, Bad, Obey, Ordered, line_says}
+use Rattle.mlir_work_script.specs.Commands.{Spoken, Nothing, Bad, Obey, Ordered, Booked, line_says}
 use Rattle.mlir_work_script.specs.Lines.{lines_of}
 use Rattle.mlir_work_script.specs.Writes.{Stream}
 use Rattle.mlir_work_script.specs.Limits.{most_script_bytes}
 use Rattle.mlir_work_session.specs.Machine.{Obeys, response_of}
-use Rattle.mlir_work_session.specs.Output.{Attaches, IsBounded, IsEnded, IsReplied, IsSession, Manner, Replies, Runs, Way, asks, end_of, is_accepted, reply_line, says_nothing, shows_alone, worse}
+use Rattle.mlir_work_book.specs.Notices.{IsWithin, Plain}
+use Rattle.mlir_work_book.specs.Replies.{is_accepted}
+use Rattle.mlir_work_book.specs.Told.{reply_line}
+use Rattle.mlir_work_session.specs.Output.{Attaches, IsEnded, IsReplied, IsSession, Manner, Replies, Runs, Sitting, Way, asks, end_of, opening, says_nothing, shows_alone, worse}
 use Rattle.mlir_work_session.specs.PrintsAlone.{IsPrinted, all_print, is_print, kinds_apart, line_prints, prints_alone}
 use Rattle.mlir_work_session.specs.Ran.{RanOut}
-use Rattle.mlir_work_session.specs.declared.reply.Reply.{Reply}
+use Rattle.mlir_work_book.specs.declared.reply.Reply.{Reply}
 use Rattle.mlir_work_session.proofs.Panels.{kind_shown}
 use Rattle.mlir_work_session.proofs.Runs.{run_step}
 use Rattle.mlir_work_session.proofs.Sessions.{ran_weaker}
@@ -153,22 +156,24 @@ answered manner s reply shows (inl p) = subst (λ (r : Reply). Obeys manner s sa
 answered manner s reply shows (inr p) = subst (λ (r : Reply). Obeys manner s said.Print (response_of r) shows s) (sym p.0) (subst (λ (o : List ℕ). Obeys manner s said.Print (Replied (Refused Memory)) o s) (sym p.1) (shown_none manner s))
 
 -- a line that asks for the module is answered with its text, or for want of memory
-printed : (way : Way) (s : State) (spoken : Spoken) (reply : Reply) (shows : List ℕ) → prints_alone spoken ≡ true → says_nothing spoken ≡ false → IsPrinted s.held.tree reply shows → Replies way s spoken (response_of reply) shows s
+printed : (way : Way) (s : Sitting) (spoken : Spoken) (reply : Reply) (shows : List ℕ) → prints_alone spoken ≡ true → says_nothing spoken ≡ false → IsPrinted s.state.held.tree reply shows → Replies way s spoken (Plain (response_of reply)) shows s
 printed way s Nothing reply shows e f p = absurd (true≢false f)
 printed way s (Ordered order) reply shows e f p = absurd (true≢false (sym e))
+printed way s (Booked order) reply shows e f p = absurd (true≢false (sym e))
 printed way s Bad reply shows e f p = absurd (true≢false (sym e))
-printed way s (Obey command) reply shows e f p = subst (λ (k : Command). Obeys way.manner s k (response_of reply) shows s) (sym (the_print command e)) (answered way.manner s reply shows p)
+printed way s (Obey command) reply shows e f p = subst (λ (k : Command). Replies way s (Obey k) (Plain (response_of reply)) shows s) (sym (the_print command e)) (response_of reply, refl, answered way.manner s.state reply shows p, refl)
 
 -- and has no listing
-bare : (brief : Bool) (s : State) (n : ℕ) (reply : Reply) (shows : List ℕ) → IsReplied (not brief && false) s n None (response_of reply) shows (reply_line n (response_of reply) ++ shows)
+bare : (brief : Bool) (s : State) (n : ℕ) (reply : Reply) (shows : List ℕ) → IsReplied (not brief && false) s n None (Plain (response_of reply)) shows (reply_line n (response_of reply) ++ shows)
 bare true s n reply shows = ([], refl, λ i. sym (append-nil (reply_line n (response_of reply))) i ++ sym (append-nil shows) i)
 bare false s n reply shows = ([], refl, λ i. sym (append-nil (reply_line n (response_of reply))) i ++ sym (append-nil shows) i)
 
-unlisted : (brief : Bool) (s : State) (n : ℕ) (spoken : Spoken) (reply : Reply) (shows : List ℕ) → prints_alone spoken ≡ true → says_nothing spoken ≡ false → IsReplied (not brief && not (asks spoken)) s n None (response_of reply) shows (reply_line n (response_of reply) ++ shows)
+unlisted : (brief : Bool) (s : State) (n : ℕ) (spoken : Spoken) (reply : Reply) (shows : List ℕ) → prints_alone spoken ≡ true → says_nothing spoken ≡ false → IsReplied (not brief && not (asks spoken)) s n None (Plain (response_of reply)) shows (reply_line n (response_of reply) ++ shows)
 unlisted brief s n Nothing reply shows e f = absurd (true≢false f)
 unlisted brief s n (Ordered order) reply shows e f = absurd (true≢false (sym e))
+unlisted brief s n (Booked order) reply shows e f = absurd (true≢false (sym e))
 unlisted brief s n Bad reply shows e f = absurd (true≢false (sym e))
-unlisted brief s n (Obey command) reply shows e f = subst (λ (k : Command). IsReplied (not brief && not (shows_alone k)) s n None (response_of reply) shows (reply_line n (response_of reply) ++ shows)) (sym (the_print command e)) (bare brief s n reply shows)
+unlisted brief s n (Obey command) reply shows e f = subst (λ (k : Command). IsReplied (not brief && not (shows_alone k)) s n None (Plain (response_of reply)) shows (reply_line n (response_of reply) ++ shows)) (sym (the_print command e)) (bare brief s n reply shows)
 
 -- and no end
 unended : (ends : Bool) (P : List ℕ → Type 0) (out : List ℕ) → ends ≡ false → P out → IsEnded ends P out
@@ -182,27 +187,27 @@ pub more_print : (text line more : List ℕ) → lines_of text ≡ line ∷ line
 more_print text line more e h = and_parts _ _ (sym (first_prints text line more e) ∙ h)
 
 -- a line that asks for the module is replied to, and then what may follow
-printed_bounded : (bytes : ℕ) (t : Operation) (reply : Reply) (shows : List ℕ) → IsPrinted t reply shows → IsBounded bytes (response_of reply)
-printed_bounded bytes t reply shows (inl h) = subst (λ (r : Reply). IsBounded bytes (response_of r)) (sym h.0) (λ why offset e. absurd (let f : Replied Done ≡ TextRefusedAt why offset = e in cc))
-printed_bounded bytes t reply shows (inr h) = subst (λ (r : Reply). IsBounded bytes (response_of r)) (sym h.0) (λ why offset e. absurd (let f : Replied (Refused Memory) ≡ TextRefusedAt why offset = e in cc))
+printed_bounded : (bytes : ℕ) (t : Operation) (reply : Reply) (shows : List ℕ) → IsPrinted t reply shows → IsWithin bytes (Plain (response_of reply))
+printed_bounded bytes t reply shows (inl h) = subst (λ (r : Reply). IsWithin bytes (Plain (response_of r))) (sym h.0) (λ why offset e. absurd (let f : Plain (Replied Done) ≡ Plain (TextRefusedAt why offset) = e in cc))
+printed_bounded bytes t reply shows (inr h) = subst (λ (r : Reply). IsWithin bytes (Plain (response_of r))) (sym h.0) (λ why offset e. absurd (let f : Plain (Replied (Refused Memory)) ≡ Plain (TextRefusedAt why offset) = e in cc))
 
 none_is : (o : Option Refusal) → is_none o ≡ true → None ≡ o
 none_is None e = refl
 none_is (Some x) e = absurd (true≢false (sym e))
 
-pub print_step : (way : Way) → way.manner.ends ≡ false → (n : ℕ) (s : State) (text line more : List ℕ) (reply : Reply) (shows : List ℕ) → lines_of text ≡ line ∷ lines_of more → line_prints line ≡ true → false ≡ says_nothing (line_says line) → IsPrinted s.held.tree reply shows →
+pub print_step : (way : Way) → way.manner.ends ≡ false → (n : ℕ) (s : Sitting) (text line more : List ℕ) (reply : Reply) (shows : List ℕ) → lines_of text ≡ line ∷ lines_of more → line_prints line ≡ true → false ≡ says_nothing (line_says line) → IsPrinted s.state.held.tree reply shows →
     (later : ℕ) (rest : List ℕ) → Runs way (n + 1) s (lines_of more) later rest → Runs way n s (lines_of text) (worse (is_accepted (response_of reply)) later) ((reply_line n (response_of reply) ++ shows) ++ rest)
 print_step way unend n s text line more reply shows e prints f p later rest h =
     let is = (and_parts _ _ prints).1 in
-    run_step way n s text line more None (line_says line) (response_of reply) shows s (reply_line n (response_of reply) ++ shows) e (none_is _ (and_parts _ _ prints).0) refl f (printed way s (line_says line) reply shows is (sym f) p) (unended way.manner.ends (IsReplied (not way.manner.brief && not (asks (line_says line))) s n None (response_of reply) shows) (reply_line n (response_of reply) ++ shows) unend (unlisted way.manner.brief s n (line_says line) reply shows is (sym f))) (printed_bounded way.manner.bytes s.held.tree reply shows p) later rest h
+    run_step way n s text line more None (line_says line) (Plain (response_of reply)) shows s (reply_line n (response_of reply) ++ shows) e (none_is _ (and_parts _ _ prints).0) refl f (printed way s (line_says line) reply shows is (sym f) p) (unended way.manner.ends (IsReplied (not way.manner.brief && not (asks (line_says line))) s.state n None (Plain (response_of reply)) shows) (reply_line n (response_of reply) ++ shows) unend (unlisted way.manner.brief s.state n (line_says line) reply shows is (sym f))) (printed_bounded way.manner.bytes s.state.held.tree reply shows p) later rest h
 
 -- ---- sessions
 
 -- what the lines may give is what a session may give whose boxes have different kinds
 print_ran : {E : Type 0} (way : Way) → way.manner.ends ≡ false → (boxes : List Shown) (m : Module) (script : List ℕ) (a b : Stream) (r : Result ℕ E) → length script ≤ most_script_bytes → are_apart boxes ≡ true →
-    RanOut (Runs way 1 (record { held = m; marks = []; panel = map begun boxes }) (lines_of script)) a b r → RanOut (IsSession way boxes m script) a b r
+    RanOut (Runs way 1 (opening (record { held = m; marks = []; panel = map begun boxes })) (lines_of script)) a b r → RanOut (IsSession way boxes m script) a b r
 print_ran way unend boxes m script a b r short apart ran =
-    ran_weaker (Runs way 1 (record { held = m; marks = []; panel = map begun boxes }) (lines_of script)) (IsSession way boxes m script) a b r
+    ran_weaker (Runs way 1 (opening (record { held = m; marks = []; panel = map begun boxes })) (lines_of script)) (IsSession way boxes m script) a b r
     (λ st o h. inr (
       short,
       record {
@@ -219,5 +224,5 @@ print_ran way unend boxes m script a b r short apart ran =
     )) ran
 
 pub prints_ran : {B E : Type 0} (meaning : B → Listener) (way : Way) → way.manner.ends ≡ false → (bs : List B) (m : Module) (script : List ℕ) (a b : Stream) (r : Result ℕ E) → length script ≤ most_script_bytes → kinds_apart meaning bs ≡ true →
-    ((panel : List Shown) → RanOut (Runs way 1 (record { held = m; marks = []; panel = panel }) (lines_of script)) a b r) → RanOut (IsSession way (all_shown meaning bs) m script) a b r
+    ((panel : List Shown) → RanOut (Runs way 1 (opening (record { held = m; marks = []; panel = panel })) (lines_of script)) a b r) → RanOut (IsSession way (all_shown meaning bs) m script) a b r
 prints_ran meaning way unend bs m script a b r short apart ran = print_ran way unend (all_shown meaning bs) m script a b r short (apart_shown meaning bs ∙ apart) (ran _)

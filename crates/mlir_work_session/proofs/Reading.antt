@@ -1,6 +1,6 @@
 -- Texts and keys that are read, beside the module of a bench whose context grows.
 use Rattle.std.proofs.Common.{◌≡◌, ◌∙◌, sym, ap, subst, refl, inl, inr, ◌⊎◌, ℕ, zero, suc, ◌≤◌, ◌<◌, List, [], ◌∷◌, ◌++◌, length, Option, Some, None, true, arith, slice_get}
-use Rattle.std.specs.Prelude.{Result, IsTrue, nat_le}
+use Rattle.std.specs.Prelude.{Result, IsTrue, nat_le, Bool}
 use Rattle.ir_event.specs.types.Interning.{with_name}
 use Rattle.ir_event.specs.types.Refusals.{number_of}
 use Rattle.ir_event.specs.types.Sound.{Holds, IsSound}
@@ -142,8 +142,8 @@ named_so bytes c d n e =
     subst (λ (p : ℕ × Things). IsName p.1 p.0 × (name_term p.1 p.0 ≡ bytes)) (sym e) (slice_get_within ((with_name bytes c).1).names (with_name bytes c).0 bytes (name_stands bytes c), new_name bytes c)
 
 -- an attribute stays when the context grows
-pub attr_kept : (c d : Things) (text : List ℕ) (a : ℕ) → Holds c → Grows c d → IsAttr c a × SpellsAttr text (attr_term c a) → IsAttr d a × SpellsAttr text (attr_term d a)
-attr_kept c d text a holds g (is, spelled) = (longer, subst (SpellsAttr text) (sym (attr_stays c d a holds g is)) spelled)
+pub attr_kept : (opaque : Bool) (c d : Things) (text : List ℕ) (a : ℕ) → Holds c → Grows c d → IsAttr c a × SpellsAttr opaque text (attr_term c a) → IsAttr d a × SpellsAttr opaque text (attr_term d a)
+attr_kept opaque c d text a holds g (is, spelled) = (longer, subst (SpellsAttr opaque text) (sym (attr_stays c d a holds g is)) spelled)
   where
     longer : IsAttr d a
     longer = let l = front_length c.attrs d.attrs g.attrs in omega arith

@@ -1,5 +1,5 @@
 -- Where what rewrites is refused with 31: where that is due, or the context is full.
-use Rattle.std.proofs.Common.{◌≡◌, ◌∙◌, sym, ap, refl, ◌⊎◌, inl, inr, subst, ℕ, List, [], Some, None, option_map, Result}
+use Rattle.std.proofs.Common.{◌≡◌, ◌∙◌, sym, ap, refl, ◌⊎◌, inl, inr, subst, ℕ, List, [], Some, None, Option, option_map, Result}
 use Rattle.std.specs.Prelude.{IfErr}
 use Rattle.ir_event.specs.types.declared.refusal.Refusal.{Refusal}
 use Rattle.ir_event.specs.types.declared.refusal.Refusal.TheVariants.{Full}
@@ -23,7 +23,7 @@ replied full s f response reply is so other e = subst (IsFullSo full s f) (same 
     same : Replied reply ≡ Replied other → reply ≡ other
     same i = cc
 
-widened : {A added full : Type 0} → (added → full) → A ⊎ added → A ⊎ full
+pub widened : {A added full : Type 0} → (added → full) → A ⊎ added → A ⊎ full
 widened more (inl a) = inl a
 widened more (inr b) = inr (more b)
 
@@ -62,6 +62,18 @@ rules_room s names rs n limit f response reply added full more rules same is rep
     alike : Some (rewriting rs n) ≡ Some f → rewriting rs n ≡ f
     alike i = cc
 
+-- what rewrites and tells it has the transformation of its rules
+pub traced_room : (s : State) (o : Option Transformation) (f g : Transformation) (response : Response) (reply : Reply) (added full : Type 0) → (added → full) → o ≡ Some g → o ≡ Some f → response ≡ Replied reply → IsFullSo added s g reply → FullSo full s f response
+traced_room s o f g response reply added full more there is replies so =
+    subst (λ (h : Transformation). FullSo full s h response) (alike (sym there ∙ is)) (replied full s g response reply replies (λ e. widened more (so e)))
+  where
+    alike : Some g ≡ Some f → g ≡ f
+    alike i = cc
+
+-- where no name is a rule's there is none
+pub untraced_room : {full : Type 0} (s : State) (o : Option Transformation) (f : Transformation) (response : Response) → o ≡ None → o ≡ Some f → FullSo full s f response
+untraced_room s o f response none is = absurd (let z : None ≡ Some f = sym none ∙ is in cc)
+
 -- what is said of a command in one form is said of it in another, and of the reply to it
 pub obeys_plainly : (manner : Manner) (s t : State) (said spoken : Command) (r q : Response) (bytes : List ℕ) → said ≡ spoken → r ≡ q → bytes ≡ [] → Obeys manner s spoken q [] t → Obeys manner s said r bytes t
 obeys_plainly manner s t said spoken r q bytes a b c h = rw a (rw b (rw c h))
@@ -72,6 +84,9 @@ room_plainly full manner s said spoken r q a b h = subst (λ (c : Command). Asks
 -- and of an order
 pub fulfils_plainly : (way : Way) (s t : State) (said spoken : Order) (r q : Response) (bytes : List ℕ) → said ≡ spoken → r ≡ q → bytes ≡ [] → Fulfils way s spoken q [] t → Fulfils way s said r bytes t
 fulfils_plainly way s t said spoken r q bytes a b c h = rw a (rw b (rw c h))
+
+pub fulfils_alike : (way : Way) (s t : State) (said spoken : Order) (r : Response) (bytes : List ℕ) → said ≡ spoken → Fulfils way s spoken r bytes t → Fulfils way s said r bytes t
+fulfils_alike way s t said spoken r bytes a h = rw a h
 
 pub orders_room_plainly : (full : Type 0) (way : Way) (s : State) (said spoken : Order) (r q : Response) → said ≡ spoken → r ≡ q → OrdersRoom full way s spoken q → OrdersRoom full way s said r
 orders_room_plainly full way s said spoken r q a b h = subst (λ (o : Order). OrdersRoom full way s o r) (sym a) (subst (OrdersRoom full way s spoken) (sym b) h)

@@ -1,51 +1,55 @@
 -- Runs of scripts, step by step.
-use Rattle.std.proofs.Common.{◌≡◌, ℕ, ◌+◌, ◌&&◌, List, [], ◌∷◌, ◌++◌, Bool, true, false, not, refl, sym, subst, ◌∙◌, length, ◌≤◌, ◌<◌, ◌==◌, arith, Option, Some, None, Result, Ok, Err}
+use Rattle.std.proofs.Common.{◌≡◌, ℕ, ◌+◌, ◌&&◌, List, [], ◌∷◌, ◌++◌, Bool, true, false, not, refl, sym, subst, ◌∙◌, length, ◌≤◌, ◌<◌, ◌==◌, arith, Option, Some, None, inl, Result, Ok, Err}
 use Rattle.std.proofs.lemmas.Bool.Decides.{nat_tests}
 use Rattle.ir_event.specs.types.declared.refusal.Refusal.{Refusal}
-use Rattle.ir_event.specs.types.declared.refusal.Refusal.TheVariants.{BadCommand}
-use Rattle.mlir_work_transforms.specs.rewriter.Commands.{Response, Replied as Says}
+use Rattle.ir_event.specs.types.declared.refusal.Refusal.TheVariants.{BadCommand, Memory}
+use Rattle.mlir_work_transforms.specs.rewriter.Commands.{Replied as Says}
 use Rattle.mlir_work_transforms.specs.rewriter.Machine.{Refused}
-use Rattle.mlir_work_script.specs.Commands.{Spoken, Nothing, Bad, Obey, Ordered, line_says}
+use Rattle.mlir_work_script.specs.Commands.{Spoken, Nothing, Bad, Obey, Ordered, Booked, line_says}
 use Rattle.mlir_work_script.specs.Expecting.{line_expects}
 use Rattle.mlir_work_script.specs.Lines.{lines_of}
 use Rattle.mlir_work_script.specs.Writes.{Stream}
-use Rattle.mlir_work_transforms.specs.rewriter.Machine.{State}
-use Rattle.mlir_work_session.specs.Output.{IsAnswered, IsBounded, IsEnded, IsToldOf, Line, Way, Replied, Replies, IsReplied, Runs, accepted_behind, end_of, number_behind, worse, says_nothing, asks, reply_text, is_right}
+use Rattle.mlir_work_book.specs.Notices.{IsWithin, Notice, Plain}
+use Rattle.mlir_work_session.specs.Output.{IsAnswered, IsEnded, IsToldOf, Line, Way, Replied, Replies, IsReplied, Runs, accepted_behind, end_of, number_behind, worse, says_nothing, asks, reply_text, is_right}
+use Rattle.mlir_work_session.specs.Sittings.{Sitting, own_of}
 use Rattle.mlir_work_session.specs.Ran.{RanOut}
 use Rattle.mlir_work_session.proofs.Listings.{some_listing_if}
 use Rattle.mlir_work_session.proofs.Fulfilling.{fulfils_bounded, some_fulfilled}
-use Rattle.mlir_work_session.proofs.Obeying.{some_answer}
+use Rattle.mlir_work_book.proofs.Bounds.{within_of}
+use Rattle.mlir_work_session.proofs.Owning.{some_beside}
 
 pub worse_both : (a b : Bool) (later : ℕ) → worse a (worse b later) ≡ worse (a && b) later
 worse_both true b later = refl
 worse_both false b later = refl
 
 -- a line that says nothing goes for nothing
-pub line_skipped : (Rest : ℕ → State → ℕ → List ℕ → Type 0) (way : Way) (n : ℕ) (s : State) (expected : Option Refusal) (spoken : Spoken) (status : ℕ) (out : List ℕ) → says_nothing spoken ≡ true → Rest n s status out → Line Rest way n s expected spoken status out
+pub line_skipped : (Rest : ℕ → Sitting → ℕ → List ℕ → Type 0) (way : Way) (n : ℕ) (s : Sitting) (expected : Option Refusal) (spoken : Spoken) (status : ℕ) (out : List ℕ) → says_nothing spoken ≡ true → Rest n s status out → Line Rest way n s expected spoken status out
 line_skipped Rest way n s expected Nothing status out e h = h
 line_skipped Rest way n s expected Bad status out e h = absurd (let f : false ≡ true = e in cc)
 line_skipped Rest way n s expected (Obey command) status out e h = absurd (let f : false ≡ true = e in cc)
 line_skipped Rest way n s expected (Ordered order) status out e h = absurd (let f : false ≡ true = e in cc)
+line_skipped Rest way n s expected (Booked order) status out e h = absurd (let f : false ≡ true = e in cc)
 
-pub run_skipped : (way : Way) (n : ℕ) (s : State) (text line more : List ℕ) (later : ℕ) (rest : List ℕ) → lines_of text ≡ line ∷ lines_of more → says_nothing (line_says line) ≡ true → Runs way n s (lines_of more) later rest → Runs way n s (lines_of text) later rest
+pub run_skipped : (way : Way) (n : ℕ) (s : Sitting) (text line more : List ℕ) (later : ℕ) (rest : List ℕ) → lines_of text ≡ line ∷ lines_of more → says_nothing (line_says line) ≡ true → Runs way n s (lines_of more) later rest → Runs way n s (lines_of text) later rest
 run_skipped way n s text line more later rest e nothing h = rw e (line_skipped (λ m t st o. Runs way m t (lines_of more) st o) way n s (line_expects line) (line_says line) later rest nothing h)
 
-pub line_replied : (Rest : ℕ → State → ℕ → List ℕ → Type 0) (way : Way) (n : ℕ) (s : State) (expected : Option Refusal) (spoken : Spoken) (status : ℕ) (out : List ℕ) → says_nothing spoken ≡ false → Replied Rest way n s expected spoken status out → Line Rest way n s expected spoken status out
+pub line_replied : (Rest : ℕ → Sitting → ℕ → List ℕ → Type 0) (way : Way) (n : ℕ) (s : Sitting) (expected : Option Refusal) (spoken : Spoken) (status : ℕ) (out : List ℕ) → says_nothing spoken ≡ false → Replied Rest way n s expected spoken status out → Line Rest way n s expected spoken status out
 line_replied Rest way n s expected Nothing status out e h = absurd (let f : true ≡ false = e in cc)
 line_replied Rest way n s expected Bad status out e h = h
 line_replied Rest way n s expected (Obey command) status out e h = h
 line_replied Rest way n s expected (Ordered order) status out e h = h
+line_replied Rest way n s expected (Booked order) status out e h = h
 
-pub runs_replied : (way : Way) (n : ℕ) (s : State) (text : List ℕ) (line : List ℕ) (more : List ℕ) (status : ℕ) (out : List ℕ) → lines_of text ≡ line ∷ lines_of more → says_nothing (line_says line) ≡ false → Replied (λ m t st o. Runs way m t (lines_of more) st o) way n s (line_expects line) (line_says line) status out → Runs way n s (lines_of text) status out
+pub runs_replied : (way : Way) (n : ℕ) (s : Sitting) (text : List ℕ) (line : List ℕ) (more : List ℕ) (status : ℕ) (out : List ℕ) → lines_of text ≡ line ∷ lines_of more → says_nothing (line_says line) ≡ false → Replied (λ m t st o. Runs way m t (lines_of more) st o) way n s (line_expects line) (line_says line) status out → Runs way n s (lines_of text) status out
 runs_replied way n s text line more status out e f h = rw e (line_replied (λ m t st o. Runs way m t (lines_of more) st o) way n s (line_expects line) (line_says line) status out f h)
 
 -- a reply, and then what may follow, is what may be from here
-pub run_step : (way : Way) (n : ℕ) (s : State) (text line more : List ℕ) (expected : Option Refusal) (spoken : Spoken) (reply : Response) (shows : List ℕ) (t : State) (told : List ℕ) →
-    lines_of text ≡ line ∷ lines_of more → expected ≡ line_expects line → spoken ≡ line_says line → false ≡ says_nothing spoken → Replies way s spoken reply shows t → IsEnded way.manner.ends (IsReplied (not way.manner.brief && not (asks spoken)) t n expected reply shows) told → IsBounded way.manner.bytes reply →
+pub run_step : (way : Way) (n : ℕ) (s : Sitting) (text line more : List ℕ) (expected : Option Refusal) (spoken : Spoken) (reply : Notice) (shows : List ℕ) (t : Sitting) (told : List ℕ) →
+    lines_of text ≡ line ∷ lines_of more → expected ≡ line_expects line → spoken ≡ line_says line → false ≡ says_nothing spoken → Replies way s spoken reply shows t → IsEnded way.manner.ends (IsReplied (not way.manner.brief && not (asks spoken)) t.state n expected reply shows) told → IsWithin way.manner.bytes reply →
     (later : ℕ) (rest : List ℕ) → Runs way (n + 1) t (lines_of more) later rest → Runs way n s (lines_of text) (worse (is_right expected reply) later) (told ++ rest)
 run_step way n s text line more expected spoken reply shows t told e same is f r told_is full later rest h =
     rw e (line_replied (λ m t st o. Runs way m t (lines_of more) st o) way n s (line_expects line) (line_says line) _ _ (rw (← is) (sym f)) (record {
-      response = reply;
+      notice = reply;
       shows = shows;
       after = t;
       text = told;
@@ -76,12 +80,12 @@ one_number n None = omega arith
 one_number n (Some accepted) = omega arith
 
 -- an answer, and then what may follow it, is what may be from here
-pub line_answered : (Rest : ℕ → State → ℕ → List ℕ → Type 0) (way : Way) (n : ℕ) (s : State) (expected : Option Refusal) (spoken : Spoken) (t : State) (told : Option Bool) (out : List ℕ) → IsAnswered way n s expected spoken t told out →
+pub line_answered : (Rest : ℕ → Sitting → ℕ → List ℕ → Type 0) (way : Way) (n : ℕ) (s : Sitting) (expected : Option Refusal) (spoken : Spoken) (t : Sitting) (told : Option Bool) (out : List ℕ) → IsAnswered way n s expected spoken t told out →
     (later : ℕ) (rest : List ℕ) → Rest (number_behind n told) t later rest → Line Rest way n s expected spoken (status_before told later) (out ++ rest)
-line_answered Rest way n s expected spoken t None out (nothing, same, none) later rest h = rw none (line_skipped Rest way n s expected spoken later rest nothing (subst (λ (x : State). Rest n x later rest) same h))
+line_answered Rest way n s expected spoken t None out (nothing, same, none) later rest h = rw none (line_skipped Rest way n s expected spoken later rest nothing (subst (λ (x : Sitting). Rest n x later rest) same h))
 line_answered Rest way n s expected spoken t (Some accepted) out told later rest h =
     line_replied Rest way n s expected spoken (worse accepted later) (out ++ rest) told.something (record {
-      response = told.response;
+      notice = told.notice;
       shows = told.shows;
       after = t;
       text = out;
@@ -95,17 +99,17 @@ line_answered Rest way n s expected spoken t (Some accepted) out told later rest
       out_is = refl;
     })
 
-pub run_answered : (way : Way) (n : ℕ) (s : State) (text line more : List ℕ) (t : State) (told : Option Bool) (out : List ℕ) → lines_of text ≡ line ∷ lines_of more → IsAnswered way n s (line_expects line) (line_says line) t told out →
+pub run_answered : (way : Way) (n : ℕ) (s : Sitting) (text line more : List ℕ) (t : Sitting) (told : Option Bool) (out : List ℕ) → lines_of text ≡ line ∷ lines_of more → IsAnswered way n s (line_expects line) (line_says line) t told out →
     (later : ℕ) (rest : List ℕ) → Runs way (number_behind n told) t (lines_of more) later rest → Runs way n s (lines_of text) (status_before told later) (out ++ rest)
 run_answered way n s text line more t told out e answered later rest h = rw e (line_answered (λ m x st o. Runs way m x (lines_of more) st o) way n s (line_expects line) (line_says line) t told out answered later rest h)
 
 -- a reply, what it shows, a listing and the end of the answer
-pub told_of : (way : Way) (n : ℕ) (s : State) (expected : Option Refusal) (spoken line_spoken : Spoken) (reply : Response) (shows : List ℕ) (t : State) (text : List ℕ) (accepted : Bool) →
-    spoken ≡ line_spoken → false ≡ says_nothing spoken → Replies way s spoken reply shows t → IsReplied (not way.manner.brief && not (asks spoken)) t n expected reply shows text → IsBounded way.manner.bytes reply → accepted ≡ is_right expected reply →
+pub told_of : (way : Way) (n : ℕ) (s : Sitting) (expected : Option Refusal) (spoken line_spoken : Spoken) (reply : Notice) (shows : List ℕ) (t : Sitting) (text : List ℕ) (accepted : Bool) →
+    spoken ≡ line_spoken → false ≡ says_nothing spoken → Replies way s spoken reply shows t → IsReplied (not way.manner.brief && not (asks spoken)) t.state n expected reply shows text → IsWithin way.manner.bytes reply → accepted ≡ is_right expected reply →
     IsToldOf way n s expected line_spoken t accepted (text ++ end_of way.manner.ends)
 told_of way n s expected spoken line_spoken reply shows t text accepted is f r told full well =
     rw (← is) (record {
-      response = reply;
+      notice = reply;
       shows = shows;
       something = sym f;
       replies = r;
@@ -116,15 +120,15 @@ told_of way n s expected spoken line_spoken reply shows t text accepted is f r t
 
 -- ---- there is an output
 
-some_replied : (Rest : ℕ → State → ℕ → List ℕ → Type 0) (way : Way) (n : ℕ) (s : State) (expected : Option Refusal) (spoken : Spoken) (reply : Response) (shows : List ℕ) (t : State) → Replies way s spoken reply shows t → IsBounded way.manner.bytes reply → ((m : ℕ) (t : State) → (st : ℕ) × (o : List ℕ) × Rest m t st o) → (st : ℕ) × (o : List ℕ) × Replied Rest way n s expected spoken st o
+some_replied : (Rest : ℕ → Sitting → ℕ → List ℕ → Type 0) (way : Way) (n : ℕ) (s : Sitting) (expected : Option Refusal) (spoken : Spoken) (reply : Notice) (shows : List ℕ) (t : Sitting) → Replies way s spoken reply shows t → IsWithin way.manner.bytes reply → ((m : ℕ) (t : Sitting) → (st : ℕ) × (o : List ℕ) × Rest m t st o) → (st : ℕ) × (o : List ℕ) × Replied Rest way n s expected spoken st o
 some_replied Rest way n s expected spoken reply shows t r full some =
-    let more = some_listing_if (not way.manner.brief && not (asks spoken)) t in
+    let more = some_listing_if (not way.manner.brief && not (asks spoken)) t.state in
     let rest = some (n + 1) t in
     let told = (reply_text n expected reply ++ (shows ++ more.0)) ++ end_of way.manner.ends in (
       worse (is_right expected reply) rest.0,
       told ++ rest.1,
       record {
-        response = reply;
+        notice = reply;
         shows = shows;
         after = t;
         text = told;
@@ -139,18 +143,23 @@ some_replied Rest way n s expected spoken reply shows t r full some =
       },
     )
 
-some_line : (Rest : ℕ → State → ℕ → List ℕ → Type 0) (way : Way) (n : ℕ) (s : State) (expected : Option Refusal) (spoken : Spoken) → ((m : ℕ) (t : State) → (st : ℕ) × (o : List ℕ) × Rest m t st o) → (st : ℕ) × (o : List ℕ) × Line Rest way n s expected spoken st o
+some_line : (Rest : ℕ → Sitting → ℕ → List ℕ → Type 0) (way : Way) (n : ℕ) (s : Sitting) (expected : Option Refusal) (spoken : Spoken) → ((m : ℕ) (t : Sitting) → (st : ℕ) × (o : List ℕ) × Rest m t st o) → (st : ℕ) × (o : List ℕ) × Line Rest way n s expected spoken st o
 some_line Rest way n s expected Nothing some = some n s
-some_line Rest way n s expected Bad some = some_replied Rest way n s expected Bad (Says (Refused BadCommand)) [] s (refl, refl, refl) (λ why offset e. absurd cc) some
-some_line Rest way n s expected (Obey command) some = let a = some_answer way.manner s command in some_replied Rest way n s expected (Obey command) a.0 a.1 a.2 a.3 (λ why offset e. absurd (a.4 why offset e)) some
-some_line Rest way n s expected (Ordered order) some = let a = some_fulfilled way s order in some_replied Rest way n s expected (Ordered order) a.0 a.1 a.2 a.3 (fulfils_bounded way.manner.bytes way s order a.0 a.1 a.2 a.3) some
+some_line Rest way n s expected Bad some = some_replied Rest way n s expected Bad (Plain (Says (Refused BadCommand))) [] s (refl, refl, refl) (λ why offset e. absurd cc) some
+some_line Rest way n s expected (Obey command) some =
+    let a = some_beside way.manner (own_of command s.book) s.state command in
+    some_replied Rest way n s expected (Obey command) (Plain a.0) a.1 (record { state = a.2; book = s.book }) (a.0, refl, a.3, refl) (within_of way.manner.bytes a.0 (λ why offset e. absurd (a.4 why offset e))) some
+some_line Rest way n s expected (Ordered order) some =
+    let a = some_fulfilled way s.state order in
+    some_replied Rest way n s expected (Ordered order) (Plain a.0) a.1 (record { state = a.2; book = s.book }) (a.0, refl, a.3, refl) (within_of way.manner.bytes a.0 (fulfils_bounded way.manner.bytes way s.state order a.0 a.1 a.2 a.3)) some
+some_line Rest way n s expected (Booked order) some = some_replied Rest way n s expected (Booked order) (Plain (Says (Refused Memory))) [] s (inl (refl, refl, refl), refl) (λ why offset e. absurd cc) some
 
 -- from each state each script has an output, as each command has an answer
-pub some_runs : (way : Way) (lines : List (List ℕ)) (n : ℕ) (s : State) → (st : ℕ) × (o : List ℕ) × Runs way n s lines st o
+pub some_runs : (way : Way) (lines : List (List ℕ)) (n : ℕ) (s : Sitting) → (st : ℕ) × (o : List ℕ) × Runs way n s lines st o
 some_runs way [] n s = (0, [], (refl, refl))
 some_runs way (line ∷ lines) n s = some_line (λ m t st o. Runs way m t lines st o) way n s (line_expects line) (line_says line) (λ m t. some_runs way lines m t)
 
-pub runs_end : (way : Way) (n : ℕ) (s : State) (text : List ℕ) → length text ≤ 0 → Runs way n s (lines_of text) 0 []
+pub runs_end : (way : Way) (n : ℕ) (s : Sitting) (text : List ℕ) → length text ≤ 0 → Runs way n s (lines_of text) 0 []
 runs_end way n s [] h = (refl, refl)
 runs_end way n s (b ∷ bs) h = absurd (omega arith)
 

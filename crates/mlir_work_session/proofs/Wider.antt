@@ -1,16 +1,19 @@
 -- What is an answer in an input is one in a longer input.
-use Rattle.std.proofs.Common.{◌+◌, ◌≤◌, inl, inr, ℕ, List, arith, Option}
+use Rattle.std.proofs.Common.{◌≡◌, ◌∙◌, refl, ◌+◌, ◌≤◌, inl, inr, ℕ, List, arith, Option, Some, None}
 use Rattle.ir_event.specs.types.declared.refusal.Refusal.{Refusal}
 use Rattle.ir_event.specs.Modules.{Module}
 use Rattle.ir_text.specs.Public.{SpellsAttr}
 use Rattle.mlir_work_transforms.specs.rewriter.Commands as command
 use Rattle.mlir_work_transforms.specs.rewriter.Commands.{Asked, Ask, CanFill, Command, IsAttrRefusal, IsOpRefusal, Misplaced, Response, TextRefused, Unread}
-use Rattle.mlir_work_transforms.specs.rewriter.Machine.{State}
+use Rattle.mlir_work_transforms.specs.rewriter.Machine.{Shows, State}
 use Rattle.mlir_work_transforms.specs.rewriter.Texts.{SpellsBeside}
-use Rattle.mlir_work_script.specs.Commands.{Spoken, Nothing, Bad, Obey, Ordered}
-use Rattle.mlir_work_script.specs.Orders.{Attach, Order, PrintIds, Rewrite}
-use Rattle.mlir_work_session.specs.Machine.{AsksIn, OrdersIn}
+use Rattle.mlir_work_script.specs.Commands.{Spoken, Nothing, Bad, Obey, Ordered, Booked}
+use Rattle.mlir_work_script.specs.Orders.{Attach, Order, PrintIds, Rewrite, Trace}
+use Rattle.mlir_work_book.specs.Notices.{Notice}
+use Rattle.mlir_work_book.specs.Shelf.{Kept}
+use Rattle.mlir_work_session.specs.Machine.{AsksIn, Fulfils, OrdersIn, order_bytes}
 use Rattle.mlir_work_session.specs.Output.{Line, Way, way_of, Replied, Replies}
+use Rattle.mlir_work_session.specs.Sittings.{ObeysBeside, Sitting, own_of}
 
 module _ (way : Way) (bytes : ℕ) (longer : way.manner.bytes ≤ bytes) where
   abbrev pub wider : Way
@@ -29,12 +32,12 @@ module _ (way : Way) (bytes : ℕ) (longer : way.manner.bytes ≤ bytes) where
   asks_wider (command.Move x spot) m asked h = h
   asks_wider (command.Insert spot text) m (Ask call) h = h
   asks_wider (command.Insert spot text) m (Misplaced refusal) h = h
-  asks_wider (command.Insert spot text) m (Unread refusal offset) h = text_wider IsOpRefusal (SpellsBeside m text) refusal offset h
+  asks_wider (command.Insert spot text) m (Unread refusal offset) h = text_wider IsOpRefusal (SpellsBeside way.manner.opaque m text) refusal offset h
   asks_wider (command.SetOperand x k v) m asked h = h
   asks_wider (command.Replace old new) m asked h = h
   asks_wider (command.SetAttr x key text) m (Ask call) h = h
   asks_wider (command.SetAttr x key text) m (Misplaced refusal) h = h
-  asks_wider (command.SetAttr x key text) m (Unread refusal offset) h = text_wider IsAttrRefusal (SpellsAttr text) refusal offset h
+  asks_wider (command.SetAttr x key text) m (Unread refusal offset) h = text_wider IsAttrRefusal (SpellsAttr way.manner.opaque text) refusal offset h
   asks_wider (command.DropAttr x key) m asked h = h
   asks_wider (command.Canon limit) m asked h = h
   asks_wider (command.Convert target) m asked h = h
@@ -52,23 +55,38 @@ module _ (way : Way) (bytes : ℕ) (longer : way.manner.bytes ≤ bytes) where
   orders_wider (Attach kind) asked h = h
   orders_wider PrintIds asked h = h
   orders_wider (Rewrite names limit) asked h = h
+  orders_wider (Trace names limit) asked h = h
 
-  replies_wider : (s : State) (spoken : Spoken) (response : Response) (shows : List ℕ) (t : State) → Replies way s spoken response shows t → Replies wider s spoken response shows t
-  replies_wider s Nothing response shows t h = absurd h
-  replies_wider s Bad response shows t h = h
-  replies_wider s (Ordered order) response shows t h = record { asked = h.asked; shows = h.shows; asks = orders_wider order h.asked h.asks; follows = h.follows; text = h.text }
-  replies_wider s (Obey said) response shows t h = record { asked = h.asked; shows = h.shows; asks = asks_wider said s.held h.asked h.asks; follows = h.follows; text = h.text }
+  bytes_wider : (order : Order) (m : Module) (response : Response) (shows : Shows) → order_bytes way order m response shows ≡ order_bytes wider order m response shows
+  bytes_wider (Attach kind) m response shows = refl
+  bytes_wider PrintIds m response shows = refl
+  bytes_wider (Rewrite names limit) m response shows = refl
+  bytes_wider (Trace names limit) m response shows = refl
 
-  module _ (Rest More : ℕ → State → ℕ → List ℕ → Type 0) (goes_on : (m : ℕ) (t : State) (st : ℕ) (o : List ℕ) → Rest m t st o → More m t st o) where
-    replied_wider : (n : ℕ) (s : State) (expected : Option Refusal) (spoken : Spoken) (status : ℕ) (out : List ℕ) → Replied Rest way n s expected spoken status out → Replied More wider n s expected spoken status out
+  beside_wider : (own : Option (Kept × ℕ)) (s : State) (said : Command) (response : Response) (shows : List ℕ) (t : State) → ObeysBeside way.manner own s said response shows t → ObeysBeside wider.manner own s said response shows t
+  beside_wider None s said response shows t h = record { asked = h.asked; shows = h.shows; asks = asks_wider said s.held h.asked h.asks; follows = h.follows; text = h.text }
+  beside_wider (Some p) s said response shows t h = h
+
+  fulfils_wider : (s : State) (order : Order) (response : Response) (shows : List ℕ) (t : State) → Fulfils way s order response shows t → Fulfils wider s order response shows t
+  fulfils_wider s order response shows t h = record { asked = h.asked; shows = h.shows; asks = orders_wider order h.asked h.asks; follows = h.follows; text = h.text ∙ bytes_wider order s.held response h.shows }
+
+  replies_wider : (s : Sitting) (spoken : Spoken) (notice : Notice) (shows : List ℕ) (t : Sitting) → Replies way s spoken notice shows t → Replies wider s spoken notice shows t
+  replies_wider s Nothing notice shows t h = absurd h
+  replies_wider s Bad notice shows t h = h
+  replies_wider s (Ordered order) notice shows t (response, is, h, stays) = (response, is, fulfils_wider s.state order response shows t.state h, stays)
+  replies_wider s (Obey said) notice shows t (response, is, h, stays) = (response, is, beside_wider (own_of said s.book) s.state said response shows t.state h, stays)
+  replies_wider s (Booked order) notice shows t h = h
+
+  module _ (Rest More : ℕ → Sitting → ℕ → List ℕ → Type 0) (goes_on : (m : ℕ) (t : Sitting) (st : ℕ) (o : List ℕ) → Rest m t st o → More m t st o) where
+    replied_wider : (n : ℕ) (s : Sitting) (expected : Option Refusal) (spoken : Spoken) (status : ℕ) (out : List ℕ) → Replied Rest way n s expected spoken status out → Replied More wider n s expected spoken status out
     replied_wider n s expected spoken status out h = record {
-      response = h.response;
+      notice = h.notice;
       shows = h.shows;
       after = h.after;
       text = h.text;
       later = h.later;
       rest = h.rest;
-      replies = replies_wider s spoken h.response h.shows h.after h.replies;
+      replies = replies_wider s spoken h.notice h.shows h.after h.replies;
       replied = h.replied;
       full = λ refusal offset is. (let least = h.full refusal offset is in omega (arith, least, longer));
       goes_on = goes_on (n + 1) h.after h.later h.rest h.goes_on;
@@ -76,8 +94,9 @@ module _ (way : Way) (bytes : ℕ) (longer : way.manner.bytes ≤ bytes) where
       out_is = h.out_is;
     }
 
-    pub line_wider : (n : ℕ) (s : State) (expected : Option Refusal) (spoken : Spoken) (status : ℕ) (out : List ℕ) → Line Rest way n s expected spoken status out → Line More wider n s expected spoken status out
+    pub line_wider : (n : ℕ) (s : Sitting) (expected : Option Refusal) (spoken : Spoken) (status : ℕ) (out : List ℕ) → Line Rest way n s expected spoken status out → Line More wider n s expected spoken status out
     line_wider n s expected Nothing status out h = goes_on n s status out h
     line_wider n s expected Bad status out h = replied_wider n s expected Bad status out h
     line_wider n s expected (Obey said) status out h = replied_wider n s expected (Obey said) status out h
     line_wider n s expected (Ordered order) status out h = replied_wider n s expected (Ordered order) status out h
+    line_wider n s expected (Booked order) status out h = replied_wider n s expected (Booked order) status out h

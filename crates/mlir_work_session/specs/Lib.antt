@@ -1,8 +1,14 @@
 pub mod Texts
 pub mod Machine
+pub mod Sittings
 pub mod Output
 pub mod Ran
 pub mod PrintsAlone
+pub use Rattle.mlir_work_book.specs.Book
+pub use Rattle.mlir_work_book.specs.Notices
+pub use Rattle.mlir_work_book.specs.Said
+pub use Rattle.mlir_work_book.specs.Shelf
+pub use Rattle.mlir_work_script.specs.BookOrders
 pub use Rattle.mlir_work_script.specs.Commands
 pub use Rattle.mlir_work_script.specs.Expecting
 pub use Rattle.mlir_work_script.specs.Orders

@@ -1,43 +1,35 @@
 -- What a command or an order makes of a bench: as the machine has it, and the bytes that are shown.
-use Rattle.std.specs.Prelude.{◌≡◌, ℕ, List, [], Option, Some, None, ⊤}
+use Rattle.std.specs.Prelude.{◌≡◌, ℕ, List, [], Bool, true, false, Option, Some, None, ⊤}
 use Rattle.ir_event.specs.types.declared.refusal.Refusal.TheVariants.{NoSuchKind}
 use Rattle.ir_event.specs.Modules.{Module}
 use Rattle.ir_text.specs.Printing.{text_of}
 use Rattle.ir_text.specs.Public.{SpellsAttr}
 use Rattle.mlir_work_transforms.specs.rewriter.Texts.{SpellsBeside}
 use Rattle.mlir_work_transforms.specs.rewriter.Commands.{AppliesRule, Apply, Canon, Command, Convert, Asked}
-use Rattle.mlir_work_transforms.specs.rewriter.Commands.{Ask, Asks, Misplaced, Response, Replied, TextRefusedAt, Follows}
-use Rattle.mlir_work_transforms.specs.rewriter.Machine.{Done, DoneAs, DoneWith, IsFullSo, Refused, RefusedOn}
+use Rattle.mlir_work_transforms.specs.rewriter.Commands.{Ask, Asks, Misplaced, Response, Replied, Follows}
+use Rattle.mlir_work_transforms.specs.rewriter.Machine.{IsFullSo}
 use Rattle.mlir_work_transforms.specs.rewriter.Machine.{Reply as Answered, Shows, Nothing, Rows, Transformation, Tree}
 use Rattle.mlir_work_transforms.specs.rewriter.Machine as call
 use Rattle.mlir_work_transforms.specs.rewriter.Panels.{Shown}
 pub use Rattle.mlir_work_transforms.specs.rewriter.Machine.{State}
-use Rattle.mlir_work_script.specs.Orders.{Attach, Order, PrintIds, Rewrite}
-use Rattle.mlir_work_script.specs.Outcomes.{outcome_of}
+pub use Rattle.mlir_work_book.specs.Replies.{response_of}
+use Rattle.mlir_work_book.specs.Replies.{is_accepted}
+use Rattle.mlir_work_script.specs.Orders.{Attach, Order, PrintIds, Rewrite, Trace}
 use Rattle.mlir_work_transforms.specs.greedy.Changes.{canonicalizing}
 use Rattle.mlir_work_transforms.specs.Converting.{conversion}
 use Rattle.mlir_work_transforms.specs.Applying.{application}
 use Rattle.mlir_work_transforms.specs.Rewriting.{rewriting_named}
 use Rattle.mlir_work_transforms.specs.Sweep.{sweeping}
+use Rattle.mlir_work_transforms.specs.TraceText.{trace_by, traced_rules, tracing}
 use Rattle.mlir_work_session_base.specs.IdsText.{ids_text}
 use Rattle.mlir_work_session_base.specs.RowText.{rows_text}
 use Rattle.mlir_work_session.specs.declared.manner.Manner.{Manner}
-use Rattle.mlir_work_session.specs.declared.reply.Reply.{Reply}
-use Rattle.mlir_work_session.specs.declared.reply.Reply.TheVariants as code
 
 -- the bytes that are shown below a reply
 abbrev pub shows_text : Shows → List ℕ
 shows_text Nothing = []
 shows_text (Rows rows) = rows_text rows
 shows_text (Tree t) = text_of t
-
-abbrev pub response_of : Reply → Response
-response_of code.Done = Replied Done
-response_of (code.DoneAs x) = Replied (DoneAs x)
-response_of (code.DoneWith outcome) = Replied (DoneWith (outcome_of outcome))
-response_of (code.Refused refusal) = Replied (Refused refusal)
-response_of (code.RefusedOn refusal x) = Replied (RefusedOn refusal x)
-response_of (code.RefusedAt refusal offset) = TextRefusedAt refusal offset
 
 -- the limit of a command that may say one
 abbrev pub limit_or : ℕ → Option ℕ → ℕ
@@ -46,7 +38,8 @@ limit_or default (Some limit) = limit
 
 -- what a command comes to in a module, in a script that is run so
 abbrev pub AsksIn : Manner → Command → Module → Asked → Type 0
-AsksIn manner = Asks manner.bytes SpellsBeside SpellsAttr (λ limit. canonicalizing (limit_or manner.limit limit)) conversion sweeping
+AsksIn manner = Asks manner.bytes (SpellsBeside manner.opaque) (SpellsAttr manner.opaque)
+    (λ limit. canonicalizing (limit_or manner.limit limit)) conversion sweeping
     application
 
 -- from s a command may be answered so, with these bytes below the reply, and lead to t
@@ -77,12 +70,27 @@ abbrev pub OrdersIn : Way → Order → Asked → Type 0
 OrdersIn way (Attach kind) asked = AttachesKind (way.supply kind) asked
 OrdersIn way PrintIds asked = asked ≡ Ask call.Print
 OrdersIn way (Rewrite names limit) asked = AppliesRule (rewriting_named names (limit_or way.manner.limit limit)) asked
+OrdersIn way (Trace names limit) asked = AppliesRule (tracing names (limit_or way.manner.limit limit)) asked
 
--- the bytes that are shown below the reply to one: a module stands with the ids of its operations
+-- the bytes of what the machine shows: a module stands with the ids of its operations
 abbrev pub order_shows : Shows → List ℕ
 order_shows Nothing = []
 order_shows (Rows rows) = rows_text rows
 order_shows (Tree t) = ids_text t
+
+-- something that is told where all went well
+abbrev pub told_if : Bool → List ℕ → List ℕ
+told_if true bytes = bytes
+told_if false bytes = []
+
+-- the bytes that are shown below the reply to an order in a module: what the machine shows, or the rewrites, if they
+-- were made
+abbrev pub order_bytes : Way → Order → Module → Response → Shows → List ℕ
+order_bytes way (Attach kind) m response shows = order_shows shows
+order_bytes way PrintIds m response shows = order_shows shows
+order_bytes way (Rewrite names limit) m response shows = order_shows shows
+order_bytes way (Trace names limit) m response shows =
+    told_if (is_accepted response) (trace_by (traced_rules names) (limit_or way.manner.limit limit) m)
 
 -- from s an order may be answered so, with these bytes below the reply, and lead to t
 pub record Fulfils (way : Way) (s : State) (order : Order) (response : Response) (bytes : List ℕ) (t : State) : Type 0 where
@@ -90,7 +98,7 @@ pub record Fulfils (way : Way) (s : State) (order : Order) (response : Response)
   pub shows : Shows
   pub asks : OrdersIn way order asked
   pub follows : Follows s asked response shows t
-  pub text : bytes ≡ order_shows shows
+  pub text : bytes ≡ order_bytes way order s.held response shows
 
 -- ---- room
 
@@ -110,4 +118,6 @@ AsksRoom full manner s _ response = ⊤
 abbrev pub OrdersRoom : Type 0 → Way → State → Order → Response → Type 0
 OrdersRoom full way s (Rewrite names limit) response =
     (f : Transformation) → rewriting_named names (limit_or way.manner.limit limit) ≡ Some f → FullSo full s f response
+OrdersRoom full way s (Trace names limit) response =
+    (f : Transformation) → tracing names (limit_or way.manner.limit limit) ≡ Some f → FullSo full s f response
 OrdersRoom full way s _ response = ⊤

@@ -1,7 +1,6 @@
 -- The output of a script, as a relation: memory may be refused at any command, and a listener may turn stale
 -- where it is told of an edit. All else is determined.
-use Rattle.std.specs.Prelude.{◌≡◌, ℕ, ◌+◌, ◌<◌, ◌≤◌, List, [], ◌∷◌, ◌++◌, length, Bool, true, false, not, ◌==◌, ◌&&◌, ◌⊎◌, Option, Some, None, is_none, if◌then◌else◌, codes}
-use Rattle.ir_event.specs.types.Refusals.{number_of}
+use Rattle.std.specs.Prelude.{◌≡◌, ℕ, ◌+◌, ◌<◌, ◌≤◌, List, [], ◌∷◌, ◌++◌, length, Bool, true, false, not, ◌&&◌, ◌⊎◌, Option, Some, None, is_none, if◌then◌else◌, codes}
 use Rattle.ir_event.specs.types.declared.refusal.Refusal.{Refusal}
 use Rattle.ir_event.specs.types.declared.refusal.Refusal.TheVariants.{BadCommand, KindTaken, Memory}
 use Rattle.ir_event.specs.Modules.{Module}
@@ -9,67 +8,25 @@ use Rattle.ir_event.specs.Rows.{RowTerm}
 use Rattle.ir_event.specs.trees.Meaning.{Operation}
 use Rattle.ir_text.specs.Printing.{text_of}
 use Rattle.mlir_work_transforms.specs.rewriter.Commands.{Command, Report, Print}
-use Rattle.mlir_work_transforms.specs.rewriter.Commands.{Response, Replied as Says, TextRefusedAt}
-use Rattle.mlir_work_transforms.specs.rewriter.Machine.{State, Done, DoneAs, DoneWith, Refused, RefusedOn}
+use Rattle.mlir_work_transforms.specs.rewriter.Commands.{Replied as Says}
+use Rattle.mlir_work_transforms.specs.rewriter.Machine.{State, Refused}
 use Rattle.mlir_work_transforms.specs.rewriter.Panels.{Shown, Attached, has_kind}
-use Rattle.mlir_work_script.specs.Commands.{Spoken, Nothing, Bad, Obey, Ordered, line_says}
+use Rattle.mlir_work_script.specs.Commands.{Spoken, Nothing, Bad, Obey, Ordered, Booked, line_says}
 use Rattle.mlir_work_script.specs.Expecting.{line_expects}
 use Rattle.mlir_work_script.specs.Limits.{most_script_bytes}
 use Rattle.mlir_work_script.specs.Lines.{lines_of}
 use Rattle.mlir_work_script.specs.Orders.{Order, PrintIds}
-use Rattle.mlir_work_script.specs.Replies.{expected_line, ok_line, made_line, outcome_line, refused_line, refused_on_line, refused_at_line, attach_refused_line, kind_line, stale_line, kind_memory_line, module_memory_line}
+use Rattle.mlir_work_script.specs.Replies.{refused_line, attach_refused_line, kind_line, stale_line, kind_memory_line, module_memory_line}
+use Rattle.mlir_work_book.specs.Notices.{IsWithin, Notice, Plain}
+use Rattle.mlir_work_book.specs.Shelves.{Shelves}
 use Rattle.mlir_work_session_base.specs.RowText.{rows_text}
-use Rattle.mlir_work_session.specs.Machine.{Fulfils, Obeys}
+use Rattle.mlir_work_session.specs.Machine.{Fulfils}
+use Rattle.mlir_work_session.specs.Sittings.{ByBench, ObeysBeside, own_of}
+pub use Rattle.mlir_work_book.specs.Notices.{is_right}
+pub use Rattle.mlir_work_book.specs.Told.{reply_text}
 pub use Rattle.mlir_work_session.specs.Machine.{Way, way_of}
+pub use Rattle.mlir_work_session.specs.Sittings.{Sitting, opening}
 pub use Rattle.mlir_work_session.specs.declared.manner.Manner.{Manner}
-
--- ---- replies
-
--- the line of the reply to command n
-abbrev pub reply_line : ℕ → Response → List ℕ
-reply_line n (Says Done) = ok_line n
-reply_line n (Says (DoneAs x)) = made_line n x
-reply_line n (Says (DoneWith outcome)) = outcome_line n outcome
-reply_line n (Says (Refused refusal)) = refused_line n refusal
-reply_line n (Says (RefusedOn refusal x)) = refused_on_line n refusal x
-reply_line n (TextRefusedAt refusal offset) = refused_at_line n refusal offset
-
--- whether the command was accepted
-abbrev pub is_accepted : Response → Bool
-is_accepted (Says Done) = true
-is_accepted (Says (DoneAs x)) = true
-is_accepted (Says (DoneWith outcome)) = true
-is_accepted (Says (Refused refusal)) = false
-is_accepted (Says (RefusedOn refusal x)) = false
-is_accepted (TextRefusedAt refusal offset) = false
-
--- whether one refusal is another
-abbrev pub same_refusal : Refusal → Refusal → Bool
-same_refusal wanted refusal = number_of wanted == number_of refusal
-
--- whether the command was refused for this
-abbrev pub is_refused_for : Refusal → Response → Bool
-is_refused_for wanted (Says Done) = false
-is_refused_for wanted (Says (DoneAs x)) = false
-is_refused_for wanted (Says (DoneWith outcome)) = false
-is_refused_for wanted (Says (Refused refusal)) = same_refusal wanted refusal
-is_refused_for wanted (Says (RefusedOn refusal x)) = same_refusal wanted refusal
-is_refused_for wanted (TextRefusedAt refusal offset) = same_refusal wanted refusal
-
--- whether a response is as the line wants it: the command is refused as it expects, or is accepted, where it expects
--- nothing
-abbrev pub is_right : Option Refusal → Response → Bool
-is_right None response = is_accepted response
-is_right (Some wanted) response = is_refused_for wanted response
-
--- below the reply stands what was expected, where something else came
-abbrev pub surprise_line : ℕ → Option Refusal → Response → List ℕ
-surprise_line n None response = []
-surprise_line n (Some wanted) response = if is_refused_for wanted response then [] else expected_line n wanted
-
--- the reply to command n, of which this was expected
-abbrev pub reply_text : ℕ → Option Refusal → Response → List ℕ
-reply_text n expected response = reply_line n response ++ surprise_line n expected response
 
 -- the status is 1 where something wasn't right
 abbrev pub worse : Bool → ℕ → ℕ
@@ -110,6 +67,7 @@ says_nothing Nothing = true
 says_nothing Bad = false
 says_nothing (Obey command) = false
 says_nothing (Ordered order) = false
+says_nothing (Booked order) = false
 
 -- whether a command asks to be shown something, and so gets no listing
 abbrev pub shows_alone : Command → Bool
@@ -117,7 +75,7 @@ shows_alone (Report kind) = true
 shows_alone Print = true
 shows_alone _ = false
 
--- and whether an order does
+-- and whether an order does; one about patterns leaves the module, and gets none either
 abbrev pub order_asks : Order → Bool
 order_asks PrintIds = true
 order_asks _ = false
@@ -127,17 +85,20 @@ asks Nothing = false
 asks Bad = false
 asks (Obey command) = shows_alone command
 asks (Ordered order) = order_asks order
+asks (Booked order) = true
 
--- the reply to a line that isn't nothing
-abbrev pub Replies : Way → State → Spoken → Response → List ℕ → State → Type 0
-Replies way s Nothing response shows t = ⊥
-Replies way s Bad response shows t = (response ≡ Says (Refused BadCommand)) × (shows ≡ []) × (t ≡ s)
-Replies way s (Obey command) response shows t = Obeys way.manner s command response shows t
-Replies way s (Ordered order) response shows t = Fulfils way s order response shows t
+-- what a line that isn't nothing is told
+abbrev pub Replies : Way → Sitting → Spoken → Notice → List ℕ → Sitting → Type 0
+Replies way s Nothing notice shows t = ⊥
+Replies way s Bad notice shows t = (notice ≡ Plain (Says (Refused BadCommand))) × (shows ≡ []) × (t ≡ s)
+Replies way s (Obey command) notice shows t =
+    ByBench (λ response u. ObeysBeside way.manner (own_of command s.book) s.state command response shows u) s notice t
+Replies way s (Ordered order) notice shows t = ByBench (λ response u. Fulfils way s.state order response shows u) s notice t
+Replies way s (Booked order) notice shows t = Shelves order s.book notice shows t.book × (t.state ≡ s.state)
 
 -- a reply, what it shows, and a listing where one is due
-abbrev pub IsReplied : Bool → State → ℕ → Option Refusal → Response → List ℕ → List ℕ → Type 0
-IsReplied listed t n expected response shows out = (more : List ℕ) × IsListingIf listed t more × (out ≡ reply_text n expected response ++ (shows ++ more))
+abbrev pub IsReplied : Bool → State → ℕ → Option Refusal → Notice → List ℕ → List ℕ → Type 0
+IsReplied listed t n expected notice shows out = (more : List ℕ) × IsListingIf listed t more × (out ≡ reply_text n expected notice ++ (shows ++ more))
 
 -- the end of an answer: an empty line, where one is due
 abbrev pub end_of : Bool → List ℕ
@@ -148,50 +109,47 @@ end_of false = []
 abbrev pub IsEnded : Bool → (List ℕ → Type 0) → List ℕ → Type 0
 IsEnded ends P out = (text : List ℕ) × P text × (out ≡ text ++ end_of ends)
 
--- the byte at which a text is refused stands in the input, or right behind it
-abbrev pub IsBounded : ℕ → Response → Type 0
-IsBounded bytes response = (refusal : Refusal) (offset : ℕ) → response ≡ TextRefusedAt refusal offset → offset ≤ bytes
-
 -- a line is replied to, which expects this, and the rest follows
-pub record Replied (Rest : ℕ → State → ℕ → List ℕ → Type 0) (way : Way) (n : ℕ) (s : State) (expected : Option Refusal) (spoken : Spoken) (status : ℕ) (out : List ℕ) : Type 0 where
-  pub response : Response
+pub record Replied (Rest : ℕ → Sitting → ℕ → List ℕ → Type 0) (way : Way) (n : ℕ) (s : Sitting) (expected : Option Refusal) (spoken : Spoken) (status : ℕ) (out : List ℕ) : Type 0 where
+  pub notice : Notice
   pub shows : List ℕ
-  pub after : State
+  pub after : Sitting
   pub text : List ℕ
   pub later : ℕ
   pub rest : List ℕ
-  pub replies : Replies way s spoken response shows after
-  pub replied : IsEnded way.manner.ends (IsReplied (not way.manner.brief && not (asks spoken)) after n expected response shows) text
-  pub full : IsBounded way.manner.bytes response
+  pub replies : Replies way s spoken notice shows after
+  pub replied : IsEnded way.manner.ends (IsReplied (not way.manner.brief && not (asks spoken)) after.state n expected notice shows) text
+  pub full : IsWithin way.manner.bytes notice
   pub goes_on : Rest (n + 1) after later rest
-  pub status_is : status ≡ worse (is_right expected response) later
+  pub status_is : status ≡ worse (is_right expected notice) later
   pub out_is : out ≡ text ++ rest
 
-abbrev pub Line : (ℕ → State → ℕ → List ℕ → Type 0) → Way → ℕ → State → Option Refusal → Spoken → ℕ → List ℕ → Type 0
+abbrev pub Line : (ℕ → Sitting → ℕ → List ℕ → Type 0) → Way → ℕ → Sitting → Option Refusal → Spoken → ℕ → List ℕ → Type 0
 Line Rest way n s expected Nothing status out = Rest n s status out
 Line Rest way n s expected Bad status out = Replied Rest way n s expected Bad status out
 Line Rest way n s expected (Obey command) status out = Replied Rest way n s expected (Obey command) status out
 Line Rest way n s expected (Ordered order) status out = Replied Rest way n s expected (Ordered order) status out
+Line Rest way n s expected (Booked order) status out = Replied Rest way n s expected (Booked order) status out
 
 -- from s, with n the next number, these lines may give this status and this output
-abbrev pub Runs : Way → ℕ → State → List (List ℕ) → ℕ → List ℕ → Type 0
+abbrev pub Runs : Way → ℕ → Sitting → List (List ℕ) → ℕ → List ℕ → Type 0
 Runs way n s [] status out = (status ≡ 0) × (out ≡ [])
 Runs way n s (line ∷ lines) status out = Line (λ m t st o. Runs way m t lines st o) way n s (line_expects line) (line_says line) status out
 
 -- ---- one line
 
 -- a line with the number n is replied to: what came is right or not, this is written, and the state is then t
-pub record IsToldOf (way : Way) (n : ℕ) (s : State) (expected : Option Refusal) (spoken : Spoken) (t : State) (right : Bool) (out : List ℕ) : Type 0 where
-  pub response : Response
+pub record IsToldOf (way : Way) (n : ℕ) (s : Sitting) (expected : Option Refusal) (spoken : Spoken) (t : Sitting) (right : Bool) (out : List ℕ) : Type 0 where
+  pub notice : Notice
   pub shows : List ℕ
   pub something : says_nothing spoken ≡ false
-  pub replies : Replies way s spoken response shows t
-  pub replied : IsEnded way.manner.ends (IsReplied (not way.manner.brief && not (asks spoken)) t n expected response shows) out
-  pub full : IsBounded way.manner.bytes response
-  pub right_is : right ≡ is_right expected response
+  pub replies : Replies way s spoken notice shows t
+  pub replied : IsEnded way.manner.ends (IsReplied (not way.manner.brief && not (asks spoken)) t.state n expected notice shows) out
+  pub full : IsWithin way.manner.bytes notice
+  pub right_is : right ≡ is_right expected notice
 
 -- one step of the machine: a line says nothing, and nothing is written; or it is replied to, and what came is right or not
-abbrev pub IsAnswered : Way → ℕ → State → Option Refusal → Spoken → State → Option Bool → List ℕ → Type 0
+abbrev pub IsAnswered : Way → ℕ → Sitting → Option Refusal → Spoken → Sitting → Option Bool → List ℕ → Type 0
 IsAnswered way n s expected spoken t None out = (says_nothing spoken ≡ true) × (t ≡ s) × (out ≡ [])
 IsAnswered way n s expected spoken t (Some right) out = IsToldOf way n s expected spoken t right out
 
@@ -245,7 +203,7 @@ pub record Session (way : Way) (boxes : List Shown) (m : Module) (script : List 
   pub later : ℕ
   pub rest : List ℕ
   pub attached : Attaches boxes [] panel accepted front
-  pub runs : Runs way 1 (record { held = m; marks = []; panel = panel }) (lines_of script) later rest
+  pub runs : Runs way 1 (opening (record { held = m; marks = []; panel = panel })) (lines_of script) later rest
   pub status_is : status ≡ worse accepted later
   pub out_is : out ≡ (front ++ end_of way.manner.ends) ++ rest
 

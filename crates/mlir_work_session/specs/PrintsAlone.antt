@@ -7,10 +7,10 @@ use Rattle.ir_event.specs.Listener.{Listener}
 use Rattle.ir_event.specs.Panels.{has_kind}
 use Rattle.ir_text.specs.Printing.{text_of}
 use Rattle.mlir_work_transforms.specs.rewriter.Commands.{Command, Print}
-use Rattle.mlir_work_script.specs.Commands.{Spoken, Nothing, Bad, Obey, Ordered, line_says}
+use Rattle.mlir_work_script.specs.Commands.{Spoken, Nothing, Bad, Obey, Ordered, Booked, line_says}
 use Rattle.mlir_work_script.specs.Expecting.{line_expects}
-use Rattle.mlir_work_session.specs.declared.reply.Reply.{Reply}
-use Rattle.mlir_work_session.specs.declared.reply.Reply.TheVariants.{Done, Refused}
+use Rattle.mlir_work_book.specs.declared.reply.Reply.{Reply}
+use Rattle.mlir_work_book.specs.declared.reply.Reply.TheVariants.{Done, Refused}
 
 -- whether a command asks for the module
 abbrev pub is_print : Command → Bool
@@ -23,6 +23,7 @@ prints_alone Nothing = true
 prints_alone Bad = false
 prints_alone (Obey command) = is_print command
 prints_alone (Ordered order) = false
+prints_alone (Booked order) = false
 
 -- whether a line does, and expects nothing
 abbrev pub line_prints : List ℕ → Bool

@@ -24,8 +24,8 @@ use std::alloc::Global;
 
 /// The attribute that a text spells.
 fn parse<L: Analysis>(bench: &mut Bench<L>, text: &[u8]) -> Result<AttrId, ReadError>
-    ensures attr { IfOk result (λ a. IsAttr bench.new.desk.ctx a × SpellsAttr text.now (attr_term bench.new.desk.ctx a)) }
-    ensures refused { (r : Reason) (o : ℕ) → result ≡ Err (ReadError.Refused r o) → IsNoAttr (SpellsAttr text.now) }
+    ensures attr { IfOk result (λ a. IsAttr bench.new.desk.ctx a × SpellsAttr bench.old.desk.ctx.opaque text.now (attr_term bench.new.desk.ctx a)) }
+    ensures refused { (r : Reason) (o : ℕ) → result ≡ Err (ReadError.Refused r o) → IsNoAttr (SpellsAttr bench.old.desk.ctx.opaque text.now) }
     ensures told { IfErr result (λ e. IsTold text.now e) }
     ensures grown { Grown L.meaning bench.old bench.new }
 {
@@ -42,8 +42,8 @@ fn attribute_of<L: Analysis>(
     bench: &mut Bench<L>,
     text: &[u8],
 ) -> Result<AttrId, Reply>
-    ensures attr { IfOk result (λ a. IsAttr bench.new.desk.ctx a × SpellsAttr text.now (attr_term bench.new.desk.ctx a)) }
-    ensures unread { IfErr result (λ reply. NotRead bytes IsAttrRefusal (SpellsAttr text.now) (response_of reply)) }
+    ensures attr { IfOk result (λ a. IsAttr bench.new.desk.ctx a × SpellsAttr bench.old.desk.ctx.opaque text.now (attr_term bench.new.desk.ctx a)) }
+    ensures unread { IfErr result (λ reply. NotRead bytes IsAttrRefusal (SpellsAttr bench.old.desk.ctx.opaque text.now) (response_of reply)) }
     ensures grown { Grown L.meaning bench.old bench.new }
 {
     match parse(bench, text) {
@@ -93,8 +93,8 @@ pub(crate) fn entry_of<L: Analysis>(
     text: &[u8],
 ) -> Result<(NameId, AttrId), Reply>
     ensures key { IfOk result (λ x. IsName bench.new.desk.ctx x.0 × (name_term bench.new.desk.ctx x.0 ≡ key_bytes key.now)) }
-    ensures attr { IfOk result (λ x. IsAttr bench.new.desk.ctx x.1 × SpellsAttr text.now (attr_term bench.new.desk.ctx x.1)) }
-    ensures unread { IfErr result (λ reply. NotRead bytes IsAttrRefusal (SpellsAttr text.now) (response_of reply)) }
+    ensures attr { IfOk result (λ x. IsAttr bench.new.desk.ctx x.1 × SpellsAttr bench.old.desk.ctx.opaque text.now (attr_term bench.new.desk.ctx x.1)) }
+    ensures unread { IfErr result (λ reply. NotRead bytes IsAttrRefusal (SpellsAttr bench.old.desk.ctx.opaque text.now) (response_of reply)) }
     ensures grown { Grown L.meaning bench.old bench.new }
 {
     let attribute = match attribute_of(bytes, bench, text) {

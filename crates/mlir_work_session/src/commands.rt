@@ -20,10 +20,12 @@ pub fn obey<L: Analysis>(
     bench: &mut Bench<L>,
     command: &Command<'_>,
 ) -> Answered
-    requires { IsKept L.meaning bench.old }
+    requires kept { IsKept L.meaning bench.old }
+    requires mode { bench.old.desk.ctx.opaque ≡ manner.now.opaque }
     ensures obeys { Obeys manner.now (state_of L.meaning bench.old) (said_of command.now) (response_of result.reply) result.shows.items (state_of L.meaning bench.new) }
     ensures room { AsksRoom (IsFull bench.new.desk.ctx) manner.now (state_of L.meaning bench.old) (said_of command.now) (response_of result.reply) }
     ensures kept { IsKept L.meaning bench.new }
+    ensures mode { bench.new.desk.ctx.opaque ≡ bench.old.desk.ctx.opaque }
 {
     match command {
         Command::Report(kind) => show_rows(alloc, bench, *kind),

@@ -31,6 +31,7 @@ pub(crate) fn set_operand<L: Analysis>(
     requires { IsKept L.meaning bench.old }
     ensures obeys { (manner : Manner) → Obeys manner (state_of L.meaning bench.old) (SetOperand op operand value) (response_of result) [] (state_of L.meaning bench.new) }
     ensures kept { IsKept L.meaning bench.new }
+    ensures mode { bench.new.desk.ctx.opaque ≡ bench.old.desk.ctx.opaque }
 {
     led_benches_are_kept::<L>();
     reply_to(bench.set_operand(op, operand, value))
@@ -41,6 +42,7 @@ pub(crate) fn replace<L: Analysis>(bench: &mut Bench<L>, old: Value, new: Value)
     requires { IsKept L.meaning bench.old }
     ensures obeys { (manner : Manner) → Obeys manner (state_of L.meaning bench.old) (Replace old new) (response_of result) [] (state_of L.meaning bench.new) }
     ensures kept { IsKept L.meaning bench.new }
+    ensures mode { bench.new.desk.ctx.opaque ≡ bench.old.desk.ctx.opaque }
 {
     led_benches_are_kept::<L>();
     reply_to(bench.replace_all(old, new))
@@ -51,6 +53,7 @@ pub(crate) fn erase<L: Analysis>(bench: &mut Bench<L>, op: OpId) -> Reply
     requires { IsKept L.meaning bench.old }
     ensures obeys { (manner : Manner) → Obeys manner (state_of L.meaning bench.old) (Erase op) (response_of result) [] (state_of L.meaning bench.new) }
     ensures kept { IsKept L.meaning bench.new }
+    ensures mode { bench.new.desk.ctx.opaque ≡ bench.old.desk.ctx.opaque }
 {
     led_benches_are_kept::<L>();
     reply_to(bench.erase(op))
@@ -61,6 +64,7 @@ pub(crate) fn move_op<L: Analysis>(bench: &mut Bench<L>, op: OpId, spot: &Spot) 
     requires { IsKept L.meaning bench.old }
     ensures obeys { (manner : Manner) → Obeys manner (state_of L.meaning bench.old) (Move op (spot_of spot.now)) (response_of result) [] (state_of L.meaning bench.new) }
     ensures kept { IsKept L.meaning bench.new }
+    ensures mode { bench.new.desk.ctx.opaque ≡ bench.old.desk.ctx.opaque }
 {
     led_benches_are_kept::<L>();
     let place = match place_for(&bench.world().store, Some(op), spot) {
@@ -80,6 +84,7 @@ pub(crate) fn drop_attr<L: Analysis>(
     requires { IsKept L.meaning bench.old }
     ensures obeys { (manner : Manner) → Obeys manner (state_of L.meaning bench.old) (DropAttr op (key_bytes key.now)) (response_of result) [] (state_of L.meaning bench.new) }
     ensures kept { IsKept L.meaning bench.new }
+    ensures mode { bench.new.desk.ctx.opaque ≡ bench.old.desk.ctx.opaque }
 {
     led_benches_are_kept::<L>();
     let Some(key) = name_of(alloc, bench, key) else {

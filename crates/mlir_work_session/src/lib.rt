@@ -3,6 +3,7 @@
 #![tactic(auto)]
 
 mod attributes;
+pub mod beside;
 pub mod boxes;
 pub mod commands;
 mod edits;
@@ -14,19 +15,20 @@ mod operations;
 pub mod orders;
 mod places;
 pub mod prints;
-pub mod reply;
 mod replying;
 pub mod script;
 pub mod session;
 pub mod shows;
 mod texts;
+mod tracing;
 mod transforming;
 mod unread;
 
 pub use ir_text::reader;
+pub use mlir_work_book::{book, notice, reply};
 pub use mlir_work_script::{
-    cells, clauses, command, expect, input, items, keys, kind, lines, numbers, order, outcome,
-    replies, rule_name, sink, source, spots, values, watched, words, writing,
+    book_order, cells, clauses, command, expect, input, items, keys, kind, lines, numbers, order,
+    outcome, replies, rule_name, sink, source, spots, values, watched, words, writing,
 };
 pub use mlir_work_session_base::supplied;
 pub use mlir_work_transforms::greedy;

@@ -12,4 +12,6 @@ pub struct Manner {
     /// An empty line follows each answer: that to the module, which is the lines of the listeners that are refused, and
     /// that to each command.
     pub ends: bool,
+    /// Whether types and attributes that aren't known are read as opaque ones.
+    pub opaque: bool,
 }

@@ -17,6 +17,7 @@ pub(crate) fn begin<L: Analysis>(bench: &mut Bench<L>) -> Reply
     requires { IsKept L.meaning bench.old }
     ensures obeys { (manner : Manner) → Obeys manner (state_of L.meaning bench.old) Begin (response_of result) [] (state_of L.meaning bench.new) }
     ensures kept { IsKept L.meaning bench.new }
+    ensures mode { bench.new.desk.ctx.opaque ≡ bench.old.desk.ctx.opaque }
 {
     led_benches_are_kept::<L>();
     reply_to(bench.mark())
@@ -27,6 +28,7 @@ pub(crate) fn commit<L: Analysis>(bench: &mut Bench<L>) -> Reply
     requires { IsKept L.meaning bench.old }
     ensures obeys { (manner : Manner) → Obeys manner (state_of L.meaning bench.old) Commit (response_of result) [] (state_of L.meaning bench.new) }
     ensures kept { IsKept L.meaning bench.new }
+    ensures mode { bench.new.desk.ctx.opaque ≡ bench.old.desk.ctx.opaque }
 {
     led_benches_are_kept::<L>();
     reply_to(bench.commit())
@@ -37,6 +39,7 @@ pub(crate) fn rollback<L: Analysis>(bench: &mut Bench<L>) -> Reply
     requires { IsKept L.meaning bench.old }
     ensures obeys { (manner : Manner) → Obeys manner (state_of L.meaning bench.old) Rollback (response_of result) [] (state_of L.meaning bench.new) }
     ensures kept { IsKept L.meaning bench.new }
+    ensures mode { bench.new.desk.ctx.opaque ≡ bench.old.desk.ctx.opaque }
 {
     led_benches_are_kept::<L>();
     reply_to(bench.rollback())
@@ -47,6 +50,7 @@ pub(crate) fn detach<L: Analysis>(bench: &mut Bench<L>, kind: Kind) -> Reply
     requires { IsKept L.meaning bench.old }
     ensures obeys { (manner : Manner) → Obeys manner (state_of L.meaning bench.old) (Detach kind) (response_of result) [] (state_of L.meaning bench.new) }
     ensures kept { IsKept L.meaning bench.new }
+    ensures mode { bench.new.desk.ctx.opaque ≡ bench.old.desk.ctx.opaque }
 {
     reply_to(bench.detach(kind))
 }
@@ -56,6 +60,7 @@ pub(crate) fn resync<L: Analysis>(bench: &mut Bench<L>, kind: Kind) -> Reply
     requires { IsKept L.meaning bench.old }
     ensures obeys { (manner : Manner) → Obeys manner (state_of L.meaning bench.old) (Resync kind) (response_of result) [] (state_of L.meaning bench.new) }
     ensures kept { IsKept L.meaning bench.new }
+    ensures mode { bench.new.desk.ctx.opaque ≡ bench.old.desk.ctx.opaque }
 {
     reply_to(bench.resync(kind))
 }

@@ -25,6 +25,7 @@ pub fn begin<L: Analysis, W: Sink>(
     requires unmarked { open_marks bench.old.desk ≡ [] }
     ensures begun { AttachedOut (Begun ends (all_shown L.meaning boxes.items) (module_held bench.old.desk)) (state_of L.meaning bench.new) (W.stream writer.old) (W.stream writer.new) result }
     ensures kept { IsKept L.meaning bench.new }
+    ensures mode { bench.new.desk.ctx.opaque ≡ bench.old.desk.ctx.opaque }
 {
     let accepted = match attach_all(bench, boxes, writer) {
         Ok(accepted) => accepted,

@@ -21,10 +21,10 @@ use mlir_work_transforms::rewriter::laws::led_benches_are_kept;
 
 /// The operation that a text spells beside the module.
 fn read<L: Analysis>(bench: &mut Bench<L>, text: &[u8]) -> Result<TreeOp, ReadError>
-    ensures read { IfOk result (λ t. SpellsBeside (module_held bench.old.desk) text.now (meaning bench.new.desk.ctx t)) }
+    ensures read { IfOk result (λ t. SpellsBeside bench.old.desk.ctx.opaque (module_held bench.old.desk) text.now (meaning bench.new.desk.ctx t)) }
     ensures sound { IfOk result (λ t. IsSoundIn bench.new.desk.ctx t) }
     ensures numbered { IfOk result (λ t. IsNumberedFrom bench.new.desk.store.module_of.next t) }
-    ensures refused { (r : Reason) (o : ℕ) → result ≡ Err (ReadError.Refused r o) → IsNone (SpellsBeside (module_held bench.old.desk) text.now) }
+    ensures refused { (r : Reason) (o : ℕ) → result ≡ Err (ReadError.Refused r o) → IsNone (SpellsBeside bench.old.desk.ctx.opaque (module_held bench.old.desk) text.now) }
     ensures told { IfErr result (λ e. IsOpTold text.now e) }
     ensures grown { Grown L.meaning bench.old bench.new }
 {
@@ -42,10 +42,10 @@ pub(crate) fn operation_of<L: Analysis>(
     bench: &mut Bench<L>,
     text: &[u8],
 ) -> Result<TreeOp, Reply>
-    ensures read { IfOk result (λ t. SpellsBeside (module_held bench.old.desk) text.now (meaning bench.new.desk.ctx t)) }
+    ensures read { IfOk result (λ t. SpellsBeside bench.old.desk.ctx.opaque (module_held bench.old.desk) text.now (meaning bench.new.desk.ctx t)) }
     ensures sound { IfOk result (λ t. IsSoundIn bench.new.desk.ctx t) }
     ensures numbered { IfOk result (λ t. IsNumberedFrom bench.new.desk.store.module_of.next t) }
-    ensures unread { IfErr result (λ reply. NotRead bytes IsOpRefusal (SpellsBeside (module_held bench.old.desk) text.now) (response_of reply)) }
+    ensures unread { IfErr result (λ reply. NotRead bytes IsOpRefusal (SpellsBeside bench.old.desk.ctx.opaque (module_held bench.old.desk) text.now) (response_of reply)) }
     ensures grown { Grown L.meaning bench.old bench.new }
 {
     match read(bench, text) {

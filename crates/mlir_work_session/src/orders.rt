@@ -11,7 +11,7 @@ ghost use Rattle.mlir_work_session_base.specs.IdsText.{ids_text};
 use crate::manner::Manner;
 use crate::reply::Reply;
 use crate::shows::{Answered, plain};
-use crate::transforming;
+use crate::{tracing, transforming};
 use ir_event::analysis::Analysis;
 use ir_event::types::refusal::Refusal;
 use ir_event::world::World;
@@ -37,6 +37,7 @@ fn attach<L: Supplied>(alloc: Global, bench: &mut Bench<L>, kind: Kind) -> Reply
     requires { IsKept L.meaning bench.old }
     ensures fulfils { (way : Way) → way.supply ≡ L.supply → Fulfils way (state_of L.meaning bench.old) (Attach kind) (response_of result) [] (state_of L.meaning bench.new) }
     ensures kept { IsKept L.meaning bench.new }
+    ensures mode { bench.new.desk.ctx.opaque ≡ bench.old.desk.ctx.opaque }
 {
     let Some(listener) = L::of_kind(alloc, kind) else {
         return Reply::Refused(Refusal::NoSuchKind);
@@ -81,6 +82,7 @@ pub fn fulfil<L: Supplied>(
     ensures fulfils { Fulfils (way_of L.supply manner.now) (state_of L.meaning bench.old) (order_of order.now) (response_of result.reply) result.shows.items (state_of L.meaning bench.new) }
     ensures room { OrdersRoom (IsFull bench.new.desk.ctx) (way_of L.supply manner.now) (state_of L.meaning bench.old) (order_of order.now) (response_of result.reply) }
     ensures kept { IsKept L.meaning bench.new }
+    ensures mode { bench.new.desk.ctx.opaque ≡ bench.old.desk.ctx.opaque }
 {
     match order {
         Order::Attach(kind) => plain(alloc, attach(alloc, bench, *kind)),
@@ -91,5 +93,6 @@ pub fn fulfil<L: Supplied>(
                 transforming::rewrite(alloc, manner, bench, rules, *limit),
             )
         }
+        Order::Trace { rules, limit } => tracing::trace(alloc, manner, bench, *rules, *limit),
     }
 }

@@ -9,12 +9,13 @@ ghost use Rattle.mlir_work_script.specs.Writes.{Puts};
 ghost use Rattle.mlir_work_script.specs.Limits.{most_script_bytes};
 ghost use Rattle.mlir_work_transforms.specs.rewriter.Panels.{Shown, all_shown};
 ghost use Rattle.mlir_work_session.specs.Machine.{response_of};
-ghost use Rattle.mlir_work_session.specs.Output.{IsSession, Runs, Way, reply_line};
+ghost use Rattle.mlir_work_book.specs.Told.{reply_line};
+ghost use Rattle.mlir_work_session.specs.Output.{IsSession, Runs, Way, opening};
 ghost use Rattle.mlir_work_session.specs.PrintsAlone.{IsPrinted, all_print, is_print, kinds_apart, prints_alone};
 ghost use Rattle.mlir_work_session.specs.Ran.{RanOut};
 
 use crate::reply::Reply;
-use crate::script::{both, is_nothing, put_reply};
+use crate::script::{both, is_nothing};
 use crate::shows::Answered;
 use ir_event::analysis::Analysis;
 use ir_event::row::Kind;
@@ -22,6 +23,7 @@ use ir_event::trees::tree::TreeOp;
 use ir_event::types::context::Context;
 use ir_event::types::refusal::Refusal;
 use ir_text::printer::print;
+use mlir_work_book::putting::put_reply;
 use mlir_work_script::command::{Command, Line, read_line};
 use mlir_work_script::expect::expected_of;
 use mlir_work_script::lines::split_line;
@@ -48,6 +50,7 @@ fn prints(line: &Line<'_>) -> bool
         Line::Bad => false,
         Line::Obey(command) => is_print(command),
         Line::Ordered(_) => false,
+        Line::Booked(_) => false,
     }
 }
 
@@ -140,7 +143,7 @@ fn print_lines<W: Sink>(
 ) -> Result<u8, WriteFault>
     requires known { IsTrue (is_known ctx.now tree.now) }
     requires prints { all_print (lines_of script.now) ≡ true }
-    ensures { (way : Way) (next : ℕ) (panel : List Shown) → way.manner.ends ≡ false → RanOut (Runs way 1 (record { held = record { tree = meaning ctx.now tree.now; next = next }; marks = []; panel = panel }) (lines_of script.now)) (W.stream writer.old) (W.stream writer.new) result }
+    ensures { (way : Way) (next : ℕ) (panel : List Shown) → way.manner.ends ≡ false → RanOut (Runs way 1 (opening (record { held = record { tree = meaning ctx.now tree.now; next = next }; marks = []; panel = panel })) (lines_of script.now)) (W.stream writer.old) (W.stream writer.new) result }
 {
     let mut text = script;
     let mut n = 1u64;

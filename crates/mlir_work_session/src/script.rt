@@ -6,28 +6,28 @@ ghost use Rattle.mlir_work_script.specs.Lines.{lines_of};
 ghost use Rattle.mlir_work_script.specs.Orders.{order_of};
 ghost use Rattle.mlir_work_script.specs.Writes.{Puts, PutsSome};
 ghost use Rattle.mlir_work_transforms.specs.rewriter.Benched.{IsKept, state_of};
-ghost use Rattle.mlir_work_session.specs.Machine.{response_of, way_of};
-ghost use Rattle.mlir_work_session.specs.Output.{IsAnswered, IsBounded, IsReplied, Replies, Runs, accepted_behind as still_accepted, asks as asks_to};
-ghost use Rattle.mlir_work_session.specs.Output.{end_of, number_behind as next_number, order_asks, says_nothing, shows_alone, reply_line};
-ghost use Rattle.mlir_work_session.specs.Output.{is_right, reply_text, surprise_line};
+ghost use Rattle.mlir_work_book.specs.Notices.{IsWithin, notice_of};
+ghost use Rattle.mlir_work_session.specs.Machine.{Fulfils, way_of};
+ghost use Rattle.mlir_work_session.specs.Output.{IsAnswered, IsReplied, Replies, Runs, accepted_behind as still_accepted, asks as asks_to};
+ghost use Rattle.mlir_work_session.specs.Output.{end_of, number_behind as next_number, order_asks, says_nothing, shows_alone};
 ghost use Rattle.mlir_work_session.specs.Ran.{RanOut};
+ghost use Rattle.mlir_work_session.specs.Sittings.{ByBench, sitting_of};
 
-use crate::commands::obey;
+use crate::beside::tell_command;
 use crate::listing::put_listing;
 use crate::manner::Manner;
 use crate::orders::fulfil;
 use crate::reply::Reply;
-use crate::shows::Answered;
-use crate::unread::reply_within;
 use ir_event::analysis::Analysis;
 use ir_event::types::refusal::Refusal;
+use mlir_work_book::book::Book;
+use mlir_work_book::notice::{Notice, Noticed, is_right, replied};
+use mlir_work_book::orders::shelve;
+use mlir_work_book::putting::put_reply_text;
 use mlir_work_script::command::{Command, Line, read_line};
 use mlir_work_script::expect::expected_of;
 use mlir_work_script::lines::split_line;
 use mlir_work_script::order::Order;
-use mlir_work_script::replies::{
-    put_expected, put_made, put_ok, put_outcome, put_refused, put_refused_at, put_refused_on,
-};
 use mlir_work_script::sink::Sink;
 use mlir_work_script::writing::{WriteFault, put};
 use mlir_work_session_base::supplied::Supplied;
@@ -64,6 +64,7 @@ fn asks(line: &Line<'_>) -> bool
         Line::Bad => false,
         Line::Obey(command) => shows_alone(command),
         Line::Ordered(order) => order_asks(order),
+        Line::Booked(_) => true,
     }
 }
 
@@ -76,6 +77,7 @@ pub fn is_nothing(line: &Line<'_>) -> bool
         Line::Bad => false,
         Line::Obey(_) => false,
         Line::Ordered(_) => false,
+        Line::Booked(_) => false,
     }
 }
 
@@ -91,89 +93,48 @@ pub(crate) fn both(a: bool, b: bool) -> bool
     a && b
 }
 
-/// What a line that isn't nothing is answered, in a script that is run so.
+/// What a line that is an order is told.
+fn tell_order<L: Supplied>(
+    alloc: Global,
+    manner: &Manner,
+    bench: &mut Bench<L>,
+    book: &Book,
+    order: &Order<'_>,
+) -> Noticed
+    requires { IsKept L.meaning bench.old }
+    ensures fulfils { ByBench (λ response u. Fulfils (way_of L.supply manner.now) (state_of L.meaning bench.old) (order_of order.now) response result.shows.items u) (sitting_of L.meaning bench.old book.now) (notice_of result.notice) (sitting_of L.meaning bench.new book.now) }
+    ensures bounded { IsWithin manner.now.bytes (notice_of result.notice) }
+    ensures kept { IsKept L.meaning bench.new }
+    ensures mode { bench.new.desk.ctx.opaque ≡ bench.old.desk.ctx.opaque }
+{
+    let answered = fulfil(alloc, manner, bench, order);
+    Noticed {
+        notice: Notice::Plain(answered.reply),
+        shows: answered.shows,
+    }
+}
+
+/// What a line that isn't nothing is told, in a script that is run so.
 pub fn answer<L: Supplied>(
     alloc: Global,
     manner: &Manner,
     bench: &mut Bench<L>,
+    book: &mut Book,
     line: &Line<'_>,
-) -> Answered
+) -> Noticed
     requires kept { IsKept L.meaning bench.old }
+    requires mode { bench.old.desk.ctx.opaque ≡ manner.now.opaque }
     requires something { says_nothing (spoken_of line.now) ≡ false }
-    ensures replies { Replies (way_of L.supply manner.now) (state_of L.meaning bench.old) (spoken_of line.now) (response_of result.reply) result.shows.items (state_of L.meaning bench.new) }
-    ensures bounded { IsBounded manner.now.bytes (response_of result.reply) }
+    ensures replies { Replies (way_of L.supply manner.now) (sitting_of L.meaning bench.old book.old) (spoken_of line.now) (notice_of result.notice) result.shows.items (sitting_of L.meaning bench.new book.new) }
+    ensures bounded { IsWithin manner.now.bytes (notice_of result.notice) }
     ensures kept { IsKept L.meaning bench.new }
+    ensures mode { bench.new.desk.ctx.opaque ≡ bench.old.desk.ctx.opaque }
 {
     match line {
-        Line::Obey(command) => {
-            let answered = obey(alloc, manner, bench, command);
-            Answered {
-                reply: reply_within(manner.bytes, answered.reply),
-                shows: answered.shows,
-            }
-        }
-        Line::Ordered(order) => fulfil(alloc, manner, bench, order),
-        Line::Nothing | Line::Bad => Answered {
-            reply: Reply::Refused(Refusal::BadCommand),
-            shows: Vec::new(alloc),
-        },
-    }
-}
-
-/// Writes the line of a reply.
-pub(crate) fn put_reply<W: Sink>(writer: &mut W, n: u64, reply: Reply) -> Result<(), WriteFault>
-    ensures { Puts (W.stream writer.old) (W.stream writer.new) (reply_line n (response_of reply)) result }
-{
-    match reply {
-        Reply::Done => put_ok(writer, n),
-        Reply::DoneAs(op) => put_made(writer, n, op),
-        Reply::DoneWith(outcome) => put_outcome(writer, n, outcome),
-        Reply::Refused(refusal) => put_refused(writer, n, refusal),
-        Reply::RefusedOn(refusal, op) => put_refused_on(writer, n, refusal, op),
-        Reply::RefusedAt(refusal, offset) => put_refused_at(writer, n, refusal, offset),
-    }
-}
-
-/// Writes what was expected, where something else came.
-fn put_surprise<W: Sink>(
-    writer: &mut W,
-    n: u64,
-    expected: &Option<Refusal>,
-    reply: &Reply,
-) -> Result<(), WriteFault>
-    ensures { Puts (W.stream writer.old) (W.stream writer.new) (surprise_line n expected.now (response_of reply.now)) result }
-{
-    let Some(refusal) = *expected else {
-        return Ok(());
-    };
-    if reply.is_refused_for(refusal) {
-        return Ok(());
-    }
-    put_expected(writer, n, refusal)
-}
-
-/// Writes the line of a reply, and below it what was expected, where something else came.
-fn put_reply_text<W: Sink>(
-    writer: &mut W,
-    n: u64,
-    expected: &Option<Refusal>,
-    reply: &Reply,
-) -> Result<(), WriteFault>
-    ensures { Puts (W.stream writer.old) (W.stream writer.new) (reply_text n expected.now (response_of reply.now)) result }
-{
-    match put_reply(writer, n, *reply) {
-        Ok(()) => put_surprise(writer, n, expected, reply),
-        Err(fault) => Err(fault),
-    }
-}
-
-/// Whether a reply is as a line wants it.
-fn is_right(expected: &Option<Refusal>, reply: &Reply) -> bool
-    ensures { result ≡ is_right expected.now (response_of reply.now) }
-{
-    match expected {
-        None => reply.is_accepted(),
-        Some(refusal) => reply.is_refused_for(*refusal),
+        Line::Obey(command) => tell_command(alloc, manner, bench, book, command),
+        Line::Ordered(order) => tell_order(alloc, manner, bench, book, order),
+        Line::Booked(order) => shelve(alloc, manner.bytes, book, order),
+        Line::Nothing | Line::Bad => replied(alloc, Reply::Refused(Refusal::BadCommand)),
     }
 }
 
@@ -184,13 +145,13 @@ fn put_answer<L: Analysis, W: Sink>(
     bench: &Bench<L>,
     n: u64,
     expected: &Option<Refusal>,
-    answered: &Answered,
+    answered: &Noticed,
     writer: &mut W,
 ) -> Result<(), WriteFault>
     requires { IsKept L.meaning bench.now }
-    ensures { PutsSome (IsReplied listed (state_of L.meaning bench.now) n expected.now (response_of answered.now.reply) answered.now.shows.items) (W.stream writer.old) (W.stream writer.new) result }
+    ensures { PutsSome (IsReplied listed (state_of L.meaning bench.now) n expected.now (notice_of answered.now.notice) answered.now.shows.items) (W.stream writer.old) (W.stream writer.new) result }
 {
-    match put_reply_text(writer, n, expected, &answered.reply) {
+    match put_reply_text(writer, n, expected, &answered.notice) {
         Ok(()) => {}
         Err(fault) => return Err(fault),
     }
@@ -214,34 +175,37 @@ pub(crate) fn put_end<W: Sink>(writer: &mut W, ends: bool) -> Result<(), WriteFa
     Ok(())
 }
 
-/// Answers a line of a script over a module and listeners that each agree with it or are stale: `n` is the number of the
+/// Answers a line of a script over a module, listeners that each agree with it or are stale, and a book of patterns: `n` is the number of the
 /// next reply, and `line` has no line feed. Writes what is written for it, and says whether what came is right: the command
 /// was accepted, or refused as the line expects. Of a line that says nothing it says nothing, and nothing is written.
 pub fn answer_line<L: Supplied, W: Sink>(
     alloc: Global,
     manner: &Manner,
     bench: &mut Bench<L>,
+    book: &mut Book,
     n: u64,
     line: &[u8],
     writer: &mut W,
 ) -> Result<Option<bool>, WriteFault>
-    requires { IsKept L.meaning bench.old }
-    ensures answered { RanOut (IsAnswered (way_of L.supply manner.now) n (state_of L.meaning bench.old) (line_expects line.now) (line_says line.now) (state_of L.meaning bench.new)) (W.stream writer.old) (W.stream writer.new) result }
+    requires kept { IsKept L.meaning bench.old }
+    requires mode { bench.old.desk.ctx.opaque ≡ manner.now.opaque }
+    ensures answered { RanOut (IsAnswered (way_of L.supply manner.now) n (sitting_of L.meaning bench.old book.old) (line_expects line.now) (line_says line.now) (sitting_of L.meaning bench.new book.new)) (W.stream writer.old) (W.stream writer.new) result }
     ensures kept { IsKept L.meaning bench.new }
+    ensures mode { bench.new.desk.ctx.opaque ≡ bench.old.desk.ctx.opaque }
 {
     let expected = expected_of(line);
     let line = read_line(line);
     if is_nothing(&line) {
         return Ok(None);
     }
-    let answered = answer(alloc, manner, bench, &line);
+    let answered = answer(alloc, manner, bench, book, &line);
     let listed = is_listed(manner.brief, &line);
     match put_answer(alloc, listed, bench, n, &expected, &answered, writer) {
         Ok(()) => {}
         Err(fault) => return Err(fault),
     }
     match put_end(writer, manner.ends) {
-        Ok(()) => Ok(Some(is_right(&expected, &answered.reply))),
+        Ok(()) => Ok(Some(is_right(&expected, &answered.notice))),
         Err(fault) => Err(fault),
     }
 }
@@ -267,17 +231,20 @@ pub fn accepted_behind(accepted: bool, told: Option<bool>) -> bool
     }
 }
 
-/// Runs a script over a module and listeners that each agree with it or are stale, and writes as it goes.
-/// The status is 1 where a command was refused of which that wasn't expected, or not as it was.
+/// Runs a script over a module, listeners that each agree with it or are stale, and a book of patterns, and writes as it
+/// goes. The status is 1 where a command was refused of which that wasn't expected, or not as it was, or a check of a
+/// pattern found that it fails.
 pub fn run_script<L: Supplied, W: Sink>(
     alloc: Global,
     manner: &Manner,
     bench: &mut Bench<L>,
+    book: &mut Book,
     script: &[u8],
     writer: &mut W,
 ) -> Result<u8, WriteFault>
-    requires { IsKept L.meaning bench.old }
-    ensures { RanOut (Runs (way_of L.supply manner.now) 1 (state_of L.meaning bench.old) (lines_of script.now)) (W.stream writer.old) (W.stream writer.new) result }
+    requires kept { IsKept L.meaning bench.old }
+    requires mode { bench.old.desk.ctx.opaque ≡ manner.now.opaque }
+    ensures { RanOut (Runs (way_of L.supply manner.now) 1 (sitting_of L.meaning bench.old book.old) (lines_of script.now)) (W.stream writer.old) (W.stream writer.new) result }
 {
     let mut text = script;
     let mut n = 1u64;
@@ -285,7 +252,7 @@ pub fn run_script<L: Supplied, W: Sink>(
     while !text.is_empty() {
         let (first, rest) = split_line(text);
         text = rest;
-        let told = match answer_line(alloc, manner, bench, n, first, writer) {
+        let told = match answer_line(alloc, manner, bench, book, n, first, writer) {
             Ok(told) => told,
             Err(fault) => return Err(fault),
         };

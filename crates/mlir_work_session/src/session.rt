@@ -13,6 +13,7 @@ use crate::opening::begin;
 use crate::script::run_script;
 use ir_event::types::refusal::Refusal;
 use ir_event::world::World;
+use mlir_work_book::book::Book;
 use mlir_work_script::input::script_is_too_long;
 use mlir_work_script::replies::put_refused;
 use mlir_work_script::sink::Sink;
@@ -38,13 +39,15 @@ fn attach_and_run<L: Supplied, W: Sink>(
 ) -> Result<u8, WriteFault>
     requires none { bench.old.listeners ≡ [] }
     requires unmarked { open_marks bench.old.desk ≡ [] }
+    requires mode { bench.old.desk.ctx.opaque ≡ manner.now.opaque }
     ensures { RanOut (Session (way_of L.supply manner.now) (all_shown L.meaning boxes.items) (module_held bench.old.desk) script.now) (W.stream writer.old) (W.stream writer.new) result }
 {
     let accepted = match begin(manner.ends, bench, boxes, writer) {
         Ok(accepted) => accepted,
         Err(fault) => return Err(fault),
     };
-    match run_script(alloc, manner, bench, script, writer) {
+    let mut book = Book::new(alloc);
+    match run_script(alloc, manner, bench, &mut book, script, writer) {
         Ok(status) => Ok(worse(accepted, status)),
         Err(fault) => Err(fault),
     }
@@ -72,6 +75,7 @@ pub fn run_session<L: Supplied, W: Sink>(
 ) -> Result<u8, WriteFault>
     requires slotted { IsSlotted world.store }
     requires tidy { IsTidy world.store }
+    requires mode { world.ctx.opaque ≡ manner.now.opaque }
     ensures { RanOut (IsSession (way_of L.supply manner.now) (all_shown L.meaning boxes.items) (module_in world) script.now) (W.stream writer.old) (W.stream writer.new) result }
 {
     if script_is_too_long(script) {

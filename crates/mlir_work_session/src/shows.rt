@@ -8,7 +8,7 @@ ghost use Rattle.mlir_work_transforms.specs.rewriter.Benched.{IsKept, state_of};
 ghost use Rattle.mlir_work_session_base.specs.RowText.{rows_text};
 ghost use Rattle.mlir_work_session.specs.Machine.{Obeys, response_of};
 ghost use Rattle.mlir_work_session.specs.Output.{Manner};
-ghost use Rattle.mlir_work_session.specs.declared.reply.Reply.TheVariants.{Refused};
+ghost use Rattle.mlir_work_book.specs.declared.reply.Reply.TheVariants.{Refused};
 
 use crate::reply::Reply;
 use ir_event::analysis::Analysis;

@@ -27,9 +27,11 @@ pub(crate) fn insert<L: Analysis>(
     spot: &Spot,
     text: &[u8],
 ) -> Reply
-    requires { IsKept L.meaning bench.old }
+    requires kept { IsKept L.meaning bench.old }
+    requires mode { bench.old.desk.ctx.opaque ≡ manner.now.opaque }
     ensures obeys { Obeys manner.now (state_of L.meaning bench.old) (Insert (spot_of spot.now) text.now) (response_of result) [] (state_of L.meaning bench.new) }
     ensures kept { IsKept L.meaning bench.new }
+    ensures mode { bench.new.desk.ctx.opaque ≡ bench.old.desk.ctx.opaque }
 {
     led_benches_are_kept::<L>();
     let tree = match operation_of(manner.bytes, bench, text) {
@@ -52,9 +54,11 @@ pub(crate) fn set_attr<L: Analysis>(
     key: &Key<'_>,
     text: &[u8],
 ) -> Reply
-    requires { IsKept L.meaning bench.old }
+    requires kept { IsKept L.meaning bench.old }
+    requires mode { bench.old.desk.ctx.opaque ≡ manner.now.opaque }
     ensures obeys { Obeys manner.now (state_of L.meaning bench.old) (SetAttr op (key_bytes key.now) text.now) (response_of result) [] (state_of L.meaning bench.new) }
     ensures kept { IsKept L.meaning bench.new }
+    ensures mode { bench.new.desk.ctx.opaque ≡ bench.old.desk.ctx.opaque }
 {
     led_benches_are_kept::<L>();
     let (key, attribute) = match entry_of(alloc, manner.bytes, bench, key, text) {

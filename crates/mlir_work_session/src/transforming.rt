@@ -31,7 +31,7 @@ use mlir_work_transforms::{apply, convert, sweep};
 use std::alloc::Global;
 
 /// The limit of a canonicalization, where its command may say one.
-fn limit_of(manner: &Manner, limit: Option<u32>) -> u32
+pub(crate) fn limit_of(manner: &Manner, limit: Option<u32>) -> u32
     ensures { result ≡ limit_or manner.now.limit limit }
 {
     match limit {
@@ -51,6 +51,7 @@ pub(crate) fn canon<L: Analysis>(
     ensures obeys { Obeys manner.now (state_of L.meaning bench.old) (Canon limit) (response_of result) [] (state_of L.meaning bench.new) }
     ensures room { FullSo (IsFull bench.new.desk.ctx) (state_of L.meaning bench.old) (canonicalizing (limit_or manner.now.limit limit)) (response_of result) }
     ensures kept { IsKept L.meaning bench.new }
+    ensures mode { bench.new.desk.ctx.opaque ≡ bench.old.desk.ctx.opaque }
 {
     led_benches_are_kept::<L>();
     reply_canonical(canonicalize(alloc, bench, limit_of(manner, limit)))
@@ -61,6 +62,7 @@ pub(crate) fn sweep<L: Analysis>(alloc: Global, bench: &mut Bench<L>) -> Reply
     requires { IsKept L.meaning bench.old }
     ensures obeys { (way : Way) → Obeys way (state_of L.meaning bench.old) Sweep (response_of result) [] (state_of L.meaning bench.new) }
     ensures kept { IsKept L.meaning bench.new }
+    ensures mode { bench.new.desk.ctx.opaque ≡ bench.old.desk.ctx.opaque }
 {
     led_benches_are_kept::<L>();
     reply_swept(sweep::sweep(alloc, bench))
@@ -77,6 +79,7 @@ pub(crate) fn convert<L: Analysis>(
     ensures obeys { (way : Way) → Obeys way (state_of L.meaning bench.old) (Convert (target_of full (clauses_of clauses.now))) (response_of result) [] (state_of L.meaning bench.new) }
     ensures room { FullSo (IsFull bench.new.desk.ctx) (state_of L.meaning bench.old) (conversion (target_of full (clauses_of clauses.now))) (response_of result) }
     ensures kept { IsKept L.meaning bench.new }
+    ensures mode { bench.new.desk.ctx.opaque ≡ bench.old.desk.ctx.opaque }
 {
     led_benches_are_kept::<L>();
     reply_converted(convert::convert(alloc, bench, full, clauses))
@@ -93,6 +96,7 @@ pub(crate) fn apply<L: Analysis>(
     ensures obeys { (way : Way) → Obeys way (state_of L.meaning bench.old) (Apply (name_of name.now) op) (response_of result) [] (state_of L.meaning bench.new) }
     ensures room { (f : Transformation) → application (name_of name.now) op ≡ Some f → FullSo (IsFull bench.new.desk.ctx) (state_of L.meaning bench.old) f (response_of result) }
     ensures kept { IsKept L.meaning bench.new }
+    ensures mode { bench.new.desk.ctx.opaque ≡ bench.old.desk.ctx.opaque }
 {
     led_benches_are_kept::<L>();
     let Some(rule) = apply::rule_named(name) else {
@@ -113,6 +117,7 @@ pub(crate) fn rewrite<L: Analysis>(
     ensures fulfils { (supply : ℕ → Option Shown) → Fulfils (way_of supply manner.now) (state_of L.meaning bench.old) (Rewrite (names_of rules.now) limit) (response_of result) [] (state_of L.meaning bench.new) }
     ensures room { (f : Transformation) → rewriting_named (names_of rules.now) (limit_or manner.now.limit limit) ≡ Some f → FullSo (IsFull bench.new.desk.ctx) (state_of L.meaning bench.old) f (response_of result) }
     ensures kept { IsKept L.meaning bench.new }
+    ensures mode { bench.new.desk.ctx.opaque ≡ bench.old.desk.ctx.opaque }
 {
     led_benches_are_kept::<L>();
     let rules = match rules_in(alloc, rules) {

@@ -1,5 +1,5 @@
 //! How a text is replied to that isn't read.
-ghost use Rattle.std.specs.Prelude.{◌≡◌, ◌≤◌, ◌⊎◌, ℕ, List, IsTrue};
+ghost use Rattle.std.specs.Prelude.{◌≡◌, ◌≤◌, ◌⊎◌, ℕ, Bool, List, IsTrue};
 ghost use Rattle.ir_event.specs.types.Refusals.{number_of};
 ghost use Rattle.ir_event.specs.types.declared.refusal.Refusal.{Refusal as Reason};
 ghost use Rattle.ir_event.specs.types.declared.refusal.Refusal.TheVariants.{IdsExhausted as WantOfIds};
@@ -14,7 +14,7 @@ ghost use Rattle.mlir_work_transforms.specs.rewriter.Texts.{SpellsBeside};
 ghost use Rattle.mlir_work_transforms.specs.rewriter.Commands.{CanFill, IsAttrRefusal};
 ghost use Rattle.mlir_work_transforms.specs.rewriter.Commands.{IsOpRefusal, Replied, TextRefusedAt};
 ghost use Rattle.mlir_work_transforms.specs.rewriter.Machine.{Refused};
-ghost use Rattle.mlir_work_session.specs.Output.{IsBounded};
+ghost use Rattle.mlir_work_book.specs.Replies.{IsBounded};
 ghost use Rattle.mlir_work_session.specs.Texts.{NotRead};
 ghost use Rattle.mlir_work_session.specs.Machine.{response_of};
 
@@ -28,8 +28,8 @@ const WORDS: usize = 54;
 
 /// The reply where a text is refused. That no id is left has no place in the text.
 fn refused_at(refusal: Refusal, offset: usize) -> Reply
-    ensures attr { (bytes : ℕ) (text : List ℕ) → number_of refusal ≤ 14 → IsNoAttr (SpellsAttr text) → NotRead bytes IsAttrRefusal (SpellsAttr text) (response_of result) }
-    ensures op { (bytes : ℕ) (m : Contents) (text : List ℕ) → (number_of refusal ≤ 14) ⊎ (refusal ≡ WantOfIds) → IsNone (SpellsBeside m text) → NotRead bytes IsOpRefusal (SpellsBeside m text) (response_of result) }
+    ensures attr { (bytes : ℕ) (opaque : Bool) (text : List ℕ) → number_of refusal ≤ 14 → IsNoAttr (SpellsAttr opaque text) → NotRead bytes IsAttrRefusal (SpellsAttr opaque text) (response_of result) }
+    ensures op { (bytes : ℕ) (opaque : Bool) (m : Contents) (text : List ℕ) → (number_of refusal ≤ 14) ⊎ (refusal ≡ WantOfIds) → IsNone (SpellsBeside opaque m text) → NotRead bytes IsOpRefusal (SpellsBeside opaque m text) (response_of result) }
 {
     if refusal == Refusal::IdsExhausted {
         return Reply::Refused(refusal);
@@ -48,8 +48,8 @@ fn can_fill(bytes: usize) -> bool
 /// The reply where the context has no room for what a text names. A shorter input than can fill one is refused for want of
 /// memory: it doesn't come so far.
 fn full_at(bytes: usize, offset: usize) -> Reply
-    ensures attr { (text : List ℕ) → NotRead bytes IsAttrRefusal (SpellsAttr text) (response_of result) }
-    ensures op { (m : Contents) (text : List ℕ) → NotRead bytes IsOpRefusal (SpellsBeside m text) (response_of result) }
+    ensures attr { (opaque : Bool) (text : List ℕ) → NotRead bytes IsAttrRefusal (SpellsAttr opaque text) (response_of result) }
+    ensures op { (opaque : Bool) (m : Contents) (text : List ℕ) → NotRead bytes IsOpRefusal (SpellsBeside opaque m text) (response_of result) }
 {
     if can_fill(bytes) {
         Reply::RefusedAt(Refusal::TooMany, offset)
@@ -60,8 +60,8 @@ fn full_at(bytes: usize, offset: usize) -> Reply
 
 /// The reply where a text of an input of so many bytes isn't read.
 pub(crate) fn reply_unread(bytes: usize, error: &ReadError) -> Reply
-    ensures attr { (text : List ℕ) → IsTold text error.now → ((r : Reason) (o : ℕ) → error.now ≡ Unread.Refused r o → IsNoAttr (SpellsAttr text)) → NotRead bytes IsAttrRefusal (SpellsAttr text) (response_of result) }
-    ensures op { (m : Contents) (text : List ℕ) → IsOpTold text error.now → ((r : Reason) (o : ℕ) → error.now ≡ Unread.Refused r o → IsNone (SpellsBeside m text)) → NotRead bytes IsOpRefusal (SpellsBeside m text) (response_of result) }
+    ensures attr { (opaque : Bool) (text : List ℕ) → IsTold text error.now → ((r : Reason) (o : ℕ) → error.now ≡ Unread.Refused r o → IsNoAttr (SpellsAttr opaque text)) → NotRead bytes IsAttrRefusal (SpellsAttr opaque text) (response_of result) }
+    ensures op { (opaque : Bool) (m : Contents) (text : List ℕ) → IsOpTold text error.now → ((r : Reason) (o : ℕ) → error.now ≡ Unread.Refused r o → IsNone (SpellsBeside opaque m text)) → NotRead bytes IsOpRefusal (SpellsBeside opaque m text) (response_of result) }
 {
     match *error {
         ReadError::Memory => Reply::Refused(Refusal::Memory),

@@ -6,5 +6,6 @@ pub mod Listed
 pub mod Named
 pub mod Ruled
 pub mod Chosen
+pub mod Made
 pub use Rattle.conversion.proofs.of_rewriter
 pub use Rattle.greedy.proofs.Changing

@@ -1,4 +1,4 @@
--- Applying a rule as a transformation.
+-- Applying a rule, or a pattern of one's own, as a transformation.
 use Rattle.std.specs.Prelude.{ℕ, Bool, true, false, Option, None, option_map, Result, Ok, Err, if◌then◌else◌}
 use Rattle.ir_event.specs.types.declared.refusal.Refusal.{Refusal}
 use Rattle.ir_event.specs.types.declared.refusal.Refusal.TheVariants.{NoSuchOp}
@@ -9,6 +9,8 @@ use Rattle.conversion.specs.rewriter.Machine.{Applied, DoneWith, Fault, Outcome,
 use Rattle.conversion.specs.patterns.Rewrites.{Rewrite, none, refused, becomes, rewrite_of}
 use Rattle.conversion.specs.patterns.RuleNames.{by_number, by_word}
 use Rattle.conversion.specs.patterns.Rule.{Rule}
+use Rattle.patterns_book.specs.Shapes.{Shape}
+use Rattle.patterns_own.specs.Own.{own_rewrite}
 
 -- how often a rule was applied
 abbrev pub applied_times : Bool → ℕ
@@ -21,14 +23,20 @@ made_of none m = Ok (Applied (applied_times false), m)
 made_of (becomes n) m = Ok (Applied (applied_times true), n)
 made_of (refused e) m = Err (record { refusal = e; op = None })
 
--- rule r at operation x of a module, which has to be there
-abbrev pub applied_at : Rule → ℕ → Module → Result (Outcome × Module) Fault
-applied_at r x m =
-    if has_id x m.tree then made_of (rewrite_of r m x) m else Err (record { refusal = NoSuchOp; op = None })
+-- a rewrite at operation x of a module, which has to be there
+abbrev pub applied_at : (Module → Rewrite) → ℕ → Module → Result (Outcome × Module) Fault
+applied_at w x m = if has_id x m.tree then made_of (w m) m else Err (record { refusal = NoSuchOp; op = None })
 
 -- the transformation, which makes types and attributes
+abbrev pub rewriting_at : (Module → Rewrite) → ℕ → Transformation
+rewriting_at w x = record { transformed = applied_at w x; interns = true }
+
+-- that of a rule, and that of a pattern of one's own
 abbrev pub applying : Rule → ℕ → Transformation
-applying r x = record { transformed = applied_at r x; interns = true }
+applying r x = rewriting_at (λ m. rewrite_of r m x) x
+
+abbrev pub applying_own : Shape → ℕ → Transformation
+applying_own p x = rewriting_at (λ m. own_rewrite p m x) x
 
 -- the rule of a name
 abbrev pub rule_named : RuleName → Option Rule

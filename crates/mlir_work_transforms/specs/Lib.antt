@@ -1,5 +1,7 @@
 pub mod Applying
 pub mod Rewriting
+pub mod TraceText
+pub mod TraceLaws
 pub mod Sweep
 pub mod Erasing
 pub mod Interned

@@ -1,15 +1,19 @@
 //! The commands that transform the module of a bench, beside canonicalization: a sweep of the private symbols that
-//! nothing reaches, a conversion for the target that clauses say, and a rule applied at an operation.
+//! nothing reaches, a conversion for the target that clauses say, a rule or a pattern of one's own applied at an
+//! operation, and rewriting that tells each rewrite.
 #![tactic(auto)]
 
 pub mod apply;
 pub mod convert;
 pub mod laws;
 mod names;
+pub mod own;
 pub mod rewrite;
 mod rules;
 pub mod sweep;
 mod target;
+pub mod trace;
+pub mod trace_lines;
 
 pub use conversion::{fault, rewriter};
 pub use greedy;

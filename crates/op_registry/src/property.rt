@@ -233,6 +233,7 @@ fn is_signless(node: &TypeNode, bits: u32) -> bool
         TypeNode::Index => false,
         TypeNode::Func { .. } => false,
         TypeNode::Memref { .. } => false,
+        TypeNode::Opaque(_) => false,
     }
 }
 
@@ -244,6 +245,7 @@ fn is_function_type(node: &TypeNode) -> bool
         TypeNode::Index => false,
         TypeNode::Func { .. } => true,
         TypeNode::Memref { .. } => false,
+        TypeNode::Opaque(_) => false,
     }
 }
 

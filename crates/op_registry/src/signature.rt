@@ -34,6 +34,7 @@ pub fn type_in(node: &AttrNode) -> Option<TypeId>
         AttrNode::Sym(_) => None,
         AttrNode::Dense { .. } => None,
         AttrNode::Overflow { .. } => None,
+        AttrNode::Opaque { .. } => None,
     }
 }
 
@@ -61,5 +62,6 @@ fn signature_in(node: &TypeNode) -> Option<Signature<'_>>
             outputs: outputs.as_slice(),
         }),
         TypeNode::Memref { .. } => None,
+        TypeNode::Opaque(_) => None,
     }
 }

@@ -12,19 +12,22 @@ use Rattle.patterns_plans.specs.Planned.{IsPlanAt}
 use Rattle.patterns_plans.specs.reads.Reads.{head_at}
 use Rattle.patterns_facts.specs.base.Looks.{Header}
 use Rattle.patterns_facts.specs.base.RuleNames.{is_canonical}
-use Rattle.patterns_facts.specs.base.Rules.{rules_for}
+use Rattle.patterns_facts.specs.base.Rules.{OnlyListed, rules_for}
 use Rattle.patterns_facts.specs.base.declared.rule.Rule.{Rule}
 use Rattle.patterns_facts.specs.Accepted.{AreAccepted}
-use Rattle.patterns_facts.specs.base.Canonicalization.{TableSuffices, first_rule, lowest}
+use Rattle.patterns_facts.specs.base.Canonicalization.{greedy_rules, lowest}
 use Rattle.patterns_facts.specs.base.Rewrites.{none, edits_of, rewrite_of, carried_out}
 use Rattle.patterns.specs.Applied.{Gave}
+use Rattle.patterns.specs.Firing.{firing}
 use Rattle.patterns.specs.Lowest.{IsFirst, IsLeftOut, IsLowest, TriedFirst, greedy}
 use Rattle.patterns.specs.Planned.{IsFree, MadeIsOf, made_edits, planned_edits}
 use Rattle.patterns.specs.declared.plan.Made.{Made}
 use Rattle.patterns.specs.declared.lowest.Found.{Found}
+use Rattle.patterns_facts.proofs.of_base.Suffices.{rises}
 use Rattle.patterns.proofs.Acceptance.{accepted_of}
 use Rattle.patterns.proofs.Applying.{edits_due, rewrite_due, same_module}
-use Rattle.patterns.proofs.Firsts.{left_out, past, taken}
+use Rattle.patterns.proofs.ByList.{named_suffice}
+use Rattle.patterns.proofs.Firsts.{left_out, none_then, past, some_then, taken}
 use Rattle.patterns.proofs.Planned.{found, none_rule}
 
 module _ (w : World) (x : ℕ) (front : Place) (r : Rule) (tries : is_canonical r ≡ true) where
@@ -46,15 +49,18 @@ first_others_ok w x front r rs (Ok f) out first = first_others w x front r rs f 
 first_others_ok w x front r rs (Err e) out first = tt
 
 -- the row of an operation's name
-module _ (table : TableSuffices) (m : Module) (x : ℕ) (h : Header) (shown : Some h ≡ head_at x m.tree) (rules : List Rule) (row : rules ≡ rules_for h.name) where
+module _ (only : OnlyListed) (m : Module) (x : ℕ) (h : Header) (shown : Some h ≡ head_at x m.tree) (rules : List Rule) (row : rules ≡ rules_for h.name) where
   name_is : rules ≡ rules_for (head (found x m.tree h shown).here).name
   name_is = row ∙ ap (λ (k : Header). rules_for k.name) (found x m.tree h shown).same
 
-  pub row_suffices : lowest m x ≡ first_rule (greedy rules) m x
-  row_suffices = table m x (found x m.tree h shown).here (found x m.tree h shown).is ∙ ap (λ rs. first_rule (greedy rs) m x) (sym name_is)
+  pub row_suffices : firing greedy_rules m x ≡ firing (greedy rules) m x
+  row_suffices =
+      named_suffice only m x (found x m.tree h shown).here (found x m.tree h shown).is greedy_rules
+      ∙ ap (λ rs. firing rs m x) (rises (head (found x m.tree h shown).here).name)
+      ∙ ap (λ rs. firing (greedy rs) m x) (sym name_is)
 
 -- the first that applies of those that suffice is the lowest
-module _ (w : World) (x : ℕ) (front : Place) (rules : List Rule) (suffices : lowest (module_in w) x ≡ first_rule (greedy rules) (module_in w) x) where
+module _ (w : World) (x : ℕ) (front : Place) (rules : List Rule) (suffices : firing greedy_rules (module_in w) x ≡ firing (greedy rules) (module_in w) x) where
   pub none_first_lowest : (f : Option (Rule × Made)) → IsFirst rules w x front f → f ≡ None → IsLowest w x None
   none_first_lowest f is e = suffices ∙ subst (IsFirst rules w x front) e is
 
@@ -63,15 +69,21 @@ module _ (w : World) (x : ℕ) (front : Place) (rules : List Rule) (suffices : l
 
 -- what a bench's world shows, and what the bench holds
 module _ (w : World) (b : Held) (ctx : w.ctx ≡ b.ctx) (store : w.store ≡ b.store) (x : ℕ) where
-  pub none_held : lowest (module_in w) x ≡ none → Gave (lowest (module_held b) x) false (module_held b) (module_held b)
-  none_held e = subst (λ a. Gave a false (module_held b) (module_held b)) (sym (ap (λ m. lowest m x) (sym (same_module w b ctx store x)) ∙ e)) (refl, refl)
+  pub none_held : firing greedy_rules (module_in w) x ≡ None → Gave (lowest (module_held b) x) false (module_held b) (module_held b)
+  none_held e = subst (λ a. Gave a false (module_held b) (module_held b)) (sym (ap (λ m. lowest m x) (sym (same_module w b ctx store x)) ∙ none_then greedy_rules (module_in w) x e)) (refl, refl)
+
+  pub none_fired : firing greedy_rules (module_in w) x ≡ None → firing greedy_rules (module_held b) x ≡ None
+  none_fired e = subst (λ m. firing greedy_rules m x ≡ None) (same_module w b ctx store x) e
 
   module _ (f : Found) (is : IsLowest w x (Some f)) where
     pub fits_held : MadeIsOf b.ctx f.planned.made
     fits_held = subst (λ c. MadeIsOf c f.planned.made) ctx is.0.of
 
     pub rule_held : lowest (module_held b) x ≡ rewrite_of f.rule (module_held b) x
-    rule_held = subst (λ m. lowest m x ≡ rewrite_of f.rule m x) (same_module w b ctx store x) is.1
+    rule_held = subst (λ m. lowest m x ≡ rewrite_of f.rule m x) (same_module w b ctx store x) (some_then greedy_rules (module_in w) x f.rule is.1)
+
+    pub fired_held : firing greedy_rules (module_held b) x ≡ Some f.rule
+    fired_held = subst (λ m. firing greedy_rules m x ≡ Some f.rule) (same_module w b ctx store x) is.1
 
     pub lowest_due : lowest (module_held b) x ≡ carried_out (planned_edits b.ctx (module_held b).next x f.planned) (module_held b)
     lowest_due = rule_held ∙ rewrite_due w b ctx store x (λ c n q. planned_edits c n x q) f.rule (Some f.planned) is.0.edits f.planned refl

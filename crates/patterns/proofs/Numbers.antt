@@ -13,7 +13,7 @@ use Rattle.ir_event.specs.types.declared.word.Word.{Word}
 use Rattle.ir_event.specs.types.declared.refusal.Refusal.{Refusal}
 use Rattle.ir_event.specs.types.declared.refusal.Refusal.TheVariants.{TooMany, TooDeep, BadValue, BadWidth, Memory, Full}
 use Rattle.ir_event.specs.types.Things.{Things, Grows}
-use Rattle.ir_event.specs.types.Terms.{TypeTerm, Integer, Index, Function, Memref, AttrTerm, IntegerOf, DenseArray, String, TypeOf, Flag, Array, Dictionary, Symbol, Overflow, name_term, type_term, attr_term, type_node_term, attr_node_term}
+use Rattle.ir_event.specs.types.Terms.{TypeTerm, Integer, Index, Function, Memref, OpaqueType, AttrTerm, IntegerOf, DenseArray, String, TypeOf, Flag, Array, Dictionary, Symbol, Overflow, OpaqueOf, name_term, type_term, attr_term, type_node_term, attr_node_term}
 use Rattle.ir_event.specs.types.Dictionaries.{kept}
 use Rattle.ir_event.specs.types.Same.{same_type, same_attr}
 use Rattle.ir_event.specs.types.Interning.{with_type, with_attr}
@@ -70,6 +70,7 @@ kept_plain names (attr.Dict entries) plain = absurd plain
 kept_plain names (attr.Sym parts) plain = refl
 kept_plain names (attr.Dense elem values) plain = refl
 kept_plain names (attr.Overflow nsw nuw) plain = refl
+kept_plain names (attr.Opaque text ty) plain = refl
 
 pub attr_made : (node : AttrNode) (c d : Things) (a : ℕ) → Holds c → IsPlain node → (a, d) ≡ with_attr node c → IsAttrOf d a (attr_node_term c node)
 attr_made node c d a holds plain e = (
@@ -113,12 +114,14 @@ fine_value (Dictionary es) e = cc
 fine_value (Symbol parts) e = cc
 fine_value (DenseArray elem values) e = not_bad _ e
 fine_value (Overflow nsw nuw) e = cc
+fine_value (OpaqueOf text ty) e = cc
 
 fine_size : (ty : TypeTerm) → size_reason ty ≡ Some TooMany → ⊥
 fine_size (Integer sign width) e = not_narrow _ e
 fine_size Index e = cc
 fine_size (Function inputs outputs) e = cc
 fine_size (Memref dims elem) e = not_bad _ e
+fine_size (OpaqueType text) e = cc
 
 plain_reasons : (node : AttrNode) → IsPlain node → (count_reason node ≡ None) × (key_reason node ≡ None)
 plain_reasons (attr.Int ty value) plain = (refl, refl)
@@ -130,6 +133,7 @@ plain_reasons (attr.Dict entries) plain = absurd plain
 plain_reasons (attr.Sym parts) plain = (refl, refl)
 plain_reasons (attr.Dense elem values) plain = (refl, refl)
 plain_reasons (attr.Overflow nsw nuw) plain = (refl, refl)
+plain_reasons (attr.Opaque text ty) plain = (refl, refl)
 
 full_attr : (node : AttrNode) (c : Things) → IsPlain node → attr_reason node c ≡ Some TooMany → most_things ≤ length c.attrs
 full_attr node c plain e =

@@ -7,11 +7,10 @@ use Rattle.ir_event.specs.types.Terms.{name_term}
 use Rattle.ir_event.specs.types.Sound.{IsSound}
 use Rattle.ir_event.specs.declared.world.World.{World}
 use Rattle.ir_event.specs.Modules.{module_in}
-use Rattle.patterns_facts.specs.base.Canonicalization.{first_rule}
-use Rattle.patterns_facts.specs.base.Rewrites.{none, rewrite_of}
 use Rattle.patterns_facts.specs.base.RuleNames.{is_canonical}
 use Rattle.patterns_facts.specs.base.Rules.{has_rule}
 use Rattle.patterns_facts.specs.base.declared.rule.Rule.{Rule}
+use Rattle.patterns.specs.Firing.{firing}
 use Rattle.patterns.specs.Lowest.{IsMadeOf}
 use Rattle.patterns.specs.declared.lowest.Found.{Found}
 use Rattle.patterns.specs.declared.rows.Rows.{Rows}
@@ -42,6 +41,6 @@ pub record MayBeTried (rows : Rows) : Type 0 where
 
 -- the first of some rules that applies, with what it makes, or that none does
 abbrev pub IsFirstOf : List Rule → World → ℕ → Option Found → Type 0
-IsFirstOf rs w x None = first_rule rs (module_in w) x ≡ none
+IsFirstOf rs w x None = firing rs (module_in w) x ≡ None
 IsFirstOf rs w x (Some f) =
-    IsMadeOf w x f.planned.front f.rule f.planned.made × (first_rule rs (module_in w) x ≡ rewrite_of f.rule (module_in w) x)
+    IsMadeOf w x f.planned.front f.rule f.planned.made × (firing rs (module_in w) x ≡ Some f.rule)

@@ -7,6 +7,7 @@ ghost use Rattle.patterns_facts.specs.base.Rewrites.{rewrite_of};
 ghost use Rattle.patterns_lowering.specs.runs.Benched.{Keeps};
 ghost use Rattle.patterns_lowering.specs.runs.Held.{module_held};
 ghost use Rattle.patterns.specs.Applied.{Applied, Gave, IsReason};
+ghost use Rattle.patterns.specs.Firing.{firing};
 ghost use Rattle.patterns.specs.Rows.{IsFirstOf, MayBeTried};
 
 use crate::carry::carry_plan;
@@ -77,6 +78,7 @@ pub fn first<L: Analysis>(
         (module_held bench.old.desk) (module_held bench.new.desk)) }
     ensures rule { IfOk result (λ r. IfSome r (λ r. first_rule rows.now.rules.now (module_held bench.old.desk) op
         ≡ rewrite_of r (module_held bench.old.desk) op)) }
+    ensures fired { IfOk result (λ r. r ≡ firing rows.now.rules.now (module_held bench.old.desk) op) }
     ensures err { OnErr result (module_held bench.new.desk ≡ module_held bench.old.desk) }
     ensures refused { IfErr result (λ e. IsReason (first_rule rows.now.rules.now (module_held bench.old.desk) op) op
         (module_held bench.old.desk) bench.new.desk.ctx e) }

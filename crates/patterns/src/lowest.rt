@@ -3,13 +3,14 @@ ghost use Rattle.std.specs.Prelude.{◌≡◌, false, true, is_some, Err, IfOk, 
 ghost use Rattle.ir_event.specs.types.declared.refusal.Refusal.TheVariants.{NoSuchOp};
 ghost use Rattle.ir_event.specs.trees.Ids.{has_id};
 ghost use Rattle.ir_event.specs.Modules.{NodeIsOf, module_in};
-ghost use Rattle.patterns_facts.specs.base.Canonicalization.{lowest as lowest_of};
+ghost use Rattle.patterns_facts.specs.base.Canonicalization.{greedy_rules, lowest as lowest_of};
 ghost use Rattle.patterns_facts.specs.base.Looks.{front_of, is_clean as clean_at};
 ghost use Rattle.patterns_facts.specs.base.Rewrites.{rewrite_of};
 ghost use Rattle.patterns_plans.specs.reads.Reads.{head_at, head_in};
 ghost use Rattle.patterns_lowering.specs.runs.Benched.{Keeps};
 ghost use Rattle.patterns_lowering.specs.runs.Held.{module_held};
 ghost use Rattle.patterns.specs.Applied.{Applied, Gave, IsReason};
+ghost use Rattle.patterns.specs.Firing.{firing};
 ghost use Rattle.patterns.specs.Lowest.{BeginsLikely, IsFirst, IsLikely, IsLowest, TriedFirst};
 
 use crate::carry::carry_plan;
@@ -174,6 +175,7 @@ pub fn lowest<L: Analysis>(
         (module_held bench.old.desk) (module_held bench.new.desk)) }
     ensures rule { IfOk result (λ r. IfSome r (λ r. lowest_of (module_held bench.old.desk) op
         ≡ rewrite_of r (module_held bench.old.desk) op)) }
+    ensures fired { IfOk result (λ r. r ≡ firing greedy_rules (module_held bench.old.desk) op) }
     ensures err { OnErr result (module_held bench.new.desk ≡ module_held bench.old.desk) }
     ensures refused { IfErr result (λ e. IsReason (lowest_of (module_held bench.old.desk) op) op
         (module_held bench.old.desk) bench.new.desk.ctx e) }

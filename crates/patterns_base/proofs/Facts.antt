@@ -6,7 +6,7 @@ use Rattle.ir_tree.specs.declared.place.Place.{Place}
 use Rattle.ir_tree.specs.declared.value.Value.{Value}
 use Rattle.ir_types.proofs.SameTerms.{type_refl}
 use Rattle.ir_types.specs.SameTypes.{same_type}
-use Rattle.ir_types.specs.Terms.{Function, Index, Integer, Memref, TypeTerm}
+use Rattle.ir_types.specs.Terms.{Function, Index, Integer, Memref, OpaqueType, TypeTerm}
 use Rattle.patterns_base.specs.Looks.{front_of, is_clean, is_index, when}
 use Rattle.patterns_base.specs.Lowering.{bridges, crossed, marked}
 use Rattle.patterns_base.specs.Makes.{made_by}
@@ -34,6 +34,7 @@ kept_type Index e = absurd cc
 kept_type (Integer s n) e = type_refl (Integer s n)
 kept_type (Function is os) e = type_refl (Function is os)
 kept_type (Memref ds u) e = type_refl (Memref ds u)
+kept_type (OpaqueType s) e = type_refl (OpaqueType s)
 
 pub bridges_make : (ty : TypeTerm) (place : Place) (ms : List Bool) (vs : List Value) → length ms ≡ length vs → made_by (bridges ty place ms vs) ≡ marked ms
 bridges_make ty place [] vs h = refl

@@ -46,7 +46,7 @@ left_out (r ∷ rs) m x o e = by (has_rule r (head o).name) refl (left_out rs m 
     by false f rest = ap (λ z. or_else z (first_rule rs m x)) (no_rewrite r m x o e f) ∙ rest
 
 -- each row rises
-abbrev Rises : List ℕ → Type 0
+abbrev pub Rises : List ℕ → Type 0
 Rises name = filter (λ r. has_rule r name) greedy_rules ≡ greedy_rules_for name
 
 rows_rise : Each (λ (row : List ℕ × List Rule). Rises row.0) table
@@ -57,7 +57,7 @@ others_rise : (name : List ℕ) → beside name table ≡ None → Rises name
 unfolding all_rules rules_for
 others_rise name e = rw (e) refl
 
-rises : (name : List ℕ) → Rises name
+pub rises : (name : List ℕ) → Rises name
 rises name = beside_or Rises table name rows_rise (others_rise name)
 
 pub table_suffices : TableSuffices

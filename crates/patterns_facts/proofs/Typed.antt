@@ -6,7 +6,7 @@ use Rattle.std.specs.Option.{option_eq}
 use Rattle.std.specs.Str.{bytes_eq}
 use Rattle.std.proofs.lemmas.Slice.Eq.{bytes_eq-Decides}
 use Rattle.ir_event.specs.types.declared.node.Sign.TheVariants.{Signless, Signed, Unsigned}
-use Rattle.ir_event.specs.types.Terms.{TypeTerm, Integer, Index, Function, Memref, AttrTerm}
+use Rattle.ir_event.specs.types.Terms.{TypeTerm, Integer, Index, Function, Memref, OpaqueType, AttrTerm}
 use Rattle.ir_event.specs.types.SameTypes.{same_type}
 use Rattle.ir_event.specs.trees.declared.value.Value.{Value}
 use Rattle.ir_event.specs.trees.Tree.{head}
@@ -141,6 +141,7 @@ truth_is (Integer Unsigned w) e = absurd cc
 truth_is Index e = absurd cc
 truth_is (Function is os) e = absurd cc
 truth_is (Memref ds u) e = absurd cc
+truth_is (OpaqueType s) e = absurd cc
 
 there_is : (test : TypeTerm → Bool) (o : Option TypeTerm) → is_there test o ≡ true → (u : TypeTerm) × (o ≡ Some u) × (test u ≡ true)
 there_is test None e = absurd cc

@@ -8,7 +8,5 @@ pub mod names;
 mod numbers;
 pub mod reading;
 mod terms;
-#[cfg(test)]
-mod tests;
 mod types;
 mod words;

@@ -61,6 +61,7 @@ type_back (term.Integer Unsigned w) k h = absurd (grind arith)
 type_back term.Index k h = ap type_of (sym (same_Some kind.Index k h))
 type_back (term.Function is os) k h = absurd (grind arith)
 type_back (term.Memref ds e) k h = absurd (grind arith)
+type_back (term.OpaqueType s) k h = absurd (grind arith)
 
 kind_first : (r : Option Rule) (x : Option BitsKind) (f : Rule → BitsKind → Option ℕ) (c : Known) → with (λ r. with (λ k. option_map (λ bits. (k, bits)) (f r k)) x) r ≡ Some c → x ≡ Some c.0
 kind_first None x f c h = absurd (grind arith)

@@ -10,7 +10,7 @@ use Rattle.ir_event.specs.types.declared.refusal.Refusal.{Refusal}
 use Rattle.ir_event.specs.types.declared.refusal.Refusal.TheVariants.{Memory, TooMany}
 use Rattle.ir_event.specs.types.Things.{Things, IsType, IsAttr, IsFront, Grows}
 use Rattle.ir_event.specs.types.Sound.{Holds}
-use Rattle.ir_event.specs.types.Terms.{TypeTerm, Integer, Index, Function, Memref, AttrTerm, IntegerOf, String, TypeOf, Flag, Array, Dictionary, Symbol, DenseArray, Overflow, type_term, type_node_term, attr_term, attr_node_term}
+use Rattle.ir_event.specs.types.Terms.{TypeTerm, Integer, Index, Function, Memref, OpaqueType, AttrTerm, IntegerOf, String, TypeOf, Flag, Array, Dictionary, Symbol, DenseArray, Overflow, OpaqueOf, type_term, type_node_term, attr_term, attr_node_term}
 use Rattle.ir_event.specs.types.Dictionaries.{kept}
 use Rattle.ir_event.specs.types.Interning.{with_type, with_attr}
 use Rattle.ir_event.specs.types.Limits.{most_things}
@@ -124,6 +124,7 @@ bits_of_index (IntegerOf Index n) bits e = (let one : n ≡ bits = cc in ap (Int
 bits_of_index (IntegerOf (Integer s w) n) bits e = absurd cc
 bits_of_index (IntegerOf (Function is os) n) bits e = absurd cc
 bits_of_index (IntegerOf (Memref ds t) n) bits e = absurd cc
+bits_of_index (IntegerOf (OpaqueType s) n) bits e = absurd cc
 bits_of_index (String s) bits e = absurd cc
 bits_of_index (TypeOf t) bits e = absurd cc
 bits_of_index Flag bits e = absurd cc
@@ -132,12 +133,14 @@ bits_of_index (Dictionary es) bits e = absurd cc
 bits_of_index (Symbol ps) bits e = absurd cc
 bits_of_index (DenseArray t vs) bits e = absurd cc
 bits_of_index (Overflow a b) bits e = absurd cc
+bits_of_index (OpaqueOf s t) bits e = absurd cc
 
 pub attr_stays_so : (a : AttrTerm) → index_bits a ≡ None → a ≡ lowered_attr a
 attr_stays_so (IntegerOf Index n) e = absurd cc
 attr_stays_so (IntegerOf (Integer s w) n) e = refl
 attr_stays_so (IntegerOf (Function is os) n) e = refl
 attr_stays_so (IntegerOf (Memref ds t) n) e = refl
+attr_stays_so (IntegerOf (OpaqueType s) n) e = refl
 attr_stays_so (String s) e = refl
 attr_stays_so (TypeOf t) e = refl
 attr_stays_so Flag e = refl
@@ -146,6 +149,7 @@ attr_stays_so (Dictionary es) e = refl
 attr_stays_so (Symbol ps) e = refl
 attr_stays_so (DenseArray t vs) e = refl
 attr_stays_so (Overflow a b) e = refl
+attr_stays_so (OpaqueOf s t) e = refl
 
 pub attr_lowered : (a : AttrTerm) (ty : TypeTerm) (bits : ℕ) → index_bits a ≡ Some bits → ty ≡ i64 → IntegerOf ty bits ≡ lowered_attr a
 attr_lowered a ty bits e k = ap (λ t. IntegerOf t bits) k ∙ sym (ap lowered_attr (bits_of_index a bits e))

@@ -1,7 +1,7 @@
 -- Types and regions with another type for index.
 use Rattle.std.proofs.Common.{◌≡◌, refl, ap, ◌∙◌, ℕ, List, [], ◌∷◌, map, Bool, true, false, cond}
 use Rattle.ir_event.specs.types.Things.{Things}
-use Rattle.ir_event.specs.types.Terms.{TypeTerm, Integer, Index, Function, Memref, name_term, type_term, attr_term}
+use Rattle.ir_event.specs.types.Terms.{TypeTerm, Integer, Index, Function, Memref, OpaqueType, name_term, type_term, attr_term}
 use Rattle.ir_event.specs.trees.Tree.{Regions, no_regions, region, empty, block, no_ops}
 use Rattle.ir_event.specs.trees.Maps.{map_regions}
 use Rattle.ir_verify_base.specs.Types as types
@@ -17,12 +17,14 @@ index_is (Integer s w) = refl
 index_is Index = refl
 index_is (Function is os) = refl
 index_is (Memref ds e) = refl
+index_is (OpaqueType s) = refl
 
 lowered_as : (u : TypeTerm) → cond (is_index u) i64 u ≡ lowered_type u
 lowered_as (Integer s w) = refl
 lowered_as Index = refl
 lowered_as (Function is os) = refl
 lowered_as (Memref ds e) = refl
+lowered_as (OpaqueType s) = refl
 
 chosen_term : (c : Things) (b : Bool) (wide ty : ℕ) → type_term c (cond b wide ty) ≡ cond b (type_term c wide) (type_term c ty)
 chosen_term c true wide ty = refl

@@ -4,7 +4,7 @@ use Rattle.ir_event.specs.types.declared.bits.BitsKind.{BitsKind}
 use Rattle.ir_event.specs.types.declared.bits.BitsKind.TheVariants as kind
 use Rattle.ir_event.specs.types.declared.node.Sign.TheVariants.{Signless, Signed, Unsigned}
 use Rattle.ir_event.specs.types.Bits.{type_of}
-use Rattle.ir_event.specs.types.Terms.{TypeTerm, Integer, Index, Function, Memref}
+use Rattle.ir_event.specs.types.Terms.{TypeTerm, Integer, Index, Function, Memref, OpaqueType}
 use Rattle.ir_event.specs.types.SameTypes.{same_type}
 use Rattle.ir_verify_base.specs.Types as types
 use Rattle.dialects_int.specs.Folds.{kind_of}
@@ -18,12 +18,14 @@ of_width (Integer Unsigned v) w e = absurd cc
 of_width Index w e = absurd cc
 of_width (Function is os) w e = absurd cc
 of_width (Memref ds t) w e = absurd cc
+of_width (OpaqueType s) w e = absurd cc
 
 pub of_index : (ty : TypeTerm) → types.is_index ty ≡ true → Some kind.Index ≡ kind_of ty
 of_index (Integer s v) e = absurd cc
 of_index Index e = refl
 of_index (Function is os) e = absurd cc
 of_index (Memref ds t) e = absurd cc
+of_index (OpaqueType s) e = absurd cc
 
 pub no_kind : (ty : TypeTerm) → types.width_of ty ≡ None → types.is_index ty ≡ false → None ≡ kind_of ty
 no_kind (Integer Signless v) e f = absurd cc
@@ -32,6 +34,7 @@ no_kind (Integer Unsigned v) e f = refl
 no_kind Index e f = absurd cc
 no_kind (Function is os) e f = refl
 no_kind (Memref ds t) e f = refl
+no_kind (OpaqueType s) e f = refl
 
 -- a written kind's type is a type where the kind is
 pub written_same : (k : BitsKind) (ty : TypeTerm) → is_kind k (kind_of ty) ≡ same_type (type_of k) ty
@@ -41,12 +44,14 @@ written_same (kind.Int w) (Integer Unsigned v) = refl
 written_same (kind.Int w) Index = refl
 written_same (kind.Int w) (Function is os) = refl
 written_same (kind.Int w) (Memref ds t) = refl
+written_same (kind.Int w) (OpaqueType s) = refl
 written_same kind.Index (Integer Signless v) = refl
 written_same kind.Index (Integer Signed v) = refl
 written_same kind.Index (Integer Unsigned v) = refl
 written_same kind.Index Index = refl
 written_same kind.Index (Function is os) = refl
 written_same kind.Index (Memref ds t) = refl
+written_same kind.Index (OpaqueType s) = refl
 
 -- what stands for a type has a kind, or none
 pub written_kind : (k : BitsKind) → k ≡ kind_standing (Some (type_of k))
@@ -60,6 +65,7 @@ found_kind (Integer Unsigned v) k e = absurd cc
 found_kind Index k e = cc
 found_kind (Function is os) k e = absurd cc
 found_kind (Memref ds t) k e = absurd cc
+found_kind (OpaqueType s) k e = absurd cc
 
 pub kind_lost : (ty : TypeTerm) → None ≡ kind_of ty → kind.Int 0 ≡ kind_standing (Some ty)
 kind_lost (Integer Signless v) e = absurd cc
@@ -68,3 +74,4 @@ kind_lost (Integer Unsigned v) e = refl
 kind_lost Index e = absurd cc
 kind_lost (Function is os) e = refl
 kind_lost (Memref ds t) e = refl
+kind_lost (OpaqueType s) e = refl

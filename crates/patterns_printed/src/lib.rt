@@ -3,5 +3,3 @@
 
 pub mod laws;
 pub mod printing;
-#[cfg(test)]
-mod tests;

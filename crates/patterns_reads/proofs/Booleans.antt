@@ -1,6 +1,6 @@
 -- The type of true and false.
 use Rattle.std.proofs.Common.{◌≡◌, refl}
-use Rattle.ir_event.specs.types.Terms.{TypeTerm, Integer, Index, Function, Memref}
+use Rattle.ir_event.specs.types.Terms.{TypeTerm, Integer, Index, Function, Memref, OpaqueType}
 use Rattle.ir_event.specs.types.declared.node.Sign.TheVariants.{Signless, Signed, Unsigned}
 use Rattle.ir_event.specs.types.SameTypes.{same_type}
 use Rattle.ir_verify_base.specs.Types.{is_boolean}
@@ -13,3 +13,4 @@ boolean_is (Integer Unsigned w) = refl
 boolean_is Index = refl
 boolean_is (Function is os) = refl
 boolean_is (Memref ds e) = refl
+boolean_is (OpaqueType s) = refl

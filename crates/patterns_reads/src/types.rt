@@ -56,6 +56,7 @@ fn width_in(node: &TypeNode) -> u32
         TypeNode::Index => 64,
         TypeNode::Func { .. } => 0,
         TypeNode::Memref { .. } => 0,
+        TypeNode::Opaque(_) => 0,
     }
 }
 

@@ -5,5 +5,3 @@ pub mod book;
 pub mod define;
 pub mod laws;
 pub mod listing;
-#[cfg(test)]
-mod tests;

@@ -10,6 +10,4 @@ pub mod parts;
 pub mod reading;
 pub mod steps;
 mod terms;
-#[cfg(test)]
-mod tests;
 pub mod words;

@@ -8,7 +8,7 @@ use Rattle.std.specs.Cmp.Lexicographic.{pointwise}
 use Rattle.std.proofs.lemmas.List.{length-map}
 use Rattle.std.proofs.lemmas.Slice.Eq.{bytes_eq-Decides}
 use Rattle.ir_types.specs.declared.node.Sign.TheVariants.{Signless, Signed, Unsigned}
-use Rattle.ir_types.specs.Terms.{TypeTerm, Integer, Index, Function, Memref, AttrTerm}
+use Rattle.ir_types.specs.Terms.{TypeTerm, Integer, Index, Function, Memref, OpaqueType, AttrTerm}
 use Rattle.ir_types.specs.SameTypes.{same_type}
 use Rattle.ir_tree.specs.declared.value.Value.{Value}
 use Rattle.ir_tree.specs.Tree.{op, no_ops, head, regions}
@@ -219,6 +219,7 @@ truth (Integer Unsigned w) e = refl
 truth Index e = absurd cc
 truth (Function is os) e = absurd cc
 truth (Memref ds u) e = absurd cc
+truth (OpaqueType s) e = absurd cc
 
 one_truth : (t : Operation) (k : Known) (vs : List Value) → first_fit k (type.Boolean ∷ []) None (map (λ v. type_of_value v t) vs) ≡ true → map (is_index_value t) vs ≡ false ∷ []
 one_truth t k [] e = absurd cc

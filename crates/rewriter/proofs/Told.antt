@@ -14,21 +14,14 @@ use Rattle.ir_event.specs.Listener.{Listener, ShowsTaken, Followed}
 use Rattle.ir_event.specs.Panels.{AllTold, AllFollowed}
 use Rattle.ir_event.specs.Step.{Step, Steps}
 use Rattle.ir_event.proofs.Follows.{zip_self, follow_none, all_none, all_told, all_more, all_kept}
-use Rattle.ir_event.proofs.Steps.{step_stays}
+use Rattle.ir_event.proofs.Further.{steps_on}
+use Rattle.ir_event.proofs.Steps.{steps_stay}
 use Rattle.rewriter_desk.specs.Panels.{AllAge, all_shown}
 use Rattle.rewriter_desk.specs.Held.{Held, module_held, shown_of}
 use Rattle.rewriter_desk.specs.Moves.{Edited, Grown}
 use Rattle.rewriter.specs.Benched.{Benched, Heard, IsKept, Led, Made}
 use Rattle.rewriter.specs.Rolling.{Settled}
 use Rattle.rewriter.proofs.Panels.{ages_followed}
-
-pub steps_stay : (c d : Things) (es : List Event) (m n : Module) → Holds c → Grows c d → Steps c es m n → Steps d es m n
-steps_stay c d [] m n h g s = s
-steps_stay c d (e ∷ es) m n h g s = (s.0, step_stays c d e m s.0 h g s.1, steps_stay c d es s.0 n h g s.2)
-
-pub steps_append : (c : Things) (es fs : List Event) (m n p : Module) → Steps c es m n → Steps c fs n p → Steps c (es ++ fs) m p
-steps_append c [] fs m n p h k = subst (λ (q : Module). Steps c fs q p) h k
-steps_append c (e ∷ es) fs m n p h k = (h.0, h.1, steps_append c es fs h.0 n p h.2 k)
 
 module _ {B : Type 0} (meaning : B → Listener) where
   -- a bench leads to itself
@@ -77,7 +70,7 @@ module _ {B : Type 0} (meaning : B → Listener) where
   heard_more es fs a b c holds h k =
       record {
         grows = grows_trans a.desk.ctx b.desk.ctx c.desk.ctx h.grows k.grows;
-        steps = steps_append c.desk.ctx es fs (module_held a.desk) (module_held b.desk) (module_held c.desk) (steps_stay b.desk.ctx c.desk.ctx es (module_held a.desk) (module_held b.desk) holds k.grows h.steps) k.steps;
+        steps = steps_on c.desk.ctx es fs (module_held a.desk) (module_held b.desk) (module_held c.desk) (steps_stay b.desk.ctx c.desk.ctx es (module_held a.desk) (module_held b.desk) holds k.grows h.steps) k.steps;
         told = all_more meaning es fs a.desk.ctx b.desk.ctx c.desk.ctx (module_held a.desk) (module_held b.desk) (module_held c.desk) a.listeners b.listeners c.listeners h.told k.told;
       }
 
@@ -85,7 +78,7 @@ module _ {B : Type 0} (meaning : B → Listener) where
   heard_next es fs a b c same h k =
       record {
         grows = grows_trans a.desk.ctx b.desk.ctx c.desk.ctx h.grows k.grows;
-        steps = steps_append c.desk.ctx es fs (module_held a.desk) (module_held b.desk) (module_held c.desk) (subst (λ (d : Things). Steps d es (module_held a.desk) (module_held b.desk)) (sym same) h.steps) k.steps;
+        steps = steps_on c.desk.ctx es fs (module_held a.desk) (module_held b.desk) (module_held c.desk) (subst (λ (d : Things). Steps d es (module_held a.desk) (module_held b.desk)) (sym same) h.steps) k.steps;
         told = all_more meaning es fs a.desk.ctx b.desk.ctx c.desk.ctx (module_held a.desk) (module_held b.desk) (module_held c.desk) a.listeners b.listeners c.listeners h.told k.told;
       }
 

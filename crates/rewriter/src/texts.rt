@@ -26,8 +26,8 @@ impl<L: Analysis> Bench<L> {
     /// Refusals: as for the reader's call.
     pub fn parse_attr(&mut self, text: &[u8]) -> Result<AttrId, ReadError>
         ensures attr { IfOk result
-            (λ a. IsAttr self.new.desk.ctx a × SpellsAttr text.now (attr_term self.new.desk.ctx a)) }
-        ensures refused { (r : Reason) (o : ℕ) → result ≡ Err (ReadError.Refused r o) → IsNoAttr (SpellsAttr text.now) }
+            (λ a. IsAttr self.new.desk.ctx a × SpellsAttr self.old.desk.ctx.opaque text.now (attr_term self.new.desk.ctx a)) }
+        ensures refused { (r : Reason) (o : ℕ) → result ≡ Err (ReadError.Refused r o) → IsNoAttr (SpellsAttr self.old.desk.ctx.opaque text.now) }
         ensures told { IfErr result (λ e. IsTold text.now e) }
         ensures full { (o : ℕ) → result ≡ Err (ReadError.Full o) → IsFull self.new.desk.ctx }
         ensures grown { Grown self.old.desk self.new.desk }
@@ -45,11 +45,11 @@ impl<L: Analysis> Bench<L> {
     /// Refusals: as for the reader's call.
     pub fn read_op(&mut self, text: &[u8]) -> Result<TreeOp, ReadError>
         ensures read { IfOk result
-            (λ t. SpellsBeside (module_held self.old.desk) text.now (meaning self.new.desk.ctx t)) }
+            (λ t. SpellsBeside self.old.desk.ctx.opaque (module_held self.old.desk) text.now (meaning self.new.desk.ctx t)) }
         ensures sound { IfOk result (λ t. IsSoundIn self.new.desk.ctx t) }
         ensures numbered { IfOk result (λ t. IsNumberedFrom self.old.desk.store.module_of.next t) }
         ensures refused { (r : Reason) (o : ℕ) → result ≡ Err (ReadError.Refused r o)
-            → IsNone (SpellsBeside (module_held self.old.desk) text.now) }
+            → IsNone (SpellsBeside self.old.desk.ctx.opaque (module_held self.old.desk) text.now) }
         ensures told { IfErr result (λ e. IsOpTold text.now e) }
         ensures full { (o : ℕ) → result ≡ Err (ReadError.Full o) → IsFull self.new.desk.ctx }
         ensures grown { Grown self.old.desk self.new.desk }

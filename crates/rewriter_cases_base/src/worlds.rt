@@ -43,7 +43,7 @@ fn next_of(tree: &TreeOp) -> u32 {
 
 /// The world of the module that a text spells, or `BadToken` where it spells none.
 pub fn world_of(alloc: Global, text: &[u8]) -> Result<World, Refusal> {
-    let Ok((ctx, tree)) = read_new(alloc, 7, text) else {
+    let Ok((ctx, tree)) = read_new(alloc, 7, false, text) else {
         return Err(Refusal::BadToken);
     };
     let next = next_of(&tree);
@@ -59,7 +59,7 @@ pub fn world_of(alloc: Global, text: &[u8]) -> Result<World, Refusal> {
 pub fn bench_from<L: Analysis>(alloc: Global, text: &[u8], least: u32) -> Result<Bench<L>, Refusal>
     ensures { IfOk result (λ b. b.listeners ≡ []) }
 {
-    let Ok((ctx, tree)) = read_new(alloc, 7, text) else {
+    let Ok((ctx, tree)) = read_new(alloc, 7, false, text) else {
         return Err(Refusal::BadToken);
     };
     let next = next_of(&tree).max(least);

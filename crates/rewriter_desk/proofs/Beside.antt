@@ -43,11 +43,11 @@ unfolding free_bound
 free_same c t = λ i name. free_named c t (value_named name) i
 
 -- so the text of an operation spells the same
-pub spells_beside : (w : World) (bytes : List ℕ) (o : Operation) → SpellsOp (free_term (λ v. type_of_value v w.store.module_of.tree) w.ctx) w.store.module_of.next bytes o → SpellsBeside (module_in w) bytes o
-spells_beside w bytes o h = subst (λ free. SpellsOp free w.store.module_of.next bytes o) (free_same w.ctx w.store.module_of.tree) h
+pub spells_beside : (w : World) (bytes : List ℕ) (o : Operation) → SpellsOp w.ctx.opaque (free_term (λ v. type_of_value v w.store.module_of.tree) w.ctx) w.store.module_of.next bytes o → SpellsBeside w.ctx.opaque (module_in w) bytes o
+spells_beside w bytes o h = subst (λ free. SpellsOp w.ctx.opaque free w.store.module_of.next bytes o) (free_same w.ctx w.store.module_of.tree) h
 
-pub none_beside : (w : World) (bytes : List ℕ) → IsNone (SpellsOp (free_term (λ v. type_of_value v w.store.module_of.tree) w.ctx) w.store.module_of.next bytes) → IsNone (SpellsBeside (module_in w) bytes)
-none_beside w bytes none o h = none o (subst (λ free. SpellsOp free w.store.module_of.next bytes o) (sym (free_same w.ctx w.store.module_of.tree)) h)
+pub none_beside : (w : World) (bytes : List ℕ) → IsNone (SpellsOp w.ctx.opaque (free_term (λ v. type_of_value v w.store.module_of.tree) w.ctx) w.store.module_of.next bytes) → IsNone (SpellsBeside w.ctx.opaque (module_in w) bytes)
+none_beside w bytes none o h = none o (subst (λ free. SpellsOp w.ctx.opaque free w.store.module_of.next bytes o) (sym (free_same w.ctx w.store.module_of.tree)) h)
 
 -- what a tree stands for is numbered as the tree
 pub numbered_so : (c : Things) (n : ℕ) (t : Op) → IsNumberedFrom n (meaning c t) → IsNumberedFrom n t
@@ -55,9 +55,9 @@ numbered_so c n t e = rw (map_ids (name_term c) (type_term c) (attr_term c) t) a
 
 module _ (w : World) (bytes : List ℕ) (d : Things) where
   abbrev Spelled : Operation → Type 0
-  Spelled = SpellsOp (free_term (λ v. type_of_value v w.store.module_of.tree) w.ctx) w.store.module_of.next bytes
+  Spelled = SpellsOp w.ctx.opaque (free_term (λ v. type_of_value v w.store.module_of.tree) w.ctx) w.store.module_of.next bytes
 
-  pub ok_so : (r : Result Op ReadError) → IfOk r (λ t. IsOnly Spelled d t) → IfOk r (λ t. SpellsBeside (module_in w) bytes (meaning d t))
+  pub ok_so : (r : Result Op ReadError) → IfOk r (λ t. IsOnly Spelled d t) → IfOk r (λ t. SpellsBeside w.ctx.opaque (module_in w) bytes (meaning d t))
   ok_so (Ok t) h = spells_beside w bytes (meaning d t) h.holds
   ok_so (Err e) h = tt
 

@@ -1,5 +1,5 @@
 -- Texts that are read beside a module, in a context that grows.
-use Rattle.std.specs.Prelude.{◌≡◌, ℕ, List, Option, option_map, option_and_then}
+use Rattle.std.specs.Prelude.{◌≡◌, ℕ, Bool, List, Option, option_map, option_and_then}
 use Rattle.ir_event.specs.types.Sound.{Holds}
 use Rattle.ir_event.specs.types.Things.{Grows}
 use Rattle.ir_event.specs.trees.Meaning.{Operation}
@@ -23,6 +23,7 @@ abbrev pub free_in : Operation → List ℕ → Option BoundTerm
 free_in t name =
     option_and_then (λ v. option_map (λ type. record { value = v; type = type }) (type_of_value v t)) (value_named name)
 
--- the operation that a text spells beside a module
-abbrev pub SpellsBeside : Module → List ℕ → Operation → Type 0
-SpellsBeside m bytes o = SpellsOp (free_in m.tree) m.next bytes o
+-- the operation that a text spells beside a module; `opaque` says whether types and attributes that aren't known are
+-- spelled by their texts
+abbrev pub SpellsBeside : Bool → Module → List ℕ → Operation → Type 0
+SpellsBeside opaque m bytes o = SpellsOp opaque (free_in m.tree) m.next bytes o

@@ -22,8 +22,8 @@ use std::alloc::Global;
 ///
 /// Refusals: as for the reader's call.
 pub fn parse_attr(alloc: Global, world: &mut World, text: &[u8]) -> Result<AttrId, ReadError>
-    ensures attr { IfOk result (λ a. IsAttr world.new.ctx a × SpellsAttr text.now (attr_term world.new.ctx a)) }
-    ensures refused { (r : Reason) (o : ℕ) → result ≡ Err (ReadError.Refused r o) → IsNoAttr (SpellsAttr text.now) }
+    ensures attr { IfOk result (λ a. IsAttr world.new.ctx a × SpellsAttr world.old.ctx.opaque text.now (attr_term world.new.ctx a)) }
+    ensures refused { (r : Reason) (o : ℕ) → result ≡ Err (ReadError.Refused r o) → IsNoAttr (SpellsAttr world.old.ctx.opaque text.now) }
     ensures told { IfErr result (λ e. IsTold text.now e) }
     ensures full { (o : ℕ) → result ≡ Err (ReadError.Full o) → IsFull world.new.ctx }
     ensures grown { Grown world.old world.new }
@@ -39,11 +39,11 @@ pub fn parse_attr(alloc: Global, world: &mut World, text: &[u8]) -> Result<AttrI
 ///
 /// Refusals: as for the reader's call.
 pub fn read_op(alloc: Global, world: &mut World, text: &[u8]) -> Result<TreeOp, ReadError>
-    ensures read { IfOk result (λ t. SpellsBeside (module_in world.old) text.now (meaning world.new.ctx t)) }
+    ensures read { IfOk result (λ t. SpellsBeside world.old.ctx.opaque (module_in world.old) text.now (meaning world.new.ctx t)) }
     ensures sound { IfOk result (λ t. IsSoundIn world.new.ctx t) }
     ensures numbered { IfOk result (λ t. IsNumberedFrom world.old.store.module_of.next t) }
     ensures refused { (r : Reason) (o : ℕ) → result ≡ Err (ReadError.Refused r o)
-        → IsNone (SpellsBeside (module_in world.old) text.now) }
+        → IsNone (SpellsBeside world.old.ctx.opaque (module_in world.old) text.now) }
     ensures told { IfErr result (λ e. IsOpTold text.now e) }
     ensures full { (o : ℕ) → result ≡ Err (ReadError.Full o) → IsFull world.new.ctx }
     ensures grown { Grown world.old world.new }

@@ -25,8 +25,8 @@ impl Desk {
     ///
     /// Refusals: as for the reader's call.
     pub fn parse_attr(&mut self, alloc: Global, text: &[u8]) -> Result<AttrId, ReadError>
-        ensures attr { IfOk result (λ a. IsAttr self.new.ctx a × SpellsAttr text.now (attr_term self.new.ctx a)) }
-        ensures refused { (r : Reason) (o : ℕ) → result ≡ Err (ReadError.Refused r o) → IsNoAttr (SpellsAttr text.now) }
+        ensures attr { IfOk result (λ a. IsAttr self.new.ctx a × SpellsAttr self.old.ctx.opaque text.now (attr_term self.new.ctx a)) }
+        ensures refused { (r : Reason) (o : ℕ) → result ≡ Err (ReadError.Refused r o) → IsNoAttr (SpellsAttr self.old.ctx.opaque text.now) }
         ensures told { IfErr result (λ e. IsTold text.now e) }
         ensures full { (o : ℕ) → result ≡ Err (ReadError.Full o) → IsFull self.new.ctx }
         ensures grown { Grown self.old self.new }
@@ -41,11 +41,11 @@ impl Desk {
     ///
     /// Refusals: as for the reader's call.
     pub fn read_op(&mut self, alloc: Global, text: &[u8]) -> Result<TreeOp, ReadError>
-        ensures read { IfOk result (λ t. SpellsBeside (module_held self.old) text.now (meaning self.new.ctx t)) }
+        ensures read { IfOk result (λ t. SpellsBeside self.old.ctx.opaque (module_held self.old) text.now (meaning self.new.ctx t)) }
         ensures sound { IfOk result (λ t. IsSoundIn self.new.ctx t) }
         ensures numbered { IfOk result (λ t. IsNumberedFrom self.old.store.module_of.next t) }
         ensures refused { (r : Reason) (o : ℕ) → result ≡ Err (ReadError.Refused r o)
-            → IsNone (SpellsBeside (module_held self.old) text.now) }
+            → IsNone (SpellsBeside self.old.ctx.opaque (module_held self.old) text.now) }
         ensures told { IfErr result (λ e. IsOpTold text.now e) }
         ensures full { (o : ℕ) → result ≡ Err (ReadError.Full o) → IsFull self.new.ctx }
         ensures grown { Grown self.old self.new }

@@ -30,8 +30,14 @@ pub enum Outcome {
     Limit(u64),
     /// So many rules of a conversion stand.
     Converted(u64),
-    /// A rule was applied so often.
+    /// A rule or a pattern was applied so often.
     Applied(u64),
+    /// A pattern is right for all values up to this width.
+    Holds(u64),
+    /// A pattern applies nowhere up to this width.
+    Empty(u64),
+    /// A pattern is wrong at this width; by which values is shown.
+    Fails(u64),
 }
 
 /// Why a line or a module is refused. The session is as it was.
@@ -73,6 +79,9 @@ fn outcome(answer: &sys::Answer) -> Result<Outcome, Refused> {
         8 => refused(Some(answer.number), None),
         9 => refused(None, Some(answer.number)),
         11 => Ok(Outcome::Applied(answer.number)),
+        12 => Ok(Outcome::Holds(answer.number)),
+        13 => Ok(Outcome::Empty(answer.number)),
+        14 => Ok(Outcome::Fails(answer.number)),
         _ => refused(None, None),
     }
 }
@@ -126,6 +135,9 @@ impl Spot {
     }
 }
 
+/// A call that opens a session.
+type Open = unsafe extern "C" fn(*mut sys::Handle, *const u8, usize, u64, u32, *mut sys::Answer);
+
 /// A module with its marks and its analyses. The pointer in it keeps it on its thread.
 #[derive(Debug)]
 pub struct Session {
@@ -135,14 +147,23 @@ pub struct Session {
 impl Session {
     /// Opens a session on the module that a text spells; `limit` is the most rewrites of a `canon` that says none.
     pub fn open(module: impl AsRef<[u8]>, limit: u32) -> Result<Session, Refused> {
-        let module = module.as_ref();
+        Session::open_by(sys::mlir_work_open, module.as_ref(), limit)
+    }
+
+    /// Opens one in which types and attributes that aren't known are kept as they are spelled, as `mlir_work --opaque`
+    /// does.
+    pub fn open_opaque(module: impl AsRef<[u8]>, limit: u32) -> Result<Session, Refused> {
+        Session::open_by(sys::mlir_work_open_opaque, module.as_ref(), limit)
+    }
+
+    fn open_by(call: Open, module: &[u8], limit: u32) -> Result<Session, Refused> {
         let key = RandomState::new().build_hasher().finish();
         let mut session = Session { held: sys::CLOSED };
         let mut answer = sys::Answer::default();
         // SAFETY: the handle is closed, and the pointer of a slice isn't null.
         unsafe {
             assert_eq!(sys::mlir_work_version(), sys::VERSION, "libmlir_work.a has another version");
-            sys::mlir_work_open(&mut session.held, module.as_ptr(), module.len(), key, limit, &mut answer);
+            call(&mut session.held, module.as_ptr(), module.len(), key, limit, &mut answer);
         }
         outcome(&answer).map(|_| session)
     }
@@ -308,6 +329,15 @@ mod tests {
         let before = session.text("print").unwrap();
         let fault = session.marked(|it| it.erase(3).and_then(|_| it.erase(99))).unwrap_err();
         assert_eq!((fault.refusal, session.text("print").unwrap()), (20, before));
+    }
+
+    #[test]
+    fn texts_are_kept() {
+        let module = "%0 = \"test.a\"() {x = 1.0 : f32} : () -> tensor<4xf32>\n";
+        assert_eq!(Session::open(module, 1000).unwrap_err().refusal, 13);
+        let mut session = Session::open_opaque(module, 1000).unwrap();
+        session.command("set-attr #1 y #d.a<b>").unwrap();
+        assert!(session.text("print").unwrap().contains("{x = 1.0 : f32, y = #d.a<b>} : () -> tensor<4xf32>"));
     }
 
     #[test]

@@ -69,6 +69,14 @@ extern "C" {
         limit: u32,
         answer: *mut Answer,
     );
+    pub fn mlir_work_open_opaque(
+        session: *mut Handle,
+        text: *const u8,
+        text_length: usize,
+        key: u64,
+        limit: u32,
+        answer: *mut Answer,
+    );
     pub fn mlir_work_command(session: *mut Handle, line: *const u8, line_length: usize, answer: *mut Answer);
     pub fn mlir_work_read(session: *mut Handle, from: usize, into: *mut u8, into_length: usize) -> usize;
     pub fn mlir_work_close(session: *mut Handle);

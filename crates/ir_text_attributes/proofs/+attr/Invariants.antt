@@ -33,14 +33,14 @@ decreases-attributes::mark_attr l = 8 * l.depth + 5
 
 abbrev pub invariant-arrays::attrs-items : goal.invariant-arrays::attrs-items
 invariant-arrays::attrs-items l = record {
-  reads : more_at after_typed CloseSquare (λ before. attr_at l.depth) (many - l.counter) l.items.items (l.rest, l.ctx) ≡ attrs_by l.depth (attr_at l.depth) (l.bytes, l.initial.ctx);
+  reads : more_at after_typed CloseSquare (λ before. attr_at l.opaque l.depth) (many - l.counter) l.items.items (l.rest, l.ctx) ≡ attrs_by l.depth (attr_at l.opaque l.depth) (l.bytes, l.initial.ctx);
   grows : Grows l.initial.ctx l.ctx;
   count : length l.items.items ≡ l.counter;
 }
 
 abbrev pub invariant-dictionaries::entries-items : goal.invariant-dictionaries::entries-items
 invariant-dictionaries::entries-items l = record {
-  reads : more_at after_typed CloseCurly (entry_by l.depth (attr_at l.depth)) (256 - l.counter) l.items.items (l.rest, l.ctx) ≡ entries_by l.depth (attr_at l.depth) (l.bytes, l.initial.ctx);
+  reads : more_at after_typed CloseCurly (entry_by l.depth (attr_at l.opaque l.depth)) (256 - l.counter) l.items.items (l.rest, l.ctx) ≡ entries_by l.depth (attr_at l.opaque l.depth) (l.bytes, l.initial.ctx);
   grows : Grows l.initial.ctx l.ctx;
   count : length l.items.items ≡ l.counter;
 }

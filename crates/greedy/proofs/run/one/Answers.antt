@@ -1,4 +1,5 @@
-use Rattle.std.proofs.Common.{◌≡◌, refl, sym, ap, subst, ◌∙◌, true, false}
+use Rattle.std.proofs.Common.{◌≡◌, refl, sym, ap, subst, ◌∙◌, true, false, Some, None}
+use Rattle.std.specs.Prelude.{is_some}
 use Rattle.patterns_base.specs.Rewrites.{none}
 use Rattle.patterns_base.specs.Canonicalization.{first_rule}
 use Rattle.greedy.specs.Outcomes.{Applied, Refuses}
@@ -10,6 +11,9 @@ use Rattle.greedy.proofs.Rootless.{no_rules}
 use Rattle.greedy.proofs.Ruling.{canonical_rules}
 use Rattle.greedy.proofs.Noting.{noted_more}
 use Rattle.greedy.proofs.Scans.{took, took_none, said, said_none, said_refuses, all_none, rewrote}
+use Rattle.greedy.proofs.Traces.{told_as, told_none, told_there}
+use Rattle.greedy.specs.Tracing.{fired, fired_next}
+use Rattle.patterns.specs.Firing.{firing}
 use Rattle.greedy.proofs.run.one.Goals as goal
 
 pub renew-requires-clause-rewritten : goal.renew-requires-clause-rewritten
@@ -18,9 +22,9 @@ renew-requires-clause-rewritten g c =
     let m = g.R.Rewriting.held c.waiting.bench in
     let n = g.R.Rewriting.held c.first.new.self in
     let x = c.in-Some.op in
-    let noted = c.in-Ok-true.ensures.noted (λ e. c.requires.marked (sym c.waiting.invariant.1.0 ∙ e)) in
+    let noted = c.in-Ok-Some.ensures.noted (λ e. c.requires.marked (sym c.waiting.invariant.1.0 ∙ e)) in
     let was : g.R.Rewriting.before c.first.new.self c.journal_len-from.result ≡ m = ap (g.R.Rewriting.before c.first.new.self) c.journal_len-from.ensures ∙ noted.1 in
-    let became = rewrote rs m x c.in-Ok-true.field-0 n c.in-Ok-true.field-0-test c.in-Ok-true.ensures.ok in
+    let became = rewrote rs m x true n refl (subst (λ f. Applied (first_rule rs m x) (is_some f) m n) c.in-Ok-Some.field-0-is c.in-Ok-Some.ensures.ok) in
     let at : Rewritten x c.in-Some-preceding.before m n = record {
       distinct = g.R.Rewriting.distinct m c.is_formed.ensures;
       orderly = first_orderly m (g.R.Rewriting.distinct m c.is_formed.ensures) (g.R.Rewriting.below m c.is_formed.ensures) x rs (canonical_rules c.args.rules.now c.requires.ruled) n became;
@@ -38,7 +42,7 @@ returns-in-Ok-clause-ok g c =
     let h = c.waiting.invariant.0 in
     let r : Right rs w.passed w.again.items m = subst (λ p. Right rs w.passed w.again.items p) (sym h) c.waiting.invariant.1.1.0 in
     subst (λ p. Applied (next_by rs p) true p n) h
-    (said rs m c.in-Some.op w.passed w.again.items v.passed v.again.items r c.in-Some.ensures c.in-Ok-true.field-0 n c.in-Ok-true.field-0-test c.in-Ok-true.ensures.ok)
+    (said rs m c.in-Some.op w.passed w.again.items v.passed v.again.items r c.in-Some.ensures true n refl (subst (λ f. Applied (first_rule rs m c.in-Some.op) (is_some f) m n) c.in-Ok-Some.field-0-is c.in-Ok-Some.ensures.ok))
 
 pub returns-in-Ok-clause-right : goal.returns-in-Ok-clause-right
 returns-in-Ok-clause-right g c done =
@@ -48,7 +52,7 @@ returns-in-Ok-clause-right g c done =
     let v = c.take.new.work in
     let h = c.waiting.invariant.0 in
     let r : Right rs w.passed w.again.items m = subst (λ p. Right rs w.passed w.again.items p) (sym h) c.waiting.invariant.1.1.0 in
-    let noted = c.in-Ok-true.ensures.noted (λ e. c.requires.marked (sym c.waiting.invariant.1.0 ∙ e)) in
+    let noted = c.in-Ok-Some.ensures.noted (λ e. c.requires.marked (sym c.waiting.invariant.1.0 ∙ e)) in
     let was : g.R.Rewriting.before c.first.new.self c.journal_len-from.result ≡ m = ap (g.R.Rewriting.before c.first.new.self) c.journal_len-from.ensures ∙ noted.1 in
     c.in-Ok.ensures.ok rs (canonical_rules c.args.rules.now c.requires.ruled)
     (subst (λ p. CoversBut rs c.in-Some.op v.passed v.again.items p) (sym was) (took rs m c.in-Some.op w.passed w.again.items v.passed v.again.items r c.in-Some.ensures))
@@ -83,8 +87,8 @@ returns-in-Err-renew-clause-onward g c = g.R.Rewriting.through _ _ _ c.waiting.i
 pub returns-in-Err-clause-onward : goal.returns-in-Err-clause-onward
 returns-in-Err-clause-onward g c = g.R.Rewriting.through _ _ _ c.waiting.invariant.1.1.1.0 c.first.ensures.onward
 
-pub waiting-preserved-in-Ok-false : goal.waiting-preserved-in-Ok-false
-waiting-preserved-in-Ok-false g c =
+pub waiting-preserved-in-Ok-None : goal.waiting-preserved-in-Ok-None
+waiting-preserved-in-Ok-None g c =
     let rs = rules_in c.args.rules.now in
     let m = g.R.Rewriting.held c.waiting.bench in
     let n = g.R.Rewriting.held c.first.new.self in
@@ -92,7 +96,7 @@ waiting-preserved-in-Ok-false g c =
     let v = c.take.new.work in
     let h = c.waiting.invariant.0 in
     let r : Right rs w.passed w.again.items m = subst (λ p. Right rs w.passed w.again.items p) (sym h) c.waiting.invariant.1.1.0 in
-    let q = said_none rs m c.in-Some.op w.passed w.again.items v.passed v.again.items r c.in-Some.ensures c.in-Ok-false.field-0 n c.in-Ok-false.field-0-test c.in-Ok-false.ensures.ok in (
+    let q = said_none rs m c.in-Some.op w.passed w.again.items v.passed v.again.items r c.in-Some.ensures false n refl (subst (λ f. Applied (first_rule rs m c.in-Some.op) (is_some f) m n) c.in-Ok-None.field-0-is c.in-Ok-None.ensures.ok) in (
       q.1 ∙ h,
       (
         c.first.ensures.marks ∙ c.waiting.invariant.1.0,
@@ -136,3 +140,29 @@ waiting-preserved g c =
         ),
       ),
     )
+
+pub returns-in-Ok-clause-fired : goal.returns-in-Ok-clause-fired
+returns-in-Ok-clause-fired g c =
+    let rs = rules_in c.args.rules.now in
+    let m = g.R.Rewriting.held c.waiting.bench in
+    let n = g.R.Rewriting.held c.first.new.self in
+    let w = c.waiting.work in
+    let v = c.take.new.work in
+    let x = c.in-Some.op in
+    let h = c.waiting.invariant.0 in
+    let r : Right rs w.passed w.again.items m = subst (λ p. Right rs w.passed w.again.items p) (sym h) c.waiting.invariant.1.1.0 in
+    let became = rewrote rs m x true n refl (subst (λ f. Applied (first_rule rs m x) (is_some f) m n) c.in-Ok-Some.field-0-is c.in-Ok-Some.ensures.ok) in
+    let fires : Some c.in-Ok-Some.rule ≡ firing rs m x = sym c.in-Ok-Some.field-0-is ∙ c.in-Ok-Some.ensures.fired in
+    subst (λ p. Some (record { rule = c.in-Ok-Some.rule; op = x; from = c.next_id-next.result; until = c.next_id.result; stays = c.in_tree.result }) ≡ fired_next rs p) h
+    (told_as c.in-Ok-Some.rule x m n c.next_id-next.result c.next_id.result c.in_tree.result c.next_id-next.ensures c.next_id.ensures c.in_tree.ensures
+    ∙ sym (told_there rs m x w.passed w.again.items v.passed v.again.items r c.in-Some.ensures c.in-Ok-Some.rule n fires became))
+
+pub returns-clause-fired : goal.returns-clause-fired
+returns-clause-fired g c =
+    let rs = rules_in c.args.rules.now in
+    let m = g.R.Rewriting.held c.waiting.bench in
+    let w = c.waiting.work in
+    let h = c.waiting.invariant.0 in
+    let r : Right rs w.passed w.again.items m = subst (λ p. Right rs w.passed w.again.items p) (sym h) c.waiting.invariant.1.1.0 in
+    let e : next_by rs m ≡ none = all_none rs m w.passed w.again.items r c.in_default.ensures in
+    subst (λ p. None ≡ fired_next rs p) h (sym (told_none rs m e))

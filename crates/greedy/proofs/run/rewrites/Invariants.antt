@@ -1,8 +1,10 @@
-use Rattle.std.proofs.Common.{◌≡◌, ◌≤◌, ◌-◌}
+use Rattle.std.proofs.Common.{◌≡◌, ◌≤◌, ◌-◌, ◌++◌, List}
 use Rattle.patterns.specs.runs.Runs.{Noted}
 use Rattle.greedy.specs.Rewriting.{rewritten_from}
 use Rattle.greedy.specs.Ruled.{rules_in}
+use Rattle.greedy.specs.Tracing.{trace_of}
 use Rattle.greedy.specs.Work.{Right}
+use Rattle.greedy.specs.declared.fired.Fired.{Fired}
 use Rattle.greedy.proofs.run.rewrites.Given as goal
 
 abbrev pub invariant-rewrites : goal.invariant-rewrites
@@ -12,7 +14,9 @@ invariant-rewrites g l =
     × ((g.R.Rewriting.marks l.bench ≡ g.R.Rewriting.marks l.fn.bench)
     × (Right (rules_in l.fn.rules) l.work.passed l.work.again.items (g.R.Rewriting.held l.bench)
     × (g.R.Rewriting.onward l.fn.bench l.bench
-    × Noted (g.R.Rewriting.desk l.fn.bench) (g.R.Rewriting.desk l.bench)))))
+    × (Noted (g.R.Rewriting.desk l.fn.bench) (g.R.Rewriting.desk l.bench)
+    × ((done : List Fired) × (g.T.Tracer.traced done l.fn.trace l.trace
+    × (trace_of (rules_in l.fn.rules) l.fn.limit (g.R.Rewriting.held l.fn.bench) ≡ done ++ trace_of (rules_in l.fn.rules) (l.fn.limit - l.count) (g.R.Rewriting.held l.bench)))))))))
 
 abbrev pub decreases-rewrites : goal.decreases-rewrites
 decreases-rewrites g l = l.fn.limit - l.count

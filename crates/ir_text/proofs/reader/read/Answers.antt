@@ -6,7 +6,7 @@ use Rattle.ir_text.proofs.Errors.{refused_so, full_so}
 use Rattle.ir_text.proofs.reader.read.Goals as goal
 
 pub returns-in-Err-clause-refused : goal.returns-in-Err-clause-refused
-returns-in-Err-clause-refused c = refused_so (length c.args.bytes.now) c.in-Err.e c.at.result (IsNone (Spells c.args.bytes.now)) c.in-Err.ensures.refused c.at.ensures.is
+returns-in-Err-clause-refused c = refused_so (length c.args.bytes.now) c.in-Err.e c.at.result (IsNone (Spells c.args.ctx.now.opaque c.args.bytes.now)) c.in-Err.ensures.refused c.at.ensures.is
 
 pub returns-in-Err-clause-full : goal.returns-in-Err-clause-full
 returns-in-Err-clause-full c = full_so (length c.args.bytes.now) c.in-Err.e c.at.result (IsFull c.read.new.ctx) c.in-Err.ensures.full c.at.ensures.is

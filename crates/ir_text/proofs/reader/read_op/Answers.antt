@@ -12,7 +12,7 @@ use Rattle.ir_text.proofs.reader.read_op.Goals as goal
 
 pub returns-in-Err-Text-clause-refused : goal.returns-in-Err-Text-clause-refused
 returns-in-Err-Text-clause-refused g c =
-    refused_so {X = Op} (length c.args.bytes.now) c.in-Err-Text.e c.at.result (IsNone (SpellsOp (free_term (g.O.Outer.types c.args.outer.now) c.args.ctx.now) (g.O.Outer.next c.args.outer.now) c.args.bytes.now))
+    refused_so {X = Op} (length c.args.bytes.now) c.in-Err-Text.e c.at.result (IsNone (SpellsOp c.args.ctx.now.opaque (free_term (g.O.Outer.types c.args.outer.now) c.args.ctx.now) (g.O.Outer.next c.args.outer.now) c.args.bytes.now))
     (λ f k. c.in-Err-Text.ensures.refused f (text_met c.in-Err-Text.field-0 c.in-Err-Text.e (inner.Refused f) c.in-Err-Text.field-0-is k)) c.at.ensures.is
 
 pub returns-in-Err-Text-clause-told : goal.returns-in-Err-Text-clause-told

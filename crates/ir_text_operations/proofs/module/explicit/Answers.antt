@@ -4,7 +4,7 @@ use Rattle.ir_text_operations.proofs.Modules.{not_begun, explicit_whole, explici
 use Rattle.ir_text_operations.proofs.module.explicit.Goals as goal
 
 pub returns-in-Ok-false-clause-ok : goal.returns-in-Ok-false-clause-ok
-returns-in-Ok-false-clause-ok c = not_begun c.args.bytes.now (sym c.in-Ok-false.ensures.ok ∙ c.in-Ok-false.field-0-test)
+returns-in-Ok-false-clause-ok c = not_begun c.args.ctx.now.opaque c.args.bytes.now (sym c.in-Ok-false.ensures.ok ∙ c.in-Ok-false.field-0-test)
 
 pub returns-then-is_whole-clause-ok : goal.returns-then-is_whole-clause-ok
 returns-then-is_whole-clause-ok c =

@@ -1,13 +1,20 @@
-use Rattle.std.proofs.Common.{refl, subst, sym}
+use Rattle.std.proofs.Common.{◌∙◌, inl, refl, subst, sym}
+use Rattle.mlir_work_script.specs.Limits.{most_input_bytes}
 use Rattle.mlir_work_run.specs.Whole.{IsWorldOf}
 use Rattle.mlir_work_held.proofs.opening.open.Goals as goal
 
 pub returns-clause-opened : goal.returns-clause-opened
 returns-clause-opened c = record {
-  world = subst (IsWorldOf c.args.text.now) (sym c.in-Some.ensures.held) c.in-Ok.ensures.world;
+  world = subst (IsWorldOf c.args.opaque c.args.text.now) (sym c.in-Some.ensures.held) c.in-Ok.ensures.world;
+  mode = c.in-Some.ensures.mode ∙ c.in-Ok.ensures.mode;
   unmarked = c.in-Some.ensures.unmarked;
   attached = c.in-Some.ensures.attached;
+  empty = c.new-book.ensures;
   limit_is = refl;
   counted = refl;
   shows = c.new.ensures.items;
 }
+
+pub returns-then-bytes-gt-MAX_INPUT_BYTES-clause-unopened : goal.returns-then-bytes-gt-MAX_INPUT_BYTES-clause-unopened
+unfolding most_input_bytes
+returns-then-bytes-gt-MAX_INPUT_BYTES-clause-unopened c = inl (c.if-bytes-gt-MAX_INPUT_BYTES.true, refl, refl)

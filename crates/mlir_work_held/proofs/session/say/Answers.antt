@@ -1,4 +1,5 @@
-use Rattle.std.proofs.Common.{List, ℕ, subst}
+use Rattle.std.proofs.Common.{List, ℕ, ap, subst, sym}
+use Rattle.mlir_work_run.specs.session.declared.manner.Manner.{Manner}
 use Rattle.mlir_work_held.specs.Stepped.{SteppedBefore}
 use Rattle.mlir_work_held.proofs.Saying.{stepped_alone, stepped_more}
 use Rattle.mlir_work_held.proofs.session.say.Goals as goal
@@ -12,3 +13,6 @@ pub returns-clause-stepped : goal.returns-clause-stepped
 returns-clause-stepped c =
     subst (λ (rest : List ℕ). SteppedBefore rest c.args.session.now c.args.line.now c.refused.result c.leave.new.session) c.split_line.ensures.rest
     (stepped_more _ c.args.session.now c.args.line.now c.refused.result c.leave.new.session _ c.is_empty.ensures c.if-is_empty.false c.refused.ensures c.leave.ensures.left)
+
+pub say_line-requires-clause-mode : goal.say_line-requires-clause-mode
+say_line-requires-clause-mode c = sym (ap (λ (m : Manner). m.opaque) c.way-manner.ensures)

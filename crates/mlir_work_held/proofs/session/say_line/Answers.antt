@@ -14,3 +14,6 @@ returns-in-Obey-clause-said c = subst (λ (spoken : Spoken). Said c.args.manner.
 
 pub returns-in-Ordered-clause-said : goal.returns-in-Ordered-clause-said
 returns-in-Ordered-clause-said c = subst (λ (spoken : Spoken). Said c.args.manner.now c.args.session.now spoken c.obey_line-in-Ordered.result c.obey_line-in-Ordered.new.session) c.in-Ordered.ensures c.obey_line-in-Ordered.ensures.answered
+
+pub returns-in-Booked-clause-said : goal.returns-in-Booked-clause-said
+returns-in-Booked-clause-said c = subst (λ (spoken : Spoken). Said c.args.manner.now c.args.session.now spoken c.obey_line-in-Booked.result c.obey_line-in-Booked.new.session) c.in-Booked.ensures c.obey_line-in-Booked.ensures.answered

@@ -1,6 +1,7 @@
 use Rattle.std.proofs.Common.{◌≡◌, ◌≤◌, ◌+◌, ◌-◌, true}
 use Rattle.mlir_work_lines.specs.Feeding.{waiting}
-use Rattle.mlir_work_session.specs.Benched.{IsKept, state_of}
+use Rattle.mlir_work_session.specs.Benched.{IsKept}
+use Rattle.mlir_work_session.specs.Sittings.{sitting_of}
 use Rattle.mlir_work_run.specs.Whole.{setting_of}
 use Rattle.mlir_work_run.proofs.Lives.{Lived}
 use Rattle.mlir_work_run.proofs.live.answer_lines.Given as goal
@@ -9,10 +10,11 @@ use Rattle.mlir_work_run.proofs.live.answer_lines.Given as goal
 abbrev pub invariant-lines : goal.invariant-lines
 invariant-lines g l = record {
   kept : IsKept g.L.Analysis.meaning l.bench;
+  mode : l.bench.desk.ctx.opaque ≡ l.options.opaque;
   handed : g.W.Sink.handed l.writer ≡ true;
   count : l.n + 8 ≤ l.read;
   failed : (g.R.Source.intake l.reader).failed ≡ (g.R.Source.intake l.initial.reader).failed;
-  lived : Lived (setting_of g.L.Supplied.supply l.options) l.before (state_of g.L.Analysis.meaning l.initial.bench) (waiting l.initial.kept.items (g.R.Source.intake l.initial.reader).remaining) (waiting l.kept.items (g.R.Source.intake l.reader).remaining) l.read l.n (state_of g.L.Analysis.meaning l.bench) l.accepted (g.W.Sink.stream l.initial.writer) (g.W.Sink.stream l.writer);
+  lived : Lived (setting_of g.L.Supplied.supply l.options) l.before (sitting_of g.L.Analysis.meaning l.initial.bench l.initial.book) (waiting l.initial.kept.items (g.R.Source.intake l.initial.reader).remaining) (waiting l.kept.items (g.R.Source.intake l.reader).remaining) l.read l.n (sitting_of g.L.Analysis.meaning l.bench l.book) l.accepted (g.W.Sink.stream l.initial.writer) (g.W.Sink.stream l.writer);
 }
 
 abbrev pub decreases-lines : goal.decreases-lines

@@ -1,5 +1,6 @@
-use Rattle.std.proofs.Common.{◌≡◌, subst}
+use Rattle.std.proofs.Common.{◌≡◌, ◌∙◌, ap, subst}
 use Rattle.std.specs.Prelude.{IfSome}
+use Rattle.ir_event.specs.types.Things.{Things}
 use Rattle.ir_event.specs.Modules.{Module, module_in, module_meaning}
 use Rattle.mlir_work_lines.specs.Feeding.{waiting}
 use Rattle.mlir_work_session.specs.Held.{module_held}
@@ -19,3 +20,6 @@ returns-clause-ended g c =
     let is = c.over-bench.ensures.desk in
     let same : module_held c.over-bench.result.desk ≡ module_in c.args.world = (λ i. module_meaning (is.ctx i) (is.module_of i)) in
     subst (λ (m : Module). IfSome (waiting c.args.kept.now.items (g.R.Source.intake c.args.reader.now).remaining) (λ script. LiveEnded (Live (setting_of g.L.Supplied.supply c.args.options) (all_shown g.L.Analysis.meaning c.args.boxes.items) m c.args.before) (whole_lines script) (g.W.Sink.stream c.args.writer.now) (g.W.Sink.stream c.answer_bench.new.writer) (g.W.Sink.handed c.answer_bench.new.writer) c.answer_bench.result)) same c.answer_bench.ensures.ended
+
+pub answer_bench-requires-clause-mode : goal.answer_bench-requires-clause-mode
+answer_bench-requires-clause-mode g c = ap (λ (d : Things). d.opaque) c.over-bench.ensures.desk.ctx ∙ c.requires.mode

@@ -1,4 +1,4 @@
-use Rattle.std.proofs.Common.{ap}
+use Rattle.std.proofs.Common.{ap, ◌∙◌}
 use Rattle.ir_event.specs.types.Terms.{name_term}
 use Rattle.mlir_work_transforms.specs.rewriter.Commands as command
 use Rattle.mlir_work_transforms.specs.rewriter.Commands.{Ask}
@@ -22,3 +22,9 @@ returns-clause-obeys g c manner =
 
 pub returns-clause-kept : goal.returns-clause-kept
 returns-clause-kept g c = c.led_benches_are_kept.ensures.kept _ _ c.drop_attr.ensures.led (c.name_of.ensures.grown.kept c.requires)
+
+pub returns-in_default-clause-mode : goal.returns-in_default-clause-mode
+returns-in_default-clause-mode g c = c.name_of.ensures.grown.grows.opaque
+
+pub returns-clause-mode : goal.returns-clause-mode
+returns-clause-mode g c = c.drop_attr.ensures.led.1.grows.opaque ∙ c.name_of.ensures.grown.grows.opaque

@@ -17,3 +17,6 @@ returns-clause-obeys g c manner =
 
 pub returns-clause-kept : goal.returns-clause-kept
 returns-clause-kept g c = c.led_benches_are_kept.ensures.kept _ _ c.move_op.ensures.led c.requires
+
+pub returns-clause-mode : goal.returns-clause-mode
+returns-clause-mode g c = c.move_op.ensures.led.1.grows.opaque

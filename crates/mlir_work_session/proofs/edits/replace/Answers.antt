@@ -10,3 +10,6 @@ returns-clause-obeys g c manner = obeys_plain manner _ _ (command.Replace c.args
 
 pub returns-clause-kept : goal.returns-clause-kept
 returns-clause-kept g c = c.led_benches_are_kept.ensures.kept _ _ c.replace_all.ensures.led c.requires
+
+pub returns-clause-mode : goal.returns-clause-mode
+returns-clause-mode g c = c.replace_all.ensures.led.1.grows.opaque

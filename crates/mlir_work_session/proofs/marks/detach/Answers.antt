@@ -1,6 +1,7 @@
-use Rattle.std.proofs.Common.{refl}
+use Rattle.std.proofs.Common.{refl, ap}
 use Rattle.mlir_work_transforms.specs.rewriter.Commands as command
 use Rattle.mlir_work_transforms.specs.rewriter.Machine as call
+use Rattle.mlir_work_transforms.specs.rewriter.Held.{Held}
 use Rattle.mlir_work_session.proofs.Obeying.{obeys_plain}
 use Rattle.mlir_work_session.proofs.marks.detach.Goals as goal
 
@@ -9,3 +10,6 @@ returns-clause-obeys g c manner = obeys_plain manner _ _ (command.Detach c.args.
 
 pub returns-clause-kept : goal.returns-clause-kept
 returns-clause-kept g c = c.detach.ensures.kept c.requires
+
+pub returns-clause-mode : goal.returns-clause-mode
+returns-clause-mode g c = ap (λ (h : Held). h.ctx.opaque) c.detach.ensures.desk

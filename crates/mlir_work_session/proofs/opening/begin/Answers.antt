@@ -1,5 +1,5 @@
-use Rattle.std.proofs.Common.{◌++◌, [], refl}
-use Rattle.mlir_work_transforms.specs.rewriter.Held.{module_held}
+use Rattle.std.proofs.Common.{◌++◌, [], refl, ap}
+use Rattle.mlir_work_transforms.specs.rewriter.Held.{Held, module_held}
 use Rattle.mlir_work_transforms.specs.rewriter.Panels.{all_shown}
 use Rattle.mlir_work_script.proofs.Joins.{front_join, front_more, grows_join}
 use Rattle.mlir_work_session.specs.Output.{end_of}
@@ -39,3 +39,12 @@ returns-in-Err-put_end-clause-begun g c =
       record { panel = all_shown g.L.Analysis.meaning c.attach_all.new.bench.listeners; front = had.0; attached = had.1; state_is = refl; out_is = refl },
       front_join (g.W.Sink.stream c.args.writer.now) (g.W.Sink.stream c.attach_all.new.writer) (g.W.Sink.stream c.put_end.new.writer) had.0 (end_of c.args.ends) had.2 c.in-Err-put_end.ensures,
     )
+
+pub returns-in-Err-clause-mode : goal.returns-in-Err-clause-mode
+returns-in-Err-clause-mode g c = ap (λ (h : Held). h.ctx.opaque) c.attach_all.ensures.desk
+
+pub returns-in-Ok-put_end-clause-mode : goal.returns-in-Ok-put_end-clause-mode
+returns-in-Ok-put_end-clause-mode g c = ap (λ (h : Held). h.ctx.opaque) c.attach_all.ensures.desk
+
+pub returns-in-Err-put_end-clause-mode : goal.returns-in-Err-put_end-clause-mode
+returns-in-Err-put_end-clause-mode g c = ap (λ (h : Held). h.ctx.opaque) c.attach_all.ensures.desk

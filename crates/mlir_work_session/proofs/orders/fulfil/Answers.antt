@@ -1,7 +1,7 @@
-use Rattle.std.proofs.Common.{ap}
+use Rattle.std.proofs.Common.{ap, refl}
 use Rattle.mlir_work_script.specs.Orders.{order_of}
 use Rattle.mlir_work_session.specs.Machine.{response_of, way_of}
-use Rattle.mlir_work_session.proofs.Room.{fulfils_plainly, orders_room_plainly}
+use Rattle.mlir_work_session.proofs.Room.{fulfils_alike, fulfils_plainly, orders_room_plainly}
 use Rattle.mlir_work_session.proofs.orders.fulfil.Goals as goal
 
 pub returns-in-Rewrite-clause-fulfils : goal.returns-in-Rewrite-clause-fulfils
@@ -11,3 +11,9 @@ returns-in-Rewrite-clause-fulfils g c =
 pub returns-in-Rewrite-clause-room : goal.returns-in-Rewrite-clause-room
 returns-in-Rewrite-clause-room g c =
     orders_room_plainly _ (way_of g.L.Supplied.supply c.args.manner.now) _ _ _ _ _ (ap order_of c.in-Rewrite.is) (ap response_of c.plain-in-Rewrite.ensures.reply) c.rewrite.ensures.room
+
+pub returns-in-Trace-clause-fulfils : goal.returns-in-Trace-clause-fulfils
+returns-in-Trace-clause-fulfils g c = fulfils_alike (way_of g.L.Supplied.supply c.args.manner.now) _ _ _ _ _ _ (ap order_of c.in-Trace.is) (c.trace.ensures.fulfils g.L.Supplied.supply)
+
+pub returns-in-Trace-clause-room : goal.returns-in-Trace-clause-room
+returns-in-Trace-clause-room g c = orders_room_plainly _ (way_of g.L.Supplied.supply c.args.manner.now) _ _ _ _ _ (ap order_of c.in-Trace.is) refl c.trace.ensures.room

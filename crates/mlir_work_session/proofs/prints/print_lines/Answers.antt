@@ -2,16 +2,17 @@ use Rattle.std.proofs.Common.{◌++◌, ◌+◌, [], refl, append-nil, append_as
 use Rattle.ir_event.specs.trees.Meaning.{meaning}
 use Rattle.mlir_work_script.specs.Lines.{lines_of}
 use Rattle.mlir_work_script.proofs.Joins.{grows_join, front_within}
-use Rattle.mlir_work_transforms.specs.rewriter.Machine.{State}
 use Rattle.mlir_work_session.specs.Machine.{response_of}
-use Rattle.mlir_work_session.specs.Output.{is_accepted, reply_line, worse}
+use Rattle.mlir_work_book.specs.Replies.{is_accepted}
+use Rattle.mlir_work_book.specs.Told.{reply_line}
+use Rattle.mlir_work_session.specs.Output.{Sitting, opening, worse}
 use Rattle.mlir_work_session.proofs.Printing.{more_print, print_step}
 use Rattle.mlir_work_session.proofs.Runs.{run_skipped, some_runs, worse_both, runs_end, filled, emptied}
 use Rattle.mlir_work_session.proofs.prints.print_lines.Goals as goal
 
 pub returns-in-Err : goal.returns-in-Err
 returns-in-Err g c way next panel unend =
-    let s : State = record { held = record { tree = meaning c.args.ctx.now c.args.tree.now; next = next }; marks = []; panel = panel } in
+    let s : Sitting = opening (record { held = record { tree = meaning c.args.ctx.now c.args.tree.now; next = next }; marks = []; panel = panel }) in
     let front = c.loop-text.invariant.front in
     let reply = c.show_tree-answered.result.reply in
     let shows = c.show_tree-answered.result.shows.items in
@@ -31,7 +32,7 @@ loop-text-preserved-then-is_nothing g c =
       count = (let h = c.split_line.ensures.shorter (filled c.loop-text.text.now _ c.is_empty.ensures c.loop-text-test.true) in omega (arith, h, c.loop-text.invariant.count));
       front = c.loop-text.invariant.front;
       wrote = c.loop-text.invariant.wrote;
-      whole = λ way next panel unend later rest h. c.loop-text.invariant.whole way next panel unend later rest (run_skipped way c.loop-text.n (record { held = record { tree = meaning c.args.ctx.now c.args.tree.now; next = next }; marks = []; panel = panel }) c.loop-text.text.now c.split_line.result.0.now c.split_line.result.1.now later rest cut (sym (rw c.read_line-line.ensures at c.if-is_nothing.ensures)) h);
+      whole = λ way next panel unend later rest h. c.loop-text.invariant.whole way next panel unend later rest (run_skipped way c.loop-text.n (opening (record { held = record { tree = meaning c.args.ctx.now c.args.tree.now; next = next }; marks = []; panel = panel })) c.loop-text.text.now c.split_line.result.0.now c.split_line.result.1.now later rest cut (sym (rw c.read_line-line.ensures at c.if-is_nothing.ensures)) h);
     }
 
 pub loop-text-preserved : goal.loop-text-preserved
@@ -48,16 +49,16 @@ loop-text-preserved g c =
       front = front ++ told;
       wrote = grows_join _ _ _ front told c.loop-text.invariant.wrote c.in-Ok.ensures;
       whole = λ way next panel unend later rest h.
-          let step = print_step way unend c.loop-text.n (record { held = record { tree = meaning c.args.ctx.now c.args.tree.now; next = next }; marks = []; panel = panel }) c.loop-text.text.now c.split_line.result.0.now c.split_line.result.1.now reply shows cut is.0 (rw c.read_line-line.ensures at c.if-is_nothing.ensures) c.show_tree-answered.ensures later rest h in
+          let step = print_step way unend c.loop-text.n (opening (record { held = record { tree = meaning c.args.ctx.now c.args.tree.now; next = next }; marks = []; panel = panel })) c.loop-text.text.now c.split_line.result.0.now c.split_line.result.1.now reply shows cut is.0 (rw c.read_line-line.ensures at c.if-is_nothing.ensures) c.show_tree-answered.ensures later rest h in
           rw (append_assoc, c.both-accepted.ensures, ← worse_both, c.is_accepted.ensures) (c.loop-text.invariant.whole way next panel unend _ (told ++ rest) step);
     }
 
 pub returns-then-accepted : goal.returns-then-accepted
 returns-then-accepted g c way next panel unend =
-    let s : State = record { held = record { tree = meaning c.args.ctx.now c.args.tree.now; next = next }; marks = []; panel = panel } in
+    let s : Sitting = opening (record { held = record { tree = meaning c.args.ctx.now c.args.tree.now; next = next }; marks = []; panel = panel }) in
     (c.loop-text.invariant.front, rw (append-nil, c.if-accepted.true) at (c.loop-text.invariant.whole way next panel unend 0 [] (runs_end way c.loop-text.n s c.loop-text.text.now (emptied c.loop-text.text.now _ c.is_empty.ensures c.loop-text-test.false))), c.loop-text.invariant.wrote)
 
 pub returns-else-accepted : goal.returns-else-accepted
 returns-else-accepted g c way next panel unend =
-    let s : State = record { held = record { tree = meaning c.args.ctx.now c.args.tree.now; next = next }; marks = []; panel = panel } in
+    let s : Sitting = opening (record { held = record { tree = meaning c.args.ctx.now c.args.tree.now; next = next }; marks = []; panel = panel }) in
     (c.loop-text.invariant.front, rw (append-nil, c.if-accepted.false) at (c.loop-text.invariant.whole way next panel unend 0 [] (runs_end way c.loop-text.n s c.loop-text.text.now (emptied c.loop-text.text.now _ c.is_empty.ensures c.loop-text-test.false))), c.loop-text.invariant.wrote)

@@ -2,9 +2,9 @@ use Rattle.std.proofs.Common.{◌++◌, [], Some, refl, sym}
 use Rattle.mlir_work_script.specs.Commands.{line_says, spoken_of}
 use Rattle.mlir_work_script.specs.Expecting.{line_expects}
 use Rattle.mlir_work_script.proofs.Joins.{front_join, front_more, grows_join, grows_none}
-use Rattle.mlir_work_transforms.specs.rewriter.Benched.{state_of}
-use Rattle.mlir_work_session.specs.Machine.{response_of}
+use Rattle.mlir_work_book.specs.Notices.{notice_of}
 use Rattle.mlir_work_session.specs.Output.{Way, end_of, is_right, way_of}
+use Rattle.mlir_work_session.specs.Sittings.{sitting_of}
 use Rattle.mlir_work_session.proofs.Runs.{told_of}
 use Rattle.mlir_work_session.proofs.script.answer_line.Goals as goal
 
@@ -16,10 +16,10 @@ returns-in-Err-clause-answered g c =
     let meaning = g.L.Analysis.meaning in
     let way : Way = way_of g.L.Supplied.supply c.args.manner.now in
     let text = c.in-Err.ensures.0 in
-    let reply = response_of c.answer-answered.result.reply in (
+    let reply = notice_of c.answer-answered.result.notice in (
       Some (is_right (line_expects c.args.line.now) reply),
       text ++ end_of way.manner.ends,
-      told_of way c.args.n (state_of meaning c.args.bench.now) (line_expects c.args.line.now) (spoken_of c.read_line-line.result) (line_says c.args.line.now) reply c.answer-answered.result.shows.items (state_of meaning c.answer-answered.new.bench) text (is_right (line_expects c.args.line.now) reply)
+      told_of way c.args.n (sitting_of meaning c.args.bench.now c.args.book.now) (line_expects c.args.line.now) (spoken_of c.read_line-line.result) (line_says c.args.line.now) reply c.answer-answered.result.shows.items (sitting_of meaning c.answer-answered.new.bench c.answer-answered.new.book) text (is_right (line_expects c.args.line.now) reply)
           c.read_line-line.ensures c.if-is_nothing.ensures c.answer-answered.ensures.replies (rw (c.is_listed-listed.ensures, c.expected_of-expected.ensures) at c.in-Err.ensures.1) c.answer-answered.ensures.bounded refl,
       front_more (g.W.Sink.stream c.args.writer.now) (g.W.Sink.stream c.put_answer.new.writer) text (end_of way.manner.ends) c.in-Err.ensures.2,
     )
@@ -29,9 +29,9 @@ returns-in-Ok-put_end-clause-answered g c =
     let meaning = g.L.Analysis.meaning in
     let way : Way = way_of g.L.Supplied.supply c.args.manner.now in
     let text = c.in-Ok.ensures.0 in
-    let reply = response_of c.answer-answered.result.reply in (
+    let reply = notice_of c.answer-answered.result.notice in (
       text ++ end_of way.manner.ends,
-      told_of way c.args.n (state_of meaning c.args.bench.now) (line_expects c.args.line.now) (spoken_of c.read_line-line.result) (line_says c.args.line.now) reply c.answer-answered.result.shows.items (state_of meaning c.answer-answered.new.bench) text _
+      told_of way c.args.n (sitting_of meaning c.args.bench.now c.args.book.now) (line_expects c.args.line.now) (spoken_of c.read_line-line.result) (line_says c.args.line.now) reply c.answer-answered.result.shows.items (sitting_of meaning c.answer-answered.new.bench c.answer-answered.new.book) text _
           c.read_line-line.ensures c.if-is_nothing.ensures c.answer-answered.ensures.replies (rw (c.is_listed-listed.ensures, c.expected_of-expected.ensures) at c.in-Ok.ensures.1) c.answer-answered.ensures.bounded (rw c.expected_of-expected.ensures at c.is_right.ensures),
       grows_join (g.W.Sink.stream c.args.writer.now) (g.W.Sink.stream c.put_answer.new.writer) (g.W.Sink.stream c.put_end.new.writer) text (end_of way.manner.ends) c.in-Ok.ensures.2 c.in-Ok-put_end.ensures,
     )
@@ -41,10 +41,10 @@ returns-clause-answered g c =
     let meaning = g.L.Analysis.meaning in
     let way : Way = way_of g.L.Supplied.supply c.args.manner.now in
     let text = c.in-Ok.ensures.0 in
-    let reply = response_of c.answer-answered.result.reply in (
+    let reply = notice_of c.answer-answered.result.notice in (
       Some (is_right (line_expects c.args.line.now) reply),
       text ++ end_of way.manner.ends,
-      told_of way c.args.n (state_of meaning c.args.bench.now) (line_expects c.args.line.now) (spoken_of c.read_line-line.result) (line_says c.args.line.now) reply c.answer-answered.result.shows.items (state_of meaning c.answer-answered.new.bench) text (is_right (line_expects c.args.line.now) reply)
+      told_of way c.args.n (sitting_of meaning c.args.bench.now c.args.book.now) (line_expects c.args.line.now) (spoken_of c.read_line-line.result) (line_says c.args.line.now) reply c.answer-answered.result.shows.items (sitting_of meaning c.answer-answered.new.bench c.answer-answered.new.book) text (is_right (line_expects c.args.line.now) reply)
           c.read_line-line.ensures c.if-is_nothing.ensures c.answer-answered.ensures.replies (rw (c.is_listed-listed.ensures, c.expected_of-expected.ensures) at c.in-Ok.ensures.1) c.answer-answered.ensures.bounded refl,
       front_join (g.W.Sink.stream c.args.writer.now) (g.W.Sink.stream c.put_answer.new.writer) (g.W.Sink.stream c.put_end.new.writer) text (end_of way.manner.ends) c.in-Ok.ensures.2 c.in-Err-put_end.ensures,
     )

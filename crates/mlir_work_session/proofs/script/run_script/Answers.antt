@@ -1,7 +1,7 @@
-use Rattle.std.proofs.Common.{◌++◌, [], refl, append-nil, append_assoc, arith}
+use Rattle.std.proofs.Common.{◌++◌, [], refl, append-nil, append_assoc, arith, ◌∙◌}
 use Rattle.mlir_work_script.specs.Lines.{lines_of}
 use Rattle.mlir_work_session.specs.Output.{Way, number_behind, way_of, worse}
-use Rattle.mlir_work_transforms.specs.rewriter.Benched.{state_of}
+use Rattle.mlir_work_session.specs.Sittings.{sitting_of}
 use Rattle.mlir_work_script.proofs.Joins.{grows_join, front_within}
 use Rattle.mlir_work_session.proofs.Runs.{one_number, run_answered, some_runs, status_before, worse_behind, runs_end, filled, emptied}
 use Rattle.mlir_work_session.proofs.script.run_script.Goals as goal
@@ -13,8 +13,8 @@ returns-in-Err g c =
     let front = c.loop-text.invariant.front in
     let told = c.in-Err.ensures.answered.0 in
     let out = c.in-Err.ensures.answered.1 in
-    let rest = some_runs way (lines_of c.split_line.result.1.now) (number_behind c.loop-text.n told) (state_of meaning c.answer_line.new.bench) in
-    let step = run_answered way c.loop-text.n (state_of meaning c.loop-text.bench) c.loop-text.text.now c.split_line.result.0.now c.split_line.result.1.now (state_of meaning c.answer_line.new.bench) told out
+    let rest = some_runs way (lines_of c.split_line.result.1.now) (number_behind c.loop-text.n told) (sitting_of meaning c.answer_line.new.bench c.answer_line.new.book) in
+    let step = run_answered way c.loop-text.n (sitting_of meaning c.loop-text.bench c.loop-text.book) c.loop-text.text.now c.split_line.result.0.now c.split_line.result.1.now (sitting_of meaning c.answer_line.new.bench c.answer_line.new.book) told out
     (c.split_line.ensures.lines (filled c.loop-text.text.now _ c.is_empty.ensures c.loop-text-test.true)) c.in-Err.ensures.answered.2 rest.0 rest.1 rest.2 in
     (worse c.loop-text.accepted (status_before told rest.0), front ++ (out ++ rest.1), c.loop-text.invariant.whole _ (out ++ rest.1) step, front_within _ _ _ _ front out rest.1 refl c.loop-text.invariant.wrote c.in-Err.ensures.answered.3)
 
@@ -24,10 +24,11 @@ loop-text-preserved g c =
     let way : Way = way_of g.L.Supplied.supply c.args.manner.now in
     let front = c.loop-text.invariant.front in
     let out = c.in-Ok.ensures.answered.0 in
-    let step = run_answered way c.loop-text.n (state_of meaning c.loop-text.bench) c.loop-text.text.now c.split_line.result.0.now c.split_line.result.1.now (state_of meaning c.answer_line.new.bench) c.in-Ok.told out
+    let step = run_answered way c.loop-text.n (sitting_of meaning c.loop-text.bench c.loop-text.book) c.loop-text.text.now c.split_line.result.0.now c.split_line.result.1.now (sitting_of meaning c.answer_line.new.bench c.answer_line.new.book) c.in-Ok.told out
     (c.split_line.ensures.lines (filled c.loop-text.text.now _ c.is_empty.ensures c.loop-text-test.true)) c.in-Ok.ensures.answered.1 in
     record {
       kept = c.answer_line.ensures.kept;
+      mode = c.answer_line.ensures.mode ∙ c.loop-text.invariant.mode;
       count = (let h = c.split_line.ensures.shorter (filled c.loop-text.text.now _ c.is_empty.ensures c.loop-text-test.true) in let had = c.loop-text.invariant.count in let next = c.number_behind-n.ensures in let one = one_number c.loop-text.n c.in-Ok.told in omega (arith, h, had, next, one));
       front = front ++ out;
       wrote = grows_join _ _ _ front out c.loop-text.invariant.wrote c.in-Ok.ensures.answered.2;
@@ -37,9 +38,9 @@ loop-text-preserved g c =
 pub returns-then-accepted : goal.returns-then-accepted
 returns-then-accepted g c =
     let front = c.loop-text.invariant.front in
-    (front, rw (append-nil, c.if-accepted.true) at (c.loop-text.invariant.whole 0 [] (runs_end (way_of g.L.Supplied.supply c.args.manner.now) c.loop-text.n (state_of g.L.Analysis.meaning c.loop-text.bench) c.loop-text.text.now (emptied c.loop-text.text.now _ c.is_empty.ensures c.loop-text-test.false))), c.loop-text.invariant.wrote)
+    (front, rw (append-nil, c.if-accepted.true) at (c.loop-text.invariant.whole 0 [] (runs_end (way_of g.L.Supplied.supply c.args.manner.now) c.loop-text.n (sitting_of g.L.Analysis.meaning c.loop-text.bench c.loop-text.book) c.loop-text.text.now (emptied c.loop-text.text.now _ c.is_empty.ensures c.loop-text-test.false))), c.loop-text.invariant.wrote)
 
 pub returns-else-accepted : goal.returns-else-accepted
 returns-else-accepted g c =
     let front = c.loop-text.invariant.front in
-    (front, rw (append-nil, c.if-accepted.false) at (c.loop-text.invariant.whole 0 [] (runs_end (way_of g.L.Supplied.supply c.args.manner.now) c.loop-text.n (state_of g.L.Analysis.meaning c.loop-text.bench) c.loop-text.text.now (emptied c.loop-text.text.now _ c.is_empty.ensures c.loop-text-test.false))), c.loop-text.invariant.wrote)
+    (front, rw (append-nil, c.if-accepted.false) at (c.loop-text.invariant.whole 0 [] (runs_end (way_of g.L.Supplied.supply c.args.manner.now) c.loop-text.n (sitting_of g.L.Analysis.meaning c.loop-text.bench c.loop-text.book) c.loop-text.text.now (emptied c.loop-text.text.now _ c.is_empty.ensures c.loop-text-test.false))), c.loop-text.invariant.wrote)

@@ -1,6 +1,7 @@
-use Rattle.std.proofs.Common.{◌≡◌, inl, inr, refl, subst}
+use Rattle.std.proofs.Common.{◌≡◌, inl, inr, refl, subst, ◌∙◌, ap}
 use Rattle.mlir_work_transforms.specs.rewriter.Held.{module_held}
 use Rattle.std.specs.Prelude.{length}
+use Rattle.ir_event.specs.types.Things.{Things}
 use Rattle.ir_event.specs.Modules.{Module, module_in, module_meaning}
 use Rattle.mlir_work_transforms.specs.rewriter.Panels.{all_shown}
 use Rattle.mlir_work_session.specs.Machine.{way_of}
@@ -24,3 +25,6 @@ attach_and_run-requires-clause-unmarked g c = c.over-bench.ensures.desk.opens
 
 pub attach_and_run-requires-clause-none : goal.attach_and_run-requires-clause-none
 attach_and_run-requires-clause-none g c = c.over-bench.ensures.listeners
+
+pub attach_and_run-requires-clause-mode : goal.attach_and_run-requires-clause-mode
+attach_and_run-requires-clause-mode g c = ap (λ (d : Things). d.opaque) c.over-bench.ensures.desk.ctx ∙ c.requires.mode

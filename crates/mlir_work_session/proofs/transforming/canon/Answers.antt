@@ -15,3 +15,6 @@ returns-clause-kept g c = c.led_benches_are_kept.ensures.kept _ _ c.canonicalize
 
 pub returns-clause-room : goal.returns-clause-room
 returns-clause-room g c = canon_room _ _ _ _ _ _ _ (λ more. inr more) c.limit_of.ensures c.reply_canonical.ensures c.canonicalize.ensures.refused
+
+pub returns-clause-mode : goal.returns-clause-mode
+returns-clause-mode g c = c.canonicalize.ensures.grows.opaque

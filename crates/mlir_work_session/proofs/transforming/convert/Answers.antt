@@ -22,3 +22,6 @@ returns-clause-room g c =
     let target = target_of c.args.full (clauses_of c.args.clauses.now) in
     let before = state_of g.L.Analysis.meaning c.args.bench.now in
     replied _ before (conversion target) _ _ c.reply_converted.ensures (convert_full (command_aim target) before _ _ c.convert.result c.convert.ensures.converts)
+
+pub returns-clause-mode : goal.returns-clause-mode
+returns-clause-mode g c = c.convert.ensures.grows.opaque

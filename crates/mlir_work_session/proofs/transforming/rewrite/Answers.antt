@@ -36,3 +36,6 @@ returns-clause-room g c f is =
 
 pub returns-clause-kept : goal.returns-clause-kept
 returns-clause-kept g c = c.led_benches_are_kept.ensures.kept _ _ c.rewrite.ensures.led c.requires
+
+pub returns-clause-mode : goal.returns-clause-mode
+returns-clause-mode g c = c.rewrite.ensures.grows.opaque

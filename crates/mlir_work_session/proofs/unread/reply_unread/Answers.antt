@@ -4,13 +4,13 @@ use Rattle.mlir_work_session.proofs.Reading.{unread_memory, unread_memory_op}
 use Rattle.mlir_work_session.proofs.unread.reply_unread.Goals as goal
 
 pub returns-in-Memory-clause-attr : goal.returns-in-Memory-clause-attr
-returns-in-Memory-clause-attr c text told none = unread_memory c.args.bytes (SpellsAttr text)
+returns-in-Memory-clause-attr c opaque text told none = unread_memory c.args.bytes (SpellsAttr opaque text)
 
 pub returns-in-Memory-clause-op : goal.returns-in-Memory-clause-op
-returns-in-Memory-clause-op c m text told none = unread_memory_op c.args.bytes (SpellsBeside m text)
+returns-in-Memory-clause-op c opaque m text told none = unread_memory_op c.args.bytes (SpellsBeside opaque m text)
 
 pub returns-in-Full-clause-attr : goal.returns-in-Full-clause-attr
-returns-in-Full-clause-attr c text told none = c.full_at.ensures.attr text
+returns-in-Full-clause-attr c opaque text told none = c.full_at.ensures.attr opaque text
 
 pub returns-in-Full-clause-op : goal.returns-in-Full-clause-op
-returns-in-Full-clause-op c m text told none = c.full_at.ensures.op m text
+returns-in-Full-clause-op c opaque m text told none = c.full_at.ensures.op opaque m text

@@ -24,20 +24,20 @@ first_made-requires-clause-clean c = sym c.in_ok-is_clean_shown.ensures ∙ c.if
 
 pub returns-in_default-likely : goal.returns-in_default-likely
 returns-in_default-likely c =
-    (row_suffices c.only_listed_rules_apply.ensures.lowest (module_in c.args.world.now) c.args.op (head_in c.args.world.now.ctx c.in-Some.node) c.in-Some.ensures.node c.rules_of-listed.result.now
+    (row_suffices c.only_listed_rules_apply.ensures.applies (module_in c.args.world.now) c.args.op (head_in c.args.world.now.ctx c.in-Some.node) c.in-Some.ensures.node c.rules_of-listed.result.now
     (c.rules_of-listed.ensures c.args.world.now.ctx c.sound.ensures ∙ ap (λ n. rules_for (name_term c.args.world.now.ctx n)) c.name.ensures))
     ∙ c.in_default-likely.ensures.likely
 
 pub returns-in-None : goal.returns-in-None
 returns-in-None c =
     none_first_lowest c.args.world.now c.args.op c.in-Some-front.front c.in-Some-likely.rules.now
-    ((row_suffices c.only_listed_rules_apply.ensures.lowest (module_in c.args.world.now) c.args.op (head_in c.args.world.now.ctx c.in-Some.node) c.in-Some.ensures.node c.rules_of-listed.result.now
+    ((row_suffices c.only_listed_rules_apply.ensures.applies (module_in c.args.world.now) c.args.op (head_in c.args.world.now.ctx c.in-Some.node) c.in-Some.ensures.node c.rules_of-listed.result.now
     (c.rules_of-listed.ensures c.args.world.now.ctx c.sound.ensures ∙ ap (λ n. rules_for (name_term c.args.world.now.ctx n)) c.name.ensures)) ∙ c.in-Some-likely.ensures.likely)
     _ c.in_ok-rule.ensures c.in-None.is
 
 pub returns-in-Some-2 : goal.returns-in-Some-2
 returns-in-Some-2 c =
     first_lowest c.args.world.now c.args.op c.in-Some-front.front c.in-Some-likely.rules.now
-    ((row_suffices c.only_listed_rules_apply.ensures.lowest (module_in c.args.world.now) c.args.op (head_in c.args.world.now.ctx c.in-Some.node) c.in-Some.ensures.node c.rules_of-listed.result.now
+    ((row_suffices c.only_listed_rules_apply.ensures.applies (module_in c.args.world.now) c.args.op (head_in c.args.world.now.ctx c.in-Some.node) c.in-Some.ensures.node c.rules_of-listed.result.now
     (c.rules_of-listed.ensures c.args.world.now.ctx c.sound.ensures ∙ ap (λ n. rules_for (name_term c.args.world.now.ctx n)) c.name.ensures)) ∙ c.in-Some-likely.ensures.likely)
     _ c.in-Some-2.rule c.in-Some-2.made c.in_ok-rule.ensures c.in-Some-2.is

@@ -2,7 +2,7 @@ use Rattle.std.proofs.Common.{◌∙◌, ◌-◌, ap, sym, subst, refl, List, So
 use Rattle.std.specs.Prelude.{IfOk}
 use Rattle.ir_event.specs.Modules.{module_in}
 use Rattle.ir_event.proofs.of_types.Truths.{none_left, rest_at}
-use Rattle.patterns_facts.specs.base.Canonicalization.{first_rule}
+use Rattle.patterns.specs.Firing.{firing}
 use Rattle.patterns_facts.specs.base.declared.rule.Rule.{Rule}
 use Rattle.patterns_facts.specs.base.declared.rule.Rule.TheVariants.{EraseDead}
 use Rattle.patterns.specs.Lowest.{BeginsLikely, IsFirst, TriedFirst, greedy}
@@ -19,7 +19,7 @@ abbrev others : List Rule → List Rule
 others xs = take (length xs - 1) (drop 1 xs)
 
 pub returns-in_default : goal.returns-in_default
-returns-in_default c = ap (λ z. first_rule (greedy z) (module_in c.args.world.now) c.args.op) (none_left c.args.rules.now c.in_default.len_below) ∙ none_first (module_in c.args.world.now) c.args.op
+returns-in_default c = ap (λ z. firing (greedy z) (module_in c.args.world.now) c.args.op) (none_left c.args.rules.now c.in_default.len_below) ∙ none_first (module_in c.args.world.now) c.args.op
 
 pub try_likely-requires-clause-likely : goal.try_likely-requires-clause-likely
 try_likely-requires-clause-likely c =

@@ -1,4 +1,4 @@
-use Rattle.std.proofs.Common.{◌∙◌, refl, inl, subst}
+use Rattle.std.proofs.Common.{◌∙◌, refl, inl, subst, sym}
 use Rattle.patterns_facts.specs.base.Canonicalization.{lowest}
 use Rattle.patterns_lowering.specs.runs.Held.{module_held}
 use Rattle.patterns.specs.Lowest.{IsLowest}
@@ -6,7 +6,7 @@ use Rattle.patterns.specs.Planned.{planned_edits}
 use Rattle.patterns_lowering.proofs.of_runs.Journals.{recorded_none}
 use Rattle.patterns.proofs.Applying.{gave, is_there, not_there, stopped}
 use Rattle.patterns.proofs.Carrying.{applied_none, journaled_none}
-use Rattle.patterns.proofs.Lowering.{none_held, fits_held, free_held, rule_held, lowest_due}
+use Rattle.patterns.proofs.Lowering.{none_fired, none_held, fired_held, fits_held, free_held, rule_held, lowest_due}
 use Rattle.patterns.proofs.lowest.lowest.Goals as goal
 
 pub returns-then-not-in_tree-clause-refused : goal.returns-then-not-in_tree-clause-refused
@@ -72,3 +72,9 @@ returns-in-Ok-carry_plan-clause-there g c gone = absurd (is_there c.world-world.
 
 pub returns-in-Err-clause-there : goal.returns-in-Err-clause-there
 returns-in-Err-clause-there g c gone = absurd (is_there c.world-world.result.now c.args.bench.now.desk c.world-world.ensures.ctx c.world-world.ensures.store c.args.op c.in_tree.result c.in_tree.ensures c.if-not-in_tree.false gone)
+
+pub returns-in_default-lowest-clause-fired : goal.returns-in_default-lowest-clause-fired
+returns-in_default-lowest-clause-fired g c = sym (none_fired c.world-world.result.now c.args.bench.now.desk c.world-world.ensures.ctx c.world-world.ensures.store c.args.op (subst (IsLowest c.world-world.result.now c.args.op) c.in_default-lowest.is c.in-Ok.ensures))
+
+pub returns-in-Ok-carry_plan-clause-fired : goal.returns-in-Ok-carry_plan-clause-fired
+returns-in-Ok-carry_plan-clause-fired g c = sym (fired_held c.world-world.result.now c.args.bench.now.desk c.world-world.ensures.ctx c.world-world.ensures.store c.args.op c.in-Some.found (subst (IsLowest c.world-world.result.now c.args.op) c.in-Some.is c.in-Ok.ensures))

@@ -4,30 +4,42 @@ use Rattle.constants.proofs.Told.{followed_facts, followed_looks}
 use Rattle.constants.specs.Tables.{known_in}
 use Rattle.constants.proofs.constants.ConstantsAnalysis.told.Goals as goal
 
-pub returns-else-not-follow-clause-told : goal.returns-else-not-follow-clause-told
-returns-else-not-follow-clause-told c =
+pub returns-else-not-follow-clause-heard : goal.returns-else-not-follow-clause-heard
+returns-else-not-follow-clause-heard c =
     let w = c.args.view.world.now in
     let yes : c.follow.result ≡ true = search rules in
     record {
-      same = record { kind = refl; analysis = λ t. refl; most = λ e m n. refl };
-      agrees = λ m step shows held. inl (held.0, (step.after.distinct, followed_facts w.ctx m (module_in w) (c.follow.result ≡ true) (known_in c.args.self.now.table) (known_in c.follow.new.table) c.args.event step c.follow.ensures.followed yes held.1.1));
-      stale = λ h. h;
-      heard = inl refl;
+      told = record {
+        same = record { kind = refl; analysis = λ t. refl; most = λ e m n. refl };
+        agrees = λ m step shows held. inl (held.0, (step.after.distinct, followed_facts w.ctx m (module_in w) (c.follow.result ≡ true) (known_in c.args.self.now.table) (known_in c.follow.new.table) c.args.event step c.follow.ensures.followed yes held.1.1));
+        stale = λ h. h;
+        heard = inl refl;
+      };
+      looks = λ m step shows held. elim held [
+        | inl agreed ↦ followed_looks w.ctx m (module_in w) (known_in c.args.self.now.table) c.args.view.looks c.follow.new.view.looks c.args.event step agreed.1.1 c.follow.ensures.looks
+        | inr stale ↦ absurd (true≢false (sym stale ∙ c.if-self.false))
+      ];
+      world = c.follow.ensures.world;
     }
-
-pub returns-else-not-follow-clause-looks : goal.returns-else-not-follow-clause-looks
-returns-else-not-follow-clause-looks c m step shows (inl held) =
-    let w = c.args.view.world.now in
-    followed_looks w.ctx m (module_in w) (known_in c.args.self.now.table) c.args.view.looks c.follow.new.view.looks c.args.event step held.1.1 c.follow.ensures.looks
-returns-else-not-follow-clause-looks c m step shows (inr stale) = absurd (true≢false (sym stale ∙ c.if-self.false))
 
 pub returns-else-not-follow-clause-grown : goal.returns-else-not-follow-clause-grown
 returns-else-not-follow-clause-grown c m grown step held =
     let w = c.args.view.world.now in
     (held.0, (step.after.distinct, followed_facts w.ctx m (module_in w) (c.follow.result ≡ true) (known_in c.args.self.now.table) (known_in c.follow.new.table) c.args.event step c.follow.ensures.followed (c.follow.ensures.grown grown) held.1.1))
 
-pub returns-then-not-follow-clause-looks : goal.returns-then-not-follow-clause-looks
-returns-then-not-follow-clause-looks c m step shows (inl held) =
+pub returns-then-not-follow-clause-heard : goal.returns-then-not-follow-clause-heard
+returns-then-not-follow-clause-heard c =
     let w = c.args.view.world.now in
-    followed_looks w.ctx m (module_in w) (known_in c.args.self.now.table) c.args.view.looks c.follow.new.view.looks c.args.event step held.1.1 c.follow.ensures.looks
-returns-then-not-follow-clause-looks c m step shows (inr stale) = absurd (true≢false (sym stale ∙ c.if-self.false))
+    record {
+      told = record {
+        same = record { kind = refl; analysis = λ t. refl; most = λ e m n. refl };
+        agrees = λ m step shows held. inr refl;
+        stale = λ h. refl;
+        heard = inl refl;
+      };
+      looks = λ m step shows held. elim held [
+        | inl agreed ↦ followed_looks w.ctx m (module_in w) (known_in c.args.self.now.table) c.args.view.looks c.follow.new.view.looks c.args.event step agreed.1.1 c.follow.ensures.looks
+        | inr stale ↦ absurd (true≢false (sym stale ∙ c.if-self.false))
+      ];
+      world = c.follow.ensures.world;
+    }

@@ -23,7 +23,7 @@ invariant_of-self-2 c =
     let fine = checked_ok (attr_fault (attr_node_term c.args.self.now c.args.node)) (attr_depth (attr_node_term c.args.self.now c.args.node)) c.in_ok-depth.depth c.in_ok-depth.ensures in
     let kept_is = checked_ok (dictionary_reason (length c.args.self.now.attrs) c.args.node) (kept c.args.self.now.names c.args.node) c.in_ok-kept.kept c.in_ok-kept.ensures.reason in
     let same : c.in_ok-kept.kept ≡ kept (map (λ v. v.items) c.self.inside.names.keys) c.args.node = kept_is.1 ∙ ap (λ ns. kept ns c.args.node) names in
-    kept_with_attr (map (λ v. v.items) c.self.inside.names.keys) c.self.inside.types.entries c.self.inside.attrs.entries c.intern_attr.new.attrs.entries c.args.node c.in_ok-depth.depth c.self.invariant
+    kept_with_attr c.self.inside.opaque (map (λ v. v.items) c.self.inside.names.keys) c.self.inside.types.entries c.self.inside.attrs.entries c.intern_attr.new.attrs.entries c.args.node c.in_ok-depth.depth c.self.invariant
     (subst (λ k. keys_of c.intern_attr.new.attrs.entries ≡ with_last (same_attr k) k (keys_of c.self.inside.attrs.entries)) same c.in_ok-place.ensures.attrs)
     (subst (λ k. (c.intern_attr.new.attrs.entries ≡ c.self.inside.attrs.entries) ⊎ (c.intern_attr.new.attrs.entries ≡ c.self.inside.attrs.entries ++ (k, c.in_ok-depth.depth) ∷ [])) same c.in_ok-place.ensures.entries)
     c.intern_attr.ensures.within
@@ -37,7 +37,7 @@ returns-clause-ok c =
     let names : c.args.self.now.names ≡ map (λ v. v.items) c.self.inside.names.keys = ap (λ (d : Things). d.names) (sym c.self.view_is) in
     let kept_is = checked_ok (dictionary_reason (length c.args.self.now.attrs) c.args.node) (kept c.args.self.now.names c.args.node) c.in_ok-kept.kept c.in_ok-kept.ensures.reason in
     let same : c.in_ok-kept.kept ≡ kept (map (λ v. v.items) c.self.inside.names.keys) c.args.node = kept_is.1 ∙ ap (λ ns. kept ns c.args.node) names in
-    rw (← c.self.view_is) (attr_call (map (λ v. v.items) c.self.inside.names.keys) c.self.inside.types.entries c.self.inside.attrs.entries c.intern_attr.new.attrs.entries c.args.node c.new.result
+    rw (← c.self.view_is) (attr_call c.self.inside.opaque (map (λ v. v.items) c.self.inside.names.keys) c.self.inside.types.entries c.self.inside.attrs.entries c.intern_attr.new.attrs.entries c.args.node c.new.result
     (c.new.ensures ∙ c.in_ok-place.ensures.place ∙ ap (λ k. position_or_len (same_attr k) (keys_of c.self.inside.attrs.entries)) same)
     (subst (λ k. keys_of c.intern_attr.new.attrs.entries ≡ with_last (same_attr k) k (keys_of c.self.inside.attrs.entries)) same c.in_ok-place.ensures.attrs))
 
@@ -105,7 +105,7 @@ pub returns-in_err-place-clause-ok : goal.returns-in_err-place-clause-ok
 returns-in_err-place-clause-ok c = not_ok AttrId _ c.from_residual-in_err-place.result c.in_err-place.field-0.0 c.from_residual-in_err-place.ensures.1
 
 pub returns-in_err-place-clause-grows : goal.returns-in_err-place-clause-grows
-returns-in_err-place-clause-grows c = subst (Grows c.args.self.now) (sym (ap (λ es. things_of (map (λ v. v.items) c.self.inside.names.keys) c.self.inside.types.entries es) c.in_err-place.ensures.err ∙ c.self.view_is)) (grows_refl c.args.self.now)
+returns-in_err-place-clause-grows c = subst (Grows c.args.self.now) (sym (ap (λ es. things_of c.self.inside.opaque (map (λ v. v.items) c.self.inside.names.keys) c.self.inside.types.entries es) c.in_err-place.ensures.err ∙ c.self.view_is)) (grows_refl c.args.self.now)
 
 pub returns-in_err-place-clause-err : goal.returns-in_err-place-clause-err
-returns-in_err-place-clause-err c = on_err AttrId c.from_residual-in_err-place.result (ap (λ es. things_of (map (λ v. v.items) c.self.inside.names.keys) c.self.inside.types.entries es) c.in_err-place.ensures.err ∙ c.self.view_is)
+returns-in_err-place-clause-err c = on_err AttrId c.from_residual-in_err-place.result (ap (λ es. things_of c.self.inside.opaque (map (λ v. v.items) c.self.inside.names.keys) c.self.inside.types.entries es) c.in_err-place.ensures.err ∙ c.self.view_is)

@@ -9,12 +9,12 @@ use Rattle.ir_types.specs.Limits.{most_things}
 pub invariant_of-self-2 : goal.invariant_of-self-2
 invariant_of-self-2 c =
     let few : length (map (λ v. v.items) c.intern_name.new.names.keys) ≤ most_things = subst (λ n. n ≤ most_things) (sym (length-map c.intern_name.new.names.keys (λ v. v.items))) c.intern_name.ensures.within in
-    kept_with_name (map (λ v. v.items) c.self.inside.names.keys) (map (λ v. v.items) c.intern_name.new.names.keys) c.self.inside.types.entries c.self.inside.attrs.entries c.args.bytes.now c.self.invariant c.in_ok-place.ensures.names few
+    kept_with_name c.self.inside.opaque (map (λ v. v.items) c.self.inside.names.keys) (map (λ v. v.items) c.intern_name.new.names.keys) c.self.inside.types.entries c.self.inside.attrs.entries c.args.bytes.now c.self.invariant c.in_ok-place.ensures.names few
 
 pub returns-clause-ok : goal.returns-clause-ok
 returns-clause-ok c =
-    rw (← c.self.view_is) (name_call (map (λ v. v.items) c.self.inside.names.keys) (map (λ v. v.items) c.intern_name.new.names.keys) c.self.inside.types.entries c.self.inside.attrs.entries c.args.bytes.now c.new.result (c.new.ensures ∙ c.in_ok-place.ensures.place) c.in_ok-place.ensures.names)
+    rw (← c.self.view_is) (name_call c.self.inside.opaque (map (λ v. v.items) c.self.inside.names.keys) (map (λ v. v.items) c.intern_name.new.names.keys) c.self.inside.types.entries c.self.inside.attrs.entries c.args.bytes.now c.new.result (c.new.ensures ∙ c.in_ok-place.ensures.place) c.in_ok-place.ensures.names)
 
 pub returns-clause-grows : goal.returns-clause-grows
 returns-clause-grows c =
-    rw (← c.self.view_is) (subst (Grows _) (sym (named_things (map (λ v. v.items) c.self.inside.names.keys) (map (λ v. v.items) c.intern_name.new.names.keys) c.self.inside.types.entries c.self.inside.attrs.entries c.args.bytes.now c.in_ok-place.ensures.names)) (grows_name c.args.bytes.now _))
+    rw (← c.self.view_is) (subst (Grows _) (sym (named_things c.self.inside.opaque (map (λ v. v.items) c.self.inside.names.keys) (map (λ v. v.items) c.intern_name.new.names.keys) c.self.inside.types.entries c.self.inside.attrs.entries c.args.bytes.now c.in_ok-place.ensures.names)) (grows_name c.args.bytes.now _))

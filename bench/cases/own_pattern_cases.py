@@ -1,0 +1,314 @@
+"""Inputs with patterns of one's own: texts that are read or refused, with answers by hand; checks at widths; lists that
+are read again; patterns applied, with marks; and scripts by chance from the seed here. mlir_work_cases.py makes golden
+files of them, in tests/patterns."""
+import pathlib
+import random
+import re
+
+import worked_rows
+from compare import pattern_lines
+from reference import chance, patterns, script
+from reference.module import text_of
+
+SEED = 61
+HERE = pathlib.Path(__file__).resolve().parent
+DIVIDER = "// -----\n"
+# A product by 8, a sum and a difference, one with flags, a comparison and a choice.
+MODULE = """"func.func"() <{function_type = (i32, i32) -> i32, sym_name = "f"}> ({
+^bb0(%a: i32, %b: i32):
+  %c = "arith.constant"() <{value = 8 : i32}> : () -> i32
+  %s = "arith.muli"(%a, %c) <{overflowFlags = #arith.overflow<none>}> : (i32, i32) -> i32
+  %t = "arith.addi"(%s, %b) <{overflowFlags = #arith.overflow<nsw>}> : (i32, i32) -> i32
+  %u = "arith.subi"(%t, %b) : (i32, i32) -> i32
+  %p = "arith.cmpi"(%u, %c) <{predicate = 2 : i64}> : (i32, i32) -> i1
+  %r = "arith.select"(%p, %u, %s) : (i1, i32, i32) -> i32
+  "func.return"(%r) : (i32) -> ()
+}) : () -> ()
+"""
+
+
+def nested(depth, inner="%a"):
+    """Sums in one another."""
+    return inner if depth == 0 else f"arith.addi({nested(depth - 1, inner)}, %b)"
+
+
+def many(word, count, part="%a", end=")"):
+    return f"{word}({', '.join([part] * count)}{end}"
+
+
+def names(count, mark="%"):
+    """A left side of so many variables, in sums of two."""
+    those = [f"{mark}x{number}" for number in range(count)]
+    pairs = [f"arith.muli({those[at]}, {those[min(at + 1, count - 1)]})" for at in range(0, count, 2)]
+    while len(pairs) > 1:
+        pairs = [f"arith.addi({pairs[at]}, {pairs[min(at + 1, len(pairs) - 1)]})" for at in range(0, len(pairs), 2)]
+    return pairs[0]
+
+
+# What stands behind `pattern`, and how it is refused, or `ok`.
+TEXTS = {
+    # Tokens, and where they may stand.
+    "p arith.muli(%a, $c) => %a": "1 BadToken at 17", 'p arith.muli(%a, "c) => %a': "1 BadToken at 17",
+    "p arith.muli(%a, c) => %a // \x7f": "ok", "$": "1 BadToken at 0", "1": "2 Unexpected at 0",
+    "%p arith.muli(%a, c) => %a": "2 Unexpected at 0", "p.q arith.muli(%a, c) => %a": "2 Unexpected at 0",
+    "p": "2 Unexpected at 1", "p // arith.muli(%a, c) => %a": "2 Unexpected at 28", "p %a => %a": "2 Unexpected at 2",
+    "p c => c": "2 Unexpected at 2", "p 1 => 1": "2 Unexpected at 2", "p arith.muli": "2 Unexpected at 12",
+    "p arith.muli( ": "2 Unexpected at 13", "p arith.muli(%a": "2 Unexpected at 15",
+    "p arith.muli(%a,)": "2 Unexpected at 16", "p arith.muli(%a, c)": "2 Unexpected at 19",
+    "p arith.muli(%a, c) =": "2 Unexpected at 21", "p arith.muli(%a, c) = > %a": "ok",
+    "p arith.muli(%a, c) =>": "2 Unexpected at 22", "p arith.muli(%a, c) => %a %a": "2 Unexpected at 26",
+    "p arith.muli(%a, c) => %a where": "2 Unexpected at 31", "p arith.muli(%a, c) => %a where c": "2 Unexpected at 33",
+    "p arith.muli(%a, c) => %a where eq()": "2 Unexpected at 35",
+    "p arith.muli(%a, c) => %a where eq(c, 1),": "2 Unexpected at 41",
+    "p arith.muli(%a, c) => %a where eq(%a, 1)": "2 Unexpected at 35",
+    "p arith.muli(%a, -c) => %a": "2 Unexpected at 18", "p arith.muli(%a, add(1, 2)) => %a": "2 Unexpected at 20",
+    "p arith.muli(%a, c) => -c": "2 Unexpected at 24", "p arith.muli(%a : 3, c) => %a": "2 Unexpected at 18",
+    "p arith.muli(%a : i32.x, c) => %a": "2 Unexpected at 18", "p arith.muli<none>(%a, c) => %a": "ok",
+    "p arith.muli<nsw>(%a, c) => %a": "2 Unexpected at 13", "p arith.andi<none>(%a, c) => %a": "2 Unexpected at 12",
+    "p arith.muli(%a, c) => arith.muli<none>(%a, c)": "2 Unexpected at 33",
+    "p arith.cmpi(%a, c) => 1": "2 Unexpected at 12", "p arith.cmpi<lt>(%a, c) => 1": "2 Unexpected at 13",
+    "p arith.cmpi<slt>(%a, c) => 1": "ok", "p arith.muli(%a, c) => %a where eq(c, 1) eq(c, 2)": "2 Unexpected at 41",
+    # Blanks, and what is put together.
+    "p arith.muli(%a, c) => arith.shli(%a, log2(c)) where ult(c, 8)": "ok",
+    "  p arith.muli( %a,c )=>arith.shli(%a , log2(c))where ult(c,8),sgt( c , - 1 )": "ok",
+    "p arith.cmpi<ult>(arith.extsi(%a:S):T,7:i32) => arith.cmpi<eq>(%a, add(3, neg(2)) : S) where narrower(S,T)": "ok",
+    # Names and functions.
+    "p arith.muli(%a, c) => %b": "3 UnknownValue at 23", "p arith.muli(%a, c) => d": "3 UnknownValue at 23",
+    "p arith.muli(%a, c) => a": "3 UnknownValue at 23", "p arith.muli(%a, c) => %c": "3 UnknownValue at 23",
+    "p arith.muli(%a, c) => arith.addi(%a, log(c))": "3 UnknownValue at 38",
+    "p arith.muli(%a, c) => arith.addi(%a, add(c, d))": "3 UnknownValue at 45",
+    "p arith.muli(%a, c) => %a where lt(c, 1)": "3 UnknownValue at 32",
+    "p arith.muli(%a, c) => %a where eq(d, 1)": "3 UnknownValue at 35",
+    # Types.
+    "p arith.muli(%a) => %a": "5 TypeMismatch at 2", "p arith.select(%a, %b) => %a": "5 TypeMismatch at 2",
+    "p arith.extsi(%a, %b) => %a": "5 TypeMismatch at 2", "p arith.muli(%a, %b) => arith.muli(%a)":
+        "5 TypeMismatch at 24", "p arith.muli(%a, c) => arith.addi(%a, add(c))": "5 TypeMismatch at 38",
+    "p arith.muli(%a, c) => arith.addi(%a, neg(c, c))": "5 TypeMismatch at 38",
+    "p arith.muli(%a : i8, %b : i16) => %a": "5 TypeMismatch at 22", "p arith.muli(%a : i8, %b) : i16 => %a":
+        "5 TypeMismatch at 2", "p arith.trunci(%a : i64) : i32 => %a": "5 TypeMismatch at 34",
+    "p arith.select(%a : i8, %b, %c) => %b": "5 TypeMismatch at 15", "p arith.cmpi<eq>(%a, %b) : i8 => 1":
+        "5 TypeMismatch at 2", "p arith.cmpi<eq>(%a : i8, %b) => %a": "5 TypeMismatch at 33",
+    "p arith.addi(%a, %b) => arith.trunci(arith.extsi(%a) : T)": "5 TypeMismatch at 37",
+    "p arith.addi(%a, %b) => arith.index_cast(%a)": "5 TypeMismatch at 24",
+    "p arith.index_cast(%a : i8) : i8 => %a": "5 TypeMismatch at 2", "p arith.addi(%a, %b) => %a where ult(1, 2)":
+        "5 TypeMismatch at 33", "p arith.addi(%a, c) => %a where power_of_two(c, c)": "5 TypeMismatch at 32",
+    "p arith.addi(%a, c) => %a where narrower(T)": "5 TypeMismatch at 32",
+    "p arith.addi(%a, c) => %a where narrower(T, S)": "5 TypeMismatch at 41",
+    # Widths and literals.
+    "p arith.addi(%a, 0 : i0) => %a": "6 BadWidth at 21", "p arith.addi(%a : i129, 0) => %a": "6 BadWidth at 18",
+    "p arith.addi(%a : i128, 0) => %a": "ok", "p arith.addi(%a : i01, 0) => %a": "6 BadWidth at 18",
+    "p arith.addi(%a, 300 : i8) => %a": "7 BadValue at 17", "p arith.addi(%a, 255 : i8) => %a": "ok",
+    "p arith.addi(%a, -128 : i8) => %a": "ok", "p arith.addi(%a, -129 : i8) => %a": "7 BadValue at 17",
+    "p arith.addi(%a, 300) => %a : i8": "ok",
+    f"p arith.addi(%a, {2 ** 128 - 1}) => %a": "ok", f"p arith.addi(%a, {2 ** 128}) => %a": "7 BadValue at 17",
+    # Depths, numbers of things, and what folds.
+    f"p {nested(3)} => %a": "ok", f"p {nested(3, 'c')} => c": "10 TooDeep at 35", f"p {nested(4)} => %a":
+        "10 TooDeep at 35", f"p arith.addi(%a, %b) => {nested(15)}": "ok",
+    f"p arith.addi(%a, %b) => {nested(16)}": "10 TooDeep at 200",
+    f"p arith.addi(%a, %b) => {nested(17)}": "10 TooDeep at 200",
+    f"p {many('arith.addi', 16)} => %a": "5 TypeMismatch at 2", f"p {many('arith.addi', 17)} => %a": "11 TooMany at 77",
+    "p memref.load(%a) => %a": "13 LeftOut at 2", "p test.a(%a) => %a": "13 LeftOut at 2",
+    "p arith.constant() => 1": "13 LeftOut at 2", "p arith.addi(%a, %b) => func.call(%a)": "13 LeftOut at 24",
+    "p arith.addi(%a, %a, %b) => memref.load(%a": "13 LeftOut at 28",
+}
+# One more than fits, and as many as fit, each of which is told by the rules alone.
+LIMITS = [f"p {names(16)} => %x0", f"p {names(17)} => %x0", f"p {names(8, '')} => x0",
+          "p arith.addi(%a, c) => %a where " + ", ".join(["ult(c, 9)"] * 16),
+          "p arith.addi(%a, c) => %a where " + ", ".join(["ult(c, 9)"] * 17),
+          f"p arith.addi(%a, %b) => {nested(8)}", f"p arith.addi(%a, c) => {many('arith.addi', 2, nested(7))}",
+          f"p arith.addi(%a, c) => {many('arith.addi', 2, nested(7).replace('%b', '%a'))}",
+          f"p arith.addi(%a, c) => {many('arith.addi', 2, nested(8).replace('%b', '%a'))}",
+          "p arith.addi(%a, c) => arith.addi(%a, " + many("add", 2, many("add", 2, many("add", 2, "c"))) + ")",
+          "p arith.addi(%a, c) => %a where " + ", ".join(
+              ["eq(" + many("add", 2, many("add", 2, many("mul", 2, many("sub", 2, "c")))) + ", 1)"] * 8),
+          "p arith.addi(%a, c) => %a where " + ", ".join(
+              ["eq(" + many("add", 2, many("add", 2, many("mul", 2, many("sub", 2, "c")))) + ", 1)"] * 16)]
+# A pattern, and for what stands behind `check p` the reply, with its rows.
+CHECKED = {
+    "arith.divsi(%a, c) => arith.shrsi(%a, log2(c))": {
+        "": "fails 2|%a -2 : i2|c -2 : i2|old 1 : i2|new -1 : i2", " width 1": "holds 1",
+        " width 12": "fails 2|%a -2 : i2|c -2 : i2|old 1 : i2|new -1 : i2", " width 13": "refused 50 BadLimit",
+        " width 0": "refused 50 BadLimit", " width 4294967295": "refused 50 BadLimit",
+        " width 4294967296": "refused 60 BadCommand", " width": "refused 60 BadCommand"},
+    "arith.divui(%a, c) => arith.shrui(%a, log2(c))": {"": "holds 8", " width 4": "holds 4", " width 003": "holds 3"},
+    "arith.andi(%a, 255) => %a": {"": "holds 8", " width 9": "fails 9|%a -256 : i9|old 0 : i9|new -256 : i9",
+                                  " width 24": "fails 9|%a -256 : i9|old 0 : i9|new -256 : i9",
+                                  " width 25": "refused 50 BadLimit"},
+    "arith.addi(%a, 300) => %a": {"": "empty 8", " width 9": "fails 9|%a 0 : i9|old -212 : i9|new 0 : i9"},
+    "arith.addi(1, 2) => 3": {"": "holds 8", " width 1": "empty 1", " width 64": "holds 64",
+                              " width 65": "refused 50 BadLimit"},
+    "arith.addi(%a : i8, 0) => %a": {"": "holds 8", " width 1": "holds 1", " width 24": "holds 24"},
+    "arith.addi(%a : i32, 0) => %a": {"": "refused 50 BadLimit", " width 1": "refused 50 BadLimit"},
+    "arith.addi(%a : index, 0) => %a": {"": "refused 50 BadLimit"},
+    "arith.addi(arith.addi(%a, %b), %c) => arith.addi(%a, arith.addi(%b, %c))": {" width 2": "holds 2"},
+    "arith.shli(arith.shli(%a, c), d) => arith.shli(%a, add(c, d))": {
+        " width 4": "fails 2|%a 0 : i2|c 1 : i2|d 1 : i2|old 0 : i2|new poison"},
+    "arith.divui(%a, arith.select(%p, %b, 1)) => arith.select(%p, arith.divui(%a, %b), %a)": {
+        " width 3": "fails 1|%a false|%p false|%b false|old false|new undefined"},
+    "arith.addi(%a, %b) => arith.addi(arith.subi(%a, %b), arith.shrui(%b, 1))": {
+        " width 2": "fails 1|%a false|%b false|old false|new poison"},
+    "arith.addi(%a, %b) => arith.addi(arith.subi(%a, %b), %b)": {
+        " width 2": "fails 1|%a false|%b true|old true|new false"},
+    "arith.trunci(arith.extsi(%a : S) : T) : U => arith.extsi(%a) : U": {"": "holds 8", " width 1": "empty 1",
+                                                                        " width 2": "empty 2", " width 3": "holds 3"},
+    "arith.trunci(arith.extui(%a : S) : T) : U => arith.extsi(%a) : U": {
+        " width 3": "fails 3|%a true|old 1 : i2|new -1 : i2"},
+    "arith.remsi(%a, -1) => 0": {"": "holds 8"},
+    "arith.shrsi(%a, %b) => arith.shrui(%a, %b)": {
+        " width 2": "fails 2|%a -2 : i2|%b 1 : i2|old -1 : i2|new 1 : i2"},
+}
+
+
+def asked(*lines):
+    """A script over an empty module."""
+    return (DIVIDER + "".join(line + "\n" for line in lines)).encode("latin-1")
+
+
+def over(*lines):
+    """A script over the module."""
+    return MODULE.encode() + asked(*lines)
+
+
+def rows(whole):
+    """The inputs of pattern_rows.txt, as far as the program has what they ask."""
+    for row in worked_rows.rows(HERE / "pattern_rows.txt"):
+        whole(row.input)
+        if len(row.input) < 2000:
+            whole(row.input, False)
+
+
+def texts(whole):
+    """Each text that is read or refused."""
+    for text, wanted in TEXTS.items():
+        _, out = script.run(asked("pattern " + text))
+        told = "ok" if wanted == "ok" else f"refused {wanted}"
+        assert out == f"1 {told}\n".encode(), (text, wanted, out)
+    for at in range(0, len(TEXTS), 20):
+        part = list(TEXTS)[at:at + 20]
+        # (each under a name of its own, where it has one)
+        whole(asked(*(f"pattern {text}" for text in part), "patterns"))
+        whole(asked(*("pattern " + re.sub(r"^p\b(?!\.)", f"p{number:02}", text) for number, text in enumerate(part)),
+                    "patterns"))
+    for text in LIMITS:
+        whole(asked(f"pattern {text}", "patterns"))
+    whole(asked(*(f"pattern p{number} arith.addi(%a, %b) => %a" for number in range(258)), "check p255 width 1",
+                "check p256 width 1", "patterns"))
+    for line in ("pattern p arith.muli(%a) => %a", "pattern p arith.muli(%a, 0) => 0", "pattern", "patterns",
+                 "patterns x", "check p", "check 4"):
+        whole(over(line), False)
+
+
+def beginnings(whole):
+    """Beginnings of a line, and lines with a byte less or more."""
+    line = "pattern sh arith.shli<none>(arith.shli(%a : T, c), -1) => arith.shli(%a, add(c, 2)) where ult(c, width(c))"
+    whole(asked(*(line[:count] for count in range(len(line) + 1)), "patterns"))
+    whole(asked(*(line[:at] + line[at + 1:] for at in range(len(line))), "patterns"))
+    for more in "$%,(<":
+        whole(asked(*(line[:at] + more + line[at:] for at in range(len("pattern "), len(line), 3)), "patterns"))
+
+
+def checks(whole):
+    """Each pattern checked up to each width."""
+    for text, those in CHECKED.items():
+        lines, wanted = [f"pattern p {text}"], ["1 ok"]
+        for number, (behind, answer) in enumerate(those.items(), 2):
+            lines.append(f"check p{behind}")
+            first, *rest = answer.split("|")
+            wanted += [f"{number} {first}", *rest]
+        _, out = script.run(asked(*lines))
+        assert out.decode() == "\n".join(wanted) + "\n", (text, out)
+        whole(asked(*lines, "patterns"))
+    whole(asked("check p", "pattern p arith.addi(%a, 0) => %a", "expect 26 check p", "expect 50 check p width 0",
+                "expect 50 check p width 2", "expect BadLimit check p width 99", "check q", "expect 26 check q",
+                "expect 60 check", "patterns"))
+    whole(asked("pattern p arith.addi(%a, 1) => %a", "expect 26 check p width 2", "check p width 2"))
+
+
+def listed(whole):
+    """The patterns of patterns/, listed, defined again as they are listed, and checked."""
+    book = pattern_lines.book()
+    for at in range(0, len(book), 30):
+        part = book[at:at + 30]
+        text = asked(*(f"pattern {line}" for line in part), "patterns", *(f"check {line.split()[0]} width 2" for line in
+                                                                          part), "patterns")
+        whole(text)
+        _, out = script.run(text)
+        lines = [line for line in out.decode().split("\n") if " // holds" in line or " // empty" in line]
+        assert len(lines) == len(part), out
+        whole(asked(*(f"pattern {line}" for line in lines), "patterns"))
+
+
+def applied(whole):
+    """Patterns applied at operations, with marks."""
+    shift = "pattern shift arith.muli(%a, c) => arith.shli(%a, log2(c))"
+    back = "pattern back arith.subi(arith.addi(%a, %b), %b) => %a"
+    shows = ["report uses", "report constants", "report dead", "report diagnostics", "print"]
+    for brief in (True, False):
+        whole(over(shift, back, "apply shift #3", "apply shift #3", "apply back #5", "apply back #4"), brief)
+    whole(over(shift, back, "begin", "apply shift #3", "begin", "apply back #5", *shows, "rollback", *shows, "rollback",
+               *shows, "patterns", "apply back #5", "commit", "print ids"))
+    whole(over("begin", shift, "rollback", "patterns", "apply shift #3", "check shift width 3", "begin", "rollback",
+               "patterns", "detach dead", "apply shift #3", "attach dead", *shows))
+    for op in range(10):
+        whole(over(shift, back, "pattern any arith.addi(%x, %y) => arith.addi(%y, %x)",
+                   "pattern bare arith.addi<none>(%x, %y) => arith.addi(%y, %x)",
+                   "pattern less arith.cmpi<slt>(%x, %y) => arith.cmpi<sgt>(%y, %x)",
+                   "pattern other arith.cmpi<sle>(%x, %y) => arith.cmpi<sge>(%y, %x)",
+                   "pattern one arith.select(%p, %x, %y) => %x", "pattern zero arith.muli(%x, 8) => 0",
+                   "pattern wide arith.muli(%x : i64, c) => %x", "pattern typed arith.muli(%x : i32, c) => %x",
+                   *(line for name in "shift back any bare less other one zero wide typed".split() for line in (
+                       "begin", f"apply {name} #{op}", "print", "rollback"))))
+    whole(over(shift, "apply shift", "apply shift 3", "apply shift #3 x", "apply nope #3", "apply shift #99",
+               "apply nope #99", "apply 31 #3", "apply shift #0", "apply shift #1", "rewrite shift", "rewrite 1,shift",
+               "expect 26 rewrite shift", "expect 20 apply shift #99", "expect 26 apply shift #3", "canon", "print"))
+    # An operation with a diagnostic, or with a property outside its row, isn't matched.
+    whole(over(shift, back, "set-attr #3 x 1", "apply shift #3", "drop-attr #3 x", "set-attr #3 overflowFlags 1 : i8",
+               "apply shift #3", "drop-attr #3 overflowFlags", "apply shift #3", "set-attr #4 overflowFlags 1 : i8",
+               "apply back #5", "print"))
+    # One value in two places, and numbers of two constants.
+    text = """%a = "t.a"() : () -> i8
+%b = "t.a"() : () -> i8
+%c = "arith.constant"() <{value = 3 : i8}> : () -> i8
+%d = "arith.constant"() <{value = 3 : i8}> : () -> i8
+%e = "arith.constant"() <{value = -1 : i8}> : () -> i8
+%1 = "arith.subi"(%a, %a) : (i8, i8) -> i8
+%2 = "arith.subi"(%a, %b) : (i8, i8) -> i8
+%3 = "arith.subi"(%c, %d) : (i8, i8) -> i8
+%4 = "arith.subi"(%c, %e) : (i8, i8) -> i8
+%5 = "arith.subi"(%e, %e) : (i8, i8) -> i8
+"t.u"(%1, %2, %3, %4, %5) : (i8, i8, i8, i8, i8) -> ()
+"""
+    lines = ["pattern same arith.subi(%x, %x) => 0", "pattern equal arith.subi(c, c) => 0",
+             "pattern ones arith.subi(%x, -1) => arith.addi(%x, 1)", "pattern all arith.subi(%x, 255) => %x",
+             "pattern most arith.subi(c, d) => sub(c, d) where ne(c, d)", "pattern none arith.subi(%x, 256) => %x"]
+    for op in range(6, 11):
+        tried = [line for name in "same equal ones all most none".split()
+                 for line in ("begin", f"apply {name} #{op}", "print", "rollback")]
+        whole(text.encode() + asked(*lines, *tried))
+
+
+def by_chance(whole):
+    """Scripts about patterns that fit their modules."""
+    for number in range(60):
+        maker = random.Random(f"{SEED} {number}")
+        text = text_of(chance.module(maker, maker.randrange(4, 24), maker.choice([0, 0, 0.1]),
+                                     maker.choice(sorted(chance.TASTES)))).encode()
+        run, lines = script.Run(script.read(text)), []
+        scripter = chance.Scripter(maker, run)
+        for _ in range(maker.randrange(6, 20)):
+            pick = maker.random()
+            line = pattern_lines.line_of(maker, run) if pick < 0.75 else scripter.mark() if pick < 0.9 else \
+                scripter.edit()
+            run.reply(line)
+            lines.append(line)
+        whole(text + asked(*lines, "print", "patterns"), maker.random() < 0.9)
+
+
+PARTS = (rows, texts, beginnings, checks, listed, applied, by_chance)
+
+
+def all_cases(whole, begin):
+    """Hands each input on; `whole` takes a text and whether to be brief, `begin` the name of a file."""
+    for part in PARTS:
+        begin(f"patterns/{part.__name__}")
+        part(whole)

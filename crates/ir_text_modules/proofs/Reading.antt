@@ -1,0 +1,21 @@
+-- What is read of a text says what the text spells.
+use Rattle.std.proofs.Common.{◌≡◌, ◌∙◌, sym, ℕ, List, Bool, Some, None}
+use Rattle.ir_types.specs.Things.{Things}
+use Rattle.ir_tree.specs.Tree.{Op}
+use Rattle.ir_text_tokens.specs.declared.fault.Fault.{Fault}
+use Rattle.ir_text.specs.Public.{IsNone, IsOnly, Spells}
+use Rattle.ir_text_modules.specs.Modules.{SpellsModule, read_fault, read_text}
+
+module _ (opaque : Bool) (text : List ℕ) where
+  pub only_module : (c : Things) (t : Op) → read_fault opaque text ≡ None → IsOnly (Spells opaque (read_text opaque text)) c t → IsOnly (SpellsModule opaque text) c t
+  only_module c t whole h = record {
+    known = h.known;
+    holds = record { whole = whole; spells = h.holds };
+    only = λ y s. h.only y s.spells;
+  }
+
+  pub no_module : IsNone (Spells opaque (read_text opaque text)) → IsNone (SpellsModule opaque text)
+  no_module h = λ y s. h y s.spells
+
+  pub faulty : (f : Fault) → read_fault opaque text ≡ Some f → IsNone (SpellsModule opaque text)
+  faulty f e = λ y s. (let no : None ≡ Some f = sym s.whole ∙ e in absurd cc)

@@ -1,0 +1,14 @@
+use Rattle.std.proofs.Common.{◌*◌, ◌+◌}
+use Rattle.ir_text_types.proofs.types.+words.Given as goal
+
+abbrev pub decreases-memref : goal.decreases-memref
+decreases-memref l = 4 * l.depth
+
+abbrev pub decreases-behind_word : goal.decreases-behind_word
+decreases-behind_word l = 4 * l.depth + 1
+
+abbrev pub decreases-word_type : goal.decreases-word_type
+decreases-word_type l = 4 * l.depth + 2
+
+abbrev pub decreases-element : goal.decreases-element
+decreases-element l = 4 * l.depth + 3

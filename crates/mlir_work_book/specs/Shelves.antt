@@ -1,0 +1,54 @@
+-- What an order makes of a book of patterns, and what it is told.
+use Rattle.std.specs.Prelude.{◌≡◌, ℕ, ◌-◌, List, [], ◌⊎◌, length, Option, Some, None, Ok, Err}
+use Rattle.ir_event.specs.types.declared.refusal.Refusal.{Refusal}
+use Rattle.ir_event.specs.types.declared.refusal.Refusal.TheVariants.{BadLimit, Memory, NoSuchKey}
+use Rattle.ir_text_tokens.specs.Refusals.{refusal_of}
+use Rattle.rewriter_machine.specs.Commands.{Replied, TextRefusedAt}
+use Rattle.rewriter_machine.specs.Machine.{Done, Refused}
+use Rattle.mlir_work_script.specs.BookOrders.{BookOrder, Define, Patterns, Check}
+use Rattle.patterns_text.specs.Refusing.{Outcome}
+use Rattle.patterns_judged.specs.Judged.{IsJudgement, IsUntried, asked_width, said_of}
+use Rattle.patterns_judged.specs.Rows.{rows_text}
+use Rattle.patterns_judged.specs.declared.judgement.Judgement.{Judgement}
+use Rattle.patterns_judged.specs.declared.judgement.Judgement.TheVariants as judgement
+use Rattle.patterns_judged.specs.declared.judgement.Said.{Said}
+use Rattle.patterns_shelf.specs.Shelf.{Book, Kept, defined, found, listing_text, noted}
+use Rattle.mlir_work_book.specs.Notices.{Notice, Plain, Checked}
+
+-- refused, and the book stays
+abbrev pub IsRefused : Refusal → Book → Notice → List ℕ → Book → Type 0
+IsRefused refusal b notice bytes c = (notice ≡ Plain (Replied (Refused refusal))) × (bytes ≡ []) × (c ≡ b)
+
+-- the pattern of a text is defined, or the text is refused at a byte, counted from its first
+abbrev pub IsDefined : Outcome Book → List ℕ → Book → Notice → List ℕ → Book → Type 0
+IsDefined (Ok new) text b notice bytes c = (notice ≡ Plain (Replied Done)) × (bytes ≡ []) × (c ≡ new)
+IsDefined (Err fault) text b notice bytes c =
+    (notice ≡ Plain (TextRefusedAt (refusal_of fault.refusal) (length text - fault.left))) × (bytes ≡ []) × (c ≡ b)
+
+-- the rows of a counterexample, where there is one
+abbrev pub judgement_rows : Kept → Judgement → List ℕ
+judgement_rows k (judgement.Holds w) = []
+judgement_rows k (judgement.Empty w) = []
+judgement_rows k (judgement.Fails counterexample) = rows_text k.variables counterexample
+
+-- what a check of a pattern up to a width says is true, and so are its rows
+abbrev pub IsChecked : Kept → Option ℕ → Said → List ℕ → Type 0
+IsChecked k asked said bytes =
+    (j : Judgement) × IsJudgement k.shape (asked_width k.shape asked) j × (said ≡ said_of j) × (bytes ≡ judgement_rows k j)
+
+-- the pattern of a name is checked, which is noted; or the width is refused, or there is no pattern of that name
+abbrev pub Checks : Option Kept → List ℕ → Option ℕ → Book → Notice → List ℕ → Book → Type 0
+Checks None name asked b notice bytes c = IsRefused NoSuchKey b notice bytes c
+Checks (Some k) name asked b notice bytes c =
+    ((said : Said) × IsChecked k asked said bytes × (notice ≡ Checked said) × (c ≡ noted name said b))
+    ⊎ (IsUntried k.shape (asked_width k.shape asked) × IsRefused BadLimit b notice bytes c)
+
+-- what an order comes to where no memory is refused
+abbrev pub IsShelved : BookOrder → Book → Notice → List ℕ → Book → Type 0
+IsShelved (Define text) b notice bytes c = IsDefined (defined b text) text b notice bytes c
+IsShelved Patterns b notice bytes c = (notice ≡ Plain (Replied Done)) × (bytes ≡ listing_text b) × (c ≡ b)
+IsShelved (Check name asked) b notice bytes c = Checks (found name b) name asked b notice bytes c
+
+-- from a book an order may be told this, with these bytes below it, and lead to another book
+abbrev pub Shelves : BookOrder → Book → Notice → List ℕ → Book → Type 0
+Shelves order b notice bytes c = IsRefused Memory b notice bytes c ⊎ IsShelved order b notice bytes c

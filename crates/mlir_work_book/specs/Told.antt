@@ -1,0 +1,37 @@
+-- The line of what a line is told.
+use Rattle.std.specs.Prelude.{ℕ, List, [], ◌++◌, Option, Some, None, if◌then◌else◌, codes}
+use Rattle.std.specs.Fmt.{decimal}
+use Rattle.ir_event.specs.types.declared.refusal.Refusal.{Refusal}
+use Rattle.rewriter_machine.specs.Commands.{Response, Replied, TextRefusedAt}
+use Rattle.rewriter_machine.specs.Machine.{Done, DoneAs, DoneWith, Refused, RefusedOn}
+use Rattle.mlir_work_script.specs.Replies.{expected_line, ok_line, made_line, outcome_line, refused_line, refused_on_line, refused_at_line}
+use Rattle.patterns_judged.specs.Rows.{said_text}
+use Rattle.patterns_judged.specs.declared.judgement.Said.{Said}
+use Rattle.mlir_work_book.specs.Notices.{Notice, Plain, Checked, refuses_for}
+
+-- the line of the reply to command n
+abbrev pub reply_line : ℕ → Response → List ℕ
+reply_line n (Replied Done) = ok_line n
+reply_line n (Replied (DoneAs x)) = made_line n x
+reply_line n (Replied (DoneWith outcome)) = outcome_line n outcome
+reply_line n (Replied (Refused refusal)) = refused_line n refusal
+reply_line n (Replied (RefusedOn refusal x)) = refused_on_line n refusal x
+reply_line n (TextRefusedAt refusal offset) = refused_at_line n refusal offset
+
+-- `1 holds 8`, `1 empty 8`, `1 fails 2`
+abbrev pub checked_line : ℕ → Said → List ℕ
+checked_line n said = decimal n ++ (codes " " ++ (said_text said ++ codes "\n"))
+
+-- and of what it is told
+abbrev pub notice_line : ℕ → Notice → List ℕ
+notice_line n (Plain response) = reply_line n response
+notice_line n (Checked said) = checked_line n said
+
+-- below it stands what was expected, where something else came
+abbrev pub surprise_line : ℕ → Option Refusal → Notice → List ℕ
+surprise_line n None notice = []
+surprise_line n (Some wanted) notice = if refuses_for wanted notice then [] else expected_line n wanted
+
+-- what command n is told, of which this was expected
+abbrev pub reply_text : ℕ → Option Refusal → Notice → List ℕ
+reply_text n expected notice = notice_line n notice ++ surprise_line n expected notice

@@ -1,0 +1,131 @@
+//! The orders about patterns of one's own, over a session's book.
+ghost use Rattle.std.specs.Prelude.{◌≡◌, ◌⊎◌, ◌-◌, ℕ, [], IfErr, IfOk, length};
+ghost use Rattle.ir_event.specs.types.declared.refusal.Refusal.TheVariants.{Memory as WantOfMemory};
+ghost use Rattle.ir_text_tokens.specs.Refusals.{refusal_of};
+ghost use Rattle.rewriter_machine.specs.Commands.{Replied, TextRefusedAt};
+ghost use Rattle.rewriter_machine.specs.Machine.{Refused};
+ghost use Rattle.mlir_work_script.specs.BookOrders.{Check, Define, Patterns, book_order_of};
+ghost use Rattle.patterns_judged.specs.Judged.{IsRefused, asked_width};
+ghost use Rattle.patterns_shelf.specs.Shelf.{book_view, kept_view};
+ghost use Rattle.mlir_work_book.specs.Notices.{IsWithin, Plain, notice_of};
+ghost use Rattle.mlir_work_book.specs.Replies.{IsBounded, response_of};
+ghost use Rattle.mlir_work_book.specs.Shelves.{IsChecked, Shelves, judgement_rows};
+
+use crate::notice::{Notice, Noticed, replied};
+use crate::reply::Reply;
+use ir_event::types::refusal::Refusal;
+use ir_text_tokens::fault::Fault;
+use mlir_work_script::book_order::BookOrder;
+use patterns_judged::judgement::{Judgement, Said};
+use patterns_judged::judging::judge;
+use patterns_shelf::book::{Book, Held, find, note};
+use patterns_shelf::define::define as define_in;
+use patterns_shelf::listing::{listing, rows};
+use patterns_text::error::PatternError;
+use std::alloc::{AllocError, Global};
+
+/// The reply where a text is refused, in an input of so many bytes. The byte stands in the text, which is a part of the
+/// input: so what is looked at here is always so.
+fn refused_at(bytes: usize, text: &[u8], fault: &Fault) -> Reply
+    ensures told { (response_of result ≡ Replied (Refused WantOfMemory)) ⊎ (response_of result ≡ TextRefusedAt (refusal_of fault.now.refusal) (length text.now - fault.now.left)) }
+    ensures bounded { IsBounded bytes (response_of result) }
+{
+    let offset = fault.offset(text);
+    if offset > bytes {
+        return Reply::Refused(Refusal::Memory);
+    }
+    Reply::RefusedAt(fault.refusal.refusal(), offset)
+}
+
+/// Defines the pattern that a text spells, or leaves the book as it was.
+fn define(alloc: Global, bytes: usize, book: &mut Book, text: &[u8]) -> Reply
+    ensures shelves { Shelves (Define text.now) (book_view book.old) (Plain (response_of result)) [] (book_view book.new) }
+    ensures bounded { IsBounded bytes (response_of result) }
+{
+    match define_in(alloc, book, text) {
+        Ok(()) => Reply::Done,
+        Err(PatternError::Memory) => Reply::Refused(Refusal::Memory),
+        Err(PatternError::Refused(fault)) => refused_at(bytes, text, &fault),
+    }
+}
+
+/// Shows the patterns of a book.
+fn patterns(alloc: Global, book: &Book) -> Noticed
+    ensures shelves { Shelves Patterns (book_view book.now) (notice_of result.notice) result.shows.items (book_view book.now) }
+    ensures bounded { (bytes : ℕ) → IsWithin bytes (notice_of result.notice) }
+{
+    match listing(alloc, book) {
+        Ok(shows) => Noticed {
+            notice: Notice::Plain(Reply::Done),
+            shows,
+        },
+        Err(_) => replied(alloc, Reply::Refused(Refusal::Memory)),
+    }
+}
+
+/// The rows of a judgement.
+fn rows_of(alloc: Global, held: &Held, judgement: &Judgement) -> Result<Vec<u8>, AllocError>
+    ensures { IfOk result (λ v. v.items ≡ judgement_rows (kept_view held.now) judgement.now) }
+{
+    match judgement {
+        Judgement::Holds(_) => Ok(Vec::new(alloc)),
+        Judgement::Empty(_) => Ok(Vec::new(alloc)),
+        Judgement::Fails(counterexample) => rows(alloc, held, counterexample),
+    }
+}
+
+/// A width that may be asked.
+fn wide(width: Option<u32>) -> Option<u64>
+    ensures { result ≡ width }
+{
+    match width {
+        Some(width) => Some(u64::from(width)),
+        None => None,
+    }
+}
+
+/// What a check of a pattern says, and its rows.
+fn checked(alloc: Global, held: &Held, width: Option<u32>) -> Result<(Said, Vec<u8>), Refusal>
+    ensures ok { IfOk result (λ x. IsChecked (kept_view held.now) width x.0 x.1.items) }
+    ensures err { IfErr result (IsRefused (kept_view held.now).shape (asked_width (kept_view held.now).shape width)) }
+{
+    let judgement = match judge(alloc, &held.pattern, wide(width)) {
+        Ok(judgement) => judgement,
+        Err(refusal) => return Err(refusal),
+    };
+    match rows_of(alloc, held, &judgement) {
+        Ok(rows) => Ok((judgement.said(), rows)),
+        Err(_) => Err(Refusal::Memory),
+    }
+}
+
+/// Checks the pattern of a name, and notes what the check says.
+fn check(alloc: Global, book: &mut Book, name: &[u8], width: Option<u32>) -> Noticed
+    ensures shelves { Shelves (Check name.now width) (book_view book.old) (notice_of result.notice) result.shows.items (book_view book.new) }
+    ensures bounded { (bytes : ℕ) → IsWithin bytes (notice_of result.notice) }
+{
+    let Some(held) = find(book, name) else {
+        return replied(alloc, Reply::Refused(Refusal::NoSuchKey));
+    };
+    let (said, shows) = match checked(alloc, held, width) {
+        Ok(found) => found,
+        Err(refusal) => return replied(alloc, Reply::Refused(refusal)),
+    };
+    note(book, name, said);
+    Noticed {
+        notice: Notice::Checked(said),
+        shows,
+    }
+}
+
+/// Carries out an order of an input of so many bytes over a book.
+pub fn shelve(alloc: Global, bytes: usize, book: &mut Book, order: &BookOrder<'_>) -> Noticed
+    ensures shelves { Shelves (book_order_of order.now) (book_view book.old) (notice_of result.notice) result.shows.items (book_view book.new) }
+    ensures bounded { IsWithin bytes (notice_of result.notice) }
+{
+    match order {
+        BookOrder::Define(text) => replied(alloc, define(alloc, bytes, book, text)),
+        BookOrder::Patterns => patterns(alloc, book),
+        BookOrder::Check { name, width } => check(alloc, book, name, *width),
+    }
+}

@@ -1,0 +1,12 @@
+use Rattle.std.proofs.Common.{◌≡◌, ◌++◌, map, length, ◌==◌}
+use Rattle.serde_json.specs.View.{view}
+use Rattle.mlir_work_json.specs.Cuts.{parts}
+use Rattle.mlir_work_json.specs.Items.{text_data}
+use Rattle.mlir_work_json.proofs.members.parts_value.Given as goal
+
+-- the words so far, and those of what is left
+abbrev pub invariant-loop-rest : goal.invariant-loop-rest
+invariant-loop-rest l = map view l.values.items ++ map text_data (parts (λ b. b == l.end) l.rest) ≡ map text_data (parts (λ b. b == l.end) l.fn.text)
+
+abbrev pub decreases-loop-rest : goal.decreases-loop-rest
+decreases-loop-rest l = length l.rest

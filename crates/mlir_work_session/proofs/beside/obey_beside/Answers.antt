@@ -1,0 +1,15 @@
+use Rattle.std.proofs.Common.{sym}
+use Rattle.mlir_work_session.proofs.Owning.{beside_none, beside_none_room, beside_some, beside_some_room}
+use Rattle.mlir_work_session.proofs.beside.obey_beside.Goals as goal
+
+pub returns-in-Some-clause-obeys : goal.returns-in-Some-clause-obeys
+returns-in-Some-clause-obeys g c = beside_some c.args.manner.now _ _ _ _ _ _ _ _ (sym c.in-Some.ensures) (rw (c.plain.ensures.reply, c.plain.ensures.shows) c.apply_own.ensures.applies)
+
+pub returns-in-Some-clause-room : goal.returns-in-Some-clause-room
+returns-in-Some-clause-room g c = beside_some_room c.args.manner.now _ _ _ _ _ _ _ (sym c.in-Some.ensures) (rw c.plain.ensures.reply c.apply_own.ensures.room)
+
+pub returns-in-None-clause-obeys : goal.returns-in-None-clause-obeys
+returns-in-None-clause-obeys g c = beside_none c.args.manner.now _ _ _ _ _ _ (sym c.in-None.ensures) c.obey.ensures.obeys
+
+pub returns-in-None-clause-room : goal.returns-in-None-clause-room
+returns-in-None-clause-room g c = beside_none_room c.args.manner.now _ _ _ _ _ (sym c.in-None.ensures) c.obey.ensures.room

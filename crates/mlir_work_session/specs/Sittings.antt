@@ -1,0 +1,53 @@
+-- A session between lines: a bench, and a book of patterns of one's own.
+use Rattle.std.specs.Prelude.{◌≡◌, ℕ, List, [], Option, Some, None, option_map}
+use Rattle.ir_event.specs.Listener.{Listener}
+use Rattle.mlir_work_transforms.specs.rewriter.Benched.{Benched, state_of}
+use Rattle.mlir_work_transforms.specs.rewriter.Commands.{Apply, Ask, Command, Follows, Numbered, Response, RuleName, Worded}
+use Rattle.mlir_work_transforms.specs.rewriter.Machine as call
+use Rattle.mlir_work_transforms.specs.rewriter.Machine.{Nothing, State}
+use Rattle.mlir_work_transforms.specs.Applying.{applying_own}
+use Rattle.mlir_work_book.specs.Notices.{Notice, Plain}
+use Rattle.mlir_work_book.specs.Shelf.{Book, Kept, book_view, found}
+use Rattle.mlir_work_book.specs.Book.{Book as BookCode}
+use Rattle.mlir_work_session.specs.declared.manner.Manner.{Manner}
+use Rattle.mlir_work_session.specs.Machine.{AsksRoom, FullSo, Obeys}
+
+pub record Sitting : Type 0 where
+  pub state : State
+  pub book : Book
+
+-- a bench in this state, and no pattern yet
+abbrev pub opening : State → Sitting
+opening s = record { state = s; book = [] }
+
+-- what a bench and a book in memory are
+abbrev pub sitting_of : {B : Type 0} → (B → Listener) → Benched B → BookCode → Sitting
+sitting_of meaning bench book = record { state = state_of meaning bench; book = book_view book }
+
+-- the pattern that a name of a rule is in a book
+abbrev pub own_named : RuleName → Book → Option Kept
+own_named (Numbered n) book = None
+own_named (Worded word) book = found word book
+
+-- the pattern of a book that a command names, and the operation at which it is to be applied
+abbrev pub own_of : Command → Book → Option (Kept × ℕ)
+own_of (Apply name x) book = option_map (λ k. (k, x)) (own_named name book)
+own_of _ book = None
+
+-- a pattern is applied at an operation, as a rule is
+abbrev pub AppliesOwn : Kept → ℕ → State → Response → List ℕ → State → Type 0
+AppliesOwn k x s response bytes t = Follows s (Ask (call.Change (applying_own k.shape x))) response Nothing t × (bytes ≡ [])
+
+-- a command that names a pattern of the book applies it, and each other is obeyed as by a bench
+abbrev pub ObeysBeside : Manner → Option (Kept × ℕ) → State → Command → Response → List ℕ → State → Type 0
+ObeysBeside manner None s command response bytes t = Obeys manner s command response bytes t
+ObeysBeside manner (Some p) s command response bytes t = AppliesOwn p.0 p.1 s response bytes t
+
+-- where it is refused with 31
+abbrev pub BesideRoom : Type 0 → Manner → Option (Kept × ℕ) → State → Command → Response → Type 0
+BesideRoom full manner None s command response = AsksRoom full manner s command response
+BesideRoom full manner (Some p) s command response = FullSo full s (applying_own p.0.shape p.1) response
+
+-- a bench does this, and the book stays
+abbrev pub ByBench : (Response → State → Type 0) → Sitting → Notice → Sitting → Type 0
+ByBench Does s notice t = (response : Response) × (notice ≡ Plain response) × Does response t.state × (t.book ≡ s.book)

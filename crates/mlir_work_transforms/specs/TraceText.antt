@@ -1,0 +1,61 @@
+-- What is shown of rewrites that are told: a line for each, in their order.
+use Rattle.std.specs.Prelude.{ℕ, zero, suc, ◌+◌, ◌-◌, List, [], ◌∷◌, ◌++◌, Bool, true, false, Option, Some, None, codes}
+use Rattle.std.specs.Fmt.{decimal}
+use Rattle.ir_event.specs.Modules.{Module}
+use Rattle.conversion.specs.rewriter.Commands.{RuleName}
+use Rattle.conversion.specs.rewriter.Machine.{Transformation}
+use Rattle.conversion.specs.patterns.Canonicalization.{greedy_rules}
+use Rattle.conversion.specs.patterns.RuleNames.{number_of, word_of}
+use Rattle.conversion.specs.patterns.Rule.{Rule}
+use Rattle.greedy.specs.Changes.{canonicalizing}
+use Rattle.greedy.specs.Tracing.{trace_of}
+use Rattle.greedy.specs.declared.fired.Fired.{Fired}
+use Rattle.mlir_work_script.specs.Values.{op_text}
+use Rattle.mlir_work_transforms.specs.Rewriting.{rewriting_named, rules_named}
+
+-- what stands in front of an operation that was made
+abbrev pub lead : Bool → List ℕ
+lead true = codes " made "
+lead false = codes ","
+
+-- so many operations that were made, with the ids from one on
+abbrev pub made_from : Bool → ℕ → ℕ → List ℕ
+made_from first x zero = []
+made_from first x (suc left) = lead first ++ (op_text x ++ made_from false (x + 1) left)
+
+-- an operation that went
+abbrev pub gone_text : Bool → ℕ → List ℕ
+gone_text true x = []
+gone_text false x = codes " erased " ++ op_text x
+
+-- a rule by its number and its word
+abbrev pub rule_text : Rule → List ℕ
+rule_text r = decimal (number_of r) ++ (codes " " ++ word_of r)
+
+-- `rewrote 10 regroup-constants #7 made #12,#13 erased #7`
+abbrev pub fired_line : Fired → List ℕ
+fired_line f =
+    codes "rewrote " ++ (rule_text f.rule ++ (codes " " ++ (op_text f.op ++ (made_from true f.from (f.until - f.from)
+    ++ (gone_text f.stays f.op ++ codes "\n")))))
+
+-- and of each of them
+abbrev pub trace_text : List Fired → List ℕ
+trace_text [] = []
+trace_text (f ∷ fs) = fired_line f ++ trace_text fs
+
+-- ---- of a command that tells its rewrites
+
+-- its rules: those that it names, if each name is one's, or those of canonicalization, where it names none
+abbrev pub traced_rules : Option (List RuleName) → Option (List Rule)
+traced_rules None = Some greedy_rules
+traced_rules (Some names) = rules_named names
+
+-- its transformation, of at most so many rewrites: it is that of the command that tells nothing
+abbrev pub tracing : Option (List RuleName) → ℕ → Option Transformation
+tracing None limit = Some (canonicalizing limit)
+tracing (Some names) limit = rewriting_named names limit
+
+-- what is told of at most so many rewrites of a module by these rules
+abbrev pub trace_by : Option (List Rule) → ℕ → Module → List ℕ
+trace_by None limit m = []
+trace_by (Some rs) limit m = trace_text (trace_of rs limit m)

@@ -1,0 +1,50 @@
+"""Rewrites, as they are counted and told."""
+import re
+from typing import List, NamedTuple, Tuple
+
+from .reply import Reply, lines_of
+
+_TOLD = re.compile(r"rewrote (\d+) (\S+) #(\d+)(?: made (#\d+(?:,#\d+)*))?( erased #\d+)?")
+
+
+class Canonicalized(NamedTuple):
+    """How many rewrites a `canon` made, and whether no rule applies behind them."""
+
+    rewrites: int
+    is_done: bool
+
+
+class Rewrite(NamedTuple):
+    """A rewrite that was made: the number and the word of its rule, the operation at which it was applied, the
+    operations that it made, and whether the operation went."""
+
+    rule: int
+    word: str
+    operation: int
+    made: Tuple[int, ...] = ()
+    is_erased: bool = False
+
+
+class Traced(NamedTuple):
+    """The rewrites that were made, in their order, and whether no rule applies behind them."""
+
+    rewrites: List[Rewrite]
+    is_done: bool
+
+
+def canonicalized_of(reply: Reply) -> Canonicalized:
+    """What the reply to a rewriting says."""
+    return Canonicalized(reply.number or 0, reply.outcome == "converged")
+
+
+def _rewrite(line: str) -> Rewrite:
+    found = _TOLD.fullmatch(line)
+    if not found:
+        raise ValueError(f"{line!r} tells no rewrite")
+    made = tuple(int(it[1:]) for it in found[4].split(",")) if found[4] else ()
+    return Rewrite(int(found[1]), found[2], int(found[3]), made, found[5] is not None)
+
+
+def traced_of(reply: Reply) -> Traced:
+    """What the reply to a rewriting says, and what is told of it."""
+    return Traced([_rewrite(line) for line in lines_of(reply.shown)], reply.outcome == "converged")
