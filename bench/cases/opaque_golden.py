@@ -13,7 +13,9 @@ import golden  # noqa: E402
 import ir_text_expanded_cases  # noqa: E402
 import opaque_cases  # noqa: E402
 import opaque_scripts  # noqa: E402
+import opaque_texts  # noqa: E402
 from compare import refusals  # noqa: E402
+from ir_text_golden import DIVIDER, HOLDER, is_held  # noqa: E402
 from opaque_cases import ATTRIBUTE, OPAQUE, TYPE  # noqa: E402
 from reference import aliases, json_lines, live, script  # noqa: E402
 
@@ -53,6 +55,17 @@ def scripts():
             whole(text.encode(), words)
         GOLDEN.case((*FLAGGED, "--interactive"), text.encode(), live.run(text.encode(), reader=aliases.Reader))
     whole(opaque_scripts.EDITS.encode(), (OPAQUE,))
+
+
+def attributes():
+    """Attributes behind `set-attr`, printed where they are read, and in a module where no line has them so."""
+    lines = []
+    for text, read in opaque_texts.asked():
+        if is_held(text) and text.strip(b" \t\r") == text:
+            lines += [b"set-attr #1 a " + text, *[b"print"] * read]
+        else:
+            whole(b'"a"() {a = ' + text + b"\n} : () -> ()" + PRINT)
+    whole(HOLDER + DIVIDER + b"".join(line + b"\n" for line in lines))
 
 
 def nested(form, begin, opens, closes, end):
@@ -142,7 +155,7 @@ def refused():
 
 
 def main():
-    for part in (texts, scripts, deep, hostile, aliases_and_locations, refused):
+    for part in (texts, scripts, attributes, deep, hostile, aliases_and_locations, refused):
         GOLDEN.begin(f"opaque/{part.__name__}")
         part()
     GOLDEN.write()

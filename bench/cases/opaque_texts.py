@@ -1,19 +1,10 @@
-#!/usr/bin/env python3
-"""Writes stdin and stdout of crates/ir_text_opaque_cases: attributes with opaque terms, one a line, and what the rules
-in Python (bench/reference/opaque.py) say of each. Run it at the top of the repository."""
-import pathlib
+"""Attributes with opaque terms, by hand and by chance, of which the rules in Python (bench/reference/opaque.py) say
+whether they are read."""
 import random
-import sys
 
-ROOT = pathlib.Path(__file__).resolve().parents[2]
-sys.path.insert(0, str(ROOT / "bench"))
-sys.path.insert(0, str(ROOT / "bench/cases"))
+import opaque_cases
+from reference import opaque, rules, texts
 
-import opaque_cases  # noqa: E402
-from reference import opaque, printing, rules, texts  # noqa: E402
-
-CRATE = ROOT / "crates/ir_text_opaque_cases"
-MOST_SHOWN = 400
 # Attributes beside those of opaque_cases.py.
 TEXTS = [
     "memref<4x(i8) -> i8>", "memref<4x*>", "memref<(i8) -> i8>", "memref<2xindex>", "memref <4 x f32>", "memref<f32>",
@@ -53,42 +44,21 @@ def found_texts():
         yield texts.changed(chance, text, texts.OPEN_PIECES)
 
 
-def summed(numbers):
-    found = 0
-    for number in numbers:
-        found = (found * 1000003 + number) % 2**64
-    return found
-
-
-def shown(text):
-    seen = "".join(chr(byte) if 32 <= byte < 126 else "." for byte in text) if len(text) <= MOST_SHOWN else ""
-    return f"{len(text)} bytes {summed(text):016x} {seen}"
-
-
-def answer(text):
-    """What is said of a text, or None where the rules leave open which refusal is told."""
+def is_read(text):
+    """Whether a text is read as an attribute, or None where the rules leave open which refusal is told."""
     try:
         text.decode()
-        found = opaque.Reader(text).one_attr()
-    except rules.Refused as fault:
-        return f"{fault.number} at {fault.at}"
+        opaque.Reader(text).one_attr()
+        return True
+    except rules.Refused:
+        return False
     except (opaque.Open, UnicodeDecodeError):
         return None
-    value = "" if found == ("unit",) else f" = {printing.attr_text(found)}"
-    return shown(f'"a"() {{a{value}}} : () -> ()\n'.encode("latin-1"))
 
 
-def escaped(text):
-    return "".join(chr(byte) if 32 <= byte < 126 else f"~{byte:02X}~" for byte in text)
-
-
-def main():
-    made = {text: answer(text) for text in dict.fromkeys(found_texts())}
-    made = {text: said for text, said in made.items() if said is not None}
-    CRATE.joinpath("stdin").write_text("".join(f"{escaped(it)}\n" for it in made))
-    CRATE.joinpath("stdout").write_text("".join(f"{it}\n" for it in made.values()))
-    print(f"{len(made)} texts")
-
-
-if __name__ == "__main__":
-    main()
+def asked():
+    """Each text of which the rules say whether it is read, and that."""
+    for text in dict.fromkeys(found_texts()):
+        said = is_read(text)
+        if said is not None:
+            yield text, said
