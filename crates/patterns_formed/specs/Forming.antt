@@ -30,17 +30,17 @@ use Rattle.patterns_book.specs.declared.pattern.Asked.TheVariants as asked
 use Rattle.patterns_book.specs.Fitting.{bits_with}
 use Rattle.patterns_book.specs.Shapes.{Shape}
 use Rattle.patterns_book.specs.WellFormed.{is_well_formed}
-use Rattle.patterns_formed.specs.declared.words.Function.{Function}
-use Rattle.patterns_formed.specs.declared.words.Function.TheVariants as function
-use Rattle.patterns_formed.specs.declared.words.Operation.{Operation}
-use Rattle.patterns_formed.specs.declared.words.Operation.TheVariants as operation
+use Rattle.patterns_formed_base.specs.declared.words.Function.{Function}
+use Rattle.patterns_formed_base.specs.declared.words.Function.TheVariants as function
+use Rattle.patterns_formed_base.specs.declared.words.Operation.{Operation}
+use Rattle.patterns_formed_base.specs.declared.words.Operation.TheVariants as operation
 use Rattle.patterns_formed.specs.declared.forming.Entry.{Entry}
 use Rattle.patterns_formed.specs.declared.forming.Told.{Told}
 use Rattle.patterns_formed.specs.declared.forming.Between.{Between}
-use Rattle.patterns_formed.specs.Words.{operation_named, predicate_named, function_named, is_narrower, is_power}
-use Rattle.patterns_formed.specs.Views.{Variable}
-use Rattle.patterns_formed.specs.Names.{Names, names_of, place_of}
-use Rattle.patterns_formed.specs.Types.{Named, Types, same_kind, kind_of, one, one_with, and_variable, written}
+use Rattle.patterns_formed_base.specs.Words.{operation_named, predicate_named, function_named, is_narrower, is_power}
+use Rattle.patterns_formed_base.specs.Views.{Variable}
+use Rattle.patterns_formed_base.specs.Names.{Names, names_of, place_of}
+use Rattle.patterns_formed_base.specs.Types.{Named, Types, same_kind, kind_of, one, one_with, and_variable, written}
 
 -- the variables, and where the places of what comes behind them begin
 pub record Places : Type 0 where

@@ -1,7 +1,7 @@
 -- What the code holds while a pattern is formed.
 use Rattle.patterns_formed.specs.declared.forming.Forming.{Forming as FormingCode}
 use Rattle.patterns_formed.specs.declared.forming.Places.{Places as PlacesCode}
-use Rattle.patterns_formed.specs.Views.{named_views, variable_views}
+use Rattle.patterns_formed_base.specs.Views.{named_views, variable_views}
 use Rattle.patterns_formed.specs.Forming.{Forming, Places}
 
 abbrev pub forming_view : FormingCode → Forming

@@ -1,8 +1,2 @@
-pub mod Words
-pub mod Views
-pub mod Names
-pub mod NameViews
-pub mod Types
-pub mod TypeViews
 pub mod Forming
 pub mod FormingViews

@@ -7,11 +7,11 @@ ghost use Rattle.patterns_formed.specs.Forming.{a_power, comparing, condition_at
 
 use crate::forming::{Forming, Places, begin, behind_end, with_type, written_at};
 use crate::numbers::{ROOM, and_number, arguments};
-use crate::types::{kind_of, same_kind};
-use crate::words::{is_narrower, is_power, predicate_named};
 use dialects_int::operations::Predicate;
 use ir_text_tokens::refusal::TextRefusal;
 use patterns_book::pattern::{Asked, Kind as Type, Number};
+use patterns_formed_base::types::{kind_of, same_kind};
+use patterns_formed_base::words::{is_narrower, is_power, predicate_named};
 use patterns_text::error::PatternError;
 use patterns_text::parts::{Kind, Part};
 use patterns_text::steps::refused;

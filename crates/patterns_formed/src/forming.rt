@@ -3,15 +3,15 @@ ghost use Rattle.std.specs.Prelude.{◌≡◌, ◌+◌, map, length, IfOk, OnOk,
 ghost use Rattle.patterns_text.specs.Parts.{part_view};
 ghost use Rattle.patterns_text.specs.Refusing.{Gives};
 ghost use Rattle.patterns_formed.specs.FormingViews.{forming_view, places_view};
-ghost use Rattle.patterns_formed.specs.TypeViews.{word_view};
+ghost use Rattle.patterns_formed_base.specs.TypeViews.{word_view};
 ghost use Rattle.patterns_formed.specs.Forming.{begun, behind_end, is_of, next_type, typed, typed_as, unite, unite_with, with_type, written_at};
 
-use crate::names::Variable;
-use crate::types::{Types, Word, kind_of, type_word, unified, written};
 use ir_text_tokens::refusal::TextRefusal;
 use ir_types::bits::BitsKind;
 use patterns_book::literals::bits_with;
 use patterns_book::pattern::{Asked, Further, Kind, Literal, New, Number, Piece};
+use patterns_formed_base::names::Variable;
+use patterns_formed_base::types::{Types, Word, kind_of, type_word, unified, written};
 use patterns_text::error::PatternError;
 use patterns_text::parts::{self, Part};
 use patterns_text::steps::refused;

@@ -4,9 +4,6 @@
 mod conditions;
 mod finishing;
 mod forming;
-pub mod names;
 mod numbers;
 pub mod reading;
 mod terms;
-mod types;
-mod words;

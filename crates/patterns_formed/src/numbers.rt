@@ -6,11 +6,11 @@ ghost use Rattle.patterns_formed.specs.FormingViews.{forming_view, places_view};
 ghost use Rattle.patterns_formed.specs.Forming.{and_number, applied, function_at, gathered, inverted, literal_number, name_from, negated, next_number, number_at, room};
 
 use crate::forming::{Forming, Places, behind_end, unite};
-use crate::names::place_of;
-use crate::words::{Function, function_named};
 use dialects_int::operations::Arithmetic;
 use ir_text_tokens::refusal::TextRefusal;
 use patterns_book::pattern::{Literal, Number};
+use patterns_formed_base::names::place_of;
+use patterns_formed_base::words::{Function, function_named};
 use patterns_text::error::PatternError;
 use patterns_text::parts::{Kind, Part};
 use patterns_text::steps::refused;

@@ -9,13 +9,13 @@ ghost use Rattle.patterns_formed.specs.Forming.{asked_predicate, chosen, closed_
 use crate::forming::{
     Between, Entry, Forming, Places, Size, begin, begin_new, behind_end, typed, unite, unite_with,
 };
-use crate::names::place_of;
 use crate::numbers::{ROOM, number};
-use crate::words::{Operation, operation_named, predicate_named};
 use dialects_int::operations::{Cast, Predicate};
 use ir_text_tokens::refusal::TextRefusal;
 use ir_types::bits::BitsKind;
 use patterns_book::pattern::{Asked, Form, Further, Literal, New, Piece};
+use patterns_formed_base::names::place_of;
+use patterns_formed_base::words::{Operation, operation_named, predicate_named};
 use patterns_text::error::PatternError;
 use patterns_text::parts::{Kind, Part};
 use patterns_text::steps::refused;

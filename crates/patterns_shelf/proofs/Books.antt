@@ -20,7 +20,7 @@ use Rattle.patterns_text.specs.Refusing.{Gives, Outcome, ◌>>=◌, begins, refu
 use Rattle.patterns_text.specs.declared.error.PatternError.{PatternError}
 use Rattle.patterns_text.specs.Spelled.{Spells, whole_at}
 use Rattle.patterns_formed.specs.Forming.{formed}
-use Rattle.patterns_formed.specs.Names.{Names, names_of}
+use Rattle.patterns_formed_base.specs.Names.{Names, names_of}
 use Rattle.patterns_makeable.specs.Makeable.{is_makeable}
 use Rattle.patterns_makeable.specs.United.{ready}
 use Rattle.patterns_makeable.proofs.Numbered.{is_ready}

@@ -11,7 +11,7 @@ use Rattle.patterns_spelled.specs.Grammar.{IsPattern}
 use Rattle.patterns_text.specs.Spelled.{Spells, whole_at}
 use Rattle.patterns_printed.specs.Printed.{pattern_text}
 use Rattle.patterns_formed.specs.Forming.{formed}
-use Rattle.patterns_formed.specs.Names.{names_of}
+use Rattle.patterns_formed_base.specs.Names.{names_of}
 use Rattle.patterns_makeable.specs.Makeable.{is_makeable}
 use Rattle.patterns_makeable.specs.United.{ready}
 use Rattle.patterns_book.specs.Shapes.{Shape, shape}

@@ -1,6 +1,6 @@
 use Rattle.std.proofs.Common.{◌≡◌, ◌+◌, ◌-◌, ◌≤◌, ◌++◌, [], eqb, length, map}
 use Rattle.patterns_formed.specs.Forming.{count_constants}
-use Rattle.patterns_formed.specs.Views.{variable_views}
+use Rattle.patterns_formed_base.specs.Views.{variable_views}
 use Rattle.patterns_formed.proofs.reading.count_constants.Given as goal
 
 abbrev pub invariant-variables : goal.invariant-variables

@@ -1,5 +1,5 @@
 use Rattle.std.proofs.Common.{◌≡◌, ◌++◌, length}
-use Rattle.patterns_formed.specs.Views.{variable_views}
+use Rattle.patterns_formed_base.specs.Views.{variable_views}
 use Rattle.patterns_judged.specs.Rows.{named_views}
 use Rattle.patterns_shelf.proofs.define.all_owned.Given as goal
 

@@ -2,9 +2,9 @@
 use Rattle.std.proofs.Common.{◌≡◌, ◌∙◌, ℕ, zero, suc, ◌+◌, arith, List, [], ◌∷◌, ◌++◌, length, refl, ap}
 use Rattle.std.specs.List.{range_with_len}
 use Rattle.std.proofs.lemmas.List.{length-map}
-use Rattle.patterns_formed.specs.declared.names.Variable.{Variable as VariableCode}
-use Rattle.patterns_formed.specs.declared.types.Named.{Named as NamedCode}
-use Rattle.patterns_formed.specs.Views.{Variable, named_view, named_views, variable_view, variable_views}
+use Rattle.patterns_formed_base.specs.declared.names.Variable.{Variable as VariableCode}
+use Rattle.patterns_formed_base.specs.declared.types.Named.{Named as NamedCode}
+use Rattle.patterns_formed_base.specs.Views.{Variable, named_view, named_views, variable_view, variable_views}
 
 pub variables_and : (vs : List VariableCode) (v : VariableCode) → variable_views (vs ++ v ∷ []) ≡ variable_views vs ++ variable_view v ∷ []
 variables_and [] v = refl

@@ -6,10 +6,10 @@ use Rattle.dialects_int.specs.declared.operations.Arithmetic.TheVariants as op
 use Rattle.dialects_int.specs.declared.operations.Cast.TheVariants as cast
 use Rattle.dialects_int.specs.declared.operations.Predicate.{Predicate}
 use Rattle.dialects_int.specs.declared.operations.Predicate.TheVariants as asks
-use Rattle.patterns_formed.specs.declared.words.Function.{Function}
-use Rattle.patterns_formed.specs.declared.words.Function.TheVariants as function
-use Rattle.patterns_formed.specs.declared.words.Operation.{Operation}
-use Rattle.patterns_formed.specs.declared.words.Operation.TheVariants as operation
+use Rattle.patterns_formed_base.specs.declared.words.Function.{Function}
+use Rattle.patterns_formed_base.specs.declared.words.Function.TheVariants as function
+use Rattle.patterns_formed_base.specs.declared.words.Operation.{Operation}
+use Rattle.patterns_formed_base.specs.declared.words.Operation.TheVariants as operation
 
 abbrev pub or_else : {A : Type 0} → Option A → Option A → Option A
 or_else (Some x) o = Some x

@@ -5,12 +5,12 @@ use Rattle.ir_text_tokens.specs.declared.refusal.TextRefusal.TheVariants.{Unknow
 use Rattle.patterns_spelled.specs.Grammar.{most}
 use Rattle.patterns_text.specs.Parts.{Part, operation_part, value_part, literal_part, name_part, function_part, condition_part, type_part, end_part, Placed, Pattern}
 use Rattle.patterns_text.specs.Refusing.{Outcome, ◌>>=◌, refused}
-use Rattle.patterns_formed.specs.declared.names.Count.{Count}
-use Rattle.patterns_formed.specs.declared.names.Count.TheVariants as count
-use Rattle.patterns_formed.specs.declared.words.Function.{Function}
-use Rattle.patterns_formed.specs.declared.words.Function.TheVariants as function
-use Rattle.patterns_formed.specs.Words.{function_named, is_condition, is_narrower, is_power}
-use Rattle.patterns_formed.specs.Views.{Variable}
+use Rattle.patterns_formed_base.specs.declared.names.Count.{Count}
+use Rattle.patterns_formed_base.specs.declared.names.Count.TheVariants as count
+use Rattle.patterns_formed_base.specs.declared.words.Function.{Function}
+use Rattle.patterns_formed_base.specs.declared.words.Function.TheVariants as function
+use Rattle.patterns_formed_base.specs.Words.{function_named, is_condition, is_narrower, is_power}
+use Rattle.patterns_formed_base.specs.Views.{Variable}
 
 abbrev pub is_variable : Bool → List ℕ → Variable → Bool
 is_variable true name v = v.0 && bytes_eq v.1 name

@@ -3,9 +3,9 @@ ghost use Rattle.std.specs.Prelude.{◌≡◌, codes, length, true, false, IfOk,
 ghost use Rattle.std.specs.Str.{bytes_eq};
 ghost use Rattle.patterns_spelled.specs.Heads.{behind_i, is_integer_word, type_word};
 ghost use Rattle.patterns_text.specs.Refusing.{Gives};
-ghost use Rattle.patterns_formed.specs.Views.{named_views};
-ghost use Rattle.patterns_formed.specs.TypeViews.{types_view, word_view};
-ghost use Rattle.patterns_formed.specs.Types.{all_in_place, and_kind, and_variable, in_place, kind_of, named_from, same_bits, same_kind, slot_of, unified, united, written};
+ghost use Rattle.patterns_formed_base.specs.Views.{named_views};
+ghost use Rattle.patterns_formed_base.specs.TypeViews.{types_view, word_view};
+ghost use Rattle.patterns_formed_base.specs.Types.{all_in_place, and_kind, and_variable, in_place, kind_of, named_from, same_bits, same_kind, slot_of, unified, united, written};
 
 use ir_text_tokens::refusal::TextRefusal;
 use ir_text_types::scalars::scalar_of;
@@ -47,7 +47,7 @@ fn same_bits(a: BitsKind, b: BitsKind) -> bool
 }
 
 /// Whether two types are one.
-pub(crate) fn same_kind(a: Kind, b: Kind) -> bool
+pub fn same_kind(a: Kind, b: Kind) -> bool
     ensures { result ≡ same_kind a b }
 {
     match a {
@@ -63,7 +63,7 @@ pub(crate) fn same_kind(a: Kind, b: Kind) -> bool
 }
 
 /// The type of a number.
-pub(crate) fn kind_of(slot: usize, kinds: &[Kind]) -> Kind
+pub fn kind_of(slot: usize, kinds: &[Kind]) -> Kind
     ensures { result ≡ kind_of slot kinds.now }
 {
     if slot < kinds.len() {
@@ -141,7 +141,7 @@ fn united(
 
 /// Two types are one from now on; else `TypeMismatch`.
 #[tactic(auto, unfolding(crate::specs::Types::unified))]
-pub(crate) fn unified(
+pub fn unified(
     alloc: Global,
     a: Kind,
     b: Kind,
@@ -173,7 +173,7 @@ fn slot_of(name: &[u8], named: &[Named<'_>]) -> Option<usize>
 
 /// A type that is written.
 #[derive(Clone, Copy)]
-pub(crate) enum Word<'a> {
+pub enum Word<'a> {
     Fixed(BitsKind),
     Name(&'a [u8]),
     Nothing,
@@ -193,7 +193,7 @@ fn width_of(word: &[u8]) -> Option<u32>
 }
 
 #[tactic(auto, unfolding(patterns_spelled::specs::Heads::type_word))]
-pub(crate) fn type_word(word: &[u8]) -> Word<'_>
+pub fn type_word(word: &[u8]) -> Word<'_>
     ensures { word_view result ≡ type_word word.now }
 {
     if word == b"index".as_slice() {
@@ -210,7 +210,7 @@ pub(crate) fn type_word(word: &[u8]) -> Word<'_>
 
 impl<'a> Types<'a> {
     /// A type more, and its number.
-    pub(crate) fn and_kind(&mut self, kind: Kind) -> Result<usize, AllocError>
+    pub fn and_kind(&mut self, kind: Kind) -> Result<usize, AllocError>
         ensures slot { IfOk result (λ slot. slot ≡ length self.old.kinds.items) }
         ensures kinds { OnOk result (self.new.kinds.items ≡ and_kind self.old.kinds.items kind) }
         ensures named { OnOk result (self.new.named ≡ self.old.named) }
@@ -221,7 +221,7 @@ impl<'a> Types<'a> {
     }
 
     /// A variable more, and its number.
-    pub(crate) fn and_variable(&mut self) -> Result<usize, AllocError>
+    pub fn and_variable(&mut self) -> Result<usize, AllocError>
         ensures slot { IfOk result (λ slot. slot ≡ length self.old.kinds.items) }
         ensures kinds { OnOk result (self.new.kinds.items ≡ and_variable self.old.kinds.items) }
         ensures named { OnOk result (self.new.named ≡ self.old.named) }
@@ -246,7 +246,7 @@ fn of_name<'a>(types: &mut Types<'a>, name: &'a [u8]) -> Result<usize, PatternEr
 
 /// The number of a type that is written.
 #[tactic(auto, unfolding(crate::specs::Types::written))]
-pub(crate) fn written<'a>(types: &mut Types<'a>, word: &'a [u8]) -> Result<usize, PatternError>
+pub fn written<'a>(types: &mut Types<'a>, word: &'a [u8]) -> Result<usize, PatternError>
     ensures { Gives (λ slot. (slot, types_view types.new)) result (Ok (written word.now (types_view types.old))) }
 {
     match type_word(word) {

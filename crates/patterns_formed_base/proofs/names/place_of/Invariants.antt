@@ -1,7 +1,7 @@
 use Rattle.std.proofs.Common.{◌≡◌, ◌+◌, length}
-use Rattle.patterns_formed.specs.Views.{variable_views}
-use Rattle.patterns_formed.specs.Names.{place_from, place_of}
-use Rattle.patterns_formed.proofs.names.place_of.Given as goal
+use Rattle.patterns_formed_base.specs.Views.{variable_views}
+use Rattle.patterns_formed_base.specs.Names.{place_from, place_of}
+use Rattle.patterns_formed_base.proofs.names.place_of.Given as goal
 
 abbrev pub invariant-variables : goal.invariant-variables
 invariant-variables l = record {

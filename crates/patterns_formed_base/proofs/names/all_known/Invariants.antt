@@ -1,8 +1,8 @@
 use Rattle.std.proofs.Common.{◌≡◌, length, map}
 use Rattle.patterns_text.specs.Parts.{part_view}
-use Rattle.patterns_formed.specs.Views.{variable_views}
-use Rattle.patterns_formed.specs.Names.{all_known}
-use Rattle.patterns_formed.proofs.names.all_known.Given as goal
+use Rattle.patterns_formed_base.specs.Views.{variable_views}
+use Rattle.patterns_formed_base.specs.Names.{all_known}
+use Rattle.patterns_formed_base.proofs.names.all_known.Given as goal
 
 abbrev pub invariant-parts : goal.invariant-parts
 invariant-parts l = all_known (variable_views l.fn.variables) (map part_view l.rest) ≡ all_known (variable_views l.fn.variables) (map part_view l.fn.parts)

@@ -2,11 +2,11 @@
 use Rattle.std.specs.Prelude.{Option, Some, None}
 use Rattle.ir_types.specs.declared.bits.BitsKind.TheVariants as bits
 use Rattle.patterns_spelled.specs.Heads.{Written, integer_type, index_type, variable_type}
-use Rattle.patterns_formed.specs.declared.types.Types.{Types as TypesCode}
-use Rattle.patterns_formed.specs.declared.types.Word.{Word}
-use Rattle.patterns_formed.specs.declared.types.Word.TheVariants as word
-use Rattle.patterns_formed.specs.Views.{named_views}
-use Rattle.patterns_formed.specs.Types.{Types}
+use Rattle.patterns_formed_base.specs.declared.types.Types.{Types as TypesCode}
+use Rattle.patterns_formed_base.specs.declared.types.Word.{Word}
+use Rattle.patterns_formed_base.specs.declared.types.Word.TheVariants as word
+use Rattle.patterns_formed_base.specs.Views.{named_views}
+use Rattle.patterns_formed_base.specs.Types.{Types}
 
 abbrev pub types_view : TypesCode → Types
 types_view t = record { kinds = t.kinds.items; named = named_views t.named.items }

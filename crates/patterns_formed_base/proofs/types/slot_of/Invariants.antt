@@ -1,7 +1,7 @@
 use Rattle.std.proofs.Common.{◌≡◌, length}
-use Rattle.patterns_formed.specs.Views.{named_views}
-use Rattle.patterns_formed.specs.Types.{slot_of}
-use Rattle.patterns_formed.proofs.types.slot_of.Given as goal
+use Rattle.patterns_formed_base.specs.Views.{named_views}
+use Rattle.patterns_formed_base.specs.Types.{slot_of}
+use Rattle.patterns_formed_base.proofs.types.slot_of.Given as goal
 
 abbrev pub invariant-names : goal.invariant-names
 invariant-names l = slot_of l.fn.name (named_views l.rest) ≡ slot_of l.fn.name (named_views l.fn.named)

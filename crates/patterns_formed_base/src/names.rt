@@ -2,9 +2,9 @@
 ghost use Rattle.std.specs.Prelude.{◌≡◌, ◌≤◌, [], map, length, IfOk, IfSome};
 ghost use Rattle.patterns_text.specs.Parts.{kind_view, part_view, pattern_view};
 ghost use Rattle.patterns_text.specs.Refusing.{Gives};
-ghost use Rattle.patterns_formed.specs.Views.{variable_view, variable_views};
-ghost use Rattle.patterns_formed.specs.Names.{all_known, counted, function_weight, condition_weight, is_unknown, is_variable, most_of, names_of, place_of, taken, weight, with_part, with_variable};
-ghost use Rattle.patterns_formed.specs.NameViews.{names_view};
+ghost use Rattle.patterns_formed_base.specs.Views.{variable_view, variable_views};
+ghost use Rattle.patterns_formed_base.specs.Names.{all_known, counted, function_weight, condition_weight, is_unknown, is_variable, most_of, names_of, place_of, taken, weight, with_part, with_variable};
+ghost use Rattle.patterns_formed_base.specs.NameViews.{names_view};
 
 use crate::words::{Function, function_named, is_condition, is_narrower, is_power};
 use ir_text_tokens::refusal::TextRefusal;
@@ -59,7 +59,7 @@ fn is_variable(is_value: bool, name: &[u8], variable: &Variable<'_>) -> bool
 
 /// The place of a variable.
 #[tactic(auto, unfolding(crate::specs::Names::place_from))]
-pub(crate) fn place_of(is_value: bool, name: &[u8], variables: &[Variable<'_>]) -> Option<usize>
+pub fn place_of(is_value: bool, name: &[u8], variables: &[Variable<'_>]) -> Option<usize>
     ensures { result ≡ place_of is_value name.now (variable_views variables.now) }
 {
     let mut rest = variables;

@@ -1,7 +1,7 @@
 -- What the code holds of names and types.
 use Rattle.std.specs.Prelude.{ℕ, Bool, List, map}
-use Rattle.patterns_formed.specs.declared.names.Variable.{Variable as VariableCode}
-use Rattle.patterns_formed.specs.declared.types.Named.{Named}
+use Rattle.patterns_formed_base.specs.declared.names.Variable.{Variable as VariableCode}
+use Rattle.patterns_formed_base.specs.declared.types.Named.{Named}
 
 -- a variable is one of a value or of a number, by its name
 abbrev pub Variable : Type 0

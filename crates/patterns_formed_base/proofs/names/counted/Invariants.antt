@@ -1,7 +1,7 @@
 use Rattle.std.proofs.Common.{◌≡◌, ◌≤◌, length, map}
 use Rattle.patterns_text.specs.Parts.{part_view}
-use Rattle.patterns_formed.specs.Names.{counted}
-use Rattle.patterns_formed.proofs.names.counted.Given as goal
+use Rattle.patterns_formed_base.specs.Names.{counted}
+use Rattle.patterns_formed_base.proofs.names.counted.Given as goal
 
 abbrev pub invariant-parts : goal.invariant-parts
 invariant-parts l = record {

@@ -1,6 +1,6 @@
 //! What the words of the language stand for.
 ghost use Rattle.std.specs.Prelude.{◌≡◌};
-ghost use Rattle.patterns_formed.specs.Words.{first_pair, function_named, further_pair, is_condition, is_narrower, is_power, operation_named, other_named, pair_named, predicate_named};
+ghost use Rattle.patterns_formed_base.specs.Words.{first_pair, function_named, further_pair, is_condition, is_narrower, is_power, operation_named, other_named, pair_named, predicate_named};
 
 use dialects_int::operations::{Arithmetic, Cast, Predicate};
 
@@ -139,7 +139,7 @@ fn other_named(word: &[u8]) -> Option<Operation>
 
 /// The operation of this name, if it folds.
 #[tactic(auto, unfolding(crate::specs::Words::operation_named))]
-pub(crate) fn operation_named(word: &[u8]) -> Option<Operation>
+pub fn operation_named(word: &[u8]) -> Option<Operation>
     ensures { result ≡ operation_named word.now }
 {
     match pair_named(word) {
@@ -150,7 +150,7 @@ pub(crate) fn operation_named(word: &[u8]) -> Option<Operation>
 
 /// The predicate of this word.
 #[tactic(auto, unfolding(crate::specs::Words::predicate_named))]
-pub(crate) fn predicate_named(word: &[u8]) -> Option<Predicate>
+pub fn predicate_named(word: &[u8]) -> Option<Predicate>
     ensures { result ≡ predicate_named word.now }
 {
     if word == b"eq".as_slice() {
@@ -188,7 +188,7 @@ pub(crate) fn predicate_named(word: &[u8]) -> Option<Predicate>
 
 /// The function of this name.
 #[tactic(auto, unfolding(crate::specs::Words::function_named))]
-pub(crate) fn function_named(word: &[u8]) -> Option<Function>
+pub fn function_named(word: &[u8]) -> Option<Function>
     ensures { result ≡ function_named word.now }
 {
     if word == b"add".as_slice() {
@@ -225,21 +225,21 @@ pub(crate) fn function_named(word: &[u8]) -> Option<Function>
 }
 
 /// Whether a word is `narrower`.
-pub(crate) fn is_narrower(word: &[u8]) -> bool
+pub fn is_narrower(word: &[u8]) -> bool
     ensures { result ≡ is_narrower word.now }
 {
     word == b"narrower".as_slice()
 }
 
 /// Whether a word is `power_of_two`.
-pub(crate) fn is_power(word: &[u8]) -> bool
+pub fn is_power(word: &[u8]) -> bool
     ensures { result ≡ is_power word.now }
 {
     word == b"power_of_two".as_slice()
 }
 
 /// Whether a word is one of a condition.
-pub(crate) fn is_condition(word: &[u8]) -> bool
+pub fn is_condition(word: &[u8]) -> bool
     ensures { result ≡ is_condition word.now }
 {
     is_narrower(word) || is_power(word) || predicate_named(word).is_some()

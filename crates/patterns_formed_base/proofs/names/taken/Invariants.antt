@@ -1,8 +1,8 @@
 use Rattle.std.proofs.Common.{◌≡◌, ◌≤◌, [], length, map}
 use Rattle.patterns_text.specs.Parts.{part_view}
-use Rattle.patterns_formed.specs.Views.{variable_views}
-use Rattle.patterns_formed.specs.Names.{taken}
-use Rattle.patterns_formed.proofs.names.taken.Given as goal
+use Rattle.patterns_formed_base.specs.Views.{variable_views}
+use Rattle.patterns_formed_base.specs.Names.{taken}
+use Rattle.patterns_formed_base.proofs.names.taken.Given as goal
 
 abbrev pub invariant-parts : goal.invariant-parts
 invariant-parts l = record {
