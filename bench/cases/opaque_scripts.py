@@ -81,7 +81,7 @@ report dead
 report constants
 """
 
-# Rules at opaque types: those on any type do as ever, and beyond the table none does, also where nobody uses it.
+# Rules at opaque types: those on any type do as ever, and beyond the table only that which erases what is dead.
 REWRITES = """"func.func"() <{function_type = (f32, i1, vector<4xi8>) -> f32, sym_name = "f"}> ({
 ^bb0(%f: f32, %c: i1, %v: vector<4xi8>):
   %t = "arith.constant"() <{value = true}> : () -> i1
@@ -127,6 +127,68 @@ apply 24 #17
 apply 23 #17
 apply 22 #11
 rewrite 1
+print ids
+"""
+
+# What is dead goes beyond the table, where it is told nothing and has no property outside its row; no other rule applies.
+DEAD = """%f = "arith.constant"() <{value = 1.0 : f32}> : () -> f32
+%v = "t.v"() : () -> vector<4xi8>
+%x = "t.x"() : () -> index
+%z = "arith.constant"() <{value = dense<0> : vector<4xi8>}> : () -> vector<4xi8>
+%s = "arith.addi"(%v, %z) : (vector<4xi8>, vector<4xi8>) -> vector<4xi8>
+%p = "arith.muli"(%s, %s) : (vector<4xi8>, vector<4xi8>) -> vector<4xi8>
+%a = "memref.alloc"() : () -> memref<4xi8, 1>
+%l = "memref.load"(%a, %x) : (memref<4xi8, 1>, index) -> i8
+%b = "memref.alloc"() : () -> memref<4xi8, 1>
+"memref.dealloc"(%b) : (memref<4xi8, 1>) -> ()
+%i = "arith.constant"() <{value = 1 : i8}> : () -> f32
+%n = "arith.constant"() : () -> f32
+%k = "arith.constant"() <{other, value = 2.0 : f64}> : () -> f64
+%o = "arith.addi"(%v) : (vector<4xi8>) -> vector<4xi8>
+%w = "arith.constant"() <{value = 1.0 : f32}> : () -> i32
+%t = "arith.constant"() <{value = true}> : () -> i1
+"scf.if"(%t) ({
+  %y = "arith.subi"(%v, %v) {a} : (vector<4xi8>, vector<4xi8>) -> vector<4xi8>
+  "scf.yield"() : () -> ()
+}, {}) : (i1) -> ()
+// -----
+report diagnostics
+report dead
+begin
+apply 1 #1
+apply erase-dead #6
+apply 1 #5
+apply 1 #5
+apply 1 #4
+apply 1 #7
+apply 1 #8
+apply 1 #7
+apply 1 #9
+apply 1 #10
+apply 1 #11
+apply 1 #12
+apply 1 #13
+apply 1 #14
+apply 1 #15
+apply 1 #18
+print ids
+rollback
+apply 2 #1
+apply fold-to-constant #5
+apply 4 #5
+apply 7 #18
+apply 8 #6
+apply 25 #6
+apply 26 #18
+begin
+rewrite 2,4,7,8
+rewrite 1 trace limit 1
+canon trace
+print
+report diagnostics
+rollback
+canon trace limit 3
+rewrite 7,22,1 trace
 print ids
 """
 
@@ -204,4 +266,4 @@ print ids
 sweep
 """
 
-SCRIPTS = (ROWS, BEYOND_ROWS, REWRITES, CONVERSIONS, EDITS)
+SCRIPTS = (ROWS, BEYOND_ROWS, REWRITES, DEAD, CONVERSIONS, EDITS)

@@ -103,7 +103,8 @@ def has_kind(key, attr):
     return True
 
 
-# What the table doesn't speak of: an operation beyond it breaks no rule on integers, and no rewrite rule applies at it.
+# What the table doesn't speak of: an operation beyond it breaks no rule on integers, and no rewrite rule but the first
+# applies at it.
 
 MEMREFS = {b"memref.load": (0, None), b"memref.store": (1, None), b"memref.dealloc": (0, None),
            b"memref.alloc": (None, 0)}

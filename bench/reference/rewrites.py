@@ -443,12 +443,13 @@ def is_clean(module, number):
 
 
 def after(module, rule, number):
-    """The module after a rule at an operation that is clean, or none where it doesn't apply. Beyond the table none
-    does."""
+    """The module after a rule at an operation that is clean, or none where it doesn't apply. Beyond the table only the
+    first does."""
     tried = module.copy()
     site = Site(tried, number)
     try:
-        site.within(site.x)
+        if rule != 1:
+            site.within(site.x)
         RULES[rule - 1](site)
     except No:
         return None

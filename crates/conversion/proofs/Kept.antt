@@ -26,7 +26,7 @@ use Rattle.patterns_base.specs.Keeps.{given}
 use Rattle.patterns_base.specs.Looks.{Header, One, front_of, giver, in_front, is_clean, is_of_type, one, one_from, source, type_of, when}
 use Rattle.patterns_base.specs.Makes.{give}
 use Rattle.patterns_base.specs.Rules.{rule}
-use Rattle.patterns_base.specs.Rewrites.{edits_of}
+use Rattle.patterns_base.specs.Rewrites.{edits_of, suits}
 use Rattle.patterns_base.specs.Words.{named, among, index_casts}
 use Rattle.conversion_base.specs.Reconciling.{is_cast, is_cast_found}
 use Rattle.conversion_base.specs.Targets.{cast_name}
@@ -39,7 +39,7 @@ use Rattle.patterns_base.proofs.Facts.{when_some}
 -- ---- how casting back comes to apply at a cast
 
 edits_are : (m : Module) (x : ℕ) → edits_of CastBack m x ≡ given (find x m.tree) (λ o. given (front_of x m.tree) (λ front. when (is_clean m.tree (head o)) (rule CastBack m.tree m.next front o)))
-unfolding edits_of
+unfolding edits_of suits
 edits_are m x = refl
 
 -- its operand has the result's type; or a cast gives it, whose operand has

@@ -10,11 +10,11 @@ use Rattle.patterns_edits.specs.Contents.{Edit, edited}
 use Rattle.patterns_edits.specs.Edits.{Erase}
 use Rattle.patterns_base.specs.declared.rule.Rule.TheVariants.{CastBack}
 use Rattle.patterns_base.specs.Keeps.{given}
-use Rattle.patterns_base.specs.Looks.{when, is_clean, front_of, one}
+use Rattle.patterns_base.specs.Looks.{when, front_of, one}
 use Rattle.patterns_base.specs.Made.{cast}
 use Rattle.patterns_base.specs.Makes.{give_new, made_by}
 use Rattle.patterns_base.specs.declared.rule.Rule.{Rule}
-use Rattle.patterns_base.specs.Rewrites.{none, becomes, edits_of, rewrite_by, rewrite_of}
+use Rattle.patterns_base.specs.Rewrites.{none, becomes, edits_of, rewrite_by, rewrite_of, suits}
 use Rattle.patterns_base.specs.Rules.{rule}
 use Rattle.conversion_base.specs.Reconciling.{collapse, index_edits, is_cast, rewrite_or, takes_index, unused_erased}
 use Rattle.conversion_base.proofs.Makes.{given_some}
@@ -24,7 +24,7 @@ use Rattle.patterns_base.proofs.Facts.{edits_are, rewrite_is, when_some}
 pub none_there : (r : Rule) (m : Module) (x : ℕ) → has_id x m.tree ≡ false → rewrite_of r m x ≡ none
 none_there r m x e =
     rewrite_is r m x
-    ∙ ap (λ o. rewrite_by o m) (edits_are r m x ∙ ap (λ o. given o (λ o. given (front_of x m.tree) (λ front. when (is_clean m.tree (head o)) (rule r m.tree m.next front o)))) (absent_find x m.tree e))
+    ∙ ap (λ o. rewrite_by o m) (edits_are r m x ∙ ap (λ o. given o (λ o. given (front_of x m.tree) (λ front. when (suits r m.tree (head o)) (rule r m.tree m.next front o)))) (absent_find x m.tree e))
 
 -- ---- casts
 

@@ -11,12 +11,12 @@ use Rattle.ir_event.specs.Modules.{Module}
 use Rattle.patterns_edits.specs.Contents.{Edit, all_edited, edited}
 use Rattle.patterns_edits.specs.Edits.{Insert, Make, Erase, Move, SetOperand, Replace, SetAttr, DropAttr}
 use Rattle.patterns_base.specs.Keeps.{given}
-use Rattle.patterns_base.specs.Looks.{when, is_clean, front_of}
+use Rattle.patterns_base.specs.Looks.{when, front_of}
 use Rattle.patterns_base.specs.Makes.{makes, made_by}
 use Rattle.patterns_base.specs.declared.rule.Rule.{Rule}
 use Rattle.patterns_base.specs.RuleNames.{is_converting}
 use Rattle.patterns_base.specs.Rules.{rule}
-use Rattle.patterns_base.specs.Rewrites.{refused, becomes, edits_of, rewrite_of, rewrite_by, carried_out}
+use Rattle.patterns_base.specs.Rewrites.{refused, becomes, edits_of, rewrite_of, rewrite_by, carried_out, suits}
 use Rattle.patterns_base.proofs.Making.{converting_rules_make}
 use Rattle.patterns_base.proofs.Facts.{edits_are, rewrite_is, when_some}
 
@@ -36,7 +36,7 @@ pub applies : (r : Rule) (m : Module) (x : ℕ) (es : List Edit) → edits_of r 
 applies r m x es e =
     let o = given_some (find x m.tree) _ es (sym (edits_are r m x) ∙ e) in
     let f = given_some (front_of x m.tree) _ es o.2 in
-    record { here = o.0; front = f.0; found = o.1; at = f.1; is = (when_some (is_clean m.tree (head o.0)) _ es f.2).1 }
+    record { here = o.0; front = f.0; found = o.1; at = f.1; is = (when_some (suits r m.tree (head o.0)) _ es f.2).1 }
 
 -- what is carried out
 pub carried : (es : List Edit) (m n : Module) → carried_out es m ≡ becomes n → n ≡ all_edited es m

@@ -25,9 +25,9 @@ use Rattle.listeners_surroundings.specs.Surroundings.{SurroundingsOf, surroundin
 use Rattle.patterns_laws.specs.Keeps.{given}
 use Rattle.patterns_base.specs.declared.rule.Rule.{Rule}
 use Rattle.patterns_base.specs.RuleNames.{is_canonical}
-use Rattle.patterns_base.specs.Looks.{Header, when, may_go, is_clean, front_of, giver, type_of}
+use Rattle.patterns_base.specs.Looks.{Header, when, may_go, front_of, giver, type_of}
 use Rattle.patterns_base.specs.Rules.{rule}
-use Rattle.patterns_base.specs.Rewrites.{edits_of}
+use Rattle.patterns_base.specs.Rewrites.{edits_of, suits}
 use Rattle.greedy.specs.Reached.{ends, any_reaches}
 use Rattle.greedy.specs.Sights.{giver as giver_id, operands_of, Uses, is_listed, last_ids}
 use Rattle.greedy.specs.Near.{Leads}
@@ -40,7 +40,7 @@ use Rattle.greedy.proofs.Reaching.{all_far}
 use Rattle.greedy.proofs.Tracked.{effects_stay}
 use Rattle.greedy.proofs.Usings.{unused_stays}
 use Rattle.greedy.proofs.Lasting.{lasts_stay, unreached_all, last_in, same_lasts}
-use Rattle.greedy.proofs.Unlisted.{found_surroundings, surroundings_found, there_found, found_there, outer_some, last_header, clean_alike, heads_alike, head_id, shows_alike}
+use Rattle.greedy.proofs.Unlisted.{found_surroundings, surroundings_found, there_found, found_there, outer_some, last_header, clean_alike, suits_alike, heads_alike, head_id, shows_alike}
 use Rattle.std.proofs.lemmas.Bool.{false_from_ne_true}
 
 map_member : {X Y : Type 0} (f g : X → Y) (xs : List X) → map f xs ≡ map g xs → (x : X) → In x xs → f x ≡ g x
@@ -232,7 +232,7 @@ module _ (shown : ℕ → List Value) (c : Things) (es : List Event) (m n : Modu
             let same : head q ≡ h = cc in
             shows_alike t u v (λ z g. far z (λ b. away (lists.around.around_users z l x b (uses_found l q j v (subst (λ (d : Header). In v d.operands) (sym same) k) z g) (ends_there r l i))))
 
-    -- ---- whether it is dead, and clean
+    -- ---- whether it is dead, and which rules it suits
     dead_alike : may_go t o ≡ may_go u p
     unfolding may_go
     dead_alike =
@@ -244,8 +244,8 @@ module _ (shown : ℕ → List Value) (c : Things) (es : List Event) (m n : Modu
         ap (λ z. is_unused z t) id_of ∙ unused_stays shown c es m n leads x (λ e i v j g. away (lists.givers e i v j x g)) ∙ ap (λ z. is_unused z u) (sym id_of ∙ ap (λ (z : Header). z.id) heads) in
         λ i. unused i && (not (is_kept (heads i).name) && may_be_missed (sets i))
 
-    cleans : is_clean t (head o) ≡ is_clean u (head p)
-    cleans = clean_alike t u (head o) (ap (λ z. surroundings z t) id_of ∙ own ∙ ap (λ z. surroundings z u) (sym id_of)) ∙ ap (is_clean u) heads
+    suited : (r : Rule) → suits r t (head o) ≡ suits r u (head p)
+    suited r = suits_alike t u r (head o) (ap (λ z. surroundings z t) id_of ∙ own ∙ ap (λ z. surroundings z u) (sym id_of)) ∙ ap (suits r u) heads
 
     fronts : is_some (front_of x t) ≡ is_some (front_of x u)
     fronts = outer_some t dn x ∙ ap (λ a. is_some (option_and_then (λ (s : SurroundingsOf (List ℕ) TypeTerm AttrTerm). s.outer) a)) own ∙ sym (outer_some u dm x)
@@ -260,9 +260,9 @@ module _ (shown : ℕ → List Value) (c : Things) (es : List Event) (m n : Modu
     edits_alike : (r : Rule) → is_canonical r ≡ true → Same (edits_of r n x) (edits_of r m x)
     unfolding edits_of
     edits_alike r canonical =
-        ap (λ a. is_some (given a (λ q. given (front_of x t) (λ front. when (is_clean t (head q)) (rule r t n.next front q))))) is
-        ∙ given_both (front_of x t) (front_of x u) (λ front. when (is_clean t (head o)) (rule r t n.next front o)) (λ front. when (is_clean u (head p)) (rule r u m.next front p)) fronts (λ f g i j. when_alike _ _ _ _ cleans (rules_alike r canonical f g))
-        ∙ sym (ap (λ a. is_some (given a (λ q. given (front_of x u) (λ front. when (is_clean u (head q)) (rule r u m.next front q))))) was)
+        ap (λ a. is_some (given a (λ q. given (front_of x t) (λ front. when (suits r t (head q)) (rule r t n.next front q))))) is
+        ∙ given_both (front_of x t) (front_of x u) (λ front. when (suits r t (head o)) (rule r t n.next front o)) (λ front. when (suits r u (head p)) (rule r u m.next front p)) fronts (λ f g i j. when_alike _ _ _ _ (suited r) (rules_alike r canonical f g))
+        ∙ sym (ap (λ a. is_some (given a (λ q. given (front_of x u) (λ front. when (suits r u (head q)) (rule r u m.next front q))))) was)
 
     stayed : Stayed m n x
     stayed = record { was = found_there u x p was; applies = λ r canonical. (none_from (edits_of r n x) (edits_of r m x) (edits_alike r canonical), none_from (edits_of r m x) (edits_of r n x) (sym (edits_alike r canonical))) }

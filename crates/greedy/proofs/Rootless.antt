@@ -13,9 +13,9 @@ use Rattle.ir_event.proofs.of_tree_laws.Around.{member_of_place}
 use Rattle.ir_event.specs.Modules.{Module}
 use Rattle.patterns_base.specs.declared.rule.Rule.{Rule}
 use Rattle.patterns_base.specs.Keeps.{given}
-use Rattle.patterns_base.specs.Looks.{when, is_clean, in_front, front_of}
+use Rattle.patterns_base.specs.Looks.{when, in_front, front_of}
 use Rattle.patterns_base.specs.Rules.{rule}
-use Rattle.patterns_base.specs.Rewrites.{none, edits_of, rewrite_by, rewrite_of}
+use Rattle.patterns_base.specs.Rewrites.{none, edits_of, rewrite_by, rewrite_of, suits}
 use Rattle.patterns_base.specs.Canonicalization.{or_else, first_rule, greedy_rules, lowest}
 
 -- it stands at no place
@@ -34,9 +34,9 @@ no_edits : (r : Rule) (m : Module) → HasDistinctIds m.tree → edits_of r m (h
 unfolding edits_of
 no_edits r m d = go (find (head m.tree).id m.tree) (ap (option_map (in_front (head m.tree).id)) (unplaced m.tree d))
   where
-    go : (a : Option Operation) → front_of (head m.tree).id m.tree ≡ None → given a (λ o. given (front_of (head m.tree).id m.tree) (λ front. when (is_clean m.tree (head o)) (rule r m.tree m.next front o))) ≡ None
+    go : (a : Option Operation) → front_of (head m.tree).id m.tree ≡ None → given a (λ o. given (front_of (head m.tree).id m.tree) (λ front. when (suits r m.tree (head o)) (rule r m.tree m.next front o))) ≡ None
     go None e = refl
-    go (Some o) e = ap (λ f. given f (λ front. when (is_clean m.tree (head o)) (rule r m.tree m.next front o))) e
+    go (Some o) e = ap (λ f. given f (λ front. when (suits r m.tree (head o)) (rule r m.tree m.next front o))) e
 
 pub no_rules : (rs : List Rule) (m : Module) → HasDistinctIds m.tree → first_rule rs m (head m.tree).id ≡ none
 unfolding first_rule rewrite_of

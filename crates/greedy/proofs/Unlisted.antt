@@ -1,6 +1,6 @@
 -- Rules apply alike at the operations that aren't listed.
 use Rattle.std.proofs.Common.{◌≡◌, refl, ap, sym, ◌∙◌, subst, ℕ, true, false, ◌&&◌, List, [], ◌∷◌, map, Option, Some, None}
-use Rattle.std.specs.Prelude.{option_map, option_and_then, is_some}
+use Rattle.std.specs.Prelude.{option_map, option_and_then, is_some, if◌then◌else◌}
 use Rattle.std.specs.List.{list_all}
 use Rattle.ir_event.specs.types.Terms.{TypeTerm, AttrTerm}
 use Rattle.ir_event.specs.types.Words.{is_inherent}
@@ -19,10 +19,14 @@ use Rattle.ir_event.specs.tree_laws.Stands.{StepOf, StandOf, stand_id, stands, s
 use Rattle.ir_event.proofs.of_tree_laws.Readings.{stands_find}
 use Rattle.ir_event.proofs.of_tree_laws.Members.{stand, joined_ops, member, stand_found, stand_of_member, found_stands, same_stand}
 use Rattle.ir_event.proofs.of_tree_laws.Around.{place_of_member, member_of_place, present_stand, stand_present}
+use Rattle.ir_verify.specs.Beyond.{told}
 use Rattle.ir_verify.specs.Breaks.{broken}
 use Rattle.listeners_surroundings.specs.Surroundings.{SurroundingsOf, surround, surroundings, outer_of}
 use Rattle.patterns_laws.specs.Keeps.{given}
-use Rattle.patterns_base.specs.Looks.{Header, Ended, ended, ended_by, breaks_none, is_clean, in_front, front_of}
+use Rattle.patterns_base.specs.Looks.{Header, Ended, ended, ended_by, breaks_none, has_own_properties, is_clean, is_in_order, in_front, front_of}
+use Rattle.patterns_base.specs.Rewrites.{suits}
+use Rattle.patterns_base.specs.RuleNames.{is_erasing}
+use Rattle.patterns_base.specs.declared.rule.Rule.{Rule}
 use Rattle.greedy.specs.Sights.{giver as giver_id}
 use Rattle.patterns.specs.facts.Alike.{ShowsAlike, last_of}
 use Rattle.listeners_surroundings.proofs.Lasts.{split_last, last_stands}
@@ -128,6 +132,13 @@ module _ (t u : Operation) where
   pub clean_alike : (h : Header) → surroundings h.id t ≡ surroundings h.id u → is_clean t h ≡ is_clean u h
   unfolding is_clean
   clean_alike h e = ap (λ a. breaks_none (option_map broken a) && list_all (λ (k : List ℕ × AttrTerm). is_inherent h.name k.0) h.properties) e
+
+  pub suits_alike : (r : Rule) (h : Header) → surroundings h.id t ≡ surroundings h.id u → suits r t h ≡ suits r u h
+  unfolding suits is_in_order
+  suits_alike r h e =
+      let cleans = clean_alike h e in
+      let orders = ap (λ a. breaks_none (option_map told a) && has_own_properties h) e in
+      λ i. if is_erasing r then orders i else cleans i
 
   pub heads_alike : (y : ℕ) → surroundings y t ≡ surroundings y u → option_map head (find y t) ≡ option_map head (find y u)
   heads_alike y e = heads_of y t ∙ ap (option_map (λ (s : SurroundingsOf (List ℕ) TypeTerm AttrTerm). s.node.head)) e ∙ sym (heads_of y u)

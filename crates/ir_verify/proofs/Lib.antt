@@ -4,3 +4,4 @@ pub mod Telling
 pub mod Presence
 pub mod Pairs
 pub mod Silent
+pub mod Verdicts

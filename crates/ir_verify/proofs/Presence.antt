@@ -1,4 +1,4 @@
--- An operation about which there is a set of rules is there, and one about which there is none isn't.
+-- An operation about which there is a fact is there, and one about which there is none isn't.
 use Rattle.std.proofs.Common.{◌≡◌, refl, sym, ap, ◌∙◌, ℕ, true, false, Option, Some, None, inl, inr}
 use Rattle.std.specs.Prelude.{option_map}
 use Rattle.ir_types.specs.Terms.{name_term, type_term, attr_term}
@@ -14,8 +14,6 @@ use Rattle.ir_verify_base.specs.Gathered.{tree_in}
 use Rattle.ir_verify_base.proofs.Meanings.{mapped_surroundings}
 use Rattle.ir_verify_base.proofs.Reading.{absent, nothing_around, gone}
 use Rattle.ir_verify_base.specs.Fits.{Surroundings}
-use Rattle.ir_verify.specs.declared.rules.RuleSet.{RuleSet}
-use Rattle.ir_verify.specs.Sets.{set_of}
 
 none_mapped : {X Y : Type 0} (f : X → Y) (o : Option X) → None ≡ option_map f o → o ≡ None
 none_mapped f None e = refl
@@ -25,21 +23,22 @@ module _ (w : World) (x : ℕ) where
   pub same_there : has_id x (tree_in w) ≡ true → has_id x (module_in w).tree ≡ true
   same_there h = map_has_id (name_term w.ctx) (type_term w.ctx) (attr_term w.ctx) x (tree_in w) ∙ h
 
+module _ {F : Type 0} (fact : Surroundings → F) (w : World) (x : ℕ) where
   abbrev contents : SurroundingsOf ℕ ℕ ℕ → Surroundings
   contents = map_surroundings (name_term w.ctx) (type_term w.ctx) (attr_term w.ctx)
 
-  around : fact_of set_of (module_in w).tree x ≡ option_map set_of (option_map contents (surroundings x (tree_in w)))
-  around = ap (option_map set_of) (mapped_surroundings (name_term w.ctx) (type_term w.ctx) (attr_term w.ctx) x (tree_in w))
+  around : fact_of fact (module_in w).tree x ≡ option_map fact (option_map contents (surroundings x (tree_in w)))
+  around = ap (option_map fact) (mapped_surroundings (name_term w.ctx) (type_term w.ctx) (attr_term w.ctx) x (tree_in w))
 
-  pub isnt_there : None ≡ fact_of set_of (module_in w).tree x → has_id x (module_in w).tree ≡ false
+  pub isnt_there : None ≡ fact_of fact (module_in w).tree x → has_id x (module_in w).tree ≡ false
   isnt_there e =
       map_has_id (name_term w.ctx) (type_term w.ctx) (attr_term w.ctx) x (tree_in w)
-      ∙ gone w.store w.formed.distinct x (none_mapped contents (surroundings x (tree_in w)) (sym (none_mapped set_of (option_map contents (surroundings x (tree_in w))) (e ∙ around))))
+      ∙ gone w.store w.formed.distinct x (none_mapped contents (surroundings x (tree_in w)) (sym (none_mapped fact (option_map contents (surroundings x (tree_in w))) (e ∙ around))))
 
-  pub is_there : (r : RuleSet) → Some r ≡ fact_of set_of (module_in w).tree x → has_id x (module_in w).tree ≡ true
+  pub is_there : (r : F) → Some r ≡ fact_of fact (module_in w).tree x → has_id x (module_in w).tree ≡ true
   is_there r e = elim (bool_cases (has_id x (tree_in w))) [
-    | inl h ↦ same_there h
+    | inl h ↦ same_there w x h
     | inr h ↦ (let none : surroundings x (tree_in w) ≡ None = nothing_around w.store w.formed.distinct x (absent w.store w.formed.distinct x h) in
-        let no : Some r ≡ None = e ∙ around ∙ ap (λ s. option_map set_of (option_map contents s)) none in
+        let no : Some r ≡ None = e ∙ around ∙ ap (λ s. option_map fact (option_map contents s)) none in
         absurd cc)
   ]

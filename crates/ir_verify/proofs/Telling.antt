@@ -49,7 +49,7 @@ set_read x t o e = ap (option_map rules_in) e ∙ go (surroundings x t)
 no_bits : (n : ℕ) → not (n == 0) ≡ false → n ≡ 0
 no_bits n e = elim (bool_cases (n == 0)) [ inl k ↦ eqb-true n 0 k | inr k ↦ absurd (true≢false (sym (ap not k) ∙ e)) ]
 
-no_rules : (set : RuleSet) → has_any set ≡ false → rules_in set ≡ []
+pub no_rules : (set : RuleSet) → has_any set ≡ false → rules_in set ≡ []
 unfolding rules_in
 no_rules set e = ap (λ n. numbers_from 1 (bits_of 24 n)) (no_bits set.bits e) ∙ none 24 1
 

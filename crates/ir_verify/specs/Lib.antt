@@ -4,6 +4,7 @@ pub mod Breaks
 pub mod Beyond
 pub mod Sets
 pub mod Diagnostics
+pub mod Verdicts
 pub mod Pairs
 pub mod Reports
 pub mod Listeners

@@ -9,3 +9,4 @@ pub mod laws;
 mod place_rules;
 mod report;
 pub mod rules;
+pub mod verdict;

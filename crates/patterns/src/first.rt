@@ -23,11 +23,11 @@ use patterns_facts::base::laws::only_listed_rules_apply;
 use patterns_facts::base::rule::Rule;
 use patterns_facts::laws::no_edit_is_refused;
 use patterns_lowering::runs::Bench;
-use patterns_plans::reads::clean::is_clean_shown;
+use patterns_plans::reads::fitness::{Fitness, fitness_shown};
 use patterns_plans::reads::look::{front, shown};
 use std::alloc::{AllocError, Global};
 
-/// The first rule of a list that applies at an operation. Whether that is clean is asked only where a rule may apply.
+/// The first rule of a list that applies at an operation. For which rules it is fit is asked only where one may apply.
 fn find_first(
     alloc: Global,
     world: &World,
@@ -49,10 +49,11 @@ fn find_first(
     let Some(front) = front(world, op) else {
         return Ok(None);
     };
-    if !is_clean_shown(alloc, world, op, &node)? {
+    let fitness = fitness_shown(alloc, world, op, &node)?;
+    if let Fitness::Unfit = fitness {
         return Ok(None);
     }
-    match first_made(alloc, world, rules, &front, op, &node)? {
+    match first_made(alloc, world, rules, &front, op, &node, fitness)? {
         Some((rule, made)) => Ok(Some(Found {
             rule,
             planned: Planned { front, made },

@@ -4,9 +4,10 @@ ghost use Rattle.ir_event.specs.types.declared.refusal.Refusal.TheVariants.{NoSu
 ghost use Rattle.ir_event.specs.trees.Ids.{has_id};
 ghost use Rattle.ir_event.specs.Modules.{NodeIsOf, module_in};
 ghost use Rattle.patterns_facts.specs.base.Canonicalization.{greedy_rules, lowest as lowest_of};
-ghost use Rattle.patterns_facts.specs.base.Looks.{front_of, is_clean as clean_at};
+ghost use Rattle.patterns_facts.specs.base.Looks.{front_of};
 ghost use Rattle.patterns_facts.specs.base.Rewrites.{rewrite_of};
 ghost use Rattle.patterns_plans.specs.reads.Reads.{head_at, head_in};
+ghost use Rattle.patterns_plans.specs.reads.Suited.{IsFitnessOf};
 ghost use Rattle.patterns_lowering.specs.runs.Benched.{Keeps};
 ghost use Rattle.patterns_lowering.specs.runs.Held.{module_held};
 ghost use Rattle.patterns.specs.Applied.{Applied, Gave, IsReason};
@@ -27,7 +28,7 @@ use patterns_facts::base::rule::Rule;
 use patterns_facts::base::table::rules_of;
 use patterns_facts::laws::no_edit_is_refused;
 use patterns_lowering::runs::Bench;
-use patterns_plans::reads::clean::is_clean_shown;
+use patterns_plans::reads::fitness::{Fitness, fitness_shown};
 use patterns_plans::reads::look::{front, shown};
 use std::alloc::{AllocError, Global};
 
@@ -38,7 +39,7 @@ pub struct Found {
     pub planned: Planned,
 }
 
-/// What a rule makes that canonicalization tries and that may apply, at a clean operation, of which this is shown, behind
+/// What a rule makes that canonicalization tries and that may apply, at an operation, of which this is shown, behind
 /// its place.
 fn try_likely(
     alloc: Global,
@@ -47,21 +48,26 @@ fn try_likely(
     front: &Place,
     op: OpId,
     node: &Node<'_>,
+    fitness: Fitness,
 ) -> Result<Option<Made>, AllocError>
     requires likely { IsLikely rule world.now op }
     requires shown { Some (head_in world.now.ctx node.now) ≡ head_at op (module_in world.now).tree }
     requires of { NodeIsOf world.now.ctx node.now }
     requires front { Some front.now ≡ front_of op (module_in world.now).tree }
-    requires clean { clean_at (module_in world.now).tree (record (head_in world.now.ctx node.now) { id = op }) ≡ true }
+    requires fitness { IsFitnessOf (module_in world.now).tree (record (head_in world.now.ctx node.now) { id = op })
+        fitness }
     ensures { IfOk result (TriedFirst rule world.now op front.now) }
 {
+    if !fitness.suits(rule) {
+        return Ok(None);
+    }
     match rule {
         Rule::EraseDead => made_dead(alloc, world, front, op, node),
         _ => made_at(alloc, world, rule, front, op, node),
     }
 }
 
-/// What a rule makes that canonicalization tries, at a clean operation, of which this is shown, behind its place.
+/// What a rule makes that canonicalization tries, at an operation, of which this is shown, behind its place.
 fn try_rule(
     alloc: Global,
     world: &World,
@@ -69,20 +75,22 @@ fn try_rule(
     front: &Place,
     op: OpId,
     node: &Node<'_>,
+    fitness: Fitness,
 ) -> Result<Option<Made>, AllocError>
     requires shown { Some (head_in world.now.ctx node.now) ≡ head_at op (module_in world.now).tree }
     requires of { NodeIsOf world.now.ctx node.now }
     requires front { Some front.now ≡ front_of op (module_in world.now).tree }
-    requires clean { clean_at (module_in world.now).tree (record (head_in world.now.ctx node.now) { id = op }) ≡ true }
+    requires fitness { IsFitnessOf (module_in world.now).tree (record (head_in world.now.ctx node.now) { id = op })
+        fitness }
     ensures { IfOk result (TriedFirst rule world.now op front.now) }
 {
     if !is_likely(world, rule, op, node) {
         return Ok(None);
     }
-    try_likely(alloc, world, rule, front, op, node)
+    try_likely(alloc, world, rule, front, op, node, fitness)
 }
 
-/// The first of some rules that applies at a clean operation, of which this is shown, behind its place.
+/// The first of some rules that applies at an operation, of which this is shown, behind its place.
 fn first_applying(
     alloc: Global,
     world: &World,
@@ -90,16 +98,18 @@ fn first_applying(
     front: &Place,
     op: OpId,
     node: &Node<'_>,
+    fitness: Fitness,
 ) -> Result<Option<(Rule, Made)>, AllocError>
     requires shown { Some (head_in world.now.ctx node.now) ≡ head_at op (module_in world.now).tree }
     requires of { NodeIsOf world.now.ctx node.now }
     requires front { Some front.now ≡ front_of op (module_in world.now).tree }
-    requires clean { clean_at (module_in world.now).tree (record (head_in world.now.ctx node.now) { id = op }) ≡ true }
+    requires fitness { IsFitnessOf (module_in world.now).tree (record (head_in world.now.ctx node.now) { id = op })
+        fitness }
     ensures { IfOk result (IsFirst rules.now world.now op front.now) }
 {
     let mut rest = rules;
     'rules: while let [rule, tail @ ..] = rest {
-        if let Some(made) = try_rule(alloc, world, *rule, front, op, node)? {
+        if let Some(made) = try_rule(alloc, world, *rule, front, op, node, fitness)? {
             return Ok(Some((*rule, made)));
         }
         rest = tail;
@@ -115,24 +125,26 @@ pub(crate) fn first_made(
     front: &Place,
     op: OpId,
     node: &Node<'_>,
+    fitness: Fitness,
 ) -> Result<Option<(Rule, Made)>, AllocError>
     requires begins { BeginsLikely rules.now world.now op }
     requires shown { Some (head_in world.now.ctx node.now) ≡ head_at op (module_in world.now).tree }
     requires of { NodeIsOf world.now.ctx node.now }
     requires front { Some front.now ≡ front_of op (module_in world.now).tree }
-    requires clean { clean_at (module_in world.now).tree (record (head_in world.now.ctx node.now) { id = op }) ≡ true }
+    requires fitness { IsFitnessOf (module_in world.now).tree (record (head_in world.now.ctx node.now) { id = op })
+        fitness }
     ensures { IfOk result (IsFirst rules.now world.now op front.now) }
 {
     let [rule, others @ ..] = rules else {
         return Ok(None);
     };
-    match try_likely(alloc, world, *rule, front, op, node)? {
+    match try_likely(alloc, world, *rule, front, op, node, fitness)? {
         Some(made) => Ok(Some((*rule, made))),
-        None => first_applying(alloc, world, others, front, op, node),
+        None => first_applying(alloc, world, others, front, op, node, fitness),
     }
 }
 
-/// The lowest rule that applies at an operation. Whether that is clean is asked only where a rule may apply.
+/// The lowest rule that applies at an operation. For which rules it is fit is asked only where one may apply.
 fn find_lowest(alloc: Global, world: &World, op: OpId) -> Result<Option<Found>, AllocError>
     ensures { IfOk result (IsLowest world.now op) }
 {
@@ -148,10 +160,11 @@ fn find_lowest(alloc: Global, world: &World, op: OpId) -> Result<Option<Found>, 
     let Some(front) = front(world, op) else {
         return Ok(None);
     };
-    if !is_clean_shown(alloc, world, op, &node)? {
+    let fitness = fitness_shown(alloc, world, op, &node)?;
+    if let Fitness::Unfit = fitness {
         return Ok(None);
     }
-    match first_made(alloc, world, rules, &front, op, &node)? {
+    match first_made(alloc, world, rules, &front, op, &node, fitness)? {
         Some((rule, made)) => Ok(Some(Found {
             rule,
             planned: Planned { front, made },

@@ -1,8 +1,8 @@
 //! The plan of a rule at an operation.
 ghost use Rattle.std.specs.Prelude.{◌≡◌, false, true, IfOk, IfSome, Some, option_map};
 ghost use Rattle.ir_event.specs.Modules.{NodeIsOf, module_in};
-ghost use Rattle.patterns_facts.specs.base.Looks.{front_of, is_clean as clean_at};
-ghost use Rattle.patterns_facts.specs.base.Rewrites.{edits_of};
+ghost use Rattle.patterns_facts.specs.base.Looks.{front_of};
+ghost use Rattle.patterns_facts.specs.base.Rewrites.{edits_of, suits};
 ghost use Rattle.patterns_facts.specs.base.RuleNames.{is_lowering};
 ghost use Rattle.patterns_facts.specs.base.declared.rule.Rule.TheVariants.{EraseDead};
 ghost use Rattle.patterns_plans.specs.Planned.{IsDead};
@@ -21,7 +21,7 @@ use patterns_lowering::plans::plan_lowered;
 use patterns_lowering::region_rules::plans::{plan_open_branch, plan_open_loop, plan_stop_loop};
 use patterns_plans::dead::erase;
 use patterns_plans::planned::plan;
-use patterns_plans::reads::clean::is_clean;
+use patterns_plans::reads::fitness::fitness_shown;
 use patterns_plans::reads::look::{front, shown};
 use patterns_plans::reads::plan::Plan;
 use std::alloc::{AllocError, Global};
@@ -66,8 +66,8 @@ fn plan_of(
     }
 }
 
-/// What a rule makes of a clean operation of the module, of which this is shown, behind a place, if it applies. That
-/// the operation stands there is asked before.
+/// What a rule makes of an operation of the module, of which this is shown, behind a place, if it applies. That the
+/// operation suits the rule, which for one that lowers is that it is clean, and stands there, is asked before.
 fn made_of(
     alloc: Global,
     world: &World,
@@ -78,7 +78,7 @@ fn made_of(
 ) -> Result<Option<Made>, AllocError>
     requires shown { Some (head_in world.now.ctx node.now) ≡ head_at op (module_in world.now).tree }
     requires of { NodeIsOf world.now.ctx node.now }
-    requires clean { IsCleanAt world.now op }
+    requires clean { is_lowering rule ≡ true → IsCleanAt world.now op }
     ensures edits { IfOk result (IsMadeFor rule world.now op front.now) }
     ensures of { IfOk result (λ p. IfSome p (MadeIsOf world.now.ctx)) }
 {
@@ -94,7 +94,7 @@ fn made_of(
     }
 }
 
-/// What a rule makes of a clean operation, of which this is shown, behind its place, if it applies.
+/// What a rule makes of an operation that suits it, of which this is shown, behind its place, if it applies.
 pub(crate) fn made_at(
     alloc: Global,
     world: &World,
@@ -106,7 +106,8 @@ pub(crate) fn made_at(
     requires shown { Some (head_in world.now.ctx node.now) ≡ head_at op (module_in world.now).tree }
     requires of { NodeIsOf world.now.ctx node.now }
     requires front { Some front.now ≡ front_of op (module_in world.now).tree }
-    requires clean { clean_at (module_in world.now).tree (record (head_in world.now.ctx node.now) { id = op }) ≡ true }
+    requires suits { suits rule (module_in world.now).tree (record (head_in world.now.ctx node.now) { id = op })
+        ≡ true }
     ensures edits { IfOk result (λ p. option_map (made_edits world.now.ctx (module_in world.now).next op front.now) p
         ≡ edits_of rule (module_in world.now) op) }
     ensures of { IfOk result (λ p. IfSome p (MadeIsOf world.now.ctx)) }
@@ -114,7 +115,7 @@ pub(crate) fn made_at(
     made_of(alloc, world, rule, front, op, node)
 }
 
-/// What is made of a clean operation that is dead, of which this is shown, behind its place: it is erased.
+/// What is made of an operation in order that is dead, of which this is shown, behind its place: it is erased.
 pub(crate) fn made_dead(
     alloc: Global,
     world: &World,
@@ -125,7 +126,8 @@ pub(crate) fn made_dead(
     requires dead { IsDead world.now op }
     requires shown { Some (head_in world.now.ctx node.now) ≡ head_at op (module_in world.now).tree }
     requires front { Some front.now ≡ front_of op (module_in world.now).tree }
-    requires clean { clean_at (module_in world.now).tree (record (head_in world.now.ctx node.now) { id = op }) ≡ true }
+    requires suits { suits EraseDead (module_in world.now).tree (record (head_in world.now.ctx node.now) { id = op })
+        ≡ true }
     ensures edits { IfOk result (λ p. option_map (made_edits world.now.ctx (module_in world.now).next op front.now) p
         ≡ edits_of EraseDead (module_in world.now) op) }
     ensures of { IfOk result (λ p. IfSome p (MadeIsOf world.now.ctx)) }
@@ -151,7 +153,8 @@ pub(crate) fn find_plan(
     let Some(front) = front(world, op) else {
         return Ok(None);
     };
-    if !is_clean(alloc, world, op, &node)? {
+    let fitness = fitness_shown(alloc, world, op, &node)?;
+    if !fitness.suits(rule) {
         return Ok(None);
     }
     match made_at(alloc, world, rule, &front, op, &node)? {

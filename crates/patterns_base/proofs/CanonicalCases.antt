@@ -13,11 +13,11 @@ use Rattle.op_registry.specs.Properties as properties
 use Rattle.patterns_laws.specs.integers.Arithmetic as arithmetic
 use Rattle.patterns_laws.specs.integers.Folds as folds
 use Rattle.patterns_laws.specs.Words as named
-use Rattle.patterns_base.specs.Looks.{is_clean, may_go, known}
+use Rattle.patterns_base.specs.Looks.{is_clean, is_in_order, may_go, known}
 use Rattle.patterns_base.specs.Casting.{resizing}
 use Rattle.patterns_base.specs.RuleNames.{all_rules}
 use Rattle.patterns_base.specs.Rules.{rule}
-use Rattle.patterns_base.specs.Rewrites.{edits_of, rewrite_of}
+use Rattle.patterns_base.specs.Rewrites.{edits_of, rewrite_of, suits}
 use Rattle.patterns_base.specs.Canonicalization.{stopped, ended, converged, limited, first_rule, first_among, canonical_from, most_rewrites, canonicalization_of}
 use Rattle.patterns_base.proofs.Small.{i8, holding, source, number, user, plain, kept}
 
@@ -57,15 +57,15 @@ regrouped =
     ∷ [])
 
 pub converges : canonicalization_of 10 sum ≡ ended canonical 5 converged
-unfolding all_rules rewrite_of edits_of rule is_clean may_go known resizing registry.row_of rows.rows words.operations words.is_inherent words.is_listed words.is_table words.is_isolated properties.is_allowed properties.is_of_kind properties.kind_of properties.kinds folds.fold_of folds.rule_of folds.rules folds.predicates arithmetic.absorbs arithmetic.sum_of arithmetic.difference_of arithmetic.product_of arithmetic.signed_quotient_of arithmetic.signed_remainder_of arithmetic.quotient_of arithmetic.remainder_of readings.signed_of readings.wrapped named.swapping named.ignoring_zero named.ignoring_one named.cancelling named.keeping named.remainders named.regrouping named.extensions named.index_casts named.arithmetic named.index_users named.flagged named.asking named.dividing first_rule first_among canonical_from most_rewrites canonicalization_of
+unfolding all_rules rewrite_of edits_of rule is_clean is_in_order suits may_go known resizing registry.row_of rows.rows words.operations words.is_inherent words.is_listed words.is_table words.is_isolated properties.is_allowed properties.is_of_kind properties.kind_of properties.kinds folds.fold_of folds.rule_of folds.rules folds.predicates arithmetic.absorbs arithmetic.sum_of arithmetic.difference_of arithmetic.product_of arithmetic.signed_quotient_of arithmetic.signed_remainder_of arithmetic.quotient_of arithmetic.remainder_of readings.signed_of readings.wrapped named.swapping named.ignoring_zero named.ignoring_one named.cancelling named.keeping named.remainders named.regrouping named.extensions named.index_casts named.arithmetic named.index_users named.flagged named.asking named.dividing first_rule first_among canonical_from most_rewrites canonicalization_of
 converges = refl
 
 pub stops_at_the_limit : canonicalization_of 2 sum ≡ ended regrouped 2 limited
-unfolding all_rules rewrite_of edits_of rule is_clean may_go known resizing registry.row_of rows.rows words.operations words.is_inherent words.is_listed words.is_table words.is_isolated properties.is_allowed properties.is_of_kind properties.kind_of properties.kinds folds.fold_of folds.rule_of folds.rules folds.predicates arithmetic.absorbs arithmetic.sum_of arithmetic.difference_of arithmetic.product_of arithmetic.signed_quotient_of arithmetic.signed_remainder_of arithmetic.quotient_of arithmetic.remainder_of readings.signed_of readings.wrapped named.swapping named.ignoring_zero named.ignoring_one named.cancelling named.keeping named.remainders named.regrouping named.extensions named.index_casts named.arithmetic named.index_users named.flagged named.asking named.dividing first_rule first_among canonical_from most_rewrites canonicalization_of
+unfolding all_rules rewrite_of edits_of rule is_clean is_in_order suits may_go known resizing registry.row_of rows.rows words.operations words.is_inherent words.is_listed words.is_table words.is_isolated properties.is_allowed properties.is_of_kind properties.kind_of properties.kinds folds.fold_of folds.rule_of folds.rules folds.predicates arithmetic.absorbs arithmetic.sum_of arithmetic.difference_of arithmetic.product_of arithmetic.signed_quotient_of arithmetic.signed_remainder_of arithmetic.quotient_of arithmetic.remainder_of readings.signed_of readings.wrapped named.swapping named.ignoring_zero named.ignoring_one named.cancelling named.keeping named.remainders named.regrouping named.extensions named.index_casts named.arithmetic named.index_users named.flagged named.asking named.dividing first_rule first_among canonical_from most_rewrites canonicalization_of
 stops_at_the_limit = refl
 
 pub converges_at_the_limit : canonicalization_of 5 sum ≡ ended canonical 5 converged
-unfolding all_rules rewrite_of edits_of rule is_clean may_go known resizing registry.row_of rows.rows words.operations words.is_inherent words.is_listed words.is_table words.is_isolated properties.is_allowed properties.is_of_kind properties.kind_of properties.kinds folds.fold_of folds.rule_of folds.rules folds.predicates arithmetic.absorbs arithmetic.sum_of arithmetic.difference_of arithmetic.product_of arithmetic.signed_quotient_of arithmetic.signed_remainder_of arithmetic.quotient_of arithmetic.remainder_of readings.signed_of readings.wrapped named.swapping named.ignoring_zero named.ignoring_one named.cancelling named.keeping named.remainders named.regrouping named.extensions named.index_casts named.arithmetic named.index_users named.flagged named.asking named.dividing first_rule first_among canonical_from most_rewrites canonicalization_of
+unfolding all_rules rewrite_of edits_of rule is_clean is_in_order suits may_go known resizing registry.row_of rows.rows words.operations words.is_inherent words.is_listed words.is_table words.is_isolated properties.is_allowed properties.is_of_kind properties.kind_of properties.kinds folds.fold_of folds.rule_of folds.rules folds.predicates arithmetic.absorbs arithmetic.sum_of arithmetic.difference_of arithmetic.product_of arithmetic.signed_quotient_of arithmetic.signed_remainder_of arithmetic.quotient_of arithmetic.remainder_of readings.signed_of readings.wrapped named.swapping named.ignoring_zero named.ignoring_one named.cancelling named.keeping named.remainders named.regrouping named.extensions named.index_casts named.arithmetic named.index_users named.flagged named.asking named.dividing first_rule first_among canonical_from most_rewrites canonicalization_of
 converges_at_the_limit = refl
 
 pub no_limit : canonicalization_of 0 sum ≡ stopped BadLimit

@@ -7,23 +7,106 @@ use Rattle.ir_tree.specs.declared.value.Value.{Value}
 use Rattle.ir_types.proofs.SameTerms.{type_refl}
 use Rattle.ir_types.specs.SameTypes.{same_type}
 use Rattle.ir_types.specs.Terms.{Function, Index, Integer, Memref, OpaqueType, TypeTerm}
-use Rattle.patterns_base.specs.Looks.{front_of, is_clean, is_index, when}
+use Rattle.patterns_base.specs.Looks.{Header, breaks_none, front_of, has_own_properties, is_clean, is_in_order, is_index, when}
 use Rattle.patterns_base.specs.Lowering.{bridges, crossed, marked}
 use Rattle.patterns_base.specs.Makes.{made_by}
-use Rattle.patterns_base.specs.Rewrites.{edits_of, rewrite_by, rewrite_of}
+use Rattle.patterns_base.specs.Rewrites.{edits_of, rewrite_by, rewrite_of, suits}
+use Rattle.patterns_base.specs.RuleNames.{is_erasing, is_lowering}
 use Rattle.patterns_base.specs.Rules.{rule}
 use Rattle.patterns_base.specs.declared.rule.Rule.{Rule}
+use Rattle.patterns_base.specs.declared.rule.Rule.TheVariants.{EraseDead, FoldToConstant, SwapConstant, DropZero, DropOne, DropAllOnes, CancelItself, KeepItself, ZeroRemainder, RegroupConstants, AddNegative, CompareItself, MirrorComparison, CompareZero, ChooseSame}
+use Rattle.patterns_base.specs.declared.rule.Rule.TheVariants.{ChooseKnown, ChooseTruth, ChooseOpposite, ExtendExtension, CutCast, CastBack, OpenBranch, OpenLoop, StopLoop, ExpandMinMax, ExpandDifference, ExpandRemainder, LowerIndex, LowerLoop, LowerChoice}
 use Rattle.patterns_laws.specs.Keeps.{given, lowered_type}
-use Rattle.std.proofs.Common.{[], Bool, List, Option, Some, arith, false, if◌then◌else◌, length, refl, true, ℕ, ◌&&◌, ◌++◌, ◌+◌, ◌<◌, ◌||◌, ◌∙◌, ◌∷◌, ◌≡◌, ◌≤◌, ◌⊎◌}
+use Rattle.ir_tree.specs.Meaning.{Operation}
+use Rattle.ir_tree_laws.proofs.Listed.{both}
+use Rattle.ir_verify.proofs.Verdicts.{none_told}
+use Rattle.ir_verify.specs.Diagnostics.{broken_at, told_at}
+use Rattle.std.proofs.Common.{[], Bool, List, None, Option, Some, ap, arith, false, if◌then◌else◌, length, not, refl, sym, true, ℕ, ◌&&◌, ◌++◌, ◌+◌, ◌<◌, ◌||◌, ◌∙◌, ◌∷◌, ◌≡◌, ◌≤◌, ◌⊎◌}
 use Rattle.std.specs.Prelude.{◌&&◌}
 
 pub rewrite_is : (r : Rule) (m : Module) (x : ℕ) → rewrite_of r m x ≡ rewrite_by (edits_of r m x) m
 unfolding rewrite_of
 rewrite_is r m x = refl
 
-pub edits_are : (r : Rule) (m : Module) (x : ℕ) → edits_of r m x ≡ given (find x m.tree) (λ o. given (front_of x m.tree) (λ front. when (is_clean m.tree (head o)) (rule r m.tree m.next front o)))
+pub edits_are : (r : Rule) (m : Module) (x : ℕ) → edits_of r m x ≡ given (find x m.tree) (λ o. given (front_of x m.tree) (λ front. when (suits r m.tree (head o)) (rule r m.tree m.next front o)))
 unfolding edits_of
 edits_are r m x = refl
+
+-- what suits a rule
+breaks_nothing : (o : Option (List ℕ)) → breaks_none o ≡ true → o ≡ Some []
+breaks_nothing None e = absurd cc
+breaks_nothing (Some []) e = refl
+breaks_nothing (Some (r ∷ rs)) e = absurd cc
+
+pub clean_in_order : (t : Operation) (h : Header) → is_clean t h ≡ true → is_in_order t h ≡ true
+unfolding is_clean is_in_order
+clean_in_order t h e =
+    let w = both (breaks_none (broken_at h.id t)) (has_own_properties h) e in
+    λ i. breaks_none (none_told h.id t (breaks_nothing (broken_at h.id t) w.0) i) && w.1 i
+
+module _ (r : Rule) (t : Operation) (h : Header) where
+  pub suits_is : suits r t h ≡ (if is_erasing r then is_in_order t h else is_clean t h)
+  unfolding suits
+  suits_is = refl
+
+  pub erasing_suits : is_erasing r ≡ true → suits r t h ≡ is_in_order t h
+  erasing_suits e = suits_is ∙ ap (λ b. if b then is_in_order t h else is_clean t h) e
+
+  pub others_suit : is_erasing r ≡ false → suits r t h ≡ is_clean t h
+  others_suit e = suits_is ∙ ap (λ b. if b then is_in_order t h else is_clean t h) e
+
+  pub clean_suits : is_clean t h ≡ true → suits r t h ≡ true
+  clean_suits e = suits_is ∙ go (is_erasing r)
+    where
+      go : (b : Bool) → (if b then is_in_order t h else is_clean t h) ≡ true
+      go true = clean_in_order t h e
+      go false = e
+
+  pub suited_in_order : suits r t h ≡ true → is_in_order t h ≡ true
+  suited_in_order e = go (is_erasing r) (sym suits_is ∙ e)
+    where
+      go : (b : Bool) → (if b then is_in_order t h else is_clean t h) ≡ true → is_in_order t h ≡ true
+      go true e = e
+      go false e = clean_in_order t h e
+
+  pub unsuited : is_in_order t h ≡ false → suits r t h ≡ false
+  unsuited e = go (suits r t h) refl
+    where
+      go : (b : Bool) → suits r t h ≡ b → suits r t h ≡ false
+      go true k = (let no : true ≡ false = sym (suited_in_order k) ∙ e in absurd cc)
+      go false k = k
+
+pub erases_not : (r : Rule) → is_lowering r ≡ true → is_erasing r ≡ false
+erases_not EraseDead e = absurd cc
+erases_not FoldToConstant e = refl
+erases_not SwapConstant e = refl
+erases_not DropZero e = refl
+erases_not DropOne e = refl
+erases_not DropAllOnes e = refl
+erases_not CancelItself e = refl
+erases_not KeepItself e = refl
+erases_not ZeroRemainder e = refl
+erases_not RegroupConstants e = refl
+erases_not AddNegative e = refl
+erases_not CompareItself e = refl
+erases_not MirrorComparison e = refl
+erases_not CompareZero e = refl
+erases_not ChooseSame e = refl
+erases_not ChooseKnown e = refl
+erases_not ChooseTruth e = refl
+erases_not ChooseOpposite e = refl
+erases_not ExtendExtension e = refl
+erases_not CutCast e = refl
+erases_not CastBack e = refl
+erases_not OpenBranch e = refl
+erases_not OpenLoop e = refl
+erases_not StopLoop e = refl
+erases_not ExpandMinMax e = refl
+erases_not ExpandDifference e = refl
+erases_not ExpandRemainder e = refl
+erases_not LowerIndex e = refl
+erases_not LowerLoop e = refl
+erases_not LowerChoice e = refl
 
 pub when_some : {X : Type 0} (b : Bool) (r : Option X) (y : X) → when b r ≡ Some y → (b ≡ true) × (r ≡ Some y)
 when_some true r y e = (refl, e)

@@ -20,10 +20,10 @@ use Rattle.patterns_base.specs.declared.rule.Rule.TheVariants.{ZeroRemainder, Re
 use Rattle.patterns_base.specs.declared.rule.Rule.TheVariants.{CompareItself, MirrorComparison, CompareZero}
 use Rattle.patterns_base.specs.declared.rule.Rule.TheVariants.{ChooseSame, ChooseKnown, ChooseTruth, ChooseOpposite}
 use Rattle.patterns_base.specs.declared.rule.Rule.TheVariants.{ExpandMinMax, ExpandDifference, ExpandRemainder}
-use Rattle.patterns_base.specs.Looks.{is_clean, may_go, known}
+use Rattle.patterns_base.specs.Looks.{is_clean, is_in_order, may_go, known}
 use Rattle.patterns_base.specs.Casting.{resizing}
 use Rattle.patterns_base.specs.Rules.{rule}
-use Rattle.patterns_base.specs.Rewrites.{none, refused, becomes, edits_of, rewrite_of}
+use Rattle.patterns_base.specs.Rewrites.{none, refused, becomes, edits_of, rewrite_of, suits}
 use Rattle.patterns_base.proofs.Small.{i8, i32, Case, at_rule, answer, holding, source, number, user, plain, kept, compared, whole}
 
 abbrev erase_dead_dead : Case
@@ -623,5 +623,5 @@ cases =
 
 -- each is what the definitions say (to find one that is not, shorten the list)
 pub answered : map answer cases ≡ map (λ c. c.after) cases
-unfolding rewrite_of edits_of rule is_clean may_go known resizing registry.row_of rows.rows words.operations words.is_inherent words.is_listed words.is_table words.is_isolated properties.is_allowed properties.is_of_kind properties.kind_of properties.kinds folds.fold_of folds.rule_of folds.rules folds.predicates arithmetic.absorbs arithmetic.sum_of arithmetic.difference_of arithmetic.product_of arithmetic.signed_quotient_of arithmetic.signed_remainder_of arithmetic.quotient_of arithmetic.remainder_of readings.signed_of readings.wrapped named.swapping named.ignoring_zero named.ignoring_one named.cancelling named.keeping named.remainders named.regrouping named.extensions named.index_casts named.arithmetic named.index_users named.flagged named.asking named.dividing
+unfolding rewrite_of edits_of rule is_clean is_in_order suits may_go known resizing registry.row_of rows.rows words.operations words.is_inherent words.is_listed words.is_table words.is_isolated properties.is_allowed properties.is_of_kind properties.kind_of properties.kinds folds.fold_of folds.rule_of folds.rules folds.predicates arithmetic.absorbs arithmetic.sum_of arithmetic.difference_of arithmetic.product_of arithmetic.signed_quotient_of arithmetic.signed_remainder_of arithmetic.quotient_of arithmetic.remainder_of readings.signed_of readings.wrapped named.swapping named.ignoring_zero named.ignoring_one named.cancelling named.keeping named.remainders named.regrouping named.extensions named.index_casts named.arithmetic named.index_users named.flagged named.asking named.dividing
 answered = refl

@@ -10,9 +10,9 @@ use Rattle.op_registry.specs.Registry.{beside}
 use Rattle.patterns_laws.specs.Keeps.{given, Each}
 use Rattle.patterns_base.specs.declared.rule.Rule.{Rule}
 use Rattle.patterns_base.specs.RuleNames.{all_rules}
-use Rattle.patterns_base.specs.Looks.{when, is_clean, front_of}
+use Rattle.patterns_base.specs.Looks.{when, front_of}
 use Rattle.patterns_base.specs.Rules.{table, rules_for, has_rule, rule}
-use Rattle.patterns_base.specs.Rewrites.{none, rewrite_by, edits_of, rewrite_of}
+use Rattle.patterns_base.specs.Rewrites.{none, rewrite_by, edits_of, rewrite_of, suits}
 use Rattle.patterns_base.specs.Canonicalization.{or_else, first_rule, greedy_rules, greedy_rules_for, TableSuffices}
 use Rattle.patterns_base.proofs.Dispatch.{beside_or, only_listed}
 
@@ -27,8 +27,8 @@ none_in_front (Some y) b f h = by (b y)
 no_edits : (r : Rule) (m : Module) (x : ℕ) (o : Operation) → find x m.tree ≡ Some o → has_rule r (head o).name ≡ false → edits_of r m x ≡ None
 unfolding edits_of
 no_edits r m x o e lacks =
-    ap (λ z. given z (λ o. given (front_of x m.tree) (λ front. when (is_clean m.tree (head o)) (rule r m.tree m.next front o)))) e
-    ∙ none_in_front (front_of x m.tree) (λ front. is_clean m.tree (head o)) (λ front. rule r m.tree m.next front o) (λ front. only_listed r m.tree m.next front o lacks)
+    ap (λ z. given z (λ o. given (front_of x m.tree) (λ front. when (suits r m.tree (head o)) (rule r m.tree m.next front o)))) e
+    ∙ none_in_front (front_of x m.tree) (λ front. suits r m.tree (head o)) (λ front. rule r m.tree m.next front o) (λ front. only_listed r m.tree m.next front o lacks)
 
 no_rewrite : (r : Rule) (m : Module) (x : ℕ) (o : Operation) → find x m.tree ≡ Some o → has_rule r (head o).name ≡ false → rewrite_of r m x ≡ none
 unfolding rewrite_of

@@ -16,7 +16,7 @@ use Rattle.ir_tree.specs.Meaning.{Operation}
 use Rattle.ir_tree_laws.specs.Values.{region_at, type_of_value}
 use Rattle.patterns_laws.specs.integers.Folds.{Known, fold_of, property_of}
 use Rattle.ir_types.specs.SameTypes.{same_type}
-use Rattle.ir_verify.specs.Diagnostics.{broken_at}
+use Rattle.ir_verify.specs.Diagnostics.{broken_at, told_at}
 use Rattle.effects.specs.Dead.{is_dead}
 use Rattle.patterns_laws.specs.Keeps.{given}
 use Rattle.patterns_laws.specs.Words.{named, among}
@@ -30,16 +30,24 @@ abbrev pub when : {X : Type 0} → Bool → Option X → Option X
 when true r = r
 when false r = None
 
--- whether an operation is there and breaks no rule of the verifier
+-- whether an operation is there, and these, the rules of the verifier that it breaks or that are told of it, are none
 abbrev pub breaks_none : Option (List ℕ) → Bool
 breaks_none (Some []) = true
 breaks_none _ = false
 
+-- whether each property of a header is inherent to its name
+abbrev pub has_own_properties : Header → Bool
+has_own_properties h = list_all (λ (e : List ℕ × AttrTerm). is_inherent h.name e.0) h.properties
+
 -- whether the operation of a header is clean: it breaks no rule of the verifier, and each of its properties is
 -- inherent to its name
 unfoldable pub is_clean : Operation → Header → Bool
-is_clean t h =
-    breaks_none (broken_at h.id t) && list_all (λ (e : List ℕ × AttrTerm). is_inherent h.name e.0) h.properties
+is_clean t h = breaks_none (broken_at h.id t) && has_own_properties h
+
+-- whether it is in order: no rule of the verifier is told of it, and each of its properties is inherent to its name. So
+-- is each clean one, and so may be one that isn't clean and is beyond the table
+unfoldable pub is_in_order : Operation → Header → Bool
+is_in_order t h = breaks_none (told_at h.id t) && has_own_properties h
 
 -- whether an operation may go: nobody uses what it gives, and nobody would miss what it does (`isOpTriviallyDead`)
 unfoldable pub may_go : Operation → Operation → Bool

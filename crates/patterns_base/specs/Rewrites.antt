@@ -1,5 +1,5 @@
 -- What a rule makes of a module at an operation.
-use Rattle.std.specs.Prelude.{◌≡◌, ℕ, ◌+◌, ◌≤◌, nat_le, List, true, if◌then◌else◌, Option, Some, None}
+use Rattle.std.specs.Prelude.{◌≡◌, ℕ, ◌+◌, ◌≤◌, nat_le, List, Bool, true, if◌then◌else◌, Option, Some, None}
 use Rattle.ir_types.specs.declared.refusal.Refusal.{Refusal}
 use Rattle.ir_types.specs.declared.refusal.Refusal.TheVariants.{Full, IdsExhausted}
 use Rattle.ir_tree.specs.declared.place.Place.{Place}
@@ -10,10 +10,10 @@ use Rattle.ir_tree.specs.Meaning.{Operation}
 use Rattle.rewriter_machine.specs.events.Modules.{Module}
 use Rattle.rewriter_machine.specs.Contents.{Edit, all_edited}
 use Rattle.patterns_laws.specs.Keeps.{given}
-use Rattle.patterns_base.specs.Looks.{when, is_clean, front_of}
+use Rattle.patterns_base.specs.Looks.{Header, when, is_clean, is_in_order, front_of}
 use Rattle.patterns_base.specs.Makes.{made_by}
 use Rattle.patterns_base.specs.declared.rule.Rule.{Rule}
-use Rattle.patterns_base.specs.RuleNames.{is_converting}
+use Rattle.patterns_base.specs.RuleNames.{is_converting, is_erasing}
 use Rattle.patterns_base.specs.Rules.{rule}
 
 -- what comes of a rule: nothing, where it doesn't apply, a refusal, or the module after it
@@ -22,10 +22,15 @@ pub data Rewrite : Type 0 where
   refused : Refusal → Rewrite
   becomes : Module → Rewrite
 
--- the edits of rule r at operation x, which is clean and not the root
+-- whether the operation of a header is one at which rule r may apply: it is clean; for a rule that erases it is enough
+-- that it is in order, so that it goes where it is dead beyond the table too
+unfoldable pub suits : Rule → Operation → Header → Bool
+suits r t h = if is_erasing r then is_in_order t h else is_clean t h
+
+-- the edits of rule r at operation x, which suits it and isn't the root
 unfoldable pub edits_of : Rule → Module → ℕ → Option (List Edit)
 edits_of r m x = given (find x m.tree)
-    (λ o. given (front_of x m.tree) (λ front. when (is_clean m.tree (head o)) (rule r m.tree m.next front o)))
+    (λ o. given (front_of x m.tree) (λ front. when (suits r m.tree (head o)) (rule r m.tree m.next front o)))
 
 -- what edits make of a module, where the operations with those that they make, and then the ids, are within their
 -- limits

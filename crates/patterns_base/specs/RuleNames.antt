@@ -99,6 +99,11 @@ by_number n = find (λ r. eqb (number_of r) n) all_rules
 abbrev pub by_word : List ℕ → Option Rule
 by_word word = find (λ r. bytes_eq (word_of r) word) all_rules
 
+-- whether a rule erases an operation, whatever it computes
+abbrev pub is_erasing : Rule → Bool
+is_erasing EraseDead = true
+is_erasing _ = false
+
 -- whether a rule says an operation of arith by others of arith
 abbrev pub is_expanding : Rule → Bool
 is_expanding ExpandMinMax = true

@@ -1,7 +1,7 @@
 //! The rewrite rules by their names.
 ghost use Rattle.std.specs.Prelude.{◌≡◌};
 ghost use Rattle.patterns_base.specs.RuleNames.{all_rules, by_number, by_word, number_of, same_rule, word_of};
-ghost use Rattle.patterns_base.specs.RuleNames.{is_canonical, is_converting, is_expanding, is_lowering};
+ghost use Rattle.patterns_base.specs.RuleNames.{is_canonical, is_converting, is_erasing, is_expanding, is_lowering};
 
 /// A rewrite rule. Scripts name it by its number or its word; what it makes is its definition in `specs/Rules.antt`.
 #[derive(Clone, Copy, PartialEq, Eq)]
@@ -160,6 +160,13 @@ impl Rule {
         ensures { result ≡ same_rule self other }
     {
         self.number() == other.number()
+    }
+
+    /// Whether it erases an operation, whatever that computes.
+    pub fn is_erasing(self) -> bool
+        ensures { result ≡ is_erasing self }
+    {
+        matches!(self, Rule::EraseDead)
     }
 
     /// Whether canonicalization tries it.

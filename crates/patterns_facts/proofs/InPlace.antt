@@ -39,9 +39,9 @@ use Rattle.patterns_edits.proofs.Plans.{StandsAt, sees}
 use Rattle.patterns_yields.specs.base.Keeps.{mirrored}
 use Rattle.patterns_yields.specs.base.Words.{among, named, swapping}
 use Rattle.patterns_yields.specs.base.Made.{i64}
-use Rattle.patterns_yields.specs.base.Looks.{Header, is_constant, is_known, is_number, may_go, predicate, source}
+use Rattle.patterns_yields.specs.base.Looks.{Header, front_of, is_constant, is_known, is_number, may_go, predicate, source}
 use Rattle.patterns_yields.specs.base.Folding.{erase_dead, swap_constant, mirror_comparison, choose_opposite}
-use Rattle.patterns_facts.proofs.Spots.{Spot, here_is, sees_behind, sees_operand, stands_there}
+use Rattle.patterns_facts.proofs.Spots.{Spot, here_is, sees_behind, sees_operand, stands_behind, stands_there}
 use Rattle.patterns_facts.proofs.Shapes.{source_is, three_is, two_is}
 use Rattle.ir_event.proofs.of_tree_laws.Changed.{gather_none}
 use Rattle.patterns_laws.proofs.KnownFolds.{given_some}
@@ -150,6 +150,13 @@ predicate_there h n e = go (property_of (codes "predicate") h.properties) refl e
     go None f e = absurd cc
     go (Some i) f e = (let w = property_there (codes "predicate") h.properties i f in entry_there (codes "predicate") h.properties w.0 w.1)
 
+-- what is dead is erased, whether it is clean or not
+pub free_erase_dead : (m : Module) (o : Operation) (front : Place) → IsWellFormed is_isolated m → front_of (head o).id m.tree ≡ Some front → (n : ℕ) (es : List Edit) → erase_dead m.tree n front o ≡ Some es → Free es m
+free_erase_dead m o front formed at n es e =
+    let x = (head o).id in
+    let w = when_some (may_go m.tree o) (Some (Erase x ∷ [])) es e in
+    subst (λ z. Free z m) (same_Some (Erase x ∷ []) es w.1) (plans.erase_free x front m (stands_behind m x front formed at) (λ k l. unused_result x m.tree (dead_unused m.tree o w.0) k), tt)
+
 module _ (m : Module) (o : Operation) (front : Place) (s : Spot m o front) where
   abbrev x : ℕ
   x = (head o).id
@@ -168,12 +175,6 @@ module _ (m : Module) (o : Operation) (front : Place) (s : Spot m o front) where
 
   third_seen : (a b c : Value) (vs : List Value) → (head o).operands ≡ a ∷ b ∷ c ∷ vs → sees (head o).id c m ≡ true
   third_seen a b c vs e = sees_operand m o front s c (subst (In c) (sym e) (inr (inr (inl refl))))
-
-  -- it is erased
-  pub free_erase_dead : (n : ℕ) (es : List Edit) → erase_dead m.tree n front o ≡ Some es → Free es m
-  free_erase_dead n es e =
-      let w = when_some (may_go t o) (Some (Erase x ∷ [])) es e in
-      subst (λ z. Free z m) (same_Some (Erase x ∷ []) es w.1) (plans.erase_free x front m (stands_there m o front s) (λ k l. unused_result x t (dead_unused t o w.0) k), tt)
 
   -- two operands are swapped
   swaps : (n : Module) → Holds (head o).id front 2 n → (a b : Value) → sees (head o).id a n ≡ true → sees (head o).id b n ≡ true → Free (SetOperand (head o).id 0 b ∷ SetOperand (head o).id 1 a ∷ []) n

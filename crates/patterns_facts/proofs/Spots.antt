@@ -57,6 +57,14 @@ own_operand t d formed s h v i =
     all_each (sees_from is_isolated s.path) (head s.here).operands
     (all_each (λ (z : StandOf (List ℕ) TypeTerm AttrTerm). list_all (sees_from is_isolated z.path) (head z.here).operands) (stands [] t) (sym (stands_operands is_isolated t) ∙ formed) s h) v i
 
+-- an operation stands behind the place in front of it, whether it is clean or not
+pub stands_behind : (m : Module) (x : ℕ) (front : Place) → IsWellFormed is_isolated m → front_of x m.tree ≡ Some front → StandsAt x front m
+stands_behind m x front formed at = placed (place_of x m.tree) refl at
+  where
+    placed : (p : Option Place) → place_of x m.tree ≡ p → option_map (in_front x) p ≡ Some front → StandsAt x front m
+    placed None e f = absurd cc
+    placed (Some p) e f = (let one : in_front x p ≡ front = cc in subst (λ z. StandsAt x z m) one (stood is_isolated x p m formed e))
+
 module _ (m : Module) (o : Operation) (front : Place) (s : Spot m o front) where
   abbrev x : ℕ
   x = (head o).id
@@ -64,13 +72,9 @@ module _ (m : Module) (o : Operation) (front : Place) (s : Spot m o front) where
   abbrev t : Operation
   t = m.tree
 
-  placed : (p : Option Place) → place_of (head o).id m.tree ≡ p → option_map (in_front (head o).id) p ≡ Some front → StandsAt (head o).id front m
-  placed None e f = absurd cc
-  placed (Some p) e f = (let one : in_front (head o).id p ≡ front = cc in subst (λ z. StandsAt (head o).id z m) one (stood is_isolated (head o).id p m s.formed e))
-
   -- it stands behind that place
   pub stands_there : StandsAt (head o).id front m
-  stands_there = placed (place_of (head o).id m.tree) refl s.place
+  stands_there = stands_behind m (head o).id front s.formed s.place
 
   pub here_is : stands_there.at.here ≡ o
   here_is = (let two : Some stands_there.at.here ≡ Some o = sym (found_there is_isolated (head o).id front m stands_there) ∙ s.found in cc)

@@ -1,11 +1,12 @@
-use Rattle.std.proofs.Common.{◌∙◌, ap, sym}
+use Rattle.std.proofs.Common.{◌∙◌, ap, sym, subst}
 use Rattle.ir_event.specs.types.Terms.{name_term}
 use Rattle.ir_event.specs.Modules.{module_in}
 use Rattle.patterns_plans.specs.reads.Reads.{head_in}
+use Rattle.patterns_plans.specs.reads.Suited.{IsFitnessOf}
 use Rattle.patterns.specs.Rows.{those_for}
 use Rattle.patterns.proofs.Firsts.{none_of}
 use Rattle.patterns.proofs.ByList.{list_suffices, none_of_list, some_of_list}
-use Rattle.patterns.proofs.Planned.{none_there, none_front, none_clean}
+use Rattle.patterns.proofs.Planned.{none_there, none_front, none_in_order}
 use Rattle.patterns.proofs.first.find_first.Goals as goal
 
 pub returns-in_default : goal.returns-in_default
@@ -14,13 +15,11 @@ returns-in_default c = none_of c.args.rows.now.rules.now (module_in c.args.world
 pub returns-in_default-front : goal.returns-in_default-front
 returns-in_default-front c = none_of c.args.rows.now.rules.now (module_in c.args.world.now) c.args.op (λ r. none_front r (module_in c.args.world.now) c.args.op c.in_default-front.ensures)
 
-pub returns-then-not-branch : goal.returns-then-not-branch
-returns-then-not-branch c =
+pub returns-in-Unfit : goal.returns-in-Unfit
+returns-in-Unfit c =
     none_of c.args.rows.now.rules.now (module_in c.args.world.now) c.args.op
-    (λ r. none_clean r (module_in c.args.world.now) c.args.op (head_in c.args.world.now.ctx c.in-Some.node) _ c.in-Some.ensures.node c.in_ok-is_clean_shown.ensures c.if-not-branch.true)
-
-pub first_made-requires-clause-clean : goal.first_made-requires-clause-clean
-first_made-requires-clause-clean c = sym c.in_ok-is_clean_shown.ensures ∙ c.if-not-branch.false
+    (λ r. none_in_order r (module_in c.args.world.now) c.args.op (head_in c.args.world.now.ctx c.in-Some.node) c.in-Some.ensures.node
+    (subst (IsFitnessOf (module_in c.args.world.now).tree (record (head_in c.args.world.now.ctx c.in-Some.node) { id = c.args.op })) c.in-Unfit.is c.in_ok-fitness.ensures))
 
 pub returns-in_default-likely : goal.returns-in_default-likely
 returns-in_default-likely c =

@@ -12,7 +12,7 @@ returns-clause-edits c =
     let w = c.args.world.now in
     let m = module_in w in
     by_rule EraseDead m c.args.op (head_in w.ctx c.args.node.now) c.args.front.now (Some (plan_meaning w.ctx m.next c.args.op c.args.front.now c.in_ok-plan.plan))
-    c.requires.shown c.requires.front c.requires.clean
+    c.requires.shown c.requires.front c.requires.suits
     (λ o f. ap Some (c.in_ok-plan.ensures.edits w.ctx m.next c.args.front.now) ∙ one_dead c.args.op m.tree o true (sym c.requires.dead) refl f m.next c.args.front.now)
 
 pub returns-clause-of : goal.returns-clause-of

@@ -1,0 +1,75 @@
+-- What the rules make of an operation, from what is kept of it; and where none is broken, none is told.
+use Rattle.std.proofs.Common.{◌≡◌, refl, sym, ap, ◌∙◌, ℕ, ◌+◌, ◌*◌, Bool, true, false, true≢false, not, List, [], ◌∷◌, length, Option, Some, None}
+use Rattle.std.specs.Prelude.{option_map, ◌==◌}
+use Rattle.std.specs.List.{filter}
+use Rattle.ir_tree.specs.Meaning.{Operation}
+use Rattle.op_registry.specs.Registry.{row_of}
+use Rattle.ir_verify_base.specs.Surroundings.{surroundings}
+use Rattle.ir_verify_base.specs.Facts.{fact_of}
+use Rattle.ir_verify_base.specs.Fits.{Surroundings}
+use Rattle.ir_verify.specs.declared.finding.Finding.{Finding}
+use Rattle.ir_verify.specs.declared.verdict.Verdict.{Verdict}
+use Rattle.ir_verify.specs.declared.verdict.Verdict.TheVariants.{Obeys, Excused, Faulty}
+use Rattle.ir_verify.specs.Breaks.{broken, numbers_from, told_in}
+use Rattle.ir_verify.specs.Beyond.{told}
+use Rattle.ir_verify.specs.Diagnostics.{broken_at, told_at}
+use Rattle.ir_verify.specs.Sets.{breaks_any, finding_of, has_any, packed, rules_told, set_of}
+use Rattle.ir_verify.specs.Verdicts.{verdict_at, verdict_by, verdict_in}
+use Rattle.ir_verify.proofs.Telling.{finding_read, no_rules, rules_broken}
+
+-- a set without rules is empty
+none_held : (n : ℕ) (bs : List Bool) → numbers_from n bs ≡ [] → packed bs ≡ 0
+none_held n [] e = refl
+none_held n (true ∷ bs) e = absurd cc
+none_held n (false ∷ bs) e = ap (λ k. 2 * k) (none_held (n + 1) bs e)
+
+none_broken : (s : Surroundings) → has_any (set_of s) ≡ false → broken s ≡ []
+none_broken s e = sym (rules_broken s) ∙ no_rules (set_of s) e
+
+some_broken : (s : Surroundings) → has_any (set_of s) ≡ true → broken s ≡ [] → ⊥
+some_broken s e none = true≢false (sym e ∙ ap (λ n. not (n == 0)) (none_held 1 (told_in (row_of s.node.head.name) s) none))
+
+none_in : (rs : List ℕ) → (length rs == 0) ≡ true → rs ≡ []
+none_in [] e = refl
+none_in (r ∷ rs) e = absurd (true≢false (sym e))
+
+module _ (f : Finding) (s : Surroundings) (of : f ≡ finding_of s) where
+  pub obeys : breaks_any f ≡ false → Obeys ≡ verdict_in s
+  obeys e = sym (ap (λ bs. verdict_by bs (told s)) (none_broken s (ap breaks_any (sym of) ∙ e)))
+
+  read : rules_told f ≡ told s
+  read = ap rules_told of ∙ finding_read s
+
+  breaks : breaks_any f ≡ true → broken s ≡ [] → ⊥
+  breaks e = some_broken s (ap breaks_any (sym of) ∙ e)
+
+  pub excused : breaks_any f ≡ true → (rs : List ℕ) → rs ≡ rules_told f → (length rs == 0) ≡ true → Excused ≡ verdict_in s
+  excused e rs k none = sym (ap (verdict_by (broken s)) (sym read ∙ sym k ∙ none_in rs none) ∙ go (broken s) (breaks e))
+    where
+      go : (bs : List ℕ) → (bs ≡ [] → ⊥) → verdict_by bs [] ≡ Excused
+      go [] no = absurd (no refl)
+      go (b ∷ bs) no = refl
+
+  pub faulty : breaks_any f ≡ true → (rs : List ℕ) → rs ≡ rules_told f → (length rs == 0) ≡ false → Faulty ≡ verdict_in s
+  faulty e rs k some = sym (ap (verdict_by (broken s)) (sym read ∙ sym k) ∙ go (broken s) rs (breaks e) some)
+    where
+      go : (bs rs : List ℕ) → (bs ≡ [] → ⊥) → (length rs == 0) ≡ false → verdict_by bs rs ≡ Faulty
+      go [] rs no some = absurd (no refl)
+      go (b ∷ bs) [] no some = absurd (true≢false some)
+      go (b ∷ bs) (r ∷ rs) no some = refl
+
+-- the verdict about an operation, read
+pub verdict_read : (x : ℕ) (t : Operation) (f : Finding) (v : Verdict) → Some f ≡ fact_of finding_of t x → ((s : Surroundings) → f ≡ finding_of s → v ≡ verdict_in s) → verdict_at x t ≡ Some v
+verdict_read x t f v e is = go (surroundings x t) e
+  where
+    go : (s : Option Surroundings) → Some f ≡ option_map finding_of s → option_map verdict_in s ≡ Some v
+    go None e = absurd cc
+    go (Some s) e = let one : f ≡ finding_of s = cc in ap Some (sym (is s one))
+
+-- where no rule is broken none is told
+pub none_told : (x : ℕ) (t : Operation) → broken_at x t ≡ Some [] → told_at x t ≡ Some []
+none_told x t e = go (surroundings x t) e
+  where
+    go : (s : Option Surroundings) → option_map broken s ≡ Some [] → option_map told s ≡ Some []
+    go None e = absurd cc
+    go (Some s) e = let none : broken s ≡ [] = cc in ap (λ rs. Some (filter _ rs)) none

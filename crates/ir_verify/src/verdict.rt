@@ -1,0 +1,70 @@
+//! What the rules make of an operation.
+ghost use Rattle.std.specs.Prelude.{◌≡◌, IfOk, MatchResult, Some};
+ghost use Rattle.ir_verify_base.specs.events.Modules.{module_in};
+ghost use Rattle.ir_verify_base.specs.Fits.{Surroundings};
+ghost use Rattle.ir_verify.specs.Diagnostics.{Unchecked};
+ghost use Rattle.ir_verify.specs.Sets.{finding_of};
+ghost use Rattle.ir_verify.specs.Verdicts.{verdict_at, verdict_in};
+
+use crate::finding::Finding;
+use ir_types::ids::OpId;
+use ir_types::refusal::Refusal;
+use ir_verify_base::events::view::View;
+use ir_verify_base::events::world::World;
+use ir_verify_base::fact::{Fact, fact_at};
+use std::alloc::{AllocError, Global};
+
+/// What the rules make of an operation.
+#[derive(Clone, Copy)]
+pub enum Verdict {
+    /// It breaks none.
+    Obeys,
+    /// It is beyond the table, and breaks rules on types alone, none of which is told of it.
+    Excused,
+    /// Some are told of it.
+    Faulty,
+}
+
+/// What the rules make of an operation, from what is kept of it.
+fn verdict_of(alloc: Global, finding: &Finding) -> Result<Verdict, AllocError>
+    ensures { IfOk result (λ v. (s : Surroundings) → finding.now ≡ finding_of s → v ≡ verdict_in s) }
+{
+    if !finding.is_kept() {
+        return Ok(Verdict::Obeys);
+    }
+    let told = finding.numbers(alloc)?;
+    if told.is_empty() {
+        Ok(Verdict::Excused)
+    } else {
+        Ok(Verdict::Faulty)
+    }
+}
+
+/// What the rules make of an operation of a world's module.
+///
+/// Refusals: `NoSuchOp` where the operation isn't in the module; `Memory`.
+pub fn judge_op(alloc: Global, world: &World, op: OpId) -> Result<Verdict, Refusal>
+    ensures { MatchResult result (λ v. verdict_at op (module_in world.now).tree ≡ Some v)
+        (Unchecked op (module_in world.now).tree) }
+{
+    let mut view = View::new(world);
+    judge_in(alloc, &mut view, op)
+}
+
+/// What they make of one in the module that a view shows.
+fn judge_in(alloc: Global, view: &mut View<'_>, op: OpId) -> Result<Verdict, Refusal>
+    ensures { MatchResult result (λ v. verdict_at op (module_in view.old.world.now).tree ≡ Some v)
+        (Unchecked op (module_in view.old.world.now).tree) }
+{
+    let found = match fact_at::<Finding>(alloc, view, op) {
+        Ok(found) => found,
+        Err(_) => return Err(Refusal::Memory),
+    };
+    let Some(finding) = found else {
+        return Err(Refusal::NoSuchOp);
+    };
+    match verdict_of(alloc, &finding) {
+        Ok(verdict) => Ok(verdict),
+        Err(_) => Err(Refusal::Memory),
+    }
+}
