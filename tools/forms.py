@@ -1,12 +1,12 @@
-"""The forms of the commands, as the help has them, and how far a line has one.
+"""The forms of the commands, as the table of words has them, and how far a line has one.
 
 A form's words in small letters stand for themselves, and `full|partial` for one of two; what stands for the others is
-said below. So a new command is known here as soon as it stands in the help."""
+said below. So a new command is known here as soon as it stands in the table."""
 import functools
 import re
 
+import table
 import targets
-from program import HELP
 from targets import MOST_NUMBER
 
 BLANK = re.compile(r"[ \t]*")
@@ -47,27 +47,28 @@ class Fault:
 
 
 @functools.lru_cache(maxsize=None)
-def help_part(title, end):
-    """The rows of a part of the help, from one title to another: the forms of each, by its first word."""
-    text, found = HELP.read_text().partition(f"\n{title}")[2].partition(f"\n{end}")[0], {}
-    for form in re.findall(r"^  ([a-z][\w-]*(?: \S+)*)(?:  |$)", text, re.M):
-        found.setdefault(form.split()[0], []).append(form)
+def forms_of(part=None):
+    """The forms of each command by its first word, of all, or of a part of the help."""
+    found = {}
+    for row in table.rows("commands"):
+        if part in (None, row["part"]):
+            found.setdefault(row["word"], []).append(row["form"])
     return found
 
 
 def forms():
     """The forms of each command, by its first word."""
-    return help_part("Commands", "Kinds")
+    return forms_of()
 
 
 def looks():
     """The commands that change nothing."""
-    return help_part("To look", "To edit")
+    return forms_of("To look")
 
 
 def kinds():
     """The kinds of analyses."""
-    return list(help_part("Kinds", "Exit status"))
+    return table.column("kinds")
 
 
 def shown(those):

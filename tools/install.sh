@@ -39,9 +39,11 @@ fi
 for page in REFUSALS VERIFIER CANONICALIZE CONVERT REPORTS; do
     cp "$here/docs/$page.md" "$share/docs"
 done
+cp "$here/docs/commands.json" "$share/docs"
 [ ! -f "$here/dist/MANIFEST" ] || cp "$here/dist/MANIFEST" "$share/dist"
 
-# These are made of the help of the program that is installed, and of what the tools say of themselves.
+# These are made of the help of the program that is installed, the table of words, and what the tools say of
+# themselves.
 "$prefix/bin/mlir_work" --help >"$share/tools/help.txt"
 version=$(sed -n 's/^## \([^ ]*\).*/\1/p' "$here/CHANGELOG.md" | head -n 1)
 made() {

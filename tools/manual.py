@@ -1,6 +1,6 @@
-"""The man page and the completions of shells. For the program they are made of the text of `mlir_work --help`, so that
-there is one table of options and commands; for `mlir-work` of what its parts say of their command lines
-(tools/mlir_work.py), and of the words of the prompt (tools/words.py).
+"""The man page and the completions of shells. For the program the page is made of the text of `mlir_work --help`, and
+the completions of the table of words (tools/table.py); gate/words.py has both agree. For `mlir-work` they are made of
+what its parts say of their command lines (tools/mlir_work.py), and of the words of the prompt (tools/words.py).
 
 usage: tools/manual.py man|bash|zsh [HELP [VERSION]]     (HELP is a file, tools/help.txt where none is named)"""
 import importlib
@@ -11,18 +11,18 @@ import sys
 sys.dont_write_bytecode = True
 
 import mlir_work  # noqa: E402
+import table  # noqa: E402
 import words  # noqa: E402
 
 HERE = pathlib.Path(__file__).resolve().parent
-OPTION = re.compile(r"^ +(?:-(\w), )?--([\w-]+)(?: <(\w+)>)? +(.*)$", re.M)
 PROMPT, PROGRAM = "mlir-work", "mlir_work"
 # The words of an option that takes one of a few.
 FORMATS = "text json"
 
 
-def options(text):
-    """The options: the letter, the word, what it takes, and what it is for."""
-    return OPTION.findall(text.partition("\nOptions:\n")[2].partition("\n\n")[0] + "\n")
+def options():
+    """The options of the program: the word, what it takes, what it is for."""
+    return [(row["word"].strip("-"), row["takes"], row["about"]) for row in table.rows("options")]
 
 
 class Part:
@@ -89,9 +89,9 @@ def man(text, version):
     return "\n".join(found) + "\n"
 
 
-def bash(text, _):
+def bash(*_):
     """Completion for bash: the options of the program, and files for the prompt."""
-    of_program = " ".join(f"--{word}" for _, word, _, _ in options(text))
+    of_program = " ".join(f"--{word}" for word, *_ in options())
     cases = "\n".join(f"        {part.word}) options='{' '.join(names[-1] for names, *_ in part.options)}' ;;"
                       for part in parts())
     return f"""_{PROGRAM}() {{
@@ -128,11 +128,11 @@ def zsh_options(part):
                     for names, shown, about in part.options)
 
 
-def zsh(text, _):
+def zsh(*_):
     """Completion for zsh."""
-    quoted = [of_zsh(about) for *_, about in options(text)]
+    quoted = [of_zsh(about) for *_, about in options()]
     rows = [f"  '--{word}[{about}]{':' + takes if takes else ''}{f':({FORMATS})' if takes == 'FORMAT' else ''}'"
-            for (_, word, takes, _), about in zip(options(text), quoted)]
+            for (word, takes, _), about in zip(options(), quoted)]
     commands = " ".join(f"'{part.word}:{of_zsh(part.about)}'" for part in parts())
     cases = "\n".join(f"    {part.word}) _arguments {zsh_options(part)} '*:file:_files' ;;" for part in parts())
     return f"""#compdef {PROGRAM} {PROMPT}

@@ -1,15 +1,19 @@
-"""What the pages of docs/ and the help say of a word: a command, a kind, a refusal, a rule."""
+"""What the pages of docs/ and the table of words say of a word: a command, a kind, a refusal, a rule."""
 import functools
 import re
+import textwrap
 
 import forms
+import table
 import words
-from program import HELP, ROOT
+from program import ROOT
 
 TITLE = re.compile(r"^(#{2,3}) (.*)\n", re.M)
 NUMBERED = re.compile(r"(\d+) (\w+)\b")
 RULE = re.compile(r"(\d+) `([\w-]+)`: ")
 OF_VERIFIER = re.compile(r"(V\d+): ")
+# Where what is said of a form begins, and where it ends.
+WIDTH, COLUMNS = 27, 80
 LOW = {"rule": "rules", "refusal": "refusals"}
 
 
@@ -51,13 +55,12 @@ def kinds():
 
 @functools.lru_cache(maxsize=None)
 def commands():
-    """What the help says of each command: its forms, and the lines beside and below them."""
-    text, found, word = HELP.read_text().partition("\nCommands")[2].partition("\nOperations are numbered")[0], {}, None
-    for line in text.splitlines():
-        begins = re.match(r"  ([a-z][\w-]*)", line)
-        word = begins[1] if begins else word if line.startswith("   ") else None
-        if word in forms.forms():
-            found.setdefault(word, []).append(line[2:])
+    """What the table says of each command: its forms, with what is said of each beside it."""
+    found = {}
+    for row in table.rows("commands"):
+        begin = row["form"].ljust(WIDTH) if len(row["form"]) < WIDTH - 1 else f"{row['form']}  "
+        found.setdefault(row["word"], []).extend(textwrap.wrap(
+            row["about"], COLUMNS, initial_indent=begin, subsequent_indent=" " * WIDTH))
     return found
 
 

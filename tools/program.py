@@ -15,7 +15,6 @@ import tempfile
 import sources
 
 ROOT = sources.ROOT
-HELP = ROOT / "tools/help.txt"
 OPAQUE = "--opaque"
 # Words that each run of the program has, besides its own: what the command line asks of it.
 ASKED = []
