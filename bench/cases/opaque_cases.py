@@ -140,8 +140,8 @@ LINES = [
     ('insert before #9 "t.n"(%a1.0.0) : (f64) -> ()', "refused 5 TypeMismatch at 15"),
     ("replace %v2.0 %a1.0.0", "ok"),
     ("replace %v2.0 %a1.0.1", "refused 24 TypeDiffers"),
-    # (`select` takes any type; the first rule takes the truth away that nothing uses then, and both constants of floats;
-    # the sum of vectors, which is used, stays with its zero)
+    # (`select` takes any type; the first rule takes the truth away that nothing uses then, and both constants of
+    # floats; the sum of vectors, which is used, stays with its zero)
     ("canon", "converged 4"),
     ("report uses", "ok\n%a1.0.0 #8 1\n%a1.0.0 #10 0\n%a1.0.1 #4 0\n%v3.0 #4 1\n%v4.0 #8 0"),
     ("set-attr #3 value 1 : i32", "ok"),

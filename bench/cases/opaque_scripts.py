@@ -130,7 +130,8 @@ rewrite 1
 print ids
 """
 
-# What is dead goes beyond the table, where it is told nothing and has no property outside its row; no other rule applies.
+# What is dead goes beyond the table, where it is told nothing and has no property outside its row; no other rule
+# applies.
 DEAD = """%f = "arith.constant"() <{value = 1.0 : f32}> : () -> f32
 %v = "t.v"() : () -> vector<4xi8>
 %x = "t.x"() : () -> index
