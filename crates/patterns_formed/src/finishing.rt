@@ -196,7 +196,7 @@ fn all_numbered(alloc: Global, found: &[usize], kinds: &[Kind]) -> Result<Vec<Ki
 }
 
 /// The places of variables, which are the numbers of their types.
-#[tactic(auto, using(crate::proofs::Lists::range_again))]
+#[tactic(auto, using(patterns_formed_base::proofs::Lists::range_again))]
 pub(crate) fn variable_types(alloc: Global, count: usize) -> Result<Vec<usize>, AllocError>
     ensures { IfOk result (λ v. v.items ≡ range_with_len 0 count) }
 {
@@ -210,7 +210,7 @@ pub(crate) fn variable_types(alloc: Global, count: usize) -> Result<Vec<usize>, 
 }
 
 /// The numbers of the types of variables.
-#[tactic(auto, using(crate::proofs::Lists::variables_length))]
+#[tactic(auto, using(patterns_formed_base::proofs::Lists::variables_length))]
 fn value_types(alloc: Global, variables: &[Variable<'_>]) -> Result<Vec<usize>, AllocError>
     ensures { IfOk result (λ v. v.items ≡ range_with_len 0 (length (variable_views variables.now))) }
 {
