@@ -54,7 +54,7 @@ unfolding rules_in
 no_rules set e = ap (λ n. numbers_from 1 (bits_of 24 n)) (no_bits set.bits e) ∙ none 24 1
 
 -- what is told of an operation, read
-abbrev is_told_of : Surroundings → ℕ → Bool
+abbrev pub is_told_of : Surroundings → ℕ → Bool
 is_told_of s r = not (is_beyond s && is_on_types (is_named s.node (codes "arith.constant")) r)
 
 pub finding_read : (s : Surroundings) → rules_told (finding_of s) ≡ told s

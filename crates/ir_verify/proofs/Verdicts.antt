@@ -15,7 +15,7 @@ use Rattle.ir_verify.specs.Beyond.{told}
 use Rattle.ir_verify.specs.Diagnostics.{broken_at, told_at}
 use Rattle.ir_verify.specs.Sets.{breaks_any, finding_of, has_any, packed, rules_told, set_of}
 use Rattle.ir_verify.specs.Verdicts.{verdict_at, verdict_by, verdict_in}
-use Rattle.ir_verify.proofs.Telling.{finding_read, no_rules, rules_broken}
+use Rattle.ir_verify.proofs.Telling.{finding_read, is_told_of, no_rules, rules_broken}
 
 -- a set without rules is empty
 none_held : (n : ℕ) (bs : List Bool) → numbers_from n bs ≡ [] → packed bs ≡ 0
@@ -72,4 +72,4 @@ none_told x t e = go (surroundings x t) e
   where
     go : (s : Option Surroundings) → option_map broken s ≡ Some [] → option_map told s ≡ Some []
     go None e = absurd cc
-    go (Some s) e = let none : broken s ≡ [] = cc in ap (λ rs. Some (filter _ rs)) none
+    go (Some s) e = let none : broken s ≡ [] = cc in ap (λ rs. Some (filter (is_told_of s) rs)) none

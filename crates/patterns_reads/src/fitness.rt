@@ -81,9 +81,9 @@ pub fn fitness_shown(
     if !are_inherent(&world.ctx, node.name(), node.properties()) {
         return Ok(Fitness::Unfit);
     }
-    Ok(match verdict {
-        Verdict::Obeys => Fitness::Clean,
-        Verdict::Excused => Fitness::InOrder,
-        Verdict::Faulty => Fitness::Unfit,
-    })
+    match verdict {
+        Verdict::Obeys => Ok(Fitness::Clean),
+        Verdict::Excused => Ok(Fitness::InOrder),
+        Verdict::Faulty => Ok(Fitness::Unfit),
+    }
 }
