@@ -1,5 +1,6 @@
 -- What the rules make of an operation, from what is kept of it; and where none is broken, none is told.
-use Rattle.std.proofs.Common.{◌≡◌, refl, sym, ap, ◌∙◌, ℕ, ◌+◌, ◌*◌, Bool, true, false, true≢false, not, List, [], ◌∷◌, length, Option, Some, None}
+use Rattle.std.proofs.Common.{◌≡◌, refl, sym, ap, ◌∙◌, ℕ, ◌+◌, ◌*◌, Bool, true, false, true≢false, not, List, [], ◌∷◌, length, Option, Some, None, arith}
+use Rattle.std.proofs.lemmas.Bool.{eqb-true}
 use Rattle.std.specs.Prelude.{option_map, ◌==◌}
 use Rattle.std.specs.List.{filter}
 use Rattle.ir_tree.specs.Meaning.{Operation}
@@ -31,7 +32,7 @@ some_broken s e none = true≢false (sym e ∙ ap (λ n. not (n == 0)) (none_hel
 
 none_in : (rs : List ℕ) → (length rs == 0) ≡ true → rs ≡ []
 none_in [] e = refl
-none_in (r ∷ rs) e = absurd (true≢false (sym e))
+none_in (r ∷ rs) e = absurd (omega (arith, eqb-true (length (r ∷ rs)) 0 e))
 
 module _ (f : Finding) (s : Surroundings) (of : f ≡ finding_of s) where
   pub obeys : breaks_any f ≡ false → Obeys ≡ verdict_in s
@@ -47,16 +48,16 @@ module _ (f : Finding) (s : Surroundings) (of : f ≡ finding_of s) where
   excused e rs k none = sym (ap (verdict_by (broken s)) (sym read ∙ sym k ∙ none_in rs none) ∙ go (broken s) (breaks e))
     where
       go : (bs : List ℕ) → (bs ≡ [] → ⊥) → verdict_by bs [] ≡ Excused
-      go [] no = absurd (no refl)
-      go (b ∷ bs) no = refl
+      go [] filled = absurd (filled refl)
+      go (b ∷ bs) filled = refl
 
   pub faulty : breaks_any f ≡ true → (rs : List ℕ) → rs ≡ rules_told f → (length rs == 0) ≡ false → Faulty ≡ verdict_in s
   faulty e rs k some = sym (ap (verdict_by (broken s)) (sym read ∙ sym k) ∙ go (broken s) rs (breaks e) some)
     where
       go : (bs rs : List ℕ) → (bs ≡ [] → ⊥) → (length rs == 0) ≡ false → verdict_by bs rs ≡ Faulty
-      go [] rs no some = absurd (no refl)
-      go (b ∷ bs) [] no some = absurd (true≢false some)
-      go (b ∷ bs) (r ∷ rs) no some = refl
+      go [] rs filled some = absurd (filled refl)
+      go (b ∷ bs) [] filled some = absurd cc
+      go (b ∷ bs) (r ∷ rs) filled some = refl
 
 -- the verdict about an operation, read
 pub verdict_read : (x : ℕ) (t : Operation) (f : Finding) (v : Verdict) → Some f ≡ fact_of finding_of t x → ((s : Surroundings) → f ≡ finding_of s → v ≡ verdict_in s) → verdict_at x t ≡ Some v
