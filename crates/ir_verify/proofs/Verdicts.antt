@@ -1,6 +1,5 @@
 -- What the rules make of an operation, from what is kept of it; and where none is broken, none is told.
-use Rattle.std.proofs.Common.{◌≡◌, refl, sym, ap, ◌∙◌, ℕ, ◌+◌, ◌*◌, Bool, true, false, true≢false, not, List, [], ◌∷◌, length, Option, Some, None, arith}
-use Rattle.std.proofs.lemmas.Bool.{eqb-true}
+use Rattle.std.proofs.Common.{◌≡◌, refl, sym, ap, ◌∙◌, ℕ, ◌+◌, ◌*◌, Bool, true, false, true≢false, not, List, [], ◌∷◌, length, Option, Some, None}
 use Rattle.std.specs.Prelude.{option_map, ◌==◌}
 use Rattle.std.specs.List.{filter}
 use Rattle.ir_tree.specs.Meaning.{Operation}
@@ -30,10 +29,6 @@ none_broken s e = sym (rules_broken s) ∙ no_rules (set_of s) e
 some_broken : (s : Surroundings) → has_any (set_of s) ≡ true → broken s ≡ [] → ⊥
 some_broken s e none = true≢false (sym e ∙ ap (λ n. not (n == 0)) (none_held 1 (told_in (row_of s.node.head.name) s) none))
 
-none_in : (rs : List ℕ) → (length rs == 0) ≡ true → rs ≡ []
-none_in [] e = refl
-none_in (r ∷ rs) e = absurd (omega (arith, eqb-true (length (r ∷ rs)) 0 e))
-
 module _ (f : Finding) (s : Surroundings) (of : f ≡ finding_of s) where
   pub obeys : breaks_any f ≡ false → Obeys ≡ verdict_in s
   obeys e = sym (ap (λ bs. verdict_by bs (told s)) (none_broken s (ap breaks_any (sym of) ∙ e)))
@@ -44,20 +39,12 @@ module _ (f : Finding) (s : Surroundings) (of : f ≡ finding_of s) where
   breaks : breaks_any f ≡ true → broken s ≡ [] → ⊥
   breaks e = some_broken s (ap breaks_any (sym of) ∙ e)
 
-  pub excused : breaks_any f ≡ true → (rs : List ℕ) → rs ≡ rules_told f → (length rs == 0) ≡ true → Excused ≡ verdict_in s
-  excused e rs k none = sym (ap (verdict_by (broken s)) (sym read ∙ sym k ∙ none_in rs none) ∙ go (broken s) (breaks e))
+  pub broken_by : breaks_any f ≡ true → (rs : List ℕ) (v : Verdict) → rs ≡ rules_told f → ((b : ℕ) (bs : List ℕ) → v ≡ verdict_by (b ∷ bs) rs) → v ≡ verdict_in s
+  broken_by e rs v k is = go (broken s) (breaks e) ∙ ap (verdict_by (broken s)) (k ∙ read)
     where
-      go : (bs : List ℕ) → (bs ≡ [] → ⊥) → verdict_by bs [] ≡ Excused
+      go : (bs : List ℕ) → (bs ≡ [] → ⊥) → v ≡ verdict_by bs rs
       go [] filled = absurd (filled refl)
-      go (b ∷ bs) filled = refl
-
-  pub faulty : breaks_any f ≡ true → (rs : List ℕ) → rs ≡ rules_told f → (length rs == 0) ≡ false → Faulty ≡ verdict_in s
-  faulty e rs k some = sym (ap (verdict_by (broken s)) (sym read ∙ sym k) ∙ go (broken s) rs (breaks e) some)
-    where
-      go : (bs rs : List ℕ) → (bs ≡ [] → ⊥) → (length rs == 0) ≡ false → verdict_by bs rs ≡ Faulty
-      go [] rs filled some = absurd (filled refl)
-      go (b ∷ bs) [] filled some = absurd cc
-      go (b ∷ bs) (r ∷ rs) filled some = refl
+      go (b ∷ bs) filled = is b bs
 
 -- the verdict about an operation, read
 pub verdict_read : (x : ℕ) (t : Operation) (f : Finding) (v : Verdict) → Some f ≡ fact_of finding_of t x → ((s : Surroundings) → f ≡ finding_of s → v ≡ verdict_in s) → verdict_at x t ≡ Some v

@@ -1,10 +1,10 @@
 //! What the rules make of an operation.
-ghost use Rattle.std.specs.Prelude.{◌≡◌, IfOk, MatchResult, Some};
+ghost use Rattle.std.specs.Prelude.{◌≡◌, ◌∷◌, ℕ, List, IfOk, MatchResult, Some};
 ghost use Rattle.ir_verify_base.specs.events.Modules.{module_in};
 ghost use Rattle.ir_verify_base.specs.Fits.{Surroundings};
 ghost use Rattle.ir_verify.specs.Diagnostics.{Unchecked};
 ghost use Rattle.ir_verify.specs.Sets.{finding_of};
-ghost use Rattle.ir_verify.specs.Verdicts.{verdict_at, verdict_in};
+ghost use Rattle.ir_verify.specs.Verdicts.{verdict_at, verdict_by, verdict_in};
 
 use crate::finding::Finding;
 use ir_types::ids::OpId;
@@ -25,6 +25,16 @@ pub enum Verdict {
     Faulty,
 }
 
+/// What they make of one that breaks some, from those that are told of it.
+fn verdict_told(told: &[u8]) -> Verdict
+    ensures { (b : ℕ) (bs : List ℕ) → result ≡ verdict_by (b ∷ bs) told.now }
+{
+    match told {
+        [] => Verdict::Excused,
+        _ => Verdict::Faulty,
+    }
+}
+
 /// What the rules make of an operation, from what is kept of it.
 fn verdict_of(alloc: Global, finding: &Finding) -> Result<Verdict, AllocError>
     ensures { IfOk result (λ v. (s : Surroundings) → finding.now ≡ finding_of s → v ≡ verdict_in s) }
@@ -33,11 +43,7 @@ fn verdict_of(alloc: Global, finding: &Finding) -> Result<Verdict, AllocError>
         return Ok(Verdict::Obeys);
     }
     let told = finding.numbers(alloc)?;
-    if told.is_empty() {
-        Ok(Verdict::Excused)
-    } else {
-        Ok(Verdict::Faulty)
-    }
+    Ok(verdict_told(&told))
 }
 
 /// What the rules make of an operation of a world's module.
