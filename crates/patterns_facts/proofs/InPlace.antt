@@ -5,6 +5,7 @@ use Rattle.std.specs.List.{list_all}
 use Rattle.std.specs.Str.{bytes_eq}
 use Rattle.std.proofs.lemmas.List.{length-set}
 use Rattle.std.proofs.lemmas.Slice.Eq.{bytes_eq-Decides}
+use Rattle.ir_event.specs.trees.WellFormed.{IsWellFormed}
 use Rattle.ir_event.specs.types.Words.{is_isolated, is_inherent}
 use Rattle.ir_event.specs.types.Terms.{TypeTerm, AttrTerm, IntegerOf}
 use Rattle.ir_event.specs.types.declared.refusal.Refusal.TheVariants.{Full}
