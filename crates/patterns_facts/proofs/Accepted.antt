@@ -2,6 +2,7 @@
 use Rattle.std.proofs.Common.{◌≡◌, refl, ap, sym, ◌∙◌, ℕ, ◌+◌, Bool, true, false, List, Some, leb-true, if◌then◌else◌}
 use Rattle.std.specs.Prelude.{nat_le}
 use Rattle.ir_event.specs.trees.WellFormed.{IsWellFormed}
+use Rattle.ir_event.specs.Step.{IsSorted}
 use Rattle.ir_event.specs.types.Words.{is_isolated}
 use Rattle.ir_event.specs.types.declared.refusal.Refusal.TheVariants.{Full, IdsExhausted}
 use Rattle.ir_event.specs.trees.declared.place.Place.{Place}
