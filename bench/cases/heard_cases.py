@@ -115,6 +115,17 @@ def looks(cases):
                  + "erase #50\nmove #60 before #1\n" + ALL_ROWS)
 
 
+def about(cases):
+    """A listener that turned stale has no rows of anything, and what isn't in the module is refused before that."""
+    for kind in script.BOXES:
+        edits = (PRODUCT.rstrip(), "set-operand #3 0 %v2.0", f"resync {kind}", "erase #5")
+        asked = "".join(f"report {kind} of {thing}\n" for thing in ("#3", "%v2.0", "#5", "%v5.0", "#9"))
+        bound = "" if kind in ("diagnostics", "constants") else ":0"
+        cases.run([f"{kind}{bound}"], SUM + DIVIDER + asked + "".join(f"{edit}\n{asked}" for edit in edits))
+    cases.run(["uses:0", "additions", "stale:1"], SUM + DIVIDER + "begin\n" + PRODUCT + "rollback\n" + "".join(
+        f"report {kind} of {thing}\n" for kind in ("uses", "kind9", "kind100") for thing in ("#3", "%v3.0", "#5")))
+
+
 def additions(cases):
     """The example of a listener of one's own."""
     for edit in ("set-operand #3 1 %v2.0", "erase #4\nerase #3", PRODUCT.rstrip(),
@@ -199,6 +210,6 @@ def checks(case):
 def all_cases(case):
     """Makes all cases."""
     cases = Cases(case)
-    for part in (six_events, stale, looks, additions, by_hand, by_chance):
+    for part in (six_events, stale, looks, additions, about, by_hand, by_chance):
         part(cases)
     checks(case)

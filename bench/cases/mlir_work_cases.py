@@ -14,6 +14,7 @@ import sys
 sys.dont_write_bytecode = True
 sys.path.append(str(pathlib.Path(__file__).resolve().parents[1]))  # bench/, where the other rooms are
 
+import about_cases  # noqa: E402
 import analyses_cases  # noqa: E402
 import conversion_cases  # noqa: E402
 import heard_cases  # noqa: E402
@@ -219,6 +220,15 @@ def rewrite_says(words):
     return says and f"{'trace' if is_traced else 'rewrite'} {told(found[0])} {says}"
 
 
+def about_says(words):
+    """What the words of a line say of a report of one operation or one value, if they do."""
+    if len(words) != 4 or words[0] != b"report" or words[2] != b"of" or kind_of(words[1]) is None:
+        return None
+    if op_of(words[3]):
+        return f"report {kind_of(words[1])} of op {op_of(words[3])[0]}"
+    return value_of(words[3]) and f"report {kind_of(words[1])} of value {dotted(value_of(words[3]))}"
+
+
 def text_says(text):
     if book_says(text):
         return book_says(text)
@@ -229,6 +239,8 @@ def text_says(text):
         return "ids"
     if len(words) == 2 and words[0] == b"attach" and kind_of(words[1]) is not None:
         return f"attach {kind_of(words[1])}"
+    if about_says(words):
+        return about_says(words)
     if words in ([b"print"], [b"begin"], [b"commit"], [b"rollback"], [b"sweep"]):
         return words[0].decode()
     if len(words) == 3 and words[0] == b"apply" and op_of(words[2]):
@@ -285,7 +297,11 @@ MOVES = {"move #3 before #2": "3 before 2", "move\t#3  after\t#002\r": "3 after 
 KINDS_ALONE = {"detach uses": "detach 1", "resync uses": "resync 1", "detach kind9": "detach 9",
                "\tresync  kind255 \r": "resync 255", "detach constants": "detach 6", "resync unreached": "resync 7",
                "attach uses": "attach 1", "\tattach  unreached \r": "attach 7", "attach kind9": "attach 9"}
-ORDERS = {"rewrite 1": "rewrite [1] limit none", "rewrite 4,drop-one,0024": "rewrite [4,drop-one,0024] limit none",
+ORDERS = {"report uses of #3": "report 1 of op 3", "\treport  unreached\tof  #0003 \r": "report 7 of op 3",
+          "report kind9 of %v2.0": "report 9 of value 2.0", "report constants of %a01.2.003": "report 6 of value 1.2.3",
+          "report dead of #4294967295": "report 5 of op 4294967295",
+          "expect 20 report symbols of #9": "expects 20 NoSuchOp report 2 of op 9",
+          "rewrite 1": "rewrite [1] limit none", "rewrite 4,drop-one,0024": "rewrite [4,drop-one,0024] limit none",
           "\tcanon  only\t1,2  limit 007\r": "rewrite [1,2] limit 7",
           "rewrite nope,#1 limit 0": "rewrite [nope,#1] limit 0",
           "canon only limit": "rewrite [limit] limit none", "canon only 1,1": "rewrite [1,1] limit none",
@@ -385,7 +401,11 @@ insert end 0 0 x|insert before #1|insert before #1 \t|insert before 1 x|insert u
 insert "test.a"() : () -> ()|begin x|begin //|Begin|commit 1|commits|rollback #1|rollback  x|roll back|undo|report
 report nonsense|report Uses|report use|report uses uses|report uses \r x|reportuses|Report uses|report kind|report kind1
 report kind6|report kind07|report kind00|report kind256|report kind4294967305|report kind-1|report kind9x|report 1
-report kind7|report Unreached|sweep x|sweep //|Sweep|sweeps|swee|sweep #1|apply|apply 1|apply #1|apply 1 #|apply 1 2
+report kind7|report Unreached|report uses of|report uses of 3|report uses of #|report uses of #3 x|report of #3
+report uses #3|report uses Of #3|report uses of #3 #4|report uses of %v2|report uses of %a1.0|report use of #3
+report uses off #3|report uses of#3|report usesof #3|report uses of of #3|report kind1 of #3|report uses of #4294967296
+report uses of %v4294967296.0|report uses of %v2.0.0|report uses of @f|reports uses of #3|print of #3
+resync uses of #3|sweep x|sweep //|Sweep|sweeps|swee|sweep #1|apply|apply 1|apply #1|apply 1 #|apply 1 2
 apply 0 #1|apply 31 #1|apply 00031 #1|apply 1x #1|apply 1 #1 x|apply 4294967297 #1|apply drop-zero|apply drop-zero 3
 apply drop-zero #3 #4|apply drop zero #3|Apply 1 #2|applies 1 #2|apply 1 #4294967296|rewrite|rewrite 25|rewrite 0
 rewrite 1,|rewrite ,1|rewrite 1,,2|rewrite 1, 2|rewrite 1 2|rewrite 1,30|rewrite 1 limit|rewrite 1 limit x
@@ -446,8 +466,8 @@ def lines():
                  "move #3 after #2", "move #3 end #1 0", "set-attr #3 k.a 1",
                  "set-attr #3 \"a\\n\" 1", "drop-attr #3 k", "detach uses", "resync kind10", "canon limit 10",
                  "convert full depth 2 legal a,b rules 2,25", "attach dead", "print ids", "expect 22 print",
-                 "rewrite 2,drop-one limit 10", "canon trace limit 10", "rewrite 2,x trace limit 3", "pattern p x",
-                 "patterns", "check p width 10"):
+                 "rewrite 2,drop-one limit 10", "report uses of #10", "report kind10 of %v2.0",
+                 "canon trace limit 10", "rewrite 2,x trace limit 3", "pattern p x", "patterns", "check p width 10"):
         text = text.encode()
         for place in range(len(text) + 1):
             line(text[:place] + text[place + 1:])
@@ -1196,6 +1216,7 @@ def main():
             GOLDEN.begin(f"{area}/{part.__name__}")
             part()
     analyses_cases.all_cases(analyses, GOLDEN.begin)
+    about_cases.all_cases(analyses, GOLDEN.begin)
     conversion_cases.all_cases(analyses, GOLDEN.begin)
     own_pattern_cases.all_cases(whole, GOLDEN.begin)
     trace_cases.all_cases(GOLDEN.case, GOLDEN.begin)

@@ -192,6 +192,23 @@ def constants(module):
             for value in sorted(found, key=order_of)]
 
 
+def subject(row):
+    """What a row tells something of, as it stands there: the operation of a definition or a duplicate, the one that
+    refers or calls, and of all other rows what they begin with."""
+    words = row.split(" ")
+    if words[0] in ("def", "duplicate"):
+        return words[-1]
+    return words[1] if words[0] in ("use", "unresolved", "mismatch") else words[0]
+
+
+def is_about(row, thing):
+    """Whether a row is about an operation, by its number, or about a value. What is about a value is also about the
+    operation that it belongs to."""
+    if isinstance(thing, int):
+        return subject(row) == f"#{thing}" or subject(row).startswith((f"%v{thing}.", f"%a{thing}."))
+    return subject(row) == value_text(thing)
+
+
 ANALYSES = {"uses": uses, "symbols": symbols, "diagnostics": diagnostics, "effects": effects, "dead": dead,
             "constants": constants, "unreached": unreached}
 KINDS = {1: "uses", 2: "symbols", 3: "diagnostics", 4: "effects", 5: "dead", 6: "constants", 7: "unreached"}

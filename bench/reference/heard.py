@@ -242,11 +242,6 @@ class Heard(Run):
             return f"{sum(op.name == b'arith.addi' for op in walk(self.module.root))}\n"
         return "" if kind in ("kind9", "kind101") else super().rows(kind)
 
-    def report(self, text):
-        self.is_attached(self.kind_of(text))
-        self.is_fresh(text)
-        return super().report(text)
-
     def resync(self, text):
         super().resync(text)
         self.stale.discard(text)

@@ -7,7 +7,7 @@ import collections
 
 from .analyses import ANALYSES
 from .module import read, text_of
-from .refused import FREE, NEVER
+from .refused import FREE, NEVER, kind_in
 from .script import ALL, BOXES, Run, lines_of, split
 
 MEMORY = " refused 36 Memory\n"
@@ -97,12 +97,13 @@ class Follower:
     def may_lack(self, word, reply):
         """Whether memory may be wanting for a command that is due a reply else."""
         is_free = word in NEVER or word in FREE and not self.state.marks
-        return not is_free and not any(f" refused {number} " in reply for number in (41, 42, 60))
+        return not is_free and not any(f" refused {number} " in reply for number in (41, 42, 60)) and not (
+            word == "report" and reply.startswith(" refused "))
 
     def reply(self, count, line):
         """Passes the reply to a line; says whether a listing follows, and whether the listeners were told of
         something."""
-        word, kind = (line.split()[0], line.split()[-1]) if line else ("", "")
+        word, kind = kind_in(line) if line else ("", "")
         due, is_listed, behind = self.rules.answer(self.state, line)
         accepts = not due.startswith(" refused ")
         if word == "report" and accepts and kind in self.state.boxes and self.takes(f"{count} refused 40 Stale\n"):

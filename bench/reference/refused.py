@@ -10,6 +10,12 @@ NO_BOX = {"report", "print"}
 REFUSED = " refused 36 Memory\n"
 
 
+def kind_in(line):
+    """The first word of a line, and the kind that it names, where it is a line that names one."""
+    words = line.split()
+    return words[0], words[1] if words[0] == "report" and len(words) > 1 else words[-1]
+
+
 class Once(Run):
     """A run in which one allocation is refused at a command: the command itself, a listener that is told, or a part of
     the listing. `fault` is a word and perhaps a kind."""
@@ -28,8 +34,7 @@ class Once(Run):
 
     def answered(self, line, fault):
         """The reply to a line, what is shown, and whether a listing follows; none where the fault can't be there."""
-        word = line.split()[0] if line else ""
-        kind = line.split()[-1]
+        word, kind = kind_in(line)
         before = self.state()
         reply, is_listed = self.reply(line)
         if word == "report" and reply.startswith(" ok") and kind in self.stale:
@@ -46,7 +51,8 @@ class Once(Run):
                 return None
             self.stale.add(fault[1])
             return reply, is_listed
-        if word in NEVER or word in FREE and not before[2] or any(f" {it} " in reply for it in (40, 41, 42)):
+        if word in NEVER or word in FREE and not before[2] or any(f" {it} " in reply for it in (40, 41, 42)) \
+                or word == "report" and reply.startswith(" refused "):
             return None
         self.back(before)
         if word == "resync":

@@ -2,7 +2,7 @@
 import re
 
 from . import aliases, conversion, edits, pattern_checks, pattern_uses, patterns, rewrites
-from .analyses import ANALYSES, KINDS, unreached_ops
+from .analyses import ANALYSES, KINDS, is_about, unreached_ops
 from .module import ids_text, printing, read, read_attr, read_op, rules, text_of
 
 WORDS = {20: "NoSuchOp", 21: "NoSuchValue", 22: "HasUses", 23: "NotVisible", 24: "TypeDiffers", 25: "NoSuchIndex",
@@ -132,15 +132,36 @@ class Run:
     def is_attached(self, kind):
         edits.refuse(41, kind not in self.boxes)
 
+    def is_fresh(self, kind):
+        """Refuses where the analysis of a kind is stale. Here none is."""
+
+    def subject_of(self, text):
+        """The operation or the value behind `of`, which is in the module."""
+        word, rest = cut(text)
+        need(word == "of")
+        if rest.startswith("#"):
+            thing = op_of(rest)
+            edits.refuse(20, thing not in self.module.ops())
+        else:
+            thing = value_of(rest)
+            edits.refuse(21, self.module.type_of(thing) is None)
+        return thing
+
     def rows(self, kind):
         return "".join(row + "\n" for row in ANALYSES[kind](self.module))
 
     # Each command takes its text, and gives what stands in place of `ok` and what is written below it.
 
     def report(self, text):
-        kind = self.kind_of(text)
+        word, behind = cut(text)
+        kind = self.kind_of(word)
+        thing = self.subject_of(behind) if behind else None
         self.is_attached(kind)
-        return "", self.rows(kind)
+        self.is_fresh(kind)
+        rows = self.rows(kind)
+        if thing is not None:
+            rows = "".join(row + "\n" for row in rows.split("\n")[:-1] if is_about(row, thing))
+        return "", rows
 
     def print(self, text):
         need(text in ("", "ids"))

@@ -19,6 +19,7 @@ from .way import Way
 
 Text = Union[str, bytes]
 ValueText = Union[Value, str]
+Subject = Union[int, Operation, Value, str]
 _BLANKS = b" \t\r"
 _WORD = re.compile(rb"[^ \t]*")
 # What stands in front of a command that is to be refused.
@@ -48,6 +49,11 @@ def _listed(names: Iterable[str]) -> List[str]:
 def _ruled(rules: Iterable[Union[int, str]]) -> str:
     """Rules with commas; a string is one rule, or some with commas."""
     return rules if isinstance(rules, str) else ",".join(map(str, rules))
+
+
+def _named(of: Subject) -> str:
+    """An operation or a value, as a line names it."""
+    return op_text(of) if isinstance(of, (int, Operation)) else str(of)
 
 
 def _limited(limit: Optional[int]) -> str:
@@ -204,25 +210,27 @@ class Session:
         return self.command("print").shown
 
     @overload
-    def report(self, kind: Literal["uses"]) -> List[Use]: ...
+    def report(self, kind: Literal["uses"], of: Optional[Subject] = None) -> List[Use]: ...
     @overload
-    def report(self, kind: Literal["symbols"]) -> List[Symbol]: ...
+    def report(self, kind: Literal["symbols"], of: Optional[Subject] = None) -> List[Symbol]: ...
     @overload
-    def report(self, kind: Literal["diagnostics"]) -> List[Diagnostic]: ...
+    def report(self, kind: Literal["diagnostics"], of: Optional[Subject] = None) -> List[Diagnostic]: ...
     @overload
-    def report(self, kind: Literal["effects"]) -> List[Effect]: ...
+    def report(self, kind: Literal["effects"], of: Optional[Subject] = None) -> List[Effect]: ...
     @overload
-    def report(self, kind: Literal["dead"]) -> List[Dead]: ...
+    def report(self, kind: Literal["dead"], of: Optional[Subject] = None) -> List[Dead]: ...
     @overload
-    def report(self, kind: Literal["constants"]) -> List[Constant]: ...
+    def report(self, kind: Literal["constants"], of: Optional[Subject] = None) -> List[Constant]: ...
     @overload
-    def report(self, kind: Literal["unreached"]) -> List[Unreached]: ...
+    def report(self, kind: Literal["unreached"], of: Optional[Subject] = None) -> List[Unreached]: ...
     @overload
-    def report(self, kind: str) -> Sequence[Row]: ...
+    def report(self, kind: str, of: Optional[Subject] = None) -> Sequence[Row]: ...
 
-    def report(self, kind: str) -> Sequence[Row]:
-        """The rows of an analysis, cut into cells; of a kind that isn't known here the words of its lines."""
-        return rows_of(kind, self.command(f"report {kind}").shown)
+    def report(self, kind: str, of: Optional[Subject] = None) -> Sequence[Row]:
+        """The rows of an analysis, cut into cells; of a kind that isn't known here the words of its lines. With `of`
+        those alone that are about an operation, or a value that belongs to it, or about one value."""
+        about = "" if of is None else f" of {_named(of)}"
+        return rows_of(kind, self.command(f"report {kind}{about}").shown)
 
     def operations(self) -> List[Operation]:
         """The operations, in the order of the text, as they are now.

@@ -60,6 +60,18 @@ class Calls(Case):
         s.erase(1)
         self.assertEqual(s.report("dead"), [])
 
+    def test_rows_about_one_thing(self):
+        s = self.s
+        rows = s.report("uses", of=Result(1))
+        self.assertEqual(rows, [row for row in s.report("uses") if row.value == Result(1)])
+        self.assertEqual((rows, s.report("uses", of=1), s.report("uses", "%v1.0")), (rows, rows, rows))
+        self.assertEqual(s.report("constants", of=Result(2)), [(Result(2), "2 : i32")])
+        self.assertEqual((s.report("dead", of=1), s.report("dead", of=3)), ([], []))
+        for of, number in ((9, 20), (Result(9), 21), ("%v1.9", 21)):
+            with self.assertRaises(mlir_work.Refused) as caught:
+                s.report("uses", of=of)
+            self.assertEqual(caught.exception.number, number)
+
     def test_places(self):
         s = self.s
         self.assertEqual(s.insert(before(3), '"test.a"() ({}) : () -> ()'), 4)

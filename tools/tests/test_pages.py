@@ -141,6 +141,16 @@ class Reports(unittest.TestCase):
                 said = program.replies(program.asked((own.group(1) if own else first).encode(), script)[1])
                 self.assertEqual(said[-1], ("ok", indented(text)))
 
+    def test_rows_about_one_thing(self):
+        page = (ROOT / "docs/REPORTS.md").read_text()
+        module, text = MODULE.search(page).group(1), sections("REPORTS.md")["Of one operation, or one value"]
+        found = re.findall(r"^\| `(report .*?)` \| (.*) \|$", text, re.M)
+        self.assertGreater(len(found), 5)
+        for line, rows in found:
+            with self.subTest(line):
+                said = program.replies(program.asked(module.encode(), [line])[1])
+                self.assertEqual(said[-1], ("ok", re.findall("`(.*?)`", rows)))
+
 
 if __name__ == "__main__":
     unittest.main()

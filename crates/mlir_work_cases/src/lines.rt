@@ -8,12 +8,13 @@ use mlir_work_run::command::{Command, Line, read_line};
 use mlir_work_run::expect::expected_of;
 use mlir_work_run::input::{script_is_too_long, split};
 use mlir_work_run::keys::{Key, bytes_of};
-use mlir_work_run::kind::kind_named;
+use mlir_work_run::kind::{Kind, kind_named};
 use mlir_work_run::lines::split_line;
 use mlir_work_run::numbers;
 use mlir_work_run::order::Order;
 use mlir_work_run::rule_name::RuleName;
 use mlir_work_run::spots::Spot;
+use mlir_work_run::subject::Subject;
 use mlir_work_run::values::{op_named, value_named};
 use mlir_work_run::words::{split_word, trim};
 use std::alloc::{AllocError, Global};
@@ -186,11 +187,23 @@ fn told_trace(
     format!(in alloc; "trace {rules} limit {limit}")
 }
 
+/// A line that asks for the rows about an operation or a value.
+fn told_about(alloc: Global, kind: Kind, subject: &Subject) -> Result<String, AllocError> {
+    match subject {
+        Subject::Op(op) => format!(in alloc; "report {} of op {}", kind.number(), op.number()),
+        Subject::Val(value) => {
+            let value = told_value(alloc, *value)?;
+            format!(in alloc; "report {} of value {value}", kind.number())
+        }
+    }
+}
+
 /// An order.
 fn told_order(alloc: Global, order: &Order<'_>) -> Result<String, AllocError> {
     match order {
         Order::Attach(kind) => format!(in alloc; "attach {}", kind.number()),
         Order::PrintIds => String::from_str(alloc, "ids"),
+        Order::ReportOf { kind, subject } => told_about(alloc, *kind, subject),
         Order::Rewrite { rules, limit } => told_rewrite(alloc, rules, *limit),
         Order::Trace { rules, limit } => told_trace(alloc, *rules, *limit),
     }

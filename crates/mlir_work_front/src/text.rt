@@ -61,6 +61,9 @@ To look:
   print ids                  the module with the number of its operation at the
                              end of each line, as a comment
   report KIND                the rows of an analysis
+  report KIND of #N          those that are about operation #N, or about a value
+                             that belongs to it
+  report KIND of VALUE       those that are about VALUE
   patterns                   the patterns that were defined, and what the last
                              check of each said
 

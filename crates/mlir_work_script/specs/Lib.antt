@@ -10,6 +10,7 @@ pub mod Kinds
 pub mod Spots
 pub mod Keys
 pub mod RuleNames
+pub mod Subjects
 pub mod Orders
 pub mod BookOrders
 pub mod Expecting

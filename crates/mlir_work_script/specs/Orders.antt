@@ -6,9 +6,11 @@ use Rattle.rewriter_machine.specs.Commands.{RuleName}
 use Rattle.mlir_work_script.specs.Kinds.{kind_of}
 use Rattle.mlir_work_script.specs.Numbers.{number_of}
 use Rattle.mlir_work_script.specs.RuleNames.{are_tried, names_of}
+use Rattle.mlir_work_script.specs.Subjects.{subject_in}
 use Rattle.mlir_work_script.specs.Words.{word_of, after_word}
 use Rattle.mlir_work_script.specs.declared.order.Order.{Order as Coded}
 use Rattle.mlir_work_script.specs.declared.order.Order.TheVariants as code
+use Rattle.mlir_work_script.specs.declared.subject.Subject.{Subject}
 
 -- an order
 pub data Order : Type 0 where
@@ -16,6 +18,8 @@ pub data Order : Type 0 where
   Attach : ℕ → Order
   -- the module is asked for, with the ids of its operations
   PrintIds : Order
+  -- the rows of a kind that are about an operation or a value are asked for
+  ReportOf : ℕ → Subject → Order
   -- some rules are applied, in this order at each operation, until none applies any more; with a limit, or without one
   Rewrite : List RuleName → Option ℕ → Order
   -- and each rewrite is told; where no rules are named, those of canonicalization are applied
@@ -25,6 +29,7 @@ pub data Order : Type 0 where
 abbrev pub order_of : Coded → Order
 order_of (code.Attach kind) = Attach kind
 order_of code.PrintIds = PrintIds
+order_of (code.ReportOf kind subject) = ReportOf kind subject
 order_of (code.Rewrite rules limit) = Rewrite (names_of rules.now) limit
 order_of (code.Trace rules limit) = Trace (option_map names_of (option_copied rules)) limit
 
@@ -39,6 +44,22 @@ attach_in rest = all_said (after_word rest) (option_map Attach (kind_of (word_of
 -- print ids, behind its name
 abbrev pub ids_in : List ℕ → Option Order
 ids_in rest = if bytes_eq rest (codes "ids") then Some PrintIds else None
+
+abbrev pub report_from : Option ℕ → Option Subject → Option Order
+report_from (Some kind) (Some subject) = Some (ReportOf kind subject)
+report_from (Some kind) None = None
+report_from None subject = None
+
+-- of THING, and nothing behind it
+abbrev pub of_thing : Option ℕ → List ℕ → Option Order
+of_thing kind text =
+    if bytes_eq (word_of text) (codes "of")
+    then all_said (after_word (after_word text)) (report_from kind (subject_in (word_of (after_word text))))
+    else None
+
+-- report KIND of THING, behind its name
+abbrev pub report_in : List ℕ → Option Order
+report_in rest = of_thing (kind_of (word_of rest)) (after_word rest)
 
 -- limit N
 abbrev pub limited_in : List ℕ → Option (Option ℕ)
@@ -77,6 +98,7 @@ abbrev pub order_named : List ℕ → List ℕ → Option Order
 order_named name rest =
     if bytes_eq name (codes "attach") then attach_in rest
     else if bytes_eq name (codes "print") then ids_in rest
+    else if bytes_eq name (codes "report") then report_in rest
     else if bytes_eq name (codes "rewrite") then rewrite_in rest
     else if bytes_eq name (codes "canon") then canon_order_in rest
     else None

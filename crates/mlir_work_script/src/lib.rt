@@ -22,6 +22,7 @@ pub mod rule_name;
 pub mod sink;
 pub mod source;
 pub mod spots;
+pub mod subject;
 pub mod values;
 pub mod watched;
 pub mod words;

@@ -1,12 +1,13 @@
 //! What a line may say beside the commands of a bench.
 ghost use Rattle.std.specs.Prelude.{◌≡◌, None, Some, option_map};
 ghost use Rattle.mlir_work_script.specs.Orders.{attach_in, canon_order_in, ids_in, limit_in, order_in, order_named};
-ghost use Rattle.mlir_work_script.specs.Orders.{order_of, Rewrite, rewrite_in, ruled_in, trace_in};
+ghost use Rattle.mlir_work_script.specs.Orders.{order_of, report_in, Rewrite, rewrite_in, ruled_in, trace_in};
 ghost use Rattle.mlir_work_script.specs.RuleNames.{names_of};
 
 use crate::kind::{Kind, kind_named};
 use crate::numbers::number;
 use crate::rule_name::are_tried;
+use crate::subject::{Subject, subject_named};
 use crate::words::split_word;
 
 /// What only a session can do.
@@ -16,6 +17,13 @@ pub enum Order<'a> {
     Attach(Kind),
     /// `print ids` prints the module with the ids of its operations.
     PrintIds,
+    /// `report KIND of THING` prints the rows of an analysis that are about an operation or a value.
+    ReportOf {
+        /// The kind of the analysis.
+        kind: Kind,
+        /// The operation, or the value.
+        subject: Subject,
+    },
     /// `rewrite RULES [limit N]` and `canon only RULES [limit N]` apply rules until none of them applies any more, or so
     /// many times.
     Rewrite {
@@ -53,6 +61,24 @@ fn ids<'a>(rest: &[u8]) -> Option<Order<'a>>
         return None;
     }
     Some(Order::PrintIds)
+}
+
+/// `report KIND of THING`, behind its name.
+fn report<'a>(rest: &[u8]) -> Option<Order<'a>>
+    ensures { option_map order_of result ≡ report_in rest.now }
+{
+    let (kind, rest) = split_word(rest);
+    let (of, rest) = split_word(rest);
+    if of != b"of".as_slice() {
+        return None;
+    }
+    let (thing, left) = split_word(rest);
+    if !left.is_empty() {
+        return None;
+    }
+    let kind = kind_named(kind)?;
+    let subject = subject_named(thing)?;
+    Some(Order::ReportOf { kind, subject })
 }
 
 /// `[limit N]`: a limit, or none, and nothing behind it.
@@ -146,6 +172,9 @@ fn order_named<'a>(name: &[u8], rest: &'a [u8]) -> Option<Order<'a>>
     }
     if name == b"print".as_slice() {
         return ids(rest);
+    }
+    if name == b"report".as_slice() {
+        return report(rest);
     }
     if name == b"rewrite".as_slice() {
         return rewrite(rest);

@@ -1,5 +1,5 @@
 -- How orders are answered.
-use Rattle.std.proofs.Common.{◌≡◌, ◌∙◌, ap, sym, subst, refl, inl, inr, ℕ, List, [], ◌++◌, Option, Some, None, false, true, Result, Ok, Err}
+use Rattle.std.proofs.Common.{◌≡◌, ◌∙◌, ap, sym, subst, refl, inl, inr, ℕ, List, [], ◌++◌, Bool, Option, Some, None, false, true, Result, Ok, Err}
 use Rattle.std.specs.Prelude.{is_some, option_map, OnOk}
 use Rattle.ir_event.specs.types.declared.refusal.Refusal.{Refusal}
 use Rattle.ir_event.specs.types.declared.refusal.Refusal.TheVariants.{Memory, NoSuchKey, NoSuchKind}
@@ -8,9 +8,11 @@ use Rattle.mlir_work_transforms.specs.rewriter.Commands.{AppliesRule, RuleName, 
 use Rattle.mlir_work_transforms.specs.rewriter.Machine as call
 use Rattle.mlir_work_transforms.specs.rewriter.Machine.{State, Call, Reply, Done, Refused, Shows, Nothing, Transformation, Tree, Goes}
 use Rattle.mlir_work_transforms.specs.rewriter.Panels.{Shown}
-use Rattle.mlir_work_script.specs.Orders.{Attach, Order, PrintIds, Rewrite, Trace}
+use Rattle.mlir_work_script.specs.Orders.{Attach, Order, PrintIds, ReportOf, Rewrite, Trace}
+use Rattle.mlir_work_script.specs.declared.subject.Subject.{Subject}
 use Rattle.mlir_work_session_base.specs.IdsText.{ids_text}
-use Rattle.mlir_work_session.specs.Machine.{AttachesKind, Fulfils, OrdersIn, Way, limit_or, order_bytes, told_if}
+use Rattle.mlir_work_session_base.specs.Subjects.{absent, is_there}
+use Rattle.mlir_work_session.specs.Machine.{AsksAbout, AttachesKind, Fulfils, OrdersIn, Way, limit_or, order_bytes, order_shows, shows_about, told_if}
 use Rattle.mlir_work_book.specs.Replies.{IsBounded, is_accepted}
 use Rattle.mlir_work_transforms.specs.greedy.Changes.{canonical_reply, rewriting}
 use Rattle.mlir_work_transforms.specs.greedy.Tracing.{trace_of}
@@ -23,7 +25,7 @@ use Rattle.mlir_work_session.proofs.Panels.{all_stay}
 
 module _ (way : Way) where
   -- an order that comes to a call
-  pub fulfils_call : (s t : State) (o : Order) (c : Call) (reply : Reply) (shows : Shows) → OrdersIn way o (Ask c) → Goes s c reply shows t → Fulfils way s o (Replied reply) (order_bytes way o s.held (Replied reply) shows) t
+  pub fulfils_call : (s t : State) (o : Order) (c : Call) (reply : Reply) (shows : Shows) → OrdersIn way o s.held (Ask c) → Goes s c reply shows t → Fulfils way s o (Replied reply) (order_bytes way o s.held (Replied reply) shows) t
   fulfils_call s t o c reply shows asks goes = record { asked = Ask c; shows = shows; asks = asks; follows = goes; text = refl }
 
   -- ---- attaching
@@ -33,12 +35,12 @@ module _ (way : Way) where
   fulfils_unsupplied kind s e =
       record { asked = Misplaced NoSuchKind; shows = Nothing; asks = subst (λ (o : Option Shown). AttachesKind o (Misplaced NoSuchKind)) (sym e) refl; follows = (refl, refl, refl); text = refl }
 
-  asks_supplied : (kind : ℕ) (a : Shown) → way.supply kind ≡ Some a → OrdersIn way (Attach kind) (Ask (call.Attach a))
-  asks_supplied kind a e = subst (λ (o : Option Shown). AttachesKind o (Ask (call.Attach a))) (sym e) refl
+  asks_supplied : (kind : ℕ) (a : Shown) (m : Module) → way.supply kind ≡ Some a → OrdersIn way (Attach kind) m (Ask (call.Attach a))
+  asks_supplied kind a m e = subst (λ (o : Option Shown). AttachesKind o (Ask (call.Attach a))) (sym e) refl
 
   -- one of which there is one
   pub fulfils_supplied : (kind : ℕ) (a : Shown) (s t : State) (reply : Reply) (response : Response) → way.supply kind ≡ Some a → response ≡ Replied reply → Goes s (call.Attach a) reply Nothing t → Fulfils way s (Attach kind) response [] t
-  fulfils_supplied kind a s t reply response e is goes = rw is (fulfils_call s t (Attach kind) (call.Attach a) reply Nothing (asks_supplied kind a e) goes)
+  fulfils_supplied kind a s t reply response e is goes = rw is (fulfils_call s t (Attach kind) (call.Attach a) reply Nothing (asks_supplied kind a s.held e) goes)
 
   -- ---- printing
 
@@ -48,6 +50,21 @@ module _ (way : Way) where
   pub fulfils_unprinted : (s : State) → Fulfils way s PrintIds (Replied (Refused Memory)) [] s
   fulfils_unprinted s = fulfils_call s s PrintIds call.Print (Refused Memory) Nothing refl (record { answer = inr (refl, refl); panel = refl })
 
+  -- ---- rows about an operation or a value
+
+  -- what isn't there
+  pub fulfils_absent : (kind : ℕ) (subject : Subject) (s : State) → is_there subject s.held.tree ≡ false → Fulfils way s (ReportOf kind subject) (Replied (Refused (absent subject))) [] s
+  fulfils_absent kind subject s e =
+      record { asked = Misplaced (absent subject); shows = Nothing; asks = subst (λ (there : Bool). AsksAbout there kind subject (Misplaced (absent subject))) (sym e) refl; follows = (refl, refl, refl); text = refl }
+
+  asks_about : (kind : ℕ) (subject : Subject) (m : Module) → is_there subject m.tree ≡ true → OrdersIn way (ReportOf kind subject) m (Ask (call.Report kind))
+  asks_about kind subject m e = subst (λ (there : Bool). AsksAbout there kind subject (Ask (call.Report kind))) (sym e) refl
+
+  -- what is there
+  pub fulfils_about : (kind : ℕ) (subject : Subject) (s : State) (reply : Reply) (shows : Shows) → is_there subject s.held.tree ≡ true → Goes s (call.Report kind) reply shows s
+      → Fulfils way s (ReportOf kind subject) (Replied reply) (order_shows (shows_about subject shows)) s
+  fulfils_about kind subject s reply shows there goes = fulfils_call s s (ReportOf kind subject) (call.Report kind) reply shows (asks_about kind subject s.held there) goes
+
   -- ---- rewriting
 
   -- a list in which a name is no rule's
@@ -55,12 +72,12 @@ module _ (way : Way) where
   fulfils_unruled names limit s e =
       record { asked = Misplaced NoSuchKey; shows = Nothing; asks = subst (λ (o : Option Transformation). AppliesRule o (Misplaced NoSuchKey)) (sym e) refl; follows = (refl, refl, refl); text = refl }
 
-  asks_ruled : (names : List RuleName) (limit : Option ℕ) (f : Transformation) → rewriting_named names (limit_or way.manner.limit limit) ≡ Some f → OrdersIn way (Rewrite names limit) (Ask (call.Change f))
-  asks_ruled names limit f e = subst (λ (o : Option Transformation). AppliesRule o (Ask (call.Change f))) (sym e) refl
+  asks_ruled : (names : List RuleName) (limit : Option ℕ) (f : Transformation) (m : Module) → rewriting_named names (limit_or way.manner.limit limit) ≡ Some f → OrdersIn way (Rewrite names limit) m (Ask (call.Change f))
+  asks_ruled names limit f m e = subst (λ (o : Option Transformation). AppliesRule o (Ask (call.Change f))) (sym e) refl
 
   -- one of rules
   pub fulfils_ruled : (names : List RuleName) (limit : Option ℕ) (f : Transformation) (s t : State) (reply : Reply) (response : Response) → rewriting_named names (limit_or way.manner.limit limit) ≡ Some f → response ≡ Replied reply → Goes s (call.Change f) reply Nothing t → Fulfils way s (Rewrite names limit) response [] t
-  fulfils_ruled names limit f s t reply response e is goes = rw is (fulfils_call s t (Rewrite names limit) (call.Change f) reply Nothing (asks_ruled names limit f e) goes)
+  fulfils_ruled names limit f s t reply response e is goes = rw is (fulfils_call s t (Rewrite names limit) (call.Change f) reply Nothing (asks_ruled names limit f s.held e) goes)
 
   -- for which there is no memory
   pub fulfils_unlisted : (names : List RuleName) (limit : Option ℕ) (s : State) (refusal : Refusal) → refusal ≡ Memory → is_some (rules_named names) ≡ true → Fulfils way s (Rewrite names limit) (Replied (Refused refusal)) [] s
@@ -78,13 +95,13 @@ module _ (way : Way) where
   fulfils_untold names limit s e =
       record { asked = Misplaced NoSuchKey; shows = Nothing; asks = subst (λ (o : Option Transformation). AppliesRule o (Misplaced NoSuchKey)) (sym e) refl; follows = (refl, refl, refl); text = refl }
 
-  asks_told : (names : Option (List RuleName)) (limit : Option ℕ) (f : Transformation) → tracing names (limit_or way.manner.limit limit) ≡ Some f → OrdersIn way (Trace names limit) (Ask (call.Change f))
-  asks_told names limit f e = subst (λ (o : Option Transformation). AppliesRule o (Ask (call.Change f))) (sym e) refl
+  asks_told : (names : Option (List RuleName)) (limit : Option ℕ) (f : Transformation) (m : Module) → tracing names (limit_or way.manner.limit limit) ≡ Some f → OrdersIn way (Trace names limit) m (Ask (call.Change f))
+  asks_told names limit f m e = subst (λ (o : Option Transformation). AppliesRule o (Ask (call.Change f))) (sym e) refl
 
   -- rewrites that are told, where they are made
   pub fulfils_told : (names : Option (List RuleName)) (limit : Option ℕ) (f : Transformation) (s t : State) (reply : Reply) (response : Response) (bytes : List ℕ) → tracing names (limit_or way.manner.limit limit) ≡ Some f → response ≡ Replied reply → Goes s (call.Change f) reply Nothing t
       → bytes ≡ told_if (is_accepted (Replied reply)) (trace_by (traced_rules names) (limit_or way.manner.limit limit) s.held) → Fulfils way s (Trace names limit) response bytes t
-  fulfils_told names limit f s t reply response bytes e is goes told = rw is (rw told (fulfils_call s t (Trace names limit) (call.Change f) reply Nothing (asks_told names limit f e) goes))
+  fulfils_told names limit f s t reply response bytes e is goes told = rw is (rw told (fulfils_call s t (Trace names limit) (call.Change f) reply Nothing (asks_told names limit f s.held e) goes))
 
   -- for which there is no memory
   pub fulfils_forgot : (names : List RuleName) (limit : Option ℕ) (s : State) (refusal : Refusal) → refusal ≡ Memory → is_some (rules_named names) ≡ true → Fulfils way s (Trace (Some names) limit) (Replied (Refused refusal)) [] s
@@ -100,24 +117,29 @@ module _ (way : Way) where
   abbrev pub SomeFulfilled : State → Order → Type 0
   SomeFulfilled s o = (response : Response) × (bytes : List ℕ) × (t : State) × Fulfils way s o response bytes t
 
-  by_call : (s : State) (o : Order) (c : Call) → OrdersIn way o (Ask c) → SomeFulfilled s o
+  by_call : (s : State) (o : Order) (c : Call) → OrdersIn way o s.held (Ask c) → SomeFulfilled s o
   by_call s o c asks = let g = some_goes way.manner s c in (Replied g.0, order_bytes way o s.held (Replied g.0) g.1, g.2, fulfils_call s g.2 o c g.0 g.1 asks g.3)
 
   by_kind : (s : State) (kind : ℕ) (a : Option Shown) → way.supply kind ≡ a → SomeFulfilled s (Attach kind)
   by_kind s kind None e = (Replied (Refused NoSuchKind), [], s, fulfils_unsupplied kind s e)
-  by_kind s kind (Some a) e = by_call s (Attach kind) (call.Attach a) (asks_supplied kind a e)
+  by_kind s kind (Some a) e = by_call s (Attach kind) (call.Attach a) (asks_supplied kind a s.held e)
 
   by_rules : (s : State) (names : List RuleName) (limit : Option ℕ) (f : Option Transformation) → rewriting_named names (limit_or way.manner.limit limit) ≡ f → SomeFulfilled s (Rewrite names limit)
   by_rules s names limit None e = (Replied (Refused NoSuchKey), [], s, fulfils_unruled names limit s e)
-  by_rules s names limit (Some f) e = by_call s (Rewrite names limit) (call.Change f) (asks_ruled names limit f e)
+  by_rules s names limit (Some f) e = by_call s (Rewrite names limit) (call.Change f) (asks_ruled names limit f s.held e)
 
   by_trace : (s : State) (names : Option (List RuleName)) (limit : Option ℕ) (f : Option Transformation) → tracing names (limit_or way.manner.limit limit) ≡ f → SomeFulfilled s (Trace names limit)
   by_trace s names limit None e = (Replied (Refused NoSuchKey), [], s, fulfils_untold names limit s e)
-  by_trace s names limit (Some f) e = by_call s (Trace names limit) (call.Change f) (asks_told names limit f e)
+  by_trace s names limit (Some f) e = by_call s (Trace names limit) (call.Change f) (asks_told names limit f s.held e)
+
+  by_subject : (s : State) (kind : ℕ) (subject : Subject) (there : Bool) → is_there subject s.held.tree ≡ there → SomeFulfilled s (ReportOf kind subject)
+  by_subject s kind subject false e = (Replied (Refused (absent subject)), [], s, fulfils_absent kind subject s e)
+  by_subject s kind subject true e = by_call s (ReportOf kind subject) (call.Report kind) (asks_about kind subject s.held e)
 
   pub some_fulfilled : (s : State) (o : Order) → SomeFulfilled s o
   some_fulfilled s (Attach kind) = by_kind s kind (way.supply kind) refl
   some_fulfilled s PrintIds = by_call s PrintIds call.Print refl
+  some_fulfilled s (ReportOf kind subject) = by_subject s kind subject (is_there subject s.held.tree) refl
   some_fulfilled s (Rewrite names limit) = by_rules s names limit (rewriting_named names (limit_or way.manner.limit limit)) refl
   some_fulfilled s (Trace names limit) = by_trace s names limit (tracing names (limit_or way.manner.limit limit)) refl
 
@@ -134,28 +156,33 @@ told_named names rs n limit m called before after bytes rules same none told is 
     told_trace rs n limit m called before after bytes same none told is ∙ ap (λ o. told_if (is_accepted (Replied (canonical_reply called))) (trace_by o limit m)) rules
 
 -- an order is no text that isn't read
-never_unread : (way : Way) (o : Order) (refusal : Refusal) (offset : Option ℕ) → OrdersIn way o (Unread refusal offset) → ⊥
-never_unread way (Attach kind) refusal offset asks = go (way.supply kind) asks
+never_unread : (way : Way) (o : Order) (m : Module) (refusal : Refusal) (offset : Option ℕ) → OrdersIn way o m (Unread refusal offset) → ⊥
+never_unread way (Attach kind) m refusal offset asks = go (way.supply kind) asks
   where
     go : (a : Option Shown) → AttachesKind a (Unread refusal offset) → ⊥
     go None e = absurd cc
     go (Some a) e = absurd cc
-never_unread way (Rewrite names limit) refusal offset asks = go (rewriting_named names (limit_or way.manner.limit limit)) asks
+never_unread way (Rewrite names limit) m refusal offset asks = go (rewriting_named names (limit_or way.manner.limit limit)) asks
   where
     go : (o : Option Transformation) → AppliesRule o (Unread refusal offset) → ⊥
     go None e = absurd cc
     go (Some f) e = absurd cc
-never_unread way (Trace names limit) refusal offset asks = go (tracing names (limit_or way.manner.limit limit)) asks
+never_unread way (Trace names limit) m refusal offset asks = go (tracing names (limit_or way.manner.limit limit)) asks
   where
     go : (o : Option Transformation) → AppliesRule o (Unread refusal offset) → ⊥
     go None e = absurd cc
     go (Some f) e = absurd cc
-never_unread way PrintIds refusal offset asks = absurd (let e : Unread refusal offset ≡ Ask call.Print = asks in cc)
+never_unread way (ReportOf kind subject) m refusal offset asks = go (is_there subject m.tree) asks
+  where
+    go : (there : Bool) → AsksAbout there kind subject (Unread refusal offset) → ⊥
+    go false e = absurd cc
+    go true e = absurd cc
+never_unread way PrintIds m refusal offset asks = absurd (let e : Unread refusal offset ≡ Ask call.Print = asks in cc)
 
-not_at : (way : Way) (s t : State) (o : Order) (asked : Asked) (shows : Shows) (refusal : Refusal) (offset : ℕ) → OrdersIn way o asked → Follows s asked (TextRefusedAt refusal offset) shows t → ⊥
+not_at : (way : Way) (s t : State) (o : Order) (asked : Asked) (shows : Shows) (refusal : Refusal) (offset : ℕ) → OrdersIn way o s.held asked → Follows s asked (TextRefusedAt refusal offset) shows t → ⊥
 not_at way s t o (Ask c) shows refusal offset asks follows = follows
 not_at way s t o (Misplaced why) shows refusal offset asks follows = absurd (let e : TextRefusedAt refusal offset ≡ Replied (Refused why) = follows.0 in cc)
-not_at way s t o (Unread why place) shows refusal offset asks follows = never_unread way o why place asks
+not_at way s t o (Unread why place) shows refusal offset asks follows = never_unread way o s.held why place asks
 
 pub fulfils_bounded : (bytes : ℕ) (way : Way) (s : State) (o : Order) (response : Response) (shown : List ℕ) (t : State) → Fulfils way s o response shown t → IsBounded bytes response
 fulfils_bounded bytes way s o response shown t h = λ refusal offset is.

@@ -4,6 +4,7 @@ pub mod Reading
 pub mod Obeying
 pub mod Fulfilling
 pub mod Owning
+pub mod About
 pub mod Room
 pub mod Listings
 pub mod Runs

@@ -37,7 +37,7 @@ use Rattle.std.proofs.lemmas.Option.{slice_get_within}
 
 -- ---- what is seen of a bench by its world
 
-module_seen : (h : Held) (w : World) → w.ctx ≡ h.ctx → w.store ≡ h.store → module_in w ≡ module_held h
+pub module_seen : (h : Held) (w : World) → w.ctx ≡ h.ctx → w.store ≡ h.store → module_in w ≡ module_held h
 module_seen h w ctx store = λ i. module_meaning (ctx i) (store i).module_of
 
 pub held_text : (h : Held) (w : World) → w.ctx ≡ h.ctx → w.store ≡ h.store → (bytes : List ℕ) → bytes ≡ text_of (module_in w).tree → bytes ≡ text_of (module_held h).tree

@@ -8,7 +8,7 @@ use Rattle.mlir_work_transforms.specs.rewriter.Commands.{Asked, Ask, CanFill, Co
 use Rattle.mlir_work_transforms.specs.rewriter.Machine.{Shows, State}
 use Rattle.mlir_work_transforms.specs.rewriter.Texts.{SpellsBeside}
 use Rattle.mlir_work_script.specs.Commands.{Spoken, Nothing, Bad, Obey, Ordered, Booked}
-use Rattle.mlir_work_script.specs.Orders.{Attach, Order, PrintIds, Rewrite, Trace}
+use Rattle.mlir_work_script.specs.Orders.{Attach, Order, PrintIds, ReportOf, Rewrite, Trace}
 use Rattle.mlir_work_book.specs.Notices.{Notice}
 use Rattle.mlir_work_book.specs.Shelf.{Kept}
 use Rattle.mlir_work_session.specs.Machine.{AsksIn, Fulfils, OrdersIn, order_bytes}
@@ -51,15 +51,17 @@ module _ (way : Way) (bytes : ℕ) (longer : way.manner.bytes ≤ bytes) where
   asks_wider (command.Report kind) m asked h = h
   asks_wider command.Print m asked h = h
 
-  orders_wider : (order : Order) (asked : Asked) → OrdersIn way order asked → OrdersIn wider order asked
-  orders_wider (Attach kind) asked h = h
-  orders_wider PrintIds asked h = h
-  orders_wider (Rewrite names limit) asked h = h
-  orders_wider (Trace names limit) asked h = h
+  orders_wider : (order : Order) (m : Module) (asked : Asked) → OrdersIn way order m asked → OrdersIn wider order m asked
+  orders_wider (Attach kind) m asked h = h
+  orders_wider PrintIds m asked h = h
+  orders_wider (ReportOf kind subject) m asked h = h
+  orders_wider (Rewrite names limit) m asked h = h
+  orders_wider (Trace names limit) m asked h = h
 
   bytes_wider : (order : Order) (m : Module) (response : Response) (shows : Shows) → order_bytes way order m response shows ≡ order_bytes wider order m response shows
   bytes_wider (Attach kind) m response shows = refl
   bytes_wider PrintIds m response shows = refl
+  bytes_wider (ReportOf kind subject) m response shows = refl
   bytes_wider (Rewrite names limit) m response shows = refl
   bytes_wider (Trace names limit) m response shows = refl
 
@@ -68,7 +70,7 @@ module _ (way : Way) (bytes : ℕ) (longer : way.manner.bytes ≤ bytes) where
   beside_wider (Some p) s said response shows t h = h
 
   fulfils_wider : (s : State) (order : Order) (response : Response) (shows : List ℕ) (t : State) → Fulfils way s order response shows t → Fulfils wider s order response shows t
-  fulfils_wider s order response shows t h = record { asked = h.asked; shows = h.shows; asks = orders_wider order h.asked h.asks; follows = h.follows; text = h.text ∙ bytes_wider order s.held response h.shows }
+  fulfils_wider s order response shows t h = record { asked = h.asked; shows = h.shows; asks = orders_wider order s.held h.asked h.asks; follows = h.follows; text = h.text ∙ bytes_wider order s.held response h.shows }
 
   replies_wider : (s : Sitting) (spoken : Spoken) (notice : Notice) (shows : List ℕ) (t : Sitting) → Replies way s spoken notice shows t → Replies wider s spoken notice shows t
   replies_wider s Nothing notice shows t h = absurd h

@@ -14,7 +14,8 @@ use Rattle.mlir_work_transforms.specs.rewriter.Panels.{Shown}
 pub use Rattle.mlir_work_transforms.specs.rewriter.Machine.{State}
 pub use Rattle.mlir_work_book.specs.Replies.{response_of}
 use Rattle.mlir_work_book.specs.Replies.{is_accepted}
-use Rattle.mlir_work_script.specs.Orders.{Attach, Order, PrintIds, Rewrite, Trace}
+use Rattle.mlir_work_script.specs.Orders.{Attach, Order, PrintIds, ReportOf, Rewrite, Trace}
+use Rattle.mlir_work_script.specs.declared.subject.Subject.{Subject}
 use Rattle.mlir_work_transforms.specs.greedy.Changes.{canonicalizing}
 use Rattle.mlir_work_transforms.specs.Converting.{conversion}
 use Rattle.mlir_work_transforms.specs.Applying.{application}
@@ -23,6 +24,7 @@ use Rattle.mlir_work_transforms.specs.Sweep.{sweeping}
 use Rattle.mlir_work_transforms.specs.TraceText.{trace_by, traced_rules, tracing}
 use Rattle.mlir_work_session_base.specs.IdsText.{ids_text}
 use Rattle.mlir_work_session_base.specs.RowText.{rows_text}
+use Rattle.mlir_work_session_base.specs.Subjects.{absent, is_there, rows_about}
 use Rattle.mlir_work_session.specs.declared.manner.Manner.{Manner}
 
 -- the bytes that are shown below a reply
@@ -65,18 +67,30 @@ abbrev pub AttachesKind : Option Shown → Asked → Type 0
 AttachesKind None asked = asked ≡ Misplaced NoSuchKind
 AttachesKind (Some a) asked = asked ≡ Ask (call.Attach a)
 
--- what an order comes to
-abbrev pub OrdersIn : Way → Order → Asked → Type 0
-OrdersIn way (Attach kind) asked = AttachesKind (way.supply kind) asked
-OrdersIn way PrintIds asked = asked ≡ Ask call.Print
-OrdersIn way (Rewrite names limit) asked = AppliesRule (rewriting_named names (limit_or way.manner.limit limit)) asked
-OrdersIn way (Trace names limit) asked = AppliesRule (tracing names (limit_or way.manner.limit limit)) asked
+-- the rows of a kind are asked for, where what they are to be about is there; else that is refused
+abbrev pub AsksAbout : Bool → ℕ → Subject → Asked → Type 0
+AsksAbout true kind subject asked = asked ≡ Ask (call.Report kind)
+AsksAbout false kind subject asked = asked ≡ Misplaced (absent subject)
+
+-- what an order comes to in a module
+abbrev pub OrdersIn : Way → Order → Module → Asked → Type 0
+OrdersIn way (Attach kind) m asked = AttachesKind (way.supply kind) asked
+OrdersIn way PrintIds m asked = asked ≡ Ask call.Print
+OrdersIn way (ReportOf kind subject) m asked = AsksAbout (is_there subject m.tree) kind subject asked
+OrdersIn way (Rewrite names limit) m asked = AppliesRule (rewriting_named names (limit_or way.manner.limit limit)) asked
+OrdersIn way (Trace names limit) m asked = AppliesRule (tracing names (limit_or way.manner.limit limit)) asked
 
 -- the bytes of what the machine shows: a module stands with the ids of its operations
 abbrev pub order_shows : Shows → List ℕ
 order_shows Nothing = []
 order_shows (Rows rows) = rows_text rows
 order_shows (Tree t) = ids_text t
+
+-- of what the machine shows, that which is about an operation or a value
+abbrev pub shows_about : Subject → Shows → Shows
+shows_about subject Nothing = Nothing
+shows_about subject (Rows rows) = Rows (rows_about subject rows)
+shows_about subject (Tree t) = Tree t
 
 -- something that is told where all went well
 abbrev pub told_if : Bool → List ℕ → List ℕ
@@ -88,6 +102,7 @@ told_if false bytes = []
 abbrev pub order_bytes : Way → Order → Module → Response → Shows → List ℕ
 order_bytes way (Attach kind) m response shows = order_shows shows
 order_bytes way PrintIds m response shows = order_shows shows
+order_bytes way (ReportOf kind subject) m response shows = order_shows (shows_about subject shows)
 order_bytes way (Rewrite names limit) m response shows = order_shows shows
 order_bytes way (Trace names limit) m response shows =
     told_if (is_accepted response) (trace_by (traced_rules names) (limit_or way.manner.limit limit) m)
@@ -96,7 +111,7 @@ order_bytes way (Trace names limit) m response shows =
 pub record Fulfils (way : Way) (s : State) (order : Order) (response : Response) (bytes : List ℕ) (t : State) : Type 0 where
   pub asked : Asked
   pub shows : Shows
-  pub asks : OrdersIn way order asked
+  pub asks : OrdersIn way order s.held asked
   pub follows : Follows s asked response shows t
   pub text : bytes ≡ order_bytes way order s.held response shows
 

@@ -15,7 +15,7 @@ use Rattle.mlir_work_script.specs.Commands.{Spoken, Nothing, Bad, Obey, Ordered,
 use Rattle.mlir_work_script.specs.Expecting.{line_expects}
 use Rattle.mlir_work_script.specs.Limits.{most_script_bytes}
 use Rattle.mlir_work_script.specs.Lines.{lines_of}
-use Rattle.mlir_work_script.specs.Orders.{Order, PrintIds}
+use Rattle.mlir_work_script.specs.Orders.{Order, PrintIds, ReportOf}
 use Rattle.mlir_work_script.specs.Replies.{refused_line, attach_refused_line, kind_line, stale_line, kind_memory_line, module_memory_line}
 use Rattle.mlir_work_book.specs.Notices.{IsWithin, Notice, Plain}
 use Rattle.mlir_work_book.specs.Shelves.{Shelves}
@@ -78,6 +78,7 @@ shows_alone _ = false
 -- and whether an order does; one about patterns leaves the module, and gets none either
 abbrev pub order_asks : Order → Bool
 order_asks PrintIds = true
+order_asks (ReportOf kind subject) = true
 order_asks _ = false
 
 abbrev pub asks : Spoken → Bool

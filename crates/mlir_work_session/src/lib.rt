@@ -19,6 +19,7 @@ mod replying;
 pub mod script;
 pub mod session;
 pub mod shows;
+mod subjects;
 mod texts;
 mod tracing;
 mod transforming;
@@ -28,7 +29,7 @@ pub use ir_text::reader;
 pub use mlir_work_book::{book, notice, reply};
 pub use mlir_work_script::{
     book_order, cells, clauses, command, expect, input, items, keys, kind, lines, numbers, order,
-    outcome, replies, rule_name, sink, source, spots, values, watched, words, writing,
+    outcome, replies, rule_name, sink, source, spots, subject, values, watched, words, writing,
 };
 pub use mlir_work_session_base::supplied;
 pub use mlir_work_transforms::greedy;

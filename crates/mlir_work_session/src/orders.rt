@@ -11,6 +11,7 @@ ghost use Rattle.mlir_work_session_base.specs.IdsText.{ids_text};
 use crate::manner::Manner;
 use crate::reply::Reply;
 use crate::shows::{Answered, plain};
+use crate::subjects::show_about;
 use crate::{tracing, transforming};
 use ir_event::analysis::Analysis;
 use ir_event::types::refusal::Refusal;
@@ -87,6 +88,7 @@ pub fn fulfil<L: Supplied>(
     match order {
         Order::Attach(kind) => plain(alloc, attach(alloc, bench, *kind)),
         Order::PrintIds => show_ids(alloc, bench),
+        Order::ReportOf { kind, subject } => show_about(alloc, bench, *kind, subject),
         Order::Rewrite { rules, limit } => {
             plain(
                 alloc,

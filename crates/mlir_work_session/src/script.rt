@@ -51,6 +51,7 @@ fn order_asks(order: &Order<'_>) -> bool
 {
     match order {
         Order::PrintIds => true,
+        Order::ReportOf { .. } => true,
         _ => false,
     }
 }

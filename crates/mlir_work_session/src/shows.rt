@@ -62,7 +62,7 @@ pub(crate) fn show_module<L: Analysis>(alloc: Global, bench: &Bench<L>) -> Answe
 }
 
 /// The rows of a listener that agrees with a world or is stale.
-fn rows_of<L: Analysis>(listener: &L, world: &World) -> Result<Vec<Row>, ReportFault>
+pub(crate) fn rows_of<L: Analysis>(listener: &L, world: &World) -> Result<Vec<Row>, ReportFault>
     requires { (L.meaning listener.now).agrees (things_in world.now) (module_in world.now) ⊎ ((L.meaning listener.now).stale ≡ true) }
     ensures rows { IfOk result (λ rows. rows_meaning (things_in world.now) rows.items ≡ (L.meaning listener.now).analysis (module_in world.now).tree) }
     ensures fresh { IfOk result (λ rows. (L.meaning listener.now).stale ≡ false) }

@@ -1,2 +1,3 @@
 pub mod RowText
 pub mod IdsText
+pub mod Subjects

@@ -4,4 +4,5 @@
 
 pub mod ids;
 pub mod rows;
+pub mod subjects;
 pub mod supplied;

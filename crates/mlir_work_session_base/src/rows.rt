@@ -152,7 +152,7 @@ fn put_cells(ctx: &Context, out: &mut Vec<u8>, cells: &[Cell]) -> Result<(), All
 }
 
 /// Appends a row.
-fn put_row(ctx: &Context, out: &mut Vec<u8>, row: &Row) -> Result<(), AllocError>
+pub(crate) fn put_row(ctx: &Context, out: &mut Vec<u8>, row: &Row) -> Result<(), AllocError>
     requires { RowIsOf ctx.now row.now }
     ensures { OnOk result (out.new.items ≡ out.old.items ++ row_text (row_meaning ctx.now row.now)) }
 {

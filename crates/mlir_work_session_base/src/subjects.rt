@@ -1,0 +1,149 @@
+//! The rows of a report that are about one operation or one value.
+ghost use Rattle.std.specs.Prelude.{◌≡◌, ◌<◌, ◌++◌, [], ◌∷◌, if◌then◌else◌, map, OnOk, IfOk};
+ghost use Rattle.std.specs.List.{All};
+ghost use Rattle.ir_event.specs.types.Things.{Things};
+ghost use Rattle.ir_event.specs.trees.Frames.{owner_of};
+ghost use Rattle.ir_event.specs.trees.Uses.{same_value};
+ghost use Rattle.ir_event.specs.Rows.{RowIsOf, cell_meaning, row_meaning, rows_meaning};
+ghost use Rattle.mlir_work_session_base.specs.RowText.{row_text, rows_text};
+ghost use Rattle.mlir_work_session_base.specs.Subjects.{defines, is_about, is_of_op, is_of_value, names, place_about};
+ghost use Rattle.mlir_work_session_base.specs.Subjects.{rows_about};
+
+use crate::rows::put_row;
+use ir_event::row::{Cell, Row};
+use ir_event::tag::Tag;
+use ir_event::trees::value::Value;
+use ir_event::types::context::Context;
+use ir_event::types::ids::OpId;
+use mlir_work_script::subject::Subject;
+use std::alloc::{AllocError, Global};
+
+/// Whether a row with this word defines a symbol.
+fn defines(tag: u8) -> bool
+    ensures { result ≡ defines tag }
+{
+    tag == Tag::Def.number() || tag == Tag::Duplicate.number()
+}
+
+/// The place of the cell that a row of these is about.
+fn place_about(cells: &[Cell]) -> usize
+    ensures { (c : Things) → result ≡ place_about (map (cell_meaning c) cells.now) }
+{
+    match cells {
+        [Cell::Tag(tag), ..] => {
+            if defines(*tag) {
+                3
+            } else {
+                1
+            }
+        }
+        _ => 0,
+    }
+}
+
+/// The operation that a value belongs to.
+fn owner(value: Value) -> OpId
+    ensures { result ≡ (owner_of value).0 }
+{
+    match value {
+        Value::Result(op, _) => op,
+        Value::Arg(op, _, _) => op,
+    }
+}
+
+/// Whether two values are one.
+fn same(one: Value, other: Value) -> bool
+    ensures { result ≡ same_value one other }
+{
+    one == other
+}
+
+/// Whether a cell is an operation, or a value that belongs to it.
+fn is_of_op(op: OpId, cell: &Cell) -> bool
+    ensures { (c : Things) → result ≡ is_of_op op (cell_meaning c cell.now) }
+{
+    match cell {
+        Cell::Op(it) => *it == op,
+        Cell::Val(value) => owner(*value) == op,
+        _ => false,
+    }
+}
+
+/// Whether a cell is a value.
+fn is_of_value(value: Value, cell: &Cell) -> bool
+    ensures { (c : Things) → result ≡ is_of_value value (cell_meaning c cell.now) }
+{
+    match cell {
+        Cell::Val(it) => same(*it, value),
+        _ => false,
+    }
+}
+
+/// Whether a cell names an operation or a value.
+fn names(subject: &Subject, cell: &Cell) -> bool
+    ensures { (c : Things) → result ≡ names subject.now (cell_meaning c cell.now) }
+{
+    match subject {
+        Subject::Op(op) => is_of_op(*op, cell),
+        Subject::Val(value) => is_of_value(*value, cell),
+    }
+}
+
+/// Whether a row is about an operation or a value.
+fn is_about(subject: &Subject, row: &Row) -> bool
+    ensures { (c : Things) → result ≡ is_about subject.now (row_meaning c row.now) }
+{
+    match row.cells.get(place_about(&row.cells)) {
+        None => false,
+        Some(cell) => names(subject, cell),
+    }
+}
+
+/// Appends a row, if it is about an operation or a value.
+fn put_row_about(
+    ctx: &Context,
+    out: &mut Vec<u8>,
+    subject: &Subject,
+    row: &Row,
+) -> Result<(), AllocError>
+    requires { RowIsOf ctx.now row.now }
+    ensures { OnOk result (out.new.items ≡ out.old.items ++ rows_text (rows_about subject.now (row_meaning ctx.now row.now ∷ []))) }
+{
+    if is_about(subject, row) {
+        return put_row(ctx, out, row);
+    }
+    Ok(())
+}
+
+/// Appends the rows that are about an operation or a value.
+fn put_rows_about(
+    ctx: &Context,
+    out: &mut Vec<u8>,
+    subject: &Subject,
+    rows: &[Row],
+) -> Result<(), AllocError>
+    requires { All (RowIsOf ctx.now) rows.now }
+    ensures { OnOk result (out.new.items ≡ out.old.items ++ rows_text (rows_about subject.now (rows_meaning ctx.now rows.now))) }
+{
+    'rows: for row in rows {
+        put_row_about(ctx, out, subject, row)?;
+    }
+    Ok(())
+}
+
+/// The text of the rows that are about an operation or a value.
+pub fn text_of_rows_about(
+    alloc: Global,
+    ctx: &Context,
+    subject: &Subject,
+    rows: &[Row],
+) -> Result<Vec<u8>, AllocError>
+    requires { All (RowIsOf ctx.now) rows.now }
+    ensures { IfOk result (λ text. text.items ≡ rows_text (rows_about subject.now (rows_meaning ctx.now rows.now))) }
+{
+    let mut out = Vec::new(alloc);
+    match put_rows_about(ctx, &mut out, subject, rows) {
+        Ok(()) => Ok(out),
+        Err(e) => Err(e),
+    }
+}
