@@ -2,7 +2,7 @@
 by_chance.py makes its scripts of them."""
 import pattern_lines
 from reference import rewrites, script
-from reference.module import walk
+from reference.module import value_text, walk
 
 MOST_COMMANDS, MOST_OPS = 24, 18
 # Lines that are no commands, or say what isn't there; and blanks, comments and lines that stay what they are.
@@ -14,8 +14,8 @@ ODD = [
     "begin x", "commit 1", "rollback #1", 'insert before #1 %0 = "test.a"() : () -> ()', "// a comment", "",
     " \terase\t#2  \r", 'insert end #0 0 "test.a"(%v99.0) : (i32) -> ()',
     'insert end #0 0 "test.a"() : () -> () "test.b"() : () -> ()', 'insert end #0 0 "test.a"()', "report uses",
-    "report kind9", "report use", "print", "print ids", "print id", "resync kind7", "detach kind7", "attach kind9",
-    "attach kind7", "attach uses dead", "canon trace only 1", "canon limit 1 trace", "rewrite trace", "expect 22",
+    "report kind9", "report use", "report uses of", "report kind9 of #1", "report dead of %v1", "print",
+    "print ids", "print id", "resync kind7", "detach kind7", "attach kind9", "attach kind7", "attach uses dead", "canon trace only 1", "canon limit 1 trace", "rewrite trace", "expect 22",
     "expect 99 print", "expect expect", "expect 60 expect 60 print",
     'insert start #0 0 %a:2 = "test.a"() ({ ^bb0(%b: i8): "test.b"(%b) : (i8) -> () }, {}) {k} : () -> (i1, i2)']
 
@@ -100,6 +100,11 @@ def conversions(maker, module):
     return maker.choice([[], [], ["begin"]]) + [line] + behind
 
 
+def subject(maker, scripter):
+    """What a report may be asked about."""
+    return f"#{scripter.any_op()}" if maker.random() < 0.5 else value_text(scripter.value())
+
+
 def line_of(maker, scripter):
     """A line of a script, one of ten with a refusal that it expects, which is the right one now and then."""
     line = plain_line(maker, scripter)
@@ -124,5 +129,6 @@ def plain_line(maker, scripter):
         return maker.choice(ODD)
     if part < 0.98:
         word = maker.choice(["resync", "resync", "resync", "report", "attach"])
-        return f"{word} {maker.choice(script.BOXES)}"
+        about = f" of {subject(maker, scripter)}" if word == "report" and maker.random() < 0.7 else ""
+        return f"{word} {maker.choice(script.BOXES)}{about}"
     return f"{maker.choice(['detach', 'detach', 'attach'])} {maker.choice(script.BOXES)}"

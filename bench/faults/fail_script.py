@@ -69,7 +69,8 @@ OPENED = [
     "convert partial illegal arith.remsi rules 27", "rollback",
     "convert partial illegal func.return rules 25", f"insert end #0 0 {PRIVATE}", "sweep", "erase #9", "jump",
     "set-attr #3 k 1 : i129", "insert before #3 %0 =",
-    'set-attr #1 function_type (i32) -> i64', "report diagnostics", "canon trace", "resync constants", "resync symbols",
+    'set-attr #1 function_type (i32) -> i64', "report diagnostics", "report uses of %v2.0",
+    "report symbols of #1", "report dead of #99", "canon trace", "resync constants", "resync symbols",
     NEGATED, HALF, "check half", "check negated width 2", "patterns", NEGATED, "pattern p arith.addi(%a) => %a",
     'insert before #4 %0 = "arith.addi"(%a1.0.0, %v8.0) : (i32, i32) -> i32', "apply negated #4", "apply negated #9",
     "print", *ASKED, "detach dead", "report dead", "begin", "erase #1", "commit"]
