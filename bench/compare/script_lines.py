@@ -15,7 +15,8 @@ ODD = [
     " \terase\t#2  \r", 'insert end #0 0 "test.a"(%v99.0) : (i32) -> ()',
     'insert end #0 0 "test.a"() : () -> () "test.b"() : () -> ()', 'insert end #0 0 "test.a"()', "report uses",
     "report kind9", "report use", "report uses of", "report kind9 of #1", "report dead of %v1", "print",
-    "print ids", "print id", "resync kind7", "detach kind7", "attach kind9", "attach kind7", "attach uses dead", "canon trace only 1", "canon limit 1 trace", "rewrite trace", "expect 22",
+    "print ids", "print id", "resync kind7", "detach kind7", "attach kind9", "attach kind7", "attach uses dead",
+    "canon trace only 1", "canon limit 1 trace", "rewrite trace", "expect 22",
     "expect 99 print", "expect expect", "expect 60 expect 60 print",
     'insert start #0 0 %a:2 = "test.a"() ({ ^bb0(%b: i8): "test.b"(%b) : (i8) -> () }, {}) {k} : () -> (i1, i2)']
 
