@@ -74,13 +74,14 @@ pub(crate) fn show_about<L: Analysis>(
     requires { IsKept L.meaning bench.now }
     ensures { (way : Way) → Fulfils way (state_of L.meaning bench.now) (ReportOf kind subject.now) (response_of result.reply) result.shows.items (state_of L.meaning bench.now) }
 {
-    if !is_there(bench.world(), subject) {
+    let world = bench.world();
+    if !is_there(world, subject) {
         return plain(alloc, Reply::Refused(absent(subject)));
     }
     let Some(listener) = bench.listener(kind) else {
         return plain(alloc, Reply::Refused(Refusal::NoSuchKind));
     };
-    let shows = match text_about(alloc, listener, bench.world(), subject) {
+    let shows = match text_about(alloc, listener, world, subject) {
         Ok(shows) => shows,
         Err(ReportFault::Stale) => return plain(alloc, Reply::Refused(Refusal::Stale)),
         Err(ReportFault::Memory) => return plain(alloc, Reply::Refused(Refusal::Memory)),
