@@ -41,4 +41,7 @@ pub mod Whole
 pub mod Numbered
 pub mod Writable
 pub mod Ascii
+pub mod AsciiRows
+pub mod AsciiTerms
+pub mod Encoded
 pub mod Modules

@@ -189,13 +189,17 @@ type_lacks o m other (suc depth) y a new (inr h) = word_lacks o (IsMemref o (suc
 
 -- ---- what may follow
 
-comma_ends : (o : Bool) (rest : List ℕ) → EndsType o (44 ∷ rest)
+pub comma_ends : (o : Bool) (rest : List ℕ) → EndsType o (44 ∷ rest)
 comma_ends false rest = refl
 comma_ends true rest = (refl, refl)
 
-round_ends : (o : Bool) (rest : List ℕ) → EndsType o (41 ∷ rest)
+pub round_ends : (o : Bool) (rest : List ℕ) → EndsType o (41 ∷ rest)
 round_ends false rest = refl
 round_ends true rest = (refl, refl)
+
+pub line_ends : (o : Bool) (rest : List ℕ) → EndsType o (10 ∷ rest)
+line_ends false rest = refl
+line_ends true rest = (refl, refl)
 
 -- ---- lists of types, where a type of this depth is read again
 

@@ -1,6 +1,6 @@
 //! Laws of what is printed. A text is what is printed and whatever stands behind it, where that does
 //! not go on the last word.
-ghost use Rattle.std.specs.Prelude.{◌≡◌, ◌≤◌, ◌++◌, ℕ, Bool, List, [], Some, codes, length, true, false};
+ghost use Rattle.std.specs.Prelude.{◌≡◌, ◌≤◌, ◌++◌, ℕ, Bool, List, [], Some, codes, length, true};
 ghost use Rattle.std.specs.List.{AllByRecursion};
 ghost use Rattle.ir_types.specs.Limits.{most_depth, most_entries};
 ghost use Rattle.ir_types.specs.Terms.{AttrTerm, Function, TypeTerm};
@@ -49,8 +49,8 @@ pub fn attributes_end_before_marks()
 /// The dictionaries of an operation that are printed are spelled by their texts, where they have no more entries
 /// than they may: the properties, where no `<` stands behind them, and the attributes, where no `{` does.
 pub fn dictionaries_are_read_back()
-    ensures properties { (es : List EntryTerm) (rest : List ℕ) → length es ≤ most_entries → IsWritableDictionary es → Not IsMark Less rest → IsProperties false es (properties_text es ++ rest) rest }
-    ensures attributes { (op : List ℕ) (properties es : List EntryTerm) (rest : List ℕ) → length es ≤ most_entries → IsWritableDictionary es → AreOthers op properties es → Not IsMark OpenCurly rest → IsAttributes false op properties es (attributes_text es ++ rest) rest }
+    ensures properties { (opaque : Bool) (es : List EntryTerm) (rest : List ℕ) → length es ≤ most_entries → IsWritableDictionary opaque es → Not IsMark Less rest → IsProperties opaque es (properties_text es ++ rest) rest }
+    ensures attributes { (opaque : Bool) (op : List ℕ) (properties es : List EntryTerm) (rest : List ℕ) → length es ≤ most_entries → IsWritableDictionary opaque es → AreOthers op properties es → Not IsMark OpenCurly rest → IsAttributes opaque op properties es (attributes_text es ++ rest) rest }
 {}
 
 /// Where the attributes of an operation are no properties, sorted dictionaries are read as they are.
