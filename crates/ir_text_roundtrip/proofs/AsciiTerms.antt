@@ -13,6 +13,7 @@ use Rattle.ir_types.specs.declared.node.Sign.TheVariants.{Signless, Signed, Unsi
 use Rattle.ir_types.specs.Depths.{is_scalar}
 use Rattle.ir_types.specs.Ranges.{is_value_number}
 use Rattle.ir_types.specs.Readings.{reading_of, is_bits_of}
+use Rattle.ir_types.specs.SameTypes.{type_list}
 use Rattle.ir_types.specs.Reasons.{is_dimension}
 use Rattle.ir_types.specs.Terms.{TypeTerm, Integer, Index, Function, Memref, OpaqueType, TypeTerms, no_types, next_type, AttrTerm, IntegerOf, String, TypeOf, Flag, Array, Dictionary, Symbol, DenseArray, Overflow, OpaqueOf, AttrTerms, no_attrs, next_attr, EntryTerms, no_entries, next_entry}
 use Rattle.ir_text_tokens.specs.Printing.{key_text}
@@ -20,7 +21,7 @@ use Rattle.ir_text.specs.AttrText.{is_truth, truth_text, number_text, integer_te
 use Rattle.ir_text_types.specs.TypeReading.{many}
 use Rattle.ir_text.specs.Rows.{parted}
 use Rattle.ir_text.specs.TypeText.{sign_text, dimension_text, is_lone, type_text, type_texts}
-use Rattle.ir_text_roundtrip.specs.Written.{types_list, is_written_type, are_written_types}
+use Rattle.ir_text_roundtrip.specs.Written.{is_written_type, are_written_types}
 use Rattle.ir_text_roundtrip.specs.WrittenAttributes.{are_bytes, is_element, is_written, are_written, are_written_entries}
 use Rattle.ir_text_roundtrip.proofs.Ascii.{word, either, number, signed, quoted, key}
 use Rattle.ir_text_roundtrip.proofs.AsciiRows.{row, curly, arrow, entry}
@@ -48,7 +49,7 @@ mutual
   type (Integer s width) e = IsAscii-append (sign_text s) (decimal width) (sign s) (number width)
   type Index e = word (codes "index") refl
   type (Function xs ys) e =
-      let p = and_parts (are_written_types false xs) (are_written_types false ys) (and_parts (nat_le (length (types_list xs)) many && nat_le (length (types_list ys)) many) (are_written_types false xs && are_written_types false ys) e).1 in
+      let p = and_parts (are_written_types false xs) (are_written_types false ys) (and_parts (nat_le (length (type_list xs)) many && nat_le (length (type_list ys)) many) (are_written_types false xs && are_written_types false ys) e).1 in
       arrow IsAscii same IsAscii-append (type_texts xs) (is_lone ys) (type_texts ys) (types xs p.0) (types ys p.1)
   type (Memref dims elem) e =
       let p = and_parts (is_scalar elem) (is_written_type false elem) (and_parts (nat_le (length dims) many && list_all is_dimension dims) (is_scalar elem && is_written_type false elem) e).1 in

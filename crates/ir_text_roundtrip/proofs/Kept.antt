@@ -9,7 +9,7 @@ use Rattle.ir_types.proofs.Growth.{name_is}
 use Rattle.ir_text_tokens.specs.declared.fault.Fault.{Fault}
 use Rattle.ir_text_tokens.specs.Bytes.{is_suffix, is_word}
 use Rattle.ir_text_tokens.specs.Printing.{Stops, is_bare_id, is_suffix_id}
-use Rattle.ir_text_tokens.specs.Tokens.{Lexeme, bare, bang, name_at, next, skip}
+use Rattle.ir_text_tokens.specs.Tokens.{Lexeme, bare, bang, next, skip}
 use Rattle.ir_text_tokens.proofs.Printed.{bare_token, name_again}
 use Rattle.ir_text_tokens.proofs.Wholes.{next_whole}
 use Rattle.ir_text_bodies.specs.Bodies.{begins, body_at, has_dot, is_none, is_plain_body, is_plain_memref, parted, scan}
@@ -160,13 +160,11 @@ form_of text e = by (next text) refl e
 
 -- ---- read again
 
-name_begins : (bs : List ℕ) → next (33 ∷ bs) ≡ name_at bang bs
-unfolding next skip
-name_begins [] = refl
-name_begins (c ∷ cs) = refl
-
 pub bang_token : (n rest : List ℕ) → is_suffix_id n ≡ true → Stops is_suffix rest → next (33 ∷ (n ++ rest)) ≡ Some (bang n, rest)
-bang_token n rest e s = name_begins (n ++ rest) ∙ name_again bang n rest e s
+unfolding next skip
+bang_token [] [] e s = name_again bang [] [] e s
+bang_token [] (c ∷ cs) e s = name_again bang [] (c ∷ cs) e s
+bang_token (d ∷ ds) rest e s = name_again bang (d ∷ ds) rest e s
 
 pub no_word : (rest : List ℕ) → Stops is_suffix rest → Stops is_word rest
 no_word [] s = tt
