@@ -45,3 +45,4 @@ pub mod AsciiRows
 pub mod AsciiTerms
 pub mod Encoded
 pub mod Modules
+pub mod OneTree

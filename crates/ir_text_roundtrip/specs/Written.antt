@@ -1,5 +1,5 @@
 -- Types that a text can spell.
-use Rattle.std.specs.Prelude.{◌≡◌, ◌≤◌, ℕ, nat_le, Bool, true, false, not, ◌&&◌, if◌then◌else◌, List, [], ◌∷◌, length}
+use Rattle.std.specs.Prelude.{◌≡◌, ◌≤◌, ℕ, nat_le, Bool, true, not, ◌&&◌, if◌then◌else◌, length}
 use Rattle.std.specs.List.{list_all}
 use Rattle.ir_types.specs.Terms.{TypeTerm, Integer, Index, Function, Memref, OpaqueType, TypeTerms, no_types, next_type}
 use Rattle.ir_types.specs.Depths.{is_scalar, type_depth}

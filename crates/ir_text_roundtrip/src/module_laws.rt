@@ -48,3 +48,8 @@ pub fn modules_are_read_back()
 pub fn numbered_modules_are_read_back()
     ensures { (opaque : Bool) (t : Operation) → IsFormed is_isolated t → IsNumberedFrom 0 t → is_root t ≡ true → IsWritable opaque t → length (text_of t) ≤ most_bytes → Spells opaque (text_of t) t }
 {}
+
+/// A text spells one tree at most, with types and attributes that are kept as they are spelled or without.
+pub fn texts_spell_one_tree()
+    ensures { (opaque : Bool) (bytes : List ℕ) (y z : Operation) → Spells opaque bytes y → Spells opaque bytes z → y ≡ z }
+{}
