@@ -9,6 +9,7 @@ pub mod Kept
 pub mod Known
 pub mod Passed
 pub mod Types
+pub mod ReadTypes
 pub mod TypeWords
 pub mod Values
 pub mod Ends

@@ -291,11 +291,11 @@ type_again o (suc depth) small (Function ins outs) rest le e s = inl (function_a
 
 -- ---- the function types of operations
 
-list_of : (ts : List TypeTerm) → type_list (types_of ts) ≡ ts
+pub list_of : (ts : List TypeTerm) → type_list (types_of ts) ≡ ts
 list_of [] = refl
 list_of (t ∷ ts) = ap (λ (l : List TypeTerm). t ∷ l) (list_of ts)
 
-parts_fit : (o : Bool) (depth : ℕ) (ts : List TypeTerm) → AllByRecursion (FitsType o depth) ts → (types_depth (types_of ts) ≤ depth) × (are_written_types o (types_of ts) ≡ true)
+pub parts_fit : (o : Bool) (depth : ℕ) (ts : List TypeTerm) → AllByRecursion (FitsType o depth) ts → (types_depth (types_of ts) ≤ depth) × (are_written_types o (types_of ts) ≡ true)
 parts_fit o depth [] fit = (omega arith, refl)
 parts_fit o depth (t ∷ ts) fit = let p = parts_fit o depth ts fit.1 in let q : is_written_type o t ≡ true = fit.0.1 in (omega (arith, p.0, fit.0.0), rw q p.1)
 

@@ -26,6 +26,11 @@ pub fn types_are_read_back()
     ensures { (opaque : Bool) (depth : ℕ) (t : TypeTerm) (rest : List ℕ) → depth ≤ most_depth → FitsType opaque depth t → EndsType opaque rest → IsType opaque depth t (type_text t ++ rest) rest }
 {}
 
+/// A type that is read is one that a text can spell where so many levels are left: what is printed for it is read again.
+pub fn types_that_are_read_are_written()
+    ensures { (opaque : Bool) (depth : ℕ) (t : TypeTerm) (old new : List ℕ) → IsType opaque depth t old new → FitsType opaque depth t }
+{}
+
 /// The function type of an operation that is printed is spelled by its text, where an operation may
 /// have so many results.
 pub fn function_types_are_read_back()
