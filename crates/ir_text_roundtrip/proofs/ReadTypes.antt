@@ -21,7 +21,7 @@ use Rattle.ir_text_bodies.specs.Bodies.{is_none}
 use Rattle.ir_text_types.specs.Grammars.{Grammar, IsMore, IsList, IsMark, Token}
 use Rattle.ir_text_types.specs.OpaqueTypes.{is_opaque_word, word_text, dialect_text}
 use Rattle.ir_text_types.specs.Scalars.{memref_word, scalar_of}
-use Rattle.ir_text_types.specs.TypeGrammar.{types_of, IsWordFrom, IsBehind, IsWordType, IsElement, IsMemref, IsTypes, IsOutputs, IsSignature, IsFunction, IsType}
+use Rattle.ir_text_types.specs.TypeGrammar.{types_of, IsWordFrom, IsBehind, IsWordType, IsElement, IsMemref, IsTypes, IsOutputs, IsSignature, IsFunction, IsType, IsFunctionType}
 use Rattle.ir_text_types.specs.TypeReading.{many}
 use Rattle.ir_text_types.proofs.TypeLaws.{scalar_word}
 use Rattle.ir_text.specs.TypeText.{is_function}
@@ -204,21 +204,31 @@ module _ (o : Bool) (depth : ℕ) (part : (t : TypeTerm) (old new : List ℕ) �
       let one = h.1 in
       (subst (AllByRecursion (FitsType o depth)) (sym one.3.0) (part one.0 old one.1 one.2, tt), omega (arith, some, ap (λ (l : List TypeTerm). length l) one.3.0))
 
+  -- the inputs and outputs, and that they are no more than may come
+  signature_so : (room : ℕ) (x : List TypeTerm × List TypeTerm) (old new : List ℕ) → 1 ≤ room → IsSignature (IsType o depth) room x old new
+      → (AllByRecursion (FitsType o depth) x.0 × (length x.0 ≤ many)) × (AllByRecursion (FitsType o depth) x.1 × (length x.1 ≤ room))
+  unfolding IsSignature
+  signature_so room x old new some h =
+      let behind = h.3.2 in
+      let ins = types_so many h.0 old h.1 h.2 in
+      let outs = outputs_so room behind.0 h.3.0 behind.1 some behind.2 in
+      subst (λ (y : List TypeTerm × List TypeTerm). (AllByRecursion (FitsType o depth) y.0 × (length y.0 ≤ many)) × (AllByRecursion (FitsType o depth) y.1 × (length y.1 ≤ room))) (sym behind.3.0) (ins, outs)
+
   function_so : (t : TypeTerm) (old new : List ℕ) → IsFunction (IsType o depth) t old new → FitsType o (suc depth) t
-  unfolding IsFunction IsSignature
+  unfolding IsFunction
   function_so t old new h =
-      let ins = h.2.0 in
-      let behind = h.2.3.2 in
-      let outs = behind.0 in
-      let i = types_so many ins old h.2.1 h.2.2 in
-      let u = outputs_so many outs h.2.3.0 behind.1 (omega arith) behind.2 in
-      let p = parts_fit o depth ins i.0 in
-      let q = parts_fit o depth outs u.0 in
+      let ins = h.0.0 in
+      let outs = h.0.1 in
+      let s = signature_so many h.0 old h.1 (omega arith) h.2 in
+      let p = parts_fit o depth ins s.0.0 in
+      let q = parts_fit o depth outs s.1.0 in
+      let few_ins : length ins ≤ many = s.0.1 in
+      let few_outs : length outs ≤ many = s.1.1 in
       let ci : nat_le (length ins) many ≡ true = grind (arith, nat_tests) in
       let co : nat_le (length outs) many ≡ true = grind (arith, nat_tests) in
       let written : is_written_type o (Function (types_of ins) (types_of outs)) ≡ true = rw (list_of ins, list_of outs, ci, co, p.1, q.1) refl in
       let fits : FitsType o (suc depth) (Function (types_of ins) (types_of outs)) = (omega (arith, p.0, q.0), written) in
-      subst (FitsType o (suc depth)) (sym h.3.1) (subst (λ (x : List TypeTerm × List TypeTerm). FitsType o (suc depth) (Function (types_of x.0) (types_of x.1))) (sym behind.3.0) fits)
+      subst (FitsType o (suc depth)) (sym h.3.1) fits
 
 -- ---- all types
 
@@ -235,3 +245,7 @@ read_fits o (suc depth) t old new (inr h) = let f = word_fits o (suc depth) t ol
     deep (OpaqueType text) (inl s) = omega arith
     deep (Function ins outs) (inl s) = absurd cc
     deep (Memref dims elem) (inl s) = absurd cc
+
+pub read_function_fits : (o : Bool) (x : List TypeTerm × List TypeTerm) (old new : List ℕ) → IsFunctionType o x old new → (AllByRecursion (FitsType o 32) x.0 × (length x.0 ≤ many)) × (AllByRecursion (FitsType o 32) x.1 × (length x.1 ≤ 256))
+unfolding IsFunctionType
+read_function_fits o x old new h = signature_so o 32 (read_fits o 32) 256 x h.0 new (omega arith) h.2

@@ -27,8 +27,10 @@ pub fn types_are_read_back()
 {}
 
 /// A type that is read is one that a text can spell where so many levels are left: what is printed for it is read again.
+/// So it is with the function type of an operation.
 pub fn types_that_are_read_are_written()
-    ensures { (opaque : Bool) (depth : ℕ) (t : TypeTerm) (old new : List ℕ) → IsType opaque depth t old new → FitsType opaque depth t }
+    ensures ty { (opaque : Bool) (depth : ℕ) (t : TypeTerm) (old new : List ℕ) → IsType opaque depth t old new → FitsType opaque depth t }
+    ensures function { (opaque : Bool) (x : List TypeTerm × List TypeTerm) (old new : List ℕ) → IsFunctionType opaque x old new → (AllByRecursion (FitsType opaque most_depth) x.0 × (length x.0 ≤ many)) × (AllByRecursion (FitsType opaque most_depth) x.1 × (length x.1 ≤ most_items)) }
 {}
 
 /// The function type of an operation that is printed is spelled by its text, where an operation may
