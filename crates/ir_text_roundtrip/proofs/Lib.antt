@@ -47,3 +47,4 @@ pub mod AsciiTerms
 pub mod Encoded
 pub mod Modules
 pub mod OneTree
+pub mod AsItComes

@@ -12,6 +12,8 @@ ghost use Rattle.ir_text_tokens.specs.Limits.{most_bytes};
 ghost use Rattle.ir_text_operations.specs.Free.{no_names};
 ghost use Rattle.ir_text_operations.specs.Spelling.{IsSingleOp, Spells, is_root};
 ghost use Rattle.ir_text.specs.Printing.{Printed, put_op, text_of};
+ghost use Rattle.ir_text_expanded.specs.Stays.{has_more};
+ghost use Rattle.ir_text_modules.specs.Modules.{SpellsModule};
 ghost use Rattle.ir_text_roundtrip.specs.Runs.{Runs};
 ghost use Rattle.ir_text_roundtrip.specs.Standing.{unwritten};
 ghost use Rattle.ir_text_roundtrip.specs.WrittenTrees.{IsWritable};
@@ -47,6 +49,13 @@ pub fn modules_are_read_back()
 /// A module whose ids are in pre-order from 0 on, as those of a module that was read are, is read again as it is.
 pub fn numbered_modules_are_read_back()
     ensures { (opaque : Bool) (t : Operation) → IsFormed is_isolated t → IsNumberedFrom 0 t → is_root t ≡ true → IsWritable opaque t → length (text_of t) ≤ most_bytes → Spells opaque (text_of t) t }
+{}
+
+/// Such a module is read again as it is by whatever reads modules as they come, too: where types and attributes are kept
+/// as they are spelled, aliases and locations are taken from a text first, and nothing is taken from one in which neither
+/// a definition nor the word `loc` begins a piece.
+pub fn modules_come_back()
+    ensures { (opaque : Bool) (t : Operation) → IsFormed is_isolated t → IsNumberedFrom 0 t → is_root t ≡ true → IsWritable opaque t → length (text_of t) ≤ most_bytes → (opaque ≡ true → has_more 0 (text_of t) ≡ false) → SpellsModule opaque (text_of t) t }
 {}
 
 /// A text spells one tree at most, with types and attributes that are kept as they are spelled or without.
