@@ -49,9 +49,16 @@ TEXTS = [
     b'#a = i8\n"t"() : () -> #a\n#b = loc(#a)', b'"t"()\n#l = loc("f")',
 ]
 
+# An arrow is no part of the name in front of it: what stands behind it stands in the body.
+ARROWS = [
+    b'%0 = "t"() : () -> !d<%a-> loc("f")>', b'%0:2 = "t"() : () -> (tensor<^a->loc("f")>, i8) loc("g")',
+    b'"t"() ({\n^b(%a: !d<%-> loc("f")> loc("g")):\n}) : () -> ()', b'%0 = "t"() : () -> tuple<%a- > loc("f")',
+    b'#a = 1\n"t"() {x = #d<%b->#a, ^c-->#a>, y = #d<#e.f->}',
+]
+
 
 def texts():
-    """Each text: those by hand, the shorter modules with aliases, and those with some pieces changed."""
+    """Each text: those by hand, the shorter modules with aliases, those with some pieces changed, and arrows."""
     yield from TEXTS
     yield from (text.encode() for text, _ in opaque_cases.texts() if "#" in text or "!" in text or "loc" in text)
     found = [it.text for it in opaque_cases.modules() if it.has_aliases and len(it.text) <= LONGEST]
@@ -60,6 +67,7 @@ def texts():
     sources = TEXTS + found
     for _ in range(400):
         yield changed(chance, chance.choice(sources))
+    yield from ARROWS
 
 
 def changed(chance, text):

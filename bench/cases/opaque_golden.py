@@ -129,7 +129,7 @@ ALIASED = (b'#a = \n"t"() : () -> ()\xff', b'// \xff\n#a = 1 : i8\n"t"() {x = #a
 def aliases_and_locations():
     """Texts with aliases and locations, by hand, with the flag and without; aliases that are long chains, and that
     grow."""
-    for text in (*ir_text_expanded_cases.TEXTS, *ALIASED):
+    for text in (*ir_text_expanded_cases.TEXTS, *ALIASED, *ir_text_expanded_cases.ARROWS):
         for words in (FLAGGED, PLAIN):
             whole(text + PRINT, words)
     chain = b"#a0 = 1 : i8\n" + b"".join(b"#a%d = #a%d\n" % (number, number - 1) for number in range(1, 500))

@@ -64,9 +64,10 @@ def differences(maker, program):
     if isinstance(found, bytes) and whole != found:
         yield text, "read otherwise without aliases", found, whole
     if isinstance(whole, bytes):
-        again, spelled = said(opaque.Reader, whole), with_aliases(maker, whole)
-        if again != whole:
-            yield text, "printed, and read otherwise", whole, again
+        spelled = with_aliases(maker, whole)
+        for reader in (opaque.Reader, aliases.Reader):
+            if said(reader, whole) != whole:
+                yield text, "printed, and read otherwise", whole, said(reader, whole)
         if said(aliases.Reader, spelled) != whole:
             yield spelled, "with aliases, and read otherwise", whole, said(aliases.Reader, spelled)
     if program is not None and found is not None:

@@ -12,7 +12,9 @@ from . import opaque, rules
 from .opaque import CLOSERS, MOST_OPEN, body_end, is_alias, name_end
 from .rules import COMMENT, MOST_BYTES, Refused
 
-PIECE = re.compile(rb"[%^@](?:[0-9]+|[A-Za-z$._-][A-Za-z0-9$._-]*)|[A-Za-z_][A-Za-z0-9_$.]*|[0-9]+|->|.", re.S)
+# No name of a value, a label or a symbol ends with the `-` of an arrow.
+NAME = rb"[%^@](?:[0-9]+|(?:[A-Za-z$._]|-(?!>))(?:[A-Za-z0-9$._]|-(?!>))*)"
+PIECE = re.compile(NAME + rb"|[A-Za-z_][A-Za-z0-9_$.]*|[0-9]+|->|.", re.S)
 # Behind one of these bytes a spelling can be no part of the token in front of it.
 APART = b" \t\r\n([{<,=:>"
 # A piece that begins with one of these, and directly behind it the word `x`, parts dimensions.

@@ -8,10 +8,10 @@ use Rattle.std.proofs.Math.Seq.{drop-length}
 use Rattle.ir_text_tokens.specs.Strings.{closing}
 use Rattle.ir_text_tokens.specs.Tokens.{Lexeme, string, next, skip, string_at, suffix_len}
 use Rattle.ir_text_tokens.specs.Bytes.{is_letter, is_word}
-use Rattle.ir_text_bodies.specs.Bodies.{are_slashes, begins, is_arrow}
+use Rattle.ir_text_bodies.specs.Bodies.{are_slashes, begins, is_arrow, is_sign}
 use Rattle.ir_text_bodies.specs.Bodies as bodies
 use Rattle.ir_text_bodies.proofs.Kept.{string_within, name_within, some_behind}
-use Rattle.ir_text_aliases.specs.Pieces.{is_name_sign, is_quoted, line_len, piece_len, quoted_len, string_len, word_len}
+use Rattle.ir_text_aliases.specs.Pieces.{ends_in_arrow, is_name_sign, is_quoted, line_len, named_len, own_len, piece_len, quoted_len, string_len, word_len}
 use Rattle.ir_text_tokens.proofs.Facts.{string_token}
 
 -- ---- strings
@@ -57,15 +57,29 @@ symbol_within c [] e = from (c == 64) e
     from false e = absurd cc
 symbol_within c (d ∷ ds) e = omega (arith, quoted_within ds)
 
+own_within : (cs : List ℕ) → own_len cs ≤ length cs
+own_within cs = from (ends_in_arrow cs (suffix_len cs)) (name_within cs)
+  where
+    from : (t : Bool) → suffix_len cs ≤ length cs → cond t (suffix_len cs - 1) (suffix_len cs) ≤ length cs
+    from true h = omega (arith, h)
+    from false h = h
+
+named_within : (c : ℕ) (cs : List ℕ) → named_len c cs ≤ length cs
+named_within c cs = from (is_sign c)
+  where
+    from : (t : Bool) → cond t (suffix_len cs) (own_len cs) ≤ length cs
+    from true = name_within cs
+    from false = own_within cs
+
 pub piece_within : (c : ℕ) (cs : List ℕ) → piece_len c cs ≤ length cs
 piece_within c cs = from (c == 34) (is_quoted c cs) refl (are_slashes c cs) (is_name_sign c) (is_letter c) (is_arrow c cs) refl
   where
     from : (t q : Bool) → is_quoted c cs ≡ q → (s u l v : Bool) → is_arrow c cs ≡ v
-        → cond t (quoted_len cs) (cond q (suc (quoted_len (drop 1 cs))) (cond s (line_len cs) (cond u (suffix_len cs) (cond l (word_len cs) (cond v 1 0))))) ≤ length cs
+        → cond t (quoted_len cs) (cond q (suc (quoted_len (drop 1 cs))) (cond s (line_len cs) (cond u (named_len c cs) (cond l (word_len cs) (cond v 1 0))))) ≤ length cs
     from true q k s u l v e = quoted_within cs
     from false true k s u l v e = symbol_within c cs k
     from false false k true u l v e = prefix_len-le-length (λ b. not (b == 10)) cs
-    from false false k false true l v e = name_within cs
+    from false false k false true l v e = named_within c cs
     from false false k false false true v e = prefix_len-le-length is_word cs
     from false false k false false false true e = some_behind c cs e
     from false false k false false false false e = omega arith

@@ -1,6 +1,6 @@
 -- A text piece by piece, as an alias or a location can stand in it. MLIR Language Reference, "Common
 -- syntax" and "Identifiers and keywords".
-use Rattle.std.specs.Prelude.{ℕ, suc, Bool, false, not, ◌&&◌, ◌||◌, ◌==◌, if◌then◌else◌, List, [], ◌∷◌, length, take, drop, Option, Some, None}
+use Rattle.std.specs.Prelude.{ℕ, suc, ◌-◌, Bool, false, not, ◌&&◌, ◌||◌, ◌==◌, if◌then◌else◌, List, [], ◌∷◌, length, take, drop, get_or, Option, Some, None}
 use Rattle.std.specs.List.{prefix_len}
 use Rattle.ir_text_tokens.specs.Bytes.{is_blank, is_letter, is_word}
 use Rattle.ir_text_tokens.specs.Strings.{closing}
@@ -31,6 +31,18 @@ string_len (Some n) bytes = suc n
 abbrev pub quoted_len : List ℕ → ℕ
 quoted_len bytes = string_len (closing bytes) bytes
 
+-- an arrow begins with the last byte of a name of so many bytes
+abbrev pub ends_in_arrow : List ℕ → ℕ → Bool
+ends_in_arrow bytes n = not (n == 0) && is_arrow (get_or bytes (n - 1) 0) (drop n bytes)
+
+-- the bytes of a name behind `%`, `^` or `@`: an arrow is no part of it, as it is none of what stands in a body
+abbrev pub own_len : List ℕ → ℕ
+own_len bytes = if ends_in_arrow bytes (suffix_len bytes) then suffix_len bytes - 1 else suffix_len bytes
+
+-- the bytes of a name behind its sign
+abbrev pub named_len : ℕ → List ℕ → ℕ
+named_len c cs = if is_sign c then suffix_len cs else own_len cs
+
 -- how many further bytes belong to what begins with the byte: those of a string, of a symbol in quotes, of
 -- a comment, of a name behind its sign, of a word, and of an arrow
 abbrev pub piece_len : ℕ → List ℕ → ℕ
@@ -38,7 +50,7 @@ piece_len c cs =
     if c == 34 then quoted_len cs
     else if is_quoted c cs then suc (quoted_len (drop 1 cs))
     else if are_slashes c cs then line_len cs
-    else if is_name_sign c then suffix_len cs
+    else if is_name_sign c then named_len c cs
     else if is_letter c then word_len cs
     else if is_arrow c cs then 1
     else 0

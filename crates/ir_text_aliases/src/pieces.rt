@@ -6,7 +6,7 @@ ghost use Rattle.ir_text_tokens.specs.Bytes.{is_letter, is_suffix, is_word};
 ghost use Rattle.ir_text_tokens.specs.Strings.{closing};
 ghost use Rattle.ir_text_tokens.specs.Tokens.{suffix_len};
 ghost use Rattle.ir_text_bodies.specs.Bodies.{are_slashes, is_arrow, is_closed};
-ghost use Rattle.ir_text_aliases.specs.Pieces.{from_quote, is_gap, is_loc, is_name_sign, is_open_string, line_len, piece_len, quoted_len, word_len};
+ghost use Rattle.ir_text_aliases.specs.Pieces.{from_quote, is_gap, is_loc, is_name_sign, is_open_string, line_len, named_len, own_len, piece_len, quoted_len, word_len};
 
 use ir_text_tokens::lexer::token;
 
@@ -80,6 +80,26 @@ pub fn name_len(bytes: &[u8]) -> usize
     }
 }
 
+/// How many bytes of a name are its own: a minus that `>` follows is an arrow's.
+fn own_len(bytes: &[u8]) -> usize
+    ensures len { result ≡ own_len bytes.now }
+    ensures within { result ≤ length bytes.now }
+{
+    let len = name_len(bytes);
+    if len != 0 && is_arrow(bytes[len - 1], &bytes[len..]) { len - 1 } else { len }
+}
+
+/// How many bytes a name has behind its sign.
+fn named_len(sign: u8, tail: &[u8]) -> usize
+    ensures len { result ≡ named_len sign tail.now }
+    ensures within { result ≤ length tail.now }
+{
+    match sign {
+        b'#' | b'!' => name_len(tail),
+        _ => own_len(tail),
+    }
+}
+
 pub(crate) fn is_name_sign(byte: u8) -> bool
     ensures { result ≡ is_name_sign byte }
 {
@@ -129,7 +149,7 @@ fn behind_symbol(tail: &[u8]) -> &[u8]
 {
     match tail {
         [b'"', text @ ..] => behind_string(tail, text),
-        _ => &tail[name_len(tail)..],
+        _ => &tail[own_len(tail)..],
     }
 }
 
@@ -143,7 +163,7 @@ fn behind_plain(byte: u8, tail: &[u8]) -> &[u8]
         return &tail[line_len(tail)..];
     }
     if is_name_sign(byte) {
-        return &tail[name_len(tail)..];
+        return &tail[named_len(byte, tail)..];
     }
     if is_letter(byte) {
         return &tail[word_len(tail)..];

@@ -1,5 +1,5 @@
 -- The label and the arguments of a block that is printed are read again.
-use Rattle.std.proofs.Common.{◌≡◌, ◌⊎◌, ℕ, zero, suc, ◌+◌, ◌^◌, ◌<◌, ◌≤◌, true, false, List, [], ◌∷◌, ◌++◌, length, None, refl, sym, ap, subst, ◌∙◌, append_assoc, arith, inl, inr}
+use Rattle.std.proofs.Common.{◌≡◌, ◌⊎◌, ℕ, zero, suc, ◌+◌, ◌^◌, ◌<◌, ◌≤◌, Bool, true, false, List, [], ◌∷◌, ◌++◌, length, None, refl, sym, ap, subst, ◌∙◌, append_assoc, arith, inl, inr}
 use Rattle.std.specs.Prelude.{codes, ◌==◌}
 use Rattle.std.specs.Fmt.{decimal}
 use Rattle.std.specs.List.{AllByRecursion}
@@ -25,7 +25,7 @@ use Rattle.ir_text.specs.TypeText.{type_text}
 use Rattle.ir_text_roundtrip.specs.Written.{FitsType}
 use Rattle.ir_text_roundtrip.proofs.Ahead.{space}
 use Rattle.ir_text_roundtrip.proofs.Small.{lacks_token}
-use Rattle.ir_text_roundtrip.proofs.Types.{type_again, type_ahead}
+use Rattle.ir_text_roundtrip.proofs.Types.{comma_ends, round_ends, type_again, type_ahead}
 use Rattle.ir_text_roundtrip.proofs.Texts.{Names, argument_names, arguments_names, arguments_then}
 use Rattle.ir_text_roundtrip.proofs.ModuleWords.{argument_word}
 use Rattle.ir_text_roundtrip.proofs.ModuleValues.{source_id}
@@ -64,31 +64,31 @@ with_argument id r k m t s = bound (argument_word m) (argument_pack id r k t) s
 abbrev behind_argument : ℕ → ℕ → ℕ → ℕ → TypeTerm → Seen → List ℕ → Seen
 behind_argument id r k m t s rest = record { bytes = rest; scopes = with_argument id r k m t s.scopes; next = s.next }
 
-argument_read : (id r : ℕ) (before : List TypeTerm) (m : ℕ) (t : TypeTerm) (s : Seen) (c : ℕ) (rest : List ℕ) → m < 2 ^ 128 → FitsType false 32 t → (c ≡ 44) ⊎ (c ≡ 41) → find (argument_word m) s.scopes.here ≡ None
-    → next_token s.bytes ≡ next_token (argument_text m t ++ c ∷ rest) → IsArg false id r before t s (behind_argument id r (length before) m t s (c ∷ rest))
-argument_read id r before m t s c rest lt fit ends fresh e =
+argument_read : (o : Bool) (id r : ℕ) (before : List TypeTerm) (m : ℕ) (t : TypeTerm) (s : Seen) (c : ℕ) (rest : List ℕ) → m < 2 ^ 128 → FitsType o 32 t → (c ≡ 44) ⊎ (c ≡ 41) → find (argument_word m) s.scopes.here ≡ None
+    → next_token s.bytes ≡ next_token (argument_text m t ++ c ∷ rest) → IsArg o id r before t s (behind_argument id r (length before) m t s (c ∷ rest))
+argument_read o id r before m t s c rest lt fit ends fresh e =
     let typed = type_text t ++ c ∷ rest in
     let back = 58 ∷ 32 ∷ typed in
     let apart : argument_text m t ++ c ∷ rest ≡ 37 ∷ (argument_word m ++ back) = ap (λ (l : List ℕ). 37 ∷ 97 ∷ 114 ∷ 103 ∷ l) (append_assoc (decimal m) (58 ∷ 32 ∷ type_text t) (c ∷ rest)) in
     let name : Token (value (argument_word m)) s.bytes back = e ∙ ap next_token apart ∙ value_token (argument_word m) back (argument_name m lt) refl in
-    let type : (IsType false) 32 t (32 ∷ typed) (c ∷ rest) = space ((IsType false) 32) (type_ahead false 32) t typed (c ∷ rest) (spelled c ends) in
+    let type : IsType o 32 t (32 ∷ typed) (c ∷ rest) = space (IsType o 32) (type_ahead o 32) t typed (c ∷ rest) (spelled c ends) in
     (argument_word m, seen_rest s back, (back, name, refl), (seen_rest s (32 ∷ typed), mark_seen Colon (seen_rest s back) (32 ∷ typed) (mark_token Colon (32 ∷ typed) refl), (t, seen_rest s (c ∷ rest), (c ∷ rest, type, refl), (with_argument id r (length before) m t s.scopes, (fresh, refl), refl, refl))))
   where
-    spelled : (c : ℕ) → (c ≡ 44) ⊎ (c ≡ 41) → (IsType false) 32 t (type_text t ++ c ∷ rest) (c ∷ rest)
-    spelled c (inl k) = subst (λ (d : ℕ). (IsType false) 32 t (type_text t ++ d ∷ rest) (d ∷ rest)) (sym k) (type_again false 32 (omega arith) t (44 ∷ rest) fit.0 fit.1 refl)
-    spelled c (inr k) = subst (λ (d : ℕ). (IsType false) 32 t (type_text t ++ d ∷ rest) (d ∷ rest)) (sym k) (type_again false 32 (omega arith) t (41 ∷ rest) fit.0 fit.1 refl)
+    spelled : (c : ℕ) → (c ≡ 44) ⊎ (c ≡ 41) → IsType o 32 t (type_text t ++ c ∷ rest) (c ∷ rest)
+    spelled c (inl k) = subst (λ (d : ℕ). IsType o 32 t (type_text t ++ d ∷ rest) (d ∷ rest)) (sym k) (type_again o 32 (omega arith) t (44 ∷ rest) fit.0 fit.1 (comma_ends o rest))
+    spelled c (inr k) = subst (λ (d : ℕ). IsType o 32 t (type_text t ++ d ∷ rest) (d ∷ rest)) (sym k) (type_again o 32 (omega arith) t (41 ∷ rest) fit.0 fit.1 (round_ends o rest))
 
 -- ---- arguments up to the closing parenthesis
 
-module _ (f : ℕ → ℕ) (scope : List Frame) (x r : ℕ) (away : (v : Value) → in_scope scope v ≡ true → (source_id (source_of v) == x) ≡ false) where
+module _ (o : Bool) (f : ℕ → ℕ) (scope : List Frame) (x r : ℕ) (away : (v : Value) → in_scope scope v ≡ true → (source_id (source_of v) == x) ≡ false) where
   -- what arguments from place k on leave behind
   pub record ArgumentsRead (room : ℕ) (front : List TypeTerm) (t : TypeTerm) (ts : List TypeTerm) (n : Names) (s : Seen) (rest : List ℕ) : Type 0 where
     pub scopes : Scopes PackTerm
-    pub reads : IsMore IsMarkSeen CloseRound (IsArg false (f x) r) room front (front ++ t ∷ ts) s (record { bytes = rest; scopes = scopes; next = s.next })
-    pub joined : Joined f (scope ++ arguments x r (length front + length (t ∷ ts)) ∷ []) (arguments_names x r (length front) (t ∷ ts) n) scopes.here
+    pub reads : IsMore IsMarkSeen CloseRound (IsArg o (f x) r) room front (front ++ t ∷ ts) s (record { bytes = rest; scopes = scopes; next = s.next })
+    pub joined : Joined o f (scope ++ arguments x r (length front + length (t ∷ ts)) ∷ []) (arguments_names x r (length front) (t ∷ ts) n) scopes.here
     pub outer : scopes.outer ≡ s.scopes.outer
 
-  pub arguments_more : (room : ℕ) (front : List TypeTerm) (t : TypeTerm) (ts : List TypeTerm) (n : Names) (s : Seen) (rest : List ℕ) → Joined f (scope ++ arguments x r (length front) ∷ []) n s.scopes.here → n.arguments + length (t ∷ ts) < 2 ^ 128 → AllByRecursion (FitsType false 32) (t ∷ ts) → length (t ∷ ts) ≤ room
+  pub arguments_more : (room : ℕ) (front : List TypeTerm) (t : TypeTerm) (ts : List TypeTerm) (n : Names) (s : Seen) (rest : List ℕ) → Joined o f (scope ++ arguments x r (length front) ∷ []) n s.scopes.here → n.arguments + length (t ∷ ts) < 2 ^ 128 → AllByRecursion (FitsType o 32) (t ∷ ts) → length (t ∷ ts) ≤ room
       → next_token s.bytes ≡ next_token (argument_text n.arguments t ++ arguments_then (length front + 1) ts (n.arguments + 1) (41 ∷ rest)) → ArgumentsRead room front t ts n s rest
   unfolding IsMore
   arguments_more zero front t ts n s rest j small fit le e = absurd (omega (arith, le))
@@ -97,8 +97,8 @@ module _ (f : ℕ → ℕ) (scope : List Frame) (x r : ℕ) (away : (v : Value) 
       let one : k + length (t ∷ []) ≡ k + 1 = omega arith in
       record {
         scopes = with_argument (f x) r k n.arguments t s.scopes;
-        reads = (t, behind_argument (f x) r k n.arguments t s (41 ∷ rest), argument_read (f x) r front n.arguments t s 41 rest (omega arith) fit.0 (inr refl) (j.fresh_arguments n.arguments (omega arith) (omega arith)) e, inl (mark_seen CloseRound (behind_argument (f x) r k n.arguments t s (41 ∷ rest)) rest (mark_token CloseRound rest tt), refl));
-        joined = subst (λ (i : ℕ). Joined f (scope ++ arguments x r i ∷ []) (argument_names x r k t n) (with_argument (f x) r k n.arguments t s.scopes).here) (sym one) (joined_argument f scope n s.scopes.here x r k t away j (omega arith) fit.0);
+        reads = (t, behind_argument (f x) r k n.arguments t s (41 ∷ rest), argument_read o (f x) r front n.arguments t s 41 rest (omega arith) fit.0 (inr refl) (j.fresh_arguments n.arguments (omega arith) (omega arith)) e, inl (mark_seen CloseRound (behind_argument (f x) r k n.arguments t s (41 ∷ rest)) rest (mark_token CloseRound rest tt), refl));
+        joined = subst (λ (i : ℕ). Joined o f (scope ++ arguments x r i ∷ []) (argument_names x r k t n) (with_argument (f x) r k n.arguments t s.scopes).here) (sym one) (joined_argument o f scope n s.scopes.here x r k t away j (omega arith) fit.0);
         outer = refl;
       }
   arguments_more (suc room) front t (u ∷ us) n s rest j small fit le e =
@@ -111,10 +111,10 @@ module _ (f : ℕ → ℕ) (scope : List Frame) (x r : ℕ) (away : (v : Value) 
       let here = e ∙ ap (λ (l : List ℕ). next_token (argument_text n.arguments t ++ l)) comma in
       let mid = behind_argument (f x) r k n.arguments t s (44 ∷ 32 ∷ behind) in
       let after = seen_rest mid (32 ∷ behind) in
-      let first = argument_read (f x) r front n.arguments t s 44 (32 ∷ behind) (omega arith) fit.0 (inl refl) (j.fresh_arguments n.arguments (omega arith) (omega arith)) here in
+      let first = argument_read o (f x) r front n.arguments t s 44 (32 ∷ behind) (omega arith) fit.0 (inl refl) (j.fresh_arguments n.arguments (omega arith) (omega arith)) here in
       let names = argument_names x r k t n in
-      let there = joined_argument f scope n s.scopes.here x r k t away j (omega arith) fit.0 in
-      let joined = subst (λ (i : ℕ). Joined f (scope ++ arguments x r i ∷ []) names mid.scopes.here) (sym grown) there in
+      let there = joined_argument o f scope n s.scopes.here x r k t away j (omega arith) fit.0 in
+      let joined = subst (λ (i : ℕ). Joined o f (scope ++ arguments x r i ∷ []) names mid.scopes.here) (sym grown) there in
       let text : next_token (32 ∷ behind) ≡ next_token (argument_text names.arguments u ++ arguments_then (length front' + 1) us (names.arguments + 1) (41 ∷ rest)) = blank_passed 32 behind refl ∙ ap (λ (i : ℕ). next_token (argument_text (n.arguments + 1) u ++ arguments_then (i + 1) us (n.arguments + 1 + 1) (41 ∷ rest))) (sym grown) in
       let more = arguments_more room front' u us names after rest joined (omega (arith, small)) fit.1 (omega arith) text in
       let all : front ++ t ∷ u ∷ us ≡ front' ++ u ∷ us = sym (append_assoc front (t ∷ []) (u ∷ us)) in
@@ -122,7 +122,7 @@ module _ (f : ℕ → ℕ) (scope : List Frame) (x r : ℕ) (away : (v : Value) 
       let count : length front' + length (u ∷ us) ≡ k + length (t ∷ u ∷ us) = omega (arith, grown) in
       record {
         scopes = more.scopes;
-        reads = (t, mid, first, inr (open_yet, after, mark_seen Comma mid (32 ∷ behind) (mark_token Comma (32 ∷ behind) tt), subst (λ l. IsMore IsMarkSeen CloseRound (IsArg false (f x) r) room front' l after (record { bytes = rest; scopes = more.scopes; next = s.next })) (sym all) more.reads));
-        joined = subst (λ (i : ℕ). Joined f (scope ++ arguments x r i ∷ []) (arguments_names x r k (t ∷ u ∷ us) n) more.scopes.here) count (subst (λ (i : ℕ). Joined f (scope ++ arguments x r (length front' + length (u ∷ us)) ∷ []) (arguments_names x r i (u ∷ us) names) more.scopes.here) grown more.joined);
+        reads = (t, mid, first, inr (open_yet, after, mark_seen Comma mid (32 ∷ behind) (mark_token Comma (32 ∷ behind) tt), subst (λ l. IsMore IsMarkSeen CloseRound (IsArg o (f x) r) room front' l after (record { bytes = rest; scopes = more.scopes; next = s.next })) (sym all) more.reads));
+        joined = subst (λ (i : ℕ). Joined o f (scope ++ arguments x r i ∷ []) (arguments_names x r k (t ∷ u ∷ us) n) more.scopes.here) count (subst (λ (i : ℕ). Joined o f (scope ++ arguments x r (length front' + length (u ∷ us)) ∷ []) (arguments_names x r i (u ∷ us) names) more.scopes.here) grown more.joined);
         outer = more.outer;
       }

@@ -2,6 +2,7 @@
 use Rattle.std.proofs.Common.{◌≡◌, ℕ, zero, suc, ◌+◌, ◌<◌, Bool, true, false, List, [], ◌∷◌, ◌++◌, length, Some, None, inl, inr, refl, sym, ap, subst, ◌∙◌, arith}
 use Rattle.std.specs.Prelude.{◌==◌, ◌&&◌, Ok, not}
 use Rattle.std.proofs.lemmas.Bool.{and_parts}
+use Rattle.ir_tree.proofs.Counts.{and_false}
 use Rattle.std.proofs.lemmas.List.{length-append}
 use Rattle.ir_text_bodies.specs.Bodies.{closer_of, comma_ahead, fault_of, is_fine, is_none, most_open, part_len, scan}
 use Rattle.ir_text_bodies.proofs.Steps.{Steps, steps}
@@ -35,11 +36,7 @@ module _ (b : ℕ) (bs : List ℕ) where
   some_left (o ∷ os) = refl
 
   hidden : (c : ℕ) (os : List ℕ) → (c == 44 && is_none (os ++ b ∷ bs)) ≡ false
-  hidden c os = rw (some_left os) (never (c == 44))
-    where
-      never : (t : Bool) → (t && false) ≡ false
-      never true = refl
-      never false = refl
+  hidden c os = rw (some_left os) (and_false (c == 44))
 
   abbrev Passes : List ℕ → ℕ → List ℕ → List ℕ → Type 0
   Passes os n cs r = scan os n cs ≡ Ok r → comma_ahead (os ++ b ∷ bs) n cs ≡ true → comma_ahead (b ∷ bs) 0 r ≡ true

@@ -37,7 +37,7 @@ use Rattle.ir_text_roundtrip.proofs.Values.{IsPlain, plain}
 use Rattle.ir_text_roundtrip.proofs.Leaves.{Begins}
 use Rattle.ir_text_roundtrip.proofs.TypeWords.{word_behind}
 use Rattle.ir_text_tokens.proofs.Places.{is_below}
-use Rattle.ir_tree.proofs.Counts.{below_none}
+use Rattle.ir_tree.proofs.Counts.{and_false, below_none}
 
 -- ---- items
 
@@ -189,15 +189,11 @@ dense_known o elem w back e t =
     let behind : after Less (60 ∷ w ++ back) ≡ Some (w ++ back) = after_only Less (60 ∷ w ++ back) (w ++ back) (mark_token Less (w ++ back) tt) in
     let word : is_other_element (bare w) ≡ false = ap (λ b. not b && not (has_bad_width w)) (named_so (element_named w) e) in
     let other : is_so (option_and_then begins_other (after Less (60 ∷ w ++ back))) ≡ false = rw (behind, t) word in
-    ap (λ b. o && b) other ∙ never o
+    ap (λ b. o && b) other ∙ and_false o
   where
     named_so : (n : Option Element) → option_map type_of n ≡ Some elem → is_some n ≡ true
     named_so None e = absurd cc
     named_so (Some n) e = refl
-
-    never : (b : Bool) → (b && false) ≡ false
-    never true = refl
-    never false = refl
 
 none_kept : tail_of array_word ≡ None
 unfolding tail_of

@@ -93,9 +93,9 @@ pub in_inside : (isolated : Bool) (scope : List Frame) (v : Value) → in_scope 
 in_inside true scope v e = absurd cc
 in_inside false scope v e = e
 
-pub joined_inside : (f : ℕ → ℕ) (isolated : Bool) (scope : List Frame) (n : Names) (here : Here) → Joined f scope n here → Joined f (if isolated then [] else scope) n (if isolated then [] else here)
-joined_inside f true scope n here j = joined_nothing f n
-joined_inside f false scope n here j = j
+pub joined_inside : (o : Bool) (f : ℕ → ℕ) (isolated : Bool) (scope : List Frame) (n : Names) (here : Here) → Joined o f scope n here → Joined o f (if isolated then [] else scope) n (if isolated then [] else here)
+joined_inside o f true scope n here j = joined_nothing o f n
+joined_inside o f false scope n here j = j
 
 pub left_is : (a s : Scopes PackTerm) → a.outer ≡ s.here ∷ s.outer → left a ≡ s
 left_is a s e = ap (left_to a) e
@@ -106,9 +106,9 @@ pub all_so : {X : Type 0} (P Q : X → Type 0) → ((x : X) → P x → Q x) →
 all_so P Q h [] a = tt
 all_so P Q h (x ∷ xs) a = (h x a.0, all_so P Q h xs a.1)
 
-pub types_fit : (f : ℕ → ℕ) (named : Named) (here : Here) (vs : List Value) → AllByRecursion (IsSeen f named here) vs → AllByRecursion (FitsType false 32) (map (value_type named) vs)
-types_fit f named here [] h = tt
-types_fit f named here (v ∷ vs) h = (rw (h.0).named (h.0).read.type, types_fit f named here vs h.1)
+pub types_fit : (o : Bool) (f : ℕ → ℕ) (named : Named) (here : Here) (vs : List Value) → AllByRecursion (IsSeen o f named here) vs → AllByRecursion (FitsType o 32) (map (value_type named) vs)
+types_fit o f named here [] h = tt
+types_fit o f named here (v ∷ vs) h = (rw (h.0).named (h.0).read.type, types_fit o f named here vs h.1)
 
 pub same_types : (a b : Named) (vs : List Value) → AllByRecursion (λ v. naming_of a v ≡ naming_of b v) vs → map (value_type a) vs ≡ map (value_type b) vs
 same_types a b [] h = refl
@@ -120,23 +120,23 @@ types_count a (v ∷ vs) = ap suc (types_count a vs)
 
 -- ---- results
 
-pub joined_end : (f : ℕ → ℕ) (scope : List Frame) (n m : Names) (s : Scopes PackTerm) (x : ℕ) (ts : List TypeTerm) → Joined f scope n s.here → ((v : Value) → in_scope scope v ≡ true → naming_of m.named v ≡ naming_of n.named v) → length ts ≤ 256 → AllByRecursion (FitsType false 32) ts → OwnNames m x ts n.results → n.results < 2 ^ 128 → (results_names x ts n).results ≤ m.results → n.arguments ≤ m.arguments
-    → Joined f (scope ++ results x (length ts) ∷ []) m (finished n.results (f x) ts s).here
-joined_end f scope n m s x [] j keep few fit own small more more_arguments = joined_no_results f scope n m s.here j keep x more_arguments more
-joined_end f scope n m s x (t ∷ ts) j keep few fit own small more more_arguments = joined_results f scope n m s.here j keep x more_arguments (t ∷ ts) few fit own small more
+pub joined_end : (o : Bool) (f : ℕ → ℕ) (scope : List Frame) (n m : Names) (s : Scopes PackTerm) (x : ℕ) (ts : List TypeTerm) → Joined o f scope n s.here → ((v : Value) → in_scope scope v ≡ true → naming_of m.named v ≡ naming_of n.named v) → length ts ≤ 256 → AllByRecursion (FitsType o 32) ts → OwnNames m x ts n.results → n.results < 2 ^ 128 → (results_names x ts n).results ≤ m.results → n.arguments ≤ m.arguments
+    → Joined o f (scope ++ results x (length ts) ∷ []) m (finished n.results (f x) ts s).here
+joined_end o f scope n m s x [] j keep few fit own small more more_arguments = joined_no_results o f scope n m s.here j keep x more_arguments more
+joined_end o f scope n m s x (t ∷ ts) j keep few fit own small more more_arguments = joined_results o f scope n m s.here j keep x more_arguments (t ∷ ts) few fit own small more
 
 -- an operation begins with a string or the name of a value
-pub plain_head : (m : ℕ) (ts : List TypeTerm) (h : Head) (named : Named) (rest : List ℕ) → FitsHead h → m < 2 ^ 128 → length ts ≤ 256 → Plain (results_then m ts (name_then h named rest))
-plain_head m [] h named rest fit lt few = record { lexeme = string (raw_text h.name); behind = _; token = string_token h.name _ (are_bytes h.name fit.written.bytes); no_label = λ id r s. (refl, refl); no_mark = λ k e. absurd cc }
-plain_head m (t ∷ ts) h named rest fit lt few =
+pub plain_head : (o : Bool) (m : ℕ) (ts : List TypeTerm) (h : Head) (named : Named) (rest : List ℕ) → FitsHead o h → m < 2 ^ 128 → length ts ≤ 256 → Plain o (results_then m ts (name_then h named rest))
+plain_head o m [] h named rest fit lt few = record { lexeme = string (raw_text h.name); behind = _; token = string_token h.name _ (are_bytes h.name fit.written.bytes); no_label = λ id r s. (refl, refl); no_mark = λ k e. absurd cc }
+plain_head o m (t ∷ ts) h named rest fit lt few =
     let r = result_read m (length (t ∷ ts)) (name_then h named rest) lt (omega arith) few in
     record { lexeme = value (decimal m); behind = r.mid; token = r.name; no_label = λ id q s. (refl, refl); no_mark = λ k e. absurd cc }
 
 -- ---- steps of the grammar
 
-pub op_from : (last depth : ℕ) (y : Operation) (old new : Seen) → old.next < last → IsOpWith false no_names (IsOps CloseCurly (IsOp false no_names last depth) 1048576 []) y old new → IsOp false no_names last (suc depth) y old new
+pub op_from : (o : Bool) (last depth : ℕ) (y : Operation) (old new : Seen) → old.next < last → IsOpWith o no_names (IsOps CloseCurly (IsOp o no_names last depth) 1048576 []) y old new → IsOp o no_names last (suc depth) y old new
 unfolding IsOp
-op_from last depth y old new lt h = (lt, h)
+op_from o last depth y old new lt h = (lt, h)
 
 module _ (P : Grammar Seen Operation) where
   pub ops_close : (room : ℕ) (front : List Operation) (old new : Seen) → 0 < room → IsMarkSeen CloseCurly old new → IsOps CloseCurly P room front front old new

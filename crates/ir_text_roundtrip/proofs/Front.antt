@@ -84,15 +84,15 @@ name_read (Argument n) rest small ends = record { mid = rest; token = value_toke
 -- ---- operands
 
 module _ (f : ℕ → ℕ) (named : Named) (here : Here) where
-  abbrev pub Seen : Value → Type 0
-  Seen v = IsSeen f named here v
+  abbrev pub Seen : Bool → Value → Type 0
+  Seen o v = IsSeen o f named here v
 
   -- the value with its type
   abbrev pub bound_of : Value → BoundTerm
   bound_of v = term_of f v (value_type named v)
 
-  use_read : (v : Value) (rest : List ℕ) → Seen v → EndsName rest → IsUse no_names here (bound_of v) (value_text named v ++ rest) rest
-  use_read v rest s ends =
+  use_read : (o : Bool) (v : Value) (rest : List ℕ) → Seen o v → EndsName rest → IsUse no_names here (bound_of v) (value_text named v ++ rest) rest
+  use_read o v rest s ends =
       let r = s.read in
       let y = s.naming in
       let k = name_read y.name rest r.small ends in
@@ -113,29 +113,29 @@ module _ (f : ℕ → ℕ) (named : Named) (here : Here) where
   ends_next [] rest = close_ends rest
   ends_next (v ∷ vs) rest = comma_ends _
 
-  uses_more : (room : ℕ) (front : List BoundTerm) (v : Value) (vs : List Value) (rest : List ℕ) → AllByRecursion Seen (v ∷ vs) → length (v ∷ vs) ≤ room
+  uses_more : (o : Bool) (room : ℕ) (front : List BoundTerm) (v : Value) (vs : List Value) (rest : List ℕ) → AllByRecursion (Seen o) (v ∷ vs) → length (v ∷ vs) ≤ room
       → IsMore IsMark CloseRound (λ before. IsUse no_names here) room front (front ++ map bound_of (v ∷ vs)) (value_text named v ++ others vs rest) rest
   unfolding IsMore
-  uses_more zero front v vs rest h le = absurd (omega (arith, le))
-  uses_more (suc room) front v [] rest h le = (bound_of v, 41 ∷ rest, use_read v (41 ∷ rest) h.0 (close_ends rest), inl (mark_token CloseRound rest tt, refl))
-  uses_more (suc room) front v (w ∷ ws) rest h le =
+  uses_more o zero front v vs rest h le = absurd (omega (arith, le))
+  uses_more o (suc room) front v [] rest h le = (bound_of v, 41 ∷ rest, use_read o v (41 ∷ rest) h.0 (close_ends rest), inl (mark_token CloseRound rest tt, refl))
+  uses_more o (suc room) front v (w ∷ ws) rest h le =
       let tail = 32 ∷ (value_text named w ++ others ws rest) in
       let apart : others (w ∷ ws) rest ≡ 44 ∷ tail = ap (λ (l : List ℕ). 44 ∷ 32 ∷ l) (append_assoc (value_text named w) (parted (codes ", ") false (map (value_text named) ws)) (41 ∷ rest)) in
       let front' = front ++ bound_of v ∷ [] in
       let all : front ++ map bound_of (v ∷ w ∷ ws) ≡ front' ++ map bound_of (w ∷ ws) = sym (append_assoc front (bound_of v ∷ []) (map bound_of (w ∷ ws))) in
-      let more = uses_more room front' w ws rest h.1 (omega arith) in
+      let more = uses_more o room front' w ws rest h.1 (omega arith) in
       let spaced = space (IsMore IsMark CloseRound (λ before. IsUse no_names here) room front') (more_ahead CloseRound (λ before. IsUse no_names here) (λ before. use_ahead) room front') (front' ++ map bound_of (w ∷ ws)) (value_text named w ++ others ws rest) rest more in
       let open_yet = lacks_token (mark Comma) CloseRound (44 ∷ tail) tail (mark_token Comma tail tt) (λ e. absurd cc) in
       subst (λ l. IsMore IsMark CloseRound (λ before. IsUse no_names here) (suc room) front (front ++ map bound_of (v ∷ w ∷ ws)) (value_text named v ++ l) rest) (sym apart)
-      (bound_of v, 44 ∷ tail, use_read v (44 ∷ tail) h.0 (comma_ends tail), inr (open_yet, tail, mark_token Comma tail tt, subst (λ l. IsMore IsMark CloseRound (λ before. IsUse no_names here) room front' l tail rest) (sym all) spaced))
+      (bound_of v, 44 ∷ tail, use_read o v (44 ∷ tail) h.0 (comma_ends tail), inr (open_yet, tail, mark_token Comma tail tt, subst (λ l. IsMore IsMark CloseRound (λ before. IsUse no_names here) room front' l tail rest) (sym all) spaced))
 
-  pub uses_again : (room : ℕ) (vs : List Value) (rest : List ℕ) → AllByRecursion Seen vs → length vs ≤ room → IsList IsMark CloseRound (λ before. IsUse no_names here) room (map bound_of vs) (parted (codes ", ") true (map (value_text named) vs) ++ 41 ∷ rest) rest
+  pub uses_again : (o : Bool) (room : ℕ) (vs : List Value) (rest : List ℕ) → AllByRecursion (Seen o) vs → length vs ≤ room → IsList IsMark CloseRound (λ before. IsUse no_names here) room (map bound_of vs) (parted (codes ", ") true (map (value_text named) vs) ++ 41 ∷ rest) rest
   unfolding IsList
-  uses_again room [] rest h le = inl (mark_token CloseRound rest tt, refl)
-  uses_again room (v ∷ vs) rest h le =
+  uses_again o room [] rest h le = inl (mark_token CloseRound rest tt, refl)
+  uses_again o room (v ∷ vs) rest h le =
       let apart : (value_text named v ++ parted (codes ", ") false (map (value_text named) vs)) ++ 41 ∷ rest ≡ value_text named v ++ others vs rest = append_assoc (value_text named v) (parted (codes ", ") false (map (value_text named) vs)) (41 ∷ rest) in
-      let first = use_lacks (bound_of v) (value_text named v ++ others vs rest) (others vs rest) (use_read v (others vs rest) h.0 (ends_next vs rest)) in
-      subst (λ l. IsList IsMark CloseRound (λ before. IsUse no_names here) room (map bound_of (v ∷ vs)) l rest) (sym apart) (inr (first, uses_more room [] v vs rest h le))
+      let first = use_lacks (bound_of v) (value_text named v ++ others vs rest) (others vs rest) (use_read o v (others vs rest) h.0 (ends_next vs rest)) in
+      subst (λ l. IsList IsMark CloseRound (λ before. IsUse no_names here) room (map bound_of (v ∷ vs)) l rest) (sym apart) (inr (first, uses_more o room [] v vs rest h le))
 
   pub bound_types : (vs : List Value) → map (λ b. b.type) (map bound_of vs) ≡ map (value_type named) vs
   bound_types [] = refl
@@ -216,9 +216,9 @@ results_read m (t ∷ ts) old rest raw new lt few h e =
 abbrev pub start_of : (ℕ → ℕ) → Named → ℕ → Head → StartTerm
 start_of f named m h = record { results = result_words m h.results; name = h.name; operands = map (bound_of f named []) h.operands }
 
-pub start_again : (f : ℕ → ℕ) (named : Named) (here : Here) (m : ℕ) (h : Head) (old rest : List ℕ) → m < 2 ^ 128 → AreBytes h.name → (length h.name == 0) ≡ false → length h.operands ≤ 256 → length h.results ≤ 256 → AllByRecursion (IsSeen f named here) h.operands
+pub start_again : (o : Bool) (f : ℕ → ℕ) (named : Named) (here : Here) (m : ℕ) (h : Head) (old rest : List ℕ) → m < 2 ^ 128 → AreBytes h.name → (length h.name == 0) ≡ false → length h.operands ≤ 256 → length h.results ≤ 256 → AllByRecursion (IsSeen o f named here) h.operands
     → next old ≡ next (results_then m h.results (name_then h named rest)) → IsStart no_names here (start_of f named m h) old (properties_text h.properties ++ rest)
-start_again f named here m h old rest lt bytes some ops res seen e =
+start_again o f named here m h old rest lt bytes some ops res seen e =
     let behind = properties_text h.properties ++ rest in
     let row = parted (codes ", ") true (map (value_text named) h.operands) in
     let round = in_round (map (value_text named) h.operands) ++ behind in
@@ -229,4 +229,4 @@ start_again f named here m h old rest lt bytes some ops res seen e =
     let opened : Token (mark OpenRound) round back = subst (λ l. Token (mark OpenRound) l back) (sym apart) (mark_token OpenRound back tt) in
     let same = value_again h.name bytes in
     let named_so : IsOpName h.name r.0 round = (raw_text h.name, r.2, rw same some, sym same) in
-    (result_words m h.results, r.0, r.1, (h.name, round, named_so, (back, opened, (map (bound_of f named []) h.operands, behind, uses_again f named here 256 h.operands behind seen ops, (refl, refl)))))
+    (result_words m h.results, r.0, r.1, (h.name, round, named_so, (back, opened, (map (bound_of f named []) h.operands, behind, uses_again f named here o 256 h.operands behind seen ops, (refl, refl)))))

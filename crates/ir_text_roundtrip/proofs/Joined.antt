@@ -48,20 +48,20 @@ abbrev pub term_of : (ℕ → ℕ) → Value → TypeTerm → BoundTerm
 term_of f v t = record { value = value_with_id f v; type = t }
 
 -- the value is read by its name
-pub record IsRead (f : ℕ → ℕ) (here : Here) (v : Value) (y : Naming) : Type 0 where
+pub record IsRead (o : Bool) (f : ℕ → ℕ) (here : Here) (v : Value) (y : Naming) : Type 0 where
   pub pack : PackTerm
   pub bound : find (word_of y.name) here ≡ Some pack
   pub place : slice_get pack (place_of y.name) ≡ Some (term_of f v y.type)
   pub small : IsSmall y.name
-  pub type : FitsType false 32 y.type
+  pub type : FitsType o 32 y.type
 
-pub record IsSeen (f : ℕ → ℕ) (names : Named) (here : Here) (v : Value) : Type 0 where
+pub record IsSeen (o : Bool) (f : ℕ → ℕ) (names : Named) (here : Here) (v : Value) : Type 0 where
   pub naming : Naming
   pub named : naming_of names v ≡ Some naming
-  pub read : IsRead f here v naming
+  pub read : IsRead o f here v naming
 
-pub record Joined (f : ℕ → ℕ) (scope : List Frame) (n : Names) (here : Here) : Type 0 where
-  pub seen : (v : Value) → in_scope scope v ≡ true → IsSeen f n.named here v
+pub record Joined (o : Bool) (f : ℕ → ℕ) (scope : List Frame) (n : Names) (here : Here) : Type 0 where
+  pub seen : (v : Value) → in_scope scope v ≡ true → IsSeen o f n.named here v
   pub fresh : (k : ℕ) → n.results ≤ k → k < 2 ^ 128 → find (decimal k) here ≡ None
   pub fresh_arguments : (k : ℕ) → n.arguments ≤ k → k < 2 ^ 128 → find (argument_word k) here ≡ None
 
@@ -102,25 +102,25 @@ terms_get id j (y ∷ ys) (suc k) t e = let place : j + suc k ≡ j + 1 + k = om
 
 -- ---- later, with the same in sight
 
-pub joined_later : (f : ℕ → ℕ) (scope : List Frame) (n m : Names) (here : Here) → Joined f scope n here → ((v : Value) → in_scope scope v ≡ true → naming_of m.named v ≡ naming_of n.named v) → n.results ≤ m.results → n.arguments ≤ m.arguments → Joined f scope m here
-joined_later f scope n m here j keep more_results more_arguments = record {
+pub joined_later : (o : Bool) (f : ℕ → ℕ) (scope : List Frame) (n m : Names) (here : Here) → Joined o f scope n here → ((v : Value) → in_scope scope v ≡ true → naming_of m.named v ≡ naming_of n.named v) → n.results ≤ m.results → n.arguments ≤ m.arguments → Joined o f scope m here
+joined_later o f scope n m here j keep more_results more_arguments = record {
   seen = λ v e. let s = j.seen v e in record { naming = s.naming; named = keep v e ∙ s.named; read = s.read };
   fresh = λ k le lt. j.fresh k (omega (arith, le, more_results)) lt;
   fresh_arguments = λ k le lt. j.fresh_arguments k (omega (arith, le, more_arguments)) lt;
 }
 
 -- nothing is in sight
-pub joined_nothing : (f : ℕ → ℕ) (m : Names) → Joined f [] m []
+pub joined_nothing : (o : Bool) (f : ℕ → ℕ) (m : Names) → Joined o f [] m []
 unfolding find
-joined_nothing f m = record {
+joined_nothing o f m = record {
   seen = λ v e. absurd cc;
   fresh = λ k le lt. refl;
   fresh_arguments = λ k le lt. refl;
 }
 
 -- what is read stays where a fresh name is bound
-read_kept : (f : ℕ → ℕ) (here : Here) (v : Value) (y : Naming) (word : List ℕ) (pack : PackTerm) → find word here ≡ None → IsRead f here v y → IsRead f (here ++ (record { name = word; value = pack }) ∷ []) v y
-read_kept f here v y word pack fresh r = record { pack = r.pack; bound = find_kept (word_of y.name) word here pack r.pack fresh r.bound; place = r.place; small = r.small; type = r.type }
+read_kept : (o : Bool) (f : ℕ → ℕ) (here : Here) (v : Value) (y : Naming) (word : List ℕ) (pack : PackTerm) → find word here ≡ None → IsRead o f here v y → IsRead o f (here ++ (record { name = word; value = pack }) ∷ []) v y
+read_kept o f here v y word pack fresh r = record { pack = r.pack; bound = find_kept (word_of y.name) word here pack r.pack fresh r.bound; place = r.place; small = r.small; type = r.type }
 
 -- ---- results come into sight
 
@@ -132,9 +132,9 @@ pub result_shown : (v : Value) (x n : ℕ) → shows v (results x n) ≡ true �
 result_shown (Result y k) x n e = let p = and_parts (y == x) (nat_lt k n) e in (k, ap (λ a. Result a k) (eqb-true y x p.0), grind (arith, nat_tests))
 result_shown (Arg y s k) x n e = absurd cc
 
-result_read : (f : ℕ → ℕ) (here : Here) (x : ℕ) (ts : List TypeTerm) (n k : ℕ) (t : TypeTerm) → n < 2 ^ 128 → length ts ≤ 256 → k < length ts → slice_get ts k ≡ Some t → FitsType false 32 t
-    → IsRead f (here ++ (record { name = decimal n; value = result_terms (f x) 0 ts }) ∷ []) (Result x k) (record { name = result_name (length ts == 1) n k; type = t })
-result_read f here x ts n k t lt few within e fit = from (length ts == 1) refl
+result_read : (o : Bool) (f : ℕ → ℕ) (here : Here) (x : ℕ) (ts : List TypeTerm) (n k : ℕ) (t : TypeTerm) → n < 2 ^ 128 → length ts ≤ 256 → k < length ts → slice_get ts k ≡ Some t → FitsType o 32 t
+    → IsRead o f (here ++ (record { name = decimal n; value = result_terms (f x) 0 ts }) ∷ []) (Result x k) (record { name = result_name (length ts == 1) n k; type = t })
+result_read o f here x ts n k t lt few within e fit = from (length ts == 1) refl
   where
     pack : PackTerm
     pack = result_terms (f x) 0 ts
@@ -142,29 +142,29 @@ result_read f here x ts n k t lt few within e fit = from (length ts == 1) refl
     there : slice_get pack k ≡ Some (term_of f (Result x k) t)
     there = let zero_on : 0 + k ≡ k = omega arith in subst (λ (j : ℕ). slice_get pack k ≡ Some (record { value = Result (f x) j; type = t })) zero_on (terms_get (f x) 0 ts k t e)
 
-    from : (b : Bool) → (length ts == 1) ≡ b → IsRead f (here ++ (record { name = decimal n; value = pack }) ∷ []) (Result x k) (record { name = result_name b n k; type = t })
+    from : (b : Bool) → (length ts == 1) ≡ b → IsRead o f (here ++ (record { name = decimal n; value = pack }) ∷ []) (Result x k) (record { name = result_name b n k; type = t })
     from true only =
         let lone : length ts ≡ 1 = eqb-true (length ts) 1 only in
         let first : k ≡ 0 = omega arith in
         record { pack = pack; bound = find_new (decimal n) here pack; place = subst (λ (j : ℕ). slice_get pack j ≡ Some (term_of f (Result x k) t)) first there; small = lt; type = fit }
     from false many = record { pack = pack; bound = find_new (decimal n) here pack; place = there; small = (lt, omega arith); type = fit }
 
-module _ (f : ℕ → ℕ) (scope : List Frame) (n m : Names) (here : Here) (j : Joined f scope n here) (keep : (v : Value) → in_scope scope v ≡ true → naming_of m.named v ≡ naming_of n.named v) (x : ℕ) (more_arguments : n.arguments ≤ m.arguments) where
-  pub joined_no_results : n.results ≤ m.results → Joined f (scope ++ results x 0 ∷ []) m here
+module _ (o : Bool) (f : ℕ → ℕ) (scope : List Frame) (n m : Names) (here : Here) (j : Joined o f scope n here) (keep : (v : Value) → in_scope scope v ≡ true → naming_of m.named v ≡ naming_of n.named v) (x : ℕ) (more_arguments : n.arguments ≤ m.arguments) where
+  pub joined_no_results : n.results ≤ m.results → Joined o f (scope ++ results x 0 ∷ []) m here
   joined_no_results more = record {
     seen = λ v e. ⊎_elim
-        (λ (k : in_scope scope v ≡ true). (joined_later f scope n m here j keep more more_arguments).seen v k)
+        (λ (k : in_scope scope v ≡ true). (joined_later o f scope n m here j keep more more_arguments).seen v k)
         (λ (k : shows v (results x 0) ≡ true). let r = result_shown v x 0 k in absurd (omega (arith, r.2)))
         (in_last scope (results x 0) v e);
     fresh = λ k le lt. j.fresh k (omega (arith, le, more)) lt;
     fresh_arguments = λ k le lt. j.fresh_arguments k (omega (arith, le, more_arguments)) lt;
   }
 
-  pub joined_results : (ts : List TypeTerm) → length ts ≤ 256 → AllByRecursion (FitsType false 32) ts → OwnNames m x ts n.results → n.results < 2 ^ 128 → n.results + 1 ≤ m.results
-      → Joined f (scope ++ results x (length ts) ∷ []) m (here ++ (record { name = decimal n.results; value = result_terms (f x) 0 ts }) ∷ [])
+  pub joined_results : (ts : List TypeTerm) → length ts ≤ 256 → AllByRecursion (FitsType o 32) ts → OwnNames m x ts n.results → n.results < 2 ^ 128 → n.results + 1 ≤ m.results
+      → Joined o f (scope ++ results x (length ts) ∷ []) m (here ++ (record { name = decimal n.results; value = result_terms (f x) 0 ts }) ∷ [])
   joined_results ts few fit own small more = record {
     seen = λ v e. ⊎_elim
-        (λ (k : in_scope scope v ≡ true). let s = j.seen v k in record { naming = s.naming; named = keep v k ∙ s.named; read = read_kept f here v s.naming (decimal n.results) pack unused s.read })
+        (λ (k : in_scope scope v ≡ true). let s = j.seen v k in record { naming = s.naming; named = keep v k ∙ s.named; read = read_kept o f here v s.naming (decimal n.results) pack unused s.read })
         (λ (k : shows v (results x (length ts)) ≡ true). shown v (result_shown v x (length ts) k))
         (in_last scope (results x (length ts)) v e);
     fresh = λ k le lt. find_old (decimal k) (decimal n.results) here pack (decimals_apart n.results k small lt (λ e. omega (arith, le, more, e))) ∙ j.fresh k (omega (arith, le, more)) lt;
@@ -177,14 +177,14 @@ module _ (f : ℕ → ℕ) (scope : List Frame) (n m : Names) (here : Here) (j :
       unused : find (decimal n.results) here ≡ None
       unused = j.fresh n.results (omega arith) small
 
-      shown : (v : Value) → (k : ℕ) × (v ≡ Result x k) × (k < length ts) → IsSeen f m.named (here ++ (record { name = decimal n.results; value = pack }) ∷ []) v
+      shown : (v : Value) → (k : ℕ) × (v ≡ Result x k) × (k < length ts) → IsSeen o f m.named (here ++ (record { name = decimal n.results; value = pack }) ∷ []) v
       shown v r =
           let t = get_within ts r.0 r.2 in
-          subst (IsSeen f m.named (here ++ (record { name = decimal n.results; value = pack }) ∷ [])) (sym r.1)
+          subst (IsSeen o f m.named (here ++ (record { name = decimal n.results; value = pack }) ∷ [])) (sym r.1)
           (record {
             naming = record { name = result_name (length ts == 1) n.results r.0; type = t.0 };
             named = own r.0 t.0 t.1;
-            read = result_read f here x ts n.results r.0 t.0 small few r.2 t.1 (all_get (FitsType false 32) ts r.0 t.0 fit t.1);
+            read = result_read o f here x ts n.results r.0 t.0 small few r.2 t.1 (all_get (FitsType o 32) ts r.0 t.0 fit t.1);
           })
 
 -- ---- an argument comes into sight
@@ -213,15 +213,15 @@ elsewhere : (v : Value) (x r n : ℕ) → (source_id (source_of v) == x) ≡ fal
 elsewhere (Result y k) x r n e = refl
 elsewhere (Arg y s k) x r n e = rw e refl
 
-module _ (f : ℕ → ℕ) (scope : List Frame) (n : Names) (here : Here) (x r k : ℕ) (t : TypeTerm) (away : (v : Value) → in_scope scope v ≡ true → (source_id (source_of v) == x) ≡ false) where
-  pub joined_argument : Joined f (scope ++ arguments x r k ∷ []) n here → n.arguments < 2 ^ 128 → FitsType false 32 t
-      → Joined f (scope ++ arguments x r (k + 1) ∷ []) (argument_names x r k t n) (here ++ (record { name = argument_word n.arguments; value = record { value = Arg (f x) r k; type = t } ∷ [] }) ∷ [])
+module _ (o : Bool) (f : ℕ → ℕ) (scope : List Frame) (n : Names) (here : Here) (x r k : ℕ) (t : TypeTerm) (away : (v : Value) → in_scope scope v ≡ true → (source_id (source_of v) == x) ≡ false) where
+  pub joined_argument : Joined o f (scope ++ arguments x r k ∷ []) n here → n.arguments < 2 ^ 128 → FitsType o 32 t
+      → Joined o f (scope ++ arguments x r (k + 1) ∷ []) (argument_names x r k t n) (here ++ (record { name = argument_word n.arguments; value = record { value = Arg (f x) r k; type = t } ∷ [] }) ∷ [])
   joined_argument j small fit = record {
     seen = λ v e. ⊎_elim
         (λ (i : in_scope scope v ≡ true). old v (in_first scope (arguments x r k) v i) (elsewhere v x r k (away v i)))
         (λ (i : shows v (arguments x r (k + 1)) ≡ true). ⊎_elim
         (λ (l : shows v (arguments x r k) ≡ true). old v (in_it v l) (earlier v x r k l))
-        (λ (l : v ≡ Arg x r k). subst (IsSeen f named all) (sym l) new)
+        (λ (l : v ≡ Arg x r k). subst (IsSeen o f named all) (sym l) new)
         (argument_shown v x r k i))
         (in_last scope (arguments x r (k + 1)) v e);
     fresh = λ i le lt. find_old (decimal i) word here pack (argument_no_decimal n.arguments i lt) ∙ j.fresh i le lt;
@@ -243,7 +243,7 @@ module _ (f : ℕ → ℕ) (scope : List Frame) (n : Names) (here : Here) (x r k
       named : Named
       named = (argument_names x r k t n).named
 
-      new : IsSeen f named all (Arg x r k)
+      new : IsSeen o f named all (Arg x r k)
       new = record { naming = naming; named = found_new n.named (source.Argument x r k) naming; read = record { pack = pack; bound = find_new word here pack; place = refl; small = small; type = fit } }
 
       in_it : (v : Value) → shows v (arguments x r k) ≡ true → in_scope (scope ++ arguments x r k ∷ []) v ≡ true
@@ -253,5 +253,5 @@ module _ (f : ℕ → ℕ) (scope : List Frame) (n : Names) (here : Here) (x r k
           last_in [] = rw l refl
           last_in (g ∷ gs) = elim (cases_Bool (shows v g)) [ inl a ↦ rw a refl | inr b ↦ rw b (last_in gs) ]
 
-      old : (v : Value) → in_scope (scope ++ arguments x r k ∷ []) v ≡ true → same_source (source_of v) (source.Argument x r k) ≡ false → IsSeen f named all v
-      old v i apart = let s = j.seen v i in record { naming = s.naming; named = found_old n.named (source_of v) (source.Argument x r k) naming apart ∙ s.named; read = read_kept f here v s.naming word pack (j.fresh_arguments n.arguments (omega arith) small) s.read }
+      old : (v : Value) → in_scope (scope ++ arguments x r k ∷ []) v ≡ true → same_source (source_of v) (source.Argument x r k) ≡ false → IsSeen o f named all v
+      old v i apart = let s = j.seen v i in record { naming = s.naming; named = found_old n.named (source_of v) (source.Argument x r k) naming apart ∙ s.named; read = read_kept o f here v s.naming word pack (j.fresh_arguments n.arguments (omega arith) small) s.read }

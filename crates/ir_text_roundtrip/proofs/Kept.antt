@@ -9,7 +9,7 @@ use Rattle.ir_types.proofs.Growth.{name_is}
 use Rattle.ir_text_tokens.specs.declared.fault.Fault.{Fault}
 use Rattle.ir_text_tokens.specs.Bytes.{is_suffix, is_word}
 use Rattle.ir_text_tokens.specs.Printing.{Stops, is_bare_id, is_suffix_id}
-use Rattle.ir_text_tokens.specs.Tokens.{Lexeme, bare, bang, name_at, next, skip}
+use Rattle.ir_text_tokens.specs.Tokens.{Lexeme, bare, bang, next, skip}
 use Rattle.ir_text_tokens.proofs.Printed.{bare_token, name_again}
 use Rattle.ir_text_tokens.proofs.Wholes.{next_whole}
 use Rattle.ir_text_bodies.specs.Bodies.{begins, body_at, has_dot, is_none, is_plain_body, is_plain_memref, parted, scan}
@@ -57,25 +57,26 @@ body_found v rest b = reads_again (60 ∷ v ++ []) (60 ∷ v) [] rest b.0
 abbrev joined : List ℕ → Option (List ℕ × List ℕ) → Option (List ℕ × List ℕ)
 joined front o = option_map (λ (b : List ℕ × List ℕ). (front ++ b.0, b.1)) o
 
--- what is found behind a front, where a bracket begins it: the front and a body
-abbrev Bodied : List ℕ → List ℕ → List ℕ → Type 0
-Bodied front q text = (v : List ℕ) × (text ≡ front ++ 60 ∷ v) × (q ≡ 60 ∷ v ++ []) × IsBody v
+-- what is found behind a front, where a bracket begins it: the front and a body, with what follows
+abbrev Bodied : List ℕ → List ℕ → List ℕ → List ℕ → Type 0
+Bodied front q text r = (v : List ℕ) × (text ≡ front ++ 60 ∷ v) × (q ≡ 60 ∷ v ++ r) × (scan (62 ∷ []) 0 (v ++ r) ≡ Ok r) × IsBody v
 
-bodied : (front q text : List ℕ) → begins 60 q ≡ true → with_body front q ≡ Some (text, []) → Bodied front q text
-bodied front q text h e = by (body_at q) refl e
+bodied : (front q text r : List ℕ) → begins 60 q ≡ true → with_body front q ≡ Some (text, r) → Bodied front q text r
+bodied front q text r h e = by (body_at q) refl e
   where
-    made : (b x : List ℕ) → q ≡ 60 ∷ x → body_at (60 ∷ x) ≡ Some (b, []) → front ++ b ≡ text → Bodied front q text
+    made : (b x : List ℕ) → q ≡ 60 ∷ x → body_at (60 ∷ x) ≡ Some (b, r) → front ++ b ≡ text → Bodied front q text r
     made b x is m k =
-        let i = inside x b [] m in
-        let all : 60 ∷ x ≡ 60 ∷ i.0 ++ [] = ap (λ l. 60 ∷ l) i.2 in
-        (i.0, sym k ∙ ap (λ l. front ++ l) i.1, is ∙ all, (ap body_at (sym all) ∙ m ∙ ap (λ l. Some (l, [])) i.1, i.3))
+        let i = inside x b r m in
+        let alone : body_at (60 ∷ i.0 ++ []) ≡ Some (60 ∷ i.0, []) = ap (λ l. body_at (l ++ [])) (sym i.1) ∙ reads_again (60 ∷ x) b r [] m ∙ ap (λ l. Some (l, [])) i.1 in
+        let within = inside (i.0 ++ []) (60 ∷ i.0) [] alone in
+        (i.0, sym k ∙ ap (λ l. front ++ l) i.1, is ∙ ap (λ l. 60 ∷ l) i.2, i.3, (alone, ap (scan (62 ∷ []) 0) within.2 ∙ within.3))
 
-    by : (o : Option (List ℕ × List ℕ)) → body_at q ≡ o → joined front o ≡ Some (text, []) → Bodied front q text
+    by : (o : Option (List ℕ × List ℕ)) → body_at q ≡ o → joined front o ≡ Some (text, r) → Bodied front q text r
     by None m k = absurd cc
     by (Some b) m k =
-        let p = some_pair_parts (front ++ b.0) text b.1 [] k in
+        let p = some_pair_parts (front ++ b.0) text b.1 r k in
         let x = first q h in
-        made b.0 x.0 x.1 (ap body_at (sym x.1) ∙ m ∙ ap (λ r. Some (b.0, r)) p.1) p.0
+        made b.0 x.0 x.1 (ap body_at (sym x.1) ∙ m ∙ ap (λ u. Some (b.0, u)) p.1) p.0
 
 -- ---- the forms of such a text
 
@@ -98,37 +99,37 @@ Form text = IsWordAlone text ⊎ IsWordBodied text ⊎ IsNameAlone text ⊎ IsNa
 abbrev plain_or : Bool → List ℕ → Bool
 plain_or p w = (is_alone w || is_angled w) || (bytes_eq w memref_word && not p)
 
-word_form : (w q text : List ℕ) → is_bare_id w ≡ true → is_opaque_word w q ≡ true → word_text w q ≡ Some (text, []) → Form text
-word_form w q text id o e = by (is_alone w) refl e
+pub word_form : (w q text r : List ℕ) → is_bare_id w ≡ true → is_opaque_word w q ≡ true → word_text w q ≡ Some (text, r) → Form text
+word_form w q text r id o e = by (is_alone w) refl e
   where
-    with_angles : is_alone w ≡ false → Bodied w (skip q) text → Form text
+    with_angles : is_alone w ≡ false → Bodied w (skip q) text r → Form text
     with_angles a b =
-        let same : is_plain_memref q ≡ is_plain_memref (60 ∷ b.0 ++ []) = ap is_plain_body (b.2 ∙ sym (stays 60 (b.0 ++ []) refl refl)) in
-        inr (inl (w, b.0, b.1, id, a, ap (λ p. plain_or p w) (sym same) ∙ o, b.3))
+        let same : is_plain_memref q ≡ is_plain_memref (60 ∷ b.0 ++ []) = ap is_plain_body (b.2 ∙ sym (stays 60 (b.0 ++ r) refl refl)) ∙ plain_again b.0 r [] b.3 in
+        inr (inl (w, b.0, b.1, id, a, ap (λ p. plain_or p w) (sym same) ∙ o, b.4))
 
-    by_bracket : is_alone w ≡ false → (t : Bool) → begins 60 (skip q) ≡ t → (if t then with_body w (skip q) else None) ≡ Some (text, []) → Form text
+    by_bracket : is_alone w ≡ false → (t : Bool) → begins 60 (skip q) ≡ t → (if t then with_body w (skip q) else None) ≡ Some (text, r) → Form text
     by_bracket a false h k = absurd cc
-    by_bracket a true h k = with_angles a (bodied w (skip q) text h k)
+    by_bracket a true h k = with_angles a (bodied w (skip q) text r h k)
 
-    by : (t : Bool) → is_alone w ≡ t → (if t then Some (w, q) else bracketed 60 w (skip q)) ≡ Some (text, []) → Form text
-    by true a k = subst Form (some_pair_parts w text q [] k).0 (inl (id, a))
+    by : (t : Bool) → is_alone w ≡ t → (if t then Some (w, q) else bracketed 60 w (skip q)) ≡ Some (text, r) → Form text
+    by true a k = subst Form (some_pair_parts w text q r k).0 (inl (id, a))
     by false a k = by_bracket a (begins 60 (skip q)) refl k
 
 abbrev dotted : Bool → List ℕ → List ℕ → Option (List ℕ × List ℕ)
 dotted dot n q = if dot then Some (33 ∷ n, q) else None
 
-name_form : (n q text : List ℕ) → is_suffix_id n ≡ true → dialect_text 33 n q ≡ Some (text, []) → Form text
-name_form n q text id e = by (begins 60 q) refl e
+pub name_form : (n q text r : List ℕ) → is_suffix_id n ≡ true → dialect_text 33 n q ≡ Some (text, r) → Form text
+name_form n q text r id e = by (begins 60 q) refl e
   where
-    with_angles : Bodied (33 ∷ n) q text → Form text
-    with_angles b = inr (inr (inr (n, b.0, b.1, id, b.3)))
+    with_angles : Bodied (33 ∷ n) q text r → Form text
+    with_angles b = inr (inr (inr (n, b.0, b.1, id, b.4)))
 
-    by_dot : (t : Bool) → has_dot n ≡ t → dotted t n q ≡ Some (text, []) → Form text
+    by_dot : (t : Bool) → has_dot n ≡ t → dotted t n q ≡ Some (text, r) → Form text
     by_dot false d k = absurd cc
-    by_dot true d k = inr (inr (inl (n, sym (some_pair_parts (33 ∷ n) text q [] k).0, id, d)))
+    by_dot true d k = inr (inr (inl (n, sym (some_pair_parts (33 ∷ n) text q r k).0, id, d)))
 
-    by : (t : Bool) → begins 60 q ≡ t → (if t then with_body (33 ∷ n) q else dotted (has_dot n) n q) ≡ Some (text, []) → Form text
-    by true h k = with_angles (bodied (33 ∷ n) q text h k)
+    by : (t : Bool) → begins 60 q ≡ t → (if t then with_body (33 ∷ n) q else dotted (has_dot n) n q) ≡ Some (text, r) → Form text
+    by true h k = with_angles (bodied (33 ∷ n) q text r h k)
     by false h k = by_dot (has_dot n) refl k
 
 empty : (l : List ℕ) → is_none l ≡ true → l ≡ []
@@ -147,11 +148,11 @@ form_of text e = by (next text) refl e
   where
     by_opaque : (w q : List ℕ) → is_bare_id w ≡ true → (t : Bool) → is_opaque_word w q ≡ t → is_all text (if t then word_text w q else None) ≡ true → Form text
     by_opaque w q id false o k = absurd cc
-    by_opaque w q id true o k = word_form w q text id o (all_of text (word_text w q) k)
+    by_opaque w q id true o k = word_form w q text [] id o (all_of text (word_text w q) k)
 
     by_token : (t : Lexeme) (q : List ℕ) → next text ≡ Some (t, q) → is_all text (kept_behind t q) ≡ true → Form text
     by_token (bare w) q m k = by_opaque w q (next_whole text q (bare w) m).0 (is_opaque_word w q) refl k
-    by_token (bang n) q m k = name_form n q text (next_whole text q (bang n) m).0 (all_of text (dialect_text 33 n q) k)
+    by_token (bang n) q m k = name_form n q text [] (next_whole text q (bang n) m).0 (all_of text (dialect_text 33 n q) k)
     by_token _ q m k = absurd cc
 
     by : (o : Option (Lexeme × List ℕ)) → next text ≡ o → is_all text (kept_from o) ≡ true → Form text
@@ -160,13 +161,11 @@ form_of text e = by (next text) refl e
 
 -- ---- read again
 
-name_begins : (bs : List ℕ) → next (33 ∷ bs) ≡ name_at bang bs
-unfolding next skip
-name_begins [] = refl
-name_begins (c ∷ cs) = refl
-
 pub bang_token : (n rest : List ℕ) → is_suffix_id n ≡ true → Stops is_suffix rest → next (33 ∷ (n ++ rest)) ≡ Some (bang n, rest)
-bang_token n rest e s = name_begins (n ++ rest) ∙ name_again bang n rest e s
+unfolding next skip
+bang_token [] [] e s = name_again bang [] [] e s
+bang_token [] (c ∷ cs) e s = name_again bang [] (c ∷ cs) e s
+bang_token (d ∷ ds) rest e s = name_again bang (d ∷ ds) rest e s
 
 pub no_word : (rest : List ℕ) → Stops is_suffix rest → Stops is_word rest
 no_word [] s = tt

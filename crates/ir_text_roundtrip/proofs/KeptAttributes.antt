@@ -1,17 +1,17 @@
 -- An attribute that is kept as it is spelled is read again.
-use Rattle.std.proofs.Common.{◌≡◌, ℕ, suc, ◌≤◌, Bool, true, false, ◌⊎◌, inl, inr, List, [], ◌∷◌, ◌++◌, length, Option, Some, None, refl, sym, ap, subst, ◌∙◌, append_assoc, arith}
+use Rattle.std.proofs.Common.{◌≡◌, ℕ, suc, ◌≤◌, Bool, true, false, inl, inr, List, [], ◌∷◌, ◌++◌, Option, Some, None, refl, sym, ap, subst, ◌∙◌, append_assoc, arith}
 use Rattle.std.specs.Prelude.{◌==◌, ◌&&◌, not, is_some, if◌then◌else◌, nat_le, option_map, option_and_then, codes, Ok}
 use Rattle.std.specs.Str.{bytes_eq}
-use Rattle.std.proofs.lemmas.Bool.{and_parts, eqb-true}
+use Rattle.std.proofs.lemmas.Bool.{and_parts, eqb-true, not-true}
 use Rattle.std.proofs.lemmas.Bool.Decides.{nat_tests}
 use Rattle.std.proofs.lemmas.List.{append-nil}
 use Rattle.std.proofs.lemmas.Option.{some_pair_parts}
-use Rattle.ir_types.specs.Terms.{TypeTerm, AttrTerm, OpaqueOf}
-use Rattle.ir_types.specs.Depths.{attr_depth, type_depth}
+use Rattle.ir_types.specs.Terms.{TypeTerm, OpaqueOf}
+use Rattle.ir_types.specs.Depths.{type_depth}
 use Rattle.ir_types.specs.Reasons.{attr_fault}
 use Rattle.ir_text_tokens.specs.declared.token.Mark.TheVariants.{Colon, Less, Minus}
 use Rattle.ir_text_tokens.specs.Bytes.{is_blank, is_suffix, is_word}
-use Rattle.ir_text_tokens.specs.Printing.{Stops, is_bare_id, is_suffix_id}
+use Rattle.ir_text_tokens.specs.Printing.{Stops, is_bare_id}
 use Rattle.ir_text_tokens.specs.Tokens.{Lexeme, mark, integer, float, string, bare, hash, next, skip}
 use Rattle.ir_text_tokens.proofs.Printed.{bare_token, hash_token, mark_token}
 use Rattle.ir_text_tokens.proofs.Wholes.{next_whole}
@@ -29,7 +29,7 @@ use Rattle.ir_text_attributes.specs.Literals.{array_word, overflow_word}
 use Rattle.ir_text_attributes.specs.AttrGrammar.{IsFine, IsSuffix, IsLiteral, IsTail, IsBare, IsKept}
 use Rattle.ir_text.specs.AttrText.{attr_text}
 use Rattle.ir_text.specs.TypeText.{type_text}
-use Rattle.ir_text_roundtrip.specs.Kept.{EndsType, is_all}
+use Rattle.ir_text_roundtrip.specs.Kept.{is_all}
 use Rattle.ir_text_roundtrip.specs.KeptAttributes.{suits, begins_digit, suits_digits, is_negative_by, is_negative_from, is_word_text, is_text_behind, is_text_from, is_attr_text}
 use Rattle.ir_text_roundtrip.specs.Written.{FitsType}
 use Rattle.ir_text_roundtrip.specs.WrittenAttributes.{EndsAttr}
@@ -326,10 +326,6 @@ literal_again negative digits text ty rest is f fit s = subst (λ u. FitsTail 32
 
 -- ---- attributes
 
-not_so : (b : Bool) → not b ≡ true → b ≡ false
-not_so true e = absurd cc
-not_so false e = refl
-
 pub kept_read : (depth : ℕ) (text : List ℕ) (ty : Option TypeTerm) (rest : List ℕ) → suc depth ≤ 32 → is_attr_text text ty ≡ true → FitsTail (suc depth) ty → EndsAttr true rest → Begins true depth (OpaqueOf text ty) (attr_text (OpaqueOf text ty) ++ rest) rest
 unfolding is_attr_text
 kept_read depth text ty rest small e fit s = rw (text_apart text ty rest) (by (next text) refl e)
@@ -408,7 +404,7 @@ kept_read depth text ty rest small e fit s = rw (text_apart text ty rest) (by (n
         let p = and_parts (not (bytes_eq n overflow_word)) (is_all text (dialect_text 35 n q)) k in
         let g = hash_again n q text back (behind_follows ty rest s) (all_of text (dialect_text 35 n q) p.1) in
         let here : IsKept true (suc depth) TypeOrNone (dialect_text 35 n g.0) (OpaqueOf text ty) rest = ((text, back), g.2, tail TypeOrNone refl) in
-        (hash n, g.0, ap next g.1 ∙ hash_token n g.0 (next_whole text q (hash n) m).0 g.3, inr (not_so (bytes_eq n overflow_word) p.0, (refl, here)))
+        (hash n, g.0, ap next g.1 ∙ hash_token n g.0 (next_whole text q (hash n) m).0 g.3, inr (not-true (bytes_eq n overflow_word) p.0, (refl, here)))
     by_token (string raw) q m k =
         let p = and_parts (suits SomeType ty) (is_all text (Some (quoted_text raw, q))) k in
         let is = some_pair_parts (quoted_text raw) text q [] (all_of text (Some (quoted_text raw, q)) p.1) in

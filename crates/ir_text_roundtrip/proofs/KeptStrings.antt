@@ -5,7 +5,8 @@ use Rattle.std.proofs.lemmas.List.{take-append-le, drop-append-le}
 use Rattle.std.proofs.lemmas.Option.{some_pair_parts}
 use Rattle.ir_text_tokens.specs.Bytes.{is_hex, is_line_end}
 use Rattle.ir_text_tokens.specs.Strings.{closing, closing_escape, closing_digit, is_short}
-use Rattle.ir_text_tokens.specs.Tokens.{Lexeme, string, next, skip, string_at}
+use Rattle.ir_text_tokens.specs.Tokens.{Lexeme, string, next, string_at}
+use Rattle.ir_text_tokens.proofs.Facts.{string_token}
 use Rattle.ir_text_attributes.specs.OpaqueAttributes.{quoted_text}
 use Rattle.ir_text_bodies.specs.Bodies.{string_len}
 use Rattle.ir_text_bodies.proofs.Kept.{string_within}
@@ -54,11 +55,6 @@ mutual
 
 -- ---- strings behind their quote
 
-quote_begins : (bs : List ℕ) → next (34 ∷ bs) ≡ string_at string bs
-unfolding next skip
-quote_begins [] = refl
-quote_begins (c ∷ cs) = refl
-
 abbrev parts : List ℕ → Option ℕ → Option (List ℕ × List ℕ)
 parts bs o = option_map (λ n. (take n bs, drop (n + 1) bs)) o
 
@@ -86,4 +82,4 @@ again bs raw back (Some n) k e =
 pub string_again : (raw back : List ℕ) → next (quoted_text raw) ≡ Some (string raw, []) → next (quoted_text raw ++ back) ≡ Some (string raw, back)
 string_again raw back e =
     let bs = raw ++ 34 ∷ [] in
-    quote_begins (bs ++ back) ∙ again bs raw back (closing bs) refl (sym (quote_begins bs) ∙ e)
+    string_token (bs ++ back) ∙ again bs raw back (closing bs) refl (sym (string_token bs) ∙ e)

@@ -1,5 +1,5 @@
 -- What stands in front of the operations of a block is read again.
-use Rattle.std.proofs.Common.{◌≡◌, ℕ, ◌+◌, ◌^◌, ◌<◌, ◌≤◌, true, false, List, [], ◌∷◌, ◌++◌, length, Option, Some, None, refl, ap, subst, ◌∙◌, append_assoc, arith, inl, inr, ⊎_elim}
+use Rattle.std.proofs.Common.{◌≡◌, ℕ, ◌+◌, ◌^◌, ◌<◌, ◌≤◌, Bool, true, false, List, [], ◌∷◌, ◌++◌, length, Option, Some, None, refl, ap, subst, ◌∙◌, append_assoc, arith, inl, inr, ⊎_elim}
 use Rattle.std.specs.Prelude.{codes, ◌==◌, ◌&&◌, nat_lt}
 use Rattle.std.specs.Fmt.{decimal}
 use Rattle.std.specs.List.{AllByRecursion}
@@ -32,17 +32,17 @@ use Rattle.ir_text_roundtrip.proofs.Blocks.{AreBlank, blanks_passed, mark_seen, 
 use Rattle.std.proofs.lemmas.Bool.{and_parts}
 
 -- a token with which an operation may begin: no label and no mark
-pub record Plain (bytes : List ℕ) : Type 0 where
+pub record Plain (o : Bool) (bytes : List ℕ) : Type 0 where
   pub lexeme : Lexeme
   pub behind : List ℕ
   pub token : Token lexeme bytes behind
-  pub no_label : (id r : ℕ) (s : Seen) → IsHeadFrom false id r lexeme behind None s s
+  pub no_label : (id r : ℕ) (s : Seen) → IsHeadFrom o id r lexeme behind None s s
   pub no_mark : (m : Mark) → lexeme ≡ mark m → ⊥
 
 -- the first operation begins so, where there is one
-abbrev pub PlainFirst : Ops → List ℕ → Type 0
-PlainFirst no_ops bytes = Unit {0}
-PlainFirst (next t ts) bytes = Plain bytes
+abbrev pub PlainFirst : Bool → Ops → List ℕ → Type 0
+PlainFirst o no_ops bytes = Unit {0}
+PlainFirst o (next t ts) bytes = Plain o bytes
 
 pub lists_back : (os : Ops) → ops_of (op_list os) ≡ os
 lists_back no_ops = refl
@@ -52,8 +52,8 @@ no_shown : (v : Value) (x r : ℕ) → shows v (arguments x r 0) ≡ true → �
 no_shown (Result y k) x r e = absurd cc
 no_shown (Arg y s k) x r e = let q = and_parts (s == r) (nat_lt k 0) (and_parts (y == x) ((s == r) && nat_lt k 0) e).1 in let lt : k < 0 = grind (arith, nat_tests) in omega (arith, lt)
 
-pub joined_no_arguments : (f : ℕ → ℕ) (scope : List Frame) (n : Names) (here : Here) (x r : ℕ) → Joined f scope n here → Joined f (scope ++ arguments x r 0 ∷ []) n here
-joined_no_arguments f scope n here x r j = record {
+pub joined_no_arguments : (o : Bool) (f : ℕ → ℕ) (scope : List Frame) (n : Names) (here : Here) (x r : ℕ) → Joined o f scope n here → Joined o f (scope ++ arguments x r 0 ∷ []) n here
+joined_no_arguments o f scope n here x r j = record {
   seen = λ v e. ⊎_elim (λ (k : in_scope scope v ≡ true). j.seen v k) (λ (k : shows v (arguments x r 0) ≡ true). absurd (no_shown v x r k)) (in_last scope (arguments x r 0) v e);
   fresh = j.fresh;
   fresh_arguments = j.fresh_arguments;
@@ -68,19 +68,19 @@ argument_begins m t rest lt =
 abbrev block_word : List ℕ
 block_word = codes "bb0"
 
-module _ (f : ℕ → ℕ) (scope : List Frame) (x r : ℕ) (away : (v : Value) → in_scope scope v ≡ true → (source_id (source_of v) == x) ≡ false) where
+module _ (o : Bool) (f : ℕ → ℕ) (scope : List Frame) (x r : ℕ) (away : (v : Value) → in_scope scope v ≡ true → (source_id (source_of v) == x) ≡ false) where
   pub record LabelRead (args : List TypeTerm) (os : Ops) (n : Names) (s : Seen) (rest : List ℕ) : Type 0 where
     pub front : Option (List TypeTerm)
     pub now : Seen
-    pub reads : IsHead false (f x) r front s now
+    pub reads : IsHead o (f x) r front s now
     pub text : next_token now.bytes ≡ next_token rest
-    pub joined : Joined f (scope ++ arguments x r (length args) ∷ []) (arguments_names x r 0 args n) now.scopes.here
+    pub joined : Joined o f (scope ++ arguments x r (length args) ∷ []) (arguments_names x r 0 args n) now.scopes.here
     pub outer : now.scopes.outer ≡ s.scopes.outer
     pub same : now.next ≡ s.next
     pub made : region_of front (op_list (ops_with_ids f os)) ≡ block args (ops_with_ids f os)
 
-  pub label_again : (margin : List ℕ) (args : List TypeTerm) (os : Ops) (n : Names) (s : Seen) (rest : List ℕ) → AreBlank margin → Joined f scope n s.scopes.here → n.arguments + length args < 2 ^ 128 → AllByRecursion (FitsType false 32) args → length args ≤ 256
-      → next_token s.bytes ≡ next_token (label_then margin args os n rest) → PlainFirst os rest → LabelRead args os n s rest
+  pub label_again : (margin : List ℕ) (args : List TypeTerm) (os : Ops) (n : Names) (s : Seen) (rest : List ℕ) → AreBlank margin → Joined o f scope n s.scopes.here → n.arguments + length args < 2 ^ 128 → AllByRecursion (FitsType o 32) args → length args ≤ 256
+      → next_token s.bytes ≡ next_token (label_then margin args os n rest) → PlainFirst o os rest → LabelRead args os n s rest
   unfolding IsList
   label_again margin [] no_ops n s rest blank j small fit few e plain =
       let first = e ∙ blanks_passed margin (94 ∷ (block_word ++ 58 ∷ 10 ∷ rest)) blank ∙ label_token block_word (58 ∷ 10 ∷ rest) refl refl in
@@ -92,7 +92,7 @@ module _ (f : ℕ → ℕ) (scope : List Frame) (x r : ℕ) (away : (v : Value) 
         now = seen_rest s (10 ∷ rest);
         reads = (label block_word, 58 ∷ 10 ∷ rest, first, ([], ([], behind, inr (lacks, (refl, refl)), (seen_rest s (10 ∷ rest), mark_seen Colon behind (10 ∷ rest) colon, (refl, refl))), refl));
         text = blank_passed 10 rest refl;
-        joined = joined_no_arguments f scope n s.scopes.here x r j;
+        joined = joined_no_arguments o f scope n s.scopes.here x r j;
         outer = refl;
         same = refl;
         made = refl;
@@ -102,7 +102,7 @@ module _ (f : ℕ → ℕ) (scope : List Frame) (x r : ℕ) (away : (v : Value) 
     now = s;
     reads = (plain.lexeme, plain.behind, e ∙ plain.token, plain.no_label (f x) r s);
     text = e;
-    joined = joined_no_arguments f scope n s.scopes.here x r j;
+    joined = joined_no_arguments o f scope n s.scopes.here x r j;
     outer = refl;
     same = refl;
     made = ap (λ (o : Ops). block [] (next (with_ids f t) o)) (lists_back (ops_with_ids f ts));
@@ -113,7 +113,7 @@ module _ (f : ℕ → ℕ) (scope : List Frame) (x r : ℕ) (away : (v : Value) 
       let first = e ∙ blanks_passed margin (94 ∷ (block_word ++ 40 ∷ inside)) blank ∙ label_token block_word (40 ∷ inside) refl refl in
       let behind = seen_rest s (40 ∷ inside) in
       let opened = seen_rest s inside in
-      let more = arguments_more f scope x r away 256 [] t ts n opened (58 ∷ 10 ∷ rest) (joined_no_arguments f scope n s.scopes.here x r j) small fit few refl in
+      let more = arguments_more o f scope x r away 256 [] t ts n opened (58 ∷ 10 ∷ rest) (joined_no_arguments o f scope n s.scopes.here x r j) small fit few refl in
       let done : Seen = record { bytes = 58 ∷ 10 ∷ rest; scopes = more.scopes; next = s.next } in
       let lacks = not_seen CloseRound opened (argument_begins n.arguments t (arguments_then (0 + 1) ts (n.arguments + 1) last) (omega (arith, small))) in
       let count : 0 + length (t ∷ ts) ≡ length (t ∷ ts) = omega arith in
@@ -122,7 +122,7 @@ module _ (f : ℕ → ℕ) (scope : List Frame) (x r : ℕ) (away : (v : Value) 
         now = seen_rest done (10 ∷ rest);
         reads = (label block_word, 40 ∷ inside, first, (t ∷ ts, (t ∷ ts, done, inl (opened, mark_seen OpenRound behind inside (mark_token OpenRound inside tt), inr (lacks, more.reads)), (seen_rest done (10 ∷ rest), mark_seen Colon done (10 ∷ rest) (mark_token Colon (10 ∷ rest) refl), (refl, refl))), refl));
         text = blank_passed 10 rest refl;
-        joined = subst (λ (i : ℕ). Joined f (scope ++ arguments x r i ∷ []) (arguments_names x r 0 (t ∷ ts) n) more.scopes.here) count more.joined;
+        joined = subst (λ (i : ℕ). Joined o f (scope ++ arguments x r i ∷ []) (arguments_names x r 0 (t ∷ ts) n) more.scopes.here) count more.joined;
         outer = more.outer;
         same = refl;
         made = ap (block (t ∷ ts)) (lists_back (ops_with_ids f os));

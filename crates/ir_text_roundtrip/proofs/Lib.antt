@@ -9,6 +9,7 @@ pub mod Kept
 pub mod Known
 pub mod Passed
 pub mod Types
+pub mod ReadTypes
 pub mod TypeWords
 pub mod Values
 pub mod Ends
@@ -41,4 +42,9 @@ pub mod Whole
 pub mod Numbered
 pub mod Writable
 pub mod Ascii
+pub mod AsciiRows
+pub mod AsciiTerms
+pub mod Encoded
 pub mod Modules
+pub mod OneTree
+pub mod AsItComes

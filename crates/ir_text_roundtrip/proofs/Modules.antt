@@ -1,5 +1,5 @@
 -- The text of a module spells it, with its ids in pre-order.
-use Rattle.std.proofs.Common.{◌≡◌, ℕ, true, false, List, [], ◌∷◌, ◌++◌, ◌≤◌, map, length, ap, subst, ◌∙◌, arith, inl}
+use Rattle.std.proofs.Common.{◌≡◌, ℕ, Bool, true, List, [], ◌∷◌, ◌++◌, ◌≤◌, map, length, ap, subst, ◌∙◌, arith, inl}
 use Rattle.std.specs.Prelude.{◌==◌, ◌&&◌}
 use Rattle.std.specs.Str.{bytes_eq}
 use Rattle.std.proofs.lemmas.Bool.{eqb-true, and_parts}
@@ -25,7 +25,7 @@ use Rattle.ir_tree_laws.proofs.RenumberedFixed.{renumbered_stays}
 use Rattle.ir_tree_laws.proofs.RenumberedForm.{formed_renumbered}
 use Rattle.ir_tree_laws.proofs.RenumberedSame.{numbered, every_with, rise_with}
 use Rattle.ir_text_roundtrip.specs.WrittenTrees.{IsWritable}
-use Rattle.ir_text_roundtrip.proofs.Ascii.{text_is_within}
+use Rattle.ir_text_roundtrip.proofs.Encoded.{text_is_within}
 use Rattle.ir_text_roundtrip.proofs.Texts.{Head, names_of, results_then, name_then, results_names, op_names, regions_then, tail_then}
 use Rattle.ir_text_roundtrip.proofs.Numbered.{places_run, numbered_distinct}
 use Rattle.ir_text_roundtrip.proofs.Whole.{whole_text, single_again}
@@ -42,8 +42,8 @@ begins_head m [] h named rest none table bytes =
 begins_head m (t ∷ ts) h named rest none table bytes = absurd (omega (arith, eqb-true (length (t ∷ ts)) 0 none))
 
 -- the text of a module begins with its name
-begins_so : (t : Operation) → is_root t ≡ true → IsWritable t → begins_module (text_of t) ≡ true
-begins_so (op h rs) root w =
+begins_so : (o : Bool) (t : Operation) → is_root t ≡ true → IsWritable o t → begins_module (text_of t) ≡ true
+begins_so o (op h rs) root w =
     let a = and_parts (is_table h.name) (length h.operands == 0 && length h.results == 0) root in
     let b = and_parts (length h.operands == 0) (length h.results == 0) a.1 in
     let n = results_names h.id h.results (names_of blank) in
@@ -56,23 +56,23 @@ root_with f (op h rs) = ap (λ (n : ℕ). is_table h.name && (n == 0 && length h
 
 -- ---- modules
 
-explicit : (f : ℕ → ℕ) (t : Operation) → is_root t ≡ true → IsWritable t → IsSingleOp false no_names 1048576 0 (text_of t) (with_ids f t) → IsExplicit false (text_of t) (with_ids f t)
+explicit : (o : Bool) (f : ℕ → ℕ) (t : Operation) → is_root t ≡ true → IsWritable o t → IsSingleOp o no_names 1048576 0 (text_of t) (with_ids f t) → IsExplicit o (text_of t) (with_ids f t)
 unfolding IsExplicit IsSingleOp
-explicit f t root w single = (begins_so t root w, single, root_with f t ∙ root)
+explicit o f t root w single = (begins_so o t root w, single, root_with f t ∙ root)
 
-pub module_again : (t : Operation) → IsFormed is_isolated t → HasDistinctIds t → is_root t ≡ true → IsWritable t → length (text_of t) ≤ most_bytes → Spells false (text_of t) (renumbered t)
-module_again t formed distinct root w few =
+pub module_again : (o : Bool) (t : Operation) → IsFormed is_isolated t → HasDistinctIds t → is_root t ≡ true → IsWritable o t → length (text_of t) ≤ most_bytes → Spells o (text_of t) (renumbered t)
+module_again o t formed distinct root w few =
     let f = place_in (ids t) in
     let test = dictionaries_rise key_before in
-    let single = single_again f t (fits t formed.counts w) formed.visible (places_run (ids t) distinct) distinct formed.shallow (few_ops t formed.counts) in
+    let single = single_again o f t (fits o t formed.counts w) formed.visible (places_run (ids t) distinct) distinct formed.shallow (few_ops t formed.counts) in
     record {
-      text = text_is_within t w few;
-      spelled = inl (explicit f t root w single);
+      text = text_is_within o t w few;
+      spelled = inl (explicit o f t root w single);
       formed = formed_renumbered is_isolated t formed;
       numbered = numbered t distinct;
-      sorted = every_with f test test (rise_with f key_before) t ∙ sorted_op t w;
+      sorted = every_with f test test (rise_with f key_before) t ∙ sorted_op o t w;
     }
 
 -- a module whose ids are in order is spelled as it is
-pub numbered_again : (t : Operation) → IsFormed is_isolated t → IsNumberedFrom 0 t → is_root t ≡ true → IsWritable t → length (text_of t) ≤ most_bytes → Spells false (text_of t) t
-numbered_again t formed e root w few = subst (Spells false (text_of t)) (renumbered_stays is_isolated t formed e) (module_again t formed (numbered_distinct 0 t e) root w few)
+pub numbered_again : (o : Bool) (t : Operation) → IsFormed is_isolated t → IsNumberedFrom 0 t → is_root t ≡ true → IsWritable o t → length (text_of t) ≤ most_bytes → Spells o (text_of t) t
+numbered_again o t formed e root w few = subst (Spells o (text_of t)) (renumbered_stays is_isolated t formed e) (module_again o t formed (numbered_distinct 0 t e) root w few)

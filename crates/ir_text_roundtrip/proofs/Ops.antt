@@ -66,21 +66,21 @@ shown_away : (v : Value) (x r n : ℕ) (xs : List ℕ) → AllByRecursion (λ y.
 shown_away (Result y k) x r n xs h e = absurd cc
 shown_away (Arg y s k) x r n xs h e = subst (λ (u : ℕ). Away (source_of (Arg u s k)) xs) (sym (eqb-true y x (and_parts (y == x) ((s == r) && nat_lt k n) e).0)) h
 
-pub op_plain : (margin : List ℕ) (t : Operation) (n : Names) (rest : List ℕ) → FitsOp t → n.results < 2 ^ 128 → Plain (op_then margin t n rest)
-op_plain margin (op h rs) n rest fit lt = plain_head n.results h.results h (results_names h.id h.results n).named _ fit.0 lt fit.0.results
+pub op_plain : (o : Bool) (margin : List ℕ) (t : Operation) (n : Names) (rest : List ℕ) → FitsOp o t → n.results < 2 ^ 128 → Plain o (op_then margin t n rest)
+op_plain o margin (op h rs) n rest fit lt = plain_head o n.results h.results h (results_names h.id h.results n).named _ fit.0 lt fit.0.results
 
-first_plain : (margin : List ℕ) (os : Ops) (n : Names) (rest : List ℕ) → AreBlank margin → FitsOps os → n.results < 2 ^ 128 → PlainFirst os (ops_then margin os n rest)
-first_plain margin no_ops n rest blank fit lt = tt
-first_plain margin (next t ts) n rest blank fit lt =
+first_plain : (o : Bool) (margin : List ℕ) (os : Ops) (n : Names) (rest : List ℕ) → AreBlank margin → FitsOps o os → n.results < 2 ^ 128 → PlainFirst o os (ops_then margin os n rest)
+first_plain o margin no_ops n rest blank fit lt = tt
+first_plain o margin (next t ts) n rest blank fit lt =
     let behind = ops_then margin ts (op_names t n) rest in
-    let p = op_plain margin t n behind fit.0 lt in
+    let p = op_plain o margin t n behind fit.0 lt in
     record { lexeme = p.lexeme; behind = p.behind; token = blanks_passed margin (op_then margin t n behind) blank ∙ p.token; no_label = p.no_label; no_mark = p.no_mark }
 
 -- ---- operations
 
-module _ (f : ℕ → ℕ) (last : ℕ) where
+module _ (o : Bool) (f : ℕ → ℕ) (last : ℕ) where
   abbrev One : ℕ → Grammar Seen Operation
-  One d = IsOp false no_names last d
+  One d = IsOp o no_names last d
 
   abbrev Row : ℕ → Grammar Seen (List Operation)
   Row d = IsOps CloseCurly (One d) 1048576 []
@@ -88,22 +88,22 @@ module _ (f : ℕ → ℕ) (last : ℕ) where
   -- an operation that is read with its new id
   pub record OpRead (d : ℕ) (scope : List Frame) (t : Operation) (n : Names) (s : Seen) (rest : List ℕ) : Type 0 where
     pub scopes : Scopes PackTerm
-    pub reads : IsOp false no_names last d (with_ids f t) s (record { bytes = 10 ∷ rest; scopes = scopes; next = s.next + length (ids t) })
-    pub joined : Joined f (scope ++ results_of t ∷ []) (op_names t n) scopes.here
+    pub reads : IsOp o no_names last d (with_ids f t) s (record { bytes = 10 ∷ rest; scopes = scopes; next = s.next + length (ids t) })
+    pub joined : Joined o f (scope ++ results_of t ∷ []) (op_names t n) scopes.here
     pub outer : scopes.outer ≡ s.scopes.outer
 
   pub record OpsRead (d room : ℕ) (front : List Operation) (os : Ops) (s : Seen) (rest : List ℕ) : Type 0 where
     pub scopes : Scopes PackTerm
-    pub reads : IsOps CloseCurly (IsOp false no_names last d) room front (front ++ op_list (ops_with_ids f os)) s (record { bytes = rest; scopes = scopes; next = s.next + length (ops_ids os) })
+    pub reads : IsOps CloseCurly (IsOp o no_names last d) room front (front ++ op_list (ops_with_ids f os)) s (record { bytes = rest; scopes = scopes; next = s.next + length (ops_ids os) })
     pub outer : scopes.outer ≡ s.scopes.outer
 
   -- that one operation is read, as a premise
   abbrev pub ReadsOp : ℕ → Operation → Type 0
-  ReadsOp d t = (margin : List ℕ) (scope : List Frame) (n : Names) (s : Seen) (rest : List ℕ) → AreBlank margin → FitsOp t → SeesOp scope t → depth t < d → Fresh f last scope n s.next 0 (ids t) → Joined f scope n s.scopes.here → next_token s.bytes ≡ next_token (op_then margin t n rest) → OpRead d scope t n s rest
+  ReadsOp d t = (margin : List ℕ) (scope : List Frame) (n : Names) (s : Seen) (rest : List ℕ) → AreBlank margin → FitsOp o t → SeesOp scope t → depth t < d → Fresh f last scope n s.next 0 (ids t) → Joined o f scope n s.scopes.here → next_token s.bytes ≡ next_token (op_then margin t n rest) → OpRead d scope t n s rest
 
   -- that a row is read, as a premise
   abbrev pub ReadsOps : ℕ → Ops → Type 0
-  ReadsOps d os = (room : ℕ) (front : List Operation) (margin close : List ℕ) (rest : List ℕ) (scope : List Frame) (n : Names) (s : Seen) → AreBlank margin → FitsOps os → SeesOps scope os → ops_depth os ≤ d → length (ops_ids os) < room → Fresh f last scope n s.next 0 (ops_ids os) → Joined f scope n s.scopes.here
+  ReadsOps d os = (room : ℕ) (front : List Operation) (margin close : List ℕ) (rest : List ℕ) (scope : List Frame) (n : Names) (s : Seen) → AreBlank margin → FitsOps o os → SeesOps scope os → ops_depth os ≤ d → length (ops_ids os) < room → Fresh f last scope n s.next 0 (ops_ids os) → Joined o f scope n s.scopes.here
       → Token (mark CloseCurly) close rest → next_token s.bytes ≡ next_token (ops_then margin os n close) → OpsRead d room front os s rest
 
   nothing_more : (front : List Operation) → front ++ [] ≡ front
@@ -139,9 +139,9 @@ module _ (f : ℕ → ℕ) (last : ℕ) where
       (in_last scope (results_of t) v i) in
       let one = first margin scope n s behind blank fit.0 sees.0 (omega (arith, deep)) (fresh_front f last scope n s.next 0 0 (ids t) (ops_ids ts) fresh (omega arith)) j here in
       let mid : Seen = record { bytes = 10 ∷ behind; scopes = one.scopes; next = s.next + length (ids t) } in
-      let fresh_more = fresh_back f last scope (scope ++ results_of t ∷ []) n m s.next 0 0 (4096 * length (ids t)) (ids t) (ops_ids ts) fresh (grown_op t n fit.0) (omega arith) away in
+      let fresh_more = fresh_back f last scope (scope ++ results_of t ∷ []) n m s.next 0 0 (4096 * length (ids t)) (ids t) (ops_ids ts) fresh (grown_op o t n fit.0) (omega arith) away in
       let more = others room (front ++ with_ids f t ∷ []) margin close rest (scope ++ results_of t ∷ []) m mid blank fit.1 sees.1 (omega (arith, deep)) (omega (arith, few, count, some_id t)) fresh_more one.joined closed (blank_passed 10 behind refl) in
-      let plain = op_plain margin t n behind fit.0 (omega (arith, fresh.few_results)) in
+      let plain = op_plain o margin t n behind fit.0 (omega (arith, fresh.few_results)) in
       let lacks = not_seen CloseCurly s (lacks_token plain.lexeme CloseCurly s.bytes plain.behind (here ∙ plain.token) (plain.no_mark CloseCurly)) in
       let ys = front ++ op_list (ops_with_ids f (next t ts)) in
       let all : (front ++ with_ids f t ∷ []) ++ op_list (ops_with_ids f ts) ≡ ys = append_assoc front (with_ids f t ∷ []) (op_list (ops_with_ids f ts)) in
@@ -162,8 +162,8 @@ module _ (f : ℕ → ℕ) (last : ℕ) where
 
   -- that a region is read, as a premise
   abbrev pub ReadsRegion : ℕ → Region → Type 0
-  ReadsRegion d g = (margin : List ℕ) (isolated : Bool) (scope : List Frame) (x r : ℕ) (front : List RegionTerm) (n : Names) (s : Seen) (rest : List ℕ) → AreBlank margin → FitsRegion g → SeesRegion scope x r g → region_depth g ≤ d → length (region_ids g) < 1048576 → length front ≡ r → Fresh f last scope n s.next 256 (region_ids g) → AllByRecursion (λ y. (x == y) ≡ false) (region_ids g) → ((v : Value) → in_scope scope v ≡ true → (source_id (source_of v) == x) ≡ false)
-      → Joined f scope n (if isolated then [] else s.scopes.here) → next_token s.bytes ≡ next_token (region_then margin x r g n rest) → IsRegion false (Row d) (f x) isolated front (region_with_ids f g) s (behind s rest (length (region_ids g)))
+  ReadsRegion d g = (margin : List ℕ) (isolated : Bool) (scope : List Frame) (x r : ℕ) (front : List RegionTerm) (n : Names) (s : Seen) (rest : List ℕ) → AreBlank margin → FitsRegion o g → SeesRegion scope x r g → region_depth g ≤ d → length (region_ids g) < 1048576 → length front ≡ r → Fresh f last scope n s.next 256 (region_ids g) → AllByRecursion (λ y. (x == y) ≡ false) (region_ids g) → ((v : Value) → in_scope scope v ≡ true → (source_id (source_of v) == x) ≡ false)
+      → Joined o f scope n (if isolated then [] else s.scopes.here) → next_token s.bytes ≡ next_token (region_then margin x r g n rest) → IsRegion o (Row d) (f x) isolated front (region_with_ids f g) s (behind s rest (length (region_ids g)))
 
   pub empty_read : (d : ℕ) → ReadsRegion d empty
   empty_read d margin isolated scope x r front n s rest blank fit sees deep few place fresh own apart j e =
@@ -189,7 +189,7 @@ module _ (f : ℕ → ℕ) (last : ℕ) where
       let opened = seen_rest s text in
       let within = seen_inside isolated opened in
       let named = grown_arguments x r 0 args n in
-      let label = label_again f scope x r apart margin args os n within inner blank j (omega (arith, fresh.few_arguments, fit.0)) fit.1 fit.0 (blank_passed 10 (label_then margin args os n inner) refl) (first_plain far os m close wide fit.2 (omega (arith, fresh.few_results, named.few_results))) in
+      let label = label_again o f scope x r apart margin args os n within inner blank j (omega (arith, fresh.few_arguments, fit.0)) fit.1 fit.0 (blank_passed 10 (label_then margin args os n inner) refl) (first_plain o far os m close wide fit.2 (omega (arith, fresh.few_results, named.few_results))) in
       let sight = scope ++ arguments x r (length args) ∷ [] in
       let fresh_ops : Fresh f last sight m s.next 0 (ops_ids os) = record {
         runs = fresh.runs;
@@ -205,13 +205,13 @@ module _ (f : ℕ → ℕ) (last : ℕ) where
       let state : behind s rest (length (ops_ids os)) ≡ seen_outside ended =
       ap (λ (l : Scopes PackTerm). record { bytes = rest; scopes = l; next = s.next + length (ops_ids os) }) (sym scopes_back)
       ∙ ap (λ (i : ℕ). record { bytes = rest; scopes = left row.scopes; next = i + length (ops_ids os) }) (sym label.same) in
-      (opened, mark_seen OpenCurly s text (e ∙ mark_token OpenCurly text tt), (label.front, label.now, subst (λ (i : ℕ). IsHead false (f x) i label.front within label.now) (sym place) label.reads, (op_list (ops_with_ids f os), ended, row.reads, (sym label.made, state))))
+      (opened, mark_seen OpenCurly s text (e ∙ mark_token OpenCurly text tt), (label.front, label.now, subst (λ (i : ℕ). IsHead o (f x) i label.front within label.now) (sym place) label.reads, (op_list (ops_with_ids f os), ended, row.reads, (sym label.made, state))))
 
   -- that regions are read up to the closing parenthesis, as a premise
   abbrev pub ReadsRegions : ℕ → Region → Regions → Type 0
-  ReadsRegions d g rs = (room : ℕ) (margin : List ℕ) (isolated : Bool) (scope : List Frame) (x r : ℕ) (front : List RegionTerm) (n : Names) (s : Seen) (rest : List ℕ) → AreBlank margin → FitsRegions (region g rs) → SeesRegions scope x r (region g rs) → regions_depth (region g rs) ≤ d → length (regions_ids (region g rs)) < 1048576 → region_count (region g rs) ≤ room → length front ≡ r → Fresh f last scope n s.next (256 * region_count (region g rs)) (regions_ids (region g rs)) → AllByRecursion (λ y. (x == y) ≡ false) (regions_ids (region g rs)) → ((v : Value) → in_scope scope v ≡ true → (source_id (source_of v) == x) ≡ false)
-      → Joined f scope n (if isolated then [] else s.scopes.here) → next_token s.bytes ≡ next_token (region_then margin x r g n (regions_then margin x (r + 1) rs (region_names x r g n) (41 ∷ rest)))
-      → IsMore IsMarkSeen CloseRound (IsRegion false (Row d) (f x) isolated) room front (front ++ region_list (regions_with_ids f (region g rs))) s (behind s rest (length (regions_ids (region g rs))))
+  ReadsRegions d g rs = (room : ℕ) (margin : List ℕ) (isolated : Bool) (scope : List Frame) (x r : ℕ) (front : List RegionTerm) (n : Names) (s : Seen) (rest : List ℕ) → AreBlank margin → FitsRegions o (region g rs) → SeesRegions scope x r (region g rs) → regions_depth (region g rs) ≤ d → length (regions_ids (region g rs)) < 1048576 → region_count (region g rs) ≤ room → length front ≡ r → Fresh f last scope n s.next (256 * region_count (region g rs)) (regions_ids (region g rs)) → AllByRecursion (λ y. (x == y) ≡ false) (regions_ids (region g rs)) → ((v : Value) → in_scope scope v ≡ true → (source_id (source_of v) == x) ≡ false)
+      → Joined o f scope n (if isolated then [] else s.scopes.here) → next_token s.bytes ≡ next_token (region_then margin x r g n (regions_then margin x (r + 1) rs (region_names x r g n) (41 ∷ rest)))
+      → IsMore IsMarkSeen CloseRound (IsRegion o (Row d) (f x) isolated) room front (front ++ region_list (regions_with_ids f (region g rs))) s (behind s rest (length (regions_ids (region g rs))))
 
   pub last_read : (d : ℕ) (g : Region) → ReadsRegion d g → ReadsRegions d g no_regions
   last_read d g one zero margin isolated scope x r front n s rest blank fit sees deep few count place fresh own apart j e = absurd (omega (arith, count))
@@ -221,8 +221,8 @@ module _ (f : ℕ → ℕ) (last : ℕ) where
       let fresh_one = fresh_front f last scope n s.next (256 * region_count (region g no_regions)) 256 (region_ids g) [] fresh (omega arith) in
       let read = one margin isolated scope x r front n s (41 ∷ rest) blank fit.0 sees.0 (omega (arith, deep)) (omega (arith, few, same)) place fresh_one (all_front _ (region_ids g) [] own) apart j e in
       let mid = behind s (41 ∷ rest) (length (region_ids g)) in
-      subst (λ (i : ℕ). IsMore IsMarkSeen CloseRound (IsRegion false (Row d) (f x) isolated) (suc room) front (front ++ region_with_ids f g ∷ []) s (behind s rest i)) same
-      (more_last (IsRegion false (Row d) (f x) isolated) room front (region_with_ids f g) s mid (seen_rest mid rest) read (mark_seen CloseRound mid rest (mark_token CloseRound rest tt)))
+      subst (λ (i : ℕ). IsMore IsMarkSeen CloseRound (IsRegion o (Row d) (f x) isolated) (suc room) front (front ++ region_with_ids f g ∷ []) s (behind s rest i)) same
+      (more_last (IsRegion o (Row d) (f x) isolated) room front (region_with_ids f g) s mid (seen_rest mid rest) read (mark_seen CloseRound mid rest (mark_token CloseRound rest tt)))
 
   pub further_read : (d : ℕ) (g k : Region) (rs : Regions) → ReadsRegion d g → ReadsRegions d k rs → ReadsRegions d g (region k rs)
   further_read d g k rs one others zero margin isolated scope x r front n s rest blank fit sees deep few count place fresh own apart j e = absurd (omega (arith, count))
@@ -238,19 +238,19 @@ module _ (f : ℕ → ℕ) (last : ℕ) where
       let read = one margin isolated scope x r front n s (44 ∷ 32 ∷ ahead) blank fit.0 sees.0 (omega (arith, deep)) (omega (arith, few, sum)) place fresh_one (all_front _ (region_ids g) tail own) apart j here in
       let mid = behind s (44 ∷ 32 ∷ ahead) (length (region_ids g)) in
       let after = seen_rest mid (32 ∷ ahead) in
-      let grown = grown_region x r g n fit.0 in
+      let grown = grown_region o x r g n fit.0 in
       let fresh_more = fresh_back f last scope scope n m s.next (256 * region_count (region g (region k rs))) (256 * region_count (region k rs)) (256 + 4096 * length (region_ids g)) (region_ids g) tail fresh grown (omega arith) (λ v i. all_back _ (region_ids g) tail (fresh.away v i)) in
       let keep : (v : Value) → in_scope scope v ≡ true → naming_of m.named v ≡ naming_of n.named v = λ v i. region_keeps (source_of v) x r g n (λ q a. argument_away (source_of v) x q a (apart v i)) (all_front _ (region_ids g) tail (fresh.away v i)) in
-      let joined = joined_later f scope n m (if isolated then [] else s.scopes.here) j keep grown.results grown.arguments in
+      let joined = joined_later o f scope n m (if isolated then [] else s.scopes.here) j keep grown.results grown.arguments in
       let front' = front ++ region_with_ids f g ∷ [] in
       let placed : length front' ≡ r + 1 = length-append front (region_with_ids f g ∷ []) ∙ omega (arith, place) in
       let more = others room margin isolated scope x (r + 1) front' m after rest blank fit.1 sees.1 (omega (arith, deep)) (omega (arith, few, sum)) (omega (arith, count)) placed fresh_more (all_back _ (region_ids g) tail own) apart joined (blank_passed 32 ahead refl) in
       let open_yet = not_seen CloseRound mid (lacks_token (mark Comma) CloseRound (44 ∷ 32 ∷ ahead) (32 ∷ ahead) (mark_token Comma (32 ∷ ahead) tt) (λ e. absurd cc)) in
       let all : front' ++ region_list (regions_with_ids f (region k rs)) ≡ front ++ region_list (regions_with_ids f (region g (region k rs))) = append_assoc front (region_with_ids f g ∷ []) (region_list (regions_with_ids f (region k rs))) in
       let total : s.next + length (region_ids g) + length tail ≡ s.next + length (regions_ids (region g (region k rs))) = omega (arith, sum) in
-      let whole = more_one (IsRegion false (Row d) (f x) isolated) room front _ (region_with_ids f g) s mid after _ read open_yet (mark_seen Comma mid (32 ∷ ahead) (mark_token Comma (32 ∷ ahead) tt)) more in
-      subst (λ l. IsMore IsMarkSeen CloseRound (IsRegion false (Row d) (f x) isolated) (suc room) front l s (behind s rest (length (regions_ids (region g (region k rs)))))) all
-      (subst (λ (i : ℕ). IsMore IsMarkSeen CloseRound (IsRegion false (Row d) (f x) isolated) (suc room) front (front' ++ region_list (regions_with_ids f (region k rs))) s (record { bytes = rest; scopes = s.scopes; next = i })) total whole)
+      let whole = more_one (IsRegion o (Row d) (f x) isolated) room front _ (region_with_ids f g) s mid after _ read open_yet (mark_seen Comma mid (32 ∷ ahead) (mark_token Comma (32 ∷ ahead) tt)) more in
+      subst (λ l. IsMore IsMarkSeen CloseRound (IsRegion o (Row d) (f x) isolated) (suc room) front l s (behind s rest (length (regions_ids (region g (region k rs)))))) all
+      (subst (λ (i : ℕ). IsMore IsMarkSeen CloseRound (IsRegion o (Row d) (f x) isolated) (suc room) front (front' ++ region_list (regions_with_ids f (region k rs))) s (record { bytes = rest; scopes = s.scopes; next = i })) total whole)
 
   -- ---- one operation
 
@@ -260,12 +260,12 @@ module _ (f : ℕ → ℕ) (last : ℕ) where
 
   pub record MiddleRead (d : ℕ) (margin : List ℕ) (h : Head) (rs : Regions) (m : Names) (s : Seen) (tail : List ℕ) : Type 0 where
     pub no_less : Not IsMark Less (middle margin h rs m tail)
-    pub reads : IsRegions false (Row d) (f h.id) (is_isolated h.name) (region_list (regions_with_ids f rs)) s (behind s tail (length (regions_ids rs)))
+    pub reads : IsRegions o (Row d) (f h.id) (is_isolated h.name) (region_list (regions_with_ids f rs)) s (behind s tail (length (regions_ids rs)))
 
   -- that the regions of an operation are read, as a premise
   abbrev pub ReadsMiddle : ℕ → Regions → Type 0
-  ReadsMiddle d rs = (margin : List ℕ) (scope : List Frame) (h : Head) (m : Names) (s : Seen) (named : Named) (rest : List ℕ) → AreBlank margin → FitsRegions rs → SeesRegions scope h.id 0 rs → regions_depth rs ≤ d → length (regions_ids rs) < 1048576 → region_count rs ≤ 16 → Fresh f last scope m s.next (256 * region_count rs) (regions_ids rs) → AllByRecursion (λ y. (h.id == y) ≡ false) (regions_ids rs) → ((v : Value) → in_scope scope v ≡ true → (source_id (source_of v) == h.id) ≡ false)
-      → Joined f scope m (if is_isolated h.name then [] else s.scopes.here) → s.bytes ≡ middle margin h rs m (tail_then h named rest) → MiddleRead d margin h rs m s (tail_then h named rest)
+  ReadsMiddle d rs = (margin : List ℕ) (scope : List Frame) (h : Head) (m : Names) (s : Seen) (named : Named) (rest : List ℕ) → AreBlank margin → FitsRegions o rs → SeesRegions scope h.id 0 rs → regions_depth rs ≤ d → length (regions_ids rs) < 1048576 → region_count rs ≤ 16 → Fresh f last scope m s.next (256 * region_count rs) (regions_ids rs) → AllByRecursion (λ y. (h.id == y) ≡ false) (regions_ids rs) → ((v : Value) → in_scope scope v ≡ true → (source_id (source_of v) == h.id) ≡ false)
+      → Joined o f scope m (if is_isolated h.name then [] else s.scopes.here) → s.bytes ≡ middle margin h rs m (tail_then h named rest) → MiddleRead d margin h rs m s (tail_then h named rest)
 
   pub none_read : (d : ℕ) → ReadsMiddle d no_regions
   none_read d margin scope h m s named rest blank fit sees deep few count fresh own apart j e =
@@ -299,15 +299,15 @@ module _ (f : ℕ → ℕ) (last : ℕ) where
       let sight = inside is_isolated h scope in
       let own = distinct_first h.id (regions_ids rs) fresh.distinct in
       let named = grown_results h.id h.results n in
-      let inner = grown_regions h.id 0 rs m fit.2 in
+      let inner = grown_regions o h.id 0 rs m fit.2 in
       let lt : n.results < 2 ^ 128 = omega (arith, fresh.few_results) in
       let apart : (v : Value) → in_scope scope v ≡ true → (source_id (source_of v) == h.id) ≡ false = λ v i. (fresh.away v i).0 in
       let keep_m : (v : Value) → in_scope scope v ≡ true → naming_of m.named v ≡ naming_of n.named v = λ v i. results_names_keep (source_of v) h.id h.results n (apart v i) in
       let keep_p : (v : Value) → in_scope scope v ≡ true → naming_of p.named v ≡ naming_of m.named v = λ v i. regions_keep (source_of v) h.id 0 rs m (λ r k. argument_away (source_of v) h.id r k (apart v i)) (fresh.away v i).1 in
-      let jm = joined_later f scope n m s.scopes.here j keep_m named.results named.arguments in
-      let jp = joined_later f scope m p s.scopes.here jm keep_p inner.results inner.arguments in
-      let seen_m = all_so (λ v. in_scope scope v ≡ true) (IsSeen f m.named s.scopes.here) (λ v i. jm.seen v i) h.operands sees.0 in
-      let seen_p = all_so (λ v. in_scope scope v ≡ true) (IsSeen f p.named s.scopes.here) (λ v i. jp.seen v i) h.operands sees.0 in
+      let jm = joined_later o f scope n m s.scopes.here j keep_m named.results named.arguments in
+      let jp = joined_later o f scope m p s.scopes.here jm keep_p inner.results inner.arguments in
+      let seen_m = all_so (λ v. in_scope scope v ≡ true) (IsSeen o f m.named s.scopes.here) (λ v i. jm.seen v i) h.operands sees.0 in
+      let seen_p = all_so (λ v. in_scope scope v ≡ true) (IsSeen o f p.named s.scopes.here) (λ v i. jp.seen v i) h.operands sees.0 in
       let alike = same_types m.named p.named h.operands (all_so (λ v. in_scope scope v ≡ true) (λ v. naming_of m.named v ≡ naming_of p.named v) (λ v i. sym (keep_p v i)) h.operands sees.0) in
       let fresh_rs : Fresh f last sight m (s.next + 1) (256 * region_count rs) (regions_ids rs) = record {
         runs = fresh.runs.1;
@@ -319,26 +319,26 @@ module _ (f : ℕ → ℕ) (last : ℕ) where
       } in
       let back = middle margin h rs m tail in
       let begun : Seen = record { bytes = back; scopes = s.scopes; next = s.next + 1 } in
-      let mid = regions margin sight h m begun p.named rest blank fit.2 sees.1 (omega (arith, deep)) (omega (arith, fresh.below, small)) fit.1 fresh_rs own.0 (λ v i. apart v (in_inside isolated scope v i)) (joined_inside f isolated scope m s.scopes.here jm) refl in
-      let start = start_again f m.named s.scopes.here n.results h s.bytes back lt (are_bytes h.name fit.0.written.bytes) fit.0.written.named fit.0.operands fit.0.results seen_m e in
-      let properties = properties_again h.properties back fit.0.properties fit.0.written.properties mid.no_less in
+      let mid = regions margin sight h m begun p.named rest blank fit.2 sees.1 (omega (arith, deep)) (omega (arith, fresh.below, small)) fit.1 fresh_rs own.0 (λ v i. apart v (in_inside isolated scope v i)) (joined_inside o f isolated scope m s.scopes.here jm) refl in
+      let start = start_again o f m.named s.scopes.here n.results h s.bytes back lt (are_bytes h.name fit.0.written.bytes) fit.0.written.named fit.0.operands fit.0.results seen_m e in
+      let properties = properties_again o h.properties back fit.0.properties fit.0.written.properties mid.no_less in
       let after : Seen = behind begun tail (length (regions_ids rs)) in
       let few_types : length (map (value_type p.named) h.operands) ≤ 256 = omega (arith, types_count p.named h.operands, fit.0.operands) in
-      let ended = tail_again f n.results m.named p.named h rs s.next after rest fit.0 (types_fit f p.named s.scopes.here h.operands seen_p) few_types alike fresh.runs.0 (j.fresh n.results (omega arith) lt) refl in
+      let ended = tail_again o f n.results m.named p.named h rs s.next after rest fit.0 (types_fit o f p.named s.scopes.here h.operands seen_p) few_types alike fresh.runs.0 (j.fresh n.results (omega arith) lt) refl in
       let count : s.next + 1 + length (regions_ids rs) ≡ s.next + length (ids (op h rs)) = omega arith in
       let scopes = finished n.results s.next h.results s.scopes in
       let y = with_ids f (op h rs) in
       let kids = region_list (regions_with_ids f rs) in
       let first = start_of f m.named n.results h in
-      let tail_read = subst (λ (i : ℕ). IsTail false s.next first h.properties kids y after (record { bytes = 10 ∷ rest; scopes = scopes; next = i })) count ended in
-      let regions_read = subst (λ (i : ℕ). IsRegions false (Row d) i isolated kids begun after) fresh.runs.0 mid.reads in
+      let tail_read = subst (λ (i : ℕ). IsTail o s.next first h.properties kids y after (record { bytes = 10 ∷ rest; scopes = scopes; next = i })) count ended in
+      let regions_read = subst (λ (i : ℕ). IsRegions o (Row d) i isolated kids begun after) fresh.runs.0 mid.reads in
       let keep_all : (v : Value) → in_scope scope v ≡ true → naming_of p.named v ≡ naming_of n.named v = λ v i. keep_p v i ∙ keep_m v i in
       let more_arguments : n.arguments ≤ p.arguments = omega (arith, named.arguments, inner.arguments) in
-      let end = joined_end f scope n p s.scopes h.id h.results j keep_all fit.0.results fit.0.written.types (λ i t k. own_results h.id 0 rs h.results n i t own.0 k) lt inner.results more_arguments in
+      let end = joined_end o f scope n p s.scopes h.id h.results j keep_all fit.0.results fit.0.written.types (λ i t k. own_results h.id 0 rs h.results n i t own.0 k) lt inner.results more_arguments in
       record {
         scopes = scopes;
-        reads = op_from last d y s (record { bytes = 10 ∷ rest; scopes = scopes; next = s.next + length (ids (op h rs)) }) (omega (arith, fresh.below)) (first, properties_text h.properties ++ back, h.properties, back, start, properties, (kids, after, regions_read, tail_read));
-        joined = subst (λ (i : ℕ). Joined f (scope ++ results h.id (length h.results) ∷ []) p (finished n.results i h.results s.scopes).here) fresh.runs.0 end;
+        reads = op_from o last d y s (record { bytes = 10 ∷ rest; scopes = scopes; next = s.next + length (ids (op h rs)) }) (omega (arith, fresh.below)) (first, properties_text h.properties ++ back, h.properties, back, start, properties, (kids, after, regions_read, tail_read));
+        joined = subst (λ (i : ℕ). Joined o f (scope ++ results h.id (length h.results) ∷ []) p (finished n.results i h.results s.scopes).here) fresh.runs.0 end;
         outer = finished_outer n.results s.next h.results s.scopes;
       }
 

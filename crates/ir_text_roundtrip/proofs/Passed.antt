@@ -1,22 +1,23 @@
 -- No comma stands in an element that is printed, so what is printed for a memref is read as one.
-use Rattle.std.proofs.Common.{◌≡◌, ℕ, zero, suc, ◌+◌, ◌<◌, ◌≤◌, ◌^◌, Bool, true, false, ◌⊎◌, inl, inr, List, [], ◌∷◌, ◌++◌, length, drop, take, flat_map, Option, Some, None, refl, sym, ap, subst, ◌∙◌, append_assoc, arith}
+use Rattle.std.proofs.Common.{◌≡◌, ℕ, ◌+◌, ◌≤◌, Bool, true, false, inl, inr, List, [], ◌∷◌, ◌++◌, length, drop, take, flat_map, Option, Some, None, refl, sym, ap, subst, ◌∙◌, append_assoc, arith}
 use Rattle.std.specs.Prelude.{◌==◌, ◌&&◌, ◌||◌, not, if◌then◌else◌, nat_le, codes, option_map, Ok}
 use Rattle.std.specs.List.{list_all, prefix_len}
 use Rattle.std.specs.Char.{is_ascii_digit}
 use Rattle.std.specs.Fmt.{decimal}
-use Rattle.std.proofs.lemmas.Bool.{and_parts, eqb-true}
+use Rattle.std.proofs.lemmas.Bool.{and_parts, eqb-true, not-true}
 use Rattle.std.proofs.lemmas.Bool.Decides.{nat_tests}
+use Rattle.std.proofs.lemmas.List.{length-append, length-drop}
 use Rattle.std.proofs.lemmas.List.Concat.{flat_map-cons}
 use Rattle.std.proofs.lemmas.Option.{some_pair_parts}
 use Rattle.ir_types.specs.Terms.{TypeTerm, Integer, Index, Function, Memref, OpaqueType}
 use Rattle.ir_types.specs.Reasons.{is_dimension}
 use Rattle.ir_text_tokens.specs.Bytes.{is_letter, is_word}
-use Rattle.ir_text_tokens.specs.Printing.{is_bare_id, is_suffix_id}
+use Rattle.ir_text_tokens.specs.Printing.{is_bare_id}
 use Rattle.ir_text_tokens.specs.Tokens.{Lexeme, bare, bang, name_at, suffix_len, skip}
 use Rattle.ir_text_tokens.proofs.Decimals.{decimal_number, first_passes, rest_passes}
 use Rattle.ir_text_tokens.proofs.Fronts.{next_front}
 use Rattle.ir_text_tokens.proofs.Printed.{name_again}
-use Rattle.ir_text_tokens.proofs.Wholes.{next_whole}
+use Rattle.ir_text_tokens.proofs.Wholes.{letter_word, next_whole}
 use Rattle.ir_text_bodies.specs.Bodies.{begins, closer_of, comma_ahead, fault_of, is_fine, is_none, is_plain_body, is_plain_memref, most_open, part_len, scan}
 use Rattle.ir_text_bodies.proofs.Kept.{name_within}
 use Rattle.ir_text_types.specs.Grammars.{Grammar, Token}
@@ -24,12 +25,12 @@ use Rattle.ir_text_types.specs.Scalars.{memref_word}
 use Rattle.ir_text_types.specs.TypeGrammar.{IsBehind}
 use Rattle.ir_text_types.specs.TypeReading.{many}
 use Rattle.ir_text.specs.TypeText.{dimension_text, is_function, sign_text, type_text}
-use Rattle.ir_text_roundtrip.specs.Written.{is_written_type, may_stand}
+use Rattle.ir_text_roundtrip.specs.Written.{is_written_type}
 use Rattle.ir_text_roundtrip.proofs.Commas.{closing, opening, further, passes}
 use Rattle.ir_text_roundtrip.proofs.Kept.{Form, IsBody, body_found, form_of, inside}
 use Rattle.ir_text_roundtrip.proofs.Plain.{stays}
 use Rattle.ir_text_types.specs.ShapeGrammar.{begins_dimension}
-use Rattle.ir_text_roundtrip.proofs.Shapes.{digits_stay, mark_stays, word_no_dimension}
+use Rattle.ir_text_roundtrip.proofs.Shapes.{digits_stay, mark_stays, small, word_no_dimension}
 use Rattle.ir_text_roundtrip.proofs.Words.{digit_word, run_within, scalar_word}
 
 -- ---- a byte that stands for itself
@@ -69,17 +70,11 @@ run_goes : (w os x : List ℕ) → prefix_len is_word w ≡ length w → comma_a
 run_goes [] os x h e = e
 run_goes (c ∷ cs) os x h e = run_goes cs os x (rest_passes is_word c cs h) (byte_goes c os (cs ++ x) (word_stands c (first_passes is_word c cs h)) e)
 
-letter_word : (c : ℕ) → is_letter c ≡ true → is_word c ≡ true
-letter_word c e = grind (arith, nat_tests)
-
 pub bare_goes : (w os x : List ℕ) → is_bare_id w ≡ true → comma_ahead (62 ∷ os) 0 (w ++ x) ≡ true → comma_ahead (62 ∷ os) 0 x ≡ true
 bare_goes [] os x id e = absurd cc
 bare_goes (c ∷ cs) os x id e =
     let p = and_parts (is_letter c) (prefix_len is_word cs == length cs) id in
     run_goes cs os x (eqb-true (prefix_len is_word cs) (length cs) p.1) (byte_goes c os (cs ++ x) (word_stands c (letter_word c p.0)) e)
-
-small : (n : ℕ) → nat_le n 9223372036854775807 ≡ true → n < 2 ^ 128
-small n e = grind (arith, nat_tests)
 
 dimensions_go : (dims : List (Option ℕ)) (os x : List ℕ) → list_all is_dimension dims ≡ true → comma_ahead (62 ∷ os) 0 (flat_map dimension_text dims ++ x) ≡ true → comma_ahead (62 ∷ os) 0 x ≡ true
 dimensions_go [] os x h e = e
@@ -105,11 +100,11 @@ body_goes v os x b e =
     let p = and_parts (not (length (62 ∷ os) == most_open)) (comma_ahead (62 ∷ 62 ∷ os) 0 (v ++ x)) (sym (opening 60 62 62 os (v ++ x) refl refl refl) ∙ e) in
     passes 62 os 62 [] 0 (v ++ x) x m p.1
 
-passed : (o : ℕ) (os : List ℕ) (n : ℕ) (cs : List ℕ) → n ≤ length cs → comma_ahead (o ∷ os) n cs ≡ comma_ahead (o ∷ os) 0 (drop n cs)
+-- the bytes of a name are passed
+skipped : (os n z : List ℕ) → comma_ahead (62 ∷ os) (length n) (n ++ z) ≡ comma_ahead (62 ∷ os) 0 z
 unfolding comma_ahead
-passed o os zero cs le = refl
-passed o os (suc n) [] le = absurd (omega (arith, le))
-passed o os (suc n) (c ∷ cs) le = passed o os n cs (omega (arith, le))
+skipped os [] z = refl
+skipped os (c ∷ cs) z = skipped os cs z
 
 name_dropped : (n z : List ℕ) → name_at bang (n ++ z) ≡ Some (bang n, z) → drop (suffix_len (n ++ z)) (n ++ z) ≡ z
 name_dropped n z e = by (suffix_len (n ++ z) == 0) e
@@ -124,10 +119,15 @@ name_dropped n z e = by (suffix_len (n ++ z) == 0) e
     by true k = absurd cc
     by false k = (some_pair_parts (bang (take (suffix_len (n ++ z)) (n ++ z))) (bang n) (drop (suffix_len (n ++ z)) (n ++ z)) z k).1
 
+name_length : (n z : List ℕ) → name_at bang (n ++ z) ≡ Some (bang n, z) → suffix_len (n ++ z) ≡ length n
+name_length n z m =
+    let behind : length (drop (suffix_len (n ++ z)) (n ++ z)) ≡ length z = ap (λ (l : List ℕ). length l) (name_dropped n z m) in
+    omega (arith, behind, length-drop (suffix_len (n ++ z)) (n ++ z), length-append n z, name_within (n ++ z))
+
 name_goes : (n os z : List ℕ) → name_at bang (n ++ z) ≡ Some (bang n, z) → comma_ahead (62 ∷ os) 0 (33 ∷ n ++ z) ≡ true → comma_ahead (62 ∷ os) 0 z ≡ true
 name_goes n os z m e =
     let p = and_parts (is_fine (fault_of 33 (n ++ z))) (comma_ahead (62 ∷ os) (suffix_len (n ++ z)) (n ++ z)) (sym (further 33 62 os (n ++ z) refl refl refl) ∙ e) in
-    ap (comma_ahead (62 ∷ os) 0) (sym (name_dropped n z m)) ∙ sym (passed 62 os (suffix_len (n ++ z)) (n ++ z) (name_within (n ++ z))) ∙ p.1
+    sym (skipped os n z) ∙ sym (ap (λ (k : ℕ). comma_ahead (62 ∷ os) k (n ++ z)) (name_length n z m)) ∙ p.1
 
 -- ---- elements
 
@@ -163,11 +163,7 @@ element_goes (Memref dims elem) os y n h e =
     let apart : type_text (Memref dims elem) ++ 62 ∷ y ≡ memref_word ++ 60 ∷ inner = ap (λ (l : List ℕ). memref_word ++ 60 ∷ l) (inner_text dims elem (62 ∷ y)) in
     let opens = bare_goes memref_word os (60 ∷ inner) refl (sym (ap (comma_ahead (62 ∷ os) 0) apart) ∙ e) in
     let q = and_parts (not (length (62 ∷ os) == most_open)) (comma_ahead (62 ∷ 62 ∷ os) 0 inner) (sym (opening 60 62 62 os inner refl refl refl) ∙ opens) in
-    end_goes os y (element_goes elem (62 ∷ os) (62 ∷ y) (not_so (is_function elem) k.0) k.1 (dimensions_go dims (62 ∷ os) (type_text elem ++ 62 ∷ 62 ∷ y) d.1 q.1))
-  where
-    not_so : (b : Bool) → not b ≡ true → b ≡ false
-    not_so true e = absurd cc
-    not_so false e = refl
+    end_goes os y (element_goes elem (62 ∷ os) (62 ∷ y) (not-true (is_function elem) k.0) k.1 (dimensions_go dims (62 ∷ os) (type_text elem ++ 62 ∷ 62 ∷ y) d.1 q.1))
 element_goes (OpaqueType text) os y n h e = form_goes text os y (form_of text h) e
 
 -- ---- memrefs

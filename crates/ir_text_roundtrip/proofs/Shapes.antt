@@ -7,7 +7,7 @@ use Rattle.std.specs.Fmt.{decimal}
 use Rattle.std.proofs.lemmas.Bool.Decides.{nat_tests}
 use Rattle.std.proofs.lemmas.List.Concat.{flat_map-cons}
 use Rattle.ir_types.specs.Reasons.{is_dimension}
-use Rattle.ir_text_tokens.specs.Bytes.{is_blank, is_letter, is_word}
+use Rattle.ir_text_tokens.specs.Bytes.{is_letter, is_word}
 use Rattle.ir_text_tokens.specs.Tokens.{bare, skip}
 use Rattle.ir_text_tokens.specs.Printing.{is_bare_id}
 use Rattle.ir_text_tokens.proofs.Decimals.{decimal_number, first_passes}
@@ -38,7 +38,7 @@ some_digits : (ds : List ℕ) → prefix_len is_ascii_digit ds ≡ length ds →
 some_digits [] h le = absurd (omega (arith, le))
 some_digits (d ∷ ds) h le = all_digits (d ∷ ds) h
 
-small : (n : ℕ) → nat_le n 9223372036854775807 ≡ true → n < 2 ^ 128
+pub small : (n : ℕ) → nat_le n 9223372036854775807 ≡ true → n < 2 ^ 128
 small n e = grind (arith, nat_tests)
 
 no_dimension : (c : ℕ) → is_letter c ≡ true → (c == 63 || is_ascii_digit c) ≡ false

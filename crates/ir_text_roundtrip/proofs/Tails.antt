@@ -1,5 +1,5 @@
 -- What is printed of an operation behind its regions is read again.
-use Rattle.std.proofs.Common.{◌≡◌, ℕ, ◌+◌, ◌≤◌, true, List, [], ◌∷◌, ◌++◌, map, length, Some, None, refl, sym, ap, ◌∙◌, arith, false}
+use Rattle.std.proofs.Common.{◌≡◌, ℕ, ◌+◌, ◌≤◌, Bool, true, List, [], ◌∷◌, ◌++◌, map, length, Some, None, refl, sym, ap, ◌∙◌, arith}
 use Rattle.std.specs.Prelude.{codes}
 use Rattle.std.specs.Fmt.{decimal}
 use Rattle.std.specs.List.{AllByRecursion}
@@ -28,7 +28,7 @@ use Rattle.ir_text_roundtrip.proofs.Ahead.{space_token}
 use Rattle.ir_text_roundtrip.proofs.OpEntries.{attributes_again}
 use Rattle.ir_text_roundtrip.proofs.Small.{lacks_token}
 use Rattle.ir_text_roundtrip.proofs.Sorted.{properties_stay, attributes_stay}
-use Rattle.ir_text_roundtrip.proofs.Types.{function_type_again}
+use Rattle.ir_text_roundtrip.proofs.Types.{function_type_again, line_ends}
 use Rattle.ir_tree_laws.specs.Renumbered.{regions_with_ids, with_ids}
 use Rattle.ir_text_roundtrip.proofs.Fitting.{FitsHead}
 use Rattle.ir_text_roundtrip.proofs.Texts.{Head, Regions, tail_then}
@@ -72,25 +72,25 @@ regions_back no_regions = refl
 regions_back (region g rs) = ap (region g) (regions_back rs)
 
 -- the operation is made of what is read
-made_again : (f : ℕ → ℕ) (id : ℕ) (named : Named) (h : Head) (rs : Regions) → FitsHead h → f h.id ≡ id
+made_again : (o : Bool) (f : ℕ → ℕ) (id : ℕ) (named : Named) (h : Head) (rs : Regions) → FitsHead o h → f h.id ≡ id
     → with_ids f (op h rs) ≡ made (is_property (Some h.name)) key_before id h.name (map (λ (b : BoundTerm). b.value) (map (bound_of f named []) h.operands)) h.properties h.attributes h.results (region_list (regions_with_ids f rs))
-made_again f id named h rs fit e =
+made_again o f id named h rs fit e =
     let p = properties_stay h.name h.properties h.attributes fit.written.properties.sorted fit.written.others in
     let a = attributes_stay h.name h.properties h.attributes fit.written.attributes.sorted fit.written.others in
     rw (bound_values f named [] h.operands, p, a, regions_back (regions_with_ids f rs), sym e) refl
 
-type_spaced : (ins outs : List TypeTerm) (back rest : List ℕ) → (IsFunctionType false) (ins, outs) back rest → (IsFunctionType false) (ins, outs) (32 ∷ back) rest
+type_spaced : (o : Bool) (ins outs : List TypeTerm) (back rest : List ℕ) → IsFunctionType o (ins, outs) back rest → IsFunctionType o (ins, outs) (32 ∷ back) rest
 unfolding IsFunctionType
-type_spaced ins outs back rest k = (k.0, space_token _ back k.0 k.1, k.2)
+type_spaced o ins outs back rest k = (k.0, space_token _ back k.0 k.1, k.2)
 
-pub tail_again : (f : ℕ → ℕ) (m : ℕ) (first named : Named) (h : Head) (rs : Regions) (id : ℕ) (s : Seen) (rest : List ℕ) → FitsHead h → AllByRecursion (FitsType false 32) (map (value_type named) h.operands) → length (map (value_type named) h.operands) ≤ 256 → map (value_type first) h.operands ≡ map (value_type named) h.operands → f h.id ≡ id
-    → find (decimal m) s.scopes.here ≡ None → s.bytes ≡ tail_then h named rest → IsTail false id (start_of f first m h) h.properties (region_list (regions_with_ids f rs)) (with_ids f (op h rs)) s (record { bytes = 10 ∷ rest; scopes = finished m id h.results s.scopes; next = s.next })
-tail_again f m first named h rs id s rest fit types few same e fresh bytes =
+pub tail_again : (o : Bool) (f : ℕ → ℕ) (m : ℕ) (first named : Named) (h : Head) (rs : Regions) (id : ℕ) (s : Seen) (rest : List ℕ) → FitsHead o h → AllByRecursion (FitsType o 32) (map (value_type named) h.operands) → length (map (value_type named) h.operands) ≤ 256 → map (value_type first) h.operands ≡ map (value_type named) h.operands → f h.id ≡ id
+    → find (decimal m) s.scopes.here ≡ None → s.bytes ≡ tail_then h named rest → IsTail o id (start_of f first m h) h.properties (region_list (regions_with_ids f rs)) (with_ids f (op h rs)) s (record { bytes = 10 ∷ rest; scopes = finished m id h.results s.scopes; next = s.next })
+tail_again o f m first named h rs id s rest fit types few same e fresh bytes =
     let ins = map (value_type named) h.operands in
     let back = types_then h named rest in
     let colon : Token (mark Colon) (colon_then h named rest) (32 ∷ back) = space_token (mark Colon) (58 ∷ 32 ∷ back) (32 ∷ back) (mark_token Colon (32 ∷ back) refl) in
     let lacks = lacks_token (mark Colon) OpenCurly (colon_then h named rest) (32 ∷ back) colon (λ k. absurd cc) in
-    let attributes = attributes_again h.name h.properties h.attributes (colon_then h named rest) fit.attributes fit.written.attributes fit.written.others lacks in
-    let type = type_spaced ins h.results back (10 ∷ rest) (function_type_again false ins h.results (10 ∷ rest) (omega (arith, few)) fit.results types fit.written.types refl) in
+    let attributes = attributes_again o h.name h.properties h.attributes (colon_then h named rest) fit.attributes fit.written.attributes fit.written.others lacks in
+    let type = type_spaced o ins h.results back (10 ∷ rest) (function_type_again o ins h.results (10 ∷ rest) (omega (arith, few)) fit.results types fit.written.types (line_ends o rest)) in
     let inputs : map (λ (b : BoundTerm). b.type) (map (bound_of f first []) h.operands) ≡ ins = bound_types f first [] h.operands ∙ same in
-    (h.attributes, seen_rest s (colon_then h named rest), (colon_then h named rest, rw bytes attributes, refl), (seen_rest s (32 ∷ back), (32 ∷ back, colon, refl), ((ins, h.results), seen_rest s (10 ∷ rest), (10 ∷ rest, type, refl), (inputs, (finished m id h.results s.scopes, finish_read m id h.results s.scopes fresh, refl, made_again f id first h rs fit e)))))
+    (h.attributes, seen_rest s (colon_then h named rest), (colon_then h named rest, rw bytes attributes, refl), (seen_rest s (32 ∷ back), (32 ∷ back, colon, refl), ((ins, h.results), seen_rest s (10 ∷ rest), (10 ∷ rest, type, refl), (inputs, (finished m id h.results s.scopes, finish_read m id h.results s.scopes fresh, refl, made_again o f id first h rs fit e)))))

@@ -1,6 +1,6 @@
 -- A type that is printed is read again. `o` tells whether types are kept as they are spelled.
 use Rattle.std.proofs.Common.{◌≡◌, ℕ, zero, suc, ◌+◌, ◌≤◌, Bool, true, false, List, [], ◌∷◌, ◌++◌, map, length, flat_map, Option, Some, None, refl, sym, ap, subst, ◌∙◌, append_assoc, arith, inl, inr}
-use Rattle.std.specs.Prelude.{◌&&◌, not, nat_le, if◌then◌else◌, codes}
+use Rattle.std.specs.Prelude.{◌&&◌, nat_le, if◌then◌else◌, codes}
 use Rattle.std.specs.Fmt.{decimal}
 use Rattle.std.proofs.lemmas.Bool.Decides.{nat_tests}
 use Rattle.ir_types.specs.declared.node.TypeNode.TheVariants.{Int}
@@ -8,7 +8,9 @@ use Rattle.ir_types.specs.declared.node.TypeNode.TheVariants as node
 use Rattle.ir_types.specs.Terms.{TypeTerm, Integer, Index, Function, Memref, OpaqueType, TypeTerms, no_types, next_type}
 use Rattle.ir_types.specs.Depths.{is_scalar, type_depth, types_depth}
 use Rattle.std.specs.List.{AllByRecursion, list_all}
+use Rattle.ir_types.specs.SameTypes.{type_list}
 use Rattle.ir_types.specs.Reasons.{is_dimension, type_fault}
+use Rattle.ir_tree.proofs.Counts.{and_false}
 use Rattle.ir_text_tokens.specs.declared.token.Mark.{Mark}
 use Rattle.ir_text_tokens.specs.declared.token.Mark.TheVariants.{OpenRound, CloseRound, Less, Greater, Comma, Arrow}
 use Rattle.ir_text_tokens.specs.Bytes.{is_word}
@@ -25,7 +27,7 @@ use Rattle.ir_text_types.specs.Typed.{Text}
 use Rattle.ir_text_types.specs.TypeGrammar.{types_of, IsScalar, IsMemref, IsWordFrom, IsBehind, IsWordType, IsTypes, IsOutputs, IsSignature, IsFunction, IsType, IsFunctionType}
 use Rattle.std.specs.Str.{bytes_eq}
 use Rattle.ir_text_roundtrip.specs.Kept.{EndsType}
-use Rattle.ir_text_roundtrip.specs.Written.{types_list, may_stand, is_written_type, are_written_types, FitsType}
+use Rattle.ir_text_roundtrip.specs.Written.{may_stand, is_written_type, are_written_types, FitsType}
 use Rattle.ir_text_roundtrip.proofs.Ahead.{Ahead, Lacks, either_ahead, then_ahead, space, space_token}
 use Rattle.ir_text_roundtrip.proofs.Kept.{form_again, form_of, no_word}
 use Rattle.ir_text_roundtrip.proofs.Known.{memref_known, scalar_known}
@@ -34,7 +36,7 @@ use Rattle.ir_text_roundtrip.proofs.Rows.{AllFit, Items, list_again}
 use Rattle.ir_text_roundtrip.proofs.Small.{lacks_token}
 use Rattle.ir_text_roundtrip.proofs.Words.{scalar_again, scalar_word, scalar_no_memref}
 use Rattle.ir_text_roundtrip.proofs.Shapes.{dimensions_again, word_no_dimension}
-use Rattle.std.proofs.lemmas.Bool.{and_parts, leb-true}
+use Rattle.std.proofs.lemmas.Bool.{and_parts, leb-true, not-true}
 
 -- ---- depths
 
@@ -74,11 +76,11 @@ element_depth dims (Memref ds e) le = omega (arith, le)
 
 -- ---- lists of types as terms
 
-pub terms_again : (ts : TypeTerms) → types_of (types_list ts) ≡ ts
+pub terms_again : (ts : TypeTerms) → types_of (type_list ts) ≡ ts
 terms_again no_types = refl
 terms_again (next_type t ts) = ap (next_type t) (terms_again ts)
 
-texts_again : (ts : TypeTerms) → type_texts ts ≡ map type_text (types_list ts)
+texts_again : (ts : TypeTerms) → type_texts ts ≡ map type_text (type_list ts)
 texts_again no_types = refl
 texts_again (next_type t ts) = ap (λ (l : List (List ℕ)). type_text t ∷ l) (texts_again ts)
 
@@ -98,24 +100,16 @@ scalar_read (Function ins outs) rest k e s = absurd cc
 scalar_read (Memref dims elem) rest k e s = absurd cc
 scalar_read (OpaqueType text) rest k e s = absurd cc
 
-never : (b : Bool) → (b && false) ≡ false
-never true = refl
-never false = refl
-
 -- a word that is a type, and no memref
 word_read : (o : Bool) (M : Grammar Text TypeTerm) (t : TypeTerm) (rest : List ℕ) → (h : IsScalar t (type_text t ++ rest) rest) → bytes_eq h.0 memref_word ≡ false → IsWordType o M t (type_text t ++ rest) rest
 word_read o M t rest h e =
-    let known : (o && is_opaque_word h.0 rest) ≡ false = ap (λ b. o && b) (scalar_known h.0 h.1 rest h.3) ∙ never o in
+    let known : (o && is_opaque_word h.0 rest) ≡ false = ap (λ b. o && b) (scalar_known h.0 h.1 rest h.3) ∙ and_false o in
     (bare h.0, rest, h.2, subst (λ p. IsWordFrom M p (bytes_eq h.0 memref_word) h.0 t rest rest) (sym known) (subst (λ b. IsWordFrom M false b h.0 t rest rest) (sym e) (h.1, h.3, h.4, refl)))
 
 -- ---- memrefs
 
 memref_fine : (dims : List (Option ℕ)) (elem : TypeTerm) → list_all is_dimension dims ≡ true → type_depth (Memref dims elem) ≤ 32 → type_fault (Memref dims elem) ≡ None
 memref_fine dims elem e le = let k : nat_le (type_depth (Memref dims elem)) 32 ≡ true = grind (arith, nat_tests) in rw (e, k) refl
-
-not_so : (b : Bool) → not b ≡ true → b ≡ false
-not_so true e = absurd cc
-not_so false e = refl
 
 -- an element in its memref, by what is known of it in the flag's mode
 memref_parts : (o : Bool) (dims : List (Option ℕ)) (elem : TypeTerm) → is_written_type o (Memref dims elem) ≡ true → (length dims ≤ many) × (list_all is_dimension dims ≡ true) × (may_stand o elem ≡ true) × (is_written_type o elem ≡ true)
@@ -153,7 +147,7 @@ kept_word (Memref dims elem) (suc depth) rest n le small e s =
     let p = memref_parts true dims elem e in
     let mid = type_text elem ++ 62 ∷ rest in
     let back = flat_map dimension_text dims ++ mid in
-    let plain = not_so (is_function elem) p.2 in
+    let plain = not-true (is_function elem) p.2 in
     let read = kept_word elem depth (62 ∷ rest) plain (omega (arith, le)) (element_depth dims elem small) p.3 (refl, refl) in
     let star = element_star (IsMemref true depth) read.0 elem mid read.1 (62 ∷ rest) read.2 read.3 in
     let shape = dimensions_again dims mid p.1 (element_dimension (IsMemref true depth) read.0 elem mid read.1 (62 ∷ rest) read.2 read.3) in
@@ -189,13 +183,17 @@ type_lacks o m other (suc depth) y a new (inr h) = word_lacks o (IsMemref o (suc
 
 -- ---- what may follow
 
-comma_ends : (o : Bool) (rest : List ℕ) → EndsType o (44 ∷ rest)
+pub comma_ends : (o : Bool) (rest : List ℕ) → EndsType o (44 ∷ rest)
 comma_ends false rest = refl
 comma_ends true rest = (refl, refl)
 
-round_ends : (o : Bool) (rest : List ℕ) → EndsType o (41 ∷ rest)
+pub round_ends : (o : Bool) (rest : List ℕ) → EndsType o (41 ∷ rest)
 round_ends false rest = refl
 round_ends true rest = (refl, refl)
+
+pub line_ends : (o : Bool) (rest : List ℕ) → EndsType o (10 ∷ rest)
+line_ends false rest = refl
+line_ends true rest = (refl, refl)
 
 -- ---- lists of types, where a type of this depth is read again
 
@@ -203,7 +201,7 @@ abbrev pub IsReadAgain : Bool → ℕ → Type 0
 IsReadAgain o depth = (t : TypeTerm) (rest : List ℕ) → type_depth t ≤ depth → is_written_type o t ≡ true → EndsType o rest → IsType o depth t (type_text t ++ rest) rest
 
 module _ (o : Bool) where
-  all_fit : (depth : ℕ) (front : List TypeTerm) (ts : TypeTerms) → types_depth ts ≤ depth → are_written_types o ts ≡ true → AllFit (λ before. FitsType o depth) front (types_list ts)
+  all_fit : (depth : ℕ) (front : List TypeTerm) (ts : TypeTerms) → types_depth ts ≤ depth → are_written_types o ts ≡ true → AllFit (λ before. FitsType o depth) front (type_list ts)
   all_fit depth front no_types le e = tt
   all_fit depth front (next_type t ts) le e =
       let p = and_parts (is_written_type o t) (are_written_types o ts) e in
@@ -222,11 +220,11 @@ module _ (o : Bool) where
     }
 
     -- types between parentheses
-    round_again : (room : ℕ) (ts : TypeTerms) (rest : List ℕ) → types_depth ts ≤ depth → are_written_types o ts ≡ true → length (types_list ts) ≤ room → After IsMark OpenRound (IsTypes (IsType o depth) room) (types_list ts) (in_round (type_texts ts) ++ rest) rest
+    round_again : (room : ℕ) (ts : TypeTerms) (rest : List ℕ) → types_depth ts ≤ depth → are_written_types o ts ≡ true → length (type_list ts) ≤ room → After IsMark OpenRound (IsTypes (IsType o depth) room) (type_list ts) (in_round (type_texts ts) ++ rest) rest
     unfolding IsTypes
     round_again room ts rest le e count =
         let row = parted (codes ", ") true (type_texts ts) in
-        let inside = list_again CloseRound (λ before. IsType o depth) type_text (λ before. FitsType o depth) (EndsType o) type_items room (types_list ts) rest (all_fit depth [] ts le e) count in
+        let inside = list_again CloseRound (λ before. IsType o depth) type_text (λ before. FitsType o depth) (EndsType o) type_items room (type_list ts) rest (all_fit depth [] ts le e) count in
         let apart : in_round (type_texts ts) ++ rest ≡ 40 ∷ (row ++ 41 ∷ rest) = ap (λ (l : List ℕ). 40 ∷ l) (append_assoc row (41 ∷ []) rest) in
         rw apart (row ++ 41 ∷ rest, mark_token OpenRound (row ++ 41 ∷ rest) tt, rw (texts_again ts) inside)
 
@@ -237,7 +235,7 @@ module _ (o : Bool) where
         let k = word_again o t depth rest plain le small e s in
         rw (append_assoc (type_text t) [] rest) (inr (word_lacks o (IsMemref o depth) OpenRound k.0 t (type_text t ++ rest) k.1 rest k.2 k.3, (t, rest, item t rest le e s, (refl, refl))))
 
-    outputs_again : (room : ℕ) (ts : TypeTerms) (rest : List ℕ) → depth ≤ 32 → types_depth ts ≤ depth → are_written_types o ts ≡ true → length (types_list ts) ≤ room → EndsType o rest → IsOutputs (IsType o depth) room (types_list ts) (outputs_text (is_lone ts) (type_texts ts) ++ rest) rest
+    outputs_again : (room : ℕ) (ts : TypeTerms) (rest : List ℕ) → depth ≤ 32 → types_depth ts ≤ depth → are_written_types o ts ≡ true → length (type_list ts) ≤ room → EndsType o rest → IsOutputs (IsType o depth) room (type_list ts) (outputs_text (is_lone ts) (type_texts ts) ++ rest) rest
     unfolding IsOutputs
     outputs_again room no_types rest small le e count s = inl (round_again room no_types rest le e count)
     outputs_again room (next_type (Integer sign w) no_types) rest small le e count s = lone_again room (Integer sign w) rest refl small (omega arith) (and_parts _ _ e).0 s
@@ -252,24 +250,24 @@ module _ (o : Bool) where
     outputs_ahead room = either_ahead OpenRound (IsTypes (IsType o depth) room) (Then (IsType o depth) (λ y. Done (y ∷ []))) (then_ahead (IsType o depth) (λ y. Done (y ∷ [])) (type_ahead o depth))
 
     -- inputs and outputs
-    signature_again : (room : ℕ) (ins outs : TypeTerms) (rest : List ℕ) → depth ≤ 32 → types_depth ins ≤ depth → types_depth outs ≤ depth → are_written_types o ins ≡ true → are_written_types o outs ≡ true → length (types_list ins) ≤ many → length (types_list outs) ≤ room → EndsType o rest
-        → After IsMark OpenRound (IsSignature (IsType o depth) room) (types_list ins, types_list outs) (type_text (Function ins outs) ++ rest) rest
+    signature_again : (room : ℕ) (ins outs : TypeTerms) (rest : List ℕ) → depth ≤ 32 → types_depth ins ≤ depth → types_depth outs ≤ depth → are_written_types o ins ≡ true → are_written_types o outs ≡ true → length (type_list ins) ≤ many → length (type_list outs) ≤ room → EndsType o rest
+        → After IsMark OpenRound (IsSignature (IsType o depth) room) (type_list ins, type_list outs) (type_text (Function ins outs) ++ rest) rest
     unfolding IsSignature
     signature_again room ins outs rest small li lo ei eo ci co s =
         let back = outputs_text (is_lone outs) (type_texts outs) ++ rest in
         let inputs = round_again many ins (32 ∷ 45 ∷ 62 ∷ 32 ∷ back) li ei ci in
-        let outputs = space (IsOutputs (IsType o depth) room) (outputs_ahead room) (types_list outs) back rest (outputs_again room outs rest small lo eo co s) in
+        let outputs = space (IsOutputs (IsType o depth) room) (outputs_ahead room) (type_list outs) back rest (outputs_again room outs rest small lo eo co s) in
         let apart : type_text (Function ins outs) ++ rest ≡ in_round (type_texts ins) ++ (32 ∷ 45 ∷ 62 ∷ 32 ∷ back) = append_assoc (in_round (type_texts ins)) (codes " -> " ++ outputs_text (is_lone outs) (type_texts outs)) rest in
-        rw apart (inputs.0, inputs.1, (types_list ins, 32 ∷ 45 ∷ 62 ∷ 32 ∷ back, inputs.2, (32 ∷ back, space_token (mark Arrow) (45 ∷ 62 ∷ 32 ∷ back) (32 ∷ back) (mark_token Arrow (32 ∷ back) tt), (types_list outs, rest, outputs, (refl, refl)))))
+        rw apart (inputs.0, inputs.1, (type_list ins, 32 ∷ 45 ∷ 62 ∷ 32 ∷ back, inputs.2, (32 ∷ back, space_token (mark Arrow) (45 ∷ 62 ∷ 32 ∷ back) (32 ∷ back) (mark_token Arrow (32 ∷ back) tt), (type_list outs, rest, outputs, (refl, refl)))))
 
     function_again : (ins outs : TypeTerms) (rest : List ℕ) → depth ≤ 32 → type_depth (Function ins outs) ≤ 32 → types_depth ins ≤ depth → types_depth outs ≤ depth → is_written_type o (Function ins outs) ≡ true → EndsType o rest → After IsMark OpenRound (IsFunction (IsType o depth)) (Function ins outs) (type_text (Function ins outs) ++ rest) rest
     unfolding IsFunction
     function_again ins outs rest room small li lo e s =
-        let p = and_parts (nat_le (length (types_list ins)) many && nat_le (length (types_list outs)) many) (are_written_types o ins && are_written_types o outs) e in
-        let c = and_parts (nat_le (length (types_list ins)) many) (nat_le (length (types_list outs)) many) p.0 in
+        let p = and_parts (nat_le (length (type_list ins)) many && nat_le (length (type_list outs)) many) (are_written_types o ins && are_written_types o outs) e in
+        let c = and_parts (nat_le (length (type_list ins)) many) (nat_le (length (type_list outs)) many) p.0 in
         let w = and_parts (are_written_types o ins) (are_written_types o outs) p.1 in
-        let k = signature_again many ins outs rest room li lo w.0 w.1 (leb-true (length (types_list ins)) many c.0) (leb-true (length (types_list outs)) many c.1) s in
-        (k.0, k.1, ((types_list ins, types_list outs), rest, k.2, (rw (terms_again ins, terms_again outs) (shallow ins outs small), rw (terms_again ins, terms_again outs) refl, refl)))
+        let k = signature_again many ins outs rest room li lo w.0 w.1 (leb-true (length (type_list ins)) many c.0) (leb-true (length (type_list outs)) many c.1) s in
+        (k.0, k.1, ((type_list ins, type_list outs), rest, k.2, (rw (terms_again ins, terms_again outs) (shallow ins outs small), rw (terms_again ins, terms_again outs) refl, refl)))
       where
         shallow : (ins outs : TypeTerms) → type_depth (Function ins outs) ≤ 32 → type_fault (Function ins outs) ≡ None
         shallow ins outs le = let e : nat_le (type_depth (Function ins outs)) 32 ≡ true = grind (arith, nat_tests) in rw e refl
@@ -293,11 +291,11 @@ type_again o (suc depth) small (Function ins outs) rest le e s = inl (function_a
 
 -- ---- the function types of operations
 
-list_of : (ts : List TypeTerm) → types_list (types_of ts) ≡ ts
+pub list_of : (ts : List TypeTerm) → type_list (types_of ts) ≡ ts
 list_of [] = refl
 list_of (t ∷ ts) = ap (λ (l : List TypeTerm). t ∷ l) (list_of ts)
 
-parts_fit : (o : Bool) (depth : ℕ) (ts : List TypeTerm) → AllByRecursion (FitsType o depth) ts → (types_depth (types_of ts) ≤ depth) × (are_written_types o (types_of ts) ≡ true)
+pub parts_fit : (o : Bool) (depth : ℕ) (ts : List TypeTerm) → AllByRecursion (FitsType o depth) ts → (types_depth (types_of ts) ≤ depth) × (are_written_types o (types_of ts) ≡ true)
 parts_fit o depth [] fit = (omega arith, refl)
 parts_fit o depth (t ∷ ts) fit = let p = parts_fit o depth ts fit.1 in let q : is_written_type o t ≡ true = fit.0.1 in (omega (arith, p.0, fit.0.0), rw q p.1)
 
@@ -309,4 +307,4 @@ function_type_again o inputs outputs rest ci co fi fo s =
     let p = parts_fit o 32 outputs fo in
     let read = signature_again o 32 (type_again o 32 (omega arith)) 256 (types_of inputs) (types_of outputs) rest (omega arith) i.0 p.0 i.1 p.1 (rw (list_of inputs) ci) (rw (list_of outputs) co) s in
     subst (λ l. After IsMark OpenRound (IsSignature (IsType o 32) 256) (l, outputs) (type_text (Function (types_of inputs) (types_of outputs)) ++ rest) rest) (list_of inputs)
-    (subst (λ l. After IsMark OpenRound (IsSignature (IsType o 32) 256) (types_list (types_of inputs), l) (type_text (Function (types_of inputs) (types_of outputs)) ++ rest) rest) (list_of outputs) read)
+    (subst (λ l. After IsMark OpenRound (IsSignature (IsType o 32) 256) (type_list (types_of inputs), l) (type_text (Function (types_of inputs) (types_of outputs)) ++ rest) rest) (list_of outputs) read)

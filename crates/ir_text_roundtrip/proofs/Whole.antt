@@ -1,5 +1,5 @@
 -- The whole text of an operation is read again.
-use Rattle.std.proofs.Common.{◌≡◌, ℕ, ◌+◌, ◌≤◌, true, false, eqb, [], ◌∷◌, length, refl, sym, ap, ◌∙◌, arith}
+use Rattle.std.proofs.Common.{◌≡◌, ℕ, ◌+◌, ◌≤◌, Bool, true, eqb, [], ◌∷◌, length, refl, sym, ap, ◌∙◌, arith}
 use Rattle.std.specs.List.{IsDistinct, list_all}
 use Rattle.ir_types.specs.Words.{is_isolated}
 use Rattle.ir_tree.specs.Ids.{ids}
@@ -27,9 +27,9 @@ pub whole_text : (t : Operation) → text_of t ≡ op_then [] t (names_of blank)
 whole_text t = sym (append_none (text_of t)) ∙ (puts_op [] t).text blank []
 
 -- where f gives the ids 0, 1, .. in pre-order
-pub single_again : (f : ℕ → ℕ) (t : Operation) → FitsOp t → list_all sees_operands (sites is_isolated [] t) ≡ true → Runs f 0 (ids t) → IsDistinct eqb (ids t) → depth t ≤ 128 → length (ids t) ≤ 1048576 → IsSingleOp false no_names 1048576 0 (text_of t) (with_ids f t)
+pub single_again : (o : Bool) (f : ℕ → ℕ) (t : Operation) → FitsOp o t → list_all sees_operands (sites is_isolated [] t) ≡ true → Runs f 0 (ids t) → IsDistinct eqb (ids t) → depth t ≤ 128 → length (ids t) ≤ 1048576 → IsSingleOp o no_names 1048576 0 (text_of t) (with_ids f t)
 unfolding IsSingleOp
-single_again f t fit sees runs distinct deep few =
+single_again o f t fit sees runs distinct deep few =
     let n = names_of blank in
     let s = seen_fresh 0 (text_of t) in
     let fresh : Fresh f 1048576 [] n 0 0 (ids t) = record {
@@ -40,5 +40,5 @@ single_again f t fit sees runs distinct deep few =
       few_results = omega (arith, few);
       few_arguments = omega (arith, few);
     } in
-    let read = op_again f 1048576 (omega arith) 129 t [] [] n s [] tt fit (sees_op [] t sees) (omega (arith, deep)) fresh (joined_nothing f n) (ap next_token (whole_text t)) in
+    let read = op_again o f 1048576 (omega arith) 129 t [] [] n s [] tt fit (sees_op [] t sees) (omega (arith, deep)) fresh (joined_nothing o f n) (ap next_token (whole_text t)) in
     (record { bytes = 10 ∷ []; scopes = read.scopes; next = 0 + length (ids t) }, [], read.reads, blank_passed 10 [] refl ∙ mark_token End [] refl)

@@ -15,8 +15,8 @@ use Rattle.std.proofs.lemmas.Bool.{and_parts, leb-true}
 few_items : {X : Type 0} (xs : List X) → items_fit xs ≡ true → length xs ≤ 256
 few_items xs e = leb-true (length xs) 256 e
 
-fits_head : (h : Head) → head_fits h ≡ true → IsWritableHead h → FitsHead h
-fits_head h e w =
+fits_head : (o : Bool) (h : Head) → head_fits h ≡ true → IsWritableHead o h → FitsHead o h
+fits_head o h e w =
     let a = and_parts (items_fit h.operands) (items_fit h.results && (items_fit h.properties && items_fit h.attributes)) e in
     let b = and_parts (items_fit h.results) (items_fit h.properties && items_fit h.attributes) a.1 in
     let c = and_parts (items_fit h.properties) (items_fit h.attributes) b.1 in
@@ -29,32 +29,32 @@ fits_head h e w =
     }
 
 mutual
-  fits_op : (t : Operation) → every op_fits t ≡ true → IsWritable t → FitsOp t
-  fits_op (op h rs) e w =
+  fits_op : (o : Bool) (t : Operation) → every op_fits t ≡ true → IsWritable o t → FitsOp o t
+  fits_op o (op h rs) e w =
       let a = and_parts (op_fits (op h rs)) (regions_every op_fits rs) e in
       let b = and_parts (head_fits h) (nat_le (region_count rs) 16 && all_arguments_pass items_fit rs) a.0 in
       let c = and_parts (nat_le (region_count rs) 16) (all_arguments_pass items_fit rs) b.1 in
-      (fits_head h b.0 w.0, leb-true (region_count rs) 16 c.0, fits_regions rs c.1 a.1 w.1)
+      (fits_head o h b.0 w.0, leb-true (region_count rs) 16 c.0, fits_regions o rs c.1 a.1 w.1)
 
-  fits_regions : (rs : Regions) → all_arguments_pass items_fit rs ≡ true → regions_every op_fits rs ≡ true → AreWritableRegions rs → FitsRegions rs
-  fits_regions no_regions e k w = tt
-  fits_regions (region g rs) e k w =
+  fits_regions : (o : Bool) (rs : Regions) → all_arguments_pass items_fit rs ≡ true → regions_every op_fits rs ≡ true → AreWritableRegions o rs → FitsRegions o rs
+  fits_regions o no_regions e k w = tt
+  fits_regions o (region g rs) e k w =
       let a = and_parts (arguments_pass items_fit g) (all_arguments_pass items_fit rs) e in
       let b = and_parts (region_every op_fits g) (regions_every op_fits rs) k in
-      (fits_region g a.0 b.0 w.0, fits_regions rs a.1 b.1 w.1)
+      (fits_region o g a.0 b.0 w.0, fits_regions o rs a.1 b.1 w.1)
 
-  fits_region : (g : Region) → arguments_pass items_fit g ≡ true → region_every op_fits g ≡ true → IsWritableRegion g → FitsRegion g
-  fits_region empty e k w = tt
-  fits_region (block args os) e k w = (few_items args e, w.0, fits_ops os k w.1)
+  fits_region : (o : Bool) (g : Region) → arguments_pass items_fit g ≡ true → region_every op_fits g ≡ true → IsWritableRegion o g → FitsRegion o g
+  fits_region o empty e k w = tt
+  fits_region o (block args os) e k w = (few_items args e, w.0, fits_ops o os k w.2)
 
-  fits_ops : (os : Ops) → ops_every op_fits os ≡ true → AreWritableOps os → FitsOps os
-  fits_ops no_ops k w = tt
-  fits_ops (next t ts) k w =
+  fits_ops : (o : Bool) (os : Ops) → ops_every op_fits os ≡ true → AreWritableOps o os → FitsOps o os
+  fits_ops o no_ops k w = tt
+  fits_ops o (next t ts) k w =
       let b = and_parts (every op_fits t) (ops_every op_fits ts) k in
-      (fits_op t b.0 w.0, fits_ops ts b.1 w.1)
+      (fits_op o t b.0 w.0, fits_ops o ts b.1 w.1)
 
-pub fits : (t : Operation) → counts_fit t ≡ true → IsWritable t → FitsOp t
-fits t e w = fits_op t (and_parts (nat_le (op_count t) most_ops) (every op_fits t) e).1 w
+pub fits : (o : Bool) (t : Operation) → counts_fit t ≡ true → IsWritable o t → FitsOp o t
+fits o t e w = fits_op o t (and_parts (nat_le (op_count t) most_ops) (every op_fits t) e).1 w
 
 pub few_ops : (t : Operation) → counts_fit t ≡ true → op_count t ≤ most_ops
 few_ops t e = leb-true (op_count t) most_ops (and_parts (nat_le (op_count t) most_ops) (every op_fits t) e).0
@@ -65,17 +65,17 @@ abbrev test : Operation → Bool
 test = dictionaries_rise key_before
 
 mutual
-  pub sorted_op : (t : Operation) → IsWritable t → every test t ≡ true
-  sorted_op (op h rs) w = λ i. (w.0.properties.sorted i && w.0.attributes.sorted i) && sorted_regions rs w.1 i
+  pub sorted_op : (o : Bool) (t : Operation) → IsWritable o t → every test t ≡ true
+  sorted_op o (op h rs) w = λ i. (w.0.properties.sorted i && w.0.attributes.sorted i) && sorted_regions o rs w.1 i
 
-  sorted_regions : (rs : Regions) → AreWritableRegions rs → regions_every test rs ≡ true
-  sorted_regions no_regions w = refl
-  sorted_regions (region g rs) w = λ i. sorted_region g w.0 i && sorted_regions rs w.1 i
+  sorted_regions : (o : Bool) (rs : Regions) → AreWritableRegions o rs → regions_every test rs ≡ true
+  sorted_regions o no_regions w = refl
+  sorted_regions o (region g rs) w = λ i. sorted_region o g w.0 i && sorted_regions o rs w.1 i
 
-  sorted_region : (g : Region) → IsWritableRegion g → region_every test g ≡ true
-  sorted_region empty w = refl
-  sorted_region (block args os) w = sorted_ops os w.1
+  sorted_region : (o : Bool) (g : Region) → IsWritableRegion o g → region_every test g ≡ true
+  sorted_region o empty w = refl
+  sorted_region o (block args os) w = sorted_ops o os w.2
 
-  sorted_ops : (os : Ops) → AreWritableOps os → ops_every test os ≡ true
-  sorted_ops no_ops w = refl
-  sorted_ops (next t ts) w = λ i. sorted_op t w.0 i && sorted_ops ts w.1 i
+  sorted_ops : (o : Bool) (os : Ops) → AreWritableOps o os → ops_every test os ≡ true
+  sorted_ops o no_ops w = refl
+  sorted_ops o (next t ts) w = λ i. sorted_op o t w.0 i && sorted_ops o ts w.1 i

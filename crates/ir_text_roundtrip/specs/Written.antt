@@ -1,17 +1,13 @@
 -- Types that a text can spell.
-use Rattle.std.specs.Prelude.{◌≡◌, ◌≤◌, ℕ, nat_le, Bool, true, false, not, ◌&&◌, if◌then◌else◌, List, [], ◌∷◌, length}
+use Rattle.std.specs.Prelude.{◌≡◌, ◌≤◌, ℕ, nat_le, Bool, true, not, ◌&&◌, if◌then◌else◌, length}
 use Rattle.std.specs.List.{list_all}
 use Rattle.ir_types.specs.Terms.{TypeTerm, Integer, Index, Function, Memref, OpaqueType, TypeTerms, no_types, next_type}
 use Rattle.ir_types.specs.Depths.{is_scalar, type_depth}
 use Rattle.ir_types.specs.Reasons.{is_width, is_dimension}
+use Rattle.ir_types.specs.SameTypes.{type_list}
 use Rattle.ir_text_types.specs.TypeReading.{many}
 use Rattle.ir_text.specs.TypeText.{is_function}
 use Rattle.ir_text_roundtrip.specs.Kept.{is_type_text}
-
--- the types of a list
-abbrev pub types_list : TypeTerms → List TypeTerm
-types_list no_types = []
-types_list (next_type t ts) = t ∷ types_list ts
 
 -- the types that a memref's elements may have: integer types and index, and where types are kept as they are spelled,
 -- all but function types
@@ -26,7 +22,7 @@ abbrev mutual
   is_written_type opaque (Integer sign width) = is_width width
   is_written_type opaque Index = true
   is_written_type opaque (Function inputs outputs) =
-      (nat_le (length (types_list inputs)) many && nat_le (length (types_list outputs)) many) && (are_written_types opaque inputs && are_written_types opaque outputs)
+      (nat_le (length (type_list inputs)) many && nat_le (length (type_list outputs)) many) && (are_written_types opaque inputs && are_written_types opaque outputs)
   is_written_type opaque (Memref dims elem) = (nat_le (length dims) many && list_all is_dimension dims) && (may_stand opaque elem && is_written_type opaque elem)
   is_written_type opaque (OpaqueType text) = opaque && is_type_text text
 

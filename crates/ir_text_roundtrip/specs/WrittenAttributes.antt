@@ -84,10 +84,10 @@ EndsAttr true rest = Stops is_suffix rest × Not IsMark DoubleColon rest × Not 
 
 -- a dictionary of an operation that a text can spell, where it has no more entries than a dictionary may have: it is
 -- sorted by its keys, each key once; keys are of bytes, and the grammar writes each value
-pub record IsWritableDictionary (es : List (List ℕ × AttrTerm)) : Type 0 where
+pub record IsWritableDictionary (opaque : Bool) (es : List (List ℕ × AttrTerm)) : Type 0 where
   pub sorted : rises key_before es ≡ true
   pub keys : AllByRecursion (λ e. are_bytes e.0 ≡ true) es
-  pub values : AllByRecursion (λ e. FitsAttr false most_depth e.1) es
+  pub values : AllByRecursion (λ e. FitsAttr opaque most_depth e.1) es
 
 -- attributes that are no properties of the operation, neither by their keys nor since they stand there
 abbrev pub AreOthers : List ℕ → List (List ℕ × AttrTerm) → List (List ℕ × AttrTerm) → Type 0

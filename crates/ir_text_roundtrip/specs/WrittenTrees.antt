@@ -1,36 +1,50 @@
 -- Trees that a text can spell: what a text asks of a tree, beside the limits of a formed one.
-use Rattle.std.specs.Prelude.{◌≡◌, ℕ, false, true, ◌==◌, List, length}
+use Rattle.std.specs.Prelude.{◌≡◌, ℕ, Bool, false, true, ◌==◌, List, length, map}
 use Rattle.std.specs.List.{AllByRecursion}
+use Rattle.std.specs.Str.{IsUtf8}
 use Rattle.ir_types.specs.Limits.{most_depth}
 use Rattle.ir_types.specs.Terms.{TypeTerm, AttrTerm}
 use Rattle.ir_tree.specs.Tree.{HeadOf, op, RegionsOf, no_regions, region, RegionOf, empty, block, OpsOf, no_ops, next}
 use Rattle.ir_tree.specs.Meaning.{Operation}
+use Rattle.ir_text.specs.AttrText.{attr_text}
+use Rattle.ir_text.specs.TypeText.{type_text}
 use Rattle.ir_text_roundtrip.specs.Written.{FitsType}
 use Rattle.ir_text_roundtrip.specs.WrittenAttributes.{are_bytes, IsWritableDictionary, AreOthers}
 
+-- texts that are UTF-8, where types and attributes are kept as they are spelled; elsewhere they are ASCII
+abbrev pub AreEncoded : Bool → List (List ℕ) → Type 0
+AreEncoded false texts = Unit {0}
+AreEncoded true texts = AllByRecursion IsUtf8 texts
+
+-- the texts of the attributes of a dictionary
+abbrev pub value_texts : List (List ℕ × AttrTerm) → List (List ℕ)
+value_texts es = map (λ (e : List ℕ × AttrTerm). attr_text e.1) es
+
 -- what an operation has beside its regions: the name has one byte or more, the grammar writes each type, and no
--- key of the operation's row stands among the attributes, nor one that stands among the properties
-pub record IsWritableHead (h : HeadOf (List ℕ) TypeTerm AttrTerm) : Type 0 where
+-- key of the operation's row stands among the attributes, nor one that stands among the properties; where `opaque`
+-- says that types and attributes are kept as they are spelled, the texts of all of these are UTF-8
+pub record IsWritableHead (opaque : Bool) (h : HeadOf (List ℕ) TypeTerm AttrTerm) : Type 0 where
   pub named : (length h.name == 0) ≡ false
   pub bytes : are_bytes h.name ≡ true
-  pub types : AllByRecursion (FitsType false most_depth) h.results
-  pub properties : IsWritableDictionary h.properties
-  pub attributes : IsWritableDictionary h.attributes
+  pub types : AllByRecursion (FitsType opaque most_depth) h.results
+  pub properties : IsWritableDictionary opaque h.properties
+  pub attributes : IsWritableDictionary opaque h.attributes
   pub others : AreOthers h.name h.properties h.attributes
+  pub encoded : AreEncoded opaque (map type_text h.results) × AreEncoded opaque (value_texts h.properties) × AreEncoded opaque (value_texts h.attributes)
 
 -- the same of every operation of a tree, and of the types of each block's arguments
 abbrev mutual
-  pub IsWritable : Operation → Type 0
-  IsWritable (op h rs) = IsWritableHead h × AreWritableRegions rs
+  pub IsWritable : Bool → Operation → Type 0
+  IsWritable opaque (op h rs) = IsWritableHead opaque h × AreWritableRegions opaque rs
 
-  pub AreWritableRegions : RegionsOf (List ℕ) TypeTerm AttrTerm → Type 0
-  AreWritableRegions no_regions = Unit {0}
-  AreWritableRegions (region g rs) = IsWritableRegion g × AreWritableRegions rs
+  pub AreWritableRegions : Bool → RegionsOf (List ℕ) TypeTerm AttrTerm → Type 0
+  AreWritableRegions opaque no_regions = Unit {0}
+  AreWritableRegions opaque (region g rs) = IsWritableRegion opaque g × AreWritableRegions opaque rs
 
-  pub IsWritableRegion : RegionOf (List ℕ) TypeTerm AttrTerm → Type 0
-  IsWritableRegion empty = Unit {0}
-  IsWritableRegion (block args os) = AllByRecursion (FitsType false most_depth) args × AreWritableOps os
+  pub IsWritableRegion : Bool → RegionOf (List ℕ) TypeTerm AttrTerm → Type 0
+  IsWritableRegion opaque empty = Unit {0}
+  IsWritableRegion opaque (block args os) = AllByRecursion (FitsType opaque most_depth) args × AreEncoded opaque (map type_text args) × AreWritableOps opaque os
 
-  pub AreWritableOps : OpsOf (List ℕ) TypeTerm AttrTerm → Type 0
-  AreWritableOps no_ops = Unit {0}
-  AreWritableOps (next t ts) = IsWritable t × AreWritableOps ts
+  pub AreWritableOps : Bool → OpsOf (List ℕ) TypeTerm AttrTerm → Type 0
+  AreWritableOps opaque no_ops = Unit {0}
+  AreWritableOps opaque (next t ts) = IsWritable opaque t × AreWritableOps opaque ts

@@ -1,6 +1,6 @@
 //! Laws of what is printed. A text is what is printed and whatever stands behind it, where that does
 //! not go on the last word.
-ghost use Rattle.std.specs.Prelude.{◌≡◌, ◌≤◌, ◌++◌, ℕ, Bool, List, [], Some, codes, length, true, false};
+ghost use Rattle.std.specs.Prelude.{◌≡◌, ◌≤◌, ◌++◌, ℕ, Bool, List, [], Some, codes, length, true};
 ghost use Rattle.std.specs.List.{AllByRecursion};
 ghost use Rattle.ir_types.specs.Limits.{most_depth, most_entries};
 ghost use Rattle.ir_types.specs.Terms.{AttrTerm, Function, TypeTerm};
@@ -26,6 +26,13 @@ pub fn types_are_read_back()
     ensures { (opaque : Bool) (depth : ℕ) (t : TypeTerm) (rest : List ℕ) → depth ≤ most_depth → FitsType opaque depth t → EndsType opaque rest → IsType opaque depth t (type_text t ++ rest) rest }
 {}
 
+/// A type that is read is one that a text can spell where so many levels are left: what is printed for it is read again.
+/// So it is with the function type of an operation.
+pub fn types_that_are_read_are_written()
+    ensures ty { (opaque : Bool) (depth : ℕ) (t : TypeTerm) (old new : List ℕ) → IsType opaque depth t old new → FitsType opaque depth t }
+    ensures function { (opaque : Bool) (x : List TypeTerm × List TypeTerm) (old new : List ℕ) → IsFunctionType opaque x old new → (AllByRecursion (FitsType opaque most_depth) x.0 × (length x.0 ≤ many)) × (AllByRecursion (FitsType opaque most_depth) x.1 × (length x.1 ≤ most_items)) }
+{}
+
 /// The function type of an operation that is printed is spelled by its text, where an operation may
 /// have so many results.
 pub fn function_types_are_read_back()
@@ -49,8 +56,8 @@ pub fn attributes_end_before_marks()
 /// The dictionaries of an operation that are printed are spelled by their texts, where they have no more entries
 /// than they may: the properties, where no `<` stands behind them, and the attributes, where no `{` does.
 pub fn dictionaries_are_read_back()
-    ensures properties { (es : List EntryTerm) (rest : List ℕ) → length es ≤ most_entries → IsWritableDictionary es → Not IsMark Less rest → IsProperties false es (properties_text es ++ rest) rest }
-    ensures attributes { (op : List ℕ) (properties es : List EntryTerm) (rest : List ℕ) → length es ≤ most_entries → IsWritableDictionary es → AreOthers op properties es → Not IsMark OpenCurly rest → IsAttributes false op properties es (attributes_text es ++ rest) rest }
+    ensures properties { (opaque : Bool) (es : List EntryTerm) (rest : List ℕ) → length es ≤ most_entries → IsWritableDictionary opaque es → Not IsMark Less rest → IsProperties opaque es (properties_text es ++ rest) rest }
+    ensures attributes { (opaque : Bool) (op : List ℕ) (properties es : List EntryTerm) (rest : List ℕ) → length es ≤ most_entries → IsWritableDictionary opaque es → AreOthers op properties es → Not IsMark OpenCurly rest → IsAttributes opaque op properties es (attributes_text es ++ rest) rest }
 {}
 
 /// Where the attributes of an operation are no properties, sorted dictionaries are read as they are.

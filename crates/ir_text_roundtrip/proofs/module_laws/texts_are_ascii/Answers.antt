@@ -1,4 +1,4 @@
-use Rattle.ir_text_roundtrip.proofs.Ascii.{text_is_ascii}
+use Rattle.ir_text_roundtrip.proofs.Encoded.{text_is_ascii}
 use Rattle.ir_text_roundtrip.proofs.module_laws.texts_are_ascii.Goals as goal
 
 pub returns : goal.returns
