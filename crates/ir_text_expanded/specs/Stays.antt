@@ -4,11 +4,20 @@ use Rattle.ir_text_aliases.specs.Pieces.{is_loc, piece_len}
 use Rattle.ir_text_aliases.specs.Values.{definition_at, is_defined}
 use Rattle.ir_text_expanded.specs.Expanded.{Expanded}
 
+-- whether the word `loc`, or a definition, begins with the byte
+abbrev pub begins_more : ℕ → List ℕ → Bool
+begins_more c cs = is_loc c cs || is_defined (definition_at c cs)
+
+-- or with a byte of the text, wherever that stands
+unfoldable pub stands : List ℕ → Bool
+stands [] = false
+stands (c ∷ cs) = begins_more c cs || stands cs
+
 -- whether the word `loc`, or a definition, begins a piece of the text; some bytes belong to the piece before
 unfoldable pub has_more : (passed : ℕ) (bytes : List ℕ) → Bool
 has_more n [] = false
 has_more (suc n) (c ∷ cs) = has_more n cs
-has_more zero (c ∷ cs) = (is_loc c cs || is_defined (definition_at c cs)) || has_more (piece_len c cs) cs
+has_more zero (c ∷ cs) = begins_more c cs || has_more (piece_len c cs) cs
 
 -- a text as it is, with the mark at its end
 abbrev pub as_it_is : List ℕ → Expanded

@@ -5,3 +5,4 @@ mod definitions;
 mod endings;
 pub mod expansion;
 pub mod laws;
+pub mod unchanged;

@@ -5,11 +5,13 @@ ghost use Rattle.ir_tree.specs.Meaning.{IsSoundIn};
 ghost use Rattle.ir_text.specs.Public.{IsNone, IsOnly, IsTold, Spells};
 ghost use Rattle.ir_text_expanded.specs.Expanded.{expanded};
 ghost use Rattle.ir_text_expanded.specs.Expansions.{expansion_of};
+ghost use Rattle.ir_text_expanded.specs.Stays.{has_more};
 ghost use Rattle.ir_text_modules.specs.Modules.{SpellsModule};
 
 use ir_text::error::ReadError;
 use ir_text::reader::read_new;
 use ir_text_expanded::expansion::{Expansion, expand};
+use ir_text_expanded::unchanged::has_more;
 use ir_text_tokens::refusal::TextRefusal;
 use ir_tree::tree::TreeOp;
 use ir_types::context::Context;
@@ -39,10 +41,13 @@ pub fn read_module(
     ensures told { IfErr result (λ e. IsTold text.now e) }
     ensures room { (o : ℕ) → result ≡ Err (ReadError.Full o) → ⊥ }
 {
-    if opaque {
+    if !opaque {
+        return read_plain(alloc, key, text);
+    }
+    if has_more(text) {
         read_expanded(alloc, key, text)
     } else {
-        read_plain(alloc, key, text)
+        read_unchanged(alloc, key, text)
     }
 }
 
@@ -57,6 +62,20 @@ fn read_plain(alloc: Global, key: u64, text: &[u8]) -> Result<(Context, TreeOp),
     ensures room { (o : ℕ) → result ≡ Err (ReadError.Full o) → ⊥ }
 {
     read_new(alloc, key, false, text)
+}
+
+/// That of a text that may have aliases and locations, and has none.
+#[tactic(auto, using(crate::proofs::Reading::only_unchanged, crate::proofs::Reading::none_unchanged))]
+fn read_unchanged(alloc: Global, key: u64, text: &[u8]) -> Result<(Context, TreeOp), ReadError>
+    requires { has_more 0 text.now ≡ false }
+    ensures read { IfOk result (λ x. IsOnly (SpellsModule true text.now) x.0 x.1) }
+    ensures sound { IfOk result (λ x. IsSoundIn x.0 x.1) }
+    ensures mode { IfOk result (λ x. x.0.opaque ≡ true) }
+    ensures refused { (r : Refusal) (o : ℕ) → result ≡ Err (ReadError.Refused r o) → IsNone (SpellsModule true text.now) }
+    ensures told { IfErr result (λ e. IsTold text.now e) }
+    ensures room { (o : ℕ) → result ≡ Err (ReadError.Full o) → ⊥ }
+{
+    read_new(alloc, key, true, text)
 }
 
 /// That of a text with aliases and locations.
