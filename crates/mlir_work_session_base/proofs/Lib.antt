@@ -1,2 +1,3 @@
 pub mod RowWalks
 pub mod Lines
+pub mod Abouts

@@ -89,11 +89,11 @@ fn names(subject: &Subject, cell: &Cell) -> bool
     }
 }
 
-/// Whether a row is about an operation or a value.
-fn is_about(subject: &Subject, row: &Row) -> bool
-    ensures { (c : Things) → result ≡ is_about subject.now (row_meaning c row.now) }
+/// Whether a row of these cells is about an operation or a value.
+fn is_about(subject: &Subject, cells: &[Cell]) -> bool
+    ensures { (c : Things) → result ≡ is_about subject.now (map (cell_meaning c) cells.now) }
 {
-    match row.cells.get(place_about(&row.cells)) {
+    match cells.get(place_about(cells)) {
         None => false,
         Some(cell) => names(subject, cell),
     }
@@ -109,7 +109,7 @@ fn put_row_about(
     requires { RowIsOf ctx.now row.now }
     ensures { OnOk result (out.new.items ≡ out.old.items ++ rows_text (rows_about subject.now (row_meaning ctx.now row.now ∷ []))) }
 {
-    if is_about(subject, row) {
+    if is_about(subject, &row.cells) {
         return put_row(ctx, out, row);
     }
     Ok(())
