@@ -86,7 +86,11 @@ fn own_len(bytes: &[u8]) -> usize
     ensures within { result ≤ length bytes.now }
 {
     let len = name_len(bytes);
-    if len != 0 && is_arrow(bytes[len - 1], &bytes[len..]) { len - 1 } else { len }
+    if len != 0 && is_arrow(bytes[len - 1], &bytes[len..]) {
+        len - 1
+    } else {
+        len
+    }
 }
 
 /// How many bytes a name has behind its sign.
