@@ -26,12 +26,12 @@ on_ok P Q (Err e) f h = tt
 module _ (s : Subject) (row : RowTerm) (out new : List ℕ) where
   -- a row is written, or isn't
   pub row_shown : {A E : Type 0} (r : Result A E) → is_about s row ≡ true → OnOk r (new ≡ out ++ row_text row) → OnOk r (new ≡ out ++ rows_text (rows_about s (row ∷ [])))
-  row_shown r yes =
+  row_shown r about =
       on_ok (new ≡ out ++ row_text row) (new ≡ out ++ rows_text (rows_about s (row ∷ []))) r
-      (λ e. e ∙ ap (λ l. out ++ l) (sym (append-nil (row_text row))) ∙ ap (λ b. out ++ rows_text (cond b (row ∷ []) [])) (sym yes))
+      (λ e. e ∙ ap (λ l. out ++ l) (sym (append-nil (row_text row))) ∙ ap (λ b. out ++ rows_text (cond b (row ∷ []) [])) (sym about))
 
   pub row_hidden : is_about s row ≡ false → out ≡ out ++ rows_text (rows_about s (row ∷ []))
-  row_hidden no = sym (append-nil out) ∙ ap (λ b. out ++ rows_text (cond b (row ∷ []) [])) (sym no)
+  row_hidden other = sym (append-nil out) ∙ ap (λ b. out ++ rows_text (cond b (row ∷ []) [])) (sym other)
 
 module _ (d : Things) (s : Subject) (rows : List Row) (i : ℕ) where
   abbrev text : List Row → List ℕ

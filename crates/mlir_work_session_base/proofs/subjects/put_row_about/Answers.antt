@@ -8,12 +8,12 @@ pub returns-then-is_about : goal.returns-then-is_about
 returns-then-is_about c =
     let s = c.args.subject.now in
     let d = c.args.ctx.now in
-    let yes : is_about s (row_meaning d c.args.row.now) ≡ true = sym (c.is_about.ensures d ∙ ap (λ l. is_about s (map (cell_meaning d) l)) c.deref.ensures.value) ∙ c.if-is_about.true in
-    row_shown s (row_meaning d c.args.row.now) c.args.out.now.items c.put_row.new.out.items c.put_row.result yes c.put_row.ensures
+    let about : is_about s (row_meaning d c.args.row.now) ≡ true = sym (c.is_about.ensures d ∙ ap (λ l. is_about s (map (cell_meaning d) l)) c.deref.ensures.value) ∙ c.if-is_about.true in
+    row_shown s (row_meaning d c.args.row.now) c.args.out.now.items c.put_row.new.out.items c.put_row.result about c.put_row.ensures
 
 pub returns : goal.returns
 returns c =
     let s = c.args.subject.now in
     let d = c.args.ctx.now in
-    let no : is_about s (row_meaning d c.args.row.now) ≡ false = sym (c.is_about.ensures d ∙ ap (λ l. is_about s (map (cell_meaning d) l)) c.deref.ensures.value) ∙ c.if-is_about.false in
-    row_hidden s (row_meaning d c.args.row.now) c.args.out.now.items c.args.out.now.items no
+    let other : is_about s (row_meaning d c.args.row.now) ≡ false = sym (c.is_about.ensures d ∙ ap (λ l. is_about s (map (cell_meaning d) l)) c.deref.ensures.value) ∙ c.if-is_about.false in
+    row_hidden s (row_meaning d c.args.row.now) c.args.out.now.items c.args.out.now.items other
