@@ -1,5 +1,5 @@
 -- How a report of one operation or one value is answered.
-use Rattle.std.proofs.Common.{◌≡◌, ◌∙◌, sym, ap, refl, inl, inr, ℕ, List, [], Option, Some, None, true, false}
+use Rattle.std.proofs.Common.{◌≡◌, ◌∙◌, sym, ap, refl, inl, inr, ℕ, List, [], Option, Some, None, Bool, true, false}
 use Rattle.std.specs.Option.{option_map}
 use Rattle.std.specs.List.{find}
 use Rattle.ir_event.specs.types.Things.{Things}
@@ -7,6 +7,9 @@ use Rattle.ir_event.specs.types.Terms.{name_term, type_term, attr_term}
 use Rattle.ir_event.specs.types.declared.refusal.Refusal.{Refusal}
 use Rattle.ir_event.specs.types.declared.refusal.Refusal.TheVariants.{Memory, NoSuchKind, Stale}
 use Rattle.ir_event.specs.trees.Tree.{Op}
+use Rattle.ir_event.specs.trees.Ids.{has_id}
+use Rattle.ir_event.specs.trees.declared.value.Value.{Value}
+use Rattle.ir_event.specs.tree_laws.Values.{has_value}
 use Rattle.ir_event.specs.trees.Meaning.{meaning as tree_meaning}
 use Rattle.ir_event.proofs.of_tree_laws.Contents.{map_has_id, map_has_value}
 use Rattle.ir_event.specs.declared.world.World.{World}
@@ -30,9 +33,11 @@ use Rattle.mlir_work_session.proofs.Panels.{find_shown}
 use Rattle.mlir_work_session.proofs.Reading.{module_seen}
 
 -- what is in a tree of numbers is in what it stands for
-pub there_means : (c : Things) (s : Subject) (t : Op) → is_there s (tree_meaning c t) ≡ is_there s t
-there_means c (subject.Op x) t = map_has_id (name_term c) (type_term c) (attr_term c) x t
-there_means c (subject.Val v) t = map_has_value (name_term c) (type_term c) (attr_term c) v t
+pub op_means : (c : Things) (x : ℕ) (t : Op) → is_there (subject.Op x) (tree_meaning c t) ≡ has_id x t
+op_means c x t = map_has_id (name_term c) (type_term c) (attr_term c) x t
+
+pub value_means : (c : Things) (v : Value) (t : Op) → is_there (subject.Val v) (tree_meaning c t) ≡ has_value v t
+value_means c v t = map_has_value (name_term c) (type_term c) (attr_term c) v t
 
 -- and in the module of a bench, by its world
 pub there_held : (h : Held) (w : World) → w.ctx ≡ h.ctx → w.store ≡ h.store → (s : Subject) (there : Bool) → is_there s (module_in w).tree ≡ there → is_there s (module_held h).tree ≡ there

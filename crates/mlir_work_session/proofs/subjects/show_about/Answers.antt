@@ -12,45 +12,45 @@ use Rattle.mlir_work_session.proofs.subjects.show_about.Goals as goal
 pub returns-then-not-is_there : goal.returns-then-not-is_there
 returns-then-not-is_there g c way =
     let h = c.args.bench.now.desk in
-    let w = c.world.result.now in
+    let w = c.world-world.result.now in
     let gone : is_there c.args.subject.now (module_in w).tree ≡ false = search rules in
-    rw (c.plain.ensures.reply, c.plain.ensures.shows, c.absent.ensures) (fulfils_absent way c.args.kind c.args.subject.now _ (there_held h w c.world.ensures.ctx c.world.ensures.store c.args.subject.now false gone))
+    rw (c.plain.ensures.reply, c.plain.ensures.shows, c.absent.ensures) (fulfils_absent way c.args.kind c.args.subject.now _ (there_held h w c.world-world.ensures.ctx c.world-world.ensures.store c.args.subject.now false gone))
 
 pub text_about-requires : goal.text_about-requires
 text_about-requires g c =
     let meaning = g.L.Analysis.meaning in
     let h = c.args.bench.now.desk in
-    held_agrees meaning h c.world.result.now c.world.ensures.ctx c.world.ensures.store c.in-Some.listener.now
+    held_agrees meaning h c.world-world.result.now c.world-world.ensures.ctx c.world-world.ensures.store c.in-Some.listener.now
     (find_has meaning (λ b. (meaning b).agrees h.ctx (module_held h) ⊎ ((meaning b).stale ≡ true)) (has_this_kind meaning c.args.kind) c.args.bench.now.listeners c.in-Some.listener.now c.requires (sym c.in-Some.ensures))
 
 pub returns-in_default : goal.returns-in_default
 returns-in_default g c way =
     let h = c.args.bench.now.desk in
-    let w = c.world.result.now in
+    let w = c.world-world.result.now in
     let there : is_there c.args.subject.now (module_in w).tree ≡ true = search rules in
     rw (c.plain-in_default.ensures.reply, c.plain-in_default.ensures.shows)
-    (about_none g.L.Analysis.meaning way c.args.kind c.args.subject.now c.args.bench.now (there_held h w c.world.ensures.ctx c.world.ensures.store c.args.subject.now true there) c.in_default.ensures)
+    (about_none g.L.Analysis.meaning way c.args.kind c.args.subject.now c.args.bench.now (there_held h w c.world-world.ensures.ctx c.world-world.ensures.store c.args.subject.now true there) c.in_default.ensures)
 
 pub returns-in-Err-Stale : goal.returns-in-Err-Stale
 returns-in-Err-Stale g c way =
     let h = c.args.bench.now.desk in
-    let w = c.world.result.now in
+    let w = c.world-world.result.now in
     let there : is_there c.args.subject.now (module_in w).tree ≡ true = search rules in
     rw (c.plain-in-Err-Stale.ensures.reply, c.plain-in-Err-Stale.ensures.shows)
-    (about_stale g.L.Analysis.meaning way c.args.kind c.args.subject.now c.args.bench.now (there_held h w c.world.ensures.ctx c.world.ensures.store c.args.subject.now true there) c.in-Some.listener.now c.in-Some.ensures (c.in-Err-Stale.ensures.stale c.in-Err-Stale.field-0-is))
+    (about_stale g.L.Analysis.meaning way c.args.kind c.args.subject.now c.args.bench.now (there_held h w c.world-world.ensures.ctx c.world-world.ensures.store c.args.subject.now true there) c.in-Some.listener.now c.in-Some.ensures (c.in-Err-Stale.ensures.stale c.in-Err-Stale.field-0-is))
 
 pub returns-in-Err-Memory : goal.returns-in-Err-Memory
 returns-in-Err-Memory g c way =
     let h = c.args.bench.now.desk in
-    let w = c.world.result.now in
+    let w = c.world-world.result.now in
     let there : is_there c.args.subject.now (module_in w).tree ≡ true = search rules in
     rw (c.plain-in-Err-Memory.ensures.reply, c.plain-in-Err-Memory.ensures.shows)
-    (about_unheld g.L.Analysis.meaning way c.args.kind c.args.subject.now c.args.bench.now (there_held h w c.world.ensures.ctx c.world.ensures.store c.args.subject.now true there))
+    (about_unheld g.L.Analysis.meaning way c.args.kind c.args.subject.now c.args.bench.now (there_held h w c.world-world.ensures.ctx c.world-world.ensures.store c.args.subject.now true there))
 
 pub returns : goal.returns
 returns g c way =
     let h = c.args.bench.now.desk in
-    let w = c.world.result.now in
+    let w = c.world-world.result.now in
     let there : is_there c.args.subject.now (module_in w).tree ≡ true = search rules in
-    about_rows g.L.Analysis.meaning way c.args.kind c.args.subject.now c.args.bench.now (there_held h w c.world.ensures.ctx c.world.ensures.store c.args.subject.now true there) c.in-Some.listener.now c.in-Ok.shows.items c.in-Some.ensures c.in-Ok.ensures.fresh
-    (rows_held h w c.world.ensures.ctx c.world.ensures.store c.args.subject.now (g.L.Analysis.meaning c.in-Some.listener.now) _ c.in-Ok.ensures.text)
+    about_rows g.L.Analysis.meaning way c.args.kind c.args.subject.now c.args.bench.now (there_held h w c.world-world.ensures.ctx c.world-world.ensures.store c.args.subject.now true there) c.in-Some.listener.now c.in-Ok.shows.items c.in-Some.ensures c.in-Ok.ensures.fresh
+    (rows_held h w c.world-world.ensures.ctx c.world-world.ensures.store c.args.subject.now (g.L.Analysis.meaning c.in-Some.listener.now) _ c.in-Ok.ensures.text)
