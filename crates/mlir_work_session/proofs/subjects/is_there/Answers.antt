@@ -5,9 +5,9 @@ use Rattle.mlir_work_session.proofs.subjects.is_there.Goals as goal
 pub returns-in-Op : goal.returns-in-Op
 returns-in-Op c =
     let w = c.args.world.now in
-    rw c.in-Op.is (c.in_tree.ensures ∙ sym (op_means w.ctx c.in-Op.op.now w.store.module_of.tree))
+    rw c.in-Op.is (c.in_tree.ensures ∙ sym (op_means w.ctx c.in-Op.op w.store.module_of.tree))
 
 pub returns-in-Val : goal.returns-in-Val
 returns-in-Val c =
     let w = c.args.world.now in
-    rw c.in-Val.is (c.is_some.ensures ∙ sym (value_means w.ctx c.in-Val.value.now w.store.module_of.tree))
+    rw c.in-Val.is (c.is_some.ensures ∙ sym (value_means w.ctx c.in-Val.value w.store.module_of.tree))
