@@ -1,4 +1,5 @@
-use Rattle.std.proofs.Common.{◌∙◌, sym}
+use Rattle.std.proofs.Common.{◌∙◌, ap, sym}
+use Rattle.std.specs.Prelude.{is_some}
 use Rattle.mlir_work_session.proofs.About.{op_means, value_means}
 use Rattle.mlir_work_session.proofs.subjects.is_there.Goals as goal
 
@@ -10,4 +11,4 @@ returns-in-Op c =
 pub returns-in-Val : goal.returns-in-Val
 returns-in-Val c =
     let w = c.args.world.now in
-    rw c.in-Val.is (c.is_some.ensures ∙ sym (value_means w.ctx c.in-Val.value w.store.module_of.tree))
+    rw c.in-Val.is (c.is_some.ensures ∙ ap is_some c.value_type.ensures ∙ sym (value_means w.ctx c.in-Val.value w.store.module_of.tree))
