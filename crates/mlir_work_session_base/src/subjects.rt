@@ -30,13 +30,7 @@ fn place_about(cells: &[Cell]) -> usize
     ensures { (c : Things) → result ≡ place_about (map (cell_meaning c) cells.now) }
 {
     match cells {
-        [Cell::Tag(tag), ..] => {
-            if defines(*tag) {
-                3
-            } else {
-                1
-            }
-        }
+        [Cell::Tag(tag), ..] => { if defines(*tag) { 3 } else { 1 } }
         _ => 0,
     }
 }
