@@ -14,9 +14,9 @@ use mlir_work_run::numbers;
 use mlir_work_run::order::Order;
 use mlir_work_run::rule_name::RuleName;
 use mlir_work_run::spots::Spot;
-use mlir_work_run::subject::Subject;
 use mlir_work_run::values::{op_named, value_named};
 use mlir_work_run::words::{split_word, trim};
+use mlir_work_script::subject::Subject;
 use std::alloc::{AllocError, Global};
 
 /// A line that sets an operand.
