@@ -22,7 +22,9 @@ from reference import aliases, module, opaque, printing, rules, script, texts  #
 
 DIVIDER = b"\n// -----\nprint\n"
 # What stands in front of a type or of an attribute, and behind a term, in a text that was printed.
-FRONTS = {b"!": rb"(?<=[(,:<= \[x])", b"#": rb"(?<=[= \[])"}
+# An `x` stands behind a dimension there, and not at the end of a word such as `f32x`.
+DIMENSION = rb"(?<=[0-9?]x)(?<![a-z]\dx)(?<![a-z]\d\dx)(?<![a-z]\d\d\dx)"
+FRONTS = {b"!": rb"(?:(?<=[(,:<= \[])|" + DIMENSION + rb")", b"#": rb"(?<=[= \[])"}
 BEHIND = rb"(?=[),>}\]\n]| \{\n|$)"
 SIGNATURE = re.compile(rb"( : \([^\n{:]*\) -> [^\n{:]*[^{\n:])\n")
 
