@@ -118,7 +118,9 @@ def looks(cases):
 def about(cases):
     """A listener that turned stale has no rows of anything, and what isn't in the module is refused before that."""
     for kind in script.BOXES:
-        edits = (PRODUCT.rstrip(), "set-operand #3 0 %v2.0", f"resync {kind}", "erase #5")
+        edits = [PRODUCT.rstrip(), "set-operand #3 0 %v2.0", f"resync {kind}", "erase #5"]
+        if kind == "dead":
+            edits.pop()  # where a user goes it looks at what it used, which no rule counts
         asked = "".join(f"report {kind} of {thing}\n" for thing in ("#3", "%v2.0", "#5", "%v5.0", "#9"))
         bound = "" if kind in ("diagnostics", "constants") else ":0"
         cases.run([f"{kind}{bound}"], SUM + DIVIDER + asked + "".join(f"{edit}\n{asked}" for edit in edits))
