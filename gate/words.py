@@ -24,7 +24,7 @@ FRONT = "crates/mlir_work_front/src"
 SCRIPT = "crates/mlir_work_script/src"
 READERS = ("command", "order", "book_order", "expect")
 # Words that stand behind the first one, which these files compare in the same way.
-BEHIND = {"limit", "trace", "only", "width"}
+BEHIND = {"at", "limit", "only", "trace", "width"}
 
 
 def source(path):

@@ -31,7 +31,8 @@ PARTS = {
     "VALUE": (VALUE, "a value is %vN.K, result K of #N, or %aN.R.K, argument K of the block of its region R"),
     "PLACE": (PLACE, "a place is `before #N`, `after #N`, `start #N R` or `end #N R`"),
     "RULE": (RULE, "a rule is a number of 1 to 30, or its word, as drop-zero, or the name of a pattern"),
-    "RULES": (RULES, "rules are tried in their order: numbers of 1 to 24, or words, with commas, as 4,drop-one"),
+    "RULES": (RULES, "rules are tried in their order: numbers of 1 to 24, words, or names of patterns, with commas, as "
+              "4,drop-one"),
     "REFUSAL": (r"[0-9]+|[A-Z][A-Za-z0-9]*", "a refusal is its number, or its word, as 22 or HasUses"),
     "KEY": (KEY, 'a key is a bare identifier, or a string as "a b"'),
 }

@@ -5,7 +5,8 @@ that are of whole runs with all listeners, of the same rules. Run it at the top 
 
 The whole runs are written out here or in bench/cases/worked_rows.txt, and compared with what the rules of
 bench/reference give for them, or are of analyses_cases.py, verifier_cases.py, conversion_cases.py, heard_cases.py,
-own_pattern_cases.py and trace_cases.py, many by chance from the seeds there, and have what the rules give."""
+own_pattern_cases.py, trace_cases.py and why_cases.py, many by chance from the seeds there, and have what the rules
+give."""
 import itertools
 import pathlib
 import re
@@ -17,11 +18,13 @@ sys.path.append(str(pathlib.Path(__file__).resolve().parents[1]))  # bench/, whe
 import about_cases  # noqa: E402
 import analyses_cases  # noqa: E402
 import conversion_cases  # noqa: E402
+import explained_cases  # noqa: E402
 import heard_cases  # noqa: E402
 import own_pattern_cases  # noqa: E402
 import rule_cases  # noqa: E402
 import trace_cases  # noqa: E402
 import verifier_cases  # noqa: E402
+import why_cases  # noqa: E402
 import worked_rows  # noqa: E402
 from compare import refusals  # noqa: E402
 from reference import live, script  # noqa: E402
@@ -1088,7 +1091,7 @@ def command_lines():
     unexpected("-b", "-b")
     wrong(["--interactive", "--interactive"],
           b"the argument '--interactive' cannot be used multiple times" + usage + more)
-    for word in ("--brief", "--opaque"):
+    for word in ("--brief", "--opaque", "--explain"):
         wrong([word, word], f"the argument '{word}' cannot be used multiple times".encode() + usage + more)
     formats = b"\n  [possible values: text, json]\n" + more
     for word in ("xml", "JSON"):
@@ -1208,7 +1211,7 @@ GOLDEN_PARTS = {
 
 def main():
     print("seeds", analyses_cases.SEED, verifier_cases.SEED, heard_cases.SEED, conversion_cases.SEED,
-          own_pattern_cases.SEED, trace_cases.SEED)
+          own_pattern_cases.SEED, trace_cases.SEED, why_cases.SEED)
     for part in (lines, words, cuts, writes, reads):
         part()
     for area, parts in GOLDEN_PARTS.items():
@@ -1220,6 +1223,8 @@ def main():
     conversion_cases.all_cases(analyses, GOLDEN.begin)
     own_pattern_cases.all_cases(whole, GOLDEN.begin)
     trace_cases.all_cases(GOLDEN.case, GOLDEN.begin)
+    why_cases.all_cases(GOLDEN.case, GOLDEN.begin)
+    explained_cases.all_cases(GOLDEN.case, GOLDEN.begin)
     heard_cases.all_cases(case)
     GOLDEN.begin("rules/applied")
     rule_cases.all_cases(GOLDEN.case, case)

@@ -31,7 +31,7 @@ FLAGGED, PLAIN = ("--brief", OPAQUE), ("--brief",)
 def whole(text, words=FLAGGED, pieces=None):
     """A case of a run, with what the rules give."""
     ran = script.run_opaque if OPAQUE in words else script.run
-    answer = ran(text, "--brief" in words)
+    answer = ran(text, "--brief" in words, explained="json" in words)
     if "json" in words:
         answer = answer[0], json_lines.json_of(answer[1])
     GOLDEN.case(words, pieces or text, answer)

@@ -170,7 +170,7 @@ def over(*lines):
 
 
 def rows(whole):
-    """The inputs of pattern_rows.txt, as far as the program has what they ask."""
+    """The inputs of pattern_rows.txt."""
     for row in worked_rows.rows(HERE / "pattern_rows.txt"):
         whole(row.input)
         if len(row.input) < 2000:
@@ -304,7 +304,85 @@ def by_chance(whole):
         whole(text + asked(*lines, "print", "patterns"), maker.random() < 0.9)
 
 
-PARTS = (rows, texts, beginnings, checks, listed, applied, by_chance)
+def rewritten(whole):
+    """Lists in which patterns stand: how often they are applied, in which order, limits, what is told, marks."""
+    shift = "pattern shift arith.muli(%a, c) => arith.shli(%a, log2(c))"
+    back = "pattern back arith.subi(arith.addi(%a, %b), %b) => %a"
+    swap = "pattern swap arith.addi(%x, %y) => arith.addi(%y, %x)"
+    kinds = ("uses", "constants", "dead", "diagnostics", "effects", "symbols", "unreached")
+    shows = [f"report {kind}" for kind in kinds]
+    defined = (shift, back, swap)
+    for brief in (True, False):
+        whole(over(*defined, "rewrite shift,back", "rewrite shift,back", "print"), brief)
+    for names in ("shift", "back", "1,shift,back", "shift,1,back", "shift,back,1", "back,erase-dead,shift",
+                  "1,2,3,shift", "shift,shift", "swap,1", "1,swap"):
+        for limit in ("", " limit 1", " limit 2", " limit 3"):
+            whole(over(*defined, f"rewrite {names} trace{limit or ' limit 40'}", "print",
+                       f"rewrite {names}{limit or ' limit 40'}", *shows, "print"))
+    # All analyses follow, and a rollback holds the module again.
+    whole(over(*defined, *shows, "begin", "rewrite shift,back,1 trace", *shows, "print ids", "rollback", *shows,
+               "print ids", "patterns"), False)
+    whole(over(*defined, "begin", "rewrite back,1 limit 1", "begin", "rewrite shift,1 trace limit 2", *shows,
+               "rollback", "commit", "rollback", "rewrite 1,back", "canon", "print"))
+    # What the order is at an operation: the first that applies, and not the lowest.
+    zero, one = "pattern zero arith.muli(%a, 8) => 0", "pattern one arith.muli(%a, 8) => 1"
+    for names in ("zero,one", "one,zero", "shift,zero", "zero,shift,9", "9,zero", "2,one,zero"):
+        whole(over(shift, zero, one, f"rewrite {names} trace", "print"))
+    # One that applies for ever, one that makes what another takes, and one that makes what it takes itself.
+    whole(over(swap, "rewrite swap limit 1", "rewrite swap limit 7", "rewrite swap trace limit 3",
+               "rewrite swap,1 limit 5"))
+    whole(over("pattern there arith.addi(%x, %y) => arith.subi(%x, arith.subi(0, %y))",
+               "pattern and arith.subi(%x, arith.subi(0, %y)) => arith.addi(%x, %y)", "rewrite there,and trace limit 5",
+               "rewrite and,there trace limit 5", "rewrite and trace", "print"))
+    # Names that are nothing's, words of rules that rewriting doesn't try, and what isn't a list.
+    whole(over(shift, "rewrite nope", "rewrite shift,nope", "rewrite nope,shift trace", "rewrite shift,25",
+               "rewrite shift,0", "rewrite shift,31", "rewrite shift,", "rewrite ,shift", "rewrite shift limit 0",
+               "rewrite shift,nope limit 0", "rewrite shift limit 1000001", "rewrite shift limit",
+               "rewrite shift trace trace", "rewrite shift limit 3 trace", "canon only shift",
+               "canon only shift,1 trace limit 4", "canon shift", "expect 26 rewrite nope,shift",
+               "rewrite shift,expand-min-max", "rewrite shift,30", "rewrite shift, 1", "rewrite Shift", "print"))
+    # Three deep, with constants and types, and operations that are shared.
+    text = """%a = "t.a"() : () -> i16
+%b = "t.a"() : () -> i16
+%c = "arith.constant"() <{value = 3 : i16}> : () -> i16
+%d = "arith.constant"() <{value = 5 : i16}> : () -> i16
+%1 = "arith.addi"(%a, %c) <{overflowFlags = #arith.overflow<none>}> : (i16, i16) -> i16
+%2 = "arith.addi"(%1, %d) <{overflowFlags = #arith.overflow<none>}> : (i16, i16) -> i16
+%3 = "arith.addi"(%2, %c) <{overflowFlags = #arith.overflow<none>}> : (i16, i16) -> i16
+%4 = "arith.addi"(%3, %d) <{overflowFlags = #arith.overflow<none>}> : (i16, i16) -> i16
+%5 = "arith.extsi"(%4) : (i16) -> i32
+%6 = "arith.trunci"(%5) <{overflowFlags = #arith.overflow<none>}> : (i32) -> i16
+%7 = "arith.muli"(%6, %2) <{overflowFlags = #arith.overflow<none>}> : (i16, i16) -> i16
+"t.u"(%7, %2, %b) : (i16, i16, i16) -> ()
+"""
+    lines = ["pattern chain arith.addi(arith.addi(%x, c), d) => arith.addi(%x, add(c, d))",
+             "pattern cut arith.trunci(arith.extsi(%x : S) : T) : S => %x",
+             "pattern three arith.addi(arith.addi(arith.addi(%x, %y), %z), c) => arith.addi(arith.addi(%x, c), "
+             "arith.addi(%y, %z))"]
+    for names in ("chain", "chain,cut", "cut,chain,1", "three", "1,three,chain", "three,1,cut"):
+        whole(text.encode() + asked(*lines, "begin", f"rewrite {names} trace limit 12", *shows, "print", "rollback",
+                                    f"rewrite {names} limit 12", "print"))
+
+
+def rewritten_by_chance(whole):
+    """Lists of rules and patterns over modules by chance."""
+    for number in range(60):
+        maker = random.Random(f"{SEED} mixed {number}")
+        text = text_of(chance.module(maker, maker.randrange(4, 24), maker.choice([0, 0, 0.1]),
+                                     maker.choice(sorted(chance.TASTES)))).encode()
+        run, lines = script.Run(script.read(text)), []
+        while len(run.book) < 4 and len(lines) < 40:
+            lines.append(pattern_lines.line_of(maker, run))
+            run.reply(lines[-1])
+        for _ in range(maker.randrange(2, 6)):
+            names = [maker.choice([*run.book, *map(str, range(1, 25))] if run.book else ["1"]) for _ in range(
+                maker.randrange(1, 5))]
+            lines.append(f"rewrite {','.join(names)}{maker.choice(['', ' trace'])} limit {maker.randrange(1, 9)}")
+            run.reply(lines[-1])
+        whole(text + asked(*lines, "print", "report uses", "report dead"), maker.random() < 0.9)
+
+
+PARTS = (rows, texts, beginnings, checks, listed, applied, rewritten, by_chance, rewritten_by_chance)
 
 
 def all_cases(whole, begin):

@@ -77,7 +77,7 @@ class Cases:
 
     def run(self, text, brief=True, limit=script.LIMIT, form="text"):
         """Hands a run on, and gives its output."""
-        status, out = script.run(text, brief, limit=limit)
+        status, out = script.run(text, brief, limit=limit, explained=form == "json")
         words = ["--brief"] * brief + ["--limit", str(limit)] * (limit != script.LIMIT)
         if form == "json":
             self.case([*words, "--format", "json"], text, (status, json_lines.json_of(out)))
@@ -162,7 +162,7 @@ def refused(cases):
     out = cases.both(over(SUMS, "expect 50 canon trace limit 2", "expect 26 rewrite 1,3 trace",
                           "expect 60 rewrite 1 trace limit 0"))
     assert out.startswith("1 limit 2\n1 expected 50 BadLimit\nrewrote 10 "), out
-    # No pattern of one's own stands in the list.
+    # A pattern of one's own stands in a list as a rule does.
     cases.run(over(SUMS, "pattern one arith.muli(1, %a) => %a", "apply one #7", "rewrite one trace",
                    "rewrite 1,one trace", "canon trace"))
 

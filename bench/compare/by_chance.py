@@ -34,7 +34,7 @@ sys.path += [str(BENCH), str(BENCH / "cases")]
 
 import opaque_cases  # noqa: E402
 import script_lines  # noqa: E402
-from reference import aliases, chance, json_lines, script, texts  # noqa: E402
+from reference import aliases, chance, culprits, json_lines, script, texts  # noqa: E402
 from reference.lines import given, told  # noqa: E402
 from reference.module import rules, text_of  # noqa: E402
 
@@ -52,9 +52,9 @@ affine_map<(d0)->(d0)> ! ^ \x00 \xff \xc3\xa9 \x0b""".encode("latin-1").split()
 TOKEN = re.compile(rb'"(?:[^"\\\n]|\\.)*"|[%@#!^]?[A-Za-z0-9_$.]+|\s+|->|[^\sA-Za-z0-9]', re.S)
 # How a module is refused where the rules leave the number open, as text and as JSON.
 OPEN = (rb"module refused ([1-9]|1[0-4]) [A-Za-z0-9]+ at [0-9]+\n",
-        rb'\{"offset":[0-9]+,"refused":([1-9]|1[0-4]),"word":"[A-Za-z0-9]+"\}\n')
+        rb'\{("about":\["[a-z-]+"\],)?"offset":[0-9]+,"refused":([1-9]|1[0-4]),"word":"[A-Za-z0-9]+"\}\n')
 CONVERTED = re.compile(r"(?m)^[0-9]+ (converted|refused 5[1-4] \w+)")
-Case = collections.namedtuple("Case", "kind text brief limit answer commands is_opaque")
+Case = collections.namedtuple("Case", "kind text brief limit answer commands is_opaque explained")
 
 
 # Texts that are changed.
@@ -159,7 +159,7 @@ class Runs:
     def __init__(self, text, known, limit, brief, is_opaque=False):
         reader = aliases.Reader if is_opaque else rules.Reader
         self.run, self.brief = script.Run(script.read(text, reader), script.BOXES, known, limit), brief
-        self.run.reader, self.is_opaque = reader, is_opaque
+        self.run.reader, self.run.explained, self.is_opaque = reader, True, is_opaque
         self.lines, self.count, self.out, self.status = [], 0, [], 0
 
     def obey(self, line):
@@ -171,9 +171,9 @@ class Runs:
             self.out.append(told)
 
     def case(self, kind, text, limit):
-        answer = self.status, "".join(self.out).encode()
-        return Case(kind, text + DIVIDER + "\n".join(self.lines).encode("latin-1"), self.brief, limit, answer,
-                    self.count, self.is_opaque)
+        told = "".join(self.out).encode()
+        return Case(kind, text + DIVIDER + "\n".join(self.lines).encode("latin-1"), self.brief, limit,
+                    (self.status, culprits.untold(told)), self.count, self.is_opaque, told)
 
 
 def a_text(maker, known, text, kind, is_opaque):
@@ -185,11 +185,12 @@ def a_text(maker, known, text, kind, is_opaque):
     try:
         runs = Runs(text, known, script.LIMIT, True, is_opaque)
     except rules.Refused as fault:
-        said = f"module refused {script.printing.refusal(fault)}\n".encode()
-        return Case(kind, text + DIVIDER + b"print\n", True, script.LIMIT, (3, said), 0, is_opaque)
+        said = f"module refused {script.printing.refusal(fault)}{culprits.about_text(text, fault)}\n".encode()
+        answer = 3, culprits.untold(said)
+        return Case(kind, text + DIVIDER + b"print\n", True, script.LIMIT, answer, 0, is_opaque, said)
     except rules.Open:
         # That it is refused is said, but not by which number.
-        return Case(kind, text + DIVIDER + b"print\n", True, script.LIMIT, (3, None), 0, is_opaque)
+        return Case(kind, text + DIVIDER + b"print\n", True, script.LIMIT, (3, None), 0, is_opaque, None)
     for line in asked(maker, known):
         runs.obey(line)
     return runs.case(kind, text, script.LIMIT)
@@ -281,7 +282,7 @@ def in_json(case):
     status, out = case.answer
     if out is None:
         return case
-    told = json_lines.json_of(out)
+    told = json_lines.json_of(case.explained)
     for line in told.splitlines():
         json.loads(line)
     return case._replace(answer=(status, told))

@@ -1,10 +1,11 @@
 """Lines by chance about patterns of one's own: patterns that fit an operation of a module, or are changed somewhere,
-those of patterns/, applied where they may apply; checks, and the list. script_lines.py makes lines of them."""
+those of patterns/, applied where they may apply; lists of rules and patterns; checks, and the book. script_lines.py
+makes lines of them."""
 import functools
 import pathlib
 import re
 
-from reference import patterns
+from reference import patterns, rewrites
 from reference.module import I1, INDEX, printing, walk
 from reference.operations import BINARY
 
@@ -74,8 +75,8 @@ class Fitting:
     def operand(self, value, depth):
         giver = self.ops.get(value[1]) if value[0] == "v" else None
         ty = self.module.type_of(value, self.ops)
-        kind, *_, number = giver.props.get(b"value", ("", None)) if giver and giver.name == CONSTANT else ("", None)
-        number = number if kind == "int" else None
+        found = giver.props.get(b"value", ("",)) if giver and giver.name == CONSTANT else ("",)
+        number = found[-1] if found[0] == "int" else None
         if number is not None and depth < 4 and self.likely(0.7):
             return self.number(number, ty)
         if giver and giver.name in patterns.FOLDING and len(giver.results) == 1 and depth < 3 and self.likely(0.6):
@@ -164,13 +165,23 @@ def applied(maker, run):
     return f"apply {name} #{op}"
 
 
+def listed(maker, run):
+    """A line that rewrites by a list in which patterns and rules stand."""
+    names = [maker.choice([*run.book, "p0", str(maker.randrange(1, 25)), maker.choice(rewrites.WORDS)])
+             for _ in range(maker.randrange(1, 5))]
+    word = maker.choice(["rewrite", "rewrite", "canon only"]) + f" {','.join(names)}"
+    return word + maker.choice(["", " trace"]) + f" limit {maker.choice([1, 1, 2, 3, 5, 9, 0])}"
+
+
 def line_of(maker, run):
     """A line about the patterns of a run."""
     pick = maker.random()
     if pick < 0.45 or not run.book:
         return defined(maker, run.module)
-    if pick < 0.85:
+    if pick < 0.75:
         return applied(maker, run)
+    if pick < 0.85:
+        return listed(maker, run)
     if pick < 0.95:
         return f"check {maker.choice([*run.book, 'nope'])} width {maker.choice([1, 1, 2, 2, 2, 3, 0, 25])}"
     return maker.choice(["patterns", "patterns x", "check", "check p0 width", "pattern", "check 4", "rewrite p0"])

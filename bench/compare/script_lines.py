@@ -16,7 +16,9 @@ ODD = [
     'insert end #0 0 "test.a"() : () -> () "test.b"() : () -> ()', 'insert end #0 0 "test.a"()', "report uses",
     "report kind9", "report use", "report uses of", "report kind9 of #1", "report dead of %v1", "print",
     "print ids", "print id", "resync kind7", "detach kind7", "attach kind9", "attach kind7", "attach uses dead",
-    "canon trace only 1", "canon limit 1 trace", "rewrite trace", "expect 22",
+    "canon trace only 1", "canon limit 1 trace", "rewrite trace", "expect 22", "canon at", "canon at 3",
+    "canon at #3 trace", "canon at #3 limit", "why", "why 3", "why #3 31", "why #3 4 drop-zero", "why #3 never",
+    "why #99",
     "expect 99 print", "expect expect", "expect 60 expect 60 print",
     'insert start #0 0 %a:2 = "test.a"() ({ ^bb0(%b: i8): "test.b"(%b) : (i8) -> () }, {}) {k} : () -> (i1, i2)']
 
@@ -44,6 +46,8 @@ def rewriting(maker):
         rule = maker.choice([maker.randrange(32), maker.choice(rewrites.WORDS), "1", "2"])
         return f"apply {rule} #{maker.randrange(20)}"
     if maker.random() < 0.2:
+        return asking(maker, maker.randrange(20))
+    if maker.random() < 0.2:
         rules = ",".join(str(maker.choice([1, 2, 3, maker.randrange(1, 25), maker.choice(rewrites.WORDS)]))
                          for _ in range(maker.randrange(1, 9)))
         word, behind = maker.choice(["rewrite", "canon only"]), maker.choice(["", "", " limit 2", " limit 0", " limit"])
@@ -52,6 +56,13 @@ def rewriting(maker):
         word = maker.choice(["canon", "canon", "canon trace"])
         return word + maker.choice(["", "", " limit 1", " limit 3", " limit 0", " limit"])
     return conversion(maker)
+
+
+def asking(maker, op):
+    """A question about the rules at an operation, or their repeated application there."""
+    if maker.random() < 0.3:
+        return f"canon at #{op}" + maker.choice(["", "", " limit 1", " limit 0"])
+    return f"why #{op}" + maker.choice(["", "", f" {maker.randrange(1, 31)}", f" {maker.choice(rewrites.WORDS)}"])
 
 
 def conversion(maker):

@@ -1,14 +1,14 @@
 """Runs a module and a script by the rules, as the program does, in bench/:
 
-python3 -m reference [--brief] [--limit N] [--format FORMAT] [--opaque] < INPUT
-python3 -m reference [--brief] [--limit N] [--opaque] --interactive < INPUT
-python3 -m reference [--brief] [--limit N] [--format FORMAT] [--opaque] --own-patterns [--patterns FILE].. < INPUT
+python3 -m reference [--brief] [--limit N] [--format FORMAT] [FLAG].. < INPUT
+python3 -m reference [--brief] [--limit N] [FLAG].. --interactive < INPUT
+python3 -m reference [--brief] [--limit N] [--format FORMAT] [FLAG].. --own-patterns [--patterns FILE].. < INPUT
 
     --opaque    types and attributes that aren't known are kept as they are spelled, and aliases and locations are read
+    --explain   what a refusal is about stands behind it, as it does in JSON without the flag
 
-FORMAT is text or json. With --interactive each line is answered as soon as it is there. With --own-patterns patterns of
-one's own may stand in the list of a `rewrite`, which the program doesn't have; a file has patterns, one a line, which
-are there from the start."""
+FORMAT is text or json. With --interactive each line is answered as soon as it is there. With --own-patterns files may
+have patterns of one's own, one a line, which are there from the start, and which the program doesn't read."""
 import pathlib
 import re
 import sys
@@ -28,12 +28,13 @@ class Options:
         self.brief, self.is_live = "--brief" in self.flags, "--interactive" in self.flags
         self.limit = self.limit or LIMIT
         self.reader = aliases.Reader if "--opaque" in self.flags else rules.Reader
+        self.explained = "--explain" in self.flags or self.format == "json"
         if self.is_live and (self.format or self.files is not None):
             raise ValueError
 
     def after(self, word, *rest):
         """Takes an option, and gives the words behind it; raises `ValueError` where it is none."""
-        if word in ("--brief", "--opaque", "--interactive") and word not in self.flags:
+        if word in ("--brief", "--opaque", "--explain", "--interactive") and word not in self.flags:
             self.flags.add(word)
             return rest
         if word == "--format" and self.format is None and rest and rest[0] in ("text", "json"):
@@ -54,7 +55,9 @@ class Options:
     def run(self, given, out):
         """Runs an input, and gives the status."""
         if self.is_live:
-            for status, told in live.answers(live.lines_of(given), self.brief, self.limit, reader=self.reader):
+            given = live.lines_of(given)
+            for status, told in live.answers(given, self.brief, self.limit, reader=self.reader,
+                                             explained=self.explained):
                 out.write(told)
                 out.flush()
             return status
@@ -65,11 +68,11 @@ class Options:
     def run_whole(self, text):
         """The status of a whole run over an input, and what it writes."""
         if self.files is None:
-            return run(text, self.brief, limit=self.limit, reader=self.reader)
+            return run(text, self.brief, limit=self.limit, reader=self.reader, explained=self.explained)
         book = {}
         for file in self.files:
             own.read_book(pathlib.Path(file).read_bytes(), book)
-        return own.run(text, self.brief, self.limit, book, self.reader)
+        return own.run(text, self.brief, self.limit, book, self.reader, self.explained)
 
 
 def main(words):

@@ -38,14 +38,27 @@ def number(word):
     return shown(word)
 
 
+def about(rest):
+    """Nothing, or what stands behind `about`."""
+    found, rest = [], cut(rest)[1] if rest else b""
+    while rest:
+        cell, rest = cut(rest)
+        found.append(shown(cell))
+    return {"about": found} if found else {}
+
+
 def refusal(rest):
-    """`22 HasUses`, and behind it an operation, or `at` and an offset."""
+    """`22 HasUses`, behind it an operation, or `at` and an offset, and what it is about."""
     refused, rest = cut(rest)
     word, place = cut(rest)
     told = {"refused": number(refused), "word": shown(word)}
+    first, rest = cut(place)
     if place.startswith(b"#"):
-        return {**told, "op": shown(place)}
-    return {**told, "offset": number(cut(place)[1])} if place else told
+        return {**told, "op": shown(first), **about(rest)}
+    if first in (b"about", b""):
+        return {**told, **about(place)}
+    offset, rest = cut(rest)
+    return {**told, "offset": number(offset), **about(rest)}
 
 
 def reply(line):
@@ -119,15 +132,38 @@ def is_rewrite(line):
     return word == b"rewrote" and cut(cut(rest)[1])[1].startswith(b"#")
 
 
+def is_applied(line):
+    """Whether a line tells of a pattern of one's own: an operation stands behind its name."""
+    word, rest = cut(line)
+    return word == b"rewrote" and cut(rest)[1].startswith(b"#")
+
+
+def row_of_applied(line):
+    name, rest = cut(cut(line)[1])
+    return changed({"kind": "trace", "name": shown(name)}, rest)
+
+
 def row_of_rewrite(line):
     rule, rest = cut(cut(line)[1])
     word, rest = cut(rest)
+    return changed({"kind": "trace", "rule": number(rule), "word": shown(word)}, rest)
+
+
+def changed(told, rest):
+    """What is told with the operation, what was made and what went."""
     op, rest = cut(rest)
-    told = {"kind": "trace", "rule": number(rule), "word": shown(word), "op": shown(op)}
+    told = {**told, "op": shown(op)}
     if rest.startswith(b"made "):
         made, rest = cut(cut(rest)[1])
         told["made"] = [shown(it) for it in parts(made, b",")]
     return {**told, "erased": shown(cut(rest)[1])} if rest else told
+
+
+def row_of_reason(line):
+    op, rest = cut(cut(line)[1])
+    rule, rest = cut(rest)
+    word, rest = cut(rest)
+    return {"kind": "why", "op": shown(op), "rule": number(rule), "word": shown(word), "said": shown(rest)}
 
 
 def worded(line):
@@ -135,9 +171,13 @@ def worded(line):
     word, rest = cut(line)
     if is_rewrite(line):
         return row_of_rewrite(line)
+    if is_applied(line):
+        return row_of_applied(line)
     if word == b"--":
         kind, state = cut(rest)
         return {"kind": shown(kind), **({"state": shown(state)} if state else {})}
+    if rest.startswith(b"#") and word == b"why":
+        return row_of_reason(line)
     if rest.startswith(b"#"):
         return row_of_symbols(line) if word in SYMBOLS else {"text": shown(line)}
     if OUTCOME.fullmatch(cut(rest)[0]):

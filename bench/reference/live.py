@@ -4,7 +4,7 @@ whole run has it for the input up to that line. Each ends with an empty line."""
 import io
 import itertools
 
-from . import script
+from . import culprits, script
 from .module import printing, read, rules
 
 DIVIDER = b"// -----"
@@ -23,7 +23,7 @@ def lines_of(given):
 
 
 def answers(lines, brief=True, limit=script.LIMIT, boxes=script.BOXES, commands=script.ALL, make=script.Run,
-            reader=rules.Reader):
+            reader=rules.Reader, explained=False):
     """The answers to an input whose lines come one by one, each with its line feed, if it has one, and the exit status
     if the input ends behind it. A line that says nothing has no answer; one that is too long ends all."""
     lines = iter(lines)
@@ -33,9 +33,10 @@ def answers(lines, brief=True, limit=script.LIMIT, boxes=script.BOXES, commands=
             raise rules.Refused(11, MOST_INPUT)
         here = make(read(text, reader), boxes, commands, limit)
     except rules.Refused as fault:
-        yield 3, f"module refused {printing.refusal(fault)}\n".encode()
+        told = culprits.about_text(text, fault) if explained else ""
+        yield 3, f"module refused {printing.refusal(fault)}{told}\n".encode()
         return
-    here.reader = reader
+    here.reader, here.explained = reader, explained
     status, count = 0, 0
     yield status, END
     for line in lines:
@@ -49,7 +50,7 @@ def answers(lines, brief=True, limit=script.LIMIT, boxes=script.BOXES, commands=
             yield status, told.encode() + END
 
 
-def run(text, brief=True, limit=script.LIMIT, reader=rules.Reader):
+def run(text, brief=True, limit=script.LIMIT, reader=rules.Reader, explained=False):
     """The status of a run over an input, and what it writes."""
-    statuses, told = zip(*answers(lines_of(io.BytesIO(text)), brief, limit, reader=reader))
+    statuses, told = zip(*answers(lines_of(io.BytesIO(text)), brief, limit, reader=reader, explained=explained))
     return statuses[-1], b"".join(told)

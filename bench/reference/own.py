@@ -1,11 +1,8 @@
-"""Whole runs with patterns of one's own in the lists of `rewrite` too, and a book that is there from the start, which
-the program doesn't have."""
+"""Whole runs with a book of patterns that is there from the start, which the program doesn't have."""
 import functools
-import re
 
-from . import edits, patterns, rules, script
-from .module import walk
-from .script import ALL, BOXES, LIMIT, MOST_LIMIT, MOST_TRIED, applied, need, number
+from . import patterns, rules, script
+from .script import ALL, BOXES, LIMIT
 
 
 class BookRefused(Exception):
@@ -31,50 +28,7 @@ class Run(script.Run):
         super().__init__(module, boxes, commands, limit)
         self.book = dict(book or {})
 
-    def rule(self, word):
-        """A rule by its number or its word, or a pattern by its name."""
-        if word in self.book:
-            return self.book[word]
-        need(word)
-        rule = script.rule_of(word)
-        edits.refuse(26, rule is None)
-        need(rule <= MOST_TRIED)
-        return rule
 
-    def rewrite(self, text):
-        """What rules alone make is told where that is asked for; what is told of a pattern isn't said."""
-        words = re.split("[ \t]+", text)
-        if not any(word in self.book for word in words[0].split(",")):
-            return super().rewrite(text)
-        need(len(words) in (1, 3) and (len(words) == 1 or words[1] == "limit"))
-        limit = number(words[2]) if len(words) == 3 else self.limit
-        asked = [self.rule(word) for word in words[0].split(",")]
-        edits.refuse(50, not 1 <= limit <= MOST_LIMIT)
-        self.module, count, is_done = rewritten(self.module, asked, limit)
-        return f"{'converged' if is_done else 'limit'} {count}", ""
-
-
-def one_more(module, asked):
-    """The module behind the first rule of a list that applies at the first operation in pre-order, or none."""
-    for op in walk(module.root):
-        for rule in asked:
-            tried = module.copy()
-            if applied(tried, rule, op.id):
-                return tried
-    return None
-
-
-def rewritten(module, asked, limit):
-    """A module behind as many rewrites as there are, but no more than a limit; how many, and whether there are no
-    more."""
-    for count in range(limit):
-        tried = one_more(module, asked)
-        if tried is None:
-            return module, count, True
-        module = tried
-    return module, limit, one_more(module, asked) is None
-
-
-def run(text, brief=True, limit=LIMIT, book=None, reader=rules.Reader):
+def run(text, brief=True, limit=LIMIT, book=None, reader=rules.Reader, explained=False):
     """The status of a run over an input, and what it writes."""
-    return script.run(text, brief, BOXES, ALL, limit, functools.partial(Run, book=book), reader)
+    return script.run(text, brief, BOXES, ALL, limit, functools.partial(Run, book=book), reader, explained)

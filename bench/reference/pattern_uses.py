@@ -2,17 +2,21 @@
 from . import edits, rewrites
 from .folds import holds, width
 from .module import I64
+from .operations import is_T
 from .patterns import PREDICATES, Constant, Operation, Value, variable, walk
 from .rewrites import FLAGGED, No, need
 from .rules import span
 
 
 class NoNumber(Exception):
-    """A number that isn't there: a literal that is none of its type, a logarithm of what is no power of two."""
+    """A number that isn't there: a literal that is none of its type, as of one that has no numbers, a logarithm of what
+    is no power of two."""
 
 
 def number_of(number, ty, numbers):
     """What a number is at a type, where the numbers of names are known."""
+    if not is_T(ty):
+        raise NoNumber
     modulus = 2 ** width(ty)
     if number.is_literal():
         least, most, _ = span(ty)
@@ -95,12 +99,17 @@ class Match:
         self.constants = []
         self.match(pattern.old, ("v", site.x.id, 0))
         self.instance = Instance(pattern, self.types)
+        need(all(site.type(value) == self.instance.type(term) for term, value in self.constants))
         self.numbers = {name: site.K(value) for name, value in self.values.items() if not name.startswith("%")}
         need(self.instance.applies(self.numbers))
         literals = self.instance.literals()
         need(all(site.K(value) == literals[term] for term, value in self.constants))
 
     def match(self, term, value):
+        if isinstance(term, Constant) and term.number.is_literal():
+            # (it says of no type variable what stands for it)
+            self.constants.append((term, value))
+            return
         wanted = self.pattern.typed(term)
         need(self.types.setdefault(wanted, self.site.type(value)) == self.site.type(value)
              if wanted in self.pattern.types.stands else wanted == self.site.type(value))
@@ -108,8 +117,6 @@ class Match:
             self.match_operation(term, value)
         elif isinstance(term, Value):
             need(self.values.setdefault(variable(term), value) == value)
-        elif term.number.is_literal():
-            self.constants.append((term, value))
         else:
             need(self.site.K(value) == self.site.K(self.values.setdefault(variable(term), value)))
 

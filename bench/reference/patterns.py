@@ -41,6 +41,13 @@ class Constant:
         self.at, self.number, self.written = at, number, written
 
 
+class MinusZero(int):
+    """The literal `-0`, which is 0, and is printed as it is written."""
+
+    def __str__(self):
+        return "-0"
+
+
 class Number:
     """A literal (`word` is a whole number), a name (without parts), or a function of numbers."""
 
@@ -119,7 +126,7 @@ class Reader(rules.Reader):
             return None
         found = rules.number(it.text)
         refuse(7, it.start, found > rules.MOST_MAGNITUDE)
-        return (found if behind is None else -found), it.end
+        return (found if behind is None else -found or MinusZero()), it.end
 
     def some(self, at, close, part, most=MOST):
         """Parts up to a mark, one or more. One too many is refused behind all that is wrong in it."""

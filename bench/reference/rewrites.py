@@ -2,7 +2,7 @@
 from .analyses import effects_of
 from .folds import attribute_of, fold, known, signed, width
 from .module import I1, I64, INDEX, Block, Op, walk
-from .operations import (BINARY, FOR, FUNC, IF, INDEX_CASTS, MODULE, ROWS, WHILE, is_beyond, is_signless,
+from .operations import (BINARY, FOR, FUNC, IF, INDEX_CASTS, MODULE, ROWS, WHILE, is_beyond, is_listed, is_signless,
                          is_terminator)
 from .verifier import Here, broken
 
@@ -33,8 +33,9 @@ class Site:
         return self.module.type_of(value)
 
     def right(self, op):
-        """Asks that an operation has no diagnostic and no property outside its row."""
-        need(op.name in ROWS and all(key in ROWS[op.name].props for key in op.props))
+        """Asks that an operation has no diagnostic, and that each of its properties is one of its row: without a row
+        none is."""
+        need(all(key in ROWS[op.name].props for key in op.props) if op.name in ROWS else not op.props)
         need(not broken(Here(self.module, op, self.ops, self.places)))
         return op
 
@@ -433,7 +434,7 @@ expand-difference expand-remainder lower-index lower-loop lower-choice""".split(
 
 
 def is_clean(module, number):
-    """Whether an operation isn't the root, and has no diagnostic and no property outside its row."""
+    """Whether an operation isn't the root, has no diagnostic, and no property outside its row."""
     site = Site(module, number)
     try:
         site.right(site.x)
@@ -444,10 +445,11 @@ def is_clean(module, number):
 
 def after(module, rule, number):
     """The module after a rule at an operation that is clean, or none where it doesn't apply. Beyond the table only the
-    first does."""
+    first does, and at an operation that isn't listed none."""
     tried = module.copy()
     site = Site(tried, number)
     try:
+        need(is_listed(site.x))
         if rule != 1:
             site.within(site.x)
         RULES[rule - 1](site)
@@ -463,6 +465,8 @@ def apply(module, rule, number):
 
 def rules_of(op):
     """The rules of 1 to 24 that an operation's name doesn't exclude."""
+    if not is_listed(op):
+        return []
     return [1] + list(range(2, 22) if op.name.startswith(b"arith.") else range(21, 25))
 
 
@@ -473,8 +477,8 @@ def fired(module, rules):
     """The module after the first of some rules of 1 to 24, in their order, that applies at the first operation at which
     one does, that rule, and the operation, or none."""
     for op in walk(module.root):
-        named = rules_of(op)
-        for rule in [rule for rule in rules if rule in named] if is_clean(module, op.id) else []:
+        named = [rule for rule in rules if rule in rules_of(op)]
+        for rule in named if named and is_clean(module, op.id) else []:
             found = after(module, rule, op.id)
             if found is not None:
                 return found, rule, op.id
@@ -487,12 +491,17 @@ def first(module, rules=CANONICAL):
     return found and found[0]
 
 
+def made_and_gone(module, found, op):
+    """An operation at which something was applied, which operations that made, and whether the operation went."""
+    made = ",".join(f"#{number}" for number in range(module.next, found.next))
+    gone = "" if op in found.ops() else f" erased #{op}"
+    return f"#{op}{made and ' made '}{made}{gone}"
+
+
 def told(module, found, rule, op):
     """What is told of a rewrite of a module: the rule, the operation, which operations it made, and whether the
     operation went."""
-    made = ",".join(f"#{number}" for number in range(module.next, found.next))
-    gone = "" if op in found.ops() else f" erased #{op}"
-    return f"rewrote {rule} {WORDS[rule - 1]} #{op}{made and ' made '}{made}{gone}"
+    return f"rewrote {rule} {WORDS[rule - 1]} {made_and_gone(module, found, op)}"
 
 
 def traced(module, rules, limit):
@@ -516,3 +525,21 @@ def rewritten(module, rules, limit):
 def canonical(module, limit):
     """The same by the rules of canonicalization, in the order of their numbers."""
     return rewritten(module, CANONICAL, limit)
+
+
+def canonical_at(module, number, limit):
+    """The module after at most so many rewrites at one operation, each by the lowest rule of 1 to 24 that applies
+    there, how many there were, and whether none applies any more or the operation is gone."""
+    count = 0
+    while True:
+        found = first_at(module, number)
+        if found is None or count == limit:
+            return module, count, found is None
+        module, count = found, count + 1
+
+
+def first_at(module, number):
+    """The module after the lowest rule of 1 to 24 that applies at an operation, or none."""
+    if number not in module.ops():
+        return None
+    return next((found for rule in CANONICAL if (found := apply(module, rule, number)) is not None), None)

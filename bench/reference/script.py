@@ -1,9 +1,11 @@
 """Whole runs: a module, a script, and what is written."""
 import re
 
-from . import aliases, conversion, edits, pattern_checks, pattern_uses, patterns, rewrites
+from . import aliases, conversion, edits, mixed, pattern_checks, pattern_uses, patterns, reasons, rewrites
 from .analyses import ANALYSES, KINDS, is_about, unreached_ops
+from .culprits import about, about_text
 from .module import ids_text, printing, read, read_attr, read_op, rules, text_of
+from .parts import Bad, cut, cut_key, cut_place, need, number, op_of, value_of
 
 WORDS = {20: "NoSuchOp", 21: "NoSuchValue", 22: "HasUses", 23: "NotVisible", 24: "TypeDiffers", 25: "NoSuchIndex",
          26: "NoSuchKey",
@@ -19,30 +21,14 @@ MOST_MARKS = 16
 FIRST = {"report", "print", "set-operand", "move", "set-attr", "drop-attr", "resync", "detach"}
 EDITS = FIRST | {"erase", "insert", "replace"}
 ALL = EDITS | {"begin", "commit", "rollback", "sweep", "canon", "convert", "apply", "attach", "rewrite", "pattern",
-               "patterns", "check"}
+               "patterns", "check", "why"}
 # These leave the module, and have no listing, but where they are refused as no command.
-LOOKS = {"report", "print", "pattern", "patterns", "check"}
+LOOKS = {"report", "print", "pattern", "patterns", "check", "why"}
 REFUSALS = {**rules.WORDS, **WORDS}
 NUMBERS = {word: number for number, word in REFUSALS.items()}
 MOST_LIMIT, LIMIT = 1000000, 1000
 # The rules that `rewrite` may try; the others are conversion's.
 MOST_TRIED = 24
-
-
-class Bad(Exception):
-    """A line is no command."""
-
-
-def number(digits):
-    if not re.fullmatch("[0-9]+", digits) or int(digits) > 4294967295:
-        raise Bad
-    return int(digits)
-
-
-def op_of(word):
-    if not word.startswith("#"):
-        raise Bad
-    return number(word[1:])
 
 
 def rule_of(word):
@@ -51,50 +37,6 @@ def rule_of(word):
         return rewrites.WORDS.index(word) + 1 if word in rewrites.WORDS else None
     need(1 <= number(word) <= len(rewrites.WORDS))
     return number(word)
-
-
-def value_of(word):
-    found = re.fullmatch(r"%v([0-9]+)\.([0-9]+)|%a([0-9]+)\.([0-9]+)\.([0-9]+)", word)
-    if not found:
-        raise Bad
-    return (word[1],) + tuple(number(it) for it in found.groups() if it is not None)
-
-
-def cut(text):
-    """The first word of a text, and the rest."""
-    found = re.fullmatch(r"([^ \t]*)[ \t]*(.*)", text, re.S)
-    return found[1], found[2]
-
-
-def cut_place(text):
-    word, rest = cut(text)
-    op, rest = cut(rest)
-    if word in ("before", "after"):
-        return (word, op_of(op), None), rest
-    if word not in ("start", "end"):
-        raise Bad
-    region, rest = cut(rest)
-    return (word, op_of(op), number(region)), rest
-
-
-def cut_key(text):
-    if text.startswith('"'):
-        try:
-            key = rules.token(text.encode("latin-1"), 0)
-        except rules.Refused:
-            raise Bad from None
-        if text[key.end:key.end + 1] not in ("", " ", "\t"):
-            raise Bad
-        return key.text, text[key.end:].lstrip(" \t")
-    key, rest = cut(text)
-    if not re.fullmatch(r"[A-Za-z_][A-Za-z0-9_$.]*", key):
-        raise Bad
-    return key.encode(), rest
-
-
-def need(is_so):
-    if not is_so:
-        raise Bad
 
 
 def applied(module, rule, number):
@@ -112,6 +54,8 @@ class Run:
     with what was said of them, which no rollback changes; `reader` reads what a line has."""
 
     reader = rules.Reader
+    # Whether refusals are explained: behind each stands what it is about.
+    explained = False
 
     def __init__(self, module, boxes=BOXES, commands=ALL, limit=LIMIT):
         self.limit = limit
@@ -242,9 +186,10 @@ class Run:
         return number(words[1]) if words else self.limit
 
     def rewritten(self, asked, limit, is_traced=False):
-        """Rewrites by some rules, and tells each rewrite, or how many there were alone."""
+        """Rewrites by some rules and patterns, and tells each rewrite, or how many there were alone."""
         edits.refuse(50, not 1 <= limit <= MOST_LIMIT)
-        self.module, lines, is_done = rewrites.traced(self.module, asked, limit)
+        by = rewrites if all(isinstance(it, int) for it in asked) else mixed
+        self.module, lines, is_done = by.traced(self.module, asked, limit)
         told = "".join(line + "\n" for line in lines) if is_traced else ""
         return ("converged" if is_done else "limit") + f" {len(lines)}", told
 
@@ -252,13 +197,36 @@ class Run:
         words = re.split("[ \t]+", text) if text else []
         if words[:1] == ["only"]:
             return self.rewrite(cut(text)[1])
+        if words[:1] == ["at"]:
+            return self.canon_at(words[1:])
         is_traced = words[:1] == ["trace"]
         return self.rewritten(rewrites.CANONICAL, self.limited(words[is_traced:]), is_traced)
 
+    def canon_at(self, words):
+        """Rewrites one operation by the rules of canonicalization, as long as it is there and one applies."""
+        need(words)
+        op, limit = op_of(words[0]), self.limited(words[1:])
+        edits.refuse(50, not 1 <= limit <= MOST_LIMIT)
+        edits.refuse(20, op not in self.module.ops())
+        self.module, count, is_done = rewrites.canonical_at(self.module, op, limit)
+        return ("converged" if is_done else "limit") + f" {count}", ""
+
+    def why(self, text):
+        """Why rules don't apply at an operation: one, or those that there may be at its name."""
+        words = re.split("[ \t]+", text)
+        need(len(words) in (1, 2))
+        op, rule = op_of(words[0]), rule_of(words[1]) if len(words) == 2 else None
+        edits.refuse(26, len(words) == 2 and rule is None)
+        edits.refuse(20, op not in self.module.ops())
+        asked = reasons.listed(self.module.ops()[op]) if rule is None else [rule]
+        told = [(it, rewrites.WORDS[it - 1], reasons.reason(self.module, it, op) or "applies") for it in asked]
+        return "", "".join(f"why #{op} {it} {word} {verdict}\n" for it, word, verdict in told)
+
     def named(self, name):
-        """The rule that a word of a list names; none where it is a word that no rule has."""
+        """The pattern that a word of a list names, or else the rule that is tried; none where it names neither."""
         need(not name[0].isdigit() or rule_of(name) <= MOST_TRIED)
-        return rule_of(name)
+        rule = rule_of(name)
+        return self.book.get(name, None if rule is None or rule > MOST_TRIED else rule)
 
     def rewrite(self, text):
         words = re.split("[ \t]+", text)
@@ -267,7 +235,7 @@ class Run:
         asked = [self.named(name) for name in names]
         is_traced = words[1:2] == ["trace"]
         limit = self.limited(words[1 + is_traced:])
-        edits.refuse(26, any(rule is None or rule > MOST_TRIED for rule in asked))
+        edits.refuse(26, None in asked)
         return self.rewritten(asked, limit, is_traced)
 
     def convert(self, text):
@@ -337,12 +305,16 @@ class Run:
             return " refused 60 BadCommand\n", True
         except rules.Refused as fault:
             text = "32 IdsExhausted" if fault.number == 32 else printing.refusal(fault)
-            return f" refused {text}\n", word not in LOOKS
+            return f" refused {text}{self.about(line, fault.number, fault.at)}\n", word not in LOOKS
         except conversion.Refused as fault:
             op = "" if fault.op is None else f" #{fault.op}"
             return f" refused {fault.number} {WORDS[fault.number]}{op}\n", True
         except edits.Refused as fault:
-            return f" refused {fault.number} {WORDS[fault.number]}\n", word not in LOOKS
+            return f" refused {fault.number} {WORDS[fault.number]}{self.about(line, fault.number)}\n", word not in LOOKS
+
+    def about(self, line, number, offset=None):
+        """What stands behind a refusal, where it is explained."""
+        return about(self.module, line, number, offset) if self.explained else ""
 
     def listed(self, kind):
         return f"-- {kind}\n{self.rows(kind)}"
@@ -401,17 +373,17 @@ def obey(here, script, brief):
     return int(not all(is_accepted for is_accepted, _ in answers)), "".join(told for _, told in answers).encode()
 
 
-def run(text, brief=True, boxes=BOXES, commands=ALL, limit=LIMIT, make=Run, reader=rules.Reader):
+def run(text, brief=True, boxes=BOXES, commands=ALL, limit=LIMIT, make=Run, reader=rules.Reader, explained=False):
     """The status of a run over an input, and what it writes; `reader` reads the module and what a line has."""
     text, script = split(text)
     try:
         here = make(read(text, reader), boxes, commands, limit)
     except rules.Refused as fault:
-        return 3, f"module refused {printing.refusal(fault)}\n".encode()
-    here.reader = reader
+        return 3, f"module refused {printing.refusal(fault)}{about_text(text, fault) if explained else ''}\n".encode()
+    here.reader, here.explained = reader, explained
     return obey(here, script, brief)
 
 
-def run_opaque(text, brief=True, limit=LIMIT):
+def run_opaque(text, brief=True, limit=LIMIT, explained=False):
     """The same with opaque terms, in the module, where aliases and locations are read too, and in the script."""
-    return run(text, brief, limit=limit, reader=aliases.Reader)
+    return run(text, brief, limit=limit, reader=aliases.Reader, explained=explained)

@@ -13,7 +13,7 @@ from .operations import Operation
 from .patterns import Checked, Pattern
 from .process import Process
 from .reply import Reply
-from .rewrites import Canonicalized, Rewrite, Traced
+from .rewrites import Canonicalized, Reason, Rewrite, Traced
 from .rows import KINDS, Constant, Dead, Diagnostic, Effect, Row, Symbol, Unreached, Use
 from .session import Session
 from .values import Argument, Result, Value, after, before, end, quoted, start
@@ -21,5 +21,5 @@ from .way import Way
 
 __all__ = ["KINDS", "Argument", "Canonicalized", "Checked", "Constant", "Dead", "Diagnostic", "Effect", "Error",
            "Library", "ModuleRefused", "Operation", "Pattern", "Process", "ProcessLost", "Refused", "Reply", "Result",
-           "Rewrite", "Row", "Session", "SessionClosed", "Symbol", "Traced", "Unreached", "Use", "Value", "Way",
-           "after", "before", "end", "quoted", "start"]
+           "Reason", "Rewrite", "Row", "Session", "SessionClosed", "Symbol", "Traced", "Unreached", "Use", "Value",
+           "Way", "after", "before", "end", "quoted", "start"]

@@ -12,7 +12,7 @@ from .operations import Operation
 from .patterns import Checked, Pattern, checked_of, patterns_of
 from .process import DIVIDER, Process, Program
 from .reply import Reply
-from .rewrites import Canonicalized, Traced, canonicalized_of, traced_of
+from .rewrites import Canonicalized, Reason, Traced, canonicalized_of, reasons_of, traced_of
 from .rows import KINDS, Constant, Dead, Diagnostic, Effect, Row, Symbol, Unreached, Use, rows_of
 from .values import Value, key_text, op_text
 from .way import Way
@@ -308,8 +308,18 @@ class Session:
         """Rewrites by the rules of docs/CANONICALIZE.md until none applies, or so many times."""
         return canonicalized_of(self.command(f"canon{_limited(limit)}"))
 
+    def canon_at(self, operation: SupportsIndex, limit: Optional[int] = None) -> Canonicalized:
+        """Rewrites one operation alone by these rules, while it is there and one applies, or so many times."""
+        return canonicalized_of(self.command(f"canon at {op_text(operation)}{_limited(limit)}"))
+
+    def why(self, operation: SupportsIndex, rule: Union[int, str, None] = None) -> List[Reason]:
+        """Why rules don't apply at an operation, or that they do: a rule, or those that there may be for its name."""
+        asked = "" if rule is None else f" {rule}"
+        return reasons_of(self.command(f"why {op_text(operation)}{asked}"))
+
     def rewrite(self, rules: Iterable[Union[int, str]], limit: Optional[int] = None) -> Canonicalized:
-        """Rewrites by these rules of 1 to 24 alone, by their numbers or words, tried in this order at an operation."""
+        """Rewrites by these rules of 1 to 24, by their numbers or words, and patterns of one's own, by their names,
+        tried in this order at an operation."""
         return canonicalized_of(self.command(f"rewrite {_ruled(rules)}{_limited(limit)}"))
 
     def trace(self, rules: Optional[Iterable[Union[int, str]]] = None, limit: Optional[int] = None) -> Traced:

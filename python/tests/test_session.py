@@ -194,6 +194,19 @@ class Calls(Case):
             self.assertEqual([(it.rule, it.operation, it.is_erased) for it in told.rewrites[1:]], [(5, 3, True)])
             self.assertEqual(s.rewrite("erase-dead"), (1, True))
 
+    def test_rules_at_an_operation(self):
+        with session(SWAPPED) as s:
+            told = s.why(3)
+            self.assertIn(mlir_work.Reason(3, "swap-constant", "applies"), told)
+            self.assertEqual([it.rule for it in told], sorted(it.rule for it in told))
+            self.assertEqual(s.why(3, "drop-one"), [(5, "drop-one", "second-not-constant")])
+            self.assertEqual(s.why(3, 4), [(4, "drop-zero", "other-operation")])
+            self.assertEqual((s.canon_at(3, 1), s.canon_at(3)), ((1, False), (1, True)))
+            for asked, number in (((3,), 20), ((2, "nope"), 26)):
+                with self.assertRaises(mlir_work.Refused) as caught:
+                    s.why(*asked)
+                self.assertEqual(caught.exception.number, number)
+
     def test_the_limit(self):
         with session(example("canon"), limit=2) as s:
             self.assertEqual(s.canon(), (2, False))

@@ -27,7 +27,8 @@ MISSPELT = {
     "delete #8": (0, "write `erase #N`"),
     "inesrt": (0, "write `insert PLACE OPERATION`"),
     "xyzzy": (0, "they are print, report, "),
-    "canon 5": (6, "`5` stands where `limit` or `only` or `trace` is wanted: write `canon` or `canon limit N` or "),
+    "canon 5": (6, "`5` stands where `limit` or `at` or `only` or `trace` is wanted: write `canon` or "
+                "`canon limit N` or "),
     "canon limit": (11, "N is missing: write `canon limit N`"),
     "canon limit #5": (12, "`#5` is no N: write `canon limit N`"),
     "canon limit 4294967296": (12, "4294967296 is above 4294967295"),

@@ -1,5 +1,6 @@
 """docs/JSON.md: each line of its tables is the object beside it, by the rules; its run is typed; and with files, to a
-file, by wrong words and on a full disk the program writes JSON as it writes text, where it knows `--format`."""
+file, by wrong words and on a full disk the program writes JSON as it writes text with `--explain`, where it knows
+`--format`."""
 import json
 import os
 import pathlib
@@ -56,10 +57,12 @@ class Program(unittest.TestCase):
     def test_formats(self):
         status, text, _ = self.ran()
         self.assertEqual(self.ran("--format", "text"), (status, text, b""))
+        status, text, _ = self.ran("--explain")
         self.assertEqual(self.ran("--format=json"), (status, json_lines.json_of(text), b""))
+        self.assertEqual(self.ran("--format=json", "--explain"), (status, json_lines.json_of(text), b""))
 
     def test_files(self):
-        _, text, _ = self.ran()
+        _, text, _ = self.ran("--explain")
         with tempfile.TemporaryDirectory() as folder:
             there, out = pathlib.Path(folder) / "m.mlir", pathlib.Path(folder) / "out.json"
             there.write_bytes(MODULE)

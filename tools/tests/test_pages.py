@@ -11,8 +11,8 @@ from support import ROOT, program, refusals, session
 BLOCK = re.compile(r"(?:^    .*\n)+", re.M)
 MODULE = re.compile(r"```mlir\n(.*?)```", re.S)
 RUNS = {"A pattern by hand": "strength", "A pass replayed, with marks": "hoist", "The verifier, live": "signature",
-        "Made simpler, a rule at a time": "canon", "A pattern of one's own": "strength",
-        "Converted to a target": "index", "What nothing reaches": "sweep"}
+        "Made simpler, a rule at a time": "canon", "Why a rule doesn't apply": "canon",
+        "A pattern of one's own": "strength", "Converted to a target": "index", "What nothing reaches": "sweep"}
 
 
 def sections(page):

@@ -58,7 +58,7 @@ BEGUN = {
     "": ["ids", "diagnostics", "set-operand"], "era": ["erase"], "report dia": ["diagnostics"],
     "erase #1": ["#1", "#10"],
     "move #8 ": ["before", "after", "start", "end"], "move #8 before #1": ["#1", "#10"], "replace %v1": ["%v10.0"],
-    "set-operand #8 0 %a6": ["%a6.0.0"], "canon ": ["limit", "only", "trace"],
+    "set-operand #8 0 %a6": ["%a6.0.0"], "canon ": ["at", "limit", "only", "trace"],
     "canon trace ": ["limit"], "rewrite 4,1 ": ["limit", "trace"], "convert ": ["partial", "full"],
     "diff ": ["start", "here"],
     "convert partial ": ["legal", "rules"], "convert partial illegal arith.mu": ["arith.muli"], "help HasU": [],

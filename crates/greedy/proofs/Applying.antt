@@ -1,6 +1,8 @@
--- At an operation that isn't listed each rule of canonicalization applies where it applied.
+-- At an operation that isn't listed each rule of canonicalization applies where it applied, and so does each pattern that
+-- looks no deeper.
 use Rattle.std.proofs.Common.{◌≡◌, refl, ap, sym, ◌∙◌, subst, ℕ, zero, suc, Bool, true, false, true≢false, ◌&&◌, not, List, [], ◌∷◌, map, Option, Some, None, inl, inr}
-use Rattle.std.specs.Prelude.{option_map, option_and_then, is_some}
+use Rattle.std.specs.Prelude.{option_map, option_and_then, is_some, slice_get}
+use Rattle.std.proofs.lemmas.Option.{none-some}
 use Rattle.ir_event.specs.types.Things.{Things}
 use Rattle.ir_event.specs.types.Terms.{TypeTerm, AttrTerm}
 use Rattle.ir_event.specs.trees.declared.value.Value.{Value}
@@ -25,9 +27,15 @@ use Rattle.listeners_surroundings.specs.Surroundings.{SurroundingsOf, surroundin
 use Rattle.patterns_laws.specs.Keeps.{given}
 use Rattle.patterns_base.specs.declared.rule.Rule.{Rule}
 use Rattle.patterns_base.specs.RuleNames.{is_canonical}
-use Rattle.patterns_base.specs.Looks.{Header, when, may_go, front_of, giver, type_of}
+use Rattle.patterns_base.specs.Looks.{Header, when, may_go, is_clean, front_of, giver, type_of}
 use Rattle.patterns_base.specs.Rules.{rule}
 use Rattle.patterns_base.specs.Rewrites.{edits_of, suits}
+use Rattle.patterns_book.specs.Shapes.{Shape}
+use Rattle.patterns_depth.specs.Alike.{GivesAlike, ShowAlike, Under}
+use Rattle.patterns_depth.specs.Depth.{is_shallow}
+use Rattle.patterns_depth.proofs.Plans.{plans_alike}
+use Rattle.patterns_own.specs.Own.{own_edits}
+use Rattle.greedy.proofs.OwnAlike.{giver_of, gives_alike, own_same}
 use Rattle.greedy.specs.Reached.{ends, any_reaches}
 use Rattle.greedy.specs.Sights.{giver as giver_id, operands_of, Uses, is_listed, last_ids}
 use Rattle.greedy.specs.Near.{Leads}
@@ -264,8 +272,60 @@ module _ (shown : ℕ → List Value) (c : Things) (es : List Event) (m n : Modu
         ∙ given_both (front_of x t) (front_of x u) (λ front. when (suits r t (head o)) (rule r t n.next front o)) (λ front. when (suits r u (head p)) (rule r u m.next front p)) fronts (λ f g i j. when_alike _ _ _ _ (suited r) (rules_alike r canonical f g))
         ∙ sym (ap (λ a. is_some (given a (λ q. given (front_of x u) (λ front. when (suits r u (head q)) (rule r u m.next front q))))) was)
 
+    -- ---- the patterns
+    root_gives : GivesAlike t u (is_clean t) (is_clean u) (Result x 0)
+    root_gives = gives_alike t u (Result x 0) (shows_alike t u (Result x 0) (λ y e. let same : x ≡ y = cc in subst (λ z. surroundings z t ≡ surroundings z u) same own))
+
+    root_typed : type_of_value (Result x 0) t ≡ type_of_value (Result x 0) u
+    root_typed =
+        ap (option_and_then (λ q. slice_get (head q).results 0)) is ∙ ap (λ (h : Header). slice_get h.results 0) heads
+        ∙ sym (ap (option_and_then (λ q. slice_get (head q).results 0)) was)
+
+    -- what the root's operands are
+    root_operand : (v : Value) → Under t (is_clean t) (Result x 0) v → In v (head o).operands
+    root_operand v w =
+        let given_by : option_map head (find x t) ≡ Some w.0 = giver_of t (is_clean t) (Result x 0) w.0 w.1 in
+        let same : Some w.0 ≡ Some (head o) = sym given_by ∙ ap (option_map head) is in
+        let one : w.0 ≡ head o = cc in
+        subst (λ (h : Header). In v h.operands) one w.2
+
+    inner_seen : (v w : Value) → Under t (is_clean t) (Result x 0) v → Under t (is_clean t) v w → ShowsAlike t u w × (type_of t w ≡ type_of u w)
+    inner_seen v w i j = sees.inner v (root_operand v i) j.0 (giver_of t (is_clean t) v j.0 j.1) w j.2
+
+    last_typed : (v w z : Value) → Under t (is_clean t) (Result x 0) v → Under t (is_clean t) v w → Under t (is_clean t) w z → type_of t z ≡ type_of u z
+    last_typed (Arg a r k) w z i j l = absurd (none-some j.0 j.1)
+    last_typed (Result a k) (Arg b r c) z i j l = absurd (none-some l.0 l.1)
+    last_typed (Result a k) (Result b c) z i j l = go (find a t) refl (find b t) refl
+      where
+        go : (p : Option Operation) → find a t ≡ p → (q : Option Operation) → find b t ≡ q → type_of t z ≡ type_of u z
+        go None e q f = let none : None ≡ Some j.0 = sym (ap (option_map head) e) ∙ giver_of t (is_clean t) (Result a k) j.0 j.1 in absurd cc
+        go (Some p) e None f = let none : None ≡ Some l.0 = sym (ap (option_map head) f) ∙ giver_of t (is_clean t) (Result b c) l.0 l.1 in absurd cc
+        go (Some p) e (Some q) f =
+            let one : Some (head p) ≡ Some j.0 = sym (ap (option_map head) e) ∙ giver_of t (is_clean t) (Result a k) j.0 j.1 in
+            let two : Some (head q) ≡ Some l.0 = sym (ap (option_map head) f) ∙ giver_of t (is_clean t) (Result b c) l.0 l.1 in
+            let first : head p ≡ j.0 = cc in
+            let second : head q ≡ l.0 = cc in
+            types_found b
+            (far b (λ r. away (lists.seers.users_of_users b a x r (uses_found a p e (Result b c) (subst (λ (h : Header). In (Result b c) h.operands) (sym first) j.2) b refl) (uses_found x o is (Result a k) (root_operand (Result a k) i) a refl))))
+            q f z (subst (λ (h : Header). In z h.operands) (sym second) l.2)
+
+    shows : ShowAlike t u (is_clean t) (is_clean u) x
+    shows = record {
+      root = (root_gives, root_typed);
+      operands = λ v i. let h = root_operand v i in (gives_alike t u v (sees.operands v h), sees.types v h);
+      inner = λ v w i j. let s = inner_seen v w i j in (gives_alike t u w s.0, s.1);
+      last = last_typed;
+    }
+
+    own_alike : (p : Shape) → is_shallow p ≡ true → Same (own_edits p n x) (own_edits p m x)
+    own_alike q h = own_same q n m x o p is was heads fronts (plans_alike q h t u (is_clean t) (is_clean u) n.next m.next x shows)
+
     stayed : Stayed m n x
-    stayed = record { was = found_there u x p was; applies = λ r canonical. (none_from (edits_of r n x) (edits_of r m x) (edits_alike r canonical), none_from (edits_of r m x) (edits_of r n x) (sym (edits_alike r canonical))) }
+    stayed = record {
+      was = found_there u x p was;
+      applies = λ r canonical. (none_from (edits_of r n x) (edits_of r m x) (edits_alike r canonical), none_from (edits_of r m x) (edits_of r n x) (sym (edits_alike r canonical)));
+      own = λ q h. (none_from (own_edits q n x) (own_edits q m x) (own_alike q h), none_from (own_edits q m x) (own_edits q n x) (sym (own_alike q h)));
+    }
 
   pub touched_all : Touched m n listed
   touched_all x h unlisted =

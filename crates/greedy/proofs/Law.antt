@@ -64,7 +64,7 @@ planned r m x es e = go (find x m.tree) refl (front_of x m.tree) refl e
     go (Some o) k None l e = absurd cc
     go (Some o) k (Some place) l e = record { here = o; place = place; found = k; front = l; by = when_passed (suits r m.tree (head o)) (rule r m.tree m.next place o) es e }
 
-carried : (es : List Edit) (m n : Module) → carried_out es m ≡ becomes n → all_edited es m ≡ n
+pub carried : (es : List Edit) (m n : Module) → carried_out es m ≡ becomes n → all_edited es m ≡ n
 carried es m n e = go (nat_le (op_count m.tree + made_by es) most_ops) (nat_le (m.next + made_by es) most_next) e
   where
     go : (a b : Bool) → cond a (cond b (becomes (all_edited es m)) (refused IdsExhausted)) (refused Full) ≡ becomes n → all_edited es m ≡ n
@@ -90,7 +90,7 @@ module _ (m : Module) (d : HasDistinctIds m.tree) (below : All (λ y. y < m.next
   under : (z : ℕ) → Listed z (ids m.tree) → z < m.next
   under z h = let s = present_stand [] m.tree z h in subst (λ y. y < m.next) s.2 (ids_below m.next m.tree below s.0 s.1)
 
-  edits_orderly : (es : List Edit) (o : Operation) (place : Place) → find x m.tree ≡ Some o → front_of x m.tree ≡ Some place → AreNear place o es → Orderly x m (all_edited es m)
+  pub edits_orderly : (es : List Edit) (o : Operation) (place : Place) → find x m.tree ≡ Some o → front_of x m.tree ≡ Some place → AreNear place o es → Orderly x m (all_edited es m)
   edits_orderly es o place f p (inl s) =
       stays_orderly x m (all_edited es m) b.front (regions_ids (regions o)) b.back d (b.is ∙ ap (λ l. b.front ++ (l ++ b.back)) own)
       (still_stays x b.front b.back (regions_ids (regions o)) place (front_before x m.tree place p) m.next old es m [] (λ z h. absurd (true≢false (sym h))) (omega arith) under
@@ -127,7 +127,7 @@ module _ (m : Module) (d : HasDistinctIds m.tree) (below : All (λ y. y < m.next
           let p = planned r m x es k in
           subst (Orderly x m) (carried es m n e) (edits_orderly es p.here p.place p.found p.front (near m.tree m.next p.place p.here es p.by))
 
-  abbrev IsTried : Rule → Type 0
+  abbrev pub IsTried : Rule → Type 0
   IsTried r = is_canonical r ≡ true
 
   pub first_orderly : (rs : List Rule) → All IsTried rs → (n : Module) → first_rule rs m x ≡ becomes n → Orderly x m n
@@ -139,6 +139,9 @@ module _ (m : Module) (d : HasDistinctIds m.tree) (below : All (λ y. y < m.next
       go none k later e = later e
       go (refused f) k later e = absurd cc
       go (becomes p) k later e = rewrite_orderly r ((facts r).near (lowers_not r (All-head IsTried r rs h))) n (k ∙ e)
+
+  pub rewrite_tried : (r : Rule) → is_canonical r ≡ true → (n : Module) → rewrite_of r m x ≡ becomes n → Orderly x m n
+  rewrite_tried r h n e = rewrite_orderly r ((facts r).near (lowers_not r h)) n e
 
   pub lowest_orderly : (n : Module) → lowest m x ≡ becomes n → Orderly x m n
   lowest_orderly n e = first_orderly greedy_rules (filter_passes is_canonical all_rules) n e

@@ -8,6 +8,7 @@ pub mod Tracked
 pub mod Usings
 pub mod Lasting
 pub mod Unlisted
+pub mod OwnAlike
 pub mod Applying
 pub mod Leading
 mod Adding
@@ -35,5 +36,7 @@ pub mod Edits
 pub mod Starts
 pub mod Rootless
 pub mod Law
+pub mod Trials
+pub mod Attempting
 mod Following
 mod Traces

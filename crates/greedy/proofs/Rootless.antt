@@ -30,7 +30,7 @@ unplaced t d = go (place_of (head t).id t) refl
         let no_place : None ≡ Some place = sym (ap (λ (s : StandOf (List ℕ) TypeTerm AttrTerm). place_in s.path) same) ∙ u.3 in
         absurd cc
 
-no_edits : (r : Rule) (m : Module) → HasDistinctIds m.tree → edits_of r m (head m.tree).id ≡ None
+pub no_edits : (r : Rule) (m : Module) → HasDistinctIds m.tree → edits_of r m (head m.tree).id ≡ None
 unfolding edits_of
 no_edits r m d = go (find (head m.tree).id m.tree) (ap (option_map (in_front (head m.tree).id)) (unplaced m.tree d))
   where

@@ -23,14 +23,15 @@ use Rattle.greedy.specs.Rewriting.{first_by, next_by}
 use Rattle.greedy.specs.Work.{waits, IsWork, Right, CoversBut, StillWaits, Taken, NoneWaits}
 use Rattle.greedy.specs.Sights.{is_listed}
 use Rattle.greedy.specs.Listing.{Touched}
-use Rattle.greedy.proofs.Rootless.{no_rules}
+use Rattle.greedy.specs.Trial.{Trial}
+use Rattle.greedy.specs.Trials.{StaysAway}
 use Rattle.greedy.proofs.Listed.{first_there, listed_at, listed_more, listed_past}
 
 -- a rewrite that there is
 pub becomes_none : (p : Module) → becomes p ≡ none → ⊥
 becomes_none p e = true≢false (ap (λ a. elim a as (λ _. Bool) [ none ↦ false | refused g ↦ true | becomes p ↦ true ]) e)
 
-refused_none : (f : Refusal) → refused f ≡ none → ⊥
+pub refused_none : (f : Refusal) → refused f ≡ none → ⊥
 refused_none f e = true≢false (ap (λ a. elim a as (λ _. Bool) [ none ↦ false | refused g ↦ true | becomes p ↦ true ]) e)
 
 pub or_none : (a b : Rewrite) → or_else a b ≡ none → (a ≡ none) × (b ≡ none)
@@ -64,24 +65,24 @@ carried true true n f g e = becomes_none n e
 carried true false n f g e = refused_none f e
 carried false b n f g e = refused_none g e
 
-by_none : (es : Option (List Edit)) (m : Module) → rewrite_by es m ≡ none → es ≡ None
+pub by_none : (es : Option (List Edit)) (m : Module) → rewrite_by es m ≡ none → es ≡ None
 by_none None m e = refl
 by_none (Some es) m e = absurd (carried (nat_le (op_count m.tree + made_by es) most_ops) (nat_le (m.next + made_by es) most_next) _ _ _ e)
 
 module _ (m : Module) (x : ℕ) where
-  no_edits : (r : Rule) → rewrite_of r m x ≡ none → edits_of r m x ≡ None
+  pub no_edits : (r : Rule) → rewrite_of r m x ≡ none → edits_of r m x ≡ None
   unfolding rewrite_of
   no_edits r e = by_none (edits_of r m x) m e
 
-  no_rewrite : (r : Rule) → edits_of r m x ≡ None → rewrite_of r m x ≡ none
+  pub no_rewrite : (r : Rule) → edits_of r m x ≡ None → rewrite_of r m x ≡ none
   unfolding rewrite_of
   no_rewrite r e = ap (λ es. rewrite_by es m) e
 
-abbrev IsTried : Rule → Type 0
+abbrev pub IsTried : Rule → Type 0
 IsTried r = is_canonical r ≡ true
 
 -- where none of some rules applies in one module, and none applies in another that didn't before, none applies there
-none_still : (m n : Module) (x : ℕ) (rs : List Rule) → AreCanonical rs → ((r : Rule) → is_canonical r ≡ true → edits_of r m x ≡ None → edits_of r n x ≡ None) → first_rule rs m x ≡ none → first_rule rs n x ≡ none
+pub none_still : (m n : Module) (x : ℕ) (rs : List Rule) → AreCanonical rs → ((r : Rule) → is_canonical r ≡ true → edits_of r m x ≡ None → edits_of r n x ≡ None) → first_rule rs m x ≡ none → first_rule rs n x ≡ none
 unfolding first_rule
 none_still m n x [] h still e = refl
 none_still m n x (r ∷ rs) h still e =
@@ -99,32 +100,32 @@ root_or_behind (op h rs) z e = elim (bool_cases (eqb h.id z)) [
 root_there : (t : Operation) → has_id (head t).id t ≡ true
 root_there (op h rs) = ap (λ b. b || list_any (λ y. eqb y h.id) (regions_ids rs)) (eq-eqb h.id h.id refl)
 
--- ---- where some rules are tried
-module _ (rs : List Rule) where
+-- ---- where something is tried
+module _ (tries : Trial) where
   module _ (m : Module) where
-    pub first_none : (xs : List ℕ) → ((z : ℕ) → is_listed z xs ≡ true → first_rule rs m z ≡ none) → first_by rs xs m ≡ none
+    pub first_none : (xs : List ℕ) → ((z : ℕ) → is_listed z xs ≡ true → tries.comes m z ≡ none) → first_by tries xs m ≡ none
     unfolding first_by
     first_none [] h = refl
-    first_none (x ∷ xs) h = ap (λ a. or_else a (first_by rs xs m)) (h x (listed_at x x xs (eq-eqb x x refl))) ∙ first_none xs (λ z i. h z (listed_more x z xs i))
+    first_none (x ∷ xs) h = ap (λ a. or_else a (first_by tries xs m)) (h x (listed_at x x xs (eq-eqb x x refl))) ∙ first_none xs (λ z i. h z (listed_more x z xs i))
 
-    -- no rule applies at those before y: the scan gives what applies at y, if there is any
-    pub first_at : (y : ℕ) (xs : List ℕ) → is_listed y xs ≡ true → ((z : ℕ) → comes_after z y xs ≡ true → first_rule rs m z ≡ none) → first_rule rs m y ≢ none → first_by rs xs m ≡ first_rule rs m y
+    -- nothing applies at those before y: the scan gives what applies at y, if there is any
+    pub first_at : (y : ℕ) (xs : List ℕ) → is_listed y xs ≡ true → ((z : ℕ) → comes_after z y xs ≡ true → tries.comes m z ≡ none) → tries.comes m y ≢ none → first_by tries xs m ≡ tries.comes m y
     unfolding first_by
     first_at y [] i h n = absurd (true≢false (sym i))
     first_at y (x ∷ xs) i h n = elim (bool_cases (eqb x y)) [
-      | inl e ↦ ap (λ z. or_else (first_rule rs m z) (first_by rs xs m)) (eqb-true x y e) ∙ stops (first_rule rs m y) (first_by rs xs m) n
+      | inl e ↦ ap (λ z. or_else (tries.comes m z) (first_by tries xs m)) (eqb-true x y e) ∙ stops (tries.comes m y) (first_by tries xs m) n
       | inr e ↦
           let k = listed_past x y xs e i in
-          ap (λ a. or_else a (first_by rs xs m)) (h x (before_here x y xs k)) ∙ first_at y xs k (λ z c. h z (before_later x z y xs k c)) n
+          ap (λ a. or_else a (first_by tries xs m)) (h x (before_here x y xs k)) ∙ first_at y xs k (λ z c. h z (before_later x z y xs k c)) n
     ]
 
   -- ---- after a rewrite at operation x all that may apply waits
   pub renewed : (m n : Module) (x : ℕ) (listed : List ℕ) (p : ℕ) (a : List ℕ) (p2 : ℕ) (a2 : List ℕ) (p3 : ℕ) (a3 : List ℕ) (p4 : ℕ) (a4 : List ℕ)
-      → AreCanonical rs → Touched m n listed → CoversBut rs x p a m
+      → StaysAway tries → Touched m n listed → CoversBut tries x p a m
       → StillWaits p a m.tree p2 a2 n.tree → StillWaits p2 a2 n.tree p3 a3 n.tree → (has_id x n.tree ≡ true → waits p3 a3 n.tree x ≡ true)
       → StillWaits p3 a3 n.tree p4 a4 n.tree → ((z : ℕ) → is_listed z listed ≡ true → has_id z n.tree ≡ true → waits p4 a4 n.tree z ≡ true)
-      → IsWork p4 a4 n.tree → Right rs p4 a4 n
-  renewed m n x listed p a p2 a2 p3 a3 p4 a4 canonical touched but s1 s2 here s3 all w = record {
+      → IsWork p4 a4 n.tree → Right tries p4 a4 n
+  renewed m n x listed p a p2 a2 p3 a3 p4 a4 stays touched but s1 s2 here s3 all w = record {
     work = w;
     covers = λ z h v. elim (bool_cases (is_listed z listed)) [
       | inl e ↦ absurd (true≢false (sym (all z e h) ∙ v))
@@ -134,63 +135,63 @@ module _ (rs : List Rule) where
             | inl k ↦ absurd (true≢false (sym (s3 z h h (s2 z h h (s1 z s.was h k))) ∙ v))
             | inr k ↦ elim (but z s.was k) [
               | inl q ↦ absurd (true≢false (sym (s3 z h h (subst (λ y. waits p3 a3 n.tree y ≡ true) (sym q) (here (subst (λ y. has_id y n.tree ≡ true) q h)))) ∙ v))
-              | inr q ↦ none_still m n z rs canonical (λ r c. (s.applies r c).1) q
+              | inr q ↦ stays m n z s q
             ]
           ]
     ];
   }
 
   -- ---- the worklist of the root alone
-  pub begun : (m : Module) → HasDistinctIds m.tree → Right rs (head m.tree).id [] m
-  begun m d = record {
+  pub begun : (m : Module) → HasDistinctIds m.tree → tries.comes m (head m.tree).id ≡ none → Right tries (head m.tree).id [] m
+  begun m d root = record {
     work = record { there = root_there m.tree; inside = λ y k. absurd (true≢false (sym k)); behind = λ y k. absurd (true≢false (sym k)); falls = tt };
     covers = λ z h w. elim (root_or_behind m.tree z h) [
-      | inl e ↦ subst (λ y. first_rule rs m y ≡ none) (sym e) (no_rules rs m d)
+      | inl e ↦ subst (λ y. tries.comes m y ≡ none) (sym e) root
       | inr k ↦ absurd (true≢false (sym (ap (λ b. b || is_listed z []) k) ∙ w))
     ];
   }
 
   -- ---- taking from a worklist
-  module _ (m : Module) (x p : ℕ) (a : List ℕ) (p2 : ℕ) (a2 : List ℕ) (r : Right rs p a m) (k : Taken x p a p2 a2 m.tree) where
-    pub first_waits : (z : ℕ) → precedes z x m.tree ≡ true → first_rule rs m z ≡ none
+  module _ (m : Module) (x p : ℕ) (a : List ℕ) (p2 : ℕ) (a2 : List ℕ) (r : Right tries p a m) (k : Taken x p a p2 a2 m.tree) where
+    pub first_waits : (z : ℕ) → precedes z x m.tree ≡ true → tries.comes m z ≡ none
     first_waits z h = r.covers z (first_there z x (ids m.tree) h) (k.first z h)
 
-    -- the first operation that waits is the next step's, if a rule applies there
-    pub is_step : first_rule rs m x ≢ none → next_by rs m ≡ first_rule rs m x
+    -- the first operation that waits is the next step's, if something applies there
+    pub is_step : tries.comes m x ≢ none → next_by tries m ≡ tries.comes m x
     is_step n = first_at m x (ids m.tree) k.there first_waits n
 
-    pub took : CoversBut rs x p2 a2 m
+    pub took : CoversBut tries x p2 a2 m
     took z h v = elim (bool_cases (waits p a m.tree z)) [
       | inl e ↦ elim (k.others z h e) [ inl s ↦ inl s | inr s ↦ absurd (true≢false (sym s ∙ v)) ]
       | inr e ↦ inr (r.covers z h e)
     ]
 
-    pub took_none : first_rule rs m x ≡ none → Right rs p2 a2 m
-    took_none n = record { work = k.work; covers = λ z h v. elim (took z h v) [ inl s ↦ subst (λ y. first_rule rs m y ≡ none) (sym s) n | inr s ↦ s ] }
+    pub took_none : tries.comes m x ≡ none → Right tries p2 a2 m
+    took_none n = record { work = k.work; covers = λ z h v. elim (took z h v) [ inl s ↦ subst (λ y. tries.comes m y ≡ none) (sym s) n | inr s ↦ s ] }
 
     -- what applying it said is said of the next step
-    pub said : (b : Bool) (n : Module) → b ≡ true → Applied (first_rule rs m x) b m n → Applied (next_by rs m) true m n
-    said b n t h = subst (λ c. Applied c true m n) (sym (is_step (not_none b n t h))) (subst (λ c. Applied (first_rule rs m x) c m n) t h)
+    pub said : (b : Bool) (n : Module) → b ≡ true → Applied (tries.comes m x) b m n → Applied (next_by tries m) true m n
+    said b n t h = subst (λ c. Applied c true m n) (sym (is_step (not_none b n t h))) (subst (λ c. Applied (tries.comes m x) c m n) t h)
       where
-        not_none : (b : Bool) (n : Module) → b ≡ true → Applied (first_rule rs m x) b m n → first_rule rs m x ≢ none
+        not_none : (b : Bool) (n : Module) → b ≡ true → Applied (tries.comes m x) b m n → tries.comes m x ≢ none
         not_none b n t h e = true≢false (sym t ∙ (subst (λ c. Applied c b m n) e h).0)
 
-    pub said_none : (b : Bool) (n : Module) → b ≡ false → Applied (first_rule rs m x) b m n → (first_rule rs m x ≡ none) × (n ≡ m)
-    said_none b n f h = go (first_rule rs m x) refl h
+    pub said_none : (b : Bool) (n : Module) → b ≡ false → Applied (tries.comes m x) b m n → (tries.comes m x ≡ none) × (n ≡ m)
+    said_none b n f h = go (tries.comes m x) refl h
       where
-        go : (c : Rewrite) → first_rule rs m x ≡ c → Applied c b m n → (first_rule rs m x ≡ none) × (n ≡ m)
+        go : (c : Rewrite) → tries.comes m x ≡ c → Applied c b m n → (tries.comes m x ≡ none) × (n ≡ m)
         go none e h = (e, h.1)
         go (refused g) e h = absurd h
         go (becomes q) e h = absurd (true≢false (sym h.0 ∙ f))
 
-    pub said_refuses : (full : Type 0) (e : Refusal) → Refuses (first_rule rs m x) full e → Refuses (next_by rs m) full e
+    pub said_refuses : (full : Type 0) (e : Refusal) → Refuses (tries.comes m x) full e → Refuses (next_by tries m) full e
     said_refuses full e (inl h) = inl h
     said_refuses full e (inr (inl h)) = inr (inl (is_step (λ n. refused_none e (sym h ∙ n)) ∙ h))
     said_refuses full e (inr (inr h)) = inr (inr (h.0, (λ n. h.1.0 (sym (is_step h.1.0) ∙ n), h.1.1)))
 
-  -- no operation waits: no rule applies
-  pub all_none : (m : Module) (p : ℕ) (a : List ℕ) → Right rs p a m → NoneWaits p a m.tree → next_by rs m ≡ none
+  -- no operation waits: nothing applies
+  pub all_none : (m : Module) (p : ℕ) (a : List ℕ) → Right tries p a m → NoneWaits p a m.tree → next_by tries m ≡ none
   all_none m p a r n = first_none m (ids m.tree) (λ z h. r.covers z h (n z h))
 
-  pub rewrote : (m : Module) (x : ℕ) (b : Bool) (n : Module) → b ≡ true → Applied (first_rule rs m x) b m n → first_rule rs m x ≡ becomes n
-  rewrote m x b n t h = gave (first_rule rs m x) b m n t h
+  pub rewrote : (m : Module) (x : ℕ) (b : Bool) (n : Module) → b ≡ true → Applied (tries.comes m x) b m n → tries.comes m x ≡ becomes n
+  rewrote m x b n t h = gave (tries.comes m x) b m n t h

@@ -4,77 +4,69 @@ use Rattle.ir_event.specs.trees.Ids.{has_id, ids}
 use Rattle.ir_event.specs.tree_laws.Reads.{comes_after, precedes}
 use Rattle.ir_event.proofs.of_tree_laws.Listed.{bool_cases}
 use Rattle.ir_event.specs.Modules.{Module}
-use Rattle.patterns_base.specs.declared.rule.Rule.{Rule}
-use Rattle.patterns_base.specs.Rewrites.{Rewrite, none, refused, becomes, rewrite_of}
-use Rattle.patterns_base.specs.Canonicalization.{End, Canonical, converged, ended, first_rule, go_on, or_else, stopped}
+use Rattle.patterns_base.specs.Rewrites.{Rewrite, none, refused, becomes}
+use Rattle.patterns_base.specs.Canonicalization.{End, Canonical, converged, ended, go_on, or_else, stopped}
 use Rattle.ir_event.specs.types.declared.refusal.Refusal.{Refusal}
-use Rattle.patterns.proofs.Firsts.{none_then}
-use Rattle.patterns.specs.Firing.{firing, rule_or}
 use Rattle.greedy.specs.Outcomes.{Applied}
 use Rattle.greedy.specs.Rewriting.{first_by, next_by, rewritten_from}
 use Rattle.greedy.specs.Sights.{is_listed}
 use Rattle.greedy.specs.Tracing.{TraceIsCounted, fired, fired_next, site_by, site_of, site_or, told, trace_of, trace_on}
+use Rattle.greedy.specs.Trial.{Trial}
+use Rattle.greedy.specs.Trials.{IsFired}
 use Rattle.greedy.specs.Work.{Right, Taken}
+use Rattle.greedy.specs.declared.fired.By.{By}
 use Rattle.greedy.specs.declared.fired.Fired.{Fired}
 use Rattle.greedy.proofs.Listed.{listed_past}
-use Rattle.greedy.proofs.Scans.{before_here, before_later, first_waits, gave, is_step, or_none, becomes_none}
+use Rattle.greedy.proofs.Scans.{before_here, before_later, first_waits, gave, is_step, becomes_none}
 
--- where nothing comes of some rules, none of them fires
-unfired : (rs : List Rule) (m : Module) (x : ℕ) → first_rule rs m x ≡ none → firing rs m x ≡ None
-unfolding first_rule firing
-unfired [] m x e = refl
-unfired (r ∷ rs) m x e =
-    let parts = or_none (rewrite_of r m x) (first_rule rs m x) e in
-    ap (λ w. rule_or w r (firing rs m x)) parts.0 ∙ unfired rs m x parts.1
+abbrev made : By → ℕ → ℕ → ℕ → Bool → Fired
+made r x a b stays = record { by = r; op = x; from = a; until = b; stays = stays }
 
-abbrev made : Rule → ℕ → ℕ → ℕ → Bool → Fired
-made r x a b stays = record { rule = r; op = x; from = a; until = b; stays = stays }
-
-pub told_as : (r : Rule) (x : ℕ) (m n : Module) (a b : ℕ) (stays : Bool) → a ≡ m.next → b ≡ n.next → stays ≡ has_id x n.tree → Some (made r x a b stays) ≡ Some (fired r x m n)
+pub told_as : (r : By) (x : ℕ) (m n : Module) (a b : ℕ) (stays : Bool) → a ≡ m.next → b ≡ n.next → stays ≡ has_id x n.tree → Some (made r x a b stays) ≡ Some (fired r x m n)
 told_as r x m n a b stays e f h =
     ap (λ k. Some (made r x k b stays)) e
     ∙ ap (λ k. Some (made r x m.next k stays)) f
     ∙ ap (λ s. Some (made r x m.next n.next s)) h
 
-module _ (rs : List Rule) (m : Module) where
-  -- no rule applies at those before y: the scan gives the rule that fires at y
-  site_at : (y : ℕ) (r : Rule) (xs : List ℕ) → is_listed y xs ≡ true → ((z : ℕ) → comes_after z y xs ≡ true → first_rule rs m z ≡ none) → firing rs m y ≡ Some r → site_by rs xs m ≡ Some (r, y)
+module _ (tries : Trial) (fired_is : IsFired tries) (m : Module) where
+  -- nothing applies at those before y: the scan gives what fires at y
+  site_at : (y : ℕ) (r : By) (xs : List ℕ) → is_listed y xs ≡ true → ((z : ℕ) → comes_after z y xs ≡ true → tries.comes m z ≡ none) → tries.fires m y ≡ Some r → site_by tries xs m ≡ Some (r, y)
   unfolding site_by
   site_at y r [] i h f = absurd (true≢false (sym i))
   site_at y r (x ∷ xs) i h f = elim (bool_cases (eqb x y)) [
     | inl e ↦
-        ap (λ z. site_or (firing rs m z) z (site_by rs xs m)) (eqb-true x y e)
-        ∙ ap (λ a. site_or a y (site_by rs xs m)) f
+        ap (λ z. site_or (tries.fires m z) z (site_by tries xs m)) (eqb-true x y e)
+        ∙ ap (λ a. site_or a y (site_by tries xs m)) f
     | inr e ↦
         let k = listed_past x y xs e i in
-        ap (λ a. site_or a x (site_by rs xs m)) (unfired rs m x (h x (before_here x y xs k))) ∙ site_at y r xs k (λ z c. h z (before_later x z y xs k c)) f
+        ap (λ a. site_or a x (site_by tries xs m)) ((fired_is m x).0 (h x (before_here x y xs k))) ∙ site_at y r xs k (λ z c. h z (before_later x z y xs k c)) f
   ]
 
-  -- the rule that fires at the first operation that waits is told
-  pub told_there : (x p : ℕ) (a : List ℕ) (p2 : ℕ) (a2 : List ℕ) → Right rs p a m → Taken x p a p2 a2 m.tree → (r : Rule) (n : Module) → Some r ≡ firing rs m x → first_rule rs m x ≡ becomes n → fired_next rs m ≡ Some (fired r x m n)
+  -- what fires at the first operation that waits is told
+  pub told_there : (x p : ℕ) (a : List ℕ) (p2 : ℕ) (a2 : List ℕ) → Right tries p a m → Taken x p a p2 a2 m.tree → (r : By) (n : Module) → Some r ≡ tries.fires m x → tries.comes m x ≡ becomes n → fired_next tries m ≡ Some (fired r x m n)
   told_there x p a p2 a2 right k r n f b =
-      let steps : next_by rs m ≡ becomes n = is_step rs m x p a p2 a2 right k (λ e. becomes_none n (sym b ∙ e)) ∙ b in
-      ap (λ w. told w (site_of rs m) m) steps
-      ∙ ap (λ s. told (becomes n) s m) (site_at x r (ids m.tree) k.there (first_waits rs m x p a p2 a2 right k) (sym f))
+      let steps : next_by tries m ≡ becomes n = is_step tries m x p a p2 a2 right k (λ e. becomes_none n (sym b ∙ e)) ∙ b in
+      ap (λ w. told w (site_of tries m) m) steps
+      ∙ ap (λ s. told (becomes n) s m) (site_at x r (ids m.tree) k.there (first_waits tries m x p a p2 a2 right k) (sym f))
 
-  pub told_none : next_by rs m ≡ none → fired_next rs m ≡ None
-  told_none e = ap (λ w. told w (site_of rs m) m) e
+  pub told_none : next_by tries m ≡ none → fired_next tries m ≡ None
+  told_none e = ap (λ w. told w (site_of tries m) m) e
 
   -- ---- the trace of a run
-  pub trace_goes_on : (left : ℕ) (f : Fired) (n : Module) → next_by rs m ≡ becomes n → Some f ≡ fired_next rs m → trace_of rs (suc left) m ≡ f ∷ trace_of rs left n
+  pub trace_goes_on : (left : ℕ) (f : Fired) (n : Module) → next_by tries m ≡ becomes n → Some f ≡ fired_next tries m → trace_of tries (suc left) m ≡ f ∷ trace_of tries left n
   unfolding trace_of
   trace_goes_on left f n e h =
-      ap (λ w. trace_on w (fired_next rs m) (trace_of rs left)) e
-      ∙ ap (λ g. trace_on (becomes n) g (trace_of rs left)) (sym h)
+      ap (λ w. trace_on w (fired_next tries m) (trace_of tries left)) e
+      ∙ ap (λ g. trace_on (becomes n) g (trace_of tries left)) (sym h)
 
-  pub trace_ends : (left : ℕ) → next_by rs m ≡ none → trace_of rs left m ≡ []
+  pub trace_ends : (left : ℕ) → next_by tries m ≡ none → trace_of tries left m ≡ []
   unfolding trace_of
   trace_ends zero e = refl
-  trace_ends (suc left) e = ap (λ w. trace_on w (fired_next rs m) (trace_of rs left)) e
+  trace_ends (suc left) e = ap (λ w. trace_on w (fired_next tries m) (trace_of tries left)) e
 
-  pub trace_full : (left : ℕ) → left ≡ zero → trace_of rs left m ≡ []
+  pub trace_full : (left : ℕ) → left ≡ zero → trace_of tries left m ≡ []
   unfolding trace_of
-  trace_full left e = ap (λ k. trace_of rs k m) e
+  trace_full left e = ap (λ k. trace_of tries k m) e
 
 pub not_applied : (a : Rewrite) (m n : Module) → Applied a false m n → a ≡ none
 not_applied none m n h = refl
@@ -82,25 +74,25 @@ not_applied (refused e) m n h = absurd h
 not_applied (becomes p) m n h = absurd (true≢false (sym h.0))
 
 -- ---- the trace of a run, so far
-module _ (rs : List Rule) (limit : ℕ) (old : Module) where
-  pub trace_start : trace_of rs limit old ≡ [] ++ trace_of rs (limit - 0) old
-  trace_start = let e : limit - 0 ≡ limit = omega arith in ap (λ k. trace_of rs k old) (sym e)
+module _ (tries : Trial) (fired_is : IsFired tries) (limit : ℕ) (old : Module) where
+  pub trace_start : trace_of tries limit old ≡ [] ++ trace_of tries (limit - 0) old
+  trace_start = let e : limit - 0 ≡ limit = omega arith in ap (λ k. trace_of tries k old) (sym e)
 
-  module _ (count : ℕ) (m : Module) (done : List Fired) (so_far : trace_of rs limit old ≡ done ++ trace_of rs (limit - count) m) where
-    pub trace_more : (f : Fired) (n : Module) → count < limit → Some f ≡ fired_next rs m → Applied (next_by rs m) true m n → trace_of rs limit old ≡ (done ++ (f ∷ [])) ++ trace_of rs (limit - (count + 1)) n
+  module _ (count : ℕ) (m : Module) (done : List Fired) (so_far : trace_of tries limit old ≡ done ++ trace_of tries (limit - count) m) where
+    pub trace_more : (f : Fired) (n : Module) → count < limit → Some f ≡ fired_next tries m → Applied (next_by tries m) true m n → trace_of tries limit old ≡ (done ++ (f ∷ [])) ++ trace_of tries (limit - (count + 1)) n
     trace_more f n l h a =
         let more : limit - count ≡ suc (limit - (count + 1)) = omega (arith, l) in
-        so_far ∙ ap (λ k. done ++ trace_of rs k m) more
-        ∙ ap (λ fs. done ++ fs) (trace_goes_on rs m (limit - (count + 1)) f n (gave (next_by rs m) true m n refl a) h)
-        ∙ sym (append_assoc done (f ∷ []) (trace_of rs (limit - (count + 1)) n))
+        so_far ∙ ap (λ k. done ++ trace_of tries k m) more
+        ∙ ap (λ fs. done ++ fs) (trace_goes_on tries fired_is m (limit - (count + 1)) f n (gave (next_by tries m) true m n refl a) h)
+        ∙ sym (append_assoc done (f ∷ []) (trace_of tries (limit - (count + 1)) n))
 
-    pub trace_whole : next_by rs m ≡ none → trace_of rs limit old ≡ done
-    trace_whole e = so_far ∙ ap (λ fs. done ++ fs) (trace_ends rs m (limit - count) e) ∙ append-nil done
+    pub trace_whole : next_by tries m ≡ none → trace_of tries limit old ≡ done
+    trace_whole e = so_far ∙ ap (λ fs. done ++ fs) (trace_ends tries fired_is m (limit - count) e) ∙ append-nil done
 
-    pub trace_at_limit : limit ≤ count → trace_of rs limit old ≡ done
+    pub trace_at_limit : limit ≤ count → trace_of tries limit old ≡ done
     trace_at_limit l =
         let none_left : limit - count ≡ zero = omega (arith, l) in
-        so_far ∙ ap (λ fs. done ++ fs) (trace_full rs m (limit - count) none_left) ∙ append-nil done
+        so_far ∙ ap (λ fs. done ++ fs) (trace_full tries fired_is m (limit - count) none_left) ∙ append-nil done
 
 -- ---- as many rewrites are told as there were
 no_site : {A : Type 0} (a : A) → Some a ≡ None → ⊥
@@ -112,26 +104,26 @@ count_is m n j k d e h = ap (λ a. elim a as (λ _. ℕ) [ stopped g ↦ 0 | end
 not_ended : (f : Refusal) (n : Module) (k : ℕ) (e : End) → stopped f ≡ ended n k e → ⊥
 not_ended f n k e h = true≢false (ap (λ a. elim a as (λ _. Bool) [ stopped g ↦ true | ended p i c ↦ false ]) h)
 
-module _ (rs : List Rule) where
-  site_there : (xs : List ℕ) (m : Module) → site_by rs xs m ≡ None → first_by rs xs m ≡ none
+module _ (tries : Trial) (fired_is : IsFired tries) where
+  site_there : (xs : List ℕ) (m : Module) → site_by tries xs m ≡ None → first_by tries xs m ≡ none
   unfolding site_by first_by
   site_there [] m e = refl
-  site_there (x ∷ xs) m e = go (firing rs m x) refl e (site_there xs m)
+  site_there (x ∷ xs) m e = go (tries.fires m x) refl e (site_there xs m)
     where
-      go : (f : Option Rule) → firing rs m x ≡ f → site_or f x (site_by rs xs m) ≡ None → (site_by rs xs m ≡ None → first_by rs xs m ≡ none) → or_else (first_rule rs m x) (first_by rs xs m) ≡ none
-      go None f e more = ap (λ a. or_else a (first_by rs xs m)) (none_then rs m x f) ∙ more e
+      go : (f : Option By) → tries.fires m x ≡ f → site_or f x (site_by tries xs m) ≡ None → (site_by tries xs m ≡ None → first_by tries xs m ≡ none) → or_else (tries.comes m x) (first_by tries xs m) ≡ none
+      go None f e more = ap (λ a. or_else a (first_by tries xs m)) ((fired_is m x).1 f) ∙ more e
       go (Some r) f e more = absurd (no_site (r, x) e)
 
-  counted : (left done : ℕ) (m n : Module) (k : ℕ) (e : End) → rewritten_from rs left done m ≡ ended n k e → done + length (trace_of rs left m) ≡ k
+  counted : (left done : ℕ) (m n : Module) (k : ℕ) (e : End) → rewritten_from tries left done m ≡ ended n k e → done + length (trace_of tries left m) ≡ k
   unfolding rewritten_from trace_of
   counted zero done m n k e h = let c = count_is m n done k _ e h in omega (arith, c)
-  counted (suc left) done m n k e h = go (next_by rs m) (site_of rs m) refl refl h (λ p. counted left (done + 1) p n k e)
+  counted (suc left) done m n k e h = go (next_by tries m) (site_of tries m) refl refl h (λ p. counted left (done + 1) p n k e)
     where
-      go : (a : Rewrite) (s : Option (Rule × ℕ)) → next_by rs m ≡ a → site_of rs m ≡ s → go_on a m done (rewritten_from rs left (done + 1)) ≡ ended n k e → ((p : Module) → rewritten_from rs left (done + 1) p ≡ ended n k e → (done + 1) + length (trace_of rs left p) ≡ k) → done + length (trace_on a (told a s m) (trace_of rs left)) ≡ k
+      go : (a : Rewrite) (s : Option (By × ℕ)) → next_by tries m ≡ a → site_of tries m ≡ s → go_on a m done (rewritten_from tries left (done + 1)) ≡ ended n k e → ((p : Module) → rewritten_from tries left (done + 1) p ≡ ended n k e → (done + 1) + length (trace_of tries left p) ≡ k) → done + length (trace_on a (told a s m) (trace_of tries left)) ≡ k
       go none s q z h more = let c = count_is m n done k converged e h in omega (arith, c)
       go (refused f) s q z h more = absurd (not_ended f n k e h)
       go (becomes p) None q z h more = absurd (becomes_none p (sym q ∙ site_there (ids m.tree) m z))
       go (becomes p) (Some s) q z h more = let c = more p h in omega (arith, c)
 
 pub trace_is_counted : TraceIsCounted
-trace_is_counted rs limit m n k e h = let c = counted rs limit 0 m n k e h in omega (arith, c)
+trace_is_counted tries fired_is limit m n k e h = let c = counted tries fired_is limit 0 m n k e h in omega (arith, c)

@@ -1,13 +1,13 @@
--- Canonicalization, and rewriting by a list of rules, as transformations of the machine.
-use Rattle.std.specs.Prelude.{ℕ, List, true, None, Result, Ok, Err}
+-- Canonicalization, and rewriting by what is tried, as transformations of the machine.
+use Rattle.std.specs.Prelude.{ℕ, true, None, Result, Ok, Err}
 use Rattle.ir_event.specs.types.declared.refusal.Refusal.{Refusal}
 use Rattle.ir_event.specs.Modules.{Module}
 use Rattle.rewriter_machine.specs.Machine.{Fault, Outcome, Reply, Refused, DoneWith, Transformation}
 use Rattle.rewriter_machine.specs.Machine as machine
 use Rattle.patterns_base.specs.Canonicalization.{End, converged, limited, Canonical, stopped, ended}
 use Rattle.patterns_base.specs.Canonicalization.{canonicalization_of}
-use Rattle.patterns_base.specs.declared.rule.Rule.{Rule}
 use Rattle.greedy.specs.Rewriting.{rewriting_of}
+use Rattle.greedy.specs.Trial.{Trial}
 use Rattle.greedy.specs.declared.outcome.Outcome.{Outcome as Ended}
 use Rattle.greedy.specs.declared.outcome.Outcome.TheVariants.{Converged, Limit}
 
@@ -25,9 +25,9 @@ made_of (stopped e) = Err (record { refusal = e; op = None })
 abbrev pub canonicalizing : ℕ → Transformation
 canonicalizing limit = record { transformed = λ m. made_of (canonicalization_of limit m); interns = true }
 
--- and that of at most so many rewrites by a list of rules
-abbrev pub rewriting : List Rule → ℕ → Transformation
-rewriting rs limit = record { transformed = λ m. made_of (rewriting_of rs limit m); interns = true }
+-- and that of at most so many rewrites by what is tried
+abbrev pub rewriting : Trial → ℕ → Transformation
+rewriting a limit = record { transformed = λ m. made_of (rewriting_of a limit m); interns = true }
 
 -- how the machine has what came of a run
 abbrev pub outcome_meaning : Ended → Outcome

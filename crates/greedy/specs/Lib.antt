@@ -16,5 +16,7 @@ pub mod Following
 pub mod Orders
 pub mod Rewriting
 pub mod Ruled
+pub mod Trial
+pub mod Trials
 pub mod Tracing
 pub mod Traced

@@ -10,16 +10,20 @@ use Rattle.op_registry.specs.Registry.{own_of}
 use Rattle.patterns_base.specs.declared.rule.Rule.{Rule}
 use Rattle.patterns_base.specs.RuleNames.{is_canonical}
 use Rattle.patterns_base.specs.Rewrites.{edits_of}
+use Rattle.patterns_book.specs.Shapes.{Shape}
+use Rattle.patterns_depth.specs.Depth.{is_shallow}
+use Rattle.patterns_own.specs.Own.{own_edits}
 use Rattle.greedy.specs.Reached.{any_reaches}
 use Rattle.greedy.specs.Sights.{giver, is_listed, ListsSeers, ListsAround}
 use Rattle.greedy.specs.Climbs.{Climbs}
 use Rattle.greedy.specs.Near.{moved_values, outer_ids}
 
--- each operation of the module held that isn't listed was there before, and each rule of canonicalization applies at it
--- exactly where it applied then
+-- each operation of the module held that isn't listed was there before, and each rule of canonicalization, and each
+-- pattern that looks no deeper than these, applies at it exactly where it applied then
 pub record Stayed (before held : Module) (x : ℕ) : Type 0 where
   pub was : has_id x before.tree ≡ true
   pub applies : (r : Rule) → is_canonical r ≡ true → (edits_of r held x ≡ None) ↔ (edits_of r before x ≡ None)
+  pub own : (p : Shape) → is_shallow p ≡ true → (own_edits p held x ≡ None) ↔ (own_edits p before x ≡ None)
 
 abbrev pub Touched : Module → Module → List ℕ → Type 0
 Touched before held listed = (x : ℕ) → has_id x held.tree ≡ true → is_listed x listed ≡ false → Stayed before held x

@@ -1,13 +1,13 @@
 -- What runs of the driver come to.
-use Rattle.std.specs.Prelude.{◌≡◌, ◌≢◌, ◌⊎◌, ◌↔◌, ℕ, List, Bool, true, false, ◌&&◌, nat_le}
+use Rattle.std.specs.Prelude.{◌≡◌, ◌≢◌, ◌⊎◌, ◌↔◌, ℕ, Bool, true, false, ◌&&◌, nat_le}
 use Rattle.ir_event.specs.types.declared.refusal.Refusal.{Refusal}
 use Rattle.ir_event.specs.types.declared.refusal.Refusal.TheVariants.{Memory, BadLimit, Full}
 use Rattle.ir_event.specs.Modules.{Module}
 use Rattle.patterns_base.specs.Rewrites.{Rewrite, none, refused, becomes}
 use Rattle.patterns_base.specs.Canonicalization.{Canonical, End, converged, limited, stopped, ended}
 use Rattle.patterns_base.specs.Canonicalization.{canonicalization_of, most_rewrites}
-use Rattle.patterns_base.specs.declared.rule.Rule.{Rule}
 use Rattle.greedy.specs.Rewriting.{rewritten_from, rewriting_of}
+use Rattle.greedy.specs.Trial.{Trial}
 use Rattle.greedy.specs.declared.outcome.Outcome.{Outcome}
 use Rattle.greedy.specs.declared.outcome.Outcome.TheVariants.{Converged, Limit}
 
@@ -35,17 +35,17 @@ abbrev pub ending_of : Outcome → End
 ending_of (Converged k) = converged
 ending_of (Limit k) = limited
 
--- at most so many rewrites of module m by some rules come to an outcome and to module n
-abbrev pub ComeTo : List Rule → ℕ → Module → Outcome → Module → Type 0
-ComeTo rs limit m o n = rewritten_from rs limit 0 m ≡ ended n (count_of o) (ending_of o)
+-- at most so many rewrites of module m by what is tried come to an outcome and to module n
+abbrev pub ComeTo : Trial → ℕ → Module → Outcome → Module → Type 0
+ComeTo a limit m o n = rewritten_from a limit 0 m ≡ ended n (count_of o) (ending_of o)
 
 -- or to a refusal, for want of memory, by the definition, or because no more can be numbered
-abbrev pub Stop : List Rule → ℕ → Module → Type 0 → Refusal → Type 0
-Stop rs limit m is_full e = (e ≡ Memory) ⊎ ((rewritten_from rs limit 0 m ≡ stopped e) ⊎ ((e ≡ Full) × is_full))
+abbrev pub Stop : Trial → ℕ → Module → Type 0 → Refusal → Type 0
+Stop a limit m is_full e = (e ≡ Memory) ⊎ ((rewritten_from a limit 0 m ≡ stopped e) ⊎ ((e ≡ Full) × is_full))
 
--- the rewriting of module m by some rules comes to an outcome and to module n
-abbrev pub IsRewriting : List Rule → ℕ → Module → Outcome → Module → Type 0
-IsRewriting rs limit m o n = rewriting_of rs limit m ≡ ended n (count_of o) (ending_of o)
+-- the rewriting of module m by what is tried comes to an outcome and to module n
+abbrev pub IsRewriting : Trial → ℕ → Module → Outcome → Module → Type 0
+IsRewriting a limit m o n = rewriting_of a limit m ≡ ended n (count_of o) (ending_of o)
 
 -- the canonicalization of module m comes to an outcome and to module n
 abbrev pub IsCanonical : ℕ → Module → Outcome → Module → Type 0
@@ -65,6 +65,6 @@ pub record IsReasonFor (due : Canonical) (limit : ℕ) (is_full : Type 0) (e : R
 abbrev pub IsReason : ℕ → Module → Type 0 → Refusal → Type 0
 IsReason limit m is_full e = IsReasonFor (canonicalization_of limit m) limit is_full e
 
--- and why its rewriting by some rules is
-abbrev pub IsReasonBy : List Rule → ℕ → Module → Type 0 → Refusal → Type 0
-IsReasonBy rs limit m is_full e = IsReasonFor (rewriting_of rs limit m) limit is_full e
+-- and why its rewriting by what is tried is
+abbrev pub IsReasonBy : Trial → ℕ → Module → Type 0 → Refusal → Type 0
+IsReasonBy a limit m is_full e = IsReasonFor (rewriting_of a limit m) limit is_full e

@@ -1,14 +1,13 @@
--- The worklist: the operations at which a rule may apply.
+-- The worklist: the operations at which something may apply.
 use Rattle.std.specs.Prelude.{◌≡◌, ◌⊎◌, ◌<◌, ◌+◌, length, ℕ, List, [], ◌∷◌, Bool, true, false, ◌||◌, eqb, if◌then◌else◌}
 use Rattle.ir_event.specs.trees.Ids.{ids, has_id, HasDistinctIds}
 use Rattle.ir_event.specs.trees.Meaning.{Operation}
 use Rattle.ir_event.specs.tree_laws.Reads.{precedes}
 use Rattle.ir_event.specs.Modules.{Module}
 use Rattle.patterns_base.specs.Rewrites.{none}
-use Rattle.patterns_base.specs.Canonicalization.{first_rule}
-use Rattle.patterns_base.specs.declared.rule.Rule.{Rule}
 use Rattle.greedy.specs.Orders.{Orderly}
 use Rattle.greedy.specs.Sights.{is_listed}
+use Rattle.greedy.specs.Trial.{Trial}
 
 -- ---- the worklist
 
@@ -29,15 +28,15 @@ pub record IsWork (passed : ℕ) (again : List ℕ) (t : Operation) : Type 0 whe
   pub behind : (y : ℕ) → is_listed y again ≡ true → precedes passed y t ≡ false
   pub falls : Falls t again
 
--- none of some rules applies at an operation that doesn't wait
-abbrev pub Covers : List Rule → ℕ → List ℕ → Module → Type 0
-Covers rs passed again m =
-    (x : ℕ) → has_id x m.tree ≡ true → waits passed again m.tree x ≡ false → first_rule rs m x ≡ none
+-- nothing that is tried applies at an operation that doesn't wait
+abbrev pub Covers : Trial → ℕ → List ℕ → Module → Type 0
+Covers a passed again m =
+    (x : ℕ) → has_id x m.tree ≡ true → waits passed again m.tree x ≡ false → a.comes m x ≡ none
 
--- a worklist of a module, where these rules are tried
-pub record Right (rs : List Rule) (passed : ℕ) (again : List ℕ) (m : Module) : Type 0 where
+-- a worklist of a module, where this is tried
+pub record Right (a : Trial) (passed : ℕ) (again : List ℕ) (m : Module) : Type 0 where
   pub work : IsWork passed again m.tree
-  pub covers : Covers rs passed again m
+  pub covers : Covers a passed again m
 
 -- how many stand behind the first a in a list, and how many wait at most
 abbrev pub count_after : ℕ → List ℕ → ℕ
@@ -71,10 +70,10 @@ pub record Parted (x : ℕ) (t : Operation) (front back : List ℕ) : Type 0 whe
   pub later : (z : ℕ) → is_listed z front ≡ true → precedes x z t ≡ true
   pub others : (z : ℕ) → is_listed z back ≡ true → precedes x z t ≡ false
 
--- none of some rules applies at an operation that doesn't wait, but perhaps at operation x
-abbrev pub CoversBut : List Rule → ℕ → ℕ → List ℕ → Module → Type 0
-CoversBut rs x passed again m = (z : ℕ) → has_id z m.tree ≡ true → waits passed again m.tree z ≡ false
-    → (z ≡ x) ⊎ (first_rule rs m z ≡ none)
+-- nothing that is tried applies at an operation that doesn't wait, but perhaps at operation x
+abbrev pub CoversBut : Trial → ℕ → ℕ → List ℕ → Module → Type 0
+CoversBut a x passed again m = (z : ℕ) → has_id z m.tree ≡ true → waits passed again m.tree z ≡ false
+    → (z ≡ x) ⊎ (a.comes m z ≡ none)
 
 -- a worklist from which operation x was taken, at which a rule was applied, which led from m to n
 pub record Rewritten (x before : ℕ) (m n : Module) : Type 0 where

@@ -15,13 +15,17 @@ ghost use Rattle.greedy.specs.Changes.{canonical_reply, canonicalizing, rewritin
 ghost use Rattle.greedy.specs.Outcomes.{IsReason, IsReasonBy};
 ghost use Rattle.greedy.specs.Ruled.{MayRun, rules_in};
 ghost use Rattle.greedy.specs.Tracing.{trace_of};
+ghost use Rattle.greedy.specs.Trial.{AreAttempts, attempts_of, by_attempts, by_rules};
 
+use crate::attempts::first_tried;
+use crate::fired::By;
 use crate::journal::touched;
 use crate::outcome::Outcome;
 use crate::rewriting::Rewriting;
 use crate::rules::Rules;
-use crate::run::{run, run_list, run_list_told, run_told};
-use crate::tracer::Tracer;
+use crate::run::{run, run_list, run_list_told, run_told, run_tried_told};
+use crate::tracer::{Silent, Tracer};
+use crate::tried::Tried;
 use crate::walk::{following, precedes, preceding};
 use ir_event::analysis::Analysis;
 use ir_event::types::ids::OpId;
@@ -144,6 +148,20 @@ impl<L: Analysis> Rewriting for Bench<L> {
         }
     }
 
+    fn first_tried(
+        &mut self,
+        alloc: Global,
+        tried: &[Tried<'_>],
+        op: OpId,
+    ) -> Result<Option<By>, Refusal> {
+        let told = first_tried(alloc, self, tried, op);
+        Bench::is_formed(self);
+        match told {
+            Ok(told) => Ok(told),
+            Err(refusal) => Err(refusal),
+        }
+    }
+
     fn touched(&self, alloc: Global, from: usize) -> Result<Vec<OpId>, Refusal> {
         match touched(alloc, self, from) {
             Ok(ops) => Ok(ops),
@@ -206,7 +224,7 @@ pub fn canonicalize_traced<L: Analysis, T: Tracer>(
 ) -> Result<Outcome, Refusal>
     ensures does { Does L.meaning (Change (canonicalizing limit)) (canonical_reply result) bench.old bench.new }
     ensures trace { OnOk result
-        (T.traced (trace_of greedy_rules limit (module_held bench.old.desk)) trace.old trace.new) }
+        (T.traced (trace_of (by_rules greedy_rules) limit (module_held bench.old.desk)) trace.old trace.new) }
     ensures refused { IfErr result (λ e. IsReason limit (module_held bench.old.desk) (IsFull bench.new.desk.ctx) e) }
     ensures room { IsFullSo (IsFull bench.new.desk.ctx) (state_of L.meaning bench.old) (canonicalizing limit)
         (canonical_reply result) }
@@ -232,10 +250,10 @@ pub fn rewrite<L: Analysis>(
     limit: u32,
 ) -> Result<Outcome, Refusal>
     requires { AreCanonical rules.now }
-    ensures does { Does L.meaning (Change (rewriting rules.now limit)) (canonical_reply result) bench.old bench.new }
+    ensures does { Does L.meaning (Change (rewriting (by_rules rules.now) limit)) (canonical_reply result) bench.old bench.new }
     ensures refused { IfErr result
-        (λ e. IsReasonBy rules.now limit (module_held bench.old.desk) (IsFull bench.new.desk.ctx) e) }
-    ensures room { IsFullSo (IsFull bench.new.desk.ctx) (state_of L.meaning bench.old) (rewriting rules.now limit)
+        (λ e. IsReasonBy (by_rules rules.now) limit (module_held bench.old.desk) (IsFull bench.new.desk.ctx) e) }
+    ensures room { IsFullSo (IsFull bench.new.desk.ctx) (state_of L.meaning bench.old) (rewriting (by_rules rules.now) limit)
         (canonical_reply result) }
     ensures led { Led L.meaning bench.old bench.new }
     ensures grows { Grows bench.old.desk.ctx bench.new.desk.ctx }
@@ -259,11 +277,11 @@ pub fn rewrite_traced<L: Analysis, T: Tracer>(
     trace: &mut T,
 ) -> Result<Outcome, Refusal>
     requires { AreCanonical rules.now }
-    ensures does { Does L.meaning (Change (rewriting rules.now limit)) (canonical_reply result) bench.old bench.new }
-    ensures trace { OnOk result (T.traced (trace_of rules.now limit (module_held bench.old.desk)) trace.old trace.new) }
+    ensures does { Does L.meaning (Change (rewriting (by_rules rules.now) limit)) (canonical_reply result) bench.old bench.new }
+    ensures trace { OnOk result (T.traced (trace_of (by_rules rules.now) limit (module_held bench.old.desk)) trace.old trace.new) }
     ensures refused { IfErr result
-        (λ e. IsReasonBy rules.now limit (module_held bench.old.desk) (IsFull bench.new.desk.ctx) e) }
-    ensures room { IsFullSo (IsFull bench.new.desk.ctx) (state_of L.meaning bench.old) (rewriting rules.now limit)
+        (λ e. IsReasonBy (by_rules rules.now) limit (module_held bench.old.desk) (IsFull bench.new.desk.ctx) e) }
+    ensures room { IsFullSo (IsFull bench.new.desk.ctx) (state_of L.meaning bench.old) (rewriting (by_rules rules.now) limit)
         (canonical_reply result) }
     ensures led { Led L.meaning bench.old bench.new }
     ensures grows { Grows bench.old.desk.ctx bench.new.desk.ctx }
@@ -273,4 +291,60 @@ pub fn rewrite_traced<L: Analysis, T: Tracer>(
     led_benches_are_kept::<L>();
     bench.is_formed();
     run_list_told(alloc, bench, rules, limit, trace)
+}
+
+/// Rewrites the module of a bench by a list of rules, of which canonicalization tries each, and patterns of one's own:
+/// the first operation in pre-order at which one of them applies, with the first of the list that does, again and again,
+/// up to a limit of rewrites. It is whole or not made at all, and each rewrite is taken down, in their order. What was
+/// taken down of one that is refused says nothing.
+///
+/// Refusals: as those of `canonicalize`.
+pub fn rewrite_tried_traced<L: Analysis, T: Tracer>(
+    alloc: Global,
+    bench: &mut Bench<L>,
+    tried: &[Tried<'_>],
+    limit: u32,
+    trace: &mut T,
+) -> Result<Outcome, Refusal>
+    requires { AreAttempts (attempts_of tried.now) }
+    ensures does { Does L.meaning (Change (rewriting (by_attempts (attempts_of tried.now)) limit))
+        (canonical_reply result) bench.old bench.new }
+    ensures trace { OnOk result (T.traced
+        (trace_of (by_attempts (attempts_of tried.now)) limit (module_held bench.old.desk)) trace.old trace.new) }
+    ensures refused { IfErr result (λ e. IsReasonBy (by_attempts (attempts_of tried.now)) limit
+        (module_held bench.old.desk) (IsFull bench.new.desk.ctx) e) }
+    ensures room { IsFullSo (IsFull bench.new.desk.ctx) (state_of L.meaning bench.old)
+        (rewriting (by_attempts (attempts_of tried.now)) limit) (canonical_reply result) }
+    ensures led { Led L.meaning bench.old bench.new }
+    ensures grows { Grows bench.old.desk.ctx bench.new.desk.ctx }
+    ensures journal { MatchResult result (λ _. Noted bench.old.desk bench.new.desk)
+        (λ _. Recorded [] bench.old.desk bench.new.desk) }
+{
+    led_benches_are_kept::<L>();
+    bench.is_formed();
+    run_tried_told(alloc, bench, tried, limit, trace)
+}
+
+/// Rewrites the module of a bench by a list of rules and patterns, as `rewrite_tried_traced` does, and tells nothing.
+///
+/// Refusals: as those of `canonicalize`.
+pub fn rewrite_tried<L: Analysis>(
+    alloc: Global,
+    bench: &mut Bench<L>,
+    tried: &[Tried<'_>],
+    limit: u32,
+) -> Result<Outcome, Refusal>
+    requires { AreAttempts (attempts_of tried.now) }
+    ensures does { Does L.meaning (Change (rewriting (by_attempts (attempts_of tried.now)) limit))
+        (canonical_reply result) bench.old bench.new }
+    ensures refused { IfErr result (λ e. IsReasonBy (by_attempts (attempts_of tried.now)) limit
+        (module_held bench.old.desk) (IsFull bench.new.desk.ctx) e) }
+    ensures room { IsFullSo (IsFull bench.new.desk.ctx) (state_of L.meaning bench.old)
+        (rewriting (by_attempts (attempts_of tried.now)) limit) (canonical_reply result) }
+    ensures led { Led L.meaning bench.old bench.new }
+    ensures grows { Grows bench.old.desk.ctx bench.new.desk.ctx }
+    ensures journal { MatchResult result (λ _. Noted bench.old.desk bench.new.desk)
+        (λ _. Recorded [] bench.old.desk bench.new.desk) }
+{
+    rewrite_tried_traced(alloc, bench, tried, limit, &mut Silent)
 }

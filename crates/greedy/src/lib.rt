@@ -2,11 +2,13 @@
 //! the rules see otherwise after some events.
 #![tactic(auto)]
 
+mod attempts;
 pub mod bench;
 mod beside;
 mod block;
 mod climb;
 pub mod fired;
+mod first;
 pub mod journal;
 pub mod laws;
 pub mod outcome;
@@ -17,6 +19,7 @@ pub mod rules;
 pub mod run;
 pub mod touched;
 pub mod tracer;
+pub mod tried;
 mod users;
 mod walk;
 mod work;

@@ -17,8 +17,11 @@ ghost use Rattle.greedy.specs.Outcomes.{Applied, Refuses};
 ghost use Rattle.greedy.specs.Following.{following};
 ghost use Rattle.greedy.specs.Listing.{Touched};
 ghost use Rattle.greedy.specs.Ruled.{MayRun, rules_in};
+ghost use Rattle.greedy.specs.Trial.{attempts_of, firing_tried, first_tried};
 
+use crate::fired::By;
 use crate::rules::Rules;
+use crate::tried::Tried;
 use ir_event::types::ids::OpId;
 use ir_event::types::refusal::Refusal;
 use patterns_base::rule::Rule;
@@ -104,6 +107,28 @@ pub trait Rewriting {
         ensures err { OnErr result (held self.new ≡ held self.old) }
         ensures refused { IfErr result
             (λ e. Refuses (first_rule (rules_in rules.now) (held self.old) op) (full self.new) e) }
+        ensures noted { OnOk result
+            (marks self.old ≢ [] → (events self.old ≤ events self.new)
+            × (before self.new (events self.old) ≡ held self.old)) }
+        ensures marks { marks self.new ≡ marks self.old }
+        ensures journal { Noted (desk self.old) (desk self.new) }
+        ensures onward { onward self.old self.new };
+
+    /// Applies the first of some rules and patterns that applies at an operation. The answer tells which, if one does.
+    fn first_tried(
+        &mut self,
+        alloc: Global,
+        tried: &[Tried<'_>],
+        op: OpId,
+    ) -> Result<Option<By>, Refusal>
+        requires { has_id op (held self.old).tree ≡ true }
+        ensures ok { IfOk result
+            (λ r. Applied (first_tried (attempts_of tried.now) (held self.old) op) (is_some r) (held self.old)
+            (held self.new)) }
+        ensures fired { IfOk result (λ r. r ≡ firing_tried 0 (attempts_of tried.now) (held self.old) op) }
+        ensures err { OnErr result (held self.new ≡ held self.old) }
+        ensures refused { IfErr result
+            (λ e. Refuses (first_tried (attempts_of tried.now) (held self.old) op) (full self.new) e) }
         ensures noted { OnOk result
             (marks self.old ≢ [] → (events self.old ≤ events self.new)
             × (before self.new (events self.old) ≡ held self.old)) }

@@ -4,12 +4,13 @@ ghost use Rattle.std.specs.Prelude.{true, false};
 ghost use Rattle.ir_event.specs.types.declared.refusal.Refusal.TheVariants.{Memory as NoMemory};
 ghost use Rattle.ir_event.specs.trees.Ids.{has_id};
 ghost use Rattle.patterns_base.specs.Canonicalization.{greedy_rules};
-ghost use Rattle.patterns_base.specs.declared.rule.Rule.{Rule as Tried};
 ghost use Rattle.patterns.specs.Rows.{AreCanonical};
 ghost use Rattle.greedy.specs.Outcomes.{Applied, ComeTo, IsCanonical, IsReason, IsReasonBy, IsRewriting, Refuses, Stop};
 ghost use Rattle.greedy.specs.Outcomes.{Tells};
 ghost use Rattle.greedy.specs.Rewriting.{next_by};
-ghost use Rattle.greedy.specs.Ruled.{MayRun, rules_in};
+ghost use Rattle.greedy.specs.Ruled.{MayTry, trial_of};
+ghost use Rattle.greedy.specs.Trial.{AreAttempts, Trial, attempts_of, by_attempts, by_rules};
+ghost use Rattle.greedy.specs.Trials.{StaysAway};
 ghost use Rattle.patterns.specs.rewriter.Moves.{Recorded};
 ghost use Rattle.patterns.specs.runs.Runs.{Noted};
 ghost use Rattle.greedy.specs.Work.{IsWork, Right, CoversBut, Rewritten, StillWaits, waits};
@@ -18,10 +19,12 @@ ghost use Rattle.greedy.specs.Listing.{Touched};
 ghost use Rattle.greedy.specs.Tracing.{fired_next, trace_of};
 
 use crate::fired::Fired;
+use crate::first::first_of;
 use crate::outcome::Outcome;
 use crate::rewriting::Rewriting;
 use crate::rules::Rules;
 use crate::tracer::{Silent, Tracer};
+use crate::tried::{Tried, Tries};
 use crate::work::{Work, add, settle, take};
 use ir_event::types::ids::OpId;
 use ir_event::types::refusal::Refusal;
@@ -64,9 +67,9 @@ fn renew<R: Rewriting>(
     requires within { from ≤ R.events bench.now }
     requires rewritten { Rewritten op before (R.before bench.now from) (R.held bench.now) }
     requires work { IsWork work.old.passed work.old.again.items (R.before bench.now from).tree }
-    ensures ok { OnOk result ((rs : List Tried) → AreCanonical rs
-        → CoversBut rs op work.old.passed work.old.again.items (R.before bench.now from)
-        → Right rs work.new.passed work.new.again.items (R.held bench.now)) }
+    ensures ok { OnOk result ((a : Trial) → StaysAway a
+        → CoversBut a op work.old.passed work.old.again.items (R.before bench.now from)
+        → Right a work.new.passed work.new.again.items (R.held bench.now)) }
     ensures refused { IfErr result (λ e. e ≡ NoMemory) }
 {
     let listed = match bench.touched(alloc, from) {
@@ -89,21 +92,21 @@ fn renew<R: Rewriting>(
 fn one<R: Rewriting>(
     alloc: Global,
     bench: &mut R,
-    rules: &Rules<'_>,
+    tries: &Tries<'_>,
     work: &mut Work,
     examined: &mut u64,
 ) -> Result<Option<Fired>, Refusal>
     requires marked { R.marks bench.old ≢ [] }
-    requires ruled { MayRun rules.now }
-    requires right { Right (rules_in rules.now) work.old.passed work.old.again.items (R.held bench.old) }
+    requires ruled { MayTry tries.now }
+    requires right { Right (trial_of tries.now) work.old.passed work.old.again.items (R.held bench.old) }
     ensures ok { IfOk result
-        (λ f. Applied (next_by (rules_in rules.now) (R.held bench.old)) (is_some f) (R.held bench.old)
+        (λ f. Applied (next_by (trial_of tries.now) (R.held bench.old)) (is_some f) (R.held bench.old)
         (R.held bench.new)) }
-    ensures fired { IfOk result (λ f. f ≡ fired_next (rules_in rules.now) (R.held bench.old)) }
+    ensures fired { IfOk result (λ f. f ≡ fired_next (trial_of tries.now) (R.held bench.old)) }
     ensures refused { IfErr result
-        (λ e. Refuses (next_by (rules_in rules.now) (R.held bench.old)) (R.full bench.new) e) }
+        (λ e. Refuses (next_by (trial_of tries.now) (R.held bench.old)) (R.full bench.new) e) }
     ensures right { IfOk result (λ f. is_some f ≡ true
-        → Right (rules_in rules.now) work.new.passed work.new.again.items (R.held bench.new)) }
+        → Right (trial_of tries.now) work.new.passed work.new.again.items (R.held bench.new)) }
     ensures marks { R.marks bench.new ≡ R.marks bench.old }
     ensures journal { Noted (R.desk bench.old) (R.desk bench.new) }
     ensures onward { R.onward bench.old bench.new }
@@ -114,10 +117,10 @@ fn one<R: Rewriting>(
             *examined = examined.saturating_add(1);
             let from = bench.journal_len();
             let next = bench.next_id();
-            match bench.first(alloc, rules, op) {
-                Ok(Some(rule)) => {
+            match first_of(alloc, bench, tries, op) {
+                Ok(Some(by)) => {
                     let fired = Fired {
-                        rule,
+                        by,
                         op,
                         from: next,
                         until: bench.next_id(),
@@ -151,13 +154,13 @@ fn tried(refusal: Refusal) -> Result<bool, Refusal>
 fn applies<R: Rewriting>(
     alloc: Global,
     bench: &mut R,
-    rules: &Rules<'_>,
+    tries: &Tries<'_>,
     work: &mut Work,
     examined: &mut u64,
 ) -> Result<bool, Refusal>
-    requires ruled { MayRun rules.now }
-    requires right { Right (rules_in rules.now) work.old.passed work.old.again.items (R.held bench.old) }
-    ensures ok { IfOk result (λ any. Tells (next_by (rules_in rules.now) (R.held bench.old)) any) }
+    requires ruled { MayTry tries.now }
+    requires right { Right (trial_of tries.now) work.old.passed work.old.again.items (R.held bench.old) }
+    ensures ok { IfOk result (λ any. Tells (next_by (trial_of tries.now) (R.held bench.old)) any) }
     ensures held { R.held bench.new ≡ R.held bench.old }
     ensures marks { R.marks bench.new ≡ R.marks bench.old }
     ensures left { Recorded [] (R.desk bench.old) (R.desk bench.new) }
@@ -168,7 +171,7 @@ fn applies<R: Rewriting>(
         Ok(()) => {}
         Err(_) => return Err(Refusal::Memory),
     }
-    let done = one(alloc, bench, rules, work, examined);
+    let done = one(alloc, bench, tries, work, examined);
     bench.rollback();
     match done {
         Ok(fired) => Ok(fired.is_some()),
@@ -180,25 +183,25 @@ fn applies<R: Rewriting>(
 fn rewrites<R: Rewriting, T: Tracer>(
     alloc: Global,
     bench: &mut R,
-    rules: &Rules<'_>,
+    tries: &Tries<'_>,
     work: &mut Work,
     examined: &mut u64,
     limit: u32,
     trace: &mut T,
 ) -> Result<Outcome, Refusal>
     requires marked { R.marks bench.old ≢ [] }
-    requires ruled { MayRun rules.now }
-    requires right { Right (rules_in rules.now) work.old.passed work.old.again.items (R.held bench.old) }
-    ensures ok { IfOk result (λ o. ComeTo (rules_in rules.now) limit (R.held bench.old) o (R.held bench.new)) }
-    ensures trace { OnOk result (T.traced (trace_of (rules_in rules.now) limit (R.held bench.old)) trace.old trace.new) }
-    ensures refused { IfErr result (λ e. Stop (rules_in rules.now) limit (R.held bench.old) (R.full bench.new) e) }
+    requires ruled { MayTry tries.now }
+    requires right { Right (trial_of tries.now) work.old.passed work.old.again.items (R.held bench.old) }
+    ensures ok { IfOk result (λ o. ComeTo (trial_of tries.now) limit (R.held bench.old) o (R.held bench.new)) }
+    ensures trace { OnOk result (T.traced (trace_of (trial_of tries.now) limit (R.held bench.old)) trace.old trace.new) }
+    ensures refused { IfErr result (λ e. Stop (trial_of tries.now) limit (R.held bench.old) (R.full bench.new) e) }
     ensures marks { R.marks bench.new ≡ R.marks bench.old }
     ensures journal { Noted (R.desk bench.old) (R.desk bench.new) }
     ensures onward { R.onward bench.old bench.new }
 {
     let mut count = 0;
     'rewrites: while count < limit {
-        match one(alloc, bench, rules, work, examined) {
+        match one(alloc, bench, tries, work, examined) {
             Ok(Some(fired)) => match trace.note(fired) {
                 Ok(()) => {}
                 Err(refusal) => return Err(refusal),
@@ -208,7 +211,7 @@ fn rewrites<R: Rewriting, T: Tracer>(
         }
         count += 1;
     }
-    match applies(alloc, bench, rules, work, examined) {
+    match applies(alloc, bench, tries, work, examined) {
         Ok(true) => Ok(Outcome::Limit(count)),
         Ok(false) => Ok(Outcome::Converged(count)),
         Err(_) => Err(Refusal::Memory),
@@ -219,16 +222,16 @@ fn rewrites<R: Rewriting, T: Tracer>(
 fn rewritten<R: Rewriting, T: Tracer>(
     alloc: Global,
     bench: &mut R,
-    rules: &Rules<'_>,
+    tries: &Tries<'_>,
     examined: &mut u64,
     limit: u32,
     trace: &mut T,
 ) -> Result<Outcome, Refusal>
     requires marked { R.marks bench.old ≢ [] }
-    requires ruled { MayRun rules.now }
-    ensures ok { IfOk result (λ o. ComeTo (rules_in rules.now) limit (R.held bench.old) o (R.held bench.new)) }
-    ensures trace { OnOk result (T.traced (trace_of (rules_in rules.now) limit (R.held bench.old)) trace.old trace.new) }
-    ensures refused { IfErr result (λ e. Stop (rules_in rules.now) limit (R.held bench.old) (R.full bench.new) e) }
+    requires ruled { MayTry tries.now }
+    ensures ok { IfOk result (λ o. ComeTo (trial_of tries.now) limit (R.held bench.old) o (R.held bench.new)) }
+    ensures trace { OnOk result (T.traced (trace_of (trial_of tries.now) limit (R.held bench.old)) trace.old trace.new) }
+    ensures refused { IfErr result (λ e. Stop (trial_of tries.now) limit (R.held bench.old) (R.full bench.new) e) }
     ensures marks { R.marks bench.new ≡ R.marks bench.old }
     ensures journal { Noted (R.desk bench.old) (R.desk bench.new) }
     ensures onward { R.onward bench.old bench.new }
@@ -238,25 +241,25 @@ fn rewritten<R: Rewriting, T: Tracer>(
         passed: bench.root(),
         again: Vec::new(alloc),
     };
-    rewrites(alloc, bench, rules, &mut work, examined, limit, trace)
+    rewrites(alloc, bench, tries, &mut work, examined, limit, trace)
 }
 
-/// Rewrites by some rules, as often as one applies and up to a limit: the first operation in pre-order at which one
-/// applies, with the first such rule. Each rewrite is taken down. The answer is also how many operations were
+/// Rewrites by what is tried, as often as some of it applies and up to a limit: the first operation in pre-order at
+/// which some applies, with the first that does. Each rewrite is taken down. The answer is also how many operations were
 /// looked at. Refused, all is as it was.
 pub fn run_told_by<R: Rewriting, T: Tracer>(
     alloc: Global,
     bench: &mut R,
-    rules: &Rules<'_>,
+    tries: &Tries<'_>,
     limit: u32,
     trace: &mut T,
 ) -> Result<(Outcome, u64), Refusal>
-    requires { MayRun rules.now }
-    ensures ok { IfOk result (λ o. IsRewriting (rules_in rules.now) limit (R.held bench.old) o.0 (R.held bench.new)) }
-    ensures trace { OnOk result (T.traced (trace_of (rules_in rules.now) limit (R.held bench.old)) trace.old trace.new) }
+    requires { MayTry tries.now }
+    ensures ok { IfOk result (λ o. IsRewriting (trial_of tries.now) limit (R.held bench.old) o.0 (R.held bench.new)) }
+    ensures trace { OnOk result (T.traced (trace_of (trial_of tries.now) limit (R.held bench.old)) trace.old trace.new) }
     ensures err { OnErr result (R.held bench.new ≡ R.held bench.old) }
     ensures refused { IfErr result
-        (λ e. IsReasonBy (rules_in rules.now) limit (R.held bench.old) (R.full bench.new) e) }
+        (λ e. IsReasonBy (trial_of tries.now) limit (R.held bench.old) (R.full bench.new) e) }
     ensures marks { R.marks bench.new ≡ R.marks bench.old }
     ensures journal { MatchResult result (λ _. Noted (R.desk bench.old) (R.desk bench.new))
         (λ _. Recorded [] (R.desk bench.old) (R.desk bench.new)) }
@@ -270,7 +273,7 @@ pub fn run_told_by<R: Rewriting, T: Tracer>(
         Err(_) => return Err(Refusal::Memory),
     }
     let mut examined = 0;
-    match rewritten(alloc, bench, rules, &mut examined, limit, trace) {
+    match rewritten(alloc, bench, tries, &mut examined, limit, trace) {
         Ok(outcome) => {
             bench.commit();
             Ok((outcome, examined))
@@ -282,26 +285,26 @@ pub fn run_told_by<R: Rewriting, T: Tracer>(
     }
 }
 
-/// Rewrites by some rules, as often as one applies and up to a limit: the first operation in pre-order at which one
-/// applies, with the first such rule. The answer is also how many operations were looked at. Refused, all is as it
+/// Rewrites by what is tried, as often as some of it applies and up to a limit: the first operation in pre-order at
+/// which some applies, with the first that does. The answer is also how many operations were looked at. Refused, all is as it
 /// was.
 pub fn run_counted_by<R: Rewriting>(
     alloc: Global,
     bench: &mut R,
-    rules: &Rules<'_>,
+    tries: &Tries<'_>,
     limit: u32,
 ) -> Result<(Outcome, u64), Refusal>
-    requires { MayRun rules.now }
-    ensures ok { IfOk result (λ o. IsRewriting (rules_in rules.now) limit (R.held bench.old) o.0 (R.held bench.new)) }
+    requires { MayTry tries.now }
+    ensures ok { IfOk result (λ o. IsRewriting (trial_of tries.now) limit (R.held bench.old) o.0 (R.held bench.new)) }
     ensures err { OnErr result (R.held bench.new ≡ R.held bench.old) }
     ensures refused { IfErr result
-        (λ e. IsReasonBy (rules_in rules.now) limit (R.held bench.old) (R.full bench.new) e) }
+        (λ e. IsReasonBy (trial_of tries.now) limit (R.held bench.old) (R.full bench.new) e) }
     ensures marks { R.marks bench.new ≡ R.marks bench.old }
     ensures journal { MatchResult result (λ _. Noted (R.desk bench.old) (R.desk bench.new))
         (λ _. Recorded [] (R.desk bench.old) (R.desk bench.new)) }
     ensures onward { R.onward bench.old bench.new }
 {
-    match run_told_by(alloc, bench, rules, limit, &mut Silent) {
+    match run_told_by(alloc, bench, tries, limit, &mut Silent) {
         Ok(counted) => Ok(counted),
         Err(refusal) => Err(refusal),
     }
@@ -317,10 +320,10 @@ pub fn run_list_told<R: Rewriting, T: Tracer>(
     trace: &mut T,
 ) -> Result<Outcome, Refusal>
     requires { AreCanonical rules.now }
-    ensures ok { IfOk result (λ o. IsRewriting rules.now limit (R.held bench.old) o (R.held bench.new)) }
-    ensures trace { OnOk result (T.traced (trace_of rules.now limit (R.held bench.old)) trace.old trace.new) }
+    ensures ok { IfOk result (λ o. IsRewriting (by_rules rules.now) limit (R.held bench.old) o (R.held bench.new)) }
+    ensures trace { OnOk result (T.traced (trace_of (by_rules rules.now) limit (R.held bench.old)) trace.old trace.new) }
     ensures err { OnErr result (R.held bench.new ≡ R.held bench.old) }
-    ensures refused { IfErr result (λ e. IsReasonBy rules.now limit (R.held bench.old) (R.full bench.new) e) }
+    ensures refused { IfErr result (λ e. IsReasonBy (by_rules rules.now) limit (R.held bench.old) (R.full bench.new) e) }
     ensures marks { R.marks bench.new ≡ R.marks bench.old }
     ensures journal { MatchResult result (λ _. Noted (R.desk bench.old) (R.desk bench.new))
         (λ _. Recorded [] (R.desk bench.old) (R.desk bench.new)) }
@@ -332,7 +335,13 @@ pub fn run_list_told<R: Rewriting, T: Tracer>(
     let Ok(rows) = Rows::new(alloc, rules) else {
         return Err(Refusal::Memory);
     };
-    match run_told_by(alloc, bench, &Rules::OfList(&rows), limit, trace) {
+    match run_told_by(
+        alloc,
+        bench,
+        &Tries::OfRules(Rules::OfList(&rows)),
+        limit,
+        trace,
+    ) {
         Ok((outcome, _)) => Ok(outcome),
         Err(refusal) => Err(refusal),
     }
@@ -347,15 +356,44 @@ pub fn run_list<R: Rewriting>(
     limit: u32,
 ) -> Result<Outcome, Refusal>
     requires { AreCanonical rules.now }
-    ensures ok { IfOk result (λ o. IsRewriting rules.now limit (R.held bench.old) o (R.held bench.new)) }
+    ensures ok { IfOk result (λ o. IsRewriting (by_rules rules.now) limit (R.held bench.old) o (R.held bench.new)) }
     ensures err { OnErr result (R.held bench.new ≡ R.held bench.old) }
-    ensures refused { IfErr result (λ e. IsReasonBy rules.now limit (R.held bench.old) (R.full bench.new) e) }
+    ensures refused { IfErr result (λ e. IsReasonBy (by_rules rules.now) limit (R.held bench.old) (R.full bench.new) e) }
     ensures marks { R.marks bench.new ≡ R.marks bench.old }
     ensures journal { MatchResult result (λ _. Noted (R.desk bench.old) (R.desk bench.new))
         (λ _. Recorded [] (R.desk bench.old) (R.desk bench.new)) }
     ensures onward { R.onward bench.old bench.new }
 {
     run_list_told(alloc, bench, rules, limit, &mut Silent)
+}
+
+/// Rewrites by the rules and patterns of a list, as often as one applies and up to a limit: the first operation in
+/// pre-order at which one applies, with the first of the list that does. Each rewrite is taken down. Refused, all is as
+/// it was.
+pub fn run_tried_told<R: Rewriting, T: Tracer>(
+    alloc: Global,
+    bench: &mut R,
+    tried: &[Tried<'_>],
+    limit: u32,
+    trace: &mut T,
+) -> Result<Outcome, Refusal>
+    requires { AreAttempts (attempts_of tried.now) }
+    ensures ok { IfOk result
+        (λ o. IsRewriting (by_attempts (attempts_of tried.now)) limit (R.held bench.old) o (R.held bench.new)) }
+    ensures trace { OnOk result
+        (T.traced (trace_of (by_attempts (attempts_of tried.now)) limit (R.held bench.old)) trace.old trace.new) }
+    ensures err { OnErr result (R.held bench.new ≡ R.held bench.old) }
+    ensures refused { IfErr result
+        (λ e. IsReasonBy (by_attempts (attempts_of tried.now)) limit (R.held bench.old) (R.full bench.new) e) }
+    ensures marks { R.marks bench.new ≡ R.marks bench.old }
+    ensures journal { MatchResult result (λ _. Noted (R.desk bench.old) (R.desk bench.new))
+        (λ _. Recorded [] (R.desk bench.old) (R.desk bench.new)) }
+    ensures onward { R.onward bench.old bench.new }
+{
+    match run_told_by(alloc, bench, &Tries::OfTried(tried), limit, trace) {
+        Ok((outcome, _)) => Ok(outcome),
+        Err(refusal) => Err(refusal),
+    }
 }
 
 /// Rewrites by the rules of canonicalization, as often as one applies and up to a limit: the first operation in
@@ -367,7 +405,7 @@ pub fn run_told<R: Rewriting, T: Tracer>(
     trace: &mut T,
 ) -> Result<Outcome, Refusal>
     ensures ok { IfOk result (λ o. IsCanonical limit (R.held bench.old) o (R.held bench.new)) }
-    ensures trace { OnOk result (T.traced (trace_of greedy_rules limit (R.held bench.old)) trace.old trace.new) }
+    ensures trace { OnOk result (T.traced (trace_of (by_rules greedy_rules) limit (R.held bench.old)) trace.old trace.new) }
     ensures err { OnErr result (R.held bench.new ≡ R.held bench.old) }
     ensures refused { IfErr result (λ e. IsReason limit (R.held bench.old) (R.full bench.new) e) }
     ensures marks { R.marks bench.new ≡ R.marks bench.old }
@@ -375,7 +413,13 @@ pub fn run_told<R: Rewriting, T: Tracer>(
         (λ _. Recorded [] (R.desk bench.old) (R.desk bench.new)) }
     ensures onward { R.onward bench.old bench.new }
 {
-    match run_told_by(alloc, bench, &Rules::OfCanonicalization, limit, trace) {
+    match run_told_by(
+        alloc,
+        bench,
+        &Tries::OfRules(Rules::OfCanonicalization),
+        limit,
+        trace,
+    ) {
         Ok((outcome, _)) => Ok(outcome),
         Err(refusal) => Err(refusal),
     }
@@ -397,7 +441,12 @@ pub fn run_counted<R: Rewriting>(
         (λ _. Recorded [] (R.desk bench.old) (R.desk bench.new)) }
     ensures onward { R.onward bench.old bench.new }
 {
-    match run_counted_by(alloc, bench, &Rules::OfCanonicalization, limit) {
+    match run_counted_by(
+        alloc,
+        bench,
+        &Tries::OfRules(Rules::OfCanonicalization),
+        limit,
+    ) {
         Ok(counted) => Ok(counted),
         Err(refusal) => Err(refusal),
     }

@@ -8,3 +8,5 @@ pub mod Agreed
 pub mod Looks
 pub mod Lines
 pub mod Reported
+pub mod Telling
+pub mod Marked

@@ -9,7 +9,7 @@ use Rattle.std.specs.Ordering.{nat_cmp, is_eq, is_lt}
 use Rattle.std.specs.Cmp.Lexicographic.{pointwise}
 use Rattle.std.specs.declared.cmp.Ordering.TheVariants.{Less}
 use Rattle.std.specs.Map.{lookup, keys_of}
-use Rattle.std.specs.BTreeMap.{BTreeMap, is_at}
+use Rattle.std.specs.BTreeMap.{is_at}
 use Rattle.std.specs.BTreeMap as tree
 use Rattle.std.specs.FinMap.{nat_cmp-IsAntisymmetric}
 use Rattle.std.specs.FinMap.Entries.{find, is_sorted, below_all, find-put, is_sorted-put, same_entries}
@@ -30,6 +30,7 @@ use Rattle.ir_event.specs.declared.row.Cell.TheVariants as cell
 use Rattle.ir_event.specs.declared.row.Row.{Row}
 use Rattle.ir_event.specs.Rows.{Op, Name, Path, Tag, IsSymbol, cell_meaning, rows_meaning, CellIsOf, RowIsOf, Shows}
 use Rattle.listeners_symbols.specs.declared.role.Role.{Role as Numbers}
+use Rattle.listeners_symbols.specs.declared.roles.Roles.{Roles}
 use Rattle.listeners_symbols.specs.declared.role.Reference.{Reference}
 use Rattle.listeners_symbols.specs.declared.role.Call.{Call}
 use Rattle.listeners_symbols.specs.declared.role.Signature.{Signature}
@@ -168,7 +169,7 @@ module _ (b : Things) where
     inputs_meant (x ∷ xs) [] h k = refl
     inputs_meant (x ∷ xs) (y ∷ ys) h k = λ i. one_type x y (All-head (IsType b) x xs h) (All-head (IsType b) y ys k) i && inputs_meant xs ys (All-tail (IsType b) x xs h) (All-tail (IsType b) y ys k) i
 
-    module _ (t : Operation) (m : BTreeMap ℕ Numbers) (keeps : Keeps b t (kept_at m)) (ds : List (DefinitionOf ℕ)) (known : Each DefinitionIs ds) where
+    module _ (t : Operation) (m : Roles) (keeps : Keeps b t (kept_at m)) (ds : List (DefinitionOf ℕ)) (known : Each DefinitionIs ds) where
       table_meant : (x : ℕ) → says_table (role_of t x) ≡ says_table (numbers_at m x)
       table_meant x = ap says_table (sym (keeps x).is) ∙ go (kept_at m x)
         where
@@ -324,9 +325,9 @@ module _ (t : Operation) where
   roles_sorted [] = tt
   roles_sorted (s ∷ ss) = is_sorted-put nat_cmp nat_cmp_total (stand_id s) (role t s) (roles_in t ss) (roles_sorted ss)
 
-  pub entries_meant : (b : Things) (m : BTreeMap ℕ Numbers) → tree.IsOrdered nat_cmp m → Keeps b t (kept_at m) → meant b m.entries ≡ roles_by_id t
+  pub entries_meant : (b : Things) (m : Roles) → tree.IsOrdered nat_cmp m.all → Keeps b t (kept_at m) → meant b m.all.entries ≡ roles_by_id t
   entries_meant b m ordered keeps =
-      same_entries nat_cmp nat_cmp_total nat_cmp-IsAntisymmetric (meant b m.entries) (roles_by_id t) (meant_sorted b m.entries ordered) (roles_sorted (stands [] t)) (λ q. find_meant b q m.entries ∙ (keeps q).is ∙ sym (found_role q (stands [] t)))
+      same_entries nat_cmp nat_cmp_total nat_cmp-IsAntisymmetric (meant b m.all.entries) (roles_by_id t) (meant_sorted b m.all.entries ordered) (roles_sorted (stands [] t)) (λ q. find_meant b q m.all.entries ∙ (keeps q).is ∙ sym (found_role q (stands [] t)))
 
 -- ---- rows
 module _ (b c : Things) (holds : Holds b) (g : Grows b c) where
@@ -370,12 +371,12 @@ module _ (b c : Things) (holds : Holds b) (g : Grows b c) where
       let rest : cells_of rs ≡ lines_cells ls = cc in
       All-cons (RowIsOf c) r rs (subst (All (CellIsOf c)) (sym one) (cells_known l k.0)) (rows_known rs ls rest k.1)
 
-pub shows_symbols : (c : Things) (t : Operation) (m : BTreeMap ℕ Numbers) (rows : List Row) → tree.IsOrdered nat_cmp m → IsKept c t (kept_at m)
-    → cells_of rows ≡ lines_cells (symbol_lines eqb eqb (numbers_at m) (numbered m.entries)) → Shows c rows (symbol_rows t)
+pub shows_symbols : (c : Things) (t : Operation) (m : Roles) (rows : List Row) → tree.IsOrdered nat_cmp m.all → IsKept c t (kept_at m)
+    → cells_of rows ≡ lines_cells (symbol_lines eqb eqb (numbers_at m) (numbered m.all.entries)) → Shows c rows (symbol_rows t)
 shows_symbols c t m rows ordered kept is =
     let b = kept.from in
     let keeps = kept.keeps in
-    let es = m.entries in
+    let es = m.all.entries in
     let ds = definitions (numbered es) in
     let ek = entries_known b es ordered (λ q r i. subst (λ (o : Option Numbers). IfSome o (RoleIsOf b)) i (keeps q).known) in
     let dk = definitions_known b es ek in

@@ -3,4 +3,5 @@ pub mod Symbols
 pub mod Table
 pub mod Found
 pub mod Listeners
+pub mod Telling
 pub mod Lines

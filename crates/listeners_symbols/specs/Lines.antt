@@ -1,5 +1,5 @@
 -- The rows that a table of roles gives, in numbers.
-use Rattle.std.specs.Prelude.{◌≡◌, ℕ, List, map, eqb, Option, option_map}
+use Rattle.std.specs.Prelude.{◌≡◌, ℕ, List, map, eqb, Bool, Option, option_map}
 use Rattle.std.specs.Ordering.{nat_cmp, ordering_then}
 use Rattle.std.specs.declared.cmp.Ordering.{Ordering}
 use Rattle.std.specs.BTreeMap.{BTreeMap}
@@ -8,16 +8,27 @@ use Rattle.ir_event.specs.declared.row.Cell.{Cell}
 use Rattle.ir_event.specs.declared.row.Cell.TheVariants as cell
 use Rattle.ir_event.specs.declared.row.Row.{Row}
 use Rattle.listeners_symbols.specs.declared.role.Role.{Role as Numbers}
-use Rattle.listeners_symbols.specs.Table.{role_numbers}
+use Rattle.listeners_symbols.specs.declared.roles.Roles.{Roles}
+use Rattle.listeners_symbols.specs.Table.{call_numbers, reference_of, role_numbers}
 use Rattle.listeners_symbols.specs.Listeners.{kept_at}
-use Rattle.listeners_symbols.specs.Symbols.{RolesOf, RoleAt, LineOf, DefinitionOf, first_defined, line_cells}
+use Rattle.listeners_symbols.specs.Symbols.{RolesOf, RoleAt, LineOf, DefinitionOf, defined, first_defined, line_cells, reference_lines, call_line}
 
 -- the roles of a table in the order of ids, and by their ids
 abbrev pub numbered : List (ℕ × Numbers) → RolesOf ℕ ℕ ℕ
 numbered es = map (λ (e : ℕ × Numbers). (e.0, role_numbers e.1)) es
 
-abbrev pub numbers_at : BTreeMap ℕ Numbers → RoleAt ℕ ℕ ℕ
+abbrev pub numbers_at : Roles → RoleAt ℕ ℕ ℕ
 numbers_at m x = option_map role_numbers (kept_at m x)
+
+-- what is told of an operation by what is kept of it: a definition, the rows of its references, and that of its call
+abbrev pub defined_by : ℕ → Numbers → List (DefinitionOf ℕ)
+defined_by x r = defined r.home r.symbol x
+
+abbrev pub references_by : RoleAt ℕ ℕ ℕ → List (DefinitionOf ℕ) → Bool → ℕ → Numbers → List (LineOf ℕ ℕ)
+references_by roles ds resolved x r = reference_lines eqb roles ds resolved x r.table (map reference_of r.references.items)
+
+abbrev pub call_by : RoleAt ℕ ℕ ℕ → List (DefinitionOf ℕ) → ℕ → Numbers → List (LineOf ℕ ℕ)
+call_by roles ds x r = call_line eqb eqb roles ds x r.table (option_map call_numbers r.call)
 
 -- the cells of rows, and of lines
 abbrev pub cells_of : List Row → List (List Cell)

@@ -1,19 +1,18 @@
 -- What the listener means.
 use Rattle.std.specs.Prelude.{◌≡◌, ℕ, ◌+◌, false, None}
 use Rattle.std.specs.Ordering.{nat_cmp}
-use Rattle.std.specs.BTreeMap.{BTreeMap}
 use Rattle.std.specs.BTreeMap as tree
 use Rattle.ir_types.proofs.Growth.{grows_trans}
 use Rattle.ir_event.specs.Bounds.{operands_of}
 use Rattle.ir_event.specs.Listener.{Listener}
-use Rattle.listeners_symbols.specs.declared.role.Role.{Role as Numbers}
+use Rattle.listeners_symbols.specs.declared.roles.Roles.{Roles}
 use Rattle.listeners_symbols.specs.declared.symbols.Symbols.{Symbols}
 use Rattle.listeners_symbols.specs.Symbols.{symbol_rows}
 use Rattle.listeners_symbols.specs.Table.{Table, IsKept}
 
--- what a map keeps of an operation
-abbrev pub kept_at : BTreeMap ℕ Numbers → Table
-kept_at m = tree.get nat_cmp m
+-- what is kept of an operation
+abbrev pub kept_at : Roles → Table
+kept_at m = tree.get nat_cmp m.all
 
 -- the table keeps the roles of the operations of the module
 abbrev pub symbols_listener : Symbols → Listener

@@ -2,9 +2,12 @@
 ghost use Rattle.std.specs.Prelude.{◌≡◌, ◌++◌, [], ◌∷◌, ℕ, eqb, OnOk, IfOk};
 ghost use Rattle.ir_event.specs.trees.Ids.{first_of};
 ghost use Rattle.listeners_symbols.specs.Symbols.{definitions, defined, first_defined};
-ghost use Rattle.listeners_symbols.specs.Lines.{HasFirst, first_in, numbered};
+ghost use Rattle.listeners_symbols.specs.Listeners.{kept_at};
+ghost use Rattle.listeners_symbols.specs.Lines.{HasFirst, defined_by, first_in, numbered};
+ghost use Rattle.listeners_symbols.specs.Telling.{told_at};
 
 use crate::role::Role;
+use crate::roles::Roles;
 use ir_event::types::ids::{NameId, OpId};
 use std::alloc::{AllocError, Global};
 use std::collections::BTreeMap;
@@ -63,13 +66,24 @@ fn push_definition(op: OpId, role: &Role, out: &mut Vec<Definition>) -> Result<(
     Ok(())
 }
 
-/// The list of the definitions of a table of roles, in the order of the operations' ids.
-fn listed(alloc: Global, roles: &BTreeMap<OpId, Role>) -> Result<Vec<Definition>, AllocError>
-    ensures { IfOk result (λ v. v.items ≡ definitions (numbered roles.now.entries)) }
+/// Adds the definition that an operation of a table is, if it is one.
+fn push_definition_at(roles: &Roles, op: OpId, out: &mut Vec<Definition>) -> Result<(), AllocError>
+    ensures { OnOk result (out.new.items ≡ out.old.items ++ told_at defined_by op (kept_at roles.now op)) }
 {
+    match roles.get(op) {
+        None => Ok(()),
+        Some(role) => push_definition(op, role, out),
+    }
+}
+
+/// The list of the definitions of a table of roles, in the order of the operations' ids.
+fn listed(alloc: Global, roles: &Roles) -> Result<Vec<Definition>, AllocError>
+    ensures { IfOk result (λ v. v.items ≡ definitions (numbered roles.now.all.entries)) }
+{
+    roles.ordered();
     let mut out = Vec::new(alloc);
-    for (op, role) in roles {
-        push_definition(*op, role, &mut out)?;
+    for op in &roles.telling {
+        push_definition_at(roles, *op, &mut out)?;
     }
     Ok(out)
 }
@@ -104,11 +118,8 @@ fn firsts(alloc: Global, list: &[Definition]) -> Result<BTreeMap<(OpId, NameId),
 }
 
 /// The definitions of a table of roles.
-pub fn definitions_of(
-    alloc: Global,
-    roles: &BTreeMap<OpId, Role>,
-) -> Result<Definitions, AllocError>
-    ensures { IfOk result (λ d. d ≡ definitions (numbered roles.now.entries)) }
+pub fn definitions_of(alloc: Global, roles: &Roles) -> Result<Definitions, AllocError>
+    ensures { IfOk result (λ d. d ≡ definitions (numbered roles.now.all.entries)) }
 {
     let list = listed(alloc, roles)?;
     let first = firsts(alloc, &list)?;

@@ -18,13 +18,13 @@ ghost use Rattle.listeners_symbols.specs.Table.{tables_in, tree_in};
 use crate::properties::{callee_of, function_of, is_private, symbol_of};
 use crate::references::references_of;
 use crate::role::{Call, Role, Tables};
+use crate::roles::Roles;
 use ir_event::trees::value::Value;
 use ir_event::types::context::Context;
 use ir_event::types::ids::{NameId, OpId, TypeId};
 use ir_event::view::View;
 use listeners_surroundings::node::Node;
 use std::alloc::{AllocError, Global};
-use std::collections::BTreeMap;
 
 /// The tables of an operation that stands in another.
 fn tables_in(role: &Role, parent: OpId) -> Tables
@@ -46,18 +46,13 @@ fn tables_in(role: &Role, parent: OpId) -> Tables
 }
 
 /// The tables of an operation that the view shows, or none where what it stands in isn't kept.
-fn tables_of(
-    roles: &BTreeMap<OpId, Role>,
-    view: &mut View<'_>,
-    op: OpId,
-    is_table: bool,
-) -> Option<Tables>
+fn tables_of(roles: &Roles, view: &mut View<'_>, op: OpId, is_table: bool) -> Option<Tables>
     ensures tables { result ≡ tables_for (kept_at roles.now) op is_table (parent_of op (tree_in view.old.world.now)) }
     ensures looks { view.new.looks ≤ view.old.looks + 1 }
     ensures world { view.new.world.now ≡ view.old.world.now }
 {
     match view.parent(op) {
-        Some(parent) => Some(tables_in(roles.get(&parent)?, parent)),
+        Some(parent) => Some(tables_in(roles.get(parent)?, parent)),
         None => Some(Tables {
             parent: None,
             home: None,
@@ -172,7 +167,7 @@ fn role_with(
 /// what the operation stands in isn't kept.
 pub(crate) fn gather(
     alloc: Global,
-    roles: &BTreeMap<OpId, Role>,
+    roles: &Roles,
     view: &mut View<'_>,
     op: OpId,
     node: &Node<'_>,

@@ -9,5 +9,6 @@ mod references;
 mod report;
 pub mod resolve;
 pub mod role;
+pub mod roles;
 pub mod symbols;
 pub mod table;

@@ -9,17 +9,19 @@ ghost use Rattle.listeners_symbols.specs.Symbols.{all_reference_lines, call_line
 ghost use Rattle.listeners_symbols.specs.Symbols.{is_duplicate, mismatch_line, mismatch_lines, reference_line};
 ghost use Rattle.listeners_symbols.specs.Symbols.{reference_lines, symbol_lines, lines_with};
 ghost use Rattle.listeners_symbols.specs.Table.{call_numbers, reference_of};
-ghost use Rattle.listeners_symbols.specs.Lines.{cells_of, lines_cells, numbered, numbers_at};
+ghost use Rattle.listeners_symbols.specs.Listeners.{kept_at};
+ghost use Rattle.listeners_symbols.specs.Lines.{call_by, cells_of, lines_cells, numbered, numbers_at, references_by};
+ghost use Rattle.listeners_symbols.specs.Telling.{told_at};
 
 use crate::definitions::{Definition, Definitions, definitions_of};
 use crate::resolve::{fits, resolve};
 use crate::role::{Call, Role};
+use crate::roles::Roles;
 use ir_event::row::{Cell, Row};
 use ir_event::tag::Tag;
 use ir_event::trees::value::Value;
 use ir_event::types::ids::{AttrId, NameId, OpId};
 use std::alloc::{AllocError, Global};
-use std::collections::BTreeMap;
 
 // The checker has no proof of the loans of a function that holds cells, unless the function has a value of each type in
 // a cell: so some make a `Value` that nothing uses.
@@ -165,7 +167,7 @@ fn push_reference(
 fn push_references(
     alloc: Global,
     resolved: bool,
-    roles: &BTreeMap<OpId, Role>,
+    roles: &Roles,
     definitions: &Definitions,
     user: OpId,
     role: &Role,
@@ -185,19 +187,38 @@ fn push_references(
     Ok(())
 }
 
+/// Adds the rows of the references of an operation of a table.
+fn push_references_at(
+    alloc: Global,
+    resolved: bool,
+    roles: &Roles,
+    definitions: &Definitions,
+    user: OpId,
+    out: &mut Vec<Row>,
+) -> Result<(), AllocError>
+    ensures { OnOk result (cells_of out.new.items ≡ cells_of out.old.items
+        ++ lines_cells (told_at (references_by (numbers_at roles.now) definitions.now resolved) user (kept_at roles.now user))) }
+{
+    match roles.get(user) {
+        None => Ok(()),
+        Some(role) => push_references(alloc, resolved, roles, definitions, user, role, out),
+    }
+}
+
 /// Adds the rows of the references of all operations.
 fn push_all_references(
     alloc: Global,
     resolved: bool,
-    roles: &BTreeMap<OpId, Role>,
+    roles: &Roles,
     definitions: &Definitions,
     out: &mut Vec<Row>,
 ) -> Result<(), AllocError>
     ensures { OnOk result (cells_of out.new.items ≡ cells_of out.old.items ++ lines_cells
-        (all_reference_lines eqb (numbers_at roles.now) definitions.now resolved (numbered roles.now.entries))) }
+        (all_reference_lines eqb (numbers_at roles.now) definitions.now resolved (numbered roles.now.all.entries))) }
 {
-    for (op, role) in roles {
-        push_references(alloc, resolved, roles, definitions, *op, role, out)?;
+    roles.ordered();
+    for op in &roles.telling {
+        push_references_at(alloc, resolved, roles, definitions, *op, out)?;
     }
     Ok(())
 }
@@ -219,7 +240,7 @@ fn push_mismatch(alloc: Global, user: OpId, op: OpId, out: &mut Vec<Row>) -> Res
 /// Adds the row of a call, where it resolves to what isn't a function of its types.
 fn push_call(
     alloc: Global,
-    roles: &BTreeMap<OpId, Role>,
+    roles: &Roles,
     user: OpId,
     call: &Call,
     found: Option<OpId>,
@@ -240,7 +261,7 @@ fn push_call(
 /// Adds the row of an operation's call, where there is one.
 fn push_call_of(
     alloc: Global,
-    roles: &BTreeMap<OpId, Role>,
+    roles: &Roles,
     definitions: &Definitions,
     user: OpId,
     role: &Role,
@@ -258,18 +279,36 @@ fn push_call_of(
     push_call(alloc, roles, user, call, found, out)
 }
 
+/// Adds the row of the call of an operation of a table, where there is one.
+fn push_call_at(
+    alloc: Global,
+    roles: &Roles,
+    definitions: &Definitions,
+    user: OpId,
+    out: &mut Vec<Row>,
+) -> Result<(), AllocError>
+    ensures { OnOk result (cells_of out.new.items ≡ cells_of out.old.items
+        ++ lines_cells (told_at (call_by (numbers_at roles.now) definitions.now) user (kept_at roles.now user))) }
+{
+    match roles.get(user) {
+        None => Ok(()),
+        Some(role) => push_call_of(alloc, roles, definitions, user, role, out),
+    }
+}
+
 /// Adds the rows of mismatches.
 fn push_mismatches(
     alloc: Global,
-    roles: &BTreeMap<OpId, Role>,
+    roles: &Roles,
     definitions: &Definitions,
     out: &mut Vec<Row>,
 ) -> Result<(), AllocError>
     ensures { OnOk result (cells_of out.new.items ≡ cells_of out.old.items
-        ++ lines_cells (mismatch_lines eqb eqb (numbers_at roles.now) definitions.now (numbered roles.now.entries))) }
+        ++ lines_cells (mismatch_lines eqb eqb (numbers_at roles.now) definitions.now (numbered roles.now.all.entries))) }
 {
-    for (op, role) in roles {
-        push_call_of(alloc, roles, definitions, *op, role, out)?;
+    roles.ordered();
+    for op in &roles.telling {
+        push_call_at(alloc, roles, definitions, *op, out)?;
     }
     Ok(())
 }
@@ -277,12 +316,12 @@ fn push_mismatches(
 /// The rows of all operations, by these definitions.
 fn push_lines(
     alloc: Global,
-    roles: &BTreeMap<OpId, Role>,
+    roles: &Roles,
     definitions: &Definitions,
     out: &mut Vec<Row>,
 ) -> Result<(), AllocError>
     ensures { OnOk result (cells_of out.new.items ≡ cells_of out.old.items
-        ++ lines_cells (lines_with eqb eqb (numbers_at roles.now) definitions.now (numbered roles.now.entries))) }
+        ++ lines_cells (lines_with eqb eqb (numbers_at roles.now) definitions.now (numbered roles.now.all.entries))) }
 {
     push_definitions(alloc, definitions, out)?;
     push_duplicates(alloc, definitions, out)?;
@@ -292,13 +331,13 @@ fn push_lines(
 }
 
 /// The rows of a table of roles.
-pub(crate) fn lines(alloc: Global, roles: &BTreeMap<OpId, Role>) -> Result<Vec<Row>, AllocError>
+pub(crate) fn lines(alloc: Global, roles: &Roles) -> Result<Vec<Row>, AllocError>
     ensures rows { IfOk result
         (λ out. cells_of out.items
-        ≡ lines_cells (symbol_lines eqb eqb (numbers_at roles.now) (numbered roles.now.entries))) }
-    ensures ordered { IfOk result (λ _. tree.IsOrdered nat_cmp roles.now) }
+        ≡ lines_cells (symbol_lines eqb eqb (numbers_at roles.now) (numbered roles.now.all.entries))) }
+    ensures ordered { IfOk result (λ _. tree.IsOrdered nat_cmp roles.now.all) }
 {
-    let _ = roles.len();
+    roles.ordered();
     let definitions = definitions_of(alloc, roles)?;
     let mut out = Vec::new(alloc);
     push_lines(alloc, roles, &definitions, &mut out)?;

@@ -7,27 +7,22 @@ ghost use Rattle.listeners_symbols.specs.Table.{call_numbers};
 ghost use Rattle.listeners_symbols.specs.Lines.{numbers_at};
 
 use crate::definitions::Definitions;
-use crate::role::{Call, Role};
+use crate::role::Call;
+use crate::roles::Roles;
 use ir_event::types::ids::{NameId, OpId, TypeId};
-use std::collections::BTreeMap;
 
 /// Whether an operation is a symbol table.
-fn is_table(roles: &BTreeMap<OpId, Role>, op: OpId) -> bool
+fn is_table(roles: &Roles, op: OpId) -> bool
     ensures { result ≡ says_table (numbers_at roles.now op) }
 {
-    match roles.get(&op) {
+    match roles.get(op) {
         None => false,
         Some(role) => role.is_table,
     }
 }
 
 /// The operation that a name is in another.
-fn look_up(
-    roles: &BTreeMap<OpId, Role>,
-    definitions: &Definitions,
-    op: OpId,
-    name: NameId,
-) -> Option<OpId>
+fn look_up(roles: &Roles, definitions: &Definitions, op: OpId, name: NameId) -> Option<OpId>
     ensures { result ≡ symbols.look_up eqb (numbers_at roles.now) definitions.now op name }
 {
     if !is_table(roles, op) {
@@ -38,7 +33,7 @@ fn look_up(
 
 /// The operation that a name is in another that there may be.
 pub fn look_in(
-    roles: &BTreeMap<OpId, Role>,
+    roles: &Roles,
     definitions: &Definitions,
     found: Option<OpId>,
     name: NameId,
@@ -53,7 +48,7 @@ pub fn look_in(
 
 /// What the parts of a reference resolve to: the first in a table, each further one in the symbol before it.
 pub(crate) fn resolve(
-    roles: &BTreeMap<OpId, Role>,
+    roles: &Roles,
     definitions: &Definitions,
     table: Option<OpId>,
     parts: &[NameId],
@@ -90,10 +85,10 @@ fn same_types(ones: &[TypeId], others: &[TypeId]) -> bool
 
 /// Whether an operation is a function that has the types of a call's operands and results.
 #[tactic(auto, using(crate::proofs::Lines::some_types))]
-pub(crate) fn fits(roles: &BTreeMap<OpId, Role>, call: &Call, op: OpId) -> bool
+pub(crate) fn fits(roles: &Roles, call: &Call, op: OpId) -> bool
     ensures { result ≡ symbols.fits eqb (call_numbers call.now) (function_at (numbers_at roles.now op)) }
 {
-    let Some(role) = roles.get(&op) else {
+    let Some(role) = roles.get(op) else {
         return false;
     };
     let Some(function) = &role.function else {

@@ -2,16 +2,14 @@
 ghost use Rattle.std.specs.Prelude.{◌≡◌, true};
 
 use crate::report::lines;
-use crate::role::Role;
+use crate::roles::Roles;
 use crate::table::{follow, tabulate};
 use ir_event::analysis::Analysis;
 use ir_event::event::Event;
 use ir_event::row::{Kind, Memory, ReportFault, Row};
-use ir_event::types::ids::OpId;
 use ir_event::view::View;
 use ir_event::world::World;
 use std::alloc::Global;
-use std::collections::BTreeMap;
 
 /// The analysis `symbols`: which symbols a module defines, and what its references to symbols resolve to (Symbols and
 /// Symbol Tables).
@@ -21,7 +19,7 @@ use std::collections::BTreeMap;
 #[derive(Drop)]
 pub struct Symbols {
     alloc: Global,
-    roles: BTreeMap<OpId, Role>,
+    roles: Roles,
     stale: bool,
 }
 
@@ -34,7 +32,7 @@ impl Symbols {
     {
         Symbols {
             alloc,
-            roles: BTreeMap::new(alloc),
+            roles: Roles::new(alloc),
             stale: true,
         }
     }
@@ -51,7 +49,7 @@ impl Analysis for Symbols {
 
     fn begin(&mut self, world: &World) -> Result<(), Memory> {
         // What was kept goes first, so that there is room for what is kept now.
-        self.roles = BTreeMap::new(self.alloc);
+        self.roles = Roles::new(self.alloc);
         self.stale = true;
         world.ctx.sound();
         match tabulate(self.alloc, world) {

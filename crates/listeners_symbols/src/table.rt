@@ -10,19 +10,18 @@ ghost use Rattle.listeners_symbols.specs.Table.{Added, Followed, Keeps, OperandF
 
 use crate::gather::gather;
 use crate::properties::callee_of;
-use crate::role::Role;
+use crate::roles::Roles;
 use ir_event::event::Event;
 use ir_event::types::ids::OpId;
 use ir_event::view::View;
 use ir_event::world::World;
 use listeners_surroundings::node::Node;
 use std::alloc::{AllocError, Global};
-use std::collections::BTreeMap;
 
 /// Makes what is kept of an operation, which the view shows as this one, what it is in the module.
 fn renew_by(
     alloc: Global,
-    roles: &mut BTreeMap<OpId, Role>,
+    roles: &mut Roles,
     view: &mut View<'_>,
     op: OpId,
     node: &Node<'_>,
@@ -40,12 +39,7 @@ fn renew_by(
 }
 
 /// Makes what is kept of an operation what it is in the module that the view shows.
-fn renew(
-    alloc: Global,
-    roles: &mut BTreeMap<OpId, Role>,
-    view: &mut View<'_>,
-    op: OpId,
-) -> Result<(), AllocError>
+fn renew(alloc: Global, roles: &mut Roles, view: &mut View<'_>, op: OpId) -> Result<(), AllocError>
     ensures renewed { OnOk result
         (Renewed view.old.world.now.ctx (module_in view.old.world.now).tree op (kept_at roles.old)
         (kept_at roles.new)) }
@@ -61,7 +55,7 @@ fn renew(
 /// Follows an operand that became another value. It matters at a call alone, whose operands have types.
 fn follow_operand(
     alloc: Global,
-    roles: &mut BTreeMap<OpId, Role>,
+    roles: &mut Roles,
     view: &mut View<'_>,
     op: OpId,
 ) -> Result<(), AllocError>
@@ -83,7 +77,7 @@ fn follow_operand(
 /// Follows an event, which led to the module that the view shows. It looks at the event's operation alone.
 pub fn follow(
     alloc: Global,
-    roles: &mut BTreeMap<OpId, Role>,
+    roles: &mut Roles,
     view: &mut View<'_>,
     event: &Event,
 ) -> Result<(), AllocError>
@@ -98,7 +92,7 @@ pub fn follow(
     match event {
         Event::Put { op, .. } => renew(alloc, roles, view, *op),
         Event::Take { op, .. } => {
-            roles.remove(op);
+            roles.remove(*op);
             Ok(())
         }
         Event::SetOperand { op, .. } => follow_operand(alloc, roles, view, *op),
@@ -111,7 +105,7 @@ pub fn follow(
 /// stands in.
 fn renew_all(
     alloc: Global,
-    roles: &mut BTreeMap<OpId, Role>,
+    roles: &mut Roles,
     view: &mut View<'_>,
     ops: &[OpId],
 ) -> Result<(), AllocError>
@@ -125,13 +119,13 @@ fn renew_all(
 }
 
 /// The roles of the operations of a module.
-pub fn tabulate(alloc: Global, world: &World) -> Result<BTreeMap<OpId, Role>, AllocError>
+pub fn tabulate(alloc: Global, world: &World) -> Result<Roles, AllocError>
     ensures { IfOk result (λ roles. Keeps world.now.ctx (module_in world.now).tree (kept_at roles)) }
 {
     let Ok(ops) = world.store.operations() else {
         return Err(AllocError);
     };
-    let mut roles = BTreeMap::new(alloc);
+    let mut roles = Roles::new(alloc);
     let mut view = View::new(world);
     renew_all(alloc, &mut roles, &mut view, &ops)?;
     Ok(roles)

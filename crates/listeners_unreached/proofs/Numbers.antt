@@ -4,7 +4,6 @@ use Rattle.std.specs.Prelude.{option_map, option_to_list, is_some, IfSome}
 use Rattle.std.specs.List.{All}
 use Rattle.std.specs.Str.{bytes_eq}
 use Rattle.std.specs.Ordering.{nat_cmp}
-use Rattle.std.specs.BTreeMap.{BTreeMap}
 use Rattle.std.specs.BTreeMap as tree
 use Rattle.std.proofs.lemmas.List.Elements.{All-head, All-tail}
 use Rattle.ir_event.specs.types.Things.{Things, IsName}
@@ -16,6 +15,7 @@ use Rattle.ir_event.specs.tree_laws.Members.{In}
 use Rattle.ir_event.specs.tree_laws.Stands.{stands, stand_of}
 use Rattle.ir_event.proofs.of_tree_laws.Members.{member}
 use Rattle.listeners_symbols.specs.declared.role.Role.{Role as Numbers}
+use Rattle.listeners_symbols.specs.declared.roles.Roles.{Roles}
 use Rattle.listeners_symbols.specs.declared.role.Reference.{Reference}
 use Rattle.listeners_symbols.specs.Roles.{Stand, role_of}
 use Rattle.listeners_symbols.specs.Symbols.{DefinitionOf, definitions, roles_by_id, look_in}
@@ -40,7 +40,7 @@ module _ (b : Things) where
       go true false = refl
       go false p = refl
 
-  module _ (sound : IsSound b) (t : Operation) (m : BTreeMap ℕ Numbers) (keeps : Keeps b t (kept_at m)) where
+  module _ (sound : IsSound b) (t : Operation) (m : Roles) (keeps : Keeps b t (kept_at m)) where
     pub definition_meant : (x : ℕ) → is_definition t x ≡ says_definition (numbers_at m x)
     definition_meant x = ap says_definition (sym (keeps x).is) ∙ go (kept_at m x)
       where
@@ -67,15 +67,15 @@ module _ (b : Things) where
           go None h = refl
           go (Some k) h = targets_meant k.table k.references.items h.references
 
-    module _ (d : HasDistinctIds t) (ordered : tree.IsOrdered nat_cmp m) where
+    module _ (d : HasDistinctIds t) (ordered : tree.IsOrdered nat_cmp m.all) where
       abbrev in_numbers : List (DefinitionOf ℕ)
-      in_numbers = definitions (numbered m.entries)
+      in_numbers = definitions (numbered m.all.entries)
 
       all_known : Each (DefinitionIs b) in_numbers
-      all_known = definitions_known b m.entries (entries_known b m.entries ordered (λ q r i. subst (λ (o : Option Numbers). IfSome o (RoleIsOf b)) i (keeps q).known))
+      all_known = definitions_known b m.all.entries (entries_known b m.all.entries ordered (λ q r i. subst (λ (o : Option Numbers). IfSome o (RoleIsOf b)) i (keeps q).known))
 
       all_meant : definitions (roles_by_id t) ≡ defs_in b in_numbers
-      all_meant = ap definitions (sym (entries_meant t b m ordered keeps)) ∙ definitions_meant b m.entries
+      all_meant = ap definitions (sym (entries_meant t b m ordered keeps)) ∙ definitions_meant b m.all.entries
 
       reaches_meant : (y : ℕ) → reaches t y ≡ reached_from eqb (numbers_at m) in_numbers (numbers_at m y)
       reaches_meant y = ap (λ l. reached_from bytes_eq (role_of t) l (role_of t y)) all_meant ∙ reached_meant in_numbers all_known y

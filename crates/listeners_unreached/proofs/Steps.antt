@@ -2,9 +2,9 @@
 use Rattle.std.proofs.Common.{◌≡◌, refl, ap, sym, ◌∙◌, subst, ℕ, zero, suc, ◌-◌, ◌≤◌, Bool, true, false, true≢false, cond, eqb, List, [], ◌∷◌, ◌++◌, append_assoc, length, take, drop, filter, Option, Some, None, inl, inr, ◌⊎◌, Result, Ok, Err, slice_index_or, arith}
 use Rattle.std.specs.Prelude.{OnOk, IfOk, option_map, option_to_list, is_some}
 use Rattle.std.specs.Map.{keys_of}
-use Rattle.std.specs.BTreeMap.{BTreeMap}
 use Rattle.ir_event.specs.tree_laws.Members.{In}
 use Rattle.listeners_symbols.specs.declared.role.Role.{Role as Numbers}
+use Rattle.listeners_symbols.specs.declared.roles.Roles.{Roles}
 use Rattle.listeners_symbols.specs.Roles.{ReferenceOf}
 use Rattle.listeners_symbols.specs.Symbols.{RoleAt, DefinitionOf, look_in}
 use Rattle.listeners_symbols.specs.Table.{role_numbers}
@@ -93,7 +93,7 @@ module _ (P : ℕ → Type 0) (U R : ℕ → ℕ → Type 0) where
   taken_found (Some x) q r left after h = taken_out x q r left after h
 
 -- ---- the start
-module _ (m : BTreeMap ℕ Numbers) (ds : List (DefinitionOf ℕ)) (left : Left) (starts : StartsIn (numbers_at m) left) where
+module _ (m : Roles) (ds : List (DefinitionOf ℕ)) (left : Left) (starts : StartsIn (numbers_at m) left) where
   started_sound : (x : ℕ) → IsDefinition (numbers_at m) x → left x ≡ None → IsReached (IsDefinition (numbers_at m)) (StandsUnder (numbers_at m)) (Reaches (numbers_at m) ds) x
   started_sound x p e = (let bad : None ≡ Some [] = sym e ∙ starts x ∙ ap (λ b. cond b (Some []) None) p in absurd cc)
 
@@ -104,19 +104,19 @@ module _ (m : BTreeMap ℕ Numbers) (ds : List (DefinitionOf ℕ)) (left : Left)
       go true i = i
       go false i = (let bad : Some ws ≡ None = sym e ∙ starts x ∙ ap (λ b. cond b (Some []) None) i in absurd cc)
 
-  placed : (y : ℕ) → In y (keys_of m.entries) ⊎ IsDone (IsDefinition (numbers_at m)) (StandsUnder (numbers_at m)) (Reaches (numbers_at m) ds) left y
+  placed : (y : ℕ) → In y (keys_of m.all.entries) ⊎ IsDone (IsDefinition (numbers_at m)) (StandsUnder (numbers_at m)) (Reaches (numbers_at m) ds) left y
   placed y = go (kept_at m y) refl
     where
-      go : (k : Option Numbers) → kept_at m y ≡ k → In y (keys_of m.entries) ⊎ IsDone (IsDefinition (numbers_at m)) (StandsUnder (numbers_at m)) (Reaches (numbers_at m) ds) left y
+      go : (k : Option Numbers) → kept_at m y ≡ k → In y (keys_of m.all.entries) ⊎ IsDone (IsDefinition (numbers_at m)) (StandsUnder (numbers_at m)) (Reaches (numbers_at m) ds) left y
       go None e = inr (λ x r. absurd (subst (λ (k : Option Numbers). In x (reached_from eqb (numbers_at m) ds (option_map role_numbers k))) e r))
-      go (Some r) e = inl (found_key y r m.entries e)
+      go (Some r) e = inl (found_key y r m.all.entries e)
 
-  pub started : (q : List (List ℕ)) → Marks (IsDefinition (numbers_at m)) (StandsUnder (numbers_at m)) (Reaches (numbers_at m) ds) (keys_of m.entries ++ []) q left
+  pub started : (q : List (List ℕ)) → Marks (IsDefinition (numbers_at m)) (StandsUnder (numbers_at m)) (Reaches (numbers_at m) ds) (keys_of m.all.entries ++ []) q left
   started q = record {
     sound = started_sound;
     only = started_only;
     placed = λ y. elim (placed y) [
-      | inl h ↦ inl (in_left y (keys_of m.entries) [] h)
+      | inl h ↦ inl (in_left y (keys_of m.all.entries) [] h)
       | inr d ↦ inr (inr (inr d))
     ];
   }

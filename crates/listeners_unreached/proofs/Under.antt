@@ -1,7 +1,6 @@
 -- What an operation stands under in a tree is what it stands under by the links of a table of roles.
 use Rattle.std.proofs.Common.{◌≡◌, refl, ap, sym, ◌∙◌, subst, ℕ, List, [], ◌∷◌, map, Option, Some, None, inl, inr}
 use Rattle.std.specs.Prelude.{option_map}
-use Rattle.std.specs.BTreeMap.{BTreeMap}
 use Rattle.ir_event.specs.types.Things.{Things}
 use Rattle.ir_event.specs.types.Terms.{TypeTerm, AttrTerm}
 use Rattle.ir_event.specs.trees.Tree.{head}
@@ -12,6 +11,7 @@ use Rattle.ir_event.specs.tree_laws.Stands.{StepOf, stand_id, stands}
 use Rattle.ir_event.proofs.of_tree_laws.Members.{stand, stand_of_member}
 use Rattle.ir_event.proofs.of_tree_laws.Around.{around_there}
 use Rattle.listeners_symbols.specs.declared.role.Role.{Role as Numbers}
+use Rattle.listeners_symbols.specs.declared.roles.Roles.{Roles}
 use Rattle.listeners_symbols.specs.Roles.{Stand, Role, parent_in, role, role_of}
 use Rattle.listeners_symbols.specs.Table.{role_numbers, role_meaning, Keeps}
 use Rattle.listeners_symbols.specs.Lines.{numbers_at}
@@ -22,7 +22,7 @@ use Rattle.listeners_unreached.specs.Marks.{parent_at, StandsUnder, itself, arou
 abbrev Path : Type 0
 Path = List (StepOf (List ℕ) TypeTerm AttrTerm)
 
-module _ (b : Things) (t : Operation) (d : HasDistinctIds t) (m : BTreeMap ℕ Numbers) (keeps : Keeps b t (kept_at m)) where
+module _ (b : Things) (t : Operation) (d : HasDistinctIds t) (m : Roles) (keeps : Keeps b t (kept_at m)) where
   linked : (s : Stand) → In s (stands [] t) → parent_at (numbers_at m (stand_id s)) ≡ parent_in s.path
   linked s h = go (kept_at m (stand_id s)) refl
     where

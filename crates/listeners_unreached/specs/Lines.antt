@@ -2,7 +2,9 @@
 use Rattle.std.specs.Prelude.{ℕ, List, map, Bool, is_none}
 use Rattle.ir_event.specs.declared.row.Cell.{Cell}
 use Rattle.ir_event.specs.declared.row.Cell.TheVariants as cell
-use Rattle.listeners_unreached.specs.Unreached.{line_cells}
+use Rattle.listeners_symbols.specs.declared.role.Role.{Role as Numbers}
+use Rattle.listeners_symbols.specs.Table.{role_numbers}
+use Rattle.listeners_unreached.specs.Unreached.{line_cells, line_of, private_name}
 use Rattle.listeners_unreached.specs.Marking.{Left}
 
 -- the cells of rows
@@ -12,3 +14,7 @@ lines_cells ls = map (line_cells cell.Op cell.Name) ls
 -- whether a definition isn't left
 abbrev pub is_out : Left → ℕ → Bool
 is_out left x = is_none (left x)
+
+-- the row of an operation, by what is kept of it
+abbrev pub line_by : Left → ℕ → Numbers → List (ℕ × ℕ)
+line_by left x r = line_of (is_out left x) x (private_name (role_numbers r))

@@ -6,7 +6,7 @@ use Rattle.std.specs.BTreeMap.{BTreeMap, btree_map_len}
 use Rattle.std.specs.BTreeMap as tree
 use Rattle.ir_event.specs.tree_laws.Members.{In}
 use Rattle.listeners_symbols.specs.Roles.{RoleOf}
-use Rattle.listeners_symbols.specs.Symbols.{RolesOf, RoleAt, DefinitionOf}
+use Rattle.listeners_symbols.specs.Symbols.{RoleAt, DefinitionOf}
 use Rattle.listeners_unreached.specs.Reached.{IsReached}
 use Rattle.listeners_unreached.specs.Unreached.{private_name, says_definition, reached_from}
 use Rattle.listeners_unreached.specs.Marking.{Left, Marks, Removed, Considered, Dropped}
@@ -95,10 +95,15 @@ abbrev pub added : ℕ → Option ℕ → ℕ → Option (List ℕ) → Option (
 added x None z o = o
 added x (Some name) z o = if eqb x z then Some [] else o
 
+-- where it was added, if it is one by what is kept of it
+abbrev pub added_at : ℕ → Option (RoleOf ℕ ℕ ℕ) → ℕ → Option (List ℕ) → Option (List ℕ)
+added_at x None z o = o
+added_at x (Some r) z o = added x (private_name r) z o
+
 -- and where some were added, one after another
-abbrev pub all_added : ℕ → RolesOf ℕ ℕ ℕ → Option (List ℕ) → Option (List ℕ)
-all_added z [] o = o
-all_added z (e ∷ es) o = all_added z es (added e.0 (private_name e.1) z o)
+abbrev pub those_added : RoleAt ℕ ℕ ℕ → ℕ → List ℕ → Option (List ℕ) → Option (List ℕ)
+those_added roles z [] o = o
+those_added roles z (x ∷ xs) o = those_added roles z xs (added_at x (roles x) z o)
 
 -- at first all private definitions are left, and nothing waits
 abbrev pub StartsIn : RoleAt ℕ ℕ ℕ → Left → Type 0

@@ -50,7 +50,7 @@ fn listed(alloc: Global, world: &World) -> Result<Vec<OpId>, AllocError>
 {
     world.ctx.sound();
     let roles = tabulate(alloc, world)?;
-    let _ = roles.len();
+    roles.ordered();
     let left = marking::unreached(alloc, &roles)?;
     let Ok(ops) = world.store.operations() else {
         return Err(AllocError);

@@ -12,7 +12,8 @@ use crate::waiting::{all_left, left_above, take_out, wait};
 use ir_event::types::ids::{NameId, OpId};
 use listeners_symbols::definitions::{Definitions, definitions_of};
 use listeners_symbols::resolve::look_in;
-use listeners_symbols::role::{Reference, Role};
+use listeners_symbols::role::Reference;
+use listeners_symbols::roles::Roles;
 use std::alloc::{AllocError, Global};
 use std::collections::BTreeMap;
 
@@ -34,7 +35,7 @@ fn take_found(
 
 /// Takes out what the prefixes of a reference resolve to.
 fn reach(
-    roles: &BTreeMap<OpId, Role>,
+    roles: &Roles,
     definitions: &Definitions,
     table: &Option<OpId>,
     parts: &[NameId],
@@ -59,7 +60,7 @@ fn reach(
 
 /// Takes out what the prefixes of references resolve to.
 fn reach_each(
-    roles: &BTreeMap<OpId, Role>,
+    roles: &Roles,
     definitions: &Definitions,
     table: &Option<OpId>,
     references: &[Reference],
@@ -82,7 +83,7 @@ fn reach_each(
 
 /// Takes out what an operation reaches.
 fn reach_from(
-    roles: &BTreeMap<OpId, Role>,
+    roles: &Roles,
     definitions: &Definitions,
     op: OpId,
     left: &mut BTreeMap<OpId, Vec<OpId>>,
@@ -94,7 +95,7 @@ fn reach_from(
         (numbers_at roles.now op)) pending.old left.old pending.new left.new) }
     ensures size { OnOk result (size left.new pending.new ≤ size left.old pending.old) }
 {
-    match roles.get(&op) {
+    match roles.get(op) {
         None => Ok(()),
         Some(role) => reach_each(
             roles,
@@ -108,11 +109,11 @@ fn reach_from(
 }
 
 /// Whether an operation refers to nothing.
-fn refers_to_none(roles: &BTreeMap<OpId, Role>, op: OpId) -> bool
+fn refers_to_none(roles: &Roles, op: OpId) -> bool
     ensures { (ds : List (DefinitionOf ℕ)) → result ≡ true
         → reached_from eqb (numbers_at roles.now) ds (numbers_at roles.now op) ≡ [] }
 {
-    match roles.get(&op) {
+    match roles.get(op) {
         None => true,
         Some(role) => role.references.is_empty(),
     }
@@ -121,7 +122,7 @@ fn refers_to_none(roles: &BTreeMap<OpId, Role>, op: OpId) -> bool
 /// Looks at an operation: if it refers to anything, it waits for a definition that it stands under and that is left, or
 /// what it reaches is taken out.
 fn consider(
-    roles: &BTreeMap<OpId, Role>,
+    roles: &Roles,
     definitions: &Definitions,
     op: OpId,
     left: &mut BTreeMap<OpId, Vec<OpId>>,
@@ -142,7 +143,7 @@ fn consider(
 
 /// Looks at operations.
 fn consider_each(
-    roles: &BTreeMap<OpId, Role>,
+    roles: &Roles,
     definitions: &Definitions,
     ops: &[OpId],
     left: &mut BTreeMap<OpId, Vec<OpId>>,
@@ -160,17 +161,17 @@ fn consider_each(
     Ok(())
 }
 
-/// Looks at all operations of a table of roles.
+/// Looks at all operations of a table of roles. Those that refer to nothing reach nothing.
 fn consider_all(
-    roles: &BTreeMap<OpId, Role>,
+    roles: &Roles,
     definitions: &Definitions,
     left: &mut BTreeMap<OpId, Vec<OpId>>,
     pending: &mut Vec<Vec<OpId>>,
 ) -> Result<(), AllocError>
     ensures { OnOk result (ConsideredIn (numbers_at roles.now) definitions.now
-        (keys_of roles.now.entries) pending.old left.old pending.new left.new) }
+        (keys_of roles.now.all.entries) pending.old left.old pending.new left.new) }
 {
-    for (op, _) in roles {
+    for op in &roles.telling {
         consider(roles, definitions, *op, left, pending)?;
     }
     Ok(())
@@ -178,7 +179,7 @@ fn consider_all(
 
 /// Looks at what is pending, until nothing is.
 fn settle(
-    roles: &BTreeMap<OpId, Role>,
+    roles: &Roles,
     definitions: &Definitions,
     left: &mut BTreeMap<OpId, Vec<OpId>>,
     pending: Vec<Vec<OpId>>,
@@ -196,7 +197,7 @@ fn settle(
 /// Takes all that is reached out of what is left.
 fn mark(
     alloc: Global,
-    roles: &BTreeMap<OpId, Role>,
+    roles: &Roles,
     definitions: &Definitions,
     left: &mut BTreeMap<OpId, Vec<OpId>>,
 ) -> Result<(), AllocError>
@@ -211,9 +212,9 @@ fn mark(
 /// The private definitions that nothing reaches, by a table of roles.
 pub(crate) fn unreached(
     alloc: Global,
-    roles: &BTreeMap<OpId, Role>,
+    roles: &Roles,
 ) -> Result<BTreeMap<OpId, Vec<OpId>>, AllocError>
-    ensures { IfOk result (λ left. IsMarked (numbers_at roles.now) (definitions (numbered roles.now.entries))
+    ensures { IfOk result (λ left. IsMarked (numbers_at roles.now) (definitions (numbered roles.now.all.entries))
         (left_at left)) }
 {
     let definitions = definitions_of(alloc, roles)?;

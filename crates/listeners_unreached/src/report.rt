@@ -6,7 +6,9 @@ ghost use Rattle.ir_event.specs.declared.row.Cell.TheVariants.{Op, Name};
 ghost use Rattle.listeners_symbols.specs.Symbols.{definitions};
 ghost use Rattle.listeners_symbols.specs.Table.{role_numbers};
 ghost use Rattle.listeners_symbols.specs.Lines.{cells_of, numbered, numbers_at};
-ghost use Rattle.listeners_unreached.specs.Lines.{is_out, lines_cells};
+ghost use Rattle.listeners_symbols.specs.Listeners.{kept_at};
+ghost use Rattle.listeners_symbols.specs.Telling.{told_at};
+ghost use Rattle.listeners_unreached.specs.Lines.{is_out, line_by, lines_cells};
 ghost use Rattle.listeners_unreached.specs.Marking.{Left};
 ghost use Rattle.listeners_unreached.specs.Marks.{IsMarked, left_at};
 ghost use Rattle.listeners_unreached.specs.Unreached as unreached;
@@ -18,6 +20,7 @@ use ir_event::row::{Cell, Row};
 use ir_event::trees::value::Value;
 use ir_event::types::ids::{NameId, OpId};
 use listeners_symbols::role::Role;
+use listeners_symbols::roles::Roles;
 use std::alloc::{AllocError, Global};
 use std::collections::BTreeMap;
 
@@ -56,32 +59,63 @@ fn push_line_of(
     push_line(alloc, op, name, out)
 }
 
+/// Adds the row of an operation of a table, where it is a private definition that is left.
+fn push_line_at(
+    alloc: Global,
+    roles: &Roles,
+    left: &BTreeMap<OpId, Vec<OpId>>,
+    op: OpId,
+    out: &mut Vec<Row>,
+) -> Result<(), AllocError>
+    ensures { OnOk result (cells_of out.new.items
+        ≡ cells_of out.old.items ++ lines_cells (told_at (line_by (left_at left.now)) op (kept_at roles.now op))) }
+{
+    match roles.get(op) {
+        None => Ok(()),
+        Some(role) => push_line_of(alloc, left, op, role, out),
+    }
+}
+
 /// Adds the rows of the private definitions that are left.
 fn push_lines(
     alloc: Global,
-    roles: &BTreeMap<OpId, Role>,
+    roles: &Roles,
     left: &BTreeMap<OpId, Vec<OpId>>,
     out: &mut Vec<Row>,
 ) -> Result<(), AllocError>
     ensures { OnOk result (cells_of out.new.items
-        ≡ cells_of out.old.items ++ lines_cells (lines_with (is_out (left_at left.now)) (numbered roles.now.entries))) }
+        ≡ cells_of out.old.items ++ lines_cells (lines_with (is_out (left_at left.now)) (numbered roles.now.all.entries))) }
 {
-    for (op, role) in roles {
-        push_line_of(alloc, left, *op, role, out)?;
+    roles.ordered();
+    for op in &roles.hidden {
+        push_line_at(alloc, roles, left, *op, out)?;
     }
     Ok(())
 }
 
-/// The rows of a table of roles.
-pub(crate) fn lines(alloc: Global, roles: &BTreeMap<OpId, Role>) -> Result<Vec<Row>, AllocError>
+/// The rows of a table of roles, some of which may be private definitions.
+fn lines_left(alloc: Global, roles: &Roles) -> Result<Vec<Row>, AllocError>
     ensures rows { IfOk result
-        (λ out. (left : Left) × IsMarked (numbers_at roles.now) (definitions (numbered roles.now.entries)) left
-        × (cells_of out.items ≡ lines_cells (lines_with (is_out left) (numbered roles.now.entries)))) }
-    ensures ordered { IfOk result (λ _. tree.IsOrdered nat_cmp roles.now) }
+        (λ out. (left : Left) × IsMarked (numbers_at roles.now) (definitions (numbered roles.now.all.entries)) left
+        × (cells_of out.items ≡ lines_cells (lines_with (is_out left) (numbered roles.now.all.entries)))) }
 {
-    let _ = roles.len();
     let left = unreached(alloc, roles)?;
     let mut out = Vec::new(alloc);
     push_lines(alloc, roles, &left, &mut out)?;
+    Ok(out)
+}
+
+/// The rows of a table of roles. Where no definition is private, nothing is looked at.
+pub(crate) fn lines(alloc: Global, roles: &Roles) -> Result<Vec<Row>, AllocError>
+    ensures rows { IfOk result
+        (λ out. (left : Left) × IsMarked (numbers_at roles.now) (definitions (numbered roles.now.all.entries)) left
+        × (cells_of out.items ≡ lines_cells (lines_with (is_out left) (numbered roles.now.all.entries)))) }
+    ensures ordered { IfOk result (λ _. tree.IsOrdered nat_cmp roles.now.all) }
+{
+    roles.ordered();
+    if roles.hidden.is_empty() {
+        return Ok(Vec::new(alloc));
+    }
+    let out = lines_left(alloc, roles)?;
     Ok(out)
 }

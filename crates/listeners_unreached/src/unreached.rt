@@ -5,13 +5,11 @@ use crate::report::lines;
 use ir_event::analysis::Analysis;
 use ir_event::event::Event;
 use ir_event::row::{Kind, Memory, ReportFault, Row};
-use ir_event::types::ids::OpId;
 use ir_event::view::View;
 use ir_event::world::World;
-use listeners_symbols::role::Role;
+use listeners_symbols::roles::Roles;
 use listeners_symbols::table::{follow, tabulate};
 use std::alloc::Global;
-use std::collections::BTreeMap;
 
 /// The analysis `unreached`: the private symbols of a module that nothing reaches (Symbols and Symbol Tables, "Symbol
 /// Visibility").
@@ -21,7 +19,7 @@ use std::collections::BTreeMap;
 #[derive(Drop)]
 pub struct Unreached {
     alloc: Global,
-    roles: BTreeMap<OpId, Role>,
+    roles: Roles,
     stale: bool,
 }
 
@@ -37,7 +35,7 @@ impl Unreached {
     {
         Unreached {
             alloc,
-            roles: BTreeMap::new(alloc),
+            roles: Roles::new(alloc),
             stale: true,
         }
     }
@@ -54,7 +52,7 @@ impl Analysis for Unreached {
 
     fn begin(&mut self, world: &World) -> Result<(), Memory> {
         // What was kept goes first, so that there is room for what is kept now.
-        self.roles = BTreeMap::new(self.alloc);
+        self.roles = Roles::new(self.alloc);
         self.stale = true;
         world.ctx.sound();
         match tabulate(self.alloc, world) {

@@ -4,12 +4,13 @@ ghost use Rattle.std.specs.BTreeMap.{btree_map_len};
 ghost use Rattle.listeners_symbols.specs.Table.{role_numbers};
 ghost use Rattle.listeners_symbols.specs.Lines.{numbers_at};
 ghost use Rattle.listeners_unreached.specs.Marking.{Waiting};
-ghost use Rattle.listeners_unreached.specs.Marks.{IsAbove, TakesOut, added, left_at, parent_at, queue_of, size};
+ghost use Rattle.listeners_unreached.specs.Marks.{IsAbove, TakesOut, added, added_at, left_at, parent_at, queue_of, size};
 ghost use Rattle.listeners_unreached.specs.Unreached as unreached;
 ghost use Rattle.listeners_unreached.specs.Unreached.{says_definition};
 
 use ir_event::types::ids::{NameId, OpId};
 use listeners_symbols::role::Role;
+use listeners_symbols::roles::Roles;
 use std::alloc::{AllocError, Global};
 use std::collections::BTreeMap;
 
@@ -25,10 +26,10 @@ pub(crate) fn private_name(role: &Role) -> Option<NameId>
 }
 
 /// The operation around an operation.
-fn parent(roles: &BTreeMap<OpId, Role>, op: OpId) -> Option<OpId>
+fn parent(roles: &Roles, op: OpId) -> Option<OpId>
     ensures { result ≡ parent_at (numbers_at roles.now op) }
 {
-    match roles.get(&op) {
+    match roles.get(op) {
         None => None,
         Some(role) => role.parent,
     }
@@ -37,7 +38,7 @@ fn parent(roles: &BTreeMap<OpId, Role>, op: OpId) -> Option<OpId>
 /// A definition that is left and that an operation stands under, the nearest one. It is refused where an operation
 /// stands in more others than may be.
 pub(crate) fn left_above(
-    roles: &BTreeMap<OpId, Role>,
+    roles: &Roles,
     left: &BTreeMap<OpId, Vec<OpId>>,
     op: OpId,
 ) -> Result<Option<OpId>, AllocError>
@@ -105,18 +106,32 @@ fn add(
     Ok(())
 }
 
+/// Adds an operation of a table to those that are left, where it is a private definition.
+fn add_at(
+    alloc: Global,
+    roles: &Roles,
+    op: OpId,
+    left: &mut BTreeMap<OpId, Vec<OpId>>,
+) -> Result<(), AllocError>
+    ensures { OnOk result ((z : ℕ) → left_at left.new z ≡ added_at op (numbers_at roles.now op) z (left_at left.old z)) }
+{
+    match roles.get(op) {
+        None => Ok(()),
+        Some(role) => add(alloc, op, role, left),
+    }
+}
+
 /// All private definitions.
 pub(crate) fn all_left(
     alloc: Global,
-    roles: &BTreeMap<OpId, Role>,
+    roles: &Roles,
 ) -> Result<BTreeMap<OpId, Vec<OpId>>, AllocError>
     ensures { IfOk result (λ left. (x : ℕ)
         → left_at left x ≡ (if says_definition (numbers_at roles.now x) then Some [] else None)) }
 {
-    let _ = roles.len();
     let mut left = BTreeMap::new(alloc);
-    for (op, role) in roles {
-        add(alloc, *op, role, &mut left)?;
+    for op in &roles.hidden {
+        add_at(alloc, roles, *op, &mut left)?;
     }
     Ok(left)
 }

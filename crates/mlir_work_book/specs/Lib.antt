@@ -1,6 +1,7 @@
 pub mod Replies
 pub mod Notices
 pub mod Told
+pub mod Explained
 pub mod Shelves
 pub use Rattle.patterns_shelf.specs.Shelf
 pub use Rattle.patterns_shelf.specs.declared.book.Book

@@ -1,6 +1,7 @@
 //! What a line is told, and what the orders about patterns of one's own make of a session's book.
 #![tactic(auto)]
 
+pub mod explained;
 pub mod notice;
 pub mod orders;
 pub mod putting;

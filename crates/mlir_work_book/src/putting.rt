@@ -50,7 +50,7 @@ fn put_width<W: Sink>(writer: &mut W, n: u64, word: &[u8], width: u32) -> Result
 }
 
 /// Writes what a check says.
-fn put_checked<W: Sink>(writer: &mut W, n: u64, said: Said) -> Result<(), WriteFault>
+pub(crate) fn put_checked<W: Sink>(writer: &mut W, n: u64, said: Said) -> Result<(), WriteFault>
     ensures { Puts (W.stream writer.old) (W.stream writer.new) (checked_line n said) result }
 {
     match said {
@@ -71,7 +71,7 @@ fn put_notice<W: Sink>(writer: &mut W, n: u64, notice: Notice) -> Result<(), Wri
 }
 
 /// Writes what was expected, where something else came.
-fn put_surprise<W: Sink>(
+pub(crate) fn put_surprise<W: Sink>(
     writer: &mut W,
     n: u64,
     expected: &Option<Refusal>,

@@ -25,6 +25,7 @@ pub fn options(brief: bool) -> Options {
         limit: 1000,
         ends: false,
         opaque: false,
+        explain: false,
     }
 }
 
@@ -35,6 +36,7 @@ pub fn live() -> Options {
         limit: 1000,
         ends: true,
         opaque: false,
+        explain: false,
     }
 }
 

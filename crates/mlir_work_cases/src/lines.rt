@@ -187,6 +187,24 @@ fn told_trace(
     format!(in alloc; "trace {rules} limit {limit}")
 }
 
+/// A line that canonicalizes one operation.
+fn told_canon_at(alloc: Global, op: OpId, limit: Option<u32>) -> Result<String, AllocError> {
+    let limit = told_number(alloc, limit)?;
+    format!(in alloc; "canon {} limit {limit}", op.number())
+}
+
+/// A line that asks why rules don't apply at an operation.
+fn told_why(alloc: Global, op: OpId, rule: &Option<RuleName<'_>>) -> Result<String, AllocError> {
+    match rule {
+        None => format!(in alloc; "why {} all", op.number()),
+        Some(RuleName::Numbered(number)) => format!(in alloc; "why {} {number}", op.number()),
+        Some(RuleName::Worded(word)) => {
+            let word = shown(alloc, word)?;
+            format!(in alloc; "why {} {word}", op.number())
+        }
+    }
+}
+
 /// A line that asks for the rows about an operation or a value.
 fn told_about(alloc: Global, kind: Kind, subject: &Subject) -> Result<String, AllocError> {
     match subject {
@@ -206,6 +224,8 @@ fn told_order(alloc: Global, order: &Order<'_>) -> Result<String, AllocError> {
         Order::ReportOf { kind, subject } => told_about(alloc, *kind, subject),
         Order::Rewrite { rules, limit } => told_rewrite(alloc, rules, *limit),
         Order::Trace { rules, limit } => told_trace(alloc, *rules, *limit),
+        Order::CanonAt { op, limit } => told_canon_at(alloc, *op, *limit),
+        Order::Why { op, rule } => told_why(alloc, *op, rule),
     }
 }
 

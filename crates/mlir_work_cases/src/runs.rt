@@ -62,6 +62,7 @@ fn run_limited(alloc: Global, names: &str, text: &str) -> Result<String, AllocEr
         limit,
         ends: false,
         opaque: false,
+        explain: false,
     };
     over(alloc, names, options, &mut reader)
 }

@@ -80,6 +80,7 @@ fn run_heard<L: Supplied>(
         limit: 1000,
         ends: false,
         opaque: bench.world().ctx.is_opaque(),
+        explain: false,
     };
     let mut book = Book::new(alloc);
     Ok(run_script(alloc, &manner, bench, &mut book, script, written).unwrap_or(4))

@@ -70,6 +70,14 @@ fn opaque<'a>(alloc: Global) -> Arg<'a> {
         .action(ArgAction::SetTrue)
 }
 
+/// The option that tells what refusals are about.
+fn explain<'a>(alloc: Global) -> Arg<'a> {
+    Arg::new(alloc, "explain")
+        .long("explain")
+        .help(text::EXPLAIN)
+        .action(ArgAction::SetTrue)
+}
+
 /// The option that says in which form the output is written.
 fn output_format<'a>(alloc: Global) -> Arg<'a> {
     Arg::new(alloc, "format")
@@ -152,6 +160,7 @@ fn command<'a>(alloc: Global) -> Result<Command<'a>, AllocError> {
         .arg(brief(alloc))?
         .arg(limit(alloc))?
         .arg(opaque(alloc))?
+        .arg(explain(alloc))?
         .arg(output_format(alloc))?
         .arg(split(alloc))?
         .arg(interactive(alloc)?)
@@ -184,18 +193,20 @@ fn format_of(matches: &ArgMatches<'_>) -> Format {
 pub fn options_of<'a>(alloc: Global, words: &'a [String]) -> Result<Given<'a>, Error> {
     let command = command(alloc)?;
     let matches = command.try_get_matches_from(words)?;
+    let format = format_of(&matches);
     Ok(Given {
         options: Options {
             brief: matches.get_flag("brief"),
             limit: matches.get_one::<u32>("limit").unwrap_or(DEFAULT_LIMIT),
             ends: matches.get_flag("interactive"),
             opaque: matches.get_flag("opaque"),
+            explain: matches.get_flag("explain") || format == Format::Json,
         },
         module: matches.get_str("module"),
         scripts: values_of(alloc, &matches, "script")?,
         commands: values_of(alloc, &matches, "command")?,
         output: matches.get_str("output"),
-        format: format_of(&matches),
+        format,
         split: matches.get_flag("split"),
     })
 }

@@ -36,6 +36,9 @@ pub(crate) const DEFAULT_LIMIT: &str = "1000";
 /// What `--opaque` says.
 pub(crate) const OPAQUE: &str = "Keep unknown types and attributes, as their texts";
 
+/// What `--explain` says.
+pub(crate) const EXPLAIN: &str = "Say behind each refusal what it is about";
+
 /// What `--format` says.
 pub(crate) const FORMAT: &str = "`text`, or `json`: an object a line";
 
@@ -64,6 +67,10 @@ To look:
   report KIND of #N          those that are about operation #N, or about a value
                              that belongs to it
   report KIND of VALUE       those that are about VALUE
+  why #N                     whether each rule that there may be for its name
+                             applies at operation #N, or why it doesn't, by a
+                             line as `why #3 4 drop-zero second-not-zero`
+  why #N RULE                the same, of one rule
   patterns                   the patterns that were defined, and what the last
                              check of each said
 
@@ -85,8 +92,11 @@ To rewrite:
                              the lowest such rule, again and again, until none
                              applies, or `--limit` times
   canon limit N              the same, N times at most
-  rewrite RULES              the same, but only by RULES of 1 to 24, which are
-                             tried in this order at an operation
+  canon at #N                operation #N alone is rewritten by the lowest of
+                             these rules that applies there, again and again
+  canon at #N limit N        the same, so many times at most
+  rewrite RULES              the same, but by RULES of 1 to 24 and patterns of
+                             one's own, tried in this order at an operation
   rewrite RULES limit N      the same, N times at most
   canon only RULES           as `rewrite RULES`
   canon only RULES limit N   as `rewrite RULES limit N`
@@ -172,9 +182,14 @@ OPERATION or the PATTERN is wrong, and `1 refused 51 NotLegalised #3` for which
 operation a `convert` is. Where a line expects a refusal and something else
 comes, `1 expected 22 HasUses` stands below the reply.
 
+With `--explain` the operations and values that a refusal is about stand behind
+it, as `1 refused 22 HasUses about #3 #5`, and what of MLIR stands where
+something is left out, as `1 refused 13 LeftOut at 14 about float-type`
+(docs/REFUSALS.md).
+
 With `--format json` each of these lines, of the module's and of the rows is an
-object, as {\"n\":1,\"refused\":22,\"word\":\"HasUses\"} (docs/JSON.md). It doesn't
-go with `--interactive`.
+object, as {\"about\":[\"#3\"],\"n\":1,\"refused\":22,\"word\":\"HasUses\"}
+(docs/JSON.md), and refusals are explained. It doesn't go with `--interactive`.
 
 Kinds:
   uses         the uses of each value: the value, the operation that uses it,

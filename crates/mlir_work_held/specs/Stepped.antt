@@ -37,6 +37,7 @@ way s line = record {
   limit = s.limit;
   ends = false;
   opaque = is_opaque s;
+  explain = false;
 }
 
 -- what is said is replied to as the machine does, and the answer tells that reply

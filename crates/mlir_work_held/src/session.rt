@@ -42,6 +42,7 @@ pub(crate) fn way(session: &Session, line: &[u8]) -> Manner
         limit: session.limit,
         ends: false,
         opaque: session.bench.world().ctx.is_opaque(),
+        explain: false,
     }
 }
 

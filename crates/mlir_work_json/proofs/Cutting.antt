@@ -1,8 +1,8 @@
 -- A text cut where a byte first stands.
-use Rattle.std.proofs.Common.{◌≡◌, ℕ, suc, ◌+◌, ◌<◌, ◌≤◌, List, [], ◌∷◌, length, take, drop, Bool, true, false, not, cond, if◌then◌else◌, refl, ap, arith, Some, None, position}
+use Rattle.std.proofs.Common.{◌≡◌, ℕ, suc, ◌+◌, ◌<◌, ◌≤◌, List, [], ◌∷◌, length, take, drop, Bool, true, false, not, cond, if◌then◌else◌, refl, ap, ◌∙◌, arith, Some, None, position}
 use Rattle.std.proofs.lemmas.Grind.{common_steps}
 use Rattle.std.specs.List.{position_or_len}
-use Rattle.mlir_work_json.specs.Cuts.{before, after, parts, onto_first, ends_cell, quoted_behind, cell_len}
+use Rattle.mlir_work_json.specs.Cuts.{before, after, parts, onto_first, ends_cell, quoted_behind, cell_len, cell, behind, cells, cells_from}
 
 before_is : (p : ℕ → Bool) (text : List ℕ) → before p text ≡ take (position_or_len p text) text
 before_is p [] = refl
@@ -41,3 +41,19 @@ cell_ends quoted b bs e = rw e refl
 -- and one that doesn't
 pub cell_goes_on : (quoted : Bool) (b : ℕ) (bs : List ℕ) → ends_cell quoted b ≡ false → cell_len quoted (b ∷ bs) ≡ suc (cell_len (quoted_behind quoted b) bs)
 cell_goes_on quoted b bs e = rw e refl
+
+-- a text that isn't empty has a first cell, and then the cells of the rest
+cells_step_from : (quoted : Bool) (b : ℕ) (bs : List ℕ) → cells_from quoted (b ∷ bs) ≡ take (cell_len quoted (b ∷ bs)) (b ∷ bs) ∷ cells_from false (drop (cell_len quoted (b ∷ bs) + 1) (b ∷ bs))
+cells_step_from quoted b [] =
+    elim (ends_cell quoted b) as (λ t. (if t then [] ∷ [] else (b ∷ []) ∷ []) ≡ take (if t then 0 else 1) (b ∷ []) ∷ cells_from false (drop ((if t then 0 else 1) + 1) (b ∷ []))) [ true ↦ refl | false ↦ refl ]
+cells_step_from quoted b (c ∷ cs) =
+    let behind = quoted_behind quoted b in
+    let n = cell_len behind (c ∷ cs) in
+    let ih = cells_step_from behind c cs in
+    let more : suc (n + 1) ≡ suc n + 1 = omega arith in
+    elim (ends_cell quoted b) as (λ t. (if t then [] ∷ cells_from false (c ∷ cs) else onto_first b (cells_from behind (c ∷ cs))) ≡ take (if t then 0 else suc n) (b ∷ c ∷ cs) ∷ cells_from false (drop ((if t then 0 else suc n) + 1) (b ∷ c ∷ cs)))
+    [ true ↦ refl | false ↦ ap (onto_first b) ih ∙ ap (λ k. (b ∷ take n (c ∷ cs)) ∷ cells_from false (drop k (b ∷ c ∷ cs))) more ]
+
+pub cells_step : (text : List ℕ) → 0 < length text → cells text ≡ cell text ∷ cells (behind text)
+cells_step [] h = absurd (omega arith)
+cells_step (b ∷ bs) h = cells_step_from false b bs

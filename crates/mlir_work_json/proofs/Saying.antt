@@ -7,8 +7,10 @@ use Rattle.std.proofs.lemmas.Bool.{and_parts}
 use Rattle.std.proofs.lemmas.List.{take-append-le, take_all}
 use Rattle.std.proofs.lemmas.Fmt.{digits_decimal, digits_value-decimal, decimal_nonempty, first_decimal, decimal_digit}
 use Rattle.std.proofs.lemmas.Str.Parse.{IsNumeralModel, numerals_by_fold, tells_all_ascii_digits}
+use Rattle.std.proofs.Common.{length-append}
 use Rattle.std.proofs.lemmas.Grind.{common_steps}
-use Rattle.mlir_work_json.specs.Cuts.{cell_len, cell, behind, is_whole}
+use Rattle.mlir_work_json.proofs.Cutting.{cells_step}
+use Rattle.mlir_work_json.specs.Cuts.{cell_len, cell, cells, behind, is_whole}
 use Rattle.mlir_work_json.specs.Forms.{form_of}
 use Rattle.mlir_work_json.specs.Items.{Number, text, numeral, number_item}
 use Rattle.mlir_work_json.specs.Lines.{form_members, line_members}
@@ -60,6 +62,13 @@ cell_last w h = ap (λ n. take n w) (whole_len_last w h) ∙ take_all (length w)
 
 behind_last : (w : List ℕ) → is_whole w ≡ true → behind w ≡ []
 behind_last w h = ap (λ n. drop (n + 1) w) (whole_len_last w h) ∙ drop_whole w
+
+-- a word and its blank are the first cell
+pub words_are_cells : (word rest : List ℕ) → is_whole word ≡ true → cells (word ++ 32 ∷ rest) ≡ word ∷ cells rest
+words_are_cells word rest h =
+    let text = word ++ 32 ∷ rest in
+    cells_step text (omega (arith, length-append word (32 ∷ rest)))
+    ∙ (ap (λ w. w ∷ cells (behind text)) (cell_whole word rest h) ∙ ap (λ r. word ∷ cells r) (behind_whole word rest h))
 
 -- ---- numbers
 

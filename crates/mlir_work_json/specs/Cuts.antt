@@ -58,6 +58,16 @@ second text = cell (behind text)
 abbrev pub behind_second : List ℕ → List ℕ
 behind_second text = behind (behind text)
 
+-- the cells of a text, where its first byte stands in quotes or not
+abbrev pub cells_from : Bool → List ℕ → List (List ℕ)
+cells_from quoted [] = []
+cells_from quoted (b ∷ bs) =
+    if ends_cell quoted b then [] ∷ cells_from false bs else onto_first b (cells_from (quoted_behind quoted b) bs)
+
+-- the cells of a text
+abbrev pub cells : List ℕ → List (List ℕ)
+cells text = cells_from false text
+
 -- ---- for laws
 
 -- whether a text is one cell, wherever it stands: it has no blank and no quote

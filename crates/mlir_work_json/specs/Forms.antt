@@ -5,7 +5,7 @@ use Rattle.std.specs.Str.{bytes_eq}
 use Rattle.mlir_work_json.specs.Cuts.{after, before, behind, behind_second, cell, second}
 use Rattle.mlir_work_json.specs.Numbers.{number_of}
 use Rattle.mlir_work_json.specs.declared.form.Form.{Form}
-use Rattle.mlir_work_json.specs.declared.form.Form.TheVariants.{Reply, Heading, Unread, Unattached, Module, Use, Constant, Dead, Unreached, Diagnostic, Effect, Definition, Reference, Unresolved, Mismatch, Rewritten, Pattern, Outcome, Other}
+use Rattle.mlir_work_json.specs.declared.form.Form.TheVariants.{Reply, Heading, Unread, Unattached, Module, Use, Constant, Dead, Unreached, Diagnostic, Effect, Definition, Reference, Unresolved, Mismatch, Reason, Rewritten, Applied, Pattern, Outcome, Other}
 
 -- a line of a module begins with a blank, a quote, a closing brace or a caret
 abbrev pub begins_module : ℕ → Bool
@@ -67,7 +67,11 @@ begins_op (b ∷ bs) = b == 35
 abbrev pub tells_rewrite : List ℕ → Bool
 tells_rewrite line = bytes_eq (cell line) (codes "rewrote") && begins_op (behind (behind_second line))
 
--- a row of symbols, in which an operation stands behind the word
+-- and a line that tells of a pattern of one's own has one behind its name
+abbrev pub tells_pattern : List ℕ → Bool
+tells_pattern line = bytes_eq (cell line) (codes "rewrote") && begins_op (behind_second line)
+
+-- a row of symbols, or a reason, in which an operation stands behind the word
 abbrev pub symbol_form : List ℕ → Form
 symbol_form word =
     if bytes_eq word (codes "def") then Definition
@@ -75,6 +79,7 @@ symbol_form word =
     else if bytes_eq word (codes "use") then Reference
     else if bytes_eq word (codes "unresolved") then Unresolved
     else if bytes_eq word (codes "mismatch") then Mismatch
+    else if bytes_eq word (codes "why") then Reason
     else Other
 
 -- what is refused that is no command
@@ -93,6 +98,7 @@ word_form line =
     if bytes_eq (cell line) (codes "--") then Heading
     else if begins_op (behind line) then symbol_form (cell line)
     else if tells_rewrite line then Rewritten
+    else if tells_pattern line then Applied
     else if is_outcome (second line) then Outcome
     else if has_arrow line then Pattern
     else refusal_form (cell line)

@@ -1,14 +1,25 @@
 -- The members of lines that reply.
 use Rattle.std.specs.Prelude.{ℕ, List, [], ◌∷◌, ◌==◌, ◌||◌, Bool, if◌then◌else◌, codes}
 use Rattle.std.specs.Str.{bytes_eq}
-use Rattle.mlir_work_json.specs.Cuts.{cell, behind, second, behind_second}
-use Rattle.mlir_work_json.specs.Items.{Member, text, numeral}
+use Rattle.mlir_work_json.specs.Cuts.{cell, cells, behind, second, behind_second}
+use Rattle.mlir_work_json.specs.Items.{Member, Texts, text, numeral}
 
--- behind a refusal: nothing, `#2`, or `at 17`
+-- behind the place of a refusal: nothing, or `about #3 %v2.0`
+abbrev pub about_members : List ℕ → List Member
+about_members [] = []
+about_members (b ∷ bs) = (codes "about", Texts (cells (behind (b ∷ bs)))) ∷ []
+
+-- behind a word: `about #3`, or `at 17`, with `about location` behind it or not
+abbrev pub worded_members : List ℕ → List Member
+worded_members place =
+    if bytes_eq (cell place) (codes "about") then about_members place
+    else numeral (codes "offset") (second place) ∷ about_members (behind_second place)
+
+-- behind a refusal: nothing, `#2`, `at 17`, or what it is about
 abbrev pub place_members : List ℕ → List Member
 place_members [] = []
 place_members (b ∷ bs) =
-    if b == 35 then text (codes "op") (b ∷ bs) ∷ [] else numeral (codes "offset") (behind (b ∷ bs)) ∷ []
+    if b == 35 then text (codes "op") (cell (b ∷ bs)) ∷ about_members (behind (b ∷ bs)) else worded_members (b ∷ bs)
 
 -- `22 HasUses`, and its place
 abbrev pub refusal_members : List ℕ → List Member
@@ -46,7 +57,7 @@ answer_members line =
     else done_members line
 
 -- `1 ok`, `1 ok #12`, `1 converged 3`, `1 holds 8`, `1 refused 22 HasUses`, `1 refused 51 NotLegalised #2`,
--- `1 refused 3 UnknownValue at 17`, `1 expected 22 HasUses`
+-- `1 refused 3 UnknownValue at 17`, `1 refused 22 HasUses about #3 #5`, `1 expected 22 HasUses`
 abbrev pub reply_members : List ℕ → List Member
 reply_members line = numeral (codes "n") (cell line) ∷ answer_members (behind line)
 

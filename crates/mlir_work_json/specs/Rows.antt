@@ -88,6 +88,20 @@ rewritten_members line =
     kind (codes "trace") ∷ numeral (codes "rule") (second line) ∷ text (codes "word") (cell (behind_second line))
     ∷ text (codes "op") (second (behind_second line)) ∷ change_members (behind_second (behind_second line))
 
+-- `rewrote times_power #3 made #7,#8 erased #3`
+abbrev pub applied_members : List ℕ → List Member
+applied_members line =
+    kind (codes "trace") ∷ text (codes "name") (second line) ∷ text (codes "op") (cell (behind_second line))
+    ∷ change_members (behind (behind_second line))
+
+-- ---- reasons
+
+-- `why #5 4 drop-zero second-not-zero`
+abbrev pub reason_members : List ℕ → List Member
+reason_members line =
+    kind (codes "why") ∷ text (codes "op") (second line) ∷ numeral (codes "rule") (cell (behind_second line))
+    ∷ text (codes "word") (second (behind_second line)) ∷ text (codes "said") (behind_second (behind_second line)) ∷ []
+
 -- ---- patterns of one's own
 
 -- `holds 8`, or `not checked`

@@ -73,6 +73,7 @@ fn cell_len(text: &[u8]) -> usize
 pub(crate) fn cut_cell(text: &[u8]) -> (&[u8], &[u8])
     ensures cell { result.0.now ≡ cell text.now }
     ensures behind { result.1.now ≡ behind text.now }
+    ensures shorter { 0 < length text.now → length result.1.now < length text.now }
 {
     let end = cell_len(text);
     if end < text.len() {

@@ -2,7 +2,7 @@
 ghost use Rattle.std.specs.Prelude.{◌≡◌};
 ghost use Rattle.mlir_work_json.specs.Forms.{are_three, are_two, begins_module, begins_number, begins_op, form_of};
 ghost use Rattle.mlir_work_json.specs.Forms.{has_arrow, is_number, is_outcome, named_form, names_value, op_form};
-ghost use Rattle.mlir_work_json.specs.Forms.{refusal_form, symbol_form, tells_rewrite, value_form, word_form};
+ghost use Rattle.mlir_work_json.specs.Forms.{refusal_form, symbol_form, tells_pattern, tells_rewrite, value_form, word_form};
 
 use crate::cuts::{behind_cell, cut_at, cut_cell, has_byte};
 use crate::numbers::number;
@@ -40,8 +40,12 @@ pub enum Form {
     Unresolved,
     /// A row of `symbols`: a call that doesn't fit.
     Mismatch,
-    /// A rewrite that is told.
+    /// Why a rule doesn't apply, or that it does.
+    Reason,
+    /// A rewrite by a rule that is told.
     Rewritten,
+    /// A rewrite by a pattern of one's own that is told.
+    Applied,
     /// A pattern, and what its last check said.
     Pattern,
     /// A row of a check: a variable, or a result, and what it is.
@@ -164,7 +168,15 @@ fn tells_rewrite(line: &[u8]) -> bool
     word == b"rewrote".as_slice() && begins_op(behind_cell(rule))
 }
 
-/// What a row of symbols is that begins with this word.
+/// Whether a line tells of a pattern of one's own that was applied.
+fn tells_pattern(line: &[u8]) -> bool
+    ensures { result ≡ tells_pattern line.now }
+{
+    let (word, behind) = cut_cell(line);
+    word == b"rewrote".as_slice() && begins_op(behind_cell(behind))
+}
+
+/// What a row is that begins with this word, behind which an operation stands.
 fn symbol_form(word: &[u8]) -> Form
     ensures { result ≡ symbol_form word.now }
 {
@@ -179,6 +191,9 @@ fn symbol_form(word: &[u8]) -> Form
     }
     if word == b"mismatch".as_slice() {
         return Form::Mismatch;
+    }
+    if word == b"why".as_slice() {
+        return Form::Reason;
     }
     Form::Other
 }
@@ -216,6 +231,9 @@ fn word_form(line: &[u8]) -> Form
     }
     if tells_rewrite(line) {
         return Form::Rewritten;
+    }
+    if tells_pattern(line) {
+        return Form::Applied;
     }
     if is_outcome(cut_cell(behind).0) {
         return Form::Outcome;

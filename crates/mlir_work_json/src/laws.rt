@@ -1,7 +1,7 @@
 //! What lines of replies say, whatever their numbers.
 ghost use Rattle.std.specs.Prelude.{◌≡◌, ◌^◌, ◌<◌, ◌++◌, [], ◌∷◌, ℕ, List, Some, codes, decimal, true};
-ghost use Rattle.mlir_work_json.specs.Cuts.{is_whole};
-ghost use Rattle.mlir_work_json.specs.Items.{Number, text};
+ghost use Rattle.mlir_work_json.specs.Cuts.{cells, is_whole};
+ghost use Rattle.mlir_work_json.specs.Items.{Number, Texts, text};
 ghost use Rattle.mlir_work_json.specs.Lines.{line_members};
 ghost use Rattle.mlir_work_json.specs.Numbers.{number_of};
 ghost use Rattle.mlir_work_json.specs.Replies.{answer_members, place_members};
@@ -19,5 +19,11 @@ pub fn replies_have_numbers()
 /// A refusal has its number and its word, and what stands behind them.
 pub fn refusals_have_words()
     ensures refused { (m : ℕ) (word : List ℕ) (place : List ℕ) → m < 2 ^ 32 → is_whole word ≡ true → answer_members (codes "refused " ++ (decimal m ++ 32 ∷ (word ++ 32 ∷ place))) ≡ (codes "refused", Number m) ∷ text (codes "word") word ∷ place_members place }
+    ensures about { (rest : List ℕ) → place_members (codes "about " ++ rest) ≡ (codes "about", Texts (cells rest)) ∷ [] }
     ensures alone { (m : ℕ) (word : List ℕ) → m < 2 ^ 32 → is_whole word ≡ true → answer_members (codes "refused " ++ (decimal m ++ 32 ∷ word)) ≡ (codes "refused", Number m) ∷ text (codes "word") word ∷ [] }
+{}
+
+/// What a refusal is about is told word by word.
+pub fn words_are_cells()
+    ensures { (word rest : List ℕ) → is_whole word ≡ true → cells (word ++ 32 ∷ rest) ≡ word ∷ cells rest }
 {}

@@ -1,10 +1,10 @@
 //! Members of the object of a line.
 ghost use Rattle.std.specs.Prelude.{◌≡◌, ◌==◌, [], ◌∷◌, map, IfOk};
 ghost use Rattle.serde_json.specs.View.{view};
-ghost use Rattle.mlir_work_json.specs.Cuts.{parts};
+ghost use Rattle.mlir_work_json.specs.Cuts.{cells, parts};
 ghost use Rattle.mlir_work_json.specs.Items.{Puts, Texts, text, numeral, text_data};
 
-use crate::cuts::cut_at;
+use crate::cuts::{cut_at, cut_cell};
 use crate::numbers::number;
 use serde_json::{Map, Value, put};
 use std::alloc::{AllocError, Global};
@@ -59,6 +59,33 @@ fn parts_value(alloc: Global, text: &[u8], end: u8) -> Result<Vec<Value>, AllocE
         rest = behind;
     }
     Ok(values)
+}
+
+/// The cells of a text.
+fn cells_value(alloc: Global, text: &[u8]) -> Result<Vec<Value>, AllocError>
+    ensures { IfOk result (λ v. map view v.items ≡ map text_data (cells text.now)) }
+{
+    let mut values = Vec::new(alloc);
+    let mut rest = text;
+    while !rest.is_empty() {
+        let (word, behind) = cut_cell(rest);
+        values.push(text_value(alloc, word)?)?;
+        rest = behind;
+    }
+    Ok(values)
+}
+
+/// Puts a member whose value is the cells of a text.
+pub(crate) fn put_cells(
+    object: &mut Object,
+    alloc: Global,
+    key: &str,
+    text: &[u8],
+) -> Result<(), AllocError>
+    ensures { Puts result object.old object.new ((key.now, Texts (cells text.now)) ∷ []) }
+{
+    let values = cells_value(alloc, text)?;
+    put(object, alloc, key, Value::Array(values))
 }
 
 /// Puts a member whose value is the parts of a text, which end at a byte.

@@ -1,22 +1,55 @@
 //! The members of lines that reply.
-ghost use Rattle.std.specs.Prelude.{◌≡◌};
-ghost use Rattle.mlir_work_json.specs.Items.{Puts};
-ghost use Rattle.mlir_work_json.specs.Replies.{place_members, refusal_members, expected_members, result_members};
+ghost use Rattle.std.specs.Prelude.{◌≡◌, ◌∷◌, codes};
+ghost use Rattle.mlir_work_json.specs.Cuts.{behind, cell};
+ghost use Rattle.mlir_work_json.specs.Items.{Puts, text};
+ghost use Rattle.mlir_work_json.specs.Replies.{about_members, place_members, worded_members, refusal_members, expected_members, result_members};
 ghost use Rattle.mlir_work_json.specs.Replies.{number_key, says_width, done_members, answer_members, reply_members, unread_members};
 ghost use Rattle.mlir_work_json.specs.Replies.{unattached_members, state_members, heading_members};
 
 use crate::cuts::{behind_cell, cut_cell};
-use crate::members::{Object, put_number, put_text};
+use crate::members::{Object, put_cells, put_number, put_text};
 use std::alloc::{AllocError, Global};
 
-/// Puts what stands behind a refusal: nothing, `#2`, or `at 17`.
+/// Puts what a refusal is about, where that stands behind it: `about #3 %v2.0`.
+fn put_about(object: &mut Object, alloc: Global, rest: &[u8]) -> Result<(), AllocError>
+    ensures { Puts result object.old object.new (about_members rest.now) }
+{
+    if rest.is_empty() {
+        return Ok(());
+    }
+    put_cells(object, alloc, "about", behind_cell(rest))
+}
+
+/// Puts the operation of a refusal, and what it is about.
+fn put_refused_op(object: &mut Object, alloc: Global, place: &[u8]) -> Result<(), AllocError>
+    ensures { Puts result object.old object.new (text (codes "op") (cell place.now) ∷ about_members (behind place.now)) }
+{
+    let (op, rest) = cut_cell(place);
+    put_text(object, alloc, "op", op)?;
+    put_about(object, alloc, rest)
+}
+
+/// Puts what stands behind a word: `about #3`, or `at 17`, with `about location` behind it or not.
+fn put_worded(object: &mut Object, alloc: Global, place: &[u8]) -> Result<(), AllocError>
+    ensures { Puts result object.old object.new (worded_members place.now) }
+{
+    let (word, rest) = cut_cell(place);
+    if word == b"about".as_slice() {
+        return put_about(object, alloc, place);
+    }
+    let (offset, behind) = cut_cell(rest);
+    put_number(object, alloc, "offset", offset)?;
+    put_about(object, alloc, behind)
+}
+
+/// Puts what stands behind a refusal: nothing, `#2`, `at 17`, or what it is about.
 fn put_place(object: &mut Object, alloc: Global, place: &[u8]) -> Result<(), AllocError>
     ensures { Puts result object.old object.new (place_members place.now) }
 {
     match place {
         [] => Ok(()),
-        [b'#', ..] => put_text(object, alloc, "op", place),
-        _ => put_number(object, alloc, "offset", behind_cell(place)),
+        [b'#', ..] => put_refused_op(object, alloc, place),
+        _ => put_worded(object, alloc, place),
     }
 }
 

@@ -3,7 +3,7 @@ ghost use Rattle.mlir_work_json.specs.Items.{Puts};
 ghost use Rattle.mlir_work_json.specs.Rows.{use_members, constant_members, dead_members, unreached_members};
 ghost use Rattle.mlir_work_json.specs.Rows.{diagnostic_members, effect_members, definition_members, reference_members};
 ghost use Rattle.mlir_work_json.specs.Rows.{unresolved_members, mismatch_members, said_members, pattern_members};
-ghost use Rattle.mlir_work_json.specs.Rows.{change_members, erased_members, outcome_members, rewritten_members};
+ghost use Rattle.mlir_work_json.specs.Rows.{applied_members, change_members, erased_members, outcome_members, reason_members, rewritten_members};
 
 use crate::cuts::{BLANK, behind_cell, cut_at, cut_cell, without_last};
 use crate::members::{Object, put_number, put_parts, put_text};
@@ -190,6 +190,34 @@ pub(crate) fn put_rewritten(
     put_text(object, alloc, "word", word)?;
     put_text(object, alloc, "op", op)?;
     put_change(object, alloc, rest)
+}
+
+/// Puts a rewrite by a pattern of one's own that is told: `rewrote times_power #3 made #7,#8 erased #3`.
+pub(crate) fn put_applied(object: &mut Object, alloc: Global, line: &[u8]) -> Result<(), AllocError>
+    ensures { Puts result object.old object.new (applied_members line.now) }
+{
+    let (_, rest) = cut_cell(line);
+    let (name, rest) = cut_cell(rest);
+    let (op, rest) = cut_cell(rest);
+    put_text(object, alloc, "kind", b"trace")?;
+    put_text(object, alloc, "name", name)?;
+    put_text(object, alloc, "op", op)?;
+    put_change(object, alloc, rest)
+}
+
+/// Puts why a rule doesn't apply, or that it does: `why #5 4 drop-zero second-not-zero`.
+pub(crate) fn put_reason(object: &mut Object, alloc: Global, line: &[u8]) -> Result<(), AllocError>
+    ensures { Puts result object.old object.new (reason_members line.now) }
+{
+    let (_, rest) = cut_cell(line);
+    let (op, rest) = cut_cell(rest);
+    let (rule, rest) = cut_cell(rest);
+    let (word, said) = cut_cell(rest);
+    put_text(object, alloc, "kind", b"why")?;
+    put_text(object, alloc, "op", op)?;
+    put_number(object, alloc, "rule", rule)?;
+    put_text(object, alloc, "word", word)?;
+    put_text(object, alloc, "said", said)
 }
 
 /// Puts what a check said: `holds 8`, or that there was none.

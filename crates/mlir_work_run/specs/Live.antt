@@ -52,7 +52,7 @@ pub record Live (setting : Setting) (boxes : List Shown) (m : Module) (read : �
 -- this status and these bytes answer the text of a module, and these lines behind it, as they come
 abbrev pub IsLive : Setting → List Shown → List ℕ → List (List ℕ) → ℕ → List ℕ → Type 0
 IsLive setting boxes text lines status out =
-    IsUnread setting.options.opaque text status out
+    IsUnread setting.options.explain setting.options.opaque text status out
     ⊎ ((m : Module) × IsWorldOf setting.options.opaque text m × Live setting boxes m (length text + divider_bytes) lines status out)
 
 -- of an input whose script begins with these lines; or it is too long, which is known before a line of it is answered

@@ -1,12 +1,15 @@
 -- The output of an input: the text of a module, and a script.
-use Rattle.std.specs.Prelude.{◌≡◌, ℕ, Bool, ◌<◌, ◌≤◌, List, ◌⊎◌, Option, Some, None, length}
-use Rattle.ir_event.specs.types.Refusals.{number_of}
+use Rattle.std.specs.Prelude.{◌≡◌, ℕ, ◌++◌, Bool, true, false, ◌<◌, ◌≤◌, List, ◌⊎◌, Option, Some, None, length, codes}
+use Rattle.std.specs.Fmt.{decimal}
+use Rattle.ir_event.specs.types.Refusals.{number_of, text_of}
 use Rattle.ir_event.specs.types.declared.refusal.Refusal.{Refusal}
-use Rattle.ir_event.specs.types.declared.refusal.Refusal.TheVariants.{TooMany, Memory}
+use Rattle.ir_event.specs.types.declared.refusal.Refusal.TheVariants.{LeftOut, TooMany, Memory}
 use Rattle.ir_event.specs.trees.Ids.{op_count}
 use Rattle.ir_event.specs.trees.Meaning.{Operation}
 use Rattle.ir_event.specs.Modules.{Module}
 use Rattle.ir_text_modules.specs.Modules.{SpellsModule}
+use Rattle.mlir_work_causes.specs.Causes.{cause_at, cause_word}
+use Rattle.mlir_work_causes.specs.declared.cause.Cause.{Cause}
 use Rattle.mlir_work_session.specs.Parts.{module_text, script_text}
 use Rattle.mlir_work_session.specs.Replies.{module_refused_line}
 use Rattle.mlir_work_session.specs.Limits.{most_input_bytes}
@@ -15,9 +18,29 @@ use Rattle.mlir_work_session.specs.Output.{IsSession, Way, way_of}
 use Rattle.mlir_work_session.specs.declared.manner.Manner.{Manner}
 use Rattle.mlir_work_run.specs.declared.run.Options.{Options}
 
+-- what of MLIR stands at the byte at which a module's text is refused, where it is left out
+abbrev pub module_cause : List ℕ → Refusal → Option ℕ → Option Cause
+module_cause text LeftOut None = None
+module_cause text LeftOut (Some offset) = Some (cause_at text offset)
+module_cause text _ offset = None
+
+-- that, where refusals are explained
+abbrev pub cause_if : Bool → Option Cause → Option Cause
+cause_if explain None = None
+cause_if true (Some cause) = Some cause
+cause_if false (Some cause) = None
+
+-- the line of a refusal, with its cause, where there is one
+abbrev pub module_refused_text : Refusal → Option ℕ → Option Cause → List ℕ
+module_refused_text refusal offset None = module_refused_line refusal offset
+module_refused_text refusal None (Some cause) = module_refused_line refusal None
+module_refused_text refusal (Some offset) (Some cause) =
+    codes "module refused " ++ (text_of refusal ++ (codes " at " ++ (decimal offset
+    ++ (codes " about " ++ (cause_word cause ++ codes "\n")))))
+
 -- the module is refused
-abbrev pub IsRefusal : Refusal → Option ℕ → ℕ → List ℕ → Type 0
-IsRefusal refusal offset status out = (status ≡ 3) × (out ≡ module_refused_line refusal offset)
+abbrev pub IsRefusal : Refusal → Option ℕ → Option Cause → ℕ → List ℕ → Type 0
+IsRefusal refusal offset cause status out = (status ≡ 3) × (out ≡ module_refused_text refusal offset cause)
 
 -- why a text isn't read: there is no memory; or it spells no tree, and is refused for one of fourteen reasons, with an
 -- offset. The context is new, and no text fills it. `opaque` says, here and below, whether types and attributes that
@@ -26,10 +49,12 @@ abbrev pub WhyNot : Bool → List ℕ → Refusal → Option ℕ → Type 0
 WhyNot opaque text refusal None = refusal ≡ Memory
 WhyNot opaque text refusal (Some offset) = (number_of refusal ≤ 14) × ((y : Operation) → SpellsModule opaque text y → ⊥)
 
--- the text is refused for that; which of the fourteen reasons it is, and its offset, are open
-abbrev pub IsUnread : Bool → List ℕ → ℕ → List ℕ → Type 0
-IsUnread opaque text status out =
-    (refusal : Refusal) × (offset : Option ℕ) × WhyNot opaque text refusal offset × IsRefusal refusal offset status out
+-- the text is refused for that, with its cause where refusals are explained; which of the fourteen reasons it is, and its
+-- offset, are open
+abbrev pub IsUnread : Bool → Bool → List ℕ → ℕ → List ℕ → Type 0
+IsUnread explain opaque text status out =
+    (refusal : Refusal) × (offset : Option ℕ) × WhyNot opaque text refusal offset
+    × IsRefusal refusal offset (cause_if explain (module_cause text refusal offset)) status out
 
 -- the module of the tree that a text spells
 abbrev pub IsWorldOf : Bool → List ℕ → Module → Type 0
@@ -37,7 +62,7 @@ IsWorldOf opaque text m = (t : Operation) × SpellsModule opaque text t × (m �
 
 -- there are too many bytes
 abbrev pub IsTooMany : List ℕ → ℕ → List ℕ → Type 0
-IsTooMany input status out = (most_input_bytes < length input) × IsRefusal TooMany (Some most_input_bytes) status out
+IsTooMany input status out = (most_input_bytes < length input) × IsRefusal TooMany (Some most_input_bytes) None status out
 
 -- how the script of an input of so many bytes is run
 abbrev pub manner_of : Options → ℕ → Manner
@@ -47,6 +72,7 @@ manner_of options bytes = record {
   limit = options.limit;
   ends = options.ends;
   opaque = options.opaque;
+  explain = options.explain;
 }
 
 -- what a run is told, and what is seen of the analyses that it can make anew
@@ -71,4 +97,5 @@ abbrev pub IsOutput : Setting → List Shown → List ℕ → ℕ → List ℕ �
 IsOutput setting boxes input status out =
     IsTooMany input status out
     ⊎ ((length input ≤ most_input_bytes)
-    × (IsUnread setting.options.opaque (module_text input) status out ⊎ IsRead setting boxes input status out))
+    × (IsUnread setting.options.explain setting.options.opaque (module_text input) status out
+    ⊎ IsRead setting boxes input status out))

@@ -3,6 +3,7 @@
 
 pub mod dry;
 pub mod live;
+mod refusing;
 pub mod run;
 
 pub use mlir_work_session::{

@@ -16,7 +16,7 @@ ghost use Rattle.mlir_work_session.specs.Ran.{AttachedOut, RanOut};
 ghost use Rattle.mlir_work_session.specs.Sittings.{sitting_of};
 ghost use Rattle.mlir_work_run.specs.Live.{AreFirst, IsLive, IsLiveOf, IsWholeUpTo, Live, LiveEnded, LiveEndedAt, LiveRead, Lives, divider_bytes};
 ghost use Rattle.mlir_work_run.specs.Live.{exit_of, halt_of, halted_of, whole_lines};
-ghost use Rattle.mlir_work_run.specs.Whole.{IsOutput, IsWorldOf, Setting, WhyNot, setting_of};
+ghost use Rattle.mlir_work_run.specs.Whole.{IsOutput, IsWorldOf, Setting, WhyNot, module_cause, setting_of};
 ghost use Rattle.rewriter_laws.specs.Journals.{IsSlotted, IsTidy};
 
 use crate::run::{Options, Unread, hold, manner_of, no_memory, refuse, tree_of};
@@ -258,6 +258,7 @@ fn world_of(alloc: Global, key: u64, opaque: bool, text: &[u8]) -> Result<World,
     ensures slotted { IfOk result (λ w. IsSlotted w.store) }
     ensures tidy { IfOk result (λ w. IsTidy w.store) }
     ensures unread { IfErr result (λ e. WhyNot opaque text.now e.refusal e.offset) }
+    ensures cause { IfErr result (λ e. e.cause ≡ module_cause text.now e.refusal e.offset) }
 {
     let (ctx, tree) = match tree_of(alloc, key, opaque, text) {
         Ok(found) => found,
@@ -277,6 +278,7 @@ fn taken(alloc: Global, key: u64, opaque: bool, text: Vec<u8>) -> Result<(World,
     ensures tidy { IfOk result (λ x. IsTidy x.0.store) }
     ensures bytes { IfOk result (λ x. x.1 ≡ length text.items + divider_bytes) }
     ensures unread { IfErr result (λ e. WhyNot opaque text.items e.refusal e.offset) }
+    ensures cause { IfErr result (λ e. e.cause ≡ module_cause text.items e.refusal e.offset) }
 {
     let Some(before) = text.len().checked_add(DIVIDER_BYTES) else {
         return Err(no_memory());
@@ -307,7 +309,7 @@ fn answer_text<L: Supplied, R: Source, W: Sink>(
         Ok((world, before)) => {
             answer_world(alloc, options, before, world, kept, reader, writer, boxes)
         }
-        Err(unread) => halted(refuse(writer, unread)),
+        Err(unread) => halted(refuse(writer, options.explain, unread)),
     }
 }
 
@@ -335,13 +337,14 @@ pub fn answer_live<L: Supplied, R: Source, W: Sink>(
     let text = match take_module(alloc, &mut kept, reader, writer) {
         Ok(text) => text,
         Err(Stop::Broken) => return Err(Halt::Read),
-        Err(Stop::Memory) => return halted(refuse(writer, no_memory())),
+        Err(Stop::Memory) => return halted(refuse(writer, options.explain, no_memory())),
         Err(Stop::TooMany) => {
             let unread = Unread {
                 refusal: Refusal::TooMany,
                 offset: Some(MAX_INPUT_BYTES),
+                cause: None,
             };
-            return halted(refuse(writer, unread));
+            return halted(refuse(writer, options.explain, unread));
         }
     };
     answer_text(alloc, key, options, text, &mut kept, reader, writer, boxes)

@@ -18,8 +18,9 @@ ghost use Rattle.mlir_work_session.specs.Output.{IsSession, Way, way_of};
 ghost use Rattle.mlir_work_session.specs.PrintsAlone.{all_print, kinds_apart};
 ghost use Rattle.mlir_work_run.specs.Ends.{EndedSo, HandedOut, HasFailed, HasStatus, Leaves, LeavesAt, ended_of};
 ghost use Rattle.mlir_work_run.specs.Ends.{status_of};
-ghost use Rattle.mlir_work_run.specs.Whole.{IsOutput, IsRefusal, WhyNot, manner_of, setting_of};
+ghost use Rattle.mlir_work_run.specs.Whole.{IsOutput, IsRefusal, WhyNot, cause_if, manner_of, module_cause, setting_of};
 
+use crate::refusing::{cause_if, put_unread};
 use dialects_int::tables::registry;
 use ir_event::analysis::Analysis;
 use ir_event::trees::count::op_count;
@@ -28,11 +29,11 @@ use ir_event::types::context::Context;
 use ir_event::types::refusal::Refusal;
 use ir_event::world::World;
 use ir_text_modules::module::read_module;
+use mlir_work_causes::cause::{Cause, cause_at};
 use mlir_work_session::input::{MAX_INPUT_BYTES, ReadFault, read_all, script_is_too_long, split};
 use mlir_work_session::manner::Manner;
 use mlir_work_session::prints::{only_prints, print_session};
 use mlir_work_session::reader::ReadError;
-use mlir_work_session::replies::put_module_refused;
 use mlir_work_session::session::run_session;
 use mlir_work_session::sink::Sink;
 use mlir_work_session::source::Source;
@@ -56,6 +57,8 @@ pub struct Options {
     /// Types and attributes that aren't known are read as opaque ones, which are their texts; and the module may have
     /// aliases and locations.
     pub opaque: bool,
+    /// What a refusal is about is told behind it.
+    pub explain: bool,
 }
 
 /// Why a run has no status of its own.
@@ -69,12 +72,23 @@ pub enum Fault {
     Write,
 }
 
-/// Why a text isn't read, and where: in bytes from the first.
+/// Why a text isn't read, and where: in bytes from the first; and what stands there, where it is left out.
 #[derive(Clone, Copy, Debug, PartialEq, Eq, Error)]
 #[error("{refusal}")]
 pub struct Unread {
     pub refusal: Refusal,
     pub offset: Option<usize>,
+    pub cause: Option<Cause>,
+}
+
+/// What of MLIR stands at the byte at which a text is refused, where it is left out.
+fn cause_of(text: &[u8], refusal: Refusal, offset: usize) -> Option<Cause>
+    ensures { result ≡ module_cause text.now refusal (Some offset) }
+{
+    match refusal {
+        Refusal::LeftOut => Some(cause_at(text, offset)),
+        _ => None,
+    }
 }
 
 /// The tree that a text spells, and a context that holds what it names. No text within its limit fills it. `opaque` says
@@ -89,20 +103,24 @@ pub fn tree_of(
     ensures sound { IfOk result (λ x. IsSoundIn x.0 x.1) }
     ensures mode { IfOk result (λ x. x.0.opaque ≡ opaque) }
     ensures unread { IfErr result (λ e. WhyNot opaque text.now e.refusal e.offset) }
+    ensures cause { IfErr result (λ e. e.cause ≡ module_cause text.now e.refusal e.offset) }
 {
     match read_module(alloc, key, opaque, text) {
         Ok(found) => Ok(found),
         Err(ReadError::Memory) => Err(Unread {
             refusal: Refusal::Memory,
             offset: None,
+            cause: None,
         }),
         Err(ReadError::Full { offset }) => Err(Unread {
             refusal: Refusal::TooMany,
             offset: Some(offset),
+            cause: None,
         }),
         Err(ReadError::Refused { refusal, offset }) => Err(Unread {
             refusal,
             offset: Some(offset),
+            cause: cause_of(text, refusal, offset),
         }),
     }
 }
@@ -143,10 +161,12 @@ pub fn hold(alloc: Global, ctx: Context, tree: TreeOp) -> Option<World>
 pub(crate) fn no_memory() -> Unread
     ensures refusal { result.refusal ≡ Refusal.Memory }
     ensures offset { result.offset ≡ None }
+    ensures cause { result.cause ≡ None }
 {
     Unread {
         refusal: Refusal::Memory,
         offset: None,
+        cause: None,
     }
 }
 
@@ -162,12 +182,21 @@ fn finish<W: Sink>(writer: &mut W, status: u8) -> Result<u8, WriteFault>
     }
 }
 
-/// Writes that the module is refused.
-pub(crate) fn refuse<W: Sink>(writer: &mut W, unread: Unread) -> Result<u8, WriteFault>
-    ensures { HandedOut (IsRefusal unread.refusal unread.offset)
+/// Writes that the module is refused, and where refusals are explained what stands there.
+pub(crate) fn refuse<W: Sink>(
+    writer: &mut W,
+    explain: bool,
+    unread: Unread,
+) -> Result<u8, WriteFault>
+    ensures { HandedOut (IsRefusal unread.refusal unread.offset (cause_if explain unread.cause))
         (W.stream writer.old) (W.stream writer.new) (W.handed writer.new) result }
 {
-    match put_module_refused(writer, unread.refusal, unread.offset) {
+    match put_unread(
+        writer,
+        unread.refusal,
+        unread.offset,
+        cause_if(explain, unread.cause),
+    ) {
         Ok(()) => finish(writer, 3),
         Err(fault) => Err(fault),
     }
@@ -186,6 +215,7 @@ fn taken_apart(
     ensures mode { IfOk result (λ x. x.0.0.opaque ≡ opaque) }
     ensures script { IfOk result (λ x. x.1.items ≡ script_text input.items) }
     ensures unread { IfErr result (λ e. WhyNot opaque (module_text input.items) e.refusal e.offset) }
+    ensures cause { IfErr result (λ e. e.cause ≡ module_cause (module_text input.items) e.refusal e.offset) }
 {
     let (module, script) = split(&input);
     let found = match tree_of(alloc, key, opaque, module) {
@@ -267,6 +297,7 @@ pub(crate) fn manner_of(options: Options, bytes: usize) -> Manner
         limit: options.limit,
         ends: options.ends,
         opaque: options.opaque,
+        explain: options.explain,
     }
 }
 
@@ -286,13 +317,13 @@ fn answer_input<W: Sink, L: Supplied>(
     let manner = manner_of(options, input.len());
     let ((ctx, tree), script) = match taken_apart(alloc, key, options.opaque, input) {
         Ok(parts) => parts,
-        Err(unread) => return refuse(writer, unread),
+        Err(unread) => return refuse(writer, options.explain, unread),
     };
     if asks_for_prints(options.ends, &script, &boxes) {
         return answer_prints(alloc, &ctx, &tree, &script, writer, &boxes);
     }
     let Some(world) = hold(alloc, ctx, tree) else {
-        return refuse(writer, no_memory());
+        return refuse(writer, options.explain, no_memory());
     };
     answer_script(alloc, &manner, world, &script, writer, boxes)
 }
@@ -331,10 +362,13 @@ pub fn read_and_answer_watched<R: Source, W: Sink, L: Supplied>(
             let unread = Unread {
                 refusal: Refusal::TooMany,
                 offset: Some(MAX_INPUT_BYTES),
+                cause: None,
             };
-            return ended(refuse(writer, unread));
+            return ended(refuse(writer, options.explain, unread));
         }
-        Err(ReadFault::Memory) => return ended(refuse(writer, no_memory())),
+        Err(ReadFault::Memory) => {
+            return ended(refuse(writer, options.explain, no_memory()));
+        }
         Err(ReadFault::Broken) => return Err(Fault::Read),
     };
     ended(answer_input(alloc, key, options, input, writer, boxes))

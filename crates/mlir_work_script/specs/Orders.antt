@@ -1,11 +1,12 @@
 -- What a line may say beside the commands of a bench: what only a session can do.
-use Rattle.std.specs.Prelude.{ℕ, List, ◌==◌, Option, Some, None, if◌then◌else◌, codes, length}
+use Rattle.std.specs.Prelude.{ℕ, List, ◌==◌, Option, Some, None, if◌then◌else◌, codes, length, option_and_then}
 use Rattle.std.specs.Option.{option_copied, option_map}
 use Rattle.std.specs.Str.{bytes_eq}
 use Rattle.rewriter_machine.specs.Commands.{RuleName}
 use Rattle.mlir_work_script.specs.Kinds.{kind_of}
 use Rattle.mlir_work_script.specs.Numbers.{number_of}
-use Rattle.mlir_work_script.specs.RuleNames.{are_tried, names_of}
+use Rattle.mlir_work_script.specs.RuleNames.{are_tried, name_of, names_of, rule_in}
+use Rattle.mlir_work_script.specs.Values.{op_of}
 use Rattle.mlir_work_script.specs.Subjects.{subject_in}
 use Rattle.mlir_work_script.specs.Words.{word_of, after_word}
 use Rattle.mlir_work_script.specs.declared.order.Order.{Order as Coded}
@@ -24,6 +25,10 @@ pub data Order : Type 0 where
   Rewrite : List RuleName → Option ℕ → Order
   -- and each rewrite is told; where no rules are named, those of canonicalization are applied
   Trace : Option (List RuleName) → Option ℕ → Order
+  -- those of canonicalization are applied at one operation until none applies there any more
+  CanonAt : ℕ → Option ℕ → Order
+  -- why rules don't apply at an operation is told: of those that the table has for its name, or of one
+  Why : ℕ → Option RuleName → Order
 
 -- an order, wherever its text lies in memory
 abbrev pub order_of : Coded → Order
@@ -32,6 +37,8 @@ order_of code.PrintIds = PrintIds
 order_of (code.ReportOf kind subject) = ReportOf kind subject
 order_of (code.Rewrite rules limit) = Rewrite (names_of rules.now) limit
 order_of (code.Trace rules limit) = Trace (option_map names_of (option_copied rules)) limit
+order_of (code.CanonAt op limit) = CanonAt op limit
+order_of (code.Why op rule) = Why op (option_map name_of rule)
 
 -- what was said, if nothing is left
 abbrev pub all_said : {A : Type 0} → List ℕ → Option A → Option A
@@ -86,11 +93,28 @@ ruled_in rules rest =
 abbrev pub rewrite_in : List ℕ → Option Order
 rewrite_in rest = if are_tried (word_of rest) then ruled_in (names_of (word_of rest)) (after_word rest) else None
 
--- canon only RULES [trace] [limit N], and canon trace [limit N]
+-- at #N [limit N], behind the word at
+abbrev pub at_in : List ℕ → Option Order
+at_in rest = option_and_then
+    (λ op. option_map (λ limit. CanonAt op limit) (limit_in (after_word rest))) (op_of (word_of rest))
+
+-- [RULE]
+abbrev pub rule_or_none : List ℕ → Option (Option RuleName)
+rule_or_none text =
+    if length text == 0 then Some None
+    else all_said (after_word text) (option_map (λ rule. Some rule) (rule_in (word_of text)))
+
+-- why #N [RULE]
+abbrev pub why_in : List ℕ → Option Order
+why_in rest = option_and_then
+    (λ op. option_map (λ rule. Why op rule) (rule_or_none (after_word rest))) (op_of (word_of rest))
+
+-- canon only RULES [trace] [limit N], canon trace [limit N], and canon at #N [limit N]
 abbrev pub canon_order_in : List ℕ → Option Order
 canon_order_in rest =
     if bytes_eq (word_of rest) (codes "only") then rewrite_in (after_word rest)
     else if bytes_eq (word_of rest) (codes "trace") then trace_in None (after_word rest)
+    else if bytes_eq (word_of rest) (codes "at") then at_in (after_word rest)
     else None
 
 -- the order of this name, with the text behind the name
@@ -101,6 +125,7 @@ order_named name rest =
     else if bytes_eq name (codes "report") then report_in rest
     else if bytes_eq name (codes "rewrite") then rewrite_in rest
     else if bytes_eq name (codes "canon") then canon_order_in rest
+    else if bytes_eq name (codes "why") then why_in rest
     else None
 
 -- the order that a trimmed line is

@@ -1,14 +1,16 @@
 //! What a line may say beside the commands of a bench.
 ghost use Rattle.std.specs.Prelude.{◌≡◌, None, Some, option_map};
 ghost use Rattle.mlir_work_script.specs.Orders.{attach_in, canon_order_in, ids_in, limit_in, order_in, order_named};
-ghost use Rattle.mlir_work_script.specs.Orders.{order_of, report_in, Rewrite, rewrite_in, ruled_in, trace_in};
-ghost use Rattle.mlir_work_script.specs.RuleNames.{names_of};
+ghost use Rattle.mlir_work_script.specs.Orders.{at_in, order_of, Rewrite, rewrite_in, rule_or_none, ruled_in, trace_in, why_in, report_in};
+ghost use Rattle.mlir_work_script.specs.RuleNames.{name_of, names_of};
 
 use crate::kind::{Kind, kind_named};
 use crate::numbers::number;
-use crate::rule_name::are_tried;
+use crate::rule_name::{RuleName, are_tried, rule_named};
 use crate::subject::{Subject, subject_named};
+use crate::values::op_named;
 use crate::words::split_word;
+use ir_event::types::ids::OpId;
 
 /// What only a session can do.
 #[derive(Clone, Copy)]
@@ -38,6 +40,19 @@ pub enum Order<'a> {
         rules: Option<&'a [u8]>,
         /// The most rewrites, where the line says so.
         limit: Option<u32>,
+    },
+    /// `canon at #N [limit N]` applies the rules of canonicalization at one operation until none of them applies there
+    /// any more, or so many times.
+    CanonAt {
+        op: OpId,
+        /// The most rewrites, where the line says so.
+        limit: Option<u32>,
+    },
+    /// `why #N [RULE]` tells why rules don't apply at an operation.
+    Why {
+        op: OpId,
+        /// The rule, where the line names one; else it is told of those that the table has for the operation's name.
+        rule: Option<RuleName<'a>>,
     },
 }
 
@@ -149,7 +164,42 @@ fn rewrite(rest: &[u8]) -> Option<Order<'_>>
     ruled(rules, rest)
 }
 
-/// `canon only RULES [trace] [limit N]` and `canon trace [limit N]`, behind their name.
+/// `#N [limit N]`, behind `canon at`.
+fn canon_at<'a>(rest: &[u8]) -> Option<Order<'a>>
+    ensures { option_map order_of result ≡ at_in rest.now }
+{
+    let (op, rest) = split_word(rest);
+    let op = op_named(op)?;
+    let limit = limit(rest)?;
+    Some(Order::CanonAt { op, limit })
+}
+
+/// `[RULE]`: the name of a rule, or none, and nothing behind it.
+fn rule_or_none(text: &[u8]) -> Option<Option<RuleName<'_>>>
+    ensures { option_map (λ rule. option_map name_of rule) result ≡ rule_or_none text.now }
+{
+    if text.is_empty() {
+        return Some(None);
+    }
+    let (rule, left) = split_word(text);
+    if !left.is_empty() {
+        return None;
+    }
+    let rule = rule_named(rule)?;
+    Some(Some(rule))
+}
+
+/// `why #N [RULE]`, behind its name.
+fn why(rest: &[u8]) -> Option<Order<'_>>
+    ensures { option_map order_of result ≡ why_in rest.now }
+{
+    let (op, rest) = split_word(rest);
+    let op = op_named(op)?;
+    let rule = rule_or_none(rest)?;
+    Some(Order::Why { op, rule })
+}
+
+/// `canon only RULES [trace] [limit N]`, `canon trace [limit N]` and `canon at #N [limit N]`, behind their name.
 fn canon(rest: &[u8]) -> Option<Order<'_>>
     ensures { option_map order_of result ≡ canon_order_in rest.now }
 {
@@ -159,6 +209,9 @@ fn canon(rest: &[u8]) -> Option<Order<'_>>
     }
     if name == b"trace".as_slice() {
         return trace(rest);
+    }
+    if name == b"at".as_slice() {
+        return canon_at(rest);
     }
     None
 }
@@ -181,6 +234,9 @@ fn order_named<'a>(name: &[u8], rest: &'a [u8]) -> Option<Order<'a>>
     }
     if name == b"canon".as_slice() {
         return canon(rest);
+    }
+    if name == b"why".as_slice() {
+        return why(rest);
     }
     None
 }

@@ -2,24 +2,28 @@
 use Rattle.std.proofs.Common.{◌≡◌, ◌∙◌, ap, sym, subst, refl, inl, inr, ℕ, List, [], ◌++◌, Bool, Option, Some, None, false, true, Result, Ok, Err}
 use Rattle.std.specs.Prelude.{is_some, option_map, OnOk}
 use Rattle.ir_event.specs.types.declared.refusal.Refusal.{Refusal}
-use Rattle.ir_event.specs.types.declared.refusal.Refusal.TheVariants.{Memory, NoSuchKey, NoSuchKind}
+use Rattle.ir_event.specs.types.declared.refusal.Refusal.TheVariants.{Memory, NoSuchKey, NoSuchKind, NoSuchOp}
 use Rattle.ir_event.specs.Modules.{Module}
 use Rattle.mlir_work_transforms.specs.rewriter.Commands.{AppliesRule, RuleName, Asked, Ask, Misplaced, Unread, Follows, Response, Replied, TextRefusedAt}
 use Rattle.mlir_work_transforms.specs.rewriter.Machine as call
 use Rattle.mlir_work_transforms.specs.rewriter.Machine.{State, Call, Reply, Done, Refused, Shows, Nothing, Transformation, Tree, Goes}
 use Rattle.mlir_work_transforms.specs.rewriter.Panels.{Shown}
-use Rattle.mlir_work_script.specs.Orders.{Attach, Order, PrintIds, ReportOf, Rewrite, Trace}
-use Rattle.mlir_work_script.specs.declared.subject.Subject.{Subject}
+use Rattle.mlir_work_script.specs.Orders.{Attach, CanonAt, Order, PrintIds, Rewrite, Trace, Why, ReportOf}
 use Rattle.mlir_work_session_base.specs.IdsText.{ids_text}
+use Rattle.mlir_work_session.specs.Machine.{AsksWhy, AttachesKind, Fulfils, OrdersIn, Way, limit_or, order_bytes, told_if, AsksAbout, order_shows, shows_about}
+use Rattle.mlir_work_script.specs.declared.subject.Subject.{Subject}
 use Rattle.mlir_work_session_base.specs.Subjects.{absent, is_there}
-use Rattle.mlir_work_session.specs.Machine.{AsksAbout, AttachesKind, Fulfils, OrdersIn, Way, limit_or, order_bytes, order_shows, shows_about, told_if}
 use Rattle.mlir_work_book.specs.Replies.{IsBounded, is_accepted}
 use Rattle.mlir_work_transforms.specs.greedy.Changes.{canonical_reply, rewriting}
 use Rattle.mlir_work_transforms.specs.greedy.Tracing.{trace_of}
+use Rattle.mlir_work_transforms.specs.greedy.Trial.{by_rules}
 use Rattle.mlir_work_transforms.specs.greedy.declared.outcome.Outcome.{Outcome as Ended}
 use Rattle.mlir_work_transforms.specs.Rewriting.{rewriting_named, rules_named}
 use Rattle.mlir_work_transforms.specs.TraceText.{trace_by, trace_text, traced_rules, tracing}
 use Rattle.mlir_work_transforms.specs.Rule.{Rule}
+use Rattle.mlir_work_transforms.specs.At.{canonicalizing_at}
+use Rattle.mlir_work_transforms.specs.WhyText.{asked_rules, why_lines, why_text}
+use Rattle.ir_event.specs.trees.Ids.{has_id}
 use Rattle.mlir_work_session.proofs.Obeying.{some_goes}
 use Rattle.mlir_work_session.proofs.Panels.{all_stay}
 
@@ -53,8 +57,8 @@ module _ (way : Way) where
   -- ---- rows about an operation or a value
 
   -- what isn't there
-  pub fulfils_absent : (kind : ℕ) (subject : Subject) (s : State) → is_there subject s.held.tree ≡ false → Fulfils way s (ReportOf kind subject) (Replied (Refused (absent subject))) [] s
-  fulfils_absent kind subject s e =
+  pub fulfils_no_subject : (kind : ℕ) (subject : Subject) (s : State) → is_there subject s.held.tree ≡ false → Fulfils way s (ReportOf kind subject) (Replied (Refused (absent subject))) [] s
+  fulfils_no_subject kind subject s e =
       record { asked = Misplaced (absent subject); shows = Nothing; asks = subst (λ (there : Bool). AsksAbout there kind subject (Misplaced (absent subject))) (sym e) refl; follows = (refl, refl, refl); text = refl }
 
   asks_about : (kind : ℕ) (subject : Subject) (m : Module) → is_there subject m.tree ≡ true → OrdersIn way (ReportOf kind subject) m (Ask (call.Report kind))
@@ -86,7 +90,7 @@ module _ (way : Way) where
       go : (o : Option (List Rule)) → rules_named names ≡ o → Fulfils way s (Rewrite names limit) (Replied (Refused refusal)) [] s
       go None e = absurd (let f : false ≡ true = sym (ap is_some e) ∙ there in cc)
       go (Some rs) e =
-          rw is (fulfils_ruled names limit (rewriting rs (limit_or way.manner.limit limit)) s s (Refused Memory) (Replied (Refused Memory)) (ap (option_map (λ rs. rewriting rs (limit_or way.manner.limit limit))) e) refl (record { answer = inr (refl, inl refl); panel = all_stay s.panel }))
+          rw is (fulfils_ruled names limit (rewriting (by_rules rs) (limit_or way.manner.limit limit)) s s (Refused Memory) (Replied (Refused Memory)) (ap (option_map (λ rs. rewriting (by_rules rs) (limit_or way.manner.limit limit))) e) refl (record { answer = inr (refl, inl refl); panel = all_stay s.panel }))
 
   -- ---- telling
 
@@ -110,7 +114,36 @@ module _ (way : Way) where
       go : (o : Option (List Rule)) → rules_named names ≡ o → Fulfils way s (Trace (Some names) limit) (Replied (Refused refusal)) [] s
       go None e = absurd (let f : false ≡ true = sym (ap is_some e) ∙ there in cc)
       go (Some rs) e =
-          rw is (fulfils_told (Some names) limit (rewriting rs (limit_or way.manner.limit limit)) s s (Refused Memory) (Replied (Refused Memory)) [] (ap (option_map (λ rs. rewriting rs (limit_or way.manner.limit limit))) e) refl (record { answer = inr (refl, inl refl); panel = all_stay s.panel }) refl)
+          rw is (fulfils_told (Some names) limit (rewriting (by_rules rs) (limit_or way.manner.limit limit)) s s (Refused Memory) (Replied (Refused Memory)) [] (ap (option_map (λ rs. rewriting (by_rules rs) (limit_or way.manner.limit limit))) e) refl (record { answer = inr (refl, inl refl); panel = all_stay s.panel }) refl)
+
+  -- ---- canonicalizing one operation
+
+  pub fulfils_at : (x : ℕ) (limit : Option ℕ) (n : ℕ) (s t : State) (reply : Reply) (response : Response) → n ≡ limit_or way.manner.limit limit → response ≡ Replied reply → Goes s (call.Change (canonicalizing_at n x)) reply Nothing t → Fulfils way s (CanonAt x limit) response [] t
+  fulfils_at x limit n s t reply response same is goes =
+      rw is (fulfils_call s t (CanonAt x limit) (call.Change (canonicalizing_at n x)) reply Nothing (ap (λ k. Ask (call.Change (canonicalizing_at k x))) same) goes)
+
+  -- ---- asking why
+
+  -- a name that is no rule's
+  pub fulfils_unasked : (x : ℕ) (name : Option RuleName) (s : State) → asked_rules name x s.held ≡ None → Fulfils way s (Why x name) (Replied (Refused NoSuchKey)) [] s
+  fulfils_unasked x name s e =
+      record { asked = Misplaced NoSuchKey; shows = Nothing; asks = subst (λ (o : Option (List Rule)). AsksWhy o (has_id x s.held.tree) (Misplaced NoSuchKey)) (sym e) refl; follows = (refl, refl, refl); text = refl }
+
+  -- an operation that isn't there
+  pub fulfils_absent : (x : ℕ) (name : Option RuleName) (rs : List Rule) (s : State) → asked_rules name x s.held ≡ Some rs → has_id x s.held.tree ≡ false → Fulfils way s (Why x name) (Replied (Refused NoSuchOp)) [] s
+  fulfils_absent x name rs s e gone =
+      record { asked = Misplaced NoSuchOp; shows = Nothing; asks = subst (λ (o : Option (List Rule)). AsksWhy o (has_id x s.held.tree) (Misplaced NoSuchOp)) (sym e) (subst (λ (b : Bool). AsksWhy (Some rs) b (Misplaced NoSuchOp)) (sym gone) refl); follows = (refl, refl, refl); text = refl }
+
+  asks_why : (x : ℕ) (name : Option RuleName) (rs : List Rule) (m : Module) → asked_rules name x m ≡ Some rs → has_id x m.tree ≡ true → OrdersIn way (Why x name) m (Ask call.Print)
+  asks_why x name rs m e there = subst (λ (o : Option (List Rule)). AsksWhy o (has_id x m.tree) (Ask call.Print)) (sym e) (subst (λ (b : Bool). AsksWhy (Some rs) b (Ask call.Print)) (sym there) refl)
+
+  pub fulfils_why : (x : ℕ) (name : Option RuleName) (rs : List Rule) (s : State) (bytes : List ℕ) → asked_rules name x s.held ≡ Some rs → has_id x s.held.tree ≡ true → bytes ≡ why_lines rs x s.held → Fulfils way s (Why x name) (Replied Done) bytes s
+  fulfils_why x name rs s bytes e there is =
+      rw (is ∙ ap (λ o. why_text o x s.held) (sym e)) (fulfils_call s s (Why x name) call.Print Done (Tree s.held.tree) (asks_why x name rs s.held e there) (record { answer = inl refl; panel = refl }))
+
+  -- for which there is no memory
+  pub fulfils_unwhy : (x : ℕ) (name : Option RuleName) (rs : List Rule) (s : State) → asked_rules name x s.held ≡ Some rs → has_id x s.held.tree ≡ true → Fulfils way s (Why x name) (Replied (Refused Memory)) [] s
+  fulfils_unwhy x name rs s e there = fulfils_call s s (Why x name) call.Print (Refused Memory) Nothing (asks_why x name rs s.held e there) (record { answer = inr (refl, refl); panel = refl })
 
   -- ---- each order has an answer, and none of them is refused at a byte
 
@@ -124,36 +157,44 @@ module _ (way : Way) where
   by_kind s kind None e = (Replied (Refused NoSuchKind), [], s, fulfils_unsupplied kind s e)
   by_kind s kind (Some a) e = by_call s (Attach kind) (call.Attach a) (asks_supplied kind a s.held e)
 
-  by_rules : (s : State) (names : List RuleName) (limit : Option ℕ) (f : Option Transformation) → rewriting_named names (limit_or way.manner.limit limit) ≡ f → SomeFulfilled s (Rewrite names limit)
-  by_rules s names limit None e = (Replied (Refused NoSuchKey), [], s, fulfils_unruled names limit s e)
-  by_rules s names limit (Some f) e = by_call s (Rewrite names limit) (call.Change f) (asks_ruled names limit f s.held e)
+  by_ruled : (s : State) (names : List RuleName) (limit : Option ℕ) (f : Option Transformation) → rewriting_named names (limit_or way.manner.limit limit) ≡ f → SomeFulfilled s (Rewrite names limit)
+  by_ruled s names limit None e = (Replied (Refused NoSuchKey), [], s, fulfils_unruled names limit s e)
+  by_ruled s names limit (Some f) e = by_call s (Rewrite names limit) (call.Change f) (asks_ruled names limit f s.held e)
 
   by_trace : (s : State) (names : Option (List RuleName)) (limit : Option ℕ) (f : Option Transformation) → tracing names (limit_or way.manner.limit limit) ≡ f → SomeFulfilled s (Trace names limit)
   by_trace s names limit None e = (Replied (Refused NoSuchKey), [], s, fulfils_untold names limit s e)
   by_trace s names limit (Some f) e = by_call s (Trace names limit) (call.Change f) (asks_told names limit f s.held e)
 
+  by_why : (s : State) (x : ℕ) (name : Option RuleName) (o : Option (List Rule)) (b : Bool) → asked_rules name x s.held ≡ o → has_id x s.held.tree ≡ b → SomeFulfilled s (Why x name)
+  by_why s x name None b e there = (Replied (Refused NoSuchKey), [], s, fulfils_unasked x name s e)
+  by_why s x name (Some rs) false e there = (Replied (Refused NoSuchOp), [], s, fulfils_absent x name rs s e there)
+  by_why s x name (Some rs) true e there = (Replied Done, why_lines rs x s.held, s, fulfils_why x name rs s (why_lines rs x s.held) e there refl)
+
   by_subject : (s : State) (kind : ℕ) (subject : Subject) (there : Bool) → is_there subject s.held.tree ≡ there → SomeFulfilled s (ReportOf kind subject)
-  by_subject s kind subject false e = (Replied (Refused (absent subject)), [], s, fulfils_absent kind subject s e)
+  by_subject s kind subject false e = (Replied (Refused (absent subject)), [], s, fulfils_no_subject kind subject s e)
   by_subject s kind subject true e = by_call s (ReportOf kind subject) (call.Report kind) (asks_about kind subject s.held e)
 
   pub some_fulfilled : (s : State) (o : Order) → SomeFulfilled s o
   some_fulfilled s (Attach kind) = by_kind s kind (way.supply kind) refl
   some_fulfilled s PrintIds = by_call s PrintIds call.Print refl
   some_fulfilled s (ReportOf kind subject) = by_subject s kind subject (is_there subject s.held.tree) refl
-  some_fulfilled s (Rewrite names limit) = by_rules s names limit (rewriting_named names (limit_or way.manner.limit limit)) refl
+  some_fulfilled s (Rewrite names limit) = by_ruled s names limit (rewriting_named names (limit_or way.manner.limit limit)) refl
   some_fulfilled s (Trace names limit) = by_trace s names limit (tracing names (limit_or way.manner.limit limit)) refl
+  some_fulfilled s (CanonAt x limit) = by_call s (CanonAt x limit) (call.Change (canonicalizing_at (limit_or way.manner.limit limit) x)) refl
+  some_fulfilled s (Why x name) = by_why s x name (asked_rules name x s.held) (has_id x s.held.tree) refl refl
 
 -- what is told of rewrites by some rules, where no line was there before
-pub told_trace : (rs : List Rule) (n limit : ℕ) (m : Module) (called : Result Ended Refusal) (before after bytes : List ℕ) → n ≡ limit → before ≡ [] → OnOk called (after ≡ before ++ trace_text (trace_of rs n m))
+pub told_trace : (rs : List Rule) (n limit : ℕ) (m : Module) (called : Result Ended Refusal) (before after bytes : List ℕ) (names : List (List ℕ)) → n ≡ limit → before ≡ [] → names ≡ [] → OnOk called (after ≡ before ++ trace_text names (trace_of (by_rules rs) n m))
     → bytes ≡ told_if (is_accepted (Replied (canonical_reply called))) after → bytes ≡ told_if (is_accepted (Replied (canonical_reply called))) (trace_by (Some rs) limit m)
-told_trace rs n limit m (Ok o) before after bytes same none told is = is ∙ told ∙ ap (λ l. l ++ trace_text (trace_of rs n m)) none ∙ ap (λ k. trace_text (trace_of rs k m)) same
-told_trace rs n limit m (Err e) before after bytes same none told is = is
+told_trace rs n limit m (Ok o) before after bytes names same none unnamed told is =
+    is ∙ told ∙ ap (λ l. l ++ trace_text names (trace_of (by_rules rs) n m)) none ∙ ap (λ ns. trace_text ns (trace_of (by_rules rs) n m)) unnamed ∙ ap (λ k. trace_text [] (trace_of (by_rules rs) k m)) same
+told_trace rs n limit m (Err e) before after bytes names same none unnamed told is = is
 
 -- of rules that are named
-pub told_named : (names : List RuleName) (rs : List Rule) (n limit : ℕ) (m : Module) (called : Result Ended Refusal) (before after bytes : List ℕ) → Some rs ≡ rules_named names → n ≡ limit → before ≡ [] → OnOk called (after ≡ before ++ trace_text (trace_of rs n m))
+pub told_named : (names : List RuleName) (rs : List Rule) (n limit : ℕ) (m : Module) (called : Result Ended Refusal) (before after bytes : List ℕ) (labels : List (List ℕ)) → Some rs ≡ rules_named names → n ≡ limit → before ≡ [] → labels ≡ [] → OnOk called (after ≡ before ++ trace_text labels (trace_of (by_rules rs) n m))
     → bytes ≡ told_if (is_accepted (Replied (canonical_reply called))) after → bytes ≡ told_if (is_accepted (Replied (canonical_reply called))) (trace_by (traced_rules (Some names)) limit m)
-told_named names rs n limit m called before after bytes rules same none told is =
-    told_trace rs n limit m called before after bytes same none told is ∙ ap (λ o. told_if (is_accepted (Replied (canonical_reply called))) (trace_by o limit m)) rules
+told_named names rs n limit m called before after bytes labels rules same none unnamed told is =
+    told_trace rs n limit m called before after bytes labels same none unnamed told is ∙ ap (λ o. told_if (is_accepted (Replied (canonical_reply called))) (trace_by o limit m)) rules
 
 -- an order is no text that isn't read
 never_unread : (way : Way) (o : Order) (m : Module) (refusal : Refusal) (offset : Option ℕ) → OrdersIn way o m (Unread refusal offset) → ⊥
@@ -172,6 +213,13 @@ never_unread way (Trace names limit) m refusal offset asks = go (tracing names (
     go : (o : Option Transformation) → AppliesRule o (Unread refusal offset) → ⊥
     go None e = absurd cc
     go (Some f) e = absurd cc
+never_unread way (CanonAt x limit) m refusal offset asks = absurd (let e : Unread refusal offset ≡ Ask (call.Change (canonicalizing_at (limit_or way.manner.limit limit) x)) = asks in cc)
+never_unread way (Why x name) m refusal offset asks = go (asked_rules name x m) (has_id x m.tree) asks
+  where
+    go : (o : Option (List Rule)) (b : Bool) → AsksWhy o b (Unread refusal offset) → ⊥
+    go None b e = absurd cc
+    go (Some rs) false e = absurd cc
+    go (Some rs) true e = absurd cc
 never_unread way (ReportOf kind subject) m refusal offset asks = go (is_there subject m.tree) asks
   where
     go : (there : Bool) → AsksAbout there kind subject (Unread refusal offset) → ⊥

@@ -5,9 +5,11 @@ pub mod Obeying
 pub mod Fulfilling
 pub mod Owning
 pub mod About
+pub mod Mixes
 pub mod Room
 pub mod Listings
 pub mod Runs
+pub mod Asking
 pub mod Attaching
 pub mod Sessions
 pub mod Printing

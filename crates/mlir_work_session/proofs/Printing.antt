@@ -22,6 +22,7 @@ use Rattle.mlir_work_session.specs.Machine.{Obeys, response_of}
 use Rattle.mlir_work_book.specs.Notices.{IsWithin, Plain}
 use Rattle.mlir_work_book.specs.Replies.{is_accepted}
 use Rattle.mlir_work_book.specs.Told.{reply_line}
+use Rattle.mlir_work_session.specs.Explained.{IsAbout}
 use Rattle.mlir_work_session.specs.Output.{Attaches, IsEnded, IsReplied, IsSession, Manner, Replies, Runs, Sitting, Way, asks, end_of, opening, says_nothing, shows_alone, worse}
 use Rattle.mlir_work_session.specs.PrintsAlone.{IsPrinted, all_print, is_print, kinds_apart, line_prints, prints_alone}
 use Rattle.mlir_work_session.specs.Ran.{RanOut}
@@ -163,17 +164,23 @@ printed way s (Booked order) reply shows e f p = absurd (true≢false (sym e))
 printed way s Bad reply shows e f p = absurd (true≢false (sym e))
 printed way s (Obey command) reply shows e f p = subst (λ (k : Command). Replies way s (Obey k) (Plain (response_of reply)) shows s) (sym (the_print command e)) (response_of reply, refl, answered way.manner s.state reply shows p, refl)
 
--- and has no listing
-bare : (brief : Bool) (s : State) (n : ℕ) (reply : Reply) (shows : List ℕ) → IsReplied (not brief && false) s n None (Plain (response_of reply)) shows (reply_line n (response_of reply) ++ shows)
-bare true s n reply shows = ([], refl, λ i. sym (append-nil (reply_line n (response_of reply))) i ++ sym (append-nil shows) i)
-bare false s n reply shows = ([], refl, λ i. sym (append-nil (reply_line n (response_of reply))) i ++ sym (append-nil shows) i)
+-- what was refused is about nothing
+untold : (explain : Bool) (m : Module) (t : Operation) (reply : Reply) (shows : List ℕ) → IsPrinted t reply shows → IsAbout explain (Plain (response_of reply)) (Obey said.Print) m []
+untold false m t reply shows p = refl
+untold true m t reply shows (inl p) = subst (λ (r : Reply). IsAbout true (Plain (response_of r)) (Obey said.Print) m []) (sym p.0) (inl refl)
+untold true m t reply shows (inr p) = subst (λ (r : Reply). IsAbout true (Plain (response_of r)) (Obey said.Print) m []) (sym p.0) (inl refl)
 
-unlisted : (brief : Bool) (s : State) (n : ℕ) (spoken : Spoken) (reply : Reply) (shows : List ℕ) → prints_alone spoken ≡ true → says_nothing spoken ≡ false → IsReplied (not brief && not (asks spoken)) s n None (Plain (response_of reply)) shows (reply_line n (response_of reply) ++ shows)
-unlisted brief s n Nothing reply shows e f = absurd (true≢false f)
-unlisted brief s n (Ordered order) reply shows e f = absurd (true≢false (sym e))
-unlisted brief s n (Booked order) reply shows e f = absurd (true≢false (sym e))
-unlisted brief s n Bad reply shows e f = absurd (true≢false (sym e))
-unlisted brief s n (Obey command) reply shows e f = subst (λ (k : Command). IsReplied (not brief && not (shows_alone k)) s n None (Plain (response_of reply)) shows (reply_line n (response_of reply) ++ shows)) (sym (the_print command e)) (bare brief s n reply shows)
+-- and has no listing
+bare : (explain brief : Bool) (s : State) (n : ℕ) (reply : Reply) (shows : List ℕ) → IsPrinted s.held.tree reply shows → IsReplied explain (Obey said.Print) (not brief && false) s n None (Plain (response_of reply)) shows (reply_line n (response_of reply) ++ shows)
+bare explain true s n reply shows p = ([], [], untold explain s.held s.held.tree reply shows p, refl, λ i. sym (append-nil (reply_line n (response_of reply))) i ++ sym (append-nil shows) i)
+bare explain false s n reply shows p = ([], [], untold explain s.held s.held.tree reply shows p, refl, λ i. sym (append-nil (reply_line n (response_of reply))) i ++ sym (append-nil shows) i)
+
+unlisted : (explain brief : Bool) (s : State) (n : ℕ) (spoken : Spoken) (reply : Reply) (shows : List ℕ) → prints_alone spoken ≡ true → says_nothing spoken ≡ false → IsPrinted s.held.tree reply shows → IsReplied explain spoken (not brief && not (asks spoken)) s n None (Plain (response_of reply)) shows (reply_line n (response_of reply) ++ shows)
+unlisted explain brief s n Nothing reply shows e f p = absurd (true≢false f)
+unlisted explain brief s n (Ordered order) reply shows e f p = absurd (true≢false (sym e))
+unlisted explain brief s n (Booked order) reply shows e f p = absurd (true≢false (sym e))
+unlisted explain brief s n Bad reply shows e f p = absurd (true≢false (sym e))
+unlisted explain brief s n (Obey command) reply shows e f p = subst (λ (k : Command). IsReplied explain (Obey k) (not brief && not (shows_alone k)) s n None (Plain (response_of reply)) shows (reply_line n (response_of reply) ++ shows)) (sym (the_print command e)) (bare explain brief s n reply shows p)
 
 -- and no end
 unended : (ends : Bool) (P : List ℕ → Type 0) (out : List ℕ) → ends ≡ false → P out → IsEnded ends P out
@@ -199,7 +206,7 @@ pub print_step : (way : Way) → way.manner.ends ≡ false → (n : ℕ) (s : Si
     (later : ℕ) (rest : List ℕ) → Runs way (n + 1) s (lines_of more) later rest → Runs way n s (lines_of text) (worse (is_accepted (response_of reply)) later) ((reply_line n (response_of reply) ++ shows) ++ rest)
 print_step way unend n s text line more reply shows e prints f p later rest h =
     let is = (and_parts _ _ prints).1 in
-    run_step way n s text line more None (line_says line) (Plain (response_of reply)) shows s (reply_line n (response_of reply) ++ shows) e (none_is _ (and_parts _ _ prints).0) refl f (printed way s (line_says line) reply shows is (sym f) p) (unended way.manner.ends (IsReplied (not way.manner.brief && not (asks (line_says line))) s.state n None (Plain (response_of reply)) shows) (reply_line n (response_of reply) ++ shows) unend (unlisted way.manner.brief s.state n (line_says line) reply shows is (sym f))) (printed_bounded way.manner.bytes s.state.held.tree reply shows p) later rest h
+    run_step way n s text line more None (line_says line) (Plain (response_of reply)) shows s (reply_line n (response_of reply) ++ shows) e (none_is _ (and_parts _ _ prints).0) refl f (printed way s (line_says line) reply shows is (sym f) p) (unended way.manner.ends (IsReplied way.manner.explain (line_says line) (not way.manner.brief && not (asks (line_says line))) s.state n None (Plain (response_of reply)) shows) (reply_line n (response_of reply) ++ shows) unend (unlisted way.manner.explain way.manner.brief s.state n (line_says line) reply shows is (sym f) p)) (printed_bounded way.manner.bytes s.state.held.tree reply shows p) later rest h
 
 -- ---- sessions
 

@@ -8,6 +8,7 @@ use Rattle.mlir_work_transforms.specs.rewriter.Machine.{IsFullSo, Refused, Reply
 use Rattle.mlir_work_script.specs.Orders.{Order}
 use Rattle.mlir_work_transforms.specs.greedy.Changes.{canonical_reply, canonicalizing, rewriting}
 use Rattle.mlir_work_transforms.specs.greedy.Outcomes.{IsReason}
+use Rattle.mlir_work_transforms.specs.greedy.Trial.{by_rules}
 use Rattle.mlir_work_transforms.specs.greedy.declared.outcome.Outcome.{Outcome as Ended}
 use Rattle.mlir_work_transforms.proofs.Changing.{canon_full}
 use Rattle.mlir_work_transforms.specs.Applying.{application, applying, rule_named}
@@ -52,14 +53,14 @@ rule_room s response name x r added full more {f} {reply} some is replies so =
     same i = cc
 
 -- some rules have the transformation of their names
-pub rules_rewrite : (names : List RuleName) (rs : List Rule) (n limit : ℕ) → Some rs ≡ rules_named names → n ≡ limit → rewriting_named names limit ≡ Some (rewriting rs n)
-rules_rewrite names rs n limit rules same = sym (ap (option_map (λ (rs : List Rule). rewriting rs limit)) rules) ∙ ap (λ (k : ℕ). Some (rewriting rs k)) (sym same)
+pub rules_rewrite : (names : List RuleName) (rs : List Rule) (n limit : ℕ) → Some rs ≡ rules_named names → n ≡ limit → rewriting_named names limit ≡ Some (rewriting (by_rules rs) n)
+rules_rewrite names rs n limit rules same = sym (ap (option_map (λ (rs : List Rule). rewriting (by_rules rs) limit)) rules) ∙ ap (λ (k : ℕ). Some (rewriting (by_rules rs) k)) (sym same)
 
-pub rules_room : (s : State) (names : List RuleName) (rs : List Rule) (n limit : ℕ) (f : Transformation) (response : Response) (reply : Reply) (added full : Type 0) → (added → full) → Some rs ≡ rules_named names → n ≡ limit → rewriting_named names limit ≡ Some f → response ≡ Replied reply → IsFullSo added s (rewriting rs n) reply → FullSo full s f response
+pub rules_room : (s : State) (names : List RuleName) (rs : List Rule) (n limit : ℕ) (f : Transformation) (response : Response) (reply : Reply) (added full : Type 0) → (added → full) → Some rs ≡ rules_named names → n ≡ limit → rewriting_named names limit ≡ Some f → response ≡ Replied reply → IsFullSo added s (rewriting (by_rules rs) n) reply → FullSo full s f response
 rules_room s names rs n limit f response reply added full more rules same is replies so =
-    subst (λ (g : Transformation). FullSo full s g response) (alike (sym (rules_rewrite names rs n limit rules same) ∙ is)) (replied full s (rewriting rs n) response reply replies (λ e. widened more (so e)))
+    subst (λ (g : Transformation). FullSo full s g response) (alike (sym (rules_rewrite names rs n limit rules same) ∙ is)) (replied full s (rewriting (by_rules rs) n) response reply replies (λ e. widened more (so e)))
   where
-    alike : Some (rewriting rs n) ≡ Some f → rewriting rs n ≡ f
+    alike : Some (rewriting (by_rules rs) n) ≡ Some f → rewriting (by_rules rs) n ≡ f
     alike i = cc
 
 -- what rewrites and tells it has the transformation of its rules

@@ -10,11 +10,14 @@ use Rattle.mlir_work_script.specs.Expecting.{line_expects}
 use Rattle.mlir_work_script.specs.Lines.{lines_of}
 use Rattle.mlir_work_script.specs.Writes.{Stream}
 use Rattle.mlir_work_book.specs.Notices.{IsWithin, Notice, Plain}
-use Rattle.mlir_work_session.specs.Output.{IsAnswered, IsEnded, IsToldOf, Line, Way, Replied, Replies, IsReplied, Runs, accepted_behind, end_of, number_behind, worse, says_nothing, asks, reply_text, is_right}
+use Rattle.ir_event.specs.Modules.{Module}
+use Rattle.mlir_work_session.specs.Explained.{IsAbout, about_notice}
+use Rattle.mlir_work_session.specs.Output.{IsAnswered, IsEnded, IsToldOf, Line, Way, Replied, Replies, IsReplied, Runs, accepted_behind, end_of, number_behind, worse, says_nothing, asks, told_text, is_right}
 use Rattle.mlir_work_session.specs.Sittings.{Sitting, own_of}
 use Rattle.mlir_work_session.specs.Ran.{RanOut}
 use Rattle.mlir_work_session.proofs.Listings.{some_listing_if}
-use Rattle.mlir_work_session.proofs.Fulfilling.{fulfils_bounded, some_fulfilled}
+use Rattle.mlir_work_session.specs.Mixing.{mix_of}
+use Rattle.mlir_work_session.proofs.Mixes.{beside_bounded, some_beside as some_ordered}
 use Rattle.mlir_work_book.proofs.Bounds.{within_of}
 use Rattle.mlir_work_session.proofs.Owning.{some_beside}
 
@@ -45,7 +48,7 @@ runs_replied way n s text line more status out e f h = rw e (line_replied (λ m 
 
 -- a reply, and then what may follow, is what may be from here
 pub run_step : (way : Way) (n : ℕ) (s : Sitting) (text line more : List ℕ) (expected : Option Refusal) (spoken : Spoken) (reply : Notice) (shows : List ℕ) (t : Sitting) (told : List ℕ) →
-    lines_of text ≡ line ∷ lines_of more → expected ≡ line_expects line → spoken ≡ line_says line → false ≡ says_nothing spoken → Replies way s spoken reply shows t → IsEnded way.manner.ends (IsReplied (not way.manner.brief && not (asks spoken)) t.state n expected reply shows) told → IsWithin way.manner.bytes reply →
+    lines_of text ≡ line ∷ lines_of more → expected ≡ line_expects line → spoken ≡ line_says line → false ≡ says_nothing spoken → Replies way s spoken reply shows t → IsEnded way.manner.ends (IsReplied way.manner.explain spoken (not way.manner.brief && not (asks spoken)) t.state n expected reply shows) told → IsWithin way.manner.bytes reply →
     (later : ℕ) (rest : List ℕ) → Runs way (n + 1) t (lines_of more) later rest → Runs way n s (lines_of text) (worse (is_right expected reply) later) (told ++ rest)
 run_step way n s text line more expected spoken reply shows t told e same is f r told_is full later rest h =
     rw e (line_replied (λ m t st o. Runs way m t (lines_of more) st o) way n s (line_expects line) (line_says line) _ _ (rw (← is) (sym f)) (record {
@@ -105,7 +108,7 @@ run_answered way n s text line more t told out e answered later rest h = rw e (l
 
 -- a reply, what it shows, a listing and the end of the answer
 pub told_of : (way : Way) (n : ℕ) (s : Sitting) (expected : Option Refusal) (spoken line_spoken : Spoken) (reply : Notice) (shows : List ℕ) (t : Sitting) (text : List ℕ) (accepted : Bool) →
-    spoken ≡ line_spoken → false ≡ says_nothing spoken → Replies way s spoken reply shows t → IsReplied (not way.manner.brief && not (asks spoken)) t.state n expected reply shows text → IsWithin way.manner.bytes reply → accepted ≡ is_right expected reply →
+    spoken ≡ line_spoken → false ≡ says_nothing spoken → Replies way s spoken reply shows t → IsReplied way.manner.explain spoken (not way.manner.brief && not (asks spoken)) t.state n expected reply shows text → IsWithin way.manner.bytes reply → accepted ≡ is_right expected reply →
     IsToldOf way n s expected line_spoken t accepted (text ++ end_of way.manner.ends)
 told_of way n s expected spoken line_spoken reply shows t text accepted is f r told full well =
     rw (← is) (record {
@@ -120,11 +123,16 @@ told_of way n s expected spoken line_spoken reply shows t text accepted is f r t
 
 -- ---- there is an output
 
+some_about : (explain : Bool) (notice : Notice) (spoken : Spoken) (m : Module) → (about : List ℕ) × IsAbout explain notice spoken m about
+some_about false notice spoken m = ([], refl)
+some_about true notice spoken m = (about_notice notice spoken m, inl refl)
+
 some_replied : (Rest : ℕ → Sitting → ℕ → List ℕ → Type 0) (way : Way) (n : ℕ) (s : Sitting) (expected : Option Refusal) (spoken : Spoken) (reply : Notice) (shows : List ℕ) (t : Sitting) → Replies way s spoken reply shows t → IsWithin way.manner.bytes reply → ((m : ℕ) (t : Sitting) → (st : ℕ) × (o : List ℕ) × Rest m t st o) → (st : ℕ) × (o : List ℕ) × Replied Rest way n s expected spoken st o
 some_replied Rest way n s expected spoken reply shows t r full some =
+    let about = some_about way.manner.explain reply spoken t.state.held in
     let more = some_listing_if (not way.manner.brief && not (asks spoken)) t.state in
     let rest = some (n + 1) t in
-    let told = (reply_text n expected reply ++ (shows ++ more.0)) ++ end_of way.manner.ends in (
+    let told = (told_text n expected reply about.0 ++ (shows ++ more.0)) ++ end_of way.manner.ends in (
       worse (is_right expected reply) rest.0,
       told ++ rest.1,
       record {
@@ -135,7 +143,7 @@ some_replied Rest way n s expected spoken reply shows t r full some =
         later = rest.0;
         rest = rest.1;
         replies = r;
-        replied = (reply_text n expected reply ++ (shows ++ more.0), (more.0, more.1, refl), refl);
+        replied = (told_text n expected reply about.0 ++ (shows ++ more.0), (about.0, more.0, about.1, more.1, refl), refl);
         full = full;
         goes_on = rest.2;
         status_is = refl;
@@ -150,8 +158,8 @@ some_line Rest way n s expected (Obey command) some =
     let a = some_beside way.manner (own_of command s.book) s.state command in
     some_replied Rest way n s expected (Obey command) (Plain a.0) a.1 (record { state = a.2; book = s.book }) (a.0, refl, a.3, refl) (within_of way.manner.bytes a.0 (λ why offset e. absurd (a.4 why offset e))) some
 some_line Rest way n s expected (Ordered order) some =
-    let a = some_fulfilled way s.state order in
-    some_replied Rest way n s expected (Ordered order) (Plain a.0) a.1 (record { state = a.2; book = s.book }) (a.0, refl, a.3, refl) (within_of way.manner.bytes a.0 (fulfils_bounded way.manner.bytes way s.state order a.0 a.1 a.2 a.3)) some
+    let a = some_ordered way s.book (mix_of order s.book) s.state order in
+    some_replied Rest way n s expected (Ordered order) (Plain a.0) a.1 (record { state = a.2; book = s.book }) (a.0, refl, a.3, refl) (within_of way.manner.bytes a.0 (beside_bounded way s.book way.manner.bytes (mix_of order s.book) s.state order a.0 a.1 a.2 a.3)) some
 some_line Rest way n s expected (Booked order) some = some_replied Rest way n s expected (Booked order) (Plain (Says (Refused Memory))) [] s (inl (refl, refl, refl), refl) (λ why offset e. absurd cc) some
 
 -- from each state each script has an output, as each command has an answer

@@ -1,5 +1,5 @@
 -- What is an answer in an input is one in a longer input.
-use Rattle.std.proofs.Common.{◌≡◌, ◌∙◌, refl, ◌+◌, ◌≤◌, inl, inr, ℕ, List, arith, Option, Some, None}
+use Rattle.std.proofs.Common.{◌≡◌, ◌∙◌, refl, ◌+◌, ◌≤◌, inl, inr, ℕ, List, arith, Bool, true, false, Option, Some, None}
 use Rattle.ir_event.specs.types.declared.refusal.Refusal.{Refusal}
 use Rattle.ir_event.specs.Modules.{Module}
 use Rattle.ir_text.specs.Public.{SpellsAttr}
@@ -8,10 +8,11 @@ use Rattle.mlir_work_transforms.specs.rewriter.Commands.{Asked, Ask, CanFill, Co
 use Rattle.mlir_work_transforms.specs.rewriter.Machine.{Shows, State}
 use Rattle.mlir_work_transforms.specs.rewriter.Texts.{SpellsBeside}
 use Rattle.mlir_work_script.specs.Commands.{Spoken, Nothing, Bad, Obey, Ordered, Booked}
-use Rattle.mlir_work_script.specs.Orders.{Attach, Order, PrintIds, ReportOf, Rewrite, Trace}
+use Rattle.mlir_work_script.specs.Orders.{Attach, CanonAt, Order, PrintIds, Rewrite, Trace, Why, ReportOf}
 use Rattle.mlir_work_book.specs.Notices.{Notice}
-use Rattle.mlir_work_book.specs.Shelf.{Kept}
+use Rattle.mlir_work_book.specs.Shelf.{Book, Kept}
 use Rattle.mlir_work_session.specs.Machine.{AsksIn, Fulfils, OrdersIn, order_bytes}
+use Rattle.mlir_work_session.specs.Mixing.{FulfilsBeside, Mix, mix_bytes, mix_of}
 use Rattle.mlir_work_session.specs.Output.{Line, Way, way_of, Replied, Replies}
 use Rattle.mlir_work_session.specs.Sittings.{ObeysBeside, Sitting, own_of}
 
@@ -54,9 +55,11 @@ module _ (way : Way) (bytes : ℕ) (longer : way.manner.bytes ≤ bytes) where
   orders_wider : (order : Order) (m : Module) (asked : Asked) → OrdersIn way order m asked → OrdersIn wider order m asked
   orders_wider (Attach kind) m asked h = h
   orders_wider PrintIds m asked h = h
-  orders_wider (ReportOf kind subject) m asked h = h
   orders_wider (Rewrite names limit) m asked h = h
   orders_wider (Trace names limit) m asked h = h
+  orders_wider (CanonAt x limit) m asked h = h
+  orders_wider (Why x name) m asked h = h
+  orders_wider (ReportOf kind subject) m asked h = h
 
   bytes_wider : (order : Order) (m : Module) (response : Response) (shows : Shows) → order_bytes way order m response shows ≡ order_bytes wider order m response shows
   bytes_wider (Attach kind) m response shows = refl
@@ -64,6 +67,8 @@ module _ (way : Way) (bytes : ℕ) (longer : way.manner.bytes ≤ bytes) where
   bytes_wider (ReportOf kind subject) m response shows = refl
   bytes_wider (Rewrite names limit) m response shows = refl
   bytes_wider (Trace names limit) m response shows = refl
+  bytes_wider (CanonAt x limit) m response shows = refl
+  bytes_wider (Why x name) m response shows = refl
 
   beside_wider : (own : Option (Kept × ℕ)) (s : State) (said : Command) (response : Response) (shows : List ℕ) (t : State) → ObeysBeside way.manner own s said response shows t → ObeysBeside wider.manner own s said response shows t
   beside_wider None s said response shows t h = record { asked = h.asked; shows = h.shows; asks = asks_wider said s.held h.asked h.asks; follows = h.follows; text = h.text }
@@ -72,10 +77,18 @@ module _ (way : Way) (bytes : ℕ) (longer : way.manner.bytes ≤ bytes) where
   fulfils_wider : (s : State) (order : Order) (response : Response) (shows : List ℕ) (t : State) → Fulfils way s order response shows t → Fulfils wider s order response shows t
   fulfils_wider s order response shows t h = record { asked = h.asked; shows = h.shows; asks = orders_wider order s.held h.asked h.asks; follows = h.follows; text = h.text ∙ bytes_wider order s.held response h.shows }
 
+  mix_bytes_wider : (tells : Bool) (book : Book) (x : Mix) (m : Module) (response : Response) → mix_bytes tells way.manner book x m response ≡ mix_bytes tells wider.manner book x m response
+  mix_bytes_wider true book x m response = refl
+  mix_bytes_wider false book x m response = refl
+
+  mixed_wider : (book : Book) (own : Option Mix) (s : State) (order : Order) (response : Response) (shows : List ℕ) (t : State) → FulfilsBeside way book own s order response shows t → FulfilsBeside wider book own s order response shows t
+  mixed_wider book None s order response shows t h = fulfils_wider s order response shows t h
+  mixed_wider book (Some x) s order response shows t h = record { asked = h.asked; asks = h.asks; follows = h.follows; text = h.text ∙ mix_bytes_wider x.tells book x s.held response }
+
   replies_wider : (s : Sitting) (spoken : Spoken) (notice : Notice) (shows : List ℕ) (t : Sitting) → Replies way s spoken notice shows t → Replies wider s spoken notice shows t
   replies_wider s Nothing notice shows t h = absurd h
   replies_wider s Bad notice shows t h = h
-  replies_wider s (Ordered order) notice shows t (response, is, h, stays) = (response, is, fulfils_wider s.state order response shows t.state h, stays)
+  replies_wider s (Ordered order) notice shows t (response, is, h, stays) = (response, is, mixed_wider s.book (mix_of order s.book) s.state order response shows t.state h, stays)
   replies_wider s (Obey said) notice shows t (response, is, h, stays) = (response, is, beside_wider (own_of said s.book) s.state said response shows t.state h, stays)
   replies_wider s (Booked order) notice shows t h = h
 

@@ -1,6 +1,9 @@
 pub mod Texts
 pub mod Machine
+pub mod Mixing
+pub mod MixViews
 pub mod Sittings
+pub mod Explained
 pub mod Output
 pub mod Ran
 pub mod PrintsAlone

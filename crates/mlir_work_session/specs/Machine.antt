@@ -1,6 +1,6 @@
 -- What a command or an order makes of a bench: as the machine has it, and the bytes that are shown.
 use Rattle.std.specs.Prelude.{◌≡◌, ℕ, List, [], Bool, true, false, Option, Some, None, ⊤}
-use Rattle.ir_event.specs.types.declared.refusal.Refusal.TheVariants.{NoSuchKind}
+use Rattle.ir_event.specs.types.declared.refusal.Refusal.TheVariants.{NoSuchKey, NoSuchKind, NoSuchOp}
 use Rattle.ir_event.specs.Modules.{Module}
 use Rattle.ir_text.specs.Printing.{text_of}
 use Rattle.ir_text.specs.Public.{SpellsAttr}
@@ -14,7 +14,7 @@ use Rattle.mlir_work_transforms.specs.rewriter.Panels.{Shown}
 pub use Rattle.mlir_work_transforms.specs.rewriter.Machine.{State}
 pub use Rattle.mlir_work_book.specs.Replies.{response_of}
 use Rattle.mlir_work_book.specs.Replies.{is_accepted}
-use Rattle.mlir_work_script.specs.Orders.{Attach, Order, PrintIds, ReportOf, Rewrite, Trace}
+use Rattle.mlir_work_script.specs.Orders.{Attach, CanonAt, Order, PrintIds, Rewrite, Trace, Why, ReportOf}
 use Rattle.mlir_work_script.specs.declared.subject.Subject.{Subject}
 use Rattle.mlir_work_transforms.specs.greedy.Changes.{canonicalizing}
 use Rattle.mlir_work_transforms.specs.Converting.{conversion}
@@ -22,6 +22,10 @@ use Rattle.mlir_work_transforms.specs.Applying.{application}
 use Rattle.mlir_work_transforms.specs.Rewriting.{rewriting_named}
 use Rattle.mlir_work_transforms.specs.Sweep.{sweeping}
 use Rattle.mlir_work_transforms.specs.TraceText.{trace_by, traced_rules, tracing}
+use Rattle.mlir_work_transforms.specs.At.{canonicalizing_at}
+use Rattle.mlir_work_transforms.specs.WhyText.{asked_rules, why_text}
+use Rattle.mlir_work_transforms.specs.Rule.{Rule}
+use Rattle.ir_event.specs.trees.Ids.{has_id}
 use Rattle.mlir_work_session_base.specs.IdsText.{ids_text}
 use Rattle.mlir_work_session_base.specs.RowText.{rows_text}
 use Rattle.mlir_work_session_base.specs.Subjects.{absent, is_there, rows_about}
@@ -67,6 +71,13 @@ abbrev pub AttachesKind : Option Shown → Asked → Type 0
 AttachesKind None asked = asked ≡ Misplaced NoSuchKind
 AttachesKind (Some a) asked = asked ≡ Ask (call.Attach a)
 
+-- it is asked of some rules why they don't apply at an operation that is there or not; a name that is no rule's is
+-- refused as an entry of no key is
+abbrev pub AsksWhy : Option (List Rule) → Bool → Asked → Type 0
+AsksWhy None there asked = asked ≡ Misplaced NoSuchKey
+AsksWhy (Some rules) false asked = asked ≡ Misplaced NoSuchOp
+AsksWhy (Some rules) true asked = asked ≡ Ask call.Print
+
 -- the rows of a kind are asked for, where what they are to be about is there; else that is refused
 abbrev pub AsksAbout : Bool → ℕ → Subject → Asked → Type 0
 AsksAbout true kind subject asked = asked ≡ Ask (call.Report kind)
@@ -76,9 +87,12 @@ AsksAbout false kind subject asked = asked ≡ Misplaced (absent subject)
 abbrev pub OrdersIn : Way → Order → Module → Asked → Type 0
 OrdersIn way (Attach kind) m asked = AttachesKind (way.supply kind) asked
 OrdersIn way PrintIds m asked = asked ≡ Ask call.Print
-OrdersIn way (ReportOf kind subject) m asked = AsksAbout (is_there subject m.tree) kind subject asked
 OrdersIn way (Rewrite names limit) m asked = AppliesRule (rewriting_named names (limit_or way.manner.limit limit)) asked
 OrdersIn way (Trace names limit) m asked = AppliesRule (tracing names (limit_or way.manner.limit limit)) asked
+OrdersIn way (CanonAt x limit) m asked =
+    asked ≡ Ask (call.Change (canonicalizing_at (limit_or way.manner.limit limit) x))
+OrdersIn way (Why x name) m asked = AsksWhy (asked_rules name x m) (has_id x m.tree) asked
+OrdersIn way (ReportOf kind subject) m asked = AsksAbout (is_there subject m.tree) kind subject asked
 
 -- the bytes of what the machine shows: a module stands with the ids of its operations
 abbrev pub order_shows : Shows → List ℕ
@@ -98,7 +112,7 @@ told_if true bytes = bytes
 told_if false bytes = []
 
 -- the bytes that are shown below the reply to an order in a module: what the machine shows, or the rewrites, if they
--- were made
+-- were made, or why rules don't apply
 abbrev pub order_bytes : Way → Order → Module → Response → Shows → List ℕ
 order_bytes way (Attach kind) m response shows = order_shows shows
 order_bytes way PrintIds m response shows = order_shows shows
@@ -106,6 +120,8 @@ order_bytes way (ReportOf kind subject) m response shows = order_shows (shows_ab
 order_bytes way (Rewrite names limit) m response shows = order_shows shows
 order_bytes way (Trace names limit) m response shows =
     told_if (is_accepted response) (trace_by (traced_rules names) (limit_or way.manner.limit limit) m)
+order_bytes way (CanonAt x limit) m response shows = order_shows shows
+order_bytes way (Why x name) m response shows = told_if (is_accepted response) (why_text (asked_rules name x m) x m)
 
 -- from s an order may be answered so, with these bytes below the reply, and lead to t
 pub record Fulfils (way : Way) (s : State) (order : Order) (response : Response) (bytes : List ℕ) (t : State) : Type 0 where
@@ -135,4 +151,6 @@ OrdersRoom full way s (Rewrite names limit) response =
     (f : Transformation) → rewriting_named names (limit_or way.manner.limit limit) ≡ Some f → FullSo full s f response
 OrdersRoom full way s (Trace names limit) response =
     (f : Transformation) → tracing names (limit_or way.manner.limit limit) ≡ Some f → FullSo full s f response
+OrdersRoom full way s (CanonAt x limit) response =
+    FullSo full s (canonicalizing_at (limit_or way.manner.limit limit) x) response
 OrdersRoom full way s _ response = ⊤

@@ -15,14 +15,16 @@ use Rattle.mlir_work_script.specs.Commands.{Spoken, Nothing, Bad, Obey, Ordered,
 use Rattle.mlir_work_script.specs.Expecting.{line_expects}
 use Rattle.mlir_work_script.specs.Limits.{most_script_bytes}
 use Rattle.mlir_work_script.specs.Lines.{lines_of}
-use Rattle.mlir_work_script.specs.Orders.{Order, PrintIds, ReportOf}
+use Rattle.mlir_work_script.specs.Orders.{Order, PrintIds, ReportOf, Why}
 use Rattle.mlir_work_script.specs.Replies.{refused_line, attach_refused_line, kind_line, stale_line, kind_memory_line, module_memory_line}
 use Rattle.mlir_work_book.specs.Notices.{IsWithin, Notice, Plain}
 use Rattle.mlir_work_book.specs.Shelves.{Shelves}
 use Rattle.mlir_work_session_base.specs.RowText.{rows_text}
-use Rattle.mlir_work_session.specs.Machine.{Fulfils}
+use Rattle.mlir_work_session.specs.Explained.{IsAbout}
+use Rattle.mlir_work_session.specs.Mixing.{FulfilsBeside, mix_of}
 use Rattle.mlir_work_session.specs.Sittings.{ByBench, ObeysBeside, own_of}
 pub use Rattle.mlir_work_book.specs.Notices.{is_right}
+pub use Rattle.mlir_work_book.specs.Explained.{told_text}
 pub use Rattle.mlir_work_book.specs.Told.{reply_text}
 pub use Rattle.mlir_work_session.specs.Machine.{Way, way_of}
 pub use Rattle.mlir_work_session.specs.Sittings.{Sitting, opening}
@@ -78,6 +80,7 @@ shows_alone _ = false
 -- and whether an order does; one about patterns leaves the module, and gets none either
 abbrev pub order_asks : Order → Bool
 order_asks PrintIds = true
+order_asks (Why x name) = true
 order_asks (ReportOf kind subject) = true
 order_asks _ = false
 
@@ -94,12 +97,15 @@ Replies way s Nothing notice shows t = ⊥
 Replies way s Bad notice shows t = (notice ≡ Plain (Says (Refused BadCommand))) × (shows ≡ []) × (t ≡ s)
 Replies way s (Obey command) notice shows t =
     ByBench (λ response u. ObeysBeside way.manner (own_of command s.book) s.state command response shows u) s notice t
-Replies way s (Ordered order) notice shows t = ByBench (λ response u. Fulfils way s.state order response shows u) s notice t
+Replies way s (Ordered order) notice shows t =
+    ByBench (λ response u. FulfilsBeside way s.book (mix_of order s.book) s.state order response shows u) s notice t
 Replies way s (Booked order) notice shows t = Shelves order s.book notice shows t.book × (t.state ≡ s.state)
 
--- a reply, what it shows, and a listing where one is due
-abbrev pub IsReplied : Bool → State → ℕ → Option Refusal → Notice → List ℕ → List ℕ → Type 0
-IsReplied listed t n expected notice shows out = (more : List ℕ) × IsListingIf listed t more × (out ≡ reply_text n expected notice ++ (shows ++ more))
+-- a reply, with what a refusal is about where that is to be told, what it shows, and a listing where one is due
+abbrev pub IsReplied : Bool → Spoken → Bool → State → ℕ → Option Refusal → Notice → List ℕ → List ℕ → Type 0
+IsReplied explain spoken listed t n expected notice shows out =
+    (about : List ℕ) × (more : List ℕ) × IsAbout explain notice spoken t.held about × IsListingIf listed t more
+    × (out ≡ told_text n expected notice about ++ (shows ++ more))
 
 -- the end of an answer: an empty line, where one is due
 abbrev pub end_of : Bool → List ℕ
@@ -119,7 +125,7 @@ pub record Replied (Rest : ℕ → Sitting → ℕ → List ℕ → Type 0) (way
   pub later : ℕ
   pub rest : List ℕ
   pub replies : Replies way s spoken notice shows after
-  pub replied : IsEnded way.manner.ends (IsReplied (not way.manner.brief && not (asks spoken)) after.state n expected notice shows) text
+  pub replied : IsEnded way.manner.ends (IsReplied way.manner.explain spoken (not way.manner.brief && not (asks spoken)) after.state n expected notice shows) text
   pub full : IsWithin way.manner.bytes notice
   pub goes_on : Rest (n + 1) after later rest
   pub status_is : status ≡ worse (is_right expected notice) later
@@ -145,7 +151,7 @@ pub record IsToldOf (way : Way) (n : ℕ) (s : Sitting) (expected : Option Refus
   pub shows : List ℕ
   pub something : says_nothing spoken ≡ false
   pub replies : Replies way s spoken notice shows t
-  pub replied : IsEnded way.manner.ends (IsReplied (not way.manner.brief && not (asks spoken)) t.state n expected notice shows) out
+  pub replied : IsEnded way.manner.ends (IsReplied way.manner.explain spoken (not way.manner.brief && not (asks spoken)) t.state n expected notice shows) out
   pub full : IsWithin way.manner.bytes notice
   pub right_is : right ≡ is_right expected notice
 

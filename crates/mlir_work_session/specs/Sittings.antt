@@ -2,13 +2,14 @@
 use Rattle.std.specs.Prelude.{◌≡◌, ℕ, List, [], Option, Some, None, option_map}
 use Rattle.ir_event.specs.Listener.{Listener}
 use Rattle.mlir_work_transforms.specs.rewriter.Benched.{Benched, state_of}
-use Rattle.mlir_work_transforms.specs.rewriter.Commands.{Apply, Ask, Command, Follows, Numbered, Response, RuleName, Worded}
+use Rattle.mlir_work_transforms.specs.rewriter.Commands.{Apply, Ask, Command, Follows, Response}
 use Rattle.mlir_work_transforms.specs.rewriter.Machine as call
 use Rattle.mlir_work_transforms.specs.rewriter.Machine.{Nothing, State}
 use Rattle.mlir_work_transforms.specs.Applying.{applying_own}
 use Rattle.mlir_work_book.specs.Notices.{Notice, Plain}
-use Rattle.mlir_work_book.specs.Shelf.{Book, Kept, book_view, found}
+use Rattle.mlir_work_book.specs.Shelf.{Book, Kept, book_view}
 use Rattle.mlir_work_book.specs.Book.{Book as BookCode}
+use Rattle.mlir_work_mixed.specs.Mixed.{own_named}
 use Rattle.mlir_work_session.specs.declared.manner.Manner.{Manner}
 use Rattle.mlir_work_session.specs.Machine.{AsksRoom, FullSo, Obeys}
 
@@ -23,11 +24,6 @@ opening s = record { state = s; book = [] }
 -- what a bench and a book in memory are
 abbrev pub sitting_of : {B : Type 0} → (B → Listener) → Benched B → BookCode → Sitting
 sitting_of meaning bench book = record { state = state_of meaning bench; book = book_view book }
-
--- the pattern that a name of a rule is in a book
-abbrev pub own_named : RuleName → Book → Option Kept
-own_named (Numbered n) book = None
-own_named (Worded word) book = found word book
 
 -- the pattern of a book that a command names, and the operation at which it is to be applied
 abbrev pub own_of : Command → Book → Option (Kept × ℕ)

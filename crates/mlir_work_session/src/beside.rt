@@ -2,13 +2,12 @@
 ghost use Rattle.std.specs.Prelude.{◌≡◌, [], option_map};
 ghost use Rattle.ir_text.specs.Public.{IsFull};
 ghost use Rattle.mlir_work_script.specs.Commands.{said_of};
-ghost use Rattle.mlir_work_script.specs.RuleNames.{name_of};
 ghost use Rattle.mlir_work_transforms.specs.Applying.{applying_own};
 ghost use Rattle.mlir_work_transforms.specs.rewriter.Benched.{IsKept, state_of};
 ghost use Rattle.mlir_work_book.specs.Notices.{IsWithin, notice_of};
 ghost use Rattle.mlir_work_book.specs.Shelf.{book_view, kept_view};
 ghost use Rattle.mlir_work_session.specs.Machine.{FullSo, response_of};
-ghost use Rattle.mlir_work_session.specs.Sittings.{AppliesOwn, BesideRoom, ByBench, ObeysBeside, own_named, own_of, sitting_of};
+ghost use Rattle.mlir_work_session.specs.Sittings.{AppliesOwn, BesideRoom, ByBench, ObeysBeside, own_of, sitting_of};
 
 use crate::commands::obey;
 use crate::manner::Manner;
@@ -18,24 +17,14 @@ use crate::shows::{Answered, plain};
 use crate::unread::reply_within;
 use ir_event::analysis::Analysis;
 use ir_event::types::ids::OpId;
-use mlir_work_book::book::{Book, Held, find};
+use mlir_work_book::book::{Book, Held};
 use mlir_work_book::notice::{Notice, Noticed};
+use mlir_work_mixed::own::own_named;
 use mlir_work_script::command::Command;
-use mlir_work_script::rule_name::RuleName;
 use mlir_work_transforms::own;
 use mlir_work_transforms::rewriter::Bench;
 use mlir_work_transforms::rewriter::laws::led_benches_are_kept;
 use std::alloc::Global;
-
-/// The pattern that a name of a rule is in a book.
-fn own_named<'a>(book: &'a Book, name: &RuleName<'_>) -> Option<&'a Held>
-    ensures { option_map (λ h. kept_view h.now) result ≡ own_named (name_of name.now) (book_view book.now) }
-{
-    match name {
-        RuleName::Numbered(_) => None,
-        RuleName::Worded(word) => find(book, word),
-    }
-}
 
 /// The pattern of a book that a command names, and the operation at which it is to be applied.
 fn own_of<'a>(book: &'a Book, command: &Command<'_>) -> Option<(&'a Held, OpId)>

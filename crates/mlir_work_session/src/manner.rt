@@ -14,4 +14,6 @@ pub struct Manner {
     pub ends: bool,
     /// Whether types and attributes that aren't known are read as opaque ones.
     pub opaque: bool,
+    /// Whether what a refusal is about is told behind it.
+    pub explain: bool,
 }

@@ -12,7 +12,7 @@ use crate::manner::Manner;
 use crate::reply::Reply;
 use crate::shows::{Answered, plain};
 use crate::subjects::show_about;
-use crate::{tracing, transforming};
+use crate::{tracing, transforming, why};
 use ir_event::analysis::Analysis;
 use ir_event::types::refusal::Refusal;
 use ir_event::world::World;
@@ -96,5 +96,9 @@ pub fn fulfil<L: Supplied>(
             )
         }
         Order::Trace { rules, limit } => tracing::trace(alloc, manner, bench, *rules, *limit),
+        Order::CanonAt { op, limit } => {
+            plain(alloc, why::canon_at(alloc, manner, bench, *op, *limit))
+        }
+        Order::Why { op, rule } => why::why(alloc, bench, *op, *rule),
     }
 }

@@ -7,23 +7,27 @@ ghost use Rattle.mlir_work_script.specs.Orders.{order_of};
 ghost use Rattle.mlir_work_script.specs.Writes.{Puts, PutsSome};
 ghost use Rattle.mlir_work_transforms.specs.rewriter.Benched.{IsKept, state_of};
 ghost use Rattle.mlir_work_book.specs.Notices.{IsWithin, notice_of};
-ghost use Rattle.mlir_work_session.specs.Machine.{Fulfils, way_of};
+ghost use Rattle.mlir_work_session.specs.Explained.{IsAbout, about_bytes};
+ghost use Rattle.mlir_work_book.specs.Shelf.{book_view};
+ghost use Rattle.mlir_work_session.specs.Machine.{way_of};
+ghost use Rattle.mlir_work_session.specs.Mixing.{FulfilsBeside, mix_of};
 ghost use Rattle.mlir_work_session.specs.Output.{IsAnswered, IsReplied, Replies, Runs, accepted_behind as still_accepted, asks as asks_to};
 ghost use Rattle.mlir_work_session.specs.Output.{end_of, number_behind as next_number, order_asks, says_nothing, shows_alone};
 ghost use Rattle.mlir_work_session.specs.Ran.{RanOut};
 ghost use Rattle.mlir_work_session.specs.Sittings.{ByBench, sitting_of};
 
 use crate::beside::tell_command;
+use crate::explaining::{About, explained};
 use crate::listing::put_listing;
 use crate::manner::Manner;
-use crate::orders::fulfil;
+use crate::mixing::fulfil_beside;
 use crate::reply::Reply;
 use ir_event::analysis::Analysis;
 use ir_event::types::refusal::Refusal;
 use mlir_work_book::book::Book;
+use mlir_work_book::explained::put_told;
 use mlir_work_book::notice::{Notice, Noticed, is_right, replied};
 use mlir_work_book::orders::shelve;
-use mlir_work_book::putting::put_reply_text;
 use mlir_work_script::command::{Command, Line, read_line};
 use mlir_work_script::expect::expected_of;
 use mlir_work_script::lines::split_line;
@@ -51,6 +55,7 @@ fn order_asks(order: &Order<'_>) -> bool
 {
     match order {
         Order::PrintIds => true,
+        Order::Why { .. } => true,
         Order::ReportOf { .. } => true,
         _ => false,
     }
@@ -103,12 +108,12 @@ fn tell_order<L: Supplied>(
     order: &Order<'_>,
 ) -> Noticed
     requires { IsKept L.meaning bench.old }
-    ensures fulfils { ByBench (λ response u. Fulfils (way_of L.supply manner.now) (state_of L.meaning bench.old) (order_of order.now) response result.shows.items u) (sitting_of L.meaning bench.old book.now) (notice_of result.notice) (sitting_of L.meaning bench.new book.now) }
+    ensures fulfils { ByBench (λ response u. FulfilsBeside (way_of L.supply manner.now) (book_view book.now) (mix_of (order_of order.now) (book_view book.now)) (state_of L.meaning bench.old) (order_of order.now) response result.shows.items u) (sitting_of L.meaning bench.old book.now) (notice_of result.notice) (sitting_of L.meaning bench.new book.now) }
     ensures bounded { IsWithin manner.now.bytes (notice_of result.notice) }
     ensures kept { IsKept L.meaning bench.new }
     ensures mode { bench.new.desk.ctx.opaque ≡ bench.old.desk.ctx.opaque }
 {
-    let answered = fulfil(alloc, manner, bench, order);
+    let answered = fulfil_beside(alloc, manner, bench, book, order);
     Noticed {
         notice: Notice::Plain(answered.reply),
         shows: answered.shows,
@@ -139,20 +144,35 @@ pub fn answer<L: Supplied>(
     }
 }
 
+/// What stands behind the refusal of a line over a bench, where refusals are explained.
+fn about_line<L: Analysis>(
+    alloc: Global,
+    explain: bool,
+    bench: &Bench<L>,
+    line: &Line<'_>,
+    notice: &Notice,
+) -> About
+    ensures { IsAbout explain (notice_of notice.now) (spoken_of line.now) (state_of L.meaning bench.now).held (about_bytes result) }
+{
+    explained(alloc, explain, bench.world(), line, notice)
+}
+
 /// Writes a reply, what it shows, and a listing where one is due.
 fn put_answer<L: Analysis, W: Sink>(
     alloc: Global,
-    listed: bool,
+    manner: &Manner,
     bench: &Bench<L>,
     n: u64,
     expected: &Option<Refusal>,
+    line: &Line<'_>,
     answered: &Noticed,
     writer: &mut W,
 ) -> Result<(), WriteFault>
     requires { IsKept L.meaning bench.now }
-    ensures { PutsSome (IsReplied listed (state_of L.meaning bench.now) n expected.now (notice_of answered.now.notice) answered.now.shows.items) (W.stream writer.old) (W.stream writer.new) result }
+    ensures { PutsSome (IsReplied manner.now.explain (spoken_of line.now) (not manner.now.brief && not (asks_to (spoken_of line.now))) (state_of L.meaning bench.now) n expected.now (notice_of answered.now.notice) answered.now.shows.items) (W.stream writer.old) (W.stream writer.new) result }
 {
-    match put_reply_text(writer, n, expected, &answered.notice) {
+    let about = about_line(alloc, manner.explain, bench, line, &answered.notice);
+    match put_told(writer, n, expected, &answered.notice, about.bytes()) {
         Ok(()) => {}
         Err(fault) => return Err(fault),
     }
@@ -160,7 +180,7 @@ fn put_answer<L: Analysis, W: Sink>(
         Ok(()) => {}
         Err(fault) => return Err(fault),
     }
-    if listed {
+    if is_listed(manner.brief, line) {
         return put_listing(alloc, bench, writer);
     }
     Ok(())
@@ -200,8 +220,7 @@ pub fn answer_line<L: Supplied, W: Sink>(
         return Ok(None);
     }
     let answered = answer(alloc, manner, bench, book, &line);
-    let listed = is_listed(manner.brief, &line);
-    match put_answer(alloc, listed, bench, n, &expected, &answered, writer) {
+    match put_answer(alloc, manner, bench, n, &expected, &line, &answered, writer) {
         Ok(()) => {}
         Err(fault) => return Err(fault),
     }

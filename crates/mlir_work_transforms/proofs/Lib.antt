@@ -1,6 +1,7 @@
 pub mod Sweeping
 pub mod Order
 pub mod Applied
+pub mod AtRuns
 pub mod Converted
 pub mod Listed
 pub mod Named

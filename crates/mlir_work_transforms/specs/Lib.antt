@@ -1,8 +1,11 @@
 pub mod Applying
+pub mod At
+pub mod AtRuns
 pub mod Rewriting
 pub mod TraceText
 pub mod TraceLaws
 pub mod Sweep
+pub mod WhyText
 pub mod Erasing
 pub mod Interned
 pub use Rattle.conversion.specs.Converting

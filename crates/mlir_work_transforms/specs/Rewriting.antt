@@ -5,6 +5,7 @@ use Rattle.conversion.specs.rewriter.Machine.{Transformation}
 use Rattle.conversion.specs.patterns.RuleNames.{is_canonical}
 use Rattle.conversion.specs.patterns.Rule.{Rule}
 use Rattle.greedy.specs.Changes.{rewriting}
+use Rattle.greedy.specs.Trial.{by_rules}
 use Rattle.mlir_work_transforms.specs.Applying.{rule_named}
 
 -- a rule, if canonicalization tries it
@@ -23,4 +24,4 @@ rules_named (name ∷ names) =
 
 -- the transformation of a command, of at most so many rewrites
 abbrev pub rewriting_named : List RuleName → ℕ → Option Transformation
-rewriting_named names limit = option_map (λ rs. rewriting rs limit) (rules_named names)
+rewriting_named names limit = option_map (λ rs. rewriting (by_rules rs) limit) (rules_named names)

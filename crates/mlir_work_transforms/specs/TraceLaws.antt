@@ -4,16 +4,20 @@ use Rattle.std.proofs.Common.{refl, ap, sym, ◌∙◌, append-nil, append_assoc
 use Rattle.greedy.specs.declared.fired.Fired.{Fired}
 use Rattle.mlir_work_transforms.specs.TraceText.{fired_line, trace_text}
 
-pub trace_joined : (fs gs : List Fired) → trace_text (fs ++ gs) ≡ trace_text fs ++ trace_text gs
-trace_joined [] gs = refl
-trace_joined (f ∷ fs) gs =
-    ap (λ l. fired_line f ++ l) (trace_joined fs gs) ∙ sym (append_assoc (fired_line f) (trace_text fs) (trace_text gs))
+pub trace_joined : (names : List (List ℕ)) (fs gs : List Fired) → trace_text names (fs ++ gs) ≡ trace_text names fs ++ trace_text names gs
+trace_joined names [] gs = refl
+trace_joined names (f ∷ fs) gs =
+    ap (λ l. fired_line names f ++ l) (trace_joined names fs gs) ∙ sym (append_assoc (fired_line names f) (trace_text names fs) (trace_text names gs))
 
-pub untouched_lines : (xs : List ℕ) → xs ≡ xs ++ []
-untouched_lines xs = sym (append-nil xs)
+-- what was taken down behind other bytes, under the names of a list
+abbrev pub TakenDown : List Fired → List ℕ → List (List ℕ) → List ℕ → List (List ℕ) → Type 0
+TakenDown fs old names new others = (new ≡ old ++ trace_text names fs) × (others ≡ names)
 
-pub joined_lines : (fs gs : List Fired) (xs ys zs : List ℕ) → ys ≡ xs ++ trace_text fs → zs ≡ ys ++ trace_text gs
-    → zs ≡ xs ++ trace_text (fs ++ gs)
-joined_lines fs gs xs ys zs f g =
-    g ∙ ap (λ l. l ++ trace_text gs) f ∙ append_assoc xs (trace_text fs) (trace_text gs)
-    ∙ ap (λ l. xs ++ l) (sym (trace_joined fs gs))
+pub untouched_lines : (xs : List ℕ) (names : List (List ℕ)) → TakenDown [] xs names xs names
+untouched_lines xs names = (sym (append-nil xs), refl)
+
+pub joined_lines : (fs gs : List Fired) (xs ys zs : List ℕ) (names others lasts : List (List ℕ)) → TakenDown fs xs names ys others → TakenDown gs ys others zs lasts
+    → TakenDown (fs ++ gs) xs names zs lasts
+joined_lines fs gs xs ys zs names others lasts f g =
+    (g.0 ∙ ap (λ ns. ys ++ trace_text ns gs) f.1 ∙ ap (λ l. l ++ trace_text names gs) f.0 ∙ append_assoc xs (trace_text names fs) (trace_text names gs)
+    ∙ ap (λ l. xs ++ l) (sym (trace_joined names fs gs)), g.1 ∙ f.1)

@@ -1,5 +1,5 @@
 -- What is shown of rewrites that are told: a line for each, in their order.
-use Rattle.std.specs.Prelude.{ℕ, zero, suc, ◌+◌, ◌-◌, List, [], ◌∷◌, ◌++◌, Bool, true, false, Option, Some, None, codes}
+use Rattle.std.specs.Prelude.{ℕ, zero, suc, ◌+◌, ◌-◌, List, [], ◌∷◌, ◌++◌, Bool, true, false, Option, Some, None, codes, slice_get}
 use Rattle.std.specs.Fmt.{decimal}
 use Rattle.ir_event.specs.Modules.{Module}
 use Rattle.conversion.specs.rewriter.Commands.{RuleName}
@@ -9,6 +9,9 @@ use Rattle.conversion.specs.patterns.RuleNames.{number_of, word_of}
 use Rattle.conversion.specs.patterns.Rule.{Rule}
 use Rattle.greedy.specs.Changes.{canonicalizing}
 use Rattle.greedy.specs.Tracing.{trace_of}
+use Rattle.greedy.specs.Trial.{by_rules}
+use Rattle.greedy.specs.declared.fired.By.{By}
+use Rattle.greedy.specs.declared.fired.By.TheVariants as by
 use Rattle.greedy.specs.declared.fired.Fired.{Fired}
 use Rattle.mlir_work_script.specs.Values.{op_text}
 use Rattle.mlir_work_transforms.specs.Rewriting.{rewriting_named, rules_named}
@@ -32,16 +35,26 @@ gone_text false x = codes " erased " ++ op_text x
 abbrev pub rule_text : Rule → List ℕ
 rule_text r = decimal (number_of r) ++ (codes " " ++ word_of r)
 
--- `rewrote 10 regroup-constants #7 made #12,#13 erased #7`
-abbrev pub fired_line : Fired → List ℕ
-fired_line f =
-    codes "rewrote " ++ (rule_text f.rule ++ (codes " " ++ (op_text f.op ++ (made_from true f.from (f.until - f.from)
+-- the name at a place of those of a list
+abbrev pub or_nothing : Option (List ℕ) → List ℕ
+or_nothing None = []
+or_nothing (Some name) = name
+
+-- what was applied: a rule, or a pattern of one's own by its name, where these are the names of a list
+abbrev pub by_text : List (List ℕ) → By → List ℕ
+by_text names (by.Rule r) = rule_text r
+by_text names (by.Own k) = or_nothing (slice_get names k)
+
+-- `rewrote 10 regroup-constants #7 made #12,#13 erased #7`, `rewrote times_power #3 made #7,#8 erased #3`
+abbrev pub fired_line : List (List ℕ) → Fired → List ℕ
+fired_line names f =
+    codes "rewrote " ++ (by_text names f.by ++ (codes " " ++ (op_text f.op ++ (made_from true f.from (f.until - f.from)
     ++ (gone_text f.stays f.op ++ codes "\n")))))
 
 -- and of each of them
-abbrev pub trace_text : List Fired → List ℕ
-trace_text [] = []
-trace_text (f ∷ fs) = fired_line f ++ trace_text fs
+abbrev pub trace_text : List (List ℕ) → List Fired → List ℕ
+trace_text names [] = []
+trace_text names (f ∷ fs) = fired_line names f ++ trace_text names fs
 
 -- ---- of a command that tells its rewrites
 
@@ -58,4 +71,4 @@ tracing (Some names) limit = rewriting_named names limit
 -- what is told of at most so many rewrites of a module by these rules
 abbrev pub trace_by : Option (List Rule) → ℕ → Module → List ℕ
 trace_by None limit m = []
-trace_by (Some rs) limit m = trace_text (trace_of rs limit m)
+trace_by (Some rs) limit m = trace_text [] (trace_of (by_rules rs) limit m)

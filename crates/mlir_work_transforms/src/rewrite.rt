@@ -13,7 +13,7 @@ use mlir_work_script::rule_name::{RuleName, name_in};
 use std::alloc::Global;
 
 /// The rule of a name, if there is one that canonicalization tries.
-fn canonical_named(name: &RuleName<'_>) -> Option<Rule>
+pub fn canonical_named(name: &RuleName<'_>) -> Option<Rule>
     ensures { result ≡ canonical_named (name_of name.now) }
 {
     let Some(rule) = rule_named(name) else {

@@ -1,5 +1,5 @@
 //! The commands that rewrite and tell each rewrite.
-ghost use Rattle.std.specs.Prelude.{◌≡◌, ◌++◌, OnOk};
+ghost use Rattle.std.specs.Prelude.{◌≡◌, ◌++◌, OnOk, map};
 ghost use Rattle.ir_event.specs.types.Things.{Grows};
 ghost use Rattle.conversion.specs.patterns.Canonicalization.{greedy_rules};
 ghost use Rattle.conversion.specs.patterns.Rows.{AreCanonical};
@@ -9,13 +9,15 @@ ghost use Rattle.conversion.specs.rewriter.Held.{module_held};
 ghost use Rattle.conversion.specs.rewriter.Machine.{Change, IsFullSo};
 ghost use Rattle.greedy.specs.Changes.{canonical_reply, canonicalizing, rewriting};
 ghost use Rattle.greedy.specs.Tracing.{trace_of};
+ghost use Rattle.greedy.specs.Trial.{AreAttempts, attempts_of, by_attempts, by_rules};
 ghost use Rattle.mlir_work_transforms.specs.TraceText.{trace_text};
 
 use crate::trace_lines::TraceLines;
 use conversion::rewriter::Bench;
-use greedy::bench::{canonicalize_traced, rewrite_traced as rewrite_by};
+use greedy::bench::{canonicalize_traced, rewrite_traced as rewrite_by, rewrite_tried_traced};
 use greedy::outcome::Outcome;
 use greedy::patterns::rule::Rule;
+use greedy::tried::Tried;
 use ir_event::analysis::Analysis;
 use ir_event::types::refusal::Refusal;
 use std::alloc::Global;
@@ -33,7 +35,8 @@ pub fn canon_traced<L: Analysis>(
 ) -> Result<Outcome, Refusal>
     ensures does { Does L.meaning (Change (canonicalizing limit)) (canonical_reply result) bench.old bench.new }
     ensures told { OnOk result (lines.new.text.items ≡ lines.old.text.items
-        ++ trace_text (trace_of greedy_rules limit (module_held bench.old.desk))) }
+        ++ trace_text (map (λ n. n.items) lines.old.names.items)
+        (trace_of (by_rules greedy_rules) limit (module_held bench.old.desk))) }
     ensures room { IsFullSo (IsFull bench.new.desk.ctx) (state_of L.meaning bench.old) (canonicalizing limit)
         (canonical_reply result) }
     ensures led { Led L.meaning bench.old bench.new }
@@ -54,13 +57,39 @@ pub fn rewrite_traced<L: Analysis>(
     lines: &mut TraceLines,
 ) -> Result<Outcome, Refusal>
     requires { AreCanonical rules.now }
-    ensures does { Does L.meaning (Change (rewriting rules.now limit)) (canonical_reply result) bench.old bench.new }
+    ensures does { Does L.meaning (Change (rewriting (by_rules rules.now) limit)) (canonical_reply result) bench.old bench.new }
     ensures told { OnOk result (lines.new.text.items ≡ lines.old.text.items
-        ++ trace_text (trace_of rules.now limit (module_held bench.old.desk))) }
-    ensures room { IsFullSo (IsFull bench.new.desk.ctx) (state_of L.meaning bench.old) (rewriting rules.now limit)
+        ++ trace_text (map (λ n. n.items) lines.old.names.items)
+        (trace_of (by_rules rules.now) limit (module_held bench.old.desk))) }
+    ensures room { IsFullSo (IsFull bench.new.desk.ctx) (state_of L.meaning bench.old) (rewriting (by_rules rules.now) limit)
         (canonical_reply result) }
     ensures led { Led L.meaning bench.old bench.new }
     ensures grows { Grows bench.old.desk.ctx bench.new.desk.ctx }
 {
     rewrite_by(alloc, bench, rules, limit, lines)
+}
+
+/// Rewrites the module of a bench by a list of rules and patterns of one's own, as `greedy::bench::rewrite_tried` does,
+/// and appends a line for each rewrite, in their order. What was appended for one that is refused says nothing.
+///
+/// Refusals: as those of `canon_traced`.
+pub fn rewrite_own_traced<L: Analysis>(
+    alloc: Global,
+    bench: &mut Bench<L>,
+    tried: &[Tried<'_>],
+    limit: u32,
+    lines: &mut TraceLines,
+) -> Result<Outcome, Refusal>
+    requires { AreAttempts (attempts_of tried.now) }
+    ensures does { Does L.meaning (Change (rewriting (by_attempts (attempts_of tried.now)) limit))
+        (canonical_reply result) bench.old bench.new }
+    ensures told { OnOk result (lines.new.text.items ≡ lines.old.text.items
+        ++ trace_text (map (λ n. n.items) lines.old.names.items)
+        (trace_of (by_attempts (attempts_of tried.now)) limit (module_held bench.old.desk))) }
+    ensures room { IsFullSo (IsFull bench.new.desk.ctx) (state_of L.meaning bench.old)
+        (rewriting (by_attempts (attempts_of tried.now)) limit) (canonical_reply result) }
+    ensures led { Led L.meaning bench.old bench.new }
+    ensures grows { Grows bench.old.desk.ctx bench.new.desk.ctx }
+{
+    rewrite_tried_traced(alloc, bench, tried, limit, lines)
 }

@@ -1,10 +1,10 @@
 //! The lines that tell of rewrites.
-ghost use Rattle.std.specs.Prelude.{◌≡◌, ◌++◌, ◌-◌, [], OnOk, codes, true};
+ghost use Rattle.std.specs.Prelude.{◌≡◌, ◌++◌, ◌-◌, [], OnOk, codes, map, true};
 ghost use Rattle.std.specs.Fmt.{decimal};
 ghost use Rattle.mlir_work_script.specs.Values.{op_text};
-ghost use Rattle.mlir_work_transforms.specs.TraceText.{fired_line, gone_text, lead, made_from, rule_text};
+ghost use Rattle.mlir_work_transforms.specs.TraceText.{by_text, fired_line, gone_text, lead, made_from, rule_text};
 
-use greedy::fired::Fired;
+use greedy::fired::{By, Fired};
 use greedy::patterns::rule::Rule;
 use greedy::tracer::Tracer;
 use ir_event::types::ids::OpId;
@@ -12,10 +12,12 @@ use ir_event::types::refusal::Refusal;
 use mlir_work_script::cells;
 use std::alloc::{AllocError, Global};
 
-/// Tells of rewrites, with a line for each: `rewrote 4 drop-zero #7 erased #7`.
+/// Tells of rewrites, with a line for each: `rewrote 4 drop-zero #7 erased #7`. A pattern of one's own is told by its
+/// name, which stands at its place among the names of what is tried.
 #[derive(Drop)]
 pub struct TraceLines {
     pub text: Vec<u8>,
+    pub names: Vec<Vec<u8>>,
 }
 
 /// Appends a number.
@@ -26,19 +28,32 @@ fn put_number(text: &mut Vec<u8>, number: u8) -> Result<(), AllocError>
 }
 
 /// Appends an operation.
-fn put_op(text: &mut Vec<u8>, op: OpId) -> Result<(), AllocError>
+pub(crate) fn put_op(text: &mut Vec<u8>, op: OpId) -> Result<(), AllocError>
     ensures { OnOk result (text.new.items ≡ text.old.items ++ op_text op) }
 {
     cells::put_op_id(text, op).map_err(|_| AllocError)
 }
 
 /// Appends a rule, by its number and its word.
-fn put_rule(text: &mut Vec<u8>, rule: Rule) -> Result<(), AllocError>
+pub(crate) fn put_rule(text: &mut Vec<u8>, rule: Rule) -> Result<(), AllocError>
     ensures { OnOk result (text.new.items ≡ text.old.items ++ rule_text rule) }
 {
     put_number(text, rule.number())?;
     text.extend_from_slice(b" ")?;
     text.extend_from_slice(rule.word().as_bytes())
+}
+
+/// Appends what was applied.
+fn put_by(text: &mut Vec<u8>, names: &[Vec<u8>], by: By) -> Result<(), AllocError>
+    ensures { OnOk result (text.new.items ≡ text.old.items ++ by_text (map (λ n. n.items) names.now) by) }
+{
+    match by {
+        By::Rule(rule) => put_rule(text, rule),
+        By::Own(place) => match names.get(place) {
+            Some(name) => text.extend_from_slice(name),
+            None => Ok(()),
+        },
+    }
 }
 
 /// Appends what stands in front of an operation that was made.
@@ -82,50 +97,69 @@ fn put_gone(text: &mut Vec<u8>, stays: bool, op: OpId) -> Result<(), AllocError>
     put_op(text, op)
 }
 
-/// Appends the front of a line: which rule was applied at which operation.
-fn put_site(text: &mut Vec<u8>, rule: Rule, op: OpId) -> Result<(), AllocError>
-    ensures { OnOk result (text.new.items ≡ text.old.items ++ (codes "rewrote " ++ (rule_text rule ++ (codes " " ++ op_text op)))) }
+/// Appends the front of a line: what was applied at which operation.
+fn put_site(
+    text: &mut Vec<u8>,
+    names: &[Vec<u8>],
+    by: By,
+    op: OpId,
+) -> Result<(), AllocError>
+    ensures { OnOk result (text.new.items ≡ text.old.items
+        ++ (codes "rewrote " ++ (by_text (map (λ n. n.items) names.now) by ++ (codes " " ++ op_text op)))) }
 {
     text.extend_from_slice(b"rewrote ")?;
-    put_rule(text, rule)?;
+    put_by(text, names, by)?;
     text.extend_from_slice(b" ")?;
     put_op(text, op)
 }
 
 /// Appends the line of a rewrite.
-fn put_fired(text: &mut Vec<u8>, fired: &Fired) -> Result<(), AllocError>
-    ensures { OnOk result (text.new.items ≡ text.old.items ++ fired_line fired.now) }
+fn put_fired(text: &mut Vec<u8>, names: &[Vec<u8>], fired: &Fired) -> Result<(), AllocError>
+    ensures { OnOk result
+        (text.new.items ≡ text.old.items ++ fired_line (map (λ n. n.items) names.now) fired.now) }
 {
-    put_site(text, fired.rule, fired.op)?;
+    put_site(text, names, fired.by, fired.op)?;
     put_made(text, fired.from, fired.until)?;
     put_gone(text, fired.stays, fired.op)?;
     text.extend_from_slice(b"\n")
 }
 
 impl TraceLines {
-    /// Those of no rewrite.
+    /// Those of no rewrite, where rules alone are tried.
     pub fn new(alloc: Global) -> TraceLines
-        ensures { result.text.items ≡ [] }
+        ensures text { result.text.items ≡ [] }
+        ensures names { result.names.items ≡ [] }
     {
         TraceLines {
             text: Vec::new(alloc),
+            names: Vec::new(alloc),
+        }
+    }
+
+    /// Those of no rewrite, where what is tried has these names.
+    pub fn naming(alloc: Global, names: Vec<Vec<u8>>) -> TraceLines
+        ensures text { result.text.items ≡ [] }
+        ensures names { result.names ≡ names }
+    {
+        TraceLines {
+            text: Vec::new(alloc),
+            names,
         }
     }
 }
 
 impl Tracer for TraceLines {
-    ghost use Rattle.std.specs.Prelude.{◌≡◌, ◌++◌};
-    ghost use Rattle.mlir_work_transforms.specs.TraceText.{trace_text};
-    ghost use Rattle.mlir_work_transforms.specs.TraceLaws.{joined_lines, untouched_lines};
+    ghost use Rattle.std.specs.Prelude.{map};
+    ghost use Rattle.mlir_work_transforms.specs.TraceLaws.{TakenDown, joined_lines, untouched_lines};
 
-    ghost traced = { λ fs a b. b.text.items ≡ a.text.items ++ trace_text fs };
+    ghost traced = { λ fs a b. TakenDown fs a.text.items (map (λ n. n.items) a.names.items) b.text.items (map (λ n. n.items) b.names.items) };
 
-    ghost untouched = { λ t. untouched_lines t.text.items };
+    ghost untouched = { λ t. untouched_lines t.text.items (map (λ n. n.items) t.names.items) };
 
-    ghost joined = { λ fs gs a b d f g. joined_lines fs gs a.text.items b.text.items d.text.items f g };
+    ghost joined = { λ fs gs a b d f g. joined_lines fs gs a.text.items b.text.items d.text.items (map (λ n. n.items) a.names.items) (map (λ n. n.items) b.names.items) (map (λ n. n.items) d.names.items) f g };
 
     fn note(&mut self, fired: Fired) -> Result<(), Refusal> {
-        match put_fired(&mut self.text, &fired) {
+        match put_fired(&mut self.text, &self.names, &fired) {
             Ok(()) => Ok(()),
             Err(_) => Err(Refusal::Memory),
         }

@@ -9,6 +9,7 @@ pub mod Told
 pub mod Noted
 pub mod OpenMarks
 pub mod Going
+mod Leaf
 pub mod Undo
 pub mod Listening
 pub mod Rolled

@@ -39,11 +39,28 @@ fn take_all<L: Analysis>(bench: &mut Bench<L>, op: OpId) -> Result<(), Refusal>
 }
 
 impl<L: Analysis> Bench<L> {
-    /// Takes an operation out of the module, with what is inside it. It is whole or not made at all.
+    /// Takes an operation out of the module, with what is inside it. It is whole or not made at all. Most often nothing
+    /// is inside, and no value of it is used: then it is taken at once.
     ///
     /// Refusals, in order: `NoSuchOp`; `IsRoot`; `HasUses` where an operation outside it uses a value from inside; and
     /// `Memory` where a mark is open.
     pub fn erase(&mut self, op: OpId) -> Result<(), Refusal>
+        ensures does { Does L.meaning (Do (edit_meaning self.old.desk.ctx (Erase op)))
+            (reply_of result) self.old self.new }
+        ensures led { Led L.meaning self.old self.new }
+        ensures ctx { self.new.desk.ctx ≡ self.old.desk.ctx }
+        ensures journal { Keeps L.meaning result self.old self.new }
+    {
+        self.is_formed();
+        match self.take(op) {
+            Ok(()) => Ok(()),
+            Err(_) => self.erase_whole(op),
+        }
+    }
+
+    /// Takes an operation out of the module, with whatever is inside it: why it is refused is asked first, and where a
+    /// mark is open, all is taken under another.
+    fn erase_whole(&mut self, op: OpId) -> Result<(), Refusal>
         ensures does { Does L.meaning (Do (edit_meaning self.old.desk.ctx (Erase op)))
             (reply_of result) self.old self.new }
         ensures led { Led L.meaning self.old self.new }

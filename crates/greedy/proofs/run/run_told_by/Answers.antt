@@ -1,30 +1,31 @@
 use Rattle.std.proofs.Common.{◌∙◌, refl, sym, ap, inl, inr}
 use Rattle.patterns_base.specs.Canonicalization.{ended}
 use Rattle.greedy.specs.Outcomes.{count_of, ending_of}
-use Rattle.greedy.specs.Ruled.{rules_in}
+use Rattle.greedy.specs.Ruled.{trial_of}
 use Rattle.greedy.proofs.Comings.{limit_low, limit_high, limit_fits, from_start_of, limit_reason, stop_reason, stops_alike}
 use Rattle.greedy.proofs.Noting.{left_none, left_same, noted_back, noted_whole}
+use Rattle.greedy.proofs.Trials.{tries_lawful}
 use Rattle.greedy.proofs.run.run_told_by.Goals as goal
 
 pub returns-then-limit-lt1-clause-refused : goal.returns-then-limit-lt1-clause-refused
 returns-then-limit-lt1-clause-refused g c = elim c.then-limit-lt1.either [
-  | inl l ↦ limit_reason (rules_in c.args.rules.now) c.args.limit _ _ (limit_low c.args.limit l)
-  | inr p ↦ limit_reason (rules_in c.args.rules.now) c.args.limit _ _ (limit_high c.args.limit p.0 p.1)
+  | inl l ↦ limit_reason (trial_of c.args.tries.now) c.args.limit _ _ (limit_low c.args.limit l)
+  | inr p ↦ limit_reason (trial_of c.args.tries.now) c.args.limit _ _ (limit_high c.args.limit p.0 p.1)
 ]
 
 pub returns-in-Err-clause-refused : goal.returns-in-Err-clause-refused
-returns-in-Err-clause-refused g c = stop_reason (rules_in c.args.rules.now) c.args.limit _ _ _ (limit_fits c.args.limit c.if-limit-lt1.false c.if-limit-gt1000000.false) (inl refl)
+returns-in-Err-clause-refused g c = stop_reason (trial_of c.args.tries.now) (tries_lawful c.args.tries.now c.requires).counts c.args.limit _ _ _ (limit_fits c.args.limit c.if-limit-lt1.false c.if-limit-gt1000000.false) (inl refl)
 
 pub returns-in-Ok-rewritten-clause-ok : goal.returns-in-Ok-rewritten-clause-ok
 returns-in-Ok-rewritten-clause-ok g c =
-    from_start_of (rules_in c.args.rules.now) c.args.limit _ _ (limit_fits c.args.limit c.if-limit-lt1.false c.if-limit-gt1000000.false) c.in-Ok.ensures.held
+    from_start_of (trial_of c.args.tries.now) c.args.limit _ _ (limit_fits c.args.limit c.if-limit-lt1.false c.if-limit-gt1000000.false) c.in-Ok.ensures.held
     ∙ c.in-Ok-rewritten.ensures.ok
     ∙ ap (λ m. ended m (count_of c.in-Ok-rewritten.outcome) (ending_of c.in-Ok-rewritten.outcome)) (sym c.commit.ensures.held)
 
 pub returns-in-Err-rewritten-clause-refused : goal.returns-in-Err-rewritten-clause-refused
 returns-in-Err-rewritten-clause-refused g c =
-    stop_reason (rules_in c.args.rules.now) c.args.limit _ _ c.in-Err-rewritten.refusal (limit_fits c.args.limit c.if-limit-lt1.false c.if-limit-gt1000000.false)
-    (stops_alike (rules_in c.args.rules.now) c.args.limit _ _ _ _ c.in-Err-rewritten.refusal c.in-Ok.ensures.held (g.R.Rewriting.stays_full _ _ c.rollback.ensures.onward) c.in-Err-rewritten.ensures.refused)
+    stop_reason (trial_of c.args.tries.now) (tries_lawful c.args.tries.now c.requires).counts c.args.limit _ _ c.in-Err-rewritten.refusal (limit_fits c.args.limit c.if-limit-lt1.false c.if-limit-gt1000000.false)
+    (stops_alike (trial_of c.args.tries.now) c.args.limit _ _ _ _ c.in-Err-rewritten.refusal c.in-Ok.ensures.held (g.R.Rewriting.stays_full _ _ c.rollback.ensures.onward) c.in-Err-rewritten.ensures.refused)
 
 pub returns-in-Ok-rewritten-clause-onward : goal.returns-in-Ok-rewritten-clause-onward
 returns-in-Ok-rewritten-clause-onward g c =

@@ -1,4 +1,4 @@
-use Rattle.std.proofs.Common.{sym, ◌∙◌}
+use Rattle.std.proofs.Common.{sym}
 use Rattle.greedy.proofs.Following.{before_precedes, not_behind}
 use Rattle.greedy.proofs.walk.precedes.Goals as goal
 

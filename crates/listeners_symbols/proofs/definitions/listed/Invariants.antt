@@ -1,7 +1,8 @@
 use Rattle.std.proofs.Common.{◌≡◌, ◌++◌}
-use Rattle.listeners_symbols.specs.Symbols.{definitions}
-use Rattle.listeners_symbols.specs.Lines.{numbered}
+use Rattle.listeners_symbols.specs.Listeners.{kept_at}
+use Rattle.listeners_symbols.specs.Lines.{defined_by}
+use Rattle.listeners_symbols.specs.Telling.{told}
 use Rattle.listeners_symbols.proofs.definitions.listed.Given as goal
 
 abbrev pub invariant-loop-op : goal.invariant-loop-op
-invariant-loop-op l = l.out.items ++ definitions (numbered l.op-iterator) ≡ definitions (numbered l.fn.roles.entries)
+invariant-loop-op l = l.out.items ++ told defined_by (kept_at l.fn.roles) l.op-iterator ≡ told defined_by (kept_at l.fn.roles) l.fn.roles.telling.keys

@@ -11,6 +11,6 @@ returns c =
     let ds = c.args.definitions.now in
     subst (λ z. OnOk c.push_mismatches.result (cells_of c.push_mismatches.new.out.items ≡ z))
     (five_groups (cells_of c.args.out.now.items) (cells_of c.push_definitions.new.out.items) (cells_of c.push_duplicates.new.out.items) (cells_of c.push_all_references.new.out.items) (cells_of c.push_all_references-2.new.out.items)
-    (definition_lines ds) (duplicate_lines eqb ds ds) (all_reference_lines eqb (numbers_at m) ds true (numbered m.entries)) (all_reference_lines eqb (numbers_at m) ds false (numbered m.entries)) (mismatch_lines eqb eqb (numbers_at m) ds (numbered m.entries))
+    (definition_lines ds) (duplicate_lines eqb ds ds) (all_reference_lines eqb (numbers_at m) ds true (numbered m.all.entries)) (all_reference_lines eqb (numbers_at m) ds false (numbered m.all.entries)) (mismatch_lines eqb eqb (numbers_at m) ds (numbered m.all.entries))
     c.in_ok-push_definitions.ensures c.in_ok-push_duplicates.ensures c.in_ok-push_all_references.ensures c.in_ok-push_all_references-2.ensures)
     c.push_mismatches.ensures

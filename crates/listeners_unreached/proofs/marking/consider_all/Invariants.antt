@@ -1,8 +1,7 @@
 use Rattle.std.proofs.Common.{◌≡◌, ℕ, List, ◌++◌}
-use Rattle.std.specs.Map.{keys_of}
 use Rattle.listeners_symbols.specs.Lines.{numbers_at}
 use Rattle.listeners_unreached.specs.Marks.{ConsideredIn}
 use Rattle.listeners_unreached.proofs.marking.consider_all.Given as goal
 
 abbrev pub invariant-loop-op : goal.invariant-loop-op
-invariant-loop-op l = (done : List ℕ) × (done ++ keys_of l.op-iterator ≡ keys_of l.fn.roles.entries) × ConsideredIn (numbers_at l.fn.roles) l.fn.definitions done l.fn.pending l.fn.left l.pending l.left
+invariant-loop-op l = (done : List ℕ) × (done ++ l.op-iterator ≡ l.fn.roles.telling.keys) × ConsideredIn (numbers_at l.fn.roles) l.fn.definitions done l.fn.pending l.fn.left l.pending l.left

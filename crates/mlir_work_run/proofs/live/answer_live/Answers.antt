@@ -3,7 +3,7 @@ use Rattle.ir_event.specs.types.declared.refusal.Refusal.TheVariants.{Memory}
 use Rattle.mlir_work_lines.specs.Feeding.{waiting}
 use Rattle.mlir_work_session.specs.Limits.{most_input_bytes}
 use Rattle.mlir_work_session.specs.Panels.{all_shown}
-use Rattle.mlir_work_run.specs.Whole.{IsRefusal, setting_of}
+use Rattle.mlir_work_run.specs.Whole.{IsRefusal, cause_if, setting_of}
 use Rattle.mlir_work_run.proofs.Lives.{live_failed, live_ran, live_refused, live_unread, more_of, read_behind, true_of}
 use Rattle.mlir_work_run.proofs.live.answer_live.Goals as goal
 
@@ -18,7 +18,7 @@ returns-in-Err-Broken-clause-ended g c = live_unread (setting_of g.L.Supplied.su
 
 pub returns-in-Err-Memory-clause-ended : goal.returns-in-Err-Memory-clause-ended
 returns-in-Err-Memory-clause-ended g c =
-    live_refused (setting_of g.L.Supplied.supply c.args.options) (all_shown g.L.Analysis.meaning c.args.boxes.items) (g.R.Source.intake c.args.reader.now).remaining (IsRefusal c.no_memory.result.refusal c.no_memory.result.offset) (λ input. input ≡ input) (g.W.Sink.stream c.args.writer.now) (g.W.Sink.stream c.flush.new.writer) (g.W.Sink.stream c.refuse.new.writer) (g.W.Sink.handed c.refuse.new.writer) c.refuse.result c.halted.result c.halted.ensures (true_of (g.R.Source.intake c.args.reader.now).remaining) (λ input why lines st out h. inr (inl (Memory, None, refl, rw (c.no_memory.ensures.refusal, c.no_memory.ensures.offset) at h))) c.in-Ok.ensures.stays c.refuse.ensures
+    live_refused (setting_of g.L.Supplied.supply c.args.options) (all_shown g.L.Analysis.meaning c.args.boxes.items) (g.R.Source.intake c.args.reader.now).remaining (IsRefusal c.no_memory.result.refusal c.no_memory.result.offset (cause_if c.args.options.explain c.no_memory.result.cause)) (λ input. input ≡ input) (g.W.Sink.stream c.args.writer.now) (g.W.Sink.stream c.flush.new.writer) (g.W.Sink.stream c.refuse.new.writer) (g.W.Sink.handed c.refuse.new.writer) c.refuse.result c.halted.result c.halted.ensures (true_of (g.R.Source.intake c.args.reader.now).remaining) (λ input why lines st out h. inr (inl (Memory, None, refl, rw (c.no_memory.ensures.refusal, c.no_memory.ensures.offset, c.no_memory.ensures.cause) at h))) c.in-Ok.ensures.stays c.refuse.ensures
 
 pub returns-in-Err-TooMany-clause-ended : goal.returns-in-Err-TooMany-clause-ended
 unfolding most_input_bytes

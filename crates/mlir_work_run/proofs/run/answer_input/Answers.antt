@@ -8,7 +8,7 @@ use Rattle.mlir_work_session.specs.Panels.{all_shown}
 use Rattle.mlir_work_session.specs.Parts.{module_text, script_text}
 use Rattle.mlir_work_session.specs.Output.{IsSession}
 use Rattle.mlir_work_session.specs.declared.manner.Manner.{Manner}
-use Rattle.mlir_work_run.specs.Whole.{IsOutput, IsRefusal, setting_of, way_at}
+use Rattle.mlir_work_run.specs.Whole.{IsOutput, IsRefusal, cause_if, setting_of, way_at}
 use Rattle.mlir_work_run.proofs.Ended.{ran_so}
 use Rattle.mlir_work_run.proofs.Numbered.{numbered_meaning, formed_meaning, world_is}
 use Rattle.mlir_work_run.proofs.run.answer_input.Goals as goal
@@ -20,7 +20,7 @@ pub hold-requires-clause-formed : goal.hold-requires-clause-formed
 hold-requires-clause-formed g c = formed_meaning c.in-Ok.parts.0.0 c.in-Ok.parts.0.1 c.in-Ok.ensures.read.holds.spells.formed
 
 pub returns-in-Err : goal.returns-in-Err
-returns-in-Err g c = ran_so (IsRefusal c.in-Err.unread.refusal c.in-Err.unread.offset) (IsOutput (setting_of g.L.Supplied.supply c.args.options) (all_shown g.L.Analysis.meaning c.args.boxes.items) c.args.input.items) (g.W.Sink.stream c.args.writer.now) (g.W.Sink.stream c.refuse.new.writer) (g.W.Sink.handed c.refuse.new.writer) c.refuse.result (λ st o h. inr (c.requires, inl (c.in-Err.unread.refusal, c.in-Err.unread.offset, c.in-Err.ensures.unread, h))) c.refuse.ensures
+returns-in-Err g c = ran_so (IsRefusal c.in-Err.unread.refusal c.in-Err.unread.offset (cause_if c.args.options.explain c.in-Err.unread.cause)) (IsOutput (setting_of g.L.Supplied.supply c.args.options) (all_shown g.L.Analysis.meaning c.args.boxes.items) c.args.input.items) (g.W.Sink.stream c.args.writer.now) (g.W.Sink.stream c.refuse.new.writer) (g.W.Sink.handed c.refuse.new.writer) c.refuse.result (λ st o h. inr (c.requires, inl (c.in-Err.unread.refusal, c.in-Err.unread.offset, c.in-Err.ensures.unread, rw c.in-Err.ensures.cause at h))) c.refuse.ensures
 
 pub returns-then-asks_for_prints : goal.returns-then-asks_for_prints
 returns-then-asks_for_prints g c =
@@ -30,7 +30,7 @@ returns-then-asks_for_prints g c =
     ran_so (IsSession (way_at (setting_of g.L.Supplied.supply c.args.options) (length c.args.input.items)) (all_shown g.L.Analysis.meaning c.args.boxes.items) meant (script_text c.args.input.items)) (IsOutput (setting_of g.L.Supplied.supply c.args.options) (all_shown g.L.Analysis.meaning c.args.boxes.items) c.args.input.items) (g.W.Sink.stream c.args.writer.now) (g.W.Sink.stream c.answer_prints.new.writer) (g.W.Sink.handed c.answer_prints.new.writer) c.answer_prints.result (λ st o h. inr (c.requires, inr (meant, world, h))) ran
 
 pub returns-in_default : goal.returns-in_default
-returns-in_default g c = ran_so (IsRefusal c.no_memory.result.refusal c.no_memory.result.offset) (IsOutput (setting_of g.L.Supplied.supply c.args.options) (all_shown g.L.Analysis.meaning c.args.boxes.items) c.args.input.items) (g.W.Sink.stream c.args.writer.now) (g.W.Sink.stream c.refuse-in_default.new.writer) (g.W.Sink.handed c.refuse-in_default.new.writer) c.refuse-in_default.result (λ st o h. inr (c.requires, inl (Memory, None, refl, rw (c.no_memory.ensures.refusal, c.no_memory.ensures.offset) at h))) c.refuse-in_default.ensures
+returns-in_default g c = ran_so (IsRefusal c.no_memory.result.refusal c.no_memory.result.offset (cause_if c.args.options.explain c.no_memory.result.cause)) (IsOutput (setting_of g.L.Supplied.supply c.args.options) (all_shown g.L.Analysis.meaning c.args.boxes.items) c.args.input.items) (g.W.Sink.stream c.args.writer.now) (g.W.Sink.stream c.refuse-in_default.new.writer) (g.W.Sink.handed c.refuse-in_default.new.writer) c.refuse-in_default.result (λ st o h. inr (c.requires, inl (Memory, None, refl, rw (c.no_memory.ensures.refusal, c.no_memory.ensures.offset, c.no_memory.ensures.cause) at h))) c.refuse-in_default.ensures
 
 pub returns : goal.returns
 returns g c =

@@ -21,7 +21,7 @@ returns-in-Err-TooMany-clause-ran g c =
 pub returns-in-Err-Memory-clause-ran : goal.returns-in-Err-Memory-clause-ran
 returns-in-Err-Memory-clause-ran g c =
     let due : List ℕ → ℕ → List ℕ → Type 0 = IsOutput (setting_of g.L.Supplied.supply c.args.options) (all_shown g.L.Analysis.meaning c.args.boxes.items) in
-    if_some _ (λ input. length input ≤ most_input_bytes) _ (λ input short. ended_so _ (due input) (g.W.Sink.stream c.args.writer.now) (g.W.Sink.stream c.refuse-in-Err-Memory.new.writer) (g.W.Sink.handed c.refuse-in-Err-Memory.new.writer) c.refuse-in-Err-Memory.result _ c.ended-in-Err-Memory.ensures (λ st o h. inr (short, inl (Memory, None, refl, rw (c.no_memory.ensures.refusal, c.no_memory.ensures.offset) at h))) c.refuse-in-Err-Memory.ensures) (c.in-Err-Memory.ensures.memory c.in-Err-Memory.field-0-is)
+    if_some _ (λ input. length input ≤ most_input_bytes) _ (λ input short. ended_so _ (due input) (g.W.Sink.stream c.args.writer.now) (g.W.Sink.stream c.refuse-in-Err-Memory.new.writer) (g.W.Sink.handed c.refuse-in-Err-Memory.new.writer) c.refuse-in-Err-Memory.result _ c.ended-in-Err-Memory.ensures (λ st o h. inr (short, inl (Memory, None, refl, rw (c.no_memory.ensures.refusal, c.no_memory.ensures.offset, c.no_memory.ensures.cause) at h))) c.refuse-in-Err-Memory.ensures) (c.in-Err-Memory.ensures.memory c.in-Err-Memory.field-0-is)
 
 pub returns-clause-leaves : goal.returns-clause-leaves
 returns-clause-leaves g c = leaves (IsOutput (setting_of g.L.Supplied.supply c.args.options) (all_shown g.L.Analysis.meaning c.args.boxes.items) c.in-Ok.input.items) (g.R.Source.intake c.args.reader.now) (g.R.Source.intake c.read_all.new.reader) (g.W.Sink.stream c.args.writer.now) (g.W.Sink.stream c.answer_input.new.writer) (g.W.Sink.handed c.answer_input.new.writer) c.answer_input.result _ c.ended-2.ensures (λ st o h. final_output (setting_of g.L.Supplied.supply c.args.options) (all_shown g.L.Analysis.meaning c.args.boxes.items) c.in-Ok.input.items st o h) c.in-Ok.ensures.read c.answer_input.ensures

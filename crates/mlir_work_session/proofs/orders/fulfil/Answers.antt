@@ -20,3 +20,14 @@ returns-in-Trace-clause-room g c = orders_room_plainly _ (way_of g.L.Supplied.su
 
 pub returns-in-ReportOf-clause-fulfils : goal.returns-in-ReportOf-clause-fulfils
 returns-in-ReportOf-clause-fulfils g c = fulfils_alike (way_of g.L.Supplied.supply c.args.manner.now) _ _ _ _ _ _ (ap order_of c.in-ReportOf.is) (c.show_about.ensures (way_of g.L.Supplied.supply c.args.manner.now))
+
+pub returns-in-CanonAt-clause-fulfils : goal.returns-in-CanonAt-clause-fulfils
+returns-in-CanonAt-clause-fulfils g c =
+    fulfils_plainly (way_of g.L.Supplied.supply c.args.manner.now) _ _ _ _ _ _ _ (ap order_of c.in-CanonAt.is) (ap response_of c.plain-in-CanonAt.ensures.reply) c.plain-in-CanonAt.ensures.shows (c.canon_at.ensures.fulfils g.L.Supplied.supply)
+
+pub returns-in-CanonAt-clause-room : goal.returns-in-CanonAt-clause-room
+returns-in-CanonAt-clause-room g c =
+    orders_room_plainly _ (way_of g.L.Supplied.supply c.args.manner.now) _ _ _ _ _ (ap order_of c.in-CanonAt.is) (ap response_of c.plain-in-CanonAt.ensures.reply) c.canon_at.ensures.room
+
+pub returns-in-Why-clause-fulfils : goal.returns-in-Why-clause-fulfils
+returns-in-Why-clause-fulfils g c = fulfils_alike (way_of g.L.Supplied.supply c.args.manner.now) _ _ _ _ _ _ (ap order_of c.in-Why.is) (c.why.ensures (way_of g.L.Supplied.supply c.args.manner.now))

@@ -20,7 +20,7 @@ returns-in-Err-clause-answered g c =
       Some (is_right (line_expects c.args.line.now) reply),
       text ++ end_of way.manner.ends,
       told_of way c.args.n (sitting_of meaning c.args.bench.now c.args.book.now) (line_expects c.args.line.now) (spoken_of c.read_line-line.result) (line_says c.args.line.now) reply c.answer-answered.result.shows.items (sitting_of meaning c.answer-answered.new.bench c.answer-answered.new.book) text (is_right (line_expects c.args.line.now) reply)
-          c.read_line-line.ensures c.if-is_nothing.ensures c.answer-answered.ensures.replies (rw (c.is_listed-listed.ensures, c.expected_of-expected.ensures) at c.in-Err.ensures.1) c.answer-answered.ensures.bounded refl,
+          c.read_line-line.ensures c.if-is_nothing.ensures c.answer-answered.ensures.replies (rw c.expected_of-expected.ensures at c.in-Err.ensures.1) c.answer-answered.ensures.bounded refl,
       front_more (g.W.Sink.stream c.args.writer.now) (g.W.Sink.stream c.put_answer.new.writer) text (end_of way.manner.ends) c.in-Err.ensures.2,
     )
 
@@ -32,7 +32,7 @@ returns-in-Ok-put_end-clause-answered g c =
     let reply = notice_of c.answer-answered.result.notice in (
       text ++ end_of way.manner.ends,
       told_of way c.args.n (sitting_of meaning c.args.bench.now c.args.book.now) (line_expects c.args.line.now) (spoken_of c.read_line-line.result) (line_says c.args.line.now) reply c.answer-answered.result.shows.items (sitting_of meaning c.answer-answered.new.bench c.answer-answered.new.book) text _
-          c.read_line-line.ensures c.if-is_nothing.ensures c.answer-answered.ensures.replies (rw (c.is_listed-listed.ensures, c.expected_of-expected.ensures) at c.in-Ok.ensures.1) c.answer-answered.ensures.bounded (rw c.expected_of-expected.ensures at c.is_right.ensures),
+          c.read_line-line.ensures c.if-is_nothing.ensures c.answer-answered.ensures.replies (rw c.expected_of-expected.ensures at c.in-Ok.ensures.1) c.answer-answered.ensures.bounded (rw c.expected_of-expected.ensures at c.is_right.ensures),
       grows_join (g.W.Sink.stream c.args.writer.now) (g.W.Sink.stream c.put_answer.new.writer) (g.W.Sink.stream c.put_end.new.writer) text (end_of way.manner.ends) c.in-Ok.ensures.2 c.in-Ok-put_end.ensures,
     )
 
@@ -45,6 +45,6 @@ returns-clause-answered g c =
       Some (is_right (line_expects c.args.line.now) reply),
       text ++ end_of way.manner.ends,
       told_of way c.args.n (sitting_of meaning c.args.bench.now c.args.book.now) (line_expects c.args.line.now) (spoken_of c.read_line-line.result) (line_says c.args.line.now) reply c.answer-answered.result.shows.items (sitting_of meaning c.answer-answered.new.bench c.answer-answered.new.book) text (is_right (line_expects c.args.line.now) reply)
-          c.read_line-line.ensures c.if-is_nothing.ensures c.answer-answered.ensures.replies (rw (c.is_listed-listed.ensures, c.expected_of-expected.ensures) at c.in-Ok.ensures.1) c.answer-answered.ensures.bounded refl,
+          c.read_line-line.ensures c.if-is_nothing.ensures c.answer-answered.ensures.replies (rw c.expected_of-expected.ensures at c.in-Ok.ensures.1) c.answer-answered.ensures.bounded refl,
       front_join (g.W.Sink.stream c.args.writer.now) (g.W.Sink.stream c.put_answer.new.writer) (g.W.Sink.stream c.put_end.new.writer) text (end_of way.manner.ends) c.in-Ok.ensures.2 c.in-Err-put_end.ensures,
     )

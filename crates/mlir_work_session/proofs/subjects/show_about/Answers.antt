@@ -4,7 +4,7 @@ use Rattle.ir_event.specs.Modules.{module_in}
 use Rattle.ir_event.specs.Panels.{is_kind as has_this_kind}
 use Rattle.mlir_work_session_base.specs.Subjects.{is_there}
 use Rattle.mlir_work_session.proofs.About.{about_none, about_rows, about_stale, about_unheld, rows_held, there_held}
-use Rattle.mlir_work_session.proofs.Fulfilling.{fulfils_absent}
+use Rattle.mlir_work_session.proofs.Fulfilling.{fulfils_no_subject}
 use Rattle.mlir_work_session.proofs.Panels.{find_has}
 use Rattle.mlir_work_session.proofs.Reading.{held_agrees}
 use Rattle.mlir_work_session.proofs.subjects.show_about.Goals as goal
@@ -14,7 +14,7 @@ returns-then-not-is_there g c way =
     let h = c.args.bench.now.desk in
     let w = c.world-world.result.now in
     let gone : is_there c.args.subject.now (module_in w).tree ≡ false = search rules in
-    rw (c.plain.ensures.reply, c.plain.ensures.shows, c.absent.ensures) (fulfils_absent way c.args.kind c.args.subject.now _ (there_held h w c.world-world.ensures.ctx c.world-world.ensures.store c.args.subject.now false gone))
+    rw (c.plain.ensures.reply, c.plain.ensures.shows, c.absent.ensures) (fulfils_no_subject way c.args.kind c.args.subject.now _ (there_held h w c.world-world.ensures.ctx c.world-world.ensures.store c.args.subject.now false gone))
 
 pub text_about-requires : goal.text_about-requires
 text_about-requires g c =

@@ -1,4 +1,4 @@
-use Rattle.std.proofs.Common.{ap, sym, inr, Some, None}
+use Rattle.std.proofs.Common.{ap, sym, inr, map, ℕ, List, Some, None, Vec, Global}
 use Rattle.mlir_work_transforms.specs.greedy.Changes.{canonicalizing}
 use Rattle.mlir_work_transforms.specs.rewriter.Benched.{state_of}
 use Rattle.mlir_work_session.specs.Machine.{way_of}
@@ -9,7 +9,7 @@ use Rattle.mlir_work_session.proofs.tracing.canon.Goals as goal
 pub returns-clause-fulfils : goal.returns-clause-fulfils
 returns-clause-fulfils g c supply =
     fulfils_told (way_of supply c.args.manner.now) None c.args.limit (canonicalizing c.limit_of.result) _ _ _ _ _ (ap (λ n. Some (canonicalizing n)) (sym c.limit_of.ensures)) c.told.ensures.reply c.canon_traced-called.ensures.does
-    (told_trace _ _ _ _ _ _ _ _ c.limit_of.ensures c.new-lines.ensures c.canon_traced-called.ensures.told c.told.ensures.shows)
+    (told_trace _ _ _ _ _ _ _ _ _ c.limit_of.ensures c.new-lines.ensures.text (ap (λ (ns : List (Vec ℕ Global)). map (λ n. n.items) ns) c.new-lines.ensures.names) c.canon_traced-called.ensures.told c.told.ensures.shows)
 
 pub returns-clause-room : goal.returns-clause-room
 returns-clause-room g c f is =

@@ -1,7 +1,8 @@
-use Rattle.std.proofs.Common.{◌≡◌, ◌∙◌, ap, sym, inr, Some}
+use Rattle.std.proofs.Common.{◌≡◌, ◌∙◌, ap, sym, inr, map, ℕ, List, Some, Vec, Global}
 use Rattle.std.specs.Prelude.{option_map}
 use Rattle.ir_event.specs.types.declared.refusal.Refusal.TheVariants.{Full, Memory}
 use Rattle.mlir_work_transforms.specs.greedy.Changes.{rewriting}
+use Rattle.mlir_work_transforms.specs.greedy.Trial.{by_rules}
 use Rattle.mlir_work_script.specs.RuleNames.{names_of}
 use Rattle.mlir_work_session.specs.Machine.{limit_or, way_of}
 use Rattle.mlir_work_session.proofs.Fulfilling.{fulfils_forgot, fulfils_told, fulfils_untold, told_named}
@@ -10,7 +11,7 @@ use Rattle.mlir_work_session.proofs.tracing.rewrite.Goals as goal
 
 pub returns-in-Ok-None-clause-fulfils : goal.returns-in-Ok-None-clause-fulfils
 returns-in-Ok-None-clause-fulfils g c supply =
-    rw (c.plain.ensures.reply, c.plain.ensures.shows) (fulfils_untold (way_of supply c.args.manner.now) (Some (names_of c.args.rules.now)) c.args.limit _ (sym (ap (option_map (λ rs. rewriting rs (limit_or c.args.manner.now.limit c.args.limit))) (rw c.in-Ok-None.field-0-is at c.in-Ok-None.ensures.rules))))
+    rw (c.plain.ensures.reply, c.plain.ensures.shows) (fulfils_untold (way_of supply c.args.manner.now) (Some (names_of c.args.rules.now)) c.args.limit _ (sym (ap (option_map (λ rs. rewriting (by_rules rs) (limit_or c.args.manner.now.limit c.args.limit))) (rw c.in-Ok-None.field-0-is at c.in-Ok-None.ensures.rules))))
 
 pub returns-in-Ok-None-clause-room : goal.returns-in-Ok-None-clause-room
 returns-in-Ok-None-clause-room g c f is = rw (c.plain.ensures.reply) (other_room _ _ f _ (λ e. cc))
@@ -26,14 +27,14 @@ pub returns-clause-fulfils : goal.returns-clause-fulfils
 returns-clause-fulfils g c supply =
     let names = names_of c.args.rules.now in
     let rules = rw c.in-Ok-Some.field-0-is at c.in-Ok-Some.ensures.rules in
-    fulfils_told (way_of supply c.args.manner.now) (Some names) c.args.limit (rewriting c.in-Ok-Some.rules.items c.limit_of.result) _ _ _ _ _ (rules_rewrite names _ _ _ rules c.limit_of.ensures) c.told.ensures.reply (rw c.deref.ensures.value at c.rewrite_traced-called.ensures.does)
-    (told_named names c.in-Ok-Some.rules.items _ _ _ _ _ _ _ rules c.limit_of.ensures c.new-lines.ensures (rw c.deref.ensures.value at c.rewrite_traced-called.ensures.told) c.told.ensures.shows)
+    fulfils_told (way_of supply c.args.manner.now) (Some names) c.args.limit (rewriting (by_rules c.in-Ok-Some.rules.items) c.limit_of.result) _ _ _ _ _ (rules_rewrite names _ _ _ rules c.limit_of.ensures) c.told.ensures.reply (rw c.deref.ensures.value at c.rewrite_traced-called.ensures.does)
+    (told_named names c.in-Ok-Some.rules.items _ _ _ _ _ _ _ _ rules c.limit_of.ensures c.new-lines.ensures.text (ap (λ (ns : List (Vec ℕ Global)). map (λ n. n.items) ns) c.new-lines.ensures.names) (rw c.deref.ensures.value at c.rewrite_traced-called.ensures.told) c.told.ensures.shows)
 
 pub returns-clause-room : goal.returns-clause-room
 returns-clause-room g c f is =
     let names = names_of c.args.rules.now in
     let rules = rw c.in-Ok-Some.field-0-is at c.in-Ok-Some.ensures.rules in
-    traced_room _ _ f (rewriting c.in-Ok-Some.rules.items c.limit_of.result) _ _ _ _ (λ more. inr more) (rules_rewrite names _ _ _ rules c.limit_of.ensures) is c.told.ensures.reply (rw c.deref.ensures.value at c.rewrite_traced-called.ensures.room)
+    traced_room _ _ f (rewriting (by_rules c.in-Ok-Some.rules.items) c.limit_of.result) _ _ _ _ (λ more. inr more) (rules_rewrite names _ _ _ rules c.limit_of.ensures) is c.told.ensures.reply (rw c.deref.ensures.value at c.rewrite_traced-called.ensures.room)
 
 pub returns-clause-kept : goal.returns-clause-kept
 returns-clause-kept g c = c.led_benches_are_kept.ensures.kept _ _ c.rewrite_traced-called.ensures.led c.requires

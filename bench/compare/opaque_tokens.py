@@ -1,0 +1,102 @@
+#!/usr/bin/env python3
+"""Modules with opaque terms of which each token is dropped, doubled, and exchanged with the next, one at a time: what a
+program answers with `--opaque` beside what the rules in Python say: read alike, or refused alike at the same byte.
+
+usage: bench/compare/opaque_tokens.py PROGRAM [--most MOST] [--seed SEED] [--processes COUNT]
+
+The modules are those of `tests/opaque/modules.tar.xz`. Of a module that has more than MOST tokens (300) as many are
+taken by chance. Each difference is printed, and the status is 1 where there is one."""
+import argparse
+import multiprocessing
+import pathlib
+import random
+import re
+import subprocess
+import sys
+import tarfile
+
+sys.dont_write_bytecode = True
+ROOT = pathlib.Path(__file__).resolve().parents[2]
+sys.path.append(str(ROOT / "bench"))  # where the other rooms are
+
+from reference import aliases, module, rules, script  # noqa: E402
+
+MODULES = ROOT / "tests" / "opaque" / "modules.tar.xz"
+DIVIDER = b"\n// -----\nprint\n"
+TOKEN = re.compile(rb'@?"(?:[^"\\\n]|\\.)*"|//[^\n]*|->|[%#!^@][\w.$-]*(?::\d+)?|[A-Za-z_][\w.$-]*|\d[\w.+]*|\S', re.S)
+WAYS = ("dropped", "doubled", "exchanged")
+
+
+def modules():
+    """Name and text of each module that is to be read."""
+    with tarfile.open(MODULES) as held:
+        for member in held.getmembers():
+            if member.name.endswith(".mlir"):
+                yield member.name, held.extractfile(member).read()
+
+
+def changed(text, places, at, way):
+    """A text of which one token is changed."""
+    begin, end = places[at]
+    if way == "dropped":
+        return text[:begin] + text[end:]
+    if way == "doubled":
+        return text[:end] + b" " + text[begin:end] + text[end:]
+    first, last = places[at + 1]
+    return text[:begin] + text[first:last] + text[end:first] + text[begin:end] + text[last:]
+
+
+def is_open(text):
+    """Whether the rules leave open what is to be said of a text."""
+    try:
+        module.read(text, aliases.Reader)
+    except rules.Refused:
+        pass
+    except rules.Open:
+        return True
+    return False
+
+
+def differences(asked):
+    """How many texts of a module were tried, how many of them are read, and those that are answered otherwise."""
+    program, name, text, most, seed = asked
+    places, tried, read, found = [it.span() for it in TOKEN.finditer(text)], 0, 0, []
+    taken = range(len(places))
+    if len(places) > most:
+        taken = sorted(random.Random(f"{seed} {name}").sample(taken, most))
+    for at in taken:
+        for way in WAYS:
+            if way == "exchanged" and at + 1 == len(places):
+                continue
+            one = changed(text, places, at, way)
+            if is_open(one):
+                continue
+            ran = subprocess.run([program, "--brief", "--opaque"], input=one + DIVIDER, capture_output=True,
+                                 check=False)
+            wanted = script.run_opaque(one + DIVIDER)
+            tried, read = tried + 1, read + (ran.returncode == 0)
+            if (ran.returncode, ran.stdout) != wanted:
+                found.append((name, way, places[at], wanted, (ran.returncode, ran.stdout)))
+    return tried, read, found
+
+
+def main():
+    parser = argparse.ArgumentParser(description=__doc__, formatter_class=argparse.RawDescriptionHelpFormatter)
+    parser.add_argument("program")
+    parser.add_argument("--most", type=int, default=300)
+    parser.add_argument("--seed", type=int, default=1)
+    parser.add_argument("--processes", type=int, default=1)
+    asked = parser.parse_args()
+    program, tried, read, wrong = str(pathlib.Path(asked.program).resolve()), 0, 0, 0
+    work = [(program, name, text, asked.most, asked.seed) for name, text in modules()]
+    with multiprocessing.Pool(asked.processes) as pool:
+        for one, good, found in pool.imap_unordered(differences, work):
+            tried, read, wrong = tried + one, read + good, wrong + len(found)
+            for name, way, place, wanted, said in found:
+                print(f"{name}: token at {place[0]} {way}\n  {wanted!r}\n  {said!r}")
+    print(f"{tried} texts of {len(work)} modules, {read} of them read, {wrong} differences")
+    sys.exit(bool(wrong))
+
+
+if __name__ == "__main__":
+    main()

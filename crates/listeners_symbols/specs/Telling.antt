@@ -1,0 +1,41 @@
+-- Which operations a report tells of, so that it needn't look at the others.
+use Rattle.std.specs.Prelude.{◌≡◌, ℕ, List, [], ◌∷◌, ◌++◌, Bool, true, false, ◌&&◌, ◌||◌, if◌then◌else◌, Option, Some, None, is_some}
+use Rattle.std.specs.Coded.{Coded-set, coded_bool, Π_prop}
+use Rattle.std.specs.Ordering.{nat_cmp}
+use Rattle.std.specs.BTreeMap.{BTreeMap}
+use Rattle.std.specs.BTreeMap as tree
+use Rattle.std.specs.BTreeSet.{BTreeSet, contains}
+use Rattle.listeners_symbols.specs.declared.role.Role.{Role as Numbers}
+
+abbrev pub has_some : {X : Type 0} → List X → Bool
+has_some [] = false
+has_some (x ∷ xs) = true
+
+-- whether an operation defines a symbol, refers to one, or calls one, by what is kept of it
+abbrev pub tells : Numbers → Bool
+tells r = (is_some r.home && is_some r.symbol) || (has_some r.references.items || is_some r.call)
+
+-- whether it defines one whose visibility is private
+abbrev pub hides : Numbers → Bool
+hides r = is_some (if is_some r.home && r.is_private then r.symbol else None)
+
+abbrev pub said_at : (Numbers → Bool) → Option Numbers → Bool
+said_at test None = false
+said_at test (Some r) = test r
+
+-- a set has each operation of which a test holds, and maybe others
+abbrev pub HasThose : (Numbers → Bool) → BTreeMap ℕ Numbers → BTreeSet ℕ → Type 0
+HasThose test m s = (x : ℕ) → said_at test (tree.get nat_cmp m x) ≡ true → contains nat_cmp s x ≡ true
+
+pub HasThose-prop : (test : Numbers → Bool) (m : BTreeMap ℕ Numbers) (s : BTreeSet ℕ) → IsProp (HasThose test m s)
+HasThose-prop test m s = Π_prop (λ x. Π_prop (λ h. Coded-set coded_bool (contains nat_cmp s x) true))
+
+-- what is told of an operation, by what is kept of it
+abbrev pub told_at : {X : Type 0} → (ℕ → Numbers → List X) → ℕ → Option Numbers → List X
+told_at f x None = []
+told_at f x (Some r) = f x r
+
+-- what is told of some operations, one after another
+abbrev pub told : {X : Type 0} → (ℕ → Numbers → List X) → (ℕ → Option Numbers) → List ℕ → List X
+told f kept [] = []
+told f kept (x ∷ xs) = told_at f x (kept x) ++ told f kept xs

@@ -1,0 +1,130 @@
+//! The roles of a module's operations.
+ghost use Rattle.std.specs.Prelude.{◌≡◌, ◌&&◌, ◌||◌, ℕ, eqb, false, true, is_some, OnOk, Some, None};
+ghost use Rattle.std.specs.Option.{option_copied};
+ghost use Rattle.std.specs.Ordering.{nat_cmp};
+ghost use Rattle.std.specs.BTreeMap as tree;
+ghost use Rattle.std.specs.BTreeSet as set;
+ghost use Rattle.std.specs.BTreeSet.{contains};
+ghost use Rattle.listeners_symbols.specs.Telling.{HasThose, HasThose-prop, has_some, hides, tells};
+
+use crate::role::Role;
+use ir_event::types::ids::OpId;
+use std::alloc::{AllocError, Global};
+use std::collections::{BTreeMap, BTreeSet};
+
+/// What is kept of each operation, and of which reports tell.
+#[derive(Drop)]
+pub struct Roles {
+    pub all: BTreeMap<OpId, Role>,
+    /// Those that define a symbol, refer to one or call one, and maybe some that did.
+    pub telling: BTreeSet<OpId>,
+    /// Private definitions, and maybe some that were.
+    pub hidden: BTreeSet<OpId>,
+    pub ghost tell: { HasThose tells all telling } by { HasThose-prop tells all telling },
+    pub ghost hide: { HasThose hides all hidden } by { HasThose-prop hides all hidden },
+}
+
+impl Roles {
+    /// No roles.
+    pub fn new(alloc: Global) -> Roles
+        ensures { (x : ℕ) → tree.get nat_cmp result.all x ≡ None }
+    {
+        Roles {
+            all: BTreeMap::new(alloc),
+            telling: BTreeSet::new(alloc),
+            hidden: BTreeSet::new(alloc),
+        }
+    }
+
+    /// Says that all stands in the order of the operations' ids.
+    pub fn ordered(&self)
+        ensures all { tree.IsOrdered nat_cmp self.now.all }
+        ensures telling { set.IsOrdered nat_cmp self.now.telling }
+        ensures hidden { set.IsOrdered nat_cmp self.now.hidden }
+    {
+        let _ = self.all.len();
+        let _ = self.telling.len();
+        let _ = self.hidden.len();
+    }
+
+    /// What is kept of an operation.
+    pub fn get(&self, op: OpId) -> Option<&Role>
+        ensures value { option_copied result ≡ tree.get nat_cmp self.now.all op }
+    {
+        self.all.get(&op)
+    }
+
+    /// Sets the role of an operation. Where memory is refused, all roles stay.
+    pub fn insert(&mut self, op: OpId, role: Role) -> Result<(), AllocError>
+        ensures updates { OnOk result (tree.Updates nat_cmp self.old.all self.new.all op (Some role)) }
+    {
+        let telling = tells(&role);
+        let hidden = hides(&role);
+        add_if(&mut self.telling, op, telling)?;
+        add_if(&mut self.hidden, op, hidden)?;
+        self.all.insert(op, role)?;
+        drop_unless(&mut self.telling, op, telling);
+        drop_unless(&mut self.hidden, op, hidden);
+        Ok(())
+    }
+
+    /// Takes the role of an operation out, which needs no memory.
+    pub fn remove(&mut self, op: OpId)
+        ensures updates { tree.Updates nat_cmp self.old.all self.new.all op None }
+    {
+        self.all.remove(&op);
+        drop_unless(&mut self.telling, op, false);
+        drop_unless(&mut self.hidden, op, false);
+    }
+}
+
+/// Whether an operation defines a symbol, refers to one, or calls one.
+fn tells(role: &Role) -> bool
+    ensures { result ≡ tells role.now }
+{
+    defines(role) || refers(role) || role.call.is_some()
+}
+
+fn defines(role: &Role) -> bool
+    ensures { result ≡ (is_some role.now.home && is_some role.now.symbol) }
+{
+    role.home.is_some() && role.symbol.is_some()
+}
+
+fn refers(role: &Role) -> bool
+    ensures { result ≡ has_some role.now.references.items }
+{
+    !role.references.is_empty()
+}
+
+/// Whether an operation defines a symbol whose visibility is private.
+fn hides(role: &Role) -> bool
+    ensures { result ≡ hides role.now }
+{
+    if role.home.is_some() && role.is_private {
+        role.symbol.is_some()
+    } else {
+        false
+    }
+}
+
+/// Adds an operation to a set, where something holds. Nothing goes out, also where memory is refused.
+fn add_if(set: &mut BTreeSet<OpId>, op: OpId, holds: bool) -> Result<(), AllocError>
+    ensures added { OnOk result (holds ≡ true → contains nat_cmp set.new op ≡ true) }
+    ensures stay { (x : ℕ) → contains nat_cmp set.old x ≡ true → contains nat_cmp set.new x ≡ true }
+{
+    if holds {
+        set.insert(op)?;
+    }
+    Ok(())
+}
+
+/// Takes an operation out of a set, unless something holds.
+fn drop_unless(set: &mut BTreeSet<OpId>, op: OpId, holds: bool)
+    ensures kept { holds ≡ true → set.new ≡ set.old }
+    ensures others { (x : ℕ) → eqb op x ≡ false → contains nat_cmp set.old x ≡ true → contains nat_cmp set.new x ≡ true }
+{
+    if !holds {
+        set.remove(&op);
+    }
+}

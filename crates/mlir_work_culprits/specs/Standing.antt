@@ -1,0 +1,54 @@
+-- Where operations stand, and which values they use.
+use Rattle.std.specs.Prelude.{ℕ, zero, suc, List, eqb, Bool, true, false, not, ◌&&◌, ◌||◌, Option, Some, None}
+use Rattle.std.specs.List.{filter, list_any}
+use Rattle.ir_event.specs.trees.declared.value.Value.{Value}
+use Rattle.ir_event.specs.trees.Frames.{owner_of}
+use Rattle.ir_event.specs.trees.Ids.{find, ids, op_count}
+use Rattle.ir_event.specs.trees.Sites.{visible}
+use Rattle.ir_event.specs.trees.Tree.{OpOf, head}
+use Rattle.ir_event.specs.trees.Uses.{same_value}
+use Rattle.ir_event.specs.tree_laws.Reads.{parent_of}
+
+-- whether there is a number, and p is so of it
+abbrev pub has_such : (ℕ → Bool) → Option ℕ → Bool
+has_such p None = false
+has_such p (Some x) = p x
+
+-- whether operation y is x, or one of the next n around it is
+abbrev pub stands_in : {N T A : Type 0} → ℕ → ℕ → OpOf N T A → ℕ → Bool
+stands_in zero x t y = eqb y x
+stands_in (suc n) x t y = eqb y x || has_such (stands_in n x t) (parent_of y t)
+
+-- whether it is x or stands within it: no more stand around an operation than there are
+abbrev pub is_inside : {N T A : Type 0} → ℕ → OpOf N T A → ℕ → Bool
+is_inside x t y = stands_in (op_count t) x t y
+
+-- whether a value is one of operation x, or of one within it
+abbrev pub comes_from : {N T A : Type 0} → ℕ → OpOf N T A → Value → Bool
+comes_from x t v = is_inside x t (owner_of v).0
+
+-- whether an operation that may be there uses such a value
+abbrev pub takes_from : {N T A : Type 0} → ℕ → OpOf N T A → Option (OpOf N T A) → Bool
+takes_from x t None = false
+takes_from x t (Some o) = list_any (comes_from x t) (head o).operands
+
+-- whether operation y does, and stands outside x
+abbrev pub uses_from_outside : {N T A : Type 0} → ℕ → OpOf N T A → ℕ → Bool
+uses_from_outside x t y = takes_from x t (find y t) && not (is_inside x t y)
+
+-- the operations outside x that use a value of it, or of one within it, in pre-order
+abbrev pub outside_users : {N T A : Type 0} → ℕ → OpOf N T A → List ℕ
+outside_users x t = filter (uses_from_outside x t) (ids t)
+
+-- whether an operation that may be there uses a value
+abbrev pub takes : {N T A : Type 0} → Value → Option (OpOf N T A) → Bool
+takes v None = false
+takes v (Some o) = list_any (same_value v) (head o).operands
+
+-- whether operation y uses the first value, and doesn't see the second
+abbrev pub is_blind : {N T A : Type 0} → (N → Bool) → Value → Value → OpOf N T A → ℕ → Bool
+is_blind isolated old new t y = takes old (find y t) && not (visible isolated t y new)
+
+-- the operations that use the first value and don't see the second, in pre-order
+abbrev pub blind_users : {N T A : Type 0} → (N → Bool) → Value → Value → OpOf N T A → List ℕ
+blind_users isolated old new t = filter (is_blind isolated old new t) (ids t)

@@ -1,0 +1,15 @@
+use Rattle.std.proofs.Common.{◌≡◌}
+use Rattle.std.specs.Prelude.{is_some}
+use Rattle.std.specs.Option.{option_copied}
+use Rattle.mlir_work_script.specs.RuleNames.{names_of}
+use Rattle.mlir_work_script.proofs.Listed.{left_of}
+use Rattle.mlir_work_book.specs.Shelf.{book_view}
+use Rattle.mlir_work_mixed.specs.Mixed.{all_listed}
+use Rattle.mlir_work_mixed.proofs.Joined.{listed_behind}
+use Rattle.mlir_work_mixed.proofs.listed.are_listed.Given as goal
+
+abbrev pub invariant-items : goal.invariant-items
+invariant-items l = is_some (all_listed (book_view l.fn.book) (names_of l.fn.list)) ≡ is_some (listed_behind (book_view l.fn.book) (option_copied l.rest))
+
+abbrev pub decreases-items : goal.decreases-items
+decreases-items l = left_of (option_copied l.rest)

@@ -1,0 +1,16 @@
+use Rattle.std.proofs.Common.{◌≡◌}
+use Rattle.std.specs.Option.{option_copied}
+use Rattle.mlir_work_script.specs.RuleNames.{names_of}
+use Rattle.mlir_work_script.proofs.Listed.{left_of}
+use Rattle.mlir_work_book.specs.Shelf.{book_view}
+use Rattle.mlir_work_mixed.specs.Mixed.{all_listed}
+use Rattle.mlir_work_mixed.specs.Views.{listed_views}
+use Rattle.mlir_work_mixed.proofs.Joined.{joined, listed_behind}
+use Rattle.mlir_work_mixed.proofs.listed.listed_in.Given as goal
+
+-- what is left gives, behind what was found, what the whole list gives
+abbrev pub invariant-items : goal.invariant-items
+invariant-items l = joined (book_view l.fn.book) (listed_views l.listed.items) (listed_behind (book_view l.fn.book) (option_copied l.rest)) ≡ all_listed (book_view l.fn.book) (names_of l.fn.list)
+
+abbrev pub decreases-items : goal.decreases-items
+decreases-items l = left_of (option_copied l.rest)

@@ -1,0 +1,6 @@
+//! Lists of a command in which rules stand and patterns of one's own, by their names in a book.
+#![tactic(auto)]
+
+pub mod listed;
+pub mod mixed;
+pub mod own;

@@ -1,0 +1,17 @@
+-- How it is answered why rules don't apply at an operation.
+use Rattle.std.proofs.Common.{◌≡◌, ◌∙◌, sym, ap, ℕ, List, Bool, Option}
+use Rattle.ir_event.specs.trees.Ids.{has_id}
+use Rattle.ir_event.specs.declared.world.World.{World}
+use Rattle.ir_event.specs.Modules.{module_in}
+use Rattle.mlir_work_transforms.specs.Rule.{Rule}
+use Rattle.mlir_work_transforms.specs.WhyText.{told_rules, why_lines}
+use Rattle.mlir_work_transforms.specs.rewriter.Held.{Held, module_held}
+use Rattle.mlir_work_session.proofs.Reading.{module_seen}
+
+-- what is in the module of a bench, by its world
+module _ (h : Held) (w : World) (ctx : w.ctx ≡ h.ctx) (store : w.store ≡ h.store) where
+  pub in_held : (x : ℕ) (b : Bool) → b ≡ has_id x (module_in w).tree → has_id x (module_held h).tree ≡ b
+  in_held x b e = ap (λ m. has_id x m.tree) (sym (module_seen h w ctx store)) ∙ sym e
+
+  pub lines_held : (rule : Option Rule) (x : ℕ) (bytes : List ℕ) → bytes ≡ why_lines (told_rules rule x (module_in w)) x (module_in w) → bytes ≡ why_lines (told_rules rule x (module_held h)) x (module_held h)
+  lines_held rule x bytes is = is ∙ ap (λ m. why_lines (told_rules rule x m) x m) (module_seen h w ctx store)

@@ -1,0 +1,25 @@
+-- What runs at one operation come to.
+use Rattle.std.specs.Prelude.{◌≡◌, ◌≢◌, ◌⊎◌, ℕ}
+use Rattle.ir_event.specs.types.declared.refusal.Refusal.{Refusal}
+use Rattle.ir_event.specs.types.declared.refusal.Refusal.TheVariants.{Full, Memory}
+use Rattle.ir_event.specs.Modules.{Module}
+use Rattle.conversion.specs.patterns.Canonicalization.{ended, stopped}
+use Rattle.greedy.specs.Outcomes.{count_of, ending_of, IsReasonFor}
+use Rattle.greedy.specs.declared.outcome.Outcome.{Outcome}
+use Rattle.mlir_work_transforms.specs.At.{canonicalization_at, rewritten_at}
+
+-- at most so many rewrites at operation x of module m come to an outcome and to module n
+abbrev pub ComeToAt : ℕ → ℕ → Module → Outcome → Module → Type 0
+ComeToAt x limit m o n = rewritten_at x limit 0 m ≡ ended n (count_of o) (ending_of o)
+
+-- or to a refusal, for want of memory, by the definition, or because no more can be numbered
+abbrev pub StopAt : ℕ → ℕ → Module → Type 0 → Refusal → Type 0
+StopAt x limit m is_full e = (e ≡ Memory) ⊎ ((rewritten_at x limit 0 m ≡ stopped e) ⊎ ((e ≡ Full) × is_full))
+
+-- the canonicalization of operation x of module m comes to an outcome and to module n
+abbrev pub IsCanonicalAt : ℕ → ℕ → Module → Outcome → Module → Type 0
+IsCanonicalAt limit x m o n = canonicalization_at limit x m ≡ ended n (count_of o) (ending_of o)
+
+-- and why it is refused
+abbrev pub IsReasonAt : ℕ → ℕ → Module → Type 0 → Refusal → Type 0
+IsReasonAt limit x m is_full e = IsReasonFor (canonicalization_at limit x m) limit is_full e

@@ -1,0 +1,4 @@
+pub mod Standing
+pub mod Near
+pub mod Made
+pub mod Plans

@@ -1,0 +1,5 @@
+//! How deep patterns of one's own look.
+#![tactic(auto)]
+
+pub mod depth;
+pub mod laws;

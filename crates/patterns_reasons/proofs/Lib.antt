@@ -1,0 +1,5 @@
+pub mod Making
+pub mod Parts
+pub mod Passing
+pub mod Reasoned
+pub mod Told

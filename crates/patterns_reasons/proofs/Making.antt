@@ -1,0 +1,80 @@
+-- Plans that there are, and the edits of rules; and what is shown of an operation.
+use Rattle.std.proofs.Common.{◌≡◌, ◌∙◌, ap, sym, refl, ℕ, List, Bool, true, false, Option, Some, None}
+use Rattle.std.specs.Prelude.{is_some, option_map}
+use Rattle.ir_event.specs.trees.declared.place.Place.{Place}
+use Rattle.ir_event.specs.trees.Tree.{head}
+use Rattle.ir_event.specs.trees.Ids.{find}
+use Rattle.ir_event.specs.trees.Meaning.{Operation}
+use Rattle.ir_event.proofs.of_tree_laws.Members.{found_stands}
+use Rattle.effects.specs.Dead.{is_unused}
+use Rattle.patterns_base.specs.Keeps.{given}
+use Rattle.patterns_base.specs.Looks.{Header, One, is_of_type, one, source}
+use Rattle.patterns_base.specs.Opening.{open_branch, open_loop, stop_loop}
+use Rattle.patterns_base.specs.Rules.{rule}
+use Rattle.patterns_base.specs.declared.rule.Rule.{Rule}
+use Rattle.patterns_base.specs.declared.rule.Rule.TheVariants.{OpenBranch, OpenLoop, StopLoop}
+use Rattle.patterns_reads.specs.Reads.{head_at}
+use Rattle.patterns_regions.specs.Rules.{open_branch_at, open_loop_at, stop_loop_at}
+use Rattle.patterns_reasons.specs.declared.condition.Condition.TheVariants.{HasEffects, NoInnerOperation, Used}
+use Rattle.patterns_reasons.specs.Conditions.{first_failing}
+use Rattle.patterns_reasons.specs.Tests.{erase_dead, index_tests, unrealized_tests}
+
+mapped_some : {X Y : Type 0} (f : X → Y) (p : Option X) → is_some p ≡ is_some (option_map f p)
+mapped_some f None = refl
+mapped_some f (Some x) = refl
+
+-- whether there is a plan is whether a rule makes something, where the plan is what it makes
+pub planned_some : {X Y : Type 0} (f : X → Y) (p : Option X) (b : Bool) (q : Option Y) → b ≡ is_some p → option_map f p ≡ q → b ≡ is_some q
+planned_some f p b q e h = e ∙ mapped_some f p ∙ ap is_some h
+
+-- the rules that open branches and loops, by their names
+module _ (t : Operation) (n : ℕ) (front : Place) (x : ℕ) (r : Rule) (b : Bool) (o : Operation) (is : find x t ≡ Some o) where
+  pub branch_made : r ≡ OpenBranch → b ≡ is_some (open_branch_at x t front) → b ≡ is_some (rule r t n front o)
+  unfolding rule
+  branch_made k e = e ∙ ap (λ z. is_some (given z (λ o. open_branch t front o))) is ∙ ap (λ r. is_some (rule r t n front o)) (sym k)
+
+  pub loop_made : r ≡ OpenLoop → b ≡ is_some (open_loop_at x t front) → b ≡ is_some (rule r t n front o)
+  unfolding rule
+  loop_made k e = e ∙ ap (λ z. is_some (given z (λ o. open_loop t front o))) is ∙ ap (λ r. is_some (rule r t n front o)) (sym k)
+
+  pub stop_made : r ≡ StopLoop → b ≡ is_some (stop_loop_at x t front) → b ≡ is_some (rule r t n front o)
+  unfolding rule
+  stop_made k e = e ∙ ap (λ z. is_some (given z (λ o. stop_loop t front o))) is ∙ ap (λ r. is_some (rule r t n front o)) (sym k)
+
+-- ---- what is shown of an operation
+pub shown_head : (x : ℕ) (t : Operation) (h : Header) (o : Operation) → Some h ≡ head_at x t → find x t ≡ Some o → head o ≡ h
+shown_head x t h o e f = (let shown : Some h ≡ Some (head o) = e ∙ ap (option_map (λ o. head o)) f in cc)
+
+pub shown_id : (x : ℕ) (t : Operation) (h : Header) → Some h ≡ head_at x t → h.id ≡ x
+shown_id x t h e = go (find x t) refl
+  where
+    go : (f : Option Operation) → find x t ≡ f → h.id ≡ x
+    go None k = absurd (let none : Some h ≡ None = e ∙ ap (option_map (λ o. head o)) k in cc)
+    go (Some o) k =
+        let s = found_stands x t o k in
+        ap (λ (j : Header). j.id) (sym (shown_head x t h o e k)) ∙ ap (λ (z : Operation). (head z).id) (sym s.3) ∙ s.2
+
+pub unused_shown : (x : ℕ) (t : Operation) (h : Header) (b c : Bool) → Some h ≡ head_at x t → b ≡ is_unused x t → b ≡ c → is_unused h.id t ≡ c
+unused_shown x t h b c e u is = ap (λ y. is_unused y t) (shown_id x t h e) ∙ sym u ∙ is
+
+-- ---- of dead operations
+module _ (t : Operation) (h : Header) where
+  pub used_told : (a : Bool) → is_unused h.id t ≡ false → Some Used ≡ first_failing (erase_dead t h a)
+  used_told a u = rw u refl
+
+  pub effects_told : (a : Bool) → is_unused h.id t ≡ true → a ≡ false → Some HasEffects ≡ first_failing (erase_dead t h a)
+  effects_told a u f = rw (u, f) refl
+
+  pub dead_told : (a : Bool) → is_unused h.id t ≡ true → a ≡ true → None ≡ first_failing (erase_dead t h a)
+  dead_told a u f = rw (u, f) refl
+
+-- ---- of casts of what is no cast
+module _ (t : Operation) (p : One) (s : Option Header) (h : Header) (e : s ≡ source t p.name p.first) (is : s ≡ Some h) (none : None ≡ one h) where
+  none_inside : given (source t p.name p.first) one ≡ None
+  none_inside = ap (λ q. given q one) (sym e ∙ is) ∙ sym none
+
+  pub no_index_cast : Some NoInnerOperation ≡ first_failing (index_tests t p)
+  no_index_cast = rw none_inside refl
+
+  pub no_unrealized_cast : (b : Bool) → b ≡ is_of_type t p.ty p.first → b ≡ false → Some NoInnerOperation ≡ first_failing (unrealized_tests t p)
+  no_unrealized_cast b i f = rw (none_inside, sym i ∙ f) refl

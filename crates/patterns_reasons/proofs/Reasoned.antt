@@ -1,0 +1,105 @@
+-- Why a rule doesn't apply at an operation of which something is shown.
+use Rattle.std.proofs.Common.{◌≡◌, ◌∙◌, ap, sym, refl, ℕ, List, Bool, true, false, Option, Some, None}
+use Rattle.std.specs.Prelude.{if◌then◌else◌, is_some, option_map}
+use Rattle.ir_event.specs.trees.declared.place.Place.{Place}
+use Rattle.ir_event.specs.trees.Tree.{head}
+use Rattle.ir_event.specs.trees.Ids.{find}
+use Rattle.ir_event.specs.trees.Meaning.{Operation}
+use Rattle.ir_event.specs.Modules.{Module}
+use Rattle.patterns_base.specs.Keeps.{given}
+use Rattle.patterns_base.specs.Looks.{Header, front_of, when}
+use Rattle.patterns_base.specs.Rewrites.{edits_of, suits}
+use Rattle.patterns_base.specs.Rules.{has_rule, rule}
+use Rattle.patterns_base.specs.declared.rule.Rule.{Rule}
+use Rattle.patterns_reads.specs.Reads.{head_at}
+use Rattle.patterns_reasons.specs.declared.condition.Condition.{Condition}
+use Rattle.patterns_reasons.specs.declared.condition.Condition.TheVariants.{NotClean, OtherOperation, Root}
+use Rattle.patterns_reasons.specs.Conditions.{first_failing, unless_holds}
+use Rattle.patterns_reasons.specs.Tests.{asks_block, block_tests, header_tests, tests}
+use Rattle.patterns_reasons.specs.Reasons.{Makes, applies, conditions, reason_of}
+use Rattle.patterns_reasons.proofs.Making.{shown_head, shown_id}
+
+-- ---- what a rule asks itself
+module _ (r : Rule) (t : Operation) (o : Operation) (a : Bool) (k : Option Condition) where
+  pub by_block : asks_block r ≡ true → k ≡ first_failing (block_tests r t o a) → k ≡ first_failing (tests r t o a)
+  by_block b e = e ∙ sym (ap (λ b. first_failing (if b then block_tests r t o a else header_tests r t (head o) a)) b)
+
+  pub by_header : (h : Header) → asks_block r ≡ false → head o ≡ h → k ≡ first_failing (header_tests r t h a) → k ≡ first_failing (tests r t o a)
+  by_header h b s e =
+      e ∙ ap (λ (h : Header). first_failing (header_tests r t h a)) (sym s)
+      ∙ sym (ap (λ b. first_failing (if b then block_tests r t o a else header_tests r t (head o) a)) b)
+
+-- ---- what is asked of all rules
+reason_there : (r : Rule) (m : Module) (x : ℕ) (o : Operation) → find x m.tree ≡ Some o → reason_of r m x ≡ first_failing (conditions r m x o)
+unfolding reason_of
+reason_there r m x o is = ap (λ q. given q (λ o. first_failing (conditions r m x o))) is
+
+pub nowhere : (r : Rule) (m : Module) (x : ℕ) → None ≡ head_at x m.tree → None ≡ reason_of r m x
+unfolding reason_of
+nowhere r m x e = go (find x m.tree) refl
+  where
+    go : (f : Option Operation) → find x m.tree ≡ f → None ≡ reason_of r m x
+    go None k = sym (ap (λ q. given q (λ o. first_failing (conditions r m x o))) k)
+    go (Some o) k = absurd (let some : None ≡ Some (head o) = e ∙ ap (option_map (λ o. head o)) k in cc)
+
+there : (x : ℕ) (t : Operation) (h : Header) → Some h ≡ head_at x t → (o : Operation) × (find x t ≡ Some o)
+there x t h e = go (find x t) refl
+  where
+    go : (f : Option Operation) → find x t ≡ f → (o : Operation) × (find x t ≡ Some o)
+    go None k = absurd (let none : Some h ≡ None = e ∙ ap (option_map (λ o. head o)) k in cc)
+    go (Some o) k = (o, k)
+
+module _ (r : Rule) (m : Module) (x : ℕ) (h : Header) (e : Some h ≡ head_at x m.tree) where
+  o : Operation
+  o = (there x m.tree h e).0
+
+  is : find x m.tree ≡ Some o
+  unfolding o
+  is = (there x m.tree h e).1
+
+  same : head o ≡ h
+  same = shown_head x m.tree h o e is
+
+  with_id : record h { id = x } ≡ head o
+  with_id = (λ i. record h { id = sym (shown_id x m.tree h e) i }) ∙ sym same
+
+  pub at_root : None ≡ front_of x m.tree → Some Root ≡ reason_of r m x
+  at_root f =
+      sym (reason_there r m x o is ∙ ap (λ (p : Option Place). unless_holds (is_some p) Root (unless_holds (suits r m.tree (head o)) NotClean
+      (unless_holds (has_rule r (head o).name) OtherOperation (first_failing (tests r m.tree o (applies r m x)))))) (sym f))
+
+  module _ (front : Place) (f : Some front ≡ front_of x m.tree) where
+    behind_front : reason_of r m x ≡ unless_holds (suits r m.tree (head o)) NotClean (unless_holds (has_rule r (head o).name) OtherOperation (first_failing (tests r m.tree o (applies r m x))))
+    behind_front =
+        reason_there r m x o is ∙ ap (λ (p : Option Place). unless_holds (is_some p) Root (unless_holds (suits r m.tree (head o)) NotClean
+        (unless_holds (has_rule r (head o).name) OtherOperation (first_failing (tests r m.tree o (applies r m x)))))) (sym f)
+
+    pub unfit : (b : Bool) → b ≡ suits r m.tree (record h { id = x }) → b ≡ false → Some NotClean ≡ reason_of r m x
+    unfit b s n =
+        sym (behind_front ∙ ap (λ c. unless_holds c NotClean (unless_holds (has_rule r (head o).name) OtherOperation (first_failing (tests r m.tree o (applies r m x)))))
+        (ap (suits r m.tree) (sym with_id) ∙ sym s ∙ n))
+
+    module _ (b : Bool) (s : b ≡ suits r m.tree (record h { id = x })) (fit : b ≡ true) where
+      suits_it : suits r m.tree (head o) ≡ true
+      suits_it = ap (suits r m.tree) (sym with_id) ∙ sym s ∙ fit
+
+      behind_fit : reason_of r m x ≡ unless_holds (has_rule r (head o).name) OtherOperation (first_failing (tests r m.tree o (applies r m x)))
+      behind_fit = behind_front ∙ ap (λ c. unless_holds c NotClean (unless_holds (has_rule r (head o).name) OtherOperation (first_failing (tests r m.tree o (applies r m x))))) suits_it
+
+      pub other : (d : Bool) → d ≡ has_rule r h.name → d ≡ false → Some OtherOperation ≡ reason_of r m x
+      other d l n =
+          sym (behind_fit ∙ ap (λ c. unless_holds c OtherOperation (first_failing (tests r m.tree o (applies r m x)))) (ap (λ (j : Header). has_rule r j.name) same ∙ sym l ∙ n))
+
+      made : (a : Bool) → Makes r m x front a → a ≡ applies r m x
+      unfolding edits_of
+      made a k =
+          k o is
+          ∙ sym (ap (λ c. is_some (when c (rule r m.tree m.next front o))) suits_it)
+          ∙ ap (λ (p : Option Place). is_some (given p (λ front. when (suits r m.tree (head o)) (rule r m.tree m.next front o)))) f
+          ∙ sym (ap (λ (q : Option Operation). is_some (given q (λ o. given (front_of x m.tree) (λ front. when (suits r m.tree (head o)) (rule r m.tree m.next front o))))) is)
+
+      pub asked : (d : Bool) (a : Bool) (k : Option Condition) → d ≡ has_rule r h.name → d ≡ true → Makes r m x front a
+          → ((o : Operation) → find x m.tree ≡ Some o → k ≡ first_failing (tests r m.tree o a)) → k ≡ reason_of r m x
+      asked d a k l listed makes t =
+          t o is ∙ ap (λ a. first_failing (tests r m.tree o a)) (made a makes)
+          ∙ sym (behind_fit ∙ ap (λ c. unless_holds c OtherOperation (first_failing (tests r m.tree o (applies r m x)))) (ap (λ (j : Header). has_rule r j.name) same ∙ sym l ∙ listed))
