@@ -1,0 +1,16 @@
+pub mod Standing
+pub mod Trees
+pub mod Steps
+pub mod Forms
+pub mod Numbers
+pub mod OfKinds
+pub mod OfBits
+pub mod Beginning
+pub mod Olds
+pub mod News
+pub mod Going
+pub mod Edited
+pub mod Formed
+pub mod Rewritten
+pub mod Applying
+pub mod Sampled

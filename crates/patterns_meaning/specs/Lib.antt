@@ -1,0 +1,5 @@
+pub mod Meaning
+pub mod Applied
+pub mod After
+pub mod Applying
+pub mod Samples

@@ -1,0 +1,4 @@
+//! What the operations compute of which patterns speak, and that patterns of one's own keep it.
+#![tactic(auto)]
+
+pub mod laws;
