@@ -12,6 +12,7 @@ use mlir_work_cases_base::at_most::AtMost;
 use mlir_work_cases_base::texts::number;
 use mlir_work_cases_base::witness::{Plan, Witness};
 use mlir_work_listeners::seven::Seven;
+use mlir_work_run::book::Book;
 use mlir_work_run::live::run_live;
 use mlir_work_run::run::{Options, run};
 use mlir_work_run::supplied::Supplied;
@@ -63,7 +64,8 @@ fn run_either<R: Read, W: Write, L: Supplied>(
     boxes: Vec<L>,
 ) -> u8 {
     if options.ends {
-        return run_live(alloc, 0, options, reader, writer, boxes);
+        let book = Book::new(alloc);
+        return run_live(alloc, 0, options, reader, writer, boxes, book);
     }
     run(alloc, options, reader, writer, boxes)
 }

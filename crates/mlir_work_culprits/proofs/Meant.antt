@@ -6,7 +6,6 @@ use Rattle.std.proofs.lemmas.List.Elements.{filter_agree}
 use Rattle.ir_event.specs.trees.Frames.{owner_of}
 use Rattle.ir_event.specs.trees.Ids.{find, ids, op_count}
 use Rattle.ir_event.specs.trees.Meaning.{isolated_in, meaning}
-use Rattle.ir_event.specs.trees.Sites.{visible}
 use Rattle.ir_event.specs.trees.Tree.{Op, head}
 use Rattle.ir_event.specs.trees.Uses.{same_value}
 use Rattle.ir_event.specs.trees.declared.value.Value.{Value}
@@ -16,9 +15,9 @@ use Rattle.ir_event.specs.types.Terms.{attr_term, name_term, type_term}
 use Rattle.ir_event.specs.types.Things.{Things}
 use Rattle.ir_event.specs.types.Words.{is_isolated}
 use Rattle.ir_event.proofs.of_trees.Mapped.{map_find, map_ids, map_place, map_visible}
-use Rattle.ir_event.proofs.of_tree_laws.Contents.{map_has_id, map_has_value, map_type_of_value, same_id, same_operands}
+use Rattle.ir_event.proofs.of_tree_laws.Contents.{map_has_id, map_has_value, map_type_of_value, same_operands}
 use Rattle.rewriter_machine.specs.Commands.{Command, Erase, Replace, SetOperand}
-use Rattle.mlir_work_culprits.specs.Culprits.{Held, Operation, listed_root, missing_op, missing_value, unseen, users_left}
+use Rattle.mlir_work_culprits.specs.Culprits.{Held, Operation, missing_op, missing_value, unseen, users_left}
 use Rattle.mlir_work_culprits.specs.Standing.{blind_users, comes_from, has_such, is_blind, is_inside, outside_users, stands_in, takes, takes_from, uses_from_outside}
 
 has_alike : (p q : ℕ → Bool) → ((x : ℕ) → p x ≡ q x) → (o : Option ℕ) → has_such p o ≡ has_such q o
@@ -40,10 +39,6 @@ module _ (c : Things) (t : Op) where
 
   pub type_meant : (v : Value) → type_of_value v (meaning c t) ≡ option_map (type_term c) (type_of_value v t)
   type_meant v = map_type_of_value (name_term c) (type_term c) (attr_term c) v t
-
-  pub root_meant : (x : Option ℕ) → listed_root (meaning c t) x ≡ listed_root t x
-  root_meant None = refl
-  root_meant (Some x) = ap (λ (n : ℕ). if eqb n x then Operation x ∷ [] else []) (same_id (name_term c) (type_term c) (attr_term c) t)
 
   parent_meant : (y : ℕ) → parent_of y (meaning c t) ≡ parent_of y t
   parent_meant y = ap (option_map (λ p. p.parent)) (map_place (name_term c) (type_term c) (attr_term c) y t)

@@ -1,6 +1,6 @@
 -- Lists that are told one behind the other.
-use Rattle.std.proofs.Common.{◌≡◌, ℕ, List, [], ◌∷◌, ◌++◌, refl, sym, ap, ◌∙◌, append_assoc, append-nil, Result, Ok, Err}
-use Rattle.std.specs.Prelude.{OnOk, codes}
+use Rattle.std.proofs.Common.{◌≡◌, ℕ, List, [], ◌∷◌, ◌++◌, refl, sym, ap, ◌∙◌, append_assoc, Result, Ok, Err}
+use Rattle.std.specs.Prelude.{codes}
 use Rattle.mlir_work_culprits.specs.Culprits.{Culprit, Tells, culprit_text, told}
 
 pub told_both : (xs ys : List Culprit) → told (xs ++ ys) ≡ told xs ++ told ys
@@ -14,7 +14,3 @@ pub tells_both : {E : Type 0} (r : Result (Unit {0}) E) (a b c : List ℕ) (xs y
 tells_both (Err e) a b c xs ys p q = tt
 tells_both (Ok u) a b c xs ys p q =
     q ∙ (ap (λ zs. zs ++ told ys) p ∙ (append_assoc a (told xs) (told ys) ∙ ap (λ zs. a ++ zs) (sym (told_both xs ys))))
-
--- one alone
-pub told_one : (a : List ℕ) (x : Culprit) → (a ++ codes " ") ++ culprit_text x ≡ a ++ told (x ∷ [])
-told_one a x = append_assoc a (codes " ") (culprit_text x) ∙ ap (λ zs. a ++ zs) (sym (append-nil (codes " " ++ culprit_text x)))

@@ -1,5 +1,5 @@
 -- Where operations stand, and which values they use.
-use Rattle.std.specs.Prelude.{ℕ, zero, suc, List, eqb, Bool, true, false, not, ◌&&◌, ◌||◌, Option, Some, None}
+use Rattle.std.specs.Prelude.{ℕ, zero, suc, List, eqb, Bool, false, not, ◌&&◌, ◌||◌, Option, Some, None}
 use Rattle.std.specs.List.{filter, list_any}
 use Rattle.ir_event.specs.trees.declared.value.Value.{Value}
 use Rattle.ir_event.specs.trees.Frames.{owner_of}

@@ -1,12 +1,11 @@
 -- What the items of a list are, one after another.
-use Rattle.std.proofs.Common.{◌≡◌, refl, ap, sym, ◌∙◌, subst, ℕ, Bool, true, false, cond, List, [], ◌∷◌, ◌++◌, append-nil, append_assoc, map, inl, inr, Option, Some, None, option_map, ◌||◌}
+use Rattle.std.proofs.Common.{◌≡◌, refl, ap, sym, ◌∙◌, subst, ℕ, Bool, true, false, List, [], ◌∷◌, ◌++◌, append-nil, append_assoc, map, Option, Some, None, option_map, ◌||◌}
 use Rattle.std.specs.Prelude.{is_some, option_and_then}
-use Rattle.std.specs.List.{list_any}
 use Rattle.std.proofs.lemmas.List.Elements.{All-nil, All-cons, All-head}
 use Rattle.std.proofs.lemmas.Option.{none-some}
 use Rattle.mlir_work_script.specs.Items.{items_behind}
 use Rattle.mlir_work_script.specs.RuleNames.{name_or_none, rule_in}
-use Rattle.mlir_work_transforms.specs.greedy.Trial.{AreAttempts, Attempt, MayAttempt, OfOwn, OfRule}
+use Rattle.mlir_work_transforms.specs.greedy.Trial.{AreAttempts, MayAttempt, OfRule}
 use Rattle.mlir_work_transforms.proofs.Chosen.{named_are_tried}
 use Rattle.mlir_work_transforms.specs.Rule.{Rule}
 use Rattle.mlir_work_transforms.specs.Rewriting.{canonical_named}
@@ -84,15 +83,18 @@ module _ (book : Book) where
   some_is : {X : Type 0} {x y : X} → Some x ≡ Some y → x ≡ y
   some_is e = cc
 
-  if_tried : (name : RuleName) (r : Rule) → canonical_named name ≡ Some r → MayAttempt (OfRule r)
-  if_tried name r e = All-head (λ (x : Rule). MayAttempt (OfRule x)) r [] (named_are_tried (name ∷ []) (r ∷ []) (sym (ap (λ o. option_and_then (λ (x : Rule). option_map (λ (xs : List Rule). x ∷ xs) (Some [])) o) e)))
+  -- a rule of a name alone, as the rules of a list that has that name alone
+  rule_may : (name : RuleName) (r : Rule) → canonical_named name ≡ Some r → MayAttempt (OfRule r)
+  rule_may name r e =
+      All-head (λ q. MayAttempt (OfRule q)) r []
+      (named_are_tried (name ∷ []) (r ∷ []) (sym (ap (option_and_then (λ q. option_map (λ qs. q ∷ qs) (Some []))) e)))
 
   one_may : (name : RuleName) (l : Listed) → listed_named book name ≡ Some l → MayAttempt l.attempt
   one_may name l e = by_own (own_named name book) e
     where
       by_rule : (o : Option Rule) → canonical_named name ≡ o → option_map (λ r. record { attempt = OfRule r; name = [] }) o ≡ Some l → MayAttempt l.attempt
       by_rule None i e = absurd (none-some l e)
-      by_rule (Some r) i e = subst (λ (x : Listed). MayAttempt x.attempt) (some_is e) (if_tried name r i)
+      by_rule (Some r) i e = subst (λ (x : Listed). MayAttempt x.attempt) (some_is e) (rule_may name r i)
 
       by_own : (o : Option Kept) → or_rule o name ≡ Some l → MayAttempt l.attempt
       by_own None e = by_rule (canonical_named name) refl e

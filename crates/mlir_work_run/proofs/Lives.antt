@@ -160,13 +160,13 @@ module _ (setting : Setting) (before : ℕ) (begun : Sitting) where
 -- ---- modules, and lines behind them
 
 module _ (setting : Setting) (boxes : List Shown) (m : Module) (before : ℕ) where
-  live_of : (s : State) (accepted : Bool) (front : List ℕ) → Begun setting.options.ends boxes m s accepted front → (lines : List (List ℕ)) (later : ℕ) (rest : List ℕ) → Lives setting before 1 (opening s) lines later rest → Live setting boxes m before lines (worse accepted later) (front ++ rest)
+  live_of : (s : State) (accepted : Bool) (front : List ℕ) → Begun setting.options.ends boxes m s accepted front → (lines : List (List ℕ)) (later : ℕ) (rest : List ℕ) → Lives setting before 1 (opening setting.start s) lines later rest → Live setting boxes m before lines (worse accepted later) (front ++ rest)
   live_of s accepted front h lines later rest k = record { begun = s; accepted = accepted; front = front; later = later; rest = rest; begins = h; lives = k; status_is = refl; out_is = refl }
 
   abbrev After : State → List ℕ → Bool → Stream → Stream → Type 0
   After s front accepted a b = Begun setting.options.ends boxes m s accepted front × Grows a b front
 
-  up_to_behind : (s : State) (accepted : Bool) (front : List ℕ) (all : List (List ℕ)) (a b c : Stream) → After s front accepted a b → IsUpTo (Lives setting before 1 (opening s)) all b c → IsUpTo (Live setting boxes m before) all a c
+  up_to_behind : (s : State) (accepted : Bool) (front : List ℕ) (all : List (List ℕ)) (a b c : Stream) → After s front accepted a b → IsUpTo (Lives setting before 1 (opening setting.start s)) all b c → IsUpTo (Live setting boxes m before) all a c
   up_to_behind s accepted front all a b c (h, wrote) (lines, later, rest, first, lives, more) = (lines, worse accepted later, front ++ rest, first, live_of s accepted front h lines later rest lives, grows_join a b c front rest wrote more)
 
   -- nothing was written behind the answer to the module
@@ -178,7 +178,7 @@ module _ (setting : Setting) (boxes : List Shown) (m : Module) (before : ℕ) wh
   worse_of accepted (Ok status) = Ok (worse accepted status)
   worse_of accepted (Err halt) = Err halt
 
-  behind : (s : State) (accepted : Bool) (front : List ℕ) (all : List (List ℕ)) (a b c : Stream) (handed : Bool) (r q : Result ℕ Halt) → q ≡ worse_of accepted r → After s front accepted a b → LiveEnded (Lives setting before 1 (opening s)) all b c handed r → LiveEnded (Live setting boxes m before) all a c handed q
+  behind : (s : State) (accepted : Bool) (front : List ℕ) (all : List (List ℕ)) (a b c : Stream) (handed : Bool) (r q : Result ℕ Halt) → q ≡ worse_of accepted r → After s front accepted a b → LiveEnded (Lives setting before 1 (opening setting.start s)) all b c handed r → LiveEnded (Live setting boxes m before) all a c handed q
   behind s accepted front all a b c handed (Ok later) q is (h, wrote) (rest, lives, more, on) = rw is (front ++ rest, live_of s accepted front h all later rest lives, grows_join a b c front rest wrote more, on)
   behind s accepted front all a b c handed (Err ReadFailed) q is before (on, inl stays) = rw is (on, inr (none_behind s accepted front all a b c before stays))
   behind s accepted front all a b c handed (Err ReadFailed) q is before (on, inr h) = rw is (on, inr (up_to_behind s accepted front all a b c before h))
@@ -187,12 +187,12 @@ module _ (setting : Setting) (boxes : List Shown) (m : Module) (before : ℕ) wh
   behind s accepted front all a b c handed (Err WriteFailed) q is (h, wrote) (lines, later, rest, first, lives, more) = rw is (lines, worse accepted later, front ++ rest, first, live_of s accepted front h lines later rest lives, front_join a b c front rest wrote more)
 
   behind_if : (o : Option (List ℕ)) (s : State) (accepted : Bool) (front : List ℕ) (a b c : Stream) (handed : Bool) (r q : Result ℕ Halt) → q ≡ worse_of accepted r → Begun setting.options.ends boxes m s accepted front → Grows a b front →
-      IfSome o (λ script. LiveEnded (Lives setting before 1 (opening s)) (whole_lines script) b c handed r) → IfSome o (λ script. LiveEnded (Live setting boxes m before) (whole_lines script) a c handed q)
+      IfSome o (λ script. LiveEnded (Lives setting before 1 (opening setting.start s)) (whole_lines script) b c handed r) → IfSome o (λ script. LiveEnded (Live setting boxes m before) (whole_lines script) a c handed q)
   behind_if None s accepted front a b c handed r q is h wrote more = tt
   behind_if (Some script) s accepted front a b c handed r q is h wrote more = behind s accepted front (whole_lines script) a b c handed r q is (h, wrote) more
 
   -- the lines began with a book that is empty
-  pub behind_book : (o : Option (List ℕ)) (s : State) (book : Book) (accepted : Bool) (front : List ℕ) (a b c : Stream) (handed : Bool) (r q : Result ℕ Halt) → book ≡ [] → q ≡ worse_of accepted r → Begun setting.options.ends boxes m s accepted front → Grows a b front →
+  pub behind_book : (o : Option (List ℕ)) (s : State) (book : Book) (accepted : Bool) (front : List ℕ) (a b c : Stream) (handed : Bool) (r q : Result ℕ Halt) → book ≡ setting.start → q ≡ worse_of accepted r → Begun setting.options.ends boxes m s accepted front → Grows a b front →
       IfSome o (λ script. LiveEnded (Lives setting before 1 (record { state = s; book = book })) (whole_lines script) b c handed r) → IfSome o (λ script. LiveEnded (Live setting boxes m before) (whole_lines script) a c handed q)
   behind_book o s book accepted front a b c handed r q none is h wrote more =
       behind_if o s accepted front a b c handed r q is h wrote (subst (λ (k : Book). IfSome o (λ script. LiveEnded (Lives setting before 1 (record { state = s; book = k })) (whole_lines script) b c handed r)) none more)
@@ -287,7 +287,7 @@ module _ (setting : Setting) (boxes : List Shown) where
   final_live : (input : List ℕ) (lines : List (List ℕ)) (status : ℕ) (out : List ℕ) → IsLiveOf setting boxes input lines status out → IsFinal status
   final_live input lines status out (inl h) = inr (inr h.1.0)
   final_live input lines status out (inr (inl (refusal, offset, why, h))) = inr (inr h.0)
-  final_live input lines status out (inr (inr (m, read, h))) = final_low status (rw h.status_is (low_worse h.accepted h.later (low_lives lines (length (module_text input) + divider_bytes) 1 (opening h.begun) h.later h.rest h.lives)))
+  final_live input lines status out (inr (inr (m, read, h))) = final_low status (rw h.status_is (low_worse h.accepted h.later (low_lives lines (length (module_text input) + divider_bytes) 1 (opening setting.start h.begun) h.later h.rest h.lives)))
 
   at_status : (input : List ℕ) (all : List (List ℕ)) (a b : Stream) (handed : Bool) (r : Result ℕ Halt) → LiveEnded (IsLiveOf setting boxes input) all a b handed r → LiveEndedAt (IsLiveOf setting boxes input) all a b handed (exit_of r)
   at_status input all a b handed (Ok st) (o, p, h, on) = inl (final_live input all st o p, (o, p, h, on))

@@ -10,6 +10,7 @@ use Rattle.mlir_work_session.specs.Parts.{script_text}
 use Rattle.mlir_work_session.specs.Panels.{Shown}
 use Rattle.mlir_work_session.specs.Reads.{Intake}
 use Rattle.mlir_work_session.specs.Writes.{Stream}
+use Rattle.mlir_work_session.specs.Shelf.{Book}
 use Rattle.mlir_work_session.specs.Output.{Line, Runs, IsSession, Sitting, Way, opening, worse, is_right}
 use Rattle.mlir_work_run.specs.Ends.{EndedSo, HasFailed, HasStatus, IsFinal, Leaves, LeavesAt, status_of}
 use Rattle.mlir_work_run.specs.Whole.{IsOutput, Setting, way_at}
@@ -35,9 +36,9 @@ low_runs : (way : Way) (lines : List (List ℕ)) (n : ℕ) (s : Sitting) (status
 low_runs way [] n s status out h = inl h.0
 low_runs way (line ∷ lines) n s status out h = low_line (λ m t st o. Runs way m t lines st o) way n s (line_expects line) (line_says line) status out (λ m t st o k. low_runs way lines m t st o k) h
 
-low_session : (way : Way) (boxes : List Shown) (m : Module) (script : List ℕ) (status : ℕ) (out : List ℕ) → IsSession way boxes m script status out → IsLow status
-low_session way boxes m script status out (inl h) = inr h.1.0
-low_session way boxes m script status out (inr h) = rw h.1.status_is (low_worse h.1.accepted h.1.later (low_runs way (lines_of script) 1 (opening (record { held = m; marks = []; panel = h.1.panel })) h.1.later h.1.rest h.1.runs))
+low_session : (way : Way) (start : Book) (boxes : List Shown) (m : Module) (script : List ℕ) (status : ℕ) (out : List ℕ) → IsSession way start boxes m script status out → IsLow status
+low_session way start boxes m script status out (inl h) = inr h.1.0
+low_session way start boxes m script status out (inr h) = rw h.1.status_is (low_worse h.1.accepted h.1.later (low_runs way (lines_of script) 1 (opening start (record { held = m; marks = []; panel = h.1.panel })) h.1.later h.1.rest h.1.runs))
 
 pub final_low : (status : ℕ) → IsLow status → IsFinal status
 final_low status (inl e) = inl e
@@ -47,7 +48,7 @@ final_low status (inr e) = inr (inl e)
 pub final_output : (setting : Setting) (boxes : List Shown) (input : List ℕ) (status : ℕ) (out : List ℕ) → IsOutput setting boxes input status out → IsFinal status
 final_output setting boxes input status out (inl h) = inr (inr h.1.0)
 final_output setting boxes input status out (inr (short, inl (refusal, offset, why, h))) = inr (inr h.0)
-final_output setting boxes input status out (inr (short, inr (m, read, h))) = final_low status (low_session (way_at setting (length input)) boxes m (script_text input) status out h)
+final_output setting boxes input status out (inr (short, inr (m, read, h))) = final_low status (low_session (way_at setting (length input)) setting.start boxes m (script_text input) status out h)
 
 ended_status : (setting : Setting) (boxes : List Shown) (input : List ℕ) (a b : Option (List ℕ)) (r : Result ℕ Fault) → EndedSo (IsOutput setting boxes input) a b r → HasStatus (IsOutput setting boxes input) a b (status_of r)
 ended_status setting boxes input a b (Ok status) (out, h, wrote) = inl (final_output setting boxes input status out h, (out, h, wrote))

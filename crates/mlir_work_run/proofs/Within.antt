@@ -68,7 +68,7 @@ input_runs : (setting : Setting) (input script : List ℕ) (s : Sitting) (status
 input_runs setting input [] s status out split h = h
 input_runs setting input (b ∷ bs) s status out split h = script_runs setting (length input) (b ∷ bs) (length (module_text input) + divider_bytes) s status out (split_long input (module_text input) b bs split) h
 
-session_of : (setting : Setting) (boxes : List Shown) (m : Module) (input : List ℕ) (status : ℕ) (out : List ℕ) → Live setting boxes m (length (module_text input) + divider_bytes) (whole_lines (script_text input)) status out → Session (way_at setting (length input)) boxes m (script_text input) status out
+session_of : (setting : Setting) (boxes : List Shown) (m : Module) (input : List ℕ) (status : ℕ) (out : List ℕ) → Live setting boxes m (length (module_text input) + divider_bytes) (whole_lines (script_text input)) status out → Session (way_at setting (length input)) setting.start boxes m (script_text input) status out
 session_of setting boxes m input status out h = record {
   panel = h.begins.panel;
   accepted = h.accepted;
@@ -76,7 +76,7 @@ session_of setting boxes m input status out h = record {
   later = h.later;
   rest = h.rest;
   attached = h.begins.attached;
-  runs = subst (λ (s : State). Runs (way_at setting (length input)) 1 (opening s) (lines_of (script_text input)) h.later h.rest) h.begins.state_is (input_runs setting input (script_text input) (opening h.begun) h.later h.rest (divided true input) h.lives);
+  runs = subst (λ (s : State). Runs (way_at setting (length input)) 1 (opening setting.start s) (lines_of (script_text input)) h.later h.rest) h.begins.state_is (input_runs setting input (script_text input) (opening setting.start h.begun) h.later h.rest (divided true input) h.lives);
   status_is = h.status_is;
   out_is = h.out_is ∙ ap (λ (xs : List ℕ). xs ++ h.rest) h.begins.out_is;
 }

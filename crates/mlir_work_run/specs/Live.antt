@@ -45,7 +45,7 @@ pub record Live (setting : Setting) (boxes : List Shown) (m : Module) (read : �
   pub later : ℕ
   pub rest : List ℕ
   pub begins : Begun setting.options.ends boxes m begun accepted front
-  pub lives : Lives setting read 1 (opening begun) lines later rest
+  pub lives : Lives setting read 1 (opening setting.start begun) lines later rest
   pub status_is : status ≡ worse accepted later
   pub out_is : out ≡ front ++ rest
 

@@ -1,5 +1,5 @@
 -- The output of an input: the text of a module, and a script.
-use Rattle.std.specs.Prelude.{◌≡◌, ℕ, ◌++◌, Bool, true, false, ◌<◌, ◌≤◌, List, ◌⊎◌, Option, Some, None, length, codes}
+use Rattle.std.specs.Prelude.{◌≡◌, ℕ, ◌++◌, Bool, true, false, ◌<◌, ◌≤◌, List, [], ◌⊎◌, Option, Some, None, length, codes}
 use Rattle.std.specs.Fmt.{decimal}
 use Rattle.ir_event.specs.types.Refusals.{number_of, text_of}
 use Rattle.ir_event.specs.types.declared.refusal.Refusal.{Refusal}
@@ -14,6 +14,7 @@ use Rattle.mlir_work_session.specs.Parts.{module_text, script_text}
 use Rattle.mlir_work_session.specs.Replies.{module_refused_line}
 use Rattle.mlir_work_session.specs.Limits.{most_input_bytes}
 use Rattle.mlir_work_session.specs.Panels.{Shown}
+use Rattle.mlir_work_session.specs.Shelf.{Book}
 use Rattle.mlir_work_session.specs.Output.{IsSession, Way, way_of}
 use Rattle.mlir_work_session.specs.declared.manner.Manner.{Manner}
 use Rattle.mlir_work_run.specs.declared.run.Options.{Options}
@@ -75,13 +76,18 @@ manner_of options bytes = record {
   explain = options.explain;
 }
 
--- what a run is told, and what is seen of the analyses that it can make anew
+-- what a run is told, what is seen of the analyses that it can make anew, and the patterns that are there from the start
 pub record Setting : Type 0 where
   pub options : Options
   pub supply : ℕ → Option Shown
+  pub start : Book
 
+abbrev pub setting_with : (ℕ → Option Shown) → Options → Book → Setting
+setting_with supply options start = record { options = options; supply = supply; start = start }
+
+-- without patterns
 abbrev pub setting_of : (ℕ → Option Shown) → Options → Setting
-setting_of supply options = record { options = options; supply = supply }
+setting_of supply options = setting_with supply options []
 
 abbrev pub way_at : Setting → ℕ → Way
 way_at setting bytes = way_of setting.supply (manner_of setting.options bytes)
@@ -90,7 +96,7 @@ way_at setting bytes = way_of setting.supply (manner_of setting.options bytes)
 abbrev pub IsRead : Setting → List Shown → List ℕ → ℕ → List ℕ → Type 0
 IsRead setting boxes input status out =
     (m : Module) × IsWorldOf setting.options.opaque (module_text input) m
-    × IsSession (way_at setting (length input)) boxes m (script_text input) status out
+    × IsSession (way_at setting (length input)) setting.start boxes m (script_text input) status out
 
 -- this status and these bytes are an output of the input, with these boxes; an input that is too long has but one
 abbrev pub IsOutput : Setting → List Shown → List ℕ → ℕ → List ℕ → Type 0

@@ -6,6 +6,7 @@ ghost use Rattle.mlir_work_session.specs.Writes.{Stream};
 ghost use Rattle.mlir_work_run.specs.Whole.{IsOutput, setting_of};
 
 use crate::run::{Options, run_watched};
+use mlir_work_session::book::Book;
 use mlir_work_session::sink::Sink;
 use mlir_work_session::source::{Source, SourceFault};
 use mlir_work_session::supplied::Supplied;
@@ -60,5 +61,13 @@ pub fn dry_run<L: Supplied>(
     ensures { (out : List ℕ) × IsOutput (setting_of L.supply options) (all_shown L.meaning boxes.items) input.now result out }
 {
     let mut reader = Bytes { rest: input };
-    run_watched(alloc, key, options, &mut reader, &mut Nowhere, boxes)
+    run_watched(
+        alloc,
+        key,
+        options,
+        &mut reader,
+        &mut Nowhere,
+        boxes,
+        Book::new(alloc),
+    )
 }

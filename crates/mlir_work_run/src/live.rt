@@ -10,13 +10,14 @@ ghost use Rattle.mlir_work_session.specs.Held.{module_held, open_marks};
 ghost use Rattle.mlir_work_session.specs.Lines.{line_of};
 ghost use Rattle.mlir_work_session.specs.Output.{Begun, IsAnswered, way_of, worse as worst};
 ghost use Rattle.mlir_work_session.specs.Limits.{most_input_bytes, most_script_bytes};
+ghost use Rattle.mlir_work_session.specs.Shelf.{book_view};
 ghost use Rattle.mlir_work_session.specs.Panels.{Shown, all_shown};
 ghost use Rattle.mlir_work_session.specs.Parts.{module_text, script_text};
 ghost use Rattle.mlir_work_session.specs.Ran.{AttachedOut, RanOut};
 ghost use Rattle.mlir_work_session.specs.Sittings.{sitting_of};
 ghost use Rattle.mlir_work_run.specs.Live.{AreFirst, IsLive, IsLiveOf, IsWholeUpTo, Live, LiveEnded, LiveEndedAt, LiveRead, Lives, divider_bytes};
 ghost use Rattle.mlir_work_run.specs.Live.{exit_of, halt_of, halted_of, whole_lines};
-ghost use Rattle.mlir_work_run.specs.Whole.{IsOutput, IsWorldOf, Setting, WhyNot, module_cause, setting_of};
+ghost use Rattle.mlir_work_run.specs.Whole.{IsOutput, IsWorldOf, Setting, WhyNot, module_cause, setting_with};
 ghost use Rattle.rewriter_laws.specs.Journals.{IsSlotted, IsTidy};
 
 use crate::run::{Options, Unread, hold, manner_of, no_memory, refuse, tree_of};
@@ -157,7 +158,7 @@ fn answer_lines<L: Supplied, R: Source, W: Sink>(
     requires handed { W.handed writer.old ≡ true }
     requires behind { divider_bytes ≤ before }
     ensures ended { IfSome (waiting kept.old.items (R.intake reader.old).remaining) (λ script. LiveEnded
-        (Lives (setting_of L.supply options) before 1 (sitting_of L.meaning bench.old book.old)) (whole_lines script)
+        (Lives (setting_with L.supply options (book_view book.old)) before 1 (sitting_of L.meaning bench.old book.old)) (whole_lines script)
         (W.stream writer.old) (W.stream writer.new) (W.handed writer.new) result) }
     ensures read { LiveRead (R.intake reader.old) (R.intake reader.new) result }
 {
@@ -200,13 +201,14 @@ fn answer_bench<L: Supplied, R: Source, W: Sink>(
     reader: &mut R,
     writer: &mut W,
     boxes: Vec<L>,
+    book: Book,
 ) -> Result<u8, Halt>
     requires none { bench.old.listeners ≡ [] }
     requires unmarked { open_marks bench.old.desk ≡ [] }
     requires mode { bench.old.desk.ctx.opaque ≡ options.opaque }
     requires behind { divider_bytes ≤ before }
     ensures ended { IfSome (waiting kept.old.items (R.intake reader.old).remaining) (λ script. LiveEnded
-        (Live (setting_of L.supply options) (all_shown L.meaning boxes.items) (module_held bench.old.desk) before)
+        (Live (setting_with L.supply options (book_view book)) (all_shown L.meaning boxes.items) (module_held bench.old.desk) before)
         (whole_lines script)
         (W.stream writer.old) (W.stream writer.new) (W.handed writer.new) result) }
     ensures read { LiveRead (R.intake reader.old) (R.intake reader.new) result }
@@ -215,7 +217,7 @@ fn answer_bench<L: Supplied, R: Source, W: Sink>(
         Ok(accepted) => accepted,
         Err(WriteFault) => return Err(Halt::Write),
     };
-    let mut book = Book::new(alloc);
+    let mut book = book;
     match answer_lines(
         alloc, options, before, bench, &mut book, kept, reader, writer,
     ) {
@@ -234,20 +236,21 @@ fn answer_world<L: Supplied, R: Source, W: Sink>(
     reader: &mut R,
     writer: &mut W,
     boxes: Vec<L>,
+    book: Book,
 ) -> Result<u8, Halt>
     requires slotted { IsSlotted world.store }
     requires tidy { IsTidy world.store }
     requires mode { world.ctx.opaque ≡ options.opaque }
     requires behind { divider_bytes ≤ before }
     ensures ended { IfSome (waiting kept.old.items (R.intake reader.old).remaining) (λ script. LiveEnded
-        (Live (setting_of L.supply options) (all_shown L.meaning boxes.items) (module_in world) before)
+        (Live (setting_with L.supply options (book_view book)) (all_shown L.meaning boxes.items) (module_in world) before)
         (whole_lines script)
         (W.stream writer.old) (W.stream writer.new) (W.handed writer.new) result) }
     ensures read { LiveRead (R.intake reader.old) (R.intake reader.new) result }
 {
     let mut bench = Bench::over(alloc, world);
     answer_bench(
-        alloc, options, before, &mut bench, kept, reader, writer, boxes,
+        alloc, options, before, &mut bench, kept, reader, writer, boxes, book,
     )
 }
 
@@ -299,15 +302,18 @@ fn answer_text<L: Supplied, R: Source, W: Sink>(
     reader: &mut R,
     writer: &mut W,
     boxes: Vec<L>,
+    book: Book,
 ) -> Result<u8, Halt>
     ensures ended { IfSome (waiting kept.old.items (R.intake reader.old).remaining) (λ script. LiveEnded
-        (IsLive (setting_of L.supply options) (all_shown L.meaning boxes.items) text.items) (whole_lines script)
+        (IsLive (setting_with L.supply options (book_view book)) (all_shown L.meaning boxes.items) text.items) (whole_lines script)
         (W.stream writer.old) (W.stream writer.new) (W.handed writer.new) result) }
     ensures read { LiveRead (R.intake reader.old) (R.intake reader.new) result }
 {
     match taken(alloc, key, options.opaque, text) {
         Ok((world, before)) => {
-            answer_world(alloc, options, before, world, kept, reader, writer, boxes)
+            answer_world(
+                alloc, options, before, world, kept, reader, writer, boxes, book,
+            )
         }
         Err(unread) => halted(refuse(writer, options.explain, unread)),
     }
@@ -323,9 +329,10 @@ pub fn answer_live<L: Supplied, R: Source, W: Sink>(
     reader: &mut R,
     writer: &mut W,
     boxes: Vec<L>,
+    book: Book,
 ) -> Result<u8, Halt>
     ensures ended { IfSome (R.intake reader.old).remaining (λ input. LiveEnded
-        (IsLiveOf (setting_of L.supply options) (all_shown L.meaning boxes.items) input) (whole_lines (script_text input))
+        (IsLiveOf (setting_with L.supply options (book_view book)) (all_shown L.meaning boxes.items) input) (whole_lines (script_text input))
         (W.stream writer.old) (W.stream writer.new) (W.handed writer.new) result) }
     ensures read { LiveRead (R.intake reader.old) (R.intake reader.new) result }
 {
@@ -347,7 +354,9 @@ pub fn answer_live<L: Supplied, R: Source, W: Sink>(
             return halted(refuse(writer, options.explain, unread));
         }
     };
-    answer_text(alloc, key, options, text, &mut kept, reader, writer, boxes)
+    answer_text(
+        alloc, key, options, text, &mut kept, reader, writer, boxes, book,
+    )
 }
 
 fn exit_status(ended: Result<u8, Halt>) -> u8
@@ -383,13 +392,16 @@ pub fn run_live<L: Supplied, R: Source, W: Sink>(
     reader: &mut R,
     writer: &mut W,
     boxes: Vec<L>,
+    book: Book,
 ) -> u8
     ensures live { IfSome (R.intake reader.old).remaining (λ input. LiveEndedAt
-        (IsLiveOf (setting_of L.supply options) (all_shown L.meaning boxes.items) input) (whole_lines (script_text input))
+        (IsLiveOf (setting_with L.supply options (book_view book)) (all_shown L.meaning boxes.items) input) (whole_lines (script_text input))
         (W.stream writer.old) (W.stream writer.new) (W.handed writer.new) result) }
     ensures whole { IfSome (R.intake reader.old).remaining (λ input. LiveEndedAt
-        (IsWholeUpTo (setting_of L.supply options) (all_shown L.meaning boxes.items) input) (whole_lines (script_text input))
+        (IsWholeUpTo (setting_with L.supply options (book_view book)) (all_shown L.meaning boxes.items) input) (whole_lines (script_text input))
         (W.stream writer.old) (W.stream writer.new) (W.handed writer.new) result) }
 {
-    exit_status(answer_live(alloc, key, options, reader, writer, boxes))
+    exit_status(answer_live(
+        alloc, key, options, reader, writer, boxes, book,
+    ))
 }

@@ -8,6 +8,7 @@ ghost use Rattle.ir_event.specs.Modules.{module_in};
 ghost use Rattle.mlir_work_session.specs.Public.{IsOnly};
 ghost use Rattle.ir_text_modules.specs.Modules.{SpellsModule};
 ghost use Rattle.rewriter_laws.specs.Journals.{IsSlotted, IsTidy};
+ghost use Rattle.mlir_work_session.specs.Shelf.{Book as Patterns, book_view};
 ghost use Rattle.mlir_work_session.specs.Panels.{all_shown};
 ghost use Rattle.mlir_work_session.specs.Limits.{most_input_bytes, most_reads, most_script_bytes};
 ghost use Rattle.mlir_work_session.specs.Lines.{lines_of};
@@ -18,7 +19,7 @@ ghost use Rattle.mlir_work_session.specs.Output.{IsSession, Way, way_of};
 ghost use Rattle.mlir_work_session.specs.PrintsAlone.{all_print, kinds_apart};
 ghost use Rattle.mlir_work_run.specs.Ends.{EndedSo, HandedOut, HasFailed, HasStatus, Leaves, LeavesAt, ended_of};
 ghost use Rattle.mlir_work_run.specs.Ends.{status_of};
-ghost use Rattle.mlir_work_run.specs.Whole.{IsOutput, IsRefusal, WhyNot, cause_if, manner_of, module_cause, setting_of};
+ghost use Rattle.mlir_work_run.specs.Whole.{IsOutput, IsRefusal, WhyNot, cause_if, manner_of, module_cause, setting_of, setting_with};
 
 use crate::refusing::{cause_if, put_unread};
 use dialects_int::tables::registry;
@@ -30,6 +31,7 @@ use ir_event::types::refusal::Refusal;
 use ir_event::world::World;
 use ir_text_modules::module::read_module;
 use mlir_work_causes::cause::{Cause, cause_at};
+use mlir_work_session::book::Book;
 use mlir_work_session::input::{MAX_INPUT_BYTES, ReadFault, read_all, script_is_too_long, split};
 use mlir_work_session::manner::Manner;
 use mlir_work_session::prints::{only_prints, print_session};
@@ -255,8 +257,8 @@ fn answer_prints<W: Sink, L: Analysis>(
     requires short { length script.now ≤ most_script_bytes }
     requires prints { all_print (lines_of script.now) ≡ true }
     requires apart { kinds_apart L.meaning boxes.now ≡ true }
-    ensures { (way : Way) (next : ℕ) → way.manner.ends ≡ false → HandedOut
-        (IsSession way (all_shown L.meaning boxes.now)
+    ensures { (way : Way) (start : Patterns) (next : ℕ) → way.manner.ends ≡ false → HandedOut
+        (IsSession way start (all_shown L.meaning boxes.now)
         (record { tree = meaning ctx.now tree.now; next = next }) script.now)
         (W.stream writer.old) (W.stream writer.new) (W.handed writer.new) result }
 {
@@ -274,14 +276,15 @@ fn answer_script<W: Sink, L: Supplied>(
     script: &[u8],
     writer: &mut W,
     boxes: Vec<L>,
+    book: Book,
 ) -> Result<u8, WriteFault>
     requires slotted { IsSlotted world.store }
     requires tidy { IsTidy world.store }
     requires mode { world.ctx.opaque ≡ manner.now.opaque }
-    ensures { HandedOut (IsSession (way_of L.supply manner.now) (all_shown L.meaning boxes.items) (module_in world) script.now)
+    ensures { HandedOut (IsSession (way_of L.supply manner.now) (book_view book) (all_shown L.meaning boxes.items) (module_in world) script.now)
         (W.stream writer.old) (W.stream writer.new) (W.handed writer.new) result }
 {
-    match run_session(alloc, manner, world, script, writer, boxes) {
+    match run_session(alloc, manner, world, script, writer, boxes, book) {
         Ok(status) => finish(writer, status),
         Err(fault) => Err(fault),
     }
@@ -309,9 +312,10 @@ fn answer_input<W: Sink, L: Supplied>(
     input: Vec<u8>,
     writer: &mut W,
     boxes: Vec<L>,
+    book: Book,
 ) -> Result<u8, WriteFault>
     requires { length input.items ≤ most_input_bytes }
-    ensures { HandedOut (IsOutput (setting_of L.supply options) (all_shown L.meaning boxes.items) input.items)
+    ensures { HandedOut (IsOutput (setting_with L.supply options (book_view book)) (all_shown L.meaning boxes.items) input.items)
         (W.stream writer.old) (W.stream writer.new) (W.handed writer.new) result }
 {
     let manner = manner_of(options, input.len());
@@ -325,7 +329,7 @@ fn answer_input<W: Sink, L: Supplied>(
     let Some(world) = hold(alloc, ctx, tree) else {
         return refuse(writer, options.explain, no_memory());
     };
-    answer_script(alloc, &manner, world, &script, writer, boxes)
+    answer_script(alloc, &manner, world, &script, writer, boxes, book)
 }
 
 fn ended(ran: Result<u8, WriteFault>) -> Result<u8, Fault>
@@ -348,9 +352,10 @@ pub fn read_and_answer_watched<R: Source, W: Sink, L: Supplied>(
     reader: &mut R,
     writer: &mut W,
     boxes: Vec<L>,
+    book: Book,
 ) -> Result<u8, Fault>
     ensures ran { IfSome (R.intake reader.old).remaining (λ input. EndedSo
-        (IsOutput (setting_of L.supply options) (all_shown L.meaning boxes.items) input)
+        (IsOutput (setting_with L.supply options (book_view book)) (all_shown L.meaning boxes.items) input)
         (W.stream writer.old).contents (W.stream writer.new).contents result) }
     ensures leaves { Leaves (R.intake reader.old) (R.intake reader.new)
         (W.stream writer.old) (W.stream writer.new) (W.handed writer.new) result }
@@ -371,7 +376,9 @@ pub fn read_and_answer_watched<R: Source, W: Sink, L: Supplied>(
         }
         Err(ReadFault::Broken) => return Err(Fault::Read),
     };
-    ended(answer_input(alloc, key, options, input, writer, boxes))
+    ended(answer_input(
+        alloc, key, options, input, writer, boxes, book,
+    ))
 }
 
 /// Reads the whole input, and then runs it. After a read fault nothing is written; after a write fault a
@@ -389,7 +396,15 @@ pub fn read_and_answer<R: Read, W: Write, L: Supplied>(
         (W.contents writer.old) (W.contents writer.new) result) }
     ensures unread { IfErr result (λ e. e ≡ Fault.Read → Keeps (W.contents writer.old) (W.contents writer.new)) }
 {
-    read_and_answer_watched(alloc, key, options, reader, writer, boxes)
+    read_and_answer_watched(
+        alloc,
+        key,
+        options,
+        reader,
+        writer,
+        boxes,
+        Book::new(alloc),
+    )
 }
 
 fn exit_status(ended: Result<u8, Fault>) -> u8
@@ -414,16 +429,19 @@ pub fn run_watched<L: Supplied, R: Source, W: Sink>(
     reader: &mut R,
     writer: &mut W,
     boxes: Vec<L>,
+    book: Book,
 ) -> u8
     ensures ran { IfSome (R.intake reader.old).remaining (λ input. HasStatus
-        (IsOutput (setting_of L.supply options) (all_shown L.meaning boxes.items) input)
+        (IsOutput (setting_with L.supply options (book_view book)) (all_shown L.meaning boxes.items) input)
         (W.stream writer.old).contents (W.stream writer.new).contents result) }
     ensures leaves { LeavesAt (R.intake reader.old) (R.intake reader.new)
         (W.stream writer.old) (W.stream writer.new) (W.handed writer.new) result }
     ensures fault { result ≡ 4 → HasFailed (R.intake reader.old) (R.intake reader.new) (W.stream writer.new) }
     ensures made { AreMadeAtMost (R.intake reader.old).reads (R.intake reader.new).reads most_reads }
 {
-    exit_status(read_and_answer_watched(alloc, key, options, reader, writer, boxes))
+    exit_status(read_and_answer_watched(
+        alloc, key, options, reader, writer, boxes, book,
+    ))
 }
 
 /// Reads the whole input, a module and a script, then writes the output. What is written is an output of
@@ -458,5 +476,13 @@ pub fn run_keyed<L: Supplied, R: Read, W: Write>(
         (IsOutput (setting_of L.supply options) (all_shown L.meaning boxes.items) input)
         (W.contents writer.old) (W.contents writer.new) result) }
 {
-    run_watched(alloc, key, options, reader, writer, boxes)
+    run_watched(
+        alloc,
+        key,
+        options,
+        reader,
+        writer,
+        boxes,
+        Book::new(alloc),
+    )
 }

@@ -21,6 +21,7 @@ use Rattle.mlir_work_script.specs.Limits.{most_script_bytes}
 use Rattle.mlir_work_session.specs.Machine.{Obeys, response_of}
 use Rattle.mlir_work_book.specs.Notices.{IsWithin, Plain}
 use Rattle.mlir_work_book.specs.Replies.{is_accepted}
+use Rattle.mlir_work_book.specs.Shelf.{Book}
 use Rattle.mlir_work_book.specs.Told.{reply_line}
 use Rattle.mlir_work_session.specs.Explained.{IsAbout}
 use Rattle.mlir_work_session.specs.Output.{Attaches, IsEnded, IsReplied, IsSession, Manner, Replies, Runs, Sitting, Way, asks, end_of, opening, says_nothing, shows_alone, worse}
@@ -211,10 +212,10 @@ print_step way unend n s text line more reply shows e prints f p later rest h =
 -- ---- sessions
 
 -- what the lines may give is what a session may give whose boxes have different kinds
-print_ran : {E : Type 0} (way : Way) → way.manner.ends ≡ false → (boxes : List Shown) (m : Module) (script : List ℕ) (a b : Stream) (r : Result ℕ E) → length script ≤ most_script_bytes → are_apart boxes ≡ true →
-    RanOut (Runs way 1 (opening (record { held = m; marks = []; panel = map begun boxes })) (lines_of script)) a b r → RanOut (IsSession way boxes m script) a b r
-print_ran way unend boxes m script a b r short apart ran =
-    ran_weaker (Runs way 1 (opening (record { held = m; marks = []; panel = map begun boxes })) (lines_of script)) (IsSession way boxes m script) a b r
+print_ran : {E : Type 0} (way : Way) (start : Book) → way.manner.ends ≡ false → (boxes : List Shown) (m : Module) (script : List ℕ) (a b : Stream) (r : Result ℕ E) → length script ≤ most_script_bytes → are_apart boxes ≡ true →
+    RanOut (Runs way 1 (opening start (record { held = m; marks = []; panel = map begun boxes })) (lines_of script)) a b r → RanOut (IsSession way start boxes m script) a b r
+print_ran way start unend boxes m script a b r short apart ran =
+    ran_weaker (Runs way 1 (opening start (record { held = m; marks = []; panel = map begun boxes })) (lines_of script)) (IsSession way start boxes m script) a b r
     (λ st o h. inr (
       short,
       record {
@@ -230,6 +231,6 @@ print_ran way unend boxes m script a b r short apart ran =
       },
     )) ran
 
-pub prints_ran : {B E : Type 0} (meaning : B → Listener) (way : Way) → way.manner.ends ≡ false → (bs : List B) (m : Module) (script : List ℕ) (a b : Stream) (r : Result ℕ E) → length script ≤ most_script_bytes → kinds_apart meaning bs ≡ true →
-    ((panel : List Shown) → RanOut (Runs way 1 (opening (record { held = m; marks = []; panel = panel })) (lines_of script)) a b r) → RanOut (IsSession way (all_shown meaning bs) m script) a b r
-prints_ran meaning way unend bs m script a b r short apart ran = print_ran way unend (all_shown meaning bs) m script a b r short (apart_shown meaning bs ∙ apart) (ran _)
+pub prints_ran : {B E : Type 0} (meaning : B → Listener) (way : Way) (start : Book) → way.manner.ends ≡ false → (bs : List B) (m : Module) (script : List ℕ) (a b : Stream) (r : Result ℕ E) → length script ≤ most_script_bytes → kinds_apart meaning bs ≡ true →
+    ((panel : List Shown) → RanOut (Runs way 1 (opening start (record { held = m; marks = []; panel = panel })) (lines_of script)) a b r) → RanOut (IsSession way start (all_shown meaning bs) m script) a b r
+prints_ran meaning way start unend bs m script a b r short apart ran = print_ran way start unend (all_shown meaning bs) m script a b r short (apart_shown meaning bs ∙ apart) (ran _)

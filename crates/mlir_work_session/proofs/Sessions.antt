@@ -7,12 +7,13 @@ use Rattle.mlir_work_script.specs.Limits.{most_script_bytes}
 use Rattle.mlir_work_script.proofs.Joins.{grows_join, front_join, front_more}
 use Rattle.mlir_work_transforms.specs.rewriter.Machine.{State}
 use Rattle.mlir_work_transforms.specs.rewriter.Panels.{Shown}
+use Rattle.mlir_work_book.specs.Shelf.{Book}
 use Rattle.mlir_work_session.specs.Output.{Begun, Runs, Session, Way, opening, worse}
 use Rattle.mlir_work_session.specs.Ran.{RanOut}
 use Rattle.mlir_work_session.proofs.Runs.{some_runs}
 
-module _ (way : Way) (boxes : List Shown) (m : Module) (script : List ℕ) where
-  session_of : (s : State) (accepted : Bool) (front : List ℕ) (later : ℕ) (rest : List ℕ) → Begun way.manner.ends boxes m s accepted front → Runs way 1 (opening s) (lines_of script) later rest → Session way boxes m script (worse accepted later) (front ++ rest)
+module _ (way : Way) (start : Book) (boxes : List Shown) (m : Module) (script : List ℕ) where
+  session_of : (s : State) (accepted : Bool) (front : List ℕ) (later : ℕ) (rest : List ℕ) → Begun way.manner.ends boxes m s accepted front → Runs way 1 (opening start s) (lines_of script) later rest → Session way start boxes m script (worse accepted later) (front ++ rest)
   session_of s accepted front later rest h k = record {
     panel = h.panel;
     accepted = accepted;
@@ -20,26 +21,26 @@ module _ (way : Way) (boxes : List Shown) (m : Module) (script : List ℕ) where
     later = later;
     rest = rest;
     attached = h.attached;
-    runs = subst (λ (x : State). Runs way 1 (opening x) (lines_of script) later rest) h.state_is k;
+    runs = subst (λ (x : State). Runs way 1 (opening start x) (lines_of script) later rest) h.state_is k;
     status_is = refl;
     out_is = ap (λ (xs : List ℕ). xs ++ rest) h.out_is;
   }
 
   -- the boxes were attached, and then the script ran to its end
-  pub session_ran : (a b c : Stream) (s : State) (accepted : Bool) (front : List ℕ) (later : ℕ) (rest : List ℕ) → Begun way.manner.ends boxes m s accepted front → Grows a b front → Runs way 1 (opening s) (lines_of script) later rest → Grows b c rest →
-      (out : List ℕ) × Session way boxes m script (worse accepted later) out × Grows a c out
+  pub session_ran : (a b c : Stream) (s : State) (accepted : Bool) (front : List ℕ) (later : ℕ) (rest : List ℕ) → Begun way.manner.ends boxes m s accepted front → Grows a b front → Runs way 1 (opening start s) (lines_of script) later rest → Grows b c rest →
+      (out : List ℕ) × Session way start boxes m script (worse accepted later) out × Grows a c out
   session_ran a b c s accepted front later rest h wrote k more = (front ++ rest, session_of s accepted front later rest h k, grows_join a b c front rest wrote more)
 
   -- or not
-  pub session_cut : (a b c : Stream) (s : State) (accepted : Bool) (front : List ℕ) (later : ℕ) (rest : List ℕ) → Begun way.manner.ends boxes m s accepted front → Grows a b front → Runs way 1 (opening s) (lines_of script) later rest → GrowsFront b c rest →
-      (status : ℕ) × (out : List ℕ) × Session way boxes m script status out × GrowsFront a c out
+  pub session_cut : (a b c : Stream) (s : State) (accepted : Bool) (front : List ℕ) (later : ℕ) (rest : List ℕ) → Begun way.manner.ends boxes m s accepted front → Grows a b front → Runs way 1 (opening start s) (lines_of script) later rest → GrowsFront b c rest →
+      (status : ℕ) × (out : List ℕ) × Session way start boxes m script status out × GrowsFront a c out
   session_cut a b c s accepted front later rest h wrote k more = (worse accepted later, front ++ rest, session_of s accepted front later rest h k, front_join a b c front rest wrote more)
 
   -- or the boxes weren't all attached
   pub session_begun : (a b : Stream) (s : State) (accepted : Bool) (front : List ℕ) → Begun way.manner.ends boxes m s accepted front → GrowsFront a b front →
-      (status : ℕ) × (out : List ℕ) × Session way boxes m script status out × GrowsFront a b out
+      (status : ℕ) × (out : List ℕ) × Session way start boxes m script status out × GrowsFront a b out
   session_begun a b s accepted front h wrote =
-      let some = some_runs way (lines_of script) 1 (opening s) in
+      let some = some_runs way (lines_of script) 1 (opening start s) in
       (worse accepted some.0, front ++ some.1, session_of s accepted front some.0 some.1 h some.2, front_more a b front some.1 wrote)
 
 pub short : (n : ℕ) (long : Bool) → (IsTrue long ↔ (most_script_bytes < n)) → long ≡ false → n ≤ most_script_bytes

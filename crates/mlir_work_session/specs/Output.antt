@@ -18,6 +18,7 @@ use Rattle.mlir_work_script.specs.Lines.{lines_of}
 use Rattle.mlir_work_script.specs.Orders.{Order, PrintIds, ReportOf, Why}
 use Rattle.mlir_work_script.specs.Replies.{refused_line, attach_refused_line, kind_line, stale_line, kind_memory_line, module_memory_line}
 use Rattle.mlir_work_book.specs.Notices.{IsWithin, Notice, Plain}
+use Rattle.mlir_work_book.specs.Shelf.{Book}
 use Rattle.mlir_work_book.specs.Shelves.{Shelves}
 use Rattle.mlir_work_session_base.specs.RowText.{rows_text}
 use Rattle.mlir_work_session.specs.Explained.{IsAbout}
@@ -202,15 +203,15 @@ pub record Begun (ends : Bool) (boxes : List Shown) (m : Module) (s : State) (ac
   pub state_is : s ≡ record { held = m; marks = []; panel = panel }
   pub out_is : out ≡ front ++ end_of ends
 
--- boxes are attached to a panel that has none, and then the lines of a script are run
-pub record Session (way : Way) (boxes : List Shown) (m : Module) (script : List ℕ) (status : ℕ) (out : List ℕ) : Type 0 where
+-- boxes are attached to a panel that has none, and then the lines of a script are run, beside these patterns
+pub record Session (way : Way) (start : Book) (boxes : List Shown) (m : Module) (script : List ℕ) (status : ℕ) (out : List ℕ) : Type 0 where
   pub panel : List Shown
   pub accepted : Bool
   pub front : List ℕ
   pub later : ℕ
   pub rest : List ℕ
   pub attached : Attaches boxes [] panel accepted front
-  pub runs : Runs way 1 (opening (record { held = m; marks = []; panel = panel })) (lines_of script) later rest
+  pub runs : Runs way 1 (opening start (record { held = m; marks = []; panel = panel })) (lines_of script) later rest
   pub status_is : status ≡ worse accepted later
   pub out_is : out ≡ (front ++ end_of way.manner.ends) ++ rest
 
@@ -218,7 +219,7 @@ pub record Session (way : Way) (boxes : List Shown) (m : Module) (script : List 
 abbrev pub IsBadScript : ℕ → List ℕ → Type 0
 IsBadScript status out = (status ≡ 1) × (out ≡ refused_line 1 BadCommand)
 
--- this status and these bytes are an output of a script over a module, with these boxes
-abbrev pub IsSession : Way → List Shown → Module → List ℕ → ℕ → List ℕ → Type 0
-IsSession way boxes m script status out =
-    ((most_script_bytes < length script) × IsBadScript status out) ⊎ ((length script ≤ most_script_bytes) × Session way boxes m script status out)
+-- this status and these bytes are an output of a script over a module, with these patterns and boxes
+abbrev pub IsSession : Way → Book → List Shown → Module → List ℕ → ℕ → List ℕ → Type 0
+IsSession way start boxes m script status out =
+    ((most_script_bytes < length script) × IsBadScript status out) ⊎ ((length script ≤ most_script_bytes) × Session way start boxes m script status out)

@@ -17,9 +17,9 @@ pub record Sitting : Type 0 where
   pub state : State
   pub book : Book
 
--- a bench in this state, and no pattern yet
-abbrev pub opening : State → Sitting
-opening s = record { state = s; book = [] }
+-- a bench in this state, and the patterns that are there from the start
+abbrev pub opening : Book → State → Sitting
+opening book s = record { state = s; book = book }
 
 -- what a bench and a book in memory are
 abbrev pub sitting_of : {B : Type 0} → (B → Listener) → Benched B → BookCode → Sitting

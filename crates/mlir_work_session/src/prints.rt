@@ -9,6 +9,7 @@ ghost use Rattle.mlir_work_script.specs.Writes.{Puts};
 ghost use Rattle.mlir_work_script.specs.Limits.{most_script_bytes};
 ghost use Rattle.mlir_work_transforms.specs.rewriter.Panels.{Shown, all_shown};
 ghost use Rattle.mlir_work_session.specs.Machine.{response_of};
+ghost use Rattle.mlir_work_book.specs.Shelf.{Book};
 ghost use Rattle.mlir_work_book.specs.Told.{reply_line};
 ghost use Rattle.mlir_work_session.specs.Output.{IsSession, Runs, Way, opening};
 ghost use Rattle.mlir_work_session.specs.PrintsAlone.{IsPrinted, all_print, is_print, kinds_apart, prints_alone};
@@ -143,7 +144,7 @@ fn print_lines<W: Sink>(
 ) -> Result<u8, WriteFault>
     requires known { IsTrue (is_known ctx.now tree.now) }
     requires prints { all_print (lines_of script.now) ≡ true }
-    ensures { (way : Way) (next : ℕ) (panel : List Shown) → way.manner.ends ≡ false → RanOut (Runs way 1 (opening (record { held = record { tree = meaning ctx.now tree.now; next = next }; marks = []; panel = panel })) (lines_of script.now)) (W.stream writer.old) (W.stream writer.new) result }
+    ensures { (way : Way) (start : Book) (next : ℕ) (panel : List Shown) → way.manner.ends ≡ false → RanOut (Runs way 1 (opening start (record { held = record { tree = meaning ctx.now tree.now; next = next }; marks = []; panel = panel })) (lines_of script.now)) (W.stream writer.old) (W.stream writer.new) result }
 {
     let mut text = script;
     let mut n = 1u64;
@@ -180,7 +181,7 @@ pub fn print_session<L: Analysis, W: Sink>(
     requires short { length script.now ≤ most_script_bytes }
     requires prints { all_print (lines_of script.now) ≡ true }
     requires apart { kinds_apart L.meaning boxes.now ≡ true }
-    ensures { (way : Way) (next : ℕ) → way.manner.ends ≡ false → RanOut (IsSession way (all_shown L.meaning boxes.now) (record { tree = meaning ctx.now tree.now; next = next }) script.now) (W.stream writer.old) (W.stream writer.new) result }
+    ensures { (way : Way) (start : Book) (next : ℕ) → way.manner.ends ≡ false → RanOut (IsSession way start (all_shown L.meaning boxes.now) (record { tree = meaning ctx.now tree.now; next = next }) script.now) (W.stream writer.old) (W.stream writer.new) result }
 {
     print_lines(alloc, ctx, tree, script, writer)
 }

@@ -4,6 +4,7 @@ ghost use Rattle.ir_event.specs.Modules.{module_in};
 ghost use Rattle.mlir_work_transforms.specs.rewriter.Journals.{IsSlotted, IsTidy};
 ghost use Rattle.mlir_work_transforms.specs.rewriter.Held.{module_held, open_marks};
 ghost use Rattle.mlir_work_transforms.specs.rewriter.Panels.{all_shown};
+ghost use Rattle.mlir_work_book.specs.Shelf.{book_view};
 ghost use Rattle.mlir_work_session.specs.Machine.{way_of};
 ghost use Rattle.mlir_work_session.specs.Output.{IsSession, IsBadScript, Session, worse as worst};
 ghost use Rattle.mlir_work_session.specs.Ran.{RanOut};
@@ -36,17 +37,18 @@ fn attach_and_run<L: Supplied, W: Sink>(
     script: &[u8],
     writer: &mut W,
     boxes: Vec<L>,
+    book: Book,
 ) -> Result<u8, WriteFault>
     requires none { bench.old.listeners ≡ [] }
     requires unmarked { open_marks bench.old.desk ≡ [] }
     requires mode { bench.old.desk.ctx.opaque ≡ manner.now.opaque }
-    ensures { RanOut (Session (way_of L.supply manner.now) (all_shown L.meaning boxes.items) (module_held bench.old.desk) script.now) (W.stream writer.old) (W.stream writer.new) result }
+    ensures { RanOut (Session (way_of L.supply manner.now) (book_view book) (all_shown L.meaning boxes.items) (module_held bench.old.desk) script.now) (W.stream writer.old) (W.stream writer.new) result }
 {
     let accepted = match begin(manner.ends, bench, boxes, writer) {
         Ok(accepted) => accepted,
         Err(fault) => return Err(fault),
     };
-    let mut book = Book::new(alloc);
+    let mut book = book;
     match run_script(alloc, manner, bench, &mut book, script, writer) {
         Ok(status) => Ok(worse(accepted, status)),
         Err(fault) => Err(fault),
@@ -63,7 +65,7 @@ fn refuse_script<W: Sink>(writer: &mut W) -> Result<u8, WriteFault>
     }
 }
 
-/// Attaches listeners to a module, in order, and runs a script over it; writes as it goes. The status is 1
+/// Attaches listeners to a module, in order, and runs a script over it, beside a book of patterns; writes as it goes. The status is 1
 /// where a listener or a command was refused, and else 0. A script over its limit is one bad command.
 pub fn run_session<L: Supplied, W: Sink>(
     alloc: Global,
@@ -72,15 +74,16 @@ pub fn run_session<L: Supplied, W: Sink>(
     script: &[u8],
     writer: &mut W,
     boxes: Vec<L>,
+    book: Book,
 ) -> Result<u8, WriteFault>
     requires slotted { IsSlotted world.store }
     requires tidy { IsTidy world.store }
     requires mode { world.ctx.opaque ≡ manner.now.opaque }
-    ensures { RanOut (IsSession (way_of L.supply manner.now) (all_shown L.meaning boxes.items) (module_in world) script.now) (W.stream writer.old) (W.stream writer.new) result }
+    ensures { RanOut (IsSession (way_of L.supply manner.now) (book_view book) (all_shown L.meaning boxes.items) (module_in world) script.now) (W.stream writer.old) (W.stream writer.new) result }
 {
     if script_is_too_long(script) {
         return refuse_script(writer);
     }
     let mut bench = Bench::over(alloc, world);
-    attach_and_run(alloc, manner, &mut bench, script, writer, boxes)
+    attach_and_run(alloc, manner, &mut bench, script, writer, boxes, book)
 }

@@ -1,19 +1,17 @@
 -- Runs of rewrites at one operation.
-use Rattle.std.proofs.Common.{◌≡◌, ◌≢◌, refl, ap, sym, ◌∙◌, subst, ℕ, zero, suc, ◌+◌, ◌-◌, ◌≤◌, ◌<◌, inl, inr, ◌⊎◌, Bool, true, false, cond, ◌&&◌, List, [], ◌∷◌, Option, Some, None, true≢false, arith}
-use Rattle.std.specs.Prelude.{nat_le}
+use Rattle.std.proofs.Common.{◌≡◌, ◌≢◌, refl, ap, sym, ◌∙◌, ℕ, zero, suc, ◌+◌, ◌-◌, ◌≤◌, ◌<◌, inl, inr, ◌⊎◌, Bool, true, false, cond, List, [], ◌∷◌, true≢false, arith}
 use Rattle.ir_event.specs.types.declared.refusal.Refusal.{Refusal}
-use Rattle.ir_event.specs.types.declared.refusal.Refusal.TheVariants.{Memory, BadLimit, Full, NoSuchOp, IdsExhausted}
+use Rattle.ir_event.specs.types.declared.refusal.Refusal.TheVariants.{Memory, BadLimit, Full, NoSuchOp}
 use Rattle.ir_event.specs.trees.Ids.{has_id}
 use Rattle.ir_event.specs.Modules.{Module}
 use Rattle.conversion.specs.patterns.Rule.{Rule}
 use Rattle.conversion.specs.patterns.Rewrites.{Rewrite, none, refused, becomes}
-use Rattle.conversion.specs.patterns.Canonicalization.{Canonical, or_else, first_rule, greedy_rules, End, converged, limited, stopped, ended, end_of, go_on, lowest, most_rewrites}
+use Rattle.conversion.specs.patterns.Canonicalization.{or_else, first_rule, greedy_rules, converged, limited, stopped, ended, end_of, go_on, lowest}
 use Rattle.conversion_base.proofs.Collapsing.{none_there}
-use Rattle.greedy.specs.Outcomes.{Applied, Refuses, Tells, IsReasonFor, count_of, ending_of, is_limit}
-use Rattle.greedy.specs.declared.outcome.Outcome.{Outcome}
+use Rattle.greedy.specs.Outcomes.{Applied, Refuses, is_limit}
 use Rattle.greedy.proofs.Comings.{IsCount, count_no_limit, limited_by, not_stopped, rules_count, stopped_is}
 use Rattle.mlir_work_transforms.specs.At.{canonical_at, canonicalization_at, rewritten_at}
-use Rattle.mlir_work_transforms.specs.AtRuns.{ComeToAt, IsCanonicalAt, IsReasonAt, StopAt}
+use Rattle.mlir_work_transforms.specs.AtRuns.{IsReasonAt, StopAt}
 
 module _ (x : ℕ) where
   -- ---- one rewrite, or none

@@ -18,6 +18,8 @@ untouched_lines xs names = (sym (append-nil xs), refl)
 
 pub joined_lines : (fs gs : List Fired) (xs ys zs : List ℕ) (names others lasts : List (List ℕ)) → TakenDown fs xs names ys others → TakenDown gs ys others zs lasts
     → TakenDown (fs ++ gs) xs names zs lasts
-joined_lines fs gs xs ys zs names others lasts f g =
-    (g.0 ∙ ap (λ ns. ys ++ trace_text ns gs) f.1 ∙ ap (λ l. l ++ trace_text names gs) f.0 ∙ append_assoc xs (trace_text names fs) (trace_text names gs)
-    ∙ ap (λ l. xs ++ l) (sym (trace_joined names fs gs)), g.1 ∙ f.1)
+joined_lines fs gs xs ys zs names others lasts f g = (
+  g.0 ∙ ap (λ ns. ys ++ trace_text ns gs) f.1 ∙ ap (λ l. l ++ trace_text names gs) f.0 ∙ append_assoc xs (trace_text names fs) (trace_text names gs)
+      ∙ ap (λ l. xs ++ l) (sym (trace_joined names fs gs)),
+  g.1 ∙ f.1,
+)

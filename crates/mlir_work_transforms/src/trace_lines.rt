@@ -98,12 +98,7 @@ fn put_gone(text: &mut Vec<u8>, stays: bool, op: OpId) -> Result<(), AllocError>
 }
 
 /// Appends the front of a line: what was applied at which operation.
-fn put_site(
-    text: &mut Vec<u8>,
-    names: &[Vec<u8>],
-    by: By,
-    op: OpId,
-) -> Result<(), AllocError>
+fn put_site(text: &mut Vec<u8>, names: &[Vec<u8>], by: By, op: OpId) -> Result<(), AllocError>
     ensures { OnOk result (text.new.items ≡ text.old.items
         ++ (codes "rewrote " ++ (by_text (map (λ n. n.items) names.now) by ++ (codes " " ++ op_text op)))) }
 {

@@ -1,3 +1,4 @@
+use Rattle.mlir_work_session.specs.Shelf.{book_view}
 use Rattle.std.proofs.Common.{◌≡◌, ◌∙◌, ap, subst}
 use Rattle.std.specs.Prelude.{IfSome}
 use Rattle.ir_event.specs.types.Things.{Things}
@@ -6,7 +7,7 @@ use Rattle.mlir_work_lines.specs.Feeding.{waiting}
 use Rattle.mlir_work_session.specs.Held.{module_held}
 use Rattle.mlir_work_session.specs.Panels.{all_shown}
 use Rattle.mlir_work_run.specs.Live.{Live, LiveEnded, whole_lines}
-use Rattle.mlir_work_run.specs.Whole.{setting_of}
+use Rattle.mlir_work_run.specs.Whole.{setting_with}
 use Rattle.mlir_work_run.proofs.live.answer_world.Goals as goal
 
 pub answer_bench-requires-clause-none : goal.answer_bench-requires-clause-none
@@ -19,7 +20,7 @@ pub returns-clause-ended : goal.returns-clause-ended
 returns-clause-ended g c =
     let is = c.over-bench.ensures.desk in
     let same : module_held c.over-bench.result.desk ≡ module_in c.args.world = (λ i. module_meaning (is.ctx i) (is.module_of i)) in
-    subst (λ (m : Module). IfSome (waiting c.args.kept.now.items (g.R.Source.intake c.args.reader.now).remaining) (λ script. LiveEnded (Live (setting_of g.L.Supplied.supply c.args.options) (all_shown g.L.Analysis.meaning c.args.boxes.items) m c.args.before) (whole_lines script) (g.W.Sink.stream c.args.writer.now) (g.W.Sink.stream c.answer_bench.new.writer) (g.W.Sink.handed c.answer_bench.new.writer) c.answer_bench.result)) same c.answer_bench.ensures.ended
+    subst (λ (m : Module). IfSome (waiting c.args.kept.now.items (g.R.Source.intake c.args.reader.now).remaining) (λ script. LiveEnded (Live (setting_with g.L.Supplied.supply c.args.options (book_view c.args.book)) (all_shown g.L.Analysis.meaning c.args.boxes.items) m c.args.before) (whole_lines script) (g.W.Sink.stream c.args.writer.now) (g.W.Sink.stream c.answer_bench.new.writer) (g.W.Sink.handed c.answer_bench.new.writer) c.answer_bench.result)) same c.answer_bench.ensures.ended
 
 pub answer_bench-requires-clause-mode : goal.answer_bench-requires-clause-mode
 answer_bench-requires-clause-mode g c = ap (λ (d : Things). d.opaque) c.over-bench.ensures.desk.ctx ∙ c.requires.mode

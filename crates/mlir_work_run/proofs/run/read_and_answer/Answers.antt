@@ -11,3 +11,6 @@ returns-clause-unread g c =
     let old : Stream = record { contents = g.W.Write.contents c.args.writer.now; failed = true } in
     let new : Stream = record { contents = g.W.Write.contents c.read_and_answer_watched.new.writer; failed = true } in
     unread taken left old new true c.read_and_answer_watched.result c.read_and_answer_watched.ensures.leaves
+
+pub returns-clause-ran : goal.returns-clause-ran
+returns-clause-ran g c = rw c.new.ensures at c.read_and_answer_watched.ensures.ran

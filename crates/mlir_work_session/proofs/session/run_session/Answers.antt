@@ -4,21 +4,22 @@ use Rattle.std.specs.Prelude.{length}
 use Rattle.ir_event.specs.types.Things.{Things}
 use Rattle.ir_event.specs.Modules.{Module, module_in, module_meaning}
 use Rattle.mlir_work_transforms.specs.rewriter.Panels.{all_shown}
+use Rattle.mlir_work_book.specs.Shelf.{book_view}
 use Rattle.mlir_work_session.specs.Machine.{way_of}
 use Rattle.mlir_work_session.specs.Output.{IsSession, IsBadScript, Session}
 use Rattle.mlir_work_session.proofs.Sessions.{short, ran_weaker}
 use Rattle.mlir_work_session.proofs.session.run_session.Goals as goal
 
 pub returns-then-script_is_too_long : goal.returns-then-script_is_too_long
-returns-then-script_is_too_long g c = ran_weaker IsBadScript (IsSession (way_of g.L.Supplied.supply c.args.manner.now) (all_shown g.L.Analysis.meaning c.args.boxes.items) (module_in c.args.world) c.args.script.now) (g.W.Sink.stream c.args.writer.now) (g.W.Sink.stream c.refuse_script.new.writer) c.refuse_script.result (λ st o h. inl (c.if-script_is_too_long.ensures.0 refl, h)) c.refuse_script.ensures
+returns-then-script_is_too_long g c = ran_weaker IsBadScript (IsSession (way_of g.L.Supplied.supply c.args.manner.now) (book_view c.args.book) (all_shown g.L.Analysis.meaning c.args.boxes.items) (module_in c.args.world) c.args.script.now) (g.W.Sink.stream c.args.writer.now) (g.W.Sink.stream c.refuse_script.new.writer) c.refuse_script.result (λ st o h. inl (c.if-script_is_too_long.ensures.0 refl, h)) c.refuse_script.ensures
 
 pub returns : goal.returns
 returns g c =
     let boxes = all_shown g.L.Analysis.meaning c.args.boxes.items in
     let is = c.over-bench.ensures.desk in
     let same : module_held c.over-bench.result.desk ≡ module_in c.args.world = (λ i. module_meaning (is.ctx i) (is.module_of i)) in
-    ran_weaker (Session (way_of g.L.Supplied.supply c.args.manner.now) boxes (module_held c.over-bench.result.desk) c.args.script.now) (IsSession (way_of g.L.Supplied.supply c.args.manner.now) boxes (module_in c.args.world) c.args.script.now) (g.W.Sink.stream c.args.writer.now) (g.W.Sink.stream c.attach_and_run.new.writer) c.attach_and_run.result
-    (λ st o h. inr (short (length c.args.script.now) _ c.if-script_is_too_long.ensures refl, subst (λ (m : Module). Session (way_of g.L.Supplied.supply c.args.manner.now) boxes m c.args.script.now st o) same h)) c.attach_and_run.ensures
+    ran_weaker (Session (way_of g.L.Supplied.supply c.args.manner.now) (book_view c.args.book) boxes (module_held c.over-bench.result.desk) c.args.script.now) (IsSession (way_of g.L.Supplied.supply c.args.manner.now) (book_view c.args.book) boxes (module_in c.args.world) c.args.script.now) (g.W.Sink.stream c.args.writer.now) (g.W.Sink.stream c.attach_and_run.new.writer) c.attach_and_run.result
+    (λ st o h. inr (short (length c.args.script.now) _ c.if-script_is_too_long.ensures refl, subst (λ (m : Module). Session (way_of g.L.Supplied.supply c.args.manner.now) (book_view c.args.book) boxes m c.args.script.now st o) same h)) c.attach_and_run.ensures
 
 pub attach_and_run-requires-clause-unmarked : goal.attach_and_run-requires-clause-unmarked
 attach_and_run-requires-clause-unmarked g c = c.over-bench.ensures.desk.opens

@@ -1,4 +1,4 @@
-use Rattle.std.proofs.Common.{◌∙◌, sym, refl}
+use Rattle.std.proofs.Common.{◌∙◌, sym}
 use Rattle.conversion.specs.patterns.Canonicalization.{greedy_rules}
 use Rattle.greedy.proofs.Noting.{noted_none}
 use Rattle.mlir_work_transforms.proofs.AtRuns.{applied_none, none_at}

@@ -1,4 +1,4 @@
-use Rattle.std.proofs.Common.{◌∙◌, refl, sym, ap, inl, inr}
+use Rattle.std.proofs.Common.{◌∙◌, sym, ap, inl, inr}
 use Rattle.conversion.specs.patterns.Canonicalization.{ended}
 use Rattle.greedy.specs.Outcomes.{count_of, ending_of}
 use Rattle.greedy.proofs.Comings.{limit_low, limit_high, limit_fits}
