@@ -7,7 +7,7 @@ ghost use Rattle.ir_types.specs.Terms.{name_term, type_term, type_terms, some_ty
 ghost use Rattle.ir_text.specs.Rows.{parted};
 ghost use Rattle.ir_text.specs.AttrText.{is_truth, truth_text, number_text, integer_text, items_text, dense_text, part_text, flags_text, opaque_text, is_flag, entry_text, in_curly, attr_text, attr_texts, entry_texts};
 
-use crate::between::put_between;
+use crate::between::{put_between, put_short};
 use crate::numbers::{put_reading, put_signed};
 use crate::types::put_type;
 use ir_text_tokens::print::{put_key, put_string};
@@ -49,7 +49,7 @@ fn put_truth(out: &mut Vec<u8>, is_zero: bool) -> Result<(), AllocError>
     if is_zero {
         out.extend_from_slice(b"false")
     } else {
-        out.extend_from_slice(b"true")
+        put_short(out, b"true")
     }
 }
 
@@ -64,7 +64,7 @@ fn put_integer(ctx: &Context, out: &mut Vec<u8>, ty: TypeId, bits: u128) -> Resu
         return put_truth(out, reading.magnitude == 0);
     }
     put_reading(out, &reading)?;
-    out.extend_from_slice(b" : ")?;
+    put_short(out, b" : ")?;
     put_type(ctx, out, ty)
 }
 
@@ -98,7 +98,7 @@ fn put_items(out: &mut Vec<u8>, truth: bool, numbers: &[i64]) -> Result<(), Allo
     match numbers {
         [] => Ok(()),
         [_, ..] => {
-            out.extend_from_slice(b": ")?;
+            put_short(out, b": ")?;
             put_numbers(out, truth, numbers)
         }
     }
@@ -116,7 +116,7 @@ fn put_dense(
     out.extend_from_slice(b"array<")?;
     put_type(ctx, out, elem)?;
     put_items(out, is_truth(ctx, elem), numbers)?;
-    out.extend_from_slice(b">")
+    put_short(out, b">")
 }
 
 /// Appends a part of a symbol reference.
@@ -124,7 +124,7 @@ fn put_part(ctx: &Context, out: &mut Vec<u8>, part: NameId) -> Result<(), AllocE
     requires { IsName ctx.now part }
     ensures { OnOk result (out.new.items ≡ out.old.items ++ part_text (name_term ctx.now part)) }
 {
-    out.extend_from_slice(b"@")?;
+    put_short(out, b"@")?;
     put_key(out, name_of(ctx, part))
 }
 
@@ -157,8 +157,8 @@ fn put_flags(out: &mut Vec<u8>, nsw: bool, nuw: bool) -> Result<(), AllocError>
     ensures { OnOk result (out.new.items ≡ out.old.items ++ (codes "#arith.overflow<" ++ (flags_text nsw nuw ++ codes ">"))) }
 {
     out.extend_from_slice(b"#arith.overflow<")?;
-    out.extend_from_slice(flags_text(nsw, nuw))?;
-    out.extend_from_slice(b">")
+    put_short(out, flags_text(nsw, nuw))?;
+    put_short(out, b">")
 }
 
 /// Appends an opaque attribute: its text and, where it has one, its type.
@@ -175,7 +175,7 @@ fn put_opaque(
     match ty {
         None => Ok(()),
         Some(ty) => {
-            out.extend_from_slice(b" : ")?;
+            put_short(out, b" : ")?;
             put_type(ctx, out, *ty)
         }
     }
@@ -198,11 +198,11 @@ pub fn put_attr(ctx: &Context, out: &mut Vec<u8>, id: AttrId) -> Result<(), Allo
         AttrNode::Int { ty, value } => put_integer(ctx, out, *ty, *value),
         AttrNode::Str(name) => put_string(out, name_of(ctx, *name)),
         AttrNode::Ty(ty) => put_type(ctx, out, *ty),
-        AttrNode::Unit => out.extend_from_slice(b"unit"),
+        AttrNode::Unit => put_short(out, b"unit"),
         AttrNode::Array(items) => {
-            out.extend_from_slice(b"[")?;
+            put_short(out, b"[")?;
             put_attrs(ctx, out, items.as_slice())?;
-            out.extend_from_slice(b"]")
+            put_short(out, b"]")
         }
         AttrNode::Dict(entries) => put_entries(ctx, out, entries.as_slice()),
         AttrNode::Sym(parts) => put_symbol(ctx, out, parts.as_slice()),
@@ -238,7 +238,7 @@ fn put_entry(ctx: &Context, out: &mut Vec<u8>, key: NameId, attr: AttrId) -> Res
     if is_flag(ctx, attr) {
         return Ok(());
     }
-    out.extend_from_slice(b" = ")?;
+    put_short(out, b" = ")?;
     put_attr(ctx, out, attr)
 }
 
@@ -253,12 +253,12 @@ pub(crate) fn put_entries(
     requires attrs { All (λ (e : ℕ × ℕ). e.1 < length ctx.now.attrs) entries.now }
     ensures { OnOk result (out.new.items ≡ out.old.items ++ in_curly (entry_texts (entries_at ctx.now.names (attr_terms ctx.now) entries.now))) }
 {
-    out.extend_from_slice(b"{")?;
+    put_short(out, b"{")?;
     let mut first = true;
     'entries: for entry in entries {
         put_between(out, first, b", ")?;
         first = false;
         put_entry(ctx, out, entry.0, entry.1)?;
     }
-    out.extend_from_slice(b"}")
+    put_short(out, b"}")
 }

@@ -1,14 +1,47 @@
-//! Texts in a row.
+//! Texts in a row, and short ones.
 ghost use Rattle.std.specs.Prelude.{◌≡◌, ◌++◌, OnOk, [], if◌then◌else◌};
 
 use std::alloc::AllocError;
 
+/// Appends bytes. Up to four are put one by one, which costs less than to copy them.
+#[inline(always)]
+pub(crate) fn put_short(out: &mut Vec<u8>, bytes: &[u8]) -> Result<(), AllocError>
+    ensures { OnOk result (out.new.items ≡ out.old.items ++ bytes.now) }
+{
+    match bytes {
+        [a] => {
+            out.push(*a)?;
+            Ok(())
+        }
+        [a, b] => {
+            out.push(*a)?;
+            out.push(*b)?;
+            Ok(())
+        }
+        [a, b, c] => {
+            out.push(*a)?;
+            out.push(*b)?;
+            out.push(*c)?;
+            Ok(())
+        }
+        [a, b, c, d] => {
+            out.push(*a)?;
+            out.push(*b)?;
+            out.push(*c)?;
+            out.push(*d)?;
+            Ok(())
+        }
+        _ => out.extend_from_slice(bytes),
+    }
+}
+
 /// Appends the mark that stands between texts in a row, unless the first of them comes next.
+#[inline(always)]
 pub(crate) fn put_between(out: &mut Vec<u8>, first: bool, mark: &[u8]) -> Result<(), AllocError>
     ensures { OnOk result (out.new.items ≡ out.old.items ++ (if first then [] else mark.now)) }
 {
     if first {
         return Ok(());
     }
-    out.extend_from_slice(mark)
+    put_short(out, mark)
 }

@@ -17,6 +17,7 @@ ghost use Rattle.ir_text.specs.Printing.{put, put_results, results_text, put_ope
 ghost use Rattle.ir_text.specs.View.{named_in, printed_in, head_in, region_in, regions_in, ops_in, types_in, entries_in};
 
 use crate::attributes::put_entries;
+use crate::between::put_short;
 use crate::naming::{NamedValue, Printer, Source};
 use crate::numbers::put_number;
 use crate::types::{put_outputs, put_type};
@@ -41,13 +42,13 @@ fn put(out: &mut Printer, bytes: &[u8]) -> Result<(), AllocError>
 fn put_pack(out: &mut Vec<u8>, number: u32, count: usize) -> Result<(), AllocError>
     ensures { OnOk result (out.new.items ≡ out.old.items ++ results_text number count) }
 {
-    out.extend_from_slice(b"%")?;
+    put_short(out, b"%")?;
     put_number(out, u64::from(number))?;
     if count != 1 {
-        out.extend_from_slice(b":")?;
+        put_short(out, b":")?;
         put_number(out, count as u64)?;
     }
-    out.extend_from_slice(b" = ")
+    put_short(out, b" = ")
 }
 
 /// The number after another one. There are never so many that it is past a u32.
@@ -103,9 +104,9 @@ fn put_properties(
     match entries {
         [] => Ok(()),
         [_, ..] => {
-            out.extend_from_slice(b" <")?;
+            put_short(out, b" <")?;
             put_dictionary(ctx, out, entries)?;
-            out.extend_from_slice(b">")
+            put_short(out, b">")
         }
     }
 }
@@ -121,7 +122,7 @@ fn put_attributes(
     match entries {
         [] => Ok(()),
         [_, ..] => {
-            out.extend_from_slice(b" ")?;
+            put_short(out, b" ")?;
             put_dictionary(ctx, out, entries)
         }
     }
@@ -146,7 +147,7 @@ fn put_function_type(
     requires { IsTrue (list_all (is_type ctx.now) results.now) }
     ensures { OnOk result (out.new.items ≡ out.old.items ++ type_text (Function (types_of (map (value_type (named_in ctx.now named.now.entries)) operands.now)) (types_of (types_in ctx.now results.now)))) }
 {
-    out.extend_from_slice(b"(")?;
+    put_short(out, b"(")?;
     put_operand_types(ctx, out, named, operands)?;
     out.extend_from_slice(b") -> ")?;
     put_result_types(ctx, out, results)
@@ -179,9 +180,9 @@ fn put_tail(ctx: &Context, out: &mut Printer, op: &TreeOp) -> Result<(), AllocEr
     ensures { OnOk result (printed_in ctx.now out.new ≡ put_tail (head_in ctx.now (head op.now)) (printed_in ctx.now out.old)) }
 {
     put_attributes(ctx, &mut out.text, &op.attrs)?;
-    out.text.extend_from_slice(b" : ")?;
+    put_short(&mut out.text, b" : ")?;
     put_function_type(ctx, &mut out.text, &out.named, &op.operands, &op.results)?;
-    out.text.extend_from_slice(b"\n")
+    put_short(&mut out.text, b"\n")
 }
 
 /// Appends what parts the items of a list, in front of the one at a place.
@@ -189,7 +190,7 @@ fn put_comma(out: &mut Printer, place: usize) -> Result<(), AllocError>
     ensures { (c : Things) → OnOk result (printed_in c out.new ≡ put (comma_at place) (printed_in c out.old)) }
 {
     if place > 0 {
-        out.text.extend_from_slice(b", ")?;
+        put_short(&mut out.text, b", ")?;
     }
     Ok(())
 }
@@ -204,9 +205,9 @@ fn put_argument_text(
     requires { IsType ctx.now ty }
     ensures { OnOk result (out.new.items ≡ out.old.items ++ argument_text number (type_term ctx.now ty)) }
 {
-    out.extend_from_slice(b"%arg")?;
+    put_short(out, b"%arg")?;
     put_number(out, u64::from(number))?;
-    out.extend_from_slice(b": ")?;
+    put_short(out, b": ")?;
     put_type(ctx, out, ty)
 }
 

@@ -7,7 +7,7 @@ ghost use Rattle.std.specs.Fmt.{decimal};
 ghost use Rattle.ir_text.specs.Rows.{parted};
 ghost use Rattle.ir_text.specs.TypeText.{sign_text, dimension_text, is_function, is_lone, in_round, outputs_text, type_text, type_texts};
 
-use crate::between::put_between;
+use crate::between::{put_between, put_short};
 use crate::numbers::put_number;
 use ir_types::context::Context;
 use ir_types::ids::TypeId;
@@ -29,7 +29,7 @@ fn sign_text(sign: Sign) -> &'static [u8]
 fn put_integer_type(out: &mut Vec<u8>, sign: Sign, width: u32) -> Result<(), AllocError>
     ensures { OnOk result (out.new.items ≡ out.old.items ++ (sign_text sign ++ decimal width)) }
 {
-    out.extend_from_slice(sign_text(sign))?;
+    put_short(out, sign_text(sign))?;
     put_number(out, u64::from(width))
 }
 
@@ -37,10 +37,10 @@ fn put_dimension(out: &mut Vec<u8>, dim: Option<u64>) -> Result<(), AllocError>
     ensures { OnOk result (out.new.items ≡ out.old.items ++ dimension_text dim) }
 {
     match dim {
-        None => out.extend_from_slice(b"?x"),
+        None => put_short(out, b"?x"),
         Some(size) => {
             put_number(out, size)?;
-            out.extend_from_slice(b"x")
+            put_short(out, b"x")
         }
     }
 }
@@ -83,7 +83,7 @@ pub fn put_type(ctx: &Context, out: &mut Vec<u8>, id: TypeId) -> Result<(), Allo
         TypeNode::Int { sign, width } => put_integer_type(out, *sign, *width),
         TypeNode::Index => out.extend_from_slice(b"index"),
         TypeNode::Func { inputs, outputs } => {
-            out.extend_from_slice(b"(")?;
+            put_short(out, b"(")?;
             put_types(ctx, out, inputs.as_slice())?;
             out.extend_from_slice(b") -> ")?;
             put_outputs(ctx, out, outputs.as_slice())
@@ -92,7 +92,7 @@ pub fn put_type(ctx: &Context, out: &mut Vec<u8>, id: TypeId) -> Result<(), Allo
             out.extend_from_slice(b"memref<")?;
             put_dimensions(out, dims.as_slice())?;
             put_type(ctx, out, *elem)?;
-            out.extend_from_slice(b">")
+            put_short(out, b">")
         }
         TypeNode::Opaque(text) => out.extend_from_slice(text.as_slice()),
     }
@@ -127,7 +127,7 @@ pub(crate) fn put_outputs(
     if is_lone(ctx, ids) {
         return put_types(ctx, out, ids);
     }
-    out.extend_from_slice(b"(")?;
+    put_short(out, b"(")?;
     put_types(ctx, out, ids)?;
-    out.extend_from_slice(b")")
+    put_short(out, b")")
 }

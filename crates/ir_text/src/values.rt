@@ -9,7 +9,7 @@ ghost use Rattle.ir_text.specs.Naming.{name_text, source_of, naming_of, value_te
 ghost use Rattle.ir_text_types.specs.TypeGrammar.{types_of};
 ghost use Rattle.ir_text.specs.View.{naming_in, named_in};
 
-use crate::between::put_between;
+use crate::between::{put_between, put_short};
 use crate::naming::{NamedValue, Source, ValueName};
 use crate::numbers::put_number;
 use crate::types::put_type;
@@ -42,17 +42,17 @@ fn put_name(out: &mut Vec<u8>, name: ValueName) -> Result<(), AllocError>
 {
     match name {
         ValueName::Only(number) => {
-            out.extend_from_slice(b"%")?;
+            put_short(out, b"%")?;
             put_number(out, u64::from(number))
         }
         ValueName::Part(number, place) => {
-            out.extend_from_slice(b"%")?;
+            put_short(out, b"%")?;
             put_number(out, u64::from(number))?;
-            out.extend_from_slice(b"#")?;
+            put_short(out, b"#")?;
             put_number(out, u64::from(place))
         }
         ValueName::Argument(number) => {
-            out.extend_from_slice(b"%arg")?;
+            put_short(out, b"%arg")?;
             put_number(out, u64::from(number))
         }
     }
@@ -66,7 +66,7 @@ fn put_value(
     ensures { (c : Things) → OnOk result (out.new.items ≡ out.old.items ++ value_text (named_in c named.now.entries) value) }
 {
     match naming_of(named, value) {
-        None => out.extend_from_slice(b"%"),
+        None => put_short(out, b"%"),
         Some(naming) => put_name(out, naming.name),
     }
 }
@@ -96,9 +96,9 @@ pub(crate) fn put_operands(
 ) -> Result<(), AllocError>
     ensures { (c : Things) → OnOk result (out.new.items ≡ out.old.items ++ in_round (map (value_text (named_in c named.now.entries)) operands.now)) }
 {
-    out.extend_from_slice(b"(")?;
+    put_short(out, b"(")?;
     put_values(out, named, operands)?;
-    out.extend_from_slice(b")")?;
+    put_short(out, b")")?;
     Ok(())
 }
 

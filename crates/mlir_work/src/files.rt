@@ -1,8 +1,11 @@
-//! The input of a run from files and commands that the command line names, and its output to a file.
+//! The input of a run from files and commands that the command line names, its book of patterns, and its output to a
+//! file.
 
 use mlir_work_front::input::{ReadFault, read_all};
 use mlir_work_front::options::Given;
 use mlir_work_inputs::inputs::{input_of, parts_of};
+use mlir_work_patterns::book::Book;
+use mlir_work_patterns::reading::{Unread, read_patterns};
 use std::alloc::{AllocError, Global};
 use std::{fs, io};
 
@@ -18,6 +21,13 @@ pub(crate) enum Fault<'a> {
     Unread(&'a str),
     /// The file has more bytes than an input may have.
     TooLong(&'a str),
+}
+
+/// A file of patterns: its name, and its text.
+#[derive(Drop)]
+pub(crate) struct PatternFile<'a> {
+    name: &'a str,
+    text: Vec<u8>,
 }
 
 /// The file that the output goes to, where it isn't standard output.
@@ -52,15 +62,20 @@ fn read<'a, R: io::Read>(
     }
 }
 
+/// The bytes of a file.
+fn text_of_file<'a>(rt: &HostRuntime, name: &'a str) -> Result<Vec<u8>, Fault<'a>> {
+    match fs::open(rt, name) {
+        Ok(mut file) => read(rt.alloc(), &mut file, name),
+        Err(_) => Err(Fault::Unread(name)),
+    }
+}
+
 /// The bytes of a file, or of standard input.
 fn text_of<'a>(rt: &HostRuntime, name: &'a str) -> Result<Vec<u8>, Fault<'a>> {
     if name == STANDARD {
         return read(rt.alloc(), &mut rt.stdin(), name);
     }
-    match fs::open(rt, name) {
-        Ok(mut file) => read(rt.alloc(), &mut file, name),
-        Err(_) => Err(Fault::Unread(name)),
-    }
+    text_of_file(rt, name)
 }
 
 /// Puts the scripts of files behind others.
@@ -139,4 +154,41 @@ pub(crate) fn inputs<'a>(rt: &HostRuntime, given: &Given<'a>) -> Result<Vec<Vec<
         }
     }
     Ok(inputs)
+}
+
+/// The files of patterns that the command line names, in their order; `-` is no standard input here.
+pub(crate) fn pattern_files<'a>(
+    rt: &HostRuntime,
+    given: &Given<'a>,
+) -> Result<Vec<PatternFile<'a>>, Fault<'a>> {
+    let mut files = Vec::new(rt.alloc());
+    for name in &given.patterns {
+        let text = text_of_file(rt, *name)?;
+        if files.push(PatternFile { name: *name, text }).is_err() {
+            return Err(Fault::Memory);
+        }
+    }
+    Ok(files)
+}
+
+/// The book of the patterns of files, or the name of a file with a line that isn't read, and that line.
+pub(crate) fn book_of<'a>(
+    alloc: Global,
+    files: &[PatternFile<'a>],
+) -> Result<Book, (&'a str, Unread)> {
+    let mut book = Book::new(alloc);
+    for file in files {
+        if let Err(unread) = read_patterns(alloc, &mut book, &file.text) {
+            return Err((file.name, unread));
+        }
+    }
+    Ok(book)
+}
+
+/// The book of the patterns of files that were read before, so that nothing but memory can be wanting.
+pub(crate) fn book_anew(alloc: Global, files: &[PatternFile<'_>]) -> Result<Book, AllocError> {
+    match book_of(alloc, files) {
+        Ok(book) => Ok(book),
+        Err(_) => Err(AllocError),
+    }
 }

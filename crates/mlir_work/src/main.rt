@@ -3,7 +3,9 @@
 
 mod files;
 
-use crate::files::{Fault, inputs, names_any, output_of};
+use crate::files::{
+    Fault, PatternFile, book_anew, book_of, inputs, names_any, output_of, pattern_files,
+};
 use clap::Error;
 use clap::error::ErrorKind;
 use mlir_work_front::dry::Bytes;
@@ -16,6 +18,8 @@ use mlir_work_front::source::Source;
 use mlir_work_front::watched::Watched;
 use mlir_work_front::writing::put;
 use mlir_work_listeners::seven::all_listeners;
+use mlir_work_patterns::error::PatternError;
+use mlir_work_patterns::reading::Unread;
 use std::alloc::{AllocError, Global};
 use std::io::BufWriter;
 use std::process::ExitCode;
@@ -77,18 +81,33 @@ fn refuse_input(rt: &HostRuntime, fault: &Fault<'_>) -> u8 {
     2
 }
 
-/// Runs what a reader has, with the analyses of the program, in the order of their kinds, and gives the status.
+/// Says why a line of a file of patterns isn't read, and gives the status.
+fn refuse_pattern(rt: &HostRuntime, name: &str, unread: &Unread) -> u8 {
+    let PatternError::Refused(fault) = unread.error else {
+        return no_memory(rt);
+    };
+    let refusal = fault.refusal.refusal();
+    let (line, at) = (unread.line, unread.at);
+    let (number, word) = (refusal.number(), refusal.word());
+    let _ = eprintln!(rt; "error: {name}: line {line}: refused {number} {word} at {at}");
+    2
+}
+
+/// Runs what a reader has, with the analyses of the program, in the order of their kinds, and patterns of one's own,
+/// and gives the status.
 fn run_one<R: Source, W: Sink>(
     rt: &HostRuntime,
     given: &Given<'_>,
+    patterns: &[PatternFile<'_>],
     reader: &mut R,
     writer: &mut W,
 ) -> Result<u8, AllocError> {
     let boxes = all_listeners(rt.alloc())?;
+    let book = book_anew(rt.alloc(), patterns)?;
     let (alloc, key, options) = (rt.alloc(), key_of(rt), given.options);
     match given.format {
-        Format::Text => Ok(run_watched(alloc, key, options, reader, writer, boxes)),
-        Format::Json => run_as_json(alloc, key, options, reader, writer, boxes),
+        Format::Text => Ok(run_watched(alloc, key, options, reader, writer, boxes, book)),
+        Format::Json => run_as_json(alloc, key, options, reader, writer, boxes, book),
     }
 }
 
@@ -104,10 +123,14 @@ fn watched<W: io::Write + Drop>(
 }
 
 /// Runs standard input, and gives the status.
-fn run_standard(rt: &HostRuntime, given: &Given<'_>) -> Result<u8, AllocError> {
+fn run_standard(
+    rt: &HostRuntime,
+    given: &Given<'_>,
+    patterns: &[PatternFile<'_>],
+) -> Result<u8, AllocError> {
     let mut reader = Watched::new(rt.stdin());
     let mut writer = watched(rt.alloc(), io::writer(rt))?;
-    run_one(rt, given, &mut reader, &mut writer)
+    run_one(rt, given, patterns, &mut reader, &mut writer)
 }
 
 /// Writes what stands between the outputs of two modules: the divider, or its object.
@@ -119,10 +142,12 @@ fn put_divider<W: Sink>(given: &Given<'_>, writer: &mut W) -> bool {
     put(writer, line).is_ok()
 }
 
-/// Runs inputs, one behind the other, and gives the greatest status. It ends where a write fails.
+/// Runs inputs, one behind the other, each with a book of its own, and gives the greatest status. It ends where a write
+/// fails.
 fn run_inputs<W: io::Write + Drop>(
     rt: &HostRuntime,
     given: &Given<'_>,
+    patterns: &[PatternFile<'_>],
     inputs: &[Vec<u8>],
     writer: W,
 ) -> Result<u8, AllocError> {
@@ -137,7 +162,7 @@ fn run_inputs<W: io::Write + Drop>(
         let mut reader = Bytes {
             rest: input.as_slice(),
         };
-        let status = run_one(rt, given, &mut reader, &mut writer)?;
+        let status = run_one(rt, given, patterns, &mut reader, &mut writer)?;
         if status > worst {
             worst = status;
         }
@@ -149,16 +174,20 @@ fn run_inputs<W: io::Write + Drop>(
 }
 
 /// Runs what the command line names, and gives the status.
-fn run_named(rt: &HostRuntime, given: &Given<'_>) -> Result<u8, AllocError> {
+fn run_named(
+    rt: &HostRuntime,
+    given: &Given<'_>,
+    patterns: &[PatternFile<'_>],
+) -> Result<u8, AllocError> {
     let inputs = match inputs(rt, given) {
         Ok(inputs) => inputs,
         Err(fault) => return Ok(refuse_input(rt, &fault)),
     };
     let Some(name) = output_of(given) else {
-        return run_inputs(rt, given, &inputs, io::writer(rt));
+        return run_inputs(rt, given, patterns, &inputs, io::writer(rt));
     };
     match fs::create(rt, name) {
-        Ok(file) => run_inputs(rt, given, &inputs, file),
+        Ok(file) => run_inputs(rt, given, patterns, &inputs, file),
         Err(_) => {
             let _ = eprintln!(rt; "error: {name}: it can't be written");
             Ok(2)
@@ -167,9 +196,14 @@ fn run_named(rt: &HostRuntime, given: &Given<'_>) -> Result<u8, AllocError> {
 }
 
 /// Answers each line of standard input as soon as it is there, with the analyses of the program, in the order of their
-/// kinds, and gives the status.
-fn answer_lines(rt: &HostRuntime, options: Options) -> Result<u8, AllocError> {
+/// kinds, and patterns of one's own, and gives the status.
+fn answer_lines(
+    rt: &HostRuntime,
+    options: Options,
+    patterns: &[PatternFile<'_>],
+) -> Result<u8, AllocError> {
     let listeners = all_listeners(rt.alloc())?;
+    let book = book_anew(rt.alloc(), patterns)?;
     let Ok(writer) = BufWriter::new(rt.alloc(), io::writer(rt)) else {
         return Err(AllocError);
     };
@@ -183,18 +217,35 @@ fn answer_lines(rt: &HostRuntime, options: Options) -> Result<u8, AllocError> {
         &mut reader,
         &mut writer,
         listeners,
+        book,
     ))
 }
 
-/// Runs what the command line says, and gives the status.
-fn run_given(rt: &HostRuntime, given: &Given<'_>) -> Result<u8, AllocError> {
+/// Runs what the command line says, with patterns that it names, and gives the status.
+fn run_with(
+    rt: &HostRuntime,
+    given: &Given<'_>,
+    patterns: &[PatternFile<'_>],
+) -> Result<u8, AllocError> {
     if names_any(given) || output_of(given).is_some() {
-        return run_named(rt, given);
+        return run_named(rt, given, patterns);
     }
     if given.options.ends {
-        return answer_lines(rt, given.options);
+        return answer_lines(rt, given.options, patterns);
     }
-    run_standard(rt, given)
+    run_standard(rt, given, patterns)
+}
+
+/// Runs what the command line says, and gives the status. Nothing is run where a pattern that it names is refused.
+fn run_given(rt: &HostRuntime, given: &Given<'_>) -> Result<u8, AllocError> {
+    let patterns = match pattern_files(rt, given) {
+        Ok(patterns) => patterns,
+        Err(fault) => return Ok(refuse_input(rt, &fault)),
+    };
+    match book_of(rt.alloc(), &patterns) {
+        Ok(_) => run_with(rt, given, &patterns),
+        Err((name, unread)) => Ok(refuse_pattern(rt, name, &unread)),
+    }
 }
 
 fn main(rt: HostRuntime) -> ExitCode {

@@ -2,12 +2,14 @@
 ghost use Rattle.std.specs.Prelude.{[], Some, IfOk, IfSome, OnErr};
 ghost use Rattle.std.specs.Io.KnownBytes.{Keeps};
 ghost use Rattle.mlir_work_run.specs.session.Panels.{all_shown};
+ghost use Rattle.mlir_work_run.specs.session.Shelf.{book_view};
 ghost use Rattle.mlir_work_run.specs.session.Writes.{Puts};
 ghost use Rattle.mlir_work_run.specs.Ends.{HasStatus};
-ghost use Rattle.mlir_work_run.specs.Whole.{IsOutput, setting_of};
+ghost use Rattle.mlir_work_run.specs.Whole.{IsOutput, setting_with};
 ghost use Rattle.mlir_work_front.specs.Json.{IsJsonOutput, IsTold};
 
 use mlir_work_json::text::json_text;
+use mlir_work_run::book::Book;
 use mlir_work_run::run::{Options, run_watched};
 use mlir_work_run::sink::Sink;
 use mlir_work_run::source::Source;
@@ -33,13 +35,14 @@ fn kept_output<L: Supplied, R: Source>(
     options: Options,
     reader: &mut R,
     boxes: Vec<L>,
+    book: Book,
 ) -> Result<(u8, Vec<u8>), AllocError>
     ensures { IfOk result (λ kept. IfSome (R.intake reader.old).remaining (λ input. HasStatus
-        (IsOutput (setting_of L.supply options) (all_shown L.meaning boxes.items) input)
+        (IsOutput (setting_with L.supply options (book_view book)) (all_shown L.meaning boxes.items) input)
         (Some []) (Some kept.1.items) kept.0)) }
 {
     let mut kept = Watched::new(Vec::new(alloc));
-    let status = run_watched(alloc, key, options, reader, &mut kept, boxes);
+    let status = run_watched(alloc, key, options, reader, &mut kept, boxes, book);
     if kept.has_failed() {
         return Err(AllocError);
     }
@@ -70,13 +73,14 @@ pub fn run_as_json<L: Supplied, R: Source, W: Sink>(
     reader: &mut R,
     writer: &mut W,
     boxes: Vec<L>,
+    book: Book,
 ) -> Result<u8, AllocError>
     ensures ran { IfOk result (λ status. IfSome (R.intake reader.old).remaining (λ input. HasStatus
-        (IsJsonOutput (setting_of L.supply options) (all_shown L.meaning boxes.items) input)
+        (IsJsonOutput (setting_with L.supply options (book_view book)) (all_shown L.meaning boxes.items) input)
         (W.stream writer.old).contents (W.stream writer.new).contents status)) }
     ensures unwritten { OnErr result (Keeps (W.stream writer.old).contents (W.stream writer.new).contents) }
 {
-    let (status, output) = kept_output(alloc, key, options, reader, boxes)?;
+    let (status, output) = kept_output(alloc, key, options, reader, boxes, book)?;
     if status == 4 {
         return Ok(4);
     }

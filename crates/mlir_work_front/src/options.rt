@@ -35,6 +35,8 @@ pub struct Given<'a> {
     pub scripts: Vec<&'a str>,
     /// Commands, in their order, which come behind the scripts.
     pub commands: Vec<&'a str>,
+    /// The files of patterns of one's own that are there from the start, in their order.
+    pub patterns: Vec<&'a str>,
     /// The file that the output goes to, where one is named; `-` is standard output.
     pub output: Option<&'a str>,
     /// In which form the output is written.
@@ -138,6 +140,15 @@ fn line<'a>(alloc: Global) -> Arg<'a> {
         .action(ArgAction::Append)
 }
 
+/// The option that names a file of patterns.
+fn patterns<'a>(alloc: Global) -> Arg<'a> {
+    Arg::new(alloc, "patterns")
+        .long("patterns")
+        .value_name("FILE")
+        .help(text::PATTERNS)
+        .action(ArgAction::Append)
+}
+
 /// The option that names the file of the output.
 fn output<'a>(alloc: Global) -> Arg<'a> {
     Arg::new(alloc, "output")
@@ -156,6 +167,7 @@ fn command<'a>(alloc: Global) -> Result<Command<'a>, AllocError> {
         .arg(module(alloc))?
         .arg(script(alloc))?
         .arg(line(alloc))?
+        .arg(patterns(alloc))?
         .arg(output(alloc))?
         .arg(brief(alloc))?
         .arg(limit(alloc))?
@@ -205,6 +217,7 @@ pub fn options_of<'a>(alloc: Global, words: &'a [String]) -> Result<Given<'a>, E
         module: matches.get_str("module"),
         scripts: values_of(alloc, &matches, "script")?,
         commands: values_of(alloc, &matches, "command")?,
+        patterns: values_of(alloc, &matches, "patterns")?,
         output: matches.get_str("output"),
         format,
         split: matches.get_flag("split"),

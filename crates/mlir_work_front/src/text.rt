@@ -21,6 +21,9 @@ pub(crate) const SCRIPT: &str = "A further script; it may stand more than once";
 /// What `--command` says.
 pub(crate) const COMMAND: &str = "A further command, behind all scripts; likewise";
 
+/// What `--patterns` says.
+pub(crate) const PATTERNS: &str = "Patterns there from the start, a line each; likewise";
+
 /// What `--output` says.
 pub(crate) const OUTPUT: &str = "Where the output goes, not to standard output";
 
@@ -213,7 +216,8 @@ Exit status:
   1  a command was refused, or not as it was expected to be, or an analysis that
      was to be attached, or a check failed; what each number of a refusal means
      stands in docs/REFUSALS.md
-  2  the command line is wrong, or there was no memory to begin
+  2  the command line or a file that it names is wrong, as by a pattern that is
+     refused, or there was no memory to begin
   3  the module was refused, as in `module refused 3 UnknownValue at 9`: the
      number and word of the reason, and the byte where it stands
   4  a read or a write failed; with `--interactive` also where a line found no

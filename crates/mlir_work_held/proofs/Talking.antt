@@ -156,7 +156,7 @@ module _ (opaque : Bool) (limit : ℕ) where
 -- ---- the whole input
 
 -- a session without patterns
-opened_sitting : (s : Session) → book_view s.book ≡ [] → sitting s ≡ opening (state s)
+opened_sitting : (s : Session) → book_view s.book ≡ [] → sitting s ≡ opening [] (state s)
 opened_sitting s e = ap (λ (book : Book). record { state = state s; book = book }) e
 
 -- a state without marks
