@@ -1,6 +1,7 @@
 #!/usr/bin/env python3
 """Counts what a rewrite by patterns of one's own costs beside one of `canon`, in instructions by callgrind: of
-`rewrite` by ten patterns, and of `canon`, each beyond the same run without it, for each rewrite that it made, without listeners.
+`rewrite` by ten patterns, and of `canon`, each beyond the same run without it, for each rewrite that it made, without
+listeners.
 
 usage: bench/times/own_rewrites.py PROGRAM [SIZE..]
 
