@@ -184,4 +184,5 @@ def line_of(maker, run):
         return listed(maker, run)
     if pick < 0.95:
         return f"check {maker.choice([*run.book, 'nope'])} width {maker.choice([1, 1, 2, 2, 2, 3, 0, 25])}"
-    return maker.choice(["patterns", "patterns x", "check", "check p0 width", "pattern", "check 4", "rewrite p0"])
+    return maker.choice(["patterns", "patterns x", "check", "check p0 width", "pattern", "check 4",
+                         "rewrite p0 limit 4"])
