@@ -1,11 +1,10 @@
 -- A thing by its place in a list.
-use Rattle.std.proofs.Common.{◌≡◌, refl, sym, ap, ◌∙◌, subst, ℕ, zero, suc, ◌+◌, ◌<◌, ◌≤◌, Bool, true, false, cond, List, [], ◌∷◌, ◌++◌, length, Option, Some, None, ◌⊎◌, inl, inr, ⊎_elim, arith, is_some, lt-ltb, ltb-true}
+use Rattle.std.proofs.Common.{◌≡◌, refl, sym, ap, ◌∙◌, ℕ, zero, suc, ◌+◌, ◌<◌, ◌≤◌, Bool, true, false, cond, List, [], ◌∷◌, ◌++◌, length, Option, Some, None, slice_get, ◌⊎◌, inl, inr, ⊎_elim, arith, is_some, lt-ltb, ltb-true}
 use Rattle.std.specs.Prelude.{not, nat_lt, ◌||◌}
 use Rattle.std.specs.Map.{keys_of}
 use Rattle.std.specs.List.{position, position_or_len, list_any}
 use Rattle.std.proofs.lemmas.List.{map-append}
 use Rattle.ir_types_items.specs.Interned.{with_last}
-use Rattle.std.proofs.lemmas.Map.Entries.{length-keys_of}
 use Rattle.std.proofs.lemmas.Option.{same_Some}
 
 abbrev pub Found : {V : Type 0} → (V → Bool) → List V → Type 0
@@ -57,3 +56,23 @@ with_last-found p x xs h = rw h refl
 
 pub with_last-absent : {A : Type 0} (p : A → Bool) (x : A) (xs : List A) → list_any p xs ≡ false → with_last p x xs ≡ xs ++ x ∷ []
 with_last-absent p x xs h = rw h refl
+
+-- where a search has come past all in front, the thing is at the place or past it
+module _ {K V : Type 0} (p : K → Bool) where
+  pub is_here : (es : List (K × V)) (i : ℕ) (e : K × V) → slice_get es i ≡ Some e → i ≤ position_or_len p (keys_of es) → p e.0 ≡ true → (list_any p (keys_of es) ≡ true) × (i ≡ position_or_len p (keys_of es))
+  is_here [] i e h b t = absurd cc
+  is_here (x ∷ es) zero e h b t = rw (ap (λ y. p y.0) (same_Some _ _ h) ∙ t) (refl, refl)
+  is_here (x ∷ es) (suc i) e h b t = by (p x.0) b (λ b. is_here es i e h b t)
+    where
+      by : (q : Bool) → suc i ≤ cond (not q) (1 + position_or_len p (keys_of es)) 0 → (i ≤ position_or_len p (keys_of es) → (list_any p (keys_of es) ≡ true) × (i ≡ position_or_len p (keys_of es))) → ((q || list_any p (keys_of es)) ≡ true) × (suc i ≡ cond (not q) (1 + position_or_len p (keys_of es)) 0)
+      by true b next = absurd (omega (arith, b))
+      by false b next = let s = next (omega (arith, b)) in (s.0, omega (arith, s.1))
+
+  pub is_past : (es : List (K × V)) (i : ℕ) (e : K × V) → slice_get es i ≡ Some e → i ≤ position_or_len p (keys_of es) → p e.0 ≡ false → suc i ≤ position_or_len p (keys_of es)
+  is_past [] i e h b t = absurd cc
+  is_past (x ∷ es) zero e h b t = rw (ap (λ y. p y.0) (same_Some _ _ h) ∙ t) (omega arith)
+  is_past (x ∷ es) (suc i) e h b t = by (p x.0) b (λ b. is_past es i e h b t)
+    where
+      by : (q : Bool) → suc i ≤ cond (not q) (1 + position_or_len p (keys_of es)) 0 → (i ≤ position_or_len p (keys_of es) → suc i ≤ position_or_len p (keys_of es)) → suc (suc i) ≤ cond (not q) (1 + position_or_len p (keys_of es)) 0
+      by true b next = absurd (omega (arith, b))
+      by false b next = let s = next (omega (arith, b)) in omega (arith, s)

@@ -1,5 +1,5 @@
 //! Interning by place.
-ghost use Rattle.std.specs.Prelude.{◌≡◌, ◌≤◌, ◌⊎◌, [], ◌∷◌, ◌++◌, Bool, true, false, IfOk, OnOk, OnErr, IsErrOf, IsOk, ◌↔◌};
+ghost use Rattle.std.specs.Prelude.{◌≡◌, ◌≤◌, ◌⊎◌, [], ◌∷◌, ◌++◌, Bool, true, false, IfOk, OnOk, OnErr, IsErrOf, IsOk, IfSome, ◌↔◌};
 ghost use Rattle.std.specs.List.{position_or_len, list_any};
 ghost use Rattle.indexmap.specs.IndexMap.{keys, index_map_len};
 ghost use Rattle.ir_types_items.specs.Interned.{with_last};
@@ -32,9 +32,30 @@ impl<T: Drop> From<AllocFailed<T>> for InternFault {
     }
 }
 
-/// The place of a key in a map of at most `limit` keys. One that isn't there is put last, with the
-/// value. A key that is there takes no memory.
-pub fn intern<K: Eq + Hash + Drop, V: Drop>(
+/// How many keys are compared in turn.
+const FIRST: usize = 4;
+
+/// The place of a key among the first ones of a map, where it is one of these.
+fn among_first<K: Eq + Hash + Drop, V: Drop>(map: &IndexMap<K, V, Keyed>, key: &K) -> Option<u32>
+    ensures { IfSome result (λ n. (list_any (K.eq key.now) (keys map.now) ≡ true) × (n ≡ position_or_len (K.eq key.now) (keys map.now))) }
+{
+    let mut place = 0u32;
+    'places: while (place as usize) < FIRST {
+        match map.get_index(place as usize) {
+            Some((there, _)) => {
+                if key == there {
+                    return Some(place);
+                }
+            }
+            None => return None,
+        }
+        place += 1;
+    }
+    None
+}
+
+/// The place of a key, which is looked up by its hash.
+fn intern_hashed<K: Eq + Hash + Drop, V: Drop>(
     map: &mut IndexMap<K, V, Keyed>,
     limit: u32,
     key: K,
@@ -58,4 +79,28 @@ pub fn intern<K: Eq + Hash + Drop, V: Drop>(
     }
     map.insert(key, value)?;
     Ok(count as u32)
+}
+
+/// The place of a key in a map of at most `limit` keys. One that isn't there is put last, with the
+/// value. A key that is there takes no memory, and one of the first keys isn't hashed: most texts
+/// name few types, again and again.
+pub fn intern<K: Eq + Hash + Drop, V: Drop>(
+    map: &mut IndexMap<K, V, Keyed>,
+    limit: u32,
+    key: K,
+    value: V,
+) -> Result<u32, InternFault>
+    requires { index_map_len map.old ≤ limit }
+    ensures place { IfOk result (λ n. n ≡ position_or_len (K.eq key) (keys map.old)) }
+    ensures keys { OnOk result (keys map.new ≡ with_last (K.eq key) key (keys map.old)) }
+    ensures entries { OnOk result ((map.new.entries ≡ map.old.entries) ⊎ (map.new.entries ≡ map.old.entries ++ (key, value) ∷ [])) }
+    ensures within { index_map_len map.new ≤ limit }
+    ensures full { IsErrOf result InternFault.TooMany ↔ ((limit ≤ index_map_len map.old) × (list_any (K.eq key) (keys map.old) ≡ false)) }
+    ensures known { list_any (K.eq key) (keys map.old) ≡ true → IsOk result }
+    ensures err { OnErr result (map.new.entries ≡ map.old.entries) }
+{
+    if let Some(place) = among_first(map, &key) {
+        return Ok(place);
+    }
+    intern_hashed(map, limit, key, value)
 }

@@ -1,10 +1,9 @@
-use Rattle.std.proofs.Common.{◌≡◌, ◌∙◌, sym, ap, refl, arith, inl, inr, position, Some, None, true, false, true≢false, length, is_some}
-use Rattle.std.specs.List.{list_any, position_or_len}
+use Rattle.std.proofs.Common.{◌≡◌, ◌∙◌, sym, ap, refl, arith, inr, None, true≢false, is_some}
 use Rattle.std.specs.Map.{keys_of}
 use Rattle.indexmap.specs.IndexMap.{keys, get}
 use Rattle.indexmap.proofs.CallerLemmas.{insert_entry-new}
 use Rattle.ir_types_items.proofs.Placed.{found_at, absent_from, none_from_test, keys-push, with_last-found, with_last-absent}
-use Rattle.ir_types_items.proofs.intern.intern.Goals as goal
+use Rattle.ir_types_items.proofs.intern.intern_hashed.Goals as goal
 use Rattle.std.proofs.lemmas.Map.Entries.{length-keys_of}
 
 pub returns-in-Some-clause-keys : goal.returns-in-Some-clause-keys
