@@ -401,7 +401,5 @@ pub fn run_live<L: Supplied, R: Source, W: Sink>(
         (IsWholeUpTo (setting_with L.supply options (book_view book)) (all_shown L.meaning boxes.items) input) (whole_lines (script_text input))
         (W.stream writer.old) (W.stream writer.new) (W.handed writer.new) result) }
 {
-    exit_status(answer_live(
-        alloc, key, options, reader, writer, boxes, book,
-    ))
+    exit_status(answer_live(alloc, key, options, reader, writer, boxes, book))
 }

@@ -376,9 +376,7 @@ pub fn read_and_answer_watched<R: Source, W: Sink, L: Supplied>(
         }
         Err(ReadFault::Broken) => return Err(Fault::Read),
     };
-    ended(answer_input(
-        alloc, key, options, input, writer, boxes, book,
-    ))
+    ended(answer_input(alloc, key, options, input, writer, boxes, book))
 }
 
 /// Reads the whole input, and then runs it. After a read fault nothing is written; after a write fault a
@@ -396,15 +394,7 @@ pub fn read_and_answer<R: Read, W: Write, L: Supplied>(
         (W.contents writer.old) (W.contents writer.new) result) }
     ensures unread { IfErr result (λ e. e ≡ Fault.Read → Keeps (W.contents writer.old) (W.contents writer.new)) }
 {
-    read_and_answer_watched(
-        alloc,
-        key,
-        options,
-        reader,
-        writer,
-        boxes,
-        Book::new(alloc),
-    )
+    read_and_answer_watched(alloc, key, options, reader, writer, boxes, Book::new(alloc))
 }
 
 fn exit_status(ended: Result<u8, Fault>) -> u8
@@ -439,9 +429,7 @@ pub fn run_watched<L: Supplied, R: Source, W: Sink>(
     ensures fault { result ≡ 4 → HasFailed (R.intake reader.old) (R.intake reader.new) (W.stream writer.new) }
     ensures made { AreMadeAtMost (R.intake reader.old).reads (R.intake reader.new).reads most_reads }
 {
-    exit_status(read_and_answer_watched(
-        alloc, key, options, reader, writer, boxes, book,
-    ))
+    exit_status(read_and_answer_watched(alloc, key, options, reader, writer, boxes, book))
 }
 
 /// Reads the whole input, a module and a script, then writes the output. What is written is an output of
@@ -476,13 +464,5 @@ pub fn run_keyed<L: Supplied, R: Read, W: Write>(
         (IsOutput (setting_of L.supply options) (all_shown L.meaning boxes.items) input)
         (W.contents writer.old) (W.contents writer.new) result) }
 {
-    run_watched(
-        alloc,
-        key,
-        options,
-        reader,
-        writer,
-        boxes,
-        Book::new(alloc),
-    )
+    run_watched(alloc, key, options, reader, writer, boxes, Book::new(alloc))
 }

@@ -29,11 +29,7 @@ use mlir_work_transforms::trace_lines::TraceLines;
 use std::alloc::Global;
 
 /// What is told of rewriting: its lines stand below the reply where it was done, and nothing does where it was refused.
-pub(crate) fn told(
-    alloc: Global,
-    lines: TraceLines,
-    called: Result<Ended, Refusal>,
-) -> Answered
+pub(crate) fn told(alloc: Global, lines: TraceLines, called: Result<Ended, Refusal>) -> Answered
     ensures reply { response_of result.reply ≡ Replied (canonical_reply called) }
     ensures shows { result.shows.items ≡ told_if (is_accepted (Replied (canonical_reply called))) lines.text.items }
 {

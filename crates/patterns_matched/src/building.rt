@@ -36,7 +36,7 @@ pub(crate) fn as_operands(
 ) -> Result<Vec<Option<Operand>>, AllocError>
     ensures { IfOk result (λ os. os.items ≡ as_operands values.now) }
 {
-    let mut operands = Vec::new(alloc);
+    let mut operands = Vec::with_capacity(alloc, values.len())?;
     let mut rest = values;
     'values: while let [first, tail @ ..] = rest {
         operands.push(as_operand(first))?;
@@ -73,7 +73,7 @@ fn operands_at(
 ) -> Result<Option<Vec<Operand>>, AllocError>
     ensures { IfOk result (λ os. option_map (λ v. v.items) os ≡ operands_at places.now operands.now) }
 {
-    let mut found = Vec::new(alloc);
+    let mut found = Vec::with_capacity(alloc, places.len())?;
     let mut rest = places;
     'places: while let [first, tail @ ..] = rest {
         let Some(operand) = operand_at(operands, *first) else {

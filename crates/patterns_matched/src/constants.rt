@@ -89,7 +89,7 @@ pub(crate) fn outcomes(
         (is_clean (module_in world.now).tree) (module_in world.now).next (shape pattern.now) 0
         (shape pattern.now).values values.now) }
 {
-    let mut env = Vec::new(alloc);
+    let mut env = Vec::with_capacity(alloc, pattern.values.len())?;
     let mut place: usize = 0;
     let mut rest: &[usize] = &pattern.values;
     'values: while let [_, tail @ ..] = rest {

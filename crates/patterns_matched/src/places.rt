@@ -69,11 +69,14 @@ fn push_nothing(count: usize, values: &mut Vec<Option<Value>>) -> Result<(), All
     Ok(())
 }
 
+/// So many places a pattern has that isn't large: room for them is made at once.
+const FEW_PLACES: usize = 8;
+
 /// Nothing stands at the places of a pattern.
 pub(crate) fn nothing_at(alloc: Global, pattern: &Pattern) -> Result<Vec<Option<Value>>, AllocError>
     ensures { IfOk result (λ values. values.items ≡ nothing (places (shape pattern.now))) }
 {
-    let mut values = Vec::new(alloc);
+    let mut values = Vec::with_capacity(alloc, FEW_PLACES)?;
     push_nothing(pattern.values.len(), &mut values)?;
     push_nothing(pattern.further.len(), &mut values)?;
     push_nothing(pattern.given.len(), &mut values)?;

@@ -36,7 +36,7 @@ fn written(kind: Kind) -> Option<BoundType>
 fn written_types(alloc: Global, kinds: &[Kind]) -> Result<Vec<Option<BoundType>>, AllocError>
     ensures { IfOk result (λ types. types.items ≡ map written_of kinds.now) }
 {
-    let mut types = Vec::new(alloc);
+    let mut types = Vec::with_capacity(alloc, kinds.len())?;
     let mut rest = kinds;
     'kinds: while let [first, tail @ ..] = rest {
         types.push(written(*first))?;
@@ -199,7 +199,7 @@ pub(crate) fn kinds_of(
     requires { AreTypesOf ctx.now types.now }
     ensures { IfOk result (λ kinds. kinds.items ≡ map kind_standing (types_in ctx.now types.now)) }
 {
-    let mut kinds = Vec::new(alloc);
+    let mut kinds = Vec::with_capacity(alloc, types.len())?;
     let mut rest = types;
     'types: while let [first, tail @ ..] = rest {
         kinds.push(kind_standing(ctx, first))?;
