@@ -35,7 +35,7 @@ BEGINS = ("./run", "./test", "rt ", "tools/", "mlir-opt ", "MLIR_WORK", "(cat ",
 # Words in a sentence that are typed, and not only named.
 SAID = re.compile(r"MLIR_WORK\w*=\S+ .*|\./run .*|\./test.*|rt .*|tools/\w+\.(?:py|sh) .*|gate/check_\w+\.py|tr .*")
 RUN = "(cat module.mlir; echo '// -----'; cat FILE) | ./run --brief"
-TOP = "README.md CHANGELOG.md run test bench crates docs examples gate python tests tools crates.txt".split()
+TOP = "README.md CHANGELOG.md run test bench crates docs examples gate patterns python tests tools crates.txt".split()
 SESSION = "ids\ndead\nhelp\n"
 
 
@@ -87,6 +87,8 @@ COMMANDS = {
     "tr '\\n' ' '": Typed('"a"() : () -> () "b"() : () -> () ', given='"a"() : () -> ()\n"b"() : () -> ()\n'),
     "(head -c 28 FILE; echo x) | LC_ALL=C awk 'END { print NR, length($0) }'": Typed("1 29\n"),
     "tr -d '\\r' <FILE": Typed("// What is known"),
+    "./run --brief --patterns patterns/arith.patterns examples/canon.mlir -e 'rewrite select_alike trace'":
+        Typed("\nrewrote select_alike #7 erased #7\n"),
     "./run --brief examples/fold.mlir -s examples/fold.script -e 'report dead' -e print": Typed("func.return"),
 }
 

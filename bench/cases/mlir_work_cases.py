@@ -1116,6 +1116,21 @@ def command_lines():
     example = re.search(rb"<<'END'\n(.*)  END\n(.*)", help_text, re.S)
     module, out = (re.sub(rb"(?m)^  ", b"", part) for part in example.groups())
     run("brief", module, 0, out, script.BOXES)
+    # Files of patterns that can't be read, before whatever else (tools/tests/test_own_patterns.py has those that can).
+    for words in ("--patterns", "--patterns --brief", "--patterns x --patterns"):
+        wrong(words.split(), b"a value is required for '--patterns <FILE>' but none was supplied\n" + more)
+    unexpected("--patterns -x", "-x")
+    for words in ("--patterns x", "--patterns=x", "--patterns x y -s z", "--patterns x -o /dev/null/y -e print",
+                  "--patterns x --patterns y", "--patterns x --interactive", "--patterns x --format json"):
+        wrong(words.split(), b"x: it can't be read\n")
+    for name in ("", "-", ".", "/dev/null/x"):
+        wrong([f"--patterns={name}"], f"{name}: it can't be read\n".encode())
+    GOLDEN.case("--patterns x --help".split(), b"", (0, help_text))
+    wrong("--patterns x --interactive --format json".split(),
+          b"the argument '--interactive' cannot be used with '--format <FORMAT>'"
+          + usage.replace(b"[OPTIONS]", b"--patterns <FILE> --interactive") + more)
+    text = TEXT + DIVIDER + b"patterns\nreport uses\n"
+    GOLDEN.case("--patterns /dev/null --brief".split(), text, script.run(text))
 
 
 def interactive():

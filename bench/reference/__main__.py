@@ -2,34 +2,33 @@
 
 python3 -m reference [--brief] [--limit N] [--format FORMAT] [FLAG].. < INPUT
 python3 -m reference [--brief] [--limit N] [FLAG].. --interactive < INPUT
-python3 -m reference [--brief] [--limit N] [--format FORMAT] [FLAG].. --own-patterns [--patterns FILE].. < INPUT
 
-    --opaque    types and attributes that aren't known are kept as they are spelled, and aliases and locations are read
-    --explain   what a refusal is about stands behind it, as it does in JSON without the flag
+    --opaque          types and attributes that aren't known are kept as they are spelled, and aliases and locations are
+                      read
+    --explain         what a refusal is about stands behind it, as it does in JSON without the flag
+    --patterns FILE   patterns of one's own that are there from the start, a line each; it may stand more than once
 
-FORMAT is text or json. With --interactive each line is answered as soon as it is there. With --own-patterns files may
-have patterns of one's own, one a line, which are there from the start, and which the program doesn't read."""
-import pathlib
+FORMAT is text or json. With --interactive each line is answered as soon as it is there."""
 import re
 import sys
 
 from . import aliases, json_lines, live, own, rules
-from .script import LIMIT, MOST_LIMIT, run
+from .script import LIMIT, MOST_LIMIT
 
 
 class Options:
     """Whether to be brief, the limit, the format, what reads texts, whether lines are answered one by one, and the
-    files of patterns; none of these where there are to be no patterns."""
+    files of patterns."""
 
     def __init__(self, words):
-        self.limit, self.files, self.format, self.flags = None, None, None, set()
+        self.limit, self.files, self.format, self.flags = None, [], None, set()
         while words:
             words = self.after(*words)
         self.brief, self.is_live = "--brief" in self.flags, "--interactive" in self.flags
         self.limit = self.limit or LIMIT
         self.reader = aliases.Reader if "--opaque" in self.flags else rules.Reader
         self.explained = "--explain" in self.flags or self.format == "json"
-        if self.is_live and (self.format or self.files is not None):
+        if self.is_live and self.format:
             raise ValueError
 
     def after(self, word, *rest):
@@ -40,10 +39,7 @@ class Options:
         if word == "--format" and self.format is None and rest and rest[0] in ("text", "json"):
             self.format = rest[0]
             return rest[1:]
-        if word == "--own-patterns" and self.files is None:
-            self.files = []
-            return rest
-        if word == "--patterns" and self.files is not None and rest:
+        if word == "--patterns" and rest:
             self.files.append(rest[0])
             return rest[1:]
         if word == "--limit" and self.limit is None and rest and re.fullmatch("[+]?[0-9]+", rest[0]) and 1 <= int(
@@ -53,26 +49,16 @@ class Options:
         raise ValueError
 
     def run(self, given, out):
-        """Runs an input, and gives the status."""
+        """Runs an input, and gives the status. Nothing of it is read where a pattern is refused."""
+        how = self.brief, self.limit, own.book_of(self.files), self.reader, self.explained
         if self.is_live:
-            given = live.lines_of(given)
-            for status, told in live.answers(given, self.brief, self.limit, reader=self.reader,
-                                             explained=self.explained):
+            for status, told in own.answers(live.lines_of(given), *how):
                 out.write(told)
                 out.flush()
             return status
-        status, told = self.run_whole(given.read())
+        status, told = own.run(given.read(), *how)
         out.write(json_lines.json_of(told) if self.format == "json" else told)
         return status
-
-    def run_whole(self, text):
-        """The status of a whole run over an input, and what it writes."""
-        if self.files is None:
-            return run(text, self.brief, limit=self.limit, reader=self.reader, explained=self.explained)
-        book = {}
-        for file in self.files:
-            own.read_book(pathlib.Path(file).read_bytes(), book)
-        return own.run(text, self.brief, self.limit, book, self.reader, self.explained)
 
 
 def main(words):
@@ -86,8 +72,8 @@ def main(words):
         return 2
     try:
         return options.run(sys.stdin.buffer, sys.stdout.buffer)
-    except (OSError, own.BookRefused) as fault:
-        print(fault, file=sys.stderr)
+    except own.BookRefused as fault:
+        print(f"error: {fault}", file=sys.stderr)
         return 2
 
 

@@ -1,12 +1,13 @@
-"""Whole runs with a book of patterns that is there from the start, which the program doesn't have."""
+"""Whole runs, and such as answer line by line, with a book of patterns that is there from the start."""
 import functools
+import io
 
-from . import patterns, rules, script
+from . import live, patterns, rules, script
 from .script import ALL, BOXES, LIMIT
 
 
 class BookRefused(Exception):
-    """A line of a book is no pattern."""
+    """A line of a book is no pattern, or a file of one isn't read; says which, and why."""
 
 
 def read_book(text, book):
@@ -21,6 +22,29 @@ def read_book(text, book):
             book[found.name] = found
 
 
+def text_of(file):
+    """The text of a file of patterns."""
+    try:
+        with open(file, "rb") as given:
+            text = given.read(live.MOST_INPUT + 1)
+    except OSError:
+        raise BookRefused(f"{file}: it can't be read") from None
+    if len(text) > live.MOST_INPUT:
+        raise BookRefused(f"{file}: it is longer than an input may be")
+    return text
+
+
+def book_of(files):
+    """The book of files, in their order: each is read before the first line of one is defined."""
+    book = {}
+    for file, text in [(file, text_of(file)) for file in files]:
+        try:
+            read_book(text, book)
+        except BookRefused as fault:
+            raise BookRefused(f"{file}: {fault}") from None
+    return book
+
+
 class Run(script.Run):
     """A run with a book."""
 
@@ -32,3 +56,14 @@ class Run(script.Run):
 def run(text, brief=True, limit=LIMIT, book=None, reader=rules.Reader, explained=False):
     """The status of a run over an input, and what it writes."""
     return script.run(text, brief, BOXES, ALL, limit, functools.partial(Run, book=book), reader, explained)
+
+
+def answers(lines, brief=True, limit=LIMIT, book=None, reader=rules.Reader, explained=False):
+    """The answers to an input whose lines come one by one, each with the status if the input ends behind it."""
+    return live.answers(lines, brief, limit, BOXES, ALL, functools.partial(Run, book=book), reader, explained)
+
+
+def run_live(text, brief=True, limit=LIMIT, book=None):
+    """The status of a run that answers each line of an input as soon as it is there, and what it writes."""
+    statuses, told = zip(*answers(live.lines_of(io.BytesIO(text)), brief, limit, book))
+    return statuses[-1], b"".join(told)
