@@ -6,7 +6,8 @@
     be broken);
   - the picture of docs/ARCHITECTURE.md has each crate of crates/, and crates.txt no other, each above those it names;
   - bench/wrong_bodies/README.md lists each edit that the prover must refuse, and docs/PROMISES.md says how many there
-    are, and names in its last column no other.
+    are, and names in its last column no other;
+  - what an edit or a control is to replace stands once in its file.
 
 It lists the lines with "yet", "at present" and "so far": what they say is to be looked at whenever something lands.
 
@@ -24,6 +25,7 @@ INSIDE = {"src", "specs", "proofs", "must-fail"}
 LINES = ("bench", "c", "cpp", "examples", "gate", "python", "rust", "tests/embed", "tools")
 PLACEHOLDER = re.compile(r"\b(NAME|CRATE|MODULE|FUNCTION|FILE|FOLDER|OLD|NEW|WORD)\b")
 NO_EDITS = {"with_capacity"}  # a function that the table of planted bodies names
+PART_OF_EDIT = re.compile(r"^(file|old|new): ?", re.MULTILINE)
 ROW_OF_EDIT = re.compile(r"^\| `(\w+)` \| `(\w+)` \|", re.MULTILINE)
 root = pathlib.Path()
 WRONG_BODIES = root / "bench/wrong_bodies"
@@ -122,10 +124,23 @@ def edits_apart():
     yield from (f"docs/PROMISES.md: {name} is no edit" for name in sorted(named - names - NO_EDITS))
 
 
+def edits_astray():
+    """Where the text that an edit or a control is to replace doesn't stand in its file once."""
+    edits = [(path, path.parents[1].name) for path in root.glob("crates/*/must-fail/*.edit")]
+    edits += [(path, path.parent.name) for ending in ("edit", "control") for path in WRONG_BODIES.glob(f"*/*.{ending}")]
+    for edit, crate in sorted(edits):
+        words, file = PART_OF_EDIT.split(edit.read_text())[1:], root
+        for word, text in zip(words[::2], words[1::2]):
+            if word == "file":
+                file = root / "crates" / crate / text.strip()
+            elif word == "old" and (not file.is_file() or file.read_text().count(text.removesuffix("\n")) != 1):
+                yield f"{edit}: what it is to replace doesn't stand in {file} once"
+
+
 def main():
     found = [it for page in pages() for it in wrong_in(page)]
     wrong = [text for is_wrong, text in found if is_wrong]
-    wrong += [*long_lines(), *crates_apart(), *edits_apart()]
+    wrong += [*long_lines(), *crates_apart(), *edits_apart(), *edits_astray()]
     for text in wrong:
         print(text)
     for text in (text for is_wrong, text in found if not is_wrong):

@@ -16,6 +16,7 @@ use Rattle.ir_event.specs.types.Things.{Things}
 use Rattle.ir_event.specs.types.Words.{is_isolated}
 use Rattle.ir_event.proofs.of_trees.Mapped.{map_find, map_ids, map_place, map_visible}
 use Rattle.ir_event.proofs.of_tree_laws.Contents.{map_has_id, map_has_value, map_type_of_value, same_operands}
+use Rattle.ir_event.proofs.of_tree_laws.Sees.{any_same}
 use Rattle.rewriter_machine.specs.Commands.{Command, Erase, Replace, SetOperand}
 use Rattle.mlir_work_culprits.specs.Culprits.{Held, Operation, missing_op, missing_value, unseen, users_left}
 use Rattle.mlir_work_culprits.specs.Standing.{blind_users, comes_from, has_such, is_blind, is_inside, outside_users, stands_in, takes, takes_from, uses_from_outside}
@@ -23,10 +24,6 @@ use Rattle.mlir_work_culprits.specs.Standing.{blind_users, comes_from, has_such,
 has_alike : (p q : ℕ → Bool) → ((x : ℕ) → p x ≡ q x) → (o : Option ℕ) → has_such p o ≡ has_such q o
 has_alike p q f None = refl
 has_alike p q f (Some x) = f x
-
-any_alike : {X : Type 0} (p q : X → Bool) → ((x : X) → p x ≡ q x) → (xs : List X) → list_any p xs ≡ list_any q xs
-any_alike p q f [] = refl
-any_alike p q f (x ∷ xs) = λ i. f x i || any_alike p q f xs i
 
 module _ (c : Things) (t : Op) where
   pub missing_op_meant : (x : Option ℕ) → missing_op (meaning c t) x ≡ missing_op t x
@@ -40,13 +37,10 @@ module _ (c : Things) (t : Op) where
   pub type_meant : (v : Value) → type_of_value v (meaning c t) ≡ option_map (type_term c) (type_of_value v t)
   type_meant v = map_type_of_value (name_term c) (type_term c) (attr_term c) v t
 
-  parent_meant : (y : ℕ) → parent_of y (meaning c t) ≡ parent_of y t
-  parent_meant y = ap (option_map (λ p. p.parent)) (map_place (name_term c) (type_term c) (attr_term c) y t)
-
   stands_meant : (n x y : ℕ) → stands_in n x (meaning c t) y ≡ stands_in n x t y
   stands_meant zero x y = refl
   stands_meant (suc n) x y =
-      ap (λ (o : Option ℕ). eqb y x || has_such (stands_in n x (meaning c t)) o) (parent_meant y)
+      ap (λ (o : Option ℕ). eqb y x || has_such (stands_in n x (meaning c t)) o) (ap (option_map (λ p. p.parent)) (map_place (name_term c) (type_term c) (attr_term c) y t))
       ∙ ap (λ (b : Bool). eqb y x || b) (has_alike (stands_in n x (meaning c t)) (stands_in n x t) (λ z. stands_meant n x z) (parent_of y t))
 
   inside_meant : (x y : ℕ) → is_inside x (meaning c t) y ≡ is_inside x t y
@@ -54,17 +48,14 @@ module _ (c : Things) (t : Op) where
       ap (λ (zs : List ℕ). stands_in (length zs) x (meaning c t) y) (map_ids (name_term c) (type_term c) (attr_term c) t)
       ∙ stands_meant (op_count t) x y
 
-  found_meant : (y : ℕ) → find y (meaning c t) ≡ option_map (meaning c) (find y t)
-  found_meant y = map_find (name_term c) (type_term c) (attr_term c) y t
-
   takes_from_meant : (x : ℕ) (o : Option Op) → takes_from x (meaning c t) (option_map (meaning c) o) ≡ takes_from x t o
   takes_from_meant x None = refl
   takes_from_meant x (Some o) =
       ap (list_any (comes_from x (meaning c t))) (same_operands (name_term c) (type_term c) (attr_term c) o)
-      ∙ any_alike (comes_from x (meaning c t)) (comes_from x t) (λ v. inside_meant x (owner_of v).0) (head o).operands
+      ∙ any_same (comes_from x (meaning c t)) (comes_from x t) (λ v. inside_meant x (owner_of v).0) (head o).operands
 
   uses_meant : (x y : ℕ) → uses_from_outside x (meaning c t) y ≡ uses_from_outside x t y
-  uses_meant x y = λ i. (ap (takes_from x (meaning c t)) (found_meant y) ∙ takes_from_meant x (find y t)) i && not (inside_meant x y i)
+  uses_meant x y = λ i. (ap (takes_from x (meaning c t)) (map_find (name_term c) (type_term c) (attr_term c) y t) ∙ takes_from_meant x (find y t)) i && not (inside_meant x y i)
 
   pub outside_meant : (x : ℕ) → outside_users x (meaning c t) ≡ outside_users x t
   outside_meant x =
@@ -76,7 +67,7 @@ module _ (c : Things) (t : Op) where
   takes_meant v (Some o) = ap (list_any (same_value v)) (same_operands (name_term c) (type_term c) (attr_term c) o)
 
   blind_meant : (old new : Value) (y : ℕ) → is_blind is_isolated old new (meaning c t) y ≡ is_blind (isolated_in c) old new t y
-  blind_meant old new y = λ i. (ap (takes old) (found_meant y) ∙ takes_meant old (find y t)) i && not (map_visible (name_term c) (type_term c) (attr_term c) is_isolated t y new i)
+  blind_meant old new y = λ i. (ap (takes old) (map_find (name_term c) (type_term c) (attr_term c) y t) ∙ takes_meant old (find y t)) i && not (map_visible (name_term c) (type_term c) (attr_term c) is_isolated t y new i)
 
   pub blind_users_meant : (old new : Value) → blind_users is_isolated old new (meaning c t) ≡ blind_users (isolated_in c) old new t
   blind_users_meant old new =

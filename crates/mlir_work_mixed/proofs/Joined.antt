@@ -2,7 +2,7 @@
 use Rattle.std.proofs.Common.{◌≡◌, refl, ap, sym, ◌∙◌, subst, ℕ, Bool, true, false, List, [], ◌∷◌, ◌++◌, append-nil, append_assoc, map, Option, Some, None, option_map, ◌||◌}
 use Rattle.std.specs.Prelude.{is_some, option_and_then}
 use Rattle.std.proofs.lemmas.List.Elements.{All-nil, All-cons, All-head}
-use Rattle.std.proofs.lemmas.Option.{none-some}
+use Rattle.std.proofs.lemmas.Option.{none-some, same_Some}
 use Rattle.mlir_work_script.specs.Items.{items_behind}
 use Rattle.mlir_work_script.specs.RuleNames.{name_or_none, rule_in}
 use Rattle.mlir_work_transforms.specs.greedy.Trial.{AreAttempts, MayAttempt, OfRule}
@@ -80,9 +80,6 @@ module _ (book : Book) where
   owns_here item left items e own = ap (λ (xs : List (List ℕ)). names_own book (map named_at xs)) e ∙ ap (λ b. b || names_own book (map named_at left)) own
 
   -- ---- what is listed may be tried
-  some_is : {X : Type 0} {x y : X} → Some x ≡ Some y → x ≡ y
-  some_is e = cc
-
   -- a rule of a name alone, as the rules of a list that has that name alone
   rule_may : (name : RuleName) (r : Rule) → canonical_named name ≡ Some r → MayAttempt (OfRule r)
   rule_may name r e =
@@ -94,17 +91,17 @@ module _ (book : Book) where
     where
       by_rule : (o : Option Rule) → canonical_named name ≡ o → option_map (λ r. record { attempt = OfRule r; name = [] }) o ≡ Some l → MayAttempt l.attempt
       by_rule None i e = absurd (none-some l e)
-      by_rule (Some r) i e = subst (λ (x : Listed). MayAttempt x.attempt) (some_is e) (rule_may name r i)
+      by_rule (Some r) i e = subst (λ (x : Listed). MayAttempt x.attempt) (same_Some _ _ e) (rule_may name r i)
 
       by_own : (o : Option Kept) → or_rule o name ≡ Some l → MayAttempt l.attempt
       by_own None e = by_rule (canonical_named name) refl e
-      by_own (Some k) e = subst (λ (x : Listed). MayAttempt x.attempt) (some_is e) tt
+      by_own (Some k) e = subst (λ (x : Listed). MayAttempt x.attempt) (same_Some _ _ e) tt
 
   pub all_may : (names : List RuleName) (ls : List Listed) → all_listed book names ≡ Some ls → AreAttempts (attempts_in ls)
-  all_may [] ls e = subst (λ (xs : List Listed). AreAttempts (attempts_in xs)) (some_is e) (All-nil MayAttempt)
+  all_may [] ls e = subst (λ (xs : List Listed). AreAttempts (attempts_in xs)) (same_Some _ _ e) (All-nil MayAttempt)
   all_may (name ∷ names) ls e = go (listed_named book name) refl (all_listed book names) refl (λ xs h. all_may names xs h) e
     where
       go : (a : Option Listed) → listed_named book name ≡ a → (o : Option (List Listed)) → all_listed book names ≡ o → ((xs : List Listed) → all_listed book names ≡ Some xs → AreAttempts (attempts_in xs)) → option_and_then (λ l. option_map (λ xs. l ∷ xs) o) a ≡ Some ls → AreAttempts (attempts_in ls)
       go None i o j rest e = absurd (none-some ls e)
       go (Some l) i None j rest e = absurd (none-some ls e)
-      go (Some l) i (Some xs) j rest e = subst (λ (ys : List Listed). AreAttempts (attempts_in ys)) (some_is e) (All-cons MayAttempt l.attempt (attempts_in xs) (one_may name l i) (rest xs j))
+      go (Some l) i (Some xs) j rest e = subst (λ (ys : List Listed). AreAttempts (attempts_in ys)) (same_Some _ _ e) (All-cons MayAttempt l.attempt (attempts_in xs) (one_may name l i) (rest xs j))

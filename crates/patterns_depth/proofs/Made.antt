@@ -2,7 +2,7 @@
 use Rattle.std.proofs.Common.{◌≡◌, ℕ, ◌+◌, ◌<◌, refl, ap, sym, ◌∙◌, subst, List, [], ◌∷◌, Bool, true, false, true≢false, Option, Some, None, slice_get, slice_set, inl, inr, arith}
 use Rattle.std.specs.Prelude.{is_some, option_map}
 use Rattle.std.proofs.lemmas.Bool.{cases_eq}
-use Rattle.std.proofs.lemmas.Option.{none-some}
+use Rattle.std.proofs.lemmas.Option.{none-some, same_Some}
 use Rattle.ir_types.specs.Terms.{TypeTerm}
 use Rattle.ir_tree.specs.declared.value.Value.{Value}
 use Rattle.ir_tree.specs.declared.value.Value.TheVariants.{Result}
@@ -15,7 +15,7 @@ use Rattle.patterns_book.specs.declared.pattern.New.TheVariants as new
 use Rattle.patterns_book.specs.Matching.{Standing, bound, bound_over, standing, when}
 use Rattle.patterns_book.specs.Names.{name_of, operands_of, predicate_of}
 use Rattle.patterns_book.specs.Planning.{all_made, and_more, entries_by, made_as, values_at}
-use Rattle.patterns_depth.proofs.Standing.{Stands, one_stands, other_set, same_set, same_some, standing_stands, stands_standing}
+use Rattle.patterns_depth.proofs.Standing.{Stands, one_stands, other_set, same_set, standing_stands, stands_standing}
 
 -- there is both, or neither
 abbrev pub Both : {X Y : Type 0} → Option X → Option Y → Type 0
@@ -45,7 +45,7 @@ standing_alike b c a k = go (slice_get b k) (slice_get c k) (a.places k)
     go None None e = refl
     go None (Some q) e = absurd (none-some (is_some q) e)
     go (Some p) None e = absurd (none-some (is_some p) (sym e))
-    go (Some p) (Some q) e = same_some e
+    go (Some p) (Some q) e = same_Some _ _ e
 
 values_alike : (ks : List ℕ) (b c : Standing Value) → Alike b c → Both (values_at ks b) (values_at ks c)
 values_alike [] b c a = refl
@@ -119,7 +119,7 @@ all_alike ts env (w ∷ ws) n m k b c a f g = go (λ d e. all_alike ts env ws (n
     binds ih o q (Some i) None e h l = absurd (none-some (is_some i) (sym l))
     binds ih o q (Some None) (Some None) e h l =
         more o q _ _ (ih (slice_set b k (Some (Result n 0))) (slice_set c k (Some (Result m 0))) (set_alike b c k (Result n 0) (Result m 0) e h a) (set_free b k (Result n 0) e f) (set_free c k (Result m 0) h g))
-    binds ih o q (Some None) (Some (Some v)) e h l = absurd (true≢false (sym (same_some l)))
+    binds ih o q (Some None) (Some (Some v)) e h l = absurd (true≢false (sym (same_Some _ _ l)))
     binds ih o q (Some (Some v)) j e h l = absurd (let i = f k v e in omega (arith, i))
 
     go : More ts env ws n m k → (o q : Option Operation) → Both o q

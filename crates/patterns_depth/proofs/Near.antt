@@ -18,7 +18,7 @@ use Rattle.patterns_book.specs.Names.{name_of, operands_of}
 use Rattle.patterns_book.proofs.Standing.{all_keep}
 use Rattle.patterns_depth.specs.Depth.{are_near, is_inner, is_near, takes, takes_below}
 use Rattle.patterns_depth.specs.Alike.{GivesAlike, ShowAlike, TypesAlike, Under}
-use Rattle.patterns_depth.proofs.Standing.{Among, Stands, all_from, all_in, all_stand, bound_from, bound_gives, nothing_stands, one_stands, same_some, stands_standing, standing_stands, when_some}
+use Rattle.patterns_depth.proofs.Standing.{Among, Stands, all_from, all_in, all_stand, bound_from, bound_gives, nothing_stands, one_stands, stands_standing, standing_stands, when_some}
 
 -- the last of some operations
 abbrev pub IsLast : Piece → List Piece → Type 0

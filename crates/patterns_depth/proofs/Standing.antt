@@ -4,7 +4,7 @@ use Rattle.std.specs.Prelude.{is_some, option_map}
 use Rattle.std.specs.List.{list_any, range_with_len}
 use Rattle.std.proofs.lemmas.Bool.{cases_eq, cases_lt, or_cases}
 use Rattle.std.proofs.lemmas.List.{length-set}
-use Rattle.std.proofs.lemmas.Option.{slice_get_within, slice_get-get_or, slice_get_past, slice_get-map, get_or_from_slice_get, none-some}
+use Rattle.std.proofs.lemmas.Option.{slice_get_within, slice_get-get_or, slice_get_past, slice_get-map, get_or_from_slice_get, none-some, same_Some}
 use Rattle.ir_tree.specs.declared.value.Value.{Value}
 use Rattle.ir_tree.specs.Uses.{same_value}
 use Rattle.ir_tree.proofs.Replaced.{same_value_true}
@@ -13,9 +13,6 @@ use Rattle.patterns_check.specs.Outcomes.{given}
 use Rattle.patterns_laws.proofs.KnownFolds.{given_some}
 use Rattle.patterns_book.specs.Matching.{Standing, all_bound, bound, bound_over, nothing, standing, when}
 use Rattle.patterns_book.proofs.Standing.{all_keep}
-
-pub same_some : {X : Type 0} {x y : X} → Some x ≡ Some y → x ≡ y
-same_some e = cc
 
 pub when_some : {X : Type 0} (b : Bool) (r : Option X) (x : X) → when b r ≡ Some x → (b ≡ true) × (r ≡ Some x)
 when_some true r x e = (refl, e)
@@ -36,7 +33,7 @@ standing_stands {V} k v b e = go (slice_get b k) refl e
     go (Some o) i e = i ∙ ap Some e
 
 pub one_stands : {V : Type 0} (k : ℕ) (v w : V) (b : Standing V) → Stands k v b → Stands k w b → v ≡ w
-one_stands k v w b e f = same_some (same_some (sym e ∙ f))
+one_stands k v w b e f = same_Some _ _ (same_Some _ _ (sym e ∙ f))
 
 -- nothing stands at first
 pub nothing_stands : {V : Type 0} (n k : ℕ) (v : V) → Stands k v (nothing n) → ⊥
@@ -44,7 +41,7 @@ nothing_stands {V} n k v e = go (slice_get (range_with_len 0 n) k) (sym (slice_g
   where
     go : (s : Option ℕ) → option_map (λ i. None) s ≡ Some (Some v) → ⊥
     go None e = none-some (Some v) e
-    go (Some i) e = none-some v (same_some e)
+    go (Some i) e = none-some v (same_Some _ _ e)
 
 -- ---- what is set
 module _ {V : Type 0} where
@@ -67,10 +64,10 @@ module _ (k : ℕ) (v : Value) (b c : Standing Value) (e : bound same_value k v 
     where
       go : (s : Option (Option Value)) → slice_get b k ≡ s → bound_over same_value s k v b ≡ Some c → Stands k v c
       go None i e = absurd (none-some c e)
-      go (Some None) i e = subst (λ (d : Standing Value). Stands k v d) (same_some e) (same_set b k (Some v) None i)
+      go (Some None) i e = subst (λ (d : Standing Value). Stands k v d) (same_Some _ _ e) (same_set b k (Some v) None i)
       go (Some (Some u)) i e =
           let w = when_some (same_value u v) (Some b) c e in
-          subst (λ (d : Standing Value). Stands k v d) (same_some w.1) (i ∙ ap (λ z. Some (Some z)) (same_value_true u v w.0))
+          subst (λ (d : Standing Value). Stands k v d) (same_Some _ _ w.1) (i ∙ ap (λ z. Some (Some z)) (same_value_true u v w.0))
 
   pub bound_from : (j : ℕ) (w : Value) → Stands j w c → Stands j w b ⊎ ((j ≡ k) × (w ≡ v))
   bound_from j w s = go (slice_get b k) refl e
@@ -79,9 +76,9 @@ module _ (k : ℕ) (v : Value) (b c : Standing Value) (e : bound same_value k v 
       go None i e = absurd (none-some c e)
       go (Some None) i e = elim (cases_eq j k) [
         | inl h ↦ inr (h, one_stands k w v c (subst (λ z. Stands z w c) h s) bound_gives)
-        | inr n ↦ inl (sym (other_set b k j (Some v) n) ∙ subst (λ (d : Standing Value). Stands j w d) (sym (same_some e)) s)
+        | inr n ↦ inl (sym (other_set b k j (Some v) n) ∙ subst (λ (d : Standing Value). Stands j w d) (sym (same_Some _ _ e)) s)
       ]
-      go (Some (Some u)) i e = inl (subst (λ (d : Standing Value). Stands j w d) (sym (same_some (when_some (same_value u v) (Some b) c e).1)) s)
+      go (Some (Some u)) i e = inl (subst (λ (d : Standing Value). Stands j w d) (sym (same_Some _ _ (when_some (same_value u v) (Some b) c e).1)) s)
 
 -- of some places
 abbrev pub Among : ℕ → List ℕ → Type 0
@@ -94,7 +91,7 @@ pub among_more : (k j : ℕ) (ks : List ℕ) → Among j ks → Among j (k ∷ k
 among_more k j ks h = elim (eqb k j) as (λ b. (b || list_any (λ i. eqb i j) ks) ≡ true) [ true ↦ refl | false ↦ h ]
 
 pub all_from : (ks : List ℕ) (vs : List Value) (b c : Standing Value) → all_bound same_value ks vs b ≡ Some c → (j : ℕ) (w : Value) → Stands j w c → Stands j w b ⊎ (Among j ks × In w vs)
-all_from [] [] b c e j w s = inl (subst (λ (d : Standing Value). Stands j w d) (sym (same_some e)) s)
+all_from [] [] b c e j w s = inl (subst (λ (d : Standing Value). Stands j w d) (sym (same_Some _ _ e)) s)
 all_from [] (v ∷ vs) b c e j w s = absurd (none-some c e)
 all_from (k ∷ ks) [] b c e j w s = absurd (none-some c e)
 all_from (k ∷ ks) (v ∷ vs) b c e j w s =

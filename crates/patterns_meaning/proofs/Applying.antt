@@ -1,7 +1,7 @@
 -- The module after a pattern is applied computes what it computed.
 use Rattle.std.proofs.Common.{◌≡◌, ℕ, ◌+◌, refl, ap, sym, ◌∙◌, subst, List, [], ◌∷◌, ◌++◌, map, Bool, true, false, Option, Some, None}
 use Rattle.std.specs.Prelude.{nat_le, if◌then◌else◌}
-use Rattle.std.proofs.lemmas.Option.{none-some}
+use Rattle.std.proofs.lemmas.Option.{none-some, same_Some}
 use Rattle.ir_types.specs.Words.{is_isolated}
 use Rattle.ir_tree.specs.declared.value.Value.{Value}
 use Rattle.ir_tree.specs.declared.place.Place.{Place}
@@ -26,10 +26,10 @@ use Rattle.patterns_book.specs.Shapes.{Shape}
 use Rattle.patterns_makeable.specs.Makeable.{is_makeable}
 use Rattle.patterns_matched.specs.Built.{plan_of}
 use Rattle.patterns_own.specs.Own.{edits_for, is_one, own_edits, own_rewrite}
+use Rattle.patterns_matched.proofs.Found.{when_is}
 use Rattle.patterns_meaning.specs.Meaning.{AreOfTypes, FitsAll}
 use Rattle.patterns_meaning.specs.After.{or_new, rewritten, with_made}
 use Rattle.patterns_meaning.specs.Applying.{CheckedKeepsThere, RewritesCompute}
-use Rattle.patterns_meaning.proofs.Standing.{same_some, when_some}
 use Rattle.patterns_meaning.proofs.Formed.{is_below, operands_stand}
 use Rattle.patterns_meaning.proofs.Rewritten.{rewritten_computes}
 
@@ -76,7 +76,7 @@ module _ (p : Shape) (m n : Module) (x : ℕ) where
 
   planned_edits : (front : Place) (q : Option Plan) (es : List Edit) → edits_for front x q ≡ Some es → (plan : Plan) × (q ≡ Some plan) × (map (λ o. Make front o) plan.0 ++ give x plan.1 ≡ es)
   planned_edits front None es e = absurd (none-some es e)
-  planned_edits front (Some plan) es e = (plan, refl, same_some e)
+  planned_edits front (Some plan) es e = (plan, refl, same_Some _ _ e)
 
   edits_parts : (es : List Edit) → own_edits p m x ≡ Some es
       → (front : Place) × (plan : Plan) × (planned m.tree (is_clean m.tree) m.next p x ≡ Some plan) × (map (λ o. Make front o) plan.0 ++ give x plan.1 ≡ es)
@@ -86,7 +86,7 @@ module _ (p : Shape) (m n : Module) (x : ℕ) where
       let h = given_some (front_of x m.tree) (λ front. looks.when (is_one (head g.0).results) (edits_for front x (plan_of m.tree (is_clean m.tree) m.next p x))) es g.2 in
       let w = looks_when (is_one (head g.0).results) (edits_for h.0 x (plan_of m.tree (is_clean m.tree) m.next p x)) es h.2 in
       let q = planned_edits h.0 (plan_of m.tree (is_clean m.tree) m.next p x) es w in
-      let s = when_some (is_makeable p) (planned m.tree (is_clean m.tree) m.next p x) q.0 q.1 in
+      let s = when_is (is_makeable p) (planned m.tree (is_clean m.tree) m.next p x) q.0 q.1 in
       (h.0, q.0, s.1, q.2)
 
   applies : own_rewrite p m x ≡ becomes n → Applies

@@ -2,7 +2,7 @@
 use Rattle.std.proofs.Common.{◌≡◌, ℕ, zero, suc, ◌+◌, ◌<◌, ◌≤◌, ◌^◌, refl, ap, sym, ◌∙◌, subst, List, [], ◌∷◌, ◌++◌, length, map, Bool, true, true≢false, eqb, eqb-true, Option, Some, None, slice_get, inl, inr, arith}
 use Rattle.std.specs.Prelude.{nat_lt, is_some, if◌then◌else◌, ◌==◌}
 use Rattle.std.specs.List.{list_all, list_any}
-use Rattle.std.proofs.lemmas.Bool.{and_parts, or_cases, cases_eq}
+use Rattle.std.proofs.lemmas.Bool.{and_parts, or_cases, cases_eq, ltb-true}
 use Rattle.std.proofs.lemmas.Bool.Decides.{nat_tests}
 use Rattle.std.proofs.lemmas.List.{length_push}
 use Rattle.std.proofs.lemmas.Option.{slice_get_past}
@@ -23,6 +23,7 @@ use Rattle.patterns_book.specs.Matching.{Header, Standing, known, standing}
 use Rattle.patterns_book.specs.Planning.{are_same, constants_known, further_known, kind_standing, known_at, outcomes}
 use Rattle.patterns_book.specs.Shapes.{Shape}
 use Rattle.patterns_book.specs.WellFormed.{is_variable}
+use Rattle.ir_tree_laws.proofs.Reasoned.{some_there}
 use Rattle.patterns_meaning.specs.Meaning.{Assignment, IsOfType}
 use Rattle.patterns_meaning.proofs.Standing.{AllTyped, Stands, one_stands, standing_stands, stands_standing}
 use Rattle.patterns_meaning.proofs.Trees.{TypesFound}
@@ -32,17 +33,10 @@ use Rattle.patterns_meaning.proofs.Forms.{FitThere, constant_there, kind_is}
 use Rattle.patterns_meaning.proofs.Numbers.{Alike}
 
 bits_below : (k : BitsKind) (n : ℕ) → is_bits k n ≡ true → n < 2 ^ width_of k
-bits_below k n e = let h = and_parts (is_width (width_of k)) (nat_lt n (2 ^ width_of k)) e in by_test n (2 ^ width_of k) h.1
-  where
-    by_test : (n m : ℕ) → nat_lt n m ≡ true → n < m
-    by_test n m h = grind (arith, nat_tests)
+bits_below k n e = let h = and_parts (is_width (width_of k)) (nat_lt n (2 ^ width_of k)) e in ltb-true n (2 ^ width_of k) h.1
 
 bits_are : (k : BitsKind) (n : ℕ) → is_bits k n ≡ true → bits_of k n ≡ Some (k, n)
 bits_are k n e = ap (λ b. if b then Some (k, n) else None) e
-
-pub some_of : {X : Type 0} (o : Option X) → is_some o ≡ true → (x : X) × (o ≡ Some x)
-some_of None e = absurd (true≢false (sym e))
-some_of (Some x) e = (x, refl)
 
 pub one_known : (x y : Known) → same_known x y ≡ true → x ≡ y
 one_known x y e =
@@ -75,7 +69,7 @@ module _ (t : Operation) (clean : Header → Bool) (a : Assignment) (b : Standin
   }
   begins of k (ty ∷ tys) front l r known =
       let q = r.0 in
-      let x = some_of (a q.value) (known k q.value (omega arith) (stands_standing k q.value b q.stands)) in
+      let x = some_there (a q.value) (known k q.value (omega arith) (stands_standing k q.value b q.stands)) in
       let typed : IsOfType q.term (Some x.0) = subst (λ o. IsOfType q.term o) x.1 (of q.value q.term q.of_value) in
       let at : kind_at (map kind_standing ts) ty ≡ x.0.0 = kind_is ts ty q.term x.0.0 q.type_stands typed.0 in
       let bits : bits_of (kind_at (map kind_standing ts) ty) x.0.1 ≡ Some x.0 = ap (λ k. bits_of k x.0.1) at ∙ bits_are x.0.0 x.0.1 typed.1 in
@@ -150,7 +144,7 @@ module _ (t : Operation) (clean : Header → Bool) (a : Assignment) (b : Standin
       same = λ k h. elim h [
         | inl c ↦
             let l = constants_below p.constants below k c in
-            let x = some_of (known_at t clean n p b k) (constants_are p.constants all k c) in
+            let x = some_there (known_at t clean n p b k) (constants_are p.constants all k c) in
             let g = given_some (standing k b) (known t clean) x.0 x.1 in
             let s_at = standing_stands k g.0 b g.1 in
             outcomes_at 0 p.values k l ∙ ap (λ j. Some (outcome_at j)) (no_more k) ∙ ap (λ c. Some (if c then known_at t clean n p b k else None)) c ∙ ap (λ o. Some o) x.1

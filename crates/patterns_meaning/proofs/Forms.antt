@@ -3,8 +3,9 @@ use Rattle.std.proofs.Common.{◌≡◌, ℕ, refl, ap, sym, ◌∙◌, subst, L
 use Rattle.std.specs.Prelude.{codes, option_map, option_and_then, if◌then◌else◌, is_some}
 use Rattle.std.specs.List.{list_all}
 use Rattle.std.proofs.lemmas.Bool.{and_parts}
-use Rattle.std.proofs.lemmas.Option.{none-some, slice_get-map, get_or_from_slice_get}
+use Rattle.std.proofs.lemmas.Option.{none-some, slice_get-map, get_or_from_slice_get, same_Some}
 use Rattle.std.proofs.lemmas.Slice.Eq.{bytes_eq-Decides}
+use Rattle.std.proofs.NetLemmas.Options.{map_some}
 use Rattle.ir_types.specs.declared.bits.BitsKind.{BitsKind}
 use Rattle.ir_types.specs.declared.bits.BitsKind.TheVariants as kind
 use Rattle.ir_types.specs.Terms.{TypeTerm, AttrTerm}
@@ -31,9 +32,10 @@ use Rattle.patterns_book.specs.Matching.{Header, Standing, giver_head, known, pr
 use Rattle.patterns_book.specs.Planning.{kind_standing}
 use Rattle.patterns_book.proofs.Named.{names_fold}
 use Rattle.patterns_makeable.specs.Makeable.{has_name}
+use Rattle.patterns_matched.proofs.Found.{when_is}
 use Rattle.patterns_meaning.specs.Meaning.{Assignment, Breaks, Fits, is_arithmetic, makes, makes_by, of_one, of_three, of_two, owner, result_kind}
 use Rattle.patterns_meaning.specs.Applied.{AreDone, AreUnbroken}
-use Rattle.patterns_meaning.proofs.Standing.{same_some, stands_standing, when_some, Stands}
+use Rattle.patterns_meaning.proofs.Standing.{stands_standing, Stands}
 use Rattle.patterns_meaning.proofs.Trees.{FoundFit}
 
 -- ---- outcomes of operands stand at their places
@@ -150,7 +152,7 @@ fold_kind name props operands (ty ∷ []) x e = go (list_all (is_property name) 
   where
     last : (k : BitsKind) (o : Option ℕ) → option_map (λ bits. (k, bits)) o ≡ Some x → Some k ≡ Some x.0
     last k None e = absurd (none-some x e)
-    last k (Some n) e = ap (λ (y : Known). Some y.0) (same_some e)
+    last k (Some n) e = ap (λ (y : Known). Some y.0) (same_Some _ _ e)
 
     go : (b : Bool) (r : Option Rule) (k : Option BitsKind) → (if b then with (λ r. with (λ k. option_map (λ bits. (k, bits)) (fold_by r props k operands)) k) r else None) ≡ Some x → k ≡ Some x.0
     go false r k e = absurd (none-some x e)
@@ -173,23 +175,19 @@ module _ (t : Operation) (clean : Header → Bool) where
     pub heads : head here ≡ h
     pub is_clean : clean h ≡ true
 
-  mapped_some : (o : Option Operation) (h : Header) → option_map head o ≡ Some h → (p : Operation) × (o ≡ Some p) × (head p ≡ h)
-  mapped_some None h e = absurd (none-some h e)
-  mapped_some (Some p) h e = (p, refl, same_some e)
-
   pub giver_of : (v : Value) (h : Header) → giver_head t clean v ≡ Some h → Giver v h
   giver_of (Result x k) h e =
       let g = given_some (option_map head (find x t)) (λ h. when (clean h && eqb k 0) (Some h)) h e in
-      let w = when_some (clean g.0 && eqb k 0) (Some g.0) h g.2 in
+      let w = when_is (clean g.0 && eqb k 0) (Some g.0) h g.2 in
       let c = and_parts (clean g.0) (eqb k 0) w.0 in
-      let m = mapped_some (find x t) g.0 g.1 in
+      let m : (p : Operation) × (find x t ≡ Some p) × (head p ≡ g.0) = map_some head (find x t) g.0 g.1 (λ p is same. (p, is, same)) in
       record {
         id = x;
         here = m.0;
         value = ap (Result x) (eqb-true k 0 c.1);
         found = m.1;
-        heads = m.2 ∙ same_some w.1;
-        is_clean = ap clean (sym (same_some w.1)) ∙ c.0;
+        heads = m.2 ∙ same_Some _ _ w.1;
+        is_clean = ap clean (sym (same_Some _ _ w.1)) ∙ c.0;
       }
   giver_of (Arg x r k) h e = absurd (none-some h e)
 
@@ -229,10 +227,10 @@ module _ (t : Operation) (clean : Header → Bool) where
     pub constant_there : (v : Value) (x : Known) → ((h : Header) → giver_head t clean v ≡ Some h → MakesIt v h) → known t clean v ≡ Some x → a v ≡ Some x
     constant_there v x fits e =
         let g = given_some (giver_head t clean v) (λ h. when (named (codes "arith.constant") h.name) (fold_of h.name h.properties [] h.results)) x e in
-        let w = when_some (named (codes "arith.constant") g.0.name) (fold_of g.0.name g.0.properties [] g.0.results) x g.2 in
+        let w = when_is (named (codes "arith.constant") g.0.name) (fold_of g.0.name g.0.properties [] g.0.results) x g.2 in
         let by = ap rule_of (named_is (codes "arith.constant") g.0.name w.0) ∙ by_constant in
         let is = fold_kind g.0.name g.0.properties [] g.0.results x w.1 in
-        same_some (sym (made_there v g.0 rule.Constant x.0 (fits g.0 g.1) by is) ∙ makes_is g.0 (map a g.0.operands) rule.Constant x.0 by is
+        same_Some _ _ (sym (made_there v g.0 rule.Constant x.0 (fits g.0 g.1) by is) ∙ makes_is g.0 (map a g.0.operands) rule.Constant x.0 by is
         ∙ given_at (fold_of g.0.name g.0.properties [] g.0.results) x (λ x. Some (Some x)) (Some (Some x)) w.1 refl)
 
 -- ---- kinds of types

@@ -1,11 +1,11 @@
 -- What a pattern makes goes with what the tree computes.
-use Rattle.std.proofs.Common.{◌≡◌, ℕ, zero, suc, ◌+◌, ◌-◌, ◌<◌, ◌≤◌, refl, ap, sym, ◌∙◌, subst, List, [], ◌∷◌, length, map, Bool, true, false, true≢false, ◌&&◌, eqb, eqb-true, Option, Some, None, slice_get, inl, inr, arith}
+use Rattle.std.proofs.Common.{◌≡◌, ℕ, zero, suc, ◌+◌, ◌-◌, ◌<◌, ◌≤◌, refl, ap, sym, ◌∙◌, subst, List, [], ◌∷◌, length, map, Bool, true, false, true≢false, ◌&&◌, eqb, eqb-true, Option, Some, None, slice_get, inl, inr, arith, eq-eqb}
 use Rattle.std.specs.Prelude.{nat_le, is_some, option_map, if◌then◌else◌}
 use Rattle.std.specs.List.{list_all}
 use Rattle.std.proofs.lemmas.Bool.{and_parts, cases_lt, cases_eq}
 use Rattle.std.proofs.lemmas.Bool.Decides.{nat_tests}
 use Rattle.std.proofs.lemmas.List.{length-append, length-map}
-use Rattle.std.proofs.lemmas.Option.{get_or_from_slice_get, slice_get-map, slice_get_within}
+use Rattle.std.proofs.lemmas.Option.{get_or_from_slice_get, slice_get-map, slice_get_within, same_Some}
 use Rattle.ir_types.specs.declared.bits.BitsKind.{BitsKind}
 use Rattle.ir_types.specs.declared.bits.BitsKind.TheVariants as kind
 use Rattle.ir_types.specs.Terms.{TypeTerm}
@@ -16,7 +16,7 @@ use Rattle.ir_tree.specs.Meaning.{Operation}
 use Rattle.ir_tree_laws.specs.Values.{has_value}
 use Rattle.dialects_int.specs.Folds.{Known}
 use Rattle.patterns_check.specs.Contents.{Content}
-use Rattle.patterns_check.specs.Checks.{AlwaysKeeps, keeps, new_refines, old_ran, old_refined, old_steps, refines, shown}
+use Rattle.patterns_check.specs.Checks.{AlwaysKeeps, keeps, old_steps, refines, same_known}
 use Rattle.patterns_check.specs.Checks as checks
 use Rattle.patterns_check.specs.Outcomes.{Outcome, given, run}
 use Rattle.patterns_laws.proofs.KnownFolds.{given_at, given_some}
@@ -27,9 +27,13 @@ use Rattle.patterns_book.specs.Planning.{Plan, all_made, constants_known, furthe
 use Rattle.patterns_book.specs.Shapes.{Shape}
 use Rattle.patterns_book.specs.WellFormed.{asked_stands, front_stands, further_stands, is_new, is_type, is_variable, is_well_formed, kind_stands, new_begins, new_ends, news_stand, numbers_stand, old_begins, olds_stand, sides_stand}
 use Rattle.patterns_makeable.specs.Makeable.{is_makeable, is_named, result_type, same_number, spares}
+use Rattle.ir_tree.proofs.Replaced.{same_value_true}
+use Rattle.patterns_check.proofs.Keeping.{stays_defined, stays_the_value}
+use Rattle.dialects_int.proofs.KnownOperands.{same_itself}
+use Rattle.patterns_matched.proofs.Found.{when_is}
 use Rattle.patterns_meaning.specs.Meaning.{Assignment, FitsEach, IsOfType, TypedEach}
 use Rattle.patterns_meaning.specs.Applied.{Agree, CheckedPlansGo, Goes, IsBelow, IsFound, IsProper, PlansGo, all_named, further_kind, is_typed, kinds_behind, kinds_given, kinds_matched, matched}
-use Rattle.patterns_meaning.proofs.Standing.{AllHold, AllTyped, IsTyped, Stands, all_hold, all_typed, all_typed_still, bound_holds, one_value, one_stands, same_some, standing_stands, when_some}
+use Rattle.patterns_meaning.proofs.Standing.{AllHold, AllTyped, IsTyped, Stands, all_hold, all_typed, all_typed_still, bound_holds, one_stands, standing_stands}
 use Rattle.patterns_meaning.proofs.Trees.{FoundFit, TypesFound, found_fit, types_found, value_below}
 use Rattle.patterns_meaning.proofs.Steps.{Grows, run_behind, run_grows}
 use Rattle.patterns_meaning.proofs.Forms.{FitThere, fit_there, kind_is}
@@ -41,26 +45,25 @@ use Rattle.patterns_meaning.proofs.Olds.{OldsRun, ShowsOld, olds_run}
 use Rattle.patterns_meaning.proofs.News.{HasNumbers, ShowsNew, extended, extended_agrees, extended_later, new_place_of, news_run}
 
 -- ---- from a check
-true_false : true ≡ false → ⊥
-true_false e = true≢false e
-
 -- what a side's steps show is there, and refines the old outcome
 abbrev Shown : Outcome → ℕ → Option (List Outcome) → Type 0
 Shown old place r = (new : List Outcome) × (x : Outcome) × (r ≡ Some new) × (slice_get new place ≡ Some x) × (refines old x ≡ true)
 
-shown_at : (old : Outcome) (place : ℕ) (new : List Outcome) (o : Option Outcome) → slice_get new place ≡ o → new_refines old o ≡ true → (x : Outcome) × (slice_get new place ≡ Some x) × (refines old x ≡ true)
-shown_at old place new None is e = absurd (true_false (sym e))
-shown_at old place new (Some x) is e = (x, is, e)
-
-shown_by : (old : Outcome) (place : ℕ) (r : Option (List Outcome)) → new_refines old (shown place r) ≡ true → Shown old place r
-shown_by old place None e = absurd (true_false (sym e))
-shown_by old place (Some new) e = let h = shown_at old place new (slice_get new place) refl e in (new, h.0, refl, h.1, h.2)
+known_itself : (v : Known) → same_known v v ≡ true
+known_itself v = λ i. same_itself v.0 i && eq-eqb v.1 v.1 refl i
 
 kept_by : (s : Content) (values : List ℕ) (env : List Outcome) (old : Outcome) → keeps s values ≡ true
     → old_steps s values [] ≡ Some env → slice_get env s.old_result ≡ Some old → Shown old s.new_result (run s.new env)
-kept_by s values env old k ran is =
-    let at_env = subst (λ (r : Option (List Outcome)). old_ran s r ≡ true) ran k in
-    shown_by old s.new_result (run s.new env) (subst (λ (o : Option Outcome). old_refined s env o ≡ true) is at_env)
+kept_by s values env old k ran is = (defined.0, defined.1, defined.2, defined.3, refined old is)
+  where
+    defined : (new : List Outcome) × (x : Outcome) × (run s.new env ≡ Some new) × (slice_get new s.new_result ≡ Some x)
+    defined = stays_defined s values env old k ran is
+
+    refined : (o : Outcome) → slice_get env s.old_result ≡ Some o → refines o defined.1 ≡ true
+    refined None e = refl
+    refined (Some v) e =
+        let value = stays_the_value s values env defined.0 v k ran e defined.2 in
+        ap (refines (Some v)) (same_Some defined.1 (Some v) (sym defined.3 ∙ value)) ∙ known_itself v
 
 -- ---- from a plan
 module _ (t : Operation) (clean : Header → Bool) (n : ℕ) (p : Shape) where
@@ -77,13 +80,13 @@ module _ (t : Operation) (clean : Header → Bool) (n : ℕ) (p : Shape) where
   plan_parts : (b : Standing Value) (ts : Standing TypeTerm) (os : List Operation) (v : Value) → planned_by t clean n p b ts ≡ Some (os, v) → IsPlanned b ts os v
   plan_parts b ts os v e =
       let ks = map kind_standing ts in
-      let w = when_some (fits ks p && constants_known t clean n p b) (given (run (Content.given (content_with ks p)) (outcomes t clean n p 0 p.values b)) (planned_from t clean n p b ts)) (os, v) e in
+      let w = when_is (fits ks p && constants_known t clean n p b) (given (run (Content.given (content_with ks p)) (outcomes t clean n p 0 p.values b)) (planned_from t clean n p b ts)) (os, v) e in
       let parts = and_parts (fits ks p) (constants_known t clean n p b) w.0 in
       let g = given_some (run (Content.given (content_with ks p)) (outcomes t clean n p 0 p.values b)) (planned_from t clean n p b ts) (os, v) w.1 in
-      let f = when_some (further_known t clean n p (further_place p) p.further b g.0) (given (all_made ts g.0 n (new_place p) p.new b) (λ (r : List Operation × Standing Value). given (standing p.result r.1) (λ v. Some (r.0, v)))) (os, v) g.2 in
+      let f = when_is (further_known t clean n p (further_place p) p.further b g.0) (given (all_made ts g.0 n (new_place p) p.new b) (λ (r : List Operation × Standing Value). given (standing p.result r.1) (λ v. Some (r.0, v)))) (os, v) g.2 in
       let r = given_some (all_made ts g.0 n (new_place p) p.new b) (λ (r : List Operation × Standing Value). given (standing p.result r.1) (λ v. Some (r.0, v))) (os, v) f.1 in
       let s = given_some (standing p.result r.0.1) (λ v. Some (r.0.0, v)) (os, v) r.2 in
-      let same : (r.0.0, s.0) ≡ (os, v) = same_some s.2 in
+      let same : (r.0.0, s.0) ≡ (os, v) = same_Some _ _ s.2 in
       record {
         widths = parts.0;
         constants = parts.1;
@@ -122,7 +125,7 @@ module _ (t : Operation) (clean : Header → Bool) (n : ℕ) (p : Shape) where
     matched_parts : (b : Standing Value) → matched t clean p x ≡ Some b → IsMatched b
     matched_parts b e =
         let g = given_some root_bound (λ b. pieces_matched t clean (placed (old_place p) p.old) b) b e in
-        let r = bound_holds same_value one_value p.root (Result x 0) (nothing (places p)) g.0 g.1 in
+        let r = bound_holds same_value same_value_true p.root (Result x 0) (nothing (places p)) g.0 g.1 in
         let h = all_hold t clean (old_place p) p.old g.0 b g.2 in
         record { pieces = h.0; root = h.1 p.root (Result x 0) r.0 }
 
@@ -184,8 +187,8 @@ module _ (p : Shape) where
         where
           at_least : (m k : ℕ) → nat_le m k ≡ true → m ≤ k
           at_least m k h = grind (arith, nat_tests)
-      above None false i e = absurd (true_false (sym e))
-      above (Some r) false i e = absurd (true_false (sym e))
+      above None false i e = absurd (true≢false (sym e))
+      above (Some r) false i e = absurd (true≢false (sym e))
 
 -- ---- put together
 typed_at : (t : Operation) (clean : Header → Bool) (k : ℕ) (tys : List ℕ) (b : Standing Value) (ts : Standing TypeTerm) → AllTyped t clean k tys b ts → (i : ℕ) → i < length tys → (ty : ℕ) × (slice_get tys i ≡ Some ty) × IsTyped t clean (k + i) ty b ts
@@ -317,7 +320,7 @@ module _ (t : Operation) (clean : Header → Bool) (n : ℕ) (p : Shape) (x : �
       let r = typed_at t clean 0 p.values b ts typed_as.variables i (omega (arith, l, start.long)) in
       let w = r.2 in
       let shown = start.shows i w.value (omega arith) (omega (arith, l, start.long)) (subst (λ z. Stands z w.value b) (no_more i) w.stands) in
-      record { ty = r.0; at = r.1; term = w.term; stands = w.type_stands; typed = subst (λ o. IsOfType w.term o) (same_some (sym shown ∙ e)) (of w.value w.term w.of_value) }
+      record { ty = r.0; at = r.1; term = w.term; stands = w.type_stands; typed = subst (λ o. IsOfType w.term o) (same_Some _ _ (sym shown ∙ e)) (of w.value w.term w.of_value) }
     where
       no_more : (k : ℕ) → 0 + k ≡ k
       no_more k = omega arith
@@ -364,7 +367,7 @@ module _ (t : Operation) (clean : Header → Bool) (n : ℕ) (p : Shape) (x : �
     agrees = agree;
     fits = news.0;
     typed = news.2;
-    refined = subst (λ o. refines (a (Result x 0)) o ≡ true) (same_some (sym shown_new.3 ∙ result_there)) shown_new.4;
+    refined = subst (λ o. refines (a (Result x 0)) o ≡ true) (same_Some _ _ (sym shown_new.3 ∙ result_there)) shown_new.4;
   }
 
 pub plans_go : PlansGo

@@ -1,12 +1,11 @@
 -- The operations that are made compute what the new steps give.
-use Rattle.std.proofs.Common.{◌≡◌, ℕ, zero, suc, ◌+◌, ◌-◌, ◌<◌, ◌≤◌, refl, ap, sym, ◌∙◌, subst, List, [], ◌∷◌, ◌++◌, length, map, true, false, Option, Some, None, slice_get, get_or, ◌⊎◌, inl, inr, arith}
+use Rattle.std.proofs.Common.{◌≡◌, ℕ, zero, suc, ◌+◌, ◌-◌, ◌<◌, ◌≤◌, refl, ap, sym, ◌∙◌, subst, List, [], ◌∷◌, ◌++◌, length, map, true, Option, Some, None, slice_get, get_or, ◌⊎◌, inl, inr, arith}
 use Rattle.std.specs.Prelude.{nat_lt, codes, option_map, if◌then◌else◌}
 use Rattle.std.specs.List.{list_all}
 use Rattle.std.specs.Int.Bits.{bit_and, and_self}
-use Rattle.std.proofs.lemmas.Bool.{and_parts, or_cases, cases_eq}
-use Rattle.std.proofs.lemmas.Bool.Decides.{nat_tests}
+use Rattle.std.proofs.lemmas.Bool.{and_parts, or_cases, cases_eq, lt-ltb, le-ltb, ltb-true}
 use Rattle.std.proofs.lemmas.List.{length_push}
-use Rattle.std.proofs.lemmas.Option.{none-some, get_or_from_slice_get}
+use Rattle.std.proofs.lemmas.Option.{none-some, get_or_from_slice_get, same_Some}
 use Rattle.ir_types.specs.declared.node.Sign.TheVariants as sign
 use Rattle.ir_types.specs.declared.bits.BitsKind.{BitsKind}
 use Rattle.ir_types.specs.Bits.{type_of}
@@ -35,31 +34,32 @@ use Rattle.patterns_book.specs.Planning.{all_made, and_more, entries_by, kind_st
 use Rattle.patterns_book.specs.Shapes.{Shape}
 use Rattle.patterns_book.specs.WellFormed.{form_stands, is_new, is_number, is_type, is_variable, is_within, new_begins, new_stands, news_stand, old_begins}
 use Rattle.patterns_makeable.specs.Makeable.{is_named, new_type}
+use Rattle.ir_tree.proofs.Replaced.{same_value_true}
+use Rattle.ir_tree_laws.proofs.Reasoned.{some_there}
 use Rattle.patterns_meaning.specs.Meaning.{Assignment, FitsEach, IsOfType, TypedEach, makes}
 use Rattle.patterns_meaning.specs.Applied.{Agree, AreOfKinds, new_fits, news_fit}
-use Rattle.patterns_meaning.proofs.Standing.{Stands, ValuesStand, bound_elsewhere, bound_holds, one_stands, one_value, same_some, standing_stands}
+use Rattle.patterns_meaning.proofs.Standing.{Stands, ValuesStand, bound_elsewhere, bound_holds, one_stands, standing_stands}
 use Rattle.patterns_meaning.proofs.Steps.{push_last, push_other, run_grows}
 use Rattle.patterns_meaning.proofs.OfKinds.{IsKind, OfKinds, new_kind, push_kinds, same_kinds}
 use Rattle.patterns_meaning.proofs.OfBits.{AllOfBits, IsOfBits, push_bits, step_bits}
 use Rattle.patterns_meaning.proofs.Forms.{Asks, asked_at, by_constant, form_makes, kind_is, makes_is}
 use Rattle.patterns_meaning.proofs.Numbers.{within_parts}
-use Rattle.patterns_meaning.proofs.Beginning.{some_of}
-use Rattle.patterns_meaning.proofs.Olds.{form_places, less, operands_show}
+use Rattle.patterns_meaning.proofs.Olds.{form_places, operands_show}
+
+-- operations of which one more is made
+pub more_made : (o : Operation) (r : Option (List Operation × Standing Value)) (os : List Operation) (d : Standing Value) → option_map {U = List Operation × Standing Value} (λ (r : List Operation × Standing Value). (o ∷ r.0, r.1)) r ≡ Some (os, d)
+    → (us : List Operation) × (r ≡ Some (us, d)) × (o ∷ us ≡ os)
+more_made o None os d e = absurd (none-some (os, d) e)
+more_made o (Some r) os d e = let s : (o ∷ r.0, r.1) ≡ (os, d) = same_Some _ _ e in (r.0, (λ i. Some (r.0, (s i).1)), ap (λ (r : List Operation × Standing Value). r.0) s)
 
 -- ---- an assignment with more values: results from an id on, whose outcomes stand from a place on
 abbrev pub extended : Assignment → ℕ → ℕ → List Outcome → Assignment
 extended a n k env (Result y l) = if nat_lt y n then a (Result y l) else get_or env (k + (y - n)) None
 extended a n k env (Arg y r l) = a (Arg y r l)
 
-is_below : (y n : ℕ) → y < n → nat_lt y n ≡ true
-is_below y n l = grind (arith, nat_tests)
-
-isnt_below : (y n : ℕ) → n ≤ y → nat_lt y n ≡ false
-isnt_below y n l = grind (arith, nat_tests)
-
 pub extended_agrees : (a : Assignment) (n k : ℕ) (env : List Outcome) → Agree n a (extended a n k env)
 extended_agrees a n k env (Arg y r l) h = refl
-extended_agrees a n k env (Result y l) h = ap (λ b. if b then a (Result y l) else get_or env (k + (y - n)) None) (is_below y n h)
+extended_agrees a n k env (Result y l) h = ap (λ b. if b then a (Result y l) else get_or env (k + (y - n)) None) (lt-ltb y n h)
 
 -- outcomes stand at results from an id on, as at places from one on
 abbrev pub Later : Assignment → ℕ → ℕ → List Outcome → Type 0
@@ -69,15 +69,15 @@ pub extended_later : (a : Assignment) (n k : ℕ) (env : List Outcome) → Later
 extended_later a n k env j y o e low same =
     let at : k + (y - n) ≡ j = omega (arith, low, same) in
     let above : n ≤ y = omega (arith, low, same) in
-    ap (λ b. if b then a (Result y 0) else get_or env (k + (y - n)) None) (isnt_below y n above) ∙ ap (λ i. get_or env i None) at ∙ get_or_from_slice_get env j o None e
+    ap (λ b. if b then a (Result y 0) else get_or env (k + (y - n)) None) (le-ltb y n above) ∙ ap (λ i. get_or env i None) at ∙ get_or_from_slice_get env j o None e
 
 -- ---- values at places
 more_there : (v : Value) (o : Option (List Value)) (vs : List Value) → and_more v o ≡ Some vs → (us : List Value) × (o ≡ Some us) × (v ∷ us ≡ vs)
 more_there v None vs e = absurd (none-some vs e)
-more_there v (Some us) vs e = (us, refl, same_some e)
+more_there v (Some us) vs e = (us, refl, same_Some _ _ e)
 
 values_stand : (ks : List ℕ) (b : Standing Value) (vs : List Value) → values_at ks b ≡ Some vs → ValuesStand ks vs b
-values_stand [] b vs e = subst (λ vs. ValuesStand [] vs b) (same_some e) tt
+values_stand [] b vs e = subst (λ vs. ValuesStand [] vs b) (same_Some _ _ e) tt
 values_stand (k ∷ ks) b vs e =
     let g = given_some (standing k b) (λ v. and_more v (values_at ks b)) vs e in
     let m = more_there g.0 (values_at ks b) vs g.2 in
@@ -92,10 +92,10 @@ made_asks (form.Resize c i) = tt
 made_asks (form.IndexCast c i) = tt
 
 type_is_of : (ty : TypeTerm) (k : BitsKind) → kind_of ty ≡ Some k → ty ≡ type_of k
-type_is_of (term.Integer sign.Signless w) k e = ap type_of (same_some e)
+type_is_of (term.Integer sign.Signless w) k e = ap type_of (same_Some _ _ e)
 type_is_of (term.Integer sign.Signed w) k e = absurd (none-some k e)
 type_is_of (term.Integer sign.Unsigned w) k e = absurd (none-some k e)
-type_is_of term.Index k e = ap type_of (same_some e)
+type_is_of term.Index k e = ap type_of (same_Some _ _ e)
 type_is_of (term.Function is os) k e = absurd (none-some k e)
 type_is_of (term.Memref ds ty) k e = absurd (none-some k e)
 type_is_of (term.OpaqueType s) k e = absurd (none-some k e)
@@ -132,7 +132,7 @@ module _ (ts : Standing TypeTerm) (kinds : AreOfKinds ts) (p : Shape) (envp : Li
 
   pub new_place_of : (k i : ℕ) → length p.values ≤ k → is_new p k i ≡ true → IsNewPlace i × (i < k)
   new_place_of k i low e = elim (or_cases (is_variable p i) (is_within (new_begins p) k i) e) [
-    | inl h ↦ let l = less i (length p.values) h in (inl l, omega (arith, l, low))
+    | inl h ↦ let l = ltb-true i (length p.values) h in (inl l, omega (arith, l, low))
     | inr h ↦ let l = within_parts (new_begins p) k i h in (inr l.0, l.1)
   ]
 
@@ -142,7 +142,7 @@ module _ (ts : Standing TypeTerm) (kinds : AreOfKinds ts) (p : Shape) (envp : Li
   -- the kind of a type that stands
   kind_there : (ty : ℕ) (term : TypeTerm) → standing ty ts ≡ Some term → kind_of term ≡ Some (kind_at ks ty)
   kind_there ty term e =
-      let k = some_of (kind_of term) (kinds ty term e) in
+      let k = some_there (kind_of term) (kinds ty term e) in
       k.1 ∙ ap (λ k. Some k) (sym (kind_is ts ty term k.0 (standing_stands ty term ts e) k.1))
 
   -- what is made gives what its step gives
@@ -154,7 +154,7 @@ module _ (ts : Standing TypeTerm) (kinds : AreOfKinds ts) (p : Shape) (envp : Li
       let l = given_some (standing q.ty ts) (λ term. Some (made (name_of q.form) g.0 term (entries_by (predicate_of q.form) (name_of q.form)))) o g.2 in
       let places = form_places p (is_new p k) q.form (and_parts (is_type p q.ty) (form_stands p (is_new p k) q.form) st).1 in
       let m = made (name_of q.form) g.0 l.0 (entries_by (predicate_of q.form) (name_of q.form)) in
-      subst (λ (o : Operation). makes (head o) (map c (head o).operands) ≡ Some x) (same_some l.2)
+      subst (λ (o : Operation). makes (head o) (map c (head o).operands) ≡ Some x) (same_Some _ _ l.2)
       (form_makes c env (head m) (kind_at ks q.ty) q.form named refl (kind_there q.ty l.0 l.1) (made_asks q.form)
       (operands_show (is_new p k) c env b (new_shown k env b low shows) (operands_of q.form) g.0 places (values_stand (operands_of q.form) b g.0 g.1)) ∙ s)
   made_gives k (new.Constant i t) es env b o x low st named of fit e shows numbers s =
@@ -164,9 +164,9 @@ module _ (ts : Standing TypeTerm) (kinds : AreOfKinds ts) (p : Shape) (envp : Li
       let l = given_some (standing t ts) (λ term. Some (constant term g.0.1)) o g.2 in
       let number = (and_parts (is_type p t) (is_number p (old_begins p) i) st).1 in
       let there = numbers i g.0 number at in
-      let is : Some g.0 ≡ x = same_some (sym (again_gives env i g.0 there) ∙ s) in
+      let is : Some g.0 ≡ x = same_Some _ _ (sym (again_gives env i g.0 there) ∙ s) in
       let kind = kind_there t l.0 l.1 ∙ ap (λ k. Some k) (sym (of.are i g.0 there ∙ same_kinds (kind_at es i) (kind_at ks t) fit)) in
-      subst (λ (o : Operation). makes (head o) (map c (head o).operands) ≡ Some x) (same_some l.2) (constant_makes l.0 g.0.0 g.0.1 kind ∙ ap (λ z. Some z) is)
+      subst (λ (o : Operation). makes (head o) (map c (head o).operands) ≡ Some x) (same_Some _ _ l.2) (constant_makes l.0 g.0.0 g.0.1 kind ∙ ap (λ z. Some z) is)
 
   -- the result of what is made is of its type
   abbrev TypedAs : Header → ℕ → Type 0
@@ -177,38 +177,33 @@ module _ (ts : Standing TypeTerm) (kinds : AreOfKinds ts) (p : Shape) (envp : Li
   one_typed term k (Some y) e h g = (e ∙ ap (λ k. Some k) (sym (h y refl)), g y refl)
 
   alone_typed : (n : ℕ) (term : TypeTerm) (x : Outcome) → c (Result n 0) ≡ x → IsOfType term x → (k : ℕ) (ty : TypeTerm) → slice_get (term ∷ []) k ≡ Some ty → IsOfType ty (c (Result n k))
-  alone_typed n term x is h zero ty e = subst (λ ty. IsOfType ty (c (Result n 0))) (same_some e) (subst (IsOfType term) (sym is) h)
+  alone_typed n term x is h zero ty e = subst (λ ty. IsOfType ty (c (Result n 0))) (same_Some _ _ e) (subst (IsOfType term) (sym is) h)
   alone_typed n term x is h (suc k) ty e = absurd (none-some ty e)
 
   made_typed : (w : New) (b : Standing Value) (o : Operation) → made_as b ts envp w ≡ Some o → (n : ℕ) (x : Outcome) → c (Result n 0) ≡ x → IsKind (kind_at ks (new_type w)) x → IsOfBits x → TypedAs (head o) n
   made_typed (new.Operation q) b o e n x is h i =
       let g = given_some (values_at (operands_of q.form) b) (λ vs. given (standing q.ty ts) (λ term. Some (made (name_of q.form) vs term (entries_by (predicate_of q.form) (name_of q.form))))) o e in
       let l = given_some (standing q.ty ts) (λ term. Some (made (name_of q.form) g.0 term (entries_by (predicate_of q.form) (name_of q.form)))) o g.2 in
-      subst (λ (o : Operation). TypedAs (head o) n) (same_some l.2) (alone_typed n l.0 x is (one_typed l.0 (kind_at ks q.ty) x (kind_there q.ty l.0 l.1) h i))
+      subst (λ (o : Operation). TypedAs (head o) n) (same_Some _ _ l.2) (alone_typed n l.0 x is (one_typed l.0 (kind_at ks q.ty) x (kind_there q.ty l.0 l.1) h i))
   made_typed (new.Constant j t) b o e n x is h i =
       let g = given_some (given (slice_get envp j) (λ x. x)) (λ (x : Known). given (standing t ts) (λ term. Some (constant term x.1))) o e in
       let l = given_some (standing t ts) (λ term. Some (constant term g.0.1)) o g.2 in
-      subst (λ (o : Operation). TypedAs (head o) n) (same_some l.2) (alone_typed n l.0 x is (one_typed l.0 (kind_at ks t) x (kind_there t l.0 l.1) h i))
-
-  more_made : (o : Operation) (r : Option (List Operation × Standing Value)) (os : List Operation) (d : Standing Value) → option_map {U = List Operation × Standing Value} (λ (r : List Operation × Standing Value). (o ∷ r.0, r.1)) r ≡ Some (os, d)
-      → (us : List Operation) × (r ≡ Some (us, d)) × (o ∷ us ≡ os)
-  more_made o None os d e = absurd (none-some (os, d) e)
-  more_made o (Some r) os d e = let s : (o ∷ r.0, r.1) ≡ (os, d) = same_some e in (r.0, (λ i. Some (r.0, (s i).1)), ap (λ (r : List Operation × Standing Value). r.0) s)
+      subst (λ (o : Operation). TypedAs (head o) n) (same_Some _ _ l.2) (alone_typed n l.0 x is (one_typed l.0 (kind_at ks t) x (kind_there t l.0 l.1) h i))
 
   shows_more : (k n : ℕ) (env : List Outcome) (b b1 : Standing Value) (x : Outcome) → length env ≡ k → bound same_value k (Result n 0) b ≡ Some b1 → c (Result n 0) ≡ x → ShowsNew k env b → ShowsNew (k + 1) (env ++ (x ∷ [])) b1
   shows_more k n env b b1 x l e is shows j v o m s = elim (cases_eq j k) [
     | inl i ↦
-        let at = (bound_holds same_value one_value k (Result n 0) b b1 e).0 in
+        let at = (bound_holds same_value same_value_true k (Result n 0) b b1 e).0 in
         ap (slice_get (env ++ (x ∷ []))) (i ∙ sym l) ∙ push_last env x ∙ ap (λ z. Some z) (sym is ∙ ap c (one_stands k (Result n 0) v b1 at (subst (λ z. Stands z v b1) i s)))
-    | inr i ↦ push_other env x j (c v) (shows j v o (omega (arith, m, i)) (bound_elsewhere same_value one_value k (Result n 0) b b1 e j v i s))
+    | inr i ↦ push_other env x j (c v) (shows j v o (omega (arith, m, i)) (bound_elsewhere same_value same_value_true k (Result n 0) b b1 e j v i s))
   ]
 
   pub news_run : (end k n : ℕ) (ws : List New) (es : List BitsKind) (env whole : List Outcome) (b d : Standing Value) (os : List Operation) → run (map (new_step ks) ws) env ≡ Some whole → all_made ts envp n k ws b ≡ Some (os, d)
       → length env ≡ k → k + length ws ≡ end → length p.values ≤ k → news_stand p end ws ≡ true → list_all is_named ws ≡ true → OfKinds es env → AllOfBits env → news_fit ks es ws ≡ true
       → Later c n k whole → ShowsNew k env b → HasNumbers env → FitsEach c n os × ShowsNew (k + length ws) whole d × TypedEach c n os
   news_run end k n [] es env whole b d os ran all l sum low st named of bits fit later shows numbers =
-      let s : ([], b) ≡ (os, d) = same_some all in
-      let w : env ≡ whole = same_some ran in (
+      let s : ([], b) ≡ (os, d) = same_Some _ _ all in
+      let w : env ≡ whole = same_Some _ _ ran in (
         subst (λ os. FitsEach c n os) (ap (λ (r : List Operation × Standing Value). r.0) s) tt,
         (λ j v o m h. subst (λ z. slice_get z j ≡ Some (c v)) w (shows j v o (no_more m) (subst (λ z. Stands j v z) (ap (λ (r : List Operation × Standing Value). r.1) (sym s)) h))),
         subst (λ os. TypedEach c n os) (ap (λ (r : List Operation × Standing Value). r.0) s) tt,

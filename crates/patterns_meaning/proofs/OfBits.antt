@@ -5,7 +5,7 @@ use Rattle.std.specs.Int.{int_shr}
 use Rattle.std.proofs.lemmas.Bool.{and_parts, cases_eq, cases_lt}
 use Rattle.std.proofs.lemmas.Bool.Decides.{nat_tests}
 use Rattle.std.proofs.lemmas.Nat.{and_le_l, or_lt, pow_pos, xor_lt}
-use Rattle.std.proofs.lemmas.Option.{none-some}
+use Rattle.std.proofs.lemmas.Option.{none-some, same_Some}
 use Rattle.std.proofs.Math.Nat.{div-le_self}
 use Rattle.ir_types.specs.declared.bits.BitsKind.{BitsKind}
 use Rattle.ir_types.specs.declared.bits.BitsKind.TheVariants as kind
@@ -26,7 +26,6 @@ use Rattle.patterns_check.specs.declared.step.Step.TheVariants as step
 use Rattle.patterns_check.specs.Outcomes.{Outcome, compare_outcome, constant_outcome, divides, given, is_signed_remainder, is_some_number, judged, log_of, log_outcome, no_value, pair_outcome, required, resize_any, resize_outcome, run, select_outcome, step_of}
 use Rattle.patterns_check.proofs.Logs.{lt_power}
 use Rattle.patterns_laws.proofs.KnownFolds.{given_some}
-use Rattle.patterns_meaning.proofs.Standing.{same_some}
 use Rattle.patterns_meaning.proofs.Steps.{push_below, push_last, push_past}
 
 -- ---- results are below 2 ^ w
@@ -34,7 +33,7 @@ below_by : (n k : ℕ) → n % 2 ^ k < 2 ^ k
 below_by n k = let h = pow_pos k in omega (arith, h)
 
 some_below : (w n v : ℕ) → n < 2 ^ w → Some n ≡ Some v → v < 2 ^ w
-some_below w n v l e = subst (λ z. z < 2 ^ w) (same_some e) l
+some_below w n v l e = subst (λ z. z < 2 ^ w) (same_Some _ _ e) l
 
 if_below : (w : ℕ) (b : Bool) (n v : ℕ) → n < 2 ^ w → (if b then Some n else None) ≡ Some v → v < 2 ^ w
 if_below w true n v l e = some_below w n v l e
@@ -90,7 +89,7 @@ log_below zero a k e = absurd (none-some k e)
 log_below (suc w) a k e = go (λ i. log_below w a k i) (first_below (λ k. if a == 2 ^ k then Some k else None) w) refl e
   where
     here : (b : Bool) → (if b then Some w else None) ≡ Some k → k < suc w
-    here true e = let s : w ≡ k = same_some e in omega (arith, s)
+    here true e = let s : w ≡ k = same_Some _ _ e in omega (arith, s)
     here false e = absurd (none-some k e)
 
     go : (first_below (λ k. if a == 2 ^ k then Some k else None) w ≡ Some k → k < w) → (o : Option ℕ) → first_below (λ k. if a == 2 ^ k then Some k else None) w ≡ o → or_else o (if a == 2 ^ w then Some w else None) ≡ Some k → k < suc w
@@ -118,10 +117,10 @@ bits_parts k n e = let h = and_parts (is_width (width_of k)) (nat_lt n (2 ^ widt
     by_test n m h = grind (arith, nat_tests)
 
 poison : (z : Outcome) → Some None ≡ Some z → IsOfBits z
-poison z e y i = absurd (none-some y (same_some e ∙ i))
+poison z e y i = absurd (none-some y (same_Some _ _ e ∙ i))
 
 known_is : (x : Known) (z : Outcome) → is_bits x.0 x.1 ≡ true → Some (Some x) ≡ Some z → IsOfBits z
-known_is x z h e y i = let s : x ≡ y = same_some (same_some e ∙ i) in subst (λ (y : Known). is_bits y.0 y.1 ≡ true) s h
+known_is x z h e y i = let s : x ≡ y = same_Some _ _ (same_Some _ _ e ∙ i) in subst (λ (y : Known). is_bits y.0 y.1 ≡ true) s h
 
 if_poison : (b : Bool) (z : Outcome) → (if b then None else Some None) ≡ Some z → IsOfBits z
 if_poison true z e = absurd (none-some z e)
@@ -168,8 +167,8 @@ select_bits None x y z h g e = poison z e
 select_bits (Some c) x y z h g e = go (same_kind c.0 (kind.Int 1)) e
   where
     chosen : (b : Bool) → Some (if b then y else x) ≡ Some z → IsOfBits z
-    chosen true e = λ k i. g k (same_some e ∙ i)
-    chosen false e = λ k i. h k (same_some e ∙ i)
+    chosen true e = λ k i. g k (same_Some _ _ e ∙ i)
+    chosen false e = λ k i. h k (same_Some _ _ e ∙ i)
 
     go : (b : Bool) → (if b then Some (choice_of c.1 x y) else None) ≡ Some z → IsOfBits z
     go true e = chosen (c.1 == 0) e
@@ -200,7 +199,7 @@ required_bits (Some x) z h e = go (x.1 == 0) e
   where
     go : (c : Bool) → (if c then None else Some (Some x)) ≡ Some z → IsOfBits z
     go true e = absurd (none-some z e)
-    go false e = λ y i. h y (same_some e ∙ i)
+    go false e = λ y i. h y (same_Some _ _ e ∙ i)
 
 constant_bits : (k : BitsKind) (n : ℕ) (z : Outcome) → constant_outcome k n ≡ Some z → IsOfBits z
 constant_bits k n z e = go (is_bits k n) refl e
@@ -237,13 +236,13 @@ pub push_bits : (env : List Outcome) (o : Outcome) → AllOfBits env → IsOfBit
 push_bits env o h is i y e = elim (cases_lt i (length env)) [
   | inl l ↦ h i y (sym (push_below env o i l) ∙ e)
   | inr l ↦ elim (cases_eq i (length env)) [
-    | inl s ↦ is y (same_some (sym (ap (slice_get (env ++ (o ∷ []))) s ∙ push_last env o) ∙ e))
+    | inl s ↦ is y (same_Some _ _ (sym (ap (slice_get (env ++ (o ∷ []))) s ∙ push_last env o) ∙ e))
     | inr n ↦ absurd (none-some (Some y) (sym (push_past env o i (omega (arith, l, n))) ∙ e))
   ]
 ]
 
 pub run_bits : (ss : List Step) (env new : List Outcome) → AllOfBits env → run ss env ≡ Some new → AllOfBits new
-run_bits [] env new h e = subst AllOfBits (same_some e) h
+run_bits [] env new h e = subst AllOfBits (same_Some _ _ e) h
 run_bits (s ∷ ss) env new h e =
     let g = given_some (step_of s env) (λ v. run ss (env ++ (v ∷ []))) new e in
     run_bits ss (env ++ (g.0 ∷ [])) new (push_bits env g.0 h (step_bits env h s g.0 g.1)) g.2

@@ -4,7 +4,7 @@ use Rattle.std.specs.Prelude.{if◌then◌else◌, ◌==◌}
 use Rattle.std.proofs.lemmas.Bool.{and_parts, cases_eq, cases_lt}
 use Rattle.std.proofs.lemmas.List.{get_or_append_left, length_push}
 use Rattle.std.proofs.Math.Seq.{get_or-append_seam}
-use Rattle.std.proofs.lemmas.Option.{none-some}
+use Rattle.std.proofs.lemmas.Option.{none-some, same_Some}
 use Rattle.ir_types.specs.declared.bits.BitsKind.{BitsKind}
 use Rattle.ir_types.specs.declared.bits.BitsKind.TheVariants as kind
 use Rattle.ir_types.specs.Bits.{is_bits, width_of}
@@ -30,7 +30,6 @@ use Rattle.patterns_book.specs.declared.pattern.New.TheVariants as new
 use Rattle.patterns_book.specs.Fitting.{form_step, further_step, kind_at, new_step, number_step}
 use Rattle.patterns_makeable.specs.Makeable.{new_type}
 use Rattle.patterns_meaning.specs.Applied.{form_fits, further_kind, kinds_behind, new_fits, number_kind}
-use Rattle.patterns_meaning.proofs.Standing.{same_some}
 use Rattle.patterns_meaning.proofs.Steps.{push_below, push_last, push_past}
 
 pub same_kinds : (j k : BitsKind) → same_kind j k ≡ true → j ≡ k
@@ -55,7 +54,7 @@ push_kinds es env k o h is = record {
     | inl l ↦ h.are i x (sym (push_below env o i l) ∙ e) ∙ sym (get_or_append_left es (k ∷ []) (kind.Int 0) i (omega (arith, l, h.long)))
     | inr l ↦ elim (cases_eq i (length env)) [
       | inl s ↦
-          is x (same_some (sym (ap (slice_get (env ++ (o ∷ []))) s ∙ push_last env o) ∙ e)) ∙ sym (ap (λ j. get_or (es ++ (k ∷ [])) j (kind.Int 0)) (s ∙ sym h.long) ∙ get_or-append_seam es k [] (kind.Int 0))
+          is x (same_Some _ _ (sym (ap (slice_get (env ++ (o ∷ []))) s ∙ push_last env o) ∙ e)) ∙ sym (ap (λ j. get_or (es ++ (k ∷ [])) j (kind.Int 0)) (s ∙ sym h.long) ∙ get_or-append_seam es k [] (kind.Int 0))
       | inr n ↦ absurd (none-some (Some x) (sym (push_past env o i (omega (arith, l, n))) ∙ e))
     ]
   ];
@@ -63,10 +62,10 @@ push_kinds es env k o h is = record {
 
 -- ---- what steps give
 poison : (k : BitsKind) (z : Outcome) → Some None ≡ Some z → IsKind k z
-poison k z e x i = absurd (none-some x (same_some e ∙ i))
+poison k z e x i = absurd (none-some x (same_Some _ _ e ∙ i))
 
 known_is : (k : BitsKind) (n : ℕ) (z : Outcome) → Some (Some (k, n)) ≡ Some z → IsKind k z
-known_is k n z e x i = let s : (k, n) ≡ x = same_some (same_some e ∙ i) in ap (λ (y : Known). y.0) (sym s)
+known_is k n z e x i = let s : (k, n) ≡ x = same_Some _ _ (same_Some _ _ e ∙ i) in ap (λ (y : Known). y.0) (sym s)
 
 if_poison : (k : BitsKind) (b : Bool) (z : Outcome) → (if b then None else Some None) ≡ Some z → IsKind k z
 if_poison k true z e = absurd (none-some z e)
@@ -108,7 +107,7 @@ required_kind k (Some x) z h e = go (x.1 == 0) e
   where
     go : (c : Bool) → (if c then None else Some (Some x)) ≡ Some z → IsKind k z
     go true e = absurd (none-some z e)
-    go false e = λ y i. h y (same_some e ∙ i)
+    go false e = λ y i. h y (same_Some _ _ e ∙ i)
 
 constant_kind : (k : BitsKind) (n : ℕ) (z : Outcome) → constant_outcome k n ≡ Some z → IsKind k z
 constant_kind k n z e = go (is_bits k n) e
@@ -148,8 +147,8 @@ module _ (es : List BitsKind) (env : List Outcome) (h : OfKinds es env) where
   select_kind k (Some c) x y z hx hy e = go (same_kind c.0 (kind.Int 1)) e
     where
       chosen : (b : Bool) → Some (if b then y else x) ≡ Some z → IsKind k z
-      chosen true e = λ w i. hy w (same_some e ∙ i)
-      chosen false e = λ w i. hx w (same_some e ∙ i)
+      chosen true e = λ w i. hy w (same_Some _ _ e ∙ i)
+      chosen false e = λ w i. hx w (same_Some _ _ e ∙ i)
 
       go : (b : Bool) → (if b then Some (choice_of c.1 x y) else None) ≡ Some z → IsKind k z
       go true e = chosen (c.1 == 0) e
@@ -188,7 +187,7 @@ module _ (es : List BitsKind) (env : List Outcome) (h : OfKinds es env) where
 -- ---- one after another
 kinds_run : {X : Type 0} (st : X → Step) (f : List BitsKind → X → BitsKind) → ((es : List BitsKind) (env : List Outcome) → OfKinds es env → (x : X) (z : Outcome) → step_of (st x) env ≡ Some z → IsKind (f es x) z)
     → (xs : List X) (es : List BitsKind) (env new : List Outcome) → OfKinds es env → run (map st xs) env ≡ Some new → OfKinds (kinds_behind f xs es) new
-kinds_run st f one [] es env new h e = subst (λ d. OfKinds es d) (same_some e) h
+kinds_run st f one [] es env new h e = subst (λ d. OfKinds es d) (same_Some _ _ e) h
 kinds_run st f one (x ∷ xs) es env new h e =
     let g = given_some (step_of (st x) env) (λ z. run (map st xs) (env ++ (z ∷ []))) new e in
     kinds_run st f one xs (es ++ (f es x ∷ [])) (env ++ (g.0 ∷ [])) new (push_kinds es env (f es x) g.0 h (one es env h x g.0 g.1)) g.2

@@ -2,8 +2,7 @@
 use Rattle.std.proofs.Common.{◌≡◌, ℕ, ◌+◌, ◌-◌, ◌<◌, ◌≤◌, refl, ap, sym, ◌∙◌, subst, List, [], ◌∷◌, ◌++◌, length, map, Bool, true, ◌&&◌, Some, slice_get, ◌⊎◌, inl, inr, arith}
 use Rattle.std.specs.Prelude.{nat_lt}
 use Rattle.std.specs.List.{list_all}
-use Rattle.std.proofs.lemmas.Bool.{and_parts, or_cases, cases_eq}
-use Rattle.std.proofs.lemmas.Bool.Decides.{nat_tests}
+use Rattle.std.proofs.lemmas.Bool.{and_parts, or_cases, cases_eq, ltb-true}
 use Rattle.std.proofs.lemmas.List.{length_push}
 use Rattle.ir_types.specs.declared.bits.BitsKind.{BitsKind}
 use Rattle.ir_types.specs.Terms.{TypeTerm}
@@ -23,6 +22,7 @@ use Rattle.patterns_book.specs.Planning.{kind_standing}
 use Rattle.patterns_book.specs.Shapes.{Shape}
 use Rattle.patterns_book.specs.WellFormed.{form_stands, is_old, is_type, is_within, old_begins, old_stands, olds_stand}
 use Rattle.patterns_makeable.specs.Makeable.{has_name}
+use Rattle.ir_tree_laws.proofs.Reasoned.{some_there}
 use Rattle.patterns_meaning.specs.Meaning.{Assignment, IsOfType, result_kind}
 use Rattle.patterns_meaning.specs.Applied.{AreOfKinds, kinds_behind, piece_kind}
 use Rattle.patterns_meaning.proofs.Standing.{AllHold, AllTyped, Holds, IsTyped, Stands, ValuesStand, one_stands, stands_standing}
@@ -31,7 +31,6 @@ use Rattle.patterns_meaning.proofs.OfKinds.{IsKind, OfKinds, push_kinds}
 use Rattle.patterns_meaning.proofs.Steps.{push_last, push_other}
 use Rattle.patterns_meaning.proofs.Forms.{AllShow, FitThere, form_asks, form_makes, form_rule, giver_of, giver_type, kind_is, made_there, named_is, rule_for}
 use Rattle.patterns_meaning.proofs.Numbers.{within_parts}
-use Rattle.patterns_meaning.proofs.Beginning.{some_of}
 
 -- ---- places of operands
 abbrev pub AllAre : (ℕ → Bool) → List ℕ → Type 0
@@ -51,9 +50,6 @@ operands_show g a env b shows [] [] h s = tt
 operands_show g a env b shows [] (v ∷ vs) h s = absurd s
 operands_show g a env b shows (k ∷ ks) [] h s = absurd s
 operands_show g a env b shows (k ∷ ks) (v ∷ vs) h s = (shows k v h.0 s.0, operands_show g a env b shows ks vs h.1 s.1)
-
-pub less : (i m : ℕ) → nat_lt i m ≡ true → i < m
-less i m e = grind (arith, nat_tests)
 
 module _ (t : Operation) (clean : Header → Bool) (a : Assignment) (b : Standing Value) (ts : Standing TypeTerm) (p : Shape) (fits : FitThere t clean a b) (kinds : AreOfKinds ts) (of : TypesFound a t) where
   -- a variable's place, that of a further constant, or of what is matched
@@ -78,7 +74,7 @@ module _ (t : Operation) (clean : Header → Bool) (a : Assignment) (b : Standin
 
   old_shown : (k : ℕ) (env : List Outcome) → old_begins p ≤ k → ShowsOld k env → (i : ℕ) (v : Value) → is_old p k i ≡ true → Stands i v b → slice_get env i ≡ Some (a v)
   old_shown k env low shows i v e s = elim (or_cases (nat_lt i (length p.values + length p.further)) (is_within (old_begins p) k i) e) [
-    | inl h ↦ let l = less i (length p.values + length p.further) h in shows i v (inl l) (omega (arith, l, low)) s
+    | inl h ↦ let l = ltb-true i (length p.values + length p.further) h in shows i v (inl l) (omega (arith, l, low)) s
     | inr h ↦ let l = within_parts (old_begins p) k i h in shows i v (inr l.0) l.1 s
   ]
 
@@ -89,7 +85,7 @@ module _ (t : Operation) (clean : Header → Bool) (a : Assignment) (b : Standin
       let places = form_places p (is_old p k) o.form (and_parts (is_type p o.ty) (form_stands p (is_old p k) o.form) st).1 in
       let same : r.value ≡ q.value = one_stands k r.value q.value b r.stands q.stands in
       let first = giver_type t clean r.value r.header q.term (giver_of t clean r.value r.header r.gives) (ap (λ v. type_of_value v t) same ∙ q.of_value) in
-      let k_is = some_of (kind_of q.term) (kinds o.ty q.term (stands_standing o.ty q.term ts q.type_stands)) in
+      let k_is = some_there (kind_of q.term) (kinds o.ty q.term (stands_standing o.ty q.term ts q.type_stands)) in
       let kind : result_kind r.header ≡ Some (kind_at (map kind_standing ts) o.ty) = ap (λ o. given o kind_of) first ∙ k_is.1 ∙ ap (λ k. Some k) (sym (kind_is ts o.ty q.term k_is.0 q.type_stands k_is.1)) in
       let name = named_is (name_of o.form) r.header.name r.name in
       sym (form_makes a env r.header (kind_at (map kind_standing ts) o.ty) o.form named name kind (form_asks t clean o.form r.header.properties r.asks)

@@ -4,7 +4,7 @@ use Rattle.std.specs.Prelude.{nat_le, option_map, slice_get, is_some, if◌then�
 use Rattle.std.specs.List.{list_all}
 use Rattle.std.proofs.lemmas.Bool.{and_parts, or_cases}
 use Rattle.std.proofs.lemmas.Bool.Decides.{nat_tests}
-use Rattle.std.proofs.lemmas.Option.{none-some}
+use Rattle.std.proofs.lemmas.Option.{same_Some}
 use Rattle.ir_types.specs.declared.bits.BitsKind.{BitsKind}
 use Rattle.ir_types.specs.Terms.{TypeTerm}
 use Rattle.ir_tree.specs.declared.value.Value.{Value}
@@ -29,13 +29,14 @@ use Rattle.patterns_book.specs.declared.pattern.New.TheVariants as new
 use Rattle.patterns_book.specs.Matching.{Header, Standing, bound, standing}
 use Rattle.patterns_book.specs.Names.{name_of, operands_of, predicate_of}
 use Rattle.patterns_book.specs.Planning.{all_made, entries_by, made_as, values_at}
+use Rattle.ir_tree.proofs.Replaced.{same_value_true}
 use Rattle.patterns_meaning.specs.Meaning.{AreOfTypes, ArgumentsOfTypes, Assignment, BlocksInRegions, Each, EachBlock, EachInRegions, FitsAll, FitsDone, FitsEach, IsOfType, ResultsOfTypes, TypedEach, makes, makes_by, result_kind}
 use Rattle.patterns_meaning.specs.Applied.{Agree, IsBelow}
 use Rattle.patterns_meaning.specs.After.{OperandsStand, RewrittenComputes, or_new, with_given, with_made}
-use Rattle.patterns_meaning.proofs.Standing.{one_value, same_some}
 use Rattle.patterns_meaning.proofs.Trees.{value_below}
 use Rattle.patterns_meaning.proofs.Beginning.{one_known}
 use Rattle.patterns_meaning.proofs.Going.{plans_go, planned_there, root_below}
+use Rattle.patterns_meaning.proofs.News.{more_made}
 use Rattle.patterns_meaning.proofs.Edited.{blocks_below, blocks_changed, blocks_put, blocks_without, each_both, each_changed, each_put, each_without}
 
 -- ---- what an operation makes hangs on its name, its properties and its results alone
@@ -65,23 +66,18 @@ module _ (ts : Standing TypeTerm) (env : List Outcome) where
   one_bare (new.Operation p) b o e =
       let g = given_some (values_at (operands_of p.form) b) (λ vs. given (standing p.ty ts) (λ term. Some (made (name_of p.form) vs term (entries_by (predicate_of p.form) (name_of p.form))))) o e in
       let l = given_some (standing p.ty ts) (λ term. Some (made (name_of p.form) g.0 term (entries_by (predicate_of p.form) (name_of p.form)))) o g.2 in
-      ap (λ (o : Operation). regions o) (sym (same_some l.2))
+      ap (λ (o : Operation). regions o) (sym (same_Some _ _ l.2))
   one_bare (new.Constant i t) b o e =
       let g = given_some (given (slice_get env i) (λ x. x)) (λ (x : Known). given (standing t ts) (λ term. Some (constant term x.1))) o e in
       let l = given_some (standing t ts) (λ term. Some (constant term g.0.1)) o g.2 in
-      ap (λ (o : Operation). regions o) (sym (same_some l.2))
-
-  more_bare : (o : Operation) (r : Option (List Operation × Standing Value)) (os : List Operation) (d : Standing Value) → option_map {U = List Operation × Standing Value} (λ (r : List Operation × Standing Value). (o ∷ r.0, r.1)) r ≡ Some (os, d)
-      → (us : List Operation) × (r ≡ Some (us, d)) × (o ∷ us ≡ os)
-  more_bare o None os d e = absurd (none-some (os, d) e)
-  more_bare o (Some r) os d e = let s : (o ∷ r.0, r.1) ≡ (os, d) = same_some e in (r.0, (λ i. Some (r.0, (s i).1)), ap (λ (r : List Operation × Standing Value). r.0) s)
+      ap (λ (o : Operation). regions o) (sym (same_Some _ _ l.2))
 
   all_bare : (n k : ℕ) (ws : List New) (b d : Standing Value) (os : List Operation) → all_made ts env n k ws b ≡ Some (os, d) → AllBare os
-  all_bare n k [] b d os e = let s : ([], b) ≡ (os, d) = same_some e in subst AllBare (ap (λ (r : List Operation × Standing Value). r.0) s) tt
+  all_bare n k [] b d os e = let s : ([], b) ≡ (os, d) = same_Some _ _ e in subst AllBare (ap (λ (r : List Operation × Standing Value). r.0) s) tt
   all_bare n k (w ∷ ws) b d os e =
       let g = given_some (made_as b ts env w) (λ o. given (bound same_value k (Result n 0) b) (λ c. option_map (λ (r : List Operation × Standing Value). (o ∷ r.0, r.1)) (all_made ts env (n + 1) (k + 1) ws c))) (os, d) e in
       let h = given_some (bound same_value k (Result n 0) b) (λ c. option_map (λ (r : List Operation × Standing Value). (g.0 ∷ r.0, r.1)) (all_made ts env (n + 1) (k + 1) ws c)) (os, d) g.2 in
-      let m = more_bare g.0 (all_made ts env (n + 1) (k + 1) ws h.0) os d h.2 in
+      let m = more_made g.0 (all_made ts env (n + 1) (k + 1) ws h.0) os d h.2 in
       subst AllBare m.2 (one_bare w b g.0 g.1, all_bare (n + 1) (k + 1) ws h.0 d m.0 m.1)
 
 -- ---- the tree with what is made
@@ -170,7 +166,7 @@ module _ (a c : Assignment) (n x : ℕ) (v : Value) (done : ℕ → Bool) where
     value_same w = go (same_value (Result x 0) w) refl
       where
         go : (b : Bool) → same_value (Result x 0) w ≡ b → c (if b then v else w) ≡ c w
-        go true e = same ∙ ap c (one_value (Result x 0) w e)
+        go true e = same ∙ ap c (same_value_true (Result x 0) w e)
         go false e = refl
 
     values_same : (ws : List Value) → map c (map (put_value (Result x 0) v) ws) ≡ map c ws

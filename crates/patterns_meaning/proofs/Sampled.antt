@@ -1,7 +1,7 @@
 -- The sample meets what the laws ask.
 use Rattle.std.proofs.Common.{◌≡◌, ℕ, zero, suc, ◌<◌, refl, ap, sym, subst, List, [], ◌∷◌, true, true≢false, Some, None, slice_get, inl, arith}
 use Rattle.std.specs.Prelude.{is_some}
-use Rattle.std.proofs.lemmas.Option.{none-some}
+use Rattle.std.proofs.lemmas.Option.{none-some, same_Some}
 use Rattle.ir_types.specs.declared.bits.BitsKind.TheVariants as kind
 use Rattle.ir_types.specs.Terms.{TypeTerm}
 use Rattle.ir_types.specs.Words as words
@@ -24,7 +24,6 @@ use Rattle.patterns_book.specs.Samples.{times_power}
 use Rattle.patterns_meaning.specs.Meaning.{IsOfType}
 use Rattle.patterns_meaning.specs.Applied.{AreOfKinds, Computes, IsFound}
 use Rattle.patterns_meaning.specs.Samples.{SampleIsKept, all_done, each, i2, outcomes, tree}
-use Rattle.patterns_meaning.proofs.Standing.{same_some}
 
 -- ---- what is found
 abbrev here : Standing Value
@@ -34,16 +33,16 @@ abbrev types : Standing TypeTerm
 types = Some i2 ∷ []
 
 known_here : (i : ℕ) (v : Value) → standing i here ≡ Some v → is_some (outcomes v) ≡ true
-known_here zero v e = ap (λ v. is_some (outcomes v)) (sym (same_some e))
-known_here (suc zero) v e = ap (λ v. is_some (outcomes v)) (sym (same_some e))
+known_here zero v e = ap (λ v. is_some (outcomes v)) (sym (same_Some _ _ e))
+known_here (suc zero) v e = ap (λ v. is_some (outcomes v)) (sym (same_Some _ _ e))
 known_here (suc (suc zero)) v e = absurd (none-some v e)
-known_here (suc (suc (suc zero))) v e = ap (λ v. is_some (outcomes v)) (sym (same_some e))
+known_here (suc (suc (suc zero))) v e = ap (λ v. is_some (outcomes v)) (sym (same_Some _ _ e))
 known_here (suc (suc (suc (suc zero)))) v e = absurd (none-some v e)
 known_here (suc (suc (suc (suc (suc zero))))) v e = absurd (none-some v e)
 known_here (suc (suc (suc (suc (suc (suc i)))))) v e = absurd (none-some v e)
 
 are_of_kinds : AreOfKinds types
-are_of_kinds zero ty e = ap (λ ty. is_some (kind_of ty)) (sym (same_some e))
+are_of_kinds zero ty e = ap (λ ty. is_some (kind_of ty)) (sym (same_Some _ _ e))
 are_of_kinds (suc i) ty e = absurd (none-some ty e)
 
 found : IsFound tree each 4 times_power 3 outcomes all_done
@@ -60,7 +59,7 @@ found = record {
 
 -- ---- what is computed
 one_type : (x n : ℕ) → IsOfType i2 (outcomes (Result x 0)) → (k : ℕ) (ty : TypeTerm) → slice_get (i2 ∷ []) k ≡ Some ty → IsOfType ty (outcomes (Result x k))
-one_type x n h zero ty e = subst (λ ty. IsOfType ty (outcomes (Result x 0))) (same_some e) h
+one_type x n h zero ty e = subst (λ ty. IsOfType ty (outcomes (Result x 0))) (same_Some _ _ e) h
 one_type x n h (suc k) ty e = absurd (none-some ty e)
 
 computes : Computes outcomes all_done 4 tree

@@ -1,9 +1,8 @@
 -- What stands at places where pieces are matched and types are asked.
-use Rattle.std.proofs.Common.{◌≡◌, ℕ, ◌+◌, refl, ap, sym, ◌∙◌, subst, List, [], ◌∷◌, ◌++◌, length, Bool, true, false, ◌&&◌, Option, Some, None, slice_get, slice_set, inl, inr, arith, get_or-set_other, get_or-set_same}
+use Rattle.std.proofs.Common.{◌≡◌, ℕ, ◌+◌, refl, ap, sym, ◌∙◌, subst, List, [], ◌∷◌, ◌++◌, Bool, true, ◌&&◌, Option, Some, None, slice_get, inl, inr}
 use Rattle.std.specs.Prelude.{codes}
-use Rattle.std.proofs.lemmas.Bool.{cases_eq, cases_lt, and_parts}
-use Rattle.std.proofs.lemmas.List.{length-set}
-use Rattle.std.proofs.lemmas.Option.{slice_get_within, slice_get-get_or, slice_get_past, none-some}
+use Rattle.std.proofs.lemmas.Bool.{and_parts}
+use Rattle.std.proofs.lemmas.Option.{none-some, same_Some}
 use Rattle.ir_types.specs.Terms.{TypeTerm}
 use Rattle.ir_types.specs.SameTypes.{same_type}
 use Rattle.ir_types.proofs.SameTerms.{type_is}
@@ -18,14 +17,9 @@ use Rattle.patterns_laws.proofs.KnownFolds.{given_some}
 use Rattle.patterns_check.specs.Outcomes.{given}
 use Rattle.patterns_book.specs.declared.pattern.Piece.{Piece}
 use Rattle.patterns_book.specs.Names.{name_of, operands_of, predicate_of}
-use Rattle.patterns_book.specs.Matching.{Header, Standing, all_bound, asks_alike, bound, bound_over, giver_head, header_matched, piece_matched, pieces_matched, placed, predicate_is, standing, type_at, types_at, value_matched, when}
-
-pub same_some : {X : Type 0} {x y : X} → Some x ≡ Some y → x ≡ y
-same_some e = cc
-
-pub when_some : {X : Type 0} (b : Bool) (r : Option X) (x : X) → when b r ≡ Some x → (b ≡ true) × (r ≡ Some x)
-when_some true r x e = (refl, e)
-when_some false r x e = absurd (none-some x e)
+use Rattle.patterns_book.specs.Matching.{Header, Standing, all_bound, asks_alike, bound, giver_head, header_matched, piece_matched, pieces_matched, placed, predicate_is, standing, type_at, types_at, value_matched}
+use Rattle.patterns_book.proofs.Standing.{all_keep}
+use Rattle.patterns_matched.proofs.Found.{bound_at, bound_from, when_is}
 
 -- something stands at a place
 abbrev pub Stands : {V : Type 0} → ℕ → V → Standing V → Type 0
@@ -42,61 +36,23 @@ standing_stands {V} k v b e = go (slice_get b k) refl e
     go (Some o) i e = i ∙ ap Some e
 
 pub one_stands : {V : Type 0} (k : ℕ) (v w : V) (b : Standing V) → Stands k v b → Stands k w b → v ≡ w
-one_stands k v w b e f = same_some (same_some (sym e ∙ f))
+one_stands k v w b e f = same_Some _ _ (same_Some _ _ (sym e ∙ f))
 
 -- all that stands in one stands in the other
 abbrev pub Keeps : {V : Type 0} → Standing V → Standing V → Type 0
 Keeps {V} b c = (k : ℕ) (v : V) → Stands k v b → Stands k v c
 
 pub keeps_same : {V : Type 0} (b c : Standing V) → Some b ≡ Some c → Keeps b c
-keeps_same b c e k v s = subst (λ d. Stands k v d) (same_some e) s
-
--- ---- what is set
-module _ {V : Type 0} where
-  other_set : (b : Standing V) (k j : ℕ) (x : Option V) → (j ≡ k → ⊥) → slice_get (slice_set b k x) j ≡ slice_get b j
-  other_set b k j x n = elim (cases_lt j (length b)) [
-    | inl l ↦
-        slice_get-get_or (slice_set b k x) j None (omega (arith, l, length-set b k x)) ∙ ap (λ r. Some r) (get_or-set_other b k j x None n) ∙ sym (slice_get-get_or b j None l)
-    | inr l ↦ slice_get_past (slice_set b k x) j (omega (arith, l, length-set b k x)) ∙ sym (slice_get_past b j l)
-  ]
-
-  same_set : (b : Standing V) (k : ℕ) (x z : Option V) → slice_get b k ≡ Some z → slice_get (slice_set b k x) k ≡ Some x
-  same_set b k x z e =
-      let l = slice_get_within b k z e in
-      slice_get-get_or (slice_set b k x) k None (omega (arith, l, length-set b k x)) ∙ ap (λ r. Some r) (get_or-set_same b k x None l)
+keeps_same b c e k v s = subst (λ d. Stands k v d) (same_Some _ _ e) s
 
 -- ---- what is bound stands, and what stood before stands still
 module _ {V : Type 0} (same : V → V → Bool) (same_is : (u v : V) → same u v ≡ true → u ≡ v) where
-  set_keeps : (b : Standing V) (k : ℕ) (v : V) → slice_get b k ≡ Some None → Keeps b (slice_set b k (Some v))
-  set_keeps b k v is j u e =
-      elim (cases_eq j k) [
-        | inl h ↦ absurd (none-some u (same_some (sym is ∙ ap (λ (i : ℕ). slice_get b i) (sym h) ∙ e)))
-        | inr n ↦ other_set b k j (Some v) n ∙ e
-      ]
-
   pub bound_holds : (k : ℕ) (v : V) (b c : Standing V) → bound same k v b ≡ Some c → Stands k v c × Keeps b c
-  bound_holds k v b c e = go (slice_get b k) refl e
-    where
-      go : (s : Option (Option V)) → slice_get b k ≡ s → bound_over same s k v b ≡ Some c → Stands k v c × Keeps b c
-      go None i e = absurd (none-some c e)
-      go (Some None) i e = (
-        subst (λ (d : Standing V). Stands k v d) (same_some e) (same_set b k (Some v) None i),
-        subst (λ (d : Standing V). Keeps b d) (same_some e) (set_keeps b k v i),
-      )
-      go (Some (Some u)) i e =
-          let w = when_some (same u v) (Some b) c e in (
-            subst (λ (d : Standing V). Stands k v d) (same_some w.1) (i ∙ ap (λ z. Some (Some z)) (same_is u v w.0)),
-            keeps_same b c w.1,
-          )
+  bound_holds k v b c e = (bound_at same same_is k v b c e, all_keep same (k ∷ []) (v ∷ []) b c (ap (λ r. given r (all_bound same [] [])) e))
 
   -- elsewhere nothing is bound
   pub bound_elsewhere : (k : ℕ) (v : V) (b c : Standing V) → bound same k v b ≡ Some c → (j : ℕ) (w : V) → (j ≡ k → ⊥) → Stands j w c → Stands j w b
-  bound_elsewhere k v b c e j w n s = go (slice_get b k) refl e
-    where
-      go : (o : Option (Option V)) → slice_get b k ≡ o → bound_over same o k v b ≡ Some c → Stands j w b
-      go None i e = absurd (none-some c e)
-      go (Some None) i e = sym (other_set b k j (Some v) n) ∙ subst (λ (d : Standing V). Stands j w d) (sym (same_some e)) s
-      go (Some (Some u)) i e = subst (λ (d : Standing V). Stands j w d) (sym (same_some (when_some (same u v) (Some b) c e).1)) s
+  bound_elsewhere k v b c e j w n s = elim (bound_from same same_is k v b c e j w s) [ inl h ↦ h | inr h ↦ absurd (n h.0) ]
 
   -- values stand at places, one at each
   abbrev pub AllStand : List ℕ → List V → Standing V → Type 0
@@ -121,11 +77,8 @@ module _ {V : Type 0} (same : V → V → Bool) (same_is : (u v : V) → same u 
       let s = all_bound_hold ks vs g.0 c g.2 in
       ((s.1 k v r.0, s.0), (λ j u h. s.1 j u (r.1 j u h)))
 
-pub one_value : (u v : Value) → same_value u v ≡ true → u ≡ v
-one_value u v e = same_value_true u v e
-
 abbrev pub ValuesStand : List ℕ → List Value → Standing Value → Type 0
-ValuesStand ks vs b = AllStand same_value one_value ks vs b
+ValuesStand ks vs b = AllStand same_value same_value_true ks vs b
 
 -- ---- pieces
 module _ (t : Operation) (clean : Header → Bool) where
@@ -151,7 +104,7 @@ module _ (t : Operation) (clean : Header → Bool) where
     gives = r.gives;
     name = r.name;
     asks = r.asks;
-    operands = all_stay same_value one_value (operands_of p.form) r.header.operands b c h r.operands;
+    operands = all_stay same_value same_value_true (operands_of p.form) r.header.operands b c h r.operands;
   }
 
   all_hold_still : (k : ℕ) (ps : List Piece) (b c : Standing Value) → Keeps b c → AllHold k ps b → AllHold k ps c
@@ -162,9 +115,9 @@ module _ (t : Operation) (clean : Header → Bool) where
   piece_holds k p b c e =
       let u = given_some (standing k b) (λ v. value_matched t clean p v b) c e in
       let s = given_some (giver_head t clean u.0) (λ h. header_matched t clean p h b) c u.2 in
-      let w = when_some (named (name_of p.form) s.0.name && asks_alike t clean p s.0) (all_bound same_value (operands_of p.form) s.0.operands b) c s.2 in
+      let w = when_is (named (name_of p.form) s.0.name && asks_alike t clean p s.0) (all_bound same_value (operands_of p.form) s.0.operands b) c s.2 in
       let asks = and_parts (named (name_of p.form) s.0.name) (asks_alike t clean p s.0) w.0 in
-      let of = all_bound_hold same_value one_value (operands_of p.form) s.0.operands b c w.1 in (
+      let of = all_bound_hold same_value same_value_true (operands_of p.form) s.0.operands b c w.1 in (
         record {
           value = u.0;
           stands = of.1 k u.0 (standing_stands k u.0 b u.1);

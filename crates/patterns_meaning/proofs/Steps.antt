@@ -2,11 +2,10 @@
 use Rattle.std.proofs.Common.{◌≡◌, ℕ, ◌+◌, ◌<◌, refl, ap, sym, ◌∙◌, subst, List, [], ◌∷◌, ◌++◌, length, Option, Some, None, slice_get, get_or, arith}
 use Rattle.std.proofs.lemmas.List.{length_push, get_or_append_left}
 use Rattle.std.proofs.Math.Seq.{get_or-append_seam}
-use Rattle.std.proofs.lemmas.Option.{slice_get_within, slice_get-get_or, slice_get_past, get_or_from_slice_get}
+use Rattle.std.proofs.lemmas.Option.{slice_get_within, slice_get-get_or, slice_get_past, get_or_from_slice_get, same_Some}
 use Rattle.patterns_check.specs.declared.step.Step.{Step}
 use Rattle.patterns_check.specs.Outcomes.{Outcome, given, run, step_of}
 use Rattle.patterns_laws.proofs.KnownFolds.{given_some}
-use Rattle.patterns_meaning.proofs.Standing.{same_some}
 
 -- ---- one more at the end
 module _ {X : Type 0} (xs : List X) (x : X) where
@@ -30,7 +29,7 @@ pub record Grows (ss : List Step) (env new : List Outcome) : Type 0 where
   pub stays : (k : ℕ) (o : Outcome) → slice_get env k ≡ Some o → slice_get new k ≡ Some o
 
 pub run_grows : (ss : List Step) (env new : List Outcome) → run ss env ≡ Some new → Grows ss env new
-run_grows [] env new e = record { longer = omega (arith, ap length (same_some e)); stays = λ k o h. subst (λ d. slice_get d k ≡ Some o) (same_some e) h }
+run_grows [] env new e = record { longer = omega (arith, ap length (same_Some _ _ e)); stays = λ k o h. subst (λ d. slice_get d k ≡ Some o) (same_Some _ _ e) h }
 run_grows (s ∷ ss) env new e =
     let g = given_some (step_of s env) (λ v. run ss (env ++ (v ∷ []))) new e in
     let r = run_grows ss (env ++ (g.0 ∷ [])) new g.2 in

@@ -1,7 +1,7 @@
 -- What is true of each operation of a tree.
 use Rattle.std.proofs.Common.{◌≡◌, ℕ, zero, suc, ◌+◌, ◌<◌, refl, ap, sym, ◌∙◌, subst, Bool, true, false, true≢false, eqb, eqb-true, Option, Some, None, List, slice_get, ◌⊎◌, inl, inr, arith}
 use Rattle.std.specs.Prelude.{is_some, option_and_then, if◌then◌else◌}
-use Rattle.std.proofs.lemmas.Option.{none-some}
+use Rattle.std.proofs.lemmas.Option.{none-some, same_Some}
 use Rattle.ir_types.specs.Terms.{TypeTerm, AttrTerm}
 use Rattle.ir_tree.specs.declared.value.Value.{Value}
 use Rattle.ir_tree.specs.declared.value.Value.TheVariants.{Result, Arg}
@@ -12,14 +12,13 @@ use Rattle.ir_tree_laws.specs.Values.{arguments_at, arguments_of, has_value, reg
 use Rattle.patterns_book.specs.Matching.{Header}
 use Rattle.patterns_meaning.specs.Meaning.{AreOfTypes, ArgumentsOfTypes, Assignment, BlocksAmong, BlocksInRegion, BlocksInRegions, Breaks, Each, EachAmong, EachBlock, EachInRegion, EachInRegions, Fits, FitsAll, FitsDone, IsOfType, ResultsOfTypes, is_arithmetic, owner}
 use Rattle.patterns_meaning.specs.Applied.{IsBelow}
-use Rattle.patterns_meaning.proofs.Standing.{same_some}
 
 first_cases : (a b : Option Operation) (o : Operation) → first_of a b ≡ Some o → (a ≡ Some o) ⊎ (b ≡ Some o)
 first_cases None b o e = inr e
 first_cases (Some p) b o e = inl e
 
 here_cases : (c : Bool) (p : Operation) (r : Option Operation) (o : Operation) → (if c then Some p else r) ≡ Some o → ((c ≡ true) × (p ≡ o)) ⊎ (r ≡ Some o)
-here_cases true p r o e = inl (refl, same_some e)
+here_cases true p r o e = inl (refl, same_Some _ _ e)
 here_cases false p r o e = inr e
 
 module _ (P : Header → Type 0) (x : ℕ) where

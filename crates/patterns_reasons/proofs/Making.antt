@@ -1,6 +1,7 @@
 -- Plans that there are, and the edits of rules; and what is shown of an operation.
 use Rattle.std.proofs.Common.{◌≡◌, ◌∙◌, ap, sym, refl, ℕ, List, Bool, true, false, Option, Some, None}
 use Rattle.std.specs.Prelude.{is_some, option_map}
+use Rattle.std.proofs.lemmas.Option.{none-some, same_Some}
 use Rattle.ir_event.specs.trees.declared.place.Place.{Place}
 use Rattle.ir_event.specs.trees.Tree.{head}
 use Rattle.ir_event.specs.trees.Ids.{find}
@@ -41,21 +42,19 @@ module _ (t : Operation) (n : ℕ) (front : Place) (x : ℕ) (r : Rule) (b : Boo
   unfolding rule
   stop_made k e = e ∙ ap (λ z. is_some (given z (λ o. stop_loop t front o))) is ∙ ap (λ r. is_some (rule r t n front o)) (sym k)
 
--- ---- what is shown of an operation
-pub shown_head : (x : ℕ) (t : Operation) (h : Header) (o : Operation) → Some h ≡ head_at x t → find x t ≡ Some o → head o ≡ h
-shown_head x t h o e f = (let shown : Some h ≡ Some (head o) = e ∙ ap (option_map (λ o. head o)) f in cc)
-
-pub shown_id : (x : ℕ) (t : Operation) (h : Header) → Some h ≡ head_at x t → h.id ≡ x
-shown_id x t h e = go (find x t) refl
+-- ---- the operation of which something is shown
+pub shown_of : (x : ℕ) (t : Operation) (h : Header) → Some h ≡ head_at x t → (o : Operation) × (find x t ≡ Some o) × (head o ≡ h) × (h.id ≡ x)
+shown_of x t h e = go (find x t) refl
   where
-    go : (f : Option Operation) → find x t ≡ f → h.id ≡ x
-    go None k = absurd (let none : Some h ≡ None = e ∙ ap (option_map (λ o. head o)) k in cc)
+    go : (f : Option Operation) → find x t ≡ f → (o : Operation) × (find x t ≡ Some o) × (head o ≡ h) × (h.id ≡ x)
+    go None k = absurd (none-some h (sym (e ∙ ap (option_map (λ o. head o)) k)))
     go (Some o) k =
         let s = found_stands x t o k in
-        ap (λ (j : Header). j.id) (sym (shown_head x t h o e k)) ∙ ap (λ (z : Operation). (head z).id) (sym s.3) ∙ s.2
+        let same = same_Some (head o) h (sym (e ∙ ap (option_map (λ o. head o)) k)) in
+        (o, k, same, ap (λ (j : Header). j.id) (sym same) ∙ ap (λ (z : Operation). (head z).id) (sym s.3) ∙ s.2)
 
 pub unused_shown : (x : ℕ) (t : Operation) (h : Header) (b c : Bool) → Some h ≡ head_at x t → b ≡ is_unused x t → b ≡ c → is_unused h.id t ≡ c
-unused_shown x t h b c e u is = ap (λ y. is_unused y t) (shown_id x t h e) ∙ sym u ∙ is
+unused_shown x t h b c e u is = ap (λ y. is_unused y t) (shown_of x t h e).3 ∙ sym u ∙ is
 
 -- ---- of dead operations
 module _ (t : Operation) (h : Header) where

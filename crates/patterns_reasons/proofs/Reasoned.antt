@@ -17,7 +17,7 @@ use Rattle.patterns_reasons.specs.declared.condition.Condition.TheVariants.{NotC
 use Rattle.patterns_reasons.specs.Conditions.{first_failing, unless_holds}
 use Rattle.patterns_reasons.specs.Tests.{asks_block, block_tests, header_tests, tests}
 use Rattle.patterns_reasons.specs.Reasons.{Makes, applies, conditions, reason_of}
-use Rattle.patterns_reasons.proofs.Making.{shown_head, shown_id}
+use Rattle.patterns_reasons.proofs.Making.{shown_of}
 
 -- ---- what a rule asks itself
 module _ (r : Rule) (t : Operation) (o : Operation) (a : Bool) (k : Option Condition) where
@@ -42,26 +42,23 @@ nowhere r m x e = go (find x m.tree) refl
     go None k = sym (ap (λ q. given q (λ o. first_failing (conditions r m x o))) k)
     go (Some o) k = absurd (let some : None ≡ Some (head o) = e ∙ ap (option_map (λ o. head o)) k in cc)
 
-there : (x : ℕ) (t : Operation) (h : Header) → Some h ≡ head_at x t → (o : Operation) × (find x t ≡ Some o)
-there x t h e = go (find x t) refl
-  where
-    go : (f : Option Operation) → find x t ≡ f → (o : Operation) × (find x t ≡ Some o)
-    go None k = absurd (let none : Some h ≡ None = e ∙ ap (option_map (λ o. head o)) k in cc)
-    go (Some o) k = (o, k)
-
 module _ (r : Rule) (m : Module) (x : ℕ) (h : Header) (e : Some h ≡ head_at x m.tree) where
+  at : (o : Operation) × (find x m.tree ≡ Some o) × (head o ≡ h) × (h.id ≡ x)
+  at = shown_of x m.tree h e
+
   o : Operation
-  o = (there x m.tree h e).0
+  o = at.0
 
   is : find x m.tree ≡ Some o
   unfolding o
-  is = (there x m.tree h e).1
+  is = at.1
 
   same : head o ≡ h
-  same = shown_head x m.tree h o e is
+  unfolding o
+  same = at.2
 
   with_id : record h { id = x } ≡ head o
-  with_id = (λ i. record h { id = sym (shown_id x m.tree h e) i }) ∙ sym same
+  with_id = (λ i. record h { id = sym at.3 i }) ∙ sym same
 
   pub at_root : None ≡ front_of x m.tree → Some Root ≡ reason_of r m x
   at_root f =

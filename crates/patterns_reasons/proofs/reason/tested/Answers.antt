@@ -1,8 +1,9 @@
-use Rattle.std.proofs.Common.{◌∙◌, sym}
+use Rattle.std.proofs.Common.{◌∙◌, ap, sym, option_map}
 use Rattle.std.proofs.lemmas.Result.{IfOk-weaker}
+use Rattle.std.proofs.lemmas.Option.{same_Some}
 use Rattle.ir_event.specs.Modules.{module_in}
+use Rattle.ir_event.specs.trees.Tree.{head}
 use Rattle.patterns_reads.specs.Reads.{head_in}
-use Rattle.patterns_reasons.proofs.Making.{shown_head}
 use Rattle.patterns_reasons.proofs.Reasoned.{by_block, by_header}
 use Rattle.patterns_reasons.proofs.reason.tested.Goals as goal
 
@@ -16,5 +17,5 @@ returns c =
     let t = (module_in c.args.world.now).tree in
     let shown = head_in c.args.world.now.ctx c.args.node.now in
     IfOk-weaker c.of_header.result _ _
-    (λ k h o f. by_header c.args.rule t o c.args.applies k shown (sym c.asks_block.ensures ∙ c.if-asks_block.false) (shown_head c.args.op t shown o c.requires.shown f) h)
+    (λ k h o f. by_header c.args.rule t o c.args.applies k shown (sym c.asks_block.ensures ∙ c.if-asks_block.false) (same_Some (head o) shown (sym (c.requires.shown ∙ ap (option_map (λ o. head o)) f))) h)
     c.of_header.ensures
