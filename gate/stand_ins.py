@@ -1,17 +1,31 @@
 #!/usr/bin/env python3
 """stand_ins.py CHECKOUT POOL [NAME..]: libraries that stand in for the crates below NAME (none: for all crates).
 
-A stand-in has a crate's types, contracts, definitions, and those lemmas that others name; the bodies of its functions
-are a false contract of C, so that it is built in a minute, and the crates above it can be proved before those below
-them are. What is proved so is proved as far as the crates below keep their contracts: it is no verdict.
+A stand-in has a crate's types, contracts and definitions, and those lemmas that others name; the bodies of its functions
+are a false contract of C. So it is built within a minute or two, and the crates above it can be checked before those
+below them are proved. What is checked so is proved as far as the crates below keep their contracts: it is no verdict.
 
-    stand_ins.py CHECKOUT POOL --check NAME [WORD..]     rattle check of a crate over stand-ins, in crates/NAME/out/inc
-    stand_ins.py CHECKOUT POOL --build NAME [-o FILE]    rattle build of a crate over stand-ins
+    stand_ins.py CHECKOUT POOL --check NAME [WORD..]    `rattle check` of a crate over stand-ins; what it keeps is in
+                                                        crates/NAME/out/inc. WORD.. go to rattle: --only PATH, ..
+    stand_ins.py CHECKOUT POOL --build NAME [WORD..]    `rattle build`, likewise
 
-POOL keeps libraries by the checksum of all that they were made of. -j N: so many at once."""
-import concurrent.futures, fcntl, functools, glob, hashlib, json, os, re, shutil, subprocess, sys, tempfile
+POOL keeps libraries by the checksum of all that they were made of. -j N: so many at once (4)."""
+import collections
+import concurrent.futures
+import fcntl
+import functools
+import glob
+import hashlib
+import json
+import os
+import re
+import shutil
+import subprocess
+import sys
+import time
 
 KIT = "/opt/rattle"
+RATTLE = f"{KIT}/bin/rattle"
 ABSURD = """
 unsafe extern "C" {
     pub(crate) safe fn absurd_here() -> bool
@@ -20,18 +34,14 @@ unsafe extern "C" {
 """
 BODY = "{\n    crate::absurd_here();\n    unreachable!()\n}"
 LEMMAS = re.compile(r"Rattle\.(\w+)\.proofs((?:\.\w+)+)")
-USING = re.compile(r"(\w+)::proofs((?:::\w+)+)")
-OWN_PROOFS = ("Answers.antt", "Invariants.antt", "Proof.antt", "Requires.antt")
+USING = re.compile(r"(\w+)::proofs((?:::\w+)+)")  # in the attribute of a tactic
+TEST = re.compile(r"\[(test|cfg\(test\))")
+LISTED = re.compile(r"(?:pub )?mod (\w+)")
 
-
-def table(checkout):
-    """The crates of a checkout, each with what it stands on."""
-    found = {}
-    for line in open(f"{checkout}/crates.txt", encoding="utf-8"):
-        head, _, uses = line.partition("#")[0].partition(":")
-        if head.strip():
-            found[head.split()[0]] = uses.split()
-    return found
+Token = collections.namedtuple("Token", "start end kind text")
+# A function with a body: its name, the words in front of it, the places of its first token and of its body's ends, and
+# whether its crate alone can call it.
+Function = collections.namedtuple("Function", "name words first opens closes is_own")
 
 
 def text_of(file):
@@ -39,139 +49,174 @@ def text_of(file):
         return it.read()
 
 
+def table(checkout):
+    """The crates of a checkout, each with what it stands on."""
+    found = {}
+    for line in text_of(f"{checkout}/crates.txt").splitlines():
+        head, _, uses = line.partition("#")[0].partition(":")
+        if head.strip():
+            found[head.split()[0]] = uses.split()
+    return found
+
+
+# ---- what stands in a source
+
+
 def tokens_of(files):
-    """Each file's tokens: start, end, kind, text."""
-    said = subprocess.run([f"{KIT}/bin/rattle", "fmt", "--tokens", *files], capture_output=True, check=True).stdout
+    """The tokens of each file, without comments."""
+    said = subprocess.run([RATTLE, "fmt", "--tokens", *files], capture_output=True, check=True).stdout
     found = []
     for line in said.decode().splitlines():
         if line.startswith("file "):
             found.append([])
         else:
             _, start, end, kind, text = line.split(" ", 4)
-            found[-1].append((int(start), int(end), kind, json.loads(text)))
+            found[-1].append(Token(int(start), int(end), kind, json.loads(text)))
     return found
 
 
-class Function:
-    """A function's tokens: from its first attribute to the end of its body, whether it may be left out."""
-
-    def __init__(self, name, first, opens, closes, is_free):
-        self.name, self.first, self.opens, self.closes, self.is_free = name, first, opens, closes, is_free
-
-
 def closing(tokens, at, pair):
-    """Where the bracket that opens at a place closes."""
+    """Where the bracket closes that opens at a place."""
     depth = 0
     for place in range(at, len(tokens)):
-        if tokens[place][2] == "Code" and tokens[place][3] in pair:
-            depth += 1 if tokens[place][3] == pair[0] else -1
+        if tokens[place].kind == "Code" and tokens[place].text in pair:
+            depth += 1 if tokens[place].text == pair[0] else -1
             if not depth:
                 return place
-    raise ValueError(pair)
+    raise ValueError(f"{pair} isn't closed")
 
 
-def first_word(tokens, at):
-    """Where the item of a `fn` begins, with its attributes; and its words before `fn`."""
+def opening(tokens, at, pair):
+    """Where the bracket opens that closes at a place."""
+    depth = 0
+    for place in range(at, -1, -1):
+        depth += {pair[1]: 1, pair[0]: -1}.get(tokens[place].text, 0)
+        if not depth:
+            return place
+    raise ValueError(f"{pair} isn't opened")
+
+
+def front_of(tokens, at):
+    """Where an item begins, with its attributes; and the words in front of its keyword."""
     words = []
-    while at and tokens[at - 1][2] in ("Code", "Literal"):
-        before = tokens[at - 1][3]
-        if before in ("pub", "const", "unsafe", "extern", "safe") or tokens[at - 1][2] == "Literal":
-            words.append(before)
+    while at and tokens[at - 1].kind in ("Code", "Literal"):
+        before = tokens[at - 1]
+        if before.text in ("pub", "const", "unsafe", "extern", "safe") or before.kind == "Literal":
+            words.append(before.text)
             at -= 1
-        elif before == ")":
-            opens = at - 1
-            while tokens[opens][3] != "(":
-                opens -= 1
-            if not opens or tokens[opens - 1][3] != "pub":
-                break
+        elif before.text == ")" and tokens[opening(tokens, at - 1, "()") - 1].text == "pub":
             words.append("(")
-            at = opens
-        elif before == "]":
-            depth, opens = 0, at - 1
-            while True:
-                depth += {"]": 1, "[": -1}.get(tokens[opens][3], 0)
-                if not depth:
-                    break
-                opens -= 1
-            if not opens or tokens[opens - 1][3] != "#":
-                break
-            words.append("".join(it[3] for it in tokens[opens:at]))
+            at = opening(tokens, at - 1, "()")
+        elif before.text == "]" and tokens[opening(tokens, at - 1, "[]") - 1].text == "#":
+            opens = opening(tokens, at - 1, "[]")
+            words.append("".join(it.text for it in tokens[opens:at]))
             at = opens - 1
         else:
             break
     return at, words
 
 
-def functions_of(tokens):
-    """The functions with a body, outside of tests; and what is left out whole (tests)."""
-    found, at, blocks = [], 0, []
-    while at < len(tokens):
-        _, _, kind, text = tokens[at]
-        if kind != "Code":
-            at += 1
-            continue
-        while blocks and at > blocks[-1][1]:
-            blocks.pop()
-        if text in ("impl", "trait", "mod", "extern") and tokens[at + 1][3] not in (",", ">"):
+def body_of(tokens, at):
+    """Where the body of a function opens, or the `;` stands that it has in its place."""
+    depth = 0
+    while True:
+        it = tokens[at]
+        if it.kind == "Code":
+            depth += {"(": 1, "[": 1, ")": -1, "]": -1}.get(it.text, 0)
+            if not depth and it.text in "{;":
+                return at
+        at += 1
+
+
+def traits_of(tokens):
+    """The places that stand in a trait, or in an impl of one."""
+    found = set()
+    for at, it in enumerate(tokens):
+        if it.kind == "Code" and it.text in ("impl", "trait"):
             opens = at
-            while not (tokens[opens][2] == "Code" and tokens[opens][3] in "{;"):
+            while not (tokens[opens].kind == "Code" and tokens[opens].text in "{;"):
                 opens += 1
-            if tokens[opens][3] == "{" and not any(it[3] == "fn" and it[2] == "Code" for it in tokens[at:opens]):
-                blocks.append((text, closing(tokens, opens, "{}"), any(it[3] == "for" for it in tokens[at:opens])))
-                at = opens + 1
-                continue
-        if text == "fn" and tokens[at + 1][2] == "Code" and re.fullmatch(r"\w+", tokens[at + 1][3]):
-            first, words = first_word(tokens, at)
-            opens, depth = at + 1, 0
-            while True:
-                it = tokens[opens]
-                if it[2] == "Code":
-                    depth += {"(": 1, "[": 1, ")": -1, "]": -1}.get(it[3], 0)
-                    if not depth and it[3] in "{;":
-                        break
-                opens += 1
-            if tokens[opens][3] == "{":
+            head = [it.text for it in tokens[at:opens]]
+            if tokens[opens].text == "{" and "fn" not in head and (it.text == "trait" or "for" in head):
+                found |= set(range(opens, closing(tokens, opens, "{}")))
+    return found
+
+
+def functions_of(tokens):
+    """The functions that have a body."""
+    found, at, in_traits = [], 0, traits_of(tokens)
+    while at < len(tokens):
+        it = tokens[at]
+        if it.kind == "Code" and it.text == "fn" and re.fullmatch(r"\w+", tokens[at + 1].text):
+            first, words = front_of(tokens, at)
+            opens = body_of(tokens, at + 1)
+            if tokens[opens].text == "{":
                 closes = closing(tokens, opens, "{}")
-                of_trait = any(kind == "trait" or is_for for kind, _, is_for in blocks)
-                is_free = "pub" not in words and not of_trait
-                found.append(Function(tokens[at + 1][3], first, opens, closes, is_free))
-                found[-1].words = words
-                at = closes + 1
-                continue
+                is_own = "pub" not in words and at not in in_traits
+                found.append(Function(tokens[at + 1].text, words, first, opens, closes, is_own))
+                opens = closes
             at = opens
         at += 1
     return found
 
 
-def named_in(crate_folder):
-    """The words of a crate's antt files."""
-    words = set()
-    for file in glob.glob(f"{crate_folder}/specs/**/*.antt", recursive=True):
-        words |= set(re.findall(r"\w+", text_of(file)))
-    for file in glob.glob(f"{crate_folder}/proofs/*.antt"):
-        words |= set(re.findall(r"\w+", text_of(file)))
-    return words
+def uses_of(tokens):
+    """The `use` items of code: where each begins, has its word and ends, and whether it is public."""
+    for at, it in enumerate(tokens):
+        if it.kind == "Code" and it.text == "use":
+            end = at
+            while tokens[end].text != ";":
+                end += 1
+            first, words = front_of(tokens, at)
+            yield first, at, end, "pub" in words
 
 
-def is_test(words):
-    return any(re.match(r"\[(test|cfg\(test\))", it) for it in words)
+def leaves(tokens, at=0, path=()):
+    """What a `use` item brings: each path, and the name that it is known by; and where that ends."""
+    while True:
+        word = tokens[at].text
+        if word == ":":
+            at += 1
+            continue
+        if word == "{":
+            found, at = [], at + 1
+            while tokens[at].text != "}":
+                more, at = leaves(tokens, at, path)
+                found += more
+                at += tokens[at].text == ","
+            return found, at + 1
+        path = (*path, word) if word != "self" or not path else path
+        at += 1
+        if at >= len(tokens) or tokens[at].text in ",};":
+            return [(path, path[-1])], at
+        if tokens[at].text == "as":
+            return [(path, tokens[at + 1].text)], at + 2
 
 
-def without_tactics(data, tokens, found):
-    """The places of `#[tactic(..)]` and `#[cycle(..)]` in front of functions, to be cut out."""
-    cuts = []
-    for it in found:
-        at = it.first
-        while at < it.opens and tokens[at][3] == "#":
-            end = closing(tokens, at + 1, "[]")
-            if tokens[at + 2][3] in ("tactic", "cycle"):
-                cuts.append((tokens[at][0], tokens[end][1]))
-            at = end + 1
-    return cuts
+# ---- what stands in for it
+
+
+def words_in(texts):
+    return {word for text in texts for word in re.findall(r"\w+", text)}
+
+
+def named_words(folder, read):
+    """The words of a crate's definitions, lemmas and clauses, and of its constants: what they name isn't left out."""
+    files = glob.glob(f"{folder}/specs/**/*.antt", recursive=True) + glob.glob(f"{folder}/proofs/*.antt")
+    found = words_in(text_of(file) for file in files)
+    for tokens in read.values():
+        found |= words_in(it.text for it in tokens if it.kind in ("Antt", "Head"))
+        for at, it in enumerate(tokens):
+            if it.kind == "Code" and it.text in ("const", "static") and tokens[at + 1].text != "fn":
+                end = at
+                while tokens[end].text not in (";", "{", ">"):
+                    end += 1
+                found |= {it.text for it in tokens[at:end]}
+    return found
 
 
 def behind_comments(data, at):
-    """Where the comments in front of an item begin."""
+    """Where the documentation in front of an item begins."""
     start = data.rfind(b"\n", 0, at) + 1
     if data[start:at].strip():
         return at
@@ -183,309 +228,251 @@ def behind_comments(data, at):
     return start
 
 
-def use_items(tokens):
-    """The `use` items of code: first token, last token, whether public."""
-    for at, (_, _, kind, text) in enumerate(tokens):
-        if kind == "Code" and text == "use":
-            end = at
-            while tokens[end][3] != ";":
-                end += 1
-            first, words = first_word(tokens, at)
-            yield first, at, end, "pub" in words
+def without_tactics(tokens, function):
+    """The places of the attributes of a function that speak of its proof."""
+    at = function.first
+    while at < function.opens and tokens[at].text == "#":
+        end = closing(tokens, at + 1, "[]")
+        if tokens[at + 2].text in ("tactic", "cycle"):
+            yield tokens[at].start, tokens[end].end, b""
+        at = end + 1
 
 
-def leaves(tokens):
-    """The paths of a `use` item, and what each is known by."""
-    def tree(at, path):
-        found = []
-        while True:
-            word = tokens[at][3]
-            if word == "{":
-                at += 1
-                while tokens[at][3] != "}":
-                    more, at = tree(at, path)
-                    found += more
-                    if tokens[at][3] == ",":
-                        at += 1
-                return found, at + 1
-            if word == ":":
-                at += 1
-                continue
-            path = [*path, word]
-            at += 1
-            if at >= len(tokens) or tokens[at][3] in (",", "}", ";"):
-                return [(path, path[-1])], at
-            if tokens[at][3] == "as":
-                return [(path, tokens[at + 1][3])], at + 2
-    return tree(0, [])[0]
+def kept_uses(tokens, gone, dropped):
+    """What takes the place of `use` items that bring what is left out, or a function that nothing names any more."""
+    uses = list(uses_of(tokens))
+    in_uses = {at for first, _, end, _ in uses for at in range(first, end + 1)}
+    rest = [it for at, it in enumerate(tokens) if at not in gone]
+    left = {it.text for at, it in enumerate(tokens) if it.kind == "Code" and at not in gone and at not in in_uses}
+    left |= words_in(it.text for it in rest if it.kind in ("Antt", "Literal"))
+    for first, at, end, is_public in uses:
+        if first in gone:
+            continue
+        brought, kept = leaves(tokens[at + 1:end + 1])[0], []
+        for path, known in brought:
+            is_gone = path[0] in ("crate", "self", "super") and path[-1] in dropped
+            is_unnamed = not is_public and known not in left and re.match(r"[a-z]", known)
+            if not is_gone and not is_unnamed:
+                kept.append("::".join(path) + (f" as {known}" if known != path[-1] else ""))
+        if len(kept) < len(brought):
+            head = "pub use" if is_public else "use"
+            yield tokens[first].start, tokens[end].end, "\n".join(f"{head} {it};" for it in kept).encode()
 
 
-def stand_in(folder, files):
-    """The files of a crate's src as its stand-in has them."""
+def with_bodies(file, tokens, functions, is_left_out, dropped):
+    """A file as its crate's stand-in has it."""
+    data, cuts, gone = text_of(file).encode(), [], set()
+    for it in functions:
+        if is_left_out(it):
+            cuts.append((behind_comments(data, tokens[it.first].start), tokens[it.closes].end, b""))
+            gone |= set(range(it.first, it.closes + 1))
+        else:
+            cuts += without_tactics(tokens, it)
+            cuts.append((tokens[it.opens].start, tokens[it.closes].end, BODY.encode()))
+            gone |= set(range(it.opens, it.closes + 1))
+    cuts += kept_uses(tokens, gone, dropped)
+    for start, end, put in sorted(cuts, reverse=True):
+        data = data[:start] + put + data[end:]
+    return data + ABSURD.encode() * file.endswith("/src/lib.rt")
+
+
+def sources_of(folder):
+    """The files of a crate's src as its stand-in has them. A function that only bodies call is left out."""
     paths = sorted(glob.glob(f"{folder}/src/**/*.rt", recursive=True))
     read = dict(zip(paths, tokens_of(paths)))
     functions = {file: functions_of(tokens) for file, tokens in read.items()}
-    antt_words = named_in(folder)
-    for file, tokens in read.items():
-        inside = [False] * len(tokens)
-        for it in functions[file]:
-            for at in range(it.first, it.closes + 1):
-                inside[at] = True
-        for at, (_, _, kind, text) in enumerate(tokens):
-            if kind in ("Antt", "Head"):
-                antt_words |= set(re.findall(r"\w+", text))
-            elif kind == "Code" and not inside[at]:
-                pass
-    const_words = set()
-    for file, tokens in read.items():
-        for at, (_, _, kind, text) in enumerate(tokens):
-            if kind == "Code" and text in ("const", "static") and tokens[at + 1][3] != "fn":
-                end = at
-                while tokens[end][3] not in (";", "{", ">"):
-                    end += 1
-                const_words |= {it[3] for it in tokens[at:end]}
-    kept_names, dropped_names = set(), set()
-    for file, found in functions.items():
-        for it in found:
-            it.drops = is_test(it.words) or (it.is_free and it.name not in antt_words and it.name not in const_words)
-            (dropped_names if it.drops else kept_names).add(it.name)
-    dropped_names -= kept_names
-    made = {}
-    for file, tokens in read.items():
-        data = text_of(file).encode()
-        cuts = [(*it, b"") for it in without_tactics(data, tokens, [f for f in functions[file] if not f.drops])]
-        gone = set()
-        for it in functions[file]:
-            if it.drops:
-                cuts.append((behind_comments(data, tokens[it.first][0]), tokens[it.closes][1], b""))
-                gone |= set(range(it.first, it.closes + 1))
-            else:
-                cuts.append((tokens[it.opens][0], tokens[it.closes][1], BODY.encode()))
-                gone |= set(range(it.opens, it.closes + 1))
-        uses = list(use_items(tokens))
-        in_uses = {at for first, _, end, _ in uses for at in range(first, end + 1)}
-        left = {it[3] for at, it in enumerate(tokens) if at not in gone and at not in in_uses and it[2] == "Code"}
-        # A macro of a derive or a name in a clause's brackets is code; names of clauses count too.
-        left |= {word for at, it in enumerate(tokens) if at not in gone and it[2] in ("Antt", "Literal")
-                 for word in re.findall(r"\w+", it[3])}
-        for first, at, end, is_public in uses:
-            if first in gone:
-                continue
-            all_leaves = leaves(tokens[at + 1:end + 1])
-            kept = []
-            for path, known in all_leaves:
-                is_own = path[0] in ("crate", "self", "super")
-                if is_own and path[-1] in dropped_names:
-                    continue
-                if not is_public and known not in left and re.match(r"[a-z]", known) and known != "self":
-                    continue
-                kept.append("::".join(path) + (f" as {known}" if known != path[-1] else ""))
-            if len(kept) == len(all_leaves):
-                continue
-            head = "pub use" if is_public else "use"
-            text = "\n".join(f"{head} {it};" for it in kept)
-            cuts.append((tokens[first][0], tokens[end][1], text.encode()))
-        cuts.sort(reverse=True)
-        for start, end, put in cuts:
-            data = data[:start] + put + data[end:]
-        if file.endswith("/src/lib.rt"):
-            data += ABSURD.encode()
-        made[os.path.relpath(file, folder)] = data
-    return made
+    named, names = named_words(folder, read), {True: set(), False: set()}
+
+    def is_left_out(it):
+        return any(map(TEST.match, it.words)) or (it.is_own and it.name not in named)
+
+    for it in (it for found in functions.values() for it in found):
+        names[is_left_out(it)].add(it.name)
+    dropped = names[True] - names[False]
+    return {os.path.relpath(file, folder): with_bodies(file, tokens, functions[file], is_left_out, dropped)
+            for file, tokens in read.items()}
 
 
 @functools.lru_cache(maxsize=None)
 def named_lemmas(checkout):
-    """By crate: the names of modules of lemmas that it names, of its own and of others."""
+    """By crate: the modules of lemmas of other crates that it names, and those of its own, by file."""
     found = {}
     for name in table(checkout):
-        others, own = set(), {}
-        for file in glob.glob(f"{checkout}/crates/{name}/**/*", recursive=True):
-            if not file.endswith((".rt", ".antt")) or "/out/" in file:
-                continue
-            text = text_of(file)
-            for crate, path in [*LEMMAS.findall(text), *USING.findall(text)]:
-                words = set(filter(None, re.split(r"[.:]+", path)))
-                if crate in (name, "crate"):
-                    own.setdefault(os.path.relpath(file, f"{checkout}/crates/{name}"), set()).update(words)
-                else:
-                    others |= words
+        others, own, folder = set(), {}, f"{checkout}/crates/{name}"
+        for file in glob.glob(f"{folder}/**/*", recursive=True):
+            if file.endswith((".rt", ".antt")) and "/out/" not in file:
+                text = text_of(file)
+                for crate, path in [*LEMMAS.findall(text), *USING.findall(text)]:
+                    words = words_in([path])
+                    if crate in (name, "crate"):
+                        own.setdefault(os.path.relpath(file, folder), set()).update(words)
+                    else:
+                        others |= words
         found[name] = others, own
     return found
 
 
-def lemmas_kept(checkout, name, src):
-    """The files of lemmas of a crate that others name, that its definitions name, and what those stand on."""
-    folder = f"{checkout}/crates/{name}"
-    wanted = set().union(*(others for it, (others, _) in named_lemmas(checkout).items() if it != name))
-    own = named_lemmas(checkout)[name][1]
-    for file, words in own.items():
-        if file.startswith("specs/"):
-            wanted |= words
-    for text in src.values():
-        for crate, path in LEMMAS.findall(text.decode()):
-            if crate == name:
-                wanted |= set(filter(None, path.split(".")))
-    there = {os.path.basename(it)[:-5]: it for it in glob.glob(f"{folder}/proofs/*.antt")}
-    kept, rest = set(), [it for it in wanted if it in there and it != "Lib"]
+def lemmas_kept(checkout, name, sources):
+    """The modules of lemmas of a crate that others name, or its definitions and contracts, and what those stand on."""
+    lemmas = named_lemmas(checkout)
+    wanted = set().union(*(others for it, (others, _) in lemmas.items() if it != name))
+    wanted |= {word for file, words in lemmas[name][1].items() if file.startswith("specs/") for word in words}
+    for text in sources.values():
+        wanted |= words_in(path for crate, path in LEMMAS.findall(text.decode()) if crate == name)
+    files = glob.glob(f"{checkout}/crates/{name}/proofs/*.antt")
+    there = {os.path.basename(it)[:-5] for it in files} - {"Lib"}
+    kept, rest = set(), wanted & there
     while rest:
         it = rest.pop()
-        if it in kept:
-            continue
         kept.add(it)
-        rest += [more for more in own.get(f"proofs/{it}.antt", ()) if more in there and more != "Lib"]
-    return kept
+        rest |= (lemmas[name][1].get(f"proofs/{it}.antt", set()) & there) - kept
+    return kept, there
 
 
-def files_of_stand_in(checkout, name):
+def files_of(checkout, name):
     """All files of a crate's stand-in: by path, what they hold."""
     folder = f"{checkout}/crates/{name}"
-    made = stand_in(folder, None)
-    kept = lemmas_kept(checkout, name, made)
+    made = sources_of(folder)
+    kept, there = lemmas_kept(checkout, name, made)
     for file in glob.glob(f"{folder}/specs/**/*.antt", recursive=True):
         made[os.path.relpath(file, folder)] = text_of(file).encode()
     for it in kept:
         made[f"proofs/{it}.antt"] = text_of(f"{folder}/proofs/{it}.antt").encode()
-    listed = f"{folder}/proofs/Lib.antt"
-    if os.path.exists(listed):
-        there = {os.path.basename(it)[:-5] for it in glob.glob(f"{folder}/proofs/*.antt")}
-        lines = [it for it in text_of(listed).splitlines() if not (
-            (word := re.fullmatch(r"(?:pub )?mod (\w+)", it.strip())) and word[1] in there - kept)]
+    if os.path.exists(f"{folder}/proofs/Lib.antt"):
+        lines = text_of(f"{folder}/proofs/Lib.antt").splitlines()
+        listed = [(LISTED.fullmatch(it.strip()) or [None, None])[1] for it in lines]
+        lines = [it for it, module in zip(lines, listed) if module not in there - kept]
         made["proofs/Lib.antt"] = ("\n".join(lines) + "\n").encode()
     return made
 
 
+# ---- the pool
+
+
 class Pool:
+    """Stand-ins of a checkout's crates, each kept by the checksum of what it was made of."""
+
     def __init__(self, checkout, pool):
         self.checkout, self.pool, self.crates = checkout, pool, table(checkout)
-        self.made, self.keys = {}, {}
+        self.files = functools.lru_cache(maxsize=None)(lambda name: files_of(checkout, name))
+        self.key = functools.lru_cache(maxsize=None)(self.sum_of)
         os.makedirs(pool, exist_ok=True)
 
+    def directly(self, name):
+        """What a crate stands on, of the checkout."""
+        return [it for it in self.crates[name] if it in self.crates]
+
     def below(self, name):
-        """The crates of the checkout below one, each behind those that it stands on."""
+        """All that a crate stands on, of the checkout, each behind what it stands on."""
         found = []
-        def add(it):
-            for more in self.crates[it]:
-                if more in self.crates and more not in found:
-                    add(more)
-                    found.append(more)
+
+        def add(crate):
+            for it in self.directly(crate):
+                if it not in found:
+                    add(it)
+                    found.append(it)
+
         add(name)
         return found
 
-    def files(self, name):
-        if name not in self.made:
-            self.made[name] = files_of_stand_in(self.checkout, name)
-        return self.made[name]
+    def sum_of(self, name):
+        made = hashlib.sha256()
+        for path, data in sorted(self.files(name).items()):
+            made.update(path.encode() + b"\0" + data + b"\0")
+        for it in self.crates[name]:
+            made.update((self.key(it) if it in self.crates else it).encode())
+        return made.hexdigest()[:24]
 
-    def key(self, name):
-        if name not in self.keys:
-            it = hashlib.sha256()
-            for path, data in sorted(self.files(name).items()):
-                it.update(path.encode() + b"\0" + data + b"\0")
-            for more in self.crates[name]:
-                it.update((self.key(more) if more in self.crates else more).encode())
-            self.keys[name] = it.hexdigest()[:24]
-        return self.keys[name]
-
-    def rlib(self, name):
+    def library(self, name):
         return f"{self.pool}/{self.key(name)}/{name}.rlib"
 
-    def words(self, name, main="src/lib.rt"):
+    def words(self, name, main):
+        """The words that name a crate's source and what it stands on."""
         words = ["--crate-name", name, main]
-        for it in ["core", "std", *[it for it in self.crates[name] if it not in self.crates]]:
-            if it != "core":
-                words += ["--extern", f"{it}={KIT}/rlibs/{it}.rlib"]
+        for it in ["std", *[it for it in self.crates[name] if it not in self.crates]]:
+            words += ["--extern", f"{it}={KIT}/rlibs/{it}.rlib"]
         words += ["-L", f"dependency={KIT}/rlibs"]
-        for it in self.crates[name]:
-            if it in self.crates:
-                words += ["--extern", f"{it}={self.rlib(it)}"]
+        for it in self.directly(name):
+            words += ["--extern", f"{it}={self.library(it)}"]
         for it in self.below(name):
-            words += ["-L", f"dependency={os.path.dirname(self.rlib(it))}"]
-        words += ["--antt-project", f"{KIT}/rattle/logic/antt-project.json", "--logic-built", f"{KIT}/logic_built"]
-        return words
+            words += ["-L", f"dependency={os.path.dirname(self.library(it))}"]
+        words += ["--antt-project", f"{KIT}/rattle/logic/antt-project.json"]
+        return [*words, "--logic-built", f"{KIT}/logic_built"]
 
     def build(self, name):
         """Builds a stand-in, unless the pool has it. The answer is what went wrong."""
-        to = os.path.dirname(self.rlib(name))
+        to = os.path.dirname(self.library(name))
         os.makedirs(to, exist_ok=True)
         with open(f"{to}/lock", "w", encoding="utf-8") as lock:
             fcntl.flock(lock, fcntl.LOCK_EX)
-            if os.path.isdir(self.rlib(name)):
-                return ""
-            src = f"{to}/src"
-            shutil.rmtree(src, ignore_errors=True)
-            for path, data in self.files(name).items():
-                os.makedirs(os.path.dirname(f"{src}/{path}"), exist_ok=True)
-                with open(f"{src}/{path}", "wb") as it:
-                    it.write(data)
-            shutil.rmtree(f"{to}/new.rlib", ignore_errors=True)
-            words = [f"{KIT}/bin/rattle", "build", *self.words(name), "--jobs", "1", "--statements", "-o", f"{to}/new.rlib"]
-            ran = subprocess.run(words, cwd=src, capture_output=True, text=True, errors="replace", check=False,
-                                 env={**os.environ, "RT_ALLOW_C": "1"})
-            if ran.returncode or not os.path.isdir(f"{to}/new.rlib"):
-                return f"{name}: {' '.join(words)}\n{ran.stdout}{ran.stderr}"
-            os.rename(f"{to}/new.rlib", self.rlib(name))
-            return ""
+            return "" if os.path.isdir(self.library(name)) else self.built(name, to)
+
+    def built(self, name, to):
+        for room in ("src", "new.rlib"):
+            shutil.rmtree(f"{to}/{room}", ignore_errors=True)
+        for path, data in self.files(name).items():
+            os.makedirs(os.path.dirname(f"{to}/src/{path}"), exist_ok=True)
+            with open(f"{to}/src/{path}", "wb") as it:
+                it.write(data)
+        words = [RATTLE, "build", *self.words(name, "src/lib.rt"), "--jobs", "1", "--statements", "-o", f"{to}/new.rlib"]
+        ran = subprocess.run(words, cwd=f"{to}/src", capture_output=True, text=True, errors="replace", check=False,
+                             env={**os.environ, "RT_ALLOW_C": "1"})
+        if ran.returncode or not os.path.isdir(f"{to}/new.rlib"):
+            return f"{' '.join(words)}\n{ran.stdout}{ran.stderr}"
+        os.rename(f"{to}/new.rlib", self.library(name))
+        return ""
 
     def build_all(self, names, at_once):
-        """Builds stand-ins, each as soon as those below it are there."""
-        import time
-        waits = {it: {more for more in self.crates[it] if more in self.crates} for it in names}
+        """Builds stand-ins, each as soon as those below it are there, those first on which most stand. The answer is
+        which of them failed."""
+        height = functools.lru_cache(maxsize=None)(
+            lambda name: 1 + max([height(it) for it in names if name in self.directly(it)], default=0))
         done, failed, running = set(), [], {}
-        height = {}
-        def high(it):
-            if it not in height:
-                height[it] = 1 + max([high(more) for more in names if it in waits[more]], default=0)
-            return height[it]
         with concurrent.futures.ThreadPoolExecutor(at_once) as threads:
             while True:
-                ready = [it for it in names if it not in {*done, *running, *failed} and waits[it] <= done]
-                for it in sorted(ready, key=high, reverse=True):
-                    if len(running) < at_once:
-                        running[it] = threads.submit(self.build, it), time.time()
+                ready = [it for it in names if it not in {*done, *failed, *running.values()}
+                         and done.issuperset(self.directly(it))]
+                for it in sorted(ready, key=height, reverse=True)[:at_once - len(running)]:
+                    running[threads.submit(timed, self.build, it)] = it
                 if not running:
                     return failed
-                concurrent.futures.wait([it for it, _ in running.values()], return_when="FIRST_COMPLETED")
-                for it, (ran, since) in list(running.items()):
-                    if ran.done():
-                        del running[it]
-                        why = ran.result()
-                        if why:
-                            failed.append(it)
-                            print(f"failed {it}\n{why[-6000:]}", flush=True)
-                        else:
-                            done.add(it)
-                            print(f"stands {it} {time.time() - since:.0f} s", flush=True)
+                for ran in concurrent.futures.wait(running, return_when="FIRST_COMPLETED").done:
+                    name, (why, seconds) = running.pop(ran), ran.result()
+                    (failed.append if why else done.add)(name)
+                    print(f"failed {name}\n{why[-6000:]}" if why else f"stands {name} {seconds:.0f} s", flush=True)
+
+
+def timed(call, word):
+    began = time.time()
+    return call(word), time.time() - began
+
+
+def run(pool, verb, name, flags):
+    """Checks or builds a crate itself over stand-ins."""
+    folder = f"{pool.checkout}/crates/{name}"
+    main_file = "src/main.rt" if os.path.exists(f"{folder}/src/main.rt") else "src/lib.rt"
+    words = [RATTLE, verb, *pool.words(name, main_file)]
+    if re.search(rf"(?m)^{name} staticlib\b", text_of(f"{pool.checkout}/crates.txt")):
+        words += ["--crate-type", "staticlib"]
+    words += ["--incremental", "out/inc"] if verb == "check" else []
+    words += [] if "--jobs" in flags else ["--jobs", "1"]
+    os.makedirs(f"{folder}/out", exist_ok=True)
+    return subprocess.run([*words, *flags], cwd=folder, check=False).returncode
 
 
 def main():
-    words = sys.argv[1:]
-    at_once = 4
+    words, at_once = sys.argv[1:], 4
     if "-j" in words:
         at = words.index("-j")
         at_once = int(words[at + 1])
         del words[at:at + 2]
-    checkout, pool = os.path.abspath(words[0]), Pool(os.path.abspath(words[0]), os.path.abspath(words[1]))
-    rest = words[2:]
-    if rest[:1] and rest[0] in ("--check", "--build"):
-        verb, name, flags = rest[0][2:], rest[1], rest[2:]
-        if failed := pool.build_all(pool.below(name), at_once):
-            sys.exit(f"no stand-in of {' '.join(failed)}")
-        folder = f"{checkout}/crates/{name}"
-        is_program = os.path.exists(f"{folder}/src/main.rt")
-        line = [f"{KIT}/bin/rattle", verb, *pool.words(name, "src/main.rt" if is_program else "src/lib.rt")]
-        head = next(it for it in open(f"{checkout}/crates.txt", encoding="utf-8") if re.match(rf"{name}\b[^_]", it))
-        if "staticlib" in head.split(":")[0]:
-            line += ["--crate-type", "staticlib"]
-        if verb == "check":
-            line += ["--incremental", "out/inc"]
-        if "--jobs" not in flags:
-            line += ["--jobs", "1"]
-        os.makedirs(f"{folder}/out", exist_ok=True)
-        sys.exit(subprocess.run([*line, *flags], cwd=folder, check=False).returncode)
-    names = []
-    for name in rest or pool.crates:
-        names += [it for it in pool.below(name) if it not in names]
+    if len(words) < 2:
+        sys.exit(__doc__)
+    pool, asked = Pool(os.path.abspath(words[0]), os.path.abspath(words[1])), words[2:]
+    if asked[:1] and asked[0] in ("--check", "--build"):
+        failed = pool.build_all(pool.below(asked[1]), at_once)
+        sys.exit(f"no stand-in of {' '.join(failed)}" if failed else run(pool, asked[0][2:], asked[1], asked[2:]))
+    names = list(dict.fromkeys(it for name in asked or pool.crates for it in pool.below(name)))
     sys.exit(len(pool.build_all(names, at_once)))
 
 
