@@ -1,9 +1,9 @@
 #!/usr/bin/env python3
 """stand_ins.py CHECKOUT POOL [NAME..]: libraries that stand in for the crates below NAME (none: for all crates).
 
-A stand-in has a crate's types, contracts and definitions, and those lemmas that others name; the bodies of its functions
-are a false contract of C. So it is built within a minute or two, and the crates above it can be checked before those
-below them are proved. What is checked so is proved as far as the crates below keep their contracts: it is no verdict.
+A stand-in has a crate's types, contracts and definitions, and those lemmas that others name; the bodies of its
+functions are a false contract of C. So it is built within a minute or two, and the crates above it can be checked
+before those below them are proved. What is checked so is proved as far as the crates below keep their contracts: it is no verdict.
 
     stand_ins.py CHECKOUT POOL --check NAME [WORD..]    `rattle check` of a crate over stand-ins; what it keeps is in
                                                         crates/NAME/out/inc. WORD.. go to rattle: --only PATH, ..
@@ -414,7 +414,8 @@ class Pool:
             os.makedirs(os.path.dirname(f"{to}/src/{path}"), exist_ok=True)
             with open(f"{to}/src/{path}", "wb") as it:
                 it.write(data)
-        words = [RATTLE, "build", *self.words(name, "src/lib.rt"), "--jobs", "1", "--statements", "-o", f"{to}/new.rlib"]
+        words = [RATTLE, "build", *self.words(name, "src/lib.rt"), "--jobs", "1", "--statements"]
+        words += ["-o", f"{to}/new.rlib"]
         ran = subprocess.run(words, cwd=f"{to}/src", capture_output=True, text=True, errors="replace", check=False,
                              env={**os.environ, "RT_ALLOW_C": "1"})
         if ran.returncode or not os.path.isdir(f"{to}/new.rlib"):
