@@ -3,7 +3,8 @@
 
 A stand-in has a crate's types, contracts and definitions, and those lemmas that others name; the bodies of its
 functions are a false contract of C. So it is built within a minute or two, and the crates above it can be checked
-before those below them are proved. What is checked so is proved as far as the crates below keep their contracts: it is no verdict.
+before those below them are proved. What is checked so is proved as far as the crates below keep their contracts: it
+is no verdict.
 
     stand_ins.py CHECKOUT POOL --check NAME [WORD..]    `rattle check` of a crate over stand-ins; what it keeps is in
                                                         crates/NAME/out/inc. WORD.. go to rattle: --only PATH, ..
