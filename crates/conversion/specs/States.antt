@@ -139,7 +139,7 @@ Faults (converted m k) f c = Wants c f
 Faults (given_up e x) f c = ((f.refusal ≡ e) × (f.id ≡ x)) ⊎ Wants c f
 
 abbrev pub EndsWith : Ended → ℕ → Module → Type 0
-EndsWith (converted m k) n p = (n ≡ k) × (p ≡ m)
+EndsWith (converted m ks) n p = (n ≡ length ks) × (p ≡ m)
 EndsWith (given_up e x) n p = ⊥
 
 abbrev pub Ends : Ended → Result ℕ Fault → State → Type 0

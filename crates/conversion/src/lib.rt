@@ -12,9 +12,12 @@ mod parts;
 mod places;
 mod rewriting;
 mod rules;
+pub mod stay;
+pub mod teller;
 mod tried;
 mod walk;
 
-pub use conversion_base::{laws, names, rule, target};
+pub use conversion_base::{laws, names, rule, stood, target};
+pub use patterns_reasons::condition;
 pub use patterns;
 pub use patterns::rewriter;

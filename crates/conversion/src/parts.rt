@@ -1,17 +1,20 @@
 //! Dialect conversion: the operations of a module are legalised in turn, then casts are reconciled.
-ghost use Rattle.std.specs.Prelude.{◌≡◌, ◌+◌, ◌≤◌, [], true, IfOk, OnErr, OnOk, is_ok};
+ghost use Rattle.std.specs.Prelude.{◌≡◌, ◌+◌, ◌≤◌, [], true, IfErr, IfOk, OnErr, OnOk, is_ok};
 ghost use Rattle.ir_event.specs.trees.Ids.{ids};
 ghost use Rattle.patterns.specs.rewriter.Moves.{Recorded};
 ghost use Rattle.conversion_base.specs.Conversion.{all_parts, cast_at as cast_end, casts_left, checked, converted};
 ghost use Rattle.conversion_base.specs.Conversion.{conversion_of, failing as failing_of, first_illegal, has_no_cast};
 ghost use Rattle.conversion_base.specs.Conversion.{in_turn, later_parts, legalised_at as legalised_end};
+ghost use Rattle.conversion.specs.Converting.{stood_in};
 ghost use Rattle.conversion.specs.States.{Converts, Ends, Leads, none_of};
+ghost use Rattle.conversion.specs.Staying.{stay_of, stay_told};
 ghost use Rattle.conversion_base.specs.Targets.{IsAimIn, IsNamedIn, aim_of};
 
 use crate::collapsing::collapse_all;
 use crate::fault::Fault;
 use crate::legalise::{close, legalise};
 use crate::rewriting::{Rewriting, Rules};
+use crate::teller::Teller;
 use conversion_base::target::Target;
 use ir_event::types::ids::OpId;
 use ir_event::types::refusal::Refusal;
@@ -218,12 +221,19 @@ fn is_converted(made: &Result<u32, Fault>) -> bool
 /// Refusals: `BadTarget`; `NotLegalised` or `ChainTooDeep` for an operation of the start, and `Unreconciled` for a
 /// cast, and `NotLegalised` in full mode, each with its id; `Full` and `IdsExhausted`, where a rule has no room; and
 /// `Memory`.
-pub(crate) fn convert_with<B: Rules>(
+pub(crate) fn convert_with<B: Rules, T: Teller>(
     alloc: Global,
     bench: &mut B,
     target: &Target,
+    teller: &mut T,
 ) -> Result<u32, Fault>
     requires names { IsNamedIn (B.state bench.old).things target.now }
+    ensures told { OnOk result (T.told
+        (stood_in (conversion_of (aim_of (B.state bench.old).things target.now) (B.state bench.old).held)) teller.old
+        teller.new) }
+    ensures stays { IfErr result (λ f. T.stayed
+        (stay_told f.id (stay_of (aim_of (B.state bench.old).things target.now) (B.state bench.old).held)) teller.old
+        teller.new) }
     ensures converts { Converts
         (conversion_of (aim_of (B.state bench.old).things target.now) (B.state bench.old).held) result
         (B.state bench.old) (B.state bench.new) }
