@@ -13,11 +13,13 @@ mod places;
 mod rewriting;
 mod rules;
 pub mod stay;
+mod stopped;
 pub mod teller;
 mod tried;
 mod walk;
+mod why;
 
 pub use conversion_base::{laws, names, rule, stood, target};
-pub use patterns_reasons::condition;
 pub use patterns;
 pub use patterns::rewriter;
+pub use patterns_reasons::condition;

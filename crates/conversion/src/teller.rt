@@ -1,5 +1,5 @@
 //! What is told of a conversion beside its answer.
-ghost use Rattle.std.specs.Prelude.{◌≡◌, List, Option, None, Some, IfErr, OnOk, ⊤};
+ghost use Rattle.std.specs.Prelude.{◌≡◌, List, Option, None, Some, IfErr, OnErr, OnOk, ⊤};
 ghost use Rattle.ir_event.specs.types.declared.refusal.Refusal.TheVariants.{Memory as NoMemory};
 ghost use Rattle.conversion_base.specs.declared.stood.Stood.{Stood as Told};
 ghost use Rattle.conversion.specs.declared.stay.Stay.{Stay as Staying};
@@ -18,9 +18,10 @@ pub trait Teller {
 
     ghost untouched: { (t : Self) → stayed None t t };
 
-    /// Tells it of all rules that stand.
+    /// Tells it of all rules that stand. Where that is refused, it was told of no operation that stays.
     fn tell(&mut self, stood: &[Stood]) -> Result<(), Refusal>
         ensures told { OnOk result (told stood.now self.old self.new) }
+        ensures silent { OnErr result (stayed None self.old self.new) }
         ensures refused { IfErr result (λ e. e ≡ NoMemory) };
 
     /// Tells it why an operation stays.

@@ -1,11 +1,13 @@
 -- What is shown of a conversion that is told: a line for each rule that stands, in their order; or why an operation stays.
-use Rattle.std.specs.Prelude.{ℕ, List, [], ◌++◌, codes, map, Option, Some, None}
+use Rattle.std.specs.Prelude.{◌≡◌, ◌⊎◌, ℕ, List, [], ◌++◌, codes, map, Option, Some, None, Result, Err}
+use Rattle.ir_event.specs.types.declared.refusal.Refusal.TheVariants.{Memory}
 use Rattle.ir_event.specs.Modules.{Module}
 use Rattle.patterns_reasons.specs.Conditions.{word_of as condition_word}
 use Rattle.conversion.specs.Converting.{conversion_to, stay_to, stood_in}
 use Rattle.conversion.specs.Rule.{Rule}
 use Rattle.conversion.specs.Targets.{Aim}
 use Rattle.conversion.specs.rewriter.Machine.{Reply, DoneWith, RefusedOn}
+use Rattle.conversion.specs.declared.fault.Fault.{Fault}
 use Rattle.conversion.specs.declared.stay.Stay.{Stay}
 use Rattle.conversion.specs.declared.stay.Stay.TheVariants.{NoRule, Fails, MakesIllegal}
 use Rattle.conversion_base.specs.declared.stood.Stood.{Stood}
@@ -50,3 +52,17 @@ conversion_text g m reply = told_below reply (stood_in (conversion_to g m)) (sta
 abbrev pub stay_or : Option Stay → Option Stay → Option Stay
 stay_or None old = old
 stay_or (Some s) old = Some s
+
+-- ---- how a conversion that was told is shown
+
+-- below a fault: why the operation that it is for stays
+abbrev pub stay_below : Option ℕ → Option Stay → List ℕ
+stay_below None s = []
+stay_below (Some x) None = []
+stay_below (Some x) (Some s) = stay_line x s
+
+-- a fault with that, or that there was no memory for it
+abbrev pub ToldFault : Fault → Option Stay → Result ℕ Fault → List ℕ → Type 0
+ToldFault f s called lines =
+    ((called ≡ Err f) × (lines ≡ stay_below f.id s))
+    ⊎ ((called ≡ Err (record { refusal = Memory; id = None })) × (lines ≡ []))

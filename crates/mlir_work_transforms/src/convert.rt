@@ -13,7 +13,7 @@ ghost use Rattle.conversion.specs.Converting.{command_aim, conversion, conversio
 ghost use Rattle.conversion.specs.Converting.{stay_to, stood_in};
 ghost use Rattle.conversion.specs.Staying.{stay_told};
 ghost use Rattle.conversion.specs.States.{Converts};
-ghost use Rattle.mlir_work_transforms.specs.ConvertText.{conversion_text};
+ghost use Rattle.mlir_work_transforms.specs.ConvertText.{ToldFault, conversion_text};
 
 use crate::convert_lines::{ConvertLines, line_of};
 use crate::target::target_of;
@@ -109,7 +109,10 @@ pub struct Traced {
 
 /// How a conversion stands below its reply, which was told: its lines, or why an operation stays. Where there is no
 /// memory for that, the refusal is another.
-fn told(alloc: Global, lines: ConvertLines, called: Result<u32, Fault>) -> Traced {
+fn told(alloc: Global, lines: ConvertLines, called: Result<u32, Fault>) -> Traced
+    ensures ok { OnOk called ((result.called ≡ called) × (result.lines.items ≡ lines.text.items)) }
+    ensures fault { IfErr called (λ f. ToldFault f lines.stay result.called result.lines.items) }
+{
     let Err(fault) = called else {
         return Traced {
             called,
@@ -156,6 +159,7 @@ pub fn convert_traced<L: Analysis>(
     ensures journal { MatchResult result.called (λ _. Noted bench.old.desk bench.new.desk)
         (λ _. Recorded [] bench.old.desk bench.new.desk) }
 {
+    led_benches_are_kept::<L>();
     let mut lines = ConvertLines::new(alloc);
     let called = convert_told(alloc, bench, full, clauses, &mut lines);
     told(alloc, lines, called)
