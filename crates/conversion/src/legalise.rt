@@ -214,7 +214,7 @@ fn stood_now<B: Rewriting>(bench: &B, rule: Rule, op: OpId, from: u32) -> Stood
     }
 }
 
-/// Legalises the operations that a rule made at another, from an id on, by rising id. That rule stands, and before
+/// Legalises the operations that a rule made at another, from an id on, by rising id. The rule stands in front of
 /// those that do then.
 #[cycle(legalise)]
 fn each_made<B: Rules>(

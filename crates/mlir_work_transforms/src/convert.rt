@@ -45,11 +45,11 @@ fn convert_told<L: Analysis, T: Teller>(
         (conversion_to (command_aim (said_target full (clauses_of clauses.now))) (module_held bench.old.desk)) result
         (seen bench.old) (seen bench.new) }
     ensures told { OnOk result (T.told
-        (stood_in (conversion_to (command_aim (said_target full (clauses_of clauses.now))) (module_held bench.old.desk)))
-        teller.old teller.new) }
+        (stood_in (conversion_to (command_aim (said_target full (clauses_of clauses.now)))
+        (module_held bench.old.desk))) teller.old teller.new) }
     ensures stays { IfErr result (λ f. T.stayed
-        (stay_told f.id (stay_to (command_aim (said_target full (clauses_of clauses.now))) (module_held bench.old.desk)))
-        teller.old teller.new) }
+        (stay_told f.id (stay_to (command_aim (said_target full (clauses_of clauses.now)))
+        (module_held bench.old.desk))) teller.old teller.new) }
     ensures none { OnOk result (has_no_cast (module_held bench.new.desk).tree ≡ true) }
     ensures grows { Grows bench.old.desk.ctx bench.new.desk.ctx }
     ensures led { Led L.meaning bench.old bench.new }
@@ -149,8 +149,8 @@ pub fn convert_traced<L: Analysis>(
     ensures does { Does L.meaning (Change (conversion (said_target full (clauses_of clauses.now))))
         (conversion_reply result.called) bench.old bench.new }
     ensures converts { Converts
-        (conversion_to (command_aim (said_target full (clauses_of clauses.now))) (module_held bench.old.desk)) result.called
-        (seen bench.old) (seen bench.new) }
+        (conversion_to (command_aim (said_target full (clauses_of clauses.now))) (module_held bench.old.desk))
+        result.called (seen bench.old) (seen bench.new) }
     ensures lines { result.lines.items ≡ conversion_text (command_aim (said_target full (clauses_of clauses.now)))
         (module_held bench.old.desk) (conversion_reply result.called) }
     ensures none { OnOk result.called (has_no_cast (module_held bench.new.desk).tree ≡ true) }

@@ -108,7 +108,7 @@ impl Teller for ConvertLines {
 
     ghost stayed = { λ s a b. b.stay ≡ stay_or s a.stay };
 
-    ghost untouched = { λ t. refl };
+    ghost untouched = { λ t i. t.stay };
 
     fn tell(&mut self, stood: &[Stood]) -> Result<(), Refusal> {
         match put_stood(&mut self.text, stood) {

@@ -84,7 +84,7 @@ each_made-made-preserved g t c =
     let same = aim_stays start.things here.things c.args.target.now c.made.invariant.1.grows c.requires.aim in
     let o = subst (λ (x : ℕ). Comes (standing go here.held x) (Ok c.in-Ok-legalise.tried) here next) c.new.ensures (subst (λ (a : Aim). Comes (standing (legalization_of a c.args.below) here.held c.new.result) (Ok c.in-Ok-legalise.tried) here next) same c.in-Ok-legalise.ensures.comes) in (
       making_more go _ c.made.id c.next_id-end.result here next c.made.fired.items c.append.new.fired.items c.made.met c.in-Ok-legalise.tried c.joined-tried.result c.made-test.true c.made.invariant.0 o
-          c.joined-tried.ensures.legal c.joined-tried.ensures.fired c.joined-tried.ensures.met c.if-not-tried.false (c.in_default-append.ensures.ok ∙ ap (λ (ns : List Stood). c.made.fired.items ++ ns) c.deref.ensures.value),
+          c.joined-tried.ensures.legal c.joined-tried.ensures.fired c.joined-tried.ensures.met c.if-not-tried.false (c.in_default.ensures.ok ∙ ap (λ (ns : List Stood). c.made.fired.items ++ ns) c.deref.ensures.value),
       leads_more state g.B.Rewriting.desk g.B.Rewriting.led g.B.Rewriting.led_more c.args.bench.now c.made.bench c.legalise.new.bench c.made.invariant.1 c.in-Ok-legalise.ensures.leads,
     )
 
