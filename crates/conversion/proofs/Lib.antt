@@ -14,6 +14,7 @@ pub mod Given
 pub mod Kept
 pub mod Order
 pub mod Steps
+pub mod Stops
 pub mod Used
 pub mod Waiting
 pub mod Walks

@@ -26,8 +26,8 @@ module _ {B : Type 0} (meaning : B → Listener) (to : Module → Ended) (a b : 
   ]
 
   answered : (e : Ended) → to (module_held a.desk) ≡ e → (r : Result ℕ Fault) → Converts e r (seen a) (seen b) → IsAnswer before (Change (ending to)) (answer_with r)
-  answered (converted m k) is (Ok n) c = inl ((λ i. record { reply = DoneWith (Converted (c.0 i)); shows = Nothing; held = c.1 i; marks = marks i }) ∙ sym (ap (λ e. due_change (ended_as e) before) is))
-  answered (converted m k) is (Err f) c = inr (refl, unmade f c.0 c.1)
+  answered (converted m ks) is (Ok n) c = inl ((λ i. record { reply = DoneWith (Converted (c.0 i)); shows = Nothing; held = c.1 i; marks = marks i }) ∙ sym (ap (λ e. due_change (ended_as e) before) is))
+  answered (converted m ks) is (Err f) c = inr (refl, unmade f c.0 c.1)
   answered (given_up e x) is (Ok n) c = absurd c
   answered (given_up e x) is (Err f) c = elim c.0 [
     | inl due ↦ inl ((λ i. record { reply = fault_reply (due.0 i) (due.1 i); shows = Nothing; held = c.1 i; marks = marks i }) ∙ sym (ap (λ e. due_change (ended_as e) before) is))

@@ -27,6 +27,9 @@ use Rattle.patterns.specs.runs.Runs.{Along}
 use Rattle.conversion_base.specs.Makes.{made_by}
 use Rattle.conversion_base.specs.Reconciling.{index_edits, index_rewrite}
 use Rattle.conversion_base.proofs.Collapsing.{one_made}
+use Rattle.conversion_base.specs.Rule.{Rule}
+use Rattle.patterns_reasons.specs.Reasons.{reason_of}
+use Rattle.patterns_reasons.specs.declared.condition.Condition.{Condition}
 use Rattle.conversion_base.specs.Rewrites.{Rewrite, none, refused, becomes, carried_out, rewrite_by}
 use Rattle.conversion.specs.Benches.{LedOn, desk_of, seen}
 use Rattle.conversion.specs.States.{Answers, Committed, IsFull, IsWant, Leads, Refuses, RolledBack, marked}
@@ -47,6 +50,9 @@ module _ (w : World) (h : Held) (ctx : w.ctx ≡ h.ctx) (store : w.store ≡ h.s
 
   pub next_free : (n : ℕ) → n ≡ w.store.module_of.next → n ≡ (module_held h).next
   next_free n e = e ∙ ap (λ (m : Module). m.next) same_module
+
+  pub why_here : (r : Rule) (x : ℕ) (c : Option Condition) → c ≡ reason_of r (module_in w) x → c ≡ reason_of r (module_held h) x
+  why_here r x c e = e ∙ ap (λ (m : Module). reason_of r m x) same_module
 
 pub all_in_order : {A : Type 0} (w : World) (h : Held) → w.ctx ≡ h.ctx → w.store ≡ h.store → (r : Result (Vec ℕ A) Refusal) → IfOk r (λ v. v.items ≡ ids w.store.module_of.tree) → IfOk r (λ v. v.items ≡ ids (module_held h).tree)
 all_in_order w h ctx store (Ok v) e = in_order w h ctx store v.items e

@@ -12,73 +12,75 @@ use Rattle.conversion.specs.declared.fault.Fault.{Fault}
 use Rattle.conversion.specs.declared.tried.Tried.{Tried}
 use Rattle.conversion_base.specs.Rewrites.{Rewrite, none, refused, becomes}
 use Rattle.conversion_base.specs.Targets.{Aim}
+use Rattle.conversion_base.specs.declared.stood.Stood.{Stood}
 use Rattle.conversion_base.specs.Legalization.{Outcome, legalised, failed, stopped}
 use Rattle.conversion_base.specs.Listing.{casts_among}
 use Rattle.conversion_base.specs.Reconciling.{is_cast, go_on, next_collapse, collapsed, all_collapsed}
-use Rattle.conversion_base.specs.Conversion.{Ended, converted, given_up, counted, next_part, in_turn, ended, ended_at, failing, cast_ended, casts_left, checked, has_no_cast, later_parts}
-use Rattle.conversion.specs.States.{State, Applied, Refuses, AnswersBehind, IsWant, Comes, Wants, Faults, EndsWith, Ends, none_of, Converts, Closed, marked}
+use Rattle.conversion_base.specs.Conversion.{Ended, converted, given_up, ended_behind, next_part, in_turn, ended, ended_at, failing, cast_ended, casts_left, checked, has_no_cast, later_parts}
+use Rattle.conversion.specs.States.{State, Applied, Refuses, AnswersBehind, IsWant, Comes, Wants, Faults, Stands, Ends, EndsWith, EndsBehind, none_of, Converts, Closed, marked}
+use Rattle.conversion.specs.Converting.{stood_in}
 use Rattle.conversion_base.proofs.Gone.{no_cast_is_left}
 use Rattle.conversion.proofs.Trying.{noted}
 use Rattle.ir_event.proofs.of_types.Truths.{rest_at, times_more}
 
 -- ---- ends one behind another
 
-wanted : (e : Ended) (f : Fault) (c : Things) → Wants c f → Faults e f c
-wanted (converted m k) f c w = w
+pub wanted : (e : Ended) (f : Fault) (c : Things) → Wants c f → Faults e f c
+wanted (converted m ks) f c w = w
 wanted (given_up r x) f c w = inr w
 
-pub counted_both : (j k : ℕ) (e : Ended) → counted (j + k) e ≡ counted j (counted k e)
-counted_both j k (converted m n) = let e : (j + k) + n ≡ j + (k + n) = omega arith in ap (converted m) e
-counted_both j k (given_up r x) = refl
+pub behind_both : (js ks : List Stood) (e : Ended) → ended_behind (js ++ ks) e ≡ ended_behind js (ended_behind ks e)
+behind_both js ks (converted m ns) = ap (converted m) (append_assoc js ks ns)
+behind_both js ks (given_up r x) = refl
 
-pub counted_none : (e : Ended) → counted 0 e ≡ e
-counted_none (converted m n) = let e : 0 + n ≡ n = omega arith in ap (converted m) e
-counted_none (given_up r x) = refl
+pub behind_none : (e : Ended) → ended_behind [] e ≡ e
+behind_none (converted m ns) = refl
+behind_none (given_up r x) = refl
 
-faults_counted : (k : ℕ) (e : Ended) (f : Fault) (c : Things) → Faults e f c → Faults (counted k e) f c
-faults_counted k (converted m n) f c h = h
-faults_counted k (given_up r x) f c h = h
+faults_behind : (ks : List Stood) (e : Ended) (f : Fault) (c : Things) → Faults e f c → Faults (ended_behind ks e) f c
+faults_behind ks (converted m ns) f c h = h
+faults_behind ks (given_up r x) f c h = h
 
 pub part_stops : (g : Module → Ended) (e : Ended) (f : Fault) (c : Things) → Faults e f c → Faults (next_part g e) f c
-part_stops g (converted m k) f c h = wanted (counted k (g m)) f c h
+part_stops g (converted m ks) f c h = wanted (ended_behind ks (g m)) f c h
 part_stops g (given_up r x) f c h = h
 
-pub part_goes : (g : Module → Ended) (e : Ended) (k : ℕ) (n : Module) → EndsWith e k n → counted k (g n) ≡ next_part g e
-part_goes g (converted m j) k n h = λ i. counted (h.0 i) (g (h.1 i))
-part_goes g (given_up r x) k n h = absurd h
+pub part_goes : (g : Module → Ended) (e : Ended) (ks : List Stood) (n : Module) → Stands e ks n → ended_behind ks (g n) ≡ next_part g e
+part_goes g (converted m js) ks n h = λ i. ended_behind (h.0 i) (g (h.1 i))
+part_goes g (given_up r x) ks n h = absurd h
 
-ends_counted : (j : ℕ) (e : Ended) (k : ℕ) (n : Module) → EndsWith e k n → EndsWith (counted j e) (j + k) n
-ends_counted j (converted m i) k n h = (ap (λ l. j + l) h.0, h.1)
-ends_counted j (given_up r x) k n h = absurd h
+stands_behind : (js : List Stood) (e : Ended) (ks : List Stood) (n : Module) → Stands e ks n → Stands (ended_behind js e) (js ++ ks) n
+stands_behind js (converted m is) ks n h = (ap (λ ns. js ++ ns) h.0, h.1)
+stands_behind js (given_up r x) ks n h = absurd h
 
 -- ---- operations in turn
 
 module _ (f : Module → ℕ → Ended) (all : List ℕ) (start : State) where
-  -- what is left of the operations gives, behind the that stand, what all of them give
-  abbrev pub Turning : List ℕ → ℕ → State → Type 0
-  Turning rest count here = counted count (in_turn f rest here.held) ≡ in_turn f all start.held
+  -- what is left of the operations gives, behind the rules that stand, what all of them give
+  abbrev pub Turning : List ℕ → List Stood → State → Type 0
+  Turning rest ks here = ended_behind ks (in_turn f rest here.held) ≡ in_turn f all start.held
 
-  turn_is : (xs : List ℕ) (x : ℕ) (count : ℕ) (here : State) → 1 ≤ length xs → x ≡ get_or xs 0 x → Turning xs count here
-      → counted count (next_part (in_turn f (take (length xs - 1) (drop 1 xs))) (f here.held x)) ≡ in_turn f all start.held
-  turn_is xs x count here l z h = sym (ap (λ ys. counted count (in_turn f ys here.held)) (rest_at xs x x l z)) ∙ h
+  turn_is : (xs : List ℕ) (x : ℕ) (ks : List Stood) (here : State) → 1 ≤ length xs → x ≡ get_or xs 0 x → Turning xs ks here
+      → ended_behind ks (next_part (in_turn f (take (length xs - 1) (drop 1 xs))) (f here.held x)) ≡ in_turn f all start.held
+  turn_is xs x ks here l z h = sym (ap (λ ys. ended_behind ks (in_turn f ys here.held)) (rest_at xs x x l z)) ∙ h
 
-  pub turning_stops : (xs : List ℕ) (x : ℕ) (count : ℕ) (here next : State) (e : Fault) → 1 ≤ length xs → x ≡ get_or xs 0 x → Turning xs count here → Ends (f here.held x) (Err e) next → Ends (in_turn f all start.held) (Err e) next
-  turning_stops xs x count here next e l z h c =
-      subst (λ (d : Ended). Faults d e next.things) (turn_is xs x count here l z h) (faults_counted count _ e next.things (part_stops _ (f here.held x) e next.things c))
+  pub turning_stops : (xs : List ℕ) (x : ℕ) (ks : List Stood) (here next : State) (e : Fault) → 1 ≤ length xs → x ≡ get_or xs 0 x → Turning xs ks here → Ends (f here.held x) (Err e) next → Ends (in_turn f all start.held) (Err e) next
+  turning_stops xs x ks here next e l z h c =
+      subst (λ (d : Ended). Faults d e next.things) (turn_is xs x ks here l z h) (faults_behind ks _ e next.things (part_stops _ (f here.held x) e next.things c))
 
-  pub turning_more : (xs : List ℕ) (x : ℕ) (count k : ℕ) (here next : State) → 1 ≤ length xs → x ≡ get_or xs 0 x → Turning xs count here → Ends (f here.held x) (Ok k) next → Turning (take (length xs - 1) (drop 1 xs)) (count + k) next
-  turning_more xs x count k here next l z h c =
-      counted_both count k (in_turn f (take (length xs - 1) (drop 1 xs)) next.held)
-      ∙ ap (counted count) (part_goes (in_turn f (take (length xs - 1) (drop 1 xs))) (f here.held x) k next.held c) ∙ turn_is xs x count here l z h
+  pub turning_more : (xs : List ℕ) (x : ℕ) (ks js more : List Stood) (here next : State) → 1 ≤ length xs → x ≡ get_or xs 0 x → Turning xs ks here → Ends (f here.held x) (Ok js) next → more ≡ ks ++ js
+      → Turning (take (length xs - 1) (drop 1 xs)) more next
+  turning_more xs x ks js more here next l z h c e =
+      ap (λ ns. ended_behind ns (in_turn f (take (length xs - 1) (drop 1 xs)) next.held)) e
+      ∙ behind_both ks js (in_turn f (take (length xs - 1) (drop 1 xs)) next.held)
+      ∙ ap (ended_behind ks) (part_goes (in_turn f (take (length xs - 1) (drop 1 xs))) (f here.held x) js next.held c) ∙ turn_is xs x ks here l z h
 
-  pub turning_done : (xs : List ℕ) (count : ℕ) (here : State) → length xs < 1 → Turning xs count here → Ends (in_turn f all start.held) (Ok count) here
-  turning_done [] count here l h =
-      let e : count ≡ count + 0 = omega arith in
-      subst (λ (d : Ended). EndsWith d count here.held) h (e, refl)
-  turning_done (x ∷ xs) count here l h = absurd (omega (arith, l))
+  pub turning_done : (xs : List ℕ) (ks : List Stood) (here : State) → length xs < 1 → Turning xs ks here → Ends (in_turn f all start.held) (Ok ks) here
+  turning_done [] ks here l h = subst (λ (d : Ended). Stands d ks here.held) h (sym (append-nil ks), refl)
+  turning_done (x ∷ xs) ks here l h = absurd (omega (arith, l))
 
-pub turning_none : (f : Module → ℕ → Ended) (all : List ℕ) (start : State) → Turning f all start all 0 start
-turning_none f all start = counted_none (in_turn f all start.held)
+pub turning_none : (f : Module → ℕ → Ended) (all : List ℕ) (start : State) → Turning f all start all [] start
+turning_none f all start = behind_none (in_turn f all start.held)
 
 -- ---- collapsing
 
@@ -97,14 +99,14 @@ module _ (most : ℕ) (start : State) where
       goes (next_collapse here.held) none here.held (collapsed (times - 1)) next.held (subst (λ c. Applied (next_collapse here.held) c here.held next.held) t a)
       ∙ sym (ap (λ k. collapsed k here.held) (times_more times l)) ∙ h
 
-  ends : (a : Rewrite) (m n p : Module) (f : Module → Rewrite) → Applied a false m n → EndsWith (ended (go_on f m a) p) 0 n
+  ends : (a : Rewrite) (m n p : Module) (f : Module → Rewrite) → Applied a false m n → Stands (ended (go_on f m a) p) [] n
   ends none m n p f c = (refl, c.1)
   ends (refused e) m n p f c = absurd c
   ends (becomes q) m n p f c = absurd (true≢false (sym c.0))
 
-  pub collapsing_ends : (times : ℕ) (here next : State) (b : Bool) → 0 < times → Collapsing most start times here → AnswersBehind (next_collapse here.held) (Ok b) here next → b ≡ false → Ends (ended (collapsed most start.held) start.held) (Ok 0) next
+  pub collapsing_ends : (times : ℕ) (here next : State) (b : Bool) → 0 < times → Collapsing most start times here → AnswersBehind (next_collapse here.held) (Ok b) here next → b ≡ false → Ends (ended (collapsed most start.held) start.held) (Ok []) next
   collapsing_ends times here next b l h a t =
-      subst (λ (d : Rewrite). EndsWith (ended d start.held) 0 next.held) (sym (ap (λ k. collapsed k here.held) (times_more times l)) ∙ h)
+      subst (λ (d : Rewrite). Stands (ended d start.held) [] next.held) (sym (ap (λ k. collapsed k here.held) (times_more times l)) ∙ h)
       (ends (next_collapse here.held) here.held next.held start.held (collapsed (times - 1)) (subst (λ c. Applied (next_collapse here.held) c here.held next.held) t a))
 
   given : (a : Rewrite) (m p : Module) (f : Module → Rewrite) (g : Fault) (c : Things) (e : Refusal) → Refuses a c e → g.refusal ≡ e → g.id ≡ None → Faults (ended (go_on f m a) p) g c
@@ -119,10 +121,10 @@ module _ (most : ℕ) (start : State) where
       subst (λ (d : Rewrite). Faults (ended d start.held) f next.things) (sym (ap (λ k. collapsed k here.held) (times_more times l)) ∙ h)
       (given (next_collapse here.held) here.held start.held (collapsed (times - 1)) f next.things e a i n)
 
-  pub collapsing_done : (times : ℕ) (here : State) → times ≤ 0 → Collapsing most start times here → Ends (ended (collapsed most start.held) start.held) (Ok 0) here
+  pub collapsing_done : (times : ℕ) (here : State) → times ≤ 0 → Collapsing most start times here → Ends (ended (collapsed most start.held) start.held) (Ok []) here
   collapsing_done times here l h =
       let e : times ≡ 0 = omega arith in
-      subst (λ (d : Rewrite). EndsWith (ended d start.held) 0 here.held) (sym (ap (λ k. collapsed k here.held) e) ∙ h) (refl, refl)
+      subst (λ (d : Rewrite). Stands (ended d start.held) [] here.held) (sym (ap (λ k. collapsed k here.held) e) ∙ h) (refl, refl)
 
 -- ---- casts
 
@@ -133,31 +135,27 @@ cast_faults x (refused d) c e f (inl is) i n = inl (i ∙ is, n)
 cast_faults x (refused d) c e f (inr w) i n = inr (n, subst (IsWant c) (sym i) w)
 
 -- a part that makes no rule stand
-none_goes : (a b : Module → Ended) (e : Ended) (k : ℕ) (n m : Module) → EndsWith e k n → EndsWith (a n) 0 m → EndsWith (next_part a e) k m
-none_goes a b e k n m h r =
-    let z : k + 0 ≡ k = omega arith in
-    subst (λ (d : Ended). EndsWith d k m) (part_goes a e k n h) (subst (λ j. EndsWith (counted k (a n)) j m) z (ends_counted k (a n) 0 m r))
+pub part_none : (a : Module → Ended) (e : Ended) (ks : List Stood) (n m : Module) → Stands e ks n → Stands (a n) [] m → Stands (next_part a e) ks m
+part_none a e ks n m h r =
+    subst (λ (d : Ended). Stands d ks m) (part_goes a e ks n h) (subst (λ js. Stands (ended_behind ks (a n)) js m) (append-nil ks) (stands_behind ks (a n) [] m r))
 
-pub part_none : (a : Module → Ended) (e : Ended) (k : ℕ) (n m : Module) → EndsWith e k n → EndsWith (a n) 0 m → EndsWith (next_part a e) k m
-part_none a e k n m = none_goes a a e k n m
-
-pub part_faults : (a : Module → Ended) (e : Ended) (k : ℕ) (n : Module) (f : Fault) (c : Things) → EndsWith e k n → Faults (a n) f c → Faults (next_part a e) f c
-part_faults a e k n f c h r = subst (λ (d : Ended). Faults d f c) (part_goes a e k n h) (faults_counted k (a n) f c r)
+pub part_faults : (a : Module → Ended) (e : Ended) (ks : List Stood) (n : Module) (f : Fault) (c : Things) → Stands e ks n → Faults (a n) f c → Faults (next_part a e) f c
+part_faults a e ks n f c h r = subst (λ (d : Ended). Faults d f c) (part_goes a e ks n h) (faults_behind ks (a n) f c r)
 
 -- ---- legalising at an operation
 
-pub legalised_ends : (x : ℕ) (o : Outcome) (t : Tried) (a b : State) → Comes o (Ok t) a b → t.legal ≡ true → Ends (ended_at x o) (Ok t.count) b
-legalised_ends x (legalised p k deep) t a b c is = (c.1.0, c.1.1.1)
+pub legalised_ends : (x : ℕ) (o : Outcome) (t : Tried) (a b : State) → Comes o (Ok t) a b → t.legal ≡ true → Ends (ended_at x o) (Ok t.fired.items) b
+legalised_ends x (legalised p ks deep) t a b c is = (c.1.0, c.1.1.1)
 legalised_ends x (failed deep) t a b c is = absurd (true≢false (sym is ∙ c.0))
 legalised_ends x (stopped e) t a b c is = absurd c
 
 pub failed_ends : (x : ℕ) (o : Outcome) (t : Tried) (a b : State) (f : Fault) → Comes o (Ok t) a b → t.legal ≡ false → f.refusal ≡ failing t.met → f.id ≡ Some x → Ends (ended_at x o) (Err f) b
-failed_ends x (legalised p k deep) t a b f c is r i = absurd (true≢false (sym c.0 ∙ is))
+failed_ends x (legalised p ks deep) t a b f c is r i = absurd (true≢false (sym c.0 ∙ is))
 failed_ends x (failed deep) t a b f c is r i = inl (r ∙ ap failing c.1.0, i)
 failed_ends x (stopped e) t a b f c is r i = absurd c
 
 pub stopped_ends : (x : ℕ) (o : Outcome) (e : Refusal) (a b : State) (f : Fault) → Comes o (Err e) a b → f.refusal ≡ e → f.id ≡ None → Ends (ended_at x o) (Err f) b
-stopped_ends x (legalised p k deep) e a b f c r i = (i, subst (IsWant b.things) (sym r) c.0)
+stopped_ends x (legalised p ks deep) e a b f c r i = (i, subst (IsWant b.things) (sym r) c.0)
 stopped_ends x (failed deep) e a b f c r i = inr (i, subst (IsWant b.things) (sym r) c.0)
 stopped_ends x (stopped d) e a b f c r i = stop c.0
   where
@@ -168,65 +166,64 @@ stopped_ends x (stopped d) e a b f c r i = stop c.0
 -- ---- a conversion behind a mark
 
 module _ (start here end : State) (closing : (well : Bool) → Closed well here end → end ≡ record { things = here.things; held = if well then here.held else start.held; marks = start.marks }) where
-  whole : (e : Ended) (r : Result ℕ Fault) → Ends e r here → Closed (is_ok r) here end → Converts e r start end
+  whole : (e : Ended) (r : Result ℕ Fault) → EndsBehind e r here → Closed (is_ok r) here end → Converts e r start end
   whole e (Ok n) c is = subst (λ (m : Module). EndsWith e n m) (sym (ap (λ (s : State). s.held) (closing true is))) c
   whole e (Err f) c is = (subst (λ (d : Things). Faults e f d) (sym (ap (λ (s : State). s.things) (closing false is))) c, ap (λ (s : State). s.held) (closing false is))
 
-pub converted_whole : (f : Things → Module → Ended) (r : Result ℕ Fault) (start stepped here end : State) → stepped ≡ marked start → here.marks ≡ stepped.marks → Ends (f stepped.things stepped.held) r here
+pub converted_whole : (f : Things → Module → Ended) (r : Result ℕ Fault) (start stepped here end : State) → stepped ≡ marked start → here.marks ≡ stepped.marks → EndsBehind (f stepped.things stepped.held) r here
     → (well : Bool) → well ≡ is_ok r → Closed well here end → Converts (f start.things start.held) r start end
 converted_whole f r start stepped here end e m c well w is =
-    whole start here end (λ b k. k (record { marked = start.held; counted = false }) start.marks (noted start stepped here e m)) (f start.things start.held) r (subst (λ (s : State). Ends (f s.things s.held) r here) e c)
+    whole start here end (λ b k. k (record { marked = start.held; counted = false }) start.marks (noted start stepped here e m)) (f start.things start.held) r (subst (λ (s : State). EndsBehind (f s.things s.held) r here) e c)
     (subst (λ b. Closed b here end) w is)
 
 -- ---- the parts
 
-counted_part : (f : Module → Ended) (k : ℕ) (e : Ended) → next_part f (counted k e) ≡ counted k (next_part f e)
-counted_part f k (converted m j) = counted_both k j (f m)
-counted_part f k (given_up r x) = refl
+part_behind : (f : Module → Ended) (ks : List Stood) (e : Ended) → next_part f (ended_behind ks e) ≡ ended_behind ks (next_part f e)
+part_behind f ks (converted m js) = behind_both ks js (f m)
+part_behind f ks (given_up r x) = refl
 
-later_counted : (g : Aim) (k : ℕ) (e : Ended) → later_parts g (counted k e) ≡ counted k (later_parts g e)
-later_counted g k e =
+later_behind : (g : Aim) (ks : List Stood) (e : Ended) → later_parts g (ended_behind ks e) ≡ ended_behind ks (later_parts g e)
+later_behind g ks e =
     let f = λ (n : Module). ended (all_collapsed n) n in
-    ap (λ d. next_part (checked g) (next_part casts_left d)) (counted_part f k e)
-    ∙ ap (next_part (checked g)) (counted_part casts_left k (next_part f e)) ∙ counted_part (checked g) k (next_part casts_left (next_part f e))
+    ap (λ d. next_part (checked g) (next_part casts_left d)) (part_behind f ks e)
+    ∙ ap (next_part (checked g)) (part_behind casts_left ks (next_part f e)) ∙ part_behind (checked g) ks (next_part casts_left (next_part f e))
 
-later_goes : (g : Aim) (e : Ended) (k : ℕ) (n : Module) → EndsWith e k n → counted k (later_parts g (converted n 0)) ≡ later_parts g e
-later_goes g (converted m j) k n h =
-    let z : k + 0 ≡ k = omega arith in
-    sym (later_counted g k (converted n 0)) ∙ (λ i. later_parts g (converted (h.1 i) ((z ∙ h.0) i)))
-later_goes g (given_up r x) k n h = absurd h
+later_goes : (g : Aim) (e : Ended) (ks : List Stood) (n : Module) → Stands e ks n → ended_behind ks (later_parts g (converted n [])) ≡ later_parts g e
+later_goes g (converted m js) ks n h =
+    sym (later_behind g ks (converted n [])) ∙ (λ i. later_parts g (converted (h.1 i) ((append-nil ks ∙ h.0) i)))
+later_goes g (given_up r x) ks n h = absurd h
 
 -- legalising was given up
 pub parts_stop : (g : Aim) (e : Ended) (f : Fault) (c : Things) → Faults e f c → Faults (later_parts g e) f c
 parts_stop g e f c h = part_stops (checked g) _ f c (part_stops casts_left _ f c (part_stops (λ n. ended (all_collapsed n) n) e f c h))
 
 -- it went well, and what comes behind it goes or is given up
-pub parts_go : (g : Aim) (e : Ended) (k : ℕ) (n : Module) (t : State) → EndsWith e k n → Ends (later_parts g (converted n 0)) (Ok 0) t → Ends (later_parts g e) (Ok k) t
-parts_go g e k n t h c =
-    let z : k + 0 ≡ k = omega arith in
-    subst (λ (d : Ended). EndsWith d k t.held) (later_goes g e k n h) (subst (λ j. EndsWith (counted k (later_parts g (converted n 0))) j t.held) z (ends_counted k (later_parts g (converted n 0)) 0 t.held c))
+pub parts_go : (g : Aim) (e : Ended) (ks : List Stood) (n : Module) (t : State) → Stands e ks n → Ends (later_parts g (converted n [])) (Ok []) t → Ends (later_parts g e) (Ok ks) t
+parts_go g e ks n t h c =
+    subst (λ (d : Ended). Stands d ks t.held) (later_goes g e ks n h)
+    (subst (λ js. Stands (ended_behind ks (later_parts g (converted n []))) js t.held) (append-nil ks) (stands_behind ks (later_parts g (converted n [])) [] t.held c))
 
-pub parts_fail : (g : Aim) (e : Ended) (k : ℕ) (n : Module) (f : Fault) (c : Things) → EndsWith e k n → Faults (later_parts g (converted n 0)) f c → Faults (later_parts g e) f c
-parts_fail g e k n f c h r = subst (λ (d : Ended). Faults d f c) (later_goes g e k n h) (faults_counted k (later_parts g (converted n 0)) f c r)
+pub parts_fail : (g : Aim) (e : Ended) (ks : List Stood) (n : Module) (f : Fault) (c : Things) → Stands e ks n → Faults (later_parts g (converted n [])) f c → Faults (later_parts g e) f c
+parts_fail g e ks n f c h r = subst (λ (d : Ended). Faults d f c) (later_goes g e ks n h) (faults_behind ks (later_parts g (converted n [])) f c r)
 
 -- casts can't be taken away
-pub collapse_fails : (g : Aim) (m : Module) (f : Fault) (c : Things) → Faults (ended (all_collapsed m) m) f c → Faults (later_parts g (converted m 0)) f c
-collapse_fails g m f c h = part_stops (checked g) _ f c (part_stops casts_left _ f c (part_faults (λ n. ended (all_collapsed n) n) (converted m 0) 0 m f c (refl, refl) h))
+pub collapse_fails : (g : Aim) (m : Module) (f : Fault) (c : Things) → Faults (ended (all_collapsed m) m) f c → Faults (later_parts g (converted m [])) f c
+collapse_fails g m f c h = part_stops (checked g) _ f c (part_stops casts_left _ f c (part_faults (λ n. ended (all_collapsed n) n) (converted m []) [] m f c (refl, refl) h))
 
 -- or can't be made anew
-pub casts_fail : (g : Aim) (m n : Module) (f : Fault) (c : Things) → EndsWith (ended (all_collapsed m) m) 0 n → Faults (casts_left n) f c → Faults (later_parts g (converted m 0)) f c
+pub casts_fail : (g : Aim) (m n : Module) (f : Fault) (c : Things) → Stands (ended (all_collapsed m) m) [] n → Faults (casts_left n) f c → Faults (later_parts g (converted m [])) f c
 casts_fail g m n f c h r =
-    let first = part_none (λ n. ended (all_collapsed n) n) (converted m 0) 0 m n (refl, refl) h in
-    part_stops (checked g) _ f c (part_faults casts_left _ 0 n f c first r)
+    let first = part_none (λ n. ended (all_collapsed n) n) (converted m []) [] m n (refl, refl) h in
+    part_stops (checked g) _ f c (part_faults casts_left _ [] n f c first r)
 
 -- the check ends it
-pub check_ends : {A : Type 0} (g : Aim) (m n p : Module) (r : Result A Fault) (t : State) → EndsWith (ended (all_collapsed m) m) 0 n → EndsWith (casts_left n) 0 p → Ends (checked g p) (none_of r) t → Ends (later_parts g (converted m 0)) (none_of r) t
+pub check_ends : {A : Type 0} (g : Aim) (m n p : Module) (r : Result A Fault) (t : State) → Stands (ended (all_collapsed m) m) [] n → Stands (casts_left n) [] p → Ends (checked g p) (none_of r) t → Ends (later_parts g (converted m [])) (none_of r) t
 check_ends g m n p (Ok u) t h k c =
-    let first = part_none (λ n. ended (all_collapsed n) n) (converted m 0) 0 m n (refl, refl) h in
-    part_none (checked g) _ 0 p t.held (part_none casts_left _ 0 n p first k) c
+    let first = part_none (λ n. ended (all_collapsed n) n) (converted m []) [] m n (refl, refl) h in
+    part_none (checked g) _ [] p t.held (part_none casts_left _ [] n p first k) c
 check_ends g m n p (Err f) t h k c =
-    let first = part_none (λ n. ended (all_collapsed n) n) (converted m 0) 0 m n (refl, refl) h in
-    part_faults (checked g) _ 0 p f t.things (part_none casts_left _ 0 n p first k) c
+    let first = part_none (λ n. ended (all_collapsed n) n) (converted m []) [] m n (refl, refl) h in
+    part_faults (checked g) _ [] p f t.things (part_none casts_left _ [] n p first k) c
 
 -- ---- casts that are listed
 
@@ -260,13 +257,22 @@ up_to_all m most xs r s e is c = subst (λ k. Ends (ended (collapsed k m) m) (no
 
 -- ---- casts that are left
 
-is_end : (e : Ended) (k : ℕ) (n : Module) → EndsWith e k n → e ≡ converted n k
-is_end (converted m j) k n h = λ i. converted (sym h.1 i) (sym h.0 i)
-is_end (given_up r x) k n h = absurd h
+is_end : (e : Ended) (ks : List Stood) (n : Module) → Stands e ks n → e ≡ converted n ks
+is_end (converted m js) ks n h = λ i. converted (sym h.1 i) (sym h.0 i)
+is_end (given_up r x) ks n h = absurd h
 
 pub none_left : {A : Type 0} (m : Module) (r : Result A Fault) (s : State) → IsWellFormed is_isolated m → Ends (casts_left m) (none_of r) s → OnOk r (has_no_cast s.held.tree ≡ true)
-none_left m (Ok u) s w e = no_cast_is_left m s.held 0 w (is_end (casts_left m) 0 s.held e)
+none_left m (Ok u) s w e = no_cast_is_left m s.held [] w (is_end (casts_left m) [] s.held e)
 none_left m (Err f) s w e = tt
+
+-- with how many rules stand, and the rules that do
+pub counted_end : (e : Ended) (ks : List Stood) (n : ℕ) (s : State) → Ends e (Ok ks) s → n ≡ length ks → EndsBehind e (Ok n) s
+counted_end (converted m js) ks n s h is = (is ∙ ap length h.0, h.1)
+counted_end (given_up r x) ks n s h is = absurd h
+
+pub stood_end : (e : Ended) (ks : List Stood) (s : State) → Ends e (Ok ks) s → stood_in e ≡ ks
+stood_end (converted m js) ks s h = sym h.0
+stood_end (given_up r x) ks s h = absurd h
 
 -- what is true of the module that is held stays where the mark is dropped
 pub kept_whole : (P : Module → Type 0) (r : Result ℕ Fault) (start stepped here end : State) → stepped ≡ marked start → here.marks ≡ stepped.marks → OnOk r (P here.held) → (well : Bool) → well ≡ is_ok r → Closed well here end → OnOk r (P end.held)

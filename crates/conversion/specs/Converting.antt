@@ -1,5 +1,5 @@
 -- Conversion as a transformation, and how it is replied to.
-use Rattle.std.specs.Prelude.{ℕ, true, List, [], ◌∷◌, Option, Some, None, option_map, option_and_then, Result, Ok, Err}
+use Rattle.std.specs.Prelude.{ℕ, true, List, [], ◌∷◌, length, Option, Some, None, option_map, option_and_then, Result, Ok, Err}
 use Rattle.ir_event.specs.types.declared.refusal.Refusal.TheVariants.{BadTarget}
 use Rattle.ir_event.specs.Modules.{Module}
 use Rattle.patterns.specs.rewriter.Commands.{Target}
@@ -7,13 +7,16 @@ use Rattle.patterns.specs.rewriter.Machine.{Converted, DoneWith, Fault as Becaus
 use Rattle.patterns.specs.rewriter.Machine.{Outcome, Reply, Transformation, fault_reply}
 use Rattle.conversion_base.specs.Conversion.{Ended, converted, given_up, conversion_of}
 use Rattle.conversion_base.specs.Rule.{Rule}
+use Rattle.conversion_base.specs.declared.stood.Stood.{Stood}
 use Rattle.conversion_base.specs.RuleNames.{by_number}
 use Rattle.conversion_base.specs.Targets.{Aim}
 use Rattle.conversion.specs.declared.fault.Fault.{Fault}
+use Rattle.conversion.specs.declared.stay.Stay.{Stay}
+use Rattle.conversion.specs.Staying.{stay_of}
 
 -- what comes of a module, and how many rules of the conversion stand; or why it isn't made
 abbrev pub ended_as : Ended → Result (Outcome × Module) Because
-ended_as (converted m k) = Ok (Converted k, m)
+ended_as (converted m ks) = Ok (Converted (length ks), m)
 ended_as (given_up refusal x) = Err (record { refusal = refusal; op = x })
 
 -- the transformation that ends so
@@ -46,6 +49,16 @@ command_aim t =
 abbrev pub conversion_to : Option Aim → Module → Ended
 conversion_to None m = given_up BadTarget None
 conversion_to (Some g) m = conversion_of g m
+
+-- the rules that stand in the end, in the order in which they were applied
+abbrev pub stood_in : Ended → List Stood
+stood_in (converted m ks) = ks
+stood_in (given_up e x) = []
+
+-- why an operation stays, where there is something to aim at
+abbrev pub stay_to : Option Aim → Module → Option (ℕ × Stay)
+stay_to None m = None
+stay_to (Some g) m = stay_of g m
 
 -- the transformation of a command
 abbrev pub conversion : Target → Transformation

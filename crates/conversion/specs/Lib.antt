@@ -1,6 +1,7 @@
 pub mod States
 pub mod Benches
 pub mod Converting
+pub mod Staying
 pub mod Givers
 pub mod Waiting
 pub mod Walks

@@ -1,9 +1,11 @@
 -- What a bench holds, as conversions see it, and what their parts make of it.
 use Rattle.std.specs.Prelude.{◌≡◌, ℕ, ◌≤◌, List, [], ◌∷◌, ◌++◌, Bool, true, false, ◌⊎◌, length, if◌then◌else◌, Option}
-use Rattle.std.specs.Prelude.{Result, Ok, Err, None}
+use Rattle.std.specs.Prelude.{Result, Ok, Err, Some, None, Vec}
+use Rattle.std.specs.declared.alloc.Global.{Global}
 use Rattle.ir_event.specs.types.Things.{Things, Grows}
 use Rattle.ir_event.specs.types.declared.refusal.Refusal.{Refusal}
 use Rattle.ir_event.specs.types.declared.refusal.Refusal.TheVariants.{Memory, Full}
+use Rattle.ir_event.specs.trees.Ids.{has_id}
 use Rattle.ir_event.specs.Modules.{Module}
 use Rattle.patterns.specs.rewriter.Held.{Held}
 use Rattle.patterns.specs.runs.Runs.{Noted}
@@ -11,8 +13,13 @@ use Rattle.conversion_base.specs.Machine.{OpenMark}
 use Rattle.conversion_base.specs.Rewrites.{Rewrite, none, refused, becomes}
 use Rattle.conversion.specs.declared.tried.Tried.{Tried}
 use Rattle.conversion.specs.declared.fault.Fault.{Fault}
-use Rattle.conversion_base.specs.Conversion.{Ended, converted, given_up}
+use Rattle.conversion.specs.declared.stay.Stay.{Stay}
+use Rattle.conversion.specs.declared.stopped.Stopped.{Stopped}
+use Rattle.conversion_base.specs.Rule.{Rule}
+use Rattle.conversion_base.specs.declared.stood.Stood.{Stood}
+use Rattle.conversion_base.specs.Conversion.{Ended, converted, given_up, failing}
 use Rattle.conversion_base.specs.Legalization.{Outcome, legalised, failed, stopped}
+use Rattle.conversion.specs.Staying.{stay_told}
 use Rattle.conversion.specs.Waiting.{Freed}
 
 -- the context, the module in contents, and the open marks, the newest first
@@ -91,15 +98,19 @@ FreedIf false gs f passed again passed2 again2 = (passed2 ≡ passed) × (again2
 
 -- ---- legalising
 
+-- that a rule made a module at an operation, where this was the next id before
+abbrev pub stood_since : Rule → ℕ → ℕ → Module → Stood
+stood_since r x from n = record { rule = r; op = x; from = from; until = n.next; stays = has_id x n.tree }
+
 -- an outcome, and how a try to get there ended: where it fails or is refused, the module stays; a refusal is the
 -- outcome's, or a want
 abbrev pub Told : Outcome → Tried → Module → Module → Type 0
-Told (legalised p k deep) t m n = (t.legal ≡ true) × ((t.count ≡ k) × ((t.met ≡ deep) × (n ≡ p)))
+Told (legalised p ks deep) t m n = (t.legal ≡ true) × ((t.fired.items ≡ ks) × ((t.met ≡ deep) × (n ≡ p)))
 Told (failed deep) t m n = (t.legal ≡ false) × ((t.met ≡ deep) × (n ≡ m))
 Told (stopped e) t m n = ⊥
 
 abbrev pub Stops : Outcome → Things → Refusal → Type 0
-Stops (legalised p k deep) c e = IsWant c e
+Stops (legalised p ks deep) c e = IsWant c e
 Stops (failed deep) c e = IsWant c e
 Stops (stopped f) c e = (e ≡ f) ⊎ IsWant c e
 
@@ -109,7 +120,7 @@ Comes o (Err e) a b = Stops o b.things e × (b.held ≡ a.held)
 
 -- the same where a mark stands before it: where it fails or is refused, the module may be any
 abbrev pub ToldBehind : Outcome → Tried → Module → Type 0
-ToldBehind (legalised p k deep) t n = (t.legal ≡ true) × ((t.count ≡ k) × ((t.met ≡ deep) × (n ≡ p)))
+ToldBehind (legalised p ks deep) t n = (t.legal ≡ true) × ((t.fired.items ≡ ks) × ((t.met ≡ deep) × (n ≡ p)))
 ToldBehind (failed deep) t n = (t.legal ≡ false) × (t.met ≡ deep)
 ToldBehind (stopped e) t n = ⊥
 
@@ -135,21 +146,51 @@ abbrev pub Wants : Things → Fault → Type 0
 Wants c f = (f.id ≡ None) × IsWant c f.refusal
 
 abbrev pub Faults : Ended → Fault → Things → Type 0
-Faults (converted m k) f c = Wants c f
+Faults (converted m ks) f c = Wants c f
 Faults (given_up e x) f c = ((f.refusal ≡ e) × (f.id ≡ x)) ⊎ Wants c f
 
-abbrev pub EndsWith : Ended → ℕ → Module → Type 0
-EndsWith (converted m k) n p = (n ≡ k) × (p ≡ m)
-EndsWith (given_up e x) n p = ⊥
+-- with the rules that stand
+abbrev pub Stands : Ended → List Stood → Module → Type 0
+Stands (converted m ks) ns p = (ns ≡ ks) × (p ≡ m)
+Stands (given_up e x) ns p = ⊥
 
-abbrev pub Ends : Ended → Result ℕ Fault → State → Type 0
-Ends e (Ok n) s = EndsWith e n s.held
+abbrev pub Ends : Ended → Result (List Stood) Fault → State → Type 0
+Ends e (Ok ks) s = Stands e ks s.held
 Ends e (Err f) s = Faults e f s.things
 
 -- of a part that makes no rule stand
-abbrev pub none_of : {A : Type 0} → Result A Fault → Result ℕ Fault
-none_of (Ok u) = Ok 0
+abbrev pub none_of : {A : Type 0} → Result A Fault → Result (List Stood) Fault
+none_of (Ok u) = Ok []
 none_of (Err f) = Err f
+
+-- of one that makes some
+abbrev pub listed : Result (Vec Stood Global) Stopped → Result (List Stood) Fault
+listed (Ok v) = Ok v.items
+listed (Err e) = Err e.fault
+
+-- what is told of an operation that stays, beside a fault; where all goes well, none does
+abbrev pub Stays : {A : Type 0} → Option (ℕ × Stay) → Result A Stopped → Type 0
+Stays s (Ok u) = s ≡ None
+Stays s (Err e) = e.stay ≡ stay_told e.fault.id s
+
+-- how it stops at an operation that can't be legalised: for that and with that, or for want of memory
+abbrev pub StopsAt : Bool → ℕ → Stay → Stopped → Type 0
+StopsAt met x s e =
+    ((e.fault.refusal ≡ failing met) × ((e.fault.id ≡ Some x) × (e.stay ≡ Some s)))
+    ⊎ ((e.fault.refusal ≡ Memory) × ((e.fault.id ≡ None) × (e.stay ≡ None)))
+
+-- so many rules stand at most, since there are no more ids
+abbrev pub most_rules : ℕ
+most_rules = 4294967295
+
+-- with how many rules stand
+abbrev pub EndsWith : Ended → ℕ → Module → Type 0
+EndsWith (converted m ks) n p = (n ≡ length ks) × (p ≡ m)
+EndsWith (given_up e x) n p = ⊥
+
+abbrev pub EndsBehind : Ended → Result ℕ Fault → State → Type 0
+EndsBehind e (Ok n) s = EndsWith e n s.held
+EndsBehind e (Err f) s = Faults e f s.things
 
 -- and without a mark: where it is given up, the module stays
 abbrev pub Converts : Ended → Result ℕ Fault → State → State → Type 0

@@ -12,9 +12,14 @@ mod parts;
 mod places;
 mod rewriting;
 mod rules;
+pub mod stay;
+mod stopped;
+pub mod teller;
 mod tried;
 mod walk;
+mod why;
 
-pub use conversion_base::{laws, names, rule, target};
+pub use conversion_base::{laws, names, rule, stood, target};
 pub use patterns;
 pub use patterns::rewriter;
+pub use patterns_reasons::condition;

@@ -1,17 +1,28 @@
 //! Dialect conversion: the operations of a module are legalised in turn, then casts are reconciled.
-ghost use Rattle.std.specs.Prelude.{◌≡◌, ◌+◌, ◌≤◌, [], true, IfOk, OnErr, OnOk, is_ok};
+ghost use Rattle.std.specs.Prelude.{◌≡◌, ℕ, ◌+◌, ◌≤◌, [], length, true, Option, IfErr, IfOk, OnErr, OnOk, is_ok};
 ghost use Rattle.ir_event.specs.trees.Ids.{ids};
+ghost use Rattle.ir_event.specs.Modules.{Module};
 ghost use Rattle.patterns.specs.rewriter.Moves.{Recorded};
 ghost use Rattle.conversion_base.specs.Conversion.{all_parts, cast_at as cast_end, casts_left, checked, converted};
 ghost use Rattle.conversion_base.specs.Conversion.{conversion_of, failing as failing_of, first_illegal, has_no_cast};
 ghost use Rattle.conversion_base.specs.Conversion.{in_turn, later_parts, legalised_at as legalised_end};
-ghost use Rattle.conversion.specs.States.{Converts, Ends, Leads, none_of};
+ghost use Rattle.conversion.specs.Converting.{stood_in};
+ghost use Rattle.conversion_base.specs.Legalization.{legalization_of, standing};
+ghost use Rattle.conversion.specs.States.{Converts, Ends, EndsBehind, Leads, Stays, StopsAt, listed, most_rules};
+ghost use Rattle.conversion.specs.States.{none_of};
+ghost use Rattle.conversion.specs.Staying.{last_rule, stay_by, stay_of, stay_told, staying, stays_on};
+ghost use Rattle.conversion.specs.declared.stay.Stay.{Stay as Why};
 ghost use Rattle.conversion_base.specs.Targets.{IsAimIn, IsNamedIn, aim_of};
 
 use crate::collapsing::collapse_all;
 use crate::fault::Fault;
-use crate::legalise::{close, legalise};
+use crate::legalise::{append, close, legalise};
 use crate::rewriting::{Rewriting, Rules};
+use crate::stay::Stay;
+use crate::stopped::Stopped;
+use crate::teller::Teller;
+use crate::why::stay_at;
+use conversion_base::stood::Stood;
 use conversion_base::target::Target;
 use ir_event::types::ids::OpId;
 use ir_event::types::refusal::Refusal;
@@ -27,55 +38,74 @@ fn failing(met: bool) -> Refusal
     Refusal::NotLegalised
 }
 
-/// Legalises an operation of the start, if it still stands. The answer is how many rules stand.
+/// How a conversion stops at an operation of the start that can't be legalised.
+fn stopped_at<B: Rules>(alloc: Global, bench: &B, target: &Target, op: OpId, met: bool) -> Stopped
+    ensures { StopsAt met op (stay_by (last_rule target.now.rules) (B.state bench.now).held op) result }
+{
+    match stay_at(alloc, bench, target, op) {
+        Ok(stay) => Stopped::at(failing(met), op, stay),
+        Err(refusal) => Stopped::of(refusal),
+    }
+}
+
+/// Legalises an operation of the start, if it still stands. The answer is the rules that stand.
 fn legalise_at<B: Rules>(
     alloc: Global,
     bench: &mut B,
     target: &Target,
     op: OpId,
-) -> Result<u32, Fault>
+) -> Result<Vec<Stood>, Stopped>
     requires aim { IsAimIn (B.state bench.old).things target.now }
     ensures ends { Ends (legalised_end (aim_of (B.state bench.old).things target.now)
-        (B.state bench.old).held op) result (B.state bench.new) }
-    ensures few { IfOk result (λ k. k + (B.state bench.old).held.next ≤ (B.state bench.new).held.next) }
+        (B.state bench.old).held op) (listed result) (B.state bench.new) }
+    ensures stays { (next : Module → Option (ℕ × Why)) → IfErr result (λ e. e.stay ≡ stay_told e.fault.id
+        (stays_on next op (stay_by (last_rule target.now.rules) (B.state bench.old).held op)
+        (standing (legalization_of (aim_of (B.state bench.old).things target.now) target.now.depth)
+        (B.state bench.old).held op))) }
+    ensures few { IfOk result (λ v. length v.items + (B.state bench.old).held.next ≤ (B.state bench.new).held.next) }
     ensures leads { Leads B.state B.desk B.led bench.old bench.new }
 {
     match legalise(alloc, bench, target, target.depth, op) {
         Ok(tried) => {
             if tried.legal {
-                return Ok(tried.count);
+                return Ok(tried.fired);
             }
-            Err(Fault::at(failing(tried.met), op))
+            Err(stopped_at(alloc, bench, target, op, tried.met))
         }
-        Err(refusal) => Err(Fault::of(refusal)),
+        Err(refusal) => Err(Stopped::of(refusal)),
     }
 }
 
-/// Legalises operations in turn. The answer is how many rules stand.
+/// Legalises operations in turn. The answer is the rules that stand, in the order in which they were applied.
 fn legalise_each<B: Rules>(
     alloc: Global,
     bench: &mut B,
     target: &Target,
     ops: &[OpId],
-) -> Result<u32, Fault>
+) -> Result<Vec<Stood>, Stopped>
     requires aim { IsAimIn (B.state bench.old).things target.now }
     ensures ends { Ends (in_turn (legalised_end (aim_of (B.state bench.old).things target.now)) ops.now
-        (B.state bench.old).held) result (B.state bench.new) }
+        (B.state bench.old).held) (listed result) (B.state bench.new) }
+    ensures stays { Stays (staying (aim_of (B.state bench.old).things target.now) ops.now (B.state bench.old).held)
+        result }
+    ensures few { IfOk result (λ v. length v.items ≤ most_rules) }
     ensures leads { Leads B.state B.desk B.led bench.old bench.new }
 {
-    let mut count = 0;
+    let mut fired = Vec::new(alloc);
     let mut rest = ops;
     'ops: while let [op, tail @ ..] = rest {
         match legalise_at(alloc, bench, target, *op) {
             Ok(more) => {
-                let _free = bench.next_id();
-                count += more;
+                if let Err(refusal) = append(&mut fired, &more) {
+                    return Err(Stopped::of(refusal));
+                }
             }
-            Err(fault) => return Err(fault),
+            Err(stopped) => return Err(stopped),
         }
         rest = tail;
     }
-    Ok(count)
+    let _free = bench.next_id();
+    Ok(fired)
 }
 
 /// Puts an `arith.index_cast` in the place of an operation, if it still stands and is a cast.
@@ -156,34 +186,48 @@ fn check<B: Rewriting>(bench: &B, target: &Target) -> Result<(), Fault>
     }
 }
 
-/// Converts a module behind a mark: where it is refused, the module may be any.
-fn convert_parts<B: Rules>(alloc: Global, bench: &mut B, target: &Target) -> Result<u32, Fault>
+/// Converts a module behind a mark: where it is refused, the module may be any. The answer is the rules that stand.
+fn convert_parts<B: Rules>(
+    alloc: Global,
+    bench: &mut B,
+    target: &Target,
+) -> Result<Vec<Stood>, Stopped>
     requires aim { IsAimIn (B.state bench.old).things target.now }
-    ensures ends { Ends (all_parts (aim_of (B.state bench.old).things target.now) (B.state bench.old).held) result
-        (B.state bench.new) }
+    ensures ends { Ends (all_parts (aim_of (B.state bench.old).things target.now) (B.state bench.old).held)
+        (listed result) (B.state bench.new) }
+    ensures stays { Stays (staying (aim_of (B.state bench.old).things target.now)
+        (ids (B.state bench.old).held.tree) (B.state bench.old).held) result }
+    ensures few { IfOk result (λ v. length v.items ≤ most_rules) }
     ensures none { OnOk result (has_no_cast (B.state bench.new).held.tree ≡ true) }
     ensures leads { Leads B.state B.desk B.led bench.old bench.new }
 {
-    let count = match legalise_all(alloc, bench, target) {
-        Ok(count) => count,
-        Err(fault) => return Err(fault),
+    let fired = match legalise_all(alloc, bench, target) {
+        Ok(fired) => fired,
+        Err(stopped) => return Err(stopped),
     };
     match reconcile(alloc, bench, target) {
-        Ok(()) => Ok(count),
-        Err(fault) => Err(fault),
+        Ok(()) => Ok(fired),
+        Err(fault) => Err(Stopped::behind(fault)),
     }
 }
 
-/// Legalises the operations of the module, as they are at the start, in pre-order. The answer is how many rules stand.
-fn legalise_all<B: Rules>(alloc: Global, bench: &mut B, target: &Target) -> Result<u32, Fault>
+/// Legalises the operations of the module, as they are at the start, in pre-order. The answer is the rules that stand.
+fn legalise_all<B: Rules>(
+    alloc: Global,
+    bench: &mut B,
+    target: &Target,
+) -> Result<Vec<Stood>, Stopped>
     requires aim { IsAimIn (B.state bench.old).things target.now }
     ensures ends { Ends (in_turn (legalised_end (aim_of (B.state bench.old).things target.now))
-        (ids (B.state bench.old).held.tree) (B.state bench.old).held) result (B.state bench.new) }
+        (ids (B.state bench.old).held.tree) (B.state bench.old).held) (listed result) (B.state bench.new) }
+    ensures stays { Stays (staying (aim_of (B.state bench.old).things target.now)
+        (ids (B.state bench.old).held.tree) (B.state bench.old).held) result }
+    ensures few { IfOk result (λ v. length v.items ≤ most_rules) }
     ensures leads { Leads B.state B.desk B.led bench.old bench.new }
 {
     match bench.operations() {
         Ok(ops) => legalise_each(alloc, bench, target, &ops),
-        Err(_) => Err(Fault::of(Refusal::Memory)),
+        Err(_) => Err(Stopped::of(Refusal::Memory)),
     }
 }
 
@@ -191,7 +235,7 @@ fn legalise_all<B: Rules>(alloc: Global, bench: &mut B, target: &Target) -> Resu
 fn reconcile<B: Rewriting>(alloc: Global, bench: &mut B, target: &Target) -> Result<(), Fault>
     requires aim { IsAimIn (B.state bench.old).things target.now }
     ensures ends { Ends (later_parts (aim_of (B.state bench.old).things target.now)
-        (converted (B.state bench.old).held 0)) (none_of result) (B.state bench.new) }
+        (converted (B.state bench.old).held [])) (none_of result) (B.state bench.new) }
     ensures none { OnOk result (has_no_cast (B.state bench.new).held.tree ≡ true) }
     ensures leads { Leads B.state B.desk B.led bench.old bench.new }
 {
@@ -204,6 +248,55 @@ fn reconcile<B: Rewriting>(alloc: Global, bench: &mut B, target: &Target) -> Res
     check(bench, target)
 }
 
+/// How many rules stand.
+fn count_of(fired: &[Stood]) -> u32
+    requires { length fired.now ≤ most_rules }
+    ensures { result ≡ length fired.now }
+{
+    fired.len() as u32
+}
+
+/// Tells why an operation stays, if one does.
+fn tell_stay<T: Teller>(teller: &mut T, stay: Option<Stay>)
+    ensures { T.stayed stay teller.old teller.new }
+{
+    if let Some(stay) = stay {
+        teller.stay(stay);
+    }
+}
+
+/// Converts a module behind a mark, and tells of it: where it is refused, the module may be any. The answer is how many
+/// rules stand.
+fn convert_marked<B: Rules, T: Teller>(
+    alloc: Global,
+    bench: &mut B,
+    target: &Target,
+    teller: &mut T,
+) -> Result<u32, Fault>
+    requires aim { IsAimIn (B.state bench.old).things target.now }
+    ensures told { OnOk result (T.told
+        (stood_in (all_parts (aim_of (B.state bench.old).things target.now) (B.state bench.old).held)) teller.old
+        teller.new) }
+    ensures stays { IfErr result (λ f. T.stayed
+        (stay_told f.id (staying (aim_of (B.state bench.old).things target.now) (ids (B.state bench.old).held.tree)
+        (B.state bench.old).held)) teller.old teller.new) }
+    ensures ends { EndsBehind (all_parts (aim_of (B.state bench.old).things target.now) (B.state bench.old).held) result
+        (B.state bench.new) }
+    ensures none { OnOk result (has_no_cast (B.state bench.new).held.tree ≡ true) }
+    ensures leads { Leads B.state B.desk B.led bench.old bench.new }
+{
+    match convert_parts(alloc, bench, target) {
+        Ok(fired) => match teller.tell(&fired) {
+            Ok(()) => Ok(count_of(&fired)),
+            Err(refusal) => Err(Fault::of(refusal)),
+        },
+        Err(stopped) => {
+            tell_stay(teller, stopped.stay);
+            Err(stopped.fault)
+        }
+    }
+}
+
 /// Whether a conversion went well.
 fn is_converted(made: &Result<u32, Fault>) -> bool
     ensures { result ≡ is_ok made.now }
@@ -213,17 +306,25 @@ fn is_converted(made: &Result<u32, Fault>) -> bool
 
 /// Converts the module of a bench: each of its operations that isn't legal for a target is legalised by rules, then
 /// casts between types are reconciled, and in full mode every operation has to be legal then. The answer is how many
-/// rules stand. It is whole or not made at all.
+/// rules stand; these are told. It is whole or not made at all; where an operation couldn't be legalised, it is told
+/// why.
 ///
 /// Refusals: `BadTarget`; `NotLegalised` or `ChainTooDeep` for an operation of the start, and `Unreconciled` for a
 /// cast, and `NotLegalised` in full mode, each with its id; `Full` and `IdsExhausted`, where a rule has no room; and
 /// `Memory`.
-pub(crate) fn convert_with<B: Rules>(
+pub(crate) fn convert_with<B: Rules, T: Teller>(
     alloc: Global,
     bench: &mut B,
     target: &Target,
+    teller: &mut T,
 ) -> Result<u32, Fault>
     requires names { IsNamedIn (B.state bench.old).things target.now }
+    ensures told { OnOk result (T.told
+        (stood_in (conversion_of (aim_of (B.state bench.old).things target.now) (B.state bench.old).held)) teller.old
+        teller.new) }
+    ensures stays { IfErr result (λ f. T.stayed
+        (stay_told f.id (stay_of (aim_of (B.state bench.old).things target.now) (B.state bench.old).held)) teller.old
+        teller.new) }
     ensures converts { Converts
         (conversion_of (aim_of (B.state bench.old).things target.now) (B.state bench.old).held) result
         (B.state bench.old) (B.state bench.new) }
@@ -237,7 +338,7 @@ pub(crate) fn convert_with<B: Rules>(
     if let Err(refusal) = bench.step() {
         return Err(Fault::of(refusal));
     }
-    let made = convert_parts(alloc, bench, target);
+    let made = convert_marked(alloc, bench, target, teller);
     close(bench, is_converted(&made));
     made
 }

@@ -10,6 +10,7 @@ ghost use Rattle.conversion_base.specs.Rewrites.{rewrite_of};
 ghost use Rattle.conversion_base.specs.RuleNames.{is_converting};
 ghost use Rattle.conversion_base.specs.Targets.{IsAimIn, IsNamedIn, aim_of, is_accepted, is_legal};
 ghost use Rattle.conversion_base.specs.Reconciling.{collapse, index_rewrite, is_cast};
+ghost use Rattle.patterns_reasons.specs.Reasons.{reason_of};
 ghost use Rattle.conversion.specs.Walks.{Gives};
 ghost use Rattle.conversion.specs.States.{State, Answers, Committed, Leads, RolledBack, marked, marked_desk};
 
@@ -17,6 +18,7 @@ use conversion_base::rule::Rule;
 use conversion_base::target::Target;
 use ir_event::types::ids::OpId;
 use ir_event::types::refusal::Refusal;
+use patterns_reasons::condition::Condition;
 use std::alloc::Global;
 
 /// A bench. Each call that is refused leaves the module and the marks as they were.
@@ -108,4 +110,9 @@ pub(crate) trait Rules: Rewriting {
         ensures answers { Answers (rewrite_of rule (Self.state self.old).held op) result (Self.state self.old)
             (Self.state self.new) }
         ensures leads { Leads Self.state Self.desk Self.led self.old self.new };
+
+    /// Why a rule doesn't apply at an operation: the first of its conditions that doesn't hold.
+    fn reason(&self, alloc: Global, rule: Rule, op: OpId) -> Result<Option<Condition>, Refusal>
+        ensures ok { IfOk result (λ c. c ≡ reason_of rule (Self.state self.now).held op) }
+        ensures refused { IfErr result (λ e. e ≡ NoMemory) };
 }

@@ -1,12 +1,14 @@
 //! What is told of a try.
 
+use conversion_base::stood::Stood;
+
 /// What is told of a try to legalise operations.
-#[derive(Clone, Copy)]
+#[derive(Drop)]
 pub(crate) struct Tried {
     /// Whether all went well.
     pub(crate) legal: bool,
-    /// How many rules stand then.
-    pub(crate) count: u32,
+    /// The rules that stand then, in the order in which they were applied.
+    pub(crate) fired: Vec<Stood>,
     /// Whether an operation that isn't legal was met at the greatest depth.
     pub(crate) met: bool,
 }

@@ -44,7 +44,8 @@ use Rattle.patterns_base.specs.Rewrites.{Rewrite, none, refused, becomes, rewrit
 use Rattle.patterns_base.specs.Words.{named}
 use Rattle.conversion_base.specs.Targets.{cast_name}
 use Rattle.conversion_base.specs.Reconciling.{index_edits, index_rewrite, is_cast, is_cast_found, takes_index}
-use Rattle.conversion_base.specs.Conversion.{Ended, converted, given_up, counted, next_part, in_turn, cast_ended, cast_at, casts_left, has_no_cast}
+use Rattle.conversion_base.specs.Conversion.{Ended, converted, given_up, ended_behind, next_part, in_turn, cast_ended, cast_at, casts_left, has_no_cast}
+use Rattle.conversion_base.specs.declared.stood.Stood.{Stood as Applied}
 use Rattle.conversion_base.proofs.Makes.{given_some, carried}
 use Rattle.conversion_base.proofs.Falls.{cast_there, found_id}
 use Rattle.patterns_base.proofs.Facts.{when_some}
@@ -268,18 +269,18 @@ among_all m w = record {
 }
 
 -- one that ends a part ends what comes before it
-pub ended_before : (f : Module → Ended) (e : Ended) (n : Module) (k : ℕ) → next_part f e ≡ converted n k → (p : Module) × (j : ℕ) × (e ≡ converted p j) × (i : ℕ) × (f p ≡ converted n i)
-ended_before f (converted p j) n k e = (let r = go (f p) refl e in (p, j, refl, r.0, r.1))
+pub ended_before : (f : Module → Ended) (e : Ended) (n : Module) (ks : List Applied) → next_part f e ≡ converted n ks → (p : Module) × (js : List Applied) × (e ≡ converted p js) × (is : List Applied) × (f p ≡ converted n is)
+ended_before f (converted p js) n ks e = (let r = go (f p) refl e in (p, js, refl, r.0, r.1))
   where
-    go : (d : Ended) → f p ≡ d → counted j d ≡ converted n k → (i : ℕ) × (f p ≡ converted n i)
-    go (converted q i) g e = (i, g ∙ (let same : q ≡ n = cc in ap (λ r. converted r i) same))
+    go : (d : Ended) → f p ≡ d → ended_behind js d ≡ converted n ks → (is : List Applied) × (f p ≡ converted n is)
+    go (converted q is) g e = (is, g ∙ (let same : q ≡ n = cc in ap (λ r. converted r is) same))
     go (given_up r x) g e = absurd cc
-ended_before f (given_up r x) n k e = absurd cc
+ended_before f (given_up r x) n ks e = absurd cc
 
-one_less : (x : ℕ) (xs : List ℕ) (m n : Module) (k : ℕ) → Among (x ∷ xs) m → cast_at m x ≡ converted n k → Among xs n
-one_less x xs m n k a e = go (is_cast x m.tree) refl e
+one_less : (x : ℕ) (xs : List ℕ) (m n : Module) (ks : List Applied) → Among (x ∷ xs) m → cast_at m x ≡ converted n ks → Among xs n
+one_less x xs m n ks a e = go (is_cast x m.tree) refl e
   where
-    index_step : (r : Rewrite) → index_rewrite m x ≡ r → cast_ended x r ≡ converted n k → Among xs n
+    index_step : (r : Rewrite) → index_rewrite m x ≡ r → cast_ended x r ≡ converted n ks → Among xs n
     index_step none f e = absurd cc
     index_step (refused r) f e = absurd cc
     index_step (becomes p) f e =
@@ -290,7 +291,7 @@ one_less x xs m n k a e = go (is_cast x m.tree) refl e
           among = λ y c. let was = w.was y c in elim (a.among y was.0) [ inl e ↦ absurd (was.1 e) | inr h ↦ h ];
         })
 
-    go : (b : Bool) → is_cast x m.tree ≡ b → cond b (cast_ended x (index_rewrite m x)) (converted m 0) ≡ converted n k → Among xs n
+    go : (b : Bool) → is_cast x m.tree ≡ b → cond b (cast_ended x (index_rewrite m x)) (converted m []) ≡ converted n ks → Among xs n
     go true f e = index_step (index_rewrite m x) refl e
     go false f e =
         (let same : m ≡ n = cc in
@@ -299,13 +300,13 @@ one_less x xs m n k a e = go (is_cast x m.tree) refl e
           among = λ y c. elim (a.among y c) [ inl e ↦ absurd (true≢false (sym c ∙ ap (λ z. is_cast z m.tree) e ∙ f)) | inr h ↦ h ];
         }))
 
-none_among : (xs : List ℕ) (m n : Module) (k : ℕ) → Among xs m → in_turn cast_at xs m ≡ converted n k → Among [] n
-none_among [] m n k a e = (let same : m ≡ n = cc in subst (Among []) same a)
-none_among (x ∷ xs) m n k a e = (let s = ended_before (in_turn cast_at xs) (cast_at m x) n k e in none_among xs s.0 n s.3 (one_less x xs m s.0 s.1 a s.2) s.4)
+none_among : (xs : List ℕ) (m n : Module) (ks : List Applied) → Among xs m → in_turn cast_at xs m ≡ converted n ks → Among [] n
+none_among [] m n ks a e = (let same : m ≡ n = cc in subst (Among []) same a)
+none_among (x ∷ xs) m n ks a e = (let s = ended_before (in_turn cast_at xs) (cast_at m x) n ks e in none_among xs s.0 n s.3 (one_less x xs m s.0 s.1 a s.2) s.4)
 
-pub no_cast_is_left : (m n : Module) (k : ℕ) → IsWellFormed is_isolated m → casts_left m ≡ converted n k → has_no_cast n.tree ≡ true
-no_cast_is_left m n k w e =
-    let a = none_among (ids m.tree) m n k (among_all m w) e in
+pub no_cast_is_left : (m n : Module) (ks : List Applied) → IsWellFormed is_isolated m → casts_left m ≡ converted n ks → has_no_cast n.tree ≡ true
+no_cast_is_left m n ks w e =
+    let a = none_among (ids m.tree) m n ks (among_all m w) e in
     sym (stands_every (λ o. not (named cast_name (head o).name)) [] n.tree)
     ∙ each_all (λ (s : StandOf (List ℕ) TypeTerm AttrTerm). not (named cast_name (head s.here).name)) (stands [] n.tree) (λ s h. elim (bool_cases (named cast_name (head s.here).name)) [
       | inr f ↦ ap not f

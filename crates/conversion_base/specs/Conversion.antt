@@ -1,5 +1,5 @@
 -- Dialect conversion (Dialect Conversion, "Modes of Conversion").
-use Rattle.std.specs.Prelude.{ℕ, ◌+◌, List, [], ◌∷◌, Bool, true, false, not, if◌then◌else◌, Option, Some, None}
+use Rattle.std.specs.Prelude.{ℕ, List, [], ◌∷◌, ◌++◌, Bool, true, false, not, if◌then◌else◌, Option, Some, None}
 use Rattle.ir_event.specs.types.declared.refusal.Refusal.{Refusal}
 use Rattle.ir_event.specs.types.declared.refusal.Refusal.TheVariants.{NotLegalised, ChainTooDeep}
 use Rattle.ir_event.specs.types.declared.refusal.Refusal.TheVariants.{Unreconciled, BadTarget}
@@ -13,26 +13,27 @@ use Rattle.patterns_base.specs.Words.{named}
 use Rattle.conversion_base.specs.Targets.{Aim, cast_name, is_accepted, is_legal}
 use Rattle.conversion_base.specs.Legalization.{Outcome, legalised, failed, stopped, legalization_of, standing}
 use Rattle.conversion_base.specs.Reconciling.{all_collapsed, index_rewrite, is_cast}
+use Rattle.conversion_base.specs.declared.stood.Stood.{Stood}
 
--- how a conversion ends: with a module, and how many rules stand in it; or with a refusal, and the id of an operation,
--- if it is for one
+-- how a conversion ends: with a module, and the rules that stand in it, in the order in which they were applied; or with
+-- a refusal, and the id of an operation, if it is for one
 pub data Ended : Type 0 where
-  converted : Module → ℕ → Ended
+  converted : Module → List Stood → Ended
   given_up : Refusal → Option ℕ → Ended
 
--- an end behind so many rules that stand
-abbrev pub counted : ℕ → Ended → Ended
-counted k (converted m n) = converted m (k + n)
-counted k (given_up e x) = given_up e x
+-- an end behind rules that stand
+abbrev pub ended_behind : List Stood → Ended → Ended
+ended_behind ks (converted m ns) = converted m (ks ++ ns)
+ended_behind ks (given_up e x) = given_up e x
 
 -- what comes next, where it wasn't given up
 abbrev pub next_part : (Module → Ended) → Ended → Ended
-next_part f (converted m k) = counted k (f m)
+next_part f (converted m ks) = ended_behind ks (f m)
 next_part f (given_up e x) = given_up e x
 
 -- some operations in turn
 abbrev pub in_turn : (Module → ℕ → Ended) → List ℕ → Module → Ended
-in_turn f [] m = converted m 0
+in_turn f [] m = converted m []
 in_turn f (x ∷ xs) m = next_part (in_turn f xs) (f m x)
 
 -- ---- legalising
@@ -43,7 +44,7 @@ failing true = ChainTooDeep
 failing false = NotLegalised
 
 abbrev pub ended_at : ℕ → Outcome → Ended
-ended_at x (legalised m k met) = converted m k
+ended_at x (legalised m ks met) = converted m ks
 ended_at x (failed met) = given_up (failing met) (Some x)
 ended_at x (stopped e) = given_up e None
 
@@ -54,19 +55,19 @@ legalised_at g m x = ended_at x (standing (legalization_of g g.depth) m x)
 -- ---- reconciling
 
 abbrev pub ended : Rewrite → Module → Ended
-ended none m = converted m 0
+ended none m = converted m []
 ended (refused e) m = given_up e None
-ended (becomes n) m = converted n 0
+ended (becomes n) m = converted n []
 
 -- a cast that is left becomes an `arith.index_cast`, or can't be reconciled
 abbrev pub cast_ended : ℕ → Rewrite → Ended
 cast_ended x none = given_up Unreconciled (Some x)
 cast_ended x (refused e) = given_up e None
-cast_ended x (becomes n) = converted n 0
+cast_ended x (becomes n) = converted n []
 
 -- an operation, if it is still there and a cast
 abbrev pub cast_at : Module → ℕ → Ended
-cast_at m x = if is_cast x m.tree then cast_ended x (index_rewrite m x) else converted m 0
+cast_at m x = if is_cast x m.tree then cast_ended x (index_rewrite m x) else converted m []
 
 -- all casts of a module, in pre-order
 abbrev pub casts_left : Module → Ended
@@ -84,12 +85,12 @@ first_illegal g t [] = None
 first_illegal g t (x ∷ xs) = if is_legal g x t then first_illegal g t xs else Some x
 
 abbrev pub ended_full : Option ℕ → Module → Ended
-ended_full None m = converted m 0
+ended_full None m = converted m []
 ended_full (Some x) m = given_up NotLegalised (Some x)
 
 -- in full mode every operation has to be legal
 abbrev pub checked : Aim → Module → Ended
-checked g m = if g.full then ended_full (first_illegal g m.tree (ids m.tree)) m else converted m 0
+checked g m = if g.full then ended_full (first_illegal g m.tree (ids m.tree)) m else converted m []
 
 -- ---- conversion
 

@@ -1,5 +1,5 @@
 //! Laws of conversion. Each is a function that does nothing: its contract is the law.
-ghost use Rattle.std.specs.Prelude.{◌≡◌, ◌<◌, ℕ, true};
+ghost use Rattle.std.specs.Prelude.{◌≡◌, ◌<◌, ℕ, List, true};
 ghost use Rattle.std.specs.List.{list_all};
 ghost use Rattle.ir_event.specs.types.Words.{is_isolated};
 ghost use Rattle.ir_event.specs.trees.Ids.{ids, op_count};
@@ -9,6 +9,7 @@ ghost use Rattle.patterns_base.specs.Rewrites.{becomes, none};
 ghost use Rattle.conversion_base.specs.Conversion.{casts_left, conversion_of, converted, has_no_cast};
 ghost use Rattle.conversion_base.specs.Reconciling.{all_collapsed, collapse, next_collapse};
 ghost use Rattle.conversion_base.specs.Targets.{Aim, is_legal};
+ghost use Rattle.conversion_base.specs.declared.stood.Stood.{Stood};
 
 /// A cast that is taken away takes an operation away; so as many steps as there are operations are enough, and behind
 /// them no cast is left that isn't used or that collapses.
@@ -19,12 +20,12 @@ pub fn none_is_left()
 
 /// Where all casts of a well-formed module became others, no cast is left.
 pub fn no_cast_is_left()
-    ensures { (m n : Module) (k : ℕ) → IsWellFormed is_isolated m → casts_left m ≡ converted n k
+    ensures { (m n : Module) (ks : List Stood) → IsWellFormed is_isolated m → casts_left m ≡ converted n ks
         → has_no_cast n.tree ≡ true }
 {}
 
 /// After a full conversion every operation is legal.
 pub fn full_conversions_are_legal()
-    ensures { (g : Aim) (m n : Module) (k : ℕ) → g.full ≡ true → conversion_of g m ≡ converted n k
+    ensures { (g : Aim) (m n : Module) (ks : List Stood) → g.full ≡ true → conversion_of g m ≡ converted n ks
         → list_all (λ x. is_legal g x n.tree) (ids n.tree) ≡ true }
 {}

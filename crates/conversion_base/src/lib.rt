@@ -6,6 +6,7 @@ pub mod casts;
 pub mod laws;
 pub mod legal;
 pub mod names;
+pub mod stood;
 pub mod target;
 
 pub use patterns_base::rule;

@@ -1,14 +1,15 @@
 -- What a line may say beside the commands of a bench: what only a session can do.
-use Rattle.std.specs.Prelude.{ℕ, List, ◌==◌, Option, Some, None, if◌then◌else◌, codes, length, option_and_then}
+use Rattle.std.specs.Prelude.{ℕ, Bool, List, ◌==◌, Option, Some, None, if◌then◌else◌, codes, length, option_and_then}
 use Rattle.std.specs.Option.{option_copied, option_map}
 use Rattle.std.specs.Str.{bytes_eq}
-use Rattle.rewriter_machine.specs.Commands.{RuleName}
+use Rattle.rewriter_machine.specs.Commands.{RuleName, Target}
+use Rattle.mlir_work_script.specs.Clauses.{Clauses, clauses_of, mode_of, no_clauses, target_of, with_clauses}
 use Rattle.mlir_work_script.specs.Kinds.{kind_of}
 use Rattle.mlir_work_script.specs.Numbers.{number_of}
 use Rattle.mlir_work_script.specs.RuleNames.{are_tried, name_of, names_of, rule_in}
 use Rattle.mlir_work_script.specs.Values.{op_of}
 use Rattle.mlir_work_script.specs.Subjects.{subject_in}
-use Rattle.mlir_work_script.specs.Words.{word_of, after_word}
+use Rattle.mlir_work_script.specs.Words.{word_of, words_of, after_word}
 use Rattle.mlir_work_script.specs.declared.order.Order.{Order as Coded}
 use Rattle.mlir_work_script.specs.declared.order.Order.TheVariants as code
 use Rattle.mlir_work_script.specs.declared.subject.Subject.{Subject}
@@ -25,6 +26,8 @@ pub data Order : Type 0 where
   Rewrite : List RuleName → Option ℕ → Order
   -- and each rewrite is told; where no rules are named, those of canonicalization are applied
   Trace : Option (List RuleName) → Option ℕ → Order
+  -- operations are legalised for a target, and each rule that stands is told, or why an operation stays
+  TraceConvert : Target → Order
   -- those of canonicalization are applied at one operation until none applies there any more
   CanonAt : ℕ → Option ℕ → Order
   -- why rules don't apply at an operation is told: of those that the table has for its name, or of one
@@ -37,6 +40,7 @@ order_of code.PrintIds = PrintIds
 order_of (code.ReportOf kind subject) = ReportOf kind subject
 order_of (code.Rewrite rules limit) = Rewrite (names_of rules.now) limit
 order_of (code.Trace rules limit) = Trace (option_map names_of (option_copied rules)) limit
+order_of (code.TraceConvert full clauses) = TraceConvert (target_of full (clauses_of clauses))
 order_of (code.CanonAt op limit) = CanonAt op limit
 order_of (code.Why op rule) = Why op (option_map name_of rule)
 
@@ -117,6 +121,20 @@ canon_order_in rest =
     else if bytes_eq (word_of rest) (codes "at") then at_in (after_word rest)
     else None
 
+-- a mode and clauses, behind `convert trace`
+abbrev pub target_in : Option Bool → Option Clauses → Option Order
+target_in None clauses = None
+target_in (Some full) None = None
+target_in (Some full) (Some clauses) = Some (TraceConvert (target_of full clauses))
+
+-- partial or full, with clauses, behind the word trace
+abbrev pub convert_trace_in : List ℕ → Option Order
+convert_trace_in rest = target_in (mode_of (word_of rest)) (with_clauses (words_of (after_word rest)) (Some no_clauses))
+
+-- convert trace MODE CLAUSES, behind its name
+abbrev pub convert_order_in : List ℕ → Option Order
+convert_order_in rest = if bytes_eq (word_of rest) (codes "trace") then convert_trace_in (after_word rest) else None
+
 -- the order of this name, with the text behind the name
 abbrev pub order_named : List ℕ → List ℕ → Option Order
 order_named name rest =
@@ -125,6 +143,7 @@ order_named name rest =
     else if bytes_eq name (codes "report") then report_in rest
     else if bytes_eq name (codes "rewrite") then rewrite_in rest
     else if bytes_eq name (codes "canon") then canon_order_in rest
+    else if bytes_eq name (codes "convert") then convert_order_in rest
     else if bytes_eq name (codes "why") then why_in rest
     else None
 

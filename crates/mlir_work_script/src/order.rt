@@ -1,9 +1,11 @@
 //! What a line may say beside the commands of a bench.
 ghost use Rattle.std.specs.Prelude.{◌≡◌, None, Some, option_map};
 ghost use Rattle.mlir_work_script.specs.Orders.{attach_in, canon_order_in, ids_in, limit_in, order_in, order_named};
+ghost use Rattle.mlir_work_script.specs.Orders.{convert_order_in, convert_trace_in};
 ghost use Rattle.mlir_work_script.specs.Orders.{at_in, order_of, Rewrite, rewrite_in, rule_or_none, ruled_in, trace_in, why_in, report_in};
 ghost use Rattle.mlir_work_script.specs.RuleNames.{name_of, names_of};
 
+use crate::clauses::{Clauses, clauses_in, mode_named};
 use crate::kind::{Kind, kind_named};
 use crate::numbers::number;
 use crate::rule_name::{RuleName, are_tried, rule_named};
@@ -40,6 +42,13 @@ pub enum Order<'a> {
         rules: Option<&'a [u8]>,
         /// The most rewrites, where the line says so.
         limit: Option<u32>,
+    },
+    /// `convert trace MODE CLAUSES` converts, and tells each rule that stands, or why an operation stays.
+    TraceConvert {
+        /// Whether each operation has to be legal in the end.
+        full: bool,
+        /// The clauses.
+        clauses: Clauses<'a>,
     },
     /// `canon at #N [limit N]` applies the rules of canonicalization at one operation until none of them applies there
     /// any more, or so many times.
@@ -216,6 +225,27 @@ fn canon(rest: &[u8]) -> Option<Order<'_>>
     None
 }
 
+/// A mode and clauses, behind `convert trace`.
+fn convert_traced(rest: &[u8]) -> Option<Order<'_>>
+    ensures { option_map order_of result ≡ convert_trace_in rest.now }
+{
+    let (mode, rest) = split_word(rest);
+    let full = mode_named(mode)?;
+    let clauses = clauses_in(rest)?;
+    Some(Order::TraceConvert { full, clauses })
+}
+
+/// `convert trace MODE CLAUSES`, behind its name.
+fn convert(rest: &[u8]) -> Option<Order<'_>>
+    ensures { option_map order_of result ≡ convert_order_in rest.now }
+{
+    let (name, rest) = split_word(rest);
+    if name != b"trace".as_slice() {
+        return None;
+    }
+    convert_traced(rest)
+}
+
 /// The order of a name.
 fn order_named<'a>(name: &[u8], rest: &'a [u8]) -> Option<Order<'a>>
     ensures { option_map order_of result ≡ order_named name.now rest.now }
@@ -234,6 +264,9 @@ fn order_named<'a>(name: &[u8], rest: &'a [u8]) -> Option<Order<'a>>
     }
     if name == b"canon".as_slice() {
         return canon(rest);
+    }
+    if name == b"convert".as_slice() {
+        return convert(rest);
     }
     if name == b"why".as_slice() {
         return why(rest);

@@ -5,7 +5,7 @@ use Rattle.ir_event.specs.Modules.{Module}
 use Rattle.ir_text.specs.Printing.{text_of}
 use Rattle.ir_text.specs.Public.{SpellsAttr}
 use Rattle.mlir_work_transforms.specs.rewriter.Texts.{SpellsBeside}
-use Rattle.mlir_work_transforms.specs.rewriter.Commands.{AppliesRule, Apply, Canon, Command, Convert, Asked}
+use Rattle.mlir_work_transforms.specs.rewriter.Commands.{AppliesRule, Apply, Canon, Command, Convert, Asked, Target}
 use Rattle.mlir_work_transforms.specs.rewriter.Commands.{Ask, Asks, Misplaced, Response, Replied, Follows}
 use Rattle.mlir_work_transforms.specs.rewriter.Machine.{IsFullSo}
 use Rattle.mlir_work_transforms.specs.rewriter.Machine.{Reply as Answered, Shows, Nothing, Rows, Transformation, Tree}
@@ -14,10 +14,11 @@ use Rattle.mlir_work_transforms.specs.rewriter.Panels.{Shown}
 pub use Rattle.mlir_work_transforms.specs.rewriter.Machine.{State}
 pub use Rattle.mlir_work_book.specs.Replies.{response_of}
 use Rattle.mlir_work_book.specs.Replies.{is_accepted}
-use Rattle.mlir_work_script.specs.Orders.{Attach, CanonAt, Order, PrintIds, Rewrite, Trace, Why, ReportOf}
+use Rattle.mlir_work_script.specs.Orders.{Attach, CanonAt, Order, PrintIds, Rewrite, Trace, TraceConvert, Why, ReportOf}
 use Rattle.mlir_work_script.specs.declared.subject.Subject.{Subject}
 use Rattle.mlir_work_transforms.specs.greedy.Changes.{canonicalizing}
-use Rattle.mlir_work_transforms.specs.Converting.{conversion}
+use Rattle.mlir_work_transforms.specs.ConvertText.{conversion_text}
+use Rattle.mlir_work_transforms.specs.Converting.{command_aim, conversion}
 use Rattle.mlir_work_transforms.specs.Applying.{application}
 use Rattle.mlir_work_transforms.specs.Rewriting.{rewriting_named}
 use Rattle.mlir_work_transforms.specs.Sweep.{sweeping}
@@ -89,6 +90,7 @@ OrdersIn way (Attach kind) m asked = AttachesKind (way.supply kind) asked
 OrdersIn way PrintIds m asked = asked ≡ Ask call.Print
 OrdersIn way (Rewrite names limit) m asked = AppliesRule (rewriting_named names (limit_or way.manner.limit limit)) asked
 OrdersIn way (Trace names limit) m asked = AppliesRule (tracing names (limit_or way.manner.limit limit)) asked
+OrdersIn way (TraceConvert target) m asked = asked ≡ Ask (call.Change (conversion target))
 OrdersIn way (CanonAt x limit) m asked =
     asked ≡ Ask (call.Change (canonicalizing_at (limit_or way.manner.limit limit) x))
 OrdersIn way (Why x name) m asked = AsksWhy (asked_rules name x m) (has_id x m.tree) asked
@@ -111,6 +113,11 @@ abbrev pub told_if : Bool → List ℕ → List ℕ
 told_if true bytes = bytes
 told_if false bytes = []
 
+-- what is told of a conversion below the response to it
+abbrev pub converted_bytes : Target → Module → Response → List ℕ
+converted_bytes target m (Replied reply) = conversion_text (command_aim target) m reply
+converted_bytes target m _ = []
+
 -- the bytes that are shown below the reply to an order in a module: what the machine shows, or the rewrites, if they
 -- were made, or why rules don't apply
 abbrev pub order_bytes : Way → Order → Module → Response → Shows → List ℕ
@@ -120,6 +127,7 @@ order_bytes way (ReportOf kind subject) m response shows = order_shows (shows_ab
 order_bytes way (Rewrite names limit) m response shows = order_shows shows
 order_bytes way (Trace names limit) m response shows =
     told_if (is_accepted response) (trace_by (traced_rules names) (limit_or way.manner.limit limit) m)
+order_bytes way (TraceConvert target) m response shows = converted_bytes target m response
 order_bytes way (CanonAt x limit) m response shows = order_shows shows
 order_bytes way (Why x name) m response shows = told_if (is_accepted response) (why_text (asked_rules name x m) x m)
 
@@ -151,6 +159,7 @@ OrdersRoom full way s (Rewrite names limit) response =
     (f : Transformation) → rewriting_named names (limit_or way.manner.limit limit) ≡ Some f → FullSo full s f response
 OrdersRoom full way s (Trace names limit) response =
     (f : Transformation) → tracing names (limit_or way.manner.limit limit) ≡ Some f → FullSo full s f response
+OrdersRoom full way s (TraceConvert target) response = FullSo full s (conversion target) response
 OrdersRoom full way s (CanonAt x limit) response =
     FullSo full s (canonicalizing_at (limit_or way.manner.limit limit) x) response
 OrdersRoom full way s _ response = ⊤

@@ -3,24 +3,28 @@ ghost use Rattle.std.specs.Prelude.{◌≡◌, ℕ, Option, None, Some, option_m
 ghost use Rattle.std.specs.Option.{option_copied};
 ghost use Rattle.ir_text.specs.Public.{IsFull};
 ghost use Rattle.mlir_work_book.specs.Replies.{is_accepted};
-ghost use Rattle.mlir_work_script.specs.Orders.{Trace};
+ghost use Rattle.mlir_work_script.specs.Clauses.{clauses_of, target_of};
+ghost use Rattle.mlir_work_script.specs.Orders.{Trace, TraceConvert};
 ghost use Rattle.mlir_work_script.specs.RuleNames.{names_of};
+ghost use Rattle.mlir_work_transforms.specs.Converting.{conversion};
 ghost use Rattle.mlir_work_transforms.specs.TraceText.{tracing};
 ghost use Rattle.mlir_work_transforms.specs.greedy.Changes.{canonical_reply};
 ghost use Rattle.mlir_work_transforms.specs.rewriter.Benched.{IsKept, state_of};
 ghost use Rattle.mlir_work_transforms.specs.rewriter.Commands.{Replied};
 ghost use Rattle.mlir_work_transforms.specs.rewriter.Machine.{Transformation};
 ghost use Rattle.mlir_work_transforms.specs.rewriter.Panels.{Shown};
-ghost use Rattle.mlir_work_session.specs.Machine.{Fulfils, FullSo, limit_or, response_of, told_if, way_of};
+ghost use Rattle.mlir_work_session.specs.Machine.{Fulfils, FullSo, Way, limit_or, response_of, told_if, way_of};
 
 use crate::manner::Manner;
 use crate::reply::Reply;
-use crate::replying::reply_canonical;
+use crate::replying::{reply_canonical, reply_converted};
 use crate::shows::{Answered, plain};
 use crate::transforming::limit_of;
 use ir_event::analysis::Analysis;
 use ir_event::types::refusal::Refusal;
 use mlir_work_transforms::greedy::outcome::Outcome as Ended;
+use mlir_work_script::clauses::Clauses;
+use mlir_work_transforms::convert::convert_traced;
 use mlir_work_transforms::rewrite::rules_in;
 use mlir_work_transforms::rewriter::Bench;
 use mlir_work_transforms::rewriter::laws::led_benches_are_kept;
@@ -104,5 +108,27 @@ pub(crate) fn trace<L: Analysis>(
     match rules {
         None => canon(alloc, manner, bench, limit),
         Some(rules) => rewrite(alloc, manner, bench, rules, limit),
+    }
+}
+
+/// Legalises operations for the target that clauses say, reconciles casts between types, and tells each rule that
+/// stands, or why an operation stays.
+pub(crate) fn convert<L: Analysis>(
+    alloc: Global,
+    bench: &mut Bench<L>,
+    full: bool,
+    clauses: &Clauses<'_>,
+) -> Answered
+    requires { IsKept L.meaning bench.old }
+    ensures fulfils { (way : Way) → Fulfils way (state_of L.meaning bench.old) (TraceConvert (target_of full (clauses_of clauses.now))) (response_of result.reply) result.shows.items (state_of L.meaning bench.new) }
+    ensures room { FullSo (IsFull bench.new.desk.ctx) (state_of L.meaning bench.old) (conversion (target_of full (clauses_of clauses.now))) (response_of result.reply) }
+    ensures kept { IsKept L.meaning bench.new }
+    ensures mode { bench.new.desk.ctx.opaque ≡ bench.old.desk.ctx.opaque }
+{
+    led_benches_are_kept::<L>();
+    let traced = convert_traced(alloc, bench, full, clauses);
+    Answered {
+        reply: reply_converted(traced.called),
+        shows: traced.lines,
     }
 }

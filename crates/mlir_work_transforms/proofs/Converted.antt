@@ -1,6 +1,6 @@
 -- A conversion behind names that were interned is one of the bench before them.
-use Rattle.std.proofs.Common.{◌≡◌, refl, ap, sym, ◌∙◌, ◌⊎◌, subst, inl, inr, ℕ, [], ◌++◌, Result, Ok, Err, Option, Some, None}
-use Rattle.std.specs.Prelude.{MatchResult}
+use Rattle.std.proofs.Common.{◌≡◌, refl, ap, sym, ◌∙◌, ◌⊎◌, subst, inl, inr, ℕ, List, [], ◌++◌, Result, Ok, Err, Option, Some, None}
+use Rattle.std.specs.Prelude.{IfErr, MatchResult, OnOk}
 use Rattle.ir_event.specs.types.Sound.{Holds}
 use Rattle.ir_event.specs.types.declared.refusal.Refusal.{Refusal}
 use Rattle.ir_event.specs.types.declared.refusal.Refusal.TheVariants.{BadTarget, Full, Memory}
@@ -17,15 +17,18 @@ use Rattle.conversion.specs.rewriter.Machine.{Change, Goes, IsFullSo, Nothing, R
 use Rattle.conversion.proofs.Replied.{converts_goes}
 use Rattle.conversion.specs.Benches.{seen}
 use Rattle.conversion.specs.Conversion.{Ended, converted, given_up, conversion_of}
-use Rattle.conversion.specs.Converting.{conversion_reply, conversion_to, converting, ended_as, ending}
+use Rattle.conversion.specs.Converting.{conversion_reply, conversion_to, converting, ended_as, ending, stay_to, stood_in}
+use Rattle.conversion.specs.Staying.{stay_of, stay_told}
+use Rattle.conversion.specs.declared.stay.Stay.{Stay}
+use Rattle.conversion_base.specs.declared.stood.Stood.{Stood}
 use Rattle.conversion.specs.States.{State, Converts, Faults, IsFull, IsWant, Wants}
 use Rattle.conversion.specs.Targets.{Aim}
 use Rattle.conversion.specs.declared.fault.Fault.{Fault}
 use Rattle.mlir_work_transforms.specs.Interned.{Interned}
 
 -- a want is a fault of any end
-wants : (e : Ended) (refusal : Refusal) (s : State) → IsWant s.things refusal → Faults e (record { refusal = refusal; id = None }) s.things
-wants (converted m k) refusal s w = (refl, w)
+pub wants : (e : Ended) (refusal : Refusal) (s : State) → IsWant s.things refusal → Faults e (record { refusal = refusal; id = None }) s.things
+wants (converted m ks) refusal s w = (refl, w)
 wants (given_up f x) refusal s w = inr (refl, w)
 
 converts_from : (e : Ended) (r : Result ℕ Fault) (a m b : State) → m.held ≡ a.held → Converts e r m b → Converts e r a b
@@ -45,7 +48,7 @@ convert_full o s a b (Err f) c is = go (conversion_to o s.held) refl c.0
     wanted (none, inr (m, full)) = inr full
 
     go : (e : Ended) → conversion_to o s.held ≡ e → Faults e f b.things → (conversion_reply (Err f) ≡ (due s (Change (ending (conversion_to o)))).reply) ⊎ IsFull b.things
-    go (converted m k) so w = wanted w
+    go (converted m ks) so w = wanted w
     go (given_up x y) so (inl (p, q)) = inl ((λ i. fault_reply (p i) (q i)) ∙ sym (ap (λ (e : Ended). (due_change (ended_as e) s).reply) so))
     go (given_up x y) so (inr w) = wanted w
 
@@ -84,6 +87,15 @@ module _ {B : Type 0} (meaning : B → Listener) (o : Option Aim) (a m : Benched
     then_does d =
         subst (λ (s : Machine). Goes s (Change (ending (conversion_to o))) (conversion_reply r) Nothing (state_of meaning b)) interned.same
         (subst (λ (h : Option Aim). Goes (state_of meaning m) (Change (ending (conversion_to h))) (conversion_reply r) Nothing (state_of meaning b)) same d)
+
+    -- and what was told of it
+    pub then_told : (P : List Stood → Type 0) → OnOk r (P (stood_in (conversion_of aim (module_held m.desk)))) → OnOk r (P (stood_in (conversion_to o (module_held a.desk))))
+    then_told P h =
+        subst (λ (n : Module). OnOk r (P (stood_in (conversion_to o n)))) held_same (subst (λ (q : Option Aim). OnOk r (P (stood_in (conversion_to q (module_held m.desk))))) same h)
+
+    pub then_stays : (P : Option Stay → Type 0) → IfErr r (λ f. P (stay_told f.id (stay_of aim (module_held m.desk)))) → IfErr r (λ f. P (stay_told f.id (stay_to o (module_held a.desk))))
+    then_stays P h =
+        subst (λ (n : Module). IfErr r (λ f. P (stay_told f.id (stay_to o n)))) held_same (subst (λ (q : Option Aim). IfErr r (λ f. P (stay_told f.id (stay_to q (module_held m.desk))))) same h)
 
   -- the journal
   pub then_journal : {A : Type 0} (r : Result A Fault) (b : Benched B) → MatchResult r (λ _. Noted m.desk b.desk) (λ _. Recorded [] m.desk b.desk) → MatchResult r (λ _. Noted a.desk b.desk) (λ _. Recorded [] a.desk b.desk)

@@ -3,6 +3,7 @@ pub mod Order
 pub mod Applied
 pub mod AtRuns
 pub mod Converted
+pub mod Told
 pub mod Listed
 pub mod Named
 pub mod Ruled

@@ -3,6 +3,7 @@ pub mod At
 pub mod AtRuns
 pub mod Rewriting
 pub mod TraceText
+pub mod ConvertText
 pub mod TraceLaws
 pub mod Sweep
 pub mod WhyText

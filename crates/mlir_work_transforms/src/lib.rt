@@ -6,6 +6,7 @@
 pub mod apply;
 pub mod at;
 pub mod convert;
+mod convert_lines;
 pub mod laws;
 mod names;
 pub mod own;

@@ -1,18 +1,16 @@
-use Rattle.std.proofs.Common.{rules, arith, false, ◌≡◌, ◌∙◌, refl, sym, subst, true, ◌<◌, ℕ, List, slice_index_or, Ok, Err}
+use Rattle.std.proofs.Common.{rules, arith, false, ◌≡◌, ◌∙◌, refl, sym, subst, true, ℕ, List, [], ◌∷◌, ◌++◌, ap, slice_index_or, Ok, Err}
 use Rattle.patterns_base.specs.declared.rule.Rule.TheVariants.{EraseDead}
 use Rattle.conversion_base.specs.Rewrites.{rewrite_of}
 use Rattle.conversion_base.specs.Legalization.{Outcome, after_rule as rule_outcome, behind, each_of, legalization_of, made_since, standing}
-use Rattle.conversion.specs.States.{Applied, Comes, ComesBehind}
+use Rattle.conversion.specs.States.{Applied, Comes, ComesBehind, stood_since}
 use Rattle.conversion_base.specs.Rule.{Rule}
+use Rattle.conversion_base.specs.declared.stood.Stood.{Stood}
 use Rattle.conversion_base.specs.RuleNames.{is_converting}
 use Rattle.conversion_base.specs.Targets.{Aim, IsAimIn, aim_of}
 use Rattle.conversion.proofs.Aims.{aim_known, aim_stays}
-use Rattle.conversion.proofs.Leading.{leads_more}
-use Rattle.conversion_base.proofs.Makes.{rules_make}
-use Rattle.conversion.proofs.Rising.{few_told, rises_legalization}
-use Rattle.conversion.proofs.Trying.{Trying, applied, goes_down, leads_whole, made_some, making_fails, making_more, making_stops, tried_whole, trying_more, trying_rule, trying_stops, trying_well}
+use Rattle.conversion.proofs.Leading.{leads_more, leads_none}
+use Rattle.conversion.proofs.Trying.{Trying, applied, goes_down, leads_whole, making_fails, making_more, making_stops, tried_whole, trying_more, trying_rule, trying_stops, trying_well}
 use Rattle.conversion.proofs.legalise.+legalise.Goals as goal
-use Rattle.std.proofs.lemmas.Bool.{not-false, not-true}
 use Rattle.ir_event.proofs.of_types.Truths.{rest_at}
 
 -- the first of a list that isn't empty
@@ -22,12 +20,7 @@ first xs = slice_index_or xs 0 EraseDead
 pub after_rule-each_made-requires : goal.after_rule-each_made-requires
 after_rule-each_made-requires g t c κs within =
     let state = g.B.Rewriting.state in
-    let old = (state c.args.bench.now).held in
-    let new = (state c.apply.new.self).held in
     let aim : IsAimIn (state c.apply.new.self).things c.args.target.now = aim_known (state c.args.bench.now).things (state c.apply.new.self).things c.args.target.now c.apply.ensures.leads.grows c.requires.aim in
-    let did = subst (λ b. Applied (rewrite_of c.args.rule old c.args.op) b old new) c.in-Ok-true.field-0-test c.in-Ok-true.ensures.answers in
-    let more = made_some (rewrite_of c.args.rule old c.args.op) old new (λ p. rules_make c.args.rule c.args.op old p c.requires.rule) did in
-    let from : c.next_id-from.result < new.next = subst (λ n. n < new.next) (sym c.next_id-from.ensures) more in
     search rules
 
 pub after_rule-returns-in-Ok-true-clause-comes : goal.after_rule-returns-in-Ok-true-clause-comes
@@ -41,9 +34,11 @@ after_rule-returns-in-Ok-true-clause-comes g t c =
     let a = rewrite_of c.args.rule start.held c.args.op in
     let did = subst (λ b. Applied a b start.held here.held) c.in-Ok-true.field-0-test c.in-Ok-true.ensures.answers in
     let same = aim_stays start.things here.things c.args.target.now c.apply.ensures.leads.grows c.requires.aim in
-    let aimed = subst (λ (b : Aim). ComesBehind (behind 1 false (each_of (legalization_of b below) (made_since c.next_id-from.result here.held) here.held)) c.each_made.result next) same c.each_made.ensures.comes in
-    let since = subst (λ (n : ℕ). ComesBehind (behind 1 false (each_of go (made_since n here.held) here.held)) c.each_made.result next) c.next_id-from.ensures aimed in
-    subst (λ (o : Outcome). ComesBehind o c.each_made.result next) (applied go a start.held here.held did) since
+    let r = c.args.rule in
+    let x = c.args.op in
+    let aimed = subst (λ (b : Aim). ComesBehind (behind (stood_since r x c.next_id-from.result here.held ∷ []) false (each_of (legalization_of b below) (made_since c.next_id-from.result here.held) here.held)) c.each_made.result next) same c.each_made.ensures.comes in
+    let since = subst (λ (n : ℕ). ComesBehind (behind (stood_since r x n here.held ∷ []) false (each_of go (made_since n here.held) here.held)) c.each_made.result next) c.next_id-from.ensures aimed in
+    subst (λ (o : Outcome). ComesBehind o c.each_made.result next) (applied go r x a start.held here.held did) since
 
 pub each_made-legalise-requires : goal.each_made-legalise-requires
 each_made-legalise-requires g t c κs within =
@@ -59,40 +54,24 @@ each_made-returns-then-not-tried-clause-comes g t c =
     let next = state c.legalise.new.bench in
     let go = legalization_of (aim_of start.things c.args.target.now) c.args.below in
     let same = aim_stays start.things here.things c.args.target.now c.made.invariant.1.grows c.requires.aim in
-    let o = subst (λ (x : ℕ). Comes (standing go here.held x) (Ok c.in-Ok.tried) here next) c.new.ensures (subst (λ (a : Aim). Comes (standing (legalization_of a c.args.below) here.held c.new.result) (Ok c.in-Ok.tried) here next) same c.in-Ok.ensures.comes) in
-    making_fails go _ c.args.from c.made.id c.next_id-end.result here next c.made.count c.made.met c.in-Ok.tried c.joined-tried.result c.made-test.true c.made.invariant.0 o
-    c.joined-tried.ensures.legal c.joined-tried.ensures.met (not-true c.joined-tried.result.legal c.if-not-tried.true)
+    let o = subst (λ (x : ℕ). Comes (standing go here.held x) (Ok c.in-Ok-legalise.tried) here next) c.new.ensures (subst (λ (a : Aim). Comes (standing (legalization_of a c.args.below) here.held c.new.result) (Ok c.in-Ok-legalise.tried) here next) same c.in-Ok-legalise.ensures.comes) in
+    making_fails go _ c.made.id c.next_id-end.result here next c.made.fired.items c.made.met c.in-Ok-legalise.tried c.joined-tried.result c.made-test.true c.made.invariant.0 o
+    c.joined-tried.ensures.legal c.joined-tried.ensures.met c.if-not-tried.true
 
 pub each_made-returns-then-not-tried-clause-leads : goal.each_made-returns-then-not-tried-clause-leads
 each_made-returns-then-not-tried-clause-leads g t c =
-    leads_more g.B.Rewriting.state g.B.Rewriting.desk g.B.Rewriting.led g.B.Rewriting.led_more c.args.bench.now c.made.bench c.legalise.new.bench c.made.invariant.1 c.in-Ok.ensures.leads
+    leads_more g.B.Rewriting.state g.B.Rewriting.desk g.B.Rewriting.led g.B.Rewriting.led_more c.args.bench.now c.made.bench c.legalise.new.bench c.made.invariant.1 c.in-Ok-legalise.ensures.leads
 
-pub each_made-overflow_add-count : goal.each_made-overflow_add-count
-each_made-overflow_add-count g t c =
-    let state = g.B.Rewriting.state in
-    let start = state c.args.bench.now in
-    let here = state c.made.bench in
-    let next = state c.legalise.new.bench in
-    let a = aim_of start.things c.args.target.now in
-    let go = legalization_of a c.args.below in
-    let same = aim_stays start.things here.things c.args.target.now c.made.invariant.1.grows c.requires.aim in
-    let o = subst (λ (x : ℕ). Comes (standing go here.held x) (Ok c.in-Ok.tried) here next) c.new.ensures (subst (λ (a : Aim). Comes (standing (legalization_of a c.args.below) here.held c.new.result) (Ok c.in-Ok.tried) here next) same c.in-Ok.ensures.comes) in
-    let few = few_told go (rises_legalization rules_make a c.requires.aim.rules c.args.below) here.held c.made.id c.in-Ok.tried next.held o (sym c.joined-tried.ensures.legal ∙ not-false c.joined-tried.result.legal c.if-not-tried.false) in
-    let was = c.made.invariant.0.few in
-    let k = c.joined-tried.ensures.count in
-    let free = c.next_id-free.ensures in
-    omega (arith, few, was, k, free)
-
-pub each_made-returns-in-Err-clause-comes : goal.each_made-returns-in-Err-clause-comes
-each_made-returns-in-Err-clause-comes g t c =
+pub each_made-returns-in-Err-legalise-clause-comes : goal.each_made-returns-in-Err-legalise-clause-comes
+each_made-returns-in-Err-legalise-clause-comes g t c =
     let state = g.B.Rewriting.state in
     let start = state c.args.bench.now in
     let here = state c.made.bench in
     let next = state c.legalise.new.bench in
     let go = legalization_of (aim_of start.things c.args.target.now) c.args.below in
     let same = aim_stays start.things here.things c.args.target.now c.made.invariant.1.grows c.requires.aim in
-    let o = subst (λ (x : ℕ). Comes (standing go here.held x) (Err c.in-Err.refusal) here next) c.new.ensures (subst (λ (a : Aim). Comes (standing (legalization_of a c.args.below) here.held c.new.result) (Err c.in-Err.refusal) here next) same c.in-Err.ensures.comes) in
-    making_stops go _ c.args.from c.made.id c.next_id-end.result here next c.made.count c.made.met c.in-Err.refusal c.made-test.true c.made.invariant.0 o
+    let o = subst (λ (x : ℕ). Comes (standing go here.held x) (Err c.in-Err-legalise.refusal) here next) c.new.ensures (subst (λ (a : Aim). Comes (standing (legalization_of a c.args.below) here.held c.new.result) (Err c.in-Err-legalise.refusal) here next) same c.in-Err-legalise.ensures.comes) in
+    making_stops go _ c.made.id c.next_id-end.result here next c.made.fired.items c.made.met c.in-Err-legalise.refusal c.made-test.true c.made.invariant.0 o
 
 pub each_made-made-preserved : goal.each_made-made-preserved
 each_made-made-preserved g t c =
@@ -103,11 +82,10 @@ each_made-made-preserved g t c =
     let a = aim_of start.things c.args.target.now in
     let go = legalization_of a c.args.below in
     let same = aim_stays start.things here.things c.args.target.now c.made.invariant.1.grows c.requires.aim in
-    let o = subst (λ (x : ℕ). Comes (standing go here.held x) (Ok c.in-Ok.tried) here next) c.new.ensures (subst (λ (a : Aim). Comes (standing (legalization_of a c.args.below) here.held c.new.result) (Ok c.in-Ok.tried) here next) same c.in-Ok.ensures.comes) in
-    let few = few_told go (rises_legalization rules_make a c.requires.aim.rules c.args.below) here.held c.made.id c.in-Ok.tried next.held o (sym c.joined-tried.ensures.legal ∙ not-false c.joined-tried.result.legal c.if-not-tried.false) in (
-      making_more go _ c.args.from c.made.id c.next_id-end.result here next c.made.count c.made.met c.in-Ok.tried c.joined-tried.result c.made-test.true c.made.invariant.0 o
-          c.joined-tried.ensures.legal c.joined-tried.ensures.count c.joined-tried.ensures.met (not-false c.joined-tried.result.legal c.if-not-tried.false) few,
-      leads_more state g.B.Rewriting.desk g.B.Rewriting.led g.B.Rewriting.led_more c.args.bench.now c.made.bench c.legalise.new.bench c.made.invariant.1 c.in-Ok.ensures.leads,
+    let o = subst (λ (x : ℕ). Comes (standing go here.held x) (Ok c.in-Ok-legalise.tried) here next) c.new.ensures (subst (λ (a : Aim). Comes (standing (legalization_of a c.args.below) here.held c.new.result) (Ok c.in-Ok-legalise.tried) here next) same c.in-Ok-legalise.ensures.comes) in (
+      making_more go _ c.made.id c.next_id-end.result here next c.made.fired.items c.append.new.fired.items c.made.met c.in-Ok-legalise.tried c.joined-tried.result c.made-test.true c.made.invariant.0 o
+          c.joined-tried.ensures.legal c.joined-tried.ensures.fired c.joined-tried.ensures.met c.if-not-tried.false (c.in_default.ensures.ok ∙ ap (λ (ns : List Stood). c.made.fired.items ++ ns) c.deref.ensures.value),
+      leads_more state g.B.Rewriting.desk g.B.Rewriting.led g.B.Rewriting.led_more c.args.bench.now c.made.bench c.legalise.new.bench c.made.invariant.1 c.in-Ok-legalise.ensures.leads,
     )
 
 pub first_rule-try_rule-requires : goal.first_rule-try_rule-requires
@@ -133,9 +111,9 @@ first_rule-returns-then-tried-clause-comes g t c =
     let go = legalization_of (aim_of start.things c.args.target.now) c.args.below in
     let same = aim_stays start.things here.things c.args.target.now c.rules.invariant.1.grows c.requires.aim in
     let h = subst (λ (ys : List Rule). Trying go c.args.op c.args.target.now.rules ys start here c.rules.met) (rest_at xs (first xs) EraseDead c.in-len1-up.len_at_least refl) c.rules.invariant.0 in
-    let o = subst (λ (a : Aim). Comes (rule_outcome (legalization_of a c.args.below) here.held (rewrite_of r here.held c.args.op)) (Ok c.in-Ok.tried) here next) same c.in-Ok.ensures.comes in
+    let o = subst (λ (a : Aim). Comes (rule_outcome (legalization_of a c.args.below) r c.args.op here.held (rewrite_of r here.held c.args.op)) (Ok c.in-Ok.tried) here next) same c.in-Ok.ensures.comes in
     trying_well go c.args.op c.args.target.now.rules start r _ here next c.rules.met c.in-Ok.tried c.joined-tried.result h o
-    c.joined-tried.ensures.legal c.joined-tried.ensures.count c.joined-tried.ensures.met c.if-tried.true
+    c.joined-tried.ensures.legal c.joined-tried.ensures.fired c.joined-tried.ensures.met c.if-tried.true
 
 pub first_rule-returns-in-Err-clause-comes : goal.first_rule-returns-in-Err-clause-comes
 first_rule-returns-in-Err-clause-comes g t c =
@@ -148,7 +126,7 @@ first_rule-returns-in-Err-clause-comes g t c =
     let go = legalization_of (aim_of start.things c.args.target.now) c.args.below in
     let same = aim_stays start.things here.things c.args.target.now c.rules.invariant.1.grows c.requires.aim in
     let h = subst (λ (ys : List Rule). Trying go c.args.op c.args.target.now.rules ys start here c.rules.met) (rest_at xs (first xs) EraseDead c.in-len1-up.len_at_least refl) c.rules.invariant.0 in
-    let o = subst (λ (a : Aim). Comes (rule_outcome (legalization_of a c.args.below) here.held (rewrite_of r here.held c.args.op)) (Err c.in-Err.refusal) here next) same c.in-Err.ensures.comes in
+    let o = subst (λ (a : Aim). Comes (rule_outcome (legalization_of a c.args.below) r c.args.op here.held (rewrite_of r here.held c.args.op)) (Err c.in-Err.refusal) here next) same c.in-Err.ensures.comes in
     trying_stops go c.args.op c.args.target.now.rules start r _ here next c.rules.met c.in-Err.refusal h o
 
 pub first_rule-rules-preserved : goal.first_rule-rules-preserved
@@ -162,7 +140,7 @@ first_rule-rules-preserved g t c =
     let go = legalization_of (aim_of start.things c.args.target.now) c.args.below in
     let same = aim_stays start.things here.things c.args.target.now c.rules.invariant.1.grows c.requires.aim in
     let h = subst (λ (ys : List Rule). Trying go c.args.op c.args.target.now.rules ys start here c.rules.met) (rest_at xs (first xs) EraseDead c.in-len1-up.len_at_least refl) c.rules.invariant.0 in
-    let o = subst (λ (a : Aim). Comes (rule_outcome (legalization_of a c.args.below) here.held (rewrite_of r here.held c.args.op)) (Ok c.in-Ok.tried) here next) same c.in-Ok.ensures.comes in (
+    let o = subst (λ (a : Aim). Comes (rule_outcome (legalization_of a c.args.below) r c.args.op here.held (rewrite_of r here.held c.args.op)) (Ok c.in-Ok.tried) here next) same c.in-Ok.ensures.comes in (
       trying_more go c.args.op c.args.target.now.rules start r _ here next c.rules.met c.in-Ok.tried c.joined-tried.result h o
           c.joined-tried.ensures.legal c.joined-tried.ensures.met c.if-tried.false,
       leads_more state g.B.Rewriting.desk g.B.Rewriting.led g.B.Rewriting.led_more c.args.bench.now c.rules.bench c.try_rule.new.bench c.rules.invariant.1 c.in-Ok.ensures.leads,
@@ -179,7 +157,7 @@ legalise-returns-clause-comes g t c =
 pub try_rule-returns-clause-comes : goal.try_rule-returns-clause-comes
 try_rule-returns-clause-comes g t c =
     let state = g.B.Rewriting.state in
-    tried_whole (λ d m. rule_outcome (legalization_of (aim_of d c.args.target.now) c.args.below) m (rewrite_of c.args.rule m c.args.op))
+    tried_whole (λ d m. rule_outcome (legalization_of (aim_of d c.args.target.now) c.args.below) c.args.rule c.args.op m (rewrite_of c.args.rule m c.args.op))
     c.after_rule-tried.result (state c.args.bench.now) (state c.step.new.self) (state c.after_rule-tried.new.bench) (state c.close.new.bench) c.in_default.ensures.ok c.after_rule-tried.ensures.leads.marks c.after_rule-tried.ensures.comes
     c.is_well.result c.is_well.ensures c.close.ensures.closed
 
@@ -192,11 +170,17 @@ try_rule-returns-clause-leads g t c =
 pub after_rule-returns-in-Ok-true-clause-leads : goal.after_rule-returns-in-Ok-true-clause-leads
 after_rule-returns-in-Ok-true-clause-leads g t c = leads_more g.B.Rewriting.state g.B.Rewriting.desk g.B.Rewriting.led g.B.Rewriting.led_more c.args.bench.now c.apply.new.self c.each_made.new.bench c.apply.ensures.leads c.each_made.ensures.leads
 
-pub each_made-returns-in-Err-clause-leads : goal.each_made-returns-in-Err-clause-leads
-each_made-returns-in-Err-clause-leads g t c = leads_more g.B.Rewriting.state g.B.Rewriting.desk g.B.Rewriting.led g.B.Rewriting.led_more c.args.bench.now c.made.bench c.legalise.new.bench c.made.invariant.1 c.in-Err.ensures.leads
+pub each_made-returns-in-Err-legalise-clause-leads : goal.each_made-returns-in-Err-legalise-clause-leads
+each_made-returns-in-Err-legalise-clause-leads g t c = leads_more g.B.Rewriting.state g.B.Rewriting.desk g.B.Rewriting.led g.B.Rewriting.led_more c.args.bench.now c.made.bench c.legalise.new.bench c.made.invariant.1 c.in-Err-legalise.ensures.leads
 
 pub first_rule-returns-then-tried-clause-leads : goal.first_rule-returns-then-tried-clause-leads
 first_rule-returns-then-tried-clause-leads g t c = leads_more g.B.Rewriting.state g.B.Rewriting.desk g.B.Rewriting.led g.B.Rewriting.led_more c.args.bench.now c.rules.bench c.try_rule.new.bench c.rules.invariant.1 c.in-Ok.ensures.leads
 
 pub first_rule-returns-in-Err-clause-leads : goal.first_rule-returns-in-Err-clause-leads
 first_rule-returns-in-Err-clause-leads g t c = leads_more g.B.Rewriting.state g.B.Rewriting.desk g.B.Rewriting.led g.B.Rewriting.led_more c.args.bench.now c.rules.bench c.try_rule.new.bench c.rules.invariant.1 c.in-Err.ensures.leads
+
+pub each_made-returns-in-Err-append-clause-leads : goal.each_made-returns-in-Err-append-clause-leads
+each_made-returns-in-Err-append-clause-leads g t c = leads_more g.B.Rewriting.state g.B.Rewriting.desk g.B.Rewriting.led g.B.Rewriting.led_more c.args.bench.now c.made.bench c.legalise.new.bench c.made.invariant.1 c.in-Ok-legalise.ensures.leads
+
+pub each_made-returns-in-Err-clause-leads : goal.each_made-returns-in-Err-clause-leads
+each_made-returns-in-Err-clause-leads g t c = leads_none g.B.Rewriting.state g.B.Rewriting.desk g.B.Rewriting.led g.B.Rewriting.led_none c.args.bench.now

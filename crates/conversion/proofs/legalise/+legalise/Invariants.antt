@@ -1,6 +1,6 @@
-use Rattle.std.proofs.Common.{◌*◌, ◌+◌, ◌-◌, false, length}
+use Rattle.std.proofs.Common.{◌*◌, ◌+◌, ◌-◌, false, [], ◌∷◌, length}
 use Rattle.conversion_base.specs.Legalization.{behind, each_of, legalization_of, made_since}
-use Rattle.conversion.specs.States.{Leads}
+use Rattle.conversion.specs.States.{Leads, stood_since}
 use Rattle.conversion_base.specs.Targets.{aim_of}
 use Rattle.conversion.proofs.Trying.{Making, Trying}
 use Rattle.conversion.proofs.legalise.+legalise.Given as goal
@@ -34,6 +34,7 @@ invariant-first_rule-rules g l =
 abbrev pub invariant-each_made-made : goal.invariant-each_made-made
 invariant-each_made-made g l =
     Making (legalization_of (aim_of (g.B.Rewriting.state l.initial.bench).things l.target) l.below)
-    (behind 1 false (each_of (legalization_of (aim_of (g.B.Rewriting.state l.initial.bench).things l.target) l.below) (made_since l.from (g.B.Rewriting.state l.initial.bench).held) (g.B.Rewriting.state l.initial.bench).held))
-    l.from l.id l.end (g.B.Rewriting.state l.bench) l.count l.met
+    (behind (stood_since l.fn.rule l.fn.op l.from (g.B.Rewriting.state l.initial.bench).held ∷ []) false
+    (each_of (legalization_of (aim_of (g.B.Rewriting.state l.initial.bench).things l.target) l.below) (made_since l.from (g.B.Rewriting.state l.initial.bench).held) (g.B.Rewriting.state l.initial.bench).held))
+    l.id l.end (g.B.Rewriting.state l.bench) l.fired.items l.met
     × Leads g.B.Rewriting.state g.B.Rewriting.desk g.B.Rewriting.led l.initial.bench l.bench

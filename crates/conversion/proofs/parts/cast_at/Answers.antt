@@ -1,4 +1,4 @@
-use Rattle.std.proofs.Common.{◌∙◌, ap, sym, subst, if◌then◌else◌}
+use Rattle.std.proofs.Common.{[], ◌∙◌, ap, sym, subst, if◌then◌else◌}
 use Rattle.conversion_base.specs.Conversion.{Ended, cast_ended, converted}
 use Rattle.conversion_base.specs.Reconciling.{index_rewrite}
 use Rattle.conversion.specs.States.{Faults}
@@ -10,5 +10,5 @@ returns-in-Err-clause-ends g c =
     let state = g.B.Rewriting.state in
     let m = (state c.args.bench.now).held in
     let here = sym c.is_cast.ensures ∙ c.if-not-is_cast.false in
-    subst (λ (d : Ended). Faults d c.of.result (state c.cast_index.new.self).things) (sym (ap (λ b. if b then cast_ended c.args.op (index_rewrite m c.args.op) else converted m 0) here))
+    subst (λ (d : Ended). Faults d c.of.result (state c.cast_index.new.self).things) (sym (ap (λ b. if b then cast_ended c.args.op (index_rewrite m c.args.op) else converted m []) here))
     (cast_faults c.args.op (index_rewrite m c.args.op) (state c.cast_index.new.self).things c.in-Err.refusal c.of.result c.in-Err.ensures.answers.0 c.of.ensures.refusal c.of.ensures.id)

@@ -1,10 +1,12 @@
-use Rattle.std.proofs.Common.{subst, Ok, Err}
+use Rattle.std.proofs.Common.{sym, subst, [], Ok, Err}
 use Rattle.ir_event.specs.trees.Ids.{ids}
 use Rattle.conversion_base.specs.Conversion.{converted, in_turn, later_parts, legalised_at}
-use Rattle.conversion.specs.States.{Ends}
+use Rattle.conversion.specs.States.{Ends, Faults}
+use Rattle.conversion.specs.declared.fault.Fault.{Fault}
 use Rattle.conversion_base.specs.Targets.{Aim, aim_of}
 use Rattle.conversion.proofs.Aims.{aim_known, aim_stays}
 use Rattle.conversion.proofs.Leading.{leads_more}
+use Rattle.conversion.proofs.Stops.{behind_stays}
 use Rattle.conversion.proofs.Turns.{parts_fail, parts_go}
 use Rattle.conversion.proofs.parts.convert_parts.Goals as goal
 
@@ -21,8 +23,8 @@ returns-in-Ok-reconcile-clause-ends g c =
     let last = state c.reconcile.new.bench in
     let a = aim_of start.things c.args.target.now in
     let same = aim_stays start.things mid.things c.args.target.now c.legalise_all.ensures.leads.grows c.requires.aim in
-    parts_go a (in_turn (legalised_at a) (ids start.held.tree) start.held) c.in-Ok.count mid.held last c.in-Ok.ensures.ends
-    (subst (λ (b : Aim). Ends (later_parts b (converted mid.held 0)) (Ok 0) last) same c.in-Ok-reconcile.ensures.ends)
+    parts_go a (in_turn (legalised_at a) (ids start.held.tree) start.held) c.in-Ok.fired.items mid.held last c.in-Ok.ensures.ends
+    (subst (λ (b : Aim). Ends (later_parts b (converted mid.held [])) (Ok []) last) same c.in-Ok-reconcile.ensures.ends)
 
 pub returns-in-Err-reconcile-clause-ends : goal.returns-in-Err-reconcile-clause-ends
 returns-in-Err-reconcile-clause-ends g c =
@@ -32,8 +34,12 @@ returns-in-Err-reconcile-clause-ends g c =
     let last = state c.reconcile.new.bench in
     let a = aim_of start.things c.args.target.now in
     let same = aim_stays start.things mid.things c.args.target.now c.legalise_all.ensures.leads.grows c.requires.aim in
-    parts_fail a (in_turn (legalised_at a) (ids start.held.tree) start.held) c.in-Ok.count mid.held c.in-Err-reconcile.fault last.things c.in-Ok.ensures.ends
-    (subst (λ (b : Aim). Ends (later_parts b (converted mid.held 0)) (Err c.in-Err-reconcile.fault) last) same c.in-Err-reconcile.ensures.ends)
+    subst (λ (f : Fault). Faults (later_parts a (in_turn (legalised_at a) (ids start.held.tree) start.held)) f last.things) (sym c.behind.ensures.fault)
+    (parts_fail a (in_turn (legalised_at a) (ids start.held.tree) start.held) c.in-Ok.fired.items mid.held c.in-Err-reconcile.fault last.things c.in-Ok.ensures.ends
+    (subst (λ (b : Aim). Ends (later_parts b (converted mid.held [])) (Err c.in-Err-reconcile.fault) last) same c.in-Err-reconcile.ensures.ends))
+
+pub returns-in-Err-reconcile-clause-stays : goal.returns-in-Err-reconcile-clause-stays
+returns-in-Err-reconcile-clause-stays g c = behind_stays c.behind.result _ c.in-Ok.ensures.stays c.behind.ensures.stay
 
 pub returns-in-Ok-reconcile-clause-leads : goal.returns-in-Ok-reconcile-clause-leads
 returns-in-Ok-reconcile-clause-leads g c = leads_more g.B.Rewriting.state g.B.Rewriting.desk g.B.Rewriting.led g.B.Rewriting.led_more c.args.bench.now c.legalise_all.new.bench c.reconcile.new.bench c.legalise_all.ensures.leads c.reconcile.ensures.leads

@@ -2,7 +2,7 @@ use Rattle.conversion_base.specs.Conversion.{conversion_of}
 use Rattle.conversion_base.specs.Targets.{aim_of}
 use Rattle.conversion.proofs.Noting.{noted_or_left}
 use Rattle.conversion.proofs.Replied.{converts_goes}
-use Rattle.conversion.proofs.convert.convert.Goals as goal
+use Rattle.conversion.proofs.convert.convert_told.Goals as goal
 
 pub returns-clause-does : goal.returns-clause-does
 returns-clause-does g c =
@@ -23,3 +23,9 @@ returns-clause-led g c = (c.convert_with.ensures.leads.told c.is_formed.ensures.
 
 pub returns-clause-journal : goal.returns-clause-journal
 returns-clause-journal g c = noted_or_left c.convert_with.result c.args.bench.now.desk c.convert_with.new.bench.desk c.convert_with.ensures.leads.noted c.convert_with.ensures.left
+
+pub returns-clause-told : goal.returns-clause-told
+returns-clause-told g c = c.convert_with.ensures.told
+
+pub returns-clause-stays : goal.returns-clause-stays
+returns-clause-stays g c = c.convert_with.ensures.stays

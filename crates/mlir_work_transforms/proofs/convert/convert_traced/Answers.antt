@@ -1,0 +1,54 @@
+use Rattle.std.proofs.Common.{◌≡◌, true}
+use Rattle.mlir_work_script.specs.Clauses.{clauses_of, target_of as said_target}
+use Rattle.conversion.specs.Benches.{seen}
+use Rattle.conversion.specs.Conversion.{has_no_cast}
+use Rattle.conversion.specs.Converting.{command_aim}
+use Rattle.conversion.specs.rewriter.Held.{module_held}
+use Rattle.conversion.specs.rewriter.Moves.{Recorded}
+use Rattle.conversion.specs.Runs.{Noted}
+use Rattle.std.proofs.Common.{[]}
+use Rattle.mlir_work_transforms.proofs.Told.{Shown, traced_converts, traced_does, traced_journal, traced_lines, traced_on}
+use Rattle.mlir_work_transforms.proofs.convert.convert_traced.Goals as goal
+
+pub returns-clause-does : goal.returns-clause-does
+returns-clause-does g c =
+    let o = command_aim (said_target c.args.full (clauses_of c.args.clauses.now)) in
+    let new = c.convert_told-called.new in
+    let r = c.convert_told-called.result in
+    let shown : Shown r c.told.result.called new.teller.text.items c.told.result.lines.items new.teller.stay = record { ok = c.told.ensures.ok; fault = c.told.ensures.fault } in
+    traced_does g.L.Analysis.meaning o c.args.bench.now new.bench r c.told.result.called new.teller.text.items c.told.result.lines.items new.teller.stay shown
+    c.led_benches_are_kept.ensures.ages c.convert_told-called.ensures.led c.convert_told-called.ensures.converts c.convert_told-called.ensures.does
+
+pub returns-clause-converts : goal.returns-clause-converts
+returns-clause-converts g c =
+    let o = command_aim (said_target c.args.full (clauses_of c.args.clauses.now)) in
+    let new = c.convert_told-called.new in
+    let r = c.convert_told-called.result in
+    let shown : Shown r c.told.result.called new.teller.text.items c.told.result.lines.items new.teller.stay = record { ok = c.told.ensures.ok; fault = c.told.ensures.fault } in
+    traced_converts g.L.Analysis.meaning o c.args.bench.now new.bench r c.told.result.called new.teller.text.items c.told.result.lines.items new.teller.stay shown c.convert_told-called.ensures.converts
+
+pub returns-clause-lines : goal.returns-clause-lines
+returns-clause-lines g c =
+    let o = command_aim (said_target c.args.full (clauses_of c.args.clauses.now)) in
+    let new = c.convert_told-called.new in
+    let r = c.convert_told-called.result in
+    let shown : Shown r c.told.result.called new.teller.text.items c.told.result.lines.items new.teller.stay = record { ok = c.told.ensures.ok; fault = c.told.ensures.fault } in
+    let begun = c.new-lines.result in
+    traced_lines o (seen c.args.bench.now) (seen new.bench) r c.told.result.called begun.text.items new.teller.text.items c.told.result.lines.items begun.stay new.teller.stay c.convert_told-called.ensures.converts
+    (record { nothing = c.new-lines.ensures.text; unset = c.new-lines.ensures.stay; told = c.convert_told-called.ensures.told; stays = c.convert_told-called.ensures.stays }) shown
+
+pub returns-clause-none : goal.returns-clause-none
+returns-clause-none g c =
+    let o = command_aim (said_target c.args.full (clauses_of c.args.clauses.now)) in
+    let new = c.convert_told-called.new in
+    let r = c.convert_told-called.result in
+    let shown : Shown r c.told.result.called new.teller.text.items c.told.result.lines.items new.teller.stay = record { ok = c.told.ensures.ok; fault = c.told.ensures.fault } in
+    traced_on g.L.Analysis.meaning o c.args.bench.now new.bench r c.told.result.called new.teller.text.items c.told.result.lines.items new.teller.stay shown (has_no_cast (module_held new.bench.desk).tree ≡ true) c.convert_told-called.ensures.none
+
+pub returns-clause-journal : goal.returns-clause-journal
+returns-clause-journal g c =
+    let o = command_aim (said_target c.args.full (clauses_of c.args.clauses.now)) in
+    let new = c.convert_told-called.new in
+    let r = c.convert_told-called.result in
+    let shown : Shown r c.told.result.called new.teller.text.items c.told.result.lines.items new.teller.stay = record { ok = c.told.ensures.ok; fault = c.told.ensures.fault } in
+    traced_journal g.L.Analysis.meaning o c.args.bench.now new.bench r c.told.result.called new.teller.text.items c.told.result.lines.items new.teller.stay shown (Noted c.args.bench.now.desk new.bench.desk) (Recorded [] c.args.bench.now.desk new.bench.desk) c.convert_told-called.ensures.journal
