@@ -19,9 +19,9 @@ COMMANDS = {
     "explain": ("why what a script does was refused, in words", "explain"),
     "page": ("a page for a browser that shows a script over a module, step by step", "page"),
 }
-STATUS = """exit status: 0 where nothing was refused, 1 where something was, 2 where the command line is wrong, or a file
-of patterns that it names, 3 where the module was refused, 4 where a read or a write failed. `mlir-work FILE` is
-`mlir-work open FILE`."""
+STATUS = """exit status: 0 where nothing was refused, 1 where something was, 2 where the command line is wrong, or a
+file of patterns that it names, 3 where the module was refused, 4 where a read or a write failed. `mlir-work
+FILE` is `mlir-work open FILE`."""
 
 
 class Version(argparse.Action):
