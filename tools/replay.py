@@ -40,11 +40,12 @@ class State:
 
 class Step:
     """A line of a script or a rewrite of it (`part`, as 2 of 14), what was replied, the comments above it, and the
-    lines that are run for it, where it isn't the same module as before."""
+    lines that are run for it, where it isn't the same module as before; of one that is refused what is told below the
+    reply."""
 
-    def __init__(self, line, reply, notes=(), run=(), part=None):
+    def __init__(self, line, reply, notes=(), run=(), part=None, told=()):
         self.line, self.reply, self.notes, self.run, self.part = line, reply, list(notes), list(run), part
-        self.marks, self.state = 0, None
+        self.marks, self.state, self.told = 0, None, told
 
     @property
     def is_same(self):
@@ -57,10 +58,11 @@ class Step:
         return self.reply.startswith("refused")
 
     def says(self):
-        """What the refusal says behind its number and word, the byte that it points at or None, and the operation that
-        it names or None."""
+        """What the refusal says behind its number and word, with why an operation stays, the byte that it points at or
+        None, and the operation that it names or None."""
         fault = mistakes.explained(self.reply, self.line.encode("utf-8", "surrogateescape"))
-        return fault.words.partition(": ")[2], fault.column, mistakes.named(self.reply)
+        words = [fault.words.partition(": ")[2], *(it for it in self.told if it.startswith("stays "))]
+        return "; ".join(words), fault.column, mistakes.named(self.reply)
 
 
 def conversion(told, most):
@@ -86,7 +88,7 @@ def rewrites(line, reply, told, most):
 def of_line(line, reply, told, notes, most):
     """The steps of a line of a script; `told` are the lines below its reply."""
     if reply.startswith("refused") or line.split()[0] in looks():
-        return [Step(line, reply, notes)]
+        return [Step(line, reply, notes, told=told)]
     parts = rewrites(line, reply, told, most)
     if len(parts) == 1:
         return [Step(line, reply, notes, parts[0])]

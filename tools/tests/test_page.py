@@ -150,7 +150,8 @@ class Steps(unittest.TestCase):
                 self.assertEqual(few[-1].state.lines, steps[-1].state.lines)
         for line in (b"convert trace partial illegal scf.for", b"convert trace partial", b"convert partial"):
             self.assertEqual([step.part for step in filled(module, line)], [None, None])
-        self.assertTrue(filled(module, b"convert trace partial illegal scf.for")[1].is_refused)
+        refused = filled(module, b"convert trace partial illegal scf.for")[1]
+        self.assertTrue(refused.says()[0].endswith("; stays #7 no-rule"), refused.says())
 
     def test_most(self):
         module, _ = example("canon")
