@@ -5,6 +5,7 @@ import re
 
 import forms
 import pages
+import program
 import targets
 import words
 
@@ -28,8 +29,9 @@ class Completion:
         return {it[0].strip() for text in self.session.listing().texts if (it := NAME.search(text))}
 
     def patterns(self):
-        """The names of the patterns that were defined."""
-        return [line.split()[1] for line in self.session.kept() if line.split()[:1] == ["pattern"]]
+        """The names of the patterns that were there from the start, and of those that were defined."""
+        typed = [line.split()[1] for line in self.session.kept() if line.split()[:1] == ["pattern"]]
+        return program.named_from_the_start() + typed
 
     def of_kind(self, kind):
         """What may stand for a part of a form."""

@@ -5,8 +5,8 @@ usage: tools/explain.py MODULE [SCRIPT]     (without a SCRIPT it stands in MODUL
 
 For each refused line it prints `FILE:LINE:COLUMN: NUMBER WORD: ` and the sentence of docs/REFUSALS.md, the line, and a
 caret where the fault has a place; of a line that is no command, how the command is written that was meant. Below
-that stands the operation that a refusal names, as `ids` of tools/session.py shows it. Columns count bytes from 1. The
-status is the program's."""
+that stands the operation that a refusal names, as `ids` of tools/session.py shows it, and what a `convert trace` tells
+of why it stays. Columns count bytes from 1. The status is the program's."""
 import re
 import sys
 
@@ -70,7 +70,7 @@ def commands_refused(name, parts, first, replies, kept=()):
     """What is told of each refused line of a script that begins at line `first` of a file, by the replies. The parts
     are the module and the script; `kept` are edits before it."""
     out, is_noted, before = [], False, Before(parts[0], kept)
-    for (place, line), (reply, _) in zip(program.counted(parts[1]), replies):
+    for (place, line), (reply, below) in zip(program.counted(parts[1]), replies):
         if not reply.startswith("refused"):
             before.take(line)
             continue
@@ -80,6 +80,8 @@ def commands_refused(name, parts, first, replies, kept=()):
             is_noted = True
         number = mistakes.named(reply)
         out += [] if number is None else before.shown(number)
+        # (why that operation stays)
+        out += [it for it in below if it.startswith("stays ")]
     return out
 
 

@@ -19,8 +19,9 @@ COMMANDS = {
     "explain": ("why what a script does was refused, in words", "explain"),
     "page": ("a page for a browser that shows a script over a module, step by step", "page"),
 }
-STATUS = """exit status: 0 where nothing was refused, 1 where something was, 2 where the command line is wrong, 3 where
-the module was refused, 4 where a read or a write failed. `mlir-work FILE` is `mlir-work open FILE`."""
+STATUS = """exit status: 0 where nothing was refused, 1 where something was, 2 where the command line is wrong, or a
+file of patterns that it names, 3 where the module was refused, 4 where a read or a write failed. `mlir-work
+FILE` is `mlir-work open FILE`."""
 
 
 class Version(argparse.Action):
@@ -51,14 +52,14 @@ def main(words):
         words = ["open", *words]
     given = parser().parse_args(words)
     try:
-        program.ask(getattr(given, "opaque", False))
+        program.ask(getattr(given, "opaque", False), getattr(given, "patterns", ()))
         return given.run(given)
     except BrokenPipeError:
         os.dup2(os.open(os.devnull, os.O_WRONLY), sys.stdout.fileno())
         return 4
     except (OSError, program.Fault) as fault:
         print(f"{NAME}: {fault}", file=sys.stderr)
-        return 4
+        return 2 if isinstance(fault, program.Wrong) else 4
     except (KeyboardInterrupt, EOFError):
         print()
         return 1

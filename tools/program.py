@@ -15,7 +15,7 @@ import tempfile
 import sources
 
 ROOT = sources.ROOT
-OPAQUE = "--opaque"
+OPAQUE, PATTERNS = "--opaque", "--patterns"
 # Words that each run of the program has, besides its own: what the command line asks of it.
 ASKED = []
 DIVIDER = b"// -----"
@@ -29,6 +29,10 @@ REPLY = re.compile(r"(\d+) (.*)")
 
 class Fault(Exception):
     """There is no program to run, or the files are no input; says why."""
+
+
+class Wrong(Fault):
+    """What the command line names is refused by the program; says why."""
 
 
 @functools.lru_cache(maxsize=None)
@@ -78,13 +82,31 @@ def arguments(parser):
     """What stands on the command line of each that runs the program."""
     parser.add_argument(OPAQUE, action="store_true",
                         help="keep types and attributes that aren't known as they are spelled, as the program does")
+    parser.add_argument(PATTERNS, metavar="FILE", action="append", default=[],
+                        help="patterns of one's own that are there from the start, a line each; it may stand more than "
+                             "once")
 
 
-def ask(is_opaque):
-    """Has each run keep what isn't known, or not; raises `Fault` where the program can't."""
-    ASKED[:] = [OPAQUE] * is_opaque
-    if is_opaque and not has_option(OPAQUE):
-        raise Fault(f"{started()[0][0]} has no {OPAQUE}")
+def ask(is_opaque, files=()):
+    """Has each run keep what isn't known, or not, and begin with the patterns of some files; raises `Fault` where the
+    program can't, and `Wrong` where it refuses a pattern."""
+    ASKED[:] = [OPAQUE] * is_opaque + [word for file in files for word in (PATTERNS, file)]
+    for option, is_asked in ((OPAQUE, is_opaque), (PATTERNS, files)):
+        if is_asked and not has_option(option):
+            raise Fault(f"{started()[0][0]} has no {option}")
+    if files:
+        program, more = words()
+        it = subprocess.run([*program, "--brief"], input=b"", capture_output=True, env={**os.environ, **more},
+                            check=False)
+        if it.returncode == 2:
+            raise Wrong(it.stderr.decode("utf-8", "replace").strip().removeprefix("error: "))
+
+
+def named_from_the_start():
+    """The names of the patterns that are there from the start."""
+    files = [file for option, file in zip(ASKED, ASKED[1:]) if option == PATTERNS]
+    lines = [line for file in files for line in pathlib.Path(file).read_bytes().split(b"\n") if is_counted(line)]
+    return [line.split()[0].decode("utf-8", "replace") for line in lines]
 
 
 def lines_of(text):

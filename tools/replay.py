@@ -1,6 +1,7 @@
 """The steps of a script over a module, and behind each the module with its numbers and the rows of the reports.
 
-Each line of the script is a step, and where one rewrites the module again and again each rewrite is. The program is run
+Each line of the script is a step, and where one rewrites the module again and again each rewrite is; of a conversion
+each rule that stands, where it is told. The program is run
 over the script once for the replies, and then in pieces of some steps: once for the reports, and once, without
 analyses, for the modules."""
 import itertools
@@ -15,9 +16,12 @@ from program import answered, is_counted, joined, ran, replies
 # one.
 KEEPS, MARKS = {"begin", "commit", "pattern", "check"}, {"begin": 1, "commit": -1, "rollback": -1}
 MOST_MARKS = 16
-REWRITES = re.compile(r"(?:converged|limit) (\d+)")
+REWRITES = re.compile(r"(?:converged|limit|converted) (\d+)")
 # What a line rewrites by, without a limit, and whether the rewrites are told.
 REWRITING = re.compile(r"rewrite[ \t]+[^ \t]+|canon(?:[ \t]+only[ \t]+[^ \t]+)?")
+# A conversion that is told, and a rule that stands; behind all of them casts are reconciled.
+TOLD_CONVERSION, STANDS = re.compile(r"convert[ \t]+trace[ \t]"), re.compile(r"rewrote (\d+) \S+ (#\d+)")
+RECONCILE = "convert partial"
 # A script that is too long has one reply in place of one for each line.
 REFUSED = ("refused 60 BadCommand", [])
 # So many steps there are mostly, and half as many of one line.
@@ -36,11 +40,12 @@ class State:
 
 class Step:
     """A line of a script or a rewrite of it (`part`, as 2 of 14), what was replied, the comments above it, and the
-    lines that are run for it, where it isn't the same module as before."""
+    lines that are run for it, where it isn't the same module as before; of one that is refused what is told below the
+    reply."""
 
-    def __init__(self, line, reply, notes=(), run=(), part=None):
+    def __init__(self, line, reply, notes=(), run=(), part=None, told=()):
         self.line, self.reply, self.notes, self.run, self.part = line, reply, list(notes), list(run), part
-        self.marks, self.state = 0, None
+        self.marks, self.state, self.told = 0, None, told
 
     @property
     def is_same(self):
@@ -53,30 +58,42 @@ class Step:
         return self.reply.startswith("refused")
 
     def says(self):
-        """What the refusal says behind its number and word, the byte that it points at or None, and the operation that
-        it names or None."""
+        """What the refusal says behind its number and word, with why an operation stays, the byte that it points at or
+        None, and the operation that it names or None."""
         fault = mistakes.explained(self.reply, self.line.encode("utf-8", "surrogateescape"))
-        return fault.words.partition(": ")[2], fault.column, mistakes.named(self.reply)
+        words = [fault.words.partition(": ")[2], *(it for it in self.told if it.startswith("stays "))]
+        return "; ".join(words), fault.column, mistakes.named(self.reply)
 
 
-def rewrites(line, reply, most):
-    """The lines that make what a line made, one rewrite each, but for what is more than `most`, which is one."""
+def conversion(told, most):
+    """The lines for what is told of a conversion, a rule each and the last with the casts, but for what is more than
+    `most`, which is one."""
+    rules = [["apply {} {}".format(*found.groups())] for found in map(STANDS.match, told) if found]
+    parts = rules[:most] + [[line for part in rules[most:] for line in part]] * (len(rules) > most)
+    return [*parts[:-1], [*parts[-1], RECONCILE]]
+
+
+def rewrites(line, reply, told, most):
+    """The lines that make what a line made, those of one rewrite each, but for what is more than `most`, which is
+    one."""
     found, by = REWRITES.fullmatch(reply), REWRITING.match(line)
-    count = int(found.group(1)) if found and by else 0
+    count = int(found.group(1)) if found and (by or TOLD_CONVERSION.match(line)) else 0
     if count < 2:
-        return [line]
-    return [f"{by.group()} limit 1"] * min(count, most) + [f"{by.group()} limit {count - most}"] * (count > most)
+        return [[line]]
+    if not by:
+        return conversion(told, most)
+    return [[f"{by.group()} limit 1"]] * min(count, most) + [[f"{by.group()} limit {count - most}"]] * (count > most)
 
 
-def of_line(line, reply, notes, most):
-    """The steps of a line of a script."""
+def of_line(line, reply, told, notes, most):
+    """The steps of a line of a script; `told` are the lines below its reply."""
     if reply.startswith("refused") or line.split()[0] in looks():
-        return [Step(line, reply, notes)]
-    parts = rewrites(line, reply, most)
+        return [Step(line, reply, notes, told=told)]
+    parts = rewrites(line, reply, told, most)
     if len(parts) == 1:
-        return [Step(line, reply, notes, parts)]
+        return [Step(line, reply, notes, parts[0])]
     whole = int(REWRITES.fullmatch(reply).group(1))
-    steps = [Step(line, f"rewrite {at} of {whole}", notes if at == 1 else (), [part], (at, whole))
+    steps = [Step(line, f"rewrite {at} of {whole}", notes if at == 1 else (), part, (at, whole))
              for at, part in enumerate(parts, 1)]
     if len(parts) < whole:
         steps[-1].reply, steps[-1].part = f"rewrites {len(parts)} to {whole}", (len(parts), whole)
@@ -106,7 +123,7 @@ def read(module, script, most=MOST):
     for line in script.split(b"\n"):
         text = line.decode("utf-8", "surrogateescape").strip(" \t\r")
         if is_counted(line):
-            steps += of_line(text, next(told, REFUSED)[0], notes, max(most // 2, 1))
+            steps += of_line(text, *next(told, REFUSED), notes, max(most // 2, 1))
             notes = []
         elif text:
             notes.append(text.removeprefix("//").strip())

@@ -28,7 +28,7 @@ WIDTH = 100
 # Commands that edit what they don't name: behind them stands what they changed, up to so many lines; but behind those
 # that tell their rewrites just these.
 WITH_DIFF, MOST_DIFF = {"apply", "canon", "convert", "rewrite", "sweep"}, 60
-TRACED = re.compile(r"(?:canon|(?:rewrite|canon[ \t]+only)[ \t]+[^ \t]+)[ \t]+trace(?![^ \t])")
+TRACED = re.compile(r"(?:canon|convert|(?:rewrite|canon[ \t]+only)[ \t]+[^ \t]+)[ \t]+trace(?![^ \t])")
 # So many operations they make mostly for each that there is, and so many besides; so often a plain `canon` rewrites.
 MAKES, MADE_MOSTLY, LIMIT = {"canon": 2, "convert": 4, "rewrite": 2}, 64, 1000
 # So many listings are kept.
@@ -205,7 +205,7 @@ class Session:
         has_diff = word in WITH_DIFF and not TRACED.match(line)
         reply, below = self.rewritten(line) if has_diff else self.run(line)
         if reply.startswith("refused"):
-            return self.refused(reply, line.encode("utf-8", "surrogateescape"))
+            return [*self.refused(reply, line.encode("utf-8", "surrogateescape")), *below]
         self.add(Entry(line, word not in forms.looks(), count))
         return [reply, *below]
 

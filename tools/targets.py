@@ -59,7 +59,8 @@ def clauses(line, begin):
 
 def unfit(line):
     """What is wrong with the target of a line that is a `convert`, and where; None where nothing is."""
-    names, begin = set(), [it.end() for it in WORD.finditer(line)][1]
+    mode = re.match(r"[ \t]*[^ \t]+(?:[ \t]+trace(?=[ \t]))?[ \t]+[^ \t]+", line)
+    names, begin = set(), mode.end()
     for word, at, text in clauses(line, begin)[0]:
         for place, piece in pieces(at, text):
             if CLAUSES[word] == "NAMES":

@@ -5,8 +5,8 @@ that are of whole runs with all listeners, of the same rules. Run it at the top 
 
 The whole runs are written out here or in bench/cases/worked_rows.txt, and compared with what the rules of
 bench/reference give for them, or are of analyses_cases.py, verifier_cases.py, conversion_cases.py, heard_cases.py,
-own_pattern_cases.py, trace_cases.py and why_cases.py, many by chance from the seeds there, and have what the rules
-give."""
+own_pattern_cases.py, trace_cases.py, convert_trace_cases.py and why_cases.py, many by chance from the seeds there, and
+have what the rules give."""
 import itertools
 import pathlib
 import re
@@ -18,6 +18,7 @@ sys.path.append(str(pathlib.Path(__file__).resolve().parents[1]))  # bench/, whe
 import about_cases  # noqa: E402
 import analyses_cases  # noqa: E402
 import conversion_cases  # noqa: E402
+import convert_trace_cases  # noqa: E402
 import explained_cases  # noqa: E402
 import heard_cases  # noqa: E402
 import own_pattern_cases  # noqa: E402
@@ -136,7 +137,8 @@ CLAUSES = {b"legal": NAMES, b"illegal": NAMES, b"dynamic": NAMES, b"rules": NUMB
 
 
 def convert_says(words):
-    """The words behind `convert`: a mode, and then each clause that there is, at most once, with one word behind it."""
+    """The words behind `convert`, or behind `convert trace`: a mode, and then each clause that there is, at most once,
+    with one word behind it."""
     clauses = list(zip(words[1::2], words[2::2]))
     if words[0] not in (b"partial", b"full") or len(words) % 2 == 0 or len(dict(clauses)) < len(clauses):
         return "bad"
@@ -156,6 +158,26 @@ def apply_says(rule, op):
         return f"apply {told(rule)} {op_of(op)[0]}"
     number = number_of(rule)
     return f"apply {number} {op_of(op)[0]}" if number in range(1, 31) else "bad"
+
+
+def why_says(words):
+    """What the words of a line say of why rules don't apply, if they do."""
+    if len(words) not in (2, 3) or words[0] != b"why" or not op_of(words[1]):
+        return None
+    op, rule = op_of(words[1])[0], words[2] if len(words) == 3 else None
+    if rule is None:
+        return f"why {op} all"
+    if not rule[:1].isdigit():
+        return f"why {op} {told(rule)}"
+    return f"why {op} {number_of(rule)}" if number_of(rule) in range(1, 31) else None
+
+
+def canon_at_says(words):
+    """What the words of a line say of canonicalizing one operation, if they do."""
+    if words[:2] != [b"canon", b"at"] or len(words) < 3 or not op_of(words[2]):
+        return None
+    says = limit_says(words[3:])
+    return says and f"canon {op_of(words[2])[0]} {says}"
 
 
 def refusal_of(word):
@@ -236,8 +258,9 @@ def text_says(text):
     if book_says(text):
         return book_says(text)
     words = re.split(rb"[ \t]+", text)
-    if rewrite_says(words):
-        return rewrite_says(words)
+    for says in (rewrite_says, why_says, canon_at_says):
+        if says(words):
+            return says(words)
     if words == [b"print", b"ids"]:
         return "ids"
     if len(words) == 2 and words[0] == b"attach" and kind_of(words[1]) is not None:
@@ -252,6 +275,9 @@ def text_says(text):
         return "canon"
     if len(words) == 3 and words[:2] == [b"canon", b"limit"] and number_of(words[2]) is not None:
         return f"canon {number_of(words[2])}"
+    if len(words) >= 3 and words[:2] == [b"convert", b"trace"]:
+        says = convert_says(words[2:])
+        return says if says == "bad" else f"trace {says}"
     if len(words) >= 2 and words[0] == b"convert":
         return convert_says(words[1:])
     if len(words) == 2 and words[0] == b"erase" and op_of(words[1]):
@@ -318,6 +344,25 @@ ORDERS = {"report uses of #3": "report 1 of op 3", "\treport  unreached\tof  #00
           "rewrite trace trace limit 3": "trace [trace] limit 3", "canon only trace trace": "trace [trace] limit none",
           "expect 50 canon trace limit 0": "expects 50 BadLimit trace all limit 0",
           "expect 26 rewrite x trace": "expects 26 NoSuchKey trace [x] limit none",
+          "why #3": "why 3 all", "\twhy \t #0004294967295 \r": "why 4294967295 all", "why #3 4": "why 3 4",
+          "why #3 0030": "why 3 30", "why\t#03\tdrop-zero\r": "why 3 [drop-zero]",
+          "why #0 no_rule.x": "why 0 [no_rule.x]",
+          "why #3 -1": "why 3 [-1]", "why #3 #4": "why 3 [#4]", "why #3 //": "why 3 [//]", "why #3 all": "why 3 [all]",
+          "expect 20 why #9": "expects 20 NoSuchOp why 9 all",
+          "expect NoSuchKey why #3 nope": "expects 26 NoSuchKey why 3 [nope]",
+          "canon at #3": "canon 3 limit none", "\tcanon \t at\t#003  limit\t07 \r": "canon 3 limit 7",
+          "canon at #4294967295 limit 4294967295": "canon 4294967295 limit 4294967295",
+          "canon at #0 limit 0": "canon 0 limit 0",
+          "expect 50 canon at #3 limit 0": "expects 50 BadLimit canon 3 limit 0",
+          "convert trace partial": "trace convert partial depth none",
+          " convert\ttrace \t full\r": "trace convert full depth none",
+          "convert trace partial illegal arith.remsi,arith.subi rules 27,26 depth 1":
+              "trace convert partial illegal [arith.remsi,arith.subi] rules [27,26] depth 1",
+          "convert trace full depth 016\t rules 2,0030,2  dynamic c illegal b legal a":
+              "trace convert full legal [a] illegal [b] dynamic [c] rules [2,0030,2] depth 16",
+          "convert trace partial legal trace rules 1 depth 17":
+              "trace convert partial legal [trace] rules [1] depth 17",
+          "expect 51 convert trace full": "expects 51 NotLegalised trace convert full depth none",
           "print ids": "ids", "\tprint  ids \r": "ids", "expect 22 erase #3": "expects 22 HasUses erase 3",
           "expect HasUses erase #3": "expects 22 HasUses erase 3", "\texpect  0060\tnonsense\r":
               "expects 60 BadCommand bad",
@@ -419,7 +464,17 @@ canon trace limit 4294967296|canon trace only 1|canon limit 1 trace|canontrace|c
 canon tracelimit 1|rewrite 1 tracelimit 1|rewrite 1trace|canon trace,1|rewrite trace limit|canon trace limit -1
 canon traces|rewrite 1 traces|rewrite 1 trace x|rewrite 1 trace trace|rewrite 1 trace limit|rewrite 1 limit 1 trace
 rewrite 25 trace|rewrite 1, trace|rewrite 1 trace limit -1|rewrite 1 trace 1|canon only 1 trace only|trace|trace limit 1
-canon only 30 trace|canon only trace limit|canon only trace x|attach|attach uses uses|attach Uses|attach kind1
+canon only 30 trace|canon only trace limit|canon only trace x|canon at|canon at 3|canon at #|canon at #3 x
+canon at #3 limit|canon at #3 limit x|canon at #3 limit 1 2|canon at #3 limit 4294967296|canon at #3 trace|canon at#3
+canonat #3|canon At #3|canon at #4294967296|canon trace at #3|canon limit 1 at #3|canon at at #3|canon at #3 #4|why
+why 3|why #|why #3 0|why #3 31|why #3 4x|why #3 4 5|why #3 drop-zero 4|why #3 4294967300|why #4294967296|Why #3|whys #3
+why#3|why of #3|why drop-zero #3|why #3 of 4|why %v3.0|convert trace|convert trace trace|convert trace trace partial
+convert trace Partial|convert partial trace|convert traces partial|convert tracepartial|converttrace partial
+convert Trace partial|convert trace,partial|convert trace partial x|convert trace partial legal
+convert trace partial legal a,|convert trace partial legal a legal b|convert trace partial rules x
+convert trace partial rules 4294967296|convert trace partial depth 1,2|convert trace full limit 1|trace convert partial
+convert trace legal a|convert trace full trace|converts trace full
+attach|attach uses uses|attach Uses|attach kind1
 attachuses|attach x|attach #1|attach all
 print id|print idss|print ids x|print ids ids|print Ids|printids|print ids //|expect|expect print|expect 99 print
 expect 0 print|expect 22x erase #3|expect Hasuses erase #3|expect hasuses erase #3|expect -22 erase #3|Expect 22 print
@@ -470,7 +525,9 @@ def lines():
                  "set-attr #3 \"a\\n\" 1", "drop-attr #3 k", "detach uses", "resync kind10", "canon limit 10",
                  "convert full depth 2 legal a,b rules 2,25", "attach dead", "print ids", "expect 22 print",
                  "rewrite 2,drop-one limit 10", "report uses of #10", "report kind10 of %v2.0",
-                 "canon trace limit 10", "rewrite 2,x trace limit 3", "pattern p x", "patterns", "check p width 10"):
+                 "canon trace limit 10", "rewrite 2,x trace limit 3", "convert trace full depth 2",
+                 "why #3", "why #3 10", "why #3 drop-one", "canon at #3 limit 10", "pattern p x", "patterns",
+                 "check p width 10"):
         text = text.encode()
         for place in range(len(text) + 1):
             line(text[:place] + text[place + 1:])
@@ -1226,7 +1283,7 @@ GOLDEN_PARTS = {
 
 def main():
     print("seeds", analyses_cases.SEED, verifier_cases.SEED, heard_cases.SEED, conversion_cases.SEED,
-          own_pattern_cases.SEED, trace_cases.SEED, why_cases.SEED)
+          own_pattern_cases.SEED, trace_cases.SEED, convert_trace_cases.SEED, why_cases.SEED)
     for part in (lines, words, cuts, writes, reads):
         part()
     for area, parts in GOLDEN_PARTS.items():
@@ -1238,6 +1295,7 @@ def main():
     conversion_cases.all_cases(analyses, GOLDEN.begin)
     own_pattern_cases.all_cases(whole, GOLDEN.begin)
     trace_cases.all_cases(GOLDEN.case, GOLDEN.begin)
+    convert_trace_cases.all_cases(GOLDEN.case, GOLDEN.begin)
     why_cases.all_cases(GOLDEN.case, GOLDEN.begin)
     explained_cases.all_cases(GOLDEN.case, GOLDEN.begin)
     heard_cases.all_cases(case)

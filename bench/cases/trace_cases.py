@@ -62,7 +62,7 @@ REFUSED = {
          "canon trace only 1", "canon limit 1 trace", "canon traces", "canon Trace", "rewrite 1 traced",
          "rewrite 1 trace trace", "rewrite 1 trace x", "rewrite 1 limit 1 trace", "rewrite 1 trace limit",
          "canon only 1 trace limit x", "canon only 25 trace", "canon only 1 limit 1 trace", "trace", "trace limit 1",
-         "sweep trace", "apply trace 1 #2", "convert trace partial")}
+         "sweep trace", "apply trace 1 #2", "convert trace")}
 
 
 def over(module, *lines):

@@ -17,8 +17,10 @@ ODD = [
     "report kind9", "report use", "report uses of", "report kind9 of #1", "report dead of %v1", "print",
     "print ids", "print id", "resync kind7", "detach kind7", "attach kind9", "attach kind7", "attach uses dead",
     "canon trace only 1", "canon limit 1 trace", "rewrite trace", "expect 22", "canon at", "canon at 3",
-    "canon at #3 trace", "canon at #3 limit", "why", "why 3", "why #3 31", "why #3 4 drop-zero", "why #3 never",
-    "why #99",
+    "canon at #3 trace", "canon at #3 limit",
+    "convert trace", "convert trace trace full", "convert full trace", "convert Trace full", "convert trace full legal",
+    "convert trace partial legal a legal b", "trace convert full", "why", "why 3", "why #3 31",
+    "why #3 4 drop-zero", "why #3 never", "why #99", "patterns",
     "expect 99 print", "expect expect", "expect 60 expect 60 print",
     'insert start #0 0 %a:2 = "test.a"() ({ ^bb0(%b: i8): "test.b"(%b) : (i8) -> () }, {}) {k} : () -> (i1, i2)']
 
@@ -32,7 +34,9 @@ TARGETS = ["illegal arith.remsi,arith.remui rules 27",
            "illegal arith.maxsi,arith.maxui,arith.minsi,arith.minui rules 25", "illegal arith.subi rules 26",
            "illegal arith.remsi,arith.remui,arith.subi rules 2,27,26", f"dynamic {INDEXED} rules 28",
            f"dynamic {INDEXED},scf.for,scf.if rules 28,29,30", "dynamic scf.for rules 29", "dynamic scf.if rules 30",
-           "dynamic scf.for,scf.if,arith.constant rules 30,29,28", "legal test.a rules 2"]
+           "dynamic scf.for,scf.if,arith.constant rules 30,29,28", "legal test.a rules 2",
+           "illegal arith.subi,arith.xori rules 2,26", "illegal arith.maxsi,arith.minui,arith.select rules 25",
+           "illegal arith.remsi,arith.divui rules 26,27", "illegal arith.addi,arith.subi"]
 # What rules replace at any type, what they replace where something is an index, and what they make.
 ALWAYS = {f"arith.{word}" for word in "remsi remui subi maxsi maxui minsi minui".split()}
 REPLACED = set(INDEXED.split(",")) | ALWAYS | {"scf.for", "scf.if"}
@@ -65,10 +69,17 @@ def asking(maker, op):
     return f"why #{op}" + maker.choice(["", "", f" {maker.randrange(1, 31)}", f" {maker.choice(rewrites.WORDS)}"])
 
 
+def converting(maker):
+    """The word of a conversion, or of one that is told."""
+    return "convert trace" if maker.random() < 0.4 else "convert"
+
+
 def conversion(maker):
     if maker.random() < 0.7:
-        return f"convert partial {maker.choice(TARGETS)}" + maker.choice(["", "", ",2", " depth 1", " depth 2"])
-    return f"convert {maker.choice(['partial', 'partial', 'full'])} {clauses(maker, *parts(maker, NAMES))}"
+        behind = maker.choice(["", "", ",2", " depth 1", " depth 2"])
+        return f"{converting(maker)} partial {maker.choice(TARGETS)}{behind}"
+    mode = maker.choice(["partial", "partial", "full"])
+    return f"{converting(maker)} {mode} {clauses(maker, *parts(maker, NAMES))}"
 
 
 def parts(maker, names):
@@ -79,11 +90,11 @@ def parts(maker, names):
 
 
 def clauses(maker, legal, illegal, dynamic):
-    """The clauses of a target, in any order, with some rules and maybe a depth."""
+    """The clauses of a target, in any order, with some rules, now and then none, and maybe a depth."""
     lists = {"legal": legal, "illegal": illegal, "dynamic": dynamic}
     words = [f"{word} {','.join(them)}" for word, them in lists.items() if them]
-    count = maker.choice([len(RULES)] * 3 + [*range(1, len(RULES) + 1)])
-    words.append("rules " + ",".join(map(str, maker.sample(RULES, count))))
+    count = maker.choice([len(RULES)] * 3 + [*range(len(RULES) + 1)])
+    words += ["rules " + ",".join(map(str, maker.sample(RULES, count)))] if count else []
     words += [f"depth {maker.choice([1, 2, 3, 4, 16])}"] * (maker.random() < 0.6)
     maker.shuffle(words)
     return " ".join(words)
@@ -96,13 +107,13 @@ def fitting(maker, module):
     names.discard(CAST)
     illegal = set(maker.sample(sorted(ALWAYS & names), maker.randrange(len(ALWAYS & names) + 1)))
     dynamic = set(maker.sample(sorted(REPLACED - illegal), maker.randrange(len(REPLACED - illegal) + 1)))
-    if maker.random() < 0.1:
+    if maker.random() < 0.2:
         illegal |= {maker.choice(sorted(names - dynamic))}
     mode = maker.choice(["partial", "full"])
     others = sorted(names - illegal - dynamic)
     left_out = maker.choice([0, 0, 0, 1]) if mode == "full" else maker.randrange(len(others) + 1)
     legal = maker.sample(others, max(0, len(others) - left_out))
-    return f"convert {mode} {clauses(maker, legal, sorted(illegal), sorted(dynamic))}"
+    return f"{converting(maker)} {mode} {clauses(maker, legal, sorted(illegal), sorted(dynamic))}"
 
 
 def conversions(maker, module):

@@ -45,6 +45,7 @@ REMAINDER = '%0 = "arith.remsi"(%v3.0, %v2.0) : (i32, i32) -> i32'
 PRIVATE = '"func.func"() <{function_type = () -> (), sym_name = "p", sym_visibility = "private"}> ({}) : () -> ()'
 # The remainder is made of a quotient, a product and a difference, which is refused then; all is undone.
 TOO_DEEP = "convert partial illegal arith.remsi,arith.subi rules 27,26 depth 1"
+TOLD_TOO_DEEP = TOO_DEEP.replace("convert", "convert trace")
 DEEPER = "convert partial illegal arith.remsi,arith.subi,arith.addi rules 27,26 depth 2"
 # A function with a remainder, and values for what a container has.
 CONVERTED = """"func.func"() <{function_type = (i32, i32) -> i32, sym_name = "r"}> ({
@@ -66,7 +67,8 @@ OPENED = [
     "replace %v3.0 %v5.0", "set-attr #3 note {deep = [1 : i7, memref<?xi7>]}", "begin", "drop-attr #3 note", "erase #3",
     f"insert end #0 0 {PRIVATE}", "sweep", "commit", "canon limit 1", "rollback",
     f"insert before #4 {REMAINDER}", "set-operand #4 0 %v5.0", TOO_DEEP, "begin",
-    "convert partial illegal arith.remsi rules 27", "rollback",
+    "convert partial illegal arith.remsi rules 27", "rollback", TOLD_TOO_DEEP, "begin",
+    "convert trace partial illegal arith.remsi rules 27", "rollback",
     "convert partial illegal func.return rules 25", f"insert end #0 0 {PRIVATE}", "sweep", "erase #9", "jump",
     "set-attr #3 k 1 : i129", "insert before #3 %0 =",
     'set-attr #1 function_type (i32) -> i64', "report diagnostics", "report uses of %v2.0",
@@ -176,7 +178,9 @@ COMMANDS = [
     ([], NEGATED), ([NEGATED], "patterns"), ([NEGATED], "check negated width 2"), ([HALF], "check half"),
     ([NEGATED], "apply negated #3"), ([NEGATED], "apply negated #2"), ([NEGATED], NEGATED),
     ([f"insert before #4 {REMAINDER}"], TOO_DEEP),
-    ([f"insert before #4 {REMAINDER}"], "convert partial illegal arith.remsi rules 27"), ([], "convert partial")]
+    ([f"insert before #4 {REMAINDER}"], "convert partial illegal arith.remsi rules 27"), ([], "convert partial"),
+    ([f"insert before #4 {REMAINDER}"], TOLD_TOO_DEEP), ([], "convert trace full"),
+    ([f"insert before #4 {REMAINDER}"], "convert trace partial illegal arith.remsi,arith.subi rules 27,26")]
 MARKED = {"set-operand", "move", "replace", "erase", "drop-attr", "set-attr", "insert", "sweep", "canon", "rewrite",
           "convert", "apply"}
 SIZES = [0, 1, 2, 3, 4, 7, 8, 11, 14, 15, 16]

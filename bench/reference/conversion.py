@@ -1,17 +1,18 @@
 """Dialect conversion."""
+from . import reasons
 from .module import I64, INDEX, Op, walk
-from .rewrites import CAST, No, Site, apply, twenty_one
+from .rewrites import CAST, WORDS, No, Site, apply, told, twenty_one
 
 MOST_DEPTH = 16
 RULES = {2} | set(range(25, 31))
 
 
 class Refused(Exception):
-    """The number of a refusal, and the operation that it names."""
+    """The number of a refusal, the operation that it names, and why that stays, where it couldn't be legalised."""
 
-    def __init__(self, number, op=None):
-        super().__init__(number, op)
-        self.number, self.op = number, op
+    def __init__(self, number, op=None, stays=""):
+        super().__init__(number, op, stays)
+        self.number, self.op, self.stays = number, op, stays
 
 
 class Target:
@@ -40,9 +41,10 @@ class Try:
         self.target, self.met = target, False
 
     def legal(self, module, number, depth):
-        """The module in which an operation is legal, and the count; none where it fails."""
+        """The module in which an operation is legal, and what is told of each rule that stands, in the order in which
+        they were applied; none where it fails."""
         if self.target.is_legal(module, module.ops()[number]):
-            return module, 0
+            return module, []
         if depth >= self.target.depth:
             self.met = True
             return None
@@ -56,14 +58,21 @@ class Try:
         tried = apply(module, rule, number)
         if tried is None:
             return None
-        made, count = sorted(it for it in tried.ops() if it >= module.next), 1
+        made, lines = sorted(it for it in tried.ops() if it >= module.next), [told(module, tried, rule, number)]
         for it in made:
             if it in tried.ops():
                 found = self.legal(tried, it, depth + 1)
                 if found is None:
                     return None
-                tried, count = found[0], count + found[1]
-        return tried, count
+                tried, lines = found[0], lines + found[1]
+        return tried, lines
+
+    def stays(self, module, number):
+        """Why an operation that can't be legalised stays: the rule that was tried last, and what it wants."""
+        if not self.target.rules:
+            return f"stays #{number} no-rule"
+        last = self.target.rules[-1]
+        return f"stays #{number} {last} {WORDS[last - 1]} {reasons.reason(module, last, number) or 'makes-illegal'}"
 
 
 def unused(module):
@@ -110,18 +119,18 @@ def reconciled(module):
 
 
 def converted(module, target):
-    """The module after a conversion, and how many rules stand."""
-    total = 0
+    """The module after a conversion, and what is told of each rule that stands."""
+    lines = []
     for number in [op.id for op in walk(module.root)]:
         if number not in module.ops():
             continue
         attempt = Try(target)
         found = attempt.legal(module, number, 0)
         if found is None:
-            raise Refused(52 if attempt.met else 51, number)
-        module, total = found[0], total + found[1]
+            raise Refused(52 if attempt.met else 51, number, attempt.stays(module, number))
+        module, lines = found[0], lines + found[1]
     module = reconciled(module)
     for op in walk(module.root):
         if target.is_full and not target.is_legal(module, op):
             raise Refused(51, op.id)
-    return module, total
+    return module, lines

@@ -239,7 +239,10 @@ class Run:
         return self.rewritten(asked, limit, is_traced)
 
     def convert(self, text):
+        """Converts, and tells each rule that stands, or why an operation stays, where `trace` stands in front."""
         words = re.split("[ \t]+", text)
+        is_traced = words[0] == "trace"
+        words = words[is_traced:] or [""]
         need(words[0] in ("partial", "full") and len(words) % 2 == 1)
         clauses = list(zip(words[1::2], words[2::2]))
         need(len(dict(clauses)) == len(clauses))
@@ -251,8 +254,8 @@ class Run:
             numbers = [number(part) for part in parts] if word in ("rules", "depth") else []
             need(word != "depth" or len(parts) == 1)
             target[word] = numbers[0] if word == "depth" else numbers or [part.encode("latin-1") for part in parts]
-        self.module, count = conversion.converted(self.module, conversion.Target(words[0] == "full", **target))
-        return f"converted {count}", ""
+        self.module, lines = conversion.converted(self.module, conversion.Target(words[0] == "full", **target))
+        return f"converted {len(lines)}", "".join(line + "\n" for line in lines) if is_traced else ""
 
     def sweep(self, text):
         need(text == "")
@@ -308,7 +311,8 @@ class Run:
             return f" refused {text}{self.about(line, fault.number, fault.at)}\n", word not in LOOKS
         except conversion.Refused as fault:
             op = "" if fault.op is None else f" #{fault.op}"
-            return f" refused {fault.number} {WORDS[fault.number]}{op}\n", True
+            below = f"{fault.stays}\n" if fault.stays and cut(rest)[0] == "trace" else ""
+            return f" refused {fault.number} {WORDS[fault.number]}{op}\n{below}", True
         except edits.Refused as fault:
             return f" refused {fault.number} {WORDS[fault.number]}{self.about(line, fault.number)}\n", word not in LOOKS
 

@@ -169,6 +169,7 @@ def rewrites(shape):
     yield "canon trace", 1, ["canon trace limit 1000000"]
     yield "begin, canon, rollback", 1, ["begin", "canon limit 1000000", "rollback"]
     yield "convert", 1, [f"convert partial {shape.convert}"]
+    yield "convert trace", 1, [f"convert trace partial {shape.convert}"]
 
 
 # Runs.

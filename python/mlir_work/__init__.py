@@ -7,7 +7,7 @@ at any time.
         print(s.print())
 
 docs/EMBED.md has a tour."""
-from .errors import Error, ModuleRefused, ProcessLost, Refused, SessionClosed
+from .errors import Error, ModuleRefused, ProcessLost, Refused, SessionClosed, Stays
 from .library import Library
 from .operations import Operation
 from .patterns import Checked, Pattern
@@ -21,5 +21,5 @@ from .way import Way
 
 __all__ = ["KINDS", "Argument", "Canonicalized", "Checked", "Constant", "Dead", "Diagnostic", "Effect", "Error",
            "Library", "ModuleRefused", "Operation", "Pattern", "Process", "ProcessLost", "Refused", "Reply", "Result",
-           "Reason", "Rewrite", "Row", "Session", "SessionClosed", "Symbol", "Traced", "Unreached", "Use", "Value",
-           "Way", "after", "before", "end", "quoted", "start"]
+           "Reason", "Rewrite", "Row", "Session", "SessionClosed", "Stays", "Symbol", "Traced", "Unreached", "Use",
+           "Value", "Way", "after", "before", "end", "quoted", "start"]

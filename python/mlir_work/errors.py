@@ -1,5 +1,16 @@
 """What is raised."""
-from typing import Optional
+from typing import NamedTuple, Optional
+
+
+class Stays(NamedTuple):
+    """Why an operation stays that can't be made legal: the rule of the target that was tried last there, by its number
+    and its word, and the word of the first of its conditions that doesn't hold, or `makes-illegal`; no rule, an empty
+    word and `no-rule` where the target has none."""
+
+    operation: int
+    rule: Optional[int]
+    word: str
+    said: str
 
 
 class Error(Exception):
@@ -9,13 +20,15 @@ class Error(Exception):
 class Refused(Error):
     """A command was refused, and changed nothing. `number` and `word` are those of docs/REFUSALS.md; `at` is the byte
     of the OPERATION or the ATTRIBUTE at which it is wrong, and `operation` the one that a `convert` is refused for,
-    where the reply has them; `line` is the command."""
+    where the reply has them; `stays` is why that operation stays, where a `convert trace` tells it; `line` is the
+    command."""
 
     def __init__(self, number: int, word: str, at: Optional[int] = None, operation: Optional[int] = None,
-                 line: str = "") -> None:
+                 line: str = "", stays: Optional[Stays] = None) -> None:
         place = f" at {at}" if at is not None else f" #{operation}" if operation is not None else ""
         super().__init__(f"{number} {word}{place}" + (f": {line}" if line else ""))
         self.number, self.word, self.at, self.operation, self.line = number, word, at, operation, line
+        self.stays = stays
 
 
 class ModuleRefused(Error):

@@ -2,10 +2,11 @@
 import re
 from typing import List, NamedTuple, Optional
 
-from .errors import Refused
+from .errors import Refused, Stays
 
 _REFUSED = re.compile(r"refused (\d+) (\w+)(?: at (\d+))?(?: #(\d+))?.*", re.S)
 _NUMBER = re.compile(r"\w+ #?(\d+)")
+_STAYS = re.compile(r"^stays #(\d+) (?:(\d+) (\S+) )?(\S+)$", re.M)
 
 
 def lines_of(text: str) -> List[str]:
@@ -38,4 +39,9 @@ class Reply(NamedTuple):
         if not found:
             return None
         at, operation = (None if it is None else int(it) for it in found.groups()[2:])
-        return Refused(int(found[1]), found[2], at, operation, line)
+        return Refused(int(found[1]), found[2], at, operation, line, self._stays())
+
+    def _stays(self) -> Optional[Stays]:
+        """Why an operation stays, where that is told."""
+        found = _STAYS.search(self.shown)
+        return Stays(int(found[1]), int(found[2]) if found[2] else None, found[3] or "", found[4]) if found else None

@@ -59,6 +59,11 @@ def traced_of(reply: Reply) -> Traced:
     return Traced([_rewrite(line) for line in lines_of(reply.shown)], reply.outcome == "converged")
 
 
+def stood_of(reply: Reply) -> List[Rewrite]:
+    """The rules that stand behind a conversion that is told."""
+    return [_rewrite(line) for line in lines_of(reply.shown)]
+
+
 def reasons_of(reply: Reply) -> List[Reason]:
     """What the reply to a `why` tells."""
     told = [line.split(" ") for line in lines_of(reply.shown)]

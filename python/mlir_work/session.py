@@ -1,5 +1,6 @@
 """A module that is held, edited and asked."""
 import contextlib
+import os
 import re
 import threading
 from types import TracebackType
@@ -12,7 +13,7 @@ from .operations import Operation
 from .patterns import Checked, Pattern, checked_of, patterns_of
 from .process import DIVIDER, Process, Program
 from .reply import Reply
-from .rewrites import Canonicalized, Reason, Traced, canonicalized_of, reasons_of, traced_of
+from .rewrites import Canonicalized, Reason, Rewrite, Traced, canonicalized_of, reasons_of, stood_of, traced_of
 from .rows import KINDS, Constant, Dead, Diagnostic, Effect, Row, Symbol, Unreached, Use, rows_of
 from .values import Value, key_text, op_text
 from .way import Way
@@ -20,6 +21,8 @@ from .way import Way
 Text = Union[str, bytes]
 ValueText = Union[Value, str]
 Subject = Union[int, Operation, Value, str]
+File = Union[str, "os.PathLike[str]"]
+Files = Union[File, Iterable[File]]
 _BLANKS = b" \t\r"
 _WORD = re.compile(rb"[^ \t]*")
 # What stands in front of a command that is to be refused.
@@ -51,6 +54,22 @@ def _ruled(rules: Iterable[Union[int, str]]) -> str:
     return rules if isinstance(rules, str) else ",".join(map(str, rules))
 
 
+def _target(mode: str, legal: Iterable[str], illegal: Iterable[str], dynamic: Iterable[str], rules: Iterable[int],
+            depth: Optional[int]) -> str:
+    """A mode and clauses, as a line has them."""
+    lists = {"legal": _listed(legal), "illegal": _listed(illegal), "dynamic": _listed(dynamic),
+             "rules": [str(it) for it in rules], "depth": [] if depth is None else [str(depth)]}
+    return " ".join([mode, *(f"{word} {','.join(them)}" for word, them in lists.items() if them)])
+
+
+def _patterns_in(files: Files) -> Iterator[bytes]:
+    """The patterns of some files, each a line that isn't empty and is no comment."""
+    for file in [files] if isinstance(files, (str, os.PathLike)) else files:
+        with open(file, "rb") as given:
+            lines = [line.strip(_BLANKS) for line in given.read().split(b"\n")]
+        yield from (line for line in lines if line and not line.startswith(b"//"))
+
+
 def _named(of: Subject) -> str:
     """An operation or a value, as a line names it."""
     return op_text(of) if isinstance(of, (int, Operation)) else str(of)
@@ -79,15 +98,16 @@ class Session:
     analyses that are wanted, all where nothing is said; `limit` is the most rewrites of a plain `canon`. A program that
     keeps silent for longer than `timeout` seconds is given up; without one it is waited for. `way` is another way to
     the workbench than these. With `opaque` types and attributes that aren't known are kept as they are spelled, in the
-    text and in commands.
+    text and in commands. `patterns` is a file of patterns of one's own, a line each, or several, which are defined
+    before anything else.
 
-    Raises ModuleRefused. Each call below raises Refused where the command is refused, which changes nothing, and
-    ProcessLost where the program ended, which closes the session, as an interrupt within a call does. A session is one
-    thread's, the one that opened it; several sessions are independent."""
+    Raises ModuleRefused, and Refused where a pattern of a file is. Each call below raises Refused where the command is
+    refused, which changes nothing, and ProcessLost where the program ended, which closes the session, as an interrupt
+    within a call does. A session is one thread's, the one that opened it; several sessions are independent."""
 
     def __init__(self, text: Text, program: Optional[Program] = None, kinds: Optional[Iterable[str]] = None,
                  limit: Optional[int] = None, *, timeout: Optional[float] = None, way: Optional[Way] = None,
-                 opaque: bool = False) -> None:
+                 opaque: bool = False, patterns: Files = ()) -> None:
         wanted = None if kinds is None else _listed(kinds)
         unknown = [kind for kind in wanted or () if kind not in KINDS]
         if unknown:
@@ -110,6 +130,8 @@ class Session:
             for kind in KINDS if wanted is not None else ():
                 if kind in there and kind not in (wanted or ()):
                     self.detach(kind)
+            for pattern in _patterns_in(patterns):
+                self.command(b"pattern " + pattern)
         except BaseException:
             self._abandon()
             raise
@@ -330,10 +352,14 @@ class Session:
     def convert(self, mode: str = "partial", *, legal: Iterable[str] = (), illegal: Iterable[str] = (),
                 dynamic: Iterable[str] = (), rules: Iterable[int] = (), depth: Optional[int] = None) -> int:
         """Converts to a target (docs/CONVERT.md), and gives how many rules stand. The mode is `partial` or `full`."""
-        lists = {"legal": _listed(legal), "illegal": _listed(illegal), "dynamic": _listed(dynamic),
-                 "rules": [str(it) for it in rules], "depth": [] if depth is None else [str(depth)]}
-        clauses = [f"{word} {','.join(them)}" for word, them in lists.items() if them]
-        return self.command(" ".join(["convert", mode, *clauses])).number or 0
+        return self.command(f"convert {_target(mode, legal, illegal, dynamic, rules, depth)}").number or 0
+
+    def trace_convert(self, mode: str = "partial", *, legal: Iterable[str] = (), illegal: Iterable[str] = (),
+                      dynamic: Iterable[str] = (), rules: Iterable[int] = (),
+                      depth: Optional[int] = None) -> List[Rewrite]:
+        """Converts so, and gives the rules that stand, in the order in which they were applied. Where it is refused for
+        an operation that can't be made legal, `stays` of what is raised says why."""
+        return stood_of(self.command(f"convert trace {_target(mode, legal, illegal, dynamic, rules, depth)}"))
 
     def sweep(self) -> int:
         """Takes away the private symbols that nothing reaches, and gives how many they were."""

@@ -2,6 +2,7 @@
 import pathlib
 import random
 import sys
+import tempfile
 import threading
 import typing
 import unittest
@@ -24,6 +25,10 @@ SWAPPED = """%a = "test.a"() : () -> i32
 %1 = "arith.constant"() <{value = 1 : i32}> : () -> i32
 %p = "arith.muli"(%1, %a) : (i32, i32) -> i32
 "test.u"(%p) : (i32) -> ()
+"""
+REMAINDER = """%a = "test.a"() : () -> i32
+%r = "arith.remsi"(%a, %a) : (i32, i32) -> i32
+"test.u"(%r) : (i32) -> ()
 """
 ODD = '''"func.func"() <{function_type = () -> (), sym_name = "a b\\0A\\"#3",
                   sym_visibility = "private"}> ({}) : () -> ()
@@ -193,6 +198,45 @@ class Calls(Case):
             self.assertEqual(told.rewrites[0], mlir_work.Rewrite(3, "swap-constant", 3))
             self.assertEqual([(it.rule, it.operation, it.is_erased) for it in told.rewrites[1:]], [(5, 3, True)])
             self.assertEqual(s.rewrite("erase-dead"), (1, True))
+
+    def test_conversions_that_are_told(self):
+        with session(REMAINDER) as s:
+            target = {"illegal": ["arith.remsi", "arith.subi"], "rules": [27, 26]}
+            with self.assertRaises(mlir_work.Refused) as caught:
+                s.trace_convert(**target, depth=1)
+            fault = caught.exception
+            self.assertEqual((fault.number, fault.operation), (52, 2))
+            self.assertEqual(fault.stays, mlir_work.Stays(2, 26, "expand-difference", "other-operation"))
+            for words, stays in (({"illegal": "arith.remsi"}, (2, None, "", "no-rule")),
+                                 ({**target, "rules": [27]}, (2, 27, "expand-remainder", "makes-illegal")),
+                                 ({"rules": [1]}, None)):
+                with self.assertRaises(mlir_work.Refused) as caught:
+                    s.trace_convert(**words)
+                self.assertEqual(caught.exception.stays, stays)
+            with self.assertRaises(mlir_work.Refused) as caught:
+                s.convert(**target, depth=1)
+            self.assertIsNone(caught.exception.stays)
+            self.assertEqual(s.trace_convert(**target), [
+                mlir_work.Rewrite(27, "expand-remainder", 2, (4, 5, 6), True),
+                mlir_work.Rewrite(26, "expand-difference", 6, (7, 8, 9, 10, 11), True)])
+            self.assertEqual(s.trace_convert("full", legal={it.name for it in s}), [])
+
+    def test_patterns_of_files(self):
+        with tempfile.TemporaryDirectory() as room:
+            files = [pathlib.Path(room, name) for name in ("a", "b")]
+            files[0].write_bytes(b"// both\n\n \tone arith.muli(1, %a) => %a // x\r\n")
+            files[1].write_bytes(b"two arith.muli(%a, 1) => %a")
+            for given, names in ((str(files[0]), ["one"]), (files[1], ["two"]), (files, ["one", "two"]), ((), [])):
+                with session(SWAPPED, patterns=given) as s:
+                    self.assertEqual([it.name for it in s.patterns()], names)
+            with session(SWAPPED, kinds=["dead"], patterns=files[:1]) as s:
+                self.assertTrue(s.apply("one", 3))
+            files[1].write_bytes(b"one arith.muli(%a, 1) => %a")
+            with self.assertRaises(mlir_work.Refused) as caught:
+                session(SWAPPED, patterns=files)
+            self.assertEqual((caught.exception.number, caught.exception.at), (4, 0))
+            with self.assertRaises(FileNotFoundError):
+                session(SWAPPED, patterns=pathlib.Path(room, "none"))
 
     def test_rules_at_an_operation(self):
         with session(SWAPPED) as s:

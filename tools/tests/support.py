@@ -14,8 +14,10 @@ import program  # noqa: E402
 
 def referred(text):
     """The status of a run by bench/reference, and the text that it writes."""
-    from reference import script
-    status, out = (script.run_opaque if program.OPAQUE in program.ASKED else script.run)(text, True)
+    from reference import aliases, own, rules
+    reader = aliases.Reader if program.OPAQUE in program.ASKED else rules.Reader
+    files = [file for option, file in zip(program.ASKED, program.ASKED[1:]) if option == program.PATTERNS]
+    status, out = own.run(text, book=own.book_of(files), reader=reader)
     return status, out.decode()
 
 

@@ -2,12 +2,19 @@
 import unittest
 import unittest.mock
 
-from support import mistakes, program, session, targets
+from support import explain, mistakes, program, session, targets
 
 # Lines that are no command, with the byte where the fault stands, and a part of what is said.
 MISSPELT = {
-    "convert": (7, "MODE is missing: write `convert MODE CLAUSES`; a mode is `partial` or `full`"),
-    "convert illegal a.b": (8, "`illegal` is no MODE: write `convert MODE CLAUSES`; a mode is `partial` or `full`"),
+    "convert": (7, "MODE is missing: write `convert MODE CLAUSES` or `convert trace MODE CLAUSES`; a mode is "
+                   "`partial` or `full`"),
+    "convert illegal a.b": (8, "`illegal` is no MODE: write `convert MODE CLAUSES` or "),
+    "convert trace": (13, "MODE is missing: write `convert trace MODE CLAUSES`; a mode is `partial` or `full`"),
+    "convert trace  illegal a.b": (15, "`illegal` is no MODE: write `convert trace MODE CLAUSES`; a mode is "),
+    "convert trace trace full": (14, "`trace` is no MODE: write `convert trace MODE CLAUSES`"),
+    "convert partial trace": (16, "`trace` is no clause: the clauses are `legal NAMES`, "),
+    "convert trace full legal a.b,": (29, "a name is missing here"),
+    "convert traces full": (8, "`traces` is no MODE: write `convert MODE CLAUSES` or `convert trace MODE CLAUSES`"),
     "convert partial a.b": (16, "`a.b` is no clause: the clauses are `legal NAMES`, "),
     "convert full legal": (18, "NAMES is missing: write `legal NAMES`"),
     "convert full  legal a.b, a.c": (24, "a name is missing here"),
@@ -31,9 +38,11 @@ UNFIT = {
     "convert partial rules 25,31": (25, "31 is none of the rules 2 and 25 to 30"),
     "convert partial depth 0": (22, "a depth is 1 to 16"),
     "convert partial legal a.b depth 17": (32, "a depth is 1 to 16"),
+    "convert trace partial depth 0": (28, "a depth is 1 to 16"),
+    " convert \ttrace  full legal a.c rules 2,1": (40, "1 is none of the rules 2 and 25 to 30"),
 }
 RIGHT = ["convert partial", "convert full", "convert partial depth 1 rules 2,25,25 dynamic a.b legal c,d illegal e",
-         "canon", "canon limit 0", "sweep"]
+         "convert trace partial", "convert\ttrace full  rules 27,26", "canon", "canon limit 0", "sweep"]
 REMAINDER = b'''%a = "test.a"() : () -> i32
 %r = "arith.remsi"(%a, %a) : (i32, i32) -> i32
 "test.use"(%r) : (i32) -> ()
@@ -82,7 +91,7 @@ class Targets(unittest.TestCase):
     def test_the_others_are_not(self):
         replies = program.replies(program.asked(b"", RIGHT)[1])
         self.assertEqual([line for line, (reply, _) in zip(RIGHT, replies) if "54" in reply], [])
-        self.assertTrue(all(targets.unfit(line) is None for line in RIGHT[:3]))
+        self.assertTrue(all(targets.unfit(line) is None for line in RIGHT[:5]))
 
 
 class Answered(unittest.TestCase):
@@ -100,6 +109,31 @@ class Answered(unittest.TestCase):
             '+    #3    "test.use"(%v6.0) : (i32) -> ()'])
         self.assertEqual(here.answer("undo"), ["undone: convert partial illegal arith.remsi rules 27"])
         self.assertEqual(here.answer("at #2 0"), ['    #2    %v2.0 = "arith.remsi"(%v1.0, %v1.0) : (i32, i32) -> i32'])
+
+    def test_what_is_told(self):
+        here = begun(REMAINDER)
+        line = "convert trace partial illegal arith.remsi,arith.subi rules 27,26"
+        self.assertEqual(here.answer(line), [
+            "converted 2", "rewrote 27 expand-remainder #2 made #4,#5,#6 erased #2",
+            "rewrote 26 expand-difference #6 made #7,#8,#9,#10,#11 erased #6"])
+        self.assertEqual(here.kept(), [line])
+        self.assertEqual(here.answer("undo"), [f"undone: {line}"])
+        refused, *_, shown, stays = here.answer(f"{line} depth 1")
+        self.assertTrue(refused.startswith("refused 52 ChainTooDeep #2: "))
+        self.assertEqual(shown, '    #2    %v2.0 = "arith.remsi"(%v1.0, %v1.0) : (i32, i32) -> i32')
+        self.assertEqual(stays, "stays #2 26 expand-difference other-operation")
+        self.assertEqual(here.answer("convert trace full")[-1], "stays #0 no-rule")
+        self.assertEqual(here.answer("convert trace partial rules 1")[1:], ["    convert trace partial rules 1",
+                                                                           "                                ^"])
+        self.assertEqual(here.kept(), [])
+
+    def test_what_is_told_is_explained(self):
+        script = b"convert trace partial illegal arith.remsi\nexpect 51 convert trace partial illegal arith.remsi\n"
+        replies = program.replies(program.ran(program.joined(REMAINDER, script))[1])
+        told = explain.commands_refused("a", (REMAINDER, script), 1, replies[:1])
+        self.assertTrue(told[0].startswith("a:1:1: 51 NotLegalised #2: "))
+        self.assertEqual([line[:8] for line in told[-2:]], ["    #2  ", "stays #2"])
+        self.assertEqual(replies[1], ("refused 51 NotLegalised #2", ["stays #2 no-rule"]))
 
     def test_sweep(self):
         self.assertEqual(begun(PRIVATE).answer("sweep")[0], "swept 1")

@@ -1,6 +1,8 @@
 """Patterns of one's own that are there from the start, `--patterns FILE`: what lines of files are refused, and where,
 by hand and by the rules; and what is written where none is, in each way to run, is what the rules write with that
 book."""
+import contextlib
+import io
 import os
 import pathlib
 import re
@@ -9,8 +11,11 @@ import sys
 import tempfile
 import unittest
 
-from support import ROOT, program
+from support import ROOT, program, session
 
+import completion
+import mlir_work
+import ways
 from reference import json_lines, own
 
 MODULE = b"""%a = "t.a"() : () -> i8
@@ -223,6 +228,51 @@ class Patterns(Case):
         flags, _ = self.flags([ZERO, DOUBLE])
         status, out, told = self.ran("--brief", *flags, given=MODULE + DIVIDER + ASKED)
         self.assertEqual((status, told, out), (1, "", ANSWERED))
+
+    def main(self, *words):
+        """The status of a tool, and what it writes."""
+        with contextlib.redirect_stdout(io.TextIOWrapper(io.BytesIO())) as out, \
+                contextlib.redirect_stderr(io.StringIO()) as told:
+            status = mlir_work.main(words)
+            out.flush()
+            return status, out.buffer.getvalue().decode(), told.getvalue()
+
+    def test_tools(self):
+        """Each tool that runs a program has the patterns of files too."""
+        self.addCleanup(program.ask, False)
+        flags, files = self.flags([ZERO, b"// \n" + DOUBLE])
+        module, script = self.named("m.mlir", MODULE), self.named("s", b"apply zero #3\nrewrite double\n")
+        self.assertEqual(self.main("explain", *flags, module, script), (0, "", ""))
+        status, out, _ = self.main("explain", module, script)
+        self.assertEqual((status, out.count("26 NoSuchKey")), (1, 2))
+        page = str(self.folder / "page.html")
+        self.assertEqual(self.main("page", *flags, module, script, "-o", page), (0, "", ""))
+        self.assertIn('"reply":"converged 1"', pathlib.Path(page).read_text())
+        smaller = str(self.folder / "smaller.mlir")
+        goal = f"--refused=pattern {ZERO.decode().strip()} = 4"
+        self.assertEqual(self.main("reduce", *flags, goal, module, "-o", smaller)[0], 0)
+        self.assertEqual(self.main("reduce", goal, module, "-o", smaller)[0], 1)
+        for name, told in ((self.named("wrong", ZERO + ZERO), "line 2: refused 4 Redefined at 0"),
+                           ("none", "it can't be read")):
+            self.assertEqual(self.main("explain", "--patterns", name, module, script),
+                             (2, "", f"mlir-work: {name}: {told}\n"))
+
+    def test_prompt(self):
+        """What is typed to a session may name them, whether one process is told each line or not."""
+        self.addCleanup(program.ask, False)
+        program.ask(False, self.flags([ZERO, b"// \n" + DOUBLE])[1])
+        for way in (ways.Again, ways.Live) if program.has_option("--interactive") else (ways.Again,):
+            here = session.Session(MODULE, way(MODULE))
+            self.addCleanup(here.way.stop)
+            here.begin(b"")
+            self.assertEqual(here.answer("patterns")[0], "ok")
+            self.assertEqual([line.split()[0] for line in here.answer("patterns")[1:]], ["zero", "double"])
+            self.assertEqual(here.answer("apply zero #3")[0], "applied 1")
+            self.assertEqual(here.answer("pattern " + HALF.decode()), ["ok"])
+            self.assertEqual(here.answer("rewrite double trace")[-1][:17], "rewrote double #4")
+            typed = completion.Completion(here)
+            self.assertEqual([typed.completed(it, f"check {it}", 6) for it in ("ze", "d", "ha", "nope")],
+                             [["zero "], ["double "], ["half "], []])
 
     def test_as_if_defined_at_the_beginning(self):
         """The same comes of patterns of a file and of those that a script defines, but for the numbers of replies."""

@@ -129,6 +129,30 @@ class Steps(unittest.TestCase):
                 self.assertEqual(steps[-1].reply, f"rewrite {count} of {count}: {reply}")
                 self.assertEqual(steps[-1].state.lines, replay.keyed(listing.listed(module, [line.decode()], 99)))
 
+    def test_conversions_that_are_told(self):
+        module = (ROOT / "examples/index.mlir").read_bytes()
+        named = "arith.constant,arith.addi,arith.muli,scf.for"
+        for line in (f"convert trace partial dynamic {named} rules 28,29",
+                     f"convert  trace\tpartial dynamic {named},arith.index_cast rules 29,28",
+                     "convert trace partial dynamic arith.muli,arith.addi rules 28"):
+            with self.subTest(line):
+                steps = filled(module, line.encode())
+                (reply, told), = program.replies(program.asked(module, [line])[1])
+                count = len(told)
+                self.assertEqual(reply, f"converted {count}")
+                self.assertGreater(count, 1)
+                self.assertEqual([step.part for step in steps[1:]], [(at, count) for at in range(1, count + 1)])
+                self.assertEqual([step.run[0].split()[2] for step in steps[1:]], [it.split()[3] for it in told])
+                self.assertEqual(steps[-1].reply, f"rewrite {count} of {count}: {reply}")
+                self.assertEqual(steps[-1].state.lines, replay.keyed(listing.listed(module, [line], 99)))
+                few = filled(module, line.encode(), 4)
+                self.assertEqual([step.part for step in few[1:]], [(at, count) for at in range(1, min(count, 3) + 1)])
+                self.assertEqual(few[-1].state.lines, steps[-1].state.lines)
+        for line in (b"convert trace partial illegal scf.for", b"convert trace partial", b"convert partial"):
+            self.assertEqual([step.part for step in filled(module, line)], [None, None])
+        refused = filled(module, b"convert trace partial illegal scf.for")[1]
+        self.assertTrue(refused.says()[0].endswith("; stays #7 no-rule"), refused.says())
+
     def test_most(self):
         module, _ = example("canon")
         whole = filled(module, b"canon\nset-attr #1 k 1\n")
