@@ -27,7 +27,7 @@ class Imports:
         self.crates = sorted(path.name for path in root.iterdir() if path.is_dir())
         self.texts = {path: path.read_text() for it in ("*/specs/**/*.antt", "*/proofs/**/*.antt", "*/src/**/*.rt")
                       for path in root.glob(it)}
-        self.files, self.handed = {}, {}
+        self.files, self.handed, self.named = {}, {}, set()
         for path, text in self.texts.items():
             crate, part, *inside = path.relative_to(root).with_suffix("").parts
             if part != "src":
@@ -40,6 +40,7 @@ class Imports:
         """The module that an import means, and whether it takes lemmas that are handed on whole."""
         by_another = False
         while True:
+            self.named.add(name)
             words = name.split(".")
             head = next((it for it in (".".join(words[:end]) for end in range(len(words), 3, -1)) if it in self.handed),
                         None)
@@ -76,7 +77,9 @@ def leading(imports):
 
 def unused(imports):
     """What a crate hands on, of its code, definitions or lemmas, and no file takes from there."""
-    everything = "\n".join(imports.texts.values())
+    for path in imports.texts:
+        imports.of(path, IMPORT), imports.of(path, GHOST)
+    everything = "\n".join([*imports.texts.values(), *imports.named])
     for name in sorted(imports.handed):
         if not any(name + end in everything for end in (".", " ", "\n")):
             yield name

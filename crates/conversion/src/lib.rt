@@ -22,4 +22,4 @@ mod why;
 pub use conversion_base::{laws, names, rule, stood, target};
 pub use patterns;
 pub use patterns::rewriter;
-pub use patterns_reasons::condition;
+pub use patterns_reasons as reasons;

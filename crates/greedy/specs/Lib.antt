@@ -20,3 +20,4 @@ pub mod Trial
 pub mod Trials
 pub mod Tracing
 pub mod Traced
+pub use Rattle.patterns_own.specs as own

@@ -25,3 +25,4 @@ mod walk;
 mod work;
 
 pub use patterns;
+pub use patterns_own as own;

@@ -1,2 +1,3 @@
 pub mod Joined
 pub mod Viewed
+pub use Rattle.mlir_work_transforms.proofs as of_transforms

@@ -4,3 +4,5 @@
 pub mod listed;
 pub mod mixed;
 pub mod own;
+
+pub use mlir_work_transforms as transforms;

@@ -16,12 +16,12 @@ use Rattle.ir_event.specs.declared.world.World.{World}
 use Rattle.ir_event.specs.Listener.{Listener}
 use Rattle.ir_event.specs.Modules.{module_in}
 use Rattle.ir_event.specs.Panels.{is_kind as has_this_kind}
-use Rattle.mlir_work_transforms.specs.rewriter.Held.{Held, module_held}
-use Rattle.mlir_work_transforms.specs.rewriter.Benched.{Benched, state_of}
-use Rattle.mlir_work_transforms.specs.rewriter.Commands.{Replied}
-use Rattle.mlir_work_transforms.specs.rewriter.Machine as call
-use Rattle.mlir_work_transforms.specs.rewriter.Machine.{State, Reply, Done, Refused, Shows, Nothing, Rows, Goes}
-use Rattle.mlir_work_transforms.specs.rewriter.Panels.{Shown, is_kind, shown}
+use Rattle.mlir_work_mixed.specs.transforms.rewriter.Held.{Held, module_held}
+use Rattle.mlir_work_mixed.specs.transforms.rewriter.Benched.{Benched, state_of}
+use Rattle.mlir_work_mixed.specs.transforms.rewriter.Commands.{Replied}
+use Rattle.mlir_work_mixed.specs.transforms.rewriter.Machine as call
+use Rattle.mlir_work_mixed.specs.transforms.rewriter.Machine.{State, Reply, Done, Refused, Shows, Nothing, Rows, Goes}
+use Rattle.mlir_work_mixed.specs.transforms.rewriter.Panels.{Shown, is_kind, shown}
 use Rattle.mlir_work_script.specs.Orders.{ReportOf}
 use Rattle.mlir_work_script.specs.declared.subject.Subject.{Subject}
 use Rattle.mlir_work_script.specs.declared.subject.Subject.TheVariants as subject

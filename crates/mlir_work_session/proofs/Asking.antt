@@ -3,9 +3,9 @@ use Rattle.std.proofs.Common.{◌≡◌, ◌∙◌, sym, ap, ℕ, List, Bool, Op
 use Rattle.ir_event.specs.trees.Ids.{has_id}
 use Rattle.ir_event.specs.declared.world.World.{World}
 use Rattle.ir_event.specs.Modules.{module_in}
-use Rattle.mlir_work_transforms.specs.Rule.{Rule}
-use Rattle.mlir_work_transforms.specs.WhyText.{told_rules, why_lines}
-use Rattle.mlir_work_transforms.specs.rewriter.Held.{Held, module_held}
+use Rattle.mlir_work_mixed.specs.transforms.Rule.{Rule}
+use Rattle.mlir_work_mixed.specs.transforms.WhyText.{told_rules, why_lines}
+use Rattle.mlir_work_mixed.specs.transforms.rewriter.Held.{Held, module_held}
 use Rattle.mlir_work_session.proofs.Reading.{module_seen}
 
 -- what is in the module of a bench, by its world

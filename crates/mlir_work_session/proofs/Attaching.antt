@@ -6,11 +6,11 @@ use Rattle.ir_event.specs.types.declared.refusal.Refusal.TheVariants.{KindTaken,
 use Rattle.ir_event.specs.Modules.{Module}
 use Rattle.ir_event.specs.Listener.{Listener}
 use Rattle.ir_event.specs.Panels.{AttachedLast, HandedBack}
-use Rattle.mlir_work_transforms.specs.rewriter.Panels.{Shown, shown, all_shown, has_kind}
+use Rattle.mlir_work_mixed.specs.transforms.rewriter.Panels.{Shown, shown, all_shown, has_kind}
 use Rattle.mlir_work_session.specs.Output.{BoxTried, Attaches, box_line}
 use Rattle.mlir_work_session.proofs.Panels.{kind_shown}
 use Rattle.ir_event.proofs.of_trees.Counts.{and_true, and_assoc}
-use Rattle.mlir_work_transforms.proofs.of_rewriter.Panels.{shown_last}
+use Rattle.mlir_work_mixed.proofs.of_transforms.of_rewriter.Panels.{shown_last}
 
 module _ {B : Type 0} (meaning : B → Listener) where
   pub tried_added : (c : Things) (m : Module) (b : B) (xs ys : List B) → AttachedLast meaning c m b xs ys → BoxTried (shown (meaning b)) (all_shown meaning xs) (all_shown meaning ys) None

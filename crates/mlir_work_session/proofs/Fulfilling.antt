@@ -4,25 +4,25 @@ use Rattle.std.specs.Prelude.{is_some, option_map, OnOk}
 use Rattle.ir_event.specs.types.declared.refusal.Refusal.{Refusal}
 use Rattle.ir_event.specs.types.declared.refusal.Refusal.TheVariants.{Memory, NoSuchKey, NoSuchKind, NoSuchOp}
 use Rattle.ir_event.specs.Modules.{Module}
-use Rattle.mlir_work_transforms.specs.rewriter.Commands.{AppliesRule, RuleName, Asked, Ask, Misplaced, Unread, Follows, Response, Replied, TextRefusedAt}
-use Rattle.mlir_work_transforms.specs.rewriter.Machine as call
-use Rattle.mlir_work_transforms.specs.rewriter.Machine.{State, Call, Reply, Done, Refused, Shows, Nothing, Transformation, Tree, Goes}
-use Rattle.mlir_work_transforms.specs.rewriter.Panels.{Shown}
+use Rattle.mlir_work_mixed.specs.transforms.rewriter.Commands.{AppliesRule, RuleName, Asked, Ask, Misplaced, Unread, Follows, Response, Replied, TextRefusedAt}
+use Rattle.mlir_work_mixed.specs.transforms.rewriter.Machine as call
+use Rattle.mlir_work_mixed.specs.transforms.rewriter.Machine.{State, Call, Reply, Done, Refused, Shows, Nothing, Transformation, Tree, Goes}
+use Rattle.mlir_work_mixed.specs.transforms.rewriter.Panels.{Shown}
 use Rattle.mlir_work_script.specs.Orders.{Attach, CanonAt, Order, PrintIds, Rewrite, Trace, Why, ReportOf}
 use Rattle.mlir_work_session_base.specs.IdsText.{ids_text}
 use Rattle.mlir_work_session.specs.Machine.{AsksWhy, AttachesKind, Fulfils, OrdersIn, Way, limit_or, order_bytes, told_if, AsksAbout, order_shows, shows_about}
 use Rattle.mlir_work_script.specs.declared.subject.Subject.{Subject}
 use Rattle.mlir_work_session_base.specs.Subjects.{absent, is_there}
 use Rattle.mlir_work_book.specs.Replies.{IsBounded, is_accepted}
-use Rattle.mlir_work_transforms.specs.greedy.Changes.{canonical_reply, rewriting}
-use Rattle.mlir_work_transforms.specs.greedy.Tracing.{trace_of}
-use Rattle.mlir_work_transforms.specs.greedy.Trial.{by_rules}
-use Rattle.mlir_work_transforms.specs.greedy.declared.outcome.Outcome.{Outcome as Ended}
-use Rattle.mlir_work_transforms.specs.Rewriting.{rewriting_named, rules_named}
-use Rattle.mlir_work_transforms.specs.TraceText.{trace_by, trace_text, traced_rules, tracing}
-use Rattle.mlir_work_transforms.specs.Rule.{Rule}
-use Rattle.mlir_work_transforms.specs.At.{canonicalizing_at}
-use Rattle.mlir_work_transforms.specs.WhyText.{asked_rules, why_lines, why_text}
+use Rattle.mlir_work_mixed.specs.transforms.greedy.Changes.{canonical_reply, rewriting}
+use Rattle.mlir_work_mixed.specs.transforms.greedy.Tracing.{trace_of}
+use Rattle.mlir_work_mixed.specs.transforms.greedy.Trial.{by_rules}
+use Rattle.mlir_work_mixed.specs.transforms.greedy.declared.outcome.Outcome.{Outcome as Ended}
+use Rattle.mlir_work_mixed.specs.transforms.Rewriting.{rewriting_named, rules_named}
+use Rattle.mlir_work_mixed.specs.transforms.TraceText.{trace_by, trace_text, traced_rules, tracing}
+use Rattle.mlir_work_mixed.specs.transforms.Rule.{Rule}
+use Rattle.mlir_work_mixed.specs.transforms.At.{canonicalizing_at}
+use Rattle.mlir_work_mixed.specs.transforms.WhyText.{asked_rules, why_lines, why_text}
 use Rattle.ir_event.specs.trees.Ids.{has_id}
 use Rattle.mlir_work_session.proofs.Obeying.{some_goes}
 use Rattle.mlir_work_session.proofs.Panels.{all_stay}

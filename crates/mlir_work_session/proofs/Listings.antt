@@ -5,8 +5,8 @@ use Rattle.std.proofs.Math.Seq.{drop-cons}
 use Rattle.ir_event.specs.trees.Meaning.{Operation}
 use Rattle.ir_event.specs.Listener.{Listener}
 use Rattle.mlir_work_script.specs.Replies.{stale_line, kind_memory_line, module_memory_line}
-use Rattle.mlir_work_transforms.specs.rewriter.Machine.{State}
-use Rattle.mlir_work_transforms.specs.rewriter.Panels.{Shown, shown, all_shown}
+use Rattle.mlir_work_mixed.specs.transforms.rewriter.Machine.{State}
+use Rattle.mlir_work_mixed.specs.transforms.rewriter.Panels.{Shown, shown, all_shown}
 use Rattle.mlir_work_session.specs.Output.{IsKind, AreKinds, IsListing, IsListingIf}
 
 some_kind : (t : Operation) (k : Shown) → (out : List ℕ) × IsKind t k out

@@ -4,14 +4,14 @@ use Rattle.std.specs.Prelude.{is_some, option_map, OnOk}
 use Rattle.ir_event.specs.types.declared.refusal.Refusal.{Refusal}
 use Rattle.ir_event.specs.types.declared.refusal.Refusal.TheVariants.{Full, Memory, NoSuchKey}
 use Rattle.ir_event.specs.Modules.{Module}
-use Rattle.mlir_work_transforms.specs.rewriter.Commands.{AppliesRule, Asked, Ask, Misplaced, Unread, Follows, Response, Replied, TextRefusedAt}
-use Rattle.mlir_work_transforms.specs.rewriter.Machine as call
-use Rattle.mlir_work_transforms.specs.rewriter.Machine.{State, Call, Reply, Refused, Nothing, Transformation, Goes, IsFullSo}
-use Rattle.mlir_work_transforms.specs.greedy.Changes.{canonical_reply, rewriting}
-use Rattle.mlir_work_transforms.specs.greedy.Tracing.{trace_of}
-use Rattle.mlir_work_transforms.specs.greedy.Trial.{Attempt, by_attempts}
-use Rattle.mlir_work_transforms.specs.greedy.declared.outcome.Outcome.{Outcome as Ended}
-use Rattle.mlir_work_transforms.specs.TraceText.{trace_text}
+use Rattle.mlir_work_mixed.specs.transforms.rewriter.Commands.{AppliesRule, Asked, Ask, Misplaced, Unread, Follows, Response, Replied, TextRefusedAt}
+use Rattle.mlir_work_mixed.specs.transforms.rewriter.Machine as call
+use Rattle.mlir_work_mixed.specs.transforms.rewriter.Machine.{State, Call, Reply, Refused, Nothing, Transformation, Goes, IsFullSo}
+use Rattle.mlir_work_mixed.specs.transforms.greedy.Changes.{canonical_reply, rewriting}
+use Rattle.mlir_work_mixed.specs.transforms.greedy.Tracing.{trace_of}
+use Rattle.mlir_work_mixed.specs.transforms.greedy.Trial.{Attempt, by_attempts}
+use Rattle.mlir_work_mixed.specs.transforms.greedy.declared.outcome.Outcome.{Outcome as Ended}
+use Rattle.mlir_work_mixed.specs.transforms.TraceText.{trace_text}
 use Rattle.mlir_work_script.specs.Orders.{Order}
 use Rattle.mlir_work_book.specs.Replies.{IsBounded, is_accepted}
 use Rattle.mlir_work_book.specs.Shelf.{Book}

@@ -10,22 +10,22 @@ use Rattle.ir_event.specs.Listener.{Listener}
 use Rattle.ir_event.specs.Panels.{is_kind as has_this_kind}
 use Rattle.ir_text.specs.Printing.{text_of}
 use Rattle.ir_text.specs.Public.{SpellsAttr}
-use Rattle.mlir_work_transforms.specs.rewriter.Texts.{SpellsBeside}
-use Rattle.mlir_work_transforms.specs.rewriter.Held.{module_held}
-use Rattle.mlir_work_transforms.specs.rewriter.Benched.{Benched, state_of}
-use Rattle.mlir_work_transforms.specs.rewriter.Commands as command
-use Rattle.mlir_work_transforms.specs.rewriter.Commands.{AppliesRule, RuleName, Command, Asked, Ask, Misplaced, Unread, Follows, IsAttrRefusal, IsOpRefusal, Response, Replied, TextRefusedAt, TextRefused}
-use Rattle.mlir_work_transforms.specs.rewriter.Edits as edit
-use Rattle.mlir_work_transforms.specs.rewriter.Machine as call
-use Rattle.mlir_work_transforms.specs.rewriter.Machine.{State, OpenMark, Call, Do, Reply, Done, Refused, Shows, Nothing, Rows, Tree, Answer, Goes, due, due_rollback, grows_under, PanelGoes}
-use Rattle.mlir_work_transforms.specs.rewriter.Panels.{Shown, is_kind, has_kind, shown}
-use Rattle.mlir_work_transforms.specs.rewriter.Spots.{Spot, spot_place}
+use Rattle.mlir_work_mixed.specs.transforms.rewriter.Texts.{SpellsBeside}
+use Rattle.mlir_work_mixed.specs.transforms.rewriter.Held.{module_held}
+use Rattle.mlir_work_mixed.specs.transforms.rewriter.Benched.{Benched, state_of}
+use Rattle.mlir_work_mixed.specs.transforms.rewriter.Commands as command
+use Rattle.mlir_work_mixed.specs.transforms.rewriter.Commands.{AppliesRule, RuleName, Command, Asked, Ask, Misplaced, Unread, Follows, IsAttrRefusal, IsOpRefusal, Response, Replied, TextRefusedAt, TextRefused}
+use Rattle.mlir_work_mixed.specs.transforms.rewriter.Edits as edit
+use Rattle.mlir_work_mixed.specs.transforms.rewriter.Machine as call
+use Rattle.mlir_work_mixed.specs.transforms.rewriter.Machine.{State, OpenMark, Call, Do, Reply, Done, Refused, Shows, Nothing, Rows, Tree, Answer, Goes, due, due_rollback, grows_under, PanelGoes}
+use Rattle.mlir_work_mixed.specs.transforms.rewriter.Panels.{Shown, is_kind, has_kind, shown}
+use Rattle.mlir_work_mixed.specs.transforms.rewriter.Spots.{Spot, spot_place}
 use Rattle.mlir_work_session.specs.Texts.{NotRead}
-use Rattle.mlir_work_transforms.specs.greedy.Changes.{canonicalizing}
-use Rattle.mlir_work_transforms.specs.Applying.{applying, rule_named}
-use Rattle.mlir_work_transforms.specs.Converting.{conversion}
-use Rattle.mlir_work_transforms.specs.Rule.{Rule}
-use Rattle.mlir_work_transforms.specs.Sweep.{sweeping}
+use Rattle.mlir_work_mixed.specs.transforms.greedy.Changes.{canonicalizing}
+use Rattle.mlir_work_mixed.specs.transforms.Applying.{applying, rule_named}
+use Rattle.mlir_work_mixed.specs.transforms.Converting.{conversion}
+use Rattle.mlir_work_mixed.specs.transforms.Rule.{Rule}
+use Rattle.mlir_work_mixed.specs.transforms.Sweep.{sweeping}
 use Rattle.mlir_work_session.specs.declared.manner.Manner.{Manner}
 use Rattle.mlir_work_session.specs.Machine.{AsksIn, Obeys, limit_or, shows_text}
 use Rattle.mlir_work_session_base.specs.RowText.{rows_text}

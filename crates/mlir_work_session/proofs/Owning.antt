@@ -2,10 +2,10 @@
 use Rattle.std.proofs.Common.{◌≡◌, ◌∙◌, sym, ap, refl, subst, ◌⊎◌, inl, inr, ℕ, ◌≤◌, List, [], Option, Some, None}
 use Rattle.ir_event.specs.types.declared.refusal.Refusal.{Refusal}
 use Rattle.ir_event.specs.types.declared.refusal.Refusal.TheVariants.{Memory}
-use Rattle.mlir_work_transforms.specs.Applying.{applying_own}
-use Rattle.mlir_work_transforms.specs.rewriter.Commands.{Ask, Command, Follows, Response, Replied, TextRefusedAt}
-use Rattle.mlir_work_transforms.specs.rewriter.Machine as call
-use Rattle.mlir_work_transforms.specs.rewriter.Machine.{Goes, IsFullSo, Nothing, Refused, Reply, State}
+use Rattle.mlir_work_mixed.specs.transforms.Applying.{applying_own}
+use Rattle.mlir_work_mixed.specs.transforms.rewriter.Commands.{Ask, Command, Follows, Response, Replied, TextRefusedAt}
+use Rattle.mlir_work_mixed.specs.transforms.rewriter.Machine as call
+use Rattle.mlir_work_mixed.specs.transforms.rewriter.Machine.{Goes, IsFullSo, Nothing, Refused, Reply, State}
 use Rattle.mlir_work_book.specs.Shelf.{Kept}
 use Rattle.mlir_work_session.specs.declared.manner.Manner.{Manner}
 use Rattle.mlir_work_session.specs.Machine.{AsksRoom, FullSo, Obeys}

@@ -9,8 +9,8 @@ use Rattle.ir_event.specs.declared.event.Event.{Event}
 use Rattle.ir_event.specs.Modules.{Module, Node}
 use Rattle.ir_event.specs.Listener.{Listener}
 use Rattle.ir_event.specs.Panels.{AllTold, is_kind as has_this_kind, has_kind as panel_has, Detached, BegunAgain}
-use Rattle.mlir_work_transforms.specs.rewriter.Panels.{Shown, IsSame, Ages, shown, all_shown, is_kind, has_kind, Detached as DetachedShown, BegunAgain as BegunShown}
-use Rattle.mlir_work_transforms.proofs.of_rewriter.Panels.{found_shown, got_shown, has_placed, position_shown, removed_shown, set_shown}
+use Rattle.mlir_work_mixed.specs.transforms.rewriter.Panels.{Shown, IsSame, Ages, shown, all_shown, is_kind, has_kind, Detached as DetachedShown, BegunAgain as BegunShown}
+use Rattle.mlir_work_mixed.proofs.of_transforms.of_rewriter.Panels.{found_shown, got_shown, has_placed, position_shown, removed_shown, set_shown}
 
 same_self : (a : Shown) → IsSame a a
 same_self a = record { kind = refl; analysis = λ t. refl }

@@ -19,8 +19,8 @@ use Rattle.ir_event.proofs.of_tree_laws.Contents.{map_has_id, same_id, map_ops_a
 use Rattle.ir_event.specs.store.Nodes.{Node, node_of, regions_arguments}
 use Rattle.ir_event.specs.store.Stored.{Stored, known}
 use Rattle.ir_event.proofs.Shown.{known_there}
-use Rattle.mlir_work_transforms.specs.rewriter.Held.{Held, module_held}
-use Rattle.mlir_work_transforms.specs.rewriter.Spots.{Spot, Before, After, Start, End, passing, coming, behind, beside, in_block, spot_place}
+use Rattle.mlir_work_mixed.specs.transforms.rewriter.Held.{Held, module_held}
+use Rattle.mlir_work_mixed.specs.transforms.rewriter.Spots.{Spot, Before, After, Start, End, passing, coming, behind, beside, in_block, spot_place}
 
 module _ {N T A M U B : Type 0} (f : N → M) (g : T → U) (h : A → B) where
   map_has_block : (p r : ℕ) (t : OpOf N T A) → is_some (ops_at p r (map_tree f g h t)) ≡ is_some (ops_at p r t)

@@ -9,11 +9,11 @@ use Rattle.ir_event.specs.trees.Meaning.{Operation}
 use Rattle.ir_event.specs.Modules.{Module}
 use Rattle.ir_event.specs.Listener.{Listener}
 use Rattle.ir_text.specs.Printing.{text_of}
-use Rattle.mlir_work_transforms.specs.rewriter.Commands as said
-use Rattle.mlir_work_transforms.specs.rewriter.Commands.{Command, Ask, Replied, TextRefusedAt}
-use Rattle.mlir_work_transforms.specs.rewriter.Machine as call
-use Rattle.mlir_work_transforms.specs.rewriter.Machine.{State, Done, Refused, Tree, Nothing as NoRows}
-use Rattle.mlir_work_transforms.specs.rewriter.Panels.{Shown, all_shown, has_kind, is_kind}
+use Rattle.mlir_work_mixed.specs.transforms.rewriter.Commands as said
+use Rattle.mlir_work_mixed.specs.transforms.rewriter.Commands.{Command, Ask, Replied, TextRefusedAt}
+use Rattle.mlir_work_mixed.specs.transforms.rewriter.Machine as call
+use Rattle.mlir_work_mixed.specs.transforms.rewriter.Machine.{State, Done, Refused, Tree, Nothing as NoRows}
+use Rattle.mlir_work_mixed.specs.transforms.rewriter.Panels.{Shown, all_shown, has_kind, is_kind}
 use Rattle.mlir_work_script.specs.Commands.{Spoken, Nothing, Bad, Obey, Ordered, Booked, line_says}
 use Rattle.mlir_work_script.specs.Lines.{lines_of}
 use Rattle.mlir_work_script.specs.Writes.{Stream}

@@ -20,13 +20,13 @@ use Rattle.ir_event.specs.Listener.{Listener}
 use Rattle.ir_event.specs.Modules.{things_in, module_in, module_meaning}
 use Rattle.ir_text.specs.Printing.{text_of}
 use Rattle.ir_text.specs.Public.{SpellsAttr}
-use Rattle.mlir_work_transforms.specs.rewriter.Commands.{CanFill, IsAttrRefusal, IsOpRefusal, Replied, TextRefusedAt}
-use Rattle.mlir_work_transforms.specs.rewriter.Machine.{State, Refused}
-use Rattle.mlir_work_transforms.specs.rewriter.Panels.{all_shown}
-use Rattle.mlir_work_transforms.specs.rewriter.Spots.{Spot, spot_place}
-use Rattle.mlir_work_transforms.specs.rewriter.Held.{Held, module_held, open_marks}
-use Rattle.mlir_work_transforms.specs.rewriter.Moves.{Grown as DeskGrown}
-use Rattle.mlir_work_transforms.specs.rewriter.Benched.{Benched, IsKept, Led, state_of}
+use Rattle.mlir_work_mixed.specs.transforms.rewriter.Commands.{CanFill, IsAttrRefusal, IsOpRefusal, Replied, TextRefusedAt}
+use Rattle.mlir_work_mixed.specs.transforms.rewriter.Machine.{State, Refused}
+use Rattle.mlir_work_mixed.specs.transforms.rewriter.Panels.{all_shown}
+use Rattle.mlir_work_mixed.specs.transforms.rewriter.Spots.{Spot, spot_place}
+use Rattle.mlir_work_mixed.specs.transforms.rewriter.Held.{Held, module_held, open_marks}
+use Rattle.mlir_work_mixed.specs.transforms.rewriter.Moves.{Grown as DeskGrown}
+use Rattle.mlir_work_mixed.specs.transforms.rewriter.Benched.{Benched, IsKept, Led, state_of}
 use Rattle.mlir_work_session.specs.Texts.{Grown, NotRead}
 use Rattle.mlir_work_session_base.specs.IdsText.{ids_text}
 use Rattle.mlir_work_session_base.specs.RowText.{rows_text}

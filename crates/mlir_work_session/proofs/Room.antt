@@ -3,17 +3,17 @@ use Rattle.std.proofs.Common.{◌≡◌, ◌∙◌, sym, ap, refl, ◌⊎◌, in
 use Rattle.std.specs.Prelude.{IfErr}
 use Rattle.ir_event.specs.types.declared.refusal.Refusal.{Refusal}
 use Rattle.ir_event.specs.types.declared.refusal.Refusal.TheVariants.{Full}
-use Rattle.mlir_work_transforms.specs.rewriter.Commands.{Command, Response, Replied, RuleName}
-use Rattle.mlir_work_transforms.specs.rewriter.Machine.{IsFullSo, Refused, Reply, State, Transformation}
+use Rattle.mlir_work_mixed.specs.transforms.rewriter.Commands.{Command, Response, Replied, RuleName}
+use Rattle.mlir_work_mixed.specs.transforms.rewriter.Machine.{IsFullSo, Refused, Reply, State, Transformation}
 use Rattle.mlir_work_script.specs.Orders.{Order}
-use Rattle.mlir_work_transforms.specs.greedy.Changes.{canonical_reply, canonicalizing, rewriting}
-use Rattle.mlir_work_transforms.specs.greedy.Outcomes.{IsReason}
-use Rattle.mlir_work_transforms.specs.greedy.Trial.{by_rules}
-use Rattle.mlir_work_transforms.specs.greedy.declared.outcome.Outcome.{Outcome as Ended}
-use Rattle.mlir_work_transforms.proofs.Changing.{canon_full}
-use Rattle.mlir_work_transforms.specs.Applying.{application, applying, rule_named}
-use Rattle.mlir_work_transforms.specs.Rewriting.{rewriting_named, rules_named}
-use Rattle.mlir_work_transforms.specs.Rule.{Rule}
+use Rattle.mlir_work_mixed.specs.transforms.greedy.Changes.{canonical_reply, canonicalizing, rewriting}
+use Rattle.mlir_work_mixed.specs.transforms.greedy.Outcomes.{IsReason}
+use Rattle.mlir_work_mixed.specs.transforms.greedy.Trial.{by_rules}
+use Rattle.mlir_work_mixed.specs.transforms.greedy.declared.outcome.Outcome.{Outcome as Ended}
+use Rattle.mlir_work_mixed.proofs.of_transforms.Changing.{canon_full}
+use Rattle.mlir_work_mixed.specs.transforms.Applying.{application, applying, rule_named}
+use Rattle.mlir_work_mixed.specs.transforms.Rewriting.{rewriting_named, rules_named}
+use Rattle.mlir_work_mixed.specs.transforms.Rule.{Rule}
 use Rattle.mlir_work_session.specs.declared.manner.Manner.{Manner}
 use Rattle.mlir_work_session.specs.Machine.{AsksRoom, FullSo, Fulfils, Obeys, OrdersRoom, Way}
 

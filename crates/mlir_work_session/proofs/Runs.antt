@@ -3,8 +3,8 @@ use Rattle.std.proofs.Common.{◌≡◌, ℕ, ◌+◌, ◌&&◌, List, [], ◌�
 use Rattle.std.proofs.lemmas.Bool.Decides.{nat_tests}
 use Rattle.ir_event.specs.types.declared.refusal.Refusal.{Refusal}
 use Rattle.ir_event.specs.types.declared.refusal.Refusal.TheVariants.{BadCommand, Memory}
-use Rattle.mlir_work_transforms.specs.rewriter.Commands.{Replied as Says}
-use Rattle.mlir_work_transforms.specs.rewriter.Machine.{Refused}
+use Rattle.mlir_work_mixed.specs.transforms.rewriter.Commands.{Replied as Says}
+use Rattle.mlir_work_mixed.specs.transforms.rewriter.Machine.{Refused}
 use Rattle.mlir_work_script.specs.Commands.{Spoken, Nothing, Bad, Obey, Ordered, Booked, line_says}
 use Rattle.mlir_work_script.specs.Expecting.{line_expects}
 use Rattle.mlir_work_script.specs.Lines.{lines_of}

@@ -5,8 +5,8 @@ use Rattle.mlir_work_script.specs.Lines.{lines_of}
 use Rattle.mlir_work_script.specs.Writes.{Grows, GrowsFront, Stream}
 use Rattle.mlir_work_script.specs.Limits.{most_script_bytes}
 use Rattle.mlir_work_script.proofs.Joins.{grows_join, front_join, front_more}
-use Rattle.mlir_work_transforms.specs.rewriter.Machine.{State}
-use Rattle.mlir_work_transforms.specs.rewriter.Panels.{Shown}
+use Rattle.mlir_work_mixed.specs.transforms.rewriter.Machine.{State}
+use Rattle.mlir_work_mixed.specs.transforms.rewriter.Panels.{Shown}
 use Rattle.mlir_work_book.specs.Shelf.{Book}
 use Rattle.mlir_work_session.specs.Output.{Begun, Runs, Session, Way, opening, worse}
 use Rattle.mlir_work_session.specs.Ran.{RanOut}

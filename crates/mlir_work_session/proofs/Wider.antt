@@ -3,10 +3,10 @@ use Rattle.std.proofs.Common.{◌≡◌, ◌∙◌, refl, ◌+◌, ◌≤◌, in
 use Rattle.ir_event.specs.types.declared.refusal.Refusal.{Refusal}
 use Rattle.ir_event.specs.Modules.{Module}
 use Rattle.ir_text.specs.Public.{SpellsAttr}
-use Rattle.mlir_work_transforms.specs.rewriter.Commands as command
-use Rattle.mlir_work_transforms.specs.rewriter.Commands.{Asked, Ask, CanFill, Command, IsAttrRefusal, IsOpRefusal, Misplaced, Response, TextRefused, Unread}
-use Rattle.mlir_work_transforms.specs.rewriter.Machine.{Shows, State}
-use Rattle.mlir_work_transforms.specs.rewriter.Texts.{SpellsBeside}
+use Rattle.mlir_work_mixed.specs.transforms.rewriter.Commands as command
+use Rattle.mlir_work_mixed.specs.transforms.rewriter.Commands.{Asked, Ask, CanFill, Command, IsAttrRefusal, IsOpRefusal, Misplaced, Response, TextRefused, Unread}
+use Rattle.mlir_work_mixed.specs.transforms.rewriter.Machine.{Shows, State}
+use Rattle.mlir_work_mixed.specs.transforms.rewriter.Texts.{SpellsBeside}
 use Rattle.mlir_work_script.specs.Commands.{Spoken, Nothing, Bad, Obey, Ordered, Booked}
 use Rattle.mlir_work_script.specs.Orders.{Attach, CanonAt, Order, PrintIds, Rewrite, Trace, Why, ReportOf}
 use Rattle.mlir_work_book.specs.Notices.{Notice}

@@ -3,8 +3,8 @@ use Rattle.std.specs.Prelude.{◌≡◌, ℕ, List, [], ◌++◌, Bool, true, fa
 use Rattle.ir_event.specs.types.declared.refusal.Refusal.{Refusal}
 use Rattle.ir_event.specs.types.declared.refusal.Refusal.TheVariants.{LeftOut}
 use Rattle.ir_event.specs.Modules.{Module}
-use Rattle.mlir_work_transforms.specs.rewriter.Commands.{Command, Insert, SetAttr, Replied, TextRefusedAt}
-use Rattle.mlir_work_transforms.specs.rewriter.Machine.{Reply, Done, DoneAs, DoneWith, Refused, RefusedOn}
+use Rattle.mlir_work_mixed.specs.transforms.rewriter.Commands.{Command, Insert, SetAttr, Replied, TextRefusedAt}
+use Rattle.mlir_work_mixed.specs.transforms.rewriter.Machine.{Reply, Done, DoneAs, DoneWith, Refused, RefusedOn}
 use Rattle.mlir_work_script.specs.Commands.{Spoken, Nothing, Bad, Obey, Ordered, Booked}
 use Rattle.mlir_work_causes.specs.Causes.{cause_at, cause_word}
 use Rattle.mlir_work_culprits.specs.Culprits.{about_text, culprits_of, no_memory_text}

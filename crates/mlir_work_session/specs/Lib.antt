@@ -24,6 +24,6 @@ pub use Rattle.mlir_work_script.specs.Writes
 pub use Rattle.mlir_work_script.specs.declared.writing.WriteFault
 pub use Rattle.ir_text.specs.Public
 pub use Rattle.ir_event.specs.store.Calls
-pub use Rattle.mlir_work_transforms.specs.rewriter.Benched
-pub use Rattle.mlir_work_transforms.specs.rewriter.Held
-pub use Rattle.mlir_work_transforms.specs.rewriter.Panels
+pub use Rattle.mlir_work_mixed.specs.transforms.rewriter.Benched
+pub use Rattle.mlir_work_mixed.specs.transforms.rewriter.Held
+pub use Rattle.mlir_work_mixed.specs.transforms.rewriter.Panels

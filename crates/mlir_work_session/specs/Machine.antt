@@ -4,28 +4,28 @@ use Rattle.ir_event.specs.types.declared.refusal.Refusal.TheVariants.{NoSuchKey,
 use Rattle.ir_event.specs.Modules.{Module}
 use Rattle.ir_text.specs.Printing.{text_of}
 use Rattle.ir_text.specs.Public.{SpellsAttr}
-use Rattle.mlir_work_transforms.specs.rewriter.Texts.{SpellsBeside}
-use Rattle.mlir_work_transforms.specs.rewriter.Commands.{AppliesRule, Apply, Canon, Command, Convert, Asked, Target}
-use Rattle.mlir_work_transforms.specs.rewriter.Commands.{Ask, Asks, Misplaced, Response, Replied, Follows}
-use Rattle.mlir_work_transforms.specs.rewriter.Machine.{IsFullSo}
-use Rattle.mlir_work_transforms.specs.rewriter.Machine.{Reply as Answered, Shows, Nothing, Rows, Transformation, Tree}
-use Rattle.mlir_work_transforms.specs.rewriter.Machine as call
-use Rattle.mlir_work_transforms.specs.rewriter.Panels.{Shown}
-pub use Rattle.mlir_work_transforms.specs.rewriter.Machine.{State}
+use Rattle.mlir_work_mixed.specs.transforms.rewriter.Texts.{SpellsBeside}
+use Rattle.mlir_work_mixed.specs.transforms.rewriter.Commands.{AppliesRule, Apply, Canon, Command, Convert, Asked, Target}
+use Rattle.mlir_work_mixed.specs.transforms.rewriter.Commands.{Ask, Asks, Misplaced, Response, Replied, Follows}
+use Rattle.mlir_work_mixed.specs.transforms.rewriter.Machine.{IsFullSo}
+use Rattle.mlir_work_mixed.specs.transforms.rewriter.Machine.{Reply as Answered, Shows, Nothing, Rows, Transformation, Tree}
+use Rattle.mlir_work_mixed.specs.transforms.rewriter.Machine as call
+use Rattle.mlir_work_mixed.specs.transforms.rewriter.Panels.{Shown}
+pub use Rattle.mlir_work_mixed.specs.transforms.rewriter.Machine.{State}
 pub use Rattle.mlir_work_book.specs.Replies.{response_of}
 use Rattle.mlir_work_book.specs.Replies.{is_accepted}
 use Rattle.mlir_work_script.specs.Orders.{Attach, CanonAt, Order, PrintIds, Rewrite, Trace, TraceConvert, Why, ReportOf}
 use Rattle.mlir_work_script.specs.declared.subject.Subject.{Subject}
-use Rattle.mlir_work_transforms.specs.greedy.Changes.{canonicalizing}
-use Rattle.mlir_work_transforms.specs.ConvertText.{conversion_text}
-use Rattle.mlir_work_transforms.specs.Converting.{command_aim, conversion}
-use Rattle.mlir_work_transforms.specs.Applying.{application}
-use Rattle.mlir_work_transforms.specs.Rewriting.{rewriting_named}
-use Rattle.mlir_work_transforms.specs.Sweep.{sweeping}
-use Rattle.mlir_work_transforms.specs.TraceText.{trace_by, traced_rules, tracing}
-use Rattle.mlir_work_transforms.specs.At.{canonicalizing_at}
-use Rattle.mlir_work_transforms.specs.WhyText.{asked_rules, why_text}
-use Rattle.mlir_work_transforms.specs.Rule.{Rule}
+use Rattle.mlir_work_mixed.specs.transforms.greedy.Changes.{canonicalizing}
+use Rattle.mlir_work_mixed.specs.transforms.ConvertText.{conversion_text}
+use Rattle.mlir_work_mixed.specs.transforms.Converting.{command_aim, conversion}
+use Rattle.mlir_work_mixed.specs.transforms.Applying.{application}
+use Rattle.mlir_work_mixed.specs.transforms.Rewriting.{rewriting_named}
+use Rattle.mlir_work_mixed.specs.transforms.Sweep.{sweeping}
+use Rattle.mlir_work_mixed.specs.transforms.TraceText.{trace_by, traced_rules, tracing}
+use Rattle.mlir_work_mixed.specs.transforms.At.{canonicalizing_at}
+use Rattle.mlir_work_mixed.specs.transforms.WhyText.{asked_rules, why_text}
+use Rattle.mlir_work_mixed.specs.transforms.Rule.{Rule}
 use Rattle.ir_event.specs.trees.Ids.{has_id}
 use Rattle.mlir_work_session_base.specs.IdsText.{ids_text}
 use Rattle.mlir_work_session_base.specs.RowText.{rows_text}

@@ -2,8 +2,8 @@
 -- is fulfilled as by a bench.
 use Rattle.std.specs.Prelude.{◌≡◌, ℕ, List, [], Bool, true, false, Option, Some, None, if◌then◌else◌}
 use Rattle.ir_event.specs.Modules.{Module}
-use Rattle.mlir_work_transforms.specs.rewriter.Commands.{AppliesRule, Asked, Follows, Response, RuleName}
-use Rattle.mlir_work_transforms.specs.rewriter.Machine.{Nothing, State, Transformation}
+use Rattle.mlir_work_mixed.specs.transforms.rewriter.Commands.{AppliesRule, Asked, Follows, Response, RuleName}
+use Rattle.mlir_work_mixed.specs.transforms.rewriter.Machine.{Nothing, State, Transformation}
 use Rattle.mlir_work_script.specs.Orders.{Order, Rewrite, Trace}
 use Rattle.mlir_work_book.specs.Replies.{is_accepted}
 use Rattle.mlir_work_book.specs.Shelf.{Book}

@@ -7,10 +7,10 @@ use Rattle.ir_event.specs.Modules.{Module}
 use Rattle.ir_event.specs.Rows.{RowTerm}
 use Rattle.ir_event.specs.trees.Meaning.{Operation}
 use Rattle.ir_text.specs.Printing.{text_of}
-use Rattle.mlir_work_transforms.specs.rewriter.Commands.{Command, Report, Print}
-use Rattle.mlir_work_transforms.specs.rewriter.Commands.{Replied as Says}
-use Rattle.mlir_work_transforms.specs.rewriter.Machine.{State, Refused}
-use Rattle.mlir_work_transforms.specs.rewriter.Panels.{Shown, Attached, has_kind}
+use Rattle.mlir_work_mixed.specs.transforms.rewriter.Commands.{Command, Report, Print}
+use Rattle.mlir_work_mixed.specs.transforms.rewriter.Commands.{Replied as Says}
+use Rattle.mlir_work_mixed.specs.transforms.rewriter.Machine.{State, Refused}
+use Rattle.mlir_work_mixed.specs.transforms.rewriter.Panels.{Shown, Attached, has_kind}
 use Rattle.mlir_work_script.specs.Commands.{Spoken, Nothing, Bad, Obey, Ordered, Booked, line_says}
 use Rattle.mlir_work_script.specs.Expecting.{line_expects}
 use Rattle.mlir_work_script.specs.Limits.{most_script_bytes}

@@ -6,7 +6,7 @@ use Rattle.ir_event.specs.trees.Meaning.{Operation}
 use Rattle.ir_event.specs.Listener.{Listener}
 use Rattle.ir_event.specs.Panels.{has_kind}
 use Rattle.ir_text.specs.Printing.{text_of}
-use Rattle.mlir_work_transforms.specs.rewriter.Commands.{Command, Print}
+use Rattle.mlir_work_mixed.specs.transforms.rewriter.Commands.{Command, Print}
 use Rattle.mlir_work_script.specs.Commands.{Spoken, Nothing, Bad, Obey, Ordered, Booked, line_says}
 use Rattle.mlir_work_script.specs.Expecting.{line_expects}
 use Rattle.mlir_work_book.specs.declared.reply.Reply.{Reply}

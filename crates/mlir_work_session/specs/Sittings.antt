@@ -1,11 +1,11 @@
 -- A session between lines: a bench, and a book of patterns of one's own.
 use Rattle.std.specs.Prelude.{◌≡◌, ℕ, List, [], Option, Some, None, option_map}
 use Rattle.ir_event.specs.Listener.{Listener}
-use Rattle.mlir_work_transforms.specs.rewriter.Benched.{Benched, state_of}
-use Rattle.mlir_work_transforms.specs.rewriter.Commands.{Apply, Ask, Command, Follows, Response}
-use Rattle.mlir_work_transforms.specs.rewriter.Machine as call
-use Rattle.mlir_work_transforms.specs.rewriter.Machine.{Nothing, State}
-use Rattle.mlir_work_transforms.specs.Applying.{applying_own}
+use Rattle.mlir_work_mixed.specs.transforms.rewriter.Benched.{Benched, state_of}
+use Rattle.mlir_work_mixed.specs.transforms.rewriter.Commands.{Apply, Ask, Command, Follows, Response}
+use Rattle.mlir_work_mixed.specs.transforms.rewriter.Machine as call
+use Rattle.mlir_work_mixed.specs.transforms.rewriter.Machine.{Nothing, State}
+use Rattle.mlir_work_mixed.specs.transforms.Applying.{applying_own}
 use Rattle.mlir_work_book.specs.Notices.{Notice, Plain}
 use Rattle.mlir_work_book.specs.Shelf.{Book, Kept, book_view}
 use Rattle.mlir_work_book.specs.Book.{Book as BookCode}

@@ -4,8 +4,8 @@ use Rattle.ir_event.specs.types.Sound.{Holds}
 use Rattle.ir_event.specs.types.Things.{Grows}
 use Rattle.ir_event.specs.types.declared.refusal.Refusal.{Refusal}
 use Rattle.ir_event.specs.Listener.{Listener}
-use Rattle.mlir_work_transforms.specs.rewriter.Commands.{TextRefused, Response, text_response}
-use Rattle.mlir_work_transforms.specs.rewriter.Benched.{Benched, IsKept, state_of}
+use Rattle.mlir_work_mixed.specs.transforms.rewriter.Commands.{TextRefused, Response, text_response}
+use Rattle.mlir_work_mixed.specs.transforms.rewriter.Benched.{Benched, IsKept, state_of}
 
 -- the context of a bench grew, and its module, marks and analyses stayed
 pub record Grown {B : Type 0} (meaning : B → Listener) (old new : Benched B) : Type 0 where

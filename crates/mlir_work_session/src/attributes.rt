@@ -7,7 +7,7 @@ ghost use Rattle.ir_text.specs.Public.{IsTold};
 ghost use Rattle.ir_text.specs.Public.{IsNoAttr};
 ghost use Rattle.ir_text.specs.Public.{SpellsAttr};
 ghost use Rattle.mlir_work_script.specs.Keys.{key_bytes};
-ghost use Rattle.mlir_work_transforms.specs.rewriter.Commands.{IsAttrRefusal};
+ghost use Rattle.mlir_work_mixed.specs.transforms.rewriter.Commands.{IsAttrRefusal};
 ghost use Rattle.mlir_work_session.specs.Texts.{Grown, NotRead};
 ghost use Rattle.mlir_work_session.specs.Machine.{response_of};
 
@@ -17,9 +17,9 @@ use ir_event::analysis::Analysis;
 use ir_event::types::ids::{AttrId, NameId};
 use ir_event::types::refusal::Refusal;
 use ir_text::reader::ReadError;
+use mlir_work_mixed::transforms::rewriter::Bench;
+use mlir_work_mixed::transforms::rewriter::laws::led_benches_are_kept;
 use mlir_work_script::keys::{Key, bytes_of};
-use mlir_work_transforms::rewriter::Bench;
-use mlir_work_transforms::rewriter::laws::led_benches_are_kept;
 use std::alloc::Global;
 
 /// The attribute that a text spells.

@@ -2,8 +2,8 @@
 ghost use Rattle.std.specs.Prelude.{◌≡◌, [], option_map};
 ghost use Rattle.ir_text.specs.Public.{IsFull};
 ghost use Rattle.mlir_work_script.specs.Commands.{said_of};
-ghost use Rattle.mlir_work_transforms.specs.Applying.{applying_own};
-ghost use Rattle.mlir_work_transforms.specs.rewriter.Benched.{IsKept, state_of};
+ghost use Rattle.mlir_work_mixed.specs.transforms.Applying.{applying_own};
+ghost use Rattle.mlir_work_mixed.specs.transforms.rewriter.Benched.{IsKept, state_of};
 ghost use Rattle.mlir_work_book.specs.Notices.{IsWithin, notice_of};
 ghost use Rattle.mlir_work_book.specs.Shelf.{book_view, kept_view};
 ghost use Rattle.mlir_work_session.specs.Machine.{FullSo, response_of};
@@ -20,10 +20,10 @@ use ir_event::types::ids::OpId;
 use mlir_work_book::book::{Book, Held};
 use mlir_work_book::notice::{Notice, Noticed};
 use mlir_work_mixed::own::own_named;
+use mlir_work_mixed::transforms::own;
+use mlir_work_mixed::transforms::rewriter::Bench;
+use mlir_work_mixed::transforms::rewriter::laws::led_benches_are_kept;
 use mlir_work_script::command::Command;
-use mlir_work_transforms::own;
-use mlir_work_transforms::rewriter::Bench;
-use mlir_work_transforms::rewriter::laws::led_benches_are_kept;
 use std::alloc::Global;
 
 /// The pattern of a book that a command names, and the operation at which it is to be applied.

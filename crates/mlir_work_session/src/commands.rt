@@ -1,7 +1,7 @@
 //! The commands of a script, over a bench.
 ghost use Rattle.std.specs.Prelude.{◌≡◌};
 ghost use Rattle.mlir_work_script.specs.Commands.{said_of};
-ghost use Rattle.mlir_work_transforms.specs.rewriter.Benched.{IsKept, state_of};
+ghost use Rattle.mlir_work_mixed.specs.transforms.rewriter.Benched.{IsKept, state_of};
 ghost use Rattle.ir_text.specs.Public.{IsFull};
 ghost use Rattle.mlir_work_session.specs.Machine.{AsksRoom, Obeys, response_of};
 
@@ -9,8 +9,8 @@ use crate::manner::Manner;
 use crate::shows::{Answered, plain, show_module, show_rows};
 use crate::{edits, marks, texts, transforming};
 use ir_event::analysis::Analysis;
+use mlir_work_mixed::transforms::rewriter::Bench;
 use mlir_work_script::command::Command;
-use mlir_work_transforms::rewriter::Bench;
 use std::alloc::Global;
 
 /// Obeys a command of a script that is run so, or leaves the module as it is.

@@ -30,10 +30,10 @@ mod why;
 
 pub use ir_text::reader;
 pub use mlir_work_book::{book, notice, reply};
+pub use mlir_work_mixed::transforms::greedy;
+pub use mlir_work_mixed::transforms::rewriter::Bench;
 pub use mlir_work_script::{
     book_order, cells, clauses, command, expect, input, items, keys, kind, lines, numbers, order,
     outcome, replies, rule_name, sink, source, spots, subject, values, watched, words, writing,
 };
 pub use mlir_work_session_base::supplied;
-pub use mlir_work_transforms::greedy;
-pub use mlir_work_transforms::rewriter::Bench;

@@ -1,16 +1,16 @@
 //! Commands on marks and listeners, over a bench.
 ghost use Rattle.std.specs.Prelude.{◌≡◌, []};
-ghost use Rattle.mlir_work_transforms.specs.rewriter.Commands.{Begin, Commit, Detach, Resync, Rollback};
-ghost use Rattle.mlir_work_transforms.specs.rewriter.Benched.{IsKept, state_of};
+ghost use Rattle.mlir_work_mixed.specs.transforms.rewriter.Commands.{Begin, Commit, Detach, Resync, Rollback};
+ghost use Rattle.mlir_work_mixed.specs.transforms.rewriter.Benched.{IsKept, state_of};
 ghost use Rattle.mlir_work_session.specs.Machine.{Obeys, response_of};
 ghost use Rattle.mlir_work_session.specs.Output.{Manner};
 
 use crate::reply::Reply;
 use crate::replying::reply_to;
 use ir_event::analysis::Analysis;
+use mlir_work_mixed::transforms::rewriter::Bench;
+use mlir_work_mixed::transforms::rewriter::laws::led_benches_are_kept;
 use mlir_work_script::kind::Kind;
-use mlir_work_transforms::rewriter::Bench;
-use mlir_work_transforms::rewriter::laws::led_benches_are_kept;
 
 /// Makes a mark of the module.
 pub(crate) fn begin<L: Analysis>(bench: &mut Bench<L>) -> Reply

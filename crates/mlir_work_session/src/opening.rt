@@ -1,17 +1,17 @@
 //! How a session begins: listeners are attached to a module that was read.
 ghost use Rattle.std.specs.Prelude.{◌≡◌, []};
-ghost use Rattle.mlir_work_transforms.specs.rewriter.Benched.{IsKept, state_of};
-ghost use Rattle.mlir_work_transforms.specs.rewriter.Held.{module_held, open_marks};
-ghost use Rattle.mlir_work_transforms.specs.rewriter.Panels.{all_shown};
+ghost use Rattle.mlir_work_mixed.specs.transforms.rewriter.Benched.{IsKept, state_of};
+ghost use Rattle.mlir_work_mixed.specs.transforms.rewriter.Held.{module_held, open_marks};
+ghost use Rattle.mlir_work_mixed.specs.transforms.rewriter.Panels.{all_shown};
 ghost use Rattle.mlir_work_session.specs.Output.{Begun};
 ghost use Rattle.mlir_work_session.specs.Ran.{AttachedOut};
 
 use crate::boxes::attach_all;
 use crate::script::put_end;
 use ir_event::analysis::Analysis;
+use mlir_work_mixed::transforms::rewriter::Bench;
 use mlir_work_script::sink::Sink;
 use mlir_work_script::writing::WriteFault;
-use mlir_work_transforms::rewriter::Bench;
 
 /// Begins a session over a bench without listeners and without open marks: attaches these, in order, writes a line for
 /// each that is refused, and, where `ends` says so, an empty line behind them. It is true where none is refused.

@@ -5,9 +5,9 @@ ghost use Rattle.ir_event.specs.trees.Meaning.{IsSoundIn, meaning};
 ghost use Rattle.ir_event.specs.types.declared.refusal.Refusal.{Refusal as Reason};
 ghost use Rattle.ir_text.specs.Public.{IsOpTold};
 ghost use Rattle.ir_text.specs.Public.{IsNone};
-ghost use Rattle.mlir_work_transforms.specs.rewriter.Held.{module_held};
-ghost use Rattle.mlir_work_transforms.specs.rewriter.Texts.{SpellsBeside};
-ghost use Rattle.mlir_work_transforms.specs.rewriter.Commands.{IsOpRefusal};
+ghost use Rattle.mlir_work_mixed.specs.transforms.rewriter.Held.{module_held};
+ghost use Rattle.mlir_work_mixed.specs.transforms.rewriter.Texts.{SpellsBeside};
+ghost use Rattle.mlir_work_mixed.specs.transforms.rewriter.Commands.{IsOpRefusal};
 ghost use Rattle.mlir_work_session.specs.Texts.{Grown, NotRead};
 ghost use Rattle.mlir_work_session.specs.Machine.{response_of};
 
@@ -16,8 +16,8 @@ use crate::unread::reply_unread;
 use ir_event::analysis::Analysis;
 use ir_event::trees::tree::TreeOp;
 use ir_text::reader::ReadError;
-use mlir_work_transforms::rewriter::Bench;
-use mlir_work_transforms::rewriter::laws::led_benches_are_kept;
+use mlir_work_mixed::transforms::rewriter::Bench;
+use mlir_work_mixed::transforms::rewriter::laws::led_benches_are_kept;
 
 /// The operation that a text spells beside the module.
 fn read<L: Analysis>(bench: &mut Bench<L>, text: &[u8]) -> Result<TreeOp, ReadError>

@@ -1,8 +1,8 @@
 //! The orders of a script, over a bench.
 ghost use Rattle.std.specs.Prelude.{◌≡◌, [], IfOk};
 ghost use Rattle.ir_event.specs.Modules.{module_in};
-ghost use Rattle.mlir_work_transforms.specs.rewriter.Benched.{IsKept, attach_reply_of, state_of};
-ghost use Rattle.mlir_work_transforms.specs.rewriter.Commands.{Replied};
+ghost use Rattle.mlir_work_mixed.specs.transforms.rewriter.Benched.{IsKept, attach_reply_of, state_of};
+ghost use Rattle.mlir_work_mixed.specs.transforms.rewriter.Commands.{Replied};
 ghost use Rattle.mlir_work_script.specs.Orders.{Attach, PrintIds, order_of};
 ghost use Rattle.ir_text.specs.Public.{IsFull};
 ghost use Rattle.mlir_work_session.specs.Machine.{Fulfils, OrdersRoom, Way, response_of, way_of};
@@ -16,11 +16,11 @@ use crate::{tracing, transforming, why};
 use ir_event::analysis::Analysis;
 use ir_event::types::refusal::Refusal;
 use ir_event::world::World;
+use mlir_work_mixed::transforms::rewriter::Bench;
 use mlir_work_script::kind::Kind;
 use mlir_work_script::order::Order;
 use mlir_work_session_base::ids::text_with_ids;
 use mlir_work_session_base::supplied::Supplied;
-use mlir_work_transforms::rewriter::Bench;
 use std::alloc::Global;
 
 /// The reply where a listener is attached, or handed back.
@@ -96,9 +96,7 @@ pub fn fulfil<L: Supplied>(
             )
         }
         Order::Trace { rules, limit } => tracing::trace(alloc, manner, bench, *rules, *limit),
-        Order::TraceConvert { full, clauses } => {
-            tracing::convert(alloc, bench, *full, clauses)
-        }
+        Order::TraceConvert { full, clauses } => { tracing::convert(alloc, bench, *full, clauses) }
         Order::CanonAt { op, limit } => {
             plain(alloc, why::canon_at(alloc, manner, bench, *op, *limit))
         }

@@ -3,7 +3,7 @@ ghost use Rattle.std.specs.Prelude.{◌≡◌, Some, Option, is_some, option_map
 ghost use Rattle.ir_event.specs.trees.Ids.{has_id};
 ghost use Rattle.ir_event.specs.trees.Places.{place_of};
 ghost use Rattle.ir_event.specs.tree_laws.Reads.{first_at, ops_at};
-ghost use Rattle.mlir_work_transforms.specs.rewriter.Spots.{passing, coming, behind, beside, in_block, spot_place};
+ghost use Rattle.mlir_work_mixed.specs.transforms.rewriter.Spots.{passing, coming, behind, beside, in_block, spot_place};
 ghost use Rattle.mlir_work_script.specs.Spots.{spot_of};
 
 use ir_event::store::store::Store;

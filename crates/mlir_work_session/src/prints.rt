@@ -7,7 +7,7 @@ ghost use Rattle.mlir_work_script.specs.Commands.{said_of, spoken_of};
 ghost use Rattle.mlir_work_script.specs.Lines.{lines_of};
 ghost use Rattle.mlir_work_script.specs.Writes.{Puts};
 ghost use Rattle.mlir_work_script.specs.Limits.{most_script_bytes};
-ghost use Rattle.mlir_work_transforms.specs.rewriter.Panels.{Shown, all_shown};
+ghost use Rattle.mlir_work_mixed.specs.transforms.rewriter.Panels.{Shown, all_shown};
 ghost use Rattle.mlir_work_session.specs.Machine.{response_of};
 ghost use Rattle.mlir_work_book.specs.Shelf.{Book};
 ghost use Rattle.mlir_work_book.specs.Told.{reply_line};

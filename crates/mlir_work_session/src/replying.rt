@@ -1,20 +1,20 @@
 //! How a call of the bench is replied to.
 ghost use Rattle.std.specs.Prelude.{◌≡◌};
-ghost use Rattle.mlir_work_transforms.specs.rewriter.Commands.{Replied};
-ghost use Rattle.mlir_work_transforms.specs.rewriter.Machine.{fault_reply};
-ghost use Rattle.mlir_work_transforms.specs.rewriter.Benched.{id_reply_of, reply_of};
-ghost use Rattle.mlir_work_transforms.specs.greedy.Changes.{canonical_reply};
-ghost use Rattle.mlir_work_transforms.specs.Applying.{applied_reply};
-ghost use Rattle.mlir_work_transforms.specs.Converting.{conversion_reply};
-ghost use Rattle.mlir_work_transforms.specs.Sweep.{sweep_reply};
+ghost use Rattle.mlir_work_mixed.specs.transforms.rewriter.Commands.{Replied};
+ghost use Rattle.mlir_work_mixed.specs.transforms.rewriter.Machine.{fault_reply};
+ghost use Rattle.mlir_work_mixed.specs.transforms.rewriter.Benched.{id_reply_of, reply_of};
+ghost use Rattle.mlir_work_mixed.specs.transforms.greedy.Changes.{canonical_reply};
+ghost use Rattle.mlir_work_mixed.specs.transforms.Applying.{applied_reply};
+ghost use Rattle.mlir_work_mixed.specs.transforms.Converting.{conversion_reply};
+ghost use Rattle.mlir_work_mixed.specs.transforms.Sweep.{sweep_reply};
 ghost use Rattle.mlir_work_session.specs.Machine.{response_of};
 
 use crate::reply::Reply;
 use ir_event::types::ids::OpId;
 use ir_event::types::refusal::Refusal;
+use mlir_work_mixed::transforms::fault::Fault;
+use mlir_work_mixed::transforms::greedy::outcome::Outcome as Ended;
 use mlir_work_script::outcome::Outcome;
-use mlir_work_transforms::fault::Fault;
-use mlir_work_transforms::greedy::outcome::Outcome as Ended;
 
 /// The reply to a call that changes.
 pub(crate) fn reply_to(called: Result<(), Refusal>) -> Reply

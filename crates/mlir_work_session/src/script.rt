@@ -5,7 +5,7 @@ ghost use Rattle.mlir_work_script.specs.Expecting.{line_expects};
 ghost use Rattle.mlir_work_script.specs.Lines.{lines_of};
 ghost use Rattle.mlir_work_script.specs.Orders.{order_of};
 ghost use Rattle.mlir_work_script.specs.Writes.{Puts, PutsSome};
-ghost use Rattle.mlir_work_transforms.specs.rewriter.Benched.{IsKept, state_of};
+ghost use Rattle.mlir_work_mixed.specs.transforms.rewriter.Benched.{IsKept, state_of};
 ghost use Rattle.mlir_work_book.specs.Notices.{IsWithin, notice_of};
 ghost use Rattle.mlir_work_session.specs.Explained.{IsAbout, about_bytes};
 ghost use Rattle.mlir_work_book.specs.Shelf.{book_view};
@@ -28,6 +28,7 @@ use mlir_work_book::book::Book;
 use mlir_work_book::explained::put_told;
 use mlir_work_book::notice::{Notice, Noticed, is_right, replied};
 use mlir_work_book::orders::shelve;
+use mlir_work_mixed::transforms::rewriter::Bench;
 use mlir_work_script::command::{Command, Line, read_line};
 use mlir_work_script::expect::expected_of;
 use mlir_work_script::lines::split_line;
@@ -35,7 +36,6 @@ use mlir_work_script::order::Order;
 use mlir_work_script::sink::Sink;
 use mlir_work_script::writing::{WriteFault, put};
 use mlir_work_session_base::supplied::Supplied;
-use mlir_work_transforms::rewriter::Bench;
 use std::alloc::Global;
 
 /// Whether a command asks to be shown something, and so gets no listing.

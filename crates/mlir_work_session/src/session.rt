@@ -1,9 +1,9 @@
 //! A module that was read: listeners are attached to it, and a script is run over it.
 ghost use Rattle.std.specs.Prelude.{◌≡◌, [], if◌then◌else◌};
 ghost use Rattle.ir_event.specs.Modules.{module_in};
-ghost use Rattle.mlir_work_transforms.specs.rewriter.Journals.{IsSlotted, IsTidy};
-ghost use Rattle.mlir_work_transforms.specs.rewriter.Held.{module_held, open_marks};
-ghost use Rattle.mlir_work_transforms.specs.rewriter.Panels.{all_shown};
+ghost use Rattle.mlir_work_mixed.specs.transforms.rewriter.Journals.{IsSlotted, IsTidy};
+ghost use Rattle.mlir_work_mixed.specs.transforms.rewriter.Held.{module_held, open_marks};
+ghost use Rattle.mlir_work_mixed.specs.transforms.rewriter.Panels.{all_shown};
 ghost use Rattle.mlir_work_book.specs.Shelf.{book_view};
 ghost use Rattle.mlir_work_session.specs.Machine.{way_of};
 ghost use Rattle.mlir_work_session.specs.Output.{IsSession, IsBadScript, Session, worse as worst};
@@ -15,12 +15,12 @@ use crate::script::run_script;
 use ir_event::types::refusal::Refusal;
 use ir_event::world::World;
 use mlir_work_book::book::Book;
+use mlir_work_mixed::transforms::rewriter::Bench;
 use mlir_work_script::input::script_is_too_long;
 use mlir_work_script::replies::put_refused;
 use mlir_work_script::sink::Sink;
 use mlir_work_script::writing::WriteFault;
 use mlir_work_session_base::supplied::Supplied;
-use mlir_work_transforms::rewriter::Bench;
 use std::alloc::Global;
 
 fn worse(accepted: bool, status: u8) -> u8

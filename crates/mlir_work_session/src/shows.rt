@@ -3,8 +3,8 @@ ghost use Rattle.std.specs.Prelude.{◌≡◌, ◌⊎◌, [], true, false, All, 
 ghost use Rattle.ir_event.specs.Modules.{things_in, module_in};
 ghost use Rattle.ir_event.specs.Rows.{RowIsOf, rows_meaning};
 ghost use Rattle.ir_text.specs.Printing.{text_of};
-ghost use Rattle.mlir_work_transforms.specs.rewriter.Commands.{Report, Print};
-ghost use Rattle.mlir_work_transforms.specs.rewriter.Benched.{IsKept, state_of};
+ghost use Rattle.mlir_work_mixed.specs.transforms.rewriter.Commands.{Report, Print};
+ghost use Rattle.mlir_work_mixed.specs.transforms.rewriter.Benched.{IsKept, state_of};
 ghost use Rattle.mlir_work_session_base.specs.RowText.{rows_text};
 ghost use Rattle.mlir_work_session.specs.Machine.{Obeys, response_of};
 ghost use Rattle.mlir_work_session.specs.Output.{Manner};
@@ -16,9 +16,9 @@ use ir_event::row::{ReportFault, Row};
 use ir_event::types::refusal::Refusal;
 use ir_event::world::World;
 use ir_text::printer::print;
+use mlir_work_mixed::transforms::rewriter::Bench;
 use mlir_work_script::kind::Kind;
 use mlir_work_session_base::rows::text_of_rows;
-use mlir_work_transforms::rewriter::Bench;
 use std::alloc::Global;
 
 /// A reply, and the bytes that are shown below it.

@@ -1,7 +1,7 @@
 //! The rows of a report that are about one operation or one value.
 ghost use Rattle.std.specs.Prelude.{◌≡◌, ◌⊎◌, true, false, IfOk, IfErr};
 ghost use Rattle.ir_event.specs.Modules.{things_in, module_in};
-ghost use Rattle.mlir_work_transforms.specs.rewriter.Benched.{IsKept, state_of};
+ghost use Rattle.mlir_work_mixed.specs.transforms.rewriter.Benched.{IsKept, state_of};
 ghost use Rattle.mlir_work_script.specs.Orders.{ReportOf};
 ghost use Rattle.mlir_work_session_base.specs.RowText.{rows_text};
 ghost use Rattle.mlir_work_session_base.specs.Subjects.{absent, is_there, rows_about};
@@ -13,10 +13,10 @@ use ir_event::analysis::Analysis;
 use ir_event::row::ReportFault;
 use ir_event::types::refusal::Refusal;
 use ir_event::world::World;
+use mlir_work_mixed::transforms::rewriter::Bench;
 use mlir_work_script::kind::Kind;
 use mlir_work_script::subject::Subject;
 use mlir_work_session_base::subjects::text_of_rows_about;
-use mlir_work_transforms::rewriter::Bench;
 use std::alloc::Global;
 
 /// Whether an operation or a value is in a world's module.

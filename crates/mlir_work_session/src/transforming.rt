@@ -1,17 +1,17 @@
 //! Commands that transform the module of a bench.
 ghost use Rattle.std.specs.Prelude.{◌≡◌, [], ℕ, Option, Some};
-ghost use Rattle.mlir_work_transforms.specs.rewriter.Commands.{Apply, Canon, Convert, Sweep};
-ghost use Rattle.mlir_work_transforms.specs.rewriter.Machine.{Transformation};
-ghost use Rattle.mlir_work_transforms.specs.rewriter.Panels.{Shown};
+ghost use Rattle.mlir_work_mixed.specs.transforms.rewriter.Commands.{Apply, Canon, Convert, Sweep};
+ghost use Rattle.mlir_work_mixed.specs.transforms.rewriter.Machine.{Transformation};
+ghost use Rattle.mlir_work_mixed.specs.transforms.rewriter.Panels.{Shown};
 ghost use Rattle.mlir_work_script.specs.Orders.{Rewrite};
 ghost use Rattle.mlir_work_script.specs.RuleNames.{name_of, names_of};
-ghost use Rattle.mlir_work_transforms.specs.Applying.{application};
-ghost use Rattle.mlir_work_transforms.specs.rewriter.Benched.{IsKept, state_of};
+ghost use Rattle.mlir_work_mixed.specs.transforms.Applying.{application};
+ghost use Rattle.mlir_work_mixed.specs.transforms.rewriter.Benched.{IsKept, state_of};
 ghost use Rattle.mlir_work_script.specs.Clauses.{clauses_of, target_of};
 ghost use Rattle.ir_text.specs.Public.{IsFull};
-ghost use Rattle.mlir_work_transforms.specs.greedy.Changes.{canonicalizing};
-ghost use Rattle.mlir_work_transforms.specs.Converting.{conversion};
-ghost use Rattle.mlir_work_transforms.specs.Rewriting.{rewriting_named};
+ghost use Rattle.mlir_work_mixed.specs.transforms.greedy.Changes.{canonicalizing};
+ghost use Rattle.mlir_work_mixed.specs.transforms.Converting.{conversion};
+ghost use Rattle.mlir_work_mixed.specs.transforms.Rewriting.{rewriting_named};
 ghost use Rattle.mlir_work_session.specs.Machine.{Fulfils, FullSo, Obeys, limit_or, response_of, way_of};
 ghost use Rattle.mlir_work_session.specs.Output.{Manner as Way};
 
@@ -21,13 +21,13 @@ use crate::replying::{reply_applied, reply_canonical, reply_converted, reply_swe
 use ir_event::analysis::Analysis;
 use ir_event::types::ids::OpId;
 use ir_event::types::refusal::Refusal;
+use mlir_work_mixed::transforms::greedy::bench::{canonicalize, rewrite as rewrite_by};
+use mlir_work_mixed::transforms::rewrite::rules_in;
+use mlir_work_mixed::transforms::rewriter::Bench;
+use mlir_work_mixed::transforms::rewriter::laws::led_benches_are_kept;
+use mlir_work_mixed::transforms::{apply, convert, sweep};
 use mlir_work_script::clauses::Clauses;
 use mlir_work_script::rule_name::RuleName;
-use mlir_work_transforms::greedy::bench::{canonicalize, rewrite as rewrite_by};
-use mlir_work_transforms::rewrite::rules_in;
-use mlir_work_transforms::rewriter::Bench;
-use mlir_work_transforms::rewriter::laws::led_benches_are_kept;
-use mlir_work_transforms::{apply, convert, sweep};
 use std::alloc::Global;
 
 /// The limit of a canonicalization, where its command may say one.

@@ -5,12 +5,12 @@ ghost use Rattle.ir_event.specs.trees.Ids.{has_id};
 ghost use Rattle.ir_text.specs.Public.{IsFull};
 ghost use Rattle.mlir_work_script.specs.Orders.{CanonAt, Why};
 ghost use Rattle.mlir_work_script.specs.RuleNames.{name_of};
-ghost use Rattle.mlir_work_transforms.specs.At.{canonicalizing_at};
-ghost use Rattle.mlir_work_transforms.specs.WhyText.{asked_rules, told_rules};
-ghost use Rattle.mlir_work_transforms.specs.rewriter.Commands.{RuleName as Name};
-ghost use Rattle.mlir_work_transforms.specs.rewriter.Held.{module_held};
-ghost use Rattle.mlir_work_transforms.specs.rewriter.Benched.{IsKept, state_of};
-ghost use Rattle.mlir_work_transforms.specs.rewriter.Panels.{Shown};
+ghost use Rattle.mlir_work_mixed.specs.transforms.At.{canonicalizing_at};
+ghost use Rattle.mlir_work_mixed.specs.transforms.WhyText.{asked_rules, told_rules};
+ghost use Rattle.mlir_work_mixed.specs.transforms.rewriter.Commands.{RuleName as Name};
+ghost use Rattle.mlir_work_mixed.specs.transforms.rewriter.Held.{module_held};
+ghost use Rattle.mlir_work_mixed.specs.transforms.rewriter.Benched.{IsKept, state_of};
+ghost use Rattle.mlir_work_mixed.specs.transforms.rewriter.Panels.{Shown};
 ghost use Rattle.mlir_work_session.specs.Machine.{Fulfils, FullSo, Way, limit_or, response_of, way_of};
 
 use crate::manner::Manner;
@@ -22,13 +22,13 @@ use ir_event::analysis::Analysis;
 use ir_event::types::ids::OpId;
 use ir_event::types::refusal::Refusal;
 use ir_event::world::World;
+use mlir_work_mixed::transforms::apply::rule_named;
+use mlir_work_mixed::transforms::at::canonicalize_at;
+use mlir_work_mixed::transforms::greedy::patterns::rule::Rule;
+use mlir_work_mixed::transforms::rewriter::Bench;
+use mlir_work_mixed::transforms::rewriter::laws::led_benches_are_kept;
+use mlir_work_mixed::transforms::why::why as lines_of;
 use mlir_work_script::rule_name::RuleName;
-use mlir_work_transforms::apply::rule_named;
-use mlir_work_transforms::at::canonicalize_at;
-use mlir_work_transforms::greedy::patterns::rule::Rule;
-use mlir_work_transforms::rewriter::Bench;
-use mlir_work_transforms::rewriter::laws::led_benches_are_kept;
-use mlir_work_transforms::why::why as lines_of;
 use std::alloc::Global;
 
 /// Whether an operation is in the module of a world.

@@ -10,7 +10,7 @@ use Rattle.conversion.specs.patterns.Rewrites.{Rewrite, none, refused, becomes, 
 use Rattle.conversion.specs.patterns.RuleNames.{by_number, by_word}
 use Rattle.conversion.specs.patterns.Rule.{Rule}
 use Rattle.patterns_book.specs.Shapes.{Shape}
-use Rattle.patterns_own.specs.Own.{own_rewrite}
+use Rattle.greedy.specs.own.Own.{own_rewrite}
 
 -- how often a rule was applied
 abbrev pub applied_times : Bool → ℕ

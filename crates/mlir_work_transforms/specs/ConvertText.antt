@@ -2,7 +2,7 @@
 use Rattle.std.specs.Prelude.{◌≡◌, ◌⊎◌, ℕ, List, [], ◌++◌, codes, map, Option, Some, None, Result, Err}
 use Rattle.ir_event.specs.types.declared.refusal.Refusal.TheVariants.{Memory}
 use Rattle.ir_event.specs.Modules.{Module}
-use Rattle.patterns_reasons.specs.Conditions.{word_of as condition_word}
+use Rattle.conversion.specs.reasons.Conditions.{word_of as condition_word}
 use Rattle.conversion.specs.Converting.{conversion_to, stay_to, stood_in}
 use Rattle.conversion.specs.Rule.{Rule}
 use Rattle.conversion.specs.Targets.{Aim}

@@ -4,9 +4,9 @@ use Rattle.ir_event.specs.trees.Ids.{find}
 use Rattle.ir_event.specs.Modules.{Module}
 use Rattle.conversion.specs.rewriter.Commands.{RuleName}
 use Rattle.conversion.specs.patterns.Rule.{Rule}
-use Rattle.patterns_reasons.specs.Conditions.{word_of}
-use Rattle.patterns_reasons.specs.Reasons.{reason_of, rules_for_op}
-use Rattle.patterns_reasons.specs.declared.condition.Condition.{Condition}
+use Rattle.conversion.specs.reasons.Conditions.{word_of}
+use Rattle.conversion.specs.reasons.Reasons.{reason_of, rules_for_op}
+use Rattle.conversion.specs.reasons.declared.condition.Condition.{Condition}
 use Rattle.mlir_work_script.specs.Values.{op_text}
 use Rattle.mlir_work_transforms.specs.Applying.{rule_named}
 use Rattle.mlir_work_transforms.specs.TraceText.{rule_text}

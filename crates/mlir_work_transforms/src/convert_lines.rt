@@ -4,7 +4,7 @@ ghost use Rattle.conversion.specs.declared.stay.Stay.TheVariants.{Fails, MakesIl
 ghost use Rattle.mlir_work_transforms.specs.ConvertText.{fired_as, stay_line, stay_text, stood_text};
 
 use crate::trace_lines::{put_fired, put_op, put_rule};
-use conversion::condition::Condition;
+use conversion::reasons::condition::Condition;
 use conversion::stay::Stay;
 use conversion::stood::Stood;
 use conversion::teller::Teller;

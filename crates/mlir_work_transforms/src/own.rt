@@ -32,5 +32,5 @@ pub fn apply<L: Analysis>(
     ensures journal { Keeps L.meaning result bench.old bench.new }
 {
     led_benches_are_kept::<L>();
-    patterns_own::apply::apply(alloc, bench, pattern, op)
+    greedy::own::apply::apply(alloc, bench, pattern, op)
 }

@@ -1,18 +1,18 @@
 //! Why rules don't apply at an operation, told by a line for each.
 ghost use Rattle.std.specs.Prelude.{◌≡◌, ◌++◌, IfOk, OnOk, codes};
 ghost use Rattle.ir_event.specs.Modules.{module_in};
-ghost use Rattle.patterns_reasons.specs.Reasons.{reason_of};
+ghost use Rattle.conversion.specs.reasons.Reasons.{reason_of};
 ghost use Rattle.mlir_work_script.specs.Values.{op_text};
 ghost use Rattle.mlir_work_transforms.specs.TraceText.{rule_text};
 ghost use Rattle.mlir_work_transforms.specs.WhyText.{told_rules, verdict, why_line, why_lines};
 
 use crate::trace_lines::{put_op, put_rule};
+use conversion::reasons::condition::Condition;
+use conversion::reasons::listed::rules_at;
+use conversion::reasons::reason::reason;
 use greedy::patterns::rule::Rule;
 use ir_event::types::ids::OpId;
 use ir_event::world::World;
-use patterns_reasons::condition::Condition;
-use patterns_reasons::listed::rules_at;
-use patterns_reasons::reason::reason;
 use std::alloc::{AllocError, Global};
 
 /// Appends what is said of a rule: that it applies, or the first of its conditions that doesn't hold.

@@ -1,5 +1,5 @@
 use Rattle.std.proofs.Common.{ap}
-use Rattle.mlir_work_transforms.specs.rewriter.Benched.{Benched}
+use Rattle.mlir_work_mixed.specs.transforms.rewriter.Benched.{Benched}
 use Rattle.mlir_work_session.proofs.Attaching.{tried_added, tried_back}
 use Rattle.mlir_work_session.proofs.boxes.attach.Goals as goal
 

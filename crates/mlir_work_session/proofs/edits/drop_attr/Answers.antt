@@ -1,9 +1,9 @@
 use Rattle.std.proofs.Common.{ap, ◌∙◌}
 use Rattle.ir_event.specs.types.Terms.{name_term}
-use Rattle.mlir_work_transforms.specs.rewriter.Commands as command
-use Rattle.mlir_work_transforms.specs.rewriter.Commands.{Ask}
-use Rattle.mlir_work_transforms.specs.rewriter.Edits as edit
-use Rattle.mlir_work_transforms.specs.rewriter.Machine.{Do}
+use Rattle.mlir_work_mixed.specs.transforms.rewriter.Commands as command
+use Rattle.mlir_work_mixed.specs.transforms.rewriter.Commands.{Ask}
+use Rattle.mlir_work_mixed.specs.transforms.rewriter.Edits as edit
+use Rattle.mlir_work_mixed.specs.transforms.rewriter.Machine.{Do}
 use Rattle.mlir_work_script.specs.Keys.{key_bytes}
 use Rattle.mlir_work_session.proofs.Obeying.{obeys_behind, obeys_unnamed}
 use Rattle.mlir_work_session.proofs.edits.drop_attr.Goals as goal

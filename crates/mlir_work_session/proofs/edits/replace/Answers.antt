@@ -1,7 +1,7 @@
 use Rattle.std.proofs.Common.{refl}
-use Rattle.mlir_work_transforms.specs.rewriter.Commands as command
-use Rattle.mlir_work_transforms.specs.rewriter.Edits as edit
-use Rattle.mlir_work_transforms.specs.rewriter.Machine.{Do}
+use Rattle.mlir_work_mixed.specs.transforms.rewriter.Commands as command
+use Rattle.mlir_work_mixed.specs.transforms.rewriter.Edits as edit
+use Rattle.mlir_work_mixed.specs.transforms.rewriter.Machine.{Do}
 use Rattle.mlir_work_session.proofs.Obeying.{obeys_plain}
 use Rattle.mlir_work_session.proofs.edits.replace.Goals as goal
 

@@ -1,7 +1,7 @@
 use Rattle.std.proofs.Common.{◌++◌, List, ℕ, drop}
 use Rattle.mlir_work_script.specs.Writes.{Grows}
 use Rattle.ir_event.specs.Modules.{module_in}
-use Rattle.mlir_work_transforms.specs.rewriter.Panels.{all_shown}
+use Rattle.mlir_work_mixed.specs.transforms.rewriter.Panels.{all_shown}
 use Rattle.mlir_work_session.specs.Output.{AreKinds}
 use Rattle.mlir_work_session.proofs.listing.put_listeners.Given as goal
 

@@ -2,8 +2,8 @@ use Rattle.std.proofs.Common.{subst, sym}
 use Rattle.ir_event.specs.Modules.{module_in, things_in}
 use Rattle.ir_event.specs.Panels.{AllKept}
 use Rattle.mlir_work_script.proofs.Joins.{then_put, then_none}
-use Rattle.mlir_work_transforms.specs.rewriter.Panels.{all_shown}
-use Rattle.mlir_work_transforms.specs.rewriter.Benched.{state_of}
+use Rattle.mlir_work_mixed.specs.transforms.rewriter.Panels.{all_shown}
+use Rattle.mlir_work_mixed.specs.transforms.rewriter.Benched.{state_of}
 use Rattle.mlir_work_session.specs.Output.{IsModule, AreKinds, IsListing}
 use Rattle.mlir_work_session.proofs.Listings.{some_kinds}
 use Rattle.mlir_work_session.proofs.Reading.{all_held, listing_held}

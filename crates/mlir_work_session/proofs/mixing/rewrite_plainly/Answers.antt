@@ -1,7 +1,7 @@
 use Rattle.std.proofs.Common.{◌∙◌, ap, inr}
-use Rattle.mlir_work_transforms.specs.greedy.Changes.{rewriting}
-use Rattle.mlir_work_transforms.specs.greedy.Trial.{attempts_of, by_attempts}
-use Rattle.mlir_work_transforms.specs.rewriter.Benched.{state_of}
+use Rattle.mlir_work_mixed.specs.transforms.greedy.Changes.{rewriting}
+use Rattle.mlir_work_mixed.specs.transforms.greedy.Trial.{attempts_of, by_attempts}
+use Rattle.mlir_work_mixed.specs.transforms.rewriter.Benched.{state_of}
 use Rattle.mlir_work_session.specs.Machine.{response_of}
 use Rattle.mlir_work_session.proofs.Mixes.{follows_called}
 use Rattle.mlir_work_session.proofs.Room.{replied, widened}

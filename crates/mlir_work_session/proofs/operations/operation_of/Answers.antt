@@ -1,5 +1,5 @@
 use Rattle.std.proofs.Common.{ap, Err}
-use Rattle.mlir_work_transforms.specs.rewriter.Held.{module_held}
+use Rattle.mlir_work_mixed.specs.transforms.rewriter.Held.{module_held}
 use Rattle.mlir_work_session.proofs.operations.operation_of.Goals as goal
 
 pub returns-in-Err-clause-unread : goal.returns-in-Err-clause-unread

@@ -1,7 +1,7 @@
 use Rattle.std.proofs.Common.{◌≡◌, ◌∙◌, ap, sym, ℕ, Option, Some, None}
 use Rattle.std.specs.Prelude.{option_map}
-use Rattle.mlir_work_transforms.specs.rewriter.Panels.{Shown, shown}
-use Rattle.mlir_work_transforms.specs.rewriter.Held.{Held}
+use Rattle.mlir_work_mixed.specs.transforms.rewriter.Panels.{Shown, shown}
+use Rattle.mlir_work_mixed.specs.transforms.rewriter.Held.{Held}
 use Rattle.mlir_work_session.proofs.Fulfilling.{fulfils_supplied, fulfils_unsupplied}
 use Rattle.mlir_work_session.proofs.orders.attach.Goals as goal
 

@@ -2,7 +2,7 @@ use Rattle.std.proofs.Common.{◌≡◌, ◌++◌, ◌+◌, ◌≤◌, List, [],
 use Rattle.mlir_work_script.specs.Writes.{Grows}
 use Rattle.ir_event.specs.trees.Meaning.{meaning}
 use Rattle.mlir_work_script.specs.Lines.{lines_of}
-use Rattle.mlir_work_transforms.specs.rewriter.Panels.{Shown}
+use Rattle.mlir_work_mixed.specs.transforms.rewriter.Panels.{Shown}
 use Rattle.mlir_work_book.specs.Shelf.{Book}
 use Rattle.mlir_work_session.specs.Output.{Way, Runs, opening, worse}
 use Rattle.mlir_work_session.specs.PrintsAlone.{all_print}

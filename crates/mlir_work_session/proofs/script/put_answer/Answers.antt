@@ -1,7 +1,7 @@
 use Rattle.std.proofs.Common.{◌++◌, ◌&&◌, not, [], refl, append-nil}
 use Rattle.mlir_work_script.proofs.Joins.{grows_join, puts_join, front_more, front_within}
 use Rattle.mlir_work_script.specs.Commands.{spoken_of}
-use Rattle.mlir_work_transforms.specs.rewriter.Benched.{state_of}
+use Rattle.mlir_work_mixed.specs.transforms.rewriter.Benched.{state_of}
 use Rattle.mlir_work_book.specs.Explained.{told_text}
 use Rattle.mlir_work_book.specs.Notices.{notice_of}
 use Rattle.mlir_work_session.specs.Explained.{about_bytes}

@@ -1,7 +1,7 @@
 use Rattle.std.proofs.Common.{◌++◌, ◌+◌, ◌≤◌, List, ℕ, length, ◌≡◌}
 use Rattle.mlir_work_script.specs.Writes.{Grows}
 use Rattle.mlir_work_script.specs.Lines.{lines_of}
-use Rattle.mlir_work_transforms.specs.rewriter.Benched.{IsKept}
+use Rattle.mlir_work_mixed.specs.transforms.rewriter.Benched.{IsKept}
 use Rattle.mlir_work_session.specs.Output.{Runs, way_of, worse}
 use Rattle.mlir_work_session.specs.Sittings.{sitting_of}
 use Rattle.mlir_work_session.proofs.script.run_script.Given as goal

@@ -1,9 +1,9 @@
 use Rattle.std.proofs.Common.{◌≡◌, inl, inr, refl, subst, ◌∙◌, ap}
-use Rattle.mlir_work_transforms.specs.rewriter.Held.{module_held}
+use Rattle.mlir_work_mixed.specs.transforms.rewriter.Held.{module_held}
 use Rattle.std.specs.Prelude.{length}
 use Rattle.ir_event.specs.types.Things.{Things}
 use Rattle.ir_event.specs.Modules.{Module, module_in, module_meaning}
-use Rattle.mlir_work_transforms.specs.rewriter.Panels.{all_shown}
+use Rattle.mlir_work_mixed.specs.transforms.rewriter.Panels.{all_shown}
 use Rattle.mlir_work_book.specs.Shelf.{book_view}
 use Rattle.mlir_work_session.specs.Machine.{way_of}
 use Rattle.mlir_work_session.specs.Output.{IsSession, IsBadScript, Session}

@@ -1,5 +1,5 @@
 use Rattle.std.proofs.Common.{◌≡◌, ◌⊎◌, true, sym}
-use Rattle.mlir_work_transforms.specs.rewriter.Held.{module_held}
+use Rattle.mlir_work_mixed.specs.transforms.rewriter.Held.{module_held}
 use Rattle.ir_event.specs.Panels.{is_kind as has_this_kind}
 use Rattle.mlir_work_session.proofs.Obeying.{reports_none, reports_stale, reports_rows}
 use Rattle.mlir_work_session.proofs.Panels.{find_has}

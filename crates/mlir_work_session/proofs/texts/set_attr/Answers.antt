@@ -1,8 +1,8 @@
 use Rattle.std.proofs.Common.{ap, ◌∙◌}
 use Rattle.ir_event.specs.types.Terms.{name_term, attr_term}
-use Rattle.mlir_work_transforms.specs.rewriter.Commands as command
-use Rattle.mlir_work_transforms.specs.rewriter.Edits as edit
-use Rattle.mlir_work_transforms.specs.rewriter.Machine.{Do}
+use Rattle.mlir_work_mixed.specs.transforms.rewriter.Commands as command
+use Rattle.mlir_work_mixed.specs.transforms.rewriter.Edits as edit
+use Rattle.mlir_work_mixed.specs.transforms.rewriter.Machine.{Do}
 use Rattle.mlir_work_script.specs.Keys.{key_bytes}
 use Rattle.mlir_work_session.specs.Machine.{response_of}
 use Rattle.mlir_work_session.proofs.Obeying.{obeys_behind, obeys_unread}

@@ -1,6 +1,6 @@
 use Rattle.std.proofs.Common.{ap, sym, inr, map, ℕ, List, Some, None, Vec, Global}
-use Rattle.mlir_work_transforms.specs.greedy.Changes.{canonicalizing}
-use Rattle.mlir_work_transforms.specs.rewriter.Benched.{state_of}
+use Rattle.mlir_work_mixed.specs.transforms.greedy.Changes.{canonicalizing}
+use Rattle.mlir_work_mixed.specs.transforms.rewriter.Benched.{state_of}
 use Rattle.mlir_work_session.specs.Machine.{way_of}
 use Rattle.mlir_work_session.proofs.Fulfilling.{fulfils_told, told_trace}
 use Rattle.mlir_work_session.proofs.Room.{traced_room}

@@ -1,8 +1,8 @@
 use Rattle.std.proofs.Common.{◌∙◌, sym, inr}
-use Rattle.mlir_work_transforms.specs.rewriter.Commands as command
-use Rattle.mlir_work_transforms.specs.rewriter.Machine as call
+use Rattle.mlir_work_mixed.specs.transforms.rewriter.Commands as command
+use Rattle.mlir_work_mixed.specs.transforms.rewriter.Machine as call
 use Rattle.mlir_work_script.specs.RuleNames.{name_of}
-use Rattle.mlir_work_transforms.specs.Applying.{applying}
+use Rattle.mlir_work_mixed.specs.transforms.Applying.{applying}
 use Rattle.mlir_work_session.proofs.Obeying.{asks_ruled, obeys_plain, obeys_unruled}
 use Rattle.mlir_work_session.proofs.Room.{no_rule_room, rule_room}
 use Rattle.mlir_work_session.proofs.transforming.apply.Goals as goal

@@ -1,7 +1,7 @@
 use Rattle.std.proofs.Common.{ap, inr}
-use Rattle.mlir_work_transforms.specs.rewriter.Commands as command
-use Rattle.mlir_work_transforms.specs.rewriter.Machine as call
-use Rattle.mlir_work_transforms.specs.greedy.Changes.{canonicalizing}
+use Rattle.mlir_work_mixed.specs.transforms.rewriter.Commands as command
+use Rattle.mlir_work_mixed.specs.transforms.rewriter.Machine as call
+use Rattle.mlir_work_mixed.specs.transforms.greedy.Changes.{canonicalizing}
 use Rattle.mlir_work_session.proofs.Obeying.{obeys_plain}
 use Rattle.mlir_work_session.proofs.Room.{canon_room}
 use Rattle.mlir_work_session.proofs.transforming.canon.Goals as goal

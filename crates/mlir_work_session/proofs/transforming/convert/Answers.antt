@@ -1,10 +1,10 @@
 use Rattle.std.proofs.Common.{refl}
-use Rattle.mlir_work_transforms.specs.rewriter.Commands as command
-use Rattle.mlir_work_transforms.specs.rewriter.Machine as call
-use Rattle.mlir_work_transforms.specs.rewriter.Benched.{state_of}
+use Rattle.mlir_work_mixed.specs.transforms.rewriter.Commands as command
+use Rattle.mlir_work_mixed.specs.transforms.rewriter.Machine as call
+use Rattle.mlir_work_mixed.specs.transforms.rewriter.Benched.{state_of}
 use Rattle.mlir_work_script.specs.Clauses.{clauses_of, target_of}
-use Rattle.mlir_work_transforms.specs.Converting.{command_aim, conversion}
-use Rattle.mlir_work_transforms.proofs.Converted.{convert_full}
+use Rattle.mlir_work_mixed.specs.transforms.Converting.{command_aim, conversion}
+use Rattle.mlir_work_mixed.proofs.of_transforms.Converted.{convert_full}
 use Rattle.mlir_work_session.proofs.Obeying.{obeys_plain}
 use Rattle.mlir_work_session.proofs.Room.{replied}
 use Rattle.mlir_work_session.proofs.transforming.convert.Goals as goal

@@ -1,7 +1,7 @@
 use Rattle.std.proofs.Common.{refl}
-use Rattle.mlir_work_transforms.specs.rewriter.Commands as command
-use Rattle.mlir_work_transforms.specs.rewriter.Machine as call
-use Rattle.mlir_work_transforms.specs.Sweep.{sweeping}
+use Rattle.mlir_work_mixed.specs.transforms.rewriter.Commands as command
+use Rattle.mlir_work_mixed.specs.transforms.rewriter.Machine as call
+use Rattle.mlir_work_mixed.specs.transforms.Sweep.{sweeping}
 use Rattle.mlir_work_session.proofs.Obeying.{obeys_plain}
 use Rattle.mlir_work_session.proofs.transforming.sweep.Goals as goal
 

@@ -1,6 +1,6 @@
 use Rattle.std.proofs.Common.{refl}
 use Rattle.ir_text.specs.Public.{SpellsAttr}
-use Rattle.mlir_work_transforms.specs.rewriter.Texts.{SpellsBeside}
+use Rattle.mlir_work_mixed.specs.transforms.rewriter.Texts.{SpellsBeside}
 use Rattle.mlir_work_session.proofs.Reading.{unread_full, unread_full_op, unread_memory, unread_memory_op}
 use Rattle.mlir_work_session.proofs.unread.full_at.Goals as goal
 

@@ -1,7 +1,7 @@
 use Rattle.std.proofs.Common.{rules, inl, inr, ◌≡◌}
 use Rattle.ir_event.specs.types.declared.refusal.Refusal.TheVariants.{IdsExhausted}
 use Rattle.ir_text.specs.Public.{SpellsAttr}
-use Rattle.mlir_work_transforms.specs.rewriter.Texts.{SpellsBeside}
+use Rattle.mlir_work_mixed.specs.transforms.rewriter.Texts.{SpellsBeside}
 use Rattle.mlir_work_session.proofs.Reading.{ids_are_late, ids_refused, unread_at, unread_at_op}
 use Rattle.mlir_work_session.proofs.unread.refused_at.Goals as goal
 

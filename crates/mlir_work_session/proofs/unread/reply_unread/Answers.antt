@@ -1,5 +1,5 @@
 use Rattle.ir_text.specs.Public.{SpellsAttr}
-use Rattle.mlir_work_transforms.specs.rewriter.Texts.{SpellsBeside}
+use Rattle.mlir_work_mixed.specs.transforms.rewriter.Texts.{SpellsBeside}
 use Rattle.mlir_work_session.proofs.Reading.{unread_memory, unread_memory_op}
 use Rattle.mlir_work_session.proofs.unread.reply_unread.Goals as goal
 

@@ -1,5 +1,5 @@
 use Rattle.std.proofs.Common.{sym}
-use Rattle.mlir_work_transforms.specs.rewriter.Held.{module_held}
+use Rattle.mlir_work_mixed.specs.transforms.rewriter.Held.{module_held}
 use Rattle.mlir_work_session.proofs.Fulfilling.{fulfils_unasked}
 use Rattle.mlir_work_session.proofs.why.why.Goals as goal
 

@@ -1,6 +1,6 @@
 use Rattle.ir_event.specs.Modules.{Module}
 use Rattle.patterns_book.specs.Shapes.{shape}
-use Rattle.patterns_own.specs.Own.{own_rewrite}
+use Rattle.greedy.specs.own.Own.{own_rewrite}
 use Rattle.mlir_work_transforms.proofs.Applied.{applied_does, applied_full}
 use Rattle.mlir_work_transforms.proofs.own.apply.Goals as goal
 
