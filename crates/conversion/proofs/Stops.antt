@@ -1,5 +1,5 @@
 -- Why an operation stays, as operations are legalised in turn.
-use Rattle.std.proofs.Common.{◌≡◌, refl, ap, sym, ◌∙◌, subst, inl, inr, true≢false, ℕ, ◌-◌, ◌<◌, ◌≤◌, Bool, true, false, List, [], ◌∷◌, length, take, drop, get_or, if◌then◌else◌, Option, Some, None, Result, Ok, Err, arith}
+use Rattle.std.proofs.Common.{◌≡◌, refl, ap, sym, ◌∙◌, subst, inl, inr, true≢false, ℕ, ◌-◌, ◌<◌, ◌≤◌, Bool, true, false, List, [], ◌∷◌, length, take, drop, get_or, if◌then◌else◌, Option, Some, None, Ok, Err, arith}
 use Rattle.ir_event.specs.types.Things.{Things}
 use Rattle.ir_event.specs.types.declared.refusal.Refusal.TheVariants.{BadTarget}
 use Rattle.ir_event.specs.trees.Ids.{ids}

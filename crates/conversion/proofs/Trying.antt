@@ -1,8 +1,7 @@
 -- Tries, one after another.
-use Rattle.std.proofs.Common.{◌≡◌, ◌≢◌, refl, ap, sym, ◌∙◌, subst, inl, inr, ℕ, zero, suc, ◌+◌, ◌-◌, ◌<◌, ◌≤◌, Bool, true, false, true≢false, List, [], ◌∷◌, ◌++◌, append-nil, append_assoc, length, take, drop, get_or, ◌||◌, not, if◌then◌else◌, Result, Ok, Err, arith}
+use Rattle.std.proofs.Common.{◌≡◌, ◌≢◌, refl, ap, sym, ◌∙◌, subst, inl, inr, ℕ, zero, suc, ◌+◌, ◌-◌, ◌<◌, ◌≤◌, Bool, true, false, true≢false, List, [], ◌∷◌, ◌++◌, append-nil, append_assoc, ◌||◌, if◌then◌else◌, Result, Ok, Err, arith}
 use Rattle.std.specs.List.{list_all, range_with_len}
 use Rattle.std.proofs.Math.Bool.{or-false}
-use Rattle.std.proofs.lemmas.List.{take_all}
 use Rattle.ir_event.specs.types.Things.{Things, Grows}
 use Rattle.ir_event.specs.types.declared.refusal.Refusal.{Refusal}
 use Rattle.ir_event.specs.types.declared.refusal.Refusal.TheVariants.{Memory}
@@ -17,11 +16,9 @@ use Rattle.conversion_base.specs.Rule.{Rule}
 use Rattle.conversion_base.specs.declared.stood.Stood.{Stood}
 use Rattle.conversion_base.specs.RuleNames.{is_converting}
 use Rattle.conversion_base.specs.Targets.{Aim, is_legal}
-use Rattle.conversion_base.specs.Legalization.{Outcome, legalised, failed, stopped, behind, and_then, or_else, standing, stood, each_of, after_rule, first_rule, legalization_of, made_since}
+use Rattle.conversion_base.specs.Legalization.{Outcome, legalised, failed, stopped, behind, and_then, or_else, standing, each_of, after_rule, first_rule, legalization_of, made_since}
 use Rattle.conversion.specs.States.{State, Applied, IsWant, Told, ToldBehind, Stops, Comes, ComesBehind, Closed, Leads, marked, marked_desk, stood_since, went_well}
 use Rattle.conversion.proofs.Noting.{noted_closed}
-use Rattle.std.proofs.lemmas.Bool.{not-false, not-true}
-use Rattle.ir_event.proofs.of_types.Truths.{rest_at}
 
 -- ---- outcomes behind others
 

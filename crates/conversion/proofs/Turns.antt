@@ -1,5 +1,5 @@
 -- Operations in turn, and the parts of a conversion.
-use Rattle.std.proofs.Common.{◌≡◌, refl, ap, sym, ◌∙◌, subst, inl, inr, ◌⊎◌, ℕ, suc, ◌+◌, ◌-◌, ◌<◌, ◌≤◌, Bool, true, false, true≢false, List, [], ◌∷◌, ◌++◌, append-nil, append_assoc, length, take, drop, get_or, if◌then◌else◌, Result, Ok, Err, Some, None, arith}
+use Rattle.std.proofs.Common.{◌≡◌, refl, ap, sym, ◌∙◌, subst, inl, inr, ◌⊎◌, ℕ, ◌-◌, ◌<◌, ◌≤◌, Bool, true, false, true≢false, List, [], ◌∷◌, ◌++◌, append-nil, append_assoc, length, take, drop, get_or, if◌then◌else◌, Result, Ok, Err, Some, None, arith}
 use Rattle.std.specs.Prelude.{OnOk, is_ok}
 use Rattle.ir_event.specs.types.Things.{Things}
 use Rattle.ir_event.specs.types.declared.refusal.Refusal.{Refusal}

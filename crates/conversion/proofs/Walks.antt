@@ -10,7 +10,7 @@ use Rattle.ir_event.specs.trees.Meaning.{Operation}
 use Rattle.ir_event.specs.trees.WellFormed.{IsWellFormed}
 use Rattle.ir_event.specs.tree_laws.Members.{In}
 use Rattle.ir_event.specs.tree_laws.Reads.{comes_after, precedes}
-use Rattle.ir_event.proofs.of_tree_laws.Listed.{bool_cases, both}
+use Rattle.ir_event.proofs.of_tree_laws.Listed.{both}
 use Rattle.ir_event.specs.Modules.{Module}
 use Rattle.patterns_base.specs.Rewrites.{Rewrite, none, becomes}
 use Rattle.conversion_base.specs.Listing.{HaveCasts}

@@ -9,7 +9,7 @@ use Rattle.conversion.specs.declared.stay.Stay.{Stay}
 use Rattle.conversion_base.specs.Targets.{Aim, aim_of}
 use Rattle.conversion.proofs.Aims.{aim_known, aim_stays}
 use Rattle.conversion.proofs.Leading.{leads_more}
-use Rattle.conversion.proofs.Stops.{stays_done, stays_more, stays_stops}
+use Rattle.conversion.proofs.Stops.{stays_more, stays_stops}
 use Rattle.conversion.proofs.Turns.{turning_more, turning_stops}
 use Rattle.conversion.proofs.parts.legalise_each.Goals as goal
 
