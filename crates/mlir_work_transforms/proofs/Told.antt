@@ -55,6 +55,12 @@ same_or (Err f) q text lines stay s = go s.fault
     go (inl (e, l)) = inl e
     go (inr (e, l)) = inr (f, refl, e)
 
+same_match : (P Q : Type 0) (r q : Result ℕ Fault) → MatchResult r (λ _. P) (λ _. Q) → Same r q → MatchResult q (λ _. P) (λ _. Q)
+same_match P Q r q h (inl e) = subst (λ (x : Result ℕ Fault). MatchResult x (λ _. P) (λ _. Q)) (sym e) h
+same_match P Q r q h (inr (f, e, m)) =
+    let k : Q = subst (λ (x : Result ℕ Fault). MatchResult x (λ _. P) (λ _. Q)) e h in
+    subst (λ (x : Result ℕ Fault). MatchResult x (λ _. P) (λ _. Q)) (sym m) k
+
 module _ {B : Type 0} (meaning : B → Listener) (o : Option Aim) (a b : Benched B) (r q : Result ℕ Fault) (text lines : List ℕ) (stay : Option Stay) (shown : Shown r q text lines stay) where
   marks_stay : Does meaning (Change (ending (conversion_to o))) (conversion_reply r) a b → open_marks b.desk ≡ open_marks a.desk
   marks_stay d = go d.answer
@@ -92,13 +98,7 @@ module _ {B : Type 0} (meaning : B → Listener) (o : Option Aim) (a b : Benched
       go (inr (f, e, m)) = subst (λ (x : Result ℕ Fault). OnOk x P) (sym m) tt
 
   pub traced_journal : (P Q : Type 0) → MatchResult r (λ _. P) (λ _. Q) → MatchResult q (λ _. P) (λ _. Q)
-  traced_journal P Q h = go (same_or r q text lines stay shown)
-    where
-      go : Same r q → MatchResult q (λ _. P) (λ _. Q)
-      go (inl e) = subst (λ (x : Result ℕ Fault). MatchResult x (λ _. P) (λ _. Q)) (sym e) h
-      go (inr (f, e, m)) =
-          (let k : MatchResult (Err f) (λ _. P) (λ _. Q) = subst (λ (x : Result ℕ Fault). MatchResult x (λ _. P) (λ _. Q)) e h in
-          subst (λ (x : Result ℕ Fault). MatchResult x (λ _. P) (λ _. Q)) (sym m) k)
+  traced_journal P Q h = same_match P Q r q h (same_or r q text lines stay shown)
 
 -- ---- the lines
 

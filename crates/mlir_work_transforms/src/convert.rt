@@ -1,5 +1,5 @@
 //! Converting the module of a bench.
-ghost use Rattle.std.specs.Prelude.{◌≡◌, [], true, IfErr, MatchResult, OnOk};
+ghost use Rattle.std.specs.Prelude.{◌≡◌, [], true, IfErr, IfOk, MatchResult, OnOk};
 ghost use Rattle.ir_event.specs.types.Things.{Grows};
 ghost use Rattle.conversion.specs.rewriter.Machine.{Change};
 ghost use Rattle.conversion.specs.rewriter.Benched.{Does, Led};
@@ -13,18 +13,20 @@ ghost use Rattle.conversion.specs.Converting.{command_aim, conversion, conversio
 ghost use Rattle.conversion.specs.Converting.{stay_to, stood_in};
 ghost use Rattle.conversion.specs.Staying.{stay_told};
 ghost use Rattle.conversion.specs.States.{Converts};
-ghost use Rattle.mlir_work_transforms.specs.ConvertText.{ToldFault, conversion_text};
+ghost use Rattle.mlir_work_transforms.specs.ConvertText.{ToldFault, conversion_text, stay_below};
 
 use crate::convert_lines::{ConvertLines, line_of};
 use crate::target::target_of;
 use conversion::fault::Fault;
 use conversion::rewriter::Bench;
 use conversion::rewriter::laws::led_benches_are_kept;
+use conversion::stay::Stay;
 use conversion::teller::{Silent, Teller};
 use ir_event::analysis::Analysis;
+use ir_event::types::ids::OpId;
 use ir_event::types::refusal::Refusal;
 use mlir_work_script::clauses::Clauses;
-use std::alloc::Global;
+use std::alloc::{AllocError, Global};
 
 /// Converts the module of a bench (Dialect Conversion, "Modes of Conversion") for the target that clauses say, and
 /// tells of it. The names of its lists are interned first. The answer is how many rules stand; these are told. It is
@@ -107,33 +109,50 @@ pub struct Traced {
     pub lines: Vec<u8>,
 }
 
-/// How a conversion stands below its reply, which was told: its lines, or why an operation stays. Where there is no
-/// memory for that, the refusal is another.
-fn told(alloc: Global, lines: ConvertLines, called: Result<u32, Fault>) -> Traced
-    ensures ok { OnOk called ((result.called ≡ called) × (result.lines.items ≡ lines.text.items)) }
-    ensures fault { IfErr called (λ f. ToldFault f lines.stay result.called result.lines.items) }
+/// The line that stands below a fault, if it is for an operation, and that stays.
+fn line_below(alloc: Global, id: Option<OpId>, stay: Option<Stay>) -> Result<Vec<u8>, AllocError>
+    ensures { IfOk result (λ line. line.items ≡ stay_below id stay) }
 {
-    let Err(fault) = called else {
-        return Traced {
-            called,
-            lines: lines.text,
-        };
+    let Some(op) = id else {
+        return Ok(Vec::new(alloc));
     };
-    let (Some(op), Some(stay)) = (fault.id, lines.stay) else {
-        return Traced {
-            called,
-            lines: Vec::new(alloc),
-        };
+    let Some(stay) = stay else {
+        return Ok(Vec::new(alloc));
     };
-    match line_of(alloc, op, stay) {
-        Ok(lines) => Traced { called, lines },
-        Err(_) => Traced {
+    line_of(alloc, op, stay)
+}
+
+/// How a conversion that is refused is told: with why an operation stays, if it is for one. Where there is no memory for
+/// that, the refusal is another.
+fn told_fault(alloc: Global, fault: Fault, stay: Option<Stay>) -> Traced
+    ensures { ToldFault fault stay result.called result.lines.items }
+{
+    let Ok(line) = line_below(alloc, fault.id, stay) else {
+        return Traced {
             called: Err(Fault {
                 refusal: Refusal::Memory,
                 id: None,
             }),
             lines: Vec::new(alloc),
+        };
+    };
+    Traced {
+        called: Err(fault),
+        lines: line,
+    }
+}
+
+/// How a conversion is told: with the lines of the rules that stand, or with why an operation stays.
+fn told(alloc: Global, text: Vec<u8>, stay: Option<Stay>, called: Result<u32, Fault>) -> Traced
+    ensures ok { OnOk called ((result.called ≡ called) × (result.lines.items ≡ text.items)) }
+    ensures fault { IfErr called (λ f. ToldFault f stay result.called result.lines.items) }
+{
+    match called {
+        Ok(count) => Traced {
+            called: Ok(count),
+            lines: text,
         },
+        Err(fault) => told_fault(alloc, fault, stay),
     }
 }
 
@@ -162,5 +181,6 @@ pub fn convert_traced<L: Analysis>(
     led_benches_are_kept::<L>();
     let mut lines = ConvertLines::new(alloc);
     let called = convert_told(alloc, bench, full, clauses, &mut lines);
-    told(alloc, lines, called)
+    let ConvertLines { text, stay } = lines;
+    told(alloc, text, stay, called)
 }
