@@ -117,6 +117,10 @@ To rewrite:
                              between types reconciled, or all stays as it was
                              (docs/CONVERT.md); MODE is `partial`, or `full`,
                              where each operation has to be legal in the end
+  convert trace MODE CLAUSES
+                             the same, and each rule that stands is told, or why
+                             an operation can't be legalised, by a line as
+                             `stays #5 27 expand-remainder makes-illegal`
   sweep                      the private symbols that nothing reaches are taken
                              away, with what is inside them, or none of them
   apply RULE #N              one of the rules 1 to 30, or a pattern of one's
@@ -175,15 +179,16 @@ rewrites it made, as `1 converged 3`, or `1 limit 3` where a rule still applies,
 and with `trace` by a line for each, which says by which rule and at which
 operation, what was made, if anything was, and whether the operation went, as
 `rewrote 11 add-negative #5 made #7,#8 erased #5`; a `convert` by how many rules
-stand, as `1 converted 2`; an `apply` by `1 applied 1`, or `1 applied 0` where
-the rule doesn't apply; a `check` by the width up to which the pattern is right,
-as `1 holds 8`, or up to which it applies nowhere, as `1 empty 8`, or at which
-it is wrong, as `1 fails 2`, and then by which values, one a line. What is
-refused, as `1 refused 23 NotVisible`, changes nothing, and the next command is
-tried; `1 refused 2 Unexpected at 4` says at which byte the ATTRIBUTE, the
-OPERATION or the PATTERN is wrong, and `1 refused 51 NotLegalised #3` for which
-operation a `convert` is. Where a line expects a refusal and something else
-comes, `1 expected 22 HasUses` stands below the reply.
+stand, as `1 converted 2`, with `trace` likewise; an `apply` by `1 applied 1`,
+or `1 applied 0` where the rule doesn't apply; a `check` by the width up to
+which the pattern is right, as `1 holds 8`, or up to which it applies nowhere,
+as `1 empty 8`, or at which it is wrong, as `1 fails 2`, and then by which
+values, one a line. What is refused, as `1 refused 23 NotVisible`, changes
+nothing, and the next command is tried; `1 refused 2 Unexpected at 4` says at
+which byte the ATTRIBUTE, the OPERATION or the PATTERN is wrong, and
+`1 refused 51 NotLegalised #3` for which operation a `convert` is. Where a line
+expects a refusal and something else comes, `1 expected 22 HasUses` stands below
+the reply.
 
 With `--explain` the operations and values that a refusal is about stand behind
 it, as `1 refused 22 HasUses about #3 #5`, and what of MLIR stands where

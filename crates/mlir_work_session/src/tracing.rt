@@ -1,4 +1,4 @@
-//! Orders that rewrite the module of a bench and tell each rewrite.
+//! Orders that rewrite or convert the module of a bench and tell each rewrite.
 ghost use Rattle.std.specs.Prelude.{◌≡◌, ℕ, Option, None, Some, option_map};
 ghost use Rattle.std.specs.Option.{option_copied};
 ghost use Rattle.ir_text.specs.Public.{IsFull};
@@ -22,9 +22,9 @@ use crate::shows::{Answered, plain};
 use crate::transforming::limit_of;
 use ir_event::analysis::Analysis;
 use ir_event::types::refusal::Refusal;
-use mlir_work_transforms::greedy::outcome::Outcome as Ended;
 use mlir_work_script::clauses::Clauses;
 use mlir_work_transforms::convert::convert_traced;
+use mlir_work_transforms::greedy::outcome::Outcome as Ended;
 use mlir_work_transforms::rewrite::rules_in;
 use mlir_work_transforms::rewriter::Bench;
 use mlir_work_transforms::rewriter::laws::led_benches_are_kept;
