@@ -166,6 +166,17 @@ def row_of_reason(line):
     return {"kind": "why", "op": shown(op), "rule": number(rule), "word": shown(word), "said": shown(rest)}
 
 
+def row_of_stay(line):
+    """Why an operation can't be legalised: the rule that was tried last, and what is said of it; or that none was."""
+    op, rest = cut(cut(line)[1])
+    told = {"kind": "stays", "op": shown(op)}
+    rule, behind = cut(rest)
+    if not isinstance(number(rule), int):
+        return {**told, "said": shown(rest)}
+    word, reason = cut(behind)
+    return {**told, "rule": number(rule), "word": shown(word), "said": shown(reason)}
+
+
 def worded(line):
     """A line that begins with a word. That of a pattern, or of one of its numbers, may be any."""
     word, rest = cut(line)
@@ -178,6 +189,8 @@ def worded(line):
         return {"kind": shown(kind), **({"state": shown(state)} if state else {})}
     if rest.startswith(b"#") and word == b"why":
         return row_of_reason(line)
+    if rest.startswith(b"#") and word == b"stays":
+        return row_of_stay(line)
     if rest.startswith(b"#"):
         return row_of_symbols(line) if word in SYMBOLS else {"text": shown(line)}
     if OUTCOME.fullmatch(cut(rest)[0]):

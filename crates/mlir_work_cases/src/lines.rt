@@ -115,12 +115,28 @@ fn told_lists(alloc: Global, clauses: &Clauses<'_>) -> Result<String, AllocError
     Ok(out)
 }
 
-/// A line that converts.
-fn told_convert(alloc: Global, full: bool, clauses: &Clauses<'_>) -> Result<String, AllocError> {
+/// The target of a conversion.
+fn told_target(alloc: Global, full: bool, clauses: &Clauses<'_>) -> Result<String, AllocError> {
     let mode = if full { "full" } else { "partial" };
     let lists = told_lists(alloc, clauses)?;
     let depth = told_number(alloc, clauses.depth)?;
-    format!(in alloc; "convert {mode}{lists} depth {depth}")
+    format!(in alloc; "{mode}{lists} depth {depth}")
+}
+
+/// A line that converts.
+fn told_convert(alloc: Global, full: bool, clauses: &Clauses<'_>) -> Result<String, AllocError> {
+    let target = told_target(alloc, full, clauses)?;
+    format!(in alloc; "convert {target}")
+}
+
+/// A line that converts, and tells each rule that stands.
+fn told_convert_trace(
+    alloc: Global,
+    full: bool,
+    clauses: &Clauses<'_>,
+) -> Result<String, AllocError> {
+    let target = told_target(alloc, full, clauses)?;
+    format!(in alloc; "convert trace {target}")
 }
 
 /// A rule at an operation.
@@ -224,6 +240,7 @@ fn told_order(alloc: Global, order: &Order<'_>) -> Result<String, AllocError> {
         Order::ReportOf { kind, subject } => told_about(alloc, *kind, subject),
         Order::Rewrite { rules, limit } => told_rewrite(alloc, rules, *limit),
         Order::Trace { rules, limit } => told_trace(alloc, *rules, *limit),
+        Order::TraceConvert { full, clauses } => told_convert_trace(alloc, *full, clauses),
         Order::CanonAt { op, limit } => told_canon_at(alloc, *op, *limit),
         Order::Why { op, rule } => told_why(alloc, *op, rule),
     }

@@ -5,7 +5,7 @@ use Rattle.std.specs.Str.{bytes_eq}
 use Rattle.mlir_work_json.specs.Cuts.{after, before, behind, behind_second, cell, second}
 use Rattle.mlir_work_json.specs.Numbers.{number_of}
 use Rattle.mlir_work_json.specs.declared.form.Form.{Form}
-use Rattle.mlir_work_json.specs.declared.form.Form.TheVariants.{Reply, Heading, Unread, Unattached, Module, Use, Constant, Dead, Unreached, Diagnostic, Effect, Definition, Reference, Unresolved, Mismatch, Reason, Rewritten, Applied, Pattern, Outcome, Other}
+use Rattle.mlir_work_json.specs.declared.form.Form.TheVariants.{Reply, Heading, Unread, Unattached, Module, Use, Constant, Dead, Unreached, Diagnostic, Effect, Definition, Reference, Unresolved, Mismatch, Reason, Stayed, Rewritten, Applied, Pattern, Outcome, Other}
 
 -- a line of a module begins with a blank, a quote, a closing brace or a caret
 abbrev pub begins_module : ℕ → Bool
@@ -80,6 +80,7 @@ symbol_form word =
     else if bytes_eq word (codes "unresolved") then Unresolved
     else if bytes_eq word (codes "mismatch") then Mismatch
     else if bytes_eq word (codes "why") then Reason
+    else if bytes_eq word (codes "stays") then Stayed
     else Other
 
 -- what is refused that is no command

@@ -6,9 +6,9 @@ use Rattle.mlir_work_json.specs.Cuts.{parts}
 use Rattle.mlir_work_json.specs.Forms.{form_of}
 use Rattle.mlir_work_json.specs.Items.{Member, text, put_all}
 use Rattle.mlir_work_json.specs.Replies.{reply_members, heading_members, unread_members, unattached_members}
-use Rattle.mlir_work_json.specs.Rows.{use_members, constant_members, dead_members, unreached_members, diagnostic_members, effect_members, definition_members, reference_members, unresolved_members, mismatch_members, reason_members, rewritten_members, applied_members, pattern_members, outcome_members}
+use Rattle.mlir_work_json.specs.Rows.{use_members, constant_members, dead_members, unreached_members, diagnostic_members, effect_members, definition_members, reference_members, unresolved_members, mismatch_members, reason_members, stayed_members, rewritten_members, applied_members, pattern_members, outcome_members}
 use Rattle.mlir_work_json.specs.declared.form.Form.{Form}
-use Rattle.mlir_work_json.specs.declared.form.Form.TheVariants.{Reply, Heading, Unread, Unattached, Module, Use, Constant, Dead, Unreached, Diagnostic, Effect, Definition, Reference, Unresolved, Mismatch, Reason, Rewritten, Applied, Pattern, Outcome, Other}
+use Rattle.mlir_work_json.specs.declared.form.Form.TheVariants.{Reply, Heading, Unread, Unattached, Module, Use, Constant, Dead, Unreached, Diagnostic, Effect, Definition, Reference, Unresolved, Mismatch, Reason, Stayed, Rewritten, Applied, Pattern, Outcome, Other}
 
 -- the members of a line of a form
 abbrev pub form_members : Form → List ℕ → List Member
@@ -28,6 +28,7 @@ form_members Reference line = reference_members line
 form_members Unresolved line = unresolved_members line
 form_members Mismatch line = mismatch_members line
 form_members Reason line = reason_members line
+form_members Stayed line = stayed_members line
 form_members Rewritten line = rewritten_members line
 form_members Applied line = applied_members line
 form_members Pattern line = pattern_members line

@@ -102,6 +102,19 @@ reason_members line =
     kind (codes "why") ∷ text (codes "op") (second line) ∷ numeral (codes "rule") (cell (behind_second line))
     ∷ text (codes "word") (second (behind_second line)) ∷ text (codes "said") (behind_second (behind_second line)) ∷ []
 
+-- the rule that was tried last, `27 expand-remainder makes-illegal`, or that there is none, `no-rule`
+abbrev pub stay_members : List ℕ → List Member
+stay_members said =
+    if is_some (number_of (cell said))
+    then numeral (codes "rule") (cell said) ∷ text (codes "word") (second said)
+    ∷ text (codes "said") (behind_second said) ∷ []
+    else text (codes "said") said ∷ []
+
+-- `stays #5 27 expand-remainder makes-illegal`, `stays #5 no-rule`
+abbrev pub stayed_members : List ℕ → List Member
+stayed_members line =
+    kind (codes "stays") ∷ text (codes "op") (second line) ∷ stay_members (behind_second line)
+
 -- ---- patterns of one's own
 
 -- `holds 8`, or `not checked`

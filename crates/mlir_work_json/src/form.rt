@@ -42,6 +42,8 @@ pub enum Form {
     Mismatch,
     /// Why a rule doesn't apply, or that it does.
     Reason,
+    /// Why an operation can't be legalised.
+    Stayed,
     /// A rewrite by a rule that is told.
     Rewritten,
     /// A rewrite by a pattern of one's own that is told.
@@ -194,6 +196,9 @@ fn symbol_form(word: &[u8]) -> Form
     }
     if word == b"why".as_slice() {
         return Form::Reason;
+    }
+    if word == b"stays".as_slice() {
+        return Form::Stayed;
     }
     Form::Other
 }

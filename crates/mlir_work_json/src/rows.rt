@@ -4,6 +4,7 @@ ghost use Rattle.mlir_work_json.specs.Rows.{use_members, constant_members, dead_
 ghost use Rattle.mlir_work_json.specs.Rows.{diagnostic_members, effect_members, definition_members, reference_members};
 ghost use Rattle.mlir_work_json.specs.Rows.{unresolved_members, mismatch_members, said_members, pattern_members};
 ghost use Rattle.mlir_work_json.specs.Rows.{applied_members, change_members, erased_members, outcome_members, reason_members, rewritten_members};
+ghost use Rattle.mlir_work_json.specs.Rows.{stay_members, stayed_members};
 
 use crate::cuts::{BLANK, behind_cell, cut_at, cut_cell, without_last};
 use crate::members::{Object, put_number, put_parts, put_text};
@@ -218,6 +219,31 @@ pub(crate) fn put_reason(object: &mut Object, alloc: Global, line: &[u8]) -> Res
     put_number(object, alloc, "rule", rule)?;
     put_text(object, alloc, "word", word)?;
     put_text(object, alloc, "said", said)
+}
+
+/// Puts the rule that was tried last, and why it didn't help: `27 expand-remainder makes-illegal`; or that there is none.
+fn put_stay(object: &mut Object, alloc: Global, said: &[u8]) -> Result<(), AllocError>
+    ensures { Puts result object.old object.new (stay_members said.now) }
+{
+    let (rule, rest) = cut_cell(said);
+    if number(rule).is_none() {
+        return put_text(object, alloc, "said", said);
+    }
+    let (word, why) = cut_cell(rest);
+    put_number(object, alloc, "rule", rule)?;
+    put_text(object, alloc, "word", word)?;
+    put_text(object, alloc, "said", why)
+}
+
+/// Puts why an operation can't be legalised: `stays #5 27 expand-remainder makes-illegal`, `stays #5 no-rule`.
+pub(crate) fn put_stayed(object: &mut Object, alloc: Global, line: &[u8]) -> Result<(), AllocError>
+    ensures { Puts result object.old object.new (stayed_members line.now) }
+{
+    let (_, rest) = cut_cell(line);
+    let (op, said) = cut_cell(rest);
+    put_text(object, alloc, "kind", b"stays")?;
+    put_text(object, alloc, "op", op)?;
+    put_stay(object, alloc, said)
 }
 
 /// Puts what a check said: `holds 8`, or that there was none.

@@ -12,7 +12,7 @@ use crate::members::{Object, put_text};
 use crate::replies::{put_heading, put_reply, put_unattached, put_unread};
 use crate::rows::{
     put_applied, put_constant, put_dead, put_definition, put_diagnostic, put_effect, put_mismatch,
-    put_outcome, put_pattern, put_reason, put_reference, put_rewritten, put_unreached,
+    put_outcome, put_pattern, put_reason, put_reference, put_rewritten, put_stayed, put_unreached,
     put_unresolved, put_use,
 };
 use serde_json::{Map, Value};
@@ -39,6 +39,7 @@ fn put_form(object: &mut Object, alloc: Global, form: &Form, line: &[u8]) -> Res
         Form::Unresolved => put_unresolved(object, alloc, line),
         Form::Mismatch => put_mismatch(object, alloc, line),
         Form::Reason => put_reason(object, alloc, line),
+        Form::Stayed => put_stayed(object, alloc, line),
         Form::Rewritten => put_rewritten(object, alloc, line),
         Form::Applied => put_applied(object, alloc, line),
         Form::Pattern => put_pattern(object, alloc, line),

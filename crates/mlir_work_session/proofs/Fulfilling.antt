@@ -4,11 +4,11 @@ use Rattle.std.specs.Prelude.{is_some, option_map, OnOk}
 use Rattle.ir_event.specs.types.declared.refusal.Refusal.{Refusal}
 use Rattle.ir_event.specs.types.declared.refusal.Refusal.TheVariants.{Memory, NoSuchKey, NoSuchKind, NoSuchOp}
 use Rattle.ir_event.specs.Modules.{Module}
-use Rattle.mlir_work_mixed.specs.transforms.rewriter.Commands.{AppliesRule, RuleName, Asked, Ask, Misplaced, Unread, Follows, Response, Replied, TextRefusedAt}
+use Rattle.mlir_work_mixed.specs.transforms.rewriter.Commands.{AppliesRule, RuleName, Asked, Ask, Misplaced, Target, Unread, Follows, Response, Replied, TextRefusedAt}
 use Rattle.mlir_work_mixed.specs.transforms.rewriter.Machine as call
 use Rattle.mlir_work_mixed.specs.transforms.rewriter.Machine.{State, Call, Reply, Done, Refused, Shows, Nothing, Transformation, Tree, Goes}
 use Rattle.mlir_work_mixed.specs.transforms.rewriter.Panels.{Shown}
-use Rattle.mlir_work_script.specs.Orders.{Attach, CanonAt, Order, PrintIds, Rewrite, Trace, Why, ReportOf}
+use Rattle.mlir_work_script.specs.Orders.{Attach, CanonAt, Order, PrintIds, Rewrite, Trace, TraceConvert, Why, ReportOf}
 use Rattle.mlir_work_session_base.specs.IdsText.{ids_text}
 use Rattle.mlir_work_session.specs.Machine.{AsksWhy, AttachesKind, Fulfils, OrdersIn, Way, limit_or, order_bytes, told_if, AsksAbout, order_shows, shows_about}
 use Rattle.mlir_work_script.specs.declared.subject.Subject.{Subject}
@@ -18,6 +18,8 @@ use Rattle.mlir_work_mixed.specs.transforms.greedy.Changes.{canonical_reply, rew
 use Rattle.mlir_work_mixed.specs.transforms.greedy.Tracing.{trace_of}
 use Rattle.mlir_work_mixed.specs.transforms.greedy.Trial.{by_rules}
 use Rattle.mlir_work_mixed.specs.transforms.greedy.declared.outcome.Outcome.{Outcome as Ended}
+use Rattle.mlir_work_mixed.specs.transforms.ConvertText.{conversion_text}
+use Rattle.mlir_work_mixed.specs.transforms.Converting.{command_aim, conversion}
 use Rattle.mlir_work_mixed.specs.transforms.Rewriting.{rewriting_named, rules_named}
 use Rattle.mlir_work_mixed.specs.transforms.TraceText.{trace_by, trace_text, traced_rules, tracing}
 use Rattle.mlir_work_mixed.specs.transforms.Rule.{Rule}
@@ -116,6 +118,13 @@ module _ (way : Way) where
       go (Some rs) e =
           rw is (fulfils_told (Some names) limit (rewriting (by_rules rs) (limit_or way.manner.limit limit)) s s (Refused Memory) (Replied (Refused Memory)) [] (ap (option_map (λ rs. rewriting (by_rules rs) (limit_or way.manner.limit limit))) e) refl (record { answer = inr (refl, inl refl); panel = all_stay s.panel }) refl)
 
+  -- ---- converting
+
+  -- a conversion that is told, also where it is refused
+  pub fulfils_converted : (target : Target) (s t : State) (reply : Reply) (response : Response) (bytes : List ℕ) → response ≡ Replied reply → Goes s (call.Change (conversion target)) reply Nothing t
+      → bytes ≡ conversion_text (command_aim target) s.held reply → Fulfils way s (TraceConvert target) response bytes t
+  fulfils_converted target s t reply response bytes is goes told = rw is (rw told (fulfils_call s t (TraceConvert target) (call.Change (conversion target)) reply Nothing refl goes))
+
   -- ---- canonicalizing one operation
 
   pub fulfils_at : (x : ℕ) (limit : Option ℕ) (n : ℕ) (s t : State) (reply : Reply) (response : Response) → n ≡ limit_or way.manner.limit limit → response ≡ Replied reply → Goes s (call.Change (canonicalizing_at n x)) reply Nothing t → Fulfils way s (CanonAt x limit) response [] t
@@ -180,6 +189,7 @@ module _ (way : Way) where
   some_fulfilled s (ReportOf kind subject) = by_subject s kind subject (is_there subject s.held.tree) refl
   some_fulfilled s (Rewrite names limit) = by_ruled s names limit (rewriting_named names (limit_or way.manner.limit limit)) refl
   some_fulfilled s (Trace names limit) = by_trace s names limit (tracing names (limit_or way.manner.limit limit)) refl
+  some_fulfilled s (TraceConvert target) = by_call s (TraceConvert target) (call.Change (conversion target)) refl
   some_fulfilled s (CanonAt x limit) = by_call s (CanonAt x limit) (call.Change (canonicalizing_at (limit_or way.manner.limit limit) x)) refl
   some_fulfilled s (Why x name) = by_why s x name (asked_rules name x s.held) (has_id x s.held.tree) refl refl
 
@@ -213,6 +223,7 @@ never_unread way (Trace names limit) m refusal offset asks = go (tracing names (
     go : (o : Option Transformation) → AppliesRule o (Unread refusal offset) → ⊥
     go None e = absurd cc
     go (Some f) e = absurd cc
+never_unread way (TraceConvert target) m refusal offset asks = absurd (let e : Unread refusal offset ≡ Ask (call.Change (conversion target)) = asks in cc)
 never_unread way (CanonAt x limit) m refusal offset asks = absurd (let e : Unread refusal offset ≡ Ask (call.Change (canonicalizing_at (limit_or way.manner.limit limit) x)) = asks in cc)
 never_unread way (Why x name) m refusal offset asks = go (asked_rules name x m) (has_id x m.tree) asks
   where

@@ -8,7 +8,7 @@ use Rattle.mlir_work_mixed.specs.transforms.rewriter.Commands.{Asked, Ask, CanFi
 use Rattle.mlir_work_mixed.specs.transforms.rewriter.Machine.{Shows, State}
 use Rattle.mlir_work_mixed.specs.transforms.rewriter.Texts.{SpellsBeside}
 use Rattle.mlir_work_script.specs.Commands.{Spoken, Nothing, Bad, Obey, Ordered, Booked}
-use Rattle.mlir_work_script.specs.Orders.{Attach, CanonAt, Order, PrintIds, Rewrite, Trace, Why, ReportOf}
+use Rattle.mlir_work_script.specs.Orders.{Attach, CanonAt, Order, PrintIds, Rewrite, Trace, TraceConvert, Why, ReportOf}
 use Rattle.mlir_work_book.specs.Notices.{Notice}
 use Rattle.mlir_work_book.specs.Shelf.{Book, Kept}
 use Rattle.mlir_work_session.specs.Machine.{AsksIn, Fulfils, OrdersIn, order_bytes}
@@ -57,6 +57,7 @@ module _ (way : Way) (bytes : ℕ) (longer : way.manner.bytes ≤ bytes) where
   orders_wider PrintIds m asked h = h
   orders_wider (Rewrite names limit) m asked h = h
   orders_wider (Trace names limit) m asked h = h
+  orders_wider (TraceConvert target) m asked h = h
   orders_wider (CanonAt x limit) m asked h = h
   orders_wider (Why x name) m asked h = h
   orders_wider (ReportOf kind subject) m asked h = h
@@ -67,6 +68,7 @@ module _ (way : Way) (bytes : ℕ) (longer : way.manner.bytes ≤ bytes) where
   bytes_wider (ReportOf kind subject) m response shows = refl
   bytes_wider (Rewrite names limit) m response shows = refl
   bytes_wider (Trace names limit) m response shows = refl
+  bytes_wider (TraceConvert target) m response shows = refl
   bytes_wider (CanonAt x limit) m response shows = refl
   bytes_wider (Why x name) m response shows = refl
 

@@ -96,7 +96,7 @@ pub fn fulfil<L: Supplied>(
             )
         }
         Order::Trace { rules, limit } => tracing::trace(alloc, manner, bench, *rules, *limit),
-        Order::TraceConvert { full, clauses } => { tracing::convert(alloc, bench, *full, clauses) }
+        Order::TraceConvert { full, clauses } => tracing::convert(alloc, bench, *full, clauses),
         Order::CanonAt { op, limit } => {
             plain(alloc, why::canon_at(alloc, manner, bench, *op, *limit))
         }

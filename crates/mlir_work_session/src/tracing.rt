@@ -1,4 +1,4 @@
-//! Orders that rewrite the module of a bench and tell each rewrite.
+//! Orders that rewrite or convert the module of a bench and tell each rewrite.
 ghost use Rattle.std.specs.Prelude.{◌≡◌, ℕ, Option, None, Some, option_map};
 ghost use Rattle.std.specs.Option.{option_copied};
 ghost use Rattle.ir_text.specs.Public.{IsFull};

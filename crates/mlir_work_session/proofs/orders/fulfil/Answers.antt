@@ -18,6 +18,12 @@ returns-in-Trace-clause-fulfils g c = fulfils_alike (way_of g.L.Supplied.supply 
 pub returns-in-Trace-clause-room : goal.returns-in-Trace-clause-room
 returns-in-Trace-clause-room g c = orders_room_plainly _ (way_of g.L.Supplied.supply c.args.manner.now) _ _ _ _ _ (ap order_of c.in-Trace.is) refl c.trace.ensures.room
 
+pub returns-in-TraceConvert-clause-fulfils : goal.returns-in-TraceConvert-clause-fulfils
+returns-in-TraceConvert-clause-fulfils g c = fulfils_alike (way_of g.L.Supplied.supply c.args.manner.now) _ _ _ _ _ _ (ap order_of c.in-TraceConvert.is) (c.convert.ensures.fulfils (way_of g.L.Supplied.supply c.args.manner.now))
+
+pub returns-in-TraceConvert-clause-room : goal.returns-in-TraceConvert-clause-room
+returns-in-TraceConvert-clause-room g c = orders_room_plainly _ (way_of g.L.Supplied.supply c.args.manner.now) _ _ _ _ _ (ap order_of c.in-TraceConvert.is) refl c.convert.ensures.room
+
 pub returns-in-ReportOf-clause-fulfils : goal.returns-in-ReportOf-clause-fulfils
 returns-in-ReportOf-clause-fulfils g c = fulfils_alike (way_of g.L.Supplied.supply c.args.manner.now) _ _ _ _ _ _ (ap order_of c.in-ReportOf.is) (c.show_about.ensures (way_of g.L.Supplied.supply c.args.manner.now))
 
