@@ -4,8 +4,10 @@ program answers with `--opaque` beside what the rules in Python say: read alike,
 
 usage: bench/compare/opaque_tokens.py PROGRAM [--most MOST] [--seed SEED] [--processes COUNT]
 
-The modules are those of `tests/opaque/modules.tar.xz`. Of a module that has more than MOST tokens (300) as many are
-taken by chance. Each difference is printed, and the status is 1 where there is one."""
+The modules are those of `tests/opaque/modules.tar.xz`. One of more than 300 tokens is cut into the operations of its
+body, each a module with the definitions of aliases around it. Of one that has more than MOST tokens (300) then as many
+are taken by chance. Each difference is printed, and the status is 1 where there is one. By `pypy3` it takes a third of
+the time."""
 import argparse
 import multiprocessing
 import pathlib
@@ -25,6 +27,8 @@ MODULES = ROOT / "tests" / "opaque" / "modules.tar.xz"
 DIVIDER = b"\n// -----\nprint\n"
 TOKEN = re.compile(rb'@?"(?:[^"\\\n]|\\.)*"|//[^\n]*|->|[%#!^@][\w.$-]*(?::\d+)?|[A-Za-z_][\w.$-]*|\d[\w.+]*|\S', re.S)
 WAYS = ("dropped", "doubled", "exchanged")
+BEGINS = re.compile(rb'  ["%]')
+MOST = 300
 
 
 def modules():
@@ -33,6 +37,23 @@ def modules():
         for member in held.getmembers():
             if member.name.endswith(".mlir"):
                 yield member.name, held.extractfile(member).read()
+
+
+def parts(text):
+    """A module, or one for each operation of its body, as `mlir-opt` lays them out."""
+    lines = text.splitlines(keepends=True)
+    first = next((at for at, line in enumerate(lines) if line.startswith(b'"builtin.module"')), None)
+    last = next((at for at, line in enumerate(lines) if line.startswith(b"})")), None)
+    if len(TOKEN.findall(text)) <= MOST or first is None or last is None or not lines[first].endswith(b"({\n"):
+        return [text]
+    found = []
+    for line in lines[first + 1:last]:
+        if BEGINS.match(line):
+            found.append([])
+        if not found:
+            return [text]
+        found[-1].append(line)
+    return [b"".join([*lines[:first + 1], *one, *lines[last:]]) for one in found]
 
 
 def changed(text, places, at, way):
@@ -72,17 +93,18 @@ def differences(asked):
 def main():
     parser = argparse.ArgumentParser(description=__doc__, formatter_class=argparse.RawDescriptionHelpFormatter)
     parser.add_argument("program")
-    parser.add_argument("--most", type=int, default=300)
+    parser.add_argument("--most", type=int, default=MOST)
     parser.add_argument("--seed", type=int, default=1)
     parser.add_argument("--processes", type=int, default=1)
     asked = parser.parse_args()
     program, tried, read, wrong = str(pathlib.Path(asked.program).resolve()), 0, 0, 0
-    work = [(program, name, text, asked.most, asked.seed) for name, text in modules()]
+    work = [(program, name, part, asked.most, asked.seed) for name, text in modules() for part in parts(text)]
+    work.sort(key=lambda it: -len(it[2]))
     with multiprocessing.Pool(asked.processes) as pool:
         for count, (one, good, found) in enumerate(pool.imap_unordered(differences, work), 1):
             tried, read, wrong = tried + one, read + good, wrong + len(found)
             if count % 20 == 0:
-                print(f"{count} modules, {tried} texts, {wrong} differences", file=sys.stderr, flush=True)
+                print(f"{count} of {len(work)}, {tried} texts, {wrong} differences", file=sys.stderr, flush=True)
             for name, way, place, wanted, said in found:
                 print(f"{name}: token at {place[0]} {way}\n  {wanted!r}\n  {said!r}")
     print(f"{tried} texts of {len(work)} modules, {read} of them read, {wrong} differences")
