@@ -277,7 +277,7 @@ def text_says(text):
         return f"canon {number_of(words[2])}"
     if len(words) >= 3 and words[:2] == [b"convert", b"trace"]:
         says = convert_says(words[2:])
-        return says if says == "bad" else f"trace {says}"
+        return says if says == "bad" else says.replace("convert ", "convert trace ", 1)
     if len(words) >= 2 and words[0] == b"convert":
         return convert_says(words[1:])
     if len(words) == 2 and words[0] == b"erase" and op_of(words[1]):
@@ -354,15 +354,15 @@ ORDERS = {"report uses of #3": "report 1 of op 3", "\treport  unreached\tof  #00
           "canon at #4294967295 limit 4294967295": "canon 4294967295 limit 4294967295",
           "canon at #0 limit 0": "canon 0 limit 0",
           "expect 50 canon at #3 limit 0": "expects 50 BadLimit canon 3 limit 0",
-          "convert trace partial": "trace convert partial depth none",
-          " convert\ttrace \t full\r": "trace convert full depth none",
+          "convert trace partial": "convert trace partial depth none",
+          " convert\ttrace \t full\r": "convert trace full depth none",
           "convert trace partial illegal arith.remsi,arith.subi rules 27,26 depth 1":
-              "trace convert partial illegal [arith.remsi,arith.subi] rules [27,26] depth 1",
+              "convert trace partial illegal [arith.remsi,arith.subi] rules [27,26] depth 1",
           "convert trace full depth 016\t rules 2,0030,2  dynamic c illegal b legal a":
-              "trace convert full legal [a] illegal [b] dynamic [c] rules [2,0030,2] depth 16",
+              "convert trace full legal [a] illegal [b] dynamic [c] rules [2,0030,2] depth 16",
           "convert trace partial legal trace rules 1 depth 17":
-              "trace convert partial legal [trace] rules [1] depth 17",
-          "expect 51 convert trace full": "expects 51 NotLegalised trace convert full depth none",
+              "convert trace partial legal [trace] rules [1] depth 17",
+          "expect 51 convert trace full": "expects 51 NotLegalised convert trace full depth none",
           "print ids": "ids", "\tprint  ids \r": "ids", "expect 22 erase #3": "expects 22 HasUses erase 3",
           "expect HasUses erase #3": "expects 22 HasUses erase 3", "\texpect  0060\tnonsense\r":
               "expects 60 BadCommand bad",
