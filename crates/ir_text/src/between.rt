@@ -14,21 +14,24 @@ pub(crate) fn put_short(out: &mut Vec<u8>, bytes: &[u8]) -> Result<(), AllocErro
             Ok(())
         }
         [a, b] => {
-            out.push(*a)?;
-            out.push(*b)?;
+            out.reserve(2)?;
+            out.push_reserved(*a);
+            out.push_reserved(*b);
             Ok(())
         }
         [a, b, c] => {
-            out.push(*a)?;
-            out.push(*b)?;
-            out.push(*c)?;
+            out.reserve(3)?;
+            out.push_reserved(*a);
+            out.push_reserved(*b);
+            out.push_reserved(*c);
             Ok(())
         }
         [a, b, c, d] => {
-            out.push(*a)?;
-            out.push(*b)?;
-            out.push(*c)?;
-            out.push(*d)?;
+            out.reserve(4)?;
+            out.push_reserved(*a);
+            out.push_reserved(*b);
+            out.push_reserved(*c);
+            out.push_reserved(*d);
             Ok(())
         }
         _ => out.extend_from_slice(bytes),

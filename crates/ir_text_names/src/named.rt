@@ -28,8 +28,21 @@ pub struct Named<'a> {
 }
 
 /// A name behind its sign.
+#[inline(always)]
 #[tactic(auto, unfolding(crate::specs::NameReading::value_name_at))]
 pub fn name(bytes: &[u8]) -> Result<(&[u8], &[u8]), ReadError>
+    ensures { Gives (λ x. (x.0.now, x.1.now)) result (value_name_at bytes.now) }
+{
+    match lexer::value(bytes) {
+        Some(found) => Ok(found),
+        None => other_name(bytes),
+    }
+}
+
+/// A name behind its sign, or why there is none.
+#[inline(never)]
+#[tactic(auto, unfolding(crate::specs::NameReading::value_name_at))]
+fn other_name(bytes: &[u8]) -> Result<(&[u8], &[u8]), ReadError>
     ensures { Gives (λ x. (x.0.now, x.1.now)) result (value_name_at bytes.now) }
 {
     match token(bytes) {
@@ -168,12 +181,14 @@ pub fn results<'a>(
 ) -> Result<(Option<Vec<Named<'a>>>, &'a [u8]), ReadError>
     ensures { Gives (λ x. (option_map (λ v. map named_view v.items) x.0, x.1.now)) result (results_at bytes.now) }
 {
-    match token(bytes) {
-        Ok((Token::Value(_), _)) => match names(alloc, bytes) {
+    match lexer::after_byte(bytes, b'%') {
+        Some(_) => match names(alloc, bytes) {
             Ok((names, rest)) => Ok((Some(names), rest)),
             Err(e) => Err(e),
         },
-        Ok(_) => Ok((None, bytes)),
-        Err(e) => Err(e),
+        None => match token(bytes) {
+            Ok(_) => Ok((None, bytes)),
+            Err(e) => Err(e),
+        },
     }
 }

@@ -1,8 +1,8 @@
 //! Tokens are taken from the front of a text by longest match.
-ghost use Rattle.std.specs.Prelude.{◌≡◌, ◌+◌, ◌≤◌, ◌∷◌, ℕ, length, option_map, IfErr};
+ghost use Rattle.std.specs.Prelude.{◌≡◌, ◌+◌, ◌≤◌, ◌∷◌, ℕ, length, option_map, IfErr, IfSome, IsTrue, Some};
 ghost use Rattle.std.specs.List.{prefix_len};
 ghost use Rattle.ir_text_tokens.specs.Reading.{GivesOrNone};
-ghost use Rattle.ir_text_tokens.specs.Tokens.{behind_first, begins_other, exponent_len, fraction_len, hex_len, lexeme_of, longer, mark, mark_at, mark_of, name_parts, next, next_mark, number_at, sign_at, sign_len, skip, skip_line, string_parts, suffix_len, symbol_at, token_at};
+ghost use Rattle.ir_text_tokens.specs.Tokens.{bare, behind_first, begins_other, exponent_len, fraction_len, hex_len, lexeme_of, longer, mark, mark_at, mark_of, name_parts, next, next_mark, number_at, sign_at, sign_len, skip, skip_line, string_parts, suffix_len, symbol_at, token_at, value};
 ghost use Rattle.ir_text_tokens.specs.declared.refusal.TextRefusal.{TextRefusal};
 
 use crate::fault::Fault;
@@ -40,9 +40,32 @@ fn skip_fours(bytes: &[u8]) -> &[u8]
     rest
 }
 
-/// What follows the blanks and comments at the front.
+/// Whether a token begins here, at a byte that is no blank and begins no comment.
+#[inline(always)]
+fn is_begun(bytes: &[u8]) -> bool
+    ensures { IsTrue result → skip bytes.now ≡ bytes.now }
+{
+    match bytes {
+        [] => false,
+        [byte, ..] => *byte > b' ' && *byte != b'/',
+    }
+}
+
+/// What follows a space at the front.
+#[inline(always)]
+#[tactic(auto, using(crate::proofs::Blanks::one_space), unfolding(crate::specs::Tokens::skip))]
+fn behind_space(bytes: &[u8]) -> Option<&[u8]>
+    ensures { IfSome result (λ r. skip r.now ≡ skip bytes.now) }
+{
+    match bytes {
+        [b' ', tail @ ..] => Some(tail),
+        _ => None,
+    }
+}
+
+/// What follows the blanks and comments at the front, of any number.
 #[tactic(auto, using(crate::proofs::Blanks::line_feed), unfolding(crate::specs::Tokens::skip))]
-pub fn skip(bytes: &[u8]) -> &[u8]
+fn skip_all(bytes: &[u8]) -> &[u8]
     ensures { result.now ≡ skip bytes.now }
 {
     let mut rest = bytes;
@@ -53,6 +76,20 @@ pub fn skip(bytes: &[u8]) -> &[u8]
             [byte, tail @ ..] if is_blank(*byte) => rest = tail,
             _ => return rest,
         }
+    }
+}
+
+/// What follows the blanks and comments at the front. Mostly there is none of them, or one space.
+#[inline(always)]
+pub fn skip(bytes: &[u8]) -> &[u8]
+    ensures { result.now ≡ skip bytes.now }
+{
+    if is_begun(bytes) {
+        return bytes;
+    }
+    match behind_space(bytes) {
+        Some(tail) if is_begun(tail) => tail,
+        _ => skip_all(bytes),
     }
 }
 
@@ -310,6 +347,35 @@ pub fn after_byte(bytes: &[u8], byte: u8) -> Option<&[u8]>
         [first, rest @ ..] if *first == byte => Some(rest),
         _ => None,
     }
+}
+
+/// The word that is the next token, and what follows it.
+#[inline(always)]
+#[tactic(auto, unfolding(crate::specs::Tokens::next))]
+pub fn word(bytes: &[u8]) -> Option<(&[u8], &[u8])>
+    ensures { IfSome result (λ x. next bytes.now ≡ Some (bare x.0.now, x.1.now)) }
+{
+    let all = skip(bytes);
+    match all {
+        [byte, ..] if is_letter(*byte) => Some(all.split_at(run_len(all, Class::Word))),
+        _ => None,
+    }
+}
+
+/// The name of a value that is the next token, behind its sign, and what follows it.
+#[inline(always)]
+#[tactic(auto, unfolding(crate::specs::Tokens::next))]
+pub fn value(bytes: &[u8]) -> Option<(&[u8], &[u8])>
+    ensures { IfSome result (λ x. next bytes.now ≡ Some (value x.0.now, x.1.now)) }
+{
+    let [b'%', tail @ ..] = skip(bytes) else {
+        return None;
+    };
+    let len = suffix_len(tail);
+    if len == 0 {
+        return None;
+    }
+    Some(tail.split_at(len))
 }
 
 /// Whether a token that is no punctuation begins with the byte, where one does.
