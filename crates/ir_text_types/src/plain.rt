@@ -1,10 +1,8 @@
 //! Types of one word that stand among the first of a context, as most types of a text do.
 ghost use Rattle.std.specs.Prelude.{◌≡◌, ℕ, Bool, IsTrue, IfSome, true, suc, slice_get, Some};
-ghost use Rattle.ir_types.specs.declared.node.Sign.TheVariants.{Signless};
-ghost use Rattle.ir_types.specs.declared.node.TypeNode.{TypeNode as Node};
 ghost use Rattle.ir_text_bodies.specs.Bodies.{begins};
 ghost use Rattle.ir_text_types.specs.Outcomes.{Read};
-ghost use Rattle.ir_text_types.specs.PlainTypes.{plain_node};
+ghost use Rattle.ir_text_types.specs.PlainTypes.{plain_node, plain_width};
 ghost use Rattle.ir_text_types.specs.Scalars.{scalar_of};
 ghost use Rattle.ir_text_types.specs.TypeReading.{type_at};
 
@@ -26,20 +24,21 @@ pub(crate) enum Plain {
 
 /// The width of the signless integer type that a word is.
 #[inline(always)]
-#[tactic(auto, using(crate::proofs::PlainSteps::integer_word))]
-fn integer_of(word: &[u8]) -> Option<u32>
-    ensures scalar { IfSome result (λ w. scalar_of word.now ≡ Some (Node.Int Signless w)) }
-    ensures begins { IfSome result (λ _. begins 105 word.now ≡ true) }
+fn plain_width(word: &[u8]) -> Option<u32>
+    ensures { result ≡ plain_width word.now }
 {
-    match word {
-        [b'i', digits @ ..] => width_of(digits),
-        _ => None,
+    let [first, digits @ ..] = word else {
+        return None;
+    };
+    if *first != b'i' {
+        return None;
     }
+    width_of(digits)
 }
 
 /// The plain type that a word is.
 #[inline(always)]
-#[tactic(auto, unfolding(crate::specs::Scalars::scalar_of))]
+#[tactic(auto, using(crate::proofs::PlainSteps::integer_scalar, crate::proofs::PlainSteps::integer_begins), unfolding(crate::specs::Scalars::scalar_of))]
 fn plain_of(word: &[u8]) -> Option<Plain>
     ensures scalar { IfSome result (λ p. scalar_of word.now ≡ Some (plain_node p)) }
     ensures begins { IfSome result (λ _. begins 105 word.now ≡ true) }
@@ -47,7 +46,7 @@ fn plain_of(word: &[u8]) -> Option<Plain>
     if let [b'i', b'n', b'd', b'e', b'x'] = word {
         return Some(Plain::Index);
     }
-    match integer_of(word) {
+    match plain_width(word) {
         Some(width) => Some(Plain::Integer(width)),
         None => None,
     }
