@@ -173,8 +173,26 @@ fn names<'a>(alloc: Global, bytes: &'a [u8]) -> Result<(Vec<Named<'a>>, &'a [u8]
     }
 }
 
-/// The names of the results, where a name comes first.
+/// The names of the results, where a name comes first, which a token tells.
 #[tactic(auto, unfolding(crate::specs::NameReading::results_at))]
+fn token_results<'a>(
+    alloc: Global,
+    bytes: &'a [u8],
+) -> Result<(Option<Vec<Named<'a>>>, &'a [u8]), ReadError>
+    ensures { Gives (λ x. (option_map (λ v. map named_view v.items) x.0, x.1.now)) result (results_at bytes.now) }
+{
+    match token(bytes) {
+        Ok((Token::Value(_), _)) => match names(alloc, bytes) {
+            Ok((names, rest)) => Ok((Some(names), rest)),
+            Err(e) => Err(e),
+        },
+        Ok(_) => Ok((None, bytes)),
+        Err(e) => Err(e),
+    }
+}
+
+/// The names of the results, where a name comes first. No token is read to see its sign.
+#[tactic(auto, using(crate::proofs::Signs::named_first), unfolding(crate::specs::NameReading::results_at))]
 pub fn results<'a>(
     alloc: Global,
     bytes: &'a [u8],
@@ -186,9 +204,6 @@ pub fn results<'a>(
             Ok((names, rest)) => Ok((Some(names), rest)),
             Err(e) => Err(e),
         },
-        None => match token(bytes) {
-            Ok(_) => Ok((None, bytes)),
-            Err(e) => Err(e),
-        },
+        None => token_results(alloc, bytes),
     }
 }
