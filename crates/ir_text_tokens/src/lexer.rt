@@ -339,14 +339,34 @@ pub fn token(bytes: &[u8]) -> Result<(Token<'_>, &[u8]), Fault>
     }
 }
 
-/// What follows the byte, where it is the first behind the blanks and comments at the front.
-pub fn after_byte(bytes: &[u8], byte: u8) -> Option<&[u8]>
-    ensures { option_map (λ r. r.now) result ≡ behind_first byte (skip bytes.now) }
+/// What follows the byte, where it is the first.
+#[inline(always)]
+fn after_first(bytes: &[u8], byte: u8) -> Option<&[u8]>
+    ensures { option_map (λ r. r.now) result ≡ behind_first byte bytes.now }
 {
-    match skip(bytes) {
+    match bytes {
         [first, rest @ ..] if *first == byte => Some(rest),
         _ => None,
     }
+}
+
+/// What follows the byte, where it is the first behind blanks and comments.
+#[inline(never)]
+fn behind_blanks(bytes: &[u8], byte: u8) -> Option<&[u8]>
+    ensures { option_map (λ r. r.now) result ≡ behind_first byte (skip bytes.now) }
+{
+    after_first(skip(bytes), byte)
+}
+
+/// What follows the byte, where it is the first behind the blanks and comments at the front.
+#[inline(always)]
+pub fn after_byte(bytes: &[u8], byte: u8) -> Option<&[u8]>
+    ensures { option_map (λ r. r.now) result ≡ behind_first byte (skip bytes.now) }
+{
+    if is_begun(bytes) {
+        return after_first(bytes, byte);
+    }
+    behind_blanks(bytes, byte)
 }
 
 /// The word that is the next token, and what follows it.
