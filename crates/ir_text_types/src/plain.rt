@@ -1,9 +1,9 @@
 //! Types of one word that stand among the first of a context, as most types of a text do.
-ghost use Rattle.std.specs.Prelude.{◌≡◌, ℕ, Bool, IsTrue, IfSome, true, suc, slice_get, Some};
+ghost use Rattle.std.specs.Prelude.{◌≡◌, ◌∷◌, [], ℕ, Bool, IsTrue, IfSome, true, suc, slice_get, Some};
 ghost use Rattle.ir_text_bodies.specs.Bodies.{begins};
 ghost use Rattle.ir_text_types.specs.Outcomes.{Read};
 ghost use Rattle.ir_text_types.specs.PlainTypes.{plain_node, plain_width};
-ghost use Rattle.ir_text_types.specs.Scalars.{scalar_of};
+ghost use Rattle.ir_text_types.specs.Scalars.{scalar_of, width_of};
 ghost use Rattle.ir_text_types.specs.TypeReading.{type_at};
 
 use crate::scalars::width_of;
@@ -22,10 +22,34 @@ pub(crate) enum Plain {
     Index,
 }
 
+/// The width that two digits write, where it is one. Most widths have two.
+#[inline(always)]
+#[tactic(auto, using(crate::proofs::Widths::two_width))]
+fn two_width(tens: u8, ones: u8) -> Option<u32>
+    ensures { IfSome result (λ w. width_of (tens ∷ ones ∷ []) ≡ Some w) }
+{
+    if tens == b'0' || !tens.is_ascii_digit() || !ones.is_ascii_digit() {
+        return None;
+    }
+    let width = (tens - b'0') * 10 + (ones - b'0');
+    Some(width as u32)
+}
+
+/// The width that digits write, where it is one.
+#[inline(always)]
+fn digits_width(digits: &[u8]) -> Option<u32>
+    ensures { IfSome result (λ w. width_of digits.now ≡ Some w) }
+{
+    match digits {
+        [tens, ones] => two_width(*tens, *ones),
+        _ => width_of(digits),
+    }
+}
+
 /// The width of the signless integer type that a word is.
 #[inline(always)]
 fn plain_width(word: &[u8]) -> Option<u32>
-    ensures { result ≡ plain_width word.now }
+    ensures { IfSome result (λ w. plain_width word.now ≡ Some w) }
 {
     let [first, digits @ ..] = word else {
         return None;
@@ -33,7 +57,7 @@ fn plain_width(word: &[u8]) -> Option<u32>
     if *first != b'i' {
         return None;
     }
-    width_of(digits)
+    digits_width(digits)
 }
 
 /// The plain type that a word is.
