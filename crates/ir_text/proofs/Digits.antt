@@ -12,3 +12,7 @@ two_digits n ge lt = decimal_step n ge (omega arith) ∙ ap (λ ds. ds ++ (48 + 
 -- what is written where both digits are put behind a text
 pub put_two : (out mid new : List ℕ) (n : ℕ) → mid ≡ out ++ (48 + n / 10) ∷ [] → new ≡ mid ++ (48 + n % 10) ∷ [] → 10 ≤ n → n < 100 → new ≡ out ++ decimal n
 put_two out mid new n e f ge lt = rw (f, e, two_digits n ge lt) (append_assoc out _ _)
+
+-- and where the last digit is put behind the number that the others write
+pub put_last : (out mid new : List ℕ) (n : ℕ) → mid ≡ out ++ decimal (n / 10) → new ≡ mid ++ (48 + n % 10) ∷ [] → 10 ≤ n → n < 10000 → new ≡ out ++ decimal n
+put_last out mid new n e f ge lt = rw (f, e, decimal_step n ge (omega arith)) (append_assoc out _ _)

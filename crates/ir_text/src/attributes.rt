@@ -47,7 +47,7 @@ fn put_truth(out: &mut Vec<u8>, is_zero: bool) -> Result<(), AllocError>
     ensures { OnOk result (out.new.items ≡ out.old.items ++ truth_text is_zero) }
 {
     if is_zero {
-        out.extend_from_slice(b"false")
+        put_short(out, b"false")
     } else {
         put_short(out, b"true")
     }

@@ -3,7 +3,7 @@ ghost use Rattle.std.specs.Prelude.{◌≡◌, ◌++◌, OnOk, [], if◌then◌e
 
 use std::alloc::AllocError;
 
-/// Appends bytes. Up to four are put one by one, which costs less than to copy them.
+/// Appends bytes. Up to five are put one by one, which costs less than to copy them.
 #[inline(always)]
 pub(crate) fn put_short(out: &mut Vec<u8>, bytes: &[u8]) -> Result<(), AllocError>
     ensures { OnOk result (out.new.items ≡ out.old.items ++ bytes.now) }
@@ -14,21 +14,33 @@ pub(crate) fn put_short(out: &mut Vec<u8>, bytes: &[u8]) -> Result<(), AllocErro
             Ok(())
         }
         [a, b] => {
-            out.push(*a)?;
-            out.push(*b)?;
+            out.reserve(2)?;
+            out.push_reserved(*a);
+            out.push_reserved(*b);
             Ok(())
         }
         [a, b, c] => {
-            out.push(*a)?;
-            out.push(*b)?;
-            out.push(*c)?;
+            out.reserve(3)?;
+            out.push_reserved(*a);
+            out.push_reserved(*b);
+            out.push_reserved(*c);
             Ok(())
         }
         [a, b, c, d] => {
-            out.push(*a)?;
-            out.push(*b)?;
-            out.push(*c)?;
-            out.push(*d)?;
+            out.reserve(4)?;
+            out.push_reserved(*a);
+            out.push_reserved(*b);
+            out.push_reserved(*c);
+            out.push_reserved(*d);
+            Ok(())
+        }
+        [a, b, c, d, e] => {
+            out.reserve(5)?;
+            out.push_reserved(*a);
+            out.push_reserved(*b);
+            out.push_reserved(*c);
+            out.push_reserved(*d);
+            out.push_reserved(*e);
             Ok(())
         }
         _ => out.extend_from_slice(bytes),

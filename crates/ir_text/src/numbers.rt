@@ -17,8 +17,37 @@ fn put_small(out: &mut Vec<u8>, number: u8) -> Result<(), AllocError>
         out.push(b'0' + number)?;
         return Ok(());
     }
-    out.push(b'0' + number / 10)?;
-    out.push(b'0' + number % 10)?;
+    out.reserve(2)?;
+    out.push_reserved(b'0' + number / 10);
+    out.push_reserved(b'0' + number % 10);
+    Ok(())
+}
+
+/// Appends a number below 1,000.
+#[tactic(auto, using(crate::proofs::Digits::put_last))]
+fn put_hundreds(out: &mut Vec<u8>, number: u64) -> Result<(), AllocError>
+    requires { number < 1000 }
+    ensures { OnOk result (out.new.items ≡ out.old.items ++ decimal number) }
+{
+    if number < 100 {
+        return put_small(out, number as u8);
+    }
+    put_small(out, (number / 10) as u8)?;
+    out.push(b'0' + (number % 10) as u8)?;
+    Ok(())
+}
+
+/// Appends a number below 10,000.
+#[tactic(auto, using(crate::proofs::Digits::put_last))]
+fn put_thousands(out: &mut Vec<u8>, number: u64) -> Result<(), AllocError>
+    requires { number < 10000 }
+    ensures { OnOk result (out.new.items ≡ out.old.items ++ decimal number) }
+{
+    if number < 1000 {
+        return put_hundreds(out, number);
+    }
+    put_hundreds(out, number / 10)?;
+    out.push(b'0' + (number % 10) as u8)?;
     Ok(())
 }
 
@@ -26,8 +55,8 @@ fn put_small(out: &mut Vec<u8>, number: u8) -> Result<(), AllocError>
 pub(crate) fn put_number(out: &mut Vec<u8>, number: u64) -> Result<(), AllocError>
     ensures { OnOk result (out.new.items ≡ out.old.items ++ decimal number) }
 {
-    if number < 100 {
-        return put_small(out, number as u8);
+    if number < 10000 {
+        return put_thousands(out, number);
     }
     let mut buffer = Buffer::new();
     out.extend_from_slice(buffer.format(number).as_bytes())

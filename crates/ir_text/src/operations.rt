@@ -149,7 +149,7 @@ fn put_function_type(
 {
     put_short(out, b"(")?;
     put_operand_types(ctx, out, named, operands)?;
-    out.extend_from_slice(b") -> ")?;
+    put_short(out, b") -> ")?;
     put_result_types(ctx, out, results)
 }
 
@@ -169,7 +169,7 @@ fn put_head(ctx: &Context, out: &mut Printer, margin: &[u8], op: &TreeOp) -> Res
     requires { IsTrue (head_passes (is_name ctx.now) (is_type ctx.now) (is_attr ctx.now) (head op.now)) }
     ensures { OnOk result (printed_in ctx.now out.new ≡ put_head margin.now (head_in ctx.now (head op.now)) (printed_in ctx.now out.old)) }
 {
-    put(out, margin)?;
+    put_short(&mut out.text, margin)?;
     put_results(ctx, out, op.id, &op.results)?;
     put_name(ctx, out, op)
 }

@@ -81,11 +81,11 @@ pub fn put_type(ctx: &Context, out: &mut Vec<u8>, id: TypeId) -> Result<(), Allo
 {
     match type_of(ctx, id) {
         TypeNode::Int { sign, width } => put_integer_type(out, *sign, *width),
-        TypeNode::Index => out.extend_from_slice(b"index"),
+        TypeNode::Index => put_short(out, b"index"),
         TypeNode::Func { inputs, outputs } => {
             put_short(out, b"(")?;
             put_types(ctx, out, inputs.as_slice())?;
-            out.extend_from_slice(b") -> ")?;
+            put_short(out, b") -> ")?;
             put_outputs(ctx, out, outputs.as_slice())
         }
         TypeNode::Memref { dims, elem } => {

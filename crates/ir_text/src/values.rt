@@ -110,7 +110,7 @@ fn put_any_type(ctx: &Context, out: &mut Vec<u8>, id: TypeId) -> Result<(), Allo
     if ctx.has_type(id) {
         put_type(ctx, out, id)
     } else {
-        out.extend_from_slice(b"index")
+        put_short(out, b"index")
     }
 }
 
@@ -124,7 +124,7 @@ fn put_value_type(
     ensures { OnOk result (out.new.items ≡ out.old.items ++ type_text (value_type (named_in ctx.now named.now.entries) value)) }
 {
     match naming_of(named, value) {
-        None => out.extend_from_slice(b"index"),
+        None => put_short(out, b"index"),
         Some(naming) => put_any_type(ctx, out, naming.ty),
     }
 }

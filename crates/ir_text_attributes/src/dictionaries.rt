@@ -8,6 +8,7 @@ ghost use Rattle.ir_text_attributes.specs.AttrReading.{key_at, unit_value_at, va
 use crate::attributes::{attr, kept};
 use crate::symbols::named;
 use ir_text_tokens::fault::Fault;
+use ir_text_tokens::lexer;
 use ir_text_tokens::refusal::TextRefusal;
 use ir_text_tokens::strings::string_value;
 use ir_text_tokens::token::{Mark, Token};
@@ -35,6 +36,9 @@ pub fn key<'a>(
     ensures reads { Gives (λ x. (x.0, (x.1.now, ctx.new))) result (key_at (bytes.now, ctx.old)) }
     ensures grows { Grows ctx.old ctx.new }
 {
+    if let Some((word, rest)) = lexer::word(bytes) {
+        return named(ctx, word, rest);
+    }
     let (found, rest) = token(bytes)?;
     match found {
         Token::Bare(word) => named(ctx, word, rest),

@@ -28,8 +28,21 @@ pub struct Named<'a> {
 }
 
 /// A name behind its sign.
+#[inline(always)]
 #[tactic(auto, unfolding(crate::specs::NameReading::value_name_at))]
 pub fn name(bytes: &[u8]) -> Result<(&[u8], &[u8]), ReadError>
+    ensures { Gives (λ x. (x.0.now, x.1.now)) result (value_name_at bytes.now) }
+{
+    match lexer::value(bytes) {
+        Some(found) => Ok(found),
+        None => other_name(bytes),
+    }
+}
+
+/// A name behind its sign, or why there is none.
+#[inline(never)]
+#[tactic(auto, unfolding(crate::specs::NameReading::value_name_at))]
+fn other_name(bytes: &[u8]) -> Result<(&[u8], &[u8]), ReadError>
     ensures { Gives (λ x. (x.0.now, x.1.now)) result (value_name_at bytes.now) }
 {
     match token(bytes) {
@@ -160,9 +173,9 @@ fn names<'a>(alloc: Global, bytes: &'a [u8]) -> Result<(Vec<Named<'a>>, &'a [u8]
     }
 }
 
-/// The names of the results, where a name comes first.
+/// The names of the results, where a name comes first, which a token tells.
 #[tactic(auto, unfolding(crate::specs::NameReading::results_at))]
-pub fn results<'a>(
+fn token_results<'a>(
     alloc: Global,
     bytes: &'a [u8],
 ) -> Result<(Option<Vec<Named<'a>>>, &'a [u8]), ReadError>
@@ -175,5 +188,22 @@ pub fn results<'a>(
         },
         Ok(_) => Ok((None, bytes)),
         Err(e) => Err(e),
+    }
+}
+
+/// The names of the results, where a name comes first. No token is read to see its sign.
+#[tactic(auto, using(crate::proofs::Signs::named_first), unfolding(crate::specs::NameReading::results_at))]
+pub fn results<'a>(
+    alloc: Global,
+    bytes: &'a [u8],
+) -> Result<(Option<Vec<Named<'a>>>, &'a [u8]), ReadError>
+    ensures { Gives (λ x. (option_map (λ v. map named_view v.items) x.0, x.1.now)) result (results_at bytes.now) }
+{
+    match lexer::after_byte(bytes, b'%') {
+        Some(_) => match names(alloc, bytes) {
+            Ok((names, rest)) => Ok((Some(names), rest)),
+            Err(e) => Err(e),
+        },
+        None => token_results(alloc, bytes),
     }
 }

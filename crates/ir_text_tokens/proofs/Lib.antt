@@ -9,3 +9,4 @@ pub mod Wholes
 pub mod Marks
 pub mod Blanks
 pub mod Reasons
+pub mod Plain

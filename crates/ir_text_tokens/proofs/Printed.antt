@@ -12,14 +12,9 @@ use Rattle.ir_text_tokens.specs.declared.token.Mark.TheVariants.{OpenRound, Clos
 use Rattle.ir_text_tokens.specs.Bytes.{is_blank, is_letter, is_word, is_suffix}
 use Rattle.ir_text_tokens.specs.Tokens.{Lexeme, mark, integer, string, bare, value, label, hash, symbol, quoted, longer, cut, skip, next, first_token, token_at, symbol_at, name_at, number_at, suffix_len, digits_len}
 use Rattle.ir_text_tokens.specs.Printing.{AreBytes, Stops, ClosesMark, extends_integer, raw_text, string_text, is_bare_id, is_suffix_id, key_text, signed_text, symbol_text, mark_text}
+use Rattle.ir_text_tokens.proofs.Blanks.{skip_nothing}
 use Rattle.ir_text_tokens.proofs.Escapes.{parts_again}
 use Rattle.ir_text_tokens.proofs.Decimals.{run_ends, first_passes, rest_passes, number_again, decimal_number, eqb_self}
-
--- a byte with which a token begins
-skip_nothing : (b : ℕ) (bs : List ℕ) → (b == 47) ≡ false → is_blank b ≡ false → skip (b ∷ bs) ≡ b ∷ bs
-unfolding skip
-skip_nothing b [] slash blank = rw blank refl
-skip_nothing b (c ∷ cs) slash blank = rw (slash, blank) refl
 
 pub blank_passed : (b : ℕ) (bs : List ℕ) → is_blank b ≡ true → next (b ∷ bs) ≡ next bs
 unfolding next skip

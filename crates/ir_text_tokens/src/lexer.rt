@@ -1,8 +1,9 @@
 //! Tokens are taken from the front of a text by longest match.
-ghost use Rattle.std.specs.Prelude.{◌≡◌, ◌+◌, ◌≤◌, ◌∷◌, ℕ, length, option_map, IfErr};
+ghost use Rattle.std.specs.Prelude.{◌≡◌, ◌+◌, ◌≤◌, ◌∷◌, ℕ, length, option_map, IfErr, IfSome, IsTrue, Some};
 ghost use Rattle.std.specs.List.{prefix_len};
 ghost use Rattle.ir_text_tokens.specs.Reading.{GivesOrNone};
-ghost use Rattle.ir_text_tokens.specs.Tokens.{behind_first, begins_other, exponent_len, fraction_len, hex_len, lexeme_of, longer, mark, mark_at, mark_of, name_parts, next, next_mark, number_at, sign_at, sign_len, skip, skip_line, string_parts, suffix_len, symbol_at, token_at};
+ghost use Rattle.ir_text_tokens.specs.Tokens.{bare, behind_first, begins_other, exponent_len, fraction_len, hex_len, lexeme_of, longer, mark, mark_at, mark_of, name_parts, next, next_mark, number_at, sign_at, sign_len, skip, skip_line, string, string_parts, suffix_len, symbol_at, token_at, value};
+ghost use Rattle.ir_text_tokens.specs.Strings.{string_bytes};
 ghost use Rattle.ir_text_tokens.specs.declared.refusal.TextRefusal.{TextRefusal};
 
 use crate::fault::Fault;
@@ -40,9 +41,32 @@ fn skip_fours(bytes: &[u8]) -> &[u8]
     rest
 }
 
-/// What follows the blanks and comments at the front.
+/// Whether a token begins here, at a byte that is no blank and begins no comment.
+#[inline(always)]
+fn is_begun(bytes: &[u8]) -> bool
+    ensures { IsTrue result → skip bytes.now ≡ bytes.now }
+{
+    match bytes {
+        [] => false,
+        [byte, ..] => *byte > b' ' && *byte != b'/',
+    }
+}
+
+/// What follows a space at the front.
+#[inline(always)]
+#[tactic(auto, using(crate::proofs::Blanks::one_space), unfolding(crate::specs::Tokens::skip))]
+fn behind_space(bytes: &[u8]) -> Option<&[u8]>
+    ensures { IfSome result (λ r. skip r.now ≡ skip bytes.now) }
+{
+    match bytes {
+        [b' ', tail @ ..] => Some(tail),
+        _ => None,
+    }
+}
+
+/// What follows the blanks and comments at the front, of any number.
 #[tactic(auto, using(crate::proofs::Blanks::line_feed), unfolding(crate::specs::Tokens::skip))]
-pub fn skip(bytes: &[u8]) -> &[u8]
+fn skip_all(bytes: &[u8]) -> &[u8]
     ensures { result.now ≡ skip bytes.now }
 {
     let mut rest = bytes;
@@ -53,6 +77,20 @@ pub fn skip(bytes: &[u8]) -> &[u8]
             [byte, tail @ ..] if is_blank(*byte) => rest = tail,
             _ => return rest,
         }
+    }
+}
+
+/// What follows the blanks and comments at the front. Mostly there is none of them, or one space.
+#[inline(always)]
+pub fn skip(bytes: &[u8]) -> &[u8]
+    ensures { result.now ≡ skip bytes.now }
+{
+    if is_begun(bytes) {
+        return bytes;
+    }
+    match behind_space(bytes) {
+        Some(tail) if is_begun(tail) => tail,
+        _ => skip_all(bytes),
     }
 }
 
@@ -302,13 +340,92 @@ pub fn token(bytes: &[u8]) -> Result<(Token<'_>, &[u8]), Fault>
     }
 }
 
+/// What follows the byte, where it is the first.
+#[inline(always)]
+fn after_first(bytes: &[u8], byte: u8) -> Option<&[u8]>
+    ensures { option_map (λ r. r.now) result ≡ behind_first byte bytes.now }
+{
+    match bytes {
+        [first, rest @ ..] if *first == byte => Some(rest),
+        _ => None,
+    }
+}
+
+/// What follows the byte, where it is the first behind blanks and comments.
+#[inline(never)]
+fn behind_blanks(bytes: &[u8], byte: u8) -> Option<&[u8]>
+    ensures { option_map (λ r. r.now) result ≡ behind_first byte (skip bytes.now) }
+{
+    after_first(skip(bytes), byte)
+}
+
 /// What follows the byte, where it is the first behind the blanks and comments at the front.
+#[inline(always)]
 pub fn after_byte(bytes: &[u8], byte: u8) -> Option<&[u8]>
     ensures { option_map (λ r. r.now) result ≡ behind_first byte (skip bytes.now) }
 {
-    match skip(bytes) {
-        [first, rest @ ..] if *first == byte => Some(rest),
+    if is_begun(bytes) {
+        return after_first(bytes, byte);
+    }
+    behind_blanks(bytes, byte)
+}
+
+/// The word that is the next token, and what follows it.
+#[inline(always)]
+#[tactic(auto, unfolding(crate::specs::Tokens::next))]
+pub fn word(bytes: &[u8]) -> Option<(&[u8], &[u8])>
+    ensures { IfSome result (λ x. next bytes.now ≡ Some (bare x.0.now, x.1.now)) }
+{
+    let all = skip(bytes);
+    match all {
+        [byte, ..] if is_letter(*byte) => Some(all.split_at(run_len(all, Class::Word))),
         _ => None,
+    }
+}
+
+/// The name of a value that is the next token, behind its sign, and what follows it.
+#[inline(always)]
+#[tactic(auto, unfolding(crate::specs::Tokens::next))]
+pub fn value(bytes: &[u8]) -> Option<(&[u8], &[u8])>
+    ensures { IfSome result (λ x. next bytes.now ≡ Some (value x.0.now, x.1.now)) }
+{
+    let [b'%', tail @ ..] = skip(bytes) else {
+        return None;
+    };
+    let len = suffix_len(tail);
+    if len == 0 {
+        return None;
+    }
+    Some(tail.split_at(len))
+}
+
+/// The bytes of a word up to a quote, and what follows that.
+#[inline(always)]
+#[tactic(auto, using(crate::proofs::Plain::quoted_parts, crate::proofs::Plain::plain_bytes))]
+fn plain_parts(bytes: &[u8]) -> Option<(&[u8], &[u8])>
+    ensures parts { IfSome result (λ x. string_parts bytes.now ≡ Some (x.0.now, x.1.now)) }
+    ensures plain { IfSome result (λ x. string_bytes x.0.now ≡ x.0.now) }
+{
+    let (raw, rest) = bytes.split_at(run_len(bytes, Class::Word));
+    match after_first(rest, b'"') {
+        Some(behind) => Some((raw, behind)),
+        None => None,
+    }
+}
+
+/// A string of the bytes of a word that is the next token, and what follows it. It stands for its own bytes.
+#[inline(always)]
+#[tactic(auto, unfolding(crate::specs::Tokens::next))]
+pub fn plain_string(bytes: &[u8]) -> Option<(&[u8], &[u8])>
+    ensures token { IfSome result (λ x. next bytes.now ≡ Some (string x.0.now, x.1.now)) }
+    ensures plain { IfSome result (λ x. string_bytes x.0.now ≡ x.0.now) }
+{
+    let [b'"', tail @ ..] = skip(bytes) else {
+        return None;
+    };
+    match plain_parts(tail) {
+        Some((raw, rest)) => Some((raw, rest)),
+        None => None,
     }
 }
 

@@ -1,6 +1,6 @@
 //! The printed forms of tokens.
-ghost use Rattle.std.specs.Prelude.{◌≡◌, ◌++◌, ◌<◌, ℕ, List, OnOk};
-ghost use Rattle.ir_text_tokens.specs.Printing.{byte_text, hex_digit, is_bare_id, key_text, signed_text, string_text, symbol_text};
+ghost use Rattle.std.specs.Prelude.{◌≡◌, ◌++◌, ◌<◌, ℕ, List, IsTrue, OnOk};
+ghost use Rattle.ir_text_tokens.specs.Printing.{byte_text, hex_digit, is_bare_id, key_text, raw_text, signed_text, string_text, symbol_text};
 
 use crate::runs::{Class, is_letter, run_len};
 use itoa::Buffer;
@@ -30,11 +30,24 @@ fn put_byte(out: &mut Vec<u8>, byte: u8) -> Result<(), AllocError>
     Ok(())
 }
 
+/// Whether all bytes are those of a word, of which none is written otherwise in a string.
+#[tactic(auto, using(crate::proofs::Plain::plain_text))]
+fn are_plain(text: &[u8]) -> bool
+    ensures { IsTrue result → raw_text text.now ≡ text.now }
+{
+    run_len(text, Class::Word) == text.len()
+}
+
 /// Appends a string between its quotes. MLIR Language Reference, "Common syntax".
 pub fn put_string(out: &mut Vec<u8>, text: &[u8]) -> Result<(), AllocError>
     ensures { OnOk result (out.new.items ≡ out.old.items ++ string_text text.now) }
 {
     out.push(b'"')?;
+    if are_plain(text) {
+        out.extend_from_slice(text)?;
+        out.push(b'"')?;
+        return Ok(());
+    }
     'bytes: for byte in text {
         put_byte(out, *byte)?;
     }

@@ -1,7 +1,7 @@
 //! Runs of bytes.
 ghost use Rattle.std.specs.Prelude.{◌≡◌, ◌≤◌, length};
 ghost use Rattle.std.specs.List.{prefix_len};
-ghost use Rattle.ir_text_tokens.specs.Bytes.{class_test, is_blank, is_hex, is_letter, is_line_end};
+ghost use Rattle.ir_text_tokens.specs.Bytes.{class_test, is_blank, is_hex, is_letter, is_line_end, is_word};
 
 /// The bytes of which a run is made.
 #[derive(Clone, Copy)]
@@ -11,6 +11,17 @@ pub(crate) enum Class {
     Word,
     Suffix,
 }
+
+/// Each byte of a word stands at its own place, and a comma at every other place.
+static WORD_BYTES: [u8; 256] = *b"\
+    ,,,,,,,,,,,,,,,,,,,,,,,,,,,,,,,,\
+    ,,,,$,,,,,,,,,.,0123456789,,,,,,\
+    ,ABCDEFGHIJKLMNOPQRSTUVWXYZ,,,,_\
+    ,abcdefghijklmnopqrstuvwxyz,,,,,\
+    ,,,,,,,,,,,,,,,,,,,,,,,,,,,,,,,,\
+    ,,,,,,,,,,,,,,,,,,,,,,,,,,,,,,,,\
+    ,,,,,,,,,,,,,,,,,,,,,,,,,,,,,,,,\
+    ,,,,,,,,,,,,,,,,,,,,,,,,,,,,,,,,";
 
 pub(crate) fn is_blank(byte: u8) -> bool
     ensures { result ≡ is_blank byte }
@@ -36,20 +47,22 @@ pub(crate) fn is_letter(byte: u8) -> bool
     byte.is_ascii_alphabetic() || byte == b'_'
 }
 
+/// Whether a word goes on with the byte, which one look at the table tells.
+#[inline(always)]
+pub(crate) fn is_word(byte: u8) -> bool
+    ensures { result ≡ is_word byte }
+{
+    WORD_BYTES[byte as usize] != b','
+}
+
 fn is_in(class: Class, byte: u8) -> bool
     ensures { result ≡ class_test class byte }
 {
     match class {
         Class::Digit => byte.is_ascii_digit(),
         Class::Hexadecimal => is_hex(byte),
-        Class::Word => byte.is_ascii_alphanumeric() || byte == b'_' || byte == b'$' || byte == b'.',
-        Class::Suffix => {
-            byte.is_ascii_alphanumeric()
-                || byte == b'_'
-                || byte == b'$'
-                || byte == b'.'
-                || byte == b'-'
-        }
+        Class::Word => is_word(byte),
+        Class::Suffix => is_word(byte) || byte == b'-',
     }
 }
 

@@ -12,3 +12,4 @@ pub mod TypeLaws
 pub mod Unique
 pub mod Numbered
 pub mod Shorter
+pub mod PlainSteps

@@ -1,12 +1,13 @@
 -- Widths and the limit of numbers.
-use Rattle.std.proofs.Common.{◌≡◌, ℕ, ◌+◌, ◌-◌, ◌*◌, ◌<◌, ◌≤◌, Bool, true, false, List, [], ◌∷◌, length, get_or, Some, None, refl, arith}
+use Rattle.std.proofs.Common.{◌≡◌, ℕ, ◌+◌, ◌-◌, ◌*◌, ◌<◌, ◌≤◌, Bool, true, false, not, cond, List, [], ◌∷◌, length, get_or, Option, Some, None, refl, ap, ◌∙◌, arith}
 use Rattle.std.specs.Prelude.{◌&&◌, ◌==◌}
 use Rattle.std.specs.List.{list_all}
 use Rattle.std.specs.Char.{is_ascii_digit}
 use Rattle.std.proofs.lemmas.Bool.Decides.{nat_tests}
 use Rattle.ir_text_tokens.specs.Numbers.{below_limit, integer_of, place_value}
 use Rattle.ir_text_tokens.proofs.Places.{is_below}
-use Rattle.ir_text_types.specs.Scalars.{begins_zero, within}
+use Rattle.ir_types.specs.Reasons.{is_width}
+use Rattle.ir_text_types.specs.Scalars.{begins_zero, width_of, within}
 use Rattle.std.proofs.lemmas.Bool.{and_parts}
 
 -- a number within the limit is the number
@@ -36,3 +37,21 @@ two_value (a ∷ b ∷ []) l m all plain =
     let p = and_parts (is_ascii_digit a) (is_ascii_digit b && true) all in
     two_digits a b p.0 (and_parts (is_ascii_digit b) true p.1).0 plain
 two_value (a ∷ b ∷ c ∷ ds) l m all plain = absurd (omega (arith, m))
+
+-- two such digits write a width
+two_number : (a b : ℕ) → is_ascii_digit a ≡ true → is_ascii_digit b ≡ true → (a == 48) ≡ false → integer_of (a ∷ b ∷ []) ≡ (a - 48) * 10 + (b - 48)
+unfolding place_value
+two_number a b d e z = rw (z, d, e) (omega arith)
+
+pub two_width : (a b : ℕ) → is_ascii_digit a ≡ true → is_ascii_digit b ≡ true → (a == 48) ≡ false → width_of (a ∷ b ∷ []) ≡ Some ((a - 48) * 10 + (b - 48))
+two_width a b d e z =
+    let low : 49 ≤ a = grind (arith, nat_tests) in
+    let w : is_width ((a - 48) * 10 + (b - 48)) ≡ true = grind (arith, nat_tests, digit_most a d, digit_most b e) in
+    let test : (not (begins_zero (a ∷ b ∷ [])) && list_all is_ascii_digit (a ∷ b ∷ [])) ≡ true = rw (z, d, e) refl in
+    when (not (begins_zero (a ∷ b ∷ [])) && list_all is_ascii_digit (a ∷ b ∷ [])) (within (integer_of (a ∷ b ∷ []))) test
+    ∙ ap within (two_number a b d e z)
+    ∙ when (is_width ((a - 48) * 10 + (b - 48))) (Some ((a - 48) * 10 + (b - 48))) w
+  where
+    when : (t : Bool) (x : Option ℕ) → t ≡ true → cond t x None ≡ x
+    when true x h = refl
+    when false x h = absurd cc

@@ -8,6 +8,7 @@ pub mod Typed
 pub mod Standing
 pub mod Laws
 pub mod Scalars
+pub mod PlainTypes
 pub mod OpaqueTypes
 pub mod ShapeGrammar
 pub mod ShapeReading

@@ -6,6 +6,7 @@ pub mod error;
 pub mod full;
 pub mod laws;
 pub mod opaque;
+mod plain;
 pub mod scalars;
 mod shapes;
 pub mod steps;

@@ -56,7 +56,7 @@ fn decimal_value(digits: &[u8]) -> Option<u128>
 
 /// The width that digits write, from 1 to 128, in decimal and without a zero in front.
 #[tactic(auto, using(crate::proofs::Widths::limit_is, crate::proofs::Widths::limit_passed))]
-fn width_of(digits: &[u8]) -> Option<u32>
+pub(crate) fn width_of(digits: &[u8]) -> Option<u32>
     ensures { result ≡ width_of digits.now }
 {
     if begins_zero(digits) || !are_digits(digits) {

@@ -13,6 +13,7 @@ ghost use Rattle.ir_text_types.specs.TypeReading.{type_done, scalar_done, scalar
 
 use crate::error::{ReadError, wrong};
 use crate::opaque::{dialect_text, is_opaque_word, word_text};
+use crate::plain::known;
 use crate::scalars::{is_memref, scalar_of, word_refusal};
 use crate::shapes::dimensions;
 use crate::steps::{self, after, expect, token};
@@ -394,14 +395,14 @@ fn function<'a>(
     kept(ctx, node, rest)
 }
 
-/// A type of at most that depth. It is interned, and so are its parts.
+/// A type of at most that depth that isn't known as it stands here. It is interned, and so are its parts.
 ///
 /// Refusals, each at the first byte of its token: what the lexer refuses; `Unexpected`; `LeftOut` for
 /// a type that is left out; `BadWidth`; `BadValue` at a dimension above 9,223,372,036,854,775,807;
 /// `TooDeep` at the part that is too deep.
 #[cycle(types)]
 #[tactic(auto, using(ir_types::proofs::Growth::grows_refl, ir_types::proofs::Growth::grows_trans), unfolding(crate::specs::TypeReading::type_at))]
-pub fn ty<'a>(
+fn new_ty<'a>(
     alloc: Global,
     ctx: &mut Context,
     bytes: &'a [u8],
@@ -421,6 +422,32 @@ pub fn ty<'a>(
         Some(rest) => function(alloc, ctx, rest, opaque, depth - 1),
         None => word_type(alloc, ctx, bytes, opaque, depth),
     }
+}
+
+/// A type of at most that depth. It is interned, and so are its parts.
+///
+/// Refusals, each at the first byte of its token: what the lexer refuses; `Unexpected`; `LeftOut` for
+/// a type that is left out; `BadWidth`; `BadValue` at a dimension above 9,223,372,036,854,775,807;
+/// `TooDeep` at the part that is too deep.
+#[cycle(types)]
+#[inline(always)]
+#[tactic(auto, using(ir_types::proofs::Growth::grows_refl, ir_types::proofs::Growth::grows_trans), unfolding(crate::specs::TypeReading::type_at))]
+pub fn ty<'a>(
+    alloc: Global,
+    ctx: &mut Context,
+    bytes: &'a [u8],
+    opaque: bool,
+    depth: u32,
+) -> Result<(TypeId, &'a [u8]), ReadError>
+    ensures reads { Gives (λ x. (x.0, (x.1.now, ctx.new))) result (type_at opaque depth (bytes.now, ctx.old)) }
+    ensures grows { Grows ctx.old ctx.new }
+{
+    if depth != 0 {
+        if let Some(found) = known(ctx, bytes) {
+            return Ok(found);
+        }
+    }
+    new_ty(alloc, ctx, bytes, opaque, depth)
 }
 
 /// Why no type may begin here: it is past a limit, where one begins.

@@ -6,20 +6,23 @@ use Rattle.ir_text_types.specs.TypeReading.{types_at, type_at}
 use Rattle.ir_types.specs.Things.{Grows}
 use Rattle.ir_text_types.proofs.types.+types.Given as goal
 
+abbrev pub decreases-new_ty : goal.decreases-new_ty
+decreases-new_ty l = 6 * l.depth
+
 abbrev pub decreases-ty : goal.decreases-ty
-decreases-ty l = 5 * l.depth
+decreases-ty l = 6 * l.depth + 1
 
 abbrev pub decreases-types : goal.decreases-types
-decreases-types l = 5 * l.depth + 1
+decreases-types l = 6 * l.depth + 2
 
 abbrev pub decreases-outputs : goal.decreases-outputs
-decreases-outputs l = 5 * l.depth + 2
+decreases-outputs l = 6 * l.depth + 3
 
 abbrev pub decreases-signature : goal.decreases-signature
-decreases-signature l = 5 * l.depth + 3
+decreases-signature l = 6 * l.depth + 4
 
 abbrev pub decreases-function : goal.decreases-function
-decreases-function l = 5 * l.depth + 4
+decreases-function l = 6 * l.depth + 5
 
 abbrev pub invariant-types-items : goal.invariant-types-items
 invariant-types-items l = record {
