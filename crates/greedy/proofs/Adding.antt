@@ -1,6 +1,7 @@
 -- Lists that grow.
-use Rattle.std.proofs.Common.{◌≡◌, refl, ap, sym, ◌∙◌, subst, ℕ, zero, suc, ◌+◌, ◌-◌, ◌<◌, ◌≤◌, eqb, eq-eqb, eqb-true, true, List, [], ◌∷◌, ◌++◌, append_assoc, append-nil, length, take, drop, drop_all, inl, inr, ◌⊎◌, Result, Ok, Err, Some, take_all, slice_get, slice_index_or, arith}
+use Rattle.std.proofs.Common.{◌≡◌, refl, ap, sym, ◌∙◌, subst, ℕ, zero, suc, ◌+◌, ◌-◌, ◌<◌, ◌≤◌, eqb, eq-eqb, eqb-true, true, List, [], ◌∷◌, ◌++◌, append_assoc, append-nil, length, take, drop, inl, inr, ◌⊎◌, Result, Ok, Err, Some, take_all, slice_get, slice_index_or, arith}
 use Rattle.std.specs.Prelude.{OnOk, IfOk}
+use Rattle.std.proofs.lemmas.List.{drop_all}
 use Rattle.ir_event.specs.tree_laws.Members.{In}
 use Rattle.ir_event.proofs.of_tree_laws.Listed.{any_one, one_any, in_left, in_right}
 use Rattle.greedy.specs.Sights.{is_listed}
@@ -45,9 +46,12 @@ grown_more xs ys zs g h = (g.0 ++ h.0, h.1 ∙ ap (λ l. l ++ h.0) g.1 ∙ appen
 
 -- what stands at a place of the list as it was, and what is behind it there
 pub at_place : (xs ys : List ℕ) (n d : ℕ) → Grown xs ys → n < length xs → drop n xs ≡ slice_index_or ys n d ∷ drop (n + 1) xs
-at_place xs ys n d g l = go xs n l ∙ ap (λ l. slice_index_or l n d ∷ drop (n + 1) xs) (sym g.1)
+at_place xs ys n d g l = go xs n l ∙ (λ i. slice_index_or (sym g.1 i) n d ∷ drop (step i) xs)
   where
-    go : (xs : List ℕ) (n : ℕ) → n < length xs → drop n xs ≡ slice_index_or (xs ++ g.0) n d ∷ drop (n + 1) xs
+    step : suc n ≡ n + 1
+    step = omega arith
+
+    go : (xs : List ℕ) (n : ℕ) → n < length xs → drop n xs ≡ slice_index_or (xs ++ g.0) n d ∷ drop (suc n) xs
     go [] n l = absurd (omega (arith, l))
     go (x ∷ xs) zero l = refl
     go (x ∷ xs) (suc n) l = go xs n (omega (arith, l))
@@ -116,8 +120,8 @@ module _ {X : Type 0} (R : X → ℕ → Type 0) (whole : List X) (xs : List ℕ
 
 -- by a walk over what a list that grows had at first, from a place on
 module _ (R : ℕ → ℕ → Type 0) (whole xs : List ℕ) where
-  pub place_more : (ys zs : List ℕ) (n d : ℕ) → n < length xs → Adding (OneOf R whole) (OneOf R (drop n xs)) xs ys → Adds (R (slice_index_or ys n d)) ys zs → Adding (OneOf R whole) (OneOf R (drop (n + 1) xs)) xs zs
-  place_more ys zs n d l a b = rest_more R whole xs (drop n xs) (drop (n + 1) xs) (slice_index_or ys n d) ys zs (at_place xs ys n d a.grown l) a b
+  pub place_more : (ys zs : List ℕ) (n x d : ℕ) → n < length xs → x ≡ slice_index_or ys n d → Adding (OneOf R whole) (OneOf R (drop n xs)) xs ys → Adds (R x) ys zs → Adding (OneOf R whole) (OneOf R (drop (n + 1) xs)) xs zs
+  place_more ys zs n x d l e a b = rest_more R whole xs (drop n xs) (drop (n + 1) xs) x ys zs (at_place xs ys n d a.grown l ∙ ap (λ y. y ∷ drop (n + 1) xs) (sym e)) a b
 
   pub place_done : (ys : List ℕ) (n : ℕ) → length xs ≤ n → Adding (OneOf R whole) (OneOf R (drop n xs)) xs ys → Adds (OneOf R whole) xs ys
   place_done ys n l a = rest_done R whole xs (drop n xs) ys (drop_all n xs l) a
