@@ -1,5 +1,5 @@
 -- What is listed after events, put together.
-use Rattle.std.proofs.Common.{◌≡◌, refl, ap, sym, ◌∙◌, subst, ℕ, true, false, true≢false, ◌||◌, ◌&&◌, eqb, List, [], ◌∷◌, Option, Some, None, inl, inr}
+use Rattle.std.proofs.Common.{◌≡◌, refl, ap, sym, ◌∙◌, subst, ℕ, true, false, true≢false, ◌||◌, ◌&&◌, eqb, List, [], ◌∷◌, length, drop, Option, Some, None, inl, inr}
 use Rattle.std.specs.Prelude.{option_map}
 use Rattle.std.specs.List.{list_any, IsDistinct}
 use Rattle.ir_event.specs.types.Things.{Things}
@@ -10,7 +10,8 @@ use Rattle.ir_event.specs.trees.Meaning.{meaning}
 use Rattle.ir_event.proofs.of_trees.Mapped.{map_ids}
 use Rattle.ir_event.specs.store.Nodes.{NodeOf}
 use Rattle.ir_event.specs.tree_laws.Members.{In}
-use Rattle.ir_event.proofs.of_tree_laws.Listed.{either, neither}
+use Rattle.std.proofs.Math.Seq.{drop-append_seam}
+use Rattle.ir_event.proofs.of_tree_laws.Listed.{either, in_parts, neither}
 use Rattle.ir_event.specs.declared.event.Event.{Event}
 use Rattle.ir_event.specs.declared.event.Event.TheVariants.{Put, Take, SetOperand, SetEntry, Shift}
 use Rattle.ir_event.specs.declared.world.World.{World}
@@ -23,10 +24,10 @@ use Rattle.greedy.specs.Near.{Leads}
 use Rattle.greedy.specs.Reached.{ends, ends_of, is_end, reaches, any_reaches}
 use Rattle.greedy.specs.Sights.{Uses, is_listed, operands_of}
 use Rattle.greedy.proofs.Applying.{touched_all}
-use Rattle.greedy.specs.Adding.{Adds, OneOf}
-use Rattle.greedy.specs.Parts.{IsOrUses, IsAround, IsReached, IsBeside, puts_last, any_puts_last}
+use Rattle.greedy.specs.Adding.{Adds, Grown, OneOf}
+use Rattle.greedy.specs.Parts.{IsAround, IsReached, IsBeside, puts_last, any_puts_last}
 use Rattle.greedy.specs.Shown.{shown_operands}
-use Rattle.greedy.proofs.Adding.{listed_in}
+use Rattle.greedy.proofs.Adding.{grown_more, in_listed, listed_in}
 use Rattle.greedy.proofs.Climbing.{same_climbs}
 
 -- ---- what is read of contents is what is read of numbers
@@ -74,37 +75,55 @@ module _ (c : Things) (t : Op) where
       ]
 
 -- ---- all parts
-pub moved : {X : Type 0} (R : X → ℕ → Type 0) (l k : List X) (xs ys zs : List ℕ) → l ≡ k → xs ≡ ys → Adds (OneOf R l) xs zs → Adds (OneOf R k) ys zs
-moved R l k xs ys zs e f a = subst (λ z. Adds (OneOf R k) z zs) f (subst (λ z. Adds (OneOf R z) xs zs) e a)
+-- what results are used by is told of by numbers
+abbrev used_by : World → ℕ → ℕ → Type 0
+used_by w y x = Uses x y w.store.module_of.tree
 
-module _ (w : World) (es : List Event) (inner : any_puts_last es ≡ false) (reached seen first second listed : List ℕ)
-    (at_reached : Adds (OneOf (IsReached w.store.module_of.tree) es) [] reached)
-    (at_seen : Adds (OneOf (IsOrUses w.store.module_of.tree) reached) [] seen)
-    (at_users : Adds (OneOf (IsOrUses w.store.module_of.tree) seen) [] first)
-    (at_around : Adds (OneOf (IsAround w.store.module_of.tree) seen) first second)
-    (at_beside : Adds (OneOf (IsBeside w) es) second listed) where
-  seen_one : (y x : ℕ) → any_reaches es y (module_in w).tree ≡ true → IsOrUses w.store.module_of.tree y x → is_listed x seen ≡ true
-  seen_one y x h k = at_seen.added x (y, listed_in y reached (at_reached.added y (one_reaches w.ctx w.store.module_of.tree es inner y h)), k)
+module _ (w : World) (es : List Event) (inner : any_puts_last es ≡ false) (none reached seen second users listed : List ℕ) (n : ℕ) (from : n ≡ length reached)
+    (at_reached : Adds (OneOf (IsReached w.store.module_of.tree) es) none reached)
+    (at_seen : Adds (OneOf (used_by w) (drop 0 reached)) reached seen)
+    (at_around : Adds (OneOf (IsAround w.store.module_of.tree) seen) seen second)
+    (at_users : Adds (OneOf (used_by w) (drop n second)) second users)
+    (at_beside : Adds (OneOf (IsBeside w) es) users listed) where
+  reached_one : (y : ℕ) → any_reaches es y (module_in w).tree ≡ true → is_listed y reached ≡ true
+  reached_one y h = at_reached.added y (one_reaches w.ctx w.store.module_of.tree es inner y h)
 
-  user_one : (y x : ℕ) → is_listed y seen ≡ true → IsOrUses w.store.module_of.tree y x → is_listed x listed ≡ true
-  user_one y x h k = at_beside.kept x (at_around.kept x (at_users.added x (y, listed_in y seen h, k)))
+  -- what is seen stays
+  stays : (x : ℕ) → is_listed x seen ≡ true → is_listed x listed ≡ true
+  stays x h = at_beside.kept x (at_users.kept x (at_around.kept x h))
+
+  used : (x y : ℕ) → Uses x y (module_in w).tree → used_by w y x
+  used x y u = same_uses w.ctx w.store.module_of.tree x y u
+
+  user_one : (y x : ℕ) → is_listed y reached ≡ true → used_by w y x → is_listed x seen ≡ true
+  user_one y x h u = at_seen.added x (y, listed_in y reached h, u)
+
+  -- the users of what was there first are seen, and those of what came are listed then
+  user_next : (y x : ℕ) → is_listed y seen ≡ true → used_by w y x → is_listed x listed ≡ true
+  user_next y x h u = elim (in_parts y reached more.0 (subst (In y) more.1 (listed_in y second (at_around.kept y h)))) [
+    | inl i ↦ stays x (user_one y x (in_listed y reached i) u)
+    | inr i ↦ at_beside.kept x (at_users.added x (y, subst (In y) (sym behind) i, u))
+  ]
+    where
+      more : Grown reached second
+      more = grown_more reached seen second at_seen.grown at_around.grown
+
+      behind : drop n second ≡ more.0
+      behind = (λ j. drop (from j) (more.1 j)) ∙ drop-append_seam reached more.0
 
   around_one : (y x : ℕ) → is_listed y seen ≡ true → ends x y (module_in w).tree ≡ true → is_listed x listed ≡ true
-  around_one y x h k = at_beside.kept x (at_around.added x (y, listed_in y seen h, sym (same_ends w.ctx w.store.module_of.tree x y) ∙ k))
-
-  used : (x y : ℕ) → Uses x y (module_in w).tree → IsOrUses w.store.module_of.tree y x
-  used x y u = inr (same_uses w.ctx w.store.module_of.tree x y u)
+  around_one y x h k = at_beside.kept x (at_users.kept x (at_around.added x (y, listed_in y seen h, sym (same_ends w.ctx w.store.module_of.tree x y) ∙ k)))
 
   pub all_listed : Lists (shown_operands w.store) es listed (module_in w).tree
   all_listed = record {
     seers = record {
-      itself = λ y h. user_one y y (seen_one y y h (inl refl)) (inl refl);
-      users = λ y x h u. user_one x x (seen_one y x h (used x y u)) (inl refl);
-      users_of_users = λ z y x h u v. user_one y x (seen_one z y h (used y z u)) (used x y v);
+      itself = λ y h. stays y (at_seen.kept y (reached_one y h));
+      users = λ y x h u. stays x (user_one y x (reached_one y h) (used x y u));
+      users_of_users = λ z y x h u v. user_next y x (user_one z y (reached_one z h) (used y z u)) (used x y v);
     };
     around = record {
-      around = λ l x h e. around_one l x (seen_one l l h (inl refl)) e;
-      around_users = λ z l x h u e. around_one l x (seen_one z l h (used l z u)) e;
+      around = λ l x h e. around_one l x (at_seen.kept l (reached_one l h)) e;
+      around_users = λ z l x h u e. around_one l x (user_one z l (reached_one z h) (used l z u)) e;
     };
     givers = λ e h v k y g. at_beside.added y (e, h, inl (v, k, g));
     climbs = λ e h o k n y c. at_beside.added y (e, h, inr (o, k, (n, same_climbs w.ctx w.store.module_of.tree n y o c)));

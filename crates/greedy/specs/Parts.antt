@@ -10,7 +10,7 @@ use Rattle.ir_event.specs.declared.event.Event.TheVariants.{Put, Take, SetOperan
 use Rattle.ir_event.specs.declared.world.World.{World}
 use Rattle.effects.specs.Effects.{own_by}
 use Rattle.greedy.specs.Reached.{is_end, ends, at_end, reaches}
-use Rattle.greedy.specs.Sights.{Uses, giver}
+use Rattle.greedy.specs.Sights.{giver}
 use Rattle.greedy.specs.Climbs.{Climbs}
 use Rattle.greedy.specs.Near.{moved_values, outer_ids}
 use Rattle.greedy.specs.Adding.{OneOf}
@@ -24,10 +24,6 @@ module _ {N T A : Type 0} where
   -- operation x uses a value
   abbrev pub IsUser : Value → OpOf N T A → ℕ → Type 0
   IsUser v t x = IsIn (uses_of v t) x
-
-  -- it is operation y, or uses a result of that
-  abbrev pub IsOrUses : OpOf N T A → ℕ → ℕ → Type 0
-  IsOrUses t y x = (x ≡ y) ⊎ Uses x y t
 
   -- it is around operation y, which ends its block
   abbrev pub IsAround : OpOf N T A → ℕ → ℕ → Type 0

@@ -25,19 +25,17 @@ fn push_around(world: &World, ops: &mut Vec<OpId>, op: OpId) -> Result<(), Alloc
     }
 }
 
-/// Lists the operations around those that end their blocks.
-pub(crate) fn push_all_around(
-    world: &World,
-    ops: &mut Vec<OpId>,
-    near: &[OpId],
-) -> Result<(), AllocError>
+/// Lists the operations around those that are listed and end their blocks.
+pub(crate) fn push_around_listed(world: &World, ops: &mut Vec<OpId>) -> Result<(), AllocError>
     ensures { OnOk result (Adds
-        (OneOf (IsAround world.now.store.module_of.tree) near.now) ops.old.items ops.new.items) }
+        (OneOf (IsAround world.now.store.module_of.tree) ops.old.items) ops.old.items ops.new.items) }
 {
-    let mut rest = near;
-    'near: while let [op, tail @ ..] = rest {
-        push_around(world, ops, *op)?;
-        rest = tail;
+    let count = ops.len();
+    let mut place = 0;
+    'listed: while place < count {
+        let op = ops[place];
+        push_around(world, ops, op)?;
+        place += 1;
     }
     Ok(())
 }

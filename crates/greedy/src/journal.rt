@@ -10,27 +10,16 @@ use ir_event::event::Event;
 use ir_event::types::ids::OpId;
 use ir_event::types::refusal::Refusal;
 use patterns::rewriter::bench::Bench;
-use std::alloc::{AllocError, Global};
+use std::alloc::Global;
 
-/// The events of a bench's journal from one on.
-fn events_from<L: Analysis>(
-    alloc: Global,
-    bench: &Bench<L>,
-    from: usize,
-) -> Result<Vec<Event>, AllocError>
-    ensures { IfOk result (λ v. v.items ≡ drop from bench.now.desk.journal) }
+/// The events of a journal from one on.
+fn events_from(journal: &[Event], from: usize) -> &[Event]
+    ensures { result.now ≡ drop from journal.now }
 {
-    let count = bench.journal_len();
-    let mut events = Vec::with_capacity(alloc, count.saturating_sub(from))?;
-    let mut place = from;
-    'journal: while place < count {
-        let Some(event) = bench.journal_at(place) else {
-            return Ok(events);
-        };
-        events.push(event)?;
-        place += 1;
+    match journal.get(from..) {
+        Some(events) => events,
+        None => &[],
     }
-    Ok(events)
 }
 
 /// The operations of a bench's module at which the rules of canonicalization may apply otherwise than before the events
@@ -46,9 +35,5 @@ pub fn touched<L: Analysis>(
     ensures refused { IfErr result (λ e. e ≡ NoMemory) }
 {
     bench.is_formed();
-    let events = match events_from(alloc, bench, from) {
-        Ok(events) => events,
-        Err(_) => return Err(Refusal::Memory),
-    };
-    touched_by(alloc, bench.world(), &events)
+    touched_by(alloc, bench.world(), events_from(bench.journal(), from))
 }

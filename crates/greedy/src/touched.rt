@@ -8,9 +8,9 @@ ghost use Rattle.greedy.specs.Parts.{puts_last, any_puts_last};
 ghost use Rattle.greedy.specs.Shown.{shown_operands};
 
 use crate::beside::push_all_beside;
-use crate::block::push_all_around;
+use crate::block::push_around_listed;
 use crate::reach::push_all_reached;
-use crate::users::push_all_with_users;
+use crate::users::push_users_from;
 use ir_event::event::Event;
 use ir_event::types::ids::OpId;
 use ir_event::types::refusal::Refusal;
@@ -52,13 +52,12 @@ fn near(alloc: Global, world: &World, events: &[Event]) -> Result<Vec<OpId>, All
     ensures { IfOk result (λ v. any_puts_last events.now ≡ false
         → Lists (shown_operands world.now.store) events.now v.items (module_in world.now).tree) }
 {
-    let mut reached = Vec::with_capacity(alloc, ROOM)?;
-    push_all_reached(world, &mut reached, events)?;
-    let mut seen = Vec::with_capacity(alloc, ROOM)?;
-    push_all_with_users(world, &mut seen, &reached)?;
     let mut ops = Vec::with_capacity(alloc, ROOM)?;
-    push_all_with_users(world, &mut ops, &seen)?;
-    push_all_around(world, &mut ops, &seen)?;
+    push_all_reached(world, &mut ops, events)?;
+    let reached = ops.len();
+    push_users_from(world, &mut ops, 0)?;
+    push_around_listed(world, &mut ops)?;
+    push_users_from(world, &mut ops, reached)?;
     push_all_beside(world, &mut ops, events)?;
     Ok(ops)
 }

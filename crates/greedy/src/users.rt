@@ -1,8 +1,8 @@
 //! Operations with those that use their results.
-ghost use Rattle.std.specs.Prelude.{◌≡◌, OnOk};
+ghost use Rattle.std.specs.Prelude.{◌≡◌, OnOk, drop};
 ghost use Rattle.greedy.specs.Sights.{Uses};
 ghost use Rattle.greedy.specs.Adding.{Adds, OneOf};
-ghost use Rattle.greedy.specs.Parts.{IsIn, IsOrUses, IsUser};
+ghost use Rattle.greedy.specs.Parts.{IsIn, IsUser};
 
 use crate::push::push;
 use ir_event::store::store::Store;
@@ -45,27 +45,22 @@ fn push_users(world: &World, ops: &mut Vec<OpId>, op: OpId) -> Result<(), AllocE
     Ok(())
 }
 
-/// Lists an operation, and those that use a result of it.
-fn push_with_users(world: &World, ops: &mut Vec<OpId>, op: OpId) -> Result<(), AllocError>
-    ensures { OnOk result (Adds (IsOrUses world.now.store.module_of.tree op) ops.old.items ops.new.items) }
-{
-    push(ops, op)?;
-    push_users(world, ops, op)
-}
-
-/// Lists operations, and those that use results of them.
-pub(crate) fn push_all_with_users(
+/// Lists the operations that use results of those that are listed, from a place on.
+pub(crate) fn push_users_from(
     world: &World,
     ops: &mut Vec<OpId>,
-    near: &[OpId],
+    from: usize,
 ) -> Result<(), AllocError>
     ensures { OnOk result (Adds
-        (OneOf (IsOrUses world.now.store.module_of.tree) near.now) ops.old.items ops.new.items) }
+        (OneOf (λ y x. Uses x y world.now.store.module_of.tree) (drop from ops.old.items)) ops.old.items
+        ops.new.items) }
 {
-    let mut rest = near;
-    'near: while let [op, tail @ ..] = rest {
-        push_with_users(world, ops, *op)?;
-        rest = tail;
+    let count = ops.len();
+    let mut place = from;
+    'listed: while place < count {
+        let op = ops[place];
+        push_users(world, ops, op)?;
+        place += 1;
     }
     Ok(())
 }

@@ -12,6 +12,9 @@ use std::marker::Model;
 
 const NO_SLOT: u32 = u32::MAX;
 
+/// So many slots stay in the cache: where there are no more, they are read without the pages.
+const CACHED: usize = 16_384;
+
 /// The slots of ids.
 #[derive(Drop)]
 pub struct IdTable {
@@ -71,8 +74,10 @@ impl IdTable {
     pub fn get(&self, id: u32) -> Option<usize>
         ensures { result ≡ map.get self.now id }
     {
-        if let Some(slot) = slot_by(&self.pages, id) {
-            return Some(slot);
+        if self.near.len() > CACHED {
+            if let Some(slot) = slot_by(&self.pages, id) {
+                return Some(slot);
+            }
         }
         let place = id as usize;
         if place >= self.near.len() {

@@ -152,7 +152,7 @@ impl Rows {
     }
 
     /// The operands of the operation in a slot, in order.
-    #[inline]
+    #[inline(always)]
     pub fn operands(&self, slot: usize) -> &[Value]
         ensures { result.now ≡ (row_at self.now slot).head.operands }
     {
@@ -163,7 +163,7 @@ impl Rows {
     }
 
     /// The types of its results, in order.
-    #[inline]
+    #[inline(always)]
     pub fn results(&self, slot: usize) -> &[TypeId]
         ensures { result.now ≡ (row_at self.now slot).head.results }
     {

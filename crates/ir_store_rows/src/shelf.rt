@@ -36,7 +36,7 @@ pub struct Shelf {
 
 impl Shelf {
     /// The operands of what a slot holds and the types of its results, in order.
-    #[inline]
+    #[inline(always)]
     fn lists(&self, held: &Held) -> (&[Value], &[TypeId])
         ensures operands { result.0.now ≡ (contents_at self.now held.now).operands }
         ensures results { result.1.now ≡ (contents_at self.now held.now).results }
@@ -63,7 +63,7 @@ impl Shelf {
     }
 
     /// The operands of what a slot holds, in order.
-    #[inline]
+    #[inline(never)]
     pub(crate) fn operands(&self, held: &Held) -> &[Value]
         ensures { result.now ≡ (contents_at self.now held.now).operands }
     {
@@ -71,7 +71,7 @@ impl Shelf {
     }
 
     /// The types of its results, in order.
-    #[inline]
+    #[inline(never)]
     pub(crate) fn results(&self, held: &Held) -> &[TypeId]
         ensures { result.now ≡ (contents_at self.now held.now).results }
     {

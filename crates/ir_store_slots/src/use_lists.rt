@@ -1,5 +1,5 @@
 //! The uses of values.
-ghost use Rattle.std.specs.Prelude.{◌≡◌, ◌<◌, ℕ, List, map, length, slice_get, Some};
+ghost use Rattle.std.specs.Prelude.{◌≡◌, ◌<◌, ℕ, List, map, length, slice_get, Some, option_and_then};
 ghost use Rattle.ir_store_slots.specs.Rows.{row_at, shape_of};
 ghost use Rattle.ir_store_slots.specs.Index.{AreHeads, ArgHeads, CanFree, HasHeads, all_idle, args_idle, row_idle, freed, result_head, argument_head, slot_head};
 ghost use Rattle.std.specs.Prelude.{eqb};
@@ -40,6 +40,7 @@ fn all_idle(uses: &Chains, base: usize, count: usize) -> bool
 }
 
 /// The first head of the values of a slot.
+#[inline(always)]
 fn first_value(rows: &Rows, key: usize) -> usize
     ensures { result ≡ (row_at rows.now key).values }
 {
@@ -87,6 +88,7 @@ pub fn free_uses(uses: &mut Chains, base: usize, count: usize)
 }
 
 /// The head of the uses of a result.
+#[inline(always)]
 fn result_head(rows: &Rows, key: usize, place: usize) -> Option<usize>
     requires { (h : ℕ) → result_head place (row_at rows.now key) ≡ Some h → h < free }
     ensures { result ≡ result_head place (row_at rows.now key) }
@@ -117,20 +119,25 @@ fn argument_head(rows: &Rows, area: &Area, place: usize) -> Option<usize>
     }
 }
 
-/// The head of the uses of a value whose operation is in a slot.
+/// The head of the uses of an argument of the block of a region of the operation in a slot.
+#[inline(never)]
+fn area_head(rows: &Rows, key: usize, region: usize, place: usize) -> Option<usize>
+    requires { (h : ℕ) → option_and_then (argument_head rows.now place) (slice_get (row_at rows.now key).shapes region) ≡ Some h → h < free }
+    ensures { result ≡ option_and_then (argument_head rows.now place) (slice_get (row_at rows.now key).shapes region) }
+{
+    argument_head(rows, rows.areas(key).get(region)?, place)
+}
+
+/// The head of the uses of a value whose operation is in a slot. Most often it is a result, which is read where this is
+/// called.
+#[inline(always)]
 pub fn slot_head(rows: &Rows, key: usize, value: &Value) -> Option<usize>
     requires { (h : ℕ) → slot_head rows.now value.now key ≡ Some h → h < free }
     ensures { result ≡ slot_head rows.now value.now key }
 {
     match value {
         Value::Result(_, place) => result_head(rows, key, *place as usize),
-        Value::Arg(_, region, place) => {
-            argument_head(
-                rows,
-                rows.areas(key).get(*region as usize)?,
-                *place as usize,
-            )
-        }
+        Value::Arg(_, region, place) => area_head(rows, key, *region as usize, *place as usize),
     }
 }
 

@@ -37,4 +37,4 @@ plan_made c n x front (plan.Remainder division ty a b) = refl
 -- and so many that rules make
 pub made_counted : (c : Things) (n x : ℕ) (front : Place) (p : Made) → MadeIsOf c p → made_by (made_edits c n x front p) ≡ made_makes p
 made_counted c n x front (made.Plan p) of = plan_made c n x front p
-made_counted c n x front (made.Lowering p) of = lowering_made c n front p of
+made_counted c n x front (made.Lowering p) of = lowering_made c n front p.value of

@@ -43,4 +43,4 @@ plan_makes (plan.Remainder division ty a b) = 3
 -- and what a rule makes
 abbrev pub made_makes : Made → ℕ
 made_makes (made.Plan p) = plan_makes p
-made_makes (made.Lowering p) = lowering_makes p
+made_makes (made.Lowering p) = lowering_makes p.value

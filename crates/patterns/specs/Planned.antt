@@ -25,12 +25,12 @@ use Rattle.patterns.specs.declared.plan.Planned.{Planned}
 -- the edits of what a rule makes of operation x, where n is the next free id and a place is in front of x
 abbrev pub made_edits : Things → ℕ → ℕ → Place → Made → List Edit
 made_edits c n x front (made.Plan p) = plan_meaning c n x front p
-made_edits c n x front (made.Lowering p) = lowering_meaning c n front p
+made_edits c n x front (made.Lowering p) = lowering_meaning c n front p.value
 
 -- its numbers are of a context, and of some
 abbrev pub MadeIsOf : Things → Made → Type 0
 MadeIsOf c (made.Plan p) = PlanIsOf c p
-MadeIsOf c (made.Lowering p) = LoweringIsOf c p
+MadeIsOf c (made.Lowering p) = LoweringIsOf c p.value
 
 abbrev pub IsOfSome : Made → Type 0
 IsOfSome p = (c : Things) × MadeIsOf c p

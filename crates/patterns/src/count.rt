@@ -55,6 +55,6 @@ pub(crate) fn made_makes(made: &Made) -> u64
 {
     match made {
         Made::Plan(plan) => plan_makes(plan),
-        Made::Lowering(lowering) => lowering_makes(lowering),
+        Made::Lowering(lowering) => lowering_makes(&**lowering),
     }
 }

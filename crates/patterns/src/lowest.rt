@@ -41,6 +41,7 @@ pub struct Found {
 
 /// What a rule makes that canonicalization tries and that may apply, at an operation, of which this is shown, behind
 /// its place.
+#[inline(always)]
 fn try_likely(
     alloc: Global,
     world: &World,
@@ -91,6 +92,7 @@ fn try_rule(
 }
 
 /// The first of some rules that applies at an operation, of which this is shown, behind its place.
+#[inline(never)]
 fn first_applying(
     alloc: Global,
     world: &World,

@@ -89,6 +89,6 @@ pub(crate) fn edits_for<L: Analysis>(
 {
     match made {
         Made::Plan(plan) => plan_edits(alloc, bench, site, plan),
-        Made::Lowering(lowering) => lowering_edits(alloc, bench, &site.front, &lowering),
+        Made::Lowering(lowering) => lowering_edits(alloc, bench, &site.front, &*lowering),
     }
 }

@@ -38,10 +38,11 @@ fn entries(
 ) -> Result<Vec<(NameId, AttrId)>, AllocError>
     ensures { IfOk result (λ es. es.items ≡ entries entry.now) }
 {
-    let mut entries = Vec::new(alloc);
-    if let Some(entry) = entry {
-        entries.push(*entry)?;
-    }
+    let Some(entry) = entry else {
+        return Ok(Vec::new(alloc));
+    };
+    let mut entries = Vec::with_capacity(alloc, 1)?;
+    entries.push(*entry)?;
     Ok(entries)
 }
 
@@ -56,7 +57,7 @@ pub(crate) fn new_op(
     ensures { IfOk result (λ o. o ≡ new_op name operands.now ty entry.now) }
 {
     let operands = Vec::from_slice(alloc, operands)?;
-    let mut results = Vec::new(alloc);
+    let mut results = Vec::with_capacity(alloc, 1)?;
     results.push(ty)?;
     let props = entries(alloc, entry)?;
     Ok(TreeOp {

@@ -1,6 +1,7 @@
 //! The plan of a rule at an operation.
 ghost use Rattle.std.specs.Prelude.{◌≡◌, false, true, IfOk, IfSome, Some, option_map};
 ghost use Rattle.ir_event.specs.Modules.{NodeIsOf, module_in};
+ghost use Rattle.ir_event.specs.trees.declared.place.Place.{Place as At};
 ghost use Rattle.patterns_facts.specs.base.Looks.{front_of};
 ghost use Rattle.patterns_facts.specs.base.Rewrites.{edits_of, suits};
 ghost use Rattle.patterns_facts.specs.base.RuleNames.{is_lowering};
@@ -31,8 +32,8 @@ use std::alloc::{AllocError, Global};
 pub enum Made {
     /// Operations of the types that there are.
     Plan(Plan),
-    /// Operations on i64 in place of one on index.
-    Lowering(Lowering),
+    /// Operations on i64 in place of one on index: it is large, and few rules make it.
+    Lowering(Box<Lowering>),
 }
 
 /// What a rule makes of an operation, and the place in front of that.
@@ -44,6 +45,7 @@ pub struct Planned {
 
 /// What a rule that doesn't lower makes of an operation of the module, of which this is shown, behind a place, if it
 /// applies. That the operation is clean, and stands there, is asked before.
+#[inline(always)]
 fn plan_of(
     alloc: Global,
     world: &World,
@@ -66,8 +68,29 @@ fn plan_of(
     }
 }
 
+/// What a rule that lowers makes of a clean operation, if it applies. It is large, and isn't moved where other rules
+/// are tried.
+#[inline(never)]
+fn made_lowered(
+    alloc: Global,
+    world: &World,
+    rule: Rule,
+    op: OpId,
+) -> Result<Option<Made>, AllocError>
+    requires rule { is_lowering rule ≡ true }
+    requires clean { IsCleanAt world.now op }
+    ensures edits { IfOk result (λ p. (front : At) → IsMadeFor rule world.now op front p) }
+    ensures of { IfOk result (λ p. IfSome p (MadeIsOf world.now.ctx)) }
+{
+    match plan_lowered(alloc, world, rule, op)? {
+        Some(lowering) => Ok(Some(Made::Lowering(Box::new(alloc, lowering)?))),
+        None => Ok(None),
+    }
+}
+
 /// What a rule makes of an operation of the module, of which this is shown, behind a place, if it applies. That the
 /// operation suits the rule, which for one that lowers is that it is clean, and stands there, is asked before.
+#[inline(always)]
 fn made_of(
     alloc: Global,
     world: &World,
@@ -83,10 +106,7 @@ fn made_of(
     ensures of { IfOk result (λ p. IfSome p (MadeIsOf world.now.ctx)) }
 {
     if rule.is_lowering() {
-        return match plan_lowered(alloc, world, rule, op)? {
-            Some(lowering) => Ok(Some(Made::Lowering(lowering))),
-            None => Ok(None),
-        };
+        return made_lowered(alloc, world, rule, op);
     }
     match plan_of(alloc, world, rule, front, op, node)? {
         Some(plan) => Ok(Some(Made::Plan(plan))),
@@ -95,6 +115,7 @@ fn made_of(
 }
 
 /// What a rule makes of an operation that suits it, of which this is shown, behind its place, if it applies.
+#[inline(always)]
 pub(crate) fn made_at(
     alloc: Global,
     world: &World,

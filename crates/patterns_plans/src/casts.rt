@@ -19,6 +19,7 @@ use patterns_reads::words::{is_extension, is_index_cast, is_same_name};
 use std::alloc::{AllocError, Global};
 
 /// An extension of one by the same, or by zeros: one like that.
+#[inline(never)]
 pub(crate) fn plan_extend_extension(
     alloc: Global,
     world: &World,
@@ -51,6 +52,7 @@ pub(crate) fn plan_extend_extension(
 }
 
 /// A cut of a cut: one. A cut of an extension back to the type that it came from: what was extended.
+#[inline(never)]
 pub(crate) fn plan_cut_cast(
     alloc: Global,
     world: &World,
@@ -145,6 +147,7 @@ fn through_index(
 }
 
 /// A cast back: what was cast.
+#[inline(never)]
 pub(crate) fn plan_cast_back(
     alloc: Global,
     world: &World,

@@ -17,6 +17,7 @@ use patterns_reads::words::{is_regrouping, word_name};
 use std::alloc::{AllocError, Global};
 
 /// A value with a constant, and the result with another: the value with the two.
+#[inline(never)]
 pub(crate) fn plan_regroup_constants(
     alloc: Global,
     world: &World,
@@ -62,6 +63,7 @@ pub(crate) fn plan_regroup_constants(
 }
 
 /// A value less a constant: the value with the opposite constant.
+#[inline(never)]
 pub(crate) fn plan_add_negative(
     alloc: Global,
     world: &World,

@@ -121,6 +121,7 @@ fn fold_two(
 }
 
 /// No constant, and folds over its constant operands: the constant.
+#[inline(never)]
 pub(crate) fn plan_fold_to_constant(
     alloc: Global,
     world: &World,
@@ -140,6 +141,7 @@ pub(crate) fn plan_fold_to_constant(
 }
 
 /// A value and itself: 0.
+#[inline(never)]
 pub(crate) fn plan_cancel_itself(world: &World, node: &Node<'_>) -> Option<Plan>
     requires of { NodeIsOf world.now.ctx node.now }
     ensures edits { (x : ℕ) → IsPlanned cancel_itself world.now x node.now result }
@@ -158,6 +160,7 @@ pub(crate) fn plan_cancel_itself(world: &World, node: &Node<'_>) -> Option<Plan>
 }
 
 /// A remainder by 1: 0.
+#[inline(never)]
 pub(crate) fn plan_zero_remainder(
     alloc: Global,
     world: &World,
@@ -180,6 +183,7 @@ pub(crate) fn plan_zero_remainder(
 }
 
 /// A comparison of a value and itself: true or false.
+#[inline(never)]
 pub(crate) fn plan_compare_itself(world: &World, node: &Node<'_>) -> Option<Plan>
     requires of { NodeIsOf world.now.ctx node.now }
     ensures edits { (x : ℕ) → IsPlanned compare_itself world.now x node.now result }
@@ -204,6 +208,7 @@ pub(crate) fn plan_compare_itself(world: &World, node: &Node<'_>) -> Option<Plan
 }
 
 /// A comparison with 0, which nothing is below: true or false.
+#[inline(never)]
 pub(crate) fn plan_compare_zero(
     alloc: Global,
     world: &World,

@@ -33,6 +33,7 @@ pub fn erase(alloc: Global, op: OpId) -> Result<Plan, AllocError>
 }
 
 /// A dead operation: erased.
+#[inline(never)]
 pub(crate) fn plan_erase_dead(
     alloc: Global,
     world: &World,

@@ -13,6 +13,7 @@ use patterns_reads::types::all_ones;
 use patterns_reads::words::{asking, division};
 
 /// The greater or the lesser: a comparison and a choice.
+#[inline(never)]
 pub(crate) fn plan_expand_min_max(world: &World, node: &Node<'_>) -> Option<Plan>
     requires of { NodeIsOf world.now.ctx node.now }
     ensures edits { (x : ℕ) → IsPlanned expand_min_max world.now x node.now result }
@@ -33,6 +34,7 @@ pub(crate) fn plan_expand_min_max(world: &World, node: &Node<'_>) -> Option<Plan
 }
 
 /// A difference: a sum with the complement, and 1.
+#[inline(never)]
 pub(crate) fn plan_expand_difference(world: &World, node: &Node<'_>) -> Option<Plan>
     requires of { NodeIsOf world.now.ctx node.now }
     ensures edits { (x : ℕ) → IsPlanned expand_difference world.now x node.now result }
@@ -53,6 +55,7 @@ pub(crate) fn plan_expand_difference(world: &World, node: &Node<'_>) -> Option<P
 }
 
 /// A remainder: what is left behind a division.
+#[inline(never)]
 pub(crate) fn plan_expand_remainder(world: &World, node: &Node<'_>) -> Option<Plan>
     requires of { NodeIsOf world.now.ctx node.now }
     ensures edits { (x : ℕ) → IsPlanned expand_remainder world.now x node.now result }

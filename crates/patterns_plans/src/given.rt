@@ -38,6 +38,7 @@ pub(crate) fn give(alloc: Global, op: OpId, value: Value) -> Result<Plan, AllocE
 }
 
 /// 0 second: the first.
+#[inline(never)]
 pub(crate) fn plan_drop_zero(
     alloc: Global,
     world: &World,
@@ -61,6 +62,7 @@ pub(crate) fn plan_drop_zero(
 }
 
 /// 1 second: the first.
+#[inline(never)]
 pub(crate) fn plan_drop_one(
     alloc: Global,
     world: &World,
@@ -84,6 +86,7 @@ pub(crate) fn plan_drop_one(
 }
 
 /// All ones second: the first.
+#[inline(never)]
 pub(crate) fn plan_drop_all_ones(
     alloc: Global,
     world: &World,
@@ -111,6 +114,7 @@ pub(crate) fn plan_drop_all_ones(
 }
 
 /// A value and itself: the value.
+#[inline(never)]
 pub(crate) fn plan_keep_itself(
     alloc: Global,
     world: &World,
@@ -134,6 +138,7 @@ pub(crate) fn plan_keep_itself(
 }
 
 /// A choice between a value and itself: the value.
+#[inline(never)]
 pub(crate) fn plan_choose_same(
     alloc: Global,
     world: &World,
@@ -157,6 +162,7 @@ pub(crate) fn plan_choose_same(
 }
 
 /// A choice by a constant: the chosen one.
+#[inline(never)]
 pub(crate) fn plan_choose_known(
     alloc: Global,
     world: &World,
@@ -181,6 +187,7 @@ pub(crate) fn plan_choose_known(
 }
 
 /// A choice between true and false: the condition.
+#[inline(never)]
 pub(crate) fn plan_choose_truth(
     alloc: Global,
     world: &World,

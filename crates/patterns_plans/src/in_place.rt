@@ -18,6 +18,7 @@ use patterns_reads::words::is_swapping;
 use std::alloc::{AllocError, Global};
 
 /// A constant first and none second: swapped.
+#[inline(never)]
 pub(crate) fn plan_swap_constant(
     alloc: Global,
     world: &World,
@@ -54,6 +55,7 @@ pub(crate) fn plan_swap_constant(
 }
 
 /// A comparison of a constant first and none second: swapped and mirrored.
+#[inline(never)]
 pub(crate) fn plan_mirror_comparison(
     alloc: Global,
     world: &World,
@@ -86,6 +88,7 @@ pub(crate) fn plan_mirror_comparison(
 }
 
 /// A choice by the opposite of a condition: by the condition, with both swapped.
+#[inline(never)]
 pub(crate) fn plan_choose_opposite(
     alloc: Global,
     world: &World,

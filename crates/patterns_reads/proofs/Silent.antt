@@ -80,8 +80,8 @@ wherever c x t n shown types of none = found (find x t) refl shown
 pub plain_is_unbroken : (c : Things) (x : ℕ) (t : Op) (n : NumberNode) → Some n ≡ option_map node_of (find x t) → IsPlain (node_in c n) → breaks_none (broken_at x (meaning c t)) ≡ true
 plain_is_unbroken c x t n shown p =
     let own = node_in c n in
-    wherever c x t n shown [] (ap (λ (q : Node). map (λ v. type_of_value v (meaning c t)) q.head.operands) p.3)
-    (λ lasts outer. (λ k. broken (record { node = p.3 k; lasts = lasts; types = []; outer = outer })) ∙ plain_unbroken own.head.id p.0 p.1 own.head.attributes lasts outer p.2)
+    wherever c x t n shown [] (ap (λ (q : Node). map (λ v. type_of_value v (meaning c t)) q.head.operands) p.2.1)
+    (λ lasts outer. (λ k. broken (record { node = p.2.1 k; lasts = lasts; types = []; outer = outer })) ∙ plain_unbroken own.head.id p.0 p.1 own.head.attributes lasts outer p.2.0)
 
 pub pair_is_unbroken : (c : Things) (x : ℕ) (t : Op) (n : NumberNode) → Some n ≡ option_map node_of (find x t) → IsPair (meaning c t) (node_in c n) → breaks_none (broken_at x (meaning c t)) ≡ true
 pair_is_unbroken c x t n shown p =

@@ -1,6 +1,8 @@
 -- Constants that are clean by their own form, wherever they stand.
-use Rattle.std.specs.Prelude.{◌≡◌, ℕ, List, [], ◌∷◌, true, codes}
+use Rattle.std.specs.Prelude.{◌≡◌, ℕ, List, [], ◌∷◌, true, codes, Some}
 use Rattle.ir_event.specs.types.Terms.{TypeTerm, AttrTerm, IntegerOf}
+use Rattle.ir_event.specs.types.declared.bits.BitsKind.{BitsKind}
+use Rattle.dialects_int.specs.Folds.{kind_of}
 use Rattle.ir_verify_base.specs.Types.{is_number}
 use Rattle.ir_verify_base.specs.Fits.{Node}
 
@@ -19,5 +21,12 @@ plain x ty bits attributes = record {
 }
 
 -- what an operation has is such a constant, of an integer type or index
+abbrev pub IsPlainOf : Node → TypeTerm → ℕ → Type 0
+IsPlainOf n ty bits = (is_number ty ≡ true) × (n ≡ plain n.head.id ty bits n.head.attributes)
+
 abbrev pub IsPlain : Node → Type 0
-IsPlain n = (ty : TypeTerm) × (bits : ℕ) × (is_number ty ≡ true) × (n ≡ plain n.head.id ty bits n.head.attributes)
+IsPlain n = (ty : TypeTerm) × (bits : ℕ) × IsPlainOf n ty bits
+
+-- and gives a value of a kind
+abbrev pub GivesPlainly : Node → BitsKind → ℕ → Type 0
+GivesPlainly n k bits = (ty : TypeTerm) × (kind_of ty ≡ Some k) × IsPlainOf n ty bits

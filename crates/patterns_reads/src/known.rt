@@ -8,6 +8,7 @@ ghost use Rattle.patterns_reads.specs.Reads.{clean_giver, head_in};
 
 use crate::clean::is_clean_shown;
 use crate::look::{giver_node, shown};
+use crate::plain::plain_bits;
 use dialects_int::fold::fold;
 use ir_event::store::node::Node;
 use ir_event::trees::value::Value;
@@ -79,6 +80,9 @@ pub fn known(alloc: Global, world: &World, value: &Value) -> Result<Option<Bits>
     let Some(node) = shown(world, op) else {
         return Ok(None);
     };
+    if let Some(bits) = plain_bits(&world.ctx, &node) {
+        return Ok(Some(bits));
+    }
     if !world.ctx.is_word(node.name(), Word::ArithConstant) {
         return Ok(None);
     }

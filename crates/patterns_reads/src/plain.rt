@@ -1,25 +1,26 @@
 //! Operations that break no rule of the verifier by their own form and the types of their operands, wherever they stand:
 //! constants, and arithmetic of two operands.
-ghost use Rattle.std.specs.Prelude.{◌≡◌, Some, option_map, true};
+ghost use Rattle.std.specs.Prelude.{◌≡◌, Some, option_map, true, IfSome};
 ghost use Rattle.std.specs.List.{All};
-ghost use Rattle.ir_event.specs.types.Things.{IsAttr};
+ghost use Rattle.ir_event.specs.types.Things.{IsAttr, IsType};
 ghost use Rattle.ir_event.specs.trees.Ids.{find};
 ghost use Rattle.ir_event.specs.store.Nodes.{node_of};
-ghost use Rattle.ir_event.specs.types.Terms.{name_term};
+ghost use Rattle.ir_event.specs.types.Terms.{name_term, type_term};
 ghost use Rattle.dialects_int.specs.Folds.{entries_of};
 ghost use Rattle.patterns_laws.specs.Words.{among};
 ghost use Rattle.ir_verify_base.specs.Numbers.{node_in};
 ghost use Rattle.patterns_edits.specs.events.Modules.{NodeIsOf, module_in};
 ghost use Rattle.patterns_base.specs.Looks.{breaks_none};
 ghost use Rattle.patterns_base.specs.Diagnostics.{broken_at};
-ghost use Rattle.patterns_reads.specs.Plain.{IsPlain};
+ghost use Rattle.patterns_reads.specs.Plain.{GivesPlainly, IsPlain, IsPlainOf};
 ghost use Rattle.patterns_reads.specs.Pairs.{AreFlags, IsPair, pairs};
 
-use crate::types::is_of_type;
+use crate::types::{is_of_type, kind_of};
 use crate::words::word_name;
 use ir_event::store::node::Node;
+use ir_event::types::bits::Bits;
 use ir_event::types::context::Context;
-use ir_event::types::ids::{AttrId, NameId, OpId};
+use ir_event::types::ids::{AttrId, NameId, OpId, TypeId};
 use ir_event::types::word::Word;
 use ir_verify_base::types::is_number;
 use op_registry::property::{allows, integer_of};
@@ -45,34 +46,64 @@ pub(crate) fn is_plain_shown(world: &World, op: OpId, node: &Node<'_>) -> bool
     has_plain_form(&world.ctx, node) || has_pair_form(world, node)
 }
 
-/// Whether what an operation has is that of a constant without operands and regions, of one result, whose value is its
-/// one property and of that result's type.
+/// The type and the bits of a constant without operands and regions, of one result, whose value is its one property and
+/// of that result's type, if what an operation has is that of one.
+fn plain_integer(ctx: &Context, node: &Node<'_>) -> Option<(TypeId, u128)>
+    requires { NodeIsOf ctx.now node.now }
+    ensures plain { IfSome result (λ i. IsPlainOf (node_in ctx.now node.now) (type_term ctx.now i.0) i.1) }
+    ensures ty { IfSome result (λ i. IsType ctx.now i.0) }
+{
+    if !ctx.is_word(node.name(), Word::ArithConstant) {
+        return None;
+    }
+    if node.region_count() != 0 {
+        return None;
+    }
+    let [] = node.operands() else {
+        return None;
+    };
+    let [ty] = node.results() else {
+        return None;
+    };
+    let [entry] = node.properties() else {
+        return None;
+    };
+    if !ctx.is_word(entry.0, Word::Value) {
+        return None;
+    }
+    let Some(integer) = integer_of(ctx, entry.1) else {
+        return None;
+    };
+    if integer.0 == *ty && is_number(ctx, *ty) {
+        Some(integer)
+    } else {
+        None
+    }
+}
+
+/// Whether what an operation has is that of such a constant.
 fn has_plain_form(ctx: &Context, node: &Node<'_>) -> bool
     requires { NodeIsOf ctx.now node.now }
     ensures { result ≡ true → IsPlain (node_in ctx.now node.now) }
 {
-    if !ctx.is_word(node.name(), Word::ArithConstant) {
-        return false;
+    match plain_integer(ctx, node) {
+        Some(_) => true,
+        None => false,
     }
-    if node.region_count() != 0 {
-        return false;
-    }
-    let [] = node.operands() else {
-        return false;
+}
+
+/// What such a constant gives, if what an operation has is that of one.
+pub(crate) fn plain_bits(ctx: &Context, node: &Node<'_>) -> Option<Bits>
+    requires { NodeIsOf ctx.now node.now }
+    ensures { IfSome result (λ b. GivesPlainly (node_in ctx.now node.now) b.kind b.value) }
+{
+    let Some((ty, value)) = plain_integer(ctx, node) else {
+        return None;
     };
-    let [ty] = node.results() else {
-        return false;
+    let Some(kind) = kind_of(ctx, ty) else {
+        return None;
     };
-    let [entry] = node.properties() else {
-        return false;
-    };
-    if !ctx.is_word(entry.0, Word::Value) {
-        return false;
-    }
-    let Some(integer) = integer_of(ctx, entry.1) else {
-        return false;
-    };
-    integer.0 == *ty && is_number(ctx, *ty)
+    Bits::new(kind, value)
 }
 
 /// Whether an operation is named as arithmetic of two operands of its result's type.

@@ -6,14 +6,16 @@ ghost use Rattle.ir_event.specs.types.Things.{IsType};
 ghost use Rattle.ir_event.specs.types.Terms.{TypeTerm, type_from, type_term};
 ghost use Rattle.ir_event.specs.types.SameTypes.{same_type};
 ghost use Rattle.dialects_int.specs.Arithmetic.{all_ones, difference_of};
+ghost use Rattle.dialects_int.specs.Folds.{kind_of};
 ghost use Rattle.ir_event.specs.Modules.{module_in};
 ghost use Rattle.patterns_base.specs.Looks.{is_of_type};
 ghost use Rattle.patterns_base.specs.Made.{i1};
 
 use ir_event::trees::value::Value;
+use ir_event::types::bits::BitsKind;
 use ir_event::types::context::Context;
 use ir_event::types::ids::TypeId;
-use ir_event::types::node::TypeNode;
+use ir_event::types::node::{Sign, TypeNode};
 use ir_event::types::readings::mask;
 use ir_event::types::things::type_of;
 use ir_event::world::World;
@@ -35,6 +37,31 @@ pub fn is_of_type(world: &World, ty: TypeId, value: Value) -> bool
     match world.store.value_type(value) {
         Some(own) => types::same(&world.ctx, own, ty),
         None => false,
+    }
+}
+
+/// The kind of a type's values, if it has any: that of a signless integer type or of index.
+pub(crate) fn kind_of(ctx: &Context, ty: TypeId) -> Option<BitsKind>
+    requires { IsType ctx.now ty }
+    ensures { result ≡ kind_of (type_term ctx.now ty) }
+{
+    ctx.sound();
+    kind_in(type_of(ctx, ty))
+}
+
+fn kind_in(node: &TypeNode) -> Option<BitsKind>
+    ensures { (known : List TypeTerm) → result ≡ kind_of (type_from known node.now) }
+{
+    match node {
+        TypeNode::Int { sign, width } => match sign {
+            Sign::Signless => Some(BitsKind::Int(*width)),
+            Sign::Signed => None,
+            Sign::Unsigned => None,
+        },
+        TypeNode::Index => Some(BitsKind::Index),
+        TypeNode::Func { .. } => None,
+        TypeNode::Memref { .. } => None,
+        TypeNode::Opaque(_) => None,
     }
 }
 

@@ -162,6 +162,13 @@ impl<L: Analysis> Bench<L> {
         self.desk.journal_len()
     }
 
+    /// The events since the oldest open mark, the oldest first.
+    pub fn journal(&self) -> &[Event]
+        ensures { result.now ≡ self.now.desk.journal }
+    {
+        self.desk.journal()
+    }
+
     /// One of them, the oldest first.
     pub fn journal_at(&self, place: usize) -> Option<Event>
         ensures { result ≡ slice_get self.now.desk.journal place }

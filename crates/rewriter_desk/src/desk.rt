@@ -141,6 +141,13 @@ impl Desk {
         self.journal.len()
     }
 
+    /// The events since the oldest open mark, the oldest first.
+    pub fn journal(&self) -> &[Event]
+        ensures { result.now ≡ self.now.journal }
+    {
+        &self.journal
+    }
+
     /// One of them, the oldest first.
     pub fn journal_at(&self, place: usize) -> Option<Event>
         ensures { result ≡ slice_get self.now.journal place }

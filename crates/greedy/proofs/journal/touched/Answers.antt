@@ -1,4 +1,4 @@
-use Rattle.std.proofs.Common.{◌∙◌, Vec, Global}
+use Rattle.std.proofs.Common.{◌∙◌, ap, drop, Vec, Global}
 use Rattle.ir_event.specs.types.declared.ids.OpId.{OpId}
 use Rattle.ir_event.specs.Modules.{Module, module_in}
 use Rattle.patterns.specs.rewriter.Held.{module_at, module_held}
@@ -13,5 +13,5 @@ pub returns-clause-ok : goal.returns-clause-ok
 returns-clause-ok g c =
     let w = c.world.result.now in
     let h = c.args.bench.now.desk in
-    if_ok (λ (v : Vec OpId Global). (m : Module) → Leads (shown_operands w.store) w.ctx c.deref.result.now m (module_in w) → Touched m (module_in w) v.items) (λ (v : Vec OpId Global). Touched (module_at c.args.from h) (module_held h) v.items) c.touched_by.result
-    (λ v f. journal_touched w h c.args.from c.deref.result.now v.items c.world.ensures.ctx c.world.ensures.store (c.deref.ensures.value ∙ c.in-Ok.ensures) c.is_formed.ensures.leads f) c.touched_by.ensures.ok
+    if_ok (λ (v : Vec OpId Global). (m : Module) → Leads (shown_operands w.store) w.ctx c.events_from.result.now m (module_in w) → Touched m (module_in w) v.items) (λ (v : Vec OpId Global). Touched (module_at c.args.from h) (module_held h) v.items) c.touched_by.result
+    (λ v f. journal_touched w h c.args.from c.events_from.result.now v.items c.world.ensures.ctx c.world.ensures.store (c.events_from.ensures ∙ ap (drop c.args.from) c.journal.ensures) c.is_formed.ensures.leads f) c.touched_by.ensures.ok
