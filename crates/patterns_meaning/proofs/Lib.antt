@@ -13,4 +13,7 @@ pub mod Edited
 pub mod Formed
 pub mod Rewritten
 pub mod Applying
+pub mod Monotone
+pub mod MadeOf
+pub mod Settling
 pub mod Sampled

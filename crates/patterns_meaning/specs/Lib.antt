@@ -2,4 +2,5 @@ pub mod Meaning
 pub mod Applied
 pub mod After
 pub mod Applying
+pub mod Better
 pub mod Samples
