@@ -16,4 +16,5 @@ pub mod Applying
 pub mod Monotone
 pub mod MadeOf
 pub mod Settling
+pub mod Lifted
 pub mod Sampled

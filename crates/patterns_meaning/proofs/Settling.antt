@@ -56,7 +56,7 @@ ones_stay (Some x ∷ y ∷ []) (None ∷ Some v ∷ []) r b e m = absurd (true�
 ones_stay (None ∷ None ∷ []) (None ∷ Some v ∷ []) r b e m = absurd (none-some r m)
 ones_stay (None ∷ Some y ∷ []) (None ∷ Some v ∷ []) r b e m = ap (λ o. is_poison_by_ones (None ∷ o ∷ [])) (known_refined y (Some v) b.1.0) ∙ e
 
-sure_stays : (h : Header) (xs ys : List Outcome) (r : Outcome) → AllBetter xs ys → may_overflow h xs ≡ false → makes h xs ≡ Some r → may_overflow h ys ≡ false
+pub sure_stays : (h : Header) (xs ys : List Outcome) (r : Outcome) → AllBetter xs ys → may_overflow h xs ≡ false → makes h xs ≡ Some r → may_overflow h ys ≡ false
 sure_stays h xs ys r b e m = go (is_signed_quotient (rule_of h.name)) refl e
   where
     go : (c : Bool) → is_signed_quotient (rule_of h.name) ≡ c → (c && is_poison_by_ones xs) ≡ false → (is_signed_quotient (rule_of h.name) && is_poison_by_ones ys) ≡ false

@@ -3,4 +3,5 @@ pub mod Applied
 pub mod After
 pub mod Applying
 pub mod Better
+pub mod Improving
 pub mod Samples
