@@ -17,4 +17,6 @@ pub mod Monotone
 pub mod MadeOf
 pub mod Settling
 pub mod Lifted
+pub mod EditsForm
+pub mod Improved
 pub mod Sampled

@@ -1,4 +1,5 @@
 //! What the operations compute of which patterns speak, and that patterns of one's own keep it.
 #![tactic(auto)]
 
+pub mod better;
 pub mod laws;
