@@ -34,7 +34,7 @@ use Rattle.patterns_meaning.proofs.Formed.{is_below, operands_stand}
 use Rattle.patterns_meaning.proofs.Rewritten.{rewritten_computes}
 
 -- ---- what edits leave
-all_edited_made : (front : Place) (os : List Operation) (x : ℕ) (v : Value) (m : Module) → (all_edited (map (λ o. Make front o) os ++ give x v) m).tree ≡ rewritten front m.next os x v m.tree
+pub all_edited_made : (front : Place) (os : List Operation) (x : ℕ) (v : Value) (m : Module) → (all_edited (map (λ o. Make front o) os ++ give x v) m).tree ≡ rewritten front m.next os x v m.tree
 all_edited_made front [] x v m = refl
 all_edited_made front (o ∷ os) x v m = all_edited_made front os x v (record { tree = with_made front m.next (o ∷ []) m.tree; next = m.next + 1 })
 

@@ -37,15 +37,15 @@ ArePlain [] = Unit {0}
 ArePlain (e ∷ es) = IsPlain e × ArePlain es
 
 -- why none is replaced by another: they are of one type, and users of the one see the other
-four_hold : (a b c d : Bool) (p q r s : Refusal) → unless a p (unless b q (unless c r (unless d s None))) ≡ None → (b ≡ true) × (c ≡ true) × (d ≡ true)
+four_hold : (a b c d : Bool) (p q r s : Refusal) → unless a p (unless b q (unless c r (unless d s None))) ≡ None → (a ≡ true) × (b ≡ true) × (c ≡ true) × (d ≡ true)
 four_hold a b c d p q r s e =
     let f = no_unless a p (unless b q (unless c r (unless d s None))) e in
     let g = no_unless b q (unless c r (unless d s None)) f.1 in
     let h = no_unless c r (unless d s None) g.1 in
-    (g.0, h.0, (no_unless d s None h.1).0)
+    (f.0, g.0, h.0, (no_unless d s None h.1).0)
 
 pub replaced_parts : (old new : Value) (m : Module) → edit_reason (Replace old new) m ≡ None
-    → (has_value new m.tree ≡ true) × (option_eq same_type (type_of_value old m.tree) (type_of_value new m.tree) ≡ true) × (users_see is_isolated old new m.tree ≡ true)
+    → (has_value old m.tree ≡ true) × (has_value new m.tree ≡ true) × (option_eq same_type (type_of_value old m.tree) (type_of_value new m.tree) ≡ true) × (users_see is_isolated old new m.tree ≡ true)
 replaced_parts old new m r =
     four_hold (has_value old m.tree) (has_value new m.tree) (option_eq same_type (type_of_value old m.tree) (type_of_value new m.tree)) (users_see is_isolated old new m.tree) NoSuchValue NoSuchValue TypeDiffers NotVisible r
 
@@ -55,7 +55,7 @@ one_formed (Erase x) m p w r =
     subst (λ (t : Operation). IsWellFormed is_isolated (record m { tree = t })) (erased_whole tests x m w r)
     (erased_formed tests x m w r (erase_order x m.tree) [] (append-nil (erase_order x m.tree)))
 one_formed (SetOperand x k v) m p w r = set_operand_keeps is_isolated x k v m w r
-one_formed (Replace old new) m p w r = replaced_keeps is_isolated old new m w (replaced_parts old new m r).2
+one_formed (Replace old new) m p w r = replaced_keeps is_isolated old new m w (replaced_parts old new m r).3
 one_formed (Insert place o) m p w r = absurd p
 one_formed (Move x place) m p w r = absurd p
 one_formed (SetAttr x k a) m p w r = absurd p

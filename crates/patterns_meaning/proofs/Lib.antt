@@ -19,4 +19,12 @@ pub mod Settling
 pub mod Lifted
 pub mod EditsForm
 pub mod Improved
+pub mod Giving
+pub mod Ruled
+pub mod Firsts
+pub mod Dropping
+pub mod Readied
+pub mod StaysReady
+pub mod OldRules
+pub mod Running
 pub mod Sampled

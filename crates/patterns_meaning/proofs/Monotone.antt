@@ -60,7 +60,7 @@ not_true : (b : Bool) → b ≡ true → not b ≡ false
 not_true true e = refl
 not_true false e = absurd (true≢false (sym e))
 
-none_made : (b : Bool) (z : Outcome) → (if b then None else Some None) ≡ Some z → (b ≡ false) × (z ≡ None)
+pub none_made : (b : Bool) (z : Outcome) → (if b then None else Some None) ≡ Some z → (b ≡ false) × (z ≡ None)
 none_made true z e = absurd (none-some z e)
 none_made false z e = (refl, sym (same_Some _ _ e))
 

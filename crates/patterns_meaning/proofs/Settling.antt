@@ -66,6 +66,11 @@ sure_stays h xs ys r b e m = go (is_signed_quotient (rule_of h.name)) refl e
         let g = given_some (result_kind h) (λ k. makes_by (rule.Pair op.DivideSigned) h k xs) r (subst (λ q. given q (λ r. given (result_kind h) (λ k. makes_by r h k xs)) ≡ Some r) q m) in
         ap (λ c. c && is_poison_by_ones ys) i ∙ ones_stay xs ys r b e g.2
 
+-- known outcomes of a type have its bits
+pub typed_bits : (ty : TypeTerm) (y : Outcome) → IsOfType ty y → IsOfBits y
+typed_bits ty None h x e = absurd (none-some x e)
+typed_bits ty (Some z) h x e = subst (λ (w : Known). is_bits w.0 w.1 ≡ true) (same_Some _ _ e) h.1
+
 -- ---- a result made known
 abbrev pub raised : ℕ → Known → Assignment → Assignment
 raised y z a (Result x k) = if eqb x y then (if eqb k 0 then Some z else a (Result x k)) else a (Result x k)
@@ -113,11 +118,6 @@ module _ (done : ℕ → Bool) (t : Operation) (d : HasDistinctIds t) (kinded : 
         same_Some _ _ (sym (subst (λ o. IsOfType g.0 o) e (f v g.0 g.1)).0 ∙ g.2)),
     operands_of a f vs,
   )
-
-  -- a value of no type has no kind, and its outcome isn't looked at; so where it has one
-  typed_bits : (ty : TypeTerm) (y : Outcome) → IsOfType ty y → IsOfBits y
-  typed_bits ty None h x e = absurd (none-some x e)
-  typed_bits ty (Some z) h x e = subst (λ (w : Known). is_bits w.0 w.1 ≡ true) (same_Some _ _ e) h.1
 
   record Rising (a : Assignment) : Type 0 where
     pub under : (x : ℕ) (o : Operation) → find x t ≡ Some o → done x ≡ true → is_arithmetic (head o) ≡ true → GivesNoLess (head o) (a (Result x 0)) (map a (head o).operands)

@@ -69,10 +69,10 @@ takes (rule.Resize c) h k _ = false
 takes (rule.IndexCast c) h k (j ∷ []) = narrows c j k
 takes (rule.IndexCast c) h k _ = false
 
--- an arithmetic operation has operands of the kinds that it asks for
+-- an arithmetic operation has operands of the kinds that it asks for, and a result of one
 abbrev pub takes_its : Option Rule → Option BitsKind → Header → List (Option BitsKind) → Bool
 takes_its None k h js = true
-takes_its (Some r) None h js = true
+takes_its (Some r) None h js = false
 takes_its (Some r) (Some k) h js = takes r h k js
 
 abbrev pub is_kinded : Operation → Header → Bool

@@ -4,4 +4,6 @@ pub mod After
 pub mod Applying
 pub mod Better
 pub mod Improving
+pub mod Keeping
+pub mod Runs
 pub mod Samples

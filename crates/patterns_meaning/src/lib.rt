@@ -2,4 +2,5 @@
 #![tactic(auto)]
 
 pub mod better;
+pub mod kept;
 pub mod laws;
