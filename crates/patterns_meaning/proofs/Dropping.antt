@@ -172,10 +172,10 @@ chosen_better c p q y e f = go (c == 0)
     go false = e
 
 -- ---- what constants say
-known_is : (m : Module) (a : Assignment) (done : ℕ → Bool) → IsWellFormed is_isolated m → AreKinded m.tree → Computing a done m.tree → (v : Value) (k y : Known) → has_value v m.tree ≡ true → is_there done v ≡ true → known m.tree v ≡ Some k → a v ≡ Some y → k ≡ y
+pub known_is : (m : Module) (a : Assignment) (done : ℕ → Bool) → IsWellFormed is_isolated m → AreKinded m.tree → Computing a done m.tree → (v : Value) (k y : Known) → has_value v m.tree ≡ true → is_there done v ≡ true → known m.tree v ≡ Some k → a v ≡ Some y → k ≡ y
 known_is m a done formed kinded computing v k y h there e i = same_Some _ _ (known_refined y (Some k) (subst (λ o. refines o (Some k) ≡ true) i (known_there m a done formed computing kinded v k h there e)))
 
-known_test : (test : Known → Bool) (o : Option Known) → passes test o ≡ true → (k : Known) × (o ≡ Some k) × (test k ≡ true)
+pub known_test : (test : Known → Bool) (o : Option Known) → passes test o ≡ true → (k : Known) × (o ≡ Some k) × (test k ≡ true)
 known_test test None e = absurd (true≢false (sym e))
 known_test test (Some k) e = (k, refl, e)
 

@@ -25,7 +25,7 @@ use Rattle.patterns_meaning.proofs.OfKinds.{same_kinds}
 abbrev pub Firsts : Arithmetic → (BitsKind → ℕ) → Type 0
 Firsts o b = (k : BitsKind) (x n : ℕ) → is_bits k x ≡ true → value_of o (width_of k) x (b k) ≡ Some n → n ≡ x
 
-poison_refined : (z y : Outcome) → z ≡ None → refines z y ≡ true
+pub poison_refined : (z y : Outcome) → z ≡ None → refines z y ≡ true
 poison_refined z y e = subst (λ z. refines z y ≡ true) (sym e) refl
 
 judged_first : (o : Arithmetic) (x : Known) (b : ℕ) (z : Outcome) → is_signed_remainder o ≡ false → (r : Option ℕ) → ((n : ℕ) → r ≡ Some n → n ≡ x.1) → judged o x.0 b r ≡ Some z → refines z (Some x) ≡ true

@@ -26,5 +26,11 @@ pub mod Dropping
 pub mod Readied
 pub mod StaysReady
 pub mod OldRules
+pub mod Constants
+pub mod NumberRules
+pub mod TruthRules
+pub mod Conditions
+pub mod Listed
+pub mod AllKept
 pub mod Running
 pub mod Sampled

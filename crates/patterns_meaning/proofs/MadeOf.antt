@@ -5,7 +5,8 @@ use Rattle.std.proofs.lemmas.Bool.{and_parts}
 use Rattle.std.proofs.lemmas.Option.{none-some, same_Some}
 use Rattle.ir_types.specs.declared.bits.BitsKind.{BitsKind}
 use Rattle.ir_types.specs.declared.bits.BitsKind.TheVariants as kind
-use Rattle.ir_types.specs.Bits.{is_bits}
+use Rattle.ir_types.specs.Bits.{is_bits, width_of}
+use Rattle.ir_types.specs.Reasons.{is_width}
 use Rattle.dialects_int.specs.declared.operations.Arithmetic.{Arithmetic}
 use Rattle.dialects_int.specs.declared.operations.Cast.{Cast}
 use Rattle.dialects_int.specs.declared.operations.Predicate.{Predicate}
@@ -122,5 +123,5 @@ pub made_of : (h : Header) (js : List (Option BitsKind)) (ys : List Outcome) (x 
 made_of h js ys x t of b m =
     let r = given_some (rule_of h.name) (λ r. given (result_kind h) (λ k. makes_by r h k ys)) x m in
     let k = given_some (result_kind h) (λ k. makes_by r.0 h k ys) x r.2 in
-    let g = by_rule h k.0 k.1 r.0 js ys x (subst (λ q. takes_its (Some r.0) q h js ≡ true) k.1 (subst (λ q. takes_its q (result_kind h) h js ≡ true) r.1 t)) of b k.2 in
+    let g = by_rule h k.0 k.1 r.0 js ys x (and_parts (is_width (width_of k.0)) (takes r.0 h k.0 js) (subst (λ q. takes_its (Some r.0) q h js ≡ true) k.1 (subst (λ q. takes_its q (result_kind h) h js ≡ true) r.1 t))).1 of b k.2 in
     record { kind = k.0; is = k.1; of = g.0; bits = g.1 }

@@ -375,5 +375,5 @@ monotone h js xs ys x t of s b m =
     let r = given_some (rule_of h.name) (λ r. given (result_kind h) (λ k. makes_by r h k xs)) x m in
     let k = given_some (result_kind h) (λ k. makes_by r.0 h k xs) x r.2 in
     let g =
-    by_rule h k.0 r.0 js xs ys x (subst (λ q. takes_its (Some r.0) q h js ≡ true) k.1 (subst (λ q. takes_its q (result_kind h) h js ≡ true) r.1 t)) of (subst (λ q. (is_signed_quotient q && is_poison_by_ones xs) ≡ false) r.1 s) b k.2 in
+    by_rule h k.0 r.0 js xs ys x (and_parts (is_width (width_of k.0)) (takes r.0 h k.0 js) (subst (λ q. takes_its (Some r.0) q h js ≡ true) k.1 (subst (λ q. takes_its q (result_kind h) h js ≡ true) r.1 t))).1 of (subst (λ q. (is_signed_quotient q && is_poison_by_ones xs) ≡ false) r.1 s) b k.2 in
     record { outcome = g.0; is_made = makes_is h ys r.0 k.0 r.1 k.1 ∙ g.1; better = g.2 }

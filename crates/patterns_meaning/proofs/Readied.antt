@@ -8,6 +8,8 @@ use Rattle.std.proofs.lemmas.Option.{none-some, same_Some}
 use Rattle.ir_types.specs.declared.bits.BitsKind.{BitsKind}
 use Rattle.ir_types.specs.Terms.{TypeTerm, AttrTerm}
 use Rattle.ir_types.specs.SameTypes.{same_type}
+use Rattle.ir_types.specs.Bits.{width_of}
+use Rattle.ir_types.specs.Reasons.{is_width}
 use Rattle.ir_types.specs.Words.{is_isolated}
 use Rattle.ir_types.proofs.SameTerms.{type_is}
 use Rattle.ir_tree.specs.declared.value.Value.{Value}
@@ -163,7 +165,7 @@ same_takes h y vs js = go (rule_of h.name) (result_kind h) js
     go : (r : Option How) (k : Option BitsKind) (js : List (Option BitsKind)) → takes_its r k (record h { id = y; operands = vs }) js ≡ takes_its r k h js
     go None k js = refl
     go (Some r) None js = refl
-    go (Some r) (Some k) js = by r k js
+    go (Some r) (Some k) js = ap (λ b. is_width (width_of k) && b) (by r k js)
 
 -- what is made, as it will stand
 pub record NewKinds (kinds : Value → Option BitsKind) (n : ℕ) (made : List Operation) : Type 0 where

@@ -7,6 +7,8 @@ use Rattle.std.proofs.lemmas.Option.{none-some, same_Some}
 use Rattle.std.proofs.NetLemmas.Options.{map_some}
 use Rattle.ir_types.specs.declared.refusal.Refusal.TheVariants.{Full, IdsExhausted}
 use Rattle.ir_types.specs.declared.bits.BitsKind.{BitsKind}
+use Rattle.ir_types.specs.Bits.{width_of}
+use Rattle.ir_types.specs.Reasons.{is_width}
 use Rattle.ir_types.specs.Words.{is_isolated}
 use Rattle.ir_types.specs.Terms.{AttrTerm, TypeTerm}
 use Rattle.ir_tree.specs.declared.value.Value.{Value}
@@ -133,26 +135,32 @@ site_of m a done x o formed kinded computing e = record {
   below = is_below m.next m.tree formed.below;
 }
 
+-- the kinds of an operation of a rule
+pub record OfRule (t : Operation) (h : Header) (r : How) : Type 0 where
+  pub kind : BitsKind
+  pub is : result_kind h ≡ Some kind
+  pub operands : takes r h kind (map (kind_in t) h.operands) ≡ true
+  pub width : is_width (width_of kind) ≡ true
+  pub arithmetic : is_arithmetic h ≡ true
+
+pub rule_kinds : (t : Operation) (h : Header) → is_kinded t h ≡ true → (r : How) → rule_of h.name ≡ Some r → OfRule t h r
+rule_kinds t h kinded r e = go (result_kind h) refl (subst (λ q. takes_its q (result_kind h) h (map (kind_in t) h.operands) ≡ true) e kinded)
+  where
+    go : (k : Option BitsKind) → result_kind h ≡ k → takes_its (Some r) k h (map (kind_in t) h.operands) ≡ true → OfRule t h r
+    go None i f = absurd (true≢false (sym f))
+    go (Some k) i f =
+        let p = and_parts (is_width (width_of k)) (takes r h k (map (kind_in t) h.operands)) f in
+        record { kind = k; is = i; operands = p.1; width = p.0; arithmetic = (λ j. is_some (e j) && is_some (i j)) }
+
 module _ (m : Module) (a : Assignment) (done : ℕ → Bool) (x : ℕ) (o : Operation) (s : Site m a done x o) where
   abbrev t : Operation
   t = m.tree
 
-  -- the operation's own kinds
-  pub record OfRule (r : How) : Type 0 where
-    pub kind : BitsKind
-    pub is : result_kind (head o) ≡ Some kind
-    pub operands : takes r (head o) kind (map (kind_in m.tree) (head o).operands) ≡ true
-    pub arithmetic : is_arithmetic (head o) ≡ true
-
-  pub of_rule : (r : How) → rule_of (head o).name ≡ Some r → OfRule r
-  of_rule r e = go (result_kind (head o)) refl (subst (λ q. takes_its q (result_kind (head o)) (head o) (map (kind_in t) (head o).operands) ≡ true) e s.kinded)
-    where
-      go : (k : Option BitsKind) → result_kind (head o) ≡ k → takes_its (Some r) k (head o) (map (kind_in m.tree) (head o).operands) ≡ true → OfRule r
-      go None i h = absurd (true≢false (sym h))
-      go (Some k) i h = record { kind = k; is = i; operands = h; arithmetic = (λ j. is_some (e j) && is_some (i j)) }
+  pub of_rule : (r : How) → rule_of (head o).name ≡ Some r → OfRule m.tree (head o) r
+  of_rule r e = rule_kinds m.tree (head o) s.kinded r e
 
   -- what it gives refines what is no worse than all that it may make
-  pub gives_refined : (r : How) (y : Outcome) → rule_of (head o).name ≡ Some r → (k : OfRule r) → done x ≡ true → ((z : Outcome) → makes_by r (head o) k.kind (map a (head o).operands) ≡ Some z → refines z y ≡ true) → refines (a (Result x 0)) y ≡ true
+  pub gives_refined : (r : How) (y : Outcome) → rule_of (head o).name ≡ Some r → (k : OfRule m.tree (head o) r) → done x ≡ true → ((z : Outcome) → makes_by r (head o) k.kind (map a (head o).operands) ≡ Some z → refines z y ≡ true) → refines (a (Result x 0)) y ≡ true
   gives_refined r y e k d f = elim (found_fit a done t s.computing.fits x o s.found d k.arithmetic) [
     | inl i ↦ f (a (Result x 0)) (sym (makes_is (head o) (map a (head o).operands) r k.kind e k.is) ∙ i)
     | inr b ↦ subst (λ z. refines z y ≡ true) (sym b.2) refl

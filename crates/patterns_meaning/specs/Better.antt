@@ -3,6 +3,7 @@ use Rattle.std.specs.Prelude.{◌≡◌, ◌<◌, ℕ, ◌==◌, nat_lt, List, [
 use Rattle.ir_types.specs.declared.bits.BitsKind.{BitsKind}
 use Rattle.ir_types.specs.declared.bits.BitsKind.TheVariants as kind
 use Rattle.ir_types.specs.Bits.{is_bits, width_of}
+use Rattle.ir_types.specs.Reasons.{is_width}
 use Rattle.ir_tree.specs.declared.value.Value.{Value}
 use Rattle.ir_tree.specs.declared.value.Value.TheVariants.{Result}
 use Rattle.ir_tree.specs.Ids.{HasDistinctIds}
@@ -69,11 +70,11 @@ takes (rule.Resize c) h k _ = false
 takes (rule.IndexCast c) h k (j ∷ []) = narrows c j k
 takes (rule.IndexCast c) h k _ = false
 
--- an arithmetic operation has operands of the kinds that it asks for, and a result of one
+-- an arithmetic operation has operands of the kinds that it asks for, and a result of one, of a width that there may be
 abbrev pub takes_its : Option Rule → Option BitsKind → Header → List (Option BitsKind) → Bool
 takes_its None k h js = true
 takes_its (Some r) None h js = false
-takes_its (Some r) (Some k) h js = takes r h k js
+takes_its (Some r) (Some k) h js = is_width (width_of k) && takes r h k js
 
 abbrev pub is_kinded : Operation → Header → Bool
 is_kinded t h = takes_its (rule_of h.name) (result_kind h) h (map (kind_in t) h.operands)

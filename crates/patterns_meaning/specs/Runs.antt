@@ -1,9 +1,15 @@
 -- Runs of rules: from what is computed before the first to what is computed behind the last.
-use Rattle.std.specs.Prelude.{◌≡◌, ◌<◌, ◌≤◌, ℕ, zero, suc, List, Bool}
+use Rattle.std.specs.Prelude.{◌≡◌, ◌<◌, ◌≤◌, ℕ, zero, suc, List, [], ◌∷◌, Bool}
 use Rattle.ir_tree_laws.specs.Members.{In}
 use Rattle.ir_event.specs.Modules.{Module}
 use Rattle.patterns_base.specs.declared.rule.Rule.{Rule}
+use Rattle.patterns_base.specs.declared.rule.Rule.TheVariants.{CancelItself, ChooseKnown, ChooseSame, ChooseTruth}
+use Rattle.patterns_base.specs.declared.rule.Rule.TheVariants.{CompareItself, CompareZero, DropAllOnes}
+use Rattle.patterns_base.specs.declared.rule.Rule.TheVariants.{DropOne, DropZero, KeepItself, ZeroRemainder}
 use Rattle.patterns_base.specs.Rewrites.{becomes, rewrite_of}
+use Rattle.patterns_base.specs.Canonicalization.{End, ended}
+use Rattle.greedy.specs.Rewriting.{rewriting_of}
+use Rattle.greedy.specs.Trial.{by_rules}
 use Rattle.patterns_meaning.specs.Meaning.{Assignment}
 use Rattle.patterns_meaning.specs.Keeping.{Computing, Improves, IsReady, KeepsComputing, KeepsReady}
 
@@ -15,6 +21,16 @@ Leads rs (suc k) m n = (r : Rule) × In r rs × (x : ℕ) × (p : Module) × (re
 -- each rule of a list keeps modules ready, and what they compute
 abbrev pub AllKeep : List Rule → Type 0
 AllKeep rs = (r : Rule) → In r rs → KeepsReady r × KeepsComputing r
+
+-- rules of which it is shown
+abbrev pub kept_rules : List Rule
+kept_rules =
+    DropZero ∷ DropOne ∷ DropAllOnes ∷ CancelItself ∷ KeepItself ∷ ZeroRemainder ∷ CompareItself ∷ CompareZero ∷ ChooseSame
+    ∷ ChooseKnown ∷ ChooseTruth ∷ []
+
+-- it is so of them, and of each list of some of them
+abbrev pub KeptAreKept : Type 0
+KeptAreKept = (rs : List Rule) → ((r : Rule) → In r rs → In r kept_rules) → AllKeep rs
 
 -- what was done is done, and of the rest there is a choice: behind all of them a module computes what it computed before
 -- the first, or better
@@ -28,4 +44,11 @@ pub record ComputesThrough (a : Assignment) (done : ℕ → Bool) (m n : Module)
 abbrev pub RunsKeep : Type 0
 RunsKeep =
     (rs : List Rule) → AllKeep rs → (k : ℕ) (m n : Module) → IsReady m → Leads rs k m n
+    → IsReady n × (m.next ≤ n.next) × ((a : Assignment) (done : ℕ → Bool) → Computing a done m.tree → ComputesThrough a done m n)
+
+-- so does rewriting by a list of such rules, up to a limit, whether no rule applies any more or the limit was reached
+abbrev pub RewritingKeeps : Type 0
+RewritingKeeps =
+    (rs : List Rule) → AllKeep rs → (limit : ℕ) (m n : Module) (k : ℕ) (e : End) → IsReady m
+    → rewriting_of (by_rules rs) limit m ≡ ended n k e
     → IsReady n × (m.next ≤ n.next) × ((a : Assignment) (done : ℕ → Bool) → Computing a done m.tree → ComputesThrough a done m n)
