@@ -1,30 +1,24 @@
 -- The rule that gives a condition for a choice between true and false keeps modules ready, and what they compute.
-use Rattle.std.proofs.Common.{◌≡◌, ℕ, ◌<◌, ◌^◌, refl, ap, sym, ◌∙◌, subst, List, [], ◌∷◌, map, Bool, true, false, true≢false, ◌&&◌, eqb, eqb-true, Option, Some, None, slice_get, arith}
+use Rattle.std.proofs.Common.{◌≡◌, ℕ, ◌<◌, ◌^◌, refl, ap, sym, ◌∙◌, subst, map, Bool, true, false, ◌&&◌, eqb, eqb-true, Some, None, slice_get, arith}
 use Rattle.std.specs.Prelude.{codes, ◌==◌, if◌then◌else◌}
 use Rattle.std.proofs.lemmas.Bool.{and_parts}
 use Rattle.std.proofs.lemmas.Bool.Decides.{nat_tests}
 use Rattle.std.proofs.lemmas.Option.{same_Some}
-use Rattle.ir_types.specs.declared.bits.BitsKind.{BitsKind}
 use Rattle.ir_types.specs.declared.bits.BitsKind.TheVariants as kind
-use Rattle.ir_types.specs.Bits.{is_bits, width_of}
+use Rattle.ir_types.specs.Bits.{width_of}
 use Rattle.ir_types.specs.SameTypes.{same_type}
 use Rattle.ir_types.proofs.SameTerms.{type_is}
-use Rattle.ir_types.specs.Terms.{TypeTerm}
-use Rattle.ir_tree.specs.declared.value.Value.{Value}
 use Rattle.ir_tree.specs.Tree.{head}
-use Rattle.ir_tree.specs.Meaning.{Operation}
-use Rattle.ir_event.specs.Modules.{Module}
 use Rattle.dialects_int.specs.declared.operations.Rule.TheVariants as how
 use Rattle.dialects_int.specs.Arithmetic.{choice_of}
-use Rattle.dialects_int.specs.Folds.{Known, kind_of, rule_of, same_kind}
-use Rattle.rewriter_machine.specs.Contents.{Edit}
+use Rattle.dialects_int.specs.Folds.{Known, kind_of, rule_of}
 use Rattle.patterns_check.specs.Outcomes.{Outcome, given}
 use Rattle.patterns_check.specs.Checks.{refines}
 use Rattle.patterns_laws.specs.Made.{i1}
 use Rattle.patterns_laws.specs.Words.{named}
 use Rattle.patterns_laws.proofs.KnownFolds.{below}
 use Rattle.patterns_base.specs.declared.rule.Rule.TheVariants.{ChooseTruth}
-use Rattle.patterns_base.specs.Looks.{Three, is_number, known, three, when}
+use Rattle.patterns_base.specs.Looks.{is_number, known, when}
 use Rattle.patterns_base.specs.Makes.{give}
 use Rattle.patterns_base.specs.Rules.{rule}
 use Rattle.patterns_base.proofs.Facts.{when_some}
@@ -37,7 +31,7 @@ use Rattle.patterns_meaning.proofs.Firsts.{by_select}
 use Rattle.patterns_meaning.proofs.Forms.{named_is}
 use Rattle.patterns_meaning.proofs.Monotone.{same_refined}
 use Rattle.patterns_meaning.proofs.OfKinds.{same_kinds}
-use Rattle.patterns_meaning.proofs.Ruled.{OfRule, of_rule, ruled, site_of, value_bits}
+use Rattle.patterns_meaning.proofs.Ruled.{of_rule, ruled, site_of, value_bits}
 use Rattle.patterns_meaning.proofs.StaysReady.{GivesOld, keeps_computing, old_ready}
 
 -- ---- the condition is what is chosen by it

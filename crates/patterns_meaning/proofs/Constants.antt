@@ -1,6 +1,6 @@
 -- Rules that give an operation's result by a new constant keep modules ready, and what they compute.
-use Rattle.std.proofs.Common.{◌≡◌, ℕ, zero, suc, ◌+◌, ◌<◌, ◌≤◌, refl, ap, sym, ◌∙◌, subst, List, [], ◌∷◌, ◌++◌, map, Bool, true, false, true≢false, ◌&&◌, Option, Some, None, slice_get, inl, inr, arith}
-use Rattle.std.specs.Prelude.{codes, nat_lt, if◌then◌else◌}
+use Rattle.std.proofs.Common.{◌≡◌, ℕ, zero, suc, ◌<◌, refl, ap, sym, ◌∙◌, subst, List, [], ◌∷◌, ◌++◌, map, Bool, true, ◌&&◌, Option, Some, slice_get, inl, arith}
+use Rattle.std.specs.Prelude.{nat_lt, if◌then◌else◌}
 use Rattle.std.proofs.lemmas.Bool.{lt-ltb, le-ltb}
 use Rattle.std.proofs.lemmas.Option.{none-some, same_Some}
 use Rattle.ir_types.specs.declared.bits.BitsKind.{BitsKind}
@@ -15,25 +15,23 @@ use Rattle.ir_tree.specs.WellFormed.{IsWellFormed}
 use Rattle.ir_tree.specs.Meaning.{Operation}
 use Rattle.ir_event.specs.Modules.{Module}
 use Rattle.dialects_int.specs.declared.operations.Rule.TheVariants as how
-use Rattle.dialects_int.specs.Folds.{Known, fold_of, kind_of, rule_of}
-use Rattle.rewriter_machine.specs.Contents.{Edit, all_edited}
+use Rattle.dialects_int.specs.Folds.{fold_of, kind_of}
+use Rattle.rewriter_machine.specs.Contents.{all_edited}
 use Rattle.rewriter_machine.specs.Edits.{Make}
 use Rattle.patterns_edits.specs.Lists.{Free}
 use Rattle.patterns_laws.specs.Made.{constant}
 use Rattle.patterns_laws.proofs.KnownFolds.{constant_gives}
-use Rattle.patterns_check.specs.Outcomes.{Outcome, given}
 use Rattle.patterns_check.specs.Checks.{refines}
 use Rattle.patterns_base.specs.declared.rule.Rule.{Rule}
 use Rattle.patterns_base.specs.Makes.{give, give_constant}
 use Rattle.patterns_book.specs.Matching.{Header}
-use Rattle.patterns_meaning.specs.Meaning.{Assignment, IsOfType, makes, owner, result_kind}
-use Rattle.patterns_meaning.specs.Applied.{Agree}
+use Rattle.patterns_meaning.specs.Meaning.{Assignment, IsOfType, owner, result_kind}
 use Rattle.patterns_meaning.specs.Better.{AreKinded, are_its_bits, is_poison_by_ones, is_signed_quotient, kind_in, takes_its}
 use Rattle.patterns_meaning.specs.Keeping.{Computing, Improves, IsReady, done_after}
 use Rattle.patterns_meaning.proofs.Forms.{by_constant}
 use Rattle.patterns_meaning.proofs.Giving.{Making, after_new, given_improves}
 use Rattle.patterns_meaning.proofs.News.{constant_makes, type_is_of}
-use Rattle.patterns_meaning.proofs.Readied.{HasKind, NewKinds, Takes}
+use Rattle.patterns_meaning.proofs.Readied.{NewKinds, Takes}
 use Rattle.patterns_meaning.proofs.Rewritten.{same_makes}
 use Rattle.patterns_meaning.proofs.Ruled.{Ruled}
 use Rattle.patterns_meaning.proofs.StaysReady.{stays_ready}

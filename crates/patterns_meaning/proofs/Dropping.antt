@@ -1,5 +1,5 @@
 -- Rules that give an operation's result by one of its operands keep what a module computes.
-use Rattle.std.proofs.Common.{◌≡◌, ℕ, ◌<◌, refl, ap, sym, ◌∙◌, subst, List, [], ◌∷◌, map, Bool, true, false, true≢false, ◌&&◌, eqb, eqb-true, Option, Some, None, slice_get}
+use Rattle.std.proofs.Common.{◌≡◌, ℕ, refl, ap, sym, ◌∙◌, subst, [], ◌∷◌, map, Bool, true, false, true≢false, ◌&&◌, eqb, eqb-true, Option, Some, None, slice_get}
 use Rattle.std.specs.Prelude.{codes, ◌==◌, if◌then◌else◌}
 use Rattle.std.specs.List.{list_all}
 use Rattle.std.proofs.lemmas.Bool.{and_parts}
@@ -7,12 +7,10 @@ use Rattle.std.proofs.lemmas.Option.{none-some, same_Some}
 use Rattle.ir_types.specs.declared.bits.BitsKind.{BitsKind}
 use Rattle.ir_types.specs.declared.bits.BitsKind.TheVariants as kind
 use Rattle.ir_types.specs.declared.node.Sign.TheVariants.{Signed, Signless, Unsigned}
-use Rattle.ir_types.specs.Bits.{is_bits, width_of}
+use Rattle.ir_types.specs.Bits.{width_of}
 use Rattle.ir_types.specs.Readings.{type_width}
 use Rattle.ir_types.specs.Terms.{TypeTerm}
 use Rattle.ir_types.specs.Terms as term
-use Rattle.ir_types.specs.SameTypes.{same_type}
-use Rattle.ir_types.proofs.SameTerms.{type_is}
 use Rattle.ir_types.specs.Words.{is_isolated}
 use Rattle.ir_tree.specs.declared.value.Value.{Value}
 use Rattle.ir_tree.specs.declared.value.Value.TheVariants.{Result}
@@ -30,34 +28,32 @@ use Rattle.dialects_int.specs.declared.operations.Rule.TheVariants as how
 use Rattle.dialects_int.specs.Arithmetic.{all_ones, choice_of}
 use Rattle.dialects_int.specs.Laws.{ignores_one, ignores_zero, keeps_itself}
 use Rattle.dialects_int.specs.Folds.{Known, kind_of, rule_of, same_kind}
-use Rattle.rewriter_machine.specs.Contents.{Edit, all_edited}
+use Rattle.rewriter_machine.specs.Contents.{all_edited}
 use Rattle.patterns_edits.specs.Lists.{Free}
-use Rattle.patterns_check.specs.Outcomes.{Outcome, given, is_signed_remainder, pair_outcome, select_outcome}
+use Rattle.patterns_check.specs.Outcomes.{Outcome, given, pair_outcome, select_outcome}
 use Rattle.patterns_check.specs.Checks.{refines}
-use Rattle.patterns_laws.specs.Made.{i1}
 use Rattle.patterns_laws.specs.Words.{among, ignoring_one, ignoring_zero, keeping, named}
 use Rattle.patterns_laws.proofs.KnownFolds.{given_some}
 use Rattle.patterns_base.specs.declared.rule.Rule.{Rule}
-use Rattle.patterns_base.specs.declared.rule.Rule.TheVariants.{ChooseKnown, ChooseSame, ChooseTruth, DropAllOnes, DropOne, DropZero, KeepItself}
-use Rattle.patterns_base.specs.Looks.{Three, Two, is_number, known, passes, when}
-use Rattle.patterns_base.specs.Folding.{choose_known, choose_same, choose_truth, drop_all_ones, drop_one, drop_zero, is_all_ones, keep_itself}
+use Rattle.patterns_base.specs.declared.rule.Rule.TheVariants.{ChooseKnown, ChooseSame, DropAllOnes, DropOne, DropZero, KeepItself}
+use Rattle.patterns_base.specs.Looks.{is_number, known, passes, when}
+use Rattle.patterns_base.specs.Folding.{is_all_ones}
 use Rattle.patterns_base.specs.Makes.{give}
 use Rattle.patterns_base.specs.Rewrites.{becomes, rewrite_of}
 use Rattle.patterns_base.specs.Rules.{rule}
 use Rattle.patterns_base.proofs.Dispatch.{of_among}
 use Rattle.patterns_facts.specs.Accepted.{AreAccepted}
-use Rattle.patterns_facts.proofs.Shapes.{IsThree, IsTwo, three_is, two_is}
+use Rattle.patterns_facts.proofs.Shapes.{three_is, two_is}
 use Rattle.patterns_base.proofs.Facts.{when_some}
-use Rattle.patterns_meaning.specs.Meaning.{Assignment, IsOfType, makes_by, of_three, of_two, owner, result_kind}
+use Rattle.patterns_meaning.specs.Meaning.{Assignment, IsOfType, of_three, of_two}
 use Rattle.patterns_meaning.specs.Better.{AreKinded, is_kind, kind_in, takes}
 use Rattle.patterns_meaning.specs.Keeping.{Computing, Improves, done_after, is_there}
 use Rattle.patterns_meaning.proofs.Firsts.{Firsts, IsPair, both_kept, by_and, by_select, chosen_kept, first_kept, keeping_pairs, one_first, one_pairs, ones_first, zero_first, zero_pairs}
 use Rattle.patterns_meaning.proofs.Forms.{named_is}
 use Rattle.patterns_meaning.proofs.Giving.{given_improves, old_given}
-use Rattle.patterns_meaning.proofs.Monotone.{itself, known_refined, through}
-use Rattle.patterns_meaning.proofs.OfBits.{IsOfBits}
+use Rattle.patterns_meaning.proofs.Monotone.{itself, known_refined}
 use Rattle.patterns_meaning.proofs.OfKinds.{same_kinds}
-use Rattle.patterns_meaning.proofs.Ruled.{OfRule, Ruled, Site, gives_refined, known_there, of_rule, ruled, site_of, value_bits}
+use Rattle.patterns_meaning.proofs.Ruled.{Ruled, Site, gives_refined, known_there, of_rule, ruled, site_of, value_bits}
 use Rattle.patterns_meaning.proofs.Trees.{value_below}
 
 -- ---- where it gives a value of before

@@ -1,5 +1,5 @@
 -- Edits against which no reason stands leave a module well-formed.
-use Rattle.std.proofs.Common.{◌≡◌, refl, sym, ◌∙◌, subst, ap, List, [], ◌∷◌, ◌++◌, map, None, append-nil}
+use Rattle.std.proofs.Common.{◌≡◌, subst, ap, List, [], ◌∷◌, ◌++◌, map, None, append-nil}
 use Rattle.std.proofs.Common.{Bool, true}
 use Rattle.std.specs.Option.{option_eq}
 use Rattle.ir_types.specs.declared.refusal.Refusal.{Refusal}

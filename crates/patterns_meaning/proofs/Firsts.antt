@@ -1,5 +1,5 @@
 -- Operations that give one of their operands.
-use Rattle.std.proofs.Common.{◌≡◌, ℕ, ◌<◌, ◌^◌, refl, ap, sym, ◌∙◌, subst, List, [], ◌∷◌, Bool, true, false, true≢false, ◌&&◌, not, Option, Some, None}
+use Rattle.std.proofs.Common.{◌≡◌, ℕ, refl, ap, sym, ◌∙◌, subst, List, Bool, true, false, ◌&&◌, not, Option, Some, None}
 use Rattle.std.specs.Prelude.{codes, if◌then◌else◌, ◌==◌}
 use Rattle.std.proofs.lemmas.Option.{none-some, same_Some}
 use Rattle.ir_types.specs.declared.bits.BitsKind.{BitsKind}
@@ -17,7 +17,7 @@ use Rattle.patterns_check.specs.Checks.{refines}
 use Rattle.patterns_laws.specs.Words.{ignoring_one, ignoring_zero, keeping}
 use Rattle.patterns_laws.specs.Keeps.{Each}
 use Rattle.patterns_laws.proofs.KnownFolds.{below, some_bits}
-use Rattle.patterns_meaning.proofs.Monotone.{itself, none_made, same_refined}
+use Rattle.patterns_meaning.proofs.Monotone.{none_made, same_refined}
 use Rattle.patterns_meaning.proofs.OfBits.{IsOfBits}
 use Rattle.patterns_meaning.proofs.OfKinds.{same_kinds}
 

@@ -1,6 +1,6 @@
 -- A module after an operation's result is replaced, by a value or by what is made for it, computes what it computed.
-use Rattle.std.proofs.Common.{◌≡◌, ℕ, ◌+◌, ◌<◌, ◌≤◌, refl, ap, sym, ◌∙◌, subst, List, [], ◌∷◌, ◌++◌, map, Bool, true, false, true≢false, ◌&&◌, arith}
-use Rattle.std.specs.Prelude.{nat_lt, if◌then◌else◌}
+use Rattle.std.proofs.Common.{◌≡◌, ℕ, ◌+◌, ◌<◌, ◌≤◌, refl, ap, sym, ◌∙◌, subst, List, [], ◌∷◌, ◌++◌, map, Bool, true, false, ◌&&◌, arith}
+use Rattle.std.specs.Prelude.{if◌then◌else◌}
 use Rattle.std.specs.List.{list_all}
 use Rattle.std.proofs.lemmas.Bool.{and_parts, le-ltb, lt-ltb}
 use Rattle.ir_types.specs.Words.{is_isolated}
@@ -8,7 +8,7 @@ use Rattle.ir_tree.specs.declared.value.Value.{Value}
 use Rattle.ir_tree.specs.declared.value.Value.TheVariants.{Result, Arg}
 use Rattle.ir_tree.specs.declared.place.Place.{Place}
 use Rattle.ir_tree.specs.Tree.{head}
-use Rattle.ir_tree.specs.Edits.{put_value, put_values}
+use Rattle.ir_tree.specs.Edits.{put_value}
 use Rattle.ir_tree.specs.Ids.{HasDistinctIds}
 use Rattle.ir_tree.specs.Uses.{same_value}
 use Rattle.ir_tree.specs.WellFormed.{IsWellFormed}
@@ -17,7 +17,7 @@ use Rattle.ir_tree.proofs.Replaced.{same_value_true}
 use Rattle.ir_tree_laws.specs.Values.{has_value}
 use Rattle.ir_event.specs.Modules.{Module}
 use Rattle.patterns_check.specs.Checks.{refines}
-use Rattle.rewriter_machine.specs.Contents.{Edit, all_edited}
+use Rattle.rewriter_machine.specs.Contents.{all_edited}
 use Rattle.rewriter_machine.specs.Edits.{Make}
 use Rattle.patterns_base.specs.Makes.{give}
 use Rattle.patterns_edits.specs.Lists.{Free}

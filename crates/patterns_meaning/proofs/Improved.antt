@@ -1,6 +1,6 @@
 -- The module after a pattern is applied computes what it computed, or better.
-use Rattle.std.proofs.Common.{◌≡◌, ℕ, ◌+◌, ◌<◌, refl, ap, sym, ◌∙◌, subst, List, [], ◌∷◌, map, Bool, true, false, true≢false, ◌&&◌, not, Option, Some, None, slice_get, inl, inr}
-use Rattle.std.specs.Prelude.{codes, nat_le, option_map}
+use Rattle.std.proofs.Common.{◌≡◌, ℕ, ◌+◌, ◌<◌, refl, ap, sym, ◌∙◌, subst, List, [], ◌∷◌, map, Bool, true, false, true≢false, ◌&&◌, not, Some, slice_get, inl, inr}
+use Rattle.std.specs.Prelude.{nat_le, option_map}
 use Rattle.std.specs.List.{list_all}
 use Rattle.std.proofs.lemmas.Bool.{and_parts, or_cases}
 use Rattle.std.proofs.lemmas.Bool.Decides.{nat_tests}
@@ -15,7 +15,6 @@ use Rattle.ir_tree.specs.Ids.{HasDistinctIds}
 use Rattle.ir_tree.specs.WellFormed.{IsWellFormed}
 use Rattle.ir_tree.specs.Uses.{same_value}
 use Rattle.ir_tree.specs.Meaning.{Operation}
-use Rattle.ir_event.specs.Modules.{Module}
 use Rattle.dialects_int.specs.declared.operations.Arithmetic.{Arithmetic}
 use Rattle.dialects_int.specs.declared.operations.Arithmetic.TheVariants as op
 use Rattle.dialects_int.specs.declared.operations.Rule.TheVariants as rule
@@ -29,17 +28,15 @@ use Rattle.patterns_book.specs.declared.pattern.Form.{Form}
 use Rattle.patterns_book.specs.declared.pattern.Form.TheVariants as form
 use Rattle.patterns_book.specs.declared.pattern.New.{New}
 use Rattle.patterns_book.specs.declared.pattern.New.TheVariants as new
-use Rattle.patterns_book.specs.Matching.{Header, Standing, bound, standing}
+use Rattle.patterns_book.specs.Matching.{Standing, bound, standing}
 use Rattle.patterns_book.specs.Names.{name_of, operands_of, predicate_of}
 use Rattle.patterns_book.specs.Planning.{all_made, entries_by, made_as, values_at}
-use Rattle.patterns_book.specs.Shapes.{Shape}
-use Rattle.patterns_makeable.specs.Makeable.{has_name, is_makeable, is_named}
+use Rattle.patterns_makeable.specs.Makeable.{has_name, is_named}
 use Rattle.patterns_own.specs.Own.{OwnAreAccepted}
-use Rattle.patterns_meaning.specs.Meaning.{AreOfTypes, Assignment, Each, FitsAll, FitsEach, makes}
-use Rattle.patterns_meaning.specs.After.{or_new, rewritten}
-use Rattle.patterns_meaning.specs.Applied.{Agree}
+use Rattle.patterns_meaning.specs.Meaning.{AreOfTypes, Assignment, Each, FitsAll, FitsEach}
+use Rattle.patterns_meaning.specs.After.{or_new}
 use Rattle.patterns_meaning.specs.Better.{AllSure, AreKinded, is_poison_by_ones, is_signed_quotient}
-use Rattle.patterns_meaning.specs.Improving.{ComputesBetter, RewritesComputeBetter, is_quotient, makes_no_quotient}
+use Rattle.patterns_meaning.specs.Improving.{RewritesComputeBetter, is_quotient, makes_no_quotient}
 use Rattle.patterns_meaning.proofs.Applying.{applies}
 use Rattle.patterns_meaning.proofs.EditsForm.{all_formed, made_plain}
 use Rattle.patterns_meaning.proofs.Formed.{each_stands, is_below, operands_stand}

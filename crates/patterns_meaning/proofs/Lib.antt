@@ -30,6 +30,7 @@ pub mod Constants
 pub mod NumberRules
 pub mod TruthRules
 pub mod Conditions
+pub mod Swapping
 pub mod Listed
 pub mod AllKept
 pub mod Running

@@ -1,9 +1,8 @@
 -- A tree after an operation's result is replaced by what is the same or better computes what it computed, or better.
-use Rattle.std.proofs.Common.{◌≡◌, ℕ, ◌+◌, ◌<◌, refl, ap, sym, ◌∙◌, subst, List, [], ◌∷◌, map, Bool, true, false, true≢false, Option, Some, None, ◌⊎◌, inl, inr}
+use Rattle.std.proofs.Common.{◌≡◌, ℕ, ◌+◌, ◌<◌, refl, ap, sym, ◌∙◌, subst, List, [], ◌∷◌, map, Bool, true, false, Option, Some, ◌⊎◌, inl, inr}
 use Rattle.std.specs.Prelude.{is_some, if◌then◌else◌}
 use Rattle.std.specs.List.{list_all}
 use Rattle.ir_types.specs.declared.bits.BitsKind.{BitsKind}
-use Rattle.ir_types.specs.Terms.{TypeTerm}
 use Rattle.ir_tree.specs.declared.value.Value.{Value}
 use Rattle.ir_tree.specs.declared.value.Value.TheVariants.{Result}
 use Rattle.ir_tree.specs.declared.place.Place.{Place}
@@ -15,16 +14,16 @@ use Rattle.ir_tree.specs.Meaning.{Operation}
 use Rattle.ir_tree.proofs.Replaced.{same_value_true}
 use Rattle.ir_tree_laws.specs.Values.{has_value, type_of_value}
 use Rattle.ir_tree_laws.proofs.Reasoned.{some_there}
-use Rattle.dialects_int.specs.Folds.{Known, kind_of, rule_of}
+use Rattle.dialects_int.specs.Folds.{kind_of}
 use Rattle.patterns_check.specs.Outcomes.{Outcome}
 use Rattle.patterns_check.specs.Checks.{refines}
 use Rattle.patterns_laws.proofs.KnownFolds.{given_some}
 use Rattle.patterns_book.specs.Matching.{Header}
 use Rattle.std.proofs.lemmas.Option.{same_Some}
-use Rattle.patterns_meaning.specs.Meaning.{AreOfTypes, ArgumentsOfTypes, Assignment, Breaks, Each, Fits, FitsAll, FitsDone, IsOfType, ResultsOfTypes, TypedEach, is_arithmetic, makes, owner, result_kind}
+use Rattle.patterns_meaning.specs.Meaning.{AreOfTypes, ArgumentsOfTypes, Assignment, Breaks, Each, Fits, FitsAll, FitsDone, IsOfType, ResultsOfTypes, TypedEach, is_arithmetic, makes}
 use Rattle.patterns_meaning.specs.Applied.{Agree, IsBelow}
-use Rattle.patterns_meaning.specs.After.{OperandsStand, rewritten, with_given, with_made}
-use Rattle.patterns_meaning.specs.Better.{AllBetter, AllSure, AreKinded, AreOf, GivesLess, GivesNoLess, IsSure, Settled, is_kinded, kind_in, may_overflow, takes_its}
+use Rattle.patterns_meaning.specs.After.{OperandsStand, rewritten, with_made}
+use Rattle.patterns_meaning.specs.Better.{AllBetter, AllSure, AreKinded, AreOf, GivesLess, IsSure, Settled, is_kinded, kind_in, may_overflow}
 use Rattle.patterns_meaning.proofs.Edited.{each_both, each_changed, each_without}
 use Rattle.patterns_meaning.proofs.Monotone.{itself, monotone, through}
 use Rattle.patterns_meaning.proofs.Rewritten.{AllBare, AllPut, all_blocks, all_put, given_blocks, given_each, new_typed, old_typed, operands_same, same_makes}

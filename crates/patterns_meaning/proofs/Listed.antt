@@ -1,5 +1,5 @@
 -- Rewriting by a list of rules is a run of them.
-use Rattle.std.proofs.Common.{◌≡◌, ℕ, zero, suc, ◌+◌, ◌≤◌, refl, ap, sym, ◌∙◌, subst, List, [], ◌∷◌, Bool, true, false, ◌&&◌, ◌⊎◌, inl, inr, arith}
+use Rattle.std.proofs.Common.{◌≡◌, ℕ, zero, suc, ◌+◌, refl, List, [], ◌∷◌, Bool, true, false, ◌&&◌, ◌⊎◌, inl, inr}
 use Rattle.std.specs.Prelude.{nat_le, if◌then◌else◌}
 use Rattle.ir_tree.specs.Ids.{ids}
 use Rattle.ir_tree_laws.specs.Members.{In}
@@ -11,7 +11,7 @@ use Rattle.patterns_base.specs.Rewrites.{Rewrite, becomes, none, refused, rewrit
 use Rattle.patterns_base.specs.Canonicalization.{Canonical, End, converged, end_of, ended, first_rule, go_on, most_rewrites, or_else, stopped}
 use Rattle.greedy.specs.Rewriting.{first_by, next_by, rewriting_of, rewritten_from}
 use Rattle.greedy.specs.Trial.{by_rules}
-use Rattle.patterns_meaning.specs.Runs.{AllKeep, Leads, RewritingKeeps}
+use Rattle.patterns_meaning.specs.Runs.{Leads, RewritingKeeps}
 use Rattle.patterns_meaning.proofs.Running.{runs_keep}
 
 or_parts : (a b : Rewrite) (n : Module) → or_else a b ≡ becomes n → (a ≡ becomes n) ⊎ (b ≡ becomes n)

@@ -1,5 +1,5 @@
 -- What an operation makes is of its result's kind, and has its bits.
-use Rattle.std.proofs.Common.{◌≡◌, ℕ, refl, ap, sym, ◌∙◌, subst, List, [], ◌∷◌, Bool, true, true≢false, ◌&&◌, Option, Some, None, slice_get}
+use Rattle.std.proofs.Common.{◌≡◌, refl, ap, sym, ◌∙◌, subst, List, [], ◌∷◌, true, true≢false, ◌&&◌, Option, Some, None}
 use Rattle.std.specs.Prelude.{codes}
 use Rattle.std.proofs.lemmas.Bool.{and_parts}
 use Rattle.std.proofs.lemmas.Option.{none-some, same_Some}
@@ -13,10 +13,10 @@ use Rattle.dialects_int.specs.declared.operations.Predicate.{Predicate}
 use Rattle.dialects_int.specs.declared.operations.Rule.{Rule}
 use Rattle.dialects_int.specs.declared.operations.Rule.TheVariants as rule
 use Rattle.dialects_int.specs.Folds.{Known, asked, fold_of, property_of, rule_of, same_kind}
-use Rattle.patterns_check.specs.Outcomes.{Outcome, compare_outcome, given, pair_outcome, resize_outcome, select_outcome}
+use Rattle.patterns_check.specs.Outcomes.{Outcome, compare_outcome, given, resize_outcome}
 use Rattle.patterns_laws.proofs.KnownFolds.{given_some}
 use Rattle.patterns_book.specs.Matching.{Header}
-use Rattle.patterns_meaning.specs.Meaning.{makes, makes_by, of_one, of_three, of_two, result_kind}
+use Rattle.patterns_meaning.specs.Meaning.{makes, makes_by, of_one, of_two, result_kind}
 use Rattle.patterns_meaning.specs.Better.{AreOf, are_its_bits, compares, is_kind, takes, takes_its}
 use Rattle.patterns_meaning.proofs.Forms.{fold_kind}
 use Rattle.patterns_meaning.proofs.OfKinds.{IsKind, OfKinds, compare_kind, pair_kind, resize_kind, same_kinds, select_kind}

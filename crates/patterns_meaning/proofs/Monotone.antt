@@ -1,5 +1,5 @@
 -- What an operation makes is no worse for better operands.
-use Rattle.std.proofs.Common.{◌≡◌, ℕ, refl, ap, sym, ◌∙◌, subst, List, [], ◌∷◌, Bool, true, false, true≢false, ◌&&◌, not, eq-eqb, eqb-true, Option, Some, None}
+use Rattle.std.proofs.Common.{◌≡◌, ℕ, refl, ap, sym, ◌∙◌, subst, List, [], ◌∷◌, Bool, true, false, true≢false, ◌&&◌, not, eq-eqb, Option, Some, None}
 use Rattle.std.specs.Prelude.{if◌then◌else◌, ◌==◌, ◌/◌, ◌%◌, ◌^◌, nat_lt, codes, int_div}
 use Rattle.std.proofs.lemmas.Bool.{and_parts}
 use Rattle.std.proofs.lemmas.Option.{none-some, same_Some}
@@ -15,15 +15,15 @@ use Rattle.dialects_int.specs.declared.operations.Cast.TheVariants as cast
 use Rattle.dialects_int.specs.declared.operations.Predicate.{Predicate}
 use Rattle.dialects_int.specs.declared.operations.Rule.{Rule}
 use Rattle.dialects_int.specs.declared.operations.Rule.TheVariants as rule
-use Rattle.dialects_int.specs.Arithmetic.{all_ones, cast_of, choice_of, comparison_of, divides_signed, least, quotient_of, remainder_of, signed_quotient_of, truncated, truth, value_of}
+use Rattle.dialects_int.specs.Arithmetic.{all_ones, cast_of, choice_of, comparison_of, least, quotient_of, remainder_of, signed_quotient_of, truncated, truth, value_of}
 use Rattle.dialects_int.specs.Folds.{Known, asked, property_of, rule_of, same_kind}
 use Rattle.dialects_int.proofs.KnownOperands.{same_itself}
 use Rattle.patterns_check.specs.Outcomes.{Outcome, compare_outcome, divides, given, is_signed_remainder, is_some_number, judged, known_pair, no_value, pair_outcome, resize_any, resize_outcome, select_outcome}
-use Rattle.patterns_check.specs.Checks.{refines, same_known}
+use Rattle.patterns_check.specs.Checks.{refines}
 use Rattle.patterns_laws.proofs.KnownFolds.{given_some}
 use Rattle.patterns_book.specs.Matching.{Header}
-use Rattle.patterns_meaning.specs.Meaning.{makes, makes_by, of_one, of_three, of_two, result_kind}
-use Rattle.patterns_meaning.specs.Better.{AllBetter, AreOf, GivesNoLess, Monotone, compares, is_kind, is_poison_by_ones, is_signed_quotient, may_overflow, narrows, takes, takes_its}
+use Rattle.patterns_meaning.specs.Meaning.{makes_by, of_one, of_two, result_kind}
+use Rattle.patterns_meaning.specs.Better.{AllBetter, AreOf, Monotone, compares, is_kind, is_poison_by_ones, is_signed_quotient, narrows, takes, takes_its}
 use Rattle.patterns_meaning.proofs.Beginning.{one_known}
 use Rattle.patterns_meaning.proofs.Forms.{makes_is}
 use Rattle.patterns_meaning.proofs.OfKinds.{same_kinds}

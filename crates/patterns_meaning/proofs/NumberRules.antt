@@ -1,33 +1,23 @@
 -- The rules that give 0, and the one that gives a condition, keep modules ready, and what they compute.
-use Rattle.std.proofs.Common.{◌≡◌, ℕ, ◌<◌, ◌≤◌, ◌^◌, refl, ap, sym, ◌∙◌, subst, List, [], ◌∷◌, map, Bool, true, false, true≢false, ◌&&◌, not, eqb, eqb-true, Option, Some, None, slice_get, arith}
-use Rattle.std.specs.Prelude.{codes, nat_lt, ◌==◌, if◌then◌else◌}
+use Rattle.std.proofs.Common.{◌≡◌, ℕ, ◌<◌, ◌≤◌, ◌^◌, refl, ap, sym, ◌∙◌, subst, List, [], ◌∷◌, map, Bool, true, false, ◌&&◌, not, eqb, eqb-true, Option, Some, None, slice_get}
+use Rattle.std.specs.Prelude.{◌==◌, if◌then◌else◌}
 use Rattle.std.proofs.lemmas.Bool.{and_parts}
-use Rattle.std.proofs.lemmas.Bool.Decides.{nat_tests}
 use Rattle.std.proofs.lemmas.Nat.{pow_pos}
 use Rattle.std.proofs.lemmas.Option.{none-some, same_Some}
 use Rattle.ir_types.specs.declared.bits.BitsKind.{BitsKind}
-use Rattle.ir_types.specs.declared.bits.BitsKind.TheVariants as kind
-use Rattle.ir_types.specs.Bits.{is_bits, width_of}
-use Rattle.ir_types.specs.Reasons.{is_width}
-use Rattle.ir_types.specs.SameTypes.{same_type}
-use Rattle.ir_types.proofs.SameTerms.{type_is}
+use Rattle.ir_types.specs.Bits.{width_of}
 use Rattle.ir_types.specs.Terms.{TypeTerm}
 use Rattle.ir_tree.specs.declared.value.Value.{Value}
-use Rattle.ir_tree.specs.declared.value.Value.TheVariants.{Result}
-use Rattle.ir_tree.specs.declared.place.Place.{Place}
 use Rattle.ir_tree.specs.Tree.{head}
 use Rattle.ir_tree.specs.Uses.{same_value}
-use Rattle.ir_tree.specs.Meaning.{Operation}
 use Rattle.ir_tree.proofs.Replaced.{same_value_true}
-use Rattle.ir_tree_laws.specs.Values.{has_value}
 use Rattle.ir_event.specs.Modules.{Module}
 use Rattle.dialects_int.specs.declared.operations.Arithmetic.{Arithmetic}
 use Rattle.dialects_int.specs.declared.operations.Arithmetic.TheVariants as op
 use Rattle.dialects_int.specs.declared.operations.Rule.TheVariants as how
-use Rattle.dialects_int.specs.Arithmetic.{choice_of, value_of}
+use Rattle.dialects_int.specs.Arithmetic.{value_of}
 use Rattle.dialects_int.specs.Folds.{Known, kind_of, rule_of, rules, same_kind}
 use Rattle.dialects_int.proofs.PairLaws.{itself_cleared, itself_gone, nothing_left, nothing_left_unsigned}
-use Rattle.rewriter_machine.specs.Contents.{Edit}
 use Rattle.patterns_check.specs.Outcomes.{Outcome, divides, given, is_signed_remainder, is_some_number, judged, no_value, pair_outcome}
 use Rattle.patterns_check.specs.Checks.{refines}
 use Rattle.patterns_laws.specs.Keeps.{Each}
@@ -35,23 +25,21 @@ use Rattle.patterns_laws.specs.Words.{among, cancelling, remainders}
 use Rattle.patterns_laws.proofs.KnownFolds.{below, some_bits}
 use Rattle.patterns_base.specs.declared.rule.Rule.{Rule}
 use Rattle.patterns_base.specs.declared.rule.Rule.TheVariants.{CancelItself, ZeroRemainder}
-use Rattle.patterns_base.specs.Looks.{Two, is_number, known, two, when}
+use Rattle.patterns_base.specs.Looks.{is_number, known, when}
 use Rattle.patterns_base.specs.Makes.{give_constant}
-use Rattle.patterns_base.specs.Rewrites.{becomes, rewrite_of}
 use Rattle.patterns_base.specs.Rules.{rule}
 use Rattle.patterns_base.proofs.Dispatch.{of_among}
 use Rattle.patterns_base.proofs.Facts.{when_some}
 use Rattle.patterns_facts.specs.Accepted.{AreAccepted}
 use Rattle.patterns_facts.proofs.Shapes.{two_is}
-use Rattle.patterns_meaning.specs.Meaning.{Assignment, result_kind}
 use Rattle.patterns_meaning.specs.Better.{is_kind, is_kinded, kind_in, takes}
-use Rattle.patterns_meaning.specs.Keeping.{Computing, IsReady, KeepsComputing, KeepsReady}
+use Rattle.patterns_meaning.specs.Keeping.{IsReady, KeepsComputing, KeepsReady}
 use Rattle.patterns_meaning.proofs.Constants.{GivesNumber, number_improves, number_ready}
 use Rattle.patterns_meaning.proofs.Dropping.{kind_by, known_is, known_test, of_two_is, pair_refined}
-use Rattle.patterns_meaning.proofs.Firsts.{IsPair, poison_refined}
+use Rattle.patterns_meaning.proofs.Firsts.{poison_refined}
 use Rattle.patterns_meaning.proofs.Monotone.{none_made, same_refined}
-use Rattle.patterns_meaning.proofs.OfBits.{IsOfBits, are_bits}
-use Rattle.patterns_meaning.proofs.Ruled.{OfRule, Ruled, Site, of_rule, rule_kinds, ruled, site_of, value_bits}
+use Rattle.patterns_meaning.proofs.OfBits.{are_bits}
+use Rattle.patterns_meaning.proofs.Ruled.{Ruled, of_rule, rule_kinds, ruled, site_of, value_bits}
 use Rattle.patterns_meaning.proofs.Trees.{each_found}
 
 -- ---- operations that give 0

@@ -1,22 +1,18 @@
 -- The rules that give a value of before keep modules ready, and what they compute.
-use Rattle.std.proofs.Common.{◌≡◌, ℕ, List, [], ◌∷◌, Bool, ◌&&◌, Option, Some, inl, inr, subst, sym}
+use Rattle.std.proofs.Common.{◌≡◌, List, Bool, ◌&&◌, Some}
 use Rattle.std.specs.Prelude.{codes}
 use Rattle.std.proofs.lemmas.Option.{same_Some}
-use Rattle.ir_types.specs.SameTypes.{same_type}
 use Rattle.ir_tree.specs.declared.value.Value.{Value}
-use Rattle.ir_tree.specs.declared.place.Place.{Place}
 use Rattle.ir_tree.specs.Tree.{head}
 use Rattle.ir_tree.specs.Uses.{same_value}
 use Rattle.ir_tree.specs.Meaning.{Operation}
 use Rattle.dialects_int.specs.Arithmetic.{choice_of}
-use Rattle.dialects_int.specs.Folds.{Known}
 use Rattle.rewriter_machine.specs.Contents.{Edit}
 use Rattle.patterns_check.specs.Outcomes.{given}
 use Rattle.patterns_laws.specs.Words.{among, ignoring_one, ignoring_zero, keeping, named}
-use Rattle.patterns_laws.specs.Made.{i1}
 use Rattle.patterns_laws.proofs.KnownFolds.{given_some}
 use Rattle.patterns_base.specs.declared.rule.Rule.TheVariants.{ChooseKnown, ChooseSame, DropAllOnes, DropOne, DropZero, KeepItself}
-use Rattle.patterns_base.specs.Looks.{Three, Two, is_number, known, passes, two, when}
+use Rattle.patterns_base.specs.Looks.{Two, is_number, known, passes, two, when}
 use Rattle.patterns_base.specs.Folding.{is_all_ones}
 use Rattle.patterns_base.specs.Makes.{give}
 use Rattle.patterns_base.specs.Rules.{rule}

@@ -1,26 +1,20 @@
 -- What a rule makes by replacing an operation's result is well-formed, sorted, and of the kinds that are asked for.
-use Rattle.std.proofs.Common.{◌≡◌, ℕ, zero, suc, ◌+◌, ◌<◌, inl, inr, arith, refl, ap, sym, ◌∙◌, subst, List, [], ◌∷◌, ◌++◌, map, Bool, true, false, true≢false, ◌&&◌, Option, Some, None, slice_get}
+use Rattle.std.proofs.Common.{◌≡◌, ℕ, zero, suc, ◌+◌, ◌<◌, inl, inr, arith, refl, ap, sym, ◌∙◌, subst, List, [], ◌∷◌, ◌++◌, map, Bool, true, false, ◌&&◌, Option, Some, None, slice_get}
 use Rattle.std.specs.Prelude.{if◌then◌else◌, option_and_then}
 use Rattle.std.specs.List.{list_all}
-use Rattle.std.specs.Option.{option_eq}
 use Rattle.std.proofs.lemmas.Bool.{and_parts}
-use Rattle.std.proofs.lemmas.Option.{none-some, same_Some}
 use Rattle.ir_types.specs.declared.bits.BitsKind.{BitsKind}
 use Rattle.ir_types.specs.Terms.{TypeTerm, AttrTerm}
-use Rattle.ir_types.specs.SameTypes.{same_type}
 use Rattle.ir_types.specs.Bits.{width_of}
 use Rattle.ir_types.specs.Reasons.{is_width}
-use Rattle.ir_types.specs.Words.{is_isolated}
-use Rattle.ir_types.proofs.SameTerms.{type_is}
 use Rattle.ir_tree.specs.declared.value.Value.{Value}
 use Rattle.ir_tree.specs.declared.value.Value.TheVariants.{Result, Arg}
 use Rattle.ir_tree.specs.declared.place.Place.{Place}
 use Rattle.ir_tree.specs.Tree.{OpsOf, RegionOf, RegionsOf, block, empty, head, next, no_ops, no_regions, op, region, regions}
 use Rattle.ir_tree.specs.Edits.{put_value, put_values}
-use Rattle.ir_tree.specs.Ids.{HasDistinctIds, find}
+use Rattle.ir_tree.specs.Ids.{HasDistinctIds}
 use Rattle.ir_tree.specs.Limits.{every}
 use Rattle.ir_tree.specs.Uses.{same_value}
-use Rattle.ir_tree.specs.WellFormed.{IsWellFormed}
 use Rattle.ir_tree.specs.Meaning.{Operation, dictionaries_rise, key_before, rises}
 use Rattle.ir_tree.proofs.Replaced.{same_value_true}
 use Rattle.ir_tree_laws.specs.Members.{In}
@@ -30,19 +24,17 @@ use Rattle.ir_tree_laws.proofs.Listed.{all_each, each_all, in_left, in_right}
 use Rattle.ir_tree_laws.proofs.Members.{stand_found}
 use Rattle.ir_tree_laws.proofs.Readings.{stands_every}
 use Rattle.ir_tree_laws.proofs.Reasoned.{some_there}
-use Rattle.ir_event.specs.Modules.{Module}
 use Rattle.dialects_int.specs.declared.operations.Rule.{Rule as How}
 use Rattle.dialects_int.specs.declared.operations.Rule.TheVariants as how
 use Rattle.dialects_int.specs.Folds.{kind_of, rule_of}
 use Rattle.patterns_check.specs.Outcomes.{given}
 use Rattle.patterns_book.specs.Matching.{Header}
-use Rattle.patterns_meaning.specs.Meaning.{Assignment, Each, EachBlock, EachAmong, EachInRegion, EachInRegions, BlocksAmong, BlocksInRegion, BlocksInRegions, owner, result_kind}
+use Rattle.patterns_meaning.specs.Meaning.{Assignment, Each, EachBlock, BlocksAmong, BlocksInRegion, BlocksInRegions, owner, result_kind}
 use Rattle.patterns_meaning.specs.After.{OperandsStand, rewritten, with_made}
 use Rattle.patterns_meaning.specs.Applied.{IsBelow}
 use Rattle.patterns_meaning.specs.Better.{AreKinded, is_kinded, kind_in, takes, takes_its}
-use Rattle.patterns_meaning.proofs.Edited.{blocks_below, each_both, each_changed, each_put, each_without}
+use Rattle.patterns_meaning.proofs.Edited.{blocks_below, each_both}
 use Rattle.patterns_meaning.proofs.Formed.{each_stands}
-use Rattle.patterns_meaning.proofs.Giving.{all_hold}
 use Rattle.patterns_meaning.proofs.Rewritten.{AllBare, AllPut, all_blocks, all_put, given_blocks, given_each}
 use Rattle.patterns_meaning.proofs.Settling.{each_by_found}
 use Rattle.patterns_meaning.proofs.Trees.{ArgumentsAre, ResultsAre, each_found, typed_found, value_below}
@@ -137,7 +129,7 @@ kinds_are t d = record {
 abbrev pub Takes : (Value → Option BitsKind) → Header → Type 0
 Takes kinds h = takes_its (rule_of h.name) (result_kind h) h (map kinds h.operands) ≡ true
 
-same_takes : (h : Header) (y : ℕ) (vs : List Value) (js : List (Option BitsKind)) → takes_its (rule_of h.name) (result_kind h) (record h { id = y; operands = vs }) js ≡ takes_its (rule_of h.name) (result_kind h) h js
+pub same_takes : (h : Header) (y : ℕ) (vs : List Value) (js : List (Option BitsKind)) → takes_its (rule_of h.name) (result_kind h) (record h { id = y; operands = vs }) js ≡ takes_its (rule_of h.name) (result_kind h) h js
 same_takes h y vs js = go (rule_of h.name) (result_kind h) js
   where
     by : (r : How) (k : BitsKind) (js : List (Option BitsKind)) → takes r (record h { id = y; operands = vs }) k js ≡ takes r h k js
@@ -172,7 +164,7 @@ pub record NewKinds (kinds : Value → Option BitsKind) (n : ℕ) (made : List O
   pub results : AllPut (ResultsAre (HasKind kinds)) n made
   pub take : AllPut (Takes kinds) n made
 
-same_kinds_of : (f g : Value → Option BitsKind) (p : Value → Bool) → ((v : Value) → p v ≡ true → f v ≡ g v) → (vs : List Value) → list_all p vs ≡ true → map f vs ≡ map g vs
+pub same_kinds_of : (f g : Value → Option BitsKind) (p : Value → Bool) → ((v : Value) → p v ≡ true → f v ≡ g v) → (vs : List Value) → list_all p vs ≡ true → map f vs ≡ map g vs
 same_kinds_of f g p h [] e = refl
 same_kinds_of f g p h (v ∷ vs) e = let q = and_parts (p v) (list_all p vs) e in (λ i. h v q.0 i ∷ same_kinds_of f g p h vs q.1 i)
 

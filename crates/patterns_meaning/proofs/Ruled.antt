@@ -1,6 +1,6 @@
 -- What a rule's application at an operation says: its edits, its operation, and what that and its operands give.
-use Rattle.std.proofs.Common.{◌≡◌, ℕ, zero, suc, ◌+◌, ◌<◌, refl, ap, sym, ◌∙◌, subst, List, [], ◌∷◌, map, Bool, true, false, true≢false, ◌&&◌, Option, Some, None, ◌⊎◌, inl, inr, slice_get}
-use Rattle.std.specs.Prelude.{codes, nat_le, is_some, option_and_then, option_map, if◌then◌else◌}
+use Rattle.std.proofs.Common.{◌≡◌, ℕ, zero, suc, ◌+◌, ◌<◌, refl, ap, sym, ◌∙◌, subst, List, [], ◌∷◌, map, Bool, true, false, true≢false, ◌&&◌, Option, Some, None, inl, inr, slice_get}
+use Rattle.std.specs.Prelude.{codes, nat_le, is_some, option_and_then, if◌then◌else◌}
 use Rattle.std.specs.List.{list_all}
 use Rattle.std.proofs.lemmas.Bool.{and_parts}
 use Rattle.std.proofs.lemmas.Option.{none-some, same_Some}
@@ -41,8 +41,7 @@ use Rattle.patterns_base.specs.Rules.{rule}
 use Rattle.patterns_base.proofs.Facts.{edits_are, rewrite_is, when_some}
 use Rattle.patterns_facts.specs.Accepted.{AreAccepted}
 use Rattle.patterns_book.specs.Matching.{Header}
-use Rattle.patterns_meaning.specs.Meaning.{Assignment, Breaks, Each, Fits, is_arithmetic, makes, makes_by, owner, result_kind}
-use Rattle.patterns_meaning.specs.After.{OperandsStand}
+use Rattle.patterns_meaning.specs.Meaning.{Assignment, is_arithmetic, makes_by, result_kind}
 use Rattle.patterns_meaning.specs.Applied.{IsBelow}
 use Rattle.patterns_meaning.specs.Better.{AreKinded, is_kinded, kind_in, takes, takes_its}
 use Rattle.patterns_meaning.specs.Keeping.{Computing, IsFed, is_there}

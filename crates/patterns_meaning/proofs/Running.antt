@@ -1,13 +1,10 @@
 -- Runs of rules that keep what is computed keep it.
-use Rattle.std.proofs.Common.{◌≡◌, ℕ, zero, suc, ◌+◌, ◌<◌, ◌≤◌, refl, ap, sym, ◌∙◌, subst, List, [], ◌∷◌, length, Bool, true, false, Some, arith}
-use Rattle.ir_tree.specs.declared.value.Value.{Value}
-use Rattle.ir_tree.specs.Ids.{op_count}
+use Rattle.std.proofs.Common.{◌≡◌, ℕ, zero, suc, ◌≤◌, refl, ◌∙◌, subst, List, [], ◌∷◌, arith}
 use Rattle.ir_event.specs.Modules.{Module}
 use Rattle.rewriter_machine.specs.Contents.{Edit, all_edited, edited}
 use Rattle.rewriter_machine.specs.Edits.{DropAttr, Erase, Insert, Make, Move, Replace, SetAttr, SetOperand, next_edited}
 use Rattle.patterns_base.specs.declared.rule.Rule.{Rule}
 use Rattle.patterns_base.specs.Rewrites.{becomes, rewrite_of}
-use Rattle.patterns_facts.specs.Accepted.{AreAccepted}
 use Rattle.patterns_meaning.specs.Keeping.{IsReady, done_after}
 use Rattle.patterns_meaning.specs.Runs.{ComputesThrough, RunsKeep}
 use Rattle.patterns_meaning.proofs.Giving.{after_old}

@@ -1,11 +1,10 @@
 -- Where each operation of a tree makes what it gives or better, there are outcomes that fit: as long as one gives poison
 -- and makes a value, it gives the value from then on.
 use Rattle.std.proofs.Common.{◌≡◌, ℕ, zero, suc, ◌+◌, ◌≤◌, refl, ap, sym, ◌∙◌, subst, List, [], ◌∷◌, map, Bool, true, false, true≢false, ◌&&◌, eqb, eqb-true, eq-eqb, Option, Some, None, slice_get, ◌⊎◌, inl, inr, arith}
-use Rattle.std.specs.Prelude.{if◌then◌else◌, ◌==◌, option_and_then, is_some}
+use Rattle.std.specs.Prelude.{if◌then◌else◌, option_and_then, is_some}
 use Rattle.std.specs.List.{list_any}
 use Rattle.std.proofs.lemmas.Option.{none-some, same_Some}
-use Rattle.ir_types.specs.declared.bits.BitsKind.{BitsKind}
-use Rattle.ir_types.specs.Bits.{is_bits, width_of}
+use Rattle.ir_types.specs.Bits.{is_bits}
 use Rattle.ir_types.specs.Terms.{TypeTerm}
 use Rattle.ir_tree.specs.declared.value.Value.{Value}
 use Rattle.ir_tree.specs.declared.value.Value.TheVariants.{Result, Arg}
@@ -20,14 +19,13 @@ use Rattle.ir_tree_laws.proofs.Members.{stand_found}
 use Rattle.dialects_int.specs.declared.operations.Arithmetic.TheVariants as op
 use Rattle.dialects_int.specs.declared.operations.Rule.{Rule}
 use Rattle.dialects_int.specs.declared.operations.Rule.TheVariants as rule
-use Rattle.dialects_int.specs.Arithmetic.{all_ones}
 use Rattle.dialects_int.specs.Folds.{Known, kind_of, rule_of}
 use Rattle.patterns_check.specs.Checks.{refines}
 use Rattle.patterns_check.specs.Outcomes.{Outcome, given, pair_outcome}
 use Rattle.patterns_laws.proofs.KnownFolds.{given_some}
 use Rattle.patterns_book.specs.Matching.{Header}
-use Rattle.patterns_meaning.specs.Meaning.{AreOfTypes, ArgumentsOfTypes, Assignment, Breaks, Each, EachBlock, Fits, FitsDone, IsOfType, ResultsOfTypes, has_flags, is_arithmetic, makes, makes_by, of_two, result_kind}
-use Rattle.patterns_meaning.specs.Better.{AllBetter, AllSure, AreKinded, AreOf, GivesLess, GivesNoLess, IsSure, Settled, Settles, is_kinded, is_poison_by_ones, is_signed_quotient, kind_in, may_overflow}
+use Rattle.patterns_meaning.specs.Meaning.{ArgumentsOfTypes, Assignment, Breaks, Each, EachBlock, Fits, FitsDone, IsOfType, ResultsOfTypes, has_flags, is_arithmetic, makes, makes_by, of_two, result_kind}
+use Rattle.patterns_meaning.specs.Better.{AllBetter, AreOf, GivesLess, GivesNoLess, IsSure, Settles, is_kinded, is_poison_by_ones, is_signed_quotient, kind_in, may_overflow}
 use Rattle.patterns_meaning.proofs.Formed.{each_stands}
 use Rattle.patterns_meaning.proofs.Trees.{TypesFound, each_found, types_found}
 use Rattle.patterns_meaning.proofs.OfBits.{IsOfBits}

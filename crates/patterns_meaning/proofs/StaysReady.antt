@@ -1,5 +1,5 @@
 -- A rule that replaces an operation's result keeps a module ready.
-use Rattle.std.proofs.Common.{◌≡◌, ℕ, ◌+◌, ◌<◌, refl, ap, sym, ◌∙◌, subst, List, [], ◌∷◌, ◌++◌, map, Bool, true, false, true≢false, Option, Some, None}
+use Rattle.std.proofs.Common.{◌≡◌, ℕ, ◌+◌, ◌<◌, refl, ap, sym, ◌∙◌, subst, List, [], ◌∷◌, ◌++◌, map, true, true≢false, Option, Some, None}
 use Rattle.std.specs.Prelude.{is_some}
 use Rattle.std.specs.Option.{option_eq}
 use Rattle.ir_types.specs.declared.bits.BitsKind.{BitsKind}
@@ -11,11 +11,10 @@ use Rattle.ir_tree.specs.declared.value.Value.{Value}
 use Rattle.ir_tree.specs.declared.value.Value.TheVariants.{Result}
 use Rattle.ir_tree.specs.declared.place.Place.{Place}
 use Rattle.ir_tree.specs.Tree.{head}
-use Rattle.ir_tree.specs.Ids.{HasDistinctIds}
 use Rattle.ir_tree.specs.WellFormed.{IsWellFormed}
 use Rattle.ir_tree.specs.Meaning.{Operation}
 use Rattle.ir_tree_laws.specs.Reasons.{with_id}
-use Rattle.ir_tree_laws.specs.Values.{has_value, type_of_value}
+use Rattle.ir_tree_laws.specs.Values.{type_of_value}
 use Rattle.ir_tree.specs.Places.{put}
 use Rattle.ir_event.specs.Modules.{Module}
 use Rattle.dialects_int.specs.Folds.{kind_of}
@@ -25,7 +24,6 @@ use Rattle.patterns_check.specs.Outcomes.{given}
 use Rattle.patterns_edits.specs.Lists.{Free}
 use Rattle.patterns_base.specs.Makes.{give}
 use Rattle.patterns_base.specs.declared.rule.Rule.{Rule}
-use Rattle.patterns_base.specs.Rewrites.{becomes, rewrite_of}
 use Rattle.patterns_base.specs.Rules.{rule}
 use Rattle.patterns_facts.specs.Accepted.{AreAccepted}
 use Rattle.patterns_meaning.specs.Meaning.{Each, owner}
@@ -38,7 +36,7 @@ use Rattle.patterns_meaning.proofs.EditsForm.{all_formed, made_plain, replaced_p
 use Rattle.patterns_meaning.proofs.Formed.{is_below, operands_stand}
 use Rattle.patterns_meaning.proofs.Readied.{NewKinds, Rises, after_kinded, all_rise, each_rises, kinds_found, made_kinds}
 use Rattle.patterns_meaning.proofs.Rewritten.{AllBare, AllPut, all_put, given_each}
-use Rattle.patterns_meaning.proofs.Ruled.{Ruled, ruled}
+use Rattle.patterns_meaning.proofs.Ruled.{ruled}
 
 -- ---- the value that is given is of the type of what it is given for
 before_replaced : (front : Place) (os : List Operation) (x next : ℕ) (v : Value) (m : Module) → Free (map (λ o. Make front o) os ++ give x v) m → edit_reason (Replace (Result x 0) v) (record { tree = with_made front m.next os m.tree; next = next }) ≡ None

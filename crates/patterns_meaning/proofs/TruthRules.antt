@@ -1,6 +1,6 @@
 -- The rules that give a truth value keep modules ready, and what they compute.
-use Rattle.std.proofs.Common.{◌≡◌, ℕ, zero, suc, ◌<◌, ◌^◌, refl, ap, sym, ◌∙◌, subst, List, [], ◌∷◌, map, Bool, true, false, true≢false, ◌&&◌, ◌||◌, eqb, eqb-true, Option, Some, None, slice_get, inl, inr, arith}
-use Rattle.std.specs.Prelude.{codes, option_map, ◌==◌, if◌then◌else◌}
+use Rattle.std.proofs.Common.{◌≡◌, ℕ, zero, suc, refl, ap, sym, ◌∙◌, subst, [], ◌∷◌, map, Bool, true, false, true≢false, ◌&&◌, ◌||◌, eqb, eqb-true, Option, Some, None, slice_get, inl, inr}
+use Rattle.std.specs.Prelude.{codes, option_map, if◌then◌else◌}
 use Rattle.std.specs.List.{list_any}
 use Rattle.std.proofs.lemmas.Bool.{and_parts, or_cases}
 use Rattle.std.proofs.lemmas.Option.{none-some, same_Some}
@@ -29,23 +29,22 @@ use Rattle.patterns_laws.specs.Words.{named}
 use Rattle.patterns_laws.proofs.KnownFolds.{given_some}
 use Rattle.patterns_base.specs.declared.rule.Rule.{Rule}
 use Rattle.patterns_base.specs.declared.rule.Rule.TheVariants.{CompareItself, CompareZero}
-use Rattle.patterns_base.specs.Looks.{Two, is_number, known, predicate, two, when}
+use Rattle.patterns_base.specs.Looks.{is_number, known, predicate, two, when}
 use Rattle.patterns_base.specs.Makes.{give_constant}
 use Rattle.patterns_base.specs.Rules.{rule}
 use Rattle.patterns_base.proofs.Facts.{when_some}
 use Rattle.patterns_facts.specs.Accepted.{AreAccepted}
 use Rattle.patterns_facts.proofs.Shapes.{two_is}
-use Rattle.patterns_book.specs.Matching.{Header}
-use Rattle.patterns_meaning.specs.Meaning.{Assignment, of_two, result_kind}
+use Rattle.patterns_meaning.specs.Meaning.{Assignment, of_two}
 use Rattle.patterns_meaning.specs.Better.{compares, is_kind, is_kinded, kind_in, takes}
-use Rattle.patterns_meaning.specs.Keeping.{Computing, IsReady, KeepsComputing, KeepsReady}
+use Rattle.patterns_meaning.specs.Keeping.{IsReady, KeepsComputing, KeepsReady}
 use Rattle.patterns_meaning.proofs.Constants.{GivesNumber, number_improves, number_ready}
 use Rattle.patterns_meaning.proofs.Dropping.{known_is, known_test, of_two_is}
 use Rattle.patterns_meaning.proofs.Firsts.{poison_refined}
 use Rattle.patterns_meaning.proofs.Forms.{named_is}
 use Rattle.patterns_meaning.proofs.Monotone.{same_refined}
 use Rattle.patterns_meaning.proofs.OfKinds.{same_kinds}
-use Rattle.patterns_meaning.proofs.Ruled.{OfRule, Ruled, Site, gives_refined, of_rule, rule_kinds, ruled, site_of}
+use Rattle.patterns_meaning.proofs.Ruled.{Ruled, Site, gives_refined, of_rule, rule_kinds, ruled, site_of}
 use Rattle.patterns_meaning.proofs.Trees.{each_found}
 
 by_compare : rule_of (codes "arith.cmpi") ≡ Some how.Compare

@@ -1,5 +1,5 @@
 -- Outcomes that are the same or better, and what has to be so that an operation gives no less for them.
-use Rattle.std.specs.Prelude.{◌≡◌, ◌<◌, ℕ, ◌==◌, nat_lt, List, [], ◌∷◌, map, Bool, true, false, ◌&&◌, Option, Some, None, is_some}
+use Rattle.std.specs.Prelude.{◌≡◌, ◌<◌, ℕ, ◌==◌, nat_lt, List, [], ◌∷◌, map, Bool, true, false, ◌&&◌, Option, Some, None}
 use Rattle.ir_types.specs.declared.bits.BitsKind.{BitsKind}
 use Rattle.ir_types.specs.declared.bits.BitsKind.TheVariants as kind
 use Rattle.ir_types.specs.Bits.{is_bits, width_of}
@@ -19,7 +19,7 @@ use Rattle.dialects_int.specs.Folds.{Known, fold_of, kind_of, rule_of, same_kind
 use Rattle.patterns_check.specs.Checks.{refines}
 use Rattle.patterns_check.specs.Outcomes.{Outcome, given}
 use Rattle.patterns_book.specs.Matching.{Header}
-use Rattle.patterns_meaning.specs.Meaning.{AreOfTypes, Assignment, Each, FitsAll, is_arithmetic, makes, makes_by, owner, result_kind}
+use Rattle.patterns_meaning.specs.Meaning.{AreOfTypes, Assignment, Each, FitsAll, is_arithmetic, makes, owner, result_kind}
 
 -- outcomes are the same, or better where the old ones were poison: at the values of operations below an id
 abbrev pub Better : ℕ → Assignment → Assignment → Type 0

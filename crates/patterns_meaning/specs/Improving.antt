@@ -1,6 +1,6 @@
 -- The module after a pattern of one's own is applied, also where what its root computed was poison: what comes of it may
 -- be known then, and so may be what its users compute.
-use Rattle.std.specs.Prelude.{◌≡◌, ℕ, List, Bool, true, false, not}
+use Rattle.std.specs.Prelude.{◌≡◌, ℕ, Bool, true, false, not}
 use Rattle.std.specs.List.{list_all}
 use Rattle.ir_types.specs.Words.{is_isolated}
 use Rattle.ir_tree.specs.WellFormed.{IsWellFormed}

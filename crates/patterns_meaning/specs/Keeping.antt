@@ -1,5 +1,5 @@
 -- Rules of rewriting keep what a module computes, or make it better: at an operation, and so for a whole run.
-use Rattle.std.specs.Prelude.{◌≡◌, ◌<◌, ℕ, nat_lt, List, Bool, true, if◌then◌else◌}
+use Rattle.std.specs.Prelude.{◌≡◌, ℕ, nat_lt, Bool, true, if◌then◌else◌}
 use Rattle.std.specs.List.{list_all}
 use Rattle.ir_types.specs.Words.{is_isolated}
 use Rattle.ir_tree.specs.declared.value.Value.{Value}

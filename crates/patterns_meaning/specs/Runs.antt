@@ -5,7 +5,8 @@ use Rattle.ir_event.specs.Modules.{Module}
 use Rattle.patterns_base.specs.declared.rule.Rule.{Rule}
 use Rattle.patterns_base.specs.declared.rule.Rule.TheVariants.{CancelItself, ChooseKnown, ChooseSame, ChooseTruth}
 use Rattle.patterns_base.specs.declared.rule.Rule.TheVariants.{CompareItself, CompareZero, DropAllOnes}
-use Rattle.patterns_base.specs.declared.rule.Rule.TheVariants.{DropOne, DropZero, KeepItself, ZeroRemainder}
+use Rattle.patterns_base.specs.declared.rule.Rule.TheVariants.{DropOne, DropZero, KeepItself, SwapConstant}
+use Rattle.patterns_base.specs.declared.rule.Rule.TheVariants.{ZeroRemainder}
 use Rattle.patterns_base.specs.Rewrites.{becomes, rewrite_of}
 use Rattle.patterns_base.specs.Canonicalization.{End, ended}
 use Rattle.greedy.specs.Rewriting.{rewriting_of}
@@ -25,8 +26,8 @@ AllKeep rs = (r : Rule) → In r rs → KeepsReady r × KeepsComputing r
 -- rules of which it is shown
 abbrev pub kept_rules : List Rule
 kept_rules =
-    DropZero ∷ DropOne ∷ DropAllOnes ∷ CancelItself ∷ KeepItself ∷ ZeroRemainder ∷ CompareItself ∷ CompareZero ∷ ChooseSame
-    ∷ ChooseKnown ∷ ChooseTruth ∷ []
+    SwapConstant ∷ DropZero ∷ DropOne ∷ DropAllOnes ∷ CancelItself ∷ KeepItself ∷ ZeroRemainder ∷ CompareItself ∷ CompareZero
+    ∷ ChooseSame ∷ ChooseKnown ∷ ChooseTruth ∷ []
 
 -- it is so of them, and of each list of some of them
 abbrev pub KeptAreKept : Type 0

@@ -1,14 +1,22 @@
-//! Rules of rewriting keep what a module computes, or make it better, also where it is poison: each at an operation, and
-//! so whole runs of them. Each is shown to keep modules ready too: well-formed, sorted, and of the kinds that are asked
-//! for.
+//! Rules of rewriting keep what a module computes, or make it better, also where it is poison: each at an operation,
+//! and so whole runs of them. Each is shown to keep modules ready too: well-formed, sorted, and of the kinds that are
+//! asked for.
 ghost use Rattle.patterns_base.specs.declared.rule.Rule.TheVariants.{CancelItself, ChooseKnown, ChooseSame};
 ghost use Rattle.patterns_base.specs.declared.rule.Rule.TheVariants.{ChooseTruth, CompareItself, CompareZero};
 ghost use Rattle.patterns_base.specs.declared.rule.Rule.TheVariants.{DropAllOnes, DropOne, DropZero, KeepItself};
-ghost use Rattle.patterns_base.specs.declared.rule.Rule.TheVariants.{ZeroRemainder};
+ghost use Rattle.patterns_base.specs.declared.rule.Rule.TheVariants.{SwapConstant, ZeroRemainder};
 ghost use Rattle.patterns_meaning.specs.Keeping.{KeepsComputing, KeepsReady};
 ghost use Rattle.patterns_meaning.specs.Runs.{KeptAreKept, RewritingKeeps, RunsKeep};
 
 use patterns_facts::laws::no_edit_is_refused;
+
+/// A constant first operand of a commutative operation goes second.
+pub fn swap_constant()
+    ensures ready { KeepsReady SwapConstant }
+    ensures computing { KeepsComputing SwapConstant }
+{
+    no_edit_is_refused();
+}
 
 /// `addi(a, 0)` and its like become a.
 pub fn drop_zero()
