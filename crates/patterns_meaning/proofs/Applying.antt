@@ -34,7 +34,7 @@ use Rattle.patterns_meaning.proofs.Formed.{is_below, operands_stand}
 use Rattle.patterns_meaning.proofs.Rewritten.{rewritten_computes}
 
 -- ---- what edits leave
-all_edited_made : (front : Place) (os : List Operation) (x : ℕ) (v : Value) (m : Module) → (all_edited (map (λ o. Make front o) os ++ give x v) m).tree ≡ rewritten front m.next os x v m.tree
+pub all_edited_made : (front : Place) (os : List Operation) (x : ℕ) (v : Value) (m : Module) → (all_edited (map (λ o. Make front o) os ++ give x v) m).tree ≡ rewritten front m.next os x v m.tree
 all_edited_made front [] x v m = refl
 all_edited_made front (o ∷ os) x v m = all_edited_made front os x v (record { tree = with_made front m.next (o ∷ []) m.tree; next = m.next + 1 })
 
@@ -43,11 +43,14 @@ looks_when true r y e = e
 looks_when false r y e = absurd (none-some y e)
 
 module _ (p : Shape) (m n : Module) (x : ℕ) where
-  record Applies : Type 0 where
+  pub record Applies : Type 0 where
     pub front : Place
     pub made : List Operation
     pub value : Value
     pub plan : planned m.tree (is_clean m.tree) m.next p x ≡ Some (made, value)
+    pub edits : own_edits p m x ≡ Some (map (λ o. Make front o) made ++ give x value)
+    pub becomes_it : carried_out (map (λ o. Make front o) made ++ give x value) m ≡ becomes n
+    pub module_is : all_edited (map (λ o. Make front o) made ++ give x value) m ≡ n
     pub is : n.tree ≡ rewritten front m.next made x value m.tree
 
   some_edits : (r : Option (List Edit)) → rewrite_by r m ≡ becomes n → (es : List Edit) × (r ≡ Some es) × (carried_out es m ≡ becomes n)
@@ -89,7 +92,7 @@ module _ (p : Shape) (m n : Module) (x : ℕ) where
       let s = when_is (is_makeable p) (planned m.tree (is_clean m.tree) m.next p x) q.0 q.1 in
       (h.0, q.0, s.1, q.2)
 
-  applies : own_rewrite p m x ≡ becomes n → Applies
+  pub applies : own_rewrite p m x ≡ becomes n → Applies
   unfolding own_rewrite
   applies e =
       let r = some_edits (own_edits p m x) e in
@@ -99,6 +102,9 @@ module _ (p : Shape) (m n : Module) (x : ℕ) where
         made = q.1.0;
         value = q.1.1;
         plan = q.2;
+        edits = r.1 ∙ ap (λ es. Some es) (sym q.3);
+        becomes_it = subst (λ es. carried_out es m ≡ becomes n) (sym q.3) r.2;
+        module_is = subst (λ es. all_edited es m ≡ n) (sym q.3) (carried r.0 r.2);
         is = ap (λ (m : Module). m.tree) (sym (carried r.0 r.2) ∙ ap (λ es. all_edited es m) (sym q.3)) ∙ all_edited_made q.0 q.1.0 x q.1.1 m;
       }
 

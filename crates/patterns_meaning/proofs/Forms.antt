@@ -144,7 +144,7 @@ form_makes a env h k f n e g q s =
     makes_is h (map a h.operands) (rule_for f) k (ap rule_of e ∙ form_rule f n) g ∙ by_step a env h k h.operands f q s
 
 -- a fold is of its result's kind
-fold_kind : (name : List ℕ) (props : List (List ℕ × AttrTerm)) (operands : List (Option Known)) (results : List TypeTerm) (x : Known) → fold_of name props operands results ≡ Some x → given (slice_get results 0) kind_of ≡ Some x.0
+pub fold_kind : (name : List ℕ) (props : List (List ℕ × AttrTerm)) (operands : List (Option Known)) (results : List TypeTerm) (x : Known) → fold_of name props operands results ≡ Some x → given (slice_get results 0) kind_of ≡ Some x.0
 unfolding fold_of
 fold_kind name props operands [] x e = absurd (none-some x e)
 fold_kind name props operands (ty ∷ uy ∷ tys) x e = absurd (none-some x e)

@@ -91,7 +91,7 @@ made_asks (form.Select c i j) = tt
 made_asks (form.Resize c i) = tt
 made_asks (form.IndexCast c i) = tt
 
-type_is_of : (ty : TypeTerm) (k : BitsKind) → kind_of ty ≡ Some k → ty ≡ type_of k
+pub type_is_of : (ty : TypeTerm) (k : BitsKind) → kind_of ty ≡ Some k → ty ≡ type_of k
 type_is_of (term.Integer sign.Signless w) k e = ap type_of (same_Some _ _ e)
 type_is_of (term.Integer sign.Signed w) k e = absurd (none-some k e)
 type_is_of (term.Integer sign.Unsigned w) k e = absurd (none-some k e)
@@ -100,7 +100,7 @@ type_is_of (term.Function is os) k e = absurd (none-some k e)
 type_is_of (term.Memref ds ty) k e = absurd (none-some k e)
 type_is_of (term.OpaqueType s) k e = absurd (none-some k e)
 
-constant_makes : (ty : TypeTerm) (k : BitsKind) (n : ℕ) → kind_of ty ≡ Some k → makes (head (constant ty n)) [] ≡ Some (Some (k, n))
+pub constant_makes : (ty : TypeTerm) (k : BitsKind) (n : ℕ) → kind_of ty ≡ Some k → makes (head (constant ty n)) [] ≡ Some (Some (k, n))
 constant_makes ty k n e =
     makes_is (head (constant ty n)) [] rule.Constant k by_constant e
     ∙ given_at (fold_of (codes "arith.constant") (head (constant ty n)).properties [] (ty ∷ [])) (k, n) (λ x. Some (Some x)) (Some (Some (k, n)))

@@ -134,7 +134,7 @@ judged_bits o k a b h l None r z e = go (is_signed_remainder o && not (b == 0)) 
     go true e = known_is (k, 0) z (are_bits k 0 (bits_parts k a h).0 (pow_pos (width_of k))) e
     go false e = if_poison (divides o) z e
 
-pair_bits : (o : Arithmetic) (x y z : Outcome) → IsOfBits x → IsOfBits y → pair_outcome o x y ≡ Some z → IsOfBits z
+pub pair_bits : (o : Arithmetic) (x y z : Outcome) → IsOfBits x → IsOfBits y → pair_outcome o x y ≡ Some z → IsOfBits z
 pair_bits o (Some x) (Some y) z h g e = go (same_kind x.0 y.0) refl e
   where
     same : (j k : BitsKind) → same_kind j k ≡ true → width_of j ≡ width_of k
@@ -149,7 +149,7 @@ pair_bits o (Some x) (Some y) z h g e = go (same_kind x.0 y.0) refl e
 pair_bits o (Some x) None z h g e = if_poison (divides o) z e
 pair_bits o None y z h g e = if_poison (divides o && not (is_some_number y)) z e
 
-compare_bits : (p : Predicate) (x y z : Outcome) → compare_outcome p x y ≡ Some z → IsOfBits z
+pub compare_bits : (p : Predicate) (x y z : Outcome) → compare_outcome p x y ≡ Some z → IsOfBits z
 compare_bits p (Some x) (Some y) z e = go (same_kind x.0 y.0) e
   where
     truths : (b : Bool) → is_bits (kind.Int 1) (truth b) ≡ true
@@ -162,7 +162,7 @@ compare_bits p (Some x) (Some y) z e = go (same_kind x.0 y.0) e
 compare_bits p (Some x) None z e = poison z e
 compare_bits p None y z e = poison z e
 
-select_bits : (c x y z : Outcome) → IsOfBits x → IsOfBits y → select_outcome c x y ≡ Some z → IsOfBits z
+pub select_bits : (c x y z : Outcome) → IsOfBits x → IsOfBits y → select_outcome c x y ≡ Some z → IsOfBits z
 select_bits None x y z h g e = poison z e
 select_bits (Some c) x y z h g e = go (same_kind c.0 (kind.Int 1)) e
   where
@@ -174,7 +174,7 @@ select_bits (Some c) x y z h g e = go (same_kind c.0 (kind.Int 1)) e
     go true e = chosen (c.1 == 0) e
     go false e = absurd (none-some z e)
 
-resize_bits : (c : Cast) (k : BitsKind) (x z : Outcome) → resize_outcome c k x ≡ Some z → IsOfBits z
+pub resize_bits : (c : Cast) (k : BitsKind) (x z : Outcome) → resize_outcome c k x ≡ Some z → IsOfBits z
 resize_bits c k x z e = go (is_width (width_of k)) refl e
   where
     any : (x : Outcome) → is_width (width_of k) ≡ true → resize_any c k x ≡ Some z → IsOfBits z

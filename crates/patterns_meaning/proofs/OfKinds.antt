@@ -79,7 +79,7 @@ judged_kind o k b None z e = go (is_signed_remainder o && not (b == 0)) e
     go true e = known_is k 0 z e
     go false e = if_poison k (divides o) z e
 
-pair_kind : (o : Arithmetic) (k : BitsKind) (x y z : Outcome) → IsKind k x → pair_outcome o x y ≡ Some z → IsKind k z
+pub pair_kind : (o : Arithmetic) (k : BitsKind) (x y z : Outcome) → IsKind k x → pair_outcome o x y ≡ Some z → IsKind k z
 pair_kind o k (Some x) (Some y) z h e = go (same_kind x.0 y.0) e
   where
     go : (c : Bool) → (if c then judged o x.0 y.1 (value_of o (width_of x.0) x.1 y.1) else None) ≡ Some z → IsKind k z
@@ -88,7 +88,7 @@ pair_kind o k (Some x) (Some y) z h e = go (same_kind x.0 y.0) e
 pair_kind o k (Some x) None z h e = if_poison k (divides o) z e
 pair_kind o k None y z h e = if_poison k (divides o && not (is_some_number y)) z e
 
-compare_kind : (p : Predicate) (x y z : Outcome) → compare_outcome p x y ≡ Some z → IsKind (kind.Int 1) z
+pub compare_kind : (p : Predicate) (x y z : Outcome) → compare_outcome p x y ≡ Some z → IsKind (kind.Int 1) z
 compare_kind p (Some x) (Some y) z e = go (same_kind x.0 y.0) e
   where
     go : (c : Bool) → (if c then Some (Some (kind.Int 1, truth (comparison_of (width_of x.0) p x.1 y.1))) else None) ≡ Some z → IsKind (kind.Int 1) z
@@ -142,7 +142,7 @@ module _ (es : List BitsKind) (env : List Outcome) (h : OfKinds es env) where
   number_one ks (number.Require i) z e = let g = given_some (slice_get env i) required z e in required_kind (kind_at es i) g.0 z (at_kind i g.0 g.1) g.2
 
   -- what is made is of its result's kind
-  select_kind : (k : BitsKind) (c x y z : Outcome) → IsKind k x → IsKind k y → select_outcome c x y ≡ Some z → IsKind k z
+  pub select_kind : (k : BitsKind) (c x y z : Outcome) → IsKind k x → IsKind k y → select_outcome c x y ≡ Some z → IsKind k z
   select_kind k None x y z hx hy e = poison k z e
   select_kind k (Some c) x y z hx hy e = go (same_kind c.0 (kind.Int 1)) e
     where
@@ -154,7 +154,7 @@ module _ (es : List BitsKind) (env : List Outcome) (h : OfKinds es env) where
       go true e = chosen (c.1 == 0) e
       go false e = absurd (none-some z e)
 
-  resize_kind : (c : Cast) (k : BitsKind) (x z : Outcome) → resize_outcome c k x ≡ Some z → IsKind k z
+  pub resize_kind : (c : Cast) (k : BitsKind) (x z : Outcome) → resize_outcome c k x ≡ Some z → IsKind k z
   resize_kind c k x z e = go (is_width (width_of k)) e
     where
       any : (x : Outcome) → resize_any c k x ≡ Some z → IsKind k z

@@ -40,7 +40,7 @@ use Rattle.patterns_meaning.proofs.News.{more_made}
 use Rattle.patterns_meaning.proofs.Edited.{blocks_below, blocks_changed, blocks_put, blocks_without, each_both, each_changed, each_put, each_without}
 
 -- ---- what an operation makes hangs on its name, its properties and its results alone
-same_makes : (h : Header) (y : ℕ) (vs : List Value) (xs : List Outcome) → makes (record h { id = y; operands = vs }) xs ≡ makes h xs
+pub same_makes : (h : Header) (y : ℕ) (vs : List Value) (xs : List Outcome) → makes (record h { id = y; operands = vs }) xs ≡ makes h xs
 same_makes h y vs xs = go (rule_of h.name) (result_kind h)
   where
     by : (r : Rule) (k : BitsKind) → makes_by r (record h { id = y; operands = vs }) k xs ≡ makes_by r h k xs
@@ -57,7 +57,7 @@ same_makes h y vs xs = go (rule_of h.name) (result_kind h)
     go (Some r) (Some k) = by r k
 
 -- ---- operations that are made have no regions
-abbrev AllBare : List Operation → Type 0
+abbrev pub AllBare : List Operation → Type 0
 AllBare [] = Unit {0}
 AllBare (o ∷ os) = (regions o ≡ no_regions) × AllBare os
 
@@ -72,7 +72,7 @@ module _ (ts : Standing TypeTerm) (env : List Outcome) where
       let l = given_some (standing t ts) (λ term. Some (constant term g.0.1)) o g.2 in
       ap (λ (o : Operation). regions o) (sym (same_Some _ _ l.2))
 
-  all_bare : (n k : ℕ) (ws : List New) (b d : Standing Value) (os : List Operation) → all_made ts env n k ws b ≡ Some (os, d) → AllBare os
+  pub all_bare : (n k : ℕ) (ws : List New) (b d : Standing Value) (os : List Operation) → all_made ts env n k ws b ≡ Some (os, d) → AllBare os
   all_bare n k [] b d os e = let s : ([], b) ≡ (os, d) = same_Some _ _ e in subst AllBare (ap (λ (r : List Operation × Standing Value). r.0) s) tt
   all_bare n k (w ∷ ws) b d os e =
       let g = given_some (made_as b ts env w) (λ o. given (bound same_value k (Result n 0) b) (λ c. option_map (λ (r : List Operation × Standing Value). (o ∷ r.0, r.1)) (all_made ts env (n + 1) (k + 1) ws c))) (os, d) e in
@@ -82,14 +82,14 @@ module _ (ts : Standing TypeTerm) (env : List Outcome) where
 
 -- ---- the tree with what is made
 module _ (P : Header → Type 0) where
-  abbrev AllPut : ℕ → List Operation → Type 0
+  abbrev pub AllPut : ℕ → List Operation → Type 0
   AllPut m [] = Unit {0}
   AllPut m (o ∷ os) = P (record (head o) { id = m }) × AllPut (m + 1) os
 
   one_put : (m : ℕ) (o : Operation) → P (record (head o) { id = m }) → regions o ≡ no_regions → Each P (with_id m o)
   one_put m (op h rs) p e = (p, subst (λ rs. EachInRegions P rs) (sym e) tt)
 
-  all_put : (front : Place) (m : ℕ) (os : List Operation) (t : Operation) → AllPut m os → AllBare os → Each P t → Each P (with_made front m os t)
+  pub all_put : (front : Place) (m : ℕ) (os : List Operation) (t : Operation) → AllPut m os → AllBare os → Each P t → Each P (with_made front m os t)
   all_put front m [] t p bare s = s
   all_put front m (o ∷ os) t p bare s = all_put front (m + 1) os (put front (with_id m o) t) p.1 bare.1 (each_put P front (with_id m o) (one_put m o p.0 bare.0) t s)
 
@@ -97,7 +97,7 @@ module _ (Q : ℕ → ℕ → List TypeTerm → Type 0) where
   one_blocks : (m : ℕ) (o : Operation) → regions o ≡ no_regions → EachBlock Q (with_id m o)
   one_blocks m (op h rs) e = subst (λ rs. BlocksInRegions Q m 0 rs) (sym e) tt
 
-  all_blocks : (front : Place) (m : ℕ) (os : List Operation) (t : Operation) → AllBare os → EachBlock Q t → EachBlock Q (with_made front m os t)
+  pub all_blocks : (front : Place) (m : ℕ) (os : List Operation) (t : Operation) → AllBare os → EachBlock Q t → EachBlock Q (with_made front m os t)
   all_blocks front m [] t bare s = s
   all_blocks front m (o ∷ os) t bare s = all_blocks front (m + 1) os (put front (with_id m o) t) bare.1 (blocks_put Q front (with_id m o) (one_blocks m o bare.0) t s)
 
@@ -107,7 +107,7 @@ new_below end m [] l = tt
 new_below end m (o ∷ os) l = (omega (arith, l), new_below end (m + 1) os (omega (arith, l)))
 
 -- types
-new_typed : (c : Assignment) (m : ℕ) (os : List Operation) → TypedEach c m os → AllPut (ResultsOfTypes c) m os
+pub new_typed : (c : Assignment) (m : ℕ) (os : List Operation) → TypedEach c m os → AllPut (ResultsOfTypes c) m os
 new_typed c m [] s = tt
 new_typed c m (o ∷ os) s = (s.0, new_typed c (m + 1) os s.1)
 
@@ -121,7 +121,7 @@ module _ (a c : Assignment) (n x : ℕ) (v : Value) (done : ℕ → Bool) where
   new_fit m (o ∷ os) s = ((λ h1 h2. inl (same_makes (head o) m (head o).operands (map c (head o).operands) ∙ s.0)), new_fit (m + 1) os s.1)
 
   module _ (agree : Agree n a c) (t : Operation) (below : IsBelow n t) where
-    operands_same : (vs : List Value) → list_all (λ v. has_value v t) vs ≡ true → map c vs ≡ map a vs
+    pub operands_same : (vs : List Value) → list_all (λ v. has_value v t) vs ≡ true → map c vs ≡ map a vs
     operands_same [] e = refl
     operands_same (w ∷ ws) e =
         let h = and_parts (has_value w t) (list_all (λ v. has_value v t) ws) e in
@@ -154,7 +154,7 @@ module _ (a c : Assignment) (n x : ℕ) (v : Value) (done : ℕ → Bool) where
     old_below : (end : ℕ) → n ≤ end → Each (λ h. h.id < end) t
     old_below end l = each_both (λ h. h.id < n) (λ h. h.id < n) (λ h. h.id < end) (λ h p q. omega (arith, p, l)) t below below
 
-    old_typed : AreOfTypes a t → AreOfTypes c t
+    pub old_typed : AreOfTypes a t → AreOfTypes c t
     old_typed of = (
       each_both (ResultsOfTypes a) (λ h. h.id < n) (ResultsOfTypes c) (λ h p q k ty e. subst (IsOfType ty) (sym (agree (Result h.id k) q)) (p k ty e)) t of.0 below,
       blocks_below (ArgumentsOfTypes a) (ArgumentsOfTypes c) n (λ y r args l q k ty e. subst (IsOfType ty) (sym (agree (Arg y r k) l)) (q k ty e)) t below of.1,
@@ -181,10 +181,10 @@ module _ (a c : Assignment) (n x : ℕ) (v : Value) (done : ℕ → Bool) where
             let same = same_makes h h.id (map (put_value (Result x 0) v) h.operands) (map c (map (put_value (Result x 0) v) h.operands)) ∙ ap (makes h) (values_same h.operands) in
             elim (p is arithmetic) [ inl f ↦ inl (same ∙ f) | inr f ↦ inr (f.0, ap is_some same ∙ f.1, f.2) ]
 
-  given_each : (P : Header → Type 0) → ((h : Header) → P h → P (put_values (Result x 0) v h)) → (t : Operation) → Each P t → Each P (with_given x v t)
+  pub given_each : (P : Header → Type 0) → ((h : Header) → P h → P (put_values (Result x 0) v h)) → (t : Operation) → Each P t → Each P (with_given x v t)
   given_each P change t s = each_without P x (with_value_replaced (Result x 0) v t) (each_changed P P (put_values (Result x 0) v) change t s)
 
-  given_blocks : (Q : ℕ → ℕ → List TypeTerm → Type 0) (t : Operation) → EachBlock Q t → EachBlock Q (with_given x v t)
+  pub given_blocks : (Q : ℕ → ℕ → List TypeTerm → Type 0) (t : Operation) → EachBlock Q t → EachBlock Q (with_given x v t)
   given_blocks Q t s = blocks_without Q x (with_value_replaced (Result x 0) v t) (blocks_changed Q (put_values (Result x 0) v) (λ h. refl) t s)
 
 value_refined : (k : Known) (y : Outcome) → refines (Some k) y ≡ true → y ≡ Some k

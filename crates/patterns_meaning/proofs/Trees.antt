@@ -10,7 +10,7 @@ use Rattle.ir_tree.specs.Ids.{find, regions_find, region_find, ops_find, first_o
 use Rattle.ir_tree.specs.Meaning.{Operation}
 use Rattle.ir_tree_laws.specs.Values.{arguments_at, arguments_of, has_value, region_at, type_of_value}
 use Rattle.patterns_book.specs.Matching.{Header}
-use Rattle.patterns_meaning.specs.Meaning.{AreOfTypes, ArgumentsOfTypes, Assignment, BlocksAmong, BlocksInRegion, BlocksInRegions, Breaks, Each, EachAmong, EachBlock, EachInRegion, EachInRegions, Fits, FitsAll, FitsDone, IsOfType, ResultsOfTypes, is_arithmetic, owner}
+use Rattle.patterns_meaning.specs.Meaning.{AreOfTypes, Assignment, BlocksAmong, BlocksInRegion, BlocksInRegions, Breaks, Each, EachAmong, EachBlock, EachInRegion, EachInRegions, Fits, FitsAll, FitsDone, IsOfType, is_arithmetic, owner}
 use Rattle.patterns_meaning.specs.Applied.{IsBelow}
 
 first_cases : (a b : Option Operation) (o : Operation) → first_of a b ≡ Some o → (a ≡ Some o) ⊎ (b ≡ Some o)
@@ -111,32 +111,43 @@ module _ (Q : ℕ → ℕ → List TypeTerm → Type 0) (x : ℕ) where
       same r k = omega arith
 
 -- ---- types
+-- what is said of each result and each argument, with its type, is said of each value
+module _ (P : Value → TypeTerm → Type 0) where
+  abbrev pub ResultsAre : Header → Type 0
+  ResultsAre h = (k : ℕ) (ty : TypeTerm) → slice_get h.results k ≡ Some ty → P (Result h.id k) ty
+
+  abbrev pub ArgumentsAre : ℕ → ℕ → List TypeTerm → Type 0
+  ArgumentsAre y r args = (k : ℕ) (ty : TypeTerm) → slice_get args k ≡ Some ty → P (Arg y r k) ty
+
+  pub typed_found : (t : Operation) → Each ResultsAre t → EachBlock ArgumentsAre t → (v : Value) (ty : TypeTerm) → type_of_value v t ≡ Some ty → P v ty
+  typed_found t s b (Result x k) ty e = go (find x t) refl e
+    where
+      go : (o : Option Operation) → find x t ≡ o → option_and_then (λ (o : Operation). slice_get (head o).results k) o ≡ Some ty → P (Result x k) ty
+      go None i e = absurd (none-some ty e)
+      go (Some o) i e = let f = each_found ResultsAre x t s o i in subst (λ y. P (Result y k) ty) f.1 (f.0 k ty e)
+  typed_found t s b (Arg x r k) ty e = go (find x t) refl e
+    where
+      at_region : (y : ℕ) (rs : RegionsOf (List ℕ) TypeTerm AttrTerm) → BlocksInRegions ArgumentsAre y 0 rs → (g : Option (RegionOf (List ℕ) TypeTerm AttrTerm)) → region_at r rs ≡ g
+          → option_and_then (λ args. slice_get args k) (option_and_then arguments_of g) ≡ Some ty → P (Arg y r k) ty
+      at_region y rs q None i e = absurd (none-some ty e)
+      at_region y rs q (Some empty) i e = absurd (none-some ty e)
+      at_region y rs q (Some (block args os)) i e = subst (λ j. P (Arg y j k) ty) (same r) (own_block ArgumentsAre x y 0 rs q r args os i k ty e)
+        where
+          same : (r : ℕ) → 0 + r ≡ r
+          same r = omega arith
+
+      at_op : (o : Operation) → EachBlock ArgumentsAre o → option_and_then (λ args. slice_get args k) (arguments_at r o) ≡ Some ty → P (Arg (head o).id r k) ty
+      at_op (op h rs) q e = at_region h.id rs q (region_at r rs) refl e
+
+      go : (o : Option Operation) → find x t ≡ o → option_and_then (λ (o : Operation). option_and_then (λ args. slice_get args k) (arguments_at r o)) o ≡ Some ty → P (Arg x r k) ty
+      go None i e = absurd (none-some ty e)
+      go (Some o) i e =
+          let f = each_found ResultsAre x t s o i in
+          subst (λ y. P (Arg y r k) ty) f.1 (at_op o (blocks_found ArgumentsAre x t b o i) e)
+
 -- the outcomes of values that are found are of their types
 abbrev pub TypesFound : Assignment → Operation → Type 0
 TypesFound a t = (v : Value) (ty : TypeTerm) → type_of_value v t ≡ Some ty → IsOfType ty (a v)
 
 pub types_found : (a : Assignment) (t : Operation) → AreOfTypes a t → TypesFound a t
-types_found a t s (Result x k) ty e = go (find x t) refl e
-  where
-    go : (o : Option Operation) → find x t ≡ o → option_and_then (λ (o : Operation). slice_get (head o).results k) o ≡ Some ty → IsOfType ty (a (Result x k))
-    go None i e = absurd (none-some ty e)
-    go (Some o) i e = let f = each_found (ResultsOfTypes a) x t s.0 o i in subst (λ y. IsOfType ty (a (Result y k))) f.1 (f.0 k ty e)
-types_found a t s (Arg x r k) ty e = go (find x t) refl e
-  where
-    at_region : (y : ℕ) (rs : RegionsOf (List ℕ) TypeTerm AttrTerm) → BlocksInRegions (ArgumentsOfTypes a) y 0 rs → (g : Option (RegionOf (List ℕ) TypeTerm AttrTerm)) → region_at r rs ≡ g
-        → option_and_then (λ args. slice_get args k) (option_and_then arguments_of g) ≡ Some ty → IsOfType ty (a (Arg y r k))
-    at_region y rs q None i e = absurd (none-some ty e)
-    at_region y rs q (Some empty) i e = absurd (none-some ty e)
-    at_region y rs q (Some (block args os)) i e = subst (λ j. IsOfType ty (a (Arg y j k))) (same r) (own_block (ArgumentsOfTypes a) x y 0 rs q r args os i k ty e)
-      where
-        same : (r : ℕ) → 0 + r ≡ r
-        same r = omega arith
-
-    at_op : (o : Operation) → EachBlock (ArgumentsOfTypes a) o → option_and_then (λ args. slice_get args k) (arguments_at r o) ≡ Some ty → IsOfType ty (a (Arg (head o).id r k))
-    at_op (op h rs) q e = at_region h.id rs q (region_at r rs) refl e
-
-    go : (o : Option Operation) → find x t ≡ o → option_and_then (λ (o : Operation). option_and_then (λ args. slice_get args k) (arguments_at r o)) o ≡ Some ty → IsOfType ty (a (Arg x r k))
-    go None i e = absurd (none-some ty e)
-    go (Some o) i e =
-        let f = each_found (ResultsOfTypes a) x t s.0 o i in
-        subst (λ y. IsOfType ty (a (Arg y r k))) f.1 (at_op o (blocks_found (ArgumentsOfTypes a) x t s.1 o i) e)
+types_found a t s = typed_found (λ v ty. IsOfType ty (a v)) t s.0 s.1

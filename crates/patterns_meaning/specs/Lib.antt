@@ -2,4 +2,8 @@ pub mod Meaning
 pub mod Applied
 pub mod After
 pub mod Applying
+pub mod Better
+pub mod Improving
+pub mod Keeping
+pub mod Runs
 pub mod Samples

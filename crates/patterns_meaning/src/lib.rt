@@ -1,4 +1,6 @@
 //! What the operations compute of which patterns speak, and that patterns of one's own keep it.
 #![tactic(auto)]
 
+pub mod better;
+pub mod kept;
 pub mod laws;

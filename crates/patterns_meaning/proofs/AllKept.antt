@@ -1,0 +1,54 @@
+-- The rules that are listed keep modules ready, and what they compute.
+use Rattle.std.proofs.Common.{List, [], ◌∷◌, inl, inr, subst, sym}
+use Rattle.ir_tree_laws.specs.Members.{In}
+use Rattle.patterns_base.specs.declared.rule.Rule.{Rule}
+use Rattle.patterns_facts.specs.Accepted.{AreAccepted}
+use Rattle.patterns_meaning.specs.Keeping.{KeepsComputing, KeepsReady}
+use Rattle.patterns_meaning.specs.Runs.{KeptAreKept, kept_rules}
+use Rattle.patterns_meaning.proofs.Conditions.{choose_truth_is}
+use Rattle.patterns_meaning.proofs.Swapping.{swap_constant_computing, swap_constant_ready}
+use Rattle.patterns_meaning.proofs.TruthRules.{compare_itself_computing, compare_itself_ready, compare_zero_computing, compare_zero_ready}
+use Rattle.patterns_meaning.proofs.NumberRules.{cancel_itself_computing, cancel_itself_ready, zero_remainder_computing, zero_remainder_ready}
+use Rattle.patterns_meaning.proofs.OldRules.{choose_known_is, choose_same_is, drop_all_ones_is, drop_one_is, drop_zero_is, keep_itself_is}
+
+abbrev Kept : Rule → Type 0
+Kept r = KeepsReady r × KeepsComputing r
+
+abbrev EachKept : List Rule → Type 0
+EachKept [] = Unit {0}
+EachKept (r ∷ rs) = Kept r × EachKept rs
+
+one_kept : (rs : List Rule) → EachKept rs → (r : Rule) → In r rs → Kept r
+one_kept [] k r i = absurd i
+one_kept (s ∷ rs) k r (inl i) = subst Kept (sym i) k.0
+one_kept (s ∷ rs) k r (inr i) = one_kept rs k.1 r i
+
+each_kept : AreAccepted → EachKept kept_rules
+each_kept accepted = (
+  (swap_constant_ready accepted, swap_constant_computing accepted),
+  (
+    drop_zero_is accepted,
+    (
+      drop_one_is accepted,
+      (
+        drop_all_ones_is accepted,
+        (
+          (cancel_itself_ready accepted, cancel_itself_computing accepted),
+          (
+            keep_itself_is accepted,
+            (
+              (zero_remainder_ready accepted, zero_remainder_computing accepted),
+              (
+                (compare_itself_ready accepted, compare_itself_computing accepted),
+                ((compare_zero_ready accepted, compare_zero_computing accepted), (choose_same_is accepted, (choose_known_is accepted, (choose_truth_is accepted, tt)))),
+              ),
+            ),
+          ),
+        ),
+      ),
+    ),
+  ),
+)
+
+pub all_kept : AreAccepted → KeptAreKept
+all_kept accepted rs within r i = one_kept kept_rules (each_kept accepted) r (within r i)

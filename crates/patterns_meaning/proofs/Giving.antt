@@ -1,0 +1,164 @@
+-- A module after an operation's result is replaced, by a value or by what is made for it, computes what it computed.
+use Rattle.std.proofs.Common.{◌≡◌, ℕ, ◌+◌, ◌<◌, ◌≤◌, refl, ap, sym, ◌∙◌, subst, List, [], ◌∷◌, ◌++◌, map, Bool, true, false, ◌&&◌, arith}
+use Rattle.std.specs.Prelude.{if◌then◌else◌}
+use Rattle.std.specs.List.{list_all}
+use Rattle.std.proofs.lemmas.Bool.{and_parts, le-ltb, lt-ltb}
+use Rattle.ir_types.specs.Words.{is_isolated}
+use Rattle.ir_tree.specs.declared.value.Value.{Value}
+use Rattle.ir_tree.specs.declared.value.Value.TheVariants.{Result, Arg}
+use Rattle.ir_tree.specs.declared.place.Place.{Place}
+use Rattle.ir_tree.specs.Tree.{head}
+use Rattle.ir_tree.specs.Edits.{put_value}
+use Rattle.ir_tree.specs.Ids.{HasDistinctIds}
+use Rattle.ir_tree.specs.Uses.{same_value}
+use Rattle.ir_tree.specs.WellFormed.{IsWellFormed}
+use Rattle.ir_tree.specs.Meaning.{Operation}
+use Rattle.ir_tree.proofs.Replaced.{same_value_true}
+use Rattle.ir_tree_laws.specs.Values.{has_value}
+use Rattle.ir_event.specs.Modules.{Module}
+use Rattle.patterns_check.specs.Checks.{refines}
+use Rattle.rewriter_machine.specs.Contents.{all_edited}
+use Rattle.rewriter_machine.specs.Edits.{Make}
+use Rattle.patterns_base.specs.Makes.{give}
+use Rattle.patterns_edits.specs.Lists.{Free}
+use Rattle.patterns_book.specs.Matching.{Header}
+use Rattle.patterns_meaning.specs.Meaning.{AreOfTypes, Assignment, Each, FitsAll, TypedEach, owner}
+use Rattle.patterns_meaning.specs.After.{OperandsStand, rewritten, with_made}
+use Rattle.patterns_meaning.specs.Applied.{Agree, IsBelow}
+use Rattle.patterns_meaning.specs.Better.{AllBetter, AllSure, AreKinded}
+use Rattle.patterns_meaning.specs.Keeping.{Computing, Improves, IsFed, done_after, is_there}
+use Rattle.patterns_meaning.proofs.Applying.{all_edited_made}
+use Rattle.patterns_meaning.proofs.Edited.{each_both}
+use Rattle.patterns_meaning.proofs.EditsForm.{all_formed, made_plain}
+use Rattle.patterns_meaning.proofs.Formed.{is_below, operands_stand}
+use Rattle.patterns_meaning.proofs.Lifted.{IsBetterWith, IsReady, all_put_better, lifted, old_ready}
+use Rattle.patterns_meaning.proofs.Monotone.{itself}
+use Rattle.patterns_meaning.proofs.Rewritten.{AllBare, AllPut, all_put, given_each}
+use Rattle.patterns_meaning.proofs.Trees.{value_below}
+
+pub all_hold : (b c : Bool) → b ≡ true → c ≡ true → (b && c) ≡ true
+all_hold true true e f = refl
+all_hold true false e f = f
+all_hold false c e f = e
+
+-- ---- what is done behind a rewrite
+module _ (n x : ℕ) (done : ℕ → Bool) where
+  pub after_old : (y : ℕ) → y < n → done_after n x done y ≡ done y
+  after_old y l = ap (λ b. if b then done y else done x) (lt-ltb y n l)
+
+  pub after_new : (y : ℕ) → n ≤ y → done_after n x done y ≡ done x
+  after_new y l = ap (λ b. if b then done y else done x) (le-ltb y n l)
+
+-- what is given for operation x, with outcomes of all that is made for it
+pub record Making (a : Assignment) (n x : ℕ) (done : ℕ → Bool) (made : List Operation) (v : Value) : Type 0 where
+  pub outcomes : Assignment
+  pub agrees : Agree n a outcomes
+  pub bare : AllBare made
+  pub typed : TypedEach outcomes n made
+  pub ready : AllPut (IsReady outcomes (done_after n x done)) n made
+  pub fed : AllPut (IsFed (done_after n x done)) n made
+  pub better : done x ≡ true → refines (outcomes (Result x 0)) (outcomes v) ≡ true
+  pub there : done x ≡ true → is_there (done_after n x done) v ≡ true
+
+module _ (a : Assignment) (n x : ℕ) (done : ℕ → Bool) (made : List Operation) (v : Value) (k : Making a n x done made v) (t : Operation) (below : IsBelow n t) (operands : OperandsStand t) (within : x < n) (computing : Computing a done t) where
+  abbrev c : Assignment
+  c = k.outcomes
+
+  abbrev later : ℕ → Bool
+  later = done_after n x done
+
+  was : (y : ℕ) → y < n → done_after n x done y ≡ true → done y ≡ true
+  was y l e = sym (after_old n x done y l) ∙ e
+
+  there_better : (ws : List Value) → list_all (is_there done) ws ≡ true → AllBetter (map c ws) (map c (map (put_value (Result x 0) v) ws))
+  there_better [] e = tt
+  there_better (w ∷ ws) e = let h = and_parts (is_there done w) (list_all (is_there done) ws) e in (go (same_value (Result x 0) w) refl h.0, there_better ws h.1)
+    where
+      go : (b : Bool) → same_value (Result x 0) w ≡ b → is_there done w ≡ true → refines (c w) (c (if b then v else w)) ≡ true
+      go true i s = let same = same_value_true (Result x 0) w i in subst (λ u. refines (c u) (c v) ≡ true) same (k.better (ap (is_there done) same ∙ s))
+      go false i s = itself (c w)
+
+  old_better : Each (IsBetterWith c later (map (put_value (Result x 0) v))) t
+  old_better = each_both (IsFed done) (λ h. h.id < n) (IsBetterWith c later (map (put_value (Result x 0) v))) (λ h p q i. there_better h.operands (p (was h.id q i))) t computing.fed below
+
+  new_better : (y : ℕ) (os : List Operation) → n ≤ y → AllPut (IsBetterWith c later (map (put_value (Result x 0) v))) y os
+  new_better y [] l = tt
+  new_better y (o ∷ os) l = (
+    (λ i. all_put_better c (Result x 0) v (k.better (sym (after_new n x done y l) ∙ i)) (head o).operands),
+    new_better (y + 1) os (omega (arith, l)),
+  )
+
+  still_there : (ws : List Value) → list_all (λ v. has_value v t) ws ≡ true → list_all (is_there done) ws ≡ true → list_all (is_there (done_after n x done)) ws ≡ true
+  still_there [] s e = refl
+  still_there (w ∷ ws) s e =
+      let h = and_parts (is_there done w) (list_all (is_there done) ws) e in
+      let g = and_parts (has_value w t) (list_all (λ v. has_value v t) ws) s in
+      all_hold (is_there later w) (list_all (is_there later) ws) (one w (value_below n t below w g.0) h.0) (still_there ws g.1 h.1)
+    where
+      one : (w : Value) → owner w < n → is_there done w ≡ true → is_there (done_after n x done) w ≡ true
+      one (Result y j) l e = after_old n x done y l ∙ e
+      one (Arg y r j) l e = refl
+
+  old_fed : Each (IsFed later) t
+  old_fed =
+      each_both (IsFed done) Stood (IsFed later) (λ h p q i. still_there h.operands q.1 (p (was h.id q.0 i))) t computing.fed
+      (each_both (λ h. h.id < n) (λ h. list_all (λ v. has_value v t) h.operands ≡ true) Stood (λ h p q. (p, q)) t below operands)
+    where
+      Stood : Header → Type 0
+      Stood h = (h.id < n) × (list_all (λ v. has_value v t) h.operands ≡ true)
+
+  put_there : (ws : List Value) → list_all (is_there (done_after n x done)) ws ≡ true → list_all (is_there (done_after n x done)) (map (put_value (Result x 0) v) ws) ≡ true
+  put_there [] e = refl
+  put_there (w ∷ ws) e =
+      let h = and_parts (is_there later w) (list_all (is_there later) ws) e in
+      all_hold (is_there later (put_value (Result x 0) v w)) (list_all (is_there later) (map (put_value (Result x 0) v) ws)) (go (same_value (Result x 0) w) refl h.0) (put_there ws h.1)
+    where
+      go : (b : Bool) → same_value (Result x 0) w ≡ b → is_there (done_after n x done) w ≡ true → is_there (done_after n x done) (if b then v else w) ≡ true
+      go true i s = k.there (was x within (ap (is_there later) (same_value_true (Result x 0) w i) ∙ s))
+      go false i s = s
+
+  all_fed : (front : Place) → Each (IsFed later) (rewritten front n made x v t)
+  all_fed front =
+      given_each a c n x v done (IsFed (done_after n x done)) (λ h p i. put_there h.operands (p i)) (with_made front n made t) (all_put (IsFed (done_after n x done)) front n made t k.fed k.bare old_fed)
+
+pub given_improves : (m n : Module) (x : ℕ) (a : Assignment) (done : ℕ → Bool) (front : Place) (made : List Operation) (v : Value) → IsWellFormed is_isolated m → x < m.next → Computing a done m.tree → AreKinded n.tree
+    → Making a m.next x done made v → Free (map (λ o. Make front o) made ++ give x v) m → all_edited (map (λ o. Make front o) made ++ give x v) m ≡ n → Improves a m.next (done_after m.next x done) n.tree
+given_improves m n x a done front made v formed within computing kinded k free e =
+    let c = k.outcomes in
+    let later = done_after m.next x done in
+    let is : n.tree ≡ rewritten front m.next made x v m.tree = ap (λ (m : Module). m.tree) (sym e) ∙ all_edited_made front made x v m in
+    let below = is_below m.next m.tree formed.below in
+    let operands = operands_stand is_isolated m.tree formed.distinct formed.formed.visible in
+    let after_formed = subst (IsWellFormed is_isolated) e (all_formed _ m (made_plain front made _ k.bare (tt, (tt, tt))) formed free) in
+    let s =
+    lifted a c m.next x v done later k.agrees m.tree below operands front made k.bare (subst (λ t. HasDistinctIds t) is after_formed.distinct) (subst AreKinded is kinded) computing.typed k.typed
+    (old_ready a c m.next x v done later k.agrees m.tree below operands (was a m.next x done made v k m.tree below operands within computing) computing.fits computing.sure)
+    k.ready
+    (old_better a m.next x done made v k m.tree below operands within computing) (new_better a m.next x done made v k m.tree below operands within computing m.next made (omega arith)) in
+    record {
+      now = s.now;
+      better = λ v l. subst (λ o. refines o (s.now v) ≡ true) (k.agrees v l) (s.better v);
+      computing = record {
+        fits = subst (λ t. FitsAll s.now later t) (sym is) s.fits;
+        typed = subst (λ t. AreOfTypes s.now t) (sym is) s.typed;
+        sure = subst (λ t. AllSure s.now later t) (sym is) s.sure;
+        fed = subst (λ t. Each (IsFed later) t) (sym is) (all_fed a m.next x done made v k m.tree below operands within computing front);
+      };
+    }
+
+-- a value of before that is the same or better
+pub old_given : (a : Assignment) (n x : ℕ) (done : ℕ → Bool) (v : Value) → owner v < n → (done x ≡ true → refines (a (Result x 0)) (a v) ≡ true) → (done x ≡ true → is_there done v ≡ true) → Making a n x done [] v
+old_given a n x done v l better there = record {
+  outcomes = a;
+  agrees = λ w h. refl;
+  bare = tt;
+  typed = tt;
+  ready = tt;
+  fed = tt;
+  better = better;
+  there = λ e. one v l (there e);
+}
+  where
+    one : (w : Value) → owner w < n → is_there done w ≡ true → is_there (done_after n x done) w ≡ true
+    one (Result y j) l e = after_old n x done y l ∙ e
+    one (Arg y r j) l e = refl

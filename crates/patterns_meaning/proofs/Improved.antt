@@ -1,0 +1,135 @@
+-- The module after a pattern is applied computes what it computed, or better.
+use Rattle.std.proofs.Common.{◌≡◌, ℕ, ◌+◌, ◌<◌, refl, ap, sym, ◌∙◌, subst, List, [], ◌∷◌, map, Bool, true, false, true≢false, ◌&&◌, not, Some, slice_get, inl, inr}
+use Rattle.std.specs.Prelude.{nat_le, option_map}
+use Rattle.std.specs.List.{list_all}
+use Rattle.std.proofs.lemmas.Bool.{and_parts, or_cases}
+use Rattle.std.proofs.lemmas.Bool.Decides.{nat_tests}
+use Rattle.std.proofs.lemmas.Option.{same_Some}
+use Rattle.std.proofs.Common.{arith}
+use Rattle.ir_types.specs.Words.{is_isolated}
+use Rattle.ir_types.specs.Terms.{TypeTerm}
+use Rattle.ir_tree.specs.declared.value.Value.{Value}
+use Rattle.ir_tree.specs.declared.value.Value.TheVariants.{Result}
+use Rattle.ir_tree.specs.Tree.{head}
+use Rattle.ir_tree.specs.Ids.{HasDistinctIds}
+use Rattle.ir_tree.specs.WellFormed.{IsWellFormed}
+use Rattle.ir_tree.specs.Uses.{same_value}
+use Rattle.ir_tree.specs.Meaning.{Operation}
+use Rattle.dialects_int.specs.declared.operations.Arithmetic.{Arithmetic}
+use Rattle.dialects_int.specs.declared.operations.Arithmetic.TheVariants as op
+use Rattle.dialects_int.specs.declared.operations.Rule.TheVariants as rule
+use Rattle.dialects_int.specs.Folds.{Known, rule_of}
+use Rattle.patterns_laws.specs.Made.{constant, made}
+use Rattle.patterns_laws.proofs.KnownFolds.{given_some}
+use Rattle.patterns_check.specs.Outcomes.{Outcome, given}
+use Rattle.patterns_check.specs.Checks.{refines}
+use Rattle.patterns_base.specs.Looks.{is_clean}
+use Rattle.patterns_book.specs.declared.pattern.Form.{Form}
+use Rattle.patterns_book.specs.declared.pattern.Form.TheVariants as form
+use Rattle.patterns_book.specs.declared.pattern.New.{New}
+use Rattle.patterns_book.specs.declared.pattern.New.TheVariants as new
+use Rattle.patterns_book.specs.Matching.{Standing, bound, standing}
+use Rattle.patterns_book.specs.Names.{name_of, operands_of, predicate_of}
+use Rattle.patterns_book.specs.Planning.{all_made, entries_by, made_as, values_at}
+use Rattle.patterns_makeable.specs.Makeable.{has_name, is_named}
+use Rattle.patterns_own.specs.Own.{OwnAreAccepted}
+use Rattle.patterns_meaning.specs.Meaning.{AreOfTypes, Assignment, Each, FitsAll, FitsEach}
+use Rattle.patterns_meaning.specs.After.{or_new}
+use Rattle.patterns_meaning.specs.Better.{AllSure, AreKinded, is_poison_by_ones, is_signed_quotient}
+use Rattle.patterns_meaning.specs.Improving.{RewritesComputeBetter, is_quotient, makes_no_quotient}
+use Rattle.patterns_meaning.proofs.Applying.{applies}
+use Rattle.patterns_meaning.proofs.EditsForm.{all_formed, made_plain}
+use Rattle.patterns_meaning.proofs.Formed.{each_stands, is_below, operands_stand}
+use Rattle.patterns_meaning.proofs.Forms.{by_constant, form_rule, rule_for}
+use Rattle.patterns_meaning.proofs.Going.{plans_go, planned_there, root_below}
+use Rattle.patterns_meaning.proofs.Lifted.{IsReady, lifted, new_uses_better, old_ready, uses_better}
+use Rattle.patterns_meaning.proofs.News.{more_made}
+use Rattle.patterns_meaning.proofs.Rewritten.{AllPut, all_bare, same_makes}
+
+-- ---- what is made is no signed quotient
+same_quotient : (o : Arithmetic) (i j : ℕ) → is_signed_quotient (Some (rule.Pair o)) ≡ is_quotient (form.Pair o i j)
+same_quotient op.DivideSigned i j = refl
+same_quotient o i j = refl
+
+form_quotient : (f : Form) → has_name f ≡ true → not (is_quotient f) ≡ true → is_signed_quotient (rule_of (name_of f)) ≡ false
+form_quotient f n e = ap is_signed_quotient (form_rule f n) ∙ go f e
+  where
+    negated : (b : Bool) → not b ≡ true → b ≡ false
+    negated true e = absurd (true≢false (sym e))
+    negated false e = refl
+
+    go : (f : Form) → not (is_quotient f) ≡ true → is_signed_quotient (Some (rule_for f)) ≡ false
+    go (form.Pair o i j) e = same_quotient o i j ∙ negated (is_quotient (form.Pair o i j)) e
+    go (form.Compare q i j) e = refl
+    go (form.Select c i j) e = refl
+    go (form.Resize c i) e = refl
+    go (form.IndexCast c i) e = refl
+
+abbrev IsNoQuotient : Operation → Type 0
+IsNoQuotient o = is_signed_quotient (rule_of (head o).name) ≡ false
+
+abbrev AreNoQuotients : List Operation → Type 0
+AreNoQuotients [] = Unit {0}
+AreNoQuotients (o ∷ os) = IsNoQuotient o × AreNoQuotients os
+
+module _ (ts : Standing TypeTerm) (env : List Outcome) where
+  no_quotient : (w : New) (b : Standing Value) (o : Operation) → is_named w ≡ true → makes_no_quotient w ≡ true → made_as b ts env w ≡ Some o → IsNoQuotient o
+  no_quotient (new.Operation p) b o n q e =
+      let g = given_some (values_at (operands_of p.form) b) (λ vs. given (standing p.ty ts) (λ term. Some (made (name_of p.form) vs term (entries_by (predicate_of p.form) (name_of p.form))))) o e in
+      let l = given_some (standing p.ty ts) (λ term. Some (made (name_of p.form) g.0 term (entries_by (predicate_of p.form) (name_of p.form)))) o g.2 in
+      subst IsNoQuotient (same_Some _ _ l.2) (form_quotient p.form n q)
+  no_quotient (new.Constant i t) b o n q e =
+      let g = given_some (given (slice_get env i) (λ x. x)) (λ (x : Known). given (standing t ts) (λ term. Some (constant term x.1))) o e in
+      let l = given_some (standing t ts) (λ term. Some (constant term g.0.1)) o g.2 in
+      subst IsNoQuotient (same_Some _ _ l.2) (ap is_signed_quotient by_constant)
+
+  no_quotients : (n k : ℕ) (ws : List New) (b d : Standing Value) (os : List Operation) → list_all is_named ws ≡ true → list_all makes_no_quotient ws ≡ true → all_made ts env n k ws b ≡ Some (os, d) → AreNoQuotients os
+  no_quotients n k [] b d os s q e = let s : ([], b) ≡ (os, d) = same_Some _ _ e in subst AreNoQuotients (ap (λ (r : List Operation × Standing Value). r.0) s) tt
+  no_quotients n k (w ∷ ws) b d os s q e =
+      let g = given_some (made_as b ts env w) (λ o. given (bound same_value k (Result n 0) b) (λ c. option_map (λ (r : List Operation × Standing Value). (o ∷ r.0, r.1)) (all_made ts env (n + 1) (k + 1) ws c))) (os, d) e in
+      let h = given_some (bound same_value k (Result n 0) b) (λ c. option_map (λ (r : List Operation × Standing Value). (g.0 ∷ r.0, r.1)) (all_made ts env (n + 1) (k + 1) ws c)) (os, d) g.2 in
+      let m = more_made g.0 (all_made ts env (n + 1) (k + 1) ws h.0) os d h.2 in
+      let a = and_parts (is_named w) (list_all is_named ws) s in
+      let f = and_parts (makes_no_quotient w) (list_all makes_no_quotient ws) q in
+      subst AreNoQuotients m.2 (no_quotient w b g.0 a.0 f.0 g.1, no_quotients (n + 1) (k + 1) ws h.0 d m.0 a.1 f.1 m.1)
+
+pub new_ready : (c : Assignment) (later : ℕ → Bool) (m : ℕ) (os : List Operation) → FitsEach c m os → AreNoQuotients os → AllPut (IsReady c later) m os
+new_ready c later m [] s q = tt
+new_ready c later m (o ∷ os) s q = (
+  (λ i j. (inl (same_makes (head o) m (head o).operands (map c (head o).operands) ∙ s.0), ap (λ b. b && is_poison_by_ones (map c (head o).operands)) q.0)),
+  new_ready c later (m + 1) os s.1 q.1,
+)
+
+-- ---- so
+pub rewrites_compute_better : OwnAreAccepted → RewritesComputeBetter
+rewrites_compute_better accepted p m n x a done formed proper free fits of sure found keeps kinded e =
+    let r = applies p m n x e in
+    let below = is_below m.next m.tree formed.below in
+    let goes = plans_go m.tree (is_clean m.tree) m.next p x a done proper (record { below = below; fits = fits; typed = of }) found keeps.0 keeps.1 r.made r.value r.plan in
+    let c = goes.after in
+    let q = planned_there m.tree (is_clean m.tree) m.next p x found.here found.types r.made r.value found.is_matched found.are_types r.plan in
+    let bare = all_bare found.types q.env m.next _ p.new found.here q.last r.made q.made in
+    let named = and_parts (list_all is_named p.new) _ proper.makeable in
+    let none = no_quotients found.types q.env m.next _ p.new found.here q.last r.made named.0 free q.made in
+    let after_formed = subst (IsWellFormed is_isolated) r.module_is (all_formed _ m (made_plain r.front r.made _ bare (tt, (tt, tt))) formed (accepted p m x formed _ n r.edits r.becomes_it)) in
+    let better = subst (λ o. refines o (c r.value) ≡ true) (sym (goes.agrees (Result x 0) (root_below m.tree (is_clean m.tree) m.next p x a done proper below found))) goes.refined in
+    let operands = operands_stand is_isolated m.tree formed.distinct formed.formed.visible in
+    let all : Each (λ h. Unit {0}) m.tree = each_stands (λ h. Unit {0}) [] m.tree (λ s i. tt) in
+    let s =
+    lifted a c m.next x r.value done (or_new m.next done) goes.agrees m.tree below operands r.front r.made bare (subst (λ t. HasDistinctIds t) r.is after_formed.distinct) (subst AreKinded r.is kinded)
+    of goes.typed (old_ready a c m.next x r.value done (or_new m.next done) goes.agrees m.tree below operands was fits sure)
+    (new_ready c (or_new m.next done) m.next r.made goes.fits none)
+    (uses_better c (or_new m.next done) x r.value better m.tree all) (new_uses_better c (or_new m.next done) x r.value better m.next r.made) in
+    record {
+      now = s.now;
+      better = λ v l. subst (λ o. refines o (s.now v) ≡ true) (goes.agrees v l) (s.better v);
+      fits = subst (λ t. FitsAll s.now (or_new m.next done) t) (sym r.is) s.fits;
+      typed = subst (λ t. AreOfTypes s.now t) (sym r.is) s.typed;
+      sure = subst (λ t. AllSure s.now (or_new m.next done) t) (sym r.is) s.sure;
+    }
+  where
+    above : (k y : ℕ) → y < k → nat_le k y ≡ true → ⊥
+    above k y l e = absurd (grind (arith, nat_tests))
+
+    was : (y : ℕ) → y < m.next → or_new m.next done y ≡ true → done y ≡ true
+    was y l e = elim (or_cases (done y) (nat_le m.next y) e) [ inl h ↦ h | inr h ↦ absurd (above m.next y l h) ]

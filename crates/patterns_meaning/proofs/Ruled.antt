@@ -1,0 +1,197 @@
+-- What a rule's application at an operation says: its edits, its operation, and what that and its operands give.
+use Rattle.std.proofs.Common.{◌≡◌, ℕ, zero, suc, ◌+◌, ◌<◌, refl, ap, sym, ◌∙◌, subst, List, [], ◌∷◌, map, Bool, true, false, true≢false, ◌&&◌, Option, Some, None, inl, inr, slice_get}
+use Rattle.std.specs.Prelude.{codes, nat_le, is_some, option_and_then, if◌then◌else◌}
+use Rattle.std.specs.List.{list_all}
+use Rattle.std.proofs.lemmas.Bool.{and_parts}
+use Rattle.std.proofs.lemmas.Option.{none-some, same_Some}
+use Rattle.std.proofs.NetLemmas.Options.{map_some}
+use Rattle.ir_types.specs.declared.refusal.Refusal.TheVariants.{Full, IdsExhausted}
+use Rattle.ir_types.specs.declared.bits.BitsKind.{BitsKind}
+use Rattle.ir_types.specs.Bits.{width_of}
+use Rattle.ir_types.specs.Reasons.{is_width}
+use Rattle.ir_types.specs.Words.{is_isolated}
+use Rattle.ir_types.specs.Terms.{AttrTerm, TypeTerm}
+use Rattle.ir_tree.specs.declared.value.Value.{Value}
+use Rattle.ir_tree.specs.declared.value.Value.TheVariants.{Result, Arg}
+use Rattle.ir_tree.specs.declared.place.Place.{Place}
+use Rattle.ir_tree.specs.Tree.{head}
+use Rattle.ir_tree.specs.Ids.{find, op_count}
+use Rattle.ir_tree.specs.Limits.{most_next, most_ops}
+use Rattle.ir_tree.specs.WellFormed.{IsWellFormed}
+use Rattle.ir_tree.specs.Meaning.{Operation}
+use Rattle.ir_tree_laws.specs.Values.{has_value, type_of_value}
+use Rattle.ir_tree_laws.proofs.Reasoned.{some_there}
+use Rattle.ir_event.specs.Modules.{Module}
+use Rattle.ir_event.specs.Step.{IsSorted}
+use Rattle.dialects_int.specs.declared.operations.Rule.{Rule as How}
+use Rattle.dialects_int.specs.declared.operations.Rule.TheVariants as how
+use Rattle.dialects_int.specs.Folds.{Known, fold_of, rule_of}
+use Rattle.rewriter_machine.specs.Contents.{Edit, all_edited}
+use Rattle.patterns_edits.specs.Lists.{Free}
+use Rattle.patterns_laws.specs.Words.{named}
+use Rattle.patterns_laws.proofs.KnownFolds.{given_some, given_at}
+use Rattle.patterns_check.specs.Outcomes.{Outcome, given}
+use Rattle.patterns_check.specs.Checks.{refines}
+use Rattle.patterns_base.specs.declared.rule.Rule.{Rule}
+use Rattle.patterns_base.specs.Looks.{constant_value, front_of, giver, is_clean, known, source}
+use Rattle.patterns_base.specs.Looks as looks
+use Rattle.patterns_base.specs.Makes.{made_by}
+use Rattle.patterns_base.specs.Rewrites.{becomes, carried_out, edits_of, none, refused, rewrite_by, rewrite_of, suits}
+use Rattle.patterns_base.specs.Rules.{rule}
+use Rattle.patterns_base.proofs.Facts.{edits_are, rewrite_is, when_some}
+use Rattle.patterns_facts.specs.Accepted.{AreAccepted}
+use Rattle.patterns_book.specs.Matching.{Header}
+use Rattle.patterns_meaning.specs.Meaning.{Assignment, is_arithmetic, makes_by, result_kind}
+use Rattle.patterns_meaning.specs.Applied.{IsBelow}
+use Rattle.patterns_meaning.specs.Better.{AreKinded, is_kinded, kind_in, takes, takes_its}
+use Rattle.patterns_meaning.specs.Keeping.{Computing, IsFed, is_there}
+use Rattle.patterns_meaning.proofs.Formed.{is_below, operands_stand}
+use Rattle.patterns_meaning.proofs.Forms.{by_constant, makes_is, named_is}
+use Rattle.patterns_meaning.proofs.Monotone.{same_refined}
+use Rattle.patterns_meaning.proofs.OfBits.{IsOfBits}
+use Rattle.patterns_meaning.proofs.Settling.{typed_bits}
+use Rattle.patterns_meaning.proofs.Trees.{TypesFound, each_found, found_fit, types_found}
+
+-- ---- a rule at an operation
+module _ (m n : Module) where
+  some_edits : (r : Option (List Edit)) → rewrite_by r m ≡ becomes n → (es : List Edit) × (r ≡ Some es) × (carried_out es m ≡ becomes n)
+  some_edits None e = absurd (none_becomes e)
+    where
+      none_becomes : none ≡ becomes n → ⊥
+      none_becomes e = cc
+  some_edits (Some es) e = (es, refl, e)
+
+  carried : (es : List Edit) → carried_out es m ≡ becomes n → all_edited es m ≡ n
+  carried es e = go (nat_le (op_count m.tree + made_by es) most_ops) (nat_le (m.next + made_by es) most_next) e
+    where
+      go : (b c : Bool) → (if b then (if c then becomes (all_edited es m) else refused IdsExhausted) else refused Full) ≡ becomes n → all_edited es m ≡ n
+      go true true e = same (all_edited es m) e
+        where
+          same : (k : Module) → becomes k ≡ becomes n → k ≡ n
+          same k e = cc
+      go true false e = absurd (refused_becomes e)
+        where
+          refused_becomes : refused IdsExhausted ≡ becomes n → ⊥
+          refused_becomes e = cc
+      go false c e = absurd (refused_becomes e)
+        where
+          refused_becomes : refused Full ≡ becomes n → ⊥
+          refused_becomes e = cc
+
+pub rule_edits : (r : Rule) (m n : Module) (x : ℕ) → rewrite_of r m x ≡ becomes n → (es : List Edit) × (all_edited es m ≡ n)
+rule_edits r m n x e = let s = some_edits m n (edits_of r m x) (sym (rewrite_is r m x) ∙ e) in (s.0, carried m n s.0 s.2)
+
+pub record Ruled (r : Rule) (m n : Module) (x : ℕ) : Type 0 where
+  pub edits : List Edit
+  pub here : Operation
+  pub found : find x m.tree ≡ Some here
+  pub id : (head here).id ≡ x
+  pub front : Place
+  pub suited : suits r m.tree (head here) ≡ true
+  pub made : rule r m.tree m.next front here ≡ Some edits
+  pub free : Free edits m
+  pub module_is : all_edited edits m ≡ n
+  pub within : x < m.next
+
+pub ruled : AreAccepted → (r : Rule) (m n : Module) (x : ℕ) → IsWellFormed is_isolated m → IsSorted m → rewrite_of r m x ≡ becomes n → Ruled r m n x
+ruled accepted r m n x formed sorted e =
+    let s = some_edits m n (edits_of r m x) (sym (rewrite_is r m x) ∙ e) in
+    let g = given_some (find x m.tree) (λ o. given (front_of x m.tree) (λ front. looks.when (suits r m.tree (head o)) (rule r m.tree m.next front o))) s.0 (sym (edits_are r m x) ∙ s.1) in
+    let f = given_some (front_of x m.tree) (λ front. looks.when (suits r m.tree (head g.0)) (rule r m.tree m.next front g.0)) s.0 g.2 in
+    let w = when_some (suits r m.tree (head g.0)) (rule r m.tree m.next f.0 g.0) s.0 f.2 in
+    let b = each_found (λ h. h.id < m.next) x m.tree (is_below m.next m.tree formed.below) g.0 g.1 in
+    record {
+      edits = s.0;
+      here = g.0;
+      found = g.1;
+      id = b.1;
+      front = f.0;
+      suited = w.0;
+      made = w.1;
+      free = accepted r m x formed sorted s.0 n s.1 s.2;
+      module_is = carried m n s.0 s.2;
+      within = subst (λ y. y < m.next) b.1 b.0;
+    }
+
+-- ---- what its operation and its operands give
+pub record Site (m : Module) (a : Assignment) (done : ℕ → Bool) (x : ℕ) (o : Operation) : Type 0 where
+  pub found : find x m.tree ≡ Some o
+  pub computing : Computing a done m.tree
+  pub types : TypesFound a m.tree
+  pub kinded : is_kinded m.tree (head o) ≡ true
+  pub values : list_all (λ v. has_value v m.tree) (head o).operands ≡ true
+  pub fed : done x ≡ true → list_all (is_there done) (head o).operands ≡ true
+  pub below : IsBelow m.next m.tree
+
+pub site_of : (m : Module) (a : Assignment) (done : ℕ → Bool) (x : ℕ) (o : Operation) → IsWellFormed is_isolated m → AreKinded m.tree → Computing a done m.tree → find x m.tree ≡ Some o → Site m a done x o
+site_of m a done x o formed kinded computing e = record {
+  found = e;
+  computing = computing;
+  types = types_found a m.tree computing.typed;
+  kinded = (each_found (λ h. is_kinded m.tree h ≡ true) x m.tree kinded o e).0;
+  values = (each_found (λ h. list_all (λ v. has_value v m.tree) h.operands ≡ true) x m.tree (operands_stand is_isolated m.tree formed.distinct formed.formed.visible) o e).0;
+  fed = λ d. let f = each_found (IsFed done) x m.tree computing.fed o e in f.0 (ap done f.1 ∙ d);
+  below = is_below m.next m.tree formed.below;
+}
+
+-- the kinds of an operation of a rule
+pub record OfRule (t : Operation) (h : Header) (r : How) : Type 0 where
+  pub kind : BitsKind
+  pub is : result_kind h ≡ Some kind
+  pub operands : takes r h kind (map (kind_in t) h.operands) ≡ true
+  pub width : is_width (width_of kind) ≡ true
+  pub arithmetic : is_arithmetic h ≡ true
+
+pub rule_kinds : (t : Operation) (h : Header) → is_kinded t h ≡ true → (r : How) → rule_of h.name ≡ Some r → OfRule t h r
+rule_kinds t h kinded r e = go (result_kind h) refl (subst (λ q. takes_its q (result_kind h) h (map (kind_in t) h.operands) ≡ true) e kinded)
+  where
+    go : (k : Option BitsKind) → result_kind h ≡ k → takes_its (Some r) k h (map (kind_in t) h.operands) ≡ true → OfRule t h r
+    go None i f = absurd (true≢false (sym f))
+    go (Some k) i f =
+        let p = and_parts (is_width (width_of k)) (takes r h k (map (kind_in t) h.operands)) f in
+        record { kind = k; is = i; operands = p.1; width = p.0; arithmetic = (λ j. is_some (e j) && is_some (i j)) }
+
+module _ (m : Module) (a : Assignment) (done : ℕ → Bool) (x : ℕ) (o : Operation) (s : Site m a done x o) where
+  abbrev t : Operation
+  t = m.tree
+
+  pub of_rule : (r : How) → rule_of (head o).name ≡ Some r → OfRule m.tree (head o) r
+  of_rule r e = rule_kinds m.tree (head o) s.kinded r e
+
+  -- what it gives refines what is no worse than all that it may make
+  pub gives_refined : (r : How) (y : Outcome) → rule_of (head o).name ≡ Some r → (k : OfRule m.tree (head o) r) → done x ≡ true → ((z : Outcome) → makes_by r (head o) k.kind (map a (head o).operands) ≡ Some z → refines z y ≡ true) → refines (a (Result x 0)) y ≡ true
+  gives_refined r y e k d f = elim (found_fit a done t s.computing.fits x o s.found d k.arithmetic) [
+    | inl i ↦ f (a (Result x 0)) (sym (makes_is (head o) (map a (head o).operands) r k.kind e k.is) ∙ i)
+    | inr b ↦ subst (λ z. refines z y ≡ true) (sym b.2) refl
+  ]
+
+  -- known outcomes of values have their bits
+  pub value_bits : (v : Value) → has_value v m.tree ≡ true → IsOfBits (a v)
+  value_bits v e = let ty = some_there (type_of_value v t) e in typed_bits ty.0 (a v) (s.types v ty.0 ty.1)
+
+-- ---- constants
+one_result : (name : List ℕ) (props : List (List ℕ × AttrTerm)) (results : List TypeTerm) (x : Known) (k : ℕ) → fold_of name props [] results ≡ Some x → is_some (slice_get results k) ≡ true → k ≡ 0
+unfolding fold_of
+one_result name props [] x k e s = absurd (none-some x e)
+one_result name props (ty ∷ uy ∷ tys) x k e s = absurd (none-some x e)
+one_result name props (ty ∷ []) x zero e s = refl
+one_result name props (ty ∷ []) x (suc k) e s = absurd (true≢false (sym s))
+
+-- what is known of a value by its constant is no worse than what it gives
+module _ (m : Module) (a : Assignment) (done : ℕ → Bool) (formed : IsWellFormed is_isolated m) (computing : Computing a done m.tree) (kinded : AreKinded m.tree) where
+  pub known_there : (v : Value) (x : Known) → has_value v m.tree ≡ true → is_there done v ≡ true → known m.tree v ≡ Some x → refines (a v) (Some x) ≡ true
+  unfolding known
+  known_there (Arg y r k) x h there e = absurd (none-some x e)
+  known_there (Result y k) x h there e =
+      let g = given_some (source m.tree (codes "arith.constant") (Result y k)) constant_value x e in
+      let f = given_some (giver m.tree (Result y k)) (λ h. looks.when (named (codes "arith.constant") h.name && is_clean m.tree h) (Some h)) g.0 g.1 in
+      let w = when_some (named (codes "arith.constant") f.0.name && is_clean m.tree f.0) (Some f.0) g.0 f.2 in
+      let p : (o : Operation) × (find y m.tree ≡ Some o) × (head o ≡ f.0) = map_some head (find y m.tree) f.0 f.1 (λ p is same. (p, is, same)) in
+      let head_is : head p.0 ≡ g.0 = p.2 ∙ same_Some _ _ w.1 in
+      let name = ap rule_of (ap (λ (h : Header). h.name) p.2 ∙ named_is (codes "arith.constant") f.0.name (and_parts (named (codes "arith.constant") f.0.name) (is_clean m.tree f.0) w.0).0) ∙ by_constant in
+      let folds : fold_of (head p.0).name (head p.0).properties [] (head p.0).results ≡ Some x = subst (λ (h : Header). fold_of h.name h.properties [] h.results ≡ Some x) (sym head_is) g.2 in
+      let first : k ≡ 0 = one_result (head p.0).name (head p.0).properties (head p.0).results x k folds (sym (ap (λ o. is_some (option_and_then (λ (o : Operation). slice_get (head o).results k) o)) p.1) ∙ h) in
+      let s = site_of m a done y p.0 formed kinded computing p.1 in
+      subst (λ k. refines (a (Result y k)) (Some x) ≡ true) (sym first)
+      (gives_refined m a done y p.0 s how.Constant (Some x) name (of_rule m a done y p.0 s how.Constant name) there
+      (λ z i. same_refined z (Some x) (same_Some _ _ (sym i ∙ given_at (fold_of (head p.0).name (head p.0).properties [] (head p.0).results) x (λ x. Some (Some x)) (Some (Some x)) folds refl))))

@@ -1,0 +1,88 @@
+-- A rule that replaces an operation's result keeps a module ready.
+use Rattle.std.proofs.Common.{◌≡◌, ℕ, ◌+◌, ◌<◌, refl, ap, sym, ◌∙◌, subst, List, [], ◌∷◌, ◌++◌, map, true, true≢false, Option, Some, None}
+use Rattle.std.specs.Prelude.{is_some}
+use Rattle.std.specs.Option.{option_eq}
+use Rattle.ir_types.specs.declared.bits.BitsKind.{BitsKind}
+use Rattle.ir_types.specs.Terms.{TypeTerm}
+use Rattle.ir_types.specs.SameTypes.{same_type}
+use Rattle.ir_types.specs.Words.{is_isolated}
+use Rattle.ir_types.proofs.SameTerms.{type_is}
+use Rattle.ir_tree.specs.declared.value.Value.{Value}
+use Rattle.ir_tree.specs.declared.value.Value.TheVariants.{Result}
+use Rattle.ir_tree.specs.declared.place.Place.{Place}
+use Rattle.ir_tree.specs.Tree.{head}
+use Rattle.ir_tree.specs.WellFormed.{IsWellFormed}
+use Rattle.ir_tree.specs.Meaning.{Operation}
+use Rattle.ir_tree_laws.specs.Reasons.{with_id}
+use Rattle.ir_tree_laws.specs.Values.{type_of_value}
+use Rattle.ir_tree.specs.Places.{put}
+use Rattle.ir_event.specs.Modules.{Module}
+use Rattle.dialects_int.specs.Folds.{kind_of}
+use Rattle.rewriter_machine.specs.Contents.{Edit, all_edited, edit_reason}
+use Rattle.rewriter_machine.specs.Edits.{Make, Replace}
+use Rattle.patterns_check.specs.Outcomes.{given}
+use Rattle.patterns_edits.specs.Lists.{Free}
+use Rattle.patterns_base.specs.Makes.{give}
+use Rattle.patterns_base.specs.declared.rule.Rule.{Rule}
+use Rattle.patterns_base.specs.Rules.{rule}
+use Rattle.patterns_facts.specs.Accepted.{AreAccepted}
+use Rattle.patterns_meaning.specs.Meaning.{Each, owner}
+use Rattle.patterns_meaning.specs.After.{OperandsStand, rewritten, with_made}
+use Rattle.patterns_meaning.specs.Better.{AreKinded, kind_in}
+use Rattle.patterns_meaning.specs.Keeping.{IsReady, KeepsComputing, KeepsReady}
+use Rattle.patterns_meaning.proofs.Applying.{all_edited_made}
+use Rattle.patterns_meaning.proofs.Dropping.{Keeps}
+use Rattle.patterns_meaning.proofs.EditsForm.{all_formed, made_plain, replaced_parts}
+use Rattle.patterns_meaning.proofs.Formed.{is_below, operands_stand}
+use Rattle.patterns_meaning.proofs.Readied.{NewKinds, Rises, after_kinded, all_rise, each_rises, kinds_found, made_kinds}
+use Rattle.patterns_meaning.proofs.Rewritten.{AllBare, AllPut, all_put, given_each}
+use Rattle.patterns_meaning.proofs.Ruled.{ruled}
+
+-- ---- the value that is given is of the type of what it is given for
+before_replaced : (front : Place) (os : List Operation) (x next : ℕ) (v : Value) (m : Module) → Free (map (λ o. Make front o) os ++ give x v) m → edit_reason (Replace (Result x 0) v) (record { tree = with_made front m.next os m.tree; next = next }) ≡ None
+before_replaced front [] x next v m f = f.0
+before_replaced front (o ∷ os) x next v m f = before_replaced front os x next v (record { tree = put front (with_id m.next o) m.tree; next = m.next + 1 }) f.1
+
+same_types : (a b : Option TypeTerm) → is_some a ≡ true → is_some b ≡ true → option_eq same_type a b ≡ true → a ≡ b
+same_types None b e f g = absurd (true≢false (sym e))
+same_types (Some a) None e f g = absurd (true≢false (sym f))
+same_types (Some a) (Some b) e f g = ap (λ z. Some z) (type_is a b g)
+
+module _ (m n : Module) (x : ℕ) (front : Place) (made : List Operation) (v : Value) (ready : IsReady m) (free : Free (map (λ o. Make front o) made ++ give x v) m) (e : all_edited (map (λ o. Make front o) made ++ give x v) m ≡ n)
+    (kinds : Value → Option BitsKind) (agree : (w : Value) → owner w < m.next → kinds w ≡ kind_in m.tree w) (bare : AllBare made) (news : NewKinds kinds m.next made) (risen : AllPut Rises m.next made) where
+  same_kind : kinds v ≡ kinds (Result x 0)
+  same_kind =
+      let u = with_made front m.next made m.tree in
+      let p = replaced_parts (Result x 0) v (record { tree = u; next = 0 }) (before_replaced front made x 0 v m free) in
+      let k = made_kinds kinds m.next x v made m.tree front ready.formed.distinct (is_below m.next m.tree ready.formed.below) agree bare news in
+      sym (kinds_found kinds u k v p.1) ∙ ap (λ o. given o kind_of) (sym (same_types (type_of_value (Result x 0) u) (type_of_value v u) p.0 p.1 p.2)) ∙ kinds_found kinds u k (Result x 0) p.0
+
+  pub stays_ready : IsReady n
+  stays_ready =
+      let is : n.tree ≡ rewritten front m.next made x v m.tree = ap (λ (m : Module). m.tree) (sym e) ∙ all_edited_made front made x v m in
+      let formed = subst (IsWellFormed is_isolated) e (all_formed _ m (made_plain front made _ bare (tt, (tt, tt))) ready.formed free) in
+      record {
+        formed = formed;
+        sorted =
+            all_rise n.tree formed.distinct
+            (subst (λ t. Each Rises t) (sym is) (given_each (λ w. None) (λ w. None) m.next x v (λ y. true) Rises (λ h p. p) (with_made front m.next made m.tree) (all_put Rises front m.next made m.tree risen bare (each_rises m.tree ready.sorted))));
+        kinded =
+            subst AreKinded (sym is)
+            (after_kinded kinds m.next x v made m.tree front ready.formed.distinct (is_below m.next m.tree ready.formed.below) agree bare news (λ w. None) (λ y. true) same_kind ready.kinded
+            (operands_stand is_isolated m.tree ready.formed.distinct ready.formed.formed.visible)
+            (subst OperandsStand is (operands_stand is_isolated n.tree formed.distinct formed.formed.visible)));
+      }
+
+-- ---- rules that give a value of before
+abbrev pub GivesOld : Rule → Type 0
+GivesOld r = (t : Operation) (n : ℕ) (front : Place) (o : Operation) (es : List Edit) → rule r t n front o ≡ Some es → (v : Value) × (give (head o).id v ≡ es)
+
+pub old_ready : AreAccepted → (r : Rule) → GivesOld r → KeepsReady r
+old_ready accepted r gives m n x ready e =
+    let q = ruled accepted r m n x ready.formed ready.sorted e in
+    let g = gives m.tree m.next q.front q.here q.edits q.made in
+    let these : q.edits ≡ give x g.0 = sym g.1 ∙ ap (λ y. give y g.0) q.id in
+    stays_ready m n x q.front [] g.0 ready (subst (λ es. Free es m) these q.free) (subst (λ es. all_edited es m ≡ n) these q.module_is) (kind_in m.tree) (λ w l. refl) tt (record { results = tt; take = tt }) tt
+
+pub keeps_computing : (r : Rule) → KeepsReady r → Keeps r → KeepsComputing r
+keeps_computing r stays keeps m n x a done ready computing e = keeps m n x a done ready.formed ready.sorted ready.kinded (stays m n x ready e).kinded computing e

@@ -1,0 +1,143 @@
+-- Outcomes that are the same or better, and what has to be so that an operation gives no less for them.
+use Rattle.std.specs.Prelude.{◌≡◌, ◌<◌, ℕ, ◌==◌, nat_lt, List, [], ◌∷◌, map, Bool, true, false, ◌&&◌, Option, Some, None}
+use Rattle.ir_types.specs.declared.bits.BitsKind.{BitsKind}
+use Rattle.ir_types.specs.declared.bits.BitsKind.TheVariants as kind
+use Rattle.ir_types.specs.Bits.{is_bits, width_of}
+use Rattle.ir_types.specs.Reasons.{is_width}
+use Rattle.ir_tree.specs.declared.value.Value.{Value}
+use Rattle.ir_tree.specs.declared.value.Value.TheVariants.{Result}
+use Rattle.ir_tree.specs.Ids.{HasDistinctIds}
+use Rattle.ir_tree.specs.Meaning.{Operation}
+use Rattle.ir_tree_laws.specs.Values.{type_of_value}
+use Rattle.dialects_int.specs.declared.operations.Arithmetic.TheVariants as op
+use Rattle.dialects_int.specs.declared.operations.Cast.{Cast}
+use Rattle.dialects_int.specs.declared.operations.Cast.TheVariants as cast
+use Rattle.dialects_int.specs.declared.operations.Rule.{Rule}
+use Rattle.dialects_int.specs.declared.operations.Rule.TheVariants as rule
+use Rattle.dialects_int.specs.Arithmetic.{all_ones}
+use Rattle.dialects_int.specs.Folds.{Known, fold_of, kind_of, rule_of, same_kind}
+use Rattle.patterns_check.specs.Checks.{refines}
+use Rattle.patterns_check.specs.Outcomes.{Outcome, given}
+use Rattle.patterns_book.specs.Matching.{Header}
+use Rattle.patterns_meaning.specs.Meaning.{AreOfTypes, Assignment, Each, FitsAll, is_arithmetic, makes, owner, result_kind}
+
+-- outcomes are the same, or better where the old ones were poison: at the values of operations below an id
+abbrev pub Better : ℕ → Assignment → Assignment → Type 0
+Better n a c = (v : Value) → owner v < n → refines (a v) (c v) ≡ true
+
+-- outcomes of operands, one by one
+abbrev pub AllBetter : List Outcome → List Outcome → Type 0
+AllBetter [] [] = Unit {0}
+AllBetter [] (y ∷ ys) = ⊥
+AllBetter (x ∷ xs) [] = ⊥
+AllBetter (x ∷ xs) (y ∷ ys) = (refines x y ≡ true) × AllBetter xs ys
+
+-- ---- the kinds that operations ask for
+abbrev pub kind_in : Operation → Value → Option BitsKind
+kind_in t v = given (type_of_value v t) kind_of
+
+abbrev pub is_kind : BitsKind → Option BitsKind → Bool
+is_kind k None = false
+is_kind k (Some j) = same_kind j k
+
+-- a cut is to fewer bits
+abbrev pub narrows : Cast → Option BitsKind → BitsKind → Bool
+narrows c None k = false
+narrows cast.Truncate (Some j) k = nat_lt (width_of k) (width_of j)
+narrows cast.ExtendSigned (Some j) k = true
+narrows cast.ExtendUnsigned (Some j) k = true
+
+-- two operands of one kind, for a result of i1
+abbrev pub compares : BitsKind → Option BitsKind → Option BitsKind → Bool
+compares k None j = false
+compares k (Some i) j = is_kind i j && same_kind (kind.Int 1) k
+
+abbrev pub are_its_bits : Option Known → Bool
+are_its_bits None = true
+are_its_bits (Some x) = is_bits x.0 x.1
+
+-- the operands of a rule, by their kinds, for a result of a kind; a constant has none, and the number of its kind
+abbrev pub takes : Rule → Header → BitsKind → List (Option BitsKind) → Bool
+takes rule.Constant h k js = are_its_bits (fold_of h.name h.properties [] h.results)
+takes (rule.Pair o) h k (i ∷ j ∷ []) = is_kind k i && is_kind k j
+takes (rule.Pair o) h k _ = false
+takes rule.Compare h k (i ∷ j ∷ []) = compares k i j
+takes rule.Compare h k _ = false
+takes rule.Select h k (c ∷ i ∷ j ∷ []) = is_kind (kind.Int 1) c && (is_kind k i && is_kind k j)
+takes rule.Select h k _ = false
+takes (rule.Resize c) h k (j ∷ []) = narrows c j k
+takes (rule.Resize c) h k _ = false
+takes (rule.IndexCast c) h k (j ∷ []) = narrows c j k
+takes (rule.IndexCast c) h k _ = false
+
+-- an arithmetic operation has operands of the kinds that it asks for, and a result of one, of a width that there may be
+abbrev pub takes_its : Option Rule → Option BitsKind → Header → List (Option BitsKind) → Bool
+takes_its None k h js = true
+takes_its (Some r) None h js = false
+takes_its (Some r) (Some k) h js = is_width (width_of k) && takes r h k js
+
+abbrev pub is_kinded : Operation → Header → Bool
+is_kinded t h = takes_its (rule_of h.name) (result_kind h) h (map (kind_in t) h.operands)
+
+-- so do those of a tree
+abbrev pub AreKinded : Operation → Type 0
+AreKinded t = Each (λ h. is_kinded t h ≡ true) t
+
+-- ---- quotients of poison
+-- a signed quotient of poison by -1: of the least value it is undefined, so that of poison it may be anything. It is
+-- poison by what operations make, so it isn't undefined; with its dividend known it may be
+abbrev pub is_poison_by_ones : List Outcome → Bool
+is_poison_by_ones (None ∷ Some y ∷ []) = y.1 == all_ones (width_of y.0)
+is_poison_by_ones _ = false
+
+abbrev pub is_signed_quotient : Option Rule → Bool
+is_signed_quotient (Some (rule.Pair op.DivideSigned)) = true
+is_signed_quotient _ = false
+
+abbrev pub may_overflow : Header → List Outcome → Bool
+may_overflow h xs = is_signed_quotient (rule_of h.name) && is_poison_by_ones xs
+
+-- no arithmetic operation that is done is such a quotient
+abbrev pub IsSure : Assignment → (ℕ → Bool) → Header → Type 0
+IsSure a done h = done h.id ≡ true → is_arithmetic h ≡ true → may_overflow h (map a h.operands) ≡ false
+
+abbrev pub AllSure : Assignment → (ℕ → Bool) → Operation → Type 0
+AllSure a done t = Each (IsSure a done) t
+
+-- ---- the laws of one operation and of a tree
+-- known outcomes are of kinds
+abbrev pub AreOf : List (Option BitsKind) → List Outcome → Type 0
+AreOf [] ys = Unit {0}
+AreOf (j ∷ js) [] = Unit {0}
+AreOf (j ∷ js) (y ∷ ys) = ((k : BitsKind) (x : Known) → j ≡ Some k → y ≡ Some x → x.0 ≡ k) × AreOf js ys
+
+-- what an operation makes is no worse for better operands
+pub record GivesNoLess (h : Header) (x : Outcome) (ys : List Outcome) : Type 0 where
+  pub outcome : Outcome
+  pub is_made : makes h ys ≡ Some outcome
+  pub better : refines x outcome ≡ true
+
+abbrev pub Monotone : Type 0
+Monotone =
+    (h : Header) (js : List (Option BitsKind)) (xs ys : List Outcome) (x : Outcome)
+    → takes_its (rule_of h.name) (result_kind h) h js ≡ true → AreOf js ys → may_overflow h xs ≡ false → AllBetter xs ys
+    → makes h xs ≡ Some x → GivesNoLess h x ys
+
+-- operations that are done make what they give, or better
+abbrev pub GivesLess : Assignment → (ℕ → Bool) → Header → Type 0
+GivesLess a done h = done h.id ≡ true → is_arithmetic h ≡ true → GivesNoLess h (a (Result h.id 0)) (map a h.operands)
+
+-- outcomes that a tree computes, with the values that it hasn't to compute left as they are
+pub record Settled (a : Assignment) (done : ℕ → Bool) (t : Operation) : Type 0 where
+  pub now : Assignment
+  pub better : (v : Value) → refines (a v) (now v) ≡ true
+  pub fits : FitsAll now done t
+  pub typed : AreOfTypes now t
+  pub sure : AllSure now done t
+
+-- where each operation of a tree makes what it gives or better, there are outcomes that fit, the same or better: what
+-- was poison is computed anew along its uses
+abbrev pub Settles : Type 0
+Settles =
+    (a : Assignment) (done : ℕ → Bool) (t : Operation)
+    → HasDistinctIds t → AreKinded t → AreOfTypes a t → AllSure a done t → Each (GivesLess a done) t → Settled a done t

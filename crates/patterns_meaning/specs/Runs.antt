@@ -1,0 +1,55 @@
+-- Runs of rules: from what is computed before the first to what is computed behind the last.
+use Rattle.std.specs.Prelude.{◌≡◌, ◌<◌, ◌≤◌, ℕ, zero, suc, List, [], ◌∷◌, Bool}
+use Rattle.ir_tree_laws.specs.Members.{In}
+use Rattle.ir_event.specs.Modules.{Module}
+use Rattle.patterns_base.specs.declared.rule.Rule.{Rule}
+use Rattle.patterns_base.specs.declared.rule.Rule.TheVariants.{CancelItself, ChooseKnown, ChooseSame, ChooseTruth}
+use Rattle.patterns_base.specs.declared.rule.Rule.TheVariants.{CompareItself, CompareZero, DropAllOnes}
+use Rattle.patterns_base.specs.declared.rule.Rule.TheVariants.{DropOne, DropZero, KeepItself, SwapConstant}
+use Rattle.patterns_base.specs.declared.rule.Rule.TheVariants.{ZeroRemainder}
+use Rattle.patterns_base.specs.Rewrites.{becomes, rewrite_of}
+use Rattle.patterns_base.specs.Canonicalization.{End, ended}
+use Rattle.greedy.specs.Rewriting.{rewriting_of}
+use Rattle.greedy.specs.Trial.{by_rules}
+use Rattle.patterns_meaning.specs.Meaning.{Assignment}
+use Rattle.patterns_meaning.specs.Keeping.{Computing, Improves, IsReady, KeepsComputing, KeepsReady}
+
+-- so many rewrites by rules of a list lead from one module to another, each at some operation
+abbrev pub Leads : List Rule → ℕ → Module → Module → Type 0
+Leads rs zero m n = m ≡ n
+Leads rs (suc k) m n = (r : Rule) × In r rs × (x : ℕ) × (p : Module) × (rewrite_of r m x ≡ becomes p) × Leads rs k p n
+
+-- each rule of a list keeps modules ready, and what they compute
+abbrev pub AllKeep : List Rule → Type 0
+AllKeep rs = (r : Rule) → In r rs → KeepsReady r × KeepsComputing r
+
+-- rules of which it is shown
+abbrev pub kept_rules : List Rule
+kept_rules =
+    SwapConstant ∷ DropZero ∷ DropOne ∷ DropAllOnes ∷ CancelItself ∷ KeepItself ∷ ZeroRemainder ∷ CompareItself ∷ CompareZero
+    ∷ ChooseSame ∷ ChooseKnown ∷ ChooseTruth ∷ []
+
+-- it is so of them, and of each list of some of them
+abbrev pub KeptAreKept : Type 0
+KeptAreKept = (rs : List Rule) → ((r : Rule) → In r rs → In r kept_rules) → AllKeep rs
+
+-- what was done is done, and of the rest there is a choice: behind all of them a module computes what it computed before
+-- the first, or better
+pub record ComputesThrough (a : Assignment) (done : ℕ → Bool) (m n : Module) : Type 0 where
+  pub later : ℕ → Bool
+  pub same : (y : ℕ) → y < m.next → later y ≡ done y
+  pub improves : Improves a m.next later n.tree
+
+-- rewrites by such rules keep a module ready, and for all outcomes with which it computes there are outcomes with which
+-- the last module computes, the same or better at all values of the first
+abbrev pub RunsKeep : Type 0
+RunsKeep =
+    (rs : List Rule) → AllKeep rs → (k : ℕ) (m n : Module) → IsReady m → Leads rs k m n
+    → IsReady n × (m.next ≤ n.next) × ((a : Assignment) (done : ℕ → Bool) → Computing a done m.tree → ComputesThrough a done m n)
+
+-- so does rewriting by a list of such rules, up to a limit, whether no rule applies any more or the limit was reached
+abbrev pub RewritingKeeps : Type 0
+RewritingKeeps =
+    (rs : List Rule) → AllKeep rs → (limit : ℕ) (m n : Module) (k : ℕ) (e : End) → IsReady m
+    → rewriting_of (by_rules rs) limit m ≡ ended n k e
+    → IsReady n × (m.next ≤ n.next) × ((a : Assignment) (done : ℕ → Bool) → Computing a done m.tree → ComputesThrough a done m n)

@@ -1,0 +1,124 @@
+//! Rules of rewriting keep what a module computes, or make it better, also where it is poison: each at an operation,
+//! and so whole runs of them. Each is shown to keep modules ready too: well-formed, sorted, and of the kinds that are
+//! asked for.
+ghost use Rattle.patterns_base.specs.declared.rule.Rule.TheVariants.{CancelItself, ChooseKnown, ChooseSame};
+ghost use Rattle.patterns_base.specs.declared.rule.Rule.TheVariants.{ChooseTruth, CompareItself, CompareZero};
+ghost use Rattle.patterns_base.specs.declared.rule.Rule.TheVariants.{DropAllOnes, DropOne, DropZero, KeepItself};
+ghost use Rattle.patterns_base.specs.declared.rule.Rule.TheVariants.{SwapConstant, ZeroRemainder};
+ghost use Rattle.patterns_meaning.specs.Keeping.{KeepsComputing, KeepsReady};
+ghost use Rattle.patterns_meaning.specs.Runs.{KeptAreKept, RewritingKeeps, RunsKeep};
+
+use patterns_facts::laws::no_edit_is_refused;
+
+/// A constant first operand of a commutative operation goes second.
+pub fn swap_constant()
+    ensures ready { KeepsReady SwapConstant }
+    ensures computing { KeepsComputing SwapConstant }
+{
+    no_edit_is_refused();
+}
+
+/// `addi(a, 0)` and its like become a.
+pub fn drop_zero()
+    ensures ready { KeepsReady DropZero }
+    ensures computing { KeepsComputing DropZero }
+{
+    no_edit_is_refused();
+}
+
+/// `muli(a, 1)`, `divsi(a, 1)` and `divui(a, 1)` become a.
+pub fn drop_one()
+    ensures ready { KeepsReady DropOne }
+    ensures computing { KeepsComputing DropOne }
+{
+    no_edit_is_refused();
+}
+
+/// `andi(a, -1)` becomes a.
+pub fn drop_all_ones()
+    ensures ready { KeepsReady DropAllOnes }
+    ensures computing { KeepsComputing DropAllOnes }
+{
+    no_edit_is_refused();
+}
+
+/// `subi(a, a)` and `xori(a, a)` become 0.
+pub fn cancel_itself()
+    ensures ready { KeepsReady CancelItself }
+    ensures computing { KeepsComputing CancelItself }
+{
+    no_edit_is_refused();
+}
+
+/// `andi(a, a)` and its like become a.
+pub fn keep_itself()
+    ensures ready { KeepsReady KeepItself }
+    ensures computing { KeepsComputing KeepItself }
+{
+    no_edit_is_refused();
+}
+
+/// `remsi(a, 1)` and `remui(a, 1)` become 0.
+pub fn zero_remainder()
+    ensures ready { KeepsReady ZeroRemainder }
+    ensures computing { KeepsComputing ZeroRemainder }
+{
+    no_edit_is_refused();
+}
+
+/// `cmpi(a, a)` becomes true or false by its predicate.
+pub fn compare_itself()
+    ensures ready { KeepsReady CompareItself }
+    ensures computing { KeepsComputing CompareItself }
+{
+    no_edit_is_refused();
+}
+
+/// `cmpi ult, a, 0` becomes false, `cmpi uge, a, 0` true.
+pub fn compare_zero()
+    ensures ready { KeepsReady CompareZero }
+    ensures computing { KeepsComputing CompareZero }
+{
+    no_edit_is_refused();
+}
+
+/// `select(c, a, a)` becomes a.
+pub fn choose_same()
+    ensures ready { KeepsReady ChooseSame }
+    ensures computing { KeepsComputing ChooseSame }
+{
+    no_edit_is_refused();
+}
+
+/// `select` with a constant condition becomes what it chooses.
+pub fn choose_known()
+    ensures ready { KeepsReady ChooseKnown }
+    ensures computing { KeepsComputing ChooseKnown }
+{
+    no_edit_is_refused();
+}
+
+/// `select(c, true, false)` becomes c.
+pub fn choose_truth()
+    ensures ready { KeepsReady ChooseTruth }
+    ensures computing { KeepsComputing ChooseTruth }
+{
+    no_edit_is_refused();
+}
+
+/// Where each rule of a list keeps modules ready and what they compute, so do runs of them, however long.
+pub fn runs_keep_what_is_computed()
+    ensures { RunsKeep }
+{}
+
+/// So does rewriting by a list of such rules, up to a limit.
+pub fn rewriting_keeps_what_is_computed()
+    ensures { RewritingKeeps }
+{}
+
+/// The rules that are listed as such are such.
+pub fn listed_rules_keep_what_is_computed()
+    ensures { KeptAreKept }
+{
+    no_edit_is_refused();
+}
