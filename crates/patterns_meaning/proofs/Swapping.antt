@@ -44,7 +44,8 @@ use Rattle.patterns_facts.specs.Accepted.{AreAccepted}
 use Rattle.patterns_facts.proofs.Shapes.{two_is}
 use Rattle.patterns_book.specs.Matching.{Header}
 use Rattle.patterns_meaning.specs.Meaning.{ArgumentsOfTypes, Assignment, Each, EachBlock, FitsDone, ResultsOfTypes, makes, owner, result_kind}
-use Rattle.patterns_meaning.specs.Better.{AreKinded, IsSure, is_kind, is_kinded, is_poison_by_ones, is_signed_quotient, kind_in, takes, takes_its}
+use Rattle.patterns_meaning.specs.Better.{AreKinded, IsSure, is_kind, is_kinded, is_poison_by_ones, is_signed_quotient, kind_in, takes, takes_its, gives}
+use Rattle.patterns_meaning.proofs.Frees.{Was, free_still, was_old}
 use Rattle.patterns_meaning.specs.After.{OperandsStand}
 use Rattle.patterns_meaning.specs.Applied.{IsBelow}
 use Rattle.patterns_meaning.specs.Keeping.{Computing, IsFed, IsReady, KeepsComputing, KeepsReady, done_after, is_there}
@@ -284,6 +285,11 @@ module _ (accepted : AreAccepted) where
       record {
         now = a;
         better = λ v l. itself (a v);
+        stays = λ v l e. refl;
+        free = λ v l e.
+            ap (λ t. gives later t v) (sym tree)
+            ∙ free_still m.next done later m.tree (all_edited (SetOperand x 0 w.second ∷ SetOperand x 1 w.first ∷ []) m).tree
+            (swapped_each x w.first w.second q.here w.operands own (Was m.next done later m.tree) (Was m.next done later m.tree) (λ h p. p) (λ p. p) m.tree it (was_old m.next done later m.tree ready.formed.distinct was)) v l e;
         computing = record {
           fits = subst (λ t. Each (FitsDone a later) t) tree
               (swapped_each x w.first w.second q.here w.operands own (Low m (FitsDone a done)) (FitsDone a later) (λ h p i j. p.0 (was h.id p.1 i) j)
