@@ -124,7 +124,7 @@ module _ (r : Rule) (m n : Module) (x : ℕ) (q : Ruled r m n x) (g : GivesNumbe
         only zero ty e = (ap kind_of (sym (same_Some _ _ e)) ∙ g.of, g.fits)
         only (suc k) ty e = absurd (none-some ty e)
 
-    pub number_improves : IsWellFormed is_isolated m → AreKinded n.tree → Computing a done m.tree → Improves a m.next (done_after m.next x done) n.tree
+    pub number_improves : IsWellFormed is_isolated m → AreKinded n.tree → Computing a done m.tree → Improves a done m (done_after m.next x done) n.tree
     number_improves formed kinded computing =
         given_improves m n x a done q.front (constant g.ty g.bits ∷ []) (Result m.next 0) formed q.within computing kinded making
         (subst (λ es. Free es m) these q.free) (subst (λ es. all_edited es m ≡ n) these q.module_is)

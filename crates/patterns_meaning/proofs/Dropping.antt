@@ -65,7 +65,7 @@ module _ (r : Rule) (m n : Module) (x : ℕ) (a : Assignment) (done : ℕ → Bo
     pub better : done x ≡ true → refines (a (Result x 0)) (a v) ≡ true
     pub there : done x ≡ true → is_there done v ≡ true
 
-  pub old_improves : (v : Value) → Site m a done x q.here → MayGive v → Improves a m.next (done_after m.next x done) n.tree
+  pub old_improves : (v : Value) → Site m a done x q.here → MayGive v → Improves a done m (done_after m.next x done) n.tree
   old_improves v s g =
       let these : q.edits ≡ give x v = sym g.edits ∙ ap (λ y. give y v) q.id in
       given_improves m n x a done q.front [] v formed q.within computing kinded (old_given a m.next x done v (value_below m.next m.tree s.below v g.value) g.better g.there)
@@ -179,12 +179,12 @@ known_test test (Some k) e = (k, refl, e)
 abbrev pub Keeps : Rule → Type 0
 Keeps r =
     (m n : Module) (x : ℕ) (a : Assignment) (done : ℕ → Bool) → IsWellFormed is_isolated m → IsSorted m → AreKinded m.tree → AreKinded n.tree → Computing a done m.tree
-    → rewrite_of r m x ≡ becomes n → Improves a m.next (done_after m.next x done) n.tree
+    → rewrite_of r m x ≡ becomes n → Improves a done m (done_after m.next x done) n.tree
 
 module _ (accepted : AreAccepted) where
   -- by a second operand that is a number
   number_second : (f : Arithmetic → Bool) (b : ℕ) → ((o : Arithmetic) → f o ≡ true → Firsts o (λ k. b)) → (r : Rule) (m n : Module) (x : ℕ) (a : Assignment) (done : ℕ → Bool) → IsWellFormed is_isolated m → AreKinded m.tree → AreKinded n.tree → Computing a done m.tree
-      → (q : Ruled r m n x) (u v : Value) → IsPair f (head q.here).name → (head q.here).operands ≡ u ∷ v ∷ [] → is_number m.tree b v ≡ true → give (head q.here).id u ≡ q.edits → Improves a m.next (done_after m.next x done) n.tree
+      → (q : Ruled r m n x) (u v : Value) → IsPair f (head q.here).name → (head q.here).operands ≡ u ∷ v ∷ [] → is_number m.tree b v ≡ true → give (head q.here).id u ≡ q.edits → Improves a done m (done_after m.next x done) n.tree
   number_second f b firsts r m n x a done formed kinded after computing q u v p ops number edits =
       let s = site_of m a done x q.here formed kinded computing q.found in
       let two = of_two_is m a done x q.here s u v ops in

@@ -25,7 +25,8 @@ use Rattle.patterns_book.specs.Matching.{Header}
 use Rattle.patterns_meaning.specs.Meaning.{AreOfTypes, Assignment, Each, FitsAll, TypedEach, owner}
 use Rattle.patterns_meaning.specs.After.{OperandsStand, rewritten, with_made}
 use Rattle.patterns_meaning.specs.Applied.{Agree, IsBelow}
-use Rattle.patterns_meaning.specs.Better.{AllBetter, AllSure, AreKinded}
+use Rattle.patterns_meaning.specs.Better.{AllBetter, AllSure, AreKinded, gives}
+use Rattle.patterns_meaning.proofs.Frees.{Was, free_still, was_new, was_old}
 use Rattle.patterns_meaning.specs.Keeping.{Computing, Improves, IsFed, done_after, is_there}
 use Rattle.patterns_meaning.proofs.Applying.{all_edited_made}
 use Rattle.patterns_meaning.proofs.Edited.{each_both}
@@ -117,12 +118,17 @@ module _ (a : Assignment) (n x : ℕ) (done : ℕ → Bool) (made : List Operati
       go true i s = k.there (was x within (ap (is_there later) (same_value_true (Result x 0) w i) ∙ s))
       go false i s = s
 
+  all_were : (front : Place) → HasDistinctIds t → Each (Was n done later t) (rewritten front n made x v t)
+  all_were front d =
+      given_each a c n x v done (Was n done (done_after n x done) t) (λ h p. p) (with_made front n made t)
+      (all_put (Was n done (done_after n x done) t) front n made t (was_new n done (done_after n x done) t n made (omega arith)) k.bare (was_old n done (done_after n x done) t d was))
+
   all_fed : (front : Place) → Each (IsFed later) (rewritten front n made x v t)
   all_fed front =
       given_each a c n x v done (IsFed (done_after n x done)) (λ h p i. put_there h.operands (p i)) (with_made front n made t) (all_put (IsFed (done_after n x done)) front n made t k.fed k.bare old_fed)
 
 pub given_improves : (m n : Module) (x : ℕ) (a : Assignment) (done : ℕ → Bool) (front : Place) (made : List Operation) (v : Value) → IsWellFormed is_isolated m → x < m.next → Computing a done m.tree → AreKinded n.tree
-    → Making a m.next x done made v → Free (map (λ o. Make front o) made ++ give x v) m → all_edited (map (λ o. Make front o) made ++ give x v) m ≡ n → Improves a m.next (done_after m.next x done) n.tree
+    → Making a m.next x done made v → Free (map (λ o. Make front o) made ++ give x v) m → all_edited (map (λ o. Make front o) made ++ give x v) m ≡ n → Improves a done m (done_after m.next x done) n.tree
 given_improves m n x a done front made v formed within computing kinded k free e =
     let c = k.outcomes in
     let later = done_after m.next x done in
@@ -135,9 +141,13 @@ given_improves m n x a done front made v formed within computing kinded k free e
     (old_ready a c m.next x v done later k.agrees m.tree below operands (was a m.next x done made v k m.tree below operands within computing) computing.fits computing.sure)
     k.ready
     (old_better a m.next x done made v k m.tree below operands within computing) (new_better a m.next x done made v k m.tree below operands within computing m.next made (omega arith)) in
+    let free : (w : Value) → owner w < m.next → gives done m.tree w ≡ false → gives later (rewritten front m.next made x v m.tree) w ≡ false =
+    free_still m.next done later m.tree (rewritten front m.next made x v m.tree) (all_were a m.next x done made v k m.tree below operands within computing front formed.distinct) in
     record {
       now = s.now;
-      better = λ v l. subst (λ o. refines o (s.now v) ≡ true) (k.agrees v l) (s.better v);
+      better = λ w l. subst (λ o. refines o (s.now w) ≡ true) (k.agrees w l) (s.better w);
+      stays = λ w l e. s.stays w (free w l e) ∙ k.agrees w l;
+      free = λ w l e. ap (λ t. gives later t w) is ∙ free w l e;
       computing = record {
         fits = subst (λ t. FitsAll s.now later t) (sym is) s.fits;
         typed = subst (λ t. AreOfTypes s.now t) (sym is) s.typed;

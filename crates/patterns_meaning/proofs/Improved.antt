@@ -34,7 +34,7 @@ use Rattle.patterns_book.specs.Planning.{all_made, entries_by, made_as, values_a
 use Rattle.patterns_makeable.specs.Makeable.{has_name, is_named}
 use Rattle.patterns_own.specs.Own.{OwnAreAccepted}
 use Rattle.patterns_meaning.specs.Meaning.{AreOfTypes, Assignment, Each, FitsAll, FitsEach}
-use Rattle.patterns_meaning.specs.After.{or_new}
+use Rattle.patterns_meaning.specs.After.{or_new, rewritten, with_made}
 use Rattle.patterns_meaning.specs.Better.{AllSure, AreKinded, is_poison_by_ones, is_signed_quotient}
 use Rattle.patterns_meaning.specs.Improving.{RewritesComputeBetter, is_quotient, makes_no_quotient}
 use Rattle.patterns_meaning.proofs.Applying.{applies}
@@ -44,7 +44,8 @@ use Rattle.patterns_meaning.proofs.Forms.{by_constant, form_rule, rule_for}
 use Rattle.patterns_meaning.proofs.Going.{plans_go, planned_there, root_below}
 use Rattle.patterns_meaning.proofs.Lifted.{IsReady, lifted, new_uses_better, old_ready, uses_better}
 use Rattle.patterns_meaning.proofs.News.{more_made}
-use Rattle.patterns_meaning.proofs.Rewritten.{AllPut, all_bare, same_makes}
+use Rattle.patterns_meaning.proofs.Frees.{Was, free_still, was_new, was_old}
+use Rattle.patterns_meaning.proofs.Rewritten.{AllPut, all_bare, all_put, given_each, same_makes}
 
 -- ---- what is made is no signed quotient
 same_quotient : (o : Arithmetic) (i j : ℕ) → is_signed_quotient (Some (rule.Pair o)) ≡ is_quotient (form.Pair o i j)
@@ -120,9 +121,14 @@ rewrites_compute_better accepted p m n x a done formed proper free fits of sure 
     of goes.typed (old_ready a c m.next x r.value done (or_new m.next done) goes.agrees m.tree below operands was fits sure)
     (new_ready c (or_new m.next done) m.next r.made goes.fits none)
     (uses_better c (or_new m.next done) x r.value better m.tree all) (new_uses_better c (or_new m.next done) x r.value better m.next r.made) in
+    let later = or_new m.next done in
+    let were : Each (Was m.next done (or_new m.next done) m.tree) (rewritten r.front m.next r.made x r.value m.tree) =
+    given_each a c m.next x r.value done (Was m.next done later m.tree) (λ h p. p) (with_made r.front m.next r.made m.tree)
+    (all_put (Was m.next done later m.tree) r.front m.next r.made m.tree (was_new m.next done later m.tree m.next r.made (omega arith)) bare (was_old m.next done later m.tree formed.distinct was)) in
     record {
       now = s.now;
       better = λ v l. subst (λ o. refines o (s.now v) ≡ true) (goes.agrees v l) (s.better v);
+      stays = λ v l e. s.stays v (free_still m.next done later m.tree (rewritten r.front m.next r.made x r.value m.tree) were v l e) ∙ goes.agrees v l;
       fits = subst (λ t. FitsAll s.now (or_new m.next done) t) (sym r.is) s.fits;
       typed = subst (λ t. AreOfTypes s.now t) (sym r.is) s.typed;
       sure = subst (λ t. AllSure s.now (or_new m.next done) t) (sym r.is) s.sure;

@@ -16,6 +16,7 @@ pub mod Applying
 pub mod Monotone
 pub mod MadeOf
 pub mod Settling
+pub mod Frees
 pub mod Lifted
 pub mod EditsForm
 pub mod Improved

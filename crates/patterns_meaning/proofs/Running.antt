@@ -33,7 +33,7 @@ pub runs_keep : RunsKeep
 runs_keep rs keep zero m n ready leads = (
   subst IsReady leads ready,
   subst (λ (n : Module). m.next ≤ n.next) leads (omega arith),
-  (λ a done c. subst (λ n. ComputesThrough a done m n) leads (record { later = done; same = λ y l. refl; improves = record { now = a; better = λ v l. itself (a v); computing = c } })),
+  (λ a done c. subst (λ n. ComputesThrough a done m n) leads (record { later = done; same = λ y l. refl; improves = record { now = a; better = λ v l. itself (a v); stays = λ v l e. refl; free = λ v l e. e; computing = c } })),
 )
 runs_keep rs keep (suc k) m n ready leads =
     let r = leads.0 in
@@ -54,6 +54,8 @@ runs_keep rs keep (suc k) m n ready leads =
             improves = record {
               now = j.improves.now;
               better = λ v l. through (a v) (i.now v) (j.improves.now v) (i.better v l) (j.improves.better v (omega (arith, l, grows)));
+              stays = λ v l e. j.improves.stays v (omega (arith, l, grows)) (i.free v l e) ∙ i.stays v l e;
+              free = λ v l e. j.improves.free v (omega (arith, l, grows)) (i.free v l e);
               computing = j.improves.computing;
             };
           }),

@@ -25,7 +25,7 @@ use Rattle.patterns_check.specs.Outcomes.{Outcome, given, pair_outcome}
 use Rattle.patterns_laws.proofs.KnownFolds.{given_some}
 use Rattle.patterns_book.specs.Matching.{Header}
 use Rattle.patterns_meaning.specs.Meaning.{ArgumentsOfTypes, Assignment, Breaks, Each, EachBlock, Fits, FitsDone, IsOfType, ResultsOfTypes, has_flags, is_arithmetic, makes, makes_by, of_two, result_kind}
-use Rattle.patterns_meaning.specs.Better.{AllBetter, AreOf, GivesLess, GivesNoLess, IsSure, Settles, is_kinded, is_poison_by_ones, is_signed_quotient, kind_in, may_overflow}
+use Rattle.patterns_meaning.specs.Better.{AllBetter, AreOf, GivesLess, GivesNoLess, IsSure, Settles, is_kinded, is_poison_by_ones, is_signed_quotient, kind_in, may_overflow, gives, is_arithmetic_there}
 use Rattle.patterns_meaning.proofs.Formed.{each_stands}
 use Rattle.patterns_meaning.proofs.Trees.{TypesFound, each_found, types_found}
 use Rattle.patterns_meaning.proofs.OfBits.{IsOfBits}
@@ -201,6 +201,19 @@ module _ (done : ℕ → Bool) (t : Operation) (d : HasDistinctIds t) (kinded : 
             let made : Some z ≡ was.outcome = same_Some _ _ (sym u.is_made ∙ ap (λ (o : Operation). makes (head o) (map a (head o).operands)) same ∙ was.is_made) in
             subst (λ w. refines w m.outcome ≡ true) (sym made) m.better
 
+    -- other values stay
+    stays : (v : Value) → gives done t v ≡ false → raised y z a v ≡ a v
+    stays (Arg x r k) e = refl
+    stays (Result x k) e = go (eqb x y) refl (eqb k 0)
+      where
+        given_here : gives done t (Result y k) ≡ true
+        given_here = (λ i. u.is_done i && is_arithmetic_there (u.found i)) ∙ u.arithmetic
+
+        go : (p : Bool) → eqb x y ≡ p → (q : Bool) → (if p then (if q then Some z else a (Result x k)) else a (Result x k)) ≡ a (Result x k)
+        go false i q = refl
+        go true i false = refl
+        go true i true = absurd (true≢false (sym (ap (λ x. gives done t (Result x k)) (eqb-true x y i) ∙ given_here) ∙ e))
+
     rises : Rising (raised y z a)
     rises = record {
       under = under;
@@ -260,20 +273,21 @@ module _ (done : ℕ → Bool) (t : Operation) (d : HasDistinctIds t) (kinded : 
   record Rose (a : Assignment) : Type 0 where
     pub last : Assignment
     pub better : (v : Value) → refines (a v) (last v) ≡ true
+    pub stays : (v : Value) → gives done t v ≡ false → last v ≡ a v
     pub rising : Rising last
     pub fit : AllFit last (ids t)
 
   step : (fuel : ℕ) → ((b : Assignment) → poisons b (ids t) ≤ fuel → Rising b → Rose b) → (a : Assignment) → poisons a (ids t) ≤ fuel + 1 → Rising a → AllFit a (ids t) ⊎ SomeUnsettled a (ids t) → Rose a
-  step fuel more a l s (inl f) = record { last = a; better = λ v. itself (a v); rising = s; fit = f }
+  step fuel more a l s (inl f) = record { last = a; better = λ v. itself (a v); stays = λ v e. refl; rising = s; fit = f }
   step fuel more a l s (inr u) =
       let b = better a s u.0 u.2 in
       let c = raised u.0 u.2.value a in
       let less = poisons_less a c b u.0 u.2.value u.2.was (now a s u.0 u.2) (ids t) u.1 in
       let r = more c (omega (arith, less, l)) (rises a s u.0 u.2) in
-      record { last = r.last; better = λ v. through (a v) (c v) (r.last v) (b v) (r.better v); rising = r.rising; fit = r.fit }
+      record { last = r.last; better = λ v. through (a v) (c v) (r.last v) (b v) (r.better v); stays = λ v e. r.stays v e ∙ stays a s u.0 u.2 v e; rising = r.rising; fit = r.fit }
 
   none_left : (a : Assignment) → poisons a (ids t) ≤ 0 → Rising a → AllFit a (ids t) ⊎ SomeUnsettled a (ids t) → Rose a
-  none_left a l s (inl f) = record { last = a; better = λ v. itself (a v); rising = s; fit = f }
+  none_left a l s (inl f) = record { last = a; better = λ v. itself (a v); stays = λ v e. refl; rising = s; fit = f }
   none_left a l s (inr u) =
       let less = poisons_less a (raised u.0 u.2.value a) (better a s u.0 u.2) u.0 u.2.value u.2.was (now a s u.0 u.2) (ids t) u.1 in
       absurd (omega (arith, less, l))
@@ -309,6 +323,7 @@ settles a done t d kinded typed sure under =
     record {
       now = r.last;
       better = r.better;
+      stays = r.stays;
       fits = each_by_found (FitsDone r.last done) t d (λ o e i j. fit_in done t d kinds r.last (ids t) r.fit (head o).id (in_ids done t d kinds (head o).id o e) o e i j);
       typed = (
         each_by_found (ResultsOfTypes r.last) t d (λ o e k ty i. r.rising.typed (Result (head o).id k) ty (ap (option_and_then (λ (o : Operation). slice_get (head o).results k)) e ∙ i)),

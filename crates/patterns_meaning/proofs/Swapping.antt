@@ -1,10 +1,9 @@
 -- A rule that swaps the operands of an operation keeps modules ready, and what they compute.
-use Rattle.std.proofs.Common.{◌≡◌, ℕ, ◌<◌, ◌≤◌, ◌^◌, refl, ap, sym, ◌∙◌, subst, List, [], ◌∷◌, map, Bool, true, false, true≢false, ◌&&◌, not, eqb, eqb-true, eq-eqb, Option, Some, None, ◌⊎◌, inl, inr}
+use Rattle.std.proofs.Common.{◌≡◌, ℕ, ◌<◌, ◌^◌, refl, ap, sym, ◌∙◌, subst, List, [], ◌∷◌, map, Bool, true, false, true≢false, ◌&&◌, not, eqb, eqb-true, eq-eqb, Option, Some, None, ◌⊎◌, inl, inr}
 use Rattle.std.specs.Prelude.{if◌then◌else◌, bit_and, bit_or, bit_xor, is_some}
 use Rattle.std.specs.List.{list_all}
 use Rattle.std.proofs.lemmas.Bool.{and_parts}
-use Rattle.std.proofs.lemmas.Option.{none-some, same_Some}
-use Rattle.ir_types.specs.declared.bits.BitsKind.{BitsKind}
+use Rattle.std.proofs.lemmas.Option.{same_Some}
 use Rattle.ir_types.specs.Bits.{width_of}
 use Rattle.ir_types.specs.Reasons.{is_width}
 use Rattle.ir_types.specs.Words.{is_isolated}
@@ -27,27 +26,27 @@ use Rattle.dialects_int.specs.Laws.{commutes}
 use Rattle.dialects_int.specs.Folds.{Known, rule_of, rules, same_kind}
 use Rattle.dialects_int.proofs.KnownOperands.{same_itself}
 use Rattle.dialects_int.proofs.PairLaws.{swaps}
-use Rattle.rewriter_machine.specs.Contents.{Edit, all_edited}
+use Rattle.rewriter_machine.specs.Contents.{all_edited}
 use Rattle.rewriter_machine.specs.Edits.{SetOperand}
 use Rattle.patterns_edits.specs.Lists.{Free}
-use Rattle.patterns_check.specs.Outcomes.{Outcome, divides, given, is_some_number, judged, pair_outcome}
+use Rattle.patterns_check.specs.Outcomes.{Outcome, divides, is_some_number, judged, pair_outcome}
 use Rattle.patterns_laws.specs.Keeps.{Each as EachOf}
 use Rattle.patterns_laws.specs.Words.{among, swapping}
 use Rattle.patterns_laws.proofs.KnownFolds.{below, some_bits}
 use Rattle.patterns_base.specs.declared.rule.Rule.TheVariants.{SwapConstant}
-use Rattle.patterns_base.specs.Looks.{Two, is_constant, is_known, two, when}
-use Rattle.patterns_base.specs.Rewrites.{becomes, rewrite_of}
+use Rattle.patterns_base.specs.Looks.{is_constant, is_known, when}
 use Rattle.patterns_base.specs.Rules.{rule}
 use Rattle.patterns_base.proofs.Dispatch.{of_among}
 use Rattle.patterns_base.proofs.Facts.{when_some}
 use Rattle.patterns_facts.specs.Accepted.{AreAccepted}
 use Rattle.patterns_facts.proofs.Shapes.{two_is}
 use Rattle.patterns_book.specs.Matching.{Header}
-use Rattle.patterns_meaning.specs.Meaning.{ArgumentsOfTypes, Assignment, Each, EachBlock, FitsDone, ResultsOfTypes, makes, owner, result_kind}
-use Rattle.patterns_meaning.specs.Better.{AreKinded, IsSure, is_kind, is_kinded, is_poison_by_ones, is_signed_quotient, kind_in, takes, takes_its}
+use Rattle.patterns_meaning.specs.Meaning.{ArgumentsOfTypes, Each, EachBlock, FitsDone, ResultsOfTypes, makes, owner, result_kind}
+use Rattle.patterns_meaning.specs.Better.{IsSure, is_kind, is_kinded, is_poison_by_ones, is_signed_quotient, kind_in, takes, takes_its, gives}
+use Rattle.patterns_meaning.proofs.Frees.{Was, free_still, was_old}
 use Rattle.patterns_meaning.specs.After.{OperandsStand}
 use Rattle.patterns_meaning.specs.Applied.{IsBelow}
-use Rattle.patterns_meaning.specs.Keeping.{Computing, IsFed, IsReady, KeepsComputing, KeepsReady, done_after, is_there}
+use Rattle.patterns_meaning.specs.Keeping.{IsFed, KeepsComputing, KeepsReady, done_after, is_there}
 use Rattle.patterns_meaning.proofs.Dropping.{of_two_is}
 use Rattle.patterns_meaning.proofs.Edited.{blocks_changed, each_both, each_changed}
 use Rattle.patterns_meaning.proofs.EditsForm.{all_formed}
@@ -59,7 +58,7 @@ use Rattle.patterns_meaning.proofs.OfBits.{IsOfBits}
 use Rattle.patterns_meaning.proofs.OfKinds.{same_kinds}
 use Rattle.patterns_meaning.proofs.Readied.{AreKinds, HasKind, Rises, Takes, all_rise, each_rises, kinds_are, kinds_found, same_kinds_of, same_takes}
 use Rattle.patterns_meaning.proofs.Rewritten.{same_makes}
-use Rattle.patterns_meaning.proofs.Ruled.{OfRule, Ruled, Site, of_rule, rule_kinds, ruled, site_of, value_bits}
+use Rattle.patterns_meaning.proofs.Ruled.{Ruled, of_rule, rule_kinds, ruled, site_of, value_bits}
 use Rattle.patterns_meaning.proofs.Settling.{each_by_found}
 use Rattle.patterns_meaning.proofs.Trees.{ArgumentsAre, ResultsAre, each_found, value_below}
 
@@ -284,6 +283,11 @@ module _ (accepted : AreAccepted) where
       record {
         now = a;
         better = λ v l. itself (a v);
+        stays = λ v l e. refl;
+        free = λ v l e.
+            ap (λ t. gives later t v) (sym tree)
+            ∙ free_still m.next done later m.tree (all_edited (SetOperand x 0 w.second ∷ SetOperand x 1 w.first ∷ []) m).tree
+            (swapped_each x w.first w.second q.here w.operands own (Was m.next done later m.tree) (Was m.next done later m.tree) (λ h p. p) (λ p. p) m.tree it (was_old m.next done later m.tree ready.formed.distinct was)) v l e;
         computing = record {
           fits = subst (λ t. Each (FitsDone a later) t) tree
               (swapped_each x w.first w.second q.here w.operands own (Low m (FitsDone a done)) (FitsDone a later) (λ h p i j. p.0 (was h.id p.1 i) j)

@@ -5,8 +5,9 @@ use Rattle.ir_types.specs.declared.bits.BitsKind.TheVariants as kind
 use Rattle.ir_types.specs.Bits.{is_bits, width_of}
 use Rattle.ir_types.specs.Reasons.{is_width}
 use Rattle.ir_tree.specs.declared.value.Value.{Value}
-use Rattle.ir_tree.specs.declared.value.Value.TheVariants.{Result}
-use Rattle.ir_tree.specs.Ids.{HasDistinctIds}
+use Rattle.ir_tree.specs.declared.value.Value.TheVariants.{Arg, Result}
+use Rattle.ir_tree.specs.Tree.{head}
+use Rattle.ir_tree.specs.Ids.{HasDistinctIds, find}
 use Rattle.ir_tree.specs.Meaning.{Operation}
 use Rattle.ir_tree_laws.specs.Values.{type_of_value}
 use Rattle.dialects_int.specs.declared.operations.Arithmetic.TheVariants as op
@@ -127,10 +128,20 @@ Monotone =
 abbrev pub GivesLess : Assignment → (ℕ → Bool) → Header → Type 0
 GivesLess a done h = done h.id ≡ true → is_arithmetic h ≡ true → GivesNoLess h (a (Result h.id 0)) (map a h.operands)
 
--- outcomes that a tree computes, with the values that it hasn't to compute left as they are
+-- whether an arithmetic operation that is done gives a value
+abbrev pub is_arithmetic_there : Option Operation → Bool
+is_arithmetic_there None = false
+is_arithmetic_there (Some o) = is_arithmetic (head o)
+
+abbrev pub gives : (ℕ → Bool) → Operation → Value → Bool
+gives done t (Result x k) = done x && is_arithmetic_there (find x t)
+gives done t (Arg x r k) = false
+
+-- outcomes that a tree computes: values that no arithmetic operation gives that is done are left as they are
 pub record Settled (a : Assignment) (done : ℕ → Bool) (t : Operation) : Type 0 where
   pub now : Assignment
   pub better : (v : Value) → refines (a v) (now v) ≡ true
+  pub stays : (v : Value) → gives done t v ≡ false → now v ≡ a v
   pub fits : FitsAll now done t
   pub typed : AreOfTypes now t
   pub sure : AllSure now done t

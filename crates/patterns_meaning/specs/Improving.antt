@@ -1,7 +1,8 @@
 -- The module after a pattern of one's own is applied, also where what its root computed was poison: what comes of it may
 -- be known then, and so may be what its users compute.
-use Rattle.std.specs.Prelude.{◌≡◌, ℕ, Bool, true, false, not}
+use Rattle.std.specs.Prelude.{◌≡◌, ℕ, Bool, true, false, not, ◌<◌}
 use Rattle.std.specs.List.{list_all}
+use Rattle.ir_tree.specs.declared.value.Value.{Value}
 use Rattle.ir_types.specs.Words.{is_isolated}
 use Rattle.ir_tree.specs.WellFormed.{IsWellFormed}
 use Rattle.ir_tree.specs.Meaning.{Operation}
@@ -14,19 +15,21 @@ use Rattle.patterns_book.specs.declared.pattern.New.{New}
 use Rattle.patterns_book.specs.declared.pattern.New.TheVariants as new
 use Rattle.patterns_book.specs.Shapes.{Shape}
 use Rattle.patterns_own.specs.Own.{own_rewrite}
-use Rattle.patterns_meaning.specs.Meaning.{AreOfTypes, Assignment, FitsAll}
-use Rattle.patterns_meaning.specs.Better.{AllSure, AreKinded, Better}
+use Rattle.patterns_meaning.specs.Meaning.{AreOfTypes, Assignment, FitsAll, owner}
+use Rattle.patterns_meaning.specs.Better.{AllSure, AreKinded, Better, gives}
 use Rattle.patterns_meaning.specs.After.{or_new}
 use Rattle.patterns_meaning.specs.Applied.{IsProper}
 use Rattle.patterns_meaning.specs.Applying.{IsFoundIn, KeepsThere}
 
--- a tree computes what was computed, or better: at the values of operations below an id
-pub record ComputesBetter (a : Assignment) (n : ℕ) (done : ℕ → Bool) (t : Operation) : Type 0 where
+-- a tree computes, behind a module, what was computed, or better. Values that no arithmetic operation gives that was done
+-- stay as they are
+pub record ComputesBetter (a : Assignment) (done : ℕ → Bool) (m : Module) (later : ℕ → Bool) (t : Operation) : Type 0 where
   pub now : Assignment
-  pub better : Better n a now
-  pub fits : FitsAll now done t
+  pub better : Better m.next a now
+  pub stays : (v : Value) → owner v < m.next → gives done m.tree v ≡ false → now v ≡ a v
+  pub fits : FitsAll now later t
   pub typed : AreOfTypes now t
-  pub sure : AllSure now done t
+  pub sure : AllSure now later t
 
 -- a pattern makes no signed quotient
 abbrev pub is_quotient : Form → Bool
@@ -49,4 +52,4 @@ RewritesComputeBetter =
     → IsWellFormed is_isolated m → IsProper p → is_without_quotients p ≡ true
     → FitsAll a done m.tree → AreOfTypes a m.tree → AllSure a done m.tree
     → (found : IsFoundIn p m x a done) → KeepsThere p m x a done found
-    → AreKinded n.tree → own_rewrite p m x ≡ becomes n → ComputesBetter a m.next (or_new m.next done) n.tree
+    → AreKinded n.tree → own_rewrite p m x ≡ becomes n → ComputesBetter a done m (or_new m.next done) n.tree

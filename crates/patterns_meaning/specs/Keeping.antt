@@ -1,5 +1,5 @@
 -- Rules of rewriting keep what a module computes, or make it better: at an operation, and so for a whole run.
-use Rattle.std.specs.Prelude.{◌≡◌, ℕ, nat_lt, Bool, true, if◌then◌else◌}
+use Rattle.std.specs.Prelude.{◌≡◌, ◌<◌, ℕ, nat_lt, Bool, true, false, if◌then◌else◌}
 use Rattle.std.specs.List.{list_all}
 use Rattle.ir_types.specs.Words.{is_isolated}
 use Rattle.ir_tree.specs.declared.value.Value.{Value}
@@ -11,8 +11,8 @@ use Rattle.ir_event.specs.Step.{IsSorted}
 use Rattle.patterns_base.specs.declared.rule.Rule.{Rule}
 use Rattle.patterns_base.specs.Rewrites.{becomes, rewrite_of}
 use Rattle.patterns_book.specs.Matching.{Header}
-use Rattle.patterns_meaning.specs.Meaning.{AreOfTypes, Assignment, Each, FitsAll}
-use Rattle.patterns_meaning.specs.Better.{AllSure, AreKinded, Better}
+use Rattle.patterns_meaning.specs.Meaning.{AreOfTypes, Assignment, Each, FitsAll, owner}
+use Rattle.patterns_meaning.specs.Better.{AllSure, AreKinded, Better, gives}
 
 -- a value is there where its operation is done; arguments of blocks are
 abbrev pub is_there : (ℕ → Bool) → Value → Bool
@@ -35,10 +35,13 @@ pub record Computing (a : Assignment) (done : ℕ → Bool) (t : Operation) : Ty
 abbrev pub done_after : ℕ → ℕ → (ℕ → Bool) → ℕ → Bool
 done_after n x done y = if nat_lt y n then done y else done x
 
--- a tree computes so with outcomes that are the same or better at the values of operations below an id
-pub record Improves (a : Assignment) (n : ℕ) (later : ℕ → Bool) (t : Operation) : Type 0 where
+-- a tree computes so, behind a module, with outcomes that are the same or better at all values of the module. Values that
+-- no arithmetic operation gives that was done stay as they are, and are given by none that is done
+pub record Improves (a : Assignment) (done : ℕ → Bool) (m : Module) (later : ℕ → Bool) (t : Operation) : Type 0 where
   pub now : Assignment
-  pub better : Better n a now
+  pub better : Better m.next a now
+  pub stays : (v : Value) → owner v < m.next → gives done m.tree v ≡ false → now v ≡ a v
+  pub free : (v : Value) → owner v < m.next → gives done m.tree v ≡ false → gives later t v ≡ false
   pub computing : Computing now later t
 
 -- a module in which rules keep what is computed: well-formed, with sorted dictionaries, where each arithmetic operation
@@ -57,4 +60,4 @@ KeepsReady r = (m n : Module) (x : ℕ) → IsReady m → rewrite_of r m x ≡ b
 abbrev pub KeepsComputing : Rule → Type 0
 KeepsComputing r =
     (m n : Module) (x : ℕ) (a : Assignment) (done : ℕ → Bool) → IsReady m → Computing a done m.tree
-    → rewrite_of r m x ≡ becomes n → Improves a m.next (done_after m.next x done) n.tree
+    → rewrite_of r m x ≡ becomes n → Improves a done m (done_after m.next x done) n.tree

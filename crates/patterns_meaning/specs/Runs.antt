@@ -38,7 +38,7 @@ KeptAreKept = (rs : List Rule) → ((r : Rule) → In r rs → In r kept_rules) 
 pub record ComputesThrough (a : Assignment) (done : ℕ → Bool) (m n : Module) : Type 0 where
   pub later : ℕ → Bool
   pub same : (y : ℕ) → y < m.next → later y ≡ done y
-  pub improves : Improves a m.next later n.tree
+  pub improves : Improves a done m later n.tree
 
 -- rewrites by such rules keep a module ready, and for all outcomes with which it computes there are outcomes with which
 -- the last module computes, the same or better at all values of the first
