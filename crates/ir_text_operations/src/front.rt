@@ -66,9 +66,9 @@ fn spelled<'a>(alloc: Global, raw: &'a [u8]) -> Result<CowSlice<'a, u8>, AllocEr
     }
 }
 
-/// The name of an operation, which has one byte or more, by its token.
+/// The name of an operation, which has one byte or more.
 #[tactic(auto, unfolding(crate::specs::FrontReading::op_name_at))]
-fn token_name<'a>(
+fn op_name<'a>(
     alloc: Global,
     bytes: &'a [u8],
     named: bool,
@@ -85,22 +85,6 @@ fn token_name<'a>(
         }
         Ok((found, _)) => Err(ReadError::Refused(wrong(begin_refusal(&found, named), bytes))),
         Err(e) => Err(e),
-    }
-}
-
-/// The name of an operation, which has one byte or more. Most have those of a word alone.
-#[inline(always)]
-#[tactic(auto, unfolding(crate::specs::FrontReading::op_name_at))]
-fn op_name<'a>(
-    alloc: Global,
-    bytes: &'a [u8],
-    named: bool,
-) -> Result<(CowSlice<'a, u8>, &'a [u8]), ReadError>
-    ensures { Gives (λ x. (cow_slice_items x.0, x.1.now)) result (op_name_at bytes.now) }
-{
-    match lexer::plain_string(bytes) {
-        Some((name, rest)) if name.len() != 0 => Ok((CowSlice::Borrowed(name), rest)),
-        _ => token_name(alloc, bytes, named),
     }
 }
 
