@@ -6,8 +6,9 @@ use Rattle.std.specs.List.Sorted.{IsStrictlySortedBy}
 use Rattle.std.specs.Ordering.{nat_cmp}
 use Rattle.std.specs.declared.cmp.Ordering.TheVariants.{Less}
 use Rattle.std.specs.Map.{lookup, keys_of}
-use Rattle.std.specs.BTreeMap.{BTreeMap, is_at}
-use Rattle.std.specs.BTreeMap as tree
+use Rattle.std.specs.BTreeMap.{is_at}
+use Rattle.id_map.specs.Map.{IdMap}
+use Rattle.id_map.specs.Map as idmap
 use Rattle.std.proofs.lemmas.Bool.{eqb-true, not-true}
 use Rattle.std.proofs.lemmas.Bool.Decides.{nat_tests}
 use Rattle.std.proofs.lemmas.List.Elements.{All-cons, All-nil}
@@ -124,7 +125,7 @@ module _ (t : Operation) (counts : Counts) (counted : Counted counts t) where
       each None f = refl
       each (Some o) f = ap Some (judged_one x o f)
 
-pub judged_listed : (m : BTreeMap ℕ Row) (counts : Counts) (t : Operation) → tree.IsOrdered nat_cmp m → HasDistinctIds t → Whole (rows_at m) (spots own_of None t) → Counted counts t → judged counts m.entries ≡ by_id (of_each (is_dead t) t)
+pub judged_listed : (m : IdMap Row) (counts : Counts) (t : Operation) → idmap.IsOrdered m → HasDistinctIds t → Whole (rows_at m) (spots own_of None t) → Counted counts t → judged counts m.entries ≡ by_id (of_each (is_dead t) t)
 judged_listed m counts t ordered d h counted =
     rising_same (judged counts m.entries) (by_id (of_each (is_dead t) t)) (judged_rising counts m.entries ordered) (each_rising (is_dead t) t d)
     (λ x. look_judged counts x m.entries ∙ judged_all t counts counted x (rows_at m x) (shown_found own_of t (rows_at m) d h x) ∙ sym (each_look (is_dead t) t d x))
@@ -149,13 +150,13 @@ module _ (c : Things) where
       let rest : map (λ (r : Line). r.cells.items) rs ≡ map (cell_of cell.Op) xs = cc in
       All-cons (RowIsOf c) r rs (subst (All (CellIsOf c)) (sym one) (All-cons (CellIsOf c) (cell.Op x) [] (tt {0}) (All-nil (CellIsOf c)))) (rows_known rs xs rest)
 
-  pub shows_dead : (m : BTreeMap ℕ Row) (counts : Counts) (rows : List Line) (t : Operation) → tree.IsOrdered nat_cmp m → map (λ (r : Line). r.cells.items) rows ≡ map (cell_of cell.Op) (those (judged counts m.entries))
+  pub shows_dead : (m : IdMap Row) (counts : Counts) (rows : List Line) (t : Operation) → idmap.IsOrdered m → map (λ (r : Line). r.cells.items) rows ≡ map (cell_of cell.Op) (those (judged counts m.entries))
       → HasDistinctIds t → Whole (rows_at m) (spots own_of None t) → Counted counts t → Shows c rows (dead_rows t)
   shows_dead m counts rows t ordered is d h counted =
       let e = is ∙ ap (λ l. map (cell_of cell.Op) (those l)) (judged_listed m counts t ordered d h counted) in
       record { says = rows_say rows (dead_of t) e; known = rows_known rows (dead_of t) e }
 
   -- the same of a table that is lent
-  pub shown_by : (m lent : BTreeMap ℕ Row) (counts : Counts) (rows : List Line) (t : Operation) → lent ≡ m → tree.IsOrdered nat_cmp lent → map (λ (r : Line). r.cells.items) rows ≡ map (cell_of cell.Op) (those (judged counts lent.entries))
+  pub shown_by : (m lent : IdMap Row) (counts : Counts) (rows : List Line) (t : Operation) → lent ≡ m → idmap.IsOrdered lent → map (λ (r : Line). r.cells.items) rows ≡ map (cell_of cell.Op) (those (judged counts lent.entries))
       → HasDistinctIds t → Whole (rows_at m) (spots own_of None t) → Counted counts t → Shows c rows (dead_rows t)
-  shown_by m lent counts rows t same ordered is d h counted = shows_dead lent counts rows t ordered is d (subst (λ (z : BTreeMap ℕ Row). Whole (rows_at z) (spots own_of None t)) (sym same) h) counted
+  shown_by m lent counts rows t same ordered is d h counted = shows_dead lent counts rows t ordered is d (subst (λ (z : IdMap Row). Whole (rows_at z) (spots own_of None t)) (sym same) h) counted

@@ -3,8 +3,8 @@ use Rattle.std.proofs.Common.{◌≡◌, ℕ, zero, suc, ◌+◌, ◌-◌, ◌<�
 use Rattle.std.specs.Prelude.{not}
 use Rattle.std.specs.Prelude.{option_map}
 use Rattle.std.specs.Ordering.{nat_cmp}
-use Rattle.std.specs.BTreeMap.{BTreeMap}
-use Rattle.std.specs.BTreeMap as tree
+use Rattle.id_map.specs.Map.{IdMap}
+use Rattle.id_map.specs.Map as idmap
 use Rattle.std.proofs.lemmas.Bool.{eq-eqb, ne_eqb, cases_eq}
 use Rattle.std.proofs.lemmas.List.{map-append}
 use Rattle.bit_set.specs.Bits.{has, IsNone, IsNext}
@@ -134,7 +134,7 @@ module _ (set : List ℕ) (rows : Rows) where
       ∙ one_said x (idle_row (rows x)) (picked f (x + 1) n)
 
 -- where the set has the operations whose count is 0, these are the dead ones
-module _ (set : List ℕ) (counts : Counts) (m : BTreeMap ℕ Row) (unused : AreMarked is_zero counts set) (ordered : tree.IsOrdered nat_cmp m) where
+module _ (set : List ℕ) (counts : Counts) (m : IdMap Row) (unused : AreMarked is_zero counts set) (ordered : idmap.IsOrdered m) where
   said_dead : (x : ℕ) → only (look x (judged counts m.entries)) ≡ idle_in_set set (rows_at m) x
   said_dead x = ap only (look_judged counts x m.entries) ∙ go (rows_at m x) ∙ ap (λ b. if_true (b && idle_row (rows_at m x))) (sym (unused x))
     where
@@ -214,7 +214,7 @@ module _ (set : List ℕ) (rows : Rows) where
       ∙ one_row x (rows x) (picked f (x + 1) n)
 
 -- where the set has the operations with an effect, these are those of the table
-module _ (set : List ℕ) (m : BTreeMap ℕ Row) (acting : AreMarked acts (rows_at m) set) (ordered : tree.IsOrdered nat_cmp m) where
+module _ (set : List ℕ) (m : IdMap Row) (acting : AreMarked acts (rows_at m) set) (ordered : idmap.IsOrdered m) where
   said_acting : (x : ℕ) → if_effects (look x (said m.entries)) ≡ effects_in_set set (rows_at m) x
   said_acting x = ap if_effects (look_said x m.entries) ∙ go (rows_at m x) ∙ ap (λ b. cond b (effects_in (rows_at m x)) None) (sym (acting x))
     where

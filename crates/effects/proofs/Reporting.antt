@@ -8,8 +8,9 @@ use Rattle.std.specs.Cmp.{ranks}
 use Rattle.std.specs.declared.cmp.Ordering.{Ordering}
 use Rattle.std.specs.declared.cmp.Ordering.TheVariants.{Less, Equal, Greater}
 use Rattle.std.specs.Map.{lookup, keys_of}
-use Rattle.std.specs.BTreeMap.{BTreeMap, is_at}
-use Rattle.std.specs.BTreeMap as tree
+use Rattle.std.specs.BTreeMap.{is_at}
+use Rattle.id_map.specs.Map.{IdMap}
+use Rattle.id_map.specs.Map as idmap
 use Rattle.std.proofs.lemmas.Bool.{eq-eqb, ne_eqb}
 use Rattle.std.proofs.lemmas.List.{map-append}
 use Rattle.std.proofs.lemmas.List.Elements.{All-cons, All-nil, All-append}
@@ -53,7 +54,7 @@ look_said x (e ∷ es) =
     ∙ elim (is_eq (nat_cmp x e.0)) as (λ b. cond b (Some e.1.has) (option_map (λ (r : Row). r.has) (lookup (is_at (nat_cmp x)) es)) ≡ option_map (λ (r : Row). r.has) (cond b (Some e.1) (lookup (is_at (nat_cmp x)) es)))
     [ true ↦ refl | false ↦ refl ]
 
-pub said_listed : (m : BTreeMap ℕ Row) (t : Operation) → tree.IsOrdered nat_cmp m → HasDistinctIds t → Whole (rows_at m) (spots own_of None t) → said m.entries ≡ by_id (of_each (effects own_of) t)
+pub said_listed : (m : IdMap Row) (t : Operation) → idmap.IsOrdered m → HasDistinctIds t → Whole (rows_at m) (spots own_of None t) → said m.entries ≡ by_id (of_each (effects own_of) t)
 said_listed m t ordered d h =
     rising_same (said m.entries) (by_id (of_each (effects own_of) t)) (said_rising m.entries ordered) (each_rising (effects own_of) t d)
     (λ x. look_said x m.entries ∙ sym (each_look (effects own_of) t d x ∙ shown_found own_of t (rows_at m) d h x))
@@ -114,7 +115,7 @@ module _ (c : Things) where
       let rest : map (λ (r : Line). r.cells.items) rs ≡ map (cells_of cell.Op cell.Tag) ps = cc in
       All-cons (RowIsOf c) r rs (subst (All (CellIsOf c)) (sym one) (row_known p)) (rows_known rs ps rest)
 
-  pub shows_effects : (m : BTreeMap ℕ Row) (rows : List Line) (t : Operation) → tree.IsOrdered nat_cmp m → map (λ (r : Line). r.cells.items) rows ≡ map (cells_of cell.Op cell.Tag) (having (said m.entries))
+  pub shows_effects : (m : IdMap Row) (rows : List Line) (t : Operation) → idmap.IsOrdered m → map (λ (r : Line). r.cells.items) rows ≡ map (cells_of cell.Op cell.Tag) (having (said m.entries))
       → HasDistinctIds t → Whole (rows_at m) (spots own_of None t) → Shows c rows (effects_rows t)
   shows_effects m rows t ordered is d h =
       let e = is ∙ ap (λ l. map (cells_of cell.Op cell.Tag) (having l)) (said_listed m t ordered d h) in

@@ -2,7 +2,7 @@
 use Rattle.std.specs.Prelude.{◌≡◌, ℕ, ◌+◌, ◌-◌, List, [], ◌∷◌, eqb, Bool, Option, Some, None, option_map}
 use Rattle.std.specs.Prelude.{if◌then◌else◌}
 use Rattle.std.specs.Ordering.{nat_cmp}
-use Rattle.std.specs.BTreeMap as tree
+use Rattle.id_map.specs.Map as idmap
 use Rattle.ir_event.specs.types.Things.{Things}
 use Rattle.ir_event.specs.types.Terms.{name_term}
 use Rattle.ir_event.specs.trees.declared.value.Value.{Value}
@@ -24,7 +24,7 @@ Counts = ℕ → Option ℕ
 
 -- what the counts of a listener are
 abbrev pub counts_in : UseCounts → Counts
-counts_in m = tree.get nat_cmp m.counts
+counts_in m = idmap.get m.counts
 
 -- how many of these values are results of x
 abbrev pub results_among : ℕ → List Value → ℕ

@@ -1,8 +1,8 @@
 -- A walk up the operations around one, that changes their counts and effects.
 use Rattle.std.specs.Prelude.{ℕ, ◌+◌, ◌-◌, List, [], ◌∷◌, nat_lt, ◌&&◌, not, if◌then◌else◌, Option}
 use Rattle.std.specs.Ordering.{nat_cmp}
-use Rattle.std.specs.BTreeMap.{BTreeMap}
-use Rattle.std.specs.BTreeMap as tree
+use Rattle.id_map.specs.Map.{IdMap}
+use Rattle.id_map.specs.Map as idmap
 use Rattle.effects.specs.declared.kinds.EffectKinds.{EffectKinds}
 use Rattle.op_registry.specs.declared.own.Own.{Own}
 use Rattle.effects.specs.declared.row.Counts.{Counts}
@@ -93,8 +93,8 @@ gained_row r s =
     }
 
 -- what a map keeps of an operation
-abbrev pub rows_at : BTreeMap ℕ Row → Rows
-rows_at m = tree.get nat_cmp m
+abbrev pub rows_at : IdMap Row → Rows
+rows_at m = idmap.get m
 
 -- what a table keeps of it
 abbrev pub row_at : EffectRows → Rows

@@ -2,7 +2,7 @@
 //! operation stays whatever it does.
 ghost use Rattle.std.specs.Prelude.{◌≡◌, ℕ, ◌*◌, ◌<◌, nat_lt, length, Some, None, [], ◌∷◌, IsTrue, false};
 ghost use Rattle.std.specs.Ordering.{nat_cmp};
-ghost use Rattle.std.specs.BTreeMap as tree;
+ghost use Rattle.id_map.specs.Map as idmap;
 ghost use Rattle.bit_set.specs.Bits.{has, has_with};
 ghost use Rattle.std.specs.Bool.{OnTrue};
 ghost use Rattle.effects.specs.Counts.{counts_in, with_count, Raised, Lowered, Entered, EnteredWith, LeftWith};
@@ -11,17 +11,17 @@ ghost use Rattle.effects.specs.Spots.{one_if};
 
 use crate::use_counts::UseCounts;
 use bit_set::BitSet;
+use id_map::IdMap;
 use ir_event::trees::value::Value;
 use ir_event::types::ids::OpId;
 use std::alloc::Global;
-use std::collections::BTreeMap;
 
 /// No operation has a count.
 pub(crate) fn no_counts(alloc: Global) -> UseCounts
     ensures { (y : ℕ) → counts_in result y ≡ None }
 {
     UseCounts {
-        counts: BTreeMap::new(alloc),
+        counts: IdMap::new(alloc),
         unused: BitSet::new(alloc),
     }
 }
@@ -30,7 +30,7 @@ pub(crate) fn no_counts(alloc: Global) -> UseCounts
 pub(crate) fn count_of(counts: &UseCounts, op: OpId) -> Option<u32>
     ensures { result ≡ counts_in counts.now op }
 {
-    counts.counts.get(&op).copied()
+    counts.counts.get(op.number()).copied()
 }
 
 /// Adds an operation to the set of those that nobody uses, or takes it out of it, by its count.
@@ -47,19 +47,19 @@ fn mark(unused: &mut BitSet, op: OpId, count: u32)
 }
 
 /// Gives an operation a count. It is false where memory was refused.
-fn record_count(counts: &mut BTreeMap<OpId, u32>, op: OpId, count: u32) -> bool
+fn record_count(counts: &mut IdMap<u32>, op: OpId, count: u32) -> bool
     ensures there { OnTrue result
-        ((y : ℕ) → tree.get nat_cmp counts.new y ≡ with_count op (Some count) (tree.get nat_cmp counts.old) y) }
-    ensures same { result ≡ false → tree.IsUnchanged counts.old counts.new }
+        ((y : ℕ) → idmap.get counts.new y ≡ with_count op (Some count) (idmap.get counts.old) y) }
+    ensures same { result ≡ false → idmap.IsUnchanged counts.old counts.new }
 {
-    counts.insert(op, count).is_ok()
+    counts.insert(op.number(), count).is_ok()
 }
 
 /// Takes a count out. This needs no memory.
-fn drop_count(counts: &mut BTreeMap<OpId, u32>, op: OpId)
-    ensures { (y : ℕ) → tree.get nat_cmp counts.new y ≡ with_count op None (tree.get nat_cmp counts.old) y }
+fn drop_count(counts: &mut IdMap<u32>, op: OpId)
+    ensures { (y : ℕ) → idmap.get counts.new y ≡ with_count op None (idmap.get counts.old) y }
 {
-    counts.remove(&op);
+    counts.remove(op.number());
 }
 
 /// Writes a count in place of another.
@@ -67,8 +67,7 @@ fn write(counts: &mut UseCounts, op: OpId, count: u32)
     ensures { (n : ℕ) → counts_in counts.old op ≡ Some n → (y : ℕ)
         → counts_in counts.new y ≡ with_count op (Some count) (counts_in counts.old) y }
 {
-    if let Some(slot) = counts.counts.get_mut(&op) {
-        *slot = count;
+    if counts.counts.write(op.number(), count) {
         mark(&mut counts.unused, op, count);
     }
 }

@@ -1,18 +1,17 @@
 //! The effects of operations.
 ghost use Rattle.std.specs.Ordering.{nat_cmp};
-ghost use Rattle.std.specs.BTreeMap as tree;
+ghost use Rattle.id_map.specs.Map as idmap;
 ghost use Rattle.effects.specs.Marks.{acts, AreMarked, AreMarked-prop, HasRoom, HasRoom-prop};
 
 use crate::row::Row;
 use bit_set::BitSet;
-use ir_event::types::ids::OpId;
-use std::collections::BTreeMap;
+use id_map::IdMap;
 
 /// A row for each operation, and the set of those that have an effect.
 #[derive(Drop)]
 pub struct EffectRows {
-    pub(crate) rows: BTreeMap<OpId, Row>,
+    pub(crate) rows: IdMap<Row>,
     pub(crate) acting: BitSet,
-    pub(crate) ghost marked: { AreMarked acts (tree.get nat_cmp rows) acting } by { AreMarked-prop acts (tree.get nat_cmp rows) acting },
-    pub(crate) ghost room: { HasRoom (tree.get nat_cmp rows) acting } by { HasRoom-prop (tree.get nat_cmp rows) acting },
+    pub(crate) ghost marked: { AreMarked acts (idmap.get rows) acting } by { AreMarked-prop acts (idmap.get rows) acting },
+    pub(crate) ghost room: { HasRoom (idmap.get rows) acting } by { HasRoom-prop (idmap.get rows) acting },
 }

@@ -1,5 +1,5 @@
 //! Changes of the table.
-ghost use Rattle.std.specs.BTreeMap as tree;
+ghost use Rattle.id_map.specs.Map as idmap;
 ghost use Rattle.std.specs.Prelude.{◌≡◌, false, Some, None, ℕ, List, ◌∷◌};
 ghost use Rattle.std.specs.Bool.{OnTrue};
 ghost use Rattle.effects.specs.Spots.{Spot, Apart, with_row};
@@ -10,27 +10,27 @@ use crate::effect_rows::EffectRows;
 use crate::row::Row;
 use crate::walk::{drop_row, gain, lose, mark, row_of, write};
 use bit_set::BitSet;
+use id_map::IdMap;
 use ir_event::types::ids::OpId;
 use op_registry::own::Own;
 use std::alloc::Global;
-use std::collections::BTreeMap;
 
 /// No operation has a row.
 pub(crate) fn no_rows(alloc: Global) -> EffectRows
     ensures { (x : ℕ) → row_at result x ≡ None }
 {
     EffectRows {
-        rows: BTreeMap::new(alloc),
+        rows: IdMap::new(alloc),
         acting: BitSet::new(alloc),
     }
 }
 
 /// Adds a row to a map, or writes it in place of another. It is false where memory was refused.
-fn record_row(rows: &mut BTreeMap<OpId, Row>, op: OpId, row: Row) -> bool
+fn record_row(rows: &mut IdMap<Row>, op: OpId, row: Row) -> bool
     ensures there { OnTrue result ((x : ℕ) → rows_at rows.new x ≡ with_row op (Some row) (rows_at rows.old) x) }
-    ensures same { result ≡ false → tree.IsUnchanged rows.old rows.new }
+    ensures same { result ≡ false → idmap.IsUnchanged rows.old rows.new }
 {
-    rows.insert(op, row).is_ok()
+    rows.insert(op.number(), row).is_ok()
 }
 
 /// Adds a row, or writes it in place of another. It is false where memory was refused.

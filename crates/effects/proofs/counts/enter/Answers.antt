@@ -1,6 +1,6 @@
 use Rattle.std.proofs.Common.{◌≡◌, ℕ, ◌*◌, ◌<◌, ◌≤◌, Some, true, arith, rules, length}
 use Rattle.std.specs.Ordering.{nat_cmp}
-use Rattle.std.specs.BTreeMap as tree
+use Rattle.id_map.specs.Map as idmap
 use Rattle.effects.specs.Counts.{counts_in}
 use Rattle.effects.specs.Marks.{is_zero}
 use Rattle.effects.proofs.Changes.{on_true_is}
@@ -10,7 +10,7 @@ use Rattle.effects.proofs.counts.enter.Goals as goal
 pub invariant_of-counts-2 : goal.invariant_of-counts-2
 invariant_of-counts-2 c =
     let f = counts_in c.args.counts.now in
-    let g = tree.get nat_cmp c.record_count.new.counts in
+    let g = idmap.get c.record_count.new.counts in
     let n = Some c.if-kept.count in
     let yes : c.record_count.result ≡ true = search rules in
     let is = on_true_is c.record_count.result _ yes c.record_count.ensures.there in

@@ -1,0 +1,9 @@
+//! Maps from ids. Ids that come in order, or nearly so, are found in one step; the others, whatever they are, in as
+//! many steps as a sorted map takes. So ids that someone chose can make a map neither slow nor large.
+//!
+//! A contract sees the map that a `BTreeMap` with the same entries would be seen as.
+#![tactic(auto)]
+
+mod map;
+
+pub use map::IdMap;
