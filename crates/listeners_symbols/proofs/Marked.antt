@@ -3,8 +3,9 @@ use Rattle.std.proofs.Common.{◌≡◌, refl, ap, sym, ◌∙◌, subst, ◌⊎
 use Rattle.std.specs.List.{list_any}
 use Rattle.std.specs.Map.{lookup}
 use Rattle.std.specs.Ordering.{nat_cmp, is_eq}
-use Rattle.std.specs.BTreeMap.{BTreeMap, is_at}
-use Rattle.std.specs.BTreeMap as tree
+use Rattle.std.specs.BTreeMap.{is_at}
+use Rattle.id_map.specs.Map.{IdMap}
+use Rattle.id_map.specs.Map as idmap
 use Rattle.std.specs.BTreeSet.{BTreeSet, contains}
 use Rattle.std.specs.BTreeSet as set
 use Rattle.ir_event.proofs.of_tree_laws.Listed.{bool_cases}
@@ -13,26 +14,26 @@ use Rattle.listeners_symbols.specs.declared.role.Role.{Role as Numbers}
 use Rattle.listeners_symbols.specs.Telling.{HasThose, said_at}
 
 -- no set is too small for no roles
-pub none_those : (test : Numbers → Bool) (m : BTreeMap ℕ Numbers) (s : BTreeSet ℕ) → m.entries ≡ [] → HasThose test m s
+pub none_those : (test : Numbers → Bool) (m : IdMap Numbers) (s : BTreeSet ℕ) → m.entries ≡ [] → HasThose test m s
 none_those test m s e x h = absurd (true≢false (sym h ∙ ap (λ (es : List (ℕ × Numbers)). said_at test (lookup (is_at (nat_cmp x)) es)) e))
 
 -- and no greater set is
-pub more_those : (test : Numbers → Bool) (m : BTreeMap ℕ Numbers) (s t : BTreeSet ℕ) → HasThose test m s → ((x : ℕ) → contains nat_cmp s x ≡ true → contains nat_cmp t x ≡ true) → HasThose test m t
+pub more_those : (test : Numbers → Bool) (m : IdMap Numbers) (s t : BTreeSet ℕ) → HasThose test m s → ((x : ℕ) → contains nat_cmp s x ≡ true → contains nat_cmp t x ≡ true) → HasThose test m t
 more_those test m s t has more x h = more x (has x h)
 
-pub same_those : (test : Numbers → Bool) (m n : BTreeMap ℕ Numbers) (s : BTreeSet ℕ) → n.entries ≡ m.entries → HasThose test m s → HasThose test n s
+pub same_those : (test : Numbers → Bool) (m n : IdMap Numbers) (s : BTreeSet ℕ) → n.entries ≡ m.entries → HasThose test m s → HasThose test n s
 same_those test m n s e has x h = has x (ap (λ (es : List (ℕ × Numbers)). said_at test (lookup (is_at (nat_cmp x)) es)) (sym e) ∙ h)
 
 -- where the role of operation k becomes o, a set that has k where the test holds of that, and all others that it had
-pub new_those : (test : Numbers → Bool) (m n : BTreeMap ℕ Numbers) (s t : BTreeSet ℕ) (k : ℕ) (o : Option Numbers) → HasThose test m s → tree.Updates nat_cmp m n k o
+pub new_those : (test : Numbers → Bool) (m n : IdMap Numbers) (s t : BTreeSet ℕ) (k : ℕ) (o : Option Numbers) → HasThose test m s → idmap.Updates m n k o
     → (said_at test o ≡ true → contains nat_cmp t k ≡ true) → ((x : ℕ) → eqb k x ≡ false → contains nat_cmp s x ≡ true → contains nat_cmp t x ≡ true) → HasThose test n t
 new_those test m n s t k o has updates own others x h = go (bool_cases (is_eq (nat_cmp k x)))
   where
     go : (is_eq (nat_cmp k x) ≡ true) ⊎ (is_eq (nat_cmp k x) ≡ false) → contains nat_cmp t x ≡ true
     go (inl e) =
         subst (λ y. contains nat_cmp t y ≡ true) (eqb-true k x (sym (same_test k x) ∙ e))
-        (own (ap (λ b. said_at test (cond b o (tree.get nat_cmp m x))) (sym e) ∙ ap (said_at test) (sym (updates.0 x)) ∙ h))
-    go (inr e) = others x (sym (same_test k x) ∙ e) (has x (ap (λ b. said_at test (cond b o (tree.get nat_cmp m x))) (sym e) ∙ ap (said_at test) (sym (updates.0 x)) ∙ h))
+        (own (ap (λ b. said_at test (cond b o (idmap.get m x))) (sym e) ∙ ap (said_at test) (sym (updates x)) ∙ h))
+    go (inr e) = others x (sym (same_test k x) ∙ e) (has x (ap (λ b. said_at test (cond b o (idmap.get m x))) (sym e) ∙ ap (said_at test) (sym (updates x)) ∙ h))
 
 -- ---- sets
 pub added_stays : (k : ℕ) (s t : BTreeSet ℕ) → set.Updates nat_cmp s t k true → (x : ℕ) → contains nat_cmp s x ≡ true → contains nat_cmp t x ≡ true

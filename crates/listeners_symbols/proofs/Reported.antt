@@ -10,7 +10,7 @@ use Rattle.std.specs.Cmp.Lexicographic.{pointwise}
 use Rattle.std.specs.declared.cmp.Ordering.TheVariants.{Less}
 use Rattle.std.specs.Map.{lookup, keys_of}
 use Rattle.std.specs.BTreeMap.{is_at}
-use Rattle.std.specs.BTreeMap as tree
+use Rattle.id_map.specs.Map as idmap
 use Rattle.std.specs.FinMap.{nat_cmp-IsAntisymmetric}
 use Rattle.std.specs.FinMap.Entries.{find, is_sorted, below_all, find-put, is_sorted-put, same_entries}
 use Rattle.std.proofs.lemmas.Cmp.{nat_cmp_total}
@@ -325,7 +325,7 @@ module _ (t : Operation) where
   roles_sorted [] = tt
   roles_sorted (s ∷ ss) = is_sorted-put nat_cmp nat_cmp_total (stand_id s) (role t s) (roles_in t ss) (roles_sorted ss)
 
-  pub entries_meant : (b : Things) (m : Roles) → tree.IsOrdered nat_cmp m.all → Keeps b t (kept_at m) → meant b m.all.entries ≡ roles_by_id t
+  pub entries_meant : (b : Things) (m : Roles) → idmap.IsOrdered m.all → Keeps b t (kept_at m) → meant b m.all.entries ≡ roles_by_id t
   entries_meant b m ordered keeps =
       same_entries nat_cmp nat_cmp_total nat_cmp-IsAntisymmetric (meant b m.all.entries) (roles_by_id t) (meant_sorted b m.all.entries ordered) (roles_sorted (stands [] t)) (λ q. find_meant b q m.all.entries ∙ (keeps q).is ∙ sym (found_role q (stands [] t)))
 
@@ -371,7 +371,7 @@ module _ (b c : Things) (holds : Holds b) (g : Grows b c) where
       let rest : cells_of rs ≡ lines_cells ls = cc in
       All-cons (RowIsOf c) r rs (subst (All (CellIsOf c)) (sym one) (cells_known l k.0)) (rows_known rs ls rest k.1)
 
-pub shows_symbols : (c : Things) (t : Operation) (m : Roles) (rows : List Row) → tree.IsOrdered nat_cmp m.all → IsKept c t (kept_at m)
+pub shows_symbols : (c : Things) (t : Operation) (m : Roles) (rows : List Row) → idmap.IsOrdered m.all → IsKept c t (kept_at m)
     → cells_of rows ≡ lines_cells (symbol_lines eqb eqb (numbers_at m) (numbered m.all.entries)) → Shows c rows (symbol_rows t)
 shows_symbols c t m rows ordered kept is =
     let b = kept.from in

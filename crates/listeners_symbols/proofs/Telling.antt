@@ -9,8 +9,9 @@ use Rattle.std.specs.Ordering.{MatchOrdering, nat_cmp, is_eq}
 use Rattle.std.specs.declared.cmp.Ordering.{Ordering}
 use Rattle.std.specs.declared.cmp.Ordering.TheVariants.{Less, Equal, Greater}
 use Rattle.std.specs.Map.{lookup, keys_of}
-use Rattle.std.specs.BTreeMap.{BTreeMap, is_at}
-use Rattle.std.specs.BTreeMap as tree
+use Rattle.std.specs.BTreeMap.{is_at}
+use Rattle.id_map.specs.Map.{IdMap}
+use Rattle.id_map.specs.Map as idmap
 use Rattle.std.specs.BTreeSet.{BTreeSet, contains}
 use Rattle.std.specs.BTreeSet as set
 use Rattle.ir_event.specs.tree_laws.Members.{In}
@@ -155,7 +156,7 @@ module _ {X : Type 0} (f : ℕ → Numbers → List X) (test : Numbers → Bool)
               let at = eqb-true x e.0 (sym (same_test x e.0) ∙ so) in
               absurd (true≢false (sym is ∙ ap (said_at test) (ap (look es) at ∙ look_above e.0 es s.0)))
 
-  pub told_of_set : (m : BTreeMap ℕ Numbers) (s : BTreeSet ℕ) → s.keys ≡ ks → tree.IsOrdered nat_cmp m → set.IsOrdered nat_cmp s → HasThose test m s → told f (tree.get nat_cmp m) ks ≡ all_told f m.entries
+  pub told_of_set : (m : IdMap Numbers) (s : BTreeSet ℕ) → s.keys ≡ ks → idmap.IsOrdered m → set.IsOrdered nat_cmp s → HasThose test m s → told f (idmap.get m) ks ≡ all_told f m.entries
   told_of_set m s same ordered rises has =
       told_all f m.entries ks ordered (subst (IsStrictlySortedBy nat_cmp) same rises)
       (each_told m.entries ordered (λ x is. subst (λ l. list_any (is_at (nat_cmp x)) l ≡ true) same (has x is)))
@@ -206,7 +207,7 @@ each_defined : (es : List (ℕ × Numbers)) → all_told defined_by es ≡ defin
 each_defined [] = refl
 each_defined (e ∷ es) = ap (λ l. defined_by e.0 e.1 ++ l) (each_defined es)
 
-module _ (m : Roles) (ordered : tree.IsOrdered nat_cmp m.all) (rises : set.IsOrdered nat_cmp m.telling) where
+module _ (m : Roles) (ordered : idmap.IsOrdered m.all) (rises : set.IsOrdered nat_cmp m.telling) where
   pub definitions_told : told defined_by (kept_at m) m.telling.keys ≡ definitions (numbered m.all.entries)
   definitions_told = told_of_set defined_by tells undefined m.telling.keys m.all m.telling refl ordered rises m.tell ∙ each_defined m.all.entries
 

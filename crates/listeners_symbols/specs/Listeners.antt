@@ -1,7 +1,7 @@
 -- What the listener means.
 use Rattle.std.specs.Prelude.{◌≡◌, ℕ, ◌+◌, false, None}
 use Rattle.std.specs.Ordering.{nat_cmp}
-use Rattle.std.specs.BTreeMap as tree
+use Rattle.id_map.specs.Map as idmap
 use Rattle.ir_types.proofs.Growth.{grows_trans}
 use Rattle.ir_event.specs.Bounds.{operands_of}
 use Rattle.ir_event.specs.Listener.{Listener}
@@ -12,7 +12,7 @@ use Rattle.listeners_symbols.specs.Table.{Table, IsKept}
 
 -- what is kept of an operation
 abbrev pub kept_at : Roles → Table
-kept_at m = tree.get nat_cmp m.all
+kept_at m = idmap.get m.all
 
 -- the table keeps the roles of the operations of the module
 abbrev pub symbols_listener : Symbols → Listener

@@ -2,8 +2,8 @@
 use Rattle.std.specs.Prelude.{◌≡◌, ℕ, List, [], ◌∷◌, ◌++◌, Bool, true, false, ◌&&◌, ◌||◌, if◌then◌else◌, Option, Some, None, is_some}
 use Rattle.std.specs.Coded.{Coded-set, coded_bool, Π_prop}
 use Rattle.std.specs.Ordering.{nat_cmp}
-use Rattle.std.specs.BTreeMap.{BTreeMap}
-use Rattle.std.specs.BTreeMap as tree
+use Rattle.id_map.specs.Map.{IdMap}
+use Rattle.id_map.specs.Map as idmap
 use Rattle.std.specs.BTreeSet.{BTreeSet, contains}
 use Rattle.listeners_symbols.specs.declared.role.Role.{Role as Numbers}
 
@@ -24,10 +24,10 @@ said_at test None = false
 said_at test (Some r) = test r
 
 -- a set has each operation of which a test holds, and maybe others
-abbrev pub HasThose : (Numbers → Bool) → BTreeMap ℕ Numbers → BTreeSet ℕ → Type 0
-HasThose test m s = (x : ℕ) → said_at test (tree.get nat_cmp m x) ≡ true → contains nat_cmp s x ≡ true
+abbrev pub HasThose : (Numbers → Bool) → IdMap Numbers → BTreeSet ℕ → Type 0
+HasThose test m s = (x : ℕ) → said_at test (idmap.get m x) ≡ true → contains nat_cmp s x ≡ true
 
-pub HasThose-prop : (test : Numbers → Bool) (m : BTreeMap ℕ Numbers) (s : BTreeSet ℕ) → IsProp (HasThose test m s)
+pub HasThose-prop : (test : Numbers → Bool) (m : IdMap Numbers) (s : BTreeSet ℕ) → IsProp (HasThose test m s)
 HasThose-prop test m s = Π_prop (λ x. Π_prop (λ h. Coded-set coded_bool (contains nat_cmp s x) true))
 
 -- what is told of an operation, by what is kept of it

@@ -1,7 +1,7 @@
 //! The rows of the report.
 ghost use Rattle.std.specs.Prelude.{◌≡◌, ◌++◌, ◌∷◌, [], eqb, map, option_map, OnOk, IfOk};
 ghost use Rattle.std.specs.Ordering.{nat_cmp};
-ghost use Rattle.std.specs.BTreeMap as tree;
+ghost use Rattle.id_map.specs.Map as idmap;
 ghost use Rattle.ir_event.specs.declared.row.Cell.TheVariants as cell;
 ghost use Rattle.ir_event.specs.declared.tag.Tag.TheVariants as word;
 ghost use Rattle.ir_event.specs.Tags.{tag_number};
@@ -335,7 +335,7 @@ pub(crate) fn lines(alloc: Global, roles: &Roles) -> Result<Vec<Row>, AllocError
     ensures rows { IfOk result
         (λ out. cells_of out.items
         ≡ lines_cells (symbol_lines eqb eqb (numbers_at roles.now) (numbered roles.now.all.entries))) }
-    ensures ordered { IfOk result (λ _. tree.IsOrdered nat_cmp roles.now.all) }
+    ensures ordered { IfOk result (λ _. idmap.IsOrdered roles.now.all) }
 {
     roles.ordered();
     let definitions = definitions_of(alloc, roles)?;

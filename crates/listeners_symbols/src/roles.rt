@@ -2,20 +2,21 @@
 ghost use Rattle.std.specs.Prelude.{◌≡◌, ◌&&◌, ◌||◌, ℕ, eqb, false, true, is_some, OnOk, Some, None};
 ghost use Rattle.std.specs.Option.{option_copied};
 ghost use Rattle.std.specs.Ordering.{nat_cmp};
-ghost use Rattle.std.specs.BTreeMap as tree;
+ghost use Rattle.id_map.specs.Map as idmap;
 ghost use Rattle.std.specs.BTreeSet as set;
 ghost use Rattle.std.specs.BTreeSet.{contains};
 ghost use Rattle.listeners_symbols.specs.Telling.{HasThose, HasThose-prop, has_some, hides, tells};
 
 use crate::role::Role;
+use id_map::IdMap;
 use ir_event::types::ids::OpId;
 use std::alloc::{AllocError, Global};
-use std::collections::{BTreeMap, BTreeSet};
+use std::collections::BTreeSet;
 
 /// What is kept of each operation, and of which reports tell.
 #[derive(Drop)]
 pub struct Roles {
-    pub all: BTreeMap<OpId, Role>,
+    pub all: IdMap<Role>,
     /// Those that define a symbol, refer to one or call one, and maybe some that did.
     pub telling: BTreeSet<OpId>,
     /// Private definitions, and maybe some that were.
@@ -27,10 +28,10 @@ pub struct Roles {
 impl Roles {
     /// No roles.
     pub fn new(alloc: Global) -> Roles
-        ensures { (x : ℕ) → tree.get nat_cmp result.all x ≡ None }
+        ensures { (x : ℕ) → idmap.get result.all x ≡ None }
     {
         Roles {
-            all: BTreeMap::new(alloc),
+            all: IdMap::new(alloc),
             telling: BTreeSet::new(alloc),
             hidden: BTreeSet::new(alloc),
         }
@@ -38,43 +39,45 @@ impl Roles {
 
     /// Says that all stands in the order of the operations' ids.
     pub fn ordered(&self)
-        ensures all { tree.IsOrdered nat_cmp self.now.all }
+        ensures all { idmap.IsOrdered self.now.all }
         ensures telling { set.IsOrdered nat_cmp self.now.telling }
         ensures hidden { set.IsOrdered nat_cmp self.now.hidden }
     {
-        let _ = self.all.len();
+        self.all.ordered();
         let _ = self.telling.len();
         let _ = self.hidden.len();
     }
 
     /// What is kept of an operation.
     pub fn get(&self, op: OpId) -> Option<&Role>
-        ensures value { option_copied result ≡ tree.get nat_cmp self.now.all op }
+        ensures value { option_copied result ≡ idmap.get self.now.all op }
     {
-        self.all.get(&op)
+        self.all.get(op.number())
     }
 
     /// Sets the role of an operation. Where memory is refused, all roles stay.
     pub fn insert(&mut self, op: OpId, role: Role) -> Result<(), AllocError>
-        ensures updates { OnOk result (tree.Updates nat_cmp self.old.all self.new.all op (Some role)) }
+        ensures updates { OnOk result (idmap.Updates self.old.all self.new.all op (Some role)) }
     {
         let telling = tells(&role);
         let hidden = hides(&role);
         add_if(&mut self.telling, op, telling)?;
         add_if(&mut self.hidden, op, hidden)?;
-        self.all.insert(op, role)?;
-        drop_unless(&mut self.telling, op, telling);
-        drop_unless(&mut self.hidden, op, hidden);
+        let told = tells_of(self.all.get(op.number()));
+        let hid = hides_of(self.all.get(op.number()));
+        self.all.insert(op.number(), role)?;
+        drop_unless(&mut self.telling, op, telling || !told);
+        drop_unless(&mut self.hidden, op, hidden || !hid);
         Ok(())
     }
 
     /// Takes the role of an operation out, which needs no memory.
     pub fn remove(&mut self, op: OpId)
-        ensures updates { tree.Updates nat_cmp self.old.all self.new.all op None }
+        ensures updates { idmap.Updates self.old.all self.new.all op None }
     {
-        self.all.remove(&op);
-        drop_unless(&mut self.telling, op, false);
-        drop_unless(&mut self.hidden, op, false);
+        let gone = self.all.remove(op.number());
+        drop_unless(&mut self.telling, op, !tells_of(gone.as_ref()));
+        drop_unless(&mut self.hidden, op, !hides_of(gone.as_ref()));
     }
 }
 
@@ -105,6 +108,22 @@ fn hides(role: &Role) -> bool
         role.symbol.is_some()
     } else {
         false
+    }
+}
+
+/// Whether one that there may be tells of symbols. Nothing follows from it: a set may have more.
+fn tells_of(role: Option<&Role>) -> bool {
+    match role {
+        Some(role) => tells(role),
+        None => false,
+    }
+}
+
+/// Whether one that there may be hides a symbol. Nothing follows from it either.
+fn hides_of(role: Option<&Role>) -> bool {
+    match role {
+        Some(role) => hides(role),
+        None => false,
     }
 }
 

@@ -4,7 +4,7 @@ use Rattle.std.specs.Prelude.{option_map, option_to_list, is_some, IfSome}
 use Rattle.std.specs.List.{All}
 use Rattle.std.specs.Str.{bytes_eq}
 use Rattle.std.specs.Ordering.{nat_cmp}
-use Rattle.std.specs.BTreeMap as tree
+use Rattle.id_map.specs.Map as idmap
 use Rattle.std.proofs.lemmas.List.Elements.{All-head, All-tail}
 use Rattle.ir_event.specs.types.Things.{Things, IsName}
 use Rattle.ir_event.specs.types.Sound.{IsSound}
@@ -67,7 +67,7 @@ module _ (b : Things) where
           go None h = refl
           go (Some k) h = targets_meant k.table k.references.items h.references
 
-    module _ (d : HasDistinctIds t) (ordered : tree.IsOrdered nat_cmp m.all) where
+    module _ (d : HasDistinctIds t) (ordered : idmap.IsOrdered m.all) where
       abbrev in_numbers : List (DefinitionOf ℕ)
       in_numbers = definitions (numbered m.all.entries)
 

@@ -3,7 +3,7 @@ use Rattle.std.proofs.Common.{◌≡◌, refl, ap, sym, ◌∙◌, subst, ℕ, �
 use Rattle.std.specs.Prelude.{option_map, is_some, is_none, IfSome}
 use Rattle.std.specs.List.{All}
 use Rattle.std.specs.Ordering.{nat_cmp}
-use Rattle.std.specs.BTreeMap as tree
+use Rattle.id_map.specs.Map as idmap
 use Rattle.std.proofs.lemmas.List.{map-append}
 use Rattle.std.proofs.lemmas.List.Elements.{All-cons, All-nil}
 use Rattle.ir_event.specs.types.Things.{Things, Grows, IsName}
@@ -40,7 +40,7 @@ none_true : {X : Type 0} (o : Option X) → is_none o ≡ true → o ≡ None
 none_true None e = refl
 none_true (Some x) e = absurd (true≢false (sym e))
 
-module _ (b : Things) (sound : IsSound b) (t : Operation) (d : HasDistinctIds t) (m : Roles) (ordered : tree.IsOrdered nat_cmp m.all) (keeps : Keeps b t (kept_at m)) (left : Left) (marked : IsMarked (numbers_at m) (definitions (numbered m.all.entries)) left) where
+module _ (b : Things) (sound : IsSound b) (t : Operation) (d : HasDistinctIds t) (m : Roles) (ordered : idmap.IsOrdered m.all) (keeps : Keeps b t (kept_at m)) (left : Left) (marked : IsMarked (numbers_at m) (definitions (numbered m.all.entries)) left) where
   -- a definition is taken out exactly where it is reached
   pub out_where_reached : (x : ℕ) → is_definition t x ≡ true → is_out left x ≡ among x (reached_in t)
   out_where_reached x e = same_bool (is_out left x) (among x (reached_in t))
@@ -130,7 +130,7 @@ module _ (b c : Things) (holds : Holds b) (g : Grows b c) where
       let rest : cells_of rs ≡ lines_cells ls = cc in
       All-cons (RowIsOf c) r rs (subst (All (CellIsOf c)) (sym one) (cells_known l k.0)) (rows_known rs ls rest k.1)
 
-pub shows_unreached : (c : Things) (t : Operation) (m : Roles) (rows : List Row) → tree.IsOrdered nat_cmp m.all → HasDistinctIds t → IsKept c t (kept_at m)
+pub shows_unreached : (c : Things) (t : Operation) (m : Roles) (rows : List Row) → idmap.IsOrdered m.all → HasDistinctIds t → IsKept c t (kept_at m)
     → (left : Left) → IsMarked (numbers_at m) (definitions (numbered m.all.entries)) left → cells_of rows ≡ lines_cells (lines_with (is_out left) (numbered m.all.entries)) → Shows c rows (unreached_rows t)
 shows_unreached c t m rows ordered d kept left marked is =
     let b = kept.from in

@@ -4,7 +4,7 @@ use Rattle.std.specs.Prelude.{is_some, is_none, option_map}
 use Rattle.std.specs.List.{list_any}
 use Rattle.std.specs.Ordering.{nat_cmp, is_eq}
 use Rattle.std.specs.BTreeMap.{is_at}
-use Rattle.std.specs.BTreeMap as tree
+use Rattle.id_map.specs.Map as idmap
 use Rattle.std.specs.BTreeSet.{contains}
 use Rattle.std.specs.BTreeSet as set
 use Rattle.ir_event.specs.tree_laws.Members.{In}
@@ -141,7 +141,7 @@ each_line : (left : Left) (es : List (ℕ × Numbers)) → all_told (line_by lef
 each_line left [] = refl
 each_line left (e ∷ es) = ap (λ l. line_by left e.0 e.1 ++ l) (each_line left es)
 
-pub lines_told : (m : Roles) (left : Left) → tree.IsOrdered nat_cmp m.all → set.IsOrdered nat_cmp m.hidden → told (line_by left) (kept_at m) m.hidden.keys ≡ lines_with (is_out left) (numbered m.all.entries)
+pub lines_told : (m : Roles) (left : Left) → idmap.IsOrdered m.all → set.IsOrdered nat_cmp m.hidden → told (line_by left) (kept_at m) m.hidden.keys ≡ lines_with (is_out left) (numbered m.all.entries)
 lines_told m left ordered rises = told_of_set (line_by left) hides (unsaid left) m.hidden.keys m.all m.hidden refl ordered rises m.hide ∙ each_line left m.all.entries
 
 -- where there is no private definition, none is left
@@ -155,7 +155,7 @@ none_marked m ds none = record {
   only = λ x ws e. absurd cc;
 }
 
-pub no_lines : (m : Roles) → tree.IsOrdered nat_cmp m.all → set.IsOrdered nat_cmp m.hidden → m.hidden.keys ≡ [] → [] ≡ lines_with (is_out (λ x. None)) (numbered m.all.entries)
+pub no_lines : (m : Roles) → idmap.IsOrdered m.all → set.IsOrdered nat_cmp m.hidden → m.hidden.keys ≡ [] → [] ≡ lines_with (is_out (λ x. None)) (numbered m.all.entries)
 no_lines m ordered rises none = sym (ap (told (line_by (λ x. None)) (kept_at m)) none) ∙ lines_told m (λ x. None) ordered rises
 
 pub no_keys : (ks : List ℕ) → length ks ≡ 0 → ks ≡ []

@@ -1,7 +1,7 @@
 //! The rows of the report.
 ghost use Rattle.std.specs.Prelude.{◌≡◌, ◌++◌, ◌∷◌, [], OnOk, IfOk};
 ghost use Rattle.std.specs.Ordering.{nat_cmp};
-ghost use Rattle.std.specs.BTreeMap as tree;
+ghost use Rattle.id_map.specs.Map as idmap;
 ghost use Rattle.ir_event.specs.declared.row.Cell.TheVariants.{Op, Name};
 ghost use Rattle.listeners_symbols.specs.Symbols.{definitions};
 ghost use Rattle.listeners_symbols.specs.Table.{role_numbers};
@@ -110,7 +110,7 @@ pub(crate) fn lines(alloc: Global, roles: &Roles) -> Result<Vec<Row>, AllocError
     ensures rows { IfOk result
         (λ out. (left : Left) × IsMarked (numbers_at roles.now) (definitions (numbered roles.now.all.entries)) left
         × (cells_of out.items ≡ lines_cells (lines_with (is_out left) (numbered roles.now.all.entries)))) }
-    ensures ordered { IfOk result (λ _. tree.IsOrdered nat_cmp roles.now.all) }
+    ensures ordered { IfOk result (λ _. idmap.IsOrdered roles.now.all) }
 {
     roles.ordered();
     if roles.hidden.is_empty() {
