@@ -9,8 +9,9 @@ use Rattle.std.specs.Ordering.{nat_cmp, is_eq, match_ordering, MatchOrdering}
 use Rattle.std.specs.Cmp.{nat_cmp_total, ranks}
 use Rattle.std.specs.Map.{lookup}
 use Rattle.std.specs.Map as entries
-use Rattle.std.specs.BTreeMap.{BTreeMap, is_at, insert_entry}
-use Rattle.std.specs.BTreeMap as tree
+use Rattle.std.specs.BTreeMap.{is_at, insert_entry}
+use Rattle.id_map.specs.Map.{IdMap}
+use Rattle.id_map.specs.Map as idmap
 use Rattle.std.proofs.lemmas.Bool.{ne_eqb}
 use Rattle.ir_event.specs.trees.declared.value.Value.{Value}
 use Rattle.listeners.specs.declared.key.Use.{Use}
@@ -78,10 +79,10 @@ module _ (x : ℕ) where
           ∙ ap (λ k. in_order (own ++ k)) (sym (append_assoc here (others x (changed_uses es)) ws) ∙ ap (λ k. k ++ ws) (sym stays))
 
   -- the listed uses of the operations that are unchanged, where x is one more that is changed
-  now_unchanged : (old new : BTreeMap ℕ Changed) (v : Changed) (listed : List Use) → ((q : ℕ) → tree.get nat_cmp new q ≡ cond (is_at (nat_cmp x) q) (Some v) (tree.get nat_cmp old q))
+  now_unchanged : (old new : IdMap Changed) (v : Changed) (listed : List Use) → ((q : ℕ) → idmap.get new q ≡ cond (is_at (nat_cmp x) q) (Some v) (idmap.get old q))
       → only (is_unchanged new) listed ≡ others x (only (is_unchanged old) listed)
   now_unchanged old new v listed gets =
-      only_same (is_unchanged new) (λ y. is_unchanged old y && is_other x y) listed (λ y. ap (λ o. not (is_some o)) (gets y) ∙ ap (λ b. not (is_some (cond b (Some v) (tree.get nat_cmp old y)))) (same_test x y) ∙ one (eqb x y) (tree.get nat_cmp old y))
+      only_same (is_unchanged new) (λ y. is_unchanged old y && is_other x y) listed (λ y. ap (λ o. not (is_some o)) (gets y) ∙ ap (λ b. not (is_some (cond b (Some v) (idmap.get old y)))) (same_test x y) ∙ one (eqb x y) (idmap.get old y))
       ∙ sym (only_both (is_other x) (is_unchanged old) listed)
     where
       one : (b : Bool) (o : Option Changed) → not (is_some (cond b (Some v) o)) ≡ (not (is_some o) && not b)
@@ -90,8 +91,8 @@ module _ (x : ℕ) where
       one false None = refl
       one false (Some w) = refl
 
-  pub put_table : (old new : BTreeMap ℕ Changed) (v : Changed) (listed : List Use) → tree.IsOrdered nat_cmp old → new.entries ≡ insert_entry nat_cmp old.entries x v
-      → ((q : ℕ) → tree.get nat_cmp new q ≡ cond (is_at (nat_cmp x) q) (Some v) (tree.get nat_cmp old q))
+  pub put_table : (old new : IdMap Changed) (v : Changed) (listed : List Use) → idmap.IsOrdered old → new.entries ≡ insert_entry nat_cmp old.entries x v
+      → ((q : ℕ) → idmap.get new q ≡ cond (is_at (nat_cmp x) q) (Some v) (idmap.get old q))
       → in_order (changed_uses new.entries ++ only (is_unchanged new) listed) ≡ in_order (operand_uses x 0 v.operands.items ++ others x (changed_uses old.entries ++ only (is_unchanged old) listed))
   put_table old new v listed ordered is gets =
       ap (λ es. in_order (changed_uses es ++ only (is_unchanged new) listed)) is
@@ -111,7 +112,7 @@ module _ (x : ℕ) where
           only_append (is_other x) (operand_uses e.0 0 e.1.operands.items) (changed_uses es) ∙ λ i. own_in x e.0 0 e.1.operands.items (sym (same_test x e.0) ∙ is) i ++ later rest i
 
   -- what a listing forgets is forgotten in the table, where the operation is unchanged
-  pub forget_table : (old new : BTreeMap ℕ Changed) (listed left : List Use) → tree.get nat_cmp old x ≡ None → new.entries ≡ old.entries → left ≡ others x listed
+  pub forget_table : (old new : IdMap Changed) (listed left : List Use) → idmap.get old x ≡ None → new.entries ≡ old.entries → left ≡ others x listed
       → in_order (changed_uses new.entries ++ only (is_unchanged new) left) ≡ in_order (others x (changed_uses old.entries ++ only (is_unchanged old) listed))
   forget_table old new listed left none same is =
       (λ i. in_order (changed_uses (same i) ++ only (λ y. not (is_some (lookup (is_at (nat_cmp y)) (same i)))) (is i)))
@@ -160,7 +161,7 @@ all_left : (us : List Use) → only (λ x. true) us ≡ us
 all_left [] = refl
 all_left (u ∷ us) = ap (λ l. u ∷ l) (all_left us)
 
-pub new_table : (m : BTreeMap ℕ Changed) (listed : List Use) → m.entries ≡ [] → changed_uses m.entries ++ only (is_unchanged m) listed ≡ listed
+pub new_table : (m : IdMap Changed) (listed : List Use) → m.entries ≡ [] → changed_uses m.entries ++ only (is_unchanged m) listed ≡ listed
 new_table m listed none = (λ i. changed_uses (none i) ++ only (λ x. not (is_some (lookup (is_at (nat_cmp x)) (none i)))) listed) ∙ all_left listed
 
 -- the uses of a user that count
