@@ -1,10 +1,10 @@
-use Rattle.std.proofs.Common.{drop, length, arith}
+use Rattle.std.proofs.Common.{◌∙◌, drop, length, arith}
 use Rattle.greedy.specs.Parts.{IsAround}
 use Rattle.greedy.proofs.Adding.{rest_all, place_more, place_done}
 use Rattle.greedy.proofs.block.push_around_listed.Goals as goal
 
 pub listed-init : goal.listed-init
-listed-init c = (c.len-count.ensures, rest_all (IsAround c.args.world.now.store.module_of.tree) c.args.ops.now.items c.args.ops.now.items)
+listed-init c = (c.len-count.ensures ∙ c.args.ops.now.ok.0, rest_all (IsAround c.args.world.now.store.module_of.tree) c.args.ops.now.items c.args.ops.now.items)
 
 pub listed-preserved : goal.listed-preserved
 listed-preserved c =

@@ -1,10 +1,10 @@
-use Rattle.std.proofs.Common.{drop, length, arith}
+use Rattle.std.proofs.Common.{◌∙◌, drop, length, arith}
 use Rattle.greedy.specs.Sights.{Uses}
 use Rattle.greedy.proofs.Adding.{rest_all, place_more, place_done}
 use Rattle.greedy.proofs.users.push_users_from.Goals as goal
 
 pub listed-init : goal.listed-init
-listed-init c = (c.len-count.ensures, rest_all (λ y x. Uses x y c.args.world.now.store.module_of.tree) (drop c.args.from c.args.ops.now.items) c.args.ops.now.items)
+listed-init c = (c.len-count.ensures ∙ c.args.ops.now.ok.0, rest_all (λ y x. Uses x y c.args.world.now.store.module_of.tree) (drop c.args.from c.args.ops.now.items) c.args.ops.now.items)
 
 pub listed-preserved : goal.listed-preserved
 listed-preserved c =
