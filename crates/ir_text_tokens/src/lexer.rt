@@ -2,8 +2,7 @@
 ghost use Rattle.std.specs.Prelude.{◌≡◌, ◌+◌, ◌≤◌, ◌∷◌, ℕ, length, option_map, IfErr, IfSome, IsTrue, Some};
 ghost use Rattle.std.specs.List.{prefix_len};
 ghost use Rattle.ir_text_tokens.specs.Reading.{GivesOrNone};
-ghost use Rattle.ir_text_tokens.specs.Tokens.{bare, behind_first, begins_other, exponent_len, fraction_len, hex_len, lexeme_of, longer, mark, mark_at, mark_of, name_parts, next, next_mark, number_at, sign_at, sign_len, skip, skip_line, string, string_parts, suffix_len, symbol_at, token_at, value};
-ghost use Rattle.ir_text_tokens.specs.Strings.{string_bytes};
+ghost use Rattle.ir_text_tokens.specs.Tokens.{bare, behind_first, begins_other, exponent_len, fraction_len, hex_len, lexeme_of, longer, mark, mark_at, mark_of, name_parts, next, next_mark, number_at, sign_at, sign_len, skip, skip_line, string_parts, suffix_len, symbol_at, token_at, value};
 ghost use Rattle.ir_text_tokens.specs.declared.refusal.TextRefusal.{TextRefusal};
 
 use crate::fault::Fault;
@@ -397,36 +396,6 @@ pub fn value(bytes: &[u8]) -> Option<(&[u8], &[u8])>
         return None;
     }
     Some(tail.split_at(len))
-}
-
-/// The bytes of a word up to a quote, and what follows that.
-#[inline(always)]
-#[tactic(auto, using(crate::proofs::Plain::quoted_parts, crate::proofs::Plain::plain_bytes))]
-fn plain_parts(bytes: &[u8]) -> Option<(&[u8], &[u8])>
-    ensures parts { IfSome result (λ x. string_parts bytes.now ≡ Some (x.0.now, x.1.now)) }
-    ensures plain { IfSome result (λ x. string_bytes x.0.now ≡ x.0.now) }
-{
-    let (raw, rest) = bytes.split_at(run_len(bytes, Class::Word));
-    match after_first(rest, b'"') {
-        Some(behind) => Some((raw, behind)),
-        None => None,
-    }
-}
-
-/// A string of the bytes of a word that is the next token, and what follows it. It stands for its own bytes.
-#[inline(always)]
-#[tactic(auto, unfolding(crate::specs::Tokens::next))]
-pub fn plain_string(bytes: &[u8]) -> Option<(&[u8], &[u8])>
-    ensures token { IfSome result (λ x. next bytes.now ≡ Some (string x.0.now, x.1.now)) }
-    ensures plain { IfSome result (λ x. string_bytes x.0.now ≡ x.0.now) }
-{
-    let [b'"', tail @ ..] = skip(bytes) else {
-        return None;
-    };
-    match plain_parts(tail) {
-        Some((raw, rest)) => Some((raw, rest)),
-        None => None,
-    }
 }
 
 /// Whether a token that is no punctuation begins with the byte, where one does.
