@@ -1,6 +1,8 @@
 -- A table of uses where an operation is given other operands.
-use Rattle.std.proofs.Common.{◌≡◌, refl, ap, sym, ◌∙◌, subst, ℕ, ◌<◌, Bool, true, false, cond, not, ◌&&◌, ◌+◌, eqb, eqb-true, eq-eqb, length, take, drop, List, [], ◌∷◌, ◌++◌, append_assoc, map, Option, Some, None, arith}
+use Rattle.std.proofs.Common.{Result, Ok, Err, OnOk, ◌≡◌, refl, ap, sym, ◌∙◌, subst, ℕ, ◌<◌, Bool, true, false, cond, not, ◌&&◌, ◌+◌, eqb, eqb-true, eq-eqb, length, take, drop, List, [], ◌∷◌, ◌++◌, append_assoc, map, Option, Some, None, arith}
 use Rattle.std.specs.Prelude.{is_some}
+use Rattle.std.specs.declared.alloc.AllocError.{AllocError}
+use Rattle.std.proofs.lemmas.List.{map-append}
 use Rattle.std.specs.List.{AllByRecursion}
 use Rattle.std.specs.List.Sorted.{IsStrictlySortedBy}
 use Rattle.std.specs.declared.cmp.Ordering.{Ordering}
@@ -19,7 +21,7 @@ use Rattle.listeners.specs.declared.key.Key.{Key}
 use Rattle.listeners.specs.declared.user.User.{User}
 use Rattle.listeners.specs.declared.changed.Changed.{Changed}
 use Rattle.listeners.specs.Uses.{operand_uses, in_order}
-use Rattle.listeners.specs.Keys.{keys_of}
+use Rattle.listeners.specs.Keys.{key_of, keys_of}
 use Rattle.listeners.specs.Others.{is_other, only, others}
 use Rattle.listeners.specs.Listings.{operand_count, listed_uses, user_uses, forgotten}
 use Rattle.listeners.specs.Tables.{changed_uses, is_unchanged}
@@ -192,3 +194,17 @@ next_user p u us vs own behind old new start front back was is =
     ∙ sym (ap keys_of (only_append p (user_uses u (take u.count vs)) (listed_uses us (drop u.count vs))) ∙ keys_joined (only p (user_uses u (take u.count vs))) (only p (listed_uses us (drop u.count vs))))
     )
     ∙ was
+
+-- the uses of changed operations in two parts of a map
+changed_joined : (es fs : List (ℕ × Changed)) → changed_uses (es ++ fs) ≡ changed_uses es ++ changed_uses fs
+changed_joined [] fs = refl
+changed_joined (e ∷ es) fs = ap (λ us. operand_uses e.0 0 e.1.operands.items ++ us) (changed_joined es fs) ∙ sym (append_assoc (operand_uses e.0 0 e.1.operands.items) (changed_uses es) (changed_uses fs))
+
+pub both_parts : (r : Result (Unit {0}) AllocError) (old mid new : List Key) (near far all : List (ℕ × Changed)) → all ≡ near ++ far → mid ≡ old ++ keys_of (changed_uses near) → OnOk r (new ≡ mid ++ keys_of (changed_uses far))
+    → OnOk r (new ≡ old ++ keys_of (changed_uses all))
+both_parts (Ok u) old mid new near far all is front back =
+    back
+    ∙ ap (λ ks. ks ++ keys_of (changed_uses far)) front
+    ∙ append_assoc old (keys_of (changed_uses near)) (keys_of (changed_uses far))
+    ∙ ap (λ ks. old ++ ks) (sym (map-append key_of (changed_uses near) (changed_uses far)) ∙ ap keys_of (sym (changed_joined near far)) ∙ ap (λ es. keys_of (changed_uses es)) (sym is))
+both_parts (Err u) old mid new near far all is front back = tt

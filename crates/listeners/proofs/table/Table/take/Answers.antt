@@ -18,8 +18,8 @@ returns-in-Ok c =
     put_table c.args.op old.changed c.insert.new.self v old.listed c.ordered.ensures is gets
     ∙ ap (λ vs. in_order (operand_uses c.args.op 0 vs ++ others c.args.op (table_uses old))) c.new-operands.ensures.items
 
-pub returns : goal.returns
-returns c =
+pub returns-in-Err : goal.returns-in-Err
+returns-in-Err c =
     let old = c.args.self.now in
     let absent = subst (λ x. idmap.get old.changed x ≡ None) c.number.ensures c.in-Err.ensures.absent in
     forget_table c.args.op old.changed c.insert.new.self old.listed c.forget.new.self absent c.in-Err.ensures.err c.forget.ensures
