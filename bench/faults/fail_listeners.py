@@ -221,6 +221,9 @@ def needed(kind, event, how):
         if (kind, event, how) == ("uses", "Take", "edit"):
             # Asks for memory, and does without.
             return "whole"
+        if (event, how) == ("Put", "rollback") and kind in ("effects", "dead"):
+            # The place of an operation that was taken is there still.
+            return None
         return "stale" if event in NEEDS[kind] else None
     return "refused"
 

@@ -5,7 +5,8 @@ use Rattle.ir_event.specs.trees.Meaning.{Operation}
 use Rattle.ir_event.specs.tree_laws.Members.{In}
 use Rattle.std.specs.Ordering.{nat_cmp}
 use Rattle.std.specs.Map.{lookup}
-use Rattle.std.specs.BTreeMap.{BTreeMap, is_at}
+use Rattle.std.specs.BTreeMap.{is_at}
+use Rattle.id_map.specs.Map.{IdMap}
 use Rattle.ir_event.specs.types.declared.bits.Bits.{Bits}
 use Rattle.dialects_int.specs.Folds.{known_of}
 use Rattle.ir_event.specs.types.Terms.{name_term, type_term, attr_term}
@@ -42,5 +43,5 @@ begun w a b vacant walked =
     let f = formed_meaning w.ctx w.store.module_of w.formed in
     (f.distinct, walked_facts (module_in w).tree (ids w.store.module_of.tree) a b f.distinct (ordered_tree (module_in w).tree f.distinct f.formed.visible) (sym same) vacant walked)
 
-pub vacant : (m : BTreeMap ℕ Bits) → m.entries ≡ [] → (y : ℕ) → known_in m y ≡ None
+pub vacant : (m : IdMap Bits) → m.entries ≡ [] → (y : ℕ) → known_in m y ≡ None
 vacant m e y = ap (λ (es : List (ℕ × Bits)). known_of (lookup (is_at (nat_cmp y)) es)) e

@@ -5,8 +5,9 @@ use Rattle.std.specs.List.Sorted.{IsStrictlySortedBy}
 use Rattle.std.specs.Ordering.{nat_cmp, is_eq}
 use Rattle.std.specs.declared.cmp.Ordering.TheVariants.{Less}
 use Rattle.std.specs.Map.{lookup, keys_of}
-use Rattle.std.specs.BTreeMap.{BTreeMap, is_at}
-use Rattle.std.specs.BTreeMap as tree
+use Rattle.std.specs.BTreeMap.{is_at}
+use Rattle.id_map.specs.Map.{IdMap}
+use Rattle.id_map.specs.Map as idmap
 use Rattle.std.proofs.lemmas.Bool.Decides.{nat_tests}
 use Rattle.std.proofs.lemmas.List.Elements.{All-cons, All-nil}
 use Rattle.ir_event.specs.types.declared.bits.Bits.{Bits}
@@ -48,7 +49,7 @@ look_said x (e ∷ es) =
     ∙ elim (is_eq (nat_cmp x e.0)) as (λ b. cond b (Some (e.1.kind, e.1.value)) (known_of (lookup (is_at (nat_cmp x)) es)) ≡ known_of (cond b (Some e.1) (lookup (is_at (nat_cmp x)) es)))
     [ true ↦ refl | false ↦ refl ]
 
-said_constants : (m : BTreeMap ℕ Bits) (t : Operation) → tree.IsOrdered nat_cmp m → HasDistinctIds t → ((x : ℕ) → known_in m x ≡ facts_of t x) → said m.entries ≡ constants_of t
+said_constants : (m : IdMap Bits) (t : Operation) → idmap.IsOrdered m → HasDistinctIds t → ((x : ℕ) → known_in m x ≡ facts_of t x) → said m.entries ≡ constants_of t
 said_constants m t ordered d h = rising_same (said m.entries) (constants_of t) (said_rising m.entries ordered) (constants_rising t d) (λ x. look_said x m.entries ∙ h x ∙ sym (constants_look t d x))
 
 module _ (c : Things) where
@@ -72,6 +73,6 @@ module _ (c : Things) where
       let rest : map (λ (r : Line). r.cells.items) rows ≡ map cells_of es = cc in
       All-cons (RowIsOf c) r rows (subst (All (CellIsOf c)) (sym one) (row_known x)) (rows_known rows es rest)
 
-  pub shows_constants : (m : BTreeMap ℕ Bits) (rows : List Line) (t : Operation) → tree.IsOrdered nat_cmp m → map (λ (r : Line). r.cells.items) rows ≡ map cells_of m.entries → HasDistinctIds t → ((x : ℕ) → known_in m x ≡ facts_of t x)
+  pub shows_constants : (m : IdMap Bits) (rows : List Line) (t : Operation) → idmap.IsOrdered m → map (λ (r : Line). r.cells.items) rows ≡ map cells_of m.entries → HasDistinctIds t → ((x : ℕ) → known_in m x ≡ facts_of t x)
       → Shows c rows (constants_rows t)
   shows_constants m rows t ordered is d h = record { says = rows_say rows m.entries is ∙ ap (map constant_row) (said_constants m t ordered d h); known = rows_known rows m.entries is }

@@ -1,8 +1,8 @@
 -- The table of known values, and how it follows an event.
 use Rattle.std.specs.Prelude.{◌≡◌, ℕ, ◌+◌, ◌≤◌, List, [], ◌∷◌, map, Option, None, Bool, true, false}
 use Rattle.std.specs.Ordering.{nat_cmp}
-use Rattle.std.specs.BTreeMap.{BTreeMap}
-use Rattle.std.specs.BTreeMap as tree
+use Rattle.id_map.specs.Map.{IdMap}
+use Rattle.id_map.specs.Map as idmap
 use Rattle.ir_event.specs.types.declared.bits.Bits.{Bits}
 use Rattle.ir_event.specs.trees.Meaning.{Operation}
 use Rattle.ir_event.specs.declared.event.Event.{Event}
@@ -21,8 +21,8 @@ use Rattle.constants.specs.Trails.{IsThere}
 use Rattle.constants.specs.Phases.{SameBut}
 
 -- what a table knows
-abbrev pub known_in : BTreeMap ℕ Bits → Facts
-known_in table x = known_of (tree.get nat_cmp table x)
+abbrev pub known_in : IdMap Bits → Facts
+known_in table x = known_of (idmap.get table x)
 
 -- the cells of an entry
 abbrev pub cells_of : ℕ × Bits → List Cell

@@ -10,15 +10,15 @@ ghost use Rattle.constants.specs.Tables.{known_in, look_in, WalkedIds};
 
 use crate::table::{drop_fact, note};
 use crate::users::folded;
+use id_map::IdMap;
 use ir_event::types::bits::Bits;
 use ir_event::types::ids::OpId;
 use ir_event::view::View;
 use ir_event::world::World;
 use std::alloc::Global;
-use std::collections::BTreeMap;
 
 /// Writes what is known of an operation's result, or that nothing is. It is false where memory was refused.
-fn write_found(table: &mut BTreeMap<OpId, Bits>, op: OpId, found: &Option<Bits>) -> bool
+fn write_found(table: &mut IdMap<Bits>, op: OpId, found: &Option<Bits>) -> bool
     ensures { OnTrue result ((y : ℕ)
         → known_in table.new y ≡ with_fact op (known_of found.now) (known_in table.old) y) }
 {
@@ -32,7 +32,7 @@ fn write_found(table: &mut BTreeMap<OpId, Bits>, op: OpId, found: &Option<Bits>)
 }
 
 /// Writes what an operation folds to, from what is known so far. It is false where memory was refused.
-fn enter(alloc: Global, world: &World, table: &mut BTreeMap<OpId, Bits>, op: OpId) -> bool
+fn enter(alloc: Global, world: &World, table: &mut IdMap<Bits>, op: OpId) -> bool
     ensures { OnTrue result (IsThere (look_in world.now) op → (y : ℕ) → known_in table.new y
         ≡ with_fact op (value (look_in world.now) (known_in table.old) op) (known_in table.old) y) }
 {
@@ -44,7 +44,7 @@ fn enter(alloc: Global, world: &World, table: &mut BTreeMap<OpId, Bits>, op: OpI
 }
 
 /// Writes what operations fold to, one after another.
-fn enter_all(alloc: Global, world: &World, ops: &[OpId], table: &mut BTreeMap<OpId, Bits>) -> bool
+fn enter_all(alloc: Global, world: &World, ops: &[OpId], table: &mut IdMap<Bits>) -> bool
     ensures { OnTrue result (WalkedIds (look_in world.now) ops.now (known_in table.old) (known_in table.new)) }
 {
     for op in ops {
@@ -56,7 +56,7 @@ fn enter_all(alloc: Global, world: &World, ops: &[OpId], table: &mut BTreeMap<Op
 }
 
 /// Writes what the operations of a world's module fold to, in order. It is false where memory was refused.
-pub(crate) fn enter_module(alloc: Global, world: &World, table: &mut BTreeMap<OpId, Bits>) -> bool
+pub(crate) fn enter_module(alloc: Global, world: &World, table: &mut IdMap<Bits>) -> bool
     ensures { OnTrue result (WalkedIds (look_in world.now) (ids world.now.store.module_of.tree) (known_in table.old)
         (known_in table.new)) }
 {

@@ -8,6 +8,7 @@ ghost use Rattle.constants.specs.Tables.{teaches_nothing};
 use crate::collect::enter_module;
 use crate::follow::follow;
 use crate::report::lines;
+use id_map::IdMap;
 use ir_event::analysis::Analysis;
 use ir_event::event::Event;
 use ir_event::row::{Kind, Memory, ReportFault, Row};
@@ -16,7 +17,6 @@ use ir_event::types::ids::OpId;
 use ir_event::view::View;
 use ir_event::world::World;
 use std::alloc::Global;
-use std::collections::BTreeMap;
 
 /// The analysis `constants`: which results are known, and their values (Operation Canonicalization, "Canonicalizing
 /// with the `fold` method").
@@ -26,7 +26,7 @@ use std::collections::BTreeMap;
 #[derive(Drop)]
 pub struct Constants {
     alloc: Global,
-    table: BTreeMap<OpId, Bits>,
+    table: IdMap<Bits>,
     stale: bool,
 }
 
@@ -39,7 +39,7 @@ impl Constants {
     {
         Constants {
             alloc,
-            table: BTreeMap::new(alloc),
+            table: IdMap::new(alloc),
             stale: true,
         }
     }
@@ -56,7 +56,7 @@ impl Analysis for Constants {
 
     fn begin(&mut self, world: &World) -> Result<(), Memory> {
         // What was kept goes first, so that there is room for what is kept now.
-        self.table = BTreeMap::new(self.alloc);
+        self.table = IdMap::new(self.alloc);
         self.stale = true;
         if !enter_module(self.alloc, world, &mut self.table) {
             return Err(Memory);

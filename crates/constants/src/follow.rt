@@ -11,12 +11,12 @@ use crate::forget::forget_from;
 use crate::learn::learn_from;
 use crate::table::{drop_fact, fact};
 use crate::users::folded;
+use id_map::IdMap;
 use ir_event::event::Event;
 use ir_event::types::bits::Bits;
 use ir_event::types::ids::OpId;
 use ir_event::view::View;
 use std::alloc::Global;
-use std::collections::BTreeMap;
 
 /// Whether two known values, where there are any, are the same.
 fn are_same(one: &Option<Bits>, other: &Option<Bits>) -> bool
@@ -30,7 +30,7 @@ fn are_same(one: &Option<Bits>, other: &Option<Bits>) -> bool
 }
 
 /// Whether an operation is seen to fold to what is known of its result.
-fn is_settled(alloc: Global, view: &mut View<'_>, table: &BTreeMap<OpId, Bits>, op: OpId) -> bool
+fn is_settled(alloc: Global, view: &mut View<'_>, table: &IdMap<Bits>, op: OpId) -> bool
     ensures settled { result ≡ true → IsThere (look_in view.old.world.now) op
         → known_in table.now op ≡ value (look_in view.old.world.now) (known_in table.now) op }
     ensures looks { view.new.looks ≤ view.old.looks + 1 }
@@ -44,7 +44,7 @@ fn is_settled(alloc: Global, view: &mut View<'_>, table: &BTreeMap<OpId, Bits>, 
 
 /// Forgets what may have changed with an operation, then learns what can be known. It is false where memory was
 /// refused.
-fn renew(alloc: Global, table: &mut BTreeMap<OpId, Bits>, view: &mut View<'_>, op: OpId) -> bool
+fn renew(alloc: Global, table: &mut IdMap<Bits>, view: &mut View<'_>, op: OpId) -> bool
     ensures updated { Updated (result ≡ true) (look_in view.old.world.now) op (known_in table.old)
         (known_in table.new) }
     ensures looks { LooksRenewed (module_in view.old.world.now).tree op
@@ -60,7 +60,7 @@ fn renew(alloc: Global, table: &mut BTreeMap<OpId, Bits>, view: &mut View<'_>, o
 
 /// Follows a change of one operation. Where it folds to what is known of its result all stays as it is. It is false
 /// where memory was refused.
-fn update(alloc: Global, table: &mut BTreeMap<OpId, Bits>, view: &mut View<'_>, op: OpId) -> bool
+fn update(alloc: Global, table: &mut IdMap<Bits>, view: &mut View<'_>, op: OpId) -> bool
     ensures updated { Updated (result ≡ true) (look_in view.old.world.now) op (known_in table.old)
         (known_in table.new) }
     ensures looks { LooksWithin (module_in view.old.world.now).tree op
@@ -76,7 +76,7 @@ fn update(alloc: Global, table: &mut BTreeMap<OpId, Bits>, view: &mut View<'_>, 
 /// Follows an event. It is false where memory was refused, which an operation that is taken or moved doesn't need.
 pub(crate) fn follow(
     alloc: Global,
-    table: &mut BTreeMap<OpId, Bits>,
+    table: &mut IdMap<Bits>,
     view: &mut View<'_>,
     event: &Event,
 ) -> bool

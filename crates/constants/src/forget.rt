@@ -8,11 +8,11 @@ ghost use Rattle.constants.specs.Tables.{known_in, look_in, uses_in, users_of};
 
 use crate::table::{drop_fact, fact};
 use crate::users::uses_of;
+use id_map::IdMap;
 use ir_event::store::uses::UsesOf;
 use ir_event::types::bits::Bits;
 use ir_event::types::ids::OpId;
 use ir_event::view::View;
-use std::collections::BTreeMap;
 
 /// Adds an operation to a trail. It is false where memory was refused.
 pub(crate) fn push(trail: &mut Vec<OpId>, op: OpId) -> bool
@@ -26,7 +26,7 @@ pub(crate) fn push(trail: &mut Vec<OpId>, op: OpId) -> bool
 
 /// Forgets what is known of an operation's result, and adds it to the trail if something was known. It is false
 /// where memory was refused.
-fn forget(table: &mut BTreeMap<OpId, Bits>, op: OpId, trail: &mut Vec<OpId>) -> bool
+fn forget(table: &mut IdMap<Bits>, op: OpId, trail: &mut Vec<OpId>) -> bool
     ensures { Forgotten (result ≡ true) (λ y. y ≡ op) (known_in table.old)
         (known_in table.new) trail.old.items trail.new.items }
 {
@@ -41,7 +41,7 @@ fn forget(table: &mut BTreeMap<OpId, Bits>, op: OpId, trail: &mut Vec<OpId>) -> 
 }
 
 /// Forgets the operations of these uses.
-fn forget_all(table: &mut BTreeMap<OpId, Bits>, uses: UsesOf<'_>, trail: &mut Vec<OpId>) -> bool
+fn forget_all(table: &mut IdMap<Bits>, uses: UsesOf<'_>, trail: &mut Vec<OpId>) -> bool
     ensures { Forgotten (result ≡ true) (λ y. In y (users_of uses.entry)) (known_in table.old)
         (known_in table.new) trail.old.items trail.new.items }
 {
@@ -56,7 +56,7 @@ fn forget_all(table: &mut BTreeMap<OpId, Bits>, uses: UsesOf<'_>, trail: &mut Ve
 /// Forgets the operations that use an operation's result.
 fn forget_users(
     view: &mut View<'_>,
-    table: &mut BTreeMap<OpId, Bits>,
+    table: &mut IdMap<Bits>,
     op: OpId,
     trail: &mut Vec<OpId>,
 ) -> bool
@@ -72,7 +72,7 @@ fn forget_users(
 /// forgotten. It is false where memory was refused.
 pub(crate) fn forget_from(
     view: &mut View<'_>,
-    table: &mut BTreeMap<OpId, Bits>,
+    table: &mut IdMap<Bits>,
     op: OpId,
     trail: &mut Vec<OpId>,
 ) -> bool

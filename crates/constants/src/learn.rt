@@ -10,15 +10,15 @@ ghost use Rattle.constants.specs.Tables.{known_in, look_in, uses_in, users_of};
 use crate::forget::push;
 use crate::table::{fact, note};
 use crate::users::{folded, uses_of};
+use id_map::IdMap;
 use ir_event::store::uses::UsesOf;
 use ir_event::types::bits::Bits;
 use ir_event::types::ids::OpId;
 use ir_event::view::View;
 use std::alloc::Global;
-use std::collections::BTreeMap;
 
 /// Writes a value, and adds the operation to the trail. It is false where memory was refused.
-fn note_on(table: &mut BTreeMap<OpId, Bits>, op: OpId, bits: &Bits, trail: &mut Vec<OpId>) -> bool
+fn note_on(table: &mut IdMap<Bits>, op: OpId, bits: &Bits, trail: &mut Vec<OpId>) -> bool
     ensures { Noted (result ≡ true) op (bits.now.kind, bits.now.value) (known_in table.old)
         (known_in table.new) trail.old.items trail.new.items }
 {
@@ -30,7 +30,7 @@ fn note_on(table: &mut BTreeMap<OpId, Bits>, op: OpId, bits: &Bits, trail: &mut 
 
 /// Does so where there is a value.
 fn note_found(
-    table: &mut BTreeMap<OpId, Bits>,
+    table: &mut IdMap<Bits>,
     op: OpId,
     found: &Option<Bits>,
     trail: &mut Vec<OpId>,
@@ -50,7 +50,7 @@ fn note_found(
 fn learn(
     alloc: Global,
     view: &mut View<'_>,
-    table: &mut BTreeMap<OpId, Bits>,
+    table: &mut IdMap<Bits>,
     op: OpId,
     trail: &mut Vec<OpId>,
 ) -> bool
@@ -72,7 +72,7 @@ fn learn(
 fn learn_uses(
     alloc: Global,
     view: &mut View<'_>,
-    table: &mut BTreeMap<OpId, Bits>,
+    table: &mut IdMap<Bits>,
     uses: UsesOf<'_>,
     trail: &mut Vec<OpId>,
 ) -> bool
@@ -94,7 +94,7 @@ fn learn_uses(
 fn learn_all(
     alloc: Global,
     view: &mut View<'_>,
-    table: &mut BTreeMap<OpId, Bits>,
+    table: &mut IdMap<Bits>,
     ops: &[OpId],
     trail: &mut Vec<OpId>,
 ) -> bool
@@ -116,7 +116,7 @@ fn learn_all(
 fn learn_first(
     alloc: Global,
     view: &mut View<'_>,
-    table: &mut BTreeMap<OpId, Bits>,
+    table: &mut IdMap<Bits>,
     op: OpId,
     forgotten: &[OpId],
     trail: &mut Vec<OpId>,
@@ -138,7 +138,7 @@ fn learn_first(
 fn learn_users(
     alloc: Global,
     view: &mut View<'_>,
-    table: &mut BTreeMap<OpId, Bits>,
+    table: &mut IdMap<Bits>,
     op: OpId,
     trail: &mut Vec<OpId>,
 ) -> bool
@@ -157,7 +157,7 @@ fn learn_users(
 pub(crate) fn learn_from(
     alloc: Global,
     view: &mut View<'_>,
-    table: &mut BTreeMap<OpId, Bits>,
+    table: &mut IdMap<Bits>,
     op: OpId,
     forgotten: &[OpId],
 ) -> bool

@@ -1,10 +1,12 @@
 //! The rows of the report.
-ghost use Rattle.std.specs.Prelude.{◌≡◌, ◌++◌, ◌∷◌, [], OnOk, IfOk, map};
-ghost use Rattle.std.specs.Ordering.{nat_cmp};
-ghost use Rattle.std.specs.BTreeMap as tree;
+ghost use Rattle.std.specs.Prelude.{◌≡◌, ◌+◌, ◌++◌, ◌∷◌, [], List, Option, OnOk, IfOk, map};
+ghost use Rattle.id_map.specs.Map as idmap;
+ghost use Rattle.id_map.specs.Map.{entries_from};
+ghost use Rattle.ir_event.specs.types.declared.bits.Bits.{Bits as Known};
 ghost use Rattle.ir_event.specs.declared.row.Row.{Row as Line};
 ghost use Rattle.constants.specs.Tables.{cells_of};
 
+use id_map::IdMap;
 use ir_event::row::{Cell, Row};
 use ir_event::trees::value::Value;
 use ir_event::types::bits::Bits;
@@ -31,27 +33,64 @@ fn push_line(alloc: Global, op: OpId, bits: &Bits, out: &mut Vec<Row>) -> Result
     Ok(())
 }
 
-/// Adds a row for each known value.
-fn push_lines(
+/// Adds the row of what an id of a list has, if it has something.
+fn push_slot(
     alloc: Global,
-    table: &BTreeMap<OpId, Bits>,
+    id: usize,
+    slot: &Option<Bits>,
     out: &mut Vec<Row>,
 ) -> Result<(), AllocError>
-    ensures { OnOk result (map (λ (r : Line). r.cells.items) out.new.items
-        ≡ map (λ (r : Line). r.cells.items) out.old.items ++ map cells_of table.now.entries) }
+    ensures { (rest : List (Option Known)) → OnOk result (map (λ (r : Line). r.cells.items) out.new.items
+        ++ map cells_of (entries_from (id + 1) rest)
+        ≡ map (λ (r : Line). r.cells.items) out.old.items ++ map cells_of (entries_from id (slot.now ∷ rest))) }
 {
-    for (op, bits) in table {
-        push_line(alloc, *op, bits, out)?;
+    let Some(bits) = slot else {
+        return Ok(());
+    };
+    let Ok(number) = u32::try_from(id) else {
+        return Err(AllocError);
+    };
+    push_line(alloc, OpId::new(number), bits, out)
+}
+
+/// Adds a row for each value of the ids of a list.
+fn push_near(alloc: Global, near: &[Option<Bits>], out: &mut Vec<Row>) -> Result<(), AllocError>
+    ensures { OnOk result (map (λ (r : Line). r.cells.items) out.new.items
+        ≡ map (λ (r : Line). r.cells.items) out.old.items ++ map cells_of (entries_from 0 near.now)) }
+{
+    for (id, slot) in near.iter().enumerate() {
+        push_slot(alloc, id, slot, out)?;
     }
     Ok(())
 }
 
-/// A row for each known value, in order of the ids.
-pub(crate) fn lines(alloc: Global, table: &BTreeMap<OpId, Bits>) -> Result<Vec<Row>, AllocError>
-    ensures rows { IfOk result (λ out. map (λ (r : Line). r.cells.items) out.items ≡ map cells_of table.now.entries) }
-    ensures ordered { IfOk result (λ _. tree.IsOrdered nat_cmp table.now) }
+/// Adds a row for each value of the others.
+fn push_far(alloc: Global, far: &BTreeMap<u32, Bits>, out: &mut Vec<Row>) -> Result<(), AllocError>
+    ensures { OnOk result (map (λ (r : Line). r.cells.items) out.new.items
+        ≡ map (λ (r : Line). r.cells.items) out.old.items ++ map cells_of far.now.entries) }
 {
-    let _ = table.len();
+    for (id, bits) in far {
+        push_line(alloc, OpId::new(*id), bits, out)?;
+    }
+    Ok(())
+}
+
+/// Adds a row for each known value.
+fn push_lines(alloc: Global, table: &IdMap<Bits>, out: &mut Vec<Row>) -> Result<(), AllocError>
+    ensures { OnOk result (map (λ (r : Line). r.cells.items) out.new.items
+        ≡ map (λ (r : Line). r.cells.items) out.old.items ++ map cells_of table.now.entries) }
+{
+    let (near, far) = table.parts();
+    push_near(alloc, near, out)?;
+    push_far(alloc, far, out)
+}
+
+/// A row for each known value, in order of the ids.
+pub(crate) fn lines(alloc: Global, table: &IdMap<Bits>) -> Result<Vec<Row>, AllocError>
+    ensures rows { IfOk result (λ out. map (λ (r : Line). r.cells.items) out.items ≡ map cells_of table.now.entries) }
+    ensures ordered { IfOk result (λ _. idmap.IsOrdered table.now) }
+{
+    table.ordered();
     let mut out = Vec::new(alloc);
     push_lines(alloc, table, &mut out)?;
     Ok(out)

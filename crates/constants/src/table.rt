@@ -6,41 +6,41 @@ ghost use Rattle.constants.specs.Facts.{known, knowns};
 ghost use Rattle.constants.specs.Walk.{with_fact};
 ghost use Rattle.constants.specs.Tables.{known_in};
 
+use id_map::IdMap;
 use ir_event::trees::value::Value;
 use ir_event::types::bits::Bits;
 use ir_event::types::ids::OpId;
 use smallvec::SmallVec;
 use std::alloc::{AllocError, Global};
-use std::collections::BTreeMap;
 
 /// What is known of an operation's result.
-pub(crate) fn fact(table: &BTreeMap<OpId, Bits>, op: OpId) -> Option<Bits>
+pub(crate) fn fact(table: &IdMap<Bits>, op: OpId) -> Option<Bits>
     ensures { known_of result ≡ known_in table.now op }
 {
-    table.get(&op).copied()
+    table.get(op.number()).copied()
 }
 
 /// Forgets what is known of an operation's result. This needs no memory.
-pub(crate) fn drop_fact(table: &mut BTreeMap<OpId, Bits>, op: OpId)
+pub(crate) fn drop_fact(table: &mut IdMap<Bits>, op: OpId)
     ensures { (y : ℕ) → known_in table.new y ≡ with_fact op None (known_in table.old) y }
 {
-    table.remove(&op);
+    table.remove(op.number());
 }
 
 /// Writes what is known of an operation's result. It is false where memory was refused.
-pub(crate) fn note(table: &mut BTreeMap<OpId, Bits>, op: OpId, bits: &Bits) -> bool
+pub(crate) fn note(table: &mut IdMap<Bits>, op: OpId, bits: &Bits) -> bool
     ensures noted { OnTrue result
         ((y : ℕ) → known_in table.new y ≡ with_fact op (known_of (Some bits.now)) (known_in table.old) y) }
     ensures refused { result ≡ false → (y : ℕ) → known_in table.new y ≡ known_in table.old y }
 {
-    match table.insert(op, *bits) {
+    match table.insert(op.number(), *bits) {
         Ok(_) => true,
         Err(_) => false,
     }
 }
 
 /// What is known of a value.
-fn value_fact(table: &BTreeMap<OpId, Bits>, value: &Value) -> Option<Bits>
+fn value_fact(table: &IdMap<Bits>, value: &Value) -> Option<Bits>
     ensures { known_of result ≡ known (known_in table.now) value.now }
 {
     match *value {
@@ -53,7 +53,7 @@ fn value_fact(table: &BTreeMap<OpId, Bits>, value: &Value) -> Option<Bits>
 /// What is known of each of these values. Most operations have two at most, for which no memory is taken.
 pub(crate) fn value_facts(
     alloc: Global,
-    table: &BTreeMap<OpId, Bits>,
+    table: &IdMap<Bits>,
     values: &[Value],
 ) -> Result<SmallVec<Option<Bits>, 2>, AllocError>
     ensures { IfOk result (λ r. map known_of r.items ≡ knowns (known_in table.now) values.now) }

@@ -8,13 +8,13 @@ ghost use Rattle.constants.specs.Tables.{known_in, look_in, uses_in, users_of};
 
 use crate::table::value_facts;
 use dialects_int::fold::fold;
+use id_map::IdMap;
 use ir_event::store::uses::UsesOf;
 use ir_event::trees::value::Value;
 use ir_event::types::bits::Bits;
 use ir_event::types::ids::OpId;
 use ir_event::view::View;
 use std::alloc::{AllocError, Global};
-use std::collections::BTreeMap;
 
 /// The uses of an operation's first result.
 pub(crate) fn uses_of<'a>(view: &mut View<'a>, op: OpId) -> UsesOf<'a>
@@ -30,7 +30,7 @@ pub(crate) fn uses_of<'a>(view: &mut View<'a>, op: OpId) -> UsesOf<'a>
 pub(crate) fn folded(
     alloc: Global,
     view: &mut View<'_>,
-    table: &BTreeMap<OpId, Bits>,
+    table: &IdMap<Bits>,
     op: OpId,
 ) -> Result<Option<Bits>, AllocError>
     ensures value { IfOk result

@@ -1,6 +1,8 @@
 -- A table of uses where an operation is given other operands.
-use Rattle.std.proofs.Common.{◌≡◌, refl, ap, sym, ◌∙◌, subst, ℕ, ◌<◌, Bool, true, false, cond, not, ◌&&◌, ◌+◌, eqb, eqb-true, eq-eqb, length, take, drop, List, [], ◌∷◌, ◌++◌, append_assoc, map, Option, Some, None, arith}
+use Rattle.std.proofs.Common.{Result, Ok, Err, OnOk, ◌≡◌, refl, ap, sym, ◌∙◌, subst, ℕ, ◌<◌, Bool, true, false, cond, not, ◌&&◌, ◌+◌, eqb, eqb-true, eq-eqb, length, take, drop, List, [], ◌∷◌, ◌++◌, append_assoc, map, Option, Some, None, arith}
 use Rattle.std.specs.Prelude.{is_some}
+use Rattle.std.specs.declared.alloc.AllocError.{AllocError}
+use Rattle.std.proofs.lemmas.List.{map-append}
 use Rattle.std.specs.List.{AllByRecursion}
 use Rattle.std.specs.List.Sorted.{IsStrictlySortedBy}
 use Rattle.std.specs.declared.cmp.Ordering.{Ordering}
@@ -9,8 +11,9 @@ use Rattle.std.specs.Ordering.{nat_cmp, is_eq, match_ordering, MatchOrdering}
 use Rattle.std.specs.Cmp.{nat_cmp_total, ranks}
 use Rattle.std.specs.Map.{lookup}
 use Rattle.std.specs.Map as entries
-use Rattle.std.specs.BTreeMap.{BTreeMap, is_at, insert_entry}
-use Rattle.std.specs.BTreeMap as tree
+use Rattle.std.specs.BTreeMap.{is_at, insert_entry}
+use Rattle.id_map.specs.Map.{IdMap}
+use Rattle.id_map.specs.Map as idmap
 use Rattle.std.proofs.lemmas.Bool.{ne_eqb}
 use Rattle.ir_event.specs.trees.declared.value.Value.{Value}
 use Rattle.listeners.specs.declared.key.Use.{Use}
@@ -18,7 +21,7 @@ use Rattle.listeners.specs.declared.key.Key.{Key}
 use Rattle.listeners.specs.declared.user.User.{User}
 use Rattle.listeners.specs.declared.changed.Changed.{Changed}
 use Rattle.listeners.specs.Uses.{operand_uses, in_order}
-use Rattle.listeners.specs.Keys.{keys_of}
+use Rattle.listeners.specs.Keys.{key_of, keys_of}
 use Rattle.listeners.specs.Others.{is_other, only, others}
 use Rattle.listeners.specs.Listings.{operand_count, listed_uses, user_uses, forgotten}
 use Rattle.listeners.specs.Tables.{changed_uses, is_unchanged}
@@ -78,10 +81,10 @@ module _ (x : ℕ) where
           ∙ ap (λ k. in_order (own ++ k)) (sym (append_assoc here (others x (changed_uses es)) ws) ∙ ap (λ k. k ++ ws) (sym stays))
 
   -- the listed uses of the operations that are unchanged, where x is one more that is changed
-  now_unchanged : (old new : BTreeMap ℕ Changed) (v : Changed) (listed : List Use) → ((q : ℕ) → tree.get nat_cmp new q ≡ cond (is_at (nat_cmp x) q) (Some v) (tree.get nat_cmp old q))
+  now_unchanged : (old new : IdMap Changed) (v : Changed) (listed : List Use) → ((q : ℕ) → idmap.get new q ≡ cond (is_at (nat_cmp x) q) (Some v) (idmap.get old q))
       → only (is_unchanged new) listed ≡ others x (only (is_unchanged old) listed)
   now_unchanged old new v listed gets =
-      only_same (is_unchanged new) (λ y. is_unchanged old y && is_other x y) listed (λ y. ap (λ o. not (is_some o)) (gets y) ∙ ap (λ b. not (is_some (cond b (Some v) (tree.get nat_cmp old y)))) (same_test x y) ∙ one (eqb x y) (tree.get nat_cmp old y))
+      only_same (is_unchanged new) (λ y. is_unchanged old y && is_other x y) listed (λ y. ap (λ o. not (is_some o)) (gets y) ∙ ap (λ b. not (is_some (cond b (Some v) (idmap.get old y)))) (same_test x y) ∙ one (eqb x y) (idmap.get old y))
       ∙ sym (only_both (is_other x) (is_unchanged old) listed)
     where
       one : (b : Bool) (o : Option Changed) → not (is_some (cond b (Some v) o)) ≡ (not (is_some o) && not b)
@@ -90,8 +93,8 @@ module _ (x : ℕ) where
       one false None = refl
       one false (Some w) = refl
 
-  pub put_table : (old new : BTreeMap ℕ Changed) (v : Changed) (listed : List Use) → tree.IsOrdered nat_cmp old → new.entries ≡ insert_entry nat_cmp old.entries x v
-      → ((q : ℕ) → tree.get nat_cmp new q ≡ cond (is_at (nat_cmp x) q) (Some v) (tree.get nat_cmp old q))
+  pub put_table : (old new : IdMap Changed) (v : Changed) (listed : List Use) → idmap.IsOrdered old → new.entries ≡ insert_entry nat_cmp old.entries x v
+      → ((q : ℕ) → idmap.get new q ≡ cond (is_at (nat_cmp x) q) (Some v) (idmap.get old q))
       → in_order (changed_uses new.entries ++ only (is_unchanged new) listed) ≡ in_order (operand_uses x 0 v.operands.items ++ others x (changed_uses old.entries ++ only (is_unchanged old) listed))
   put_table old new v listed ordered is gets =
       ap (λ es. in_order (changed_uses es ++ only (is_unchanged new) listed)) is
@@ -111,7 +114,7 @@ module _ (x : ℕ) where
           only_append (is_other x) (operand_uses e.0 0 e.1.operands.items) (changed_uses es) ∙ λ i. own_in x e.0 0 e.1.operands.items (sym (same_test x e.0) ∙ is) i ++ later rest i
 
   -- what a listing forgets is forgotten in the table, where the operation is unchanged
-  pub forget_table : (old new : BTreeMap ℕ Changed) (listed left : List Use) → tree.get nat_cmp old x ≡ None → new.entries ≡ old.entries → left ≡ others x listed
+  pub forget_table : (old new : IdMap Changed) (listed left : List Use) → idmap.get old x ≡ None → new.entries ≡ old.entries → left ≡ others x listed
       → in_order (changed_uses new.entries ++ only (is_unchanged new) left) ≡ in_order (others x (changed_uses old.entries ++ only (is_unchanged old) listed))
   forget_table old new listed left none same is =
       (λ i. in_order (changed_uses (same i) ++ only (λ y. not (is_some (lookup (is_at (nat_cmp y)) (same i)))) (is i)))
@@ -160,7 +163,7 @@ all_left : (us : List Use) → only (λ x. true) us ≡ us
 all_left [] = refl
 all_left (u ∷ us) = ap (λ l. u ∷ l) (all_left us)
 
-pub new_table : (m : BTreeMap ℕ Changed) (listed : List Use) → m.entries ≡ [] → changed_uses m.entries ++ only (is_unchanged m) listed ≡ listed
+pub new_table : (m : IdMap Changed) (listed : List Use) → m.entries ≡ [] → changed_uses m.entries ++ only (is_unchanged m) listed ≡ listed
 new_table m listed none = (λ i. changed_uses (none i) ++ only (λ x. not (is_some (lookup (is_at (nat_cmp x)) (none i)))) listed) ∙ all_left listed
 
 -- the uses of a user that count
@@ -191,3 +194,17 @@ next_user p u us vs own behind old new start front back was is =
     ∙ sym (ap keys_of (only_append p (user_uses u (take u.count vs)) (listed_uses us (drop u.count vs))) ∙ keys_joined (only p (user_uses u (take u.count vs))) (only p (listed_uses us (drop u.count vs))))
     )
     ∙ was
+
+-- the uses of changed operations in two parts of a map
+changed_joined : (es fs : List (ℕ × Changed)) → changed_uses (es ++ fs) ≡ changed_uses es ++ changed_uses fs
+changed_joined [] fs = refl
+changed_joined (e ∷ es) fs = ap (λ us. operand_uses e.0 0 e.1.operands.items ++ us) (changed_joined es fs) ∙ sym (append_assoc (operand_uses e.0 0 e.1.operands.items) (changed_uses es) (changed_uses fs))
+
+pub both_parts : (r : Result (Unit {0}) AllocError) (old mid new : List Key) (near far all : List (ℕ × Changed)) → all ≡ near ++ far → mid ≡ old ++ keys_of (changed_uses near) → OnOk r (new ≡ mid ++ keys_of (changed_uses far))
+    → OnOk r (new ≡ old ++ keys_of (changed_uses all))
+both_parts (Ok u) old mid new near far all is front back =
+    back
+    ∙ ap (λ ks. ks ++ keys_of (changed_uses far)) front
+    ∙ append_assoc old (keys_of (changed_uses near)) (keys_of (changed_uses far))
+    ∙ ap (λ ks. old ++ ks) (sym (map-append key_of (changed_uses near) (changed_uses far)) ∙ ap keys_of (sym (changed_joined near far)) ∙ ap (λ es. keys_of (changed_uses es)) (sym is))
+both_parts (Err u) old mid new near far all is front back = tt

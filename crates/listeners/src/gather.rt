@@ -1,5 +1,7 @@
 //! The keys of uses, gathered from a listing and from what was changed since.
-ghost use Rattle.std.specs.Prelude.{◌≡◌, ◌++◌, length, OnOk};
+ghost use Rattle.std.specs.Prelude.{◌≡◌, ◌+◌, ◌++◌, ◌∷◌, List, Option, length, OnOk};
+ghost use Rattle.id_map.specs.Map.{entries_from};
+ghost use Rattle.listeners.specs.declared.changed.Changed.{Changed as Entry};
 ghost use Rattle.listeners.specs.Uses.{operand_uses};
 ghost use Rattle.listeners.specs.Keys.{key_of, keys_of};
 ghost use Rattle.listeners.specs.Others.{only};
@@ -9,6 +11,7 @@ ghost use Rattle.listeners.specs.Tables.{changed_uses, is_unchanged};
 use crate::changed::Changed;
 use crate::key::{Key, Use};
 use crate::user::User;
+use id_map::IdMap;
 use ir_event::trees::value::Value;
 use ir_event::types::ids::OpId;
 use std::alloc::AllocError;
@@ -58,13 +61,13 @@ fn push_keys(user: OpId, operands: &[Value], keys: &mut Vec<Key>) -> Result<(), 
 fn push_user(
     user: &User,
     operands: &[Value],
-    changed: &BTreeMap<OpId, Changed>,
+    changed: &IdMap<Changed>,
     keys: &mut Vec<Key>,
 ) -> Result<(), AllocError>
     ensures { OnOk result (keys.new.items
         ≡ keys.old.items ++ keys_of (only (is_unchanged changed.now) (user_uses user.now operands.now))) }
 {
-    if !user.live || changed.contains_key(&user.id) {
+    if !user.live || changed.contains_key(user.id.number()) {
         return Ok(());
     }
     push_keys(user.id, operands, keys)
@@ -74,7 +77,7 @@ fn push_user(
 pub(crate) fn push_listed(
     users: &[User],
     operands: &[Value],
-    changed: &BTreeMap<OpId, Changed>,
+    changed: &IdMap<Changed>,
     keys: &mut Vec<Key>,
 ) -> Result<(), AllocError>
     requires { operand_count users.now ≡ length operands.now }
@@ -90,15 +93,46 @@ pub(crate) fn push_listed(
     Ok(())
 }
 
-/// Adds the keys of the uses of operations that were changed.
-pub(crate) fn push_changed(
-    changed: &BTreeMap<OpId, Changed>,
-    keys: &mut Vec<Key>,
-) -> Result<(), AllocError>
-    ensures { OnOk result (keys.new.items ≡ keys.old.items ++ keys_of (changed_uses changed.now.entries)) }
+/// Adds the keys of the uses of an operation by its number, if it was changed.
+fn push_slot(id: usize, slot: &Option<Changed>, keys: &mut Vec<Key>) -> Result<(), AllocError>
+    ensures { (rest : List (Option Entry)) → OnOk result (keys.new.items
+        ++ keys_of (changed_uses (entries_from (id + 1) rest))
+        ≡ keys.old.items ++ keys_of (changed_uses (entries_from id (slot.now ∷ rest)))) }
 {
-    for (op, now) in changed {
-        push_keys(*op, &now.operands, keys)?;
+    let Some(now) = slot else {
+        return Ok(());
+    };
+    let Ok(number) = u32::try_from(id) else {
+        return Err(AllocError);
+    };
+    push_keys(OpId::new(number), &now.operands, keys)
+}
+
+/// Adds those of the operations of a list.
+fn push_near(near: &[Option<Changed>], keys: &mut Vec<Key>) -> Result<(), AllocError>
+    ensures { OnOk result (keys.new.items ≡ keys.old.items ++ keys_of (changed_uses (entries_from 0 near.now))) }
+{
+    for (id, slot) in near.iter().enumerate() {
+        push_slot(id, slot, keys)?;
     }
     Ok(())
+}
+
+/// Adds those of the others.
+fn push_far(far: &BTreeMap<u32, Changed>, keys: &mut Vec<Key>) -> Result<(), AllocError>
+    ensures { OnOk result (keys.new.items ≡ keys.old.items ++ keys_of (changed_uses far.now.entries)) }
+{
+    for (id, now) in far {
+        push_keys(OpId::new(*id), &now.operands, keys)?;
+    }
+    Ok(())
+}
+
+/// Adds the keys of the uses of operations that were changed.
+pub(crate) fn push_changed(changed: &IdMap<Changed>, keys: &mut Vec<Key>) -> Result<(), AllocError>
+    ensures { OnOk result (keys.new.items ≡ keys.old.items ++ keys_of (changed_uses changed.now.entries)) }
+{
+    let (near, far) = changed.parts();
+    push_near(near, keys)?;
+    push_far(far, keys)
 }

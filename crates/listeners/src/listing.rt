@@ -10,10 +10,10 @@ use crate::changed::Changed;
 use crate::gather::push_listed;
 use crate::key::Key;
 use crate::user::User;
+use id_map::IdMap;
 use ir_event::trees::value::Value;
 use ir_event::types::ids::OpId;
 use std::alloc::{AllocError, Global};
-use std::collections::BTreeMap;
 use std::marker::Model;
 
 /// Uses listed by their users: a contract sees the list of uses.
@@ -103,7 +103,7 @@ impl Listing {
     /// Adds the keys of the uses whose users were not changed.
     pub(crate) fn push_unchanged(
         &self,
-        changed: &BTreeMap<OpId, Changed>,
+        changed: &IdMap<Changed>,
         keys: &mut Vec<Key>,
     ) -> Result<(), AllocError>
         ensures { OnOk result (keys.new.items ≡ keys.old.items ++ keys_of (only (is_unchanged changed.now) self.now)) }

@@ -1,5 +1,5 @@
 //! The table of uses.
-ghost use Rattle.std.specs.Prelude.{◌≡◌, [], ◌++◌, OnOk};
+ghost use Rattle.std.specs.Prelude.{◌≡◌, [], ◌++◌, IfOk};
 ghost use Rattle.std.specs.Bool.{OnTrue};
 ghost use Rattle.listeners.specs.Uses.{operand_uses, in_order};
 ghost use Rattle.listeners.specs.Others.{others};
@@ -7,17 +7,17 @@ ghost use Rattle.listeners.specs.Tables.{table_uses};
 
 use crate::changed::Changed;
 use crate::listing::Listing;
+use id_map::IdMap;
 use ir_event::trees::value::Value;
 use ir_event::types::ids::OpId;
 use std::alloc::{AllocError, Global};
-use std::collections::BTreeMap;
 
 /// The uses of a module: those that were listed where the listener began, and beside them the operands of each
 /// operation that an event changed since, which count in place of the listed ones.
 #[derive(Drop)]
 pub(crate) struct Table {
     pub(crate) listed: Listing,
-    pub(crate) changed: BTreeMap<OpId, Changed>,
+    pub(crate) changed: IdMap<Changed>,
 }
 
 impl Table {
@@ -27,8 +27,20 @@ impl Table {
     {
         Table {
             listed,
-            changed: BTreeMap::new(alloc),
+            changed: IdMap::new(alloc),
         }
+    }
+
+    /// The table of listed uses. What changes of operations below a bound is found in one step.
+    pub(crate) fn with_room(
+        alloc: Global,
+        listed: Listing,
+        bound: usize,
+    ) -> Result<Table, AllocError>
+        ensures { IfOk result (λ table. table_uses table ≡ listed) }
+    {
+        let changed = IdMap::with_room(alloc, bound)?;
+        Ok(Table { listed, changed })
     }
 
     /// Gives an operation operands, in place of those that it had, if any. It is false where memory was refused.
@@ -39,7 +51,8 @@ impl Table {
         let Ok(operands) = Vec::from_slice(alloc, operands) else {
             return false;
         };
-        match self.changed.insert(op, Changed { operands }) {
+        self.changed.ordered();
+        match self.changed.insert(op.number(), Changed { operands }) {
             Ok(_) => true,
             Err(_) => false,
         }
@@ -50,7 +63,8 @@ impl Table {
         ensures { in_order (table_uses self.new) ≡ in_order (others op (table_uses self.old)) }
     {
         let operands = Vec::new(alloc);
-        match self.changed.insert(op, Changed { operands }) {
+        self.changed.ordered();
+        match self.changed.insert(op.number(), Changed { operands }) {
             Ok(_) => {}
             Err(_) => self.listed.forget(op),
         }

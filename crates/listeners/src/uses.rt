@@ -50,7 +50,9 @@ fn table_in(alloc: Global, world: &World) -> Result<Table, AllocError>
     ensures { IfOk result (λ table. in_order (table_uses table) ≡ all_uses world.now.store.module_of.tree) }
 {
     let listed = collect(alloc, world)?;
-    Ok(Table::new(alloc, listed))
+    // Operations with operands have ids below this, where ids come in order; it is only how much room is taken.
+    let room = listed.len().saturating_add(64);
+    Table::with_room(alloc, listed, room)
 }
 
 impl Analysis for Uses {

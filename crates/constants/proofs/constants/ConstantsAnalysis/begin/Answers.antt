@@ -9,6 +9,6 @@ returns-clause-ok c =
     let w = c.args.world.now in
     let yes : c.enter_module.result ≡ true = search rules in (
       refl,
-      begun w (known_in c.new.result) (known_in c.enter_module.new.table) (vacant c.new.result c.new.ensures.empty)
+      begun w (known_in c.new.result) (known_in c.enter_module.new.table) (vacant c.new.result c.new.ensures)
           (on_true_is c.enter_module.result _ yes c.enter_module.ensures),
     )
