@@ -1,5 +1,6 @@
 //! Maps from ids.
-ghost use Rattle.std.specs.Prelude.{◌≡◌, ◌≤◌, ◌+◌, ◌++◌, ◌∷◌, ℕ, [], length, Some, None, OnOk, OnErr, IfOk, MatchResult, false, is_some};
+ghost use Rattle.std.specs.Prelude.{◌≡◌, ◌≤◌, ◌+◌, ◌++◌, ◌∷◌, ℕ, [], length, Some, None, OnOk, OnErr, IfOk};
+ghost use Rattle.std.specs.Prelude.{MatchResult, false, is_some};
 ghost use Rattle.std.specs.Option.{option_copied};
 ghost use Rattle.std.specs.Bool.{OnTrue};
 ghost use Rattle.std.specs.Ordering.{nat_cmp};
