@@ -2,17 +2,18 @@
 """Modules with opaque terms of which each token is dropped, doubled, and exchanged with the next, one at a time: what a
 program answers with `--opaque` beside what the rules in Python say: read alike, or refused alike at the same byte.
 
-usage: bench/compare/opaque_tokens.py PROGRAM [--most MOST] [--seed SEED] [--processes COUNT]
+usage: bench/compare/opaque_tokens.py PROGRAM [--most MOST] [--seed SEED] [--processes COUNT] [--first FIRST]
 
 The modules are those of `tests/opaque/modules.tar.xz`. One of more than 300 tokens is cut into the operations of its
 body, each a module with the definitions of aliases around it. Of one that has more than MOST tokens (300) then as many
-are taken by chance. Each difference is printed, and the status is 1 where there is one. By `pypy3` it takes a third of
-the time."""
+are taken by chance. The longest come first, and FIRST of them are left out. Each difference is printed, and the status
+is 1 where there is one. By `pypy3` it takes a third of the time."""
 import argparse
 import multiprocessing
 import pathlib
 import random
 import re
+import struct
 import subprocess
 import sys
 import tarfile
@@ -37,6 +38,39 @@ def modules():
         for member in held.getmembers():
             if member.name.endswith(".mlir"):
                 yield member.name, held.extractfile(member).read()
+
+
+# Runs a program over each text of standard input, with its length in front. A small process does it, since one that
+# holds much takes long to begin another.
+RUNS = """
+import struct, subprocess, sys
+while head := sys.stdin.buffer.read(4):
+    text = sys.stdin.buffer.read(struct.unpack("<I", head)[0])
+    ran = subprocess.run(sys.argv[1:], input=text, capture_output=True, check=False)
+    sys.stdout.buffer.write(struct.pack("<iI", ran.returncode, len(ran.stdout)) + ran.stdout)
+    sys.stdout.buffer.flush()
+"""
+
+
+class Runner:
+    """The answers of a program to texts: its status, and what it writes."""
+
+    def __init__(self, program):
+        words = ["python3", "-c", RUNS, program, "--brief", "--opaque"]
+        self.there = subprocess.Popen(words, stdin=subprocess.PIPE, stdout=subprocess.PIPE)
+
+    def __enter__(self):
+        return self
+
+    def __exit__(self, *_):
+        self.there.stdin.close()
+        self.there.wait()
+
+    def answer(self, text):
+        self.there.stdin.write(struct.pack("<I", len(text)) + text)
+        self.there.stdin.flush()
+        status, length = struct.unpack("<iI", self.there.stdout.read(8))
+        return status, self.there.stdout.read(length)
 
 
 def parts(text):
@@ -74,8 +108,8 @@ def differences(asked):
     taken = range(len(places))
     if len(places) > most:
         taken = sorted(random.Random(f"{seed} {name}").sample(taken, most))
-    for at in taken:
-        for way in WAYS:
+    with Runner(program) as runner:
+        for at, way in ((at, way) for at in taken for way in WAYS):
             if way == "exchanged" and at + 1 == len(places):
                 continue
             one = changed(text, places, at, way) + DIVIDER
@@ -83,10 +117,10 @@ def differences(asked):
                 wanted = script.run_opaque(one)
             except rules.Open:  # the rules leave open what is to be said of it
                 continue
-            ran = subprocess.run([program, "--brief", "--opaque"], input=one, capture_output=True, check=False)
-            tried, read = tried + 1, read + (ran.returncode == 0)
-            if (ran.returncode, ran.stdout) != wanted:
-                found.append((name, way, places[at], wanted, (ran.returncode, ran.stdout)))
+            said = runner.answer(one)
+            tried, read = tried + 1, read + (said[0] == 0)
+            if said != wanted:
+                found.append((name, way, places[at], wanted, said))
     return tried, read, found
 
 
@@ -96,10 +130,11 @@ def main():
     parser.add_argument("--most", type=int, default=MOST)
     parser.add_argument("--seed", type=int, default=1)
     parser.add_argument("--processes", type=int, default=1)
+    parser.add_argument("--first", type=int, default=0)
     asked = parser.parse_args()
     program, tried, read, wrong = str(pathlib.Path(asked.program).resolve()), 0, 0, 0
     work = [(program, name, part, asked.most, asked.seed) for name, text in modules() for part in parts(text)]
-    work.sort(key=lambda it: -len(it[2]))
+    work = sorted(work, key=lambda it: -len(it[2]))[asked.first:]
     with multiprocessing.Pool(asked.processes) as pool:
         for count, (one, good, found) in enumerate(pool.imap_unordered(differences, work), 1):
             tried, read, wrong = tried + one, read + good, wrong + len(found)
