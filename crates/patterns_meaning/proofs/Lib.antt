@@ -28,10 +28,15 @@ pub mod Readied
 pub mod StaysReady
 pub mod OldRules
 pub mod Constants
+pub mod Makings
 pub mod NumberRules
 pub mod TruthRules
 pub mod Conditions
 pub mod Swapping
+pub mod Sources
+pub mod Casts
+pub mod Pairs
+pub mod Joining
 pub mod Listed
 pub mod AllKept
 pub mod Running

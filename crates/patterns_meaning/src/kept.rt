@@ -5,6 +5,7 @@ ghost use Rattle.patterns_base.specs.declared.rule.Rule.TheVariants.{CancelItsel
 ghost use Rattle.patterns_base.specs.declared.rule.Rule.TheVariants.{ChooseTruth, CompareItself, CompareZero};
 ghost use Rattle.patterns_base.specs.declared.rule.Rule.TheVariants.{DropAllOnes, DropOne, DropZero, KeepItself};
 ghost use Rattle.patterns_base.specs.declared.rule.Rule.TheVariants.{SwapConstant, ZeroRemainder};
+ghost use Rattle.patterns_base.specs.declared.rule.Rule.TheVariants.{AddNegative, CutCast, RegroupConstants};
 ghost use Rattle.patterns_meaning.specs.Keeping.{KeepsComputing, KeepsReady};
 ghost use Rattle.patterns_meaning.specs.Runs.{KeptAreKept, RewritingKeeps, RunsKeep};
 
@@ -66,6 +67,22 @@ pub fn zero_remainder()
     no_edit_is_refused();
 }
 
+/// `(a op c) op d` with constants c and d becomes `a op (c op d)`.
+pub fn regroup_constants()
+    ensures ready { KeepsReady RegroupConstants }
+    ensures computing { KeepsComputing RegroupConstants }
+{
+    no_edit_is_refused();
+}
+
+/// `subi(a, c)` with a constant c becomes `addi(a, -c)`.
+pub fn add_negative()
+    ensures ready { KeepsReady AddNegative }
+    ensures computing { KeepsComputing AddNegative }
+{
+    no_edit_is_refused();
+}
+
 /// `cmpi(a, a)` becomes true or false by its predicate.
 pub fn compare_itself()
     ensures ready { KeepsReady CompareItself }
@@ -102,6 +119,14 @@ pub fn choose_known()
 pub fn choose_truth()
     ensures ready { KeepsReady ChooseTruth }
     ensures computing { KeepsComputing ChooseTruth }
+{
+    no_edit_is_refused();
+}
+
+/// A cut of a cut becomes one; a cut of an extension back becomes what was extended.
+pub fn cut_cast()
+    ensures ready { KeepsReady CutCast }
+    ensures computing { KeepsComputing CutCast }
 {
     no_edit_is_refused();
 }
