@@ -1,6 +1,6 @@
 -- Rules on casts of casts keep modules ready, and what they compute.
-use Rattle.std.proofs.Common.{◌≡◌, ℕ, ◌+◌, ◌<◌, ◌≤◌, ◌%◌, ◌^◌, ◌++◌, refl, ap, sym, ◌∙◌, subst, List, [], ◌∷◌, map, Bool, true, false, true≢false, ◌&&◌, Option, Some, None, ◌⊎◌, inl, inr, slice_get, arith}
-use Rattle.std.specs.Prelude.{codes, nat_lt, if◌then◌else◌}
+use Rattle.std.proofs.Common.{◌≡◌, ℕ, ◌<◌, ◌≤◌, ◌%◌, ◌^◌, refl, ap, sym, ◌∙◌, subst, List, [], ◌∷◌, map, Bool, true, false, true≢false, ◌&&◌, Option, Some, None, ◌⊎◌, inl, inr, slice_get, arith}
+use Rattle.std.specs.Prelude.{codes, if◌then◌else◌}
 use Rattle.std.specs.List.{list_all}
 use Rattle.std.specs.Option.{option_eq}
 use Rattle.std.proofs.lemmas.Bool.{and_parts, lt-ltb, ltb-true}
@@ -15,7 +15,6 @@ use Rattle.ir_types.proofs.SameTerms.{type_is}
 use Rattle.ir_tree.specs.declared.value.Value.{Value}
 use Rattle.ir_tree.specs.declared.value.Value.TheVariants.{Result}
 use Rattle.ir_tree.specs.Tree.{head}
-use Rattle.ir_tree.specs.Ids.{find}
 use Rattle.ir_tree.specs.WellFormed.{IsWellFormed}
 use Rattle.ir_tree.specs.Meaning.{Operation}
 use Rattle.ir_tree_laws.specs.Values.{has_value, type_of_value}
@@ -28,15 +27,12 @@ use Rattle.dialects_int.specs.declared.operations.Rule.TheVariants as how
 use Rattle.dialects_int.specs.Arithmetic.{cast_of, sign_extended, truncated, zero_extended}
 use Rattle.dialects_int.specs.Folds.{Known, kind_of, rule_of, rules}
 use Rattle.dialects_int.proofs.CastLaws.{truncated_back, truncated_twice, truncated_zeros_back}
-use Rattle.rewriter_machine.specs.Contents.{Edit, all_edited}
-use Rattle.patterns_edits.specs.Lists.{Free}
 use Rattle.patterns_check.specs.Checks.{refines}
 use Rattle.patterns_check.specs.Outcomes.{Outcome, given, resize_any, resize_outcome}
 use Rattle.patterns_laws.specs.Keeps.{Each as EachOf}
 use Rattle.patterns_laws.specs.Made.{cast}
 use Rattle.patterns_laws.specs.Words.{among, extensions, named}
 use Rattle.patterns_laws.proofs.KnownFolds.{below, given_some, some_bits}
-use Rattle.patterns_base.specs.declared.rule.Rule.{Rule}
 use Rattle.patterns_base.specs.declared.rule.Rule.TheVariants.{CutCast}
 use Rattle.patterns_base.specs.Casting.{resizing}
 use Rattle.patterns_base.specs.Looks.{giver, is_clean, is_of_type, one, source_among, when}
@@ -45,21 +41,21 @@ use Rattle.patterns_base.specs.Rules.{rule}
 use Rattle.patterns_base.proofs.Dispatch.{of_among}
 use Rattle.patterns_base.proofs.Facts.{when_some}
 use Rattle.patterns_facts.specs.Accepted.{AreAccepted}
-use Rattle.patterns_facts.proofs.Shapes.{IsOne, one_is}
+use Rattle.patterns_facts.proofs.Shapes.{one_is}
 use Rattle.patterns_book.specs.Matching.{Header}
-use Rattle.patterns_meaning.specs.Meaning.{Assignment, Each, is_arithmetic, makes, of_one, owner, result_kind}
-use Rattle.patterns_meaning.specs.Better.{AreKinded, is_kinded, is_poison_by_ones, is_signed_quotient, kind_in, may_overflow, narrows, takes, takes_its}
+use Rattle.patterns_meaning.specs.Meaning.{Assignment, makes, of_one, owner, result_kind}
+use Rattle.patterns_meaning.specs.Better.{AreKinded, is_kinded, is_poison_by_ones, is_signed_quotient, kind_in, narrows, takes, takes_its}
 use Rattle.patterns_meaning.specs.Keeping.{Computing, Improves, IsReady, KeepsComputing, KeepsReady, done_after, is_there}
-use Rattle.patterns_meaning.proofs.Dropping.{MayGive, old_improves, value_kind}
+use Rattle.patterns_meaning.proofs.Dropping.{old_improves, value_kind}
 use Rattle.patterns_meaning.proofs.Firsts.{poison_refined}
 use Rattle.patterns_meaning.proofs.Formed.{is_below, operands_stand}
 use Rattle.patterns_meaning.proofs.Forms.{makes_is, named_is}
-use Rattle.patterns_meaning.proofs.Giving.{after_new, after_old, all_hold}
+use Rattle.patterns_meaning.proofs.Giving.{after_new, all_hold}
 use Rattle.patterns_meaning.proofs.Makings.{GivesNew, GivesOne, GivesOutcomes, MadeOne, all_agree, all_at, new_improves, new_ready, still_there, with_all}
-use Rattle.patterns_meaning.proofs.Monotone.{itself, same_refined}
-use Rattle.patterns_meaning.proofs.OfBits.{IsOfBits, resize_bits}
+use Rattle.patterns_meaning.proofs.Monotone.{same_refined}
+use Rattle.patterns_meaning.proofs.OfBits.{resize_bits}
 use Rattle.patterns_meaning.proofs.OfKinds.{OfKinds, resize_kind}
-use Rattle.patterns_meaning.proofs.Ruled.{OfRule, Ruled, Site, gives_refined, of_rule, rule_kinds, ruled, site_of, value_bits}
+use Rattle.patterns_meaning.proofs.Ruled.{Ruled, Site, gives_refined, of_rule, rule_kinds, ruled, site_of, value_bits}
 use Rattle.patterns_meaning.proofs.Sources.{Resized, Sole, made_or_poison, operand_there, resized, sole_of}
 use Rattle.patterns_meaning.proofs.StaysReady.{given_ready}
 use Rattle.patterns_meaning.proofs.Trees.{each_found, value_below}
@@ -316,7 +312,7 @@ module _ (accepted : AreAccepted) where
           ∙ ap (λ y. give_new q.front m.next y (cast w.inner.name w.ty w.first)) q.id;
       are = (
         cast_made (with_all (kind_in m.tree) m.next None (Some k.kind ∷ [])) w.inner.name w.ty w.first k.kind cuts.Truncate inner_cuts k.of k.width
-        (ap (λ j. narrows cuts.Truncate j k.kind) (all_agree (kind_in m.tree) m.next None (Some k.kind ∷ []) w.first first_below) ∙ cuts_to),
+            (ap (λ j. narrows cuts.Truncate j k.kind) (all_agree (kind_in m.tree) m.next None (Some k.kind ∷ []) w.first first_below) ∙ cuts_to),
         tt,
       );
     }
@@ -345,7 +341,7 @@ module _ (accepted : AreAccepted) where
         outcomes = cast_outcome cuts.Truncate k.kind (a w.first) ∷ [];
         give = (
           cast_gives a done m.next x (cast_outcome cuts.Truncate k.kind (a w.first) ∷ []) w.inner.name w.ty w.first k.kind cuts.Truncate inner_cuts k.of first_below
-          (λ d. source_there m (λ h. among resizing h.name && is_clean m.tree h) w.middle w.inner k.sole w.first w.inner_operands cuts.Truncate inner_cuts a done ready.formed ready.kinded computing (middle_there d)) total,
+              (λ d. source_there m (λ h. among resizing h.name && is_clean m.tree h) w.middle w.inner k.sole w.first w.inner_operands cuts.Truncate inner_cuts a done ready.formed ready.kinded computing (middle_there d)) total,
           tt,
         );
         better = λ d.

@@ -1,6 +1,6 @@
 -- Rules that join constants keep modules ready, and what they compute.
-use Rattle.std.proofs.Common.{◌≡◌, ℕ, ◌+◌, ◌<◌, ◌^◌, ◌++◌, refl, ap, sym, ◌∙◌, subst, List, [], ◌∷◌, map, Bool, true, false, true≢false, ◌&&◌, Option, Some, None, ◌⊎◌, inl, inr, slice_get, arith}
-use Rattle.std.specs.Prelude.{bit_and, bit_or, bit_xor, codes, if◌then◌else◌}
+use Rattle.std.proofs.Common.{◌≡◌, ℕ, ◌+◌, ◌<◌, refl, ap, sym, ◌∙◌, subst, List, [], ◌∷◌, map, Bool, true, false, ◌&&◌, Option, Some, None, ◌⊎◌, inl, inr, slice_get, arith}
+use Rattle.std.specs.Prelude.{bit_and, bit_or, bit_xor, codes}
 use Rattle.std.specs.List.{list_all}
 use Rattle.std.proofs.lemmas.Bool.{and_parts}
 use Rattle.std.proofs.lemmas.Option.{none-some, same_Some}
@@ -13,8 +13,6 @@ use Rattle.ir_types.specs.Words.{is_isolated}
 use Rattle.ir_tree.specs.declared.value.Value.{Value}
 use Rattle.ir_tree.specs.declared.value.Value.TheVariants.{Result}
 use Rattle.ir_tree.specs.Tree.{head}
-use Rattle.ir_tree.specs.WellFormed.{IsWellFormed}
-use Rattle.ir_tree.specs.Meaning.{Operation}
 use Rattle.ir_tree_laws.specs.Values.{has_value}
 use Rattle.ir_event.specs.Modules.{Module}
 use Rattle.dialects_int.specs.declared.operations.Arithmetic.{Arithmetic}
@@ -44,9 +42,9 @@ use Rattle.patterns_base.proofs.Facts.{when_some}
 use Rattle.patterns_facts.specs.Accepted.{AreAccepted}
 use Rattle.patterns_facts.proofs.Shapes.{two_is}
 use Rattle.patterns_book.specs.Matching.{Header}
-use Rattle.patterns_meaning.specs.Meaning.{Assignment, Each, of_two, owner, result_kind}
-use Rattle.patterns_meaning.specs.Better.{AreKinded, is_kind, is_kinded, is_signed_quotient, kind_in, takes}
-use Rattle.patterns_meaning.specs.Keeping.{Computing, Improves, IsReady, KeepsComputing, KeepsReady, done_after, is_there}
+use Rattle.patterns_meaning.specs.Meaning.{Assignment, of_two, owner}
+use Rattle.patterns_meaning.specs.Better.{is_kind, is_kinded, is_signed_quotient, kind_in, takes}
+use Rattle.patterns_meaning.specs.Keeping.{Computing, IsReady, KeepsComputing, KeepsReady, done_after, is_there}
 use Rattle.patterns_meaning.proofs.Dropping.{known_is, kind_by, of_two_is, pair_refined, widths}
 use Rattle.patterns_meaning.proofs.Firsts.{poison_refined}
 use Rattle.patterns_meaning.proofs.Formed.{is_below, operands_stand}
@@ -55,8 +53,6 @@ use Rattle.patterns_meaning.proofs.Giving.{after_new}
 use Rattle.patterns_meaning.proofs.Makings.{GivesNew, GivesOutcomes, all_agree, all_at, new_improves, new_ready, still_there, with_all}
 use Rattle.patterns_meaning.proofs.Monotone.{same_refined}
 use Rattle.patterns_meaning.proofs.News.{type_is_of}
-use Rattle.patterns_meaning.proofs.OfBits.{IsOfBits}
-use Rattle.patterns_meaning.proofs.OfKinds.{IsKind}
 use Rattle.patterns_meaning.proofs.Pairs.{IsTotal, Paired, binary_gives, binary_made, constant_gives_one, constant_made, is_its_kind, known_kind, number_bits, number_kind, pair_known, pair_out, paired, value_fits, zero_bits}
 use Rattle.patterns_meaning.proofs.Ruled.{Ruled, Site, of_rule, rule_kinds, ruled, site_of, value_bits}
 use Rattle.patterns_meaning.proofs.Sources.{Sole, kind_test, made_or_poison, sole_of}
@@ -129,7 +125,7 @@ module _ (r : Rule) (m n : Module) (x : ℕ) (q : Ruled r m n x) (name : List �
       constant_made kinds ty bits k g.of g.fits,
       (
         binary_made kinds name ty u (Result m.next 0) k o g.by g.of g.width (ap (is_kind k) (all_agree (kind_in m.tree) m.next None (Some k ∷ Some k ∷ []) u g.below) ∙ g.is)
-        (ap (is_kind k) ((all_at (kind_in m.tree) m.next None (Some k ∷ Some k ∷ [])).0 0) ∙ is_its_kind k),
+            (ap (is_kind k) ((all_at (kind_in m.tree) m.next None (Some k ∷ Some k ∷ [])).0 0) ∙ is_its_kind k),
         tt,
       ),
     );
@@ -153,8 +149,8 @@ module _ (r : Rule) (m n : Module) (x : ℕ) (q : Ruled r m n x) (name : List �
             constant_gives_one c done (done_after m.next x done) x ty k bits g.of g.fits,
             (
               binary_gives c done (done_after m.next x done) x name ty u (Result m.next 0) k o (a u) (Some (k, bits)) g.by sure g.of total (all_agree a m.next None zs u g.below) (at.0 0)
-              (λ y e. kind_by m a done x q.here s u k y g.is e) (number_kind k bits) (value_bits m a done x q.here s u g.value) (number_bits k bits g.fits)
-              (λ d. still_there m.next x done u g.below (there d)) (λ d. after_new m.next x done m.next (omega arith) ∙ d),
+                  (λ y e. kind_by m a done x q.here s u k y g.is e) (number_kind k bits) (value_bits m a done x q.here s u g.value) (number_bits k bits g.fits)
+                  (λ d. still_there m.next x done u g.below (there d)) (λ d. after_new m.next x done m.next (omega arith) ∙ d),
               tt,
             ),
           );

@@ -37,6 +37,11 @@ pub mod Sources
 pub mod Casts
 pub mod Pairs
 pub mod Joining
+pub mod Expanding
+pub mod Extremes
+pub mod Turning
+pub mod Choosing
+pub mod Mirroring
 pub mod Listed
 pub mod AllKept
 pub mod Running

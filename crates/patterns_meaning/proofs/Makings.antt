@@ -5,7 +5,6 @@ use Rattle.std.specs.List.{list_all}
 use Rattle.std.proofs.lemmas.Bool.{lt-ltb, le-ltb}
 use Rattle.std.proofs.lemmas.Option.{none-some, same_Some}
 use Rattle.ir_types.specs.declared.bits.BitsKind.{BitsKind}
-use Rattle.ir_types.specs.Bits.{width_of}
 use Rattle.ir_types.specs.Terms.{TypeTerm}
 use Rattle.ir_types.specs.Words.{is_isolated}
 use Rattle.ir_tree.specs.declared.value.Value.{Value}
@@ -14,7 +13,7 @@ use Rattle.ir_tree.specs.Tree.{head, no_regions, regions}
 use Rattle.ir_tree.specs.WellFormed.{IsWellFormed}
 use Rattle.ir_tree.specs.Meaning.{Operation}
 use Rattle.ir_event.specs.Modules.{Module}
-use Rattle.dialects_int.specs.Folds.{Known, kind_of, rule_of}
+use Rattle.dialects_int.specs.Folds.{kind_of, rule_of}
 use Rattle.rewriter_machine.specs.Contents.{all_edited}
 use Rattle.rewriter_machine.specs.Edits.{Make}
 use Rattle.patterns_edits.specs.Lists.{Free}
@@ -22,7 +21,6 @@ use Rattle.patterns_check.specs.Outcomes.{Outcome}
 use Rattle.patterns_check.specs.Checks.{refines}
 use Rattle.patterns_base.specs.declared.rule.Rule.{Rule}
 use Rattle.patterns_base.specs.Makes.{give}
-use Rattle.patterns_book.specs.Matching.{Header}
 use Rattle.patterns_meaning.specs.Meaning.{Assignment, IsOfType, TypedEach, makes, owner, result_kind}
 use Rattle.patterns_meaning.specs.Better.{AreKinded, kind_in, may_overflow, takes_its}
 use Rattle.patterns_meaning.specs.Keeping.{Computing, Improves, IsFed, IsReady, done_after, is_there}
@@ -30,7 +28,7 @@ use Rattle.patterns_meaning.proofs.Giving.{Making, after_new, after_old, given_i
 use Rattle.patterns_meaning.proofs.Lifted as lift
 use Rattle.patterns_meaning.proofs.OfBits.{IsOfBits}
 use Rattle.patterns_meaning.proofs.OfKinds.{IsKind}
-use Rattle.patterns_meaning.proofs.Readied.{HasKind, NewKinds, Rises, Takes, same_takes}
+use Rattle.patterns_meaning.proofs.Readied.{HasKind, Rises, Takes, same_takes}
 use Rattle.patterns_meaning.proofs.Rewritten.{AllBare, AllPut, same_makes}
 use Rattle.patterns_meaning.proofs.Ruled.{Ruled}
 use Rattle.patterns_meaning.proofs.StaysReady.{stays_ready}
@@ -110,8 +108,8 @@ module _ (f : Value → Option BitsKind) where
   all_take m (o ∷ os) [] g = absurd g
   all_take m (o ∷ os) (k ∷ ks) g = (
     same_takes (head o) m (head o).operands (map f (head o).operands)
-    ∙ ap (λ q. takes_its (rule_of (head o).name) q (head o) (map f (head o).operands)) (its_kind o k g.0)
-    ∙ g.0.takes,
+        ∙ ap (λ q. takes_its (rule_of (head o).name) q (head o) (map f (head o).operands)) (its_kind o k g.0)
+        ∙ g.0.takes,
     all_take (m + 1) os ks g.1,
   )
 

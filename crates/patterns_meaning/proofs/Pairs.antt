@@ -1,8 +1,7 @@
 -- Operations on two values and constants, as rules make them: their kinds, and what they give.
-use Rattle.std.proofs.Common.{◌≡◌, ℕ, zero, suc, ◌+◌, ◌<◌, ◌≤◌, ◌^◌, refl, ap, sym, ◌∙◌, subst, List, [], ◌∷◌, map, Bool, true, false, true≢false, ◌&&◌, not, Option, Some, None, ◌⊎◌, inl, inr, slice_get, arith}
-use Rattle.std.specs.Prelude.{codes, is_some, if◌then◌else◌}
-use Rattle.std.specs.List.{list_all}
-use Rattle.std.proofs.lemmas.Bool.{and_parts, lt-ltb}
+use Rattle.std.proofs.Common.{◌≡◌, ℕ, refl, ap, sym, ◌∙◌, subst, List, [], ◌∷◌, Bool, true, false, ◌&&◌, not, Option, Some, None, ◌⊎◌, inl, inr, arith}
+use Rattle.std.specs.Prelude.{codes, if◌then◌else◌}
+use Rattle.std.proofs.lemmas.Bool.{and_parts}
 use Rattle.std.proofs.lemmas.Bool.Decides.{nat_tests}
 use Rattle.std.proofs.lemmas.Option.{none-some, same_Some}
 use Rattle.ir_types.specs.declared.bits.BitsKind.{BitsKind}
@@ -11,7 +10,7 @@ use Rattle.ir_types.specs.Reasons.{is_width}
 use Rattle.ir_types.specs.Terms.{AttrTerm, Overflow, TypeTerm}
 use Rattle.ir_tree.specs.declared.value.Value.{Value}
 use Rattle.ir_tree.specs.Tree.{head}
-use Rattle.ir_tree.specs.Meaning.{Operation, key_before, rises}
+use Rattle.ir_tree.specs.Meaning.{key_before, rises}
 use Rattle.ir_tree_laws.specs.Values.{has_value}
 use Rattle.ir_event.specs.Modules.{Module}
 use Rattle.dialects_int.specs.declared.operations.Arithmetic.{Arithmetic}
@@ -20,16 +19,15 @@ use Rattle.dialects_int.specs.declared.operations.Rule.TheVariants as how
 use Rattle.dialects_int.specs.Arithmetic.{value_of}
 use Rattle.dialects_int.specs.Folds.{Known, fold_of, kind_of, rule_of, same_kind}
 use Rattle.dialects_int.proofs.KnownOperands.{same_itself}
-use Rattle.patterns_check.specs.Checks.{refines}
 use Rattle.patterns_check.specs.Outcomes.{Outcome, divides, given, is_some_number, judged, no_value, pair_outcome}
-use Rattle.patterns_laws.specs.Made.{binary, constant, flags}
+use Rattle.patterns_laws.specs.Made.{binary, constant}
 use Rattle.patterns_laws.specs.Words.{among, flagged, named}
 use Rattle.patterns_laws.proofs.KnownFolds.{constant_gives, given_some}
 use Rattle.patterns_base.specs.Looks.{constant_value, is_clean, known, source}
 use Rattle.patterns_book.specs.Matching.{Header}
-use Rattle.patterns_meaning.specs.Meaning.{Assignment, makes, owner, result_kind}
+use Rattle.patterns_meaning.specs.Meaning.{Assignment}
 use Rattle.patterns_meaning.specs.Better.{AreKinded, are_its_bits, is_kind, is_kinded, is_poison_by_ones, is_signed_quotient, kind_in, takes, takes_its}
-use Rattle.patterns_meaning.specs.Keeping.{done_after, is_there}
+use Rattle.patterns_meaning.specs.Keeping.{is_there}
 use Rattle.patterns_meaning.proofs.Forms.{by_constant, fold_kind, makes_is, named_is}
 use Rattle.patterns_meaning.proofs.Giving.{all_hold}
 use Rattle.patterns_meaning.proofs.Makings.{GivesOne, MadeOne}

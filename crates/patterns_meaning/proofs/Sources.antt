@@ -1,5 +1,5 @@
 -- What an operation's operand is computed of: the operation that gives it, and what that makes.
-use Rattle.std.proofs.Common.{◌≡◌, ℕ, zero, suc, ◌<◌, refl, ap, sym, ◌∙◌, subst, List, [], ◌∷◌, map, Bool, true, false, true≢false, Option, Some, None, ◌⊎◌, inl, inr, slice_get}
+use Rattle.std.proofs.Common.{◌≡◌, ℕ, zero, suc, refl, ap, sym, ◌∙◌, subst, [], ◌∷◌, map, Bool, true, false, true≢false, Option, Some, None, ◌⊎◌, inl, inr, slice_get}
 use Rattle.std.specs.Prelude.{is_some, option_and_then, if◌then◌else◌}
 use Rattle.std.specs.List.{list_all}
 use Rattle.std.proofs.lemmas.Bool.{and_parts}
@@ -18,7 +18,6 @@ use Rattle.ir_tree_laws.specs.Values.{has_value}
 use Rattle.ir_event.specs.Modules.{Module}
 use Rattle.dialects_int.specs.declared.operations.Cast.{Cast}
 use Rattle.dialects_int.specs.declared.operations.Rule.{Rule as How}
-use Rattle.dialects_int.specs.declared.operations.Rule.TheVariants as how
 use Rattle.dialects_int.specs.Arithmetic.{cast_of}
 use Rattle.dialects_int.specs.Folds.{Known, kind_of, rule_of}
 use Rattle.patterns_laws.proofs.KnownFolds.{given_some}
@@ -28,7 +27,6 @@ use Rattle.patterns_base.proofs.Facts.{when_some}
 use Rattle.patterns_book.specs.Matching.{Header}
 use Rattle.patterns_meaning.specs.Meaning.{Assignment, makes_by, result_kind}
 use Rattle.patterns_meaning.specs.Better.{is_kind, kind_in}
-use Rattle.patterns_meaning.specs.Keeping.{is_there}
 use Rattle.patterns_meaning.proofs.Forms.{makes_is}
 use Rattle.patterns_meaning.proofs.OfKinds.{same_kinds}
 use Rattle.patterns_meaning.proofs.Ruled.{OfRule, Site}

@@ -1,11 +1,13 @@
 //! Rules of rewriting keep what a module computes, or make it better, also where it is poison: each at an operation,
 //! and so whole runs of them. Each is shown to keep modules ready too: well-formed, sorted, and of the kinds that are
 //! asked for.
-ghost use Rattle.patterns_base.specs.declared.rule.Rule.TheVariants.{CancelItself, ChooseKnown, ChooseSame};
-ghost use Rattle.patterns_base.specs.declared.rule.Rule.TheVariants.{ChooseTruth, CompareItself, CompareZero};
-ghost use Rattle.patterns_base.specs.declared.rule.Rule.TheVariants.{DropAllOnes, DropOne, DropZero, KeepItself};
+ghost use Rattle.patterns_base.specs.declared.rule.Rule.TheVariants.{AddNegative, CancelItself, ChooseKnown};
+ghost use Rattle.patterns_base.specs.declared.rule.Rule.TheVariants.{ChooseOpposite, ChooseSame, ChooseTruth};
+ghost use Rattle.patterns_base.specs.declared.rule.Rule.TheVariants.{CompareItself, CompareZero, CutCast};
+ghost use Rattle.patterns_base.specs.declared.rule.Rule.TheVariants.{DropAllOnes, DropOne, DropZero};
+ghost use Rattle.patterns_base.specs.declared.rule.Rule.TheVariants.{ExpandDifference, ExpandMinMax, KeepItself};
+ghost use Rattle.patterns_base.specs.declared.rule.Rule.TheVariants.{MirrorComparison, RegroupConstants};
 ghost use Rattle.patterns_base.specs.declared.rule.Rule.TheVariants.{SwapConstant, ZeroRemainder};
-ghost use Rattle.patterns_base.specs.declared.rule.Rule.TheVariants.{AddNegative, CutCast, RegroupConstants};
 ghost use Rattle.patterns_meaning.specs.Keeping.{KeepsComputing, KeepsReady};
 ghost use Rattle.patterns_meaning.specs.Runs.{KeptAreKept, RewritingKeeps, RunsKeep};
 
@@ -91,6 +93,14 @@ pub fn compare_itself()
     no_edit_is_refused();
 }
 
+/// A comparison's constant goes second, with the predicate mirrored.
+pub fn mirror_comparison()
+    ensures ready { KeepsReady MirrorComparison }
+    ensures computing { KeepsComputing MirrorComparison }
+{
+    no_edit_is_refused();
+}
+
 /// `cmpi ult, a, 0` becomes false, `cmpi uge, a, 0` true.
 pub fn compare_zero()
     ensures ready { KeepsReady CompareZero }
@@ -123,10 +133,34 @@ pub fn choose_truth()
     no_edit_is_refused();
 }
 
+/// `select(xori(c, true), a, b)` becomes `select(c, b, a)`.
+pub fn choose_opposite()
+    ensures ready { KeepsReady ChooseOpposite }
+    ensures computing { KeepsComputing ChooseOpposite }
+{
+    no_edit_is_refused();
+}
+
 /// A cut of a cut becomes one; a cut of an extension back becomes what was extended.
 pub fn cut_cast()
     ensures ready { KeepsReady CutCast }
     ensures computing { KeepsComputing CutCast }
+{
+    no_edit_is_refused();
+}
+
+/// `maxsi(a, b)` and its like become a comparison and a choice.
+pub fn expand_min_max()
+    ensures ready { KeepsReady ExpandMinMax }
+    ensures computing { KeepsComputing ExpandMinMax }
+{
+    no_edit_is_refused();
+}
+
+/// `subi(a, b)` becomes `a + ((b xor -1) + 1)`.
+pub fn expand_difference()
+    ensures ready { KeepsReady ExpandDifference }
+    ensures computing { KeepsComputing ExpandDifference }
 {
     no_edit_is_refused();
 }
