@@ -43,7 +43,7 @@ use Rattle.patterns_base.proofs.Facts.{when_some}
 use Rattle.patterns_facts.specs.Accepted.{AreAccepted}
 use Rattle.patterns_facts.proofs.Shapes.{one_is}
 use Rattle.patterns_book.specs.Matching.{Header}
-use Rattle.patterns_meaning.specs.Meaning.{Assignment, makes, of_one, owner, result_kind}
+use Rattle.patterns_meaning.specs.Meaning.{Assignment, of_one, owner, result_kind}
 use Rattle.patterns_meaning.specs.Better.{AreKinded, is_kinded, is_poison_by_ones, is_signed_quotient, kind_in, narrows, takes, takes_its}
 use Rattle.patterns_meaning.specs.Keeping.{Computing, Improves, IsReady, KeepsComputing, KeepsReady, done_after, is_there}
 use Rattle.patterns_meaning.proofs.Dropping.{old_improves, value_kind}

@@ -32,7 +32,7 @@ use Rattle.patterns_laws.proofs.PairRules.{one_below}
 use Rattle.patterns_base.specs.declared.rule.Rule.{Rule}
 use Rattle.patterns_base.specs.declared.rule.Rule.TheVariants.{ExpandDifference}
 use Rattle.patterns_base.specs.Looks.{when}
-use Rattle.patterns_base.specs.Makes.{give, give_new}
+use Rattle.patterns_base.specs.Makes.{give_new}
 use Rattle.patterns_base.specs.Rules.{rule}
 use Rattle.patterns_base.proofs.Facts.{when_some}
 use Rattle.patterns_facts.specs.Accepted.{AreAccepted}

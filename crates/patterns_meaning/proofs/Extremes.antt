@@ -31,7 +31,7 @@ use Rattle.patterns_laws.specs.Made.{choice, comparison, i1}
 use Rattle.patterns_laws.specs.Words.{asking}
 use Rattle.patterns_laws.proofs.KnownFolds.{below, given_some, some_bits}
 use Rattle.patterns_base.specs.declared.rule.Rule.TheVariants.{ExpandMinMax}
-use Rattle.patterns_base.specs.Makes.{give, give_new}
+use Rattle.patterns_base.specs.Makes.{give_new}
 use Rattle.patterns_base.specs.Rules.{rule}
 use Rattle.patterns_facts.specs.Accepted.{AreAccepted}
 use Rattle.patterns_facts.proofs.Shapes.{two_is}

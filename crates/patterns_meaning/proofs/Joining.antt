@@ -34,7 +34,7 @@ use Rattle.patterns_laws.proofs.KnownFolds.{below, given_some, pair_gave}
 use Rattle.patterns_base.specs.declared.rule.Rule.{Rule}
 use Rattle.patterns_base.specs.declared.rule.Rule.TheVariants.{AddNegative, RegroupConstants}
 use Rattle.patterns_base.specs.Looks.{is_clean, known, source, two, when}
-use Rattle.patterns_base.specs.Makes.{give, give_new}
+use Rattle.patterns_base.specs.Makes.{give_new}
 use Rattle.patterns_base.specs.Rules.{rule}
 use Rattle.patterns_base.specs.Folding.{regrouped}
 use Rattle.patterns_base.proofs.Dispatch.{of_among}

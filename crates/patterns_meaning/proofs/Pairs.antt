@@ -26,7 +26,7 @@ use Rattle.patterns_laws.proofs.KnownFolds.{constant_gives, given_some}
 use Rattle.patterns_base.specs.Looks.{constant_value, is_clean, known, source}
 use Rattle.patterns_book.specs.Matching.{Header}
 use Rattle.patterns_meaning.specs.Meaning.{Assignment}
-use Rattle.patterns_meaning.specs.Better.{AreKinded, are_its_bits, is_kind, is_kinded, is_poison_by_ones, is_signed_quotient, kind_in, takes, takes_its}
+use Rattle.patterns_meaning.specs.Better.{AreKinded, are_its_bits, is_kind, is_kinded, is_poison_by_ones, is_signed_quotient, kind_in, takes_its}
 use Rattle.patterns_meaning.specs.Keeping.{is_there}
 use Rattle.patterns_meaning.proofs.Forms.{by_constant, fold_kind, makes_is, named_is}
 use Rattle.patterns_meaning.proofs.Giving.{all_hold}
