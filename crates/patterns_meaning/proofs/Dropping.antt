@@ -137,7 +137,7 @@ module _ (m : Module) (a : Assignment) (done : ℕ → Bool) (x : ℕ) (o : Oper
   pub kind_by : (v : Value) (k : BitsKind) (y : Known) → is_kind k (kind_in m.tree v) ≡ true → a v ≡ Some y → y.0 ≡ k
   kind_by v k y i e = value_kind v k y (kind_of_test k (kind_in m.tree v) i) e
 
-widths : (ty : TypeTerm) (k : BitsKind) → kind_of ty ≡ Some k → type_width ty ≡ width_of k
+pub widths : (ty : TypeTerm) (k : BitsKind) → kind_of ty ≡ Some k → type_width ty ≡ width_of k
 widths (term.Integer Signless w) k e = ap width_of (same_Some (kind.Int w) k e)
 widths (term.Integer Signed w) k e = absurd (none-some k e)
 widths (term.Integer Unsigned w) k e = absurd (none-some k e)

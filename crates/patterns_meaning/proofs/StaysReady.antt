@@ -36,7 +36,7 @@ use Rattle.patterns_meaning.proofs.EditsForm.{all_formed, made_plain, replaced_p
 use Rattle.patterns_meaning.proofs.Formed.{is_below, operands_stand}
 use Rattle.patterns_meaning.proofs.Readied.{NewKinds, Rises, after_kinded, all_rise, each_rises, kinds_found, made_kinds}
 use Rattle.patterns_meaning.proofs.Rewritten.{AllBare, AllPut, all_put, given_each}
-use Rattle.patterns_meaning.proofs.Ruled.{ruled}
+use Rattle.patterns_meaning.proofs.Ruled.{Ruled, ruled}
 
 -- ---- the value that is given is of the type of what it is given for
 before_replaced : (front : Place) (os : List Operation) (x next : ℕ) (v : Value) (m : Module) → Free (map (λ o. Make front o) os ++ give x v) m → edit_reason (Replace (Result x 0) v) (record { tree = with_made front m.next os m.tree; next = next }) ≡ None
@@ -74,6 +74,11 @@ module _ (m n : Module) (x : ℕ) (front : Place) (made : List Operation) (v : V
       }
 
 -- ---- rules that give a value of before
+pub given_ready : (r : Rule) (m n : Module) (x : ℕ) (q : Ruled r m n x) (v : Value) → give (head q.here).id v ≡ q.edits → IsReady m → IsReady n
+given_ready r m n x q v e ready =
+    let these : q.edits ≡ give x v = sym e ∙ ap (λ y. give y v) q.id in
+    stays_ready m n x q.front [] v ready (subst (λ es. Free es m) these q.free) (subst (λ es. all_edited es m ≡ n) these q.module_is) (kind_in m.tree) (λ w l. refl) tt (record { results = tt; take = tt }) tt
+
 abbrev pub GivesOld : Rule → Type 0
 GivesOld r = (t : Operation) (n : ℕ) (front : Place) (o : Operation) (es : List Edit) → rule r t n front o ≡ Some es → (v : Value) × (give (head o).id v ≡ es)
 
@@ -81,8 +86,7 @@ pub old_ready : AreAccepted → (r : Rule) → GivesOld r → KeepsReady r
 old_ready accepted r gives m n x ready e =
     let q = ruled accepted r m n x ready.formed ready.sorted e in
     let g = gives m.tree m.next q.front q.here q.edits q.made in
-    let these : q.edits ≡ give x g.0 = sym g.1 ∙ ap (λ y. give y g.0) q.id in
-    stays_ready m n x q.front [] g.0 ready (subst (λ es. Free es m) these q.free) (subst (λ es. all_edited es m ≡ n) these q.module_is) (kind_in m.tree) (λ w l. refl) tt (record { results = tt; take = tt }) tt
+    given_ready r m n x q g.0 g.1 ready
 
 pub keeps_computing : (r : Rule) → KeepsReady r → Keeps r → KeepsComputing r
 keeps_computing r stays keeps m n x a done ready computing e = keeps m n x a done ready.formed ready.sorted ready.kinded (stays m n x ready e).kinded computing e

@@ -171,14 +171,14 @@ module _ (x : ℕ) (u v : Value) (o : Operation) (ops : (head o).operands ≡ u 
   swapped_blocks Q t s = blocks_changed Q second (same_id (put_operand 1 u) (λ h. refl)) (each_head first t) (blocks_changed Q first (same_id (put_operand 0 v) (λ h. refl)) t s)
 
 -- ---- what is done behind it
-abbrev Low : Module → (Header → Type 0) → Header → Type 0
+abbrev pub Low : Module → (Header → Type 0) → Header → Type 0
 Low m P h = P h × (h.id < m.next)
 
 abbrev Stood : Module → Header → Type 0
 Stood m h = (h.id < m.next) × (list_all (λ v. has_value v m.tree) h.operands ≡ true)
 
 module _ (m : Module) (x : ℕ) (done : ℕ → Bool) (below : IsBelow m.next m.tree) where
-  still_there : (ws : List Value) → list_all (λ v. has_value v m.tree) ws ≡ true → list_all (is_there done) ws ≡ true → list_all (is_there (done_after m.next x done)) ws ≡ true
+  pub still_there : (ws : List Value) → list_all (λ v. has_value v m.tree) ws ≡ true → list_all (is_there done) ws ≡ true → list_all (is_there (done_after m.next x done)) ws ≡ true
   still_there [] s e = refl
   still_there (w ∷ ws) s e =
       let h = and_parts (is_there done w) (list_all (is_there done) ws) e in
@@ -189,7 +189,7 @@ module _ (m : Module) (x : ℕ) (done : ℕ → Bool) (below : IsBelow m.next m.
       one (Result y j) l e = after_old m.next x done y l ∙ e
       one (Arg y r j) l e = refl
 
-  fed_later : OperandsStand m.tree → Each (IsFed done) m.tree → Each (IsFed (done_after m.next x done)) m.tree
+  pub fed_later : OperandsStand m.tree → Each (IsFed done) m.tree → Each (IsFed (done_after m.next x done)) m.tree
   fed_later operands fed =
       each_both (IsFed done) (Stood m) (IsFed (done_after m.next x done)) (λ h p q i. still_there h.operands q.1 (p (sym (after_old m.next x done h.id q.0) ∙ i))) m.tree fed
       (each_both (λ h. h.id < m.next) (λ h. list_all (λ v. has_value v m.tree) h.operands ≡ true) (Stood m) (λ h p q. (p, q)) m.tree below operands)

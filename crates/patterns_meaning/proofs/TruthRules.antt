@@ -47,12 +47,12 @@ use Rattle.patterns_meaning.proofs.OfKinds.{same_kinds}
 use Rattle.patterns_meaning.proofs.Ruled.{Ruled, Site, gives_refined, of_rule, rule_kinds, ruled, site_of}
 use Rattle.patterns_meaning.proofs.Trees.{each_found}
 
-by_compare : rule_of (codes "arith.cmpi") ≡ Some how.Compare
+pub by_compare : rule_of (codes "arith.cmpi") ≡ Some how.Compare
 unfolding rule_of rules
 by_compare = refl
 
 -- ---- predicates by their numbers
-asked_number : (o : Option (TypeTerm × ℕ)) (n : ℕ) (p : Predicate) → option_map (λ (i : TypeTerm × ℕ). i.1) o ≡ Some n → asked o ≡ Some p → slice_get predicates n ≡ Some p
+pub asked_number : (o : Option (TypeTerm × ℕ)) (n : ℕ) (p : Predicate) → option_map (λ (i : TypeTerm × ℕ). i.1) o ≡ Some n → asked o ≡ Some p → slice_get predicates n ≡ Some p
 asked_number None n p e f = absurd (none-some n e)
 asked_number (Some i) n p e f = ap (slice_get predicates) (sym (same_Some _ _ e)) ∙ f
 

@@ -3,10 +3,13 @@ use Rattle.std.specs.Prelude.{◌≡◌, ◌<◌, ◌≤◌, ℕ, zero, suc, Lis
 use Rattle.ir_tree_laws.specs.Members.{In}
 use Rattle.ir_event.specs.Modules.{Module}
 use Rattle.patterns_base.specs.declared.rule.Rule.{Rule}
-use Rattle.patterns_base.specs.declared.rule.Rule.TheVariants.{CancelItself, ChooseKnown, ChooseSame, ChooseTruth}
-use Rattle.patterns_base.specs.declared.rule.Rule.TheVariants.{CompareItself, CompareZero, DropAllOnes}
-use Rattle.patterns_base.specs.declared.rule.Rule.TheVariants.{DropOne, DropZero, KeepItself, SwapConstant}
-use Rattle.patterns_base.specs.declared.rule.Rule.TheVariants.{ZeroRemainder}
+use Rattle.patterns_base.specs.declared.rule.Rule.TheVariants.{AddNegative, CancelItself, ChooseKnown}
+use Rattle.patterns_base.specs.declared.rule.Rule.TheVariants.{ChooseOpposite, ChooseSame, ChooseTruth}
+use Rattle.patterns_base.specs.declared.rule.Rule.TheVariants.{CompareItself, CompareZero, CutCast}
+use Rattle.patterns_base.specs.declared.rule.Rule.TheVariants.{DropAllOnes, DropOne, DropZero}
+use Rattle.patterns_base.specs.declared.rule.Rule.TheVariants.{ExpandDifference, ExpandMinMax, KeepItself}
+use Rattle.patterns_base.specs.declared.rule.Rule.TheVariants.{MirrorComparison, RegroupConstants}
+use Rattle.patterns_base.specs.declared.rule.Rule.TheVariants.{SwapConstant, ZeroRemainder}
 use Rattle.patterns_base.specs.Rewrites.{becomes, rewrite_of}
 use Rattle.patterns_base.specs.Canonicalization.{End, ended}
 use Rattle.greedy.specs.Rewriting.{rewriting_of}
@@ -26,8 +29,9 @@ AllKeep rs = (r : Rule) → In r rs → KeepsReady r × KeepsComputing r
 -- rules of which it is shown
 abbrev pub kept_rules : List Rule
 kept_rules =
-    SwapConstant ∷ DropZero ∷ DropOne ∷ DropAllOnes ∷ CancelItself ∷ KeepItself ∷ ZeroRemainder ∷ CompareItself ∷ CompareZero
-    ∷ ChooseSame ∷ ChooseKnown ∷ ChooseTruth ∷ []
+    SwapConstant ∷ DropZero ∷ DropOne ∷ DropAllOnes ∷ CancelItself ∷ KeepItself ∷ ZeroRemainder
+    ∷ RegroupConstants ∷ AddNegative ∷ CompareItself ∷ MirrorComparison ∷ CompareZero ∷ ChooseSame
+    ∷ ChooseKnown ∷ ChooseTruth ∷ ChooseOpposite ∷ CutCast ∷ ExpandMinMax ∷ ExpandDifference ∷ []
 
 -- it is so of them, and of each list of some of them
 abbrev pub KeptAreKept : Type 0

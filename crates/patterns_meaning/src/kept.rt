@@ -1,9 +1,12 @@
 //! Rules of rewriting keep what a module computes, or make it better, also where it is poison: each at an operation,
 //! and so whole runs of them. Each is shown to keep modules ready too: well-formed, sorted, and of the kinds that are
 //! asked for.
-ghost use Rattle.patterns_base.specs.declared.rule.Rule.TheVariants.{CancelItself, ChooseKnown, ChooseSame};
-ghost use Rattle.patterns_base.specs.declared.rule.Rule.TheVariants.{ChooseTruth, CompareItself, CompareZero};
-ghost use Rattle.patterns_base.specs.declared.rule.Rule.TheVariants.{DropAllOnes, DropOne, DropZero, KeepItself};
+ghost use Rattle.patterns_base.specs.declared.rule.Rule.TheVariants.{AddNegative, CancelItself, ChooseKnown};
+ghost use Rattle.patterns_base.specs.declared.rule.Rule.TheVariants.{ChooseOpposite, ChooseSame, ChooseTruth};
+ghost use Rattle.patterns_base.specs.declared.rule.Rule.TheVariants.{CompareItself, CompareZero, CutCast};
+ghost use Rattle.patterns_base.specs.declared.rule.Rule.TheVariants.{DropAllOnes, DropOne, DropZero};
+ghost use Rattle.patterns_base.specs.declared.rule.Rule.TheVariants.{ExpandDifference, ExpandMinMax, KeepItself};
+ghost use Rattle.patterns_base.specs.declared.rule.Rule.TheVariants.{MirrorComparison, RegroupConstants};
 ghost use Rattle.patterns_base.specs.declared.rule.Rule.TheVariants.{SwapConstant, ZeroRemainder};
 ghost use Rattle.patterns_meaning.specs.Keeping.{KeepsComputing, KeepsReady};
 ghost use Rattle.patterns_meaning.specs.Runs.{KeptAreKept, RewritingKeeps, RunsKeep};
@@ -66,10 +69,34 @@ pub fn zero_remainder()
     no_edit_is_refused();
 }
 
+/// `(a op c) op d` with constants c and d becomes `a op (c op d)`.
+pub fn regroup_constants()
+    ensures ready { KeepsReady RegroupConstants }
+    ensures computing { KeepsComputing RegroupConstants }
+{
+    no_edit_is_refused();
+}
+
+/// `subi(a, c)` with a constant c becomes `addi(a, -c)`.
+pub fn add_negative()
+    ensures ready { KeepsReady AddNegative }
+    ensures computing { KeepsComputing AddNegative }
+{
+    no_edit_is_refused();
+}
+
 /// `cmpi(a, a)` becomes true or false by its predicate.
 pub fn compare_itself()
     ensures ready { KeepsReady CompareItself }
     ensures computing { KeepsComputing CompareItself }
+{
+    no_edit_is_refused();
+}
+
+/// A comparison's constant goes second, with the predicate mirrored.
+pub fn mirror_comparison()
+    ensures ready { KeepsReady MirrorComparison }
+    ensures computing { KeepsComputing MirrorComparison }
 {
     no_edit_is_refused();
 }
@@ -102,6 +129,38 @@ pub fn choose_known()
 pub fn choose_truth()
     ensures ready { KeepsReady ChooseTruth }
     ensures computing { KeepsComputing ChooseTruth }
+{
+    no_edit_is_refused();
+}
+
+/// `select(xori(c, true), a, b)` becomes `select(c, b, a)`.
+pub fn choose_opposite()
+    ensures ready { KeepsReady ChooseOpposite }
+    ensures computing { KeepsComputing ChooseOpposite }
+{
+    no_edit_is_refused();
+}
+
+/// A cut of a cut becomes one; a cut of an extension back becomes what was extended.
+pub fn cut_cast()
+    ensures ready { KeepsReady CutCast }
+    ensures computing { KeepsComputing CutCast }
+{
+    no_edit_is_refused();
+}
+
+/// `maxsi(a, b)` and its like become a comparison and a choice.
+pub fn expand_min_max()
+    ensures ready { KeepsReady ExpandMinMax }
+    ensures computing { KeepsComputing ExpandMinMax }
+{
+    no_edit_is_refused();
+}
+
+/// `subi(a, b)` becomes `a + ((b xor -1) + 1)`.
+pub fn expand_difference()
+    ensures ready { KeepsReady ExpandDifference }
+    ensures computing { KeepsComputing ExpandDifference }
 {
     no_edit_is_refused();
 }
