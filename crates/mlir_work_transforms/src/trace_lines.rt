@@ -109,7 +109,11 @@ fn put_site(text: &mut Vec<u8>, names: &[Vec<u8>], by: By, op: OpId) -> Result<(
 }
 
 /// Appends the line of a rewrite.
-pub(crate) fn put_fired(text: &mut Vec<u8>, names: &[Vec<u8>], fired: &Fired) -> Result<(), AllocError>
+pub(crate) fn put_fired(
+    text: &mut Vec<u8>,
+    names: &[Vec<u8>],
+    fired: &Fired,
+) -> Result<(), AllocError>
     ensures { OnOk result
         (text.new.items ≡ text.old.items ++ fired_line (map (λ n. n.items) names.now) fired.now) }
 {
