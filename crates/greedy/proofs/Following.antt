@@ -9,7 +9,7 @@ use Rattle.ir_event.specs.trees.Ids.{ids, regions_ids, region_ids, ops_ids, HasD
 use Rattle.ir_event.specs.trees.Places.{place_of, first_id as first_op}
 use Rattle.ir_event.proofs.of_trees.Returns.{absent_first}
 use Rattle.ir_event.specs.trees.Ids.{first_of}
-use Rattle.ir_event.specs.store.Nodes.{NodeOf, node_of, regions_arguments}
+use Rattle.ir_event.specs.store.Nodes.{NodeOf, node_of}
 use Rattle.ir_event.specs.tree_laws.Values.{region_at}
 use Rattle.ir_event.specs.trees.Tree.{ops_of}
 use Rattle.ir_event.specs.tree_laws.Reads.{ops_at, ops_in, last_id, id_before, is_among, goes_before, list_of, in_list, is_before, prev_of, parent_of, precedes, comes_after}
@@ -27,6 +27,7 @@ use Rattle.greedy.specs.Following.{first_id, comes_next, following, regions_from
 use Rattle.ir_event.proofs.of_types.Truths.{append_none, list_later}
 use Rattle.ir_event.proofs.of_trees.Facts.{ids_head}
 use Rattle.ir_event.proofs.of_tree_laws.Facts.{region_below}
+use Rattle.listeners_surroundings.proofs.Reading.{regions_counted}
 
 there : ℕ → List ℕ → Bool
 there x xs = list_any (λ y. eqb y x) xs
@@ -228,13 +229,6 @@ module _ {N T A : Type 0} where
             }
 
     -- how many regions an operation shows
-    arguments_count : (rs : RegionsOf N T A) → length (regions_arguments rs) ≡ region_count rs
-    arguments_count no_regions = refl
-    arguments_count (region g rs) = omega (arith, arguments_count rs)
-
-    node_count : (o : OpOf N T A) → length (node_of o).arguments ≡ region_count (regions o)
-    node_count (op h rs) = arguments_count rs
-
     found_op : (x : ℕ) → has_id x t ≡ true → (o : OpOf N T A) × (find x t ≡ Some o)
     found_op x h = let s = stood x h in (s.0.here, ap (λ y. find y t) (sym s.3) ∙ stand_found t d s.0 s.2)
 
@@ -243,7 +237,7 @@ module _ {N T A : Type 0} where
         let w = found_op x h in
         let two : Some n ≡ Some (node_of w.0) = e ∙ ap (λ f. option_map (λ o. node_of o) (first_of f held)) w.1 in
         let one : n ≡ node_of w.0 = cc in
-        ap (λ (k : NodeOf N T A). length k.arguments) one ∙ node_count w.0 ∙ sym (ap count_of w.1)
+        ap (λ (k : NodeOf N T A). length k.arguments) one ∙ regions_counted w.0 ∙ sym (ap count_of w.1)
 
     pub few_shown : (x : ℕ) → HasFewRegions t → has_id x t ≡ true → count_of (find x t) ≤ 16
     few_shown x f h = let w = found_op x h in subst (λ o. count_of o ≤ 16) (sym w.1) (f x w.0 w.1)

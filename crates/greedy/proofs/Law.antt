@@ -23,6 +23,7 @@ use Rattle.patterns_base.specs.Looks.{when, in_front, front_of, ended_by}
 use Rattle.patterns_base.specs.Makes.{made_by}
 use Rattle.patterns_base.specs.Rules.{rule}
 use Rattle.patterns_base.specs.Rewrites.{Rewrite, none, refused, becomes, edits_of, rewrite_by, rewrite_of, carried_out, suits}
+use Rattle.patterns_base.proofs.Facts.{when_some}
 use Rattle.patterns_base.specs.Canonicalization.{or_else, first_rule, greedy_rules, lowest}
 use Rattle.greedy.specs.Orders.{Orderly}
 use Rattle.greedy.proofs.Cuts.{left_in, right_in}
@@ -51,10 +52,6 @@ record Planned (r : Rule) (m : Module) (x : ℕ) (es : List Edit) : Type 0 where
   front : front_of x m.tree ≡ Some place
   by : rule r m.tree m.next place here ≡ Some es
 
-when_passed : {X : Type 0} (b : Bool) (r : Option X) (y : X) → when b r ≡ Some y → r ≡ Some y
-when_passed true r y e = e
-when_passed false r y e = absurd cc
-
 planned : (r : Rule) (m : Module) (x : ℕ) (es : List Edit) → edits_of r m x ≡ Some es → Planned r m x es
 unfolding edits_of
 planned r m x es e = go (find x m.tree) refl (front_of x m.tree) refl e
@@ -62,7 +59,7 @@ planned r m x es e = go (find x m.tree) refl (front_of x m.tree) refl e
     go : (a : Option Operation) → find x m.tree ≡ a → (b : Option Place) → front_of x m.tree ≡ b → given a (λ o. given b (λ front. when (suits r m.tree (head o)) (rule r m.tree m.next front o))) ≡ Some es → Planned r m x es
     go None k b l e = absurd cc
     go (Some o) k None l e = absurd cc
-    go (Some o) k (Some place) l e = record { here = o; place = place; found = k; front = l; by = when_passed (suits r m.tree (head o)) (rule r m.tree m.next place o) es e }
+    go (Some o) k (Some place) l e = record { here = o; place = place; found = k; front = l; by = (when_some (suits r m.tree (head o)) (rule r m.tree m.next place o) es e).1 }
 
 pub carried : (es : List Edit) (m n : Module) → carried_out es m ≡ becomes n → all_edited es m ≡ n
 carried es m n e = go (nat_le (op_count m.tree + made_by es) most_ops) (nat_le (m.next + made_by es) most_next) e

@@ -3,7 +3,7 @@
 use Rattle.std.proofs.Common.{◌≡◌, refl, ap, sym, ◌∙◌, subst, ℕ, ◌+◌, List, [], ◌∷◌, ◌++◌, map, Bool, true, false, true≢false, ◌&&◌, eqb, Option, Some, None, inl, inr}
 use Rattle.std.specs.Prelude.{is_some, option_map, slice_get}
 use Rattle.std.proofs.lemmas.Bool.{and_parts}
-use Rattle.std.proofs.lemmas.Option.{none-some}
+use Rattle.std.proofs.lemmas.Option.{none-some, same_Some}
 use Rattle.ir_event.specs.types.Terms.{TypeTerm}
 use Rattle.ir_event.specs.trees.declared.value.Value.{Value}
 use Rattle.ir_event.specs.trees.declared.value.Value.TheVariants.{Result, Arg}
@@ -33,6 +33,7 @@ use Rattle.patterns_book.specs.Planning.{Plan, all_made, constants_known, entrie
 use Rattle.patterns_book.specs.Planning.{outcomes as outcomes_of}
 use Rattle.patterns_book.specs.declared.pattern.New.{New}
 use Rattle.patterns_book.specs.declared.pattern.New.TheVariants as new
+use Rattle.patterns_book.proofs.Standing.{when_some}
 use Rattle.patterns_book.specs.Shapes.{Shape}
 use Rattle.patterns_makeable.specs.Makeable.{is_makeable}
 use Rattle.patterns_matched.specs.Built.{plan_of}
@@ -110,13 +111,6 @@ abbrev AreLeaves : List Operation → Type 0
 AreLeaves [] = Unit {0}
 AreLeaves (o ∷ os) = (regions o ≡ no_regions) × AreLeaves os
 
-some_is : {X : Type 0} {x y : X} → Some x ≡ Some y → x ≡ y
-some_is e = cc
-
-when_is : {X : Type 0} (b : Bool) (r : Option X) (x : X) → matching.when b r ≡ Some x → r ≡ Some x
-when_is true r x e = e
-when_is false r x e = absurd (none-some x e)
-
 -- what holds of all that may come, holds of what comes
 given_holds : {X Y : Type 0} (P : Y → Type 0) (x : Option X) (f : X → Option Y) → ((y : X) (z : Y) → f y ≡ Some z → P z) → (z : Y) → outcomes.given x f ≡ Some z → P z
 given_holds P None f h z e = absurd (none-some z e)
@@ -132,10 +126,10 @@ IsLeaf o = regions o ≡ no_regions
 made_leaf : (b : Standing Value) (ts : Standing TypeTerm) (env : List Outcome) (w : New) (o : Operation) → made_as b ts env w ≡ Some o → IsLeaf o
 made_leaf b ts env (new.Operation p) o e =
     given_holds IsLeaf (values_at (operands_of p.form) b) (λ vs. outcomes.given (standing p.ty ts) (λ term. Some (made (name_of p.form) vs term (entries_by (predicate_of p.form) (name_of p.form)))))
-    (λ vs q i. given_holds IsLeaf (standing p.ty ts) (λ term. Some (made (name_of p.form) vs term (entries_by (predicate_of p.form) (name_of p.form)))) (λ term r j. sym (ap (λ (z : Operation). regions z) (some_is j))) q i) o e
+    (λ vs q i. given_holds IsLeaf (standing p.ty ts) (λ term. Some (made (name_of p.form) vs term (entries_by (predicate_of p.form) (name_of p.form)))) (λ term r j. sym (ap (λ (z : Operation). regions z) (same_Some _ _ j))) q i) o e
 made_leaf b ts env (new.Constant k t) o e =
     given_holds IsLeaf (outcomes.given (slice_get env k) (λ x. x)) (λ (x : Known). outcomes.given (standing t ts) (λ term. Some (constant term x.1)))
-    (λ x q i. given_holds IsLeaf (standing t ts) (λ term. Some (constant term x.1)) (λ term r j. sym (ap (λ (z : Operation). regions z) (some_is j))) q i) o e
+    (λ x q i. given_holds IsLeaf (standing t ts) (λ term. Some (constant term x.1)) (λ term r j. sym (ap (λ (z : Operation). regions z) (same_Some _ _ j))) q i) o e
 
 abbrev Made : Type 0
 Made = List Operation × Standing Value
@@ -147,7 +141,7 @@ abbrev onto : Operation → Made → Made
 onto o r = (o ∷ r.0, r.1)
 
 all_leaves : (ts : Standing TypeTerm) (env : List Outcome) (ws : List New) (n k : ℕ) (b : Standing Value) (r : Made) → all_made ts env n k ws b ≡ Some r → LeavesMade r
-all_leaves ts env [] n k b r e = subst LeavesMade (some_is e) tt
+all_leaves ts env [] n k b r e = subst LeavesMade (same_Some _ _ e) tt
 all_leaves ts env (w ∷ ws) n k b r e = by_made (made_as b ts env w) refl (λ c z i. all_leaves ts env ws (n + 1) (k + 1) c z i) e
   where
     by_made : (a : Option Operation) → made_as b ts env w ≡ a → ((c : Standing Value) (z : Made) → all_made ts env (n + 1) (k + 1) ws c ≡ Some z → LeavesMade z)
@@ -159,7 +153,7 @@ all_leaves ts env (w ∷ ws) n k b r e = by_made (made_as b ts env w) refl (λ c
       where
         more_of : (o : Operation) → IsLeaf o → (a : Option Made) → ((z : Made) → a ≡ Some z → LeavesMade z) → (y : Made) → option_map (onto o) a ≡ Some y → LeavesMade y
         more_of o leaf None later y e = absurd (none-some y e)
-        more_of o leaf (Some z) later y e = subst LeavesMade (some_is e) (leaf, later z refl)
+        more_of o leaf (Some z) later y e = subst LeavesMade (same_Some _ _ e) (leaf, later z refl)
 
 abbrev LeavesPlanned : Plan → Type 0
 LeavesPlanned made = AreLeaves made.0
@@ -178,7 +172,7 @@ planned_leaves t clean n p x made e =
       where
         by_made : (a : Option Made) → all_made ts env n (new_place p) p.new b ≡ a → (z : Plan) → outcomes.given a (λ (r : Made). outcomes.given (standing p.result r.1) (λ v. Some (r.0, v))) ≡ Some z → LeavesPlanned z
         by_made None i z e = absurd (none-some z e)
-        by_made (Some r) i z e = given_holds LeavesPlanned (standing p.result r.1) (λ v. Some (r.0, v)) (λ v y j. subst LeavesPlanned (some_is j) (all_leaves ts env p.new n (new_place p) b r i)) z e
+        by_made (Some r) i z e = given_holds LeavesPlanned (standing p.result r.1) (λ v. Some (r.0, v)) (λ v y j. subst LeavesPlanned (same_Some _ _ j) (all_leaves ts env p.new n (new_place p) b r i)) z e
 
     from : (b : Standing Value) (ts : Standing TypeTerm) (made : Plan) → planned_by t clean n p b ts ≡ Some made → LeavesPlanned made
     from b ts made e = by_kinds (map kind_standing ts) made e
@@ -206,7 +200,7 @@ own_planned p m x es e = go (find x m.tree) refl (front_of x m.tree) refl e
   where
     still : (place : Place) (a : Option Plan) → plan_of m.tree (is_clean m.tree) m.next p x ≡ a → edits_for place x a ≡ Some es → Still x place es
     still place None i e = absurd (none-some es e)
-    still place (Some made) i e = subst (λ l. Still x place l) (some_is e) (still_given x place made.0 made.1 (planned_leaves m.tree (is_clean m.tree) m.next p x made (when_is (is_makeable p) (planned m.tree (is_clean m.tree) m.next p x) made i)))
+    still place (Some made) i e = subst (λ l. Still x place l) (same_Some _ _ e) (still_given x place made.0 made.1 (planned_leaves m.tree (is_clean m.tree) m.next p x made (when_some (is_makeable p) (planned m.tree (is_clean m.tree) m.next p x) made i)))
 
     single : (place : Place) (b : Bool) → when b (edits_for place x (plan_of m.tree (is_clean m.tree) m.next p x)) ≡ Some es → edits_for place x (plan_of m.tree (is_clean m.tree) m.next p x) ≡ Some es
     single place true e = e

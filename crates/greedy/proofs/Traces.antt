@@ -1,5 +1,6 @@
 -- What is told of rewrites.
 use Rattle.std.proofs.Common.{◌≡◌, ◌≢◌, refl, ap, sym, ◌∙◌, subst, ℕ, zero, suc, ◌+◌, ◌-◌, ◌≤◌, ◌<◌, Bool, true, false, true≢false, cond, eqb, eqb-true, List, [], ◌∷◌, ◌++◌, append_assoc, append-nil, length, Option, Some, None, inl, inr, arith}
+use Rattle.std.proofs.lemmas.Option.{none-some}
 use Rattle.ir_event.specs.trees.Ids.{has_id, ids}
 use Rattle.ir_event.specs.tree_laws.Reads.{comes_after, precedes}
 use Rattle.ir_event.proofs.of_tree_laws.Listed.{bool_cases}
@@ -95,9 +96,6 @@ module _ (tries : Trial) (fired_is : IsFired tries) (limit : ℕ) (old : Module)
         so_far ∙ ap (λ fs. done ++ fs) (trace_full tries fired_is m (limit - count) none_left) ∙ append-nil done
 
 -- ---- as many rewrites are told as there were
-no_site : {A : Type 0} (a : A) → Some a ≡ None → ⊥
-no_site a e = absurd cc
-
 count_is : (m n : Module) (j k : ℕ) (d e : End) → ended m j d ≡ ended n k e → j ≡ k
 count_is m n j k d e h = ap (λ a. elim a as (λ _. ℕ) [ stopped g ↦ 0 | ended p i c ↦ i ]) h
 
@@ -112,7 +110,7 @@ module _ (tries : Trial) (fired_is : IsFired tries) where
     where
       go : (f : Option By) → tries.fires m x ≡ f → site_or f x (site_by tries xs m) ≡ None → (site_by tries xs m ≡ None → first_by tries xs m ≡ none) → or_else (tries.comes m x) (first_by tries xs m) ≡ none
       go None f e more = ap (λ a. or_else a (first_by tries xs m)) ((fired_is m x).1 f) ∙ more e
-      go (Some r) f e more = absurd (no_site (r, x) e)
+      go (Some r) f e more = absurd (none-some (r, x) (sym e))
 
   counted : (left done : ℕ) (m n : Module) (k : ℕ) (e : End) → rewritten_from tries left done m ≡ ended n k e → done + length (trace_of tries left m) ≡ k
   unfolding rewritten_from trace_of

@@ -1,7 +1,6 @@
 -- What is looked up in the entries of a map from ids.
-use Rattle.std.proofs.Common.{◌≡◌, ◌⊎◌, inl, inr, ℕ, zero, suc, ◌+◌, ◌<◌, ◌≤◌, true, false, cond, eqb, List, [], ◌∷◌, ◌++◌, length, get_or, Option, Some, None, refl, sym, ap, ◌∙◌, subst, arith, eq-eqb, ne_eqb, Ordering, Less, Equal, Greater, nat_cmp, is_eq}
-use Rattle.std.specs.Ordering.{MatchOrdering}
-use Rattle.std.specs.Cmp.{ranks, nat_cmp_is}
+use Rattle.std.proofs.Common.{◌≡◌, ◌⊎◌, inl, inr, ℕ, zero, suc, ◌+◌, ◌<◌, ◌≤◌, true, false, cond, List, [], ◌∷◌, ◌++◌, length, get_or, Option, Some, None, refl, sym, ap, ◌∙◌, arith, eq-eqb, ne_eqb, Less, Equal, Greater, nat_cmp}
+use Rattle.std.specs.Cmp.{nat_cmp_is, unsigned_tied}
 use Rattle.std.specs.List.{AllByRecursion}
 use Rattle.std.specs.List.Sorted.{IsStrictlySortedBy}
 use Rattle.std.specs.BTreeMap.{BTreeMap, is_at}
@@ -9,14 +8,6 @@ use Rattle.std.specs.Map.{lookup, keys_of}
 use Rattle.std.proofs.lemmas.Bool.{cases_lt}
 use Rattle.std.proofs.lemmas.List.{get_or_default}
 use Rattle.id_map.specs.Map.{entries_from, AreBehind}
-
-pub same_test : (x y : ℕ) → is_eq (nat_cmp x y) ≡ eqb x y
-same_test x y = go (nat_cmp x y) refl (ranks x y)
-  where
-    go : (r : Ordering) → nat_cmp x y ≡ r → MatchOrdering (nat_cmp x y) (x < y) (x ≡ y) (y < x) → is_eq (nat_cmp x y) ≡ eqb x y
-    go Less e m = let l = subst (λ r. MatchOrdering r (x < y) (x ≡ y) (y < x)) e m in ap is_eq e ∙ sym (ne_eqb x y (λ q. omega (arith, q, l)))
-    go Equal e m = let l = subst (λ r. MatchOrdering r (x < y) (x ≡ y) (y < x)) e m in ap is_eq e ∙ sym (eq-eqb x y l)
-    go Greater e m = let l = subst (λ r. MatchOrdering r (x < y) (x ≡ y) (y < x)) e m in ap is_eq e ∙ sym (ne_eqb x y (λ q. omega (arith, q, l)))
 
 pub less_is : (x y : ℕ) → x < y → nat_cmp x y ≡ Less
 less_is x y l = sym (nat_cmp_is x y Less l)
@@ -32,10 +23,10 @@ module _ {V : Type 0} where
   look es x = lookup (is_at (nat_cmp x)) es
 
   pub look_here : (x : ℕ) (v : V) (es : List (ℕ × V)) → look ((x, v) ∷ es) x ≡ Some v
-  look_here x v es = ap (λ b. cond b (Some v) (look es x)) (same_test x x ∙ eq-eqb x x refl)
+  look_here x v es = ap (λ b. cond b (Some v) (look es x)) (unsigned_tied x x ∙ eq-eqb x x refl)
 
   pub look_past : (x y : ℕ) (v : V) (es : List (ℕ × V)) → (x ≡ y → ⊥) → look ((y, v) ∷ es) x ≡ look es x
-  look_past x y v es n = ap (λ b. cond b (Some v) (look es x)) (same_test x y ∙ ne_eqb x y n)
+  look_past x y v es n = ap (λ b. cond b (Some v) (look es x)) (unsigned_tied x y ∙ ne_eqb x y n)
 
   -- no id of some entries is below a number
   abbrev pub From : ℕ → List (ℕ × V) → Type 0
@@ -115,7 +106,7 @@ module _ {V : Type 0} where
   behind_from n far b = from_looks n far.entries b
 
   pub behind_kept : (n x : ℕ) (o : Option V) (far later : BTreeMap ℕ V) → n ≤ x → AreBehind n far → ((y : ℕ) → look later.entries y ≡ cond (is_at (nat_cmp x) y) o (look far.entries y)) → AreBehind n later
-  behind_kept n x o far later l b h y m = h y ∙ ap (λ t. cond t o (look far.entries y)) (same_test x y ∙ ne_eqb x y (λ e. omega (arith, e, m, l))) ∙ b y m
+  behind_kept n x o far later l b h y m = h y ∙ ap (λ t. cond t o (look far.entries y)) (unsigned_tied x y ∙ ne_eqb x y (λ e. omega (arith, e, m, l))) ∙ b y m
 
   pub get_near : (slots : List (Option V)) (far : BTreeMap ℕ V) (x : ℕ) (d : Option V) → AreBehind (length slots) far → x < length slots → look (entries_from 0 slots ++ far.entries) x ≡ get_or slots x d
   get_near slots far x d b l =

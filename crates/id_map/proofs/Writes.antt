@@ -1,16 +1,16 @@
 -- What a write does to the entries of a map from ids.
 use Rattle.std.proofs.Common.{Result, Ok, Err, MatchResult, OnOk, OnErr, is_none, append-nil, length-append, Bool, ◌≡◌, ◌⊎◌, inl, inr, ℕ, zero, suc, ◌+◌, ◌<◌, ◌≤◌, true, false, cond, eqb, List, [], ◌∷◌, ◌++◌, length, get_or, set, Option, Some, None, is_some, refl, sym, ap, ◌∙◌, subst, arith, eq-eqb, ne_eqb, Ordering, Less, Equal, Greater, nat_cmp, is_eq}
 use Rattle.std.specs.Ordering.{match_ordering, MatchOrdering}
-use Rattle.std.specs.Cmp.{ranks}
+use Rattle.std.specs.Cmp.{ranks, unsigned_tied}
 use Rattle.std.specs.BTreeMap.{BTreeMap, is_at, insert_entry}
 use Rattle.std.specs.BTreeMap as tree
 use Rattle.std.specs.Bool.{OnTrue}
 use Rattle.std.specs.declared.alloc.AllocError.{AllocError}
 use Rattle.std.specs.Map.{lookup, set_value}
 use Rattle.std.proofs.lemmas.Bool.{cases_lt, cases_eq, cond-true, cond-false}
-use Rattle.std.proofs.lemmas.List.{get_or-set_same, get_or-set_other, length-set}
+use Rattle.std.proofs.lemmas.List.{get_or-set_same, get_or-set_other, length-set, nil_from_length}
 use Rattle.id_map.specs.Map.{entries_from, AreBehind}
-use Rattle.id_map.proofs.Lookups.{same_test, less_is, equal_is, greater_is, look, look_here, look_past, From, none_below, from_less, from_entries, found_near, found_far, behind_from, behind_kept}
+use Rattle.id_map.proofs.Lookups.{less_is, equal_is, greater_is, look, look_here, look_past, From, none_below, from_less, from_entries, found_near, found_far, behind_from, behind_kept}
 
 module _ {V : Type 0} where
   -- an entry that isn't before any other goes to the front
@@ -56,8 +56,8 @@ module _ {V : Type 0} where
     where
       turned : look ((x, v) ∷ []) y ≡ cond (is_at (nat_cmp x) y) (Some v) None
       turned = elim (cases_eq y x) [
-        | inl e ↦ ap (look ((x, v) ∷ [])) e ∙ look_here x v [] ∙ sym (ap (λ b. cond b (Some v) None) (same_test x y ∙ eq-eqb x y (sym e)))
-        | inr n ↦ look_past y x v [] n ∙ sym (ap (λ b. cond b (Some v) None) (same_test x y ∙ ne_eqb x y (λ e. n (sym e))))
+        | inl e ↦ ap (look ((x, v) ∷ [])) e ∙ look_here x v [] ∙ sym (ap (λ b. cond b (Some v) None) (unsigned_tied x y ∙ eq-eqb x y (sym e)))
+        | inr n ↦ look_past y x v [] n ∙ sym (ap (λ b. cond b (Some v) None) (unsigned_tied x y ∙ ne_eqb x y (λ e. n (sym e))))
       ]
   insert_looks x v (e ∷ es) y = go (nat_cmp x e.0) refl (ranks x e.0) (insert_looks x v es y) (cases_eq y x)
     where
@@ -65,10 +65,10 @@ module _ {V : Type 0} where
       new = insert_entry nat_cmp es x v
 
       at : x ≡ y → is_at (nat_cmp x) y ≡ true
-      at q = same_test x y ∙ eq-eqb x y q
+      at q = unsigned_tied x y ∙ eq-eqb x y q
 
       off : (x ≡ y → ⊥) → is_at (nat_cmp x) y ≡ false
-      off n = same_test x y ∙ ne_eqb x y n
+      off n = unsigned_tied x y ∙ ne_eqb x y n
 
       is : (r : Ordering) → nat_cmp x e.0 ≡ r → insert_entry nat_cmp (e ∷ es) x v ≡ match_ordering r ((x, v) ∷ e ∷ es) ((e.0, v) ∷ es) (e ∷ new)
       is r q = ap (λ s. match_ordering s ((x, v) ∷ e ∷ es) ((e.0, v) ∷ es) (e ∷ new)) q
@@ -99,14 +99,14 @@ module _ {V : Type 0} where
   set_near n zero (None ∷ slots) far v w l h = absurd (let bad : None ≡ Some v = h in cc)
   set_near n zero (Some u ∷ slots) far v w l h =
       let rest = entries_from (n + 1) slots ++ far in
-      sym (ap (λ b. cond b ((n, w) ∷ rest) ((n, u) ∷ set_value (is_at (nat_cmp (n + 0))) rest w)) (same_test (n + 0) n ∙ eq-eqb (n + 0) n (omega arith)))
+      sym (ap (λ b. cond b ((n, w) ∷ rest) ((n, u) ∷ set_value (is_at (nat_cmp (n + 0))) rest w)) (unsigned_tied (n + 0) n ∙ eq-eqb (n + 0) n (omega arith)))
   set_near n (suc i) (None ∷ slots) far v w l h =
       set_near (n + 1) i slots far v w (omega (arith, l)) h
       ∙ ap (λ x. set_value (is_at (nat_cmp x)) (entries_from (n + 1) slots ++ far) w) (omega arith)
   set_near n (suc i) (Some u ∷ slots) far v w l h =
       let rest = entries_from (n + 1) slots ++ far in
       ap (λ es. (n, u) ∷ es) (set_near (n + 1) i slots far v w (omega (arith, l)) h ∙ ap (λ x. set_value (is_at (nat_cmp x)) rest w) (omega arith))
-      ∙ sym (ap (λ b. cond b ((n, w) ∷ rest) ((n, u) ∷ set_value (is_at (nat_cmp (n + suc i))) rest w)) (same_test (n + suc i) n ∙ ne_eqb (n + suc i) n (λ q. omega (arith, q))))
+      ∙ sym (ap (λ b. cond b ((n, w) ∷ rest) ((n, u) ∷ set_value (is_at (nat_cmp (n + suc i))) rest w)) (unsigned_tied (n + suc i) n ∙ ne_eqb (n + suc i) n (λ q. omega (arith, q))))
 
   pub set_far : (n x : ℕ) (slots : List (Option V)) (far : List (ℕ × V)) (w : V) → n + length slots ≤ x
       → entries_from n slots ++ set_value (is_at (nat_cmp x)) far w ≡ set_value (is_at (nat_cmp x)) (entries_from n slots ++ far) w
@@ -115,7 +115,7 @@ module _ {V : Type 0} where
   set_far n x (Some u ∷ slots) far w l =
       let rest = entries_from (n + 1) slots ++ far in
       ap (λ es. (n, u) ∷ es) (set_far (n + 1) x slots far w (omega (arith, l)))
-      ∙ sym (ap (λ b. cond b ((n, w) ∷ rest) ((n, u) ∷ set_value (is_at (nat_cmp x)) rest w)) (same_test x n ∙ ne_eqb x n (λ q. omega (arith, q, l))))
+      ∙ sym (ap (λ b. cond b ((n, w) ∷ rest) ((n, u) ∷ set_value (is_at (nat_cmp x)) rest w)) (unsigned_tied x n ∙ ne_eqb x n (λ q. omega (arith, q, l))))
 
   -- a place of the list that is written
   pub near_updated : (x : ℕ) (o : Option V) (slots : List (Option V)) (far : List (ℕ × V)) → x < length slots → From (length slots) far
@@ -136,13 +136,13 @@ module _ {V : Type 0} where
 
       go : (y < length slots) ⊎ (length slots ≤ y) → (y ≡ x) ⊎ (y ≡ x → ⊥) → look (entries_from 0 new ++ far) y ≡ cond (is_at (nat_cmp x) y) o (look (entries_from 0 slots ++ far) y)
       go (inl b) (inl e) =
-          now b ∙ ap (λ z. get_or new z None) e ∙ get_or-set_same slots x o None l ∙ sym (ap (λ b. cond b o (look (entries_from 0 slots ++ far) y)) (same_test x y ∙ eq-eqb x y (sym e)))
+          now b ∙ ap (λ z. get_or new z None) e ∙ get_or-set_same slots x o None l ∙ sym (ap (λ b. cond b o (look (entries_from 0 slots ++ far) y)) (unsigned_tied x y ∙ eq-eqb x y (sym e)))
       go (inl b) (inr n) =
-          now b ∙ get_or-set_other slots x y o None n ∙ sym (was b) ∙ sym (ap (λ b. cond b o (look (entries_from 0 slots ++ far) y)) (same_test x y ∙ ne_eqb x y (λ e. n (sym e))))
+          now b ∙ get_or-set_other slots x y o None n ∙ sym (was b) ∙ sym (ap (λ b. cond b o (look (entries_from 0 slots ++ far) y)) (unsigned_tied x y ∙ ne_eqb x y (λ e. n (sym e))))
       go (inr g) q =
           found_far 0 y new far (omega (arith, g, long))
           ∙ sym (found_far 0 y slots far (omega (arith, g)))
-          ∙ sym (ap (λ b. cond b o (look (entries_from 0 slots ++ far) y)) (same_test x y ∙ ne_eqb x y (λ e. omega (arith, e, g, l))))
+          ∙ sym (ap (λ b. cond b o (look (entries_from 0 slots ++ far) y)) (unsigned_tied x y ∙ ne_eqb x y (λ e. omega (arith, e, g, l))))
 
   -- one behind it
   pub far_updated : (x : ℕ) (o : Option V) (slots : List (Option V)) (far later : List (ℕ × V)) → length slots ≤ x → From (length slots) far
@@ -156,7 +156,7 @@ module _ {V : Type 0} where
           ∙ found_near 0 y slots later b (from_less (0 + length slots) (length slots) later (omega arith) g)
           ∙ sym (found_near 0 y slots far b (from_less (0 + length slots) (length slots) far (omega arith) f))
           ∙ ap (look (entries_from 0 slots ++ far)) (omega arith)
-          ∙ sym (ap (λ b. cond b o (look (entries_from 0 slots ++ far) y)) (same_test x y ∙ ne_eqb x y (λ e. omega (arith, e, b, l))))
+          ∙ sym (ap (λ b. cond b o (look (entries_from 0 slots ++ far) y)) (unsigned_tied x y ∙ ne_eqb x y (λ e. omega (arith, e, b, l))))
       go (inr q) =
           found_far 0 y slots later (omega (arith, q)) ∙ h y ∙ ap (cond (is_at (nat_cmp x) y) o) (sym (found_far 0 y slots far (omega (arith, q))))
 
@@ -194,10 +194,6 @@ module _ {V : Type 0} where
   refused_by (Ok u) old mid new v same e = tt
   refused_by (Err u) old mid new v same e = ap (entries_from 0) e ∙ same
 
-  none_there : (es : List (ℕ × V)) → length es ≡ 0 → es ≡ []
-  none_there [] e = refl
-  none_there (a ∷ es) e = absurd (omega (arith, e))
-
   pub near_inserted : (slots : List (Option V)) (far : BTreeMap ℕ V) (x : ℕ) (v : V) → AreBehind (length slots) far → x < length slots
       → entries_from 0 (set slots x (Some v)) ++ far.entries ≡ insert_entry nat_cmp (entries_from 0 slots ++ far.entries) x v
   near_inserted slots far x v b l =
@@ -207,7 +203,7 @@ module _ {V : Type 0} where
   pub add_inserted : (r : Result (Unit {0}) AllocError) (slots new : List (Option V)) (far : BTreeMap ℕ V) (x : ℕ) (v : V) → length far.entries ≡ 0 → length slots ≤ x → OnOk r (entries_from 0 new ≡ entries_from 0 slots ++ (x, v) ∷ [])
       → OnOk r (entries_from 0 new ++ far.entries ≡ insert_entry nat_cmp (entries_from 0 slots ++ far.entries) x v)
   add_inserted (Ok u) slots new far x v none l e =
-      let nothing = none_there far.entries none in
+      let nothing = nil_from_length far.entries none in
       (λ i. e i ++ nothing i)
       ∙ append-nil (entries_from 0 slots ++ (x, v) ∷ [])
       ∙ insert_far 0 x slots [] v (omega (arith, l))
@@ -252,7 +248,7 @@ module _ {V : Type 0} where
 
   pub add_absent : (r : Result (Unit {0}) AllocError) (slots : List (Option V)) (far : BTreeMap ℕ V) (x : ℕ) → length far.entries ≡ 0 → length slots ≤ x → OnErr r (look (entries_from 0 slots ++ far.entries) x ≡ None)
   add_absent (Ok u) slots far x none l = tt
-  add_absent (Err u) slots far x none l = found_far 0 x slots far.entries (omega (arith, l)) ∙ ap (λ es. look es x) (none_there far.entries none)
+  add_absent (Err u) slots far x none l = found_far 0 x slots far.entries (omega (arith, l)) ∙ ap (λ es. look es x) (nil_from_length far.entries none)
 
   pub put_absent : (r : Result (Unit {0}) AllocError) (slots : List (Option V)) (far : BTreeMap ℕ V) (x : ℕ) → length slots ≤ x → OnErr r (look far.entries x ≡ None) → OnErr r (look (entries_from 0 slots ++ far.entries) x ≡ None)
   put_absent (Ok u) slots far x l e = tt

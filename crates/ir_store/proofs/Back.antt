@@ -3,7 +3,7 @@ use Rattle.std.proofs.Common.{◌≡◌, refl, ap, sym, ◌∙◌, subst, ℕ, t
 use Rattle.ir_store_reads.specs.trees.declared.place.Place.{Place}
 use Rattle.ir_store_reads.specs.trees.Tree.{HeadOf, Op, OpOf, head}
 use Rattle.ir_store_reads.specs.trees.Ids.{HasDistinctIds, find, has_id}
-use Rattle.ir_store_reads.specs.trees.Places.{place_of, put, put_here, put_found, without, shifted}
+use Rattle.ir_store_reads.specs.trees.Places.{place_of, put_here, put_found, without, shifted}
 use Rattle.ir_store_reads.proofs.of_trees.Returns.{put_take}
 use Rattle.ir_store_reads.specs.tree_laws.Reasons.{has_place, leads_inside, before_within}
 use Rattle.ir_store_reads.specs.tree_laws.Stands.{dropping}
@@ -24,20 +24,17 @@ module _ {N T A : Type 0} (x : ℕ) (place : Place) (t o : OpOf N T A) (d : HasD
   abbrev left : OpOf N T A
   left = without x t
 
-  is : shifted x place t ≡ put place o (without x t)
-  is = is_put x place t o d found root spot out
-
   pub after_distinct : HasDistinctIds (shifted x place t)
-  after_distinct = subst HasDistinctIds (sym is) (shift_distinct x place t o d found root spot out)
+  after_distinct = subst HasDistinctIds (sym (is_put x place t o d found root spot out)) (shift_distinct x place t o d found root spot out)
 
   pub after_found : find x (shifted x place t) ≡ Some o
-  after_found = ap (find x) is ∙ shift_found x place t o d found root spot out ∙ found
+  after_found = ap (find x) (is_put x place t o d found root spot out) ∙ shift_found x place t o d found root spot out ∙ found
 
   after_rest : without x after ≡ left
-  after_rest = ap (without x) is ∙ shift_rest x place t o d found root spot out
+  after_rest = ap (without x) (is_put x place t o d found root spot out) ∙ shift_rest x place t o d found root spot out
 
   pub root_stays : eqb (head (shifted x place t)).id x ≡ false
-  root_stays = ap (λ (h : HeadOf N T A). eqb h.id x) (ap (λ (z : OpOf N T A). head z) is ∙ same_head x (put_here place o) left ∙ same_head x (dropping x) t) ∙ root
+  root_stays = ap (λ (h : HeadOf N T A). eqb h.id x) (ap (λ (z : OpOf N T A). head z) (is_put x place t o d found root spot out) ∙ same_head x (put_here place o) left ∙ same_head x (dropping x) t) ∙ root
 
   module _ (old : Place) (was : place_of x t ≡ Some old) where
     pub back : shifted x old (shifted x place t) ≡ t

@@ -17,16 +17,13 @@ use Rattle.ir_store.specs.Nodes.{Node, node_of}
 use Rattle.ir_store.specs.Stored.{Stored, known}
 use Rattle.ir_store.specs.Calls.{CanRetract, after_restore, after_take, hold, put_held}
 
-head_of_node : (o : Op) → (node_of o).head ≡ head o
-head_of_node (op h rs) = refl
-
 -- what isn't of the module but known is held
 pub held_known : (x : ℕ) (s : Stored) (n : Node) → has_id x s.module_of.tree ≡ false → Some n ≡ option_map node_of (known x s) → (o : Op) × (finmap.get s.held x ≡ Some o) × (n.head ≡ head o)
 held_known x s n a e = go (finmap.get s.held x) refl (e ∙ ap (λ z. option_map node_of (first_of z (finmap.get s.held x))) (absent_find x s.module_of.tree a))
   where
     go : (m : Option Op) → finmap.get s.held x ≡ m → Some n ≡ option_map node_of m → (o : Op) × (finmap.get s.held x ≡ Some o) × (n.head ≡ head o)
     go None f h = absurd cc
-    go (Some o) f h = (o, f, ap (λ (z : Node). z.head) (ap (λ z. unwrap_or z (node_of o)) h) ∙ head_of_node o)
+    go (Some (op k rs)) f h = (op k rs, f, ap (λ (z : Node). z.head) (ap (λ z. unwrap_or z (node_of (op k rs))) h))
 
 pub same_held : (a b : Op) (m : Option Op) → m ≡ Some a → m ≡ Some b → a ≡ b
 same_held a b m e f = ap (λ z. unwrap_or z a) (sym e ∙ f)

@@ -3,6 +3,7 @@ use Rattle.std.proofs.Common.{◌≡◌, ℕ, zero, suc, ◌+◌, ◌-◌, ◌<�
 use Rattle.std.specs.Prelude.{◌&&◌, ◌||◌, not, nat_lt, ⊤, Ok, Err}
 use Rattle.std.specs.Result.{result_err}
 use Rattle.std.proofs.Math.ListN.{get_or-append}
+use Rattle.std.proofs.Math.Seq.{drop-nil}
 use Rattle.std.proofs.lemmas.Bool.{le-ltb, lt-ltb, ltb-false, ltb-true, or_parts}
 use Rattle.std.proofs.lemmas.List.{append-nil, get_or-append-add, get_or-append_right, get_or-take, length-append, length-drop, length-take-le}
 use Rattle.ir_text_tokens.specs.declared.fault.Fault.{Fault}
@@ -191,10 +192,6 @@ module _ (bytes : List ℕ) where
     abbrev KeptBy : Walked → Type 0
     KeptBy w = Kept w.text w.marks w.rest
 
-    nothing : (n : ℕ) → drop {A = ℕ} n [] ≡ []
-    nothing zero = refl
-    nothing (suc n) = refl
-
     step_kept : (f : Front) (outer : List Bracket) (c : ℕ) (cs out : List ℕ) (marks : List Mark) (s : Bool) (x : Option Fault) (on : Walked) → Kept out marks (c ∷ cs) → KeptBy on → KeptBy (cond s (walked out marks (c ∷ cs) None) (unless x (c ∷ cs) out marks on))
     step_kept f outer c cs out marks true x on h k = h
     step_kept f outer c cs out marks false None on h k = k
@@ -202,7 +199,7 @@ module _ (bytes : List ℕ) where
 
     walk_kept : (f : Front) (outer : List Bracket) (n : ℕ) (cs out : List ℕ) (marks : List Mark) → Kept out marks (drop n cs) → KeptBy (walk p values env f outer n cs out marks)
     unfolding walk
-    walk_kept f outer n [] out marks h = subst (Kept out marks) (nothing n) h
+    walk_kept f outer n [] out marks h = subst (Kept out marks) (drop-nil n) h
     walk_kept f outer (suc n) (c ∷ cs) out marks h = walk_kept f outer n cs out marks h
     walk_kept f outer zero (c ∷ cs) out marks h =
         let m = move p values env f outer (length out) c cs in

@@ -2,6 +2,7 @@
 use Rattle.std.proofs.Common.{◌≡◌, ◌∙◌, ◌<◌, ◌≤◌, refl, sym, ap, ℕ, zero, suc, Bool, true, false, cond, List, [], ◌∷◌, length, take, drop, Option, None, arith}
 use Rattle.std.specs.Prelude.{◌==◌, ◌&&◌, ◌||◌, not, slice_index}
 use Rattle.std.proofs.Math.Seq.{drop-length}
+use Rattle.std.proofs.lemmas.Bool.{or_parts}
 use Rattle.memchr.specs.Find.{NoneBefore, Nowhere, Passes, is_byte3}
 use Rattle.ir_text_bodies.specs.Bodies.{begins, is_undivided}
 use Rattle.ir_text_tokens.specs.Tokens.{skip, suffix_len}
@@ -9,17 +10,13 @@ use Rattle.ir_text_aliases.specs.Pieces.{is_oc, piece_len, word_len}
 use Rattle.ir_text_aliases.specs.Values.{behind_equal, is_defined}
 use Rattle.ir_text_expanded.specs.Stays.{begins_more, has_more, stands}
 
-neither : (a b : Bool) → (a || b) ≡ false → (a ≡ false) × (b ≡ false)
-neither false b e = (refl, e)
-neither true b e = absurd cc
-
 -- what stands nowhere begins no piece
 pub in_no_piece : (n : ℕ) (bytes : List ℕ) → stands bytes ≡ false → has_more n bytes ≡ false
 unfolding stands has_more
 in_no_piece n [] e = refl
-in_no_piece (suc n) (c ∷ cs) e = in_no_piece n cs (neither (begins_more c cs) (stands cs) e).1
+in_no_piece (suc n) (c ∷ cs) e = in_no_piece n cs (or_parts (begins_more c cs) (stands cs) e).1
 in_no_piece zero (c ∷ cs) e =
-    let h = neither (begins_more c cs) (stands cs) e in
+    let h = or_parts (begins_more c cs) (stands cs) e in
     rw h.0 (in_no_piece (piece_len c cs) cs h.1)
 
 -- behind a piece

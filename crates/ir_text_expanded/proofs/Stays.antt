@@ -1,5 +1,6 @@
 -- A text without definitions and locations stays as it is.
 use Rattle.std.proofs.Common.{◌≡◌, ℕ, zero, suc, Bool, true, false, cond, List, [], ◌∷◌, ◌++◌, length, drop, None, refl, sym, ap, ◌∙◌, append_assoc, arith}
+use Rattle.std.proofs.Math.Seq.{drop-nil}
 use Rattle.std.specs.Prelude.{◌&&◌, ◌||◌, nat_le}
 use Rattle.std.proofs.lemmas.Bool.{leb-true}
 use Rattle.std.proofs.lemmas.List.{append-nil, take-append-drop}
@@ -54,10 +55,6 @@ undefined values env last zero (c ∷ cs) e =
 
 -- ---- no alias and no location
 
-dropped : (n : ℕ) → drop {A = ℕ} n [] ≡ []
-dropped zero = refl
-dropped (suc n) = refl
-
 goes_not : (f : Front) (c : ℕ) (cs : List ℕ) → is_loc c cs ≡ false → goes f c cs ≡ false
 goes_not f c cs e = rw e refl
 
@@ -72,7 +69,7 @@ module _ (env : Aliases) where
 
   copied : (f : Front) (outer : List Bracket) (n : ℕ) (bytes out : List ℕ) (marks : List Mark) → has_more n bytes ≡ false → walk (operations_part []) [] env f outer n bytes out marks ≡ walked (out ++ drop n bytes) marks [] None
   unfolding walk has_more
-  copied f outer n [] out marks e = ap (λ l. walked l marks [] None) (sym (ap (λ l. out ++ l) (dropped n) ∙ append-nil out))
+  copied f outer n [] out marks e = ap (λ l. walked l marks [] None) (sym (ap (λ l. out ++ l) (drop-nil n) ∙ append-nil out))
   copied f outer (suc n) (c ∷ cs) out marks e = copied f outer n cs out marks e
   copied f outer zero (c ∷ cs) out marks e =
       let h = neither (is_loc c cs) (is_defined (definition_at c cs)) (has_more (piece_len c cs) cs) e in

@@ -10,6 +10,7 @@ use Rattle.ir_text_tokens.specs.declared.fault.Fault.{Fault}
 use Rattle.ir_text_tokens.specs.Bytes.{is_suffix, is_word}
 use Rattle.ir_text_tokens.specs.Printing.{Stops, is_bare_id, is_suffix_id}
 use Rattle.ir_text_tokens.specs.Tokens.{Lexeme, bare, bang, next, skip}
+use Rattle.ir_text_tokens.proofs.Blanks.{skip_nothing}
 use Rattle.ir_text_tokens.proofs.Printed.{bare_token, name_again}
 use Rattle.ir_text_tokens.proofs.Wholes.{next_whole}
 use Rattle.ir_text_bodies.specs.Bodies.{begins, body_at, has_dot, is_none, is_plain_body, is_plain_memref, parted, scan}
@@ -19,7 +20,7 @@ use Rattle.ir_text_types.specs.OpaqueTypes.{is_alone, is_angled, is_opaque_word,
 use Rattle.ir_text_types.specs.Scalars.{memref_word}
 use Rattle.ir_text_types.specs.TypeGrammar.{IsWordFrom, IsBehind}
 use Rattle.ir_text_roundtrip.specs.Kept.{EndsType, is_all, is_type_text, kept_behind, kept_from}
-use Rattle.ir_text_roundtrip.proofs.Plain.{plain_again, stays}
+use Rattle.ir_text_roundtrip.proofs.Plain.{plain_again}
 
 -- ---- bodies in angle brackets
 
@@ -104,7 +105,7 @@ word_form w q text r id o e = by (is_alone w) refl e
   where
     with_angles : is_alone w ≡ false → Bodied w (skip q) text r → Form text
     with_angles a b =
-        let same : is_plain_memref q ≡ is_plain_memref (60 ∷ b.0 ++ []) = ap is_plain_body (b.2 ∙ sym (stays 60 (b.0 ++ r) refl refl)) ∙ plain_again b.0 r [] b.3 in
+        let same : is_plain_memref q ≡ is_plain_memref (60 ∷ b.0 ++ []) = ap is_plain_body (b.2 ∙ sym (skip_nothing 60 (b.0 ++ r) refl refl)) ∙ plain_again b.0 r [] b.3 in
         inr (inl (w, b.0, b.1, id, a, ap (λ p. plain_or p w) (sym same) ∙ o, b.4))
 
     by_bracket : is_alone w ≡ false → (t : Bool) → begins 60 (skip q) ≡ t → (if t then with_body w (skip q) else None) ≡ Some (text, r) → Form text
@@ -193,7 +194,7 @@ module _ (M : Grammar (List ℕ) TypeTerm) where
   word_bodied w v rest id a o b =
       let back = 60 ∷ v ++ rest in
       let known : is_opaque_word w back ≡ true = ap (λ p. plain_or p w) (sym (plain_again v [] rest b.1)) ∙ o in
-      let text : word_text w back ≡ Some (w ++ 60 ∷ v, rest) = rw a (ap (bracketed 60 w) (stays 60 (v ++ rest) refl refl) ∙ ap (joined w) (body_found v rest b)) in
+      let text : word_text w back ≡ Some (w ++ 60 ∷ v, rest) = rw a (ap (bracketed 60 w) (skip_nothing 60 (v ++ rest) refl refl) ∙ ap (joined w) (body_found v rest b)) in
       (bare w, back, ap next (append_assoc w (60 ∷ v) rest) ∙ bare_token w back id refl, word_kept w back (w ++ 60 ∷ v) rest known text)
 
   name_alone : (n rest : List ℕ) → is_suffix_id n ≡ true → has_dot n ≡ true → EndsType true rest → IsKept (33 ∷ n) rest

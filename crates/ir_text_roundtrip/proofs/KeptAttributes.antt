@@ -13,6 +13,7 @@ use Rattle.ir_text_tokens.specs.declared.token.Mark.TheVariants.{Colon, Less, Mi
 use Rattle.ir_text_tokens.specs.Bytes.{is_blank, is_suffix, is_word}
 use Rattle.ir_text_tokens.specs.Printing.{Stops, is_bare_id}
 use Rattle.ir_text_tokens.specs.Tokens.{Lexeme, mark, integer, float, string, bare, hash, next, skip}
+use Rattle.ir_text_tokens.proofs.Blanks.{skip_nothing}
 use Rattle.ir_text_tokens.proofs.Printed.{bare_token, hash_token, mark_token}
 use Rattle.ir_text_tokens.proofs.Wholes.{next_whole}
 use Rattle.ir_text_bodies.specs.Bodies.{begins, body_at, has_dot, scan}
@@ -40,7 +41,6 @@ use Rattle.ir_text_roundtrip.proofs.KeptArrays.{other_again}
 use Rattle.ir_text_roundtrip.proofs.KeptNumbers.{float_again, hex_again, hex_digit, minus_next}
 use Rattle.ir_text_roundtrip.proofs.KeptStrings.{string_again}
 use Rattle.ir_text_roundtrip.proofs.Leaves.{Begins}
-use Rattle.ir_text_roundtrip.proofs.Plain.{stays}
 use Rattle.ir_text_roundtrip.proofs.Small.{lacks_token}
 use Rattle.ir_text_roundtrip.proofs.Types.{type_ahead, type_again}
 use Rattle.ir_text_roundtrip.proofs.TypeWords.{word_behind}
@@ -150,7 +150,7 @@ record IsBracket (b : ℕ) : Type 0 where
 
 body_stays : (b : ℕ) (v rest : List ℕ) → IsBracket b → begins b v ≡ true → skip (v ++ rest) ≡ v ++ rest
 body_stays b [] rest i e = absurd cc
-body_stays b (c ∷ cs) rest i e = let k = eqb-true c b e in stays c (cs ++ rest) (ap (λ d. d == 47) k ∙ i.slash) (ap is_blank k ∙ i.blank)
+body_stays b (c ∷ cs) rest i e = let k = eqb-true c b e in skip_nothing c (cs ++ rest) (ap (λ d. d == 47) k ∙ i.slash) (ap is_blank k ∙ i.blank)
 
 body_stops : (b : ℕ) (v rest : List ℕ) → IsBracket b → begins b v ≡ true → Stops is_word (v ++ rest)
 body_stops b [] rest i e = absurd cc

@@ -11,12 +11,12 @@ use Rattle.std.proofs.lemmas.Option.{some_pair_parts}
 use Rattle.ir_text_tokens.specs.declared.token.Mark.TheVariants.{Minus}
 use Rattle.ir_text_tokens.specs.Bytes.{is_blank, is_hex, is_suffix}
 use Rattle.ir_text_tokens.specs.Printing.{Stops}
+use Rattle.ir_text_tokens.proofs.Blanks.{skip_nothing}
 use Rattle.ir_text_tokens.proofs.Printed.{mark_token}
 use Rattle.ir_text_tokens.specs.Tokens.{Lexeme, mark, integer, float, first_token, next, skip, cut, decimal_at, digits_len, exponent_len, fraction_len, hex_len, number_at, sign_len}
 use Rattle.ir_text_bodies.specs.Bodies.{begins}
 use Rattle.ir_text_attributes.specs.OpaqueAttributes.{is_hexadecimal}
 use Rattle.ir_text_roundtrip.specs.KeptAttributes.{begins_digit}
-use Rattle.ir_text_roundtrip.proofs.Plain.{stays}
 
 -- ---- runs
 
@@ -176,7 +176,7 @@ unfolding next
 digit_next c cs e =
     let slash : (c == 47) ≡ false = grind (arith, nat_tests) in
     let blank : is_blank c ≡ false = grind (arith, nat_tests) in
-    ap first_token (stays c cs slash blank) ∙ rw e refl
+    ap first_token (skip_nothing c cs slash blank) ∙ rw e refl
 
 integers_apart : (a b : List ℕ) → integer a ≡ float b → ⊥
 integers_apart a b e = absurd cc

@@ -14,6 +14,7 @@ use Rattle.ir_types.specs.Reasons.{is_dimension}
 use Rattle.ir_text_tokens.specs.Bytes.{is_letter, is_word}
 use Rattle.ir_text_tokens.specs.Printing.{is_bare_id}
 use Rattle.ir_text_tokens.specs.Tokens.{Lexeme, bare, bang, name_at, suffix_len, skip}
+use Rattle.ir_text_tokens.proofs.Blanks.{skip_nothing}
 use Rattle.ir_text_tokens.proofs.Decimals.{decimal_number, first_passes, rest_passes}
 use Rattle.ir_text_tokens.proofs.Fronts.{next_front}
 use Rattle.ir_text_tokens.proofs.Printed.{name_again}
@@ -28,7 +29,6 @@ use Rattle.ir_text.specs.TypeText.{dimension_text, is_function, sign_text, type_
 use Rattle.ir_text_roundtrip.specs.Written.{is_written_type}
 use Rattle.ir_text_roundtrip.proofs.Commas.{closing, opening, further, passes}
 use Rattle.ir_text_roundtrip.proofs.Kept.{Form, IsBody, body_found, form_of, inside}
-use Rattle.ir_text_roundtrip.proofs.Plain.{stays}
 use Rattle.ir_text_types.specs.ShapeGrammar.{begins_dimension}
 use Rattle.ir_text_roundtrip.proofs.Shapes.{digits_stay, mark_stays, small, word_no_dimension}
 use Rattle.ir_text_roundtrip.proofs.Words.{digit_word, run_within, scalar_word}
@@ -217,7 +217,7 @@ pub memref_plain : (dims : List (Option ℕ)) (elem : TypeTerm) (rest : List ℕ
     → is_plain_memref (60 ∷ flat_map dimension_text dims ++ (type_text elem ++ 62 ∷ rest)) ≡ true
 memref_plain dims elem rest d n w s =
     let back = flat_map dimension_text dims ++ (type_text elem ++ 62 ∷ rest) in
-    ap is_plain_body (stays 60 back refl refl) ∙ both (begins 42 (skip back)) (comma_ahead (62 ∷ []) 0 back) (dimensions_star dims (type_text elem ++ 62 ∷ rest) d s) (no_comma_there (comma_ahead (62 ∷ []) 0 back) refl)
+    ap is_plain_body (skip_nothing 60 back refl refl) ∙ both (begins 42 (skip back)) (comma_ahead (62 ∷ []) 0 back) (dimensions_star dims (type_text elem ++ 62 ∷ rest) d s) (no_comma_there (comma_ahead (62 ∷ []) 0 back) refl)
   where
     both : (a b : Bool) → a ≡ false → b ≡ false → not (a || b) ≡ true
     both true b e f = absurd cc

@@ -6,6 +6,7 @@ use Rattle.std.proofs.lemmas.Bool.Decides.{nat_tests}
 use Rattle.ir_text_tokens.specs.declared.refusal.TextRefusal.{TextRefusal}
 use Rattle.ir_text_tokens.specs.declared.refusal.TextRefusal.TheVariants.{LeftOut}
 use Rattle.ir_text_tokens.specs.Bytes.{is_blank}
+use Rattle.ir_text_tokens.proofs.Blanks.{skip_nothing}
 use Rattle.ir_text_tokens.specs.Tokens.{skip}
 use Rattle.ir_text_bodies.specs.Bodies.{begins, closer_of, fault_of, is_plain_body, is_plain_memref, part_len, scan}
 use Rattle.ir_text_bodies.proofs.Steps.{Steps, steps}
@@ -13,11 +14,6 @@ use Rattle.ir_text_bodies.proofs.Again.{shorter}
 use Rattle.ir_text_roundtrip.proofs.Commas as commas
 
 -- ---- blanks
-
-pub stays : (c : ℕ) (x : List ℕ) → (c == 47) ≡ false → is_blank c ≡ false → skip (c ∷ x) ≡ c ∷ x
-unfolding skip
-stays c [] s b = rw b refl
-stays c (d ∷ ds) s b = rw (s, b) refl
 
 slash_stays : (d : ℕ) (x : List ℕ) → (d == 47) ≡ false → skip (47 ∷ d ∷ x) ≡ 47 ∷ d ∷ x
 unfolding skip
@@ -86,7 +82,7 @@ blanks_step c w r rest h e = by (is_blank c) refl (c == 47) refl
   where
     by : (b : Bool) → is_blank c ≡ b → (s : Bool) → (c == 47) ≡ s → Blanks (c ∷ w) r rest
     by true b s k = let f = h (blank_scan c (w ++ r) r b e) in (f.0, f.1, blank_goes c (w ++ r) b ∙ f.2, blank_goes c (w ++ rest) b ∙ f.3)
-    by false b false k = (c, w, stays c (w ++ r) k b, stays c (w ++ rest) k b)
+    by false b false k = (c, w, skip_nothing c (w ++ r) k b, skip_nothing c (w ++ rest) k b)
     by false b true k = subst (λ d. scan (62 ∷ []) 0 (d ∷ w ++ r) ≡ Ok r → Blanks (d ∷ w) r rest) (sym (eqb-true c 47 k)) (blanks_slash w r rest) e
 
 pub blanks_again : (w r rest : List ℕ) → scan (62 ∷ []) 0 (w ++ r) ≡ Ok r → Blanks w r rest
@@ -103,4 +99,4 @@ plain_again w r rest e =
     let star = star_again w r rest e in
     let comma = commas.again w (62 ∷ []) 0 r rest e in
     let middle : is_plain_body (60 ∷ w ++ r) ≡ is_plain_body (60 ∷ w ++ rest) = λ i. not (star i || comma i) in
-    ap is_plain_body (stays 60 (w ++ r) refl refl) ∙ middle ∙ sym (ap is_plain_body (stays 60 (w ++ rest) refl refl))
+    ap is_plain_body (skip_nothing 60 (w ++ r) refl refl) ∙ middle ∙ sym (ap is_plain_body (skip_nothing 60 (w ++ rest) refl refl))

@@ -2,7 +2,7 @@
 use Rattle.std.proofs.Common.{◌≡◌, ℕ, suc, Bool, true, false, cond, List, [], ◌∷◌, slice_get, Option, Some, None, refl, ◌∙◌}
 use Rattle.std.specs.Prelude.{◌==◌, ◌&&◌, codes}
 use Rattle.std.specs.Str.{bytes_eq}
-use Rattle.std.proofs.lemmas.Bool.{and_parts, eqb-true}
+use Rattle.std.proofs.lemmas.Bool.{and_parts, and_right, eqb-true}
 use Rattle.ir_types.specs.declared.node.Sign.TheVariants.{Signless}
 use Rattle.ir_types.specs.declared.node.TypeNode.TheVariants.{Int}
 use Rattle.ir_types.specs.Things.{Things}
@@ -76,10 +76,6 @@ plain_done : (c : Things) (word rest : List ℕ) (p : Plain) (n : ℕ) → scala
 unfolding type_done
 plain_done c word rest p n scalar known = rw (scalar, known) refl
 
-and_not : (o t : Bool) → t ≡ false → (o && t) ≡ false
-and_not true t h = h
-and_not false t h = refl
-
 pub plain_read : (c : Things) (bytes word rest : List ℕ) (p : Plain) (n : ℕ) → IsSound c → next bytes ≡ Some (bare word, rest) → scalar_of word ≡ Some (plain_node p)
     → begins 105 word ≡ true → slice_get c.types n ≡ Some (plain_node p) → (o : Bool) (depth : ℕ) → type_at o (suc depth) (bytes, c) ≡ Read (n, (rest, c))
 unfolding type_at
@@ -88,5 +84,5 @@ plain_read c bytes word rest p n s token scalar first at o depth =
     let other = not_opaque word rest first in
     rw (no_round bytes word rest token)
     (word_type_is o (memref_at o (suc depth)) c bytes word rest token
-    ∙ plain_from (memref_at o (suc depth)) (o && is_opaque_word word rest) (bytes_eq word memref_word) word rest c (and_not o (is_opaque_word word rest) other.0) other.1
+    ∙ plain_from (memref_at o (suc depth)) (o && is_opaque_word word rest) (bytes_eq word memref_word) word rest c (and_right o (is_opaque_word word rest) other.0) other.1
     ∙ plain_done c word rest p n scalar known)

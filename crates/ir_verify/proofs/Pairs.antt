@@ -73,12 +73,6 @@ listed (e ∷ es) p w = elim (bool_cases (eq_by_cmp nat_cmp p.0 e.0)) [
 ]
 
 -- ---- that they rise
-itself : (x : ℕ) → nat_cmp x x ≡ Equal
-itself x = sym (nat_cmp_is x x Equal refl)
-
-below : (x y : ℕ) → x < y → nat_cmp x y ≡ Less
-below x y l = sym (nat_cmp_is x y Less l)
-
 less : (o : Ordering) → T (is_lt o) → o ≡ Less
 less Less h = refl
 less Equal h = absurd h
@@ -86,7 +80,7 @@ less Greater h = absurd h
 
 numbers_above : (m n : ℕ) (bs : List Bool) → m < n → AllByRecursion (λ y. nat_cmp m y ≡ Less) (numbers_from n bs)
 numbers_above m n [] l = tt
-numbers_above m n (true ∷ bs) l = (below m n l, numbers_above m (n + 1) bs (omega arith))
+numbers_above m n (true ∷ bs) l = (sym (nat_cmp_is m n Less l), numbers_above m (n + 1) bs (omega arith))
 numbers_above m n (false ∷ bs) l = numbers_above m (n + 1) bs (omega arith)
 
 numbers_rise : (n : ℕ) (bs : List Bool) → IsStrictlySortedBy nat_cmp (numbers_from n bs)
@@ -143,7 +137,7 @@ above_both p (q ∷ ps) qs a b = (a.0, above_both p ps qs a.1 b)
 
 same_above : (x r : ℕ) (rs : List ℕ) → AllByRecursion (λ y. nat_cmp r y ≡ Less) rs → Above (x, r) (map (λ (r : ℕ). (x, r)) rs)
 same_above x r [] a = tt
-same_above x r (y ∷ rs) a = (ap (λ o. ordering_then o (nat_cmp r y)) (itself x) ∙ a.0, same_above x r rs a.1)
+same_above x r (y ∷ rs) a = (ap (λ o. ordering_then o (nat_cmp r y)) (sym (nat_cmp_is x x Equal refl)) ∙ a.0, same_above x r rs a.1)
 
 later_above : (x r y : ℕ) (rs : List ℕ) → nat_cmp x y ≡ Less → Above (x, r) (map (λ (r : ℕ). (y, r)) rs)
 later_above x r y [] e = tt

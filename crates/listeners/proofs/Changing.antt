@@ -12,6 +12,7 @@ use Rattle.std.specs.Cmp.{nat_cmp_total, ranks}
 use Rattle.std.specs.Map.{lookup}
 use Rattle.std.specs.Map as entries
 use Rattle.std.specs.BTreeMap.{is_at, insert_entry}
+use Rattle.std.specs.FinMap.{nat_cmp-IsAntisymmetric}
 use Rattle.id_map.specs.Map.{IdMap}
 use Rattle.id_map.specs.Map as idmap
 use Rattle.std.proofs.lemmas.Bool.{ne_eqb}
@@ -29,7 +30,6 @@ use Rattle.listeners.proofs.Cutting.{moved_front}
 use Rattle.listeners.proofs.Listed.{keys_joined}
 use Rattle.listeners.proofs.Others.{behind_alike, only_append, only_both, only_same, only_turned, own_in, own_only, own_out}
 use Rattle.ir_event.proofs.of_types.Sorting.{flips_eq}
-use Rattle.listeners.proofs.Orders.{same_number}
 use Rattle.ir_event.proofs.of_types.Truths.{same_test}
 
 apart : (x y : ℕ) (r : Ordering) → nat_cmp x y ≡ r → is_eq r ≡ false → eqb x y ≡ false
@@ -64,7 +64,7 @@ module _ (x : ℕ) where
           ap (λ r. in_order (changed_uses (match_ordering r ((x, v) ∷ e ∷ es) ((e.0, v) ∷ es) (e ∷ insert_entry nat_cmp es x v)) ++ ws)) l
           ∙ ap in_order (append_assoc own (changed_uses (e ∷ es)) ws ∙ ap (λ k. own ++ (k ++ ws)) (sym (above (e ∷ es) (l, further x e.0 (entries.keys_of es) l a))))
       go later a Equal l =
-          let id : x ≡ e.0 = same_number x e.0 l in
+          let id : x ≡ e.0 = nat_cmp-IsAntisymmetric x e.0 l in
           let behind : AllByRecursion (λ z. nat_cmp x z ≡ Less) (entries.keys_of es) = subst (λ y. AllByRecursion (λ z. nat_cmp y z ≡ Less) (entries.keys_of es)) (sym id) a in
           let out : others x here ≡ [] = ap (λ y. others x (operand_uses y 0 e.1.operands.items)) (sym id) ∙ own_out x 0 e.1.operands.items in
           let left : others x (changed_uses (e ∷ es)) ≡ changed_uses es = only_append (is_other x) here (changed_uses es) ∙ λ i. out i ++ above es behind i in

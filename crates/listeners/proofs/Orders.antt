@@ -1,11 +1,12 @@
 -- Uses in order.
-use Rattle.std.proofs.Common.{◌≡◌, refl, ap, sym, ◌∙◌, subst, ℕ, Bool, true, false, true≢false, cond, List, [], ◌∷◌, ◌++◌, Option, Some, None, ◌<◌}
+use Rattle.std.proofs.Common.{◌≡◌, refl, ap, sym, ◌∙◌, subst, ℕ, Bool, true, false, true≢false, cond, List, [], ◌∷◌, ◌++◌, Option, Some, None}
 use Rattle.std.specs.declared.cmp.Ordering.{Ordering}
 use Rattle.std.specs.declared.cmp.Ordering.TheVariants.{Less, Equal, Greater}
-use Rattle.std.specs.Ordering.{ordering_then, ordering_reverse, nat_cmp, is_gt, is_eq, is_lt, MatchOrdering}
+use Rattle.std.specs.Ordering.{ordering_then, ordering_reverse, nat_cmp, is_gt, is_eq, is_lt}
 use Rattle.std.specs.Option.{option_cmp}
-use Rattle.std.specs.Cmp.{IsTotalOrder, on_total, then_total, nat_cmp_total, ranks, tied_itself}
+use Rattle.std.specs.Cmp.{IsTotalOrder, on_total, then_total, nat_cmp_total, tied_itself}
 use Rattle.std.specs.Cmp.Lexicographic.{options_total}
+use Rattle.std.specs.FinMap.{nat_cmp-IsAntisymmetric}
 use Rattle.ir_event.specs.trees.declared.value.Value.{Value}
 use Rattle.ir_event.specs.trees.declared.value.Value.TheVariants.{Result, Arg}
 use Rattle.ir_event.specs.trees.Frames.{owner_of, place_of}
@@ -26,14 +27,11 @@ both_equal Less b e = absurd (true≢false (ap is_lt e))
 both_equal Equal b e = (refl, e)
 both_equal Greater b e = absurd (true≢false (ap is_gt e))
 
-pub same_number : (x y : ℕ) → nat_cmp x y ≡ Equal → x ≡ y
-same_number x y e = subst (λ r. MatchOrdering r (x < y) (x ≡ y) (y < x)) e (ranks x y)
-
 same_option : (x y : Option ℕ) → option_cmp nat_cmp x y ≡ Equal → x ≡ y
 same_option None None e = refl
 same_option None (Some y) e = absurd (true≢false (ap is_lt e))
 same_option (Some x) None e = absurd (true≢false (ap is_gt e))
-same_option (Some x) (Some y) e = ap Some (same_number x y e)
+same_option (Some x) (Some y) e = ap Some (nat_cmp-IsAntisymmetric x y e)
 
 same_parts : (v w : Value) → (owner_of v).0 ≡ (owner_of w).0 → (owner_of v).1 ≡ (owner_of w).1 → place_of v ≡ place_of w → v ≡ w
 same_parts (Result x k) (Result y l) a b c = λ i. Result (a i) (c i)
@@ -48,8 +46,8 @@ same_use u v e =
     let b = both_equal _ _ a.1 in
     let c = both_equal _ _ b.1 in
     let d = both_equal _ _ c.1 in
-    let value = same_parts u.value v.value (same_number _ _ a.0) (same_option _ _ b.0) (same_number _ _ c.0) in
-    λ i. record { value = value i; user = same_number u.user v.user d.0 i; operand = same_number u.operand v.operand d.1 i }
+    let value = same_parts u.value v.value (nat_cmp-IsAntisymmetric _ _ a.0) (same_option _ _ b.0) (nat_cmp-IsAntisymmetric _ _ c.0) in
+    λ i. record { value = value i; user = nat_cmp-IsAntisymmetric u.user v.user d.0 i; operand = nat_cmp-IsAntisymmetric u.operand v.operand d.1 i }
 
 -- two uses, either of which comes first
 two : (u v : Use) (us : List Use) → cond (is_gt (use_cmp u v)) (v ∷ u ∷ us) (u ∷ v ∷ us) ≡ cond (is_gt (use_cmp v u)) (u ∷ v ∷ us) (v ∷ u ∷ us)

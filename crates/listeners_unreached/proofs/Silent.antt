@@ -1,5 +1,5 @@
 -- What a report may leave out: operations that refer to nothing, and those that are no private definition.
-use Rattle.std.proofs.Common.{◌≡◌, refl, ap, sym, ◌∙◌, subst, ◌⊎◌, inl, inr, ℕ, Bool, true, false, cond, true≢false, ◌&&◌, ◌||◌, eqb, eq-eqb, eqb-true, List, [], ◌∷◌, ◌++◌, length, map, Option, Some, None, arith}
+use Rattle.std.proofs.Common.{◌≡◌, refl, ap, sym, ◌∙◌, subst, ◌⊎◌, inl, inr, ℕ, Bool, true, false, cond, true≢false, ◌&&◌, ◌||◌, eqb, eq-eqb, eqb-true, List, [], ◌∷◌, ◌++◌, map, Option, Some, None}
 use Rattle.std.specs.Prelude.{is_some, is_none, option_map}
 use Rattle.std.specs.List.{list_any}
 use Rattle.std.specs.Ordering.{nat_cmp, is_eq}
@@ -157,7 +157,3 @@ none_marked m ds none = record {
 
 pub no_lines : (m : Roles) → idmap.IsOrdered m.all → set.IsOrdered nat_cmp m.hidden → m.hidden.keys ≡ [] → [] ≡ lines_with (is_out (λ x. None)) (numbered m.all.entries)
 no_lines m ordered rises none = sym (ap (told (line_by (λ x. None)) (kept_at m)) none) ∙ lines_told m (λ x. None) ordered rises
-
-pub no_keys : (ks : List ℕ) → length ks ≡ 0 → ks ≡ []
-no_keys [] e = refl
-no_keys (k ∷ ks) e = absurd (omega (arith, e))

@@ -1,5 +1,6 @@
 -- What one step of the code makes of lists and of marking.
-use Rattle.std.proofs.Common.{◌≡◌, refl, ap, sym, ◌∙◌, subst, ℕ, zero, suc, ◌-◌, ◌≤◌, Bool, true, false, true≢false, cond, eqb, List, [], ◌∷◌, ◌++◌, append_assoc, length, take, drop, filter, Option, Some, None, inl, inr, ◌⊎◌, Result, Ok, Err, slice_index_or, arith}
+use Rattle.std.proofs.Common.{◌≡◌, refl, ap, sym, ◌∙◌, subst, ℕ, ◌-◌, ◌≤◌, Bool, true, false, true≢false, cond, eqb, List, [], ◌∷◌, ◌++◌, append_assoc, length, take, drop, filter, Option, Some, None, inl, inr, ◌⊎◌, Result, Ok, Err, slice_index_or, arith}
+use Rattle.std.proofs.lemmas.List.{take_all}
 use Rattle.std.specs.Prelude.{OnOk, IfOk, option_map, option_to_list, is_some}
 use Rattle.std.specs.Map.{keys_of}
 use Rattle.ir_event.specs.tree_laws.Members.{In}
@@ -32,19 +33,10 @@ pub le_trans : (a b c : ℕ) → b ≤ a → c ≤ b → c ≤ a
 le_trans a b c h k = omega (arith, h, k)
 
 -- ---- lists
-take_all : {X : Type 0} (n : ℕ) (xs : List X) → n ≡ length xs → take n xs ≡ xs
-take_all n [] e = go n e
-  where
-    go : {X : Type 0} (k : ℕ) → k ≡ 0 → take {A = X} k [] ≡ []
-    go zero e = refl
-    go (suc k) e = absurd (omega (arith, e))
-take_all zero (x ∷ xs) e = absurd (omega (arith, e))
-take_all (suc n) (x ∷ xs) e = let s : n ≡ length xs = omega (arith, e) in ap (λ l. x ∷ l) (take_all n xs s)
-
 -- the first of a list, and what is behind it
 pub from_item : {X : Type 0} (xs : List X) (x d : X) (n : ℕ) → 1 ≤ length xs → x ≡ slice_index_or xs 0 d → n ≡ length xs → x ∷ take (n - 1) (drop 1 xs) ≡ xs
 from_item [] x d n l e m = absurd (omega (arith, l))
-from_item (y ∷ ys) x d n l e m = let s : n - 1 ≡ length ys = omega (arith, m) in λ i. e i ∷ take_all (n - 1) ys s i
+from_item (y ∷ ys) x d n l e m = let s : length ys ≤ n - 1 = omega (arith, m) in λ i. e i ∷ take_all (n - 1) ys s i
 
 pub keeps_if : (f : ℕ → Bool) (x : ℕ) (out xs : List ℕ) → (out ++ cond (f x) (x ∷ []) []) ++ filter f xs ≡ out ++ filter f (x ∷ xs)
 keeps_if f x out xs = append_assoc out (cond (f x) (x ∷ []) []) (filter f xs) ∙ ap (λ l. out ++ l) (elim (f x) as (λ b. cond b (x ∷ []) [] ++ filter f xs ≡ cond b (x ∷ filter f xs) (filter f xs)) [ true ↦ refl | false ↦ refl ])

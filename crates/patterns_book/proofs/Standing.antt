@@ -1,6 +1,6 @@
 -- What stands at places stays there.
 use Rattle.std.proofs.Common.{◌≡◌, ℕ, List, [], ◌∷◌, Bool, true, false, Option, Some, None, slice_get, slice_set, refl, sym, ◌∙◌, ◌⊎◌, inl, inr, ap, subst, arith, get_or-set_other, ◌&&◌}
-use Rattle.std.proofs.lemmas.Option.{slice_get_within, slice_get-get_or, get_or_from_slice_get, none-some}
+use Rattle.std.proofs.lemmas.Option.{slice_get_within, slice_get-get_or, get_or_from_slice_get, none-some, same_Some}
 use Rattle.std.proofs.lemmas.Bool.Decides.{eqb_tells}
 use Rattle.std.proofs.lemmas.List.{length-set}
 use Rattle.ir_tree.specs.declared.value.Value.{Value}
@@ -12,10 +12,7 @@ use Rattle.patterns_book.specs.Matching.{Standing, when, bound, bound_over, all_
 use Rattle.patterns_laws.proofs.KnownFolds.{given_some}
 use Rattle.std.proofs.lemmas.Bool.{cases_eq}
 
-same_some : {X : Type 0} {x y : X} → Some x ≡ Some y → x ≡ y
-same_some e = cc
-
-when_some : {X : Type 0} (b : Bool) (r : Option X) (x : X) → when b r ≡ Some x → r ≡ Some x
+pub when_some : {X : Type 0} (b : Bool) (r : Option X) (x : X) → when b r ≡ Some x → r ≡ Some x
 when_some true r x e = e
 when_some false r x e = absurd (none-some x e)
 
@@ -31,17 +28,17 @@ module _ {V : Type 0} (same : V → V → Bool) where
   set_keeps : (b : Standing V) (k : ℕ) (v : V) → slice_get b k ≡ Some None → Keeps b (slice_set b k (Some v))
   set_keeps b k v is j u e =
       elim (cases_eq j k) [
-        | inl h ↦ absurd (none-some u (same_some (sym is ∙ ap (λ (i : ℕ). slice_get b i) (sym h) ∙ e)))
+        | inl h ↦ absurd (none-some u (same_Some _ _ (sym is ∙ ap (λ (i : ℕ). slice_get b i) (sym h) ∙ e)))
         | inr n ↦ get_set_other b k j (Some v) (Some u) n e
       ]
 
   bound_keeps : (x : Option (Option V)) (k : ℕ) (v : V) (b c : Standing V) → slice_get b k ≡ x → bound_over same x k v b ≡ Some c → Keeps b c
   bound_keeps None k v b c is e = absurd (none-some c e)
-  bound_keeps (Some None) k v b c is e = subst (λ (d : Standing V). Keeps b d) (same_some e) (set_keeps b k v is)
-  bound_keeps (Some (Some u)) k v b c is e = subst (λ (d : Standing V). Keeps b d) (same_some (when_some (same u v) (Some b) c e)) (λ j z h. h)
+  bound_keeps (Some None) k v b c is e = subst (λ (d : Standing V). Keeps b d) (same_Some _ _ e) (set_keeps b k v is)
+  bound_keeps (Some (Some u)) k v b c is e = subst (λ (d : Standing V). Keeps b d) (same_Some _ _ (when_some (same u v) (Some b) c e)) (λ j z h. h)
 
   pub all_keep : (ks : List ℕ) (vs : List V) (b c : Standing V) → all_bound same ks vs b ≡ Some c → Keeps b c
-  all_keep [] [] b c e = subst (λ (d : Standing V). Keeps b d) (same_some e) (λ j z h. h)
+  all_keep [] [] b c e = subst (λ (d : Standing V). Keeps b d) (same_Some _ _ e) (λ j z h. h)
   all_keep [] (v ∷ vs) b c e = absurd (none-some c e)
   all_keep (k ∷ ks) [] b c e = absurd (none-some c e)
   all_keep (k ∷ ks) (v ∷ vs) b c e =
@@ -49,7 +46,7 @@ module _ {V : Type 0} (same : V → V → Bool) where
       λ j z h. all_keep ks vs g.0 c g.2 j z (bound_keeps (slice_get b k) k v b g.0 refl g.1 j z h)
 
 pub pieces_stand : PiecesStand
-pieces_stand t clean [] b c e k v h = subst (λ (d : Standing Value). slice_get d k ≡ Some (Some v)) (same_some e) h
+pieces_stand t clean [] b c e k v h = subst (λ (d : Standing Value). slice_get d k ≡ Some (Some v)) (same_Some _ _ e) h
 pieces_stand t clean (p ∷ ps) b c e k v h =
     let g = given_some (piece_matched t clean p b) (pieces_matched t clean ps) c e in
     let u = given_some (standing p.0 b) (λ v. value_matched t clean p.1 v b) g.0 g.1 in

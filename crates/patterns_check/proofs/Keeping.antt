@@ -1,6 +1,7 @@
 -- What follows where a pattern keeps what is there.
 use Rattle.std.proofs.Common.{◌≡◌, ◌∙◌, ℕ, ◌==◌, List, [], Bool, true, false, ◌&&◌, Option, Some, None, slice_get, refl, sym, ap, subst}
 use Rattle.std.proofs.lemmas.Bool.{eqb-true, and_parts}
+use Rattle.std.proofs.lemmas.Option.{same_Some}
 use Rattle.ir_types.specs.declared.bits.BitsKind.{BitsKind}
 use Rattle.ir_types.specs.declared.bits.BitsKind.TheVariants as kind
 use Rattle.dialects_int.specs.Folds.{Known, same_kind}
@@ -10,18 +11,18 @@ use Rattle.patterns_check.specs.Checks.{keeps, old_steps, old_ran, old_refined, 
 use Rattle.patterns_check.specs.Kept.{StaysDefined, StaysTheValue}
 use Rattle.exhaustive.proofs.Found.{true_false}
 
-same_kinds : (j k : BitsKind) → same_kind j k ≡ true → k ≡ j
-same_kinds (kind.Int v) (kind.Int w) e = ap kind.Int (sym (eqb-true v w e))
+pub same_kinds : (j k : BitsKind) → same_kind j k ≡ true → j ≡ k
+same_kinds (kind.Int v) (kind.Int w) e = ap kind.Int (eqb-true v w e)
 same_kinds (kind.Int v) kind.Index e = absurd (true_false (sym e))
 same_kinds kind.Index (kind.Int w) e = absurd (true_false (sym e))
 same_kinds kind.Index kind.Index e = refl
 
-known_same : (x y : Known) → same_known x y ≡ true → y ≡ x
-known_same x y e =
+pub one_known : (x y : Known) → same_known x y ≡ true → x ≡ y
+one_known x y e =
     let h = and_parts (same_kind x.0 y.0) (x.1 == y.1) e in
     let k = same_kinds x.0 y.0 h.0 in
     let n = eqb-true x.1 y.1 h.1 in
-    (λ i. (k i, sym n i))
+    (λ i. (k i, n i))
 
 -- what a side's steps show is there, and refines the old outcome
 abbrev Shown : Outcome → ℕ → Option (List Outcome) → Type 0
@@ -44,15 +45,12 @@ kept_by s values env old k ran is =
 pub stays_defined : StaysDefined
 stays_defined s values env old k ran is = let h = kept_by s values env old k ran is in (h.0, h.1, h.2, h.3)
 
-some_same : {X : Type 0} {x y : X} → Some x ≡ Some y → x ≡ y
-some_same e = cc
-
-value_refined : (v : Known) (x : Outcome) → refines (Some v) x ≡ true → x ≡ Some v
+pub value_refined : (v : Known) (x : Outcome) → refines (Some v) x ≡ true → x ≡ Some v
 value_refined v None e = absurd (true_false (sym e))
-value_refined v (Some w) e = ap (λ (u : Known). Some u) (known_same v w e)
+value_refined v (Some w) e = ap (λ (u : Known). Some u) (sym (one_known v w e))
 
 pub stays_the_value : StaysTheValue
 stays_the_value s values env new v k ran is ran_new =
     let h = kept_by s values env (Some v) k ran is in
-    let same : h.0 ≡ new = some_same (sym h.2 ∙ ran_new) in
+    let same : h.0 ≡ new = same_Some h.0 new (sym h.2 ∙ ran_new) in
     subst (λ (e : List Outcome). slice_get e s.new_result ≡ Some (Some v)) same (h.3 ∙ ap (λ (o : Outcome). Some o) (value_refined v h.1 h.4))

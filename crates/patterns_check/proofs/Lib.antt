@@ -1,3 +1,4 @@
+pub mod Behind
 pub mod Judged
 pub mod Keeping
 pub mod Logs

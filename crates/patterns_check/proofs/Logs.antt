@@ -1,7 +1,8 @@
 -- Logarithms.
-use Rattle.std.proofs.Common.{◌≡◌, ℕ, zero, suc, ◌+◌, ◌<◌, ◌^◌, ◌==◌, Option, Some, None, refl, arith, if◌then◌else◌, eq-eqb}
+use Rattle.std.proofs.Common.{◌≡◌, ◌∙◌, ℕ, zero, suc, ◌+◌, ◌<◌, ◌^◌, ◌==◌, Bool, true, false, Option, Some, None, refl, arith, if◌then◌else◌, eq-eqb}
 use Rattle.std.proofs.lemmas.Grind.{common_steps}
-use Rattle.exhaustive.specs.Cases.{first_below}
+use Rattle.std.proofs.lemmas.Option.{none-some, same_Some}
+use Rattle.exhaustive.specs.Cases.{first_below, or_else}
 use Rattle.exhaustive.proofs.Found.{below_first, below_more}
 use Rattle.patterns_check.specs.Outcomes.{log_of}
 
@@ -33,3 +34,17 @@ below_power (suc k) = let h = below_power k in omega (arith, h)
 
 pub lt_power : (k w : ℕ) → k < w → k < 2 ^ w
 lt_power k w l = let h = below_power w in omega (arith, h, l)
+
+-- a logarithm at a width is below it
+pub log_below : (w a k : ℕ) → log_of w a ≡ Some k → k < w
+unfolding log_of first_below
+log_below zero a k e = absurd (none-some k e)
+log_below (suc w) a k e = go (λ i. log_below w a k i) (first_below (λ k. if a == 2 ^ k then Some k else None) w) refl e
+  where
+    here : (b : Bool) → (if b then Some w else None) ≡ Some k → k < suc w
+    here true e = let s : w ≡ k = same_Some _ _ e in omega (arith, s)
+    here false e = absurd (none-some k e)
+
+    go : (first_below (λ k. if a == 2 ^ k then Some k else None) w ≡ Some k → k < w) → (o : Option ℕ) → first_below (λ k. if a == 2 ^ k then Some k else None) w ≡ o → or_else o (if a == 2 ^ w then Some w else None) ≡ Some k → k < suc w
+    go ih None i e = here (a == 2 ^ w) e
+    go ih (Some j) i e = let h = ih (i ∙ e) in omega (arith, h)

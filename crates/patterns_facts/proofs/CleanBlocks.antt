@@ -12,7 +12,7 @@ use Rattle.ir_event.specs.trees.Tree.{op, RegionOf, head, regions}
 use Rattle.ir_event.specs.trees.Uses.{operand_uses, same_value, uses_of}
 use Rattle.ir_event.specs.trees.Meaning.{Operation}
 use Rattle.ir_event.proofs.of_trees.Replaced.{same_value_true}
-use Rattle.ir_event.specs.store.Nodes.{node_of, regions_arguments}
+use Rattle.ir_event.specs.store.Nodes.{node_of}
 use Rattle.ir_event.specs.tree_laws.Stands.{StepOf, stand_id, stands}
 use Rattle.ir_event.specs.tree_laws.Members.{In}
 use Rattle.ir_event.specs.tree_laws.Values.{arguments_at, arguments_of, has_value, region_at}
@@ -44,11 +44,8 @@ unbroken_there m o front s row listed =
     (w.0.path, clean_unbroken m.tree (stand o w.0.path) row s.clean (stand_of_member m.tree s.formed.distinct (stand o w.0.path) here) listed)
 
 -- the block of a region
-node_arguments : (o : Operation) → (node_of o).arguments ≡ regions_arguments (regions o)
-node_arguments (op h rs) = refl
-
 pub block_is : (o : Operation) (r : ℕ) (g : RegionOf (List ℕ) TypeTerm AttrTerm) → region_at r (regions o) ≡ Some g → block_at r (node_of o) ≡ arguments_of g
-block_is o r g e = ap (option_and_then (λ args. args)) (ap (λ l. slice_get l r) (node_arguments o) ∙ arguments_read (regions o) r ∙ ap (option_map (λ g. arguments_of g)) e)
+block_is (op h rs) r g e = ap (option_and_then (λ args. args)) (arguments_read rs r ∙ ap (option_map (λ g. arguments_of g)) e)
 
 pub no_uses : (m : Module) (o : Operation) (front : Place) → Spot m o front → (v : Value) → has_value v m.tree ≡ false → uses_of v m.tree ≡ []
 no_uses m o front s v none =

@@ -123,7 +123,7 @@ module _ (x y r : ℕ) (front : Place) (hx hy : Header) (deep : ℕ) (y_opened :
 
   -- those that came before stay
   module _ (o : Operation) (i : In o vs) where
-    abbrev other_there : has_id (head o).id m.tree ≡ true
+    other_there : has_id (head o).id m.tree ≡ true
     other_there = (let w = found_stands (head o).id m.tree o (came o i).1 in ap (λ j. has_id j m.tree) (sym w.2) ∙ stand_present [] m.tree w.0 w.1)
 
     pub came_still : Came y r (put (record { parent = y; region = r; before = first_came vs }) z (without (head z).id m.tree)) o
@@ -134,9 +134,6 @@ module _ (x y r : ℕ) (front : Place) (hx hy : Header) (deep : ℕ) (y_opened :
 
     apart_of : eqb (head o).id (head z).id ≡ false
     apart_of = kept.apart is_isolated is_table m s.stood.formed z place_of_it found root spot outside (λ b. ⊥) (λ b h. absurd h) (λ b h. absurd h) (head o).id (lacks o i).0
-
-    other_present : has_id (head o).id m.tree ≡ true
-    other_present = other_there
 
   -- z comes before them
   pub now_first : IsFirst (z ∷ vs) (put (record { parent = y; region = r; before = first_came vs }) z (without (head z).id m.tree))
@@ -153,7 +150,7 @@ module _ (x y r : ℕ) (front : Place) (hx hy : Header) (deep : ℕ) (y_opened :
           by_member (inr k) b =
               let pi : In p vs = subst (In p) (sym same) (inl refl) in
               before_both (head z).id (head p).id (head o).id after d' b
-              (moving.before_same is_isolated is_table m s.stood.formed z place_of_it found root spot outside (head o).id (other_present o i) (lacks o i).0 (head p).id (apart_of p pi) (f o k))
+              (moving.before_same is_isolated is_table m s.stood.formed z place_of_it found root spot outside (head o).id (other_there o i) (lacks o i).0 (head p).id (apart_of p pi) (f o k))
 
   -- what z needs it sees there
   abbrev Any : Value → Type 0
@@ -228,10 +225,10 @@ module _ (x y r : ℕ) (front : Place) (hx hy : Header) (deep : ℕ) (y_opened :
   -- z sees what the first of them saw, and what those saw they see
   pub in_sees : (v : Value) → eqb (owner_of v).0 (head z).id ≡ false → ((o : Operation) → In o vs → sees (head o).id v m ≡ true) → (p : Operation) (ws : List Operation) → vs ≡ p ∷ ws → (o : Operation) → In o (z ∷ vs)
       → visible is_isolated (put (record { parent = y; region = r; before = first_came vs }) z (without (head z).id m.tree)) (head o).id v ≡ true
-  in_sees v other seen p ws same o (inr i) = moving.sight is_isolated is_table m s.stood.formed z place_of_it found root spot outside (head o).id (other_present o i) (lacks o i).0 v other ∙ seen o i
+  in_sees v other seen p ws same o (inr i) = moving.sight is_isolated is_table m s.stood.formed z place_of_it found root spot outside (head o).id (other_there o i) (lacks o i).0 v other ∙ seen o i
   in_sees v other seen p ws same o (inl e) =
       let pi : In p vs = subst (In p) (sym same) (inl refl) in
-      let left = there_left t z d found (head p).id (other_present p pi) (lacks p pi).0 in
+      let left = there_left t z d found (head p).id (other_there p pi) (lacks p pi).0 in
       let b : Behind (head p).id place_of_it (without zi t) = inside_behind (head p).id place_of_it (without zi t) (ap first_came same) (inside_left zi y r (head p).id t d left (came p pi).0) in
       ap (λ (q : Operation). visible is_isolated after (head q).id v) e
       ∙ placed.new_sees (head p).id place_of_it (without zi t) (left_distinct zi t d) b z (moving.may is_isolated is_table m s.stood.formed z place_of_it found root spot outside) is_isolated v

@@ -114,9 +114,6 @@ module _ (x y : ℕ) (front : Place) (hx hy : Header) (deep : ℕ) (y_opened : i
     there_now : has_value (Arg y 0 k) m.tree ≡ true
     there_now = ap is_some (argument_type m s k) ∙ got (map lowered_type args) k (let n = lowered_length in omega (arith, few, n))
 
-    stays : Kept is_isolated (λ b. has_id b m.tree ≡ true) m.tree (edited (Make (end_of y 0) (bridge Index (Arg y 0 k))) m).tree
-    stays = kept.made_kept is_isolated m w (end_of y 0) spot new refl (λ b. has_id b m.tree ≡ true) (λ b h. h)
-
     new_inside : Inside y 0 m.next (edited (Make (end_of y 0) (bridge Index (Arg y 0 k))) m).tree
     new_inside = within_put
       where
@@ -175,7 +172,7 @@ module _ (x y : ℕ) (front : Place) (hx hy : Header) (deep : ℕ) (y_opened : i
     lead_cast = record { inside = new_inside; results = ap (λ f. option_map (λ (h : Header). h.results) (option_map head f)) (kept.made_found is_isolated m w (end_of y 0) spot new refl) }
 
     pub lead_kept : Kept is_isolated (λ b. has_id b m.tree ≡ true) m.tree (edited (Make (end_of y 0) (bridge Index (Arg y 0 k))) m).tree
-    lead_kept = stays
+    lead_kept = kept.made_kept is_isolated m w (end_of y 0) spot new refl (λ b. has_id b m.tree ≡ true) (λ b h. h)
 
     pub lead_there : has_id m.next (edited (Make (end_of y 0) (bridge Index (Arg y 0 k))) m).tree ≡ true
     lead_there = (let q = found_stands m.next after.tree (with_id m.next new) (kept.made_found is_isolated m w (end_of y 0) spot new refl) in ap (λ i. has_id i after.tree) (sym q.2) ∙ stand_present [] after.tree q.0 q.1)

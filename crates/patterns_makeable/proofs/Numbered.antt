@@ -6,10 +6,10 @@ use Rattle.std.proofs.lemmas.Option.{none-some, same_Some}
 use Rattle.std.proofs.lemmas.List.{get_or-map}
 use Rattle.ir_types.specs.declared.bits.BitsKind.{BitsKind}
 use Rattle.ir_types.specs.declared.bits.BitsKind.TheVariants as bits
-use Rattle.dialects_int.specs.Folds.{same_kind}
 use Rattle.dialects_int.proofs.KnownOperands.{same_itself as kind_itself}
 use Rattle.patterns_check.specs.declared.step.Step.{Step}
 use Rattle.patterns_check.specs.Contents.{Content}
+use Rattle.patterns_check.proofs.Keeping.{same_kinds}
 use Rattle.patterns_book.specs.declared.pattern.Kind.{Kind}
 use Rattle.patterns_book.specs.declared.pattern.Kind.TheVariants as ty
 use Rattle.patterns_book.specs.declared.pattern.Piece.{Piece}
@@ -30,14 +30,8 @@ use Rattle.patterns_makeable.specs.United.{HaveOneNumber, IsReady, NumbersTheSam
 
 -- ---- types that are one
 
-bits_are : (j k : BitsKind) → same_kind j k ≡ true → j ≡ k
-bits_are (bits.Int v) (bits.Int w) e = ap bits.Int (eqb-true v w e)
-bits_are (bits.Int v) bits.Index e = absurd (true≢false (sym e))
-bits_are bits.Index (bits.Int w) e = absurd (true≢false (sym e))
-bits_are bits.Index bits.Index e = refl
-
 are_one : (j k : Kind) → is_same j k ≡ true → j ≡ k
-are_one (ty.Fixed a) (ty.Fixed b) e = ap ty.Fixed (bits_are a b e)
+are_one (ty.Fixed a) (ty.Fixed b) e = ap ty.Fixed (same_kinds a b e)
 are_one (ty.Fixed a) (ty.Variable j) e = absurd (true≢false (sym e))
 are_one (ty.Variable i) (ty.Fixed b) e = absurd (true≢false (sym e))
 are_one (ty.Variable i) (ty.Variable j) e = ap ty.Variable (eqb-true i j e)

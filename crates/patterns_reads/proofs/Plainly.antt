@@ -16,7 +16,7 @@ use Rattle.ir_event.specs.store.Nodes.{Node as NumberNode}
 use Rattle.op_registry.specs.Properties.{is_allowed, is_of_kind, kinds}
 use Rattle.op_registry.specs.Properties as property_kind
 use Rattle.dialects_int.specs.declared.operations.Rule.TheVariants as rule
-use Rattle.dialects_int.specs.Folds.{Known, kind_of, rule_of, rules, is_property, fold_of}
+use Rattle.dialects_int.specs.Folds.{Known, kind_of, rule_of, rules, fold_of}
 use Rattle.dialects_int.proofs.KnownOperands.{constant_folds}
 use Rattle.ir_verify_base.specs.Fits.{Node}
 use Rattle.ir_verify_base.specs.Numbers.{node_in}
@@ -32,10 +32,6 @@ by_constant : rule_of (codes "arith.constant") ≡ Some rule.Constant
 unfolding rule_of rules
 by_constant = refl
 
-value_fine : (ty : TypeTerm) (bits : ℕ) → list_all (is_property (codes "arith.constant")) (value_entry ty bits) ≡ true
-unfolding is_inherent operations is_allowed is_of_kind property_kind.kind_of kinds
-value_fine ty bits = refl
-
 value_inherent : (ty : TypeTerm) (bits : ℕ) → true ≡ list_all (λ (e : List ℕ × AttrTerm). is_inherent (codes "arith.constant") e.0) (value_entry ty bits)
 unfolding is_inherent operations
 value_inherent ty bits = refl
@@ -44,7 +40,8 @@ is_named : true ≡ named (codes "arith.constant") (codes "arith.constant")
 is_named = refl
 
 plain_gives : (x : ℕ) (ty : TypeTerm) (bits : ℕ) (attributes : List (List ℕ × AttrTerm)) (k : BitsKind) → kind_of ty ≡ Some k → constant_value (plain x ty bits attributes).head ≡ Some (k, bits)
-plain_gives x ty bits attributes k e = constant_folds (codes "arith.constant") (value_entry ty bits) ty k (record { by = by_constant; fine = value_fine ty bits; kind = e }) bits refl
+unfolding is_inherent operations is_allowed is_of_kind property_kind.kind_of kinds
+plain_gives x ty bits attributes k e = constant_folds (codes "arith.constant") (value_entry ty bits) ty k (record { by = by_constant; fine = refl; kind = e }) bits refl
 
 -- what is known of the result of one
 pub known_plainly : (c : Things) (t : Op) (v : Value) (x place : ℕ) (n : NumberNode) (k : BitsKind) (bits : ℕ) → v ≡ Result x place → Some n ≡ option_map node_of (find x t) → Some (head_in c n) ≡ head_at x (meaning c t)

@@ -1,5 +1,6 @@
 -- For which rules an operation is fit, from what the verifier makes of it.
-use Rattle.std.proofs.Common.{◌≡◌, refl, ap, sym, ◌∙◌, subst, ℕ, List, [], ◌∷◌, Bool, true, false, ◌&&◌, Option, Some, None, option_map}
+use Rattle.std.proofs.Common.{◌≡◌, refl, sym, ◌∙◌, subst, ℕ, List, [], ◌∷◌, Bool, true, false, ◌&&◌, Option, Some, None, option_map}
+use Rattle.std.proofs.lemmas.Bool.{and_right}
 use Rattle.std.specs.Prelude.{if◌then◌else◌}
 use Rattle.ir_event.specs.trees.Meaning.{Operation}
 use Rattle.patterns_base.specs.Diagnostics.{broken_at, told_at}
@@ -48,13 +49,9 @@ module _ (t : Operation) (h : Header) (own : has_own_properties h ≡ true) wher
   pub told_of : breaks_none (told_at h.id t) ≡ false → is_in_order t h ≡ false
   told_of e = in_order_is t h ∙ (λ i. e i && own i)
 
-and_false : (b : Bool) → (b && false) ≡ false
-and_false true = refl
-and_false false = refl
-
 -- a property that isn't inherent
 pub unfit : (t : Operation) (h : Header) → has_own_properties h ≡ false → is_in_order t h ≡ false
-unfit t h e = in_order_is t h ∙ ap (λ b. breaks_none (told_at h.id t) && b) e ∙ and_false (breaks_none (told_at h.id t))
+unfit t h e = in_order_is t h ∙ and_right (breaks_none (told_at h.id t)) (has_own_properties h) e
 
 module _ (r : Rule) (t : Operation) (h : Header) where
   pub suits_any : is_clean t h ≡ true → true ≡ suits r t h

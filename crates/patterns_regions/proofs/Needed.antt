@@ -11,7 +11,7 @@ use Rattle.dialects_int.specs.Folds.{Known}
 use Rattle.patterns_reads.specs.Keeps.{given}
 use Rattle.patterns_reads.specs.Looks.{Ended, Header, body, is_clean, is_number, known, passes, when}
 use Rattle.patterns_reads.specs.Reads.{head_at}
-use Rattle.patterns_reads.specs.rules.Opening.{by_bounds, by_condition, by_end, loop_from, open_branch, open_loop, stop_loop}
+use Rattle.patterns_reads.specs.rules.Opening.{by_bounds, by_condition, by_end, loop_from, open_branch, open_loop, opened, stop_loop}
 use Rattle.patterns_regions.specs.Blocks.{before_at, body_at}
 use Rattle.patterns_regions.specs.Rules.{stop_loop_at}
 use Rattle.patterns_regions.proofs.Bodies.{body_whole}
@@ -26,9 +26,6 @@ fails_then (Some x) f e = e x
 
 no_given : {X Y : Type 0} (r : Option X) (f : X → Option Y) → None ≡ r → given r f ≡ None
 no_given r f e = ap (λ z. given z f) (sym e)
-
-no_when : {X : Type 0} (b : Bool) (r : Option X) → b ≡ false → when b r ≡ None
-no_when b r e = ap (λ z. when z r) e
 
 no_number : (m : Operation) (v : Value) → None ≡ known m v → is_number m 0 v ≡ false
 no_number m v k = ap (passes (λ (k : Known). eqb k.1 0)) (sym k)
@@ -95,4 +92,4 @@ module _ (c : Things) (x : ℕ) (t : Op) (front : Place) (d : HasDistinctIds t) 
       go o e (v ∷ l) k = absurd (omega (arith, k))
 
   pub no_stop_loop : (v : Value) (l : List Value) → h.operands ≡ v ∷ l → None ≡ known (meaning c t) v → stop_loop_at x (meaning c t) front ≡ None
-  no_stop_loop v l e k = by_last (λ o f. ap (by_end (meaning c t) front o f) e ∙ no_when (is_number (meaning c t) 0 v) _ (no_number (meaning c t) v k))
+  no_stop_loop v l e k = by_last (λ o f. ap (by_end (meaning c t) front o f) e ∙ ap (λ b. when b (Some (opened (meaning c t) front o f (head o).operands l))) (no_number (meaning c t) v k))
