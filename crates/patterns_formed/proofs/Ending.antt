@@ -1,36 +1,67 @@
--- What a pattern is made of in the end.
-use Rattle.std.proofs.Common.{◌≡◌, ℕ, List, length, Result, Ok}
-use Rattle.std.specs.List.{range_with_len}
+-- How a pattern ends.
+use Rattle.std.proofs.Common.{◌≡◌, ℕ, true, false, length, Result, Ok, Err, refl}
 use Rattle.patterns_text.specs.declared.error.PatternError.{PatternError}
-use Rattle.patterns_text.specs.Refusing.{Gives, Outcome}
-use Rattle.patterns_book.specs.declared.pattern.Kind.{Kind}
-use Rattle.patterns_book.specs.declared.pattern.Pattern.{Pattern}
+use Rattle.patterns_text.specs.declared.error.PatternError.TheVariants as errors
+use Rattle.patterns_text.specs.Parts.{Pattern}
+use Rattle.patterns_text.specs.Refusing.{Gives, Fails, Outcome, ◌>>=◌}
+use Rattle.patterns_book.specs.declared.pattern.Pattern.{Pattern as PatternCode}
 use Rattle.patterns_book.specs.Shapes.{Shape, shape}
-use Rattle.patterns_formed.specs.Forming.{Forming, Places, checked, constants_of, finished_with}
+use Rattle.patterns_formed.specs.declared.forming.Entry.{Entry}
+use Rattle.patterns_formed.specs.Ending.{Ends, ended, ends_formed, pattern_of, roots_formed}
+use Rattle.patterns_formed.specs.Forming.{Forming, Places, State, begins_with, checked, conditions_at, finished, old_depth, settled, sides_formed, term_at, unite}
 
-abbrev pub okay : {A : Type 0} → A → Outcome A
-okay x = Ok x
+abbrev Found : Type 0
+Found = Entry × State
 
-pub okay_same : {A : Type 0} (x y : A) → okay x ≡ okay y → x ≡ y
-okay_same x y e = cc
+abbrev last : Ends × Forming → Outcome Shape
+last x = checked (pattern_of x.0 x.1)
 
-abbrev pub made_of : Places → ℕ → ℕ → Forming → ℕ × List Kind → List ℕ → List ℕ → Shape
-made_of b root made f found values constants =
-    record {
-      types = found.0;
-      kinds = found.1;
-      values = values;
-      constants = constants;
-      further = f.further;
-      asked = f.asked;
-      given = f.given;
-      old = f.old;
-      root = root;
-      new = f.new;
-      result = made;
-    }
+module _ (b : Places) where
+  abbrev close : (ℕ × ℕ) × Forming → Outcome (Ends × Forming)
+  close x = settled x.1 >>= λ g. Ok (ended b x.0 g, g)
 
-pub finished_same : (b : Places) (root made : ℕ) (f : Forming) (kinds found : ℕ × List Kind) (values constants : List ℕ) (r : Result Pattern PatternError)
-    → kinds ≡ found → values ≡ range_with_len 0 (length b.variables) → constants ≡ constants_of 0 b.variables
-    → Gives shape r (checked (made_of b root made f found values constants)) → Gives shape r (finished_with b root made f kinds)
-finished_same b root made f kinds found values constants r k v c h = rw (k, ← v, ← c) h
+  is_settled : (r : ℕ × ℕ) (o : Outcome Forming) → (o >>= λ g. last (ended b r g, g)) ≡ ((o >>= λ g. Ok (ended b r g, g)) >>= last)
+  is_settled r (Ok g) = refl
+  is_settled r (Err e) = refl
+
+  is_asked : (r : ℕ × ℕ) (o : Outcome Forming) → (o >>= finished b r.0 r.1) ≡ (((o >>= λ h. Ok (r, h)) >>= close) >>= last)
+  unfolding finished
+  is_asked r (Ok g) = is_settled r (settled g)
+  is_asked r (Err e) = refl
+
+  module _ (C : Forming → Outcome Forming) where
+    is_united : (r : ℕ × ℕ) (o : Outcome Forming)
+        → (o >>= λ g. C g >>= finished b r.0 r.1) ≡ (((o >>= λ g. C g >>= λ h. Ok (r, h)) >>= close) >>= last)
+    is_united r (Ok g) = is_asked r (C g)
+    is_united r (Err e) = refl
+
+    module _ (old : Found) where
+      has_new : (o : Outcome Found)
+          → (o >>= λ new. unite old.0.slot new.0.slot new.0.left new.1.1 >>= λ g. C g >>= finished b old.0.place new.0.place)
+          ≡ (((o >>= λ new. unite old.0.slot new.0.slot new.0.left new.1.1 >>= λ g. C g >>= λ h. Ok ((old.0.place, new.0.place), h)) >>= close) >>= last)
+      has_new (Ok new) = is_united (old.0.place, new.0.place) (unite old.0.slot new.0.slot new.0.left new.1.1)
+      has_new (Err e) = refl
+
+    has_old : (N : Found → Outcome Found) (o : Outcome Found)
+        → (o >>= λ old. N old >>= λ new. unite old.0.slot new.0.slot new.0.left new.1.1 >>= λ g. C g >>= finished b old.0.place new.0.place)
+        ≡ (((o >>= λ old. N old >>= λ new. unite old.0.slot new.0.slot new.0.left new.1.1 >>= λ g. C g >>= λ h. Ok ((old.0.place, new.0.place), h)) >>= close) >>= last)
+    has_old N (Ok old) = has_new old (N old)
+    has_old N (Err e) = refl
+
+  pub same_sides : (p : Pattern) → sides_formed b p ≡ (ends_formed b p (begins_with (length b.variables)) >>= last)
+  unfolding sides_formed ends_formed roots_formed
+  same_sides p =
+      has_old (λ f. conditions_at b 17 (p.conditions, f)) (λ old. term_at b false 17 (p.new, old.1.1)) (term_at b true old_depth (p.old, begins_with (length b.variables)))
+
+  module _ (p : Pattern) (n : ℕ) (f : Forming) where
+    pub gives_last : (x : Ends × Forming) (r : Result PatternCode PatternError)
+        → n ≡ length b.variables → f ≡ begins_with n → ends_formed b p f ≡ Ok x → Gives shape r (last x) → Gives shape r (sides_formed b p)
+    gives_last x r count begun ends h = rw (same_sides p, ← count, ← begun, ends) h
+
+    pub gives_error : (e : PatternError)
+        → n ≡ length b.variables → f ≡ begins_with n → Fails e (ends_formed b p f) → Fails e (sides_formed b p)
+    gives_error errors.Memory count begun h = tt
+    gives_error (errors.Refused f) count begun h = rw (same_sides p, ← count, ← begun, h) refl
+
+pub checked_same : (s t : Shape) (r : Result PatternCode PatternError) → s ≡ t → Gives shape r (checked s) → Gives shape r (checked t)
+checked_same s t r same h = rw (← same) h

@@ -1,2 +1,4 @@
+pub mod EndViews
+pub mod Ending
 pub mod Forming
 pub mod FormingViews

@@ -2,8 +2,9 @@
 ghost use Rattle.std.specs.Prelude.{◌≡◌, [], map, Ok};
 ghost use Rattle.patterns_text.specs.Parts.{part_view};
 ghost use Rattle.patterns_text.specs.Refusing.{Gives};
+ghost use Rattle.patterns_book.specs.declared.pattern.Number.TheVariants as number;
 ghost use Rattle.patterns_formed.specs.FormingViews.{forming_view, places_view};
-ghost use Rattle.patterns_formed.specs.Forming.{a_power, comparing, condition_at, conditions_at, gathered, is_free, met_by, named_at, narrowed, numbers_asked, type_at, types_asked};
+ghost use Rattle.patterns_formed.specs.Forming.{a_power, and_number, comparing, condition_at, conditions_at, gathered, is_free, met_by, named_at, narrowed, numbers_asked, type_at, types_asked};
 
 use crate::forming::{Forming, Places, begin, behind_end, with_type, written_at};
 use crate::numbers::{ROOM, and_number, arguments};
@@ -37,8 +38,10 @@ fn type_asked<'a, 'p>(
                 Ok(slot) => slot,
                 Err(e) => return Err(e),
             };
-            begin(forming, false, slot, part.left)?;
-            Ok((slot, rest))
+            match begin(forming, false, slot, part.left) {
+                Ok(()) => Ok((slot, rest)),
+                Err(_) => Err(PatternError::Memory),
+            }
         }
         _ => Err(refused(TextRefusal::Unexpected, 0)),
     }
@@ -64,18 +67,20 @@ fn types<'a, 'p>(
         Ok(item) => item,
         Err(e) => return Err(e),
     };
-    found.push(slot)?;
-    types(forming, found, rest, room - 1)
+    match found.push(slot) {
+        Ok(()) => types(forming, found, rest, room - 1),
+        Err(_) => Err(PatternError::Memory),
+    }
 }
 
 fn narrowed<'a>(forming: &mut Forming<'a>, slots: &[usize], at: usize) -> Result<(), PatternError>
     ensures { Gives (λ _. forming_view forming.new) result (narrowed slots.now at (forming_view forming.old)) }
 {
     match slots {
-        [narrow, wide] => {
-            forming.asked.push(Asked::Narrower(*narrow, *wide))?;
-            Ok(())
-        }
+        [narrow, wide] => match forming.asked.push(Asked::Narrower(*narrow, *wide)) {
+            Ok(()) => Ok(()),
+            Err(_) => Err(PatternError::Memory),
+        },
         _ => Err(refused(TextRefusal::TypeMismatch, at)),
     }
 }
@@ -110,11 +115,25 @@ fn a_power<'a>(
     ensures { Gives (λ _. forming_view forming.new) result (a_power (places_view places.now) found.now at (forming_view forming.old)) }
 {
     match found {
-        [place] => {
-            and_number(places, forming, Number::Log(*place))?;
-            Ok(())
-        }
+        [place] => match and_number(places, forming, Number::Log(*place)) {
+            Ok(_) => Ok(()),
+            Err(_) => Err(PatternError::Memory),
+        },
         _ => Err(refused(TextRefusal::TypeMismatch, at)),
+    }
+}
+
+/// The number at a place is required to be 1.
+fn required<'a>(
+    places: &Places<'_>,
+    forming: &mut Forming<'a>,
+    place: usize,
+) -> Result<(), PatternError>
+    ensures { Gives (λ _. forming_view forming.new) result (Ok (and_number (places_view places.now) (number.Require place) (forming_view forming.old)).1) }
+{
+    match and_number(places, forming, Number::Require(place)) {
+        Ok(_) => Ok(()),
+        Err(_) => Err(PatternError::Memory),
     }
 }
 
@@ -131,11 +150,10 @@ fn comparing<'a>(
         return Err(refused(TextRefusal::TypeMismatch, at));
     };
     match found {
-        [i, j] => {
-            let place = and_number(places, forming, Number::Compare(predicate, *i, *j))?;
-            and_number(places, forming, Number::Require(place))?;
-            Ok(())
-        }
+        [i, j] => match and_number(places, forming, Number::Compare(predicate, *i, *j)) {
+            Ok(place) => required(places, forming, place),
+            Err(_) => Err(PatternError::Memory),
+        },
         _ => Err(refused(TextRefusal::TypeMismatch, at)),
     }
 }
@@ -175,7 +193,10 @@ fn numbers_asked<'a, 'p>(
 ) -> Result<&'p [Part<'a>], PatternError>
     ensures { Gives (λ rest. (map part_view rest.now, forming_view forming.new)) result (numbers_asked (places_view places.now) at word.now (map part_view parts.now, forming_view forming.old)) }
 {
-    let slot = with_type(forming)?;
+    let slot = match with_type(forming) {
+        Ok(slot) => slot,
+        Err(_) => return Err(PatternError::Memory),
+    };
     let mut found = Vec::new(alloc);
     let rest = match arguments(
         alloc,

@@ -7,7 +7,9 @@ ghost use Rattle.patterns_book.specs.WellFormed.{is_well_formed};
 ghost use Rattle.patterns_formed_base.specs.Views.{variable_views};
 ghost use Rattle.patterns_formed.specs.FormingViews.{forming_view, places_view};
 ghost use Rattle.patterns_formed_base.specs.Types.{kind_of};
-ghost use Rattle.patterns_formed.specs.Forming.{all_cast, all_numbered, all_told, cast_asked, checked, constants_of, finished, finished_with, found_in, is_index, is_told, kinds_found, numbered, place_in, settled, told_slots, variables_found, with_casts, with_kind};
+ghost use Rattle.patterns_formed.specs.Ending.{ended, pattern_of};
+ghost use Rattle.patterns_formed.specs.EndViews.{ends_view};
+ghost use Rattle.patterns_formed.specs.Forming.{all_cast, all_numbered, all_told, cast_asked, checked, constants_of, found_in, is_index, is_told, kinds_found, numbered, place_in, settled, told_slots, variables_found, with_casts, with_kind};
 
 use crate::forming::{Between, Forming, Places, Told};
 use ir_text_tokens::refusal::TextRefusal;
@@ -19,6 +21,17 @@ use patterns_formed_base::types::{kind_of, same_kind};
 use patterns_text::error::PatternError;
 use patterns_text::steps::refused;
 use std::alloc::{AllocError, Global};
+
+/// What a pattern has besides what was formed: its types, by which variables are told, and the places of its sides.
+#[derive(Drop)]
+pub struct Ends {
+    pub types: usize,
+    pub kinds: Vec<Kind>,
+    pub values: Vec<usize>,
+    pub constants: Vec<usize>,
+    pub root: usize,
+    pub made: usize,
+}
 
 /// Whether a type is written, or is one on the left.
 fn is_told(kinds: &[Kind], olds: &[usize], kind: Kind) -> bool
@@ -90,8 +103,10 @@ fn all_cast(kinds: &[Kind], asked: &mut Vec<Asked>, casts: &[Between]) -> Result
             Ok(one) => one,
             Err(e) => return Err(e),
         };
-        asked.push(one)?;
-        rest = tail;
+        match asked.push(one) {
+            Ok(()) => rest = tail,
+            Err(_) => return Err(PatternError::Memory),
+        }
     }
     Ok(())
 }
@@ -116,10 +131,13 @@ fn with_kind(found: &mut Vec<usize>, kind: Kind) -> Result<(), PatternError>
     let Kind::Variable(variable) = kind else {
         return Ok(());
     };
-    if !is_among(variable, found) {
-        found.push(variable)?;
+    if is_among(variable, found) {
+        return Ok(());
     }
-    Ok(())
+    match found.push(variable) {
+        Ok(()) => Ok(()),
+        Err(_) => Err(PatternError::Memory),
+    }
 }
 
 /// The variables among the types of terms on the left.
@@ -186,11 +204,16 @@ fn numbered(found: &[usize], kind: Kind) -> Kind
 fn all_numbered(alloc: Global, found: &[usize], kinds: &[Kind]) -> Result<Vec<Kind>, AllocError>
     ensures { IfOk result (λ v. v.items ≡ all_numbered found.now kinds.now) }
 {
-    let mut made = Vec::with_capacity(alloc, kinds.len())?;
+    let mut made = match Vec::with_capacity(alloc, kinds.len()) {
+        Ok(made) => made,
+        Err(e) => return Err(e),
+    };
     let mut rest = kinds;
     'kinds: while let [kind, tail @ ..] = rest {
-        made.push(numbered(found, *kind))?;
-        rest = tail;
+        match made.push(numbered(found, *kind)) {
+            Ok(()) => rest = tail,
+            Err(_) => return Err(AllocError),
+        }
     }
     Ok(made)
 }
@@ -203,8 +226,10 @@ pub(crate) fn variable_types(alloc: Global, count: usize) -> Result<Vec<usize>, 
     let mut found = Vec::new(alloc);
     let mut place = 0;
     'places: while place < count {
-        found.push(place)?;
-        place += 1;
+        match found.push(place) {
+            Ok(()) => place += 1,
+            Err(_) => return Err(AllocError),
+        }
     }
     Ok(found)
 }
@@ -226,7 +251,10 @@ fn constants_of(alloc: Global, variables: &[Variable<'_>]) -> Result<Vec<usize>,
     let mut place = 0;
     'variables: while let [variable, tail @ ..] = rest {
         if !variable.is_value {
-            found.push(place)?;
+            match found.push(place) {
+                Ok(()) => {}
+                Err(_) => return Err(AllocError),
+            }
         }
         rest = tail;
         place += 1;
@@ -269,7 +297,7 @@ fn checked(pattern: Pattern) -> Result<Pattern, PatternError>
 }
 
 /// All types are known, and casts are of index.
-fn settled<'a>(forming: &mut Forming<'a>) -> Result<(), PatternError>
+pub(crate) fn settled<'a>(forming: &mut Forming<'a>) -> Result<(), PatternError>
     ensures { Gives (λ _. forming_view forming.new) result (settled (forming_view forming.old)) }
 {
     match all_told(&forming.types.kinds, &forming.old_types, &forming.new_types) {
@@ -286,57 +314,66 @@ fn kinds_found(alloc: Global, forming: &Forming<'_>) -> Result<(usize, Vec<Kind>
         Ok(found) => found,
         Err(e) => return Err(e),
     };
-    let kinds = all_numbered(alloc, &found, &forming.types.kinds)?;
-    Ok((found.len(), kinds))
+    match all_numbered(alloc, &found, &forming.types.kinds) {
+        Ok(kinds) => Ok((found.len(), kinds)),
+        Err(_) => Err(PatternError::Memory),
+    }
 }
 
-/// The pattern of what was formed, once all types are known.
-fn finished_with(
+/// What a pattern has besides what was formed, once all types are known.
+pub(crate) fn ended(
     alloc: Global,
     places: &Places<'_>,
-    forming: Forming<'_>,
+    forming: &Forming<'_>,
     root: usize,
     made: usize,
-) -> Result<Pattern, PatternError>
-    ensures gives { Gives shape result (finished_with (places_view places.now) root made (forming_view forming.entry) (kinds_found (variables_found (forming_view forming.entry)) (forming_view forming.entry).kinds)) }
-    ensures stands { IfOk result (λ p. is_well_formed (shape p) ≡ true) }
+) -> Result<Ends, PatternError>
+    ensures { Gives ends_view result (Ok (ended (places_view places.now) (root, made) (forming_view forming.now))) }
 {
-    let (types, kinds) = match kinds_found(alloc, &forming) {
+    let (types, kinds) = match kinds_found(alloc, forming) {
         Ok(found) => found,
         Err(e) => return Err(e),
     };
-    let values = value_types(alloc, &places.variables)?;
-    let constants = constants_of(alloc, &places.variables)?;
-    checked(Pattern {
-        types,
-        kinds,
-        values,
-        constants,
+    let values = match value_types(alloc, &places.variables) {
+        Ok(values) => values,
+        Err(_) => return Err(PatternError::Memory),
+    };
+    match constants_of(alloc, &places.variables) {
+        Ok(constants) => Ok(Ends {
+            types,
+            kinds,
+            values,
+            constants,
+            root,
+            made,
+        }),
+        Err(_) => Err(PatternError::Memory),
+    }
+}
+
+/// The pattern of what was formed.
+fn pattern_of(forming: Forming<'_>, ends: Ends) -> Pattern
+    ensures { shape result ≡ pattern_of (ends_view ends) (forming_view forming.entry) }
+{
+    Pattern {
+        types: ends.types,
+        kinds: ends.kinds,
+        values: ends.values,
+        constants: ends.constants,
         further: forming.further,
         asked: forming.asked,
         given: forming.given,
         old: forming.pieces,
-        root,
+        root: ends.root,
         new: forming.builds,
-        result: made,
-    })
+        result: ends.made,
+    }
 }
 
-/// The pattern of what was formed. `TypeMismatch` at a type that isn't known, and at a cast of index without one index.
-#[tactic(auto, unfolding(crate::specs::Forming::finished))]
-pub(crate) fn finished(
-    alloc: Global,
-    places: &Places<'_>,
-    forming: Forming<'_>,
-    root: usize,
-    made: usize,
-) -> Result<Pattern, PatternError>
-    ensures gives { Gives shape result (finished (places_view places.now) root made (forming_view forming.entry)) }
+/// The pattern of what was formed, which is well-formed.
+pub(crate) fn finished(forming: Forming<'_>, ends: Ends) -> Result<Pattern, PatternError>
+    ensures gives { Gives shape result (checked (pattern_of (ends_view ends) (forming_view forming.entry))) }
     ensures stands { IfOk result (λ p. is_well_formed (shape p) ≡ true) }
 {
-    let mut forming = forming;
-    match settled(&mut forming) {
-        Ok(()) => finished_with(alloc, places, forming, root, made),
-        Err(e) => Err(e),
-    }
+    checked(pattern_of(forming, ends))
 }

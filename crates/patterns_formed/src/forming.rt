@@ -121,11 +121,15 @@ pub(crate) fn begin<'a>(
     ensures { OnOk result (forming_view forming.new ≡ begun left slot at (forming_view forming.old)) }
 {
     if left {
-        forming.old_types.push(slot)?;
-        Ok(())
+        match forming.old_types.push(slot) {
+            Ok(()) => Ok(()),
+            Err(_) => Err(AllocError),
+        }
     } else {
-        forming.new_types.push(Told { slot, left: at })?;
-        Ok(())
+        match forming.new_types.push(Told { slot, left: at }) {
+            Ok(()) => Ok(()),
+            Err(_) => Err(AllocError),
+        }
     }
 }
 
@@ -138,9 +142,14 @@ pub(crate) fn begin_new<'a>(
     ensures slot { IfOk result (λ slot. slot ≡ next_type (forming_view forming.old)) }
     ensures begun { OnOk result (forming_view forming.new ≡ begun left (next_type (forming_view forming.old)) at (with_type (forming_view forming.old))) }
 {
-    let slot = with_type(forming)?;
-    begin(forming, left, slot, at)?;
-    Ok(slot)
+    let slot = match with_type(forming) {
+        Ok(slot) => slot,
+        Err(e) => return Err(e),
+    };
+    match begin(forming, left, slot, at) {
+        Ok(()) => Ok(slot),
+        Err(e) => Err(e),
+    }
 }
 
 /// Whether a literal is one of a type that is written.

@@ -35,8 +35,10 @@ pub(crate) fn and_number<'a>(
     ensures given { OnOk result (forming_view forming.new ≡ (and_number (places_view places.now) number (forming_view forming.old)).1) }
 {
     let place = next_number(places, forming);
-    forming.given.push(number)?;
-    Ok(place)
+    match forming.given.push(number) {
+        Ok(()) => Ok(place),
+        Err(_) => Err(AllocError),
+    }
 }
 
 fn literal_number(negative: bool, magnitude: u128, slot: usize) -> Number
@@ -57,9 +59,14 @@ fn negated<'a>(
 ) -> Result<usize, PatternError>
     ensures { Gives (λ place. (place, forming_view forming.new)) result (Ok (negated (places_view places.now) place slot (forming_view forming.old))) }
 {
-    let zero = and_number(places, forming, literal_number(false, 0, slot))?;
-    let number = Number::Pair(Arithmetic::Subtract, zero, place);
-    Ok(and_number(places, forming, number)?)
+    match made(places, forming, literal_number(false, 0, slot)) {
+        Ok(zero) => made(
+            places,
+            forming,
+            Number::Pair(Arithmetic::Subtract, zero, place),
+        ),
+        Err(e) => Err(e),
+    }
 }
 
 fn inverted<'a>(
@@ -70,9 +77,14 @@ fn inverted<'a>(
 ) -> Result<usize, PatternError>
     ensures { Gives (λ place. (place, forming_view forming.new)) result (Ok (inverted (places_view places.now) place slot (forming_view forming.old))) }
 {
-    let ones = and_number(places, forming, literal_number(true, 1, slot))?;
-    let number = Number::Pair(Arithmetic::ExclusiveOr, place, ones);
-    Ok(and_number(places, forming, number)?)
+    match made(places, forming, literal_number(true, 1, slot)) {
+        Ok(ones) => made(
+            places,
+            forming,
+            Number::Pair(Arithmetic::ExclusiveOr, place, ones),
+        ),
+        Err(e) => Err(e),
+    }
 }
 
 /// A number more, and its place.
@@ -83,7 +95,10 @@ fn made<'a>(
 ) -> Result<usize, PatternError>
     ensures { Gives (λ place. (place, forming_view forming.new)) result (Ok (and_number (places_view places.now) number (forming_view forming.old))) }
 {
-    Ok(and_number(places, forming, number)?)
+    match and_number(places, forming, number) {
+        Ok(place) => Ok(place),
+        Err(_) => Err(PatternError::Memory),
+    }
 }
 
 /// A function of the numbers at these places. `TypeMismatch` where it has another number of them.
@@ -157,8 +172,10 @@ pub(crate) fn arguments<'a, 'p>(
         Ok(item) => item,
         Err(e) => return Err(e),
     };
-    found.push(place)?;
-    arguments(alloc, places, forming, found, rest, slot, depth, room - 1)
+    match found.push(place) {
+        Ok(()) => arguments(alloc, places, forming, found, rest, slot, depth, room - 1),
+        Err(_) => Err(PatternError::Memory),
+    }
 }
 
 /// A function of numbers, behind its part.

@@ -9,10 +9,12 @@ ghost use Rattle.patterns_text.specs.Refusing.{Gives};
 ghost use Rattle.patterns_formed_base.specs.Views.{variable_views};
 ghost use Rattle.patterns_formed_base.specs.NameViews.{names_view};
 ghost use Rattle.patterns_formed.specs.FormingViews.{forming_view, places_view};
+ghost use Rattle.patterns_formed.specs.Ending.{ends_formed, roots_formed};
+ghost use Rattle.patterns_formed.specs.EndViews.{ends_view};
 ghost use Rattle.patterns_formed.specs.Forming.{begins_with, count_constants, formed, places_of, sides_formed};
 
 use crate::conditions::conditions;
-use crate::finishing::{finished, variable_types};
+use crate::finishing::{Ends, ended, finished, settled, variable_types};
 use crate::forming::{Forming, Places, unite};
 use crate::numbers::ROOM;
 use crate::terms::term;
@@ -68,11 +70,16 @@ fn places_of(names: Names<'_>) -> Places<'_>
 fn variable_kinds(alloc: Global, places: &[usize]) -> Result<Vec<Kind>, AllocError>
     ensures { IfOk result (λ v. v.items ≡ map ty.Variable places.now) }
 {
-    let mut found = Vec::with_capacity(alloc, places.len())?;
+    let mut found = match Vec::with_capacity(alloc, places.len()) {
+        Ok(found) => found,
+        Err(e) => return Err(e),
+    };
     let mut rest = places;
     'places: while let [place, tail @ ..] = rest {
-        found.push(Kind::Variable(*place))?;
-        rest = tail;
+        match found.push(Kind::Variable(*place)) {
+            Ok(()) => rest = tail,
+            Err(_) => return Err(AllocError),
+        }
     }
     Ok(found)
 }
@@ -81,8 +88,14 @@ fn variable_kinds(alloc: Global, places: &[usize]) -> Result<Vec<Kind>, AllocErr
 fn begins_with<'a>(alloc: Global, count: usize) -> Result<Forming<'a>, AllocError>
     ensures { IfOk result (λ f. forming_view f ≡ begins_with count) }
 {
-    let places = variable_types(alloc, count)?;
-    let kinds = variable_kinds(alloc, &places)?;
+    let places = match variable_types(alloc, count) {
+        Ok(places) => places,
+        Err(e) => return Err(e),
+    };
+    let kinds = match variable_kinds(alloc, &places) {
+        Ok(kinds) => kinds,
+        Err(e) => return Err(e),
+    };
     Ok(Forming {
         types: Types {
             kinds,
@@ -100,7 +113,54 @@ fn begins_with<'a>(alloc: Global, count: usize) -> Result<Forming<'a>, AllocErro
     })
 }
 
-#[tactic(auto, unfolding(crate::specs::Forming::sides_formed))]
+/// Both sides and the conditions; the places of the two sides.
+#[tactic(auto, unfolding(crate::specs::Ending::roots_formed))]
+fn roots<'a>(
+    alloc: Global,
+    places: &Places<'_>,
+    forming: &mut Forming<'a>,
+    pattern: &parts::Pattern<'a>,
+) -> Result<(usize, usize), PatternError>
+    ensures { Gives (λ x. (x, forming_view forming.new)) result (roots_formed (places_view places.now) (pattern_view pattern.now) (forming_view forming.old)) }
+{
+    let (old, _) = match term(alloc, places, forming, &pattern.old, true, OLD_DEPTH) {
+        Ok(found) => found,
+        Err(e) => return Err(e),
+    };
+    let (new, _) = match term(alloc, places, forming, &pattern.new, false, NEW_DEPTH) {
+        Ok(found) => found,
+        Err(e) => return Err(e),
+    };
+    match unite(alloc, forming, old.slot, new.slot, new.left) {
+        Ok(()) => {}
+        Err(e) => return Err(e),
+    }
+    match conditions(alloc, places, forming, &pattern.conditions, ROOM) {
+        Ok(()) => Ok((old.place, new.place)),
+        Err(e) => Err(e),
+    }
+}
+
+/// What a pattern has besides what is formed, once all of it is formed and all types are known.
+#[tactic(auto, unfolding(crate::specs::Ending::ends_formed))]
+fn ends<'a>(
+    alloc: Global,
+    places: &Places<'_>,
+    forming: &mut Forming<'a>,
+    pattern: &parts::Pattern<'a>,
+) -> Result<Ends, PatternError>
+    ensures { Gives (λ e. (ends_view e, forming_view forming.new)) result (ends_formed (places_view places.now) (pattern_view pattern.now) (forming_view forming.old)) }
+{
+    let (root, made) = match roots(alloc, places, forming, pattern) {
+        Ok(found) => found,
+        Err(e) => return Err(e),
+    };
+    match settled(forming) {
+        Ok(()) => ended(alloc, places, forming, root, made),
+        Err(e) => Err(e),
+    }
+}
+
 fn sides<'a>(
     alloc: Global,
     places: &Places<'_>,
@@ -109,24 +169,14 @@ fn sides<'a>(
     ensures gives { Gives shape result (sides_formed (places_view places.now) (pattern_view pattern.now)) }
     ensures stands { IfOk result (λ p. is_well_formed (shape p) ≡ true) }
 {
-    let mut forming = begins_with(alloc, places.variables.len())?;
-    let (old, _) = match term(alloc, places, &mut forming, &pattern.old, true, OLD_DEPTH) {
-        Ok(found) => found,
-        Err(e) => return Err(e),
+    let mut forming = match begins_with(alloc, places.variables.len()) {
+        Ok(forming) => forming,
+        Err(_) => return Err(PatternError::Memory),
     };
-    let (new, _) = match term(alloc, places, &mut forming, &pattern.new, false, NEW_DEPTH) {
-        Ok(found) => found,
-        Err(e) => return Err(e),
-    };
-    match unite(alloc, &mut forming, old.slot, new.slot, new.left) {
-        Ok(()) => {}
-        Err(e) => return Err(e),
+    match ends(alloc, places, &mut forming, pattern) {
+        Ok(ends) => finished(forming, ends),
+        Err(e) => Err(e),
     }
-    match conditions(alloc, places, &mut forming, &pattern.conditions, ROOM) {
-        Ok(()) => {}
-        Err(e) => return Err(e),
-    }
-    finished(alloc, places, forming, old.place, new.place)
 }
 
 /// The pattern that is formed of the parts of a text; it is well-formed.

@@ -50,12 +50,14 @@ fn value<'a>(
     let Some(place) = place else {
         return Err(refused(TextRefusal::UnknownValue, at));
     };
-    begin(forming, left, place, at)?;
-    Ok(Entry {
-        place,
-        slot: place,
-        left: at,
-    })
+    match begin(forming, left, place, at) {
+        Ok(()) => Ok(Entry {
+            place,
+            slot: place,
+            left: at,
+        }),
+        Err(_) => Err(PatternError::Memory),
+    }
 }
 
 fn is_met(place: usize, met: &[usize]) -> bool
@@ -82,13 +84,18 @@ fn again<'a>(
     ensures forming { OnOk result (forming_view forming.new ≡ (met_from (places_view places.now) true place at (forming_view forming.old)).1) }
 {
     let further = places.further as usize + forming.further.len();
-    begin(forming, true, place, at)?;
-    forming.further.push(Further::Again(place))?;
-    Ok(Entry {
-        place: further,
-        slot: place,
-        left: at,
-    })
+    match begin(forming, true, place, at) {
+        Ok(()) => {}
+        Err(e) => return Err(e),
+    }
+    match forming.further.push(Further::Again(place)) {
+        Ok(()) => Ok(Entry {
+            place: further,
+            slot: place,
+            left: at,
+        }),
+        Err(_) => Err(AllocError),
+    }
 }
 
 /// A constant on the left that is met for the first time.
@@ -101,13 +108,18 @@ fn first<'a>(
     ensures entry { IfOk result (λ e. e ≡ (met_from (places_view places.now) false place at (forming_view forming.old)).0) }
     ensures forming { OnOk result (forming_view forming.new ≡ (met_from (places_view places.now) false place at (forming_view forming.old)).1) }
 {
-    begin(forming, true, place, at)?;
-    forming.met.push(place)?;
-    Ok(Entry {
-        place,
-        slot: place,
-        left: at,
-    })
+    match begin(forming, true, place, at) {
+        Ok(()) => {}
+        Err(e) => return Err(e),
+    }
+    match forming.met.push(place) {
+        Ok(()) => Ok(Entry {
+            place,
+            slot: place,
+            left: at,
+        }),
+        Err(_) => Err(AllocError),
+    }
 }
 
 /// A constant on the left that has a name.
@@ -123,9 +135,15 @@ fn old_name<'a>(
         return Err(refused(TextRefusal::UnknownValue, at));
     };
     if is_met(place, &forming.met) {
-        Ok(again(places, forming, place, at)?)
+        match again(places, forming, place, at) {
+            Ok(entry) => Ok(entry),
+            Err(_) => Err(PatternError::Memory),
+        }
     } else {
-        Ok(first(places, forming, place, at)?)
+        match first(places, forming, place, at) {
+            Ok(entry) => Ok(entry),
+            Err(_) => Err(PatternError::Memory),
+        }
     }
 }
 
@@ -139,18 +157,23 @@ fn old_literal<'a>(
     ensures { Gives (λ e. (e, forming_view forming.new)) result (Ok (old_literal (places_view places.now) at size.now.negative size.now.magnitude (forming_view forming.old))) }
 {
     let place = places.further as usize + forming.further.len();
-    let slot = begin_new(forming, true, at)?;
+    let slot = match begin_new(forming, true, at) {
+        Ok(slot) => slot,
+        Err(_) => return Err(PatternError::Memory),
+    };
     let literal = Literal {
         negative: size.negative,
         magnitude: size.magnitude,
         ty: slot,
     };
-    forming.further.push(Further::Written(literal))?;
-    Ok(Entry {
-        place,
-        slot,
-        left: at,
-    })
+    match forming.further.push(Further::Written(literal)) {
+        Ok(()) => Ok(Entry {
+            place,
+            slot,
+            left: at,
+        }),
+        Err(_) => Err(PatternError::Memory),
+    }
 }
 
 /// A constant that is made, of a number with which the parts begin.
@@ -165,19 +188,24 @@ fn made<'a, 'p>(
 ) -> Result<(Entry, &'p [Part<'a>]), PatternError>
     ensures { Gives (λ x. (x.0, (map part_view x.1.now, forming_view forming.new))) result (made_at (places_view places.now) depth at (map part_view parts.now, forming_view forming.old)) }
 {
-    let slot = begin_new(forming, false, at)?;
+    let slot = match begin_new(forming, false, at) {
+        Ok(slot) => slot,
+        Err(_) => return Err(PatternError::Memory),
+    };
     let (number, rest) = match number(alloc, places, forming, parts, slot, depth) {
         Ok(found) => found,
         Err(e) => return Err(e),
     };
     let place = places.new_begin as usize + forming.builds.len();
-    forming.builds.push(New::Constant(number, slot))?;
     let entry = Entry {
         place,
         slot,
         left: at,
     };
-    Ok((entry, rest))
+    match forming.builds.push(New::Constant(number, slot)) {
+        Ok(()) => Ok((entry, rest)),
+        Err(_) => Err(PatternError::Memory),
+    }
 }
 
 fn asked_predicate(asks: Option<&[u8]>) -> Option<Predicate>
@@ -268,16 +296,21 @@ fn shaped_by_one<'a>(
 {
     match operation {
         Some(Operation::Resize(cast)) => {
-            forming.asked.push(resized(cast, i.slot, slot))?;
-            Ok(Form::Resize(cast, i.place))
+            match forming.asked.push(resized(cast, i.slot, slot)) {
+                Ok(()) => Ok(Form::Resize(cast, i.place)),
+                Err(_) => Err(PatternError::Memory),
+            }
         }
         Some(Operation::IndexCast(cast)) => {
-            forming.casts.push(Between {
+            let between = Between {
                 from: i.slot,
                 to: slot,
                 left: at,
-            })?;
-            Ok(Form::IndexCast(cast, i.place))
+            };
+            match forming.casts.push(between) {
+                Ok(()) => Ok(Form::IndexCast(cast, i.place)),
+                Err(_) => Err(PatternError::Memory),
+            }
         }
         _ => Err(refused(TextRefusal::TypeMismatch, at)),
     }
@@ -369,20 +402,27 @@ fn with_piece<'a>(
 ) -> Result<Entry, PatternError>
     ensures { Gives (λ e. (e, forming_view forming.new)) result (Ok (with_piece (places_view places.now) left piece slot at (forming_view forming.old))) }
 {
-    let place = if left {
+    if left {
         let place = places.old_begin as usize + forming.pieces.len();
-        forming.pieces.push(piece)?;
-        place
+        match forming.pieces.push(piece) {
+            Ok(()) => Ok(Entry {
+                place,
+                slot,
+                left: at,
+            }),
+            Err(_) => Err(PatternError::Memory),
+        }
     } else {
         let place = places.new_begin as usize + forming.builds.len();
-        forming.builds.push(New::Operation(piece))?;
-        place
-    };
-    Ok(Entry {
-        place,
-        slot,
-        left: at,
-    })
+        match forming.builds.push(New::Operation(piece)) {
+            Ok(()) => Ok(Entry {
+                place,
+                slot,
+                left: at,
+            }),
+            Err(_) => Err(PatternError::Memory),
+        }
+    }
 }
 
 /// An operation with its operands.
@@ -445,8 +485,10 @@ fn operands<'a, 'p>(
         Ok(item) => item,
         Err(e) => return Err(e),
     };
-    found.push(entry)?;
-    operands(alloc, places, forming, found, rest, left, depth, room - 1)
+    match found.push(entry) {
+        Ok(()) => operands(alloc, places, forming, found, rest, left, depth, room - 1),
+        Err(_) => Err(PatternError::Memory),
+    }
 }
 
 /// An operation, behind its part.
@@ -465,7 +507,10 @@ fn operation<'a, 'p>(
 ) -> Result<(Entry, &'p [Part<'a>]), PatternError>
     ensures { Gives (λ x. (x.0, (map part_view x.1.now, forming_view forming.new))) result (operation_at (places_view places.now) (term_at (places_view places.now) left depth) left at name.now (option_map bytes_of asks.entry) (map part_view parts.now, forming_view forming.old)) }
 {
-    let slot = begin_new(forming, left, at)?;
+    let slot = match begin_new(forming, left, at) {
+        Ok(slot) => slot,
+        Err(_) => return Err(PatternError::Memory),
+    };
     let mut entries = Vec::new(alloc);
     let rest = match operands(
         alloc,

@@ -7,3 +7,4 @@ pub mod Found
 pub mod Backwards
 pub mod TypesAt
 pub mod Planned
+pub mod Rooted

@@ -1,6 +1,6 @@
 -- From what stands to a plan.
 use Rattle.std.proofs.Common.{append_assoc, ◌≡◌, ℕ, zero, suc, refl, ap, sym, ◌∙◌, subst, List, [], ◌∷◌, ◌++◌, length, take, drop, map, Bool, true, false, ◌&&◌, true≢false, Option, Some, None, arith}
-use Rattle.std.specs.Prelude.{option_map}
+use Rattle.std.specs.Prelude.{IfOk, Result, option_map}
 use Rattle.ir_event.specs.types.Things.{Things}
 use Rattle.ir_event.specs.types.Terms.{TypeTerm}
 use Rattle.ir_event.specs.types.declared.bits.BitsKind.{BitsKind}
@@ -85,6 +85,21 @@ ran : (r : Option (List Outcome)) (new : List Outcome) (b : Bool) → check.Stan
 ran None new b e f = absurd (true≢false (sym f ∙ e))
 ran (Some c) new b e f = ap Some (sym e.1)
 
+not_ran : (r : Option (List Outcome)) (new : List Outcome) (b : Bool) → check.Stands r new b → b ≡ false → r ≡ None
+not_ran None new b e f = refl
+not_ran (Some c) new b e f = absurd (true≢false (sym e.0 ∙ f))
+
+abbrev nothing : Option Plan
+nothing = None
+
+never : (a : Bool) (x : Option Plan) → None ≡ when (a && false) x
+never true x = refl
+never false x = refl
+
+nothing_then : (a : Bool) → nothing ≡ when a nothing
+nothing_then true = refl
+nothing_then false = refl
+
 module _ (t : Operation) (clean : Header → Bool) (n : ℕ) (p : Shape) (b : Standing Value) (ts : Standing TypeTerm) where
   pub plans : (ks : List BitsKind) → ks ≡ map kind_standing ts → (f : Bool) → f ≡ fits ks p → f ≡ true → (k : Bool) → k ≡ constants_known t clean n p b → k ≡ true
       → (steps : List Step) → steps ≡ Content.given (content_with ks p) → (env : List Outcome) → env ≡ outcomes t clean n p 0 p.values b → (after : List Outcome) (done : Bool) → check.Stands (run steps env) after done → done ≡ true
@@ -96,6 +111,24 @@ module _ (t : Operation) (clean : Header → Bool) (n : ℕ) (p : Shape) (b : St
       (λ i. run ((ap (λ z. Content.given (content_with z p)) (sym kinds) ∙ sym given_is) i) (sym outcomes_are i)) ∙ ran (run steps env) after done stands yes_done in
       is ∙ ap (λ z. given z (planned_from t clean n p b ts)) (sym third)
       ∙ ap (λ z. when z (given (run (Content.given (content_with (map kind_standing ts) p)) (outcomes t clean n p 0 p.values b)) (planned_from t clean n p b ts))) (sym ((λ i. first i && second i)))
+
+  pub not_fitting : (ks : List BitsKind) → ks ≡ map kind_standing ts → (f : Bool) → f ≡ fits ks p → f ≡ false → None ≡ planned_by t clean n p b ts
+  not_fitting ks kinds f fit failed =
+      ap (λ y. when (y && constants_known t clean n p b) (given (run (Content.given (content_with (map kind_standing ts) p)) (outcomes t clean n p 0 p.values b)) (planned_from t clean n p b ts)))
+      (sym failed ∙ fit ∙ ap (λ z. fits z p) kinds)
+
+  pub not_known : (k : Bool) → k ≡ constants_known t clean n p b → k ≡ false → None ≡ planned_by t clean n p b ts
+  not_known k known failed =
+      never (fits (map kind_standing ts) p) (given (run (Content.given (content_with (map kind_standing ts) p)) (outcomes t clean n p 0 p.values b)) (planned_from t clean n p b ts))
+      ∙ ap (λ y. when (fits (map kind_standing ts) p && y) (given (run (Content.given (content_with (map kind_standing ts) p)) (outcomes t clean n p 0 p.values b)) (planned_from t clean n p b ts))) (sym failed ∙ known)
+
+  pub not_computed : (ks : List BitsKind) → ks ≡ map kind_standing ts → (env : List Outcome) → env ≡ outcomes t clean n p 0 p.values b → (after : List Outcome) (done : Bool)
+      → check.Stands (run (Content.given (content_with ks p)) env) after done → done ≡ false → None ≡ planned_by t clean n p b ts
+  not_computed ks kinds env outcomes_are after done stands failed =
+      let none : run (Content.given (content_with (map kind_standing ts) p)) (outcomes t clean n p 0 p.values b) ≡ None =
+      (λ i. run (Content.given (content_with (sym kinds i) p)) (sym outcomes_are i)) ∙ not_ran (run (Content.given (content_with ks p)) env) after done stands failed in
+      nothing_then (fits (map kind_standing ts) p && constants_known t clean n p b)
+      ∙ ap (λ z. when (fits (map kind_standing ts) p && constants_known t clean n p b) (given z (planned_from t clean n p b ts))) (sym none)
 
   -- ---- what is made
 
@@ -134,3 +167,7 @@ made_none c n all (Some ms) os e is = absurd cc
 pub made_some : (c : Things) (n : ℕ) (all : Option (List Operation × Standing Value)) (ms : Option (List Made)) (os : List (Option Operand)) → AreAllMade c n all ms os → (made : List Made) → ms ≡ Some made → all ≡ Some (map (made_in c n) made, operands_in n os)
 made_some c n all None os e made is = absurd cc
 made_some c n all (Some ms) os e made is = e ∙ ap (λ z. Some (map (made_in c n) z, operands_in n os)) (let one : ms ≡ made = cc in one)
+
+-- what is answered is what is equal to it
+pub answers_same : {X E : Type 0} (r : Result X E) (view : X → Option Plan) (a b : Option Plan) → a ≡ b → IfOk r (λ x. view x ≡ a) → IfOk r (λ x. view x ≡ b)
+answers_same r view a b same h = rw (← same) h

@@ -1,5 +1,5 @@
 //! The operations of a pattern, matched in a module.
-ghost use Rattle.std.specs.Prelude.{◌≡◌, ◌<◌, ◌^◌, IfOk, IfSome, Option, Some, codes, option_map};
+ghost use Rattle.std.specs.Prelude.{◌≡◌, ◌<◌, ◌^◌, IfOk, IfSome, None, Option, Some, codes, option_map, true};
 ghost use Rattle.ir_event.specs.types.Things.{IsAttr};
 ghost use Rattle.ir_event.specs.types.Terms.{attr_term};
 ghost use Rattle.ir_event.specs.trees.Uses.{same_value};
@@ -147,6 +147,26 @@ pub(crate) fn old_begins(pattern: &Pattern) -> u128
     pattern.values.len() as u128 + pattern.further.len() as u128 + pattern.given.len() as u128
 }
 
+/// Whether an operation has another name than a pattern's root, so that the pattern isn't matched there: a test that
+/// takes no memory.
+fn is_other(world: &World, pattern: &Pattern, op: OpId) -> bool
+    ensures { result ≡ true → matched (module_in world.now).tree any (shape pattern.now) op ≡ None }
+{
+    let old = pattern.old.as_slice();
+    let pieces = old.len();
+    if pieces < 1 {
+        return false;
+    }
+    let last = pieces - 1;
+    if pattern.root as u128 != old_begins(pattern) + last as u128 {
+        return false;
+    }
+    let Some(node) = giver(world, &Value::Result(op, 0)) else {
+        return false;
+    };
+    !is_named(&world.ctx, node.name(), &old[last].form)
+}
+
 /// What stands at the places of a pattern where it is matched at an operation, whether what it matches is clean or not.
 pub(crate) fn match_pattern(
     alloc: Global,
@@ -157,6 +177,9 @@ pub(crate) fn match_pattern(
     ensures { IfOk result (λ values. option_map (λ v. v.items) values
         ≡ matched (module_in world.now).tree any (shape pattern.now) op) }
 {
+    if is_other(world, pattern, op) {
+        return Ok(None);
+    }
     let mut values = nothing_at(alloc, pattern)?;
     if !bind(pattern.root, &Value::Result(op, 0), &mut values) {
         return Ok(None);

@@ -1,11 +1,16 @@
 //! What a pattern makes of an operation.
-ghost use Rattle.std.specs.Prelude.{◌≡◌, IfOk, IfSome, map, option_map, true};
+ghost use Rattle.std.specs.Prelude.{◌≡◌, IfOk, IfSome, Some, map, option_map, true};
 ghost use Rattle.std.specs.List.{list_all};
 ghost use Rattle.ir_event.specs.Modules.{module_in};
 ghost use Rattle.dialects_int.specs.Folds.{known_of};
 ghost use Rattle.patterns_base.specs.Looks.{is_clean};
-ghost use Rattle.patterns_book.specs.Planning.{planned_by, planned_from};
+ghost use Rattle.patterns_check.specs.Checks.{Stands};
+ghost use Rattle.patterns_check.specs.Contents.{Content};
+ghost use Rattle.patterns_check.specs.Outcomes.{run};
+ghost use Rattle.patterns_book.specs.Fitting.{content_with};
+ghost use Rattle.patterns_book.specs.Planning.{kind_standing, planned_by, planned_from};
 ghost use Rattle.patterns_book.specs.Shapes.{shape};
+ghost use Rattle.patterns_matched.specs.Matched.{any, matched};
 ghost use Rattle.patterns_matched.specs.Built.{BuiltIsOf, plan_in, plan_of};
 ghost use Rattle.patterns_makeable.specs.Makeable.{is_named};
 ghost use Rattle.patterns_matched.specs.Types.{AreTypesOf, types_in};
@@ -18,7 +23,7 @@ use crate::pieces::{match_pattern, old_begins};
 use crate::types::BoundType;
 use crate::typing::{bound_types, kinds_of};
 use ir_event::trees::value::Value;
-use ir_event::types::bits::Bits;
+use ir_event::types::bits::{Bits, BitsKind};
 use ir_event::types::ids::OpId;
 use ir_event::world::World;
 use patterns_book::fitting::fits;
@@ -70,6 +75,50 @@ fn build(
     }
 }
 
+/// The numbers of a pattern are put behind those of its variables. The answer is whether all are computed.
+fn all_given(
+    alloc: Global,
+    kinds: &[BitsKind],
+    pattern: &Pattern,
+    env: &mut Vec<Option<Bits>>,
+) -> Result<bool, AllocError>
+    ensures { IfOk result (Stands (run (Content.given (content_with kinds.now (shape pattern.now)))
+        (map known_of env.old.items)) (map known_of env.new.items)) }
+{
+    let steps = given_steps(alloc, kinds, pattern)?;
+    run(&steps, env)
+}
+
+/// What a pattern makes, where these values and types stand, whose kinds are these.
+fn plan_with(
+    alloc: Global,
+    world: &World,
+    pattern: &Pattern,
+    values: &[Option<Value>],
+    types: &[Option<BoundType>],
+    kinds: &[BitsKind],
+) -> Result<Option<Built>, AllocError>
+    requires names { list_all is_named (shape pattern.now).new ≡ true }
+    requires of { AreTypesOf world.now.ctx types.now }
+    requires kinds { kinds.now ≡ map kind_standing (types_in world.now.ctx types.now) }
+    ensures plan { IfOk result (λ p. option_map (plan_in world.now.ctx (module_in world.now).next) p
+        ≡ planned_by (module_in world.now).tree (is_clean (module_in world.now).tree) (module_in world.now).next
+        (shape pattern.now) values.now (types_in world.now.ctx types.now)) }
+    ensures of { IfOk result (λ p. IfSome p (BuiltIsOf world.now.ctx)) }
+{
+    if !fits(kinds, pattern) {
+        return Ok(None);
+    }
+    if !all_known(alloc, world, pattern, values)? {
+        return Ok(None);
+    }
+    let mut env = outcomes(alloc, world, pattern, values)?;
+    if !all_given(alloc, kinds, pattern, &mut env)? {
+        return Ok(None);
+    }
+    build(alloc, world, pattern, values, types, &env)
+}
+
 /// What a pattern makes, where these values and types stand.
 fn plan_by(
     alloc: Global,
@@ -86,26 +135,43 @@ fn plan_by(
     ensures of { IfOk result (λ p. IfSome p (BuiltIsOf world.now.ctx)) }
 {
     let kinds = kinds_of(alloc, &world.ctx, types)?;
-    if !fits(&kinds, pattern) {
+    plan_with(alloc, world, pattern, values, types, &kinds)
+}
+
+/// What a pattern makes of an operation at which these values stand.
+///
+/// Cheap tests come first: that constants give what the pattern calls so. Only then it is asked whether what is matched
+/// is clean, which takes memory.
+fn plan_at(
+    alloc: Global,
+    world: &World,
+    pattern: &Pattern,
+    op: OpId,
+    values: &[Option<Value>],
+) -> Result<Option<Built>, AllocError>
+    requires matched { Some values.now ≡ matched (module_in world.now).tree any (shape pattern.now) op }
+    ensures plan { IfOk result (λ p. option_map (plan_in world.now.ctx (module_in world.now).next) p
+        ≡ plan_of (module_in world.now).tree (is_clean (module_in world.now).tree) (module_in world.now).next
+        (shape pattern.now) op) }
+    ensures of { IfOk result (λ p. IfSome p (BuiltIsOf world.now.ctx)) }
+{
+    if !are_constants(world, &pattern.constants, values) {
         return Ok(None);
     }
-    if !all_known(alloc, world, pattern, values)? {
+    if !is_makeable(pattern) {
         return Ok(None);
     }
-    let mut env = outcomes(alloc, world, pattern, values)?;
-    let steps = given_steps(alloc, &kinds, pattern)?;
-    if !run(&steps, &mut env)? {
+    if !all_clean(alloc, world, old_begins(pattern), &pattern.old, values)? {
         return Ok(None);
     }
-    let built = build(alloc, world, pattern, values, types, &env)?;
-    Ok(built)
+    let Some(types) = bound_types(alloc, world, pattern, values)? else {
+        return Ok(None);
+    };
+    plan_by(alloc, world, pattern, values, &types)
 }
 
 /// What a pattern makes of an operation, before anything is interned, where it applies and that can be put in front of
-/// the operation and given for it.
-///
-/// Cheap tests come first: the names of the operations that are matched, and that constants give what the pattern calls
-/// so. Only then it is asked whether these are clean, which takes memory.
+/// the operation and given for it. The names of the operations that are matched are looked at first, which is cheap.
 pub fn plan(
     alloc: Global,
     world: &World,
@@ -120,18 +186,5 @@ pub fn plan(
     let Some(values) = match_pattern(alloc, world, pattern, op)? else {
         return Ok(None);
     };
-    if !are_constants(world, &pattern.constants, &values) {
-        return Ok(None);
-    }
-    if !is_makeable(pattern) {
-        return Ok(None);
-    }
-    if !all_clean(alloc, world, old_begins(pattern), &pattern.old, &values)? {
-        return Ok(None);
-    }
-    let Some(types) = bound_types(alloc, world, pattern, &values)? else {
-        return Ok(None);
-    };
-    let built = plan_by(alloc, world, pattern, &values, &types)?;
-    Ok(built)
+    plan_at(alloc, world, pattern, op, &values)
 }

@@ -1,4 +1,4 @@
-use Rattle.std.proofs.Common.{◌≡◌, ◌+◌, ◌-◌, ◌≤◌, ◌++◌, [], eqb, length, map}
+use Rattle.std.proofs.Common.{◌≡◌, ◌++◌, length, map}
 use Rattle.patterns_formed.specs.Forming.{numbered}
 use Rattle.patterns_formed.proofs.finishing.all_numbered.Given as goal
 

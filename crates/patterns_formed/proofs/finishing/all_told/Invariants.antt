@@ -1,4 +1,4 @@
-use Rattle.std.proofs.Common.{◌≡◌, ◌+◌, ◌-◌, ◌≤◌, ◌++◌, [], eqb, length, map}
+use Rattle.std.proofs.Common.{◌≡◌, length}
 use Rattle.patterns_formed.specs.Forming.{all_told}
 use Rattle.patterns_formed.proofs.finishing.all_told.Given as goal
 

@@ -1,4 +1,4 @@
-use Rattle.std.proofs.Common.{◌≡◌, ◌+◌, ◌-◌, ◌≤◌, ◌++◌, [], eqb, length, map}
+use Rattle.std.proofs.Common.{◌≡◌, ◌+◌, ◌++◌, length}
 use Rattle.patterns_formed.specs.Forming.{constants_of}
 use Rattle.patterns_formed_base.specs.Views.{variable_views}
 use Rattle.patterns_formed.proofs.finishing.constants_of.Given as goal

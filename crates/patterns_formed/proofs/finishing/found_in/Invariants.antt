@@ -1,4 +1,4 @@
-use Rattle.std.proofs.Common.{◌≡◌, ◌+◌, ◌-◌, ◌≤◌, ◌++◌, [], eqb, length, map}
+use Rattle.std.proofs.Common.{◌≡◌, length}
 use Rattle.patterns_formed.specs.Forming.{found_in}
 use Rattle.patterns_formed.proofs.finishing.found_in.Given as goal
 

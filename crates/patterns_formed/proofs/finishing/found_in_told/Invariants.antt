@@ -1,4 +1,4 @@
-use Rattle.std.proofs.Common.{◌≡◌, ◌+◌, ◌-◌, ◌≤◌, ◌++◌, [], eqb, length, map}
+use Rattle.std.proofs.Common.{◌≡◌, length}
 use Rattle.patterns_formed.specs.Forming.{found_in, told_slots}
 use Rattle.patterns_formed.proofs.finishing.found_in_told.Given as goal
 

@@ -1,5 +1,5 @@
-use Rattle.std.proofs.Common.{◌≡◌, ◌+◌, ◌-◌, ◌≤◌, ◌++◌, [], eqb, length, map}
-use Rattle.std.specs.List.{list_any, range_with_len}
+use Rattle.std.proofs.Common.{◌≡◌, length}
+use Rattle.std.specs.List.{list_any}
 use Rattle.patterns_formed_base.specs.Types.{kind_of, same_kind}
 use Rattle.patterns_book.specs.declared.pattern.Kind.TheVariants as ty
 use Rattle.patterns_formed.proofs.finishing.is_told.Given as goal

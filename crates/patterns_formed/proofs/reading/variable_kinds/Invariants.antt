@@ -1,4 +1,4 @@
-use Rattle.std.proofs.Common.{◌≡◌, ◌+◌, ◌-◌, ◌≤◌, ◌++◌, [], eqb, length, map}
+use Rattle.std.proofs.Common.{◌≡◌, ◌++◌, length, map}
 use Rattle.patterns_book.specs.declared.pattern.Kind.TheVariants as ty
 use Rattle.patterns_formed.proofs.reading.variable_kinds.Given as goal
 

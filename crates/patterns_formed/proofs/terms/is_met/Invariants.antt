@@ -1,5 +1,5 @@
-use Rattle.std.proofs.Common.{◌≡◌, ◌+◌, ◌-◌, ◌≤◌, ◌++◌, [], eqb, length, map}
-use Rattle.std.specs.List.{list_any, range_with_len}
+use Rattle.std.proofs.Common.{◌≡◌, eqb, length}
+use Rattle.std.specs.List.{list_any}
 use Rattle.patterns_formed.proofs.terms.is_met.Given as goal
 
 abbrev pub invariant-places : goal.invariant-places
