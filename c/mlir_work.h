@@ -57,9 +57,10 @@ enum mlir_work_outcome {
   MLIR_WORK_REFUSED_AT = 9, /* and number: the byte of the text that is refused, counted from 0 */
   MLIR_WORK_NO_SESSION = 10, /* the handle is closed */
   MLIR_WORK_APPLIED = 11,   /* number: how often the rule or the pattern was applied, 0 or 1 */
-  MLIR_WORK_HOLDS = 12,     /* number: the width up to which a pattern gives what was there */
+  MLIR_WORK_HOLDS = 12,     /* number: the width up to which a pattern gives what was there; 0: at every width */
   MLIR_WORK_EMPTY = 13,     /* number: the width up to which a pattern applies nowhere */
-  MLIR_WORK_FAILS = 14      /* number: a width at which a pattern fails; the rows are shown */
+  MLIR_WORK_FAILS = 14,     /* number: a width at which a pattern fails; the rows are shown */
+  MLIR_WORK_UNREFUTED = 15  /* number: the width at which a pattern was sampled, and nothing found against it */
 };
 
 /* Why something is refused: docs/REFUSALS.md. */

@@ -16,9 +16,9 @@ from .way import Way
 VERSION, VARIABLE = 1, "MLIR_WORK_LIBRARY"
 NAME = "libmlir_work.so"
 DEFAULT_LIMIT = 1000
-_NOTHING, _OK, _MADE, _REFUSED, _REFUSED_ON, _REFUSED_AT, _NO_SESSION, _FAILS = 0, 1, 2, 7, 8, 9, 10, 14
-_COUNTED = {
-    3: "swept", 4: "converged", 5: "limit", 6: "converted", 11: "applied", 12: "holds", 13: "empty", _FAILS: "fails"}
+_NOTHING, _OK, _MADE, _REFUSED, _REFUSED_ON, _REFUSED_AT, _NO_SESSION, _HOLDS, _FAILS = 0, 1, 2, 7, 8, 9, 10, 12, 14
+_COUNTED = {3: "swept", 4: "converged", 5: "limit", 6: "converted", 11: "applied", _HOLDS: "holds", 13: "empty",
+            _FAILS: "fails", 15: "unrefuted"}
 _WORDS = {
     1: "BadToken", 2: "Unexpected", 3: "UnknownValue", 4: "Redefined", 5: "TypeMismatch", 6: "BadWidth", 7: "BadValue",
     8: "MultipleBlocks", 9: "Successors", 10: "TooDeep", 11: "TooMany", 12: "DuplicateKey", 13: "LeftOut",
@@ -85,6 +85,8 @@ def _said(answer: _Answer) -> str:
         return ""
     if outcome in (_OK, _MADE):
         return "ok" if outcome == _OK else f"ok #{number}"
+    if outcome == _HOLDS and not number:  # (at every width)
+        return _COUNTED[outcome]
     if outcome in _COUNTED:
         return f"{_COUNTED[outcome]} {number}"
     place = {_REFUSED_ON: f" #{number}", _REFUSED_AT: f" at {number}"}.get(outcome, "")

@@ -6,7 +6,7 @@ from .reply import Reply, lines_of
 
 class Pattern(NamedTuple):
     """A pattern that was defined: its name, its text, which may be defined again, and what its last check said, as
-    `holds 8` or `not checked`."""
+    `holds`, `holds 8` or `not checked`."""
 
     name: str
     text: str
@@ -14,9 +14,9 @@ class Pattern(NamedTuple):
 
 
 class Checked(NamedTuple):
-    """What a check says of a pattern. `verdict` is `holds`, `empty` (it applies nowhere) or `fails`, up to or at a
-    `width`. Where it fails `rows` has a name and an outcome for each variable, and for `old` and `new`: an attribute,
-    `poison` or `undefined`."""
+    """What a check says of a pattern. `verdict` is `holds`, `empty` (it applies nowhere), `fails`, or `unrefuted` of
+    one that was sampled, up to or at a `width`; that is 0 where it holds at every width. Where it fails `rows` has a
+    name and an outcome for each variable, and for `old` and `new`: an attribute, `poison` or `undefined`."""
 
     verdict: str
     width: int

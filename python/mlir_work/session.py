@@ -381,9 +381,11 @@ class Session:
         """The patterns that were defined, in their order."""
         return patterns_of(self.command("patterns").shown)
 
-    def check(self, name: str, width: Optional[int] = None) -> Checked:
-        """Tries a pattern for all values, at all widths up to one; that it fails raises nothing."""
-        return checked_of(self.command(f"check {name}" if width is None else f"check {name} width {width}"))
+    def check(self, name: str, width: Optional[int] = None, sampled: bool = False) -> Checked:
+        """Tries a pattern for all values, at all widths up to one; where it is sampled, for edge values and values by
+        chance at a width, which has to be said. That it fails raises nothing."""
+        asked = "" if width is None else f" width {width}"
+        return checked_of(self.command(f"check {name}{asked}" + " sampled" * sampled))
 
     # Marks and analyses.
 

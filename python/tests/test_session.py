@@ -135,9 +135,14 @@ class Calls(Case):
         self.assertEqual(found, ("fails", 2, (("%a", "-2 : i2"), ("c", "-2 : i2"), ("old", "1 : i2"),
                                               ("new", "-1 : i2"))))
         self.assertFalse(found.is_right)
-        self.assertEqual([s.check("double"), s.check("never")], [("holds", 8, ()), ("empty", 8, ())])
+        self.assertEqual([s.check("double", 9), s.check("never")], [("holds", 9, ()), ("empty", 8, ())])
         self.assertEqual([(it.name, it.said) for it in s.patterns()],
-                         [("half", "fails 2"), ("double", "holds 8"), ("never", "empty 8")])
+                         [("half", "fails 2"), ("double", "holds 9"), ("never", "empty 8")])
+        self.assertEqual([s.check("double"), s.check("half", 8, sampled=True).verdict], [("holds", 0, ()), "fails"])
+        s.pattern("twice arith.shli(%a, 1) => arith.addi(%a, %a)")
+        self.assertEqual(s.check("twice", 64, sampled=True), ("unrefuted", 64, ()))
+        self.assertEqual([(it.name, it.said) for it in s.patterns()],
+                         [("half", "fails 8"), ("double", "holds"), ("never", "empty 8"), ("twice", "unrefuted 64")])
         with session(PAIR) as other:
             for it in s.patterns():
                 other.pattern(it.text)
@@ -148,7 +153,8 @@ class Calls(Case):
             self.assertFalse(s.apply("double", 1))
         self.assertTrue(any(line.startswith('%2 = "arith.addi"(%0, %0)') for line in lines(s)))
         for line, number, at in (("check nope", 26, None), ("apply nope #1", 26, None),
-                                 ("check half width 0", 50, None),
+                                 ("check half width 0", 50, None), ("check half width 129 sampled", 50, None),
+                                 ("check half sampled", 60, None),
                                  ("pattern half arith.addi(%a, %b) => %a", 4, 0),
                                  ("pattern p arith.addi(%a, %b) => %c", 3, 24)):
             with self.assertRaises(mlir_work.Refused) as caught:

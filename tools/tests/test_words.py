@@ -47,6 +47,9 @@ WRONG = {
     "verify": "write `report diagnostics`",
     "source /none/s": "No such file",
     "check half": "26 NoSuchKey", "check 4": "`4` is no NAME: write `check NAME` or `check NAME width W`",
+    "check half sampled": "`sampled` stands where `width` is wanted: write `check NAME`",
+    "check half width 8 x": "`x` stands where `sampled` is wanted: write `check NAME width W`",
+    "check half width 8 sampled x": "`x` is too much: write `check NAME width W sampled`",
     "pattern": "the rest of the line is the pattern", "define half": "write `pattern PATTERN`",
     "pattern p arith.muli(%a) => %a": "5 TypeMismatch", "patterns x": "`x` is too much: write `patterns`",
 }
@@ -67,7 +70,7 @@ BEGUN = {
     "convert partial illegal arith.addi,arith.mu": ["arith.muli"], "convert partial rules 2": ["2", "25"],
     "apply drop-z": ["drop-zero"], "apply 4 #1": ["#1", "#10"], "help v1": ["v15"],
     "at #1": ["#1", "#10"], "find arith.mu": ["arith.muli"], "rollback ": ["here"],
-    "check ha": ["half"], "apply ha": ["half"], "check half ": ["width"],
+    "check ha": ["half"], "apply ha": ["half"], "check half ": ["width"], "check half width 8 ": ["sampled"],
     'insert before #8 "arith.mu': ['"arith.muli"'], "save /etc/hos": ["/etc/hosts"],
 }
 

@@ -21,8 +21,10 @@ notice_of (code.Checked told) = Checked told
 -- whether a check found that a pattern fails
 abbrev pub is_failure : Said → Bool
 is_failure (said.Holds w) = false
+is_failure said.Everywhere = false
 is_failure (said.Empty w) = false
 is_failure (said.Fails w) = true
+is_failure (said.Unrefuted w) = false
 
 -- whether all is well: a command was accepted, or a pattern doesn't fail
 abbrev pub is_well : Notice → Bool

@@ -5,10 +5,11 @@ use Rattle.ir_event.specs.types.declared.refusal.Refusal.TheVariants.{BadLimit, 
 use Rattle.ir_text_tokens.specs.Refusals.{refusal_of}
 use Rattle.rewriter_machine.specs.Commands.{Replied, TextRefusedAt}
 use Rattle.rewriter_machine.specs.Machine.{Done, Refused}
-use Rattle.mlir_work_script.specs.BookOrders.{BookOrder, Define, Patterns, Check}
+use Rattle.mlir_work_script.specs.BookOrders.{BookOrder, Define, Patterns, Check, Sample}
 use Rattle.patterns_text.specs.Refusing.{Outcome}
 use Rattle.patterns_judged.specs.Judged.{IsJudgement, IsUntried, asked_width, said_of}
 use Rattle.patterns_judged.specs.Rows.{rows_text}
+use Rattle.patterns_judged.specs.Sampled.{IsSampled, IsUnsampled}
 use Rattle.patterns_judged.specs.declared.judgement.Judgement.{Judgement}
 use Rattle.patterns_judged.specs.declared.judgement.Judgement.TheVariants as judgement
 use Rattle.patterns_judged.specs.declared.judgement.Said.{Said}
@@ -28,26 +29,46 @@ IsDefined (Err fault) text b notice bytes c =
 -- the rows of a counterexample, where there is one
 abbrev pub judgement_rows : Kept → Judgement → List ℕ
 judgement_rows k (judgement.Holds w) = []
+judgement_rows k judgement.Everywhere = []
 judgement_rows k (judgement.Empty w) = []
 judgement_rows k (judgement.Fails counterexample) = rows_text k.variables counterexample
+judgement_rows k (judgement.Unrefuted w) = []
 
--- what a check of a pattern up to a width says is true, and so are its rows
+-- what is said of a pattern is one of the judgements that are true of it, and so are its rows
+abbrev pub IsSaid : (Judgement → Type 0) → Kept → Said → List ℕ → Type 0
+IsSaid is_true k said bytes = (j : Judgement) × is_true j × (said ≡ said_of j) × (bytes ≡ judgement_rows k j)
+
+-- what a check of a pattern up to a width says is true, and what is said of it where it is sampled
 abbrev pub IsChecked : Kept → Option ℕ → Said → List ℕ → Type 0
-IsChecked k asked said bytes =
-    (j : Judgement) × IsJudgement k.shape (asked_width k.shape asked) j × (said ≡ said_of j) × (bytes ≡ judgement_rows k j)
+IsChecked k asked said bytes = IsSaid (IsJudgement k.shape asked) k said bytes
+
+abbrev pub IsSampledAs : Kept → ℕ → Said → List ℕ → Type 0
+IsSampledAs k w said bytes = IsSaid (IsSampled k.shape w) k said bytes
+
+-- something that may be said of the pattern of a name, with rows, is told and noted
+abbrev pub IsNoted : (Said → List ℕ → Type 0) → List ℕ → Book → Notice → List ℕ → Book → Type 0
+IsNoted is_said name b notice bytes c =
+    (said : Said) × is_said said bytes × (notice ≡ Checked said) × (c ≡ noted name said b)
 
 -- the pattern of a name is checked, which is noted; or the width is refused, or there is no pattern of that name
 abbrev pub Checks : Option Kept → List ℕ → Option ℕ → Book → Notice → List ℕ → Book → Type 0
 Checks None name asked b notice bytes c = IsRefused NoSuchKey b notice bytes c
 Checks (Some k) name asked b notice bytes c =
-    ((said : Said) × IsChecked k asked said bytes × (notice ≡ Checked said) × (c ≡ noted name said b))
+    IsNoted (IsChecked k asked) name b notice bytes c
     ⊎ (IsUntried k.shape (asked_width k.shape asked) × IsRefused BadLimit b notice bytes c)
+
+-- and sampled likewise
+abbrev pub Samples : Option Kept → List ℕ → ℕ → Book → Notice → List ℕ → Book → Type 0
+Samples None name w b notice bytes c = IsRefused NoSuchKey b notice bytes c
+Samples (Some k) name w b notice bytes c =
+    IsNoted (IsSampledAs k w) name b notice bytes c ⊎ (IsUnsampled k.shape w × IsRefused BadLimit b notice bytes c)
 
 -- what an order comes to where no memory is refused
 abbrev pub IsShelved : BookOrder → Book → Notice → List ℕ → Book → Type 0
 IsShelved (Define text) b notice bytes c = IsDefined (defined b text) text b notice bytes c
 IsShelved Patterns b notice bytes c = (notice ≡ Plain (Replied Done)) × (bytes ≡ listing_text b) × (c ≡ b)
 IsShelved (Check name asked) b notice bytes c = Checks (found name b) name asked b notice bytes c
+IsShelved (Sample name w) b notice bytes c = Samples (found name b) name w b notice bytes c
 
 -- from a book an order may be told this, with these bytes below it, and lead to another book
 abbrev pub Shelves : BookOrder → Book → Notice → List ℕ → Book → Type 0

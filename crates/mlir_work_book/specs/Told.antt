@@ -18,7 +18,7 @@ reply_line n (Replied (Refused refusal)) = refused_line n refusal
 reply_line n (Replied (RefusedOn refusal x)) = refused_on_line n refusal x
 reply_line n (TextRefusedAt refusal offset) = refused_at_line n refusal offset
 
--- `1 holds 8`, `1 empty 8`, `1 fails 2`
+-- `1 holds 8`, `1 holds`, `1 empty 8`, `1 fails 2`, `1 unrefuted 32`
 abbrev pub checked_line : ℕ → Said → List ℕ
 checked_line n said = decimal n ++ (codes " " ++ (said_text said ++ codes "\n"))
 

@@ -41,8 +41,10 @@ fn is_failure(said: Said) -> bool
 {
     match said {
         Said::Holds(_) => false,
+        Said::Everywhere => false,
         Said::Empty(_) => false,
         Said::Fails(_) => true,
+        Said::Unrefuted(_) => false,
     }
 }
 

@@ -4,12 +4,13 @@ ghost use Rattle.ir_event.specs.types.declared.refusal.Refusal.TheVariants.{Memo
 ghost use Rattle.ir_text_tokens.specs.Refusals.{refusal_of};
 ghost use Rattle.rewriter_machine.specs.Commands.{Replied, TextRefusedAt};
 ghost use Rattle.rewriter_machine.specs.Machine.{Refused};
-ghost use Rattle.mlir_work_script.specs.BookOrders.{Check, Define, Patterns, book_order_of};
+ghost use Rattle.mlir_work_script.specs.BookOrders.{Check, Define, Patterns, Sample, book_order_of};
 ghost use Rattle.patterns_judged.specs.Judged.{IsRefused, asked_width};
-ghost use Rattle.patterns_shelf.specs.Shelf.{book_view, kept_view};
-ghost use Rattle.mlir_work_book.specs.Notices.{IsWithin, Plain, notice_of};
+ghost use Rattle.patterns_judged.specs.Sampled.{IsNotSampled};
+ghost use Rattle.patterns_shelf.specs.Shelf.{book_view, kept_view, noted};
+ghost use Rattle.mlir_work_book.specs.Notices.{Checked, IsWithin, Plain, notice_of};
 ghost use Rattle.mlir_work_book.specs.Replies.{IsBounded, response_of};
-ghost use Rattle.mlir_work_book.specs.Shelves.{IsChecked, Shelves, judgement_rows};
+ghost use Rattle.mlir_work_book.specs.Shelves.{IsChecked, IsSampledAs, Shelves, judgement_rows};
 
 use crate::notice::{Notice, Noticed, replied};
 use crate::reply::Reply;
@@ -18,6 +19,7 @@ use ir_text_tokens::fault::Fault;
 use mlir_work_script::book_order::BookOrder;
 use patterns_judged::judgement::{Judgement, Said};
 use patterns_judged::judging::judge;
+use patterns_judged::sampling::sample;
 use patterns_shelf::book::{Book, Held, find, note};
 use patterns_shelf::define::define as define_in;
 use patterns_shelf::listing::{listing, rows};
@@ -69,8 +71,10 @@ fn rows_of(alloc: Global, held: &Held, judgement: &Judgement) -> Result<Vec<u8>,
 {
     match judgement {
         Judgement::Holds(_) => Ok(Vec::new(alloc)),
+        Judgement::Everywhere => Ok(Vec::new(alloc)),
         Judgement::Empty(_) => Ok(Vec::new(alloc)),
         Judgement::Fails(counterexample) => rows(alloc, held, counterexample),
+        Judgement::Unrefuted(_) => Ok(Vec::new(alloc)),
     }
 }
 
@@ -99,6 +103,19 @@ fn checked(alloc: Global, held: &Held, width: Option<u32>) -> Result<(Said, Vec<
     }
 }
 
+/// What is said of the pattern of a name is noted and told, with its rows.
+fn told(book: &mut Book, name: &[u8], said: Said, shows: Vec<u8>) -> Noticed
+    ensures book { book_view book.new ≡ noted name.now said (book_view book.old) }
+    ensures notice { notice_of result.notice ≡ Checked said }
+    ensures shows { result.shows ≡ shows }
+{
+    note(book, name, said);
+    Noticed {
+        notice: Notice::Checked(said),
+        shows,
+    }
+}
+
 /// Checks the pattern of a name, and notes what the check says.
 fn check(alloc: Global, book: &mut Book, name: &[u8], width: Option<u32>) -> Noticed
     ensures shelves { Shelves (Check name.now width) (book_view book.old) (notice_of result.notice) result.shows.items (book_view book.new) }
@@ -111,11 +128,37 @@ fn check(alloc: Global, book: &mut Book, name: &[u8], width: Option<u32>) -> Not
         Ok(found) => found,
         Err(refusal) => return replied(alloc, Reply::Refused(refusal)),
     };
-    note(book, name, said);
-    Noticed {
-        notice: Notice::Checked(said),
-        shows,
+    told(book, name, said, shows)
+}
+
+/// What is said of a pattern that is sampled at a width, and its rows.
+fn sampled(alloc: Global, held: &Held, width: u32) -> Result<(Said, Vec<u8>), Refusal>
+    ensures ok { IfOk result (λ x. IsSampledAs (kept_view held.now) width x.0 x.1.items) }
+    ensures err { IfErr result (IsNotSampled (kept_view held.now).shape width) }
+{
+    let judgement = match sample(alloc, &held.pattern, u64::from(width)) {
+        Ok(judgement) => judgement,
+        Err(refusal) => return Err(refusal),
+    };
+    match rows_of(alloc, held, &judgement) {
+        Ok(rows) => Ok((judgement.said(), rows)),
+        Err(_) => Err(Refusal::Memory),
     }
+}
+
+/// Samples the pattern of a name at a width, and notes what is said of it.
+fn sample_named(alloc: Global, book: &mut Book, name: &[u8], width: u32) -> Noticed
+    ensures shelves { Shelves (Sample name.now width) (book_view book.old) (notice_of result.notice) result.shows.items (book_view book.new) }
+    ensures bounded { (bytes : ℕ) → IsWithin bytes (notice_of result.notice) }
+{
+    let Some(held) = find(book, name) else {
+        return replied(alloc, Reply::Refused(Refusal::NoSuchKey));
+    };
+    let (said, shows) = match sampled(alloc, held, width) {
+        Ok(found) => found,
+        Err(refusal) => return replied(alloc, Reply::Refused(refusal)),
+    };
+    told(book, name, said, shows)
 }
 
 /// Carries out an order of an input of so many bytes over a book.
@@ -127,5 +170,6 @@ pub fn shelve(alloc: Global, bytes: usize, book: &mut Book, order: &BookOrder<'_
         BookOrder::Define(text) => replied(alloc, define(alloc, bytes, book, text)),
         BookOrder::Patterns => patterns(alloc, book),
         BookOrder::Check { name, width } => check(alloc, book, name, *width),
+        BookOrder::Sample { name, width } => sample_named(alloc, book, name, *width),
     }
 }

@@ -49,14 +49,24 @@ fn put_width<W: Sink>(writer: &mut W, n: u64, word: &[u8], width: u32) -> Result
     )
 }
 
+/// Writes a word behind a number.
+fn put_word<W: Sink>(writer: &mut W, n: u64, word: &[u8]) -> Result<(), WriteFault>
+    ensures { Puts (W.stream writer.old) (W.stream writer.new) (decimal n ++ (codes " " ++ (word.now ++ codes "\n"))) result }
+{
+    let mut command = Buffer::new();
+    put_all(writer, &[command.format(n).as_bytes(), b" ", word, b"\n"])
+}
+
 /// Writes what a check says.
 pub(crate) fn put_checked<W: Sink>(writer: &mut W, n: u64, said: Said) -> Result<(), WriteFault>
     ensures { Puts (W.stream writer.old) (W.stream writer.new) (checked_line n said) result }
 {
     match said {
         Said::Holds(width) => put_width(writer, n, b"holds ", width),
+        Said::Everywhere => put_word(writer, n, b"holds"),
         Said::Empty(width) => put_width(writer, n, b"empty ", width),
         Said::Fails(width) => put_width(writer, n, b"fails ", width),
+        Said::Unrefuted(width) => put_width(writer, n, b"unrefuted ", width),
     }
 }
 

@@ -131,8 +131,14 @@ Patterns of one's own, which no rollback takes away (docs/PATTERNS.md):
   pattern PATTERN            PATTERN, the rest of the line, is defined
   check NAME                 the pattern of that name is tried for all values
                              at all widths from 1 to 8, or to the greatest at
-                             which its variables have no more than 16 bits
-  check NAME width W         the same, at widths from 1 to W
+                             which its variables have no more than 16 bits;
+                             where it is right, its form may say that it is so
+                             at every width
+  check NAME width W         the same, at widths from 1 to W alone
+  check NAME width W sampled
+                             edge values and values by chance are tried alone,
+                             at types of W bits, of the half of it and of a
+                             quarter; W is 128 at most
 
 Marks, of which 16 may be open:
   begin                      a mark is made of the module
@@ -182,11 +188,13 @@ operation, what was made, if anything was, and whether the operation went, as
 `rewrote 11 add-negative #5 made #7,#8 erased #5`; a `convert` by how many rules
 stand, as `1 converted 2`, and with `trace` by such a line for each; an `apply`
 by `1 applied 1`, or `1 applied 0` where the rule doesn't apply; a `check` by
-the width up to which the pattern is right, as `1 holds 8`, or up to which it
-applies nowhere, as `1 empty 8`, or at which it is wrong, as `1 fails 2`, and
-then by which values, one a line. What is refused, as `1 refused 23 NotVisible`,
-changes nothing, and the next command is tried; `1 refused 2 Unexpected at 4`
-says at which byte the ATTRIBUTE, the OPERATION or the PATTERN is wrong, and
+the width up to which the pattern is right, as `1 holds 8`, or by `1 holds`
+where it is so at every width, or by the width up to which it applies nowhere,
+as `1 empty 8`, or at which it is wrong, as `1 fails 2`, and then by which
+values, one a line; one that is sampled, and finds none of these, by
+`1 unrefuted 32`. What is refused, as `1 refused 23 NotVisible`, changes
+nothing, and the next command is tried; `1 refused 2 Unexpected at 4` says at
+which byte the ATTRIBUTE, the OPERATION or the PATTERN is wrong, and
 `1 refused 51 NotLegalised #3` for which operation a `convert` is. Where a line
 expects a refusal and something else comes, `1 expected 22 HasUses` stands below
 the reply.

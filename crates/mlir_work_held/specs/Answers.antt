@@ -51,11 +51,13 @@ replied_of (Replied (Refused refusal)) shown = of_numbers 7 (number_of refusal) 
 replied_of (Replied (RefusedOn refusal x)) shown = of_numbers 8 (number_of refusal) x shown
 replied_of (TextRefusedAt refusal offset) shown = of_numbers 9 (number_of refusal) offset shown
 
--- what a check says of a pattern
+-- what a check says of a pattern; of one that is right at every width there is no number
 abbrev pub said_as : Said → ℕ → Answer
 said_as (said.Holds w) shown = of_numbers 12 0 w shown
+said_as said.Everywhere shown = of_numbers 12 0 0 shown
 said_as (said.Empty w) shown = of_numbers 13 0 w shown
 said_as (said.Fails w) shown = of_numbers 14 0 w shown
+said_as (said.Unrefuted w) shown = of_numbers 15 0 w shown
 
 -- what a line is told, below which so many bytes are shown
 abbrev pub answer_of : Notice → ℕ → Answer

@@ -18,8 +18,9 @@ pub struct Answer {
     /// 0: the line says nothing; 1: done; 2: done, and `number` is the operation that was made; 3: swept, `number`
     /// symbols; 4: converged after `number` rewrites; 5: stopped at the limit, after `number` rewrites; 6: converted by
     /// `number` rules; 7: refused; 8: refused because of operation `number`; 9: refused at byte `number` of a text; 10:
-    /// there is no session; 11: a rule or a pattern was applied `number` times; 12: a pattern holds up to width `number`;
-    /// 13: it applies nowhere up to that width; 14: it fails at that width.
+    /// there is no session; 11: a rule or a pattern was applied `number` times; 12: a pattern holds up to width `number`,
+    /// or, where that is 0, at every width; 13: it applies nowhere up to that width; 14: it fails at that width; 15:
+    /// nothing was found against it where it was sampled at that width.
     pub outcome: u32,
     /// The number of the refusal (docs/REFUSALS.md), or 0.
     pub refusal: u32,
@@ -112,8 +113,10 @@ fn said_as(said: Said, shown: u64) -> Answer
 {
     match said {
         Said::Holds(width) => of_numbers(12, 0, u64::from(width), shown),
+        Said::Everywhere => of_numbers(12, 0, 0, shown),
         Said::Empty(width) => of_numbers(13, 0, u64::from(width), shown),
         Said::Fails(width) => of_numbers(14, 0, u64::from(width), shown),
+        Said::Unrefuted(width) => of_numbers(15, 0, u64::from(width), shown),
     }
 }
 

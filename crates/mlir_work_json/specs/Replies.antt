@@ -30,10 +30,11 @@ refusal_members line =
 abbrev pub expected_members : List ℕ → List Member
 expected_members line = numeral (codes "expected") (cell line) ∷ text (codes "word") (behind line) ∷ []
 
--- the words of a check, behind which a width stands
+-- the words of a check, behind which a width may stand
 abbrev pub says_width : List ℕ → Bool
 says_width word =
-    bytes_eq word (codes "holds") || (bytes_eq word (codes "empty") || bytes_eq word (codes "fails"))
+    bytes_eq word (codes "holds") || (bytes_eq word (codes "empty")
+    || (bytes_eq word (codes "fails") || bytes_eq word (codes "unrefuted")))
 
 -- what the number behind a word is
 abbrev pub number_key : List ℕ → List ℕ
@@ -45,7 +46,7 @@ result_members word [] = []
 result_members word (b ∷ bs) =
     if b == 35 then text (codes "op") (b ∷ bs) ∷ [] else numeral (number_key word) (b ∷ bs) ∷ []
 
--- `ok`, `ok #12`, `converged 3`, `holds 8`
+-- `ok`, `ok #12`, `converged 3`, `holds 8`, `holds`
 abbrev pub done_members : List ℕ → List Member
 done_members line = text (codes "reply") (cell line) ∷ result_members (cell line) (behind line)
 
@@ -56,8 +57,9 @@ answer_members line =
     else if bytes_eq (cell line) (codes "expected") then expected_members (behind line)
     else done_members line
 
--- `1 ok`, `1 ok #12`, `1 converged 3`, `1 holds 8`, `1 refused 22 HasUses`, `1 refused 51 NotLegalised #2`,
--- `1 refused 3 UnknownValue at 17`, `1 refused 22 HasUses about #3 #5`, `1 expected 22 HasUses`
+-- `1 ok`, `1 ok #12`, `1 converged 3`, `1 holds 8`, `1 holds`, `1 unrefuted 32`, `1 refused 22 HasUses`,
+-- `1 refused 51 NotLegalised #2`, `1 refused 3 UnknownValue at 17`, `1 refused 22 HasUses about #3 #5`,
+-- `1 expected 22 HasUses`
 abbrev pub reply_members : List ℕ → List Member
 reply_members line = numeral (codes "n") (cell line) ∷ answer_members (behind line)
 

@@ -117,7 +117,7 @@ stayed_members line =
 
 -- ---- patterns of one's own
 
--- `holds 8`, or `not checked`
+-- `holds 8`, or `holds`, or `not checked`
 abbrev pub said_members : List ℕ → List Member
 said_members said =
     if is_some (number_of (behind said))

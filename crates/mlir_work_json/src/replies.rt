@@ -73,11 +73,14 @@ fn put_expected(object: &mut Object, alloc: Global, line: &[u8]) -> Result<(), A
     put_text(object, alloc, "word", word)
 }
 
-/// Whether a width stands behind a word, one of a check.
+/// Whether a width may stand behind a word, one of a check.
 fn says_width(word: &[u8]) -> bool
     ensures { result ≡ says_width word.now }
 {
-    word == b"holds".as_slice() || word == b"empty".as_slice() || word == b"fails".as_slice()
+    word == b"holds".as_slice()
+        || word == b"empty".as_slice()
+        || word == b"fails".as_slice()
+        || word == b"unrefuted".as_slice()
 }
 
 /// What the number behind a word is.
@@ -103,7 +106,7 @@ fn put_result(
     }
 }
 
-/// Puts what was done: `ok`, `ok #12`, `converged 3`, `holds 8`.
+/// Puts what was done: `ok`, `ok #12`, `converged 3`, `holds 8`, `holds`.
 fn put_done(object: &mut Object, alloc: Global, line: &[u8]) -> Result<(), AllocError>
     ensures { Puts result object.old object.new (done_members line.now) }
 {

@@ -246,7 +246,7 @@ pub(crate) fn put_stayed(object: &mut Object, alloc: Global, line: &[u8]) -> Res
     put_stay(object, alloc, said)
 }
 
-/// Puts what a check said: `holds 8`, or that there was none.
+/// Puts what a check said: `holds 8`, or `holds`, or that there was none.
 fn put_said(object: &mut Object, alloc: Global, said: &[u8]) -> Result<(), AllocError>
     ensures { Puts result object.old object.new (said_members said.now) }
 {

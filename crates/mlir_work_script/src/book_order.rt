@@ -1,7 +1,7 @@
 //! What a line may say of the patterns of one's own, which a session has in a book.
 ghost use Rattle.std.specs.Prelude.{◌≡◌, option_map};
 ghost use Rattle.mlir_work_script.specs.BookOrders.{book_order_in, book_order_named, book_order_of, check_in, checked_in};
-ghost use Rattle.mlir_work_script.specs.BookOrders.{define_in, is_name, patterns_in, width_in};
+ghost use Rattle.mlir_work_script.specs.BookOrders.{define_in, is_name, patterns_in, tried_in, width_in};
 
 use crate::numbers::number;
 use crate::words::split_word;
@@ -19,6 +19,13 @@ pub enum BookOrder<'a> {
         name: &'a [u8],
         /// The greatest width, where the line says so.
         width: Option<u32>,
+    },
+    /// `check NAME width W sampled` tries edge values, and values by chance, at a width.
+    Sample {
+        /// The name of the pattern, which there may not be.
+        name: &'a [u8],
+        /// The width.
+        width: u32,
     },
 }
 
@@ -52,7 +59,24 @@ fn is_name(word: &[u8]) -> bool
     }
 }
 
-/// `width W`, behind a name.
+/// What stands behind a width: nothing, or `sampled`.
+fn tried<'a>(name: &'a [u8], rest: &[u8], width: u32) -> Option<BookOrder<'a>>
+    ensures { option_map book_order_of result ≡ tried_in name.now rest.now width }
+{
+    if rest.is_empty() {
+        return Some(BookOrder::Check {
+            name,
+            width: Some(width),
+        });
+    }
+    let (word, left) = split_word(rest);
+    if word != b"sampled".as_slice() || !left.is_empty() {
+        return None;
+    }
+    Some(BookOrder::Sample { name, width })
+}
+
+/// `width W [sampled]`, behind a name.
 fn width<'a>(name: &'a [u8], text: &[u8]) -> Option<BookOrder<'a>>
     ensures { option_map book_order_of result ≡ width_in name.now text.now }
 {
@@ -61,14 +85,8 @@ fn width<'a>(name: &'a [u8], text: &[u8]) -> Option<BookOrder<'a>>
         return None;
     }
     let (width, left) = split_word(rest);
-    if !left.is_empty() {
-        return None;
-    }
     let width = number(width)?;
-    Some(BookOrder::Check {
-        name,
-        width: Some(width),
-    })
+    tried(name, left, width)
 }
 
 /// What stands behind a name.
@@ -81,7 +99,7 @@ fn checked<'a>(name: &'a [u8], rest: &[u8]) -> Option<BookOrder<'a>>
     width(name, rest)
 }
 
-/// `check NAME [width W]`, behind its name.
+/// `check NAME [width W [sampled]]`, behind its name.
 fn check(rest: &[u8]) -> Option<BookOrder<'_>>
     ensures { option_map book_order_of result ≡ check_in rest.now }
 {

@@ -1,5 +1,5 @@
 -- The greatest width up to one, step by step.
-use Rattle.std.proofs.Common.{◌≡◌, ◌∙◌, ℕ, zero, suc, ◌-◌, ◌<◌, Bool, true, false, if◌then◌else◌, ap, sym, arith}
+use Rattle.std.proofs.Common.{◌≡◌, ◌∙◌, ℕ, zero, suc, ◌-◌, ◌<◌, Bool, true, false, if◌then◌else◌, ap, arith}
 use Rattle.patterns_book.specs.Shapes.{Shape}
 use Rattle.patterns_judged.specs.Judged.{is_small, widest}
 

@@ -1,7 +1,6 @@
 -- What comes of a check that is asked for: up to which width, and what is told.
-use Rattle.std.specs.Prelude.{◌≡◌, ℕ, zero, suc, ◌<◌, ◌⊎◌, Bool, true, false, nat_le, if◌then◌else◌, List, [], ◌∷◌, map, max, replicate, slice_get, sum, Option, Some, None, option_map}
+use Rattle.std.specs.Prelude.{◌≡◌, ℕ, zero, suc, ◌<◌, ◌⊎◌, Bool, true, false, nat_le, if◌then◌else◌, List, [], ◌∷◌, map, max, replicate, slice_get, Option, Some, None, option_map}
 use Rattle.ir_types.specs.declared.bits.Bits.{Bits}
-use Rattle.ir_types.specs.Bits.{width_of}
 use Rattle.ir_types.specs.declared.refusal.Refusal.{Refusal}
 use Rattle.ir_types.specs.declared.refusal.Refusal.TheVariants.{BadLimit, Memory}
 use Rattle.dialects_int.specs.Folds.{known_of}
@@ -12,6 +11,8 @@ use Rattle.patterns_check.specs.Families.{IsFirst, IsVerdict, TooMany}
 use Rattle.patterns_check.specs.Outcomes.{Outcome, given, run}
 use Rattle.patterns_book.specs.Fitting.{content_at}
 use Rattle.patterns_book.specs.Shapes.{Shape}
+use Rattle.patterns_everywhere.specs.Everywhere.{is_everywhere}
+use Rattle.patterns_everywhere.specs.Lasting.{KeepsEverywhere}
 use Rattle.patterns_judged.specs.declared.judgement.Counterexample.{Counterexample}
 use Rattle.patterns_judged.specs.declared.judgement.Judgement.{Judgement}
 use Rattle.patterns_judged.specs.declared.judgement.Judgement.TheVariants as judgement
@@ -83,15 +84,30 @@ abbrev pub width_told : ℕ → List ℕ → ℕ
 width_told most [] = most
 width_told most (w ∷ ws) = greatest (w ∷ ws)
 
--- what is told of a check up to a width is true, and of counterexamples it is the first
-abbrev pub IsJudgement : Shape → ℕ → Judgement → Type 0
-IsJudgement p w (judgement.Holds v) = (v ≡ w) × IsVerdict (content_at p) p.types w verdict.Holds
-IsJudgement p w (judgement.Empty v) = (v ≡ w) × IsVerdict (content_at p) p.types w verdict.Empty
-IsJudgement p w (judgement.Fails c) =
-    (c.width ≡ width_told w c.widths.items)
-    × IsVerdict (content_at p) p.types w (verdict.Fails c.widths c.values)
-    × IsFirst (content_at p) p.types w (verdict.Fails c.widths c.values)
+-- where no width is asked, a pattern that is right at all that were tried may be told to be right at every width
+abbrev pub tells_everywhere : Shape → Option ℕ → Bool
+tells_everywhere p None = is_everywhere p
+tells_everywhere p (Some w) = false
+
+-- what is told of a check is true, and of counterexamples it is the first. It has a width of those at which all values
+-- were tried, but where it says that the pattern is right at every one
+abbrev pub IsJudgement : Shape → Option ℕ → Judgement → Type 0
+IsJudgement p asked (judgement.Holds v) =
+    (v ≡ asked_width p asked)
+    × IsVerdict (content_at p) p.types (asked_width p asked) verdict.Holds
+    × (tells_everywhere p asked ≡ false)
+IsJudgement p asked judgement.Everywhere =
+    (tells_everywhere p asked ≡ true)
+    × IsVerdict (content_at p) p.types (asked_width p asked) verdict.Holds
+    × KeepsEverywhere p
+IsJudgement p asked (judgement.Empty v) =
+    (v ≡ asked_width p asked) × IsVerdict (content_at p) p.types (asked_width p asked) verdict.Empty
+IsJudgement p asked (judgement.Fails c) =
+    (c.width ≡ width_told (asked_width p asked) c.widths.items)
+    × IsVerdict (content_at p) p.types (asked_width p asked) (verdict.Fails c.widths c.values)
+    × IsFirst (content_at p) p.types (asked_width p asked) (verdict.Fails c.widths c.values)
     × IsShown (content_at p c.widths.items) c
+IsJudgement p asked (judgement.Unrefuted v) = ⊥
 
 -- a width that isn't tried: 0, one above all that may be asked, or one at which there are too many values
 abbrev pub IsUntried : Shape → ℕ → Type 0
@@ -106,5 +122,7 @@ IsRefused p w _ = ⊥
 -- a judgement without its counterexample
 abbrev pub said_of : Judgement → Said
 said_of (judgement.Holds w) = said.Holds w
+said_of judgement.Everywhere = said.Everywhere
 said_of (judgement.Empty w) = said.Empty w
 said_of (judgement.Fails c) = said.Fails c.width
+said_of (judgement.Unrefuted w) = said.Unrefuted w

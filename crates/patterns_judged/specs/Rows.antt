@@ -1,12 +1,12 @@
 -- What is written of a check.
-use Rattle.std.specs.Prelude.{ℕ, Bool, true, false, ◌==◌, if◌then◌else◌, List, [], ◌∷◌, ◌++◌, codes, map, Option, Some, None, option_map}
+use Rattle.std.specs.Prelude.{ℕ, Bool, false, ◌==◌, if◌then◌else◌, List, [], ◌∷◌, ◌++◌, codes, map, Option, Some, None, option_map}
 use Rattle.std.specs.Fmt.{decimal, signed_decimal}
 use Rattle.ir_types.specs.declared.bits.Bits.{Bits}
 use Rattle.ir_types.specs.declared.bits.BitsKind.{BitsKind}
 use Rattle.ir_types.specs.declared.bits.BitsKind.TheVariants as kind
 use Rattle.ir_types.specs.Bits.{width_of}
 use Rattle.ir_types.specs.Readings.{signed_of}
-use Rattle.dialects_int.specs.Folds.{Known, known_of}
+use Rattle.dialects_int.specs.Folds.{known_of}
 use Rattle.patterns_check.specs.Outcomes.{Outcome}
 use Rattle.patterns_judged.specs.declared.judgement.Counterexample.{Counterexample}
 use Rattle.patterns_judged.specs.declared.judgement.Said.{Said}
@@ -66,5 +66,7 @@ rows_text vs c = values_text vs (map known_of c.shown.items) ++ (row_text (codes
 -- what is told of a check in short
 abbrev pub said_text : Said → List ℕ
 said_text (said.Holds w) = codes "holds " ++ decimal w
+said_text said.Everywhere = codes "holds"
 said_text (said.Empty w) = codes "empty " ++ decimal w
 said_text (said.Fails w) = codes "fails " ++ decimal w
+said_text (said.Unrefuted w) = codes "unrefuted " ++ decimal w

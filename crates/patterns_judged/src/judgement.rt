@@ -19,23 +19,29 @@ pub struct Counterexample {
     pub new: Option<Option<Bits>>,
 }
 
-/// What comes of trying a pattern at all widths up to one.
+/// What comes of trying a pattern.
 #[derive(Drop)]
 pub enum Judgement {
-    /// It gives what was there, for all values.
+    /// It gives what was there, for all values at all widths up to this one.
     Holds(u32),
+    /// It gives what was there, for all values at every width.
+    Everywhere,
     /// It doesn't apply for any values, or what is there is undefined.
     Empty(u32),
     /// It doesn't for these.
     Fails(Counterexample),
+    /// Of the values that were tried up to this width none tells against it.
+    Unrefuted(u32),
 }
 
 /// The same in short.
 #[derive(Clone, Copy)]
 pub enum Said {
     Holds(u32),
+    Everywhere,
     Empty(u32),
     Fails(u32),
+    Unrefuted(u32),
 }
 
 impl Judgement {
@@ -45,8 +51,10 @@ impl Judgement {
     {
         match self {
             Judgement::Holds(width) => Said::Holds(*width),
+            Judgement::Everywhere => Said::Everywhere,
             Judgement::Empty(width) => Said::Empty(*width),
             Judgement::Fails(counterexample) => Said::Fails(counterexample.width),
+            Judgement::Unrefuted(width) => Said::Unrefuted(*width),
         }
     }
 }

@@ -153,8 +153,10 @@ pub fn put_said(out: &mut Vec<u8>, said: Said) -> Result<(), AllocError>
 {
     match said {
         Said::Holds(width) => put_word(out, b"holds ", width),
+        Said::Everywhere => out.extend_from_slice(b"holds"),
         Said::Empty(width) => put_word(out, b"empty ", width),
         Said::Fails(width) => put_word(out, b"fails ", width),
+        Said::Unrefuted(width) => put_word(out, b"unrefuted ", width),
     }
 }
 

@@ -34,10 +34,14 @@ pub enum Outcome {
     Applied(u64),
     /// A pattern is right for all values up to this width.
     Holds(u64),
+    /// A pattern is right for all values at every width.
+    Everywhere,
     /// A pattern applies nowhere up to this width.
     Empty(u64),
     /// A pattern is wrong at this width; by which values is shown.
     Fails(u64),
+    /// Edge values, and values by chance, were tried at this width, and a pattern is right for them.
+    Unrefuted(u64),
 }
 
 /// Why a line or a module is refused. The session is as it was.
@@ -79,9 +83,11 @@ fn outcome(answer: &sys::Answer) -> Result<Outcome, Refused> {
         8 => refused(Some(answer.number), None),
         9 => refused(None, Some(answer.number)),
         11 => Ok(Outcome::Applied(answer.number)),
+        12 if answer.number == 0 => Ok(Outcome::Everywhere),
         12 => Ok(Outcome::Holds(answer.number)),
         13 => Ok(Outcome::Empty(answer.number)),
         14 => Ok(Outcome::Fails(answer.number)),
+        15 => Ok(Outcome::Unrefuted(answer.number)),
         _ => refused(None, None),
     }
 }

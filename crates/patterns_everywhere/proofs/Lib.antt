@@ -1,0 +1,16 @@
+pub mod BitValues
+pub mod BitRuns
+pub mod BitSides
+pub mod BitNarrow
+pub mod BitDecides
+pub mod PolyModulo
+pub mod PolyValues
+pub mod PolyZero
+pub mod PolyOutcomes
+pub mod PolyPlaces
+pub mod PolySteps
+pub mod PolyRuns
+pub mod PolyLaw
+pub mod PolyEverywhere
+pub mod Inserting
+pub mod Counting

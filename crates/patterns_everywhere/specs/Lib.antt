@@ -1,0 +1,4 @@
+pub mod Polynomials
+pub mod Everywhere
+pub mod Views
+pub mod Lasting
