@@ -11,8 +11,11 @@ use Rattle.patterns_meaning.proofs.TruthRules.{compare_itself_computing, compare
 use Rattle.patterns_meaning.proofs.NumberRules.{cancel_itself_computing, cancel_itself_ready, zero_remainder_computing, zero_remainder_ready}
 use Rattle.patterns_meaning.proofs.Casts.{cut_cast_computing, cut_cast_ready}
 use Rattle.patterns_meaning.proofs.Choosing.{choose_opposite_computing, choose_opposite_ready}
+use Rattle.patterns_meaning.proofs.Erasing.{erase_dead_computing, erase_dead_ready}
 use Rattle.patterns_meaning.proofs.Expanding.{expand_difference_computing, expand_difference_ready}
 use Rattle.patterns_meaning.proofs.Extremes.{expand_min_max_computing, expand_min_max_ready}
+use Rattle.patterns_meaning.proofs.Extending.{extend_extension_computing, extend_extension_ready}
+use Rattle.patterns_meaning.proofs.Folding.{fold_to_constant_computing, fold_to_constant_ready}
 use Rattle.patterns_meaning.proofs.Joining.{add_negative_computing, add_negative_ready, regroup_constants_computing, regroup_constants_ready}
 use Rattle.patterns_meaning.proofs.Mirroring.{mirror_comparison_computing, mirror_comparison_ready}
 use Rattle.patterns_meaning.proofs.OldRules.{choose_known_is, choose_same_is, drop_all_ones_is, drop_one_is, drop_zero_is, keep_itself_is}
@@ -31,7 +34,7 @@ one_kept (s ∷ rs) k r (inr i) = one_kept rs k.1 r i
 
 each_kept : AreAccepted → EachKept kept_rules
 each_kept accepted =
-    ((swap_constant_ready accepted, swap_constant_computing accepted), (drop_zero_is accepted, (drop_one_is accepted, (drop_all_ones_is accepted, ((cancel_itself_ready accepted, cancel_itself_computing accepted), (keep_itself_is accepted, ((zero_remainder_ready accepted, zero_remainder_computing accepted), ((regroup_constants_ready accepted, regroup_constants_computing accepted), ((add_negative_ready accepted, add_negative_computing accepted), ((compare_itself_ready accepted, compare_itself_computing accepted), ((mirror_comparison_ready accepted, mirror_comparison_computing accepted), ((compare_zero_ready accepted, compare_zero_computing accepted), (choose_same_is accepted, (choose_known_is accepted, (choose_truth_is accepted, ((choose_opposite_ready accepted, choose_opposite_computing accepted), ((cut_cast_ready accepted, cut_cast_computing accepted), ((expand_min_max_ready accepted, expand_min_max_computing accepted), ((expand_difference_ready accepted, expand_difference_computing accepted), tt)))))))))))))))))))
+    ((erase_dead_ready accepted, erase_dead_computing accepted), ((fold_to_constant_ready accepted, fold_to_constant_computing accepted), ((swap_constant_ready accepted, swap_constant_computing accepted), (drop_zero_is accepted, (drop_one_is accepted, (drop_all_ones_is accepted, ((cancel_itself_ready accepted, cancel_itself_computing accepted), (keep_itself_is accepted, ((zero_remainder_ready accepted, zero_remainder_computing accepted), ((regroup_constants_ready accepted, regroup_constants_computing accepted), ((add_negative_ready accepted, add_negative_computing accepted), ((compare_itself_ready accepted, compare_itself_computing accepted), ((mirror_comparison_ready accepted, mirror_comparison_computing accepted), ((compare_zero_ready accepted, compare_zero_computing accepted), (choose_same_is accepted, (choose_known_is accepted, (choose_truth_is accepted, ((choose_opposite_ready accepted, choose_opposite_computing accepted), ((extend_extension_ready accepted, extend_extension_computing accepted), ((cut_cast_ready accepted, cut_cast_computing accepted), ((expand_min_max_ready accepted, expand_min_max_computing accepted), ((expand_difference_ready accepted, expand_difference_computing accepted), tt))))))))))))))))))))))
 
 pub all_kept : AreAccepted → KeptAreKept
 all_kept accepted rs within r i = one_kept kept_rules (each_kept accepted) r (within r i)

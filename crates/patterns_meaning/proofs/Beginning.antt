@@ -1,6 +1,6 @@
 -- What the variables and constants of a pattern are, where it is matched.
 use Rattle.std.proofs.Common.{◌≡◌, ℕ, zero, suc, ◌+◌, ◌<◌, ◌≤◌, ◌^◌, refl, ap, sym, ◌∙◌, subst, List, [], ◌∷◌, ◌++◌, length, map, Bool, true, true≢false, eqb, eqb-true, Option, Some, None, slice_get, inl, inr, arith}
-use Rattle.std.specs.Prelude.{nat_lt, is_some, if◌then◌else◌, ◌==◌}
+use Rattle.std.specs.Prelude.{nat_lt, is_some, if◌then◌else◌}
 use Rattle.std.specs.List.{list_all, list_any}
 use Rattle.std.proofs.lemmas.Bool.{and_parts, or_cases, cases_eq, ltb-true}
 use Rattle.std.proofs.lemmas.Bool.Decides.{nat_tests}
@@ -12,10 +12,11 @@ use Rattle.ir_types.specs.Terms.{TypeTerm}
 use Rattle.ir_types.specs.Reasons.{is_width}
 use Rattle.ir_tree.specs.declared.value.Value.{Value}
 use Rattle.ir_tree.specs.Meaning.{Operation}
-use Rattle.dialects_int.specs.Folds.{Known, same_kind}
+use Rattle.dialects_int.specs.Folds.{Known}
 use Rattle.exhaustive.specs.Cases.{AreBelow}
 use Rattle.patterns_check.specs.Outcomes.{Outcome}
-use Rattle.patterns_check.specs.Checks.{bound, same_known}
+use Rattle.patterns_check.specs.Checks.{bound}
+use Rattle.patterns_check.proofs.Keeping.{one_known}
 use Rattle.patterns_laws.proofs.KnownFolds.{given_some, given_at}
 use Rattle.patterns_book.specs.declared.pattern.Further.{Further}
 use Rattle.patterns_book.specs.Fitting.{kind_at}
@@ -28,7 +29,6 @@ use Rattle.patterns_meaning.specs.Meaning.{Assignment, IsOfType}
 use Rattle.patterns_meaning.proofs.Standing.{AllTyped, Stands, one_stands, standing_stands, stands_standing}
 use Rattle.patterns_meaning.proofs.Trees.{TypesFound}
 use Rattle.patterns_meaning.proofs.Steps.{push_last, push_other}
-use Rattle.patterns_meaning.proofs.OfKinds.{same_kinds}
 use Rattle.patterns_meaning.proofs.Forms.{FitThere, constant_there, kind_is}
 use Rattle.patterns_meaning.proofs.Numbers.{Alike}
 
@@ -37,13 +37,6 @@ bits_below k n e = let h = and_parts (is_width (width_of k)) (nat_lt n (2 ^ widt
 
 bits_are : (k : BitsKind) (n : ℕ) → is_bits k n ≡ true → bits_of k n ≡ Some (k, n)
 bits_are k n e = ap (λ b. if b then Some (k, n) else None) e
-
-pub one_known : (x y : Known) → same_known x y ≡ true → x ≡ y
-one_known x y e =
-    let h = and_parts (same_kind x.0 y.0) (x.1 == y.1) e in
-    let k = same_kinds x.0 y.0 h.0 in
-    let n = eqb-true x.1 y.1 h.1 in
-    (λ i. (k i, n i))
 
 module _ (t : Operation) (clean : Header → Bool) (a : Assignment) (b : Standing Value) (ts : Standing TypeTerm) where
   -- ---- the variables' values, from a place on
@@ -97,10 +90,10 @@ module _ (t : Operation) (clean : Header → Bool) (a : Assignment) (b : Standin
       constant_there t clean a v x (λ h i. fits k v h s i) (ap (known t clean) (one_stands k v g.0 b s (standing_stands k g.0 b g.1)) ∙ g.2)
 
   module _ (n : ℕ) (p : Shape) where
-    abbrev outcome_at : ℕ → Outcome
+    abbrev pub outcome_at : ℕ → Outcome
     outcome_at k = if list_any (eqb k) p.constants then known_at t clean n p b k else None
 
-    outcomes_at : (k : ℕ) (tys : List ℕ) (i : ℕ) → i < length tys → slice_get (outcomes t clean n p k tys b) i ≡ Some (outcome_at (k + i))
+    pub outcomes_at : (k : ℕ) (tys : List ℕ) (i : ℕ) → i < length tys → slice_get (outcomes t clean n p k tys b) i ≡ Some (outcome_at (k + i))
     outcomes_at k [] i l = absurd (omega (arith, l))
     outcomes_at k (ty ∷ tys) zero l = ap (λ j. Some (outcome_at j)) (same k)
       where
@@ -111,7 +104,7 @@ module _ (t : Operation) (clean : Header → Bool) (a : Assignment) (b : Standin
         same : (k i : ℕ) → (k + 1) + i ≡ k + suc i
         same k i = omega arith
 
-    outcomes_long : (k : ℕ) (tys : List ℕ) → length (outcomes t clean n p k tys b) ≡ length tys
+    pub outcomes_long : (k : ℕ) (tys : List ℕ) → length (outcomes t clean n p k tys b) ≡ length tys
     outcomes_long k [] = refl
     outcomes_long k (ty ∷ tys) = ap suc (outcomes_long (k + 1) tys)
 

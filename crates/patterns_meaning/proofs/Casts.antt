@@ -3,7 +3,7 @@ use Rattle.std.proofs.Common.{◌≡◌, ℕ, ◌<◌, ◌≤◌, ◌%◌, ◌^�
 use Rattle.std.specs.Prelude.{codes, if◌then◌else◌}
 use Rattle.std.specs.List.{list_all}
 use Rattle.std.specs.Option.{option_eq}
-use Rattle.std.proofs.lemmas.Bool.{and_parts, lt-ltb, ltb-true}
+use Rattle.std.proofs.lemmas.Bool.{and_from, and_parts, lt-ltb, ltb-true}
 use Rattle.std.proofs.lemmas.Option.{none-some, same_Some}
 use Rattle.ir_types.specs.declared.bits.BitsKind.{BitsKind}
 use Rattle.ir_types.specs.Bits.{width_of}
@@ -50,7 +50,7 @@ use Rattle.patterns_meaning.proofs.Dropping.{old_improves, value_kind}
 use Rattle.patterns_meaning.proofs.Firsts.{poison_refined}
 use Rattle.patterns_meaning.proofs.Formed.{is_below, operands_stand}
 use Rattle.patterns_meaning.proofs.Forms.{makes_is, named_is}
-use Rattle.patterns_meaning.proofs.Giving.{after_new, all_hold}
+use Rattle.patterns_meaning.proofs.Giving.{after_new}
 use Rattle.patterns_meaning.proofs.Makings.{GivesNew, GivesOne, GivesOutcomes, MadeOne, all_agree, all_at, new_improves, new_ready, still_there, with_all}
 use Rattle.patterns_meaning.proofs.Monotone.{same_refined}
 use Rattle.patterns_meaning.proofs.OfBits.{resize_bits}
@@ -73,7 +73,7 @@ module _ (f : Value → Option BitsKind) where
     of = of;
     bare = refl;
     risen = refl;
-    takes = ap (λ r. takes_cast r) e ∙ all_hold (is_width (width_of k)) (narrows c (f v) k) width n;
+    takes = ap (λ r. takes_cast r) e ∙ and_from (is_width (width_of k)) (narrows c (f v) k) width n;
   }
     where
       takes_cast : Option Way → Bool
@@ -111,12 +111,12 @@ module _ (a : Assignment) (done : ℕ → Bool) (n x : ℕ) (zs : List Outcome) 
     of = resize_kind [] [] nothing c k (a v) (cast_outcome c k (a v)) total;
     bits = resize_bits c k (a v) (cast_outcome c k (a v)) total;
     made = λ d. makes_is (head (cast name ty v)) (with_all a n None zs v ∷ []) (how.Resize c) k e of ∙ ap (λ o. resize_outcome c k o) (all_agree a n None zs v l) ∙ total;
-    sure = ap (λ r. is_signed_quotient r && is_poison_by_ones (with_all a n None zs v ∷ [])) e;
-    fed = λ d. all_hold (is_there (done_after n x done) v) true (still_there n x done v l (there d)) refl;
+    sure = λ d. ap (λ r. is_signed_quotient r && is_poison_by_ones (with_all a n None zs v ∷ [])) e;
+    fed = λ d. and_from (is_there (done_after n x done) v) true (still_there n x done v l (there d)) refl;
   }
 
 -- ---- a cast of a cast
-twice_refined : (c d : Cast) (j k : BitsKind) (o p z out : Outcome) → resize_outcome d k p ≡ Some z → (resize_outcome c j o ≡ Some p) ⊎ (p ≡ None)
+pub twice_refined : (c d : Cast) (j k : BitsKind) (o p z out : Outcome) → resize_outcome d k p ≡ Some z → (resize_outcome c j o ≡ Some p) ⊎ (p ≡ None)
     → ((y : Known) (b i : ℕ) → o ≡ Some y → cast_of c (width_of y.0) (width_of j) y.1 ≡ Some b → cast_of d (width_of j) (width_of k) b ≡ Some i → refines (Some (k, i)) out ≡ true) → refines z out ≡ true
 twice_refined c d j k o p z out e made f = elim (resized d k p z e) [
   | inl none ↦ poison_refined z out none
@@ -136,7 +136,7 @@ twice_refined c d j k o p z out e made f = elim (resized d k p z e) [
       | inr g ↦ both r g
     ]
 
-cast_refined : (e : Cast) (k : BitsKind) (o : Outcome) (y : Known) (i : ℕ) → o ≡ Some y → cast_of e (width_of y.0) (width_of k) y.1 ≡ Some i → refines (Some (k, i)) (cast_outcome e k o) ≡ true
+pub cast_refined : (e : Cast) (k : BitsKind) (o : Outcome) (y : Known) (i : ℕ) → o ≡ Some y → cast_of e (width_of y.0) (width_of k) y.1 ≡ Some i → refines (Some (k, i)) (cast_outcome e k o) ≡ true
 cast_refined e k o y i is c =
     same_refined (Some (k, i)) (cast_outcome e k o)
     (sym (ap (cast_outcome e k) is ∙ ap (λ q. given (given q (λ b. Some (Some (k, b)))) (λ z. z)) c))
@@ -181,7 +181,7 @@ module _ (m : Module) (test : Header → Bool) (v : Value) (h : Header) (s : Sol
 
 -- what a cast that is done gives refines what all that it makes refines
 module _ (m : Module) (a : Assignment) (done : ℕ → Bool) (x : ℕ) (o : Operation) (s : Site m a done x o) where
-  cast_result : (c : Cast) (v : Value) (k : BitsKind) (y : Outcome) → rule_of (head o).name ≡ Some (how.Resize c) → result_kind (head o) ≡ Some k → (head o).operands ≡ v ∷ [] → done x ≡ true → ((z : Outcome) → resize_outcome c k (a v) ≡ Some z → refines z y ≡ true) → refines (a (Result x 0)) y ≡ true
+  pub cast_result : (c : Cast) (v : Value) (k : BitsKind) (y : Outcome) → rule_of (head o).name ≡ Some (how.Resize c) → result_kind (head o) ≡ Some k → (head o).operands ≡ v ∷ [] → done x ≡ true → ((z : Outcome) → resize_outcome c k (a v) ≡ Some z → refines z y ≡ true) → refines (a (Result x 0)) y ≡ true
   cast_result c v k y e is ops d f =
       let r = of_rule m a done x o s (how.Resize c) e in
       let same : r.kind ≡ k = same_Some _ _ (sym r.is ∙ is) in
@@ -206,7 +206,7 @@ cut_back_to cuts.Truncate u v a b d e s l h i j = absurd (true≢false (sym e))
 cut_back_to cuts.ExtendSigned u v a b d e s l h i j = same_Some d a (sym j ∙ ap (truncated v u) (sym (same_Some (sign_extended u v a) b i)) ∙ truncated_back u v a s l h)
 cut_back_to cuts.ExtendUnsigned u v a b d e s l h i j = same_Some d a (sym j ∙ ap (truncated v u) (sym (same_Some (zero_extended v a) b i)) ∙ truncated_zeros_back u v a l h)
 
-of_type : (t : Operation) (ty : TypeTerm) (v : Value) → is_of_type t ty v ≡ true → kind_in t v ≡ kind_of ty
+pub of_type : (t : Operation) (ty : TypeTerm) (v : Value) → is_of_type t ty v ≡ true → kind_in t v ≡ kind_of ty
 of_type t ty v e = go (type_of_value v t) e
   where
     go : (o : Option TypeTerm) → option_eq same_type o (Some ty) ≡ true → given o kind_of ≡ kind_of ty

@@ -2,7 +2,7 @@
 use Rattle.std.proofs.Common.{◌≡◌, ℕ, ◌<◌, ◌^◌, refl, ap, sym, ◌∙◌, subst, [], ◌∷◌, map, Bool, true, ◌&&◌, eqb, eqb-true, Some, None, ◌⊎◌, inl, inr}
 use Rattle.std.specs.Prelude.{bit_xor, codes, if◌then◌else◌}
 use Rattle.std.specs.List.{list_all}
-use Rattle.std.proofs.lemmas.Bool.{and_parts}
+use Rattle.std.proofs.lemmas.Bool.{and_from, and_parts}
 use Rattle.std.proofs.lemmas.Option.{none-some, same_Some}
 use Rattle.ir_types.specs.declared.bits.BitsKind.{BitsKind}
 use Rattle.ir_types.specs.declared.bits.BitsKind.TheVariants as kind
@@ -46,7 +46,6 @@ use Rattle.patterns_meaning.proofs.Extremes.{select_is, select_out}
 use Rattle.patterns_meaning.proofs.Firsts.{by_select}
 use Rattle.patterns_meaning.proofs.Formed.{operands_stand}
 use Rattle.patterns_meaning.proofs.Forms.{makes_is, named_is}
-use Rattle.patterns_meaning.proofs.Giving.{all_hold}
 use Rattle.patterns_meaning.proofs.Monotone.{same_refined}
 use Rattle.patterns_meaning.proofs.Pairs.{Paired, paired}
 use Rattle.patterns_meaning.proofs.Readied.{Rises, Takes, each_rises, same_takes}
@@ -177,8 +176,8 @@ module _ (accepted : AreAccepted) where
           let js = kinds w.condition ∷ kinds w.third ∷ kinds w.second ∷ [] in
           same_takes (head q.here) (head q.here).id (w.condition ∷ w.third ∷ w.second ∷ []) js
           ∙ ap (λ r. takes_its r (result_kind (head q.here)) (head q.here) js) w.name ∙ ap (λ k. takes_its (Some how.Select) k (head q.here) js) k.is
-          ∙ all_hold (is_width (width_of k.own_kind)) (is_kind (kind.Int 1) (kinds w.condition) && (is_kind k.own_kind (kinds w.third) && is_kind k.own_kind (kinds w.second))) k.width
-          (all_hold (is_kind (kind.Int 1) (kinds w.condition)) (is_kind k.own_kind (kinds w.third) && is_kind k.own_kind (kinds w.second)) k.condition_is (all_hold (is_kind k.own_kind (kinds w.third)) (is_kind k.own_kind (kinds w.second)) k.third_is k.second_is))
+          ∙ and_from (is_width (width_of k.own_kind)) (is_kind (kind.Int 1) (kinds w.condition) && (is_kind k.own_kind (kinds w.third) && is_kind k.own_kind (kinds w.second))) k.width
+          (and_from (is_kind (kind.Int 1) (kinds w.condition)) (is_kind k.own_kind (kinds w.third) && is_kind k.own_kind (kinds w.second)) k.condition_is (and_from (is_kind k.own_kind (kinds w.third)) (is_kind k.own_kind (kinds w.second)) k.third_is k.second_is))
 
       module _ (a : Assignment) (done : ℕ → Bool) (computing : Computing a done m.tree) where
         site : Site m a done x q.here
@@ -247,11 +246,11 @@ module _ (accepted : AreAccepted) where
               };
               sure = λ d. ap (λ r. is_signed_quotient r && is_poison_by_ones (a w.condition ∷ a w.third ∷ a w.second ∷ [])) w.name;
               values =
-                  all_hold (has_value w.condition m.tree) (has_value w.third m.tree && (has_value w.second m.tree && true)) k.condition
-                  (all_hold (has_value w.third m.tree) (has_value w.second m.tree && true) k.third (all_hold (has_value w.second m.tree) true k.second refl));
+                  and_from (has_value w.condition m.tree) (has_value w.third m.tree && (has_value w.second m.tree && true)) k.condition
+                  (and_from (has_value w.third m.tree) (has_value w.second m.tree && true) k.third (and_from (has_value w.second m.tree) true k.second refl));
               fed = λ d.
-                  all_hold (is_there done w.condition) (is_there done w.third && (is_there done w.second && true)) (inner_there d)
-                  (all_hold (is_there done w.third) (is_there done w.second && true) (three.third_there d) (all_hold (is_there done w.second) true (three.second_there d) refl));
+                  and_from (is_there done w.condition) (is_there done w.third && (is_there done w.second && true)) (inner_there d)
+                  (and_from (is_there done w.third) (is_there done w.second && true) (three.third_there d) (and_from (is_there done w.second) true (three.second_there d) refl));
             }
 
   pub choose_opposite_ready : KeepsReady ChooseOpposite

@@ -14,6 +14,7 @@ use Rattle.dialects_int.specs.Arithmetic.{choice_of}
 use Rattle.dialects_int.specs.Folds.{Known, kind_of, rule_of}
 use Rattle.patterns_check.specs.Outcomes.{Outcome, given}
 use Rattle.patterns_check.specs.Checks.{refines}
+use Rattle.patterns_check.proofs.Keeping.{same_kinds}
 use Rattle.patterns_laws.specs.Made.{i1}
 use Rattle.patterns_laws.specs.Words.{named}
 use Rattle.patterns_laws.proofs.KnownFolds.{below}
@@ -30,7 +31,6 @@ use Rattle.patterns_meaning.proofs.Dropping.{Keeps, choice_refined, kind_by, kno
 use Rattle.patterns_meaning.proofs.Firsts.{by_select}
 use Rattle.patterns_meaning.proofs.Forms.{named_is}
 use Rattle.patterns_meaning.proofs.Monotone.{same_refined}
-use Rattle.patterns_meaning.proofs.OfKinds.{same_kinds}
 use Rattle.patterns_meaning.proofs.Ruled.{of_rule, ruled, site_of, value_bits}
 use Rattle.patterns_meaning.proofs.StaysReady.{GivesOld, keeps_computing, old_ready}
 

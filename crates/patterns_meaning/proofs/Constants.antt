@@ -58,7 +58,7 @@ pub record GivesNumber (r : Rule) (m n : Module) (x : ℕ) (q : Ruled r m n x) :
   pub width : is_width (width_of kind) ≡ true
   pub edits : give_constant q.front m.next (head q.here).id ty bits ≡ q.edits
 
-constant_folds : (ty : TypeTerm) (k : BitsKind) (n : ℕ) → kind_of ty ≡ Some k → fold_of (head (constant ty n)).name (head (constant ty n)).properties [] (head (constant ty n)).results ≡ Some (k, n)
+pub constant_folds : (ty : TypeTerm) (k : BitsKind) (n : ℕ) → kind_of ty ≡ Some k → fold_of (head (constant ty n)).name (head (constant ty n)).properties [] (head (constant ty n)).results ≡ Some (k, n)
 constant_folds ty k n e = subst (λ ty. fold_of (head (constant ty n)).name (head (constant ty n)).properties [] (head (constant ty n)).results ≡ Some (k, n)) (sym (type_is_of ty k e)) (constant_gives k n)
 
 module _ (r : Rule) (m n : Module) (x : ℕ) (q : Ruled r m n x) (g : GivesNumber r m n x q) where

@@ -32,6 +32,7 @@ use Rattle.rewriter_machine.specs.Contents.{all_edited}
 use Rattle.patterns_edits.specs.Lists.{Free}
 use Rattle.patterns_check.specs.Outcomes.{Outcome, given, pair_outcome, select_outcome}
 use Rattle.patterns_check.specs.Checks.{refines}
+use Rattle.patterns_check.proofs.Keeping.{value_refined}
 use Rattle.patterns_laws.specs.Words.{among, ignoring_one, ignoring_zero, keeping, named}
 use Rattle.patterns_laws.proofs.KnownFolds.{given_some}
 use Rattle.patterns_base.specs.declared.rule.Rule.{Rule}
@@ -51,9 +52,9 @@ use Rattle.patterns_meaning.specs.Keeping.{Computing, Improves, done_after, is_t
 use Rattle.patterns_meaning.proofs.Firsts.{Firsts, IsPair, both_kept, by_and, by_select, chosen_kept, first_kept, keeping_pairs, one_first, one_pairs, ones_first, zero_first, zero_pairs}
 use Rattle.patterns_meaning.proofs.Forms.{named_is}
 use Rattle.patterns_meaning.proofs.Giving.{given_improves, old_given}
-use Rattle.patterns_meaning.proofs.Monotone.{itself, known_refined}
-use Rattle.patterns_meaning.proofs.OfKinds.{same_kinds}
+use Rattle.patterns_meaning.proofs.Monotone.{itself}
 use Rattle.patterns_meaning.proofs.Ruled.{Ruled, Site, gives_refined, known_there, of_rule, ruled, site_of, value_bits}
+use Rattle.patterns_meaning.proofs.Sources.{kind_test}
 use Rattle.patterns_meaning.proofs.Trees.{value_below}
 
 -- ---- where it gives a value of before
@@ -130,12 +131,8 @@ module _ (m : Module) (a : Assignment) (done : ℕ → Bool) (x : ℕ) (o : Oper
       let g = given_some (type_of_value v m.tree) kind_of l i in
       same_Some _ _ (sym (subst (λ o. IsOfType g.0 o) e (s.types v g.0 g.1)).0 ∙ g.2)
 
-  kind_of_test : (k : BitsKind) (j : Option BitsKind) → is_kind k j ≡ true → j ≡ Some k
-  kind_of_test k None e = absurd (true≢false (sym e))
-  kind_of_test k (Some j) e = ap (λ z. Some z) (same_kinds j k e)
-
   pub kind_by : (v : Value) (k : BitsKind) (y : Known) → is_kind k (kind_in m.tree v) ≡ true → a v ≡ Some y → y.0 ≡ k
-  kind_by v k y i e = value_kind v k y (kind_of_test k (kind_in m.tree v) i) e
+  kind_by v k y i e = value_kind v k y (kind_test k (kind_in m.tree v) i) e
 
 pub widths : (ty : TypeTerm) (k : BitsKind) → kind_of ty ≡ Some k → type_width ty ≡ width_of k
 widths (term.Integer Signless w) k e = ap width_of (same_Some (kind.Int w) k e)
@@ -169,7 +166,7 @@ chosen_better c p q y e f = go (c == 0)
 
 -- ---- what constants say
 pub known_is : (m : Module) (a : Assignment) (done : ℕ → Bool) → IsWellFormed is_isolated m → AreKinded m.tree → Computing a done m.tree → (v : Value) (k y : Known) → has_value v m.tree ≡ true → is_there done v ≡ true → known m.tree v ≡ Some k → a v ≡ Some y → k ≡ y
-known_is m a done formed kinded computing v k y h there e i = same_Some _ _ (known_refined y (Some k) (subst (λ o. refines o (Some k) ≡ true) i (known_there m a done formed computing kinded v k h there e)))
+known_is m a done formed kinded computing v k y h there e i = same_Some _ _ (value_refined y (Some k) (subst (λ o. refines o (Some k) ≡ true) i (known_there m a done formed computing kinded v k h there e)))
 
 pub known_test : (test : Known → Bool) (o : Option Known) → passes test o ≡ true → (k : Known) × (o ≡ Some k) × (test k ≡ true)
 known_test test None e = absurd (true≢false (sym e))

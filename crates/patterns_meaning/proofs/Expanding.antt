@@ -2,7 +2,7 @@
 use Rattle.std.proofs.Common.{◌≡◌, ℕ, ◌+◌, ◌<◌, ◌^◌, ◌-◌, refl, ap, sym, ◌∙◌, subst, [], ◌∷◌, map, Bool, true, ◌&&◌, Some, None, inl, inr, slice_get, arith}
 use Rattle.std.specs.Prelude.{bit_xor, codes, nat_lt}
 use Rattle.std.specs.List.{list_all}
-use Rattle.std.proofs.lemmas.Bool.{and_parts, lt-ltb, ltb-true}
+use Rattle.std.proofs.lemmas.Bool.{and_from, and_parts, lt-ltb, ltb-true}
 use Rattle.std.proofs.lemmas.Nat.{pow_pos}
 use Rattle.std.proofs.lemmas.Option.{same_Some}
 use Rattle.ir_types.specs.declared.bits.BitsKind.{BitsKind}
@@ -44,7 +44,7 @@ use Rattle.patterns_meaning.proofs.Dropping.{kind_by, of_two_is, pair_refined, w
 use Rattle.patterns_meaning.proofs.Firsts.{poison_refined}
 use Rattle.patterns_meaning.proofs.Formed.{is_below, operands_stand}
 use Rattle.patterns_meaning.proofs.Forms.{named_is}
-use Rattle.patterns_meaning.proofs.Giving.{after_new, all_hold}
+use Rattle.patterns_meaning.proofs.Giving.{after_new}
 use Rattle.patterns_meaning.proofs.Joining.{by_add, by_subtract}
 use Rattle.patterns_meaning.proofs.Makings.{GivesNew, GivesOutcomes, all_agree, all_at, new_improves, new_ready, still_there, with_all}
 use Rattle.patterns_meaning.proofs.Monotone.{same_refined}
@@ -59,13 +59,13 @@ unfolding rule_of rules
 by_exclusive_or = refl
 
 ones_fit : (k : BitsKind) → is_width (width_of k) ≡ true → is_bits k (all_ones (width_of k)) ≡ true
-ones_fit k w = all_hold (is_width (width_of k)) _ w (less (width_of k))
+ones_fit k w = and_from (is_width (width_of k)) _ w (less (width_of k))
   where
     less : (w : ℕ) → nat_lt (2 ^ w - 1) (2 ^ w) ≡ true
     less w = lt-ltb (2 ^ w - 1) (2 ^ w) (omega (arith, pow_pos w))
 
 one_fits : (k : BitsKind) → is_width (width_of k) ≡ true → is_bits k 1 ≡ true
-one_fits k w = all_hold (is_width (width_of k)) (nat_lt 1 (2 ^ width_of k)) w (lt-ltb 1 (2 ^ width_of k) (one_below (width_of k) (ltb-true 0 (width_of k) (and_parts (nat_lt 0 (width_of k)) _ w).0)))
+one_fits k w = and_from (is_width (width_of k)) (nat_lt 1 (2 ^ width_of k)) w (lt-ltb 1 (2 ^ width_of k) (one_below (width_of k) (ltb-true 0 (width_of k) (and_parts (nat_lt 0 (width_of k)) _ w).0)))
 
 -- ---- an operation on two values that stand
 pub record OnTwo (r : Rule) (m n : Module) (x : ℕ) (q : Ruled r m n x) (u v : Value) (ty : TypeTerm) : Type 0 where
@@ -101,7 +101,7 @@ on_two_values r m n x q o u v ty ready name ops results =
     }
 
 -- ---- what stands at the third result and behind it
-third_at : {X : Type 0} (c : Value → X) (n : ℕ) (z : X) → c (Result (n + 1 + 1) 0) ≡ z → c (Result (n + 2) 0) ≡ z
+pub third_at : {X : Type 0} (c : Value → X) (n : ℕ) (z : X) → c (Result (n + 1 + 1) 0) ≡ z → c (Result (n + 2) 0) ≡ z
 third_at c n z e = subst (λ y. c (Result y 0) ≡ z) same e
   where
     same : n + 1 + 1 ≡ n + 2

@@ -2,6 +2,7 @@
 use Rattle.std.proofs.Common.{◌≡◌, ℕ, ◌+◌, ◌<◌, ◌≤◌, ◌^◌, refl, ap, sym, ◌∙◌, subst, List, [], ◌∷◌, Bool, true, false, ◌&&◌, Some, None, inl, inr, slice_get, arith}
 use Rattle.std.specs.Prelude.{◌==◌, if◌then◌else◌}
 use Rattle.std.specs.Str.{bytes_eq}
+use Rattle.std.proofs.lemmas.Bool.{and_from}
 use Rattle.std.proofs.lemmas.Slice.Eq.{bytes_eq-Decides}
 use Rattle.std.proofs.lemmas.Option.{none-some, same_Some}
 use Rattle.ir_types.specs.declared.bits.BitsKind.{BitsKind}
@@ -42,7 +43,7 @@ use Rattle.patterns_meaning.proofs.Dropping.{kind_by, of_two_is, pair_refined}
 use Rattle.patterns_meaning.proofs.Expanding.{OnTwo, on_two_values}
 use Rattle.patterns_meaning.proofs.Firsts.{by_select, poison_refined}
 use Rattle.patterns_meaning.proofs.Forms.{makes_is}
-use Rattle.patterns_meaning.proofs.Giving.{after_new, all_hold}
+use Rattle.patterns_meaning.proofs.Giving.{after_new}
 use Rattle.patterns_meaning.proofs.Makings.{GivesNew, GivesOutcomes, all_agree, all_at, new_improves, new_ready, still_there, with_all}
 use Rattle.patterns_meaning.proofs.Monotone.{same_refined}
 use Rattle.patterns_meaning.proofs.OfBits.{compare_bits, select_bits}
@@ -178,8 +179,8 @@ module _ (accepted : AreAccepted) where
                 risen = refl;
                 takes =
                     ap (λ r. takes_its r (Some k.kind) (head (choice w.ty (Result m.next 0) w.first w.second)) (f (Result m.next 0) ∷ f w.first ∷ f w.second ∷ [])) by_select
-                    ∙ all_hold (is_width (width_of k.kind)) (is_kind (kind.Int 1) (f (Result m.next 0)) && (is_kind k.kind (f w.first) && is_kind k.kind (f w.second))) k.width
-                    (all_hold (is_kind (kind.Int 1) (f (Result m.next 0))) (is_kind k.kind (f w.first) && is_kind k.kind (f w.second)) (ap (is_kind (kind.Int 1)) (at.0 0)) (all_hold (is_kind k.kind (f w.first)) (is_kind k.kind (f w.second)) first second));
+                    ∙ and_from (is_width (width_of k.kind)) (is_kind (kind.Int 1) (f (Result m.next 0)) && (is_kind k.kind (f w.first) && is_kind k.kind (f w.second))) k.width
+                    (and_from (is_kind (kind.Int 1) (f (Result m.next 0))) (is_kind k.kind (f w.first) && is_kind k.kind (f w.second)) (ap (is_kind (kind.Int 1)) (at.0 0)) (and_from (is_kind k.kind (f w.first)) (is_kind k.kind (f w.second)) first second));
               },
               tt,
             ),
@@ -247,8 +248,8 @@ module _ (accepted : AreAccepted) where
                     makes_is (head (comparison w.number w.first w.second)) (c w.first ∷ c w.second ∷ []) how.Compare (kind.Int 1) by_compare refl
                     ∙ ap (λ p. given p (λ p. compare_outcome p (c w.first) (c w.second))) w.asks_for.asks_it
                     ∙ (λ j. compare_outcome w.asks_for.predicate (first j) (second j)) ∙ by_is;
-                sure = ap (λ r. is_signed_quotient r && is_poison_by_ones (c w.first ∷ c w.second ∷ [])) by_compare;
-                fed = λ d. all_hold (is_there later w.first) (is_there later w.second && true) (first_there d) (all_hold (is_there later w.second) true (second_there d) refl);
+                sure = λ d. ap (λ r. is_signed_quotient r && is_poison_by_ones (c w.first ∷ c w.second ∷ [])) by_compare;
+                fed = λ d. and_from (is_there later w.first) (is_there later w.second && true) (first_there d) (and_from (is_there later w.second) true (second_there d) refl);
               },
               (
                 record {
@@ -257,10 +258,10 @@ module _ (accepted : AreAccepted) where
                   made = λ d.
                       makes_is (head (choice w.ty (Result m.next 0) w.first w.second)) (c (Result m.next 0) ∷ c w.first ∷ c w.second ∷ []) how.Select k.kind by_select k.of
                       ∙ (λ j. select_outcome (at.0 0 j) (first j) (second j)) ∙ out_is;
-                  sure = ap (λ r. is_signed_quotient r && is_poison_by_ones (c (Result m.next 0) ∷ c w.first ∷ c w.second ∷ [])) by_select;
+                  sure = λ d. ap (λ r. is_signed_quotient r && is_poison_by_ones (c (Result m.next 0) ∷ c w.first ∷ c w.second ∷ [])) by_select;
                   fed = λ d.
-                      all_hold (is_there later (Result m.next 0)) (is_there later w.first && (is_there later w.second && true)) (after_new m.next x done m.next (omega arith) ∙ d)
-                      (all_hold (is_there later w.first) (is_there later w.second && true) (first_there d) (all_hold (is_there later w.second) true (second_there d) refl));
+                      and_from (is_there later (Result m.next 0)) (is_there later w.first && (is_there later w.second && true)) (after_new m.next x done m.next (omega arith) ∙ d)
+                      (and_from (is_there later w.first) (is_there later w.second && true) (first_there d) (and_from (is_there later w.second) true (second_there d) refl));
                 },
                 tt,
               ),

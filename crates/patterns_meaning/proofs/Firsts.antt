@@ -14,12 +14,12 @@ use Rattle.dialects_int.specs.Laws.{ignores_one, ignores_zero, keeps_itself}
 use Rattle.dialects_int.proofs.PairLaws.{itself_kept, one_ignored, ones_ignored, zero_ignored}
 use Rattle.patterns_check.specs.Outcomes.{Outcome, divides, is_signed_remainder, is_some_number, judged, no_value, pair_outcome, select_outcome}
 use Rattle.patterns_check.specs.Checks.{refines}
+use Rattle.patterns_check.proofs.Keeping.{same_kinds}
 use Rattle.patterns_laws.specs.Words.{ignoring_one, ignoring_zero, keeping}
 use Rattle.patterns_laws.specs.Keeps.{Each}
 use Rattle.patterns_laws.proofs.KnownFolds.{below, some_bits}
 use Rattle.patterns_meaning.proofs.Monotone.{none_made, same_refined}
 use Rattle.patterns_meaning.proofs.OfBits.{IsOfBits}
-use Rattle.patterns_meaning.proofs.OfKinds.{same_kinds}
 
 -- with a second operand that is this number of its kind, it gives its first, where it gives a number
 abbrev pub Firsts : Arithmetic → (BitsKind → ℕ) → Type 0

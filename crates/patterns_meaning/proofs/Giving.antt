@@ -1,8 +1,8 @@
 -- A module after an operation's result is replaced, by a value or by what is made for it, computes what it computed.
-use Rattle.std.proofs.Common.{◌≡◌, ℕ, ◌+◌, ◌<◌, ◌≤◌, refl, ap, sym, ◌∙◌, subst, List, [], ◌∷◌, ◌++◌, map, Bool, true, false, ◌&&◌, arith}
+use Rattle.std.proofs.Common.{◌≡◌, ℕ, ◌+◌, ◌<◌, ◌≤◌, refl, ap, sym, ◌∙◌, subst, List, [], ◌∷◌, ◌++◌, map, Bool, true, false, arith}
 use Rattle.std.specs.Prelude.{if◌then◌else◌}
 use Rattle.std.specs.List.{list_all}
-use Rattle.std.proofs.lemmas.Bool.{and_parts, le-ltb, lt-ltb}
+use Rattle.std.proofs.lemmas.Bool.{and_from, and_parts, le-ltb, lt-ltb}
 use Rattle.ir_types.specs.Words.{is_isolated}
 use Rattle.ir_tree.specs.declared.value.Value.{Value}
 use Rattle.ir_tree.specs.declared.value.Value.TheVariants.{Result, Arg}
@@ -36,11 +36,6 @@ use Rattle.patterns_meaning.proofs.Lifted.{IsBetterWith, IsReady, all_put_better
 use Rattle.patterns_meaning.proofs.Monotone.{itself}
 use Rattle.patterns_meaning.proofs.Rewritten.{AllBare, AllPut, all_put, given_each}
 use Rattle.patterns_meaning.proofs.Trees.{value_below}
-
-pub all_hold : (b c : Bool) → b ≡ true → c ≡ true → (b && c) ≡ true
-all_hold true true e f = refl
-all_hold true false e f = f
-all_hold false c e f = e
 
 -- ---- what is done behind a rewrite
 module _ (n x : ℕ) (done : ℕ → Bool) where
@@ -94,7 +89,7 @@ module _ (a : Assignment) (n x : ℕ) (done : ℕ → Bool) (made : List Operati
   still_there (w ∷ ws) s e =
       let h = and_parts (is_there done w) (list_all (is_there done) ws) e in
       let g = and_parts (has_value w t) (list_all (λ v. has_value v t) ws) s in
-      all_hold (is_there later w) (list_all (is_there later) ws) (one w (value_below n t below w g.0) h.0) (still_there ws g.1 h.1)
+      and_from (is_there later w) (list_all (is_there later) ws) (one w (value_below n t below w g.0) h.0) (still_there ws g.1 h.1)
     where
       one : (w : Value) → owner w < n → is_there done w ≡ true → is_there (done_after n x done) w ≡ true
       one (Result y j) l e = after_old n x done y l ∙ e
@@ -112,7 +107,7 @@ module _ (a : Assignment) (n x : ℕ) (done : ℕ → Bool) (made : List Operati
   put_there [] e = refl
   put_there (w ∷ ws) e =
       let h = and_parts (is_there later w) (list_all (is_there later) ws) e in
-      all_hold (is_there later (put_value (Result x 0) v w)) (list_all (is_there later) (map (put_value (Result x 0) v) ws)) (go (same_value (Result x 0) w) refl h.0) (put_there ws h.1)
+      and_from (is_there later (put_value (Result x 0) v w)) (list_all (is_there later) (map (put_value (Result x 0) v) ws)) (go (same_value (Result x 0) w) refl h.0) (put_there ws h.1)
     where
       go : (b : Bool) → same_value (Result x 0) w ≡ b → is_there (done_after n x done) w ≡ true → is_there (done_after n x done) (if b then v else w) ≡ true
       go true i s = k.there (was x within (ap (is_there later) (same_value_true (Result x 0) w i) ∙ s))

@@ -28,6 +28,7 @@ use Rattle.patterns_book.specs.Shapes.{Shape}
 use Rattle.patterns_book.specs.WellFormed.{asked_stands, front_stands, further_stands, is_new, is_type, is_variable, is_well_formed, kind_stands, new_begins, new_ends, news_stand, numbers_stand, old_begins, olds_stand, sides_stand}
 use Rattle.patterns_makeable.specs.Makeable.{is_makeable, is_named, result_type, same_number, spares}
 use Rattle.ir_tree.proofs.Replaced.{same_value_true}
+use Rattle.patterns_check.proofs.Behind.{run_behind}
 use Rattle.patterns_check.proofs.Keeping.{stays_defined, stays_the_value}
 use Rattle.dialects_int.proofs.KnownOperands.{same_itself}
 use Rattle.patterns_matched.proofs.Found.{when_is}
@@ -35,7 +36,7 @@ use Rattle.patterns_meaning.specs.Meaning.{Assignment, FitsEach, IsOfType, Typed
 use Rattle.patterns_meaning.specs.Applied.{Agree, CheckedPlansGo, Goes, IsBelow, IsFound, IsProper, PlansGo, all_named, further_kind, is_typed, kinds_behind, kinds_given, kinds_matched, matched}
 use Rattle.patterns_meaning.proofs.Standing.{AllHold, AllTyped, IsTyped, Stands, all_hold, all_typed, all_typed_still, bound_holds, one_stands, standing_stands}
 use Rattle.patterns_meaning.proofs.Trees.{FoundFit, TypesFound, found_fit, types_found, value_below}
-use Rattle.patterns_meaning.proofs.Steps.{Grows, run_behind, run_grows}
+use Rattle.patterns_meaning.proofs.Steps.{Grows, run_grows}
 use Rattle.patterns_meaning.proofs.Forms.{FitThere, fit_there, kind_is}
 use Rattle.patterns_meaning.proofs.OfKinds.{OfKinds, furthers_run, numbers_run}
 use Rattle.patterns_meaning.proofs.OfBits.{AllOfBits, run_bits}
@@ -102,7 +103,7 @@ module _ (t : Operation) (clean : Header → Bool) (n : ℕ) (p : Shape) where
     abbrev root_bound : Option (Standing Value)
     root_bound = bound same_value p.root (Result x 0) (nothing (places p))
 
-    planned_as : planned t clean n p x ≡ given (matched t clean p x) (λ c. given (typed t clean n p c) (planned_by t clean n p c))
+    pub planned_as : planned t clean n p x ≡ given (matched t clean p x) (λ c. given (typed t clean n p c) (planned_by t clean n p c))
     unfolding planned
     planned_as = go root_bound
       where
@@ -118,22 +119,22 @@ module _ (t : Operation) (clean : Header → Bool) (n : ℕ) (p : Shape) where
         (given_at (typed t clean n p b) ts (planned_by t clean n p b) (planned_by t clean n p b ts) y refl)) ∙ e)
 
     -- what is matched
-    record IsMatched (b : Standing Value) : Type 0 where
+    pub record IsMatched (b : Standing Value) : Type 0 where
       pub pieces : AllHold t clean (old_place p) p.old b
       pub root : Stands p.root (Result x 0) b
 
-    matched_parts : (b : Standing Value) → matched t clean p x ≡ Some b → IsMatched b
+    pub matched_parts : (b : Standing Value) → matched t clean p x ≡ Some b → IsMatched b
     matched_parts b e =
         let g = given_some root_bound (λ b. pieces_matched t clean (placed (old_place p) p.old) b) b e in
         let r = bound_holds same_value same_value_true p.root (Result x 0) (nothing (places p)) g.0 g.1 in
         let h = all_hold t clean (old_place p) p.old g.0 b g.2 in
         record { pieces = h.0; root = h.1 p.root (Result x 0) r.0 }
 
-  record AreTyped (b : Standing Value) (ts : Standing TypeTerm) : Type 0 where
+  pub record AreTyped (b : Standing Value) (ts : Standing TypeTerm) : Type 0 where
     pub variables : AllTyped t clean 0 p.values b ts
     pub pieces : AllTyped t clean (old_place p) (map Piece.ty p.old) b ts
 
-  typed_parts : (b : Standing Value) (ts : Standing TypeTerm) → typed t clean n p b ≡ Some ts → AreTyped b ts
+  pub typed_parts : (b : Standing Value) (ts : Standing TypeTerm) → typed t clean n p b ≡ Some ts → AreTyped b ts
   typed_parts b ts e =
       let g = given_some (types_at t clean 0 p.values b (map written p.kinds)) (types_at t clean (old_place p) (map Piece.ty p.old) b) ts e in
       let r = all_typed t clean 0 p.values b (map written p.kinds) g.0 g.1 in
@@ -142,7 +143,7 @@ module _ (t : Operation) (clean : Header → Bool) (n : ℕ) (p : Shape) where
 
 -- ---- from what is well-formed and makeable
 module _ (p : Shape) where
-  record IsFormed : Type 0 where
+  pub record IsFormed : Type 0 where
     pub constants : list_all (is_variable p) p.constants ≡ true
     pub further : list_all (further_stands p) p.further ≡ true
     pub numbers : numbers_stand p (old_begins p) p.given ≡ true
@@ -151,7 +152,7 @@ module _ (p : Shape) where
     pub news : news_stand p (new_ends p) p.new ≡ true
     pub result : is_new p (new_ends p) p.result ≡ true
 
-  formed_parts : is_well_formed p ≡ true → IsFormed
+  pub formed_parts : is_well_formed p ≡ true → IsFormed
   formed_parts e =
       let a = and_parts (front_stands p) (sides_stand p) e in
       let b = and_parts (list_all (kind_stands p) p.kinds) _ a.0 in
@@ -172,11 +173,11 @@ module _ (p : Shape) where
         result = j.1;
       }
 
-  record IsMade : Type 0 where
+  pub record IsMade : Type 0 where
     pub named : list_all is_named p.new ≡ true
     pub root : old_place p ≤ p.root
 
-  made_parts : is_makeable p ≡ true → IsMade
+  pub made_parts : is_makeable p ≡ true → IsMade
   made_parts e =
       let a = and_parts (list_all is_named p.new) _ e in
       let b = and_parts (list_all (spares p.root) p.new) _ a.1 in
@@ -191,7 +192,7 @@ module _ (p : Shape) where
       above (Some r) false i e = absurd (true≢false (sym e))
 
 -- ---- put together
-typed_at : (t : Operation) (clean : Header → Bool) (k : ℕ) (tys : List ℕ) (b : Standing Value) (ts : Standing TypeTerm) → AllTyped t clean k tys b ts → (i : ℕ) → i < length tys → (ty : ℕ) × (slice_get tys i ≡ Some ty) × IsTyped t clean (k + i) ty b ts
+pub typed_at : (t : Operation) (clean : Header → Bool) (k : ℕ) (tys : List ℕ) (b : Standing Value) (ts : Standing TypeTerm) → AllTyped t clean k tys b ts → (i : ℕ) → i < length tys → (ty : ℕ) × (slice_get tys i ≡ Some ty) × IsTyped t clean (k + i) ty b ts
 typed_at t clean k [] b ts h i l = absurd (omega (arith, l))
 typed_at t clean k (ty ∷ tys) b ts h zero l = (ty, refl, subst (λ j. IsTyped t clean j ty b ts) (same k) h.0)
   where
@@ -204,7 +205,7 @@ typed_at t clean k (ty ∷ tys) b ts h (suc i) l =
     same : (k i : ℕ) → k + 1 + i ≡ k + suc i
     same k i = omega arith
 
-has_type : (t : Operation) (clean : Header → Bool) (k : ℕ) (tys : List ℕ) (b : Standing Value) (ts : Standing TypeTerm) → AllTyped t clean k tys b ts → (j : ℕ) (v : Value) → k ≤ j → j < k + length tys → Stands j v b → has_value v t ≡ true
+pub has_type : (t : Operation) (clean : Header → Bool) (k : ℕ) (tys : List ℕ) (b : Standing Value) (ts : Standing TypeTerm) → AllTyped t clean k tys b ts → (j : ℕ) (v : Value) → k ≤ j → j < k + length tys → Stands j v b → has_value v t ≡ true
 has_type t clean k [] b ts h j v low high s = absurd (omega (arith, low, high))
 has_type t clean k (ty ∷ tys) b ts h j v low high s = elim (cases_eq j k) [
   | inl e ↦ ap (λ w. has_value w t) (one_stands k v h.0.value b (subst (λ z. Stands z v b) e s) h.0.stands) ∙ ap is_some h.0.of_value

@@ -66,10 +66,10 @@ form_quotient f n e = ap is_signed_quotient (form_rule f n) ∙ go f e
     go (form.Resize c i) e = refl
     go (form.IndexCast c i) e = refl
 
-abbrev IsNoQuotient : Operation → Type 0
+abbrev pub IsNoQuotient : Operation → Type 0
 IsNoQuotient o = is_signed_quotient (rule_of (head o).name) ≡ false
 
-abbrev AreNoQuotients : List Operation → Type 0
+abbrev pub AreNoQuotients : List Operation → Type 0
 AreNoQuotients [] = Unit {0}
 AreNoQuotients (o ∷ os) = IsNoQuotient o × AreNoQuotients os
 

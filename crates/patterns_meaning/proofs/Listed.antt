@@ -14,18 +14,18 @@ use Rattle.greedy.specs.Trial.{by_rules}
 use Rattle.patterns_meaning.specs.Runs.{Leads, RewritingKeeps}
 use Rattle.patterns_meaning.proofs.Running.{runs_keep}
 
-or_parts : (a b : Rewrite) (n : Module) → or_else a b ≡ becomes n → (a ≡ becomes n) ⊎ (b ≡ becomes n)
+pub or_parts : (a b : Rewrite) (n : Module) → or_else a b ≡ becomes n → (a ≡ becomes n) ⊎ (b ≡ becomes n)
 or_parts none b n e = inr e
 or_parts (refused r) b n e = inl e
 or_parts (becomes m) b n e = inl e
 
-none_never : {A : Type 0} (n : Module) → none ≡ becomes n → A
+pub none_never : {A : Type 0} (n : Module) → none ≡ becomes n → A
 none_never n e = absurd (never e)
   where
     never : none ≡ becomes n → ⊥
     never e = cc
 
-by_some : (rs : List Rule) (m n : Module) (x : ℕ) → first_rule rs m x ≡ becomes n → (r : Rule) × In r rs × (rewrite_of r m x ≡ becomes n)
+pub by_some : (rs : List Rule) (m n : Module) (x : ℕ) → first_rule rs m x ≡ becomes n → (r : Rule) × In r rs × (rewrite_of r m x ≡ becomes n)
 unfolding first_rule
 by_some [] m n x e = none_never n e
 by_some (r ∷ rs) m n x e = elim (or_parts (rewrite_of r m x) (first_rule rs m x) n e) [
@@ -33,7 +33,7 @@ by_some (r ∷ rs) m n x e = elim (or_parts (rewrite_of r m x) (first_rule rs m 
   | inr i ↦ let g = by_some rs m n x i in (g.0, inr g.1, g.2)
 ]
 
-at_some : (rs : List Rule) (xs : List ℕ) (m n : Module) → first_by (by_rules rs) xs m ≡ becomes n → (x : ℕ) × (first_rule rs m x ≡ becomes n)
+pub at_some : (rs : List Rule) (xs : List ℕ) (m n : Module) → first_by (by_rules rs) xs m ≡ becomes n → (x : ℕ) × (first_rule rs m x ≡ becomes n)
 unfolding first_by
 at_some rs [] m n e = none_never n e
 at_some rs (x ∷ xs) m n e = elim (or_parts (first_rule rs m x) (first_by (by_rules rs) xs m) n e) [
@@ -44,10 +44,10 @@ at_some rs (x ∷ xs) m n e = elim (or_parts (first_rule rs m x) (first_by (by_r
 abbrev Led : List Rule → Module → Module → Type 0
 Led rs m n = (k : ℕ) × Leads rs k m n
 
-ended_parts : (m n : Module) (j k : ℕ) (d e : End) → ended m j d ≡ ended n k e → m ≡ n
+pub ended_parts : (m n : Module) (j k : ℕ) (d e : End) → ended m j d ≡ ended n k e → m ≡ n
 ended_parts m n j k d e i = cc
 
-stopped_never : {A : Type 0} (r : Refusal) (n : Module) (k : ℕ) (e : End) → stopped r ≡ ended n k e → A
+pub stopped_never : {A : Type 0} (r : Refusal) (n : Module) (k : ℕ) (e : End) → stopped r ≡ ended n k e → A
 stopped_never r n k e i = absurd (never i)
   where
     never : stopped r ≡ ended n k e → ⊥

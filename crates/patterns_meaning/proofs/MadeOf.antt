@@ -14,12 +14,13 @@ use Rattle.dialects_int.specs.declared.operations.Rule.{Rule}
 use Rattle.dialects_int.specs.declared.operations.Rule.TheVariants as rule
 use Rattle.dialects_int.specs.Folds.{Known, asked, fold_of, property_of, rule_of, same_kind}
 use Rattle.patterns_check.specs.Outcomes.{Outcome, compare_outcome, given, resize_outcome}
+use Rattle.patterns_check.proofs.Keeping.{same_kinds}
 use Rattle.patterns_laws.proofs.KnownFolds.{given_some}
 use Rattle.patterns_book.specs.Matching.{Header}
 use Rattle.patterns_meaning.specs.Meaning.{makes, makes_by, of_one, of_two, result_kind}
 use Rattle.patterns_meaning.specs.Better.{AreOf, are_its_bits, compares, is_kind, takes, takes_its}
 use Rattle.patterns_meaning.proofs.Forms.{fold_kind}
-use Rattle.patterns_meaning.proofs.OfKinds.{IsKind, OfKinds, compare_kind, pair_kind, resize_kind, same_kinds, select_kind}
+use Rattle.patterns_meaning.proofs.OfKinds.{IsKind, OfKinds, compare_kind, pair_kind, resize_kind, select_kind}
 use Rattle.patterns_meaning.proofs.OfBits.{IsOfBits, compare_bits, pair_bits, resize_bits, select_bits}
 use Rattle.patterns_meaning.proofs.Monotone.{kind_of_operand}
 
@@ -36,6 +37,10 @@ bits_of_operand k (Some j) y e h = h j refl
 -- an outcome is of a kind, and has its bits
 abbrev pub IsMadeOf : BitsKind → Outcome → Type 0
 IsMadeOf k o = IsKind k o × IsOfBits o
+
+pub compares_kind : (k : BitsKind) (i j : Option BitsKind) → compares k i j ≡ true → kind.Int 1 ≡ k
+compares_kind k None j e = absurd (true≢false (sym e))
+compares_kind k (Some l) j e = same_kinds (kind.Int 1) k (and_parts (is_kind l j) (same_kind (kind.Int 1) k) e).1
 
 nothing : OfKinds [] []
 nothing = record { long = refl; are = λ i x e. absurd (none-some (Some x) e) }
@@ -66,10 +71,6 @@ module _ (h : Header) (k : BitsKind) where
       let g = and_parts (is_kind k i) (is_kind k j) t in
       (pair_kind o k u v x (kind_of_operand k i u g.0 of.0) m, pair_bits o u v x (bits_of_operand k i u g.0 b.0) (bits_of_operand k j v g.1 b.1.0) m)
 
-  compares_kind : (i j : Option BitsKind) → compares k i j ≡ true → kind.Int 1 ≡ k
-  compares_kind None j e = absurd (true≢false (sym e))
-  compares_kind (Some l) j e = same_kinds (kind.Int 1) k (and_parts (is_kind l j) (same_kind (kind.Int 1) k) e).1
-
   by_compare : Result rule.Compare
   by_compare [] ys x t of b m = absurd (true≢false (sym t))
   by_compare (i ∷ []) ys x t of b m = absurd (true≢false (sym t))
@@ -82,7 +83,7 @@ module _ (h : Header) (k : BitsKind) where
       go p [] m = absurd (none-some x m)
       go p (u ∷ []) m = absurd (none-some x m)
       go p (u ∷ v ∷ w ∷ ys) m = absurd (none-some x m)
-      go p (u ∷ v ∷ []) m = (subst (λ k. IsKind k x) (compares_kind i j t) (compare_kind p u v x m), compare_bits p u v x m)
+      go p (u ∷ v ∷ []) m = (subst (λ k. IsKind k x) (compares_kind k i j t) (compare_kind p u v x m), compare_bits p u v x m)
 
   by_select : Result rule.Select
   by_select [] ys x t of b m = absurd (true≢false (sym t))

@@ -88,22 +88,22 @@ module _ (f : Value → Option BitsKind) where
       go zero e = same_Some _ _ e
       go (suc j) e = absurd (none-some ty e)
 
-  all_bare : (os : List Operation) (ks : List BitsKind) → AllMade os ks → AllBare os
+  pub all_bare : (os : List Operation) (ks : List BitsKind) → AllMade os ks → AllBare os
   all_bare [] ks g = tt
   all_bare (o ∷ os) [] g = absurd g
   all_bare (o ∷ os) (k ∷ ks) g = (g.0.bare, all_bare os ks g.1)
 
-  all_risen : (m : ℕ) (os : List Operation) (ks : List BitsKind) → AllMade os ks → AllPut Rises m os
+  pub all_risen : (m : ℕ) (os : List Operation) (ks : List BitsKind) → AllMade os ks → AllPut Rises m os
   all_risen m [] ks g = tt
   all_risen m (o ∷ os) [] g = absurd g
   all_risen m (o ∷ os) (k ∷ ks) g = (g.0.risen, all_risen (m + 1) os ks g.1)
 
-  all_results : (m : ℕ) (os : List Operation) (ks : List BitsKind) → AllMade os ks → AllAt f m (map (λ k. Some k) ks) → AllPut (ResultsAre (HasKind f)) m os
+  pub all_results : (m : ℕ) (os : List Operation) (ks : List BitsKind) → AllMade os ks → AllAt f m (map (λ k. Some k) ks) → AllPut (ResultsAre (HasKind f)) m os
   all_results m [] ks g at = tt
   all_results m (o ∷ os) [] g at = absurd g
   all_results m (o ∷ os) (k ∷ ks) g at = ((λ j ty e. at.0 j ∙ sym g.0.of ∙ ap kind_of (only_type o k g.0 j ty e)), all_results (m + 1) os ks g.1 at.1)
 
-  all_take : (m : ℕ) (os : List Operation) (ks : List BitsKind) → AllMade os ks → AllPut (Takes f) m os
+  pub all_take : (m : ℕ) (os : List Operation) (ks : List BitsKind) → AllMade os ks → AllPut (Takes f) m os
   all_take m [] ks g = tt
   all_take m (o ∷ os) [] g = absurd g
   all_take m (o ∷ os) (k ∷ ks) g = (
@@ -118,7 +118,7 @@ pub record GivesOne (c : Assignment) (done : ℕ → Bool) (later : ℕ → Bool
   pub of : IsKind k z
   pub bits : IsOfBits z
   pub made : done x ≡ true → makes (head o) (map c (head o).operands) ≡ Some z
-  pub sure : may_overflow (head o) (map c (head o).operands) ≡ false
+  pub sure : done x ≡ true → may_overflow (head o) (map c (head o).operands) ≡ false
   pub fed : done x ≡ true → list_all (is_there later) (head o).operands ≡ true
 
 module _ (c : Assignment) (done : ℕ → Bool) (n x : ℕ) where
@@ -133,7 +133,7 @@ module _ (c : Assignment) (done : ℕ → Bool) (n x : ℕ) where
   one_typed ty k (Some y) e h b = (e ∙ ap (λ k. Some k) (sym (h y refl)), b y refl)
 
   module _ (f : Value → Option BitsKind) where
-    all_typed : (m : ℕ) (os : List Operation) (ks : List BitsKind) (zs : List Outcome) → AllMade f os ks → AllGive os ks zs → AllAt c m zs → TypedEach c m os
+    pub all_typed : (m : ℕ) (os : List Operation) (ks : List BitsKind) (zs : List Outcome) → AllMade f os ks → AllGive os ks zs → AllAt c m zs → TypedEach c m os
     all_typed m [] ks zs g h at = tt
     all_typed m (o ∷ os) [] zs g h at = absurd g
     all_typed m (o ∷ os) (k ∷ ks) [] g h at = absurd h
@@ -142,19 +142,19 @@ module _ (c : Assignment) (done : ℕ → Bool) (n x : ℕ) where
       all_typed (m + 1) os ks zs g.1 h.1 at.1,
     )
 
-  all_ready : (m : ℕ) (os : List Operation) (ks : List BitsKind) (zs : List Outcome) → n ≤ m → AllGive os ks zs → AllAt c m zs → AllPut (lift.IsReady c (done_after n x done)) m os
+  pub all_ready : (m : ℕ) (os : List Operation) (ks : List BitsKind) (zs : List Outcome) → n ≤ m → AllGive os ks zs → AllAt c m zs → AllPut (lift.IsReady c (done_after n x done)) m os
   all_ready m [] ks zs l h at = tt
   all_ready m (o ∷ os) [] zs l h at = absurd h
   all_ready m (o ∷ os) (k ∷ ks) [] l h at = absurd h
   all_ready m (o ∷ os) (k ∷ ks) (z ∷ zs) l h at = (
     (λ i j. (
       inl (same_makes (head o) m (head o).operands (map c (head o).operands) ∙ h.0.made (sym (after_new n x done m l) ∙ i) ∙ ap (λ z. Some z) (sym (at.0 0))),
-      h.0.sure,
+      h.0.sure (sym (after_new n x done m l) ∙ i),
     )),
     all_ready (m + 1) os ks zs (omega (arith, l)) h.1 at.1,
   )
 
-  all_fed : (m : ℕ) (os : List Operation) (ks : List BitsKind) (zs : List Outcome) → n ≤ m → AllGive os ks zs → AllPut (IsFed (done_after n x done)) m os
+  pub all_fed : (m : ℕ) (os : List Operation) (ks : List BitsKind) (zs : List Outcome) → n ≤ m → AllGive os ks zs → AllPut (IsFed (done_after n x done)) m os
   all_fed m [] ks zs l h = tt
   all_fed m (o ∷ os) [] zs l h = absurd h
   all_fed m (o ∷ os) (k ∷ ks) [] l h = absurd h

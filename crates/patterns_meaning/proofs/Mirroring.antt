@@ -3,7 +3,7 @@ use Rattle.std.proofs.Common.{◌≡◌, ℕ, zero, suc, refl, ap, sym, ◌∙�
 use Rattle.std.specs.Prelude.{codes, is_some, if◌then◌else◌}
 use Rattle.std.specs.List.{list_all}
 use Rattle.std.specs.Str.{bytes_eq}
-use Rattle.std.proofs.lemmas.Bool.{and_parts}
+use Rattle.std.proofs.lemmas.Bool.{and_from, and_parts}
 use Rattle.std.proofs.lemmas.Slice.Eq.{bytes_eq-Decides}
 use Rattle.std.proofs.lemmas.Option.{none-some, same_Some}
 use Rattle.ir_types.specs.declared.bits.BitsKind.{BitsKind}
@@ -56,7 +56,6 @@ use Rattle.patterns_meaning.proofs.EditsForm.{all_formed}
 use Rattle.patterns_meaning.proofs.Extremes.{compare_is, compare_out}
 use Rattle.patterns_meaning.proofs.Formed.{operands_stand}
 use Rattle.patterns_meaning.proofs.Forms.{makes_is, named_is}
-use Rattle.patterns_meaning.proofs.Giving.{all_hold}
 use Rattle.patterns_meaning.proofs.Monotone.{same_refined}
 use Rattle.patterns_meaning.proofs.Readied.{Rises, Takes, each_rises}
 use Rattle.patterns_meaning.proofs.Ruled.{Ruled, Site, gives_refined, of_rule, rule_kinds, ruled, site_of}
@@ -101,7 +100,7 @@ turned p k (Some x) (Some y) z f g e =
 
 -- ---- an entry that is put
 put_after : (j k : List ℕ) (b : AttrTerm) (es : Entries) → key_before j k ≡ true → rises_after key_before j es ≡ true → rises_after key_before j (put_entry key_before k b es) ≡ true
-put_after j k b [] l r = all_hold (key_before j k) true l refl
+put_after j k b [] l r = and_from (key_before j k) true l refl
 put_after j k b (e ∷ es) l r = go (key_before k e.0) refl (key_before e.0 k) refl (put_after e.0 k b es)
   where
     parts : (key_before j e.0 ≡ true) × (rises_after key_before e.0 es ≡ true)
@@ -109,16 +108,16 @@ put_after j k b (e ∷ es) l r = go (key_before k e.0) refl (key_before e.0 k) r
 
     go : (c : Bool) → key_before k e.0 ≡ c → (d : Bool) → key_before e.0 k ≡ d → (key_before e.0 k ≡ true → rises_after key_before e.0 es ≡ true → rises_after key_before e.0 (put_entry key_before k b es) ≡ true)
         → rises_after key_before j (if c then (k, b) ∷ e ∷ es else (if d then e ∷ put_entry key_before k b es else (k, b) ∷ es)) ≡ true
-    go true i d h more = all_hold (key_before j k) (key_before k e.0 && rises_after key_before e.0 es) l (all_hold (key_before k e.0) (rises_after key_before e.0 es) i parts.1)
-    go false i true h more = all_hold (key_before j e.0) (rises_after key_before e.0 (put_entry key_before k b es)) parts.0 (more h parts.1)
-    go false i false h more = all_hold (key_before j k) (rises_after key_before k es) l (subst (λ z. rises_after key_before z es ≡ true) (sym (keys_ordered.exact k e.0 i h)) parts.1)
+    go true i d h more = and_from (key_before j k) (key_before k e.0 && rises_after key_before e.0 es) l (and_from (key_before k e.0) (rises_after key_before e.0 es) i parts.1)
+    go false i true h more = and_from (key_before j e.0) (rises_after key_before e.0 (put_entry key_before k b es)) parts.0 (more h parts.1)
+    go false i false h more = and_from (key_before j k) (rises_after key_before k es) l (subst (λ z. rises_after key_before z es ≡ true) (sym (keys_ordered.exact k e.0 i h)) parts.1)
 
 put_rises : (k : List ℕ) (b : AttrTerm) (es : Entries) → rises key_before es ≡ true → rises key_before (put_entry key_before k b es) ≡ true
 put_rises k b [] r = refl
 put_rises k b (e ∷ es) r = go (key_before k e.0) refl (key_before e.0 k) refl
   where
     go : (c : Bool) → key_before k e.0 ≡ c → (d : Bool) → key_before e.0 k ≡ d → rises key_before (if c then (k, b) ∷ e ∷ es else (if d then e ∷ put_entry key_before k b es else (k, b) ∷ es)) ≡ true
-    go true i d h = all_hold (key_before k e.0) (rises_after key_before e.0 es) i r
+    go true i d h = and_from (key_before k e.0) (rises_after key_before e.0 es) i r
     go false i true h = put_after e.0 k b es h r
     go false i false h = subst (λ z. rises_after key_before z es ≡ true) (sym (keys_ordered.exact k e.0 i h)) r
 
@@ -244,14 +243,14 @@ module _ (accepted : AreAccepted) where
       mirror_takes =
           let js = kind_in m.tree w.second ∷ kind_in m.tree w.first ∷ [] in
           ap (λ r. takes_its r (result_kind (head q.here)) last js) w.name ∙ ap (λ k. takes_its (Some how.Compare) k last js) k.is
-          ∙ all_hold (is_width (width_of k.own_kind)) (compares k.own_kind (kind_in m.tree w.second) (kind_in m.tree w.first)) k.width
-          ((λ i. compares k.own_kind (k.second_is i) (k.first_is i)) ∙ all_hold (same_kind k.between k.between) (same_kind (kind.Int 1) k.own_kind) (same_itself k.between) k.truths)
+          ∙ and_from (is_width (width_of k.own_kind)) (compares k.own_kind (kind_in m.tree w.second) (kind_in m.tree w.first)) k.width
+          ((λ i. compares k.own_kind (k.second_is i) (k.first_is i)) ∙ and_from (same_kind k.between k.between) (same_kind (kind.Int 1) k.own_kind) (same_itself k.between) k.truths)
 
       mirror_rises : Rises (record (head q.here) { operands = w.second ∷ w.first ∷ []; properties = put_entry key_before (codes "predicate") (IntegerOf i64 (mirrored w.number)) (head q.here).properties })
       mirror_rises =
           let r = (each_found Rises x m.tree (each_rises m.tree ready.sorted) q.here q.found).0 in
           let b = and_parts (rises key_before (head q.here).properties) (rises key_before (head q.here).attributes) r in
-          all_hold (rises key_before put) (rises key_before (head q.here).attributes) (put_rises (codes "predicate") attr (head q.here).properties b.0) b.1
+          and_from (rises key_before put) (rises key_before (head q.here).attributes) (put_rises (codes "predicate") attr (head q.here).properties b.0) b.1
 
       module _ (a : Assignment) (done : ℕ → Bool) (computing : Computing a done m.tree) where
         site : Site m a done x q.here
@@ -307,8 +306,8 @@ module _ (accepted : AreAccepted) where
               arithmetic = (of_rule m a done x q.here site how.Compare w.name).arithmetic;
               gives_so = mirror_gives;
               sure = λ d. ap (λ r. is_signed_quotient r && is_poison_by_ones (a w.second ∷ a w.first ∷ [])) w.name;
-              values = all_hold (has_value w.second m.tree) (has_value w.first m.tree && true) k.second (all_hold (has_value w.first m.tree) true k.first refl);
-              fed = λ d. all_hold (is_there done w.second) (is_there done w.first && true) (two.second_there d) (all_hold (is_there done w.first) true (two.first_there d) refl);
+              values = and_from (has_value w.second m.tree) (has_value w.first m.tree && true) k.second (and_from (has_value w.first m.tree) true k.first refl);
+              fed = λ d. and_from (is_there done w.second) (is_there done w.first && true) (two.second_there d) (and_from (is_there done w.first) true (two.first_there d) refl);
             }
 
   pub mirror_comparison_ready : KeepsReady MirrorComparison

@@ -20,29 +20,24 @@ use Rattle.dialects_int.specs.Folds.{Known, asked, property_of, rule_of, same_ki
 use Rattle.dialects_int.proofs.KnownOperands.{same_itself}
 use Rattle.patterns_check.specs.Outcomes.{Outcome, compare_outcome, divides, given, is_signed_remainder, is_some_number, judged, known_pair, no_value, pair_outcome, resize_any, resize_outcome, select_outcome}
 use Rattle.patterns_check.specs.Checks.{refines}
+use Rattle.patterns_check.proofs.Keeping.{one_known, same_kinds, value_refined}
 use Rattle.patterns_laws.proofs.KnownFolds.{given_some}
 use Rattle.patterns_book.specs.Matching.{Header}
 use Rattle.patterns_meaning.specs.Meaning.{makes_by, of_one, of_two, result_kind}
 use Rattle.patterns_meaning.specs.Better.{AllBetter, AreOf, Monotone, compares, is_kind, is_poison_by_ones, is_signed_quotient, narrows, takes, takes_its}
-use Rattle.patterns_meaning.proofs.Beginning.{one_known}
 use Rattle.patterns_meaning.proofs.Forms.{makes_is}
-use Rattle.patterns_meaning.proofs.OfKinds.{same_kinds}
 
 -- ---- what is the same or better
 pub itself : (x : Outcome) → refines x x ≡ true
 itself None = refl
 itself (Some k) = λ i. same_itself k.0 i && eq-eqb k.1 k.1 refl i
 
-pub known_refined : (k : Known) (y : Outcome) → refines (Some k) y ≡ true → y ≡ Some k
-known_refined k None e = absurd (true≢false (sym e))
-known_refined k (Some w) e = ap (λ z. Some z) (sym (one_known k w e))
-
 pub same_refined : (x y : Outcome) → x ≡ y → refines x y ≡ true
 same_refined x y e = subst (λ z. refines x z ≡ true) e (itself x)
 
 pub through : (x y z : Outcome) → refines x y ≡ true → refines y z ≡ true → refines x z ≡ true
 through None y z e f = refl
-through (Some k) y z e f = subst (λ w. refines w z ≡ true) (known_refined k y e) f
+through (Some k) y z e f = subst (λ w. refines w z ≡ true) (value_refined k y e) f
 
 -- something is made, and is no worse
 abbrev pub Gives : Outcome → Option Outcome → Type 0
@@ -56,10 +51,6 @@ gives_some : (x : Outcome) (o : Option Outcome) → x ≡ None → ((z : Outcome
 gives_some x o e r = (r.0, r.1, subst (λ w. refines w r.0 ≡ true) (sym e) refl)
 
 -- ---- two operands
-not_true : (b : Bool) → b ≡ true → not b ≡ false
-not_true true e = refl
-not_true false e = absurd (true≢false (sym e))
-
 pub none_made : (b : Bool) (z : Outcome) → (if b then None else Some None) ≡ Some z → (b ≡ false) × (z ≡ None)
 none_made true z e = absurd (none-some z e)
 none_made false z e = (refl, sym (same_Some _ _ e))
@@ -137,7 +128,7 @@ divided op.MaximumUnsigned k w a b e s d = absurd (true≢false (sym d))
 divided op.MinimumSigned k w a b e s d = absurd (true≢false (sym d))
 divided op.MinimumUnsigned k w a b e s d = absurd (true≢false (sym d))
 
-kinds_agree : (j k l : BitsKind) → j ≡ l → k ≡ l → same_kind j k ≡ true
+pub kinds_agree : (j k l : BitsKind) → j ≡ l → k ≡ l → same_kind j k ≡ true
 kinds_agree j k l e f = ap (same_kind j) (f ∙ sym e) ∙ same_itself j
 
 abbrev IsOf : BitsKind → Outcome → Type 0
@@ -159,7 +150,7 @@ module _ (o : Arithmetic) (k : BitsKind) where
       by_number : (d : Bool) (y v : Outcome) → refines y v ≡ true → (d && not (is_some_number y)) ≡ false → (d && not (is_some_number v)) ≡ false
       by_number false y v f e = refl
       by_number true None v f e = absurd (true≢false e)
-      by_number true (Some b) v f e = ap (λ w. not (is_some_number w)) (known_refined b v f) ∙ e
+      by_number true (Some b) v f e = ap (λ w. not (is_some_number w)) (value_refined b v f) ∙ e
   raised_first (Some a) None None z hu hv f s e = made_none (divides o) (no_division (divides o) e)
     where
       no_division : (d : Bool) → (d && true) ≡ false → d ≡ false
@@ -199,11 +190,11 @@ module _ (o : Arithmetic) (k : BitsKind) where
   pair_better : (x y u v z : Outcome) → IsOf k u → IsOf k v → refines x u ≡ true → refines y v ≡ true → (is_signed_quotient (Some (rule.Pair o)) && is_poison_by_ones (x ∷ y ∷ [])) ≡ false
       → pair_outcome o x y ≡ Some z → Gives z (pair_outcome o u v)
   pair_better (Some a) (Some b) u v z hu hv e f s m =
-      let p = sym (known_refined a u e) in
-      let q = sym (known_refined b v f) in
+      let p = sym (value_refined a u e) in
+      let q = sym (value_refined b v f) in
       gives_same z (pair_outcome o (Some a) (Some b)) (pair_outcome o u v) m (λ i. pair_outcome o (p i) (q i))
   pair_better (Some a) None u v z hu hv e f s m =
-      let p = known_refined a u e in
+      let p = value_refined a u e in
       subst (λ w. Gives z (pair_outcome o w v)) (sym p) (raised_second a v z (hu a p) hv m)
   pair_better None y u v z hu hv e f s m =
       let n = none_made (divides o && not (is_some_number y)) z m in
@@ -222,8 +213,8 @@ module _ (p : Predicate) where
 
   compare_better : (k : BitsKind) (x y u v z : Outcome) → IsOf k u → IsOf k v → refines x u ≡ true → refines y v ≡ true → compare_outcome p x y ≡ Some z → Gives z (compare_outcome p u v)
   compare_better k (Some a) (Some b) u v z hu hv e f m =
-      let g = sym (known_refined a u e) in
-      let h = sym (known_refined b v f) in
+      let g = sym (value_refined a u e) in
+      let h = sym (value_refined b v f) in
       gives_same z (compare_outcome p (Some a) (Some b)) (compare_outcome p u v) m (λ i. compare_outcome p (g i) (h i))
   compare_better k (Some a) None u v z hu hv e f m = gives_some z (compare_outcome p u v) (sym (same_Some _ _ m)) (compared k u v hu hv)
   compare_better k None y u v z hu hv e f m = gives_some z (compare_outcome p u v) (sym (same_Some _ _ m)) (compared k u v hu hv)
@@ -254,7 +245,7 @@ selected (Some d) u v h = go (same_kind d.0 (kind.Int 1)) (ap (λ k. same_kind k
 select_better : (c x y d u v z : Outcome) → IsOf (kind.Int 1) d → refines c d ≡ true → refines x u ≡ true → refines y v ≡ true → select_outcome c x y ≡ Some z → Gives z (select_outcome d u v)
 select_better None x y d u v z h g e f m = gives_some z (select_outcome d u v) (sym (same_Some _ _ m)) (selected d u v h)
 select_better (Some c) x y d u v z h g e f m =
-    subst (λ w. Gives z (select_outcome w u v)) (sym (known_refined c d g)) (select_known c x y u v z e f m)
+    subst (λ w. Gives z (select_outcome w u v)) (sym (value_refined c d g)) (select_known c x y u v z e f m)
 
 -- ---- casts
 cast_defined : (c : Cast) (k : BitsKind) (j : Option BitsKind) (a : Known) → narrows c j k ≡ true → ((i : BitsKind) → j ≡ Some i → a.0 ≡ i) → (z : Outcome) × (given (cast_of c (width_of a.0) (width_of k) a.1) (λ b. Some (Some (k, b))) ≡ Some z)
@@ -272,7 +263,7 @@ cast_defined cast.Truncate k (Some j) a n h = cut a.1 (width_of a.0) (width_of k
         go false e = absurd (true≢false (sym e))
 
 resize_better : (c : Cast) (k : BitsKind) (j : Option BitsKind) (x u z : Outcome) → narrows c j k ≡ true → ((i : BitsKind) (a : Known) → j ≡ Some i → u ≡ Some a → a.0 ≡ i) → refines x u ≡ true → resize_outcome c k x ≡ Some z → Gives z (resize_outcome c k u)
-resize_better c k j (Some a) u z n h e m = let p = sym (known_refined a u e) in gives_same z (resize_outcome c k (Some a)) (resize_outcome c k u) m (λ i. resize_outcome c k (p i))
+resize_better c k j (Some a) u z n h e m = let p = sym (value_refined a u e) in gives_same z (resize_outcome c k (Some a)) (resize_outcome c k u) m (λ i. resize_outcome c k (p i))
 resize_better c k j None u z n h e m = go (is_width (width_of k)) m
   where
     any : (u : Outcome) → ((i : BitsKind) (a : Known) → j ≡ Some i → u ≡ Some a → a.0 ≡ i) → (z : Outcome) × (resize_any c k u ≡ Some z)

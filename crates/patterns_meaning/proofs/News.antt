@@ -23,6 +23,7 @@ use Rattle.dialects_int.proofs.KnownOperands.{same_itself}
 use Rattle.patterns_laws.specs.Made.{constant, i64, made}
 use Rattle.patterns_laws.proofs.KnownFolds.{constant_gives, given_at, given_some}
 use Rattle.patterns_check.specs.Outcomes.{Outcome, given, judged, pair_outcome, run, step_of}
+use Rattle.patterns_check.proofs.Keeping.{same_kinds}
 use Rattle.patterns_book.specs.declared.pattern.Form.{Form}
 use Rattle.patterns_book.specs.declared.pattern.Form.TheVariants as form
 use Rattle.patterns_book.specs.declared.pattern.New.{New}
@@ -40,7 +41,7 @@ use Rattle.patterns_meaning.specs.Meaning.{Assignment, FitsEach, IsOfType, Typed
 use Rattle.patterns_meaning.specs.Applied.{Agree, AreOfKinds, new_fits, news_fit}
 use Rattle.patterns_meaning.proofs.Standing.{Stands, ValuesStand, bound_elsewhere, bound_holds, one_stands, standing_stands}
 use Rattle.patterns_meaning.proofs.Steps.{push_last, push_other, run_grows}
-use Rattle.patterns_meaning.proofs.OfKinds.{IsKind, OfKinds, new_kind, push_kinds, same_kinds}
+use Rattle.patterns_meaning.proofs.OfKinds.{IsKind, OfKinds, new_kind, push_kinds}
 use Rattle.patterns_meaning.proofs.OfBits.{AllOfBits, IsOfBits, push_bits, step_bits}
 use Rattle.patterns_meaning.proofs.Forms.{Asks, asked_at, by_constant, form_makes, kind_is, makes_is}
 use Rattle.patterns_meaning.proofs.Numbers.{within_parts}
@@ -72,7 +73,7 @@ extended_later a n k env j y o e low same =
     ap (λ b. if b then a (Result y 0) else get_or env (k + (y - n)) None) (le-ltb y n above) ∙ ap (λ i. get_or env i None) at ∙ get_or_from_slice_get env j o None e
 
 -- ---- values at places
-more_there : (v : Value) (o : Option (List Value)) (vs : List Value) → and_more v o ≡ Some vs → (us : List Value) × (o ≡ Some us) × (v ∷ us ≡ vs)
+pub more_there : (v : Value) (o : Option (List Value)) (vs : List Value) → and_more v o ≡ Some vs → (us : List Value) × (o ≡ Some us) × (v ∷ us ≡ vs)
 more_there v None vs e = absurd (none-some vs e)
 more_there v (Some us) vs e = (us, refl, same_Some _ _ e)
 

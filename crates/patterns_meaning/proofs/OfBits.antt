@@ -1,5 +1,5 @@
 -- What steps give has the bits of its kind, where what stands in front of them has.
-use Rattle.std.proofs.Common.{◌≡◌, ℕ, zero, suc, ◌+◌, ◌*◌, ◌/◌, ◌%◌, ◌^◌, ◌<◌, ◌≤◌, refl, ap, sym, ◌∙◌, subst, List, [], ◌∷◌, ◌++◌, length, Bool, true, false, true≢false, ◌&&◌, not, pos, ◌-ℤ◌, Option, Some, None, slice_get, inl, inr, arith}
+use Rattle.std.proofs.Common.{◌≡◌, ℕ, ◌+◌, ◌*◌, ◌/◌, ◌%◌, ◌^◌, ◌<◌, ◌≤◌, refl, ap, sym, ◌∙◌, subst, List, [], ◌∷◌, ◌++◌, length, Bool, true, false, true≢false, ◌&&◌, not, pos, ◌-ℤ◌, Option, Some, None, slice_get, inl, inr, arith}
 use Rattle.std.specs.Prelude.{if◌then◌else◌, ◌==◌, nat_lt, int_div, int_rem, int_lt, bit_and, bit_or, bit_xor}
 use Rattle.std.specs.Int.{int_shr}
 use Rattle.std.proofs.lemmas.Bool.{and_parts, cases_eq, cases_lt}
@@ -20,11 +20,10 @@ use Rattle.dialects_int.specs.declared.operations.Cast.TheVariants as cast
 use Rattle.dialects_int.specs.declared.operations.Predicate.{Predicate}
 use Rattle.dialects_int.specs.Folds.{Known, same_kind}
 use Rattle.dialects_int.specs.Arithmetic.{cast_of, choice_of, comparison_of, difference_of, divides_signed, left_shift_of, maximum_of, minimum_of, product_of, quotient_of, remainder_of, right_shift_of, sign_extended, signed_maximum_of, signed_minimum_of, signed_quotient_of, signed_remainder_of, signed_right_shift_of, sum_of, truncated, truth, value_of, zero_extended}
-use Rattle.exhaustive.specs.Cases.{first_below, or_else}
 use Rattle.patterns_check.specs.declared.step.Step.{Step}
 use Rattle.patterns_check.specs.declared.step.Step.TheVariants as step
 use Rattle.patterns_check.specs.Outcomes.{Outcome, compare_outcome, constant_outcome, divides, given, is_signed_remainder, is_some_number, judged, log_of, log_outcome, no_value, pair_outcome, required, resize_any, resize_outcome, run, select_outcome, step_of}
-use Rattle.patterns_check.proofs.Logs.{lt_power}
+use Rattle.patterns_check.proofs.Logs.{log_below, lt_power}
 use Rattle.patterns_laws.proofs.KnownFolds.{given_some}
 use Rattle.patterns_meaning.proofs.Steps.{push_below, push_last, push_past}
 
@@ -82,19 +81,6 @@ unfolding sign_extended zero_extended truncated
 cast_below cast.ExtendSigned u w a v e = some_below w _ v (bits_below w (signed_of u a)) e
 cast_below cast.ExtendUnsigned u w a v e = some_below w _ v (below_by a w) e
 cast_below cast.Truncate u w a v e = if_below w (nat_lt w u) _ v (below_by a w) e
-
-log_below : (w a k : ℕ) → log_of w a ≡ Some k → k < w
-unfolding log_of first_below
-log_below zero a k e = absurd (none-some k e)
-log_below (suc w) a k e = go (λ i. log_below w a k i) (first_below (λ k. if a == 2 ^ k then Some k else None) w) refl e
-  where
-    here : (b : Bool) → (if b then Some w else None) ≡ Some k → k < suc w
-    here true e = let s : w ≡ k = same_Some _ _ e in omega (arith, s)
-    here false e = absurd (none-some k e)
-
-    go : (first_below (λ k. if a == 2 ^ k then Some k else None) w ≡ Some k → k < w) → (o : Option ℕ) → first_below (λ k. if a == 2 ^ k then Some k else None) w ≡ o → or_else o (if a == 2 ^ w then Some w else None) ≡ Some k → k < suc w
-    go ih None i e = here (a == 2 ^ w) e
-    go ih (Some j) i e = let h = ih (i ∙ e) in omega (arith, h)
 
 -- ---- outcomes
 -- a known outcome has the bits of its kind

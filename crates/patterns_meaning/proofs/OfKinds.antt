@@ -1,5 +1,5 @@
 -- What numbers of a pattern are of which kinds.
-use Rattle.std.proofs.Common.{◌≡◌, ℕ, ◌+◌, refl, ap, sym, ◌∙◌, subst, List, [], ◌∷◌, ◌++◌, length, map, Bool, true, false, true≢false, ◌&&◌, not, eqb-true, Option, Some, None, slice_get, get_or, inl, inr, arith}
+use Rattle.std.proofs.Common.{◌≡◌, ℕ, ◌+◌, refl, ap, sym, ◌∙◌, subst, List, [], ◌∷◌, ◌++◌, length, map, Bool, true, false, ◌&&◌, not, Option, Some, None, slice_get, get_or, inl, inr, arith}
 use Rattle.std.specs.Prelude.{if◌then◌else◌, ◌==◌}
 use Rattle.std.proofs.lemmas.Bool.{and_parts, cases_eq, cases_lt}
 use Rattle.std.proofs.lemmas.List.{get_or_append_left, length_push}
@@ -18,6 +18,7 @@ use Rattle.dialects_int.specs.Arithmetic.{cast_of, choice_of, comparison_of, tru
 use Rattle.patterns_check.specs.declared.step.Step.{Step}
 use Rattle.patterns_check.specs.declared.step.Step.TheVariants as step
 use Rattle.patterns_check.specs.Outcomes.{Outcome, compare_outcome, constant_outcome, divides, given, is_signed_remainder, is_some_number, judged, log_of, log_outcome, no_value, pair_outcome, required, resize_any, resize_outcome, run, select_outcome, step_of}
+use Rattle.patterns_check.proofs.Keeping.{same_kinds}
 use Rattle.patterns_laws.proofs.KnownFolds.{given_some}
 use Rattle.patterns_book.specs.declared.pattern.Further.{Further}
 use Rattle.patterns_book.specs.declared.pattern.Further.TheVariants as further
@@ -31,12 +32,6 @@ use Rattle.patterns_book.specs.Fitting.{form_step, further_step, kind_at, new_st
 use Rattle.patterns_makeable.specs.Makeable.{new_type}
 use Rattle.patterns_meaning.specs.Applied.{form_fits, further_kind, kinds_behind, new_fits, number_kind}
 use Rattle.patterns_meaning.proofs.Steps.{push_below, push_last, push_past}
-
-pub same_kinds : (j k : BitsKind) → same_kind j k ≡ true → j ≡ k
-same_kinds (kind.Int v) (kind.Int w) e = ap kind.Int (eqb-true v w e)
-same_kinds (kind.Int v) kind.Index e = absurd (true≢false (sym e))
-same_kinds kind.Index (kind.Int w) e = absurd (true≢false (sym e))
-same_kinds kind.Index kind.Index e = refl
 
 -- an outcome that is known is of a kind
 abbrev pub IsKind : BitsKind → Outcome → Type 0

@@ -1,7 +1,7 @@
 -- Operations on two values and constants, as rules make them: their kinds, and what they give.
 use Rattle.std.proofs.Common.{◌≡◌, ℕ, refl, ap, sym, ◌∙◌, subst, List, [], ◌∷◌, Bool, true, false, ◌&&◌, not, Option, Some, None, ◌⊎◌, inl, inr, arith}
 use Rattle.std.specs.Prelude.{codes, if◌then◌else◌}
-use Rattle.std.proofs.lemmas.Bool.{and_parts}
+use Rattle.std.proofs.lemmas.Bool.{and_from, and_parts}
 use Rattle.std.proofs.lemmas.Bool.Decides.{nat_tests}
 use Rattle.std.proofs.lemmas.Option.{none-some, same_Some}
 use Rattle.ir_types.specs.declared.bits.BitsKind.{BitsKind}
@@ -20,21 +20,22 @@ use Rattle.dialects_int.specs.Arithmetic.{value_of}
 use Rattle.dialects_int.specs.Folds.{Known, fold_of, kind_of, rule_of, same_kind}
 use Rattle.dialects_int.proofs.KnownOperands.{same_itself}
 use Rattle.patterns_check.specs.Outcomes.{Outcome, divides, given, is_some_number, judged, no_value, pair_outcome}
+use Rattle.patterns_check.proofs.Keeping.{same_kinds}
 use Rattle.patterns_laws.specs.Made.{binary, constant}
 use Rattle.patterns_laws.specs.Words.{among, flagged, named}
-use Rattle.patterns_laws.proofs.KnownFolds.{constant_gives, given_some}
+use Rattle.patterns_laws.proofs.KnownFolds.{given_some}
 use Rattle.patterns_base.specs.Looks.{constant_value, is_clean, known, source}
 use Rattle.patterns_book.specs.Matching.{Header}
 use Rattle.patterns_meaning.specs.Meaning.{Assignment}
 use Rattle.patterns_meaning.specs.Better.{AreKinded, are_its_bits, is_kind, is_kinded, is_poison_by_ones, is_signed_quotient, kind_in, takes_its}
 use Rattle.patterns_meaning.specs.Keeping.{is_there}
+use Rattle.patterns_meaning.proofs.Constants.{constant_folds}
 use Rattle.patterns_meaning.proofs.Forms.{by_constant, fold_kind, makes_is, named_is}
-use Rattle.patterns_meaning.proofs.Giving.{all_hold}
 use Rattle.patterns_meaning.proofs.Makings.{GivesOne, MadeOne}
 use Rattle.patterns_meaning.proofs.Monotone.{none_made}
-use Rattle.patterns_meaning.proofs.News.{constant_makes, type_is_of}
+use Rattle.patterns_meaning.proofs.News.{constant_makes}
 use Rattle.patterns_meaning.proofs.OfBits.{IsOfBits, pair_bits}
-use Rattle.patterns_meaning.proofs.OfKinds.{IsKind, pair_kind, same_kinds}
+use Rattle.patterns_meaning.proofs.OfKinds.{IsKind, pair_kind}
 use Rattle.patterns_meaning.proofs.Ruled.{rule_kinds}
 use Rattle.patterns_meaning.proofs.Sources.{sole_of}
 use Rattle.patterns_meaning.proofs.Trees.{each_found}
@@ -108,9 +109,6 @@ number_bits k n fits y e = let s : (k, n) ≡ y = same_Some _ _ e in subst (λ (
 pub value_fits : (o : Arithmetic) (k : BitsKind) (a b n : ℕ) → is_bits k a ≡ true → is_bits k b ≡ true → value_of o (width_of k) a b ≡ Some n → is_bits k n ≡ true
 value_fits o k a b n f g e = pair_bits o (Some (k, a)) (Some (k, b)) (Some (k, n)) (number_bits k a f) (number_bits k b g) (pair_known o k a b n e) (k, n) refl
 
-constant_is : (ty : TypeTerm) (k : BitsKind) (n : ℕ) → kind_of ty ≡ Some k → fold_of (head (constant ty n)).name (head (constant ty n)).properties [] (head (constant ty n)).results ≡ Some (k, n)
-constant_is ty k n e = subst (λ ty. fold_of (head (constant ty n)).name (head (constant ty n)).properties [] (head (constant ty n)).results ≡ Some (k, n)) (sym (type_is_of ty k e)) (constant_gives k n)
-
 pub zero_bits : (k : BitsKind) (n : ℕ) → is_bits k n ≡ true → is_bits k 0 ≡ true
 zero_bits k n h = grind (arith, nat_tests)
 
@@ -130,7 +128,7 @@ module _ (f : Value → Option BitsKind) where
     of = of;
     bare = refl;
     risen = flags_rise (among flagged name);
-    takes = ap (λ r. takes_pair r) e ∙ all_hold (is_width (width_of k)) (is_kind k (f u) && is_kind k (f v)) width (all_hold (is_kind k (f u)) (is_kind k (f v)) i j);
+    takes = ap (λ r. takes_pair r) e ∙ and_from (is_width (width_of k)) (is_kind k (f u) && is_kind k (f v)) width (and_from (is_kind k (f u)) (is_kind k (f v)) i j);
   }
     where
       takes_pair : Option Way → Bool
@@ -145,8 +143,8 @@ module _ (f : Value → Option BitsKind) where
     risen = refl;
     takes =
         ap (λ r. takes_its r (Some k) (head (constant ty bits)) []) by_constant
-        ∙ all_hold (is_width (width_of k)) (are_its_bits (fold_of (head (constant ty bits)).name (head (constant ty bits)).properties [] (head (constant ty bits)).results)) (and_parts (is_width (width_of k)) _ fits).0
-        (ap are_its_bits (constant_is ty k bits of) ∙ fits);
+        ∙ and_from (is_width (width_of k)) (are_its_bits (fold_of (head (constant ty bits)).name (head (constant ty bits)).properties [] (head (constant ty bits)).results)) (and_parts (is_width (width_of k)) _ fits).0
+        (ap are_its_bits (constant_folds ty k bits of) ∙ fits);
   }
 
 module _ (c : Assignment) (done later : ℕ → Bool) (x : ℕ) where
@@ -159,8 +157,8 @@ module _ (c : Assignment) (done later : ℕ → Bool) (x : ℕ) where
         of = pair_kind o k p q (pair_out o p q) f is;
         bits = pair_bits o p q (pair_out o p q) hf hg is;
         made = λ d. makes_is (head (binary name ty u v)) (c u ∷ c v ∷ []) (how.Pair o) k e of ∙ (λ t. pair_outcome o (i t) (j t)) ∙ is;
-        sure = ap (λ r. is_signed_quotient r && is_poison_by_ones (c u ∷ c v ∷ [])) e ∙ ap (λ b. b && is_poison_by_ones (c u ∷ c v ∷ [])) s;
-        fed = λ d. all_hold (is_there later u) (is_there later v && true) (there d) (all_hold (is_there later v) true (also d) refl);
+        sure = λ d. ap (λ r. is_signed_quotient r && is_poison_by_ones (c u ∷ c v ∷ [])) e ∙ ap (λ b. b && is_poison_by_ones (c u ∷ c v ∷ [])) s;
+        fed = λ d. and_from (is_there later u) (is_there later v && true) (there d) (and_from (is_there later v) true (also d) refl);
       }
 
   pub constant_gives_one : (ty : TypeTerm) (k : BitsKind) (bits : ℕ) → kind_of ty ≡ Some k → is_bits k bits ≡ true → GivesOne c done later x (constant ty bits) k (Some (k, bits))
@@ -168,7 +166,7 @@ module _ (c : Assignment) (done later : ℕ → Bool) (x : ℕ) where
     of = number_kind k bits;
     bits = number_bits k bits fits;
     made = λ d. constant_makes ty k bits of;
-    sure = ap (λ r. is_signed_quotient r && is_poison_by_ones []) by_constant;
+    sure = λ d. ap (λ r. is_signed_quotient r && is_poison_by_ones []) by_constant;
     fed = λ d. refl;
   }
 

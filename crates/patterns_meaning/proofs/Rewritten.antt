@@ -1,5 +1,5 @@
 -- The tree after a pattern is applied computes what it computed.
-use Rattle.std.proofs.Common.{◌≡◌, ℕ, ◌+◌, ◌<◌, ◌≤◌, refl, ap, sym, ◌∙◌, subst, List, [], ◌∷◌, length, map, Bool, true, false, true≢false, Option, Some, None, inl, inr, arith}
+use Rattle.std.proofs.Common.{◌≡◌, ℕ, ◌+◌, ◌<◌, ◌≤◌, refl, ap, sym, ◌∙◌, subst, List, [], ◌∷◌, length, map, Bool, true, false, Option, Some, None, inl, inr, arith}
 use Rattle.std.specs.Prelude.{nat_le, option_map, slice_get, is_some, if◌then◌else◌}
 use Rattle.std.specs.List.{list_all}
 use Rattle.std.proofs.lemmas.Bool.{and_parts, or_cases}
@@ -24,6 +24,7 @@ use Rattle.patterns_laws.specs.Made.{constant, made}
 use Rattle.patterns_laws.proofs.KnownFolds.{given_some}
 use Rattle.patterns_check.specs.Outcomes.{Outcome, given}
 use Rattle.patterns_check.specs.Checks.{refines}
+use Rattle.patterns_check.proofs.Keeping.{value_refined}
 use Rattle.patterns_book.specs.declared.pattern.New.{New}
 use Rattle.patterns_book.specs.declared.pattern.New.TheVariants as new
 use Rattle.patterns_book.specs.Matching.{Header, Standing, bound, standing}
@@ -34,7 +35,6 @@ use Rattle.patterns_meaning.specs.Meaning.{AreOfTypes, ArgumentsOfTypes, Assignm
 use Rattle.patterns_meaning.specs.Applied.{Agree, IsBelow}
 use Rattle.patterns_meaning.specs.After.{OperandsStand, RewrittenComputes, or_new, with_given, with_made}
 use Rattle.patterns_meaning.proofs.Trees.{value_below}
-use Rattle.patterns_meaning.proofs.Beginning.{one_known}
 use Rattle.patterns_meaning.proofs.Going.{plans_go, planned_there, root_below}
 use Rattle.patterns_meaning.proofs.News.{more_made}
 use Rattle.patterns_meaning.proofs.Edited.{blocks_below, blocks_changed, blocks_put, blocks_without, each_both, each_changed, each_put, each_without}
@@ -186,10 +186,6 @@ module _ (a c : Assignment) (n x : ℕ) (v : Value) (done : ℕ → Bool) where
 
   pub given_blocks : (Q : ℕ → ℕ → List TypeTerm → Type 0) (t : Operation) → EachBlock Q t → EachBlock Q (with_given x v t)
   given_blocks Q t s = blocks_without Q x (with_value_replaced (Result x 0) v t) (blocks_changed Q (put_values (Result x 0) v) (λ h. refl) t s)
-
-value_refined : (k : Known) (y : Outcome) → refines (Some k) y ≡ true → y ≡ Some k
-value_refined k None e = absurd (true≢false (sym e))
-value_refined k (Some w) e = ap (λ z. Some z) (sym (one_known k w e))
 
 pub rewritten_computes : RewrittenComputes
 rewritten_computes t clean n p x a done front k proper computes operands found constants always root made v plan =

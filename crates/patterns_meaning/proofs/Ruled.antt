@@ -1,11 +1,10 @@
 -- What a rule's application at an operation says: its edits, its operation, and what that and its operands give.
-use Rattle.std.proofs.Common.{◌≡◌, ℕ, zero, suc, ◌+◌, ◌<◌, refl, ap, sym, ◌∙◌, subst, List, [], ◌∷◌, map, Bool, true, false, true≢false, ◌&&◌, Option, Some, None, inl, inr, slice_get}
-use Rattle.std.specs.Prelude.{codes, nat_le, is_some, option_and_then, if◌then◌else◌}
+use Rattle.std.proofs.Common.{◌≡◌, ℕ, zero, suc, ◌<◌, refl, ap, sym, ◌∙◌, subst, List, [], ◌∷◌, map, Bool, true, true≢false, ◌&&◌, Option, Some, None, inl, inr, slice_get}
+use Rattle.std.specs.Prelude.{codes, is_some, option_and_then}
 use Rattle.std.specs.List.{list_all}
 use Rattle.std.proofs.lemmas.Bool.{and_parts}
 use Rattle.std.proofs.lemmas.Option.{none-some, same_Some}
 use Rattle.std.proofs.NetLemmas.Options.{map_some}
-use Rattle.ir_types.specs.declared.refusal.Refusal.TheVariants.{Full, IdsExhausted}
 use Rattle.ir_types.specs.declared.bits.BitsKind.{BitsKind}
 use Rattle.ir_types.specs.Bits.{width_of}
 use Rattle.ir_types.specs.Reasons.{is_width}
@@ -15,8 +14,7 @@ use Rattle.ir_tree.specs.declared.value.Value.{Value}
 use Rattle.ir_tree.specs.declared.value.Value.TheVariants.{Result, Arg}
 use Rattle.ir_tree.specs.declared.place.Place.{Place}
 use Rattle.ir_tree.specs.Tree.{head}
-use Rattle.ir_tree.specs.Ids.{find, op_count}
-use Rattle.ir_tree.specs.Limits.{most_next, most_ops}
+use Rattle.ir_tree.specs.Ids.{find}
 use Rattle.ir_tree.specs.WellFormed.{IsWellFormed}
 use Rattle.ir_tree.specs.Meaning.{Operation}
 use Rattle.ir_tree_laws.specs.Values.{has_value, type_of_value}
@@ -35,8 +33,7 @@ use Rattle.patterns_check.specs.Checks.{refines}
 use Rattle.patterns_base.specs.declared.rule.Rule.{Rule}
 use Rattle.patterns_base.specs.Looks.{constant_value, front_of, giver, is_clean, known, source}
 use Rattle.patterns_base.specs.Looks as looks
-use Rattle.patterns_base.specs.Makes.{made_by}
-use Rattle.patterns_base.specs.Rewrites.{becomes, carried_out, edits_of, none, refused, rewrite_by, rewrite_of, suits}
+use Rattle.patterns_base.specs.Rewrites.{becomes, edits_of, rewrite_of, suits}
 use Rattle.patterns_base.specs.Rules.{rule}
 use Rattle.patterns_base.proofs.Facts.{edits_are, rewrite_is, when_some}
 use Rattle.patterns_facts.specs.Accepted.{AreAccepted}
@@ -45,6 +42,7 @@ use Rattle.patterns_meaning.specs.Meaning.{Assignment, is_arithmetic, makes_by, 
 use Rattle.patterns_meaning.specs.Applied.{IsBelow}
 use Rattle.patterns_meaning.specs.Better.{AreKinded, is_kinded, kind_in, takes, takes_its}
 use Rattle.patterns_meaning.specs.Keeping.{Computing, IsFed, is_there}
+use Rattle.patterns_meaning.proofs.Applying.{carried, some_edits}
 use Rattle.patterns_meaning.proofs.Formed.{is_below, operands_stand}
 use Rattle.patterns_meaning.proofs.Forms.{by_constant, makes_is, named_is}
 use Rattle.patterns_meaning.proofs.Monotone.{same_refined}
@@ -53,31 +51,6 @@ use Rattle.patterns_meaning.proofs.Settling.{typed_bits}
 use Rattle.patterns_meaning.proofs.Trees.{TypesFound, each_found, found_fit, types_found}
 
 -- ---- a rule at an operation
-module _ (m n : Module) where
-  some_edits : (r : Option (List Edit)) → rewrite_by r m ≡ becomes n → (es : List Edit) × (r ≡ Some es) × (carried_out es m ≡ becomes n)
-  some_edits None e = absurd (none_becomes e)
-    where
-      none_becomes : none ≡ becomes n → ⊥
-      none_becomes e = cc
-  some_edits (Some es) e = (es, refl, e)
-
-  carried : (es : List Edit) → carried_out es m ≡ becomes n → all_edited es m ≡ n
-  carried es e = go (nat_le (op_count m.tree + made_by es) most_ops) (nat_le (m.next + made_by es) most_next) e
-    where
-      go : (b c : Bool) → (if b then (if c then becomes (all_edited es m) else refused IdsExhausted) else refused Full) ≡ becomes n → all_edited es m ≡ n
-      go true true e = same (all_edited es m) e
-        where
-          same : (k : Module) → becomes k ≡ becomes n → k ≡ n
-          same k e = cc
-      go true false e = absurd (refused_becomes e)
-        where
-          refused_becomes : refused IdsExhausted ≡ becomes n → ⊥
-          refused_becomes e = cc
-      go false c e = absurd (refused_becomes e)
-        where
-          refused_becomes : refused Full ≡ becomes n → ⊥
-          refused_becomes e = cc
-
 pub rule_edits : (r : Rule) (m n : Module) (x : ℕ) → rewrite_of r m x ≡ becomes n → (es : List Edit) × (all_edited es m ≡ n)
 rule_edits r m n x e = let s = some_edits m n (edits_of r m x) (sym (rewrite_is r m x) ∙ e) in (s.0, carried m n s.0 s.2)
 

@@ -22,11 +22,11 @@ next_grows (Replace old new) n = omega arith
 next_grows (SetAttr x k a) n = omega arith
 next_grows (DropAttr x k) n = omega arith
 
-all_grow : (es : List Edit) (m : Module) → m.next ≤ (all_edited es m).next
+pub all_grow : (es : List Edit) (m : Module) → m.next ≤ (all_edited es m).next
 all_grow [] m = omega arith
 all_grow (e ∷ es) m = let h = next_grows e m.next in let ih = all_grow es (edited e m) in omega (arith, h, ih)
 
-rewrite_grows : (r : Rule) (m n : Module) (x : ℕ) → rewrite_of r m x ≡ becomes n → m.next ≤ n.next
+pub rewrite_grows : (r : Rule) (m n : Module) (x : ℕ) → rewrite_of r m x ≡ becomes n → m.next ≤ n.next
 rewrite_grows r m n x e = let s = rule_edits r m n x e in subst (λ (n : Module). m.next ≤ n.next) s.1 (all_grow s.0 m)
 
 pub runs_keep : RunsKeep

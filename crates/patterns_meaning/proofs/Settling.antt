@@ -22,6 +22,7 @@ use Rattle.dialects_int.specs.declared.operations.Rule.TheVariants as rule
 use Rattle.dialects_int.specs.Folds.{Known, kind_of, rule_of}
 use Rattle.patterns_check.specs.Checks.{refines}
 use Rattle.patterns_check.specs.Outcomes.{Outcome, given, pair_outcome}
+use Rattle.patterns_check.proofs.Keeping.{value_refined}
 use Rattle.patterns_laws.proofs.KnownFolds.{given_some}
 use Rattle.patterns_book.specs.Matching.{Header}
 use Rattle.patterns_meaning.specs.Meaning.{ArgumentsOfTypes, Assignment, Breaks, Each, EachBlock, Fits, FitsDone, IsOfType, ResultsOfTypes, has_flags, is_arithmetic, makes, makes_by, of_two, result_kind}
@@ -30,7 +31,7 @@ use Rattle.patterns_meaning.proofs.Formed.{each_stands}
 use Rattle.patterns_meaning.proofs.Trees.{TypesFound, each_found, types_found}
 use Rattle.patterns_meaning.proofs.OfBits.{IsOfBits}
 use Rattle.patterns_meaning.proofs.MadeOf.{HaveBits, made_of}
-use Rattle.patterns_meaning.proofs.Monotone.{itself, known_refined, monotone, through}
+use Rattle.patterns_meaning.proofs.Monotone.{itself, monotone, through}
 
 -- ---- from what is found to each
 pub each_by_found : (P : Header → Type 0) (t : Operation) → HasDistinctIds t → ((o : Operation) → find (head o).id t ≡ Some o → P (head o)) → Each P t
@@ -52,7 +53,7 @@ ones_stay (x ∷ y ∷ []) (Some u ∷ v ∷ []) r b e m = refl
 ones_stay (x ∷ y ∷ []) (None ∷ None ∷ []) r b e m = refl
 ones_stay (Some x ∷ y ∷ []) (None ∷ Some v ∷ []) r b e m = absurd (true≢false (sym b.0))
 ones_stay (None ∷ None ∷ []) (None ∷ Some v ∷ []) r b e m = absurd (none-some r m)
-ones_stay (None ∷ Some y ∷ []) (None ∷ Some v ∷ []) r b e m = ap (λ o. is_poison_by_ones (None ∷ o ∷ [])) (known_refined y (Some v) b.1.0) ∙ e
+ones_stay (None ∷ Some y ∷ []) (None ∷ Some v ∷ []) r b e m = ap (λ o. is_poison_by_ones (None ∷ o ∷ [])) (value_refined y (Some v) b.1.0) ∙ e
 
 pub sure_stays : (h : Header) (xs ys : List Outcome) (r : Outcome) → AllBetter xs ys → may_overflow h xs ≡ false → makes h xs ≡ Some r → may_overflow h ys ≡ false
 sure_stays h xs ys r b e m = go (is_signed_quotient (rule_of h.name)) refl e
@@ -234,7 +235,7 @@ module _ (done : ℕ → Bool) (t : Operation) (d : HasDistinctIds t) (kinded : 
       flagged false f z m n = inr (record { here = o; found = e; is_done = i; arithmetic = j; value = z; is_made = m; was = n })
 
       go : (p : Outcome) → a (Result x 0) ≡ p → (q : Outcome) → makes (head o) (map a (head o).operands) ≡ Some q → refines (a (Result x 0)) q ≡ true → (Fits a x (head o) ⊎ Breaks a x (head o)) ⊎ Unsettled a x
-      go (Some k) n q m b = inl (inl (m ∙ ap (λ z. Some z) (known_refined k q (subst (λ p. refines p q ≡ true) n b) ∙ sym n)))
+      go (Some k) n q m b = inl (inl (m ∙ ap (λ z. Some z) (value_refined k q (subst (λ p. refines p q ≡ true) n b) ∙ sym n)))
       go None n None m b = inl (inl (m ∙ ap (λ z. Some z) (sym n)))
       go None n (Some z) m b = flagged (has_flags (head o)) refl z m n
 

@@ -22,13 +22,13 @@ use Rattle.dialects_int.specs.Arithmetic.{cast_of}
 use Rattle.dialects_int.specs.Folds.{Known, kind_of, rule_of}
 use Rattle.patterns_laws.proofs.KnownFolds.{given_some}
 use Rattle.patterns_check.specs.Outcomes.{Outcome, given, resize_any, resize_outcome}
+use Rattle.patterns_check.proofs.Keeping.{same_kinds}
 use Rattle.patterns_base.specs.Looks.{giver, when}
 use Rattle.patterns_base.proofs.Facts.{when_some}
 use Rattle.patterns_book.specs.Matching.{Header}
 use Rattle.patterns_meaning.specs.Meaning.{Assignment, makes_by, result_kind}
 use Rattle.patterns_meaning.specs.Better.{is_kind, kind_in}
 use Rattle.patterns_meaning.proofs.Forms.{makes_is}
-use Rattle.patterns_meaning.proofs.OfKinds.{same_kinds}
 use Rattle.patterns_meaning.proofs.Ruled.{OfRule, Site}
 use Rattle.patterns_meaning.proofs.Trees.{found_fit}
 

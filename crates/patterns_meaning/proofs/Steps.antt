@@ -1,10 +1,10 @@
 -- Steps one after another.
-use Rattle.std.proofs.Common.{◌≡◌, ℕ, ◌+◌, ◌<◌, refl, ap, sym, ◌∙◌, subst, List, [], ◌∷◌, ◌++◌, length, Option, Some, None, slice_get, get_or, arith}
+use Rattle.std.proofs.Common.{◌≡◌, ℕ, ◌+◌, ◌<◌, ap, sym, ◌∙◌, subst, List, [], ◌∷◌, ◌++◌, length, Some, None, slice_get, get_or, arith}
 use Rattle.std.proofs.lemmas.List.{length_push, get_or_append_left}
 use Rattle.std.proofs.Math.Seq.{get_or-append_seam}
 use Rattle.std.proofs.lemmas.Option.{slice_get_within, slice_get-get_or, slice_get_past, get_or_from_slice_get, same_Some}
 use Rattle.patterns_check.specs.declared.step.Step.{Step}
-use Rattle.patterns_check.specs.Outcomes.{Outcome, given, run, step_of}
+use Rattle.patterns_check.specs.Outcomes.{Outcome, run, step_of}
 use Rattle.patterns_laws.proofs.KnownFolds.{given_some}
 
 -- ---- one more at the end
@@ -37,12 +37,3 @@ run_grows (s ∷ ss) env new e =
       longer = omega (arith, r.longer, length_push env g.0);
       stays = λ k o h. r.stays k o (push_other env g.0 k o h);
     }
-
-pub run_behind : (ss rs : List Step) (env : List Outcome) → run (ss ++ rs) env ≡ given (run ss env) (run rs)
-run_behind [] rs env = refl
-run_behind (s ∷ ss) rs env = go (λ v. run_behind ss rs (env ++ (v ∷ []))) (step_of s env)
-  where
-    go : ((v : Outcome) → run (ss ++ rs) (env ++ (v ∷ [])) ≡ given (run ss (env ++ (v ∷ []))) (run rs)) → (o : Option Outcome)
-        → given o (λ v. run (ss ++ rs) (env ++ (v ∷ []))) ≡ given (given o (λ v. run ss (env ++ (v ∷ [])))) (run rs)
-    go ih None = refl
-    go ih (Some v) = ih v

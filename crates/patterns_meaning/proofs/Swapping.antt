@@ -2,7 +2,7 @@
 use Rattle.std.proofs.Common.{◌≡◌, ℕ, ◌<◌, ◌^◌, refl, ap, sym, ◌∙◌, subst, List, [], ◌∷◌, map, Bool, true, false, true≢false, ◌&&◌, not, eqb, eqb-true, eq-eqb, Option, Some, None, ◌⊎◌, inl, inr}
 use Rattle.std.specs.Prelude.{if◌then◌else◌, bit_and, bit_or, bit_xor, is_some}
 use Rattle.std.specs.List.{list_all}
-use Rattle.std.proofs.lemmas.Bool.{and_parts}
+use Rattle.std.proofs.lemmas.Bool.{and_from, and_parts}
 use Rattle.std.proofs.lemmas.Option.{same_Some}
 use Rattle.ir_types.specs.Bits.{width_of}
 use Rattle.ir_types.specs.Reasons.{is_width}
@@ -30,6 +30,7 @@ use Rattle.rewriter_machine.specs.Contents.{all_edited}
 use Rattle.rewriter_machine.specs.Edits.{SetOperand}
 use Rattle.patterns_edits.specs.Lists.{Free}
 use Rattle.patterns_check.specs.Outcomes.{Outcome, divides, is_some_number, judged, pair_outcome}
+use Rattle.patterns_check.proofs.Keeping.{same_kinds}
 use Rattle.patterns_laws.specs.Keeps.{Each as EachOf}
 use Rattle.patterns_laws.specs.Words.{among, swapping}
 use Rattle.patterns_laws.proofs.KnownFolds.{below, some_bits}
@@ -52,10 +53,9 @@ use Rattle.patterns_meaning.proofs.Edited.{blocks_changed, each_both, each_chang
 use Rattle.patterns_meaning.proofs.EditsForm.{all_formed}
 use Rattle.patterns_meaning.proofs.Formed.{is_below, operands_stand}
 use Rattle.patterns_meaning.proofs.Forms.{makes_is}
-use Rattle.patterns_meaning.proofs.Giving.{after_old, all_hold}
+use Rattle.patterns_meaning.proofs.Giving.{after_old}
 use Rattle.patterns_meaning.proofs.Monotone.{itself}
 use Rattle.patterns_meaning.proofs.OfBits.{IsOfBits}
-use Rattle.patterns_meaning.proofs.OfKinds.{same_kinds}
 use Rattle.patterns_meaning.proofs.Readied.{AreKinds, HasKind, Rises, Takes, all_rise, each_rises, kinds_are, kinds_found, same_kinds_of, same_takes}
 use Rattle.patterns_meaning.proofs.Rewritten.{same_makes}
 use Rattle.patterns_meaning.proofs.Ruled.{Ruled, of_rule, rule_kinds, ruled, site_of, value_bits}
@@ -183,7 +183,7 @@ module _ (m : Module) (x : ℕ) (done : ℕ → Bool) (below : IsBelow m.next m.
   still_there (w ∷ ws) s e =
       let h = and_parts (is_there done w) (list_all (is_there done) ws) e in
       let g = and_parts (has_value w m.tree) (list_all (λ v. has_value v m.tree) ws) s in
-      all_hold (is_there (done_after m.next x done) w) (list_all (is_there (done_after m.next x done)) ws) (one w (value_below m.next m.tree below w g.0) h.0) (still_there ws g.1 h.1)
+      and_from (is_there (done_after m.next x done) w) (list_all (is_there (done_after m.next x done)) ws) (one w (value_below m.next m.tree below w g.0) h.0) (still_there ws g.1 h.1)
     where
       one : (w : Value) → owner w < m.next → is_there done w ≡ true → is_there (done_after m.next x done) w ≡ true
       one (Result y j) l e = after_old m.next x done y l ∙ e
@@ -242,7 +242,7 @@ module _ (accepted : AreAccepted) where
       same_takes (head q.here) (head q.here).id (w.second ∷ w.first ∷ []) (kinds w.second ∷ kinds w.first ∷ [])
       ∙ ap (λ r. takes_its r (result_kind (head q.here)) (head q.here) (kinds w.second ∷ kinds w.first ∷ [])) w.pair.1
       ∙ ap (λ k. takes_its (Some (how.Pair w.pair.0)) k (head q.here) (kinds w.second ∷ kinds w.first ∷ [])) k.is
-      ∙ all_hold (is_width (width_of k.kind)) (is_kind k.kind (kinds w.second) && is_kind k.kind (kinds w.first)) k.width (all_hold (is_kind k.kind (kinds w.second)) (is_kind k.kind (kinds w.first)) both.1 both.0) in
+      ∙ and_from (is_width (width_of k.kind)) (is_kind k.kind (kinds w.second) && is_kind k.kind (kinds w.first)) k.width (and_from (is_kind k.kind (kinds w.second)) (is_kind k.kind (kinds w.first)) both.1 both.0) in
       let u = all_edited es m in
       let are : AreKinds (kind_in m.tree) (all_edited es m).tree =
       record {
@@ -305,7 +305,7 @@ module _ (accepted : AreAccepted) where
               (swapped_each x w.first w.second q.here w.operands own (IsFed later) (IsFed later) (λ h p. p)
               (λ p i.
               let b = and_parts (is_there later w.first) (is_there later w.second && true) (subst (λ vs. list_all (is_there later) vs ≡ true) w.operands (p i)) in
-              all_hold (is_there later w.second) (is_there later w.first && true) (and_parts (is_there later w.second) true b.1).0 (all_hold (is_there later w.first) true b.0 refl))
+              and_from (is_there later w.second) (is_there later w.first && true) (and_parts (is_there later w.second) true b.1).0 (and_from (is_there later w.first) true b.0 refl))
               m.tree it (fed_later m x done below (operands_stand is_isolated m.tree ready.formed.distinct ready.formed.formed.visible) computing.fed));
         };
       }

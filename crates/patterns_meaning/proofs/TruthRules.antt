@@ -1,10 +1,9 @@
 -- The rules that give a truth value keep modules ready, and what they compute.
-use Rattle.std.proofs.Common.{◌≡◌, ℕ, zero, suc, refl, ap, sym, ◌∙◌, subst, [], ◌∷◌, map, Bool, true, false, true≢false, ◌&&◌, ◌||◌, eqb, eqb-true, Option, Some, None, slice_get, inl, inr}
+use Rattle.std.proofs.Common.{◌≡◌, ℕ, zero, suc, refl, ap, sym, ◌∙◌, subst, [], ◌∷◌, map, Bool, true, false, ◌&&◌, ◌||◌, eqb, eqb-true, Option, Some, None, slice_get, inl, inr}
 use Rattle.std.specs.Prelude.{codes, option_map, if◌then◌else◌}
 use Rattle.std.specs.List.{list_any}
 use Rattle.std.proofs.lemmas.Bool.{and_parts, or_cases}
 use Rattle.std.proofs.lemmas.Option.{none-some, same_Some}
-use Rattle.ir_types.specs.declared.bits.BitsKind.{BitsKind}
 use Rattle.ir_types.specs.declared.bits.BitsKind.TheVariants as kind
 use Rattle.ir_types.specs.Bits.{is_bits, width_of}
 use Rattle.ir_types.specs.Terms.{TypeTerm}
@@ -36,14 +35,14 @@ use Rattle.patterns_base.proofs.Facts.{when_some}
 use Rattle.patterns_facts.specs.Accepted.{AreAccepted}
 use Rattle.patterns_facts.proofs.Shapes.{two_is}
 use Rattle.patterns_meaning.specs.Meaning.{Assignment, of_two}
-use Rattle.patterns_meaning.specs.Better.{compares, is_kind, is_kinded, kind_in, takes}
+use Rattle.patterns_meaning.specs.Better.{is_kinded, kind_in, takes}
 use Rattle.patterns_meaning.specs.Keeping.{IsReady, KeepsComputing, KeepsReady}
 use Rattle.patterns_meaning.proofs.Constants.{GivesNumber, number_improves, number_ready}
 use Rattle.patterns_meaning.proofs.Dropping.{known_is, known_test, of_two_is}
 use Rattle.patterns_meaning.proofs.Firsts.{poison_refined}
 use Rattle.patterns_meaning.proofs.Forms.{named_is}
+use Rattle.patterns_meaning.proofs.MadeOf.{compares_kind}
 use Rattle.patterns_meaning.proofs.Monotone.{same_refined}
-use Rattle.patterns_meaning.proofs.OfKinds.{same_kinds}
 use Rattle.patterns_meaning.proofs.Ruled.{Ruled, Site, gives_refined, of_rule, rule_kinds, ruled, site_of}
 use Rattle.patterns_meaning.proofs.Trees.{each_found}
 
@@ -86,10 +85,6 @@ compared p b (Some x) (Some y) z f m = go (same_kind x.0 y.0) m
     go : (c : Bool) → (if c then Some (Some (kind.Int 1, truth (comparison_of (width_of x.0) p x.1 y.1))) else None) ≡ Some z → refines z (Some (kind.Int 1, b)) ≡ true
     go true m = same_refined z (Some (kind.Int 1, b)) (sym (same_Some _ _ m) ∙ ap (λ t. Some (kind.Int 1, t)) (f x y refl refl))
     go false m = absurd (none-some z m)
-
-compares_kind : (k : BitsKind) (i j : Option BitsKind) → compares k i j ≡ true → kind.Int 1 ≡ k
-compares_kind k None j e = absurd (true≢false (sym e))
-compares_kind k (Some l) j e = same_kinds (kind.Int 1) k (and_parts (is_kind l j) (same_kind (kind.Int 1) k) e).1
 
 module _ (m : Module) (a : Assignment) (done : ℕ → Bool) (x : ℕ) (o : Operation) (s : Site m a done x o) where
   comparison_refined : (n b : ℕ) (u v : Value) → rule_of (head o).name ≡ Some how.Compare → predicate (head o) ≡ Some n → (head o).operands ≡ u ∷ v ∷ [] → done x ≡ true

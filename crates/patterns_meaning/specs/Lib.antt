@@ -6,4 +6,11 @@ pub mod Better
 pub mod Improving
 pub mod Keeping
 pub mod Runs
+pub mod Canonical
+pub mod Strict
+pub mod MixedRuns
+pub mod StrictSamples
+pub mod Told
+pub mod Remainders
+pub mod IndexCasts
 pub mod Samples

@@ -7,9 +7,10 @@ use Rattle.patterns_base.specs.declared.rule.Rule.TheVariants.{AddNegative, Canc
 use Rattle.patterns_base.specs.declared.rule.Rule.TheVariants.{ChooseOpposite, ChooseSame, ChooseTruth}
 use Rattle.patterns_base.specs.declared.rule.Rule.TheVariants.{CompareItself, CompareZero, CutCast}
 use Rattle.patterns_base.specs.declared.rule.Rule.TheVariants.{DropAllOnes, DropOne, DropZero}
-use Rattle.patterns_base.specs.declared.rule.Rule.TheVariants.{ExpandDifference, ExpandMinMax, KeepItself}
-use Rattle.patterns_base.specs.declared.rule.Rule.TheVariants.{MirrorComparison, RegroupConstants}
-use Rattle.patterns_base.specs.declared.rule.Rule.TheVariants.{SwapConstant, ZeroRemainder}
+use Rattle.patterns_base.specs.declared.rule.Rule.TheVariants.{EraseDead, ExpandDifference, ExpandMinMax}
+use Rattle.patterns_base.specs.declared.rule.Rule.TheVariants.{ExtendExtension, FoldToConstant, KeepItself}
+use Rattle.patterns_base.specs.declared.rule.Rule.TheVariants.{MirrorComparison, RegroupConstants, SwapConstant}
+use Rattle.patterns_base.specs.declared.rule.Rule.TheVariants.{ZeroRemainder}
 use Rattle.patterns_base.specs.Rewrites.{becomes, rewrite_of}
 use Rattle.patterns_base.specs.Canonicalization.{End, ended}
 use Rattle.greedy.specs.Rewriting.{rewriting_of}
@@ -29,9 +30,10 @@ AllKeep rs = (r : Rule) → In r rs → KeepsReady r × KeepsComputing r
 -- rules of which it is shown
 abbrev pub kept_rules : List Rule
 kept_rules =
-    SwapConstant ∷ DropZero ∷ DropOne ∷ DropAllOnes ∷ CancelItself ∷ KeepItself ∷ ZeroRemainder
-    ∷ RegroupConstants ∷ AddNegative ∷ CompareItself ∷ MirrorComparison ∷ CompareZero ∷ ChooseSame
-    ∷ ChooseKnown ∷ ChooseTruth ∷ ChooseOpposite ∷ CutCast ∷ ExpandMinMax ∷ ExpandDifference ∷ []
+    EraseDead ∷ FoldToConstant ∷ SwapConstant ∷ DropZero ∷ DropOne ∷ DropAllOnes ∷ CancelItself ∷ KeepItself
+    ∷ ZeroRemainder ∷ RegroupConstants ∷ AddNegative ∷ CompareItself ∷ MirrorComparison ∷ CompareZero
+    ∷ ChooseSame ∷ ChooseKnown ∷ ChooseTruth ∷ ChooseOpposite ∷ ExtendExtension ∷ CutCast ∷ ExpandMinMax
+    ∷ ExpandDifference ∷ []
 
 -- it is so of them, and of each list of some of them
 abbrev pub KeptAreKept : Type 0

@@ -1,17 +1,40 @@
 //! Rules of rewriting keep what a module computes, or make it better, also where it is poison: each at an operation,
 //! and so whole runs of them. Each is shown to keep modules ready too: well-formed, sorted, and of the kinds that are
 //! asked for.
-ghost use Rattle.patterns_base.specs.declared.rule.Rule.TheVariants.{AddNegative, CancelItself, ChooseKnown};
-ghost use Rattle.patterns_base.specs.declared.rule.Rule.TheVariants.{ChooseOpposite, ChooseSame, ChooseTruth};
-ghost use Rattle.patterns_base.specs.declared.rule.Rule.TheVariants.{CompareItself, CompareZero, CutCast};
-ghost use Rattle.patterns_base.specs.declared.rule.Rule.TheVariants.{DropAllOnes, DropOne, DropZero};
-ghost use Rattle.patterns_base.specs.declared.rule.Rule.TheVariants.{ExpandDifference, ExpandMinMax, KeepItself};
-ghost use Rattle.patterns_base.specs.declared.rule.Rule.TheVariants.{MirrorComparison, RegroupConstants};
-ghost use Rattle.patterns_base.specs.declared.rule.Rule.TheVariants.{SwapConstant, ZeroRemainder};
+ghost use Rattle.patterns_base.specs.declared.rule.Rule.TheVariants.{AddNegative, CancelItself, CastBack};
+ghost use Rattle.patterns_base.specs.declared.rule.Rule.TheVariants.{ChooseKnown, ChooseOpposite, ChooseSame};
+ghost use Rattle.patterns_base.specs.declared.rule.Rule.TheVariants.{ChooseTruth, CompareItself, CompareZero};
+ghost use Rattle.patterns_base.specs.declared.rule.Rule.TheVariants.{CutCast, DropAllOnes, DropOne};
+ghost use Rattle.patterns_base.specs.declared.rule.Rule.TheVariants.{DropZero, EraseDead, ExpandDifference};
+ghost use Rattle.patterns_base.specs.declared.rule.Rule.TheVariants.{ExpandMinMax, ExpandRemainder, ExtendExtension};
+ghost use Rattle.patterns_base.specs.declared.rule.Rule.TheVariants.{FoldToConstant, KeepItself, MirrorComparison};
+ghost use Rattle.patterns_base.specs.declared.rule.Rule.TheVariants.{RegroupConstants, SwapConstant, ZeroRemainder};
+ghost use Rattle.patterns_meaning.specs.Canonical.{CanonicalizationKeeps};
+ghost use Rattle.patterns_meaning.specs.IndexCasts.{CastsBack};
 ghost use Rattle.patterns_meaning.specs.Keeping.{KeepsComputing, KeepsReady};
+ghost use Rattle.patterns_meaning.specs.Remainders.{ExpandsRemainders};
 ghost use Rattle.patterns_meaning.specs.Runs.{KeptAreKept, RewritingKeeps, RunsKeep};
+ghost use Rattle.patterns_meaning.specs.Told.{ToldCanonicalizationKeeps, ToldRewritingKeeps};
 
+use greedy::laws::rewriting_by_its_rules_is_canonicalization;
+use patterns_base::laws::only_listed_rules_apply;
 use patterns_facts::laws::no_edit_is_refused;
+
+/// An operation that is dead is erased.
+pub fn erase_dead()
+    ensures ready { KeepsReady EraseDead }
+    ensures computing { KeepsComputing EraseDead }
+{
+    no_edit_is_refused();
+}
+
+/// An operation over constants, or over one that alone decides, becomes a constant.
+pub fn fold_to_constant()
+    ensures ready { KeepsReady FoldToConstant }
+    ensures computing { KeepsComputing FoldToConstant }
+{
+    no_edit_is_refused();
+}
 
 /// A constant first operand of a commutative operation goes second.
 pub fn swap_constant()
@@ -141,10 +164,27 @@ pub fn choose_opposite()
     no_edit_is_refused();
 }
 
+/// An extension of an extension becomes one.
+pub fn extend_extension()
+    ensures ready { KeepsReady ExtendExtension }
+    ensures computing { KeepsComputing ExtendExtension }
+{
+    no_edit_is_refused();
+}
+
 /// A cut of a cut becomes one; a cut of an extension back becomes what was extended.
 pub fn cut_cast()
     ensures ready { KeepsReady CutCast }
     ensures computing { KeepsComputing CutCast }
+{
+    no_edit_is_refused();
+}
+
+/// A cast back becomes what was cast: at casts from and to index what is computed is kept. An unrealized cast computes
+/// nothing here.
+pub fn cast_back()
+    ensures ready { KeepsReady CastBack }
+    ensures computing { CastsBack }
 {
     no_edit_is_refused();
 }
@@ -165,6 +205,15 @@ pub fn expand_difference()
     no_edit_is_refused();
 }
 
+/// A remainder becomes a - (a / b) * b: what is computed is kept where no signed remainder of the least value, or of
+/// poison, by -1 is done there.
+pub fn expand_remainder()
+    ensures ready { KeepsReady ExpandRemainder }
+    ensures computing { ExpandsRemainders }
+{
+    no_edit_is_refused();
+}
+
 /// Where each rule of a list keeps modules ready and what they compute, so do runs of them, however long.
 pub fn runs_keep_what_is_computed()
     ensures { RunsKeep }
@@ -180,4 +229,23 @@ pub fn listed_rules_keep_what_is_computed()
     ensures { KeptAreKept }
 {
     no_edit_is_refused();
+}
+
+/// Canonicalization keeps what a module computes that has no unrealized casts, and no loops or choices of scf.
+pub fn canonicalization_keeps_what_is_computed()
+    ensures { CanonicalizationKeeps }
+{
+    no_edit_is_refused();
+    only_listed_rules_apply();
+    rewriting_by_its_rules_is_canonicalization();
+}
+
+/// Rewriting by rules keeps what a module computes where each rewrite that its trace tells is by a rule that keeps it;
+/// so does canonicalization, where each is by one that is listed.
+pub fn what_traces_tell_is_kept()
+    ensures rewriting { ToldRewritingKeeps }
+    ensures canonicalization { ToldCanonicalizationKeeps }
+{
+    no_edit_is_refused();
+    rewriting_by_its_rules_is_canonicalization();
 }

@@ -4,3 +4,4 @@
 pub mod better;
 pub mod kept;
 pub mod laws;
+pub mod strict;

@@ -1,0 +1,141 @@
+-- Runs of rules and patterns that keep what is computed keep it, and rewriting by a list of them is such a run.
+use Rattle.std.proofs.Common.{◌≡◌, ℕ, zero, suc, ◌+◌, ◌≤◌, refl, sym, ◌∙◌, subst, List, [], ◌∷◌, ◌++◌, map, Bool, true, false, ◌&&◌, inl, inr, arith}
+use Rattle.std.specs.Prelude.{nat_le, if◌then◌else◌}
+use Rattle.ir_types.specs.declared.refusal.Refusal.TheVariants.{BadLimit}
+use Rattle.ir_tree.specs.Ids.{ids}
+use Rattle.ir_tree_laws.specs.Members.{In}
+use Rattle.ir_event.specs.Modules.{Module}
+use Rattle.rewriter_machine.specs.Edits.{Make}
+use Rattle.patterns_base.specs.declared.rule.Rule.{Rule}
+use Rattle.patterns_base.specs.Makes.{give}
+use Rattle.patterns_base.specs.Rewrites.{Rewrite, becomes, none, refused}
+use Rattle.patterns_base.specs.Canonicalization.{Canonical, End, converged, end_of, ended, go_on, most_rewrites, stopped}
+use Rattle.patterns_book.specs.Shapes.{Shape}
+use Rattle.patterns_own.specs.Own.{own_rewrite}
+use Rattle.greedy.specs.Rewriting.{first_by, next_by, rewriting_of, rewritten_from}
+use Rattle.greedy.specs.Trial.{Attempt, OfOwn, OfRule, attempted, by_attempts, first_tried}
+use Rattle.patterns_meaning.specs.Meaning.{Assignment}
+use Rattle.patterns_meaning.specs.Keeping.{Computing, Improves, IsReady, done_after}
+use Rattle.patterns_meaning.specs.Runs.{ComputesThrough, KeptAreKept, kept_rules}
+use Rattle.patterns_meaning.specs.Strict.{HoldingKeep}
+use Rattle.patterns_meaning.specs.MixedRuns.{AttemptKeeps, IsShown, LeadsBy, MixedRewritingKeeps, MixedRunsKeep, ShownAreKept}
+use Rattle.patterns_meaning.proofs.Applying.{applies}
+use Rattle.patterns_meaning.proofs.Giving.{after_old}
+use Rattle.patterns_meaning.proofs.Listed.{ended_parts, none_never, or_parts, stopped_never}
+use Rattle.patterns_meaning.proofs.Monotone.{itself, through}
+use Rattle.patterns_meaning.proofs.Running.{all_grow, rewrite_grows}
+
+-- ---- one of them at an operation
+where_tried : (b : Bool) (r : Rewrite) (n : Module) → (if b then r else none) ≡ becomes n → r ≡ becomes n
+where_tried true r n e = e
+where_tried false r n e = none_never n e
+
+own_of : (p : Shape) (m n : Module) (x : ℕ) → attempted (OfOwn p) m x ≡ becomes n → own_rewrite p m x ≡ becomes n
+own_of p m n x e = where_tried _ (own_rewrite p m x) n e
+
+attempt_ready : (t : Attempt) → AttemptKeeps t → (m n : Module) (x : ℕ) → IsReady m → attempted t m x ≡ becomes n → IsReady n
+attempt_ready (OfRule r) keep m n x ready e = keep.0 m n x ready e
+attempt_ready (OfOwn p) keep m n x ready e = keep.0 m n x ready (own_of p m n x e)
+
+attempt_computing : (t : Attempt) → AttemptKeeps t → (m n : Module) (x : ℕ) (a : Assignment) (done : ℕ → Bool) → IsReady m → Computing a done m.tree → attempted t m x ≡ becomes n → Improves a done m (done_after m.next x done) n.tree
+attempt_computing (OfRule r) keep m n x a done ready c e = keep.1 m n x a done ready c e
+attempt_computing (OfOwn p) keep m n x a done ready c e = keep.1 m n x a done ready c (own_of p m n x e)
+
+attempt_grows : (t : Attempt) (m n : Module) (x : ℕ) → attempted t m x ≡ becomes n → m.next ≤ n.next
+attempt_grows (OfRule r) m n x e = rewrite_grows r m n x e
+attempt_grows (OfOwn p) m n x e =
+    let q = applies p m n x (own_of p m n x e) in
+    subst (λ (n : Module). m.next ≤ n.next) q.module_is (all_grow (map (λ o. Make q.front o) q.made ++ give x q.value) m)
+
+-- ---- one behind another
+pub mixed_runs_keep : MixedRunsKeep
+mixed_runs_keep ts keep zero m n ready leads = (
+  subst IsReady leads ready,
+  subst (λ (n : Module). m.next ≤ n.next) leads (omega arith),
+  (λ a done c. subst (λ n. ComputesThrough a done m n) leads (record { later = done; same = λ y l. refl; improves = record { now = a; better = λ v l. itself (a v); stays = λ v l e. refl; free = λ v l e. e; computing = c } })),
+)
+mixed_runs_keep ts keep (suc k) m n ready leads =
+    let t = leads.0 in
+    let x = leads.2 in
+    let p = leads.3 in
+    let kept = keep t leads.1 in
+    let ih = mixed_runs_keep ts keep k p n (attempt_ready t kept m p x ready leads.4) leads.5 in
+    let grows = attempt_grows t m p x leads.4 in
+    let more = ih.1 in (
+      ih.0,
+      omega (arith, grows, more),
+      (λ a done c.
+          let i = attempt_computing t kept m p x a done ready c leads.4 in
+          let j = ih.2 i.now (done_after m.next x done) i.computing in
+          record {
+            later = j.later;
+            same = λ y l. j.same y (omega (arith, l, grows)) ∙ after_old m.next x done y l;
+            improves = record {
+              now = j.improves.now;
+              better = λ v l. through (a v) (i.now v) (j.improves.now v) (i.better v l) (j.improves.better v (omega (arith, l, grows)));
+              stays = λ v l e. j.improves.stays v (omega (arith, l, grows)) (i.free v l e) ∙ i.stays v l e;
+              free = λ v l e. j.improves.free v (omega (arith, l, grows)) (i.free v l e);
+              computing = j.improves.computing;
+            };
+          }),
+    )
+
+-- ---- rewriting by a list
+by_some : (ts : List Attempt) (m n : Module) (x : ℕ) → first_tried ts m x ≡ becomes n → (t : Attempt) × In t ts × (attempted t m x ≡ becomes n)
+unfolding first_tried
+by_some [] m n x e = none_never n e
+by_some (t ∷ ts) m n x e = elim (or_parts (attempted t m x) (first_tried ts m x) n e) [
+  | inl i ↦ (t, inl refl, i)
+  | inr i ↦ let g = by_some ts m n x i in (g.0, inr g.1, g.2)
+]
+
+at_some : (ts : List Attempt) (xs : List ℕ) (m n : Module) → first_by (by_attempts ts) xs m ≡ becomes n → (x : ℕ) × (first_tried ts m x ≡ becomes n)
+unfolding first_by
+at_some ts [] m n e = none_never n e
+at_some ts (x ∷ xs) m n e = elim (or_parts (first_tried ts m x) (first_by (by_attempts ts) xs m) n e) [
+  | inl i ↦ (x, i)
+  | inr i ↦ at_some ts xs m n i
+]
+
+abbrev Led : List Attempt → Module → Module → Type 0
+Led ts m n = (k : ℕ) × LeadsBy ts k m n
+
+goes_on : (ts : List Attempt) (m n : Module) (j k : ℕ) (e : End) (w : Rewrite) (more : Module → Canonical) → ((p : Module) → w ≡ becomes p → more p ≡ ended n k e → Led ts m n) → go_on w m j more ≡ ended n k e → Led ts m n
+goes_on ts m n j k e none more f i = (0, ended_parts m n j k converged e i)
+goes_on ts m n j k e (refused r) more f i = stopped_never r n k e i
+goes_on ts m n j k e (becomes p) more f i = f p refl i
+
+led_from : (ts : List Attempt) (left j k : ℕ) (m n : Module) (e : End) → rewritten_from (by_attempts ts) left j m ≡ ended n k e → Led ts m n
+unfolding rewritten_from
+led_from ts zero j k m n e i = (0, ended_parts m n j k (end_of (next_by (by_attempts ts) m)) e i)
+led_from ts (suc left) j k m n e i =
+    goes_on ts m n j k e (next_by (by_attempts ts) m) (rewritten_from (by_attempts ts) left (j + 1))
+    (λ p w h.
+    let at = at_some ts (ids m.tree) m p w in
+    let by = by_some ts m p at.0 at.1 in
+    let ih = led_from ts left (j + 1) k p n e h in
+    (suc ih.0, (by.0, by.1, at.0, p, by.2, ih.1)))
+    i
+
+led : (ts : List Attempt) (limit k : ℕ) (m n : Module) (e : End) → rewriting_of (by_attempts ts) limit m ≡ ended n k e → Led ts m n
+unfolding rewriting_of
+led ts limit k m n e i = go (nat_le 1 limit && nat_le limit most_rewrites) i
+  where
+    go : (b : Bool) → (if b then rewritten_from (by_attempts ts) limit 0 m else stopped BadLimit) ≡ ended n k e → Led ts m n
+    go true i = led_from ts limit 0 k m n e i
+    go false i = stopped_never BadLimit n k e i
+
+pub mixed_rewriting_keeps : MixedRewritingKeeps
+mixed_rewriting_keeps ts keep limit m n k e ready i = let l = led ts limit k m n e i in mixed_runs_keep ts keep l.0 m n ready l.1
+
+-- ---- those of which it is shown
+pub shown_are_kept : KeptAreKept → HoldingKeep → ShownAreKept
+shown_are_kept rules patterns ts shown t i = one t (shown t i)
+  where
+    one : (t : Attempt) → IsShown t → AttemptKeeps t
+    one (OfRule r) s = rules (r ∷ []) only r (inl refl)
+      where
+        only : (o : Rule) → In o (r ∷ []) → In o kept_rules
+        only o (inl e) = subst (λ o. In o kept_rules) (sym e) s
+        only o (inr n) = absurd n
+    one (OfOwn p) s = patterns p s.everywhere s.proper s.most s.some s.holds
