@@ -219,8 +219,8 @@ def book_says(text):
     if name == b"check" and rest and not words[0][:1].isdigit():
         if len(words) == 1:
             return f"check {told(words[0])} width none"
-        if len(words) == 3 and words[1] == b"width" and number_of(words[2]) is not None:
-            return f"check {told(words[0])} width {number_of(words[2])}"
+        if words[1] == b"width" and number_of(b"".join(words[2:3])) is not None and words[3:] in ([], [b"sampled"]):
+            return f"check {told(words[0])} width {number_of(words[2])}" + " sampled" * len(words[3:])
     return None
 
 
@@ -376,6 +376,11 @@ BOOK_ORDERS = {"pattern p": "pattern [p]", "\tpattern \t p\targ => %a // x \r": 
                "\tcheck  a-b.c \r": "check [a-b.c] width none", "check width": "check [width] width none",
                "check p\twidth  008\r": "check [p] width 8", "check width width 0": "check [width] width 0",
                "check #1 width 4294967295": "check [#1] width 4294967295",
+               "check p width 8 sampled": "check [p] width 8 sampled",
+               "\tcheck width\twidth  00  sampled \r": "check [width] width 0 sampled",
+               "check sampled width 4294967295 sampled": "check [sampled] width 4294967295 sampled",
+               "check sampled": "check [sampled] width none", "check sampled width 9": "check [sampled] width 9",
+               "expect 50 check p width 129 sampled": "expects 50 BadLimit check [p] width 129 sampled",
                "expect 26 check nope": "expects 26 NoSuchKey check [nope] width none",
                "expect 4 pattern p q": "expects 4 Redefined pattern [p q]"}
 ALONE = {"begin": "begin", "\tcommit \r": "commit", "rollback\t": "rollback", "sweep": "sweep", " sweep\t\r": "sweep",
@@ -489,7 +494,9 @@ set-operand #3 0 %a1.0.0.0|set-operand #3 0 %b1.0.0|set-operand #4294967296 0 %v
 set-operand #3 0 %v4294967296.0|set-operand #3 0 %v2.4294967296|set-operand #3 0 %a1.4294967296.0
 pattern|Pattern p|patterns x|patterns //|pattern|patternsp|check|check 4|check 4x|check p x|check p width
 check p width x|check p width -1|check p width 4294967296|check p width 1 2|check p Width 1|check p q width 1
-check 1 width 2|Check p|checks p
+check 1 width 2|Check p|checks p|check p sampled|check p sampled width 8|check p width sampled|check 1 width 2 sampled
+check p width sampled 8|check p width 8 sample|check p width 8 Sampled|check p width 8 sampled 9|check p 8 sampled
+check p width 8 sampled sampled|check p width x sampled|check p width 4294967296 sampled|check p width 8 sampled //
 set-operand #42949672950 0 %v2.0|set-operand #99999999999999999999999 0 %v2.0""".replace("\n", "|").split("|")
 
 
@@ -527,7 +534,7 @@ def lines():
                  "rewrite 2,drop-one limit 10", "report uses of #10", "report kind10 of %v2.0",
                  "canon trace limit 10", "rewrite 2,x trace limit 3", "convert trace full depth 2",
                  "why #3", "why #3 10", "why #3 drop-one", "canon at #3 limit 10", "pattern p x", "patterns",
-                 "check p width 10"):
+                 "check p width 10", "check p width 10 sampled"):
         text = text.encode()
         for place in range(len(text) + 1):
             line(text[:place] + text[place + 1:])

@@ -45,6 +45,17 @@ def names(count, mark="%"):
     return pairs[0]
 
 
+def powers(*counts):
+    """A product of sums of so many."""
+    sums = ["%a" if count == 1 else f"arith.addi({powers(count - 1)}, %a)" for count in counts]
+    return sums[0] if len(sums) == 1 else f"arith.muli({sums[0]}, {powers(*counts[1:])})"
+
+
+def factors(count):
+    """A number that is a product of so many, in pairs."""
+    return "c" if count == 1 else f"mul({factors(count // 2)}, {factors(count - count // 2)})"
+
+
 # What stands behind `pattern`, and how it is refused, or `ok`.
 TEXTS = {
     # Tokens, and where they may stand.
@@ -135,7 +146,7 @@ CHECKED = {
                                   " width 24": "fails 9|%a -256 : i9|old 0 : i9|new -256 : i9",
                                   " width 25": "refused 50 BadLimit"},
     "arith.addi(%a, 300) => %a": {"": "empty 8", " width 9": "fails 9|%a 0 : i9|old -212 : i9|new 0 : i9"},
-    "arith.addi(1, 2) => 3": {"": "holds 8", " width 1": "empty 1", " width 64": "holds 64",
+    "arith.addi(1, 2) => 3": {"": "holds", " width 1": "empty 1", " width 64": "holds 64",
                               " width 65": "refused 50 BadLimit"},
     "arith.addi(%a : i8, 0) => %a": {"": "holds 8", " width 1": "holds 1", " width 24": "holds 24"},
     "arith.addi(%a : i32, 0) => %a": {"": "refused 50 BadLimit", " width 1": "refused 50 BadLimit"},
@@ -156,6 +167,147 @@ CHECKED = {
     "arith.remsi(%a, -1) => 0": {"": "holds 8"},
     "arith.shrsi(%a, %b) => arith.shrui(%a, %b)": {
         " width 2": "fails 2|%a -2 : i2|%b 1 : i2|old -1 : i2|new 1 : i2"},
+}
+
+# The same of patterns that are right at every width by their form, of such as aren't, and of some that are by no form
+# that is looked at.
+SQUARES = "arith.muli(arith.addi(%a, %b), arith.subi(%a, %b)) => arith."
+THRICE = "arith.trunci(arith.muli(%a : S, 3)) : T => arith.trunci(arith.addi(arith.addi(%a, %a), %a)) : T"
+EVERYWHERE = {
+    # One polynomial, or not.
+    SQUARES + "subi(arith.muli(%a, %a), arith.muli(%b, %b))": {"": "holds", " width 4": "holds 4"},
+    SQUARES + "addi(arith.muli(%a, %a), arith.muli(%b, %b))": {
+        "": "fails 2|%a 0 : i2|%b 1 : i2|old -1 : i2|new 1 : i2"},
+    "arith.addi(%a, 0) => %a": {"": "holds", " width 8": "holds 8", " width 25": "refused 50 BadLimit"},
+    "arith.addi(%a, %a) => arith.muli(%a, 2)": {"": "holds", " width 1": "empty 1"},
+    "arith.subi(%a, %a) => 0": {"": "holds"}, "arith.subi(%a, %a) => 1": {"": "fails 1|%a false|old false|new true"},
+    "arith.muli(%a, -1) => arith.subi(0, %a)": {"": "holds"},
+    "arith.muli(%a, %a) => %a": {"": "fails 2|%a -2 : i2|old 0 : i2|new -2 : i2", " width 1": "holds 1"},
+    # Numbers: what of them isn't looked into is a value of its own wherever it stands.
+    "arith.addi(arith.addi(%a, c), d) => arith.addi(%a, add(c, d))": {"": "holds"},
+    "arith.addi(arith.muli(%a, c), arith.muli(%a, c)) => arith.muli(%a, mul(c, 2))": {"": "holds"},
+    "arith.subi(%a, c) => arith.addi(%a, neg(c))": {"": "holds"},
+    "arith.subi(%a, c) => arith.addi(%a, sub(1, c))": {"": "fails 1|%a false|c false|old false|new true"},
+    "arith.addi(%a, arith.subi(c, c)) => %a": {"": "holds"},
+    "arith.addi(c, 0) => sub(add(c, width(c)), width(c))": {"": "holds 8"},
+    "arith.muli(c, 0) => mul(width(c), 0)": {"": "holds"}, "arith.muli(c, 0) => mul(log2(c), 0)": {"": "holds"},
+    "arith.subi(c, 0) => xor(c, 0)": {"": "holds 8"}, "arith.subi(-1, c) => not(c)": {"": "holds 8"},
+    "arith.subi(c, c) => mul(not(c), 0)": {"": "holds"},
+    # What is asked of numbers and types is no hindrance.
+    "arith.muli(%a, c) => arith.addi(%a, arith.muli(%a, sub(c, 1))) where ne(c, 0)": {"": "holds"},
+    "arith.addi(%a, c) => %a where eq(c, 0)": {"": "holds 8"},
+    "arith.addi(%a, c) => %a where ult(c, 0)": {"": "empty 8"},
+    "arith.subi(%a, c) => arith.addi(%a, neg(c)) where power_of_two(c), ult(log2(c), width(c))": {"": "holds"},
+    "arith.addi(%a : T, 0) => %a where narrower(T, i4)": {"": "holds"},
+    "arith.addi(%a : T, 0) => %a where narrower(T, T)": {"": "empty 8"},
+    # Literals that few types have: where none is tried that has it, nothing is said.
+    "arith.addi(%a, 300) => arith.addi(arith.addi(%a, 100), 200)": {"": "empty 8", " width 9": "holds 9"},
+    "arith.muli(%a, 255) => arith.subi(0, %a)": {
+        "": "holds 8", " width 9": "fails 9|%a 1 : i9|old 255 : i9|new -1 : i9"},
+    f"arith.muli(%a, {2 ** 128 - 1}) => arith.subi(0, %a)": {"": "empty 8", " width 128 sampled": "unrefuted 128"},
+    # Types that are written, or several.
+    "arith.addi(%a : i8, %a) => arith.muli(%a, 2)": {"": "holds 8"},
+    "arith.addi(%a : i1, 1) => arith.subi(%a, 1)": {"": "holds 8"},
+    "arith.xori(%a : i4, -1) => arith.xori(-1, %a)": {"": "holds 8"},
+    THRICE: {"": "holds 8", " width 1": "empty 1"},
+    # Up to 256 terms, and 64 factors of each.
+    f"arith.muli(%a, 0) => arith.muli({powers(2, 2, 2, 2, 2, 2, 2, 2)}, 0)": {"": "holds"},
+    f"arith.muli(%a, 0) => arith.muli({powers(4, 3, 3, 3, 3)}, 0)": {"": "holds 8"},
+    f"arith.muli(c, 0) => mul(0, {factors(64)})": {"": "holds"},
+    f"arith.muli(c, 0) => mul(0, {factors(65)})": {"": "holds 8"},
+    # Bit by bit, or not.
+    "arith.xori(arith.andi(%a, %b), -1) => arith.ori(arith.xori(%a, -1), arith.xori(%b, -1))": {
+        "": "holds", " width 4": "holds 4"},
+    "arith.xori(arith.andi(%a, %b), -1) => arith.andi(arith.xori(%a, -1), arith.xori(%b, -1))": {
+        "": "fails 1|%a false|%b true|old true|new false"},
+    "arith.andi(%a, -1) => %a": {"": "holds"}, "arith.ori(%a, -1) => -1": {"": "holds"},
+    "arith.andi(%a, 0) => 0": {"": "holds"}, "arith.andi(%a, 1) => 0": {"": "fails 1|%a true|old true|new false"},
+    "arith.andi(arith.andi(%a, c), d) => arith.andi(%a, and(c, d))": {"": "holds"},
+    "arith.xori(%a, c) => arith.xori(arith.xori(%a, -1), not(c))": {"": "holds"},
+    "arith.ori(c, c) => and(or(c, 0), xor(c, 0))": {"": "holds"},
+    "arith.andi(%a, 5) => arith.andi(5, %a)": {"": "holds 8"},
+    "arith.andi(%a, 1) => arith.andi(1, %a)": {"": "holds 8"},
+    "arith.andi(%a, -0) => 0": {"": "holds 8"}, "arith.ori(%a, c) => arith.ori(%a, or(c, 4))": {
+        "": "fails 3|%a 0 : i3|c 0 : i3|old 0 : i3|new -4 : i3"},
+    "arith.andi(%a, c) => arith.andi(%a, and(c, or(c, neg(c))))": {"": "holds 8"},
+    "arith.xori(c, -1) => sub(-1, c)": {"": "holds 8"}, "arith.andi(%a, c) => arith.andi(%a, and(c, width(c)))": {
+        "": "fails 2|%a 1 : i2|c 1 : i2|old 1 : i2|new 0 : i2"},
+    "arith.andi(%a, c) => arith.andi(c, %a) where ne(c, 0)": {"": "holds 8"},
+    "arith.andi(%a : T, -1) => %a where narrower(T, i64)": {"": "holds 8"},
+    # Each bit is right, and the sum of both kinds is neither.
+    "arith.addi(arith.andi(%a, %b), arith.ori(%a, %b)) => arith.addi(%a, %b)": {"": "holds 8"},
+    "arith.shli(%a, 0) => %a": {"": "holds 8"}, "arith.maxui(%a, %a) => %a": {"": "holds 8"},
+    "arith.remui(%a, 1) => 0": {"": "holds 8"}, "arith.select(%c, %a, %a) => %a": {"": "holds 8"},
+    "arith.cmpi<eq>(%a, %a) => 1": {"": "holds 8"}, "arith.extsi(%a : S) : T => arith.extsi(%a) : T": {"": "holds 8"},
+}
+# What is sampled.
+AGREE = "arith.select(arith.cmpi<eq>(arith.extsi(%a : A) : S, arith.extsi(%b : B)), "
+SAMPLED = {
+    "arith.muli(%a, c) => arith.shli(%a, log2(c))": {
+        "": "holds 8", " width 13 sampled": "unrefuted 13", " width 32 sampled": "unrefuted 32",
+        " width 64 sampled": "unrefuted 64", " width 128 sampled": "unrefuted 128", " width 1 sampled": "unrefuted 1",
+        " width 0128 sampled": "unrefuted 128"},
+    "arith.andi(%a, 255) => %a": {
+        " width 8 sampled": "unrefuted 8", " width 9 sampled": "fails 9|%a -1 : i9|old 255 : i9|new -1 : i9",
+        " width 32 sampled": "fails 32|%a -1 : i32|old 255 : i32|new -1 : i32", "": "holds 8",
+        " width 0 sampled": "refused 50 BadLimit", " width 129 sampled": "refused 50 BadLimit",
+        " width 4294967295 sampled": "refused 50 BadLimit", " width 4294967296 sampled": "refused 60 BadCommand",
+        " sampled": "refused 60 BadCommand", " sampled width 8": "refused 60 BadCommand",
+        " width sampled": "refused 60 BadCommand", " width sampled 8": "refused 60 BadCommand",
+        " width 8 sampled 9": "refused 60 BadCommand", " width 8 sampled sampled": "refused 60 BadCommand",
+        " width 8 sample": "refused 60 BadCommand", " width 8 Sampled": "refused 60 BadCommand",
+        " width x sampled": "refused 60 BadCommand", " \twidth\t 8  sampled\t": "unrefuted 8"},
+    # Where it is wrong at 9 bits alone, and where no level meets its width.
+    "arith.addi(%a, 300) => arith.addi(%a, 299)": {
+        " width 8 sampled": "unrefuted 8", " width 9 sampled": "fails 9|%a 0 : i9|old -212 : i9|new -213 : i9"},
+    "arith.muli(%a : T, 1) => 0 where narrower(T, i10), narrower(i8, T)": {
+        " width 9 sampled": "fails 9|%a 1 : i9|old 1 : i9|new 0 : i9",
+        " width 18 sampled": "fails 9|%a 1 : i9|old 1 : i9|new 0 : i9",
+        " width 39 sampled": "fails 9|%a 1 : i9|old 1 : i9|new 0 : i9", " width 40 sampled": "unrefuted 40",
+        " width 64 sampled": "unrefuted 64"},
+    # The edges of a first, a second and a third variable.
+    "arith.addi(%a, arith.muli(%b, %c)) => %a": {
+        " width 16 sampled": "fails 16|%a 0 : i16|%b 1 : i16|%c 1 : i16|old 1 : i16|new 0 : i16"},
+    "arith.shli(arith.shli(%a, c), d) => arith.shli(%a, add(c, d))": {
+        " width 4 sampled": "fails 4|%a 0 : i4|c 3 : i4|d 1 : i4|old 0 : i4|new poison"},
+    "arith.divui(%a, arith.select(%p, %b, 1)) => arith.select(%p, arith.divui(%a, %b), %a)": {
+        " width 32 sampled": "fails 32|%a 0 : i32|%p false|%b 0 : i32|old 0 : i32|new undefined"},
+    # By chance, and first at the whole width: what tells against a pattern at a half of it may be an earlier case.
+    "arith.cmpi<ult>(arith.subi(%a, 1000), 100) => 0": {
+        " width 16 sampled": "fails 16|%a 1046 : i16|old true|new false"},
+    "arith.cmpi<eq>(arith.shrui(%a, 118), 77) => 0": {
+        " width 128 sampled": "fails 128|%a 25773214517640991488335787945246619071 : i128|old true|new false"},
+    "arith.cmpi<eq>(arith.shrui(%a : index, 54), 77) => 0": {
+        " width 1 sampled": "fails 1|%a 1397168758598065260 : index|old true|new false"},
+    "arith.cmpi<eq>(arith.shrui(arith.muli(%a, %b), 54), 77) => 0": {
+        " width 64 sampled": "fails 64|%a 983282694769523300 : i64|%b -7726506916221094532 : i64|old true|new false"},
+    "arith.cmpi<eq>(arith.shrui(arith.xori(%a, %b), 22), 777) => 0": {
+        " width 64 sampled": "fails 32|%a -1947471955 : i32|%b 1236213324 : i32|old true|new false",
+        " width 128 sampled": "fails 32|%a -1947471955 : i32|%b 1236213324 : i32|old true|new false"},
+    # Several types: the first that stands in the text is the slowest, and the widest come first.
+    "arith.trunci(arith.extsi(%a : S) : T) : U => arith.extsi(%a) : U": {
+        " width 64 sampled": "unrefuted 64", " width 1 sampled": "unrefuted 1"},
+    "arith.trunci(arith.extui(%a : S) : T) : U => arith.extsi(%a) : U": {
+        " width 32 sampled": "fails 32|%a -1 : i8|old 255 : i16|new -1 : i16",
+        " width 3 sampled": "unrefuted 3", " width 2 sampled": "unrefuted 2"},
+    AGREE + "%c : T, %c) => %c": {" width 8 sampled": "unrefuted 8"},
+    AGREE + "arith.extsi(%c : C) : T, %d) => %d": {
+        " width 8 sampled": "refused 50 BadLimit", " width 1 sampled": "refused 50 BadLimit"},
+    # No type variable, or no variable at all.
+    "arith.addi(%a : i8, 1) => %a": {
+        " width 1 sampled": "fails 1|%a 0 : i8|old 1 : i8|new 0 : i8",
+        " width 128 sampled": "fails 128|%a 0 : i8|old 1 : i8|new 0 : i8"},
+    "arith.addi(%a : i32, 0) => %a": {"": "refused 50 BadLimit", " width 32 sampled": "unrefuted 32"},
+    "arith.addi(1, 2) => 4": {
+        " width 1 sampled": "unrefuted 1", " width 2 sampled": "unrefuted 2",
+        " width 5 sampled": "fails 5|old 3 : i5|new 4 : i5", " width 8": "fails 3|old 3 : i3|new -4 : i3"},
+    # Index has 64 bits.
+    "arith.addi(%a : index, 0) => %a": {"": "refused 50 BadLimit", " width 7 sampled": "unrefuted 7"},
+    "arith.addi(%a : index, 1) => %a": {
+        " width 3 sampled": "fails 3|%a 0 : index|old 1 : index|new 0 : index"},
+    "arith.index_cast(arith.index_cast(%a : T) : index) : T => %a": {
+        " width 64 sampled": "unrefuted 64",
+        " width 65 sampled": f"fails 65|%a {-2 ** 64} : i65|old 0 : i65|new {-2 ** 64} : i65"},
 }
 
 
@@ -209,7 +361,7 @@ def beginnings(whole):
 
 def checks(whole):
     """Each pattern checked up to each width."""
-    for text, those in CHECKED.items():
+    for text, those in [*CHECKED.items(), *EVERYWHERE.items(), *SAMPLED.items()]:
         lines, wanted = [f"pattern p {text}"], ["1 ok"]
         for number, (behind, answer) in enumerate(those.items(), 2):
             lines.append(f"check p{behind}")
@@ -222,6 +374,11 @@ def checks(whole):
                 "expect 50 check p width 2", "expect BadLimit check p width 99", "check q", "expect 26 check q",
                 "expect 60 check", "patterns"))
     whole(asked("pattern p arith.addi(%a, 1) => %a", "expect 26 check p width 2", "check p width 2"))
+    whole(asked("check p width 8 sampled", "check p width 0 sampled", "expect 26 check p width 129 sampled",
+                "pattern p arith.addi(%a, 0) => %a", "expect 50 check p width 129 sampled",
+                "expect 60 check p sampled", "expect 50 check p width 8 sampled", "patterns", "check p", "patterns",
+                "begin", "check p width 3 sampled", "check p width 3 sampled", "rollback", "patterns",
+                "pattern q arith.addi(%a, 1) => %a", "check q width 3 sampled", "patterns"), False)
 
 
 def listed(whole):
@@ -236,6 +393,10 @@ def listed(whole):
         lines = [line for line in out.decode().split("\n") if " // holds" in line or " // empty" in line]
         assert len(lines) == len(part), out
         whole(asked(*(f"pattern {line}" for line in lines), "patterns"))
+        # (with two variables there are many values for the rules in Python)
+        alone = [it for it in map(patterns.read, map(str.encode, part)) if len(it.variables) < 2]
+        whole(asked(*(f"pattern {line}" for line in part), *(f"check {it.name}" for it in alone), "patterns",
+                    *(f"check {line.split()[0]} width 64 sampled" for line in part), "patterns"))
 
 
 def applied(whole):

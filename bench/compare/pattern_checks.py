@@ -4,8 +4,12 @@ nothing with it: a pattern is made as a tree of tuples, from which its text is p
 
     bench/compare/pattern_checks.py COUNT SEED
 
-Poison is None, and what is undefined raises. The last line says how many patterns there were and how many differ."""
+Half of them are of the forms that hold at every width, by pattern_forms.py. Those of which that is said are run at
+widths up to 128, for values by chance; and some are sampled. Poison is None, and what is undefined raises.
+The last line says how many patterns there were and how many differ."""
 import argparse
+import collections
+import functools
 import itertools
 import pathlib
 import random
@@ -14,12 +18,17 @@ import sys
 sys.dont_write_bytecode = True
 sys.path[:0] = [str(pathlib.Path(__file__).resolve().parents[1])]
 
-from reference import edits, pattern_checks, patterns, rules  # noqa: E402
+from compare import pattern_forms  # noqa: E402
+from reference import edits, everywhere, pattern_checks, patterns, rules, sampling  # noqa: E402
 from reference.evaluator import by_sign, compared, towards_zero  # noqa: E402
 
 PAIRS = """addi subi muli shli divsi divui remsi remui andi ori xori shrsi shrui maxsi maxui minsi minui""".split()
 PREDICATES = "eq ne slt sle sgt sge ult ule ugt uge".split()
+CASTS = ("extsi", "extui", "trunci")
 MOST_WIDTH, MOST_BITS = 4, 8
+# At how many lists of values what holds everywhere is run, how many values are looked at, and which widths are
+# sampled.
+RUNS, VALUES, WIDTHS = 200, 20000, [1, 2, 3, 4, 5, 7, 8, 9, 13, 16, 17, 31, 32, 33, 63, 64, 65, 100, 127, 128]
 
 
 class Undefined(Exception):
@@ -31,7 +40,7 @@ class NoNumber(Exception):
 
 
 # A term is ("%", name, width), ("c", name, width), ("n", number, width) or (word, predicate, terms, width); a width is
-# a letter, or `1` of truth values. A number is an int, a name or (function, numbers).
+# a letter, or its digits where the type is written. A number is an int, a name or (function, numbers).
 
 class Maker:
     """Makes a pattern."""
@@ -81,6 +90,8 @@ class Maker:
             return ("cmpi", self.chance.choice(PREDICATES), [inner(side), inner(side)], width)
         if pick < 0.3:
             return ("select", None, [inner("1"), inner(width), inner(width)], width)
+        if pick < 0.4 and width != "1" and (is_left or len(set(self.values.values())) > 1):
+            return (self.chance.choice(CASTS), None, [inner("T" if width == "S" else "S")], width)
         return (self.chance.choice(PAIRS), None, [inner(width), inner(width)], width)
 
     def pattern(self):
@@ -105,7 +116,7 @@ def number_text(number):
 
 
 def term_text(term):
-    width = {"1": "i1"}.get(term[-1], term[-1])
+    width = f"i{term[-1]}" if term[-1].isdigit() else term[-1]
     if len(term) == 3:
         return f"%{term[1]} : {width}" if term[0] == "%" else f"{number_text(term[1])} : {width}"
     asks = f"<{term[1]}>" if term[1] else ""
@@ -167,9 +178,16 @@ def computed(word, width, a, b):
         return shifts[word]() if b < width else None
     if word in ("maxsi", "minsi"):
         return sorted((a, b), key=lambda it: by_sign(it, width))[word == "maxsi"]
-    table = {"addi": a + b, "subi": a - b, "muli": a * b, "andi": a & b, "ori": a | b, "xori": a ^ b,
-             "maxui": max(a, b), "minui": min(a, b)}
-    return table[word]
+    return of_both(word, a, b)
+
+
+def of_both(word, a, b):
+    """What is computed of two numbers alike at all widths."""
+    if word in ("addi", "subi", "muli"):
+        return a + b if word == "addi" else a - b if word == "subi" else a * b
+    if word in ("andi", "ori", "xori"):
+        return a & b if word == "andi" else a | b if word == "ori" else a ^ b
+    return max(a, b) if word == "maxui" else min(a, b)
 
 
 class Case:
@@ -179,7 +197,12 @@ class Case:
         self.widths, self.values = widths, values
 
     def width(self, letter):
-        return 1 if letter == "1" else self.widths[letter]
+        return int(letter) if letter.isdigit() else self.widths[letter]
+
+    def is_narrower(self, cast):
+        """Whether the narrower type of a cast is."""
+        ends = [self.width(cast[2][0][-1]), self.width(cast[3])]
+        return ends[0] > ends[1] if cast[0] == "trunci" else ends[0] < ends[1]
 
     def run(self, term):
         if len(term) == 3:
@@ -191,7 +214,10 @@ class Case:
         if word == "cmpi":
             width = self.width(parts[0][-1])
             return None if None in found else compared(PREDICATES.index(predicate), width, *found)
-        it = computed(word, self.width(own), *found)
+        if word in CASTS:
+            it = found[0] if word != "extsi" or found[0] is None else by_sign(found[0], self.width(parts[0][-1]))
+        else:
+            it = computed(word, self.width(own), *found)
         return None if it is None else it % (1 << self.width(own))
 
     def number(self, number, letter):
@@ -208,12 +234,12 @@ class Case:
         width = self.width(letter)
         return ("false", "true")[value] if width == 1 else f"{by_sign(value, width)} : i{width}"
 
-    def outcome(self, old, new, conditions):
-        """What both sides give, or none where the pattern doesn't apply or the old one is undefined."""
+    def outcome(self, old, new, conditions, numbers):
+        """What both sides give, or none where the pattern doesn't apply or the old one is undefined; `numbers` are
+        those in it."""
         try:
-            for leaf in list(leaves(old)) + list(leaves(new)):
-                if leaf[0] == "n":
-                    self.number(leaf[1], leaf[2])
+            for _, number, letter in numbers:
+                self.number(number, letter)
             if not all(map(self.met, conditions)):
                 return None
             before = self.run(old)
@@ -240,36 +266,160 @@ def is_wrong(before, after):
     return after == "undefined" or before is not None and after != before
 
 
-def verdict(old, new, conditions, most):
-    """What a check says, with the rows of the first counterexample."""
-    free = list(dict.fromkeys(part[-1] for part in parts_of(old) if part[-1] != "1"))
-    order = {part[:2]: part[2] for part in leaves(old) if part[0] != "n"}
-    is_heard = False
-    for widths in itertools.product(range(1, most + 1), repeat=len(free)):
-        case = Case(dict(zip(free, widths)), {})
-        for numbers in itertools.product(*[range(1 << case.width(letter)) for letter in order.values()]):
-            case.values = {name: number for (_, name), number in zip(order, numbers)}
-            both = case.outcome(old, new, conditions)
-            is_heard |= both is not None
-            if both is not None and is_wrong(*both):
-                rows = [f"{mark.strip('c')}{name} {case.shown(case.values[name], letter)}" for (mark, name), letter in
-                        order.items()]
-                rows += [f"{word} {case.shown(it, old[3])}" for word, it in zip(("old", "new"), both)]
-                return f"fails {max(widths, default=most)}", rows
-    return f"{'holds' if is_heard else 'empty'} {most}", []
+def letters_of(old):
+    """The type variables, in the order of the text."""
+    return list(dict.fromkeys(part[-1] for part in parts_of(old) if not part[-1].isdigit()))
+
+
+def variables_of(old):
+    """The letter of each variable, by its mark and name, in the order of the text."""
+    return {part[:2]: part[2] for part in leaves(old) if part[0] != "n"}
+
+
+class Tried:
+    """A pattern that is run on values of its variables, one after another, up to the first that tell against it."""
+
+    def __init__(self, old, new, conditions):
+        self.letters, self.variables = letters_of(old), variables_of(old)
+        parts = [part for side in (old, new) for part in parts_of(side)]
+        self.casts = [part for part in parts if part[0] in CASTS]
+        self.sides = old, new, conditions, [part for part in parts if part[0] == "n"]
+        self.is_heard, self.rows = False, None
+
+    def at(self, widths):
+        """The pattern at widths of its type variables, and how wide its variables are; none where the casts don't lead
+        from one to the other."""
+        case = Case(dict(zip(self.letters, widths)), {})
+        if not all(map(case.is_narrower, self.casts)):
+            return None, []
+        return case, [case.width(letter) for letter in self.variables.values()]
+
+    def tells_against(self, case, numbers):
+        """Whether the values of its variables tell against it."""
+        case.values = {name: number for (_, name), number in zip(self.variables, numbers)}
+        both = case.outcome(*self.sides)
+        self.is_heard |= both is not None
+        if both is None or not is_wrong(*both):
+            return False
+        rows = [f"{mark.strip('c')}{name} {case.shown(case.values[name], letter)}" for (mark, name), letter in
+                self.variables.items()]
+        root = self.sides[0][3]
+        self.rows = rows + [f"{word} {case.shown(it, root)}" for word, it in zip(("old", "new"), both)]
+        return True
+
+    def up_to(self, most):
+        """What a check says of all values at all widths up to one, with its rows."""
+        for widths in itertools.product(range(1, most + 1), repeat=len(self.letters)):
+            case, wide = self.at(widths)
+            for numbers in itertools.product(*[range(1 << w) for w in wide]) if case else ():
+                if self.tells_against(case, numbers):
+                    return f"fails {max(widths, default=most)}", self.rows
+        return f"{'holds' if self.is_heard else 'empty'} {most}", []
+
+    def sampled(self, most):
+        """What a check says of 4,096 lists of values at a width, its half and its quarter, with its rows."""
+        for levels in itertools.product((1, 2, 4), repeat=len(self.letters)):
+            widths = [most // level or 1 for level in levels]
+            case, wide = self.at(widths)
+            for number in range(4096) if case else ():
+                digits = f"{number:03}"[::-1]
+                if self.tells_against(case, [
+                        edges(w)[int(digits[j % 3])] if number < 1000 else by_number(w, number * 16 + j)
+                        for j, w in enumerate(wide)]):
+                    return f"fails {max(widths, default=most)}", self.rows
+        return f"unrefuted {most}", []
+
+    def by_chance(self, chance):
+        """Whether no values by chance tell against it, at widths by chance."""
+        for _ in range(RUNS):
+            case, wide = self.at([chance.choice([chance.randrange(1, 129), 128, 64, 1]) for _ in self.letters])
+            if self.tells_against(case, [chance.choice([chance.getrandbits(w), chance.choice(edges(w))])
+                                         for w in wide]):
+                return False
+        return True
+
+
+@functools.lru_cache(maxsize=None)
+def edges(w):
+    """Zero, one, all ones, the least and the greatest signed value, two, all ones but the last, half the bits, and the
+    least signed value and one more."""
+    size, half = 1 << w, 1 << (w - 1)
+    middle = 1 << (w >> 1)
+    return [it % size for it in (0, 1, -1, half, half - 1, 2, -2, middle, middle - 1, half + 1)]
+
+
+def by_number(w, number):
+    """A value by a number that is counted from 0: a product modulo 2^128, whose upper half goes over the lower one, and
+    another product, of which the first bits are taken."""
+    mixed = (number + 1) * 0x9E3779B97F4A7C15F39CC0605CEDC835 & (1 << 128) - 1
+    mixed = (mixed ^ mixed >> 64) * 0xD6E8FEB86659FD93A5A3F1C2B4E7695B & (1 << 128) - 1
+    return int(f"{mixed:0128b}"[:w], 2)
+
+
+class Found:
+    """What both say of a pattern: what differs, and the words of what was said."""
+
+    def __init__(self, text, sides, chance):
+        self.text, self.sides, self.chance, self.words, self.wrong = text, sides, chance, [], []
+        self.pattern = patterns.read(text.encode())
+
+    def same(self, said, told):
+        """Notes what is said and what is due."""
+        self.words.append(said[0].split()[0])
+        if said != told:
+            self.wrong.append(f"  reference {said}\n  evaluator {told}")
+
+    def check(self):
+        most = pattern_checks.default_width(self.pattern, MOST_WIDTH, MOST_BITS)
+        types = {ty: ("i", most) for ty in self.pattern.all_types()}
+        # (where types are written the variables may have more)
+        edits.refuse(50, pattern_checks.bits_of(self.pattern, types) > MOST_BITS)
+        said = pattern_checks.check(self.pattern, most)
+        self.same(said, Tried(*self.sides).up_to(most))
+        return said[0].split()[0]
+
+    def everywhere(self, word):
+        """Whether it has a form that holds at every width. Where it does all that is run there is kept."""
+        is_so = everywhere.is_everywhere(self.pattern)
+        told = pattern_forms.is_everywhere(*self.sides, self.chance)
+        if is_so != told:
+            self.wrong.append(f"  reference: everywhere {is_so}\n  evaluator: everywhere {told}")
+        if is_so and word != "fails":
+            self.words.append("everywhere")
+            tried = Tried(*self.sides)
+            if not tried.by_chance(self.chance):
+                self.wrong.append(f"  reference: everywhere\n  evaluator: not so at {tried.rows}")
+
+    def sample(self):
+        most = self.chance.choice(WIDTHS)
+        if len(letters_of(self.sides[0])) < 3:
+            self.same(sampling.sample(self.pattern, most), Tried(*self.sides).sampled(most))
 
 
 def compare(number, seed):
     """What both say of a pattern, or none where it isn't read or has too many values."""
-    old, new, conditions = Maker(random.Random(f"{seed} {number}")).pattern()
-    text = text_of(old, new, conditions)
+    chance = random.Random(f"{seed} {number}")
+    maker = Maker(chance) if chance.random() < 0.5 else pattern_forms.FormMaker(chance, chance.random() < 0.5)
+    sides = maker.pattern()
     try:
-        pattern = patterns.read(text.encode())
-        most = pattern_checks.default_width(pattern, MOST_WIDTH, MOST_BITS)
-        said = pattern_checks.check(pattern, most)
+        found = Found(text_of(*sides), sides, chance)
+        found.everywhere(found.check())
+        if chance.random() < (0.4 if len(letters_of(sides[0])) > 1 else 0.1):
+            found.sample()
     except (rules.Refused, edits.Refused):
         return None
-    return text, said, verdict(old, new, conditions, most)
+    return found
+
+
+def values_differ(chance):
+    """Whether a value that is sampled isn't that of the evaluator: of any width, case and variable."""
+    for _ in range(VALUES):
+        w, i, j = chance.randrange(1, 129), chance.randrange(4096), chance.randrange(16)
+        told = edges(w)[i // (1, 10, 100)[j % 3] % 10] if i < 1000 else by_number(w, i * 16 + j)
+        if sampling.value(w, i, j) != told:
+            print(f"width {w}, case {i}, variable {j}\n  reference {sampling.value(w, i, j)}\n  evaluator {told}")
+            return True
+    return False
 
 
 def main():
@@ -277,22 +427,20 @@ def main():
     parser.add_argument("count", type=int)
     parser.add_argument("seed", type=int)
     asked = parser.parse_args()
-    count, number, differ, words = 0, 0, 0, {}
+    count, number, differ, words = 0, 0, 0, collections.Counter()
     while count < asked.count:
         number += 1
         found = compare(number, asked.seed)
         if found is None:
             continue
-        text, said, told = found
         count += 1
-        word = said[0].split()[0]
-        words[word] = words.get(word, 0) + 1
-        if said != told:
+        words.update(found.words)
+        if found.wrong:
             differ += 1
-            print(f"{text}\n  reference {said}\n  evaluator {told}")
+            print(found.text, *found.wrong, sep="\n")
     told = ", ".join(f"{count} {word}" for word, count in sorted(words.items()))
     print(f"{count} patterns ({told}; {number - count} not tried), {differ} differ")
-    return bool(differ)
+    return values_differ(random.Random(asked.seed)) or bool(differ)
 
 
 if __name__ == "__main__":

@@ -173,6 +173,16 @@ def listed(maker, run):
     return word + maker.choice(["", " trace"]) + f" limit {maker.choice([1, 1, 2, 3, 5, 9, 0])}"
 
 
+def widely_checked(maker, run):
+    """A check without a width, or a sampled one, of patterns that the rules in Python try quickly."""
+    few = [name for name, it in run.book.items() if len(it.variables) < 2 and len(it.all_types()) < 3]
+    if few and maker.random() < 0.5:
+        return f"check {maker.choice(few)}"
+    few = [name for name, it in run.book.items() if len(it.all_types()) < 2]
+    width = maker.choice([1, 2, 3, 8, 13, 32, 64, 100, 128, 0, 129])
+    return f"check {maker.choice(few or ['nope'])} width {width} sampled" + maker.choice([""] * 9 + [" x", " sampled"])
+
+
 def line_of(maker, run):
     """A line about the patterns of a run."""
     pick = maker.random()

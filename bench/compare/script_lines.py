@@ -143,6 +143,8 @@ def plain_line(maker, scripter):
     if maker.random() < 0.25:
         return rewriting(maker)
     if maker.random() < 0.15:
+        if scripter.run.book and maker.random() < 0.3:
+            return pattern_lines.widely_checked(maker, scripter.run)
         return pattern_lines.line_of(maker, scripter.run)
     if part < 0.62:
         return scripter.edit()

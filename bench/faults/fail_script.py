@@ -59,6 +59,8 @@ CONVERTED = """"func.func"() <{function_type = (i32, i32) -> i32, sym_name = "r"
 # A pattern that is right, and one that isn't.
 NEGATED = "pattern negated arith.addi(%a, c) => arith.subi(%a, neg(c))"
 HALF = "pattern half arith.divsi(%a, c) => arith.shrsi(%a, log2(c))"
+# (few values are tried, so that few growths are met)
+THREE = "pattern three arith.addi(1, 2) => 3"
 # The first mark stays open; those inside it are dropped, or gone back to.
 OPENED = [
     "begin", "set-operand #3 0 %v2.0", "move #2 start #1 0", "begin",
@@ -73,7 +75,8 @@ OPENED = [
     "set-attr #3 k 1 : i129", "insert before #3 %0 =",
     'set-attr #1 function_type (i32) -> i64', "report diagnostics", "report uses of %v2.0",
     "report symbols of #1", "report dead of #99", "canon trace", "resync constants", "resync symbols",
-    NEGATED, HALF, "check half", "check negated width 2", "patterns", NEGATED, "pattern p arith.addi(%a) => %a",
+    NEGATED, HALF, THREE, "check half", "check negated width 2", "check three", "check half width 9 sampled",
+    "patterns", NEGATED, "pattern p arith.addi(%a) => %a",
     'insert before #4 %0 = "arith.addi"(%a1.0.0, %v8.0) : (i32, i32) -> i32', "apply negated #4", "apply negated #9",
     "print", *ASKED, "detach dead", "report dead", "begin", "erase #1", "commit"]
 CLOSED = ["rollback", "rollback", "rollback"]
@@ -176,6 +179,7 @@ COMMANDS = [
     ([], "why #3 fold-to-constant"), ([], "apply 1 #2"), ([], "apply 2 #3"), ([], "apply drop-zero #3"),
     (["begin", "set-operand #3 0 %v2.0", "erase #4", "insert end #1 0 \"test.z\"(%v3.0) : (i32) -> ()"], "rollback"),
     ([], NEGATED), ([NEGATED], "patterns"), ([NEGATED], "check negated width 2"), ([HALF], "check half"),
+    ([THREE], "check three"), ([HALF], "check half width 9 sampled"),
     ([NEGATED], "apply negated #3"), ([NEGATED], "apply negated #2"), ([NEGATED], NEGATED),
     ([f"insert before #4 {REMAINDER}"], TOO_DEEP),
     ([f"insert before #4 {REMAINDER}"], "convert partial illegal arith.remsi rules 27"), ([], "convert partial"),

@@ -1,8 +1,14 @@
 """Known values and folds."""
+import operator
+
 from .module import INDEX, I1
 from .operations import BINARY, EXTENSIONS, INDEX_CASTS, ROWS, has_kind, is_signless, is_T
 
 # A known value is its type and its bits.
+
+# What is computed of two numbers, whatever their type.
+PLAIN = {"addi": operator.add, "subi": operator.sub, "muli": operator.mul, "andi": operator.and_, "ori": operator.or_,
+         "xori": operator.xor, "maxui": max, "minui": min}
 
 
 def width(ty):
@@ -29,6 +35,8 @@ def rounded(one, two):
 
 def arithmetic(word, ty, a, b):
     """A number that the result is taken from modulo 2^w, or none."""
+    if word in PLAIN:
+        return PLAIN[word](a, b)
     w, x, y = width(ty), signed(ty, a), signed(ty, b)
     if word in ("divsi", "remsi", "divui", "remui"):
         if b == 0 or word in ("divsi", "remsi") and x == -2 ** (w - 1) and y == -1:
@@ -39,8 +47,7 @@ def arithmetic(word, ty, a, b):
         if b >= w:
             return None
         return {"shli": lambda: a << b, "shrsi": lambda: x >> b, "shrui": lambda: a >> b}[word]()
-    return {"addi": a + b, "subi": a - b, "muli": a * b, "andi": a & b, "ori": a | b, "xori": a ^ b,
-            "maxsi": max(x, y), "minsi": min(x, y), "maxui": max(a, b), "minui": min(a, b)}[word]
+    return {"maxsi": max, "minsi": min}[word](x, y)
 
 
 def holds(predicate, ty, a, b):

@@ -7,7 +7,7 @@ SYMBOLS = {b"def": ("table", "name", "op"), b"duplicate": ("table", "name", "op"
            b"unresolved": ("op", "name"), b"mismatch": ("op", "target")}
 MOST = 2 ** 32
 # The words of a check, behind which a width stands, and what it says of a variable or a result, or how that begins.
-OF_WIDTH = (b"holds", b"empty", b"fails")
+OF_WIDTH = (b"holds", b"empty", b"unrefuted", b"fails")
 OUTCOME = re.compile(rb"[-0-9].*|true|false|poison|undefined")
 VALUE = re.compile(rb"%v(N)\.(N)|%a(N)\.(N)\.(N)".replace(b"N", rb"0|[1-9][0-9]*"))
 # A cell ends at a blank that stands in no quotes.

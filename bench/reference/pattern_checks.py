@@ -123,7 +123,7 @@ def check(pattern, most):
     for widths in itertools.product(range(1, most + 1), repeat=len(types)):
         instance = Instance(pattern, {ty: ("i", w) for ty, w in zip(types, widths)})
         ranges = [range(2 ** width(instance.real(ty))) for ty in pattern.variables.values()]
-        for numbers in itertools.product(*ranges) if instance.fits() else ():
+        for numbers in itertools.product(*ranges) if instance.is_possible else ():
             values = dict(zip(pattern.variables, numbers))
             both = Case(instance, values).both()
             is_heard |= both is not None

@@ -1,4 +1,6 @@
 """Patterns of one's own at operations of a module: what they match, and what they make of it."""
+import functools
+
 from . import edits, rewrites
 from .folds import holds, width
 from .module import I64
@@ -40,14 +42,17 @@ class Instance:
     """A pattern at types: `types` has what stands for each type variable."""
 
     def __init__(self, pattern, types):
-        self.pattern, self.types = pattern, types
+        self.pattern, self.types, self.known = pattern, types, {}
 
     def real(self, it):
         it = self.pattern.types.found(it)
         return self.types.get(it, it)
 
     def type(self, it):
-        return self.real(self.pattern.type_of[it])
+        """The type of a term, which is looked up once."""
+        if it not in self.known:
+            self.known[it] = self.real(self.pattern.type_of[it])
+        return self.known[it]
 
     def number(self, term, numbers):
         """The number of a constant that is asked or made."""
@@ -68,18 +73,28 @@ class Instance:
             return parts[0] != 0 and parts[0] & (parts[0] - 1) == 0
         return holds(PREDICATES.index(condition.word), ty, *parts)
 
-    def made_numbers(self, numbers):
-        """The numbers of the constants that are made, in the order of the text."""
-        return [self.number(term, numbers) for term in walk(self.pattern.new)
+    @functools.cached_property
+    def made(self):
+        """The constants that are made, in the order of the text."""
+        return [term for term in walk(self.pattern.new)
                 if isinstance(term, Constant) and not term.number.is_name()]
+
+    @functools.cached_property
+    def is_possible(self):
+        """Whether the widths are as they are asked, and each literal on the left is one of its type."""
+        try:
+            self.literals()
+        except NoNumber:
+            return False
+        return self.fits()
 
     def applies(self, numbers):
         """Whether the pattern may be applied where the constants are these numbers, by name."""
-        if not self.fits():
+        if not self.is_possible:
             return False
         try:
-            self.literals()
-            self.made_numbers(numbers)
+            for term in self.made:
+                self.number(term, numbers)
             return all(self.is_met(condition, numbers) for condition in self.pattern.conditions)
         except NoNumber:
             return False

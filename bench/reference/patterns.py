@@ -24,9 +24,10 @@ def refuse(number, at, is_so=True):
 class Operation:
     def __init__(self, at, name, asks, operands, written):
         self.at, self.name, self.asks, self.operands, self.written = at, name, asks, operands, written
+        self.spelled = name[6:].decode()
 
     def word(self):
-        return self.name[6:].decode()
+        return self.spelled
 
 
 class Value:

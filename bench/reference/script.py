@@ -1,7 +1,8 @@
 """Whole runs: a module, a script, and what is written."""
+import functools
 import re
 
-from . import aliases, conversion, edits, mixed, pattern_checks, pattern_uses, patterns, reasons, rewrites
+from . import aliases, conversion, edits, everywhere, mixed, pattern_uses, patterns, reasons, rewrites, sampling
 from .analyses import ANALYSES, KINDS, is_about, unreached_ops
 from .culprits import about, about_text
 from .module import ids_text, printing, read, read_attr, read_op, rules, text_of
@@ -47,6 +48,13 @@ def applied(module, rule, number):
     if found is not None:
         module.root, module.next = found.root, found.next
     return found is not None
+
+
+@functools.lru_cache(maxsize=None)
+def checked(text, most, is_sampled):
+    """What a check says of a pattern, by its text, so that it is tried once in all runs of a script."""
+    found = patterns.read(text.encode())
+    return sampling.sample(found, most) if is_sampled else everywhere.check(found, most)
 
 
 class Run:
@@ -288,13 +296,12 @@ class Run:
 
     def check(self, text):
         words = re.split("[ \t]+", text)
-        need(len(words) in (1, 3) and (len(words) == 1 or words[1] == "width"))
-        most = number(words[2]) if len(words) == 3 else None
+        need(len(words) in (1, 3, 4) and words[1:2] in ([], ["width"]) and words[3:] in ([], ["sampled"]))
+        most = number(words[2]) if words[1:] else None
         need(words[0] and not words[0][0].isdigit())
         edits.refuse(26, words[0] not in self.book)
-        found = self.book[words[0]]
-        verdict, rows = pattern_checks.check(found, pattern_checks.default_width(found) if most is None else most)
-        self.verdicts = {**self.verdicts, found.name: verdict}
+        verdict, rows = checked(patterns.text_of(self.book[words[0]]), most, bool(words[3:]))
+        self.verdicts = {**self.verdicts, words[0]: verdict}
         return verdict, "".join(row + "\n" for row in rows)
 
     def reply(self, line):

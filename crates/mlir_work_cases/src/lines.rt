@@ -253,6 +253,12 @@ fn told_check(alloc: Global, name: &[u8], width: Option<u32>) -> Result<String, 
     format!(in alloc; "check {name} width {width}")
 }
 
+/// A line that samples a pattern.
+fn told_sample(alloc: Global, name: &[u8], width: u32) -> Result<String, AllocError> {
+    let name = shown(alloc, name)?;
+    format!(in alloc; "check {name} width {width} sampled")
+}
+
 /// A line that defines a pattern.
 fn told_pattern(alloc: Global, text: &[u8]) -> Result<String, AllocError> {
     let text = shown(alloc, text)?;
@@ -265,6 +271,7 @@ fn told_book_order(alloc: Global, order: &BookOrder<'_>) -> Result<String, Alloc
         BookOrder::Define(text) => told_pattern(alloc, text),
         BookOrder::Patterns => String::from_str(alloc, "patterns"),
         BookOrder::Check { name, width } => told_check(alloc, name, *width),
+        BookOrder::Sample { name, width } => told_sample(alloc, name, *width),
     }
 }
 
