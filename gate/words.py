@@ -3,10 +3,10 @@
 refusals, rules of rewriting and rules of the verifier. The tools, the man page and the completions take theirs there.
 
 It is made of the code: of the help (mlir_work_front/src/text.rt), the words that a line is read by (mlir_work_script),
-and the numbers and words of kinds, refusals and rules, each with what the code says of it. Checked is that the table
-is that of these sources; that the help names each word by which a line is read, and no other; that tools/help.txt is
-the help; that each kind, refusal and rule has its section in the pages; that bench/reference has the words; and that
-the man page, the completions of shells and of the prompt have each.
+and the numbers and words of kinds (mlir_work_script_base), refusals and rules, each with what the code says of it.
+Checked is that the table is that of these sources; that the help names each word by which a line is read, and no other;
+that tools/help.txt is the help; that each kind, refusal and rule has its section in the pages; that bench/reference has
+the words; and that the man page, the completions of shells and of the prompt have each.
 
 usage: gate/words.py             at the top of the repository; the status is 1 where something is wrong
        gate/words.py --write     writes the table"""
@@ -22,6 +22,7 @@ sys.path[:0] = [str(ROOT / "tools"), str(ROOT / "bench")]
 
 FRONT = "crates/mlir_work_front/src"
 SCRIPT = "crates/mlir_work_script/src"
+BELOW = "crates/mlir_work_script_base/src"
 READERS = ("command", "order", "book_order", "expect")
 # Words that stand behind the first one, which these files compare in the same way.
 BEHIND = {"at", "limit", "only", "trace", "width"}
@@ -101,7 +102,7 @@ def named_variants(path, name):
 def kinds(text):
     """The kinds of analyses."""
     said = dict(rows(part(text, "\nKinds:\n")))
-    found = re.findall(r'(\d+) => Some\(b"(\w+)"\)', source(f"{SCRIPT}/kind.rt"))
+    found = re.findall(r'(\d+) => Some\(b"(\w+)"\)', source(f"{BELOW}/kind.rt"))
     return [{"number": int(number), "word": word, "about": said.get(word, "")} for number, word in found]
 
 

@@ -1,5 +1,5 @@
 //! What a line is told is written, with something behind a refusal.
-ghost use Rattle.mlir_work_script.specs.Writes.{Puts};
+ghost use Rattle.mlir_work_script_base.specs.Writes.{Puts};
 ghost use Rattle.std.specs.Prelude.{◌++◌, codes};
 ghost use Rattle.mlir_work_book.specs.Explained.{explained_line, explained_reply, refused_at_front, refused_front, told_text};
 ghost use Rattle.mlir_work_book.specs.Notices.{notice_of};
@@ -12,8 +12,8 @@ use crate::putting::{put_checked, put_reply, put_reply_text, put_surprise};
 use crate::reply::Reply;
 use ir_event::types::refusal::Refusal;
 use itoa::Buffer;
-use mlir_work_script::sink::Sink;
-use mlir_work_script::writing::{WriteFault, put, put_all};
+use mlir_work_script_base::sink::Sink;
+use mlir_work_script_base::writing::{WriteFault, put, put_all};
 
 /// Writes what stands behind a refusal, and ends its line.
 fn put_behind<W: Sink>(writer: &mut W, about: &[u8]) -> Result<(), WriteFault>

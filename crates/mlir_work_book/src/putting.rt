@@ -1,7 +1,7 @@
 //! What a line is told is written.
 ghost use Rattle.std.specs.Prelude.{◌++◌, codes};
 ghost use Rattle.std.specs.Fmt.{decimal};
-ghost use Rattle.mlir_work_script.specs.Writes.{Puts};
+ghost use Rattle.mlir_work_script_base.specs.Writes.{Puts};
 ghost use Rattle.mlir_work_book.specs.Notices.{notice_of};
 ghost use Rattle.mlir_work_book.specs.Replies.{response_of};
 ghost use Rattle.mlir_work_book.specs.Told.{checked_line, notice_line, reply_line, reply_text, surprise_line};
@@ -13,8 +13,8 @@ use itoa::Buffer;
 use mlir_work_script::replies::{
     put_expected, put_made, put_ok, put_outcome, put_refused, put_refused_at, put_refused_on,
 };
-use mlir_work_script::sink::Sink;
-use mlir_work_script::writing::{WriteFault, put_all};
+use mlir_work_script_base::sink::Sink;
+use mlir_work_script_base::writing::{WriteFault, put_all};
 use patterns_judged::judgement::Said;
 
 /// Writes the line of a reply.

@@ -1,12 +1,12 @@
 //! Values and places as C writes them, in numbers.
 ghost use Rattle.std.specs.Prelude.{◌≡◌};
 ghost use Rattle.std.specs.Option.{option_map};
-ghost use Rattle.mlir_work_script.specs.Spots.{spot_of};
+ghost use Rattle.mlir_work_script_base.specs.Spots.{spot_of};
 ghost use Rattle.mlir_work_c.specs.Numbers.{no_number, number_of as told, numbers_of, spot_of_numbers, value_of};
 
 use ir_event::trees::value::Value;
 use ir_event::types::ids::OpId;
-use mlir_work_script::spots::Spot;
+use mlir_work_script_base::spots::Spot;
 
 /// A value: result `place` of an operation where `region` is 4294967295, or else argument `place` of the block of that
 /// region of it.

@@ -16,7 +16,7 @@ use mlir_work_run::rule_name::RuleName;
 use mlir_work_run::spots::Spot;
 use mlir_work_run::values::{op_named, value_named};
 use mlir_work_run::words::{split_word, trim};
-use mlir_work_script::subject::Subject;
+use mlir_work_script_base::subject::Subject;
 use std::alloc::{AllocError, Global};
 
 /// A line that sets an operand.

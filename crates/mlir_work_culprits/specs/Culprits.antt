@@ -13,7 +13,7 @@ use Rattle.ir_event.specs.Modules.{Module}
 use Rattle.ir_text.specs.TypeText.{type_text}
 use Rattle.ir_text_tokens.specs.Printing.{string_text}
 use Rattle.rewriter_machine.specs.Commands.{Command, Erase, Replace, SetOperand}
-use Rattle.mlir_work_script.specs.Values.{op_text, value_text}
+use Rattle.mlir_work_script_base.specs.Values.{op_text, value_text}
 use Rattle.mlir_work_culprits.specs.Named.{entry_dropped, entry_set, holder_of, place_of_command, subject_of, value_given, value_replaced}
 use Rattle.mlir_work_culprits.specs.Standing.{blind_users, outside_users}
 

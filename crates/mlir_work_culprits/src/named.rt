@@ -1,14 +1,14 @@
 //! The operations and values that a command names.
 ghost use Rattle.std.specs.Prelude.{◌≡◌};
 ghost use Rattle.mlir_work_script.specs.Commands.{said_of};
-ghost use Rattle.mlir_work_script.specs.Spots.{spot_of};
+ghost use Rattle.mlir_work_script_base.specs.Spots.{spot_of};
 ghost use Rattle.mlir_work_culprits.specs.Named.{entry_dropped, entry_set, holder_of, place_of_command, spot_op, subject_of};
 ghost use Rattle.mlir_work_culprits.specs.Named.{value_given, value_replaced};
 
 use ir_event::trees::value::Value;
 use ir_event::types::ids::OpId;
 use mlir_work_script::command::Command;
-use mlir_work_script::spots::Spot;
+use mlir_work_script_base::spots::Spot;
 
 /// The operation that a command is to change.
 pub(crate) fn subject_of(command: &Command<'_>) -> Option<OpId>

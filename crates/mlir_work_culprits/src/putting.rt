@@ -3,7 +3,7 @@ ghost use Rattle.std.specs.Prelude.{◌≡◌, ◌++◌, ◌∷◌, [], map, OnO
 ghost use Rattle.ir_event.specs.types.Terms.{type_term};
 ghost use Rattle.ir_event.specs.types.Things.{IsType};
 ghost use Rattle.ir_event.specs.Modules.{module_in};
-ghost use Rattle.mlir_work_script.specs.Values.{op_text, value_text};
+ghost use Rattle.mlir_work_script_base.specs.Values.{op_text, value_text};
 ghost use Rattle.mlir_work_culprits.specs.Culprits.{Held, Operation, Tells, Typed, listed_op, listed_root, missing_op, missing_value, typed, value_with_type};
 ghost use Rattle.ir_event.specs.tree_laws.Values.{type_of_value};
 
@@ -14,7 +14,7 @@ use ir_event::types::ids::{OpId, TypeId};
 use ir_event::world::World;
 use ir_text::types::put_type;
 use ir_text_tokens::print::put_string;
-use mlir_work_script::cells;
+use mlir_work_script_base::cells;
 use std::alloc::{AllocError, Global};
 
 fn put_op_id(out: &mut Vec<u8>, op: OpId) -> Result<(), AllocError>

@@ -3,7 +3,7 @@ use Rattle.std.proofs.Common.{◌≡◌, ℕ, List, [], append-nil, Option, Some
 use Rattle.std.specs.Prelude.{IfSome}
 use Rattle.mlir_work_run.specs.session.Panels.{Shown}
 use Rattle.mlir_work_run.specs.session.Writes.{Grows, HandsOn, Puts, Stream}
-use Rattle.mlir_work_script.proofs.Joins.{grows_fails, grows_stays}
+use Rattle.mlir_work_script_base.proofs.Joins.{grows_fails, grows_stays}
 use Rattle.mlir_work_json.specs.Lines.{json_text}
 use Rattle.mlir_work_run.specs.Ends.{HasStatus, IsFinal}
 use Rattle.mlir_work_run.specs.Whole.{IsOutput, Setting}

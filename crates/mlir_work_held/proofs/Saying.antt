@@ -2,7 +2,7 @@
 use Rattle.std.proofs.Common.{◌≡◌, ◌==◌, Bool, ℕ, List, [], ◌∷◌, arith, length, true, false}
 use Rattle.ir_event.specs.types.declared.refusal.Refusal.TheVariants.{BadCommand}
 use Rattle.mlir_work_script.specs.Commands.{line_says}
-use Rattle.mlir_work_script.specs.Lines.{line_of, after_line}
+use Rattle.mlir_work_script_base.specs.Lines.{line_of, after_line}
 use Rattle.mlir_work_run.proofs.Runs.{emptied, filled}
 use Rattle.mlir_work_held.specs.declared.answer.Answer.{Answer}
 use Rattle.mlir_work_held.specs.declared.session.Session.{Session}

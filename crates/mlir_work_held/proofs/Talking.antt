@@ -9,7 +9,7 @@ use Rattle.rewriter.specs.Machine.{State}
 use Rattle.mlir_work_listeners.specs.Listeners.{seven_listener, seven_supply}
 use Rattle.mlir_work_script.specs.Commands.{Spoken, Nothing, Bad, Obey, Ordered, Booked, line_says}
 use Rattle.mlir_work_script.specs.Expecting.{line_expects}
-use Rattle.mlir_work_script.specs.Lines.{is_newline, line_of, after_line, onto_first}
+use Rattle.mlir_work_script_base.specs.Lines.{is_newline, line_of, after_line, onto_first}
 use Rattle.mlir_work_run.specs.session.Limits.{most_input_bytes, most_script_bytes}
 use Rattle.mlir_work_run.specs.session.Notices.{Notice}
 use Rattle.mlir_work_run.specs.session.Output.{Attaches, Line, Replied, Sitting, is_right, opening, reply_text, way_of, worse}

@@ -5,7 +5,7 @@ use Rattle.rewriter.specs.Benched.{state_of}
 use Rattle.rewriter.specs.Machine.{State}
 use Rattle.mlir_work_listeners.specs.Listeners.{seven_listener, seven_supply}
 use Rattle.mlir_work_script.specs.Commands.{Spoken, Nothing, Bad, Obey, Ordered, Booked, line_says}
-use Rattle.mlir_work_script.specs.Lines.{line_of, after_line}
+use Rattle.mlir_work_script_base.specs.Lines.{line_of, after_line}
 use Rattle.mlir_work_run.specs.session.Notices.{IsWithin, Notice}
 use Rattle.mlir_work_run.specs.session.Output.{Replies, Sitting, way_of}
 use Rattle.mlir_work_run.specs.session.Sittings.{sitting_of}

@@ -5,7 +5,7 @@ use Rattle.rewriter.specs.Panels.{all_shown}
 use Rattle.mlir_work_listeners.specs.Listeners.{seven_listener, seven_supply, kinds_of}
 use Rattle.mlir_work_listeners.specs.declared.seven.Seven.{Seven}
 use Rattle.mlir_work_script.specs.Expecting.{line_expects}
-use Rattle.mlir_work_script.specs.Lines.{line_of}
+use Rattle.mlir_work_script_base.specs.Lines.{line_of}
 use Rattle.mlir_work_run.specs.session.Notices.{Notice}
 use Rattle.mlir_work_run.specs.session.Output.{is_right, reply_text, worse}
 use Rattle.mlir_work_run.specs.Whole.{IsOutput, setting_of}

@@ -5,7 +5,7 @@ ghost use Rattle.std.specs.Prelude.{◌≡◌, []};
 ghost use Rattle.rewriter.specs.Benched.{IsKept};
 ghost use Rattle.rewriter.specs.Commands.{Erase, Move, Replace, SetOperand};
 ghost use Rattle.mlir_work_script.specs.Commands.{Obey};
-ghost use Rattle.mlir_work_script.specs.Spots.{spot_of};
+ghost use Rattle.mlir_work_script_base.specs.Spots.{spot_of};
 ghost use Rattle.mlir_work_listeners.specs.Listeners.{seven_listener};
 ghost use Rattle.mlir_work_held.specs.Stepped.{Answered, way};
 

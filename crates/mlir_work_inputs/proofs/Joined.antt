@@ -2,8 +2,8 @@
 use Rattle.std.proofs.Common.{◌≡◌, ℕ, suc, List, [], ◌∷◌, ◌++◌, Bool, true, false, if◌then◌else◌, refl, sym, subst, ap, ◌∙◌, length, append-nil, append_assoc, ◌+◌, arith}
 use Rattle.std.proofs.lemmas.Bool.Decides.{nat_tests}
 use Rattle.std.specs.Prelude.{◌&&◌, nat_lt, codes}
-use Rattle.mlir_work_script.specs.Lines.{is_newline, line_of, after_line, lines_of, onto_first}
-use Rattle.mlir_work_script.specs.Parts.{at_divider, module_from, module_text, script_from, script_text}
+use Rattle.mlir_work_script_base.specs.Lines.{is_newline, line_of, after_line, lines_of, onto_first}
+use Rattle.mlir_work_script_base.specs.Parts.{at_divider, module_from, module_text, script_from, script_text}
 use Rattle.mlir_work_inputs.specs.Inputs.{all_lines, divided, ends_line, input_of, is_divided, one_script, whole_lines}
 
 -- ---- whole lines

@@ -1,7 +1,7 @@
 -- The input that the text of a module and scripts make.
 use Rattle.std.specs.Prelude.{ℕ, zero, suc, List, [], ◌∷◌, ◌++◌, Bool, true, nat_lt, length, codes, if◌then◌else◌}
-use Rattle.mlir_work_script.specs.Lines.{is_newline, lines_of}
-use Rattle.mlir_work_script.specs.Parts.{module_text, script_text}
+use Rattle.mlir_work_script_base.specs.Lines.{is_newline, lines_of}
+use Rattle.mlir_work_script_base.specs.Parts.{module_text, script_text}
 
 -- whether a text is empty or ends with a line feed
 abbrev pub ends_line : List ℕ → Bool

@@ -3,7 +3,7 @@ ghost use Rattle.std.specs.Prelude.{◌≡◌, ◌++◌, [], ◌∷◌, map, IfO
 ghost use Rattle.mlir_work_inputs.specs.Inputs.{divided, ends_line, input_of, is_divided, one_script, parts_of};
 ghost use Rattle.mlir_work_inputs.specs.Inputs.{whole_lines};
 
-use mlir_work_script::input::split;
+use mlir_work_script_base::input::split;
 use std::alloc::{AllocError, Global};
 
 /// The line between a module and its script, with its line feed.

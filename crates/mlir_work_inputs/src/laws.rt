@@ -1,7 +1,7 @@
 //! What the parts of an input are that was put together.
 ghost use Rattle.std.specs.Prelude.{◌≡◌, ◌++◌, ℕ, List, [], ◌∷◌, true, false};
-ghost use Rattle.mlir_work_script.specs.Lines.{lines_of};
-ghost use Rattle.mlir_work_script.specs.Parts.{module_text, script_text};
+ghost use Rattle.mlir_work_script_base.specs.Lines.{lines_of};
+ghost use Rattle.mlir_work_script_base.specs.Parts.{module_text, script_text};
 ghost use Rattle.mlir_work_inputs.specs.Inputs.{all_lines, input_of, is_divided, whole_lines};
 
 /// The lines of the script are those of the text's own script, and then those of each further one.

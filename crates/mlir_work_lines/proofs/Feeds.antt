@@ -5,9 +5,9 @@ use Rattle.std.specs.Prelude.{codes, ⊤}
 use Rattle.std.specs.Str.{bytes_eq}
 use Rattle.std.proofs.lemmas.Grind.{common_steps}
 use Rattle.std.specs.Io.KnownBytes.{Consumes, IsAtEnd, Keeps}
-use Rattle.mlir_work_script.specs.Lines.{is_newline, line_of, after_line}
-use Rattle.mlir_work_script.specs.Parts.{at_divider}
-use Rattle.mlir_work_script.proofs.Spanning.{Passed, begins, begins_script, ends_module, front_is, passes}
+use Rattle.mlir_work_script_base.specs.Lines.{is_newline, line_of, after_line}
+use Rattle.mlir_work_script_base.specs.Parts.{at_divider}
+use Rattle.mlir_work_script_base.proofs.Spanning.{Passed, begins, begins_script, ends_module, front_is, passes}
 use Rattle.mlir_work_lines.specs.Feeding.{HasFeed, HasLine, IsMore, TakesLine, TakesModule, waiting}
 
 pub keeps_same : (a : Option (List ℕ)) → Keeps a a

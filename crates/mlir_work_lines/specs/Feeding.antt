@@ -2,8 +2,8 @@
 use Rattle.std.specs.Prelude.{◌≡◌, ◌<◌, ◌⊎◌, ◌++◌, ℕ, List, length, ⊤, Option, None, Some}
 use Rattle.std.specs.Io.KnownBytes.{IsAtEnd, prepend_known}
 use Rattle.std.specs.List.{position_or_len}
-use Rattle.mlir_work_script.specs.Lines.{is_newline, line_of, after_line}
-use Rattle.mlir_work_script.specs.Parts.{module_text, script_text}
+use Rattle.mlir_work_script_base.specs.Lines.{is_newline, line_of, after_line}
+use Rattle.mlir_work_script_base.specs.Parts.{module_text, script_text}
 use Rattle.mlir_work_lines.specs.declared.feed.Stop.{Stop}
 use Rattle.mlir_work_lines.specs.declared.feed.Stop.TheVariants.{Broken, Memory, TooMany}
 

@@ -1,14 +1,14 @@
 //! The lines of an input, each as soon as it is there.
 ghost use Rattle.std.specs.Prelude.{◌≡◌, ◌<◌, ◌≤◌, IsTrue, true, length, position, None, IfOk, IfErr, IfSome};
 ghost use Rattle.std.specs.Io.KnownBytes.{IsAtEnd, Keeps};
-ghost use Rattle.mlir_work_script.specs.Lines.{is_newline};
+ghost use Rattle.mlir_work_script_base.specs.Lines.{is_newline};
 ghost use Rattle.mlir_work_lines.specs.Feeding.{HasFeed, HasLine, IfBroken, IsMore, TakesLine, waiting};
 ghost use Rattle.mlir_work_lines.specs.declared.feed.Got.TheVariants.{End as AtEnd, Line as GotLine};
 ghost use Rattle.mlir_work_lines.specs.declared.feed.Stop.TheVariants.{TooMany as WereTooMany};
 
-use mlir_work_script::lines::split_line;
-use mlir_work_script::sink::Sink;
-use mlir_work_script::source::{Source, SourceFault};
+use mlir_work_script_base::lines::split_line;
+use mlir_work_script_base::sink::Sink;
+use mlir_work_script_base::source::{Source, SourceFault};
 use std::alloc::Global;
 use thiserror::Error;
 

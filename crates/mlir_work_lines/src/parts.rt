@@ -1,15 +1,15 @@
 //! The module of an input, up to the divider.
 ghost use Rattle.std.specs.Prelude.{◌≡◌, true, IfOk, IfErr};
-ghost use Rattle.mlir_work_script.specs.Limits.{most_input_bytes};
-ghost use Rattle.mlir_work_script.specs.Parts.{at_divider as is_at_divider};
+ghost use Rattle.mlir_work_script_base.specs.Limits.{most_input_bytes};
+ghost use Rattle.mlir_work_script_base.specs.Parts.{at_divider as is_at_divider};
 ghost use Rattle.mlir_work_lines.specs.Feeding.{IfBroken, IsMore, TakesModule, waiting};
 ghost use Rattle.mlir_work_lines.specs.declared.feed.Stop.TheVariants.{TooMany as WereTooMany};
 
 use crate::feed::{Stop, take_line};
-use mlir_work_script::input::MAX_INPUT_BYTES;
-use mlir_work_script::lines::split_line;
-use mlir_work_script::sink::Sink;
-use mlir_work_script::source::Source;
+use mlir_work_script_base::input::MAX_INPUT_BYTES;
+use mlir_work_script_base::lines::split_line;
+use mlir_work_script_base::sink::Sink;
+use mlir_work_script_base::source::Source;
 use std::alloc::Global;
 
 /// The line between a module and its script.

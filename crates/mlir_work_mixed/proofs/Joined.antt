@@ -3,8 +3,8 @@ use Rattle.std.proofs.Common.{◌≡◌, refl, ap, sym, ◌∙◌, subst, ℕ, B
 use Rattle.std.specs.Prelude.{is_some, option_and_then}
 use Rattle.std.proofs.lemmas.List.Elements.{All-nil, All-cons, All-head}
 use Rattle.std.proofs.lemmas.Option.{none-some, same_Some}
-use Rattle.mlir_work_script.specs.Items.{items_behind}
-use Rattle.mlir_work_script.specs.RuleNames.{name_or_none, rule_in}
+use Rattle.mlir_work_script_base.specs.Items.{items_behind}
+use Rattle.mlir_work_script_base.specs.RuleNames.{name_or_none, rule_in}
 use Rattle.mlir_work_transforms.specs.greedy.Trial.{AreAttempts, MayAttempt, OfRule}
 use Rattle.mlir_work_transforms.proofs.Chosen.{named_are_tried}
 use Rattle.mlir_work_transforms.specs.Rule.{Rule}

@@ -1,7 +1,7 @@
 //! What the names of a list are.
 ghost use Rattle.std.specs.Prelude.{◌≡◌, ◌∷◌, ◌++◌, [], is_some, map, true, IfErr, IfOk, IfSome, OnOk, option_map};
 ghost use Rattle.ir_event.specs.types.declared.refusal.Refusal.TheVariants.{Memory as NoMemory};
-ghost use Rattle.mlir_work_script.specs.RuleNames.{name_of, names_of};
+ghost use Rattle.mlir_work_script_base.specs.RuleNames.{name_of, names_of};
 ghost use Rattle.mlir_work_transforms.specs.greedy.Trial.{AreAttempts, MayAttempt, attempt_of, attempts_of};
 ghost use Rattle.mlir_work_book.specs.Shelf.{book_view};
 ghost use Rattle.mlir_work_mixed.specs.Mixed.{all_listed, listed_named};
@@ -10,8 +10,8 @@ ghost use Rattle.mlir_work_mixed.specs.Views.{listed_view, listed_views};
 use crate::own::own_named;
 use ir_event::types::refusal::Refusal;
 use mlir_work_book::book::Book;
-use mlir_work_script::items::split_item;
-use mlir_work_script::rule_name::{RuleName, name_in};
+use mlir_work_script_base::items::split_item;
+use mlir_work_script_base::rule_name::{RuleName, name_in};
 use mlir_work_transforms::greedy::tried::Tried;
 use mlir_work_transforms::rewrite::canonical_named;
 use std::alloc::{AllocError, Global};

@@ -1,7 +1,7 @@
 //! What is tried of a list of rules and patterns of one's own, and under which names it is told.
 ghost use Rattle.std.specs.Prelude.{◌≡◌, is_some, true, IfErr, IfOk};
 ghost use Rattle.ir_event.specs.types.declared.refusal.Refusal.TheVariants.{Memory as NoMemory};
-ghost use Rattle.mlir_work_script.specs.RuleNames.{names_of as names_said};
+ghost use Rattle.mlir_work_script_base.specs.RuleNames.{names_of as names_said};
 ghost use Rattle.mlir_work_book.specs.Shelf.{book_view};
 ghost use Rattle.mlir_work_mixed.specs.Mixed.{all_listed};
 ghost use Rattle.mlir_work_mixed.specs.Views.{IsMixed, IsMixedOf, listed_views};

@@ -1,12 +1,12 @@
 //! Patterns of a book, by the names of a command.
 ghost use Rattle.std.specs.Prelude.{◌≡◌, is_some, option_map};
-ghost use Rattle.mlir_work_script.specs.RuleNames.{name_of, names_of};
+ghost use Rattle.mlir_work_script_base.specs.RuleNames.{name_of, names_of};
 ghost use Rattle.mlir_work_book.specs.Shelf.{book_view, kept_view};
 ghost use Rattle.mlir_work_mixed.specs.Mixed.{names_own, own_named};
 
 use mlir_work_book::book::{Book, Held, find};
-use mlir_work_script::items::split_item;
-use mlir_work_script::rule_name::{RuleName, name_in};
+use mlir_work_script_base::items::split_item;
+use mlir_work_script_base::rule_name::{RuleName, name_in};
 
 /// The pattern that a name of a rule is in a book.
 pub fn own_named<'a>(book: &'a Book, name: &RuleName<'_>) -> Option<&'a Held>

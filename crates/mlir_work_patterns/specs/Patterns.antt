@@ -2,7 +2,7 @@
 use Rattle.std.specs.Prelude.{◌≡◌, ℕ, suc, ◌-◌, ◌==◌, ◌||◌, Bool, not, nat_eq, if◌then◌else◌, List, [], ◌∷◌, ◌++◌, codes, length, Ok, Err}
 use Rattle.std.specs.List.{starts_with}
 use Rattle.ir_text_tokens.specs.declared.fault.Fault.{Fault}
-use Rattle.mlir_work_script.specs.Words.{trim}
+use Rattle.mlir_work_script_base.specs.Words.{trim}
 use Rattle.patterns_text.specs.Refusing.{Outcome, ◌>>=◌}
 use Rattle.patterns_text.specs.declared.error.PatternError.{PatternError}
 use Rattle.patterns_text.specs.declared.error.PatternError.TheVariants as errors

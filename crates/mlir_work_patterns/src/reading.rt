@@ -1,14 +1,14 @@
 //! The patterns of a text, a line each, are defined.
 ghost use Rattle.std.specs.Prelude.{◌≡◌, ◌-◌, length, OnErr};
-ghost use Rattle.mlir_work_script.specs.Lines.{lines_of};
-ghost use Rattle.mlir_work_script.specs.Words.{trim};
+ghost use Rattle.mlir_work_script_base.specs.Lines.{lines_of};
+ghost use Rattle.mlir_work_script_base.specs.Words.{trim};
 ghost use Rattle.patterns_text.specs.Refusing.{Gives};
 ghost use Rattle.patterns_shelf.specs.Shelf.{book_view};
 ghost use Rattle.mlir_work_patterns.specs.Patterns.{is_pattern, line_defined, place_of};
 ghost use Rattle.mlir_work_patterns.specs.Readings.{IsReading};
 
-use mlir_work_script::lines::split_line;
-use mlir_work_script::words::trim;
+use mlir_work_script_base::lines::split_line;
+use mlir_work_script_base::words::trim;
 use patterns_shelf::book::Book;
 use patterns_shelf::define::define;
 use patterns_text::error::PatternError;

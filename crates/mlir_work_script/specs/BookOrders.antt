@@ -2,8 +2,8 @@
 use Rattle.std.specs.Prelude.{ℕ, List, [], ◌∷◌, ◌==◌, Bool, true, false, not, Option, Some, None, if◌then◌else◌, codes, length, option_and_then}
 use Rattle.std.specs.Char.{is_ascii_digit}
 use Rattle.std.specs.Str.{bytes_eq}
-use Rattle.mlir_work_script.specs.Numbers.{number_of}
-use Rattle.mlir_work_script.specs.Words.{word_of, after_word}
+use Rattle.mlir_work_script_base.specs.Numbers.{number_of}
+use Rattle.mlir_work_script_base.specs.Words.{word_of, after_word}
 use Rattle.mlir_work_script.specs.declared.book_order.BookOrder.{BookOrder as Coded}
 use Rattle.mlir_work_script.specs.declared.book_order.BookOrder.TheVariants as code
 

@@ -9,20 +9,20 @@ use Rattle.rewriter_machine.specs.Commands as said
 use Rattle.rewriter_machine.specs.Commands.{Command as Said, RuleName}
 use Rattle.rewriter_machine.specs.Spots.{Spot}
 use Rattle.mlir_work_script.specs.BookOrders.{BookOrder, book_order_in, book_order_of}
-use Rattle.mlir_work_script.specs.Clauses.{Clauses, clauses_of, mode_of, no_clauses, target_of, with_clauses}
+use Rattle.mlir_work_script_base.specs.Clauses.{Clauses, clauses_of, mode_of, no_clauses, target_of, with_clauses}
 use Rattle.mlir_work_script.specs.declared.command.Command.{Command}
 use Rattle.mlir_work_script.specs.declared.command.Command.TheVariants as code
 use Rattle.mlir_work_script.specs.declared.command.Line.{Line}
 use Rattle.mlir_work_script.specs.declared.command.Line.TheVariants as line
 use Rattle.mlir_work_script.specs.Expecting.{command_behind, expected_in}
-use Rattle.mlir_work_script.specs.Keys.{key_bytes, key_in}
-use Rattle.mlir_work_script.specs.Kinds.{kind_of}
-use Rattle.mlir_work_script.specs.Numbers.{number_of}
+use Rattle.mlir_work_script_base.specs.Keys.{key_bytes, key_in}
+use Rattle.mlir_work_script_base.specs.Kinds.{kind_of}
+use Rattle.mlir_work_script_base.specs.Numbers.{number_of}
 use Rattle.mlir_work_script.specs.Orders.{Order, order_in, order_of}
-use Rattle.mlir_work_script.specs.RuleNames.{name_of, rule_in}
-use Rattle.mlir_work_script.specs.Spots.{spot_of, spot_in}
-use Rattle.mlir_work_script.specs.Values.{op_of, value_of}
-use Rattle.mlir_work_script.specs.Words.{trim, word_of, after_word, words_of}
+use Rattle.mlir_work_script_base.specs.RuleNames.{name_of, rule_in}
+use Rattle.mlir_work_script_base.specs.Spots.{spot_of, spot_in}
+use Rattle.mlir_work_script_base.specs.Values.{op_of, value_of}
+use Rattle.mlir_work_script_base.specs.Words.{trim, word_of, after_word, words_of}
 
 -- what a line says: nothing, no command, a command of the bench, an order of the session, or one about its patterns
 pub data Spoken : Type 0 where

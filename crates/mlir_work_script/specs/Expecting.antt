@@ -15,8 +15,8 @@ use Rattle.ir_event.specs.types.declared.refusal.Refusal.TheVariants.{OtherTable
 use Rattle.ir_event.specs.types.declared.refusal.Refusal.TheVariants.{TooDeepHere, TooManyMarks, NoMark, Memory, Stale}
 use Rattle.ir_event.specs.types.declared.refusal.Refusal.TheVariants.{NoSuchKind, KindTaken, BadLimit, NotLegalised}
 use Rattle.ir_event.specs.types.declared.refusal.Refusal.TheVariants.{ChainTooDeep, Unreconciled, BadTarget, BadCommand}
-use Rattle.mlir_work_script.specs.Numbers.{number_of}
-use Rattle.mlir_work_script.specs.Words.{trim, word_of, after_word}
+use Rattle.mlir_work_script_base.specs.Numbers.{number_of}
+use Rattle.mlir_work_script_base.specs.Words.{trim, word_of, after_word}
 
 -- all refusals, by rising numbers
 unfoldable pub all_refusals : List Refusal

@@ -3,16 +3,16 @@ use Rattle.std.specs.Prelude.{ℕ, Bool, List, ◌==◌, Option, Some, None, if�
 use Rattle.std.specs.Option.{option_copied, option_map}
 use Rattle.std.specs.Str.{bytes_eq}
 use Rattle.rewriter_machine.specs.Commands.{RuleName, Target}
-use Rattle.mlir_work_script.specs.Clauses.{Clauses, clauses_of, mode_of, no_clauses, target_of, with_clauses}
-use Rattle.mlir_work_script.specs.Kinds.{kind_of}
-use Rattle.mlir_work_script.specs.Numbers.{number_of}
-use Rattle.mlir_work_script.specs.RuleNames.{are_tried, name_of, names_of, rule_in}
-use Rattle.mlir_work_script.specs.Values.{op_of}
-use Rattle.mlir_work_script.specs.Subjects.{subject_in}
-use Rattle.mlir_work_script.specs.Words.{word_of, words_of, after_word}
+use Rattle.mlir_work_script_base.specs.Clauses.{Clauses, clauses_of, mode_of, no_clauses, target_of, with_clauses}
+use Rattle.mlir_work_script_base.specs.Kinds.{kind_of}
+use Rattle.mlir_work_script_base.specs.Numbers.{number_of}
+use Rattle.mlir_work_script_base.specs.RuleNames.{are_tried, name_of, names_of, rule_in}
+use Rattle.mlir_work_script_base.specs.Values.{op_of}
+use Rattle.mlir_work_script_base.specs.Subjects.{subject_in}
+use Rattle.mlir_work_script_base.specs.Words.{word_of, words_of, after_word}
 use Rattle.mlir_work_script.specs.declared.order.Order.{Order as Coded}
 use Rattle.mlir_work_script.specs.declared.order.Order.TheVariants as code
-use Rattle.mlir_work_script.specs.declared.subject.Subject.{Subject}
+use Rattle.mlir_work_script_base.specs.declared.subject.Subject.{Subject}
 
 -- an order
 pub data Order : Type 0 where

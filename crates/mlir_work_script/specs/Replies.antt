@@ -4,9 +4,9 @@ use Rattle.std.specs.Fmt.{decimal}
 use Rattle.ir_event.specs.types.Refusals.{text_of}
 use Rattle.ir_event.specs.types.declared.refusal.Refusal.{Refusal}
 use Rattle.rewriter_machine.specs.Machine.{Outcome}
-use Rattle.mlir_work_script.specs.Kinds.{kind_word}
+use Rattle.mlir_work_script_base.specs.Kinds.{kind_word}
 use Rattle.mlir_work_script.specs.Outcomes.{outcome_word, outcome_count}
-use Rattle.mlir_work_script.specs.Values.{op_text}
+use Rattle.mlir_work_script_base.specs.Values.{op_text}
 
 -- `1 ok`
 abbrev pub ok_line : ℕ → List ℕ

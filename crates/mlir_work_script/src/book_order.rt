@@ -3,8 +3,8 @@ ghost use Rattle.std.specs.Prelude.{◌≡◌, option_map};
 ghost use Rattle.mlir_work_script.specs.BookOrders.{book_order_in, book_order_named, book_order_of, check_in, checked_in};
 ghost use Rattle.mlir_work_script.specs.BookOrders.{define_in, is_name, patterns_in, tried_in, width_in};
 
-use crate::numbers::number;
-use crate::words::split_word;
+use mlir_work_script_base::numbers::number;
+use mlir_work_script_base::words::split_word;
 
 /// What a session makes of its book of patterns.
 #[derive(Clone, Copy)]

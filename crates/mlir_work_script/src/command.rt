@@ -8,18 +8,18 @@ ghost use Rattle.mlir_work_script.specs.Commands.{apply_in, canon_in, convert_in
 ghost use Rattle.mlir_work_script.specs.Commands.{transforming_command, command_of, line_says, text_says};
 
 use crate::book_order::{BookOrder, book_order_in};
-use crate::clauses::{Clauses, clauses_in, mode_named};
 use crate::expect::{command_behind, expected_in};
-use crate::keys::{Key, split_key};
-use crate::kind::{Kind, kind_named};
-use crate::numbers::number;
 use crate::order::{Order, order_in};
-use crate::rule_name::{RuleName, rule_named};
-use crate::spots::{Spot, split_spot};
-use crate::values::{op_named, value_named};
-use crate::words::{is_text, split_word, trim};
 use ir_event::trees::value::Value;
 use ir_event::types::ids::OpId;
+use mlir_work_script_base::clauses::{Clauses, clauses_in, mode_named};
+use mlir_work_script_base::keys::{Key, split_key};
+use mlir_work_script_base::kind::{Kind, kind_named};
+use mlir_work_script_base::numbers::number;
+use mlir_work_script_base::rule_name::{RuleName, rule_named};
+use mlir_work_script_base::spots::{Spot, split_spot};
+use mlir_work_script_base::values::{op_named, value_named};
+use mlir_work_script_base::words::{is_text, split_word, trim};
 
 /// A command of a script.
 #[derive(Clone, Copy)]

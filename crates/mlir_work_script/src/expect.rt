@@ -3,9 +3,9 @@ ghost use Rattle.std.specs.Prelude.{◌≡◌};
 ghost use Rattle.mlir_work_script.specs.Expecting.{all_refusals, command_behind, expected_in, line_expects, names};
 ghost use Rattle.mlir_work_script.specs.Expecting.{refusal_in};
 
-use crate::numbers::number;
-use crate::words::{is_text, split_word, trim};
 use ir_event::types::refusal::Refusal;
+use mlir_work_script_base::numbers::number;
+use mlir_work_script_base::words::{is_text, split_word, trim};
 
 /// All refusals, by rising numbers.
 const REFUSALS: [Refusal; 40] = [

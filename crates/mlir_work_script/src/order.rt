@@ -3,16 +3,16 @@ ghost use Rattle.std.specs.Prelude.{◌≡◌, None, Some, option_map};
 ghost use Rattle.mlir_work_script.specs.Orders.{attach_in, canon_order_in, ids_in, limit_in, order_in, order_named};
 ghost use Rattle.mlir_work_script.specs.Orders.{convert_order_in, convert_trace_in};
 ghost use Rattle.mlir_work_script.specs.Orders.{at_in, order_of, Rewrite, rewrite_in, rule_or_none, ruled_in, trace_in, why_in, report_in};
-ghost use Rattle.mlir_work_script.specs.RuleNames.{name_of, names_of};
+ghost use Rattle.mlir_work_script_base.specs.RuleNames.{name_of, names_of};
 
-use crate::clauses::{Clauses, clauses_in, mode_named};
-use crate::kind::{Kind, kind_named};
-use crate::numbers::number;
-use crate::rule_name::{RuleName, are_tried, rule_named};
-use crate::subject::{Subject, subject_named};
-use crate::values::op_named;
-use crate::words::split_word;
 use ir_event::types::ids::OpId;
+use mlir_work_script_base::clauses::{Clauses, clauses_in, mode_named};
+use mlir_work_script_base::kind::{Kind, kind_named};
+use mlir_work_script_base::numbers::number;
+use mlir_work_script_base::rule_name::{RuleName, are_tried, rule_named};
+use mlir_work_script_base::subject::{Subject, subject_named};
+use mlir_work_script_base::values::op_named;
+use mlir_work_script_base::words::split_word;
 
 /// What only a session can do.
 #[derive(Clone, Copy)]

@@ -1,20 +1,20 @@
 //! The lines of a run's output.
 ghost use Rattle.std.specs.Prelude.{◌++◌, Some, None, codes};
 ghost use Rattle.ir_event.specs.types.Refusals.{text_of};
-ghost use Rattle.mlir_work_script.specs.Kinds.{kind_word};
+ghost use Rattle.mlir_work_script_base.specs.Kinds.{kind_word};
 ghost use Rattle.mlir_work_script.specs.Outcomes.{outcome_of};
 ghost use Rattle.mlir_work_script.specs.Replies.{made_line, ok_line, outcome_line, refused_line, refused_at_line};
 ghost use Rattle.mlir_work_script.specs.Replies.{refused_on_line, module_refused_line, attach_refused_line, kind_line};
 ghost use Rattle.mlir_work_script.specs.Replies.{stale_line, kind_memory_line, module_memory_line, expected_line};
-ghost use Rattle.mlir_work_script.specs.Writes.{Puts};
+ghost use Rattle.mlir_work_script_base.specs.Writes.{Puts};
 
-use crate::kind::{Kind, name_of};
 use crate::outcome::Outcome;
-use crate::sink::Sink;
-use crate::writing::{WriteFault, put, put_all};
 use ir_event::types::ids::OpId;
 use ir_event::types::refusal::Refusal;
 use itoa::Buffer;
+use mlir_work_script_base::kind::{Kind, name_of};
+use mlir_work_script_base::sink::Sink;
+use mlir_work_script_base::writing::{WriteFault, put, put_all};
 
 /// Writes that a command is accepted: `1 ok`.
 pub fn put_ok<W: Sink>(writer: &mut W, n: u64) -> Result<(), WriteFault>

@@ -23,8 +23,8 @@ use Rattle.mlir_work_mixed.specs.transforms.rewriter.Machine as call
 use Rattle.mlir_work_mixed.specs.transforms.rewriter.Machine.{State, Reply, Done, Refused, Shows, Nothing, Rows, Goes}
 use Rattle.mlir_work_mixed.specs.transforms.rewriter.Panels.{Shown, is_kind, shown}
 use Rattle.mlir_work_script.specs.Orders.{ReportOf}
-use Rattle.mlir_work_script.specs.declared.subject.Subject.{Subject}
-use Rattle.mlir_work_script.specs.declared.subject.Subject.TheVariants as subject
+use Rattle.mlir_work_script_base.specs.declared.subject.Subject.{Subject}
+use Rattle.mlir_work_script_base.specs.declared.subject.Subject.TheVariants as subject
 use Rattle.mlir_work_session_base.specs.RowText.{rows_text}
 use Rattle.mlir_work_session_base.specs.Subjects.{is_there, rows_about}
 use Rattle.mlir_work_session.specs.Machine.{Fulfils, Way}

@@ -11,7 +11,7 @@ use Rattle.mlir_work_mixed.specs.transforms.rewriter.Panels.{Shown}
 use Rattle.mlir_work_script.specs.Orders.{Attach, CanonAt, Order, PrintIds, Rewrite, Trace, TraceConvert, Why, ReportOf}
 use Rattle.mlir_work_session_base.specs.IdsText.{ids_text}
 use Rattle.mlir_work_session.specs.Machine.{AsksWhy, AttachesKind, Fulfils, OrdersIn, Way, limit_or, order_bytes, told_if, AsksAbout, order_shows, shows_about}
-use Rattle.mlir_work_script.specs.declared.subject.Subject.{Subject}
+use Rattle.mlir_work_script_base.specs.declared.subject.Subject.{Subject}
 use Rattle.mlir_work_session_base.specs.Subjects.{absent, is_there}
 use Rattle.mlir_work_book.specs.Replies.{IsBounded, is_accepted}
 use Rattle.mlir_work_mixed.specs.transforms.greedy.Changes.{canonical_reply, rewriting}

@@ -14,5 +14,5 @@ pub mod Attaching
 pub mod Sessions
 pub mod Printing
 pub mod Wider
-pub use Rattle.mlir_work_script.proofs.Dividing
-pub use Rattle.mlir_work_script.proofs.Joins
+pub use Rattle.mlir_work_script_base.proofs.Dividing
+pub use Rattle.mlir_work_script_base.proofs.Joins

@@ -15,9 +15,9 @@ use Rattle.mlir_work_mixed.specs.transforms.rewriter.Machine as call
 use Rattle.mlir_work_mixed.specs.transforms.rewriter.Machine.{State, Done, Refused, Tree, Nothing as NoRows}
 use Rattle.mlir_work_mixed.specs.transforms.rewriter.Panels.{Shown, all_shown, has_kind, is_kind}
 use Rattle.mlir_work_script.specs.Commands.{Spoken, Nothing, Bad, Obey, Ordered, Booked, line_says}
-use Rattle.mlir_work_script.specs.Lines.{lines_of}
-use Rattle.mlir_work_script.specs.Writes.{Stream}
-use Rattle.mlir_work_script.specs.Limits.{most_script_bytes}
+use Rattle.mlir_work_script_base.specs.Lines.{lines_of}
+use Rattle.mlir_work_script_base.specs.Writes.{Stream}
+use Rattle.mlir_work_script_base.specs.Limits.{most_script_bytes}
 use Rattle.mlir_work_session.specs.Machine.{Obeys, response_of}
 use Rattle.mlir_work_book.specs.Notices.{IsWithin, Plain}
 use Rattle.mlir_work_book.specs.Replies.{is_accepted}

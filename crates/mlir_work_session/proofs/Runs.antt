@@ -7,8 +7,8 @@ use Rattle.mlir_work_mixed.specs.transforms.rewriter.Commands.{Replied as Says}
 use Rattle.mlir_work_mixed.specs.transforms.rewriter.Machine.{Refused}
 use Rattle.mlir_work_script.specs.Commands.{Spoken, Nothing, Bad, Obey, Ordered, Booked, line_says}
 use Rattle.mlir_work_script.specs.Expecting.{line_expects}
-use Rattle.mlir_work_script.specs.Lines.{lines_of}
-use Rattle.mlir_work_script.specs.Writes.{Stream}
+use Rattle.mlir_work_script_base.specs.Lines.{lines_of}
+use Rattle.mlir_work_script_base.specs.Writes.{Stream}
 use Rattle.mlir_work_book.specs.Notices.{IsWithin, Notice, Plain}
 use Rattle.ir_event.specs.Modules.{Module}
 use Rattle.mlir_work_session.specs.Explained.{IsAbout, about_notice}

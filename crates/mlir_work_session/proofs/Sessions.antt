@@ -1,10 +1,10 @@
 -- Sessions: boxes are attached, and then a script is run.
 use Rattle.std.proofs.Common.{◌≡◌, ◌≤◌, ◌<◌, ◌++◌, ◌↔◌, IsTrue, refl, ap, subst, ℕ, List, Bool, false, arith, Result, Ok, Err}
 use Rattle.ir_event.specs.Modules.{Module}
-use Rattle.mlir_work_script.specs.Lines.{lines_of}
-use Rattle.mlir_work_script.specs.Writes.{Grows, GrowsFront, Stream}
-use Rattle.mlir_work_script.specs.Limits.{most_script_bytes}
-use Rattle.mlir_work_script.proofs.Joins.{grows_join, front_join, front_more}
+use Rattle.mlir_work_script_base.specs.Lines.{lines_of}
+use Rattle.mlir_work_script_base.specs.Writes.{Grows, GrowsFront, Stream}
+use Rattle.mlir_work_script_base.specs.Limits.{most_script_bytes}
+use Rattle.mlir_work_script_base.proofs.Joins.{grows_join, front_join, front_more}
 use Rattle.mlir_work_mixed.specs.transforms.rewriter.Machine.{State}
 use Rattle.mlir_work_mixed.specs.transforms.rewriter.Panels.{Shown}
 use Rattle.mlir_work_book.specs.Shelf.{Book}

@@ -15,7 +15,7 @@ pub use Rattle.mlir_work_mixed.specs.transforms.rewriter.Machine.{State}
 pub use Rattle.mlir_work_book.specs.Replies.{response_of}
 use Rattle.mlir_work_book.specs.Replies.{is_accepted}
 use Rattle.mlir_work_script.specs.Orders.{Attach, CanonAt, Order, PrintIds, Rewrite, Trace, TraceConvert, Why, ReportOf}
-use Rattle.mlir_work_script.specs.declared.subject.Subject.{Subject}
+use Rattle.mlir_work_script_base.specs.declared.subject.Subject.{Subject}
 use Rattle.mlir_work_mixed.specs.transforms.greedy.Changes.{canonicalizing}
 use Rattle.mlir_work_mixed.specs.transforms.ConvertText.{conversion_text}
 use Rattle.mlir_work_mixed.specs.transforms.Converting.{command_aim, conversion}

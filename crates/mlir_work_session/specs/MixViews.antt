@@ -1,5 +1,5 @@
 -- A list that names a pattern, wherever its bytes lie in memory.
-use Rattle.mlir_work_script.specs.RuleNames.{names_of}
+use Rattle.mlir_work_script_base.specs.RuleNames.{names_of}
 use Rattle.mlir_work_session.specs.Mixing.{Mix}
 use Rattle.mlir_work_session.specs.declared.mixing.Mix.{Mix as Coded}
 

@@ -13,8 +13,8 @@ use Rattle.mlir_work_mixed.specs.transforms.rewriter.Machine.{State, Refused}
 use Rattle.mlir_work_mixed.specs.transforms.rewriter.Panels.{Shown, Attached, has_kind}
 use Rattle.mlir_work_script.specs.Commands.{Spoken, Nothing, Bad, Obey, Ordered, Booked, line_says}
 use Rattle.mlir_work_script.specs.Expecting.{line_expects}
-use Rattle.mlir_work_script.specs.Limits.{most_script_bytes}
-use Rattle.mlir_work_script.specs.Lines.{lines_of}
+use Rattle.mlir_work_script_base.specs.Limits.{most_script_bytes}
+use Rattle.mlir_work_script_base.specs.Lines.{lines_of}
 use Rattle.mlir_work_script.specs.Orders.{Order, PrintIds, ReportOf, Why}
 use Rattle.mlir_work_script.specs.Replies.{refused_line, attach_refused_line, kind_line, stale_line, kind_memory_line, module_memory_line}
 use Rattle.mlir_work_book.specs.Notices.{IsWithin, Notice, Plain}

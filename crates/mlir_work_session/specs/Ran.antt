@@ -1,6 +1,6 @@
 -- What a run wrote.
 use Rattle.std.specs.Prelude.{List, ℕ, Bool, Result, Ok, Err}
-use Rattle.mlir_work_script.specs.Writes.{Grows, GrowsFront, Stream}
+use Rattle.mlir_work_script_base.specs.Writes.{Grows, GrowsFront, Stream}
 
 -- a status and an output with P: at an Err some such output was begun, and then a write failed
 abbrev pub RanOut : {S E : Type 0} → (S → List ℕ → Type 0) → Stream → Stream → Result S E → Type 0

@@ -6,7 +6,7 @@ ghost use Rattle.ir_event.specs.types.declared.refusal.Refusal.{Refusal as Reaso
 ghost use Rattle.ir_text.specs.Public.{IsTold};
 ghost use Rattle.ir_text.specs.Public.{IsNoAttr};
 ghost use Rattle.ir_text.specs.Public.{SpellsAttr};
-ghost use Rattle.mlir_work_script.specs.Keys.{key_bytes};
+ghost use Rattle.mlir_work_script_base.specs.Keys.{key_bytes};
 ghost use Rattle.mlir_work_mixed.specs.transforms.rewriter.Commands.{IsAttrRefusal};
 ghost use Rattle.mlir_work_session.specs.Texts.{Grown, NotRead};
 ghost use Rattle.mlir_work_session.specs.Machine.{response_of};
@@ -19,7 +19,7 @@ use ir_event::types::refusal::Refusal;
 use ir_text::reader::ReadError;
 use mlir_work_mixed::transforms::rewriter::Bench;
 use mlir_work_mixed::transforms::rewriter::laws::led_benches_are_kept;
-use mlir_work_script::keys::{Key, bytes_of};
+use mlir_work_script_base::keys::{Key, bytes_of};
 use std::alloc::Global;
 
 /// The attribute that a text spells.

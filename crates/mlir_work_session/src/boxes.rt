@@ -1,6 +1,6 @@
 //! Listeners are attached, in the order in which they are handed in.
 ghost use Rattle.std.specs.Prelude.{◌≡◌, ◌&&◌, is_none};
-ghost use Rattle.mlir_work_script.specs.Writes.{Puts};
+ghost use Rattle.mlir_work_script_base.specs.Writes.{Puts};
 ghost use Rattle.mlir_work_mixed.specs.transforms.rewriter.Panels.{shown, all_shown};
 ghost use Rattle.mlir_work_mixed.specs.transforms.rewriter.Benched.{IsKept};
 ghost use Rattle.mlir_work_session.specs.Output.{Attaches, BoxTried, box_line};
@@ -10,10 +10,10 @@ use crate::listing::kind_of;
 use ir_event::analysis::Analysis;
 use ir_event::types::refusal::Refusal;
 use mlir_work_mixed::transforms::rewriter::Bench;
-use mlir_work_script::kind::Kind;
 use mlir_work_script::replies::put_attach_refused;
-use mlir_work_script::sink::Sink;
-use mlir_work_script::writing::WriteFault;
+use mlir_work_script_base::kind::Kind;
+use mlir_work_script_base::sink::Sink;
+use mlir_work_script_base::writing::WriteFault;
 
 /// Attaches a listener, or answers why not.
 fn attach<L: Analysis>(bench: &mut Bench<L>, listener: L) -> Option<Refusal>

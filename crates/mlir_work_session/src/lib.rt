@@ -32,8 +32,9 @@ pub use ir_text::reader;
 pub use mlir_work_book::{book, notice, reply};
 pub use mlir_work_mixed::transforms::greedy;
 pub use mlir_work_mixed::transforms::rewriter::Bench;
-pub use mlir_work_script::{
-    book_order, cells, clauses, command, expect, input, items, keys, kind, lines, numbers, order,
-    outcome, replies, rule_name, sink, source, spots, subject, values, watched, words, writing,
+pub use mlir_work_script::{book_order, command, expect, order, outcome, replies};
+pub use mlir_work_script_base::{
+    cells, clauses, input, items, keys, kind, lines, numbers, rule_name, sink, source, spots,
+    subject, values, watched, words, writing,
 };
 pub use mlir_work_session_base::supplied;

@@ -3,7 +3,7 @@ ghost use Rattle.std.specs.Prelude.{◌≡◌, ◌⊎◌, ◌++◌, true};
 ghost use Rattle.ir_event.specs.Modules.{things_in, module_in};
 ghost use Rattle.ir_event.specs.Panels.{AllKept};
 ghost use Rattle.mlir_work_script.specs.Replies.{kind_line};
-ghost use Rattle.mlir_work_script.specs.Writes.{Puts, PutsSome};
+ghost use Rattle.mlir_work_script_base.specs.Writes.{Puts, PutsSome};
 ghost use Rattle.mlir_work_mixed.specs.transforms.rewriter.Panels.{shown, all_shown};
 ghost use Rattle.mlir_work_mixed.specs.transforms.rewriter.Benched.{IsKept, state_of};
 ghost use Rattle.mlir_work_session.specs.Output.{IsModule, IsKind, AreKinds, IsListing};
@@ -13,10 +13,10 @@ use ir_event::analysis::Analysis;
 use ir_event::row::ReportFault;
 use ir_event::world::World;
 use mlir_work_mixed::transforms::rewriter::Bench;
-use mlir_work_script::kind::Kind;
 use mlir_work_script::replies::{put_kind, put_kind_memory, put_module_memory, put_stale};
-use mlir_work_script::sink::Sink;
-use mlir_work_script::writing::{WriteFault, put};
+use mlir_work_script_base::kind::Kind;
+use mlir_work_script_base::sink::Sink;
+use mlir_work_script_base::writing::{WriteFault, put};
 use std::alloc::Global;
 
 /// Writes the module, or that there is no memory for its text.

@@ -10,7 +10,7 @@ use crate::replying::reply_to;
 use ir_event::analysis::Analysis;
 use mlir_work_mixed::transforms::rewriter::Bench;
 use mlir_work_mixed::transforms::rewriter::laws::led_benches_are_kept;
-use mlir_work_script::kind::Kind;
+use mlir_work_script_base::kind::Kind;
 
 /// Makes a mark of the module.
 pub(crate) fn begin<L: Analysis>(bench: &mut Bench<L>) -> Reply

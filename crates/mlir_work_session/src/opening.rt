@@ -10,8 +10,8 @@ use crate::boxes::attach_all;
 use crate::script::put_end;
 use ir_event::analysis::Analysis;
 use mlir_work_mixed::transforms::rewriter::Bench;
-use mlir_work_script::sink::Sink;
-use mlir_work_script::writing::WriteFault;
+use mlir_work_script_base::sink::Sink;
+use mlir_work_script_base::writing::WriteFault;
 
 /// Begins a session over a bench without listeners and without open marks: attaches these, in order, writes a line for
 /// each that is refused, and, where `ends` says so, an empty line behind them. It is true where none is refused.

@@ -4,13 +4,13 @@ ghost use Rattle.ir_event.specs.trees.Ids.{has_id};
 ghost use Rattle.ir_event.specs.trees.Places.{place_of};
 ghost use Rattle.ir_event.specs.tree_laws.Reads.{first_at, ops_at};
 ghost use Rattle.mlir_work_mixed.specs.transforms.rewriter.Spots.{passing, coming, behind, beside, in_block, spot_place};
-ghost use Rattle.mlir_work_script.specs.Spots.{spot_of};
+ghost use Rattle.mlir_work_script_base.specs.Spots.{spot_of};
 
 use ir_event::store::store::Store;
 use ir_event::trees::place::Place;
 use ir_event::types::ids::OpId;
 use ir_event::types::refusal::Refusal;
-use mlir_work_script::spots::Spot;
+use mlir_work_script_base::spots::Spot;
 
 /// What comes next, where the operation that is moved is passed over.
 fn passing(store: &Store, moved: Option<OpId>, next: Option<OpId>) -> Option<OpId>

@@ -4,9 +4,9 @@ ghost use Rattle.std.specs.Prelude.{◌≡◌, ◌≤◌, ◌++◌, ◌&&◌, Bo
 ghost use Rattle.ir_event.specs.trees.Meaning.{is_known, meaning};
 ghost use Rattle.ir_event.specs.Panels.{has_kind as has_this_kind, is_kind as is_of_kind};
 ghost use Rattle.mlir_work_script.specs.Commands.{said_of, spoken_of};
-ghost use Rattle.mlir_work_script.specs.Lines.{lines_of};
-ghost use Rattle.mlir_work_script.specs.Writes.{Puts};
-ghost use Rattle.mlir_work_script.specs.Limits.{most_script_bytes};
+ghost use Rattle.mlir_work_script_base.specs.Lines.{lines_of};
+ghost use Rattle.mlir_work_script_base.specs.Writes.{Puts};
+ghost use Rattle.mlir_work_script_base.specs.Limits.{most_script_bytes};
 ghost use Rattle.mlir_work_mixed.specs.transforms.rewriter.Panels.{Shown, all_shown};
 ghost use Rattle.mlir_work_session.specs.Machine.{response_of};
 ghost use Rattle.mlir_work_book.specs.Shelf.{Book};
@@ -27,9 +27,9 @@ use ir_text::printer::print;
 use mlir_work_book::putting::put_reply;
 use mlir_work_script::command::{Command, Line, read_line};
 use mlir_work_script::expect::expected_of;
-use mlir_work_script::lines::split_line;
-use mlir_work_script::sink::Sink;
-use mlir_work_script::writing::{WriteFault, put};
+use mlir_work_script_base::lines::split_line;
+use mlir_work_script_base::sink::Sink;
+use mlir_work_script_base::writing::{WriteFault, put};
 use std::alloc::Global;
 
 /// Whether a command asks for the module.

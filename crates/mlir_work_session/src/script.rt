@@ -2,9 +2,9 @@
 ghost use Rattle.std.specs.Prelude.{◌≡◌, ◌+◌, ◌<◌, ◌^◌, false, ◌&&◌, not};
 ghost use Rattle.mlir_work_script.specs.Commands.{line_says, said_of, spoken_of};
 ghost use Rattle.mlir_work_script.specs.Expecting.{line_expects};
-ghost use Rattle.mlir_work_script.specs.Lines.{lines_of};
+ghost use Rattle.mlir_work_script_base.specs.Lines.{lines_of};
 ghost use Rattle.mlir_work_script.specs.Orders.{order_of};
-ghost use Rattle.mlir_work_script.specs.Writes.{Puts, PutsSome};
+ghost use Rattle.mlir_work_script_base.specs.Writes.{Puts, PutsSome};
 ghost use Rattle.mlir_work_mixed.specs.transforms.rewriter.Benched.{IsKept, state_of};
 ghost use Rattle.mlir_work_book.specs.Notices.{IsWithin, notice_of};
 ghost use Rattle.mlir_work_session.specs.Explained.{IsAbout, about_bytes};
@@ -31,10 +31,10 @@ use mlir_work_book::orders::shelve;
 use mlir_work_mixed::transforms::rewriter::Bench;
 use mlir_work_script::command::{Command, Line, read_line};
 use mlir_work_script::expect::expected_of;
-use mlir_work_script::lines::split_line;
 use mlir_work_script::order::Order;
-use mlir_work_script::sink::Sink;
-use mlir_work_script::writing::{WriteFault, put};
+use mlir_work_script_base::lines::split_line;
+use mlir_work_script_base::sink::Sink;
+use mlir_work_script_base::writing::{WriteFault, put};
 use mlir_work_session_base::supplied::Supplied;
 use std::alloc::Global;
 

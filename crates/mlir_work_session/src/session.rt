@@ -16,10 +16,10 @@ use ir_event::types::refusal::Refusal;
 use ir_event::world::World;
 use mlir_work_book::book::Book;
 use mlir_work_mixed::transforms::rewriter::Bench;
-use mlir_work_script::input::script_is_too_long;
 use mlir_work_script::replies::put_refused;
-use mlir_work_script::sink::Sink;
-use mlir_work_script::writing::WriteFault;
+use mlir_work_script_base::input::script_is_too_long;
+use mlir_work_script_base::sink::Sink;
+use mlir_work_script_base::writing::WriteFault;
 use mlir_work_session_base::supplied::Supplied;
 use std::alloc::Global;
 

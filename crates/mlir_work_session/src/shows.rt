@@ -17,7 +17,7 @@ use ir_event::types::refusal::Refusal;
 use ir_event::world::World;
 use ir_text::printer::print;
 use mlir_work_mixed::transforms::rewriter::Bench;
-use mlir_work_script::kind::Kind;
+use mlir_work_script_base::kind::Kind;
 use mlir_work_session_base::rows::text_of_rows;
 use std::alloc::Global;
 

@@ -14,8 +14,8 @@ use ir_event::row::ReportFault;
 use ir_event::types::refusal::Refusal;
 use ir_event::world::World;
 use mlir_work_mixed::transforms::rewriter::Bench;
-use mlir_work_script::kind::Kind;
-use mlir_work_script::subject::Subject;
+use mlir_work_script_base::kind::Kind;
+use mlir_work_script_base::subject::Subject;
 use mlir_work_session_base::subjects::text_of_rows_about;
 use std::alloc::Global;
 

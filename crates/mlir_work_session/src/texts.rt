@@ -1,8 +1,8 @@
 //! Commands whose text is read beside the module of a bench.
 ghost use Rattle.std.specs.Prelude.{◌≡◌, []};
 ghost use Rattle.mlir_work_mixed.specs.transforms.rewriter.Commands.{Insert, SetAttr};
-ghost use Rattle.mlir_work_script.specs.Keys.{key_bytes};
-ghost use Rattle.mlir_work_script.specs.Spots.{spot_of};
+ghost use Rattle.mlir_work_script_base.specs.Keys.{key_bytes};
+ghost use Rattle.mlir_work_script_base.specs.Spots.{spot_of};
 ghost use Rattle.mlir_work_mixed.specs.transforms.rewriter.Benched.{IsKept, state_of};
 ghost use Rattle.mlir_work_session.specs.Machine.{Obeys, response_of};
 
@@ -16,8 +16,8 @@ use ir_event::analysis::Analysis;
 use ir_event::types::ids::OpId;
 use mlir_work_mixed::transforms::rewriter::Bench;
 use mlir_work_mixed::transforms::rewriter::laws::led_benches_are_kept;
-use mlir_work_script::keys::Key;
-use mlir_work_script::spots::Spot;
+use mlir_work_script_base::keys::Key;
+use mlir_work_script_base::spots::Spot;
 use std::alloc::Global;
 
 /// Inserts the operation that a text spells at the place that is named.

@@ -3,9 +3,9 @@ ghost use Rattle.std.specs.Prelude.{◌≡◌, ℕ, Option, None, Some, option_m
 ghost use Rattle.std.specs.Option.{option_copied};
 ghost use Rattle.ir_text.specs.Public.{IsFull};
 ghost use Rattle.mlir_work_book.specs.Replies.{is_accepted};
-ghost use Rattle.mlir_work_script.specs.Clauses.{clauses_of, target_of};
+ghost use Rattle.mlir_work_script_base.specs.Clauses.{clauses_of, target_of};
 ghost use Rattle.mlir_work_script.specs.Orders.{Trace, TraceConvert};
-ghost use Rattle.mlir_work_script.specs.RuleNames.{names_of};
+ghost use Rattle.mlir_work_script_base.specs.RuleNames.{names_of};
 ghost use Rattle.mlir_work_mixed.specs.transforms.Converting.{conversion};
 ghost use Rattle.mlir_work_mixed.specs.transforms.TraceText.{tracing};
 ghost use Rattle.mlir_work_mixed.specs.transforms.greedy.Changes.{canonical_reply};
@@ -29,7 +29,7 @@ use mlir_work_mixed::transforms::rewriter::Bench;
 use mlir_work_mixed::transforms::rewriter::laws::led_benches_are_kept;
 use mlir_work_mixed::transforms::trace::{canon_traced, rewrite_traced};
 use mlir_work_mixed::transforms::trace_lines::TraceLines;
-use mlir_work_script::clauses::Clauses;
+use mlir_work_script_base::clauses::Clauses;
 use std::alloc::Global;
 
 /// What is told of rewriting: its lines stand below the reply where it was done, and nothing does where it was refused.

@@ -4,10 +4,10 @@ ghost use Rattle.mlir_work_mixed.specs.transforms.rewriter.Commands.{Apply, Cano
 ghost use Rattle.mlir_work_mixed.specs.transforms.rewriter.Machine.{Transformation};
 ghost use Rattle.mlir_work_mixed.specs.transforms.rewriter.Panels.{Shown};
 ghost use Rattle.mlir_work_script.specs.Orders.{Rewrite};
-ghost use Rattle.mlir_work_script.specs.RuleNames.{name_of, names_of};
+ghost use Rattle.mlir_work_script_base.specs.RuleNames.{name_of, names_of};
 ghost use Rattle.mlir_work_mixed.specs.transforms.Applying.{application};
 ghost use Rattle.mlir_work_mixed.specs.transforms.rewriter.Benched.{IsKept, state_of};
-ghost use Rattle.mlir_work_script.specs.Clauses.{clauses_of, target_of};
+ghost use Rattle.mlir_work_script_base.specs.Clauses.{clauses_of, target_of};
 ghost use Rattle.ir_text.specs.Public.{IsFull};
 ghost use Rattle.mlir_work_mixed.specs.transforms.greedy.Changes.{canonicalizing};
 ghost use Rattle.mlir_work_mixed.specs.transforms.Converting.{conversion};
@@ -26,8 +26,8 @@ use mlir_work_mixed::transforms::rewrite::rules_in;
 use mlir_work_mixed::transforms::rewriter::Bench;
 use mlir_work_mixed::transforms::rewriter::laws::led_benches_are_kept;
 use mlir_work_mixed::transforms::{apply, convert, sweep};
-use mlir_work_script::clauses::Clauses;
-use mlir_work_script::rule_name::RuleName;
+use mlir_work_script_base::clauses::Clauses;
+use mlir_work_script_base::rule_name::RuleName;
 use std::alloc::Global;
 
 /// The limit of a canonicalization, where its command may say one.

@@ -4,7 +4,7 @@ ghost use Rattle.ir_event.specs.Modules.{Module, module_in};
 ghost use Rattle.ir_event.specs.trees.Ids.{has_id};
 ghost use Rattle.ir_text.specs.Public.{IsFull};
 ghost use Rattle.mlir_work_script.specs.Orders.{CanonAt, Why};
-ghost use Rattle.mlir_work_script.specs.RuleNames.{name_of};
+ghost use Rattle.mlir_work_script_base.specs.RuleNames.{name_of};
 ghost use Rattle.mlir_work_mixed.specs.transforms.At.{canonicalizing_at};
 ghost use Rattle.mlir_work_mixed.specs.transforms.WhyText.{asked_rules, told_rules};
 ghost use Rattle.mlir_work_mixed.specs.transforms.rewriter.Commands.{RuleName as Name};
@@ -28,7 +28,7 @@ use mlir_work_mixed::transforms::greedy::patterns::rule::Rule;
 use mlir_work_mixed::transforms::rewriter::Bench;
 use mlir_work_mixed::transforms::rewriter::laws::led_benches_are_kept;
 use mlir_work_mixed::transforms::why::why as lines_of;
-use mlir_work_script::rule_name::RuleName;
+use mlir_work_script_base::rule_name::RuleName;
 use std::alloc::Global;
 
 /// Whether an operation is in the module of a world.

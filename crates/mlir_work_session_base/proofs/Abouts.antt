@@ -8,7 +8,7 @@ use Rattle.ir_event.specs.declared.row.Cell.{Cell}
 use Rattle.ir_event.specs.declared.row.Row.{Row}
 use Rattle.ir_event.specs.Rows.{RowTerm, cell_meaning, row_meaning, rows_meaning}
 use Rattle.ir_event.proofs.of_trees.Steps.{next_left}
-use Rattle.mlir_work_script.specs.declared.subject.Subject.{Subject}
+use Rattle.mlir_work_script_base.specs.declared.subject.Subject.{Subject}
 use Rattle.mlir_work_session_base.specs.RowText.{row_text, rows_text}
 use Rattle.mlir_work_session_base.specs.Subjects.{is_about, names_there, place_about, rows_about}
 

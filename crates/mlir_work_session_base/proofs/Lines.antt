@@ -7,7 +7,7 @@ use Rattle.ir_text.specs.Printing.{text_of}
 use Rattle.ir_event.specs.trees.Meaning.{meaning}
 use Rattle.ir_event.specs.trees.Maps.{map_tree, map_regions, map_region, map_ops}
 use Rattle.ir_event.specs.trees.Tree.{Op, OpOf, op, RegionsOf, no_regions, region, RegionOf, empty, block, OpsOf, no_ops, next, ops_of}
-use Rattle.mlir_work_script.specs.Lines.{lines_of}
+use Rattle.mlir_work_script_base.specs.Lines.{lines_of}
 use Rattle.mlir_work_session_base.specs.IdsText.{bare_label_ids, ids_text, label_ids, line_end, line_ids, ops_line_ids, region_line_ids, regions_line_ids, with_ids}
 
 -- where a block has operations, and where it has no arguments

@@ -4,8 +4,8 @@ use Rattle.ir_event.specs.trees.Meaning.{Operation}
 use Rattle.ir_event.specs.trees.Tree.{OpOf, op, RegionsOf, no_regions, region}
 use Rattle.ir_event.specs.trees.Tree.{RegionOf, empty, block, OpsOf, no_ops, next}
 use Rattle.ir_text.specs.Printing.{text_of}
-use Rattle.mlir_work_script.specs.Lines.{lines_of}
-use Rattle.mlir_work_script.specs.Values.{op_text}
+use Rattle.mlir_work_script_base.specs.Lines.{lines_of}
+use Rattle.mlir_work_script_base.specs.Values.{op_text}
 
 -- a block without arguments has a line of its own in front of its operations where there are none: x is the operation
 -- around it

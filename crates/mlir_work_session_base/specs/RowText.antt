@@ -7,7 +7,7 @@ use Rattle.ir_event.specs.Rows.{CellTerm, Op, Val, Num, Name, Path, Bits, Rule, 
 use Rattle.ir_text.specs.Public.{symbol_text}
 use Rattle.ir_text.specs.Rows.{parted}
 use Rattle.ir_text.specs.AttrText.{attr_text, integer_text}
-use Rattle.mlir_work_script.specs.Values.{op_text, value_text}
+use Rattle.mlir_work_script_base.specs.Values.{op_text, value_text}
 
 -- the word of a tag
 abbrev pub tag_text : ℕ → List ℕ

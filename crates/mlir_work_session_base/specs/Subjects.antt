@@ -12,8 +12,8 @@ use Rattle.ir_event.specs.tree_laws.Values.{has_value}
 use Rattle.ir_event.specs.Rows.{CellTerm, Op, Val, Num, Name, Path, Bits, Rule, Tag, RowTerm}
 use Rattle.ir_event.specs.Tags.{tag_number}
 use Rattle.ir_event.specs.declared.tag.Tag.TheVariants as word
-use Rattle.mlir_work_script.specs.declared.subject.Subject.{Subject}
-use Rattle.mlir_work_script.specs.declared.subject.Subject.TheVariants as subject
+use Rattle.mlir_work_script_base.specs.declared.subject.Subject.{Subject}
+use Rattle.mlir_work_script_base.specs.declared.subject.Subject.TheVariants as subject
 
 -- ---- what a row is about
 

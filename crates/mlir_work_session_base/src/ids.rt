@@ -3,16 +3,16 @@ ghost use Rattle.std.specs.Prelude.{◌≡◌, ◌++◌, ◌∷◌, [], drop, If
 ghost use Rattle.ir_event.specs.trees.Meaning.{is_known, meaning};
 ghost use Rattle.ir_event.specs.trees.Tree.{ops_of};
 ghost use Rattle.ir_event.specs.trees.View.{region_view};
-ghost use Rattle.mlir_work_script.specs.Lines.{lines_of};
-ghost use Rattle.mlir_work_script.specs.Values.{op_text};
+ghost use Rattle.mlir_work_script_base.specs.Lines.{lines_of};
+ghost use Rattle.mlir_work_script_base.specs.Values.{op_text};
 ghost use Rattle.mlir_work_session_base.specs.IdsText.{bare_label_ids, ids_text, label_ids, line_end, line_ids, region_line_ids, with_ids};
 
 use ir_event::trees::tree::{TreeOp, TreeRegion};
 use ir_event::types::context::Context;
 use ir_event::types::ids::{OpId, TypeId};
 use ir_text::printer::print;
-use mlir_work_script::cells;
-use mlir_work_script::lines::split_line;
+use mlir_work_script_base::cells;
+use mlir_work_script_base::lines::split_line;
 use std::alloc::{AllocError, Global};
 
 /// Adds the operation of the line that a block without arguments has in front of its operations, where it has one.

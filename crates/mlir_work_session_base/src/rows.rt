@@ -11,7 +11,7 @@ ghost use Rattle.ir_event.specs.Rows.{CellIsOf, RowIsOf, cell_meaning, row_meani
 ghost use Rattle.ir_text.specs.Public.{symbol_text};
 ghost use Rattle.ir_text.specs.Rows.{parted};
 ghost use Rattle.ir_text.specs.AttrText.{integer_text, number_text};
-ghost use Rattle.mlir_work_script.specs.Values.{op_text, value_text};
+ghost use Rattle.mlir_work_script_base.specs.Values.{op_text, value_text};
 ghost use Rattle.mlir_work_session_base.specs.RowText.{tag_text, cell_text, row_text, rows_text};
 
 use ir_event::row::{Cell, Row};
@@ -22,7 +22,7 @@ use ir_event::types::ids::{NameId, OpId};
 use ir_text::attributes::put_attr;
 use ir_text::printer::put_symbol;
 use itoa::Buffer;
-use mlir_work_script::cells;
+use mlir_work_script_base::cells;
 use std::alloc::{AllocError, Global};
 
 fn put_number(out: &mut Vec<u8>, number: u32) -> Result<(), AllocError>

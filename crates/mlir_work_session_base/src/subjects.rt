@@ -15,7 +15,7 @@ use ir_event::tag::Tag;
 use ir_event::trees::value::Value;
 use ir_event::types::context::Context;
 use ir_event::types::ids::OpId;
-use mlir_work_script::subject::Subject;
+use mlir_work_script_base::subject::Subject;
 use std::alloc::{AllocError, Global};
 
 /// Whether a row with this word defines a symbol.

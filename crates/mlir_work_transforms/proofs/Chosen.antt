@@ -7,8 +7,8 @@ use Rattle.conversion.specs.rewriter.Commands.{RuleName}
 use Rattle.conversion.specs.patterns.RuleNames.{is_canonical}
 use Rattle.conversion.specs.patterns.Rule.{Rule}
 use Rattle.conversion.specs.patterns.Rows.{AreCanonical}
-use Rattle.mlir_work_script.specs.Items.{items_behind}
-use Rattle.mlir_work_script.specs.RuleNames.{name_or_none, rule_in}
+use Rattle.mlir_work_script_base.specs.Items.{items_behind}
+use Rattle.mlir_work_script_base.specs.RuleNames.{name_or_none, rule_in}
 use Rattle.mlir_work_transforms.specs.Applying.{rule_named}
 use Rattle.mlir_work_transforms.proofs.Ruled.{joined, one_joined}
 use Rattle.mlir_work_transforms.specs.Rewriting.{canonical_named, if_canonical, rules_named}

@@ -3,10 +3,10 @@ use Rattle.std.proofs.Common.{◌≡◌, refl, ap, ◌∙◌, ℕ, Bool, List, [
 use Rattle.std.specs.Prelude.{unwrap_or}
 use Rattle.std.specs.Option.{option_copied}
 use Rattle.ir_event.specs.types.Things.{Things}
-use Rattle.mlir_work_script.specs.Clauses.{clauses_of, target_of}
-use Rattle.mlir_work_script.specs.Items.{items_behind, items_of, number_or_zero, numbers_of}
-use Rattle.mlir_work_script.specs.Numbers.{number_of}
-use Rattle.mlir_work_script.specs.declared.clauses.Clauses.{Clauses as Written}
+use Rattle.mlir_work_script_base.specs.Clauses.{clauses_of, target_of}
+use Rattle.mlir_work_script_base.specs.Items.{items_behind, items_of, number_or_zero, numbers_of}
+use Rattle.mlir_work_script_base.specs.Numbers.{number_of}
+use Rattle.mlir_work_script_base.specs.declared.clauses.Clauses.{Clauses as Written}
 use Rattle.conversion.specs.Converting.{command_aim, rules_of}
 use Rattle.conversion.specs.Rule.{Rule}
 use Rattle.conversion.specs.Targets.{Aim, TargetOf, IsNamedIn, aim_of}

@@ -1,6 +1,6 @@
 -- The operations that a rewrite made, one after another.
 use Rattle.std.proofs.Common.{◌≡◌, ◌∙◌, sym, ap, ◌≤◌, ◌<◌, ◌+◌, ◌-◌, ℕ, suc, List, [], ◌++◌, append-nil, append_assoc, Bool, false, arith}
-use Rattle.mlir_work_script.specs.Values.{op_text}
+use Rattle.mlir_work_script_base.specs.Values.{op_text}
 use Rattle.mlir_work_transforms.specs.TraceText.{lead, made_from}
 
 -- one more was written

@@ -13,7 +13,7 @@ use Rattle.conversion.specs.declared.stay.Stay.TheVariants.{NoRule, Fails, Makes
 use Rattle.conversion_base.specs.declared.stood.Stood.{Stood}
 use Rattle.greedy.specs.declared.fired.By.TheVariants as by
 use Rattle.greedy.specs.declared.fired.Fired.{Fired}
-use Rattle.mlir_work_script.specs.Values.{op_text}
+use Rattle.mlir_work_script_base.specs.Values.{op_text}
 use Rattle.mlir_work_transforms.specs.TraceText.{rule_text, trace_text}
 
 -- a rule that stands, as rewrites are told

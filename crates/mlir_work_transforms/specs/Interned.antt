@@ -6,7 +6,7 @@ use Rattle.ir_event.specs.types.Terms.{name_term}
 use Rattle.ir_event.specs.Listener.{Listener}
 use Rattle.conversion.specs.rewriter.Benched.{Benched, state_of}
 use Rattle.conversion.specs.rewriter.Moves.{Recorded}
-use Rattle.mlir_work_script.specs.Items.{numbers_of}
+use Rattle.mlir_work_script_base.specs.Items.{numbers_of}
 use Rattle.conversion.specs.Benches.{LedOn}
 
 -- the numbers of the list that is there, if one is

@@ -13,7 +13,7 @@ use Rattle.greedy.specs.Trial.{by_rules}
 use Rattle.greedy.specs.declared.fired.By.{By}
 use Rattle.greedy.specs.declared.fired.By.TheVariants as by
 use Rattle.greedy.specs.declared.fired.Fired.{Fired}
-use Rattle.mlir_work_script.specs.Values.{op_text}
+use Rattle.mlir_work_script_base.specs.Values.{op_text}
 use Rattle.mlir_work_transforms.specs.Rewriting.{rewriting_named, rules_named}
 
 -- what stands in front of an operation that was made

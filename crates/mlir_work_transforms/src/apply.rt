@@ -4,7 +4,7 @@ ghost use Rattle.ir_event.specs.types.Things.{Grows};
 ghost use Rattle.conversion.specs.rewriter.Machine.{Change, IsFullSo};
 ghost use Rattle.conversion.specs.rewriter.Benched.{Does, Keeps, Led, state_of};
 ghost use Rattle.conversion.specs.patterns.runs.Interning.{IsFull};
-ghost use Rattle.mlir_work_script.specs.RuleNames.{name_of};
+ghost use Rattle.mlir_work_script_base.specs.RuleNames.{name_of};
 ghost use Rattle.mlir_work_transforms.specs.Applying.{applied_reply, applying, rule_named};
 
 use conversion::rewriter::Bench;
@@ -13,7 +13,7 @@ use greedy::patterns::rule::Rule;
 use ir_event::analysis::Analysis;
 use ir_event::types::ids::OpId;
 use ir_event::types::refusal::Refusal;
-use mlir_work_script::rule_name::RuleName;
+use mlir_work_script_base::rule_name::RuleName;
 use std::alloc::Global;
 
 /// The rule that a command names, if there is one of that name.

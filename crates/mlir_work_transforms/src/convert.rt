@@ -6,7 +6,7 @@ ghost use Rattle.conversion.specs.rewriter.Benched.{Does, Led};
 ghost use Rattle.conversion.specs.rewriter.Held.{module_held};
 ghost use Rattle.conversion.specs.rewriter.Moves.{Recorded};
 ghost use Rattle.conversion.specs.Runs.{Noted};
-ghost use Rattle.mlir_work_script.specs.Clauses.{clauses_of, target_of as said_target};
+ghost use Rattle.mlir_work_script_base.specs.Clauses.{clauses_of, target_of as said_target};
 ghost use Rattle.conversion.specs.Conversion.{has_no_cast};
 ghost use Rattle.conversion.specs.Benches.{seen};
 ghost use Rattle.conversion.specs.Converting.{command_aim, conversion, conversion_reply, conversion_to};
@@ -25,7 +25,7 @@ use conversion::teller::{Silent, Teller};
 use ir_event::analysis::Analysis;
 use ir_event::types::ids::OpId;
 use ir_event::types::refusal::Refusal;
-use mlir_work_script::clauses::Clauses;
+use mlir_work_script_base::clauses::Clauses;
 use std::alloc::{AllocError, Global};
 
 /// Converts the module of a bench (Dialect Conversion, "Modes of Conversion") for the target that clauses say, and

@@ -5,8 +5,8 @@ ghost use Rattle.ir_event.specs.types.Reasons.{IsRefusedFor, name_reason};
 ghost use Rattle.ir_event.specs.types.Things.{Things};
 ghost use Rattle.ir_event.specs.types.declared.refusal.Refusal.{Refusal as Reason};
 ghost use Rattle.ir_event.specs.types.declared.refusal.Refusal.TheVariants.{Memory as NoMemory};
-ghost use Rattle.mlir_work_script.specs.Items.{items_behind, number_or_zero};
-ghost use Rattle.mlir_work_script.specs.Numbers.{number_of};
+ghost use Rattle.mlir_work_script_base.specs.Items.{items_behind, number_or_zero};
+ghost use Rattle.mlir_work_script_base.specs.Numbers.{number_of};
 ghost use Rattle.conversion.specs.States.{IsWant};
 ghost use Rattle.mlir_work_transforms.specs.Interned.{AreNumbers, Interned, numbers_behind};
 
@@ -15,8 +15,8 @@ use conversion::rewriter::Bench;
 use ir_event::analysis::Analysis;
 use ir_event::types::ids::NameId;
 use ir_event::types::refusal::Refusal;
-use mlir_work_script::items::split_item;
-use mlir_work_script::numbers::number;
+use mlir_work_script_base::items::split_item;
+use mlir_work_script_base::numbers::number;
 use std::alloc::Global;
 
 /// Why a conversion is refused where a name finds no number: the context is full, or there is no memory.

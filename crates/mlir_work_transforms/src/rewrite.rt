@@ -2,14 +2,14 @@
 ghost use Rattle.std.specs.Prelude.{◌≡◌, true, is_some, IfErr, IfOk, IfSome, option_map};
 ghost use Rattle.ir_event.specs.types.declared.refusal.Refusal.TheVariants.{Memory as NoMemory};
 ghost use Rattle.conversion.specs.patterns.Rows.{AreCanonical};
-ghost use Rattle.mlir_work_script.specs.RuleNames.{name_of, names_of};
+ghost use Rattle.mlir_work_script_base.specs.RuleNames.{name_of, names_of};
 ghost use Rattle.mlir_work_transforms.specs.Rewriting.{canonical_named, rules_named};
 
 use crate::apply::rule_named;
 use greedy::patterns::rule::Rule;
 use ir_event::types::refusal::Refusal;
-use mlir_work_script::items::split_item;
-use mlir_work_script::rule_name::{RuleName, name_in};
+use mlir_work_script_base::items::split_item;
+use mlir_work_script_base::rule_name::{RuleName, name_in};
 use std::alloc::Global;
 
 /// The rule of a name, if there is one that canonicalization tries.

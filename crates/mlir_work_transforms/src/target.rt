@@ -1,6 +1,6 @@
 //! The target of a command.
 ghost use Rattle.std.specs.Prelude.{◌≡◌, IfOk, IfErr, IfSome, option_map};
-ghost use Rattle.mlir_work_script.specs.Clauses.{clauses_of, target_of as said_target};
+ghost use Rattle.mlir_work_script_base.specs.Clauses.{clauses_of, target_of as said_target};
 ghost use Rattle.conversion.specs.Converting.{command_aim};
 ghost use Rattle.conversion.specs.States.{IsWant};
 ghost use Rattle.conversion.specs.Targets.{IsNamedIn, aim_of};
@@ -12,7 +12,7 @@ use conversion::rewriter::Bench;
 use conversion::target::Target;
 use ir_event::analysis::Analysis;
 use ir_event::types::refusal::Refusal;
-use mlir_work_script::clauses::Clauses;
+use mlir_work_script_base::clauses::Clauses;
 use std::alloc::Global;
 
 /// How deep rules may follow one another, where no clause says.

@@ -1,7 +1,7 @@
 //! The lines that tell of rewrites.
 ghost use Rattle.std.specs.Prelude.{◌≡◌, ◌++◌, ◌-◌, [], OnOk, codes, map, true};
 ghost use Rattle.std.specs.Fmt.{decimal};
-ghost use Rattle.mlir_work_script.specs.Values.{op_text};
+ghost use Rattle.mlir_work_script_base.specs.Values.{op_text};
 ghost use Rattle.mlir_work_transforms.specs.TraceText.{by_text, fired_line, gone_text, lead, made_from, rule_text};
 
 use greedy::fired::{By, Fired};
@@ -9,7 +9,7 @@ use greedy::patterns::rule::Rule;
 use greedy::tracer::Tracer;
 use ir_event::types::ids::OpId;
 use ir_event::types::refusal::Refusal;
-use mlir_work_script::cells;
+use mlir_work_script_base::cells;
 use std::alloc::{AllocError, Global};
 
 /// Tells of rewrites, with a line for each: `rewrote 4 drop-zero #7 erased #7`. A pattern of one's own is told by its

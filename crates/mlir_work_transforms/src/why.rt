@@ -2,7 +2,7 @@
 ghost use Rattle.std.specs.Prelude.{◌≡◌, ◌++◌, IfOk, OnOk, codes};
 ghost use Rattle.ir_event.specs.Modules.{module_in};
 ghost use Rattle.conversion.specs.reasons.Reasons.{reason_of};
-ghost use Rattle.mlir_work_script.specs.Values.{op_text};
+ghost use Rattle.mlir_work_script_base.specs.Values.{op_text};
 ghost use Rattle.mlir_work_transforms.specs.TraceText.{rule_text};
 ghost use Rattle.mlir_work_transforms.specs.WhyText.{told_rules, verdict, why_line, why_lines};
 

@@ -1,6 +1,6 @@
 use Rattle.std.proofs.Common.{◌++◌}
 use Rattle.std.specs.Prelude.{codes}
-use Rattle.mlir_work_script.proofs.Joins.{front_more, puts_join}
+use Rattle.mlir_work_script_base.proofs.Joins.{front_more, puts_join}
 use Rattle.mlir_work_book.specs.Explained.{refused_front}
 use Rattle.mlir_work_book.proofs.explained.put_refused_about.Goals as goal
 

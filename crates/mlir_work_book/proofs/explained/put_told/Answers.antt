@@ -1,7 +1,7 @@
 use Rattle.std.proofs.Common.{◌≡◌, ◌==◌, ◌++◌, ℕ, List, [], ◌∷◌, length, Bool, true, false, true≢false, refl, sym, subst, ◌∙◌, Option, arith}
 use Rattle.ir_event.specs.types.declared.refusal.Refusal.{Refusal}
-use Rattle.mlir_work_script.specs.Writes.{Puts}
-use Rattle.mlir_work_script.proofs.Joins.{front_more, puts_join}
+use Rattle.mlir_work_script_base.specs.Writes.{Puts}
+use Rattle.mlir_work_script_base.proofs.Joins.{front_more, puts_join}
 use Rattle.mlir_work_book.specs.Explained.{explained_line, told_text}
 use Rattle.mlir_work_book.specs.Notices.{Notice, notice_of}
 use Rattle.mlir_work_book.specs.Told.{reply_text, surprise_line}

@@ -1,4 +1,4 @@
-use Rattle.mlir_work_script.proofs.Joins.{puts_join, front_more}
+use Rattle.mlir_work_script_base.proofs.Joins.{puts_join, front_more}
 use Rattle.mlir_work_book.specs.Notices.{notice_of}
 use Rattle.mlir_work_book.specs.Told.{notice_line, surprise_line}
 use Rattle.mlir_work_book.proofs.putting.put_reply_text.Goals as goal

@@ -1,5 +1,5 @@
 use Rattle.std.proofs.Common.{◌∙◌, inl, refl, subst, sym}
-use Rattle.mlir_work_script.specs.Limits.{most_input_bytes}
+use Rattle.mlir_work_script_base.specs.Limits.{most_input_bytes}
 use Rattle.mlir_work_run.specs.Whole.{IsWorldOf}
 use Rattle.mlir_work_held.proofs.opening.open.Goals as goal
 

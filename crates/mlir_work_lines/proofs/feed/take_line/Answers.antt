@@ -1,5 +1,5 @@
 use Rattle.std.proofs.Common.{◌≡◌, ◌∙◌, ap, arith, length, refl}
-use Rattle.mlir_work_script.specs.Lines.{after_line}
+use Rattle.mlir_work_script_base.specs.Lines.{after_line}
 use Rattle.mlir_work_lines.proofs.Feeds.{taken}
 use Rattle.mlir_work_lines.proofs.feed.take_line.Goals as goal
 

@@ -1,6 +1,6 @@
 use Rattle.std.proofs.Common.{◌≡◌, ◌∙◌, sym, List, ℕ, ◌++◌, ap, arith, length, length-append}
-use Rattle.mlir_work_script.specs.Limits.{most_input_bytes}
-use Rattle.mlir_work_script.specs.Parts.{at_divider}
+use Rattle.mlir_work_script_base.specs.Limits.{most_input_bytes}
+use Rattle.mlir_work_script_base.specs.Parts.{at_divider}
 use Rattle.mlir_work_lines.proofs.Feeds.{before_divider, before_end, before_more, more_before}
 use Rattle.mlir_work_lines.proofs.parts.take_module.Goals as goal
 

@@ -1,5 +1,5 @@
 use Rattle.std.proofs.Common.{◌≡◌, ◌≤◌, ◌-◌, length}
-use Rattle.mlir_work_script.specs.Limits.{most_input_bytes}
+use Rattle.mlir_work_script_base.specs.Limits.{most_input_bytes}
 use Rattle.mlir_work_lines.specs.Feeding.{waiting}
 use Rattle.mlir_work_lines.proofs.Feeds.{Before}
 use Rattle.mlir_work_lines.proofs.parts.take_module.Given as goal

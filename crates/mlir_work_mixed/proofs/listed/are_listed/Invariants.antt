@@ -1,8 +1,8 @@
 use Rattle.std.proofs.Common.{◌≡◌}
 use Rattle.std.specs.Prelude.{is_some}
 use Rattle.std.specs.Option.{option_copied}
-use Rattle.mlir_work_script.specs.RuleNames.{names_of}
-use Rattle.mlir_work_script.proofs.Listed.{left_of}
+use Rattle.mlir_work_script_base.specs.RuleNames.{names_of}
+use Rattle.mlir_work_script_base.proofs.Listed.{left_of}
 use Rattle.mlir_work_book.specs.Shelf.{book_view}
 use Rattle.mlir_work_mixed.specs.Mixed.{all_listed}
 use Rattle.mlir_work_mixed.proofs.Joined.{listed_behind}

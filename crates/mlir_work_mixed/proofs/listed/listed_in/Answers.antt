@@ -1,7 +1,7 @@
 use Rattle.std.proofs.Common.{◌≡◌, ◌∙◌, ap, sym, refl, subst, List}
 use Rattle.std.specs.Option.{option_copied}
-use Rattle.mlir_work_script.specs.Items.{items_behind}
-use Rattle.mlir_work_script.specs.RuleNames.{names_of}
+use Rattle.mlir_work_script_base.specs.Items.{items_behind}
+use Rattle.mlir_work_script_base.specs.RuleNames.{names_of}
 use Rattle.mlir_work_book.specs.Shelf.{book_view}
 use Rattle.mlir_work_mixed.specs.Mixed.{Listed, all_listed, listed_named}
 use Rattle.mlir_work_mixed.specs.Views.{listed_view, listed_views}

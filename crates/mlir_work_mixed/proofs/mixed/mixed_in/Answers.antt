@@ -1,5 +1,5 @@
 use Rattle.std.proofs.Common.{◌≡◌, Some, sym}
-use Rattle.mlir_work_script.specs.RuleNames.{names_of}
+use Rattle.mlir_work_script_base.specs.RuleNames.{names_of}
 use Rattle.mlir_work_book.specs.Shelf.{book_view}
 use Rattle.mlir_work_mixed.specs.Mixed.{all_listed}
 use Rattle.mlir_work_mixed.specs.Views.{listed_views}

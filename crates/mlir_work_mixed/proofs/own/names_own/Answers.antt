@@ -1,7 +1,7 @@
 use Rattle.std.proofs.Common.{◌∙◌, ap, sym}
 use Rattle.std.specs.Prelude.{is_some}
 use Rattle.std.specs.Option.{option_copied}
-use Rattle.mlir_work_script.specs.Items.{items_behind}
+use Rattle.mlir_work_script_base.specs.Items.{items_behind}
 use Rattle.mlir_work_book.specs.Shelf.{book_view}
 use Rattle.mlir_work_mixed.specs.Mixed.{own_named}
 use Rattle.mlir_work_mixed.proofs.Joined.{owns_behind, owns_here, owns_on}

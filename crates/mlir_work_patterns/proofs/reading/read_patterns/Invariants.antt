@@ -1,5 +1,5 @@
 use Rattle.std.proofs.Common.{◌+◌, ◌≤◌, length}
-use Rattle.mlir_work_script.specs.Lines.{lines_of}
+use Rattle.mlir_work_script_base.specs.Lines.{lines_of}
 use Rattle.patterns_shelf.specs.Shelf.{book_view}
 use Rattle.mlir_work_patterns.proofs.Fronts.{HasRead}
 use Rattle.mlir_work_patterns.proofs.reading.read_patterns.Given as goal

@@ -3,7 +3,7 @@ use Rattle.std.proofs.Common.{◌≡◌, ◌∙◌, ap, sym, refl, true, ℕ, Li
 use Rattle.std.specs.Prelude.{codes}
 use Rattle.std.specs.Str.{bytes_eq}
 use Rattle.mlir_work_script.specs.Orders.{canon_order_in, rewrite_in}
-use Rattle.mlir_work_script.specs.Words.{after_word, word_of}
+use Rattle.mlir_work_script_base.specs.Words.{after_word, word_of}
 use Rattle.mlir_work_script.proofs.order.canon.Goals as goal
 
 only_said : (rest : List ℕ) → bytes_eq (word_of rest) (codes "only") ≡ true → rewrite_in (after_word rest) ≡ canon_order_in rest

@@ -2,10 +2,10 @@ use Rattle.std.proofs.Common.{◌≡◌, ◌++◌, ℕ, ap, subst, append_assoc}
 use Rattle.std.specs.Prelude.{codes}
 use Rattle.ir_event.specs.types.Refusals.{text_of}
 use Rattle.ir_event.specs.types.declared.refusal.Refusal.{Refusal}
-use Rattle.mlir_work_script.specs.Kinds.{kind_word}
+use Rattle.mlir_work_script_base.specs.Kinds.{kind_word}
 use Rattle.mlir_work_script.specs.Replies.{attach_refused_line}
-use Rattle.mlir_work_script.specs.Writes.{GrowsFront, Puts}
-use Rattle.mlir_work_script.proofs.Joins.{front_more, puts_join}
+use Rattle.mlir_work_script_base.specs.Writes.{GrowsFront, Puts}
+use Rattle.mlir_work_script_base.proofs.Joins.{front_more, puts_join}
 use Rattle.mlir_work_script.proofs.replies.put_attach_refused.Goals as goal
 
 -- the front and the end of the line

@@ -1,6 +1,6 @@
 use Rattle.std.proofs.Common.{◌++◌, ◌&&◌, ◌∙◌, ap, sym, length, [], true, refl, append_assoc, append-nil, is_none}
 use Rattle.std.specs.Vec.Iter.{into_iter_items}
-use Rattle.mlir_work_script.proofs.Joins.{grows_join, grows_none, front_within}
+use Rattle.mlir_work_script_base.proofs.Joins.{grows_join, grows_none, front_within}
 use Rattle.mlir_work_mixed.specs.transforms.rewriter.Panels.{all_shown}
 use Rattle.mlir_work_session.specs.Output.{box_line}
 use Rattle.mlir_work_session.proofs.Attaching.{box_step, no_box_left, some_attaches, one_less, none_of_none}

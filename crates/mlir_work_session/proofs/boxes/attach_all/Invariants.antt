@@ -1,6 +1,6 @@
 use Rattle.std.proofs.Common.{◌≡◌, ◌++◌, ◌&&◌, List, ℕ, Bool, length}
 use Rattle.std.specs.Vec.Iter.{into_iter_items, into_iter_len}
-use Rattle.mlir_work_script.specs.Writes.{Grows}
+use Rattle.mlir_work_script_base.specs.Writes.{Grows}
 use Rattle.mlir_work_mixed.specs.transforms.rewriter.Benched.{IsKept}
 use Rattle.mlir_work_mixed.specs.transforms.rewriter.Panels.{Shown, all_shown}
 use Rattle.mlir_work_session.specs.Output.{Attaches}

@@ -4,7 +4,7 @@ use Rattle.mlir_work_mixed.specs.transforms.rewriter.Commands as command
 use Rattle.mlir_work_mixed.specs.transforms.rewriter.Commands.{Ask}
 use Rattle.mlir_work_mixed.specs.transforms.rewriter.Edits as edit
 use Rattle.mlir_work_mixed.specs.transforms.rewriter.Machine.{Do}
-use Rattle.mlir_work_script.specs.Keys.{key_bytes}
+use Rattle.mlir_work_script_base.specs.Keys.{key_bytes}
 use Rattle.mlir_work_session.proofs.Obeying.{obeys_behind, obeys_unnamed}
 use Rattle.mlir_work_session.proofs.edits.drop_attr.Goals as goal
 

@@ -2,7 +2,7 @@ use Rattle.std.proofs.Common.{refl, sym, Some}
 use Rattle.mlir_work_mixed.specs.transforms.rewriter.Commands as command
 use Rattle.mlir_work_mixed.specs.transforms.rewriter.Edits as edit
 use Rattle.mlir_work_mixed.specs.transforms.rewriter.Machine.{Do}
-use Rattle.mlir_work_script.specs.Spots.{spot_of}
+use Rattle.mlir_work_script_base.specs.Spots.{spot_of}
 use Rattle.mlir_work_session.proofs.Obeying.{obeys_plain, obeys_misplaced}
 use Rattle.mlir_work_session.proofs.Placed.{spot_beside}
 use Rattle.mlir_work_session.proofs.edits.move_op.Goals as goal

@@ -1,6 +1,6 @@
 use Rattle.std.proofs.Common.{◌++◌, drop, append_assoc, append-nil, refl, ◌+◌, arith, []}
 use Rattle.ir_event.specs.Modules.{module_in}
-use Rattle.mlir_work_script.proofs.Joins.{grows_join, front_within}
+use Rattle.mlir_work_script_base.proofs.Joins.{grows_join, front_within}
 use Rattle.mlir_work_mixed.specs.transforms.rewriter.Panels.{all_shown}
 use Rattle.mlir_work_session.proofs.Listings.{some_kinds, shown_step, none_left}
 use Rattle.mlir_work_session.proofs.listing.put_listeners.Goals as goal

@@ -1,5 +1,5 @@
 use Rattle.std.proofs.Common.{◌++◌, List, ℕ, drop}
-use Rattle.mlir_work_script.specs.Writes.{Grows}
+use Rattle.mlir_work_script_base.specs.Writes.{Grows}
 use Rattle.ir_event.specs.Modules.{module_in}
 use Rattle.mlir_work_mixed.specs.transforms.rewriter.Panels.{all_shown}
 use Rattle.mlir_work_session.specs.Output.{AreKinds}

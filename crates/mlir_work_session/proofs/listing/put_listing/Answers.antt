@@ -1,7 +1,7 @@
 use Rattle.std.proofs.Common.{subst, sym}
 use Rattle.ir_event.specs.Modules.{module_in, things_in}
 use Rattle.ir_event.specs.Panels.{AllKept}
-use Rattle.mlir_work_script.proofs.Joins.{then_put, then_none}
+use Rattle.mlir_work_script_base.proofs.Joins.{then_put, then_none}
 use Rattle.mlir_work_mixed.specs.transforms.rewriter.Panels.{all_shown}
 use Rattle.mlir_work_mixed.specs.transforms.rewriter.Benched.{state_of}
 use Rattle.mlir_work_session.specs.Output.{IsModule, AreKinds, IsListing}

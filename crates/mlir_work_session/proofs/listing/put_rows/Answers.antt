@@ -1,4 +1,4 @@
-use Rattle.mlir_work_script.proofs.Joins.{puts_join, front_more}
+use Rattle.mlir_work_script_base.proofs.Joins.{puts_join, front_more}
 use Rattle.mlir_work_script.specs.Replies.{kind_line}
 use Rattle.mlir_work_session.proofs.listing.put_rows.Goals as goal
 

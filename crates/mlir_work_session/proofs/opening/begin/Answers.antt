@@ -1,7 +1,7 @@
 use Rattle.std.proofs.Common.{◌++◌, [], refl, ap}
 use Rattle.mlir_work_mixed.specs.transforms.rewriter.Held.{Held, module_held}
 use Rattle.mlir_work_mixed.specs.transforms.rewriter.Panels.{all_shown}
-use Rattle.mlir_work_script.proofs.Joins.{front_join, front_more, grows_join}
+use Rattle.mlir_work_script_base.proofs.Joins.{front_join, front_more, grows_join}
 use Rattle.mlir_work_session.specs.Output.{end_of}
 use Rattle.mlir_work_session.proofs.Reading.{begun_state}
 use Rattle.mlir_work_session.proofs.opening.begin.Goals as goal

@@ -1,5 +1,5 @@
 use Rattle.std.proofs.Common.{◌≡◌, length}
-use Rattle.mlir_work_script.specs.Lines.{lines_of}
+use Rattle.mlir_work_script_base.specs.Lines.{lines_of}
 use Rattle.mlir_work_session.specs.PrintsAlone.{all_print}
 use Rattle.mlir_work_session.proofs.prints.only_prints.Given as goal
 

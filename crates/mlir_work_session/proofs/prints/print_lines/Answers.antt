@@ -1,7 +1,7 @@
 use Rattle.std.proofs.Common.{◌++◌, ◌+◌, [], refl, append-nil, append_assoc, arith, sym}
 use Rattle.ir_event.specs.trees.Meaning.{meaning}
-use Rattle.mlir_work_script.specs.Lines.{lines_of}
-use Rattle.mlir_work_script.proofs.Joins.{grows_join, front_within}
+use Rattle.mlir_work_script_base.specs.Lines.{lines_of}
+use Rattle.mlir_work_script_base.proofs.Joins.{grows_join, front_within}
 use Rattle.mlir_work_session.specs.Machine.{response_of}
 use Rattle.mlir_work_book.specs.Replies.{is_accepted}
 use Rattle.mlir_work_book.specs.Told.{reply_line}

@@ -1,7 +1,7 @@
 use Rattle.std.proofs.Common.{◌≡◌, ◌++◌, ◌+◌, ◌≤◌, List, [], ℕ, true, false, length}
-use Rattle.mlir_work_script.specs.Writes.{Grows}
+use Rattle.mlir_work_script_base.specs.Writes.{Grows}
 use Rattle.ir_event.specs.trees.Meaning.{meaning}
-use Rattle.mlir_work_script.specs.Lines.{lines_of}
+use Rattle.mlir_work_script_base.specs.Lines.{lines_of}
 use Rattle.mlir_work_mixed.specs.transforms.rewriter.Panels.{Shown}
 use Rattle.mlir_work_book.specs.Shelf.{Book}
 use Rattle.mlir_work_session.specs.Output.{Way, Runs, opening, worse}

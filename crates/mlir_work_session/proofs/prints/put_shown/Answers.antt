@@ -1,4 +1,4 @@
-use Rattle.mlir_work_script.proofs.Joins.{puts_join, front_more}
+use Rattle.mlir_work_script_base.proofs.Joins.{puts_join, front_more}
 use Rattle.mlir_work_session.specs.Machine.{response_of}
 use Rattle.mlir_work_book.specs.Told.{reply_line}
 use Rattle.mlir_work_session.proofs.prints.put_shown.Goals as goal

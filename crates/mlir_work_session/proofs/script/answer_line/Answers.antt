@@ -1,7 +1,7 @@
 use Rattle.std.proofs.Common.{◌++◌, [], Some, refl, sym}
 use Rattle.mlir_work_script.specs.Commands.{line_says, spoken_of}
 use Rattle.mlir_work_script.specs.Expecting.{line_expects}
-use Rattle.mlir_work_script.proofs.Joins.{front_join, front_more, grows_join, grows_none}
+use Rattle.mlir_work_script_base.proofs.Joins.{front_join, front_more, grows_join, grows_none}
 use Rattle.mlir_work_book.specs.Notices.{notice_of}
 use Rattle.mlir_work_session.specs.Output.{Way, end_of, is_right, way_of}
 use Rattle.mlir_work_session.specs.Sittings.{sitting_of}

@@ -1,5 +1,5 @@
 use Rattle.std.proofs.Common.{◌++◌, ◌&&◌, not, [], refl, append-nil}
-use Rattle.mlir_work_script.proofs.Joins.{grows_join, puts_join, front_more, front_within}
+use Rattle.mlir_work_script_base.proofs.Joins.{grows_join, puts_join, front_more, front_within}
 use Rattle.mlir_work_script.specs.Commands.{spoken_of}
 use Rattle.mlir_work_mixed.specs.transforms.rewriter.Benched.{state_of}
 use Rattle.mlir_work_book.specs.Explained.{told_text}

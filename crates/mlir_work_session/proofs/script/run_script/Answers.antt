@@ -1,8 +1,8 @@
 use Rattle.std.proofs.Common.{◌++◌, [], refl, append-nil, append_assoc, arith, ◌∙◌}
-use Rattle.mlir_work_script.specs.Lines.{lines_of}
+use Rattle.mlir_work_script_base.specs.Lines.{lines_of}
 use Rattle.mlir_work_session.specs.Output.{Way, number_behind, way_of, worse}
 use Rattle.mlir_work_session.specs.Sittings.{sitting_of}
-use Rattle.mlir_work_script.proofs.Joins.{grows_join, front_within}
+use Rattle.mlir_work_script_base.proofs.Joins.{grows_join, front_within}
 use Rattle.mlir_work_session.proofs.Runs.{one_number, run_answered, some_runs, status_before, worse_behind, runs_end, filled, emptied}
 use Rattle.mlir_work_session.proofs.script.run_script.Goals as goal
 

@@ -1,6 +1,6 @@
 use Rattle.std.proofs.Common.{◌++◌, ◌+◌, ◌≤◌, List, ℕ, length, ◌≡◌}
-use Rattle.mlir_work_script.specs.Writes.{Grows}
-use Rattle.mlir_work_script.specs.Lines.{lines_of}
+use Rattle.mlir_work_script_base.specs.Writes.{Grows}
+use Rattle.mlir_work_script_base.specs.Lines.{lines_of}
 use Rattle.mlir_work_mixed.specs.transforms.rewriter.Benched.{IsKept}
 use Rattle.mlir_work_session.specs.Output.{Runs, way_of, worse}
 use Rattle.mlir_work_session.specs.Sittings.{sitting_of}

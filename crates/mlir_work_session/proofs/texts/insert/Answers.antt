@@ -3,7 +3,7 @@ use Rattle.ir_event.specs.trees.Meaning.{meaning}
 use Rattle.mlir_work_mixed.specs.transforms.rewriter.Commands as command
 use Rattle.mlir_work_mixed.specs.transforms.rewriter.Edits as edit
 use Rattle.mlir_work_mixed.specs.transforms.rewriter.Machine.{Do}
-use Rattle.mlir_work_script.specs.Spots.{spot_of}
+use Rattle.mlir_work_script_base.specs.Spots.{spot_of}
 use Rattle.mlir_work_session.specs.Machine.{response_of}
 use Rattle.mlir_work_session.proofs.Obeying.{obeys_behind, obeys_unread_op, obeys_unplaced}
 use Rattle.mlir_work_session.proofs.Reading.{spot_behind}

@@ -3,7 +3,7 @@ use Rattle.ir_event.specs.types.Terms.{name_term, attr_term}
 use Rattle.mlir_work_mixed.specs.transforms.rewriter.Commands as command
 use Rattle.mlir_work_mixed.specs.transforms.rewriter.Edits as edit
 use Rattle.mlir_work_mixed.specs.transforms.rewriter.Machine.{Do}
-use Rattle.mlir_work_script.specs.Keys.{key_bytes}
+use Rattle.mlir_work_script_base.specs.Keys.{key_bytes}
 use Rattle.mlir_work_session.specs.Machine.{response_of}
 use Rattle.mlir_work_session.proofs.Obeying.{obeys_behind, obeys_unread}
 use Rattle.mlir_work_session.proofs.texts.set_attr.Goals as goal

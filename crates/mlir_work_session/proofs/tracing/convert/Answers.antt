@@ -1,5 +1,5 @@
 use Rattle.mlir_work_mixed.specs.transforms.rewriter.Benched.{state_of}
-use Rattle.mlir_work_script.specs.Clauses.{clauses_of, target_of}
+use Rattle.mlir_work_script_base.specs.Clauses.{clauses_of, target_of}
 use Rattle.mlir_work_mixed.specs.transforms.Converting.{command_aim, conversion}
 use Rattle.mlir_work_mixed.proofs.of_transforms.Converted.{convert_full}
 use Rattle.mlir_work_session.proofs.Fulfilling.{fulfils_converted}

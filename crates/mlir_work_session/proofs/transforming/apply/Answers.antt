@@ -1,7 +1,7 @@
 use Rattle.std.proofs.Common.{◌∙◌, sym, inr}
 use Rattle.mlir_work_mixed.specs.transforms.rewriter.Commands as command
 use Rattle.mlir_work_mixed.specs.transforms.rewriter.Machine as call
-use Rattle.mlir_work_script.specs.RuleNames.{name_of}
+use Rattle.mlir_work_script_base.specs.RuleNames.{name_of}
 use Rattle.mlir_work_mixed.specs.transforms.Applying.{applying}
 use Rattle.mlir_work_session.proofs.Obeying.{asks_ruled, obeys_plain, obeys_unruled}
 use Rattle.mlir_work_session.proofs.Room.{no_rule_room, rule_room}

@@ -1,5 +1,5 @@
 use Rattle.std.proofs.Common.{◌≡◌, ◌++◌, length}
-use Rattle.mlir_work_script.specs.Lines.{lines_of}
+use Rattle.mlir_work_script_base.specs.Lines.{lines_of}
 use Rattle.mlir_work_session_base.specs.IdsText.{with_ids}
 use Rattle.mlir_work_session_base.proofs.ids.put_lines.Given as goal
 

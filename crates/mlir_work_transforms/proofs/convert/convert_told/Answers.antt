@@ -1,6 +1,6 @@
 use Rattle.std.proofs.Common.{ap, List, Option, option_map, sym, ◌∙◌}
 use Rattle.ir_event.proofs.of_types.Growth.{grows_trans}
-use Rattle.mlir_work_script.specs.Clauses.{clauses_of, target_of as said_target}
+use Rattle.mlir_work_script_base.specs.Clauses.{clauses_of, target_of as said_target}
 use Rattle.conversion.specs.Converting.{command_aim}
 use Rattle.conversion.specs.Targets.{aim_of}
 use Rattle.conversion.specs.declared.stay.Stay.{Stay}

@@ -1,5 +1,5 @@
 use Rattle.std.proofs.Common.{◌≡◌, true}
-use Rattle.mlir_work_script.specs.Clauses.{clauses_of, target_of as said_target}
+use Rattle.mlir_work_script_base.specs.Clauses.{clauses_of, target_of as said_target}
 use Rattle.conversion.specs.Benches.{seen}
 use Rattle.conversion.specs.Conversion.{has_no_cast}
 use Rattle.conversion.specs.Converting.{command_aim}

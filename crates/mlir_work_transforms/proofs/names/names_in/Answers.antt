@@ -1,6 +1,6 @@
 use Rattle.std.proofs.Common.{◌++◌, ◌∷◌, [], ap, sym, ◌∙◌, subst, refl, List, ℕ}
 use Rattle.std.specs.Option.{option_copied}
-use Rattle.mlir_work_script.specs.Items.{items_behind}
+use Rattle.mlir_work_script_base.specs.Items.{items_behind}
 use Rattle.mlir_work_transforms.specs.Interned.{AreNumbers}
 use Rattle.mlir_work_transforms.proofs.Listed.{item_done}
 use Rattle.mlir_work_transforms.proofs.Named.{interned_more, interned_none, no_numbers}

@@ -1,7 +1,7 @@
 use Rattle.std.proofs.Common.{◌≡◌, ◌++◌, List, ℕ}
 use Rattle.std.specs.Option.{option_copied}
-use Rattle.mlir_work_script.specs.Items.{items_behind}
-use Rattle.mlir_work_script.proofs.Listed.{left_of}
+use Rattle.mlir_work_script_base.specs.Items.{items_behind}
+use Rattle.mlir_work_script_base.proofs.Listed.{left_of}
 use Rattle.mlir_work_transforms.specs.Interned.{AreNumbers, Interned}
 use Rattle.mlir_work_transforms.proofs.names.names_in.Given as goal
 

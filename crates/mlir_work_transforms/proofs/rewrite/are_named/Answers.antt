@@ -1,7 +1,7 @@
 use Rattle.std.proofs.Common.{◌∙◌, ap, sym}
 use Rattle.std.specs.Prelude.{is_some}
 use Rattle.std.specs.Option.{option_copied}
-use Rattle.mlir_work_script.specs.Items.{items_behind}
+use Rattle.mlir_work_script_base.specs.Items.{items_behind}
 use Rattle.mlir_work_transforms.specs.Rewriting.{canonical_named}
 use Rattle.mlir_work_transforms.proofs.Chosen.{item_names_none, names_on, rules_behind}
 use Rattle.mlir_work_transforms.proofs.rewrite.are_named.Goals as goal

@@ -1,8 +1,8 @@
 use Rattle.std.proofs.Common.{◌≡◌}
 use Rattle.std.specs.Prelude.{is_some}
 use Rattle.std.specs.Option.{option_copied}
-use Rattle.mlir_work_script.specs.RuleNames.{names_of}
-use Rattle.mlir_work_script.proofs.Listed.{left_of}
+use Rattle.mlir_work_script_base.specs.RuleNames.{names_of}
+use Rattle.mlir_work_script_base.proofs.Listed.{left_of}
 use Rattle.mlir_work_transforms.specs.Rewriting.{rules_named}
 use Rattle.mlir_work_transforms.proofs.Chosen.{rules_behind}
 use Rattle.mlir_work_transforms.proofs.rewrite.are_named.Given as goal

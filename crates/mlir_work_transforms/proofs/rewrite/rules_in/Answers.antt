@@ -1,8 +1,8 @@
 use Rattle.std.proofs.Common.{◌≡◌, ◌∙◌, ap, sym, refl, subst, List}
 use Rattle.std.specs.Option.{option_copied}
 use Rattle.conversion.specs.patterns.Rule.{Rule}
-use Rattle.mlir_work_script.specs.Items.{items_behind}
-use Rattle.mlir_work_script.specs.RuleNames.{names_of}
+use Rattle.mlir_work_script_base.specs.Items.{items_behind}
+use Rattle.mlir_work_script_base.specs.RuleNames.{names_of}
 use Rattle.mlir_work_transforms.specs.Rewriting.{canonical_named, rules_named}
 use Rattle.mlir_work_transforms.proofs.Chosen.{found_all, found_more, found_none, is_none_of, named_are_tried, rules_behind}
 use Rattle.mlir_work_transforms.proofs.Ruled.{joined, none_joined}

@@ -1,7 +1,0 @@
-use Rattle.std.proofs.Common.{rules}
-use Rattle.mlir_work_script.specs.Limits.{most_script_bytes}
-use Rattle.mlir_work_script.proofs.input.script_is_too_long.Goals as goal
-
-pub returns : goal.returns
-unfolding most_script_bytes
-returns c = search rules

@@ -1,6 +1,0 @@
-use Rattle.std.proofs.Common.{true}
-use Rattle.mlir_work_script.proofs.Dividing.{divided}
-use Rattle.mlir_work_script.proofs.laws.inputs_are_split.Goals as goal
-
-pub returns : goal.returns
-returns c = divided true

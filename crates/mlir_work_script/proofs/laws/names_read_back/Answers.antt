@@ -1,5 +1,0 @@
-use Rattle.mlir_work_script.proofs.Printed.{number_again, op_again, result_again, argument_again}
-use Rattle.mlir_work_script.proofs.laws.names_read_back.Goals as goal
-
-pub returns : goal.returns
-returns c = record { number = number_again; op = op_again; result_value = result_again; argument = argument_again }

@@ -1,0 +1,20 @@
+use Rattle.std.proofs.Common.{◌≡◌, ◌≤◌, ◌⊎◌, List, ℕ, length, true}
+use Rattle.std.specs.Prelude.{IfSome}
+use Rattle.std.specs.Io.KnownBytes.{Consumes}
+use Rattle.mlir_work_script_base.specs.Limits.{most_input_bytes}
+use Rattle.mlir_work_script_base.specs.Reads.{AreMade}
+use Rattle.mlir_work_script_base.proofs.input.read_all.Given as goal
+
+-- the bytes that were read are the front of the input, and are kept unless there was no memory for them; each read gave
+-- one at least, or was interrupted
+abbrev pub invariant-loop-made : goal.invariant-loop-made
+invariant-loop-made g l = record {
+  front : List ℕ;
+  taken : Consumes (g.R.Source.intake l.initial.reader).remaining (g.R.Source.intake l.reader).remaining front;
+  failed : (g.R.Source.intake l.reader).failed ≡ (g.R.Source.intake l.initial.reader).failed;
+  made : AreMade (g.R.Source.intake l.initial.reader).reads (g.R.Source.intake l.reader).reads l._made;
+  counted : l.count ≡ length front;
+  gave : (l._made ≤ l.count) ⊎ ((g.R.Source.intake l.reader).interrupted ≡ true);
+  within : length front ≤ most_input_bytes;
+  kept : IfSome l.kept (λ all. all.items ≡ front);
+}

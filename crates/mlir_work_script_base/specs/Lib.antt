@@ -1,0 +1,16 @@
+pub mod Cuts
+pub mod Lines
+pub mod Parts
+pub mod Words
+pub mod Numbers
+pub mod Items
+pub mod Clauses
+pub mod Values
+pub mod Kinds
+pub mod Spots
+pub mod Keys
+pub mod RuleNames
+pub mod Subjects
+pub mod Writes
+pub mod Limits
+pub mod Reads

@@ -1,0 +1,77 @@
+//! The cells of a report's rows.
+ghost use Rattle.std.specs.Fmt.{decimal};
+ghost use Rattle.ir_event.specs.trees.declared.value.Value.TheVariants.{Result as ResultOf, Arg};
+ghost use Rattle.mlir_work_script_base.specs.Values.{op_text, value_text};
+ghost use Rattle.mlir_work_script_base.specs.Writes.{Puts};
+
+use crate::sink::Sink;
+use crate::writing::{WriteFault, put, put_all};
+use ir_event::trees::value::Value;
+use ir_event::types::ids::OpId;
+use itoa::Buffer;
+
+/// Writes a decimal number.
+pub fn put_number<W: Sink>(writer: &mut W, n: u64) -> Result<(), WriteFault>
+    ensures { Puts (W.stream writer.old) (W.stream writer.new) (decimal n) result }
+{
+    let mut number = Buffer::new();
+    put(writer, number.format(n).as_bytes())
+}
+
+/// Writes an operation by its id: `#3`.
+pub fn put_op_id<W: Sink>(writer: &mut W, op: OpId) -> Result<(), WriteFault>
+    ensures { Puts (W.stream writer.old) (W.stream writer.new) (op_text op) result }
+{
+    let mut number = Buffer::new();
+    put_all(writer, &[b"#", number.format(op.number()).as_bytes()])
+}
+
+fn put_result<W: Sink>(writer: &mut W, op: OpId, place: u32) -> Result<(), WriteFault>
+    ensures { Puts (W.stream writer.old) (W.stream writer.new) (value_text (ResultOf op place)) result }
+{
+    let mut owner = Buffer::new();
+    let mut number = Buffer::new();
+    put_all(
+        writer,
+        &[
+            b"%v",
+            owner.format(op.number()).as_bytes(),
+            b".",
+            number.format(place).as_bytes(),
+        ],
+    )
+}
+
+fn put_argument<W: Sink>(
+    writer: &mut W,
+    op: OpId,
+    region: u32,
+    place: u32,
+) -> Result<(), WriteFault>
+    ensures { Puts (W.stream writer.old) (W.stream writer.new) (value_text (Arg op region place)) result }
+{
+    let mut owner = Buffer::new();
+    let mut block = Buffer::new();
+    let mut number = Buffer::new();
+    put_all(
+        writer,
+        &[
+            b"%a",
+            owner.format(op.number()).as_bytes(),
+            b".",
+            block.format(region).as_bytes(),
+            b".",
+            number.format(place).as_bytes(),
+        ],
+    )
+}
+
+/// Writes a value: a result as `%v2.0`, an argument as `%a1.0.0`.
+pub fn put_value<W: Sink>(writer: &mut W, value: Value) -> Result<(), WriteFault>
+    ensures { Puts (W.stream writer.old) (W.stream writer.new) (value_text value) result }
+{
+    match value {
+        Value::Result(op, place) => put_result(writer, op, place),
+        Value::Arg(op, region, place) => put_argument(writer, op, region, place),
+    }
+}

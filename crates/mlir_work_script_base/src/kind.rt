@@ -1,0 +1,69 @@
+//! The kinds of analysis, and their words.
+ghost use Rattle.std.specs.Prelude.{◌≡◌};
+ghost use Rattle.std.specs.Option.{option_map};
+ghost use Rattle.mlir_work_script_base.specs.Kinds.{kind_name, kind_of, numbered_kind};
+
+use crate::numbers::number;
+pub use ir_event::row::Kind;
+use itoa::Buffer;
+
+/// The name of a kind that has one. Another kind's word is `kind` with its number.
+pub fn name_of(kind: Kind) -> Option<&'static [u8]>
+    ensures { option_map (λ name. name.now) result ≡ kind_name kind }
+{
+    match kind.number() {
+        1 => Some(b"uses"),
+        2 => Some(b"symbols"),
+        3 => Some(b"diagnostics"),
+        4 => Some(b"effects"),
+        5 => Some(b"dead"),
+        6 => Some(b"constants"),
+        7 => Some(b"unreached"),
+        _ => None,
+    }
+}
+
+/// The kind that `kind9` is, where 9 has no name and is written as it is printed.
+fn numbered_kind(word: &[u8]) -> Option<Kind>
+    ensures { result ≡ numbered_kind word.now }
+{
+    if !word.starts_with(b"kind") {
+        return None;
+    }
+    let digits = &word[4..];
+    let number = number(digits)?;
+    let number = u8::try_from(number).ok()?;
+    let mut buffer = Buffer::new();
+    if name_of(Kind::new(number)).is_some() || digits != buffer.format(number).as_bytes() {
+        return None;
+    }
+    Some(Kind::new(number))
+}
+
+/// The kind of which this is the word.
+pub fn kind_named(word: &[u8]) -> Option<Kind>
+    ensures { result ≡ kind_of word.now }
+{
+    if word == b"uses".as_slice() {
+        return Some(Kind::USES);
+    }
+    if word == b"symbols".as_slice() {
+        return Some(Kind::SYMBOLS);
+    }
+    if word == b"diagnostics".as_slice() {
+        return Some(Kind::DIAGNOSTICS);
+    }
+    if word == b"effects".as_slice() {
+        return Some(Kind::EFFECTS);
+    }
+    if word == b"dead".as_slice() {
+        return Some(Kind::DEAD);
+    }
+    if word == b"constants".as_slice() {
+        return Some(Kind::CONSTANTS);
+    }
+    if word == b"unreached".as_slice() {
+        return Some(Kind::UNREACHED);
+    }
+    numbered_kind(word)
+}

@@ -1,0 +1,27 @@
+//! What a report may be asked of alone.
+ghost use Rattle.std.specs.Prelude.{◌≡◌};
+ghost use Rattle.mlir_work_script_base.specs.Subjects.{subject_in};
+
+use crate::values::{op_named, value_named};
+use ir_event::trees::value::Value;
+use ir_event::types::ids::OpId;
+
+/// An operation or a value of a module.
+#[derive(Clone, Copy, Debug, PartialEq, Eq)]
+pub enum Subject {
+    /// An operation, with the values that belong to it.
+    Op(OpId),
+    /// A value.
+    Val(Value),
+}
+
+/// The operation or the value that a word names: `#3`, `%v2.0`, `%a1.0.0`.
+pub fn subject_named(word: &[u8]) -> Option<Subject>
+    ensures { result ≡ subject_in word.now }
+{
+    if let Some(op) = op_named(word) {
+        return Some(Subject::Op(op));
+    }
+    let value = value_named(word)?;
+    Some(Subject::Val(value))
+}

@@ -1,0 +1,90 @@
+//! The words of a line.
+ghost use Rattle.std.specs.Prelude.{◌≡◌, position};
+ghost use Rattle.std.specs.Str.{is_utf8};
+ghost use Rattle.mlir_work_script_base.specs.Words.{is_blank, is_edge, trim_front, trim_back, trim, skip_blanks, word_of};
+ghost use Rattle.mlir_work_script_base.specs.Words.{after_word};
+
+/// A space or a tab.
+pub(crate) fn is_blank(b: u8) -> bool
+    ensures { result ≡ is_blank b }
+{
+    b == b' ' || b == b'\t'
+}
+
+/// A space, a tab or a carriage return.
+fn is_edge(b: u8) -> bool
+    ensures { result ≡ is_edge b }
+{
+    b == b' ' || b == b'\t' || b == b'\r'
+}
+
+fn trim_front(text: &[u8]) -> &[u8]
+    ensures { result.now ≡ trim_front text.now }
+{
+    let mut rest = text;
+    while let [first, tail @ ..] = rest {
+        if !is_edge(*first) {
+            break;
+        }
+        rest = tail;
+    }
+    rest
+}
+
+fn trim_back(text: &[u8]) -> &[u8]
+    ensures { result.now ≡ trim_back text.now }
+{
+    let mut rest = text;
+    while let [front @ .., last] = rest {
+        if !is_edge(*last) {
+            break;
+        }
+        rest = front;
+    }
+    rest
+}
+
+/// A line without the spaces, tabs and carriage returns at its ends.
+pub fn trim(line: &[u8]) -> &[u8]
+    ensures { result.now ≡ trim line.now }
+{
+    trim_back(trim_front(line))
+}
+
+pub(crate) fn skip_blanks(text: &[u8]) -> &[u8]
+    ensures { result.now ≡ skip_blanks text.now }
+{
+    let mut rest = text;
+    while let [first, tail @ ..] = rest {
+        if !is_blank(*first) {
+            break;
+        }
+        rest = tail;
+    }
+    rest
+}
+
+/// Where the first word ends.
+fn word_end(text: &[u8]) -> Option<usize>
+    ensures { result ≡ position is_blank text.now }
+{
+    text.iter().position(|b| is_blank(*b))
+}
+
+/// The first word of a text, and what stands after it and the blanks behind it.
+pub fn split_word(text: &[u8]) -> (&[u8], &[u8])
+    ensures word { result.0.now ≡ word_of text.now }
+    ensures rest { result.1.now ≡ after_word text.now }
+{
+    match word_end(text) {
+        Some(end) => (&text[..end], skip_blanks(&text[end + 1..])),
+        None => (text, &[]),
+    }
+}
+
+/// Whether a line is UTF-8.
+pub fn is_text(line: &[u8]) -> bool
+    ensures { result ≡ is_utf8 line.now }
+{
+    str::from_utf8(line).is_ok()
+}

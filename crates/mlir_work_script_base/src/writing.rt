@@ -1,0 +1,46 @@
+//! Writing, with nothing kept in memory.
+ghost use Rattle.std.specs.Prelude.{◌≡◌, map, true, IfOk};
+ghost use Rattle.mlir_work_script_base.specs.Writes.{HandsOn, Puts, joined};
+
+use crate::sink::Sink;
+use thiserror::Error;
+
+/// A write failed, was interrupted or took no byte.
+#[derive(Clone, Copy, Debug, PartialEq, Eq, Error)]
+#[error("a write failed")]
+pub struct WriteFault;
+
+/// Writes the bytes. At a fault a front of them was written, and then a write failed.
+pub fn put<W: Sink>(writer: &mut W, bytes: &[u8]) -> Result<(), WriteFault>
+    ensures { Puts (W.stream writer.old) (W.stream writer.new) bytes.now result }
+{
+    let mut rest = bytes;
+    while !rest.is_empty() {
+        match writer.write_some(rest) {
+            Ok(taken) => rest = &rest[taken..],
+            Err(fault) => return Err(fault),
+        }
+    }
+    Ok(())
+}
+
+/// Writes the pieces in a row. At a fault a front of them was written, and then a write failed.
+pub fn put_all<W: Sink>(writer: &mut W, pieces: &[&[u8]]) -> Result<(), WriteFault>
+    ensures { Puts (W.stream writer.old) (W.stream writer.new) (joined (map (λ piece. piece.now) pieces.now)) result }
+{
+    for piece in pieces {
+        match put(writer, piece) {
+            Ok(()) => {}
+            Err(fault) => return Err(fault),
+        }
+    }
+    Ok(())
+}
+
+/// Hands on what a buffering writer still holds.
+pub fn flush<W: Sink>(writer: &mut W) -> Result<(), WriteFault>
+    ensures stays { HandsOn (W.stream writer.old) (W.stream writer.new) result }
+    ensures handed { IfOk result (λ _. W.handed writer.new ≡ true) }
+{
+    writer.hand_on()
+}
