@@ -1,30 +1,8 @@
--- A text cut where a byte first stands.
-use Rattle.std.proofs.Common.{◌≡◌, ℕ, suc, ◌+◌, ◌<◌, ◌≤◌, List, [], ◌∷◌, length, take, drop, Bool, true, false, not, cond, if◌then◌else◌, refl, ap, ◌∙◌, arith, Some, None, position}
-use Rattle.std.proofs.lemmas.Grind.{common_steps}
-use Rattle.std.specs.List.{position_or_len}
-use Rattle.mlir_work_json.specs.Cuts.{before, after, parts, onto_first, ends_cell, quoted_behind, cell_len, cell, behind, cells, cells_from}
-
-before_is : (p : ℕ → Bool) (text : List ℕ) → before p text ≡ take (position_or_len p text) text
-before_is p [] = refl
-before_is p (b ∷ bs) = let ih = before_is p bs in elim (p b) as (λ t. (if t then [] else b ∷ before p bs) ≡ take (cond (not t) (1 + position_or_len p bs) 0) (b ∷ bs)) [ true ↦ refl | false ↦ grind (arith, common_steps, ih) ]
-
-after_is : (p : ℕ → Bool) (text : List ℕ) → after p text ≡ drop (position_or_len p text + 1) text
-after_is p [] = refl
-after_is p (b ∷ bs) = let ih = after_is p bs in elim (p b) as (λ t. (if t then bs else after p bs) ≡ drop (cond (not t) (1 + position_or_len p bs) 0 + 1) (b ∷ bs)) [ true ↦ refl | false ↦ grind (arith, common_steps, ih) ]
-
-found : (p : ℕ → Bool) (xs : List ℕ) (n : ℕ) → Some n ≡ position p xs → position_or_len p xs ≡ n
-found p xs n e = grind (arith, common_steps)
-
-missing : (p : ℕ → Bool) (xs : List ℕ) → None ≡ position p xs → length xs ≤ position_or_len p xs
-missing p xs e = grind (arith, common_steps)
-
--- what stands before and after the byte at n
-pub cut_found : (p : ℕ → Bool) (text : List ℕ) (n : ℕ) → Some n ≡ position p text → (take n text ≡ before p text) × (drop (n + 1) text ≡ after p text)
-cut_found p text n e = let at = found p text n e in (rw (before_is p text, at) refl, rw (after_is p text, at) refl)
-
--- where there is no such byte
-pub cut_missing : (p : ℕ → Bool) (text : List ℕ) → None ≡ position p text → (text ≡ before p text) × ([] ≡ after p text)
-cut_missing p text e = let at = missing p text e in (rw (before_is p text) (grind (arith, common_steps, at)), rw (after_is p text) (grind (arith, common_steps, at)))
+-- The first part of a text, and its first cell.
+use Rattle.std.proofs.Common.{◌≡◌, ℕ, suc, ◌+◌, ◌<◌, List, [], ◌∷◌, length, take, drop, Bool, true, false, if◌then◌else◌, refl, ap, ◌∙◌, arith}
+use Rattle.mlir_work_json.specs.Cuts.{parts, ends_cell, quoted_behind, cell_len, cell, behind, cells, cells_from}
+use Rattle.mlir_work_script_base.specs.Cuts.{before, after}
+use Rattle.mlir_work_script_base.specs.Lines.{onto_first}
 
 -- a text that isn't empty has a first part, and then the parts of the rest
 pub parts_step : (p : ℕ → Bool) (text : List ℕ) → 0 < length text → parts p text ≡ before p text ∷ parts p (after p text)

@@ -1,6 +1,5 @@
 -- The object of a line has no float, and nests no deeper than its members do.
-use Rattle.std.proofs.Common.{◌≡◌, ℕ, ◌≤◌, List, [], ◌∷◌, map, Bool, true, false, Ordering, Less, Equal, Greater, refl, arith}
-use Rattle.std.specs.Prelude.{◌||◌}
+use Rattle.std.proofs.Common.{◌≡◌, ℕ, ◌≤◌, List, [], ◌∷◌, map, false, Ordering, Less, Equal, Greater, refl, arith}
 use Rattle.std.specs.Ordering.{match_ordering}
 use Rattle.serde_json.specs.Data.{Data, Members, no_members, member, put, depth, items_depth, members_depth}
 use Rattle.serde_json.specs.Read.{max_depth}
@@ -8,14 +7,7 @@ use Rattle.serde_json.specs.View.{items_of}
 use Rattle.serde_json.specs.Written.{has_float, items_have_float, members_have_float}
 use Rattle.mlir_work_json.specs.Items.{Item, Text, Number, Texts, Member, text_data, data_of, put_all}
 use Rattle.mlir_work_json.specs.Lines.{line_data, line_members}
-
--- neither is true, and so the two parts of one that isn't
-pub neither : (a b : Bool) → a ≡ false → b ≡ false → (a || b) ≡ false
-neither a b p q = rw (p, q) refl
-
-pub both : (a b : Bool) → (a || b) ≡ false → (a ≡ false) × (b ≡ false)
-both true b h = (h, elim b as (λ t. t ≡ false) [ true ↦ h | false ↦ refl ])
-both false b h = (refl, h)
+use Rattle.std.proofs.lemmas.Bool.{or_from, or_parts}
 
 -- ---- no float
 
@@ -25,11 +17,11 @@ ordered_floats Equal a b c p q r = q
 ordered_floats Greater a b c p q r = r
 
 floats_put : (k : List ℕ) (d : Data) (ms : Members) → has_float d ≡ false → members_have_float ms ≡ false → members_have_float (put k d ms) ≡ false
-floats_put k d no_members p q = neither (has_float d) false p refl
+floats_put k d no_members p q = or_from (has_float d) false p refl
 floats_put k d (member l e ms) p q =
-    let parts = both (has_float e) (members_have_float ms) q in
+    let parts = or_parts (has_float e) (members_have_float ms) q in
     ordered_floats _ (member k d (member l e ms)) (member l d ms) (member l e (put k d ms))
-    (neither (has_float d) _ p q) (neither (has_float d) _ p parts.1) (neither (has_float e) _ parts.0 (floats_put k d ms p parts.1))
+    (or_from (has_float d) _ p q) (or_from (has_float d) _ p parts.1) (or_from (has_float e) _ parts.0 (floats_put k d ms p parts.1))
 
 floats_texts : (words : List (List ℕ)) → items_have_float (items_of (map text_data words)) ≡ false
 floats_texts [] = refl

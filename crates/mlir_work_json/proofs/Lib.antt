@@ -1,5 +1,4 @@
 pub mod Cutting
-pub mod Digits
 pub mod Flat
 pub mod Writing
 pub mod OneLine

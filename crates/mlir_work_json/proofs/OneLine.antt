@@ -6,18 +6,19 @@ use Rattle.std.specs.Fmt.{digit_glyph, digits, digits_onto}
 use Rattle.json.specs.Print.{escape_letter, escape_byte, escape, quoted}
 use Rattle.serde_json.specs.Data.{Num, unsigned, negative, float, Data, null, boolean, number, string, array, object, Items, no_items, item, Members, no_members, member}
 use Rattle.serde_json.specs.Written.{number_text, comma_if, compact_text, items_text, members_text}
-use Rattle.mlir_work_json.specs.Cuts.{parts, onto_first}
-use Rattle.mlir_work_json.specs.Lines.{is_end, line_data, json_line, json_lines}
-use Rattle.mlir_work_json.proofs.Flat.{neither, both}
+use Rattle.mlir_work_json.specs.Cuts.{parts}
+use Rattle.mlir_work_json.specs.Lines.{line_data, json_line, json_lines}
+use Rattle.mlir_work_script_base.specs.Lines.{is_newline, onto_first}
+use Rattle.std.proofs.lemmas.Bool.{or_from, or_parts}
 
 -- whether an end stands within
 abbrev pub has_end : List ℕ → Bool
 has_end [] = false
-has_end (b ∷ bs) = is_end b || has_end bs
+has_end (b ∷ bs) = is_newline b || has_end bs
 
 clear_append : (xs ys : List ℕ) → has_end xs ≡ false → has_end ys ≡ false → has_end (xs ++ ys) ≡ false
 clear_append [] ys p q = q
-clear_append (x ∷ xs) ys p q = let first = both (is_end x) (has_end xs) p in neither (is_end x) (has_end (xs ++ ys)) first.0 (clear_append xs ys first.1 q)
+clear_append (x ∷ xs) ys p q = let first = or_parts (is_newline x) (has_end xs) p in or_from (is_newline x) (has_end (xs ++ ys)) first.0 (clear_append xs ys first.1 q)
 
 -- ---- strings
 
@@ -25,45 +26,45 @@ clear_cond : (t : Bool) (xs ys : List ℕ) → has_end xs ≡ false → has_end 
 clear_cond true xs ys p q = p
 clear_cond false xs ys p q = q
 
-other : (t : Bool) (a b : ℕ) → is_end a ≡ false → is_end b ≡ false → is_end (cond t a b) ≡ false
+other : (t : Bool) (a b : ℕ) → is_newline a ≡ false → is_newline b ≡ false → is_newline (cond t a b) ≡ false
 other true a b p q = p
 other false a b p q = q
 
-above : (n : ℕ) → 10 < n → is_end n ≡ false
+above : (n : ℕ) → 10 < n → is_newline n ≡ false
 above n h = grind (arith, h)
 
-letter_clear : (x : ℕ) → is_end x ≡ false → is_end (escape_letter x) ≡ false
+letter_clear : (x : ℕ) → is_newline x ≡ false → is_newline (escape_letter x) ≡ false
 letter_clear x e =
     other ((x == 34) || (x == 92)) x _ e (other (x == 8) 98 _ refl (other (x == 12) 102 _ refl (other (x == 10) 110 _ refl (other (x == 13) 114 _ refl (other (x == 9) 116 0 refl refl)))))
 
-digit_clear : (d : ℕ) → is_end (digit_char d) ≡ false
+digit_clear : (d : ℕ) → is_newline (digit_char d) ≡ false
 digit_clear d = other _ (48 + d) (87 + d) (above (48 + d) (omega arith)) (above (87 + d) (omega arith))
 
-escaped_at : (x : ℕ) (t : Bool) → is_end x ≡ t → has_end (escape_byte x) ≡ false
+escaped_at : (x : ℕ) (t : Bool) → is_newline x ≡ t → has_end (escape_byte x) ≡ false
 unfolding escape_byte
 escaped_at x true e = let is : 10 ≡ x = grind (arith, e) in subst (λ n. has_end (escape_byte n) ≡ false) is refl
 escaped_at x false e =
     let coded : List ℕ = 92 ∷ 117 ∷ 48 ∷ 48 ∷ digit_char (x / 16) ∷ digit_char (x % 16) ∷ [] in
     clear_cond (nat_lt 0 (escape_letter x)) (92 ∷ escape_letter x ∷ []) (cond (nat_lt x 32) coded (x ∷ []))
-    (neither (is_end (escape_letter x)) false (letter_clear x e) refl)
+    (or_from (is_newline (escape_letter x)) false (letter_clear x e) refl)
     (clear_cond (nat_lt x 32) coded (x ∷ [])
-    (neither (is_end (digit_char (x / 16))) _ (digit_clear (x / 16)) (neither (is_end (digit_char (x % 16))) false (digit_clear (x % 16)) refl))
-    (neither (is_end x) false e refl))
+    (or_from (is_newline (digit_char (x / 16))) _ (digit_clear (x / 16)) (or_from (is_newline (digit_char (x % 16))) false (digit_clear (x % 16)) refl))
+    (or_from (is_newline x) false e refl))
 
 clear_escape : (s : List ℕ) → has_end (escape s) ≡ false
 clear_escape [] = refl
-clear_escape (x ∷ xs) = clear_append (escape_byte x) (escape xs) (escaped_at x (is_end x) refl) (clear_escape xs)
+clear_escape (x ∷ xs) = clear_append (escape_byte x) (escape xs) (escaped_at x (is_newline x) refl) (clear_escape xs)
 
 clear_quoted : (s : List ℕ) → has_end (quoted s) ≡ false
 clear_quoted s = clear_append (escape s) (34 ∷ []) (clear_escape s) refl
 
 -- ---- numbers
 
-either_way : (t : Bool) (a b : ℕ) → is_end a ≡ false → is_end b ≡ false → is_end (if t then a else b) ≡ false
+either_way : (t : Bool) (a b : ℕ) → is_newline a ≡ false → is_newline b ≡ false → is_newline (if t then a else b) ≡ false
 either_way true a b p q = p
 either_way false a b p q = q
 
-glyph_clear : (upper : Bool) (d : ℕ) → is_end (digit_glyph upper d) ≡ false
+glyph_clear : (upper : Bool) (d : ℕ) → is_newline (digit_glyph upper d) ≡ false
 glyph_clear upper d =
     either_way _ (48 + d) _ (above (48 + d) (omega arith)) (either_way upper (55 + d) (87 + d) (above (55 + d) (omega arith)) (above (87 + d) (omega arith)))
 
@@ -74,7 +75,7 @@ clear_if false xs ys p q = q
 clear_onto : (k base : ℕ) (upper : Bool) (n : ℕ) (acc : List ℕ) → has_end acc ≡ false → has_end (digits_onto k base upper n acc) ≡ false
 clear_onto zero base upper n acc h = h
 clear_onto (suc k) base upper n acc h =
-    let more = neither (is_end (digit_glyph upper (n % base))) (has_end acc) (glyph_clear upper (n % base)) h in
+    let more = or_from (is_newline (digit_glyph upper (n % base))) (has_end acc) (glyph_clear upper (n % base)) h in
     clear_if _ (digit_glyph upper (n % base) ∷ acc) (digits_onto k base upper (n / base) (digit_glyph upper (n % base) ∷ acc)) more
     (clear_onto k base upper (n / base) (digit_glyph upper (n % base) ∷ acc) more)
 
@@ -120,12 +121,12 @@ mutual
 -- ---- lines
 
 -- a text without an end, and then one, is the first part
-one_part : (line rest : List ℕ) → has_end line ≡ false → parts is_end ((line ++ 10 ∷ []) ++ rest) ≡ line ∷ parts is_end rest
+one_part : (line rest : List ℕ) → has_end line ≡ false → parts is_newline ((line ++ 10 ∷ []) ++ rest) ≡ line ∷ parts is_newline rest
 one_part [] rest h = refl
-one_part (b ∷ bs) rest h = let first = both (is_end b) (has_end bs) h in rw (first.0) (ap (onto_first b) (one_part bs rest first.1))
+one_part (b ∷ bs) rest h = let first = or_parts (is_newline b) (has_end bs) h in rw (first.0) (ap (onto_first b) (one_part bs rest first.1))
 
 -- the lines of the JSON of lines are the JSON of each
-pub lines_of_json : (lines : List (List ℕ)) → parts is_end (json_lines lines) ≡ map json_line lines
+pub lines_of_json : (lines : List (List ℕ)) → parts is_newline (json_lines lines) ≡ map json_line lines
 lines_of_json [] = refl
 lines_of_json (line ∷ lines) =
     one_part (json_line line) (json_lines lines) (clear_value (line_data line)) ∙ ap (λ ls. json_line line ∷ ls) (lines_of_json lines)

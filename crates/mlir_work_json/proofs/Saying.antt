@@ -1,12 +1,11 @@
 -- Cells and numbers of lines, as they are printed.
-use Rattle.std.proofs.Common.{◌≡◌, ◌==◌, ℕ, zero, suc, ◌+◌, ◌^◌, ◌<◌, List, [], ◌∷◌, ◌++◌, length, take, drop, get_or, Bool, true, false, true≢false, not, Some, refl, sym, ap, ◌∙◌, arith, rules, codes, add-one}
+use Rattle.std.proofs.Common.{◌≡◌, ◌==◌, ℕ, zero, suc, ◌+◌, ◌^◌, ◌<◌, List, [], ◌∷◌, ◌++◌, length, take, drop, get_or, Bool, true, false, true≢false, not, Some, refl, sym, ap, ◌∙◌, arith, codes, add-one}
 use Rattle.std.specs.Prelude.{◌&&◌, ◌||◌, nat_lt, decimal}
 use Rattle.std.specs.Char.{is_ascii_digit}
 use Rattle.std.specs.Str.{all_ascii_digits}
 use Rattle.std.proofs.lemmas.Bool.{and_parts}
-use Rattle.std.proofs.lemmas.List.{take-append-le, take_all}
+use Rattle.std.proofs.lemmas.List.{take_all}
 use Rattle.std.proofs.lemmas.Fmt.{digits_decimal, digits_value-decimal, decimal_nonempty, first_decimal, decimal_digit}
-use Rattle.std.proofs.lemmas.Str.Parse.{IsNumeralModel, numerals_by_fold, tells_all_ascii_digits}
 use Rattle.std.proofs.Common.{length-append}
 use Rattle.std.proofs.lemmas.Grind.{common_steps}
 use Rattle.mlir_work_json.proofs.Cutting.{cells_step}
@@ -14,9 +13,12 @@ use Rattle.mlir_work_json.specs.Cuts.{cell_len, cell, cells, behind, is_whole}
 use Rattle.mlir_work_json.specs.Forms.{form_of}
 use Rattle.mlir_work_json.specs.Items.{Number, text, numeral, number_item}
 use Rattle.mlir_work_json.specs.Lines.{form_members, line_members}
-use Rattle.mlir_work_json.specs.Numbers.{value_after, number_of}
+use Rattle.mlir_work_json.specs.Numbers.{number_of}
 use Rattle.mlir_work_json.specs.Replies.{answer_members, place_members, refusal_members}
 use Rattle.mlir_work_json.specs.declared.form.Form.TheVariants.{Reply}
+use Rattle.mlir_work_script_base.specs.Numbers.{value_after}
+use Rattle.mlir_work_script_base.proofs.Printed.{numerals}
+use Rattle.mlir_work_script_base.proofs.Spanning.{take_front}
 
 -- ---- cells
 
@@ -40,9 +42,6 @@ whole_len_last (b ∷ bs) h =
     let plain = not_either (b == 32) (b == 34) parts.0 in
     let ih = whole_len_last bs parts.1 in
     rw (plain.0, plain.1, ih) refl
-
-take_front : (xs ys : List ℕ) → take (length xs) (xs ++ ys) ≡ xs
-take_front xs ys = take-append-le (length xs) xs ys (omega arith) ∙ take_all (length xs) xs (omega arith)
 
 drop_front : (xs : List ℕ) (y : ℕ) (ys : List ℕ) → drop (suc (length xs)) (xs ++ y ∷ ys) ≡ ys
 drop_front [] y ys = refl
@@ -82,9 +81,6 @@ digits_whole (d ∷ ds) h =
     let first = digit_whole d parts.0 in
     rw (first) (digits_whole ds parts.1)
 
-own : IsNumeralModel (λ ds. all_ascii_digits ds ≡ true) (value_after 0)
-own = numerals_by_fold _ tells_all_ascii_digits value_after (search rules)
-
 no_zero : (t : Bool) (d : ℕ) (ds : List ℕ) → (d == 48) ≡ t → (d ≡ 48 → length (d ∷ ds) ≡ 1) → ((d == 48) && nat_lt 0 (length ds)) ≡ false
 no_zero true d ds e h = let zero_alone : length (d ∷ ds) ≡ 1 = h (grind (arith, e)) in grind (arith, zero_alone)
 no_zero false d ds e h = rw e refl
@@ -103,13 +99,13 @@ not_zero (suc n) l e = let first = first_decimal (suc n) (omega arith) l in absu
 pub numbers_stay : (n : ℕ) → n < 2 ^ 32 → number_of (decimal n) ≡ Some n
 numbers_stay n s =
     let long : n < 2 ^ 64 = omega arith in
-    let is : value_after 0 (decimal n) ≡ n = digits_value-decimal own n long in
-    number_of_digits (decimal n) (digits_decimal own n long) (decimal_nonempty n long) (not_zero n long) (rw is s) ∙ ap Some is
+    let is : value_after 0 (decimal n) ≡ n = digits_value-decimal numerals n long in
+    number_of_digits (decimal n) (digits_decimal numerals n long) (decimal_nonempty n long) (not_zero n long) (rw is s) ∙ ap Some is
 
 -- ---- replies
 
 decimal_whole : (n : ℕ) → n < 2 ^ 32 → is_whole (decimal n) ≡ true
-decimal_whole n s = digits_whole (decimal n) (digits_decimal own n (omega arith))
+decimal_whole n s = digits_whole (decimal n) (digits_decimal numerals n (omega arith))
 
 reply_is : (w answer : List ℕ) (n : ℕ) → all_ascii_digits w ≡ true → 0 < length w → number_of w ≡ Some n → line_members (w ++ 32 ∷ answer) ≡ (codes "n", Number n) ∷ answer_members answer
 unfolding line_members
@@ -126,7 +122,7 @@ reply_is (d ∷ ds) answer n h l e =
 pub replies_have_numbers : (n : ℕ) (answer : List ℕ) → n < 2 ^ 32 → line_members (decimal n ++ 32 ∷ answer) ≡ (codes "n", Number n) ∷ answer_members answer
 replies_have_numbers n answer s =
     let long : n < 2 ^ 64 = omega arith in
-    reply_is (decimal n) answer n (digits_decimal own n long) (decimal_nonempty n long) (numbers_stay n s)
+    reply_is (decimal n) answer n (digits_decimal numerals n long) (decimal_nonempty n long) (numbers_stay n s)
 
 -- a refusal whose number, word and place are these
 refusal_is : (line number word place : List ℕ) (m : ℕ) → cell line ≡ number → cell (behind line) ≡ word → behind (behind line) ≡ place → number_of number ≡ Some m

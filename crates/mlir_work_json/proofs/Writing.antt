@@ -1,9 +1,11 @@
 -- Parts of a text that are written one after the other.
-use Rattle.std.proofs.Common.{◌≡◌, ◌==◌, ℕ, ◌<◌, List, [], ◌∷◌, ◌++◌, map, length, Bool, true, false, ap, sym, ◌∙◌, append_assoc, append-nil, arith}
+use Rattle.std.proofs.Common.{◌≡◌, ◌==◌, ℕ, ◌<◌, List, [], ◌∷◌, ◌++◌, map, length, Bool, true, ap, sym, ◌∙◌, append_assoc, append-nil, arith}
 use Rattle.std.proofs.lemmas.List.{map-append}
 use Rattle.serde_json.specs.Data.{Data}
-use Rattle.mlir_work_json.specs.Cuts.{before, after, behind, cell, cells, parts}
-use Rattle.mlir_work_json.specs.Lines.{is_end, json_line, json_lines}
+use Rattle.mlir_work_json.specs.Cuts.{behind, cell, cells, parts}
+use Rattle.mlir_work_json.specs.Lines.{json_line, json_lines}
+use Rattle.mlir_work_script_base.specs.Cuts.{before, after}
+use Rattle.mlir_work_script_base.specs.Lines.{is_newline}
 use Rattle.mlir_work_json.proofs.Cutting.{cells_step, parts_step}
 
 -- the first part of a text goes to those that are done
@@ -24,17 +26,14 @@ cell_done f g done v text h e =
 
 -- the first line of a text, as JSON, goes behind what is done
 pub line_done : (done text : List ℕ) → 0 < length text
-    → (done ++ (json_line (before is_end text) ++ 10 ∷ [])) ++ json_lines (parts is_end (after is_end text)) ≡ done ++ json_lines (parts is_end text)
+    → (done ++ (json_line (before is_newline text) ++ 10 ∷ [])) ++ json_lines (parts is_newline (after is_newline text)) ≡ done ++ json_lines (parts is_newline text)
 line_done done text h =
-    append_assoc done (json_line (before is_end text) ++ 10 ∷ []) (json_lines (parts is_end (after is_end text)))
-    ∙ ap (λ ys. done ++ ys) (sym (ap json_lines (parts_step is_end text h)))
+    append_assoc done (json_line (before is_newline text) ++ 10 ∷ []) (json_lines (parts is_newline (after is_newline text)))
+    ∙ ap (λ ys. done ++ ys) (sym (ap json_lines (parts_step is_newline text h)))
 
--- ---- whether anything is left
+-- ---- where nothing is left
 
-pub not_empty : (n : ℕ) → (n == 0) ≡ false → 0 < n
-not_empty n e = grind (arith, e)
-
--- where nothing is left, all is done
+-- all is done
 pub all_done : (done : List Data) (g : List ℕ → Data) (p : ℕ → Bool) (rest : List ℕ) (all : List Data) → (length rest == 0) ≡ true → done ++ map g (parts p rest) ≡ all → done ≡ all
 all_done done g p [] all e h = sym (append-nil done) ∙ h
 all_done done g p (b ∷ bs) all e h = absurd (grind (arith, e))
@@ -43,6 +42,6 @@ pub all_cells_done : (done : List Data) (g : List ℕ → Data) (rest : List ℕ
 all_cells_done done g [] all e h = sym (append-nil done) ∙ h
 all_cells_done done g (b ∷ bs) all e h = absurd (grind (arith, e))
 
-pub all_written : (done rest all : List ℕ) → (length rest == 0) ≡ true → done ++ json_lines (parts is_end rest) ≡ all → done ≡ all
+pub all_written : (done rest all : List ℕ) → (length rest == 0) ≡ true → done ++ json_lines (parts is_newline rest) ≡ all → done ≡ all
 all_written done [] all e h = sym (append-nil done) ∙ h
 all_written done (b ∷ bs) all e h = absurd (grind (arith, e))

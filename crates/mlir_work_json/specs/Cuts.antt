@@ -1,20 +1,6 @@
--- A text cut at a byte of a kind.
+-- A text cut into parts and into cells.
 use Rattle.std.specs.Prelude.{ℕ, suc, ◌+◌, ◌-◌, List, [], ◌∷◌, ◌==◌, ◌&&◌, ◌||◌, not, Bool, true, false, if◌then◌else◌, length, take, drop}
-
--- what stands before the first byte that p picks
-abbrev pub before : (ℕ → Bool) → List ℕ → List ℕ
-before p [] = []
-before p (b ∷ bs) = if p b then [] else b ∷ before p bs
-
--- what stands after it: nothing where there is no such byte
-abbrev pub after : (ℕ → Bool) → List ℕ → List ℕ
-after p [] = []
-after p (b ∷ bs) = if p b then bs else after p bs
-
--- b before the first part
-abbrev pub onto_first : ℕ → List (List ℕ) → List (List ℕ)
-onto_first b [] = (b ∷ []) ∷ []
-onto_first b (part ∷ parts) = (b ∷ part) ∷ parts
+use Rattle.mlir_work_script_base.specs.Lines.{onto_first}
 
 -- the parts that end at a byte that p picks, or at the end
 abbrev pub parts : (ℕ → Bool) → List ℕ → List (List ℕ)

@@ -2,10 +2,12 @@
 use Rattle.std.specs.Prelude.{ℕ, List, [], ◌∷◌, ◌==◌, ◌||◌, ◌&&◌, Bool, false, if◌then◌else◌, is_some, codes, position}
 use Rattle.std.specs.Char.{is_ascii_digit}
 use Rattle.std.specs.Str.{bytes_eq}
-use Rattle.mlir_work_json.specs.Cuts.{after, before, behind, behind_second, cell, second}
+use Rattle.mlir_work_json.specs.Cuts.{behind, behind_second, cell, second}
 use Rattle.mlir_work_json.specs.Numbers.{number_of}
 use Rattle.mlir_work_json.specs.declared.form.Form.{Form}
 use Rattle.mlir_work_json.specs.declared.form.Form.TheVariants.{Reply, Heading, Unread, Unattached, Module, Use, Constant, Dead, Unreached, Diagnostic, Effect, Definition, Reference, Unresolved, Mismatch, Reason, Stayed, Rewritten, Applied, Pattern, Outcome, Other}
+use Rattle.mlir_work_script_base.specs.Cuts.{before, after}
+use Rattle.mlir_work_script_base.specs.Values.{is_dot}
 
 -- a line of a module begins with a blank, a quote, a closing brace or a caret
 abbrev pub begins_module : ℕ → Bool
@@ -17,9 +19,6 @@ op_form [] = Dead
 op_form (b ∷ bs) = if b == 64 then Unreached else if b == 86 then Diagnostic else Effect
 
 -- ---- a value, as reports print it: `%v2.0`, `%a1.0.0`
-
-abbrev pub is_dot : ℕ → Bool
-is_dot b = b == 46
 
 abbrev pub is_number : List ℕ → Bool
 is_number word = is_some (number_of word)

@@ -1,5 +1,5 @@
 -- What a run writes, as JSON: each line is an object of a line.
-use Rattle.std.specs.Prelude.{ℕ, List, [], ◌∷◌, ◌++◌, ◌==◌, Bool, codes}
+use Rattle.std.specs.Prelude.{ℕ, List, [], ◌∷◌, ◌++◌, codes}
 use Rattle.serde_json.specs.Data.{Data, object, no_members}
 use Rattle.serde_json.specs.Written.{compact_text}
 use Rattle.mlir_work_json.specs.Cuts.{parts}
@@ -9,6 +9,7 @@ use Rattle.mlir_work_json.specs.Replies.{reply_members, heading_members, unread_
 use Rattle.mlir_work_json.specs.Rows.{use_members, constant_members, dead_members, unreached_members, diagnostic_members, effect_members, definition_members, reference_members, unresolved_members, mismatch_members, reason_members, stayed_members, rewritten_members, applied_members, pattern_members, outcome_members}
 use Rattle.mlir_work_json.specs.declared.form.Form.{Form}
 use Rattle.mlir_work_json.specs.declared.form.Form.TheVariants.{Reply, Heading, Unread, Unattached, Module, Use, Constant, Dead, Unreached, Diagnostic, Effect, Definition, Reference, Unresolved, Mismatch, Reason, Stayed, Rewritten, Applied, Pattern, Outcome, Other}
+use Rattle.mlir_work_script_base.specs.Lines.{is_newline}
 
 -- the members of a line of a form
 abbrev pub form_members : Form → List ℕ → List Member
@@ -52,9 +53,6 @@ abbrev pub json_lines : List (List ℕ) → List ℕ
 json_lines [] = []
 json_lines (line ∷ lines) = (json_line line ++ 10 ∷ []) ++ json_lines lines
 
-abbrev pub is_end : ℕ → Bool
-is_end b = b == 10
-
 -- a whole output as JSON
 abbrev pub json_text : List ℕ → List ℕ
-json_text output = json_lines (parts is_end output)
+json_text output = json_lines (parts is_newline output)

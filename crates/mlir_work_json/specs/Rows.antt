@@ -1,9 +1,11 @@
 -- The members of rows. Each has its kind.
 use Rattle.std.specs.Prelude.{ℕ, List, [], ◌∷◌, ◌==◌, Bool, if◌then◌else◌, is_some, codes}
 use Rattle.std.specs.Str.{bytes_eq}
-use Rattle.mlir_work_json.specs.Cuts.{after, before, behind, behind_second, cell, is_blank, parts, second, without_last}
+use Rattle.mlir_work_json.specs.Cuts.{behind, behind_second, cell, is_blank, parts, second, without_last}
 use Rattle.mlir_work_json.specs.Items.{Member, Texts, text, numeral}
 use Rattle.mlir_work_json.specs.Numbers.{number_of}
+use Rattle.mlir_work_script_base.specs.Cuts.{before, after}
+use Rattle.mlir_work_script_base.specs.Items.{is_comma}
 
 abbrev pub kind : List ℕ → Member
 kind word = text (codes "kind") word
@@ -66,9 +68,6 @@ mismatch_members line =
     symbol_members line (text (codes "op") (second line) ∷ text (codes "target") (behind_second line) ∷ [])
 
 -- ---- rewrites
-
-abbrev pub is_comma : ℕ → Bool
-is_comma b = b == 44
 
 -- `erased #7`, or nothing
 abbrev pub erased_members : List ℕ → List Member

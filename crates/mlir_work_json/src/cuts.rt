@@ -1,16 +1,11 @@
-//! Texts cut at a byte.
+//! Lines cut into their cells.
 ghost use Rattle.std.specs.Prelude.{◌≡◌, ◌==◌, ◌<◌, ◌≤◌, length, position, false, is_some};
-ghost use Rattle.mlir_work_json.specs.Cuts.{before, after, ends_cell, quoted_behind, cell_len, cell, behind, without_last};
+ghost use Rattle.mlir_work_json.specs.Cuts.{ends_cell, quoted_behind, cell_len, cell, behind, without_last};
+
+use mlir_work_script_base::cuts::place_of;
 
 /// The blank between the cells of a line.
 pub(crate) const BLANK: u8 = b' ';
-
-/// Where the byte first stands.
-fn place_of(text: &[u8], byte: u8) -> Option<usize>
-    ensures { result ≡ position (λ b. b == byte) text.now }
-{
-    text.iter().position(|b| *b == byte)
-}
 
 /// Whether the byte stands in a text.
 pub(crate) fn has_byte(text: &[u8], byte: u8) -> bool
@@ -24,18 +19,6 @@ pub(crate) fn without_last(text: &[u8]) -> &[u8]
     ensures { result.now ≡ without_last text.now }
 {
     &text[..text.len().saturating_sub(1)]
-}
-
-/// What stands before the byte where it first stands, and what stands after it.
-pub(crate) fn cut_at(text: &[u8], byte: u8) -> (&[u8], &[u8])
-    ensures before { result.0.now ≡ before (λ b. b == byte) text.now }
-    ensures after { result.1.now ≡ after (λ b. b == byte) text.now }
-    ensures shorter { 0 < length text.now → length result.1.now < length text.now }
-{
-    match place_of(text, byte) {
-        Some(place) => (&text[..place], &text[place + 1..]),
-        None => (text, &[]),
-    }
 }
 
 /// Whether a blank ends a cell, as one does that stands in no quotes.

@@ -4,8 +4,9 @@ ghost use Rattle.mlir_work_json.specs.Forms.{are_three, are_two, begins_module, 
 ghost use Rattle.mlir_work_json.specs.Forms.{has_arrow, is_number, is_outcome, named_form, names_value, op_form};
 ghost use Rattle.mlir_work_json.specs.Forms.{refusal_form, symbol_form, tells_pattern, tells_rewrite, value_form, word_form};
 
-use crate::cuts::{behind_cell, cut_at, cut_cell, has_byte};
+use crate::cuts::{behind_cell, cut_cell, has_byte};
 use crate::numbers::number;
+use mlir_work_script_base::cuts::cut_at;
 
 /// What a line of an output is, told by how it begins.
 #[derive(Clone, Copy, Debug, PartialEq, Eq)]

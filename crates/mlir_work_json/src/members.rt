@@ -4,8 +4,9 @@ ghost use Rattle.serde_json.specs.View.{view};
 ghost use Rattle.mlir_work_json.specs.Cuts.{cells, parts};
 ghost use Rattle.mlir_work_json.specs.Items.{Puts, Texts, text, numeral, text_data};
 
-use crate::cuts::{cut_at, cut_cell};
+use crate::cuts::cut_cell;
 use crate::numbers::number;
+use mlir_work_script_base::cuts::cut_at;
 use serde_json::{Map, Value, put};
 use std::alloc::{AllocError, Global};
 

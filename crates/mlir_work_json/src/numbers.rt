@@ -1,31 +1,8 @@
 //! Decimal numbers, as they are printed.
-ghost use Rattle.std.specs.Prelude.{◌≡◌, ◌+◌, ◌-◌, ◌*◌, ◌^◌, ◌<◌, ◌≤◌, SomeIff};
-ghost use Rattle.mlir_work_json.specs.Numbers.{number_after, number_of};
+ghost use Rattle.std.specs.Prelude.{◌≡◌};
+ghost use Rattle.mlir_work_json.specs.Numbers.{number_of};
 
-/// A number with one more digit, or `None` where it is too great.
-fn with_digit(number: u32, digit: u8) -> Option<u32>
-    requires { 48 ≤ digit }
-    ensures { SomeIff result (number * 10 + (digit - 48) < 2 ^ 32) (number * 10 + (digit - 48)) }
-{
-    number.checked_mul(10)?.checked_add(u32::from(digit - b'0'))
-}
-
-/// The number of a text of digits.
-fn digits_value(digits: &[u8]) -> Option<u32>
-    ensures { result ≡ number_after 0 digits.now }
-{
-    let mut number = 0u32;
-    for digit in digits {
-        if !digit.is_ascii_digit() {
-            return None;
-        }
-        let Some(next) = with_digit(number, *digit) else {
-            return None;
-        };
-        number = next;
-    }
-    Some(number)
-}
+use mlir_work_script_base::numbers::digits_value;
 
 /// The decimal number that a word is, or `None` where it is none, or greater than 4,294,967,295, or has a zero in front.
 pub(crate) fn number(word: &[u8]) -> Option<u32>

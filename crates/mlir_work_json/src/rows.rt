@@ -6,9 +6,10 @@ ghost use Rattle.mlir_work_json.specs.Rows.{unresolved_members, mismatch_members
 ghost use Rattle.mlir_work_json.specs.Rows.{applied_members, change_members, erased_members, outcome_members, reason_members, rewritten_members};
 ghost use Rattle.mlir_work_json.specs.Rows.{stay_members, stayed_members};
 
-use crate::cuts::{BLANK, behind_cell, cut_at, cut_cell, without_last};
+use crate::cuts::{BLANK, behind_cell, cut_cell, without_last};
 use crate::members::{Object, put_number, put_parts, put_text};
 use crate::numbers::number;
+use mlir_work_script_base::cuts::cut_at;
 use std::alloc::{AllocError, Global};
 
 /// Puts a row of `uses`: `%a1.0.0 #3 0`.

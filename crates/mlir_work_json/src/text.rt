@@ -4,9 +4,9 @@ ghost use Rattle.serde_json.specs.Read.{read};
 ghost use Rattle.serde_json.specs.View.{view};
 ghost use Rattle.mlir_work_json.specs.Cuts.{parts};
 ghost use Rattle.mlir_work_json.specs.Items.{Puts};
-ghost use Rattle.mlir_work_json.specs.Lines.{form_members, is_end, line_data, json_line, json_text};
+ghost use Rattle.mlir_work_json.specs.Lines.{form_members, line_data, json_line, json_text};
+ghost use Rattle.mlir_work_script_base.specs.Lines.{is_newline};
 
-use crate::cuts::cut_at;
 use crate::form::{Form, form_of};
 use crate::members::{Object, put_text};
 use crate::replies::{put_heading, put_reply, put_unattached, put_unread};
@@ -15,6 +15,7 @@ use crate::rows::{
     put_outcome, put_pattern, put_reason, put_reference, put_rewritten, put_stayed, put_unreached,
     put_unresolved, put_use,
 };
+use mlir_work_script_base::cuts::cut_at;
 use serde_json::{Map, Value};
 use std::alloc::{AllocError, Global};
 
@@ -79,8 +80,8 @@ fn put_line(json: &mut Vec<u8>, alloc: Global, line: &[u8]) -> Result<(), AllocE
 /// An output as JSON: each line of it is an object of a line, and the lines of the JSON are the JSON of its lines.
 pub fn json_text(alloc: Global, output: &[u8]) -> Result<Vec<u8>, AllocError>
     ensures text { IfOk result (λ json. json.items ≡ json_text output.now) }
-    ensures lines { IfOk result (λ json. parts is_end json.items
-        ≡ map json_line (parts is_end output.now)) }
+    ensures lines { IfOk result (λ json. parts is_newline json.items
+        ≡ map json_line (parts is_newline output.now)) }
 {
     let mut json = Vec::new(alloc);
     let mut rest = output;
