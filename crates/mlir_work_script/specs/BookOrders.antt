@@ -1,5 +1,5 @@
 -- What a line may say of the patterns of one's own, which a session has in a book.
-use Rattle.std.specs.Prelude.{ℕ, List, [], ◌∷◌, ◌==◌, Bool, true, false, not, Option, Some, None, if◌then◌else◌, codes, length, option_and_then}
+use Rattle.std.specs.Prelude.{ℕ, List, [], ◌∷◌, ◌==◌, Bool, false, not, Option, Some, None, if◌then◌else◌, codes, length, option_and_then}
 use Rattle.std.specs.Char.{is_ascii_digit}
 use Rattle.std.specs.Str.{bytes_eq}
 use Rattle.mlir_work_script_base.specs.Numbers.{number_of}

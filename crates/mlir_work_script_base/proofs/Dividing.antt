@@ -1,7 +1,6 @@
 -- What stands around the divider of an input.
-use Rattle.std.proofs.Common.{◌≡◌, ℕ, List, [], ◌∷◌, ◌++◌, Bool, true, false, if◌then◌else◌, inl, inr, refl, ap, ◌∙◌, arith}
-use Rattle.std.specs.Prelude.{◌==◌, ◌&&◌, codes}
-use Rattle.std.proofs.lemmas.Bool.Decides.{nat_tests}
+use Rattle.std.proofs.Common.{◌≡◌, ℕ, List, [], ◌∷◌, ◌++◌, Bool, true, false, if◌then◌else◌, inl, inr, refl, ap, ◌∙◌}
+use Rattle.std.specs.Prelude.{◌&&◌, codes}
 use Rattle.ir_event.proofs.of_types.Growth.{name_is}
 use Rattle.mlir_work_script_base.specs.Lines.{is_newline, line_of, after_line}
 use Rattle.mlir_work_script_base.specs.Parts.{EndsLine, IsSplit, at_divider, module_from, script_from}

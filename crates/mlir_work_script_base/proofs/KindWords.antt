@@ -1,11 +1,10 @@
 -- The word of a kind, and the kind of a word.
 use Rattle.std.proofs.Common.{take-append-drop, if◌then◌else◌, ◌≡◌, ℕ, ◌<◌, List, ◌++◌, take, drop, Bool, true, false, not, Option, Some, None, inl, inr, refl, sym, subst, ◌∙◌, arith}
-use Rattle.std.specs.Prelude.{◌==◌, ◌&&◌, ◌⊎◌, codes, nat_lt, nat_eq}
+use Rattle.std.specs.Prelude.{◌==◌, ◌&&◌, codes, nat_lt, nat_eq}
 use Rattle.std.specs.Fmt.{decimal}
 use Rattle.std.specs.List.{starts_with}
 use Rattle.std.specs.Option.{is_some}
 use Rattle.std.specs.Str.{bytes_eq}
-use Rattle.std.proofs.lemmas.Bool.Decides.{nat_tests}
 use Rattle.ir_event.proofs.of_types.Growth.{name_refl, name_is}
 use Rattle.mlir_work_script_base.specs.Kinds.{kind_name, kind_word, kind_of, numbered_from}
 use Rattle.mlir_work_script_base.specs.Numbers.{number_of}

@@ -1,7 +1,7 @@
 -- A text that begins with a quote begins with a string literal, or with no token.
-use Rattle.std.proofs.Common.{◌≡◌, ◌∙◌, ap, sym, refl, ℕ, List, [], ◌∷◌, Option, Some, None}
+use Rattle.std.proofs.Common.{◌≡◌, ◌∙◌, ap, sym, refl, ℕ, List, ◌∷◌, Option, Some, None}
 use Rattle.std.specs.Prelude.{option_map, option_and_then}
-use Rattle.ir_text_tokens.specs.Tokens.{Lexeme, string, next, skip, string_parts, string_at}
+use Rattle.ir_text_tokens.specs.Tokens.{Lexeme, string, next, string_parts}
 use Rattle.mlir_work_script_base.specs.Keys.{raw_in}
 use Rattle.ir_text_tokens.proofs.Facts.{string_token}
 

@@ -4,7 +4,6 @@ use Rattle.std.specs.Prelude.{◌==◌, slice_index}
 use Rattle.std.proofs.lemmas.List.{append-nil, length-append, take_rest}
 use Rattle.mlir_work_script_base.specs.Lines.{is_newline, after_line}
 use Rattle.mlir_work_script_base.specs.Parts.{at_divider, module_from, script_from}
-use Rattle.ir_event.proofs.of_types.Truths.{take_whole}
 
 -- a line with its line feed, and what follows it
 pub record Spans (bs line : List ℕ) : Type 0 where
