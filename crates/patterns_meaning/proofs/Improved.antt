@@ -84,7 +84,7 @@ module _ (ts : Standing TypeTerm) (env : List Outcome) where
       let l = given_some (standing t ts) (λ term. Some (constant term g.0.1)) o g.2 in
       subst IsNoQuotient (same_Some _ _ l.2) (ap is_signed_quotient by_constant)
 
-  no_quotients : (n k : ℕ) (ws : List New) (b d : Standing Value) (os : List Operation) → list_all is_named ws ≡ true → list_all makes_no_quotient ws ≡ true → all_made ts env n k ws b ≡ Some (os, d) → AreNoQuotients os
+  pub no_quotients : (n k : ℕ) (ws : List New) (b d : Standing Value) (os : List Operation) → list_all is_named ws ≡ true → list_all makes_no_quotient ws ≡ true → all_made ts env n k ws b ≡ Some (os, d) → AreNoQuotients os
   no_quotients n k [] b d os s q e = let s : ([], b) ≡ (os, d) = same_Some _ _ e in subst AreNoQuotients (ap (λ (r : List Operation × Standing Value). r.0) s) tt
   no_quotients n k (w ∷ ws) b d os s q e =
       let g = given_some (made_as b ts env w) (λ o. given (bound same_value k (Result n 0) b) (λ c. option_map (λ (r : List Operation × Standing Value). (o ∷ r.0, r.1)) (all_made ts env (n + 1) (k + 1) ws c))) (os, d) e in

@@ -60,7 +60,11 @@ pub mod StrictMatched
 pub mod StrictMade
 pub mod StrictKept
 pub mod StrictLaws
+pub mod PassingMatched
+pub mod PassingMade
+pub mod PassingKept
 pub mod MixedRunning
 pub mod StrictSampled
+pub mod PassingSampled
 pub mod Told
 pub mod Sampled

@@ -187,7 +187,7 @@ module _ (o : Arithmetic) (k : BitsKind) where
       let n = none_made (divides o) z m in
       gives_some z (known_pair o a b) n.1 (known_defined o k a b h (hv b refl) (defined o a.0 b.1 n.0 (value_of o (width_of a.0) a.1 b.1)))
 
-  pair_better : (x y u v z : Outcome) → IsOf k u → IsOf k v → refines x u ≡ true → refines y v ≡ true → (is_signed_quotient (Some (rule.Pair o)) && is_poison_by_ones (x ∷ y ∷ [])) ≡ false
+  pub pair_better : (x y u v z : Outcome) → IsOf k u → IsOf k v → refines x u ≡ true → refines y v ≡ true → (is_signed_quotient (Some (rule.Pair o)) && is_poison_by_ones (x ∷ y ∷ [])) ≡ false
       → pair_outcome o x y ≡ Some z → Gives z (pair_outcome o u v)
   pair_better (Some a) (Some b) u v z hu hv e f s m =
       let p = sym (value_refined a u e) in
@@ -262,7 +262,7 @@ cast_defined cast.Truncate k (Some j) a n h = cut a.1 (width_of a.0) (width_of k
         go true e = (Some (k, a % 2 ^ w), refl)
         go false e = absurd (true≢false (sym e))
 
-resize_better : (c : Cast) (k : BitsKind) (j : Option BitsKind) (x u z : Outcome) → narrows c j k ≡ true → ((i : BitsKind) (a : Known) → j ≡ Some i → u ≡ Some a → a.0 ≡ i) → refines x u ≡ true → resize_outcome c k x ≡ Some z → Gives z (resize_outcome c k u)
+pub resize_better : (c : Cast) (k : BitsKind) (j : Option BitsKind) (x u z : Outcome) → narrows c j k ≡ true → ((i : BitsKind) (a : Known) → j ≡ Some i → u ≡ Some a → a.0 ≡ i) → refines x u ≡ true → resize_outcome c k x ≡ Some z → Gives z (resize_outcome c k u)
 resize_better c k j (Some a) u z n h e m = let p = sym (value_refined a u e) in gives_same z (resize_outcome c k (Some a)) (resize_outcome c k u) m (λ i. resize_outcome c k (p i))
 resize_better c k j None u z n h e m = go (is_width (width_of k)) m
   where

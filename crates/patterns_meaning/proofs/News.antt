@@ -77,7 +77,7 @@ pub more_there : (v : Value) (o : Option (List Value)) (vs : List Value) → and
 more_there v None vs e = absurd (none-some vs e)
 more_there v (Some us) vs e = (us, refl, same_Some _ _ e)
 
-values_stand : (ks : List ℕ) (b : Standing Value) (vs : List Value) → values_at ks b ≡ Some vs → ValuesStand ks vs b
+pub values_stand : (ks : List ℕ) (b : Standing Value) (vs : List Value) → values_at ks b ≡ Some vs → ValuesStand ks vs b
 values_stand [] b vs e = subst (λ vs. ValuesStand [] vs b) (same_Some _ _ e) tt
 values_stand (k ∷ ks) b vs e =
     let g = given_some (standing k b) (λ v. and_more v (values_at ks b)) vs e in
@@ -111,7 +111,7 @@ again_same : (x : Known) → pair_outcome op.And (Some x) (Some x) ≡ Some (Som
 again_same x =
     ap (λ b. if b then judged op.And x.0 x.1 (Some (bit_and x.1 x.1)) else None) (same_itself x.0) ∙ ap (λ v. Some (Some (x.0, v))) (and_self x.1)
 
-again_gives : (env : List Outcome) (i : ℕ) (x : Known) → slice_get env i ≡ Some (Some x) → step_of (again_step i) env ≡ Some (Some x)
+pub again_gives : (env : List Outcome) (i : ℕ) (x : Known) → slice_get env i ≡ Some (Some x) → step_of (again_step i) env ≡ Some (Some x)
 again_gives env i x e =
     given_at (slice_get env i) (Some x) (λ y. given (slice_get env i) (λ z. pair_outcome op.And y z)) (Some (Some x)) e
     (given_at (slice_get env i) (Some x) (λ z. pair_outcome op.And (Some x) z) (Some (Some x)) e (again_same x))
@@ -141,7 +141,7 @@ module _ (ts : Standing TypeTerm) (kinds : AreOfKinds ts) (p : Shape) (envp : Li
   new_shown k env b low shows i v e s = let h = new_place_of k i low e in shows i v h.0 h.1 s
 
   -- the kind of a type that stands
-  kind_there : (ty : ℕ) (term : TypeTerm) → standing ty ts ≡ Some term → kind_of term ≡ Some (kind_at ks ty)
+  pub kind_there : (ty : ℕ) (term : TypeTerm) → standing ty ts ≡ Some term → kind_of term ≡ Some (kind_at ks ty)
   kind_there ty term e =
       let k = some_there (kind_of term) (kinds ty term e) in
       k.1 ∙ ap (λ k. Some k) (sym (kind_is ts ty term k.0 (standing_stands ty term ts e) k.1))

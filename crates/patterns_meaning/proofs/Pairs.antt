@@ -116,7 +116,7 @@ pub is_its_kind : (k : BitsKind) → is_kind k (Some k) ≡ true
 is_its_kind k = same_itself k
 
 -- ---- operations that are made
-flags_rise : (b : Bool) → (rises key_before (if b then (codes "overflowFlags", Overflow false false) ∷ [] else []) && true) ≡ true
+pub flags_rise : (b : Bool) → (rises key_before (if b then (codes "overflowFlags", Overflow false false) ∷ [] else []) && true) ≡ true
 flags_rise true = refl
 flags_rise false = refl
 

@@ -74,10 +74,10 @@ computes = record {
 }
 
 -- ---- the check at two bits
-four : (v : ℕ) → suc (suc (suc (suc v))) < 4 → ⊥
+pub four : (v : ℕ) → suc (suc (suc (suc v))) < 4 → ⊥
 four v l = omega (arith, l)
 
-keeps_all : (values : List ℕ) → AreBelow (4 ∷ 4 ∷ []) values → keeps (content_with (kind.Int 2 ∷ []) times_power) values ≡ true
+pub keeps_all : (values : List ℕ) → AreBelow (4 ∷ 4 ∷ []) values → keeps (content_with (kind.Int 2 ∷ []) times_power) values ≡ true
 unfolding log_of first_below product_of left_shift_of
 keeps_all [] l = absurd l
 keeps_all (zero ∷ zero ∷ []) l = refl

@@ -8,8 +8,10 @@ pub mod Keeping
 pub mod Runs
 pub mod Canonical
 pub mod Strict
+pub mod Passing
 pub mod MixedRuns
 pub mod StrictSamples
+pub mod PassingSamples
 pub mod Told
 pub mod Remainders
 pub mod IndexCasts

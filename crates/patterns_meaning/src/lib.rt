@@ -4,4 +4,5 @@
 pub mod better;
 pub mod kept;
 pub mod laws;
+pub mod passing;
 pub mod strict;

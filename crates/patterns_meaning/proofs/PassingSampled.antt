@@ -1,0 +1,94 @@
+-- The module of the sample is ready, and the pattern applies in it.
+use Rattle.std.proofs.Common.{◌≡◌, ℕ, zero, suc, refl, sym, subst, ◌<◌, [], ◌∷◌, true, true≢false, Some, None, slice_get, get_or, inl, arith}
+use Rattle.std.proofs.lemmas.Option.{none-some, same_Some}
+use Rattle.std.proofs.lemmas.Map.Made.{IsDistinct-from_count}
+use Rattle.std.proofs.lemmas.Cmp.{nat_eq_equiv}
+use Rattle.ir_types.specs.Terms.{TypeTerm}
+use Rattle.ir_types.specs.Words as words
+use Rattle.ir_types.specs.Words.{is_isolated}
+use Rattle.ir_tree.specs.declared.value.Value.{Value}
+use Rattle.ir_tree.specs.declared.value.Value.TheVariants.{Result}
+use Rattle.ir_tree.specs.WellFormed.{IsWellFormed}
+use Rattle.op_registry.specs.Registry as registry
+use Rattle.op_registry.specs.Rows as rows
+use Rattle.op_registry.specs.Properties as properties
+use Rattle.dialects_int.specs.Folds as folds
+use Rattle.exhaustive.specs.Cases.{first_below}
+use Rattle.patterns_laws.specs.Words as named
+use Rattle.patterns_base.specs.Looks as looks
+use Rattle.patterns_check.specs.Checks.{AlwaysKeeps}
+use Rattle.patterns_check.specs.Outcomes.{log_of}
+use Rattle.patterns_book.specs.Fitting.{content_with}
+use Rattle.patterns_book.specs.Matching.{Standing}
+use Rattle.patterns_book.specs.Planning.{planned}
+use Rattle.patterns_book.specs.Samples.{times_power}
+use Rattle.patterns_own.specs.Own.{own_edits, own_rewrite}
+use Rattle.patterns_meaning.specs.Meaning.{IsOfType}
+use Rattle.patterns_meaning.specs.Better.{AreKinded}
+use Rattle.patterns_meaning.specs.Keeping.{Computing, IsReady}
+use Rattle.patterns_meaning.specs.Passing.{FoundAt, KeepsAt, is_kinded_at}
+use Rattle.patterns_meaning.specs.Samples.{all_done, i2}
+use Rattle.patterns_meaning.specs.PassingSamples.{SampleIsDoubled, doubled, lost}
+use Rattle.patterns_meaning.proofs.PassingKept.{one_way}
+use Rattle.patterns_meaning.proofs.Sampled.{four, keeps_all}
+
+-- ---- it is well-formed, and of the kinds that are asked for
+below : (k d : ℕ) → k < 4 → get_or (0 ∷ 1 ∷ 2 ∷ 3 ∷ []) k d < 4
+below zero d l = omega arith
+below (suc zero) d l = omega arith
+below (suc (suc zero)) d l = omega arith
+below (suc (suc (suc zero))) d l = omega arith
+below (suc (suc (suc (suc k)))) d l = absurd (four k l)
+
+formed : IsWellFormed is_isolated doubled
+unfolding words.operations words.is_listed words.is_table words.is_isolated
+formed = record {
+  distinct = IsDistinct-from_count nat_eq_equiv (0 ∷ 1 ∷ 2 ∷ 3 ∷ []) refl;
+  below = below;
+  next = omega arith;
+  formed = record { visible = refl; shallow = omega arith; counts = refl };
+}
+
+kinded : AreKinded doubled.tree
+unfolding folds.fold_of folds.rule_of folds.rules words.operations words.is_inherent words.is_listed properties.is_allowed properties.is_of_kind properties.kind_of properties.kinds registry.row_of rows.rows
+kinded = (refl, (((refl, tt), ((refl, tt), ((refl, tt), tt))), tt))
+
+ready : IsReady doubled
+ready = record { formed = formed; sorted = refl; kinded = kinded }
+
+-- ---- it computes
+one_type : (x : ℕ) → IsOfType i2 (lost (Result x 0)) → (k : ℕ) (ty : TypeTerm) → slice_get (i2 ∷ []) k ≡ Some ty → IsOfType ty (lost (Result x k))
+one_type x h zero ty e = subst (λ ty. IsOfType ty (lost (Result x 0))) (same_Some _ _ e) h
+one_type x h (suc k) ty e = absurd (none-some ty e)
+
+computes : Computing lost all_done doubled.tree
+unfolding folds.fold_of folds.rule_of folds.rules words.operations words.is_inherent words.is_listed properties.is_allowed properties.is_of_kind properties.kind_of properties.kinds registry.row_of rows.rows
+computes = record {
+  fits = ((λ d e. absurd (true≢false (sym e))), ((((λ d e. absurd (true≢false (sym e))), tt), (((λ d e. inl refl), tt), (((λ d e. inl refl), tt), tt))), tt));
+  typed = (
+    ((λ k ty e. absurd (none-some ty e)), (((one_type 1 tt, tt), ((one_type 2 (refl, refl), tt), ((one_type 3 tt, tt), tt))), tt)),
+    (((λ k ty e. absurd (none-some ty e)), (tt, (tt, (tt, tt)))), tt),
+  );
+  sure = ((λ d e. refl), ((((λ d e. refl), tt), (((λ d e. refl), tt), (((λ d e. refl), tt), tt))), tt));
+  fed = ((λ d. refl), ((((λ d. refl), tt), (((λ d. refl), tt), (((λ d. refl), tt), tt))), tt));
+}
+
+-- ---- the pattern is found there
+abbrev here : Standing Value
+here = Some (Result 1 0) ∷ Some (Result 2 0) ∷ None ∷ Some (Result 3 0) ∷ None ∷ None ∷ []
+
+abbrev types : Standing TypeTerm
+types = Some i2 ∷ []
+
+found : FoundAt times_power doubled 3
+unfolding looks.is_clean folds.fold_of folds.rule_of folds.rules words.operations words.is_inherent words.is_listed words.is_table words.is_isolated properties.is_allowed properties.is_of_kind properties.kind_of properties.kinds registry.row_of rows.rows
+found = record { here = here; is_matched = refl; types = types; are_types = refl }
+
+keeps_at : KeepsAt times_power doubled 3
+unfolding found
+keeps_at at =
+    subst (λ ks. (is_kinded_at ks times_power ≡ true) × AlwaysKeeps (content_with ks times_power)) (sym (one_way times_power doubled 3 at found)) (refl, keeps_all)
+
+pub sample_is_doubled : SampleIsDoubled
+unfolding planned log_of first_below own_edits own_rewrite looks.is_clean folds.fold_of folds.rule_of folds.rules words.operations words.is_inherent words.is_listed words.is_table words.is_isolated properties.is_allowed properties.is_of_kind properties.kind_of properties.kinds named.flagged registry.row_of rows.rows
+sample_is_doubled = (ready, computes, refl, keeps_at)

@@ -1,0 +1,52 @@
+-- A pattern of which the laws speak, and that isn't strict: a product by a power of two becomes a shift; and a module in
+-- which it applies, where the value is poison.
+use Rattle.std.specs.Prelude.{◌≡◌, zero, suc, [], ◌∷◌, codes, false, true, Some, None}
+use Rattle.ir_types.specs.declared.bits.BitsKind.TheVariants as kind
+use Rattle.ir_types.specs.Terms.{IntegerOf}
+use Rattle.ir_tree.specs.declared.value.Value.TheVariants.{Arg, Result}
+use Rattle.ir_tree.specs.Tree.{block, next, no_ops, no_regions, op, region}
+use Rattle.ir_event.specs.Modules.{Module}
+use Rattle.patterns_base.specs.Rewrites.{becomes}
+use Rattle.patterns_book.specs.Samples.{times_power}
+use Rattle.patterns_own.specs.Own.{own_rewrite}
+use Rattle.patterns_meaning.specs.Meaning.{Assignment}
+use Rattle.patterns_meaning.specs.Applied.{IsProper}
+use Rattle.patterns_meaning.specs.Keeping.{Computing, IsReady}
+use Rattle.patterns_meaning.specs.Passing.{KeepsAt, is_passing}
+use Rattle.patterns_meaning.specs.Samples.{all_done, i2, small, tree}
+use Rattle.patterns_meaning.specs.Strict.{is_strict}
+
+-- it matches a product, and makes a constant and a shift, which isn't known for each two values
+abbrev pub SampleIsPassing : Type 0
+SampleIsPassing = IsProper times_power × (is_passing times_power ≡ true) × (is_strict times_power ≡ false)
+
+-- ---- a module: some value, the constant 2, and their product
+abbrev pub doubled : Module
+doubled = record { tree = tree; next = 4 }
+
+-- what the pattern makes of it
+abbrev pub shifted : Module
+shifted =
+    record {
+      tree =
+          op (record { id = 0; name = codes "builtin.module"; operands = []; results = []; properties = []; attributes = [] })
+          (region (block []
+          (next (small 1 (codes "test.d") [] [])
+          (next (small 2 (codes "arith.constant") [] ((codes "value", IntegerOf i2 2) ∷ []))
+          (next (small 4 (codes "arith.constant") [] ((codes "value", IntegerOf i2 1) ∷ []))
+          (next (small 5 (codes "arith.shli") (Result 1 0 ∷ Result 4 0 ∷ []) [])
+          no_ops))))) no_regions);
+      next = 6;
+    }
+
+-- the value is poison, and so is the product
+abbrev pub lost : Assignment
+lost (Result (suc (suc zero)) k) = Some (kind.Int 2, 2)
+lost (Result x k) = None
+lost (Arg x r k) = None
+
+-- it is ready, and computes so, and the pattern applies, and keeps what is there at the kinds found
+abbrev pub SampleIsDoubled : Type 0
+SampleIsDoubled =
+    IsReady doubled × Computing lost all_done doubled.tree × (own_rewrite times_power doubled 3 ≡ becomes shifted)
+    × KeepsAt times_power doubled 3

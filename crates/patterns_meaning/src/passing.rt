@@ -1,0 +1,23 @@
+//! Patterns of one's own that match no choices, and divide nothing, keep what a module computes where they keep what is
+//! there at the kinds found, whatever of it is poison.
+ghost use Rattle.patterns_meaning.specs.Passing.{AppliedIsFound, CheckedPassingKeep, PassingKeep};
+ghost use Rattle.patterns_meaning.specs.PassingSamples.{SampleIsDoubled, SampleIsPassing};
+
+use patterns_own::laws::no_edit_of_a_pattern_is_refused;
+
+/// A pattern that matches no choices and makes no quotients and remainders keeps what a ready module computes where it
+/// keeps what is there at the kinds found: also where that is known by a check up to a width. It is found in one way.
+pub fn passing_patterns_keep_what_is_computed()
+    ensures passing { PassingKeep }
+    ensures checked { CheckedPassingKeep }
+    ensures found { AppliedIsFound }
+{
+    no_edit_of_a_pattern_is_refused();
+}
+
+/// There is such a pattern that isn't strict: a product by a power of two becomes a shift; and a ready module in which it
+/// applies, that computes with poison among its values.
+pub fn samples_are_passing()
+    ensures pattern { SampleIsPassing }
+    ensures ready { SampleIsDoubled }
+{}
