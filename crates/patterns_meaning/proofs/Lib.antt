@@ -56,13 +56,11 @@ pub mod Running
 pub mod Canonical
 pub mod StrictForms
 pub mod StrictTyped
-pub mod StrictMatched
-pub mod StrictMade
-pub mod StrictKept
-pub mod StrictLaws
 pub mod PassingMatched
 pub mod PassingMade
 pub mod PassingKept
+pub mod StrictKinded
+pub mod StrictLaws
 pub mod MixedRunning
 pub mod StrictSampled
 pub mod PassingSampled

@@ -18,10 +18,10 @@ use Rattle.patterns_everywhere.specs.Everywhere.{Formal, first_type, formal, for
 use Rattle.patterns_everywhere.specs.Lasting.{HoldsEverywhere, KeepsEverywhere, PolynomialsKeep}
 use Rattle.patterns_own.specs.Own.{OwnAreAccepted}
 use Rattle.patterns_meaning.specs.Applied.{IsProper, further_kind, is_typed, kinds_behind, kinds_given, kinds_matched}
-use Rattle.patterns_meaning.specs.Strict.{HoldingKeep, KeepsComputingOwn, KeepsReadyOwn, StrictKeep, is_asked_of, is_strict, is_strict_at, new_is_total, piece_is_strict}
+use Rattle.patterns_meaning.specs.Strict.{HoldingKeep, StrictKeep, is_asked_of, is_strict, is_strict_at, new_is_total, piece_is_strict}
 use Rattle.patterns_meaning.proofs.Going.{formed_parts}
 use Rattle.patterns_meaning.proofs.StrictForms.{Uniform, has_parts, keeps_by_type, keeps_of_type, unasked}
-use Rattle.patterns_meaning.proofs.StrictKept.{uniform_computing, uniform_ready}
+use Rattle.patterns_meaning.proofs.StrictKinded.{uniform_keeps}
 use Rattle.patterns_meaning.proofs.StrictTyped.{OneKind, furthers_all, furthers_one, news_all, news_one, numbers_all, numbers_one, olds_all, olds_one, typed_too, values_all, values_one}
 
 -- ---- its one type
@@ -140,9 +140,6 @@ uniform_strict p e keeps = go (first_type p.old) e
         }
 
 -- ---- the laws
-uniform_keeps : OwnAreAccepted → (p : Shape) → Uniform p → IsProper p → KeepsReadyOwn p × KeepsComputingOwn p
-uniform_keeps accepted p u proper = (uniform_ready accepted p u proper, uniform_computing accepted p u proper)
-
 pub strict_keep : OwnAreAccepted → StrictKeep
 strict_keep accepted p e proper keeps = uniform_keeps accepted p (uniform_strict p e keeps) proper
 

@@ -171,7 +171,7 @@ module _ (ks : List BitsKind) (t : ℕ) where
   new_one (new.Operation o) env es q e h f = form_one o.form (kind_at ks o.ty) env es q (at_number ks t o.ty e) h f
   new_one (new.Constant i u) env es q e h f = (kinds_agree (kind_at es i) (kind_at ks u) (kind_at ks t) (there env es h i q f) (at_number ks t u e), refl)
 
-  type_one : (w : New) → new_has t w ≡ true → kind_at ks (new_type w) ≡ kind_at ks t
+  pub type_one : (w : New) → new_has t w ≡ true → kind_at ks (new_type w) ≡ kind_at ks t
   type_one (new.Operation o) e = at_number ks t o.ty e
   type_one (new.Constant i u) e = at_number ks t u e
 
