@@ -62,6 +62,8 @@ pub mod PassingKept
 pub mod StrictKinded
 pub mod StrictLaws
 pub mod MixedRunning
+pub mod NarrowTypes
+pub mod NarrowKept
 pub mod StrictSampled
 pub mod PassingSampled
 pub mod Told

@@ -14,11 +14,11 @@ use Rattle.patterns_book.specs.Shapes.{Shape}
 use Rattle.patterns_own.specs.Own.{own_rewrite}
 use Rattle.greedy.specs.Rewriting.{first_by, next_by, rewriting_of, rewritten_from}
 use Rattle.greedy.specs.Trial.{Attempt, OfOwn, OfRule, attempted, by_attempts, first_tried}
-use Rattle.patterns_meaning.specs.Meaning.{Assignment}
-use Rattle.patterns_meaning.specs.Keeping.{Computing, Improves, IsReady, done_after}
+use Rattle.patterns_meaning.specs.Keeping.{IsReady, done_after}
 use Rattle.patterns_meaning.specs.Runs.{ComputesThrough, KeptAreKept, kept_rules}
 use Rattle.patterns_meaning.specs.Strict.{HoldingKeep}
-use Rattle.patterns_meaning.specs.MixedRuns.{AttemptKeeps, IsShown, LeadsBy, MixedRewritingKeeps, MixedRunsKeep, ShownAreKept}
+use Rattle.patterns_meaning.specs.MixedRuns.{AttemptKeeps, IsShown, KeptThrough, LeadsBy, MixedRewritingKeeps, MixedRunsKeep, ShownAreKept}
+use Rattle.patterns_meaning.specs.Passing.{KeptAt}
 use Rattle.patterns_meaning.proofs.Applying.{applies}
 use Rattle.patterns_meaning.proofs.Giving.{after_old}
 use Rattle.patterns_meaning.proofs.Listed.{ended_parts, none_never, or_parts, stopped_never}
@@ -30,16 +30,12 @@ where_tried : (b : Bool) (r : Rewrite) (n : Module) → (if b then r else none) 
 where_tried true r n e = e
 where_tried false r n e = none_never n e
 
-own_of : (p : Shape) (m n : Module) (x : ℕ) → attempted (OfOwn p) m x ≡ becomes n → own_rewrite p m x ≡ becomes n
+pub own_of : (p : Shape) (m n : Module) (x : ℕ) → attempted (OfOwn p) m x ≡ becomes n → own_rewrite p m x ≡ becomes n
 own_of p m n x e = where_tried _ (own_rewrite p m x) n e
 
-attempt_ready : (t : Attempt) → AttemptKeeps t → (m n : Module) (x : ℕ) → IsReady m → attempted t m x ≡ becomes n → IsReady n
-attempt_ready (OfRule r) keep m n x ready e = keep.0 m n x ready e
-attempt_ready (OfOwn p) keep m n x ready e = keep.0 m n x ready (own_of p m n x e)
-
-attempt_computing : (t : Attempt) → AttemptKeeps t → (m n : Module) (x : ℕ) (a : Assignment) (done : ℕ → Bool) → IsReady m → Computing a done m.tree → attempted t m x ≡ becomes n → Improves a done m (done_after m.next x done) n.tree
-attempt_computing (OfRule r) keep m n x a done ready c e = keep.1 m n x a done ready c e
-attempt_computing (OfOwn p) keep m n x a done ready c e = keep.1 m n x a done ready c (own_of p m n x e)
+attempt_kept : (t : Attempt) → AttemptKeeps t → (m n : Module) (x : ℕ) → IsReady m → attempted t m x ≡ becomes n → KeptAt m n x
+attempt_kept (OfRule r) keep m n x ready e = (keep.0 m n x ready e, (λ a done c. keep.1 m n x a done ready c e))
+attempt_kept (OfOwn p) keep m n x ready e = (keep.0 m n x ready (own_of p m n x e), (λ a done c. keep.1 m n x a done ready c (own_of p m n x e)))
 
 attempt_grows : (t : Attempt) (m n : Module) (x : ℕ) → attempted t m x ≡ becomes n → m.next ≤ n.next
 attempt_grows (OfRule r) m n x e = rewrite_grows r m n x e
@@ -47,38 +43,48 @@ attempt_grows (OfOwn p) m n x e =
     let q = applies p m n x (own_of p m n x e) in
     subst (λ (n : Module). m.next ≤ n.next) q.module_is (all_grow (map (λ o. Make q.front o) q.made ++ give x q.value) m)
 
--- ---- one behind another
+-- ---- one behind another, where something is so of each module
+module _ (I : Module → Type 0) (ts : List Attempt) (keep : (t : Attempt) → In t ts → (m n : Module) (x : ℕ) → I m → IsReady m → attempted t m x ≡ becomes n → I n × KeptAt m n x) where
+  pub runs_under : (k : ℕ) (m n : Module) → I m → IsReady m → LeadsBy ts k m n → I n × KeptThrough m n
+  runs_under zero m n i ready leads = (
+    subst I leads i,
+    (
+      subst IsReady leads ready,
+      subst (λ (n : Module). m.next ≤ n.next) leads (omega arith),
+      (λ a done c. subst (λ n. ComputesThrough a done m n) leads (record { later = done; same = λ y l. refl; improves = record { now = a; better = λ v l. itself (a v); stays = λ v l e. refl; free = λ v l e. e; computing = c } })),
+    ),
+  )
+  runs_under (suc k) m n i ready leads =
+      let t = leads.0 in
+      let x = leads.2 in
+      let p = leads.3 in
+      let kept = keep t leads.1 m p x i ready leads.4 in
+      let ih = runs_under k p n kept.0 kept.1.0 leads.5 in
+      let grows = attempt_grows t m p x leads.4 in
+      let more = ih.1.1 in (
+        ih.0,
+        (
+          ih.1.0,
+          omega (arith, grows, more),
+          (λ a done c.
+              let r = kept.1.1 a done c in
+              let j = ih.1.2 r.now (done_after m.next x done) r.computing in
+              record {
+                later = j.later;
+                same = λ y l. j.same y (omega (arith, l, grows)) ∙ after_old m.next x done y l;
+                improves = record {
+                  now = j.improves.now;
+                  better = λ v l. through (a v) (r.now v) (j.improves.now v) (r.better v l) (j.improves.better v (omega (arith, l, grows)));
+                  stays = λ v l e. j.improves.stays v (omega (arith, l, grows)) (r.free v l e) ∙ r.stays v l e;
+                  free = λ v l e. j.improves.free v (omega (arith, l, grows)) (r.free v l e);
+                  computing = j.improves.computing;
+                };
+              }),
+        ),
+      )
+
 pub mixed_runs_keep : MixedRunsKeep
-mixed_runs_keep ts keep zero m n ready leads = (
-  subst IsReady leads ready,
-  subst (λ (n : Module). m.next ≤ n.next) leads (omega arith),
-  (λ a done c. subst (λ n. ComputesThrough a done m n) leads (record { later = done; same = λ y l. refl; improves = record { now = a; better = λ v l. itself (a v); stays = λ v l e. refl; free = λ v l e. e; computing = c } })),
-)
-mixed_runs_keep ts keep (suc k) m n ready leads =
-    let t = leads.0 in
-    let x = leads.2 in
-    let p = leads.3 in
-    let kept = keep t leads.1 in
-    let ih = mixed_runs_keep ts keep k p n (attempt_ready t kept m p x ready leads.4) leads.5 in
-    let grows = attempt_grows t m p x leads.4 in
-    let more = ih.1 in (
-      ih.0,
-      omega (arith, grows, more),
-      (λ a done c.
-          let i = attempt_computing t kept m p x a done ready c leads.4 in
-          let j = ih.2 i.now (done_after m.next x done) i.computing in
-          record {
-            later = j.later;
-            same = λ y l. j.same y (omega (arith, l, grows)) ∙ after_old m.next x done y l;
-            improves = record {
-              now = j.improves.now;
-              better = λ v l. through (a v) (i.now v) (j.improves.now v) (i.better v l) (j.improves.better v (omega (arith, l, grows)));
-              stays = λ v l e. j.improves.stays v (omega (arith, l, grows)) (i.free v l e) ∙ i.stays v l e;
-              free = λ v l e. j.improves.free v (omega (arith, l, grows)) (i.free v l e);
-              computing = j.improves.computing;
-            };
-          }),
-    )
+mixed_runs_keep ts keep k m n ready leads = (runs_under (λ m. Unit {0}) ts (λ t i m n x u ready e. (tt, attempt_kept t (keep t i) m n x ready e)) k m n tt ready leads).1
 
 -- ---- rewriting by a list
 by_some : (ts : List Attempt) (m n : Module) (x : ℕ) → first_tried ts m x ≡ becomes n → (t : Attempt) × In t ts × (attempted t m x ≡ becomes n)
@@ -117,7 +123,7 @@ led_from ts (suc left) j k m n e i =
     (suc ih.0, (by.0, by.1, at.0, p, by.2, ih.1)))
     i
 
-led : (ts : List Attempt) (limit k : ℕ) (m n : Module) (e : End) → rewriting_of (by_attempts ts) limit m ≡ ended n k e → Led ts m n
+pub led : (ts : List Attempt) (limit k : ℕ) (m n : Module) (e : End) → rewriting_of (by_attempts ts) limit m ≡ ended n k e → Led ts m n
 unfolding rewriting_of
 led ts limit k m n e i = go (nat_le 1 limit && nat_le limit most_rewrites) i
   where

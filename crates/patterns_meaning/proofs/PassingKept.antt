@@ -16,6 +16,7 @@ use Rattle.ir_tree.specs.declared.value.Value.TheVariants.{Result}
 use Rattle.ir_tree.specs.Tree.{head}
 use Rattle.ir_tree.specs.Meaning.{Operation}
 use Rattle.ir_tree_laws.specs.Members.{In}
+use Rattle.ir_tree_laws.specs.Values.{has_value}
 use Rattle.ir_tree_laws.proofs.Listed.{all_each}
 use Rattle.ir_event.specs.Modules.{Module}
 use Rattle.op_registry.specs.Registry.{beside}
@@ -65,7 +66,7 @@ use Rattle.patterns_meaning.proofs.Olds.{AllAre, form_places}
 use Rattle.patterns_meaning.proofs.Rewritten.{AllPut}
 use Rattle.patterns_meaning.proofs.Settling.{typed_bits}
 use Rattle.patterns_meaning.proofs.Standing.{Stands, ValuesStand, standing_stands, stands_standing}
-use Rattle.patterns_meaning.proofs.StaysReady.{stays_ready}
+use Rattle.patterns_meaning.proofs.StaysReady.{stays_kinds, stays_ready}
 use Rattle.patterns_meaning.proofs.Steps.{run_grows}
 use Rattle.patterns_meaning.proofs.Trees.{each_found, found_fit, types_found, value_below}
 use Rattle.patterns_meaning.proofs.PassingMatched.{Here, Passes, each_mapped, found_here, giver_kinds, matched_all, numbers_of_bits, numbers_of_kinds, operands_known, starts}
@@ -480,6 +481,18 @@ module _ (accepted : OwnAreAccepted) (p : Shape) (passing : list_all piece_passe
         let at = all_at (kind_in m.tree) m.next None (map (λ k. Some k) ks) in
         stays_ready m n x r.front r.made r.value ready s.free r.module_is f (λ w l. all_agree (kind_in m.tree) m.next None (map (λ k. Some k) ks) w l)
         (all_bare f r.made ks are) (record { results = all_results f m.next r.made ks are at; take = all_take f m.next r.made ks are }) (all_risen f m.next r.made ks are)
+
+    -- the kinds of its values
+    pub passing_kinds : (v : Value) → has_value v n.tree ≡ true → kind_in n.tree v ≡ with_all (kind_in m.tree) m.next None (map (λ k. Some k) (map (λ w. kind_at (map kind_standing s.here.types) (new_type w)) p.new)) v
+    passing_kinds v e =
+        let r = s.applied in
+        let q = s.here in
+        let ks = map (λ w. kind_at (map kind_standing q.types) (new_type w)) p.new in
+        let f = with_all (kind_in m.tree) m.next None (map (λ k. Some k) ks) in
+        let are = are_made m p x passing proper ready r.made r.value r.plan q kinded in
+        let at = all_at (kind_in m.tree) m.next None (map (λ k. Some k) ks) in
+        stays_kinds m n x r.front r.made r.value ready s.free r.module_is f (λ w l. all_agree (kind_in m.tree) m.next None (map (λ k. Some k) ks) w l)
+        (all_bare f r.made ks are) (record { results = all_results f m.next r.made ks are at; take = all_take f m.next r.made ks are }) (all_risen f m.next r.made ks are) v e
 
     pub passing_computing : AlwaysKeeps (content_with (map kind_standing s.here.types) p) → (a : Assignment) (done : ℕ → Bool) → Computing a done m.tree → Improves a done m (done_after m.next x done) n.tree
     passing_computing keeps a done computing =

@@ -1,36 +1,45 @@
 -- The module of the sample is ready, and the pattern applies in it.
-use Rattle.std.proofs.Common.{◌≡◌, ℕ, zero, suc, refl, sym, subst, ◌<◌, [], ◌∷◌, true, true≢false, Some, None, slice_get, get_or, inl, arith}
+use Rattle.std.proofs.Common.{◌≡◌, ℕ, zero, suc, refl, sym, subst, ◌<◌, ◌≤◌, List, [], ◌∷◌, true, true≢false, Some, None, slice_get, get_or, inl, arith}
 use Rattle.std.proofs.lemmas.Option.{none-some, same_Some}
 use Rattle.std.proofs.lemmas.Map.Made.{IsDistinct-from_count}
 use Rattle.std.proofs.lemmas.Cmp.{nat_eq_equiv}
+use Rattle.ir_types.specs.declared.bits.BitsKind.{BitsKind}
+use Rattle.ir_types.specs.declared.bits.BitsKind.TheVariants as kind
 use Rattle.ir_types.specs.Terms.{TypeTerm}
 use Rattle.ir_types.specs.Words as words
 use Rattle.ir_types.specs.Words.{is_isolated}
 use Rattle.ir_tree.specs.declared.value.Value.{Value}
 use Rattle.ir_tree.specs.declared.value.Value.TheVariants.{Result}
 use Rattle.ir_tree.specs.WellFormed.{IsWellFormed}
+use Rattle.ir_tree_laws.specs.Values.{type_of_value}
 use Rattle.op_registry.specs.Registry as registry
 use Rattle.op_registry.specs.Rows as rows
 use Rattle.op_registry.specs.Properties as properties
+use Rattle.dialects_int.specs.Arithmetic.{left_shift_of, product_of}
 use Rattle.dialects_int.specs.Folds as folds
+use Rattle.dialects_int.specs.Folds.{kind_of}
 use Rattle.exhaustive.specs.Cases.{first_below}
 use Rattle.patterns_laws.specs.Words as named
+use Rattle.patterns_laws.proofs.KnownFolds.{given_some}
 use Rattle.patterns_base.specs.Looks as looks
 use Rattle.patterns_check.specs.Checks.{AlwaysKeeps}
+use Rattle.patterns_check.specs.Families.{AreWidths}
 use Rattle.patterns_check.specs.Outcomes.{log_of}
-use Rattle.patterns_book.specs.Fitting.{content_with}
+use Rattle.patterns_book.specs.Fitting.{content_at, content_with, fits, kinds_with}
 use Rattle.patterns_book.specs.Matching.{Standing}
 use Rattle.patterns_book.specs.Planning.{planned}
 use Rattle.patterns_book.specs.Samples.{times_power}
 use Rattle.patterns_own.specs.Own.{own_edits, own_rewrite}
-use Rattle.patterns_meaning.specs.Meaning.{IsOfType}
+use Rattle.patterns_meaning.specs.Meaning.{Each, EachBlock, IsOfType}
 use Rattle.patterns_meaning.specs.Better.{AreKinded}
 use Rattle.patterns_meaning.specs.Keeping.{Computing, IsReady}
 use Rattle.patterns_meaning.specs.Passing.{FoundAt, KeepsAt, is_kinded_at}
+use Rattle.patterns_meaning.specs.Narrow.{HoldsNarrow, IsNarrow, is_narrow}
 use Rattle.patterns_meaning.specs.Samples.{all_done, i2}
-use Rattle.patterns_meaning.specs.PassingSamples.{SampleIsDoubled, doubled, lost}
+use Rattle.patterns_meaning.specs.PassingSamples.{SampleIsDoubled, SampleIsNarrow, doubled, lost}
 use Rattle.patterns_meaning.proofs.PassingKept.{one_way}
 use Rattle.patterns_meaning.proofs.Sampled.{four, keeps_all}
+use Rattle.patterns_meaning.proofs.Trees.{ArgumentsAre, ResultsAre, typed_found}
 
 -- ---- it is well-formed, and of the kinds that are asked for
 below : (k d : ℕ) → k < 4 → get_or (0 ∷ 1 ∷ 2 ∷ 3 ∷ []) k d < 4
@@ -92,3 +101,72 @@ keeps_at at =
 pub sample_is_doubled : SampleIsDoubled
 unfolding planned log_of first_below own_edits own_rewrite looks.is_clean folds.fold_of folds.rule_of folds.rules words.operations words.is_inherent words.is_listed words.is_table words.is_isolated properties.is_allowed properties.is_of_kind properties.kind_of properties.kinds named.flagged registry.row_of rows.rows
 sample_is_doubled = (ready, computes, refl, keeps_at)
+
+-- ---- it is narrow
+there : (j k : BitsKind) → is_narrow 2 j ≡ true → Some j ≡ Some k → is_narrow 2 k ≡ true
+there j k n e = subst (λ k. is_narrow 2 k ≡ true) (same_Some j k e) n
+
+abbrev IsSmall : Value → TypeTerm → Type 0
+IsSmall v ty = (k : BitsKind) → kind_of ty ≡ Some k → is_narrow 2 k ≡ true
+
+one_small : (x k : ℕ) (ty : TypeTerm) → slice_get (i2 ∷ []) k ≡ Some ty → IsSmall (Result x k) ty
+one_small x zero ty e = subst (IsSmall (Result x 0)) (same_Some i2 ty e) (λ k h. there (kind.Int 2) k refl h)
+one_small x (suc k) ty e = absurd (none-some ty e)
+
+results_small : Each (ResultsAre IsSmall) doubled.tree
+results_small = ((λ k ty e. absurd (none-some ty e)), (((one_small 1, tt), ((one_small 2, tt), ((one_small 3, tt), tt))), tt))
+
+arguments_small : EachBlock (ArgumentsAre IsSmall) doubled.tree
+arguments_small = (((λ k ty e. absurd (none-some ty e)), (tt, (tt, (tt, tt)))), tt)
+
+narrow : IsNarrow 2 doubled
+narrow v k e = let g = given_some (type_of_value v doubled.tree) kind_of k e in typed_found IsSmall doubled.tree results_small arguments_small v g.0 g.1 k g.2
+
+-- the check, at one bit and at two
+two : (v : ℕ) → suc (suc v) < 2 → ⊥
+two v l = omega (arith, l)
+
+keeps_one : AlwaysKeeps (content_with (kind.Int 1 ∷ []) times_power)
+unfolding log_of first_below product_of left_shift_of
+keeps_one [] l = absurd l
+keeps_one (zero ∷ zero ∷ []) l = refl
+keeps_one (zero ∷ (suc zero) ∷ []) l = refl
+keeps_one (zero ∷ (suc (suc w)) ∷ []) l = absurd (two w l.1.0)
+keeps_one (zero ∷ []) l = absurd l.1
+keeps_one (zero ∷ w ∷ z ∷ vs) l = absurd l.1.1
+keeps_one ((suc zero) ∷ zero ∷ []) l = refl
+keeps_one ((suc zero) ∷ (suc zero) ∷ []) l = refl
+keeps_one ((suc zero) ∷ (suc (suc w)) ∷ []) l = absurd (two w l.1.0)
+keeps_one ((suc zero) ∷ []) l = absurd l.1
+keeps_one ((suc zero) ∷ w ∷ z ∷ vs) l = absurd l.1.1
+keeps_one ((suc (suc v)) ∷ vs) l = absurd (two v l.0)
+
+none_below : 1 ≤ 0 → ⊥
+none_below l = omega (arith, l)
+
+none_above : (w : ℕ) → suc (suc (suc w)) ≤ 2 → ⊥
+none_above w l = omega (arith, l)
+
+-- widths up to two are one and two
+by_width : (P : List ℕ → Type 0) → P (1 ∷ []) → P (2 ∷ []) → (ws : List ℕ) → AreWidths 1 2 ws → P ws
+by_width P one two [] l = absurd l
+by_width P one two (zero ∷ ws) l = absurd (none_below l.0)
+by_width P one two ((suc zero) ∷ []) l = one
+by_width P one two ((suc zero) ∷ w ∷ ws) l = absurd l.2
+by_width P one two ((suc (suc zero)) ∷ []) l = two
+by_width P one two ((suc (suc zero)) ∷ w ∷ ws) l = absurd l.2
+by_width P one two ((suc (suc (suc w))) ∷ ws) l = absurd (none_above w l.1)
+
+holds_narrow : HoldsNarrow 2 times_power
+unfolding log_of first_below product_of left_shift_of
+holds_narrow = record {
+  proper = record { formed = refl; makeable = refl; named = refl };
+  passing = refl;
+  settled = refl;
+  kinded = by_width (λ ws. fits (kinds_with ws times_power.kinds) times_power ≡ true → is_kinded_at (kinds_with ws times_power.kinds) times_power ≡ true) (λ e. refl) (λ e. refl);
+  some = omega arith;
+  holds = (by_width (λ ws. AlwaysKeeps (content_at times_power ws)) keeps_one keeps_all, (2 ∷ [], 3 ∷ 2 ∷ [], (omega arith, omega arith, tt), (omega arith, (omega arith, tt)), refl));
+}
+
+pub sample_is_narrow : SampleIsNarrow
+sample_is_narrow = (holds_narrow, narrow)

@@ -183,7 +183,7 @@ module _ (kinds : Value → Option BitsKind) (n x : ℕ) (v : Value) (made : Lis
       }
 
   module _ (a : Assignment) (done : ℕ → Bool) (same : kinds v ≡ kinds (Result x 0)) where
-    after_kinds : AreKinds kinds (rewritten front n made x v t)
+    pub after_kinds : AreKinds kinds (rewritten front n made x v t)
     after_kinds = record {
       results = given_each a a n x v done (ResultsAre (HasKind kinds)) (λ h p. p) (with_made front n made t) made_kinds.results;
       arguments = given_blocks a a n x v done (ArgumentsAre (HasKind kinds)) (with_made front n made t) made_kinds.arguments;

@@ -14,7 +14,7 @@ use Rattle.ir_tree.specs.Tree.{head}
 use Rattle.ir_tree.specs.WellFormed.{IsWellFormed}
 use Rattle.ir_tree.specs.Meaning.{Operation}
 use Rattle.ir_tree_laws.specs.Reasons.{with_id}
-use Rattle.ir_tree_laws.specs.Values.{type_of_value}
+use Rattle.ir_tree_laws.specs.Values.{has_value, type_of_value}
 use Rattle.ir_tree.specs.Places.{put}
 use Rattle.ir_event.specs.Modules.{Module}
 use Rattle.dialects_int.specs.Folds.{kind_of}
@@ -34,7 +34,7 @@ use Rattle.patterns_meaning.proofs.Applying.{all_edited_made}
 use Rattle.patterns_meaning.proofs.Dropping.{Keeps}
 use Rattle.patterns_meaning.proofs.EditsForm.{all_formed, made_plain, replaced_parts}
 use Rattle.patterns_meaning.proofs.Formed.{is_below, operands_stand}
-use Rattle.patterns_meaning.proofs.Readied.{NewKinds, Rises, after_kinded, all_rise, each_rises, kinds_found, made_kinds}
+use Rattle.patterns_meaning.proofs.Readied.{AreKinds, NewKinds, Rises, after_kinded, after_kinds, all_rise, each_rises, kinds_found, made_kinds}
 use Rattle.patterns_meaning.proofs.Rewritten.{AllBare, AllPut, all_put, given_each}
 use Rattle.patterns_meaning.proofs.Ruled.{Ruled, ruled}
 
@@ -72,6 +72,13 @@ module _ (m n : Module) (x : ℕ) (front : Place) (made : List Operation) (v : V
             (operands_stand is_isolated m.tree ready.formed.distinct ready.formed.formed.visible)
             (subst OperandsStand is (operands_stand is_isolated n.tree formed.distinct formed.formed.visible)));
       }
+
+  -- the kinds of its values
+  pub stays_kinds : (w : Value) → has_value w n.tree ≡ true → kind_in n.tree w ≡ kinds w
+  stays_kinds w h =
+      let is : n.tree ≡ rewritten front m.next made x v m.tree = ap (λ (m : Module). m.tree) (sym e) ∙ all_edited_made front made x v m in
+      kinds_found kinds n.tree
+      (subst (AreKinds kinds) (sym is) (after_kinds kinds m.next x v made m.tree front ready.formed.distinct (is_below m.next m.tree ready.formed.below) agree bare news (λ w. None) (λ y. true) same_kind)) w h
 
 -- ---- rules that give a value of before
 pub given_ready : (r : Rule) (m n : Module) (x : ℕ) (q : Ruled r m n x) (v : Value) → give (head q.here).id v ≡ q.edits → IsReady m → IsReady n

@@ -44,7 +44,7 @@ pub same_mapped : {X Y : Type 0} (f g : X → Y) (t : X → Bool) → ((x : X) �
 same_mapped f g t h [] e = refl
 same_mapped f g t h (x ∷ xs) e = let q = and_parts (t x) (list_all t xs) e in (λ i. h x q.0 i ∷ same_mapped f g t h xs q.1 i)
 
-same_tested : {X : Type 0} (f g t : X → Bool) → ((x : X) → t x ≡ true → f x ≡ g x) → (xs : List X) → list_all t xs ≡ true → list_all f xs ≡ list_all g xs
+pub same_tested : {X : Type 0} (f g t : X → Bool) → ((x : X) → t x ≡ true → f x ≡ g x) → (xs : List X) → list_all t xs ≡ true → list_all f xs ≡ list_all g xs
 same_tested f g t h [] e = refl
 same_tested f g t h (x ∷ xs) e = let q = and_parts (t x) (list_all t xs) e in (λ i. h x q.0 i && same_tested f g t h xs q.1 i)
 

@@ -10,6 +10,7 @@ pub mod Canonical
 pub mod Strict
 pub mod Passing
 pub mod MixedRuns
+pub mod Narrow
 pub mod StrictSamples
 pub mod PassingSamples
 pub mod Told

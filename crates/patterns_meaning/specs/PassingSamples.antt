@@ -13,6 +13,7 @@ use Rattle.patterns_meaning.specs.Meaning.{Assignment}
 use Rattle.patterns_meaning.specs.Applied.{IsProper}
 use Rattle.patterns_meaning.specs.Keeping.{Computing, IsReady}
 use Rattle.patterns_meaning.specs.Passing.{KeepsAt, is_passing}
+use Rattle.patterns_meaning.specs.Narrow.{HoldsNarrow, IsNarrow}
 use Rattle.patterns_meaning.specs.Samples.{all_done, i2, small, tree}
 use Rattle.patterns_meaning.specs.Strict.{is_strict}
 
@@ -50,3 +51,7 @@ abbrev pub SampleIsDoubled : Type 0
 SampleIsDoubled =
     IsReady doubled × Computing lost all_done doubled.tree × (own_rewrite times_power doubled 3 ≡ becomes shifted)
     × KeepsAt times_power doubled 3
+
+-- ---- the module is narrow, and a check up to two bits says of the pattern that it holds
+abbrev pub SampleIsNarrow : Type 0
+SampleIsNarrow = HoldsNarrow 2 times_power × IsNarrow 2 doubled

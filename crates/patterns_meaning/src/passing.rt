@@ -1,7 +1,8 @@
 //! Patterns of one's own that match no choices, and divide nothing, keep what a module computes where they keep what is
 //! there at the kinds found, whatever of it is poison.
+ghost use Rattle.patterns_meaning.specs.Narrow.{NarrowKeep, NarrowRewritingKeeps};
 ghost use Rattle.patterns_meaning.specs.Passing.{AppliedIsFound, CheckedPassingKeep, PassingKeep};
-ghost use Rattle.patterns_meaning.specs.PassingSamples.{SampleIsDoubled, SampleIsPassing};
+ghost use Rattle.patterns_meaning.specs.PassingSamples.{SampleIsDoubled, SampleIsNarrow, SampleIsPassing};
 
 use patterns_own::laws::no_edit_of_a_pattern_is_refused;
 
@@ -15,9 +16,19 @@ pub fn passing_patterns_keep_what_is_computed()
     no_edit_of_a_pattern_is_refused();
 }
 
+/// In modules whose integers have at most as many bits as a check tried, and that have no index, such patterns keep what is
+/// computed by their check alone: each at an operation, and so rewriting by a list of them, up to a limit.
+pub fn narrow_modules_are_kept()
+    ensures pattern { NarrowKeep }
+    ensures rewriting { NarrowRewritingKeeps }
+{
+    no_edit_of_a_pattern_is_refused();
+}
+
 /// There is such a pattern that isn't strict: a product by a power of two becomes a shift; and a ready module in which it
-/// applies, that computes with poison among its values.
+/// applies, that computes with poison among its values, and that is narrow.
 pub fn samples_are_passing()
     ensures pattern { SampleIsPassing }
     ensures ready { SampleIsDoubled }
+    ensures narrow { SampleIsNarrow }
 {}

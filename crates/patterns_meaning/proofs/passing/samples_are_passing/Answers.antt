@@ -1,5 +1,5 @@
 use Rattle.std.proofs.Common.{refl}
-use Rattle.patterns_meaning.proofs.PassingSampled.{sample_is_doubled}
+use Rattle.patterns_meaning.proofs.PassingSampled.{sample_is_doubled, sample_is_narrow}
 use Rattle.patterns_meaning.proofs.passing.samples_are_passing.Goals as goal
 
 pub returns-clause-pattern : goal.returns-clause-pattern
@@ -7,3 +7,6 @@ returns-clause-pattern c = (record { formed = refl; makeable = refl; named = ref
 
 pub returns-clause-ready : goal.returns-clause-ready
 returns-clause-ready c = sample_is_doubled
+
+pub returns-clause-narrow : goal.returns-clause-narrow
+returns-clause-narrow c = sample_is_narrow

@@ -1,0 +1,8 @@
+use Rattle.patterns_meaning.proofs.NarrowKept.{narrow_keep, narrow_rewriting_keeps}
+use Rattle.patterns_meaning.proofs.passing.narrow_modules_are_kept.Goals as goal
+
+pub returns-clause-pattern : goal.returns-clause-pattern
+returns-clause-pattern c = narrow_keep c.no_edit_of_a_pattern_is_refused.ensures
+
+pub returns-clause-rewriting : goal.returns-clause-rewriting
+returns-clause-rewriting c = narrow_rewriting_keeps c.no_edit_of_a_pattern_is_refused.ensures
