@@ -78,7 +78,7 @@ one_known (s ∷ rs) k r (inl i) = subst IsKnown (sym i) k.0
 one_known (s ∷ rs) k r (inr i) = one_known rs k.1 r i
 
 fine_cast_back : IsFine CastBack
-fine_cast_back t n front o = record { plain = λ es e. let g = cast_back_gives t n front o es e in subst AllPlain g.1 (tt, (tt, tt)) }
+fine_cast_back t n front o = record { plain = λ es e. let g = cast_back_gives t n front o es e in subst (AllPlain (head o)) g.1 (tt, (tt, tt)) }
 
 -- ---- what is kept through rewrites
 record Through (m n : Module) : Type 0 where
@@ -129,7 +129,7 @@ module _ (accepted : AreAccepted) (only : OnlyListed) where
   plain_after : (m p : Module) (x : ℕ) (r : Rule) → IsFine r → IsReady m → IsPlain m → rewrite_of r m x ≡ becomes p → IsPlain p
   plain_after m p x r fine ready plain e =
       let q = ruled accepted r m p x ready.formed ready.sorted e in
-      subst IsPlain q.module_is (all_plain q.edits m ((fine m.tree m.next q.front q.here).plain q.edits q.made) plain)
+      subst IsPlain q.module_is (all_plain (head q.here) q.edits m ((fine m.tree m.next q.front q.here).plain q.edits q.made) plain)
 
   back_step : (m p : Module) (x : ℕ) → IsReady m → IsPlain m → rewrite_of CastBack m x ≡ becomes p → IsStep m p x
   back_step m p x ready plain e =

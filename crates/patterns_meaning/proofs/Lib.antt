@@ -63,6 +63,7 @@ pub mod StrictKinded
 pub mod StrictLaws
 pub mod MixedRunning
 pub mod NarrowTypes
+pub mod NarrowRules
 pub mod NarrowKept
 pub mod StrictSampled
 pub mod PassingSampled

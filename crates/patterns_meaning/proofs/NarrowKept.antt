@@ -23,7 +23,9 @@ use Rattle.ir_event.specs.Modules.{Module}
 use Rattle.dialects_int.specs.Folds.{kind_of}
 use Rattle.patterns_laws.proofs.KnownFolds.{given_some, kind_back}
 use Rattle.patterns_base.specs.Looks.{is_clean}
+use Rattle.patterns_base.specs.declared.rule.Rule.{Rule}
 use Rattle.patterns_base.specs.Rewrites.{becomes}
+use Rattle.patterns_facts.specs.Accepted.{AreAccepted}
 use Rattle.patterns_check.specs.Checks.{AlwaysKeeps}
 use Rattle.patterns_check.specs.Families.{AreWidths}
 use Rattle.patterns_check.specs.Outcomes.{given}
@@ -41,11 +43,12 @@ use Rattle.patterns_makeable.specs.United.{first_same}
 use Rattle.patterns_makeable.specs.United as united
 use Rattle.patterns_matched.proofs.Found.{types_keep}
 use Rattle.patterns_own.specs.Own.{OwnAreAccepted}
-use Rattle.greedy.specs.Trial.{Attempt, OfOwn, attempted}
+use Rattle.greedy.specs.Trial.{Attempt, OfOwn, OfRule, attempted}
 use Rattle.patterns_meaning.specs.Better.{kind_in}
 use Rattle.patterns_meaning.specs.Keeping.{IsReady}
+use Rattle.patterns_meaning.specs.Runs.{KeptAreKept, kept_rules}
 use Rattle.patterns_meaning.specs.Passing.{KeptAt, is_kinded_at, new_is_defined, piece_passes}
-use Rattle.patterns_meaning.specs.Narrow.{HoldsNarrow, IsNarrow, NarrowKeep, NarrowRewritingKeeps, is_met, is_narrow, is_settled, is_settled_as, new_settled}
+use Rattle.patterns_meaning.specs.Narrow.{HoldsNarrow, IsNarrow, IsNarrowly, NarrowKeep, NarrowRewritingKeeps, is_met, is_narrow, is_settled, is_settled_as, new_settled}
 use Rattle.patterns_meaning.proofs.Forms.{kind_is}
 use Rattle.patterns_meaning.proofs.Going.{typed_at, typed_parts}
 use Rattle.patterns_meaning.proofs.MixedRunning.{own_of, runs_under, led}
@@ -53,6 +56,7 @@ use Rattle.patterns_meaning.proofs.Standing.{IsTyped, Stands, stands_standing}
 use Rattle.patterns_meaning.proofs.PassingMatched.{Here}
 use Rattle.patterns_meaning.proofs.PassingMade.{all_kinds}
 use Rattle.patterns_meaning.proofs.PassingKept.{passing_computing, passing_kinds, passing_ready, site_of}
+use Rattle.patterns_meaning.proofs.NarrowRules.{narrow_rules_keep}
 use Rattle.patterns_meaning.proofs.NarrowTypes.{all_parts, content_same, fits_same, kinded_same}
 
 -- ---- widths that are chosen for type variables: those of kinds that are narrow
@@ -223,17 +227,15 @@ narrow_keep accepted most p m n x h ready narrow e =
         go None i = absurd (none-some k i)
         go (Some ty) i = refl
 
-among_own : (ps : List Shape) (t : Attempt) → In t (map OfOwn ps) → (p : Shape) × (t ≡ OfOwn p) × In p ps
-among_own [] t i = absurd i
-among_own (p ∷ ps) t (inl e) = (p, e, inl refl)
-among_own (p ∷ ps) t (inr i) = let r = among_own ps t i in (r.0, r.1, inr r.2)
-
-pub narrow_rewriting_keeps : OwnAreAccepted → NarrowRewritingKeeps
-narrow_rewriting_keeps accepted most ps holds limit m n k e ready narrow i =
-    let l = led (map OfOwn ps) limit k m n e i in
-    runs_under (IsNarrow most) (map OfOwn ps) one l.0 m n narrow ready l.1
+pub narrow_rewriting_keeps : AreAccepted → KeptAreKept → OwnAreAccepted → NarrowRewritingKeeps
+narrow_rewriting_keeps rules kept accepted most some ts holds limit m n k e ready narrow i = let l = led ts limit k m n e i in runs_under (IsNarrow most) ts (λ t i. one t (holds t i)) l.0 m n narrow ready l.1
   where
-    one : (t : Attempt) → In t (map OfOwn ps) → (m n : Module) (x : ℕ) → IsNarrow most m → IsReady m → attempted t m x ≡ becomes n → IsNarrow most n × KeptAt m n x
-    one t i m n x narrow ready e =
-        let r = among_own ps t i in
-        narrow_keep accepted most r.0 m n x (holds r.0 r.2) ready narrow (own_of r.0 m n x (subst (λ t. attempted t m x ≡ becomes n) r.1 e))
+    one : (t : Attempt) → IsNarrowly most t → (m n : Module) (x : ℕ) → IsNarrow most m → IsReady m → attempted t m x ≡ becomes n → IsNarrow most n × KeptAt m n x
+    one (OfOwn p) h m n x narrow ready e = narrow_keep accepted most p m n x h ready narrow (own_of p m n x e)
+    one (OfRule r) i m n x narrow ready e =
+        let k = kept (r ∷ []) only r (inl refl) in
+        (narrow_rules_keep rules most some r i m n x ready narrow e, (k.0 m n x ready e, (λ a done c. k.1 m n x a done ready c e)))
+      where
+        only : (o : Rule) → In o (r ∷ []) → In o kept_rules
+        only o (inl e) = subst (λ o. In o kept_rules) (sym e) i
+        only o (inr n) = absurd n

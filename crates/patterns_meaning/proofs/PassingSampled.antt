@@ -3,7 +3,6 @@ use Rattle.std.proofs.Common.{◌≡◌, ℕ, zero, suc, refl, sym, subst, ◌<�
 use Rattle.std.proofs.lemmas.Option.{none-some, same_Some}
 use Rattle.std.proofs.lemmas.Map.Made.{IsDistinct-from_count}
 use Rattle.std.proofs.lemmas.Cmp.{nat_eq_equiv}
-use Rattle.ir_types.specs.declared.bits.BitsKind.{BitsKind}
 use Rattle.ir_types.specs.declared.bits.BitsKind.TheVariants as kind
 use Rattle.ir_types.specs.Terms.{TypeTerm}
 use Rattle.ir_types.specs.Words as words
@@ -11,16 +10,13 @@ use Rattle.ir_types.specs.Words.{is_isolated}
 use Rattle.ir_tree.specs.declared.value.Value.{Value}
 use Rattle.ir_tree.specs.declared.value.Value.TheVariants.{Result}
 use Rattle.ir_tree.specs.WellFormed.{IsWellFormed}
-use Rattle.ir_tree_laws.specs.Values.{type_of_value}
 use Rattle.op_registry.specs.Registry as registry
 use Rattle.op_registry.specs.Rows as rows
 use Rattle.op_registry.specs.Properties as properties
 use Rattle.dialects_int.specs.Arithmetic.{left_shift_of, product_of}
 use Rattle.dialects_int.specs.Folds as folds
-use Rattle.dialects_int.specs.Folds.{kind_of}
 use Rattle.exhaustive.specs.Cases.{first_below}
 use Rattle.patterns_laws.specs.Words as named
-use Rattle.patterns_laws.proofs.KnownFolds.{given_some}
 use Rattle.patterns_base.specs.Looks as looks
 use Rattle.patterns_check.specs.Checks.{AlwaysKeeps}
 use Rattle.patterns_check.specs.Families.{AreWidths}
@@ -30,16 +26,16 @@ use Rattle.patterns_book.specs.Matching.{Standing}
 use Rattle.patterns_book.specs.Planning.{planned}
 use Rattle.patterns_book.specs.Samples.{times_power}
 use Rattle.patterns_own.specs.Own.{own_edits, own_rewrite}
-use Rattle.patterns_meaning.specs.Meaning.{Each, EachBlock, IsOfType}
+use Rattle.patterns_meaning.specs.Meaning.{IsOfType}
 use Rattle.patterns_meaning.specs.Better.{AreKinded}
 use Rattle.patterns_meaning.specs.Keeping.{Computing, IsReady}
 use Rattle.patterns_meaning.specs.Passing.{FoundAt, KeepsAt, is_kinded_at}
 use Rattle.patterns_meaning.specs.Narrow.{HoldsNarrow, IsNarrow, is_narrow}
 use Rattle.patterns_meaning.specs.Samples.{all_done, i2}
 use Rattle.patterns_meaning.specs.PassingSamples.{SampleIsDoubled, SampleIsNarrow, doubled, lost}
+use Rattle.patterns_meaning.proofs.NarrowRules.{AllSmall, alone_small, narrow_of}
 use Rattle.patterns_meaning.proofs.PassingKept.{one_way}
 use Rattle.patterns_meaning.proofs.Sampled.{four, keeps_all}
-use Rattle.patterns_meaning.proofs.Trees.{ArgumentsAre, ResultsAre, typed_found}
 
 -- ---- it is well-formed, and of the kinds that are asked for
 below : (k d : ℕ) → k < 4 → get_or (0 ∷ 1 ∷ 2 ∷ 3 ∷ []) k d < 4
@@ -103,24 +99,13 @@ unfolding planned log_of first_below own_edits own_rewrite looks.is_clean folds.
 sample_is_doubled = (ready, computes, refl, keeps_at)
 
 -- ---- it is narrow
-there : (j k : BitsKind) → is_narrow 2 j ≡ true → Some j ≡ Some k → is_narrow 2 k ≡ true
-there j k n e = subst (λ k. is_narrow 2 k ≡ true) (same_Some j k e) n
-
-abbrev IsSmall : Value → TypeTerm → Type 0
-IsSmall v ty = (k : BitsKind) → kind_of ty ≡ Some k → is_narrow 2 k ≡ true
-
-one_small : (x k : ℕ) (ty : TypeTerm) → slice_get (i2 ∷ []) k ≡ Some ty → IsSmall (Result x k) ty
-one_small x zero ty e = subst (IsSmall (Result x 0)) (same_Some i2 ty e) (λ k h. there (kind.Int 2) k refl h)
-one_small x (suc k) ty e = absurd (none-some ty e)
-
-results_small : Each (ResultsAre IsSmall) doubled.tree
-results_small = ((λ k ty e. absurd (none-some ty e)), (((one_small 1, tt), ((one_small 2, tt), ((one_small 3, tt), tt))), tt))
-
-arguments_small : EachBlock (ArgumentsAre IsSmall) doubled.tree
-arguments_small = (((λ k ty e. absurd (none-some ty e)), (tt, (tt, (tt, tt)))), tt)
+small : AllSmall 2 (i2 ∷ [])
+small = alone_small 2 i2 (λ k e. subst (λ k. is_narrow 2 k ≡ true) (same_Some (kind.Int 2) k e) refl)
 
 narrow : IsNarrow 2 doubled
-narrow v k e = let g = given_some (type_of_value v doubled.tree) kind_of k e in typed_found IsSmall doubled.tree results_small arguments_small v g.0 g.1 k g.2
+narrow =
+    narrow_of 2 doubled
+    (record { results = ((λ k ty e. absurd (none-some ty e)), (((small, tt), ((small, tt), ((small, tt), tt))), tt)); arguments = (((λ k ty e. absurd (none-some ty e)), (tt, (tt, (tt, tt)))), tt) })
 
 -- the check, at one bit and at two
 two : (v : ℕ) → suc (suc v) < 2 → ⊥

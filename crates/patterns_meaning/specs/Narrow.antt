@@ -1,6 +1,6 @@
 -- Modules whose arithmetic is narrow: each type of a value that has a kind is an integer of at most as many bits as a
--- check tried. In these, patterns that pass poison on keep what is computed by their check alone, and so do runs of them:
--- nothing has to be asked at an operation.
+-- check tried. In these, patterns that pass poison on keep what is computed by their check alone, and so do runs of them
+-- and of rules: nothing has to be asked at an operation.
 use Rattle.std.specs.Prelude.{◌≡◌, ◌≤◌, ℕ, List, map, eqb, nat_le, Bool, true, false, ◌&&◌, ◌||◌, Some}
 use Rattle.std.specs.List.{list_all, list_any}
 use Rattle.ir_types.specs.declared.bits.BitsKind.{BitsKind}
@@ -8,7 +8,8 @@ use Rattle.ir_types.specs.declared.bits.BitsKind.TheVariants as kind
 use Rattle.ir_tree.specs.declared.value.Value.{Value}
 use Rattle.ir_tree_laws.specs.Members.{In}
 use Rattle.ir_event.specs.Modules.{Module}
-use Rattle.patterns_base.specs.Rewrites.{becomes}
+use Rattle.patterns_base.specs.declared.rule.Rule.{Rule}
+use Rattle.patterns_base.specs.Rewrites.{becomes, rewrite_of}
 use Rattle.patterns_base.specs.Canonicalization.{End, ended}
 use Rattle.patterns_check.specs.declared.verdict.Verdict.TheVariants as verdict
 use Rattle.patterns_check.specs.Families.{AreWidths, IsVerdict}
@@ -29,10 +30,11 @@ use Rattle.patterns_makeable.specs.United.{first_same}
 use Rattle.patterns_makeable.specs.United as united
 use Rattle.patterns_own.specs.Own.{own_rewrite}
 use Rattle.greedy.specs.Rewriting.{rewriting_of}
-use Rattle.greedy.specs.Trial.{OfOwn, by_attempts}
+use Rattle.greedy.specs.Trial.{Attempt, OfOwn, OfRule, by_attempts}
 use Rattle.patterns_meaning.specs.Better.{kind_in}
 use Rattle.patterns_meaning.specs.Applied.{IsProper}
 use Rattle.patterns_meaning.specs.Keeping.{IsReady}
+use Rattle.patterns_meaning.specs.Runs.{kept_rules}
 use Rattle.patterns_meaning.specs.MixedRuns.{KeptThrough}
 use Rattle.patterns_meaning.specs.Passing.{KeptAt, is_kinded_at, is_passing}
 
@@ -107,9 +109,21 @@ NarrowKeep =
     (most : ℕ) (p : Shape) (m n : Module) (x : ℕ) → HoldsNarrow most p → IsReady m → IsNarrow most m
     → own_rewrite p m x ≡ becomes n → IsNarrow most n × KeptAt m n x
 
--- so does rewriting by a list of them, up to a limit, whether none applies any more or the limit was reached
+-- so do the rules that are listed
+abbrev pub NarrowRulesKeep : Type 0
+NarrowRulesKeep =
+    (most : ℕ) → 1 ≤ most → (r : Rule) → In r kept_rules → (m n : Module) (x : ℕ) → IsReady m → IsNarrow most m
+    → rewrite_of r m x ≡ becomes n → IsNarrow most n
+
+-- such a rule, or such a pattern
+abbrev pub IsNarrowly : ℕ → Attempt → Type 0
+IsNarrowly most (OfRule r) = In r kept_rules
+IsNarrowly most (OfOwn p) = HoldsNarrow most p
+
+-- rewriting by a list of them keeps narrow modules narrow, and what they compute: up to a limit, whether none applies any
+-- more or the limit was reached
 abbrev pub NarrowRewritingKeeps : Type 0
 NarrowRewritingKeeps =
-    (most : ℕ) (ps : List Shape) → ((p : Shape) → In p ps → HoldsNarrow most p)
+    (most : ℕ) → 1 ≤ most → (ts : List Attempt) → ((t : Attempt) → In t ts → IsNarrowly most t)
     → (limit : ℕ) (m n : Module) (k : ℕ) (e : End) → IsReady m → IsNarrow most m
-    → rewriting_of (by_attempts (map OfOwn ps)) limit m ≡ ended n k e → IsNarrow most n × KeptThrough m n
+    → rewriting_of (by_attempts ts) limit m ≡ ended n k e → IsNarrow most n × KeptThrough m n

@@ -1,9 +1,11 @@
 //! Patterns of one's own that match no choices, and divide nothing, keep what a module computes where they keep what is
 //! there at the kinds found, whatever of it is poison.
-ghost use Rattle.patterns_meaning.specs.Narrow.{NarrowKeep, NarrowRewritingKeeps};
+ghost use Rattle.patterns_meaning.specs.Narrow.{NarrowKeep, NarrowRewritingKeeps, NarrowRulesKeep};
 ghost use Rattle.patterns_meaning.specs.Passing.{AppliedIsFound, CheckedPassingKeep, PassingKeep};
 ghost use Rattle.patterns_meaning.specs.PassingSamples.{SampleIsDoubled, SampleIsNarrow, SampleIsPassing};
 
+use crate::kept::listed_rules_keep_what_is_computed;
+use patterns_facts::laws::no_edit_is_refused;
 use patterns_own::laws::no_edit_of_a_pattern_is_refused;
 
 /// A pattern that matches no choices and makes no quotients and remainders keeps what a ready module computes where it
@@ -17,12 +19,16 @@ pub fn passing_patterns_keep_what_is_computed()
 }
 
 /// In modules whose integers have at most as many bits as a check tried, and that have no index, such patterns keep what is
-/// computed by their check alone: each at an operation, and so rewriting by a list of them, up to a limit.
+/// computed by their check alone: each at an operation, and so rewriting by a list of them and of the rules that are
+/// listed, up to a limit.
 pub fn narrow_modules_are_kept()
     ensures pattern { NarrowKeep }
+    ensures rules { NarrowRulesKeep }
     ensures rewriting { NarrowRewritingKeeps }
 {
+    no_edit_is_refused();
     no_edit_of_a_pattern_is_refused();
+    listed_rules_keep_what_is_computed();
 }
 
 /// There is such a pattern that isn't strict: a product by a power of two becomes a shift; and a ready module in which it

@@ -1,8 +1,12 @@
 use Rattle.patterns_meaning.proofs.NarrowKept.{narrow_keep, narrow_rewriting_keeps}
+use Rattle.patterns_meaning.proofs.NarrowRules.{narrow_rules_keep}
 use Rattle.patterns_meaning.proofs.passing.narrow_modules_are_kept.Goals as goal
 
 pub returns-clause-pattern : goal.returns-clause-pattern
 returns-clause-pattern c = narrow_keep c.no_edit_of_a_pattern_is_refused.ensures
 
+pub returns-clause-rules : goal.returns-clause-rules
+returns-clause-rules c = narrow_rules_keep c.no_edit_is_refused.ensures
+
 pub returns-clause-rewriting : goal.returns-clause-rewriting
-returns-clause-rewriting c = narrow_rewriting_keeps c.no_edit_of_a_pattern_is_refused.ensures
+returns-clause-rewriting c = narrow_rewriting_keeps c.no_edit_is_refused.ensures c.listed_rules_keep_what_is_computed.ensures c.no_edit_of_a_pattern_is_refused.ensures
