@@ -62,6 +62,7 @@ pub mod PassingKept
 pub mod StrictKinded
 pub mod StrictLaws
 pub mod MixedRunning
+pub mod ByForm
 pub mod NarrowTypes
 pub mod NarrowRules
 pub mod NarrowKept

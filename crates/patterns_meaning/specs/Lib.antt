@@ -11,6 +11,7 @@ pub mod Strict
 pub mod Passing
 pub mod MixedRuns
 pub mod Narrow
+pub mod ByForm
 pub mod StrictSamples
 pub mod PassingSamples
 pub mod Told

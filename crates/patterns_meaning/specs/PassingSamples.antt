@@ -1,25 +1,58 @@
--- A pattern of which the laws speak, and that isn't strict: a product by a power of two becomes a shift; and a module in
--- which it applies, where the value is poison.
+-- Patterns of which the laws speak, and that aren't strict: a product by a power of two becomes a shift, and a cut of a sum
+-- a sum of cuts; and a module in which the first applies, where the value is poison.
 use Rattle.std.specs.Prelude.{◌≡◌, zero, suc, [], ◌∷◌, codes, false, true, Some, None}
 use Rattle.ir_types.specs.declared.bits.BitsKind.TheVariants as kind
 use Rattle.ir_types.specs.Terms.{IntegerOf}
 use Rattle.ir_tree.specs.declared.value.Value.TheVariants.{Arg, Result}
 use Rattle.ir_tree.specs.Tree.{block, next, no_ops, no_regions, op, region}
 use Rattle.ir_event.specs.Modules.{Module}
+use Rattle.dialects_int.specs.declared.operations.Arithmetic.TheVariants as way
+use Rattle.dialects_int.specs.declared.operations.Cast.TheVariants as cast
 use Rattle.patterns_base.specs.Rewrites.{becomes}
+use Rattle.patterns_book.specs.declared.pattern.Asked.TheVariants as asked
+use Rattle.patterns_book.specs.declared.pattern.Form.TheVariants as form
+use Rattle.patterns_book.specs.declared.pattern.Kind.TheVariants as ty
+use Rattle.patterns_book.specs.declared.pattern.New.TheVariants as new
 use Rattle.patterns_book.specs.Samples.{times_power}
+use Rattle.patterns_book.specs.Shapes.{Shape}
 use Rattle.patterns_own.specs.Own.{own_rewrite}
 use Rattle.patterns_meaning.specs.Meaning.{Assignment}
 use Rattle.patterns_meaning.specs.Applied.{IsProper}
+use Rattle.patterns_meaning.specs.ByForm.{is_kinded_by_form}
 use Rattle.patterns_meaning.specs.Keeping.{Computing, IsReady}
 use Rattle.patterns_meaning.specs.Passing.{KeepsAt, is_passing}
 use Rattle.patterns_meaning.specs.Narrow.{HoldsNarrow, IsNarrow}
 use Rattle.patterns_meaning.specs.Samples.{all_done, i2, small, tree}
 use Rattle.patterns_meaning.specs.Strict.{is_strict}
 
--- it matches a product, and makes a constant and a shift, which isn't known for each two values
-abbrev pub SampleIsPassing : Type 0
-SampleIsPassing = IsProper times_power × (is_passing times_power ≡ true) × (is_strict times_power ≡ false)
+-- a cut of a sum is the sum of the cuts: at places 0 and 1 are the values, at 2 their sum, at 3 what it is cut to; at 4 and
+-- 5 are the cuts, at 6 their sum
+abbrev pub cut_sum : Shape
+cut_sum =
+    record {
+      types = 2;
+      kinds = ty.Variable 0 ∷ ty.Variable 1 ∷ [];
+      values = 0 ∷ 0 ∷ [];
+      constants = [];
+      further = [];
+      asked = asked.Narrower 1 0 ∷ [];
+      given = [];
+      old = record { form = form.Pair way.Add 0 1; bare = false; ty = 0 } ∷ record { form = form.Resize cast.Truncate 2; bare = false; ty = 1 } ∷ [];
+      root = 3;
+      new =
+          new.Operation (record { form = form.Resize cast.Truncate 0; bare = false; ty = 1 })
+          ∷ new.Operation (record { form = form.Resize cast.Truncate 1; bare = false; ty = 1 })
+          ∷ new.Operation (record { form = form.Pair way.Add 4 5; bare = false; ty = 1 }) ∷ [];
+      result = 6;
+    }
+
+-- such a pattern that isn't strict, and that makes what takes its operands at all widths, by its form
+abbrev pub IsSample : Shape → Type 0
+IsSample p = IsProper p × (is_passing p ≡ true) × (is_strict p ≡ false) × (is_kinded_by_form p ≡ true)
+
+-- a product that becomes a shift, which isn't known for each two values; and casts, of two types
+abbrev pub SamplesArePassing : Type 0
+SamplesArePassing = IsSample times_power × IsSample cut_sum
 
 -- ---- a module: some value, the constant 2, and their product
 abbrev pub doubled : Module

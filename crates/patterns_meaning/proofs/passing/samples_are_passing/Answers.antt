@@ -2,8 +2,8 @@ use Rattle.std.proofs.Common.{refl}
 use Rattle.patterns_meaning.proofs.PassingSampled.{sample_is_doubled, sample_is_narrow}
 use Rattle.patterns_meaning.proofs.passing.samples_are_passing.Goals as goal
 
-pub returns-clause-pattern : goal.returns-clause-pattern
-returns-clause-pattern c = (record { formed = refl; makeable = refl; named = refl }, refl, refl)
+pub returns-clause-patterns : goal.returns-clause-patterns
+returns-clause-patterns c = ((record { formed = refl; makeable = refl; named = refl }, refl, refl, refl), (record { formed = refl; makeable = refl; named = refl }, refl, refl, refl))
 
 pub returns-clause-ready : goal.returns-clause-ready
 returns-clause-ready c = sample_is_doubled
