@@ -19,9 +19,9 @@ pub fn passing_patterns_keep_what_is_computed()
     no_edit_of_a_pattern_is_refused();
 }
 
-/// In modules whose integers have at most as many bits as a check tried, and that have no index, such patterns keep what
-/// is computed by their check alone: each at an operation, and so rewriting by a list of them and of the rules that are
-/// listed, up to a limit.
+/// In modules whose integers have at most as many bits as a check tried, and that have no index, such patterns keep
+/// what is computed by their check alone: each at an operation, and so rewriting by a list of them and of the rules
+/// that are listed, up to a limit.
 pub fn narrow_modules_are_kept()
     ensures pattern { NarrowKeep }
     ensures rules { NarrowRulesKeep }
@@ -32,14 +32,14 @@ pub fn narrow_modules_are_kept()
     listed_rules_keep_what_is_computed();
 }
 
-/// What a pattern makes takes operands of the kinds that it asks for, at all widths at which it may be applied, where it
-/// does so by its form.
+/// What a pattern makes takes operands of the kinds that it asks for, at all widths at which it may be applied, where
+/// it does so by its form.
 pub fn patterns_are_kinded_by_form()
     ensures { KindedByForm }
 {}
 
 /// There are such patterns that aren't strict: a product by a power of two becomes a shift, and a cut of a sum a sum of
-/// cuts; and a ready module in which the first applies, that computes with poison among its values, and is narrow.
+/// cuts; and a ready module in which the first applies, that computes with poison among its values and is narrow.
 pub fn samples_are_passing()
     ensures patterns { SamplesArePassing }
     ensures ready { SampleIsDoubled }
