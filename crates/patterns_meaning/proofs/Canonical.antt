@@ -1,11 +1,9 @@
 -- Canonicalization of modules without unrealized casts, and without loops and choices of scf, keeps what they compute.
-use Rattle.std.proofs.Common.{◌≡◌, ℕ, zero, suc, ◌+◌, ◌≤◌, refl, ap, sym, ◌∙◌, subst, List, [], ◌∷◌, Bool, true, false, true≢false, ◌&&◌, ◌||◌, not, Some, ◌⊎◌, inl, inr, slice_get, arith}
-use Rattle.std.specs.Prelude.{codes, nat_le, if◌then◌else◌}
+use Rattle.std.proofs.Common.{◌≡◌, ℕ, zero, suc, refl, ap, sym, ◌∙◌, subst, List, [], ◌∷◌, Bool, true, false, true≢false, ◌&&◌, ◌||◌, not, Some, ◌⊎◌, inl, inr, slice_get}
+use Rattle.std.specs.Prelude.{codes}
 use Rattle.std.specs.List.{list_any}
 use Rattle.std.proofs.lemmas.Option.{none-some, same_Some}
-use Rattle.ir_types.specs.declared.refusal.Refusal.TheVariants.{BadLimit}
 use Rattle.ir_tree.specs.Tree.{head}
-use Rattle.ir_tree.specs.Ids.{ids}
 use Rattle.ir_tree_laws.specs.Members.{In}
 use Rattle.ir_event.specs.Modules.{Module}
 use Rattle.patterns_laws.specs.Keeps.{Each as EachOf}
@@ -19,26 +17,23 @@ use Rattle.patterns_base.specs.declared.rule.Rule.TheVariants.{DropZero, EraseDe
 use Rattle.patterns_base.specs.declared.rule.Rule.TheVariants.{FoldToConstant, KeepItself, MirrorComparison}
 use Rattle.patterns_base.specs.declared.rule.Rule.TheVariants.{OpenBranch, OpenLoop, RegroupConstants}
 use Rattle.patterns_base.specs.declared.rule.Rule.TheVariants.{StopLoop, SwapConstant, ZeroRemainder}
-use Rattle.patterns_base.specs.Canonicalization.{Canonical, End, converged, end_of, ended, go_on, greedy_rules, most_rewrites, stopped}
+use Rattle.patterns_base.specs.Canonicalization.{greedy_rules}
 use Rattle.patterns_base.specs.RuleNames.{all_rules}
-use Rattle.patterns_base.specs.Rewrites.{Rewrite, becomes, none, refused, rewrite_of}
+use Rattle.patterns_base.specs.Rewrites.{becomes, none, rewrite_of}
 use Rattle.patterns_base.specs.Rules.{OnlyListed, has_rule}
 use Rattle.patterns_facts.specs.Accepted.{AreAccepted}
-use Rattle.greedy.specs.Rewriting.{IsOfItsRules, next_by, rewriting_of, rewritten_from}
-use Rattle.greedy.specs.Trial.{by_rules}
-use Rattle.patterns_meaning.specs.Meaning.{Assignment}
+use Rattle.greedy.specs.Rewriting.{IsOfItsRules}
 use Rattle.patterns_meaning.specs.Canonical.{CanonicalizationKeeps, IsPlain, is_plain, opening_rules}
-use Rattle.patterns_meaning.specs.Keeping.{Computing, Improves, IsReady, done_after}
-use Rattle.patterns_meaning.specs.Runs.{ComputesThrough, kept_rules}
+use Rattle.patterns_meaning.specs.Keeping.{IsReady}
+use Rattle.patterns_meaning.specs.Runs.{kept_rules}
 use Rattle.patterns_meaning.proofs.AllKept.{all_kept}
 use Rattle.patterns_meaning.proofs.CastingBack.{cast_back_gives, cast_back_ready, casts_back}
-use Rattle.patterns_meaning.proofs.Giving.{after_old}
-use Rattle.patterns_meaning.proofs.Listed.{at_some, by_some, ended_parts, stopped_never}
-use Rattle.patterns_meaning.proofs.Monotone.{itself, through}
+use Rattle.patterns_meaning.proofs.Listed.{led}
 use Rattle.patterns_meaning.proofs.PlainRules.{AllPlain, IsFine, all_plain, fine_add_negative, fine_cancel_itself, fine_choose_known, fine_choose_opposite, fine_choose_same, fine_choose_truth, fine_compare_itself, fine_compare_zero, fine_cut_cast, fine_drop_all_ones, fine_drop_one, fine_drop_zero, fine_erase_dead, fine_extend_extension, fine_fold_to_constant, fine_keep_itself, fine_mirror_comparison, fine_regroup_constants, fine_swap_constant, fine_zero_remainder}
 use Rattle.patterns_meaning.proofs.Ruled.{ruled}
-use Rattle.patterns_meaning.proofs.Running.{rewrite_grows}
+use Rattle.patterns_meaning.proofs.Running.{rules_under}
 use Rattle.patterns_meaning.proofs.Trees.{each_found}
+use Rattle.patterns_meaning.specs.Passing.{KeptAt}
 
 -- ---- the rules of canonicalization: each is kept, or there is none at operations of plain names
 at_place : (k : ℕ) (rs : List Rule) (r : Rule) → slice_get rs k ≡ Some r → In r rs
@@ -81,49 +76,10 @@ fine_cast_back : IsFine CastBack
 fine_cast_back t n front o = record { plain = λ es e. let g = cast_back_gives t n front o es e in subst (AllPlain (head o)) g.1 (tt, (tt, tt)) }
 
 -- ---- what is kept through rewrites
-record Through (m n : Module) : Type 0 where
-  pub ready : IsReady n
-  pub grows : m.next ≤ n.next
-  pub computes : (a : Assignment) (done : ℕ → Bool) → Computing a done m.tree → ComputesThrough a done m n
-
-abbrev IsKeptAt : ℕ → Module → Module → Type 0
-IsKeptAt x m p = (a : Assignment) (done : ℕ → Bool) → Computing a done m.tree → Improves a done m (done_after m.next x done) p.tree
-
-none_yet : (m n : Module) → IsReady m → m ≡ n → Through m n
-none_yet m n ready same = record {
-  ready = subst IsReady same ready;
-  grows = subst (λ (n : Module). m.next ≤ n.next) same (omega arith);
-  computes = λ a done c. subst (λ n. ComputesThrough a done m n) same (record { later = done; same = λ y l. refl; improves = record { now = a; better = λ v l. itself (a v); stays = λ v l e. refl; free = λ v l e. e; computing = c } });
-}
-
-one_more : (m p n : Module) (x : ℕ) → m.next ≤ p.next → IsKeptAt x m p → Through p n → Through m n
-one_more m p n x grows kept t =
-    let more = t.grows in
-    record {
-      ready = t.ready;
-      grows = omega (arith, grows, more);
-      computes = λ a done c.
-          let i = kept a done c in
-          let j = t.computes i.now (done_after m.next x done) i.computing in
-          record {
-            later = j.later;
-            same = λ y l. j.same y (omega (arith, l, grows)) ∙ after_old m.next x done y l;
-            improves = record {
-              now = j.improves.now;
-              better = λ v l. through (a v) (i.now v) (j.improves.now v) (i.better v l) (j.improves.better v (omega (arith, l, grows)));
-              stays = λ v l e. j.improves.stays v (omega (arith, l, grows)) (i.free v l e) ∙ i.stays v l e;
-              free = λ v l e. j.improves.free v (omega (arith, l, grows)) (i.free v l e);
-              computing = j.improves.computing;
-            };
-          };
-    }
-
 -- ---- runs of them
 module _ (accepted : AreAccepted) (only : OnlyListed) where
-  record IsStep (m p : Module) (x : ℕ) : Type 0 where
-    pub ready : IsReady p
-    pub kept : IsKeptAt x m p
-    pub plain : IsPlain p
+  abbrev IsStep : Module → Module → ℕ → Type 0
+  IsStep m p x = IsPlain p × KeptAt m p x
 
   -- by a rule that makes operations of plain names alone
   plain_after : (m p : Module) (x : ℕ) (r : Rule) → IsFine r → IsReady m → IsPlain m → rewrite_of r m x ≡ becomes p → IsPlain p
@@ -134,12 +90,10 @@ module _ (accepted : AreAccepted) (only : OnlyListed) where
   back_step : (m p : Module) (x : ℕ) → IsReady m → IsPlain m → rewrite_of CastBack m x ≡ becomes p → IsStep m p x
   back_step m p x ready plain e =
       let q = ruled accepted CastBack m p x ready.formed ready.sorted e in
-      let name = (each_found (λ h. is_plain h.name ≡ true) x m.tree plain q.here q.found).0 in
-      record {
-        ready = cast_back_ready accepted m p x ready e;
-        kept = λ a done c. casts_back accepted m p x q.here a done ready c q.found (no_unrealized (head q.here).name name) e;
-        plain = plain_after m p x CastBack fine_cast_back ready plain e;
-      }
+      let name = (each_found (λ h. is_plain h.name ≡ true) x m.tree plain q.here q.found).0 in (
+        plain_after m p x CastBack fine_cast_back ready plain e,
+        (cast_back_ready accepted m p x ready e, (λ a done c. casts_back accepted m p x q.here a done ready c q.found (no_unrealized (head q.here).name name) e)),
+      )
 
   one_step : (m p : Module) (x : ℕ) (r : Rule) → In r greedy_rules → IsReady m → IsPlain m → rewrite_of r m x ≡ becomes p → IsStep m p x
   one_step m p x r i ready plain e = go (one_known greedy_rules all_known r i)
@@ -147,45 +101,15 @@ module _ (accepted : AreAccepted) (only : OnlyListed) where
       go : IsKnown r → IsStep m p x
       go (inl k) =
           let keeps = all_kept accepted kept_rules (λ r i. i) r k.0 in
-          record { ready = keeps.0 m p x ready e; kept = λ a done c. keeps.1 m p x a done ready c e; plain = plain_after m p x r k.1 ready plain e }
+          (plain_after m p x r k.1 ready plain e, (keeps.0 m p x ready e, (λ a done c. keeps.1 m p x a done ready c e)))
       go (inr (inl same)) = back_step m p x ready plain (ap (λ r. rewrite_of r m x) (sym same) ∙ e)
       go (inr (inr lacks)) =
           let q = ruled accepted r m p x ready.formed ready.sorted e in
           let name = (each_found (λ h. is_plain h.name ≡ true) x m.tree plain q.here q.found).0 in
           absurd (none-some q.edits (sym (only r m.tree m.next q.front q.here (lacks (head q.here).name name)) ∙ q.made))
 
-  record LedPlain (m n : Module) : Type 0 where
-    pub kept : Through m n
-    pub plain : IsPlain n
-
-  stays : (m n : Module) (j k : ℕ) (d e : End) → IsReady m → IsPlain m → ended m j d ≡ ended n k e → LedPlain m n
-  stays m n j k d e ready plain i = let same = ended_parts m n j k d e i in record { kept = none_yet m n ready same; plain = subst IsPlain same plain }
-
-  goes_on : (m n : Module) (j k : ℕ) (e : End) (w : Rewrite) (more : Module → Canonical) → IsReady m → IsPlain m → ((p : Module) → w ≡ becomes p → more p ≡ ended n k e → LedPlain m n) → go_on w m j more ≡ ended n k e → LedPlain m n
-  goes_on m n j k e none more ready plain f i = stays m n j k converged e ready plain i
-  goes_on m n j k e (refused r) more ready plain f i = stopped_never r n k e i
-  goes_on m n j k e (becomes p) more ready plain f i = f p refl i
-
-  led_from : (left j k : ℕ) (m n : Module) (e : End) → IsReady m → IsPlain m → rewritten_from (by_rules greedy_rules) left j m ≡ ended n k e → LedPlain m n
-  unfolding rewritten_from
-  led_from zero j k m n e ready plain i = stays m n j k (end_of (next_by (by_rules greedy_rules) m)) e ready plain i
-  led_from (suc left) j k m n e ready plain i =
-      goes_on m n j k e (next_by (by_rules greedy_rules) m) (rewritten_from (by_rules greedy_rules) left (j + 1)) ready plain
-      (λ p w h.
-      let place = at_some greedy_rules (ids m.tree) m p w in
-      let by = by_some greedy_rules m p place.0 place.1 in
-      let s = one_step m p place.0 by.0 by.1 ready plain by.2 in
-      let ih = led_from left (j + 1) k p n e s.ready s.plain h in
-      record { kept = one_more m p n place.0 (rewrite_grows by.0 m p place.0 by.2) s.kept ih.kept; plain = ih.plain })
-      i
-
-  led : (limit k : ℕ) (m n : Module) (e : End) → IsReady m → IsPlain m → rewriting_of (by_rules greedy_rules) limit m ≡ ended n k e → LedPlain m n
-  unfolding rewriting_of
-  led limit k m n e ready plain i = go (nat_le 1 limit && nat_le limit most_rewrites) i
-    where
-      go : (b : Bool) → (if b then rewritten_from (by_rules greedy_rules) limit 0 m else stopped BadLimit) ≡ ended n k e → LedPlain m n
-      go true i = led_from limit 0 k m n e ready plain i
-      go false i = stopped_never BadLimit n k e i
-
   pub canonicalization_keeps : IsOfItsRules → CanonicalizationKeeps
-  canonicalization_keeps own limit m n k e ready plain i = let l = led limit k m n e ready plain (own limit m ∙ i) in (l.kept.ready, l.plain, l.kept.grows, l.kept.computes)
+  canonicalization_keeps own limit m n k e ready plain i =
+      let l = led greedy_rules limit k m n e (own limit m ∙ i) in
+      let r = rules_under IsPlain greedy_rules (λ r i m p x plain ready e. one_step m p x r i ready plain e) l.0 m n plain ready l.1 in
+      (r.1.0, r.0, r.1.1, r.1.2)

@@ -12,18 +12,12 @@ use Rattle.patterns_base.specs.Canonicalization.{Canonical, End, converged, end_
 use Rattle.greedy.specs.Rewriting.{first_by, next_by, rewriting_of, rewritten_from}
 use Rattle.greedy.specs.Trial.{by_rules}
 use Rattle.patterns_meaning.specs.Runs.{Leads, RewritingKeeps}
-use Rattle.patterns_meaning.proofs.Running.{runs_keep}
+use Rattle.patterns_meaning.proofs.Running.{none_never, runs_keep}
 
 pub or_parts : (a b : Rewrite) (n : Module) → or_else a b ≡ becomes n → (a ≡ becomes n) ⊎ (b ≡ becomes n)
 or_parts none b n e = inr e
 or_parts (refused r) b n e = inl e
 or_parts (becomes m) b n e = inl e
-
-pub none_never : {A : Type 0} (n : Module) → none ≡ becomes n → A
-none_never n e = absurd (never e)
-  where
-    never : none ≡ becomes n → ⊥
-    never e = cc
 
 pub by_some : (rs : List Rule) (m n : Module) (x : ℕ) → first_rule rs m x ≡ becomes n → (r : Rule) × In r rs × (rewrite_of r m x ≡ becomes n)
 unfolding first_rule
@@ -70,7 +64,7 @@ led_from rs (suc left) j k m n e i =
     (suc ih.0, (by.0, by.1, at.0, p, by.2, ih.1)))
     i
 
-led : (rs : List Rule) (limit k : ℕ) (m n : Module) (e : End) → rewriting_of (by_rules rs) limit m ≡ ended n k e → Led rs m n
+pub led : (rs : List Rule) (limit k : ℕ) (m n : Module) (e : End) → rewriting_of (by_rules rs) limit m ≡ ended n k e → Led rs m n
 unfolding rewriting_of
 led rs limit k m n e i = go (nat_le 1 limit && nat_le limit most_rewrites) i
   where

@@ -1,87 +1,27 @@
 -- Runs of rules and patterns that keep what is computed keep it, and rewriting by a list of them is such a run.
-use Rattle.std.proofs.Common.{◌≡◌, ℕ, zero, suc, ◌+◌, ◌≤◌, refl, sym, ◌∙◌, subst, List, [], ◌∷◌, ◌++◌, map, Bool, true, false, ◌&&◌, inl, inr, arith}
+use Rattle.std.proofs.Common.{◌≡◌, ℕ, zero, suc, ◌+◌, refl, sym, subst, List, [], ◌∷◌, Bool, true, false, ◌&&◌, inl, inr}
 use Rattle.std.specs.Prelude.{nat_le, if◌then◌else◌}
 use Rattle.ir_types.specs.declared.refusal.Refusal.TheVariants.{BadLimit}
 use Rattle.ir_tree.specs.Ids.{ids}
 use Rattle.ir_tree_laws.specs.Members.{In}
 use Rattle.ir_event.specs.Modules.{Module}
-use Rattle.rewriter_machine.specs.Edits.{Make}
 use Rattle.patterns_base.specs.declared.rule.Rule.{Rule}
-use Rattle.patterns_base.specs.Makes.{give}
 use Rattle.patterns_base.specs.Rewrites.{Rewrite, becomes, none, refused}
 use Rattle.patterns_base.specs.Canonicalization.{Canonical, End, converged, end_of, ended, go_on, most_rewrites, stopped}
-use Rattle.patterns_book.specs.Shapes.{Shape}
-use Rattle.patterns_own.specs.Own.{own_rewrite}
 use Rattle.greedy.specs.Rewriting.{first_by, next_by, rewriting_of, rewritten_from}
 use Rattle.greedy.specs.Trial.{Attempt, OfOwn, OfRule, attempted, by_attempts, first_tried}
-use Rattle.patterns_meaning.specs.Keeping.{IsReady, done_after}
-use Rattle.patterns_meaning.specs.Runs.{ComputesThrough, KeptAreKept, kept_rules}
+use Rattle.patterns_meaning.specs.Keeping.{IsReady}
+use Rattle.patterns_meaning.specs.Runs.{KeptAreKept, kept_rules}
 use Rattle.patterns_meaning.specs.Strict.{HoldingKeep}
-use Rattle.patterns_meaning.specs.MixedRuns.{AttemptKeeps, IsShown, KeptThrough, LeadsBy, MixedRewritingKeeps, MixedRunsKeep, ShownAreKept}
+use Rattle.patterns_meaning.specs.MixedRuns.{AttemptKeeps, IsShown, LeadsBy, MixedRewritingKeeps, MixedRunsKeep, ShownAreKept}
 use Rattle.patterns_meaning.specs.Passing.{KeptAt}
-use Rattle.patterns_meaning.proofs.Applying.{applies}
-use Rattle.patterns_meaning.proofs.Giving.{after_old}
-use Rattle.patterns_meaning.proofs.Listed.{ended_parts, none_never, or_parts, stopped_never}
-use Rattle.patterns_meaning.proofs.Monotone.{itself, through}
-use Rattle.patterns_meaning.proofs.Running.{all_grow, rewrite_grows}
+use Rattle.patterns_meaning.proofs.Listed.{ended_parts, or_parts, stopped_never}
+use Rattle.patterns_meaning.proofs.Running.{none_never, own_of, runs_under}
 
 -- ---- one of them at an operation
-where_tried : (b : Bool) (r : Rewrite) (n : Module) → (if b then r else none) ≡ becomes n → r ≡ becomes n
-where_tried true r n e = e
-where_tried false r n e = none_never n e
-
-pub own_of : (p : Shape) (m n : Module) (x : ℕ) → attempted (OfOwn p) m x ≡ becomes n → own_rewrite p m x ≡ becomes n
-own_of p m n x e = where_tried _ (own_rewrite p m x) n e
-
 attempt_kept : (t : Attempt) → AttemptKeeps t → (m n : Module) (x : ℕ) → IsReady m → attempted t m x ≡ becomes n → KeptAt m n x
 attempt_kept (OfRule r) keep m n x ready e = (keep.0 m n x ready e, (λ a done c. keep.1 m n x a done ready c e))
 attempt_kept (OfOwn p) keep m n x ready e = (keep.0 m n x ready (own_of p m n x e), (λ a done c. keep.1 m n x a done ready c (own_of p m n x e)))
-
-attempt_grows : (t : Attempt) (m n : Module) (x : ℕ) → attempted t m x ≡ becomes n → m.next ≤ n.next
-attempt_grows (OfRule r) m n x e = rewrite_grows r m n x e
-attempt_grows (OfOwn p) m n x e =
-    let q = applies p m n x (own_of p m n x e) in
-    subst (λ (n : Module). m.next ≤ n.next) q.module_is (all_grow (map (λ o. Make q.front o) q.made ++ give x q.value) m)
-
--- ---- one behind another, where something is so of each module
-module _ (I : Module → Type 0) (ts : List Attempt) (keep : (t : Attempt) → In t ts → (m n : Module) (x : ℕ) → I m → IsReady m → attempted t m x ≡ becomes n → I n × KeptAt m n x) where
-  pub runs_under : (k : ℕ) (m n : Module) → I m → IsReady m → LeadsBy ts k m n → I n × KeptThrough m n
-  runs_under zero m n i ready leads = (
-    subst I leads i,
-    (
-      subst IsReady leads ready,
-      subst (λ (n : Module). m.next ≤ n.next) leads (omega arith),
-      (λ a done c. subst (λ n. ComputesThrough a done m n) leads (record { later = done; same = λ y l. refl; improves = record { now = a; better = λ v l. itself (a v); stays = λ v l e. refl; free = λ v l e. e; computing = c } })),
-    ),
-  )
-  runs_under (suc k) m n i ready leads =
-      let t = leads.0 in
-      let x = leads.2 in
-      let p = leads.3 in
-      let kept = keep t leads.1 m p x i ready leads.4 in
-      let ih = runs_under k p n kept.0 kept.1.0 leads.5 in
-      let grows = attempt_grows t m p x leads.4 in
-      let more = ih.1.1 in (
-        ih.0,
-        (
-          ih.1.0,
-          omega (arith, grows, more),
-          (λ a done c.
-              let r = kept.1.1 a done c in
-              let j = ih.1.2 r.now (done_after m.next x done) r.computing in
-              record {
-                later = j.later;
-                same = λ y l. j.same y (omega (arith, l, grows)) ∙ after_old m.next x done y l;
-                improves = record {
-                  now = j.improves.now;
-                  better = λ v l. through (a v) (r.now v) (j.improves.now v) (r.better v l) (j.improves.better v (omega (arith, l, grows)));
-                  stays = λ v l e. j.improves.stays v (omega (arith, l, grows)) (r.free v l e) ∙ r.stays v l e;
-                  free = λ v l e. j.improves.free v (omega (arith, l, grows)) (r.free v l e);
-                  computing = j.improves.computing;
-                };
-              }),
-        ),
-      )
 
 pub mixed_runs_keep : MixedRunsKeep
 mixed_runs_keep ts keep k m n ready leads = (runs_under (λ m. Unit {0}) ts (λ t i m n x u ready e. (tt, attempt_kept t (keep t i) m n x ready e)) k m n tt ready leads).1

@@ -51,7 +51,8 @@ use Rattle.patterns_meaning.specs.Passing.{KeptAt, is_kinded_at, new_is_defined,
 use Rattle.patterns_meaning.specs.Narrow.{HoldsNarrow, IsNarrow, IsNarrowly, NarrowKeep, NarrowRewritingKeeps, is_met, is_narrow, is_settled, is_settled_as, new_settled}
 use Rattle.patterns_meaning.proofs.Forms.{kind_is}
 use Rattle.patterns_meaning.proofs.Going.{typed_at, typed_parts}
-use Rattle.patterns_meaning.proofs.MixedRunning.{own_of, runs_under, led}
+use Rattle.patterns_meaning.proofs.MixedRunning.{led}
+use Rattle.patterns_meaning.proofs.Running.{own_of, runs_under}
 use Rattle.patterns_meaning.proofs.Standing.{IsTyped, Stands, stands_standing}
 use Rattle.patterns_meaning.proofs.PassingMatched.{Here}
 use Rattle.patterns_meaning.proofs.PassingMade.{all_kinds}

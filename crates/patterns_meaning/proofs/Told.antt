@@ -16,8 +16,8 @@ use Rattle.greedy.specs.Trial.{by_rules}
 use Rattle.patterns_meaning.specs.Runs.{Leads, kept_rules}
 use Rattle.patterns_meaning.specs.Told.{AllBy, ToldCanonicalizationKeeps, ToldRewritingKeeps}
 use Rattle.patterns_meaning.proofs.AllKept.{all_kept}
-use Rattle.patterns_meaning.proofs.Listed.{ended_parts, none_never, stopped_never}
-use Rattle.patterns_meaning.proofs.Running.{runs_keep}
+use Rattle.patterns_meaning.proofs.Listed.{ended_parts, stopped_never}
+use Rattle.patterns_meaning.proofs.Running.{none_never, runs_keep}
 
 -- ---- the rule that is told
 -- none applies at an operation, or the one that is told
