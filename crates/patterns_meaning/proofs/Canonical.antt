@@ -1,5 +1,5 @@
 -- Canonicalization of modules without unrealized casts, and without loops and choices of scf, keeps what they compute.
-use Rattle.std.proofs.Common.{◌≡◌, ℕ, zero, suc, refl, ap, sym, ◌∙◌, subst, List, [], ◌∷◌, Bool, true, false, true≢false, ◌&&◌, ◌||◌, not, Some, ◌⊎◌, inl, inr, slice_get}
+use Rattle.std.proofs.Common.{◌≡◌, ℕ, zero, suc, ◌≤◌, refl, ap, sym, ◌∙◌, subst, List, [], ◌∷◌, Bool, true, false, true≢false, ◌&&◌, ◌||◌, not, Some, ◌⊎◌, inl, inr, slice_get}
 use Rattle.std.specs.Prelude.{codes}
 use Rattle.std.specs.List.{list_any}
 use Rattle.std.proofs.lemmas.Option.{none-some, same_Some}
@@ -19,16 +19,18 @@ use Rattle.patterns_base.specs.declared.rule.Rule.TheVariants.{OpenBranch, OpenL
 use Rattle.patterns_base.specs.declared.rule.Rule.TheVariants.{StopLoop, SwapConstant, ZeroRemainder}
 use Rattle.patterns_base.specs.Canonicalization.{greedy_rules}
 use Rattle.patterns_base.specs.RuleNames.{all_rules}
-use Rattle.patterns_base.specs.Rewrites.{becomes, none, rewrite_of}
+use Rattle.patterns_base.specs.Rewrites.{becomes, rewrite_of}
 use Rattle.patterns_base.specs.Rules.{OnlyListed, has_rule}
 use Rattle.patterns_facts.specs.Accepted.{AreAccepted}
 use Rattle.greedy.specs.Rewriting.{IsOfItsRules}
 use Rattle.patterns_meaning.specs.Canonical.{CanonicalizationKeeps, IsPlain, is_plain, opening_rules}
 use Rattle.patterns_meaning.specs.Keeping.{IsReady}
 use Rattle.patterns_meaning.specs.Runs.{kept_rules}
+use Rattle.patterns_meaning.specs.Narrow.{IsNarrow, NarrowCanonicalizationKeeps}
 use Rattle.patterns_meaning.proofs.AllKept.{all_kept}
 use Rattle.patterns_meaning.proofs.CastingBack.{cast_back_gives, cast_back_ready, casts_back}
 use Rattle.patterns_meaning.proofs.Listed.{led}
+use Rattle.patterns_meaning.proofs.NarrowRules.{fine_narrow}
 use Rattle.patterns_meaning.proofs.PlainRules.{AllPlain, IsFine, all_plain, fine_add_negative, fine_cancel_itself, fine_choose_known, fine_choose_opposite, fine_choose_same, fine_choose_truth, fine_compare_itself, fine_compare_zero, fine_cut_cast, fine_drop_all_ones, fine_drop_one, fine_drop_zero, fine_erase_dead, fine_extend_extension, fine_fold_to_constant, fine_keep_itself, fine_mirror_comparison, fine_regroup_constants, fine_swap_constant, fine_zero_remainder}
 use Rattle.patterns_meaning.proofs.Ruled.{ruled}
 use Rattle.patterns_meaning.proofs.Running.{rules_under}
@@ -95,6 +97,13 @@ module _ (accepted : AreAccepted) (only : OnlyListed) where
         (cast_back_ready accepted m p x ready e, (λ a done c. casts_back accepted m p x q.here a done ready c q.found (no_unrealized (head q.here).name name) e)),
       )
 
+  -- others don't apply
+  never : (m p : Module) (x : ℕ) (r : Rule) → IsReady m → IsPlain m → ((name : List ℕ) → is_plain name ≡ true → has_rule r name ≡ false) → rewrite_of r m x ≡ becomes p → ⊥
+  never m p x r ready plain lacks e =
+      let q = ruled accepted r m p x ready.formed ready.sorted e in
+      let name = (each_found (λ h. is_plain h.name ≡ true) x m.tree plain q.here q.found).0 in
+      none-some q.edits (sym (only r m.tree m.next q.front q.here (lacks (head q.here).name name)) ∙ q.made)
+
   one_step : (m p : Module) (x : ℕ) (r : Rule) → In r greedy_rules → IsReady m → IsPlain m → rewrite_of r m x ≡ becomes p → IsStep m p x
   one_step m p x r i ready plain e = go (one_known greedy_rules all_known r i)
     where
@@ -103,13 +112,26 @@ module _ (accepted : AreAccepted) (only : OnlyListed) where
           let keeps = all_kept accepted kept_rules (λ r i. i) r k.0 in
           (plain_after m p x r k.1 ready plain e, (keeps.0 m p x ready e, (λ a done c. keeps.1 m p x a done ready c e)))
       go (inr (inl same)) = back_step m p x ready plain (ap (λ r. rewrite_of r m x) (sym same) ∙ e)
-      go (inr (inr lacks)) =
-          let q = ruled accepted r m p x ready.formed ready.sorted e in
-          let name = (each_found (λ h. is_plain h.name ≡ true) x m.tree plain q.here q.found).0 in
-          absurd (none-some q.edits (sym (only r m.tree m.next q.front q.here (lacks (head q.here).name name)) ∙ q.made))
+      go (inr (inr lacks)) = absurd (never m p x r ready plain lacks e)
 
   pub canonicalization_keeps : IsOfItsRules → CanonicalizationKeeps
   canonicalization_keeps own limit m n k e ready plain i =
       let l = led greedy_rules limit k m n e (own limit m ∙ i) in
       let r = rules_under IsPlain greedy_rules (λ r i m p x plain ready e. one_step m p x r i ready plain e) l.0 m n plain ready l.1 in
       (r.1.0, r.0, r.1.1, r.1.2)
+
+  -- narrow modules stay so
+  narrow_step : (most : ℕ) → 1 ≤ most → (m p : Module) (x : ℕ) (r : Rule) → In r greedy_rules → IsReady m → IsPlain m → IsNarrow most m → rewrite_of r m x ≡ becomes p → IsNarrow most p
+  narrow_step most l m p x r i ready plain narrow e = go (one_known greedy_rules all_known r i)
+    where
+      go : IsKnown r → IsNarrow most p
+      go (inl k) = fine_narrow most accepted l r k.1 m p x ready narrow e
+      go (inr (inl same)) = fine_narrow most accepted l CastBack fine_cast_back m p x ready narrow (ap (λ r. rewrite_of r m x) (sym same) ∙ e)
+      go (inr (inr lacks)) = absurd (never m p x r ready plain lacks e)
+
+  pub canonicalization_narrow : IsOfItsRules → NarrowCanonicalizationKeeps
+  canonicalization_narrow own most some limit m n k e ready plain narrow i =
+      let l = led greedy_rules limit k m n e (own limit m ∙ i) in
+      let r =
+      rules_under (λ m. IsPlain m × IsNarrow most m) greedy_rules (λ r i m p x s ready e. let t = one_step m p x r i ready s.0 e in ((t.0, narrow_step most some m p x r i ready s.0 s.1 e), t.1)) l.0 m n (plain, narrow) ready l.1 in
+      r.0.1

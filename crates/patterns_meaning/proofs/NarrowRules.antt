@@ -134,7 +134,7 @@ module _ (most : ℕ) where
   all_small h l s (e ∷ es) m p r = all_small h l s es (edited e m) p.1 (one_small h l s e m p.0 r)
 
   -- ---- rules
-  fine_narrow : AreAccepted → 1 ≤ most → (r : Rule) → IsFine r → (m n : Module) (x : ℕ) → IsReady m → IsNarrow most m → rewrite_of r m x ≡ becomes n → IsNarrow most n
+  pub fine_narrow : AreAccepted → 1 ≤ most → (r : Rule) → IsFine r → (m n : Module) (x : ℕ) → IsReady m → IsNarrow most m → rewrite_of r m x ≡ becomes n → IsNarrow most n
   fine_narrow accepted l r fine m n x ready narrow e =
       let q = ruled accepted r m n x ready.formed ready.sorted e in
       let s = small_of m ready narrow in

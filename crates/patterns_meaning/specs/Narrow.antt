@@ -10,7 +10,7 @@ use Rattle.ir_tree_laws.specs.Members.{In}
 use Rattle.ir_event.specs.Modules.{Module}
 use Rattle.patterns_base.specs.declared.rule.Rule.{Rule}
 use Rattle.patterns_base.specs.Rewrites.{becomes, rewrite_of}
-use Rattle.patterns_base.specs.Canonicalization.{End, ended}
+use Rattle.patterns_base.specs.Canonicalization.{End, canonicalization_of, ended}
 use Rattle.patterns_check.specs.declared.verdict.Verdict.TheVariants as verdict
 use Rattle.patterns_check.specs.Families.{AreWidths, IsVerdict}
 use Rattle.patterns_book.specs.declared.pattern.Asked.{Asked}
@@ -35,6 +35,7 @@ use Rattle.patterns_meaning.specs.Better.{kind_in}
 use Rattle.patterns_meaning.specs.Applied.{IsProper}
 use Rattle.patterns_meaning.specs.Keeping.{IsReady}
 use Rattle.patterns_meaning.specs.Runs.{kept_rules}
+use Rattle.patterns_meaning.specs.Canonical.{IsPlain}
 use Rattle.patterns_meaning.specs.MixedRuns.{KeptThrough}
 use Rattle.patterns_meaning.specs.Passing.{KeptAt, is_kinded_at, is_passing}
 
@@ -127,3 +128,9 @@ NarrowRewritingKeeps =
     (most : ℕ) → 1 ≤ most → (ts : List Attempt) → ((t : Attempt) → In t ts → IsNarrowly most t)
     → (limit : ℕ) (m n : Module) (k : ℕ) (e : End) → IsReady m → IsNarrow most m
     → rewriting_of (by_attempts ts) limit m ≡ ended n k e → IsNarrow most n × KeptThrough m n
+
+-- canonicalization keeps a narrow module narrow that has no unrealized casts, and no loops and choices of scf
+abbrev pub NarrowCanonicalizationKeeps : Type 0
+NarrowCanonicalizationKeeps =
+    (most : ℕ) → 1 ≤ most → (limit : ℕ) (m n : Module) (k : ℕ) (e : End) → IsReady m → IsPlain m → IsNarrow most m
+    → canonicalization_of limit m ≡ ended n k e → IsNarrow most n

@@ -1,3 +1,4 @@
+use Rattle.patterns_meaning.proofs.Canonical.{canonicalization_narrow}
 use Rattle.patterns_meaning.proofs.NarrowKept.{narrow_keep, narrow_rewriting_keeps}
 use Rattle.patterns_meaning.proofs.NarrowRules.{narrow_rules_keep}
 use Rattle.patterns_meaning.proofs.passing.narrow_modules_are_kept.Goals as goal
@@ -10,3 +11,6 @@ returns-clause-rules c = narrow_rules_keep c.no_edit_is_refused.ensures
 
 pub returns-clause-rewriting : goal.returns-clause-rewriting
 returns-clause-rewriting c = narrow_rewriting_keeps c.no_edit_is_refused.ensures c.listed_rules_keep_what_is_computed.ensures c.no_edit_of_a_pattern_is_refused.ensures
+
+pub returns-clause-canonicalization : goal.returns-clause-canonicalization
+returns-clause-canonicalization c = canonicalization_narrow c.no_edit_is_refused.ensures c.only_listed_rules_apply.ensures.applies c.rewriting_by_its_rules_is_canonicalization.ensures
