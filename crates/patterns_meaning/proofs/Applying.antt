@@ -22,7 +22,6 @@ use Rattle.patterns_laws.proofs.KnownFolds.{given_some}
 use Rattle.patterns_check.specs.Outcomes.{given}
 use Rattle.patterns_book.specs.Planning.{Plan, planned}
 use Rattle.patterns_check.specs.Checks.{AlwaysKeeps}
-use Rattle.patterns_book.specs.Fitting.{content_with}
 use Rattle.patterns_book.specs.Shapes.{Shape}
 use Rattle.patterns_makeable.specs.Makeable.{is_makeable}
 use Rattle.patterns_matched.specs.Built.{plan_of}
@@ -116,4 +115,4 @@ rewrites_compute p m n x a done k formed proper fits of found keeps root e =
     (r.now, r.agrees, subst (λ t. FitsAll r.now (or_new m.next done) t) (sym q.is) r.computes.fits, subst (λ t. AreOfTypes r.now t) (sym q.is) r.computes.typed)
 
 pub checked_keeps : CheckedKeepsThere
-checked_keeps p m x a done found typed most verdict ws are same = (typed, subst (λ ks. AlwaysKeeps (content_with ks p)) (sym same) (verdict.0 ws are))
+checked_keeps p m x a done found typed most verdict ws are same = (typed, subst AlwaysKeeps (sym same) (verdict.0 ws are))

@@ -378,7 +378,7 @@ plans_go t clean n p x a done proper computes found constants always made v plan
 
 pub checked_plans_go : CheckedPlansGo
 checked_plans_go t clean n p x a done proper computes found constants most verdict ws are same made v plan =
-    plans_go t clean n p x a done proper computes found constants (subst (λ ks. AlwaysKeeps (content_with ks p)) (sym same) (verdict.0 ws are)) made v plan
+    plans_go t clean n p x a done proper computes found constants (subst AlwaysKeeps (sym same) (verdict.0 ws are)) made v plan
 
 -- the root is of the tree
 pub root_below : (t : Operation) (clean : Header → Bool) (n : ℕ) (p : Shape) (x : ℕ) (a : Assignment) (done : ℕ → Bool) → IsProper p → IsBelow n t → IsFound t clean n p x a done → x < n

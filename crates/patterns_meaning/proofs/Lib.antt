@@ -68,5 +68,6 @@ pub mod NarrowRules
 pub mod NarrowKept
 pub mod StrictSampled
 pub mod PassingSampled
+pub mod UnitedSampled
 pub mod Told
 pub mod Sampled

@@ -142,7 +142,7 @@ by_width P one two ((suc (suc zero)) ∷ []) l = two
 by_width P one two ((suc (suc zero)) ∷ w ∷ ws) l = absurd l.2
 by_width P one two ((suc (suc (suc w))) ∷ ws) l = absurd (none_above w l.1)
 
-holds_narrow : HoldsNarrow 2 times_power
+pub holds_narrow : HoldsNarrow 2 times_power
 unfolding log_of first_below product_of left_shift_of
 holds_narrow = record {
   proper = record { formed = refl; makeable = refl; named = refl };

@@ -26,13 +26,13 @@ use Rattle.patterns_meaning.specs.Applied.{AreOfKinds, Computes, IsFound}
 use Rattle.patterns_meaning.specs.Samples.{SampleIsKept, all_done, each, i2, outcomes, tree}
 
 -- ---- what is found
-abbrev here : Standing Value
+abbrev pub here : Standing Value
 here = Some (Result 1 0) ∷ Some (Result 2 0) ∷ None ∷ Some (Result 3 0) ∷ None ∷ None ∷ []
 
 abbrev types : Standing TypeTerm
 types = Some i2 ∷ []
 
-known_here : (i : ℕ) (v : Value) → standing i here ≡ Some v → is_some (outcomes v) ≡ true
+pub known_here : (i : ℕ) (v : Value) → standing i here ≡ Some v → is_some (outcomes v) ≡ true
 known_here zero v e = ap (λ v. is_some (outcomes v)) (sym (same_Some _ _ e))
 known_here (suc zero) v e = ap (λ v. is_some (outcomes v)) (sym (same_Some _ _ e))
 known_here (suc (suc zero)) v e = absurd (none-some v e)

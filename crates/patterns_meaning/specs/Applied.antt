@@ -23,7 +23,7 @@ use Rattle.patterns_book.specs.declared.pattern.Number.{Number}
 use Rattle.patterns_book.specs.declared.pattern.Number.TheVariants as number
 use Rattle.patterns_book.specs.declared.pattern.New.{New}
 use Rattle.patterns_book.specs.declared.pattern.New.TheVariants as new
-use Rattle.patterns_book.specs.Fitting.{content_at, content_with, kind_at, kinds_with}
+use Rattle.patterns_book.specs.Fitting.{content_at, content_with, kind_at}
 use Rattle.patterns_book.specs.Matching.{Header, Standing, bound, giver_head, nothing, pieces_matched, placed, standing}
 use Rattle.patterns_book.specs.Planning.{kind_standing, old_place, places, planned, typed}
 use Rattle.patterns_book.specs.Shapes.{Shape}
@@ -163,13 +163,14 @@ PlansGo =
     → AlwaysKeeps (content_with (kinds_found t clean n p x a done found) p)
     → (made : List Operation) (v : Value) → planned t clean n p x ≡ Some (made, v) → Goes t clean n p x a done made v
 
--- so it does where a check said that it is right up to a width, and the types found are those of the pattern at widths
--- that were tried: integers up to that width, and no index but where the pattern writes it
+-- so it does where a check said that it is right up to a width, and at the kinds found the pattern is what it is at
+-- widths that were tried. Of types that it doesn't speak of nothing is asked: a type variable may have several numbers,
+-- of which one alone is used, and none stands at the others
 abbrev pub CheckedPlansGo : Type 0
 CheckedPlansGo =
     (t : Operation) (clean : Header → Bool) (n : ℕ) (p : Shape) (x : ℕ) (a : Assignment) (done : ℕ → Bool)
     → IsProper p → Computes a done n t → (found : IsFound t clean n p x a done)
     → is_typed (kinds_found t clean n p x a done found) p ≡ true
     → (most : ℕ) → IsVerdict (content_at p) p.types most verdict.Holds
-    → (ws : List ℕ) → AreWidths p.types most ws → kinds_found t clean n p x a done found ≡ kinds_with ws p.kinds
+    → (ws : List ℕ) → AreWidths p.types most ws → content_with (kinds_found t clean n p x a done found) p ≡ content_at p ws
     → (made : List Operation) (v : Value) → planned t clean n p x ≡ Some (made, v) → Goes t clean n p x a done made v

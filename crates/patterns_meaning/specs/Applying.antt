@@ -10,7 +10,7 @@ use Rattle.patterns_base.specs.Rewrites.{becomes}
 use Rattle.patterns_check.specs.declared.verdict.Verdict.TheVariants as verdict
 use Rattle.patterns_check.specs.Checks.{AlwaysKeeps}
 use Rattle.patterns_check.specs.Families.{AreWidths, IsVerdict}
-use Rattle.patterns_book.specs.Fitting.{content_at, content_with, kinds_with}
+use Rattle.patterns_book.specs.Fitting.{content_at, content_with}
 use Rattle.patterns_book.specs.Shapes.{Shape}
 use Rattle.patterns_own.specs.Own.{own_rewrite}
 use Rattle.patterns_meaning.specs.Meaning.{AreOfTypes, Assignment, FitsAll}
@@ -42,12 +42,12 @@ RewritesCompute =
     → (found : IsFoundIn p m x a done) → KeepsThere p m x a done found
     → a (Result x 0) ≡ Some k → own_rewrite p m x ≡ becomes n → ComputesOn a done m n
 
--- it keeps what is there where a check said that it is right up to a width, and the types found are those of the
--- pattern at widths that were tried
+-- it keeps what is there where a check said that it is right up to a width, and at the kinds found the pattern is what
+-- it is at widths that were tried
 abbrev pub CheckedKeepsThere : Type 0
 CheckedKeepsThere =
     (p : Shape) (m : Module) (x : ℕ) (a : Assignment) (done : ℕ → Bool) (found : IsFoundIn p m x a done)
     → is_typed (kinds_found m.tree (is_clean m.tree) m.next p x a done found) p ≡ true
     → (most : ℕ) → IsVerdict (content_at p) p.types most verdict.Holds
-    → (ws : List ℕ) → AreWidths p.types most ws → kinds_found m.tree (is_clean m.tree) m.next p x a done found ≡ kinds_with ws p.kinds
+    → (ws : List ℕ) → AreWidths p.types most ws → content_with (kinds_found m.tree (is_clean m.tree) m.next p x a done found) p ≡ content_at p ws
     → KeepsThere p m x a done found

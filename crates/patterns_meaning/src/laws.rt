@@ -2,7 +2,7 @@
 ghost use Rattle.patterns_meaning.specs.After.{RewrittenComputes};
 ghost use Rattle.patterns_meaning.specs.Applied.{CheckedPlansGo, PlansGo};
 ghost use Rattle.patterns_meaning.specs.Applying.{CheckedKeepsThere, RewritesCompute};
-ghost use Rattle.patterns_meaning.specs.Samples.{SampleIsKept};
+ghost use Rattle.patterns_meaning.specs.Samples.{SampleIsChecked, SampleIsKept};
 
 /// Where a pattern is matched that keeps what is there at the types at hand, all that it makes is defined, and what it
 /// gives refines what its root gave: also where that is known by a check up to a width.
@@ -23,7 +23,9 @@ pub fn rewrites_keep_what_is_computed()
     ensures checked { CheckedKeepsThere }
 {}
 
-/// All that these laws ask is so of a pattern and a tree: a product of two bits by 2 becomes a shift.
+/// All that these laws ask is so of a pattern and a tree: a product of two bits by 2 becomes a shift. So it is, by a
+/// check up to two bits, where the pattern's type variable has two numbers.
 pub fn a_sample_is_kept()
-    ensures { SampleIsKept }
+    ensures kept { SampleIsKept }
+    ensures checked { SampleIsChecked }
 {}
