@@ -210,7 +210,11 @@ static int patterns(void) {
   WANT(answer.outcome == MLIR_WORK_OK && !answer.shown);
   WANT(said(&session, "rollback").outcome == MLIR_WORK_OK);
   answer = said(&session, "check twice");
+  WANT(answer.outcome == MLIR_WORK_HOLDS && answer.number == 0 && !answer.shown);
+  answer = said(&session, "check twice width 8");
   WANT(answer.outcome == MLIR_WORK_HOLDS && answer.number == 8);
+  answer = said(&session, "check twice width 64 sampled");
+  WANT(answer.outcome == MLIR_WORK_UNREFUTED && answer.number == 64 && !answer.shown);
   answer = said(&session, "pattern half arith.divsi(%a, c) => arith.shrsi(%a, log2(c))");
   WANT(answer.outcome == MLIR_WORK_OK);
   answer = said(&session, "check half width 1");
@@ -218,6 +222,8 @@ static int patterns(void) {
   answer = said(&session, "check half");
   WANT(answer.outcome == MLIR_WORK_FAILS && answer.number == 2 && answer.shown == strlen(rows));
   WANT(mlir_work_read(&session, 0, shown, sizeof shown - 1) == strlen(rows) && !strcmp((const char *)shown, rows));
+  answer = said(&session, "check half width 32 sampled");
+  WANT(answer.outcome == MLIR_WORK_FAILS && answer.number == 32 && answer.shown);
   answer = said(&session, "check half width 0");
   WANT(answer.outcome == MLIR_WORK_REFUSED && answer.refusal == MLIR_WORK_BAD_LIMIT);
   WANT(said(&session, "pattern never arith.addi(%a, 300) => %a").outcome == MLIR_WORK_OK);
