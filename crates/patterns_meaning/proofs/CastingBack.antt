@@ -48,6 +48,7 @@ use Rattle.patterns_meaning.proofs.Dropping.{old_improves, value_kind, widths}
 use Rattle.patterns_meaning.proofs.Forms.{named_is}
 use Rattle.patterns_meaning.proofs.Formed.{operands_stand}
 use Rattle.patterns_meaning.proofs.Monotone.{same_refined}
+use Rattle.patterns_meaning.proofs.Numeric.{asks_kind}
 use Rattle.patterns_meaning.proofs.Ruled.{Ruled, Site, gives_refined, of_rule, rule_kinds, ruled, site_of, value_bits}
 use Rattle.patterns_meaning.proofs.Sources.{Sole, made_or_poison, operand_there, sole_of}
 use Rattle.patterns_meaning.proofs.StaysReady.{GivesOld, old_ready}
@@ -225,7 +226,7 @@ module _ (accepted : AreAccepted) where
       let i = site_of m a done k.sole.id k.sole.here ready.formed ready.kinded computing k.sole.found in
       let middle : done x ≡ true → is_there done w.middle ≡ true = (λ d. operand_there m a done x q.here s (is_there done) w.middle w.operands (s.fed d)) in
       let inner : done x ≡ true → done k.sole.id ≡ true = (λ d. ap (is_there done) (sym k.sole.value) ∙ middle d) in
-      old_improves CastBack m n x a done ready.formed (cast_back_ready m n x ready e).kinded computing q w.first s (record {
+      old_improves CastBack m n x a done ready.formed (cast_back_ready m n x ready e).kinded computing q (ap asks_kind w.outer.1) w.first s (record {
         edits = w.edits;
         value = k.value;
         better = λ d.

@@ -1,6 +1,6 @@
 -- Rules on casts of casts keep modules ready, and what they compute.
 use Rattle.std.proofs.Common.{◌≡◌, ℕ, ◌<◌, ◌≤◌, ◌%◌, ◌^◌, refl, ap, sym, ◌∙◌, subst, List, [], ◌∷◌, map, Bool, true, false, true≢false, ◌&&◌, Option, Some, None, ◌⊎◌, inl, inr, slice_get, arith}
-use Rattle.std.specs.Prelude.{codes, if◌then◌else◌}
+use Rattle.std.specs.Prelude.{codes, if◌then◌else◌, is_some}
 use Rattle.std.specs.List.{list_all}
 use Rattle.std.specs.Option.{option_eq}
 use Rattle.std.proofs.lemmas.Bool.{and_from, and_parts, lt-ltb, ltb-true}
@@ -72,6 +72,7 @@ module _ (f : Value → Option BitsKind) where
     results = refl;
     of = of;
     bare = refl;
+    numeric = ap is_some e;
     risen = refl;
     takes = ap (λ r. takes_cast r) e ∙ and_from (is_width (width_of k)) (narrows c (f v) k) width n;
   }
@@ -372,7 +373,7 @@ module _ (accepted : AreAccepted) where
     back_improves a done after computing =
         let s = site_of m a done x q.here ready.formed ready.kinded computing q.found in
         let middle : done x ≡ true → is_there done w.middle ≡ true = (λ d. operand_there m a done x q.here s (is_there done) w.middle w.operands (s.fed d)) in
-        old_improves CutCast m n x a done ready.formed after computing q w.first s (record {
+        old_improves CutCast m n x a done ready.formed after computing q (q.numeric refl) w.first s (record {
           edits = back.1;
           value = k.value;
           better = λ d.
@@ -408,6 +409,6 @@ module _ (accepted : AreAccepted) where
       let k = cut_kinds m n x q w ready in
       let after = (cut_cast_ready m n x ready e).kinded in
       elim (bool_cases (named (codes "arith.trunci") w.inner.name)) [
-        | inl i ↦ new_improves CutCast m n x q (cut_new m n x q w ready k i) a done (cut_outcomes m n x q w ready k i a done computing) ready.formed after computing
+        | inl i ↦ new_improves CutCast m n x q (cut_new m n x q w ready k i) a done (cut_outcomes m n x q w ready k i a done computing) ready refl after computing
         | inr i ↦ back_improves m n x q w ready k i a done after computing
       ]

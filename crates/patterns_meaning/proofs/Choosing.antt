@@ -116,6 +116,9 @@ module _ (accepted : AreAccepted) where
           own_first = λ h. refl;
           own_second = λ h. refl;
           own_third = λ h. refl;
+          number_first = λ h. refl;
+          number_second = λ h. refl;
+          number_third = λ h. refl;
           operands = w.condition ∷ w.third ∷ w.second ∷ [];
           properties = (head q.here).properties;
           becomes = ap (λ vs. put_operand 2 w.second (put_operand 1 w.third (put_operand 0 w.condition (record (head q.here) { operands = vs })))) w.operands;

@@ -79,7 +79,7 @@ module _ (accepted : AreAccepted) where
       let truths : of.kind ≡ kind.Int 1 = same_Some _ _ (sym of.is ∙ ap (λ tys. given (slice_get tys 0) kind_of) w.results ∙ ap kind_of (type_is w.ty i1 tests.0)) in
       let all = and_parts (is_kind (kind.Int 1) (kind_in m.tree w.first)) (is_kind of.kind (kind_in m.tree w.second) && is_kind of.kind (kind_in m.tree w.third)) (subst (λ vs. takes how.Select (head q.here) of.kind (map (kind_in m.tree) vs) ≡ true) w.operands of.operands) in
       let both = and_parts (is_kind of.kind (kind_in m.tree w.second)) (is_kind of.kind (kind_in m.tree w.third)) all.1 in
-      old_improves ChooseTruth m n x a done formed after computing q w.first s (record {
+      old_improves ChooseTruth m n x a done formed after computing q (q.numeric refl) w.first s (record {
         edits = same_Some _ _ h.1;
         value = three.first;
         better = λ d.

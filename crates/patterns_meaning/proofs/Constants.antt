@@ -1,17 +1,15 @@
 -- Rules that give an operation's result by a new constant keep modules ready, and what they compute.
 use Rattle.std.proofs.Common.{◌≡◌, ℕ, zero, suc, ◌<◌, refl, ap, sym, ◌∙◌, subst, List, [], ◌∷◌, ◌++◌, map, Bool, true, ◌&&◌, Option, Some, slice_get, inl, arith}
-use Rattle.std.specs.Prelude.{nat_lt, if◌then◌else◌}
+use Rattle.std.specs.Prelude.{nat_lt, if◌then◌else◌, is_some}
 use Rattle.std.proofs.lemmas.Bool.{lt-ltb, le-ltb}
 use Rattle.std.proofs.lemmas.Option.{none-some, same_Some}
 use Rattle.ir_types.specs.declared.bits.BitsKind.{BitsKind}
 use Rattle.ir_types.specs.Bits.{is_bits, width_of}
 use Rattle.ir_types.specs.Reasons.{is_width}
 use Rattle.ir_types.specs.Terms.{TypeTerm}
-use Rattle.ir_types.specs.Words.{is_isolated}
 use Rattle.ir_tree.specs.declared.value.Value.{Value}
 use Rattle.ir_tree.specs.declared.value.Value.TheVariants.{Result, Arg}
 use Rattle.ir_tree.specs.Tree.{head}
-use Rattle.ir_tree.specs.WellFormed.{IsWellFormed}
 use Rattle.ir_tree.specs.Meaning.{Operation}
 use Rattle.ir_event.specs.Modules.{Module}
 use Rattle.dialects_int.specs.declared.operations.Rule.TheVariants as how
@@ -33,7 +31,8 @@ use Rattle.patterns_meaning.proofs.Giving.{Making, after_new, given_improves}
 use Rattle.patterns_meaning.proofs.News.{constant_makes, type_is_of}
 use Rattle.patterns_meaning.proofs.Readied.{NewKinds, Takes}
 use Rattle.patterns_meaning.proofs.Rewritten.{same_makes}
-use Rattle.patterns_meaning.proofs.Ruled.{Ruled}
+use Rattle.patterns_meaning.proofs.Numeric.{is_numeric}
+use Rattle.patterns_meaning.proofs.Ruled.{Ruled, computed_root}
 use Rattle.patterns_meaning.proofs.StaysReady.{stays_ready}
 
 -- ---- something for the new results
@@ -114,6 +113,7 @@ module _ (r : Rule) (m n : Module) (x : ℕ) (q : Ruled r m n x) (g : GivesNumbe
         tt,
       );
       fed = ((λ i. refl), tt);
+      numbers = ((λ i. is_some (by_constant i) && is_some (g.of i)), tt);
       better = λ d.
           subst (λ o. refines o (c (Result m.next 0)) ≡ true) (sym (new_agrees a m.next (Some (g.kind, g.bits)) (Result x 0) q.within))
           (subst (λ o. refines (a (Result x 0)) o ≡ true) (sym (new_there a m.next (Some (g.kind, g.bits)) 0)) (better d));
@@ -124,7 +124,7 @@ module _ (r : Rule) (m n : Module) (x : ℕ) (q : Ruled r m n x) (g : GivesNumbe
         only zero ty e = (ap kind_of (sym (same_Some _ _ e)) ∙ g.of, g.fits)
         only (suc k) ty e = absurd (none-some ty e)
 
-    pub number_improves : IsWellFormed is_isolated m → AreKinded n.tree → Computing a done m.tree → Improves a done m (done_after m.next x done) n.tree
-    number_improves formed kinded computing =
-        given_improves m n x a done q.front (constant g.ty g.bits ∷ []) (Result m.next 0) formed q.within computing kinded making
+    pub number_improves : IsReady m → is_numeric r ≡ true → AreKinded n.tree → Computing a done m.tree → Improves a done m (done_after m.next x done) n.tree
+    number_improves ready numeric kinded computing =
+        given_improves m n x a done q.front (constant g.ty g.bits ∷ []) (Result m.next 0) ready.formed q.within (computed_root r m n x q ready.kinded (q.numeric numeric)) computing kinded making
         (subst (λ es. Free es m) these q.free) (subst (λ es. all_edited es m ≡ n) these q.module_is)

@@ -47,13 +47,14 @@ use Rattle.patterns_facts.specs.Accepted.{AreAccepted}
 use Rattle.patterns_facts.proofs.Shapes.{three_is, two_is}
 use Rattle.patterns_base.proofs.Facts.{when_some}
 use Rattle.patterns_meaning.specs.Meaning.{Assignment, IsOfType, of_three, of_two}
-use Rattle.patterns_meaning.specs.Better.{AreKinded, is_kind, kind_in, takes}
+use Rattle.patterns_meaning.specs.Better.{AreKinded, is_arithmetic_there, is_kind, kind_in, takes}
 use Rattle.patterns_meaning.specs.Keeping.{Computing, Improves, done_after, is_there}
 use Rattle.patterns_meaning.proofs.Firsts.{Firsts, IsPair, both_kept, by_and, by_select, chosen_kept, first_kept, keeping_pairs, one_first, one_pairs, ones_first, zero_first, zero_pairs}
 use Rattle.patterns_meaning.proofs.Forms.{named_is}
 use Rattle.patterns_meaning.proofs.Giving.{given_improves, old_given}
 use Rattle.patterns_meaning.proofs.Monotone.{itself}
-use Rattle.patterns_meaning.proofs.Ruled.{Ruled, Site, gives_refined, known_there, of_rule, ruled, site_of, value_bits}
+use Rattle.patterns_meaning.proofs.Numeric.{asks_kind}
+use Rattle.patterns_meaning.proofs.Ruled.{Ruled, Site, gives_refined, known_there, named_arithmetic, of_rule, ruled, site_of, value_bits}
 use Rattle.patterns_meaning.proofs.Sources.{kind_test}
 use Rattle.patterns_meaning.proofs.Trees.{value_below}
 
@@ -66,10 +67,10 @@ module _ (r : Rule) (m n : Module) (x : ℕ) (a : Assignment) (done : ℕ → Bo
     pub better : done x ≡ true → refines (a (Result x 0)) (a v) ≡ true
     pub there : done x ≡ true → is_there done v ≡ true
 
-  pub old_improves : (v : Value) → Site m a done x q.here → MayGive v → Improves a done m (done_after m.next x done) n.tree
-  old_improves v s g =
+  pub old_improves : asks_kind (rule_of (head q.here).name) ≡ true → (v : Value) → Site m a done x q.here → MayGive v → Improves a done m (done_after m.next x done) n.tree
+  old_improves named v s g =
       let these : q.edits ≡ give x v = sym g.edits ∙ ap (λ y. give y v) q.id in
-      given_improves m n x a done q.front [] v formed q.within computing kinded (old_given a m.next x done v (value_below m.next m.tree s.below v g.value) g.better g.there)
+      given_improves m n x a done q.front [] v formed q.within (ap is_arithmetic_there q.found ∙ named_arithmetic m.tree (head q.here) s.kinded named) computing kinded (old_given a m.next x done v (value_below m.next m.tree s.below v g.value) g.better g.there)
       (subst (λ es. Free es m) these q.free) (subst (λ es. all_edited es m ≡ n) these q.module_is)
 
 -- ---- operations on two values
@@ -186,7 +187,7 @@ module _ (accepted : AreAccepted) where
       let s = site_of m a done x q.here formed kinded computing q.found in
       let two = of_two_is m a done x q.here s u v ops in
       let k = known_test (λ k. eqb k.1 b) (known m.tree v) number in
-      old_improves r m n x a done formed after computing q u s (record {
+      old_improves r m n x a done formed after computing q (ap asks_kind p.1) u s (record {
         edits = edits;
         value = two.first;
         better = λ d.
@@ -228,7 +229,7 @@ module _ (accepted : AreAccepted) where
       let same = same_value_true w.first w.second h.1 in
       let s = site_of m a done x q.here formed kinded computing q.found in
       let two = of_two_is m a done x q.here s w.first w.second w.operands in
-      old_improves KeepItself m n x a done formed after computing q w.first s (record {
+      old_improves KeepItself m n x a done formed after computing q (q.numeric refl) w.first s (record {
         edits = same_Some _ _ g.1;
         value = two.first;
         better = λ d.
@@ -251,7 +252,7 @@ module _ (accepted : AreAccepted) where
       let of = of_rule m a done x q.here s (how.Pair op.And) name in
       let kinds = and_parts (is_kind of.kind (kind_in m.tree w.first)) (is_kind of.kind (kind_in m.tree w.second)) (subst (λ vs. takes (how.Pair op.And) (head q.here) of.kind (map (kind_in m.tree) vs) ≡ true) w.operands of.operands) in
       let width : type_width w.ty ≡ width_of of.kind = widths w.ty of.kind (sym (ap (λ tys. given (slice_get tys 0) kind_of) w.results) ∙ of.is) in
-      old_improves DropAllOnes m n x a done formed after computing q w.first s (record {
+      old_improves DropAllOnes m n x a done formed after computing q (q.numeric refl) w.first s (record {
         edits = same_Some _ _ g.1;
         value = two.first;
         better = λ d.
@@ -275,7 +276,7 @@ module _ (accepted : AreAccepted) where
       let name = ap rule_of (named_is (codes "arith.select") (head q.here).name g.0) ∙ by_select in
       let s = site_of m a done x q.here formed kinded computing q.found in
       let three = of_three_is m a done x q.here s w.first w.second w.third w.operands in
-      old_improves ChooseSame m n x a done formed after computing q w.second s (record {
+      old_improves ChooseSame m n x a done formed after computing q (q.numeric refl) w.second s (record {
         edits = same_Some _ _ h.1;
         value = three.second;
         better = λ d.
@@ -294,7 +295,7 @@ module _ (accepted : AreAccepted) where
       let name = ap rule_of (named_is (codes "arith.select") (head q.here).name g.0) ∙ by_select in
       let s = site_of m a done x q.here formed kinded computing q.found in
       let three = of_three_is m a done x q.here s w.first w.second w.third w.operands in
-      old_improves ChooseKnown m n x a done formed after computing q (choice_of k.0.1 w.second w.third) s (record {
+      old_improves ChooseKnown m n x a done formed after computing q (q.numeric refl) (choice_of k.0.1 w.second w.third) s (record {
         edits = same_Some _ _ k.2;
         value = one_of (λ v. has_value v m.tree ≡ true) k.0.1 w.second w.third three.second three.third;
         better = λ d.

@@ -4,13 +4,15 @@ use Rattle.std.specs.List.{list_all}
 use Rattle.std.proofs.lemmas.Option.{same_Some}
 use Rattle.ir_types.specs.Words.{is_isolated}
 use Rattle.ir_tree.specs.declared.value.Value.{Value}
-use Rattle.ir_tree.specs.Tree.{head}
+use Rattle.ir_tree.specs.Tree.{head, op}
+use Rattle.ir_tree.specs.Ids.{find}
 use Rattle.ir_tree.specs.Places.{without}
 use Rattle.ir_tree.specs.WellFormed.{IsWellFormed}
 use Rattle.ir_tree.specs.Meaning.{Operation}
 use Rattle.ir_tree_laws.specs.Values.{has_value}
 use Rattle.ir_event.specs.Modules.{Module}
 use Rattle.dialects_int.specs.Folds.{rule_of}
+use Rattle.effects.specs.Dead.{is_unused}
 use Rattle.rewriter_machine.specs.Contents.{all_edited}
 use Rattle.rewriter_machine.specs.Edits.{Erase}
 use Rattle.patterns_edits.specs.Lists.{Free}
@@ -25,6 +27,7 @@ use Rattle.patterns_meaning.specs.Meaning.{ArgumentsOfTypes, Assignment, Each, F
 use Rattle.patterns_meaning.specs.Applied.{IsBelow}
 use Rattle.patterns_meaning.specs.After.{OperandsStand}
 use Rattle.patterns_meaning.specs.Better.{AreKinded, IsSure, is_kinded, kind_in, takes_its}
+use Rattle.patterns_meaning.specs.Observing.{Shows, Stays, is_unmissed}
 use Rattle.patterns_meaning.specs.Keeping.{Computing, Improves, IsFed, IsReady, KeepsComputing, KeepsReady, done_after, is_there}
 use Rattle.patterns_meaning.proofs.Edited.{blocks_without, each_both, each_without}
 use Rattle.patterns_meaning.proofs.EditsForm.{all_formed}
@@ -35,6 +38,7 @@ use Rattle.patterns_meaning.proofs.Makings.{still_there}
 use Rattle.patterns_meaning.proofs.Monotone.{itself}
 use Rattle.patterns_meaning.proofs.Readied.{AreKinds, HasKind, Rises, all_rise, each_rises, kinds_are, kinds_found, same_kinds_of}
 use Rattle.patterns_meaning.proofs.Ruled.{ruled}
+use Rattle.patterns_meaning.proofs.Showing.{erased_follows, stays_so}
 use Rattle.patterns_meaning.proofs.Trees.{ArgumentsAre, ResultsAre, value_below}
 use Rattle.std.proofs.lemmas.Bool.{and_from, and_parts}
 
@@ -92,16 +96,25 @@ module _ (n x : ℕ) (done : ℕ → Bool) (t : Operation) (below : IsBelow n t)
 -- ---- the rule
 module _ (accepted : AreAccepted) where
   record Erased (m n : Module) (x : ℕ) : Type 0 where
+    pub here : Operation
+    pub found : find x m.tree ≡ Some here
+    pub unmissed : is_unmissed here ≡ true
     pub free : Free (Erase x ∷ []) m
     pub module_is : all_edited (Erase x ∷ []) m ≡ n
 
   erased : (m n : Module) (x : ℕ) → IsReady m → rewrite_of EraseDead m x ≡ becomes n → Erased m n x
-  unfolding rule
+  unfolding rule may_go
   erased m n x ready e =
       let q = ruled accepted EraseDead m n x ready.formed ready.sorted e in
       let w = when_some (may_go m.tree q.here) (Some (Erase (head q.here).id ∷ [])) q.edits q.made in
       let these : q.edits ≡ Erase x ∷ [] = sym (same_Some _ _ w.1) ∙ ap (λ y. Erase y ∷ []) q.id in
-      record { free = subst (λ es. Free es m) these q.free; module_is = subst (λ es. all_edited es m ≡ n) these q.module_is }
+      record {
+        here = q.here;
+        found = q.found;
+        unmissed = (and_parts (is_unused (head q.here).id m.tree) (is_unmissed q.here) w.0).1;
+        free = subst (λ es. Free es m) these q.free;
+        module_is = subst (λ es. all_edited es m ≡ n) these q.module_is;
+      }
 
   module _ (m n : Module) (x : ℕ) (ready : IsReady m) (q : Erased m n x) where
     tree_is : n.tree ≡ without x m.tree
@@ -133,7 +146,19 @@ module _ (accepted : AreAccepted) where
           stays = λ v l e. refl;
           free = free_still m.next done later m.tree n.tree (subst (λ t. Each (Was m.next done later m.tree) t) (sym tree_is) were);
           computing = subst (λ t. Computing a later t) (sym tree_is) (less_computing m.next x done m.tree below operands a c);
+          shows =
+              subst (Shows a a m later) (sym tree_is)
+              (record {
+                root = λ e. subst (Stays m.tree a a later (head m.tree)) (sym (head_without m.tree)) (stays_so m.tree a a later (λ v. itself (a v)) (head m.tree));
+                follows = erased_follows m.tree a a later x q.here ready.formed.distinct q.found q.unmissed (λ v. itself (a v));
+                plain =
+                    free_still m.next (λ y. true) (λ y. true) m.tree (without x m.tree)
+                    (each_without (Was m.next (λ y. true) (λ y. true) m.tree) x m.tree (was_old m.next (λ y. true) (λ y. true) m.tree ready.formed.distinct (λ y l i. refl)));
+              });
         }
+      where
+        head_without : (t : Operation) → head (without x t) ≡ head t
+        head_without (op h rs) = refl
 
   pub erase_dead_ready : KeepsReady EraseDead
   erase_dead_ready m n x ready e = erase_ready m n x ready (erased m n x ready e)

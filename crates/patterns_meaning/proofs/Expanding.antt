@@ -302,4 +302,4 @@ module _ (accepted : AreAccepted) where
       let w = differs_here m n x q in
       let k = on_two_values ExpandDifference m n x q op.Subtract w.first w.second w.ty ready w.name w.operands w.results in
       let s = site_of m a done x q.here ready.formed ready.kinded computing q.found in
-      new_improves ExpandDifference m n x q (difference_new m n x q w k) a done (difference_outcomes m n x q w k a done s) ready.formed (expand_difference_ready m n x ready e).kinded computing
+      new_improves ExpandDifference m n x q (difference_new m n x q w k) a done (difference_outcomes m n x q w k a done s) ready refl (expand_difference_ready m n x ready e).kinded computing

@@ -271,4 +271,4 @@ module _ (accepted : AreAccepted) where
       let q = ruled accepted ExtendExtension m n x ready.formed ready.sorted e in
       let w = twice_here m n x q in
       let k = twice_kinds m n x q w ready in
-      new_improves ExtendExtension m n x q (extension_new m n x q w ready k) a done (extension_outcomes m n x q w ready k a done computing) ready.formed (extend_extension_ready m n x ready e).kinded computing
+      new_improves ExtendExtension m n x q (extension_new m n x q w ready k) a done (extension_outcomes m n x q w ready k a done computing) ready refl (extend_extension_ready m n x ready e).kinded computing

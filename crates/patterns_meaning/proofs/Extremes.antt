@@ -1,6 +1,6 @@
 -- The rule that has a comparison and a choice for the greater or the lesser keeps modules ready, and what they compute.
 use Rattle.std.proofs.Common.{◌≡◌, ℕ, ◌+◌, ◌<◌, ◌≤◌, ◌^◌, refl, ap, sym, ◌∙◌, subst, List, [], ◌∷◌, Bool, true, false, ◌&&◌, Some, None, inl, inr, slice_get, arith}
-use Rattle.std.specs.Prelude.{◌==◌, if◌then◌else◌}
+use Rattle.std.specs.Prelude.{◌==◌, if◌then◌else◌, is_some}
 use Rattle.std.specs.Str.{bytes_eq}
 use Rattle.std.proofs.lemmas.Bool.{and_from}
 use Rattle.std.proofs.lemmas.Slice.Eq.{bytes_eq-Decides}
@@ -167,6 +167,7 @@ module _ (accepted : AreAccepted) where
               results = refl;
               of = refl;
               bare = refl;
+              numeric = ap is_some by_compare;
               risen = refl;
               takes = ap (λ r. takes_its r (Some (kind.Int 1)) (head (comparison w.number w.first w.second)) (f w.first ∷ f w.second ∷ [])) by_compare ∙ same;
             },
@@ -176,6 +177,7 @@ module _ (accepted : AreAccepted) where
                 results = refl;
                 of = k.of;
                 bare = refl;
+                numeric = ap is_some by_select;
                 risen = refl;
                 takes =
                     ap (λ r. takes_its r (Some k.kind) (head (choice w.ty (Result m.next 0) w.first w.second)) (f (Result m.next 0) ∷ f w.first ∷ f w.second ∷ [])) by_select
@@ -286,4 +288,4 @@ module _ (accepted : AreAccepted) where
       let w = extreme_here m n x q in
       let k = on_two_values ExpandMinMax m n x q w.asks_for.operation w.first w.second w.ty ready w.asks_for.by w.operands w.results in
       let s = site_of m a done x q.here ready.formed ready.kinded computing q.found in
-      new_improves ExpandMinMax m n x q (extreme_new m n x q w k) a done (extreme_outcomes m n x q w k a done s) ready.formed (expand_min_max_ready m n x ready e).kinded computing
+      new_improves ExpandMinMax m n x q (extreme_new m n x q w k) a done (extreme_outcomes m n x q w k a done s) ready refl (expand_min_max_ready m n x ready e).kinded computing

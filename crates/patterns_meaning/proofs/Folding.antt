@@ -35,7 +35,7 @@ use Rattle.patterns_meaning.proofs.FoldsKept.{AllHaveBits, AllSay, Folded, fold_
 use Rattle.patterns_meaning.proofs.Formed.{operands_stand}
 use Rattle.patterns_meaning.proofs.Lifted.{operands_are}
 use Rattle.patterns_meaning.proofs.Pairs.{known_kind}
-use Rattle.patterns_meaning.proofs.Ruled.{OfRule, Ruled, Site, gives_refined, known_there, rule_kinds, ruled, site_of, value_bits}
+use Rattle.patterns_meaning.proofs.Ruled.{OfRule, Ruled, Site, gives_refined, known_there, known_kinds, ruled, site_of, value_bits}
 use Rattle.patterns_meaning.proofs.Trees.{each_found}
 
 -- ---- what is known of operands
@@ -98,9 +98,9 @@ fold_kinds : (m n : Module) (x : ℕ) (q : Ruled FoldToConstant m n x) (w : Fold
 fold_kinds m n x q w ready =
     let h = head q.here in
     let f = folded h.name h.properties (map (known m.tree) h.operands) h.results w.value w.fold in
-    let k = rule_kinds m.tree h (each_found (λ h. is_kinded m.tree h ≡ true) x m.tree ready.kinded q.here q.found).0 f.how f.by in
     let first : (tys : List TypeTerm) → tys ≡ f.ty ∷ [] → given (slice_get tys 0) kind_of ≡ kind_of f.ty = (λ tys e. ap (λ tys. given (slice_get tys 0) kind_of) e) in
     let its : given (slice_get h.results 0) kind_of ≡ Some w.value.0 = first h.results f.results_are ∙ f.of in
+    let k = known_kinds m.tree h (each_found (λ h. is_kinded m.tree h ≡ true) x m.tree ready.kinded q.here q.found).0 f.how f.by w.value.0 its in
     record {
       folds = f;
       kinds = k;
@@ -161,4 +161,4 @@ module _ (accepted : AreAccepted) where
       let q = ruled accepted FoldToConstant m n x ready.formed ready.sorted e in
       let w = folds_here m n x q in
       let k = fold_kinds m n x q w ready in
-      number_improves FoldToConstant m n x q (folds_number m n x q w k ready) a done (fold_better m n x q w k ready a done computing) ready.formed (fold_to_constant_ready m n x ready e).kinded computing
+      number_improves FoldToConstant m n x q (folds_number m n x q w k ready) a done (fold_better m n x q w k ready a done computing) ready refl (fold_to_constant_ready m n x ready e).kinded computing

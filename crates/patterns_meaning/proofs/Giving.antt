@@ -8,7 +8,7 @@ use Rattle.ir_tree.specs.declared.value.Value.{Value}
 use Rattle.ir_tree.specs.declared.value.Value.TheVariants.{Result, Arg}
 use Rattle.ir_tree.specs.declared.place.Place.{Place}
 use Rattle.ir_tree.specs.Tree.{head}
-use Rattle.ir_tree.specs.Edits.{put_value}
+use Rattle.ir_tree.specs.Edits.{put_value, put_values}
 use Rattle.ir_tree.specs.Ids.{HasDistinctIds}
 use Rattle.ir_tree.specs.Uses.{same_value}
 use Rattle.ir_tree.specs.WellFormed.{IsWellFormed}
@@ -22,7 +22,8 @@ use Rattle.rewriter_machine.specs.Edits.{Make}
 use Rattle.patterns_base.specs.Makes.{give}
 use Rattle.patterns_edits.specs.Lists.{Free}
 use Rattle.patterns_book.specs.Matching.{Header}
-use Rattle.patterns_meaning.specs.Meaning.{AreOfTypes, Assignment, Each, FitsAll, TypedEach, owner}
+use Rattle.patterns_meaning.specs.Meaning.{AreOfTypes, Assignment, Each, FitsAll, TypedEach, is_arithmetic, owner}
+use Rattle.patterns_meaning.specs.Observing.{Shows, Stays, is_computed}
 use Rattle.patterns_meaning.specs.After.{OperandsStand, rewritten, with_made}
 use Rattle.patterns_meaning.specs.Applied.{Agree, IsBelow}
 use Rattle.patterns_meaning.specs.Better.{AllBetter, AllSure, AreKinded, gives}
@@ -34,7 +35,8 @@ use Rattle.patterns_meaning.proofs.EditsForm.{all_formed, made_plain}
 use Rattle.patterns_meaning.proofs.Formed.{is_below, operands_stand}
 use Rattle.patterns_meaning.proofs.Lifted.{IsBetterWith, IsReady, all_put_better, lifted, old_ready}
 use Rattle.patterns_meaning.proofs.Monotone.{itself}
-use Rattle.patterns_meaning.proofs.Rewritten.{AllBare, AllPut, all_put, given_each}
+use Rattle.patterns_meaning.proofs.Rewritten.{AllBare, AllPut, all_put, given_each, operands_same}
+use Rattle.patterns_meaning.proofs.Showing.{all_better, all_through, at_root, number_at, put_same, rewritten_follows, rewritten_head}
 use Rattle.patterns_meaning.proofs.Trees.{value_below}
 
 -- ---- what is done behind a rewrite
@@ -53,6 +55,7 @@ pub record Making (a : Assignment) (n x : ℕ) (done : ℕ → Bool) (made : Lis
   pub typed : TypedEach outcomes n made
   pub ready : AllPut (IsReady outcomes (done_after n x done)) n made
   pub fed : AllPut (IsFed (done_after n x done)) n made
+  pub numbers : AllPut (λ h. is_arithmetic h ≡ true) n made
   pub better : done x ≡ true → refines (outcomes (Result x 0)) (outcomes v) ≡ true
   pub there : done x ≡ true → is_there (done_after n x done) v ≡ true
 
@@ -118,13 +121,30 @@ module _ (a : Assignment) (n x : ℕ) (done : ℕ → Bool) (made : List Operati
       given_each a c n x v done (Was n done (done_after n x done) t) (λ h p. p) (with_made front n made t)
       (all_put (Was n done (done_after n x done) t) front n made t (was_new n done (done_after n x done) t n made (omega arith)) k.bare (was_old n done (done_after n x done) t d was))
 
+  all_plain : (front : Place) → HasDistinctIds t → Each (Was n (λ y. true) (λ y. true) t) (rewritten front n made x v t)
+  all_plain front d =
+      given_each a c n x v done (Was n (λ y. true) (λ y. true) t) (λ h p. p) (with_made front n made t)
+      (all_put (Was n (λ y. true) (λ y. true) t) front n made t (was_new n (λ y. true) (λ y. true) t n made (omega arith)) k.bare (was_old n (λ y. true) (λ y. true) t d (λ y l i. refl)))
+
+  old_stays : (now : Assignment) → ((w : Value) → refines (c w) (now w) ≡ true) → is_computed t (Result x 0) ≡ true → Each (λ h. Stays t a now (done_after n x done) h (put_values (Result x 0) v h)) t
+  old_stays now better e =
+      each_both (IsBetterWith c later (map (put_value (Result x 0) v))) (λ h. list_all (λ v. has_value v t) h.operands ≡ true) (λ h. Stays t a now later h (put_values (Result x 0) v h))
+      (λ h p s. record {
+        same = refl;
+        values = put_same t x v e h.operands;
+        better = λ i.
+            all_through (map a h.operands) (map c (map (put_value (Result x 0) v) h.operands)) (map now (map (put_value (Result x 0) v) h.operands))
+            (subst (λ zs. AllBetter zs (map c (map (put_value (Result x 0) v) h.operands))) (operands_same a c n x v done k.agrees t below h.operands s) (p i))
+            (all_better c now better (map (put_value (Result x 0) v) h.operands));
+      }) t old_better operands
+
   all_fed : (front : Place) → Each (IsFed later) (rewritten front n made x v t)
   all_fed front =
       given_each a c n x v done (IsFed (done_after n x done)) (λ h p i. put_there h.operands (p i)) (with_made front n made t) (all_put (IsFed (done_after n x done)) front n made t k.fed k.bare old_fed)
 
-pub given_improves : (m n : Module) (x : ℕ) (a : Assignment) (done : ℕ → Bool) (front : Place) (made : List Operation) (v : Value) → IsWellFormed is_isolated m → x < m.next → Computing a done m.tree → AreKinded n.tree
+pub given_improves : (m n : Module) (x : ℕ) (a : Assignment) (done : ℕ → Bool) (front : Place) (made : List Operation) (v : Value) → IsWellFormed is_isolated m → x < m.next → is_computed m.tree (Result x 0) ≡ true → Computing a done m.tree → AreKinded n.tree
     → Making a m.next x done made v → Free (map (λ o. Make front o) made ++ give x v) m → all_edited (map (λ o. Make front o) made ++ give x v) m ≡ n → Improves a done m (done_after m.next x done) n.tree
-given_improves m n x a done front made v formed within computing kinded k free e =
+given_improves m n x a done front made v formed within root computing kinded k free e =
     let c = k.outcomes in
     let later = done_after m.next x done in
     let is : n.tree ≡ rewritten front m.next made x v m.tree = ap (λ (m : Module). m.tree) (sym e) ∙ all_edited_made front made x v m in
@@ -149,6 +169,15 @@ given_improves m n x a done front made v formed within computing kinded k free e
         sure = subst (λ t. AllSure s.now later t) (sym is) s.sure;
         fed = subst (λ t. Each (IsFed later) t) (sym is) (all_fed a m.next x done made v k m.tree below operands within computing front);
       };
+      shows =
+          let numbers = number_at x m.tree formed.distinct root in
+          let old = old_stays a m.next x done made v k m.tree below operands within computing s.now s.better root in
+          subst (Shows a s.now m later) (sym is)
+          (record {
+            root = λ i. subst (Stays m.tree a s.now later (head m.tree)) (sym (rewritten_head x v m.tree numbers front m.next made)) (at_root (λ h. Stays m.tree a s.now later h (put_values (Result x 0) v h)) m.tree old);
+            follows = rewritten_follows x v m.tree numbers a s.now later front m.next made k.numbers old;
+            plain = free_still m.next (λ y. true) (λ y. true) m.tree (rewritten front m.next made x v m.tree) (all_plain a m.next x done made v k m.tree below operands within computing front formed.distinct);
+          });
     }
 
 -- a value of before that is the same or better
@@ -160,6 +189,7 @@ old_given a n x done v l better there = record {
   typed = tt;
   ready = tt;
   fed = tt;
+  numbers = tt;
   better = better;
   there = λ e. one v l (there e);
 }

@@ -272,7 +272,7 @@ module _ (accepted : AreAccepted) where
       let two = of_two_is m a done x q.here s w.first w.second w.operands in
       new_improves AddNegative m n x q (with_constant AddNegative m n x q (codes "arith.addi") op.Add w.first w.ty k.kind (difference_of (type_width w.ty) 0 w.number.1) g) a done
       (constant_outcomes AddNegative m n x q (codes "arith.addi") op.Add w.first w.ty k.kind (difference_of (type_width w.ty) 0 w.number.1) g a done s (refl, (λ w a b. (sum_of w a b, refl))) refl two.first_there (negative_better m n x q w ready k a done computing))
-      ready.formed (add_negative_ready m n x ready e).kinded computing
+      ready refl (add_negative_ready m n x ready e).kinded computing
 
   -- ---- two constants of a chain
   record Joins (m n : Module) (x : ℕ) (q : Ruled RegroupConstants m n x) : Type 0 where
@@ -473,4 +473,4 @@ module _ (accepted : AreAccepted) where
       let s = site_of m a done x q.here ready.formed ready.kinded computing q.found in
       new_improves RegroupConstants m n x q (with_constant RegroupConstants m n x q (head q.here).name w.pair.operation w.inner_first w.ty k.kind w.both.1 g) a done
       (constant_outcomes RegroupConstants m n x q (head q.here).name w.pair.operation w.inner_first w.ty k.kind w.both.1 g a done s w.pair.total w.pair.sure (inner_there m n x q w ready k i a done computing) (joined_better m n x q w ready k i a done computing))
-      ready.formed (regroup_constants_ready m n x ready e).kinded computing
+      ready refl (regroup_constants_ready m n x ready e).kinded computing

@@ -18,6 +18,11 @@ pub mod MadeOf
 pub mod Settling
 pub mod Frees
 pub mod Lifted
+pub mod Shown
+pub mod Follows
+pub mod Showing
+pub mod Numeric
+pub mod ShowingSampled
 pub mod EditsForm
 pub mod Improved
 pub mod Giving

@@ -1,16 +1,14 @@
 -- Rules that give an operation's result by operations that are made keep modules ready, and what they compute.
 use Rattle.std.proofs.Common.{◌≡◌, ℕ, zero, suc, ◌+◌, ◌-◌, ◌<◌, ◌≤◌, refl, ap, sym, ◌∙◌, subst, List, [], ◌∷◌, ◌++◌, map, Bool, true, false, Option, Some, None, slice_get, get_or, inl, arith}
-use Rattle.std.specs.Prelude.{nat_lt, if◌then◌else◌}
+use Rattle.std.specs.Prelude.{nat_lt, if◌then◌else◌, is_some}
 use Rattle.std.specs.List.{list_all}
-use Rattle.std.proofs.lemmas.Bool.{lt-ltb, le-ltb}
+use Rattle.std.proofs.lemmas.Bool.{lt-ltb, le-ltb, and_from}
 use Rattle.std.proofs.lemmas.Option.{none-some, same_Some}
 use Rattle.ir_types.specs.declared.bits.BitsKind.{BitsKind}
 use Rattle.ir_types.specs.Terms.{TypeTerm}
-use Rattle.ir_types.specs.Words.{is_isolated}
 use Rattle.ir_tree.specs.declared.value.Value.{Value}
 use Rattle.ir_tree.specs.declared.value.Value.TheVariants.{Result, Arg}
 use Rattle.ir_tree.specs.Tree.{head, no_regions, regions}
-use Rattle.ir_tree.specs.WellFormed.{IsWellFormed}
 use Rattle.ir_tree.specs.Meaning.{Operation}
 use Rattle.ir_event.specs.Modules.{Module}
 use Rattle.dialects_int.specs.Folds.{kind_of, rule_of}
@@ -21,7 +19,7 @@ use Rattle.patterns_check.specs.Outcomes.{Outcome}
 use Rattle.patterns_check.specs.Checks.{refines}
 use Rattle.patterns_base.specs.declared.rule.Rule.{Rule}
 use Rattle.patterns_base.specs.Makes.{give}
-use Rattle.patterns_meaning.specs.Meaning.{Assignment, IsOfType, TypedEach, makes, owner, result_kind}
+use Rattle.patterns_meaning.specs.Meaning.{Assignment, IsOfType, TypedEach, makes, owner, result_kind, is_arithmetic}
 use Rattle.patterns_meaning.specs.Better.{AreKinded, kind_in, may_overflow, takes_its}
 use Rattle.patterns_meaning.specs.Keeping.{Computing, Improves, IsFed, IsReady, done_after, is_there}
 use Rattle.patterns_meaning.proofs.Giving.{Making, after_new, after_old, given_improves}
@@ -30,7 +28,8 @@ use Rattle.patterns_meaning.proofs.OfBits.{IsOfBits}
 use Rattle.patterns_meaning.proofs.OfKinds.{IsKind}
 use Rattle.patterns_meaning.proofs.Readied.{HasKind, Rises, Takes, same_takes}
 use Rattle.patterns_meaning.proofs.Rewritten.{AllBare, AllPut, same_makes}
-use Rattle.patterns_meaning.proofs.Ruled.{Ruled}
+use Rattle.patterns_meaning.proofs.Numeric.{is_numeric}
+use Rattle.patterns_meaning.proofs.Ruled.{Ruled, computed_root}
 use Rattle.patterns_meaning.proofs.StaysReady.{stays_ready}
 use Rattle.patterns_meaning.proofs.Trees.{ResultsAre}
 
@@ -66,6 +65,7 @@ module _ (f : Value → Option BitsKind) where
     pub results : (head o).results ≡ ty ∷ []
     pub of : kind_of ty ≡ Some k
     pub bare : regions o ≡ no_regions
+    pub numeric : is_some (rule_of (head o).name) ≡ true
     pub risen : Rises (head o)
     pub takes : takes_its (rule_of (head o).name) (Some k) (head o) (map f (head o).operands) ≡ true
 
@@ -92,6 +92,11 @@ module _ (f : Value → Option BitsKind) where
   all_bare [] ks g = tt
   all_bare (o ∷ os) [] g = absurd g
   all_bare (o ∷ os) (k ∷ ks) g = (g.0.bare, all_bare os ks g.1)
+
+  pub all_numbers : (m : ℕ) (os : List Operation) (ks : List BitsKind) → AllMade os ks → AllPut (λ h. is_arithmetic h ≡ true) m os
+  all_numbers m [] ks g = tt
+  all_numbers m (o ∷ os) [] g = absurd g
+  all_numbers m (o ∷ os) (k ∷ ks) g = (and_from (is_some (rule_of (head o).name)) (is_some (result_kind (head o))) g.0.numeric (ap is_some (its_kind o k g.0)), all_numbers (m + 1) os ks g.1)
 
   pub all_risen : (m : ℕ) (os : List Operation) (ks : List BitsKind) → AllMade os ks → AllPut Rises m os
   all_risen m [] ks g = tt
@@ -208,11 +213,12 @@ module _ (r : Rule) (m n : Module) (x : ℕ) (q : Ruled r m n x) (g : GivesNew r
       typed = all_typed c done m.next x kinds m.next g.made g.kinds o.outcomes g.are o.give there_at;
       ready = all_ready c done m.next x m.next g.made g.kinds o.outcomes (omega arith) o.give there_at;
       fed = all_fed c done m.next x m.next g.made g.kinds o.outcomes (omega arith) o.give;
+      numbers = all_numbers kinds m.next g.made g.kinds g.are;
       better = λ d. subst (λ z. refines z (c g.value) ≡ true) (sym (all_agree a m.next None o.outcomes (Result x 0) q.within)) (o.better d);
       there = o.there;
     }
 
-    pub new_improves : IsWellFormed is_isolated m → AreKinded n.tree → Computing a done m.tree → Improves a done m (done_after m.next x done) n.tree
-    new_improves formed kinded computing =
-        given_improves m n x a done q.front g.made g.value formed q.within computing kinded making
+    pub new_improves : IsReady m → is_numeric r ≡ true → AreKinded n.tree → Computing a done m.tree → Improves a done m (done_after m.next x done) n.tree
+    new_improves ready numeric kinded computing =
+        given_improves m n x a done q.front g.made g.value ready.formed q.within (computed_root r m n x q ready.kinded (q.numeric numeric)) computing kinded making
         (subst (λ es. Free es m) g.edits q.free) (subst (λ es. all_edited es m ≡ n) g.edits q.module_is)

@@ -205,6 +205,9 @@ module _ (accepted : AreAccepted) where
           own_first = λ h. refl;
           own_second = λ h. refl;
           own_third = λ h. refl;
+          number_first = λ h. refl;
+          number_second = λ h. refl;
+          number_third = λ h. refl;
           operands = w.second ∷ w.first ∷ [];
           properties = put;
           becomes = ap (λ vs. put_operand 1 w.first (put_operand 0 w.second (f (record (head q.here) { operands = vs })))) w.operands;

@@ -137,7 +137,7 @@ module _ (accepted : AreAccepted) where
       let both : y ≡ w = same_Some _ _ (sym j ∙ ap a c.same ∙ l) in
       c.pair.2 (width_of y.0) y.1 n (ap (λ (w : Known). value_of c.pair.0 (width_of y.0) y.1 w.1) both ∙ v))
       i))
-      ready.formed (cancel_itself_ready m n x ready e).kinded computing
+      ready refl (cancel_itself_ready m n x ready e).kinded computing
 
   -- by 1
   record Leaves (m n : Module) (x : ℕ) (q : Ruled ZeroRemainder m n x) : Type 0 where
@@ -192,4 +192,4 @@ module _ (accepted : AreAccepted) where
       let one : w.1 ≡ 1 = ap (λ (w : Known). w.1) (sym (known_is m a done ready.formed ready.kinded computing c.second number.0 w two.second (two.second_there d) number.1 l)) ∙ eqb-true number.0.1 1 number.2 in
       c.pair.2 (width_of y.0) y.1 n (some_bits y.0 y.1 bits) (below y.0 y.1 bits) (ap (value_of c.pair.0 (width_of y.0) y.1) (sym one) ∙ v))
       i))
-      ready.formed (zero_remainder_ready m n x ready e).kinded computing
+      ready refl (zero_remainder_ready m n x ready e).kinded computing

@@ -1,6 +1,6 @@
 -- Operations on two values and constants, as rules make them: their kinds, and what they give.
 use Rattle.std.proofs.Common.{◌≡◌, ℕ, refl, ap, sym, ◌∙◌, subst, List, [], ◌∷◌, Bool, true, false, ◌&&◌, not, Option, Some, None, ◌⊎◌, inl, inr, arith}
-use Rattle.std.specs.Prelude.{codes, if◌then◌else◌}
+use Rattle.std.specs.Prelude.{codes, if◌then◌else◌, is_some}
 use Rattle.std.proofs.lemmas.Bool.{and_from, and_parts}
 use Rattle.std.proofs.lemmas.Bool.Decides.{nat_tests}
 use Rattle.std.proofs.lemmas.Option.{none-some, same_Some}
@@ -36,7 +36,7 @@ use Rattle.patterns_meaning.proofs.Monotone.{none_made}
 use Rattle.patterns_meaning.proofs.News.{constant_makes}
 use Rattle.patterns_meaning.proofs.OfBits.{IsOfBits, pair_bits}
 use Rattle.patterns_meaning.proofs.OfKinds.{IsKind, pair_kind}
-use Rattle.patterns_meaning.proofs.Ruled.{rule_kinds}
+use Rattle.patterns_meaning.proofs.Ruled.{known_kinds}
 use Rattle.patterns_meaning.proofs.Sources.{sole_of}
 use Rattle.patterns_meaning.proofs.Trees.{each_found}
 
@@ -127,6 +127,7 @@ module _ (f : Value → Option BitsKind) where
     results = refl;
     of = of;
     bare = refl;
+    numeric = ap is_some e;
     risen = flags_rise (among flagged name);
     takes = ap (λ r. takes_pair r) e ∙ and_from (is_width (width_of k)) (is_kind k (f u) && is_kind k (f v)) width (and_from (is_kind k (f u)) (is_kind k (f v)) i j);
   }
@@ -140,6 +141,7 @@ module _ (f : Value → Option BitsKind) where
     results = refl;
     of = of;
     bare = refl;
+    numeric = ap is_some by_constant;
     risen = refl;
     takes =
         ap (λ r. takes_its r (Some k) (head (constant ty bits)) []) by_constant
@@ -184,8 +186,9 @@ known_kind m v x kinded there e =
     let r = results_one g.0.name g.0.properties g.0.results x g.2 in
     let s = sole_of m (λ h. named (codes "arith.constant") h.name && is_clean m.tree h) v g.0 g.1 there r.0 r.1 in
     let name = ap rule_of (ap (λ (h : Header). h.name) s.heads ∙ named_is (codes "arith.constant") g.0.name (and_parts (named (codes "arith.constant") g.0.name) (is_clean m.tree g.0) s.passed).0) ∙ by_constant in
-    let k = rule_kinds m.tree (head s.here) (each_found (λ h. is_kinded m.tree h ≡ true) s.id m.tree kinded s.here s.found).0 how.Constant name in
-    let folds : fold_of (head s.here).name (head s.here).properties [] (head s.here).results ≡ Some x = subst (λ (h : Header). fold_of h.name h.properties [] h.results ≡ Some x) (sym s.heads) g.2 in (
+    let folds : fold_of (head s.here).name (head s.here).properties [] (head s.here).results ≡ Some x = subst (λ (h : Header). fold_of h.name h.properties [] h.results ≡ Some x) (sym s.heads) g.2 in
+    let own = fold_kind (head s.here).name (head s.here).properties [] (head s.here).results x folds in
+    let k = known_kinds m.tree (head s.here) (each_found (λ h. is_kinded m.tree h ≡ true) s.id m.tree kinded s.here s.found).0 how.Constant name x.0 own in (
       s.kind ∙ fold_kind (head s.here).name (head s.here).properties [] (head s.here).results x folds,
       sym (ap are_its_bits folds) ∙ k.operands,
     )

@@ -58,7 +58,7 @@ use Rattle.patterns_meaning.proofs.Forms.{MakesIt, constant_there, giver_of, mak
 use Rattle.patterns_meaning.proofs.Giving.{Making, after_new, given_improves}
 use Rattle.patterns_meaning.proofs.Going.{formed_parts, made_parts, planned_as, planned_there, plans_go}
 use Rattle.patterns_meaning.proofs.Improved.{AreNoQuotients, new_ready, no_quotients}
-use Rattle.patterns_meaning.proofs.Makings.{AllGive, AllMade, all_agree, all_at, all_bare, all_ready, all_results, all_risen, all_take, all_typed, still_there, with_all}
+use Rattle.patterns_meaning.proofs.Makings.{AllGive, AllMade, all_agree, all_at, all_bare, all_numbers, all_ready, all_results, all_risen, all_take, all_typed, still_there, with_all}
 use Rattle.patterns_meaning.proofs.News.{HasNumbers, ShowsNew, extended, extended_agrees, extended_later, new_place_of, news_run}
 use Rattle.patterns_meaning.proofs.OfBits.{AllOfBits}
 use Rattle.patterns_meaning.proofs.OfKinds.{OfKinds}
@@ -246,6 +246,7 @@ module _ (m : Module) (p : Shape) (x : ℕ) (passing : list_all piece_passes p.o
           typed = all_typed c done m.next x all_kinds m.next os its_kinds zs its_made give at;
           ready = all_ready c done m.next x m.next os its_kinds zs (omega arith) give at;
           fed = fed;
+          numbers = all_numbers all_kinds m.next os its_kinds its_made;
           better = λ i. absurd (true≢false (sym i ∙ d));
           there = value_there;
         }
@@ -385,6 +386,7 @@ module _ (m : Module) (p : Shape) (x : ℕ) (passing : list_all piece_passes p.o
           typed = n.2;
           ready = new_ready c later m.next os n.0 plain;
           fed = fed;
+          numbers = all_numbers all_kinds m.next os its_kinds its_made;
           better = λ i. ap (λ o. refines o (c value)) (extended_agrees a m.next (new_place p) r.0 (Result x 0) root_within ∙ none);
           there = value_there;
         }
@@ -397,7 +399,7 @@ module _ (m : Module) (p : Shape) (x : ℕ) (passing : list_all piece_passes p.o
     known_pass : (f : Form) (v : Value) (h : Header) → passes_poison f ≡ true → giver_head m.tree (is_clean m.tree) v ≡ Some h → rule_of h.name ≡ Some (rule_for f) → IsKnown v → (w : Value) → In w h.operands → is_some (a w) ≡ true
     known_pass f v h s e r i w n =
         let g = giver_of t (is_clean t) v h e in
-        let k = giver_kinds m ready v h e (rule_for f) r in
+        let k = giver_kinds m ready v h e f r in
         let d = ap (is_there done) (sym g.value) ∙ i.there in
         let known = ap (λ v. is_some (a v)) (sym g.value) ∙ i.known in
         elim (subst (λ (h : Header). is_arithmetic h ≡ true → Fits a g.id h ⊎ Breaks a g.id h) g.heads (found_fit a done t computing.fits g.id g.here g.found d) k.arithmetic) [
@@ -442,6 +444,7 @@ module _ (m : Module) (p : Shape) (x : ℕ) (passing : list_all piece_passes p.o
             typed = g.typed;
             ready = new_ready g.after later m.next os g.fits plain;
             fed = fed;
+            numbers = all_numbers all_kinds m.next os its_kinds its_made;
             better = λ i. subst (λ o. refines o (g.after value) ≡ true) (sym (g.agrees (Result x 0) root_within)) g.refined;
             there = value_there;
           }
@@ -497,7 +500,7 @@ module _ (accepted : OwnAreAccepted) (p : Shape) (passing : list_all piece_passe
     pub passing_computing : AlwaysKeeps (content_with (map kind_standing s.here.types) p) → (a : Assignment) (done : ℕ → Bool) → Computing a done m.tree → Improves a done m (done_after m.next x done) n.tree
     passing_computing keeps a done computing =
         let r = s.applied in
-        given_improves m n x a done r.front r.made r.value ready.formed (root_within m p x passing defined proper ready r.made r.value r.plan s.here kinded) computing passing_ready.kinded
+        given_improves m n x a done r.front r.made r.value ready.formed (root_within m p x passing defined proper ready r.made r.value r.plan s.here kinded) s.here.computed computing passing_ready.kinded
         (making m p x passing defined proper ready r.made r.value r.plan s.here kinded a done computing keeps) s.free r.module_is
 
 -- ---- the laws

@@ -144,6 +144,7 @@ form_made g f vs term k es n of width t same =
       results = refl;
       of = of;
       bare = refl;
+      numeric = ap is_some (form_rule f n);
       risen = form_rises f vs term;
       takes = ap by_rule (form_rule f n) ∙ and_from (is_width (width_of k)) (takes (rule_for f) h k (map g vs)) width (ap (takes (rule_for f) h k) same ∙ takes_form es h k f ∙ t);
     }

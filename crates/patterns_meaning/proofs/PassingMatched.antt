@@ -45,9 +45,9 @@ use Rattle.patterns_book.specs.Planning.{kind_standing, known_at, old_place, out
 use Rattle.patterns_book.specs.Shapes.{Shape}
 use Rattle.patterns_makeable.specs.Makeable.{has_name}
 use Rattle.patterns_matched.proofs.Found.{all_from, bound_from, when_is}
-use Rattle.patterns_meaning.specs.Meaning.{Assignment, makes_by, of_one, of_two, result_kind}
+use Rattle.patterns_meaning.specs.Meaning.{Assignment, makes_by, of_one, of_two, result_kind, is_arithmetic}
 use Rattle.patterns_meaning.specs.Applied.{AreOfKinds, IsProper, further_kind, kinds_behind, kinds_given, matched}
-use Rattle.patterns_meaning.specs.Better.{are_its_bits, is_kind, is_kinded, kind_in, narrows, takes}
+use Rattle.patterns_meaning.specs.Better.{are_its_bits, is_kind, is_kinded, kind_in, narrows, takes, is_arithmetic_there}
 use Rattle.patterns_meaning.specs.Keeping.{IsReady}
 use Rattle.patterns_meaning.specs.Passing.{passes_poison, piece_passes}
 use Rattle.patterns_meaning.proofs.Beginning.{outcomes_at, outcomes_long}
@@ -56,9 +56,10 @@ use Rattle.patterns_meaning.proofs.Going.{AreTyped, IsPlanned, formed_parts, has
 use Rattle.patterns_meaning.proofs.Monotone.{none_made}
 use Rattle.patterns_meaning.proofs.OfBits.{AllOfBits, run_bits}
 use Rattle.patterns_meaning.proofs.OfKinds.{OfKinds, furthers_run, numbers_run}
-use Rattle.patterns_meaning.proofs.Ruled.{OfRule, rule_kinds}
+use Rattle.patterns_meaning.proofs.Ruled.{OfRule, known_kinds, rule_kinds}
 use Rattle.patterns_meaning.proofs.Standing.{AllHold, Holds, Stands, one_stands, standing_stands, stands_standing}
 use Rattle.patterns_meaning.proofs.Trees.{each_found}
+use Rattle.patterns_meaning.specs.Observing.{is_computed}
 
 -- ---- what is true of a value, and so of the operands of the operation that gives it, is true of all that stands
 abbrev pub Passes : Operation → (Header → Bool) → (Value → Type 0) → Type 0
@@ -240,10 +241,20 @@ module _ (t : Operation) (clean : Header → Bool) (n : ℕ) (p : Shape) where
 
 -- ---- what gives a value in a ready module
 module _ (m : Module) (ready : IsReady m) (v : Value) (h : Header) (e : giver_head m.tree (is_clean m.tree) v ≡ Some h) where
-  pub giver_kinds : (r : How) → rule_of h.name ≡ Some r → OfRule m.tree h r
-  giver_kinds r name =
+  giver_kinded : is_kinded m.tree h ≡ true
+  giver_kinded =
       let g = giver_of m.tree (is_clean m.tree) v h e in
-      rule_kinds m.tree h (subst (λ h. is_kinded m.tree h ≡ true) g.heads (each_found (λ h. is_kinded m.tree h ≡ true) g.id m.tree ready.kinded g.here g.found).0) r name
+      subst (λ h. is_kinded m.tree h ≡ true) g.heads (each_found (λ h. is_kinded m.tree h ≡ true) g.id m.tree ready.kinded g.here g.found).0
+
+  pub giver_kinds : (f : Form) → rule_of h.name ≡ Some (rule_for f) → OfRule m.tree h (rule_for f)
+  giver_kinds (form.Pair o i j) name = rule_kinds m.tree h giver_kinded (how.Pair o) name
+  giver_kinds (form.Compare q i j) name = rule_kinds m.tree h giver_kinded how.Compare name
+  giver_kinds (form.Select c i j) name = rule_kinds m.tree h giver_kinded how.Select name
+  giver_kinds (form.Resize c i) name = rule_kinds m.tree h giver_kinded (how.Resize c) name
+  giver_kinds (form.IndexCast c i) name = rule_kinds m.tree h giver_kinded (how.IndexCast c) name
+
+  giver_known : (r : How) → rule_of h.name ≡ Some r → (k : BitsKind) → result_kind h ≡ Some k → OfRule m.tree h r
+  giver_known r name k i = known_kinds m.tree h giver_kinded r name k i
 
   -- the kind of what it gives
   pub giver_kind : (term : TypeTerm) → type_of_value v m.tree ≡ Some term → result_kind h ≡ kind_of term
@@ -255,7 +266,7 @@ constant_fits m ready v y term k e of is =
     let g = given_some (giver_head m.tree (is_clean m.tree) v) (λ h. when (named (codes "arith.constant") h.name) (fold_of h.name h.properties [] h.results)) y e in
     let f = when_is (named (codes "arith.constant") g.0.name) (fold_of g.0.name g.0.properties [] g.0.results) y g.2 in
     let name = ap rule_of (named_is (codes "arith.constant") g.0.name f.0) ∙ by_constant in
-    let r = giver_kinds m ready v g.0 g.1 how.Constant name in (
+    let r = giver_known m ready v g.0 g.1 how.Constant name y.0 (fold_kind g.0.name g.0.properties [] g.0.results y f.1) in (
       same_Some _ _ (sym (fold_kind g.0.name g.0.properties [] g.0.results y f.1) ∙ giver_kind m ready v g.0 g.1 term of ∙ is),
       sym (ap are_its_bits f.1) ∙ r.operands,
     )
@@ -291,6 +302,7 @@ module _ (m : Module) (p : Shape) (x : ℕ) (passing : list_all piece_passes p.o
     pub are_types : typed m.tree (is_clean m.tree) m.next p here ≡ Some types
     pub parts : IsPlanned m.tree (is_clean m.tree) m.next p here types made value
     pub root : has_value (Result x 0) m.tree ≡ true
+    pub computed : is_computed m.tree (Result x 0) ≡ true
     pub rooted : Rooted types
     pub kinds : AreOfKinds types
     pub variables : (i : ℕ) (w : Value) → i < length p.values → Stands i w here → IsTypedAs w (kind_at (kinds_first types) i)
@@ -326,6 +338,7 @@ module _ (m : Module) (p : Shape) (x : ℕ) (passing : list_all piece_passes p.o
     pub of : kind_of term ≡ Some kind
     pub type_stands : Stands ty term ts
     pub width : is_width (width_of kind) ≡ true
+    pub computed : is_computed m.tree its_value ≡ true
 
   matched_at : (b : Standing Value) (ts : Standing TypeTerm) (i : ℕ) → AllHold t clean (old_place p) p.old b → AreTyped t clean m.next p b ts → i < length p.old → Matched b ts i
   matched_at b ts i holds are l =
@@ -334,7 +347,7 @@ module _ (m : Module) (p : Shape) (x : ℕ) (passing : list_all piece_passes p.o
       let w = a.2 in
       let v = h.2 in
       let of : type_of_value v.value t ≡ Some w.term = ap (λ v. type_of_value v t) (one_stands (old_place p + i) v.value w.value b v.stands w.stands) ∙ w.of_value in
-      let k = giver_kinds m ready v.value v.header v.gives (rule_for h.0.form) (ap rule_of (named_is (name_of h.0.form) v.header.name v.name) ∙ form_rule h.0.form (named_at p.old i h.0 proper.named h.1)) in
+      let k = giver_kinds m ready v.value v.header v.gives h.0.form (ap rule_of (named_is (name_of h.0.form) v.header.name v.name) ∙ form_rule h.0.form (named_at p.old i h.0 proper.named h.1)) in
       record {
         ty = a.0;
         at = a.1;
@@ -346,6 +359,7 @@ module _ (m : Module) (p : Shape) (x : ℕ) (passing : list_all piece_passes p.o
         of = sym (giver_kind m ready v.value v.header v.gives w.term of) ∙ k.is;
         type_stands = w.type_stands;
         width = k.width;
+        computed = let g = giver_of m.tree (is_clean m.tree) v.value v.header v.gives in ap (is_computed m.tree) g.value ∙ ap is_arithmetic_there g.found ∙ ap is_arithmetic g.heads ∙ k.arithmetic;
       }
 
   root_at : (b : Standing Value) (ts : Standing TypeTerm) → Matched b ts (p.root - old_place p) → Rooted ts
@@ -358,7 +372,7 @@ module _ (m : Module) (p : Shape) (x : ℕ) (passing : list_all piece_passes p.o
   -- operands of what has a kind have kinds
   kinds_pass : Passes m.tree (is_clean m.tree) (λ w. is_some (kind_in m.tree w) ≡ true)
   kinds_pass f v h s e r q w i =
-      let k = giver_kinds m ready v h e (rule_for f) r in
+      let k = giver_kinds m ready v h e f r in
       each_mapped (kind_in t) is_some h.operands (operands_of_kinds h k.kind f (map (kind_in t) h.operands) s k.operands) w i
 
   variables_typed : (b : Standing Value) (ts : Standing TypeTerm) → AreTyped t clean m.next p b ts → AreOfKinds ts → (i : ℕ) (w : Value) → i < length p.values → Stands i w b → IsTypedAs w (kind_at (kinds_first ts) i)
@@ -394,6 +408,9 @@ module _ (m : Module) (p : Shape) (x : ℕ) (passing : list_all piece_passes p.o
         are_types = r.1;
         parts = planned_there t clean m.next p x s.0 r.0 made value s.1 r.1 plan;
         root = has_type t clean (old_place p) (map Piece.ty p.old) s.0 r.0 are.pieces p.root (Result x 0) k.root (omega (arith, f.root, length-map p.old Piece.ty)) found.root;
+        computed =
+            subst (λ v. is_computed m.tree v ≡ true)
+            (one_stands (old_place p + (p.root - old_place p)) root.its_value (Result x 0) s.0 root.stands (subst (λ z. Stands z (Result x 0) s.0) place found.root)) root.computed;
         rooted = root_at s.0 r.0 root;
         kinds = kinds;
         variables = variables_typed s.0 r.0 are kinds;

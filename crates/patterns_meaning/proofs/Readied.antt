@@ -156,7 +156,12 @@ same_takes h y vs js = go (rule_of h.name) (result_kind h) js
 
     go : (r : Option How) (k : Option BitsKind) (js : List (Option BitsKind)) → takes_its r k (record h { id = y; operands = vs }) js ≡ takes_its r k h js
     go None k js = refl
-    go (Some r) None js = refl
+    go (Some how.Constant) None js = refl
+    go (Some (how.Pair o)) None js = refl
+    go (Some how.Compare) None js = refl
+    go (Some how.Select) None js = refl
+    go (Some (how.Resize c)) None js = refl
+    go (Some (how.IndexCast c)) None js = refl
     go (Some r) (Some k) js = ap (λ b. is_width (width_of k) && b) (by r k js)
 
 -- what is made, as it will stand

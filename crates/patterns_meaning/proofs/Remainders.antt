@@ -373,4 +373,4 @@ module _ (accepted : AreAccepted) where
       let same : o ≡ q.here = same_Some _ _ (sym found ∙ q.found) in
       let quotient : done x ≡ true → (is_signed_remainder w.divides_it.rest && overflows (a w.first ∷ a w.second ∷ [])) ≡ false =
       (λ d. sym (λ i. is_signed (w.divides_it.by i) && overflows (map a (w.operands i))) ∙ subst (HasQuotient a done) (ap head same) has (ap done q.id ∙ d)) in
-      new_improves ExpandRemainder m n x q (remainder_new m n x q w k) a done (remainder_outcomes m n x q w k a done s quotient) ready.formed (expand_remainder_ready m n x ready e).kinded computing
+      new_improves ExpandRemainder m n x q (remainder_new m n x q w k) a done (remainder_outcomes m n x q w k a done s quotient) ready refl (expand_remainder_ready m n x ready e).kinded computing

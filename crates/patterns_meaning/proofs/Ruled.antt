@@ -40,12 +40,14 @@ use Rattle.patterns_facts.specs.Accepted.{AreAccepted}
 use Rattle.patterns_book.specs.Matching.{Header}
 use Rattle.patterns_meaning.specs.Meaning.{Assignment, is_arithmetic, makes_by, result_kind}
 use Rattle.patterns_meaning.specs.Applied.{IsBelow}
-use Rattle.patterns_meaning.specs.Better.{AreKinded, is_kinded, kind_in, takes, takes_its}
+use Rattle.patterns_meaning.specs.Better.{AreKinded, OtherConstantsAreKinded, is_arithmetic_there, is_kinded, kind_in, takes, takes_its}
+use Rattle.patterns_meaning.specs.Observing.{is_computed}
 use Rattle.patterns_meaning.specs.Keeping.{Computing, IsFed, is_there}
 use Rattle.patterns_meaning.proofs.Applying.{carried, some_edits}
 use Rattle.patterns_meaning.proofs.Formed.{is_below, operands_stand}
-use Rattle.patterns_meaning.proofs.Forms.{by_constant, makes_is, named_is}
+use Rattle.patterns_meaning.proofs.Forms.{by_constant, fold_kind, makes_is, named_is}
 use Rattle.patterns_meaning.proofs.Monotone.{same_refined}
+use Rattle.patterns_meaning.proofs.Numeric.{asks_kind, is_numeric, numeric_named}
 use Rattle.patterns_meaning.proofs.OfBits.{IsOfBits}
 use Rattle.patterns_meaning.proofs.Settling.{typed_bits}
 use Rattle.patterns_meaning.proofs.Trees.{TypesFound, each_found, found_fit, types_found}
@@ -65,6 +67,7 @@ pub record Ruled (r : Rule) (m n : Module) (x : ℕ) : Type 0 where
   pub free : Free edits m
   pub module_is : all_edited edits m ≡ n
   pub within : x < m.next
+  pub numeric : is_numeric r ≡ true → asks_kind (rule_of (head here).name) ≡ true
 
 pub ruled : AreAccepted → (r : Rule) (m n : Module) (x : ℕ) → IsWellFormed is_isolated m → IsSorted m → rewrite_of r m x ≡ becomes n → Ruled r m n x
 ruled accepted r m n x formed sorted e =
@@ -84,6 +87,7 @@ ruled accepted r m n x formed sorted e =
       free = accepted r m x formed sorted s.0 n s.1 s.2;
       module_is = carried m n s.0 s.2;
       within = subst (λ y. y < m.next) b.1 b.0;
+      numeric = λ i. numeric_named r m.tree m.next f.0 g.0 s.0 i w.1;
     }
 
 -- ---- what its operation and its operands give
@@ -115,20 +119,66 @@ pub record OfRule (t : Operation) (h : Header) (r : How) : Type 0 where
   pub width : is_width (width_of kind) ≡ true
   pub arithmetic : is_arithmetic h ≡ true
 
-pub rule_kinds : (t : Operation) (h : Header) → is_kinded t h ≡ true → (r : How) → rule_of h.name ≡ Some r → OfRule t h r
-rule_kinds t h kinded r e = go (result_kind h) refl (subst (λ q. takes_its q (result_kind h) h (map (kind_in t) h.operands) ≡ true) e kinded)
+-- where its result has a kind
+pub known_kinds : (t : Operation) (h : Header) → is_kinded t h ≡ true → (r : How) → rule_of h.name ≡ Some r → (k : BitsKind) → result_kind h ≡ Some k → OfRule t h r
+known_kinds t h kinded r e k i =
+    let js = map (kind_in t) h.operands in
+    let p = and_parts (is_width (width_of k)) (takes r h k js) (subst (λ o. takes_its (Some r) o h js ≡ true) i (subst (λ q. takes_its q (result_kind h) h js ≡ true) e kinded)) in
+    record { kind = k; is = i; operands = p.1; width = p.0; arithmetic = (λ j. is_some (e j) && is_some (i j)) }
+
+-- a constant of another type is of the kinds that it asks for
+pub other_constants_are_kinded : OtherConstantsAreKinded
+other_constants_are_kinded t h name none =
+    let js = map (kind_in t) h.operands in
+    ap (λ r. takes_its r (result_kind h) h js) (ap rule_of name ∙ by_constant) ∙ ap (λ k. takes_its (Some how.Constant) k h js) none
+
+-- so it has, but for constants
+abbrev pub KindsOf : Operation → Header → How → Type 0
+KindsOf t h how.Constant = Unit {0}
+KindsOf t h (how.Pair o) = OfRule t h (how.Pair o)
+KindsOf t h how.Compare = OfRule t h how.Compare
+KindsOf t h how.Select = OfRule t h how.Select
+KindsOf t h (how.Resize c) = OfRule t h (how.Resize c)
+KindsOf t h (how.IndexCast c) = OfRule t h (how.IndexCast c)
+
+pub rule_kinds : (t : Operation) (h : Header) → is_kinded t h ≡ true → (r : How) → rule_of h.name ≡ Some r → KindsOf t h r
+rule_kinds t h kinded r e = go r e (result_kind h) refl (subst (λ q. takes_its q (result_kind h) h (map (kind_in t) h.operands) ≡ true) e kinded)
   where
-    go : (k : Option BitsKind) → result_kind h ≡ k → takes_its (Some r) k h (map (kind_in t) h.operands) ≡ true → OfRule t h r
-    go None i f = absurd (true≢false (sym f))
-    go (Some k) i f =
-        let p = and_parts (is_width (width_of k)) (takes r h k (map (kind_in t) h.operands)) f in
-        record { kind = k; is = i; operands = p.1; width = p.0; arithmetic = (λ j. is_some (e j) && is_some (i j)) }
+    go : (r : How) → rule_of h.name ≡ Some r → (k : Option BitsKind) → result_kind h ≡ k → takes_its (Some r) k h (map (kind_in t) h.operands) ≡ true → KindsOf t h r
+    go how.Constant e k i f = tt
+    go (how.Pair o) e None i f = absurd (true≢false (sym f))
+    go (how.Pair o) e (Some k) i f = known_kinds t h kinded (how.Pair o) e k i
+    go how.Compare e None i f = absurd (true≢false (sym f))
+    go how.Compare e (Some k) i f = known_kinds t h kinded how.Compare e k i
+    go how.Select e None i f = absurd (true≢false (sym f))
+    go how.Select e (Some k) i f = known_kinds t h kinded how.Select e k i
+    go (how.Resize c) e None i f = absurd (true≢false (sym f))
+    go (how.Resize c) e (Some k) i f = known_kinds t h kinded (how.Resize c) e k i
+    go (how.IndexCast c) e None i f = absurd (true≢false (sym f))
+    go (how.IndexCast c) e (Some k) i f = known_kinds t h kinded (how.IndexCast c) e k i
+
+-- an operation of a rule is arithmetic, where it is of the kinds that it asks for, and no constant
+pub named_arithmetic : (t : Operation) (h : Header) → is_kinded t h ≡ true → asks_kind (rule_of h.name) ≡ true → is_arithmetic h ≡ true
+named_arithmetic t h kinded e = go (rule_of h.name) refl e
+  where
+    go : (q : Option How) → rule_of h.name ≡ q → asks_kind q ≡ true → is_arithmetic h ≡ true
+    go None i e = absurd (true≢false (sym e))
+    go (Some how.Constant) i e = absurd (true≢false (sym e))
+    go (Some (how.Pair o)) i e = (rule_kinds t h kinded (how.Pair o) i).arithmetic
+    go (Some how.Compare) i e = (rule_kinds t h kinded how.Compare i).arithmetic
+    go (Some how.Select) i e = (rule_kinds t h kinded how.Select i).arithmetic
+    go (Some (how.Resize c)) i e = (rule_kinds t h kinded (how.Resize c) i).arithmetic
+    go (Some (how.IndexCast c)) i e = (rule_kinds t h kinded (how.IndexCast c) i).arithmetic
+
+-- what its result is, is computed
+pub computed_root : (r : Rule) (m n : Module) (x : ℕ) (q : Ruled r m n x) → AreKinded m.tree → asks_kind (rule_of (head q.here).name) ≡ true → is_computed m.tree (Result x 0) ≡ true
+computed_root r m n x q kinded e = ap is_arithmetic_there q.found ∙ named_arithmetic m.tree (head q.here) (each_found (λ h. is_kinded m.tree h ≡ true) x m.tree kinded q.here q.found).0 e
 
 module _ (m : Module) (a : Assignment) (done : ℕ → Bool) (x : ℕ) (o : Operation) (s : Site m a done x o) where
   abbrev t : Operation
   t = m.tree
 
-  pub of_rule : (r : How) → rule_of (head o).name ≡ Some r → OfRule m.tree (head o) r
+  pub of_rule : (r : How) → rule_of (head o).name ≡ Some r → KindsOf m.tree (head o) r
   of_rule r e = rule_kinds m.tree (head o) s.kinded r e
 
   -- what it gives refines what is no worse than all that it may make
@@ -166,5 +216,5 @@ module _ (m : Module) (a : Assignment) (done : ℕ → Bool) (formed : IsWellFor
       let first : k ≡ 0 = one_result (head p.0).name (head p.0).properties (head p.0).results x k folds (sym (ap (λ o. is_some (option_and_then (λ (o : Operation). slice_get (head o).results k) o)) p.1) ∙ h) in
       let s = site_of m a done y p.0 formed kinded computing p.1 in
       subst (λ k. refines (a (Result y k)) (Some x) ≡ true) (sym first)
-      (gives_refined m a done y p.0 s how.Constant (Some x) name (of_rule m a done y p.0 s how.Constant name) there
+      (gives_refined m a done y p.0 s how.Constant (Some x) name (known_kinds m.tree (head p.0) s.kinded how.Constant name x.0 (fold_kind (head p.0).name (head p.0).properties [] (head p.0).results x folds)) there
       (λ z i. same_refined z (Some x) (same_Some _ _ (sym i ∙ given_at (fold_of (head p.0).name (head p.0).properties [] (head p.0).results) x (λ x. Some (Some x)) (Some (Some x)) folds refl))))

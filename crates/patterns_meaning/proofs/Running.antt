@@ -19,6 +19,7 @@ use Rattle.patterns_meaning.proofs.Applying.{applies}
 use Rattle.patterns_meaning.proofs.Giving.{after_old}
 use Rattle.patterns_meaning.proofs.Monotone.{itself, through}
 use Rattle.patterns_meaning.proofs.Ruled.{rule_edits}
+use Rattle.patterns_meaning.proofs.Showing.{shows_itself, shows_through}
 
 -- ids that are free are taken, and none is given back
 next_grows : (e : Edit) (n : ℕ) → n ≤ next_edited e n
@@ -66,7 +67,7 @@ module _ (I : Module → Type 0) (ts : List Attempt) (keep : (t : Attempt) → I
     (
       subst IsReady leads ready,
       subst (λ (n : Module). m.next ≤ n.next) leads (omega arith),
-      (λ a done c. subst (λ n. ComputesThrough a done m n) leads (record { later = done; same = λ y l. refl; improves = record { now = a; better = λ v l. itself (a v); stays = λ v l e. refl; free = λ v l e. e; computing = c } })),
+      (λ a done c. subst (λ n. ComputesThrough a done m n) leads (record { later = done; same = λ y l. refl; improves = record { now = a; better = λ v l. itself (a v); stays = λ v l e. refl; free = λ v l e. e; computing = c; shows = shows_itself a a m done (λ v. itself (a v)) } })),
     ),
   )
   runs_under (suc k) m n i ready leads =
@@ -93,6 +94,7 @@ module _ (I : Module → Type 0) (ts : List Attempt) (keep : (t : Attempt) → I
                   stays = λ v l e. j.improves.stays v (omega (arith, l, grows)) (r.free v l e) ∙ r.stays v l e;
                   free = λ v l e. j.improves.free v (omega (arith, l, grows)) (r.free v l e);
                   computing = j.improves.computing;
+                  shows = shows_through a r.now j.improves.now m p n.tree (done_after m.next x done) j.later ready.formed grows j.same r.shows j.improves.shows;
                 };
               }),
         ),

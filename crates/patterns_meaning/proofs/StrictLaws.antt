@@ -2,23 +2,27 @@
 -- compute.
 use Rattle.std.proofs.Common.{◌≡◌, ℕ, zero, suc, refl, sym, subst, List, [], ◌∷◌, map, true, true≢false, Option, Some, None, slice_get, inl, inr, arith}
 use Rattle.std.specs.List.{list_all}
-use Rattle.std.proofs.lemmas.Bool.{and_parts, or_cases}
+use Rattle.std.proofs.lemmas.Bool.{and_from, and_parts, or_cases}
 use Rattle.std.proofs.lemmas.List.{length-map}
 use Rattle.std.proofs.lemmas.Option.{none-some}
 use Rattle.ir_types.specs.declared.bits.BitsKind.{BitsKind}
 use Rattle.ir_types.specs.declared.bits.BitsKind.TheVariants as kind
 use Rattle.patterns_laws.proofs.KnownFolds.{given_some}
 use Rattle.patterns_book.specs.declared.pattern.Asked.{Asked}
+use Rattle.patterns_book.specs.declared.pattern.Form.{Form}
+use Rattle.patterns_book.specs.declared.pattern.Form.TheVariants as form
 use Rattle.patterns_book.specs.declared.pattern.Kind.{Kind}
+use Rattle.patterns_book.specs.declared.pattern.Piece.{Piece}
 use Rattle.patterns_book.specs.Fitting.{kind_at}
 use Rattle.patterns_book.specs.Shapes.{Shape}
 use Rattle.patterns_book.specs.WellFormed.{new_ends, old_begins}
 use Rattle.patterns_everywhere.specs.Polynomials.{Polynomial}
-use Rattle.patterns_everywhere.specs.Everywhere.{Formal, first_type, formal, formal_furthers, formal_news, formal_numbers, formal_olds, formal_values, has_one_type, has_type, is_bit_by_bit, is_none_asked, is_one_polynomial, is_some_type, is_variable, is_variable_type, new_is_bitwise, number_is_bitwise, piece_is_bitwise, further_is_bitwise, sides_are_one}
+use Rattle.patterns_everywhere.specs.Everywhere.{Formal, first_type, form_is_bitwise, formal, formal_furthers, formal_news, formal_numbers, formal_olds, formal_values, has_one_type, has_type, is_bit_by_bit, is_none_asked, is_one_polynomial, is_some_type, is_variable, is_variable_type, new_is_bitwise, number_is_bitwise, piece_is_bitwise, further_is_bitwise, sides_are_one}
 use Rattle.patterns_everywhere.specs.Lasting.{HoldsEverywhere, KeepsEverywhere, PolynomialsKeep}
+use Rattle.patterns_makeable.specs.Makeable.{has_name}
 use Rattle.patterns_own.specs.Own.{OwnAreAccepted}
 use Rattle.patterns_meaning.specs.Applied.{IsProper, further_kind, is_typed, kinds_behind, kinds_given, kinds_matched}
-use Rattle.patterns_meaning.specs.Strict.{HoldingKeep, StrictKeep, is_asked_of, is_strict, is_strict_at, new_is_total, piece_is_strict}
+use Rattle.patterns_meaning.specs.Strict.{BookedKeep, HoldingKeep, StrictKeep, is_asked_of, is_strict, is_strict_at, is_strict_form, new_is_total, piece_is_strict}
 use Rattle.patterns_meaning.proofs.Going.{formed_parts}
 use Rattle.patterns_meaning.proofs.StrictForms.{Uniform, has_parts, keeps_by_type, keeps_of_type, unasked}
 use Rattle.patterns_meaning.proofs.StrictKinded.{uniform_keeps}
@@ -151,3 +155,49 @@ holding_keep accepted polynomials holds p e proper most low verdict =
       | inr i ↦ uniform_bits p i proper (holds p e most low verdict)
     ])
     proper
+
+-- ---- patterns of a book: all that is matched has names
+strict_named : (os : List Piece) → list_all piece_is_strict os ≡ true → list_all (λ (o : Piece). has_name o.form) os ≡ true
+strict_named [] e = refl
+strict_named (o ∷ os) e =
+    let q = and_parts (piece_is_strict o) (list_all piece_is_strict os) e in
+    and_from (has_name o.form) (list_all (λ (o : Piece). has_name o.form) os) (one o.form q.0) (strict_named os q.1)
+  where
+    one : (f : Form) → is_strict_form f ≡ true → has_name f ≡ true
+    one (form.Pair o i j) e = refl
+    one (form.Compare q i j) e = refl
+    one (form.Select c i j) e = refl
+    one (form.Resize c i) e = refl
+    one (form.IndexCast c i) e = absurd (true≢false (sym e))
+
+bitwise_strict : (os : List Piece) → list_all piece_is_bitwise os ≡ true → list_all piece_is_strict os ≡ true
+bitwise_strict [] e = refl
+bitwise_strict (o ∷ os) e =
+    let q = and_parts (piece_is_bitwise o) (list_all piece_is_bitwise os) e in
+    and_from (piece_is_strict o) (list_all piece_is_strict os) (one o.form q.0) (bitwise_strict os q.1)
+  where
+    one : (f : Form) → form_is_bitwise f ≡ true → is_strict_form f ≡ true
+    one (form.Pair o i j) e = refl
+    one (form.Compare q i j) e = absurd (true≢false (sym e))
+    one (form.Select c i j) e = absurd (true≢false (sym e))
+    one (form.Resize c i) e = absurd (true≢false (sym e))
+    one (form.IndexCast c i) e = absurd (true≢false (sym e))
+
+pub booked_keep : OwnAreAccepted → PolynomialsKeep → HoldsEverywhere → BookedKeep
+booked_keep accepted polynomials holds p formed makeable e most low verdict =
+    holding_keep accepted polynomials holds p e
+    (record {
+      formed = formed;
+      makeable = makeable;
+      named = strict_named p.old
+          (elim (or_cases (is_one_polynomial p) (is_bit_by_bit p) e) [
+            | inl i ↦ (uniform_polynomial p i (polynomials (unasked p) i)).strict
+            | inr i ↦
+                let a = and_parts (has_one_type p) _ i in
+                let b = and_parts (is_none_asked p.asked) _ a.1 in
+                let c = and_parts (list_all further_is_bitwise p.further) _ b.1 in
+                let d = and_parts (list_all number_is_bitwise p.given) _ c.1 in
+                bitwise_strict p.old (and_parts (list_all piece_is_bitwise p.old) (list_all new_is_bitwise p.new) d.1).0
+          ]);
+    })
+    most low verdict

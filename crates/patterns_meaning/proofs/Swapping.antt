@@ -43,7 +43,7 @@ use Rattle.patterns_facts.specs.Accepted.{AreAccepted}
 use Rattle.patterns_facts.proofs.Shapes.{two_is}
 use Rattle.patterns_book.specs.Matching.{Header}
 use Rattle.patterns_meaning.specs.Meaning.{ArgumentsOfTypes, Each, EachBlock, FitsDone, ResultsOfTypes, makes, owner, result_kind}
-use Rattle.patterns_meaning.specs.Better.{IsSure, is_kind, is_kinded, is_poison_by_ones, is_signed_quotient, kind_in, takes, takes_its, gives}
+use Rattle.patterns_meaning.specs.Better.{IsSure, is_kind, is_kinded, is_poison_by_ones, is_signed_quotient, kind_in, takes, takes_its, gives, is_arithmetic_there}
 use Rattle.patterns_meaning.proofs.Frees.{Was, free_still, was_old}
 use Rattle.patterns_meaning.specs.After.{OperandsStand}
 use Rattle.patterns_meaning.specs.Applied.{IsBelow}
@@ -61,6 +61,7 @@ use Rattle.patterns_meaning.proofs.Rewritten.{same_makes}
 use Rattle.patterns_meaning.proofs.Ruled.{Ruled, of_rule, rule_kinds, ruled, site_of, value_bits}
 use Rattle.patterns_meaning.proofs.Settling.{each_by_found}
 use Rattle.patterns_meaning.proofs.Trees.{ArgumentsAre, ResultsAre, each_found, value_below}
+use Rattle.patterns_meaning.proofs.Showing.{IsUnseen, at_unseen, number_at, unseen_shows, unseen_through}
 
 -- ---- what is made of swapped operands
 number_there : (o : Arithmetic) → commutes o ≡ true → (w a b : ℕ) → (n : ℕ) × (value_of o w a b ≡ Some n)
@@ -308,4 +309,15 @@ module _ (accepted : AreAccepted) where
               and_from (is_there later w.second) (is_there later w.first && true) (and_parts (is_there later w.second) true b.1).0 (and_from (is_there later w.first) true b.0 refl))
               m.tree it (fed_later m x done below (operands_stand is_isolated m.tree ready.formed.distinct ready.formed.formed.visible) computing.fed));
         };
+        shows =
+            let first = put_operand 0 w.second in
+            let second = put_operand 1 w.first in
+            let one = at_unseen x first (λ h. refl) m.tree (number_at x m.tree ready.formed.distinct (ap is_arithmetic_there q.found ∙ k.arithmetic)) in
+            let t = each_head (at x first) m.tree in
+            let two = at_unseen x second (λ h. refl) t one.numbers in
+            let unseen : IsUnseen x m.tree n.tree = subst (IsUnseen x m.tree) tree (unseen_through x m.tree t (each_head (at x second) t) one two) in
+            unseen_shows a a m later x n.tree unseen (λ v. itself (a v))
+            (free_still m.next (λ y. true) (λ y. true) m.tree n.tree
+            (subst (λ t. Each (Was m.next (λ y. true) (λ y. true) m.tree) t) tree
+            (swapped_each x w.first w.second q.here w.operands own (Was m.next (λ y. true) (λ y. true) m.tree) (Was m.next (λ y. true) (λ y. true) m.tree) (λ h p. p) (λ p. p) m.tree it (was_old m.next (λ y. true) (λ y. true) m.tree ready.formed.distinct (λ y l i. refl)))));
       }

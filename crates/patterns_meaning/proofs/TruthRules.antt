@@ -171,7 +171,7 @@ module _ (accepted : AreAccepted) where
       (λ p y w i j l.
       let both : y ≡ w = same_Some _ _ (sym j ∙ ap a (same_value_true c.first c.second c.passed) ∙ l) in
       ap (λ (w : Known). truth (comparison_of (width_of y.0) p y.1 w.1)) (sym both) ∙ ap truth (with_itself p (width_of y.0) y.1) ∙ itself_number c.number p i))
-      ready.formed (compare_itself_ready m n x ready e).kinded computing
+      ready refl (compare_itself_ready m n x ready e).kinded computing
 
   -- a comparison with 0, which nothing is below
   zero_truth : ℕ → ℕ
@@ -222,4 +222,4 @@ module _ (accepted : AreAccepted) where
       (λ p y w i j l.
       let zero_is : w.1 ≡ 0 = ap (λ (w : Known). w.1) (sym (known_is m a done ready.formed ready.kinded computing c.second number.0 w two.second (two.second_there d) number.1 l)) ∙ eqb-true number.0.1 0 number.2 in
       ap (λ b. truth (comparison_of (width_of y.0) p y.1 b)) zero_is ∙ below_number p (width_of y.0) y.1 c.number tests.1 i))
-      ready.formed (compare_zero_ready m n x ready e).kinded computing
+      ready refl (compare_zero_ready m n x ready e).kinded computing

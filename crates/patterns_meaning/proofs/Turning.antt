@@ -21,7 +21,7 @@ use Rattle.patterns_check.specs.Checks.{refines}
 use Rattle.patterns_book.specs.Matching.{Header}
 use Rattle.patterns_meaning.specs.Meaning.{ArgumentsOfTypes, AreOfTypes, Assignment, Each, EachBlock, FitsDone, ResultsOfTypes, is_arithmetic, makes, owner, result_kind}
 use Rattle.patterns_meaning.specs.Applied.{IsBelow}
-use Rattle.patterns_meaning.specs.Better.{AllSure, AreKinded, GivesLess, GivesNoLess, IsSure, gives, is_kinded, kind_in, may_overflow, takes_its}
+use Rattle.patterns_meaning.specs.Better.{AllSure, AreKinded, GivesLess, GivesNoLess, IsSure, gives, is_arithmetic_there, is_kinded, kind_in, may_overflow, takes_its}
 use Rattle.patterns_meaning.specs.Keeping.{Computing, Improves, IsFed, IsReady, done_after, is_there}
 use Rattle.patterns_meaning.proofs.Edited.{blocks_changed, each_both, each_changed}
 use Rattle.patterns_meaning.proofs.Formed.{is_below, operands_stand}
@@ -30,6 +30,7 @@ use Rattle.patterns_meaning.proofs.Giving.{after_old}
 use Rattle.patterns_meaning.proofs.Monotone.{itself}
 use Rattle.patterns_meaning.proofs.Readied.{AreKinds, HasKind, Rises, Takes, all_rise, each_rises, kinds_are, kinds_found, same_kinds_of}
 use Rattle.patterns_meaning.proofs.Settling.{each_by_found, settles}
+use Rattle.patterns_meaning.proofs.Showing.{IsUnseen, at_unseen, number_at, unseen_shows, unseen_through}
 use Rattle.patterns_meaning.proofs.Swapping.{Low, fed_later, still_there}
 use Rattle.patterns_meaning.proofs.Trees.{ArgumentsAre, ResultsAre}
 
@@ -42,6 +43,10 @@ at_another x f h e = ap (λ b. if b then f h else h) e
 
 abbrev pub KeepsId : (Header → Header) → Type 0
 KeepsId f = (h : Header) → h.id ≡ (f h).id
+
+-- and keep it arithmetic, or not
+abbrev pub KeepsNumber : (Header → Header) → Type 0
+KeepsNumber f = (h : Header) → is_arithmetic (f h) ≡ is_arithmetic h
 
 same_id : (x : ℕ) (f : Header → Header) → KeepsId f → (h : Header) → h.id ≡ (at x f h).id
 same_id x f k h = go (eqb h.id x)
@@ -105,6 +110,9 @@ pub record Turns (m n : Module) (x : ℕ) (o : Operation) : Type 0 where
   pub own_first : KeepsId first
   pub own_second : KeepsId second
   pub own_third : KeepsId third
+  pub number_first : KeepsNumber first
+  pub number_second : KeepsNumber second
+  pub number_third : KeepsNumber third
   pub operands : List Value
   pub properties : List (List ℕ × AttrTerm)
   pub becomes : third (second (first (head o))) ≡ record (head o) { operands = operands; properties = properties }
@@ -193,6 +201,19 @@ module _ (m n : Module) (x : ℕ) (o : Operation) (w : Turns m n x o) (ready : I
     all_were : Each (Was m.next done (done_after m.next x done) m.tree) n.tree
     all_were = each (Was m.next done (done_after m.next x done) m.tree) (Was m.next done (done_after m.next x done) m.tree) (λ h p. p) (λ p i l j. p i l k.arithmetic) (was_old m.next done (done_after m.next x done) m.tree ready.formed.distinct was)
 
+    all_plain : Each (Was m.next (λ y. true) (λ y. true) m.tree) n.tree
+    all_plain = each (Was m.next (λ y. true) (λ y. true) m.tree) (Was m.next (λ y. true) (λ y. true) m.tree) (λ h p. p) (λ p i l j. p i l k.arithmetic) (was_old m.next (λ y. true) (λ y. true) m.tree ready.formed.distinct (λ y l i. refl))
+
+    unseen : IsUnseen x m.tree n.tree
+    unseen =
+        let one = at_unseen x w.first w.number_first m.tree (number_at x m.tree ready.formed.distinct (ap is_arithmetic_there w.found ∙ k.arithmetic)) in
+        let t = each_head (at x w.first) m.tree in
+        let two = at_unseen x w.second w.number_second t one.numbers in
+        let u = each_head (at x w.second) t in
+        let three = at_unseen x w.third w.number_third u two.numbers in
+        subst (IsUnseen x m.tree) w.tree
+        (unseen_through x m.tree u (each_head (at x w.third) u) (unseen_through x m.tree t u one two) three)
+
     pub turned_improves : AreKinded n.tree → Improves a done m (done_after m.next x done) n.tree
     turned_improves kinded =
         let typed : AreOfTypes a n.tree = (
@@ -207,4 +228,5 @@ module _ (m n : Module) (x : ℕ) (o : Operation) (w : Turns m n x o) (ready : I
           stays = λ v l e. s.stays v (free v l e);
           free = free;
           computing = record { fits = s.fits; typed = s.typed; sure = s.sure; fed = all_fed };
+          shows = unseen_shows a s.now m (done_after m.next x done) x n.tree unseen s.better (free_still m.next (λ y. true) (λ y. true) m.tree n.tree all_plain);
         }

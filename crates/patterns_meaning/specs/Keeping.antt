@@ -13,6 +13,7 @@ use Rattle.patterns_base.specs.Rewrites.{becomes, rewrite_of}
 use Rattle.patterns_book.specs.Matching.{Header}
 use Rattle.patterns_meaning.specs.Meaning.{AreOfTypes, Assignment, Each, FitsAll, owner}
 use Rattle.patterns_meaning.specs.Better.{AllSure, AreKinded, Better, gives}
+use Rattle.patterns_meaning.specs.Observing.{Shows}
 
 -- a value is there where its operation is done; arguments of blocks are
 abbrev pub is_there : (ℕ → Bool) → Value → Bool
@@ -36,13 +37,16 @@ abbrev pub done_after : ℕ → ℕ → (ℕ → Bool) → ℕ → Bool
 done_after n x done y = if nat_lt y n then done y else done x
 
 -- a tree computes so, behind a module, with outcomes that are the same or better at all values of the module. Values that
--- no arithmetic operation gives that was done stay as they are, and are given by none that is done
+-- no arithmetic operation gives that was done stay as they are, and are given by none that is done. The tree shows what
+-- the module showed: the operations that aren't arithmetic are kept, in their order, with operands that are the same or
+-- refine, except some that may be erased
 pub record Improves (a : Assignment) (done : ℕ → Bool) (m : Module) (later : ℕ → Bool) (t : Operation) : Type 0 where
   pub now : Assignment
   pub better : Better m.next a now
   pub stays : (v : Value) → owner v < m.next → gives done m.tree v ≡ false → now v ≡ a v
   pub free : (v : Value) → owner v < m.next → gives done m.tree v ≡ false → gives later t v ≡ false
   pub computing : Computing now later t
+  pub shows : Shows a now m later t
 
 -- a module in which rules keep what is computed: well-formed, with sorted dictionaries, where each arithmetic operation
 -- has operands and a result of the kinds that it asks for

@@ -4,7 +4,9 @@ pub mod After
 pub mod Applying
 pub mod Better
 pub mod Improving
+pub mod Observing
 pub mod Keeping
+pub mod ObservingSamples
 pub mod Runs
 pub mod Canonical
 pub mod Strict

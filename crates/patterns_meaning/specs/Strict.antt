@@ -19,8 +19,10 @@ use Rattle.patterns_book.specs.declared.pattern.New.TheVariants as new
 use Rattle.patterns_book.specs.declared.pattern.Piece.{Piece}
 use Rattle.patterns_book.specs.Fitting.{content_at}
 use Rattle.patterns_book.specs.Shapes.{Shape}
+use Rattle.patterns_book.specs.WellFormed.{is_well_formed}
 use Rattle.patterns_everywhere.specs.Everywhere.{first_type, is_everywhere, is_variable_type}
 use Rattle.patterns_everywhere.specs.Lasting.{KeepsEverywhere}
+use Rattle.patterns_makeable.specs.Makeable.{is_makeable}
 use Rattle.patterns_own.specs.Own.{own_rewrite}
 use Rattle.patterns_meaning.specs.Meaning.{Assignment}
 use Rattle.patterns_meaning.specs.Applied.{IsProper, is_typed}
@@ -104,5 +106,13 @@ StrictKeep = (p : Shape) → is_strict p ≡ true → IsProper p → KeepsEveryw
 abbrev pub HoldingKeep : Type 0
 HoldingKeep =
     (p : Shape) → is_everywhere p ≡ true → IsProper p
+    → (most : ℕ) → 1 ≤ most → IsVerdict (content_at p) p.types most verdict.Holds
+    → KeepsReadyOwn p × KeepsComputingOwn p
+
+-- so does each pattern of a book of which a check said `holds` without a width: all that is asked of it beside this is what
+-- is so of each pattern of a book (`patterns_shelf`), that it is well-formed and may be made
+abbrev pub BookedKeep : Type 0
+BookedKeep =
+    (p : Shape) → is_well_formed p ≡ true → is_makeable p ≡ true → is_everywhere p ≡ true
     → (most : ℕ) → 1 ≤ most → IsVerdict (content_at p) p.types most verdict.Holds
     → KeepsReadyOwn p × KeepsComputingOwn p

@@ -12,6 +12,8 @@ ghost use Rattle.patterns_base.specs.declared.rule.Rule.TheVariants.{RegroupCons
 ghost use Rattle.patterns_meaning.specs.Canonical.{CanonicalizationKeeps};
 ghost use Rattle.patterns_meaning.specs.IndexCasts.{CastsBack};
 ghost use Rattle.patterns_meaning.specs.Keeping.{KeepsComputing, KeepsReady};
+ghost use Rattle.patterns_meaning.specs.Observing.{ShownWereThere};
+ghost use Rattle.patterns_meaning.specs.ObservingSamples.{AreRefused};
 ghost use Rattle.patterns_meaning.specs.Remainders.{ExpandsRemainders};
 ghost use Rattle.patterns_meaning.specs.Runs.{KeptAreKept, RewritingKeeps, RunsKeep};
 ghost use Rattle.patterns_meaning.specs.Told.{ToldCanonicalizationKeeps, ToldRewritingKeeps};
@@ -213,6 +215,14 @@ pub fn expand_remainder()
 {
     no_edit_is_refused();
 }
+
+/// These laws refuse rewrites that change what can be observed: one that erases all, one that returns another argument,
+/// one that erases a store, and one that returns a new constant for another number.
+/// Each operation that can be observed after a rewrite was there before it, with operands that are the same or better.
+pub fn what_is_shown_is_kept()
+    ensures refused { AreRefused }
+    ensures there { ShownWereThere }
+{}
 
 /// Where each rule of a list keeps modules ready and what they compute, so do runs of them, however long.
 pub fn runs_keep_what_is_computed()

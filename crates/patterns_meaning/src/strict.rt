@@ -1,7 +1,7 @@
 //! Patterns of one's own that are right at every width keep what a module computes, whatever of it is poison: each at an
 //! operation, and so runs of them and of rules.
 ghost use Rattle.patterns_meaning.specs.MixedRuns.{MixedRewritingKeeps, MixedRunsKeep, ShownAreKept};
-ghost use Rattle.patterns_meaning.specs.Strict.{HoldingKeep, StrictKeep};
+ghost use Rattle.patterns_meaning.specs.Strict.{BookedKeep, HoldingKeep, StrictKeep};
 ghost use Rattle.patterns_meaning.specs.StrictSamples.{SampleIsReady, SamplesAreStrict};
 
 use crate::kept::listed_rules_keep_what_is_computed;
@@ -9,10 +9,12 @@ use patterns_everywhere::laws::{holds_everywhere, polynomials_keep};
 use patterns_own::laws::no_edit_of_a_pattern_is_refused;
 
 /// A pattern of arithmetic on two values of one type that keeps what is there, whatever that type is, keeps modules ready
-/// and what they compute: so does each that a check said to hold, where that says it of every width.
+/// and what they compute: so does each that a check said to hold, where that says it of every width (`holding`), and so
+/// each such pattern of a book (`booked`).
 pub fn strict_patterns_keep_what_is_computed()
     ensures strict { StrictKeep }
     ensures holding { HoldingKeep }
+    ensures booked { BookedKeep }
 {
     no_edit_of_a_pattern_is_refused();
     polynomials_keep();

@@ -1,0 +1,97 @@
+-- Four rewrites that no compiler may do, each as a module before and a module after. None is an improvement (`Improves`),
+-- so no rule or pattern that does one satisfies the laws.
+use Rattle.std.specs.Prelude.{◌≡◌, ℕ, zero, suc, List, [], ◌∷◌, Bool, true, codes, Some, None}
+use Rattle.ir_types.specs.declared.node.Sign.TheVariants.{Signless}
+use Rattle.ir_types.specs.declared.bits.BitsKind.TheVariants as kind
+use Rattle.ir_types.specs.Terms.{AttrTerm, Integer, IntegerOf, TypeTerm}
+use Rattle.ir_tree.specs.declared.value.Value.{Value}
+use Rattle.ir_tree.specs.declared.value.Value.TheVariants.{Arg, Result}
+use Rattle.ir_tree.specs.Tree.{OpsOf, block, next, no_ops, no_regions, op, region}
+use Rattle.ir_tree.specs.Meaning.{Operation}
+use Rattle.ir_event.specs.Modules.{Module}
+use Rattle.patterns_meaning.specs.Meaning.{Assignment}
+use Rattle.patterns_meaning.specs.Keeping.{Computing, Improves, IsReady}
+use Rattle.patterns_meaning.specs.Samples.{all_done}
+
+abbrev pub i8 : TypeTerm
+i8 = Integer Signless 8
+
+-- an operation of one name, without regions
+abbrev pub plain_op : ℕ → List ℕ → List Value → List TypeTerm → List (List ℕ × AttrTerm) → Operation
+plain_op x name operands results properties =
+    op (record { id = x; name = name; operands = operands; results = results; properties = properties; attributes = [] }) no_regions
+
+-- a module of operations
+abbrev pub module_of : ℕ → OpsOf (List ℕ) TypeTerm AttrTerm → Module
+module_of n os =
+    record {
+      tree = op (record { id = 0; name = codes "builtin.module"; operands = []; results = []; properties = []; attributes = [] }) (region (block [] os) no_regions);
+      next = n;
+    }
+
+-- a module of a function of two arguments of i8, with these operations
+abbrev pub function_of : ℕ → OpsOf (List ℕ) TypeTerm AttrTerm → Module
+function_of n os =
+    module_of n
+    (next (op (record { id = 1; name = codes "func.func"; operands = []; results = []; properties = []; attributes = [] }) (region (block (i8 ∷ i8 ∷ []) os) no_regions))
+    no_ops)
+
+-- return %v
+abbrev pub returning : Value → OpsOf (List ℕ) TypeTerm AttrTerm
+returning v = next (plain_op 4 (codes "func.return") (v ∷ []) [] []) no_ops
+
+-- %s = addi %a, %b
+abbrev pub summing : OpsOf (List ℕ) TypeTerm AttrTerm → OpsOf (List ℕ) TypeTerm AttrTerm
+summing os = next (plain_op 2 (codes "arith.addi") (Arg 1 0 0 ∷ Arg 1 0 1 ∷ []) (i8 ∷ []) []) os
+
+-- store %s
+abbrev pub storing : OpsOf (List ℕ) TypeTerm AttrTerm → OpsOf (List ℕ) TypeTerm AttrTerm
+storing os = next (plain_op 3 (codes "memref.store") (Result 2 0 ∷ Arg 1 0 1 ∷ []) [] []) os
+
+-- %k = constant 42
+abbrev pub numbering : OpsOf (List ℕ) TypeTerm AttrTerm → OpsOf (List ℕ) TypeTerm AttrTerm
+numbering os = next (plain_op 5 (codes "arith.constant") [] (i8 ∷ []) ((codes "value", IntegerOf i8 42) ∷ [])) os
+
+-- all is erased
+abbrev pub WipingBreaks : Type 0
+WipingBreaks =
+    (a : Assignment) (done later : ℕ → Bool) → Improves a done (function_of 5 (returning (Arg 1 0 0))) later (module_of 5 no_ops).tree → ⊥
+
+-- the second argument is returned for the first
+abbrev pub OtherArgumentBreaks : Type 0
+OtherArgumentBreaks =
+    (a : Assignment) (done later : ℕ → Bool)
+    → Improves a done (function_of 5 (returning (Arg 1 0 0))) later (function_of 5 (returning (Arg 1 0 1))).tree → ⊥
+
+-- a store is erased
+abbrev pub ErasedStoreBreaks : Type 0
+ErasedStoreBreaks =
+    (a : Assignment) (done later : ℕ → Bool)
+    → Improves a done (function_of 5 (summing (storing (returning (Result 2 0))))) later (function_of 5 (summing (returning (Result 2 0)))).tree → ⊥
+
+-- a new constant is returned for a sum that is another number
+abbrev pub NewConstantBreaks : Type 0
+NewConstantBreaks =
+    (a : Assignment) (done later : ℕ → Bool) → a (Result 2 0) ≡ Some (kind.Int 8, 1) → later 4 ≡ true
+    → Improves a done (function_of 5 (summing (returning (Result 2 0)))) later (function_of 6 (summing (numbering (returning (Result 5 0))))).tree → ⊥
+
+-- The premises of the last can be met: its module is ready, and computes the sum 1 of 1 and 0.
+abbrev pub one_and_zero : Assignment
+one_and_zero (Result (suc (suc zero)) k) = Some (kind.Int 8, 1)
+one_and_zero (Result x k) = None
+one_and_zero (Arg x r zero) = Some (kind.Int 8, 1)
+one_and_zero (Arg x r (suc k)) = Some (kind.Int 8, 0)
+
+abbrev pub SumComputes : Type 0
+SumComputes =
+    IsReady (function_of 5 (summing (returning (Result 2 0))))
+    × Computing one_and_zero all_done (function_of 5 (summing (returning (Result 2 0)))).tree
+    × (one_and_zero (Result 2 0) ≡ Some (kind.Int 8, 1))
+
+-- all four
+pub record AreRefused : Type 0 where
+  pub computes : SumComputes
+  pub wiping : WipingBreaks
+  pub other_argument : OtherArgumentBreaks
+  pub erased_store : ErasedStoreBreaks
+  pub new_constant : NewConstantBreaks
