@@ -4,7 +4,7 @@ What is printed has no numbers and names values anew. So each operation is given
 mark (session.py), and that is taken out here: nothing is worked out that the program doesn't say."""
 import re
 from dataclasses import dataclass
-from typing import Dict, List, Optional, Tuple
+from typing import Dict, Iterator, List, Optional, Tuple
 
 from .reply import lines_of
 from .values import Argument, Result, Value
@@ -15,11 +15,13 @@ _HEAD = re.compile(rf"(?:%\d+(?::(\d+))? = )?({_STRING})\(([^()]*)\)")
 _OPENED = re.compile(r"\(((?:\{\}, )*)\{$")
 _NEXT = re.compile(r"\}, ((?:\{\}, )*)\{$")
 _REGIONS = re.compile(r" \((\{\}(?:, \{\})*)\)")
-_TOKEN = re.compile(rf'{_STRING}|->|[<>]=|[()\[\]{{}}<>,]|[^"()\[\]{{}}<>,-]+|.')
+# (a name after its sign is one token, and may end with `-`)
+_TOKEN = re.compile(rf'{_STRING}|[#!](?:[0-9]+|[A-Za-z$._-][A-Za-z0-9$._-]*)?|->|[()\[\]{{}}<>,]|'
+                    r'[^"#!()\[\]{}<>,-]+|.', re.S)
 _ENTRY = re.compile(rf"({_STRING}|[^ ]+)(?: = (.*))?", re.S)
 _ARGUMENT = re.compile(r"%(arg\d+): (.*)")
 _ESCAPE = re.compile(r"\\([0-9A-Fa-f]{2}|.)")
-_DEPTH = {**dict.fromkeys("([{<", 1), **dict.fromkeys(")]}>", -1)}
+_CLOSERS = {"(": ")", "[": "]", "{": "}", "<": ">"}
 
 
 @dataclass(frozen=True, eq=False)
@@ -93,26 +95,33 @@ def unescaped(literal: str) -> str:
     return _ESCAPE.sub(byte, literal[1:-1]).encode("latin-1", "replace").decode("utf-8", "surrogateescape")
 
 
+def _tokens(text: str) -> "Iterator[Tuple[re.Match[str], int]]":
+    """Yields the tokens of a text, each with the number of brackets that are open after it. As the program reads it, a
+    closing bracket ends the nearest open one of its kind: `>` ends nothing where `(` is nearer, nor does that of `->`;
+    and the `<` of `<=` opens a bracket."""
+    coming: List[str] = []
+    for token in _TOKEN.finditer(text):
+        if coming and token[0] == coming[-1]:
+            coming.pop()
+        elif token[0] in _CLOSERS:
+            coming.append(_CLOSERS[token[0]])
+        yield token, len(coming)
+
+
 def _parts(text: str) -> List[str]:
-    """A text cut at the commas that stand in no brackets."""
-    parts, depth = [""], 0
-    for token in _TOKEN.findall(text):
-        depth += _DEPTH.get(token, 0)
-        if token == "," and not depth:
+    """A text cut at the commas that are outside all brackets."""
+    parts = [""]
+    for token, depth in _tokens(text):
+        if token[0] == "," and not depth:
             parts.append("")
         else:
-            parts[-1] += token
+            parts[-1] += token[0]
     return [it.strip() for it in parts if it.strip()]
 
 
 def _closed(text: str) -> int:
-    """How long the part of a text is that its first bracket holds together, that bracket and its end included."""
-    depth = 0
-    for token in _TOKEN.finditer(text):
-        depth += _DEPTH.get(token[0], 0)
-        if not depth:
-            return token.end()
-    return len(text)
+    """The length of the part of a text from its first bracket to the one that closes it."""
+    return next((token.end() for token, depth in _tokens(text) if not depth), len(text))
 
 
 def _entries(text: str, opens: str) -> Tuple[Dict[str, str], str]:

@@ -68,6 +68,12 @@ class Own(Case):
         with self.assertRaises(mlir_work.SessionClosed):
             way.line(b"print")
 
+    def test_a_limit_that_is_refused(self):
+        """The library takes 32 bits of a limit: what has more isn't handed over."""
+        for limit in (-1, 0, 2**32 + 5):
+            with self.subTest(limit), self.assertRaises(ValueError):
+                mlir_work.Library(SHARED).open(b"", limit)
+
     def test_64_sessions_in_turn(self):
         for number in range(64):
             with session(f'"test.a"() {{k = {number}}} : () -> ()') as s:

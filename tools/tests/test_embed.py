@@ -59,9 +59,15 @@ class Library(unittest.TestCase):
         for more in ((), SANITIZED):
             self.assertEqual(ran([self.built("tests/embed/handles.c", *more)]), b"")
 
+    def test_marks(self):
+        """A `Mark` of C++ goes back to its own mark, whatever is done within it, also on an exception."""
+        for more in ((), SANITIZED):
+            self.assertEqual(ran([self.built("tests/embed/marks.cpp", *more)]), b"")
+
     @unittest.skipUnless(shutil.which("valgrind"), "there is no valgrind")
     def test_memcheck(self):
         self.assertEqual(ran([*MEMCHECK, self.built("tests/embed/handles.c")]), b"")
+        self.assertEqual(ran([*MEMCHECK, self.built("tests/embed/marks.cpp")]), b"")
         script = (EXAMPLES / "fold.script").read_bytes()
         ran([*MEMCHECK, self.built("examples/embed/replies.c"), EXAMPLES / "fold.mlir"], script)
         ran([*MEMCHECK, self.built("examples/embed/dead.cpp"), self.module()])
