@@ -4,24 +4,19 @@ What is printed has no numbers and names values anew. So each operation is given
 mark (session.py), and that is taken out here: nothing is worked out that the program doesn't say."""
 import re
 from dataclasses import dataclass
-from typing import Dict, Iterator, List, Optional, Tuple
+from typing import Dict, List, Optional, Tuple
 
+from .brackets import STRING, closed, parts, taken
 from .reply import lines_of
 from .values import Argument, Result, Value
 
 KEY = "N."
-_STRING = r'"(?:[^"\\]|\\.)*"'
-_HEAD = re.compile(rf"(?:%\d+(?::(\d+))? = )?({_STRING})\(([^()]*)\)")
+_HEAD = re.compile(rf"(?:%\d+(?::(\d+))? = )?({STRING})\(([^()]*)\)")
 _OPENED = re.compile(r"\(((?:\{\}, )*)\{$")
 _NEXT = re.compile(r"\}, ((?:\{\}, )*)\{$")
 _REGIONS = re.compile(r" \((\{\}(?:, \{\})*)\)")
-# (a name after its sign is one token, and may end with `-`)
-_TOKEN = re.compile(rf'{_STRING}|[#!](?:[0-9]+|[A-Za-z$._-][A-Za-z0-9$._-]*)?|->|[()\[\]{{}}<>,]|'
-                    r'[^"#!()\[\]{}<>,-]+|.', re.S)
-_ENTRY = re.compile(rf"({_STRING}|[^ ]+)(?: = (.*))?", re.S)
 _ARGUMENT = re.compile(r"%(arg\d+): (.*)")
 _ESCAPE = re.compile(r"\\([0-9A-Fa-f]{2}|.)")
-_CLOSERS = {"(": ")", "[": "]", "{": "}", "<": ">"}
 
 
 @dataclass(frozen=True, eq=False)
@@ -95,53 +90,15 @@ def unescaped(literal: str) -> str:
     return _ESCAPE.sub(byte, literal[1:-1]).encode("latin-1", "replace").decode("utf-8", "surrogateescape")
 
 
-def _tokens(text: str) -> "Iterator[Tuple[re.Match[str], int]]":
-    """Yields the tokens of a text, each with the number of brackets that are open after it. As the program reads it, a
-    closing bracket ends the nearest open one of its kind: `>` ends nothing where `(` is nearer, nor does that of `->`;
-    and the `<` of `<=` opens a bracket."""
-    coming: List[str] = []
-    for token in _TOKEN.finditer(text):
-        if coming and token[0] == coming[-1]:
-            coming.pop()
-        elif token[0] in _CLOSERS:
-            coming.append(_CLOSERS[token[0]])
-        yield token, len(coming)
-
-
-def _parts(text: str) -> List[str]:
-    """A text cut at the commas that are outside all brackets."""
-    parts = [""]
-    for token, depth in _tokens(text):
-        if token[0] == "," and not depth:
-            parts.append("")
-        else:
-            parts[-1] += token[0]
-    return [it.strip() for it in parts if it.strip()]
-
-
-def _closed(text: str) -> int:
-    """The length of the part of a text from its first bracket to the one that closes it."""
-    return next((token.end() for token, depth in _tokens(text) if not depth), len(text))
-
-
 def _entries(text: str, opens: str) -> Tuple[Dict[str, str], str]:
-    """The dictionary that a text begins with, if it does, and the text behind it. An entry without a value is
-    `unit`."""
-    if not text.startswith(opens):
-        return {}, text
-    found: Dict[str, str] = {}
-    text, margin = text[1:], len(opens) - 1
-    end = _closed(text)
-    for part in _parts(text[margin:end - margin]):
-        entry = _ENTRY.fullmatch(part)
-        if entry:
-            found[unescaped(entry[1]) if entry[1][0] == '"' else entry[1]] = entry[2] or "unit"
-    return found, text[end:]
+    """The dictionary that a text begins with, if it does, and the text behind it."""
+    found, rest = taken(text, opens)
+    return {unescaped(key) if key[0] == '"' else key: value for key, value in found}, rest
 
 
 def _types(text: str) -> Tuple[str, ...]:
     """The types of a list, or the one that stands by itself."""
-    return tuple(_parts(text[1:-1])) if text.startswith("(") else (text,)
+    return tuple(parts(text[1:-1])) if text.startswith("(") else (text,)
 
 
 class _Listing:
@@ -186,7 +143,7 @@ class _Listing:
             raise ValueError(f"{it.text!r} is no operation")
         arguments: Dict[Argument, str] = {}
         for region, text in it.arguments:
-            for place, part in enumerate(_parts(text)):
+            for place, part in enumerate(parts(text)):
                 name, of_type = part[1:].split(": ", 1)
                 self.named[name] = Argument(it.number, region, place)
                 arguments[self.named[name]] = of_type
@@ -194,7 +151,7 @@ class _Listing:
         regions = _REGIONS.match(rest)
         attributes, rest = _entries(rest[regions.end():] if regions else rest, " {")
         attributes.pop(self.key, None)
-        end = _closed(rest[3:]) + 3
+        end = closed(rest[3:]) + 3
         results = _types(rest[end + 4:]) if it.text[0] == "%" else ()
         return Operation(
             it.number, unescaped(head[2]), tuple(self.value(name) for name in head[3].split(", ") if name),

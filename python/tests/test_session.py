@@ -643,16 +643,16 @@ class Operations(Case):
 
     @unittest.skipUnless(knows_opaque(), "the program has no --opaque")
     def test_opaque_terms_by_chance(self):
-        """Attributes and types are listed as they are spelled, whatever brackets, arrows and signs their bodies have."""
+        """Attributes and types are listed as they are spelled, whatever brackets, arrows and signs are in them."""
         maker, terms = random.Random(71), []
         while len(terms) < 600:
-            body = "".join(maker.choice(PARTS) for _ in range(maker.randint(1, 5)))
-            terms += [body] if is_body(f"<{body}>") else []
-        some = {number: [f"#foo<{body}>" for body in terms[number:number + 2]] for number in range(0, 600, 2)}
+            body = "<" + "".join(maker.choice(PARTS) for _ in range(maker.randint(1, 5))) + ">"
+            terms += ["#foo" + body] if is_body(body) else []
+        pairs = list(zip(terms[::2], terms[1::2]))
         texts = [f'"x"() <{{p = {a}, q = 1 : i8}}> ({{^bb0(%0: {type_of(a)}, %1: i8): }}) {{a = {b}, c = [{a}, {b}]}}'
-                 f' : () -> ({type_of(b)}, i1, {type_of(a)})' for a, b in some.values()]
+                 f' : () -> ({type_of(b)}, i1, {type_of(a)})' for a, b in pairs]
         with session("\n".join(texts), opaque=True) as s:
-            for it, (a, b) in zip(s.operations()[1:], some.values(), strict=True):
+            for it, (a, b) in zip(s.operations()[1:], pairs, strict=True):
                 with self.subTest(a=a, b=b):
                     self.assertEqual(it.properties, {"p": a, "q": "1 : i8"})
                     self.assertEqual(it.attributes, {"a": b, "c": f"[{a}, {b}]"})
@@ -662,10 +662,12 @@ class Operations(Case):
     @unittest.skipUnless(knows_opaque(), "the program has no --opaque")
     def test_opaque_terms_by_hand(self):
         """The forms in which a bracket closes nothing, or a dash belongs to a name."""
-        for term in ("#foo<a <= b>>", "#foo<a <= b, c >= d>", "#foo<(a >= b)>", "#foo<[>]>", "#foo<{>}>", "#foo<->>", "#foo<#a.b->",
-                     "#foo<#a.b ->>", "#foo<!a.b-> : !a.b-", '#foo<"x,>">', "array<!a.b->", "affine_map<(d0) -> (d0 > 1)>",
-                     "affine_set<(d0) : (d0 - 1 >= 0)>", "#a.b-", "[#a.b-, #a.c-]", "-1.0e-5 : f32"):
-            with self.subTest(term), session(f'"x"() <{{p = {term}}}> {{a = {term}, c}} : () -> ()', opaque=True) as s:
+        for term in ("#foo<a <= b>>", "#foo<a <= b, c >= d>", "#foo<(a >= b)>", "#foo<[>]>", "#foo<{>}>", "#foo<->>",
+                     "#foo<#a.b->", "#foo<#a.b ->>", "#foo<!a.b-> : !a.b-", '#foo<"x,>">', "array<!a.b->",
+                     "affine_map<(d0) -> (d0 > 1)>", "affine_set<(d0) : (d0 - 1 >= 0)>", "#a.b-", "[#a.b-, #a.c-]",
+                     "-1.0e-5 : f32"):
+            text = f'"x"() <{{p = {term}}}> {{a = {term}, c}} : () -> ()'
+            with self.subTest(term), session(text, opaque=True) as s:
                 it = s.operations()[1]
                 self.assertEqual((it.properties, it.attributes), ({"p": term}, {"a": term, "c": "unit"}))
 
