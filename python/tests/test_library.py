@@ -109,6 +109,21 @@ class Own(Case):
             it.join()
         self.assertEqual(found, [2] * 8)
 
+    def test_a_thread_with_little_stack(self):
+        """A thread with as much stack as the pages say is enough holds the module that is nested deepest."""
+        found = []
+
+        def work():
+            with session('"t.n"() ({ ' * 127 + '"t.leaf"() : () -> ()' + " }) : () -> ()" * 127) as s:
+                with s.mark():
+                    found.append((len(s.print()) > 127 ** 2, len(s.report("effects")), s.canon()))
+        before = threading.stack_size(512 * 1024)
+        self.addCleanup(threading.stack_size, before)
+        it = threading.Thread(target=work)
+        it.start()
+        it.join()
+        self.assertEqual(found, [(True, 129, (0, True))])
+
     def test_a_text_with_a_zero(self):
         with session(test_session.PAIR) as s:
             with self.assertRaises(mlir_work.Refused) as caught:

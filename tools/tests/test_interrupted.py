@@ -1,5 +1,5 @@
-"""What Ctrl-C leaves: `reduce` writes the smallest module so far, `page` and `explain` write nothing; the status is 130,
-which says neither that something was refused nor that a module doesn't show what it is to show."""
+"""What Ctrl-C leaves: `reduce` writes the smallest module so far, `page` and `explain` write nothing. The status is
+130, which says neither that something was refused nor that a module doesn't show what it is to show."""
 import os
 import pathlib
 import signal
