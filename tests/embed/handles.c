@@ -118,6 +118,48 @@ static int lines(void) {
   return 0;
 }
 
+/* What a line comes to whose bytes are odd, and how much it shows: blanks, line feeds, zeros, what isn't UTF-8. */
+static int odd_lines(void) {
+  static const struct {
+    const char *line;
+    size_t length;
+    uint32_t outcome, refusal;
+  } wanted[] = {{"\n", 1, MLIR_WORK_NOTHING, 0}, {" \t\r", 3, MLIR_WORK_NOTHING, 0},
+                {"// -----", 8, MLIR_WORK_NOTHING, 0}, {"print\r\n", 7, MLIR_WORK_OK, 0},
+                {"\n\n", 2, MLIR_WORK_REFUSED, MLIR_WORK_BAD_COMMAND},
+                {"//x\nprint", 9, MLIR_WORK_REFUSED, MLIR_WORK_BAD_COMMAND},
+                {"pr\0nt", 5, MLIR_WORK_REFUSED, MLIR_WORK_BAD_COMMAND},
+                {"print\0", 6, MLIR_WORK_REFUSED, MLIR_WORK_BAD_COMMAND},
+                {"// \xff", 4, MLIR_WORK_REFUSED, MLIR_WORK_BAD_COMMAND}};
+  mlir_work_session session = MLIR_WORK_CLOSED;
+  mlir_work_answer answer;
+  WANT(opened(&session, module).outcome == MLIR_WORK_OK);
+  for (size_t i = 0; i < sizeof wanted / sizeof *wanted; i++) {
+    mlir_work_command(&session, (const uint8_t *)wanted[i].line, wanted[i].length, &answer);
+    WANT(answer.outcome == wanted[i].outcome && answer.refusal == wanted[i].refusal && answer.number == 0);
+    WANT((answer.shown > 0) == (answer.outcome == MLIR_WORK_OK));
+  }
+  mlir_work_close(&session);
+  return 0;
+}
+
+/* A session is opened with any limit; a `canon` that says none is refused where that limit is out of range. */
+static int limits(void) {
+  static const struct {
+    uint32_t limit, refusal;
+  } wanted[] = {{0, MLIR_WORK_BAD_LIMIT}, {1, 0}, {1000000, 0}, {1000001, MLIR_WORK_BAD_LIMIT},
+                {UINT32_MAX, MLIR_WORK_BAD_LIMIT}};
+  mlir_work_session session = MLIR_WORK_CLOSED;
+  mlir_work_answer answer;
+  for (size_t i = 0; i < sizeof wanted / sizeof *wanted; i++) {
+    mlir_work_open(&session, (const uint8_t *)module, strlen(module), 7, wanted[i].limit, &answer);
+    WANT(answer.outcome == MLIR_WORK_OK);
+    WANT(said(&session, "canon").refusal == wanted[i].refusal && said(&session, "canon limit 5").refusal == 0);
+  }
+  mlir_work_close(&session);
+  return 0;
+}
+
 static const char sums[] =
     "%0 = \"test.source\"() : () -> i32\n"
     "%1 = \"arith.addi\"(%0, %0) <{overflowFlags = #arith.overflow<none>}> : (i32, i32) -> i32\n"
@@ -311,6 +353,6 @@ static int many(void) {
 
 int main(void) {
   WANT(mlir_work_version() == MLIR_WORK_VERSION);
-  return closed() || foreign() || refused() || lines() || questions() || edits() || patterns() || tabs() || kept() ||
-         many();
+  return closed() || foreign() || refused() || lines() || odd_lines() || limits() || questions() || edits() ||
+         patterns() || tabs() || kept() || many();
 }
