@@ -238,6 +238,43 @@ static int edits(void) {
   return 0;
 }
 
+/* Edits by numbers that are at no place: the first and the greatest numbers, and values that aren't there. */
+static int edges(void) {
+  static const struct {
+    uint32_t operation, refusal;
+  } erased[] = {{0, MLIR_WORK_IS_ROOT}, {1, MLIR_WORK_HAS_USES}, {6, MLIR_WORK_NO_SUCH_OP},
+                {UINT32_MAX, MLIR_WORK_NO_SUCH_OP}};
+  const mlir_work_value source = {1, MLIR_WORK_RESULT, 0}, none = {UINT32_MAX, 0xfffffffeu, UINT32_MAX};
+  const mlir_work_value far = {1, MLIR_WORK_RESULT, UINT32_MAX};
+  mlir_work_session session = MLIR_WORK_CLOSED;
+  mlir_work_answer answer;
+  WANT(opened(&session, sums).outcome == MLIR_WORK_OK);
+  for (size_t i = 0; i < sizeof erased / sizeof *erased; i++) {
+    mlir_work_erase(&session, erased[i].operation, &answer);
+    WANT(answer.refusal == erased[i].refusal);
+  }
+  mlir_work_set_operand(&session, 3, UINT32_MAX, &source, &answer);
+  WANT(answer.refusal == MLIR_WORK_NO_SUCH_INDEX);
+  mlir_work_set_operand(&session, 3, 0, &none, &answer);
+  WANT(answer.refusal == MLIR_WORK_NO_SUCH_VALUE);
+  mlir_work_set_operand(&session, 3, 0, &far, &answer);
+  WANT(answer.refusal == MLIR_WORK_NO_SUCH_VALUE);
+  mlir_work_replace(&session, &none, &far, &answer);
+  WANT(answer.refusal == MLIR_WORK_NO_SUCH_VALUE);
+  mlir_work_replace(&session, &source, &far, &answer);
+  WANT(answer.refusal == MLIR_WORK_NO_SUCH_VALUE);
+  mlir_work_move(&session, 3, &(mlir_work_spot){MLIR_WORK_BEFORE, 0, 0}, &answer);
+  WANT(answer.refusal == MLIR_WORK_IS_ROOT);
+  mlir_work_move(&session, 3, &(mlir_work_spot){MLIR_WORK_AFTER, UINT32_MAX, 0}, &answer);
+  WANT(answer.refusal == MLIR_WORK_NO_SUCH_OP);
+  mlir_work_move(&session, 3, &(mlir_work_spot){MLIR_WORK_END, 0, UINT32_MAX}, &answer);
+  WANT(answer.refusal == MLIR_WORK_NO_SUCH_INDEX);
+  mlir_work_move(&session, 3, &(mlir_work_spot){UINT32_MAX, 0, 0}, &answer);
+  WANT(answer.refusal == MLIR_WORK_BAD_COMMAND);
+  mlir_work_close(&session);
+  return 0;
+}
+
 /* Patterns of one's own, which belong to a session, and which no rollback takes away. */
 static int patterns(void) {
   static const char rows[] = "%a -2 : i2\nc -2 : i2\nold 1 : i2\nnew -1 : i2\n";
@@ -354,5 +391,5 @@ static int many(void) {
 int main(void) {
   WANT(mlir_work_version() == MLIR_WORK_VERSION);
   return closed() || foreign() || refused() || lines() || odd_lines() || limits() || questions() || edits() ||
-         patterns() || tabs() || kept() || many();
+         edges() || patterns() || tabs() || kept() || many();
 }
