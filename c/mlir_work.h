@@ -14,6 +14,8 @@
      and there is no state beside them: so each thread may have its own.
    - No pointer is null, also where the length is 0, and none points into what another argument of the call points to.
    - Bytes are read while the call lasts and not kept; what is shown is copied out. No memory changes its owner.
+   - A call has stack for what is nested deepest in a text that is read: 512 KB of stack are enough (measured: 288 KB).
+     A thread with less of it may end by SIGSEGV. (Threads of musl have 128 KB where they aren't asked for more.)
    - No call from a signal handler, nor in the child of a fork of a process with several threads.
    - malloc, realloc and free are of one allocator, and align as those of the C library do.
    A want of memory is answered as refusal 36, and leaves the module and its marks as they were. */

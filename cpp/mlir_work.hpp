@@ -4,6 +4,7 @@
 
 #include "mlir_work.h"
 
+#include <algorithm>
 #include <cstddef>
 #include <cstdint>
 #include <optional>
@@ -69,9 +70,11 @@ public:
     if (answer.outcome != MLIR_WORK_OK)
       throw Refused(answer);
   }
-  Session(Session &&other) noexcept : held_(std::exchange(other.held_, mlir_work_session MLIR_WORK_CLOSED)) {}
+  Session(Session &&other) noexcept
+      : held_(std::exchange(other.held_, mlir_work_session MLIR_WORK_CLOSED)), marks_(std::exchange(other.marks_, 0)) {}
   Session &operator=(Session &&other) noexcept {
     std::swap(held_, other.held_);
+    std::swap(marks_, other.marks_);
     return *this;
   }
   Session(const Session &) = delete;
@@ -82,8 +85,13 @@ public:
   mlir_work_answer answer(std::string_view line) {
     mlir_work_answer answer;
     mlir_work_command(&held_, bytes(line), line.size(), &answer);
+    if (answer.outcome == MLIR_WORK_OK)
+      count(command_word(line));
     return answer;
   }
+
+  // How many marks are open.
+  std::size_t marks() const { return marks_; }
 
   // What the line came to; throws Refused.
   mlir_work_answer command(std::string_view line) { return accepted(answer(line)); }
@@ -174,29 +182,65 @@ private:
   static const std::uint8_t *bytes(std::string_view text) {
     return reinterpret_cast<const std::uint8_t *>(text.data() ? text.data() : "");
   }
+  // Removes the first word of a text, with the blanks around it, and returns it.
+  static std::string_view take_word(std::string_view &text) {
+    text.remove_prefix(std::min(text.find_first_not_of(" \t\r"), text.size()));
+    const std::string_view word = text.substr(0, text.find_first_of(" \t\r\n"));
+    text.remove_prefix(word.size());
+    return word;
+  }
+  // Returns the word of the command of a line that was accepted, which may follow `expect REFUSAL`.
+  static std::string_view command_word(std::string_view line) {
+    const std::string_view word = take_word(line);
+    if (word != "expect")
+      return word;
+    take_word(line);
+    return take_word(line);
+  }
+  // Counts the marks after a command.
+  void count(std::string_view word) {
+    if (word == "begin")
+      ++marks_;
+    else if (word == "commit" || word == "rollback")
+      --marks_;
+  }
 
   mlir_work_session held_ = MLIR_WORK_CLOSED;
+  std::size_t marks_ = 0;
 };
 
-// A mark of the module. It goes back to it at its end, unless it is kept.
+// A mark of the module. Its end rolls the module back to the mark, unless `keep` was called: also if an exception ends
+// the scope, and together with all marks that were made within it and are still open. If the mark was committed or
+// rolled back within, nothing is left to roll back. Don't move the session, or assign to it, while a Mark refers to it.
 class Mark {
 public:
-  explicit Mark(Session &session) : session_(&session) { session.command("begin"); }
+  // Throws Refused if 16 marks are open.
+  explicit Mark(Session &session) : session_(&session) {
+    session.command("begin");
+    depth_ = session.marks();
+  }
   Mark(const Mark &) = delete;
   Mark &operator=(const Mark &) = delete;
   ~Mark() {
-    if (session_)
-      session_->answer("rollback");
+    while (session_ && session_->marks() >= depth_ && session_->answer("rollback").outcome == MLIR_WORK_OK) {
+    }
   }
 
+  // Commits the mark, with all marks that were made within it and are still open. Throws std::logic_error if the mark
+  // was committed or rolled back already.
   void keep() {
-    Session *session = std::exchange(session_, nullptr);
-    if (session)
-      session->command("commit");
+    if (!session_)
+      return;
+    if (session_->marks() < depth_)
+      throw std::logic_error("the mark was dropped before it was kept");
+    while (session_->marks() >= depth_)
+      session_->command("commit");
+    session_ = nullptr;
   }
 
 private:
   Session *session_;
+  std::size_t depth_ = 0;
 };
 
 } // namespace workbench

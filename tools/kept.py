@@ -44,7 +44,7 @@ def beside(path):
 
 def put(name, text):
     """Writes a file as a whole: where that fails the file is what it was. What is no plain file is written to."""
-    path = pathlib.Path(os.path.realpath(os.path.expanduser(name)))
+    path = pathlib.Path(os.path.expanduser(name))
     try:
         mode = path.stat().st_mode
     except FileNotFoundError:
@@ -54,7 +54,7 @@ def put(name, text):
     if not stat.S_ISREG(mode):
         path.write_bytes(text)
         return
-    with beside(path) as file:
+    with beside(pathlib.Path(os.path.realpath(path))) as file:
         file.write(text)
         os.fchmod(file.fileno(), stat.S_IMODE(mode))
 

@@ -20,8 +20,8 @@ COMMANDS = {
     "page": ("a page for a browser that shows a script over a module, step by step", "page"),
 }
 STATUS = """exit status: 0 where nothing was refused, 1 where something was, 2 where the command line is wrong, or a
-file of patterns that it names, 3 where the module was refused, 4 where a read or a write failed. `mlir-work
-FILE` is `mlir-work open FILE`."""
+file of patterns that it names, 3 where the module was refused, 4 where a read or a write failed, 130 where Ctrl-C ended
+it. `mlir-work FILE` is `mlir-work open FILE`."""
 
 
 class Version(argparse.Action):
@@ -50,8 +50,8 @@ def main(words):
     """The status of what the words on the command line ask for."""
     if words and words[0] not in COMMANDS and not words[0].startswith("-"):
         words = ["open", *words]
-    given = parser().parse_args(words)
     try:
+        given = parser().parse_args(words)
         program.ask(getattr(given, "opaque", False), getattr(given, "patterns", ()))
         return given.run(given)
     except BrokenPipeError:
@@ -60,7 +60,10 @@ def main(words):
     except (OSError, program.Fault) as fault:
         print(f"{NAME}: {fault}", file=sys.stderr)
         return 2 if isinstance(fault, program.Wrong) else 4
-    except (KeyboardInterrupt, EOFError):
+    except KeyboardInterrupt:
+        print(f"\n{NAME}: interrupted", file=sys.stderr)
+        return program.INTERRUPTED
+    except EOFError:
         print()
         return 1
 

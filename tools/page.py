@@ -23,6 +23,7 @@ import program  # noqa: E402
 import replay  # noqa: E402
 from changes import in_order  # noqa: E402
 from forms import kinds  # noqa: E402
+from kept import put  # noqa: E402
 
 PARTS = pathlib.Path(__file__).resolve().parent / "web"
 # Letters that end or begin something in HTML, in a text of JSON.
@@ -167,7 +168,7 @@ def made(names, most):
         found = program.REFUSED_MODULE.fullmatch(refused).groups()
         return None, explain.module_refused(names[0], module, *found)
     replay.fill(module, steps)
-    return written(Data().all(pathlib.Path(names[0]).name, steps)), []
+    return written(Data().all(plain(pathlib.Path(names[0]).name), steps)), []
 
 
 def arguments(parser):
@@ -184,7 +185,7 @@ def run(given):
     if text is None:
         print(*lines, sep="\n", file=sys.stderr)
         return 3
-    pathlib.Path(given.out).write_text(text)
+    put(given.out, text.encode())
     return 0
 
 

@@ -19,6 +19,8 @@ OPAQUE, PATTERNS = "--opaque", "--patterns"
 # Words that each run of the program has, besides its own: what the command line asks of it.
 ASKED = []
 DIVIDER = b"// -----"
+# The status of a tool that Ctrl-C ended, as shells have it.
+INTERRUPTED = 130
 MOST_SCRIPT = 16 * 1024 * 1024
 BLANKS = b" \t\r"
 # Pages of two megabytes, as ./run asks for them: a large module waits less for memory.

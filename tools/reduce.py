@@ -3,8 +3,10 @@ for. It is edited by the program, so it may break rules of the verifier, and eac
 
 Whole functions are erased first, then operations, all of them, halves, quarters, and so on down to single ones; then
 results are replaced by operands of their types, or by values before them, so that more can be erased, and attributes
-are dropped; and all of this again, until nothing more goes. What is refused on the way doesn't happen."""
+are dropped; and all of this again, until nothing more goes. What is refused on the way doesn't happen. Ctrl-C ends the
+search, and the smallest module so far is written."""
 import argparse
+import importlib.util
 import os
 import re
 import subprocess
@@ -18,17 +20,21 @@ import ways
 from forms import kinds
 from kept import put
 
+# (the package can't be imported from here, where another file has its name)
+BRACKETS = importlib.util.spec_from_file_location("brackets", program.ROOT / "python/mlir_work/brackets.py")
+brackets = importlib.util.module_from_spec(BRACKETS)
+BRACKETS.loader.exec_module(brackets)
+
 HEAD = re.compile(r'(?:(%[^"]*) = )?"[^"]*"\(([^)]*)\)')
-KEY = re.compile(r'(?<=[{ ])("[^"]*"|[A-Za-z_][\w$.]*)(?= = |[,}])')
 ARGUMENT = re.compile(r"(%a[\d.]+):")
 # So many values before an operation are tried in place of its results.
 NEAR = 8
 # So many pairs of values are tried by one run.
 MOST_PAIRS = 20000
-TYPE = re.compile(r"i\d+|index")
 OPERATION = re.compile(r"(#|%v|%a)(\d+)")
 EPILOG = """The module is written to standard output, behind its script in comments, or into a file, with the script
-beside it. The status is 0, or 1 where the module doesn't show what it is to show."""
+beside it. The status is 0, 1 where the module doesn't show what it is to show, or 130 where Ctrl-C ended the search:
+then the smallest module so far is written."""
 
 
 class Row:
@@ -96,8 +102,16 @@ class Operation:
         found = HEAD.match(text)
         self.number, self.before = number, before
         self.results, self.operands = ([it for it in (part or "").split(", ") if it] for part in found.groups())
-        keys = dict.fromkeys(KEY.findall(text, found.end()))
-        self.keys = [key for key in keys if not TYPE.fullmatch(key)]
+        self.keys = keys_of(text[found.end():])
+
+
+def keys_of(text):
+    """The keys of the entries of an operation, as they are printed, by what stands behind its operands."""
+    properties, rest = brackets.taken(text, " <{")
+    if rest.startswith(" ("):
+        rest = rest[brackets.closed(rest[1:]) + 1:]
+    attributes, _ = brackets.taken(rest, " {")
+    return [key for key, _ in properties + attributes]
 
 
 def operations(listing):
@@ -122,11 +136,13 @@ def outermost(listing):
 
 
 class Reducer:
-    """A module that is made smaller: the edits so far, and how often it was tried."""
+    """A module that is made smaller: the edits so far, behind which it shows what it is to show, and how often it was
+    tried. `first` is how many operations there were, once it is known that the module shows it."""
 
     def __init__(self, module, goal, told=lambda count: None):
         self.way, self.goal, self.told = ways.fitting(module), goal, told
         self.kept, self.tries, self.count = [], 0, module.count(b'"(') + 64
+        self.first = None
 
     def listing(self):
         """The module as it is."""
@@ -193,7 +209,8 @@ class Reducer:
         """Makes the module as small as it gets; false where it doesn't show what it is to show."""
         if not self.shows([]):
             return False
-        before, (size, _) = None, self.size()
+        before, (size, those) = None, self.size()
+        self.first = len(those)
         while size != before:
             before = size
             self.erase(outermost(self.listing())[::-1])
@@ -248,31 +265,45 @@ def told(count):
 
 
 def run(given):
-    """Writes a smaller module; the status is 1 where it doesn't show what it is to show."""
-    module = read(given.module)
-    reducer = Reducer(module, given.goal, told)
+    """Writes a smaller module; the status is 1 where it doesn't show what it is to show. Where an interrupt ends the
+    search the smallest one so far is written, if there is one; another interrupt ends that too."""
+    reducer = Reducer(read(given.module), given.goal, told)
+    status = 0
     try:
-        first = len(operations(reducer.listing()))
-        if not reducer.go():
-            print(f"{given.module} doesn't show `{given.goal.told}`", file=sys.stderr)
-            return 1
-        listing = reducer.listing()
-        _, (_, printed) = reducer.way.tried(reducer.kept, [], "print")
+        try:
+            if not reducer.go():
+                print(f"{given.module} doesn't show `{given.goal.told}`", file=sys.stderr)
+                return 1
+        except KeyboardInterrupt:
+            status = program.INTERRUPTED
+            print("\ninterrupted: " + ("nothing is written, since nothing was tried yet" if reducer.first is None else
+                                       "the smallest module so far is written"), file=sys.stderr)
+        if reducer.first is not None:
+            finish(given, reducer)
     finally:
         reducer.way.stop()
+    return status
+
+
+def finish(given, reducer):
+    """Writes what is left, and says how much that is."""
+    listing = reducer.listing()
+    _, (_, printed) = reducer.way.tried(reducer.kept, [], "print")
     order = [key for key in listing.keys if not isinstance(key, tuple)]
     numbers = {number: str(place) for place, number in enumerate(order)}
-    print(f"{len(order) - 1} of {first} operations are left, by {len(reducer.kept)} edits, which were found by "
+    print(f"{len(order) - 1} of {reducer.first} operations are left, by {len(reducer.kept)} edits, which were found by "
           f"{reducer.tries} tries: {given.goal.renamed(numbers)}", file=sys.stderr)
     write(given.output, "\n".join([*printed, ""]), reducer.kept, given.module)
-    return 0
 
 
 def write(name, text, script, source):
     """Writes the module and the script that made it."""
+    module = text.encode("utf-8", "surrogateescape")
+    lines = "".join(line + "\n" for line in script).encode("utf-8", "surrogateescape")
     if name is None:
-        lines = [f"// {os.path.basename(source)} behind:", *(f"//   {line}" for line in script)]
-        print("\n".join(lines) + "\n" + text, end="")
+        head = b"// %s behind:\n" % os.fsencode(os.path.basename(source))
+        sys.stdout.buffer.write(head + re.sub(b"(?m)^(?=.)", b"//   ", lines) + module)
+        sys.stdout.buffer.flush()
         return
-    put(name, text.encode("utf-8", "surrogateescape"))
-    put(f"{name}.script", "".join(line + "\n" for line in script).encode("utf-8", "surrogateescape"))
+    put(name, module)
+    put(f"{name}.script", lines)

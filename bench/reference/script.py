@@ -359,7 +359,9 @@ def expected(line):
     if word != "expect":
         return None, line
     name, command = cut(rest)
-    number = int(name) if re.fullmatch("[0-9]+", name) else NUMBERS.get(name)
+    # (a number may have any count of digits; `int` takes only so many)
+    digits = re.fullmatch("0*([0-9]{1,9})", name)
+    number = int(digits[1]) if digits else NUMBERS.get(name)
     return (number, command) if number in REFUSALS else (None, line)
 
 

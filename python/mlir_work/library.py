@@ -10,7 +10,7 @@ from typing import List, Optional, Union
 from .errors import Error, ModuleRefused, SessionClosed
 from .process import VARIABLE as PROGRAM
 from .reply import Reply
-from .way import Way
+from .way import Way, check_limit
 
 # The version of the calls, and the variable that names the shared object where it isn't beside this file.
 VERSION, VARIABLE = 1, "MLIR_WORK_LIBRARY"
@@ -29,6 +29,8 @@ _WORDS = {
     54: "BadTarget", 60: "BadCommand"}
 _NUMBERS = {word: number for number, word in _WORDS.items()}
 _EXPECTS = re.compile(r"[ \t\r]*expect[ \t]+([^ \t]+)")
+# (a number may have any count of digits; `int` takes only so many)
+_DIGITS = re.compile("0*([0-9]{1,9})")
 
 
 class _Slot(ctypes.Structure):
@@ -101,7 +103,8 @@ def _expected(line: bytes) -> Optional[int]:
         return None
     if not found:
         return None
-    number = int(found[1]) if re.fullmatch("[0-9]+", found[1]) else _NUMBERS.get(found[1])
+    digits = _DIGITS.fullmatch(found[1])
+    number = int(digits[1]) if digits else _NUMBERS.get(found[1])
     return number if number in _WORDS else None
 
 
@@ -117,6 +120,7 @@ class Library(Way):
         self._count = self._status = 0
 
     def open(self, text: bytes, limit: Optional[int] = None, opaque: bool = False) -> List[str]:
+        check_limit(limit)
         opens = self._calls.mlir_work_open_opaque if opaque else self._calls.mlir_work_open
         opens(self._held, text, len(text), secrets.randbits(64), DEFAULT_LIMIT if limit is None else limit,
               self._answer)

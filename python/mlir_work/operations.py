@@ -6,20 +6,17 @@ import re
 from dataclasses import dataclass
 from typing import Dict, List, Optional, Tuple
 
+from .brackets import STRING, closed, parts, taken
 from .reply import lines_of
 from .values import Argument, Result, Value
 
 KEY = "N."
-_STRING = r'"(?:[^"\\]|\\.)*"'
-_HEAD = re.compile(rf"(?:%\d+(?::(\d+))? = )?({_STRING})\(([^()]*)\)")
+_HEAD = re.compile(rf"(?:%\d+(?::(\d+))? = )?({STRING})\(([^()]*)\)")
 _OPENED = re.compile(r"\(((?:\{\}, )*)\{$")
 _NEXT = re.compile(r"\}, ((?:\{\}, )*)\{$")
 _REGIONS = re.compile(r" \((\{\}(?:, \{\})*)\)")
-_TOKEN = re.compile(rf'{_STRING}|->|[<>]=|[()\[\]{{}}<>,]|[^"()\[\]{{}}<>,-]+|.')
-_ENTRY = re.compile(rf"({_STRING}|[^ ]+)(?: = (.*))?", re.S)
 _ARGUMENT = re.compile(r"%(arg\d+): (.*)")
 _ESCAPE = re.compile(r"\\([0-9A-Fa-f]{2}|.)")
-_DEPTH = {**dict.fromkeys("([{<", 1), **dict.fromkeys(")]}>", -1)}
 
 
 @dataclass(frozen=True, eq=False)
@@ -93,46 +90,15 @@ def unescaped(literal: str) -> str:
     return _ESCAPE.sub(byte, literal[1:-1]).encode("latin-1", "replace").decode("utf-8", "surrogateescape")
 
 
-def _parts(text: str) -> List[str]:
-    """A text cut at the commas that stand in no brackets."""
-    parts, depth = [""], 0
-    for token in _TOKEN.findall(text):
-        depth += _DEPTH.get(token, 0)
-        if token == "," and not depth:
-            parts.append("")
-        else:
-            parts[-1] += token
-    return [it.strip() for it in parts if it.strip()]
-
-
-def _closed(text: str) -> int:
-    """How long the part of a text is that its first bracket holds together, that bracket and its end included."""
-    depth = 0
-    for token in _TOKEN.finditer(text):
-        depth += _DEPTH.get(token[0], 0)
-        if not depth:
-            return token.end()
-    return len(text)
-
-
 def _entries(text: str, opens: str) -> Tuple[Dict[str, str], str]:
-    """The dictionary that a text begins with, if it does, and the text behind it. An entry without a value is
-    `unit`."""
-    if not text.startswith(opens):
-        return {}, text
-    found: Dict[str, str] = {}
-    text, margin = text[1:], len(opens) - 1
-    end = _closed(text)
-    for part in _parts(text[margin:end - margin]):
-        entry = _ENTRY.fullmatch(part)
-        if entry:
-            found[unescaped(entry[1]) if entry[1][0] == '"' else entry[1]] = entry[2] or "unit"
-    return found, text[end:]
+    """The dictionary that a text begins with, if it does, and the text behind it."""
+    found, rest = taken(text, opens)
+    return {unescaped(key) if key[0] == '"' else key: value for key, value in found}, rest
 
 
 def _types(text: str) -> Tuple[str, ...]:
     """The types of a list, or the one that stands by itself."""
-    return tuple(_parts(text[1:-1])) if text.startswith("(") else (text,)
+    return tuple(parts(text[1:-1])) if text.startswith("(") else (text,)
 
 
 class _Listing:
@@ -177,7 +143,7 @@ class _Listing:
             raise ValueError(f"{it.text!r} is no operation")
         arguments: Dict[Argument, str] = {}
         for region, text in it.arguments:
-            for place, part in enumerate(_parts(text)):
+            for place, part in enumerate(parts(text)):
                 name, of_type = part[1:].split(": ", 1)
                 self.named[name] = Argument(it.number, region, place)
                 arguments[self.named[name]] = of_type
@@ -185,7 +151,7 @@ class _Listing:
         regions = _REGIONS.match(rest)
         attributes, rest = _entries(rest[regions.end():] if regions else rest, " {")
         attributes.pop(self.key, None)
-        end = _closed(rest[3:]) + 3
+        end = closed(rest[3:]) + 3
         results = _types(rest[end + 4:]) if it.text[0] == "%" else ()
         return Operation(
             it.number, unescaped(head[2]), tuple(self.value(name) for name in head[3].split(", ") if name),

@@ -16,7 +16,7 @@ from .reply import Reply
 from .rewrites import Canonicalized, Reason, Rewrite, Traced, canonicalized_of, reasons_of, stood_of, traced_of
 from .rows import KINDS, Constant, Dead, Diagnostic, Effect, Row, Symbol, Unreached, Use, rows_of
 from .values import Value, key_text, op_text
-from .way import Way
+from .way import Way, check_limit
 
 Text = Union[str, bytes]
 ValueText = Union[Value, str]
@@ -95,11 +95,11 @@ class Session:
     `program` is the file or the words of `mlir_work`, which is started as a process. Without it MLIR_WORK_LIBRARY in
     the environment names the library that holds the module in this process, or MLIR_WORK the words of a program; where
     neither does, it is the library beside the package, if there is one, or the `mlir_work` on the path. `kinds` are the
-    analyses that are wanted, all where nothing is said; `limit` is the most rewrites of a plain `canon`. A program that
-    keeps silent for longer than `timeout` seconds is given up; without one it is waited for. `way` is another way to
-    the workbench than these. With `opaque` types and attributes that aren't known are kept as they are spelled, in the
-    text and in commands. `patterns` is a file of patterns of one's own, a line each, or several, which are defined
-    before anything else.
+    analyses that are wanted, all where nothing is said; `limit` is the most rewrites of a plain `canon`, from 1 to
+    1,000,000. A program that keeps silent for longer than `timeout` seconds is given up; without one it is waited for.
+    `way` is another way to the workbench than these. With `opaque` types and attributes that aren't known are kept as
+    they are spelled, in the text and in commands. `patterns` is a file of patterns of one's own, a line each, or
+    several, which are defined before anything else.
 
     Raises ModuleRefused, and Refused where a pattern of a file is. Each call below raises Refused where the command is
     refused, which changes nothing, and ProcessLost where the program ended, which closes the session, as an interrupt
@@ -114,6 +114,7 @@ class Session:
             raise ValueError(f"there is no kind {unknown[0]!r}: they are {', '.join(KINDS)}")
         if DIVIDER in _bytes(text).split(b"\n"):
             raise ValueError("a line `// -----` ends the text of a module")
+        check_limit(limit)
         self._way: Way = _way_to(program, timeout) if way is None else way
         self._thread = threading.get_ident()
         self._listing: Optional[List[Operation]] = None
@@ -220,10 +221,11 @@ class Session:
         return None
 
     def expect(self, refusal: Union[int, str], line: Text) -> bool:
-        """Obeys a line that is to be refused so, by the number or the word of a refusal, and whether it was."""
-        wanted = refusal.encode() if isinstance(refusal, str) else str(refusal).encode()
-        reply = self.commands([b"expect " + wanted + b" " + _bytes(line)])[0]
-        return reply.outcome == "refused" and " expected " not in reply.shown.partition("\n")[0]
+        """Obeys a line that is to be refused so, by the number or the word of a refusal, and whether it was. Of what
+        names no refusal the line isn't obeyed, and False is returned."""
+        wanted = str(refusal)
+        refused = self.commands([f"expect {wanted} ".encode() + _bytes(line)])[0].refusal()
+        return refused is not None and wanted.lstrip("0") in (str(refused.number), refused.word)
 
     # What it shows.
 

@@ -4,6 +4,14 @@ from typing import Iterable, List, Optional
 
 from .reply import Reply
 
+MOST_LIMIT = 1_000_000
+
+
+def check_limit(limit: Optional[int]) -> None:
+    """Raises ValueError if the limit of a plain `canon` is one that the program refuses."""
+    if limit is not None and not 1 <= limit <= MOST_LIMIT:
+        raise ValueError(f"the limit isn't from 1 to {MOST_LIMIT:,}")
+
 
 class Way(abc.ABC):
     """A module that is held somewhere, and told a line at a time. One thread at a time calls it."""

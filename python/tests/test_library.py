@@ -68,6 +68,12 @@ class Own(Case):
         with self.assertRaises(mlir_work.SessionClosed):
             way.line(b"print")
 
+    def test_a_limit_that_is_refused(self):
+        """The library takes 32 bits of a limit: what has more isn't handed over."""
+        for limit in (-1, 0, 2**32 + 5):
+            with self.subTest(limit), self.assertRaises(ValueError):
+                mlir_work.Library(SHARED).open(b"", limit)
+
     def test_64_sessions_in_turn(self):
         for number in range(64):
             with session(f'"test.a"() {{k = {number}}} : () -> ()') as s:
@@ -102,6 +108,21 @@ class Own(Case):
         for it in threads:
             it.join()
         self.assertEqual(found, [2] * 8)
+
+    def test_a_thread_with_little_stack(self):
+        """A thread with as much stack as the pages say is enough holds the module that is nested deepest."""
+        found = []
+
+        def work():
+            with session('"t.n"() ({ ' * 127 + '"t.leaf"() : () -> ()' + " }) : () -> ()" * 127) as s:
+                with s.mark():
+                    found.append((len(s.print()) > 127 ** 2, len(s.report("effects")), s.canon()))
+        before = threading.stack_size(512 * 1024)
+        self.addCleanup(threading.stack_size, before)
+        it = threading.Thread(target=work)
+        it.start()
+        it.join()
+        self.assertEqual(found, [(True, 129, (0, True))])
 
     def test_a_text_with_a_zero(self):
         with session(test_session.PAIR) as s:

@@ -11,7 +11,7 @@ from support import ROOT, Case, Referred, example, knows_opaque, session
 
 import mlir_work
 from mlir_work import Argument, Dead, Result, Symbol, after, before, end, quoted, start
-from reference import chance, script
+from reference import chance, opaque, rules, script
 from reference.module import printing, text_of, value_text, walk
 
 sys.path.append(str(ROOT / "bench/compare"))
@@ -37,6 +37,24 @@ ODD = '''"func.func"() <{function_type = () -> (), sym_name = "a b\\0A\\"#3",
 "func.call"() <{callee = @f}> : () -> i32
 "test.a"() {k = @"a b\\0A\\"#3"::@"#1 @x", l = @none} : () -> ()
 '''
+
+
+# What the bodies of opaque terms are made of, by chance.
+PARTS = ["a", "<=", ">=", "->", "<", ">", "(", ")", "[", "]", "{", "}", '"x,>"', ",", "=", "-", "1", "#b.c", "!d<e>",
+         " ", r'"\">"', "%0", ":", "#b.c-"]
+
+
+def is_body(text):
+    """Whether a text is the body of an opaque term, by the rules in Python."""
+    try:
+        return opaque.body_end(text.encode(), 0) == len(text)
+    except rules.Refused:
+        return False
+
+
+def type_of(attribute):
+    """The opaque type with the body of an opaque attribute."""
+    return "!" + attribute[1:]
 
 
 def lines(s):
@@ -329,6 +347,46 @@ class Lines(Case):
         self.assertEqual(s.marks, 1)
         self.assertIn('"test.pair"', s.command("print").shown)
 
+    def test_what_is_expected(self):
+        """`expect` says whether a line was refused so; what names no refusal obeys nothing."""
+        s = self.s
+        for refusal in (22, "22", "HasUses", "0" * 5000 + "22"):
+            self.assertIs(s.expect(refusal, "erase #1"), True)
+        for refusal in (23, "NotVisible", "0" * 5000 + "23"):
+            self.assertIs(s.expect(refusal, "erase #1"), False)
+        for refusal in (0, 21, 99, -22, "", "0", "HasUse", "9" * 5000):
+            self.assertIs(s.expect(refusal, "erase #9"), False)
+        for refusal in (99, "HasUse", "9" * 5000):
+            self.assertIs(s.expect(refusal, "erase #3"), False)
+        self.assertIs(s.expect("9" * 5000, "nothing that is a command"), False)
+        self.assertEqual(len(s.operations()), 4)
+        self.assertIs(s.expect("HasUses", "erase #3"), False)
+        self.assertEqual((len(s.operations()), s.closed), (3, False))
+
+    @unittest.skipUnless(hasattr(sys, "get_int_max_str_digits"), "this Python has no most digits of a number")
+    def test_numbers_of_many_digits(self):
+        """A number of more digits than Python turns into an int neither closes the session nor raises behind an
+        edit."""
+        most = sys.get_int_max_str_digits()
+        self.addCleanup(sys.set_int_max_str_digits, most)
+        sys.set_int_max_str_digits(4300)
+        number = "0" * 5000 + "22"
+        self.assertEqual(self.s.command(f"expect {number} erase #3").text, "ok")
+        with self.assertRaises(mlir_work.Refused):
+            self.s.command(f"expect {number}1 print")
+        with self.assertRaises(ValueError):
+            self.s.expect(10 ** 5000, "erase #1")
+        self.assertEqual(([it.number for it in self.s], self.s.closed), ([0, 1, 2], False))
+
+    def test_limits(self):
+        """A limit that the program refuses is refused before a session is opened, and isn't cut to 32 bits."""
+        for limit in (-1, 0, 1_000_001, 2**32 + 5, 2**64 + 5, 10**30):
+            with self.subTest(limit), self.assertRaises(ValueError):
+                session(PAIR, limit=limit)
+        for limit in (1, 1_000_000):
+            with session(PAIR, limit=limit) as s:
+                self.assertEqual(s.canon(), (0, True))
+
     def test_what_says_nothing(self):
         for line in ("", " \t\r", "// a comment", "  // ä"):
             self.assertEqual(self.s.command(line), ("", ""))
@@ -582,6 +640,36 @@ class Operations(Case):
         for text in (it for those in texts.values() for it in those):
             with self.subTest(text):
                 self.compare(text, lambda run: ["set-attr #1 N. 5", "erase #2", 'insert end #0 0 "z"() : () -> i1'])
+
+    @unittest.skipUnless(knows_opaque(), "the program has no --opaque")
+    def test_opaque_terms_by_chance(self):
+        """Attributes and types are listed as they are spelled, whatever brackets, arrows and signs are in them."""
+        maker, terms = random.Random(71), []
+        while len(terms) < 600:
+            body = "<" + "".join(maker.choice(PARTS) for _ in range(maker.randint(1, 5))) + ">"
+            terms += ["#foo" + body] if is_body(body) else []
+        pairs = list(zip(terms[::2], terms[1::2]))
+        texts = [f'"x"() <{{p = {a}, q = 1 : i8}}> ({{^bb0(%0: {type_of(a)}, %1: i8): }}) {{a = {b}, c = [{a}, {b}]}}'
+                 f' : () -> ({type_of(b)}, i1, {type_of(a)})' for a, b in pairs]
+        with session("\n".join(texts), opaque=True) as s:
+            for it, (a, b) in zip(s.operations()[1:], pairs, strict=True):
+                with self.subTest(a=a, b=b):
+                    self.assertEqual(it.properties, {"p": a, "q": "1 : i8"})
+                    self.assertEqual(it.attributes, {"a": b, "c": f"[{a}, {b}]"})
+                    self.assertEqual(list(it.arguments.values()), [type_of(a), "i8"])
+                    self.assertEqual(list(it.results.values()), [type_of(b), "i1", type_of(a)])
+
+    @unittest.skipUnless(knows_opaque(), "the program has no --opaque")
+    def test_opaque_terms_by_hand(self):
+        """The forms in which a bracket closes nothing, or a dash belongs to a name."""
+        for term in ("#foo<a <= b>>", "#foo<a <= b, c >= d>", "#foo<(a >= b)>", "#foo<[>]>", "#foo<{>}>", "#foo<->>",
+                     "#foo<#a.b->", "#foo<#a.b ->>", "#foo<!a.b-> : !a.b-", '#foo<"x,>">', "array<!a.b->",
+                     "affine_map<(d0) -> (d0 > 1)>", "affine_set<(d0) : (d0 - 1 >= 0)>", "#a.b-", "[#a.b-, #a.c-]",
+                     "-1.0e-5 : f32"):
+            text = f'"x"() <{{p = {term}}}> {{a = {term}, c}} : () -> ()'
+            with self.subTest(term), session(text, opaque=True) as s:
+                it = s.operations()[1]
+                self.assertEqual((it.properties, it.attributes), ({"p": term}, {"a": term, "c": "unit"}))
 
     def test_they_are_asked_for_once(self):
         with session(PAIR) as s:

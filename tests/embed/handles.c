@@ -118,6 +118,48 @@ static int lines(void) {
   return 0;
 }
 
+/* What a line comes to whose bytes are odd, and how much it shows: blanks, line feeds, zeros, what isn't UTF-8. */
+static int odd_lines(void) {
+  static const struct {
+    const char *line;
+    size_t length;
+    uint32_t outcome, refusal;
+  } wanted[] = {{"\n", 1, MLIR_WORK_NOTHING, 0}, {" \t\r", 3, MLIR_WORK_NOTHING, 0},
+                {"// -----", 8, MLIR_WORK_NOTHING, 0}, {"print\r\n", 7, MLIR_WORK_OK, 0},
+                {"\n\n", 2, MLIR_WORK_REFUSED, MLIR_WORK_BAD_COMMAND},
+                {"//x\nprint", 9, MLIR_WORK_REFUSED, MLIR_WORK_BAD_COMMAND},
+                {"pr\0nt", 5, MLIR_WORK_REFUSED, MLIR_WORK_BAD_COMMAND},
+                {"print\0", 6, MLIR_WORK_REFUSED, MLIR_WORK_BAD_COMMAND},
+                {"// \xff", 4, MLIR_WORK_REFUSED, MLIR_WORK_BAD_COMMAND}};
+  mlir_work_session session = MLIR_WORK_CLOSED;
+  mlir_work_answer answer;
+  WANT(opened(&session, module).outcome == MLIR_WORK_OK);
+  for (size_t i = 0; i < sizeof wanted / sizeof *wanted; i++) {
+    mlir_work_command(&session, (const uint8_t *)wanted[i].line, wanted[i].length, &answer);
+    WANT(answer.outcome == wanted[i].outcome && answer.refusal == wanted[i].refusal && answer.number == 0);
+    WANT((answer.shown > 0) == (answer.outcome == MLIR_WORK_OK));
+  }
+  mlir_work_close(&session);
+  return 0;
+}
+
+/* A session is opened with any limit; a `canon` that says none is refused where that limit is out of range. */
+static int limits(void) {
+  static const struct {
+    uint32_t limit, refusal;
+  } wanted[] = {{0, MLIR_WORK_BAD_LIMIT}, {1, 0}, {1000000, 0}, {1000001, MLIR_WORK_BAD_LIMIT},
+                {UINT32_MAX, MLIR_WORK_BAD_LIMIT}};
+  mlir_work_session session = MLIR_WORK_CLOSED;
+  mlir_work_answer answer;
+  for (size_t i = 0; i < sizeof wanted / sizeof *wanted; i++) {
+    mlir_work_open(&session, (const uint8_t *)module, strlen(module), 7, wanted[i].limit, &answer);
+    WANT(answer.outcome == MLIR_WORK_OK);
+    WANT(said(&session, "canon").refusal == wanted[i].refusal && said(&session, "canon limit 5").refusal == 0);
+  }
+  mlir_work_close(&session);
+  return 0;
+}
+
 static const char sums[] =
     "%0 = \"test.source\"() : () -> i32\n"
     "%1 = \"arith.addi\"(%0, %0) <{overflowFlags = #arith.overflow<none>}> : (i32, i32) -> i32\n"
@@ -193,6 +235,43 @@ static int edits(void) {
   WANT(answer.outcome == MLIR_WORK_NO_SESSION && !answer.refusal && !answer.number && !answer.shown);
   mlir_work_move(&session, 1, &(mlir_work_spot){4, 0, 0}, &answer);
   WANT(answer.outcome == MLIR_WORK_NO_SESSION);
+  return 0;
+}
+
+/* Edits by numbers that are at no place: the first and the greatest numbers, and values that aren't there. */
+static int edges(void) {
+  static const struct {
+    uint32_t operation, refusal;
+  } erased[] = {{0, MLIR_WORK_IS_ROOT}, {1, MLIR_WORK_HAS_USES}, {6, MLIR_WORK_NO_SUCH_OP},
+                {UINT32_MAX, MLIR_WORK_NO_SUCH_OP}};
+  const mlir_work_value source = {1, MLIR_WORK_RESULT, 0}, none = {UINT32_MAX, 0xfffffffeu, UINT32_MAX};
+  const mlir_work_value far = {1, MLIR_WORK_RESULT, UINT32_MAX};
+  mlir_work_session session = MLIR_WORK_CLOSED;
+  mlir_work_answer answer;
+  WANT(opened(&session, sums).outcome == MLIR_WORK_OK);
+  for (size_t i = 0; i < sizeof erased / sizeof *erased; i++) {
+    mlir_work_erase(&session, erased[i].operation, &answer);
+    WANT(answer.refusal == erased[i].refusal);
+  }
+  mlir_work_set_operand(&session, 3, UINT32_MAX, &source, &answer);
+  WANT(answer.refusal == MLIR_WORK_NO_SUCH_INDEX);
+  mlir_work_set_operand(&session, 3, 0, &none, &answer);
+  WANT(answer.refusal == MLIR_WORK_NO_SUCH_VALUE);
+  mlir_work_set_operand(&session, 3, 0, &far, &answer);
+  WANT(answer.refusal == MLIR_WORK_NO_SUCH_VALUE);
+  mlir_work_replace(&session, &none, &far, &answer);
+  WANT(answer.refusal == MLIR_WORK_NO_SUCH_VALUE);
+  mlir_work_replace(&session, &source, &far, &answer);
+  WANT(answer.refusal == MLIR_WORK_NO_SUCH_VALUE);
+  mlir_work_move(&session, 3, &(mlir_work_spot){MLIR_WORK_BEFORE, 0, 0}, &answer);
+  WANT(answer.refusal == MLIR_WORK_IS_ROOT);
+  mlir_work_move(&session, 3, &(mlir_work_spot){MLIR_WORK_AFTER, UINT32_MAX, 0}, &answer);
+  WANT(answer.refusal == MLIR_WORK_NO_SUCH_OP);
+  mlir_work_move(&session, 3, &(mlir_work_spot){MLIR_WORK_END, 0, UINT32_MAX}, &answer);
+  WANT(answer.refusal == MLIR_WORK_NO_SUCH_INDEX);
+  mlir_work_move(&session, 3, &(mlir_work_spot){UINT32_MAX, 0, 0}, &answer);
+  WANT(answer.refusal == MLIR_WORK_BAD_COMMAND);
+  mlir_work_close(&session);
   return 0;
 }
 
@@ -311,6 +390,6 @@ static int many(void) {
 
 int main(void) {
   WANT(mlir_work_version() == MLIR_WORK_VERSION);
-  return closed() || foreign() || refused() || lines() || questions() || edits() || patterns() || tabs() || kept() ||
-         many();
+  return closed() || foreign() || refused() || lines() || odd_lines() || limits() || questions() || edits() ||
+         edges() || patterns() || tabs() || kept() || many();
 }

@@ -3,6 +3,7 @@ beside the program; every allocation is refused in turn. Where there is no libra
 is left out."""
 import os
 import pathlib
+import re
 import shutil
 import subprocess
 import tempfile
@@ -59,9 +60,15 @@ class Library(unittest.TestCase):
         for more in ((), SANITIZED):
             self.assertEqual(ran([self.built("tests/embed/handles.c", *more)]), b"")
 
+    def test_marks(self):
+        """A `Mark` of C++ goes back to its own mark, whatever is done within it, also on an exception."""
+        for more in ((), SANITIZED):
+            self.assertEqual(ran([self.built("tests/embed/marks.cpp", *more)]), b"")
+
     @unittest.skipUnless(shutil.which("valgrind"), "there is no valgrind")
     def test_memcheck(self):
         self.assertEqual(ran([*MEMCHECK, self.built("tests/embed/handles.c")]), b"")
+        self.assertEqual(ran([*MEMCHECK, self.built("tests/embed/marks.cpp")]), b"")
         script = (EXAMPLES / "fold.script").read_bytes()
         ran([*MEMCHECK, self.built("examples/embed/replies.c"), EXAMPLES / "fold.mlir"], script)
         ran([*MEMCHECK, self.built("examples/embed/dead.cpp"), self.module()])
@@ -81,6 +88,15 @@ class Library(unittest.TestCase):
         for more in ((), SANITIZED):
             out = ran([self.built("examples/embed/dead.cpp", *more), self.module()]).decode()
             self.assertEqual(out, '"builtin.module"() ({\n^bb0:\n}) : () -> ()\n// 2 erased\n')
+
+    def test_stack(self):
+        """A thread with as much stack as the header says is enough works on what is nested deepest."""
+        size, = re.findall(r"([0-9]+) KB of stack are enough", (ROOT / "c/mlir_work.h").read_text())
+        it = subprocess.run([self.built("tests/embed/stack.c", "-pthread"), size], capture_output=True, text=True,
+                            check=False)
+        if it.returncode == 77:
+            self.skipTest(f"there is no thread with {size} KB of stack")
+        self.assertEqual((it.returncode, it.stdout, it.stderr), (0, "", ""))
 
     def test_edits(self):
         out = ran([self.built("examples/embed/edits.c"), "200", "1000"]).decode()

@@ -2,8 +2,10 @@
 clicked through."""
 import html.parser
 import json
+import os
 import pathlib
 import random
+import resource
 import subprocess
 import sys
 import tempfile
@@ -211,10 +213,10 @@ class Called(unittest.TestCase):
         self.addCleanup(folder.cleanup)
         self.folder = pathlib.Path(folder.name)
 
-    def call(self, *words):
+    def call(self, *words, **more):
         """The status of a call and what it tells."""
         it = subprocess.run([sys.executable, str(ROOT / "tools/page.py"), *words], cwd=self.folder, text=True,
-                            capture_output=True, check=False)
+                            capture_output=True, check=False, **more)
         return it.returncode, it.stdout + it.stderr
 
     def test_files(self):
@@ -224,6 +226,39 @@ class Called(unittest.TestCase):
         (self.folder / "one").write_bytes(b"\n// -----\n".join(example("fold")))
         self.assertEqual(self.call("one", "-o", "other.html"), (0, ""))
         self.assertTrue((self.folder / "other.html").exists())
+
+    def test_names_that_are_not_utf8(self):
+        """The names of the module and of the page may have any bytes; the page shows those of the module's name."""
+        names = [os.fsencode(self.folder) + it for it in (b"/bad\xff<.mlir", b"/out\xfe.html")]
+        with open(names[0], "wb") as file:
+            file.write(b"\n// -----\n".join(example("fold")))
+        self.assertEqual(self.call(names[0], "-o", names[1]), (0, ""))
+        with open(names[1], encoding="utf-8") as file:
+            found = Reader(file.read())
+        self.assertEqual(json.loads(found.data)["title"], "bad\\xff<.mlir")
+        self.assertTrue(found.title.startswith("bad\\xff<.mlir"), found.title)
+
+    def test_as_a_whole(self):
+        """Where the page can't be written whole the file is what it was, and no other is left beside it."""
+        page_there = self.folder / "replay.html"
+        page_there.write_text("kept\n")
+
+        def few():
+            resource.setrlimit(resource.RLIMIT_FSIZE, (4096, 4096))
+        status, told = self.call(str(ROOT / "examples/fold.mlir"), str(ROOT / "examples/fold.script"), preexec_fn=few)
+        self.assertEqual((status, [file.name for file in self.folder.iterdir()]), (4, ["replay.html"]), told)
+        self.assertEqual(page_there.read_text(), "kept\n")
+
+    def test_what_is_no_plain_file(self):
+        """A pipe is written to, and a link leads to the file that is written."""
+        it = subprocess.run([sys.executable, str(ROOT / "tools/page.py"), str(ROOT / "examples/fold.mlir"), "-o",
+                             "/dev/stdout"], capture_output=True, text=True, check=False)
+        self.assertEqual((it.returncode, it.stderr), (0, ""))
+        self.assertTrue(json.loads(Reader(it.stdout).data)["steps"])
+        (self.folder / "link.html").symlink_to("there.html")
+        self.assertEqual(self.call(str(ROOT / "examples/fold.mlir"), "-o", "link.html"), (0, ""))
+        self.assertTrue((self.folder / "link.html").is_symlink())
+        self.assertEqual((self.folder / "there.html").read_text(), it.stdout)
 
     @unittest.skipUnless(generic.tool(), "mlir-opt isn't installed")
     def test_pretty(self):

@@ -58,9 +58,9 @@ class Reduced(unittest.TestCase):
         self.assertTrue(reducer.go())
         return reducer, printed(reducer)
 
-    def check_script(self, reducer, left):
+    def check_script(self, reducer, left, module=MODULE):
         """Whether the script makes of the module what is left, and each line of it is accepted."""
-        status, lines = program.asked(MODULE, [*reducer.kept, "print"])
+        status, lines = program.asked(module, [*reducer.kept, "print"])
         self.assertEqual((status, lines[len(reducer.kept) + 1:]), (0, left.splitlines()))
 
     def test_a_row(self):
@@ -102,6 +102,20 @@ class Reduced(unittest.TestCase):
             self.assertEqual({it for op in those for it in op.results}, {
                 it for it in here.listing().values if it.startswith("%v")})
 
+    def test_keys(self):
+        """Each entry of an operation is tried by its key: also one that looks like a type or isn't bare; and nothing
+        inside an attribute or a type is taken for a key."""
+        text = ('"test.a"() <{i1 = 1 : i8}> {i32 = 5 : i8, index, "a b" = {i8 = 3 : i8}} : () -> ()\n'
+                '%0 = "test.b"() ({"test.c"() : () -> ()}, {}) {index = 4 : i8} : () -> i32\n')
+        reducer, left = self.reduced(reduce.Test('grep -q test.a && grep -q test.c "$1"'), text.encode())
+        self.check_script(reducer, left, text.encode())
+        self.assertEqual([line for line in reducer.kept if line.startswith("drop-attr #1")],
+                         [f"drop-attr #1 {key}" for key in ("i1", '"a b"', "i32", "index")])
+        self.assertNotIn("{i", left)
+        self.assertEqual(reduce.keys_of(' <{p = #d.a<q = 1, (a > b)>}> ({ }, {}) {r, s = {t = 1}} : (!d<u = 1>) -> i1'),
+                         ["p", "r", "s"])
+        self.assertEqual((reduce.keys_of(" : () -> ()"), reduce.keys_of(" ({ }) : () -> ()")), ([], []))
+
     def test_goals(self):
         for make, text in ((reduce.Row, "deaf #1"), (reduce.Row, "dead"), (reduce.Refusal, "erase #1"),
                            (reduce.Refusal, "= 51")):
@@ -133,6 +147,18 @@ class CommandLine(unittest.TestCase):
         self.assertEqual(files, {"out.mlir": module, "out.mlir.script": script})
         it, _ = self.ran(text, "--keep", "diagnostics #2 V1")
         self.assertEqual(it.stdout, "// m.mlir behind:\n//   erase #1\n//   drop-attr #2 k\n" + module)
+
+    def test_a_name_that_is_not_utf8(self):
+        """The name of the module may have any bytes: what is found is written all the same."""
+        with tempfile.TemporaryDirectory() as folder:
+            name = os.fsencode(folder) + b"/m\xff.mlir"
+            with open(name, "wb") as file:
+                file.write(b'"test.a"() : () -> ()\n')
+            more = {"MLIR_WORK": LIVE} if os.environ.get("MLIR_WORK") == "reference" else {}
+            words = [sys.executable, ROOT / "tools/mlir_work.py", "reduce", name, "--test", 'grep -q test.a "$1"']
+            it = subprocess.run(words, capture_output=True, check=False, env={**os.environ, **more})
+        self.assertEqual(it.returncode, 0, it.stderr)
+        self.assertTrue(it.stdout.startswith(b'// m\xff.mlir behind:\n"builtin.module"() ({\n  "test.a"()'), it.stdout)
 
     def test_wrong(self):
         it, _ = self.ran(b"", "--keep", "dead #9")

@@ -141,6 +141,9 @@ impl Spot {
     }
 }
 
+/// The refusal of a `commit` or `rollback` where no mark is open.
+const NO_MARK: u32 = 35;
+
 /// A call that opens a session.
 type Open = unsafe extern "C" fn(*mut sys::Handle, *const u8, usize, u64, u32, *mut sys::Answer);
 
@@ -148,6 +151,7 @@ type Open = unsafe extern "C" fn(*mut sys::Handle, *const u8, usize, u64, u32, *
 #[derive(Debug)]
 pub struct Session {
     held: sys::Handle,
+    marks: usize,
 }
 
 impl Session {
@@ -164,7 +168,7 @@ impl Session {
 
     fn open_by(call: Open, module: &[u8], limit: u32) -> Result<Session, Refused> {
         let key = RandomState::new().build_hasher().finish();
-        let mut session = Session { held: sys::CLOSED };
+        let mut session = Session { held: sys::CLOSED, marks: 0 };
         let mut answer = sys::Answer::default();
         // SAFETY: the handle is closed, and the pointer of a slice isn't null.
         unsafe {
@@ -194,12 +198,22 @@ impl Session {
         Ok(self.text(format!("report {kind}"))?.lines().map(str::to_owned).collect())
     }
 
-    /// Makes a mark, does what is asked, and keeps it where that went well; else goes back to the mark.
+    /// Makes a mark and calls `work`. If `work` returns an error or panics, the module is rolled back to the mark; else
+    /// the mark is committed. Marks that `work` made and left open are rolled back or committed with it.
+    ///
+    /// If `work` itself committed the mark or rolled it back, nothing is left to go back to: an error is returned as it
+    /// is, and a success becomes refusal 35 (no mark is open).
     pub fn marked<T, E: From<Refused>>(&mut self, work: impl FnOnce(&mut Session) -> Result<T, E>) -> Result<T, E> {
         self.command("begin")?;
-        let done = work(self);
-        self.command(if done.is_ok() { "commit" } else { "rollback" })?;
-        done
+        let mut mark = Mark { depth: self.marks, session: self };
+        let done = work(mark.session)?;
+        mark.commit()?;
+        Ok(done)
+    }
+
+    /// How many marks are open.
+    pub fn marks(&self) -> usize {
+        self.marks
     }
 
     /// Makes a value an operand of an operation, by its place.
@@ -297,7 +311,48 @@ impl Session {
         let mut answer = sys::Answer::default();
         // SAFETY: the handle was opened, and a slice's pointer isn't null.
         unsafe { sys::mlir_work_command(&mut self.held, line.as_ptr(), line.len(), &mut answer) };
-        outcome(&answer).map(|_| answer)
+        let told = outcome(&answer)?;
+        match command_word(line) {
+            b"begin" if told == Outcome::Done => self.marks += 1,
+            b"commit" | b"rollback" if told == Outcome::Done => self.marks -= 1,
+            _ => {}
+        }
+        Ok(answer)
+    }
+}
+
+/// The word of the command of a line that was accepted, which may follow `expect REFUSAL`.
+fn command_word(line: &[u8]) -> &[u8] {
+    let mut words = line.split(|byte| b" \t\r\n".contains(byte)).filter(|word| !word.is_empty());
+    match words.next() {
+        Some(b"expect") => words.nth(1).unwrap_or_default(),
+        word => word.unwrap_or_default(),
+    }
+}
+
+/// A mark that is rolled back when it is dropped, unless it was committed.
+struct Mark<'a> {
+    session: &'a mut Session,
+    /// How many marks were open once it was made.
+    depth: usize,
+}
+
+impl Mark<'_> {
+    /// Commits the mark, with those made within it; refused if it was dropped within.
+    fn commit(&mut self) -> Result<(), Refused> {
+        if self.session.marks < self.depth {
+            return Err(Refused { refusal: NO_MARK, operation: None, byte: None });
+        }
+        while self.session.marks >= self.depth {
+            self.session.command("commit")?;
+        }
+        Ok(())
+    }
+}
+
+impl Drop for Mark<'_> {
+    fn drop(&mut self) {
+        while self.session.marks >= self.depth && self.session.command("rollback").is_ok() {}
     }
 }
 
@@ -335,6 +390,104 @@ mod tests {
         let before = session.text("print").unwrap();
         let fault = session.marked(|it| it.erase(3).and_then(|_| it.erase(99))).unwrap_err();
         assert_eq!((fault.refusal, session.text("print").unwrap()), (20, before));
+    }
+
+    /// The marks that are open and the module, after a call of `marked` with 2 marks around it.
+    fn after_marked(work: impl FnOnce(&mut Session) -> Result<(), Refused>) -> (Option<u32>, usize, String) {
+        let mut session = Session::open(MODULE, 1000).unwrap();
+        session.command("begin").unwrap();
+        session.command("\t begin\r\n").unwrap();
+        let refusal = session.marked(work).err().map(|fault| fault.refusal);
+        let (marks, text) = (session.marks(), session.text("print").unwrap());
+        // (the count is that of the library: so many are rolled back, and no more)
+        for _ in 0..marks {
+            session.command("rollback").unwrap();
+        }
+        assert_eq!(session.command("rollback").unwrap_err().refusal, NO_MARK);
+        (refusal, marks, text)
+    }
+
+    fn unchanged() -> String {
+        Session::open(MODULE, 1000).unwrap().text("print").unwrap()
+    }
+
+    /// Marks that were made within a mark, and left open, are rolled back with it.
+    #[test]
+    fn marks_within_a_mark_that_fails() {
+        let found = after_marked(|it| {
+            it.erase(3)?;
+            it.command("begin")?;
+            it.command("expect 22  begin")?;
+            it.erase(2)?;
+            it.erase(99)
+        });
+        assert_eq!(found, (Some(20), 2, unchanged()));
+    }
+
+    /// Marks that were made within a mark, and left open, are committed with it.
+    #[test]
+    fn marks_within_a_mark_that_is_kept() {
+        let (refusal, marks, text) = after_marked(|it| {
+            it.command("begin")?;
+            it.erase(3)
+        });
+        assert_eq!((refusal, marks, text.contains("test.c")), (None, 2, false));
+    }
+
+    /// Marks within one another by `marked` each go back to their own mark.
+    #[test]
+    fn marks_within_one_another() {
+        let found = after_marked(|it| {
+            it.erase(3)?;
+            it.marked(|it| it.erase(2).and_then(|_| it.erase(98))).unwrap_err();
+            assert!(it.has(2) && !it.has(3));
+            it.marked(|it| it.erase(2))?;
+            it.erase(99)
+        });
+        assert_eq!(found, (Some(20), 2, unchanged()));
+    }
+
+    /// A mark that was rolled back within, and made again, is rolled back: no mark is left.
+    #[test]
+    fn a_mark_that_is_made_again_within() {
+        let found = after_marked(|it| {
+            it.command("rollback")?;
+            it.command("begin")?;
+            it.erase(3)?;
+            it.erase(99)
+        });
+        assert_eq!(found, (Some(20), 2, unchanged()));
+    }
+
+    /// If the mark was committed within, marks around it are neither committed nor rolled back.
+    #[test]
+    fn a_mark_that_is_dropped_within() {
+        let drop_two = |it: &mut Session| {
+            it.erase(3)?;
+            it.command("expect NoMark commit")?;
+            it.command(" commit").map(|_| ())
+        };
+        let (refusal, marks, text) = after_marked(drop_two);
+        assert_eq!((refusal, marks, text.contains("test.c")), (Some(NO_MARK), 1, false));
+        let (refusal, marks, text) = after_marked(|it| drop_two(it).and_then(|_| it.erase(99)));
+        assert_eq!((refusal, marks, text.contains("test.c")), (Some(20), 1, false));
+    }
+
+    /// A panic within a mark rolls it back, with those made within it, and goes on.
+    #[test]
+    fn a_panic_within_a_mark() {
+        let mut session = Session::open(MODULE, 1000).unwrap();
+        let panicked = std::panic::catch_unwind(std::panic::AssertUnwindSafe(|| {
+            session.marked(|it| -> Result<(), Refused> {
+                it.erase(3)?;
+                it.command("begin")?;
+                it.erase(2)?;
+                panic!("on purpose")
+            })
+        }));
+        assert_eq!(panicked.unwrap_err().downcast_ref::<&str>(), Some(&"on purpose"));
+        assert_eq!((session.marks(), session.text("print").unwrap()), (0, unchanged()));
+        assert_eq!(session.command("rollback").unwrap_err().refusal, NO_MARK);
     }
 
     #[test]
