@@ -39,6 +39,8 @@ class FormMaker:
         return self.chance.random() < share
 
     def number(self):
+        if self.letter == "1" and self.likely(0.5):
+            return self.likely(0.5)
         if self.likely(0.15):
             return self.chance.choice([1, 5, -8] if self.likely(0.9) else [300])
         return self.chance.choice([0, 1, -1, 2, 3, -2] if self.is_of_sums else [0, -1, -1])
