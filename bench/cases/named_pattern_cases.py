@@ -1,7 +1,7 @@
-"""Inputs about patterns of one's own that have a name and a sentence each: `true` and `false`, literals whose types follow
-from what is written elsewhere, the number that a check tells, and patterns that MLIR has and that are wrong. The answers
-are written by hand, and those of bench/reference are compared with them. mlir_work_cases.py makes golden files of them,
-in tests/patterns/named.cases, where a comment of the script has the sentence."""
+"""Inputs about patterns of one's own that have a name and a sentence each: `true` and `false`, literals whose types
+follow from what is written elsewhere, the number that a check tells, and patterns that MLIR has and that are wrong. The
+answers are written by hand, and those of bench/reference are compared with them. mlir_work_cases.py makes golden files
+of them, in tests/patterns/named.cases, where a comment of the script has the sentence."""
 from reference import script
 from compare import pattern_lines
 
@@ -88,9 +88,13 @@ CASES = {
          ("pattern q arith.muli(%a, c) => true(c)", "refused 3 UnknownValue at 23"),
          ("pattern q arith.muli(%a, true(c)) => %a", "refused 2 Unexpected at 21"),
          ("pattern q arith.muli(%a, -true) => %a", "refused 2 Unexpected at 18")]),
-    "truth-needs-a-name-beside-it": (
-        "A condition without a named number is refused, also where `true` says its type.", "",
-        [("pattern p arith.addi(%a, c) => %a where eq(true, 1)", "refused 5 TypeMismatch at 32")]),
+    "truth-says-the-type-of-a-condition": (
+        "A condition without a name is refused, as its type isn't known; with `true` or `false` it is i1.", "",
+        [("pattern p arith.addi(%a, 0) => %a where eq(0, 0)", "refused 5 TypeMismatch at 32"),
+         ("pattern p arith.addi(%a, 0) => %a where eq(false, 0)", "ok"), ("check p", "holds 8"),
+         ("pattern q arith.addi(%a, 0) => %a where ult(1, true), power_of_two(true)", "ok"), ("check q", "empty 8"),
+         ("pattern r arith.addi(%a, 0) => %a where eq(true, 2)", "refused 7 BadValue at 41"),
+         ("pattern s arith.addi(%a : i4, 0) => %a where power_of_two(true)", "ok"), ("check s", "holds 4")]),
     "literal-of-a-type-beside-it": (
         "A literal that isn't one of its type is refused, also where the type is written at another operand.", "",
         [("pattern p arith.addi(%a, 300 : i8) => %a", "refused 7 BadValue at 17"),
@@ -115,14 +119,15 @@ CASES = {
          ("pattern p arith.addi(%a : i8, c) => arith.subi(%a, neg(c)) where ult(c, 255)", "ok"),
          ("check p", "holds 8")]),
     "literal-behind-unknown-types": (
-        "A type that isn't known is refused before a literal that isn't one of its type, and a cast of index behind it.",
+        "A type that isn't known is refused before a literal that isn't one of its type, and a cast of index later.",
         "",
         [("pattern p arith.addi(%a : i8, 300) => arith.trunci(arith.extsi(%a) : T)", "refused 5 TypeMismatch at 43"),
          ("pattern p arith.index_cast(arith.addi(%a : i8, 300)) : i16 => 0", "refused 7 BadValue at 39")]),
     "number-of-one-type": (
         "A check of a pattern without type variables tells the width of its widest type, whatever width is asked.", "",
         [("pattern s arith.select(%c, %a : i1, false) => arith.ori(%c, %a)", "ok"),
-         *[(f"check s{width}", "fails 1|%c false|%a true|old false|new true") for width in ("", " width 3", " width 8")],
+         *[(f"check s{width}", "fails 1|%c false|%a true|old false|new true")
+           for width in ("", " width 3", " width 64")],
          ("patterns", "ok|s arith.select(%c, %a : i1, false) => arith.ori(%c, %a) // fails 1"),
          ("pattern t arith.select(%c, %a, true : i1) => arith.ori(arith.xori(%c, 1), %a)", "ok"),
          ("check t width 3", "holds 1"), ("check t width 128 sampled", "unrefuted 1"), ("check s width 9 sampled",
@@ -151,7 +156,8 @@ CASES = {
     "index-cast-back-of-the-book": (
         "The patterns of the book that cast to index and back apply at types of at most 64 bits.",
         THERE_AND_BACK.replace("iN", "i128"),
-        [(f"pattern {BACK}", "ok"), ("rewrite index_cast_back trace", "converged 0"), ("check index_cast_back", "holds 8"),
+        [(f"pattern {BACK}", "ok"), ("rewrite index_cast_back trace", "converged 0"),
+         ("check index_cast_back", "holds 8"),
          ("check index_cast_back width 128 sampled", "unrefuted 128"), (f"pattern {BACK_UNSIGNED}", "ok"),
          ("check index_castui_back width 128 sampled", "unrefuted 128"),
          ("check index_castui_back width 65 sampled", "unrefuted 65")]),

@@ -11,7 +11,8 @@ from reference.operations import BINARY
 
 TOKEN = re.compile(r"%?[A-Za-z0-9_.$]+|=>|[^\sA-Za-z0-9_]")
 # Words that are put in the place of others.
-WORDS = """%a %b %v1.0 c d 0 1 -1 255 300 i8 i32 index i0 i129 T ( ) < > : , - => = where width log2 add(c, 1) eq none true false
+WORDS = """%a %b %v1.0 c d 0 1 -1 255 300 i8 i32 index i0 i129 T ( ) < > : , - => = where width log2 add(c, 1) eq none
+true false
 arith.addi arith.constant arith.cmpi arith.select memref.load test.a $ "a" // # ^ ?
 340282366920938463463374607431768211456""".split()
 PREDICATES, FUNCTIONS = patterns.PREDICATES, [word for word, count in patterns.FUNCTIONS.items() if count == 2]

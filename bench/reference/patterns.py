@@ -81,6 +81,10 @@ class Number:
         """How many numbers are computed for it: for two functions also the constant that they take."""
         return 0 if self.is_name() else 2 if self.parts is not None and self.word in ("neg", "not") else 1
 
+    def says_type(self):
+        """Whether it has a name, or `true` or `false`, so that its type is known."""
+        return any(it.is_name() or isinstance(it.word, Truth) for it in self.walk())
+
     def names(self):
         """The names in it, each a number, in their order."""
         return [self] if self.is_name() else [name for part in self.parts or () for name in part.names()]
@@ -418,8 +422,7 @@ class Pattern:
         for part in condition.parts:
             self.tell_number(part, found)
         refuse(5, condition.at, len(condition.parts) != (1 if condition.word == "power_of_two" else 2))
-        # (numbers without a name are of no type that is known)
-        refuse(5, condition.at, not any(part.names() for part in condition.parts))
+        refuse(5, condition.at, not any(part.says_type() for part in condition.parts))
 
 
 def variable(term):

@@ -420,7 +420,7 @@ module _ (b : Places) where
   a_power (i ∷ []) at f = Ok (and_number (number.Log i) f).1
   a_power _ at f = refused TypeMismatch at
 
-  -- something is asked of numbers, of which one has a name at least
+  -- something is asked of numbers, of which one has a name at least, or is `true` or `false`, so that their type is known
   abbrev pub met_by : List ℕ → List ℕ → ℕ → Forming → Outcome Forming
   met_by w places at f = if is_power w then a_power places at f else comparing (predicate_named w) places at f
 
