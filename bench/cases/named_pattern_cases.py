@@ -182,6 +182,23 @@ CASES = {
         [*((f"pattern {line}", "ok") for name, line in BOOK.items() if name.startswith("select_")),
          (f"rewrite {','.join(name for name in BOOK if name.startswith('select_'))} trace", "converged 0"),
          ("rewrite select_and", "refused 26 NoSuchKey"), ("rewrite select_or_not", "refused 26 NoSuchKey")]),
+    "values-alone": (
+        "A check tries values alone, so a pattern may hold that is wrong by a poison input, as the page says.", "",
+        [("pattern p1 arith.select(%c, %a : i1, 0) => arith.andi(%c, %a)", "ok"), ("check p1", "holds 1"),
+         ("pattern p2 arith.minui(%b, 1) => arith.divui(%b, arith.maxui(%b, 1))", "ok"), ("check p2", "holds 8"),
+         ("pattern p5 arith.select(%c, %a, %b) => arith.select(arith.xori(%c,1), %b, %a)", "ok"),
+         ("check p5", "holds 7")]),
+    "narrow-types-alone": (
+        "What is wrong at wider types alone holds up to 8 bits, and fails at the first width at which a value tells.",
+        "",
+        [("pattern n2 arith.addi(%a, -128) => arith.subi(%a, 128)", "ok"), ("check n2", "holds"),
+         ("pattern n3 arith.muli(arith.muli(%a, 16), 16) => 0", "ok"), ("check n3", "holds 8"),
+         ("check n3 width 9", "fails 9|%a 1 : i9|old -256 : i9|new 0 : i9"),
+         ("pattern n4 arith.shrui(%a, 8) => 0", "ok"), ("check n4", "holds 8"),
+         ("check n4 width 9", "fails 9|%a -256 : i9|old 1 : i9|new 0 : i9"),
+         ("pattern n5 arith.shrsi(%a, 8) => arith.remui(%a, 0)", "ok"),
+         ("check n5", "fails 4|%a 0 : i4|old poison|new undefined"),
+         ("pattern n6 arith.divui(%a, 0) => 7", "ok"), ("check n6", "empty 8")]),
     "literals-that-few-types-have": (
         "What is right at 8 bits alone holds up to 8, and fails with the first width behind it.", PRODUCT,
         [("pattern n1 arith.muli(%a, 255) => arith.subi(0, %a)", "ok"), ("check n1", "holds 8"),
