@@ -635,8 +635,7 @@ fn old_constant<'a, 'p>(
     }
 }
 
-/// A constant on the right, with which the parts begin: any number. The name of one is the old value, but for `true` and
-/// `false`, which are literals.
+/// A constant on the right, with which the parts begin: any number. The name of one is the old value.
 #[tactic(auto, unfolding(crate::specs::Forming::new_constant))]
 fn new_constant<'a, 'p>(
     alloc: Global,
@@ -762,8 +761,7 @@ fn typed_operation<'a, 'p>(
 /// A term of at most that depth, on that side.
 ///
 /// Refusals: `TypeMismatch` at an operation with another number of operands, at an operand or an operation whose types
-/// can't be one, or at a term behind which another type is written; `BadValue` at a literal that isn't one of the type that
-/// is written behind it.
+/// can't be one, or at a term behind which another type is written; `BadValue` at a literal that isn't one of its type.
 #[cycle(term)]
 #[tactic(auto, unfolding(crate::specs::Forming::term_at))]
 pub(crate) fn term<'a, 'p>(
