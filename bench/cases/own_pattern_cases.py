@@ -395,8 +395,10 @@ def listed(whole):
         whole(asked(*(f"pattern {line}" for line in lines), "patterns"))
         # (with two variables there are many values for the rules in Python)
         alone = [it for it in map(patterns.read, map(str.encode, part)) if len(it.variables) < 2]
-        whole(asked(*(f"pattern {line}" for line in part), *(f"check {it.name}" for it in alone), "patterns",
-                    *(f"check {line.split()[0]} width 128 sampled" for line in part), "patterns"))
+        text = asked(*(f"pattern {line}" for line in part), *(f"check {it.name}" for it in alone), "patterns",
+                     *(f"check {line.split()[0]} width 128 sampled" for line in part), "patterns")
+        assert b" fails " not in script.run(text)[1], text
+        whole(text)
 
 
 def applied(whole):
