@@ -21,6 +21,7 @@ import conversion_cases  # noqa: E402
 import convert_trace_cases  # noqa: E402
 import explained_cases  # noqa: E402
 import heard_cases  # noqa: E402
+import named_pattern_cases  # noqa: E402
 import own_pattern_cases  # noqa: E402
 import rule_cases  # noqa: E402
 import trace_cases  # noqa: E402
@@ -1301,6 +1302,8 @@ def main():
     about_cases.all_cases(analyses, GOLDEN.begin)
     conversion_cases.all_cases(analyses, GOLDEN.begin)
     own_pattern_cases.all_cases(whole, GOLDEN.begin)
+    GOLDEN.begin("patterns/named")
+    named_pattern_cases.all_cases(GOLDEN.case)
     trace_cases.all_cases(GOLDEN.case, GOLDEN.begin)
     convert_trace_cases.all_cases(GOLDEN.case, GOLDEN.begin)
     why_cases.all_cases(GOLDEN.case, GOLDEN.begin)

@@ -110,7 +110,7 @@ TEXTS = {
     "p arith.addi(%a : i128, 0) => %a": "ok", "p arith.addi(%a : i01, 0) => %a": "6 BadWidth at 18",
     "p arith.addi(%a, 300 : i8) => %a": "7 BadValue at 17", "p arith.addi(%a, 255 : i8) => %a": "ok",
     "p arith.addi(%a, -128 : i8) => %a": "ok", "p arith.addi(%a, -129 : i8) => %a": "7 BadValue at 17",
-    "p arith.addi(%a, 300) => %a : i8": "ok",
+    "p arith.addi(%a, 300) => %a : i8": "7 BadValue at 17",
     f"p arith.addi(%a, {2 ** 128 - 1}) => %a": "ok", f"p arith.addi(%a, {2 ** 128}) => %a": "7 BadValue at 17",
     # Depths, numbers of things, and what folds.
     f"p {nested(3)} => %a": "ok", f"p {nested(3, 'c')} => c": "10 TooDeep at 35", f"p {nested(4)} => %a":
@@ -148,7 +148,7 @@ CHECKED = {
     "arith.addi(%a, 300) => %a": {"": "empty 8", " width 9": "fails 9|%a 0 : i9|old -212 : i9|new 0 : i9"},
     "arith.addi(1, 2) => 3": {"": "holds", " width 1": "empty 1", " width 64": "holds 64",
                               " width 65": "refused 50 BadLimit"},
-    "arith.addi(%a : i8, 0) => %a": {"": "holds 8", " width 1": "holds 1", " width 24": "holds 24"},
+    "arith.addi(%a : i8, 0) => %a": {"": "holds 8", " width 1": "holds 8", " width 24": "holds 8"},
     "arith.addi(%a : i32, 0) => %a": {"": "refused 50 BadLimit", " width 1": "refused 50 BadLimit"},
     "arith.addi(%a : index, 0) => %a": {"": "refused 50 BadLimit"},
     "arith.addi(arith.addi(%a, %b), %c) => arith.addi(%a, arith.addi(%b, %c))": {" width 2": "holds 2"},
@@ -207,8 +207,8 @@ EVERYWHERE = {
     f"arith.muli(%a, {2 ** 128 - 1}) => arith.subi(0, %a)": {"": "empty 8", " width 128 sampled": "unrefuted 128"},
     # Types that are written, or several.
     "arith.addi(%a : i8, %a) => arith.muli(%a, 2)": {"": "holds 8"},
-    "arith.addi(%a : i1, 1) => arith.subi(%a, 1)": {"": "holds 8"},
-    "arith.xori(%a : i4, -1) => arith.xori(-1, %a)": {"": "holds 8"},
+    "arith.addi(%a : i1, 1) => arith.subi(%a, 1)": {"": "holds 1"},
+    "arith.xori(%a : i4, -1) => arith.xori(-1, %a)": {"": "holds 4"},
     THRICE: {"": "holds 8", " width 1": "empty 1"},
     # Up to 256 terms, and 64 factors of each.
     f"arith.muli(%a, 0) => arith.muli({powers(2, 2, 2, 2, 2, 2, 2, 2)}, 0)": {"": "holds"},
@@ -278,7 +278,7 @@ SAMPLED = {
     "arith.cmpi<eq>(arith.shrui(%a, 118), 77) => 0": {
         " width 128 sampled": "fails 128|%a 25773214517640991488335787945246619071 : i128|old true|new false"},
     "arith.cmpi<eq>(arith.shrui(%a : index, 54), 77) => 0": {
-        " width 1 sampled": "fails 1|%a 1397168758598065260 : index|old true|new false"},
+        " width 1 sampled": "fails 64|%a 1397168758598065260 : index|old true|new false"},
     "arith.cmpi<eq>(arith.shrui(arith.muli(%a, %b), 54), 77) => 0": {
         " width 64 sampled": "fails 64|%a 983282694769523300 : i64|%b -7726506916221094532 : i64|old true|new false"},
     "arith.cmpi<eq>(arith.shrui(arith.xori(%a, %b), 22), 777) => 0": {
@@ -295,16 +295,16 @@ SAMPLED = {
         " width 8 sampled": "refused 50 BadLimit", " width 1 sampled": "refused 50 BadLimit"},
     # No type variable, or no variable at all.
     "arith.addi(%a : i8, 1) => %a": {
-        " width 1 sampled": "fails 1|%a 0 : i8|old 1 : i8|new 0 : i8",
-        " width 128 sampled": "fails 128|%a 0 : i8|old 1 : i8|new 0 : i8"},
+        " width 1 sampled": "fails 8|%a 0 : i8|old 1 : i8|new 0 : i8",
+        " width 128 sampled": "fails 8|%a 0 : i8|old 1 : i8|new 0 : i8"},
     "arith.addi(%a : i32, 0) => %a": {"": "refused 50 BadLimit", " width 32 sampled": "unrefuted 32"},
     "arith.addi(1, 2) => 4": {
         " width 1 sampled": "unrefuted 1", " width 2 sampled": "unrefuted 2",
         " width 5 sampled": "fails 5|old 3 : i5|new 4 : i5", " width 8": "fails 3|old 3 : i3|new -4 : i3"},
     # Index has 64 bits.
-    "arith.addi(%a : index, 0) => %a": {"": "refused 50 BadLimit", " width 7 sampled": "unrefuted 7"},
+    "arith.addi(%a : index, 0) => %a": {"": "refused 50 BadLimit", " width 7 sampled": "unrefuted 64"},
     "arith.addi(%a : index, 1) => %a": {
-        " width 3 sampled": "fails 3|%a 0 : index|old 1 : index|new 0 : index"},
+        " width 3 sampled": "fails 64|%a 0 : index|old 1 : index|new 0 : index"},
     "arith.index_cast(arith.index_cast(%a : T) : index) : T => %a": {
         " width 64 sampled": "unrefuted 64",
         " width 65 sampled": f"fails 65|%a {-2 ** 64} : i65|old 0 : i65|new {-2 ** 64} : i65"},
@@ -395,8 +395,10 @@ def listed(whole):
         whole(asked(*(f"pattern {line}" for line in lines), "patterns"))
         # (with two variables there are many values for the rules in Python)
         alone = [it for it in map(patterns.read, map(str.encode, part)) if len(it.variables) < 2]
-        whole(asked(*(f"pattern {line}" for line in part), *(f"check {it.name}" for it in alone), "patterns",
-                    *(f"check {line.split()[0]} width 64 sampled" for line in part), "patterns"))
+        text = asked(*(f"pattern {line}" for line in part), *(f"check {it.name}" for it in alone), "patterns",
+                     *(f"check {line.split()[0]} width 128 sampled" for line in part), "patterns")
+        assert b" fails " not in script.run(text)[1], text
+        whole(text)
 
 
 def applied(whole):

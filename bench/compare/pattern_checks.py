@@ -5,7 +5,8 @@ nothing with it: a pattern is made as a tree of tuples, from which its text is p
     bench/compare/pattern_checks.py COUNT SEED
 
 Half of them are of the forms that hold at every width, by pattern_forms.py. Those of which that is said are run at
-widths up to 128, for values by chance; and some are sampled. Poison is None, and what is undefined raises.
+widths up to 128, for values by chance; and some are sampled. Poison is None, and what is undefined raises. A pattern
+with a literal that isn't one of a type that is written must be refused by 7, and no other may be.
 The last line says how many patterns there were and how many differ."""
 import argparse
 import collections
@@ -40,7 +41,8 @@ class NoNumber(Exception):
 
 
 # A term is ("%", name, width), ("c", name, width), ("n", number, width) or (word, predicate, terms, width); a width is
-# a letter, or its digits where the type is written. A number is an int, a name or (function, numbers).
+# a letter, or its digits where the type is written. A number is an int, a bool (a literal of i1), a name or (function,
+# numbers).
 
 class Maker:
     """Makes a pattern."""
@@ -57,26 +59,28 @@ class Maker:
                 it = ("n", self.number(constants, 2)) if pick < 0.25 else ("c", self.chance.choice(constants))
                 return *it, width
             is_known = known and pick < 0.85
-            return ("%", self.chance.choice(known), width) if is_known else ("n", self.literal(), width)
+            return ("%", self.chance.choice(known), width) if is_known else ("n", self.literal(width), width)
         if pick < 0.15:
-            return ("n", self.literal(), width)
+            return ("n", self.literal(width), width)
         table, mark = (self.constants, "c") if pick < 0.4 else (self.values, "%")
         same = [name for name, w in table.items() if w == width]
         if same and self.chance.random() < 0.3:
             return (mark, self.chance.choice(same), width)
         if len(self.values) + len(self.constants) > 2:
-            return ("n", self.literal(), width)
+            return ("n", self.literal(width), width)
         name = "xyzuv"[len(table)] if mark == "%" else "cdefg"[len(table)]
         table[name] = width
         return (mark, name, width)
 
-    def literal(self):
+    def literal(self, width):
+        if width == "1" and self.chance.random() < 0.7:
+            return self.chance.choice([False, True])
         return self.chance.choice([0, 0, 1, 1, -1, -1, 2, 3, -2, 7, 8, -8, 300])
 
     def number(self, names, depth):
         pick = self.chance.random()
         if depth == 0 or pick < 0.2:
-            return self.chance.choice(names) if pick < 0.15 else self.literal()
+            return self.chance.choice(names) if pick < 0.15 else self.literal(self.constants[names[0]])
         one = lambda: self.number(names, depth - 1)
         word = self.chance.choice(["add", "sub", "mul", "and", "or", "xor", "neg", "not", "log2", "width"])
         return word, [one()] if word in ("neg", "not", "log2", "width") else [one(), one()]
@@ -112,13 +116,17 @@ class Maker:
 
 
 def number_text(number):
+    if isinstance(number, bool):
+        return "true" if number else "false"
     return str(number) if not isinstance(number, tuple) else f"{number[0]}({', '.join(map(number_text, number[1]))})"
 
 
 def term_text(term):
     width = f"i{term[-1]}" if term[-1].isdigit() else term[-1]
     if len(term) == 3:
-        return f"%{term[1]} : {width}" if term[0] == "%" else f"{number_text(term[1])} : {width}"
+        text = f"%{term[1]}" if term[0] == "%" else number_text(term[1])
+        # (a truth says its type by itself)
+        return text if isinstance(term[1], bool) else f"{text} : {width}"
     asks = f"<{term[1]}>" if term[1] else ""
     return f"arith.{term[0]}{asks}({', '.join(map(term_text, term[2]))}) : {width}"
 
@@ -130,10 +138,21 @@ def text_of(old, new, conditions):
 
 # ---- run on numbers
 
+def is_literal(number, width):
+    return -(1 << (width - 1)) <= number < 1 << width
+
+
 def literal(number, width):
-    if not -(1 << (width - 1)) <= number < 1 << width:
+    if not is_literal(number, width):
         raise NoNumber
     return number % (1 << width)
+
+
+def literals_in(number):
+    """The literals in a number."""
+    if isinstance(number, tuple):
+        return [it for part in number[1] for it in literals_in(part)]
+    return [number] if isinstance(number, int) else []
 
 
 def number_of(number, width, names):
@@ -266,6 +285,14 @@ def is_wrong(before, after):
     return after == "undefined" or before is not None and after != before
 
 
+def has_wrong_literal(old, new, conditions):
+    """Whether there is a literal that isn't one of a type that is written."""
+    numbers = [(part[1], part[2]) for side in (old, new) for part in leaves(side) if part[0] == "n"]
+    numbers += [(part, letter) for _, letter, parts in conditions for part in parts]
+    return any(letter.isdigit() and not is_literal(it, int(letter))
+               for number, letter in numbers for it in literals_in(number))
+
+
 def letters_of(old):
     """The type variables, in the order of the text."""
     return list(dict.fromkeys(part[-1] for part in parts_of(old) if not part[-1].isdigit()))
@@ -284,6 +311,8 @@ class Tried:
         parts = [part for side in (old, new) for part in parts_of(side)]
         self.casts = [part for part in parts if part[0] in CASTS]
         self.sides = old, new, conditions, [part for part in parts if part[0] == "n"]
+        # What is told where no type is variable: how wide the widest is.
+        self.widest = 0 if self.letters else max(int(part[-1]) for part in parts)
         self.is_heard, self.rows = False, None
 
     def at(self, widths):
@@ -313,8 +342,8 @@ class Tried:
             case, wide = self.at(widths)
             for numbers in itertools.product(*[range(1 << w) for w in wide]) if case else ():
                 if self.tells_against(case, numbers):
-                    return f"fails {max(widths, default=most)}", self.rows
-        return f"{'holds' if self.is_heard else 'empty'} {most}", []
+                    return f"fails {max(widths, default=self.widest)}", self.rows
+        return f"{'holds' if self.is_heard else 'empty'} {self.widest or most}", []
 
     def sampled(self, most):
         """What a check says of 4,096 lists of values at a width, its half and its quarter, with its rows."""
@@ -326,8 +355,8 @@ class Tried:
                 if self.tells_against(case, [
                         edges(w)[int(digits[j % 3])] if number < 1000 else by_number(w, number * 16 + j)
                         for j, w in enumerate(wide)]):
-                    return f"fails {max(widths, default=most)}", self.rows
-        return f"unrefuted {most}", []
+                    return f"fails {max(widths, default=self.widest)}", self.rows
+        return f"unrefuted {self.widest or most}", []
 
     def by_chance(self, chance):
         """Whether no values by chance tell against it, at widths by chance."""
@@ -361,7 +390,21 @@ class Found:
 
     def __init__(self, text, sides, chance):
         self.text, self.sides, self.chance, self.words, self.wrong = text, sides, chance, [], []
-        self.pattern = patterns.read(text.encode())
+        self.pattern = self.read()
+
+    def read(self):
+        """The pattern of the text, or none where it is refused for a literal, as it has to be."""
+        is_due = has_wrong_literal(*self.sides)
+        try:
+            pattern = patterns.read(self.text.encode())
+        except rules.Refused as fault:
+            if fault.number != 7:
+                raise
+            pattern = None
+        if is_due != (pattern is None):
+            self.wrong.append(f"  reference: refused {pattern is None}\n  evaluator: refused {is_due}")
+        self.words += ["refused"] * (pattern is None)
+        return pattern
 
     def same(self, said, told):
         """Notes what is said and what is due."""
@@ -397,12 +440,14 @@ class Found:
 
 
 def compare(number, seed):
-    """What both say of a pattern, or none where it isn't read or has too many values."""
+    """What both say of a pattern, or none where it isn't read, but for its literals, or has too many values."""
     chance = random.Random(f"{seed} {number}")
     maker = Maker(chance) if chance.random() < 0.5 else pattern_forms.FormMaker(chance, chance.random() < 0.5)
     sides = maker.pattern()
     try:
         found = Found(text_of(*sides), sides, chance)
+        if found.pattern is None or found.wrong:
+            return found
         found.everywhere(found.check())
         if chance.random() < (0.4 if len(letters_of(sides[0])) > 1 else 0.1):
             found.sample()

@@ -39,6 +39,8 @@ class FormMaker:
         return self.chance.random() < share
 
     def number(self):
+        if self.letter == "1" and self.likely(0.5):
+            return self.likely(0.5)
         if self.likely(0.15):
             return self.chance.choice([1, 5, -8] if self.likely(0.9) else [300])
         return self.chance.choice([0, 1, -1, 2, 3, -2] if self.is_of_sums else [0, -1, -1])
@@ -116,9 +118,12 @@ class FormMaker:
         return old, new, self.conditions(sorted(name for mark, name in names if mark == "c"))
 
     def conditions(self, names):
+        word = self.chance.choice(["eq", "ne", "ult", "sge", "uge"])
+        if self.likely(0.05):
+            # (of i1, which is one type more)
+            return [(word, "1", [self.likely(0.5), self.chance.choice([0, 1, -1, True])])]
         if not names or self.likely(0.8):
             return []
-        word = self.chance.choice(["eq", "ne", "ult", "sge", "uge"])
         return [(word, self.letter, [self.chance.choice(names), self.number()])]
 
 
@@ -247,6 +252,7 @@ def has_bits_alone(number):
 def is_everywhere(old, new, conditions, chance):
     """Whether a pattern has such a form. Polynomials are one where they are at all of some points, by chance."""
     letters, words = letters_of(old) | letters_of(new), {*words_of(old), *words_of(new)}
+    letters = letters | {letter for _, letter, _ in conditions}
     if len(letters) != 1 or letters.pop().isdigit():
         return False
     if words <= set(BITS):

@@ -12,6 +12,7 @@ from reference.operations import BINARY
 TOKEN = re.compile(r"%?[A-Za-z0-9_.$]+|=>|[^\sA-Za-z0-9_]")
 # Words that are put in the place of others.
 WORDS = """%a %b %v1.0 c d 0 1 -1 255 300 i8 i32 index i0 i129 T ( ) < > : , - => = where width log2 add(c, 1) eq none
+true false
 arith.addi arith.constant arith.cmpi arith.select memref.load test.a $ "a" // # ^ ?
 340282366920938463463374607431768211456""".split()
 PREDICATES, FUNCTIONS = patterns.PREDICATES, [word for word, count in patterns.FUNCTIONS.items() if count == 2]
@@ -89,6 +90,8 @@ class Fitting:
 
     def number(self, number, ty):
         if self.likely(0.4):
+            if ty == I1 and self.likely(0.5):
+                return self.maker.choice(["true", "false"]) + self.written(ty, 0.1)
             return str(self.maker.choice([number, number, number + 1, 0])) + self.written(ty, 0.1)
         name = self.maker.choice([it for it, of in self.numbers.items() if of == ty] * self.likely(0.2)
                                  or ["cdefgh"[len(self.numbers) % 6] + str(len(self.numbers) // 6 or "")])
@@ -107,7 +110,7 @@ class Fitting:
         if numbers and pick < 0.75:
             return self.computed(numbers, 2)
         if depth > 2 or pick < 0.5:
-            return self.maker.choice(["0", "1", "-1", "2", "300"])
+            return self.maker.choice(["0", "1", "-1", "2", "300"] if ty != I1 else ["0", "1", "-1", "true", "false"])
         if pick < 0.85 and self.root.name in BINARY and ty == self.root.results[0]:
             return f"{self.root.name.decode()}({self.new(ty, depth + 1)}, {self.new(ty, depth + 1)})"
         bits = [name for name, (of, _) in self.values.items() if of == I1]

@@ -86,6 +86,7 @@ def of_term(term):
 def has_one_type(pattern):
     """Whether all that a pattern speaks of has one type, which is a type variable."""
     types = {pattern.typed(term) for side in (pattern.old, pattern.new) for term in walk(side)}
+    types |= {pattern.typed(it) for it in pattern.conditions if it.word != "narrower"}
     return len(types) == 1 and types <= set(pattern.types.stands)
 
 

@@ -86,6 +86,19 @@ def type_variables(pattern):
     return pattern.all_types()
 
 
+def widest_type(pattern):
+    """The width of the widest type of a pattern without type variables."""
+    types = [pattern.typed(term) for side in (pattern.old, pattern.new) for term in walk(side)]
+    types += [pattern.typed(it) for it in pattern.conditions if it.word != "narrower"]
+    return max(map(width, types + [pattern.types.found(ty) for _, ty in pattern.asked]))
+
+
+def told_width(pattern, most):
+    """The number of a check: the width up to which type variables were tried, or that of the widest type where there is
+    no type variable."""
+    return most if type_variables(pattern) else widest_type(pattern)
+
+
 def bits_of(pattern, types):
     """How many bits the variables have together."""
     instance = Instance(pattern, types)
@@ -128,5 +141,5 @@ def check(pattern, most):
             both = Case(instance, values).both()
             is_heard |= both is not None
             if both is not None and not is_kept(*both):
-                return f"fails {max(widths, default=most)}", rows_of(instance, values, *both)
-    return f"{'holds' if is_heard else 'empty'} {most}", []
+                return f"fails {max(widths) if widths else widest_type(pattern)}", rows_of(instance, values, *both)
+    return f"{'holds' if is_heard else 'empty'} {told_width(pattern, most)}", []

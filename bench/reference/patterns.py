@@ -49,6 +49,16 @@ class MinusZero(int):
         return "-0"
 
 
+class Truth(int):
+    """The literal `true` or `false`, which is 1 or 0 of type i1, and is printed as it is written."""
+
+    def __str__(self):
+        return "true" if self else "false"
+
+
+TRUTHS = {"true": Truth(1), "false": Truth(0)}
+
+
 class Number:
     """A literal (`word` is a whole number), a name (without parts), or a function of numbers."""
 
@@ -70,6 +80,10 @@ class Number:
     def weight(self):
         """How many numbers are computed for it: for two functions also the constant that they take."""
         return 0 if self.is_name() else 2 if self.parts is not None and self.word in ("neg", "not") else 1
+
+    def says_type(self):
+        """Whether it has a name, or `true` or `false`, so that its type is known."""
+        return any(it.is_name() or isinstance(it.word, Truth) for it in self.walk())
 
     def names(self):
         """The names in it, each a number, in their order."""
@@ -184,7 +198,7 @@ class Reader(rules.Reader):
             return Number(self.look(at).start, found[0]), found[1]
         start = self.look(at).start
         word, end = self.word(at)
-        return Number(start, word), end
+        return Number(start, TRUTHS.get(word, word)), end
 
     def number(self, at, depth):
         it = self.look(at)
@@ -197,7 +211,7 @@ class Reader(rules.Reader):
         word, end = self.word(at)
         opened = self.see(end, b"(")
         if opened is None:
-            return Number(start, word), end
+            return Number(start, TRUTHS.get(word, word)), end
         parts, end = self.some(opened, b")", lambda at: self.number(at, depth + 1))
         return Number(start, word, parts), end
 
@@ -332,8 +346,19 @@ class Pattern:
             refuse(5, term.at, self.typed(term) in self.types.stands and self.typed(term) not in told)
         for at, it in self.asked:
             refuse(5, at, self.types.found(it) in self.types.stands and self.types.found(it) not in told)
+        self.check_literals()
         for term in self.index_casts:
             self.is_index_cast(term)
+
+    def check_literals(self):
+        """Each literal is one of its type, unless that is a variable."""
+        numbers = [(term, term.number) for side in (self.old, self.new) for term in walk(side)
+                   if isinstance(term, Constant)]
+        numbers += [(condition, part) for condition in self.conditions for part in condition.numbers()]
+        for owner, number in numbers:
+            for it in number.walk():
+                if it.is_literal() and self.typed(owner) not in self.types.stands:
+                    rules.value_of(self.typed(owner), it.word, it.at)
 
     def tell(self, term):
         """Tells the type of a term."""
@@ -355,6 +380,8 @@ class Pattern:
     def tell_number(self, number, found):
         if number.is_name():
             self.types.one(self.variables[number.word], found, number.at)
+        if isinstance(number.word, Truth):
+            self.types.one(found, I1, number.at)
         for part in number.parts or ():
             self.tell_number(part, found)
         refuse(5, number.at, number.parts is not None and len(number.parts) != FUNCTIONS[number.word])
@@ -395,8 +422,7 @@ class Pattern:
         for part in condition.parts:
             self.tell_number(part, found)
         refuse(5, condition.at, len(condition.parts) != (1 if condition.word == "power_of_two" else 2))
-        # (numbers without a name are of no type that is known)
-        refuse(5, condition.at, not any(part.names() for part in condition.parts))
+        refuse(5, condition.at, not any(part.says_type() for part in condition.parts))
 
 
 def variable(term):

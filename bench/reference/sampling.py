@@ -5,7 +5,7 @@ import itertools
 
 from . import edits
 from .folds import width
-from .pattern_checks import Case, is_kept, rows_of, type_variables
+from .pattern_checks import Case, is_kept, rows_of, told_width, type_variables, widest_type
 from .pattern_uses import Instance
 
 MOST_WIDTH, MOST_TYPES, LEVELS, CASES, EDGES = 128, 4, 3, 4096, 1000
@@ -65,5 +65,5 @@ def sample(pattern, most):
         instance = Instance(pattern, {ty: ("i", w) for ty, w in zip(types, widths)})
         found = counterexample(instance) if instance.is_possible else None
         if found:
-            return f"fails {max(widths, default=most)}", rows_of(instance, found[0], *found[1])
-    return f"unrefuted {most}", []
+            return f"fails {max(widths) if widths else widest_type(pattern)}", rows_of(instance, found[0], *found[1])
+    return f"unrefuted {told_width(pattern, most)}", []

@@ -1,11 +1,9 @@
 -- One step of what forms a number.
-use Rattle.std.proofs.Common.{◌≡◌, ℕ, suc, ◌-◌, ◌≤◌, Bool, false, List, [], ◌∷◌, length, Option, Ok, refl, sym, ap, ◌∙◌}
+use Rattle.std.proofs.Common.{◌≡◌, ℕ, suc, ◌-◌, ◌≤◌, Bool, List, [], ◌∷◌, length, Option, Ok, refl, ap, ◌∙◌}
 use Rattle.std.proofs.Math.ListN.{get_or}
 use Rattle.std.specs.Borrow.{Bor}
-use Rattle.patterns_book.specs.declared.pattern.Number.{Number}
 use Rattle.patterns_formed_base.specs.declared.words.Function.{Function}
-use Rattle.patterns_formed_base.specs.Names.{place_of}
-use Rattle.patterns_formed_base.specs.Words.{function_named}
+use Rattle.patterns_formed_base.specs.Words.{function_named, truth_named}
 use Rattle.patterns_text.specs.declared.error.PatternError.{PatternError}
 use Rattle.patterns_text.specs.declared.error.PatternError.TheVariants as errors
 use Rattle.patterns_text.specs.declared.parts.Kind.{Kind}
@@ -13,7 +11,7 @@ use Rattle.patterns_text.specs.declared.parts.Kind.TheVariants as kind
 use Rattle.patterns_text.specs.declared.parts.Part.{Part as PartCode}
 use Rattle.patterns_text.specs.Parts.{Placed, kind_view, part_view, views}
 use Rattle.patterns_text.specs.Refusing.{Fails, Outcome, ◌>>=◌}
-use Rattle.patterns_formed.specs.Forming.{Forming, Places, State, and_number, applied, behind, function_at, gathered, literal_number, name_from, number_at, room}
+use Rattle.patterns_formed.specs.Forming.{Forming, Places, State, applied, behind, function_at, gathered, number_at, room, word_from, written_number}
 use Rattle.patterns_formed.proofs.Steps.{rest, some_more, views_split}
 
 abbrev pub okay : {A : Type 0} → A → Outcome A
@@ -45,12 +43,12 @@ module _ (b : Places) (N : State → Outcome (ℕ × State)) (name : List ℕ) (
 module _ (b : Places) (slot : ℕ) (f : Forming) where
   module _ (n left : ℕ) (k : Kind) (qs : List Placed) where
     literal_here : (negative : Bool) (magnitude : ℕ) → k ≡ kind.Literal negative magnitude
-        → number_at b (suc n) slot ((left, kind_view k) ∷ qs, f) ≡ Ok (behind qs (and_number b (literal_number negative magnitude slot) f))
+        → number_at b (suc n) slot ((left, kind_view k) ∷ qs, f) ≡ Ok (behind qs (written_number b negative magnitude slot left f))
     unfolding number_at
     literal_here negative magnitude is = rw is refl
 
     name_here : (w : Bor (List ℕ)) → k ≡ kind.Name w
-        → number_at b (suc n) slot ((left, kind_view k) ∷ qs, f) ≡ kept qs (name_from slot left (place_of false w.now b.variables) f)
+        → number_at b (suc n) slot ((left, kind_view k) ∷ qs, f) ≡ kept qs (word_from b (truth_named w.now) w.now slot left f)
     unfolding number_at
     name_here w is = rw is refl
 
@@ -63,23 +61,23 @@ module _ (b : Places) (slot : ℕ) (f : Forming) where
     whole : number_at b depth slot (views ps, f) ≡ number_at b (suc (depth - 1)) slot (part_view (get_or ps 0 d) ∷ views (rest ps), f)
     whole = ap (λ n. number_at b n slot (views ps, f)) (some_more depth more) ∙ ap (λ (qs : List Placed). number_at b (suc (depth - 1)) slot (qs, f)) (views_split d ps le)
 
-    pub literal_found : (negative : Bool) (magnitude : ℕ) (num : Number) (x : ℕ × Forming) → (get_or ps 0 d).kind ≡ kind.Literal negative magnitude
-        → num ≡ literal_number negative magnitude slot → Ok (and_number b num f) ≡ okay x
+    pub literal_found : (negative : Bool) (magnitude : ℕ) (x : ℕ × Forming) → (get_or ps 0 d).kind ≡ kind.Literal negative magnitude
+        → Ok (written_number b negative magnitude slot (get_or ps 0 d).left f) ≡ okay x
         → number_at b depth slot (views ps, f) ≡ Ok (behind (views (rest ps)) x)
-    literal_found negative magnitude num x is same made =
+    literal_found negative magnitude x is made =
         whole ∙ literal_here (depth - 1) (get_or ps 0 d).left (get_or ps 0 d).kind (views (rest ps)) negative magnitude is
-        ∙ ap (λ (k : Number). Ok (behind (views (rest ps)) (and_number b k f))) (sym same) ∙ ap (kept (views (rest ps))) made
+        ∙ ap (kept (views (rest ps))) made
 
-    module _ (w : Bor (List ℕ)) (o : Option ℕ) (is : (get_or ps 0 d).kind ≡ kind.Name w) (same : o ≡ place_of false w.now b.variables) where
-      named : number_at b depth slot (views ps, f) ≡ kept (views (rest ps)) (name_from slot (get_or ps 0 d).left o f)
-      named =
-          whole ∙ name_here (depth - 1) (get_or ps 0 d).left (get_or ps 0 d).kind (views (rest ps)) w is
-          ∙ ap (λ (p : Option ℕ). kept (views (rest ps)) (name_from slot (get_or ps 0 d).left p f)) (sym same)
+    module _ (w : Bor (List ℕ)) (is : (get_or ps 0 d).kind ≡ kind.Name w) where
+      named : number_at b depth slot (views ps, f) ≡ kept (views (rest ps)) (word_from b (truth_named w.now) w.now slot (get_or ps 0 d).left f)
+      named = whole ∙ name_here (depth - 1) (get_or ps 0 d).left (get_or ps 0 d).kind (views (rest ps)) w is
 
-      pub name_found : (x : ℕ × Forming) → name_from slot (get_or ps 0 d).left o f ≡ Ok x → number_at b depth slot (views ps, f) ≡ Ok (behind (views (rest ps)) x)
+      pub name_found : (x : ℕ × Forming) → word_from b (truth_named w.now) w.now slot (get_or ps 0 d).left f ≡ Ok x
+          → number_at b depth slot (views ps, f) ≡ Ok (behind (views (rest ps)) x)
       name_found x found = named ∙ ap (kept (views (rest ps))) found
 
-      pub name_refused : (e : PatternError) → Fails e (name_from slot (get_or ps 0 d).left o f) → Fails e (number_at b depth slot (views ps, f))
+      pub name_refused : (e : PatternError) → Fails e (word_from b (truth_named w.now) w.now slot (get_or ps 0 d).left f)
+          → Fails e (number_at b depth slot (views ps, f))
       name_refused errors.Memory h = tt
       name_refused (errors.Refused g) h = named ∙ ap (kept (views (rest ps))) h
 

@@ -37,7 +37,8 @@ use Rattle.patterns_formed_base.specs.declared.words.Operation.TheVariants as op
 use Rattle.patterns_formed.specs.declared.forming.Entry.{Entry}
 use Rattle.patterns_formed.specs.declared.forming.Told.{Told}
 use Rattle.patterns_formed.specs.declared.forming.Between.{Between}
-use Rattle.patterns_formed_base.specs.Words.{operation_named, predicate_named, function_named, is_narrower, is_power}
+use Rattle.patterns_formed.specs.declared.forming.LiteralAt.{LiteralAt}
+use Rattle.patterns_formed_base.specs.Words.{operation_named, predicate_named, function_named, is_narrower, is_power, is_truth, truth_named}
 use Rattle.patterns_formed_base.specs.Views.{Variable}
 use Rattle.patterns_formed_base.specs.Names.{Names, names_of, place_of}
 use Rattle.patterns_formed_base.specs.Types.{Named, Types, same_kind, kind_of, one, one_with, and_variable, written}
@@ -62,6 +63,8 @@ pub record Forming : Type 0 where
   pub old_types : List ℕ
   pub new_types : List Told
   pub casts : List Between
+  -- the literals that are written in digits
+  pub literals : List LiteralAt
   pub asked : List Asked
   -- which constants were met
   pub met : List ℕ
@@ -142,8 +145,15 @@ module _ {X : Type 0} (T : State → Outcome (X × State)) where
 
 -- ---- numbers
 
+abbrev pub literal_with : Bool → ℕ → ℕ → Literal
+literal_with negative magnitude slot = record { negative = negative; magnitude = magnitude; ty = slot }
+
 abbrev pub literal_number : Bool → ℕ → ℕ → Number
-literal_number negative magnitude slot = number.Written (record { negative = negative; magnitude = magnitude; ty = slot })
+literal_number negative magnitude slot = number.Written (literal_with negative magnitude slot)
+
+-- a literal more that has to be one of its type
+abbrev pub and_literal : Literal → ℕ → Forming → Forming
+and_literal l at f = record f { literals = f.literals ++ record { literal = l; left = at } ∷ [] }
 
 -- the name of a number
 abbrev pub name_from : ℕ → ℕ → Option ℕ → Forming → Outcome (ℕ × Forming)
@@ -285,11 +295,21 @@ module _ (b : Places) where
   unfoldable pub function_at : (State → Outcome (ℕ × State)) → List ℕ → ℕ → ℕ → State → Outcome (ℕ × State)
   function_at N name slot at s = gathered N room [] s >>= λ x. applied (function_named name) x.0 slot at x.1.1 >>= λ y. Ok (behind x.1.0 y)
 
+  -- a literal that is written
+  abbrev pub written_number : Bool → ℕ → ℕ → ℕ → Forming → ℕ × Forming
+  written_number negative magnitude slot at f =
+      and_number (literal_number negative magnitude slot) (and_literal (literal_with negative magnitude slot) at f)
+
+  -- a name: `true` and `false` are literals of i1, another is that of a number
+  abbrev pub word_from : Option ℕ → List ℕ → ℕ → ℕ → Forming → Outcome (ℕ × Forming)
+  word_from (Some v) name slot at f = unite_with slot (bits.Int 1) at f >>= λ g. Ok (and_number (literal_number false v slot) g)
+  word_from None name slot at f = name_from slot at (place_of false name b.variables) f
+
   -- a number of at most that depth, of a type
   unfoldable pub number_at : ℕ → ℕ → State → Outcome (ℕ × State)
   number_at zero slot s = refused TooDeep 0
-  number_at (suc depth) slot ((at, literal_part negative magnitude) ∷ ps, f) = Ok (behind ps (and_number (literal_number negative magnitude slot) f))
-  number_at (suc depth) slot ((at, name_part name) ∷ ps, f) = name_from slot at (place_of false name b.variables) f >>= λ x. Ok (behind ps x)
+  number_at (suc depth) slot ((at, literal_part negative magnitude) ∷ ps, f) = Ok (behind ps (written_number negative magnitude slot at f))
+  number_at (suc depth) slot ((at, name_part name) ∷ ps, f) = word_from (truth_named name) name slot at f >>= λ x. Ok (behind ps x)
   number_at (suc depth) slot ((at, function_part name) ∷ ps, f) = function_at (number_at depth slot) name slot at (ps, f)
   number_at (suc depth) slot s = refused Unexpected 0
 
@@ -307,11 +327,25 @@ module _ (b : Places) where
   old_name_from at (Some i) f = Ok (met_from (list_any (eqb i) f.met) i at f)
   old_name_from at None f = refused UnknownValue at
 
-  abbrev pub old_literal : ℕ → Bool → ℕ → Forming → Entry × Forming
-  old_literal at negative magnitude f = (
+  -- a constant on the left that is a literal
+  abbrev pub old_constant_of : ℕ → Bool → ℕ → Forming → Entry × Forming
+  old_constant_of at negative magnitude f = (
     entry (next_further f) (next_type f) at,
-    and_further (further.Written (record { negative = negative; magnitude = magnitude; ty = next_type f })) (begun true (next_type f) at (with_type f)),
+    and_further (further.Written (literal_with negative magnitude (next_type f))) (begun true (next_type f) at (with_type f)),
   )
+
+  -- it is written in digits, or by a name, and then it is one of i1
+  abbrev pub old_literal : ℕ → Bool → ℕ → Forming → Entry × Forming
+  old_literal at negative magnitude f =
+      old_constant_of at negative magnitude (and_literal (literal_with negative magnitude (next_type f)) at f)
+
+  abbrev pub old_truth : ℕ → ℕ → Forming → Outcome (Entry × Forming)
+  old_truth at v f =
+      unite_with (next_type f) (bits.Int 1) at (old_constant_of at false v f).1 >>= λ g. Ok ((old_constant_of at false v f).0, g)
+
+  abbrev pub old_word_from : Option ℕ → List ℕ → ℕ → Forming → Outcome (Entry × Forming)
+  old_word_from (Some v) name at f = old_truth at v f
+  old_word_from None name at f = old_name_from at (place_of false name b.variables) f
 
   abbrev pub next_new : Forming → ℕ
   next_new f = b.new + length f.new
@@ -342,12 +376,14 @@ module _ (b : Places) where
   -- a constant: on the left a literal or a name, on the right any number
   unfoldable pub old_constant : State → Outcome (Entry × State)
   old_constant ((at, literal_part negative magnitude) ∷ ps, f) = Ok (behind ps (old_literal at negative magnitude f))
-  old_constant ((at, name_part name) ∷ ps, f) = old_name_from at (place_of false name b.variables) f >>= λ e. Ok (behind ps e)
+  old_constant ((at, name_part name) ∷ ps, f) = old_word_from (truth_named name) name at f >>= λ e. Ok (behind ps e)
   old_constant s = refused Unexpected 0
 
   unfoldable pub new_constant : ℕ → State → Outcome (Entry × State)
   new_constant depth ([], f) = refused Unexpected 0
-  new_constant depth ((at, name_part name) ∷ ps, f) = value_from false at (place_of false name b.variables) f >>= λ e. Ok (behind ps e)
+  new_constant depth ((at, name_part name) ∷ ps, f) =
+      if is_truth name then made_at depth at ((at, name_part name) ∷ ps, f)
+      else (value_from false at (place_of false name b.variables) f >>= λ e. Ok (behind ps e))
   new_constant depth ((at, p) ∷ ps, f) = made_at depth at ((at, p) ∷ ps, f)
 
   abbrev pub constant_at : Bool → ℕ → State → Outcome (Entry × State)
@@ -384,7 +420,7 @@ module _ (b : Places) where
   a_power (i ∷ []) at f = Ok (and_number (number.Log i) f).1
   a_power _ at f = refused TypeMismatch at
 
-  -- something is asked of numbers, of which one has a name at least
+  -- something is asked of numbers, of which one has a name at least, or is `true` or `false`, so that their type is known
   abbrev pub met_by : List ℕ → List ℕ → ℕ → Forming → Outcome Forming
   met_by w places at f = if is_power w then a_power places at f else comparing (predicate_named w) places at f
 
@@ -413,6 +449,15 @@ is_told ks olds (ty.Variable r) = list_any (λ i. same_kind (kind_of i ks) (ty.V
 unfoldable pub all_told : List Kind → List ℕ → List Told → Outcome (Unit {0})
 all_told ks olds [] = Ok tt
 all_told ks olds (t ∷ ts) = if is_told ks olds (kind_of t.slot ks) then all_told ks olds ts else refused TypeMismatch t.left
+
+-- the literals are ones of their types, as far as these are written
+abbrev pub fits : Kind → Literal → Bool
+fits (ty.Fixed k) l = is_some (bits_with (k ∷ []) (record l { ty = 0 }))
+fits (ty.Variable r) l = true
+
+unfoldable pub all_fit : List Kind → List LiteralAt → Outcome (Unit {0})
+all_fit ks [] = Ok tt
+all_fit ks (l ∷ ls) = if fits (kind_of l.literal.ty ks) l.literal then all_fit ks ls else refused BadValue l.left
 
 abbrev pub is_index : Kind → Bool
 is_index k = same_kind k (ty.Fixed bits.Index)
@@ -462,7 +507,7 @@ checked p = if is_well_formed p then Ok p else refused Unexpected 0
 
 abbrev pub begins_with : ℕ → Forming
 begins_with n =
-    record { kinds = map ty.Variable (range_with_len 0 n); named = []; old_types = []; new_types = []; casts = []; asked = []; met = []; further = []; given = []; old = []; new = [] }
+    record { kinds = map ty.Variable (range_with_len 0 n); named = []; old_types = []; new_types = []; casts = []; literals = []; asked = []; met = []; further = []; given = []; old = []; new = [] }
 
 abbrev pub count_constants : List Variable → ℕ
 count_constants [] = 0
@@ -505,9 +550,9 @@ with_all f (Err e) = Err e
 abbrev pub with_casts : Forming → Outcome Forming
 with_casts f = with_all f (all_cast f.kinds f.asked f.casts)
 
--- all types are known, and casts are of index
+-- all types are known, literals are ones of theirs, and casts are of index
 abbrev pub settled : Forming → Outcome Forming
-settled f = all_told f.kinds f.old_types f.new_types >>= λ told. with_casts f
+settled f = all_told f.kinds f.old_types f.new_types >>= λ told. all_fit f.kinds f.literals >>= λ fit. with_casts f
 
 abbrev pub variables_found : Forming → List ℕ
 variables_found f = found_in f.kinds (found_in f.kinds [] f.old_types) (told_slots f.new_types)

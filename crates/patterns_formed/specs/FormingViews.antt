@@ -12,6 +12,7 @@ forming_view f =
       old_types = f.old_types.items;
       new_types = f.new_types.items;
       casts = f.casts.items;
+      literals = f.literals.items;
       asked = f.asked.items;
       met = f.met.items;
       further = f.further.items;

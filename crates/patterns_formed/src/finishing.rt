@@ -9,12 +9,13 @@ ghost use Rattle.patterns_formed.specs.FormingViews.{forming_view, places_view};
 ghost use Rattle.patterns_formed_base.specs.Types.{kind_of};
 ghost use Rattle.patterns_formed.specs.Ending.{ended, pattern_of};
 ghost use Rattle.patterns_formed.specs.EndViews.{ends_view};
-ghost use Rattle.patterns_formed.specs.Forming.{all_cast, all_numbered, all_told, cast_asked, checked, constants_of, found_in, is_index, is_told, kinds_found, numbered, place_in, settled, told_slots, variables_found, with_casts, with_kind};
+ghost use Rattle.patterns_formed.specs.Forming.{all_cast, all_fit, all_numbered, all_told, cast_asked, checked, constants_of, fits, found_in, is_index, is_told, kinds_found, numbered, place_in, settled, told_slots, variables_found, with_casts, with_kind};
 
-use crate::forming::{Between, Forming, Places, Told};
+use crate::forming::{Between, Forming, LiteralAt, Places, Told};
 use ir_text_tokens::refusal::TextRefusal;
 use ir_types::bits::BitsKind;
-use patterns_book::pattern::{Asked, Kind, Pattern};
+use patterns_book::literals::bits_with;
+use patterns_book::pattern::{Asked, Kind, Literal, Pattern};
 use patterns_book::well_formed::is_well_formed;
 use patterns_formed_base::names::Variable;
 use patterns_formed_base::types::{kind_of, same_kind};
@@ -59,6 +60,38 @@ fn all_told(kinds: &[Kind], olds: &[usize], told: &[Told]) -> Result<(), Pattern
     'types: while let [one, tail @ ..] = rest {
         if !is_told(kinds, olds, kind_of(one.slot, kinds)) {
             return Err(refused(TextRefusal::TypeMismatch, one.left));
+        }
+        rest = tail;
+    }
+    Ok(())
+}
+
+/// Whether a literal is one of a type, as far as that is written.
+fn fits(kind: Kind, literal: &Literal) -> bool
+    ensures { result ≡ fits kind literal.now }
+{
+    match kind {
+        Kind::Fixed(kind) => {
+            let literal = Literal {
+                negative: literal.negative,
+                magnitude: literal.magnitude,
+                ty: 0,
+            };
+            bits_with(&[kind], &literal).is_some()
+        }
+        Kind::Variable(_) => true,
+    }
+}
+
+/// `BadValue` at the first literal that isn't one of its type.
+#[tactic(auto, unfolding(crate::specs::Forming::all_fit))]
+fn all_fit(kinds: &[Kind], literals: &[LiteralAt]) -> Result<(), PatternError>
+    ensures { Gives (λ _. tt) result (all_fit kinds.now literals.now) }
+{
+    let mut rest = literals;
+    'literals: while let [one, tail @ ..] = rest {
+        if !fits(kind_of(one.literal.ty, kinds), &one.literal) {
+            return Err(refused(TextRefusal::BadValue, one.left));
         }
         rest = tail;
     }
@@ -296,11 +329,15 @@ fn checked(pattern: Pattern) -> Result<Pattern, PatternError>
     }
 }
 
-/// All types are known, and casts are of index.
+/// All types are known, literals are ones of theirs, and casts are of index.
 pub(crate) fn settled<'a>(forming: &mut Forming<'a>) -> Result<(), PatternError>
     ensures { Gives (λ _. forming_view forming.new) result (settled (forming_view forming.old)) }
 {
     match all_told(&forming.types.kinds, &forming.old_types, &forming.new_types) {
+        Ok(()) => {}
+        Err(e) => return Err(e),
+    }
+    match all_fit(&forming.types.kinds, &forming.literals) {
         Ok(()) => with_casts(forming),
         Err(e) => Err(e),
     }

@@ -4,7 +4,7 @@ ghost use Rattle.patterns_text.specs.Parts.{part_view};
 ghost use Rattle.patterns_text.specs.Refusing.{Gives};
 ghost use Rattle.patterns_formed.specs.FormingViews.{forming_view, places_view};
 ghost use Rattle.patterns_formed_base.specs.TypeViews.{word_view};
-ghost use Rattle.patterns_formed.specs.Forming.{begun, behind_end, is_of, next_type, typed, typed_as, unite, unite_with, with_type, written_at};
+ghost use Rattle.patterns_formed.specs.Forming.{and_literal, begun, behind_end, is_of, next_type, typed, typed_as, unite, unite_with, with_type, written_at};
 
 use ir_text_tokens::refusal::TextRefusal;
 use ir_types::bits::BitsKind;
@@ -40,6 +40,13 @@ pub struct Between {
     pub left: usize,
 }
 
+/// A literal that is written in digits, and how many bytes are left where it begins.
+#[derive(Clone, Copy)]
+pub struct LiteralAt {
+    pub literal: Literal,
+    pub left: usize,
+}
+
 /// The variables, and where the places of what comes behind them begin.
 #[derive(Drop)]
 pub struct Places<'a> {
@@ -57,6 +64,7 @@ pub struct Forming<'a> {
     pub old_types: Vec<usize>,
     pub new_types: Vec<Told>,
     pub casts: Vec<Between>,
+    pub literals: Vec<LiteralAt>,
     pub asked: Vec<Asked>,
     pub met: Vec<usize>,
     pub further: Vec<Further>,
@@ -149,6 +157,20 @@ pub(crate) fn begin_new<'a>(
     match begin(forming, left, slot, at) {
         Ok(()) => Ok(slot),
         Err(e) => Err(e),
+    }
+}
+
+/// A literal more that has to be one of its type.
+pub(crate) fn and_literal<'a>(
+    forming: &mut Forming<'a>,
+    literal: Literal,
+    at: usize,
+) -> Result<(), AllocError>
+    ensures { OnOk result (forming_view forming.new ≡ and_literal literal at (forming_view forming.old)) }
+{
+    match forming.literals.push(LiteralAt { literal, left: at }) {
+        Ok(()) => Ok(()),
+        Err(_) => Err(AllocError),
     }
 }
 

@@ -2,15 +2,17 @@
 ghost use Rattle.std.specs.Prelude.{◌≡◌, ◌+◌, map, length, IfOk, OnOk, Ok, []};
 ghost use Rattle.patterns_text.specs.Parts.{part_view};
 ghost use Rattle.patterns_text.specs.Refusing.{Gives};
+ghost use Rattle.patterns_formed_base.specs.Words.{truth_named};
 ghost use Rattle.patterns_formed.specs.FormingViews.{forming_view, places_view};
-ghost use Rattle.patterns_formed.specs.Forming.{and_number, applied, function_at, gathered, inverted, literal_number, name_from, negated, next_number, number_at, room};
+ghost use Rattle.patterns_formed.specs.Forming.{and_number, applied, function_at, gathered, inverted, literal_number, literal_with, name_from, negated, next_number, number_at, room, word_from, written_number};
 
-use crate::forming::{Forming, Places, behind_end, unite};
+use crate::forming::{Forming, Places, and_literal, behind_end, unite, unite_with};
 use dialects_int::operations::Arithmetic;
 use ir_text_tokens::refusal::TextRefusal;
+use ir_types::bits::BitsKind;
 use patterns_book::pattern::{Literal, Number};
 use patterns_formed_base::names::place_of;
-use patterns_formed_base::words::{Function, function_named};
+use patterns_formed_base::words::{Function, function_named, truth_named};
 use patterns_text::error::PatternError;
 use patterns_text::parts::{Kind, Part};
 use patterns_text::steps::refused;
@@ -41,14 +43,20 @@ pub(crate) fn and_number<'a>(
     }
 }
 
-fn literal_number(negative: bool, magnitude: u128, slot: usize) -> Number
-    ensures { result ≡ literal_number negative magnitude slot }
+pub(crate) fn literal_with(negative: bool, magnitude: u128, slot: usize) -> Literal
+    ensures { result ≡ literal_with negative magnitude slot }
 {
-    Number::Written(Literal {
+    Literal {
         negative,
         magnitude,
         ty: slot,
-    })
+    }
+}
+
+fn literal_number(negative: bool, magnitude: u128, slot: usize) -> Number
+    ensures { result ≡ literal_number negative magnitude slot }
+{
+    Number::Written(literal_with(negative, magnitude, slot))
 }
 
 fn negated<'a>(
@@ -101,6 +109,24 @@ fn made<'a>(
     }
 }
 
+/// A literal that is written, and its place.
+fn written_number<'a>(
+    places: &Places<'_>,
+    forming: &mut Forming<'a>,
+    negative: bool,
+    magnitude: u128,
+    slot: usize,
+    at: usize,
+) -> Result<usize, PatternError>
+    ensures { Gives (λ place. (place, forming_view forming.new)) result (Ok (written_number (places_view places.now) negative magnitude slot at (forming_view forming.old))) }
+{
+    match and_literal(forming, literal_with(negative, magnitude, slot), at) {
+        Ok(()) => {}
+        Err(_) => return Err(PatternError::Memory),
+    }
+    made(places, forming, literal_number(negative, magnitude, slot))
+}
+
 /// A function of the numbers at these places. `TypeMismatch` where it has another number of them.
 fn applied<'a>(
     places: &Places<'_>,
@@ -144,6 +170,33 @@ fn of_name<'a>(
             Err(e) => Err(e),
         },
         None => Err(refused(TextRefusal::UnknownValue, at)),
+    }
+}
+
+/// The number that a word is: a literal of i1, or the number of a name.
+#[tactic(auto, unfolding(crate::specs::Forming::word_from))]
+fn of_word<'a>(
+    alloc: Global,
+    places: &Places<'_>,
+    forming: &mut Forming<'a>,
+    slot: usize,
+    at: usize,
+    word: &[u8],
+) -> Result<usize, PatternError>
+    ensures { Gives (λ place. (place, forming_view forming.new)) result (word_from (places_view places.now) (truth_named word.now) word.now slot at (forming_view forming.old)) }
+{
+    let Some(value) = truth_named(word) else {
+        return of_name(
+            alloc,
+            forming,
+            slot,
+            at,
+            place_of(false, word, &places.variables),
+        );
+    };
+    match unite_with(alloc, forming, slot, BitsKind::Int(1), at) {
+        Ok(()) => made(places, forming, literal_number(false, value, slot)),
+        Err(e) => Err(e),
     }
 }
 
@@ -225,14 +278,13 @@ pub(crate) fn number<'a, 'p>(
     };
     match part.kind {
         Kind::Literal(negative, magnitude) => {
-            match made(places, forming, literal_number(negative, magnitude, slot)) {
+            match written_number(places, forming, negative, magnitude, slot, part.left) {
                 Ok(place) => Ok((place, rest)),
                 Err(e) => Err(e),
             }
         }
         Kind::Name(name) => {
-            let place = place_of(false, name, &places.variables);
-            match of_name(alloc, forming, slot, part.left, place) {
+            match of_word(alloc, places, forming, slot, part.left, name) {
                 Ok(place) => Ok((place, rest)),
                 Err(e) => Err(e),
             }

@@ -104,6 +104,7 @@ fn begins_with<'a>(alloc: Global, count: usize) -> Result<Forming<'a>, AllocErro
         old_types: Vec::new(alloc),
         new_types: Vec::new(alloc),
         casts: Vec::new(alloc),
+        literals: Vec::new(alloc),
         asked: Vec::new(alloc),
         met: Vec::new(alloc),
         further: Vec::new(alloc),
@@ -183,8 +184,9 @@ fn sides<'a>(
 ///
 /// Refusals, each where it stands: those of its names, `TooMany` and `UnknownValue`; then, operands first, `TypeMismatch`
 /// at an operation, a function or a condition of another number of operands, at an operand, an operation, a term or a name
-/// whose types can't be one, and at a condition without a name; `BadValue` at a literal that isn't one of the type that is
-/// written of it; then `TypeMismatch` at a type that isn't known, and at a cast of index without one index.
+/// whose types can't be one, and at a condition whose type no name tells; `BadValue` at a literal that isn't one of the
+/// type that is written of it; then `TypeMismatch` at a type that isn't known, `BadValue` at a literal that isn't one of
+/// its type, where that follows from what is written elsewhere, and `TypeMismatch` at a cast of index without one index.
 #[tactic(auto, unfolding(crate::specs::Forming::formed))]
 pub fn formed(alloc: Global, pattern: &parts::Pattern<'_>) -> Result<Pattern, PatternError>
     ensures gives { Gives shape result (formed (pattern_view pattern.now)) }

@@ -3,19 +3,21 @@ ghost use Rattle.std.specs.Prelude.{◌≡◌, [], eqb, map, true, false, IfOk, 
 ghost use Rattle.std.specs.List.{list_any};
 ghost use Rattle.patterns_text.specs.Parts.{bytes_of, part_view};
 ghost use Rattle.patterns_text.specs.Refusing.{Gives};
+ghost use Rattle.patterns_formed_base.specs.Words.{truth_named};
 ghost use Rattle.patterns_formed.specs.FormingViews.{forming_view, places_view};
-ghost use Rattle.patterns_formed.specs.Forming.{asked_predicate, chosen, closed_at, compared, constant_at, gathered, is_bare, literal_of, made_at, met_from, new_constant, old_constant, old_literal, old_name_from, operation_at, paired, resized, shaped, shaped_by_one, shaped_by_three, shaped_by_two, term_at, typed_constant, typed_entry, typed_operation, value_at, value_from, with_piece};
+ghost use Rattle.patterns_formed.specs.Forming.{asked_predicate, chosen, closed_at, compared, constant_at, gathered, is_bare, literal_of, made_at, met_from, new_constant, old_constant, old_constant_of, old_literal, old_name_from, old_truth, old_word_from, operation_at, paired, resized, shaped, shaped_by_one, shaped_by_three, shaped_by_two, term_at, typed_constant, typed_entry, typed_operation, value_at, value_from, with_piece};
 
 use crate::forming::{
-    Between, Entry, Forming, Places, Size, begin, begin_new, behind_end, typed, unite, unite_with,
+    Between, Entry, Forming, Places, Size, and_literal, begin, begin_new, behind_end, typed, unite,
+    unite_with,
 };
-use crate::numbers::{ROOM, number};
+use crate::numbers::{ROOM, literal_with, number};
 use dialects_int::operations::{Cast, Predicate};
 use ir_text_tokens::refusal::TextRefusal;
 use ir_types::bits::BitsKind;
-use patterns_book::pattern::{Asked, Form, Further, Literal, New, Piece};
+use patterns_book::pattern::{Asked, Form, Further, New, Piece};
 use patterns_formed_base::names::place_of;
-use patterns_formed_base::words::{Operation, operation_named, predicate_named};
+use patterns_formed_base::words::{Operation, operation_named, predicate_named, truth_named};
 use patterns_text::error::PatternError;
 use patterns_text::parts::{Kind, Part};
 use patterns_text::steps::refused;
@@ -147,7 +149,33 @@ fn old_name<'a>(
     }
 }
 
-/// A literal on the left.
+/// A constant on the left that is a literal.
+fn old_constant_of<'a>(
+    places: &Places<'_>,
+    forming: &mut Forming<'a>,
+    at: usize,
+    size: &Size,
+) -> Result<Entry, AllocError>
+    ensures entry { IfOk result (λ e. e ≡ (old_constant_of (places_view places.now) at size.now.negative size.now.magnitude (forming_view forming.old)).0) }
+    ensures forming { OnOk result (forming_view forming.new ≡ (old_constant_of (places_view places.now) at size.now.negative size.now.magnitude (forming_view forming.old)).1) }
+{
+    let place = places.further as usize + forming.further.len();
+    let slot = match begin_new(forming, true, at) {
+        Ok(slot) => slot,
+        Err(e) => return Err(e),
+    };
+    let literal = literal_with(size.negative, size.magnitude, slot);
+    match forming.further.push(Further::Written(literal)) {
+        Ok(()) => Ok(Entry {
+            place,
+            slot,
+            left: at,
+        }),
+        Err(_) => Err(AllocError),
+    }
+}
+
+/// A literal on the left that is written in digits.
 fn old_literal<'a>(
     places: &Places<'_>,
     forming: &mut Forming<'a>,
@@ -156,24 +184,61 @@ fn old_literal<'a>(
 ) -> Result<Entry, PatternError>
     ensures { Gives (λ e. (e, forming_view forming.new)) result (Ok (old_literal (places_view places.now) at size.now.negative size.now.magnitude (forming_view forming.old))) }
 {
-    let place = places.further as usize + forming.further.len();
-    let slot = match begin_new(forming, true, at) {
-        Ok(slot) => slot,
+    let slot = forming.types.kinds.len();
+    let literal = literal_with(size.negative, size.magnitude, slot);
+    match and_literal(forming, literal, at) {
+        Ok(()) => {}
         Err(_) => return Err(PatternError::Memory),
-    };
-    let literal = Literal {
-        negative: size.negative,
-        magnitude: size.magnitude,
-        ty: slot,
-    };
-    match forming.further.push(Further::Written(literal)) {
-        Ok(()) => Ok(Entry {
-            place,
-            slot,
-            left: at,
-        }),
+    }
+    match old_constant_of(places, forming, at, size) {
+        Ok(entry) => Ok(entry),
         Err(_) => Err(PatternError::Memory),
     }
+}
+
+/// `true` or `false` on the left.
+fn old_truth<'a>(
+    alloc: Global,
+    places: &Places<'_>,
+    forming: &mut Forming<'a>,
+    at: usize,
+    value: u128,
+) -> Result<Entry, PatternError>
+    ensures { Gives (λ e. (e, forming_view forming.new)) result (old_truth (places_view places.now) at value (forming_view forming.old)) }
+{
+    let size = Size {
+        negative: false,
+        magnitude: value,
+    };
+    let entry = match old_constant_of(places, forming, at, &size) {
+        Ok(entry) => entry,
+        Err(_) => return Err(PatternError::Memory),
+    };
+    match unite_with(alloc, forming, entry.slot, BitsKind::Int(1), at) {
+        Ok(()) => Ok(entry),
+        Err(e) => Err(e),
+    }
+}
+
+/// What a word on the left is: a literal of i1, or a constant that has a name.
+fn old_word<'a>(
+    alloc: Global,
+    places: &Places<'_>,
+    forming: &mut Forming<'a>,
+    at: usize,
+    word: &[u8],
+) -> Result<Entry, PatternError>
+    ensures { Gives (λ e. (e, forming_view forming.new)) result (old_word_from (places_view places.now) (truth_named word.now) word.now at (forming_view forming.old)) }
+{
+    let Some(value) = truth_named(word) else {
+        return old_name(
+            places,
+            forming,
+            at,
+            place_of(false, word, &places.variables),
+        );
+    };
+    old_truth(alloc, places, forming, at, value)
 }
 
 /// A constant that is made, of a number with which the parts begin.
@@ -534,6 +599,7 @@ fn operation<'a, 'p>(
 /// A constant on the left, with which the parts begin: a literal or a name.
 #[tactic(auto, unfolding(crate::specs::Forming::old_constant))]
 fn old_constant<'a, 'p>(
+    alloc: Global,
     places: &Places<'_>,
     forming: &mut Forming<'a>,
     parts: &'p [Part<'a>],
@@ -560,8 +626,7 @@ fn old_constant<'a, 'p>(
             }
         }
         Kind::Name(name) => {
-            let place = place_of(false, name, &places.variables);
-            match old_name(places, forming, at, place) {
+            match old_word(alloc, places, forming, at, name) {
                 Ok(entry) => Ok((entry, rest)),
                 Err(e) => Err(e),
             }
@@ -587,6 +652,9 @@ fn new_constant<'a, 'p>(
     let at = part.left;
     match part.kind {
         Kind::Name(name) => {
+            if truth_named(name).is_some() {
+                return made(alloc, places, forming, depth, at, parts);
+            }
             let place = place_of(false, name, &places.variables);
             match value(forming, false, at, place) {
                 Ok(entry) => Ok((entry, rest)),
@@ -608,7 +676,7 @@ fn constant<'a, 'p>(
     ensures { Gives (λ x. (x.0, (map part_view x.1.now, forming_view forming.new))) result (constant_at (places_view places.now) left depth (map part_view parts.now, forming_view forming.old)) }
 {
     if left {
-        old_constant(places, forming, parts)
+        old_constant(alloc, places, forming, parts)
     } else {
         new_constant(alloc, places, forming, parts, depth)
     }

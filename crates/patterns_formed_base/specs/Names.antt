@@ -9,7 +9,7 @@ use Rattle.patterns_formed_base.specs.declared.names.Count.{Count}
 use Rattle.patterns_formed_base.specs.declared.names.Count.TheVariants as count
 use Rattle.patterns_formed_base.specs.declared.words.Function.{Function}
 use Rattle.patterns_formed_base.specs.declared.words.Function.TheVariants as function
-use Rattle.patterns_formed_base.specs.Words.{function_named, is_condition, is_narrower, is_power}
+use Rattle.patterns_formed_base.specs.Words.{function_named, is_condition, is_narrower, is_power, is_truth}
 use Rattle.patterns_formed_base.specs.Views.{Variable}
 
 abbrev pub is_variable : Bool → List ℕ → Variable → Bool
@@ -34,7 +34,7 @@ with_variable at is_value name vs =
 
 abbrev pub with_part : List Variable → Placed → Outcome (List Variable)
 with_part vs (at, value_part name) = with_variable at true name vs
-with_part vs (at, name_part name) = with_variable at false name vs
+with_part vs (at, name_part name) = if is_truth name then Ok vs else with_variable at false name vs
 with_part vs (at, operation_part name asks) = Ok vs
 with_part vs (at, literal_part negative magnitude) = Ok vs
 with_part vs (at, function_part name) = Ok vs
@@ -58,12 +58,17 @@ function_weight _ = 1
 abbrev pub condition_weight : List ℕ → ℕ
 condition_weight w = if is_narrower w then 0 else if is_power w then 1 else 2
 
+-- for a name: `true` and `false` are literals, and others are numbers that are there
+abbrev pub name_weight : List ℕ → ℕ
+name_weight w = if is_truth w then 1 else 0
+
 -- operations, constants on the left, and numbers that are computed
 abbrev pub weight : Count → Part → ℕ
 weight count.Operations (operation_part name asks) = 1
 weight count.Constants (literal_part negative magnitude) = 1
 weight count.Constants (name_part name) = 1
 weight count.Numbers (literal_part negative magnitude) = 1
+weight count.Numbers (name_part name) = name_weight name
 weight count.Numbers (function_part name) = function_weight (function_named name)
 weight count.Numbers (condition_part name) = condition_weight name
 weight _ _ = 0
@@ -82,7 +87,7 @@ counted c n (p ∷ ps) = if nat_lt (most_of c) (n + weight c p.1) then refused T
 
 abbrev pub is_unknown : List Variable → Part → Bool
 is_unknown vs (value_part name) = is_none (place_of true name vs)
-is_unknown vs (name_part name) = is_none (place_of false name vs)
+is_unknown vs (name_part name) = not (is_truth name) && is_none (place_of false name vs)
 is_unknown vs (function_part name) = is_none (function_named name)
 is_unknown vs (condition_part name) = not (is_condition name)
 is_unknown vs (operation_part name asks) = false

@@ -95,6 +95,16 @@ function_named w =
     else if bytes_eq w (codes "width") then Some function.Width
     else None
 
+-- the literals of i1 that have names: `true` is 1, `false` is 0
+unfoldable pub truth_named : List ℕ → Option ℕ
+truth_named w =
+    if bytes_eq w (codes "true") then Some 1
+    else if bytes_eq w (codes "false") then Some 0
+    else None
+
+abbrev pub is_truth : List ℕ → Bool
+is_truth w = is_some (truth_named w)
+
 abbrev pub is_narrower : List ℕ → Bool
 is_narrower w = bytes_eq w (codes "narrower")
 

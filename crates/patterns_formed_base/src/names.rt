@@ -3,10 +3,10 @@ ghost use Rattle.std.specs.Prelude.{◌≡◌, ◌≤◌, [], map, length, IfOk,
 ghost use Rattle.patterns_text.specs.Parts.{kind_view, part_view, pattern_view};
 ghost use Rattle.patterns_text.specs.Refusing.{Gives};
 ghost use Rattle.patterns_formed_base.specs.Views.{variable_view, variable_views};
-ghost use Rattle.patterns_formed_base.specs.Names.{all_known, counted, function_weight, condition_weight, is_unknown, is_variable, most_of, names_of, place_of, taken, weight, with_part, with_variable};
+ghost use Rattle.patterns_formed_base.specs.Names.{all_known, counted, function_weight, condition_weight, is_unknown, is_variable, most_of, name_weight, names_of, place_of, taken, weight, with_part, with_variable};
 ghost use Rattle.patterns_formed_base.specs.NameViews.{names_view};
 
-use crate::words::{Function, function_named, is_condition, is_narrower, is_power};
+use crate::words::{Function, function_named, is_condition, is_narrower, is_power, truth_named};
 use ir_text_tokens::refusal::TextRefusal;
 use patterns_text::error::PatternError;
 use patterns_text::parts::{Kind, Part, Pattern};
@@ -101,7 +101,13 @@ fn with_part<'a>(variables: &mut Vec<Variable<'a>>, part: &Part<'a>) -> Result<(
 {
     match part.kind {
         Kind::Value(name) => with_variable(variables, true, name, part.left),
-        Kind::Name(name) => with_variable(variables, false, name, part.left),
+        Kind::Name(name) => {
+            if truth_named(name).is_some() {
+                Ok(())
+            } else {
+                with_variable(variables, false, name, part.left)
+            }
+        }
         _ => Ok(()),
     }
 }
@@ -147,6 +153,13 @@ fn condition_weight(word: &[u8]) -> u32
     }
 }
 
+fn name_weight(word: &[u8]) -> u32
+    ensures is { result ≡ name_weight word.now }
+    ensures few { result ≤ 1 }
+{
+    if truth_named(word).is_some() { 1 } else { 0 }
+}
+
 fn weight(count: Count, kind: &Kind<'_>) -> u32
     ensures is { result ≡ weight count (kind_view kind.now) }
     ensures few { result ≤ 2 }
@@ -163,6 +176,7 @@ fn weight(count: Count, kind: &Kind<'_>) -> u32
         },
         Count::Numbers => match kind {
             Kind::Literal(_, _) => 1,
+            Kind::Name(name) => name_weight(name),
             Kind::Function(name) => function_weight(function_named(name)),
             Kind::Condition(name) => condition_weight(name),
             _ => 0,
@@ -206,7 +220,9 @@ fn is_unknown(variables: &[Variable<'_>], kind: &Kind<'_>) -> bool
 {
     match kind {
         Kind::Value(name) => place_of(true, name, variables).is_none(),
-        Kind::Name(name) => place_of(false, name, variables).is_none(),
+        Kind::Name(name) => {
+            truth_named(name).is_none() && place_of(false, name, variables).is_none()
+        }
         Kind::Function(name) => function_named(name).is_none(),
         Kind::Condition(name) => !is_condition(name),
         _ => false,

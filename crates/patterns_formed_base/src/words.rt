@@ -1,6 +1,6 @@
 //! What the words of the language stand for.
 ghost use Rattle.std.specs.Prelude.{◌≡◌};
-ghost use Rattle.patterns_formed_base.specs.Words.{first_pair, function_named, further_pair, is_condition, is_narrower, is_power, operation_named, other_named, pair_named, predicate_named};
+ghost use Rattle.patterns_formed_base.specs.Words.{first_pair, function_named, further_pair, is_condition, is_narrower, is_power, operation_named, other_named, pair_named, predicate_named, truth_named};
 
 use dialects_int::operations::{Arithmetic, Cast, Predicate};
 
@@ -220,6 +220,20 @@ pub fn function_named(word: &[u8]) -> Option<Function>
     }
     if word == b"width".as_slice() {
         return Some(Function::Width);
+    }
+    None
+}
+
+/// The literal of i1 that a name stands for: 1 for `true`, 0 for `false`.
+#[tactic(auto, unfolding(crate::specs::Words::truth_named))]
+pub fn truth_named(word: &[u8]) -> Option<u128>
+    ensures { result ≡ truth_named word.now }
+{
+    if word == b"true".as_slice() {
+        return Some(1);
+    }
+    if word == b"false".as_slice() {
+        return Some(0);
     }
     None
 }

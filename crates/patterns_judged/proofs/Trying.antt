@@ -32,19 +32,19 @@ module _ (p : Shape) (w : ℕ) (numbers : List ℕ) (widths : Vec ℕ Global) (v
   broken found = (fails (keeps_tried p w) (tried_bounds p) numbers found).1
 
   module _ (found : first_refuting p w ≡ Some numbers) (wide : widths.items ≡ widths_tried p w numbers) (those : values.items ≡ values_tried p w numbers) where
-    refutes : (c : Counterexample) → c.widths ≡ widths → c.values ≡ values → c.width ≡ width_told w widths.items → IsShown (content_at p widths.items) c
+    refutes : (c : Counterexample) → c.widths ≡ widths → c.values ≡ values → c.width ≡ width_told p widths.items → IsShown (content_at p widths.items) c
         → IsRefuted p w c
     refutes c us vs width shown =
         let at : c.widths.items ≡ widths_tried p w numbers = ap Vec.items us ∙ wide in
         let of : c.values.items ≡ values_tried p w numbers = ap Vec.items vs ∙ those in
         record {
           first = (numbers, found, at, of);
-          width = width ∙ ap (width_told w) (sym (ap Vec.items us));
+          width = width ∙ ap (width_told p) (sym (ap Vec.items us));
           broken = (λ i. keeps (content_at p (at i)) (of i)) ∙ broken found;
           shown = subst (λ (k : List ℕ). IsShown (content_at p k) c) (sym (ap Vec.items us)) shown;
         }
 
     pub refuted : (r : Result Counterexample AllocError) → IfOk r (λ c. c.widths ≡ widths) → IfOk r (λ c. c.values ≡ values)
-        → IfOk r (λ c. c.width ≡ width_told w widths.items) → IfOk r (IsShown (content_at p widths.items)) → IfOk r (IsRefuted p w)
+        → IfOk r (λ c. c.width ≡ width_told p widths.items) → IfOk r (IsShown (content_at p widths.items)) → IfOk r (IsRefuted p w)
     refuted (Ok c) us vs width shown = refutes c us vs width shown
     refuted (Err e) us vs width shown = tt

@@ -1,6 +1,7 @@
 -- What comes of a check that is asked for: up to which width, and what is told.
-use Rattle.std.specs.Prelude.{◌≡◌, ℕ, zero, suc, ◌<◌, ◌⊎◌, Bool, true, false, nat_le, if◌then◌else◌, List, [], ◌∷◌, map, max, replicate, slice_get, Option, Some, None, option_map}
+use Rattle.std.specs.Prelude.{◌≡◌, ℕ, zero, suc, ◌<◌, ◌⊎◌, Bool, true, false, nat_le, ◌==◌, if◌then◌else◌, List, [], ◌∷◌, map, max, replicate, slice_get, Option, Some, None, option_map}
 use Rattle.ir_types.specs.declared.bits.Bits.{Bits}
+use Rattle.ir_types.specs.Bits.{width_of}
 use Rattle.ir_types.specs.declared.refusal.Refusal.{Refusal}
 use Rattle.ir_types.specs.declared.refusal.Refusal.TheVariants.{BadLimit, Memory}
 use Rattle.dialects_int.specs.Folds.{known_of}
@@ -9,6 +10,8 @@ use Rattle.patterns_check.specs.Contents.{Content}
 use Rattle.patterns_check.specs.Checks.{bits, bound, old_steps, shown}
 use Rattle.patterns_check.specs.Families.{IsFirst, IsVerdict, TooMany}
 use Rattle.patterns_check.specs.Outcomes.{Outcome, given, run}
+use Rattle.patterns_book.specs.declared.pattern.Kind.{Kind}
+use Rattle.patterns_book.specs.declared.pattern.Kind.TheVariants as ty
 use Rattle.patterns_book.specs.Fitting.{content_at}
 use Rattle.patterns_book.specs.Shapes.{Shape}
 use Rattle.patterns_everywhere.specs.Everywhere.{is_everywhere}
@@ -79,21 +82,35 @@ abbrev pub greatest : List ℕ → ℕ
 greatest [] = 0
 greatest (w ∷ ws) = max w (greatest ws)
 
--- the greatest of widths, or the one that was asked, where there is no type variable
-abbrev pub width_told : ℕ → List ℕ → ℕ
-width_told most [] = most
-width_told most (w ∷ ws) = greatest (w ∷ ws)
+-- the width of the widest type of a pattern without type variables
+abbrev pub type_width : Kind → ℕ
+type_width (ty.Fixed k) = width_of k
+type_width (ty.Variable v) = 0
+
+unfoldable pub widest_type : List Kind → ℕ
+widest_type ks = greatest (map type_width ks)
+
+-- the number of a check that found no counterexample: the width up to which type variables were tried, or that of the
+-- widest type where there is no type variable
+abbrev pub told_width : Shape → ℕ → ℕ
+told_width p most = if p.types == 0 then widest_type p.kinds else most
+
+-- the number of a counterexample: the greatest of its widths, or again that of the widest type
+abbrev pub width_told : Shape → List ℕ → ℕ
+width_told p [] = widest_type p.kinds
+width_told p (w ∷ ws) = greatest (w ∷ ws)
 
 -- where no width is asked, a pattern that is right at all that were tried may be told to be right at every width
 abbrev pub tells_everywhere : Shape → Option ℕ → Bool
 tells_everywhere p None = is_everywhere p
 tells_everywhere p (Some w) = false
 
--- what is told of a check is true, and of counterexamples it is the first. It has a width of those at which all values
--- were tried, but where it says that the pattern is right at every one
+-- what is told of a check is true, and of counterexamples it is the first. All values were tried at the widths up to the
+-- one that was asked. The number is that width, or where no type is variable the width of the widest type; there is none
+-- where it says that the pattern is right at every width
 abbrev pub IsJudgement : Shape → Option ℕ → Judgement → Type 0
 IsJudgement p asked (judgement.Holds v) =
-    (v ≡ asked_width p asked)
+    (v ≡ told_width p (asked_width p asked))
     × IsVerdict (content_at p) p.types (asked_width p asked) verdict.Holds
     × (tells_everywhere p asked ≡ false)
 IsJudgement p asked judgement.Everywhere =
@@ -101,9 +118,9 @@ IsJudgement p asked judgement.Everywhere =
     × IsVerdict (content_at p) p.types (asked_width p asked) verdict.Holds
     × KeepsEverywhere p
 IsJudgement p asked (judgement.Empty v) =
-    (v ≡ asked_width p asked) × IsVerdict (content_at p) p.types (asked_width p asked) verdict.Empty
+    (v ≡ told_width p (asked_width p asked)) × IsVerdict (content_at p) p.types (asked_width p asked) verdict.Empty
 IsJudgement p asked (judgement.Fails c) =
-    (c.width ≡ width_told (asked_width p asked) c.widths.items)
+    (c.width ≡ width_told p c.widths.items)
     × IsVerdict (content_at p) p.types (asked_width p asked) (verdict.Fails c.widths c.values)
     × IsFirst (content_at p) p.types (asked_width p asked) (verdict.Fails c.widths c.values)
     × IsShown (content_at p c.widths.items) c

@@ -12,7 +12,7 @@ use Rattle.patterns_book.specs.Shapes.{Shape}
 use Rattle.patterns_judged.specs.declared.judgement.Counterexample.{Counterexample}
 use Rattle.patterns_judged.specs.declared.judgement.Judgement.{Judgement}
 use Rattle.patterns_judged.specs.declared.judgement.Judgement.TheVariants as judgement
-use Rattle.patterns_judged.specs.Judged.{IsShown, width_told}
+use Rattle.patterns_judged.specs.Judged.{IsShown, told_width, width_told}
 use Rattle.patterns_judged.specs.Values.{values_of}
 
 -- ---- what is tried
@@ -76,12 +76,12 @@ pub record IsRefuted (p : Shape) (w : ℕ) (c : Counterexample) : Type 0 where
       × (first_refuting p w ≡ Some numbers)
       × (c.widths.items ≡ widths_tried p w numbers)
       × (c.values.items ≡ values_tried p w numbers)
-  pub width : c.width ≡ width_told w c.widths.items
+  pub width : c.width ≡ width_told p c.widths.items
   pub broken : keeps (content_at p c.widths.items) c.values.items ≡ false
   pub shown : IsShown (content_at p c.widths.items) c
 
 abbrev pub IsSampled : Shape → ℕ → Judgement → Type 0
-IsSampled p w (judgement.Unrefuted v) = IsTried p w × (v ≡ w) × (first_refuting p w ≡ None)
+IsSampled p w (judgement.Unrefuted v) = IsTried p w × (v ≡ told_width p w) × (first_refuting p w ≡ None)
 IsSampled p w (judgement.Fails c) = IsTried p w × IsRefuted p w c
 IsSampled p w _ = ⊥
 

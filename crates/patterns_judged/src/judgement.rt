@@ -7,7 +7,7 @@ use ir_types::bits::Bits;
 /// The first values for which a pattern doesn't keep what is there, and what it computes of them.
 #[derive(Drop)]
 pub struct Counterexample {
-    /// The greatest of the widths, or the one that was asked where there is no type variable.
+    /// The greatest of the widths, or the width of the widest type where there is no type variable.
     pub width: u32,
     /// The widths of type variables, and the values of variables.
     pub widths: Vec<u32>,
@@ -20,6 +20,8 @@ pub struct Counterexample {
 }
 
 /// What comes of trying a pattern.
+///
+/// The number is a width: the one up to which type variables were tried, or that of the widest type where there is none.
 #[derive(Drop)]
 pub enum Judgement {
     /// It gives what was there, for all values at all widths up to this one.

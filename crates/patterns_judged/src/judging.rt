@@ -4,7 +4,7 @@ ghost use Rattle.patterns_check.specs.declared.verdict.Verdict.TheVariants as ve
 ghost use Rattle.patterns_check.specs.Families.{IsFirst, IsVerdict};
 ghost use Rattle.patterns_book.specs.Fitting.{content_at};
 ghost use Rattle.patterns_book.specs.Shapes.{shape};
-ghost use Rattle.patterns_judged.specs.Judged.{IsJudgement, IsRefused, IsShown, asked_width, most_asked, tells_everywhere, width_told};
+ghost use Rattle.patterns_judged.specs.Judged.{IsJudgement, IsRefused, IsShown, asked_width, most_asked, tells_everywhere, told_width, width_told};
 
 use crate::judgement::{Counterexample, Judgement};
 use crate::tracing::{new_shown, old_shown, values_shown};
@@ -25,20 +25,19 @@ const MOST_ASKED: u64 = 64;
 pub(crate) fn counterexample(
     alloc: Global,
     pattern: &Pattern,
-    most: u32,
     widths: Vec<u32>,
     values: Vec<u128>,
 ) -> Result<Counterexample, AllocError>
     ensures widths { IfOk result (λ c. c.widths ≡ widths) }
     ensures values { IfOk result (λ c. c.values ≡ values) }
-    ensures width { IfOk result (λ c. c.width ≡ width_told most widths.items) }
+    ensures width { IfOk result (λ c. c.width ≡ width_told (shape pattern.now) widths.items) }
     ensures shown { IfOk result (λ c. IsShown (content_at (shape pattern.now) widths.items) c) }
 {
     let sides = pattern.sides(alloc, &widths)?;
     let shown = values_shown(alloc, &sides, &values)?;
     let old = old_shown(alloc, &sides, &values)?;
     let new = new_shown(alloc, &sides, &values)?;
-    let width = widths::width_told(most, &widths);
+    let width = widths::width_told(pattern, &widths);
     Ok(Counterexample {
         width,
         widths,
@@ -79,7 +78,7 @@ fn held(
     holds_everywhere();
     match tells_everywhere(alloc, pattern, asked) {
         Ok(true) => Ok(Judgement::Everywhere),
-        Ok(false) => Ok(Judgement::Holds(most)),
+        Ok(false) => Ok(Judgement::Holds(widths::told_width(pattern, most))),
         Err(_) => Err(Refusal::Memory),
     }
 }
@@ -101,10 +100,8 @@ fn told(
 {
     match verdict {
         Verdict::Holds => held(alloc, pattern, asked, most),
-        Verdict::Empty => Ok(Judgement::Empty(most)),
-        Verdict::Fails(widths, values) => match counterexample(
-            alloc, pattern, most, widths, values,
-        ) {
+        Verdict::Empty => Ok(Judgement::Empty(widths::told_width(pattern, most))),
+        Verdict::Fails(widths, values) => match counterexample(alloc, pattern, widths, values) {
             Ok(found) => Ok(Judgement::Fails(found)),
             Err(_) => Err(Refusal::Memory),
         },

@@ -6,6 +6,7 @@ ghost use Rattle.patterns_judged.specs.Sampled.{IsNotSampled, IsRefuted, IsSampl
 use crate::judgement::{Counterexample, Judgement};
 use crate::judging::counterexample;
 use crate::values::values_of;
+use crate::widths::told_width;
 use exhaustive::claim::Claim;
 use exhaustive::search;
 use ir_types::refusal::Refusal;
@@ -139,7 +140,7 @@ fn refuted(
     let widths = widths_tried(alloc, pattern, width, numbers)?;
     let sides = pattern.sides(alloc, &widths)?;
     let values = values_of(alloc, case_tried(pattern, numbers), &sides.kinds)?;
-    counterexample(alloc, pattern, width, widths, values)
+    counterexample(alloc, pattern, widths, values)
 }
 
 /// What comes of trying a pattern.
@@ -148,7 +149,7 @@ fn tried(alloc: Global, pattern: &Pattern, width: u32) -> Result<Judgement, Allo
     ensures { IfOk result (IsSampled (shape pattern.now) width) }
 {
     match first_refuting(alloc, pattern, width)? {
-        None => Ok(Judgement::Unrefuted(width)),
+        None => Ok(Judgement::Unrefuted(told_width(pattern, width))),
         Some(numbers) => {
             let found = refuted(alloc, pattern, width, &numbers)?;
             Ok(Judgement::Fails(found))

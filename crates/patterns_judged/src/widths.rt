@@ -2,10 +2,10 @@
 ghost use Rattle.std.specs.Prelude.{◌≡◌, IfOk, map, nat_le, replicate, sum};
 ghost use Rattle.ir_types.specs.Bits.{width_of};
 ghost use Rattle.patterns_book.specs.Shapes.{shape};
-ghost use Rattle.patterns_judged.specs.Judged.{asked_width, default_width, greatest, is_small, width_told};
+ghost use Rattle.patterns_judged.specs.Judged.{asked_width, default_width, greatest, is_small, told_width, type_width, widest_type, width_told};
 
 use ir_types::bits::{BitsKind, width};
-use patterns_book::pattern::Pattern;
+use patterns_book::pattern::{Kind, Pattern};
 use patterns_check::family::Family;
 use std::alloc::{AllocError, Global};
 
@@ -99,12 +99,51 @@ fn greatest(widths: &[u32]) -> u32
     most
 }
 
-/// The width that is told of widths.
-pub(crate) fn width_told(most: u32, widths: &[u32]) -> u32
-    ensures { result ≡ width_told most widths.now }
+fn type_width(kind: Kind) -> u32
+    ensures { result ≡ type_width kind }
+{
+    match kind {
+        Kind::Fixed(kind) => width(kind),
+        Kind::Variable(_) => 0,
+    }
+}
+
+/// The width of the widest of types, of which none is variable.
+#[tactic(auto, unfolding(crate::specs::Judged::widest_type))]
+fn widest_type(kinds: &[Kind]) -> u32
+    ensures { result ≡ widest_type kinds.now }
+{
+    let mut most = 0;
+    let mut rest = kinds;
+    'kinds: while let [kind, tail @ ..] = rest {
+        let width = type_width(*kind);
+        if width > most {
+            most = width;
+        }
+        rest = tail;
+    }
+    most
+}
+
+/// The number that is told where no counterexample was found: the width up to which type variables were tried, or the
+/// width of the widest type where there is none.
+pub(crate) fn told_width(pattern: &Pattern, most: u32) -> u32
+    ensures { result ≡ told_width (shape pattern.now) most }
+{
+    if pattern.types == 0 {
+        widest_type(&pattern.kinds)
+    } else {
+        most
+    }
+}
+
+/// The number of a counterexample: the greatest of the widths of type variables, or the width of the widest type where
+/// there is none.
+pub(crate) fn width_told(pattern: &Pattern, widths: &[u32]) -> u32
+    ensures { result ≡ width_told (shape pattern.now) widths.now }
 {
     if widths.is_empty() {
-        most
+        widest_type(&pattern.kinds)
     } else {
         greatest(widths)
     }

@@ -1,7 +1,4 @@
-use Rattle.std.proofs.Common.{sym, ap, map, List, false, ◌∙◌}
-use Rattle.patterns_formed_base.specs.declared.names.Variable.{Variable}
-use Rattle.patterns_formed_base.specs.Names.{place_of}
-use Rattle.patterns_formed_base.specs.Views.{variable_views}
+use Rattle.std.proofs.Common.{sym, map}
 use Rattle.patterns_text.specs.Parts.{part_view}
 use Rattle.patterns_formed.specs.Forming.{number_at}
 use Rattle.patterns_formed.specs.FormingViews.{forming_view, places_view}
@@ -39,15 +36,15 @@ function-returns t c =
 
 pub number-returns-in-Ok : goal.number-returns-in-Ok
 number-returns-in-Ok t c =
-    literal_found (places_view c.args.places.now) c.args.slot (forming_view c.args.forming.now) c.args.depth c.args.parts.now _ c.if-depth-eq0.false c.in-len1-up.len_at_least c.in-Literal.negative c.in-Literal.magnitude c.literal_number.result (_, _) c.in-Literal.is c.literal_number.ensures c.in-Ok.ensures
+    literal_found (places_view c.args.places.now) c.args.slot (forming_view c.args.forming.now) c.args.depth c.args.parts.now _ c.if-depth-eq0.false c.in-len1-up.len_at_least c.in-Literal.negative c.in-Literal.magnitude (_, _) c.in-Literal.is c.in-Ok.ensures
 
-pub number-returns-in-Ok-of_name : goal.number-returns-in-Ok-of_name
-number-returns-in-Ok-of_name t c =
-    name_found (places_view c.args.places.now) c.args.slot (forming_view c.args.forming.now) c.args.depth c.args.parts.now _ c.if-depth-eq0.false c.in-len1-up.len_at_least c.in-Name.name c.place_of-place.result c.in-Name.is (c.place_of-place.ensures ∙ ap (λ (vs : List Variable). place_of false c.in-Name.name.now (variable_views vs)) c.deref.ensures.value) (_, _) c.in-Ok-of_name.ensures
+pub number-returns-in-Ok-of_word : goal.number-returns-in-Ok-of_word
+number-returns-in-Ok-of_word t c =
+    name_found (places_view c.args.places.now) c.args.slot (forming_view c.args.forming.now) c.args.depth c.args.parts.now _ c.if-depth-eq0.false c.in-len1-up.len_at_least c.in-Name.name c.in-Name.is (_, _) c.in-Ok-of_word.ensures
 
-pub number-returns-in-Err-of_name : goal.number-returns-in-Err-of_name
-number-returns-in-Err-of_name t c =
-    name_refused (places_view c.args.places.now) c.args.slot (forming_view c.args.forming.now) c.args.depth c.args.parts.now _ c.if-depth-eq0.false c.in-len1-up.len_at_least c.in-Name.name c.place_of-place.result c.in-Name.is (c.place_of-place.ensures ∙ ap (λ (vs : List Variable). place_of false c.in-Name.name.now (variable_views vs)) c.deref.ensures.value) c.in-Err-of_name.e c.in-Err-of_name.ensures
+pub number-returns-in-Err-of_word : goal.number-returns-in-Err-of_word
+number-returns-in-Err-of_word t c =
+    name_refused (places_view c.args.places.now) c.args.slot (forming_view c.args.forming.now) c.args.depth c.args.parts.now _ c.if-depth-eq0.false c.in-len1-up.len_at_least c.in-Name.name c.in-Name.is c.in-Err-of_word.e c.in-Err-of_word.ensures
 
 pub number-returns-in-Function : goal.number-returns-in-Function
 number-returns-in-Function t c =

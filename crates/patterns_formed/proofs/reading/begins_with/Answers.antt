@@ -14,6 +14,7 @@ returns c =
       c.new-8.ensures.items,
       c.new-9.ensures.items,
       c.new-10.ensures.items,
+      c.new-11.ensures.items,
       c.in-Ok-variable_kinds.ensures,
       c.deref.ensures.value,
       c.in-Ok.ensures,

@@ -10,5 +10,5 @@ returns-in-Ok-true-clause-ok c =
 
 pub returns-in-Ok-false-clause-ok : goal.returns-in-Ok-false-clause-ok
 returns-in-Ok-false-clause-ok c =
-    holds_told (shape c.args.pattern.now) c.args.asked c.args.most c.requires.most c.requires.holds
+    holds_told (shape c.args.pattern.now) c.args.asked c.args.most c.requires.most _ c.told_width.ensures c.requires.holds
     (sym c.in-Ok-false.ensures ∙ c.in-Ok-false.field-0-test)

@@ -14,5 +14,5 @@ returns-in-Ok-clause-ok c =
     let values = sym c.in-Ok.ensures.values in
     fails_told p c.args.asked c.args.most c.requires.most c.args.verdict found (c.in-Fails.is ∙ (λ i. verdict.Fails (widths i) (values i)))
     c.requires.verdict c.requires.first
-    (c.in-Ok.ensures.width ∙ ap (λ us. width_told c.args.most us.items) widths)
+    (c.in-Ok.ensures.width ∙ ap (λ us. width_told p us.items) widths)
     (subst (λ us. IsShown (content_at p us.items) found) widths c.in-Ok.ensures.shown)
