@@ -157,7 +157,9 @@ def fail(rule, module, found, arguments, old, new):
 def compared(rule, module, found, tried):
     for arguments in tried:
         old = evaluator.outcome(module, b"f", arguments)
-        new = evaluator.outcome(found, b"f", arguments, evaluator.MORE_FUEL) if old else None
+        if old.end is not evaluator.End.DEFINED or old.is_unsure:
+            continue
+        new = evaluator.outcome(found, b"f", arguments, evaluator.MORE_FUEL)
         if not evaluator.agrees(old, new):
             fail(rule, module, found, arguments, old, new)
 
