@@ -208,7 +208,7 @@ class Inputs:
         ty = self.types[place]
         if self.evaluator.is_number(ty):
             return self.number_at(place)
-        return self.memory_at(place) if self.memories.is_modelled(ty) else self.running.Token(f"%arg{place}")
+        return self.memory_at(place) if self.memories.is_modelled(ty) else self.running.Token(place)
 
     # Inputs.
 

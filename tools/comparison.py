@@ -81,8 +81,10 @@ def value_text(value, ty):
         return "poison"
     if isinstance(value, it.memories.Buffer):
         return f"the memory of %arg{value.place}" if value.place is not None else "new memory"
-    if not isinstance(value, int):
-        return value.text() if isinstance(value, compared_inputs.Memory) else value.text
+    if isinstance(value, compared_inputs.Memory):
+        return value.text()
+    if isinstance(value, it.running.Token):
+        return f"any value of {it.printing.type_text(ty)}"
     width = it.evaluator.bits(ty)
     if width == 1:
         return "true" if value else "false"
@@ -236,7 +238,7 @@ class Pair:
             return "its only input"
         if self.inputs.are_all and self.count["whole"]:
             return f"all {self.inputs.number:,} inputs"
-        cut = "" if self.count["whole"] else ", after which the runs took too long"
+        cut = "" if self.count["whole"] else " (more would take too long)"
         return f"{self.shown():,}{self.inputs.many()} inputs{cut}"
 
 
@@ -310,9 +312,8 @@ def summary(found, number, is_interrupted=False):
     """The line that sums up the verdicts on a number of functions."""
     counts = [(sum(it is verdict for it in found), verdict.value) for verdict in Verdict]
     parts = [f"{count} {'differ' if word == 'differs' and count > 1 else word}" for count, word in counts if count]
-    if is_interrupted:
-        parts.append(f"interrupted before {number - len(found)}")
-    return f"of {number} function{'s' * (number != 1)}: {', '.join(parts)}"
+    text = f"of {number} function{'s' * (number != 1)}: {', '.join(parts) or 'none compared'}"
+    return text + f"; interrupted with {number - len(found)} to go" * is_interrupted
 
 
 def status_of(found):
@@ -331,8 +332,8 @@ def run(given):
         sys.setrecursionlimit(max(frames, reference().running.FRAMES))
         for name in names:
             verdict, lines = comparison.compared(name)
-            print(*lines, sep="\n", flush=True)
             found.append(verdict)
+            print(*lines, sep="\n", flush=True)
         if all(it is Verdict.LEFT_OUT for it in found):
             raise Unfit("no function can be compared")
     except Unfit as fault:

@@ -71,10 +71,10 @@ def has_body(function):
 
 
 class Token:
-    """A value of a type that isn't modelled: it is handed on, and nothing is computed of it."""
+    """The value of an argument whose type isn't modelled: it is handed on, and nothing is computed of it."""
 
-    def __init__(self, text):
-        self.text = text
+    def __init__(self, place):
+        self.place = place
 
 
 class Runner(evaluator.Machine):
@@ -179,7 +179,7 @@ class Comparison:
         if isinstance(old, memories.Buffer):
             return self.buffer(old, new)
         if isinstance(old, Token):
-            return Finding.REFINES if old.text == new.text else Finding.UNKNOWN
+            return Finding.REFINES if old.place == new.place else Finding.UNKNOWN
         return Finding.REFINES if old == new else Finding.DIFFERS
 
     def buffer(self, old, new):
