@@ -12,6 +12,8 @@ FEW_BITS = 10
 SIZES = [0, 1, 2, 3, 4, 5, 8, 17]
 # So many inputs have poison in one argument, for each argument.
 POISONED = 12
+# So many inputs near 0 come first, so that most counterexamples are small; their memory has one of these sizes.
+PLAIN, PLAIN_SIZES = 32, [2, 3, 4, 8]
 SHOWN = 8
 
 
@@ -192,30 +194,30 @@ class Inputs:
                     + self.chance.randrange(-2, 3)) % 2 ** bits
         return self.chance.getrandbits(bits)
 
-    def memory_at(self, place):
-        """Random memory."""
+    def memory_at(self, place, contents):
+        """Random memory, with contents of some kind or of any."""
         _, shape, element = self.types[place]
         bits = self.evaluator.bits(element)
         near = list(NEAR) if self.is_bound(place) else [*NEAR, *self.constants]
-        contents = self.chance.choice(list(Contents))
+        is_any, contents = contents is None, contents or self.chance.choice(list(Contents))
         if self.is_bound(place) and contents is Contents.RANDOM:
             contents = Contents.PLACES
-        return Memory([self.chance.choice(SIZES) if it is None else it for it in shape], contents, bits,
-                      self.chance.getrandbits(32), [it % 2 ** bits for it in near])
+        sizes = [self.chance.choice(SIZES if is_any else PLAIN_SIZES) if it is None else it for it in shape]
+        return Memory(sizes, contents, bits, self.chance.getrandbits(32), [it % 2 ** bits for it in near])
 
-    def value_at(self, place):
+    def value_at(self, place, contents):
         """A random value of an argument."""
         ty = self.types[place]
         if self.evaluator.is_number(ty):
             return self.number_at(place)
-        return self.memory_at(place) if self.memories.is_modelled(ty) else self.running.Token(place)
+        return self.memory_at(place, contents) if self.memories.is_modelled(ty) else self.running.Token(place)
 
     # Inputs.
 
-    def row(self, fixed=()):
+    def row(self, fixed=(), contents=None):
         """An input with some values of it fixed, and with memory that two arguments of one type may share."""
         fixed = dict(fixed)
-        row = [fixed[place] if place in fixed else self.value_at(place) for place in range(len(self.types))]
+        row = [fixed[place] if place in fixed else self.value_at(place, contents) for place in range(len(self.types))]
         for place, earlier in itertools.combinations(range(len(row)), 2):
             one, two = row[place], row[earlier]
             if (isinstance(one, Memory) and isinstance(two, Memory) and self.types[place] == self.types[earlier]
@@ -224,11 +226,11 @@ class Inputs:
         return tuple(row)
 
     def near_zero(self):
-        """All inputs of numbers near 0, as far from it as leaves few enough."""
+        """All inputs of numbers near 0, as far from it as leaves few enough; with 1, 2, 3 and so on in memory."""
         places = [place for place, ty in enumerate(self.types) if self.evaluator.is_number(ty)]
         most = next((it for it in (4, 3, 2, 1) if (2 * it + 1) ** len(places) <= MOST_SMALL), 0)
         each = [self.small(place, most) for place in places]
-        return [self.row(zip(places, numbers)) for numbers in itertools.product(*each)]
+        return [self.row(zip(places, numbers), Contents.PLACES) for numbers in itertools.product(*each)]
 
     def of_constants(self):
         """Inputs for each argument and each number near a constant, and with one such number in all arguments."""
@@ -246,13 +248,14 @@ class Inputs:
         return found + [self.row(dict.fromkeys(places))] * bool(places)
 
     def tried(self):
-        """The inputs; those of each kind take turns."""
+        """The inputs: a few plain ones, and then those of each kind in turn."""
         if self.are_all:
             ranges = ([*range(2 ** self.evaluator.bits(ty)), None] for ty in self.types)
             return list(itertools.product(*ranges))
-        kinds = [self.near_zero(), self.of_constants(), self.poisoned(), [self.row() for _ in range(self.count)]]
+        near = self.near_zero()
+        kinds = [near[PLAIN:], self.of_constants(), self.poisoned(), [self.row() for _ in range(self.count)]]
         rows = [it for turn in itertools.zip_longest(*kinds) for it in turn if it is not None]
-        return list(dict.fromkeys(rows))
+        return list(dict.fromkeys(near[:PLAIN] + rows))
 
 
 def arguments_of(reference, row):
