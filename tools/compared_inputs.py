@@ -5,8 +5,9 @@ import random
 
 # All inputs are tried if there are at most so many of them; of more, at most so many of small numbers.
 MOST, MOST_SMALL = 70000, 729
-# So many numbers are taken from constants, and numbers that bound a loop are no larger than this.
-MOST_CONSTANTS, MOST_BOUND, NEAR = 300, 1024, range(-2, 18)
+# So many constants are tried, on so many inputs; and numbers that bound a loop are no larger than this.
+MOST_CONSTANTS, MOST_OF_CONSTANTS = 300, 6000
+MOST_BOUND, NEAR = 1024, range(-2, 18)
 # Loops over so few bits end soon, whatever their bounds are.
 FEW_BITS = 10
 SIZES = [0, 1, 2, 3, 4, 5, 8, 17]
@@ -233,7 +234,13 @@ class Inputs:
         return [self.row(zip(places, numbers), Contents.PLACES) for numbers in itertools.product(*each)]
 
     def of_constants(self):
-        """Inputs for each argument and each number near a constant, and with one such number in all arguments."""
+        """Inputs for each argument and each number near a constant, and with one such number in all arguments. If that
+        makes too many inputs each of these has such a number in each argument."""
+        counts = list(map(len, self.specials))
+        if 2 * sum(counts) > MOST_OF_CONSTANTS:
+            return [self.row({place: numbers[(turn + place) % len(numbers)]
+                              for place, numbers in enumerate(self.specials) if numbers})
+                    for turn in range(max(counts))]
         found = []
         for place in range(len(self.types)):
             for number in self.specials[place]:

@@ -1,6 +1,6 @@
 """Compares two modules by running their functions on the same inputs: the second function must refine the first, so it
-has its results and its memory wherever those aren't poison, and no undefined behaviour that the first doesn't have. That
-is a proof only if all inputs were tried."""
+has its results and its memory wherever those aren't poison, and no undefined behaviour that the first doesn't have.
+That is a proof only if all inputs were tried."""
 import argparse
 import collections
 import enum
@@ -223,14 +223,19 @@ class Pair:
         if not self.count["agree"]:
             return Verdict.UNKNOWN, [f"{self.name}: unknown: {self.names[0]} is undefined, or gives poison, on "
                                      f"{self.tried_text()}"]
-        notes = [f"; {self.names[0]} is undefined on {self.count['undefined']:,} of them, which show nothing"
-                 * bool(self.count["undefined"])]
+        return Verdict.SAME, [f"{self.name}: same on {self.tried_text()}", *self.notes()]
+
+    def notes(self):
+        """What `same` doesn't speak of."""
+        notes = []
+        if self.count["undefined"]:
+            notes.append(f"  {self.names[0]} is undefined on {self.count['undefined']:,} of them, which show nothing")
         if [ty[0] for ty in self.takes].count("memref") > 1:
-            notes.append("; two memrefs share all their memory or none")
+            notes.append("  two memrefs share all their memory or none")
         bounds = [f"%arg{place}" for place in range(len(self.takes)) if self.inputs.is_bound(place)]
         if bounds and not self.inputs.are_all:
-            notes.append(f"; {', '.join(bounds)} only small, as bounds of loops")
-        return Verdict.SAME, [f"{self.name}: same on {self.tried_text()}{''.join(notes)}"]
+            notes.append(f"  only small numbers in {', '.join(bounds)}, for loops")
+        return notes
 
     def tried_text(self):
         """Which inputs were tried."""

@@ -4,9 +4,9 @@ nothing with it (bench/compare/compare_programs.py) and by running the pairs wit
 
 usage: bench/compare/compare_pairs.py [COUNT [SEED]] [--quick]
 
-Half of COUNT pairs (200 where it isn't given) are equal by construction; in the other half a function is mutated:
-swapped operands, a changed constant, an added flag, a division that is hoisted out of a branch or a loop, a loop's bound
-that is off by one, a removed store. A verdict is wrong if it says
+Half of COUNT pairs (by default 200) are equal by construction. In the other half a function is mutated: swapped
+operands, a changed constant, an added flag, a division that is hoisted out of a branch or a loop, a loop's bound that
+is off by one, a removed store. A verdict is wrong if it says
 
 - `same`, and the evaluator or the processor has an input on which the second function doesn't refine the first;
 - `differs`, and on the input that it shows the second function does.

@@ -1,6 +1,7 @@
 #!/usr/bin/env python3
 """Tries rewrite rules against values: modules are run before and after a rule by an evaluator of their own
-(bench/reference/evaluator.py), and what was defined before has to come out the same.
+(bench/reference/evaluator.py), and what was defined before has to come out the same. Inputs on which poison or the
+least value is divided by -1 are left out.
 
 usage: bench/compare/rule_values.py [PROGRAM [COUNT [SEED]]]
 

@@ -2,11 +2,12 @@
 
 The evaluator shares nothing with the folds and the rules: arithmetic is written here a second time, from the documents
 of the dialects. A value is a number below 2^w, or None for poison. Poison is the result of a shift by the width or
-more, of an operation that breaks one of its flags, and of nearly every operation on poison. Undefined behaviour stops a
-run: a division by 0, by poison, or of the least value by -1, and a branch or a loop bound that is poison. The remainder
-of the least value by -1 is 0.
+more, of an operation that breaks one of its flags, and of nearly every operation on poison. Undefined behaviour stops
+a run: a division by 0, by poison, or of the least value by -1, and a branch or a loop bound that is poison. The
+remainder of the least value by -1 is 0.
 
-A function is compiled to closures once, and then run on a list of values: an operation takes less than a microsecond."""
+A function is compiled to closures once, and then run on a list of values: an operation takes less than a
+microsecond."""
 import enum
 import operator
 import zlib

@@ -39,7 +39,9 @@ LOAD = '%r = "memref.load"(%a, %b) : (memref<4xi4>, index) -> i4\n'
 STORE = '"memref.store"({}, %a, %b) : (i4, memref<4xi4>, index) -> ()\n'
 ONE = '%one = "arith.constant"() <{value = 1 : i4}> : () -> i4\n'
 FOUR = '%four = "arith.constant"() <{value = 4 : i4}> : () -> i4\n'
-DECLARED = '"func.func"() <{function_type = (i4, i4) -> i4, sym_name = "f", sym_visibility = "private"}> ({}) : () -> ()\n'
+DECLARED = """"func.func"() <{function_type = (i4, i4) -> i4, sym_name = "f", sym_visibility = "private"}> ({
+}) : () -> ()
+"""
 USE = '"test.use"({}) : (i4) -> ()\n'
 # A quotient if there is one, or else 0.
 QUOTIENT = '''%zero = "arith.constant"() <{value = 0 : i4}> : () -> i4
@@ -77,7 +79,8 @@ DIFFERENT = {
     "a public function removed": (binary("addi", "%a, %b") + CALLED.replace(PRIVATE, ""), binary("addi", "%a, %b")),
 }
 UNKNOWN = {
-    "an operation that isn't listed": (function(USE.format("%a") + ends("%a")), function(USE.format("%a") + ends("%a"))),
+    "an operation that isn't listed": (function(USE.format("%a") + ends("%a")),
+                                       function(USE.format("%a") + ends("%a"))),
     "operations that aren't listed, swapped": (function(USE.format("%a") + USE.format("%b") + ends("%a")),
                                                function(USE.format("%b") + USE.format("%a") + ends("%a"))),
     "poison on every input": (function(f'{FOUR}%r = "arith.shli"(%a, %four) : (i4, i4) -> i4\n{ends()}'),
@@ -138,7 +141,7 @@ class Compared(unittest.TestCase):
         self.assertEqual(compared(*SAME["operands of a sum swapped"])[1],
                          "@f: same on all 289 inputs\nof 1 function: 1 same\n")
         self.assertRegex(compared(*SAME["sampled"], "--inputs", "50")[1], "same on 1[0-9][0-9] of over 2.128 inputs\n")
-        self.assertIn("all 289 inputs; before is undefined on 34 of them, which show nothing\n",
+        self.assertIn("all 289 inputs\n  before is undefined on 34 of them, which show nothing\n",
                       compared(*SAME["a division guarded"])[1])
         self.assertIn("@g: not compared: only in before, and private\nof 2 functions: 1 same, 1 not compared\n",
                       compared(*SAME["a call inlined"])[1])
