@@ -19,8 +19,8 @@ SHOWN = 8
 
 
 class Use(enum.Enum):
-    """What an argument decides: the bounds of a loop, an index or a size, or neither."""
-    BOUND, INDEX, OTHER = range(3)
+    """What an argument decides, if it does: the bounds of a loop, or an index or a size."""
+    BOUND, INDEX = range(2)
 
 
 class Contents(enum.Enum):

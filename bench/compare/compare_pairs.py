@@ -40,7 +40,7 @@ OPT, RUNNER = "mlir-opt-22", "mlir-runner-22"
 LIBRARY = "/usr/lib/llvm-22/lib/libmlir_c_runner_utils.so"
 LOWERING = ["--arith-expand", "--convert-scf-to-cf", "--finalize-memref-to-llvm", "--convert-arith-to-llvm",
             "--convert-func-to-llvm", "--convert-cf-to-llvm", "--reconcile-unrealized-casts"]
-TRIED, EXECUTED, MOST_TRIES = 400, 12, 200
+TRIED, EXECUTED = 400, 12
 
 
 class Misfit(Exception):

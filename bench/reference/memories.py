@@ -2,7 +2,7 @@
 
 An access out of bounds, through poison, or after the buffer was freed is undefined behaviour. An element that nothing
 wrote is poison. Buffers never overlap in part: two memrefs have one buffer or two."""
-from .evaluator import Undefined, Unmodelled, bits, is_number
+from .evaluator import Undefined, Unmodelled, is_number
 
 # An allocation of more elements than this isn't modelled, since it may fail; a copy of more isn't made.
 MOST_ELEMENTS, MOST_COPIED = 1 << 32, 1 << 16
@@ -162,8 +162,3 @@ def copy(_op, _ty, operands, _results):
             raise Unmodelled("a memref.copy of many elements")
         target.cells.update({at: source.element(at) for at in range(source.count())})
     return run
-
-
-def width(ty):
-    """The width of a memref's elements."""
-    return bits(ty[2])
