@@ -15,8 +15,10 @@ import program
 EPILOG = """Functions are compared by their names. The status is 0 if all are the same on what was tried, 1 if one
 differs, 3 if none differs and one is unknown, 2 if the command line is wrong or nothing can be compared, and 130 after
 Ctrl-C."""
-# A run may take so many steps; first runs of fewer are looked for; and all runs of a function take about so many.
-STEPS, FEW_STEPS, MOST_STEPS = 10_000_000, 20_000, 10_000_000
+# A run may take so many steps, and all runs of a function together about so many.
+STEPS, MOST_STEPS = 10_000_000, 10_000_000
+# Inputs that need more steps than this wait for the others, and no more inputs are tried once so many wait.
+FEW_STEPS, MOST_WAITING = 2_000, 300
 
 
 class Unfit(Exception):
@@ -198,7 +200,7 @@ class Pair:
         for row in self.inputs.tried():
             if not self.tried(row, min(FEW_STEPS, self.steps)):
                 waiting.append(row)
-            if self.difference or self.is_ended or self.used > MOST_STEPS:
+            if self.difference or self.is_ended or self.used > MOST_STEPS or len(waiting) == MOST_WAITING:
                 break
         else:
             self.count["whole"] = 1
