@@ -336,7 +336,14 @@ class Case:
             return "" if wrong is None else f"the evaluator refutes `same` on {wrong}"
         if self.verdict == "differs" and refines(self.before, self.after, self.shown()[0]):
             return f"the evaluator refutes `differs` on {self.shown()[0]}"
+        if self.verdict == "differs" and self.given() != ran(self.before, self.shown()[0])[0][:len(self.given())]:
+            return f"on {self.shown()[0]} the evaluator has other results than {self.given()}"
         return "" if self.verdict in ("differs", "unknown") else f"{self.verdict}: {self.said}"
+
+    def given(self):
+        """The results of the first function on the input that `compare` shows."""
+        line = self.said.partition("/before gives\n")[2].partition("\n")[0]
+        return [POISON if it == "poison" else int(it.partition(" :")[0]) for it in line.strip().split(", ")]
 
     def is_plain(self, row):
         """Whether the processor may run both functions on an input, and compare all that comes out."""
