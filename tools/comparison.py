@@ -1,122 +1,262 @@
-"""Compares two modules by running their functions on numbers, as bench/reference/running.py says: for each input for
-which the first says what happens the second has to give the same. That isn't a proof, unless all inputs were tried."""
-import itertools
-import random
-import re
+"""Compares two modules by running their functions on the same inputs: the second function must refine the first, so it
+has its results and its memory wherever those aren't poison, and no undefined behaviour that the first doesn't have.
+That is a proof only if all inputs were tried."""
+import argparse
+import collections
+import enum
 import sys
+import types
 
+import compared_inputs
+import explain
 import generic
 import program
 
-EPILOG = """Functions are compared by their names. The status is 0 where none differs on what was tried, 1 where one
-does, 2 where the command line is wrong or nothing can be compared."""
-# So many inputs at most are tried all; and of more, so many of small numbers.
-MOST = 4096
-# So many operations a run has at most, and all runs of a function together.
-FUEL, MOST_RUN = 1000, 300000
+EPILOG = """Functions are compared by their names. The status is 0 if all are the same on what was tried, 1 if one
+differs, 3 if none differs and one is unknown, 2 if the command line is wrong or nothing can be compared, and 130 after
+Ctrl-C."""
+# A run may take so many steps, and all runs of a function together about so many.
+STEPS, MOST_STEPS = 10_000_000, 10_000_000
+# Inputs that need more steps than this wait for the others, and no more inputs are tried once so many wait.
+FEW_STEPS, MOST_WAITING = 2_000, 300
 
 
 class Unfit(Exception):
     """Nothing can be compared; says why."""
 
 
+class Verdict(enum.Enum):
+    """What is found of a function."""
+    SAME, DIFFERS, UNKNOWN, LEFT_OUT = "same", "differs", "unknown", "not compared"
+
+
 def reference():
-    """The rules in Python, which stand beside the tools."""
+    """The rules in Python, which come with the tools."""
     place = str(program.ROOT / "bench")
     if place not in sys.path:
         sys.path.append(place)
-    from reference import evaluator, module, printing, running
-    return evaluator, module, printing, running
+    from reference import aliases, evaluator, memories, module, printing, rules, running
+    return types.SimpleNamespace(aliases=aliases, evaluator=evaluator, memories=memories, module=module,
+                                 printing=printing, rules=rules, running=running)
 
 
-def read(name):
+def module_of(name, text, reader):
+    """A module in generic form, or the lines that say why it is refused."""
+    it = reference()
+    try:
+        return it.module.read(text, reader), []
+    except it.rules.Refused as fault:
+        number, word, *at = it.printing.refusal(fault).split()
+        return None, explain.text_refused(name, text, number, word, at[1] if at else None)
+
+
+def read(name, is_opaque):
     """The module in a file, to be run."""
-    _, module, printing, running = reference()
+    it = reference()
     text, script, _ = program.inputs([name])
     if script:
-        raise Unfit(f"{name}: a script stands behind the module, which is not read here")
-    try:
-        found = module.read(text)
-    except module.rules.Refused as fault:
+        raise Unfit(f"{name}: there is a script after the module, which isn't read here")
+    reader = it.aliases.Reader if is_opaque else it.rules.Reader
+    found, why = module_of(name, text, reader)
+    if found is None:
         made, said = generic.tried(name, text)
         print(*said, sep="\n", end="\n" * bool(said), file=sys.stderr)
-        try:
-            found = module.read(made if made is not None else text)
-        except module.rules.Refused:
-            raise Unfit(f"{name}: the module is refused, {printing.refusal(fault)}") from None
-    made = running.Program(found)
+        if made is not None:
+            found, why = module_of(name, made, reader)
+    if found is None:
+        raise Unfit("\n".join(why))
+    try:
+        made = it.running.Program(found)
+    except it.running.Repeated as fault:
+        raise Unfit(f"{name}: two functions have the name {fault}") from None
     if made.faults():
         raise Unfit(f"{name}: a module that breaks a rule of the verifier isn't run: {made.faults()[0]}")
     return made
 
 
-class Inputs:
-    """What is tried of the types that a function takes."""
+# How inputs and outcomes are shown.
 
-    def __init__(self, types, count, seed):
-        evaluator, _, _, running = reference()
-        self.widths = [evaluator.bits(ty) for ty in types]
-        self.are_numbers = all(map(running.is_number, types))
-        self.count, self.chance = count, random.Random(seed)
-        self.number = 2 ** sum(self.widths)
-        self.are_all = self.are_numbers and self.number <= MOST
-
-    def small(self):
-        """All inputs of numbers near 0, as far from it as leaves few enough."""
-        width = len(self.widths)
-        most = next((it for it in (4, 3, 2, 1) if (2 * it + 1) ** width <= MOST), 0)
-        each = [sorted({it % 2 ** bits for it in range(-most, most + 1)}) for bits in self.widths]
-        return list(itertools.product(*each))
-
-    def by_chance(self, bits):
-        """A number by chance: any one, or one near a power of two."""
-        if self.chance.random() < 0.5:
-            return self.chance.getrandbits(bits)
-        near = self.chance.choice([1, -1]) * 2 ** self.chance.randrange(bits) + self.chance.randrange(-2, 3)
-        return near % 2 ** bits
-
-    def tried(self):
-        """The inputs, and how they are told; small ones and those by chance take turns."""
-        if self.are_all:
-            return list(itertools.product(*(range(2 ** bits) for bits in self.widths))), f"all {self.number:,} inputs"
-        small = self.small()
-        more = [tuple(map(self.by_chance, self.widths)) for _ in range(self.count)]
-        mixed = [it for pair in itertools.zip_longest(small, more) for it in pair if it is not None]
-        return mixed, f"{len(small):,} small and {len(more):,} random inputs of {self.many()}"
-
-    def many(self):
-        """How many inputs there are."""
-        return f"2^{sum(self.widths)}" if self.number > MOST else str(self.number)
-
-
-def number_text(number, ty):
-    """A number of a type."""
-    evaluator, _, printing, running = reference()
-    if number is None:
-        return "undefined"
-    if not running.is_number(ty):
-        return f"address {number}"
-    width = evaluator.bits(ty)
+def value_text(value, ty):
+    """A value of a type."""
+    it = reference()
+    if value is None:
+        return "poison"
+    if isinstance(value, it.memories.Buffer):
+        return f"the memory of %arg{value.place}" if value.place is not None else "new memory"
+    if isinstance(value, compared_inputs.Memory):
+        return value.text()
+    if isinstance(value, it.running.Token):
+        return f"any value of {it.printing.type_text(ty)}"
+    width = it.evaluator.bits(ty)
     if width == 1:
-        return "true" if number else "false"
-    return f"{evaluator.by_sign(number, width)} : {printing.type_text(ty)}"
+        return "true" if value else "false"
+    return f"{it.evaluator.by_sign(value, width)} : {it.printing.type_text(ty)}"
 
 
-def outcome_lines(outcome, types):
-    """What a run gave, and what was noted on the way."""
-    if outcome is None:
-        return ["  no end, or what the documents leave undefined"]
-    handed, trace = outcome
-    noted = [f"  met {name} of ({', '.join('undefined' if it is None else str(it) for it in numbers)})"
-             for name, numbers in trace]
-    return [*noted, "  " + (", ".join(map(number_text, handed, types)) if handed else "nothing")]
+def row_lines(row, takes):
+    """An input."""
+    return [f"  %arg{place} = {value_text(*it)}" for place, it in enumerate(zip(row, takes))] or ["  no arguments"]
+
+
+def memory_lines(buffers, takes):
+    """What a run wrote to the memory of its arguments."""
+    lines = []
+    for place, (buffer, ty) in enumerate(zip(buffers, takes)):
+        if not isinstance(buffer, reference().memories.Buffer) or buffer.place != place:
+            continue
+        if not buffer.is_live:
+            lines.append(f"  %arg{place} is freed")
+        for at in sorted(buffer.cells)[:compared_inputs.SHOWN]:
+            lines.append(f"  %arg{place}[{', '.join(map(str, indices(at, buffer.shape)))}] = "
+                         f"{value_text(buffer.cells[at], ty[2])}")
+    return lines
+
+
+def indices(at, shape):
+    """The indices of a place in row-major order."""
+    found = []
+    for size in reversed(shape):
+        at, index = divmod(at, size)
+        found.insert(0, index)
+    return found
+
+
+def outcome_lines(outcome, buffers, takes, gives):
+    """What a run gave."""
+    if outcome.end is not reference().evaluator.End.DEFINED:
+        return [f"  undefined behaviour: {outcome.reason}"]
+    handed = [", ".join(map(value_text, outcome.results, gives))] if outcome.results else []
+    return [f"  {it}" for it in handed] + memory_lines(buffers, takes) or ["  nothing"]
+
+
+class Pair:
+    """A function in both modules, and what was found of it."""
+
+    def __init__(self, comparison, name, functions):
+        self.name, self.names, self.functions, self.steps = name, comparison.names, functions, comparison.given.steps
+        self.it, self.runners = reference(), comparison.runners
+        self.takes, self.gives = self.it.running.types_of(functions[0])
+        sides = list(zip(comparison.programs, functions))
+        self.inputs = compared_inputs.Inputs(self.it, sides, self.takes, comparison.given.inputs, comparison.given.seed)
+        self.count = collections.Counter()
+        self.used, self.difference, self.doubt, self.is_ended = 0, [], None, False
+
+    def ran(self, side, row, steps):
+        """The outcome of one side on an input, and its arguments with what memory holds at the end."""
+        given = compared_inputs.arguments_of(self.it, row)
+        outcome, used = self.runners[side].outcome(self.functions[side], given, steps)
+        self.used += used
+        return outcome, given
+
+    def doubted(self, side, outcome, row):
+        """Notes the first input of which nothing is known, and why."""
+        word = "executes" if outcome.end is self.it.evaluator.End.UNMODELLED else "takes"
+        self.doubt = self.doubt or (f"{self.names[side]} {word} {outcome.reason}", row)
+        self.count["unknown"] += 1
+        return True
+
+    def tried(self, row, steps):
+        """Runs both sides on an input. False if a side needs more steps."""
+        end = self.it.evaluator.End
+        old, before = self.ran(0, row, steps)
+        if old.end is end.UNDEFINED:
+            self.count["undefined"] += 1
+            return True
+        new, after = self.ran(1, row, steps) if old.end is end.DEFINED else (None, ())
+        for side, outcome in enumerate((old, new)):
+            if outcome and outcome.end is end.ENDLESS:
+                if steps < self.steps:
+                    return False
+                self.is_ended = True
+            if outcome and outcome.end in (end.ENDLESS, end.UNMODELLED):
+                return self.doubted(side, outcome, row)
+        self.judge(row, (old, before), (new, after))
+        return True
+
+    def judge(self, row, one, two):
+        """Compares two outcomes, of which the first is defined and the second isn't unknown."""
+        (old, before), (new, after) = one, two
+        running, finding = self.it.running, self.it.running.Finding
+        found = finding.DIFFERS
+        if new.end is self.it.evaluator.End.DEFINED:
+            pairs = [it for it in zip(before, after) if isinstance(it[0], self.it.memories.Buffer)]
+            found = running.Comparison(old, new).finding(*zip(*pairs)) if pairs else (
+                running.Comparison(old, new).finding((), ()))
+        if found is finding.DIFFERS:
+            sides = [[f"{self.names[side]} gives", *outcome_lines(*it, self.takes, self.gives)]
+                     for side, it in ((0, one), (1, two))]
+            self.difference = [f"{self.name}: differs for", *row_lines(row, self.takes), *sides[0], *sides[1]]
+        elif found is finding.UNKNOWN:
+            self.doubt = self.doubt or ("a result that isn't a number can't be compared", row)
+            self.count["unknown"] += 1
+        else:
+            says = not old.results or any(it is not None for it in old.results) or any(
+                ty[0] == "memref" for ty in self.takes)
+            self.count["agree" if says else "poison"] += 1
+
+    def run(self):
+        """Tries the inputs: first with few steps each, and then those that need more."""
+        waiting = []
+        for row in self.inputs.tried():
+            if not self.tried(row, min(FEW_STEPS, self.steps)):
+                waiting.append(row)
+            if self.difference or self.is_ended or self.used > MOST_STEPS or len(waiting) == MOST_WAITING:
+                break
+        else:
+            self.count["whole"] = 1
+        for place, row in enumerate(waiting):
+            if self.difference or self.is_ended or place and self.used > MOST_STEPS:
+                self.count["whole"] = 0
+                break
+            self.tried(row, self.steps)
+
+    def shown(self):
+        """How many inputs agree, or say nothing."""
+        return self.count["agree"] + self.count["poison"] + self.count["undefined"]
+
+    def verdict(self):
+        """The verdict, and the lines that say it."""
+        if self.difference:
+            return Verdict.DIFFERS, self.difference
+        if self.doubt:
+            why, row = self.doubt
+            more = f" ({self.count['agree']:,} other inputs agree)" * bool(self.count["agree"])
+            return Verdict.UNKNOWN, [f"{self.name}: unknown: {why}{more}, for", *row_lines(row, self.takes)]
+        if not self.count["agree"]:
+            return Verdict.UNKNOWN, [f"{self.name}: unknown: {self.names[0]} is undefined, or gives poison, on "
+                                     f"{self.tried_text()}"]
+        return Verdict.SAME, [f"{self.name}: same on {self.tried_text()}", *self.notes()]
+
+    def notes(self):
+        """What `same` doesn't speak of."""
+        notes = []
+        if self.count["undefined"]:
+            notes.append(f"  {self.names[0]} is undefined on {self.count['undefined']:,} of them, which show nothing")
+        if [ty[0] for ty in self.takes].count("memref") > 1:
+            notes.append("  two memrefs share all their memory or none")
+        bounds = [f"%arg{place}" for place in range(len(self.takes)) if self.inputs.is_bound(place)]
+        if bounds and not self.inputs.are_all:
+            notes.append(f"  only small numbers in {', '.join(bounds)}, for loops")
+        return notes
+
+    def tried_text(self):
+        """Which inputs were tried."""
+        if not self.takes:
+            return "its only input"
+        if self.inputs.are_all and self.count["whole"]:
+            return f"all {self.inputs.number:,} inputs"
+        cut = "" if self.count["whole"] else " (more would take too long)"
+        return f"{self.shown():,}{self.inputs.many()} inputs{cut}"
 
 
 class Comparison:
     """Two modules, and how they are called."""
 
     def __init__(self, names, given):
-        self.names, self.programs, self.given = names, [read(name) for name in names], given
+        self.names, self.given = names, given
+        self.programs = [read(name, given.reads_opaque) for name in names]
+        self.runners = [reference().running.Runner(it) for it in self.programs]
+        self.pair = None
 
     def functions(self):
         """The names of the functions that are compared."""
@@ -129,70 +269,97 @@ class Comparison:
         return [name]
 
     def compared(self, name):
-        """Whether a function is the same, or none where it isn't run; and the lines that tell it."""
-        *_, running = reference()
+        """The verdict on a function, and the lines that say it."""
+        running = reference().running
         there = [it.functions.get(name) for it in self.programs]
         if None in there:
             its = there[0] or there[1]
             is_private = its.props.get(b"sym_visibility") in (("str", b"private"), ("str", b"nested"))
-            told = f"{name}: only in {self.names[there[0] is None]}"
-            return (None if is_private else False), [told + " (it is private)" * is_private]
-        types = [running.types_of(it) for it in there]
-        if types[0] != types[1]:
-            return False, [f"{name}: other types"]
-        why = [(running.unknown(it), place) for place, it in enumerate(there) if running.unknown(it)]
-        if why:
-            return None, [f"{name}: left out: {why[0][0]} in {self.names[why[0][1]]}"]
-        return self.tried(name, there, *types[0])
+            where = f"only in {self.names[there[0] is None]}"
+            if is_private:
+                return Verdict.LEFT_OUT, [f"{name}: not compared: {where}, and private"]
+            return Verdict.DIFFERS, [f"{name}: differs: {where}"]
+        signatures = [running.types_of(it) for it in there]
+        if signatures[0] != signatures[1]:
+            return Verdict.DIFFERS, [f"{name}: differs: it has other types"]
+        bodies = [running.has_body(it) for it in there]
+        if not all(bodies):
+            verdict = Verdict.UNKNOWN if any(bodies) else Verdict.LEFT_OUT
+            return verdict, [f"{name}: {verdict.value}: it has no body in {self.names[bodies[0]]}"]
+        self.pair = Pair(self, name, there)
+        self.pair.run()
+        return self.pair.verdict()
 
-    def tried(self, name, there, takes, gives):
-        """The same of a function that is in both, for the inputs that are tried."""
-        evaluator, _, _, running = reference()
-        chosen = Inputs(takes, self.given.inputs, self.given.seed)
-        inputs, told = chosen.tried()
-        undefined, count, left = 0, 0, MOST_RUN
-        for numbers in inputs:
-            old, used = running.outcome(self.programs[0], there[0], numbers, FUEL)
-            new, more = running.outcome(self.programs[1], there[1], numbers, 4 * FUEL) if old else (None, 0)
-            undefined, count, left = undefined + (old is None), count + 1, left - used - more
-            if not evaluator.agrees(old, new):
-                given = [f"  %arg{place} = {number_text(*it)}" for place, it in enumerate(zip(numbers, takes))]
-                sides = [[f"{self.names[side]} gives", *outcome_lines(it, gives)] for side, it in ((0, old), (1, new))]
-                return False, [f"{name}: differs for", *(given or ["  no arguments"]), *sides[0], *sides[1]]
-            if left < 0:
-                break
-        if count < len(inputs):
-            told = f"{count:,} of {chosen.many()} inputs, small and random; no more were tried, since they take long"
-        more = f"; for {undefined:,} of them {self.names[0]} has no end, or leaves undefined what it gives"
-        return True, [f"{name}: the same on {told}{more * bool(undefined)}"]
+
+def at_least(least):
+    """What reads a number that is at least so large."""
+    def number(text):
+        if not text.isascii() or not text.isdigit() or int(text) < least:
+            raise argparse.ArgumentTypeError(f"`{text}` isn't a number from {least} on")
+        return int(text)
+    return number
 
 
 def arguments(parser):
-    """What stands on the command line."""
+    """The command line."""
     parser.add_argument("before", metavar="BEFORE", help="a file with a module")
     parser.add_argument("after", metavar="AFTER", help="a file with the module that takes its place")
     parser.add_argument("--function", metavar="NAME", help="only this function")
-    parser.add_argument("--inputs", metavar="N", type=int, default=1000,
-                        help="how many inputs are taken by chance, where there are too many for all [default: 1000]")
+    parser.add_argument("--inputs", metavar="N", type=at_least(0), default=1000,
+                        help="how many random inputs are tried, if there are too many inputs for all [default: 1000]")
     parser.add_argument("--seed", metavar="N", type=int, default=1, help="which these are [default: 1]")
+    parser.add_argument("--steps", metavar="N", type=at_least(1), default=STEPS,
+                        help="how many operations a run may take [default: 10000000]")
+    parser.add_argument(program.OPAQUE, dest="reads_opaque", action="store_true",
+                        help="read types and attributes that aren't known, as the program does; what computes on them "
+                             "isn't modelled")
+
+
+def summary(found, number, is_interrupted=False):
+    """The line that sums up the verdicts on a number of functions."""
+    counts = [(sum(it is verdict for it in found), verdict.value) for verdict in Verdict]
+    parts = [f"{count} {'differ' if word == 'differs' and count > 1 else word}" for count, word in counts if count]
+    text = f"of {number} function{'s' * (number != 1)}: {', '.join(parts) or 'none compared'}"
+    return text + f"; interrupted with {number - len(found)} to go" * is_interrupted
+
+
+def status_of(found):
+    """The status for some verdicts."""
+    return 1 if Verdict.DIFFERS in found else 3 if Verdict.UNKNOWN in found else 0
 
 
 def run(given):
-    """Compares; the status is 0 where all is the same."""
+    """Compares, and gives the status."""
     sys.stdout.reconfigure(errors="backslashreplace")
-    found = []
+    frames = sys.getrecursionlimit()
+    found, names, comparison = [], [], None
     try:
         comparison = Comparison([given.before, given.after], given)
-        for name in comparison.functions():
-            is_same, lines = comparison.compared(name)
-            found.append(is_same)
+        names = comparison.functions()
+        sys.setrecursionlimit(max(frames, reference().running.FRAMES))
+        for name in names:
+            verdict, lines = comparison.compared(name)
+            found.append(verdict)
             print(*lines, sep="\n", flush=True)
-        if not any(it is not None for it in found):
+        if all(it is Verdict.LEFT_OUT for it in found):
             raise Unfit("no function can be compared")
     except Unfit as fault:
         print(f"mlir-work: {fault}", file=sys.stderr)
         return 2
-    parts = [f"{found.count(it)} {word}" for it, word in ((True, "the same"), (False, "differ"), (None, "not compared"))
-             if found.count(it)]
-    print(re.sub(r"^1 differ\b|(?<= )1 differ\b", "1 differs", f"of {len(found)} functions: {', '.join(parts)}"))
-    return int(False in found)
+    except KeyboardInterrupt:
+        interrupted(comparison, names, found)
+        return 130
+    finally:
+        sys.setrecursionlimit(frames)
+    print(summary(found, len(names)))
+    return status_of(found)
+
+
+def interrupted(comparison, names, found):
+    """Says what was compared before Ctrl-C."""
+    print()
+    pair = comparison.pair if comparison else None
+    if pair and len(found) < len(names) and pair.name == names[len(found)]:
+        print(f"{pair.name}: interrupted; {pair.count['agree']:,} inputs agree so far")
+    if names:
+        print(summary(found, len(names), True))

@@ -1,6 +1,7 @@
 #!/usr/bin/env python3
 """Tries rewrite rules against values: modules are run before and after a rule by an evaluator of their own
-(bench/reference/evaluator.py), and what was defined before has to come out the same.
+(bench/reference/evaluator.py), and what was defined before has to come out the same. Inputs on which poison or the
+least value is divided by -1 are left out.
 
 usage: bench/compare/rule_values.py [PROGRAM [COUNT [SEED]]]
 
@@ -157,7 +158,9 @@ def fail(rule, module, found, arguments, old, new):
 def compared(rule, module, found, tried):
     for arguments in tried:
         old = evaluator.outcome(module, b"f", arguments)
-        new = evaluator.outcome(found, b"f", arguments, evaluator.MORE_FUEL) if old else None
+        if old.end is not evaluator.End.DEFINED or old.is_unsure:
+            continue
+        new = evaluator.outcome(found, b"f", arguments, evaluator.MORE_FUEL)
         if not evaluator.agrees(old, new):
             fail(rule, module, found, arguments, old, new)
 

@@ -8,5 +8,6 @@ edits.py the edits and why they are refused; rewrites.py the rewrite rules; conv
 patterns.py, pattern_uses.py and pattern_checks.py patterns of one's own, read, used and checked; script.py whole
 runs, and own.py runs that begin with such patterns; heard.py the events that each command tells, and listeners
 that go by them; refused.py runs in which an allocation is refused; outputs.py what a run may write whatever is
-refused; evaluator.py functions run on numbers; examples.py modules with rows by hand; variations.py operations with
+refused; evaluator.py functions run on numbers, memories.py on memory, and running.py compares what two functions
+give; examples.py modules with rows by hand; variations.py operations with
 one change; chance.py makes modules and scripts by chance, and texts.py texts."""

@@ -1,202 +1,479 @@
-"""Runs functions of arith and scf on numbers: what they hand back, and what operations without a meaning saw on the
-way.
+"""Runs functions of arith and scf on values, and notes what operations without a meaning see on the way.
 
-It shares nothing with the folds and the rules: arithmetic is written out here once more, from the documents of the
-dialects. A value is a number below 2^w, or None where the documents leave it undefined (a quotient by 0, a shift by too
-much); what is computed of None is None."""
+The evaluator shares nothing with the folds and the rules: arithmetic is written here a second time, from the documents
+of the dialects. A value is a number below 2^w, or None for poison. Poison is the result of a shift by the width or
+more, of an operation that breaks one of its flags, and of nearly every operation on poison. Undefined behaviour stops
+a run: a division by 0, by poison, or of the least value by -1, and a branch or a loop bound that is poison. The
+remainder of the least value by -1 is 0.
+
+A function is compiled to closures once, and then run on a list of values: an operation takes less than a
+microsecond."""
+import enum
+import operator
 import zlib
 
-from .module import walk
+from .module import INDEX, walk
 
 FUEL, MORE_FUEL = 400, 20000
 
 
 class Undefined(Exception):
-    """The documents don't say what happens: a branch on an undefined value, a step that isn't positive."""
+    """The run has undefined behaviour; says why."""
 
 
 class Endless(Exception):
-    """The run takes longer than is waited for."""
+    """The run takes more steps than it may; says which limit it met."""
+
+
+class Unmodelled(Exception):
+    """The run executes an operation of which the evaluator knows nothing; says which."""
+
+
+class End(enum.Enum):
+    """How a run ends."""
+    DEFINED, UNDEFINED, ENDLESS, UNMODELLED = range(4)
+
+
+class Outcome:
+    """How a run ended, its results and what it noted, or why it stopped. `is_unsure` says that the run divided poison
+    or the least value by -1 without undefined behaviour."""
+
+    def __init__(self, end, results=(), trace=(), reason="", is_unsure=False):
+        self.end, self.results, self.trace, self.reason = end, list(results), list(trace), reason
+        self.is_unsure = is_unsure
+
+    def __repr__(self):
+        return f"{self.results}, {self.trace}" if self.end is End.DEFINED else f"{self.end.name} {self.reason}".strip()
+
+
+def is_number(ty):
+    """Whether values of a type are numbers."""
+    return ty == INDEX or ty[0] == "i"
 
 
 def bits(ty):
-    """The width of an integer; an index, and what stands for an address, has 64."""
+    """The width of an integer; an index has 64 bits."""
     return ty[1] if ty[0] == "i" else 64
 
 
 def by_sign(number, width):
+    """The signed reading of a number."""
     return number - (1 << width) if number >> (width - 1) else number
 
 
 def towards_zero(a, b):
+    """The quotient of two signed numbers, rounded towards zero."""
     quotient = abs(a) // abs(b)
     return quotient if (a < 0) == (b < 0) else -quotient
 
 
-def quotient(width, a, b, is_signed):
+# Division. Each function takes signed readings for the signed operations, and numbers for the others.
+
+DIVISIONS = {
+    "divsi": towards_zero,
+    "divui": operator.floordiv,
+    "floordivsi": operator.floordiv,
+    "ceildivsi": lambda a, b: -(-a // b),
+    "ceildivui": lambda a, b: -(-a // b),
+    "remsi": lambda a, b: a - towards_zero(a, b) * b,
+    "remui": operator.mod,
+}
+
+
+def divided(word, width, a, b):
+    """A quotient or remainder of two numbers; raises `Undefined` if there is none."""
     if b == 0:
-        return None
-    if not is_signed:
-        return a // b
+        raise Undefined(f"arith.{word} by 0")
+    if word.endswith("ui"):
+        return DIVISIONS[word](a, b)
     x, y = by_sign(a, width), by_sign(b, width)
-    return None if (x, y) == (-(1 << (width - 1)), -1) else towards_zero(x, y)
+    if y == -1 and x == -(1 << (width - 1)) and word != "remsi":
+        raise Undefined(f"arith.{word} of the least value by -1")
+    return DIVISIONS[word](x, y)
 
 
-def rest(width, a, b, is_signed):
-    found = quotient(width, a, b, is_signed)
-    if found is None:
-        return None
-    return a - found * b if not is_signed else by_sign(a, width) - found * by_sign(b, width)
+def exactly_divided(word, width, a, b):
+    """A quotient that is poison unless the remainder is 0."""
+    found = divided(word, width, a, b)
+    return found if divided("rem" + word[-2:], width, a, b) == 0 else None
 
 
-def shifted(width, a, b, word):
-    if b >= width:
-        return None
-    return {"shli": a << b, "shrui": a >> b, "shrsi": by_sign(a, width) >> b}[word]
+# Arithmetic on two numbers, whose result is taken modulo 2^w by the caller.
+
+def signed(width, choose):
+    """The number that `choose` prefers by the signed readings."""
+    return lambda a, b: choose(a, b, key=lambda it: by_sign(it, width))
 
 
-def binary(word, width, a, b):
-    if word in ("divsi", "divui"):
-        return quotient(width, a, b, word == "divsi")
-    if word in ("remsi", "remui"):
-        return rest(width, a, b, word == "remsi")
-    if word in ("shli", "shrui", "shrsi"):
-        return shifted(width, a, b, word)
-    if word in ("maxsi", "minsi"):
-        return (max if word == "maxsi" else min)(a, b, key=lambda it: by_sign(it, width))
-    return {"addi": a + b, "subi": a - b, "muli": a * b, "andi": a & b, "ori": a | b, "xori": a ^ b, "maxui": max(a, b),
-            "minui": min(a, b)}[word]
+TOTAL = {"addi": operator.add, "subi": operator.sub, "muli": operator.mul, "andi": operator.and_, "ori": operator.or_,
+         "xori": operator.xor, "maxui": max, "minui": min}
+COMPARISONS = [operator.eq, operator.ne, operator.lt, operator.le, operator.gt, operator.ge] + [
+    operator.lt, operator.le, operator.gt, operator.ge]
 
 
 def compared(predicate, width, a, b):
-    x, y = by_sign(a, width), by_sign(b, width)
-    return int({0: a == b, 1: a != b, 2: x < y, 3: x <= y, 4: x > y, 5: x >= y, 6: a < b, 7: a <= b, 8: a > b, 9: a
-                >= b}[predicate])
+    """Whether a predicate of `arith.cmpi` holds, as 0 or 1."""
+    if 2 <= predicate <= 5:
+        a, b = by_sign(a, width), by_sign(b, width)
+    return int(COMPARISONS[predicate](a, b))
+
+
+def without_overflow(word, width, flags):
+    """A sum, difference or product that is poison if it breaks a flag."""
+    compute, half, whole = TOTAL[word], 1 << (width - 1), 1 << width
+
+    def found(a, b):
+        if "nsw" in flags and not -half <= compute(by_sign(a, width), by_sign(b, width)) < half:
+            return None
+        number = compute(a, b)
+        return None if "nuw" in flags and not 0 <= number < whole else number
+    return found
+
+
+def shift_left(width, flags):
+    """`shli`: poison by the width or more, or if bits that its flags keep get lost."""
+    def found(a, b):
+        if b >= width:
+            return None
+        number = (a << b) % (1 << width)
+        if "nuw" in flags and number >> b != a:
+            return None
+        return None if "nsw" in flags and by_sign(number, width) >> b != by_sign(a, width) else number
+    return found
+
+
+def shift_right(word, width, flags):
+    """`shrsi` or `shrui`: poison by the width or more, or if `exact` and bits get lost."""
+    def found(a, b):
+        if b >= width or "exact" in flags and a % (1 << b):
+            return None
+        return (by_sign(a, width) if word == "shrsi" else a) >> b
+    return found
+
+
+def partial(word, width, flags):
+    """An operation on two numbers that may be poison; none if it never is."""
+    if word in ("shrsi", "shrui"):
+        return shift_right(word, width, flags)
+    if word == "shli":
+        return shift_left(width, flags)
+    return without_overflow(word, width, flags) if flags and word in TOTAL else None
+
+
+def binary(word, width):
+    """An operation on two numbers that has a result for all of them."""
+    if word in ("maxsi", "minsi"):
+        return signed(width, max if word == "maxsi" else min)
+    return TOTAL[word]
+
+
+PARTIAL = {"shli", "shrsi", "shrui"}
+PAIRS = {*TOTAL, *PARTIAL, "maxsi", "minsi"}
+CASTS = {"extsi", "extui", "trunci", "index_cast", "index_castui"}
+
+
+def truncated(width, to, flags):
+    """`trunci` of a number: poison if it breaks a flag."""
+    def found(a):
+        number = a % (1 << to)
+        if "nuw" in flags and number != a or "nsw" in flags and by_sign(number, to) != by_sign(a, width):
+            return None
+        return number
+    return found
+
+
+def flags_of(op):
+    """The flags of an operation: nsw, nuw, exact."""
+    both = {**op.attrs, **op.props}
+    overflow = both.get(b"overflowFlags", ("overflow", False, False))
+    if overflow[0] != "overflow":
+        raise Unmodelled(f"{op.name.decode()} with other flags")
+    words = (("nsw", overflow[1]), ("nuw", overflow[2]), ("exact", b"isExact" in both))
+    return {word for word, is_set in words if is_set}
+
+
+KNOWN_PROPERTIES = {b"overflowFlags", b"isExact", b"value", b"predicate", b"unsignedCmp"}
+TERMINATORS = {b"func.return", b"scf.yield", b"scf.condition"}
 
 
 class Machine:
-    """Runs the operations of a module; `trace` has what each operation without a meaning was given, in order."""
+    """Runs the operations of a module. `trace` has what each operation without a meaning was given, in order."""
 
-    def __init__(self, module, fuel):
-        self.module, self.ops, self.values, self.trace, self.seen, self.fuel = module, module.ops(), {}, [], {}, fuel
+    def __init__(self, module, fuel=FUEL):
+        self.module, self.ops, self.fuel = module, module.ops(), fuel
+        self.trace, self.seen, self.is_unsure = [], {}, False
+        self.codes, self.slots = {}, {}
+
+    # Functions and blocks.
 
     def call(self, function, arguments):
-        """What a function hands back for some numbers."""
-        for place, number in enumerate(arguments):
-            self.values["a", function.id, 0, place] = number
-        return self.block(function, 0)
+        """The results of a function on some values."""
+        if function.id not in self.codes:
+            self.codes[function.id] = self.compiled(function)
+        count, run = self.codes[function.id]
+        return run([*arguments, *[None] * (count - len(arguments))])
+
+    def compiled(self, function):
+        """How many values a function has, its arguments first, and what runs it on a list of them."""
+        count = 0
+        for op in walk(function):
+            own = [("v", op.id, place) for place in range(len(op.results))]
+            own += [("a", op.id, region, place) for region, block in enumerate(op.regions) if block
+                    for place in range(len(block.args))]
+            for value in own:
+                self.slots[value], count = count, count + 1
+        return count, self.block(function, 0)
 
     def block(self, op, region):
-        """Runs a block, and gives what its last operation hands on."""
-        for inner in op.regions[region].ops:
-            handed = self.one(inner)
-        return handed
+        """What runs a block, and gives the operands of its terminator."""
+        ops = op.regions[region].ops
+        if not ops or ops[-1].name not in TERMINATORS:
+            return self.stopped(f"a block of {op.name.decode()} without a known terminator")
+        steps = [self.step(it) for it in ops[:-1]]
+        handed, count = [self.slots[it] for it in ops[-1].operands], len(ops)
 
-    def width(self, value):
-        return bits(self.module.type_of(value, self.ops))
+        def run(values):
+            self.fuel -= count
+            if self.fuel < 0:
+                raise Endless
+            for step in steps:
+                step(values)
+            return [values[it] for it in handed]
+        return run
 
-    def one(self, op):
-        self.fuel -= 1
-        if self.fuel < 0:
-            raise Endless
-        numbers = [self.values[value] for value in op.operands]
-        handed = self.results(op, numbers)
-        for place, number in enumerate(handed):
-            width = bits(op.results[place]) if place < len(op.results) else None
-            self.values["v", op.id, place] = number if number is None or width is None else number % (1 << width)
-        return handed
+    def stopped(self, reason):
+        """What stops a run."""
+        def step(_):
+            raise Unmodelled(reason)
+        return step
 
-    def results(self, op, numbers):
-        word = op.name.decode()
-        if word in ("func.return", "scf.yield", "scf.condition"):
-            return numbers
-        if word.startswith("arith."):
-            return [self.arith(op, word[6:], numbers)]
-        if word == "builtin.unrealized_conversion_cast" and len(numbers) == len(op.results) == 1:
-            # (between other types than index and i64 it has no meaning of its own)
-            return numbers if self.width(op.operands[0]) == bits(op.results[0]) else [None]
-        if word.startswith("scf."):
-            return getattr(self, "run_" + word[4:])(op, numbers)
-        return self.opaque(op, numbers)
+    # Operations.
 
-    def arith(self, op, word, numbers):
-        if word == "constant":
-            return op.props[b"value"][2]
-        if word == "select":
-            return None if numbers[0] is None else numbers[1 if numbers[0] else 2]
-        if None in numbers:
+    def step(self, op):
+        """What runs an operation."""
+        word = op.name.decode("utf-8", "replace")
+        try:
+            if set(op.props) <= KNOWN_PROPERTIES:
+                if word.startswith("arith."):
+                    return self.arith(op, word[6:]) or self.foreign(op)
+                if word in ("scf.if", "scf.for", "scf.while"):
+                    return getattr(self, word[4:] + "_step")(op)
+            return self.cast(op) if word == "builtin.unrealized_conversion_cast" else self.foreign(op)
+        except Unmodelled as fault:
+            return self.stopped(str(fault))
+
+    def places(self, op):
+        """Where an operation's operands and results are among the values of its function."""
+        return [self.slots[it] for it in op.operands], [self.slots["v", op.id, it] for it in range(len(op.results))]
+
+    def types(self, op):
+        """The types of an operation's operands."""
+        return [self.module.type_of(it, self.ops) for it in op.operands]
+
+    def arith(self, op, word):
+        """What runs an operation of arith; none if the operation isn't known, or isn't one on numbers."""
+        types = self.types(op)
+        if word == "select" and len(types) == 3 and types[0] == ("i", 1):
+            return self.select(op)
+        if len(op.results) != 1 or not all(map(is_number, [*types, *op.results])):
             return None
-        width = self.width(op.operands[0])
-        if word in ("extsi", "index_cast"):
-            return by_sign(numbers[0], width)
-        if word in ("extui", "index_castui", "trunci"):
-            return numbers[0]
-        if word == "cmpi":
-            return compared(op.props[b"predicate"][2], width, *numbers)
-        return binary(word, width, *numbers)
+        if word == "constant" and op.props.get(b"value", " ")[0] == "int":
+            return self.constant(op)
+        if word == "cmpi" and len(types) == 2:
+            predicate, width = op.props[b"predicate"][2], bits(types[0])
+            return self.pair(op, lambda a, b: compared(predicate, width, a, b))
+        if word in CASTS and len(types) == 1:
+            return self.resize(op, word, bits(types[0]))
+        if word in DIVISIONS and len(types) == 2:
+            return self.division(op, word, bits(types[0]))
+        if word in PAIRS and len(types) == 2:
+            found = partial(word, bits(types[0]), flags_of(op))
+            return self.maybe_pair(op, found) if found else self.pair(op, binary(word, bits(types[0])))
+        return None
 
-    def opaque(self, op, numbers):
-        """An operation without a meaning: its numbers are noted, and it gives some that its id and turn determine."""
-        name = getattr(op, "told", op.id)
-        turn = self.seen[name] = self.seen.get(name, 0) + 1
-        self.trace.append((name, tuple(numbers)))
-        return [zlib.crc32(f"{name} {turn} {place}".encode()) for place in range(len(op.results))]
+    def constant(self, op):
+        result, number = self.slots["v", op.id, 0], op.props[b"value"][2] % (1 << bits(op.results[0]))
 
-    def begin(self, op, region, numbers):
-        for place, number in enumerate(numbers):
-            self.values["a", op.id, region, place] = number
+        def step(values):
+            values[result] = number
+        return step
 
-    def run_if(self, op, numbers):
-        if numbers[0] is None:
-            raise Undefined
-        region = 0 if numbers[0] else 1
-        return self.block(op, region) if op.regions[region] else []
+    def select(self, op):
+        (c, x, y), (result,) = self.places(op)
 
-    def run_for(self, op, numbers):
-        if None in numbers[:3]:
-            raise Undefined
-        width, handed = self.width(op.operands[0]), numbers[3:]
-        at, upper, step = (by_sign(number, width) for number in numbers[:3])
-        if at < upper and step <= 0:
-            raise Undefined
-        while at < upper:
-            self.begin(op, 0, [at % (1 << width)] + handed)
-            handed = self.block(op, 0)
-            at += step
-        return handed
+        def step(values):
+            chosen = values[c]
+            values[result] = None if chosen is None else values[x if chosen else y]
+        return step
 
-    def run_while(self, op, numbers):
-        while True:
-            self.begin(op, 0, numbers)
-            condition, *handed = self.block(op, 0)
-            if condition is None:
-                raise Undefined
-            if not condition:
-                return handed
-            self.begin(op, 1, handed)
-            numbers = self.block(op, 1)
+    def pair(self, op, compute):
+        """What runs an operation on two numbers that always gives one."""
+        ((x, y), (result,)), mask = self.places(op), (1 << bits(op.results[0])) - 1
+
+        def step(values):
+            a, b = values[x], values[y]
+            values[result] = None if a is None or b is None else compute(a, b) & mask
+        return step
+
+    def maybe_pair(self, op, compute):
+        """What runs an operation on two numbers that may be poison."""
+        ((x, y), (result,)), mask = self.places(op), (1 << bits(op.results[0])) - 1
+
+        def step(values):
+            a, b = values[x], values[y]
+            found = None if a is None or b is None else compute(a, b)
+            values[result] = None if found is None else found & mask
+        return step
+
+    def division(self, op, word, width):
+        """What runs a quotient or a remainder."""
+        ((x, y), (result,)), mask = self.places(op), (1 << bits(op.results[0])) - 1
+        compute = exactly_divided if "exact" in flags_of(op) else divided
+        least, is_signed = 1 << (width - 1), word.endswith("si")
+
+        def step(values):
+            a, b = values[x], values[y]
+            if b is None:
+                raise Undefined(f"arith.{word} by poison")
+            if is_signed and b == mask and (a is None or a == least):
+                self.is_unsure = True
+            if a is None and b == 0:
+                raise Undefined(f"arith.{word} by 0")
+            found = None if a is None else compute(word, width, a, b)
+            values[result] = None if found is None else found & mask
+        return step
+
+    def resize(self, op, word, width):
+        """What runs a cast from a width to that of its result."""
+        ((x,), (result,)), to = self.places(op), bits(op.results[0])
+        mask, flags = (1 << to) - 1, flags_of(op)
+        is_signed, checked = word in ("extsi", "index_cast"), truncated(width, to, flags) if flags else None
+
+        def step(values):
+            a = values[x]
+            if a is not None and checked:
+                a = checked(a)
+            values[result] = None if a is None else (by_sign(a, width) if is_signed else a) & mask
+        return step
+
+    def cast(self, op):
+        """A cast between index and i64 keeps the number. Between other types it has no meaning of its own."""
+        operands, results = self.places(op)
+        types = self.types(op)
+        is_kept = len(operands) == len(results) == 1 and is_number(types[0]) and is_number(op.results[0]) and (
+            bits(types[0]) == bits(op.results[0]))
+
+        def step(values):
+            for place in results:
+                values[place] = values[operands[0]] if is_kept else None
+        return step
+
+    def foreign(self, op):
+        """What runs an operation without a meaning: its numbers are noted, and its results follow from its id and how
+        often it ran."""
+        operands, results = self.places(op)
+        name, masks = getattr(op, "told", op.id), [(1 << bits(ty)) - 1 for ty in op.results]
+
+        def step(values):
+            turn = self.seen[name] = self.seen.get(name, 0) + 1
+            self.trace.append((name, tuple(values[it] for it in operands)))
+            for place, (result, mask) in enumerate(zip(results, masks)):
+                values[result] = zlib.crc32(f"{name} {turn} {place}".encode()) & mask
+        return step
+
+    # Branches and loops.
+
+    def bodies(self, op):
+        """What runs each region of an operation, and where the region's arguments are."""
+        return [(self.block(op, place), [self.slots["a", op.id, place, it] for it in range(len(block.args))])
+                if block else (lambda _: [], []) for place, block in enumerate(op.regions)]
+
+    def if_step(self, op):
+        (condition,), results = self.places(op)
+        (then, _), (other, _) = self.bodies(op)
+
+        def step(values):
+            chosen = values[condition]
+            if chosen is None:
+                raise Undefined("scf.if on poison")
+            put(values, results, (then if chosen else other)(values))
+        return step
+
+    def for_step(self, op):
+        (lower, upper, by, *inits), results = self.places(op)
+        (body, (induction, *carried)), = self.bodies(op)
+        width, is_unsigned = bits(self.types(op)[0]), b"unsignedCmp" in {**op.attrs, **op.props}
+        whole, end = 1 << width, 1 << (width - (not is_unsigned))
+
+        def reading(number):
+            return number if is_unsigned or number is None else by_sign(number, width)
+
+        def step(values):
+            at, last, stride = reading(values[lower]), reading(values[upper]), reading(values[by])
+            if at is None or last is None:
+                raise Undefined("scf.for with a bound that is poison")
+            handed = [values[it] for it in inits]
+            if at < last and (stride is None or stride <= 0):
+                raise Undefined("scf.for with a step that isn't positive")
+            while at < last:
+                values[induction] = at % whole
+                put(values, carried, handed)
+                handed = body(values)
+                at += stride
+            if at >= end:
+                raise Unmodelled("scf.for whose induction variable overflows")
+            put(values, results, handed)
+        return step
+
+    def while_step(self, op):
+        inits, results = self.places(op)
+        (before, taken), (after, passed) = self.bodies(op)
+
+        def step(values):
+            handed = [values[it] for it in inits]
+            while True:
+                put(values, taken, handed)
+                condition, *handed = before(values)
+                if condition is None:
+                    raise Undefined("scf.condition on poison")
+                if not condition:
+                    break
+                put(values, passed, handed)
+                handed = after(values)
+            put(values, results, handed)
+        return step
+
+
+def put(values, places, handed):
+    """Writes values to places."""
+    for place, value in zip(places, handed):
+        values[place] = value
 
 
 def outcome(module, symbol, arguments, fuel=FUEL):
-    """What a function hands back and what was seen on the way; none where the documents don't say, or where it takes
-    too long."""
+    """The outcome of a function of a module on some numbers."""
     machine = Machine(module, fuel)
     function = next(op for op in walk(module.root) if op.props.get(b"sym_name") == ("str", symbol))
     try:
-        return machine.call(function, arguments), machine.trace
-    except (Undefined, Endless):
-        return None
+        results, end, reason = machine.call(function, arguments), End.DEFINED, ""
+    except (Undefined, Endless, Unmodelled) as fault:
+        results, end, reason = [], END_OF[type(fault)], str(fault)
+    return Outcome(end, results, machine.trace, reason, machine.is_unsure)
+
+
+END_OF = {Undefined: End.UNDEFINED, Endless: End.ENDLESS, Unmodelled: End.UNMODELLED}
 
 
 def same_number(old, new):
+    """Whether a value refines another one: poison may become any value."""
     return old is None or old == new
 
 
 def agrees(old, new):
-    """Whether an outcome may stand for another: where that one is defined, it is the same."""
-    if old is None:
+    """Whether an outcome refines another one: if that is defined, this is the same where that isn't poison."""
+    if old.end is not End.DEFINED:
         return True
-    if new is None or len(old[1]) != len(new[1]) or len(old[0]) != len(new[0]):
+    if new.end is not End.DEFINED or len(old.trace) != len(new.trace) or len(old.results) != len(new.results):
         return False
-    traced = all(one[0] == two[0] and all(map(same_number, one[1], two[1])) for one, two in zip(old[1], new[1]))
-    return traced and all(map(same_number, old[0], new[0]))
+    traced = all(one[0] == two[0] and all(map(same_number, one[1], two[1])) for one, two in zip(old.trace, new.trace))
+    return traced and all(map(same_number, old.results, new.results))

@@ -2,6 +2,9 @@
 import contextlib
 import io
 import pathlib
+import signal
+import subprocess
+import sys
 import tempfile
 import unittest
 
@@ -35,8 +38,12 @@ MEMORY = "memref<4xi4>, index"
 LOAD = '%r = "memref.load"(%a, %b) : (memref<4xi4>, index) -> i4\n'
 STORE = '"memref.store"({}, %a, %b) : (i4, memref<4xi4>, index) -> ()\n'
 ONE = '%one = "arith.constant"() <{value = 1 : i4}> : () -> i4\n'
+FOUR = '%four = "arith.constant"() <{value = 4 : i4}> : () -> i4\n'
+DECLARED = """"func.func"() <{function_type = (i4, i4) -> i4, sym_name = "f", sym_visibility = "private"}> ({
+}) : () -> ()
+"""
 USE = '"test.use"({}) : (i4) -> ()\n'
-# A quotient, where there is one, or else 0.
+# A quotient if there is one, or else 0.
 QUOTIENT = '''%zero = "arith.constant"() <{value = 0 : i4}> : () -> i4
 %t = "arith.cmpi"(%b, %zero) <{predicate = 0 : i64}> : (i4, i4) -> i1
 %r = "scf.if"(%t) ({
@@ -47,38 +54,58 @@ QUOTIENT = '''%zero = "arith.constant"() <{value = 0 : i4}> : () -> i4
 }) : (i1) -> i4
 '''
 SAME = {
-    "commuted": (binary("addi", "%a, %b"), binary("addi", "%b, %a")),
-    "undefined": (binary("divui", "%a, %b"), function(f'{QUOTIENT}{ends("%r")}')),
-    "called": (CALLED + function(f'%r = "func.call"(%a, %b) <{{callee = @g}}> : (i4, i4) -> i4\n{ends()}'),
-               binary("addi", "%a, %b")),
-    "dead load": (function(LOAD + ends("%b", "index"), MEMORY, "index"),
-                  function(ends("%b", "index"), MEMORY, "index")),
-    "loaded twice": (function(LOAD + LOAD.replace("%r", "%s") + ends("%s"), MEMORY),
-                     function(LOAD + ends(), MEMORY)),
-    "not in the table": (binary("ceildivsi", "%a, %b"), binary("ceildivsi", "%a, %b")),
-    "by chance": (binary("muli", "%a, %b", "i64"), binary("muli", "%b, %a", "i64")),
+    "operands of a sum swapped": (binary("addi", "%a, %b"), binary("addi", "%b, %a")),
+    "a division guarded": (binary("divui", "%a, %b"), function(f'{QUOTIENT}{ends("%r")}')),
+    "a call inlined": (CALLED + function(f'%r = "func.call"(%a, %b) <{{callee = @g}}> : (i4, i4) -> i4\n{ends()}'),
+                       binary("addi", "%a, %b")),
+    "a dead load removed": (function(LOAD + ends("%b", "index"), MEMORY, "index"),
+                            function(ends("%b", "index"), MEMORY, "index")),
+    "a load made once": (function(LOAD + LOAD.replace("%r", "%s") + ends("%s"), MEMORY),
+                         function(LOAD + ends(), MEMORY)),
+    "a quotient that is rounded up": (binary("ceildivsi", "%a, %b"), binary("ceildivsi", "%a, %b")),
+    "sampled": (binary("muli", "%a, %b", "i64"), binary("muli", "%b, %a", "i64")),
+    "a poison value replaced": (binary("shli", "%a, %b"), function(
+        f'%s = "arith.shli"(%a, %b) : (i4, i4) -> i4\n{FOUR}'
+        '%t = "arith.cmpi"(%b, %four) <{predicate = 6 : i64}> : (i4, i4) -> i1\n'
+        f'%r = "arith.select"(%t, %s, %four) : (i1, i4, i4) -> i4\n{ends()}')),
 }
 DIFFERENT = {
-    "swapped": (binary("subi", "%a, %b"), binary("subi", "%b, %a")),
-    "load past a store": (function(LOAD + ONE + STORE.format("%one") + ends(), MEMORY),
-                          function(ONE + STORE.format("%one") + LOAD + ends(), MEMORY)),
-    "met in another order": (function(USE.format("%a") + USE.format("%b") + ends("%a")),
-                             function(USE.format("%b") + USE.format("%a") + ends("%a"))),
+    "operands of a difference swapped": (binary("subi", "%a, %b"), binary("subi", "%b, %a")),
+    "a load moved past a store": (function(LOAD + ONE + STORE.format("%one") + ends(), MEMORY),
+                                  function(ONE + STORE.format("%one") + LOAD + ends(), MEMORY)),
     "other types": (binary("addi", "%a, %b"), binary("addi", "%a, %b", "i8")),
-    "not in the table": (binary("ceildivsi", "%a, %b"), binary("ceildivsi", "%b, %a")),
-    "more undefined": SAME["undefined"][::-1],
-    "gone": (binary("addi", "%a, %b") + CALLED.replace(PRIVATE, ""), binary("addi", "%a, %b")),
+    "a quotient that is rounded up, swapped": (binary("ceildivsi", "%a, %b"), binary("ceildivsi", "%b, %a")),
+    "a guard removed": SAME["a division guarded"][::-1],
+    "a public function removed": (binary("addi", "%a, %b") + CALLED.replace(PRIVATE, ""), binary("addi", "%a, %b")),
+}
+UNKNOWN = {
+    "an operation that isn't listed": (function(USE.format("%a") + ends("%a")),
+                                       function(USE.format("%a") + ends("%a"))),
+    "operations that aren't listed, swapped": (function(USE.format("%a") + USE.format("%b") + ends("%a")),
+                                               function(USE.format("%b") + USE.format("%a") + ends("%a"))),
+    "poison on every input": (function(f'{FOUR}%r = "arith.shli"(%a, %four) : (i4, i4) -> i4\n{ends()}'),
+                              function(ends("%a"))),
+    "a body that is only in one module": (binary("addi", "%a, %b"), DECLARED),
 }
 UNFIT = {
     "no function": ('"test.a"() : () -> ()\n', CALLED),
     "not read": ("pretty\n", binary("addi", "%a, %b")),
-    "breaks a rule": (binary("addi", "%a"), binary("addi", "%a, %b")),
+    "a rule is broken": (binary("addi", "%a"), binary("addi", "%a, %b")),
     "a script": (binary("addi", "%a, %b") + "// -----\nprint\n", binary("addi", "%a, %b")),
+    "one name twice": (binary("addi", "%a, %b") * 2, binary("addi", "%a, %b")),
+    "only declarations": (DECLARED, DECLARED),
 }
+ENDLESS = function("""%t = "arith.constant"() <{value = true}> : () -> i1
+"scf.while"() ({
+"scf.condition"(%t) : (i1) -> ()
+}, {
+"scf.yield"() : () -> ()
+}) : () -> ()
+""" + ends("%a"), name="g")
 
 
 def compared(before, after, *more):
-    """The status, and what is told."""
+    """The status, and what is written."""
     with tempfile.TemporaryDirectory() as folder:
         names = [pathlib.Path(folder, name) for name in ("before", "after")]
         for name, text in zip(names, (before, after)):
@@ -90,56 +117,83 @@ def compared(before, after, *more):
 
 
 class Compared(unittest.TestCase):
-    def test_the_same(self):
-        for name, (before, after) in SAME.items():
+    def each(self, pairs, status, word):
+        """Each pair has a status and a verdict."""
+        for name, (before, after) in pairs.items():
             with self.subTest(name):
-                status, said = compared(before, after)
-                self.assertEqual(status, 0, said)
-                self.assertIn("@f: the same on ", said)
+                found, said = compared(before, after)
+                self.assertEqual(found, status, said)
+                self.assertIn(f": {word}", said)
 
-    def test_different(self):
-        for name, (before, after) in DIFFERENT.items():
-            with self.subTest(name):
-                self.assertEqual(compared(before, after)[0], 1)
+    def test_same(self):
+        self.each(SAME, 0, "same on ")
+
+    def test_differs(self):
+        self.each(DIFFERENT, 1, "differs")
+
+    def test_unknown(self):
+        self.each(UNKNOWN, 3, "unknown: ")
 
     def test_unfit(self):
-        for name, texts in UNFIT.items():
-            with self.subTest(name):
-                self.assertEqual(compared(*texts)[0], 2)
+        self.each(UNFIT, 2, "")
 
     def test_how_many_are_said(self):
-        self.assertEqual(compared(*SAME["commuted"])[1],
-                         "@f: the same on all 256 inputs\nof 1 functions: 1 the same\n")
-        self.assertIn("81 small and 50 random inputs of 2^128\n", compared(*SAME["by chance"], "--inputs", "50")[1])
-        self.assertIn("all 256 inputs; for 16 of them before has no end, or leaves", self.undefined())
-        self.assertIn("@g: only in before (it is private)\nof 2 functions: 1 the same, 1 not compared\n",
-                      compared(*SAME["called"])[1])
-
-    def undefined(self):
-        """What is said of a function that branches on a quotient by 0."""
-        text = function('%q = "arith.divui"(%a, %b) : (i4, i4) -> i4\n'
-                        '%t = "arith.cmpi"(%q, %a) <{predicate = 0 : i64}> : (i4, i4) -> i1\n'
-                        f'"scf.if"(%t) ({{\n"scf.yield"() : () -> ()\n}}, {{}}) : (i1) -> ()\n{ends("%a")}')
-        return compared(text, function(ends("%a")))[1]
+        self.assertEqual(compared(*SAME["operands of a sum swapped"])[1],
+                         "@f: same on all 289 inputs\nof 1 function: 1 same\n")
+        self.assertRegex(compared(*SAME["sampled"], "--inputs", "50")[1], "same on 1[0-9][0-9] of over 2.128 inputs\n")
+        self.assertIn("all 289 inputs\n  before is undefined on 34 of them, which show nothing\n",
+                      compared(*SAME["a division guarded"])[1])
+        self.assertIn("@g: not compared: only in before, and private\nof 2 functions: 1 same, 1 not compared\n",
+                      compared(*SAME["a call inlined"])[1])
 
     def test_an_input_is_shown(self):
-        _, said = compared(*DIFFERENT["swapped"])
+        _, said = compared(*DIFFERENT["operands of a difference swapped"])
         self.assertEqual(said, "@f: differs for\n  %arg0 = 0 : i4\n  %arg1 = 1 : i4\nbefore gives\n  -1 : i4\n"
-                               "after gives\n  1 : i4\nof 1 functions: 1 differs\n")
-        _, said = compared(*DIFFERENT["met in another order"])
-        self.assertIn('before gives\n  met "test.use" of (0)\n  met "test.use" of (1)\n  0 : i4\n', said)
+                               "after gives\n  1 : i4\nof 1 function: 1 differs\n")
+        _, said = compared(*DIFFERENT["a load moved past a store"])
+        self.assertIn("\nafter gives\n  1 : i4\n  %arg0[1] = 1 : i4\n", said)
 
     def test_one_function(self):
-        before, after = DIFFERENT["gone"]
+        before, after = DIFFERENT["a public function removed"]
         self.assertEqual(compared(before, after, "--function", "f")[0], 0)
         status, said = compared(before, after, "--function", "@g")
         self.assertEqual((status, said), (2, "mlir-work: after has no function @g\n"))
 
+    def test_a_difference_counts_most(self):
+        before = binary("subi", "%a, %b") + UNKNOWN["an operation that isn't listed"][0].replace('"f"', '"h"')
+        status, said = compared(before, before.replace("(%a, %b)", "(%b, %a)"))
+        self.assertEqual((status, said.splitlines()[-1]), (1, "of 2 functions: 1 differs, 1 unknown"))
+
+    def test_steps(self):
+        """A limit of steps is an option, and numbers below the least are refused."""
+        loop = function(f'{QUOTIENT}{ends("%r")}')
+        self.assertEqual(compared(loop, loop, "--steps", "1")[0], 3)
+        self.assertEqual(compared(loop, loop, "--steps", "100")[0], 0)
+        for words in (["--steps", "0"], ["--inputs", "-5"], ["--inputs", "x"]):
+            with self.assertRaises(SystemExit) as ended:
+                compared(loop, loop, *words)
+            self.assertEqual(ended.exception.code, 2)
+
     def test_examples(self):
+        """What `canon` makes of the examples is the same."""
         for name in ("fold", "canon"):
             text = (ROOT / f"examples/{name}.mlir").read_text()
             printed = program.asked(text.encode(), ["canon", "print"])[1][2:]
-            self.assertEqual(compared(text, "\n".join([*printed, ""]), "--inputs", "50")[0], 0)
+            status, said = compared(text, "\n".join([*printed, ""]), "--inputs", "50")
+            self.assertEqual(status, 0, said)
+
+    def test_interrupted(self):
+        """Ctrl-C ends with status 130, after what was compared so far."""
+        with tempfile.NamedTemporaryFile("w", suffix=".mlir") as file:
+            file.write(binary("addi", "%a, %b") + ENDLESS)
+            file.flush()
+            words = [sys.executable, ROOT / "tools/mlir_work.py", "compare", file.name, file.name]
+            with subprocess.Popen([*words, "--steps", str(10 ** 12)], stdout=subprocess.PIPE, text=True) as it:
+                first = it.stdout.readline()
+                it.send_signal(signal.SIGINT)
+                said = it.stdout.read()
+        self.assertEqual((it.returncode, first), (130, "@f: same on all 289 inputs\n"))
+        self.assertEqual(said.splitlines()[-1], "of 2 functions: 1 same; interrupted with 1 to go")
 
 
 if __name__ == "__main__":
