@@ -23,6 +23,8 @@ pub mod Follows
 pub mod Showing
 pub mod Numeric
 pub mod ShowingSampled
+pub mod Verified
+pub mod Refining
 pub mod EditsForm
 pub mod Improved
 pub mod Giving
@@ -75,4 +77,6 @@ pub mod StrictSampled
 pub mod PassingSampled
 pub mod UnitedSampled
 pub mod Told
+pub mod RefiningSampled
+pub mod RunsRefined
 pub mod Sampled

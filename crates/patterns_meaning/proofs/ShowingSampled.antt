@@ -19,7 +19,7 @@ use Rattle.patterns_check.specs.Checks.{refines}
 use Rattle.patterns_book.specs.Matching.{Header}
 use Rattle.patterns_meaning.specs.Meaning.{Assignment, Fits, makes, IsOfType}
 use Rattle.patterns_meaning.specs.Observing.{OpsFollow, Stays, is_unmissed}
-use Rattle.patterns_meaning.specs.ObservingSamples.{AreRefused, ErasedStoreBreaks, NewConstantBreaks, OtherArgumentBreaks, WipingBreaks, function_of, i8, plain_op, returning, storing, summing, SumComputes, one_and_zero}
+use Rattle.patterns_meaning.specs.ObservingSamples.{AreRefused, ErasedStoreBreaks, ErasedUnknownBreaks, NewConstantBreaks, OtherArgumentBreaks, WipingBreaks, function_of, i8, plain_op, returning, storing, summing, unknown_then, SumComputes, one_and_zero}
 use Rattle.std.proofs.lemmas.Map.Made.{IsDistinct-from_count}
 use Rattle.std.proofs.lemmas.Cmp.{nat_eq_equiv}
 use Rattle.ir_types.specs.Words.{is_isolated}
@@ -87,6 +87,19 @@ erased_store_breaks a done later i =
     elim (bodies a i.now later m (storing (returning (Result 2 0))) (returning (Result 2 0)) i.shows.follows.0.1) [
       | inl f ↦ never (sym (ap (λ (h : Header). eqb h.id 3) f.0.0.same))
       | inr f ↦ never (sym store_stays ∙ f.0)
+    ]
+
+unknown_stays : is_unmissed (plain_op 3 (codes "test.d") [] [] []) ≡ false
+unfolding registry.row_of rows.rows
+unknown_stays = refl
+
+erased_unknown_breaks : ErasedUnknownBreaks
+unfolding folds.rule_of folds.rules
+erased_unknown_breaks a done later i =
+    let m = (function_of 5 (unknown_then (returning (Arg 1 0 0)))).tree in
+    elim (bodies a i.now later m (unknown_then (returning (Arg 1 0 0))) (returning (Arg 1 0 0)) i.shows.follows.0.1) [
+      | inl f ↦ never (sym (ap (λ (h : Header). eqb h.id 3) f.0.0.same))
+      | inr f ↦ never (sym unknown_stays ∙ f.0)
     ]
 
 -- the constant is what it says
@@ -160,4 +173,4 @@ sum_computes : SumComputes
 sum_computes = (record { formed = formed; sorted = refl; kinded = kinded }, computes, refl)
 
 pub are_refused : AreRefused
-are_refused = record { computes = sum_computes; wiping = wiping_breaks; other_argument = other_argument_breaks; erased_store = erased_store_breaks; new_constant = new_constant_breaks }
+are_refused = record { computes = sum_computes; wiping = wiping_breaks; other_argument = other_argument_breaks; erased_store = erased_store_breaks; erased_unknown = erased_unknown_breaks; new_constant = new_constant_breaks }

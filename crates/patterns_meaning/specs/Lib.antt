@@ -7,11 +7,14 @@ pub mod Improving
 pub mod Observing
 pub mod Keeping
 pub mod ObservingSamples
+pub mod Verified
 pub mod Runs
 pub mod Canonical
 pub mod Strict
 pub mod Passing
 pub mod MixedRuns
+pub mod Refining
+pub mod RefiningSamples
 pub mod Narrow
 pub mod ByForm
 pub mod StrictSamples

@@ -1,4 +1,4 @@
--- Four rewrites that no compiler may do, each as a module before and a module after. None is an improvement (`Improves`),
+-- Rewrites that no compiler may do, each as a module before and a module after. None is an improvement (`Improves`),
 -- so no rule or pattern that does one satisfies the laws.
 use Rattle.std.specs.Prelude.{◌≡◌, ℕ, zero, suc, List, [], ◌∷◌, Bool, true, codes, Some, None}
 use Rattle.ir_types.specs.declared.node.Sign.TheVariants.{Signless}
@@ -52,6 +52,10 @@ storing os = next (plain_op 3 (codes "memref.store") (Result 2 0 ∷ Arg 1 0 1 �
 abbrev pub numbering : OpsOf (List ℕ) TypeTerm AttrTerm → OpsOf (List ℕ) TypeTerm AttrTerm
 numbering os = next (plain_op 5 (codes "arith.constant") [] (i8 ∷ []) ((codes "value", IntegerOf i8 42) ∷ [])) os
 
+-- test.d, an operation of an unknown dialect
+abbrev pub unknown_then : OpsOf (List ℕ) TypeTerm AttrTerm → OpsOf (List ℕ) TypeTerm AttrTerm
+unknown_then os = next (plain_op 3 (codes "test.d") [] [] []) os
+
 -- all is erased
 abbrev pub WipingBreaks : Type 0
 WipingBreaks =
@@ -68,6 +72,12 @@ abbrev pub ErasedStoreBreaks : Type 0
 ErasedStoreBreaks =
     (a : Assignment) (done later : ℕ → Bool)
     → Improves a done (function_of 5 (summing (storing (returning (Result 2 0))))) later (function_of 5 (summing (returning (Result 2 0)))).tree → ⊥
+
+-- an operation of an unknown dialect is erased, as by an `erase-dead` that takes it for dead
+abbrev pub ErasedUnknownBreaks : Type 0
+ErasedUnknownBreaks =
+    (a : Assignment) (done later : ℕ → Bool)
+    → Improves a done (function_of 5 (unknown_then (returning (Arg 1 0 0)))) later (function_of 5 (returning (Arg 1 0 0))).tree → ⊥
 
 -- a new constant is returned for a sum that is another number
 abbrev pub NewConstantBreaks : Type 0
@@ -88,10 +98,11 @@ SumComputes =
     × Computing one_and_zero all_done (function_of 5 (summing (returning (Result 2 0)))).tree
     × (one_and_zero (Result 2 0) ≡ Some (kind.Int 8, 1))
 
--- all four
+-- all of them
 pub record AreRefused : Type 0 where
   pub computes : SumComputes
   pub wiping : WipingBreaks
   pub other_argument : OtherArgumentBreaks
   pub erased_store : ErasedStoreBreaks
+  pub erased_unknown : ErasedUnknownBreaks
   pub new_constant : NewConstantBreaks
