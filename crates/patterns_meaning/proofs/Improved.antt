@@ -15,6 +15,10 @@ use Rattle.ir_tree.specs.Ids.{HasDistinctIds}
 use Rattle.ir_tree.specs.WellFormed.{IsWellFormed}
 use Rattle.ir_tree.specs.Uses.{same_value}
 use Rattle.ir_tree.specs.Meaning.{Operation}
+use Rattle.ir_tree.specs.declared.place.Place.{Place}
+use Rattle.ir_tree.specs.Edits.{put_value, put_values}
+use Rattle.ir_tree_laws.specs.Values.{has_value}
+use Rattle.ir_event.specs.Modules.{Module}
 use Rattle.dialects_int.specs.declared.operations.Arithmetic.{Arithmetic}
 use Rattle.dialects_int.specs.declared.operations.Arithmetic.TheVariants as op
 use Rattle.dialects_int.specs.declared.operations.Rule.TheVariants as rule
@@ -28,24 +32,29 @@ use Rattle.patterns_book.specs.declared.pattern.Form.{Form}
 use Rattle.patterns_book.specs.declared.pattern.Form.TheVariants as form
 use Rattle.patterns_book.specs.declared.pattern.New.{New}
 use Rattle.patterns_book.specs.declared.pattern.New.TheVariants as new
-use Rattle.patterns_book.specs.Matching.{Standing, bound, standing}
+use Rattle.patterns_book.specs.Matching.{Header, Standing, bound, standing}
 use Rattle.patterns_book.specs.Names.{name_of, operands_of, predicate_of}
 use Rattle.patterns_book.specs.Planning.{all_made, entries_by, made_as, values_at}
 use Rattle.patterns_makeable.specs.Makeable.{has_name, is_named}
 use Rattle.patterns_own.specs.Own.{OwnAreAccepted}
-use Rattle.patterns_meaning.specs.Meaning.{AreOfTypes, Assignment, Each, FitsAll, FitsEach}
+use Rattle.patterns_meaning.specs.Meaning.{AreOfTypes, Assignment, Each, FitsAll, FitsEach, is_arithmetic}
+use Rattle.patterns_meaning.specs.Applied.{Agree}
+use Rattle.patterns_meaning.specs.Observing.{Shows, Stays, is_computed}
 use Rattle.patterns_meaning.specs.After.{or_new, rewritten, with_made}
-use Rattle.patterns_meaning.specs.Better.{AllSure, AreKinded, is_poison_by_ones, is_signed_quotient}
+use Rattle.patterns_meaning.specs.Better.{AllBetter, AllSure, AreKinded, is_poison_by_ones, is_signed_quotient}
 use Rattle.patterns_meaning.specs.Improving.{RewritesComputeBetter, is_quotient, makes_no_quotient}
 use Rattle.patterns_meaning.proofs.Applying.{applies}
 use Rattle.patterns_meaning.proofs.EditsForm.{all_formed, made_plain}
 use Rattle.patterns_meaning.proofs.Formed.{each_stands, is_below, operands_stand}
 use Rattle.patterns_meaning.proofs.Forms.{by_constant, form_rule, rule_for}
 use Rattle.patterns_meaning.proofs.Going.{plans_go, planned_there, root_below}
-use Rattle.patterns_meaning.proofs.Lifted.{IsReady, lifted, new_uses_better, old_ready, uses_better}
+use Rattle.patterns_meaning.proofs.Lifted.{IsBetterWith, IsReady, lifted, new_uses_better, old_ready, uses_better}
 use Rattle.patterns_meaning.proofs.News.{more_made}
+use Rattle.patterns_meaning.proofs.Rooted.{all_arithmetic, root_computed}
+use Rattle.patterns_meaning.proofs.Showing.{all_better, all_through, at_root, number_at, put_same, rewritten_follows, rewritten_head}
+use Rattle.patterns_meaning.proofs.Edited.{each_both}
 use Rattle.patterns_meaning.proofs.Frees.{Was, free_still, was_new, was_old}
-use Rattle.patterns_meaning.proofs.Rewritten.{AllPut, all_bare, all_put, given_each, same_makes}
+use Rattle.patterns_meaning.proofs.Rewritten.{AllBare, AllPut, all_bare, all_put, given_each, operands_same, same_makes}
 
 -- ---- what is made is no signed quotient
 same_quotient : (o : Arithmetic) (i j : ℕ) → is_signed_quotient (Some (rule.Pair o)) ≡ is_quotient (form.Pair o i j)
@@ -101,6 +110,41 @@ new_ready c later m (o ∷ os) s q = (
   new_ready c later (m + 1) os s.1 q.1,
 )
 
+-- ---- what is shown
+-- where what is given is no worse, the tree after it shows what the module showed
+module _ (m : Module) (x : ℕ) (a : Assignment) (done later : ℕ → Bool) (formed : IsWellFormed is_isolated m) (c : Assignment) (agrees : Agree m.next a c) (front : Place) (made : List Operation) (v : Value) (bare : AllBare made)
+    (root : is_computed m.tree (Result x 0) ≡ true) (numbers : AllPut (λ h. is_arithmetic h ≡ true) m.next made) (better : refines (c (Result x 0)) (c v) ≡ true) (now : Assignment) (grows : (w : Value) → refines (c w) (now w) ≡ true) where
+  abbrev f : Header → Header
+  f = put_values (Result x 0) v
+
+  each_kept : Each (λ h. Stays m.tree a now later h (put_values (Result x 0) v h)) m.tree
+  each_kept =
+      let below = is_below m.next m.tree formed.below in
+      let operands = operands_stand is_isolated m.tree formed.distinct formed.formed.visible in
+      each_both (IsBetterWith c later (map (put_value (Result x 0) v))) (λ h. list_all (λ v. has_value v m.tree) h.operands ≡ true) (λ h. Stays m.tree a now later h (put_values (Result x 0) v h))
+      (λ h p s. record {
+        same = refl;
+        values = put_same m.tree x v root h.operands;
+        better = λ i.
+            all_through (map a h.operands) (map c (map (put_value (Result x 0) v) h.operands)) (map now (map (put_value (Result x 0) v) h.operands))
+            (subst (λ zs. AllBetter zs (map c (map (put_value (Result x 0) v) h.operands))) (operands_same a c m.next x v done agrees m.tree below h.operands s) (p i))
+            (all_better c now grows (map (put_value (Result x 0) v) h.operands));
+      }) m.tree (uses_better c later x v better m.tree (each_stands (λ h. Unit {0}) [] m.tree (λ s i. tt))) operands
+
+  all_plain : Each (Was m.next (λ y. true) (λ y. true) m.tree) (rewritten front m.next made x v m.tree)
+  all_plain =
+      given_each a c m.next x v done (Was m.next (λ y. true) (λ y. true) m.tree) (λ h p. p) (with_made front m.next made m.tree)
+      (all_put (Was m.next (λ y. true) (λ y. true) m.tree) front m.next made m.tree (was_new m.next (λ y. true) (λ y. true) m.tree m.next made (omega arith)) bare (was_old m.next (λ y. true) (λ y. true) m.tree formed.distinct (λ y l i. refl)))
+
+  pub made_shows : Shows a now m later (rewritten front m.next made x v m.tree)
+  made_shows =
+      let counted = number_at x m.tree formed.distinct root in
+      record {
+        root = λ i. subst (Stays m.tree a now later (head m.tree)) (sym (rewritten_head x v m.tree counted front m.next made)) (at_root (λ h. Stays m.tree a now later h (put_values (Result x 0) v h)) m.tree each_kept);
+        follows = rewritten_follows x v m.tree counted a now later front m.next made numbers each_kept;
+        plain = free_still m.next (λ y. true) (λ y. true) m.tree (rewritten front m.next made x v m.tree) all_plain;
+      }
+
 -- ---- so
 pub rewrites_compute_better : OwnAreAccepted → RewritesComputeBetter
 rewrites_compute_better accepted p m n x a done formed proper free fits of sure found keeps kinded e =
@@ -115,6 +159,7 @@ rewrites_compute_better accepted p m n x a done formed proper free fits of sure 
     let after_formed = subst (IsWellFormed is_isolated) r.module_is (all_formed _ m (made_plain r.front r.made _ bare (tt, (tt, tt))) formed (accepted p m x formed _ n r.edits r.becomes_it)) in
     let better = subst (λ o. refines o (c r.value) ≡ true) (sym (goes.agrees (Result x 0) (root_below m.tree (is_clean m.tree) m.next p x a done proper below found))) goes.refined in
     let operands = operands_stand is_isolated m.tree formed.distinct formed.formed.visible in
+    let root = root_computed m.tree (is_clean m.tree) m.next p x a done proper found in
     let all : Each (λ h. Unit {0}) m.tree = each_stands (λ h. Unit {0}) [] m.tree (λ s i. tt) in
     let s =
     lifted a c m.next x r.value done (or_new m.next done) goes.agrees m.tree below operands r.front r.made bare (subst (λ t. HasDistinctIds t) r.is after_formed.distinct) (subst AreKinded r.is kinded)
@@ -132,6 +177,8 @@ rewrites_compute_better accepted p m n x a done formed proper free fits of sure 
       fits = subst (λ t. FitsAll s.now (or_new m.next done) t) (sym r.is) s.fits;
       typed = subst (λ t. AreOfTypes s.now t) (sym r.is) s.typed;
       sure = subst (λ t. AllSure s.now (or_new m.next done) t) (sym r.is) s.sure;
+      shows = subst (Shows a s.now m later) (sym r.is)
+          (made_shows m x a done later formed c goes.agrees r.front r.made r.value bare root (all_arithmetic c m.next r.made goes.fits) better s.now s.better);
     }
   where
     above : (k y : ℕ) → y < k → nat_le k y ≡ true → ⊥

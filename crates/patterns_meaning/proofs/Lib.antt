@@ -25,6 +25,7 @@ pub mod Numeric
 pub mod ShowingSampled
 pub mod Verified
 pub mod Refining
+pub mod Rooted
 pub mod EditsForm
 pub mod Improved
 pub mod Giving

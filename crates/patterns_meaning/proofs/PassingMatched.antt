@@ -56,6 +56,7 @@ use Rattle.patterns_meaning.proofs.Going.{AreTyped, IsPlanned, formed_parts, has
 use Rattle.patterns_meaning.proofs.Monotone.{none_made}
 use Rattle.patterns_meaning.proofs.OfBits.{AllOfBits, run_bits}
 use Rattle.patterns_meaning.proofs.OfKinds.{OfKinds, furthers_run, numbers_run}
+use Rattle.patterns_meaning.proofs.Rooted.{hold_at, named_at}
 use Rattle.patterns_meaning.proofs.Ruled.{OfRule, known_kinds, rule_kinds}
 use Rattle.patterns_meaning.proofs.Standing.{AllHold, Holds, Stands, one_stands, standing_stands, stands_standing}
 use Rattle.patterns_meaning.proofs.Trees.{each_found}
@@ -307,25 +308,6 @@ module _ (m : Module) (p : Shape) (x : ℕ) (passing : list_all piece_passes p.o
     pub kinds : AreOfKinds types
     pub variables : (i : ℕ) (w : Value) → i < length p.values → Stands i w here → IsTypedAs w (kind_at (kinds_first types) i)
 
-  hold_at : (k : ℕ) (ps : List Piece) (b : Standing Value) → AllHold t clean k ps b → (i : ℕ) → i < length ps → (q : Piece) × (slice_get ps i ≡ Some q) × Holds t clean (k + i) q b
-  hold_at k [] b h i l = absurd (omega (arith, l))
-  hold_at k (q ∷ ps) b h zero l = (q, refl, subst (λ z. Holds t clean z q b) (same k) h.0)
-    where
-      same : (k : ℕ) → k ≡ k + 0
-      same k = omega arith
-  hold_at k (q ∷ ps) b h (suc i) l =
-      let r = hold_at (k + 1) ps b h.1 i (omega (arith, l)) in
-      (r.0, r.1, subst (λ z. Holds t clean z r.0 b) (same k i) r.2)
-    where
-      same : (k i : ℕ) → k + 1 + i ≡ k + suc i
-      same k i = omega arith
-
-  -- what is matched has names
-  named_at : (ps : List Piece) (i : ℕ) (q : Piece) → list_all (λ (o : Piece). has_name o.form) ps ≡ true → slice_get ps i ≡ Some q → has_name q.form ≡ true
-  named_at [] i q e s = absurd (none-some q s)
-  named_at (o ∷ ps) zero q e s = subst (λ (o : Piece). has_name o.form ≡ true) (same_Some o q s) (and_parts (has_name o.form) (list_all (λ (o : Piece). has_name o.form) ps) e).0
-  named_at (o ∷ ps) (suc i) q e s = named_at ps i q (and_parts (has_name o.form) (list_all (λ (o : Piece). has_name o.form) ps) e).1 s
-
   -- the operation that gives what is matched
   record Matched (b : Standing Value) (ts : Standing TypeTerm) (i : ℕ) : Type 0 where
     pub ty : ℕ
@@ -343,7 +325,7 @@ module _ (m : Module) (p : Shape) (x : ℕ) (passing : list_all piece_passes p.o
   matched_at : (b : Standing Value) (ts : Standing TypeTerm) (i : ℕ) → AllHold t clean (old_place p) p.old b → AreTyped t clean m.next p b ts → i < length p.old → Matched b ts i
   matched_at b ts i holds are l =
       let a = typed_at t clean (old_place p) (map Piece.ty p.old) b ts are.pieces i (omega (arith, l, length-map p.old Piece.ty)) in
-      let h = hold_at (old_place p) p.old b holds i l in
+      let h = hold_at t clean (old_place p) p.old b holds i l in
       let w = a.2 in
       let v = h.2 in
       let of : type_of_value v.value t ≡ Some w.term = ap (λ v. type_of_value v t) (one_stands (old_place p + i) v.value w.value b v.stands w.stands) ∙ w.of_value in
