@@ -38,10 +38,11 @@ use Rattle.patterns_book.specs.Planning.{all_made, entries_by, made_as, values_a
 use Rattle.patterns_makeable.specs.Makeable.{has_name, is_named}
 use Rattle.patterns_own.specs.Own.{OwnAreAccepted}
 use Rattle.patterns_meaning.specs.Meaning.{AreOfTypes, Assignment, Each, FitsAll, FitsEach, is_arithmetic}
-use Rattle.patterns_meaning.specs.Applied.{Agree}
+use Rattle.patterns_meaning.specs.Applied.{Agree, Computes}
 use Rattle.patterns_meaning.specs.Observing.{Shows, Stays, is_computed}
 use Rattle.patterns_meaning.specs.After.{or_new, rewritten, with_made}
 use Rattle.patterns_meaning.specs.Better.{AllBetter, AllSure, AreKinded, is_poison_by_ones, is_signed_quotient}
+use Rattle.patterns_meaning.specs.Applying.{RewritesCompute}
 use Rattle.patterns_meaning.specs.Improving.{RewritesComputeBetter, is_quotient, makes_no_quotient}
 use Rattle.patterns_meaning.proofs.Applying.{applies}
 use Rattle.patterns_meaning.proofs.EditsForm.{all_formed, made_plain}
@@ -54,7 +55,8 @@ use Rattle.patterns_meaning.proofs.Rooted.{all_arithmetic, root_computed}
 use Rattle.patterns_meaning.proofs.Showing.{all_better, all_through, at_root, number_at, put_same, rewritten_follows, rewritten_head}
 use Rattle.patterns_meaning.proofs.Edited.{each_both}
 use Rattle.patterns_meaning.proofs.Frees.{Was, free_still, was_new, was_old}
-use Rattle.patterns_meaning.proofs.Rewritten.{AllBare, AllPut, all_bare, all_put, given_each, operands_same, same_makes}
+use Rattle.patterns_meaning.proofs.Rewritten.{AllBare, AllPut, all_bare, all_put, given_each, operands_same, rewritten_computes, same_makes}
+use Rattle.patterns_meaning.proofs.Monotone.{itself}
 
 -- ---- what is made is no signed quotient
 same_quotient : (o : Arithmetic) (i j : ℕ) → is_signed_quotient (Some (rule.Pair o)) ≡ is_quotient (form.Pair o i j)
@@ -186,3 +188,25 @@ rewrites_compute_better accepted p m n x a done formed proper free fits of sure 
 
     was : (y : ℕ) → y < m.next → or_new m.next done y ≡ true → done y ≡ true
     was y l e = elim (or_cases (done y) (nat_le m.next y) e) [ inl h ↦ h | inr h ↦ absurd (above m.next y l h) ]
+
+-- where what the root computed is known
+pub rewrites_compute : RewritesCompute
+rewrites_compute p m n x a done k formed proper fits of found keeps root e =
+    let q = applies p m n x e in
+    let below = is_below m.next m.tree formed.below in
+    let computes : Computes a done m.next m.tree = record { below = below; fits = fits; typed = of } in
+    let operands = operands_stand is_isolated m.tree formed.distinct formed.formed.visible in
+    let r = rewritten_computes m.tree (is_clean m.tree) m.next p x a done q.front k proper computes operands found keeps.0 keeps.1 root q.made q.value q.plan in
+    let goes = plans_go m.tree (is_clean m.tree) m.next p x a done proper computes found keeps.0 keeps.1 q.made q.value q.plan in
+    let there = planned_there m.tree (is_clean m.tree) m.next p x found.here found.types q.made q.value found.is_matched found.are_types q.plan in
+    let bare = all_bare found.types there.env m.next _ p.new found.here there.last q.made there.made in
+    let root_is : r.now (Result x 0) ≡ Some k = r.agrees (Result x 0) (root_below m.tree (is_clean m.tree) m.next p x a done proper below found) ∙ root in
+    let better : refines (r.now (Result x 0)) (r.now q.value) ≡ true = (λ i. refines (root_is i) (r.given_is i)) ∙ itself (Some k) in (
+      r.now,
+      r.agrees,
+      subst (λ t. FitsAll r.now (or_new m.next done) t) (sym q.is) r.computes.fits,
+      subst (λ t. AreOfTypes r.now t) (sym q.is) r.computes.typed,
+      subst (Shows a r.now m (or_new m.next done)) (sym q.is)
+      (made_shows m x a done (or_new m.next done) formed r.now r.agrees q.front q.made q.value bare
+      (root_computed m.tree (is_clean m.tree) m.next p x a done proper found) (all_arithmetic goes.after m.next q.made goes.fits) better r.now (λ w. itself (r.now w))),
+    )
