@@ -1,13 +1,12 @@
 #!/usr/bin/env python3
-"""How many modules are ready for the laws of crates/patterns_meaning (`IsReady`): each arithmetic operation has operands
-and a result of the types that it takes. A constant may be of any type.
+"""How many modules are ready for the laws of crates/patterns_meaning (`IsReady`): each arithmetic operation on integers
+or index takes its operands, and a select by an i1 selects an integer or index.
 
 usage: bench/compare/ready_modules.py [FILE..]
 
 The modules are FILE.., or those of tests/opaque; each is read with opaque terms, by the rules in Python. It prints how
 many have no diagnostics, and how many of those aren't ready, by cause. It ends with status 1 where a module without
-diagnostics isn't ready for a cause that isn't listed: an operation on a type that the operation table doesn't have, or
-a select of something that isn't a number."""
+diagnostics isn't ready for another cause than a select by an i1 of something that is no integer or index."""
 import collections
 import pathlib
 import sys
@@ -41,17 +40,20 @@ def takes(name, types, result):
 
 
 def is_kinded(op, types):
-    """Whether an operation takes its operands, if it is arithmetic."""
+    """Whether an operation takes its operands, if it is arithmetic. If its result isn't a number it isn't arithmetic, but
+    for a select by an i1."""
     if op.name not in ARITHMETIC or op.name == CONSTANT:
         return True
-    return bool(op.results) and is_T(op.results[0]) and takes(op.name, types, op.results[0])
+    if op.results and is_T(op.results[0]):
+        return takes(op.name, types, op.results[0])
+    return op.name != SELECT or types[:1] != [I1]
 
 
 def cause(op, types):
     """Why an operation that doesn't take its operands may be in a module without diagnostics."""
-    if is_beyond(op, types):
-        return "beyond the table"
-    return "select of no number" if op.name == SELECT else "not listed"
+    if op.name == SELECT and not is_T(op.results[0]):
+        return "select of no number"
+    return "beyond the table" if is_beyond(op, types) else "not listed"
 
 
 def causes(module):
@@ -93,7 +95,7 @@ def main():
         counts["ready with arithmetic"] += clean and not found and has_arithmetic(module)
         for it in found if clean else ():
             why[it] += 1
-            unlisted += it[0] == "not listed"
+            unlisted += it[0] != "select of no number"
             print(f"{name}: {it[1]}, {it[0]}")
     print(", ".join(f"{word} {count}" for word, count in counts.items()))
     print("not ready without diagnostics: " + ", ".join(f"{name} {told} {count}" for (told, name), count in

@@ -32,7 +32,7 @@ use Rattle.patterns_meaning.proofs.News.{constant_makes, type_is_of}
 use Rattle.patterns_meaning.proofs.Readied.{NewKinds, Takes}
 use Rattle.patterns_meaning.proofs.Rewritten.{same_makes}
 use Rattle.patterns_meaning.proofs.Numeric.{is_numeric}
-use Rattle.patterns_meaning.proofs.Ruled.{Ruled, computed_root}
+use Rattle.patterns_meaning.proofs.Ruled.{Ruled, computed_root, numeric_stays, root_has}
 use Rattle.patterns_meaning.proofs.StaysReady.{stays_ready}
 
 -- ---- something for the new results
@@ -126,5 +126,5 @@ module _ (r : Rule) (m n : Module) (x : ℕ) (q : Ruled r m n x) (g : GivesNumbe
 
     pub number_improves : IsReady m → is_numeric r ≡ true → AreKinded n.tree → Computing a done m.tree → Improves a done m (done_after m.next x done) n.tree
     number_improves ready numeric kinded computing =
-        given_improves m n x a done q.front (constant g.ty g.bits ∷ []) (Result m.next 0) ready.formed q.within (computed_root r m n x q ready.kinded (q.numeric numeric)) computing kinded making
+        given_improves m n x a done q.front (constant g.ty g.bits ∷ []) (Result m.next 0) ready.formed q.within (computed_root r m n x q (root_has q ready.formed ready.kinded (numeric_stays r numeric)) (q.numeric numeric)) computing kinded making
         (subst (λ es. Free es m) these q.free) (subst (λ es. all_edited es m ≡ n) these q.module_is)

@@ -21,9 +21,9 @@ pub mod Lifted
 pub mod Shown
 pub mod Follows
 pub mod Showing
+pub mod Verified
 pub mod Numeric
 pub mod ShowingSampled
-pub mod Verified
 pub mod Refining
 pub mod Rooted
 pub mod EditsForm

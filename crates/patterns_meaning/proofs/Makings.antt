@@ -29,7 +29,7 @@ use Rattle.patterns_meaning.proofs.OfKinds.{IsKind}
 use Rattle.patterns_meaning.proofs.Readied.{HasKind, Rises, Takes, same_takes}
 use Rattle.patterns_meaning.proofs.Rewritten.{AllBare, AllPut, same_makes}
 use Rattle.patterns_meaning.proofs.Numeric.{is_numeric}
-use Rattle.patterns_meaning.proofs.Ruled.{Ruled, computed_root}
+use Rattle.patterns_meaning.proofs.Ruled.{Ruled, computed_root, numeric_stays, root_has}
 use Rattle.patterns_meaning.proofs.StaysReady.{stays_ready}
 use Rattle.patterns_meaning.proofs.Trees.{ResultsAre}
 
@@ -220,5 +220,5 @@ module _ (r : Rule) (m n : Module) (x : ℕ) (q : Ruled r m n x) (g : GivesNew r
 
     pub new_improves : IsReady m → is_numeric r ≡ true → AreKinded n.tree → Computing a done m.tree → Improves a done m (done_after m.next x done) n.tree
     new_improves ready numeric kinded computing =
-        given_improves m n x a done q.front g.made g.value ready.formed q.within (computed_root r m n x q ready.kinded (q.numeric numeric)) computing kinded making
+        given_improves m n x a done q.front g.made g.value ready.formed q.within (computed_root r m n x q (root_has q ready.formed ready.kinded (numeric_stays r numeric)) (q.numeric numeric)) computing kinded making
         (subst (λ es. Free es m) g.edits q.free) (subst (λ es. all_edited es m ≡ n) g.edits q.module_is)

@@ -58,7 +58,7 @@ use Rattle.patterns_meaning.proofs.Formed.{operands_stand}
 use Rattle.patterns_meaning.proofs.Forms.{makes_is, named_is}
 use Rattle.patterns_meaning.proofs.Monotone.{same_refined}
 use Rattle.patterns_meaning.proofs.Readied.{Rises, Takes, each_rises}
-use Rattle.patterns_meaning.proofs.Ruled.{Ruled, Site, gives_refined, of_rule, rule_kinds, ruled, site_of}
+use Rattle.patterns_meaning.proofs.Ruled.{Ruled, Site, gives_refined, of_rule, rule_kinds, ruled, site_of, root_has}
 use Rattle.patterns_meaning.proofs.Sources.{kind_test}
 use Rattle.patterns_meaning.proofs.Trees.{each_found, found_fit}
 use Rattle.patterns_meaning.proofs.TruthRules.{asked_number, by_compare}
@@ -234,7 +234,7 @@ module _ (accepted : AreAccepted) where
 
     mirror_kinds : MirrorKinds
     mirror_kinds =
-        let k = rule_kinds m.tree (head q.here) (each_found (λ h. is_kinded m.tree h ≡ true) x m.tree ready.kinded q.here q.found).0 how.Compare w.name in
+        let k = rule_kinds m.tree (head q.here) (each_found (λ h. is_kinded m.tree h ≡ true) x m.tree ready.kinded q.here q.found).0 (root_has q ready.formed ready.kinded refl) how.Compare w.name in
         let p = compares_parts k.kind (kind_in m.tree w.first) (kind_in m.tree w.second) (subst (λ vs. takes how.Compare (head q.here) k.kind (map (kind_in m.tree) vs) ≡ true) w.operands k.operands) in
         let stand = operands_stand is_isolated m.tree ready.formed.distinct ready.formed.formed.visible in
         let values = subst (λ vs. list_all (λ v. has_value v m.tree) vs ≡ true) w.operands (each_found (λ h. list_all (λ v. has_value v m.tree) h.operands ≡ true) x m.tree stand q.here q.found).0 in
@@ -257,7 +257,7 @@ module _ (accepted : AreAccepted) where
 
       module _ (a : Assignment) (done : ℕ → Bool) (computing : Computing a done m.tree) where
         site : Site m a done x q.here
-        site = site_of m a done x q.here ready.formed ready.kinded computing q.found
+        site = site_of m a done x q.here ready.formed ready.kinded computing q.found (root_has q ready.formed ready.kinded refl)
 
         first_of : (y : Known) → a w.first ≡ Some y → y.0 ≡ k.between
         first_of y e = kind_by m a done x q.here site w.first k.between y (ap (is_kind k.between) k.first_is ∙ same_itself k.between) e

@@ -16,6 +16,7 @@ use Rattle.rewriter_machine.specs.Contents.{Edit}
 use Rattle.patterns_base.specs.declared.rule.Rule.{Rule}
 use Rattle.patterns_base.specs.RuleNames.{number_of, same_rule}
 use Rattle.patterns_base.specs.Rules.{has_rule, rule, rules_for, table}
+use Rattle.patterns_meaning.proofs.Verified.{asks_kind}
 use Rattle.patterns_base.proofs.Dispatch.{beside_or, only_listed}
 
 -- the rules of arithmetic, by their numbers: not those that erase what is dead, take casts back, open loops and choices,
@@ -40,12 +41,6 @@ any_numeric r n (s ∷ rs) e = go (or_cases (same_rule r s) (list_any (same_rule
     go : (same_rule r s ≡ true) ⊎ (list_any (same_rule r) rs ≡ true) → (list_any (same_rule r) rs ≡ true → list_any is_numeric rs ≡ true) → (is_numeric s || list_any is_numeric rs) ≡ true
     go (inl i) more = ap (λ b. b || list_any is_numeric rs) (ap is_numeric_number (sym (eqb-true (number_of r) (number_of s) i)) ∙ n)
     go (inr i) more = or_true (is_numeric s) (more i)
-
--- whether an operation of a rule has a result of a kind: a constant may have another
-abbrev pub asks_kind : Option How → Bool
-asks_kind None = false
-asks_kind (Some how.Constant) = false
-asks_kind (Some r) = true
 
 abbrev IsOfArithmetic : List ℕ → Type 0
 IsOfArithmetic name = has_numeric name ≡ true → asks_kind (rule_of name) ≡ true

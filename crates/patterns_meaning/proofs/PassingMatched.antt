@@ -1,5 +1,6 @@
 -- What stands where a pattern that matches no choices is matched in a ready module.
 use Rattle.std.proofs.Common.{◌≡◌, ℕ, zero, suc, ◌+◌, ◌-◌, ◌<◌, refl, ap, sym, ◌∙◌, subst, List, [], ◌∷◌, ◌++◌, length, map, Bool, true, false, true≢false, ◌&&◌, not, eqb, Option, Some, None, slice_get, ◌⊎◌, inl, inr, arith}
+use Rattle.ir_tree.specs.Ids.{find}
 use Rattle.std.specs.Prelude.{codes, is_some, if◌then◌else◌, option_map}
 use Rattle.std.specs.List.{list_all, list_any, range_with_len}
 use Rattle.std.proofs.lemmas.Bool.{and_parts}
@@ -59,6 +60,7 @@ use Rattle.patterns_meaning.proofs.OfKinds.{OfKinds, furthers_run, numbers_run}
 use Rattle.patterns_meaning.proofs.Rooted.{hold_at, named_at}
 use Rattle.patterns_meaning.proofs.Ruled.{OfRule, known_kinds, rule_kinds}
 use Rattle.patterns_meaning.proofs.Standing.{AllHold, Holds, Stands, one_stands, standing_stands, stands_standing}
+use Rattle.patterns_meaning.proofs.Verified.{HasKind, clean_has_kind}
 use Rattle.patterns_meaning.proofs.Trees.{each_found}
 use Rattle.patterns_meaning.specs.Observing.{is_computed}
 
@@ -247,12 +249,18 @@ module _ (m : Module) (ready : IsReady m) (v : Value) (h : Header) (e : giver_he
       let g = giver_of m.tree (is_clean m.tree) v h e in
       subst (λ h. is_kinded m.tree h ≡ true) g.heads (each_found (λ h. is_kinded m.tree h ≡ true) g.id m.tree ready.kinded g.here g.found).0
 
+  giver_has : HasKind h
+  giver_has =
+      let g = giver_of m.tree (is_clean m.tree) v h e in
+      let f = each_found (λ h. is_kinded m.tree h ≡ true) g.id m.tree ready.kinded g.here g.found in
+      subst HasKind g.heads (clean_has_kind m.tree g.here ready.formed.distinct (ap (λ y. find y m.tree) f.1 ∙ g.found) (ap (is_clean m.tree) g.heads ∙ g.is_clean) f.0)
+
   pub giver_kinds : (f : Form) → rule_of h.name ≡ Some (rule_for f) → OfRule m.tree h (rule_for f)
-  giver_kinds (form.Pair o i j) name = rule_kinds m.tree h giver_kinded (how.Pair o) name
-  giver_kinds (form.Compare q i j) name = rule_kinds m.tree h giver_kinded how.Compare name
-  giver_kinds (form.Select c i j) name = rule_kinds m.tree h giver_kinded how.Select name
-  giver_kinds (form.Resize c i) name = rule_kinds m.tree h giver_kinded (how.Resize c) name
-  giver_kinds (form.IndexCast c i) name = rule_kinds m.tree h giver_kinded (how.IndexCast c) name
+  giver_kinds (form.Pair o i j) name = rule_kinds m.tree h giver_kinded giver_has (how.Pair o) name
+  giver_kinds (form.Compare q i j) name = rule_kinds m.tree h giver_kinded giver_has how.Compare name
+  giver_kinds (form.Select c i j) name = rule_kinds m.tree h giver_kinded giver_has how.Select name
+  giver_kinds (form.Resize c i) name = rule_kinds m.tree h giver_kinded giver_has (how.Resize c) name
+  giver_kinds (form.IndexCast c i) name = rule_kinds m.tree h giver_kinded giver_has (how.IndexCast c) name
 
   giver_known : (r : How) → rule_of h.name ≡ Some r → (k : BitsKind) → result_kind h ≡ Some k → OfRule m.tree h r
   giver_known r name k i = known_kinds m.tree h giver_kinded r name k i

@@ -51,7 +51,7 @@ use Rattle.patterns_meaning.proofs.Monotone.{none_made, same_refined}
 use Rattle.patterns_meaning.proofs.OfBits.{IsOfBits, pair_bits}
 use Rattle.patterns_meaning.proofs.OfKinds.{IsKind, pair_kind}
 use Rattle.patterns_meaning.proofs.Pairs.{IsTotal, binary_gives, binary_made, is_its_kind, pair_known, pair_out}
-use Rattle.patterns_meaning.proofs.Ruled.{Ruled, Site, of_rule, ruled, site_of, value_bits}
+use Rattle.patterns_meaning.proofs.Ruled.{Ruled, Site, of_rule, ruled, site_of, value_bits, root_has}
 use Rattle.patterns_meaning.proofs.Trees.{found_fit}
 
 by_multiply : rule_of (codes "arith.muli") ≡ Some (how.Pair op.Multiply)
@@ -362,14 +362,14 @@ module _ (accepted : AreAccepted) where
   expand_remainder_ready m n x ready e =
       let q = ruled accepted ExpandRemainder m n x ready.formed ready.sorted e in
       let w = remains_here m n x q in
-      new_ready ExpandRemainder m n x q (remainder_new m n x q w (on_two_values ExpandRemainder m n x q w.divides_it.rest w.first w.second w.ty ready w.divides_it.by w.operands w.results)) ready
+      new_ready ExpandRemainder m n x q (remainder_new m n x q w (on_two_values ExpandRemainder m n x q w.divides_it.rest w.first w.second w.ty refl ready w.divides_it.by w.operands w.results)) ready
 
   pub expands_remainders : ExpandsRemainders
   expands_remainders m n x o a done ready computing found has e =
       let q = ruled accepted ExpandRemainder m n x ready.formed ready.sorted e in
       let w = remains_here m n x q in
-      let k = on_two_values ExpandRemainder m n x q w.divides_it.rest w.first w.second w.ty ready w.divides_it.by w.operands w.results in
-      let s = site_of m a done x q.here ready.formed ready.kinded computing q.found in
+      let k = on_two_values ExpandRemainder m n x q w.divides_it.rest w.first w.second w.ty refl ready w.divides_it.by w.operands w.results in
+      let s = site_of m a done x q.here ready.formed ready.kinded computing q.found (root_has q ready.formed ready.kinded refl) in
       let same : o ≡ q.here = same_Some _ _ (sym found ∙ q.found) in
       let quotient : done x ≡ true → (is_signed_remainder w.divides_it.rest && overflows (a w.first ∷ a w.second ∷ [])) ≡ false =
       (λ d. sym (λ i. is_signed (w.divides_it.by i) && overflows (map a (w.operands i))) ∙ subst (HasQuotient a done) (ap head same) has (ap done q.id ∙ d)) in

@@ -58,7 +58,7 @@ use Rattle.patterns_meaning.proofs.Monotone.{itself}
 use Rattle.patterns_meaning.proofs.OfBits.{IsOfBits}
 use Rattle.patterns_meaning.proofs.Readied.{AreKinds, HasKind, Rises, Takes, all_rise, each_rises, kinds_are, kinds_found, same_kinds_of, same_takes}
 use Rattle.patterns_meaning.proofs.Rewritten.{same_makes}
-use Rattle.patterns_meaning.proofs.Ruled.{Ruled, of_rule, rule_kinds, ruled, site_of, value_bits}
+use Rattle.patterns_meaning.proofs.Ruled.{Ruled, of_rule, rule_kinds, ruled, site_of, value_bits, root_has}
 use Rattle.patterns_meaning.proofs.Settling.{each_by_found}
 use Rattle.patterns_meaning.proofs.Trees.{ArgumentsAre, ResultsAre, each_found, value_below}
 use Rattle.patterns_meaning.proofs.Showing.{IsUnseen, at_unseen, number_at, unseen_shows, unseen_through}
@@ -237,7 +237,7 @@ module _ (accepted : AreAccepted) where
       let old = kinds_are m.tree ready.formed.distinct in
       let kinds = kind_in m.tree in
       let below = is_below m.next m.tree ready.formed.below in
-      let k = rule_kinds m.tree (head q.here) (each_found (λ h. is_kinded m.tree h ≡ true) x m.tree ready.kinded q.here q.found).0 (how.Pair w.pair.0) w.pair.1 in
+      let k = rule_kinds m.tree (head q.here) (each_found (λ h. is_kinded m.tree h ≡ true) x m.tree ready.kinded q.here q.found).0 (root_has q ready.formed ready.kinded refl) (how.Pair w.pair.0) w.pair.1 in
       let both = and_parts (is_kind k.kind (kinds w.first)) (is_kind k.kind (kinds w.second)) (subst (λ vs. takes (how.Pair w.pair.0) (head q.here) k.kind (map (kind_in m.tree) vs) ≡ true) w.operands k.operands) in
       let takes_swapped : Takes (kind_in m.tree) (record (head q.here) { operands = w.second ∷ w.first ∷ [] }) =
       same_takes (head q.here) (head q.here).id (w.second ∷ w.first ∷ []) (kinds w.second ∷ kinds w.first ∷ [])
@@ -270,7 +270,7 @@ module _ (accepted : AreAccepted) where
       let is : all_edited (SetOperand x 0 w.second ∷ SetOperand x 1 w.first ∷ []) m ≡ n = subst (λ es. all_edited es m ≡ n) w.edits q.module_is in
       let tree = ap (λ (m : Module). m.tree) is in
       let it = its m n x q ready.formed.distinct in
-      let s = site_of m a done x q.here ready.formed ready.kinded computing q.found in
+      let s = site_of m a done x q.here ready.formed ready.kinded computing q.found (root_has q ready.formed ready.kinded refl) in
       let two = of_two_is m a done x q.here s w.first w.second w.operands in
       let k = of_rule m a done x q.here s (how.Pair w.pair.0) w.pair.1 in
       let below = is_below m.next m.tree ready.formed.below in

@@ -1,5 +1,5 @@
--- A module without diagnostics is ready.
-use Rattle.std.proofs.Common.{◌≡◌, ℕ, suc, arith, eqb-true, ◌+◌, refl, ap, sym, ◌∙◌, subst, List, [], ◌∷◌, ◌++◌, map, Bool, true, false, true≢false, ◌&&◌, ◌||◌, not, Option, Some, None, inl, inr, length, if◌then◌else◌}
+-- A module without diagnostics is ready, and a clean operation has a kind.
+use Rattle.std.proofs.Common.{◌≡◌, ℕ, suc, arith, eqb-true, ◌+◌, refl, ap, sym, ◌∙◌, subst, List, [], ◌∷◌, ◌++◌, map, Bool, true, false, true≢false, ◌&&◌, ◌||◌, not, Option, Some, None, ◌⊎◌, inl, inr, length, if◌then◌else◌}
 use Rattle.std.specs.Prelude.{codes, is_some, option_map, slice_get, nat_le, nat_lt, ◌==◌}
 use Rattle.std.specs.List.{filter, list_all}
 use Rattle.std.specs.Option.{option_eq}
@@ -21,13 +21,13 @@ use Rattle.ir_types.specs.SameTypes.{same_type}
 use Rattle.ir_types.proofs.SameTerms.{type_is}
 use Rattle.ir_tree.specs.declared.value.Value.{Value}
 use Rattle.ir_tree.specs.Tree.{head}
-use Rattle.ir_tree.specs.Ids.{HasDistinctIds}
+use Rattle.ir_tree.specs.Ids.{HasDistinctIds, find}
 use Rattle.ir_tree.specs.Meaning.{Operation}
 use Rattle.ir_tree_laws.specs.Members.{In}
 use Rattle.ir_tree_laws.specs.Stands.{StandOf, stand_id, stand_of, stands}
 use Rattle.ir_tree_laws.specs.Values.{type_of_value}
 use Rattle.ir_tree_laws.proofs.Listed.{neither}
-use Rattle.ir_tree_laws.proofs.Members.{stand_found, stand_of_member}
+use Rattle.ir_tree_laws.proofs.Members.{found_stands, stand_found, stand_of_member}
 use Rattle.ir_event.specs.Modules.{Module}
 use Rattle.op_registry.specs.declared.definition.TypeRule.{TypeRule}
 use Rattle.op_registry.specs.declared.definition.TypeRule.TheVariants as type
@@ -43,7 +43,8 @@ use Rattle.ir_verify_base.specs.Shapes.{breaks_1, breaks_3, breaks_5, breaks_12,
 use Rattle.ir_verify_base.specs.TypeRules.{breaks_2, breaks_4, breaks_18, is_extension, is_no_number, isnt_greater, isnt_smaller}
 use Rattle.patterns_base.specs.verify.Breaks.{broken, numbers_from, told_in, told_of}
 use Rattle.patterns_base.specs.verify.Beyond.{is_beyond, is_on_types, told}
-use Rattle.patterns_base.specs.Diagnostics.{diagnostics_of, rows_of, rule_rows}
+use Rattle.patterns_base.specs.Diagnostics.{broken_at, diagnostics_of, rows_of, rule_rows}
+use Rattle.patterns_base.specs.Looks.{breaks_none, has_own_properties, is_clean}
 use Rattle.listeners_surroundings.specs.events.Rows.{RowTerm}
 use Rattle.dialects_int.specs.declared.operations.Cast.{Cast}
 use Rattle.dialects_int.specs.declared.operations.Cast.TheVariants as cuts
@@ -55,9 +56,9 @@ use Rattle.patterns_laws.specs.Keeps.{Each as EachIn}
 use Rattle.patterns_check.specs.Outcomes.{given}
 use Rattle.patterns_book.specs.Matching.{Header}
 use Rattle.patterns_meaning.specs.Meaning.{Each, result_kind}
-use Rattle.patterns_meaning.specs.Better.{AreKinded, are_its_bits, compares, is_kind, is_kinded, kind_in, narrows, takes, takes_its}
+use Rattle.patterns_meaning.specs.Better.{AreKinded, are_its_bits, compares, has_no_condition, is_kind, is_kinded, kind_in, narrows, takes, takes_its}
 use Rattle.patterns_meaning.specs.Keeping.{IsReady}
-use Rattle.patterns_meaning.specs.Verified.{IsVerified, VerifiedIsReady, has_width, is_covered, is_in_range, is_within_by}
+use Rattle.patterns_meaning.specs.Verified.{IsVerified, VerifiedIsReady, has_width, is_covered, is_in_range, is_within, is_within_by}
 use Rattle.patterns_meaning.proofs.Formed.{each_stands}
 use Rattle.patterns_meaning.proofs.Trees.{each_found}
 
@@ -145,8 +146,9 @@ asks_of how.Select = (types (type.Boolean ∷ type.Any ∷ type.Same ∷ []), ty
 asks_of (how.Resize c) = (types (type.Integer ∷ []), types (type.Integer ∷ []))
 asks_of (how.IndexCast c) = (types (type.Number ∷ []), types (type.OtherNumber ∷ []))
 
--- which name cuts, and that no index cast does
+-- which name selects, which cuts, and that no index cast does
 abbrev IsCut : How → List ℕ → Type 0
+IsCut how.Select name = bytes_eq name (codes "arith.select") ≡ true
 IsCut (how.Resize cuts.Truncate) name = bytes_eq name (codes "arith.trunci") ≡ true
 IsCut (how.IndexCast cuts.Truncate) name = ⊥
 IsCut _ name = Unit {0}
@@ -156,7 +158,7 @@ RowFits name r = (option_map pair_of (row_of name) ≡ Some (asks_of r)) × IsCu
 
 rows_fit : EachIn (λ (row : List ℕ × How). RowFits row.0 row.1) rules
 unfolding rules row_of rows
-rows_fit = ((refl, tt), ((refl, tt), ((refl, tt), ((refl, tt), ((refl, tt), ((refl, tt), ((refl, tt), ((refl, tt), ((refl, tt), ((refl, tt), ((refl, tt), ((refl, tt), ((refl, tt), ((refl, tt), ((refl, tt), ((refl, tt), ((refl, tt), ((refl, tt), ((refl, tt), ((refl, tt), ((refl, tt), ((refl, tt), ((refl, refl), ((refl, tt), ((refl, tt), tt)))))))))))))))))))))))))
+rows_fit = ((refl, tt), ((refl, tt), ((refl, tt), ((refl, tt), ((refl, tt), ((refl, tt), ((refl, tt), ((refl, tt), ((refl, tt), ((refl, tt), ((refl, tt), ((refl, tt), ((refl, tt), ((refl, tt), ((refl, tt), ((refl, tt), ((refl, tt), ((refl, tt), ((refl, tt), ((refl, refl), ((refl, tt), ((refl, tt), ((refl, refl), ((refl, tt), ((refl, tt), tt)))))))))))))))))))))))))
 
 beside_fits : (name : List ℕ) (r : How) (rows : List (List ℕ × How)) → EachIn (λ (row : List ℕ × How). RowFits row.0 row.1) rows → beside name rows ≡ Some r → RowFits name r
 beside_fits name r [] all e = absurd (none-some r e)
@@ -169,6 +171,9 @@ beside_fits name r (row ∷ rows) all e = go (bytes_eq name row.0) refl e (besid
 rule_fits : (name : List ℕ) (r : How) → rule_of name ≡ Some r → RowFits name r
 unfolding rule_of
 rule_fits name r e = beside_fits name r rules rows_fit e
+
+pub named_select : (name : List ℕ) → rule_of name ≡ Some how.Select → bytes_eq name (codes "arith.select") ≡ true
+named_select name e = (rule_fits name how.Select e).1
 
 row_at : (name : List ℕ) (p : TypesRow × TypesRow) → option_map pair_of (row_of name) ≡ Some p → (row : Row) × (row_of name ≡ Some row) × (pair_of row ≡ p)
 row_at name p e = go (row_of name) refl e
@@ -355,6 +360,13 @@ module _ (h : Header) (ts : List (Option TypeTerm)) (us : List TypeTerm) where
       some_kind None e = absurd (true≢false (sym e))
       some_kind (Some k) e = (k, refl)
 
+  selects_by_truth : (name : List ℕ) → Verified how.Select name ts us → has_no_condition (kinds_of_types ts) ≡ false
+  selects_by_truth name v =
+      let w = three_fit v.known type.Boolean type.Any type.Same ts v.asked in
+      let all : types_fit v.known (types (type.Boolean ∷ type.Any ∷ type.Same ∷ [])) (w.0 ∷ w.1 ∷ w.2 ∷ []) ≡ true = sym (ap (types_fit v.known (types (type.Boolean ∷ type.Any ∷ type.Same ∷ []))) w.3) ∙ v.asked in
+      let c = there_is is_boolean w.0 (and_parts (is_there is_boolean w.0) _ all).0 in
+      ap (λ ts. has_no_condition (kinds_of_types ts)) w.3 ∙ ap not (its_kind (given w.0 kind_of) (kind.Int 1) (known_kind w.0 c.0 (kind.Int 1) c.1 (truth_kind c.0 c.2)))
+
   narrows_so : (c : Cast) (v w : ℕ) → (c ≡ cuts.Truncate → nat_lt w v ≡ true) → narrows c (Some (kind.Int v)) (kind.Int w) ≡ true
   narrows_so cuts.Truncate v w less = less refl
   narrows_so cuts.ExtendSigned v w less = refl
@@ -418,7 +430,21 @@ covered None e = absurd (true≢false (sym e))
 covered (Some true) e = absurd (true≢false (sym e))
 covered (Some false) e = refl
 
-module _ (t : Operation) (distinct : HasDistinctIds t) (silent : diagnostics_of t ≡ []) (s : Stand) (here : In s (stands [] t)) where
+-- whether an operation of a rule has a result of a kind: a constant may have another
+abbrev pub asks_kind : Option How → Bool
+asks_kind None = false
+asks_kind (Some how.Constant) = false
+asks_kind (Some r) = true
+
+-- it has one, where it asks for it
+abbrev pub HasKind : Header → Type 0
+HasKind h = asks_kind (rule_of h.name) ≡ true → is_some (result_kind h) ≡ true
+
+no_rules : (rs : List ℕ) → breaks_none (Some rs) ≡ true → rs ≡ []
+no_rules [] e = refl
+no_rules (r ∷ rs) e = absurd (true≢false (sym e))
+
+module _ (t : Operation) (distinct : HasDistinctIds t) (s : Stand) (here : In s (stands [] t)) where
   abbrev h : Header
   h = head s.here
 
@@ -431,13 +457,11 @@ module _ (t : Operation) (distinct : HasDistinctIds t) (silent : diagnostics_of 
   beyond_is : beyond ≡ Some (is_beyond around)
   beyond_is = ap (λ o. option_map is_beyond (option_map (surround t) o)) (stand_of_member t distinct s here)
 
-  verified : (r : How) → rule_of h.name ≡ Some r → is_covered beyond ≡ true → Verified r h.name (map (λ v. type_of_value v t) h.operands) h.results
-  verified r e within =
+  verified : (r : How) → rule_of h.name ≡ Some r → broken around ≡ [] → Verified r h.name (map (λ v. type_of_value v t) h.operands) h.results
+  verified r e none =
       let fits = rule_fits h.name r e in
       let w = row_at h.name (asks_of r) fits.0 in
       let own : around.node.head ≡ h = head_shown s.here in
-      let not_beyond : is_beyond around ≡ false = same_Some _ _ (sym beyond_is ∙ covered beyond within) in
-      let none : broken around ≡ [] = none_broken around not_beyond (none_told t silent h.id s (stand_of_member t distinct s here)) in
       let listed : row_of around.node.head.name ≡ Some w.0 = ap (λ (h : Header). row_of h.name) own ∙ w.1 in
       let u = unbroken w.0 around (sym (ap (λ r. numbers_from 1 (told_in r around)) listed) ∙ none) in
       let k = known_of w.0 around in
@@ -457,43 +481,108 @@ module _ (t : Operation) (distinct : HasDistinctIds t) (silent : diagnostics_of 
             ∙ sym (ap (λ b. if b then isnt_smaller around.types around.node.head.results else (is_extension around.node && isnt_greater around.types around.node.head.results)) (ap (λ (h : Header). bytes_eq h.name (codes "arith.trunci")) own ∙ e)) ∙ u.cuts;
       }
 
-  takes_within : (r : How) → rule_of h.name ≡ Some r → Takes r h (map (λ v. type_of_value v t) h.operands) h.results → list_all (λ ty. has_width (kind_of ty)) h.results ≡ true → takes_its (rule_of h.name) (result_kind h) h (map (kind_in t) h.operands) ≡ true
-  takes_within r e w right =
-      ap (λ q. takes_its q (result_kind h) h (map (kind_in t) h.operands)) e
-      ∙ (λ i. takes_its (Some r) (w.is i) h (kinds_are t h.operands i))
-      ∙ some_takes r w.own_kind (kinds_of_types (map (λ v. type_of_value v t) h.operands)) (width_is h.results w.own_kind right w.is) w.takes
-    where
-      some_takes : (r : How) (k : BitsKind) (js : List (Option BitsKind)) → is_width (width_of k) ≡ true → takes r h k js ≡ true → takes_its (Some r) (Some k) h js ≡ true
-      some_takes how.Constant k js p q = both_true _ _ p q
-      some_takes (how.Pair o) k js p q = both_true _ _ p q
-      some_takes how.Compare k js p q = both_true _ _ p q
-      some_takes how.Select k js p q = both_true _ _ p q
-      some_takes (how.Resize c) k js p q = both_true _ _ p q
-      some_takes (how.IndexCast c) k js p q = both_true _ _ p q
+  -- a clean one has a kind, if it asks for one
+  clean_none : is_clean t h ≡ true → broken around ≡ []
+  unfolding is_clean
+  clean_none e =
+      no_rules (broken around)
+      (sym (ap (λ o. breaks_none (option_map broken (option_map (surround t) o))) (stand_of_member t distinct s here))
+      ∙ (and_parts (breaks_none (broken_at h.id t)) (has_own_properties h) e).0)
 
-  constant_kinded : rule_of h.name ≡ Some how.Constant → is_in_range h ≡ true → is_kinded t h ≡ true
-  constant_kinded e right =
-      let p = and_parts (list_all (λ ty. has_width (kind_of ty)) h.results) (are_its_bits (fold_of h.name h.properties [] h.results)) right in
-      ap (λ q. takes_its q (result_kind h) h (map (kind_in t) h.operands)) e ∙ go (result_kind h) refl p
+  clean_here : is_clean t h ≡ true → is_kinded t h ≡ true → HasKind h
+  clean_here clean kinded asks = go (rule_of h.name) refl asks
     where
-      go : (k : Option BitsKind) → result_kind h ≡ k → (list_all (λ ty. has_width (kind_of ty)) h.results ≡ true) × (are_its_bits (fold_of h.name h.properties [] h.results) ≡ true) → takes_its (Some how.Constant) k h (map (kind_in t) h.operands) ≡ true
-      go None e p = refl
-      go (Some k) e p = both_true _ _ (width_is h.results k p.0 e) p.1
+      none : broken around ≡ []
+      none = clean_none clean
 
-  operation_kinded : is_in_range h ≡ true → is_within_by (rule_of h.name) (result_kind h) beyond ≡ true → is_kinded t h ≡ true
-  operation_kinded right within = go (rule_of h.name) refl within
-    where
-      widths : list_all (λ ty. has_width (kind_of ty)) h.results ≡ true
-      widths = (and_parts (list_all (λ ty. has_width (kind_of ty)) h.results) _ right).0
+      selected : rule_of h.name ≡ Some how.Select → (k : Option BitsKind) → result_kind h ≡ k → is_some k ≡ true
+      selected e None i =
+          absurd (true≢false (sym (
+          sym (selects_by_truth h (map (λ v. type_of_value v t) h.operands) h.results h.name (verified how.Select e none))
+          ∙ sym (ap has_no_condition (kinds_are t h.operands))
+          ∙ sym (ap (λ q. takes_its q (result_kind h) h (map (kind_in t) h.operands)) e ∙ ap (λ k. takes_its (Some how.Select) k h (map (kind_in t) h.operands)) i)
+          ∙ kinded)))
+      selected e (Some k) i = refl
 
-      go : (q : Option How) → rule_of h.name ≡ q → is_within_by q (result_kind h) beyond ≡ true → is_kinded t h ≡ true
-      go None e w = ap (λ q. takes_its q (result_kind h) h (map (kind_in t) h.operands)) e
-      go (Some how.Constant) e w = constant_kinded e right
-      go (Some (how.Pair o)) e w = takes_within (how.Pair o) e (takes_pair h (map (λ v. type_of_value v t) h.operands) h.results o h.name (verified (how.Pair o) e w)) widths
-      go (Some how.Compare) e w = takes_within how.Compare e (takes_compare h (map (λ v. type_of_value v t) h.operands) h.results h.name (verified how.Compare e w)) widths
-      go (Some how.Select) e w = (let p = and_parts (is_some (result_kind h)) (is_covered beyond) w in takes_within how.Select e (takes_select h (map (λ v. type_of_value v t) h.operands) h.results h.name p.0 (verified how.Select e p.1)) widths)
-      go (Some (how.Resize c)) e w = takes_within (how.Resize c) e (takes_resize h (map (λ v. type_of_value v t) h.operands) h.results c h.name (rule_fits h.name (how.Resize c) e).1 (verified (how.Resize c) e w)) widths
-      go (Some (how.IndexCast c)) e w = takes_within (how.IndexCast c) e (takes_index_cast h (map (λ v. type_of_value v t) h.operands) h.results c h.name (rule_fits h.name (how.IndexCast c) e).1 (verified (how.IndexCast c) e w)) widths
+      go : (q : Option How) → rule_of h.name ≡ q → asks_kind q ≡ true → is_some (result_kind h) ≡ true
+      go None e asks = absurd (true≢false (sym asks))
+      go (Some how.Constant) e asks = absurd (true≢false (sym asks))
+      go (Some (how.Pair o)) e asks = ap is_some (takes_pair h (map (λ v. type_of_value v t) h.operands) h.results o h.name (verified (how.Pair o) e none)).is
+      go (Some how.Compare) e asks = ap is_some (takes_compare h (map (λ v. type_of_value v t) h.operands) h.results h.name (verified how.Compare e none)).is
+      go (Some how.Select) e asks = selected e (result_kind h) refl
+      go (Some (how.Resize c)) e asks = ap is_some (takes_resize h (map (λ v. type_of_value v t) h.operands) h.results c h.name (rule_fits h.name (how.Resize c) e).1 (verified (how.Resize c) e none)).is
+      go (Some (how.IndexCast c)) e asks = ap is_some (takes_index_cast h (map (λ v. type_of_value v t) h.operands) h.results c h.name (rule_fits h.name (how.IndexCast c) e).1 (verified (how.IndexCast c) e none)).is
+
+  -- one without diagnostics takes its operands
+  module _ (silent : diagnostics_of t ≡ []) where
+    none_here : is_covered beyond ≡ true → broken around ≡ []
+    none_here within =
+        none_broken around (same_Some _ _ (sym beyond_is ∙ covered beyond within)) (none_told t silent h.id s (stand_of_member t distinct s here))
+
+    takes_within : (r : How) → rule_of h.name ≡ Some r → Takes r h (map (λ v. type_of_value v t) h.operands) h.results → list_all (λ ty. has_width (kind_of ty)) h.results ≡ true → takes_its (rule_of h.name) (result_kind h) h (map (kind_in t) h.operands) ≡ true
+    takes_within r e w right =
+        ap (λ q. takes_its q (result_kind h) h (map (kind_in t) h.operands)) e
+        ∙ (λ i. takes_its (Some r) (w.is i) h (kinds_are t h.operands i))
+        ∙ some_takes r w.own_kind (kinds_of_types (map (λ v. type_of_value v t) h.operands)) (width_is h.results w.own_kind right w.is) w.takes
+      where
+        some_takes : (r : How) (k : BitsKind) (js : List (Option BitsKind)) → is_width (width_of k) ≡ true → takes r h k js ≡ true → takes_its (Some r) (Some k) h js ≡ true
+        some_takes how.Constant k js p q = both_true _ _ p q
+        some_takes (how.Pair o) k js p q = both_true _ _ p q
+        some_takes how.Compare k js p q = both_true _ _ p q
+        some_takes how.Select k js p q = both_true _ _ p q
+        some_takes (how.Resize c) k js p q = both_true _ _ p q
+        some_takes (how.IndexCast c) k js p q = both_true _ _ p q
+
+    constant_kinded : rule_of h.name ≡ Some how.Constant → is_in_range h ≡ true → is_kinded t h ≡ true
+    constant_kinded e right =
+        let p = and_parts (list_all (λ ty. has_width (kind_of ty)) h.results) (are_its_bits (fold_of h.name h.properties [] h.results)) right in
+        ap (λ q. takes_its q (result_kind h) h (map (kind_in t) h.operands)) e ∙ go (result_kind h) refl p
+      where
+        go : (k : Option BitsKind) → result_kind h ≡ k → (list_all (λ ty. has_width (kind_of ty)) h.results ≡ true) × (are_its_bits (fold_of h.name h.properties [] h.results) ≡ true) → takes_its (Some how.Constant) k h (map (kind_in t) h.operands) ≡ true
+        go None e p = refl
+        go (Some k) e p = both_true _ _ (width_is h.results k p.0 e) p.1
+
+    operation_kinded : is_in_range h ≡ true → is_within_by (rule_of h.name) (result_kind h) (map (kind_in t) h.operands) beyond ≡ true → is_kinded t h ≡ true
+    operation_kinded right within = go (rule_of h.name) refl within
+      where
+        widths : list_all (λ ty. has_width (kind_of ty)) h.results ≡ true
+        widths = (and_parts (list_all (λ ty. has_width (kind_of ty)) h.results) _ right).0
+
+        of_kind : (k : Option BitsKind) (b : Bool) → result_kind h ≡ k → (not (is_some k) || b) ≡ true → (result_kind h ≡ None) ⊎ (b ≡ true)
+        of_kind None b i w = inl i
+        of_kind (Some k) b i w = inr w
+
+        selects : rule_of h.name ≡ Some how.Select → (k : Option BitsKind) → result_kind h ≡ k → is_within_by (Some how.Select) k (map (kind_in t) h.operands) beyond ≡ true → is_kinded t h ≡ true
+        selects e None i w = (λ j. takes_its (e j) (i j) h (map (kind_in t) h.operands)) ∙ w
+        selects e (Some k) i w = takes_within how.Select e (takes_select h (map (λ v. type_of_value v t) h.operands) h.results h.name (ap is_some i) (verified how.Select e (none_here w))) widths
+
+        go : (q : Option How) → rule_of h.name ≡ q → is_within_by q (result_kind h) (map (kind_in t) h.operands) beyond ≡ true → is_kinded t h ≡ true
+        go None e w = ap (λ q. takes_its q (result_kind h) h (map (kind_in t) h.operands)) e
+        go (Some how.Constant) e w = constant_kinded e right
+        go (Some (how.Pair o)) e w = elim (of_kind (result_kind h) (is_covered beyond) refl w) [
+          | inl i ↦ (λ j. takes_its (e j) (i j) h (map (kind_in t) h.operands))
+          | inr c ↦ takes_within (how.Pair o) e (takes_pair h (map (λ v. type_of_value v t) h.operands) h.results o h.name (verified (how.Pair o) e (none_here c))) widths
+        ]
+        go (Some how.Compare) e w = elim (of_kind (result_kind h) (is_covered beyond) refl w) [
+          | inl i ↦ (λ j. takes_its (e j) (i j) h (map (kind_in t) h.operands))
+          | inr c ↦ takes_within how.Compare e (takes_compare h (map (λ v. type_of_value v t) h.operands) h.results h.name (verified how.Compare e (none_here c))) widths
+        ]
+        go (Some how.Select) e w = selects e (result_kind h) refl w
+        go (Some (how.Resize c)) e w = elim (of_kind (result_kind h) (is_covered beyond) refl w) [
+          | inl i ↦ (λ j. takes_its (e j) (i j) h (map (kind_in t) h.operands))
+          | inr b ↦ takes_within (how.Resize c) e (takes_resize h (map (λ v. type_of_value v t) h.operands) h.results c h.name (rule_fits h.name (how.Resize c) e).1 (verified (how.Resize c) e (none_here b))) widths
+        ]
+        go (Some (how.IndexCast c)) e w = elim (of_kind (result_kind h) (is_covered beyond) refl w) [
+          | inl i ↦ (λ j. takes_its (e j) (i j) h (map (kind_in t) h.operands))
+          | inr b ↦ takes_within (how.IndexCast c) e (takes_index_cast h (map (λ v. type_of_value v t) h.operands) h.results c h.name (rule_fits h.name (how.IndexCast c) e).1 (verified (how.IndexCast c) e (none_here b))) widths
+        ]
+
+-- a clean operation of a tree has a kind, if it asks for one
+pub clean_has_kind : (t o : Operation) → HasDistinctIds t → find (head o).id t ≡ Some o → is_clean t (head o) ≡ true → is_kinded t (head o) ≡ true → HasKind (head o)
+clean_has_kind t o distinct e clean kinded =
+    let w = found_stands (head o).id t o e in
+    subst (λ (z : Operation). HasKind (head z)) w.3
+    (clean_here t distinct w.0 w.1 (subst (λ (z : Operation). is_clean t (head z) ≡ true) (sym w.3) clean) (subst (λ (z : Operation). is_kinded t (head z) ≡ true) (sym w.3) kinded))
 
 pub verified_is_ready : VerifiedIsReady
 verified_is_ready m v = record {
@@ -501,7 +590,7 @@ verified_is_ready m v = record {
   sorted = v.sorted;
   kinded = each_stands (λ h. is_kinded m.tree h ≡ true) [] m.tree (λ s here.
   let found_here = stand_found m.tree v.formed.distinct s here in
-  operation_kinded m.tree v.formed.distinct v.silent s here
+  operation_kinded m.tree v.formed.distinct s here v.silent
   (each_found (λ h. is_in_range h ≡ true) (stand_id s) m.tree v.in_range s.here found_here).0
-  (each_found (λ h. is_within_by (rule_of h.name) (result_kind h) (option_map is_beyond (surroundings h.id m.tree)) ≡ true) (stand_id s) m.tree v.within s.here found_here).0);
+  (each_found (λ h. is_within m.tree h ≡ true) (stand_id s) m.tree v.within s.here found_here).0);
 }

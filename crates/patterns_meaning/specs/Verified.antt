@@ -1,5 +1,5 @@
 -- A module for which `report diagnostics` has no row is ready (`IsReady`).
-use Rattle.std.specs.Prelude.{◌≡◌, ℕ, List, [], ◌∷◌, Bool, true, false, ◌&&◌, not, Option, Some, None, is_some, option_map}
+use Rattle.std.specs.Prelude.{◌≡◌, ℕ, List, [], ◌∷◌, map, Bool, true, false, ◌&&◌, ◌||◌, not, Option, Some, None, is_some, option_map}
 use Rattle.std.specs.List.{list_all}
 use Rattle.ir_types.specs.declared.bits.BitsKind.{BitsKind}
 use Rattle.ir_types.specs.Bits.{width_of}
@@ -17,7 +17,7 @@ use Rattle.patterns_base.specs.verify.Beyond.{is_beyond}
 use Rattle.patterns_base.specs.Diagnostics.{diagnostics_of}
 use Rattle.patterns_book.specs.Matching.{Header}
 use Rattle.patterns_meaning.specs.Meaning.{Each, result_kind}
-use Rattle.patterns_meaning.specs.Better.{are_its_bits}
+use Rattle.patterns_meaning.specs.Better.{are_its_bits, has_no_condition, kind_in}
 use Rattle.patterns_meaning.specs.Keeping.{IsReady}
 
 -- Returns whether the width of a type is in range, if the type is a signless integer or index. All types of a context
@@ -36,21 +36,23 @@ abbrev pub is_covered : Option Bool → Bool
 is_covered None = false
 is_covered (Some beyond) = not beyond
 
--- Returns whether an operation is one of integers or index by the operation table, if it is arithmetic. A constant may be
--- of any type. A select has to select an integer or an index: the table allows others.
-abbrev pub is_within_by : Option Rule → Option BitsKind → Option Bool → Bool
-is_within_by None k beyond = true
-is_within_by (Some rule.Constant) k beyond = true
-is_within_by (Some (rule.Pair o)) k beyond = is_covered beyond
-is_within_by (Some rule.Compare) k beyond = is_covered beyond
-is_within_by (Some rule.Select) k beyond = is_some k && is_covered beyond
-is_within_by (Some (rule.Resize c)) k beyond = is_covered beyond
-is_within_by (Some (rule.IndexCast c)) k beyond = is_covered beyond
+-- Returns whether an operation, whose operands have some kinds, isn't beyond the table, if it is arithmetic on integers or
+-- index. A select by an i1 has to select an integer or an index: the table allows others.
+abbrev pub is_within_by : Option Rule → Option BitsKind → List (Option BitsKind) → Option Bool → Bool
+is_within_by None k js beyond = true
+is_within_by (Some rule.Constant) k js beyond = true
+is_within_by (Some (rule.Pair o)) k js beyond = not (is_some k) || is_covered beyond
+is_within_by (Some rule.Compare) k js beyond = not (is_some k) || is_covered beyond
+is_within_by (Some rule.Select) None js beyond = has_no_condition js
+is_within_by (Some rule.Select) (Some k) js beyond = is_covered beyond
+is_within_by (Some (rule.Resize c)) k js beyond = not (is_some k) || is_covered beyond
+is_within_by (Some (rule.IndexCast c)) k js beyond = not (is_some k) || is_covered beyond
 
 abbrev pub is_within : Operation → Header → Bool
-is_within t h = is_within_by (rule_of h.name) (result_kind h) (option_map is_beyond (surroundings h.id t))
+is_within t h = is_within_by (rule_of h.name) (result_kind h) (map (kind_in t) h.operands) (option_map is_beyond (surroundings h.id t))
 
--- A module of a context, without diagnostics, whose arithmetic operations are on integers and index.
+-- A module of a context, without diagnostics. An operation on vectors may be in it, and its operands and results are then
+-- no integers.
 pub record IsVerified (m : Module) : Type 0 where
   pub formed : IsWellFormed is_isolated m
   pub sorted : IsSorted m
