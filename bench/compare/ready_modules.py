@@ -40,8 +40,8 @@ def takes(name, types, result):
 
 
 def is_kinded(op, types):
-    """Whether an operation takes its operands, if it is arithmetic. If its result isn't a number it isn't arithmetic, but
-    for a select by an i1."""
+    """Whether an operation takes its operands, if it is arithmetic. It isn't if its result isn't a number, but for a
+    select by an i1."""
     if op.name not in ARITHMETIC or op.name == CONSTANT:
         return True
     if op.results and is_T(op.results[0]):
