@@ -207,6 +207,6 @@ rewrites_compute p m n x a done k formed proper fits of found keeps root e =
       subst (λ t. FitsAll r.now (or_new m.next done) t) (sym q.is) r.computes.fits,
       subst (λ t. AreOfTypes r.now t) (sym q.is) r.computes.typed,
       subst (Shows a r.now m (or_new m.next done)) (sym q.is)
-      (made_shows m x a done (or_new m.next done) formed r.now r.agrees q.front q.made q.value bare
-      (root_computed m.tree (is_clean m.tree) m.next p x a done proper found) (all_arithmetic goes.after m.next q.made goes.fits) better r.now (λ w. itself (r.now w))),
+          (made_shows m x a done (or_new m.next done) formed r.now r.agrees q.front q.made q.value bare
+          (root_computed m.tree (is_clean m.tree) m.next p x a done proper found) (all_arithmetic goes.after m.next q.made goes.fits) better r.now (λ w. itself (r.now w))),
     )

@@ -1,5 +1,5 @@
 -- Rules of arithmetic apply at operations of the names of arithmetic.
-use Rattle.std.proofs.Common.{◌≡◌, ℕ, refl, ap, sym, ◌∙◌, List, [], ◌∷◌, Bool, true, false, true≢false, ◌&&◌, ◌||◌, not, eqb-true, Option, Some, None, ◌⊎◌, inl, inr}
+use Rattle.std.proofs.Common.{◌≡◌, ℕ, refl, ap, sym, ◌∙◌, List, [], ◌∷◌, Bool, true, false, true≢false, ◌&&◌, ◌||◌, not, eqb-true, Some, ◌⊎◌, inl, inr}
 use Rattle.std.specs.Prelude.{nat_le, unwrap_or}
 use Rattle.std.specs.List.{list_all, list_any}
 use Rattle.std.proofs.lemmas.Bool.{and_parts, or_cases}
@@ -8,8 +8,6 @@ use Rattle.ir_tree.specs.declared.place.Place.{Place}
 use Rattle.ir_tree.specs.Tree.{head}
 use Rattle.ir_tree.specs.Meaning.{Operation}
 use Rattle.ir_tree_laws.proofs.Listed.{bool_cases}
-use Rattle.dialects_int.specs.declared.operations.Rule.{Rule as How}
-use Rattle.dialects_int.specs.declared.operations.Rule.TheVariants as how
 use Rattle.dialects_int.specs.Folds.{rule_of, rules}
 use Rattle.patterns_laws.specs.Keeps.{Each}
 use Rattle.rewriter_machine.specs.Contents.{Edit}

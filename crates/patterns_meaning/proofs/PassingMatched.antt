@@ -59,7 +59,7 @@ use Rattle.patterns_meaning.proofs.OfBits.{AllOfBits, run_bits}
 use Rattle.patterns_meaning.proofs.OfKinds.{OfKinds, furthers_run, numbers_run}
 use Rattle.patterns_meaning.proofs.Rooted.{hold_at, named_at}
 use Rattle.patterns_meaning.proofs.Ruled.{OfRule, known_kinds, rule_kinds}
-use Rattle.patterns_meaning.proofs.Standing.{AllHold, Holds, Stands, one_stands, standing_stands, stands_standing}
+use Rattle.patterns_meaning.proofs.Standing.{AllHold, Stands, one_stands, standing_stands, stands_standing}
 use Rattle.patterns_meaning.proofs.Verified.{HasKind, clean_has_kind}
 use Rattle.patterns_meaning.proofs.Trees.{each_found}
 use Rattle.patterns_meaning.specs.Observing.{is_computed}

@@ -1,6 +1,6 @@
 -- What is kept is refined, as an observer sees it.
-use Rattle.std.proofs.Common.{◌≡◌, ℕ, zero, suc, ◌<◌, refl, ap, sym, ◌∙◌, subst, List, [], ◌∷◌, ◌++◌, map, Bool, true, false, true≢false, ◌&&◌, not, Option, Some, None, ◌⊎◌, inl, inr}
-use Rattle.std.specs.Prelude.{if◌then◌else◌, nat_lt}
+use Rattle.std.proofs.Common.{◌≡◌, ℕ, ◌<◌, refl, ap, sym, ◌∙◌, subst, List, [], ◌∷◌, ◌++◌, map, Bool, true, false, true≢false, not, Some, None, inl, inr}
+use Rattle.std.specs.Prelude.{if◌then◌else◌}
 use Rattle.std.specs.List.{filter, list_all}
 use Rattle.std.proofs.lemmas.Bool.{and_from, and_parts}
 use Rattle.ir_types.specs.Terms.{TypeTerm, AttrTerm}
@@ -13,14 +13,11 @@ use Rattle.ir_event.specs.Modules.{Module}
 use Rattle.op_registry.specs.Registry.{own_of}
 use Rattle.effects.specs.Dead.{is_kept, may_go}
 use Rattle.effects.specs.Effects.{effects, effects_by, ops_effects, region_effects, regions_effects}
-use Rattle.patterns_check.specs.Checks.{refines}
 use Rattle.patterns_book.specs.Matching.{Header}
 use Rattle.patterns_meaning.specs.Meaning.{Assignment, Each, EachAmong, EachInRegion, EachInRegions, owner}
 use Rattle.patterns_meaning.specs.Better.{AllBetter}
 use Rattle.patterns_meaning.specs.Observing.{AreSameValues, Follows, IsSameValue, OpsFollow, RegionFollows, RegionsFollow, Shows, Stays, is_computed, is_unmissed, shown_regions}
-use Rattle.patterns_meaning.specs.Keeping.{Computing, IsReady}
-use Rattle.patterns_meaning.specs.Runs.{ComputesThrough}
-use Rattle.patterns_meaning.specs.Refining.{IsStill, KeptIsRefined, ObservationsRefine, Operand, OperandsRefine, Refined, lasting, lasting_op, lasting_ops, lasting_region, observation, operand}
+use Rattle.patterns_meaning.specs.Refining.{IsStill, KeptIsRefined, ObservationsRefine, OperandsRefine, lasting, lasting_op, lasting_ops, lasting_region, observation, operand}
 use Rattle.patterns_meaning.proofs.Edited.{each_both}
 use Rattle.patterns_meaning.proofs.Follows.{by_goes, op_unmissed, union_goes, union_parts}
 use Rattle.patterns_meaning.proofs.Formed.{is_below, operands_stand}

@@ -1,5 +1,5 @@
 -- The module of the samples of refinement has no diagnostics, computes, and a rule applies in it.
-use Rattle.std.proofs.Common.{◌≡◌, ℕ, zero, suc, refl, sym, subst, ◌<◌, List, [], ◌∷◌, true≢false, Some, None, true, slice_get, get_or, inl, arith}
+use Rattle.std.proofs.Common.{◌≡◌, ℕ, zero, suc, refl, sym, subst, ◌<◌, [], ◌∷◌, true≢false, Some, None, true, slice_get, get_or, inl, arith}
 use Rattle.std.proofs.lemmas.Option.{none-some, same_Some}
 use Rattle.std.proofs.lemmas.Map.Made.{IsDistinct-from_count}
 use Rattle.std.proofs.lemmas.Cmp.{nat_eq_equiv}
@@ -85,19 +85,31 @@ unfolding folds.fold_of folds.rule_of folds.rules words.operations words.is_inhe
 computes = record {
   fits = (
     (λ d e. absurd (true≢false (sym e))),
-    ((((λ d e. absurd (true≢false (sym e))), (tt, tt)),
-    (((λ d e. absurd (true≢false (sym e))),
-    ((((λ d e. inl refl), tt), (((λ d e. inl refl), tt), (((λ d e. absurd (true≢false (sym e))), tt), (((λ d e. absurd (true≢false (sym e))), tt), (((λ d e. absurd (true≢false (sym e))), tt), tt))))), tt)), tt)), tt),
+    (
+      (
+        ((λ d e. absurd (true≢false (sym e))), (tt, tt)),
+        (
+          (
+            (λ d e. absurd (true≢false (sym e))),
+            ((((λ d e. inl refl), tt), (((λ d e. inl refl), tt), (((λ d e. absurd (true≢false (sym e))), tt), (((λ d e. absurd (true≢false (sym e))), tt), (((λ d e. absurd (true≢false (sym e))), tt), tt))))), tt),
+          ),
+          tt,
+        ),
+      ),
+      tt,
+    ),
   );
   typed = (
     (no_result 0, (((no_result 1, (tt, tt)), ((no_result 2, (((one_type 3 (refl, refl), tt), ((one_type 4 (refl, refl), tt), ((no_result 5, tt), ((one_type 6 (refl, refl), tt), ((no_result 7, tt), tt))))), tt)), tt)), tt)),
     (((λ k ty e. absurd (none-some ty e)), ((tt, tt), (((arguments_typed, (tt, (tt, (tt, (tt, (tt, tt)))))), tt), tt))), tt),
   );
   sure = (
-    (λ d e. refl), ((((λ d e. refl), (tt, tt)), (((λ d e. refl), ((((λ d e. refl), tt), (((λ d e. refl), tt), (((λ d e. refl), tt), (((λ d e. refl), tt), (((λ d e. refl), tt), tt))))), tt)), tt)), tt),
+    (λ d e. refl),
+    ((((λ d e. refl), (tt, tt)), (((λ d e. refl), ((((λ d e. refl), tt), (((λ d e. refl), tt), (((λ d e. refl), tt), (((λ d e. refl), tt), (((λ d e. refl), tt), tt))))), tt)), tt)), tt),
   );
   fed = (
-    (λ d. refl), ((((λ d. refl), (tt, tt)), (((λ d. refl), ((((λ d. refl), tt), (((λ d. refl), tt), (((λ d. refl), tt), (((λ d. refl), tt), (((λ d. refl), tt), tt))))), tt)), tt)), tt),
+    (λ d. refl),
+    ((((λ d. refl), (tt, tt)), (((λ d. refl), ((((λ d. refl), tt), (((λ d. refl), tt), (((λ d. refl), tt), (((λ d. refl), tt), (((λ d. refl), tt), tt))))), tt)), tt)), tt),
   );
 }
 

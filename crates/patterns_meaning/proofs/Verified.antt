@@ -28,7 +28,6 @@ use Rattle.ir_tree_laws.specs.Stands.{StandOf, stand_id, stand_of, stands}
 use Rattle.ir_tree_laws.specs.Values.{type_of_value}
 use Rattle.ir_tree_laws.proofs.Listed.{neither}
 use Rattle.ir_tree_laws.proofs.Members.{found_stands, stand_found, stand_of_member}
-use Rattle.ir_event.specs.Modules.{Module}
 use Rattle.op_registry.specs.declared.definition.TypeRule.{TypeRule}
 use Rattle.op_registry.specs.declared.definition.TypeRule.TheVariants as type
 use Rattle.op_registry.specs.Rows.{Row, TypesRow, rows}
@@ -55,10 +54,9 @@ use Rattle.dialects_int.proofs.KnownOperands.{same_itself}
 use Rattle.patterns_laws.specs.Keeps.{Each as EachIn}
 use Rattle.patterns_check.specs.Outcomes.{given}
 use Rattle.patterns_book.specs.Matching.{Header}
-use Rattle.patterns_meaning.specs.Meaning.{Each, result_kind}
-use Rattle.patterns_meaning.specs.Better.{AreKinded, are_its_bits, compares, has_no_condition, is_kind, is_kinded, kind_in, narrows, takes, takes_its}
-use Rattle.patterns_meaning.specs.Keeping.{IsReady}
-use Rattle.patterns_meaning.specs.Verified.{IsVerified, VerifiedIsReady, has_width, is_covered, is_in_range, is_within, is_within_by}
+use Rattle.patterns_meaning.specs.Meaning.{result_kind}
+use Rattle.patterns_meaning.specs.Better.{are_its_bits, compares, has_no_condition, is_kind, is_kinded, kind_in, narrows, takes, takes_its}
+use Rattle.patterns_meaning.specs.Verified.{VerifiedIsReady, has_width, is_covered, is_in_range, is_within, is_within_by}
 use Rattle.patterns_meaning.proofs.Formed.{each_stands}
 use Rattle.patterns_meaning.proofs.Trees.{each_found}
 
@@ -589,8 +587,8 @@ verified_is_ready m v = record {
   formed = v.formed;
   sorted = v.sorted;
   kinded = each_stands (λ h. is_kinded m.tree h ≡ true) [] m.tree (λ s here.
-  let found_here = stand_found m.tree v.formed.distinct s here in
-  operation_kinded m.tree v.formed.distinct s here v.silent
-  (each_found (λ h. is_in_range h ≡ true) (stand_id s) m.tree v.in_range s.here found_here).0
-  (each_found (λ h. is_within m.tree h ≡ true) (stand_id s) m.tree v.within s.here found_here).0);
+      let found_here = stand_found m.tree v.formed.distinct s here in
+      operation_kinded m.tree v.formed.distinct s here v.silent
+      (each_found (λ h. is_in_range h ≡ true) (stand_id s) m.tree v.in_range s.here found_here).0
+      (each_found (λ h. is_within m.tree h ≡ true) (stand_id s) m.tree v.within s.here found_here).0);
 }

@@ -9,8 +9,6 @@ use Rattle.ir_tree.specs.Meaning.{Operation}
 use Rattle.ir_event.specs.Modules.{Module}
 use Rattle.patterns_base.specs.declared.rule.Rule.TheVariants.{DropZero}
 use Rattle.patterns_base.specs.Rewrites.{becomes, rewrite_of}
-use Rattle.patterns_check.specs.Outcomes.{Outcome}
-use Rattle.patterns_book.specs.Matching.{Header}
 use Rattle.patterns_meaning.specs.Meaning.{Assignment}
 use Rattle.patterns_meaning.specs.Keeping.{Computing}
 use Rattle.patterns_meaning.specs.ObservingSamples.{i8, module_of, plain_op}
