@@ -74,6 +74,7 @@ module _ (f : Value → Option BitsKind) where
     of = of;
     bare = refl;
     numeric = ap is_some e;
+    unset = refl;
     risen = refl;
     takes = ap (λ r. takes_cast r) e ∙ and_from (is_width (width_of k)) (narrows c (f v) k) width n;
   }

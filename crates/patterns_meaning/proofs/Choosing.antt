@@ -36,7 +36,7 @@ use Rattle.patterns_base.proofs.Facts.{when_some}
 use Rattle.patterns_facts.specs.Accepted.{AreAccepted}
 use Rattle.patterns_facts.proofs.Shapes.{three_is, two_is}
 use Rattle.patterns_book.specs.Matching.{Header}
-use Rattle.patterns_meaning.specs.Meaning.{Assignment, of_two, result_kind}
+use Rattle.patterns_meaning.specs.Meaning.{Assignment, of_two, result_kind, breaks_by, flags_of}
 use Rattle.patterns_meaning.specs.Better.{is_kind, is_kinded, is_poison_by_ones, is_signed_quotient, kind_in, takes, takes_its}
 use Rattle.patterns_meaning.specs.Keeping.{Computing, IsReady, KeepsComputing, KeepsReady, is_there}
 use Rattle.patterns_meaning.proofs.Dropping.{choice_refined, kind_by, known_is, known_test, of_three_is, of_two_is}
@@ -243,6 +243,7 @@ module _ (accepted : AreAccepted) where
             let xs = a w.condition ∷ a w.third ∷ a w.second ∷ [] in
             record {
               arithmetic = r.arithmetic;
+              unflagged = λ xs. ap (λ r. breaks_by r (flags_of (head q.here)) (result_kind (head q.here)) xs) w.name;
               gives_so = λ d. record {
                 outcome = out;
                 is_made =

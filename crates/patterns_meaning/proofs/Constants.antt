@@ -23,6 +23,7 @@ use Rattle.patterns_check.specs.Checks.{refines}
 use Rattle.patterns_base.specs.declared.rule.Rule.{Rule}
 use Rattle.patterns_base.specs.Makes.{give, give_constant}
 use Rattle.patterns_book.specs.Matching.{Header}
+use Rattle.patterns_meaning.proofs.Flags.{unflagged}
 use Rattle.patterns_meaning.specs.Meaning.{Assignment, IsOfType, owner, result_kind}
 use Rattle.patterns_meaning.specs.Better.{AreKinded, are_its_bits, is_poison_by_ones, is_signed_quotient, kind_in, takes_its}
 use Rattle.patterns_meaning.specs.Keeping.{Computing, Improves, IsReady, done_after}
@@ -107,7 +108,8 @@ module _ (r : Rule) (m n : Module) (x : ℕ) (q : Ruled r m n x) (g : GivesNumbe
         (λ i j. (
           inl
               (same_makes (head (constant g.ty g.bits)) m.next [] [] ∙ constant_makes g.ty g.kind g.bits g.of
-              ∙ ap (λ o. Some o) (sym (new_there a m.next (Some (g.kind, g.bits)) 0))),
+              ∙ ap (λ o. Some o) (sym (new_there a m.next (Some (g.kind, g.bits)) 0)),
+              unflagged (head (constant g.ty g.bits)) [] refl),
           ap (λ r. is_signed_quotient r && is_poison_by_ones []) by_constant,
         )),
         tt,

@@ -168,6 +168,7 @@ module _ (accepted : AreAccepted) where
               of = refl;
               bare = refl;
               numeric = ap is_some by_compare;
+              unset = refl;
               risen = refl;
               takes = ap (λ r. takes_its r (Some (kind.Int 1)) (head (comparison w.number w.first w.second)) (f w.first ∷ f w.second ∷ [])) by_compare ∙ same;
             },
@@ -178,6 +179,7 @@ module _ (accepted : AreAccepted) where
                 of = k.of;
                 bare = refl;
                 numeric = ap is_some by_select;
+                unset = refl;
                 risen = refl;
                 takes =
                     ap (λ r. takes_its r (Some k.kind) (head (choice w.ty (Result m.next 0) w.first w.second)) (f (Result m.next 0) ∷ f w.first ∷ f w.second ∷ [])) by_select

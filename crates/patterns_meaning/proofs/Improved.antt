@@ -37,6 +37,7 @@ use Rattle.patterns_book.specs.Names.{name_of, operands_of, predicate_of}
 use Rattle.patterns_book.specs.Planning.{all_made, entries_by, made_as, values_at}
 use Rattle.patterns_makeable.specs.Makeable.{has_name, is_named}
 use Rattle.patterns_own.specs.Own.{OwnAreAccepted}
+use Rattle.patterns_meaning.proofs.Flags.{AreUnflagged, unflagged}
 use Rattle.patterns_meaning.specs.Meaning.{AreOfTypes, Assignment, Each, FitsAll, FitsEach, is_arithmetic}
 use Rattle.patterns_meaning.specs.Applied.{Agree, Computes}
 use Rattle.patterns_meaning.specs.Observing.{Shows, Stays, is_computed}
@@ -55,7 +56,7 @@ use Rattle.patterns_meaning.proofs.Rooted.{all_arithmetic, root_computed}
 use Rattle.patterns_meaning.proofs.Showing.{all_better, all_through, at_root, number_at, put_same, rewritten_follows, rewritten_head}
 use Rattle.patterns_meaning.proofs.Edited.{each_both}
 use Rattle.patterns_meaning.proofs.Frees.{Was, free_still, was_new, was_old}
-use Rattle.patterns_meaning.proofs.Rewritten.{AllBare, AllPut, all_bare, all_put, given_each, operands_same, rewritten_computes, same_makes}
+use Rattle.patterns_meaning.proofs.Rewritten.{AllBare, AllPut, all_bare, all_put, given_each, operands_same, rewritten_computes, same_makes, all_unflagged}
 use Rattle.patterns_meaning.proofs.Monotone.{itself}
 
 -- ---- what is made is no signed quotient
@@ -105,11 +106,11 @@ module _ (ts : Standing TypeTerm) (env : List Outcome) where
       let f = and_parts (makes_no_quotient w) (list_all makes_no_quotient ws) q in
       subst AreNoQuotients m.2 (no_quotient w b g.0 a.0 f.0 g.1, no_quotients (n + 1) (k + 1) ws h.0 d m.0 a.1 f.1 m.1)
 
-pub new_ready : (c : Assignment) (later : ℕ → Bool) (m : ℕ) (os : List Operation) → FitsEach c m os → AreNoQuotients os → AllPut (IsReady c later) m os
-new_ready c later m [] s q = tt
-new_ready c later m (o ∷ os) s q = (
-  (λ i j. (inl (same_makes (head o) m (head o).operands (map c (head o).operands) ∙ s.0), ap (λ b. b && is_poison_by_ones (map c (head o).operands)) q.0)),
-  new_ready c later (m + 1) os s.1 q.1,
+pub new_ready : (c : Assignment) (later : ℕ → Bool) (m : ℕ) (os : List Operation) → FitsEach c m os → AreNoQuotients os → AreUnflagged os → AllPut (IsReady c later) m os
+new_ready c later m [] s q u = tt
+new_ready c later m (o ∷ os) s q u = (
+  (λ i j. (inl (same_makes (head o) m (head o).operands (map c (head o).operands) ∙ s.0, unflagged (head o) (map c (head o).operands) u.0), ap (λ b. b && is_poison_by_ones (map c (head o).operands)) q.0)),
+  new_ready c later (m + 1) os s.1 q.1 u.1,
 )
 
 -- ---- what is shown
@@ -166,7 +167,7 @@ rewrites_compute_better accepted p m n x a done formed proper free fits of sure 
     let s =
     lifted a c m.next x r.value done (or_new m.next done) goes.agrees m.tree below operands r.front r.made bare (subst (λ t. HasDistinctIds t) r.is after_formed.distinct) (subst AreKinded r.is kinded)
     of goes.typed (old_ready a c m.next x r.value done (or_new m.next done) goes.agrees m.tree below operands was fits sure)
-    (new_ready c (or_new m.next done) m.next r.made goes.fits none)
+    (new_ready c (or_new m.next done) m.next r.made goes.fits none (all_unflagged found.types q.env m.next _ p.new found.here q.last r.made q.made))
     (uses_better c (or_new m.next done) x r.value better m.tree all) (new_uses_better c (or_new m.next done) x r.value better m.next r.made) in
     let later = or_new m.next done in
     let were : Each (Was m.next done (or_new m.next done) m.tree) (rewritten r.front m.next r.made x r.value m.tree) =

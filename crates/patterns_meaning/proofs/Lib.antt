@@ -1,6 +1,7 @@
 pub mod Standing
 pub mod Trees
 pub mod Steps
+pub mod Flags
 pub mod Forms
 pub mod Numbers
 pub mod OfKinds
@@ -15,6 +16,7 @@ pub mod Rewritten
 pub mod Applying
 pub mod Monotone
 pub mod MadeOf
+pub mod FlagsKept
 pub mod Settling
 pub mod Frees
 pub mod Lifted

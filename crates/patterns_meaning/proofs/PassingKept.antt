@@ -46,7 +46,8 @@ use Rattle.patterns_book.specs.WellFormed.{form_stands, is_new, is_type, new_end
 use Rattle.patterns_makeable.specs.Makeable.{new_type}
 use Rattle.patterns_matched.proofs.Found.{when_is}
 use Rattle.patterns_own.specs.Own.{OwnAreAccepted, own_rewrite}
-use Rattle.patterns_meaning.specs.Meaning.{Assignment, Breaks, Fits, IsOfType, has_flags, is_arithmetic, owner, makes}
+use Rattle.patterns_meaning.proofs.Flags.{broken_flagged, AreUnflagged}
+use Rattle.patterns_meaning.specs.Meaning.{Assignment, Breaks, Fits, IsOfType, has_flags, is_arithmetic, owner, makes, Obeys}
 use Rattle.patterns_meaning.specs.Applied.{Goes, IsFound, IsProper, kinds_matched, matched}
 use Rattle.patterns_meaning.specs.Better.{kind_in}
 use Rattle.patterns_meaning.specs.Improving.{makes_no_quotient, is_quotient}
@@ -63,7 +64,7 @@ use Rattle.patterns_meaning.proofs.News.{HasNumbers, ShowsNew, extended, extende
 use Rattle.patterns_meaning.proofs.OfBits.{AllOfBits}
 use Rattle.patterns_meaning.proofs.OfKinds.{OfKinds}
 use Rattle.patterns_meaning.proofs.Olds.{AllAre, form_places}
-use Rattle.patterns_meaning.proofs.Rewritten.{AllPut}
+use Rattle.patterns_meaning.proofs.Rewritten.{AllPut, all_unflagged}
 use Rattle.patterns_meaning.proofs.Settling.{typed_bits}
 use Rattle.patterns_meaning.proofs.Standing.{Stands, ValuesStand, standing_stands, stands_standing}
 use Rattle.patterns_meaning.proofs.StaysReady.{stays_kinds, stays_ready}
@@ -157,6 +158,9 @@ module _ (m : Module) (p : Shape) (x : ℕ) (passing : list_all piece_passes p.o
   pub root_within : x < m.next
   root_within = value_below m.next t (is_below m.next t ready.formed.below) (Result x 0) q.root
 
+  its_unflagged : AreUnflagged os
+  its_unflagged = all_unflagged q.types q.parts.env m.next (new_place p) p.new q.here q.parts.last os q.parts.made
+
   plain : AreNoQuotients os
   plain = no_quotients q.types q.parts.env m.next (new_place p) p.new q.here q.parts.last os (made_parts p proper.makeable).named (none_divided p.new defined) q.parts.made
 
@@ -244,7 +248,7 @@ module _ (m : Module) (p : Shape) (x : ℕ) (passing : list_all piece_passes p.o
           agrees = λ w l. all_agree a m.next None zs w l;
           bare = all_bare all_kinds os its_kinds its_made;
           typed = all_typed c done m.next x all_kinds m.next os its_kinds zs its_made give at;
-          ready = all_ready c done m.next x m.next os its_kinds zs (omega arith) give at;
+          ready = all_ready c done m.next x all_kinds m.next os its_kinds zs (omega arith) its_made give at;
           fed = fed;
           numbers = all_numbers all_kinds m.next os its_kinds its_made;
           better = λ i. absurd (true≢false (sym i ∙ d));
@@ -259,9 +263,9 @@ module _ (m : Module) (p : Shape) (x : ℕ) (passing : list_all piece_passes p.o
         fits h f arithmetic =
             let g = giver_of t (is_clean t) v h f in
             let is : done g.id ≡ true = ap (is_there done) (sym g.value) ∙ there_all d i v s in
-            elim (subst (λ (h : Header). is_arithmetic h ≡ true → Fits a g.id h ⊎ Breaks a g.id h) g.heads (found_fit a done t computing.fits g.id g.here g.found is) arithmetic) [
-              | inl k ↦ subst (λ w. makes h (map a h.operands) ≡ Some (a w)) (sym g.value) k
-              | inr b ↦ absurd (true≢false (sym b.0 ∙ flagless t (is_clean t) v y h e f))
+            elim (subst (λ (h : Header). is_arithmetic h ≡ true → Obeys a g.id h) g.heads (found_fit a done t computing.fits g.id g.here g.found is) arithmetic) [
+              | inl k ↦ subst (λ w. makes h (map a h.operands) ≡ Some (a w)) (sym g.value) k.0
+              | inr b ↦ absurd (true≢false (sym (broken_flagged h (map a h.operands) b.0) ∙ flagless t (is_clean t) v y h e f))
             ]
 
     -- outcomes at all places: of variables, and the numbers that are planned
@@ -384,7 +388,7 @@ module _ (m : Module) (p : Shape) (x : ℕ) (passing : list_all piece_passes p.o
           agrees = extended_agrees a m.next (new_place p) r.0;
           bare = all_bare all_kinds os its_kinds its_made;
           typed = n.2;
-          ready = new_ready c later m.next os n.0 plain;
+          ready = new_ready c later m.next os n.0 plain its_unflagged;
           fed = fed;
           numbers = all_numbers all_kinds m.next os its_kinds its_made;
           better = λ i. ap (λ o. refines o (c value)) (extended_agrees a m.next (new_place p) r.0 (Result x 0) root_within ∙ none);
@@ -402,8 +406,8 @@ module _ (m : Module) (p : Shape) (x : ℕ) (passing : list_all piece_passes p.o
         let k = giver_kinds m ready v h e f r in
         let d = ap (is_there done) (sym g.value) ∙ i.there in
         let known = ap (λ v. is_some (a v)) (sym g.value) ∙ i.known in
-        elim (subst (λ (h : Header). is_arithmetic h ≡ true → Fits a g.id h ⊎ Breaks a g.id h) g.heads (found_fit a done t computing.fits g.id g.here g.found d) k.arithmetic) [
-          | inl z ↦ each_mapped a is_some h.operands (operands_known f h k.kind (map a h.operands) (a (Result g.id 0)) s known (sym (makes_is h (map a h.operands) (rule_for f) k.kind r k.is) ∙ z)) w n
+        elim (subst (λ (h : Header). is_arithmetic h ≡ true → Obeys a g.id h) g.heads (found_fit a done t computing.fits g.id g.here g.found d) k.arithmetic) [
+          | inl z ↦ each_mapped a is_some h.operands (operands_known f h k.kind (map a h.operands) (a (Result g.id 0)) s known (sym (makes_is h (map a h.operands) (rule_for f) k.kind r k.is) ∙ z.0)) w n
           | inr b ↦ absurd (true≢false (sym known ∙ ap is_some b.2))
         ]
 
@@ -442,7 +446,7 @@ module _ (m : Module) (p : Shape) (x : ℕ) (passing : list_all piece_passes p.o
             agrees = g.agrees;
             bare = all_bare all_kinds os its_kinds its_made;
             typed = g.typed;
-            ready = new_ready g.after later m.next os g.fits plain;
+            ready = new_ready g.after later m.next os g.fits plain its_unflagged;
             fed = fed;
             numbers = all_numbers all_kinds m.next os its_kinds its_made;
             better = λ i. subst (λ o. refines o (g.after value) ≡ true) (sym (g.agrees (Result x 0) root_within)) g.refined;

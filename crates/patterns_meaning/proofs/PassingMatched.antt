@@ -46,6 +46,7 @@ use Rattle.patterns_book.specs.Planning.{kind_standing, known_at, old_place, out
 use Rattle.patterns_book.specs.Shapes.{Shape}
 use Rattle.patterns_makeable.specs.Makeable.{has_name}
 use Rattle.patterns_matched.proofs.Found.{all_from, bound_from, when_is}
+use Rattle.patterns_meaning.proofs.FlagsKept.{known_one, known_pair, known_resized, known_two}
 use Rattle.patterns_meaning.specs.Meaning.{Assignment, makes_by, of_one, of_two, result_kind, is_arithmetic}
 use Rattle.patterns_meaning.specs.Applied.{AreOfKinds, IsProper, further_kind, kinds_behind, kinds_given, matched}
 use Rattle.patterns_meaning.specs.Better.{are_its_bits, is_kind, is_kinded, kind_in, narrows, takes, is_arithmetic_there}
@@ -166,34 +167,10 @@ module _ (h : Header) (k : BitsKind) where
   operands_of_kinds (form.IndexCast c i) js s e = index_kind c js e
 
 -- they are known where what is made of them is
-known_pair : (o : Arithmetic) (x y z : Outcome) → is_some z ≡ true → pair_outcome o x y ≡ Some z → (is_some x ≡ true) × (is_some y ≡ true)
-known_pair o (Some x) (Some y) z k e = (refl, refl)
-known_pair o (Some x) None z k e = absurd (true≢false (sym k ∙ ap is_some (none_made (divides o) z e).1))
-known_pair o None y z k e = absurd (true≢false (sym k ∙ ap is_some (none_made (divides o && not (is_some_number y)) z e).1))
-
 known_compared : (p : Predicate) (x y z : Outcome) → is_some z ≡ true → compare_outcome p x y ≡ Some z → (is_some x ≡ true) × (is_some y ≡ true)
 known_compared p (Some x) (Some y) z k e = (refl, refl)
 known_compared p (Some x) None z k e = absurd (true≢false (sym k ∙ ap is_some (sym (same_Some _ _ e))))
 known_compared p None y z k e = absurd (true≢false (sym k ∙ ap is_some (sym (same_Some _ _ e))))
-
-known_resized : (c : Cast) (j : BitsKind) (x z : Outcome) → is_some z ≡ true → resize_outcome c j x ≡ Some z → is_some x ≡ true
-known_resized c j (Some x) z k e = refl
-known_resized c j None z k e = absurd (go (is_width (width_of j)) e)
-  where
-    go : (b : Bool) → (if b then Some None else None) ≡ Some z → ⊥
-    go true e = true≢false (sym k ∙ ap is_some (sym (same_Some _ _ e)))
-    go false e = none-some z e
-
-known_two : (g : Outcome → Outcome → Option Outcome) (z : Outcome) → ((x y : Outcome) → g x y ≡ Some z → (is_some x ≡ true) × (is_some y ≡ true)) → (xs : List Outcome) → of_two g xs ≡ Some z → list_all is_some xs ≡ true
-known_two g z f [] e = absurd (none-some z e)
-known_two g z f (x ∷ []) e = absurd (none-some z e)
-known_two g z f (x ∷ y ∷ []) e = let q = f x y e in (λ i. q.0 i && (q.1 i && true))
-known_two g z f (x ∷ y ∷ w ∷ xs) e = absurd (none-some z e)
-
-known_one : (g : Outcome → Option Outcome) (z : Outcome) → ((x : Outcome) → g x ≡ Some z → is_some x ≡ true) → (xs : List Outcome) → of_one g xs ≡ Some z → list_all is_some xs ≡ true
-known_one g z f [] e = absurd (none-some z e)
-known_one g z f (x ∷ []) e = λ i. f x e i && true
-known_one g z f (x ∷ y ∷ xs) e = absurd (none-some z e)
 
 pub operands_known : (f : Form) (h : Header) (k : BitsKind) (xs : List Outcome) (z : Outcome) → passes_poison f ≡ true → is_some z ≡ true → makes_by (rule_for f) h k xs ≡ Some z → list_all is_some xs ≡ true
 operands_known (form.Pair o i j) h k xs z s known e = known_two (pair_outcome o) z (λ x y e. known_pair o x y z known e) xs e

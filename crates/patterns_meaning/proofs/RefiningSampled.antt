@@ -91,7 +91,7 @@ computes = record {
         (
           (
             (λ d e. absurd (true≢false (sym e))),
-            ((((λ d e. inl refl), tt), (((λ d e. inl refl), tt), (((λ d e. absurd (true≢false (sym e))), tt), (((λ d e. absurd (true≢false (sym e))), tt), (((λ d e. absurd (true≢false (sym e))), tt), tt))))), tt),
+            ((((λ d e. inl (refl, refl)), tt), (((λ d e. inl (refl, refl)), tt), (((λ d e. absurd (true≢false (sym e))), tt), (((λ d e. absurd (true≢false (sym e))), tt), (((λ d e. absurd (true≢false (sym e))), tt), tt))))), tt),
           ),
           tt,
         ),

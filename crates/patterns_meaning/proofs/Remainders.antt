@@ -36,7 +36,7 @@ use Rattle.patterns_base.specs.Rules.{rule}
 use Rattle.patterns_facts.specs.Accepted.{AreAccepted}
 use Rattle.patterns_facts.proofs.Shapes.{two_is}
 use Rattle.patterns_book.specs.Matching.{Header}
-use Rattle.patterns_meaning.specs.Meaning.{Assignment, Breaks, Fits, makes, of_two}
+use Rattle.patterns_meaning.specs.Meaning.{Assignment, Breaks, Fits, makes, of_two, Obeys}
 use Rattle.patterns_meaning.specs.Better.{is_kind, is_poison_by_ones, is_signed_quotient, kind_in}
 use Rattle.patterns_meaning.specs.Keeping.{KeepsReady, done_after, is_there}
 use Rattle.patterns_meaning.specs.Remainders.{ExpandsRemainders, HasQuotient, is_signed, overflows}
@@ -308,8 +308,8 @@ module _ (accepted : AreAccepted) where
             subst (λ vs. of_two (pair_outcome w.divides_it.rest) (map a vs) ≡ Some z.0) w.operands (sym (makes_is h (map a h.operands) (how.Pair w.divides_it.rest) r.kind w.divides_it.by r.is) ∙ z.1),
           )
         where
-          made_there : (h : Header) → Fits a x h ⊎ Breaks a x h → (z : Outcome) × (makes h (map a h.operands) ≡ Some z)
-          made_there h (inl f) = (a (Result x 0), f)
+          made_there : (h : Header) → Obeys a x h → (z : Outcome) × (makes h (map a h.operands) ≡ Some z)
+          made_there h (inl f) = (a (Result x 0), f.0)
           made_there h (inr b) = some_there (makes h (map a h.operands)) b.1
 
       defined : done x ≡ true → pair_outcome w.divides_it.quotient (a w.first) (a w.second) ≡ Some (pair_out w.divides_it.quotient (a w.first) (a w.second))

@@ -211,7 +211,7 @@ module _ (m : Module) (a : Assignment) (done : ℕ → Bool) (x : ℕ) (o : Oper
   -- what it gives refines what is no worse than all that it may make
   pub gives_refined : (r : How) (y : Outcome) → rule_of (head o).name ≡ Some r → (k : OfRule m.tree (head o) r) → done x ≡ true → ((z : Outcome) → makes_by r (head o) k.kind (map a (head o).operands) ≡ Some z → refines z y ≡ true) → refines (a (Result x 0)) y ≡ true
   gives_refined r y e k d f = elim (found_fit a done t s.computing.fits x o s.found d k.arithmetic) [
-    | inl i ↦ f (a (Result x 0)) (sym (makes_is (head o) (map a (head o).operands) r k.kind e k.is) ∙ i)
+    | inl i ↦ f (a (Result x 0)) (sym (makes_is (head o) (map a (head o).operands) r k.kind e k.is) ∙ i.0)
     | inr b ↦ subst (λ z. refines z y ≡ true) (sym b.2) refl
   ]
 

@@ -119,7 +119,7 @@ new_constant_breaks a done later known d i =
     let fed = (and_parts (later 5) true (i.computing.fed.1.0.0.1.0.1.1.0.0 d)).0 in
     let b = (s.better d).0 in
     let is : now (Result 5 0) ≡ Some (kind.Int 8, 42) = elim (i.computing.fits.1.0.0.1.0.1.0.0 fed refl) [
-      | inl e ↦ constant_is now e
+      | inl e ↦ constant_is now e.0
       | inr e ↦ never e.0
     ] in
     never (sym (ap (λ o. refines o (now (Result 5 0))) known ∙ ap (refines (Some (kind.Int 8, 1))) is) ∙ b)
@@ -160,7 +160,7 @@ arguments_typed (suc (suc k)) ty e = absurd (none-some ty e)
 computes : Computing one_and_zero all_done (function_of 5 (summing (returning (Result 2 0)))).tree
 unfolding folds.rule_of folds.rules sum_of
 computes = record {
-  fits = ((λ d e. never e), ((((λ d e. never e), ((((λ d e. inl refl), tt), (((λ d e. never e), tt), tt)), tt)), tt), tt));
+  fits = ((λ d e. never e), ((((λ d e. never e), ((((λ d e. inl (refl, refl)), tt), (((λ d e. never e), tt), tt)), tt)), tt), tt));
   typed = (
     ((λ k ty e. absurd (none-some ty e)), ((((λ k ty e. absurd (none-some ty e)), (((sum_typed, tt), (((λ k ty e. absurd (none-some ty e)), tt), tt)), tt)), tt), tt)),
     (((λ k ty e. absurd (none-some ty e)), (((arguments_typed, (tt, (tt, tt))), tt), tt)), tt),

@@ -1,5 +1,5 @@
 -- Outcomes that are the same or better, and what has to be so that an operation gives no less for them.
-use Rattle.std.specs.Prelude.{◌≡◌, ◌<◌, ℕ, codes, ◌==◌, nat_lt, List, [], ◌∷◌, map, Bool, true, false, ◌&&◌, not, Option, Some, None}
+use Rattle.std.specs.Prelude.{◌≡◌, ◌<◌, ℕ, codes, ◌==◌, nat_lt, List, [], ◌∷◌, map, Bool, true, false, ◌&&◌, not, Option, Some, None, is_some}
 use Rattle.std.specs.Str.{bytes_eq}
 use Rattle.ir_types.specs.declared.bits.BitsKind.{BitsKind}
 use Rattle.ir_types.specs.declared.bits.BitsKind.TheVariants as kind
@@ -21,7 +21,7 @@ use Rattle.dialects_int.specs.Folds.{Known, fold_of, kind_of, rule_of, same_kind
 use Rattle.patterns_check.specs.Checks.{refines}
 use Rattle.patterns_check.specs.Outcomes.{Outcome, given}
 use Rattle.patterns_book.specs.Matching.{Header}
-use Rattle.patterns_meaning.specs.Meaning.{AreOfTypes, Assignment, Each, FitsAll, is_arithmetic, makes, owner, result_kind}
+use Rattle.patterns_meaning.specs.Meaning.{AreOfTypes, Assignment, Each, FitsAll, breaks_flags, is_arithmetic, makes, owner, result_kind}
 
 -- outcomes are the same, or better where the old ones were poison: at the values of operations below an id
 abbrev pub Better : ℕ → Assignment → Assignment → Type 0
@@ -142,9 +142,13 @@ Monotone =
     → takes_its (rule_of h.name) (result_kind h) h js ≡ true → AreOf js ys → may_overflow h xs ≡ false → AllBetter xs ys
     → makes h xs ≡ Some x → GivesNoLess h x ys
 
--- operations that are done make what they give, or better
+-- operations that are done make what they give, or better; what is known of one isn't where its operands break its flags
+abbrev pub KeepsFlags : Header → Outcome → List Outcome → Type 0
+KeepsFlags h x ys = is_some x ≡ true → breaks_flags h ys ≡ false
+
 abbrev pub GivesLess : Assignment → (ℕ → Bool) → Header → Type 0
-GivesLess a done h = done h.id ≡ true → is_arithmetic h ≡ true → GivesNoLess h (a (Result h.id 0)) (map a h.operands)
+GivesLess a done h =
+    done h.id ≡ true → is_arithmetic h ≡ true → GivesNoLess h (a (Result h.id 0)) (map a h.operands) × KeepsFlags h (a (Result h.id 0)) (map a h.operands)
 
 -- whether an arithmetic operation that is done gives a value
 abbrev pub is_arithmetic_there : Option Operation → Bool
