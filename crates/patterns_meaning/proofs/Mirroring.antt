@@ -48,7 +48,7 @@ use Rattle.patterns_base.proofs.Facts.{when_some}
 use Rattle.patterns_facts.specs.Accepted.{AreAccepted}
 use Rattle.patterns_facts.proofs.Shapes.{two_is}
 use Rattle.patterns_book.specs.Matching.{Header}
-use Rattle.patterns_meaning.specs.Meaning.{Assignment, makes, of_two, result_kind, breaks_by, flags_in}
+use Rattle.patterns_meaning.specs.Meaning.{Assignment, makes, of_two, result_kind, breaks_by, flags_by}
 use Rattle.patterns_meaning.specs.Better.{GivesNoLess, compares, is_kind, is_kinded, is_poison_by_ones, is_signed_quotient, kind_in, takes, takes_its}
 use Rattle.patterns_meaning.specs.Keeping.{Computing, IsReady, KeepsComputing, KeepsReady, is_there}
 use Rattle.patterns_meaning.proofs.Dropping.{kind_by, of_two_is}
@@ -307,7 +307,7 @@ module _ (accepted : AreAccepted) where
             let two = of_two_is m a done x q.here site w.first w.second w.operands in
             record {
               arithmetic = (of_rule m a done x q.here site how.Compare w.name).arithmetic;
-              unflagged = λ xs. ap (λ r. breaks_by r (flags_in (beside (codes "overflowFlags") (put_entry key_before (codes "predicate") (IntegerOf i64 (mirrored w.number)) (head q.here).properties))) (result_kind (head q.here)) xs) w.name;
+              unflagged = λ xs. ap (λ r. breaks_by r (flags_by (put_entry key_before (codes "predicate") (IntegerOf i64 (mirrored w.number)) (head q.here).properties)) (result_kind (head q.here)) xs) w.name;
               gives_so = mirror_gives;
               sure = λ d. ap (λ r. is_signed_quotient r && is_poison_by_ones (a w.second ∷ a w.first ∷ [])) w.name;
               values = and_from (has_value w.second m.tree) (has_value w.first m.tree && true) k.second (and_from (has_value w.first m.tree) true k.first refl);

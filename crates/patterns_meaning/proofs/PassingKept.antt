@@ -47,7 +47,7 @@ use Rattle.patterns_makeable.specs.Makeable.{new_type}
 use Rattle.patterns_matched.proofs.Found.{when_is}
 use Rattle.patterns_own.specs.Own.{OwnAreAccepted, own_rewrite}
 use Rattle.patterns_meaning.proofs.Flags.{broken_flagged, AreUnflagged}
-use Rattle.patterns_meaning.specs.Meaning.{Assignment, Breaks, Fits, IsOfType, has_flags, is_arithmetic, owner, makes, Obeys}
+use Rattle.patterns_meaning.specs.Meaning.{Assignment, Breaks, Fits, IsOfType, has_flags, is_arithmetic, owner, makes, Obeys, breaks_by, breaks_flags, flags_of, result_kind}
 use Rattle.patterns_meaning.specs.Applied.{Goes, IsFound, IsProper, kinds_matched, matched}
 use Rattle.patterns_meaning.specs.Better.{kind_in}
 use Rattle.patterns_meaning.specs.Improving.{makes_no_quotient, is_quotient}
@@ -55,7 +55,7 @@ use Rattle.patterns_meaning.specs.Keeping.{Computing, Improves, IsFed, IsReady, 
 use Rattle.patterns_meaning.specs.Passing.{AppliedIsFound, CheckedPassingKeep, FoundAt, PassingKeep, is_kinded_at, kinds_there, new_is_defined, piece_passes, is_always_defined, passes_poison}
 use Rattle.patterns_meaning.proofs.Applying.{Applies, applies}
 use Rattle.patterns_meaning.proofs.Formed.{is_below}
-use Rattle.patterns_meaning.proofs.Forms.{MakesIt, constant_there, giver_of, makes_is, named_is, rule_for}
+use Rattle.patterns_meaning.proofs.Forms.{MakesIt, constant_there, giver_of, makes_is, named_is, rule_for, by_constant}
 use Rattle.patterns_meaning.proofs.Giving.{Making, after_new, given_improves}
 use Rattle.patterns_meaning.proofs.Going.{formed_parts, made_parts, planned_as, planned_there, plans_go}
 use Rattle.patterns_meaning.proofs.Improved.{AreNoQuotients, new_ready, no_quotients}
@@ -75,39 +75,14 @@ use Rattle.patterns_meaning.proofs.PassingMade.{AreBuilt, IsBuilt, IsPlace, are_
 use Rattle.std.proofs.lemmas.List.{get_or_past}
 use Rattle.patterns_meaning.proofs.Beginning.{outcomes_long}
 
--- ---- constants have no flags
-no_key : is_inherent (codes "arith.constant") (codes "overflowFlags") ≡ false
-unfolding is_inherent operations
-no_key = refl
-
-none_beside : (props : List (List ℕ × AttrTerm)) → list_all (is_property (codes "arith.constant")) props ≡ true → beside (codes "overflowFlags") props ≡ None
-none_beside [] e = refl
-none_beside (r ∷ props) e =
-    let p = and_parts (is_property (codes "arith.constant") r) (list_all (is_property (codes "arith.constant")) props) e in
-    go (bytes_eq (codes "overflowFlags") r.0) refl (and_parts (is_inherent (codes "arith.constant") r.0) _ p.0).0 (none_beside props p.1)
-  where
-    go : (b : Bool) → bytes_eq (codes "overflowFlags") r.0 ≡ b → is_inherent (codes "arith.constant") r.0 ≡ true → beside (codes "overflowFlags") props ≡ None → (if b then Some r.1 else beside (codes "overflowFlags") props) ≡ None
-    go false i t n = n
-    go true i t n = absurd (true≢false (sym t ∙ ap (is_inherent (codes "arith.constant")) (sym ((bytes_eq-Decides (codes "overflowFlags") r.0).0 i)) ∙ no_key))
-
-its_properties : (name : List ℕ) (props : List (List ℕ × AttrTerm)) (operands : List (Option Known)) (results : List TypeTerm) (y : Known) → fold_of name props operands results ≡ Some y → list_all (is_property name) props ≡ true
-unfolding fold_of
-its_properties name props operands [] y e = absurd (none-some y e)
-its_properties name props operands (ty ∷ uy ∷ tys) y e = absurd (none-some y e)
-its_properties name props operands (ty ∷ []) y e = go (list_all (is_property name) props) (with (λ r. with (λ k. option_map (λ bits. (k, bits)) (fold_by r props k operands)) (kind_of ty)) (rule_of name)) e
-  where
-    go : (b : Bool) (o : Option Known) → (if b then o else None) ≡ Some y → b ≡ true
-    go true o e = refl
-    go false o e = absurd (none-some y e)
-
-flagless : (t : Operation) (clean : Header → Bool) (v : Value) (y : Known) (h : Header) → known t clean v ≡ Some y → giver_head t clean v ≡ Some h → has_flags h ≡ false
-flagless t clean v y h e f =
+-- ---- constants break no flags
+flagless : (t : Operation) (clean : Header → Bool) (v : Value) (y : Known) (h : Header) (xs : List Outcome) → known t clean v ≡ Some y → giver_head t clean v ≡ Some h → breaks_flags h xs ≡ false
+flagless t clean v y h xs e f =
     let g = given_some (giver_head t clean v) (λ h. when (named (codes "arith.constant") h.name) (fold_of h.name h.properties [] h.results)) y e in
     let w = when_is (named (codes "arith.constant") g.0.name) (fold_of g.0.name g.0.properties [] g.0.results) y g.2 in
-    let all = its_properties g.0.name g.0.properties [] g.0.results y w.1 in
     let same : g.0 ≡ h = same_Some _ _ (sym g.1 ∙ f) in
-    subst (λ (h : Header). has_flags h ≡ false) same
-    (ap (λ o. not (are_none o)) (none_beside g.0.properties (subst (λ name. list_all (is_property name) g.0.properties ≡ true) (named_is (codes "arith.constant") g.0.name w.0) all)))
+    ap (λ r. breaks_by r (flags_of h) (result_kind h) xs)
+    (ap (λ (h : Header). rule_of h.name) (sym same) ∙ ap rule_of (named_is (codes "arith.constant") g.0.name w.0) ∙ by_constant)
 
 -- ---- what divides nothing makes no quotients
 divided : (o : Arithmetic) (i j : ℕ) → not (divides o) ≡ true → not (is_quotient (form.Pair o i j)) ≡ true
@@ -265,7 +240,7 @@ module _ (m : Module) (p : Shape) (x : ℕ) (passing : list_all piece_passes p.o
             let is : done g.id ≡ true = ap (is_there done) (sym g.value) ∙ there_all d i v s in
             elim (subst (λ (h : Header). is_arithmetic h ≡ true → Obeys a g.id h) g.heads (found_fit a done t computing.fits g.id g.here g.found is) arithmetic) [
               | inl k ↦ subst (λ w. makes h (map a h.operands) ≡ Some (a w)) (sym g.value) k.0
-              | inr b ↦ absurd (true≢false (sym (broken_flagged h (map a h.operands) b.0) ∙ flagless t (is_clean t) v y h e f))
+              | inr b ↦ absurd (true≢false (sym b.0 ∙ flagless t (is_clean t) v y h (map a h.operands) e f))
             ]
 
     -- outcomes at all places: of variables, and the numbers that are planned

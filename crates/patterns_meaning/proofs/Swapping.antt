@@ -46,7 +46,7 @@ use Rattle.patterns_base.proofs.Facts.{when_some}
 use Rattle.patterns_facts.specs.Accepted.{AreAccepted}
 use Rattle.patterns_facts.proofs.Shapes.{two_is}
 use Rattle.patterns_book.specs.Matching.{Header}
-use Rattle.patterns_meaning.specs.Meaning.{ArgumentsOfTypes, Each, EachBlock, FitsDone, ResultsOfTypes, makes, owner, result_kind, breaks_by, breaks_flags, breaks_pair, flags_of, overflows_signed, overflows_unsigned}
+use Rattle.patterns_meaning.specs.Meaning.{ArgumentsOfTypes, Each, EachBlock, FitsDone, ResultsOfTypes, makes, owner, result_kind, breaks_by, breaks_flags, breaks_pair, flags_of, overflows_signed, overflows_unsigned, Flags, is_inexact}
 use Rattle.patterns_meaning.specs.Better.{IsSure, is_kind, is_kinded, is_poison_by_ones, is_signed_quotient, kind_in, takes, takes_its, gives, is_arithmetic_there}
 use Rattle.patterns_meaning.proofs.Frees.{Was, free_still, was_old}
 use Rattle.patterns_meaning.specs.After.{OperandsStand}
@@ -131,7 +131,7 @@ unfolding product_of
 product_turned w a b = ap (λ n. n % 2 ^ w) (mul_comm a b)
 
 -- and breaks its flags for the same operands
-module _ (f : Bool × Bool) (w : ℕ) where
+module _ (f : Flags) (w : ℕ) where
   signed_turned : (o : Arithmetic) → commutes o ≡ true → (a b : ℕ) → overflows_signed o w a b ≡ overflows_signed o w b a
   signed_turned op.Add e a b = λ i. not (int_eq (signed_of w (sum_turned w a b i)) (+ℤ_comm (signed_of w a) (signed_of w b) i))
   signed_turned op.Multiply e a b = λ i. not (int_eq (signed_of w (product_turned w a b i)) (*ℤ_comm (signed_of w a) (signed_of w b) i))
@@ -170,11 +170,30 @@ module _ (f : Bool × Bool) (w : ℕ) where
   unsigned_turned op.ShiftRightSigned e a b = refl
   unsigned_turned op.ShiftRightUnsigned e a b = refl
 
+  exact_turned : (o : Arithmetic) → commutes o ≡ true → (a b : ℕ) → is_inexact o w a b ≡ is_inexact o w b a
+  exact_turned op.Add e a b = refl
+  exact_turned op.Multiply e a b = refl
+  exact_turned op.And e a b = refl
+  exact_turned op.Or e a b = refl
+  exact_turned op.ExclusiveOr e a b = refl
+  exact_turned op.MaximumSigned e a b = refl
+  exact_turned op.MaximumUnsigned e a b = refl
+  exact_turned op.MinimumSigned e a b = refl
+  exact_turned op.MinimumUnsigned e a b = refl
+  exact_turned op.Subtract e a b = refl
+  exact_turned op.ShiftLeft e a b = refl
+  exact_turned op.DivideSigned e a b = absurd (true≢false (sym e))
+  exact_turned op.DivideUnsigned e a b = absurd (true≢false (sym e))
+  exact_turned op.RemainderSigned e a b = refl
+  exact_turned op.RemainderUnsigned e a b = refl
+  exact_turned op.ShiftRightSigned e a b = absurd (true≢false (sym e))
+  exact_turned op.ShiftRightUnsigned e a b = absurd (true≢false (sym e))
+
   breaks_turned : (o : Arithmetic) → commutes o ≡ true → (p q : Outcome) → breaks_pair f o w (p ∷ q ∷ []) ≡ breaks_pair f o w (q ∷ p ∷ [])
   breaks_turned o e None None = refl
   breaks_turned o e None (Some y) = refl
   breaks_turned o e (Some x) None = refl
-  breaks_turned o e (Some x) (Some y) = λ i. (f.0 && signed_turned o e x.1 y.1 i) || (f.1 && unsigned_turned o e x.1 y.1 i)
+  breaks_turned o e (Some x) (Some y) = λ i. (f.nsw && signed_turned o e x.1 y.1 i) || ((f.nuw && unsigned_turned o e x.1 y.1 i) || (f.exact && exact_turned o e x.1 y.1 i))
 
 abbrev IsSwapping : List ℕ → Type 0
 IsSwapping name = (o : Arithmetic) × (rule_of name ≡ Some (how.Pair o)) × (commutes o ≡ true)

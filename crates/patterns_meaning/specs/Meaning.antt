@@ -1,9 +1,10 @@
 -- What the operations of a module compute, of which patterns speak: an outcome is given to each value, and fits where
 -- each operation's result is what the operation makes of its operands.
-use Rattle.std.specs.Prelude.{◌≡◌, ◌⊎◌, ℕ, ◌+◌, ◌*◌, ◌^◌, ◌==◌, nat_lt, pos, ◌+ℤ◌, ◌-ℤ◌, ◌*ℤ◌, List, [], ◌∷◌, map, codes, Bool, true, false, not, ◌&&◌, ◌||◌, Option, Some, None, slice_get, is_some}
+use Rattle.std.specs.Prelude.{◌≡◌, ◌⊎◌, ℕ, ◌+◌, ◌*◌, ◌/◌, ◌^◌, ◌==◌, nat_lt, pos, int_div, ◌+ℤ◌, ◌-ℤ◌, ◌*ℤ◌, List, [], ◌∷◌, map, codes, Bool, true, false, not, ◌&&◌, ◌||◌, Option, Some, None, slice_get, is_some}
+use Rattle.std.specs.Int.{int_shr}
 use Rattle.std.specs.Ordering.{int_eq}
 use Rattle.ir_types.specs.declared.bits.BitsKind.{BitsKind}
-use Rattle.ir_types.specs.Terms.{TypeTerm, AttrTerm, Overflow}
+use Rattle.ir_types.specs.Terms.{TypeTerm, AttrTerm, Flag, Overflow}
 use Rattle.ir_types.specs.Readings.{signed_of}
 use Rattle.ir_types.specs.Bits.{is_bits, width_of}
 use Rattle.ir_tree.specs.declared.value.Value.{Value}
@@ -69,18 +70,39 @@ abbrev pub is_arithmetic : Header → Bool
 is_arithmetic h = is_some (rule_of h.name) && is_some (result_kind h)
 
 -- ---- flags
--- whether it has flags
-abbrev pub has_flags : Header → Bool
-has_flags h = not (are_none (beside (codes "overflowFlags") h.properties))
+-- the flags of an operation: those of `overflowFlags`, and whether it has `isExact`
+pub record Flags : Type 0 where
+  pub nsw : Bool
+  pub nuw : Bool
+  pub exact : Bool
 
--- whether these are nsw, and nuw
 abbrev pub flags_in : Option AttrTerm → Bool × Bool
 flags_in None = (false, false)
 flags_in (Some (Overflow nsw nuw)) = (nsw, nuw)
 flags_in (Some _) = (false, false)
 
-abbrev pub flags_of : Header → Bool × Bool
-flags_of h = flags_in (beside (codes "overflowFlags") h.properties)
+abbrev pub is_exact : Option AttrTerm → Bool
+is_exact None = false
+is_exact (Some Flag) = true
+is_exact (Some _) = false
+
+abbrev pub flags_by : List (List ℕ × AttrTerm) → Flags
+flags_by properties =
+    record {
+      nsw = (flags_in (beside (codes "overflowFlags") properties)).0;
+      nuw = (flags_in (beside (codes "overflowFlags") properties)).1;
+      exact = is_exact (beside (codes "isExact") properties);
+    }
+
+abbrev pub flags_of : Header → Flags
+flags_of h = flags_by h.properties
+
+-- whether it has any
+abbrev pub has_flags_by : List (List ℕ × AttrTerm) → Bool
+has_flags_by properties = not (are_none (beside (codes "overflowFlags") properties)) || is_exact (beside (codes "isExact") properties)
+
+abbrev pub has_flags : Header → Bool
+has_flags h = has_flags_by h.properties
 
 -- Returns whether an operation on two numbers of w bits overflows if they are signed: the signed reading of its result
 -- isn't the sum, the difference, the product or the multiple of theirs.
@@ -99,18 +121,28 @@ overflows_unsigned way.Multiply w a b = not (product_of w a b == a * b)
 overflows_unsigned way.ShiftLeft w a n = not (product_of w a (2 ^ n) == a * 2 ^ n)
 overflows_unsigned o w a b = false
 
--- Returns whether known operands break the flags of an operation with a result of a kind: `addi`, `subi`, `muli`, `shli`,
--- and `trunci` from v bits, which has to give the same number again. Poison breaks none.
-abbrev pub breaks_pair : Bool × Bool → Arithmetic → ℕ → List Outcome → Bool
-breaks_pair flags o w (Some x ∷ Some y ∷ []) = (flags.0 && overflows_signed o w x.1 y.1) || (flags.1 && overflows_unsigned o w x.1 y.1)
+-- Returns whether a quotient or a shift to the right isn't exact: times the divisor it isn't the dividend.
+abbrev pub is_inexact : Arithmetic → ℕ → ℕ → ℕ → Bool
+is_inexact way.DivideSigned w a b = not (int_eq (int_div (signed_of w a) (signed_of w b) *ℤ signed_of w b) (signed_of w a))
+is_inexact way.DivideUnsigned w a b = not ((a / b) * b == a)
+is_inexact way.ShiftRightSigned w a n = not (int_eq (int_shr (signed_of w a) n *ℤ pos (2 ^ n)) (signed_of w a))
+is_inexact way.ShiftRightUnsigned w a n = not ((a / 2 ^ n) * 2 ^ n == a)
+is_inexact o w a b = false
+
+-- Returns whether known operands break the flags of an operation with a result of a kind: nsw and nuw of `addi`, `subi`,
+-- `muli` and `shli`; exact of `divsi`, `divui`, `shrsi` and `shrui`; and nsw and nuw of `trunci` from v bits, which has to
+-- give the same number again. Poison breaks none.
+abbrev pub breaks_pair : Flags → Arithmetic → ℕ → List Outcome → Bool
+breaks_pair flags o w (Some x ∷ Some y ∷ []) =
+    (flags.nsw && overflows_signed o w x.1 y.1) || ((flags.nuw && overflows_unsigned o w x.1 y.1) || (flags.exact && is_inexact o w x.1 y.1))
 breaks_pair flags o w _ = false
 
-abbrev pub breaks_cut : Bool × Bool → ℕ → List Outcome → Bool
+abbrev pub breaks_cut : Flags → ℕ → List Outcome → Bool
 breaks_cut flags w (Some x ∷ []) =
-    (flags.0 && not (int_eq (signed_of w (zero_extended w x.1)) (signed_of (width_of x.0) x.1))) || (flags.1 && not (zero_extended w x.1 == x.1))
+    (flags.nsw && not (int_eq (signed_of w (zero_extended w x.1)) (signed_of (width_of x.0) x.1))) || (flags.nuw && not (zero_extended w x.1 == x.1))
 breaks_cut flags w _ = false
 
-abbrev pub breaks_by : Option Rule → Bool × Bool → Option BitsKind → List Outcome → Bool
+abbrev pub breaks_by : Option Rule → Flags → Option BitsKind → List Outcome → Bool
 breaks_by (Some (rule.Pair o)) flags (Some k) xs = breaks_pair flags o (width_of k) xs
 breaks_by (Some (rule.Resize cast.Truncate)) flags (Some k) xs = breaks_cut flags (width_of k) xs
 breaks_by r flags k xs = false
