@@ -17,6 +17,7 @@ pub mod Applying
 pub mod Monotone
 pub mod MadeOf
 pub mod FlagsKept
+pub mod FlagsSampled
 pub mod Settling
 pub mod Frees
 pub mod Lifted

@@ -3,6 +3,7 @@ pub mod Applied
 pub mod After
 pub mod Applying
 pub mod Better
+pub mod FlagSamples
 pub mod Improving
 pub mod Observing
 pub mod Keeping

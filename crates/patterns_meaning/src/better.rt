@@ -1,5 +1,6 @@
 //! Laws of values that get better: what is poison may become a value, and so may what is computed of it.
 ghost use Rattle.patterns_meaning.specs.Better.{Monotone, OthersAreKinded, Settles};
+ghost use Rattle.patterns_meaning.specs.FlagSamples.{SamplesBreak};
 ghost use Rattle.patterns_meaning.specs.Improving.{RewritesComputeBetter};
 
 use patterns_own::laws::no_edit_of_a_pattern_is_refused;
@@ -29,3 +30,8 @@ pub fn rewrites_compute_no_less()
 {
     no_edit_of_a_pattern_is_refused();
 }
+
+/// Samples of operands that break `nsw`, `nuw` and `exact`, and of operands that don't.
+pub fn samples_break_flags()
+    ensures { SamplesBreak }
+{}
