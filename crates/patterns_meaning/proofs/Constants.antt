@@ -106,10 +106,11 @@ module _ (r : Rule) (m n : Module) (x : ℕ) (q : Ruled r m n x) (g : GivesNumbe
       typed = ((λ k ty e. subst (λ o. IsOfType ty o) (sym (new_there a m.next (Some (g.kind, g.bits)) k)) (only k ty e)), tt);
       ready = (
         (λ i j. (
-          inl
-              (same_makes (head (constant g.ty g.bits)) m.next [] [] ∙ constant_makes g.ty g.kind g.bits g.of
-              ∙ ap (λ o. Some o) (sym (new_there a m.next (Some (g.kind, g.bits)) 0)),
-              unflagged (head (constant g.ty g.bits)) [] refl),
+          inl (
+            same_makes (head (constant g.ty g.bits)) m.next [] [] ∙ constant_makes g.ty g.kind g.bits g.of
+                ∙ ap (λ o. Some o) (sym (new_there a m.next (Some (g.kind, g.bits)) 0)),
+            unflagged (head (constant g.ty g.bits)) [] refl,
+          ),
           ap (λ r. is_signed_quotient r && is_poison_by_ones []) by_constant,
         )),
         tt,

@@ -1,32 +1,25 @@
 -- Flags: where they are broken, and where they stay unbroken.
 use Rattle.ir_tree_laws.proofs.Listed.{neither}
-use Rattle.std.proofs.Common.{◌≡◌, ℕ, refl, ap, sym, ◌∙◌, List, [], ◌∷◌, map, Bool, true, false, true≢false, ◌&&◌, ◌||◌, not, Option, Some, None, inl, inr}
-use Rattle.std.specs.Prelude.{codes, is_some, if◌then◌else◌}
-use Rattle.std.specs.List.{list_all}
-use Rattle.std.proofs.lemmas.Option.{none-some, same_Some}
+use Rattle.std.proofs.Common.{◌≡◌, ℕ, refl, ap, sym, ◌∙◌, List, [], ◌∷◌, Bool, true, false, true≢false, not, Option, Some, None}
+use Rattle.std.specs.Prelude.{codes, if◌then◌else◌}
 use Rattle.ir_types.specs.declared.bits.BitsKind.{BitsKind}
 use Rattle.ir_types.specs.Bits.{width_of}
-use Rattle.ir_types.specs.Reasons.{is_width}
-use Rattle.ir_tree.specs.declared.value.Value.TheVariants.{Result}
 use Rattle.ir_types.specs.Terms.{AttrTerm, Overflow}
 use Rattle.ir_tree.specs.Tree.{head}
 use Rattle.ir_tree.specs.Meaning.{Operation}
 use Rattle.op_registry.specs.Registry.{beside}
 use Rattle.dialects_int.specs.declared.operations.Arithmetic.{Arithmetic}
-use Rattle.dialects_int.specs.declared.operations.Cast.{Cast}
 use Rattle.dialects_int.specs.declared.operations.Cast.TheVariants as cuts
 use Rattle.dialects_int.specs.declared.operations.Rule.{Rule as How}
 use Rattle.dialects_int.specs.declared.operations.Rule.TheVariants as how
-use Rattle.dialects_int.specs.Folds.{Known, rule_of}
+use Rattle.dialects_int.specs.Folds.{rule_of}
 use Rattle.patterns_laws.specs.Made.{flags}
 use Rattle.patterns_laws.specs.Words.{among, flagged}
-use Rattle.patterns_check.specs.Checks.{refines}
-use Rattle.patterns_check.specs.Outcomes.{Outcome, divides, is_some_number, pair_outcome, resize_outcome}
+use Rattle.patterns_check.specs.Outcomes.{Outcome}
 use Rattle.patterns_book.specs.Matching.{Header}
 use Rattle.patterns_book.specs.Names.{are_none}
 use Rattle.patterns_book.specs.Planning.{entries_by}
-use Rattle.patterns_meaning.specs.Meaning.{Assignment, Obeys, breaks_by, breaks_cut, breaks_flags, breaks_pair, flags_in, flags_of, has_flags, makes, of_one, of_two, result_kind, Flags, has_flags_by, is_exact}
-use Rattle.patterns_meaning.specs.Better.{AllBetter}
+use Rattle.patterns_meaning.specs.Meaning.{breaks_by, breaks_cut, breaks_flags, breaks_pair, flags_in, flags_of, has_flags, result_kind, Flags, has_flags_by, is_exact}
 
 abbrev no_flags : Flags
 no_flags = record { nsw = false; nuw = false; exact = false }

@@ -1,5 +1,5 @@
 -- What operations of which patterns speak make is what their steps give.
-use Rattle.std.proofs.Common.{◌≡◌, ℕ, refl, ap, sym, ◌∙◌, subst, List, [], ◌∷◌, map, Bool, true, false, true≢false, ◌&&◌, eqb, eqb-true, Option, Some, None, slice_get, ◌⊎◌, inl, inr}
+use Rattle.std.proofs.Common.{◌≡◌, ℕ, refl, ap, sym, ◌∙◌, subst, List, [], ◌∷◌, map, Bool, true, false, true≢false, ◌&&◌, eqb, eqb-true, Option, Some, None, slice_get, inl, inr}
 use Rattle.std.specs.Prelude.{codes, option_map, option_and_then, if◌then◌else◌, is_some}
 use Rattle.std.specs.List.{list_all}
 use Rattle.std.proofs.lemmas.Bool.{and_parts}
@@ -34,7 +34,7 @@ use Rattle.patterns_book.proofs.Named.{names_fold}
 use Rattle.patterns_makeable.specs.Makeable.{has_name}
 use Rattle.patterns_matched.proofs.Found.{when_is}
 use Rattle.patterns_meaning.proofs.Flags.{broken_flagged}
-use Rattle.patterns_meaning.specs.Meaning.{Assignment, Breaks, Fits, is_arithmetic, makes, makes_by, of_one, of_three, of_two, owner, result_kind, Obeys}
+use Rattle.patterns_meaning.specs.Meaning.{Assignment, is_arithmetic, makes, makes_by, of_one, of_three, of_two, owner, result_kind, Obeys}
 use Rattle.patterns_meaning.specs.Applied.{AreDone, AreUnbroken}
 use Rattle.patterns_meaning.proofs.Standing.{stands_standing, Stands}
 use Rattle.patterns_meaning.proofs.Trees.{FoundFit}

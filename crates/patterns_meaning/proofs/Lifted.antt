@@ -1,5 +1,5 @@
 -- A tree after an operation's result is replaced by what is the same or better computes what it computed, or better.
-use Rattle.std.proofs.Common.{◌≡◌, ℕ, ◌+◌, ◌<◌, refl, ap, sym, ◌∙◌, subst, List, [], ◌∷◌, map, Bool, true, false, Option, Some, ◌⊎◌, inl, inr}
+use Rattle.std.proofs.Common.{◌≡◌, ℕ, ◌+◌, ◌<◌, refl, ap, sym, ◌∙◌, subst, List, [], ◌∷◌, map, Bool, true, false, Option, Some, inl, inr}
 use Rattle.std.specs.Prelude.{is_some, if◌then◌else◌}
 use Rattle.std.specs.List.{list_all}
 use Rattle.ir_types.specs.declared.bits.BitsKind.{BitsKind}
@@ -21,7 +21,7 @@ use Rattle.patterns_laws.proofs.KnownFolds.{given_some}
 use Rattle.patterns_book.specs.Matching.{Header}
 use Rattle.std.proofs.lemmas.Option.{same_Some}
 use Rattle.patterns_meaning.proofs.FlagsKept.{known_refined, obeys_unbroken, still_unbroken}
-use Rattle.patterns_meaning.specs.Meaning.{AreOfTypes, ArgumentsOfTypes, Assignment, Breaks, Each, Fits, FitsAll, FitsDone, IsOfType, ResultsOfTypes, TypedEach, is_arithmetic, makes, Obeys, breaks_flags}
+use Rattle.patterns_meaning.specs.Meaning.{AreOfTypes, ArgumentsOfTypes, Assignment, Each, FitsAll, FitsDone, IsOfType, ResultsOfTypes, TypedEach, is_arithmetic, makes, Obeys, breaks_flags}
 use Rattle.patterns_meaning.specs.Applied.{Agree, IsBelow}
 use Rattle.patterns_meaning.specs.After.{OperandsStand, rewritten, with_made}
 use Rattle.patterns_meaning.specs.Better.{AllBetter, AllSure, AreKinded, AreOf, GivesLess, IsSure, Settled, is_kinded, kind_in, may_overflow, GivesNoLess}

@@ -155,9 +155,10 @@ module _ (c : Assignment) (done : ℕ → Bool) (n x : ℕ) where
   all_ready f m (o ∷ os) (k ∷ ks) [] l g h at = absurd h
   all_ready f m (o ∷ os) (k ∷ ks) (z ∷ zs) l g h at = (
     (λ i j. (
-      inl
-          (same_makes (head o) m (head o).operands (map c (head o).operands) ∙ h.0.made (sym (after_new n x done m l) ∙ i) ∙ ap (λ z. Some z) (sym (at.0 0)),
-          unflagged (head o) (map c (head o).operands) g.0.unset),
+      inl (
+        same_makes (head o) m (head o).operands (map c (head o).operands) ∙ h.0.made (sym (after_new n x done m l) ∙ i) ∙ ap (λ z. Some z) (sym (at.0 0)),
+        unflagged (head o) (map c (head o).operands) g.0.unset,
+      ),
       h.0.sure (sym (after_new n x done m l) ∙ i),
     )),
     all_ready f (m + 1) os ks zs (omega (arith, l)) g.1 h.1 at.1,

@@ -1,16 +1,12 @@
 -- What patterns that match no choices, and divide nothing, make of a ready module is ready, and computes what that
 -- computed, or better.
 use Rattle.std.proofs.Common.{◌≡◌, ℕ, ◌+◌, ◌-◌, ◌<◌, ◌≤◌, refl, ap, sym, ◌∙◌, subst, List, [], ◌∷◌, ◌++◌, length, map, Bool, true, false, true≢false, not, Option, Some, None, slice_get, get_or, ◌⊎◌, inl, inr, arith}
-use Rattle.std.specs.Prelude.{codes, is_some, nat_lt, if◌then◌else◌, option_map}
+use Rattle.std.specs.Prelude.{codes, is_some, nat_lt, if◌then◌else◌}
 use Rattle.std.specs.List.{list_all, range_with_len}
-use Rattle.std.specs.Str.{bytes_eq}
 use Rattle.std.proofs.lemmas.Bool.{and_from, and_parts, cases_lt, le-ltb, lt-ltb}
 use Rattle.std.proofs.lemmas.List.FromFn.{get_or-map-range_with_len, length-map-range_with_len}
 use Rattle.std.proofs.lemmas.Option.{get_or_from_slice_get, none-some, same_Some, slice_get-get_or, slice_get_within}
-use Rattle.std.proofs.lemmas.Slice.Eq.{bytes_eq-Decides}
 use Rattle.ir_types.specs.declared.bits.BitsKind.{BitsKind}
-use Rattle.ir_types.specs.Terms.{AttrTerm, TypeTerm}
-use Rattle.ir_types.specs.Words.{is_inherent, operations}
 use Rattle.ir_tree.specs.declared.value.Value.{Value}
 use Rattle.ir_tree.specs.declared.value.Value.TheVariants.{Result}
 use Rattle.ir_tree.specs.Tree.{head}
@@ -19,10 +15,9 @@ use Rattle.ir_tree_laws.specs.Members.{In}
 use Rattle.ir_tree_laws.specs.Values.{has_value}
 use Rattle.ir_tree_laws.proofs.Listed.{all_each}
 use Rattle.ir_event.specs.Modules.{Module}
-use Rattle.op_registry.specs.Registry.{beside}
 use Rattle.dialects_int.specs.declared.operations.Arithmetic.{Arithmetic}
 use Rattle.dialects_int.specs.declared.operations.Arithmetic.TheVariants as op
-use Rattle.dialects_int.specs.Folds.{Known, fold_by, fold_of, is_property, kind_of, rule_of, with}
+use Rattle.dialects_int.specs.Folds.{Known, fold_of, rule_of}
 use Rattle.rewriter_machine.specs.Edits.{Make}
 use Rattle.patterns_laws.specs.Words.{named}
 use Rattle.patterns_laws.proofs.KnownFolds.{given_some}
@@ -39,15 +34,15 @@ use Rattle.patterns_book.specs.declared.pattern.New.{New}
 use Rattle.patterns_book.specs.declared.pattern.New.TheVariants as new
 use Rattle.patterns_book.specs.Fitting.{content_with, kind_at}
 use Rattle.patterns_book.specs.Matching.{Header, giver_head, known, standing, when}
-use Rattle.patterns_book.specs.Names.{are_none, operands_of}
+use Rattle.patterns_book.specs.Names.{operands_of}
 use Rattle.patterns_book.specs.Planning.{kind_standing, new_place, old_place, outcomes, planned, planned_by, typed}
 use Rattle.patterns_book.specs.Shapes.{Shape}
 use Rattle.patterns_book.specs.WellFormed.{form_stands, is_new, is_type, new_ends, new_stands, news_stand}
 use Rattle.patterns_makeable.specs.Makeable.{new_type}
 use Rattle.patterns_matched.proofs.Found.{when_is}
 use Rattle.patterns_own.specs.Own.{OwnAreAccepted, own_rewrite}
-use Rattle.patterns_meaning.proofs.Flags.{broken_flagged, AreUnflagged}
-use Rattle.patterns_meaning.specs.Meaning.{Assignment, Breaks, Fits, IsOfType, has_flags, is_arithmetic, owner, makes, Obeys, breaks_by, breaks_flags, flags_of, result_kind}
+use Rattle.patterns_meaning.proofs.Flags.{AreUnflagged}
+use Rattle.patterns_meaning.specs.Meaning.{Assignment, IsOfType, is_arithmetic, owner, makes, Obeys, breaks_by, breaks_flags, flags_of, result_kind}
 use Rattle.patterns_meaning.specs.Applied.{Goes, IsFound, IsProper, kinds_matched, matched}
 use Rattle.patterns_meaning.specs.Better.{kind_in}
 use Rattle.patterns_meaning.specs.Improving.{makes_no_quotient, is_quotient}

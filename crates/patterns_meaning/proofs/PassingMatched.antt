@@ -1,5 +1,5 @@
 -- What stands where a pattern that matches no choices is matched in a ready module.
-use Rattle.std.proofs.Common.{◌≡◌, ℕ, zero, suc, ◌+◌, ◌-◌, ◌<◌, refl, ap, sym, ◌∙◌, subst, List, [], ◌∷◌, ◌++◌, length, map, Bool, true, false, true≢false, ◌&&◌, not, eqb, Option, Some, None, slice_get, ◌⊎◌, inl, inr, arith}
+use Rattle.std.proofs.Common.{◌≡◌, ℕ, zero, suc, ◌+◌, ◌-◌, ◌<◌, refl, ap, sym, ◌∙◌, subst, List, [], ◌∷◌, ◌++◌, length, map, Bool, true, false, true≢false, ◌&&◌, eqb, Option, Some, None, slice_get, ◌⊎◌, inl, inr, arith}
 use Rattle.ir_tree.specs.Ids.{find}
 use Rattle.std.specs.Prelude.{codes, is_some, if◌then◌else◌, option_map}
 use Rattle.std.specs.List.{list_all, list_any, range_with_len}
@@ -30,7 +30,7 @@ use Rattle.dialects_int.specs.declared.operations.Rule.TheVariants as how
 use Rattle.dialects_int.specs.Folds.{Known, asked, fold_of, kind_of, property_of, rule_of, same_kind}
 use Rattle.patterns_laws.specs.Words.{named}
 use Rattle.patterns_laws.proofs.KnownFolds.{given_some, kind_back}
-use Rattle.patterns_check.specs.Outcomes.{Outcome, compare_outcome, divides, given, is_some_number, pair_outcome, resize_outcome, run}
+use Rattle.patterns_check.specs.Outcomes.{Outcome, compare_outcome, given, pair_outcome, resize_outcome, run}
 use Rattle.patterns_check.proofs.Behind.{run_behind}
 use Rattle.patterns_check.specs.Contents.{Content}
 use Rattle.patterns_base.specs.Looks.{is_clean}
@@ -47,7 +47,7 @@ use Rattle.patterns_book.specs.Shapes.{Shape}
 use Rattle.patterns_makeable.specs.Makeable.{has_name}
 use Rattle.patterns_matched.proofs.Found.{all_from, bound_from, when_is}
 use Rattle.patterns_meaning.proofs.FlagsKept.{known_one, known_pair, known_resized, known_two}
-use Rattle.patterns_meaning.specs.Meaning.{Assignment, makes_by, of_one, of_two, result_kind, is_arithmetic}
+use Rattle.patterns_meaning.specs.Meaning.{Assignment, makes_by, of_two, result_kind, is_arithmetic}
 use Rattle.patterns_meaning.specs.Applied.{AreOfKinds, IsProper, further_kind, kinds_behind, kinds_given, matched}
 use Rattle.patterns_meaning.specs.Better.{are_its_bits, is_kind, is_kinded, kind_in, narrows, takes, is_arithmetic_there}
 use Rattle.patterns_meaning.specs.Keeping.{IsReady}
@@ -55,7 +55,6 @@ use Rattle.patterns_meaning.specs.Passing.{passes_poison, piece_passes}
 use Rattle.patterns_meaning.proofs.Beginning.{outcomes_at, outcomes_long}
 use Rattle.patterns_meaning.proofs.Forms.{by_constant, fold_kind, form_rule, giver_of, giver_type, kind_is, named_is, rule_for}
 use Rattle.patterns_meaning.proofs.Going.{AreTyped, IsPlanned, formed_parts, has_type, made_parts, matched_parts, planned_as, planned_there, typed_at, typed_parts}
-use Rattle.patterns_meaning.proofs.Monotone.{none_made}
 use Rattle.patterns_meaning.proofs.OfBits.{AllOfBits, run_bits}
 use Rattle.patterns_meaning.proofs.OfKinds.{OfKinds, furthers_run, numbers_run}
 use Rattle.patterns_meaning.proofs.Rooted.{hold_at, named_at}

@@ -1,5 +1,5 @@
 -- The rule that has a remainder by a division keeps modules ready, and what they compute where no quotient overflows.
-use Rattle.std.proofs.Common.{◌≡◌, ℕ, ◌+◌, ◌<◌, ◌≤◌, ◌^◌, ◌%◌, refl, ap, sym, ◌∙◌, subst, List, [], ◌∷◌, map, Bool, true, false, true≢false, ◌&&◌, not, Option, Some, None, ◌⊎◌, inl, inr, arith}
+use Rattle.std.proofs.Common.{◌≡◌, ℕ, ◌+◌, ◌<◌, ◌≤◌, ◌^◌, ◌%◌, refl, ap, sym, ◌∙◌, subst, List, [], ◌∷◌, map, Bool, true, false, true≢false, ◌&&◌, not, Option, Some, None, inl, inr, arith}
 use Rattle.std.specs.Prelude.{◌==◌, ◌/◌, codes, if◌then◌else◌, int_div, int_rem}
 use Rattle.std.specs.Str.{bytes_eq}
 use Rattle.std.proofs.lemmas.Bool.{and_from}
@@ -36,7 +36,7 @@ use Rattle.patterns_base.specs.Rules.{rule}
 use Rattle.patterns_facts.specs.Accepted.{AreAccepted}
 use Rattle.patterns_facts.proofs.Shapes.{two_is}
 use Rattle.patterns_book.specs.Matching.{Header}
-use Rattle.patterns_meaning.specs.Meaning.{Assignment, Breaks, Fits, makes, of_two, Obeys}
+use Rattle.patterns_meaning.specs.Meaning.{Assignment, makes, of_two, Obeys}
 use Rattle.patterns_meaning.specs.Better.{is_kind, is_poison_by_ones, is_signed_quotient, kind_in}
 use Rattle.patterns_meaning.specs.Keeping.{KeepsReady, done_after, is_there}
 use Rattle.patterns_meaning.specs.Remainders.{ExpandsRemainders, HasQuotient, is_signed, overflows}

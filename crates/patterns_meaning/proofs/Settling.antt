@@ -26,7 +26,7 @@ use Rattle.patterns_check.proofs.Keeping.{value_refined}
 use Rattle.patterns_laws.proofs.KnownFolds.{given_some}
 use Rattle.patterns_book.specs.Matching.{Header}
 use Rattle.patterns_meaning.proofs.FlagsKept.{known_refined, still_unbroken}
-use Rattle.patterns_meaning.specs.Meaning.{ArgumentsOfTypes, Assignment, Breaks, Each, EachBlock, Fits, FitsDone, IsOfType, ResultsOfTypes, has_flags, is_arithmetic, makes, makes_by, of_two, result_kind, Obeys, breaks_flags}
+use Rattle.patterns_meaning.specs.Meaning.{ArgumentsOfTypes, Assignment, Each, EachBlock, FitsDone, IsOfType, ResultsOfTypes, is_arithmetic, makes, makes_by, of_two, result_kind, Obeys, breaks_flags}
 use Rattle.patterns_meaning.specs.Better.{AllBetter, AreOf, GivesLess, GivesNoLess, IsSure, Settles, is_kinded, is_poison_by_ones, is_signed_quotient, kind_in, may_overflow, gives, is_arithmetic_there, KeepsFlags}
 use Rattle.patterns_meaning.proofs.Formed.{each_stands}
 use Rattle.patterns_meaning.proofs.Trees.{TypesFound, each_found, types_found}

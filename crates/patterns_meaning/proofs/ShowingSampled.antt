@@ -213,7 +213,10 @@ overflow_computes = (
     sure = ((λ d e. refl), ((((λ d e. refl), ((((λ d e. refl), tt), (((λ d e. refl), tt), tt)), tt)), tt), tt));
     fed = ((λ d. refl), ((((λ d. refl), ((((λ d. refl), tt), (((λ d. refl), tt), tt)), tt)), tt), tt));
   },
-  refl, refl, refl)
+  refl,
+  refl,
+  refl,
+)
 
 pub are_refused : AreRefused
 are_refused = record { computes = sum_computes; wiping = wiping_breaks; other_argument = other_argument_breaks; erased_store = erased_store_breaks; erased_unknown = erased_unknown_breaks; new_constant = new_constant_breaks; overflow = overflow_computes; added_flag = added_flag_breaks }

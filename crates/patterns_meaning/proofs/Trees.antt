@@ -10,7 +10,7 @@ use Rattle.ir_tree.specs.Ids.{find, regions_find, region_find, ops_find, first_o
 use Rattle.ir_tree.specs.Meaning.{Operation}
 use Rattle.ir_tree_laws.specs.Values.{arguments_at, arguments_of, has_value, region_at, type_of_value}
 use Rattle.patterns_book.specs.Matching.{Header}
-use Rattle.patterns_meaning.specs.Meaning.{AreOfTypes, Assignment, BlocksAmong, BlocksInRegion, BlocksInRegions, Breaks, Each, EachAmong, EachBlock, EachInRegion, EachInRegions, Fits, FitsAll, FitsDone, IsOfType, is_arithmetic, owner, Obeys}
+use Rattle.patterns_meaning.specs.Meaning.{AreOfTypes, Assignment, BlocksAmong, BlocksInRegion, BlocksInRegions, Each, EachAmong, EachBlock, EachInRegion, EachInRegions, FitsAll, FitsDone, IsOfType, is_arithmetic, owner, Obeys}
 use Rattle.patterns_meaning.specs.Applied.{IsBelow}
 
 first_cases : (a b : Option Operation) (o : Operation) → first_of a b ≡ Some o → (a ≡ Some o) ⊎ (b ≡ Some o)
