@@ -24,6 +24,7 @@ pub mod Lifted
 pub mod Shown
 pub mod Follows
 pub mod Showing
+pub mod Unique
 pub mod Verified
 pub mod Numeric
 pub mod ShowingSampled

@@ -6,6 +6,7 @@ pub mod Better
 pub mod FlagSamples
 pub mod Improving
 pub mod Observing
+pub mod Unique
 pub mod Keeping
 pub mod ObservingSamples
 pub mod Verified

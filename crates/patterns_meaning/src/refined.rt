@@ -3,6 +3,7 @@
 ghost use Rattle.patterns_meaning.specs.Refining.{ApplyRefines, CanonRefines, KeptIsRefined, RewriteRefines};
 ghost use Rattle.patterns_meaning.specs.RefiningSamples.{SampleIsRefined};
 ghost use Rattle.patterns_meaning.specs.Verified.{VerifiedIsReady};
+ghost use Rattle.patterns_meaning.specs.Unique.{OutcomesAreUnique};
 
 use crate::kept::canonicalization_keeps_what_is_computed;
 use crate::strict::listed_rules_and_patterns_keep_what_is_computed;
@@ -27,4 +28,9 @@ pub fn observed_operations_are_refined()
 /// There is such a module, with a store, a call and a return, and a rule that applies in it.
 pub fn a_sample_is_refined()
     ensures { SampleIsRefined }
+{}
+
+/// Two assignments that fit a well-formed module, and are the same for all that it doesn't compute itself, are the same.
+pub fn outcomes_are_unique()
+    ensures { OutcomesAreUnique }
 {}
