@@ -1,5 +1,9 @@
 -- The module of the samples of refinement has no diagnostics, computes, and a rule applies in it.
-use Rattle.std.proofs.Common.{◌≡◌, ℕ, zero, suc, refl, sym, subst, ◌<◌, [], ◌∷◌, true≢false, Some, None, true, slice_get, get_or, inl, arith}
+use Rattle.patterns_meaning.specs.Observing.{shown_regions}
+use Rattle.patterns_book.specs.Matching.{Header}
+use Rattle.std.specs.List.{filter}
+use Rattle.std.specs.Prelude.{if◌then◌else◌}
+use Rattle.std.proofs.Common.{◌≡◌, ℕ, zero, suc, refl, sym, subst, ◌<◌, [], ◌∷◌, true≢false, Some, None, true, slice_get, get_or, inl, arith, ap, ◌∙◌, map, Bool, false, eqb, List}
 use Rattle.std.proofs.lemmas.Option.{none-some, same_Some}
 use Rattle.std.proofs.lemmas.Map.Made.{IsDistinct-from_count}
 use Rattle.std.proofs.lemmas.Cmp.{nat_eq_equiv}
@@ -7,7 +11,10 @@ use Rattle.ir_types.specs.declared.bits.BitsKind.TheVariants as kind
 use Rattle.ir_types.specs.Terms.{TypeTerm}
 use Rattle.ir_types.specs.Words as words
 use Rattle.ir_types.specs.Words.{is_isolated}
+use Rattle.ir_tree.specs.declared.value.Value.{Value}
 use Rattle.ir_tree.specs.declared.value.Value.TheVariants.{Arg, Result}
+use Rattle.ir_tree.specs.Tree.{no_ops, regions}
+use Rattle.ir_event.specs.Modules.{Module}
 use Rattle.ir_tree.specs.WellFormed.{IsWellFormed}
 use Rattle.op_registry.specs.Registry as registry
 use Rattle.op_registry.specs.Rows as rows
@@ -21,11 +28,11 @@ use Rattle.patterns_base.specs.Rewrites.{becomes, rewrite_of}
 use Rattle.patterns_base.specs.Rules as rule_table
 use Rattle.patterns_base.specs.declared.rule.Rule.TheVariants.{DropZero}
 use Rattle.patterns_base.specs.Diagnostics.{diagnostics_of}
-use Rattle.patterns_meaning.specs.Meaning.{Each, IsOfType}
+use Rattle.patterns_meaning.specs.Meaning.{Each, IsOfType, Assignment}
 use Rattle.patterns_meaning.specs.Keeping.{Computing}
-use Rattle.patterns_meaning.specs.ObservingSamples.{i8}
-use Rattle.patterns_meaning.specs.Refining.{ObservationsRefine, observed}
-use Rattle.patterns_meaning.specs.RefiningSamples.{SampleIsRefined, after, before, ending_seen, five, functions_seen, memory}
+use Rattle.patterns_meaning.specs.ObservingSamples.{i8, function_of, module_of, returning, storing, summing}
+use Rattle.patterns_meaning.specs.Refining.{ObservationsRefine, observed, Refined, lasting, observation}
+use Rattle.patterns_meaning.specs.RefiningSamples.{SampleIsRefined, after, before, ending_seen, five, functions_seen, memory, SamplesArentRefined}
 use Rattle.patterns_meaning.specs.Samples.{all_done}
 use Rattle.patterns_meaning.specs.Verified.{IsVerified, is_in_range, is_within}
 
@@ -133,3 +140,45 @@ refined = (refl, tt, (refl, tt, (refl, (tt, refl, (refl, refl, tt)), (refl, (tt,
 
 pub sample_is_refined : SampleIsRefined
 sample_is_refined = record { verified = verified; computing = computes; applies = applies; seen_before = seen_before; seen_after = seen_after; refined = refined }
+
+-- ---- what isn't refined
+abbrev AllDone : (ℕ → Bool) → List Header → Type 0
+AllDone done [] = Unit {0}
+AllDone done (h ∷ hs) = (done h.id ≡ true) × AllDone done hs
+
+all_left : (done : ℕ → Bool) (hs : List Header) → AllDone done hs → filter (λ (h : Header). done h.id) hs ≡ hs
+all_left done [] s = refl
+all_left done (h ∷ hs) s =
+    ap (λ c. if c then h ∷ filter (λ (h : Header). done h.id) hs else filter (λ (h : Header). done h.id) hs) s.0 ∙ ap (λ l. h ∷ l) (all_left done hs s.1)
+
+never : {A : Type 0} → false ≡ true → A
+never e = absurd (true≢false (sym e))
+
+abbrev which : Value → ℕ
+which (Result x k) = k
+which (Arg x r k) = k
+
+-- where all is done, all is seen
+module _ (a : Assignment) (m n : Module) (r : Refined a all_done m n) where
+  seen : AllDone r.later (lasting (shown_regions (regions n.tree)))
+      → ObservationsRefine (map (observation a m.tree) (filter (λ (h : Header). true) (lasting (shown_regions (regions m.tree))))) (map (observation r.now n.tree) (lasting (shown_regions (regions n.tree))))
+  seen s = subst (λ l. ObservationsRefine (observed a all_done m.tree) (map (observation r.now n.tree) l)) (all_left r.later (lasting (shown_regions (regions n.tree))) s) r.refined
+
+wiping : (a : Assignment) → Refined a all_done (function_of 5 (returning (Arg 1 0 0))) (module_of 5 no_ops) → ⊥
+unfolding folds.rule_of folds.rules registry.row_of rows.rows
+wiping a r = seen a (function_of 5 (returning (Arg 1 0 0))) (module_of 5 no_ops) r tt
+
+other_argument : (a : Assignment) → Refined a all_done (function_of 5 (returning (Arg 1 0 0))) (function_of 5 (returning (Arg 1 0 1))) → ⊥
+unfolding folds.rule_of folds.rules registry.row_of rows.rows
+other_argument a r =
+    let s = seen a (function_of 5 (returning (Arg 1 0 0))) (function_of 5 (returning (Arg 1 0 1))) r (r.same 1 (omega arith), (r.same 4 (omega arith), tt)) in
+    never (ap (λ v. eqb (which v) 0) (same_Some (Arg 1 0 1) (Arg 1 0 0) s.2.1.0))
+
+erased_store : (a : Assignment) → Refined a all_done (function_of 5 (summing (storing (returning (Result 2 0))))) (function_of 5 (summing (returning (Result 2 0)))) → ⊥
+unfolding folds.rule_of folds.rules registry.row_of rows.rows
+erased_store a r =
+    let s = seen a (function_of 5 (summing (storing (returning (Result 2 0))))) (function_of 5 (summing (returning (Result 2 0)))) r (r.same 1 (omega arith), (r.same 4 (omega arith), tt)) in
+    never (sym (ap (λ (h : Header). eqb h.id 3) s.2.0))
+
+pub samples_arent_refined : SamplesArentRefined
+samples_arent_refined = record { wiping = wiping; other_argument = other_argument; erased_store = erased_store }

@@ -11,8 +11,8 @@ use Rattle.patterns_base.specs.declared.rule.Rule.TheVariants.{DropZero}
 use Rattle.patterns_base.specs.Rewrites.{becomes, rewrite_of}
 use Rattle.patterns_meaning.specs.Meaning.{Assignment}
 use Rattle.patterns_meaning.specs.Keeping.{Computing}
-use Rattle.patterns_meaning.specs.ObservingSamples.{i8, module_of, plain_op}
-use Rattle.patterns_meaning.specs.Refining.{Observation, ObservationsRefine, Operand, observed}
+use Rattle.patterns_meaning.specs.ObservingSamples.{function_of, i8, module_of, plain_op, returning, storing, summing}
+use Rattle.patterns_meaning.specs.Refining.{Observation, ObservationsRefine, Operand, Refined, observed}
 use Rattle.patterns_meaning.specs.Samples.{all_done}
 use Rattle.patterns_meaning.specs.Verified.{IsVerified}
 
@@ -100,3 +100,10 @@ pub record SampleIsRefined : Type 0 where
   pub seen_before : observed five all_done before.tree ≡ functions_seen (ending_seen (record { value = None; outcome = Some (kind.Int 8, 5) }))
   pub seen_after : observed five all_done after.tree ≡ functions_seen (ending_seen (record { value = Some (Arg 2 0 0); outcome = Some (kind.Int 8, 5) }))
   pub refined : ObservationsRefine (observed five all_done before.tree) (observed five all_done after.tree)
+
+-- What isn't refined, where all is done: if all is erased, if another argument is returned, and if a store is erased, an
+-- observer sees something else.
+pub record SamplesArentRefined : Type 0 where
+  pub wiping : (a : Assignment) → Refined a all_done (function_of 5 (returning (Arg 1 0 0))) (module_of 5 no_ops) → ⊥
+  pub other_argument : (a : Assignment) → Refined a all_done (function_of 5 (returning (Arg 1 0 0))) (function_of 5 (returning (Arg 1 0 1))) → ⊥
+  pub erased_store : (a : Assignment) → Refined a all_done (function_of 5 (summing (storing (returning (Result 2 0))))) (function_of 5 (summing (returning (Result 2 0)))) → ⊥

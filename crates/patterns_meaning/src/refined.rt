@@ -1,7 +1,7 @@
 //! What an observer sees of a module: after `apply`, `rewrite` and `canon` it is what was seen before, or refines it. A
 //! module without diagnostics is ready for this.
 ghost use Rattle.patterns_meaning.specs.Refining.{ApplyRefines, CanonRefines, KeptIsRefined, RewriteRefines};
-ghost use Rattle.patterns_meaning.specs.RefiningSamples.{SampleIsRefined};
+ghost use Rattle.patterns_meaning.specs.RefiningSamples.{SampleIsRefined, SamplesArentRefined};
 ghost use Rattle.patterns_meaning.specs.Verified.{VerifiedIsReady};
 ghost use Rattle.patterns_meaning.specs.Unique.{OutcomesAreUnique};
 
@@ -25,9 +25,11 @@ pub fn observed_operations_are_refined()
     listed_rules_and_patterns_keep_what_is_computed();
 }
 
-/// There is such a module, with a store, a call and a return, and a rule that applies in it.
+/// There is such a module, with a store, a call and a return, and a rule that applies in it. To erase all, to return
+/// another argument and to erase a store is no refinement.
 pub fn a_sample_is_refined()
-    ensures { SampleIsRefined }
+    ensures refined { SampleIsRefined }
+    ensures refused { SamplesArentRefined }
 {}
 
 /// Two assignments that fit a well-formed module, and are the same for all that it doesn't compute itself, are the same.
