@@ -10,12 +10,12 @@ use Rattle.ir_tree.specs.declared.value.Value.{Value}
 use Rattle.ir_tree.specs.declared.value.Value.TheVariants.{Arg, Result}
 use Rattle.ir_tree.specs.Tree.{RegionsOf, RegionOf, OpsOf, op, no_regions, region, empty, block, no_ops, next, head}
 use Rattle.ir_tree.specs.Ids.{find}
-use Rattle.ir_tree.specs.Sites.{Frame, Site, arguments, in_scope, inside, ops_sites, region_sites, regions_sites, results, results_of, sees_operands, shows, sites}
+use Rattle.ir_tree.specs.Sites.{Frame, arguments, in_scope, inside, ops_sites, region_sites, regions_sites, results_of, sees_operands, shows, sites}
 use Rattle.ir_tree.specs.Meaning.{Operation}
 use Rattle.patterns_book.specs.Matching.{Header}
 use Rattle.patterns_meaning.specs.Meaning.{Assignment, Each, EachAmong, EachInRegion, EachInRegions, FitsDone, Obeys, breaks_flags, is_arithmetic, makes}
 use Rattle.patterns_meaning.specs.Better.{is_arithmetic_there}
-use Rattle.patterns_meaning.specs.Unique.{OutcomesAreUnique, is_determined}
+use Rattle.patterns_meaning.specs.Unique.{OutcomesAreUnique}
 use Rattle.patterns_meaning.proofs.Edited.{each_both}
 use Rattle.patterns_meaning.proofs.Settling.{each_by_found}
 use Rattle.patterns_meaning.proofs.Showing.{at_root}
