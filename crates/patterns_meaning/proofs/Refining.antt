@@ -3,6 +3,7 @@ use Rattle.std.proofs.Common.{◌≡◌, ℕ, ◌<◌, refl, ap, sym, ◌∙◌,
 use Rattle.std.specs.Prelude.{if◌then◌else◌}
 use Rattle.std.specs.List.{filter, list_all}
 use Rattle.std.proofs.lemmas.Bool.{and_from, and_parts}
+use Rattle.ir_types.proofs.Truths.{same_bool}
 use Rattle.ir_types.specs.Terms.{TypeTerm, AttrTerm}
 use Rattle.ir_types.specs.Words.{is_isolated}
 use Rattle.ir_tree.specs.declared.value.Value.{Value}
@@ -53,12 +54,6 @@ module _ (Q : Header → Header → Type 0) where
   paired_if true false hs ks e p = absurd (true≢false e)
   paired_if false true hs ks e p = absurd (true≢false (sym e))
   paired_if false false hs ks e p = p
-
-same_bools : (b c : Bool) → (b ≡ true → c ≡ true) → (c ≡ true → b ≡ true) → b ≡ c
-same_bools true true f g = refl
-same_bools true false f g = sym (f refl)
-same_bools false true f g = g refl
-same_bools false false f g = refl
 
 -- ---- what follows has the same operations that last
 module _ (Q : Header → Header → Type 0) (named : (h k : Header) → Q h k → h.name ≡ k.name) where
@@ -122,7 +117,7 @@ module _ (Q : Header → Header → Type 0) (named : (h k : Header) → Q h k �
     op_lasts : (o p : Operation) → Follows Q o p → Paired Q (lasting_op o) (lasting_op p)
     op_lasts (op h rs) (op k qs) f =
         paired_if Q (is_unmissed (op h rs)) (is_unmissed (op k qs)) (h ∷ lasting rs) (k ∷ lasting qs)
-        (same_bools (is_unmissed (op h rs)) (is_unmissed (op k qs)) (unmissed_still (op h rs) (op k qs) f) (op_unmissed Q named (op h rs) (op k qs) f))
+        (same_bool (is_unmissed (op h rs)) (is_unmissed (op k qs)) (unmissed_still (op h rs) (op k qs) f) (op_unmissed Q named (op h rs) (op k qs) f))
         (f.0, regions_last rs qs f.1)
 
 -- ---- what is true of each operation is true of those that last

@@ -4,6 +4,7 @@ use Rattle.std.specs.Prelude.{◌==◌, if◌then◌else◌, nat_lt}
 use Rattle.std.specs.List.{list_all, list_any}
 use Rattle.std.proofs.lemmas.Bool.{and_parts, or_cases}
 use Rattle.std.proofs.lemmas.Option.{same_Some}
+use Rattle.ir_types.proofs.Truths.{all_parts}
 use Rattle.ir_types.specs.Terms.{TypeTerm, AttrTerm}
 use Rattle.ir_types.specs.Words.{is_isolated}
 use Rattle.ir_tree.specs.declared.value.Value.{Value}
@@ -22,13 +23,6 @@ use Rattle.patterns_meaning.proofs.Showing.{at_root}
 use Rattle.patterns_meaning.proofs.Trees.{each_found}
 
 -- ---- lists
-all_split : {A : Type 0} → (f : A → Bool) (xs ys : List A) → list_all f (xs ++ ys) ≡ true → (list_all f xs ≡ true) × (list_all f ys ≡ true)
-all_split f [] ys e = (refl, e)
-all_split f (x ∷ xs) ys e =
-    let p = and_parts (f x) (list_all f (xs ++ ys)) e in
-    let q = all_split f xs ys p.1 in
-    ((λ i. p.0 i && q.0 i), q.1)
-
 last_or : {A : Type 0} → (f : A → Bool) (xs : List A) (y : A) → list_any f (xs ++ (y ∷ [])) ≡ true → (list_any f xs ≡ true) ⊎ (f y ≡ true)
 last_or f [] y e = elim (or_cases (f y) false e) [ inl i ↦ inr i | inr i ↦ absurd (true≢false (sym i)) ]
 last_or f (x ∷ xs) y e = elim (or_cases (f x) (list_any f (xs ++ (y ∷ []))) e) [
@@ -116,7 +110,7 @@ module _ (a b : Assignment) (done : ℕ → Bool) (isolated : List ℕ → Bool)
     regions_same : (scope : List Frame) (x r : ℕ) (rs : RegionsOf (List ℕ) TypeTerm AttrTerm) → SameIn scope → list_all sees_operands (regions_sites isolated scope x r rs) ≡ true → EachInRegions Known rs → EachInRegions Same rs
     regions_same scope x r no_regions same e s = tt
     regions_same scope x r (region g rs) same e s =
-        let p = all_split sees_operands (region_sites isolated scope x r g) (regions_sites isolated scope x (r + 1) rs) e in
+        let p = all_parts sees_operands (region_sites isolated scope x r g) (regions_sites isolated scope x (r + 1) rs) e in
         (region_same scope x r g same p.0 s.0, regions_same scope x (r + 1) rs same p.1 s.1)
 
     region_same : (scope : List Frame) (x r : ℕ) (g : RegionOf (List ℕ) TypeTerm AttrTerm) → SameIn scope → list_all sees_operands (region_sites isolated scope x r g) ≡ true → EachInRegion Known g → EachInRegion Same g
@@ -127,7 +121,7 @@ module _ (a b : Assignment) (done : ℕ → Bool) (isolated : List ℕ → Bool)
     ops_same : (scope : List Frame) (os : OpsOf (List ℕ) TypeTerm AttrTerm) → SameIn scope → list_all sees_operands (ops_sites isolated scope os) ≡ true → EachAmong Known os → EachAmong Same os
     ops_same scope no_ops same e s = tt
     ops_same scope (next o os) same e s =
-        let p = all_split sees_operands (sites isolated scope o) (ops_sites isolated (scope ++ (results_of o ∷ [])) os) e in
+        let p = all_parts sees_operands (sites isolated scope o) (ops_sites isolated (scope ++ (results_of o ∷ [])) os) e in
         let here = op_same scope o same p.0 s.0 in
         (here, ops_same (scope ++ (results_of o ∷ [])) os (with_frame scope (results_of o) same (results_same o (at_root Same o here))) p.1 s.1)
 

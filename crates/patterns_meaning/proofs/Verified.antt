@@ -11,6 +11,7 @@ use Rattle.std.proofs.lemmas.Bool.{and_parts, lt-ltb, not-false}
 use Rattle.std.proofs.lemmas.Bool.Decides.{leb_tells}
 use Rattle.std.proofs.lemmas.Option.{none-some, same_Some}
 use Rattle.std.proofs.lemmas.Slice.Eq.{bytes_eq-Decides}
+use Rattle.patterns_yields.proofs.Unbroken.{spoken}
 use Rattle.ir_types.specs.declared.bits.BitsKind.{BitsKind}
 use Rattle.ir_types.specs.declared.bits.BitsKind.TheVariants as kind
 use Rattle.ir_types.specs.declared.node.Sign.TheVariants.{Signless, Signed, Unsigned}
@@ -105,10 +106,6 @@ none_hold n (false ∷ bs) e = (refl, none_hold (n + 1) bs e)
 shaped_of : (a b c d e : Bool) → a ≡ false → b ≡ false → c ≡ false → d ≡ false → e ≡ false → not ((a || (b || c)) || (d || e)) ≡ true
 shaped_of a b c d e p q r s t = λ i. not ((p i || (q i || r i)) || (s i || t i))
 
-spoken : (w b : Bool) → w ≡ true → w && b ≡ false → b ≡ false
-spoken true b e f = f
-spoken false b e f = absurd (true≢false (sym e))
-
 record Unbroken (row : Row) (s : Surroundings) : Type 0 where
   operands : breaks_2 row s ≡ false
   results : breaks_4 row s ≡ false
@@ -199,7 +196,7 @@ truth_kind (Function is os) e = absurd (true≢false (sym e))
 truth_kind (Memref ds u) e = absurd (true≢false (sym e))
 truth_kind (OpaqueType s) e = absurd (true≢false (sym e))
 
-integer_is : (u : TypeTerm) → is_integer u ≡ true → (w : ℕ) × (u ≡ Integer Signless w)
+pub integer_is : (u : TypeTerm) → is_integer u ≡ true → (w : ℕ) × (u ≡ Integer Signless w)
 integer_is (Integer Signless w) e = (w, refl)
 integer_is (Integer Signed w) e = absurd (true≢false (sym e))
 integer_is (Integer Unsigned w) e = absurd (true≢false (sym e))
@@ -438,7 +435,7 @@ asks_kind (Some r) = true
 abbrev pub HasKind : Header → Type 0
 HasKind h = asks_kind (rule_of h.name) ≡ true → is_some (result_kind h) ≡ true
 
-no_rules : (rs : List ℕ) → breaks_none (Some rs) ≡ true → rs ≡ []
+pub no_rules : (rs : List ℕ) → breaks_none (Some rs) ≡ true → rs ≡ []
 no_rules [] e = refl
 no_rules (r ∷ rs) e = absurd (true≢false (sym e))
 
