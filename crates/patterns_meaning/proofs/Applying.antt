@@ -2,7 +2,6 @@
 use Rattle.std.proofs.Common.{◌≡◌, ℕ, ◌+◌, refl, ap, sym, ◌∙◌, subst, List, [], ◌∷◌, ◌++◌, map, Bool, true, false, Option, Some, None}
 use Rattle.std.specs.Prelude.{nat_le, if◌then◌else◌}
 use Rattle.std.proofs.lemmas.Option.{none-some, same_Some}
-use Rattle.ir_types.specs.Words.{is_isolated}
 use Rattle.ir_tree.specs.declared.value.Value.{Value}
 use Rattle.ir_tree.specs.declared.place.Place.{Place}
 use Rattle.ir_tree.specs.Tree.{head}
@@ -27,11 +26,8 @@ use Rattle.patterns_makeable.specs.Makeable.{is_makeable}
 use Rattle.patterns_matched.specs.Built.{plan_of}
 use Rattle.patterns_own.specs.Own.{edits_for, is_one, own_edits, own_rewrite}
 use Rattle.patterns_matched.proofs.Found.{when_is}
-use Rattle.patterns_meaning.specs.Meaning.{AreOfTypes, FitsAll}
-use Rattle.patterns_meaning.specs.After.{or_new, rewritten, with_made}
-use Rattle.patterns_meaning.specs.Applying.{CheckedKeepsThere, RewritesCompute}
-use Rattle.patterns_meaning.proofs.Formed.{is_below, operands_stand}
-use Rattle.patterns_meaning.proofs.Rewritten.{rewritten_computes}
+use Rattle.patterns_meaning.specs.After.{rewritten, with_made}
+use Rattle.patterns_meaning.specs.Applying.{CheckedKeepsThere}
 
 -- ---- edits that are carried out
 module _ (m n : Module) where
@@ -105,14 +101,6 @@ module _ (p : Shape) (m n : Module) (x : ℕ) where
         module_is = subst (λ es. all_edited es m ≡ n) (sym q.3) (carried m n r.0 r.2);
         is = ap (λ (m : Module). m.tree) (sym (carried m n r.0 r.2) ∙ ap (λ es. all_edited es m) (sym q.3)) ∙ all_edited_made q.0 q.1.0 x q.1.1 m;
       }
-
-pub rewrites_compute : RewritesCompute
-rewrites_compute p m n x a done k formed proper fits of found keeps root e =
-    let q = applies p m n x e in
-    let r =
-    rewritten_computes m.tree (is_clean m.tree) m.next p x a done q.front k proper (record { below = is_below m.next m.tree formed.below; fits = fits; typed = of })
-    (operands_stand is_isolated m.tree formed.distinct formed.formed.visible) found keeps.0 keeps.1 root q.made q.value q.plan in
-    (r.now, r.agrees, subst (λ t. FitsAll r.now (or_new m.next done) t) (sym q.is) r.computes.fits, subst (λ t. AreOfTypes r.now t) (sym q.is) r.computes.typed)
 
 pub checked_keeps : CheckedKeepsThere
 checked_keeps p m x a done found typed most verdict ws are same = (typed, subst AlwaysKeeps (sym same) (verdict.0 ws are))

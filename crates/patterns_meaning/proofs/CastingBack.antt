@@ -1,6 +1,6 @@
 -- The rule that takes casts back keeps modules ready, and what they compute, where it takes back no unrealized cast.
-use Rattle.std.proofs.Common.{◌≡◌, ℕ, ◌<◌, ◌≤◌, ◌^◌, refl, ap, sym, ◌∙◌, subst, List, [], ◌∷◌, map, Bool, true, false, true≢false, ◌&&◌, Some, None, ◌⊎◌, inl, inr, slice_get, arith}
-use Rattle.std.specs.Prelude.{codes, nat_le, if◌then◌else◌}
+use Rattle.std.proofs.Common.{◌≡◌, ℕ, ◌<◌, ◌≤◌, ◌^◌, refl, ap, sym, ◌∙◌, subst, List, [], ◌∷◌, map, Bool, true, false, true≢false, ◌&&◌, Some, None, ◌⊎◌, inl, inr, slice_get, arith, Option}
+use Rattle.std.specs.Prelude.{codes, nat_le, if◌then◌else◌, is_some}
 use Rattle.std.specs.List.{list_all}
 use Rattle.std.proofs.lemmas.Bool.{and_parts}
 use Rattle.std.proofs.lemmas.Bool.Decides.{nat_tests}
@@ -40,7 +40,7 @@ use Rattle.patterns_facts.specs.Accepted.{AreAccepted}
 use Rattle.patterns_facts.proofs.Shapes.{one_is}
 use Rattle.patterns_book.specs.Matching.{Header}
 use Rattle.patterns_meaning.specs.Meaning.{Assignment, of_one, result_kind}
-use Rattle.patterns_meaning.specs.Better.{kind_in, is_kinded}
+use Rattle.patterns_meaning.specs.Better.{kind_in, is_kinded, narrows, takes}
 use Rattle.patterns_meaning.specs.Keeping.{IsReady, KeepsReady, is_there}
 use Rattle.patterns_meaning.specs.IndexCasts.{CastsBack}
 use Rattle.patterns_meaning.proofs.Casts.{extends, of_type, twice_refined}
@@ -48,8 +48,8 @@ use Rattle.patterns_meaning.proofs.Dropping.{old_improves, value_kind, widths}
 use Rattle.patterns_meaning.proofs.Forms.{named_is}
 use Rattle.patterns_meaning.proofs.Formed.{operands_stand}
 use Rattle.patterns_meaning.proofs.Monotone.{same_refined}
-use Rattle.patterns_meaning.proofs.Numeric.{asks_kind}
-use Rattle.patterns_meaning.proofs.Ruled.{Ruled, Site, gives_refined, of_rule, rule_kinds, ruled, site_of, value_bits}
+use Rattle.patterns_meaning.proofs.Verified.{asks_kind}
+use Rattle.patterns_meaning.proofs.Ruled.{Ruled, Site, gives_refined, known_kinds, of_rule, root_has, rule_kinds, ruled, site_of, value_bits}
 use Rattle.patterns_meaning.proofs.Sources.{Sole, made_or_poison, operand_there, sole_of}
 use Rattle.patterns_meaning.proofs.StaysReady.{GivesOld, old_ready}
 use Rattle.patterns_meaning.proofs.Trees.{each_found}
@@ -183,9 +183,13 @@ module _ (accepted : AreAccepted) where
     pub value : has_value w.first m.tree ≡ true
     pub inside : (head sole.here).operands ≡ w.first ∷ []
 
+  taken_kind : (c : Cast) (o : Option BitsKind) (k : BitsKind) → narrows c o k ≡ true → (j : BitsKind) × (o ≡ Some j)
+  taken_kind c None k e = absurd (true≢false (sym e))
+  taken_kind c (Some j) k e = (j, refl)
+
   back_kinds : (m n : Module) (x : ℕ) (q : Ruled CastBack m n x) (w : Back m n x q) → IsReady m → BackKinds m n x q w
   back_kinds m n x q w ready =
-      let k = rule_kinds m.tree (head q.here) (each_found (λ h. is_kinded m.tree h ≡ true) x m.tree ready.kinded q.here q.found).0 (how.IndexCast w.outer.0) w.outer.1 in
+      let k = rule_kinds m.tree (head q.here) (each_found (λ h. is_kinded m.tree h ≡ true) x m.tree ready.kinded q.here q.found).0 (root_has q ready.formed ready.kinded refl) (how.IndexCast w.outer.0) w.outer.1 in
       let stand = operands_stand is_isolated m.tree ready.formed.distinct ready.formed.formed.visible in
       let there = (each_found (λ h. list_all (λ v. has_value v m.tree) h.operands ≡ true) x m.tree stand q.here q.found).0 in
       let middle : has_value w.middle m.tree ≡ true = (and_parts (has_value w.middle m.tree) true (subst (λ vs. list_all (λ v. has_value v m.tree) vs ≡ true) w.operands there)).0 in
@@ -194,7 +198,8 @@ module _ (accepted : AreAccepted) where
       let operands = ap (λ (h : Header). h.operands) s.heads ∙ w.inner_operands in
       let alike = named_is (head q.here).name w.inner.name (and_parts (named (head q.here).name w.inner.name) (is_clean m.tree w.inner) s.passed).0 in
       let name = ap rule_of (ap (λ (h : Header). h.name) s.heads ∙ alike) ∙ w.outer.1 in
-      let j = rule_kinds m.tree (head s.here) (each_found (λ h. is_kinded m.tree h ≡ true) s.id m.tree ready.kinded s.here s.found).0 (how.IndexCast w.outer.0) name in
+      let middle_kind = taken_kind w.outer.0 (kind_in m.tree w.middle) k.kind (subst (λ vs. takes (how.IndexCast w.outer.0) (head q.here) k.kind (map (kind_in m.tree) vs) ≡ true) w.operands k.operands) in
+      let j = known_kinds m.tree (head s.here) (each_found (λ h. is_kinded m.tree h ≡ true) s.id m.tree ready.kinded s.here s.found).0 (how.IndexCast w.outer.0) name middle_kind.0 (sym s.kind ∙ middle_kind.1) in
       let of : kind_of w.ty ≡ Some k.kind = sym (ap (λ tys. given (slice_get tys 0) kind_of) w.results) ∙ k.is in
       let inner_of : kind_of w.inner_ty ≡ Some j.kind = sym (ap (λ tys. given (slice_get tys 0) kind_of) (ap (λ (h : Header). h.results) s.heads ∙ w.inner_results)) ∙ j.is in
       record {
@@ -222,8 +227,8 @@ module _ (accepted : AreAccepted) where
       let same : o ≡ q.here = same_Some _ _ (sym found ∙ q.found) in
       let w = back_here m n x q (sym (ap (λ (o : Operation). named (codes "builtin.unrealized_conversion_cast") (head o).name) same) ∙ real) in
       let k = back_kinds m n x q w ready in
-      let s = site_of m a done x q.here ready.formed ready.kinded computing q.found in
-      let i = site_of m a done k.sole.id k.sole.here ready.formed ready.kinded computing k.sole.found in
+      let s = site_of m a done x q.here ready.formed ready.kinded computing q.found (root_has q ready.formed ready.kinded refl) in
+      let i = site_of m a done k.sole.id k.sole.here ready.formed ready.kinded computing k.sole.found (λ i. ap is_some k.between_is) in
       let middle : done x ≡ true → is_there done w.middle ≡ true = (λ d. operand_there m a done x q.here s (is_there done) w.middle w.operands (s.fed d)) in
       let inner : done x ≡ true → done k.sole.id ≡ true = (λ d. ap (is_there done) (sym k.sole.value) ∙ middle d) in
       old_improves CastBack m n x a done ready.formed (cast_back_ready m n x ready e).kinded computing q (ap asks_kind w.outer.1) w.first s (record {

@@ -46,6 +46,7 @@ use Rattle.patterns_book.specs.Matching.{Header}
 use Rattle.patterns_meaning.specs.Meaning.{Assignment, of_one, owner, result_kind}
 use Rattle.patterns_meaning.specs.Better.{AreKinded, is_kinded, is_poison_by_ones, is_signed_quotient, kind_in, narrows, takes, takes_its}
 use Rattle.patterns_meaning.specs.Keeping.{Computing, Improves, IsReady, KeepsComputing, KeepsReady, done_after, is_there}
+use Rattle.patterns_meaning.proofs.Verified.{HasKind}
 use Rattle.patterns_meaning.proofs.Dropping.{old_improves, value_kind}
 use Rattle.patterns_meaning.proofs.Firsts.{poison_refined}
 use Rattle.patterns_meaning.proofs.Formed.{is_below, operands_stand}
@@ -55,7 +56,7 @@ use Rattle.patterns_meaning.proofs.Makings.{GivesNew, GivesOne, GivesOutcomes, M
 use Rattle.patterns_meaning.proofs.Monotone.{same_refined}
 use Rattle.patterns_meaning.proofs.OfBits.{resize_bits}
 use Rattle.patterns_meaning.proofs.OfKinds.{OfKinds, resize_kind}
-use Rattle.patterns_meaning.proofs.Ruled.{Ruled, Site, gives_refined, of_rule, rule_kinds, ruled, site_of, value_bits}
+use Rattle.patterns_meaning.proofs.Ruled.{Ruled, Site, gives_refined, known_kinds, of_rule, root_has, rule_kinds, ruled, site_of, value_bits}
 use Rattle.patterns_meaning.proofs.Sources.{Resized, Sole, made_or_poison, operand_there, resized, sole_of}
 use Rattle.patterns_meaning.proofs.StaysReady.{given_ready}
 use Rattle.patterns_meaning.proofs.Trees.{each_found, value_below}
@@ -73,6 +74,7 @@ module _ (f : Value → Option BitsKind) where
     of = of;
     bare = refl;
     numeric = ap is_some e;
+    unset = refl;
     risen = refl;
     takes = ap (λ r. takes_cast r) e ∙ and_from (is_width (width_of k)) (narrows c (f v) k) width n;
   }
@@ -153,15 +155,15 @@ module _ (m : Module) (test : Header → Bool) (v : Value) (h : Header) (s : Sol
   -- it takes an operand of its kind
   pub source_narrows : AreKinded m.tree → (j : BitsKind) → kind_in m.tree v ≡ Some j → (narrows c (kind_in m.tree u) j ≡ true) × (is_width (width_of j) ≡ true)
   source_narrows kinded j e =
-      let k = rule_kinds m.tree (head s.here) (each_found (λ h. is_kinded m.tree h ≡ true) s.id m.tree kinded s.here s.found).0 (how.Resize c) own_name in
+      let k = known_kinds m.tree (head s.here) (each_found (λ h. is_kinded m.tree h ≡ true) s.id m.tree kinded s.here s.found).0 (how.Resize c) own_name j (sym s.kind ∙ e) in
       let same : k.kind ≡ j = same_Some _ _ (sym k.is ∙ sym s.kind ∙ e) in (
         subst (λ j. narrows c (kind_in m.tree u) j ≡ true) same (subst (λ vs. takes (how.Resize c) (head s.here) k.kind (map (kind_in m.tree) vs) ≡ true) own_operands k.operands),
         subst (λ j. is_width (width_of j) ≡ true) same k.width,
       )
 
-  module _ (a : Assignment) (done : ℕ → Bool) (formed : IsWellFormed is_isolated m) (kinded : AreKinded m.tree) (computing : Computing a done m.tree) (there : is_there done v ≡ true) where
+  module _ (a : Assignment) (done : ℕ → Bool) (formed : IsWellFormed is_isolated m) (kinded : AreKinded m.tree) (computing : Computing a done m.tree) (has : HasKind (head s.here)) (there : is_there done v ≡ true) where
     own_site : Site m a done s.id s.here
-    own_site = site_of m a done s.id s.here formed kinded computing s.found
+    own_site = site_of m a done s.id s.here formed kinded computing s.found has
 
     done_there : done s.id ≡ true
     done_there = ap (is_there done) (sym s.value) ∙ there
@@ -267,7 +269,7 @@ module _ (accepted : AreAccepted) where
 
   cut_kinds : (m n : Module) (x : ℕ) (q : Ruled CutCast m n x) (w : Cut m n x q) → IsReady m → CutKinds m n x q w
   cut_kinds m n x q w ready =
-      let k = rule_kinds m.tree (head q.here) (each_found (λ h. is_kinded m.tree h ≡ true) x m.tree ready.kinded q.here q.found).0 (how.Resize cuts.Truncate) w.name in
+      let k = rule_kinds m.tree (head q.here) (each_found (λ h. is_kinded m.tree h ≡ true) x m.tree ready.kinded q.here q.found).0 (root_has q ready.formed ready.kinded refl) (how.Resize cuts.Truncate) w.name in
       let cut = cut_parts (kind_in m.tree w.middle) k.kind (subst (λ vs. takes (how.Resize cuts.Truncate) (head q.here) k.kind (map (kind_in m.tree) vs) ≡ true) w.operands k.operands) in
       let stand = operands_stand is_isolated m.tree ready.formed.distinct ready.formed.formed.visible in
       let there = (each_found (λ h. list_all (λ v. has_value v m.tree) h.operands ≡ true) x m.tree stand q.here q.found).0 in
@@ -323,7 +325,7 @@ module _ (accepted : AreAccepted) where
       out = cast_outcome cuts.Truncate k.kind (a w.first)
 
       site : Site m a done x q.here
-      site = site_of m a done x q.here ready.formed ready.kinded computing q.found
+      site = site_of m a done x q.here ready.formed ready.kinded computing q.found (root_has q ready.formed ready.kinded refl)
 
       middle_there : done x ≡ true → is_there done w.middle ≡ true
       middle_there d = operand_there m a done x q.here site (is_there done) w.middle w.operands (site.fed d)
@@ -342,7 +344,7 @@ module _ (accepted : AreAccepted) where
         outcomes = cast_outcome cuts.Truncate k.kind (a w.first) ∷ [];
         give = (
           cast_gives a done m.next x (cast_outcome cuts.Truncate k.kind (a w.first) ∷ []) w.inner.name w.ty w.first k.kind cuts.Truncate inner_cuts k.of first_below
-              (λ d. source_there m (λ h. among resizing h.name && is_clean m.tree h) w.middle w.inner k.sole w.first w.inner_operands cuts.Truncate inner_cuts a done ready.formed ready.kinded computing (middle_there d)) total,
+              (λ d. source_there m (λ h. among resizing h.name && is_clean m.tree h) w.middle w.inner k.sole w.first w.inner_operands cuts.Truncate inner_cuts a done ready.formed ready.kinded computing (λ i. ap is_some (sym k.sole.kind ∙ k.between_is)) (middle_there d)) total,
           tt,
         );
         better = λ d.
@@ -350,7 +352,7 @@ module _ (accepted : AreAccepted) where
             (cast_result m a done x q.here site cuts.Truncate w.middle k.kind out w.name k.is w.operands d
             (λ z i.
             twice_refined cuts.Truncate cuts.Truncate k.between k.kind (a w.first) (a w.middle) z out i
-            (source_makes m (λ h. among resizing h.name && is_clean m.tree h) w.middle w.inner k.sole w.first w.inner_operands cuts.Truncate inner_cuts a done ready.formed ready.kinded computing (middle_there d) k.between k.between_is)
+            (source_makes m (λ h. among resizing h.name && is_clean m.tree h) w.middle w.inner k.sole w.first w.inner_operands cuts.Truncate inner_cuts a done ready.formed ready.kinded computing (λ i. ap is_some (sym k.sole.kind ∙ k.between_is)) (middle_there d) k.between k.between_is)
             (λ y b j is c f. cast_refined cuts.Truncate k.kind (a w.first) y j is (sym (truncated_twice (width_of y.0) (width_of k.between) (width_of k.kind) y.1 b k.less c) ∙ f))));
         there = λ d. after_new m.next x done m.next (omega arith) ∙ d;
       }
@@ -371,7 +373,7 @@ module _ (accepted : AreAccepted) where
 
     back_improves : (a : Assignment) (done : ℕ → Bool) → AreKinded n.tree → Computing a done m.tree → Improves a done m (done_after m.next x done) n.tree
     back_improves a done after computing =
-        let s = site_of m a done x q.here ready.formed ready.kinded computing q.found in
+        let s = site_of m a done x q.here ready.formed ready.kinded computing q.found (root_has q ready.formed ready.kinded refl) in
         let middle : done x ≡ true → is_there done w.middle ≡ true = (λ d. operand_there m a done x q.here s (is_there done) w.middle w.operands (s.fed d)) in
         old_improves CutCast m n x a done ready.formed after computing q (q.numeric refl) w.first s (record {
           edits = back.1;
@@ -380,7 +382,7 @@ module _ (accepted : AreAccepted) where
               cast_result m a done x q.here s cuts.Truncate w.middle k.kind (a w.first) w.name k.is w.operands d
               (λ z i.
               twice_refined inner_extends.0 cuts.Truncate k.between k.kind (a w.first) (a w.middle) z (a w.first) i
-              (source_makes m (λ h. among resizing h.name && is_clean m.tree h) w.middle w.inner k.sole w.first w.inner_operands inner_extends.0 inner_extends.1 a done ready.formed ready.kinded computing (middle d) k.between k.between_is)
+              (source_makes m (λ h. among resizing h.name && is_clean m.tree h) w.middle w.inner k.sole w.first w.inner_operands inner_extends.0 inner_extends.1 a done ready.formed ready.kinded computing (λ i. ap is_some (sym k.sole.kind ∙ k.between_is)) (middle d) k.between k.between_is)
               (λ y b j is c f.
               let kinds = value_kind m a done x q.here s w.first k.kind y back_kind is in
               let back_to = sym kinds in
@@ -389,7 +391,7 @@ module _ (accepted : AreAccepted) where
               cut_back_to inner_extends.0 (width_of k.kind) (width_of k.between) y.1 b j inner_extends.2 (subst (λ k. 1 ≤ width_of k) kinds (some_bits y.0 y.1 fits)) k.less (subst (λ k. y.1 < 2 ^ width_of k) kinds (below y.0 y.1 fits))
               (subst (λ u. cast_of inner_extends.0 (width_of u) (width_of k.between) y.1 ≡ Some b) kinds c) f in
               same_refined (Some (k.kind, j)) (a w.first) ((λ i. Some (back_to i, number i)) ∙ sym is)));
-          there = λ d. source_there m (λ h. among resizing h.name && is_clean m.tree h) w.middle w.inner k.sole w.first w.inner_operands inner_extends.0 inner_extends.1 a done ready.formed ready.kinded computing (middle d);
+          there = λ d. source_there m (λ h. among resizing h.name && is_clean m.tree h) w.middle w.inner k.sole w.first w.inner_operands inner_extends.0 inner_extends.1 a done ready.formed ready.kinded computing (λ i. ap is_some (sym k.sole.kind ∙ k.between_is)) (middle d);
         })
 
   pub cut_cast_ready : KeepsReady CutCast

@@ -1,6 +1,6 @@
 -- The rule on a choice by the opposite of a condition keeps modules ready, and what they compute.
 use Rattle.std.proofs.Common.{◌≡◌, ℕ, ◌<◌, ◌^◌, refl, ap, sym, ◌∙◌, subst, [], ◌∷◌, map, Bool, true, ◌&&◌, eqb, eqb-true, Some, None, ◌⊎◌, inl, inr}
-use Rattle.std.specs.Prelude.{bit_xor, codes, if◌then◌else◌}
+use Rattle.std.specs.Prelude.{bit_xor, codes, if◌then◌else◌, is_some}
 use Rattle.std.specs.List.{list_all}
 use Rattle.std.proofs.lemmas.Bool.{and_from, and_parts}
 use Rattle.std.proofs.lemmas.Option.{none-some, same_Some}
@@ -36,7 +36,7 @@ use Rattle.patterns_base.proofs.Facts.{when_some}
 use Rattle.patterns_facts.specs.Accepted.{AreAccepted}
 use Rattle.patterns_facts.proofs.Shapes.{three_is, two_is}
 use Rattle.patterns_book.specs.Matching.{Header}
-use Rattle.patterns_meaning.specs.Meaning.{Assignment, of_two, result_kind}
+use Rattle.patterns_meaning.specs.Meaning.{Assignment, of_two, result_kind, breaks_by, flags_of}
 use Rattle.patterns_meaning.specs.Better.{is_kind, is_kinded, is_poison_by_ones, is_signed_quotient, kind_in, takes, takes_its}
 use Rattle.patterns_meaning.specs.Keeping.{Computing, IsReady, KeepsComputing, KeepsReady, is_there}
 use Rattle.patterns_meaning.proofs.Dropping.{choice_refined, kind_by, known_is, known_test, of_three_is, of_two_is}
@@ -49,7 +49,7 @@ use Rattle.patterns_meaning.proofs.Forms.{makes_is, named_is}
 use Rattle.patterns_meaning.proofs.Monotone.{same_refined}
 use Rattle.patterns_meaning.proofs.Pairs.{Paired, paired}
 use Rattle.patterns_meaning.proofs.Readied.{Rises, Takes, each_rises, same_takes}
-use Rattle.patterns_meaning.proofs.Ruled.{Ruled, Site, of_rule, rule_kinds, ruled, site_of, value_bits}
+use Rattle.patterns_meaning.proofs.Ruled.{Ruled, Site, known_kinds, of_rule, root_has, rule_kinds, ruled, site_of, value_bits}
 use Rattle.patterns_meaning.proofs.Sources.{Sole, kind_test, made_or_poison, sole_of}
 use Rattle.patterns_meaning.proofs.Trees.{each_found}
 use Rattle.patterns_meaning.proofs.Turning.{Turns, TurnsWell, turned_improves, turned_ready}
@@ -130,6 +130,7 @@ module _ (accepted : AreAccepted) where
       pub sole : Sole m (λ h. named (codes "arith.xori") h.name && is_clean m.tree h) w.first w.inner
       pub own_name : rule_of (head sole.here).name ≡ Some (how.Pair op.ExclusiveOr)
       pub own_operands : (head sole.here).operands ≡ w.condition ∷ w.truth ∷ []
+      pub sole_kind : result_kind (head sole.here) ≡ Some (kind.Int 1)
       pub own_kind : BitsKind
       pub is : result_kind (head q.here) ≡ Some own_kind
       pub width : is_width (width_of own_kind) ≡ true
@@ -142,7 +143,7 @@ module _ (accepted : AreAccepted) where
 
     opposite_kinds : OppositeKinds
     opposite_kinds =
-        let k = rule_kinds m.tree (head q.here) (each_found (λ h. is_kinded m.tree h ≡ true) x m.tree ready.kinded q.here q.found).0 how.Select w.name in
+        let k = rule_kinds m.tree (head q.here) (each_found (λ h. is_kinded m.tree h ≡ true) x m.tree ready.kinded q.here q.found).0 (root_has q ready.formed ready.kinded refl) how.Select w.name in
         let all = and_parts (is_kind (kind.Int 1) (kind_in m.tree w.first)) (is_kind k.kind (kind_in m.tree w.second) && is_kind k.kind (kind_in m.tree w.third)) (subst (λ vs. takes how.Select (head q.here) k.kind (map (kind_in m.tree) vs) ≡ true) w.operands k.operands) in
         let both = and_parts (is_kind k.kind (kind_in m.tree w.second)) (is_kind k.kind (kind_in m.tree w.third)) all.1 in
         let stand = operands_stand is_isolated m.tree ready.formed.distinct ready.formed.formed.visible in
@@ -153,14 +154,16 @@ module _ (accepted : AreAccepted) where
         let inner_name = ap rule_of (named_is (codes "arith.xori") w.inner.name (and_parts (named (codes "arith.xori") w.inner.name) (is_clean m.tree w.inner) s.passed).0) ∙ by_exclusive_or in
         let own_name : rule_of (head s.here).name ≡ Some (how.Pair op.ExclusiveOr) = ap rule_of (ap (λ (h : Header). h.name) s.heads) ∙ inner_name in
         let own_operands : (head s.here).operands ≡ w.condition ∷ w.truth ∷ [] = ap (λ (h : Header). h.operands) s.heads ∙ w.inner_operands in
-        let r = rule_kinds m.tree (head s.here) (each_found (λ h. is_kinded m.tree h ≡ true) s.id m.tree ready.kinded s.here s.found).0 (how.Pair op.ExclusiveOr) own_name in
-        let truths : r.kind ≡ kind.Int 1 = same_Some _ _ (sym r.is ∙ sym s.kind ∙ kind_test (kind.Int 1) (kind_in m.tree w.first) all.0) in
+        let sole_kind : result_kind (head s.here) ≡ Some (kind.Int 1) = sym s.kind ∙ kind_test (kind.Int 1) (kind_in m.tree w.first) all.0 in
+        let r = known_kinds m.tree (head s.here) (each_found (λ h. is_kinded m.tree h ≡ true) s.id m.tree ready.kinded s.here s.found).0 (how.Pair op.ExclusiveOr) own_name (kind.Int 1) sole_kind in
+        let truths : r.kind ≡ kind.Int 1 = same_Some _ _ (sym r.is ∙ sole_kind) in
         let inside = and_parts (is_kind r.kind (kind_in m.tree w.condition)) (is_kind r.kind (kind_in m.tree w.truth)) (subst (λ vs. takes (how.Pair op.ExclusiveOr) (head s.here) r.kind (map (kind_in m.tree) vs) ≡ true) own_operands r.operands) in
         let inner_values = subst (λ vs. list_all (λ v. has_value v m.tree) vs ≡ true) own_operands (each_found (λ h. list_all (λ v. has_value v m.tree) h.operands ≡ true) s.id m.tree stand s.here s.found).0 in
         record {
           sole = s;
           own_name = own_name;
           own_operands = own_operands;
+          sole_kind = sole_kind;
           own_kind = k.kind;
           is = k.is;
           width = k.width;
@@ -184,10 +187,10 @@ module _ (accepted : AreAccepted) where
 
       module _ (a : Assignment) (done : ℕ → Bool) (computing : Computing a done m.tree) where
         site : Site m a done x q.here
-        site = site_of m a done x q.here ready.formed ready.kinded computing q.found
+        site = site_of m a done x q.here ready.formed ready.kinded computing q.found (root_has q ready.formed ready.kinded refl)
 
         own : Site m a done k.sole.id k.sole.here
-        own = site_of m a done k.sole.id k.sole.here ready.formed ready.kinded computing k.sole.found
+        own = site_of m a done k.sole.id k.sole.here ready.formed ready.kinded computing k.sole.found (λ i. ap is_some k.sole_kind)
 
         abbrev out : Outcome
         out = select_out (a w.condition) (a w.third) (a w.second)
@@ -240,6 +243,7 @@ module _ (accepted : AreAccepted) where
             let xs = a w.condition ∷ a w.third ∷ a w.second ∷ [] in
             record {
               arithmetic = r.arithmetic;
+              unflagged = λ xs. ap (λ r. breaks_by r (flags_of (head q.here)) (result_kind (head q.here)) xs) w.name;
               gives_so = λ d. record {
                 outcome = out;
                 is_made =

@@ -31,7 +31,7 @@ use Rattle.patterns_meaning.proofs.Dropping.{Keeps, choice_refined, kind_by, kno
 use Rattle.patterns_meaning.proofs.Firsts.{by_select}
 use Rattle.patterns_meaning.proofs.Forms.{named_is}
 use Rattle.patterns_meaning.proofs.Monotone.{same_refined}
-use Rattle.patterns_meaning.proofs.Ruled.{of_rule, ruled, site_of, value_bits}
+use Rattle.patterns_meaning.proofs.Ruled.{of_rule, ruled, site_of, value_bits, root_has}
 use Rattle.patterns_meaning.proofs.StaysReady.{GivesOld, keeps_computing, old_ready}
 
 -- ---- the condition is what is chosen by it
@@ -73,7 +73,7 @@ module _ (accepted : AreAccepted) where
       let one = known_test (λ k. eqb k.1 1) (known m.tree w.second) numbers.0 in
       let zero = known_test (λ k. eqb k.1 0) (known m.tree w.third) numbers.1 in
       let name = ap rule_of (named_is (codes "arith.select") (head q.here).name g.0) ∙ by_select in
-      let s = site_of m a done x q.here formed kinded computing q.found in
+      let s = site_of m a done x q.here formed kinded computing q.found (root_has q formed kinded refl) in
       let three = of_three_is m a done x q.here s w.first w.second w.third w.operands in
       let of = of_rule m a done x q.here s how.Select name in
       let truths : of.kind ≡ kind.Int 1 = same_Some _ _ (sym of.is ∙ ap (λ tys. given (slice_get tys 0) kind_of) w.results ∙ ap kind_of (type_is w.ty i1 tests.0)) in

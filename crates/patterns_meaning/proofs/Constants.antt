@@ -23,6 +23,7 @@ use Rattle.patterns_check.specs.Checks.{refines}
 use Rattle.patterns_base.specs.declared.rule.Rule.{Rule}
 use Rattle.patterns_base.specs.Makes.{give, give_constant}
 use Rattle.patterns_book.specs.Matching.{Header}
+use Rattle.patterns_meaning.proofs.Flags.{unflagged}
 use Rattle.patterns_meaning.specs.Meaning.{Assignment, IsOfType, owner, result_kind}
 use Rattle.patterns_meaning.specs.Better.{AreKinded, are_its_bits, is_poison_by_ones, is_signed_quotient, kind_in, takes_its}
 use Rattle.patterns_meaning.specs.Keeping.{Computing, Improves, IsReady, done_after}
@@ -32,7 +33,7 @@ use Rattle.patterns_meaning.proofs.News.{constant_makes, type_is_of}
 use Rattle.patterns_meaning.proofs.Readied.{NewKinds, Takes}
 use Rattle.patterns_meaning.proofs.Rewritten.{same_makes}
 use Rattle.patterns_meaning.proofs.Numeric.{is_numeric}
-use Rattle.patterns_meaning.proofs.Ruled.{Ruled, computed_root}
+use Rattle.patterns_meaning.proofs.Ruled.{Ruled, computed_root, numeric_stays, root_has}
 use Rattle.patterns_meaning.proofs.StaysReady.{stays_ready}
 
 -- ---- something for the new results
@@ -105,9 +106,11 @@ module _ (r : Rule) (m n : Module) (x : ℕ) (q : Ruled r m n x) (g : GivesNumbe
       typed = ((λ k ty e. subst (λ o. IsOfType ty o) (sym (new_there a m.next (Some (g.kind, g.bits)) k)) (only k ty e)), tt);
       ready = (
         (λ i j. (
-          inl
-              (same_makes (head (constant g.ty g.bits)) m.next [] [] ∙ constant_makes g.ty g.kind g.bits g.of
-              ∙ ap (λ o. Some o) (sym (new_there a m.next (Some (g.kind, g.bits)) 0))),
+          inl (
+            same_makes (head (constant g.ty g.bits)) m.next [] [] ∙ constant_makes g.ty g.kind g.bits g.of
+                ∙ ap (λ o. Some o) (sym (new_there a m.next (Some (g.kind, g.bits)) 0)),
+            unflagged (head (constant g.ty g.bits)) [] refl,
+          ),
           ap (λ r. is_signed_quotient r && is_poison_by_ones []) by_constant,
         )),
         tt,
@@ -126,5 +129,5 @@ module _ (r : Rule) (m n : Module) (x : ℕ) (q : Ruled r m n x) (g : GivesNumbe
 
     pub number_improves : IsReady m → is_numeric r ≡ true → AreKinded n.tree → Computing a done m.tree → Improves a done m (done_after m.next x done) n.tree
     number_improves ready numeric kinded computing =
-        given_improves m n x a done q.front (constant g.ty g.bits ∷ []) (Result m.next 0) ready.formed q.within (computed_root r m n x q ready.kinded (q.numeric numeric)) computing kinded making
+        given_improves m n x a done q.front (constant g.ty g.bits ∷ []) (Result m.next 0) ready.formed q.within (computed_root r m n x q (root_has q ready.formed ready.kinded (numeric_stays r numeric)) (q.numeric numeric)) computing kinded making
         (subst (λ es. Free es m) these q.free) (subst (λ es. all_edited es m ≡ n) these q.module_is)

@@ -36,6 +36,7 @@ use Rattle.patterns_check.proofs.Keeping.{value_refined}
 use Rattle.patterns_laws.specs.Words.{among, ignoring_one, ignoring_zero, keeping, named}
 use Rattle.patterns_laws.proofs.KnownFolds.{given_some}
 use Rattle.patterns_base.specs.declared.rule.Rule.{Rule}
+use Rattle.patterns_base.specs.RuleNames.{is_erasing}
 use Rattle.patterns_base.specs.declared.rule.Rule.TheVariants.{ChooseKnown, ChooseSame, DropAllOnes, DropOne, DropZero, KeepItself}
 use Rattle.patterns_base.specs.Looks.{is_number, known, passes, when}
 use Rattle.patterns_base.specs.Folding.{is_all_ones}
@@ -53,8 +54,8 @@ use Rattle.patterns_meaning.proofs.Firsts.{Firsts, IsPair, both_kept, by_and, by
 use Rattle.patterns_meaning.proofs.Forms.{named_is}
 use Rattle.patterns_meaning.proofs.Giving.{given_improves, old_given}
 use Rattle.patterns_meaning.proofs.Monotone.{itself}
-use Rattle.patterns_meaning.proofs.Numeric.{asks_kind}
-use Rattle.patterns_meaning.proofs.Ruled.{Ruled, Site, gives_refined, known_there, named_arithmetic, of_rule, ruled, site_of, value_bits}
+use Rattle.patterns_meaning.proofs.Verified.{asks_kind}
+use Rattle.patterns_meaning.proofs.Ruled.{Ruled, Site, gives_refined, known_there, named_arithmetic, of_rule, ruled, site_of, value_bits, root_has}
 use Rattle.patterns_meaning.proofs.Sources.{kind_test}
 use Rattle.patterns_meaning.proofs.Trees.{value_below}
 
@@ -70,7 +71,7 @@ module _ (r : Rule) (m n : Module) (x : ℕ) (a : Assignment) (done : ℕ → Bo
   pub old_improves : asks_kind (rule_of (head q.here).name) ≡ true → (v : Value) → Site m a done x q.here → MayGive v → Improves a done m (done_after m.next x done) n.tree
   old_improves named v s g =
       let these : q.edits ≡ give x v = sym g.edits ∙ ap (λ y. give y v) q.id in
-      given_improves m n x a done q.front [] v formed q.within (ap is_arithmetic_there q.found ∙ named_arithmetic m.tree (head q.here) s.kinded named) computing kinded (old_given a m.next x done v (value_below m.next m.tree s.below v g.value) g.better g.there)
+      given_improves m n x a done q.front [] v formed q.within (ap is_arithmetic_there q.found ∙ named_arithmetic (head q.here) s.has named) computing kinded (old_given a m.next x done v (value_below m.next m.tree s.below v g.value) g.better g.there)
       (subst (λ es. Free es m) these q.free) (subst (λ es. all_edited es m ≡ n) these q.module_is)
 
 -- ---- operations on two values
@@ -182,9 +183,9 @@ Keeps r =
 module _ (accepted : AreAccepted) where
   -- by a second operand that is a number
   number_second : (f : Arithmetic → Bool) (b : ℕ) → ((o : Arithmetic) → f o ≡ true → Firsts o (λ k. b)) → (r : Rule) (m n : Module) (x : ℕ) (a : Assignment) (done : ℕ → Bool) → IsWellFormed is_isolated m → AreKinded m.tree → AreKinded n.tree → Computing a done m.tree
-      → (q : Ruled r m n x) (u v : Value) → IsPair f (head q.here).name → (head q.here).operands ≡ u ∷ v ∷ [] → is_number m.tree b v ≡ true → give (head q.here).id u ≡ q.edits → Improves a done m (done_after m.next x done) n.tree
-  number_second f b firsts r m n x a done formed kinded after computing q u v p ops number edits =
-      let s = site_of m a done x q.here formed kinded computing q.found in
+      → is_erasing r ≡ false → (q : Ruled r m n x) (u v : Value) → IsPair f (head q.here).name → (head q.here).operands ≡ u ∷ v ∷ [] → is_number m.tree b v ≡ true → give (head q.here).id u ≡ q.edits → Improves a done m (done_after m.next x done) n.tree
+  number_second f b firsts r m n x a done formed kinded after computing stays q u v p ops number edits =
+      let s = site_of m a done x q.here formed kinded computing q.found (root_has q formed kinded stays) in
       let two = of_two_is m a done x q.here s u v ops in
       let k = known_test (λ k. eqb k.1 b) (known m.tree v) number in
       old_improves r m n x a done formed after computing q (ap asks_kind p.1) u s (record {
@@ -207,7 +208,7 @@ module _ (accepted : AreAccepted) where
       let w = two_is (head q.here) (λ p. when (among ignoring_zero p.name && is_number m.tree 0 p.second) (Some (give (head q.here).id p.first))) q.edits q.made in
       let g = when_some (among ignoring_zero (head q.here).name && is_number m.tree 0 w.second) (Some (give (head q.here).id w.first)) q.edits w.makes in
       let h = and_parts (among ignoring_zero (head q.here).name) (is_number m.tree 0 w.second) g.0 in
-      number_second ignores_zero 0 zero_first DropZero m n x a done formed kinded after computing q w.first w.second (of_among (IsPair ignores_zero) ignoring_zero (head q.here).name zero_pairs h.0) w.operands h.1 (same_Some _ _ g.1)
+      number_second ignores_zero 0 zero_first DropZero m n x a done formed kinded after computing refl q w.first w.second (of_among (IsPair ignores_zero) ignoring_zero (head q.here).name zero_pairs h.0) w.operands h.1 (same_Some _ _ g.1)
 
   pub drop_one_keeps : Keeps DropOne
   unfolding rule
@@ -216,7 +217,7 @@ module _ (accepted : AreAccepted) where
       let w = two_is (head q.here) (λ p. when (among ignoring_one p.name && is_number m.tree 1 p.second) (Some (give (head q.here).id p.first))) q.edits q.made in
       let g = when_some (among ignoring_one (head q.here).name && is_number m.tree 1 w.second) (Some (give (head q.here).id w.first)) q.edits w.makes in
       let h = and_parts (among ignoring_one (head q.here).name) (is_number m.tree 1 w.second) g.0 in
-      number_second ignores_one 1 one_first DropOne m n x a done formed kinded after computing q w.first w.second (of_among (IsPair ignores_one) ignoring_one (head q.here).name one_pairs h.0) w.operands h.1 (same_Some _ _ g.1)
+      number_second ignores_one 1 one_first DropOne m n x a done formed kinded after computing refl q w.first w.second (of_among (IsPair ignores_one) ignoring_one (head q.here).name one_pairs h.0) w.operands h.1 (same_Some _ _ g.1)
 
   pub keep_itself_keeps : Keeps KeepItself
   unfolding rule
@@ -227,7 +228,7 @@ module _ (accepted : AreAccepted) where
       let h = and_parts (among keeping (head q.here).name) (same_value w.first w.second) g.0 in
       let p = of_among (IsPair keeps_itself) keeping (head q.here).name keeping_pairs h.0 in
       let same = same_value_true w.first w.second h.1 in
-      let s = site_of m a done x q.here formed kinded computing q.found in
+      let s = site_of m a done x q.here formed kinded computing q.found (root_has q formed kinded refl) in
       let two = of_two_is m a done x q.here s w.first w.second w.operands in
       old_improves KeepItself m n x a done formed after computing q (q.numeric refl) w.first s (record {
         edits = same_Some _ _ g.1;
@@ -247,7 +248,7 @@ module _ (accepted : AreAccepted) where
       let h = and_parts (named (codes "arith.andi") (head q.here).name) (passes (is_all_ones w.ty) (known m.tree w.second)) g.0 in
       let k = known_test (is_all_ones w.ty) (known m.tree w.second) h.1 in
       let name = ap rule_of (named_is (codes "arith.andi") (head q.here).name h.0) ∙ by_and in
-      let s = site_of m a done x q.here formed kinded computing q.found in
+      let s = site_of m a done x q.here formed kinded computing q.found (root_has q formed kinded refl) in
       let two = of_two_is m a done x q.here s w.first w.second w.operands in
       let of = of_rule m a done x q.here s (how.Pair op.And) name in
       let kinds = and_parts (is_kind of.kind (kind_in m.tree w.first)) (is_kind of.kind (kind_in m.tree w.second)) (subst (λ vs. takes (how.Pair op.And) (head q.here) of.kind (map (kind_in m.tree) vs) ≡ true) w.operands of.operands) in
@@ -274,7 +275,7 @@ module _ (accepted : AreAccepted) where
       let g = when_some (named (codes "arith.select") (head q.here).name) (when (same_value w.second w.third) (Some (give (head q.here).id w.second))) q.edits w.makes in
       let h = when_some (same_value w.second w.third) (Some (give (head q.here).id w.second)) q.edits g.1 in
       let name = ap rule_of (named_is (codes "arith.select") (head q.here).name g.0) ∙ by_select in
-      let s = site_of m a done x q.here formed kinded computing q.found in
+      let s = site_of m a done x q.here formed kinded computing q.found (root_has q formed kinded refl) in
       let three = of_three_is m a done x q.here s w.first w.second w.third w.operands in
       old_improves ChooseSame m n x a done formed after computing q (q.numeric refl) w.second s (record {
         edits = same_Some _ _ h.1;
@@ -293,7 +294,7 @@ module _ (accepted : AreAccepted) where
       let g = when_some (named (codes "arith.select") (head q.here).name) (given (known m.tree w.first) (λ c. Some (give (head q.here).id (choice_of c.1 w.second w.third)))) q.edits w.makes in
       let k = given_some (known m.tree w.first) (λ c. Some (give (head q.here).id (choice_of c.1 w.second w.third))) q.edits g.1 in
       let name = ap rule_of (named_is (codes "arith.select") (head q.here).name g.0) ∙ by_select in
-      let s = site_of m a done x q.here formed kinded computing q.found in
+      let s = site_of m a done x q.here formed kinded computing q.found (root_has q formed kinded refl) in
       let three = of_three_is m a done x q.here s w.first w.second w.third w.operands in
       old_improves ChooseKnown m n x a done formed after computing q (q.numeric refl) (choice_of k.0.1 w.second w.third) s (record {
         edits = same_Some _ _ k.2;

@@ -1,5 +1,5 @@
 -- Rules that expand an operation keep modules ready, and what they compute.
-use Rattle.std.proofs.Common.{◌≡◌, ℕ, ◌+◌, ◌<◌, ◌^◌, ◌-◌, refl, ap, sym, ◌∙◌, subst, [], ◌∷◌, map, Bool, true, ◌&&◌, Some, None, inl, inr, slice_get, arith}
+use Rattle.std.proofs.Common.{◌≡◌, ℕ, ◌+◌, ◌<◌, ◌^◌, ◌-◌, refl, ap, sym, ◌∙◌, subst, [], ◌∷◌, map, Bool, true, ◌&&◌, Some, None, inl, inr, slice_get, arith, false}
 use Rattle.std.specs.Prelude.{bit_xor, codes, nat_lt}
 use Rattle.std.specs.List.{list_all}
 use Rattle.std.proofs.lemmas.Bool.{and_from, and_parts, lt-ltb, ltb-true}
@@ -30,6 +30,7 @@ use Rattle.patterns_laws.specs.Words.{named}
 use Rattle.patterns_laws.proofs.KnownFolds.{below}
 use Rattle.patterns_laws.proofs.PairRules.{one_below}
 use Rattle.patterns_base.specs.declared.rule.Rule.{Rule}
+use Rattle.patterns_base.specs.RuleNames.{is_erasing}
 use Rattle.patterns_base.specs.declared.rule.Rule.TheVariants.{ExpandDifference}
 use Rattle.patterns_base.specs.Looks.{when}
 use Rattle.patterns_base.specs.Makes.{give_new}
@@ -51,7 +52,7 @@ use Rattle.patterns_meaning.proofs.Monotone.{same_refined}
 use Rattle.patterns_meaning.proofs.OfBits.{IsOfBits, pair_bits}
 use Rattle.patterns_meaning.proofs.OfKinds.{IsKind, pair_kind}
 use Rattle.patterns_meaning.proofs.Pairs.{IsTotal, Paired, binary_gives, binary_made, constant_gives_one, constant_made, is_its_kind, number_bits, number_kind, pair_is, pair_known, pair_out, paired}
-use Rattle.patterns_meaning.proofs.Ruled.{Ruled, Site, rule_kinds, ruled, site_of, value_bits}
+use Rattle.patterns_meaning.proofs.Ruled.{Ruled, Site, rule_kinds, ruled, site_of, value_bits, root_has}
 use Rattle.patterns_meaning.proofs.Trees.{each_found, value_below}
 
 pub by_exclusive_or : rule_of (codes "arith.xori") ≡ Some (how.Pair op.ExclusiveOr)
@@ -79,9 +80,9 @@ pub record OnTwo (r : Rule) (m n : Module) (x : ℕ) (q : Ruled r m n x) (u v : 
   pub second_below : owner v < m.next
   pub second_is : is_kind kind (kind_in m.tree v) ≡ true
 
-pub on_two_values : (r : Rule) (m n : Module) (x : ℕ) (q : Ruled r m n x) (o : Arithmetic) (u v : Value) (ty : TypeTerm) → IsReady m → rule_of (head q.here).name ≡ Some (how.Pair o) → (head q.here).operands ≡ u ∷ v ∷ [] → (head q.here).results ≡ ty ∷ [] → OnTwo r m n x q u v ty
-on_two_values r m n x q o u v ty ready name ops results =
-    let k = rule_kinds m.tree (head q.here) (each_found (λ h. is_kinded m.tree h ≡ true) x m.tree ready.kinded q.here q.found).0 (how.Pair o) name in
+pub on_two_values : (r : Rule) (m n : Module) (x : ℕ) (q : Ruled r m n x) (o : Arithmetic) (u v : Value) (ty : TypeTerm) → is_erasing r ≡ false → IsReady m → rule_of (head q.here).name ≡ Some (how.Pair o) → (head q.here).operands ≡ u ∷ v ∷ [] → (head q.here).results ≡ ty ∷ [] → OnTwo r m n x q u v ty
+on_two_values r m n x q o u v ty stays ready name ops results =
+    let k = rule_kinds m.tree (head q.here) (each_found (λ h. is_kinded m.tree h ≡ true) x m.tree ready.kinded q.here q.found).0 (root_has q ready.formed ready.kinded stays) (how.Pair o) name in
     let both = and_parts (is_kind k.kind (kind_in m.tree u)) (is_kind k.kind (kind_in m.tree v)) (subst (λ vs. takes (how.Pair o) (head q.here) k.kind (map (kind_in m.tree) vs) ≡ true) ops k.operands) in
     let stand = operands_stand is_isolated m.tree ready.formed.distinct ready.formed.formed.visible in
     let values = subst (λ vs. list_all (λ v. has_value v m.tree) vs ≡ true) ops (each_found (λ h. list_all (λ v. has_value v m.tree) h.operands ≡ true) x m.tree stand q.here q.found).0 in
@@ -293,13 +294,13 @@ module _ (accepted : AreAccepted) where
   expand_difference_ready m n x ready e =
       let q = ruled accepted ExpandDifference m n x ready.formed ready.sorted e in
       let w = differs_here m n x q in
-      let k = on_two_values ExpandDifference m n x q op.Subtract w.first w.second w.ty ready w.name w.operands w.results in
+      let k = on_two_values ExpandDifference m n x q op.Subtract w.first w.second w.ty refl ready w.name w.operands w.results in
       new_ready ExpandDifference m n x q (difference_new m n x q w k) ready
 
   pub expand_difference_computing : KeepsComputing ExpandDifference
   expand_difference_computing m n x a done ready computing e =
       let q = ruled accepted ExpandDifference m n x ready.formed ready.sorted e in
       let w = differs_here m n x q in
-      let k = on_two_values ExpandDifference m n x q op.Subtract w.first w.second w.ty ready w.name w.operands w.results in
-      let s = site_of m a done x q.here ready.formed ready.kinded computing q.found in
+      let k = on_two_values ExpandDifference m n x q op.Subtract w.first w.second w.ty refl ready w.name w.operands w.results in
+      let s = site_of m a done x q.here ready.formed ready.kinded computing q.found (root_has q ready.formed ready.kinded refl) in
       new_improves ExpandDifference m n x q (difference_new m n x q w k) a done (difference_outcomes m n x q w k a done s) ready refl (expand_difference_ready m n x ready e).kinded computing

@@ -1,6 +1,6 @@
 -- The rule on extensions of extensions keeps modules ready, and what they compute.
 use Rattle.std.proofs.Common.{◌≡◌, ℕ, ◌<◌, ◌≤◌, ◌^◌, refl, ap, sym, ◌∙◌, subst, List, [], ◌∷◌, Bool, true, false, true≢false, ◌&&◌, ◌||◌, Some, None, inl, inr, slice_get, arith}
-use Rattle.std.specs.Prelude.{codes}
+use Rattle.std.specs.Prelude.{codes, is_some}
 use Rattle.std.specs.List.{list_all}
 use Rattle.std.proofs.lemmas.Bool.{and_parts, or_cases}
 use Rattle.std.proofs.lemmas.Option.{same_Some}
@@ -47,7 +47,7 @@ use Rattle.patterns_meaning.proofs.Formed.{is_below, operands_stand}
 use Rattle.patterns_meaning.proofs.Forms.{named_is}
 use Rattle.patterns_meaning.proofs.Giving.{after_new}
 use Rattle.patterns_meaning.proofs.Makings.{GivesNew, GivesOutcomes, all_agree, all_at, new_improves, new_ready, with_all}
-use Rattle.patterns_meaning.proofs.Ruled.{Ruled, Site, rule_kinds, ruled, site_of, value_bits}
+use Rattle.patterns_meaning.proofs.Ruled.{Ruled, Site, rule_kinds, ruled, site_of, value_bits, root_has}
 use Rattle.patterns_meaning.proofs.Sources.{Sole, operand_there, sole_of}
 use Rattle.patterns_meaning.proofs.Trees.{each_found, value_below}
 
@@ -165,7 +165,7 @@ module _ (accepted : AreAccepted) where
 
   twice_kinds : (m n : Module) (x : ℕ) (q : Ruled ExtendExtension m n x) (w : Twice m n x q) → IsReady m → TwiceKinds m n x q w
   twice_kinds m n x q w ready =
-      let k = rule_kinds m.tree (head q.here) (each_found (λ h. is_kinded m.tree h ≡ true) x m.tree ready.kinded q.here q.found).0 (how.Resize w.outer.0) w.outer.1 in
+      let k = rule_kinds m.tree (head q.here) (each_found (λ h. is_kinded m.tree h ≡ true) x m.tree ready.kinded q.here q.found).0 (root_has q ready.formed ready.kinded refl) (how.Resize w.outer.0) w.outer.1 in
       let stand = operands_stand is_isolated m.tree ready.formed.distinct ready.formed.formed.visible in
       let there = (each_found (λ h. list_all (λ v. has_value v m.tree) h.operands ≡ true) x m.tree stand q.here q.found).0 in
       let middle : has_value w.middle m.tree ≡ true = (and_parts (has_value w.middle m.tree) true (subst (λ vs. list_all (λ v. has_value v m.tree) vs ≡ true) w.operands there)).0 in
@@ -226,7 +226,7 @@ module _ (accepted : AreAccepted) where
       out = cast_outcome k.inside.0 k.kind (a w.first)
 
       site : Site m a done x q.here
-      site = site_of m a done x q.here ready.formed ready.kinded computing q.found
+      site = site_of m a done x q.here ready.formed ready.kinded computing q.found (root_has q ready.formed ready.kinded refl)
 
       middle_there : done x ≡ true → is_there done w.middle ≡ true
       middle_there d = operand_there m a done x q.here site (is_there done) w.middle w.operands (site.fed d)
@@ -247,7 +247,7 @@ module _ (accepted : AreAccepted) where
         outcomes = cast_outcome k.inside.0 k.kind (a w.first) ∷ [];
         give = (
           cast_gives a done m.next x (cast_outcome k.inside.0 k.kind (a w.first) ∷ []) w.inner.name w.ty w.first k.kind k.inside.0 k.inside.1 k.of first_below
-              (λ d. source_there m (λ h. among extensions h.name && is_clean m.tree h) w.middle w.inner k.sole w.first w.inner_operands k.inside.0 k.inside.1 a done ready.formed ready.kinded computing (middle_there d)) total,
+              (λ d. source_there m (λ h. among extensions h.name && is_clean m.tree h) w.middle w.inner k.sole w.first w.inner_operands k.inside.0 k.inside.1 a done ready.formed ready.kinded computing (λ i. ap is_some (sym k.sole.kind ∙ k.between)) (middle_there d)) total,
           tt,
         );
         better = λ d.
@@ -255,7 +255,7 @@ module _ (accepted : AreAccepted) where
             (cast_result m a done x q.here site w.outer.0 w.middle k.kind out w.outer.1 k.is w.operands d
             (λ z i.
             twice_refined k.inside.0 w.outer.0 (bits.Int k.extension.to) k.kind (a w.first) (a w.middle) z out i
-            (source_makes m (λ h. among extensions h.name && is_clean m.tree h) w.middle w.inner k.sole w.first w.inner_operands k.inside.0 k.inside.1 a done ready.formed ready.kinded computing (middle_there d) (bits.Int k.extension.to) k.between)
+            (source_makes m (λ h. among extensions h.name && is_clean m.tree h) w.middle w.inner k.sole w.first w.inner_operands k.inside.0 k.inside.1 a done ready.formed ready.kinded computing (λ i. ap is_some (sym k.sole.kind ∙ k.between)) (middle_there d) (bits.Int k.extension.to) k.between)
             (λ y b j is c f. cast_refined k.inside.0 k.kind (a w.first) y j is (both_cast y b j is c f))));
         there = λ d. after_new m.next x done m.next (omega arith) ∙ d;
       }

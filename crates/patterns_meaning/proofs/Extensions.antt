@@ -7,8 +7,8 @@ use Rattle.std.proofs.lemmas.Bool.{and_parts}
 use Rattle.std.proofs.lemmas.Bool.Decides.{nat_tests}
 use Rattle.std.proofs.lemmas.Option.{none-some}
 use Rattle.ir_types.specs.declared.bits.BitsKind.TheVariants as kind
-use Rattle.ir_types.specs.declared.node.Sign.TheVariants.{Signed, Signless, Unsigned}
-use Rattle.ir_types.specs.Terms.{AttrTerm, Function, Index, Integer, Memref, OpaqueType, TypeTerm}
+use Rattle.ir_types.specs.declared.node.Sign.TheVariants.{Signless}
+use Rattle.ir_types.specs.Terms.{AttrTerm, Integer, TypeTerm}
 use Rattle.ir_types.specs.Words.{is_inherent}
 use Rattle.ir_tree.specs.declared.value.Value.{Value}
 use Rattle.ir_tree.specs.Tree.{head}
@@ -37,6 +37,7 @@ use Rattle.patterns_base.proofs.Dispatch.{of_among}
 use Rattle.patterns_yields.proofs.Unbroken.{clean_unbroken, spoken}
 use Rattle.patterns_facts.proofs.Typed.{pair, typed, types_at}
 use Rattle.patterns_check.specs.Outcomes.{given}
+use Rattle.patterns_meaning.proofs.Verified.{integer_is, no_rules}
 use Rattle.patterns_meaning.specs.Better.{kind_in}
 
 abbrev Stand : Type 0
@@ -52,17 +53,13 @@ all_false n [] e = tt
 all_false n (true ∷ bs) e = absurd cc
 all_false n (false ∷ bs) e = (refl, all_false (n + 1) bs e)
 
-empty_is : (bs : List ℕ) → breaks_none (Some bs) ≡ true → bs ≡ []
-empty_is [] e = refl
-empty_is (b ∷ bs) e = absurd cc
-
 none_told : (t : Operation) (z : Stand) (row : Row) → is_clean t (head z.here) ≡ true → stand_of (head z.here).id t ≡ Some z → row_of (head z.here).name ≡ Some row → AllFalse (told_of row (surround t z))
 unfolding is_clean
 none_told t z row e f g =
     let s = surround t z in
     let h = head z.here in
     let clean = (and_parts (breaks_none (broken_at h.id t)) (list_all (λ (e : List ℕ × AttrTerm). is_inherent h.name e.0) h.properties) e).0 in
-    let all : broken s ≡ [] = empty_is (broken s) (sym (ap (λ o. breaks_none (option_map broken (option_map (surround t) o))) f) ∙ clean) in
+    let all : broken s ≡ [] = no_rules (broken s) (sym (ap (λ o. breaks_none (option_map broken (option_map (surround t) o))) f) ∙ clean) in
     let listed : row_of s.node.head.name ≡ Some row = ap (λ (h : Header). row_of h.name) (head_shown z.here) ∙ g in
     all_false 1 (told_of row s) (sym (ap (λ r. numbers_from 1 (told_in r s)) listed) ∙ all)
 
@@ -86,15 +83,6 @@ record IsExtension (name : List ℕ) : Type 0 where
 extensions_are : Each IsExtension extensions
 unfolding row_of rows extensions
 extensions_are = (record { types = refl; is_no_cut = refl; extends = refl }, (record { types = refl; is_no_cut = refl; extends = refl }, tt))
-
-integer_is : (ty : TypeTerm) → is_integer ty ≡ true → (w : ℕ) × (ty ≡ Integer Signless w)
-integer_is (Integer Signless w) e = (w, refl)
-integer_is (Integer Signed w) e = absurd cc
-integer_is (Integer Unsigned w) e = absurd cc
-integer_is Index e = absurd cc
-integer_is (Function is os) e = absurd cc
-integer_is (Memref ds u) e = absurd cc
-integer_is (OpaqueType s) e = absurd cc
 
 there_is : (o : Option TypeTerm) → is_there is_integer o ≡ true → (w : ℕ) × (o ≡ Some (Integer Signless w))
 there_is None e = absurd cc

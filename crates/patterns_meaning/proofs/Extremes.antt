@@ -49,7 +49,7 @@ use Rattle.patterns_meaning.proofs.Monotone.{same_refined}
 use Rattle.patterns_meaning.proofs.OfBits.{compare_bits, select_bits}
 use Rattle.patterns_meaning.proofs.OfKinds.{IsKind, OfKinds, compare_kind, select_kind}
 use Rattle.patterns_meaning.proofs.Pairs.{IsTotal, Paired, paired}
-use Rattle.patterns_meaning.proofs.Ruled.{Ruled, Site, ruled, site_of, value_bits}
+use Rattle.patterns_meaning.proofs.Ruled.{Ruled, Site, ruled, site_of, value_bits, root_has}
 use Rattle.patterns_meaning.proofs.Sources.{kind_test}
 use Rattle.patterns_meaning.proofs.TruthRules.{by_compare}
 
@@ -168,6 +168,7 @@ module _ (accepted : AreAccepted) where
               of = refl;
               bare = refl;
               numeric = ap is_some by_compare;
+              unset = refl;
               risen = refl;
               takes = ap (λ r. takes_its r (Some (kind.Int 1)) (head (comparison w.number w.first w.second)) (f w.first ∷ f w.second ∷ [])) by_compare ∙ same;
             },
@@ -178,6 +179,7 @@ module _ (accepted : AreAccepted) where
                 of = k.of;
                 bare = refl;
                 numeric = ap is_some by_select;
+                unset = refl;
                 risen = refl;
                 takes =
                     ap (λ r. takes_its r (Some k.kind) (head (choice w.ty (Result m.next 0) w.first w.second)) (f (Result m.next 0) ∷ f w.first ∷ f w.second ∷ [])) by_select
@@ -279,13 +281,13 @@ module _ (accepted : AreAccepted) where
   expand_min_max_ready m n x ready e =
       let q = ruled accepted ExpandMinMax m n x ready.formed ready.sorted e in
       let w = extreme_here m n x q in
-      let k = on_two_values ExpandMinMax m n x q w.asks_for.operation w.first w.second w.ty ready w.asks_for.by w.operands w.results in
+      let k = on_two_values ExpandMinMax m n x q w.asks_for.operation w.first w.second w.ty refl ready w.asks_for.by w.operands w.results in
       new_ready ExpandMinMax m n x q (extreme_new m n x q w k) ready
 
   pub expand_min_max_computing : KeepsComputing ExpandMinMax
   expand_min_max_computing m n x a done ready computing e =
       let q = ruled accepted ExpandMinMax m n x ready.formed ready.sorted e in
       let w = extreme_here m n x q in
-      let k = on_two_values ExpandMinMax m n x q w.asks_for.operation w.first w.second w.ty ready w.asks_for.by w.operands w.results in
-      let s = site_of m a done x q.here ready.formed ready.kinded computing q.found in
+      let k = on_two_values ExpandMinMax m n x q w.asks_for.operation w.first w.second w.ty refl ready w.asks_for.by w.operands w.results in
+      let s = site_of m a done x q.here ready.formed ready.kinded computing q.found (root_has q ready.formed ready.kinded refl) in
       new_improves ExpandMinMax m n x q (extreme_new m n x q w k) a done (extreme_outcomes m n x q w k a done s) ready refl (expand_min_max_ready m n x ready e).kinded computing

@@ -35,7 +35,7 @@ use Rattle.patterns_meaning.proofs.FoldsKept.{AllHaveBits, AllSay, Folded, fold_
 use Rattle.patterns_meaning.proofs.Formed.{operands_stand}
 use Rattle.patterns_meaning.proofs.Lifted.{operands_are}
 use Rattle.patterns_meaning.proofs.Pairs.{known_kind}
-use Rattle.patterns_meaning.proofs.Ruled.{OfRule, Ruled, Site, gives_refined, known_there, known_kinds, ruled, site_of, value_bits}
+use Rattle.patterns_meaning.proofs.Ruled.{OfRule, Ruled, Site, gives_refined, known_there, known_kinds, ruled, site_of, value_bits, root_has}
 use Rattle.patterns_meaning.proofs.Trees.{each_found}
 
 -- ---- what is known of operands
@@ -137,7 +137,7 @@ module _ (accepted : AreAccepted) where
   -- what it gives is no better than what it folds to
   module _ (m n : Module) (x : ℕ) (q : Ruled FoldToConstant m n x) (w : Folds m n x q) (k : FoldKinds m n x q w) (ready : IsReady m) (a : Assignment) (done : ℕ → Bool) (computing : Computing a done m.tree) where
     site : Site m a done x q.here
-    site = site_of m a done x q.here ready.formed ready.kinded computing q.found
+    site = site_of m a done x q.here ready.formed ready.kinded computing q.found (root_has q ready.formed ready.kinded refl)
 
     operand_bits : (vs : List Value) → list_all (λ v. has_value v m.tree) vs ≡ true → AllHaveBits (map a vs)
     operand_bits [] e = tt
@@ -148,7 +148,7 @@ module _ (accepted : AreAccepted) where
     fold_better : done x ≡ true → refines (a (Result x 0)) (Some w.value) ≡ true
     fold_better d =
         let h = head q.here in
-        let s = site_of m a done x q.here ready.formed ready.kinded computing q.found in
+        let s = site_of m a done x q.here ready.formed ready.kinded computing q.found (root_has q ready.formed ready.kinded refl) in
         gives_refined m a done x q.here s k.folds.how (Some w.value) k.folds.by k.kinds d
         (λ z i.
         fold_kept h w.ty w.value.0 w.value.1 k.of w.results k.folds.how (map (kind_in m.tree) h.operands) (map (known m.tree) h.operands) (map a h.operands) z k.folds.by

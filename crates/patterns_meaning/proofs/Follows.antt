@@ -40,14 +40,14 @@ both_go a b = go a.unknown a.free a.write b.unknown b.free b.write
     go false false false v g x = refl
 
 -- those of two that go each, go together, and so the other way round
-union_goes : (a b : EffectKinds) → may_go a ≡ true → may_go b ≡ true → may_go (union a b) ≡ true
+pub union_goes : (a b : EffectKinds) → may_go a ≡ true → may_go b ≡ true → may_go (union a b) ≡ true
 union_goes a b p q = both_go a b ∙ and_from (may_go a) (may_go b) p q
 
-union_parts : (a b : EffectKinds) → may_go (union a b) ≡ true → (may_go a ≡ true) × (may_go b ≡ true)
+pub union_parts : (a b : EffectKinds) → may_go (union a b) ≡ true → (may_go a ≡ true) × (may_go b ≡ true)
 union_parts a b e = and_parts (may_go a) (may_go b) (sym (both_go a b) ∙ e)
 
 -- where those inside go, those of an operation do that went with others inside
-by_goes : (o : Own) (a b : EffectKinds) → (may_go a ≡ true → may_go b ≡ true) → may_go (effects_by o a) ≡ true → may_go (effects_by o b) ≡ true
+pub by_goes : (o : Own) (a b : EffectKinds) → (may_go a ≡ true → may_go b ≡ true) → may_go (effects_by o a) ≡ true → may_go (effects_by o b) ≡ true
 by_goes o a b f = go (is_recursive o)
   where
     go : (c : Bool) → may_go (if c then a else own_kinds o) ≡ true → may_go (if c then b else own_kinds o) ≡ true
@@ -243,6 +243,10 @@ module _ (P : Header → Type 0) (Q R S : Header → Header → Type 0) (named :
 
     op_through : (o p u : Operation) → Each P o → Follows Q o p → Follows R p u → Follows S o u
     op_through (op h rs) (op k qs) (op l ss) s f g = (through h k l s.0 f.0 g.0, follows_through rs qs ss s.1 f.1 g.1)
+
+-- where nobody misses what is left of an operation, nobody misses what it was
+pub op_unmissed : (Q : Header → Header → Type 0) → ((h k : Header) → Q h k → h.name ≡ k.name) → (o p : Operation) → Follows Q o p → is_unmissed p ≡ true → is_unmissed o ≡ true
+op_unmissed Q named o p f e = still_unmissed (λ h. Unit {0}) Q Q (λ h k. Unit {0}) named (λ h k l p q r. tt) o p f e
 
 -- ---- what follows was there
 module _ (P Q : Header → Type 0) (f : (h : Header) → P h → Q h) where

@@ -1,5 +1,5 @@
 -- What operations of which patterns speak make is what their steps give.
-use Rattle.std.proofs.Common.{◌≡◌, ℕ, refl, ap, sym, ◌∙◌, subst, List, [], ◌∷◌, map, Bool, true, false, true≢false, ◌&&◌, eqb, eqb-true, Option, Some, None, slice_get, ◌⊎◌, inl, inr}
+use Rattle.std.proofs.Common.{◌≡◌, ℕ, refl, ap, sym, ◌∙◌, subst, List, [], ◌∷◌, map, Bool, true, false, true≢false, ◌&&◌, eqb, eqb-true, Option, Some, None, slice_get, inl, inr}
 use Rattle.std.specs.Prelude.{codes, option_map, option_and_then, if◌then◌else◌, is_some}
 use Rattle.std.specs.List.{list_all}
 use Rattle.std.proofs.lemmas.Bool.{and_parts}
@@ -33,7 +33,8 @@ use Rattle.patterns_book.specs.Planning.{kind_standing}
 use Rattle.patterns_book.proofs.Named.{names_fold}
 use Rattle.patterns_makeable.specs.Makeable.{has_name}
 use Rattle.patterns_matched.proofs.Found.{when_is}
-use Rattle.patterns_meaning.specs.Meaning.{Assignment, Breaks, Fits, is_arithmetic, makes, makes_by, of_one, of_three, of_two, owner, result_kind}
+use Rattle.patterns_meaning.proofs.Flags.{broken_flagged}
+use Rattle.patterns_meaning.specs.Meaning.{Assignment, is_arithmetic, makes, makes_by, of_one, of_three, of_two, owner, result_kind, Obeys}
 use Rattle.patterns_meaning.specs.Applied.{AreDone, AreUnbroken}
 use Rattle.patterns_meaning.proofs.Standing.{stands_standing, Stands}
 use Rattle.patterns_meaning.proofs.Trees.{FoundFit}
@@ -210,9 +211,9 @@ module _ (t : Operation) (clean : Header → Bool) where
     fit_there done fits b are unbroken i v h s e arithmetic =
         let g = giver_of v h e in
         let is : done g.id ≡ true = sym (ap (λ w. done (owner w)) g.value) ∙ are i v h (stands_standing i v b s) e in
-        elim (subst (λ (h : Header). is_arithmetic h ≡ true → Fits a g.id h ⊎ Breaks a g.id h) g.heads (fits g.id g.here g.found is) arithmetic) [
-          | inl f ↦ subst (λ w. makes h (map a h.operands) ≡ Some (a w)) (sym g.value) f
-          | inr f ↦ absurd (true≢false (sym (unbroken i v h (stands_standing i v b s) e f.0) ∙ ap is_some (ap a g.value ∙ f.2)))
+        elim (subst (λ (h : Header). is_arithmetic h ≡ true → Obeys a g.id h) g.heads (fits g.id g.here g.found is) arithmetic) [
+          | inl f ↦ subst (λ w. makes h (map a h.operands) ≡ Some (a w)) (sym g.value) f.0
+          | inr f ↦ absurd (true≢false (sym (unbroken i v h (stands_standing i v b s) e (broken_flagged h (map a h.operands) f.0)) ∙ ap is_some (ap a g.value ∙ f.2)))
         ]
 
     pub made_there : (v : Value) (h : Header) (r : Rule) (k : BitsKind) → MakesIt v h → rule_of h.name ≡ Some r → result_kind h ≡ Some k → makes h (map a h.operands) ≡ Some (a v)

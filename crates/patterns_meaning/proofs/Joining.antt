@@ -1,6 +1,6 @@
 -- Rules that join constants keep modules ready, and what they compute.
 use Rattle.std.proofs.Common.{◌≡◌, ℕ, ◌+◌, ◌<◌, refl, ap, sym, ◌∙◌, subst, List, [], ◌∷◌, map, Bool, true, false, ◌&&◌, Option, Some, None, ◌⊎◌, inl, inr, slice_get, arith}
-use Rattle.std.specs.Prelude.{bit_and, bit_or, bit_xor, codes}
+use Rattle.std.specs.Prelude.{bit_and, bit_or, bit_xor, codes, is_some}
 use Rattle.std.specs.List.{list_all}
 use Rattle.std.proofs.lemmas.Bool.{and_parts}
 use Rattle.std.proofs.lemmas.Option.{none-some, same_Some}
@@ -32,6 +32,7 @@ use Rattle.patterns_laws.specs.Keeps.{Each as EachOf}
 use Rattle.patterns_laws.specs.Words.{among, named, regrouping}
 use Rattle.patterns_laws.proofs.KnownFolds.{below, given_some, pair_gave}
 use Rattle.patterns_base.specs.declared.rule.Rule.{Rule}
+use Rattle.patterns_base.specs.RuleNames.{is_erasing}
 use Rattle.patterns_base.specs.declared.rule.Rule.TheVariants.{AddNegative, RegroupConstants}
 use Rattle.patterns_base.specs.Looks.{is_clean, known, source, two, when}
 use Rattle.patterns_base.specs.Makes.{give_new}
@@ -54,7 +55,7 @@ use Rattle.patterns_meaning.proofs.Makings.{GivesNew, GivesOutcomes, all_agree, 
 use Rattle.patterns_meaning.proofs.Monotone.{same_refined}
 use Rattle.patterns_meaning.proofs.News.{type_is_of}
 use Rattle.patterns_meaning.proofs.Pairs.{IsTotal, Paired, binary_gives, binary_made, constant_gives_one, constant_made, is_its_kind, known_kind, number_bits, number_kind, pair_known, pair_out, paired, value_fits, zero_bits}
-use Rattle.patterns_meaning.proofs.Ruled.{Ruled, Site, of_rule, rule_kinds, ruled, site_of, value_bits}
+use Rattle.patterns_meaning.proofs.Ruled.{Ruled, Site, known_kinds, of_rule, root_has, rule_kinds, ruled, site_of, value_bits}
 use Rattle.patterns_meaning.proofs.Sources.{Sole, kind_test, made_or_poison, sole_of}
 use Rattle.patterns_meaning.proofs.Trees.{each_found, value_below}
 
@@ -78,9 +79,9 @@ pub record OnConstant (r : Rule) (m n : Module) (x : ℕ) (q : Ruled r m n x) (o
   pub constant_kind : c.0 ≡ kind
   pub bits : is_bits kind c.1 ≡ true
 
-pub on_constant : (r : Rule) (m n : Module) (x : ℕ) (q : Ruled r m n x) (o : Arithmetic) (u v : Value) (ty : TypeTerm) (c : Known) → IsReady m → rule_of (head q.here).name ≡ Some (how.Pair o) → (head q.here).operands ≡ u ∷ v ∷ [] → (head q.here).results ≡ ty ∷ [] → known m.tree v ≡ Some c → OnConstant r m n x q o u v ty c
-on_constant r m n x q o u v ty c ready name ops results there =
-    let k = rule_kinds m.tree (head q.here) (each_found (λ h. is_kinded m.tree h ≡ true) x m.tree ready.kinded q.here q.found).0 (how.Pair o) name in
+pub on_constant : (r : Rule) (m n : Module) (x : ℕ) (q : Ruled r m n x) (o : Arithmetic) (u v : Value) (ty : TypeTerm) (c : Known) → is_erasing r ≡ false → IsReady m → rule_of (head q.here).name ≡ Some (how.Pair o) → (head q.here).operands ≡ u ∷ v ∷ [] → (head q.here).results ≡ ty ∷ [] → known m.tree v ≡ Some c → OnConstant r m n x q o u v ty c
+on_constant r m n x q o u v ty c stays ready name ops results there =
+    let k = rule_kinds m.tree (head q.here) (each_found (λ h. is_kinded m.tree h ≡ true) x m.tree ready.kinded q.here q.found).0 (root_has q ready.formed ready.kinded stays) (how.Pair o) name in
     let both = and_parts (is_kind k.kind (kind_in m.tree u)) (is_kind k.kind (kind_in m.tree v)) (subst (λ vs. takes (how.Pair o) (head q.here) k.kind (map (kind_in m.tree) vs) ≡ true) ops k.operands) in
     let stand = operands_stand is_isolated m.tree ready.formed.distinct ready.formed.formed.visible in
     let values = subst (λ vs. list_all (λ v. has_value v m.tree) vs ≡ true) ops (each_found (λ h. list_all (λ v. has_value v m.tree) h.operands ≡ true) x m.tree stand q.here q.found).0 in
@@ -238,7 +239,7 @@ module _ (accepted : AreAccepted) where
 
     negative_better : (a : Assignment) (done : ℕ → Bool) (computing : Computing a done m.tree) → done x ≡ true → refines (a (Result x 0)) (pair_out op.Add (a w.first) (Some (k.kind, negative))) ≡ true
     negative_better a done computing d =
-        let s = site_of m a done x q.here ready.formed ready.kinded computing q.found in
+        let s = site_of m a done x q.here ready.formed ready.kinded computing q.found (root_has q ready.formed ready.kinded refl) in
         let two = of_two_is m a done x q.here s w.first w.second w.operands in
         pair_refined m a done x q.here s op.Subtract w.first w.second (pair_out op.Add (a w.first) (Some (k.kind, negative))) w.name w.operands d
         (λ z i. elim (paired op.Subtract (a w.first) (a w.second) z (refl, (λ w a b. (difference_of w a b, refl))) i) [
@@ -259,16 +260,16 @@ module _ (accepted : AreAccepted) where
   add_negative_ready m n x ready e =
       let q = ruled accepted AddNegative m n x ready.formed ready.sorted e in
       let w = less_here m n x q in
-      let k = on_constant AddNegative m n x q op.Subtract w.first w.second w.ty w.number ready w.name w.operands w.results w.number_is in
+      let k = on_constant AddNegative m n x q op.Subtract w.first w.second w.ty w.number refl ready w.name w.operands w.results w.number_is in
       new_ready AddNegative m n x q (with_constant AddNegative m n x q (codes "arith.addi") op.Add w.first w.ty k.kind (difference_of (type_width w.ty) 0 w.number.1) (negative_new m n x q w ready k)) ready
 
   pub add_negative_computing : KeepsComputing AddNegative
   add_negative_computing m n x a done ready computing e =
       let q = ruled accepted AddNegative m n x ready.formed ready.sorted e in
       let w = less_here m n x q in
-      let k = on_constant AddNegative m n x q op.Subtract w.first w.second w.ty w.number ready w.name w.operands w.results w.number_is in
+      let k = on_constant AddNegative m n x q op.Subtract w.first w.second w.ty w.number refl ready w.name w.operands w.results w.number_is in
       let g = negative_new m n x q w ready k in
-      let s = site_of m a done x q.here ready.formed ready.kinded computing q.found in
+      let s = site_of m a done x q.here ready.formed ready.kinded computing q.found (root_has q ready.formed ready.kinded refl) in
       let two = of_two_is m a done x q.here s w.first w.second w.operands in
       new_improves AddNegative m n x q (with_constant AddNegative m n x q (codes "arith.addi") op.Add w.first w.ty k.kind (difference_of (type_width w.ty) 0 w.number.1) g) a done
       (constant_outcomes AddNegative m n x q (codes "arith.addi") op.Add w.first w.ty k.kind (difference_of (type_width w.ty) 0 w.number.1) g a done s (refl, (λ w a b. (sum_of w a b, refl))) refl two.first_there (negative_better m n x q w ready k a done computing))
@@ -356,7 +357,7 @@ module _ (accepted : AreAccepted) where
     inner_kinds =
         let own_name : rule_of (head sole.here).name ≡ Some (how.Pair w.pair.operation) = ap rule_of (ap (λ (h : Header). h.name) sole.heads) ∙ inner_name in
         let own_operands : (head sole.here).operands ≡ w.inner_first ∷ w.inner_second ∷ [] = ap (λ (h : Header). h.operands) sole.heads ∙ w.inner_operands in
-        let r = rule_kinds m.tree (head sole.here) (each_found (λ h. is_kinded m.tree h ≡ true) sole.id m.tree ready.kinded sole.here sole.found).0 (how.Pair w.pair.operation) own_name in
+        let r = known_kinds m.tree (head sole.here) (each_found (λ h. is_kinded m.tree h ≡ true) sole.id m.tree ready.kinded sole.here sole.found).0 (how.Pair w.pair.operation) own_name k.kind (sym sole.kind ∙ kind_test k.kind (kind_in m.tree w.first) k.first_is) in
         let same : r.kind ≡ k.kind = same_Some _ _ (sym r.is ∙ sym sole.kind ∙ kind_test k.kind (kind_in m.tree w.first) k.first_is) in
         let kinds = and_parts (is_kind r.kind (kind_in m.tree w.inner_first)) (is_kind r.kind (kind_in m.tree w.inner_second)) (subst (λ vs. takes (how.Pair w.pair.operation) (head sole.here) r.kind (map (kind_in m.tree) vs) ≡ true) own_operands r.operands) in
         let stand = operands_stand is_isolated m.tree ready.formed.distinct ready.formed.formed.visible in
@@ -403,10 +404,10 @@ module _ (accepted : AreAccepted) where
         out = pair_out w.pair.operation (a w.inner_first) (Some (k.kind, w.both.1))
 
         site : Site m a done x q.here
-        site = site_of m a done x q.here ready.formed ready.kinded computing q.found
+        site = site_of m a done x q.here ready.formed ready.kinded computing q.found (root_has q ready.formed ready.kinded refl)
 
         own : Site m a done sole.id sole.here
-        own = site_of m a done sole.id sole.here ready.formed ready.kinded computing sole.found
+        own = site_of m a done sole.id sole.here ready.formed ready.kinded computing sole.found (λ i. ap is_some (sym sole.kind ∙ kind_test k.kind (kind_in m.tree w.first) k.first_is))
 
         inner_done : done sole.id ≡ true
         inner_done = ap (is_there done) (sym sole.value) ∙ (of_two_is m a done x q.here site w.first w.second w.operands).first_there d
@@ -459,7 +460,7 @@ module _ (accepted : AreAccepted) where
   regroup_constants_ready m n x ready e =
       let q = ruled accepted RegroupConstants m n x ready.formed ready.sorted e in
       let w = joins_here m n x q in
-      let k = on_constant RegroupConstants m n x q w.pair.operation w.first w.second w.ty w.last ready w.pair.by w.operands w.results w.last_is in
+      let k = on_constant RegroupConstants m n x q w.pair.operation w.first w.second w.ty w.last refl ready w.pair.by w.operands w.results w.last_is in
       let i = inner_kinds m n x q w ready k in
       new_ready RegroupConstants m n x q (with_constant RegroupConstants m n x q (head q.here).name w.pair.operation w.inner_first w.ty k.kind w.both.1 (joined_new m n x q w ready k i)) ready
 
@@ -467,10 +468,10 @@ module _ (accepted : AreAccepted) where
   regroup_constants_computing m n x a done ready computing e =
       let q = ruled accepted RegroupConstants m n x ready.formed ready.sorted e in
       let w = joins_here m n x q in
-      let k = on_constant RegroupConstants m n x q w.pair.operation w.first w.second w.ty w.last ready w.pair.by w.operands w.results w.last_is in
+      let k = on_constant RegroupConstants m n x q w.pair.operation w.first w.second w.ty w.last refl ready w.pair.by w.operands w.results w.last_is in
       let i = inner_kinds m n x q w ready k in
       let g = joined_new m n x q w ready k i in
-      let s = site_of m a done x q.here ready.formed ready.kinded computing q.found in
+      let s = site_of m a done x q.here ready.formed ready.kinded computing q.found (root_has q ready.formed ready.kinded refl) in
       new_improves RegroupConstants m n x q (with_constant RegroupConstants m n x q (head q.here).name w.pair.operation w.inner_first w.ty k.kind w.both.1 g) a done
       (constant_outcomes RegroupConstants m n x q (head q.here).name w.pair.operation w.inner_first w.ty k.kind w.both.1 g a done s w.pair.total w.pair.sure (inner_there m n x q w ready k i a done computing) (joined_better m n x q w ready k i a done computing))
       ready refl (regroup_constants_ready m n x ready e).kinded computing

@@ -1,6 +1,7 @@
 pub mod Standing
 pub mod Trees
 pub mod Steps
+pub mod Flags
 pub mod Forms
 pub mod Numbers
 pub mod OfKinds
@@ -15,14 +16,20 @@ pub mod Rewritten
 pub mod Applying
 pub mod Monotone
 pub mod MadeOf
+pub mod FlagsKept
+pub mod FlagsSampled
 pub mod Settling
 pub mod Frees
 pub mod Lifted
 pub mod Shown
 pub mod Follows
 pub mod Showing
+pub mod Unique
+pub mod Verified
 pub mod Numeric
 pub mod ShowingSampled
+pub mod Refining
+pub mod Rooted
 pub mod EditsForm
 pub mod Improved
 pub mod Giving
@@ -75,4 +82,6 @@ pub mod StrictSampled
 pub mod PassingSampled
 pub mod UnitedSampled
 pub mod Told
+pub mod RefiningSampled
+pub mod RunsRefined
 pub mod Sampled

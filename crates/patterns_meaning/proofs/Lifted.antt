@@ -1,5 +1,5 @@
 -- A tree after an operation's result is replaced by what is the same or better computes what it computed, or better.
-use Rattle.std.proofs.Common.{◌≡◌, ℕ, ◌+◌, ◌<◌, refl, ap, sym, ◌∙◌, subst, List, [], ◌∷◌, map, Bool, true, false, Option, Some, ◌⊎◌, inl, inr}
+use Rattle.std.proofs.Common.{◌≡◌, ℕ, ◌+◌, ◌<◌, refl, ap, sym, ◌∙◌, subst, List, [], ◌∷◌, map, Bool, true, false, Option, Some, inl, inr}
 use Rattle.std.specs.Prelude.{is_some, if◌then◌else◌}
 use Rattle.std.specs.List.{list_all}
 use Rattle.ir_types.specs.declared.bits.BitsKind.{BitsKind}
@@ -20,10 +20,11 @@ use Rattle.patterns_check.specs.Checks.{refines}
 use Rattle.patterns_laws.proofs.KnownFolds.{given_some}
 use Rattle.patterns_book.specs.Matching.{Header}
 use Rattle.std.proofs.lemmas.Option.{same_Some}
-use Rattle.patterns_meaning.specs.Meaning.{AreOfTypes, ArgumentsOfTypes, Assignment, Breaks, Each, Fits, FitsAll, FitsDone, IsOfType, ResultsOfTypes, TypedEach, is_arithmetic, makes}
+use Rattle.patterns_meaning.proofs.FlagsKept.{known_refined, obeys_unbroken, still_unbroken}
+use Rattle.patterns_meaning.specs.Meaning.{AreOfTypes, ArgumentsOfTypes, Assignment, Each, FitsAll, FitsDone, IsOfType, ResultsOfTypes, TypedEach, is_arithmetic, makes, Obeys, breaks_flags}
 use Rattle.patterns_meaning.specs.Applied.{Agree, IsBelow}
 use Rattle.patterns_meaning.specs.After.{OperandsStand, rewritten, with_made}
-use Rattle.patterns_meaning.specs.Better.{AllBetter, AllSure, AreKinded, AreOf, GivesLess, IsSure, Settled, is_kinded, kind_in, may_overflow}
+use Rattle.patterns_meaning.specs.Better.{AllBetter, AllSure, AreKinded, AreOf, GivesLess, IsSure, Settled, is_kinded, kind_in, may_overflow, GivesNoLess}
 use Rattle.patterns_meaning.proofs.Edited.{each_both, each_changed, each_without}
 use Rattle.patterns_meaning.proofs.Monotone.{itself, monotone, through}
 use Rattle.patterns_meaning.proofs.Rewritten.{AllBare, AllPut, all_blocks, all_put, given_blocks, given_each, new_typed, old_typed, operands_same, same_makes}
@@ -57,7 +58,7 @@ operands_are t c f (v ∷ vs) = (
 module _ (c : Assignment) (done : ℕ → Bool) where
   -- it fits, and is no quotient of poison by -1
   abbrev pub IsReady : Header → Type 0
-  IsReady h = done h.id ≡ true → is_arithmetic h ≡ true → (Fits c h.id h ⊎ Breaks c h.id h) × (may_overflow h (map c h.operands) ≡ false)
+  IsReady h = done h.id ≡ true → is_arithmetic h ≡ true → Obeys c h.id h × (may_overflow h (map c h.operands) ≡ false)
 
   -- with operands that are better, where it is done
   abbrev pub IsBetterWith : (List Value → List Value) → Header → Type 0
@@ -70,8 +71,8 @@ module _ (c : Assignment) (done : ℕ → Bool) where
     abbrev js : List (Option BitsKind)
     js = map (kind_in t) (f h.operands)
 
-    made : Fits c h.id h ⊎ Breaks c h.id h → (z : Outcome) × (makes h (map c h.operands) ≡ Some z) × (refines (c (Result h.id 0)) z ≡ true)
-    made (inl e) = (c (Result h.id 0), e, itself (c (Result h.id 0)))
+    made : Obeys c h.id h → (z : Outcome) × (makes h (map c h.operands) ≡ Some z) × (refines (c (Result h.id 0)) z ≡ true)
+    made (inl e) = (c (Result h.id 0), e.0, itself (c (Result h.id 0)))
     made (inr b) = let s = some_there (makes h (map c h.operands)) b.1 in (s.0, s.1, subst (λ o. refines o s.0 ≡ true) (sym b.2) refl)
 
     same : makes (record h { operands = f h.operands }) (map c h.operands) ≡ makes h (map c h.operands)
@@ -82,7 +83,10 @@ module _ (c : Assignment) (done : ℕ → Bool) where
         let r = ready i j in
         let m = made r.0 in
         let n = monotone g js (map c h.operands) (map c (f h.operands)) m.0 kinded (operands_are t c of (f h.operands)) r.1 (better i) (same ∙ m.1) in
-        record { outcome = n.outcome; is_made = n.is_made; better = through (c (Result h.id 0)) m.0 n.outcome m.2 n.better }
+        let gives : GivesNoLess g (c (Result h.id 0)) (map c (f h.operands)) = record { outcome = n.outcome; is_made = n.is_made; better = through (c (Result h.id 0)) m.0 n.outcome m.2 n.better } in (
+          gives,
+          (λ k. still_unbroken g (map c h.operands) (map c (f h.operands)) m.0 (same ∙ m.1) (known_refined (c (Result h.id 0)) m.0 m.2 k) (better i) (obeys_unbroken c h.id h r.0 k)),
+        )
 
     pub other_sure : IsSure c done (record h { operands = f h.operands })
     other_sure i j =
@@ -118,8 +122,8 @@ module _ (a c : Assignment) (n x : ℕ) (v : Value) (done later : ℕ → Bool) 
           let same = operands_same a c n x v done agree t below h.operands q.1 in
           let result = agree (Result h.id 0) q.0 in (
             elim (p.0 is j) [
-              | inl e ↦ inl (ap (makes h) same ∙ e ∙ ap (λ o. Some o) (sym result))
-              | inr b ↦ inr (b.0, ap is_some (ap (makes h) same) ∙ b.1, result ∙ b.2)
+              | inl e ↦ inl (ap (makes h) same ∙ e.0 ∙ ap (λ o. Some o) (sym result), ap (breaks_flags h) same ∙ e.1)
+              | inr b ↦ inr (ap (breaks_flags h) same ∙ b.0, ap is_some (ap (makes h) same) ∙ b.1, result ∙ b.2)
             ],
             ap (may_overflow h) same ∙ p.1 is j,
           )

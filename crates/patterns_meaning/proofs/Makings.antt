@@ -19,7 +19,8 @@ use Rattle.patterns_check.specs.Outcomes.{Outcome}
 use Rattle.patterns_check.specs.Checks.{refines}
 use Rattle.patterns_base.specs.declared.rule.Rule.{Rule}
 use Rattle.patterns_base.specs.Makes.{give}
-use Rattle.patterns_meaning.specs.Meaning.{Assignment, IsOfType, TypedEach, makes, owner, result_kind, is_arithmetic}
+use Rattle.patterns_meaning.proofs.Flags.{unflagged}
+use Rattle.patterns_meaning.specs.Meaning.{Assignment, IsOfType, TypedEach, makes, owner, result_kind, is_arithmetic, has_flags}
 use Rattle.patterns_meaning.specs.Better.{AreKinded, kind_in, may_overflow, takes_its}
 use Rattle.patterns_meaning.specs.Keeping.{Computing, Improves, IsFed, IsReady, done_after, is_there}
 use Rattle.patterns_meaning.proofs.Giving.{Making, after_new, after_old, given_improves}
@@ -29,7 +30,7 @@ use Rattle.patterns_meaning.proofs.OfKinds.{IsKind}
 use Rattle.patterns_meaning.proofs.Readied.{HasKind, Rises, Takes, same_takes}
 use Rattle.patterns_meaning.proofs.Rewritten.{AllBare, AllPut, same_makes}
 use Rattle.patterns_meaning.proofs.Numeric.{is_numeric}
-use Rattle.patterns_meaning.proofs.Ruled.{Ruled, computed_root}
+use Rattle.patterns_meaning.proofs.Ruled.{Ruled, computed_root, numeric_stays, root_has}
 use Rattle.patterns_meaning.proofs.StaysReady.{stays_ready}
 use Rattle.patterns_meaning.proofs.Trees.{ResultsAre}
 
@@ -66,6 +67,7 @@ module _ (f : Value → Option BitsKind) where
     pub of : kind_of ty ≡ Some k
     pub bare : regions o ≡ no_regions
     pub numeric : is_some (rule_of (head o).name) ≡ true
+    pub unset : has_flags (head o) ≡ false
     pub risen : Rises (head o)
     pub takes : takes_its (rule_of (head o).name) (Some k) (head o) (map f (head o).operands) ≡ true
 
@@ -147,16 +149,19 @@ module _ (c : Assignment) (done : ℕ → Bool) (n x : ℕ) where
       all_typed (m + 1) os ks zs g.1 h.1 at.1,
     )
 
-  pub all_ready : (m : ℕ) (os : List Operation) (ks : List BitsKind) (zs : List Outcome) → n ≤ m → AllGive os ks zs → AllAt c m zs → AllPut (lift.IsReady c (done_after n x done)) m os
-  all_ready m [] ks zs l h at = tt
-  all_ready m (o ∷ os) [] zs l h at = absurd h
-  all_ready m (o ∷ os) (k ∷ ks) [] l h at = absurd h
-  all_ready m (o ∷ os) (k ∷ ks) (z ∷ zs) l h at = (
+  pub all_ready : (f : Value → Option BitsKind) (m : ℕ) (os : List Operation) (ks : List BitsKind) (zs : List Outcome) → n ≤ m → AllMade f os ks → AllGive os ks zs → AllAt c m zs → AllPut (lift.IsReady c (done_after n x done)) m os
+  all_ready f m [] ks zs l g h at = tt
+  all_ready f m (o ∷ os) [] zs l g h at = absurd h
+  all_ready f m (o ∷ os) (k ∷ ks) [] l g h at = absurd h
+  all_ready f m (o ∷ os) (k ∷ ks) (z ∷ zs) l g h at = (
     (λ i j. (
-      inl (same_makes (head o) m (head o).operands (map c (head o).operands) ∙ h.0.made (sym (after_new n x done m l) ∙ i) ∙ ap (λ z. Some z) (sym (at.0 0))),
+      inl (
+        same_makes (head o) m (head o).operands (map c (head o).operands) ∙ h.0.made (sym (after_new n x done m l) ∙ i) ∙ ap (λ z. Some z) (sym (at.0 0)),
+        unflagged (head o) (map c (head o).operands) g.0.unset,
+      ),
       h.0.sure (sym (after_new n x done m l) ∙ i),
     )),
-    all_ready (m + 1) os ks zs (omega (arith, l)) h.1 at.1,
+    all_ready f (m + 1) os ks zs (omega (arith, l)) g.1 h.1 at.1,
   )
 
   pub all_fed : (m : ℕ) (os : List Operation) (ks : List BitsKind) (zs : List Outcome) → n ≤ m → AllGive os ks zs → AllPut (IsFed (done_after n x done)) m os
@@ -211,7 +216,7 @@ module _ (r : Rule) (m n : Module) (x : ℕ) (q : Ruled r m n x) (g : GivesNew r
       agrees = λ w l. all_agree a m.next None o.outcomes w l;
       bare = all_bare kinds g.made g.kinds g.are;
       typed = all_typed c done m.next x kinds m.next g.made g.kinds o.outcomes g.are o.give there_at;
-      ready = all_ready c done m.next x m.next g.made g.kinds o.outcomes (omega arith) o.give there_at;
+      ready = all_ready c done m.next x kinds m.next g.made g.kinds o.outcomes (omega arith) g.are o.give there_at;
       fed = all_fed c done m.next x m.next g.made g.kinds o.outcomes (omega arith) o.give;
       numbers = all_numbers kinds m.next g.made g.kinds g.are;
       better = λ d. subst (λ z. refines z (c g.value) ≡ true) (sym (all_agree a m.next None o.outcomes (Result x 0) q.within)) (o.better d);
@@ -220,5 +225,5 @@ module _ (r : Rule) (m n : Module) (x : ℕ) (q : Ruled r m n x) (g : GivesNew r
 
     pub new_improves : IsReady m → is_numeric r ≡ true → AreKinded n.tree → Computing a done m.tree → Improves a done m (done_after m.next x done) n.tree
     new_improves ready numeric kinded computing =
-        given_improves m n x a done q.front g.made g.value ready.formed q.within (computed_root r m n x q ready.kinded (q.numeric numeric)) computing kinded making
+        given_improves m n x a done q.front g.made g.value ready.formed q.within (computed_root r m n x q (root_has q ready.formed ready.kinded (numeric_stays r numeric)) (q.numeric numeric)) computing kinded making
         (subst (λ es. Free es m) g.edits q.free) (subst (λ es. all_edited es m ≡ n) g.edits q.module_is)

@@ -48,7 +48,7 @@ use Rattle.patterns_base.proofs.Facts.{when_some}
 use Rattle.patterns_facts.specs.Accepted.{AreAccepted}
 use Rattle.patterns_facts.proofs.Shapes.{two_is}
 use Rattle.patterns_book.specs.Matching.{Header}
-use Rattle.patterns_meaning.specs.Meaning.{Assignment, makes, of_two, result_kind}
+use Rattle.patterns_meaning.specs.Meaning.{Assignment, makes, of_two, result_kind, breaks_by, flags_by}
 use Rattle.patterns_meaning.specs.Better.{GivesNoLess, compares, is_kind, is_kinded, is_poison_by_ones, is_signed_quotient, kind_in, takes, takes_its}
 use Rattle.patterns_meaning.specs.Keeping.{Computing, IsReady, KeepsComputing, KeepsReady, is_there}
 use Rattle.patterns_meaning.proofs.Dropping.{kind_by, of_two_is}
@@ -58,7 +58,7 @@ use Rattle.patterns_meaning.proofs.Formed.{operands_stand}
 use Rattle.patterns_meaning.proofs.Forms.{makes_is, named_is}
 use Rattle.patterns_meaning.proofs.Monotone.{same_refined}
 use Rattle.patterns_meaning.proofs.Readied.{Rises, Takes, each_rises}
-use Rattle.patterns_meaning.proofs.Ruled.{Ruled, Site, gives_refined, of_rule, rule_kinds, ruled, site_of}
+use Rattle.patterns_meaning.proofs.Ruled.{Ruled, Site, gives_refined, of_rule, rule_kinds, ruled, site_of, root_has}
 use Rattle.patterns_meaning.proofs.Sources.{kind_test}
 use Rattle.patterns_meaning.proofs.Trees.{each_found, found_fit}
 use Rattle.patterns_meaning.proofs.TruthRules.{asked_number, by_compare}
@@ -234,7 +234,7 @@ module _ (accepted : AreAccepted) where
 
     mirror_kinds : MirrorKinds
     mirror_kinds =
-        let k = rule_kinds m.tree (head q.here) (each_found (λ h. is_kinded m.tree h ≡ true) x m.tree ready.kinded q.here q.found).0 how.Compare w.name in
+        let k = rule_kinds m.tree (head q.here) (each_found (λ h. is_kinded m.tree h ≡ true) x m.tree ready.kinded q.here q.found).0 (root_has q ready.formed ready.kinded refl) how.Compare w.name in
         let p = compares_parts k.kind (kind_in m.tree w.first) (kind_in m.tree w.second) (subst (λ vs. takes how.Compare (head q.here) k.kind (map (kind_in m.tree) vs) ≡ true) w.operands k.operands) in
         let stand = operands_stand is_isolated m.tree ready.formed.distinct ready.formed.formed.visible in
         let values = subst (λ vs. list_all (λ v. has_value v m.tree) vs ≡ true) w.operands (each_found (λ h. list_all (λ v. has_value v m.tree) h.operands ≡ true) x m.tree stand q.here q.found).0 in
@@ -257,7 +257,7 @@ module _ (accepted : AreAccepted) where
 
       module _ (a : Assignment) (done : ℕ → Bool) (computing : Computing a done m.tree) where
         site : Site m a done x q.here
-        site = site_of m a done x q.here ready.formed ready.kinded computing q.found
+        site = site_of m a done x q.here ready.formed ready.kinded computing q.found (root_has q ready.formed ready.kinded refl)
 
         first_of : (y : Known) → a w.first ≡ Some y → y.0 ≡ k.between
         first_of y e = kind_by m a done x q.here site w.first k.between y (ap (is_kind k.between) k.first_is ∙ same_itself k.between) e
@@ -271,7 +271,7 @@ module _ (accepted : AreAccepted) where
           where
             found_makes : done x ≡ true → is_some (makes (head q.here) (map a (head q.here).operands)) ≡ true
             found_makes d = elim (found_fit a done m.tree computing.fits x q.here q.found d (of_rule m a done x q.here site how.Compare w.name).arithmetic) [
-              | inl e ↦ ap is_some e
+              | inl e ↦ ap is_some e.0
               | inr b ↦ b.1
             ]
 
@@ -307,6 +307,7 @@ module _ (accepted : AreAccepted) where
             let two = of_two_is m a done x q.here site w.first w.second w.operands in
             record {
               arithmetic = (of_rule m a done x q.here site how.Compare w.name).arithmetic;
+              unflagged = λ xs. ap (λ r. breaks_by r (flags_by (put_entry key_before (codes "predicate") (IntegerOf i64 (mirrored w.number)) (head q.here).properties)) (result_kind (head q.here)) xs) w.name;
               gives_so = mirror_gives;
               sure = λ d. ap (λ r. is_signed_quotient r && is_poison_by_ones (a w.second ∷ a w.first ∷ [])) w.name;
               values = and_from (has_value w.second m.tree) (has_value w.first m.tree && true) k.second (and_from (has_value w.first m.tree) true k.first refl);

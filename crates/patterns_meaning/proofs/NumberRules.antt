@@ -24,6 +24,7 @@ use Rattle.patterns_laws.specs.Keeps.{Each}
 use Rattle.patterns_laws.specs.Words.{among, cancelling, remainders}
 use Rattle.patterns_laws.proofs.KnownFolds.{below, some_bits}
 use Rattle.patterns_base.specs.declared.rule.Rule.{Rule}
+use Rattle.patterns_base.specs.RuleNames.{is_erasing}
 use Rattle.patterns_base.specs.declared.rule.Rule.TheVariants.{CancelItself, ZeroRemainder}
 use Rattle.patterns_base.specs.Looks.{is_number, known, when}
 use Rattle.patterns_base.specs.Makes.{give_constant}
@@ -39,7 +40,7 @@ use Rattle.patterns_meaning.proofs.Dropping.{kind_by, known_is, known_test, of_t
 use Rattle.patterns_meaning.proofs.Firsts.{poison_refined}
 use Rattle.patterns_meaning.proofs.Monotone.{none_made, same_refined}
 use Rattle.patterns_meaning.proofs.OfBits.{are_bits}
-use Rattle.patterns_meaning.proofs.Ruled.{Ruled, of_rule, rule_kinds, ruled, site_of, value_bits}
+use Rattle.patterns_meaning.proofs.Ruled.{Ruled, of_rule, rule_kinds, ruled, site_of, value_bits, root_has}
 use Rattle.patterns_meaning.proofs.Trees.{each_found}
 
 -- ---- operations that give 0
@@ -81,10 +82,10 @@ remainder_pairs = ((op.RemainderSigned, refl, (λ w a n h l e. nothing_left w a 
 
 -- ---- what they give
 module _ (accepted : AreAccepted) where
-  zero_number : (r : Rule) (m n : Module) (x : ℕ) (q : Ruled r m n x) (o : Arithmetic) (ty : TypeTerm) → IsReady m → rule_of (head q.here).name ≡ Some (how.Pair o) → (head q.here).results ≡ ty ∷ []
+  zero_number : (r : Rule) (m n : Module) (x : ℕ) (q : Ruled r m n x) (o : Arithmetic) (ty : TypeTerm) → is_erasing r ≡ false → IsReady m → rule_of (head q.here).name ≡ Some (how.Pair o) → (head q.here).results ≡ ty ∷ []
       → give_constant q.front m.next (head q.here).id ty 0 ≡ q.edits → GivesNumber r m n x q
-  zero_number r m n x q o ty ready name results edits =
-      let k = rule_kinds m.tree (head q.here) (each_found (λ h. is_kinded m.tree h ≡ true) x m.tree ready.kinded q.here q.found).0 (how.Pair o) name in
+  zero_number r m n x q o ty stays ready name results edits =
+      let k = rule_kinds m.tree (head q.here) (each_found (λ h. is_kinded m.tree h ≡ true) x m.tree ready.kinded q.here q.found).0 (root_has q ready.formed ready.kinded stays) (how.Pair o) name in
       record { ty = ty; bits = 0; kind = k.kind; of = sym (ap (λ tys. given (slice_get tys 0) kind_of) results) ∙ k.is; fits = are_bits k.kind 0 k.width (pow_pos (width_of k.kind)); width = k.width; edits = edits }
 
   -- of a value and itself
@@ -119,15 +120,15 @@ module _ (accepted : AreAccepted) where
   cancel_itself_ready m n x ready e =
       let q = ruled accepted CancelItself m n x ready.formed ready.sorted e in
       let c = cancels m n x q in
-      number_ready CancelItself m n x q (zero_number CancelItself m n x q c.pair.0 c.ty ready c.pair.1 c.results c.edits) ready
+      number_ready CancelItself m n x q (zero_number CancelItself m n x q c.pair.0 c.ty refl ready c.pair.1 c.results c.edits) ready
 
   pub cancel_itself_computing : KeepsComputing CancelItself
   unfolding cancels zero_number
   cancel_itself_computing m n x a done ready computing e =
       let q = ruled accepted CancelItself m n x ready.formed ready.sorted e in
       let c = cancels m n x q in
-      let g = zero_number CancelItself m n x q c.pair.0 c.ty ready c.pair.1 c.results c.edits in
-      let s = site_of m a done x q.here ready.formed ready.kinded computing q.found in
+      let g = zero_number CancelItself m n x q c.pair.0 c.ty refl ready c.pair.1 c.results c.edits in
+      let s = site_of m a done x q.here ready.formed ready.kinded computing q.found (root_has q ready.formed ready.kinded refl) in
       let k = of_rule m a done x q.here s (how.Pair c.pair.0) c.pair.1 in
       let kinds = and_parts (is_kind k.kind (kind_in m.tree c.first)) (is_kind k.kind (kind_in m.tree c.second)) (subst (λ vs. takes (how.Pair c.pair.0) (head q.here) k.kind (map (kind_in m.tree) vs) ≡ true) c.operands k.operands) in
       number_improves CancelItself m n x q g a done
@@ -171,15 +172,15 @@ module _ (accepted : AreAccepted) where
   zero_remainder_ready m n x ready e =
       let q = ruled accepted ZeroRemainder m n x ready.formed ready.sorted e in
       let c = leaves m n x q in
-      number_ready ZeroRemainder m n x q (zero_number ZeroRemainder m n x q c.pair.0 c.ty ready c.pair.1 c.results c.edits) ready
+      number_ready ZeroRemainder m n x q (zero_number ZeroRemainder m n x q c.pair.0 c.ty refl ready c.pair.1 c.results c.edits) ready
 
   pub zero_remainder_computing : KeepsComputing ZeroRemainder
   unfolding leaves zero_number
   zero_remainder_computing m n x a done ready computing e =
       let q = ruled accepted ZeroRemainder m n x ready.formed ready.sorted e in
       let c = leaves m n x q in
-      let g = zero_number ZeroRemainder m n x q c.pair.0 c.ty ready c.pair.1 c.results c.edits in
-      let s = site_of m a done x q.here ready.formed ready.kinded computing q.found in
+      let g = zero_number ZeroRemainder m n x q c.pair.0 c.ty refl ready c.pair.1 c.results c.edits in
+      let s = site_of m a done x q.here ready.formed ready.kinded computing q.found (root_has q ready.formed ready.kinded refl) in
       let two = of_two_is m a done x q.here s c.first c.second c.operands in
       let k = of_rule m a done x q.here s (how.Pair c.pair.0) c.pair.1 in
       let kinds = and_parts (is_kind k.kind (kind_in m.tree c.first)) (is_kind k.kind (kind_in m.tree c.second)) (subst (λ vs. takes (how.Pair c.pair.0) (head q.here) k.kind (map (kind_in m.tree) vs) ≡ true) c.operands k.operands) in

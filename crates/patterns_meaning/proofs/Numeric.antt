@@ -1,5 +1,5 @@
 -- Rules of arithmetic apply at operations of the names of arithmetic.
-use Rattle.std.proofs.Common.{◌≡◌, ℕ, refl, ap, sym, ◌∙◌, List, [], ◌∷◌, Bool, true, false, true≢false, ◌&&◌, ◌||◌, not, eqb-true, Option, Some, None, ◌⊎◌, inl, inr}
+use Rattle.std.proofs.Common.{◌≡◌, ℕ, refl, ap, sym, ◌∙◌, List, [], ◌∷◌, Bool, true, false, true≢false, ◌&&◌, ◌||◌, not, eqb-true, Some, ◌⊎◌, inl, inr}
 use Rattle.std.specs.Prelude.{nat_le, unwrap_or}
 use Rattle.std.specs.List.{list_all, list_any}
 use Rattle.std.proofs.lemmas.Bool.{and_parts, or_cases}
@@ -8,14 +8,13 @@ use Rattle.ir_tree.specs.declared.place.Place.{Place}
 use Rattle.ir_tree.specs.Tree.{head}
 use Rattle.ir_tree.specs.Meaning.{Operation}
 use Rattle.ir_tree_laws.proofs.Listed.{bool_cases}
-use Rattle.dialects_int.specs.declared.operations.Rule.{Rule as How}
-use Rattle.dialects_int.specs.declared.operations.Rule.TheVariants as how
 use Rattle.dialects_int.specs.Folds.{rule_of, rules}
 use Rattle.patterns_laws.specs.Keeps.{Each}
 use Rattle.rewriter_machine.specs.Contents.{Edit}
 use Rattle.patterns_base.specs.declared.rule.Rule.{Rule}
 use Rattle.patterns_base.specs.RuleNames.{number_of, same_rule}
 use Rattle.patterns_base.specs.Rules.{has_rule, rule, rules_for, table}
+use Rattle.patterns_meaning.proofs.Verified.{asks_kind}
 use Rattle.patterns_base.proofs.Dispatch.{beside_or, only_listed}
 
 -- the rules of arithmetic, by their numbers: not those that erase what is dead, take casts back, open loops and choices,
@@ -40,12 +39,6 @@ any_numeric r n (s ∷ rs) e = go (or_cases (same_rule r s) (list_any (same_rule
     go : (same_rule r s ≡ true) ⊎ (list_any (same_rule r) rs ≡ true) → (list_any (same_rule r) rs ≡ true → list_any is_numeric rs ≡ true) → (is_numeric s || list_any is_numeric rs) ≡ true
     go (inl i) more = ap (λ b. b || list_any is_numeric rs) (ap is_numeric_number (sym (eqb-true (number_of r) (number_of s) i)) ∙ n)
     go (inr i) more = or_true (is_numeric s) (more i)
-
--- whether an operation of a rule has a result of a kind: a constant may have another
-abbrev pub asks_kind : Option How → Bool
-asks_kind None = false
-asks_kind (Some how.Constant) = false
-asks_kind (Some r) = true
 
 abbrev IsOfArithmetic : List ℕ → Type 0
 IsOfArithmetic name = has_numeric name ≡ true → asks_kind (rule_of name) ≡ true

@@ -26,6 +26,7 @@ use Rattle.patterns_laws.specs.Words.{among, flagged, named}
 use Rattle.patterns_laws.proofs.KnownFolds.{given_some}
 use Rattle.patterns_base.specs.Looks.{constant_value, is_clean, known, source}
 use Rattle.patterns_book.specs.Matching.{Header}
+use Rattle.patterns_meaning.proofs.Flags.{flags_unset}
 use Rattle.patterns_meaning.specs.Meaning.{Assignment}
 use Rattle.patterns_meaning.specs.Better.{AreKinded, are_its_bits, is_kind, is_kinded, is_poison_by_ones, is_signed_quotient, kind_in, takes_its}
 use Rattle.patterns_meaning.specs.Keeping.{is_there}
@@ -128,6 +129,7 @@ module _ (f : Value → Option BitsKind) where
     of = of;
     bare = refl;
     numeric = ap is_some e;
+    unset = flags_unset name;
     risen = flags_rise (among flagged name);
     takes = ap (λ r. takes_pair r) e ∙ and_from (is_width (width_of k)) (is_kind k (f u) && is_kind k (f v)) width (and_from (is_kind k (f u)) (is_kind k (f v)) i j);
   }
@@ -142,6 +144,7 @@ module _ (f : Value → Option BitsKind) where
     of = of;
     bare = refl;
     numeric = ap is_some by_constant;
+    unset = refl;
     risen = refl;
     takes =
         ap (λ r. takes_its r (Some k) (head (constant ty bits)) []) by_constant

@@ -1,16 +1,12 @@
 -- What patterns that match no choices, and divide nothing, make of a ready module is ready, and computes what that
 -- computed, or better.
 use Rattle.std.proofs.Common.{◌≡◌, ℕ, ◌+◌, ◌-◌, ◌<◌, ◌≤◌, refl, ap, sym, ◌∙◌, subst, List, [], ◌∷◌, ◌++◌, length, map, Bool, true, false, true≢false, not, Option, Some, None, slice_get, get_or, ◌⊎◌, inl, inr, arith}
-use Rattle.std.specs.Prelude.{codes, is_some, nat_lt, if◌then◌else◌, option_map}
+use Rattle.std.specs.Prelude.{codes, is_some, nat_lt, if◌then◌else◌}
 use Rattle.std.specs.List.{list_all, range_with_len}
-use Rattle.std.specs.Str.{bytes_eq}
 use Rattle.std.proofs.lemmas.Bool.{and_from, and_parts, cases_lt, le-ltb, lt-ltb}
 use Rattle.std.proofs.lemmas.List.FromFn.{get_or-map-range_with_len, length-map-range_with_len}
 use Rattle.std.proofs.lemmas.Option.{get_or_from_slice_get, none-some, same_Some, slice_get-get_or, slice_get_within}
-use Rattle.std.proofs.lemmas.Slice.Eq.{bytes_eq-Decides}
 use Rattle.ir_types.specs.declared.bits.BitsKind.{BitsKind}
-use Rattle.ir_types.specs.Terms.{AttrTerm, TypeTerm}
-use Rattle.ir_types.specs.Words.{is_inherent, operations}
 use Rattle.ir_tree.specs.declared.value.Value.{Value}
 use Rattle.ir_tree.specs.declared.value.Value.TheVariants.{Result}
 use Rattle.ir_tree.specs.Tree.{head}
@@ -19,10 +15,9 @@ use Rattle.ir_tree_laws.specs.Members.{In}
 use Rattle.ir_tree_laws.specs.Values.{has_value}
 use Rattle.ir_tree_laws.proofs.Listed.{all_each}
 use Rattle.ir_event.specs.Modules.{Module}
-use Rattle.op_registry.specs.Registry.{beside}
 use Rattle.dialects_int.specs.declared.operations.Arithmetic.{Arithmetic}
 use Rattle.dialects_int.specs.declared.operations.Arithmetic.TheVariants as op
-use Rattle.dialects_int.specs.Folds.{Known, fold_by, fold_of, is_property, kind_of, rule_of, with}
+use Rattle.dialects_int.specs.Folds.{Known, fold_of, rule_of}
 use Rattle.rewriter_machine.specs.Edits.{Make}
 use Rattle.patterns_laws.specs.Words.{named}
 use Rattle.patterns_laws.proofs.KnownFolds.{given_some}
@@ -39,14 +34,15 @@ use Rattle.patterns_book.specs.declared.pattern.New.{New}
 use Rattle.patterns_book.specs.declared.pattern.New.TheVariants as new
 use Rattle.patterns_book.specs.Fitting.{content_with, kind_at}
 use Rattle.patterns_book.specs.Matching.{Header, giver_head, known, standing, when}
-use Rattle.patterns_book.specs.Names.{are_none, operands_of}
+use Rattle.patterns_book.specs.Names.{operands_of}
 use Rattle.patterns_book.specs.Planning.{kind_standing, new_place, old_place, outcomes, planned, planned_by, typed}
 use Rattle.patterns_book.specs.Shapes.{Shape}
 use Rattle.patterns_book.specs.WellFormed.{form_stands, is_new, is_type, new_ends, new_stands, news_stand}
 use Rattle.patterns_makeable.specs.Makeable.{new_type}
 use Rattle.patterns_matched.proofs.Found.{when_is}
 use Rattle.patterns_own.specs.Own.{OwnAreAccepted, own_rewrite}
-use Rattle.patterns_meaning.specs.Meaning.{Assignment, Breaks, Fits, IsOfType, has_flags, is_arithmetic, owner, makes}
+use Rattle.patterns_meaning.proofs.Flags.{AreUnflagged}
+use Rattle.patterns_meaning.specs.Meaning.{Assignment, IsOfType, is_arithmetic, owner, makes, Obeys, breaks_by, breaks_flags, flags_of, result_kind}
 use Rattle.patterns_meaning.specs.Applied.{Goes, IsFound, IsProper, kinds_matched, matched}
 use Rattle.patterns_meaning.specs.Better.{kind_in}
 use Rattle.patterns_meaning.specs.Improving.{makes_no_quotient, is_quotient}
@@ -54,7 +50,7 @@ use Rattle.patterns_meaning.specs.Keeping.{Computing, Improves, IsFed, IsReady, 
 use Rattle.patterns_meaning.specs.Passing.{AppliedIsFound, CheckedPassingKeep, FoundAt, PassingKeep, is_kinded_at, kinds_there, new_is_defined, piece_passes, is_always_defined, passes_poison}
 use Rattle.patterns_meaning.proofs.Applying.{Applies, applies}
 use Rattle.patterns_meaning.proofs.Formed.{is_below}
-use Rattle.patterns_meaning.proofs.Forms.{MakesIt, constant_there, giver_of, makes_is, named_is, rule_for}
+use Rattle.patterns_meaning.proofs.Forms.{MakesIt, constant_there, giver_of, makes_is, named_is, rule_for, by_constant}
 use Rattle.patterns_meaning.proofs.Giving.{Making, after_new, given_improves}
 use Rattle.patterns_meaning.proofs.Going.{formed_parts, made_parts, planned_as, planned_there, plans_go}
 use Rattle.patterns_meaning.proofs.Improved.{AreNoQuotients, new_ready, no_quotients}
@@ -63,7 +59,7 @@ use Rattle.patterns_meaning.proofs.News.{HasNumbers, ShowsNew, extended, extende
 use Rattle.patterns_meaning.proofs.OfBits.{AllOfBits}
 use Rattle.patterns_meaning.proofs.OfKinds.{OfKinds}
 use Rattle.patterns_meaning.proofs.Olds.{AllAre, form_places}
-use Rattle.patterns_meaning.proofs.Rewritten.{AllPut}
+use Rattle.patterns_meaning.proofs.Rewritten.{AllPut, all_unflagged}
 use Rattle.patterns_meaning.proofs.Settling.{typed_bits}
 use Rattle.patterns_meaning.proofs.Standing.{Stands, ValuesStand, standing_stands, stands_standing}
 use Rattle.patterns_meaning.proofs.StaysReady.{stays_kinds, stays_ready}
@@ -74,39 +70,14 @@ use Rattle.patterns_meaning.proofs.PassingMade.{AreBuilt, IsBuilt, IsPlace, are_
 use Rattle.std.proofs.lemmas.List.{get_or_past}
 use Rattle.patterns_meaning.proofs.Beginning.{outcomes_long}
 
--- ---- constants have no flags
-no_key : is_inherent (codes "arith.constant") (codes "overflowFlags") ≡ false
-unfolding is_inherent operations
-no_key = refl
-
-none_beside : (props : List (List ℕ × AttrTerm)) → list_all (is_property (codes "arith.constant")) props ≡ true → beside (codes "overflowFlags") props ≡ None
-none_beside [] e = refl
-none_beside (r ∷ props) e =
-    let p = and_parts (is_property (codes "arith.constant") r) (list_all (is_property (codes "arith.constant")) props) e in
-    go (bytes_eq (codes "overflowFlags") r.0) refl (and_parts (is_inherent (codes "arith.constant") r.0) _ p.0).0 (none_beside props p.1)
-  where
-    go : (b : Bool) → bytes_eq (codes "overflowFlags") r.0 ≡ b → is_inherent (codes "arith.constant") r.0 ≡ true → beside (codes "overflowFlags") props ≡ None → (if b then Some r.1 else beside (codes "overflowFlags") props) ≡ None
-    go false i t n = n
-    go true i t n = absurd (true≢false (sym t ∙ ap (is_inherent (codes "arith.constant")) (sym ((bytes_eq-Decides (codes "overflowFlags") r.0).0 i)) ∙ no_key))
-
-its_properties : (name : List ℕ) (props : List (List ℕ × AttrTerm)) (operands : List (Option Known)) (results : List TypeTerm) (y : Known) → fold_of name props operands results ≡ Some y → list_all (is_property name) props ≡ true
-unfolding fold_of
-its_properties name props operands [] y e = absurd (none-some y e)
-its_properties name props operands (ty ∷ uy ∷ tys) y e = absurd (none-some y e)
-its_properties name props operands (ty ∷ []) y e = go (list_all (is_property name) props) (with (λ r. with (λ k. option_map (λ bits. (k, bits)) (fold_by r props k operands)) (kind_of ty)) (rule_of name)) e
-  where
-    go : (b : Bool) (o : Option Known) → (if b then o else None) ≡ Some y → b ≡ true
-    go true o e = refl
-    go false o e = absurd (none-some y e)
-
-flagless : (t : Operation) (clean : Header → Bool) (v : Value) (y : Known) (h : Header) → known t clean v ≡ Some y → giver_head t clean v ≡ Some h → has_flags h ≡ false
-flagless t clean v y h e f =
+-- ---- constants break no flags
+flagless : (t : Operation) (clean : Header → Bool) (v : Value) (y : Known) (h : Header) (xs : List Outcome) → known t clean v ≡ Some y → giver_head t clean v ≡ Some h → breaks_flags h xs ≡ false
+flagless t clean v y h xs e f =
     let g = given_some (giver_head t clean v) (λ h. when (named (codes "arith.constant") h.name) (fold_of h.name h.properties [] h.results)) y e in
     let w = when_is (named (codes "arith.constant") g.0.name) (fold_of g.0.name g.0.properties [] g.0.results) y g.2 in
-    let all = its_properties g.0.name g.0.properties [] g.0.results y w.1 in
     let same : g.0 ≡ h = same_Some _ _ (sym g.1 ∙ f) in
-    subst (λ (h : Header). has_flags h ≡ false) same
-    (ap (λ o. not (are_none o)) (none_beside g.0.properties (subst (λ name. list_all (is_property name) g.0.properties ≡ true) (named_is (codes "arith.constant") g.0.name w.0) all)))
+    ap (λ r. breaks_by r (flags_of h) (result_kind h) xs)
+    (ap (λ (h : Header). rule_of h.name) (sym same) ∙ ap rule_of (named_is (codes "arith.constant") g.0.name w.0) ∙ by_constant)
 
 -- ---- what divides nothing makes no quotients
 divided : (o : Arithmetic) (i j : ℕ) → not (divides o) ≡ true → not (is_quotient (form.Pair o i j)) ≡ true
@@ -156,6 +127,9 @@ module _ (m : Module) (p : Shape) (x : ℕ) (passing : list_all piece_passes p.o
 
   pub root_within : x < m.next
   root_within = value_below m.next t (is_below m.next t ready.formed.below) (Result x 0) q.root
+
+  its_unflagged : AreUnflagged os
+  its_unflagged = all_unflagged q.types q.parts.env m.next (new_place p) p.new q.here q.parts.last os q.parts.made
 
   plain : AreNoQuotients os
   plain = no_quotients q.types q.parts.env m.next (new_place p) p.new q.here q.parts.last os (made_parts p proper.makeable).named (none_divided p.new defined) q.parts.made
@@ -244,7 +218,7 @@ module _ (m : Module) (p : Shape) (x : ℕ) (passing : list_all piece_passes p.o
           agrees = λ w l. all_agree a m.next None zs w l;
           bare = all_bare all_kinds os its_kinds its_made;
           typed = all_typed c done m.next x all_kinds m.next os its_kinds zs its_made give at;
-          ready = all_ready c done m.next x m.next os its_kinds zs (omega arith) give at;
+          ready = all_ready c done m.next x all_kinds m.next os its_kinds zs (omega arith) its_made give at;
           fed = fed;
           numbers = all_numbers all_kinds m.next os its_kinds its_made;
           better = λ i. absurd (true≢false (sym i ∙ d));
@@ -259,9 +233,9 @@ module _ (m : Module) (p : Shape) (x : ℕ) (passing : list_all piece_passes p.o
         fits h f arithmetic =
             let g = giver_of t (is_clean t) v h f in
             let is : done g.id ≡ true = ap (is_there done) (sym g.value) ∙ there_all d i v s in
-            elim (subst (λ (h : Header). is_arithmetic h ≡ true → Fits a g.id h ⊎ Breaks a g.id h) g.heads (found_fit a done t computing.fits g.id g.here g.found is) arithmetic) [
-              | inl k ↦ subst (λ w. makes h (map a h.operands) ≡ Some (a w)) (sym g.value) k
-              | inr b ↦ absurd (true≢false (sym b.0 ∙ flagless t (is_clean t) v y h e f))
+            elim (subst (λ (h : Header). is_arithmetic h ≡ true → Obeys a g.id h) g.heads (found_fit a done t computing.fits g.id g.here g.found is) arithmetic) [
+              | inl k ↦ subst (λ w. makes h (map a h.operands) ≡ Some (a w)) (sym g.value) k.0
+              | inr b ↦ absurd (true≢false (sym b.0 ∙ flagless t (is_clean t) v y h (map a h.operands) e f))
             ]
 
     -- outcomes at all places: of variables, and the numbers that are planned
@@ -384,7 +358,7 @@ module _ (m : Module) (p : Shape) (x : ℕ) (passing : list_all piece_passes p.o
           agrees = extended_agrees a m.next (new_place p) r.0;
           bare = all_bare all_kinds os its_kinds its_made;
           typed = n.2;
-          ready = new_ready c later m.next os n.0 plain;
+          ready = new_ready c later m.next os n.0 plain its_unflagged;
           fed = fed;
           numbers = all_numbers all_kinds m.next os its_kinds its_made;
           better = λ i. ap (λ o. refines o (c value)) (extended_agrees a m.next (new_place p) r.0 (Result x 0) root_within ∙ none);
@@ -402,8 +376,8 @@ module _ (m : Module) (p : Shape) (x : ℕ) (passing : list_all piece_passes p.o
         let k = giver_kinds m ready v h e f r in
         let d = ap (is_there done) (sym g.value) ∙ i.there in
         let known = ap (λ v. is_some (a v)) (sym g.value) ∙ i.known in
-        elim (subst (λ (h : Header). is_arithmetic h ≡ true → Fits a g.id h ⊎ Breaks a g.id h) g.heads (found_fit a done t computing.fits g.id g.here g.found d) k.arithmetic) [
-          | inl z ↦ each_mapped a is_some h.operands (operands_known f h k.kind (map a h.operands) (a (Result g.id 0)) s known (sym (makes_is h (map a h.operands) (rule_for f) k.kind r k.is) ∙ z)) w n
+        elim (subst (λ (h : Header). is_arithmetic h ≡ true → Obeys a g.id h) g.heads (found_fit a done t computing.fits g.id g.here g.found d) k.arithmetic) [
+          | inl z ↦ each_mapped a is_some h.operands (operands_known f h k.kind (map a h.operands) (a (Result g.id 0)) s known (sym (makes_is h (map a h.operands) (rule_for f) k.kind r k.is) ∙ z.0)) w n
           | inr b ↦ absurd (true≢false (sym known ∙ ap is_some b.2))
         ]
 
@@ -442,7 +416,7 @@ module _ (m : Module) (p : Shape) (x : ℕ) (passing : list_all piece_passes p.o
             agrees = g.agrees;
             bare = all_bare all_kinds os its_kinds its_made;
             typed = g.typed;
-            ready = new_ready g.after later m.next os g.fits plain;
+            ready = new_ready g.after later m.next os g.fits plain its_unflagged;
             fed = fed;
             numbers = all_numbers all_kinds m.next os its_kinds its_made;
             better = λ i. subst (λ o. refines o (g.after value) ≡ true) (sym (g.agrees (Result x 0) root_within)) g.refined;

@@ -40,6 +40,7 @@ use Rattle.patterns_book.specs.Planning.{all_made, entries_by, kind_standing, ma
 use Rattle.patterns_book.specs.Shapes.{Shape}
 use Rattle.patterns_book.specs.WellFormed.{form_stands, is_new, is_number, is_type, new_ends, new_stands, news_stand, old_begins}
 use Rattle.patterns_makeable.specs.Makeable.{has_name, is_named, new_type}
+use Rattle.patterns_meaning.proofs.Flags.{entries_unset}
 use Rattle.patterns_meaning.specs.Meaning.{Assignment, owner}
 use Rattle.patterns_meaning.specs.Applied.{IsProper, form_fits, further_kind, kinds_behind, kinds_given, kinds_matched, new_fits, news_fit, number_kind, piece_kind}
 use Rattle.patterns_meaning.specs.Better.{is_signed_quotient, kind_in, narrows, takes, takes_its}
@@ -145,6 +146,7 @@ form_made g f vs term k es n of width t same =
       of = of;
       bare = refl;
       numeric = ap is_some (form_rule f n);
+      unset = entries_unset (predicate_of f) (name_of f);
       risen = form_rises f vs term;
       takes = ap by_rule (form_rule f n) ∙ and_from (is_width (width_of k)) (takes (rule_for f) h k (map g vs)) width (ap (takes (rule_for f) h k) same ∙ takes_form es h k f ∙ t);
     }

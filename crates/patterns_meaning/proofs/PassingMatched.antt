@@ -1,5 +1,6 @@
 -- What stands where a pattern that matches no choices is matched in a ready module.
-use Rattle.std.proofs.Common.{◌≡◌, ℕ, zero, suc, ◌+◌, ◌-◌, ◌<◌, refl, ap, sym, ◌∙◌, subst, List, [], ◌∷◌, ◌++◌, length, map, Bool, true, false, true≢false, ◌&&◌, not, eqb, Option, Some, None, slice_get, ◌⊎◌, inl, inr, arith}
+use Rattle.std.proofs.Common.{◌≡◌, ℕ, zero, suc, ◌+◌, ◌-◌, ◌<◌, refl, ap, sym, ◌∙◌, subst, List, [], ◌∷◌, ◌++◌, length, map, Bool, true, false, true≢false, ◌&&◌, eqb, Option, Some, None, slice_get, ◌⊎◌, inl, inr, arith}
+use Rattle.ir_tree.specs.Ids.{find}
 use Rattle.std.specs.Prelude.{codes, is_some, if◌then◌else◌, option_map}
 use Rattle.std.specs.List.{list_all, list_any, range_with_len}
 use Rattle.std.proofs.lemmas.Bool.{and_parts}
@@ -29,7 +30,7 @@ use Rattle.dialects_int.specs.declared.operations.Rule.TheVariants as how
 use Rattle.dialects_int.specs.Folds.{Known, asked, fold_of, kind_of, property_of, rule_of, same_kind}
 use Rattle.patterns_laws.specs.Words.{named}
 use Rattle.patterns_laws.proofs.KnownFolds.{given_some, kind_back}
-use Rattle.patterns_check.specs.Outcomes.{Outcome, compare_outcome, divides, given, is_some_number, pair_outcome, resize_outcome, run}
+use Rattle.patterns_check.specs.Outcomes.{Outcome, compare_outcome, given, pair_outcome, resize_outcome, run}
 use Rattle.patterns_check.proofs.Behind.{run_behind}
 use Rattle.patterns_check.specs.Contents.{Content}
 use Rattle.patterns_base.specs.Looks.{is_clean}
@@ -45,7 +46,8 @@ use Rattle.patterns_book.specs.Planning.{kind_standing, known_at, old_place, out
 use Rattle.patterns_book.specs.Shapes.{Shape}
 use Rattle.patterns_makeable.specs.Makeable.{has_name}
 use Rattle.patterns_matched.proofs.Found.{all_from, bound_from, when_is}
-use Rattle.patterns_meaning.specs.Meaning.{Assignment, makes_by, of_one, of_two, result_kind, is_arithmetic}
+use Rattle.patterns_meaning.proofs.FlagsKept.{known_one, known_pair, known_resized, known_two}
+use Rattle.patterns_meaning.specs.Meaning.{Assignment, makes_by, of_two, result_kind, is_arithmetic}
 use Rattle.patterns_meaning.specs.Applied.{AreOfKinds, IsProper, further_kind, kinds_behind, kinds_given, matched}
 use Rattle.patterns_meaning.specs.Better.{are_its_bits, is_kind, is_kinded, kind_in, narrows, takes, is_arithmetic_there}
 use Rattle.patterns_meaning.specs.Keeping.{IsReady}
@@ -53,11 +55,12 @@ use Rattle.patterns_meaning.specs.Passing.{passes_poison, piece_passes}
 use Rattle.patterns_meaning.proofs.Beginning.{outcomes_at, outcomes_long}
 use Rattle.patterns_meaning.proofs.Forms.{by_constant, fold_kind, form_rule, giver_of, giver_type, kind_is, named_is, rule_for}
 use Rattle.patterns_meaning.proofs.Going.{AreTyped, IsPlanned, formed_parts, has_type, made_parts, matched_parts, planned_as, planned_there, typed_at, typed_parts}
-use Rattle.patterns_meaning.proofs.Monotone.{none_made}
 use Rattle.patterns_meaning.proofs.OfBits.{AllOfBits, run_bits}
 use Rattle.patterns_meaning.proofs.OfKinds.{OfKinds, furthers_run, numbers_run}
+use Rattle.patterns_meaning.proofs.Rooted.{hold_at, named_at}
 use Rattle.patterns_meaning.proofs.Ruled.{OfRule, known_kinds, rule_kinds}
-use Rattle.patterns_meaning.proofs.Standing.{AllHold, Holds, Stands, one_stands, standing_stands, stands_standing}
+use Rattle.patterns_meaning.proofs.Standing.{AllHold, Stands, one_stands, standing_stands, stands_standing}
+use Rattle.patterns_meaning.proofs.Verified.{HasKind, clean_has_kind}
 use Rattle.patterns_meaning.proofs.Trees.{each_found}
 use Rattle.patterns_meaning.specs.Observing.{is_computed}
 
@@ -163,34 +166,10 @@ module _ (h : Header) (k : BitsKind) where
   operands_of_kinds (form.IndexCast c i) js s e = index_kind c js e
 
 -- they are known where what is made of them is
-known_pair : (o : Arithmetic) (x y z : Outcome) → is_some z ≡ true → pair_outcome o x y ≡ Some z → (is_some x ≡ true) × (is_some y ≡ true)
-known_pair o (Some x) (Some y) z k e = (refl, refl)
-known_pair o (Some x) None z k e = absurd (true≢false (sym k ∙ ap is_some (none_made (divides o) z e).1))
-known_pair o None y z k e = absurd (true≢false (sym k ∙ ap is_some (none_made (divides o && not (is_some_number y)) z e).1))
-
 known_compared : (p : Predicate) (x y z : Outcome) → is_some z ≡ true → compare_outcome p x y ≡ Some z → (is_some x ≡ true) × (is_some y ≡ true)
 known_compared p (Some x) (Some y) z k e = (refl, refl)
 known_compared p (Some x) None z k e = absurd (true≢false (sym k ∙ ap is_some (sym (same_Some _ _ e))))
 known_compared p None y z k e = absurd (true≢false (sym k ∙ ap is_some (sym (same_Some _ _ e))))
-
-known_resized : (c : Cast) (j : BitsKind) (x z : Outcome) → is_some z ≡ true → resize_outcome c j x ≡ Some z → is_some x ≡ true
-known_resized c j (Some x) z k e = refl
-known_resized c j None z k e = absurd (go (is_width (width_of j)) e)
-  where
-    go : (b : Bool) → (if b then Some None else None) ≡ Some z → ⊥
-    go true e = true≢false (sym k ∙ ap is_some (sym (same_Some _ _ e)))
-    go false e = none-some z e
-
-known_two : (g : Outcome → Outcome → Option Outcome) (z : Outcome) → ((x y : Outcome) → g x y ≡ Some z → (is_some x ≡ true) × (is_some y ≡ true)) → (xs : List Outcome) → of_two g xs ≡ Some z → list_all is_some xs ≡ true
-known_two g z f [] e = absurd (none-some z e)
-known_two g z f (x ∷ []) e = absurd (none-some z e)
-known_two g z f (x ∷ y ∷ []) e = let q = f x y e in (λ i. q.0 i && (q.1 i && true))
-known_two g z f (x ∷ y ∷ w ∷ xs) e = absurd (none-some z e)
-
-known_one : (g : Outcome → Option Outcome) (z : Outcome) → ((x : Outcome) → g x ≡ Some z → is_some x ≡ true) → (xs : List Outcome) → of_one g xs ≡ Some z → list_all is_some xs ≡ true
-known_one g z f [] e = absurd (none-some z e)
-known_one g z f (x ∷ []) e = λ i. f x e i && true
-known_one g z f (x ∷ y ∷ xs) e = absurd (none-some z e)
 
 pub operands_known : (f : Form) (h : Header) (k : BitsKind) (xs : List Outcome) (z : Outcome) → passes_poison f ≡ true → is_some z ≡ true → makes_by (rule_for f) h k xs ≡ Some z → list_all is_some xs ≡ true
 operands_known (form.Pair o i j) h k xs z s known e = known_two (pair_outcome o) z (λ x y e. known_pair o x y z known e) xs e
@@ -246,12 +225,18 @@ module _ (m : Module) (ready : IsReady m) (v : Value) (h : Header) (e : giver_he
       let g = giver_of m.tree (is_clean m.tree) v h e in
       subst (λ h. is_kinded m.tree h ≡ true) g.heads (each_found (λ h. is_kinded m.tree h ≡ true) g.id m.tree ready.kinded g.here g.found).0
 
+  giver_has : HasKind h
+  giver_has =
+      let g = giver_of m.tree (is_clean m.tree) v h e in
+      let f = each_found (λ h. is_kinded m.tree h ≡ true) g.id m.tree ready.kinded g.here g.found in
+      subst HasKind g.heads (clean_has_kind m.tree g.here ready.formed.distinct (ap (λ y. find y m.tree) f.1 ∙ g.found) (ap (is_clean m.tree) g.heads ∙ g.is_clean) f.0)
+
   pub giver_kinds : (f : Form) → rule_of h.name ≡ Some (rule_for f) → OfRule m.tree h (rule_for f)
-  giver_kinds (form.Pair o i j) name = rule_kinds m.tree h giver_kinded (how.Pair o) name
-  giver_kinds (form.Compare q i j) name = rule_kinds m.tree h giver_kinded how.Compare name
-  giver_kinds (form.Select c i j) name = rule_kinds m.tree h giver_kinded how.Select name
-  giver_kinds (form.Resize c i) name = rule_kinds m.tree h giver_kinded (how.Resize c) name
-  giver_kinds (form.IndexCast c i) name = rule_kinds m.tree h giver_kinded (how.IndexCast c) name
+  giver_kinds (form.Pair o i j) name = rule_kinds m.tree h giver_kinded giver_has (how.Pair o) name
+  giver_kinds (form.Compare q i j) name = rule_kinds m.tree h giver_kinded giver_has how.Compare name
+  giver_kinds (form.Select c i j) name = rule_kinds m.tree h giver_kinded giver_has how.Select name
+  giver_kinds (form.Resize c i) name = rule_kinds m.tree h giver_kinded giver_has (how.Resize c) name
+  giver_kinds (form.IndexCast c i) name = rule_kinds m.tree h giver_kinded giver_has (how.IndexCast c) name
 
   giver_known : (r : How) → rule_of h.name ≡ Some r → (k : BitsKind) → result_kind h ≡ Some k → OfRule m.tree h r
   giver_known r name k i = known_kinds m.tree h giver_kinded r name k i
@@ -307,25 +292,6 @@ module _ (m : Module) (p : Shape) (x : ℕ) (passing : list_all piece_passes p.o
     pub kinds : AreOfKinds types
     pub variables : (i : ℕ) (w : Value) → i < length p.values → Stands i w here → IsTypedAs w (kind_at (kinds_first types) i)
 
-  hold_at : (k : ℕ) (ps : List Piece) (b : Standing Value) → AllHold t clean k ps b → (i : ℕ) → i < length ps → (q : Piece) × (slice_get ps i ≡ Some q) × Holds t clean (k + i) q b
-  hold_at k [] b h i l = absurd (omega (arith, l))
-  hold_at k (q ∷ ps) b h zero l = (q, refl, subst (λ z. Holds t clean z q b) (same k) h.0)
-    where
-      same : (k : ℕ) → k ≡ k + 0
-      same k = omega arith
-  hold_at k (q ∷ ps) b h (suc i) l =
-      let r = hold_at (k + 1) ps b h.1 i (omega (arith, l)) in
-      (r.0, r.1, subst (λ z. Holds t clean z r.0 b) (same k i) r.2)
-    where
-      same : (k i : ℕ) → k + 1 + i ≡ k + suc i
-      same k i = omega arith
-
-  -- what is matched has names
-  named_at : (ps : List Piece) (i : ℕ) (q : Piece) → list_all (λ (o : Piece). has_name o.form) ps ≡ true → slice_get ps i ≡ Some q → has_name q.form ≡ true
-  named_at [] i q e s = absurd (none-some q s)
-  named_at (o ∷ ps) zero q e s = subst (λ (o : Piece). has_name o.form ≡ true) (same_Some o q s) (and_parts (has_name o.form) (list_all (λ (o : Piece). has_name o.form) ps) e).0
-  named_at (o ∷ ps) (suc i) q e s = named_at ps i q (and_parts (has_name o.form) (list_all (λ (o : Piece). has_name o.form) ps) e).1 s
-
   -- the operation that gives what is matched
   record Matched (b : Standing Value) (ts : Standing TypeTerm) (i : ℕ) : Type 0 where
     pub ty : ℕ
@@ -343,7 +309,7 @@ module _ (m : Module) (p : Shape) (x : ℕ) (passing : list_all piece_passes p.o
   matched_at : (b : Standing Value) (ts : Standing TypeTerm) (i : ℕ) → AllHold t clean (old_place p) p.old b → AreTyped t clean m.next p b ts → i < length p.old → Matched b ts i
   matched_at b ts i holds are l =
       let a = typed_at t clean (old_place p) (map Piece.ty p.old) b ts are.pieces i (omega (arith, l, length-map p.old Piece.ty)) in
-      let h = hold_at (old_place p) p.old b holds i l in
+      let h = hold_at t clean (old_place p) p.old b holds i l in
       let w = a.2 in
       let v = h.2 in
       let of : type_of_value v.value t ≡ Some w.term = ap (λ v. type_of_value v t) (one_stands (old_place p + i) v.value w.value b v.stands w.stands) ∙ w.of_value in

@@ -69,7 +69,7 @@ one_type x h (suc k) ty e = absurd (none-some ty e)
 computes : Computing lost all_done doubled.tree
 unfolding folds.fold_of folds.rule_of folds.rules words.operations words.is_inherent words.is_listed properties.is_allowed properties.is_of_kind properties.kind_of properties.kinds registry.row_of rows.rows
 computes = record {
-  fits = ((λ d e. absurd (true≢false (sym e))), ((((λ d e. absurd (true≢false (sym e))), tt), (((λ d e. inl refl), tt), (((λ d e. inl refl), tt), tt))), tt));
+  fits = ((λ d e. absurd (true≢false (sym e))), ((((λ d e. absurd (true≢false (sym e))), tt), (((λ d e. inl (refl, refl)), tt), (((λ d e. inl (refl, refl)), tt), tt))), tt));
   typed = (
     ((λ k ty e. absurd (none-some ty e)), (((one_type 1 tt, tt), ((one_type 2 (refl, refl), tt), ((one_type 3 tt, tt), tt))), tt)),
     (((λ k ty e. absurd (none-some ty e)), (tt, (tt, (tt, tt)))), tt),

@@ -1,5 +1,5 @@
 -- The rule that has a remainder by a division keeps modules ready, and what they compute where no quotient overflows.
-use Rattle.std.proofs.Common.{◌≡◌, ℕ, ◌+◌, ◌<◌, ◌≤◌, ◌^◌, ◌%◌, refl, ap, sym, ◌∙◌, subst, List, [], ◌∷◌, map, Bool, true, false, true≢false, ◌&&◌, not, Option, Some, None, ◌⊎◌, inl, inr, arith}
+use Rattle.std.proofs.Common.{◌≡◌, ℕ, ◌+◌, ◌<◌, ◌≤◌, ◌^◌, ◌%◌, refl, ap, sym, ◌∙◌, subst, List, [], ◌∷◌, map, Bool, true, false, true≢false, ◌&&◌, not, Option, Some, None, inl, inr, arith}
 use Rattle.std.specs.Prelude.{◌==◌, ◌/◌, codes, if◌then◌else◌, int_div, int_rem}
 use Rattle.std.specs.Str.{bytes_eq}
 use Rattle.std.proofs.lemmas.Bool.{and_from}
@@ -36,7 +36,7 @@ use Rattle.patterns_base.specs.Rules.{rule}
 use Rattle.patterns_facts.specs.Accepted.{AreAccepted}
 use Rattle.patterns_facts.proofs.Shapes.{two_is}
 use Rattle.patterns_book.specs.Matching.{Header}
-use Rattle.patterns_meaning.specs.Meaning.{Assignment, Breaks, Fits, makes, of_two}
+use Rattle.patterns_meaning.specs.Meaning.{Assignment, makes, of_two, Obeys}
 use Rattle.patterns_meaning.specs.Better.{is_kind, is_poison_by_ones, is_signed_quotient, kind_in}
 use Rattle.patterns_meaning.specs.Keeping.{KeepsReady, done_after, is_there}
 use Rattle.patterns_meaning.specs.Remainders.{ExpandsRemainders, HasQuotient, is_signed, overflows}
@@ -51,7 +51,7 @@ use Rattle.patterns_meaning.proofs.Monotone.{none_made, same_refined}
 use Rattle.patterns_meaning.proofs.OfBits.{IsOfBits, pair_bits}
 use Rattle.patterns_meaning.proofs.OfKinds.{IsKind, pair_kind}
 use Rattle.patterns_meaning.proofs.Pairs.{IsTotal, binary_gives, binary_made, is_its_kind, pair_known, pair_out}
-use Rattle.patterns_meaning.proofs.Ruled.{Ruled, Site, of_rule, ruled, site_of, value_bits}
+use Rattle.patterns_meaning.proofs.Ruled.{Ruled, Site, of_rule, ruled, site_of, value_bits, root_has}
 use Rattle.patterns_meaning.proofs.Trees.{found_fit}
 
 by_multiply : rule_of (codes "arith.muli") ≡ Some (how.Pair op.Multiply)
@@ -308,8 +308,8 @@ module _ (accepted : AreAccepted) where
             subst (λ vs. of_two (pair_outcome w.divides_it.rest) (map a vs) ≡ Some z.0) w.operands (sym (makes_is h (map a h.operands) (how.Pair w.divides_it.rest) r.kind w.divides_it.by r.is) ∙ z.1),
           )
         where
-          made_there : (h : Header) → Fits a x h ⊎ Breaks a x h → (z : Outcome) × (makes h (map a h.operands) ≡ Some z)
-          made_there h (inl f) = (a (Result x 0), f)
+          made_there : (h : Header) → Obeys a x h → (z : Outcome) × (makes h (map a h.operands) ≡ Some z)
+          made_there h (inl f) = (a (Result x 0), f.0)
           made_there h (inr b) = some_there (makes h (map a h.operands)) b.1
 
       defined : done x ≡ true → pair_outcome w.divides_it.quotient (a w.first) (a w.second) ≡ Some (pair_out w.divides_it.quotient (a w.first) (a w.second))
@@ -362,14 +362,14 @@ module _ (accepted : AreAccepted) where
   expand_remainder_ready m n x ready e =
       let q = ruled accepted ExpandRemainder m n x ready.formed ready.sorted e in
       let w = remains_here m n x q in
-      new_ready ExpandRemainder m n x q (remainder_new m n x q w (on_two_values ExpandRemainder m n x q w.divides_it.rest w.first w.second w.ty ready w.divides_it.by w.operands w.results)) ready
+      new_ready ExpandRemainder m n x q (remainder_new m n x q w (on_two_values ExpandRemainder m n x q w.divides_it.rest w.first w.second w.ty refl ready w.divides_it.by w.operands w.results)) ready
 
   pub expands_remainders : ExpandsRemainders
   expands_remainders m n x o a done ready computing found has e =
       let q = ruled accepted ExpandRemainder m n x ready.formed ready.sorted e in
       let w = remains_here m n x q in
-      let k = on_two_values ExpandRemainder m n x q w.divides_it.rest w.first w.second w.ty ready w.divides_it.by w.operands w.results in
-      let s = site_of m a done x q.here ready.formed ready.kinded computing q.found in
+      let k = on_two_values ExpandRemainder m n x q w.divides_it.rest w.first w.second w.ty refl ready w.divides_it.by w.operands w.results in
+      let s = site_of m a done x q.here ready.formed ready.kinded computing q.found (root_has q ready.formed ready.kinded refl) in
       let same : o ≡ q.here = same_Some _ _ (sym found ∙ q.found) in
       let quotient : done x ≡ true → (is_signed_remainder w.divides_it.rest && overflows (a w.first ∷ a w.second ∷ [])) ≡ false =
       (λ d. sym (λ i. is_signed (w.divides_it.by i) && overflows (map a (w.operands i))) ∙ subst (HasQuotient a done) (ap head same) has (ap done q.id ∙ d)) in

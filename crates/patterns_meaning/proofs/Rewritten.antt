@@ -31,7 +31,8 @@ use Rattle.patterns_book.specs.Matching.{Header, Standing, bound, standing}
 use Rattle.patterns_book.specs.Names.{name_of, operands_of, predicate_of}
 use Rattle.patterns_book.specs.Planning.{all_made, entries_by, made_as, values_at}
 use Rattle.ir_tree.proofs.Replaced.{same_value_true}
-use Rattle.patterns_meaning.specs.Meaning.{AreOfTypes, ArgumentsOfTypes, Assignment, BlocksInRegions, Each, EachBlock, EachInRegions, FitsAll, FitsDone, FitsEach, IsOfType, ResultsOfTypes, TypedEach, makes, makes_by, result_kind}
+use Rattle.patterns_meaning.proofs.Flags.{AreUnflagged, entries_unset, unflagged}
+use Rattle.patterns_meaning.specs.Meaning.{AreOfTypes, ArgumentsOfTypes, Assignment, BlocksInRegions, Each, EachBlock, EachInRegions, FitsAll, FitsDone, FitsEach, IsOfType, ResultsOfTypes, TypedEach, makes, makes_by, result_kind, breaks_flags, has_flags}
 use Rattle.patterns_meaning.specs.Applied.{Agree, IsBelow}
 use Rattle.patterns_meaning.specs.After.{OperandsStand, RewrittenComputes, or_new, with_given, with_made}
 use Rattle.patterns_meaning.proofs.Trees.{value_below}
@@ -80,6 +81,24 @@ module _ (ts : Standing TypeTerm) (env : List Outcome) where
       let m = more_made g.0 (all_made ts env (n + 1) (k + 1) ws h.0) os d h.2 in
       subst AllBare m.2 (one_bare w b g.0 g.1, all_bare (n + 1) (k + 1) ws h.0 d m.0 m.1)
 
+  one_unflagged : (w : New) (b : Standing Value) (o : Operation) → made_as b ts env w ≡ Some o → has_flags (head o) ≡ false
+  one_unflagged (new.Operation p) b o e =
+      let g = given_some (values_at (operands_of p.form) b) (λ vs. given (standing p.ty ts) (λ term. Some (made (name_of p.form) vs term (entries_by (predicate_of p.form) (name_of p.form))))) o e in
+      let l = given_some (standing p.ty ts) (λ term. Some (made (name_of p.form) g.0 term (entries_by (predicate_of p.form) (name_of p.form)))) o g.2 in
+      subst (λ (o : Operation). has_flags (head o) ≡ false) (same_Some _ _ l.2) (entries_unset (predicate_of p.form) (name_of p.form))
+  one_unflagged (new.Constant i t) b o e =
+      let g = given_some (given (slice_get env i) (λ x. x)) (λ (x : Known). given (standing t ts) (λ term. Some (constant term x.1))) o e in
+      let l = given_some (standing t ts) (λ term. Some (constant term g.0.1)) o g.2 in
+      subst (λ (o : Operation). has_flags (head o) ≡ false) (same_Some _ _ l.2) refl
+
+  pub all_unflagged : (n k : ℕ) (ws : List New) (b d : Standing Value) (os : List Operation) → all_made ts env n k ws b ≡ Some (os, d) → AreUnflagged os
+  all_unflagged n k [] b d os e = let s : ([], b) ≡ (os, d) = same_Some _ _ e in subst AreUnflagged (ap (λ (r : List Operation × Standing Value). r.0) s) tt
+  all_unflagged n k (w ∷ ws) b d os e =
+      let g = given_some (made_as b ts env w) (λ o. given (bound same_value k (Result n 0) b) (λ c. option_map (λ (r : List Operation × Standing Value). (o ∷ r.0, r.1)) (all_made ts env (n + 1) (k + 1) ws c))) (os, d) e in
+      let h = given_some (bound same_value k (Result n 0) b) (λ c. option_map (λ (r : List Operation × Standing Value). (g.0 ∷ r.0, r.1)) (all_made ts env (n + 1) (k + 1) ws c)) (os, d) g.2 in
+      let m = more_made g.0 (all_made ts env (n + 1) (k + 1) ws h.0) os d h.2 in
+      subst AreUnflagged m.2 (one_unflagged w b g.0 g.1, all_unflagged (n + 1) (k + 1) ws h.0 d m.0 m.1)
+
 -- ---- the tree with what is made
 module _ (P : Header → Type 0) where
   abbrev pub AllPut : ℕ → List Operation → Type 0
@@ -116,9 +135,12 @@ module _ (a c : Assignment) (n x : ℕ) (v : Value) (done : ℕ → Bool) where
   abbrev IsFit : Header → Type 0
   IsFit h = FitsDone c (or_new n done) h
 
-  new_fit : (m : ℕ) (os : List Operation) → FitsEach c m os → AllPut IsFit m os
-  new_fit m [] s = tt
-  new_fit m (o ∷ os) s = ((λ h1 h2. inl (same_makes (head o) m (head o).operands (map c (head o).operands) ∙ s.0)), new_fit (m + 1) os s.1)
+  new_fit : (m : ℕ) (os : List Operation) → FitsEach c m os → AreUnflagged os → AllPut IsFit m os
+  new_fit m [] s u = tt
+  new_fit m (o ∷ os) s u = (
+    (λ h1 h2. inl (same_makes (head o) m (head o).operands (map c (head o).operands) ∙ s.0, unflagged (head o) (map c (head o).operands) u.0)),
+    new_fit (m + 1) os s.1 u.1,
+  )
 
   module _ (agree : Agree n a c) (t : Operation) (below : IsBelow n t) where
     pub operands_same : (vs : List Value) → list_all (λ v. has_value v t) vs ≡ true → map c vs ≡ map a vs
@@ -144,10 +166,11 @@ module _ (a c : Assignment) (n x : ℕ) (v : Value) (done : ℕ → Bool) where
         one : (h : Header) → IsKnown h → list_all (λ v. has_value v t) h.operands ≡ true → IsFit h
         one h p q is arithmetic =
             let operands = ap (makes h) (operands_same h.operands q) in
+            let broken = ap (breaks_flags h) (operands_same h.operands q) in
             let result = agree (Result h.id 0) p.1 in
             elim (p.0 (was_done h.id p.1 is) arithmetic) [
-              | inl f ↦ inl (operands ∙ f ∙ ap (λ o. Some o) (sym result))
-              | inr f ↦ inr (f.0, ap is_some operands ∙ f.1, result ∙ f.2)
+              | inl f ↦ inl (operands ∙ f.0 ∙ ap (λ o. Some o) (sym result), broken ∙ f.1)
+              | inr f ↦ inr (broken ∙ f.0, ap is_some operands ∙ f.1, result ∙ f.2)
             ]
 
     -- so it is below any id from there on, and of its types
@@ -179,7 +202,8 @@ module _ (a c : Assignment) (n x : ℕ) (v : Value) (done : ℕ → Bool) where
         change : (h : Header) → IsFit h → IsFit (put_values (Result x 0) v h)
         change h p is arithmetic =
             let same = same_makes h h.id (map (put_value (Result x 0) v) h.operands) (map c (map (put_value (Result x 0) v) h.operands)) ∙ ap (makes h) (values_same h.operands) in
-            elim (p is arithmetic) [ inl f ↦ inl (same ∙ f) | inr f ↦ inr (f.0, ap is_some same ∙ f.1, f.2) ]
+            let broken = ap (breaks_flags h) (values_same h.operands) in
+            elim (p is arithmetic) [ inl f ↦ inl (same ∙ f.0, broken ∙ f.1) | inr f ↦ inr (broken ∙ f.0, ap is_some same ∙ f.1, f.2) ]
 
   pub given_each : (P : Header → Type 0) → ((h : Header) → P h → P (put_values (Result x 0) v h)) → (t : Operation) → Each P t → Each P (with_given x v t)
   given_each P change t s = each_without P x (with_value_replaced (Result x 0) v t) (each_changed P P (put_values (Result x 0) v) change t s)
@@ -205,7 +229,7 @@ rewritten_computes t clean n p x a done front k proper computes operands found c
             (all_put (λ h. h.id < n + length made) front n made t (new_below (n + length made) n made (omega arith)) bare (old_below a c n x v done goes.agrees t computes.below (n + length made) (omega arith)));
         fits =
             given_fits a c n x v done (given_is ∙ sym root_is) (with_made front n made t)
-            (all_put (IsFit a c n x v done) front n made t (new_fit a c n x v done n made goes.fits) bare (old_fits a c n x v done goes.agrees t computes.below computes.fits operands));
+            (all_put (IsFit a c n x v done) front n made t (new_fit a c n x v done n made goes.fits (all_unflagged found.types q.env n _ p.new found.here q.last made q.made)) bare (old_fits a c n x v done goes.agrees t computes.below computes.fits operands));
         typed =
             let old = old_typed a c n x v done goes.agrees t computes.below computes.typed in (
               given_each a c n x v done (ResultsOfTypes c) (λ h p. p) (with_made front n made t) (all_put (ResultsOfTypes c) front n made t (new_typed c n made goes.typed) bare old.0),

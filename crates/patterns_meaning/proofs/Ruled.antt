@@ -1,6 +1,6 @@
 -- What a rule's application at an operation says: its edits, its operation, and what that and its operands give.
-use Rattle.std.proofs.Common.{◌≡◌, ℕ, zero, suc, ◌<◌, refl, ap, sym, ◌∙◌, subst, List, [], ◌∷◌, map, Bool, true, true≢false, ◌&&◌, Option, Some, None, inl, inr, slice_get}
-use Rattle.std.specs.Prelude.{codes, is_some, option_and_then}
+use Rattle.std.proofs.Common.{◌≡◌, ℕ, zero, suc, ◌<◌, refl, ap, sym, ◌∙◌, subst, List, [], ◌∷◌, map, Bool, true, true≢false, false, ◌&&◌, Option, Some, None, inl, inr, slice_get}
+use Rattle.std.specs.Prelude.{codes, if◌then◌else◌, is_some, option_and_then}
 use Rattle.std.specs.List.{list_all}
 use Rattle.std.proofs.lemmas.Bool.{and_parts}
 use Rattle.std.proofs.lemmas.Option.{none-some, same_Some}
@@ -31,7 +31,9 @@ use Rattle.patterns_laws.proofs.KnownFolds.{given_some, given_at}
 use Rattle.patterns_check.specs.Outcomes.{Outcome, given}
 use Rattle.patterns_check.specs.Checks.{refines}
 use Rattle.patterns_base.specs.declared.rule.Rule.{Rule}
-use Rattle.patterns_base.specs.Looks.{constant_value, front_of, giver, is_clean, known, source}
+use Rattle.patterns_base.specs.declared.rule.Rule.TheVariants.{EraseDead}
+use Rattle.patterns_base.specs.RuleNames.{is_erasing}
+use Rattle.patterns_base.specs.Looks.{constant_value, front_of, giver, is_clean, is_in_order, known, source}
 use Rattle.patterns_base.specs.Looks as looks
 use Rattle.patterns_base.specs.Rewrites.{becomes, edits_of, rewrite_of, suits}
 use Rattle.patterns_base.specs.Rules.{rule}
@@ -40,16 +42,17 @@ use Rattle.patterns_facts.specs.Accepted.{AreAccepted}
 use Rattle.patterns_book.specs.Matching.{Header}
 use Rattle.patterns_meaning.specs.Meaning.{Assignment, is_arithmetic, makes_by, result_kind}
 use Rattle.patterns_meaning.specs.Applied.{IsBelow}
-use Rattle.patterns_meaning.specs.Better.{AreKinded, OtherConstantsAreKinded, is_arithmetic_there, is_kinded, kind_in, takes, takes_its}
+use Rattle.patterns_meaning.specs.Better.{AreKinded, OthersAreKinded, is_arithmetic_there, is_kinded, kind_in, takes, takes_its}
 use Rattle.patterns_meaning.specs.Observing.{is_computed}
 use Rattle.patterns_meaning.specs.Keeping.{Computing, IsFed, is_there}
 use Rattle.patterns_meaning.proofs.Applying.{carried, some_edits}
 use Rattle.patterns_meaning.proofs.Formed.{is_below, operands_stand}
 use Rattle.patterns_meaning.proofs.Forms.{by_constant, fold_kind, makes_is, named_is}
 use Rattle.patterns_meaning.proofs.Monotone.{same_refined}
-use Rattle.patterns_meaning.proofs.Numeric.{asks_kind, is_numeric, numeric_named}
+use Rattle.patterns_meaning.proofs.Numeric.{is_numeric, numeric_named}
 use Rattle.patterns_meaning.proofs.OfBits.{IsOfBits}
 use Rattle.patterns_meaning.proofs.Settling.{typed_bits}
+use Rattle.patterns_meaning.proofs.Verified.{HasKind, asks_kind, clean_has_kind, named_select}
 use Rattle.patterns_meaning.proofs.Trees.{TypesFound, each_found, found_fit, types_found}
 
 -- ---- a rule at an operation
@@ -68,6 +71,11 @@ pub record Ruled (r : Rule) (m n : Module) (x : ℕ) : Type 0 where
   pub module_is : all_edited edits m ≡ n
   pub within : x < m.next
   pub numeric : is_numeric r ≡ true → asks_kind (rule_of (head here).name) ≡ true
+  pub clean : is_erasing r ≡ false → is_clean m.tree (head here) ≡ true
+
+suited_clean : (r : Rule) (t : Operation) (h : Header) → suits r t h ≡ true → is_erasing r ≡ false → is_clean t h ≡ true
+unfolding suits
+suited_clean r t h s e = sym (ap (λ b. if b then is_in_order t h else is_clean t h) e) ∙ s
 
 pub ruled : AreAccepted → (r : Rule) (m n : Module) (x : ℕ) → IsWellFormed is_isolated m → IsSorted m → rewrite_of r m x ≡ becomes n → Ruled r m n x
 ruled accepted r m n x formed sorted e =
@@ -88,7 +96,18 @@ ruled accepted r m n x formed sorted e =
       module_is = carried m n s.0 s.2;
       within = subst (λ y. y < m.next) b.1 b.0;
       numeric = λ i. numeric_named r m.tree m.next f.0 g.0 s.0 i w.1;
+      clean = suited_clean r m.tree (head g.0) w.0;
     }
+
+-- its result has a kind, but for a rule that erases
+pub root_has : {r : Rule} {m n : Module} {x : ℕ} → (q : Ruled r m n x) → IsWellFormed is_isolated m → AreKinded m.tree → is_erasing r ≡ false → HasKind (head q.here)
+root_has {r} {m} {n} {x} q formed kinded e =
+    clean_has_kind m.tree q.here formed.distinct (ap (λ y. find y m.tree) q.id ∙ q.found) (q.clean e) (each_found (λ h. is_kinded m.tree h ≡ true) x m.tree kinded q.here q.found).0
+
+-- a rule of arithmetic doesn't erase
+pub numeric_stays : (r : Rule) → is_numeric r ≡ true → is_erasing r ≡ false
+numeric_stays EraseDead e = absurd (true≢false (sym e))
+numeric_stays r e = refl
 
 -- ---- what its operation and its operands give
 pub record Site (m : Module) (a : Assignment) (done : ℕ → Bool) (x : ℕ) (o : Operation) : Type 0 where
@@ -99,9 +118,11 @@ pub record Site (m : Module) (a : Assignment) (done : ℕ → Bool) (x : ℕ) (o
   pub values : list_all (λ v. has_value v m.tree) (head o).operands ≡ true
   pub fed : done x ≡ true → list_all (is_there done) (head o).operands ≡ true
   pub below : IsBelow m.next m.tree
+  pub has : HasKind (head o)
 
-pub site_of : (m : Module) (a : Assignment) (done : ℕ → Bool) (x : ℕ) (o : Operation) → IsWellFormed is_isolated m → AreKinded m.tree → Computing a done m.tree → find x m.tree ≡ Some o → Site m a done x o
-site_of m a done x o formed kinded computing e = record {
+pub site_of : (m : Module) (a : Assignment) (done : ℕ → Bool) (x : ℕ) (o : Operation) → IsWellFormed is_isolated m → AreKinded m.tree → Computing a done m.tree → find x m.tree ≡ Some o → HasKind (head o) → Site m a done x o
+site_of m a done x o formed kinded computing e has = record {
+  has = has;
   found = e;
   computing = computing;
   types = types_found a m.tree computing.typed;
@@ -126,11 +147,19 @@ known_kinds t h kinded r e k i =
     let p = and_parts (is_width (width_of k)) (takes r h k js) (subst (λ o. takes_its (Some r) o h js ≡ true) i (subst (λ q. takes_its q (result_kind h) h js ≡ true) e kinded)) in
     record { kind = k; is = i; operands = p.1; width = p.0; arithmetic = (λ j. is_some (e j) && is_some (i j)) }
 
--- a constant of another type is of the kinds that it asks for
-pub other_constants_are_kinded : OtherConstantsAreKinded
-other_constants_are_kinded t h name none =
-    let js = map (kind_in t) h.operands in
-    ap (λ r. takes_its r (result_kind h) h js) (ap rule_of name ∙ by_constant) ∙ ap (λ k. takes_its (Some how.Constant) k h js) none
+-- an operation whose result has no kind is of the kinds that it asks for
+pub others_are_kinded : OthersAreKinded
+others_are_kinded t h other none =
+    ap (λ k. takes_its (rule_of h.name) k h (map (kind_in t) h.operands)) none ∙ go (rule_of h.name) refl
+  where
+    go : (q : Option How) → rule_of h.name ≡ q → takes_its (rule_of h.name) None h (map (kind_in t) h.operands) ≡ true
+    go None e = ap (λ q. takes_its q None h (map (kind_in t) h.operands)) e
+    go (Some how.Constant) e = ap (λ q. takes_its q None h (map (kind_in t) h.operands)) e
+    go (Some (how.Pair o)) e = ap (λ q. takes_its q None h (map (kind_in t) h.operands)) e
+    go (Some how.Compare) e = ap (λ q. takes_its q None h (map (kind_in t) h.operands)) e
+    go (Some how.Select) e = absurd (true≢false (sym (named_select h.name e) ∙ other))
+    go (Some (how.Resize c)) e = ap (λ q. takes_its q None h (map (kind_in t) h.operands)) e
+    go (Some (how.IndexCast c)) e = ap (λ q. takes_its q None h (map (kind_in t) h.operands)) e
 
 -- so it has, but for constants
 abbrev pub KindsOf : Operation → Header → How → Type 0
@@ -141,50 +170,48 @@ KindsOf t h how.Select = OfRule t h how.Select
 KindsOf t h (how.Resize c) = OfRule t h (how.Resize c)
 KindsOf t h (how.IndexCast c) = OfRule t h (how.IndexCast c)
 
-pub rule_kinds : (t : Operation) (h : Header) → is_kinded t h ≡ true → (r : How) → rule_of h.name ≡ Some r → KindsOf t h r
-rule_kinds t h kinded r e = go r e (result_kind h) refl (subst (λ q. takes_its q (result_kind h) h (map (kind_in t) h.operands) ≡ true) e kinded)
+pub rule_kinds : (t : Operation) (h : Header) → is_kinded t h ≡ true → HasKind h → (r : How) → rule_of h.name ≡ Some r → KindsOf t h r
+rule_kinds t h kinded has r e = go r e (result_kind h) refl
   where
-    go : (r : How) → rule_of h.name ≡ Some r → (k : Option BitsKind) → result_kind h ≡ k → takes_its (Some r) k h (map (kind_in t) h.operands) ≡ true → KindsOf t h r
-    go how.Constant e k i f = tt
-    go (how.Pair o) e None i f = absurd (true≢false (sym f))
-    go (how.Pair o) e (Some k) i f = known_kinds t h kinded (how.Pair o) e k i
-    go how.Compare e None i f = absurd (true≢false (sym f))
-    go how.Compare e (Some k) i f = known_kinds t h kinded how.Compare e k i
-    go how.Select e None i f = absurd (true≢false (sym f))
-    go how.Select e (Some k) i f = known_kinds t h kinded how.Select e k i
-    go (how.Resize c) e None i f = absurd (true≢false (sym f))
-    go (how.Resize c) e (Some k) i f = known_kinds t h kinded (how.Resize c) e k i
-    go (how.IndexCast c) e None i f = absurd (true≢false (sym f))
-    go (how.IndexCast c) e (Some k) i f = known_kinds t h kinded (how.IndexCast c) e k i
+    never : {A : Type 0} → (r : How) → rule_of h.name ≡ Some r → asks_kind (Some r) ≡ true → result_kind h ≡ None → A
+    never r e a i = absurd (true≢false (sym (sym (ap is_some i) ∙ has (ap asks_kind e ∙ a))))
+
+    go : (r : How) → rule_of h.name ≡ Some r → (k : Option BitsKind) → result_kind h ≡ k → KindsOf t h r
+    go how.Constant e k i = tt
+    go (how.Pair o) e None i = never (how.Pair o) e refl i
+    go (how.Pair o) e (Some k) i = known_kinds t h kinded (how.Pair o) e k i
+    go how.Compare e None i = never how.Compare e refl i
+    go how.Compare e (Some k) i = known_kinds t h kinded how.Compare e k i
+    go how.Select e None i = never how.Select e refl i
+    go how.Select e (Some k) i = known_kinds t h kinded how.Select e k i
+    go (how.Resize c) e None i = never (how.Resize c) e refl i
+    go (how.Resize c) e (Some k) i = known_kinds t h kinded (how.Resize c) e k i
+    go (how.IndexCast c) e None i = never (how.IndexCast c) e refl i
+    go (how.IndexCast c) e (Some k) i = known_kinds t h kinded (how.IndexCast c) e k i
 
 -- an operation of a rule is arithmetic, where it is of the kinds that it asks for, and no constant
-pub named_arithmetic : (t : Operation) (h : Header) → is_kinded t h ≡ true → asks_kind (rule_of h.name) ≡ true → is_arithmetic h ≡ true
-named_arithmetic t h kinded e = go (rule_of h.name) refl e
+pub named_arithmetic : (h : Header) → HasKind h → asks_kind (rule_of h.name) ≡ true → is_arithmetic h ≡ true
+named_arithmetic h has e = (λ i. is_some (rule_of h.name) && has e i) ∙ go (rule_of h.name) e
   where
-    go : (q : Option How) → rule_of h.name ≡ q → asks_kind q ≡ true → is_arithmetic h ≡ true
-    go None i e = absurd (true≢false (sym e))
-    go (Some how.Constant) i e = absurd (true≢false (sym e))
-    go (Some (how.Pair o)) i e = (rule_kinds t h kinded (how.Pair o) i).arithmetic
-    go (Some how.Compare) i e = (rule_kinds t h kinded how.Compare i).arithmetic
-    go (Some how.Select) i e = (rule_kinds t h kinded how.Select i).arithmetic
-    go (Some (how.Resize c)) i e = (rule_kinds t h kinded (how.Resize c) i).arithmetic
-    go (Some (how.IndexCast c)) i e = (rule_kinds t h kinded (how.IndexCast c) i).arithmetic
+    go : (q : Option How) → asks_kind q ≡ true → (is_some q && true) ≡ true
+    go None e = absurd (true≢false (sym e))
+    go (Some q) e = refl
 
 -- what its result is, is computed
-pub computed_root : (r : Rule) (m n : Module) (x : ℕ) (q : Ruled r m n x) → AreKinded m.tree → asks_kind (rule_of (head q.here).name) ≡ true → is_computed m.tree (Result x 0) ≡ true
-computed_root r m n x q kinded e = ap is_arithmetic_there q.found ∙ named_arithmetic m.tree (head q.here) (each_found (λ h. is_kinded m.tree h ≡ true) x m.tree kinded q.here q.found).0 e
+pub computed_root : (r : Rule) (m n : Module) (x : ℕ) (q : Ruled r m n x) → HasKind (head q.here) → asks_kind (rule_of (head q.here).name) ≡ true → is_computed m.tree (Result x 0) ≡ true
+computed_root r m n x q has e = ap is_arithmetic_there q.found ∙ named_arithmetic (head q.here) has e
 
 module _ (m : Module) (a : Assignment) (done : ℕ → Bool) (x : ℕ) (o : Operation) (s : Site m a done x o) where
   abbrev t : Operation
   t = m.tree
 
   pub of_rule : (r : How) → rule_of (head o).name ≡ Some r → KindsOf m.tree (head o) r
-  of_rule r e = rule_kinds m.tree (head o) s.kinded r e
+  of_rule r e = rule_kinds m.tree (head o) s.kinded s.has r e
 
   -- what it gives refines what is no worse than all that it may make
   pub gives_refined : (r : How) (y : Outcome) → rule_of (head o).name ≡ Some r → (k : OfRule m.tree (head o) r) → done x ≡ true → ((z : Outcome) → makes_by r (head o) k.kind (map a (head o).operands) ≡ Some z → refines z y ≡ true) → refines (a (Result x 0)) y ≡ true
   gives_refined r y e k d f = elim (found_fit a done t s.computing.fits x o s.found d k.arithmetic) [
-    | inl i ↦ f (a (Result x 0)) (sym (makes_is (head o) (map a (head o).operands) r k.kind e k.is) ∙ i)
+    | inl i ↦ f (a (Result x 0)) (sym (makes_is (head o) (map a (head o).operands) r k.kind e k.is) ∙ i.0)
     | inr b ↦ subst (λ z. refines z y ≡ true) (sym b.2) refl
   ]
 
@@ -214,7 +241,7 @@ module _ (m : Module) (a : Assignment) (done : ℕ → Bool) (formed : IsWellFor
       let name = ap rule_of (ap (λ (h : Header). h.name) p.2 ∙ named_is (codes "arith.constant") f.0.name (and_parts (named (codes "arith.constant") f.0.name) (is_clean m.tree f.0) w.0).0) ∙ by_constant in
       let folds : fold_of (head p.0).name (head p.0).properties [] (head p.0).results ≡ Some x = subst (λ (h : Header). fold_of h.name h.properties [] h.results ≡ Some x) (sym head_is) g.2 in
       let first : k ≡ 0 = one_result (head p.0).name (head p.0).properties (head p.0).results x k folds (sym (ap (λ o. is_some (option_and_then (λ (o : Operation). slice_get (head o).results k) o)) p.1) ∙ h) in
-      let s = site_of m a done y p.0 formed kinded computing p.1 in
+      let s = site_of m a done y p.0 formed kinded computing p.1 (λ e. absurd (true≢false (sym (sym (ap asks_kind name) ∙ e)))) in
       subst (λ k. refines (a (Result y k)) (Some x) ≡ true) (sym first)
       (gives_refined m a done y p.0 s how.Constant (Some x) name (known_kinds m.tree (head p.0) s.kinded how.Constant name x.0 (fold_kind (head p.0).name (head p.0).properties [] (head p.0).results x folds)) there
       (λ z i. same_refined z (Some x) (same_Some _ _ (sym i ∙ given_at (fold_of (head p.0).name (head p.0).properties [] (head p.0).results) x (λ x. Some (Some x)) (Some (Some x)) folds refl))))

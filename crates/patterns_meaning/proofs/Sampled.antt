@@ -66,7 +66,7 @@ computes : Computes outcomes all_done 4 tree
 unfolding product_of folds.fold_of folds.rule_of folds.rules words.operations words.is_inherent words.is_listed properties.is_allowed properties.is_of_kind properties.kind_of properties.kinds registry.row_of rows.rows
 computes = record {
   below = (omega arith, (((omega arith, tt), ((omega arith, tt), ((omega arith, tt), tt))), tt));
-  fits = ((λ d e. absurd (true≢false (sym e))), ((((λ d e. absurd (true≢false (sym e))), tt), (((λ d e. inl refl), tt), (((λ d e. inl refl), tt), tt))), tt));
+  fits = ((λ d e. absurd (true≢false (sym e))), ((((λ d e. absurd (true≢false (sym e))), tt), (((λ d e. inl (refl, refl)), tt), (((λ d e. inl (refl, refl)), tt), tt))), tt));
   typed = (
     ((λ k ty e. absurd (none-some ty e)), (((one_type 1 0 (refl, refl), tt), ((one_type 2 0 (refl, refl), tt), ((one_type 3 0 (refl, refl), tt), tt))), tt)),
     (((λ k ty e. absurd (none-some ty e)), (tt, (tt, (tt, tt)))), tt),

@@ -25,8 +25,9 @@ use Rattle.patterns_check.specs.Outcomes.{Outcome, given, pair_outcome}
 use Rattle.patterns_check.proofs.Keeping.{value_refined}
 use Rattle.patterns_laws.proofs.KnownFolds.{given_some}
 use Rattle.patterns_book.specs.Matching.{Header}
-use Rattle.patterns_meaning.specs.Meaning.{ArgumentsOfTypes, Assignment, Breaks, Each, EachBlock, Fits, FitsDone, IsOfType, ResultsOfTypes, has_flags, is_arithmetic, makes, makes_by, of_two, result_kind}
-use Rattle.patterns_meaning.specs.Better.{AllBetter, AreOf, GivesLess, GivesNoLess, IsSure, Settles, is_kinded, is_poison_by_ones, is_signed_quotient, kind_in, may_overflow, gives, is_arithmetic_there}
+use Rattle.patterns_meaning.proofs.FlagsKept.{known_refined, still_unbroken}
+use Rattle.patterns_meaning.specs.Meaning.{ArgumentsOfTypes, Assignment, Each, EachBlock, FitsDone, IsOfType, ResultsOfTypes, is_arithmetic, makes, makes_by, of_two, result_kind, Obeys, breaks_flags}
+use Rattle.patterns_meaning.specs.Better.{AllBetter, AreOf, GivesLess, GivesNoLess, IsSure, Settles, is_kinded, is_poison_by_ones, is_signed_quotient, kind_in, may_overflow, gives, is_arithmetic_there, KeepsFlags}
 use Rattle.patterns_meaning.proofs.Formed.{each_stands}
 use Rattle.patterns_meaning.proofs.Trees.{TypesFound, each_found, types_found}
 use Rattle.patterns_meaning.proofs.OfBits.{IsOfBits}
@@ -123,6 +124,7 @@ module _ (done : ℕ → Bool) (t : Operation) (d : HasDistinctIds t) (kinded : 
     pub sure : (x : ℕ) (o : Operation) → find x t ≡ Some o → done x ≡ true → is_arithmetic (head o) ≡ true → may_overflow (head o) (map a (head o).operands) ≡ false
     pub typed : TypesFound a t
     pub blocks : EachBlock (ArgumentsOfTypes a) t
+    pub flags : (x : ℕ) (o : Operation) → find x t ≡ Some o → done x ≡ true → is_arithmetic (head o) ≡ true → KeepsFlags (head o) (a (Result x 0)) (map a (head o).operands)
 
   bits_there : (a : Assignment) → TypesFound a t → (vs : List Value) → HaveBits (map (kind_in t) vs) (map a vs)
   bits_there a f [] = tt
@@ -137,6 +139,7 @@ module _ (done : ℕ → Bool) (t : Operation) (d : HasDistinctIds t) (kinded : 
     pub value : Known
     pub is_made : makes (head here) (map a (head here).operands) ≡ Some (Some value)
     pub was : a (Result x 0) ≡ None
+    pub unbroken : breaks_flags (head here) (map a (head here).operands) ≡ false
 
   module _ (a : Assignment) (s : Rising a) (y : ℕ) (u : Unsettled a y) where
     abbrev z : Known
@@ -215,8 +218,25 @@ module _ (done : ℕ → Bool) (t : Operation) (d : HasDistinctIds t) (kinded : 
         go true i false = refl
         go true i true = absurd (true≢false (sym (ap (λ x. gives done t (Result x k)) (eqb-true x y i) ∙ given_here) ∙ e))
 
+    -- flags stay unbroken
+    flags : (x : ℕ) (o : Operation) → find x t ≡ Some o → done x ≡ true → is_arithmetic (head o) ≡ true → KeepsFlags (head o) (raised y z a (Result x 0)) (map (raised y z a) (head o).operands)
+    flags x o e i j = go (eqb x y) refl
+      where
+        at : (o : Operation) → u.here ≡ o → breaks_flags (head o) (map (raised y z a) (head o).operands) ≡ false
+        at o same =
+            subst (λ (o : Operation). breaks_flags (head o) (map (raised y z a) (head o).operands) ≡ false) same
+            (still_unbroken (head u.here) (map a (head u.here).operands) (map (raised y z a) (head u.here).operands) (Some z) u.is_made refl (all_better a (raised y z a) better (head u.here).operands) u.unbroken)
+
+        go : (p : Bool) → eqb x y ≡ p → is_some (if p then Some z else a (Result x 0)) ≡ true → breaks_flags (head o) (map (raised y z a) (head o).operands) ≡ false
+        go true k known = at o (one o (ap (λ x. find x t) (sym (eqb-true x y k)) ∙ e))
+        go false k known =
+            let was = s.under x o e i j in
+            still_unbroken (head o) (map a (head o).operands) (map (raised y z a) (head o).operands) was.outcome was.is_made (known_refined (a (Result x 0)) was.outcome was.better known)
+            (all_better a (raised y z a) better (head o).operands) (s.flags x o e i j known)
+
     rises : Rising (raised y z a)
     rises = record {
+      flags = flags;
       under = under;
       sure = λ x o e i j. let was = s.under x o e i j in sure_stays (head o) (map a (head o).operands) (map c (head o).operands) was.outcome (all_better a c better (head o).operands) (s.sure x o e i j) was.is_made;
       typed = types;
@@ -225,26 +245,30 @@ module _ (done : ℕ → Bool) (t : Operation) (d : HasDistinctIds t) (kinded : 
 
   -- ---- whether all fit
   abbrev FitAt : Assignment → ℕ → Type 0
-  FitAt a x = (o : Operation) → find x t ≡ Some o → done x ≡ true → is_arithmetic (head o) ≡ true → Fits a x (head o) ⊎ Breaks a x (head o)
+  FitAt a x = (o : Operation) → find x t ≡ Some o → done x ≡ true → is_arithmetic (head o) ≡ true → Obeys a x (head o)
 
-  fit_one : (a : Assignment) → Rising a → (x : ℕ) (o : Operation) → find x t ≡ Some o → done x ≡ true → is_arithmetic (head o) ≡ true → (Fits a x (head o) ⊎ Breaks a x (head o)) ⊎ Unsettled a x
+  fit_one : (a : Assignment) → Rising a → (x : ℕ) (o : Operation) → find x t ≡ Some o → done x ≡ true → is_arithmetic (head o) ≡ true → Obeys a x (head o) ⊎ Unsettled a x
   fit_one a s x o e i j = let w = s.under x o e i j in go (a (Result x 0)) refl w.outcome w.is_made w.better
     where
-      flagged : (b : Bool) → has_flags (head o) ≡ b → (z : Known) → makes (head o) (map a (head o).operands) ≡ Some (Some z) → a (Result x 0) ≡ None → (Fits a x (head o) ⊎ Breaks a x (head o)) ⊎ Unsettled a x
+      flagged : (b : Bool) → breaks_flags (head o) (map a (head o).operands) ≡ b → (z : Known) → makes (head o) (map a (head o).operands) ≡ Some (Some z) → a (Result x 0) ≡ None → Obeys a x (head o) ⊎ Unsettled a x
       flagged true f z m n = inl (inr (f, ap is_some m, n))
-      flagged false f z m n = inr (record { here = o; found = e; is_done = i; arithmetic = j; value = z; is_made = m; was = n })
+      flagged false f z m n = inr (record { here = o; found = e; is_done = i; arithmetic = j; value = z; is_made = m; was = n; unbroken = f })
 
-      go : (p : Outcome) → a (Result x 0) ≡ p → (q : Outcome) → makes (head o) (map a (head o).operands) ≡ Some q → refines (a (Result x 0)) q ≡ true → (Fits a x (head o) ⊎ Breaks a x (head o)) ⊎ Unsettled a x
-      go (Some k) n q m b = inl (inl (m ∙ ap (λ z. Some z) (value_refined k q (subst (λ p. refines p q ≡ true) n b) ∙ sym n)))
-      go None n None m b = inl (inl (m ∙ ap (λ z. Some z) (sym n)))
-      go None n (Some z) m b = flagged (has_flags (head o)) refl z m n
+      poisoned : (b : Bool) → breaks_flags (head o) (map a (head o).operands) ≡ b → makes (head o) (map a (head o).operands) ≡ Some None → a (Result x 0) ≡ None → Obeys a x (head o) ⊎ Unsettled a x
+      poisoned true f m n = inl (inr (f, ap is_some m, n))
+      poisoned false f m n = inl (inl (m ∙ ap (λ z. Some z) (sym n), f))
+
+      go : (p : Outcome) → a (Result x 0) ≡ p → (q : Outcome) → makes (head o) (map a (head o).operands) ≡ Some q → refines (a (Result x 0)) q ≡ true → Obeys a x (head o) ⊎ Unsettled a x
+      go (Some k) n q m b = inl (inl (m ∙ ap (λ z. Some z) (value_refined k q (subst (λ p. refines p q ≡ true) n b) ∙ sym n), s.flags x o e i j (ap is_some n)))
+      go None n None m b = poisoned (breaks_flags (head o) (map a (head o).operands)) refl m n
+      go None n (Some z) m b = flagged (breaks_flags (head o) (map a (head o).operands)) refl z m n
 
   fit_at : (a : Assignment) → Rising a → (x : ℕ) → FitAt a x ⊎ Unsettled a x
   fit_at a s x = go (find x t) refl (bool_cases (done x))
     where
-      lifted : (o : Operation) → find x t ≡ Some o → (Fits a x (head o) ⊎ Breaks a x (head o)) ⊎ Unsettled a x → FitAt a x ⊎ Unsettled a x
+      lifted : (o : Operation) → find x t ≡ Some o → Obeys a x (head o) ⊎ Unsettled a x → FitAt a x ⊎ Unsettled a x
       lifted o e (inr u) = inr u
-      lifted o e (inl f) = inl (λ p g i j. subst (λ (o : Operation). Fits a x (head o) ⊎ Breaks a x (head o)) (same_Some _ _ (sym e ∙ g)) f)
+      lifted o e (inl f) = inl (λ p g i j. subst (λ (o : Operation). Obeys a x (head o)) (same_Some _ _ (sym e ∙ g)) f)
 
       arithmetic : (o : Operation) → find x t ≡ Some o → done x ≡ true → (is_arithmetic (head o) ≡ true) ⊎ (is_arithmetic (head o) ≡ false) → FitAt a x ⊎ Unsettled a x
       arithmetic o e i (inl j) = lifted o e (fit_one a s x o e i j)
@@ -316,7 +340,10 @@ settles a done t d kinded typed sure under =
     settle done t d kinds (poisons a (ids t)) a (omega arith) (record {
       under = λ x o e i j.
           let f = each_found (GivesLess a done) x t under o e in
-          subst (λ y. GivesNoLess (head o) (a (Result y 0)) (map a (head o).operands)) f.1 (f.0 (ap done f.1 ∙ i) j);
+          subst (λ y. GivesNoLess (head o) (a (Result y 0)) (map a (head o).operands)) f.1 (f.0 (ap done f.1 ∙ i) j).0;
+      flags = λ x o e i j.
+          let f = each_found (GivesLess a done) x t under o e in
+          subst (λ y. KeepsFlags (head o) (a (Result y 0)) (map a (head o).operands)) f.1 (f.0 (ap done f.1 ∙ i) j).1;
       sure = λ x o e i j. let f = each_found (IsSure a done) x t sure o e in f.0 (ap done f.1 ∙ i) j;
       typed = types_found a t typed;
       blocks = typed.1;

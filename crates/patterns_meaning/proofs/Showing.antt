@@ -87,7 +87,7 @@ module _ (P : Operation → Type 0) where
 pub at_root : (P : Header → Type 0) (t : Operation) → Each P t → P (head t)
 at_root P (op h rs) s = s.0
 
-inside : (P : Header → Type 0) (t : Operation) → Each P t → EachInRegions P (regions t)
+pub inside : (P : Header → Type 0) (t : Operation) → Each P t → EachInRegions P (regions t)
 inside P (op h rs) s = s.1
 
 whole_inside : (P : Operation → Type 0) (t : Operation) → EachWhole P t → WholeInRegions P (regions t)

@@ -1,10 +1,11 @@
 -- What doesn't show what was shown is no improvement.
+use Rattle.patterns_check.proofs.Keeping.{value_refined}
 use Rattle.std.proofs.Common.{◌≡◌, ℕ, refl, ap, sym, ◌∙◌, List, [], ◌∷◌, Bool, true, false, true≢false, eqb, Some, inl, inr, zero, suc, ◌<◌, slice_get, get_or, arith, subst}
 use Rattle.std.specs.Prelude.{codes}
 use Rattle.std.proofs.lemmas.Bool.{and_parts}
 use Rattle.std.proofs.lemmas.Option.{same_Some, none-some}
 use Rattle.ir_types.specs.declared.bits.BitsKind.TheVariants as kind
-use Rattle.ir_types.specs.Terms.{AttrTerm, IntegerOf, TypeTerm}
+use Rattle.ir_types.specs.Terms.{AttrTerm, IntegerOf, TypeTerm, Overflow}
 use Rattle.ir_tree.specs.declared.value.Value.{Value}
 use Rattle.ir_tree.specs.declared.value.Value.TheVariants.{Arg, Result}
 use Rattle.ir_tree.specs.Tree.{OpsOf, block, head, next, no_ops, no_regions, op, region}
@@ -12,14 +13,15 @@ use Rattle.ir_tree.specs.Meaning.{Operation}
 use Rattle.op_registry.specs.Properties as properties
 use Rattle.op_registry.specs.Registry as registry
 use Rattle.op_registry.specs.Rows as rows
+use Rattle.ir_types.specs.Readings as readings
 use Rattle.ir_types.specs.Words as words
 use Rattle.dialects_int.specs.Arithmetic.{sum_of}
 use Rattle.dialects_int.specs.Folds as folds
 use Rattle.patterns_check.specs.Checks.{refines}
 use Rattle.patterns_book.specs.Matching.{Header}
-use Rattle.patterns_meaning.specs.Meaning.{Assignment, Fits, makes, IsOfType}
+use Rattle.patterns_meaning.specs.Meaning.{Assignment, Fits, makes, IsOfType, breaks_flags}
 use Rattle.patterns_meaning.specs.Observing.{OpsFollow, Stays, is_unmissed}
-use Rattle.patterns_meaning.specs.ObservingSamples.{AreRefused, ErasedStoreBreaks, NewConstantBreaks, OtherArgumentBreaks, WipingBreaks, function_of, i8, plain_op, returning, storing, summing, SumComputes, one_and_zero}
+use Rattle.patterns_meaning.specs.ObservingSamples.{AreRefused, ErasedStoreBreaks, ErasedUnknownBreaks, NewConstantBreaks, OtherArgumentBreaks, WipingBreaks, function_of, i8, plain_op, returning, storing, summing, unknown_then, AddedFlagBreaks, OverflowComputes, greatest_and_one, SumComputes, one_and_zero}
 use Rattle.std.proofs.lemmas.Map.Made.{IsDistinct-from_count}
 use Rattle.std.proofs.lemmas.Cmp.{nat_eq_equiv}
 use Rattle.ir_types.specs.Words.{is_isolated}
@@ -89,6 +91,19 @@ erased_store_breaks a done later i =
       | inr f ↦ never (sym store_stays ∙ f.0)
     ]
 
+unknown_stays : is_unmissed (plain_op 3 (codes "test.d") [] [] []) ≡ false
+unfolding registry.row_of rows.rows
+unknown_stays = refl
+
+erased_unknown_breaks : ErasedUnknownBreaks
+unfolding folds.rule_of folds.rules
+erased_unknown_breaks a done later i =
+    let m = (function_of 5 (unknown_then (returning (Arg 1 0 0)))).tree in
+    elim (bodies a i.now later m (unknown_then (returning (Arg 1 0 0))) (returning (Arg 1 0 0)) i.shows.follows.0.1) [
+      | inl f ↦ never (sym (ap (λ (h : Header). eqb h.id 3) f.0.0.same))
+      | inr f ↦ never (sym unknown_stays ∙ f.0)
+    ]
+
 -- the constant is what it says
 constant_is : (now : Assignment) → Fits now 5 (head (plain_op 5 (codes "arith.constant") [] (i8 ∷ []) ((codes "value", IntegerOf i8 42) ∷ []))) → now (Result 5 0) ≡ Some (kind.Int 8, 42)
 unfolding folds.fold_of folds.rule_of folds.rules words.operations words.is_inherent words.is_listed properties.is_allowed properties.is_of_kind properties.kind_of properties.kinds registry.row_of rows.rows
@@ -106,10 +121,28 @@ new_constant_breaks a done later known d i =
     let fed = (and_parts (later 5) true (i.computing.fed.1.0.0.1.0.1.1.0.0 d)).0 in
     let b = (s.better d).0 in
     let is : now (Result 5 0) ≡ Some (kind.Int 8, 42) = elim (i.computing.fits.1.0.0.1.0.1.0.0 fed refl) [
-      | inl e ↦ constant_is now e
+      | inl e ↦ constant_is now e.0
       | inr e ↦ never e.0
     ] in
     never (sym (ap (λ o. refines o (now (Result 5 0))) known ∙ ap (refines (Some (kind.Int 8, 1))) is) ∙ b)
+
+-- nsw is broken
+signed_breaks : breaks_flags (head (plain_op 2 (codes "arith.addi") (Arg 1 0 0 ∷ Arg 1 0 1 ∷ []) (i8 ∷ []) ((codes "overflowFlags", Overflow true false) ∷ []))) (Some (kind.Int 8, 127) ∷ Some (kind.Int 8, 1) ∷ []) ≡ true
+unfolding folds.rule_of folds.rules sum_of readings.signed_of
+signed_breaks = refl
+
+added_flag_breaks : AddedFlagBreaks
+unfolding folds.rule_of folds.rules
+added_flag_breaks a done later first second sum d i =
+    let h = head (plain_op 2 (codes "arith.addi") (Arg 1 0 0 ∷ Arg 1 0 1 ∷ []) (i8 ∷ []) ((codes "overflowFlags", Overflow true false) ∷ [])) in
+    let left : i.now (Arg 1 0 0) ≡ Some (kind.Int 8, 127) = i.stays (Arg 1 0 0) (omega arith) refl ∙ first in
+    let right : i.now (Arg 1 0 1) ≡ Some (kind.Int 8, 1) = i.stays (Arg 1 0 1) (omega arith) refl ∙ second in
+    let gives : i.now (Result 2 0) ≡ Some (kind.Int 8, 128) =
+    value_refined (kind.Int 8, 128) (i.now (Result 2 0)) (subst (λ o. refines o (i.now (Result 2 0)) ≡ true) sum (i.better (Result 2 0) (omega arith))) in
+    elim (i.computing.fits.1.0.0.1.0.0.0 d refl) [
+      | inl f ↦ never (sym f.1 ∙ (λ j. breaks_flags h (left j ∷ right j ∷ [])) ∙ signed_breaks)
+      | inr b ↦ absurd (none-some (kind.Int 8, 128) (sym b.2 ∙ gives))
+    ]
 
 -- ---- the module before the last of them is ready, and computes
 below : (k d : ℕ) → k < 4 → get_or (0 ∷ 1 ∷ 2 ∷ 4 ∷ []) k d < 5
@@ -147,7 +180,7 @@ arguments_typed (suc (suc k)) ty e = absurd (none-some ty e)
 computes : Computing one_and_zero all_done (function_of 5 (summing (returning (Result 2 0)))).tree
 unfolding folds.rule_of folds.rules sum_of
 computes = record {
-  fits = ((λ d e. never e), ((((λ d e. never e), ((((λ d e. inl refl), tt), (((λ d e. never e), tt), tt)), tt)), tt), tt));
+  fits = ((λ d e. never e), ((((λ d e. never e), ((((λ d e. inl (refl, refl)), tt), (((λ d e. never e), tt), tt)), tt)), tt), tt));
   typed = (
     ((λ k ty e. absurd (none-some ty e)), ((((λ k ty e. absurd (none-some ty e)), (((sum_typed, tt), (((λ k ty e. absurd (none-some ty e)), tt), tt)), tt)), tt), tt)),
     (((λ k ty e. absurd (none-some ty e)), (((arguments_typed, (tt, (tt, tt))), tt), tt)), tt),
@@ -159,5 +192,31 @@ computes = record {
 sum_computes : SumComputes
 sum_computes = (record { formed = formed; sorted = refl; kinded = kinded }, computes, refl)
 
+greatest_typed : (k : ℕ) (ty : TypeTerm) → slice_get (i8 ∷ []) k ≡ Some ty → IsOfType ty (greatest_and_one (Result 2 k))
+greatest_typed zero ty e = subst (λ ty. IsOfType ty (Some (kind.Int 8, 128))) (same_Some _ _ e) (refl, refl)
+greatest_typed (suc k) ty e = absurd (none-some ty e)
+
+greatest_arguments : (k : ℕ) (ty : TypeTerm) → slice_get (i8 ∷ i8 ∷ []) k ≡ Some ty → IsOfType ty (greatest_and_one (Arg 1 0 k))
+greatest_arguments zero ty e = subst (λ ty. IsOfType ty (Some (kind.Int 8, 127))) (same_Some _ _ e) (refl, refl)
+greatest_arguments (suc zero) ty e = subst (λ ty. IsOfType ty (Some (kind.Int 8, 1))) (same_Some _ _ e) (refl, refl)
+greatest_arguments (suc (suc k)) ty e = absurd (none-some ty e)
+
+overflow_computes : OverflowComputes
+unfolding folds.rule_of folds.rules sum_of
+overflow_computes = (
+  record {
+    fits = ((λ d e. never e), ((((λ d e. never e), ((((λ d e. inl (refl, refl)), tt), (((λ d e. never e), tt), tt)), tt)), tt), tt));
+    typed = (
+      ((λ k ty e. absurd (none-some ty e)), ((((λ k ty e. absurd (none-some ty e)), (((greatest_typed, tt), (((λ k ty e. absurd (none-some ty e)), tt), tt)), tt)), tt), tt)),
+      (((λ k ty e. absurd (none-some ty e)), (((greatest_arguments, (tt, (tt, tt))), tt), tt)), tt),
+    );
+    sure = ((λ d e. refl), ((((λ d e. refl), ((((λ d e. refl), tt), (((λ d e. refl), tt), tt)), tt)), tt), tt));
+    fed = ((λ d. refl), ((((λ d. refl), ((((λ d. refl), tt), (((λ d. refl), tt), tt)), tt)), tt), tt));
+  },
+  refl,
+  refl,
+  refl,
+)
+
 pub are_refused : AreRefused
-are_refused = record { computes = sum_computes; wiping = wiping_breaks; other_argument = other_argument_breaks; erased_store = erased_store_breaks; new_constant = new_constant_breaks }
+are_refused = record { computes = sum_computes; wiping = wiping_breaks; other_argument = other_argument_breaks; erased_store = erased_store_breaks; erased_unknown = erased_unknown_breaks; new_constant = new_constant_breaks; overflow = overflow_computes; added_flag = added_flag_breaks }

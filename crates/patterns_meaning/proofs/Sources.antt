@@ -95,7 +95,7 @@ sole_of m test v h e there ty results =
 module _ (m : Module) (a : Assignment) (done : ℕ → Bool) (x : ℕ) (o : Operation) (s : Site m a done x o) where
   pub made_or_poison : (r : How) → rule_of (head o).name ≡ Some r → (k : OfRule m.tree (head o) r) → done x ≡ true → (makes_by r (head o) k.kind (map a (head o).operands) ≡ Some (a (Result x 0))) ⊎ (a (Result x 0) ≡ None)
   made_or_poison r e k d = elim (found_fit a done m.tree s.computing.fits x o s.found d k.arithmetic) [
-    | inl i ↦ inl (sym (makes_is (head o) (map a (head o).operands) r k.kind e k.is) ∙ i)
+    | inl i ↦ inl (sym (makes_is (head o) (map a (head o).operands) r k.kind e k.is) ∙ i.0)
     | inr b ↦ inr b.2
   ]
 

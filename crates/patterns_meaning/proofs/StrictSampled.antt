@@ -58,7 +58,7 @@ one_type x h (suc k) ty e = absurd (none-some ty e)
 computes : Computing poisoned all_done crossed.tree
 unfolding folds.rule_of folds.rules
 computes = record {
-  fits = ((λ d e. absurd (true≢false (sym e))), ((((λ d e. absurd (true≢false (sym e))), tt), (((λ d e. absurd (true≢false (sym e))), tt), (((λ d e. inl refl), tt), (((λ d e. inl refl), tt), (((λ d e. inl refl), tt), tt))))), tt));
+  fits = ((λ d e. absurd (true≢false (sym e))), ((((λ d e. absurd (true≢false (sym e))), tt), (((λ d e. absurd (true≢false (sym e))), tt), (((λ d e. inl (refl, refl)), tt), (((λ d e. inl (refl, refl)), tt), (((λ d e. inl (refl, refl)), tt), tt))))), tt));
   typed = (
     ((λ k ty e. absurd (none-some ty e)), (((one_type 1 (refl, refl), tt), ((one_type 2 tt, tt), ((one_type 3 tt, tt), ((one_type 4 tt, tt), ((one_type 5 tt, tt), tt))))), tt)),
     (((λ k ty e. absurd (none-some ty e)), (tt, (tt, (tt, (tt, (tt, tt)))))), tt),

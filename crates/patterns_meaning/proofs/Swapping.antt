@@ -1,6 +1,10 @@
 -- A rule that swaps the operands of an operation keeps modules ready, and what they compute.
-use Rattle.std.proofs.Common.{◌≡◌, ℕ, ◌<◌, ◌^◌, refl, ap, sym, ◌∙◌, subst, List, [], ◌∷◌, map, Bool, true, false, true≢false, ◌&&◌, not, eqb, eqb-true, eq-eqb, Option, Some, None, ◌⊎◌, inl, inr}
-use Rattle.std.specs.Prelude.{if◌then◌else◌, bit_and, bit_or, bit_xor, is_some}
+use Rattle.ir_types.specs.Readings.{signed_of}
+use Rattle.std.specs.Ordering.{int_eq}
+use Rattle.std.proofs.Math.IntN.{*ℤ_comm, +ℤ_comm}
+use Rattle.std.proofs.Math.Nat.{mul_comm}
+use Rattle.std.proofs.Common.{◌≡◌, ℕ, ◌<◌, ◌^◌, refl, ap, sym, ◌∙◌, subst, List, [], ◌∷◌, map, Bool, true, false, true≢false, ◌&&◌, not, eqb, eqb-true, eq-eqb, Option, Some, None, ◌⊎◌, inl, inr, ◌+◌, ◌%◌, arith, ◌||◌}
+use Rattle.std.specs.Prelude.{if◌then◌else◌, bit_and, bit_or, bit_xor, is_some, ◌==◌}
 use Rattle.std.specs.List.{list_all}
 use Rattle.std.proofs.lemmas.Bool.{and_from, and_parts}
 use Rattle.std.proofs.lemmas.Option.{same_Some}
@@ -42,7 +46,7 @@ use Rattle.patterns_base.proofs.Facts.{when_some}
 use Rattle.patterns_facts.specs.Accepted.{AreAccepted}
 use Rattle.patterns_facts.proofs.Shapes.{two_is}
 use Rattle.patterns_book.specs.Matching.{Header}
-use Rattle.patterns_meaning.specs.Meaning.{ArgumentsOfTypes, Each, EachBlock, FitsDone, ResultsOfTypes, makes, owner, result_kind}
+use Rattle.patterns_meaning.specs.Meaning.{ArgumentsOfTypes, Each, EachBlock, FitsDone, ResultsOfTypes, makes, owner, result_kind, breaks_by, breaks_flags, breaks_pair, flags_of, overflows_signed, overflows_unsigned, Flags, is_inexact}
 use Rattle.patterns_meaning.specs.Better.{IsSure, is_kind, is_kinded, is_poison_by_ones, is_signed_quotient, kind_in, takes, takes_its, gives, is_arithmetic_there}
 use Rattle.patterns_meaning.proofs.Frees.{Was, free_still, was_old}
 use Rattle.patterns_meaning.specs.After.{OperandsStand}
@@ -58,7 +62,7 @@ use Rattle.patterns_meaning.proofs.Monotone.{itself}
 use Rattle.patterns_meaning.proofs.OfBits.{IsOfBits}
 use Rattle.patterns_meaning.proofs.Readied.{AreKinds, HasKind, Rises, Takes, all_rise, each_rises, kinds_are, kinds_found, same_kinds_of, same_takes}
 use Rattle.patterns_meaning.proofs.Rewritten.{same_makes}
-use Rattle.patterns_meaning.proofs.Ruled.{Ruled, of_rule, rule_kinds, ruled, site_of, value_bits}
+use Rattle.patterns_meaning.proofs.Ruled.{Ruled, of_rule, rule_kinds, ruled, site_of, value_bits, root_has}
 use Rattle.patterns_meaning.proofs.Settling.{each_by_found}
 use Rattle.patterns_meaning.proofs.Trees.{ArgumentsAre, ResultsAre, each_found, value_below}
 use Rattle.patterns_meaning.proofs.Showing.{IsUnseen, at_unseen, number_at, unseen_shows, unseen_through}
@@ -114,6 +118,82 @@ module _ (o : Arithmetic) (c : commutes o ≡ true) where
       go true e false f = absurd (true≢false (sym (ap (same_kind y.0) (same_kinds x.0 y.0 e) ∙ same_itself y.0) ∙ f))
       go false e true f = absurd (true≢false (sym (ap (same_kind x.0) (same_kinds y.0 x.0 f) ∙ same_itself x.0) ∙ e))
       go false e false f = refl
+
+plus_turned : (a b : ℕ) → a + b ≡ b + a
+plus_turned a b = omega arith
+
+sum_turned : (w a b : ℕ) → sum_of w a b ≡ sum_of w b a
+unfolding sum_of
+sum_turned w a b = ap (λ n. n % 2 ^ w) (plus_turned a b)
+
+product_turned : (w a b : ℕ) → product_of w a b ≡ product_of w b a
+unfolding product_of
+product_turned w a b = ap (λ n. n % 2 ^ w) (mul_comm a b)
+
+-- and breaks its flags for the same operands
+module _ (f : Flags) (w : ℕ) where
+  signed_turned : (o : Arithmetic) → commutes o ≡ true → (a b : ℕ) → overflows_signed o w a b ≡ overflows_signed o w b a
+  signed_turned op.Add e a b = λ i. not (int_eq (signed_of w (sum_turned w a b i)) (+ℤ_comm (signed_of w a) (signed_of w b) i))
+  signed_turned op.Multiply e a b = λ i. not (int_eq (signed_of w (product_turned w a b i)) (*ℤ_comm (signed_of w a) (signed_of w b) i))
+  signed_turned op.And e a b = refl
+  signed_turned op.Or e a b = refl
+  signed_turned op.ExclusiveOr e a b = refl
+  signed_turned op.MaximumSigned e a b = refl
+  signed_turned op.MaximumUnsigned e a b = refl
+  signed_turned op.MinimumSigned e a b = refl
+  signed_turned op.MinimumUnsigned e a b = refl
+  signed_turned op.Subtract e a b = absurd (true≢false (sym e))
+  signed_turned op.ShiftLeft e a b = absurd (true≢false (sym e))
+  signed_turned op.DivideSigned e a b = refl
+  signed_turned op.DivideUnsigned e a b = refl
+  signed_turned op.RemainderSigned e a b = refl
+  signed_turned op.RemainderUnsigned e a b = refl
+  signed_turned op.ShiftRightSigned e a b = refl
+  signed_turned op.ShiftRightUnsigned e a b = refl
+
+  unsigned_turned : (o : Arithmetic) → commutes o ≡ true → (a b : ℕ) → overflows_unsigned o w a b ≡ overflows_unsigned o w b a
+  unsigned_turned op.Add e a b = λ i. not (sum_turned w a b i == plus_turned a b i)
+  unsigned_turned op.Multiply e a b = λ i. not (product_turned w a b i == mul_comm a b i)
+  unsigned_turned op.And e a b = refl
+  unsigned_turned op.Or e a b = refl
+  unsigned_turned op.ExclusiveOr e a b = refl
+  unsigned_turned op.MaximumSigned e a b = refl
+  unsigned_turned op.MaximumUnsigned e a b = refl
+  unsigned_turned op.MinimumSigned e a b = refl
+  unsigned_turned op.MinimumUnsigned e a b = refl
+  unsigned_turned op.Subtract e a b = absurd (true≢false (sym e))
+  unsigned_turned op.ShiftLeft e a b = absurd (true≢false (sym e))
+  unsigned_turned op.DivideSigned e a b = refl
+  unsigned_turned op.DivideUnsigned e a b = refl
+  unsigned_turned op.RemainderSigned e a b = refl
+  unsigned_turned op.RemainderUnsigned e a b = refl
+  unsigned_turned op.ShiftRightSigned e a b = refl
+  unsigned_turned op.ShiftRightUnsigned e a b = refl
+
+  exact_turned : (o : Arithmetic) → commutes o ≡ true → (a b : ℕ) → is_inexact o w a b ≡ is_inexact o w b a
+  exact_turned op.Add e a b = refl
+  exact_turned op.Multiply e a b = refl
+  exact_turned op.And e a b = refl
+  exact_turned op.Or e a b = refl
+  exact_turned op.ExclusiveOr e a b = refl
+  exact_turned op.MaximumSigned e a b = refl
+  exact_turned op.MaximumUnsigned e a b = refl
+  exact_turned op.MinimumSigned e a b = refl
+  exact_turned op.MinimumUnsigned e a b = refl
+  exact_turned op.Subtract e a b = refl
+  exact_turned op.ShiftLeft e a b = refl
+  exact_turned op.DivideSigned e a b = absurd (true≢false (sym e))
+  exact_turned op.DivideUnsigned e a b = absurd (true≢false (sym e))
+  exact_turned op.RemainderSigned e a b = refl
+  exact_turned op.RemainderUnsigned e a b = refl
+  exact_turned op.ShiftRightSigned e a b = absurd (true≢false (sym e))
+  exact_turned op.ShiftRightUnsigned e a b = absurd (true≢false (sym e))
+
+  breaks_turned : (o : Arithmetic) → commutes o ≡ true → (p q : Outcome) → breaks_pair f o w (p ∷ q ∷ []) ≡ breaks_pair f o w (q ∷ p ∷ [])
+  breaks_turned o e None None = refl
+  breaks_turned o e None (Some y) = refl
+  breaks_turned o e (Some x) None = refl
+  breaks_turned o e (Some x) (Some y) = λ i. (f.nsw && signed_turned o e x.1 y.1 i) || ((f.nuw && unsigned_turned o e x.1 y.1 i) || (f.exact && exact_turned o e x.1 y.1 i))
 
 abbrev IsSwapping : List ℕ → Type 0
 IsSwapping name = (o : Arithmetic) × (rule_of name ≡ Some (how.Pair o)) × (commutes o ≡ true)
@@ -237,7 +317,7 @@ module _ (accepted : AreAccepted) where
       let old = kinds_are m.tree ready.formed.distinct in
       let kinds = kind_in m.tree in
       let below = is_below m.next m.tree ready.formed.below in
-      let k = rule_kinds m.tree (head q.here) (each_found (λ h. is_kinded m.tree h ≡ true) x m.tree ready.kinded q.here q.found).0 (how.Pair w.pair.0) w.pair.1 in
+      let k = rule_kinds m.tree (head q.here) (each_found (λ h. is_kinded m.tree h ≡ true) x m.tree ready.kinded q.here q.found).0 (root_has q ready.formed ready.kinded refl) (how.Pair w.pair.0) w.pair.1 in
       let both = and_parts (is_kind k.kind (kinds w.first)) (is_kind k.kind (kinds w.second)) (subst (λ vs. takes (how.Pair w.pair.0) (head q.here) k.kind (map (kind_in m.tree) vs) ≡ true) w.operands k.operands) in
       let takes_swapped : Takes (kind_in m.tree) (record (head q.here) { operands = w.second ∷ w.first ∷ [] }) =
       same_takes (head q.here) (head q.here).id (w.second ∷ w.first ∷ []) (kinds w.second ∷ kinds w.first ∷ [])
@@ -270,7 +350,7 @@ module _ (accepted : AreAccepted) where
       let is : all_edited (SetOperand x 0 w.second ∷ SetOperand x 1 w.first ∷ []) m ≡ n = subst (λ es. all_edited es m ≡ n) w.edits q.module_is in
       let tree = ap (λ (m : Module). m.tree) is in
       let it = its m n x q ready.formed.distinct in
-      let s = site_of m a done x q.here ready.formed ready.kinded computing q.found in
+      let s = site_of m a done x q.here ready.formed ready.kinded computing q.found (root_has q ready.formed ready.kinded refl) in
       let two = of_two_is m a done x q.here s w.first w.second w.operands in
       let k = of_rule m a done x q.here s (how.Pair w.pair.0) w.pair.1 in
       let below = is_below m.next m.tree ready.formed.below in
@@ -280,6 +360,10 @@ module _ (accepted : AreAccepted) where
       ∙ makes_is h (a w.second ∷ a w.first ∷ []) (how.Pair w.pair.0) k.kind w.pair.1 k.is
       ∙ turned w.pair.0 w.pair.2 (a w.second) (a w.first) (value_bits m a done x q.here s w.second two.second) (value_bits m a done x q.here s w.first two.first)
       ∙ sym (makes_is h (a w.first ∷ a w.second ∷ []) (how.Pair w.pair.0) k.kind w.pair.1 k.is) ∙ ap (λ vs. makes h (map a vs)) (sym w.operands) in
+      let by_kind : (xs : List Outcome) → breaks_flags h xs ≡ breaks_pair (flags_of h) w.pair.0 (width_of k.kind) xs = (λ xs i. breaks_by (w.pair.1 i) (flags_of h) (k.is i) xs) in
+      let flags_same : breaks_flags (record h { operands = w.second ∷ w.first ∷ [] }) (a w.second ∷ a w.first ∷ []) ≡ breaks_flags h (map a h.operands) =
+      by_kind (a w.second ∷ a w.first ∷ []) ∙ breaks_turned (flags_of h) (width_of k.kind) w.pair.0 w.pair.2 (a w.second) (a w.first)
+      ∙ sym (by_kind (a w.first ∷ a w.second ∷ [])) ∙ ap (λ vs. breaks_flags h (map a vs)) (sym w.operands) in
       let was : (y : ℕ) → y < m.next → later y ≡ true → done y ≡ true = (λ y l i. sym (after_old m.next x done y l) ∙ i) in
       record {
         now = a;
@@ -292,7 +376,7 @@ module _ (accepted : AreAccepted) where
         computing = record {
           fits = subst (λ t. Each (FitsDone a later) t) tree
               (swapped_each x w.first w.second q.here w.operands own (Low m (FitsDone a done)) (FitsDone a later) (λ h p i j. p.0 (was h.id p.1 i) j)
-              (λ p i j. elim (p.0 (was h.id p.1 i) j) [ inl f ↦ inl (makes_same ∙ f) | inr b ↦ inr (b.0, ap is_some makes_same ∙ b.1, b.2) ])
+              (λ p i j. elim (p.0 (was h.id p.1 i) j) [ inl f ↦ inl (makes_same ∙ f.0, flags_same ∙ f.1) | inr b ↦ inr (flags_same ∙ b.0, ap is_some makes_same ∙ b.1, b.2) ])
               m.tree it (each_both (FitsDone a done) (λ h. h.id < m.next) (Low m (FitsDone a done)) (λ h p l. (p, l)) m.tree computing.fits below));
           typed = (
             subst (λ t. Each (ResultsOfTypes a) t) tree (swapped_each x w.first w.second q.here w.operands own (ResultsOfTypes a) (ResultsOfTypes a) (λ h p. p) (λ p. p) m.tree it computing.typed.0),

@@ -10,7 +10,7 @@ use Rattle.ir_tree.specs.Ids.{find, regions_find, region_find, ops_find, first_o
 use Rattle.ir_tree.specs.Meaning.{Operation}
 use Rattle.ir_tree_laws.specs.Values.{arguments_at, arguments_of, has_value, region_at, type_of_value}
 use Rattle.patterns_book.specs.Matching.{Header}
-use Rattle.patterns_meaning.specs.Meaning.{AreOfTypes, Assignment, BlocksAmong, BlocksInRegion, BlocksInRegions, Breaks, Each, EachAmong, EachBlock, EachInRegion, EachInRegions, Fits, FitsAll, FitsDone, IsOfType, is_arithmetic, owner}
+use Rattle.patterns_meaning.specs.Meaning.{AreOfTypes, Assignment, BlocksAmong, BlocksInRegion, BlocksInRegions, Each, EachAmong, EachBlock, EachInRegion, EachInRegions, FitsAll, FitsDone, IsOfType, is_arithmetic, owner, Obeys}
 use Rattle.patterns_meaning.specs.Applied.{IsBelow}
 
 first_cases : (a b : Option Operation) (o : Operation) → first_of a b ≡ Some o → (a ≡ Some o) ⊎ (b ≡ Some o)
@@ -47,12 +47,12 @@ module _ (P : Header → Type 0) (x : ℕ) where
 
 -- operations that are found fit
 abbrev pub FoundFit : Assignment → (ℕ → Bool) → Operation → Type 0
-FoundFit a done t = (x : ℕ) (o : Operation) → find x t ≡ Some o → done x ≡ true → is_arithmetic (head o) ≡ true → Fits a x (head o) ⊎ Breaks a x (head o)
+FoundFit a done t = (x : ℕ) (o : Operation) → find x t ≡ Some o → done x ≡ true → is_arithmetic (head o) ≡ true → Obeys a x (head o)
 
 pub found_fit : (a : Assignment) (done : ℕ → Bool) (t : Operation) → FitsAll a done t → FoundFit a done t
 found_fit a done t fits x o e c h =
     let f = each_found (FitsDone a done) x t fits o e in
-    subst (λ y. Fits a y (head o) ⊎ Breaks a y (head o)) f.1 (f.0 (ap done f.1 ∙ c) h)
+    subst (λ y. Obeys a y (head o)) f.1 (f.0 (ap done f.1 ∙ c) h)
 
 -- a value of a tree is one of an operation below its bound
 pub value_below : (n : ℕ) (t : Operation) → IsBelow n t → (v : Value) → has_value v t ≡ true → owner v < n

@@ -27,6 +27,7 @@ use Rattle.patterns_laws.specs.Keeps.{holds_of_itself}
 use Rattle.patterns_laws.specs.Words.{named}
 use Rattle.patterns_laws.proofs.KnownFolds.{given_some}
 use Rattle.patterns_base.specs.declared.rule.Rule.{Rule}
+use Rattle.patterns_base.specs.RuleNames.{is_erasing}
 use Rattle.patterns_base.specs.declared.rule.Rule.TheVariants.{CompareItself, CompareZero}
 use Rattle.patterns_base.specs.Looks.{is_number, known, predicate, two, when}
 use Rattle.patterns_base.specs.Makes.{give_constant}
@@ -43,7 +44,7 @@ use Rattle.patterns_meaning.proofs.Firsts.{poison_refined}
 use Rattle.patterns_meaning.proofs.Forms.{named_is}
 use Rattle.patterns_meaning.proofs.MadeOf.{compares_kind}
 use Rattle.patterns_meaning.proofs.Monotone.{same_refined}
-use Rattle.patterns_meaning.proofs.Ruled.{Ruled, Site, gives_refined, of_rule, rule_kinds, ruled, site_of}
+use Rattle.patterns_meaning.proofs.Ruled.{Ruled, Site, gives_refined, of_rule, rule_kinds, ruled, site_of, root_has}
 use Rattle.patterns_meaning.proofs.Trees.{each_found}
 
 pub by_compare : rule_of (codes "arith.cmpi") ≡ Some how.Compare
@@ -132,9 +133,9 @@ module _ (accepted : AreAccepted) where
         edits = same_Some _ _ h.1;
       }
 
-  truth_number : (r : Rule) (m n : Module) (x : ℕ) (q : Ruled r m n x) (what : ℕ → Value → Value → Bool) (truth_of : ℕ → ℕ) (c : OfComparison r m n x q what truth_of) → IsReady m → is_bits (kind.Int 1) (truth_of c.number) ≡ true → GivesNumber r m n x q
-  truth_number r m n x q what truth_of c ready bits =
-      let k = rule_kinds m.tree (head q.here) (each_found (λ h. is_kinded m.tree h ≡ true) x m.tree ready.kinded q.here q.found).0 how.Compare c.name in
+  truth_number : (r : Rule) (m n : Module) (x : ℕ) (q : Ruled r m n x) (what : ℕ → Value → Value → Bool) (truth_of : ℕ → ℕ) (c : OfComparison r m n x q what truth_of) → is_erasing r ≡ false → IsReady m → is_bits (kind.Int 1) (truth_of c.number) ≡ true → GivesNumber r m n x q
+  truth_number r m n x q what truth_of c stays ready bits =
+      let k = rule_kinds m.tree (head q.here) (each_found (λ h. is_kinded m.tree h ≡ true) x m.tree ready.kinded q.here q.found).0 (root_has q ready.formed ready.kinded stays) how.Compare c.name in
       let one = compares_kind k.kind (kind_in m.tree c.first) (kind_in m.tree c.second) (subst (λ vs. takes how.Compare (head q.here) k.kind (map (kind_in m.tree) vs) ≡ true) c.operands k.operands) in
       record { ty = c.ty; bits = truth_of c.number; kind = kind.Int 1; of = sym (ap (λ tys. given (slice_get tys 0) kind_of) c.results) ∙ k.is ∙ ap (λ k. Some k) (sym one); fits = bits; width = refl; edits = c.edits }
 
@@ -157,15 +158,15 @@ module _ (accepted : AreAccepted) where
   compare_itself_ready m n x ready e =
       let q = ruled accepted CompareItself m n x ready.formed ready.sorted e in
       let c = compares_itself m n x q in
-      number_ready CompareItself m n x q (truth_number CompareItself m n x q (λ n u v. same_value u v) holds_of_itself c ready (itself_bits c.number)) ready
+      number_ready CompareItself m n x q (truth_number CompareItself m n x q (λ n u v. same_value u v) holds_of_itself c refl ready (itself_bits c.number)) ready
 
   pub compare_itself_computing : KeepsComputing CompareItself
   unfolding truth_number
   compare_itself_computing m n x a done ready computing e =
       let q = ruled accepted CompareItself m n x ready.formed ready.sorted e in
       let c = compares_itself m n x q in
-      let g = truth_number CompareItself m n x q (λ n u v. same_value u v) holds_of_itself c ready (itself_bits c.number) in
-      let s = site_of m a done x q.here ready.formed ready.kinded computing q.found in
+      let g = truth_number CompareItself m n x q (λ n u v. same_value u v) holds_of_itself c refl ready (itself_bits c.number) in
+      let s = site_of m a done x q.here ready.formed ready.kinded computing q.found (root_has q ready.formed ready.kinded refl) in
       number_improves CompareItself m n x q g a done
       (λ d. comparison_refined m a done x q.here s c.number (holds_of_itself c.number) c.first c.second c.name c.asked_for c.operands d
       (λ p y w i j l.
@@ -205,15 +206,15 @@ module _ (accepted : AreAccepted) where
   compare_zero_ready m n x ready e =
       let q = ruled accepted CompareZero m n x ready.formed ready.sorted e in
       let c = compares_zero m n x q in
-      number_ready CompareZero m n x q (truth_number CompareZero m n x q (λ n u v. is_number m.tree 0 v && (eqb n 6 || eqb n 9)) (λ n. if eqb n 9 then 1 else 0) c ready (zero_bits c.number)) ready
+      number_ready CompareZero m n x q (truth_number CompareZero m n x q (λ n u v. is_number m.tree 0 v && (eqb n 6 || eqb n 9)) (λ n. if eqb n 9 then 1 else 0) c refl ready (zero_bits c.number)) ready
 
   pub compare_zero_computing : KeepsComputing CompareZero
   unfolding truth_number
   compare_zero_computing m n x a done ready computing e =
       let q = ruled accepted CompareZero m n x ready.formed ready.sorted e in
       let c = compares_zero m n x q in
-      let g = truth_number CompareZero m n x q (λ n u v. is_number m.tree 0 v && (eqb n 6 || eqb n 9)) (λ n. if eqb n 9 then 1 else 0) c ready (zero_bits c.number) in
-      let s = site_of m a done x q.here ready.formed ready.kinded computing q.found in
+      let g = truth_number CompareZero m n x q (λ n u v. is_number m.tree 0 v && (eqb n 6 || eqb n 9)) (λ n. if eqb n 9 then 1 else 0) c refl ready (zero_bits c.number) in
+      let s = site_of m a done x q.here ready.formed ready.kinded computing q.found (root_has q ready.formed ready.kinded refl) in
       let two = of_two_is m a done x q.here s c.first c.second c.operands in
       let tests = and_parts (is_number m.tree 0 c.second) (eqb c.number 6 || eqb c.number 9) c.passed in
       let number = known_test (λ k. eqb k.1 0) (known m.tree c.second) tests.0 in

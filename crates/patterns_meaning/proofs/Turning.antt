@@ -19,9 +19,11 @@ use Rattle.ir_event.specs.Modules.{Module}
 use Rattle.dialects_int.specs.Folds.{rule_of}
 use Rattle.patterns_check.specs.Checks.{refines}
 use Rattle.patterns_book.specs.Matching.{Header}
-use Rattle.patterns_meaning.specs.Meaning.{ArgumentsOfTypes, AreOfTypes, Assignment, Each, EachBlock, FitsDone, ResultsOfTypes, is_arithmetic, makes, owner, result_kind}
+use Rattle.patterns_check.specs.Outcomes.{Outcome}
+use Rattle.patterns_meaning.proofs.FlagsKept.{obeys_unbroken}
+use Rattle.patterns_meaning.specs.Meaning.{ArgumentsOfTypes, AreOfTypes, Assignment, Each, EachBlock, FitsDone, ResultsOfTypes, is_arithmetic, makes, owner, result_kind, Obeys, breaks_flags}
 use Rattle.patterns_meaning.specs.Applied.{IsBelow}
-use Rattle.patterns_meaning.specs.Better.{AllSure, AreKinded, GivesLess, GivesNoLess, IsSure, gives, is_arithmetic_there, is_kinded, kind_in, may_overflow, takes_its}
+use Rattle.patterns_meaning.specs.Better.{AllSure, AreKinded, GivesLess, GivesNoLess, IsSure, gives, is_arithmetic_there, is_kinded, kind_in, may_overflow, takes_its, KeepsFlags}
 use Rattle.patterns_meaning.specs.Keeping.{Computing, Improves, IsFed, IsReady, done_after, is_there}
 use Rattle.patterns_meaning.proofs.Edited.{blocks_changed, each_both, each_changed}
 use Rattle.patterns_meaning.proofs.Formed.{is_below, operands_stand}
@@ -158,6 +160,7 @@ module _ (m n : Module) (x : ℕ) (o : Operation) (w : Turns m n x o) (ready : I
   pub record TurnsWell (a : Assignment) (done : ℕ → Bool) : Type 0 where
     pub arithmetic : is_arithmetic (head o) ≡ true
     pub gives_so : done x ≡ true → GivesNoLess (record (head o) { operands = w.operands; properties = w.properties }) (a (Result x 0)) (map a w.operands)
+    pub unflagged : (xs : List Outcome) → breaks_flags (record (head o) { operands = w.operands; properties = w.properties }) xs ≡ false
     pub sure : done x ≡ true → may_overflow (record (head o) { operands = w.operands; properties = w.properties }) (map a w.operands) ≡ false
     pub values : list_all (λ v. has_value v m.tree) w.operands ≡ true
     pub fed : done x ≡ true → list_all (is_there done) w.operands ≡ true
@@ -175,16 +178,19 @@ module _ (m n : Module) (x : ℕ) (o : Operation) (w : Turns m n x o) (ready : I
     its_done : (head o).id < m.next → done_after m.next x done (head o).id ≡ true → done x ≡ true
     its_done l i = ap done (sym w.own) ∙ was (head o).id l i
 
-    fitting : (h : Header) → FitsDone a done h → done h.id ≡ true → is_arithmetic h ≡ true → GivesNoLess h (a (Result h.id 0)) (map a h.operands)
-    fitting h p i j = elim (p i j) [
-      | inl e ↦ record { outcome = a (Result h.id 0); is_made = e; better = itself (a (Result h.id 0)) }
-      | inr b ↦ (let s = some_there (makes h (map a h.operands)) b.1 in record { outcome = s.0; is_made = s.1; better = subst (λ z. refines z s.0 ≡ true) (sym b.2) refl })
-    ]
+    fitting : (h : Header) → FitsDone a done h → done h.id ≡ true → is_arithmetic h ≡ true → GivesNoLess h (a (Result h.id 0)) (map a h.operands) × KeepsFlags h (a (Result h.id 0)) (map a h.operands)
+    fitting h p i j = (made (p i j), obeys_unbroken a h.id h (p i j))
+      where
+        made : Obeys a h.id h → GivesNoLess h (a (Result h.id 0)) (map a h.operands)
+        made (inl e) = record { outcome = a (Result h.id 0); is_made = e.0; better = itself (a (Result h.id 0)) }
+        made (inr b) = (let s = some_there (makes h (map a h.operands)) b.1 in record { outcome = s.0; is_made = s.1; better = subst (λ z. refines z s.0 ≡ true) (sym b.2) refl })
 
     all_give : Each (GivesLess a (done_after m.next x done)) n.tree
     all_give =
         each (Low m (FitsDone a done)) (GivesLess a (done_after m.next x done)) (λ h p i j. fitting h p.0 (was h.id p.1 i) j)
-        (λ p i j. subst (λ y. GivesNoLess (record (head o) { operands = w.operands; properties = w.properties }) (a (Result y 0)) (map a w.operands)) (sym w.own) (k.gives_so (its_done p.1 i)))
+        (λ p i j.
+        subst (λ y. GivesNoLess (record (head o) { operands = w.operands; properties = w.properties }) (a (Result y 0)) (map a w.operands) × KeepsFlags (record (head o) { operands = w.operands; properties = w.properties }) (a (Result y 0)) (map a w.operands))
+        (sym w.own) (k.gives_so (its_done p.1 i), (λ l. k.unflagged (map a w.operands))))
         (each_both (FitsDone a done) (λ h. h.id < m.next) (Low m (FitsDone a done)) (λ h p l. (p, l)) m.tree computing.fits below)
 
     all_sure : AllSure a (done_after m.next x done) n.tree

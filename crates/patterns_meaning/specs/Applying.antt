@@ -14,6 +14,7 @@ use Rattle.patterns_book.specs.Fitting.{content_at, content_with}
 use Rattle.patterns_book.specs.Shapes.{Shape}
 use Rattle.patterns_own.specs.Own.{own_rewrite}
 use Rattle.patterns_meaning.specs.Meaning.{AreOfTypes, Assignment, FitsAll}
+use Rattle.patterns_meaning.specs.Observing.{Shows}
 use Rattle.patterns_meaning.specs.After.{or_new}
 use Rattle.patterns_meaning.specs.Applied.{Agree, IsFound, IsProper, is_typed, kinds_found}
 
@@ -29,9 +30,9 @@ module _ (p : Shape) (m : Module) (x : ℕ) (a : Assignment) (done : ℕ → Boo
       × AlwaysKeeps (content_with (kinds_found m.tree (is_clean m.tree) m.next p x a done found) p)
 
 -- there are outcomes that are those of before at all values of before, are of their types, and fit all operations that
--- were done, and all that are new
+-- were done, and all that are new; and the tree after it shows what the module showed
 abbrev pub ComputesOn : Assignment → (ℕ → Bool) → Module → Module → Type 0
-ComputesOn a done m n = (now : Assignment) × Agree m.next a now × FitsAll now (or_new m.next done) n.tree × AreOfTypes now n.tree
+ComputesOn a done m n = (now : Assignment) × Agree m.next a now × FitsAll now (or_new m.next done) n.tree × AreOfTypes now n.tree × Shows a now m (or_new m.next done) n.tree
 
 -- what a pattern that keeps what is there makes of a well-formed module computes what that computed, where what the
 -- pattern's root computed is known

@@ -1,5 +1,6 @@
 -- Outcomes that are the same or better, and what has to be so that an operation gives no less for them.
-use Rattle.std.specs.Prelude.{◌≡◌, ◌<◌, ℕ, codes, ◌==◌, nat_lt, List, [], ◌∷◌, map, Bool, true, false, ◌&&◌, Option, Some, None}
+use Rattle.std.specs.Prelude.{◌≡◌, ◌<◌, ℕ, codes, ◌==◌, nat_lt, List, [], ◌∷◌, map, Bool, true, false, ◌&&◌, not, Option, Some, None, is_some}
+use Rattle.std.specs.Str.{bytes_eq}
 use Rattle.ir_types.specs.declared.bits.BitsKind.{BitsKind}
 use Rattle.ir_types.specs.declared.bits.BitsKind.TheVariants as kind
 use Rattle.ir_types.specs.Bits.{is_bits, width_of}
@@ -20,7 +21,7 @@ use Rattle.dialects_int.specs.Folds.{Known, fold_of, kind_of, rule_of, same_kind
 use Rattle.patterns_check.specs.Checks.{refines}
 use Rattle.patterns_check.specs.Outcomes.{Outcome, given}
 use Rattle.patterns_book.specs.Matching.{Header}
-use Rattle.patterns_meaning.specs.Meaning.{AreOfTypes, Assignment, Each, FitsAll, is_arithmetic, makes, owner, result_kind}
+use Rattle.patterns_meaning.specs.Meaning.{AreOfTypes, Assignment, Each, FitsAll, breaks_flags, is_arithmetic, makes, owner, result_kind}
 
 -- outcomes are the same, or better where the old ones were poison: at the values of operations below an id
 abbrev pub Better : ℕ → Assignment → Assignment → Type 0
@@ -71,16 +72,22 @@ takes (rule.Resize c) h k _ = false
 takes (rule.IndexCast c) h k (j ∷ []) = narrows c j k
 takes (rule.IndexCast c) h k _ = false
 
--- an arithmetic operation has operands of the kinds that it asks for, and a result of one, of a width that there may be. A
--- constant may be of a type without a kind, as f32 or a vector: then it isn't arithmetic here
+-- Returns whether the condition of a select isn't of i1.
+abbrev pub has_no_condition : List (Option BitsKind) → Bool
+has_no_condition [] = true
+has_no_condition (c ∷ js) = not (is_kind (kind.Int 1) c)
+
+-- an arithmetic operation whose result has a kind has operands of the kinds that it asks for, and a width that there may be.
+-- Nothing is asked of one whose result has no kind, as of f32 or a vector: it isn't arithmetic here. But for a select by an
+-- i1, which has to have a kind: rules of rewriting apply to a select of anything
 abbrev pub takes_its : Option Rule → Option BitsKind → Header → List (Option BitsKind) → Bool
 takes_its None k h js = true
 takes_its (Some rule.Constant) None h js = true
-takes_its (Some (rule.Pair o)) None h js = false
-takes_its (Some rule.Compare) None h js = false
-takes_its (Some rule.Select) None h js = false
-takes_its (Some (rule.Resize c)) None h js = false
-takes_its (Some (rule.IndexCast c)) None h js = false
+takes_its (Some (rule.Pair o)) None h js = true
+takes_its (Some rule.Compare) None h js = true
+takes_its (Some rule.Select) None h js = has_no_condition js
+takes_its (Some (rule.Resize c)) None h js = true
+takes_its (Some (rule.IndexCast c)) None h js = true
 takes_its (Some r) (Some k) h js = is_width (width_of k) && takes r h k js
 
 abbrev pub is_kinded : Operation → Header → Bool
@@ -90,10 +97,10 @@ is_kinded t h = takes_its (rule_of h.name) (result_kind h) h (map (kind_in t) h.
 abbrev pub AreKinded : Operation → Type 0
 AreKinded t = Each (λ h. is_kinded t h ≡ true) t
 
--- a constant of a type without a kind is kinded
-abbrev pub OtherConstantsAreKinded : Type 0
-OtherConstantsAreKinded =
-    (t : Operation) (h : Header) → h.name ≡ codes "arith.constant" → result_kind h ≡ None → is_kinded t h ≡ true
+-- an operation whose result has no kind is kinded, but for a select
+abbrev pub OthersAreKinded : Type 0
+OthersAreKinded =
+    (t : Operation) (h : Header) → bytes_eq h.name (codes "arith.select") ≡ false → result_kind h ≡ None → is_kinded t h ≡ true
 
 -- ---- quotients of poison
 -- a signed quotient of poison by -1: of the least value it is undefined, so that of poison it may be anything. It is
@@ -135,9 +142,13 @@ Monotone =
     → takes_its (rule_of h.name) (result_kind h) h js ≡ true → AreOf js ys → may_overflow h xs ≡ false → AllBetter xs ys
     → makes h xs ≡ Some x → GivesNoLess h x ys
 
--- operations that are done make what they give, or better
+-- operations that are done make what they give, or better; what is known of one isn't where its operands break its flags
+abbrev pub KeepsFlags : Header → Outcome → List Outcome → Type 0
+KeepsFlags h x ys = is_some x ≡ true → breaks_flags h ys ≡ false
+
 abbrev pub GivesLess : Assignment → (ℕ → Bool) → Header → Type 0
-GivesLess a done h = done h.id ≡ true → is_arithmetic h ≡ true → GivesNoLess h (a (Result h.id 0)) (map a h.operands)
+GivesLess a done h =
+    done h.id ≡ true → is_arithmetic h ≡ true → GivesNoLess h (a (Result h.id 0)) (map a h.operands) × KeepsFlags h (a (Result h.id 0)) (map a h.operands)
 
 -- whether an arithmetic operation that is done gives a value
 abbrev pub is_arithmetic_there : Option Operation → Bool

@@ -18,11 +18,12 @@ use Rattle.patterns_own.specs.Own.{own_rewrite}
 use Rattle.patterns_meaning.specs.Meaning.{AreOfTypes, Assignment, FitsAll, owner}
 use Rattle.patterns_meaning.specs.Better.{AllSure, AreKinded, Better, gives}
 use Rattle.patterns_meaning.specs.After.{or_new}
+use Rattle.patterns_meaning.specs.Observing.{Shows}
 use Rattle.patterns_meaning.specs.Applied.{IsProper}
 use Rattle.patterns_meaning.specs.Applying.{IsFoundIn, KeepsThere}
 
 -- a tree computes, behind a module, what was computed, or better. Values that no arithmetic operation gives that was done
--- stay as they are
+-- stay as they are. The tree shows what the module showed
 pub record ComputesBetter (a : Assignment) (done : ℕ → Bool) (m : Module) (later : ℕ → Bool) (t : Operation) : Type 0 where
   pub now : Assignment
   pub better : Better m.next a now
@@ -30,6 +31,7 @@ pub record ComputesBetter (a : Assignment) (done : ℕ → Bool) (m : Module) (l
   pub fits : FitsAll now later t
   pub typed : AreOfTypes now t
   pub sure : AllSure now later t
+  pub shows : Shows a now m later t
 
 -- a pattern makes no signed quotient
 abbrev pub is_quotient : Form → Bool

@@ -1,15 +1,22 @@
 -- What the operations of a module compute, of which patterns speak: an outcome is given to each value, and fits where
 -- each operation's result is what the operation makes of its operands.
-use Rattle.std.specs.Prelude.{◌≡◌, ◌⊎◌, ℕ, ◌+◌, List, [], ◌∷◌, map, codes, Bool, true, not, ◌&&◌, Option, Some, None, slice_get, is_some}
+use Rattle.std.specs.Prelude.{◌≡◌, ◌⊎◌, ℕ, ◌+◌, ◌*◌, ◌/◌, ◌^◌, ◌==◌, nat_lt, pos, int_div, ◌+ℤ◌, ◌-ℤ◌, ◌*ℤ◌, List, [], ◌∷◌, map, codes, Bool, true, false, not, ◌&&◌, ◌||◌, Option, Some, None, slice_get, is_some}
+use Rattle.std.specs.Int.{int_shr}
+use Rattle.std.specs.Ordering.{int_eq}
 use Rattle.ir_types.specs.declared.bits.BitsKind.{BitsKind}
-use Rattle.ir_types.specs.Terms.{TypeTerm, AttrTerm}
-use Rattle.ir_types.specs.Bits.{is_bits}
+use Rattle.ir_types.specs.Terms.{TypeTerm, AttrTerm, Flag, Overflow}
+use Rattle.ir_types.specs.Readings.{signed_of}
+use Rattle.ir_types.specs.Bits.{is_bits, width_of}
 use Rattle.ir_tree.specs.declared.value.Value.{Value}
 use Rattle.ir_tree.specs.declared.value.Value.TheVariants.{Result, Arg}
 use Rattle.ir_tree.specs.Tree.{RegionsOf, RegionOf, OpsOf, op, no_regions, region, empty, block, no_ops, next, head}
 use Rattle.ir_tree.specs.Meaning.{Operation}
+use Rattle.dialects_int.specs.declared.operations.Arithmetic.{Arithmetic}
+use Rattle.dialects_int.specs.declared.operations.Arithmetic.TheVariants as way
+use Rattle.dialects_int.specs.declared.operations.Cast.TheVariants as cast
 use Rattle.dialects_int.specs.declared.operations.Rule.{Rule}
 use Rattle.dialects_int.specs.declared.operations.Rule.TheVariants as rule
+use Rattle.dialects_int.specs.Arithmetic.{difference_of, product_of, sum_of, zero_extended}
 use Rattle.dialects_int.specs.Folds.{asked, fold_of, kind_of, property_of, rule_of}
 use Rattle.patterns_check.specs.Outcomes.{Outcome, compare_outcome, given, pair_outcome, resize_outcome, select_outcome}
 use Rattle.op_registry.specs.Registry.{beside}
@@ -62,9 +69,86 @@ makes h xs = given (rule_of h.name) (λ r. given (result_kind h) (λ k. makes_by
 abbrev pub is_arithmetic : Header → Bool
 is_arithmetic h = is_some (rule_of h.name) && is_some (result_kind h)
 
--- whether it has flags: where its value would break them it is poison
+-- ---- flags
+-- the flags of an operation: those of `overflowFlags`, and whether it has `isExact`
+pub record Flags : Type 0 where
+  pub nsw : Bool
+  pub nuw : Bool
+  pub exact : Bool
+
+abbrev pub flags_in : Option AttrTerm → Bool × Bool
+flags_in None = (false, false)
+flags_in (Some (Overflow nsw nuw)) = (nsw, nuw)
+flags_in (Some _) = (false, false)
+
+abbrev pub is_exact : Option AttrTerm → Bool
+is_exact None = false
+is_exact (Some Flag) = true
+is_exact (Some _) = false
+
+abbrev pub flags_by : List (List ℕ × AttrTerm) → Flags
+flags_by properties =
+    record {
+      nsw = (flags_in (beside (codes "overflowFlags") properties)).0;
+      nuw = (flags_in (beside (codes "overflowFlags") properties)).1;
+      exact = is_exact (beside (codes "isExact") properties);
+    }
+
+abbrev pub flags_of : Header → Flags
+flags_of h = flags_by h.properties
+
+-- whether it has any
+abbrev pub has_flags_by : List (List ℕ × AttrTerm) → Bool
+has_flags_by properties = not (are_none (beside (codes "overflowFlags") properties)) || is_exact (beside (codes "isExact") properties)
+
 abbrev pub has_flags : Header → Bool
-has_flags h = not (are_none (beside (codes "overflowFlags") h.properties))
+has_flags h = has_flags_by h.properties
+
+-- Returns whether an operation on two numbers of w bits overflows if they are signed: the signed reading of its result
+-- isn't the sum, the difference, the product or the multiple of theirs.
+abbrev pub overflows_signed : Arithmetic → ℕ → ℕ → ℕ → Bool
+overflows_signed way.Add w a b = not (int_eq (signed_of w (sum_of w a b)) (signed_of w a +ℤ signed_of w b))
+overflows_signed way.Subtract w a b = not (int_eq (signed_of w (difference_of w a b)) (signed_of w a -ℤ signed_of w b))
+overflows_signed way.Multiply w a b = not (int_eq (signed_of w (product_of w a b)) (signed_of w a *ℤ signed_of w b))
+overflows_signed way.ShiftLeft w a n = not (int_eq (signed_of w (product_of w a (2 ^ n))) (signed_of w a *ℤ pos (2 ^ n)))
+overflows_signed o w a b = false
+
+-- Returns whether it does if they are unsigned.
+abbrev pub overflows_unsigned : Arithmetic → ℕ → ℕ → ℕ → Bool
+overflows_unsigned way.Add w a b = not (sum_of w a b == a + b)
+overflows_unsigned way.Subtract w a b = nat_lt a b
+overflows_unsigned way.Multiply w a b = not (product_of w a b == a * b)
+overflows_unsigned way.ShiftLeft w a n = not (product_of w a (2 ^ n) == a * 2 ^ n)
+overflows_unsigned o w a b = false
+
+-- Returns whether a quotient or a shift to the right isn't exact: times the divisor it isn't the dividend.
+abbrev pub is_inexact : Arithmetic → ℕ → ℕ → ℕ → Bool
+is_inexact way.DivideSigned w a b = not (int_eq (int_div (signed_of w a) (signed_of w b) *ℤ signed_of w b) (signed_of w a))
+is_inexact way.DivideUnsigned w a b = not ((a / b) * b == a)
+is_inexact way.ShiftRightSigned w a n = not (int_eq (int_shr (signed_of w a) n *ℤ pos (2 ^ n)) (signed_of w a))
+is_inexact way.ShiftRightUnsigned w a n = not ((a / 2 ^ n) * 2 ^ n == a)
+is_inexact o w a b = false
+
+-- Returns whether known operands break the flags of an operation with a result of a kind: nsw and nuw of `addi`, `subi`,
+-- `muli` and `shli`; exact of `divsi`, `divui`, `shrsi` and `shrui`; and nsw and nuw of `trunci` from v bits, which has to
+-- give the same number again. Poison breaks none.
+abbrev pub breaks_pair : Flags → Arithmetic → ℕ → List Outcome → Bool
+breaks_pair flags o w (Some x ∷ Some y ∷ []) =
+    (flags.nsw && overflows_signed o w x.1 y.1) || ((flags.nuw && overflows_unsigned o w x.1 y.1) || (flags.exact && is_inexact o w x.1 y.1))
+breaks_pair flags o w _ = false
+
+abbrev pub breaks_cut : Flags → ℕ → List Outcome → Bool
+breaks_cut flags w (Some x ∷ []) =
+    (flags.nsw && not (int_eq (signed_of w (zero_extended w x.1)) (signed_of (width_of x.0) x.1))) || (flags.nuw && not (zero_extended w x.1 == x.1))
+breaks_cut flags w _ = false
+
+abbrev pub breaks_by : Option Rule → Flags → Option BitsKind → List Outcome → Bool
+breaks_by (Some (rule.Pair o)) flags (Some k) xs = breaks_pair flags o (width_of k) xs
+breaks_by (Some (rule.Resize cast.Truncate)) flags (Some k) xs = breaks_cut flags (width_of k) xs
+breaks_by r flags k xs = false
+
+abbrev pub breaks_flags : Header → List Outcome → Bool
+breaks_flags h xs = breaks_by (rule_of h.name) (flags_of h) (result_kind h) xs
 
 -- ---- each operation of a tree
 abbrev mutual
@@ -107,15 +191,19 @@ abbrev mutual
 abbrev pub Fits : Assignment → ℕ → Header → Type 0
 Fits a x h = makes h (map a h.operands) ≡ Some (a (Result x 0))
 
--- or it is defined, has flags, and is poison (which values break which flags isn't said)
+-- or it is defined, its operands break its flags, and it is poison
 abbrev pub Breaks : Assignment → ℕ → Header → Type 0
-Breaks a x h = (has_flags h ≡ true) × (is_some (makes h (map a h.operands)) ≡ true) × (a (Result x 0) ≡ None)
+Breaks a x h = (breaks_flags h (map a h.operands) ≡ true) × (is_some (makes h (map a h.operands)) ≡ true) × (a (Result x 0) ≡ None)
+
+-- it is what it makes where its operands don't break its flags, and else poison
+abbrev pub Obeys : Assignment → ℕ → Header → Type 0
+Obeys a x h = (Fits a x h × (breaks_flags h (map a h.operands) ≡ false)) ⊎ Breaks a x h
 
 -- an operation does one or the other where it is done, by its id, and something is said of it; other results are free.
 -- So what a tree computes may be looked at while it runs: what hasn't run, or isn't well-formed, isn't done, and need
 -- not be defined
 abbrev pub FitsDone : Assignment → (ℕ → Bool) → Header → Type 0
-FitsDone a done h = done h.id ≡ true → is_arithmetic h ≡ true → Fits a h.id h ⊎ Breaks a h.id h
+FitsDone a done h = done h.id ≡ true → is_arithmetic h ≡ true → Obeys a h.id h
 
 -- the operations of a tree do so
 abbrev pub FitsAll : Assignment → (ℕ → Bool) → Operation → Type 0

@@ -1,9 +1,9 @@
--- Four rewrites that no compiler may do, each as a module before and a module after. None is an improvement (`Improves`),
+-- Rewrites that no compiler may do, each as a module before and a module after. None is an improvement (`Improves`),
 -- so no rule or pattern that does one satisfies the laws.
-use Rattle.std.specs.Prelude.{◌≡◌, ℕ, zero, suc, List, [], ◌∷◌, Bool, true, codes, Some, None}
+use Rattle.std.specs.Prelude.{◌≡◌, ℕ, zero, suc, List, [], ◌∷◌, Bool, true, false, codes, Some, None}
 use Rattle.ir_types.specs.declared.node.Sign.TheVariants.{Signless}
 use Rattle.ir_types.specs.declared.bits.BitsKind.TheVariants as kind
-use Rattle.ir_types.specs.Terms.{AttrTerm, Integer, IntegerOf, TypeTerm}
+use Rattle.ir_types.specs.Terms.{AttrTerm, Integer, IntegerOf, Overflow, TypeTerm}
 use Rattle.ir_tree.specs.declared.value.Value.{Value}
 use Rattle.ir_tree.specs.declared.value.Value.TheVariants.{Arg, Result}
 use Rattle.ir_tree.specs.Tree.{OpsOf, block, next, no_ops, no_regions, op, region}
@@ -44,6 +44,10 @@ returning v = next (plain_op 4 (codes "func.return") (v ∷ []) [] []) no_ops
 abbrev pub summing : OpsOf (List ℕ) TypeTerm AttrTerm → OpsOf (List ℕ) TypeTerm AttrTerm
 summing os = next (plain_op 2 (codes "arith.addi") (Arg 1 0 0 ∷ Arg 1 0 1 ∷ []) (i8 ∷ []) []) os
 
+-- %s = addi %a, %b with nsw
+abbrev pub summing_signed : OpsOf (List ℕ) TypeTerm AttrTerm → OpsOf (List ℕ) TypeTerm AttrTerm
+summing_signed os = next (plain_op 2 (codes "arith.addi") (Arg 1 0 0 ∷ Arg 1 0 1 ∷ []) (i8 ∷ []) ((codes "overflowFlags", Overflow true false) ∷ [])) os
+
 -- store %s
 abbrev pub storing : OpsOf (List ℕ) TypeTerm AttrTerm → OpsOf (List ℕ) TypeTerm AttrTerm
 storing os = next (plain_op 3 (codes "memref.store") (Result 2 0 ∷ Arg 1 0 1 ∷ []) [] []) os
@@ -51,6 +55,10 @@ storing os = next (plain_op 3 (codes "memref.store") (Result 2 0 ∷ Arg 1 0 1 �
 -- %k = constant 42
 abbrev pub numbering : OpsOf (List ℕ) TypeTerm AttrTerm → OpsOf (List ℕ) TypeTerm AttrTerm
 numbering os = next (plain_op 5 (codes "arith.constant") [] (i8 ∷ []) ((codes "value", IntegerOf i8 42) ∷ [])) os
+
+-- test.d, an operation of an unknown dialect
+abbrev pub unknown_then : OpsOf (List ℕ) TypeTerm AttrTerm → OpsOf (List ℕ) TypeTerm AttrTerm
+unknown_then os = next (plain_op 3 (codes "test.d") [] [] []) os
 
 -- all is erased
 abbrev pub WipingBreaks : Type 0
@@ -69,13 +77,39 @@ ErasedStoreBreaks =
     (a : Assignment) (done later : ℕ → Bool)
     → Improves a done (function_of 5 (summing (storing (returning (Result 2 0))))) later (function_of 5 (summing (returning (Result 2 0)))).tree → ⊥
 
+-- an operation of an unknown dialect is erased, as by an `erase-dead` that takes it for dead
+abbrev pub ErasedUnknownBreaks : Type 0
+ErasedUnknownBreaks =
+    (a : Assignment) (done later : ℕ → Bool)
+    → Improves a done (function_of 5 (unknown_then (returning (Arg 1 0 0)))) later (function_of 5 (returning (Arg 1 0 0))).tree → ⊥
+
 -- a new constant is returned for a sum that is another number
 abbrev pub NewConstantBreaks : Type 0
 NewConstantBreaks =
     (a : Assignment) (done later : ℕ → Bool) → a (Result 2 0) ≡ Some (kind.Int 8, 1) → later 4 ≡ true
     → Improves a done (function_of 5 (summing (returning (Result 2 0)))) later (function_of 6 (summing (numbering (returning (Result 5 0))))).tree → ⊥
 
--- The premises of the last can be met: its module is ready, and computes the sum 1 of 1 and 0.
+-- nsw is added to a sum that overflows: 127 + 1 is -128
+abbrev pub AddedFlagBreaks : Type 0
+AddedFlagBreaks =
+    (a : Assignment) (done later : ℕ → Bool)
+    → a (Arg 1 0 0) ≡ Some (kind.Int 8, 127) → a (Arg 1 0 1) ≡ Some (kind.Int 8, 1) → a (Result 2 0) ≡ Some (kind.Int 8, 128) → later 2 ≡ true
+    → Improves a done (function_of 5 (summing (returning (Result 2 0)))) later (function_of 5 (summing_signed (returning (Result 2 0)))).tree → ⊥
+
+abbrev pub greatest_and_one : Assignment
+greatest_and_one (Result (suc (suc zero)) k) = Some (kind.Int 8, 128)
+greatest_and_one (Result x k) = None
+greatest_and_one (Arg x r zero) = Some (kind.Int 8, 127)
+greatest_and_one (Arg x r (suc k)) = Some (kind.Int 8, 1)
+
+-- Its premises can be met: the module before is ready, and computes so.
+abbrev pub OverflowComputes : Type 0
+OverflowComputes =
+    Computing greatest_and_one all_done (function_of 5 (summing (returning (Result 2 0)))).tree
+    × (greatest_and_one (Arg 1 0 0) ≡ Some (kind.Int 8, 127)) × (greatest_and_one (Arg 1 0 1) ≡ Some (kind.Int 8, 1))
+    × (greatest_and_one (Result 2 0) ≡ Some (kind.Int 8, 128))
+
+-- The premises of the new constant can be met: its module is ready, and computes the sum 1 of 1 and 0.
 abbrev pub one_and_zero : Assignment
 one_and_zero (Result (suc (suc zero)) k) = Some (kind.Int 8, 1)
 one_and_zero (Result x k) = None
@@ -88,10 +122,13 @@ SumComputes =
     × Computing one_and_zero all_done (function_of 5 (summing (returning (Result 2 0)))).tree
     × (one_and_zero (Result 2 0) ≡ Some (kind.Int 8, 1))
 
--- all four
+-- all of them
 pub record AreRefused : Type 0 where
   pub computes : SumComputes
   pub wiping : WipingBreaks
   pub other_argument : OtherArgumentBreaks
   pub erased_store : ErasedStoreBreaks
+  pub erased_unknown : ErasedUnknownBreaks
   pub new_constant : NewConstantBreaks
+  pub overflow : OverflowComputes
+  pub added_flag : AddedFlagBreaks

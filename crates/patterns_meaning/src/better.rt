@@ -1,5 +1,6 @@
 //! Laws of values that get better: what is poison may become a value, and so may what is computed of it.
-ghost use Rattle.patterns_meaning.specs.Better.{Monotone, OtherConstantsAreKinded, Settles};
+ghost use Rattle.patterns_meaning.specs.Better.{Monotone, OthersAreKinded, Settles};
+ghost use Rattle.patterns_meaning.specs.FlagSamples.{SamplesBreak};
 ghost use Rattle.patterns_meaning.specs.Improving.{RewritesComputeBetter};
 
 use patterns_own::laws::no_edit_of_a_pattern_is_refused;
@@ -11,9 +12,9 @@ pub fn operations_give_no_less()
     ensures { Monotone }
 {}
 
-/// A constant of a type without a kind, as `f32` or a vector, leaves a module ready.
-pub fn constants_of_other_types_are_kinded()
-    ensures { OtherConstantsAreKinded }
+/// An operation whose result isn't an integer or index leaves a module ready, if it is no select.
+pub fn operations_of_other_types_are_kinded()
+    ensures { OthersAreKinded }
 {}
 
 /// Where each operation of a tree makes what it gives or better, there are outcomes that fit, the same or better: what
@@ -29,3 +30,8 @@ pub fn rewrites_compute_no_less()
 {
     no_edit_of_a_pattern_is_refused();
 }
+
+/// Samples of operands that break `nsw`, `nuw` and `exact`, and of operands that don't.
+pub fn samples_break_flags()
+    ensures { SamplesBreak }
+{}

@@ -217,7 +217,8 @@ pub fn expand_remainder()
 }
 
 /// These laws refuse rewrites that change what can be observed: one that erases all, one that returns another argument,
-/// one that erases a store, and one that returns a new constant for another number.
+/// one that erases a store, one that erases an operation of an unknown dialect, one that returns a new constant for
+/// another number, and one that adds `nsw` to a sum that overflows.
 /// Each operation that can be observed after a rewrite was there before it, with operands that are the same or better.
 pub fn what_is_shown_is_kept()
     ensures refused { AreRefused }

@@ -5,4 +5,5 @@ pub mod better;
 pub mod kept;
 pub mod laws;
 pub mod passing;
+pub mod refined;
 pub mod strict;

@@ -1,4 +1,5 @@
-use Rattle.patterns_meaning.proofs.Applying.{checked_keeps, rewrites_compute}
+use Rattle.patterns_meaning.proofs.Applying.{checked_keeps}
+use Rattle.patterns_meaning.proofs.Improved.{rewrites_compute}
 use Rattle.patterns_meaning.proofs.laws.rewrites_keep_what_is_computed.Goals as goal
 
 pub returns-clause-rewrites : goal.returns-clause-rewrites
