@@ -12,7 +12,7 @@ ghost use Rattle.listeners_symbols.specs.Telling.{told_at};
 use crate::definers::Definers;
 use crate::definitions::Definitions;
 use crate::role::Role;
-use crate::roles::Roles;
+use crate::roles::{Roles, defines};
 use ir_event::types::ids::{NameId, OpId};
 use std::alloc::{AllocError, Global};
 use std::collections::BTreeSet;
@@ -32,7 +32,7 @@ fn add_name(role: &Role, names: &mut BTreeSet<NameId>) -> Result<(), AllocError>
     let Some(name) = role.name else {
         return Ok(());
     };
-    if role.home.is_some() && role.symbol.is_some() {
+    if defines(role) {
         return Ok(());
     }
     names.insert(name)?;

@@ -99,7 +99,8 @@ fn tells(role: &Role) -> bool
     defines(role) || refers(role) || role.call.is_some()
 }
 
-fn defines(role: &Role) -> bool
+/// Whether an operation defines a symbol.
+pub(crate) fn defines(role: &Role) -> bool
     ensures { result ≡ (is_some role.now.home && is_some role.now.symbol) }
 {
     role.home.is_some() && role.symbol.is_some()
