@@ -86,7 +86,10 @@ pub fn status_of<R: Read, W: Write>(
         let most = number(more);
         let listener: Box<dyn Analysis> = match word {
             "none" => continue,
-            "symbols" => Box::new(alloc, AtMost::new(Symbols::new(alloc, Definers::Listed), most))?,
+            "symbols" => Box::new(
+                alloc,
+                AtMost::new(Symbols::new(alloc, Definers::Listed), most),
+            )?,
             "diagnostics" => Box::new(alloc, Diagnostics::new(alloc))?,
             "constants" => Box::new(alloc, Constants::new(alloc))?,
             "effects" => Box::new(alloc, AtMost::new(Effects::new(alloc), most))?,
