@@ -248,8 +248,16 @@ def asked_modules(module):
         yield (OPAQUE,), given, (0, b"1 ok\n" + module.answer + b"2 ok\n")
 
 
+def unresolved_told(run, module):
+    """The rows that say of a reference that it names nothing, though mlir-opt accepts the module."""
+    _, out = run((OPAQUE,), module.text + b"\n// -----\nreport symbols\n")
+    return [line.decode() for line in out.splitlines() if line.startswith(b"unresolved ")]
+
+
 def module_told(run, module):
     """What is wrong with the answers for a module, each."""
+    for row in unresolved_told(run, module):
+        yield f"{module.name}: {row}"
     for words, text, wanted in asked_modules(module):
         found = run(words, text)
         if found != wanted:

@@ -282,6 +282,8 @@ class Reader:
     """Reads opaque terms, and of a module aliases and locations too: only its expansion has to be UTF-8, and no longer
     than a text may be."""
 
+    is_opaque = True
+
     def __init__(self, text, outer=None):
         self.text, self.outer = text, outer
 

@@ -43,16 +43,29 @@ def references(op):
     return found
 
 
-class Symbols:
-    """The definitions of a module and what references resolve to."""
+def name_of(op):
+    """The string that an operation has as `sym_name`, among its properties or else among its attributes; or none."""
+    for part in (op.props, op.attrs):
+        attr = part.get(b"sym_name")
+        if attr is not None and attr[0] == "str":
+            return attr[1]
+    return None
 
-    def __init__(self, module):
+
+class Symbols:
+    """The definitions of a module and what references resolve to. With opaque terms, where a module may have operations
+    of any dialect, an operation that isn't a definition may still define a symbol of its name."""
+
+    def __init__(self, module, is_opaque=False):
         self.module, self.ops, self.places = module, module.ops(), module.places()
         self.definitions = []
         for number, op in sorted(self.ops.items()):
             name, where = op.props.get(b"sym_name"), self.places.get(number)
             if op.name in (FUNC, MODULE) and name and name[0] == "str" and where and where.parent.name == MODULE:
                 self.definitions.append((where.parent.id, name[1], number))
+        defining = {number for _, _, number in self.definitions}
+        others = [op for number, op in self.ops.items() if number not in defining]
+        self.possible = {name_of(op) for op in others if is_opaque} - {None}
 
     def first(self, table, name):
         """The definition of a name in a table that counts, or none."""
@@ -90,8 +103,8 @@ class Symbols:
         return None if is_right else found
 
 
-def symbols(module):
-    them = Symbols(module)
+def symbols(module, is_opaque=False):
+    them = Symbols(module, is_opaque)
     defined = [(table, symbol_text((name,)), number) for table, name, number in them.definitions]
     groups = [[f"def #{table} {name} #{number}" for table, name, number in defined]]
     groups.append([f"duplicate #{table} {name} #{number}" for table, name, number in defined
@@ -101,7 +114,8 @@ def symbols(module):
         for parts in references(op):
             found = them.resolved(op, parts)
             if found is None:
-                unresolved.append(f"unresolved #{number} {symbol_text(parts)}")
+                word = "unresolved" if them.possible.isdisjoint(parts) else "unknown"
+                unresolved.append(f"{word} #{number} {symbol_text(parts)}")
             else:
                 used.append(f"use #{number} {symbol_text(parts)} #{found}")
         found = them.mismatched(op)
@@ -198,7 +212,7 @@ def subject(row):
     words = row.split(" ")
     if words[0] in ("def", "duplicate"):
         return words[-1]
-    return words[1] if words[0] in ("use", "unresolved", "mismatch") else words[0]
+    return words[1] if words[0] in ("use", "unresolved", "unknown", "mismatch") else words[0]
 
 
 def is_about(row, thing):
@@ -211,4 +225,11 @@ def is_about(row, thing):
 
 ANALYSES = {"uses": uses, "symbols": symbols, "diagnostics": diagnostics, "effects": effects, "dead": dead,
             "constants": constants, "unreached": unreached}
+
+
+def rows_of(kind, module, is_opaque):
+    """The rows of an analysis in a run, which reads opaque terms or doesn't."""
+    return symbols(module, is_opaque) if kind == "symbols" else ANALYSES[kind](module)
+
+
 KINDS = {1: "uses", 2: "symbols", 3: "diagnostics", 4: "effects", 5: "dead", 6: "constants", 7: "unreached"}

@@ -387,8 +387,24 @@ def opened(chance, made):
     return made
 
 
+def symbol_line(chance, scripter):
+    """A line of a script about names of operations that may define symbols, and about references to them."""
+    name, other = (chance.choice("fghm") for _ in range(2))
+    value = chance.choice([f'"{name}"', f'"{name}"', f'"{name}" : !t.s', f"@{name}", "1 : i8"])
+    return chance.choice([
+        f"insert {scripter.place()} \"t.global\"() <{{sym_name = {value}}}> : () -> ()",
+        f"insert {scripter.place()} \"t.global\"() {{sym_name = {value}}} : () -> ()",
+        f'insert {scripter.place()} "t.table"() ({{ "t.func"() {{sym_name = "{other}"}} : () -> () }}) '
+        f'{{sym_name = "{name}"}} : () -> ()',
+        f'insert {scripter.place()} "t.user"() {{a = @{name}, b = [@{other}::@{name}, @n::@{other}]}} : () -> ()',
+        f"set-attr #{scripter.any_op()} sym_name {value}", f"drop-attr #{scripter.any_op()} sym_name",
+        f"report symbols of #{scripter.any_op()}", "report symbols"])
+
+
 def opaque_line(chance, scripter):
-    """A line of a script with opaque terms, most of which are right."""
+    """A line of a script with opaque terms, most of which are right, or about symbols."""
+    if chance.random() < 0.4:
+        return symbol_line(chance, scripter)
     term = printing.attr_text(Opener(chance).any_attr())
     if chance.random() < 0.2:
         term = chance.choice(["#m", "!t", "1.0 : i8", "1 : f32", "dense<1>", "#d.a<(x>", "#d.a<x", "tensor<4 // x>",

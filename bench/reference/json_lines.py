@@ -4,7 +4,7 @@ import re
 
 # The words of a row of `symbols`, with what their cells are.
 SYMBOLS = {b"def": ("table", "name", "op"), b"duplicate": ("table", "name", "op"), b"use": ("op", "name", "target"),
-           b"unresolved": ("op", "name"), b"mismatch": ("op", "target")}
+           b"unresolved": ("op", "name"), b"unknown": ("op", "name"), b"mismatch": ("op", "target")}
 MOST = 2 ** 32
 # The words of a check, behind which a width stands, and what it says of a variable or a result, or how that begins.
 OF_WIDTH = (b"holds", b"empty", b"unrefuted", b"fails")

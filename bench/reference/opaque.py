@@ -103,6 +103,8 @@ def is_plain_memref(text, at):
 class Reader(rules.Reader):
     """Reads opaque terms too."""
 
+    is_opaque = True
+
     # Types.
 
     def body(self, word, at, bracket=b"<"):

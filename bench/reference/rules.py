@@ -152,6 +152,9 @@ def value_of(ty, literal, at):
 class Reader:
     """Reads parts of a text from a byte on; each call gives the part and the byte behind it."""
 
+    # Whether types and attributes that aren't known are read as opaque ones.
+    is_opaque = False
+
     def __init__(self, text, outer=None):
         self.text, self.outer, self.ops, self.tokens = text, outer, 0, {}
         if len(text) > MOST_BYTES:

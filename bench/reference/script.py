@@ -3,7 +3,7 @@ import functools
 import re
 
 from . import aliases, conversion, edits, everywhere, mixed, pattern_uses, patterns, reasons, rewrites, sampling
-from .analyses import ANALYSES, KINDS, is_about, unreached_ops
+from .analyses import ANALYSES, KINDS, is_about, rows_of, unreached_ops
 from .culprits import about, about_text
 from .module import ids_text, printing, read, read_attr, read_op, rules, text_of
 from .parts import Bad, cut, cut_key, cut_place, need, number, op_of, value_of
@@ -100,7 +100,7 @@ class Run:
         return thing
 
     def rows(self, kind):
-        return "".join(row + "\n" for row in ANALYSES[kind](self.module))
+        return "".join(row + "\n" for row in rows_of(kind, self.module, self.reader.is_opaque))
 
     # Each command takes its text, and gives what stands in place of `ok` and what is written below it.
 

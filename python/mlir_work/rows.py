@@ -15,9 +15,9 @@ class Use(NamedTuple):
 
 
 class Symbol(NamedTuple):
-    """A row of `symbols`. `group` is `def`, `duplicate`, `use`, `unresolved` or `mismatch`, and `operation` the one
-    that defines or refers; `name` is as it is printed, as `@f`. `table` is the module of a definition, and `target`
-    what a reference or a call comes to."""
+    """A row of `symbols`. `group` is `def`, `duplicate`, `use`, `unresolved`, `unknown` or `mismatch`, and `operation`
+    the one that defines or refers; `name` is as it is printed, as `@f`. `table` is the module of a definition, and
+    `target` what a reference or a call comes to."""
 
     group: str
     operation: int
@@ -62,7 +62,7 @@ class Unreached(NamedTuple):
 
 # A row of a kind that isn't known here is the words of its line.
 Row = Union[Use, Symbol, Diagnostic, Effect, Dead, Constant, Unreached, Tuple[str, ...]]
-_SYMBOL = re.compile(r"(def|duplicate|use|unresolved|mismatch) #(\d+)(?: (@.*?))?(?: #(\d+))?")
+_SYMBOL = re.compile(r"(def|duplicate|use|unresolved|unknown|mismatch) #(\d+)(?: (@.*?))?(?: #(\d+))?")
 
 
 def _op(word: str) -> int:

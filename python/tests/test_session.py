@@ -531,6 +531,13 @@ class Rows(Case):
             s.drop_attr(5, "k")
             self.assertEqual(s.report("unreached"), [(1, name)])
 
+    def test_symbols_that_may_be_defined(self):
+        """A name that an operation beyond the table has is unknown with opaque terms, and unresolved without them."""
+        text = '"llvm.func"() <{sym_name = "f"}> ({}) : () -> ()\n"t.a"() {k = @f, l = @g} : () -> ()\n'
+        for opaque, group in ((True, "unknown"), (False, "unresolved")):
+            with session(text, opaque=opaque) as s:
+                self.assertEqual(s.report("symbols"), [Symbol(group, 2, "@f"), Symbol("unresolved", 2, "@g")])
+
     def test_the_others(self):
         with session(example("branch")) as s:
             self.assertEqual(s.report("uses")[0], (Argument(1, 0, 0), 6, 0))

@@ -141,6 +141,13 @@ class Reports(unittest.TestCase):
                 said = program.replies(program.asked((own.group(1) if own else first).encode(), script)[1])
                 self.assertEqual(said[-1], ("ok", indented(text)))
 
+    def test_symbols_with_opaque_terms(self):
+        text = sections("REPORTS.md")["Symbols with `--opaque`"]
+        program.ask(True)
+        self.addCleanup(program.ask, False)
+        said = program.replies(program.asked(MODULE.search(text).group(1).encode(), ["report symbols"])[1])
+        self.assertEqual(said, [("ok", indented(text))])
+
     def test_rows_about_one_thing(self):
         page = (ROOT / "docs/REPORTS.md").read_text()
         module, text = MODULE.search(page).group(1), sections("REPORTS.md")["Of one operation, or one value"]

@@ -12,6 +12,7 @@ mod table;
 mod user;
 pub mod uses;
 
+pub use listeners_symbols::definers::Definers;
 pub use listeners_symbols::symbols::Symbols;
 pub use listeners_unreached::list::unreached;
 pub use listeners_unreached::unreached::Unreached;

@@ -95,6 +95,7 @@ module _ (b c : Things) (holds : Holds b) (g : Grows b c) where
     table = r.table;
     is_table = r.is_table;
     symbol = option_stays (IsName b) (name_term c) (name_term b) r.symbol h.symbol (λ n k. name_stays b c n g k) i;
+    name = option_stays (IsName b) (name_term c) (name_term b) r.name h.name (λ n k. name_stays b c n g k) i;
     is_private = r.is_private;
     references = (references_meant c r.references.items ∙ map_all (ReferenceIsOf b) (reference_meaning c) (reference_meaning b) r.references.items h.references reference_stays ∙ sym (references_meant b r.references.items)) i;
     call = (call_meant c r.call ∙ option_stays (CallIsOf b) (call_meaning c) (call_meaning b) r.call h.call call_stays ∙ sym (call_meant b r.call)) i;
@@ -104,6 +105,7 @@ module _ (b c : Things) (holds : Holds b) (g : Grows b c) where
   pub role_more : (r : Numbers) → RoleIsOf b r → RoleIsOf c r
   role_more r h = record {
     symbol = some_more (IsName b) (IsName c) r.symbol h.symbol name_more;
+    name = some_more (IsName b) (IsName c) r.name h.name name_more;
     references = all_more (ReferenceIsOf b) (ReferenceIsOf c) r.references.items h.references (λ p k. record { path = attr_more p.path k.path; is = subst IsSymbol (sym (attr_stays b c p.path holds g k.path)) k.is; parts = all_more (IsName b) (IsName c) p.parts.items k.parts name_more });
     call = some_more (CallIsOf b) (CallIsOf c) r.call h.call (λ k l. record { callee = all_more (IsName b) (IsName c) k.callee.items l.callee name_more; inputs = all_more (IsType b) (IsType c) k.inputs.items l.inputs type_more; outputs = all_more (IsType b) (IsType c) k.outputs.items l.outputs type_more });
     function = some_more (SignatureIsOf b) (SignatureIsOf c) r.function h.function (λ k l. record { inputs = all_more (IsType b) (IsType c) k.inputs.items l.inputs type_more; outputs = all_more (IsType b) (IsType c) k.outputs.items l.outputs type_more });

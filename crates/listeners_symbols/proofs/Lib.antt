@@ -9,4 +9,5 @@ pub mod Looks
 pub mod Lines
 pub mod Reported
 pub mod Telling
+pub mod NamesAdded
 pub mod Marked

@@ -37,7 +37,7 @@ use Rattle.listeners_surroundings.proofs.Left.{left_head, left_node}
 use Rattle.listeners_surroundings.proofs.Alike.{Both, neither, each, both, same_value_type}
 use Rattle.listeners_surroundings.proofs.Moves.{left_id, taken}
 use Rattle.listeners_surroundings.proofs.Heads.{Keeps}
-use Rattle.listeners_symbols.specs.Roles.{Head, Stand, parent_in, home_of, table_at, symbol_of, is_private, references_of, signature_of, callee_of, call_of, role_from, role, role_of}
+use Rattle.listeners_symbols.specs.Roles.{Head, Stand, parent_in, home_of, table_at, symbol_of, name_of, is_private, references_of, signature_of, callee_of, call_of, role_from, role, role_of}
 use Rattle.ir_event.proofs.of_types.Truths.{unlike}
 
 abbrev Step_in : Type 0
@@ -348,7 +348,7 @@ module _ (x k : ℕ) (new : Value) (m n : Operation) (is : n ≡ each_head (at x
           let after = map (λ v. type_of_value v n) (put_operand k new h).operands in
           let calls : call_of (put_operand k new h) after ≡ call_of h before = unmapped _ (callee_of h) bare ∙ sym (unmapped _ (callee_of h) bare) in
           let one : role n (edit_stand set s) ≡ role_from (parent_in s.path) (home_of s.path) (table_at h s.path) (put_operand k new h) after = (λ i. role_from (around i) (home i) (table i) (heads i) (map (λ v. type_of_value v n) (heads i).operands)) in
-          let two : role_from (parent_in s.path) (home_of s.path) (table_at h s.path) (put_operand k new h) after ≡ role m s = (λ i. record { parent = parent_in s.path; home = home_of s.path; table = table_at h s.path; is_table = is_table h.name; symbol = symbol_of h; is_private = is_private h; references = references_of h; call = calls i; function = signature_of h }) in
+          let two : role_from (parent_in s.path) (home_of s.path) (table_at h s.path) (put_operand k new h) after ≡ role m s = (λ i. record { parent = parent_in s.path; home = home_of s.path; table = table_at h s.path; is_table = is_table h.name; symbol = symbol_of h; name = name_of h; is_private = is_private h; references = references_of h; call = calls i; function = signature_of h }) in
           ap (option_map (role n)) (there ∙ ap (option_map (edit_stand set)) e) ∙ ap Some (one ∙ two) ∙ sym (ap (option_map (role m)) e)
 
 at_others : (x : ℕ) (f : Head → Head) (y : ℕ) → eqb x y ≡ false → (h : Head) → h.id ≡ y → at x f h ≡ h

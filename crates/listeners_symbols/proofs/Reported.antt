@@ -1,7 +1,7 @@
 -- What a report shows.
-use Rattle.std.proofs.Common.{◌≡◌, refl, ap, sym, ◌∙◌, subst, ℕ, ◌++◌, Bool, true, false, true≢false, cond, not, ◌&&◌, eqb, eq-eqb, eqb-true, List, [], ◌∷◌, map, Option, Some, None, inl, inr, arith}
-use Rattle.std.specs.Prelude.{option_map, IfSome}
-use Rattle.std.specs.List.{AllByRecursion, All}
+use Rattle.std.proofs.Common.{◌≡◌, refl, ap, sym, ◌∙◌, subst, ℕ, ◌++◌, Bool, true, false, true≢false, cond, not, ◌&&◌, ◌||◌, eqb, eq-eqb, eqb-true, List, [], ◌∷◌, map, Option, Some, None, inl, inr, arith}
+use Rattle.std.specs.Prelude.{option_map, IfSome, is_some}
+use Rattle.std.specs.List.{AllByRecursion, All, list_any}
 use Rattle.std.specs.List.Sorted.{IsStrictlySortedBy}
 use Rattle.std.specs.Option.{option_eq}
 use Rattle.std.specs.Str.{bytes_eq}
@@ -29,6 +29,8 @@ use Rattle.ir_event.specs.declared.row.Cell.{Cell}
 use Rattle.ir_event.specs.declared.row.Cell.TheVariants as cell
 use Rattle.ir_event.specs.declared.row.Row.{Row}
 use Rattle.ir_event.specs.Rows.{Op, Name, Path, Tag, IsSymbol, cell_meaning, rows_meaning, CellIsOf, RowIsOf, Shows}
+use Rattle.listeners_symbols.specs.declared.definers.Definers.{Definers}
+use Rattle.listeners_symbols.specs.declared.definers.Definers.TheVariants.{Listed, AnyNamed}
 use Rattle.listeners_symbols.specs.declared.role.Role.{Role as Numbers}
 use Rattle.listeners_symbols.specs.declared.roles.Roles.{Roles}
 use Rattle.listeners_symbols.specs.declared.role.Reference.{Reference}
@@ -36,7 +38,7 @@ use Rattle.listeners_symbols.specs.declared.role.Call.{Call}
 use Rattle.listeners_symbols.specs.declared.role.Signature.{Signature}
 use Rattle.ir_event.specs.types.SameTypes.{same_type}
 use Rattle.listeners_symbols.specs.Roles.{Stand, role, role_of}
-use Rattle.listeners_symbols.specs.Symbols.{RolesOf, roles_in, roles_by_id, DefinitionOf, defined, definitions, says_table, function_at, LineOf, Definition, Duplicate, Use, Unresolved, Mismatch, first_defined, is_duplicate, look_in, resolve, fits, definition_lines, duplicate_lines, reference_line, reference_lines, all_reference_lines, mismatch_line, call_line, mismatch_lines, lines_with, symbol_lines, line_cells, symbol_rows}
+use Rattle.listeners_symbols.specs.Symbols.{RolesOf, roles_in, roles_by_id, DefinitionOf, defined, definitions, says_table, function_at, LineOf, Definition, Duplicate, Use, Unresolved, Unknown, Mismatch, first_defined, is_duplicate, look_in, resolve, fits, definition_lines, duplicate_lines, is_among, name_unless, undefined, undefined_names, possible_names, reference_line, reference_lines, all_reference_lines, mismatch_line, call_line, mismatch_lines, lines_with, symbol_lines, line_cells, symbol_rows}
 use Rattle.listeners_symbols.specs.Table.{reference_of, call_numbers, signature_numbers, role_numbers, map_reference, map_call, map_signature, role_meaning, call_meaning, RoleIsOf, ReferenceIsOf, CallIsOf, SignatureIsOf, Keeps, IsKept}
 use Rattle.listeners_symbols.specs.Listeners.{kept_at}
 use Rattle.listeners_symbols.specs.Lines.{numbered, numbers_at, cells_of, lines_cells}
@@ -69,6 +71,7 @@ map_line f h (Definition t n x) = Definition t (f n) x
 map_line f h (Duplicate t n x) = Duplicate t (f n) x
 map_line f h (Use y p x) = Use y (h p) x
 map_line f h (Unresolved y p) = Unresolved y (h p)
+map_line f h (Unknown y p) = Unknown y (h p)
 map_line f h (Mismatch y x) = Mismatch y x
 
 module _ (b : Things) where
@@ -80,6 +83,7 @@ module _ (b : Things) where
   LineIs (Duplicate t n x) = IsName b n
   LineIs (Use y p x) = IsAttr b p × IsSymbol (attr_term b p)
   LineIs (Unresolved y p) = IsAttr b p × IsSymbol (attr_term b p)
+  LineIs (Unknown y p) = IsAttr b p × IsSymbol (attr_term b p)
   LineIs (Mismatch y x) = Unit {0}
 
   abbrev pub EntryIs : ℕ × Numbers → Type 0
@@ -122,17 +126,52 @@ module _ (b : Things) where
   definition_lines_known [] k = tt
   definition_lines_known (d ∷ ds) k = (k.0, definition_lines_known ds k.1)
 
-  line_meant : (resolved : Bool) (y p : ℕ) (found : Option ℕ) → reference_line resolved y (attr_term b p) found ≡ map in_line (reference_line resolved y p found)
-  line_meant true y p None = refl
-  line_meant true y p (Some x) = refl
-  line_meant false y p None = refl
-  line_meant false y p (Some x) = refl
+  -- the names of operations that aren't definitions
+  one_undefined : (defines : Bool) (name : Option ℕ) → name_unless defines (option_map (name_term b) name) ≡ map (name_term b) (name_unless defines name)
+  one_undefined defines None = refl
+  one_undefined true (Some n) = refl
+  one_undefined false (Some n) = refl
 
-  line_known : (resolved : Bool) (y p : ℕ) (found : Option ℕ) → IsAttr b p × IsSymbol (attr_term b p) → Each LineIs (reference_line resolved y p found)
-  line_known true y p None k = tt
-  line_known true y p (Some x) k = (k, tt)
-  line_known false y p None k = (k, tt)
-  line_known false y p (Some x) k = tt
+  same_defines : (home symbol : Option ℕ) → (is_some home && is_some (option_map (name_term b) symbol)) ≡ (is_some home && is_some symbol)
+  same_defines home None = refl
+  same_defines home (Some n) = refl
+
+  undefined_meant : (es : List (ℕ × Numbers)) → undefined_names (meant es) ≡ map (name_term b) (undefined_names (numbered es))
+  undefined_meant [] = refl
+  undefined_meant (e ∷ es) =
+      (λ i. (ap (λ d. name_unless d (option_map (name_term b) e.1.name)) (same_defines e.1.home e.1.symbol) ∙ one_undefined (is_some e.1.home && is_some e.1.symbol) e.1.name) i ++ undefined_meant es i)
+      ∙ sym (map-append (name_term b) (undefined e.1.home e.1.symbol e.1.name) (undefined_names (numbered es)))
+
+  name_known : (defines : Bool) (name : Option ℕ) → IfSome name (IsName b) → Each (IsName b) (name_unless defines name)
+  name_known defines None k = tt
+  name_known true (Some n) k = tt
+  name_known false (Some n) k = (k, tt)
+
+  undefined_known : (es : List (ℕ × Numbers)) → Each EntryIs es → Each (IsName b) (undefined_names (numbered es))
+  undefined_known [] k = tt
+  undefined_known (e ∷ es) k = each_append (IsName b) (undefined e.1.home e.1.symbol e.1.name) (undefined_names (numbered es)) (name_known (is_some e.1.home && is_some e.1.symbol) e.1.name k.0.name) (undefined_known es k.1)
+
+  possible_meant : (which : Definers) (es : List (ℕ × Numbers)) → possible_names which (meant es) ≡ map (name_term b) (possible_names which (numbered es))
+  possible_meant Listed es = refl
+  possible_meant AnyNamed es = undefined_meant es
+
+  possible_known : (which : Definers) (es : List (ℕ × Numbers)) → Each EntryIs es → Each (IsName b) (possible_names which (numbered es))
+  possible_known Listed es k = tt
+  possible_known AnyNamed es k = undefined_known es k
+
+  line_meant : (resolved may : Bool) (y p : ℕ) (found : Option ℕ) → reference_line resolved may y (attr_term b p) found ≡ map in_line (reference_line resolved may y p found)
+  line_meant true may y p None = refl
+  line_meant true may y p (Some x) = refl
+  line_meant false true y p None = refl
+  line_meant false false y p None = refl
+  line_meant false may y p (Some x) = refl
+
+  line_known : (resolved may : Bool) (y p : ℕ) (found : Option ℕ) → IsAttr b p × IsSymbol (attr_term b p) → Each LineIs (reference_line resolved may y p found)
+  line_known true may y p None k = tt
+  line_known true may y p (Some x) k = (k, tt)
+  line_known false true y p None k = (k, tt)
+  line_known false false y p None k = (k, tt)
+  line_known false may y p (Some x) k = tt
 
   module _ (sound : IsSound b) where
     one_name : (m n : ℕ) → IsName b m → IsName b n → bytes_eq (name_term b m) (name_term b n) ≡ eqb m n
@@ -140,6 +179,14 @@ module _ (b : Things) where
 
     one_type : (m n : ℕ) → IsType b m → IsType b n → same_type (type_term b m) (type_term b n) ≡ eqb m n
     one_type m n h k = decided (same_type (type_term b m) (type_term b n)) m n (λ e. type_term_one b m n sound h k (type_is (type_term b m) (type_term b n) e)) (λ e. ap (λ z. same_type (type_term b m) (type_term b z)) (sym e) ∙ type_refl (type_term b m))
+
+    among_meant : (names : List ℕ) → Each (IsName b) names → (n : ℕ) → IsName b n → is_among bytes_eq (map (name_term b) names) (name_term b n) ≡ is_among eqb names n
+    among_meant [] k n h = refl
+    among_meant (m ∷ names) k n h = λ i. one_name n m h k.0 i || among_meant names k.1 n h i
+
+    may_meant : (names : List ℕ) → Each (IsName b) names → (ns : List ℕ) → All (IsName b) ns → list_any (is_among bytes_eq (map (name_term b) names)) (map (name_term b) ns) ≡ list_any (is_among eqb names) ns
+    may_meant names k [] h = refl
+    may_meant names k (n ∷ ns) h = λ i. among_meant names k n (All-head (IsName b) n ns h) i || may_meant names k ns (All-tail (IsName b) n ns h) i
 
     first_meant : (table n : ℕ) → IsName b n → (ds : List (DefinitionOf ℕ)) → Each DefinitionIs ds → first_defined bytes_eq table (name_term b n) (defs_in ds) ≡ first_defined eqb table n ds
     first_meant table n h [] k = refl
@@ -198,32 +245,41 @@ module _ (b : Things) where
           go None l = refl
           go (Some r) l = one r.function l.function
 
-      references_meant : (resolved : Bool) (y : ℕ) (table : Option ℕ) (ps : List Reference) → All (ReferenceIsOf b) ps
-          → reference_lines bytes_eq (role_of t) (defs_in ds) resolved y table (map (map_reference (name_term b) (attr_term b)) (map reference_of ps)) ≡ map in_line (reference_lines eqb (numbers_at m) ds resolved y table (map reference_of ps))
-      references_meant resolved y table [] h = refl
-      references_meant resolved y table (p ∷ ps) h =
-          let k = All-head (ReferenceIsOf b) p ps h in
-          let found = resolve eqb (numbers_at m) ds table p.parts.items in
-          (λ i. (ap (reference_line resolved y (attr_term b p.path)) (resolve_meant table p.parts.items k.parts) ∙ line_meant resolved y p.path found) i ++ references_meant resolved y table ps (All-tail (ReferenceIsOf b) p ps h) i)
-          ∙ sym (map-append in_line (reference_line resolved y p.path found) (reference_lines eqb (numbers_at m) ds resolved y table (map reference_of ps)))
+      module _ (names : List ℕ) (are : Each (IsName b) names) where
+        abbrev in_terms : List ℕ → Bool
+        in_terms n = is_among bytes_eq (map (name_term b) names) n
 
-      references_known : (resolved : Bool) (y : ℕ) (table : Option ℕ) (ps : List Reference) → All (ReferenceIsOf b) ps → Each LineIs (reference_lines eqb (numbers_at m) ds resolved y table (map reference_of ps))
-      references_known resolved y table [] h = tt
-      references_known resolved y table (p ∷ ps) h =
-          let k = All-head (ReferenceIsOf b) p ps h in
-          let found = resolve eqb (numbers_at m) ds table p.parts.items in
-          each_append LineIs (reference_line resolved y p.path found) (reference_lines eqb (numbers_at m) ds resolved y table (map reference_of ps)) (line_known resolved y p.path found (k.path, k.is)) (references_known resolved y table ps (All-tail (ReferenceIsOf b) p ps h))
+        abbrev in_numbers : ℕ → Bool
+        in_numbers n = is_among eqb names n
 
-      all_meant : (resolved : Bool) (es : List (ℕ × Numbers)) → Each EntryIs es → all_reference_lines bytes_eq (role_of t) (defs_in ds) resolved (meant es) ≡ map in_line (all_reference_lines eqb (numbers_at m) ds resolved (numbered es))
-      all_meant resolved [] k = refl
-      all_meant resolved (e ∷ es) k =
-          (λ i. references_meant resolved e.0 e.1.table e.1.references.items k.0.references i ++ all_meant resolved es k.1 i)
-          ∙ sym (map-append in_line (reference_lines eqb (numbers_at m) ds resolved e.0 e.1.table (map reference_of e.1.references.items)) (all_reference_lines eqb (numbers_at m) ds resolved (numbered es)))
+        references_meant : (resolved : Bool) (y : ℕ) (table : Option ℕ) (ps : List Reference) → All (ReferenceIsOf b) ps
+            → reference_lines bytes_eq (role_of t) (defs_in ds) in_terms resolved y table (map (map_reference (name_term b) (attr_term b)) (map reference_of ps)) ≡ map in_line (reference_lines eqb (numbers_at m) ds in_numbers resolved y table (map reference_of ps))
+        references_meant resolved y table [] h = refl
+        references_meant resolved y table (p ∷ ps) h =
+            let k = All-head (ReferenceIsOf b) p ps h in
+            let found = resolve eqb (numbers_at m) ds table p.parts.items in
+            let may = list_any in_numbers p.parts.items in
+            (λ i. ((λ j. reference_line resolved (may_meant names are p.parts.items k.parts j) y (attr_term b p.path) (resolve_meant table p.parts.items k.parts j)) ∙ line_meant resolved may y p.path found) i ++ references_meant resolved y table ps (All-tail (ReferenceIsOf b) p ps h) i)
+            ∙ sym (map-append in_line (reference_line resolved may y p.path found) (reference_lines eqb (numbers_at m) ds in_numbers resolved y table (map reference_of ps)))
 
-      all_known : (resolved : Bool) (es : List (ℕ × Numbers)) → Each EntryIs es → Each LineIs (all_reference_lines eqb (numbers_at m) ds resolved (numbered es))
-      all_known resolved [] k = tt
-      all_known resolved (e ∷ es) k =
-          each_append LineIs (reference_lines eqb (numbers_at m) ds resolved e.0 e.1.table (map reference_of e.1.references.items)) (all_reference_lines eqb (numbers_at m) ds resolved (numbered es)) (references_known resolved e.0 e.1.table e.1.references.items k.0.references) (all_known resolved es k.1)
+        references_known : (resolved : Bool) (y : ℕ) (table : Option ℕ) (ps : List Reference) → All (ReferenceIsOf b) ps → Each LineIs (reference_lines eqb (numbers_at m) ds in_numbers resolved y table (map reference_of ps))
+        references_known resolved y table [] h = tt
+        references_known resolved y table (p ∷ ps) h =
+            let k = All-head (ReferenceIsOf b) p ps h in
+            let found = resolve eqb (numbers_at m) ds table p.parts.items in
+            let may = list_any in_numbers p.parts.items in
+            each_append LineIs (reference_line resolved may y p.path found) (reference_lines eqb (numbers_at m) ds in_numbers resolved y table (map reference_of ps)) (line_known resolved may y p.path found (k.path, k.is)) (references_known resolved y table ps (All-tail (ReferenceIsOf b) p ps h))
+
+        all_meant : (resolved : Bool) (es : List (ℕ × Numbers)) → Each EntryIs es → all_reference_lines bytes_eq (role_of t) (defs_in ds) in_terms resolved (meant es) ≡ map in_line (all_reference_lines eqb (numbers_at m) ds in_numbers resolved (numbered es))
+        all_meant resolved [] k = refl
+        all_meant resolved (e ∷ es) k =
+            (λ i. references_meant resolved e.0 e.1.table e.1.references.items k.0.references i ++ all_meant resolved es k.1 i)
+            ∙ sym (map-append in_line (reference_lines eqb (numbers_at m) ds in_numbers resolved e.0 e.1.table (map reference_of e.1.references.items)) (all_reference_lines eqb (numbers_at m) ds in_numbers resolved (numbered es)))
+
+        all_known : (resolved : Bool) (es : List (ℕ × Numbers)) → Each EntryIs es → Each LineIs (all_reference_lines eqb (numbers_at m) ds in_numbers resolved (numbered es))
+        all_known resolved [] k = tt
+        all_known resolved (e ∷ es) k =
+            each_append LineIs (reference_lines eqb (numbers_at m) ds in_numbers resolved e.0 e.1.table (map reference_of e.1.references.items)) (all_reference_lines eqb (numbers_at m) ds in_numbers resolved (numbered es)) (references_known resolved e.0 e.1.table e.1.references.items k.0.references) (all_known resolved es k.1)
 
       mismatch_meant : (y : ℕ) (k : Call) → CallIsOf b k → (found : Option ℕ) → mismatch_line same_type (role_of t) y (call_meaning b k) found ≡ map in_line (mismatch_line eqb (numbers_at m) y (call_numbers k) found)
       mismatch_meant y k h None = refl
@@ -255,25 +311,25 @@ module _ (b : Things) where
       mismatches_known [] = tt
       mismatches_known (e ∷ es) = each_append LineIs (call_line eqb eqb (numbers_at m) ds e.0 e.1.table (option_map call_numbers e.1.call)) (mismatch_lines eqb eqb (numbers_at m) ds (numbered es)) (call_known e.0 e.1.table e.1.call) (mismatches_known es)
 
-      lines_meant : (es : List (ℕ × Numbers)) → Each EntryIs es → lines_with bytes_eq same_type (role_of t) (defs_in ds) (meant es) ≡ map in_line (lines_with eqb eqb (numbers_at m) ds (numbered es))
-      lines_meant es k =
+      lines_meant : (names : List ℕ) → Each (IsName b) names → (es : List (ℕ × Numbers)) → Each EntryIs es → lines_with bytes_eq same_type (role_of t) (defs_in ds) (is_among bytes_eq (map (name_term b) names)) (meant es) ≡ map in_line (lines_with eqb eqb (numbers_at m) ds (is_among eqb names) (numbered es))
+      lines_meant names are es k =
           let d0 : List (LineOf ℕ ℕ) = definition_lines ds in
           let d1 : List (LineOf ℕ ℕ) = duplicate_lines eqb ds ds in
-          let d2 : List (LineOf ℕ ℕ) = all_reference_lines eqb (numbers_at m) ds true (numbered es) in
-          let d3 : List (LineOf ℕ ℕ) = all_reference_lines eqb (numbers_at m) ds false (numbered es) in
+          let d2 : List (LineOf ℕ ℕ) = all_reference_lines eqb (numbers_at m) ds (is_among eqb names) true (numbered es) in
+          let d3 : List (LineOf ℕ ℕ) = all_reference_lines eqb (numbers_at m) ds (is_among eqb names) false (numbered es) in
           let d4 : List (LineOf ℕ ℕ) = mismatch_lines eqb eqb (numbers_at m) ds (numbered es) in
-          (λ i. definition_lines_meant ds i ++ (duplicates_meant ds known ds known i ++ (all_meant true es k i ++ (all_meant false es k i ++ mismatches_meant es k i))))
+          (λ i. definition_lines_meant ds i ++ (duplicates_meant ds known ds known i ++ (all_meant names are true es k i ++ (all_meant names are false es k i ++ mismatches_meant es k i))))
           ∙ sym (map-append in_line d0 (d1 ++ (d2 ++ (d3 ++ d4))) ∙ (λ i. map in_line d0 ++ (map-append in_line d1 (d2 ++ (d3 ++ d4)) ∙ (λ j. map in_line d1 ++ (map-append in_line d2 (d3 ++ d4) ∙ (λ k. map in_line d2 ++ map-append in_line d3 d4 k)) j)) i))
 
-      lines_known : (es : List (ℕ × Numbers)) → Each EntryIs es → Each LineIs (lines_with eqb eqb (numbers_at m) ds (numbered es))
-      lines_known es k =
+      lines_known : (names : List ℕ) → Each (IsName b) names → (es : List (ℕ × Numbers)) → Each EntryIs es → Each LineIs (lines_with eqb eqb (numbers_at m) ds (is_among eqb names) (numbered es))
+      lines_known names are es k =
           let d0 : List (LineOf ℕ ℕ) = definition_lines ds in
           let d1 : List (LineOf ℕ ℕ) = duplicate_lines eqb ds ds in
-          let d2 : List (LineOf ℕ ℕ) = all_reference_lines eqb (numbers_at m) ds true (numbered es) in
-          let d3 : List (LineOf ℕ ℕ) = all_reference_lines eqb (numbers_at m) ds false (numbered es) in
+          let d2 : List (LineOf ℕ ℕ) = all_reference_lines eqb (numbers_at m) ds (is_among eqb names) true (numbered es) in
+          let d3 : List (LineOf ℕ ℕ) = all_reference_lines eqb (numbers_at m) ds (is_among eqb names) false (numbered es) in
           let d4 : List (LineOf ℕ ℕ) = mismatch_lines eqb eqb (numbers_at m) ds (numbered es) in
           each_append LineIs d0 (d1 ++ (d2 ++ (d3 ++ d4))) (definition_lines_known ds known)
-          (each_append LineIs d1 (d2 ++ (d3 ++ d4)) (duplicates_known ds ds known) (each_append LineIs d2 (d3 ++ d4) (all_known true es k) (each_append LineIs d3 d4 (all_known false es k) (mismatches_known es))))
+          (each_append LineIs d1 (d2 ++ (d3 ++ d4)) (duplicates_known ds ds known) (each_append LineIs d2 (d3 ++ d4) (all_known names are true es k) (each_append LineIs d3 d4 (all_known names are false es k) (mismatches_known es))))
 
 -- ---- the entries of a map
 both_hold : (a c : Bool) → T a → T c → T (a && c)
@@ -336,6 +392,7 @@ module _ (b c : Things) (holds : Holds b) (g : Grows b c) where
   cells_say (Duplicate t n x) k = ap (λ z. Tag 1 ∷ Op t ∷ Name z ∷ Op x ∷ []) (name_stays b c n g k)
   cells_say (Use y p x) k = ap (λ z. Tag 2 ∷ Op y ∷ Path z ∷ Op x ∷ []) (attr_stays b c p holds g k.0)
   cells_say (Unresolved y p) k = ap (λ z. Tag 3 ∷ Op y ∷ Path z ∷ []) (attr_stays b c p holds g k.0)
+  cells_say (Unknown y p) k = ap (λ z. Tag 5 ∷ Op y ∷ Path z ∷ []) (attr_stays b c p holds g k.0)
   cells_say (Mismatch y x) k = refl
 
   all_three : (P : Cell → Type 0) (x y z : Cell) → P x → P y → P z → All P (x ∷ y ∷ z ∷ [])
@@ -352,6 +409,7 @@ module _ (b c : Things) (holds : Holds b) (g : Grows b c) where
   cells_known (Duplicate t n x) k = all_four (CellIsOf c) (cell.Tag 1) (cell.Op t) (cell.Name n) (cell.Op x) (omega arith) (tt {0}) (name_more b c holds g n k) (tt {0})
   cells_known (Use y p x) k = all_four (CellIsOf c) (cell.Tag 2) (cell.Op y) (cell.Path p) (cell.Op x) (omega arith) (tt {0}) (path_known p k) (tt {0})
   cells_known (Unresolved y p) k = all_three (CellIsOf c) (cell.Tag 3) (cell.Op y) (cell.Path p) (omega arith) (tt {0}) (path_known p k)
+  cells_known (Unknown y p) k = all_three (CellIsOf c) (cell.Tag 5) (cell.Op y) (cell.Path p) (omega arith) (tt {0}) (path_known p k)
   cells_known (Mismatch y x) k = all_three (CellIsOf c) (cell.Tag 4) (cell.Op y) (cell.Op x) (omega arith) (tt {0}) (tt {0})
 
   rows_say : (rows : List Row) (ls : List (LineOf ℕ ℕ)) → cells_of rows ≡ lines_cells ls → Each (LineIs b) ls → rows_meaning c rows ≡ map (line_cells Tag Op Name Path) (map (in_line b) ls)
@@ -371,18 +429,22 @@ module _ (b c : Things) (holds : Holds b) (g : Grows b c) where
       let rest : cells_of rs ≡ lines_cells ls = cc in
       All-cons (RowIsOf c) r rs (subst (All (CellIsOf c)) (sym one) (cells_known l k.0)) (rows_known rs ls rest k.1)
 
-pub shows_symbols : (c : Things) (t : Operation) (m : Roles) (rows : List Row) → idmap.IsOrdered m.all → IsKept c t (kept_at m)
-    → cells_of rows ≡ lines_cells (symbol_lines eqb eqb (numbers_at m) (numbered m.all.entries)) → Shows c rows (symbol_rows t)
-shows_symbols c t m rows ordered kept is =
+pub shows_symbols : (c : Things) (t : Operation) (which : Definers) (m : Roles) (rows : List Row) → idmap.IsOrdered m.all → IsKept c t (kept_at m)
+    → cells_of rows ≡ lines_cells (symbol_lines eqb eqb which (numbers_at m) (numbered m.all.entries)) → Shows c rows (symbol_rows which t)
+shows_symbols c t which m rows ordered kept is =
     let b = kept.from in
     let keeps = kept.keeps in
     let es = m.all.entries in
     let ds = definitions (numbered es) in
+    let names = possible_names which (numbered es) in
     let ek = entries_known b es ordered (λ q r i. subst (λ (o : Option Numbers). IfSome o (RoleIsOf b)) i (keeps q).known) in
     let dk = definitions_known b es ek in
+    let nk = possible_known b which es ek in
     let em = entries_meant t b m ordered keeps in
-    let same = sym (lines_meant b kept.sound t m keeps ds dk es ek) ∙ (λ i. lines_with bytes_eq same_type (role_of t) ((sym (definitions_meant b es) ∙ ap definitions em) i) (em i)) in
-    let lk = lines_known b kept.sound t m keeps ds dk es ek in
+    let same =
+        sym (lines_meant b kept.sound t m keeps ds dk names nk es ek)
+        ∙ (λ i. lines_with bytes_eq same_type (role_of t) ((sym (definitions_meant b es) ∙ ap definitions em) i) (is_among bytes_eq ((sym (possible_meant b which es) ∙ ap (possible_names which) em) i)) (em i)) in
+    let lk = lines_known b kept.sound t m keeps ds dk names nk es ek in
     record {
       says = rows_say b c kept.sound.holds kept.grown rows _ is lk ∙ ap (map (line_cells Tag Op Name Path)) same;
       known = rows_known b c kept.sound.holds kept.grown rows _ is lk;

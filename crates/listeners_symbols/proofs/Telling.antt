@@ -1,5 +1,5 @@
 -- What is told of the operations that a set has is told of all, where nothing is told of the others.
-use Rattle.std.proofs.Common.{◌≡◌, refl, ap, sym, ◌∙◌, subst, ◌⊎◌, inl, inr, ℕ, ◌<◌, is_some, Bool, true, false, cond, true≢false, ◌&&◌, ◌||◌, eqb, eq-eqb, eqb-true, List, [], ◌∷◌, ◌++◌, map, append_assoc, append-nil, Option, Some, None, arith}
+use Rattle.std.proofs.Common.{◌≡◌, refl, ap, sym, ◌∙◌, subst, ◌⊎◌, inl, inr, ℕ, ◌<◌, is_some, Bool, true, false, cond, true≢false, ◌&&◌, ◌||◌, not, eqb, eq-eqb, eqb-true, List, [], ◌∷◌, ◌++◌, map, append_assoc, append-nil, Option, Some, None, arith}
 use Rattle.std.proofs.lemmas.Bool.{ne_eqb}
 use Rattle.std.specs.Option.{option_map}
 use Rattle.std.specs.Cmp.{nat_cmp_is, nat_cmp_total, ranks}
@@ -21,11 +21,11 @@ use Rattle.listeners_symbols.specs.declared.role.Role.{Role as Numbers}
 use Rattle.listeners_symbols.specs.declared.role.Call.{Call}
 use Rattle.listeners_symbols.specs.declared.role.Reference.{Reference}
 use Rattle.listeners_symbols.specs.declared.roles.Roles.{Roles}
-use Rattle.listeners_symbols.specs.Symbols.{DefinitionOf, RoleAt, all_reference_lines, call_line, defined, definitions, mismatch_lines, reference_lines}
+use Rattle.listeners_symbols.specs.Symbols.{DefinitionOf, RoleAt, all_reference_lines, call_line, defined, definitions, mismatch_lines, reference_lines, name_unless, undefined_names}
 use Rattle.listeners_symbols.specs.Table.{call_numbers, reference_of}
 use Rattle.listeners_symbols.specs.Listeners.{kept_at}
-use Rattle.listeners_symbols.specs.Lines.{call_by, defined_by, numbered, references_by}
-use Rattle.listeners_symbols.specs.Telling.{HasThose, has_some, said_at, tells, told, told_at}
+use Rattle.listeners_symbols.specs.Lines.{call_by, defined_by, numbered, references_by, undefined_by}
+use Rattle.listeners_symbols.specs.Telling.{HasThose, has_some, names, said_at, tells, told, told_at}
 use Rattle.std.proofs.lemmas.List.{map-append}
 use Rattle.listeners_symbols.proofs.Reported.{Each, look_above}
 
@@ -171,8 +171,8 @@ says_none r lacks = go (is_some r.home && is_some r.symbol) (has_some r.referenc
     go false false true e = absurd (true≢false e)
     go false false false e = (refl, (refl, refl))
 
-undefined : (x : ℕ) (r : Numbers) → tells r ≡ false → defined_by x r ≡ []
-undefined x r lacks = go r.home r.symbol (says_none r lacks).0
+none_defined : (x : ℕ) (r : Numbers) → tells r ≡ false → defined_by x r ≡ []
+none_defined x r lacks = go r.home r.symbol (says_none r lacks).0
   where
     go : (home symbol : Option ℕ) → (is_some home && is_some symbol) ≡ false → defined home symbol x ≡ []
     go None None e = refl
@@ -180,11 +180,19 @@ undefined x r lacks = go r.home r.symbol (says_none r lacks).0
     go (Some t) None e = refl
     go (Some t) (Some n) e = absurd (true≢false e)
 
+none_undefined : (x : ℕ) (r : Numbers) → names r ≡ false → undefined_by x r ≡ []
+none_undefined x r lacks = go (is_some r.home && is_some r.symbol) r.name lacks
+  where
+    go : (defines : Bool) (name : Option ℕ) → (not defines && is_some name) ≡ false → name_unless defines name ≡ []
+    go defines None e = refl
+    go true (Some n) e = refl
+    go false (Some n) e = absurd (true≢false e)
+
 module _ (roles : RoleAt ℕ ℕ ℕ) (ds : List (DefinitionOf ℕ)) where
-  unreferring : (resolved : Bool) (x : ℕ) (r : Numbers) → tells r ≡ false → references_by roles ds resolved x r ≡ []
-  unreferring resolved x r lacks = go r.references.items (says_none r lacks).1.0
+  unreferring : (possible : ℕ → Bool) (resolved : Bool) (x : ℕ) (r : Numbers) → tells r ≡ false → references_by roles ds possible resolved x r ≡ []
+  unreferring possible resolved x r lacks = go r.references.items (says_none r lacks).1.0
     where
-      go : (ps : List Reference) → has_some ps ≡ false → reference_lines eqb roles ds resolved x r.table (map reference_of ps) ≡ []
+      go : (ps : List Reference) → has_some ps ≡ false → reference_lines eqb roles ds possible resolved x r.table (map reference_of ps) ≡ []
       go [] e = refl
       go (p ∷ ps) e = absurd (true≢false e)
 
@@ -195,13 +203,17 @@ module _ (roles : RoleAt ℕ ℕ ℕ) (ds : List (DefinitionOf ℕ)) where
       go None e = refl
       go (Some k) e = absurd (true≢false e)
 
-  each_referring : (resolved : Bool) (es : List (ℕ × Numbers)) → all_told (references_by roles ds resolved) es ≡ all_reference_lines eqb roles ds resolved (numbered es)
-  each_referring resolved [] = refl
-  each_referring resolved (e ∷ es) = ap (λ l. references_by roles ds resolved e.0 e.1 ++ l) (each_referring resolved es)
+  each_referring : (possible : ℕ → Bool) (resolved : Bool) (es : List (ℕ × Numbers)) → all_told (references_by roles ds possible resolved) es ≡ all_reference_lines eqb roles ds possible resolved (numbered es)
+  each_referring possible resolved [] = refl
+  each_referring possible resolved (e ∷ es) = ap (λ l. references_by roles ds possible resolved e.0 e.1 ++ l) (each_referring possible resolved es)
 
   each_calling : (es : List (ℕ × Numbers)) → all_told (call_by roles ds) es ≡ mismatch_lines eqb eqb roles ds (numbered es)
   each_calling [] = refl
   each_calling (e ∷ es) = ap (λ l. call_by roles ds e.0 e.1 ++ l) (each_calling es)
+
+each_undefined : (es : List (ℕ × Numbers)) → all_told undefined_by es ≡ undefined_names (numbered es)
+each_undefined [] = refl
+each_undefined (e ∷ es) = ap (λ l. undefined_by e.0 e.1 ++ l) (each_undefined es)
 
 each_defined : (es : List (ℕ × Numbers)) → all_told defined_by es ≡ definitions (numbered es)
 each_defined [] = refl
@@ -209,14 +221,18 @@ each_defined (e ∷ es) = ap (λ l. defined_by e.0 e.1 ++ l) (each_defined es)
 
 module _ (m : Roles) (ordered : idmap.IsOrdered m.all) (rises : set.IsOrdered nat_cmp m.telling) where
   pub definitions_told : told defined_by (kept_at m) m.telling.keys ≡ definitions (numbered m.all.entries)
-  definitions_told = told_of_set defined_by tells undefined m.telling.keys m.all m.telling refl ordered rises m.tell ∙ each_defined m.all.entries
+  definitions_told = told_of_set defined_by tells none_defined m.telling.keys m.all m.telling refl ordered rises m.tell ∙ each_defined m.all.entries
 
-  pub references_told : (roles : RoleAt ℕ ℕ ℕ) (ds : List (DefinitionOf ℕ)) (resolved : Bool) → told (references_by roles ds resolved) (kept_at m) m.telling.keys ≡ all_reference_lines eqb roles ds resolved (numbered m.all.entries)
-  references_told roles ds resolved =
-      told_of_set (references_by roles ds resolved) tells (unreferring roles ds resolved) m.telling.keys m.all m.telling refl ordered rises m.tell ∙ each_referring roles ds resolved m.all.entries
+  pub references_told : (roles : RoleAt ℕ ℕ ℕ) (ds : List (DefinitionOf ℕ)) (possible : ℕ → Bool) (resolved : Bool)
+      → told (references_by roles ds possible resolved) (kept_at m) m.telling.keys ≡ all_reference_lines eqb roles ds possible resolved (numbered m.all.entries)
+  references_told roles ds possible resolved =
+      told_of_set (references_by roles ds possible resolved) tells (unreferring roles ds possible resolved) m.telling.keys m.all m.telling refl ordered rises m.tell ∙ each_referring roles ds possible resolved m.all.entries
 
   pub calls_told : (roles : RoleAt ℕ ℕ ℕ) (ds : List (DefinitionOf ℕ)) → told (call_by roles ds) (kept_at m) m.telling.keys ≡ mismatch_lines eqb eqb roles ds (numbered m.all.entries)
   calls_told roles ds = told_of_set (call_by roles ds) tells (uncalling roles ds) m.telling.keys m.all m.telling refl ordered rises m.tell ∙ each_calling roles ds m.all.entries
+
+pub names_told : (m : Roles) → idmap.IsOrdered m.all → set.IsOrdered nat_cmp m.naming → told undefined_by (kept_at m) m.naming.keys ≡ undefined_names (numbered m.all.entries)
+names_told m ordered rises = told_of_set undefined_by names none_undefined m.naming.keys m.all m.naming refl ordered rises m.name ∙ each_undefined m.all.entries
 
 -- what is told of one more
 module _ {X : Type 0} (f : ℕ → Numbers → List X) (kept : ℕ → Option Numbers) where

@@ -4,6 +4,7 @@ use Rattle.std.specs.Ordering.{nat_cmp, ordering_then}
 use Rattle.std.specs.declared.cmp.Ordering.{Ordering}
 use Rattle.std.specs.BTreeMap.{BTreeMap}
 use Rattle.std.specs.BTreeMap as tree
+use Rattle.std.specs.BTreeSet.{BTreeSet, contains}
 use Rattle.ir_event.specs.declared.row.Cell.{Cell}
 use Rattle.ir_event.specs.declared.row.Cell.TheVariants as cell
 use Rattle.ir_event.specs.declared.row.Row.{Row}
@@ -11,7 +12,8 @@ use Rattle.listeners_symbols.specs.declared.role.Role.{Role as Numbers}
 use Rattle.listeners_symbols.specs.declared.roles.Roles.{Roles}
 use Rattle.listeners_symbols.specs.Table.{call_numbers, reference_of, role_numbers}
 use Rattle.listeners_symbols.specs.Listeners.{kept_at}
-use Rattle.listeners_symbols.specs.Symbols.{RolesOf, RoleAt, LineOf, DefinitionOf, defined, first_defined, line_cells, reference_lines, call_line}
+use Rattle.listeners_symbols.specs.Symbols.{RolesOf, RoleAt, LineOf, DefinitionOf, defined, first_defined, is_among, line_cells, reference_lines}
+use Rattle.listeners_symbols.specs.Symbols.{call_line, undefined}
 
 -- the roles of a table in the order of ids, and by their ids
 abbrev pub numbered : List (ℕ × Numbers) → RolesOf ℕ ℕ ℕ
@@ -20,12 +22,17 @@ numbered es = map (λ (e : ℕ × Numbers). (e.0, role_numbers e.1)) es
 abbrev pub numbers_at : Roles → RoleAt ℕ ℕ ℕ
 numbers_at m x = option_map role_numbers (kept_at m x)
 
--- what is told of an operation by what is kept of it: a definition, the rows of its references, and that of its call
+-- what is told of an operation by what is kept of it: a definition, the name of one that isn't a definition, the rows
+-- of its references, and that of its call
 abbrev pub defined_by : ℕ → Numbers → List (DefinitionOf ℕ)
 defined_by x r = defined r.home r.symbol x
 
-abbrev pub references_by : RoleAt ℕ ℕ ℕ → List (DefinitionOf ℕ) → Bool → ℕ → Numbers → List (LineOf ℕ ℕ)
-references_by roles ds resolved x r = reference_lines eqb roles ds resolved x r.table (map reference_of r.references.items)
+abbrev pub undefined_by : ℕ → Numbers → List ℕ
+undefined_by x r = undefined r.home r.symbol r.name
+
+abbrev pub references_by : RoleAt ℕ ℕ ℕ → List (DefinitionOf ℕ) → (ℕ → Bool) → Bool → ℕ → Numbers → List (LineOf ℕ ℕ)
+references_by roles ds possible resolved x r =
+    reference_lines eqb roles ds possible resolved x r.table (map reference_of r.references.items)
 
 abbrev pub call_by : RoleAt ℕ ℕ ℕ → List (DefinitionOf ℕ) → ℕ → Numbers → List (LineOf ℕ ℕ)
 call_by roles ds x r = call_line eqb eqb roles ds x r.table (option_map call_numbers r.call)
@@ -47,3 +54,7 @@ first_in m table name = tree.get key_cmp m (table, name)
 -- a map has the first definition of each name
 abbrev pub HasFirst : List (DefinitionOf ℕ) → BTreeMap (ℕ × ℕ) ℕ → Type 0
 HasFirst ds m = (table name : ℕ) → first_in m table name ≡ first_defined eqb table name ds
+
+-- a set has these names, and no others
+abbrev pub HasNames : List ℕ → BTreeSet ℕ → Type 0
+HasNames names s = (n : ℕ) → contains nat_cmp s n ≡ is_among eqb names n

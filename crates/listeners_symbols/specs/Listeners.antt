@@ -18,7 +18,7 @@ kept_at m = idmap.get m.all
 abbrev pub symbols_listener : Symbols → Listener
 symbols_listener s = record {
   kind = 2;
-  analysis = symbol_rows;
+  analysis = symbol_rows s.definers;
   agrees = λ c m. (s.stale ≡ false) × IsKept c m.tree (kept_at s.roles);
   stale = s.stale;
   heard = None;

@@ -10,6 +10,7 @@ use Rattle.ir_event.specs.types.Terms.{DenseArray, Overflow, AttrTerms, no_attrs
 use Rattle.ir_event.specs.types.Terms.{next_entry}
 use Rattle.ir_event.specs.types.Words.{is_table}
 use Rattle.ir_event.specs.trees.Tree.{HeadOf, head}
+use Rattle.ir_event.specs.trees.Ids.{first_of}
 use Rattle.ir_event.specs.trees.Meaning.{Operation}
 use Rattle.ir_event.specs.tree_laws.Values.{type_of_value}
 use Rattle.ir_event.specs.tree_laws.Stands.{StepOf, StandOf, stand_of, table_in}
@@ -40,6 +41,8 @@ pub record RoleOf (N T A : Type 0) : Type 0 where
   pub is_table : Bool
   -- the name that it has as a symbol
   pub symbol : Option N
+  -- the string that it has as `sym_name`, whether it is a symbol or not
+  pub name : Option N
   -- whether its visibility is private
   pub is_private : Bool
   -- the symbol references in its dictionaries, each once
@@ -69,6 +72,14 @@ abbrev pub symbol_of : Head → Option (List ℕ)
 symbol_of h =
     if is_table h.name || is_function h.name then option_and_then string_of (beside (codes "sym_name") h.properties)
     else None
+
+-- the string that a dictionary has as `sym_name`
+abbrev pub name_in : List (List ℕ × AttrTerm) → Option (List ℕ)
+name_in entries = option_and_then string_of (beside (codes "sym_name") entries)
+
+-- the string that an operation has as `sym_name`: among its properties, or else among its attributes
+abbrev pub name_of : Head → Option (List ℕ)
+name_of h = first_of (name_in h.properties) (name_in h.attributes)
 
 -- whether a visibility is private
 abbrev pub says_private : Option (List ℕ) → Bool
@@ -163,6 +174,7 @@ role_from parent home table h types = record {
   table = table;
   is_table = is_table h.name;
   symbol = symbol_of h;
+  name = name_of h;
   is_private = is_private h;
   references = references_of h;
   call = call_of h types;

@@ -1,6 +1,7 @@
 -- The analysis: which symbols are defined, and what the references to symbols resolve to (Symbols and Symbol Tables).
 use Rattle.std.specs.Prelude.{ℕ, List, [], ◌∷◌, ◌++◌, map, eqb, Bool, true, false, ◌&&◌, not, if◌then◌else◌, Option}
-use Rattle.std.specs.Prelude.{Some, None}
+use Rattle.std.specs.Prelude.{Some, None, is_some}
+use Rattle.std.specs.List.{list_any}
 use Rattle.std.specs.Ordering.{nat_cmp}
 use Rattle.std.specs.FinMap.Entries.{put}
 use Rattle.std.specs.Str.{bytes_eq}
@@ -13,6 +14,8 @@ use Rattle.ir_event.specs.Rows.{RowTerm, Op, Name, Path, Tag}
 use Rattle.ir_event.specs.Tags.{tag_number}
 use Rattle.ir_event.specs.declared.tag.Tag.TheVariants as word
 use Rattle.ir_event.specs.types.SameTypes.{same_type}
+use Rattle.listeners_symbols.specs.declared.definers.Definers.{Definers}
+use Rattle.listeners_symbols.specs.declared.definers.Definers.TheVariants as definers
 use Rattle.listeners_symbols.specs.Roles.{ReferenceOf, CallOf, RoleOf, Stand, role, role_of}
 
 -- the roles of all operations, in the order of their ids
@@ -39,6 +42,26 @@ abbrev pub definitions : {N T A : Type 0} → RolesOf N T A → List (Definition
 definitions [] = []
 definitions (e ∷ es) = defined e.1.home e.1.symbol e.0 ++ definitions es
 
+-- the name that an operation has, where it isn't a definition: one without a home or without a symbol isn't
+abbrev pub name_unless : {N : Type 0} → Bool → Option N → List N
+name_unless is_definition None = []
+name_unless true (Some name) = []
+name_unless false (Some name) = name ∷ []
+
+abbrev pub undefined : {N : Type 0} → Option ℕ → Option N → Option N → List N
+undefined home symbol name = name_unless (is_some home && is_some symbol) name
+
+-- the names of the operations that aren't definitions
+abbrev pub undefined_names : {N T A : Type 0} → RolesOf N T A → List N
+undefined_names [] = []
+undefined_names (e ∷ es) = undefined e.1.home e.1.symbol e.1.name ++ undefined_names es
+
+-- the names that may be symbols of operations that aren't definitions: none where listed operations alone define
+-- symbols
+abbrev pub possible_names : {N T A : Type 0} → Definers → RolesOf N T A → List N
+possible_names definers.Listed es = []
+possible_names definers.AnyNamed es = undefined_names es
+
 -- what is known of each operation that is there
 abbrev pub RoleAt : Type 0 → Type 0 → Type 0 → Type 0
 RoleAt N T A = ℕ → Option (RoleOf N T A)
@@ -53,12 +76,13 @@ abbrev pub function_at : {N T A : Type 0} → Option (RoleOf N T A) → Option (
 function_at None = None
 function_at (Some r) = r.function
 
--- a row: `def #T @n #x`, `duplicate #T @n #x`, `use #y @p #x`, `unresolved #y @p`, `mismatch #y #x`
+-- a row: `def #T @n #x`, `duplicate #T @n #x`, `use #y @p #x`, `unresolved #y @p`, `unknown #y @p`, `mismatch #y #x`
 pub data LineOf (N A : Type 0) : Type 0 where
   Definition : ℕ → N → ℕ → LineOf N A
   Duplicate : ℕ → N → ℕ → LineOf N A
   Use : ℕ → A → ℕ → LineOf N A
   Unresolved : ℕ → A → LineOf N A
+  Unknown : ℕ → A → LineOf N A
   Mismatch : ℕ → ℕ → LineOf N A
 
 -- `same_name` tells whether two names are one
@@ -87,6 +111,10 @@ module _ {N : Type 0} (same_name : N → N → Bool) where
   resolve roles ds found [] = found
   resolve roles ds found (name ∷ names) = resolve roles ds (look_in roles ds found name) names
 
+  -- whether a name is one of these
+  abbrev pub is_among : List N → N → Bool
+  is_among names name = list_any (same_name name) names
+
 -- whether a function has the types of a call's operands and results, where `same` tells whether two types are one
 abbrev pub fits : {N T : Type 0} → (T → T → Bool) → CallOf N T → Option (List T × List T) → Bool
 fits same call None = false
@@ -105,27 +133,29 @@ duplicate_lines same_name all (d ∷ ds) =
     if is_duplicate same_name all d then Duplicate d.0.0 d.0.1 d.1 ∷ duplicate_lines same_name all ds
     else duplicate_lines same_name all ds
 
--- the row of a reference of operation y, among those that resolve, or among the others
-abbrev pub reference_line : {N A : Type 0} → Bool → ℕ → A → Option ℕ → List (LineOf N A)
-reference_line true y p (Some x) = Use y p x ∷ []
-reference_line true y p None = []
-reference_line false y p (Some x) = []
-reference_line false y p None = Unresolved y p ∷ []
+-- the row of a reference of operation y, among those that resolve, or among the others. Of one that doesn't resolve
+-- nothing is known where it may name a symbol of an operation that isn't a definition.
+abbrev pub reference_line : {N A : Type 0} → Bool → Bool → ℕ → A → Option ℕ → List (LineOf N A)
+reference_line true may y p (Some x) = Use y p x ∷ []
+reference_line true may y p None = []
+reference_line false may y p (Some x) = []
+reference_line false true y p None = Unknown y p ∷ []
+reference_line false false y p None = Unresolved y p ∷ []
 
--- the rows of an operation's references
-abbrev pub reference_lines : {N T A : Type 0} → (N → N → Bool) → RoleAt N T A → List (DefinitionOf N) → Bool → ℕ
-    → Option ℕ → List (ReferenceOf N A) → List (LineOf N A)
-reference_lines same_name roles ds resolved y table [] = []
-reference_lines same_name roles ds resolved y table (p ∷ ps) =
-    reference_line resolved y p.0 (resolve same_name roles ds table p.1)
-    ++ reference_lines same_name roles ds resolved y table ps
+-- the rows of an operation's references, where `possible` tells whether a name may be such a symbol
+abbrev pub reference_lines : {N T A : Type 0} → (N → N → Bool) → RoleAt N T A → List (DefinitionOf N) → (N → Bool)
+    → Bool → ℕ → Option ℕ → List (ReferenceOf N A) → List (LineOf N A)
+reference_lines same_name roles ds possible resolved y table [] = []
+reference_lines same_name roles ds possible resolved y table (p ∷ ps) =
+    reference_line resolved (list_any possible p.1) y p.0 (resolve same_name roles ds table p.1)
+    ++ reference_lines same_name roles ds possible resolved y table ps
 
-abbrev pub all_reference_lines : {N T A : Type 0} → (N → N → Bool) → RoleAt N T A → List (DefinitionOf N) → Bool
-    → RolesOf N T A → List (LineOf N A)
-all_reference_lines same_name roles ds resolved [] = []
-all_reference_lines same_name roles ds resolved (e ∷ es) =
-    reference_lines same_name roles ds resolved e.0 e.1.table e.1.references
-    ++ all_reference_lines same_name roles ds resolved es
+abbrev pub all_reference_lines : {N T A : Type 0} → (N → N → Bool) → RoleAt N T A → List (DefinitionOf N)
+    → (N → Bool) → Bool → RolesOf N T A → List (LineOf N A)
+all_reference_lines same_name roles ds possible resolved [] = []
+all_reference_lines same_name roles ds possible resolved (e ∷ es) =
+    reference_lines same_name roles ds possible resolved e.0 e.1.table e.1.references
+    ++ all_reference_lines same_name roles ds possible resolved es
 
 -- the row of a call of operation y that resolves to what isn't a function of its types
 abbrev pub mismatch_line : {N T A : Type 0} → (T → T → Bool) → RoleAt N T A → ℕ → CallOf N T → Option ℕ
@@ -147,20 +177,21 @@ mismatch_lines same_name same roles ds (e ∷ es) =
 
 -- the rows: definitions, duplicates, references that resolve and that don't, and mismatches of calls
 abbrev pub lines_with : {N T A : Type 0} → (N → N → Bool) → (T → T → Bool) → RoleAt N T A → List (DefinitionOf N)
-    → RolesOf N T A → List (LineOf N A)
-lines_with same_name same roles ds es =
+    → (N → Bool) → RolesOf N T A → List (LineOf N A)
+lines_with same_name same roles ds possible es =
     definition_lines ds
     ++ (duplicate_lines same_name ds ds
-    ++ (all_reference_lines same_name roles ds true es
-    ++ (all_reference_lines same_name roles ds false es ++ mismatch_lines same_name same roles ds es)))
+    ++ (all_reference_lines same_name roles ds possible true es
+    ++ (all_reference_lines same_name roles ds possible false es ++ mismatch_lines same_name same roles ds es)))
 
-abbrev pub symbol_lines : {N T A : Type 0} → (N → N → Bool) → (T → T → Bool) → RoleAt N T A → RolesOf N T A
-    → List (LineOf N A)
-symbol_lines same_name same roles es = lines_with same_name same roles (definitions es) es
+abbrev pub symbol_lines : {N T A : Type 0} → (N → N → Bool) → (T → T → Bool) → Definers → RoleAt N T A
+    → RolesOf N T A → List (LineOf N A)
+symbol_lines same_name same which roles es =
+    lines_with same_name same roles (definitions es) (is_among same_name (possible_names which es)) es
 
 -- the symbols of a tree
-abbrev pub symbols_of : Operation → List (LineOf (List ℕ) AttrTerm)
-symbols_of t = symbol_lines bytes_eq same_type (role_of t) (roles_by_id t)
+abbrev pub symbols_of : Definers → Operation → List (LineOf (List ℕ) AttrTerm)
+symbols_of which t = symbol_lines bytes_eq same_type which (role_of t) (roles_by_id t)
 
 -- the cells of a row
 abbrev pub line_cells : {N A C : Type 0} → (ℕ → C) → (ℕ → C) → (N → C) → (A → C) → LineOf N A → List C
@@ -168,8 +199,9 @@ line_cells tag op name path (Definition t n x) = tag (tag_number word.Def) ∷ o
 line_cells tag op name path (Duplicate t n x) = tag (tag_number word.Duplicate) ∷ op t ∷ name n ∷ op x ∷ []
 line_cells tag op name path (Use y p x) = tag (tag_number word.Use) ∷ op y ∷ path p ∷ op x ∷ []
 line_cells tag op name path (Unresolved y p) = tag (tag_number word.Unresolved) ∷ op y ∷ path p ∷ []
+line_cells tag op name path (Unknown y p) = tag (tag_number word.Unknown) ∷ op y ∷ path p ∷ []
 line_cells tag op name path (Mismatch y x) = tag (tag_number word.Mismatch) ∷ op y ∷ op x ∷ []
 
 -- the rows of a tree
-abbrev pub symbol_rows : Operation → List RowTerm
-symbol_rows t = map (line_cells Tag Op Name Path) (symbols_of t)
+abbrev pub symbol_rows : Definers → Operation → List RowTerm
+symbol_rows which t = map (line_cells Tag Op Name Path) (symbols_of which t)

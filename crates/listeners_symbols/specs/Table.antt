@@ -38,6 +38,7 @@ role_numbers r = record {
   table = r.table;
   is_table = r.is_table;
   symbol = r.symbol;
+  name = r.name;
   is_private = r.is_private;
   references = map reference_of r.references.items;
   call = option_map call_numbers r.call;
@@ -61,6 +62,7 @@ map_role f g h r = record {
   table = r.table;
   is_table = r.is_table;
   symbol = option_map f r.symbol;
+  name = option_map f r.name;
   is_private = r.is_private;
   references = map (map_reference f h) r.references;
   call = option_map (map_call f g) r.call;
@@ -100,6 +102,7 @@ pub record SignatureIsOf (c : Things) (s : Signature) : Type 0 where
 
 pub record RoleIsOf (c : Things) (r : Numbers) : Type 0 where
   pub symbol : IfSome r.symbol (IsName c)
+  pub name : IfSome r.name (IsName c)
   pub references : All (ReferenceIsOf c) r.references.items
   pub call : IfSome r.call (CallIsOf c)
   pub function : IfSome r.function (SignatureIsOf c)

@@ -1,5 +1,5 @@
 -- Which operations a report tells of, so that it needn't look at the others.
-use Rattle.std.specs.Prelude.{◌≡◌, ℕ, List, [], ◌∷◌, ◌++◌, Bool, true, false, ◌&&◌, ◌||◌, if◌then◌else◌, Option, Some, None, is_some}
+use Rattle.std.specs.Prelude.{◌≡◌, ℕ, List, [], ◌∷◌, ◌++◌, Bool, true, false, ◌&&◌, ◌||◌, not, if◌then◌else◌, Option, Some, None, is_some}
 use Rattle.std.specs.Coded.{Coded-set, coded_bool, Π_prop}
 use Rattle.std.specs.Ordering.{nat_cmp}
 use Rattle.id_map.specs.Map.{IdMap}
@@ -18,6 +18,10 @@ tells r = (is_some r.home && is_some r.symbol) || (has_some r.references.items |
 -- whether it defines one whose visibility is private
 abbrev pub hides : Numbers → Bool
 hides r = is_some (if is_some r.home && r.is_private then r.symbol else None)
+
+-- whether it has a name, and defines no symbol
+abbrev pub names : Numbers → Bool
+names r = not (is_some r.home && is_some r.symbol) && is_some r.name
 
 abbrev pub said_at : (Numbers → Bool) → Option Numbers → Bool
 said_at test None = false

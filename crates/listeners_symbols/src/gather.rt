@@ -15,7 +15,7 @@ ghost use Rattle.listeners_symbols.specs.Listeners.{kept_at};
 ghost use Rattle.listeners_symbols.specs.Table.{CallIsOf, IsReadAs, IsRight, call_meaning, head_meaning, tables_for};
 ghost use Rattle.listeners_symbols.specs.Table.{tables_in, tree_in};
 
-use crate::properties::{callee_of, function_of, is_private, symbol_of};
+use crate::properties::{callee_of, function_of, is_private, name_of, symbol_of};
 use crate::references::references_of;
 use crate::role::{Call, Role, Tables};
 use crate::roles::Roles;
@@ -156,6 +156,7 @@ fn role_with(
         table: tables.table,
         is_table: ctx.table(node.name()),
         symbol: symbol_of(ctx, node),
+        name: name_of(ctx, node),
         is_private: is_private(ctx, node),
         references,
         call,

@@ -2,8 +2,10 @@
 //! agreed with a module before an event it agrees with the module after it, or is stale.
 #![tactic(auto)]
 
+pub mod definers;
 pub mod definitions;
 mod gather;
+mod names;
 mod properties;
 mod references;
 mod report;

@@ -5,6 +5,7 @@ ghost use Rattle.std.specs.Option.{option_map, option_and_then};
 ghost use Rattle.ir_event.specs.types.Things.{Things, IsName, IsAttr, IsType, AttrIsOf};
 ghost use Rattle.ir_event.specs.types.Terms.{TypeTerm, AttrTerm, attr_from, attr_term, name_term, type_term};
 ghost use Rattle.ir_event.specs.types.WordNames.{word_bytes};
+ghost use Rattle.ir_event.specs.trees.Maps.{map_entry};
 ghost use Rattle.op_registry.specs.Properties as properties;
 ghost use Rattle.op_registry.specs.Registry.{beside};
 ghost use Rattle.ir_event.specs.Modules.{NodeIsOf};
@@ -33,6 +34,29 @@ pub(crate) fn symbol_of(ctx: &Context, node: &Node<'_>) -> Option<NameId>
     }
     let attr = entry(ctx, node.properties(), Word::SymName)?;
     string_of(ctx, attr)
+}
+
+/// The string that a dictionary has as `sym_name`.
+fn name_in(ctx: &Context, entries: &[(NameId, AttrId)]) -> Option<NameId>
+    requires { All (λ e. IsName ctx.now e.0 × IsAttr ctx.now e.1) entries.now }
+    ensures name { option_map (name_term ctx.now) result
+        ≡ roles.name_in (map (map_entry (name_term ctx.now) (attr_term ctx.now)) entries.now) }
+    ensures known { IfSome result (λ n. IsName ctx.now n) }
+{
+    let attr = entry(ctx, entries, Word::SymName)?;
+    string_of(ctx, attr)
+}
+
+/// The string that an operation has as `sym_name`: among its properties, or else among its attributes.
+pub(crate) fn name_of(ctx: &Context, node: &Node<'_>) -> Option<NameId>
+    requires { NodeIsOf ctx.now node.now }
+    ensures name { option_map (name_term ctx.now) result ≡ roles.name_of (head_meaning ctx.now node.now.head) }
+    ensures known { IfSome result (λ n. IsName ctx.now n) }
+{
+    let Some(name) = name_in(ctx, node.properties()) else {
+        return name_in(ctx, node.attributes());
+    };
+    Some(name)
 }
 
 /// The visibility of an operation as a symbol, if it says one.

@@ -1,6 +1,8 @@
 //! The rows of the report.
-ghost use Rattle.std.specs.Prelude.{◌≡◌, ◌++◌, ◌∷◌, [], eqb, map, option_map, OnOk, IfOk};
+ghost use Rattle.std.specs.Prelude.{◌≡◌, ◌++◌, ◌∷◌, [], eqb, map, option_map, OnOk, IfOk, None, false};
+ghost use Rattle.std.specs.List.{list_any};
 ghost use Rattle.std.specs.Ordering.{nat_cmp};
+ghost use Rattle.std.specs.BTreeSet.{contains};
 ghost use Rattle.id_map.specs.Map as idmap;
 ghost use Rattle.ir_event.specs.declared.row.Cell.TheVariants as cell;
 ghost use Rattle.ir_event.specs.declared.tag.Tag.TheVariants as word;
@@ -13,9 +15,11 @@ ghost use Rattle.listeners_symbols.specs.Listeners.{kept_at};
 ghost use Rattle.listeners_symbols.specs.Lines.{call_by, cells_of, lines_cells, numbered, numbers_at, references_by};
 ghost use Rattle.listeners_symbols.specs.Telling.{told_at};
 
+use crate::definers::Definers;
 use crate::definitions::{Definition, Definitions, definitions_of};
+use crate::names::{Names, may_mean, possible_names};
 use crate::resolve::{fits, resolve};
-use crate::role::{Call, Role};
+use crate::role::{Call, Reference, Role};
 use crate::roles::Roles;
 use ir_event::row::{Cell, Row};
 use ir_event::tag::Tag;
@@ -117,23 +121,42 @@ fn push_use(
     Ok(())
 }
 
-/// Adds the row of a reference that doesn't resolve.
+/// Adds the row of a reference that doesn't resolve, with this word.
 fn push_unresolved(
     alloc: Global,
+    tag: Tag,
     user: OpId,
     path: AttrId,
     out: &mut Vec<Row>,
 ) -> Result<(), AllocError>
     ensures { OnOk result (cells_of out.new.items
-        ≡ cells_of out.old.items ++ (cell.Tag (tag_number word.Unresolved) ∷ cell.Op user ∷ cell.Path path ∷ []) ∷ []) }
+        ≡ cells_of out.old.items ++ (cell.Tag (tag_number tag) ∷ cell.Op user ∷ cell.Path path ∷ []) ∷ []) }
 {
     let _value = Value::Result(user, 0);
     let mut cells = Vec::with_capacity(alloc, 3)?;
-    cells.push(Cell::Tag(Tag::Unresolved.number()))?;
+    cells.push(Cell::Tag(tag.number()))?;
     cells.push(Cell::Op(user))?;
     cells.push(Cell::Path(path))?;
     out.push(Row { cells })?;
     Ok(())
+}
+
+/// Adds the row of a reference that doesn't resolve: whether it may name a symbol all the same decides the word.
+fn push_missing(
+    alloc: Global,
+    may: bool,
+    user: OpId,
+    path: AttrId,
+    out: &mut Vec<Row>,
+) -> Result<(), AllocError>
+    ensures { OnOk result (cells_of out.new.items
+        ≡ cells_of out.old.items ++ lines_cells (reference_line false may user path None)) }
+{
+    if may {
+        push_unresolved(alloc, Tag::Unknown, user, path, out)
+    } else {
+        push_unresolved(alloc, Tag::Unresolved, user, path, out)
+    }
 }
 
 /// Adds the row of a reference, where it resolves, or where it doesn't.
@@ -141,22 +164,25 @@ fn push_reference(
     alloc: Global,
     resolved: bool,
     user: OpId,
-    path: AttrId,
+    reference: &Reference,
     found: Option<OpId>,
+    names: &Names,
     out: &mut Vec<Row>,
 ) -> Result<(), AllocError>
-    ensures { OnOk result (cells_of out.new.items
-        ≡ cells_of out.old.items ++ lines_cells (reference_line resolved user path found)) }
+    ensures { OnOk result (cells_of out.new.items ≡ cells_of out.old.items
+        ++ lines_cells (reference_line resolved (list_any (contains nat_cmp names.now.possible) reference.now.parts.items)
+        user reference.now.path found)) }
 {
     match found {
         Some(op) => {
             if resolved {
-                push_use(alloc, user, path, op, out)?;
+                push_use(alloc, user, reference.path, op, out)?;
             }
         }
         None => {
             if !resolved {
-                push_unresolved(alloc, user, path, out)?;
+                let may = may_mean(&names.possible, &reference.parts);
+                push_missing(alloc, may, user, reference.path, out)?;
             }
         }
     }
@@ -168,20 +194,21 @@ fn push_references(
     alloc: Global,
     resolved: bool,
     roles: &Roles,
-    definitions: &Definitions,
+    names: &Names,
     user: OpId,
     role: &Role,
     out: &mut Vec<Row>,
 ) -> Result<(), AllocError>
     ensures { OnOk result (cells_of out.new.items
         ≡ cells_of out.old.items
-        ++ lines_cells (reference_lines eqb (numbers_at roles.now) definitions.now resolved user role.now.table
+        ++ lines_cells (reference_lines eqb (numbers_at roles.now) names.now.definitions
+        (contains nat_cmp names.now.possible) resolved user role.now.table
         (map reference_of role.now.references.items))) }
 {
     let mut rest = role.references.as_slice();
     while let [reference, more @ ..] = rest {
-        let found = resolve(roles, definitions, role.table, &reference.parts);
-        push_reference(alloc, resolved, user, reference.path, found, out)?;
+        let found = resolve(roles, &names.definitions, role.table, &reference.parts);
+        push_reference(alloc, resolved, user, reference, found, names, out)?;
         rest = more;
     }
     Ok(())
@@ -192,16 +219,17 @@ fn push_references_at(
     alloc: Global,
     resolved: bool,
     roles: &Roles,
-    definitions: &Definitions,
+    names: &Names,
     user: OpId,
     out: &mut Vec<Row>,
 ) -> Result<(), AllocError>
     ensures { OnOk result (cells_of out.new.items ≡ cells_of out.old.items
-        ++ lines_cells (told_at (references_by (numbers_at roles.now) definitions.now resolved) user (kept_at roles.now user))) }
+        ++ lines_cells (told_at (references_by (numbers_at roles.now) names.now.definitions
+        (contains nat_cmp names.now.possible) resolved) user (kept_at roles.now user))) }
 {
     match roles.get(user) {
         None => Ok(()),
-        Some(role) => push_references(alloc, resolved, roles, definitions, user, role, out),
+        Some(role) => push_references(alloc, resolved, roles, names, user, role, out),
     }
 }
 
@@ -210,15 +238,16 @@ fn push_all_references(
     alloc: Global,
     resolved: bool,
     roles: &Roles,
-    definitions: &Definitions,
+    names: &Names,
     out: &mut Vec<Row>,
 ) -> Result<(), AllocError>
     ensures { OnOk result (cells_of out.new.items ≡ cells_of out.old.items ++ lines_cells
-        (all_reference_lines eqb (numbers_at roles.now) definitions.now resolved (numbered roles.now.all.entries))) }
+        (all_reference_lines eqb (numbers_at roles.now) names.now.definitions (contains nat_cmp names.now.possible)
+        resolved (numbered roles.now.all.entries))) }
 {
     roles.ordered();
     for op in &roles.telling {
-        push_references_at(alloc, resolved, roles, definitions, *op, out)?;
+        push_references_at(alloc, resolved, roles, names, *op, out)?;
     }
     Ok(())
 }
@@ -313,33 +342,43 @@ fn push_mismatches(
     Ok(())
 }
 
-/// The rows of all operations, by these definitions.
+/// The rows of all operations, by these names.
 fn push_lines(
     alloc: Global,
     roles: &Roles,
-    definitions: &Definitions,
+    names: &Names,
     out: &mut Vec<Row>,
 ) -> Result<(), AllocError>
     ensures { OnOk result (cells_of out.new.items ≡ cells_of out.old.items
-        ++ lines_cells (lines_with eqb eqb (numbers_at roles.now) definitions.now (numbered roles.now.all.entries))) }
+        ++ lines_cells (lines_with eqb eqb (numbers_at roles.now) names.now.definitions
+        (contains nat_cmp names.now.possible) (numbered roles.now.all.entries))) }
 {
-    push_definitions(alloc, definitions, out)?;
-    push_duplicates(alloc, definitions, out)?;
-    push_all_references(alloc, true, roles, definitions, out)?;
-    push_all_references(alloc, false, roles, definitions, out)?;
-    push_mismatches(alloc, roles, definitions, out)
+    push_definitions(alloc, &names.definitions, out)?;
+    push_duplicates(alloc, &names.definitions, out)?;
+    push_all_references(alloc, true, roles, names, out)?;
+    push_all_references(alloc, false, roles, names, out)?;
+    push_mismatches(alloc, roles, &names.definitions, out)
 }
 
-/// The rows of a table of roles.
-pub(crate) fn lines(alloc: Global, roles: &Roles) -> Result<Vec<Row>, AllocError>
+/// The rows of a table of roles, where these operations may define symbols.
+pub(crate) fn lines(
+    alloc: Global,
+    definers: Definers,
+    roles: &Roles,
+) -> Result<Vec<Row>, AllocError>
     ensures rows { IfOk result
         (λ out. cells_of out.items
-        ≡ lines_cells (symbol_lines eqb eqb (numbers_at roles.now) (numbered roles.now.all.entries))) }
+        ≡ lines_cells (symbol_lines eqb eqb definers (numbers_at roles.now) (numbered roles.now.all.entries))) }
     ensures ordered { IfOk result (λ _. idmap.IsOrdered roles.now.all) }
 {
     roles.ordered();
     let definitions = definitions_of(alloc, roles)?;
+    let possible = possible_names(alloc, definers, roles)?;
+    let names = Names {
+        definitions,
+        possible,
+    };
     let mut out = Vec::new(alloc);
-    push_lines(alloc, roles, &definitions, &mut out)?;
+    push_lines(alloc, roles, &names, &mut out)?;
     Ok(out)
 }

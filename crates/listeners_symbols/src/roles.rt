@@ -1,11 +1,11 @@
 //! The roles of a module's operations.
-ghost use Rattle.std.specs.Prelude.{◌≡◌, ◌&&◌, ◌||◌, ℕ, eqb, false, true, is_some, OnOk, Some, None};
+ghost use Rattle.std.specs.Prelude.{◌≡◌, ◌&&◌, ◌||◌, not, ℕ, eqb, false, true, is_some, OnOk, Some, None};
 ghost use Rattle.std.specs.Option.{option_copied};
 ghost use Rattle.std.specs.Ordering.{nat_cmp};
 ghost use Rattle.id_map.specs.Map as idmap;
 ghost use Rattle.std.specs.BTreeSet as set;
 ghost use Rattle.std.specs.BTreeSet.{contains};
-ghost use Rattle.listeners_symbols.specs.Telling.{HasThose, HasThose-prop, has_some, hides, tells};
+ghost use Rattle.listeners_symbols.specs.Telling.{HasThose, HasThose-prop, has_some, hides, names, tells};
 
 use crate::role::Role;
 use id_map::IdMap;
@@ -21,8 +21,11 @@ pub struct Roles {
     pub telling: BTreeSet<OpId>,
     /// Private definitions, and maybe some that were.
     pub hidden: BTreeSet<OpId>,
+    /// Those with a name that define no symbol, and maybe some that were.
+    pub naming: BTreeSet<OpId>,
     pub ghost tell: { HasThose tells all telling } by { HasThose-prop tells all telling },
     pub ghost hide: { HasThose hides all hidden } by { HasThose-prop hides all hidden },
+    pub ghost name: { HasThose names all naming } by { HasThose-prop names all naming },
 }
 
 impl Roles {
@@ -34,6 +37,7 @@ impl Roles {
             all: IdMap::new(alloc),
             telling: BTreeSet::new(alloc),
             hidden: BTreeSet::new(alloc),
+            naming: BTreeSet::new(alloc),
         }
     }
 
@@ -42,10 +46,12 @@ impl Roles {
         ensures all { idmap.IsOrdered self.now.all }
         ensures telling { set.IsOrdered nat_cmp self.now.telling }
         ensures hidden { set.IsOrdered nat_cmp self.now.hidden }
+        ensures naming { set.IsOrdered nat_cmp self.now.naming }
     {
         self.all.ordered();
         let _ = self.telling.len();
         let _ = self.hidden.len();
+        let _ = self.naming.len();
     }
 
     /// What is kept of an operation.
@@ -61,13 +67,17 @@ impl Roles {
     {
         let telling = tells(&role);
         let hidden = hides(&role);
+        let naming = names(&role);
         add_if(&mut self.telling, op, telling)?;
         add_if(&mut self.hidden, op, hidden)?;
+        add_if(&mut self.naming, op, naming)?;
         let told = tells_of(self.all.get(op.number()));
         let hid = hides_of(self.all.get(op.number()));
+        let named = names_of(self.all.get(op.number()));
         self.all.insert(op.number(), role)?;
         drop_unless(&mut self.telling, op, telling || !told);
         drop_unless(&mut self.hidden, op, hidden || !hid);
+        drop_unless(&mut self.naming, op, naming || !named);
         Ok(())
     }
 
@@ -78,6 +88,7 @@ impl Roles {
         let gone = self.all.remove(op.number());
         drop_unless(&mut self.telling, op, !tells_of(gone.as_ref()));
         drop_unless(&mut self.hidden, op, !hides_of(gone.as_ref()));
+        drop_unless(&mut self.naming, op, !names_of(gone.as_ref()));
     }
 }
 
@@ -88,7 +99,8 @@ fn tells(role: &Role) -> bool
     defines(role) || refers(role) || role.call.is_some()
 }
 
-fn defines(role: &Role) -> bool
+/// Whether an operation defines a symbol.
+pub(crate) fn defines(role: &Role) -> bool
     ensures { result ≡ (is_some role.now.home && is_some role.now.symbol) }
 {
     role.home.is_some() && role.symbol.is_some()
@@ -111,6 +123,13 @@ fn hides(role: &Role) -> bool
     }
 }
 
+/// Whether an operation has a name, and defines no symbol.
+fn names(role: &Role) -> bool
+    ensures { result ≡ names role.now }
+{
+    !defines(role) && role.name.is_some()
+}
+
 /// Whether one that there may be tells of symbols. Nothing follows from it: a set may have more.
 fn tells_of(role: Option<&Role>) -> bool {
     match role {
@@ -123,6 +142,14 @@ fn tells_of(role: Option<&Role>) -> bool {
 fn hides_of(role: Option<&Role>) -> bool {
     match role {
         Some(role) => hides(role),
+        None => false,
+    }
+}
+
+/// Whether one that there may be has a name. Nothing follows from it either.
+fn names_of(role: Option<&Role>) -> bool {
+    match role {
+        Some(role) => names(role),
         None => false,
     }
 }

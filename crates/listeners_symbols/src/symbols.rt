@@ -1,6 +1,7 @@
 //! The listener that keeps symbols.
 ghost use Rattle.std.specs.Prelude.{◌≡◌, true};
 
+use crate::definers::Definers;
 use crate::report::lines;
 use crate::roles::Roles;
 use crate::table::{follow, tabulate};
@@ -19,6 +20,8 @@ use std::alloc::Global;
 #[derive(Drop)]
 pub struct Symbols {
     alloc: Global,
+    /// Which operations may define symbols.
+    definers: Definers,
     roles: Roles,
     stale: bool,
 }
@@ -26,12 +29,14 @@ pub struct Symbols {
 impl Symbols {
     ghost use Rattle.listeners_symbols.specs.Listeners.{symbols_listener};
 
-    /// A listener that has not begun, and is stale.
-    pub fn new(alloc: Global) -> Symbols
-        ensures { (symbols_listener result).stale ≡ true }
+    /// A listener that has not begun, and is stale. `definers` are the operations that may define symbols, for good.
+    pub fn new(alloc: Global, definers: Definers) -> Symbols
+        ensures stale { (symbols_listener result).stale ≡ true }
+        ensures definers { result.definers ≡ definers }
     {
         Symbols {
             alloc,
+            definers,
             roles: Roles::new(alloc),
             stale: true,
         }
@@ -87,7 +92,7 @@ impl Analysis for Symbols {
         if self.stale {
             return Err(ReportFault::Stale);
         }
-        match lines(self.alloc, &self.roles) {
+        match lines(self.alloc, self.definers, &self.roles) {
             Ok(rows) => Ok(rows),
             Err(_) => Err(ReportFault::Memory),
         }

@@ -102,7 +102,7 @@ fn run_one<R: Source, W: Sink>(
     reader: &mut R,
     writer: &mut W,
 ) -> Result<u8, AllocError> {
-    let boxes = all_listeners(rt.alloc())?;
+    let boxes = all_listeners(rt.alloc(), given.options.opaque)?;
     let book = book_anew(rt.alloc(), patterns)?;
     let (alloc, key, options) = (rt.alloc(), key_of(rt), given.options);
     match given.format {
@@ -202,7 +202,7 @@ fn answer_lines(
     options: Options,
     patterns: &[PatternFile<'_>],
 ) -> Result<u8, AllocError> {
-    let listeners = all_listeners(rt.alloc())?;
+    let listeners = all_listeners(rt.alloc(), options.opaque)?;
     let book = book_anew(rt.alloc(), patterns)?;
     let Ok(writer) = BufWriter::new(rt.alloc(), io::writer(rt)) else {
         return Err(AllocError);

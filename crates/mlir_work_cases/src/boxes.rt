@@ -4,8 +4,8 @@ use effects::dead::Dead;
 use effects::effects::Effects;
 use ir_event::analysis::Analysis;
 use ir_verify::diagnostics::Diagnostics;
-use listeners::Symbols;
 use listeners::uses::Uses;
+use listeners::{Definers, Symbols};
 use listeners_example::additions::AdditionCount;
 use listeners_unreached::unreached::Unreached;
 use mlir_work_cases_base::at_most::AtMost;
@@ -86,7 +86,10 @@ pub fn status_of<R: Read, W: Write>(
         let most = number(more);
         let listener: Box<dyn Analysis> = match word {
             "none" => continue,
-            "symbols" => Box::new(alloc, AtMost::new(Symbols::new(alloc), most))?,
+            "symbols" => Box::new(
+                alloc,
+                AtMost::new(Symbols::new(alloc, Definers::Listed), most),
+            )?,
             "diagnostics" => Box::new(alloc, Diagnostics::new(alloc))?,
             "constants" => Box::new(alloc, Constants::new(alloc))?,
             "effects" => Box::new(alloc, AtMost::new(Effects::new(alloc), most))?,

@@ -145,9 +145,9 @@ impl Analysis for Witness {
 
 /// No witness is made by its kind.
 impl Supplied for Witness {
-    ghost supply = { λ kind. None };
+    ghost supply = { λ opaque kind. None };
 
-    fn of_kind(_alloc: Global, _kind: Kind) -> Option<Witness> {
+    fn of_kind(_alloc: Global, _opaque: bool, _kind: Kind) -> Option<Witness> {
         None
     }
 }

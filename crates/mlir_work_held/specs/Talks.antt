@@ -2,7 +2,7 @@
 use Rattle.std.specs.Prelude.{◌≡◌, ℕ, ◌+◌, Bool, List, [], ◌∷◌, ◌++◌, length, ◌⊎◌, true, false, Option}
 use Rattle.ir_event.specs.types.declared.refusal.Refusal.{Refusal}
 use Rattle.rewriter.specs.Panels.{all_shown}
-use Rattle.mlir_work_listeners.specs.Listeners.{seven_listener, seven_supply, kinds_of}
+use Rattle.mlir_work_listeners.specs.Listeners.{AreSeven, seven_listener, seven_supply}
 use Rattle.mlir_work_listeners.specs.declared.seven.Seven.{Seven}
 use Rattle.mlir_work_script.specs.Expecting.{line_expects}
 use Rattle.mlir_work_script_base.specs.Lines.{line_of}
@@ -58,6 +58,6 @@ briefly opaque limit = record { brief = true; limit = limit; ends = false; opaqu
 abbrev pub IsOutputOf : Bool → ℕ → List ℕ → List Told → Type 0
 IsOutputOf opaque limit input told =
     (boxes : List Seven) × (status : ℕ) × (out : List ℕ)
-    × (kinds_of boxes ≡ 1 ∷ 2 ∷ 3 ∷ 4 ∷ 5 ∷ 6 ∷ 7 ∷ [])
+    × AreSeven opaque boxes
     × AreWritten 1 told status out
     × IsOutput (setting_of seven_supply (briefly opaque limit)) (all_shown seven_listener boxes) input status out

@@ -68,11 +68,11 @@ fn bench_over(alloc: Global, world: World) -> Option<Bench<Seven>>
     requires tidy { IsTidy world.store }
     ensures held { IfSome result (λ b. (state_of seven_listener b).held ≡ module_in world) }
     ensures unmarked { IfSome result (λ b. (state_of seven_listener b).marks ≡ []) }
-    ensures attached { IfSome result (λ b. AllAttached (state_of seven_listener b).panel) }
+    ensures attached { IfSome result (λ b. AllAttached world.ctx.opaque (state_of seven_listener b).panel) }
     ensures kept { IfSome result (λ b. IsKept seven_listener b) }
     ensures mode { IfSome result (λ b. b.desk.ctx.opaque ≡ world.ctx.opaque) }
 {
-    let Ok(boxes) = all_listeners(alloc) else {
+    let Ok(boxes) = all_listeners(alloc, world.ctx.is_opaque()) else {
         return None;
     };
     let mut bench = Bench::over(alloc, world);

@@ -77,6 +77,7 @@ symbol_form word =
     else if bytes_eq word (codes "duplicate") then Definition
     else if bytes_eq word (codes "use") then Reference
     else if bytes_eq word (codes "unresolved") then Unresolved
+    else if bytes_eq word (codes "unknown") then Unresolved
     else if bytes_eq word (codes "mismatch") then Mismatch
     else if bytes_eq word (codes "why") then Reason
     else if bytes_eq word (codes "stays") then Stayed

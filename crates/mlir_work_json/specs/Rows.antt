@@ -57,7 +57,7 @@ reference_members line =
     symbol_members line (text (codes "op") (second line) ∷ text (codes "name") (cell (behind_second line))
     ∷ text (codes "target") (behind (behind_second line)) ∷ [])
 
--- `unresolved #4 @g`
+-- `unresolved #4 @g`, `unknown #4 @g`
 abbrev pub unresolved_members : List ℕ → List Member
 unresolved_members line =
     symbol_members line (text (codes "op") (second line) ∷ text (codes "name") (behind_second line) ∷ [])

@@ -189,7 +189,7 @@ fn symbol_form(word: &[u8]) -> Form
     if word == b"use".as_slice() {
         return Form::Reference;
     }
-    if word == b"unresolved".as_slice() {
+    if word == b"unresolved".as_slice() || word == b"unknown".as_slice() {
         return Form::Unresolved;
     }
     if word == b"mismatch".as_slice() {

@@ -120,7 +120,7 @@ pub(crate) fn put_reference(
     put_text(object, alloc, "target", target)
 }
 
-/// Puts a row of `symbols`: `unresolved #4 @g`.
+/// Puts a row of `symbols`: `unresolved #4 @g`, `unknown #4 @g`.
 pub(crate) fn put_unresolved(
     object: &mut Object,
     alloc: Global,

@@ -1,6 +1,7 @@
 //! The seven listeners in one type: a panel of it needs no boxes, and C can hold it, which can hold no `dyn`.
-ghost use Rattle.std.specs.Prelude.{◌≡◌, ◌∷◌, [], IfOk};
-ghost use Rattle.mlir_work_listeners.specs.Listeners.{kinds_of};
+ghost use Rattle.std.specs.Prelude.{◌≡◌, IfOk};
+ghost use Rattle.mlir_work_listeners.specs.Listeners.{AreSeven};
+ghost use Rattle.mlir_work_listeners.specs.Listeners as the;
 
 use constants::constants::Constants;
 use effects::dead::Dead;
@@ -11,8 +12,8 @@ use ir_event::row::{Kind, Memory, ReportFault, Row};
 use ir_event::view::View;
 use ir_event::world::World;
 use ir_verify::diagnostics::Diagnostics;
-use listeners::Symbols;
 use listeners::uses::Uses;
+use listeners::{Definers, Symbols};
 use listeners_unreached::unreached::Unreached;
 use mlir_work_session_base::supplied::Supplied;
 use std::alloc::{AllocError, Global};
@@ -100,10 +101,10 @@ impl Supplied for Seven {
 
     ghost supply = { seven_supply };
 
-    fn of_kind(alloc: Global, kind: Kind) -> Option<Seven> {
+    fn of_kind(alloc: Global, opaque: bool, kind: Kind) -> Option<Seven> {
         match kind.number() {
             1 => Some(Seven::Uses(Uses::new(alloc))),
-            2 => Some(Seven::Symbols(Symbols::new(alloc))),
+            2 => Some(Seven::Symbols(Symbols::new(alloc, definers_of(opaque)))),
             3 => Some(Seven::Diagnostics(Diagnostics::new(alloc))),
             4 => Some(Seven::Effects(Effects::new(alloc))),
             5 => Some(Seven::Dead(Dead::new(alloc))),
@@ -114,13 +115,26 @@ impl Supplied for Seven {
     }
 }
 
-/// The seven listeners, in the order of their kinds.
-pub fn all_listeners(alloc: Global) -> Result<Vec<Seven>, AllocError>
-    ensures { IfOk result (λ all. kinds_of all.items ≡ 1 ∷ 2 ∷ 3 ∷ 4 ∷ 5 ∷ 6 ∷ 7 ∷ []) }
+/// Which operations may define symbols: any with a name, where types and attributes that aren't known are read as opaque
+/// ones.
+fn definers_of(opaque: bool) -> Definers
+    ensures { result ≡ the.definers_of opaque }
+{
+    if opaque {
+        Definers::AnyNamed
+    } else {
+        Definers::Listed
+    }
+}
+
+/// The seven listeners, in the order of their kinds, of which none has begun. `opaque` says whether types and attributes
+/// that aren't known are read as opaque ones.
+pub fn all_listeners(alloc: Global, opaque: bool) -> Result<Vec<Seven>, AllocError>
+    ensures { IfOk result (λ all. AreSeven opaque all.items) }
 {
     let mut all = Vec::new(alloc);
     all.push(Seven::Uses(Uses::new(alloc)))?;
-    all.push(Seven::Symbols(Symbols::new(alloc)))?;
+    all.push(Seven::Symbols(Symbols::new(alloc, definers_of(opaque))))?;
     all.push(Seven::Diagnostics(Diagnostics::new(alloc)))?;
     all.push(Seven::Effects(Effects::new(alloc)))?;
     all.push(Seven::Dead(Dead::new(alloc)))?;

@@ -79,14 +79,14 @@ manner_of options bytes = record {
 -- what a run is told, what is seen of the analyses that it can make anew, and the patterns that are there from the start
 pub record Setting : Type 0 where
   pub options : Options
-  pub supply : ℕ → Option Shown
+  pub supply : Bool → ℕ → Option Shown
   pub start : Book
 
-abbrev pub setting_with : (ℕ → Option Shown) → Options → Book → Setting
+abbrev pub setting_with : (Bool → ℕ → Option Shown) → Options → Book → Setting
 setting_with supply options start = record { options = options; supply = supply; start = start }
 
 -- without patterns
-abbrev pub setting_of : (ℕ → Option Shown) → Options → Setting
+abbrev pub setting_of : (Bool → ℕ → Option Shown) → Options → Setting
 setting_of supply options = setting_with supply options []
 
 abbrev pub way_at : Setting → ℕ → Way

@@ -18,7 +18,7 @@ use Rattle.mlir_work_session.specs.Sittings.{ObeysBeside, Sitting, own_of}
 
 module _ (way : Way) (bytes : ℕ) (longer : way.manner.bytes ≤ bytes) where
   abbrev pub wider : Way
-  wider = way_of way.supply (record way.manner { bytes = bytes })
+  wider = record { manner = record way.manner { bytes = bytes }; supply = way.supply }
 
   fills : CanFill way.manner.bytes → CanFill bytes
   fills h = omega (arith, h, longer)

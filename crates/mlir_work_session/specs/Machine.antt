@@ -64,8 +64,8 @@ pub record Way : Type 0 where
   pub manner : Manner
   pub supply : ℕ → Option Shown
 
-abbrev pub way_of : (ℕ → Option Shown) → Manner → Way
-way_of supply manner = record { manner = manner; supply = supply }
+abbrev pub way_of : (Bool → ℕ → Option Shown) → Manner → Way
+way_of supply manner = record { manner = manner; supply = supply manner.opaque }
 
 -- an analysis is attached, where there is one of the kind; else that is refused as where none is attached
 abbrev pub AttachesKind : Option Shown → Asked → Type 0

@@ -34,13 +34,13 @@ fn reply_attached<L: Analysis>(called: Result<(), (Refusal, L)>) -> Reply
 }
 
 /// Attaches the analysis of a kind, which is made anew.
-fn attach<L: Supplied>(alloc: Global, bench: &mut Bench<L>, kind: Kind) -> Reply
+fn attach<L: Supplied>(alloc: Global, opaque: bool, bench: &mut Bench<L>, kind: Kind) -> Reply
     requires { IsKept L.meaning bench.old }
-    ensures fulfils { (way : Way) → way.supply ≡ L.supply → Fulfils way (state_of L.meaning bench.old) (Attach kind) (response_of result) [] (state_of L.meaning bench.new) }
+    ensures fulfils { (way : Way) → way.supply ≡ L.supply opaque → Fulfils way (state_of L.meaning bench.old) (Attach kind) (response_of result) [] (state_of L.meaning bench.new) }
     ensures kept { IsKept L.meaning bench.new }
     ensures mode { bench.new.desk.ctx.opaque ≡ bench.old.desk.ctx.opaque }
 {
-    let Some(listener) = L::of_kind(alloc, kind) else {
+    let Some(listener) = L::of_kind(alloc, opaque, kind) else {
         return Reply::Refused(Refusal::NoSuchKind);
     };
     reply_attached(bench.attach(listener))
@@ -86,7 +86,7 @@ pub fn fulfil<L: Supplied>(
     ensures mode { bench.new.desk.ctx.opaque ≡ bench.old.desk.ctx.opaque }
 {
     match order {
-        Order::Attach(kind) => plain(alloc, attach(alloc, bench, *kind)),
+        Order::Attach(kind) => plain(alloc, attach(alloc, manner.opaque, bench, *kind)),
         Order::PrintIds => show_ids(alloc, bench),
         Order::ReportOf { kind, subject } => show_about(alloc, bench, *kind, subject),
         Order::Rewrite { rules, limit } => {

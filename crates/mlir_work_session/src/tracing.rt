@@ -1,5 +1,5 @@
 //! Orders that rewrite or convert the module of a bench and tell each rewrite.
-ghost use Rattle.std.specs.Prelude.{◌≡◌, ℕ, Option, None, Some, option_map};
+ghost use Rattle.std.specs.Prelude.{◌≡◌, ℕ, Bool, Option, None, Some, option_map};
 ghost use Rattle.std.specs.Option.{option_copied};
 ghost use Rattle.ir_text.specs.Public.{IsFull};
 ghost use Rattle.mlir_work_book.specs.Replies.{is_accepted};
@@ -54,7 +54,7 @@ fn canon<L: Analysis>(
     limit: Option<u32>,
 ) -> Answered
     requires { IsKept L.meaning bench.old }
-    ensures fulfils { (supply : ℕ → Option Shown) → Fulfils (way_of supply manner.now) (state_of L.meaning bench.old) (Trace None limit) (response_of result.reply) result.shows.items (state_of L.meaning bench.new) }
+    ensures fulfils { (supply : Bool → ℕ → Option Shown) → Fulfils (way_of supply manner.now) (state_of L.meaning bench.old) (Trace None limit) (response_of result.reply) result.shows.items (state_of L.meaning bench.new) }
     ensures room { (f : Transformation) → tracing None (limit_or manner.now.limit limit) ≡ Some f → FullSo (IsFull bench.new.desk.ctx) (state_of L.meaning bench.old) f (response_of result.reply) }
     ensures kept { IsKept L.meaning bench.new }
     ensures mode { bench.new.desk.ctx.opaque ≡ bench.old.desk.ctx.opaque }
@@ -75,7 +75,7 @@ fn rewrite<L: Analysis>(
     limit: Option<u32>,
 ) -> Answered
     requires { IsKept L.meaning bench.old }
-    ensures fulfils { (supply : ℕ → Option Shown) → Fulfils (way_of supply manner.now) (state_of L.meaning bench.old) (Trace (Some (names_of rules.now)) limit) (response_of result.reply) result.shows.items (state_of L.meaning bench.new) }
+    ensures fulfils { (supply : Bool → ℕ → Option Shown) → Fulfils (way_of supply manner.now) (state_of L.meaning bench.old) (Trace (Some (names_of rules.now)) limit) (response_of result.reply) result.shows.items (state_of L.meaning bench.new) }
     ensures room { (f : Transformation) → tracing (Some (names_of rules.now)) (limit_or manner.now.limit limit) ≡ Some f → FullSo (IsFull bench.new.desk.ctx) (state_of L.meaning bench.old) f (response_of result.reply) }
     ensures kept { IsKept L.meaning bench.new }
     ensures mode { bench.new.desk.ctx.opaque ≡ bench.old.desk.ctx.opaque }
@@ -100,7 +100,7 @@ pub(crate) fn trace<L: Analysis>(
     limit: Option<u32>,
 ) -> Answered
     requires { IsKept L.meaning bench.old }
-    ensures fulfils { (supply : ℕ → Option Shown) → Fulfils (way_of supply manner.now) (state_of L.meaning bench.old) (Trace (option_map names_of (option_copied rules.entry)) limit) (response_of result.reply) result.shows.items (state_of L.meaning bench.new) }
+    ensures fulfils { (supply : Bool → ℕ → Option Shown) → Fulfils (way_of supply manner.now) (state_of L.meaning bench.old) (Trace (option_map names_of (option_copied rules.entry)) limit) (response_of result.reply) result.shows.items (state_of L.meaning bench.new) }
     ensures room { (f : Transformation) → tracing (option_map names_of (option_copied rules.entry)) (limit_or manner.now.limit limit) ≡ Some f → FullSo (IsFull bench.new.desk.ctx) (state_of L.meaning bench.old) f (response_of result.reply) }
     ensures kept { IsKept L.meaning bench.new }
     ensures mode { bench.new.desk.ctx.opaque ≡ bench.old.desk.ctx.opaque }

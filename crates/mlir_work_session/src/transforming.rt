@@ -1,5 +1,5 @@
 //! Commands that transform the module of a bench.
-ghost use Rattle.std.specs.Prelude.{◌≡◌, [], ℕ, Option, Some};
+ghost use Rattle.std.specs.Prelude.{◌≡◌, [], ℕ, Bool, Option, Some};
 ghost use Rattle.mlir_work_mixed.specs.transforms.rewriter.Commands.{Apply, Canon, Convert, Sweep};
 ghost use Rattle.mlir_work_mixed.specs.transforms.rewriter.Machine.{Transformation};
 ghost use Rattle.mlir_work_mixed.specs.transforms.rewriter.Panels.{Shown};
@@ -114,7 +114,7 @@ pub(crate) fn rewrite<L: Analysis>(
     limit: Option<u32>,
 ) -> Reply
     requires { IsKept L.meaning bench.old }
-    ensures fulfils { (supply : ℕ → Option Shown) → Fulfils (way_of supply manner.now) (state_of L.meaning bench.old) (Rewrite (names_of rules.now) limit) (response_of result) [] (state_of L.meaning bench.new) }
+    ensures fulfils { (supply : Bool → ℕ → Option Shown) → Fulfils (way_of supply manner.now) (state_of L.meaning bench.old) (Rewrite (names_of rules.now) limit) (response_of result) [] (state_of L.meaning bench.new) }
     ensures room { (f : Transformation) → rewriting_named (names_of rules.now) (limit_or manner.now.limit limit) ≡ Some f → FullSo (IsFull bench.new.desk.ctx) (state_of L.meaning bench.old) f (response_of result) }
     ensures kept { IsKept L.meaning bench.new }
     ensures mode { bench.new.desk.ctx.opaque ≡ bench.old.desk.ctx.opaque }

@@ -1,5 +1,5 @@
 //! Orders that ask about rules at one operation: why they don't apply there, and that those of canonicalization do.
-ghost use Rattle.std.specs.Prelude.{◌≡◌, ℕ, [], Option, Some, option_map};
+ghost use Rattle.std.specs.Prelude.{◌≡◌, ℕ, [], Bool, Option, Some, option_map};
 ghost use Rattle.ir_event.specs.Modules.{Module, module_in};
 ghost use Rattle.ir_event.specs.trees.Ids.{has_id};
 ghost use Rattle.ir_text.specs.Public.{IsFull};
@@ -92,7 +92,7 @@ pub(crate) fn canon_at<L: Analysis>(
     limit: Option<u32>,
 ) -> Reply
     requires { IsKept L.meaning bench.old }
-    ensures fulfils { (supply : ℕ → Option Shown) → Fulfils (way_of supply manner.now) (state_of L.meaning bench.old) (CanonAt op limit) (response_of result) [] (state_of L.meaning bench.new) }
+    ensures fulfils { (supply : Bool → ℕ → Option Shown) → Fulfils (way_of supply manner.now) (state_of L.meaning bench.old) (CanonAt op limit) (response_of result) [] (state_of L.meaning bench.new) }
     ensures room { FullSo (IsFull bench.new.desk.ctx) (state_of L.meaning bench.old) (canonicalizing_at (limit_or manner.now.limit limit) op) (response_of result) }
     ensures kept { IsKept L.meaning bench.new }
     ensures mode { bench.new.desk.ctx.opaque ≡ bench.old.desk.ctx.opaque }

@@ -14,10 +14,11 @@ returns c types e =
         table = c.args.tables.now.table;
         is_table = (c.table.ensures ∙ ap (λ n. is_table (name_term ctx n)) c.name.ensures) i;
         symbol = c.symbol_of.ensures.symbol i;
+        name = c.name_of.ensures.name i;
         is_private = c.is_private.ensures i;
         references = (references_meant ctx c.in_ok-references.references.items ∙ c.in_ok-references.ensures.references) i;
         call = (call_meant ctx c.args.call ∙ e) i;
         function = (function_meant ctx c.in_ok-function.function ∙ c.in_ok-function.ensures.signature) i;
       };
-      known = record { symbol = c.symbol_of.ensures.known; references = c.in_ok-references.ensures.known; call = c.requires.call; function = c.in_ok-function.ensures.known };
+      known = record { symbol = c.symbol_of.ensures.known; name = c.name_of.ensures.known; references = c.in_ok-references.ensures.known; call = c.requires.call; function = c.in_ok-function.ensures.known };
     }

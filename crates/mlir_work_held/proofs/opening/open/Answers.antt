@@ -1,6 +1,9 @@
-use Rattle.std.proofs.Common.{◌∙◌, inl, refl, subst, sym}
+use Rattle.std.proofs.Common.{◌∙◌, inl, refl, subst, sym, Bool}
 use Rattle.mlir_work_script_base.specs.Limits.{most_input_bytes}
 use Rattle.mlir_work_run.specs.Whole.{IsWorldOf}
+use Rattle.rewriter.specs.Benched.{state_of}
+use Rattle.mlir_work_listeners.specs.Listeners.{seven_listener}
+use Rattle.mlir_work_held.specs.Opened.{AllAttached}
 use Rattle.mlir_work_held.proofs.opening.open.Goals as goal
 
 pub returns-clause-opened : goal.returns-clause-opened
@@ -8,7 +11,7 @@ returns-clause-opened c = record {
   world = subst (IsWorldOf c.args.opaque c.args.text.now) (sym c.in-Some.ensures.held) c.in-Ok.ensures.world;
   mode = c.in-Some.ensures.mode ∙ c.in-Ok.ensures.mode;
   unmarked = c.in-Some.ensures.unmarked;
-  attached = c.in-Some.ensures.attached;
+  attached = subst (λ (b : Bool). AllAttached b (state_of seven_listener c.in-Some.bench).panel) c.in-Ok.ensures.mode c.in-Some.ensures.attached;
   empty = c.new-book.ensures;
   limit_is = refl;
   counted = refl;
