@@ -1,5 +1,5 @@
 -- What follows a value is the end of the text.
-use Rattle.std.proofs.Common.{◌≡◌, ℕ, zero, suc, Bool, true, false, cond, List, [], ◌∷◌, length, drop, Option, Some, None, refl, sym, ap, ◌∙◌, subst}
+use Rattle.std.proofs.Common.{◌≡◌, ℕ, zero, suc, Bool, true, false, cond, List, [], ◌∷◌, length, drop, Option, Some, None, refl, ap, subst}
 use Rattle.std.specs.Prelude.{◌==◌, ◌&&◌, ◌||◌, Ok, Err}
 use Rattle.ir_text_tokens.specs.declared.refusal.TextRefusal.{TextRefusal}
 use Rattle.ir_text_tokens.specs.declared.refusal.TextRefusal.TheVariants.{LeftOut, Unexpected}
@@ -9,7 +9,7 @@ use Rattle.ir_text_bodies.specs.Bodies.{begins, has_dot, is_arrow, refused_at}
 use Rattle.ir_text_aliases.specs.Pieces.{from_quote, piece_len}
 use Rattle.ir_text_aliases.specs.Values.{Ends, coming_behind, enclosed, group_end, unless, value_fault}
 use Rattle.ir_text_aliases.specs.Words.{is_distinct, is_element, is_listed, is_lone, is_place_word, is_scalar, is_shaped}
-use Rattle.ir_text_aliases.specs.Terms.{arrow_end, at_token, attr_at, attr_end, attr_from, begins_digit, behind, behind_colons, distinct_end, elements_end, function_end, hash_end, name_end, needed_end, number_end, number_from, plain_attr_end, plain_type_end, results_end, symbol_end, symbol_from, symbols_end, symbols_or, type_end, type_from, type_or, typed_end, value_end, word_end, word_type_end}
+use Rattle.ir_text_aliases.specs.Terms.{arrow_end, at_token, attr_end, attr_from, begins_digit, behind, behind_colons, distinct_end, elements_end, function_end, hash_end, name_end, needed_end, number_end, number_from, plain_attr_end, plain_type_end, results_end, symbol_end, symbol_from, symbols_end, symbols_or, type_end, type_from, type_or, typed_end, value_end, word_end, word_type_end}
 use Rattle.ir_text_aliases.proofs.Tails.{IsTail, dropped, longer, same, skipped, within}
 
 abbrev rest_of : Ends → List ℕ

@@ -1,10 +1,10 @@
 -- The words that begin an attribute or a type. MLIR Language Reference, "Type System" and "Attributes";
 -- Builtin Dialect, "Types" and "Attributes".
-use Rattle.std.specs.Prelude.{ℕ, Bool, true, false, not, ◌&&◌, ◌||◌, ◌==◌, if◌then◌else◌, List, [], ◌∷◌, codes}
+use Rattle.std.specs.Prelude.{ℕ, Bool, false, not, ◌&&◌, ◌||◌, ◌==◌, if◌then◌else◌, List, [], ◌∷◌, codes}
 use Rattle.std.specs.List.{list_all}
 use Rattle.std.specs.Str.{bytes_eq}
 use Rattle.std.specs.Char.{is_ascii_digit}
-use Rattle.ir_text_bodies.specs.Bodies.{begins, is_none}
+use Rattle.ir_text_bodies.specs.Bodies.{is_none}
 use Rattle.ir_text_types.specs.OpaqueTypes.{is_alone, is_one_of}
 
 -- the words of attributes that nothing follows

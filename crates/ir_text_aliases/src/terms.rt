@@ -1,5 +1,5 @@
 //! Where the attribute or the type ends that an alias stands for.
-ghost use Rattle.std.specs.Prelude.{◌≡◌, [], ◌∷◌, option_map};
+ghost use Rattle.std.specs.Prelude.{◌≡◌, option_map};
 ghost use Rattle.std.specs.Result.{result_map_both};
 ghost use Rattle.ir_text_aliases.specs.Terms.{arrow_end, attr_end, begins_digit, behind_colons, distinct_end, elements_end, function_end, hash_end, name_end, needed_end, number_end, plain_attr_end, plain_type_end, results_end, symbol_end, symbols_end, type_end, typed_end, value_end, word_end, word_type_end};
 

@@ -1,6 +1,5 @@
 //! The words that begin an attribute or a type.
-ghost use Rattle.std.specs.Prelude.{◌≡◌, codes};
-ghost use Rattle.std.specs.Str.{bytes_eq};
+ghost use Rattle.std.specs.Prelude.{◌≡◌};
 ghost use Rattle.ir_text_aliases.specs.Words.{is_distinct, is_element, is_integer_word, is_listed, is_lone, is_place_word, is_scalar, is_shaped, is_signed_width, is_width};
 
 use ir_text_tokens::numbers::are_digits;

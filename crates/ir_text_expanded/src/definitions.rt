@@ -1,7 +1,7 @@
 //! The definitions of aliases in front of the first operation.
-ghost use Rattle.std.specs.Prelude.{◌≡◌, ◌≤◌, ◌++◌, ◌-◌, [], ◌∷◌, ℕ, List, true, false, if◌then◌else◌, Ok, Err, None, Some, length, drop, OnOk, IfOk, IfErr};
+ghost use Rattle.std.specs.Prelude.{◌≡◌, ◌≤◌, ◌++◌, ◌-◌, [], ◌∷◌, true, false, if◌then◌else◌, Ok, Err, None, Some, length, OnOk, IfOk, IfErr};
 ghost use Rattle.ir_text_bodies.specs.Bodies.{begins};
-ghost use Rattle.ir_text_aliases.specs.Pieces.{is_gap, name_of, piece_len};
+ghost use Rattle.ir_text_aliases.specs.Pieces.{is_gap, name_of};
 ghost use Rattle.ir_text_expanded.specs.Definitions.{defined, definitions, is_known, value_at, value_of_name, value_up_to, value_walk, with_alias};
 ghost use Rattle.ir_text_expanded.specs.Recursion.{spells_itself};
 ghost use Rattle.ir_text_expanded.specs.Steps.{Adds};
