@@ -19,7 +19,8 @@ PIECE = re.compile(rb"[#!%^@]?[A-Za-z0-9$._-]+|\s+|->|.", re.S)
 # Texts by hand, beside those of opaque_cases.py.
 TEXTS = [
     b"", b" ", b"// c", b"#", b"!t", b"#a = 1", b"#a", b'#a=1#b=#a#c=#b"t"(){x=#c,y=#b}:()->()',
-    # Symbols in quotes end no value, and a string in one that nothing ends is refused at its quote.
+    # Symbols in quotes end no value. A string in one that nothing ends is refused at its quote between brackets, and
+    # else where its token begins.
     b'#a = @"x" #b = @"y"::@z\n"t"() {x = #b, y = #a} : () -> ()',
     b'#a = @"x', b'#a = [@"x', b'#a = ["x',
     # A name may end with a minus, behind which no alias is refused; and may be the type that a location follows.
@@ -56,9 +57,26 @@ ARROWS = [
     b'#a = 1\n"t"() {x = #d<%b->#a, ^c-->#a>, y = #d<#e.f->}',
 ]
 
+VALUES = b"""1 : i32|-1|- 7|1.5e-3 : f32|0x1F : i8|true|unit|"s"|"s" : !t.u|@f|@f::@g|@"a b"::@c ::@d|[1, 2]|{a}|index
+tensor<4xf32>|(i32) -> i32|() -> (i8, i16)|() -> !t.v|!t.v|!t.v<x>|#t.a|#t.a<1>|#t<x y>|#t.a<x> : i32|#t.a : (i8) -> ()
+dense<1> : tensor<4xi32>|sparse<0, 1> : tensor<4xi8>|dense_resource<r> : !t.v|array<i32: 1>|affine_map<(d0) -> (d0)>
+affine_set<(d0) : (d0 >= 0)>|strided<[1]>|distinct[0]<1>|loc("f":1:2)|memref<?xi8>|complex<f32>|si8|ui16|none|vector<i8>
+i|i0|si|xi8|foo|dense<1>|tensor|distinct[0]|loc|#0|!0|#|!|@|"|-|- -|-x|->|: i8|1 :|1 : 2|1 : #b|@f::|@f::g|(i8)|(i8) ->
+(i8) -> (i8|() -> () -> ()|i8<x>|unit : i8|[1] : i8|#t.a : i8 : i8|%0|^b|?|$|\x01""".replace(b"\n", b"|").split(b"|")
+ENDS = [
+    # Each kind of value, with what follows it at once, and values that aren't whole.
+    *(b"#a = %s#b = [#a]" % it for it in VALUES), *(b"!a = %s!b = tuple<!a>" % it for it in VALUES),
+    *(b'#a = 1 %s\n"t"() {x = #a}' % it for it in VALUES), *(b"#a = %s" % it[:-1] for it in VALUES),
+    # Types that are spelled within themselves, and such that only look so.
+    b'!a = !d.s<x, i8>!b = !d.s<x, !a>', b'!a = !d.s<x, i8>!b = !d.s<xx, !a>', b'!a = !d.s<"x", i8>!b = !d.s<"x", !a>',
+    b'!a = !d.s<x, i8>!b = !d.s<x , !a>', b'!a = !d.s<x>!b = !d.s<x, !a>', b'!a = !d.s<i8, i8>!b = !d.s<i8, !a>',
+    b'!a = !d.s<4, i8>!b = !d.s<4, !a>', b'!a = !d.s<x, i8>!b = tuple<!d.s<x, !a>>', b'#b = !d.s<x, !d.s<x, i8>>',
+    b'!b = !d.s<"x", !d.s<"x, i8>>', b'!b = !d<x, !d<x, i8>>', b'!b = !d.s<x, !d.sx, [!d.s<x]>',
+]
+
 
 def texts():
-    """Each text: those by hand, the shorter modules with aliases, those with some pieces changed, and arrows."""
+    """Each text: those by hand, the shorter modules with aliases, those with some pieces changed, arrows, and ends."""
     yield from TEXTS
     yield from (text.encode() for text, _ in opaque_cases.texts() if "#" in text or "!" in text or "loc" in text)
     found = [it.text for it in opaque_cases.modules() if it.has_aliases and len(it.text) <= LONGEST]
@@ -68,6 +86,7 @@ def texts():
     for _ in range(400):
         yield changed(chance, chance.choice(sources))
     yield from ARROWS
+    yield from ENDS
 
 
 def changed(chance, text):

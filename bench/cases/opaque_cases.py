@@ -85,10 +85,26 @@ ALIASED = [
     ('#m = 1 : i8\n#m = 2 : i8\n"t.u"() : () -> ()', (4, 12), (13, 0)),
     ('#m = [#m]\n"t.u"() : () -> ()', (3, 6), (13, 0)),
     ('#m.x = 1 : i8\n"t.u"() : () -> ()', (13, 0), (13, 0)),
-    # Values end where a definition, a string or a value begins, and are put in place as they are spelled.
+    # A value is one type or one attribute, and is put in place as it is spelled.
     ('!a = i8 !b = tensor<4x!a>"t.u"() {x = !b} : () -> ()', '"t.u"() {x = tensor<4xi8>} : () -> ()', (13, 0)),
     ('#a = 1 : i8\n"t.u"() {x = #b} : () -> ()', (3, 25), (13, 0)),
-    ('#a =\n"t.u"() {x = #a} : () -> ()', (2, 5), (13, 0)),
+    ('#a =\n"t.u"() {x = #a} : () -> ()', (2, 10), (13, 0)),
+    ('#a = "s"\n"t.u"() {x = #a} : () -> ()', '"t.u"() {x = "s"} : () -> ()', (13, 0)),
+    ('#a = "s" : f32 #b = @f :: @"g h"\n"t.u"() {x = [#a, #b]} : () -> ()',
+     '"t.u"() {x = ["s" : f32, @f::@"g h"]} : () -> ()', (13, 0)),
+    ('!a = (i8) -> i8 #b = dense<1> : tensor<2xi8>\n"t.u"() {x = !a, y = #b} : () -> ()',
+     '"t.u"() {x = (i8) -> i8, y = dense<1> : tensor<2xi8>} : () -> ()', (13, 0)),
+    # What follows a value, and is no definition, is the text of the operations.
+    ("#a = 1 garbage", (13, 7), (13, 0)), ("#a = affine_map<(d0) -> (d0)> module {}", (13, 30), (13, 0)),
+    ('#a = 1 1\n"t.u"() : () -> ()', (2, 7), (13, 0)), ('!a = i8 <x>\n"t.u"() : () -> ()', (2, 8), (13, 0)),
+    ('#a = dense<1>\n"t.u"() : () -> ()', (2, 14), (13, 0)), ('!a = 1\n"t.u"() : () -> ()', (2, 5), (13, 0)),
+    ('#a = foo\n"t.u"() : () -> ()', (2, 5), (13, 0)), ('#a = (i8)\n"t.u"() : () -> ()', (2, 10), (13, 0)),
+    # A type of a dialect doesn't stand within itself by way of an alias, as far as its bytes show.
+    ('!a = !d.s<x, !d.t<!d.s<x>>>\n!b = !d.s<x, !a>\n"t.u"() : () -> ()', (13, 33), (13, 0)),
+    ('!a = !d.s<"x", i8>\n!b = !d.s<"y", !a>\n"t.u"() {x = !b} : () -> ()',
+     '"t.u"() {x = !d.s<"y", !d.s<"x", i8>>} : () -> ()', (13, 0)),
+    ('!a = !d.p<i8, i8>\n!b = !d.p<i8, !a>\n"t.u"() {x = !b} : () -> ()',
+     '"t.u"() {x = !d.p<i8, !d.p<i8, i8>>} : () -> ()', (13, 0)),
     ('#a = 1, b = 2\n"t.u"() {x = #a} : () -> ()', (2, 6), (13, 0)),
     ('#a = [1\n"t.u"() {x = 1} : () -> ()', (2, 34), (13, 0)),
     ('#a = 1]\n"t.u"() {x = #a} : () -> ()', (2, 6), (13, 0)),

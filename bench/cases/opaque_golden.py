@@ -1,6 +1,7 @@
 #!/usr/bin/env python3
 """Writes the golden files of tests/opaque: the texts of opaque_cases.py, with the answers that stand there; the scripts
-of opaque_scripts.py; and texts that are cut, deep, long or hostile. All answers are those of the rules in Python too.
+of opaque_scripts.py; and texts that are cut, deep, long or hostile. All answers are those of the rules in Python too,
+as are those of tests/opaque/values.cases, which are written by hand.
 Run it at the top of the repository."""
 import pathlib
 import sys
@@ -154,7 +155,14 @@ def refused():
     GOLDEN.case(FLAGGED, text + b"// -----\nreport diagnostics\n", told)
 
 
+def check_values():
+    """The cases of values.cases are written by hand, and have the answers of the rules."""
+    for case, answer in golden.cases_in(ROOT / "tests/opaque/values.cases")[0]:
+        assert answer == golden.out_text(case.name, *script.run_opaque(case.given())), case.name
+
+
 def main():
+    check_values()
     for part in (texts, scripts, attributes, deep, hostile, aliases_and_locations, refused):
         GOLDEN.begin(f"opaque/{part.__name__}")
         part()

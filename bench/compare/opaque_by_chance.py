@@ -47,8 +47,8 @@ def with_aliases(maker, text):
         term = maker.choice([it for it in texts.OPEN_TYPES if it[:1] != b"("] if sign == b"!" else texts.OPEN_ATTRS)
         if sign == b"#":
             term = printing.attr_text(opaque.Reader(term).one_attr()).encode()
-        if term[:1] in b'"0123456789-':
-            continue
+        if term[:1] in b"0123456789-" or re.fullmatch(rb"distinct\[\d+\]", term):
+            continue  # as no alias stands for a distinct attribute without angle brackets
         name = sign + b"n%d" % number
         text = re.sub(FRONTS[sign] + re.escape(term) + BEHIND, lambda _: name, text)
         found += name + b" = " + term + maker.choice([b"\n", b" ", b" // c\n"])

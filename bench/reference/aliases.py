@@ -2,15 +2,16 @@
 its place and takes `loc(..)` away behind a function type or the type of a block's argument.
 
 Definitions stand in front of the first operation; behind the last one only `#name = loc(..)`, which goes. What a
-definition spells ends in front of the next string, value or definition outside all brackets. A text that defines no
-alias keeps all that look like one, which the grammar refuses."""
+definition spells is one type or one attribute (terms.py), behind which another definition or an operation stands. A
+text that defines no alias keeps all that look like one, which the grammar refuses."""
 
 import bisect
 import re
 
 from . import opaque, rules
-from .opaque import CLOSERS, MOST_OPEN, body_end, is_alias, name_end
-from .rules import COMMENT, MOST_BYTES, Refused
+from .opaque import CLOSERS, body_end, is_alias, name_end
+from .rules import COMMENT, ESCAPE, MOST_BYTES, Refused
+from .terms import Term, is_type_word
 
 # No name of a value, a label or a symbol ends with the `-` of an arrow.
 NAME = rb"[%^@](?:[0-9]+|(?:[A-Za-z$._]|-(?!>))(?:[A-Za-z0-9$._]|-(?!>))*)"
@@ -20,6 +21,9 @@ APART = b" \t\r\n([{<,=:>"
 # A piece that begins with one of these, and directly behind it the word `x`, parts dimensions.
 COUNTS = b"0123456789?]*"
 LOC = re.compile(rb"loc(?![A-Za-z0-9_$.])")
+# The front of a dialect's type: a name of its own and a comma follow the angle bracket.
+STRING = rb'"(?:[^"\\\n\v\f\r]|' + ESCAPE.pattern + rb')*"'
+FRONT = re.compile(rb"!(?:[0-9]+|[A-Za-z$._-][A-Za-z0-9$._-]*)<([A-Za-z_][A-Za-z0-9_$.]*|" + STRING + rb"),")
 # What a bracket holds: operations, operands or types or regions, arguments of a block, all else; a location.
 OPS, LIST, ARGS, OTHER, PLACE = range(5)
 
@@ -82,6 +86,13 @@ def behind_equal(text, piece):
     return at + 1 if piece.is_alias and text[at:at + 1] == b"=" else None
 
 
+def spells_itself(value):
+    """Whether a value is the type of a dialect with a name of its own in the first place of its angle brackets, and
+    the same front stands in it again."""
+    found = FRONT.match(value)
+    return bool(found) and not is_type_word(found[1]) and value.find(found[0], found.end()) >= 0
+
+
 class Expansion:
     """A text with the spellings in place, where each byte of it came from, and the fault at which it ends, if any."""
 
@@ -139,7 +150,7 @@ class Pass:
             if equal is None:
                 return behind
             self.named(piece)
-            self.values[piece.bytes], behind = self.value(equal)
+            self.values[piece.bytes], behind = self.value(equal, piece.bytes[:1] == b"!")
             self.spelled += len(self.values[piece.bytes])
 
     def named(self, piece):
@@ -147,48 +158,45 @@ class Pass:
             raise Refused(4, piece.start)
         self.names.add(piece.bytes)
 
-    def value(self, at):
+    def value(self, at, is_type):
         """The value of a definition, and the byte behind it. At no use all of them together are longer than a text."""
         begin = COMMENT.match(self.text, at).end()
-        parts, size, at, end, brackets, front = [], 0, begin, begin, [], Front()
-        while at < len(self.text):
+        end, fault = self.value_end(begin, is_type)
+        parts, size, at, brackets, front = [], 0, begin, [], Front()
+        while at < end:
             piece = Piece(self.text, at)
-            if not brackets and (piece.bytes[:1] in (b'"', b"%") or behind_equal(self.text, piece) is not None):
-                break
             at = piece.end
-            if piece.is_blank():
-                front.passed(piece)
-                continue
-            if piece.fault:
-                raise Refused(1, piece.start + (piece.bytes[:1] == b"@"))
-            size += piece.start - end
+            found = piece.bytes
             if piece.is_alias:
                 found = self.spelling(piece, front, brackets, self.spelled + size)
-            else:
+            elif not piece.is_blank():
                 self.bracket(piece, brackets, front.last)
-                found = piece.bytes
             size += len(found)
-            parts += [self.text[end:piece.start], found]
-            end = piece.end
+            parts.append(found)
             front.passed(piece)
-        if brackets:
-            raise Refused(2, len(self.text))
-        if not parts:
-            raise Refused(2, begin)
-        return b"".join(parts), end
+        value = b"".join(parts)
+        if not fault and spells_itself(value):
+            fault = Refused(13, begin)
+        if fault:
+            raise fault
+        return value, end
+
+    def value_end(self, begin, is_type):
+        """The byte behind a value; or the one at which it is refused, with the fault."""
+        term = Term(self.text, Piece)
+        try:
+            return (term.type(begin) if is_type else term.attr(begin)), None
+        except Refused as fault:
+            return fault.at, fault
 
     @staticmethod
     def bracket(piece, brackets, last):
-        """Opens or closes a bracket of a value; outside all of them no comma stands."""
+        """Opens or closes a bracket of a value."""
         byte = piece.bytes
         if brackets and byte == brackets[-1][0]:
             brackets.pop()
         elif byte in CLOSERS:
-            if len(brackets) == MOST_OPEN:
-                raise Refused(10, piece.start)
             brackets.append((CLOSERS[byte], PLACE if last == b"loc" else OTHER))
-        elif byte in (b")", b"]", b"}") or not brackets and byte in (b">", b","):
-            raise Refused(2, piece.start)
 
     # Operations.
 

@@ -1,20 +1,15 @@
 -- The closing brackets to come in a value, in a list, the nearest last.
-use Rattle.std.proofs.Common.{◌≡◌, ℕ, zero, suc, ◌+◌, ◌<◌, ◌≤◌, true, false, List, [], ◌∷◌, ◌++◌, length, take, drop, Option, Some, None, refl, sym, ap, ◌∙◌, arith}
-use Rattle.std.specs.Prelude.{◌==◌, if◌then◌else◌, reverse, option_map, Ok, Err}
+use Rattle.std.proofs.Common.{◌≡◌, ℕ, ◌+◌, ◌<◌, true, false, List, [], ◌∷◌, ◌++◌, length, take, drop, Option, Some, None, refl, sym, ap, ◌∙◌, arith}
+use Rattle.std.specs.Prelude.{◌==◌, reverse, option_map}
 use Rattle.std.proofs.lemmas.List.{length-reverse}
 use Rattle.ir_text_tokens.specs.declared.refusal.TextRefusal.{TextRefusal}
 use Rattle.ir_text_tokens.specs.declared.refusal.TextRefusal.TheVariants.{TooDeep, Unexpected}
 use Rattle.ir_text_tokens.specs.Strings.{closing}
 use Rattle.ir_text_tokens.specs.Tokens.{Lexeme, string, next}
 use Rattle.ir_text_tokens.proofs.Decimals.{eqb_self}
-use Rattle.ir_text_bodies.specs.Bodies.{closer_of, is_closed, is_none, opened}
-use Rattle.ir_text_bodies.proofs.Ahead as bodies
+use Rattle.ir_text_bodies.specs.Bodies.{closer_of, closes_nearest, is_closed, opened}
 use Rattle.ir_text_bodies.proofs.Walk.{pushed, popped}
-use Rattle.ir_text_tokens.specs.declared.fault.Fault.{Fault}
-use Rattle.ir_text_aliases.specs.Pieces.{from_quote, is_gap, piece_len}
-use Rattle.ir_text_aliases.specs.Values.{bracket_fault, coming_behind, ends_value, is_first, is_misplaced, open_fault, unless, value_end, value_fault}
-use Rattle.ir_text_aliases.proofs.Parted.{piece_within}
-use Rattle.ir_text_bodies.proofs.Ahead.{none_left}
+use Rattle.ir_text_aliases.specs.Values.{bracket_fault, coming_behind, is_first, open_fault}
 use Rattle.ir_text_tokens.proofs.Facts.{string_token}
 
 -- ---- strings
@@ -35,19 +30,19 @@ open_string cs e = from (closing cs) (sym (string_token cs) ∙ e)
 
 -- ---- one more bracket
 
-pub misplaced : (c : ℕ) (os : List ℕ) → is_misplaced c os ≡ true → open_fault c os ≡ Some Unexpected
+pub misplaced : (c : ℕ) (os : List ℕ) → closes_nearest c ≡ true → open_fault c os ≡ Some Unexpected
 misplaced c os e = rw e refl
 
 abbrev Opened : ℕ → List ℕ → List ℕ → Type 0
 Opened c items new = (open_fault c (reverse items) ≡ None) × (reverse new ≡ opened (closer_of c) (reverse items))
 
-pub no_bracket : (c : ℕ) (items : List ℕ) → is_misplaced c (reverse items) ≡ false → closer_of c ≡ None → Opened c items items
+pub no_bracket : (c : ℕ) (items : List ℕ) → closes_nearest c ≡ false → closer_of c ≡ None → Opened c items items
 no_bracket c items e h = (rw (e, h) refl, rw h refl)
 
-pub too_deep : (c d : ℕ) (items : List ℕ) → is_misplaced c (reverse items) ≡ false → closer_of c ≡ Some d → (length items == 32) ≡ true → open_fault c (reverse items) ≡ Some TooDeep
+pub too_deep : (c d : ℕ) (items : List ℕ) → closes_nearest c ≡ false → closer_of c ≡ Some d → (length items == 32) ≡ true → open_fault c (reverse items) ≡ Some TooDeep
 too_deep c d items e h full = rw (e, h, length-reverse items, full) refl
 
-pub one_more : (c d : ℕ) (items new : List ℕ) → is_misplaced c (reverse items) ≡ false → closer_of c ≡ Some d → (length items == 32) ≡ false → new ≡ items ++ d ∷ [] → Opened c items new
+pub one_more : (c d : ℕ) (items new : List ℕ) → closes_nearest c ≡ false → closer_of c ≡ Some d → (length items == 32) ≡ false → new ≡ items ++ d ∷ [] → Opened c items new
 one_more c d items new e h room p = (rw (e, h, length-reverse items, room) refl, ap reverse p ∙ pushed items d ∙ rw h refl)
 
 -- ---- a bracket that closes or opens
@@ -73,47 +68,3 @@ nested_fault c items old x e s h = rw (e, ← s) h
 pub none_first : (c : ℕ) (items : List ℕ) → (0 < length items → ⊥) → is_first c (reverse items) ≡ false
 none_first c [] n = refl
 none_first c (o ∷ os) n = absurd (n (omega arith))
-
--- ---- the walk
-
-ends_here : (c : ℕ) (os cs last : List ℕ) → ends_value c cs os ≡ true → value_end os 0 (c ∷ cs) last ≡ Ok (last, c ∷ cs)
-unfolding value_end
-ends_here c os cs last e = rw e refl
-
-further : (c : ℕ) (os cs last : List ℕ) → ends_value c cs os ≡ false → value_end os 0 (c ∷ cs) last ≡ unless (value_fault c cs os) (from_quote c cs) (value_end (coming_behind c os) (piece_len c cs) cs (if is_gap c cs then last else drop (piece_len c cs) cs))
-unfolding value_end
-further c os cs last e = rw e refl
-
-passed : (os : List ℕ) (n : ℕ) (cs last : List ℕ) → n ≤ length cs → value_end os n cs last ≡ value_end os 0 (drop n cs) last
-unfolding value_end
-passed os zero cs last le = refl
-passed os (suc n) [] last le = absurd (omega (arith, le))
-passed os (suc n) (c ∷ cs) last le = passed os n cs last (omega (arith, le))
-
-pub ends : (c : ℕ) (os all tail last : List ℕ) → all ≡ c ∷ tail → ends_value c tail os ≡ true → value_end os 0 all last ≡ Ok (last, all)
-ends c os all tail last a e = ap (λ l. value_end os 0 l last) a ∙ ends_here c os tail last e ∙ ap (λ l. Ok (last, l)) (sym a)
-
-pub goes_on : (c : ℕ) (os new all tail last behind then' : List ℕ) → all ≡ c ∷ tail → ends_value c tail os ≡ false → value_fault c tail os ≡ None → new ≡ coming_behind c os → behind ≡ drop (piece_len c tail) tail
-    → then' ≡ (if is_gap c tail then last else behind) → value_end os 0 all last ≡ value_end new 0 behind then'
-goes_on c os new all tail last behind then' a e f n b t =
-    ap (λ l. value_end os 0 l last) a ∙ further c os tail last e
-    ∙ ap (λ x. unless x (from_quote c tail) (value_end (coming_behind c os) (piece_len c tail) tail (if is_gap c tail then last else drop (piece_len c tail) tail))) f
-    ∙ passed (coming_behind c os) (piece_len c tail) tail (if is_gap c tail then last else drop (piece_len c tail) tail) (piece_within c tail)
-    ∙ (λ i. value_end (sym n i) 0 (sym b i) (if is_gap c tail then last else sym b i))
-    ∙ ap (value_end new 0 behind) (sym t)
-
-pub stops : (c : ℕ) (os all tail last : List ℕ) (f : Fault) (x : TextRefusal) → all ≡ c ∷ tail → ends_value c tail os ≡ false → value_fault c tail os ≡ Some x → f.refusal ≡ x → f.left ≡ length (from_quote c tail) → value_end os 0 all last ≡ Err f
-stops c os all tail last f x a e k h l =
-    ap (λ l. value_end os 0 l last) a ∙ further c os tail last e
-    ∙ ap (λ x. unless x (from_quote c tail) (value_end (coming_behind c os) (piece_len c tail) tail (if is_gap c tail then last else drop (piece_len c tail) tail))) k
-    ∙ (λ i. Err (record { refusal = sym h i; left = sym l i }))
-
-pub end_closed : (os rest last : List ℕ) → length rest < 1 → is_none os ≡ true → value_end os 0 rest last ≡ Ok (last, rest)
-unfolding value_end
-end_closed os [] last lt e = rw e refl
-end_closed os (c ∷ cs) last lt e = absurd (omega (arith, lt))
-
-pub end_open : (os rest last : List ℕ) (f : Fault) → length rest < 1 → is_none os ≡ false → f.refusal ≡ Unexpected → f.left ≡ length rest → value_end os 0 rest last ≡ Err f
-unfolding value_end
-end_open os [] last f lt e h l = rw e (λ i. Err (record { refusal = sym h i; left = sym l i }))
-end_open os (c ∷ cs) last f lt e h l = absurd (omega (arith, lt))

@@ -6,7 +6,7 @@ use Rattle.std.proofs.lemmas.List.Sums.{prefix_len-le-length}
 use Rattle.std.proofs.lemmas.Option.{some_pair_parts}
 use Rattle.std.proofs.Math.Seq.{drop-length}
 use Rattle.ir_text_tokens.specs.Strings.{closing}
-use Rattle.ir_text_tokens.specs.Tokens.{Lexeme, string, next, skip, string_at, suffix_len}
+use Rattle.ir_text_tokens.specs.Tokens.{Lexeme, string, next, suffix_len}
 use Rattle.ir_text_tokens.specs.Bytes.{is_letter, is_word}
 use Rattle.ir_text_bodies.specs.Bodies.{are_slashes, begins, is_arrow, is_sign}
 use Rattle.ir_text_bodies.specs.Bodies as bodies

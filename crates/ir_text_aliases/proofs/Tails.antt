@@ -8,12 +8,11 @@ use Rattle.ir_text_tokens.specs.declared.refusal.TextRefusal.TheVariants.{Unexpe
 use Rattle.ir_text_tokens.specs.declared.fault.Fault.{Fault}
 use Rattle.ir_text_tokens.specs.Bytes.{is_blank}
 use Rattle.ir_text_tokens.specs.Tokens.{is_comment, skip, skip_line}
-use Rattle.ir_text_bodies.specs.Bodies.{is_none, refused_at}
-use Rattle.ir_text_aliases.specs.Pieces.{from_quote, is_gap, piece_len, word_len}
+use Rattle.ir_text_bodies.specs.Bodies.{refused_at}
+use Rattle.ir_text_aliases.specs.Pieces.{piece_len, word_len}
 use Rattle.ir_text_aliases.specs.Places.{behind_loc, located, place_end, place_fault}
 use Rattle.ir_text_aliases.specs.Places as places
-use Rattle.ir_text_aliases.specs.Values.{Ends, coming_behind, ends_value, unless, value_end, value_fault}
-use Rattle.ir_text_aliases.specs.Values as values
+use Rattle.ir_text_aliases.specs.Values.{coming_behind}
 
 abbrev pub IsTail : List ℕ → List ℕ → Type 0
 IsTail bs r = (w : List ℕ) × (bs ≡ w ++ r)
@@ -88,36 +87,3 @@ behind_tail bs = within bs (drop (word_len bs) bs) (behind_loc bs) (dropped (wor
 
 pub place_tail : (cs r : List ℕ) → located (behind_loc cs) ≡ Ok r → IsTail cs r
 place_tail cs r e = within cs (behind_loc cs) r (behind_tail cs) (located_tail (behind_loc cs) r e)
-
--- ---- values
-
-abbrev last_of : Ends → List ℕ
-last_of (Ok x) = x.0
-last_of (Err fault) = []
-
-ended : (base : List ℕ) (os : List ℕ) (n : ℕ) (bs last r a : List ℕ) → IsTail base bs → IsTail base last → value_end os n bs last ≡ Ok (r, a) → IsTail base r
-unfolding value_end
-ended base os n [] last r a p q e = from (is_none os) e
-  where
-    from : (t : Bool) → cond t (Ok (last, [])) (values.refused_at Unexpected []) ≡ Ok (r, a) → IsTail base r
-    from true k = subst (IsTail base) (ap last_of k) q
-    from false k = absurd cc
-ended base os (suc n) (c ∷ cs) last r a p q e = ended base os n cs last r a (within base (c ∷ cs) cs p (longer c cs cs (same cs))) q e
-ended base os zero (c ∷ cs) last r a p q e =
-    from (ends_value c cs os) (value_fault c cs os) e (ended base (coming_behind c os) (piece_len c cs) cs (cond (is_gap c cs) last (drop (piece_len c cs) cs)) r a on (later (is_gap c cs)))
-  where
-    on : IsTail base cs
-    on = within base (c ∷ cs) cs p (longer c cs cs (same cs))
-
-    later : (g : Bool) → IsTail base (cond g last (drop (piece_len c cs) cs))
-    later true = q
-    later false = within base cs (drop (piece_len c cs) cs) on (dropped (piece_len c cs) cs)
-
-    from : (t : Bool) (x : Option TextRefusal) → cond t (Ok (last, c ∷ cs)) (unless x (from_quote c cs) (value_end (coming_behind c os) (piece_len c cs) cs (cond (is_gap c cs) last (drop (piece_len c cs) cs)))) ≡ Ok (r, a)
-        → (value_end (coming_behind c os) (piece_len c cs) cs (cond (is_gap c cs) last (drop (piece_len c cs) cs)) ≡ Ok (r, a) → IsTail base r) → IsTail base r
-    from true x k h = subst (IsTail base) (ap last_of k) q
-    from false None k h = h k
-    from false (Some x) k h = absurd cc
-
-pub value_tail : (bs r a : List ℕ) → value_end [] 0 bs bs ≡ Ok (r, a) → IsTail bs r
-value_tail bs r a e = ended bs [] 0 bs bs r a (same bs) (same bs) e

@@ -2,6 +2,8 @@ pub mod Pieces
 pub mod Fronts
 pub mod Uses
 pub mod Values
+pub mod Words
+pub mod Terms
 pub mod Places
 pub mod Walk
 pub mod Steps

@@ -1,12 +1,12 @@
--- Where the value of an alias ends. MLIR Language Reference, "Type Aliases" and "Attribute Value
--- Aliases".
-use Rattle.std.specs.Prelude.{ℕ, zero, suc, Bool, true, false, ◌&&◌, ◌||◌, ◌==◌, if◌then◌else◌, List, [], ◌∷◌, length, drop, Option, Some, None, Result, Ok, Err}
+-- Definitions of aliases, and groups: what brackets enclose. MLIR Language Reference, "Type Aliases" and
+-- "Attribute Value Aliases".
+use Rattle.std.specs.Prelude.{ℕ, zero, suc, Bool, true, false, ◌&&◌, ◌==◌, if◌then◌else◌, List, [], ◌∷◌, length, drop, Option, Some, None, Result, Ok}
 use Rattle.ir_text_tokens.specs.declared.refusal.TextRefusal.{TextRefusal}
 use Rattle.ir_text_tokens.specs.declared.refusal.TextRefusal.TheVariants.{BadToken, TooDeep, Unexpected}
 use Rattle.ir_text_tokens.specs.declared.fault.Fault.{Fault}
 use Rattle.ir_text_tokens.specs.Tokens.{skip, suffix_len}
-use Rattle.ir_text_bodies.specs.Bodies.{closer_of, closes_nearest, is_alias, is_none, is_opener, most_open, opened}
-use Rattle.ir_text_aliases.specs.Pieces.{from_quote, is_gap, is_open_string, piece_len}
+use Rattle.ir_text_bodies.specs.Bodies.{closer_of, closes_nearest, is_alias, is_opener, most_open, opened, refused_at}
+use Rattle.ir_text_aliases.specs.Pieces.{from_quote, is_open_string, piece_len}
 
 -- what follows an equals sign and the blanks behind it
 abbrev pub behind_equal : List ℕ → Option (List ℕ)
@@ -20,10 +20,6 @@ definition_at c cs = if is_alias c cs then behind_equal (skip (drop (suffix_len 
 abbrev pub is_defined : Option (List ℕ) → Bool
 is_defined None = false
 is_defined (Some bytes) = true
-
--- outside all brackets a value ends in front of a string, a value's name and a definition
-abbrev pub ends_value : ℕ → List ℕ → List ℕ → Bool
-ends_value c cs coming = is_none coming && ((c == 34 || c == 37) || is_defined (definition_at c cs))
 
 -- ---- brackets
 
@@ -39,14 +35,10 @@ rest_of (o ∷ os) = os
 abbrev pub coming_behind : ℕ → List ℕ → List ℕ
 coming_behind c coming = if is_first c coming then rest_of coming else opened (closer_of c) coming
 
--- a bracket that closes another than the nearest, and outside all brackets `>` and a comma
-abbrev pub is_misplaced : ℕ → List ℕ → Bool
-is_misplaced c coming = closes_nearest c || (is_none coming && (c == 62 || c == 44))
-
--- or a bracket that is one too many
+-- a bracket that closes another than the nearest, or is one too many
 abbrev pub open_fault : ℕ → List ℕ → Option TextRefusal
 open_fault c coming =
-    if is_misplaced c coming then Some Unexpected
+    if closes_nearest c then Some Unexpected
     else if is_opener c && length coming == most_open then Some TooDeep
     else None
 
@@ -57,24 +49,25 @@ bracket_fault c coming = if is_first c coming then None else open_fault c coming
 abbrev pub value_fault : ℕ → List ℕ → List ℕ → Option TextRefusal
 value_fault c cs coming = if is_open_string c cs then Some BadToken else bracket_fault c coming
 
--- ---- the end
+-- ---- groups
 
--- what follows the last piece of a value, and what follows the blanks and comments behind that
+-- what follows what was read, or why it does not end, and where
 abbrev pub Ends : Type 0
-Ends = Result (List ℕ × List ℕ) Fault
-
-abbrev pub refused_at : TextRefusal → List ℕ → Ends
-refused_at refusal bytes = Err (record { refusal = refusal; left = length bytes })
+Ends = Result (List ℕ) Fault
 
 abbrev pub unless : Option TextRefusal → List ℕ → Ends → Ends
 unless None bytes found = found
 unless (Some refusal) bytes found = refused_at refusal bytes
 
--- the closing brackets to come are given, the nearest first, how many bytes belong to what was read, and
--- what follows the last piece that is neither a blank nor a comment
-unfoldable pub value_end : (coming : List ℕ) (passed : ℕ) (bytes last : List ℕ) → Ends
-value_end coming n [] last = if is_none coming then Ok (last, []) else refused_at Unexpected []
-value_end coming (suc n) (c ∷ cs) last = value_end coming n cs last
-value_end coming zero (c ∷ cs) last =
-    if ends_value c cs coming then Ok (last, c ∷ cs)
-    else unless (value_fault c cs coming) (from_quote c cs) (value_end (coming_behind c coming) (piece_len c cs) cs (if is_gap c cs then last else drop (piece_len c cs) cs))
+-- what follows the last of the closing brackets to come, which are given, the nearest first; some bytes belong
+-- to the piece before
+unfoldable pub group_end : (coming : List ℕ) (passed : ℕ) (bytes : List ℕ) → Ends
+group_end [] n bytes = Ok (drop n bytes)
+group_end (o ∷ os) n [] = refused_at Unexpected []
+group_end (o ∷ os) (suc n) (c ∷ cs) = group_end (o ∷ os) n cs
+group_end (o ∷ os) zero (c ∷ cs) = unless (value_fault c cs (o ∷ os)) (from_quote c cs) (group_end (coming_behind c (o ∷ os)) (piece_len c cs) cs)
+
+-- what follows a group that one bracket begins and another ends
+abbrev pub enclosed : (first closer : ℕ) → List ℕ → Ends
+enclosed first closer [] = refused_at Unexpected []
+enclosed first closer (c ∷ cs) = if c == first then group_end (closer ∷ []) 0 cs else refused_at Unexpected (c ∷ cs)

@@ -8,6 +8,8 @@ mod nests;
 pub mod part;
 pub mod pieces;
 pub mod places;
+pub mod terms;
 pub mod uses;
 pub mod values;
 pub mod walk;
+pub mod words;

@@ -2,7 +2,6 @@
 use Rattle.std.proofs.Common.{◌≡◌, ℕ, zero, suc, ◌-◌, ◌<◌, ◌≤◌, Bool, true, false, cond, List, [], ◌∷◌, length, drop, Option, Some, None, refl, sym, ap, ◌∙◌, arith}
 use Rattle.std.specs.Prelude.{◌==◌, ◌&&◌, Ok, Err}
 use Rattle.std.specs.Result.{result_err}
-use Rattle.std.proofs.lemmas.List.{length-drop}
 use Rattle.ir_text_tokens.specs.declared.refusal.TextRefusal.TheVariants.{LeftOut, Redefined}
 use Rattle.ir_text_tokens.specs.declared.fault.Fault.{Fault}
 use Rattle.ir_text_aliases.specs.Pieces.{is_gap, name_of, piece_len}
@@ -15,7 +14,6 @@ use Rattle.ir_text_aliases.proofs.Tails.{IsTail, dropped, is_drop, place_tail, s
 use Rattle.ir_text_expanded.specs.Definitions.{is_known, with_alias}
 use Rattle.ir_text_expanded.specs.Endings.{ending, ending_of, ending_value, endings, unless}
 use Rattle.ir_text_expanded.proofs.Parts.{definition_tail}
-use Rattle.ir_text_expanded.proofs.Defining.{gap_shorter}
 
 -- ---- what follows
 

@@ -1,6 +1,6 @@
 -- A byte of an expansion that stands in no spelling is the byte of the text from which it comes.
 use Rattle.std.proofs.Common.{◌≡◌, ℕ, zero, suc, ◌+◌, ◌-◌, ◌<◌, ◌≤◌, Bool, true, false, cond, List, [], ◌∷◌, ◌++◌, length, get_or, take, drop, Option, Some, None, refl, sym, ap, ◌∙◌, subst, append_assoc, arith}
-use Rattle.std.specs.Prelude.{◌&&◌, ◌||◌, not, nat_lt, ⊤, Ok, Err}
+use Rattle.std.specs.Prelude.{◌&&◌, not, nat_lt, ⊤, Ok, Err}
 use Rattle.std.specs.Result.{result_err}
 use Rattle.std.proofs.Math.ListN.{get_or-append}
 use Rattle.std.proofs.Math.Seq.{drop-nil}

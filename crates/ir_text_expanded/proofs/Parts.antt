@@ -1,15 +1,17 @@
 -- What follows a definition or its value is the end of the text.
 use Rattle.std.proofs.Common.{◌≡◌, ℕ, Bool, true, false, cond, List, [], ◌∷◌, length, drop, Option, Some, None, refl, ap, ◌∙◌, subst}
 use Rattle.std.specs.Prelude.{◌==◌, Ok, Err}
-use Rattle.ir_text_tokens.specs.declared.refusal.TextRefusal.TheVariants.{Redefined, Unexpected}
+use Rattle.ir_text_tokens.specs.declared.refusal.TextRefusal.TheVariants.{Redefined}
 use Rattle.ir_text_tokens.specs.declared.fault.Fault.{Fault}
 use Rattle.ir_text_tokens.specs.Tokens.{skip, suffix_len}
-use Rattle.ir_text_bodies.specs.Bodies.{is_alias}
+use Rattle.ir_text_bodies.specs.Bodies.{begins, is_alias}
 use Rattle.ir_text_aliases.specs.Uses.{Aliases}
-use Rattle.ir_text_aliases.specs.Values.{Ends, behind_equal, definition_at, value_end}
+use Rattle.ir_text_aliases.specs.Values.{Ends, behind_equal, definition_at}
+use Rattle.ir_text_aliases.specs.Terms.{value_end}
 use Rattle.ir_text_aliases.specs.Walk.{fault_at}
-use Rattle.ir_text_aliases.proofs.Tails.{IsTail, dropped, longer, skipped, value_tail, within}
-use Rattle.ir_text_expanded.specs.Definitions.{Value, is_known, rest_of, spelled_or, value_at, value_of_name, value_up_to, value_walk}
+use Rattle.ir_text_aliases.proofs.Tails.{IsTail, dropped, longer, skipped, within}
+use Rattle.ir_text_aliases.proofs.Ending.{value_tail}
+use Rattle.ir_text_expanded.specs.Definitions.{Value, closed_fault, is_known, rest_of, spelled_or, value_at, value_of_name, value_up_to, value_walk}
 
 -- ---- a definition
 
@@ -41,24 +43,17 @@ module _ (values : List ℕ) (env : Aliases) (bytes : List ℕ) where
   ends_at None text last v e t r k = ap rest_of (e ∙ k)
   ends_at (Some fault) text last v e t r k = absurd (let q : Err fault ≡ Ok (t, r) = e ∙ k in absurd cc)
 
-  closed_tail : (x : List ℕ × List ℕ) (t r : List ℕ) → value_end [] 0 bytes bytes ≡ Ok x → value_up_to values env bytes (Ok x) ≡ Ok (t, r) → IsTail bytes r
-  closed_tail x t r k e = from (length x.0 == length bytes) e
+  value_rest : (of_type : Bool) (t r : List ℕ) → value_at values env of_type bytes ≡ Ok (t, r) → IsTail bytes r
+  value_rest of_type t r e = from (value_end of_type bytes) refl e
     where
-      from : (b : Bool) → cond b (Err (fault_at bytes Unexpected)) (spelled_or (value_walk values env bytes (length x.0)).fault (value_walk values env bytes (length x.0)).text x.0) ≡ Ok (t, r) → IsTail bytes r
-      from true e = absurd cc
-      from false e =
-          subst (IsTail bytes) (ends_at (value_walk values env bytes (length x.0)).fault (value_walk values env bytes (length x.0)).text x.0 (Ok (t, r)) e t r refl) (value_tail bytes x.0 x.1 k)
-
-  value_rest : (t r : List ℕ) → value_at values env bytes ≡ Ok (t, r) → IsTail bytes r
-  value_rest t r e = from (value_end [] 0 bytes bytes) refl e
-    where
-      from : (x : Ends) → value_end [] 0 bytes bytes ≡ x → value_up_to values env bytes x ≡ Ok (t, r) → IsTail bytes r
-      from (Ok x) k e = closed_tail x t r k e
+      from : (x : Ends) → value_end of_type bytes ≡ x → value_up_to values env bytes x ≡ Ok (t, r) → IsTail bytes r
+      from (Ok rest) k e =
+          subst (IsTail bytes) (ends_at (closed_fault bytes (value_walk values env bytes (length rest))) (value_walk values env bytes (length rest)).text rest (Ok (t, r)) e t r refl) (value_tail of_type bytes rest k)
       from (Err fault) k e = absurd cc
 
   pub named_tail : (name all t r : List ℕ) → value_of_name values env name all bytes ≡ Ok (t, r) → IsTail bytes r
   named_tail name all t r e = from (is_known name env) e
     where
-      from : (b : Bool) → cond b (Err (fault_at all Redefined)) (value_at values env bytes) ≡ Ok (t, r) → IsTail bytes r
+      from : (b : Bool) → cond b (Err (fault_at all Redefined)) (value_at values env (begins 33 all) bytes) ≡ Ok (t, r) → IsTail bytes r
       from true k = absurd cc
-      from false k = value_rest t r k
+      from false k = value_rest (begins 33 all) t r k

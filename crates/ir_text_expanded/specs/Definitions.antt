@@ -1,16 +1,19 @@
 -- The definitions of aliases in front of the first operation. MLIR Language Reference, "Type Aliases" and
 -- "Attribute Value Aliases".
-use Rattle.std.specs.Prelude.{ℕ, zero, suc, ◌-◌, Bool, true, false, ◌==◌, if◌then◌else◌, List, [], ◌∷◌, ◌++◌, length, Option, Some, None, Result, Ok, Err}
+use Rattle.std.specs.Prelude.{ℕ, zero, suc, ◌-◌, Bool, true, false, if◌then◌else◌, List, [], ◌∷◌, ◌++◌, length, Option, Some, None, Result, Ok, Err}
 use Rattle.std.specs.Result.{result_err}
-use Rattle.ir_text_tokens.specs.declared.refusal.TextRefusal.TheVariants.{Redefined, Unexpected}
+use Rattle.ir_text_tokens.specs.declared.refusal.TextRefusal.TheVariants.{LeftOut, Redefined}
 use Rattle.ir_text_tokens.specs.declared.fault.Fault.{Fault}
 use Rattle.ir_text_tokens.specs.Scopes.{find}
+use Rattle.ir_text_bodies.specs.Bodies.{begins}
 use Rattle.ir_text_aliases.specs.declared.front.Holds.TheVariants.{Others}
 use Rattle.ir_text_aliases.specs.declared.part.Part.{Part}
 use Rattle.ir_text_aliases.specs.Pieces.{is_gap, name_of, piece_len}
 use Rattle.ir_text_aliases.specs.Uses.{Aliases}
-use Rattle.ir_text_aliases.specs.Values.{Ends, definition_at, is_defined, value_end}
+use Rattle.ir_text_aliases.specs.Values.{Ends, definition_at, is_defined}
+use Rattle.ir_text_aliases.specs.Terms.{value_end}
 use Rattle.ir_text_aliases.specs.Walk.{Walked, fault_at, walk_text}
+use Rattle.ir_text_expanded.specs.Recursion.{spells_itself}
 
 -- ---- one value
 
@@ -34,15 +37,21 @@ abbrev pub first_fault : Option Fault → Fault → Fault
 first_fault None other = other
 first_fault (Some fault) other = fault
 
--- a value that ends there; one that does not is refused for an alias in front of that first
+abbrev pub or_itself : Option Fault → Option Fault → Option Fault
+or_itself None other = other
+or_itself (Some fault) other = Some fault
+
+-- a value that ends there, and doesn't spell a type of a dialect within itself; one that does not end is refused for an
+-- alias in front of that first
+abbrev pub closed_fault : List ℕ → Walked → Option Fault
+closed_fault bytes w = or_itself w.fault (if spells_itself w.text then Some (fault_at bytes LeftOut) else None)
+
 abbrev pub value_up_to : List ℕ → Aliases → List ℕ → Ends → Value
-value_up_to values env bytes (Ok x) =
-    if length x.0 == length bytes then Err (fault_at bytes Unexpected)
-    else spelled_or (value_walk values env bytes (length x.0)).fault (value_walk values env bytes (length x.0)).text x.0
+value_up_to values env bytes (Ok rest) = spelled_or (closed_fault bytes (value_walk values env bytes (length rest))) (value_walk values env bytes (length rest)).text rest
 value_up_to values env bytes (Err fault) = Err (first_fault (value_walk values env bytes fault.left).fault fault)
 
-abbrev pub value_at : List ℕ → Aliases → List ℕ → Value
-value_at values env bytes = value_up_to values env bytes (value_end [] 0 bytes bytes)
+abbrev pub value_at : List ℕ → Aliases → (of_type : Bool) → List ℕ → Value
+value_at values env of_type bytes = value_up_to values env bytes (value_end of_type bytes)
 
 -- ---- one definition
 
@@ -57,9 +66,9 @@ is_known name env = is_some (find name env)
 abbrev pub with_alias : List ℕ → ℕ → ℕ → Aliases → Aliases
 with_alias name start past env = env ++ record { name = name; value = (start, past) } ∷ []
 
--- the value of a name that isn't defined yet, with which the bytes begin
+-- the value of a name that isn't defined yet, with whose sign the bytes begin: `!` where it is the alias of a type
 abbrev pub value_of_name : List ℕ → Aliases → (name bytes value : List ℕ) → Value
-value_of_name values env name bytes value = if is_known name env then Err (fault_at bytes Redefined) else value_at values env value
+value_of_name values env name bytes value = if is_known name env then Err (fault_at bytes Redefined) else value_at values env (begins 33 bytes) value
 
 abbrev pub text_of : Value → List ℕ
 text_of (Ok x) = x.0

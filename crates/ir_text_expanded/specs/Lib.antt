@@ -1,3 +1,4 @@
+pub mod Recursion
 pub mod Definitions
 pub mod Steps
 pub mod Endings

@@ -1,14 +1,20 @@
 //! The definitions of aliases in front of the first operation.
-ghost use Rattle.std.specs.Prelude.{◌≡◌, ◌≤◌, ◌++◌, ◌-◌, [], ◌∷◌, ℕ, List, true, false, if◌then◌else◌, Ok, Err, None, Some, length, drop, OnOk, IfOk, IfErr};
-ghost use Rattle.ir_text_aliases.specs.Pieces.{is_gap, name_of, piece_len};
+ghost use Rattle.std.specs.Prelude.{◌≡◌, ◌≤◌, ◌++◌, ◌-◌, [], ◌∷◌, true, false, if◌then◌else◌, Ok, Err, None, Some, length, OnOk, IfOk, IfErr};
+ghost use Rattle.ir_text_bodies.specs.Bodies.{begins};
+ghost use Rattle.ir_text_aliases.specs.Pieces.{is_gap, name_of};
 ghost use Rattle.ir_text_expanded.specs.Definitions.{defined, definitions, is_known, value_at, value_of_name, value_up_to, value_walk, with_alias};
+ghost use Rattle.ir_text_expanded.specs.Recursion.{spells_itself};
 ghost use Rattle.ir_text_expanded.specs.Steps.{Adds};
+ghost use Rattle.ir_text_aliases.specs.Walk.{fault_at};
+ghost use Rattle.ir_text_tokens.specs.declared.refusal.TextRefusal.TheVariants.{LeftOut};
 ghost use Rattle.ir_text_tokens.specs.declared.fault.Fault.{Fault as Reason};
 
+use crate::recursion::spells_itself;
 use ir_text_aliases::front::Holds;
 use ir_text_aliases::part::Part;
 use ir_text_aliases::pieces::{behind_piece, is_gap, name_len};
-use ir_text_aliases::values::{definition, value_end};
+use ir_text_aliases::terms::value_end;
+use ir_text_aliases::values::definition;
 use ir_text_aliases::walk::{Written, walk};
 use ir_text_tokens::fault::Fault;
 use ir_text_tokens::names::Names;
@@ -73,42 +79,54 @@ fn open_value<'a>(
     }
 }
 
-/// Puts the value there that ends there.
+/// Why a value that was put there is refused: it spells a type of a dialect within itself (LeftOut).
+fn itself(bytes: &[u8], out: &Written) -> Option<Fault>
+    ensures { result ≡ (if spells_itself out.now.text.items then Some (fault_at bytes.now LeftOut) else None) }
+{
+    if spells_itself(&out.text) {
+        Some(Fault::at(TextRefusal::LeftOut, bytes))
+    } else {
+        None
+    }
+}
+
+/// Puts the value there that begins the bytes, up to `rest`, and gives its fault.
 fn closed_value<'a>(
     alloc: Global,
     known: &Known<'a>,
     bytes: &'a [u8],
-    last: &'a [u8],
+    rest: &'a [u8],
     out: &mut Written,
 ) -> Result<Option<Fault>, AllocError>
     requires text { out.old.text.items ≡ [] }
     requires marks { out.old.marks.items ≡ [] }
-    ensures ok { IfOk result (λ f. f ≡ None → (after : List ℕ) → value_up_to known.now.values.items known.now.names.here bytes.now (Ok (last.now, after)) ≡ Ok (out.new.text.items, last.now)) }
-    ensures err { IfOk result (λ f. (x : Reason) → f ≡ Some x → (after : List ℕ) → value_up_to known.now.values.items known.now.names.here bytes.now (Ok (last.now, after)) ≡ Err x) }
+    ensures ok { IfOk result (λ f. f ≡ None → value_up_to known.now.values.items known.now.names.here bytes.now (Ok rest.now) ≡ Ok (out.new.text.items, rest.now)) }
+    ensures err { IfOk result (λ f. (x : Reason) → f ≡ Some x → value_up_to known.now.values.items known.now.names.here bytes.now (Ok rest.now) ≡ Err x) }
 {
-    if last.len() == bytes.len() {
-        return Ok(Some(Fault::at(TextRefusal::Unexpected, bytes)));
+    match put_value(alloc, known, bytes, rest.len(), out)? {
+        None => Ok(itself(bytes, out)),
+        Some(fault) => Ok(Some(fault)),
     }
-    put_value(alloc, known, bytes, last.len(), out)
 }
 
 /// Puts the value there that begins the bytes, with the values of its aliases in their places, and gives what
-/// follows it. It is refused where it does not end, where it has no piece (Unexpected), and at an alias in
-/// front of that which may not stand there.
+/// follows it. It is refused where it is no type or no attribute, at an alias in front of that which may not stand
+/// there, and where it spells a type of a dialect within itself.
 fn value<'a>(
     alloc: Global,
     known: &Known<'a>,
+    of_type: bool,
     bytes: &'a [u8],
     out: &mut Written,
 ) -> Result<Result<&'a [u8], Fault>, AllocError>
     requires text { out.old.text.items ≡ [] }
     requires marks { out.old.marks.items ≡ [] }
-    ensures ok { IfOk result (λ s. IfOk s (λ r. value_at known.now.values.items known.now.names.here bytes.now ≡ Ok (out.new.text.items, r.now))) }
-    ensures err { IfOk result (λ s. IfErr s (λ f. value_at known.now.values.items known.now.names.here bytes.now ≡ Err f)) }
+    ensures ok { IfOk result (λ s. IfOk s (λ r. value_at known.now.values.items known.now.names.here of_type bytes.now ≡ Ok (out.new.text.items, r.now))) }
+    ensures err { IfOk result (λ s. IfErr s (λ f. value_at known.now.values.items known.now.names.here of_type bytes.now ≡ Err f)) }
 {
-    match value_end(bytes) {
-        Ok((last, _)) => match closed_value(alloc, known, bytes, last, out)? {
-            None => Ok(Ok(last)),
+    match value_end(of_type, bytes) {
+        Ok(rest) => match closed_value(alloc, known, bytes, rest, out)? {
+            None => Ok(Ok(rest)),
             Some(fault) => Ok(Err(fault)),
         },
         Err(fault) => Ok(Err(open_value(alloc, known, bytes, fault, out)?)),
@@ -146,6 +164,13 @@ fn add<'a>(known: &mut Known<'a>, name: &'a [u8], value: &[u8]) -> Result<(), Al
     known.names.bind(name, (start, past))
 }
 
+/// Whether the sign of the name with which all begins is that of a type.
+fn is_type(all: &[u8]) -> bool
+    ensures { result ≡ begins 33 all.now }
+{
+    matches!(all, [b'!', ..])
+}
+
 /// Puts the value of the definition there that begins with the byte, and gives what follows it. A name that
 /// is defined already is refused (Redefined).
 fn defined_value<'a>(
@@ -164,7 +189,7 @@ fn defined_value<'a>(
     if is_known(&known.names, name) {
         return Ok(Err(Fault::at(TextRefusal::Redefined, all)));
     }
-    value(alloc, known, bytes, out)
+    value(alloc, known, is_type(all), bytes, out)
 }
 
 /// Takes the definition that begins with the byte, whose value begins the bytes, and gives what follows it.

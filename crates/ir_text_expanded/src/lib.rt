@@ -5,4 +5,5 @@ mod definitions;
 mod endings;
 pub mod expansion;
 pub mod laws;
+mod recursion;
 pub mod unchanged;
