@@ -42,6 +42,9 @@ pub(crate) const OPAQUE: &str = "Keep unknown types and attributes, as their tex
 /// What `--explain` says.
 pub(crate) const EXPLAIN: &str = "Say behind each refusal what it is about";
 
+/// What `--strict` says.
+pub(crate) const STRICT: &str = "Status 1 if a pattern rewrites that no check proves";
+
 /// What `--format` says.
 pub(crate) const FORMAT: &str = "`text`, or `json`: an object a line";
 
