@@ -165,14 +165,15 @@ class Collected:
     def begin(self, name):
         self.name = name
 
-    def case(self, words, pieces, answer, is_cut=False):
-        """A case, and the status and the bytes that are to be written; a text stands for its only piece."""
+    def case(self, words, pieces, answer, is_cut=False, name=None):
+        """A case, and the status and the bytes that are to be written; a text stands for its only piece. Without a name
+        its name is its number in the file."""
         pieces = [(1, pieces)] if isinstance(pieces, bytes) else pieces
         key = (*words, is_cut, *pieces)
         if key not in self.known:
             self.known.add(key)
             rows = self.files.setdefault(self.name, [])
-            rows.append((Case(str(len(rows) + 1), words, pieces, is_cut), answer))
+            rows.append((Case(name or str(len(rows) + 1), words, pieces, is_cut), answer))
 
     def write(self):
         """Writes the files, and says how many cases they have."""

@@ -1300,7 +1300,7 @@ def main():
     analyses_cases.all_cases(analyses, GOLDEN.begin)
     about_cases.all_cases(analyses, GOLDEN.begin)
     conversion_cases.all_cases(analyses, GOLDEN.begin)
-    own_pattern_cases.all_cases(whole, GOLDEN.begin)
+    own_pattern_cases.all_cases(whole, GOLDEN.begin, GOLDEN.case)
     trace_cases.all_cases(GOLDEN.case, GOLDEN.begin)
     convert_trace_cases.all_cases(GOLDEN.case, GOLDEN.begin)
     why_cases.all_cases(GOLDEN.case, GOLDEN.begin)

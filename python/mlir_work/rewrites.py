@@ -2,16 +2,18 @@
 import re
 from typing import List, NamedTuple, Optional, Tuple
 
-from .reply import Reply, lines_of
+from .reply import Reply, Unproved, lines_of
 
 _TOLD = re.compile(r"rewrote (?:(\d+) )?(\S+) #(\d+)(?: made (#\d+(?:,#\d+)*))?( erased #\d+)?")
 
 
 class Canonicalized(NamedTuple):
-    """How many rewrites a `canon` made, and whether no rule applies behind them."""
+    """How many rewrites a `canon` made, whether no rule applies behind them, and the patterns of a `rewrite` that no
+    check proves for the module."""
 
     rewrites: int
     is_done: bool
+    unproved: Tuple[Unproved, ...] = ()
 
 
 class Rewrite(NamedTuple):
@@ -26,10 +28,12 @@ class Rewrite(NamedTuple):
 
 
 class Traced(NamedTuple):
-    """The rewrites that were made, in their order, and whether no rule applies behind them."""
+    """The rewrites that were made, in their order, whether no rule applies behind them, and the patterns that no check
+    proves for the module."""
 
     rewrites: List[Rewrite]
     is_done: bool
+    unproved: Tuple[Unproved, ...] = ()
 
 
 class Reason(NamedTuple):
@@ -43,7 +47,7 @@ class Reason(NamedTuple):
 
 def canonicalized_of(reply: Reply) -> Canonicalized:
     """What the reply to a rewriting says."""
-    return Canonicalized(reply.number or 0, reply.outcome == "converged")
+    return Canonicalized(reply.number or 0, reply.outcome == "converged", reply.unproved)
 
 
 def _rewrite(line: str) -> Rewrite:
@@ -56,7 +60,8 @@ def _rewrite(line: str) -> Rewrite:
 
 def traced_of(reply: Reply) -> Traced:
     """What the reply to a rewriting says, and what is told of it."""
-    return Traced([_rewrite(line) for line in lines_of(reply.shown)], reply.outcome == "converged")
+    told = lines_of(reply.shown)[len(reply.unproved):]
+    return Traced([_rewrite(line) for line in told], reply.outcome == "converged", reply.unproved)
 
 
 def stood_of(reply: Reply) -> List[Rewrite]:

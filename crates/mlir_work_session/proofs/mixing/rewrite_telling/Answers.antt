@@ -10,7 +10,7 @@ pub returns-clause-follows : goal.returns-clause-follows
 returns-clause-follows g c = follows_called _ _ _ _ _ c.told.ensures.reply c.rewrite_own_traced-called.ensures.does
 
 pub returns-clause-shows : goal.returns-clause-shows
-returns-clause-shows g c = shows_told _ _ _ _ _ _ c.told.ensures.reply c.naming-lines.ensures.text (rw c.naming-lines.ensures.names at c.rewrite_own_traced-called.ensures.told) c.told.ensures.shows
+returns-clause-shows g c = shows_told _ _ _ _ _ _ c.told.ensures.reply c.rewrite_own_traced-called.ensures.told c.told.ensures.shows
 
 pub returns-clause-room : goal.returns-clause-room
 returns-clause-room g c = replied _ (state_of g.L.Analysis.meaning c.args.bench.now) (rewriting (by_attempts (attempts_of c.args.tried.now)) c.args.limit) _ _ c.told.ensures.reply (λ e. widened (λ more. inr more) (c.rewrite_own_traced-called.ensures.room e))
