@@ -2,18 +2,16 @@
 import re
 from typing import List, NamedTuple, Optional, Tuple
 
-from .reply import Reply, Unproved, lines_of
+from .reply import Reply, lines_of
 
 _TOLD = re.compile(r"rewrote (?:(\d+) )?(\S+) #(\d+)(?: made (#\d+(?:,#\d+)*))?( erased #\d+)?")
 
 
 class Canonicalized(NamedTuple):
-    """How many rewrites a `canon` made, whether no rule applies behind them, and the patterns of a `rewrite` that no
-    check proves for the module."""
+    """How many rewrites a `canon` made, and whether no rule applies behind them."""
 
     rewrites: int
     is_done: bool
-    unproved: Tuple[Unproved, ...] = ()
 
 
 class Rewrite(NamedTuple):
@@ -28,12 +26,10 @@ class Rewrite(NamedTuple):
 
 
 class Traced(NamedTuple):
-    """The rewrites that were made, in their order, whether no rule applies behind them, and the patterns that no check
-    proves for the module."""
+    """The rewrites that were made, in their order, and whether no rule applies behind them."""
 
     rewrites: List[Rewrite]
     is_done: bool
-    unproved: Tuple[Unproved, ...] = ()
 
 
 class Reason(NamedTuple):
@@ -47,7 +43,7 @@ class Reason(NamedTuple):
 
 def canonicalized_of(reply: Reply) -> Canonicalized:
     """What the reply to a rewriting says."""
-    return Canonicalized(reply.number or 0, reply.outcome == "converged", reply.unproved)
+    return Canonicalized(reply.number or 0, reply.outcome == "converged")
 
 
 def _rewrite(line: str) -> Rewrite:
@@ -61,7 +57,7 @@ def _rewrite(line: str) -> Rewrite:
 def traced_of(reply: Reply) -> Traced:
     """What the reply to a rewriting says, and what is told of it."""
     told = lines_of(reply.shown)[len(reply.unproved):]
-    return Traced([_rewrite(line) for line in told], reply.outcome == "converged", reply.unproved)
+    return Traced([_rewrite(line) for line in told], reply.outcome == "converged")
 
 
 def stood_of(reply: Reply) -> List[Rewrite]:

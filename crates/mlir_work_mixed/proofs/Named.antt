@@ -1,6 +1,7 @@
 -- Patterns that a list names, one after another.
-use Rattle.std.proofs.Common.{◌≡◌, ◌∙◌, refl, ap, sym, ℕ, List, [], ◌∷◌, ◌++◌, map, Bool, true, false, cond, if◌then◌else◌, ◌||◌, append-nil, append_assoc, map-append, Option, Some, None}
+use Rattle.std.proofs.Common.{◌≡◌, ◌∙◌, refl, ap, sym, ℕ, List, [], ◌∷◌, ◌++◌, map, Bool, true, false, cond, if◌then◌else◌, ◌||◌, append-nil, append_assoc, Option, Some, None}
 use Rattle.std.specs.List.{list_any}
+use Rattle.std.proofs.lemmas.List.{map-append}
 use Rattle.ir_event.specs.trees.Meaning.{Operation}
 use Rattle.mlir_work_script_base.specs.Items.{items_behind}
 use Rattle.mlir_work_script_base.specs.RuleNames.{name_or_none, rule_in}
